@@ -1,0 +1,14 @@
+-- "The place of a key in a node is the number of keys not above it. Source 000 answers nothing for an empty node; here it is 0."
+use mathlib.Core.Bool.{Bool, true, false}
+use mathlib.Core.List.{List, [], _∷_}
+use Prim.Native.Nat.{ℕ, _+_}
+use lib.Dec.{leb}
+
+-- 1 for true, 0 for false
+abbrev pub bit : Bool → ℕ
+bit true = 1
+bit false = 0
+
+unfoldable pub place : List ℕ → ℕ → ℕ
+place [] k = 0
+place (x ∷ l) k = bit (leb x k) + place l k
