@@ -1,8 +1,8 @@
 -- A plan walked over what a client has: its result, the first object lacking, or a failure; and the objects used, in order.
-use mathlib.Core.Path.{_≡_, refl, ap, sym, _∙_}
-use mathlib.Core.Bool.{Bool, true, false, true≢false, false≢true}
-use mathlib.Core.List.{List, [], _∷_, _++_}
-use mathlib.Core.Option.{Option, none, some}
+use mathlib.Core.Path.{_≡_, refl, ap, sym, _∙_, subst}
+use mathlib.Core.Bool.{Bool, true, false, true≢false}
+use mathlib.Core.List.{List, [], _∷_}
+use mathlib.Core.Option.{Option, none, some, Option·getD}
 use Rattle.plans.specs.Plan.{Plan, ask, done, fail, Out, gives, fails, exec, Asked, bind}
 
 pub data Met (Obj Res Why : Type 0) : Type 0 where
@@ -29,6 +29,9 @@ end-of : {Obj Res Why : Type 0} → Out Res Why → Met Obj Res Why → Out Res 
 end-of d (lacks o) = d
 end-of d (ends e) = e
 
+the-value : {Val : Type 0} (v u : Val) → some v ≡ some u → v ≡ u
+the-value v u e = ap (λ z. Option·getD z v) e
+
 module _ {Obj Val Res Why : Type 0} where
   -- "A work step that lacks an object fetches the first one lacking and does no more"
   unfoldable pub walk : Plan Obj Val Res Why → (Obj → Option Val) → Met Obj Res Why
@@ -42,15 +45,89 @@ module _ {Obj Val Res Why : Type 0} where
   used (done r) have = []
   used (fail y) have = []
 
-  -- a walk that ends is the plan's outcome over every snapshot that shows what it used
+  -- a step of the walk, where the object is at hand and where it is not
+  pub walk-has : (o : Obj) (k : Val → Plan Obj Val Res Why) (have : Obj → Option Val) (v : Val) → have o ≡ some v → walk (ask o k) have ≡ walk (k v) have
+  unfolding walk
+  walk-has o k have v e = rw (e, walk)
+
+  pub walk-lacks : (o : Obj) (k : Val → Plan Obj Val Res Why) (have : Obj → Option Val) → have o ≡ none → walk (ask o k) have ≡ lacks o
+  unfolding walk
+  walk-lacks o k have e = rw (e, walk)
+
+  pub used-has : (o : Obj) (k : Val → Plan Obj Val Res Why) (have : Obj → Option Val) (v : Val) → have o ≡ some v → used (ask o k) have ≡ o ∷ used (k v) have
+  unfolding used
+  used-has o k have v e = rw (e, used)
+
+  -- a walk that ends at a question went through the object's value
+  pub walk-met : (o : Obj) (k : Val → Plan Obj Val Res Why) (have : Obj → Option Val) (e : Out Res Why)
+      → walk (ask o k) have ≡ ends e → (v : Val) × (have o ≡ some v) × (walk (k v) have ≡ ends e)
+  walk-met o k have e w = go (have o) refl
+    where
+      go : (z : Option Val) → have o ≡ z → (v : Val) × (have o ≡ some v) × (walk (k v) have ≡ ends e)
+      go none q = absurd (lacks≢ends (sym (walk-lacks o k have q) ∙ w))
+      go (some v) q = (v, q, sym (walk-has o k have v q) ∙ w)
+
+  -- THE FRAME LAW: with more at hand a walk that ends is the same
+  pub walk-more : (p : Plan Obj Val Res Why) (have more : Obj → Option Val) (e : Out Res Why)
+      → ((o : Obj) (v : Val) → have o ≡ some v → more o ≡ some v) → walk p have ≡ ends e → walk p more ≡ ends e
+  unfolding walk
+  walk-more (ask o k) have more e h w =
+      let m = walk-met o k have e w in
+      walk-has o k more (m .0) (h o (m .0) (m .1)) ∙ walk-more (k (m .0)) have more e h (m .2)
+  walk-more (done r) have more e h w = w
+  walk-more (fail y) have more e h w = w
+
+  -- an object that is used is at hand
+  pub used-had : (p : Plan Obj Val Res Why) (have : Obj → Option Val) → Every (λ o. (v : Val) × (have o ≡ some v)) (used p have)
+  unfolding used Every
+  used-had (ask o k) have = go (have o) refl (λ v. used-had (k v) have)
+    where
+      go : (z : Option Val) → have o ≡ z → ((v : Val) → Every (λ o. (v : Val) × (have o ≡ some v)) (used (k v) have))
+          → Every (λ o. (v : Val) × (have o ≡ some v)) (used (ask o k) have)
+      go none q rec = rw (q, used) tt
+      go (some v) q rec = subst (Every (λ o. (v : Val) × (have o ≡ some v))) (sym (used-has o k have v q)) ((v, q), rec v)
+  used-had (done r) have = tt
+  used-had (fail y) have = tt
+
+  -- a walk that ends is the plan's outcome over every snapshot that shows what was used
   pub walk-exec : (p : Plan Obj Val Res Why) (have : Obj → Option Val) (M : Obj → Val) (e : Out Res Why)
       → Shows have M (used p have) → walk p have ≡ ends e → exec p M ≡ e
-  unfolding walk used exec end-of Every
-  walk-exec (ask o k) have M e h w = go (have o) refl h w (λ v. walk-exec (k v) have M e)
-    where
-      go : (z : Option Val) → have o ≡ z → Shows have M (used (ask o k) have) → walk (ask o k) have ≡ ends e
-          → ((v : Val) → Shows have M (used (k v) have) → walk (k v) have ≡ ends e → exec (k v) M ≡ e) → exec (k (M o)) M ≡ e
-      go none q h w rec = absurd (lacks≢ends (rw (q, walk) at w))
-      go (some v) q h w rec = ?
+  unfolding walk exec end-of Every
+  walk-exec (ask o k) have M e h w =
+      let m = walk-met o k have e w in
+      let s = subst (Shows have M) (used-has o k have (m .0) (m .1)) h in
+      subst (λ v. exec (k v) M ≡ e) (the-value (m .0) (M o) (sym (m .1) ∙ s .0)) (walk-exec (k (m .0)) have M e (s .1) (m .2))
   walk-exec (done r) have M e h w = ap (end-of e) w
   walk-exec (fail y) have M e h w = ap (end-of e) w
+
+  -- and the plan asks there for what was used
+  pub walk-asked : (p : Plan Obj Val Res Why) (have : Obj → Option Val) (M : Obj → Val) (rd : Obj → Bool) (e : Out Res Why)
+      → walk p have ≡ ends e → Shows have M (used p have) → Every (λ o. rd o ≡ true) (used p have) → Asked p rd M
+  unfolding Asked Every
+  walk-asked (ask o k) have M rd e w h r =
+      let m = walk-met o k have e w in
+      let u = used-has o k have (m .0) (m .1) in
+      let s = subst (Shows have M) u h in
+      let t = subst (Every (λ o. rd o ≡ true)) u r in
+      (t .0, subst (λ v. Asked (k v) rd M) (the-value (m .0) (M o) (sym (m .1) ∙ s .0)) (walk-asked (k (m .0)) have M rd e (m .2) (s .1) (t .1)))
+  walk-asked (done r) have M rd e w h q = tt
+  walk-asked (fail y) have M rd e w h q = tt
+
+-- what a walk comes to, gone on with
+abbrev pub then : {Obj A B Why : Type 0} → Met Obj A Why → (A → Met Obj B Why) → Met Obj B Why
+then (lacks o) f = lacks o
+then (ends (gives a)) f = f a
+then (ends (fails y)) f = ends (fails y)
+
+-- one plan after another
+pub walk-bind : {Obj Val A B Why : Type 0} (p : Plan Obj Val A Why) (f : A → Plan Obj Val B Why) (have : Obj → Option Val)
+    → walk (bind p f) have ≡ then (walk p have) (λ a. walk (f a) have)
+unfolding walk bind
+walk-bind {Val = Val} {A} {B} {Why} (ask o k) f have = go (have o) refl (λ v. walk-bind (k v) f have)
+  where
+    go : (z : Option Val) → have o ≡ z → ((v : Val) → walk (bind (k v) f) have ≡ then (walk (k v) have) (λ a. walk (f a) have))
+        → walk (bind (ask o k) f) have ≡ then (walk (ask o k) have) (λ a. walk (f a) have)
+    go none q rec = rw (q, walk, bind)
+    go (some v) q rec = rw (q, walk, bind) (rec v)
+walk-bind (done a) f have = refl
+walk-bind (fail y) f have = refl
