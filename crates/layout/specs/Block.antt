@@ -1,0 +1,120 @@
+-- Blocks of words, nested. A place in a block is a list of numbers, one for each level. A layout that is a block cannot
+-- overlap: `below` and `apart` are proved once for every block.
+use mathlib.Core.Path.{_≡_, refl, ap, ap₂}
+use mathlib.Core.List.{List, [], _∷_}
+use mathlib.Core.Logic.{Dec·and}
+use Prim.Native.Nat.{ℕ, zero, suc, _+_, _*_, _≤_, _<_}
+use native.Mathlib.Nat.{suc-mul, mul-le-mul-right}
+use native.Mathlib.Omega.{arith}
+use native.Mathlib.Decide.{decLt}
+
+pub data Block : Type 0 where
+  -- n words; a place is k ∷ []
+  words : ℕ → Block
+  -- n equal blocks; a place is i ∷ place in the block
+  times : ℕ → Block → Block
+  -- a block and those that follow it; a place is 0 ∷ place in the first, or 1 + i ∷ .. for i ∷ .. in those that follow
+  next : Block → Block → Block
+  end : Block
+
+-- how many words a block has
+unfoldable pub size : Block → ℕ
+size (words n) = n
+size (times n b) = n * size b
+size (next a b) = size a + size b
+size end = 0
+
+-- is a list of numbers a place of the block
+unfoldable pub In : Block → List ℕ → Type 0
+In (words n) [] = ⊥
+In (words n) (i ∷ []) = i < n
+In (words n) (i ∷ j ∷ p) = ⊥
+In (times n b) [] = ⊥
+In (times n b) (i ∷ p) = (i < n) × In b p
+In (next a b) [] = ⊥
+In (next a b) (zero ∷ p) = In a p
+In (next a b) (suc i ∷ p) = In b (i ∷ p)
+In end p = ⊥
+
+-- the word at which a place lies, counted from the start of the block
+unfoldable pub offset : Block → List ℕ → ℕ
+offset (words n) [] = 0
+offset (words n) (i ∷ p) = i
+offset (times n b) [] = 0
+offset (times n b) (i ∷ p) = i * size b + offset b p
+offset (next a b) [] = 0
+offset (next a b) (zero ∷ p) = offset a p
+offset (next a b) (suc i ∷ p) = size a + offset b (i ∷ p)
+offset end p = 0
+
+-- three words, then two rows of four: the last word of the second row is the eleventh, at 10
+pub offset-sample : let b = next (words 3) (next (times 2 (words 4)) end) in (size b ≡ 11) × (offset b (1 ∷ 1 ∷ 3 ∷ []) ≡ 10)
+unfolding size offset
+offset-sample = (refl, refl)
+
+-- the one law on products: a row that comes earlier ends before a later one begins
+pub row-fits : (i j t : ℕ) → i < j → i * t + t ≤ j * t
+row-fits i j t h = rw (← suc-mul i t) (mul-le-mul-right t h)
+
+row-same : (i j t o q : ℕ) → o < t → q < t → i * t + o ≡ j * t + q → i ≡ j
+row-same i j t o q ho hq e = go (decLt i j) (decLt j i)
+  where
+    go : Dec (i < j) → Dec (j < i) → i ≡ j
+    go (yes p) y = absurd (omega (arith, row-fits i j t p))
+    go (no p) (yes y) = absurd (omega (arith, row-fits j i t y))
+    go (no p) (no y) = omega arith
+
+pub decIn : (b : Block) (p : List ℕ) → Dec (In b p)
+unfolding In
+decIn (words n) [] = no (λ h. h)
+decIn (words n) (i ∷ []) = decLt i n
+decIn (words n) (i ∷ j ∷ p) = no (λ h. h)
+decIn (times n b) [] = no (λ h. h)
+decIn (times n b) (i ∷ p) = Dec·and (decLt i n) (decIn b p)
+decIn (next a b) [] = no (λ h. h)
+decIn (next a b) (zero ∷ p) = decIn a p
+decIn (next a b) (suc i ∷ p) = decIn b (i ∷ p)
+decIn end p = no (λ h. h)
+
+-- a place lies in its block
+pub below : (b : Block) (p : List ℕ) → In b p → offset b p < size b
+unfolding size In offset
+below (words n) [] h = absurd h
+below (words n) (i ∷ []) h = h
+below (words n) (i ∷ j ∷ p) h = absurd h
+below (times n b) [] h = absurd h
+below (times n b) (i ∷ p) h = omega (arith, row-fits i n (size b) (h .0), below b p (h .1))
+below (next a b) [] h = absurd h
+below (next a b) (zero ∷ p) h = omega (arith, below a p h)
+below (next a b) (suc i ∷ p) h = omega (arith, below b (i ∷ p) h)
+below end p h = absurd h
+
+cons : {x y : ℕ} {p q : List ℕ} → x ≡ y → p ≡ q → _≡_ {A = List ℕ} (x ∷ p) (y ∷ q)
+cons a b = ap₂ (λ (x : ℕ) (p : List ℕ). x ∷ p) a b
+
+step : List ℕ → List ℕ
+step [] = []
+step (i ∷ p) = suc i ∷ p
+
+-- places with one offset are one place
+pub apart : (b : Block) (p q : List ℕ) → In b p → In b q → offset b p ≡ offset b q → p ≡ q
+unfolding size In offset step
+apart (words n) [] q h g e = absurd h
+apart (words n) (i ∷ j ∷ p) q h g e = absurd h
+apart (words n) (i ∷ []) [] h g e = absurd g
+apart (words n) (i ∷ []) (j ∷ []) h g e = cons e refl
+apart (words n) (i ∷ []) (j ∷ k ∷ q) h g e = absurd g
+apart (times n b) [] q h g e = absurd h
+apart (times n b) (i ∷ p) [] h g e = absurd g
+apart (times n b) (i ∷ p) (j ∷ q) h g e =
+    let s : i ≡ j = row-same i j (size b) (offset b p) (offset b q) (below b p (h .1)) (below b q (g .1)) e in
+    let t : i * size b ≡ j * size b = rw s in
+    cons s (apart b p q (h .1) (g .1) (omega arith))
+apart (next a b) [] q h g e = absurd h
+apart (next a b) (zero ∷ p) [] h g e = absurd g
+apart (next a b) (zero ∷ p) (zero ∷ q) h g e = cons refl (apart a p q h g e)
+apart (next a b) (zero ∷ p) (suc j ∷ q) h g e = absurd (omega (arith, below a p h))
+apart (next a b) (suc i ∷ p) [] h g e = absurd g
+apart (next a b) (suc i ∷ p) (zero ∷ q) h g e = absurd (omega (arith, below a q g))
+apart (next a b) (suc i ∷ p) (suc j ∷ q) h g e = ap step (apart b (i ∷ p) (j ∷ q) h g (omega arith))
+apart end p q h g e = absurd h
