@@ -1,5 +1,8 @@
 -- Nodes, their names and places, and the vectors of taken flags.
+pub mod Lists
 pub mod Name
 pub mod Placement
 pub mod Vector
 pub mod Place
+pub mod Node
+pub mod Find

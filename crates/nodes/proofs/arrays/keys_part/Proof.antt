@@ -1,0 +1,11 @@
+use borrow.Author.Needs.{needs}
+use Rattle.nodes.specs.Lists.{part-is}
+use Rattle.nodes.proofs.arrays.keys_part.Statement.{statement}
+use Rattle.nodes.proofs.arrays.keys_part.Tie as tie
+
+pub keys-part-spec : {M : Type 1} → statement M
+keys-part-spec = tie.close (tie.spec
+    (λ c. search needs)  -- slice-aggregate-blit
+    (λ c κs. search needs)  -- blit-requires
+    (λ c. search (part-is, needs))  -- returns
+    )

@@ -1,0 +1,130 @@
+// A node by value, and what is asked of it.
+ghost use mathlib.Core.Path.{_≡_};
+ghost use Prim.Native.Nat.{ℕ, _+_, _≤_, _<_};
+ghost use lib.ListN.{length};
+ghost use Rattle.nodes.specs.Place.{place};
+ghost use Rattle.nodes.specs.Node.{extra, keysOf, slotsOf, free-node, parent-of, pair-at};
+ghost use Rattle.nodes.specs.Find.{find, rises, Inside};
+
+// "A node has a kind (0 free, 1 leaf, 2 inner), a level, a 32-bit version, at most 14 keys in strictly rising order,
+// and 14 values (leaf) or one child more than keys (inner)."
+pub struct Node {
+    pub kind: u64,
+    pub level: u64,
+    pub version: u64,
+    pub count: usize,
+    pub keys: [u64; 14],
+    pub slots: [u64; 15],
+}
+
+// Where a key is in a node.
+pub enum Find {
+    At(usize),
+    Absent,
+}
+
+impl Node {
+    // 1 for an inner node, which has one slot more than keys
+    pub fn extra(self) -> usize
+        ensures { λ r. ⌜ r ≡ extra (self .kind) ⌝ }
+        ensures small { λ r. ⌜ r ≤ 1 ⌝ }
+    {
+        if self.kind == 2 { 1 } else { 0 }
+    }
+
+    // the number of keys that are not above the key
+    pub fn place(self, key: u64) -> usize
+        requires { ⌜ self .count ≤ 14 ⌝ }
+        ensures { λ r. ⌜ r ≡ place (keysOf self) key ⌝ }
+        ensures within { λ r. ⌜ r ≤ self .count ⌝ }
+    {
+        let keys = self.keys;
+        let count = self.count;
+        let mut p: usize = 0;
+        let mut i: usize = 0;
+        while i < count {
+            if keys[i] <= key {
+                p += 1;
+            }
+            i += 1;
+        }
+        p
+    }
+
+    // where the key is
+    pub fn find(self, key: u64) -> Find
+        requires { ⌜ self .count ≤ 14 ⌝ }
+        ensures { λ r. ⌜ r ≡ find (keysOf self) key ⌝ }
+        ensures within { λ r. ⌜ Inside r (self .count) ⌝ }
+    {
+        let p = self.place(key);
+        if p == 0 {
+            return Find::Absent;
+        }
+        let keys = self.keys;
+        if keys[p - 1] != key {
+            return Find::Absent;
+        }
+        Find::At(p - 1)
+    }
+
+    // whether each key is above the one before
+    pub fn keys_rise(self) -> bool
+        requires { ⌜ self .count ≤ 14 ⌝ }
+        ensures { λ r. ⌜ r ≡ rises (keysOf self) ⌝ }
+    {
+        let keys = self.keys;
+        let count = self.count;
+        let mut i: usize = 1;
+        while i < count {
+            if keys[i] <= keys[i - 1] {
+                return false;
+            }
+            i += 1;
+        }
+        true
+    }
+
+    // "turns to its right neighbour under the same parent, or to the left one if it is the last child":
+    // the left one of the two children, which has the number of the separator between them
+    pub fn pair_at(self, child: usize) -> usize
+        requires { ⌜ (0 < self .count) × (child ≤ self .count) ⌝ }
+        ensures { λ r. ⌜ r ≡ pair-at (self .count) child ⌝ }
+        ensures within { λ r. ⌜ r < self .count ⌝ }
+    {
+        if child < self.count { child } else { child - 1 }
+    }
+
+    // "Freed nodes become kind 0 and keep only a version."
+    pub fn free(version: u64) -> Node
+        ensures { λ r. ⌜ r ≡ free-node version ⌝ }
+    {
+        Node {
+            kind: 0,
+            level: 0,
+            version,
+            count: 0,
+            keys: [0; 14],
+            slots: [0; 15],
+        }
+    }
+
+    // the inner node over two children
+    pub fn over(level: u64, version: u64, left: u64, sep: u64, right: u64) -> Node
+        ensures { λ r. ⌜ r ≡ parent-of level version left sep right ⌝ }
+    {
+        let mut keys = [0u64; 14];
+        let mut slots = [0u64; 15];
+        keys[0] = sep;
+        slots[0] = left;
+        slots[1] = right;
+        Node {
+            kind: 2,
+            level,
+            version,
+            count: 1,
+            keys,
+            slots,
+        }
+    }
+}
