@@ -1,1 +1,11 @@
--- To come.
+-- Operations as plans, and what they do on a snapshot that holds a B-tree of a map.
+pub mod Object
+pub mod Map
+pub mod Entry
+pub mod Path
+pub mod Slot
+pub mod Look
+pub mod Change
+pub mod Migrate
+pub mod Operation
+pub mod Examples

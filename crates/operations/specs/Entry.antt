@@ -1,0 +1,104 @@
+-- A node as a list of entries: its keys with its values or children. The first entry of an inner node has the key from which
+-- the node holds keys, which its parent stores and it does not. With it leaves and inner nodes split, merge and lend alike.
+use mathlib.Core.Path.{_≡_}
+use mathlib.Core.List.{List, [], _∷_, _++_, map, tail}
+use mathlib.Core.Option.{Option, none, some}
+use Prim.Native.Nat.{ℕ, zero, suc, _+_}
+use native.Mathlib.Decide.{ℕ-discrete}
+use lib.Dec.{ltb}
+use lib.ListN.{take, drop, getD, set, getElem?}
+use Rattle.base.specs.Test.{ifd}
+use Rattle.nodes.specs.Place.{place, bit}
+use Rattle.operations.specs.Object.{Val, body}
+
+abbrev pub Entries : Type 0
+Entries = List (ℕ × ℕ)
+
+abbrev pub keys : {A : Type 0} → List (ℕ × A) → List ℕ
+keys es = map (λ e. e .0) es
+
+abbrev pub vals : Entries → List ℕ
+vals es = map (λ e. e .1) es
+
+-- keys beside values or children
+abbrev pub zip : List ℕ → List ℕ → Entries
+zip [] vs = []
+zip (k ∷ ks) [] = []
+zip (k ∷ ks) (v ∷ vs) = (k, v) ∷ zip ks vs
+
+-- the node of a level with these entries: kind 1 and level 0, or kind 2 and a level from 1
+abbrev pub mk : ℕ → Entries → Val
+mk zero es = body 1 0 (keys es) (vals es)
+mk (suc l) es = body 2 (suc l) (keys (tail es)) (vals es)
+
+-- the fewest and the most entries of a node other than the root: 7 to 14 keys, and in an inner node one child more
+abbrev pub mn : ℕ → ℕ
+mn zero = 7
+mn (suc l) = 8
+
+abbrev pub mx : ℕ → ℕ
+mx zero = 14
+mx (suc l) = 15
+
+-- the first key, or else the bound
+abbrev pub nxt : {A : Type 0} → List (ℕ × A) → ℕ → ℕ
+nxt [] b = b
+nxt (e ∷ es) b = e .0
+
+-- INNER NODES: the entries before the one at an index, that one, and those after it
+abbrev pub Cut : Type 0 → Type 0
+Cut A = List (ℕ × A) × (ℕ × A) × List (ℕ × A)
+
+module _ {A : Type 0} where
+  abbrev pub cut-at : ℕ → (ℕ × A) → List (ℕ × A) → Cut A
+  cut-at zero e es = ([], e, es)
+  cut-at (suc i) e [] = ([], e, [])
+  cut-at (suc i) e (f ∷ es) = let r = cut-at i f es in (e ∷ r .0, r .1, r .2)
+
+  -- "Child i holds the keys from key i up to, not including, key i+1": a key leads to the child whose index is the key's
+  -- place, "the number of keys not above it", among the stored keys
+  abbrev pub cut : ℕ → (ℕ × A) → List (ℕ × A) → Cut A
+  cut key e es = cut-at (place (keys es) key) e es
+
+-- LEAVES
+-- the index of a present key: the place is not 0, and the key there is equal
+abbrev pub index-at : ℕ → Entries → ℕ → Option ℕ
+index-at key es zero = none
+index-at key es (suc i) = ifd (ℕ-discrete (getD (keys es) i 0) key) (some i) none
+
+abbrev pub index : ℕ → Entries → Option ℕ
+index key es = index-at key es (place (keys es) key)
+
+abbrev pub value-at : Entries → Option ℕ → Option ℕ
+value-at es none = none
+value-at es (some i) = some (getD (vals es) i 0)
+
+abbrev pub value-in : ℕ → Entries → Option ℕ
+value-in key es = value-at es (index key es)
+
+-- "Insert of a present key replaces its value"; another comes after the keys not above it
+abbrev pub with-at : ℕ → ℕ → Entries → Option ℕ → Entries
+with-at key v es none = let p = place (keys es) key in take p es ++ (key, v) ∷ drop p es
+with-at key v es (some i) = set es i (key, v)
+
+abbrev pub with-pair : ℕ → ℕ → Entries → Entries
+with-pair key v es = with-at key v es (index key es)
+
+abbrev pub without-at : ℕ → Entries → Entries
+without-at i es = take i es ++ drop (suc i) es
+
+-- the nearest key strictly above: the one after the keys not above
+abbrev pub next-in : ℕ → Entries → Option ℕ
+next-in key es = getElem? (keys es) (place (keys es) key)
+
+-- the number of keys below, and the nearest of them
+unfoldable pub under : List ℕ → ℕ → ℕ
+under [] k = 0
+under (x ∷ l) k = bit (ltb x k) + under l k
+
+abbrev pub before : List ℕ → ℕ → Option ℕ
+before ks zero = none
+before ks (suc i) = getElem? ks i
+
+abbrev pub previous-in : ℕ → Entries → Option ℕ
+previous-in key es = before (keys es) (under (keys es) key)

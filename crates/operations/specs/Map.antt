@@ -1,0 +1,92 @@
+-- The sorted map and the operations on it: "The map is pairs by rising key."
+use mathlib.Core.Bool.{Bool, true, false}
+use mathlib.Core.List.{List, [], _∷_}
+use mathlib.Core.Option.{Option, none, some}
+use Prim.Native.Nat.{ℕ}
+use native.Mathlib.Decide.{ℕ-discrete, decLt}
+use Rattle.base.specs.Test.{ifd}
+use Rattle.nodes.specs.Vector.{or-else}
+use Rattle.operations.specs.Object.{Ans}
+
+abbrev pub Map : Type 0
+Map = List (ℕ × ℕ)
+
+-- "op 1 insert, 2 lookup, 3 delete, 4 next key above, 5 previous key below, 6 migrate (key is the node name)"
+pub data Op : Type 0 where
+  insert : (key value : ℕ) → Op
+  lookup : (key : ℕ) → Op
+  delete : (key : ℕ) → Op
+  next : (key : ℕ) → Op
+  previous : (key : ℕ) → Op
+  migrate : (name server : ℕ) → Op
+
+abbrev pub number : Op → ℕ
+number (insert k v) = 1
+number (lookup k) = 2
+number (delete k) = 3
+number (next k) = 4
+number (previous k) = 5
+number (migrate n s) = 6
+
+abbrev pub look : ℕ → Map → Option ℕ
+look k [] = none
+look k (e ∷ m) = ifd (ℕ-discrete (e .0) k) (some (e .1)) (look k m)
+
+-- "Insert sets the key's value"
+abbrev pub put : ℕ → ℕ → Map → Map
+put k v [] = (k, v) ∷ []
+put k v (e ∷ m) = ifd (decLt (e .0) k) (e ∷ put k v m) (ifd (ℕ-discrete (e .0) k) ((k, v) ∷ m) ((k, v) ∷ e ∷ m))
+
+-- "Delete removes the key"
+abbrev pub del : ℕ → Map → Map
+del k [] = []
+del k (e ∷ m) = ifd (ℕ-discrete (e .0) k) m (e ∷ del k m)
+
+-- "the nearest key strictly above or below, if any"
+abbrev pub above : ℕ → Map → Option ℕ
+above k [] = none
+above k (e ∷ m) = ifd (decLt k (e .0)) (some (e .0)) (above k m)
+
+abbrev pub below : ℕ → Map → Option ℕ
+below k [] = none
+below k (e ∷ m) = or-else (below k m) (ifd (decLt (e .0) k) (some (e .0)) none)
+
+-- a is 1 and b what there is; a is 1 if there was none; a is 1 if there was one. "Each a or b not given here is 0."
+abbrev pub said : Option ℕ → Ans
+said none = (0, 0)
+said (some v) = (1, v)
+
+abbrev pub fresh : Option ℕ → Ans
+fresh none = (1, 0)
+fresh (some v) = (0, 0)
+
+abbrev pub gone : Option ℕ → Ans
+gone none = (0, 0)
+gone (some v) = (1, 0)
+
+-- the answer that the map gives
+abbrev pub answer : Op → Map → Ans
+answer (insert k v) m = fresh (look k m)
+answer (lookup k) m = said (look k m)
+answer (delete k) m = gone (look k m)
+answer (next k) m = said (above k m)
+answer (previous k) m = said (below k m)
+answer (migrate n s) m = (0, 0)
+
+-- "Migrate changes nothing, and its answer isn't compared."
+abbrev pub compared : Op → Bool
+compared (insert k v) = true
+compared (lookup k) = true
+compared (delete k) = true
+compared (next k) = true
+compared (previous k) = true
+compared (migrate n s) = false
+
+-- the map after the operation
+abbrev pub map-after : Op → Map → Map
+map-after (insert k v) m = put k v m
+map-after (lookup k) m = m
+map-after (delete k) m = del k m
+map-after (next k) m = m
+map-after (previous k) m = m
+map-after (migrate n s) m = m

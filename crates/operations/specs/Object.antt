@@ -1,0 +1,111 @@
+-- What operations read and write, why a plan fails, and a snapshot with some writes.
+use mathlib.Core.Path.{_≡_, refl}
+use mathlib.Core.Bool.{Bool, true, false, cond}
+use mathlib.Core.List.{List, [], _∷_}
+use Prim.Native.Nat.{ℕ}
+use native.Mathlib.Decide.{ℕ-discrete}
+use Rattle.base.specs.Test.{yes?}
+
+-- "Objects are the metadata, nodes and flags"
+pub data Obj : Type 0 where
+  meta : Obj
+  node : ℕ → Obj
+  flag : ℕ → Obj
+
+-- What a plan asks for: an object; a server's vector; or the same vector, but only one that this transaction has fetched
+-- ("a server is passed over only by a vector that this transaction fetched").
+pub data Ask : Type 0 where
+  object : Obj → Ask
+  vector : ℕ → Ask
+  fetched : ℕ → Ask
+
+-- The root's name; a node's kind (0 free, 1 leaf, 2 inner), level, keys, and its values or children; a taken flag; a vector.
+pub data Val : Type 0 where
+  root : ℕ → Val
+  body : (kind level : ℕ) (keys slots : List ℕ) → Val
+  taken : Bool → Val
+  flags : List Bool → Val
+
+-- "Freed nodes become kind 0 and keep only a version."
+abbrev pub free : Val
+free = body 0 0 [] []
+
+abbrev pub keys-of : Val → List ℕ
+keys-of (root r) = []
+keys-of (body k l ks vs) = ks
+keys-of (taken b) = []
+keys-of (flags fs) = []
+
+abbrev pub level-of : Val → ℕ
+level-of (root r) = 0
+level-of (body k l ks vs) = l
+level-of (taken b) = 0
+level-of (flags fs) = 0
+
+abbrev pub slots-of : Val → List ℕ
+slots-of (root r) = []
+slots-of (body k l ks vs) = vs
+slots-of (taken b) = []
+slots-of (flags fs) = []
+
+abbrev pub root-of : Val → ℕ
+root-of (root r) = r
+root-of (body k l ks vs) = 0
+root-of (taken b) = 0
+root-of (flags fs) = 0
+
+abbrev pub flags-of : Val → List Bool
+flags-of (root r) = []
+flags-of (body k l ks vs) = []
+flags-of (taken b) = []
+flags-of (flags fs) = fs
+
+-- "a slot taken as free isn't"; "what was read can't be one tree"; "no slot is free"
+pub data Why : Type 0 where
+  not-free : Why
+  no-tree : Why
+  no-slot : Why
+
+-- the abort reasons' numbers
+abbrev pub reason : Why → ℕ
+reason not-free = 1
+reason no-tree = 3
+reason no-slot = 5
+
+-- an answer is a and b
+abbrev pub Ans : Type 0
+Ans = ℕ × ℕ
+
+-- what an operation writes, the last first
+abbrev pub Writes : Type 0
+Writes = List (Obj × Val)
+
+-- is the written object the object x?
+abbrev pub hit : Obj → Obj → Bool
+hit meta meta = true
+hit meta (node x) = false
+hit meta (flag x) = false
+hit (node n) meta = false
+hit (node n) (node x) = yes? (ℕ-discrete x n)
+hit (node n) (flag x) = false
+hit (flag n) meta = false
+hit (flag n) (node x) = false
+hit (flag n) (flag x) = yes? (ℕ-discrete x n)
+
+-- the snapshot U with the value v at o
+abbrev pub wr : Obj → Val → (Obj → Val) → Obj → Val
+wr o v U x = cond (hit o x) v (U x)
+
+-- the snapshot with the writes
+abbrev pub over : Writes → (Obj → Val) → Obj → Val
+over [] M = M
+over (e ∷ w) M = wr (e .0) (e .1) (over w M)
+
+-- the writes as a test and a function
+abbrev pub written : Writes → Obj → Bool
+written [] o = false
+written (e ∷ w) o = cond (hit (e .0) o) true (written w o)
+
+abbrev pub value : Writes → Obj → Val
+value [] o = root 0
+value (e ∷ w) o = cond (hit (e .0) o) (e .1) (value w o)

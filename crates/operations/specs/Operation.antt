@@ -1,0 +1,47 @@
+-- The six operations as plans, with the last check before the answer.
+use mathlib.Core.Bool.{Bool, true, false, cond, _&&_}
+use mathlib.Core.List.{List, [], _∷_}
+use Prim.Native.Nat.{ℕ}
+use native.Mathlib.Decide.{decLt, decLe}
+use Rattle.base.specs.Test.{yes?}
+use Rattle.plans.specs.Plan as P
+use Rattle.operations.specs.Object.{Val, keys-of, level-of, Why, no-tree, Ans, Writes, value}
+use Rattle.operations.specs.Map.{Op, insert, lookup, delete, next, previous, migrate}
+use Rattle.operations.specs.Path.{Plan}
+use Rattle.operations.specs.Slot.{Sizes}
+use Rattle.operations.specs.Look.{lookup-plan, next-plan, previous-plan}
+use Rattle.operations.specs.Change.{insert-plan, delete-plan}
+use Rattle.operations.specs.Migrate.{migrate-plan}
+
+abbrev pub rise? : List ℕ → Bool
+rise? [] = true
+rise? (k ∷ []) = true
+rise? (k ∷ j ∷ ks) = yes? (decLt k j) && rise? (j ∷ ks)
+
+-- may this be written? "a node with keys that don't rise or a level above 4 would be written"
+abbrev pub fits? : Val → Bool
+fits? v = rise? (keys-of v) && yes? (decLe (level-of v) 4)
+
+-- of the objects of w, what all the writes together leave there
+abbrev pub all-fit? : Writes → Writes → Bool
+all-fit? all [] = true
+all-fit? all (e ∷ w) = fits? (value all (e .0)) && all-fit? all w
+
+-- once all is read, what would be written is looked at
+abbrev pub check : Ans × Writes → Plan
+check r = cond (all-fit? (r .1) (r .1)) (P.done r) (P.fail no-tree)
+
+abbrev pub checked : Plan → Plan
+checked p = P.bind p check
+
+-- what an operation reads and would write
+abbrev pub reading : Sizes → Op → Plan
+reading sz (insert k v) = insert-plan sz k v
+reading sz (lookup k) = lookup-plan k
+reading sz (delete k) = delete-plan sz k
+reading sz (next k) = next-plan k
+reading sz (previous k) = previous-plan k
+reading sz (migrate n s) = migrate-plan sz n s
+
+abbrev pub plan : Sizes → Op → Plan
+plan sz op = checked (reading sz op)
