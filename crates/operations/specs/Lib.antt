@@ -9,3 +9,5 @@ pub mod Change
 pub mod Migrate
 pub mod Operation
 pub mod Examples
+pub mod Chain
+pub mod Places
