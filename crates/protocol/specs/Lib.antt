@@ -3,3 +3,8 @@ pub mod Writes
 pub mod System
 pub mod Replay
 pub mod Invariant
+pub mod Working
+pub mod Locked
+pub mod Prepare
+pub mod History
+pub mod Decide
