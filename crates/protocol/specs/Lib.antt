@@ -8,3 +8,6 @@ pub mod Locked
 pub mod Prepare
 pub mod History
 pub mod Decide
+pub mod Changed
+pub mod Apply
+pub mod Safety
