@@ -6,3 +6,5 @@ pub mod Vector
 pub mod Place
 pub mod Node
 pub mod Find
+pub mod Change
+pub mod Built

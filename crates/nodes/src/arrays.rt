@@ -22,6 +22,7 @@ pub fn blit(dst: &mut [u64], at: usize, src: &[u64], from: usize, n: usize)
 pub fn joined(a: &[u64], n: usize, b: &[u64], from: usize, m: usize) -> [u64; 32]
     requires { ⌜ (n + m ≤ 32) × (n ≤ length (now a)) × (from + m ≤ length (now b)) ⌝ }
     ensures { λ r. ⌜ r ≡ pad 32 (take n (now (a .entry)) ++ take m (drop from (now (b .entry)))) ⌝ }
+    ensures size { λ r. ⌜ length r ≡ 32 ⌝ }
 {
     let mut out = [0u64; 32];
     blit(&mut out, 0, a, 0, n);

@@ -28,6 +28,7 @@ impl Node {
     pub fn extra(self) -> usize
         ensures { λ r. ⌜ r ≡ extra (self .kind) ⌝ }
         ensures small { λ r. ⌜ r ≤ 1 ⌝ }
+        ensures sizes { λ _. ⌜ (length (self .keys) ≡ 14) × (length (self .slots) ≡ 15) ⌝ }
     {
         if self.kind == 2 { 1 } else { 0 }
     }
