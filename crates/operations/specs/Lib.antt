@@ -11,3 +11,7 @@ pub mod Operation
 pub mod Examples
 pub mod Chain
 pub mod Places
+pub mod Ensures
+pub mod Tree
+pub mod Count
+pub mod Moves
