@@ -15,3 +15,6 @@ pub mod Ensures
 pub mod Tree
 pub mod Count
 pub mod Moves
+pub mod Maps
+pub mod Down
+pub mod Reads
