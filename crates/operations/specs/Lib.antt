@@ -18,3 +18,6 @@ pub mod Moves
 pub mod Maps
 pub mod Down
 pub mod Reads
+pub mod Slots
+pub mod Rise
+pub mod Grow

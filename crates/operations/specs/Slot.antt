@@ -2,7 +2,7 @@
 use mathlib.Core.Bool.{Bool, true, false}
 use mathlib.Core.List.{List, [], _∷_}
 use mathlib.Core.Option.{Option, none, some}
-use Prim.Native.Nat.{ℕ, zero, suc}
+use Prim.Native.Nat.{ℕ, zero, suc, _≤_}
 use native.Mathlib.Decide.{ℕ-discrete, decLt}
 use lib.ListN.{take, set}
 use Rattle.base.specs.Test.{ifd}
@@ -17,6 +17,10 @@ use Rattle.operations.specs.Path.{Plan, see}
 pub record Sizes : Type 0 where
   pub servers : ℕ
   pub slots : ℕ
+
+-- "Servers 1 to 8, slots on each 1 to 1,024"
+abbrev pub Allowed : Sizes → Type 0
+Allowed sz = (sz .servers ≤ 8) × (sz .slots ≤ 1024)
 
 -- "own frees and takes counted": a vector of the server s with what the operation has written
 abbrev pub count-one : Obj → Val → ℕ → List Bool → List Bool
