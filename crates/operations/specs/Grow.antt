@@ -1,4 +1,4 @@
--- Slots taken whichever the vectors show, splits, and the whole way up.
+-- Splits, and the whole way up.
 use mathlib.Core.Path.{_≡_, refl, ap, sym, _∙_, subst}
 use mathlib.Core.Bool.{true, false}
 use mathlib.Core.List.{List, [], _∷_, _++_}
@@ -9,49 +9,28 @@ use lib.ListN.{length, take, drop, length-append, take-append-drop}
 use lib.Seq.{length-take-le}
 use Rattle.base.specs.Test.{ifd}
 use Rattle.plans.specs.Plan as P
-use Rattle.plans.specs.Walk.{Every}
-use Rattle.nodes.specs.Name.{server-of, slot-of}
-use Rattle.nodes.specs.Placement.{row}
 use Rattle.operations.specs.Object.{Obj, node, flag, Val, taken, Why, not-free, no-slot, Ans, Writes, wr, over}
 use Rattle.operations.specs.Map.{Map}
 use Rattle.operations.specs.Entry.{Entries, mk, mn, mx, nxt}
 use Rattle.operations.specs.Path.{Plan}
-use Rattle.operations.specs.Slot.{Sizes, Allowed, present, take-flag, take-on, take-for, take-node}
+use Rattle.operations.specs.Slot.{Sizes, Allowed, take-for, take-node}
 use Rattle.operations.specs.Change.{Go, parted, neighbour, split-root, split, up}
 use Rattle.operations.specs.Chain.{one, one-same, tally, ren, ren-length, ren-take, ren-drop, ren-nxt}
 use Rattle.operations.specs.Ensures.{Ok, if-ok, sel-same, sel-other}
-use Rattle.operations.specs.Tree.{H, room, room-is, Slot, word, cnt, Path, top, frame, nm, around, bottom, floor, Stored, Mark, Focus, nil, Rep, mark-le, mark-free}
+use Rattle.operations.specs.Tree.{H, room, room-is, Slot, word, cnt, Path, top, frame, nm, around, bottom, floor, Stored, Mark, Focus, nil, Rep, Ends, mark-le, mark-free}
 use Rattle.operations.specs.Count.{no-fifth}
 use Rattle.operations.specs.Moves.{set-node, take-slot as slot-taken, recut, grow}
 use Rattle.operations.specs.Down.{branches}
-use Rattle.operations.specs.Slots.{present-below, search-ok}
-use Rattle.operations.specs.Rise.{Near, near-of, ne-of, mn-mx, Ends, Next, take-flag-ok, take-node-ok, write-ok, parted-ok, neighbour-ok}
+use Rattle.operations.specs.Slots.{take-for-ok, take-node-ok}
+use Rattle.operations.specs.Rise.{Near, near-of, ne-of, mn-mx, Next, write-ok, parted-ok, neighbour-ok}
 
 module _ (F : Why → Type 0) (lacking : F not-free × F no-slot) (sz : Sizes) (al : Allowed sz) (M : Obj → Val) (m : Map) (a : Ans) where
   abbrev E : Ans → Writes → Type 0
-  E = Ends F lacking M m a
-
-  -- a slot is taken: it may be any that is free
-  abbrev Takes : Writes → (ℕ → Writes → Plan) → Type 0
-  Takes w k = (d : ℕ) → d < room → over w M (flag d) ≡ taken false → Ok F E M (k d ((flag d, taken true) ∷ w))
-
-  abbrev Marked : Writes → (ℕ → ℕ) → Type 0
-  Marked w t = (x : ℕ) → Mark (over w M (flag x)) (over w M (node x)) (t x)
-
-  pub take-on-ok : (ss : List ℕ) (slot : ℕ) (w : Writes) (k : ℕ → Writes → Plan) (t : ℕ → ℕ) → Every (λ s. s < 8) ss → Marked w t → Takes w k
-      → Ok F E M (take-on sz ss slot w k)
-  take-on-ok ss slot w k t i g h =
-      search-ok F (lacking .1) E M sz al w slot ss (λ d. take-flag w d (λ w′. k d w′)) i
-      (λ d sm. take-flag-ok F lacking M m a w d (t d) (λ w′. k d w′) (g d) (h d sm))
-
-  take-for-ok : (n : ℕ) (w : Writes) (k : ℕ → Writes → Plan) (t : ℕ → ℕ) → Marked w t → Takes w k → Ok F E M (take-for sz n w k)
-  take-for-ok n w k t g h =
-      let ss = row (server-of n) in
-      take-on-ok (present (sz .servers) ss) (slot-of n) w k t (present-below (sz .servers) (al .0) ss) g h
+  E = Ends M m a
 
   -- a split below the root
   split-ok : (l k c : ℕ) (pre post : List (ℕ × Slot (suc l))) (p : Path (suc l)) (w : Writes) (es : List (ℕ × Slot l)) (go : Go)
-      → length es ≡ suc (mx l) → floor (suc l) p ≤ suc (length pre + length post) → suc (length pre + length post) ≤ mx (suc l) → Next F lacking M m a (suc l) p go
+      → length es ≡ suc (mx l) → floor (suc l) p ≤ suc (length pre + length post) → suc (length pre + length post) ≤ mx (suc l) → Next F M m a (suc l) p go
       → Focus (over w M) l (frame k c pre post p) es nil m
       → Ok F E M (split sz go l w k c (ren (word l) es) (ren (word (suc l)) pre) (ren (word (suc l)) post))
   split-ok l k c pre post p w es go n fl s next f =
@@ -67,13 +46,13 @@ module _ (F : Why → Type 0) (lacking : F not-free × F no-slot) (sz : Sizes) (
       let td = length-append (take j es) (drop j es) in
       let tt′ = ap length (take-append-drop j es) in
       let on : Entries → Entries → ℕ → Writes → Plan = λ L R d w1. parted go l w1 k c L d R X Y in
-      take-for-ok c w (λ d w1. take-node w1 d (on (take j (ren W es)) (drop j (ren W es)) d w1)) t (f .marks)
+      take-for-ok F E M lacking sz al c w (λ d w1. take-node w1 d (on (take j (ren W es)) (drop j (ren W es)) d w1)) t (f .marks)
       (λ d sm z.
       let w1 : Writes = (flag d, taken true) ∷ w in
-      take-node-ok F lacking M m a w1 d (on (take j (ren W es)) (drop j (ren W es)) d w1) (mark-free (U (flag d)) (U (node d)) (t d) z (f .marks d) .1)
+      take-node-ok F E M w1 d (on (take j (ren W es)) (drop j (ren W es)) d w1) (mark-free (U (flag d)) (U (node d)) (t d) z (f .marks d) .1)
       (subst (λ y. Ok F E M (on y (drop j (ren W es)) d w1)) (sym (ren-take W j es))
       (subst (λ y. Ok F E M (on (ren W (take j es)) y d w1)) (sym (ren-drop W j es))
-      (parted-ok F lacking M m a l k c d pre post p w1 es (take j es) (drop j es) go (sym (take-append-drop j es))
+      (parted-ok F M m a l k c d pre post p w1 es (take j es) (drop j es) go (sym (take-append-drop j es))
       (omega (arith, tk)) (omega (arith, tk, x)) (omega (arith, tk, td, tt′, n, x)) (omega (arith, tk, td, tt′, n, x))
       (near-of (suc l) p (length pre + suc (suc (length post))) (omega (arith, fl))) (omega (arith, s)) next
       (slot-taken U m l P es nil (one d) d z sm (λ x. omega arith) f)))))
@@ -99,7 +78,7 @@ module _ (F : Why → Type 0) (lacking : F not-free × F no-slot) (sz : Sizes) (
       let f3 = recut U2 m l 0 c d [] [] (top r) es L R (one d) nil e (λ x. omega arith)
       (sel-other d c v2 (U1 (node c)) (ne-of d c z) ∙ sel-same c v1 (U (node c))) (sel-same d v2 (U1 (node d))) i1 j1 i2 j2 (mn-mx l .0) g in
       subst (λ q. Rep (over ((node r, mk (suc l) ((0, c) ∷ (q, d) ∷ [])) ∷ (node d, v2) ∷ (node c, v1) ∷ w) M) m) (sym (ren-nxt (word l) R 0))
-      (write-ok F lacking M m a (suc l) (top r) ((node d, v2) ∷ (node c, v1) ∷ w) mid f3 tt (omega arith) (omega arith))
+      (write-ok M m (suc l) (top r) ((node d, v2) ∷ (node c, v1) ∷ w) mid f3 tt (omega arith) (omega arith))
 
   root-split-ok : (l r : ℕ) (w : Writes) (es : List (ℕ × Slot l)) → suc l ≤ 4 → length es ≡ suc (mx l) → Focus (over w M) l (top r) es nil m
       → Ok F E M (split-root sz a l w r (ren (word l) es))
@@ -115,17 +94,17 @@ module _ (F : Why → Type 0) (lacking : F not-free × F no-slot) (sz : Sizes) (
       let end : ℕ → ℕ → Entries → Entries → Writes → Writes = λ c d L R w2. (node r, mk (suc l) ((0, c) ∷ (nxt R 0, d) ∷ [])) ∷ (node d, mk l R) ∷ (node c, mk l L) ∷ w2 in
       let last : ℕ → ℕ → Writes → Plan = λ c d w2. take-node w2 c (take-node w2 d (P.done (a, end c d A B w2))) in
       let t1 : ℕ → ℕ = λ x. 0 + one r x + tally (cnt l) es x + 0 in
-      take-for-ok r w (λ c w1. take-for sz r w1 (λ d w2. last c d w2)) t1 (f .marks)
+      take-for-ok F E M lacking sz al r w (λ c w1. take-for sz r w1 (λ d w2. last c d w2)) t1 (f .marks)
       (λ c sm1 z1.
       let w1 : Writes = (flag c, taken true) ∷ w in
       let t2 : ℕ → ℕ = λ x. 0 + one r x + tally (cnt l) es x + one c x in
       let f1 = slot-taken (over w M) m l (top r) es nil (one c) c z1 sm1 (λ x. omega arith) f in
-      take-for-ok r w1 (λ d w2. last c d w2) t2 (f1 .marks)
+      take-for-ok F E M lacking sz al r w1 (λ d w2. last c d w2) t2 (f1 .marks)
       (λ d sm2 z2.
       let w2 : Writes = (flag d, taken true) ∷ w1 in
       let f2 = slot-taken (over w1 M) m l (top r) es (one c) (λ x. one c x + one d x) d z2 sm2 (λ x. refl) f1 in
-      take-node-ok F lacking M m a w2 c (take-node w2 d (P.done (a, end c d A B w2))) (mark-free (over w M (flag c)) (over w M (node c)) (t1 c) z1 (f .marks c) .1)
-      (take-node-ok F lacking M m a w2 d (P.done (a, end c d A B w2)) (mark-free (over w1 M (flag d)) (over w1 M (node d)) (t2 d) z2 (f1 .marks d) .1) (
+      take-node-ok F E M w2 c (take-node w2 d (P.done (a, end c d A B w2))) (mark-free (over w M (flag c)) (over w M (node c)) (t1 c) z1 (f .marks c) .1)
+      (take-node-ok F E M w2 d (P.done (a, end c d A B w2)) (mark-free (over w1 M (flag d)) (over w1 M (node d)) (t2 d) z2 (f1 .marks d) .1) (
         refl,
         subst (λ y. Rep (over (end c d y B w2) M) m) (sym (ren-take W j es)) (subst (λ y. Rep (over (end c d (ren W (take j es)) y w2) M) m) (sym (ren-drop W j es))
             (root-parted l r c d w2 es (take j es) (drop j es) i (sym (take-append-drop j es))
@@ -151,12 +130,12 @@ module _ (F : Why → Type 0) (lacking : F not-free × F no-slot) (sz : Sizes) (
           (λ x h. omega (arith, mark-free (U (flag x)) (U (node x)) (t x) (f .inside x h) (f .marks x) .0)))
 
   -- new entries of any node, carried to the root
-  pub up-ok : (l : ℕ) (p : Path l) → Next F lacking M m a l p (λ w es. up sz a l (branches l p) w (nm l p) es)
+  pub up-ok : (l : ℕ) (p : Path l) → Next F M m a l p (λ w es. up sz a l (branches l p) w (nm l p) es)
   up-ok l (top r) w es f st n s =
       let fl = ren (word l) es in
       let y = ren-length (word l) es in
       if-ok F E M (decLe (length fl) (mx l)) (P.done (a, (node r, mk l fl) ∷ w)) (split-root sz a l w r fl)
-      (λ q. (refl, write-ok F lacking M m a l (top r) w es f tt n (omega (arith, q, y))))
+      (λ q. (refl, write-ok M m l (top r) w es f tt n (omega (arith, q, y))))
       (λ q. let e : length es ≡ suc (mx l) = omega (arith, q, s, y) in root-split-ok l r w es (level-ok l r w es e f) e f)
   up-ok l (frame k c pre post p) w es f st n s =
       let fl = ren (word l) es in
@@ -168,6 +147,6 @@ module _ (F : Why → Type 0) (lacking : F not-free × F no-slot) (sz : Sizes) (
       let few = neighbour a l (branches (suc l) p) go w k c fl (nm (suc l) p) X Y in
       if-ok F E M (decLe (mn l) (length fl)) (ifd (decLe (length fl) (mx l)) (P.done (a, (node c, mk l fl) ∷ w)) many) few
       (λ q. if-ok F E M (decLe (length fl) (mx l)) (P.done (a, (node c, mk l fl) ∷ w)) many
-      (λ i. (refl, write-ok F lacking M m a l (frame k c pre post p) w es f st (omega (arith, q, y)) (omega (arith, i, y))))
+      (λ i. (refl, write-ok M m l (frame k c pre post p) w es f st (omega (arith, q, y)) (omega (arith, i, y))))
       (λ i. split-ok l k c pre post p w es go (omega (arith, i, s, y)) (st .1) (st .2) (up-ok (suc l) p) f))
-      (λ q. neighbour-ok F lacking M m a l k c pre post p w es go (omega (arith, q, n, y)) (st .1) (st .2) (up-ok (suc l) p) f)
+      (λ q. neighbour-ok F M m a l k c pre post p w es go (omega (arith, q, n, y)) (st .1) (st .2) (up-ok (suc l) p) f)

@@ -4,7 +4,7 @@ use mathlib.Core.List.{List, [], _∷_, _++_}
 use mathlib.Core.Option.{Option, none, some}
 use Prim.Native.Nat.{ℕ, zero, suc, _<_, _≤_}
 use Rattle.nodes.specs.Vector.{or-else}
-use Rattle.operations.specs.Object.{Obj, node, Val, Why, Ans, Writes, over}
+use Rattle.operations.specs.Object.{Obj, node, Val, Why, Ans, Writes}
 use Rattle.operations.specs.Map.{Map, look, above, below, said}
 use Rattle.operations.specs.Entry.{Entries, keys, nxt, value-in, next-in, previous-in}
 use Rattle.operations.specs.Path.{Plan, Branch}
@@ -12,22 +12,18 @@ use Rattle.operations.specs.Look.{lookup-plan, told, Visit, rightward, l
 use Rattle.operations.specs.Chain.{Rising, chain-rising, Chain, gather, ren}
 use Rattle.operations.specs.Places.{look-is, above-is, below-is}
 use Rattle.operations.specs.Ensures.{Ok}
-use Rattle.operations.specs.Tree.{H, Slot, word, pairs, Kid, Entry, entry-rise, Path, top, frame, nm, hi, left, right, Ctx, Rep}
+use Rattle.operations.specs.Tree.{H, Slot, word, pairs, Kid, Entry, entry-rise, Path, top, frame, nm, hi, left, right, Ctx, Rep, Ends}
 use Rattle.operations.specs.Maps.{leaf-pairs, leaf-words, look-mid, above-app, above-none, below-app, below-none, or-assoc}
 use Rattle.operations.specs.Down.{branches, kid-ok, Site, site-rising, site-left, site-right, site-map, root-ok}
 
 module _ (F : Why → Type 0) (M : Obj → Val) (m : Map) (key : ℕ) (small : key < H) (R : Rep M m) where
-  -- an answer that is the map's, and nothing changes
-  abbrev pub Same : Ans → Ans → Writes → Type 0
-  Same b a w = (a ≡ b) × Rep (over w M) m
-
   abbrev N : ℕ → Val
   N n = M (node n)
 
-  pub lookup-ok : Ok F (Same (said (look key m))) M (lookup-plan key)
-  lookup-ok = root-ok M m key F (Same (said (look key m))) (λ fs n es. Rattle.plans.specs.Plan.done (said (value-in key es), [])) at R
+  pub lookup-ok : Ok F (Ends M m (said (look key m))) M (lookup-plan key)
+  lookup-ok = root-ok M m key F (Ends M m (said (look key m))) (λ fs n es. Rattle.plans.specs.Plan.done (said (value-in key es), [])) at R
     where
-      at : (p : Path zero) (es : Entries) → Site M m key zero p es → Same (said (look key m)) (said (value-in key es)) []
+      at : (p : Path zero) (es : Entries) → Site M m key zero p es → Ends M m (said (look key m)) (said (value-in key es)) []
       at p es s = (
         ap said (look-is key (nxt es (hi zero p)) (hi zero p) es (site-rising M m key zero p es s)
             ∙ sym (look-mid key (left zero p) es (right zero p) (site-left M m key zero p es small s) (site-right M m key zero p es small s))
@@ -38,7 +34,7 @@ module _ (F : Why → Type 0) (M : Obj → Val) (m : Map) (key : ℕ) (small : k
   -- NEXT AND PREVIOUS: what f finds in a leaf is what g finds in its pairs, and T is what g finds in the map
   module _ (f : Entries → Option ℕ) (g : Map → Option ℕ) (same : (a z : ℕ) (es : Entries) → Rising a z (keys es) → f es ≡ g es) (T : Option ℕ) where
     abbrev Q : Ans → Writes → Type 0
-    Q = Same (said T)
+    Q = Ends M m (said T)
 
     told-ok : (x y : Option ℕ) (p : Plan) → or-else x y ≡ T → (y ≡ T → Ok F Q M p) → Ok F Q M (told x p)
     told-ok none y p h k = k h
@@ -87,28 +83,28 @@ module _ (F : Why → Type 0) (M : Obj → Val) (m : Map) (key : ℕ) (small : k
         ∙ ap (λ z. or-else z y) (sym (below-app key (pairs (suc l) (s .0) (s .1)) (gather (pairs (suc l)) es))) ∙ h)
         (λ q. e (s .0) (nxt es b) (s .1) y p (c .0) q k)
 
-    next-up-ok : (l : ℕ) (p : Path l) → Ctx N l p → above key (right l p) ≡ T → Ok F (Same (said T)) M (seek-up (next-in key) rightward (λ f. f .post) l (branches l p))
+    next-up-ok : (l : ℕ) (p : Path l) → Ctx N l p → above key (right l p) ≡ T → Ok F (Ends M m (said T)) M (seek-up (next-in key) rightward (λ f. f .post) l (branches l p))
     next-up-ok l (top r) c h = (ap said h, R)
     next-up-ok l (frame k n pre post p) c h =
         right-visits (seek (next-in key) rightward l) l (hi (suc l) p) post (above key (right (suc l) p)) (seek-up (next-in key) rightward (λ f. f .post) (suc l) (branches (suc l) p))
         (seek-ok (next-in key) (above key) sameA T rightward right-visits l) (c .1) (sym (above-app key (gather (pairs (suc l)) post) (right (suc l) p)) ∙ h)
         (λ q. next-up-ok (suc l) p (c .4) q)
 
-    previous-up-ok : (l : ℕ) (p : Path l) → Ctx N l p → below key (left l p) ≡ T → Ok F (Same (said T)) M (seek-up (previous-in key) leftward (λ f. f .pre) l (branches l p))
+    previous-up-ok : (l : ℕ) (p : Path l) → Ctx N l p → below key (left l p) ≡ T → Ok F (Ends M m (said T)) M (seek-up (previous-in key) leftward (λ f. f .pre) l (branches l p))
     previous-up-ok l (top r) c h = (ap said h, R)
     previous-up-ok l (frame k n pre post p) c h =
         left-visits (seek (previous-in key) leftward l) l k pre (below key (left (suc l) p)) (seek-up (previous-in key) leftward (λ f. f .pre) (suc l) (branches (suc l) p))
         (seek-ok (previous-in key) (below key) sameB T leftward left-visits l) (c .0) (sym (below-app key (left (suc l) p) (gather (pairs (suc l)) pre)) ∙ h)
         (λ q. previous-up-ok (suc l) p (c .4) q)
 
-  pub next-ok : Ok F (Same (said (above key m))) M (next-plan key)
-  next-ok = root-ok M m key F (Same (said T)) (λ fs n es. told (next-in key es) (seek-up (next-in key) rightward (λ f. f .post) zero fs)) at R
+  pub next-ok : Ok F (Ends M m (said (above key m))) M (next-plan key)
+  next-ok = root-ok M m key F (Ends M m (said T)) (λ fs n es. told (next-in key es) (seek-up (next-in key) rightward (λ f. f .post) zero fs)) at R
     where
       T : Option ℕ
       T = above key m
 
       at : (p : Path zero) (es : Entries) → Site M m key zero p es
-          → Ok F (Same (said T)) M (told (next-in key es) (seek-up (next-in key) rightward (λ f. f .post) zero (branches zero p)))
+          → Ok F (Ends M m (said T)) M (told (next-in key es) (seek-up (next-in key) rightward (λ f. f .post) zero (branches zero p)))
       at p es s =
           told-ok (next-in key) (above key) (above-is key) T (next-in key es) (above key (right zero p)) (seek-up (next-in key) rightward (λ f. f .post) zero (branches zero p))
           (ap (λ z. or-else z (above key (right zero p))) (above-is key (nxt es (hi zero p)) (hi zero p) es (site-rising M m key zero p es s))
@@ -117,14 +113,14 @@ module _ (F : Why → Type 0) (M : Obj → Val) (m : Map) (key : ℕ) (small : k
           ∙ sym (above-app key (left zero p) (es ++ right zero p)) ∙ ap (above key) (site-map M m key p es s))
           (λ q. next-up-ok T zero p (s .focus .ctx) q)
 
-  pub previous-ok : Ok F (Same (said (below key m))) M (previous-plan key)
-  previous-ok = root-ok M m key F (Same (said T)) (λ fs n es. told (previous-in key es) (seek-up (previous-in key) leftward (λ f. f .pre) zero fs)) at R
+  pub previous-ok : Ok F (Ends M m (said (below key m))) M (previous-plan key)
+  previous-ok = root-ok M m key F (Ends M m (said T)) (λ fs n es. told (previous-in key es) (seek-up (previous-in key) leftward (λ f. f .pre) zero fs)) at R
     where
       T : Option ℕ
       T = below key m
 
       at : (p : Path zero) (es : Entries) → Site M m key zero p es
-          → Ok F (Same (said T)) M (told (previous-in key es) (seek-up (previous-in key) leftward (λ f. f .pre) zero (branches zero p)))
+          → Ok F (Ends M m (said T)) M (told (previous-in key es) (seek-up (previous-in key) leftward (λ f. f .pre) zero (branches zero p)))
       at p es s =
           told-ok (previous-in key) (below key) (below-is key) T (previous-in key es) (below key (left zero p)) (seek-up (previous-in key) leftward (λ f. f .pre) zero (branches zero p))
           (ap (λ z. or-else z (below key (left zero p))) (below-is key (nxt es (hi zero p)) (hi zero p) es (site-rising M m key zero p es s))

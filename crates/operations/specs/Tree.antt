@@ -6,7 +6,7 @@ use mathlib.Core.Logic.{_⊎_, inl, inr}
 use Prim.Native.Nat.{ℕ, zero, suc, _+_, _^_, _<_, _≤_}
 use native.Mathlib.Omega.{arith}
 use lib.ListN.{length}
-use Rattle.operations.specs.Object.{Obj, meta, node, flag, Val, root, body, taken, flags, free, wr}
+use Rattle.operations.specs.Object.{Obj, meta, node, flag, Val, root, body, taken, flags, free, Ans, Writes, wr, over}
 use Rattle.operations.specs.Map.{Map}
 use Rattle.operations.specs.Entry.{mk, mn, mx, nxt}
 use Rattle.operations.specs.Chain.{one, one-same, Chain, chain-frame, tally, gather, ren}
@@ -169,6 +169,10 @@ pub record Rep (U : Obj → Val) (m : Map) : Type 0 where
   pub stored : U (node name) ≡ mk level (ren (word level) ents)
   pub least : bottom level ≤ length ents
   pub most : length ents ≤ mx level
+
+-- the answer is a, and the snapshot with the writes holds m
+abbrev pub Ends : (Obj → Val) → Map → Ans → Ans → Writes → Type 0
+Ends M m a b w = (b ≡ a) × Rep (over w M) m
 
 -- FRAMES
 pub ctx-frame : (N O : ℕ → Val) (l : ℕ) (p : Path l) → ((x : ℕ) → 1 ≤ around l p x → N x ≡ O x) → Ctx N l p → Ctx O l p
