@@ -21,3 +21,5 @@ pub mod Reads
 pub mod Slots
 pub mod Rise
 pub mod Grow
+pub mod Found
+pub mod Changes
