@@ -23,3 +23,4 @@ pub mod Rise
 pub mod Grow
 pub mod Found
 pub mod Changes
+pub mod Moved

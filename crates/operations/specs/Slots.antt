@@ -106,10 +106,15 @@ module _ (F : Why → Type 0) (Q : Ans → Writes → Type 0) (M : Obj → Val) 
       abbrev Marked : Writes → (ℕ → ℕ) → Type 0
       Marked w t = (x : ℕ) → Mark (over w M (flag x)) (over w M (node x)) (t x)
 
-      pub take-on-ok : (ss : List ℕ) (slot : ℕ) (w : Writes) (k : ℕ → Writes → Plan) (t : ℕ → ℕ) → Every (λ s. s < 8) ss → Marked w t → Takes w k
+      take-on-ok : (ss : List ℕ) (slot : ℕ) (w : Writes) (k : ℕ → Writes → Plan) (t : ℕ → ℕ) → Every (λ s. s < 8) ss → Marked w t → Takes w k
           → Ok F Q M (take-on sz ss slot w k)
       take-on-ok ss slot w k t i g h =
           search-ok w slot ss (λ d. take-flag w d (λ w′. k d w′)) i (λ d sm. take-flag-ok w d (t d) (λ w′. k d w′) (g d) (h d sm))
+
+      -- on one server
+      pub take-at-ok : (s slot : ℕ) (w : Writes) (k : ℕ → Writes → Plan) (t : ℕ → ℕ) → s < 8 → Marked w t → Takes w k → Ok F Q M (take-on sz (s ∷ []) slot w k)
+      unfolding Every
+      take-at-ok s slot w k t i g h = take-on-ok (s ∷ []) slot w k t (i, tt) g h
 
       pub take-for-ok : (n : ℕ) (w : Writes) (k : ℕ → Writes → Plan) (t : ℕ → ℕ) → Marked w t → Takes w k → Ok F Q M (take-for sz n w k)
       take-for-ok n w k t g h =
