@@ -8,13 +8,14 @@ use lib.ListN.{length, length-append}
 use Rattle.base.specs.Test.{ifd}
 use Rattle.plans.specs.Plan as P
 use Rattle.operations.specs.Object.{Obj, node, Val, Why, no-tree, Ans, Writes, over}
-use Rattle.operations.specs.Map.{Map}
+use Rattle.operations.specs.Map.{Map, H}
 use Rattle.operations.specs.Entry.{Entries, keys, vals, zip, mk, mn, mx, nxt, Cut, cut}
 use Rattle.operations.specs.Path.{Plan, open-node, kid, when-root, Branch, to-leaf, down, at-root, from-root}
 use Rattle.operations.specs.Chain.{Rising, chain-rising, ren, ren-app, ren-length}
 use Rattle.operations.specs.Places.{cut-app, cut-le, cut-gt, ren-cut}
 use Rattle.operations.specs.Ensures.{Ok, see-ok, if-ok}
-use Rattle.operations.specs.Tree.{H, Slot, word, Starts, Kid, Entry, entry-rise, Path, top, frame, nm, lo, hi, left, right, bottom, floor, Stored, Focus, nil, Rep}
+use Rattle.operations.specs.Tree.{Slot, word, Starts, Kid, Entry, bottom}
+use Rattle.operations.specs.Focus.{entry-rise, Path, top, frame, nm, lo, hi, left, right, floor, Stored, Focus, nil, Rep}
 use Rattle.operations.specs.Moves.{lower}
 use Rattle.operations.specs.Maps.{Keys, keys-map, left-lt, right-ge, leaf-pairs, leaf-words}
 

@@ -8,10 +8,11 @@ use native.Mathlib.Decide.{ℕ-discrete, decLe}
 use native.Mathlib.Omega.{arith}
 use lib.ListN.{length, length-map}
 use Rattle.operations.specs.Object.{Obj, node, flag, Val, root, body, taken, flags, free, keys-of, level-of}
-use Rattle.operations.specs.Map.{Map}
+use Rattle.operations.specs.Map.{Map, H}
 use Rattle.operations.specs.Entry.{Entries, keys, mk, mn, nxt}
 use Rattle.operations.specs.Chain.{Rising, rising-from, rising-le, rising-upto, one, one-same, one-other, Chain, chain-le, chain-rising, tally, ren, ren-keys}
-use Rattle.operations.specs.Tree.{H, Slot, word, cnt, Starts, Kid, Entry, entry-rise, Mark, Rep}
+use Rattle.operations.specs.Tree.{Slot, word, cnt, Starts, Kid, Entry, Mark}
+use Rattle.operations.specs.Focus.{entry-rise, Rep}
 use Rattle.operations.specs.Moves.{starts-le}
 
 -- a node of the tree with the name n, of a level below l, within the bounds

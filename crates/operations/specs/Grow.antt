@@ -10,14 +10,15 @@ use lib.Seq.{length-take-le}
 use Rattle.base.specs.Test.{ifd}
 use Rattle.plans.specs.Plan as P
 use Rattle.operations.specs.Object.{Obj, node, flag, Val, taken, Why, not-free, no-slot, Ans, Writes, wr, over}
-use Rattle.operations.specs.Map.{Map}
+use Rattle.operations.specs.Map.{Map, H}
 use Rattle.operations.specs.Entry.{Entries, mk, mn, mx, nxt}
 use Rattle.operations.specs.Path.{Plan}
 use Rattle.operations.specs.Slot.{Sizes, Allowed, take-for, take-node}
 use Rattle.operations.specs.Change.{Go, parted, neighbour, split-root, split, up}
 use Rattle.operations.specs.Chain.{one, one-same, tally, ren, ren-length, ren-take, ren-drop, ren-nxt}
 use Rattle.operations.specs.Ensures.{Ok, if-ok, sel-same, sel-other}
-use Rattle.operations.specs.Tree.{H, room, room-is, Slot, word, cnt, Path, top, frame, nm, around, bottom, floor, Stored, Mark, Focus, nil, Rep, Ends, mark-le, mark-free}
+use Rattle.operations.specs.Tree.{room, room-is, Slot, word, cnt, bottom, Mark}
+use Rattle.operations.specs.Focus.{Path, top, frame, nm, around, floor, Stored, Focus, nil, Rep, Ends, mark-le, mark-free}
 use Rattle.operations.specs.Count.{no-fifth}
 use Rattle.operations.specs.Moves.{set-node, take-slot as slot-taken, recut, grow}
 use Rattle.operations.specs.Down.{branches}

@@ -13,6 +13,7 @@ pub mod Chain
 pub mod Places
 pub mod Ensures
 pub mod Tree
+pub mod Focus
 pub mod Count
 pub mod Moves
 pub mod Maps

@@ -2,14 +2,23 @@
 use mathlib.Core.Bool.{Bool, true, false}
 use mathlib.Core.List.{List, [], _∷_}
 use mathlib.Core.Option.{Option, none, some}
-use Prim.Native.Nat.{ℕ}
+use Prim.Native.Nat.{ℕ, _^_, _<_}
 use native.Mathlib.Decide.{ℕ-discrete, decLt}
+use native.Mathlib.Omega.{arith}
 use Rattle.base.specs.Test.{ifd}
 use Rattle.nodes.specs.Vector.{or-else}
 use Rattle.operations.specs.Object.{Ans}
 
 abbrev pub Map : Type 0
 Map = List (ℕ × ℕ)
+
+-- "Keys and values are any unsigned 64-bit numbers": keys are below this
+pub H : ℕ
+H = 2 ^ 64
+
+pub H-pos : 0 < H
+unfolding H
+H-pos = omega arith
 
 -- "op 1 insert, 2 lookup, 3 delete, 4 next key above, 5 previous key below, 6 migrate (key is the node name)"
 pub data Op : Type 0 where

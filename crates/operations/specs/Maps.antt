@@ -12,7 +12,8 @@ use Rattle.operations.specs.Object.{Val}
 use Rattle.operations.specs.Map.{Map, look, put, del, above, below}
 use Rattle.operations.specs.Entry.{nxt}
 use Rattle.operations.specs.Chain.{Chain, chain-le, gather, ren}
-use Rattle.operations.specs.Tree.{Slot, word, pairs, Starts, Kid, Entry, entry-rise, Path, top, frame, lo, hi, left, right, Ctx}
+use Rattle.operations.specs.Tree.{Slot, word, pairs, Starts, Kid, Entry}
+use Rattle.operations.specs.Focus.{entry-rise, Path, top, frame, lo, hi, left, right, Ctx}
 use Rattle.operations.specs.Moves.{starts-le}
 
 abbrev pub Keys : (ℕ → Type 0) → Map → Type 0

@@ -11,7 +11,7 @@ use Rattle.base.specs.Test.{ifd, yes?, yes-of, of-yes}
 use Rattle.plans.specs.Plan as P
 use Rattle.nodes.specs.Name.{server-of, slot-of}
 use Rattle.operations.specs.Object.{Obj, meta, node, flag, Ask, object, Val, root, body, taken, flags, free, keys-of, level-of, Why, not-free, no-tree, no-slot, Ans, Writes, over}
-use Rattle.operations.specs.Map.{Map}
+use Rattle.operations.specs.Map.{Map, H}
 use Rattle.operations.specs.Entry.{Entries, mk, mx, nxt, Cut, cut}
 use Rattle.operations.specs.Path.{Plan, kid, when-root, open-node, down, at-root}
 use Rattle.operations.specs.Slot.{Sizes, Allowed, take-node, release}
@@ -19,7 +19,8 @@ use Rattle.operations.specs.Migrate.{moved, move-root, move-at, to-level
 use Rattle.operations.specs.Chain.{one, one-same, one-other, tally, tally-app, ren, ren-app, ren-length}
 use Rattle.operations.specs.Places.{cut-app, cut-le, cut-gt, ren-cut}
 use Rattle.operations.specs.Ensures.{Ok, if-ok, cond-ok, sel-same}
-use Rattle.operations.specs.Tree.{H, room, Slot, word, cnt, Entry, Path, top, frame, nm, hi, around, floor, Mark, Focus, nil, Rep, mark-free}
+use Rattle.operations.specs.Tree.{room, Slot, word, cnt, Entry, Mark}
+use Rattle.operations.specs.Focus.{Path, top, frame, nm, hi, around, floor, Focus, nil, Rep, mark-free}
 use Rattle.operations.specs.Moves.{set-node, take-slot as slot-taken, release as slot-freed, lift, rename, rename-root}
 use Rattle.operations.specs.Down.{branches, open-ok, kid-ok, Site, site-root, site-rising, site-down}
 use Rattle.operations.specs.Slots.{take-node-ok, release-ok, take-at-ok}

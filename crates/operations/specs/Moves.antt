@@ -9,11 +9,12 @@ use native.Mathlib.Omega.{arith}
 use lib.ListN.{length, length-append}
 use Rattle.base.specs.Test.{yes?}
 use Rattle.operations.specs.Object.{Obj, meta, node, flag, Val, root, taken, free, wr}
-use Rattle.operations.specs.Map.{Map}
+use Rattle.operations.specs.Map.{Map, H, H-pos}
 use Rattle.operations.specs.Entry.{mk, mn, mx, nxt}
 use Rattle.operations.specs.Chain.{one, one-same, one-other, nxt-app, Chain, chain-app, chain-left, chain-right, chain-lt, chain-frame, tally, tally-app, gather, gather-app, ren, ren-app}
 use Rattle.operations.specs.Ensures.{sel-all, sel-other}
-use Rattle.operations.specs.Tree.{H, H-pos, room, Slot, word, cnt, pairs, Starts, Kid, Entry, entry-rise, entry-frame, Path, top, frame, nm, lo, hi, root-lev, root-nm, around, left, right, bottom, floor, Ctx, Stored, Above, Mark, Focus, nil, Rep, ctx-frame, stored-frame, above-frame, stored-above, mark-le, mark-num, mark-node, mark-free, apart}
+use Rattle.operations.specs.Tree.{room, Slot, word, cnt, pairs, Starts, Kid, Entry, bottom, Mark}
+use Rattle.operations.specs.Focus.{entry-rise, entry-frame, Path, top, frame, nm, lo, hi, root-lev, root-nm, around, left, right, floor, Ctx, Stored, Above, Focus, nil, Rep, ctx-frame, stored-frame, above-frame, stored-above, mark-le, mark-num, mark-node, mark-free, apart}
 
 -- lists and bounds
 pub nxt-any : {A : Type 0} (es : List (ℕ × A)) (a b : ℕ) → 0 < length es → nxt es a ≡ nxt es b

@@ -5,14 +5,15 @@ use mathlib.Core.Option.{Option, none, some}
 use Prim.Native.Nat.{ℕ, zero, suc, _<_, _≤_}
 use Rattle.nodes.specs.Vector.{or-else}
 use Rattle.operations.specs.Object.{Obj, node, Val, Why, Ans, Writes}
-use Rattle.operations.specs.Map.{Map, look, above, below, said}
+use Rattle.operations.specs.Map.{Map, look, above, below, said, H}
 use Rattle.operations.specs.Entry.{Entries, keys, nxt, value-in, next-in, previous-in}
 use Rattle.operations.specs.Path.{Plan, Branch}
 use Rattle.operations.specs.Look.{lookup-plan, told, Visit, rightward, leftward, seek, seek-up, next-plan, previous-plan}
 use Rattle.operations.specs.Chain.{Rising, chain-rising, Chain, gather, ren}
 use Rattle.operations.specs.Places.{look-is, above-is, below-is}
 use Rattle.operations.specs.Ensures.{Ok}
-use Rattle.operations.specs.Tree.{H, Slot, word, pairs, Kid, Entry, entry-rise, Path, top, frame, nm, hi, left, right, Ctx, Rep, Ends}
+use Rattle.operations.specs.Tree.{Slot, word, pairs, Kid, Entry}
+use Rattle.operations.specs.Focus.{entry-rise, Path, top, frame, nm, hi, left, right, Ctx, Rep, Ends}
 use Rattle.operations.specs.Maps.{leaf-pairs, leaf-words, look-mid, above-app, above-none, below-app, below-none, or-assoc}
 use Rattle.operations.specs.Down.{branches, kid-ok, Site, site-rising, site-left, site-right, site-map, root-ok}
 

@@ -19,7 +19,8 @@ use Rattle.operations.specs.Slot.{release}
 use Rattle.operations.specs.Change.{Go, parted, merged, with-right, with-left, unsnoc-step, unsnoc, left-of, neighbour}
 use Rattle.operations.specs.Chain.{one, one-same, one-other, nxt-app, Chain, chain-right, tally, tally-app, ren, ren-app, ren-length, ren-take, ren-drop, ren-nxt}
 use Rattle.operations.specs.Ensures.{Ok, if-ok, sel-same, sel-other}
-use Rattle.operations.specs.Tree.{Slot, word, cnt, Starts, Kid, Entry, Path, top, frame, nm, lo, hi, around, bottom, floor, Ctx, Stored, Above, Mark, Focus, nil, Rep, Ends, stored-frame, mark-le, apart}
+use Rattle.operations.specs.Tree.{Slot, word, cnt, Starts, Kid, Entry, bottom, Mark}
+use Rattle.operations.specs.Focus.{Path, top, frame, nm, lo, hi, around, floor, Ctx, Stored, Above, Focus, nil, Rep, Ends, stored-frame, mark-le, apart}
 use Rattle.operations.specs.Moves.{set-node, release as slot-freed, lift, recut, widen-right, widen-left, shrink, close}
 use Rattle.operations.specs.Down.{branches, bottom-mn, bottom-floor, kid-ok}
 use Rattle.operations.specs.Slots.{release-ok}
