@@ -25,3 +25,5 @@ pub mod Grow
 pub mod Found
 pub mod Changes
 pub mod Moved
+pub mod Checked
+pub mod Sound

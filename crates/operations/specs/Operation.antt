@@ -1,12 +1,12 @@
 -- The six operations as plans, with the last check before the answer.
 use mathlib.Core.Bool.{Bool, true, false, cond, _&&_}
 use mathlib.Core.List.{List, [], _∷_}
-use Prim.Native.Nat.{ℕ}
+use Prim.Native.Nat.{ℕ, _<_}
 use native.Mathlib.Decide.{decLt, decLe}
 use Rattle.base.specs.Test.{yes?}
 use Rattle.plans.specs.Plan as P
 use Rattle.operations.specs.Object.{Val, keys-of, level-of, Why, no-tree, Ans, Writes, value}
-use Rattle.operations.specs.Map.{Op, insert, lookup, delete, next, previous, migrate}
+use Rattle.operations.specs.Map.{H, Op, insert, lookup, delete, next, previous, migrate}
 use Rattle.operations.specs.Path.{Plan}
 use Rattle.operations.specs.Slot.{Sizes}
 use Rattle.operations.specs.Look.{lookup-plan, next-plan, previous-plan}
@@ -45,3 +45,12 @@ reading sz (migrate n s) = migrate-plan sz n s
 
 abbrev pub plan : Sizes → Op → Plan
 plan sz op = checked (reading sz op)
+
+-- what a step with this operation is not refused for: the key is a 64-bit number, the server is in the store
+abbrev pub Legal : Sizes → Op → Type 0
+Legal sz (insert k v) = k < H
+Legal sz (lookup k) = k < H
+Legal sz (delete k) = k < H
+Legal sz (next k) = k < H
+Legal sz (previous k) = k < H
+Legal sz (migrate n s) = s < sz .servers

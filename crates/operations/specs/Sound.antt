@@ -1,0 +1,93 @@
+-- THE THEOREM: on a snapshot that holds a B-tree of a map, whatever the vectors say, an operation that answers gives the map's answer and
+-- leaves a B-tree of the map after it; and none finds that what was read can't be one tree.
+use mathlib.Core.Path.{_≡_, refl, ap, sym, _∙_, subst}
+use mathlib.Core.Bool.{Bool, true, false, true≢false, false≢true}
+use mathlib.Core.List.{List, [], _∷_}
+use mathlib.Core.Logic.{_⊎_, inl, inr}
+use Prim.Native.Nat.{ℕ, zero, suc, _+_, _<_, _≤_}
+use native.Mathlib.Omega.{arith}
+use Rattle.plans.specs.Plan.{gives, fails, exec}
+use Rattle.operations.specs.Object.{Obj, meta, node, flag, Ask, Val, root, body, taken, free, Why, not-free, no-tree, no-slot, Ans, Writes, over}
+use Rattle.operations.specs.Map.{Map, Op, insert, lookup, delete, next, previous, migrate, answer, compared, map-after}
+use Rattle.operations.specs.Entry.{mk}
+use Rattle.operations.specs.Slot.{Sizes, Allowed}
+use Rattle.operations.specs.Operation.{reading, plan, Legal}
+use Rattle.operations.specs.Chain.{one, one-same, one-other}
+use Rattle.operations.specs.Ensures.{Ok, Says, ok-says, ok-mono, objects}
+use Rattle.operations.specs.Tree.{room, room-is, Mark, Holds}
+use Rattle.operations.specs.Focus.{Rep, Ends, rep-of, holds-of}
+use Rattle.operations.specs.Reads.{lookup-ok, next-ok, previous-ok}
+use Rattle.operations.specs.Changes.{insert-ok, delete-ok}
+use Rattle.operations.specs.Moved.{Kept, migrate-ok}
+use Rattle.operations.specs.Checked.{checked-ok, all-fit-rep}
+
+module _ (sz : Sizes) (al : Allowed sz) where
+  -- what an answer with its writes has to be
+  abbrev Right : Op → (Obj → Val) → Map → Ans → Writes → Type 0
+  Right op M m a w = (compared op ≡ true → a ≡ answer op m) × Rep (over w M) (map-after op m)
+
+  module _ (F : Why → Type 0) (lacking : F not-free × F no-slot) (M : Obj → Val) (m : Map) (R : Rep M m) where
+    reading-ok : (op : Op) → Legal sz op → Ok F (Right op M m) M (reading sz op)
+    reading-ok (insert k v) i = ok-mono F _ (Right (insert k v) M m) M (λ a w q. (λ _. q .0, q .1)) (reading sz (insert k v)) (insert-ok F lacking sz al M m k i R v)
+    reading-ok (lookup k) i = ok-mono F _ (Right (lookup k) M m) M (λ a w q. (λ _. q .0, q .1)) (reading sz (lookup k)) (lookup-ok F M m k i R)
+    reading-ok (delete k) i = ok-mono F _ (Right (delete k) M m) M (λ a w q. (λ _. q .0, q .1)) (reading sz (delete k)) (delete-ok F lacking sz al M m k i R)
+    reading-ok (next k) i = ok-mono F _ (Right (next k) M m) M (λ a w q. (λ _. q .0, q .1)) (reading sz (next k)) (next-ok F M m k i R)
+    reading-ok (previous k) i = ok-mono F _ (Right (previous k) M m) M (λ a w q. (λ _. q .0, q .1)) (reading sz (previous k)) (previous-ok F M m k i R)
+    reading-ok (migrate n s) i = ok-mono F _ (Right (migrate n s) M m) M (λ a w q. (λ c. absurd (false≢true c), q)) (reading sz (migrate n s))
+        (migrate-ok F lacking sz al M m R s (omega (arith, i, al .0)) n)
+
+    plan-ok : (op : Op) → Legal sz op → Ok F (Right op M m) M (plan sz op)
+    plan-ok op i = checked-ok F (Right op M m) M (λ a w q. all-fit-rep M (map-after op m) w (q .1)) (reading sz op) (reading-ok op i)
+
+  pub sound : (op : Op) → Legal sz op → (S : Ask → Val) (m : Map) (a : Ans) (w : Writes) → Holds (objects S) m → exec (plan sz op) S ≡ gives (a, w)
+      → (compared op ≡ true → a ≡ answer op m) × Holds (over w (objects S)) (map-after op m)
+  sound op i S m a w h e =
+      let F : Why → Type 0 = λ y. Unit {0} in
+      let M = objects S in
+      let r : Right op M m a w = subst (Says F (Right op M m)) e (ok-says F (Right op M m) S (plan sz op) (plan-ok F (tt, tt) M m (rep-of M m h) op i)) in
+      (r .0, holds-of (over w M) (map-after op m) (r .1))
+
+  -- reasons 1 and 5 only
+  abbrev Tree-like : Why → Type 0
+  Tree-like not-free = Unit {0}
+  Tree-like no-tree = ⊥
+  Tree-like no-slot = Unit {0}
+
+  pub no-reason-3 : (op : Op) → Legal sz op → (S : Ask → Val) (m : Map) → Holds (objects S) m → exec (plan sz op) S ≡ fails no-tree → ⊥
+  no-reason-3 op i S m h e =
+      let M = objects S in
+      subst (Says Tree-like (Right op M m)) e (ok-says Tree-like (Right op M m) S (plan sz op) (plan-ok Tree-like (tt, tt) M m (rep-of M m h) op i))
+
+-- "A new store has the root, an empty leaf, in node 0": it holds the empty map
+abbrev pub new-store : Obj → Val
+new-store meta = root 0
+new-store (node zero) = mk 0 []
+new-store (node (suc n)) = free
+new-store (flag zero) = taken true
+new-store (flag (suc n)) = taken false
+
+pub new-holds : Holds new-store []
+unfolding room
+new-holds = record {
+  level = 0;
+  name = 0;
+  ents = [];
+  root-is = refl;
+  low = omega arith;
+  stored = refl;
+  least = omega arith;
+  most = omega arith;
+  from = omega arith;
+  segs = tt;
+  marks = marked;
+  inside = away;
+  pairs-are = refl;
+}
+  where
+    marked : (x : ℕ) → Mark (new-store (flag x)) (new-store (node x)) (one 0 x + 0)
+    marked zero = inl (omega (arith, one-same 0), refl)
+    marked (suc x) = inr (omega (arith, one-other 0 (suc x) (λ e. absurd (omega (arith, e)))), refl, refl)
+
+    away : (x : ℕ) → room ≤ x → new-store (flag x) ≡ taken false
+    away zero h = absurd (omega (arith, h, room-is))
+    away (suc x) h = refl
