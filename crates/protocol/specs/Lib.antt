@@ -11,3 +11,7 @@ pub mod Decide
 pub mod Changed
 pub mod Apply
 pub mod Safety
+pub mod Meaning
+pub mod Lists
+pub mod Machine
+pub mod Locks

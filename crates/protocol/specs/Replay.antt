@@ -8,7 +8,7 @@ use Rattle.protocol.specs.Writes.{latest}
 use Rattle.protocol.specs.System.{is-decided, Entry, Transaction, Decided, State}
 
 module _ (T : Setting) where
-  open Setting T using (Obj, Server, Client, Val, eqObj, clients, keeps, init, plan, compared, writes)
+  open Setting T using (Obj, Server, Client, Val, eqObj, clients, keeps, init, plan, public, compared, writes)
 
   -- the snapshot after the operations of a trace, begun at M
   unfoldable pub effect : List (Entry T) → (Obj → Val) → Obj → Val
@@ -23,7 +23,7 @@ module _ (T : Setting) where
   -- no operation of the trace is compared
   unfoldable pub Uncompared : List (Entry T) → Type 0
   Uncompared [] = Unit {0}
-  Uncompared (e ∷ t) = Uncompared t × (compared (e .op) ≡ false)
+  Uncompared (e ∷ t) = Uncompared t × (compared (public (e .op)) ≡ false)
 
   -- A decided transaction takes the snapshot M to U. One without participants was checked nowhere: it changes nothing,
   -- and nothing of it is compared.

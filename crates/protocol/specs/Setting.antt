@@ -44,9 +44,14 @@ pub record Setting : Type 1 where
   pub Why : Type 0
   pub plan : Op → Plan Obj Val Res Why
   pub writes : Res → List (Obj × Val)
-  -- "Migrate changes nothing, and its answer isn't compared": this operation's answer is
-  pub compared : Op → Bool
+  -- what steps and outcomes show of them: "an op, key and value", and "that operation's answer, a and b"
+  pub Ask : Type 0
+  pub Ans : Type 0
+  pub public : Op → Ask
+  pub answer-of : Res → Ans
+  -- of a migrate the "answer isn't compared"
+  pub compared : Ask → Bool
   -- a compared operation that has a result has asked for an outer object, so that its transaction has a participant, which checks
   pub asks-outer : (p : Op) (asked : Obj → Bool) (M : Obj → Val) (r : Res)
-      → compared p ≡ true → Asked (plan p) asked M → exec (plan p) M ≡ gives r
+      → compared (public p) ≡ true → Asked (plan p) asked M → exec (plan p) M ≡ gives r
       → (o : Obj) × (asked o ≡ true) × (inner o (M o) ≡ false)

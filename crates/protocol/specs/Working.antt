@@ -34,7 +34,7 @@ use Rattle.protocol.specs.Replay.{effect, Answers, Uncompared}
 use Rattle.protocol.specs.Invariant.{Content, Course, Reads, Kept, Pending, Inv, Replaced, put-inv}
 
 module _ (T : Setting) where
-  open Setting T using (Obj, Server, Client, Val, eqObj, home, inner, by-value-outer, plan, writes, compared, asks-outer)
+  open Setting T using (Obj, Server, Client, Val, eqObj, home, inner, by-value-outer, plan, writes, public, compared, asks-outer)
 
   -- an undecided transaction has nothing pending
   pub none-pending : (x : Transaction T) → is-decided (x .phase) ≡ false → (s : Server) (o : Obj) → ¬ (Pending T x s o)
@@ -172,7 +172,7 @@ module _ (T : Setting) where
         from-outer o hr hi (inl w) = inr (o, hr, inr (or-right (wrote o) (x .written o) w))
         from-outer o hr hi (inr w) = inr (o, hr, inl (subst (λ v. inner o v ≡ false) (cond-false (x .value-written o) (x .value-read o) w) hi))
 
-        seen : (compared (e .op) ≡ true) ⊎ (compared (e .op) ≡ false)
+        seen : (compared (public (e .op)) ≡ true) ⊎ (compared (public (e .op)) ≡ false)
             → Uncompared T (x .trace) ⊎ ((o : Obj) × (x .read o ≡ true) × ((inner o (x .value-read o) ≡ false) ⊎ (x .written o ≡ true))) → OuterSeen
         seen (inl k) _ =
             let w = asks-outer (e .op) (x .read) (view T x) (e .result) k asked ran in
@@ -185,7 +185,7 @@ module _ (T : Setting) where
         content = record {
           written-read = λ o h. was-read o (or-cases (wrote o) (x .written o) h);
           explained = explained;
-          outer-seen = seen (bool-cases (compared (e .op))) (I .content c .outer-seen);
+          outer-seen = seen (bool-cases (compared (public (e .op)))) (I .content c .outer-seen);
         }
 
     pub commit-inv : (p : Server → Bool) (l : Server) → σ .clients c .phase ≡ opened → Parts T (σ .clients c) p l
