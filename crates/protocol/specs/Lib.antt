@@ -15,3 +15,5 @@ pub mod Meaning
 pub mod Lists
 pub mod Machine
 pub mod Locks
+pub mod Items
+pub mod Ghosts
