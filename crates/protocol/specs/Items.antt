@@ -58,6 +58,15 @@ module _ (T : Setting) where
       → (find T is (i .obj) ≡ some i → P (i .obj)) → P o
   at-item is o i q P h = let e = find-item is o i q .1 in subst P e (h (ap (find T is) e ∙ q))
 
+  -- a statement on what is found: without an item, and at each item's object
+  pub by-item : (is : List (Item T)) (P : Obj → Option (Item T) → Type 0) → ((o : Obj) → P o none) → ((i : Item T) → P (i .obj) (some i))
+      → (o : Obj) → P o (find T is o)
+  by-item is P without with-item o = go (find T is o) refl
+    where
+      go : (z : Option (Item T)) → find T is o ≡ z → P o z
+      go none q = without o
+      go (some i) q = subst (λ o. P o (some i)) (find-item is o i q .1) (with-item i)
+
   -- PARTICIPANTS: those computed are those of the rules
   first-none : (p : Server → Bool) (ss : List Server) → p (first-of T p ss) ≡ false → (s : Server) → Among s ss → p s ≡ false
   unfolding first-of Among

@@ -17,3 +17,6 @@ pub mod Machine
 pub mod Locks
 pub mod Items
 pub mod Ghosts
+pub mod Prepared
+pub mod Applied
+pub mod Claim
