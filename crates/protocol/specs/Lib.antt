@@ -20,3 +20,4 @@ pub mod Ghosts
 pub mod Prepared
 pub mod Applied
 pub mod Claim
+pub mod Work
