@@ -1,0 +1,7 @@
+use borrow.Author.Needs.{needs}
+use Rattle.server.specs.Layout.{got}
+use Rattle.server.proofs.place.get.Statement.{statement}
+use Rattle.server.proofs.place.get.Tie as tie
+
+pub get-spec : {M : Type 1} → statement M
+get-spec = tie.close (tie.spec (λ c κs. search needs) (λ c κs. search needs) (λ c. search (got, needs)))

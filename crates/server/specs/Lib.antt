@@ -1,0 +1,2 @@
+-- One server's part of the memory.
+pub mod Layout

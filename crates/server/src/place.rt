@@ -1,0 +1,70 @@
+// The places of a server's part, and a word read and written at one.
+ghost use mathlib.Core.Path.{_≡_};
+ghost use mathlib.Core.List.{_∷_, []};
+ghost use Prim.Native.Nat.{_+_, _*_, _/_, _<_, _≤_};
+ghost use lib.ListN.{length};
+ghost use Rattle.memory.specs.Word.{view};
+ghost use Rattle.layout.specs.Space.{at, Valid, mem};
+ghost use Rattle.layout.specs.Step.{Does, silent};
+ghost use Rattle.server.specs.Layout.{places, block, partWords, Lies, putStep};
+
+// "The metadata (root name and its version) is on every server. Every server also has a table of versions for all slots
+// .. a node's own version is at its home server. Each slot has a taken flag; a server's flags are its vector." And a lock
+// for every object that the server can check.
+pub enum Place {
+    // the root's name, the metadata's version, and the lock of both
+    Root,
+    Version,
+    MetadataLock,
+    // a word of the vector
+    Vector(usize),
+    // the node in a slot of this server: slot, word
+    Node(usize, usize),
+    // the lock of a slot's taken flag
+    FlagLock(usize),
+    // the table's version of a node, and the node's lock: server, slot
+    Table(usize, usize),
+    NodeLock(usize, usize),
+}
+
+// The words of the part of a server with so many slots.
+pub fn part_words(slots: usize) -> usize
+    requires { ⌜ slots ≤ 1024 ⌝ }
+    ensures { λ r. ⌜ r ≡ partWords slots ⌝ }
+    ensures within { λ r. ⌜ r ≤ 51219 ⌝ }
+{
+    19 + 50 * slots
+}
+
+// The word at which a place lies.
+fn index(slots: usize, place: Place) -> usize
+    requires { ⌜ (slots ≤ 1024) × Valid places (block slots) place ⌝ }
+    ensures { λ r. ⌜ Lies slots place r ⌝ }
+{
+    match place {
+        Place::Root => 0,
+        Place::Version => 1,
+        Place::MetadataLock => 2,
+        Place::Vector(i) => 3 + i,
+        Place::Node(k, j) => 19 + 50 * k + j,
+        Place::FlagLock(k) => 52 + 50 * k,
+        Place::Table(s, k) => 53 + 50 * k + s,
+        Place::NodeLock(s, k) => 61 + 50 * k + s,
+    }
+}
+
+// The word at a place.
+pub fn get(part: &[u8], slots: usize, place: Place) -> u64
+    requires { ⌜ (slots ≤ 1024) × Valid places (block slots) place × (partWords slots ≤ length (now part) / 8) ⌝ }
+    ensures { λ r. ⌜ r ≡ mem places (block slots) (view (now (part .entry))) place ⌝ }
+{
+    memory::read_word(part, index(slots, place))
+}
+
+// The word at a place becomes v.
+pub fn put(part: &mut [u8], slots: usize, place: Place, v: u64)
+    requires { ⌜ (slots ≤ 1024) × Valid places (block slots) place × (partWords slots ≤ length (now part) / 8) ⌝ }
+    ensures { λ _. ⌜ Does places (block slots) (putStep place v) silent (view (now (part .entry))) 0 (view (now (part .exit))) ⌝ }
+{
+    memory::write_word(part, index(slots, place), v);
+}
