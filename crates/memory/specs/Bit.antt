@@ -99,7 +99,7 @@ put-plus w (suc i) =
     let p : 2 ^ suc i ≡ 2 ^ i * 2 = pow-suc 2 i in
     omega (arith, put-plus (w / 2) i)
 
-one-shifted : (i : ℕ) → i < 64 → 1 * 2 ^ i % 18446744073709551616 ≡ 2 ^ i
+pub one-shifted : (i : ℕ) → i < 64 → 1 * 2 ^ i % 18446744073709551616 ≡ 2 ^ i
 one-shifted i h = let p : 2 ^ i < 2 ^ 64 = pow-lt {i = i} {j = 64} h in omega arith
 
 pub put-shifted : (w i : ℕ) → i < 64 → bitOr w (1 * 2 ^ i % 18446744073709551616) ≡ putBit true w i

@@ -1,2 +1,4 @@
 -- One server's part of the memory.
 pub mod Layout
+pub mod Object
+pub mod Lock

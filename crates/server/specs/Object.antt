@@ -1,0 +1,65 @@
+-- "Objects are the metadata, nodes and flags": their numbers, and the places of their locks.
+use mathlib.Core.Path.{_≡_, refl, sym, ap, _∙_}
+use mathlib.Core.Bool.{Bool, true, false, cond}
+use Prim.Native.Nat.{ℕ, _+_, _-_, _≤_, _<_}
+use native.Mathlib.Omega.{arith}
+use borrow.Author.Tests.{eq-eqb, ne-eqb, le-leb, lt-leb}
+use lib.Dec.{eqb, leb}
+use Rattle.layout.specs.Space.{Valid}
+use Rattle.nodes.specs.Name.{server-of, slot-of}
+use Rattle.nodes.specs.declared.name.Name.{Name}
+use Rattle.server.specs.declared.object.Object.{Object}
+use Rattle.server.specs.declared.object.Object.the-variants.{Metadata, Node, Flag}
+use Rattle.server.specs.declared.place.Place.{Place}
+use Rattle.server.specs.declared.place.Place.the-variants.{MetadataLock, FlagLock, NodeLock}
+use Rattle.server.specs.Layout.{places, block}
+
+abbrev pub named : ℕ → Name
+named x = record { number = x }
+
+-- numbers in the order of checking: "metadata, nodes by name, flags by name"
+unfoldable pub number-of : Object → ℕ
+number-of Metadata = 0
+number-of (Node x) = 1 + x .number
+number-of (Flag x) = 8193 + x .number
+
+unfoldable pub object-of : ℕ → Object
+object-of n = cond (eqb n 0) Metadata (cond (leb n 8192) (Node (named (n - 1))) (Flag (named (n - 1 - 8192))))
+
+-- "One lock an object and server": a node's for its table entry too
+unfoldable pub lock-of : Object → Place
+lock-of Metadata = MetadataLock
+lock-of (Node x) = NodeLock (server-of (x .number)) (slot-of (x .number))
+lock-of (Flag x) = FlagLock (slot-of (x .number))
+
+-- the object is one of a store with n slots
+abbrev pub Has : ℕ → Object → Type 0
+Has n o = Valid places (block n) (lock-of o)
+
+-- ---- ways out of the code
+pub is-metadata : (n : ℕ) → n ≡ 0 → Metadata ≡ object-of n
+unfolding object-of
+is-metadata n h = sym (rw (eq-eqb n 0 h))
+
+pub is-node : (n : ℕ) → ¬ (n ≡ 0) → n ≤ 8192 → Node (named (n - 1)) ≡ object-of n
+unfolding object-of
+is-node n h g = sym (rw (ne-eqb n 0 h, le-leb n 8192 g))
+
+pub is-flag : (n : ℕ) → ¬ (n ≡ 0) → 8192 < n → Flag (named (n - 1 - 8192)) ≡ object-of n
+unfolding object-of
+is-flag n h g = sym (rw (ne-eqb n 0 h, lt-leb n 8192 g))
+
+module _ (o : Object) where
+  pub lock-metadata : o ≡ Metadata → MetadataLock ≡ lock-of o
+  unfolding lock-of
+  lock-metadata e = sym (rw e)
+
+  pub lock-node : (x : Name) (s k : ℕ) → o ≡ Node x → s ≡ server-of (x .number) → k ≡ slot-of (x .number) → NodeLock s k ≡ lock-of o
+  unfolding lock-of
+  lock-node x s k e p q = rw (p, q) (sym (rw e))
+
+  pub lock-flag : (x : Name) (k : ℕ) → o ≡ Flag x → k ≡ slot-of (x .number) → FlagLock k ≡ lock-of o
+  unfolding lock-of
+  lock-flag x k e q = rw q (sym (rw e))
+
+pub ruleset object-exits = (is-metadata, is-node, is-flag, lock-metadata, lock-node, lock-flag)
