@@ -8,3 +8,6 @@ pub mod Node
 pub mod Find
 pub mod Change
 pub mod Built
+pub mod Small
+pub mod Placed
+pub mod Cases

@@ -14,7 +14,7 @@ pub blit-spec : {M : Type 1} → statement M
 blit-spec = tie.close (tie.spec
     Inv-loop
     μ-loop
-    (λ c. search (copied-none, copied-more, copied-all, needs))  -- loop-holds
+    (λ c. search (copied-none, needs))  -- loop-holds
     (λ c. search needs)  -- add-dst
     (λ c. search needs)  -- mul-dst
     (λ c. search needs)  -- shared-slice-read-dst
@@ -23,7 +23,7 @@ blit-spec = tie.close (tie.spec
     (λ c. search needs)  -- slice-write-dst
     (λ c. search needs)  -- add-i
     (λ c. search needs)  -- loop-less
-    (λ c. search (copied-none, copied-more, copied-all, needs))  -- loop-again
+    (λ c. search (copied-more, needs))  -- loop-again
     (λ c. search needs)  -- same-length
-    (λ c. search (copied-none, copied-more, copied-all, needs))  -- returns
+    (λ c. search (copied-all, needs))  -- returns
     )
