@@ -5,10 +5,8 @@ use mathlib.Core.List.{List, [], _∷_, _++_, map}
 use Prim.Native.Nat.{ℕ, zero, suc, _+_, _*_}
 use lib.ListN.{length, replicate}
 use lib.Dec.{ltb}
-
 use Rattle.nodes.specs.declared.node.Node.{Node}
-use Rattle.nodes.specs.declared.node.Find.{Find}
-use Rattle.nodes.specs.declared.node.Find.the-variants.{At, Absent}
+use mathlib.Core.Option.{Option, none, some}
 use Rattle.nodes.specs.declared.change.Wide.{Wide}
 use Rattle.nodes.specs.declared.change.Halves.{Halves}
 use Rattle.nodes.specs.Lists.{insert, remove, pad}
@@ -32,9 +30,9 @@ abbrev shown : Halves → List (List ℕ)
 shown h = keysOf (h .left) ∷ keysOf (h .right) ∷ (h .sep ∷ []) ∷ []
 
 -- a leaf after an insert: its keys, or those of its halves and what goes up
-abbrev after : Node → ℕ → Find → List (List ℕ)
-after n key (At i) = keysOf (with-slot n i 1) ∷ []
-after n key Absent =
+abbrev after : Node → ℕ → Option ℕ → List (List ℕ)
+after n key (some i) = keysOf (with-slot n i 1) ∷ []
+after n key none =
     cond (ltb (n .count) 14) (wide-keys (put-in n (place (keysOf n) key) key 1) ∷ []) (shown (split (put-in n (place (keysOf n) key) key 1) 0))
 
 abbrev inserted : Node → ℕ → List (List ℕ)

@@ -2,7 +2,8 @@
 use Prim.Native.Nat.{ℕ, zero, suc, _+_, _-_, _≤_, _<_}
 use mathlib.Core.Path.{_≡_, refl, sym, _∙_, ap}
 use mathlib.Core.List.{List, [], _∷_, _++_}
-use mathlib.Core.Bool.{Bool, true, false, cond, _&&_, true≢false}
+use mathlib.Core.Bool.{Bool, true, false, cond, _&&_}
+use mathlib.Core.Option.{Option, none, some}
 use native.Mathlib.Omega.{arith}
 use native.Mathlib.Numerals.{add-one}
 use lib.ListN.{length, take, drop, getD, length-drop}
@@ -10,21 +11,17 @@ use lib.Seq.{take-suc, length-take-le, getD-take, drop-cons}
 use lib.Dec.{eqb, leb, ltb}
 use borrow.Author.Tests.{le-leb, lt-leb, le-ltb, lt-ltb, eq-eqb, ne-eqb}
 use Rattle.nodes.specs.declared.node.Node.{Node}
-use Rattle.nodes.specs.declared.node.Find.{Find}
-use Rattle.nodes.specs.declared.node.Find.the-variants.{At, Absent}
+use Rattle.nodes.specs.declared.found.Found.the-variants.{At, Absent}
+use Rattle.nodes.specs.Found.{found, Inside, at-inside}
 use Rattle.nodes.specs.Place.{bit, place}
 use Rattle.nodes.specs.Node.{keysOf, length-keysOf}
 
 -- a key with p keys not above it is there if it is the last of them
-unfoldable pub find-at : List ℕ → ℕ → ℕ → Find
-find-at ks key p = cond (eqb p 0) Absent (cond (eqb (getD ks (p - 1) 0) key) (At (p - 1)) Absent)
+unfoldable pub find-at : List ℕ → ℕ → ℕ → Option ℕ
+find-at ks key p = cond (eqb p 0) none (cond (eqb (getD ks (p - 1) 0) key) (some (p - 1)) none)
 
-unfoldable pub find : List ℕ → ℕ → Find
+unfoldable pub find : List ℕ → ℕ → Option ℕ
 find ks key = find-at ks key (place ks key)
-
--- an index that was found is below the count
-pub record Inside (f : Find) (count : ℕ) : Type 0 where
-  pub inside : (i : ℕ) → f ≡ At i → i < count
 
 -- the elements are above x, each above the one before
 abbrev pub above : ℕ → List ℕ → Bool
@@ -57,20 +54,11 @@ pub place-all : (l : List ℕ) (i n k p : ℕ) → i ≤ n → n ≤ i → p ≡
 place-all l i n k p h g e = let z : i ≡ n = omega arith in rw (← z) e
 
 -- ---- the ways out of the search for a key
-at-absent : (i j : ℕ) → Absent ≡ At i → i < j
-at-absent i j e = absurd (true≢false (ap (λ (f : Find). elim f [ At i ↦ false | Absent ↦ true ]) e))
+pub key-inside : (n p : ℕ) → p ≤ n → (p ≡ 0 → ⊥) → Inside (At (p - 1)) n
+key-inside n p h g = at-inside n (p - 1) (omega arith)
 
-at-same : (i j : ℕ) → At i ≡ At j → i ≡ j
-at-same i j e = ap (λ (f : Find). elim f [ At k ↦ k | Absent ↦ 0 ]) e
-
-pub absent-inside : (n : ℕ) → Inside Absent n
-absent-inside n = record { inside = λ i. at-absent i n }
-
-pub at-inside : (n p : ℕ) → p ≤ n → (p ≡ 0 → ⊥) → Inside (At (p - 1)) n
-at-inside n p h g = record { inside = λ i e. let q : p - 1 ≡ i = at-same (p - 1) i e in omega arith }
-
-pub no-place : (n : Node) (k p : ℕ) → p ≡ place (keysOf n) k → p ≡ 0 → Absent ≡ find (keysOf n) k
-unfolding find find-at
+pub no-place : (n : Node) (k p : ℕ) → p ≡ place (keysOf n) k → p ≡ 0 → Absent ≡ found (find (keysOf n) k)
+unfolding found find find-at
 no-place n k p e z = rw (← e, z)
 
 module _ (n : Node) (k p : ℕ) (e : p ≡ place (keysOf n) k) (h : p ≤ n .count) (z : p ≡ 0 → ⊥) where
@@ -78,12 +66,12 @@ module _ (n : Node) (k p : ℕ) (e : p ≡ place (keysOf n) k) (h : p ≤ n .cou
   unfolding keysOf
   last-key = getD-take (n .count) (n .keys) (p - 1) 0 (omega arith)
 
-  pub other-key : (getD (n .keys) (p - 1) 0 ≡ k → ⊥) → Absent ≡ find (keysOf n) k
-  unfolding find find-at
+  pub other-key : (getD (n .keys) (p - 1) 0 ≡ k → ⊥) → Absent ≡ found (find (keysOf n) k)
+  unfolding found find find-at
   other-key q = rw (← e, ne-eqb _ _ z, last-key, ne-eqb _ _ q)
 
-  pub this-key : getD (n .keys) (p - 1) 0 ≡ k → At (p - 1) ≡ find (keysOf n) k
-  unfolding find find-at
+  pub this-key : getD (n .keys) (p - 1) 0 ≡ k → At (p - 1) ≡ found (find (keysOf n) k)
+  unfolding found find find-at
   this-key q = rw (← e, ne-eqb _ _ z, last-key, eq-eqb _ _ q)
 
 -- ---- the test that keys rise

@@ -20,6 +20,10 @@ abbrev pub or-else : Option ℕ → Option ℕ → Option ℕ
 or-else none y = y
 or-else (some x) y = some x
 
+-- the lowest free slot from the slot a on
+abbrev pub free-from : ℕ → List Bool → Option ℕ
+free-from a fs = shifted a (lowest (drop a fs))
+
 -- "it takes the first free slot above the split node's slot number, going round"
 unfoldable pub first-free : ℕ → List Bool → Option ℕ
-first-free slot fs = or-else (shifted (suc slot) (lowest (drop (suc slot) fs))) (lowest fs)
+first-free slot fs = or-else (free-from (suc slot) fs) (lowest fs)

@@ -1,10 +1,12 @@
 // A node by value, and what is asked of it.
+use crate::found::Found;
 ghost use mathlib.Core.Path.{_≡_};
 ghost use Prim.Native.Nat.{ℕ, _+_, _≤_, _<_};
 ghost use lib.ListN.{length};
 ghost use Rattle.nodes.specs.Place.{place};
 ghost use Rattle.nodes.specs.Node.{extra, keysOf, slotsOf, free-node, parent-of, pair-at};
-ghost use Rattle.nodes.specs.Find.{find, rises, Inside};
+ghost use Rattle.nodes.specs.Found.{found, Inside};
+ghost use Rattle.nodes.specs.Find.{find, rises};
 
 // "A node has a kind (0 free, 1 leaf, 2 inner), a level, a 32-bit version, at most 14 keys in strictly rising order,
 // and 14 values (leaf) or one child more than keys (inner)."
@@ -15,12 +17,6 @@ pub struct Node {
     pub count: usize,
     pub keys: [u64; 14],
     pub slots: [u64; 15],
-}
-
-// Where a key is in a node.
-pub enum Find {
-    At(usize),
-    Absent,
 }
 
 impl Node {
@@ -53,20 +49,20 @@ impl Node {
     }
 
     // where the key is
-    pub fn find(self, key: u64) -> Find
+    pub fn find(self, key: u64) -> Found
         requires { ⌜ self .count ≤ 14 ⌝ }
-        ensures { λ r. ⌜ r ≡ find (keysOf self) key ⌝ }
+        ensures { λ r. ⌜ r ≡ found (find (keysOf self) key) ⌝ }
         ensures within { λ r. ⌜ Inside r (self .count) ⌝ }
     {
         let p = self.place(key);
         if p == 0 {
-            return Find::Absent;
+            return Found::Absent;
         }
         let keys = self.keys;
         if keys[p - 1] != key {
-            return Find::Absent;
+            return Found::Absent;
         }
-        Find::At(p - 1)
+        Found::At(p - 1)
     }
 
     // whether each key is above the one before

@@ -1,5 +1,6 @@
 use borrow.Author.Needs.{needs}
-use Rattle.nodes.specs.Find.{no-place, other-key, this-key, absent-inside, at-inside}
+use Rattle.nodes.specs.Find.{no-place, other-key, this-key, key-inside}
+use Rattle.nodes.specs.Found.{absent-inside}
 use Rattle.nodes.proofs.node.Node.find.Statement.{statement}
 use Rattle.nodes.proofs.node.Node.find.Tie as tie
 
@@ -12,5 +13,5 @@ find-spec = tie.close (tie.spec
     (λ c. search needs)  -- array-read-if2
     (λ c. search (other-key, absent-inside, needs))  -- returns-2
     (λ c. search needs)  -- sub-t6
-    (λ c. search (this-key, at-inside, needs))  -- returns-3
+    (λ c. search (this-key, key-inside, needs))  -- returns-3
     )
