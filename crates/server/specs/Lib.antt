@@ -2,3 +2,4 @@
 pub mod Layout
 pub mod Object
 pub mod Lock
+pub mod Check

@@ -62,4 +62,7 @@ module _ (o : Object) where
   unfolding lock-of
   lock-flag x k e q = rw q (sym (rw e))
 
-pub ruleset object-exits = (is-metadata, is-node, is-flag, lock-metadata, lock-node, lock-flag)
+  pub lock-valid : (n : ℕ) (a : Place) → Has n o → a ≡ lock-of o → Valid places (block n) a
+  lock-valid n a h e = rw e h
+
+pub ruleset object-exits = (is-metadata, is-node, is-flag, lock-metadata, lock-node, lock-flag, lock-valid)

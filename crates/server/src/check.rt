@@ -1,1 +1,121 @@
-// To come.
+// What a server can say of an object that a transaction has read.
+ghost use mathlib.Core.Path.{_≡_};
+ghost use Prim.Native.Nat.{_/_, _<_, _≤_};
+ghost use lib.ListN.{length};
+ghost use Rattle.memory.specs.Word.{view};
+ghost use Rattle.layout.specs.Space.{mem};
+ghost use Rattle.server.specs.Layout.{places, block, partWords};
+ghost use Rattle.server.specs.Object.{Has};
+ghost use Rattle.server.specs.Check.{can-check, mark-place, mark-in, standing, held, checked, sound};
+use crate::lock;
+use crate::lock::Use;
+use crate::object::Object;
+use crate::object::lock_place;
+use crate::place::Place;
+use crate::place::get;
+use memory::bits;
+
+// The answer of a check, 2 before 1: the object is as it was read; it differs (reason 1); it is locked against the use (reason 2).
+pub enum Finding {
+    Same,
+    Differs,
+    Busy,
+}
+
+// Can this server check the object? `inner`: it was read as an inner node.
+pub fn can_check(server: u64, object: Object, inner: bool) -> bool
+    ensures { λ r. ⌜ r ≡ can-check server object inner ⌝ }
+{
+    match object {
+        Object::Metadata => true,
+        Object::Node(x) => inner || x.server() == server,
+        Object::Flag(x) => x.server() == server,
+    }
+}
+
+// Where the mark of an object lies: the version by which it is checked, or the word with its flag.
+fn mark_place(object: Object, inner: bool) -> Place
+    ensures { λ r. ⌜ r ≡ mark-place object inner ⌝ }
+{
+    match object {
+        Object::Metadata => Place::Version,
+        Object::Node(x) => {
+            if inner {
+                Place::Table(x.server() as usize, x.slot() as usize)
+            } else {
+                Place::Node(x.slot() as usize, 2)
+            }
+        }
+        Object::Flag(x) => Place::Vector(x.slot() as usize / 64),
+    }
+}
+
+// The mark of an object in that word.
+fn mark_in(object: Object, word: u64) -> u64
+    ensures { λ r. ⌜ r ≡ mark-in object word ⌝ }
+{
+    match object {
+        Object::Metadata => word,
+        Object::Node(_) => word,
+        Object::Flag(x) => {
+            let slot = x.slot();
+            if bits::has(word, (slot % 64) as u32) {
+                1
+            } else {
+                0
+            }
+        }
+    }
+}
+
+// The mark that stands here of an object.
+pub fn stands(part: &[u8], slots: usize, object: Object, inner: bool) -> u64
+    requires { ⌜ (slots ≤ 1024) × Has slots object × (partWords slots ≤ length (now part) / 8) ⌝ }
+    ensures { λ r. ⌜ r ≡ standing object inner (mem places (block slots) (view (now (part .entry)))) ⌝ }
+{
+    let word = get(part, slots, mark_place(object, inner));
+    mark_in(object, word)
+}
+
+// Is an object locked here against a client's use?
+pub fn is_busy(part: &[u8], slots: usize, object: Object, client: u32, wanted: Use) -> bool
+    requires { ⌜ (slots ≤ 1024) × Has slots object × (client < 16) × (partWords slots ≤ length (now part) / 8) ⌝ }
+    ensures { λ r. ⌜ r ≡ held object client wanted (mem places (block slots) (view (now (part .entry)))) ⌝ }
+{
+    let word = get(part, slots, lock_place(object));
+    lock::is_busy(word, client, wanted)
+}
+
+// Is an object still as it was read, with this mark, and open to this use?
+pub fn check(
+    part: &[u8],
+    slots: usize,
+    object: Object,
+    inner: bool,
+    mark: u64,
+    client: u32,
+    wanted: Use,
+) -> Finding
+    requires { ⌜ (slots ≤ 1024) × Has slots object × (client < 16) × (partWords slots ≤ length (now part) / 8) ⌝ }
+    ensures { λ r. ⌜ r ≡ checked object inner mark client wanted (mem places (block slots) (view (now (part .entry)))) ⌝ }
+{
+    if is_busy(part, slots, object, client, wanted) {
+        return Finding::Busy;
+    }
+    if stands(part, slots, object, inner) == mark {
+        return Finding::Same;
+    }
+    Finding::Differs
+}
+
+// Refusal 10: is all that a check of the object reads in range, in a store with so many clients?
+pub fn is_sound(part: &[u8], slots: usize, clients: u32, object: Object, inner: bool) -> bool
+    requires { ⌜ (slots ≤ 1024) × Has slots object × (clients ≤ 16) × (partWords slots ≤ length (now part) / 8) ⌝ }
+    ensures { λ r. ⌜ r ≡ sound clients object inner (mem places (block slots) (view (now (part .entry)))) ⌝ }
+{
+    let word = get(part, slots, lock_place(object));
+    if lock::is_lock(word, clients) {
+        return stands(part, slots, object, inner) <= 4294967295;
+    }
+    false
+}
