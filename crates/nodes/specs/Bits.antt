@@ -3,20 +3,20 @@ use mathlib.Core.Path.{_≡_, refl, sym, ap, _∙_, subst}
 use mathlib.Core.Bool.{Bool, true, false, not}
 use mathlib.Core.List.{List, [], _∷_, _++_, map}
 use mathlib.Core.Option.{Option, none, some}
-use Prim.Native.Nat.{ℕ, zero, suc, _+_, _-_, _*_, _/_, _%_, _^_, _≤_, _<_, min, max}
-use native.Mathlib.Nat.{pow-zero, pow-suc, div-one, add-assoc, zero-add, suc-add, mul-suc, mod-eq-of-lt}
+use Prim.Native.Nat.{ℕ, zero, suc, _+_, _-_, _*_, _/_, _%_, _^_, _≤_, _<_}
+use native.Mathlib.Nat.{pow-suc, zero-add, suc-add, mul-suc}
 use native.Mathlib.Numerals.{one-add}
 use native.Mathlib.Decide.{decLt}
 use native.Mathlib.Omega.{arith}
-use lib.Bits.{bitAnd, bitOr, and-shr, and-mod, and-mask, and-step, or-step, or-zero-r}
+use lib.Bits.{bitAnd, and-shr, and-mod}
 use lib.Count.{trailingZeros, under}
 use lib.Dec.{eqb}
 use lib.ListN.{length, take, drop, getD, set, replicate, length-append, length-take, List·getD-append}
-use lib.Pow.{shr-shr, pow-pos, pow-lt}
+use lib.Pow.{pow-pos}
 use lib.Seq.{drop-append-le, drop-append-add, drop-at, set-append-left, getD-append-add, take-set-lt, take-set-le, set-out, getD-take, length-take-le}
-use Rattle.nodes.specs.Place.{bit}
+use Rattle.memory.specs.Bit.{bit, digit, putBit}
 use Rattle.nodes.specs.Vector.{lowest, shifted}
-use Rattle.nodes.specs.Flags.{bits, all-flags, flags, otherwise, with-bit, with-flag}
+use Rattle.nodes.specs.Flags.{bits, all-flags, flags, otherwise, with-flag}
 
 pub length-bits : (n x : ℕ) → length (bits n x) ≡ n
 unfolding bits
@@ -73,80 +73,33 @@ masked-bits (suc k) (suc p) x h g =
     rw (and-mod (2 ^ suc k - 1 - x) (2 ^ suc k - 2 ^ suc p) 1, and-shr (2 ^ suc k - 1 - x) (2 ^ suc k - 2 ^ suc p) 1, a, b, d, no-digit ((2 ^ suc k - 1 - x) % 2) (omega arith))
     (ap (λ (l : List Bool). true ∷ l) (masked-bits k p (x / 2) (omega arith) (omega arith)))
 
--- ---- one bit replaced
-is-bit : (b : Bool) → eqb (bit b) 1 ≡ b
-is-bit true = refl
-is-bit false = refl
+-- ---- one bit read or replaced
+pub bits-at : (n p x : ℕ) (d : Bool) → p < n → getD (bits n x) p d ≡ bit x p
+unfolding bits bit
+bits-at zero p x d h = absurd (omega arith)
+bits-at (suc n) zero x d h = refl
+bits-at (suc n) (suc p) x d h = bits-at n p (x / 2) d (omega arith)
 
-bit-lt : (b : Bool) → bit b < 2
-bit-lt true = omega arith
-bit-lt false = omega arith
+digit-lt : (b : Bool) → digit b < 2
+digit-lt true = omega arith
+digit-lt false = omega arith
 
-pub bits-with : (n p x : ℕ) (b : Bool) → p < n → bits n (with-bit x p b) ≡ set (bits n x) p b
-unfolding bits with-bit
+digit-is : (b : Bool) → eqb (digit b) 1 ≡ b
+digit-is true = refl
+digit-is false = refl
+
+pub bits-with : (n p x : ℕ) (b : Bool) → p < n → bits n (putBit b x p) ≡ set (bits n x) p b
+unfolding bits putBit
 bits-with zero p x b h = absurd (omega arith)
 bits-with (suc n) zero x b h =
-    let m : (x / 2 * 2 + bit b) % 2 ≡ bit b = omega (arith, bit-lt b) in
-    let d : (x / 2 * 2 + bit b) / 2 ≡ x / 2 = omega (arith, bit-lt b) in
-    rw (m, d, is-bit b)
+    let m : (x / 2 * 2 + digit b) % 2 ≡ digit b = omega (arith, digit-lt b) in
+    let d : (x / 2 * 2 + digit b) / 2 ≡ x / 2 = omega (arith, digit-lt b) in
+    rw (m, d, digit-is b)
 bits-with (suc n) (suc p) x b h =
-    let y : ℕ = with-bit (x / 2) p b in
+    let y : ℕ = putBit b (x / 2) p in
     let m : (y * 2 + x % 2) % 2 ≡ x % 2 = omega arith in
     let d : (y * 2 + x % 2) / 2 ≡ y = omega arith in
     rw (m, d, bits-with n p (x / 2) b (omega arith))
-
-max-one : (d : ℕ) → d < 2 → max d 1 ≡ 1
-max-one zero h = refl
-max-one (suc zero) h = refl
-max-one (suc (suc d)) h = absurd (omega arith)
-
-max-zero : (d : ℕ) → d < 2 → max d 0 ≡ d
-max-zero zero h = refl
-max-zero (suc zero) h = refl
-max-zero (suc (suc d)) h = absurd (omega arith)
-
-min-one : (d : ℕ) → d < 2 → min d 1 ≡ d
-min-one zero h = refl
-min-one (suc zero) h = refl
-min-one (suc (suc d)) h = absurd (omega arith)
-
-min-zero : (d : ℕ) → d < 2 → min d 0 ≡ 0
-min-zero zero h = refl
-min-zero (suc zero) h = refl
-min-zero (suc (suc d)) h = absurd (omega arith)
-
-pub or-with : (p x : ℕ) → bitOr x (2 ^ p) ≡ with-bit x p true
-unfolding with-bit
-or-with zero x = or-step x 1 ∙ rw (or-zero-r (x / 2), max-one (x % 2) (omega arith))
-or-with (suc p) x =
-    let e : 2 ^ suc p ≡ 2 ^ p * 2 = pow-suc 2 p in
-    let d : 2 ^ suc p / 2 ≡ 2 ^ p = omega arith in
-    let m : 2 ^ suc p % 2 ≡ 0 = omega arith in
-    or-step x (2 ^ suc p) ∙ rw (d, m, or-with p (x / 2), max-zero (x % 2) (omega arith))
-
-pub and-with : (k p x : ℕ) → p < k → x < 2 ^ k → bitAnd x (2 ^ k - 1 - 2 ^ p) ≡ with-bit x p false
-unfolding with-bit
-and-with zero p x h g = absurd (omega arith)
-and-with (suc k) zero x h g =
-    let e : 2 ^ suc k ≡ 2 ^ k * 2 = pow-suc 2 k in
-    let o : 0 < 2 ^ k = pow-pos k in
-    let d : (2 ^ suc k - 1 - 2 ^ 0) / 2 ≡ 2 ^ k - 1 = omega arith in
-    let m : (2 ^ suc k - 1 - 2 ^ 0) % 2 ≡ 0 = omega arith in
-    let l : x / 2 < 2 ^ k = omega arith in
-    and-step x (2 ^ suc k - 1 - 2 ^ 0) ∙ rw (d, m, and-mask (x / 2) k, mod-eq-of-lt l, min-zero (x % 2) (omega arith))
-and-with (suc k) (suc p) x h g =
-    let e : 2 ^ suc k ≡ 2 ^ k * 2 = pow-suc 2 k in
-    let f : 2 ^ suc p ≡ 2 ^ p * 2 = pow-suc 2 p in
-    let o : 2 ^ p < 2 ^ k = pow-lt (omega arith) in
-    let d : (2 ^ suc k - 1 - 2 ^ suc p) / 2 ≡ 2 ^ k - 1 - 2 ^ p = omega arith in
-    let m : (2 ^ suc k - 1 - 2 ^ suc p) % 2 ≡ 1 = omega arith in
-    and-step x (2 ^ suc k - 1 - 2 ^ suc p) ∙ rw (d, m, and-with k p (x / 2) (omega arith) (omega arith), min-one (x % 2) (omega arith))
-
-pub bit-at : (n p x : ℕ) (d : Bool) → p < n → getD (bits n x) p d ≡ eqb (x / 2 ^ p % 2) 1
-unfolding bits
-bit-at zero p x d h = absurd (omega arith)
-bit-at (suc n) zero x d h = rw (div-one x)
-bit-at (suc n) (suc p) x d h = bit-at n p (x / 2) d (omega arith) ∙ rw (shr-shr x 1 p, one-add p)
 
 -- ---- a slot's bit in the words: 64 slots in each
 module _ {A : Type 0} where
@@ -174,17 +127,17 @@ unfolding all-flags
 length-flags [] = refl
 length-flags (x ∷ ws) = simp length-append (omega (arith, length-bits 64 x, length-flags ws, mul-suc 64 (length ws)))
 
-pub flag-at : (ws : List ℕ) (w p : ℕ) (d : Bool) → w < length ws → p < 64 → getD (all-flags ws) (64 * w + p) d ≡ eqb (getD ws w 0 / 2 ^ p % 2) 1
+pub flag-at : (ws : List ℕ) (w p : ℕ) (d : Bool) → w < length ws → p < 64 → getD (all-flags ws) (64 * w + p) d ≡ bit (getD ws w 0) p
 unfolding all-flags
 flag-at [] w p d h g = absurd (omega arith)
 flag-at (x ∷ ws) zero p d h g =
     let z : 64 * 0 + p ≡ p = omega arith in
     let lt : p < length (bits 64 x) = omega (arith, length-bits 64 x) in
-    rw (z, List·getD-append (bits 64 x) (all-flags ws) d p lt) (bit-at 64 p x d g)
+    rw (z, List·getD-append (bits 64 x) (all-flags ws) d p lt) (bits-at 64 p x d g)
 flag-at (x ∷ ws) (suc w) p d h g = rw (next-word x w p, getD-append-add (bits 64 x) (all-flags ws) (64 * w + p) d) (flag-at ws w p d (omega arith) g)
 
 with-word : (ws : List ℕ) (w p : ℕ) (b : Bool) → w < length ws → p < 64
-    → all-flags (set ws w (with-bit (getD ws w 0) p b)) ≡ set (all-flags ws) (64 * w + p) b
+    → all-flags (set ws w (putBit b (getD ws w 0) p)) ≡ set (all-flags ws) (64 * w + p) b
 unfolding all-flags
 with-word [] w p b h g = absurd (omega arith)
 with-word (x ∷ ws) zero p b h g =
@@ -206,28 +159,19 @@ pub flags-with : (slots : ℕ) (ws : List ℕ) (i : ℕ) (b : Bool) → i < 64 *
 unfolding flags with-flag
 flags-with slots ws i b h =
     let z : 64 * (i / 64) + i % 64 ≡ i = omega arith in
-    let e : all-flags (set ws (i / 64) (with-bit (getD ws (i / 64) 0) (i % 64) b)) ≡ set (all-flags ws) i b =
+    let e : all-flags (set ws (i / 64) (putBit b (getD ws (i / 64) 0) (i % 64))) ≡ set (all-flags ws) i b =
     with-word ws (i / 64) (i % 64) b (omega arith) (omega arith) ∙ rw z in
     rw e (take-set slots i (all-flags ws) b (omega (arith, length-flags ws)))
 
 -- ---- what the functions on flags compute
-power-fits : (p : ℕ) → p < 64 → 1 * 2 ^ p % 18446744073709551616 ≡ 2 ^ p
-power-fits p h = let a : 2 ^ p < 2 ^ 64 = pow-lt h in omega arith
-
-pub bit-set : (x p : ℕ) (b : Bool) → p < 64 → b ≡ true → bitOr x (1 * 2 ^ p % 18446744073709551616) ≡ with-bit x p b
-bit-set x p b h e = rw (power-fits p h, e) (or-with p x)
-
-pub bit-cleared : (x p : ℕ) (b : Bool) → p < 64 → x < 2 ^ 64 → b ≡ false → bitAnd x (18446744073709551615 - 1 * 2 ^ p % 18446744073709551616) ≡ with-bit x p b
-bit-cleared x p b h g e = rw (power-fits p h, e) (and-with 64 p x h g)
-
-pub flag-read : (ws : List ℕ) (i : ℕ) → length ws ≡ 16 → i < 1024 → eqb (getD ws (i / 64) 0 / 2 ^ (i % 64) % 2) 1 ≡ getD (all-flags ws) i false
-flag-read ws i l h =
+pub flag-read : (ws : List ℕ) (i : ℕ) (r : Bool) → length ws ≡ 16 → i < 1024 → r ≡ bit (getD ws (i / 64) 0) (i % 64) → r ≡ getD (all-flags ws) i false
+flag-read ws i r l h e =
     let z : 64 * (i / 64) + i % 64 ≡ i = omega arith in
-    sym (subst (λ (k : ℕ). getD (all-flags ws) k false ≡ eqb (getD ws (i / 64) 0 / 2 ^ (i % 64) % 2) 1) z (flag-at ws (i / 64) (i % 64) false (omega arith) (omega arith)))
+    e ∙ sym (subst (λ (k : ℕ). getD (all-flags ws) k false ≡ bit (getD ws (i / 64) 0) (i % 64)) z (flag-at ws (i / 64) (i % 64) false (omega arith) (omega arith)))
 
-pub flag-written : (ws : List ℕ) (i y : ℕ) (b : Bool) → y ≡ with-bit (getD ws (i / 64) 0) (i % 64) b → set ws (i / 64) y ≡ with-flag ws i b
+pub flag-written : (ws : List ℕ) (i y : ℕ) (b c : Bool) → y ≡ putBit c (getD ws (i / 64) 0) (i % 64) → b ≡ c → set ws (i / 64) y ≡ with-flag ws i b
 unfolding with-flag
-flag-written ws i y b e = rw e
+flag-written ws i y b c e q = rw (e, q)
 
 -- ---- the flags of so many slots
 pub flags-at : (slots : ℕ) (ws : List ℕ) (i : ℕ) (d : Bool) → i < slots → getD (flags slots ws) i d ≡ getD (all-flags ws) i d

@@ -1,11 +1,11 @@
 -- The taken flags of a server's slots as bits of words, 64 in each word, lowest first.
-use Prim.Native.Nat.{ℕ, zero, suc, _+_, _*_, _/_, _%_}
+use Prim.Native.Nat.{ℕ, zero, suc, _/_, _%_}
 use mathlib.Core.Bool.{Bool, true, false}
 use mathlib.Core.List.{List, [], _∷_, _++_}
 use mathlib.Core.Option.{Option, none, some}
 use lib.ListN.{take, getD, set}
 use lib.Dec.{eqb}
-use Rattle.nodes.specs.Place.{bit}
+use Rattle.memory.specs.Bit.{putBit}
 
 -- the n lowest bits of a word
 unfoldable pub bits : ℕ → ℕ → List Bool
@@ -25,11 +25,6 @@ abbrev pub otherwise : ℕ → Option ℕ → ℕ
 otherwise n none = n
 otherwise n (some i) = i
 
--- a word with bit p replaced
-unfoldable pub with-bit : ℕ → ℕ → Bool → ℕ
-with-bit x zero b = x / 2 * 2 + bit b
-with-bit x (suc p) b = with-bit (x / 2) p b * 2 + x % 2
-
 -- the words with a slot's flag replaced
 unfoldable pub with-flag : List ℕ → ℕ → Bool → List ℕ
-with-flag ws slot b = set ws (slot / 64) (with-bit (getD ws (slot / 64) 0) (slot % 64) b)
+with-flag ws slot b = set ws (slot / 64) (putBit b (getD ws (slot / 64) 0) (slot % 64))

@@ -6,7 +6,7 @@ ghost use Prim.Native.Nat.{_<_, _≤_};
 ghost use lib.ListN.{getD};
 ghost use Rattle.nodes.specs.Found.{found, Inside};
 ghost use Rattle.nodes.specs.Vector.{free-from, first-free};
-ghost use Rattle.nodes.specs.Flags.{bits, otherwise, all-flags, flags, with-bit, with-flag};
+ghost use Rattle.nodes.specs.Flags.{bits, otherwise, all-flags, flags, with-flag};
 
 // the lowest bit that is 0, from bit p on, or 64
 fn first_zero(x: u64, p: u32) -> u32
@@ -60,19 +60,7 @@ pub fn is_taken(words: [u64; 16], slot: usize) -> bool
     requires { ⌜ slot < 1024 ⌝ }
     ensures { λ r. ⌜ r ≡ getD (all-flags words) slot false ⌝ }
 {
-    let x = words[slot / 64];
-    let p = (slot % 64) as u32;
-    (x >> p) % 2 == 1
-}
-
-// a word with bit p set or cleared
-fn with_bit(x: u64, p: u32, taken: bool) -> u64
-    requires { ⌜ p < 64 ⌝ }
-    ensures { λ r. ⌜ r ≡ with-bit x p taken ⌝ }
-{
-    let one: u64 = 1;
-    let flag = one << p;
-    if taken { x | flag } else { x & !flag }
+    memory::bits::has(words[slot / 64], (slot % 64) as u32)
 }
 
 // the vector with a slot's flag set or cleared
@@ -81,7 +69,13 @@ pub fn with_taken(words: [u64; 16], slot: usize, taken: bool) -> [u64; 16]
     ensures { λ r. ⌜ r ≡ with-flag words slot taken ⌝ }
 {
     let w = slot / 64;
+    let p = (slot % 64) as u32;
+    let x = words[w];
     let mut out = words;
-    out[w] = with_bit(words[w], (slot % 64) as u32, taken);
+    if taken {
+        out[w] = memory::bits::with(x, p);
+        return out;
+    }
+    out[w] = memory::bits::without(x, p);
     out
 }
