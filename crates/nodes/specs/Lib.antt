@@ -12,6 +12,9 @@ pub mod Node
 pub mod Find
 pub mod Change
 pub mod Built
+pub mod Stored
+pub mod StoredLaws
+pub mod Range
 pub mod Small
 pub mod Placed
 pub mod Cases

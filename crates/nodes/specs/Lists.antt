@@ -48,6 +48,10 @@ pub length-pad : (w : ℕ) (l : List ℕ) → length l ≤ w → length (pad w l
 unfolding pad
 length-pad w l h = simp (length-append, length-replicate) (omega arith)
 
+pub pad-full : (w : ℕ) (l : List ℕ) → length l ≡ w → pad w l ≡ l
+unfolding pad
+pad-full w l e = let z : w - length l ≡ 0 = omega arith in rw (z, append-nil)
+
 pub set-pad : (w : ℕ) (l : List ℕ) (i v : ℕ) → i < length l → set (pad w l) i v ≡ pad w (set l i v)
 unfolding pad
 set-pad w l i v h = rw (length-set l i v) (set-append-left l _ i v h)

@@ -10,6 +10,7 @@ ghost use Rattle.nodes.specs.Lists.{pad, insert, remove};
 pub fn blit(dst: &mut [u64], at: usize, src: &[u64], from: usize, n: usize)
     requires { ⌜ (at + n ≤ length (now dst)) × (from + n ≤ length (now src)) ⌝ }
     ensures { λ _. ⌜ now (dst .exit) ≡ paste (now (dst .entry)) at (drop from (now (src .entry))) n ⌝ }
+    ensures size { λ _. ⌜ length (now (dst .exit)) ≡ length (now (dst .entry)) ⌝ }
 {
     let mut i: usize = 0;
     while i < n {
