@@ -27,3 +27,5 @@ pub mod Changes
 pub mod Moved
 pub mod Checked
 pub mod Sound
+pub mod Along
+pub mod Asked

@@ -1,0 +1,59 @@
+-- What a plan ensures whatever is read: a property of its results that follows from what was asked for.
+use mathlib.Core.Path.{_≡_, refl, subst}
+use mathlib.Core.Bool.{Bool, true, false}
+use mathlib.Core.List.{List, [], _∷_}
+use Rattle.plans.specs.Plan as P
+use Rattle.operations.specs.Object.{Obj, Ask, object, vector, fetched, Val, Why, no-tree, Ans, Writes}
+use Rattle.operations.specs.Path.{Plan}
+use Rattle.operations.specs.Operation.{all-fit?, checked}
+
+-- where A holds of each object asked for and of the value read, Q holds of the answer and the writes
+abbrev pub Along : (Obj → Val → Type 0) → (Ans → Writes → Type 0) → Plan → Type 0
+Along A Q (P.ask (object o) k) = (v : Val) → A o v → Along A Q (k v)
+Along A Q (P.ask (vector s) k) = (v : Val) → Along A Q (k v)
+Along A Q (P.ask (fetched s) k) = (v : Val) → Along A Q (k v)
+Along A Q (P.done r) = Q (r .0) (r .1)
+Along A Q (P.fail y) = Unit {0}
+
+-- asked for, and read in the snapshot S
+abbrev pub Read : (Ask → Bool) → (Ask → Val) → Obj → Val → Type 0
+Read rd S o v = (rd (object o) ≡ true) × (S (object o) ≡ v)
+
+abbrev Given : (Ans → Writes → Type 0) → P.Out (Ans × Writes) Why → Type 0
+Given Q (P.gives r) = Q (r .0) (r .1)
+Given Q (P.fails y) = Unit {0}
+
+module _ (Q : Ans → Writes → Type 0) (rd : Ask → Bool) (S : Ask → Val) where
+  given : (p : Plan) → Along (Read rd S) Q p → P.Asked p rd S → Given Q (P.exec p S)
+  unfolding P.exec P.Asked
+  given (P.ask (object o) k) h g = given (k (S (object o))) (h (S (object o)) (g .0, refl)) (g .1)
+  given (P.ask (vector s) k) h g = given (k (S (vector s))) (h (S (vector s))) (g .1)
+  given (P.ask (fetched s) k) h g = given (k (S (fetched s))) (h (S (fetched s))) (g .1)
+  given (P.done r) h g = h
+  given (P.fail y) h g = tt
+
+  -- so it holds of the answer and the writes over S
+  pub along-exec : (p : Plan) (a : Ans) (w : Writes) → Along (Read rd S) Q p → P.Asked p rd S → P.exec p S ≡ P.gives (a, w) → Q a w
+  along-exec p a w h g e = subst (Given Q) e (given p h g)
+
+module _ (A : Obj → Val → Type 0) (Q : Ans → Writes → Type 0) where
+  -- what always holds
+  pub along-any : ((a : Ans) (w : Writes) → Q a w) → (p : Plan) → Along A Q p
+  along-any h (P.ask (object o) k) = λ v _. along-any h (k v)
+  along-any h (P.ask (vector s) k) = λ v. along-any h (k v)
+  along-any h (P.ask (fetched s) k) = λ v. along-any h (k v)
+  along-any h (P.done r) = h (r .0) (r .1)
+  along-any h (P.fail y) = tt
+
+  -- the last check takes nothing away
+  pub along-checked : (p : Plan) → Along A Q p → Along A Q (checked p)
+  unfolding P.bind
+  along-checked (P.ask (object o) k) h = λ v a. along-checked (k v) (h v a)
+  along-checked (P.ask (vector s) k) h = λ v. along-checked (k v) (h v)
+  along-checked (P.ask (fetched s) k) h = λ v. along-checked (k v) (h v)
+  along-checked (P.done r) h = go (all-fit? (r .1) (r .1))
+    where
+      go : (b : Bool) → Along A Q (mathlib.Core.Bool.cond b (P.done r) (P.fail no-tree))
+      go true = h
+      go false = tt
+  along-checked (P.fail y) h = tt
