@@ -1,6 +1,6 @@
 -- What a plan ensures whatever is read: a property of its results that follows from what was asked for.
 use mathlib.Core.Path.{_≡_, refl, subst}
-use mathlib.Core.Bool.{Bool, true, false}
+use mathlib.Core.Bool.{Bool, true, false, cond}
 use mathlib.Core.List.{List, [], _∷_}
 use Rattle.plans.specs.Plan as P
 use Rattle.operations.specs.Object.{Obj, Ask, object, vector, fetched, Val, Why, no-tree, Ans, Writes}
@@ -15,25 +15,21 @@ Along A Q (P.ask (fetched s) k) = (v : Val) → Along A Q (k v)
 Along A Q (P.done r) = Q (r .0) (r .1)
 Along A Q (P.fail y) = Unit {0}
 
--- asked for, and read in the snapshot S
-abbrev pub Read : (Ask → Bool) → (Ask → Val) → Obj → Val → Type 0
-Read rd S o v = (rd (object o) ≡ true) × (S (object o) ≡ v)
-
 abbrev Given : (Ans → Writes → Type 0) → P.Out (Ans × Writes) Why → Type 0
 Given Q (P.gives r) = Q (r .0) (r .1)
 Given Q (P.fails y) = Unit {0}
 
-module _ (Q : Ans → Writes → Type 0) (rd : Ask → Bool) (S : Ask → Val) where
-  given : (p : Plan) → Along (Read rd S) Q p → P.Asked p rd S → Given Q (P.exec p S)
+module _ (A : Obj → Val → Type 0) (Q : Ans → Writes → Type 0) (rd : Ask → Bool) (S : Ask → Val) (have : (o : Obj) → rd (object o) ≡ true → A o (S (object o))) where
+  given : (p : Plan) → Along A Q p → P.Asked p rd S → Given Q (P.exec p S)
   unfolding P.exec P.Asked
-  given (P.ask (object o) k) h g = given (k (S (object o))) (h (S (object o)) (g .0, refl)) (g .1)
+  given (P.ask (object o) k) h g = given (k (S (object o))) (h (S (object o)) (have o (g .0))) (g .1)
   given (P.ask (vector s) k) h g = given (k (S (vector s))) (h (S (vector s))) (g .1)
   given (P.ask (fetched s) k) h g = given (k (S (fetched s))) (h (S (fetched s))) (g .1)
   given (P.done r) h g = h
   given (P.fail y) h g = tt
 
-  -- so it holds of the answer and the writes over S
-  pub along-exec : (p : Plan) (a : Ans) (w : Writes) → Along (Read rd S) Q p → P.Asked p rd S → P.exec p S ≡ P.gives (a, w) → Q a w
+  -- so, where A holds of what was asked for over S, Q holds of the answer and the writes
+  pub along-exec : (p : Plan) (a : Ans) (w : Writes) → Along A Q p → P.Asked p rd S → P.exec p S ≡ P.gives (a, w) → Q a w
   along-exec p a w h g e = subst (Given Q) e (given p h g)
 
 module _ (A : Obj → Val → Type 0) (Q : Ans → Writes → Type 0) where
@@ -53,7 +49,7 @@ module _ (A : Obj → Val → Type 0) (Q : Ans → Writes → Type 0) where
   along-checked (P.ask (fetched s) k) h = λ v. along-checked (k v) (h v)
   along-checked (P.done r) h = go (all-fit? (r .1) (r .1))
     where
-      go : (b : Bool) → Along A Q (mathlib.Core.Bool.cond b (P.done r) (P.fail no-tree))
+      go : (b : Bool) → Along A Q (cond b (P.done r) (P.fail no-tree))
       go true = h
       go false = tt
   along-checked (P.fail y) h = tt

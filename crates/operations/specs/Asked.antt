@@ -8,9 +8,9 @@ use native.Mathlib.Decide.{ℕ-discrete, decLt, decLe}
 use lib.ListN.{length, take, drop}
 use Rattle.base.specs.Test.{ifd, ifd-all, yes-of}
 use Rattle.plans.specs.Plan as P
-use Rattle.nodes.specs.Name.{server-of, slot-of}
+use Rattle.nodes.specs.Name.{name, server-of, slot-of}
 use Rattle.nodes.specs.Placement.{row}
-use Rattle.operations.specs.Object.{Obj, meta, node, flag, Ask, object, Val, root, body, taken, flags, free, no-tree, Ans, Writes, hit, written}
+use Rattle.operations.specs.Object.{Obj, meta, node, flag, Ask, object, fetched, Val, root, body, taken, flags, free, no-tree, Ans, Writes, hit, written}
 use Rattle.operations.specs.Map.{Op, insert, lookup, delete, next, previous, migrate, said, fresh}
 use Rattle.operations.specs.Entry.{Entries, mk, mn, mx, nxt, cut, index, value-in, with-pair, without-at, next-in, previous-in}
 use Rattle.operations.specs.Path.{Plan, see, when-root, open-node, kid, Branch, Cont, to-leaf, down, at-root, from-root}
@@ -19,7 +19,7 @@ use Rattle.operations.specs.Look.{told, Visit, rightward, leftward, seek
 use Rattle.operations.specs.Change.{Go, parted, merged, with-right, with-left, unsnoc, left-of, neighbour, split-root, split, up, delete-at}
 use Rattle.operations.specs.Migrate.{moved, move-root, move-at, to-level, first-key, move-below, move-node, move-if}
 use Rattle.operations.specs.Operation.{reading, plan}
-use Rattle.operations.specs.Along.{Along, Read, along-exec, along-checked}
+use Rattle.operations.specs.Along.{Along, along-exec, along-checked}
 
 pub hit-eq : (a b : Obj) → hit a b ≡ true → a ≡ b
 hit-eq meta meta h = refl
@@ -164,12 +164,12 @@ module _ (R : Obj → Type 0) where
   search-wrote : (sz : Sizes) (w : Writes) (slot : ℕ) (ss : List ℕ) (k : ℕ → Plan) → ((d : ℕ) → Wrote (k d)) → Wrote (search sz w slot ss k)
   search-wrote sz w slot [] k h = tt
   search-wrote sz w slot (s ∷ ss) k h = λ v.
-      go (free-slot sz w slot s v) (P.ask (Rattle.operations.specs.Object.fetched s) (λ u. chosen s (free-slot sz w slot s u) k (search sz w slot ss k)))
+      go (free-slot sz w slot s v) (P.ask (fetched s) (λ u. chosen s (free-slot sz w slot s u) k (search sz w slot ss k)))
       (λ u. go (free-slot sz w slot s u) (search sz w slot ss k) (search-wrote sz w slot ss k h))
     where
       go : (o : Option ℕ) (p : Plan) → Wrote p → Wrote (chosen s o k p)
       go none p q = q
-      go (some i) p q = h (Rattle.nodes.specs.Name.name s i)
+      go (some i) p q = h (name s i)
 
   take-wrote : (sz : Sizes) (ss : List ℕ) (slot : ℕ) (w : Writes) (k : ℕ → Writes → Plan) → Known w → ((d : ℕ) (u : Writes) → Known u → Wrote (k d u)) → Wrote (take-on sz ss slot w k)
   take-wrote sz ss slot w k h g = search-wrote sz w slot ss (λ d. take-flag w d (λ u. k d u)) (λ d. flag-wrote w d (λ u. k d u) h (λ u n _. g d u n))
@@ -304,15 +304,8 @@ module _ (R : Obj → Type 0) where
 -- EVERYTHING WRITTEN WAS ASKED FOR
 pub written-asked : (sz : Sizes) (op : Op) (rd : Ask → Bool) (S : Ask → Val) (a : Ans) (w : Writes)
     → P.Asked (plan sz op) rd S → P.exec (plan sz op) S ≡ P.gives (a, w) → (o : Obj) → written w o ≡ true → rd (object o) ≡ true
-written-asked sz op rd S a w g e = known-written R w
-    (along-exec (λ a w. Known R w) rd S (plan sz op) a w (weaken (plan sz op) (along-checked (λ o v. R o) (λ a w. Known R w) (reading sz op) (reading-wrote R sz op))) g e)
-  where
-    R : Obj → Type 0
-    R o = rd (object o) ≡ true
-
-    weaken : (p : Plan) → Along (λ o v. R o) (λ a w. Known R w) p → Along (Read rd S) (λ a w. Known R w) p
-    weaken (P.ask (object o) k) h = λ v q. weaken (k v) (h v (q .0))
-    weaken (P.ask (Rattle.operations.specs.Object.vector s) k) h = λ v. weaken (k v) (h v)
-    weaken (P.ask (Rattle.operations.specs.Object.fetched s) k) h = λ v. weaken (k v) (h v)
-    weaken (P.done r) h = h
-    weaken (P.fail y) h = tt
+written-asked sz op rd S a w g e =
+    let R : Obj → Type 0 = λ o. rd (object o) ≡ true in
+    let A : Obj → Val → Type 0 = λ o v. R o in
+    let Q : Ans → Writes → Type 0 = λ a w. Known R w in
+    known-written R w (along-exec A Q rd S (λ o q. q) (plan sz op) a w (along-checked A Q (reading sz op) (reading-wrote R sz op)) g e)

@@ -29,3 +29,4 @@ pub mod Checked
 pub mod Sound
 pub mod Along
 pub mod Asked
+pub mod Outer

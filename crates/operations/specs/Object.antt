@@ -4,6 +4,7 @@ use mathlib.Core.Bool.{Bool, true, false, cond}
 use mathlib.Core.List.{List, [], _∷_}
 use Prim.Native.Nat.{ℕ}
 use native.Mathlib.Decide.{ℕ-discrete}
+use lib.Dec.{eqb}
 use Rattle.base.specs.Test.{yes?}
 
 -- "Objects are the metadata, nodes and flags"
@@ -59,6 +60,18 @@ flags-of (root r) = []
 flags-of (body k l ks vs) = []
 flags-of (taken b) = []
 flags-of (flags fs) = fs
+
+-- "A server can check metadata, inner nodes by its table, and its own other nodes and flags"
+abbrev pub inner-node : Val → Bool
+inner-node (root r) = false
+inner-node (body k l ks vs) = eqb k 2
+inner-node (taken b) = false
+inner-node (flags fs) = false
+
+abbrev pub inner : Obj → Val → Bool
+inner meta v = true
+inner (node n) v = inner-node v
+inner (flag n) v = false
 
 -- "a slot taken as free isn't"; "what was read can't be one tree"; "no slot is free"
 pub data Why : Type 0 where
