@@ -30,3 +30,5 @@ pub mod Sound
 pub mod Along
 pub mod Asked
 pub mod Outer
+pub mod Reading
+pub mod Seen
