@@ -12,7 +12,7 @@ use Rattle.base.specs.Update.{upd, upd-same, upd-other, upd-all}
 use Rattle.plans.specs.Plan.{gives, exec, Asked}
 use Rattle.protocol.specs.Changed.{upd-both}
 use Rattle.protocol.specs.Setting.{Setting}
-use Rattle.protocol.specs.Writes.{writes?}
+use Rattle.protocol.specs.Writes.{writes?, written-all}
 use Rattle.protocol.specs.Lists.{all}
 use Rattle.protocol.specs.System.{idle, opened, committing, decided, after-commit, is-decided, Phase, Entry, Transaction, State, fresh, start, view, Reach, initial}
 use Rattle.protocol.specs.Replay.{snapshot, due?, settled}
@@ -68,6 +68,7 @@ use Rattle.protocol.specs.Machine.{
   at-first,
   moved,
 }
+use Rattle.protocol.specs.Items.{each-part}
 use Rattle.protocol.specs.Locks.{Recorded, calm-recorded, drop-recorded, decide-recorded, apply-recorded}
 use Rattle.protocol.specs.Ghosts.{
   Own,
@@ -225,7 +226,7 @@ module _ (T : Setting) where
         → all (check T m (m .slots c .lowest) s) (m .slots c .items) ≡ true
         → all (λ i. grants T c (to-write T s i) (to-read T (m .slots c .lowest) s i) (m .lock s (i .obj))) (m .slots c .items) ≡ true
         → Good (turned T m (upd eqClient (m .slots) c (prepared-slot T (m .slots c) s))
-        (upd eqServer (m .lock) s (granted-row T c (m .slots c) s (m .lock s))) (m .said) (m .log))
+        (upd eqServer (m .lock) s (granted-row T c (to-write T s) (to-read T (m .slots c .lowest) s) (m .slots c .items) (m .lock s))) (m .said) (m .log))
     prepare-good s hp new pass granted = record {
       ghost = put-own T g1 c (g1 .own c);
       reach = prepare-reach T m g c (G .reach) s hp new pass (G .recorded) granted;
@@ -307,13 +308,16 @@ module _ (T : Setting) where
   move-good {m = m} G (begins c h) = cleared-good m G c opened (m .lock) (begin-reach T m (G .ghost) c (G .reach) h) (blank-calm m G c opened)
   move-good {m = m} G (uses-copy c o k hp hf e) = read-good m G c o k hp hf (G .legal c o k e)
   move-good {m = m} G (fetches c s o hp hf k) = read-good m G c o _ hp hf (stored-legal m G c s o k)
-  move-good {m = m} G (answers c e hp asked ran within) = answer-good m G c e hp asked ran within
+  move-good {m = m} G (answers c e hp asked ran within) =
+      answer-good m G c e hp asked ran (λ o. written-all eqObj (seen T (m .slots c) .read) (writes (e .result)) o within)
   move-good {m = m} G (commits c hp) =
       calm-good m G c _ (G .ghost .own c) (commit-reach T m (G .ghost) c (G .reach) hp) (unprepared m G c (ap after-commit hp)) refl
   move-good {m = m} G (prepares c s hp new pass granted) = prepare-good m G c s hp new pass granted
-  move-good {m = m} G (decides c hp all) = decide-good m G c hp all
+  move-good {m = m} G (decides c hp all) = decide-good m G c hp (each-part T (m .slots c .participant) (m .slots c .prepared) all)
   move-good {m = m} G (applies c s hp ha) = apply-good m G c s hp ha
-  move-good {m = m} G (ends c hp all) = cleared-good m G c idle (m .lock) (end-reach T m (G .ghost) c (G .reach) hp all) (blank-calm m G c idle)
+  move-good {m = m} G (ends c hp all) =
+      cleared-good m G c idle (m .lock) (end-reach T m (G .ghost) c (G .reach) hp (each-part T (m .slots c .participant) (m .slots c .applied) all))
+      (blank-calm m G c idle)
   move-good {m = m} G (aborts c h) =
       cleared-good m G c idle _ (abort-reach T m (G .ghost) c (G .reach) h)
       (drop-recorded T (state-of T m (G .ghost) .clients) (m .lock) (G .recorded) c _ (λ s. refl))

@@ -24,6 +24,7 @@ use Rattle.protocol.specs.Machine.{
   for-home,
   participants,
   first-of,
+  all-parts,
   check,
   to-write,
   to-read,
@@ -96,6 +97,10 @@ module _ (T : Setting) where
           (λ o. seen T y .written o ≡ true → inner-before-after T (seen T y) o ≡ true → participants T (y .items) s ≡ true)
           (λ q w b. let h : i .written ≡ true = rw q at w in or-left (any (for-all T) (y .items)) (any (for-home T s) (y .items))
           (any-among (for-all T) (y .items) i (rw h (rw (q, h) at b)) (find-item (y .items) (i .obj) i q .0)))
+
+  -- all participants have done it
+  pub each-part : (p done : Server → Bool) → all-parts T p done ≡ true → (s : Server) → p s ≡ true → done s ≡ true
+  each-part p done h s e = rw e at (all-among (λ s. not (p s) || done s) servers s h (servers-all s))
 
   -- LOCKS: what the protocol locks for writing and for reading the items ask for
   pub asks-write : (y : Slot T) (s : Server) (o : Obj) → WriteLock T (seen T y) s o → says T (to-write T s) false (find T (y .items) o) ≡ true

@@ -1,4 +1,5 @@
 pub mod Setting
+pub mod Lists
 pub mod Writes
 pub mod System
 pub mod Replay
@@ -12,7 +13,6 @@ pub mod Changed
 pub mod Apply
 pub mod Safety
 pub mod Meaning
-pub mod Lists
 pub mod Machine
 pub mod Locks
 pub mod Items
@@ -21,3 +21,6 @@ pub mod Prepared
 pub mod Applied
 pub mod Claim
 pub mod Work
+pub mod Outer
+pub mod Example
+pub mod Small

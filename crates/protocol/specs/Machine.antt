@@ -146,6 +146,10 @@ module _ (T : Setting) where
   first-of p [] = some-server
   first-of p (s ∷ ss) = cond (p s) s (first-of p ss)
 
+  -- all participants p have done it
+  abbrev pub all-parts : (Server → Bool) → (Server → Bool) → Bool
+  all-parts p done = all (λ s. not (p s) || done s) servers
+
   abbrev pub committed-slot : Slot → Slot
   committed-slot y = let p = participants (y .items) in with-course y committing p (first-of p servers) (y .prepared) (y .applied)
 
@@ -176,9 +180,9 @@ module _ (T : Setting) where
   abbrev pub grant : Client → Bool → Bool → Lock → Lock
   grant c w r l = cond w (owned c) (cond r (share c l) l)
 
-  abbrev pub granted-row : Client → Slot → Server → (Obj → Lock) → Obj → Lock
-  granted-row c y s row o =
-      grant c (says (to-write s) false (find (y .items) o)) (says (to-read (y .lowest) s) false (find (y .items) o)) (row o)
+  -- the locks in a server's row, after those have been granted that the items ask for by two tests
+  abbrev pub granted-row : Client → (Item → Bool) → (Item → Bool) → List Item → (Obj → Lock) → Obj → Lock
+  granted-row c w r is locks o = grant c (says w false (find is o)) (says r false (find is o)) (locks o)
 
   abbrev pub prepared-slot : Slot → Server → Slot
   prepared-slot y s = with-course y (y .phase) (y .participant) (y .lowest) (upd eqServer (y .prepared) s true) (y .applied)
@@ -198,18 +202,23 @@ module _ (T : Setting) where
   drop c (shared q) = shared (λ d. not (yes? (eqClient d c)) && q d)
   drop c (owned d) = cond (yes? (eqClient d c)) unlocked (owned d)
 
-  abbrev pub applied-at : Machine → Client → Server → Machine
-  applied-at m c s = let is = m .slots c .items in record {
+  -- the next versions are given by n; no version is stored of an object checked by value
+  abbrev pub stored-at : (Item → ℕ) → Machine → Client → Server → Machine
+  stored-at n m c s = let is = m .slots c .items in record {
     slots = upd eqClient (m .slots) c (applied-slot (m .slots c) s);
     value = upd eqServer (m .value) s (row is (λ i. i .written && keeps s (i .obj)) (λ i. i .new) (m .value s));
     version = upd eqServer (m .version) s
-        (row is (λ i. not (by-value (i .obj)) && i .written && keeps s (i .obj)) (λ i. suc (i .version)) (m .version s));
-    table = upd eqServer (m .table) s (row is for-all (λ i. suc (i .version)) (m .table s));
+        (row is (λ i. not (by-value (i .obj)) && i .written && keeps s (i .obj)) n (m .version s));
+    table = upd eqServer (m .table) s (row is for-all n (m .table s));
     lock = upd eqServer (m .lock) s (λ o. drop c (m .lock s o));
     copy = m .copy;
     said = m .said;
     log = m .log;
   }
+
+  -- "a written version becomes the one read plus 1"
+  abbrev pub applied-at : Machine → Client → Server → Machine
+  applied-at = stored-at (λ i. suc (i .version))
 
   -- moves that change slots, locks and what was said, and moves that change copies
   abbrev pub turned : Machine → (Client → Slot) → (Server → Obj → Lock) → (Client → List (Shown T)) → List (List (Shown T)) → Machine
@@ -261,7 +270,7 @@ module _ (T : Setting) where
     answers : (c : Client) (e : Entry T) → m .slots c .phase ≡ opened
         → Asked (plan (e .op)) (seen (m .slots c) .read) (view T (seen (m .slots c)))
         → exec (plan (e .op)) (view T (seen (m .slots c))) ≡ gives (e .result)
-        → ((o : Obj) → writes? eqObj (writes (e .result)) o ≡ true → seen (m .slots c) .read o ≡ true)
+        → all (λ w. seen (m .slots c) .read (w .0)) (writes (e .result)) ≡ true
         → Move m (turned m (upd eqClient (m .slots) c (answered-slot (m .slots c) (writes (e .result)))) (m .lock)
         (upd eqClient (m .said) c (shown-of T e ∷ m .said c)) (m .log))
     commits : (c : Client) → m .slots c .phase ≡ opened → Move m (with-slot m c (committed-slot (m .slots c)))
@@ -269,13 +278,13 @@ module _ (T : Setting) where
         → all (check m (m .slots c .lowest) s) (m .slots c .items) ≡ true
         → all (λ i. grants c (to-write s i) (to-read (m .slots c .lowest) s i) (m .lock s (i .obj))) (m .slots c .items) ≡ true
         → Move m (turned m (upd eqClient (m .slots) c (prepared-slot (m .slots c) s))
-        (upd eqServer (m .lock) s (granted-row c (m .slots c) s (m .lock s))) (m .said) (m .log))
+        (upd eqServer (m .lock) s (granted-row c (to-write s) (to-read (m .slots c .lowest) s) (m .slots c .items) (m .lock s))) (m .said) (m .log))
     decides : (c : Client) → m .slots c .phase ≡ committing
-        → ((s : Server) → m .slots c .participant s ≡ true → m .slots c .prepared s ≡ true)
+        → all-parts (m .slots c .participant) (m .slots c .prepared) ≡ true
         → Move m (turned m (upd eqClient (m .slots) c (decided-slot (m .slots c))) (m .lock) (m .said) (m .said c ∷ m .log))
     applies : (c : Client) (s : Server) → m .slots c .phase ≡ decided → m .slots c .applied s ≡ false → Move m (applied-at m c s)
-    ends : (c : Client) → m .slots c .phase ≡ decided
-        → ((s : Server) → m .slots c .participant s ≡ true → m .slots c .applied s ≡ true) → Move m (cleared m c idle (m .lock))
+    ends : (c : Client) → m .slots c .phase ≡ decided → all-parts (m .slots c .participant) (m .slots c .applied) ≡ true
+        → Move m (cleared m c idle (m .lock))
     aborts : (c : Client) → is-decided (m .slots c .phase) ≡ false → Move m (cleared m c idle (λ s o. drop c (m .lock s o)))
     copies : (f : Client → Obj → Option Copy) → ((c : Client) (o : Obj) → Copied m c o (f c o)) → Move m (with-copies m f)
 

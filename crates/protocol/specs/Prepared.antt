@@ -138,8 +138,8 @@ module _ (T : Setting) where
           }
 
       pub locks-recorded : Recorded T (state-of T (with-slot T m c (prepared-slot T (m .slots c) s))
-          (put-own T (stamped-ghost g c s) c (stamped-ghost g c s .own c)) .clients) (upd eqServer (m .lock) s (granted-row T c (m .slots c) s (m .lock s)))
+          (put-own T (stamped-ghost g c s) c (stamped-ghost g c s .own c)) .clients) (upd eqServer (m .lock) s (granted-row T c (to-write T s) (to-read T (m .slots c .lowest) s) (m .slots c .items) (m .lock s)))
       locks-recorded =
-          subst (λ f. Recorded T f (upd eqServer (m .lock) s (granted-row T c (m .slots c) s (m .lock s))))
+          subst (λ f. Recorded T f (upd eqServer (m .lock) s (granted-row T c (to-write T s) (to-read T (m .slots c .lowest) s) (m .slots c .items) (m .lock s))))
           (sym (clients-put T m g1 c (prepared-slot T y s) (g1 .own c) _ refl))
           (prepare-recorded T (state-of T m g1 .clients) (m .lock) R c s w rd (asks-write T y s) (asks-read T y s) G)

@@ -206,22 +206,19 @@ module _ (T : Setting) where
     log = record { ops = x .trace; took-part = x .participant (x .lowest) } ∷ σ .log;
   }
 
-  -- an apply at s that gives the written objects the versions n: "at home and, for a node inner before or after, in every table,
-  -- even where a table holds an older number"
-  abbrev pub stored-at : State → Client → Server → (Obj → ℕ) → State
-  stored-at σ c s n = let x = σ .clients c in record {
+  -- "Apply writes and unlocks; a written version becomes the one read plus 1, at home and, for a node inner before or after, in every
+  -- table, even where a table holds an older number". The third trap is to start it afresh.
+  abbrev pub after-apply : State → Client → Server → State
+  after-apply σ c s = let x = σ .clients c in record {
     clients = upd eqClient (σ .clients) c (applying x s);
     value = upd eqServer (σ .value) s (λ o. cond (x .written o) (cond (keeps s o) (x .value-written o) (σ .value s o)) (σ .value s o));
-    version = upd eqServer (σ .version) s (λ o. cond (x .written o) (cond (keeps s o) (n o) (σ .version s o)) (σ .version s o));
-    table = upd eqServer (σ .table) s (λ o. cond (x .written o) (cond (inner-before-after x o) (n o) (σ .table s o)) (σ .table s o));
+    version = upd eqServer (σ .version) s (λ o. cond (x .written o) (cond (keeps s o) (suc (x .version-read o)) (σ .version s o)) (σ .version s o));
+    table = upd eqServer (σ .table) s
+        (λ o. cond (x .written o) (cond (inner-before-after x o) (suc (x .version-read o)) (σ .table s o)) (σ .table s o));
     current = σ .current;
     history = σ .history;
     log = σ .log;
   }
-
-  -- "a written version becomes the one read plus 1": the third trap is to start it afresh
-  abbrev pub after-apply : State → Client → Server → State
-  after-apply σ c s = stored-at σ c s (λ o. suc (σ .clients c .version-read o))
 
   -- "Participants are the homes of leaves, free nodes and flags read; or all servers, where the metadata or a node inner before or after
   -- is written"; and one of them, the lowest, where inner objects are checked

@@ -1,9 +1,10 @@
 -- A list of writes, newest first, laid over the value of an object.
-use mathlib.Core.Path.{_≡_, refl}
-use mathlib.Core.Bool.{Bool, true, false, cond, _||_, true≢false}
+use mathlib.Core.Path.{_≡_, refl, sym, subst}
+use mathlib.Core.Bool.{Bool, true, false, cond, _||_, true≢false, false≢true}
 use mathlib.Core.HLevel.{Discrete}
 use mathlib.Core.List.{List, [], _∷_}
-use Rattle.base.specs.Test.{yes?, ifd}
+use Rattle.base.specs.Test.{and-both, yes?, ifd}
+use Rattle.protocol.specs.Lists.{all}
 
 module _ {Obj Val : Type 0} (eqObj : Discrete Obj) where
   -- o is written
@@ -24,6 +25,16 @@ module _ {Obj Val : Type 0} (eqObj : Discrete Obj) where
       go : (d : Dec (o ≡ w .0)) → (yes? d || writes? ws o) ≡ false → (writes? ws o ≡ false → latest ws o v ≡ v) → ifd d (w .1) (latest ws o v) ≡ v
       go (yes p) h rec = absurd (true≢false h)
       go (no q) h rec = rec h
+
+  -- a test of all writes holds of what is written
+  pub written-all : (f : Obj → Bool) (ws : List (Obj × Val)) (o : Obj) → all (λ w. f (w .0)) ws ≡ true → writes? ws o ≡ true → f o ≡ true
+  unfolding writes? all
+  written-all f [] o h w = absurd (false≢true w)
+  written-all f (v ∷ ws) o h w = go (eqObj o (v .0)) w (written-all f ws o (and-both (f (v .0)) (all (λ w. f (w .0)) ws) h .1))
+    where
+      go : (d : Dec (o ≡ v .0)) → (yes? d || writes? ws o) ≡ true → (writes? ws o ≡ true → f o ≡ true) → f o ≡ true
+      go (yes p) w rec = subst (λ o. f o ≡ true) (sym p) (and-both (f (v .0)) (all (λ w. f (w .0)) ws) h .0)
+      go (no q) w rec = rec w
 
   -- writes over a value that is itself written or not
   pub latest-cond : (ws : List (Obj × Val)) (o : Obj) (b : Bool) (x y : Val)
