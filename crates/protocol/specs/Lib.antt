@@ -24,3 +24,7 @@ pub mod Work
 pub mod Outer
 pub mod Example
 pub mod Small
+pub mod Unchecked
+pub mod Variant
+pub mod Unlocked
+pub mod Afresh
