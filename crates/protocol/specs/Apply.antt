@@ -7,7 +7,7 @@ use Rattle.base.specs.Test.{bool-cases, not-both}
 use Rattle.base.specs.Update.{upd-other, upd-all}
 use Rattle.protocol.specs.Changed.{upd-both}
 use Rattle.protocol.specs.Setting.{Setting}
-use Rattle.protocol.specs.System.{decided, after-commit, is-decided, Transaction, State, inner-before-after, Holds, applying, after-apply, Parts}
+use Rattle.protocol.specs.System.{decided, after-commit, is-decided, Transaction, State, inner-before-after, Holds, applying, next-version, in-tables, after-apply, Parts}
 use Rattle.protocol.specs.Invariant.{Content, Course, Reads, Kept, OuterSince, Due, Pending, PendingInner, Newest, TableRight, Inv, still, apart-upd}
 
 module _ (T : Setting) where
@@ -54,8 +54,8 @@ module _ (T : Setting) where
       where
         here : (o : Obj) → keeps s o ≡ true → (x .written o ≡ true) ⊎ (x .written o ≡ false)
             → (cond (x .written o) (cond (keeps s o) (x .value-written o) (σ .value s o)) (σ .value s o)
-            ≡ σ .history o (cond (x .written o) (cond (keeps s o) (suc (x .version-read o)) (σ .version s o)) (σ .version s o)))
-            × (cond (x .written o) (cond (keeps s o) (suc (x .version-read o)) (σ .version s o)) (σ .version s o) ≤ σ .current o)
+            ≡ σ .history o (cond (x .written o) (cond (keeps s o) (next-version T x o) (σ .version s o)) (σ .version s o)))
+            × (cond (x .written o) (cond (keeps s o) (next-version T x o) (σ .version s o)) (σ .version s o) ≤ σ .current o)
         here o k (inl w) = rw (w, k) (sym (D .past o w .0), D .past o w .1)
         here o k (inr n) = rw n (I .stored s o k)
 
@@ -66,7 +66,7 @@ module _ (T : Setting) where
         (λ o k. here o k (bool-cases (x .written o)) (I .newest s o k)) (λ t ne o k. there t ne o (I .newest t o k))
       where
         here : (o : Obj) → keeps s o ≡ true → (x .written o ≡ true) ⊎ (x .written o ≡ false) → Newest T σ s o
-            → (cond (x .written o) (cond (keeps s o) (suc (x .version-read o)) (σ .version s o)) (σ .version s o) ≡ σ .current o)
+            → (cond (x .written o) (cond (keeps s o) (next-version T x o) (σ .version s o)) (σ .version s o) ≡ σ .current o)
             ⊎ ((d : Client) × Pending T (τ .clients d) s o)
         here o k (inl w) _ = inl (rw (w, k) (sym (D .due-newest s o ha w k)))
         here o k (inr n) (inl e) = inl (rw n e)
@@ -80,10 +80,10 @@ module _ (T : Setting) where
     tables-step : (t : Server) (o : Obj) → TableRight T τ t o
     tables-step = upd-all eqServer (σ .table) s _
         (λ t n. (o : Obj) → OuterSince T (σ .current) (σ .history) o (n o) ⊎ ((d : Client) × PendingInner T (τ .clients d) t o))
-        (λ o. here o (bool-cases (x .written o)) (bool-cases (inner-before-after T x o)) (I .tables s o)) (λ t ne o. there t ne o (I .tables t o))
+        (λ o. here o (bool-cases (x .written o)) (bool-cases (in-tables T x o)) (I .tables s o)) (λ t ne o. there t ne o (I .tables t o))
       where
         row : Obj → ℕ
-        row o = cond (x .written o) (cond (inner-before-after T x o) (suc (x .version-read o)) (σ .table s o)) (σ .table s o)
+        row o = cond (x .written o) (cond (in-tables T x o) (next-version T x o) (σ .table s o)) (σ .table s o)
 
         After : Obj → Type 0
         After o = OuterSince T (σ .current) (σ .history) o (row o) ⊎ ((d : Client) × PendingInner T (τ .clients d) s o)
@@ -92,7 +92,7 @@ module _ (T : Setting) where
         keep o np same (inl out) = inl (subst (OuterSince T (σ .current) (σ .history) o) (sym same) out)
         keep o np same (inr w) = inr (still T (σ .clients) c x′ (λ y. PendingInner T y s o) np w)
 
-        here : (o : Obj) → (x .written o ≡ true) ⊎ (x .written o ≡ false) → (inner-before-after T x o ≡ true) ⊎ (inner-before-after T x o ≡ false)
+        here : (o : Obj) → (x .written o ≡ true) ⊎ (x .written o ≡ false) → (in-tables T x o ≡ true) ⊎ (in-tables T x o ≡ false)
             → TableRight T σ s o → After o
         here o (inl w) (inl b) _ = inl (subst (OuterSince T (σ .current) (σ .history) o) (rw (w, b)) (D .due-outer s o ha w b))
         here o (inl w) (inr n) h = keep o (λ p. not-both (p .1) n) (rw (w, n)) h

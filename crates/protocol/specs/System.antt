@@ -206,15 +206,21 @@ module _ (T : Setting) where
     log = record { ops = x .trace; took-part = x .participant (x .lowest) } ∷ σ .log;
   }
 
-  -- "Apply writes and unlocks; a written version becomes the one read plus 1, at home and, for a node inner before or after, in every
-  -- table, even where a table holds an older number". The third trap is to start it afresh.
+  -- "a written version becomes the one read plus 1": the third trap is to start it afresh
+  abbrev pub next-version : Transaction → Obj → ℕ
+  next-version x o = suc (x .version-read o)
+
+  -- "for a node inner before or after, in every table": also for one that stops being inner
+  abbrev pub in-tables : Transaction → Obj → Bool
+  in-tables x o = inner-before-after x o
+
+  -- "Apply writes and unlocks"; the table takes the version "even where a table holds an older number"
   abbrev pub after-apply : State → Client → Server → State
   after-apply σ c s = let x = σ .clients c in record {
     clients = upd eqClient (σ .clients) c (applying x s);
     value = upd eqServer (σ .value) s (λ o. cond (x .written o) (cond (keeps s o) (x .value-written o) (σ .value s o)) (σ .value s o));
-    version = upd eqServer (σ .version) s (λ o. cond (x .written o) (cond (keeps s o) (suc (x .version-read o)) (σ .version s o)) (σ .version s o));
-    table = upd eqServer (σ .table) s
-        (λ o. cond (x .written o) (cond (inner-before-after x o) (suc (x .version-read o)) (σ .table s o)) (σ .table s o));
+    version = upd eqServer (σ .version) s (λ o. cond (x .written o) (cond (keeps s o) (next-version x o) (σ .version s o)) (σ .version s o));
+    table = upd eqServer (σ .table) s (λ o. cond (x .written o) (cond (in-tables x o) (next-version x o) (σ .table s o)) (σ .table s o));
     current = σ .current;
     history = σ .history;
     log = σ .log;
