@@ -13,22 +13,9 @@ use Rattle.protocol.specs.Writes.{writes?, latest}
 use Rattle.protocol.specs.Lists.{all, any}
 use Rattle.protocol.specs.System.{decided, Entry}
 use Rattle.protocol.specs.Meaning.{map-of, map-all, Right, Right-all}
-use Rattle.protocol.specs.Machine.{
-  Machine,
-  find,
-  first-of,
-  stored-at,
-  begins,
-  fetches,
-  answers,
-  commits,
-  prepares,
-  decides,
-  applies,
-  ends,
-  Reached,
-}
-use Rattle.protocol.specs.Claim.{Claim, claim}
+use Rattle.protocol.specs.Machine.{Machine, find, first-of, stored-at, begins, fetches, answers, commits, prepares, decides, applies, ends}
+use Rattle.protocol.specs.Machine.{Reached}
+use Rattle.protocol.specs.Claim.{claim}
 use Rattle.protocol.specs.Variant.{ReachedWith, at-start, by-rule, also}
 use Rattle.protocol.specs.Example.{leaf, look, put, tiny, leaves, one}
 

@@ -2,15 +2,14 @@
 use mathlib.Core.Path.{_≡_, refl, ap, sym, _∙_, subst, fun-ext}
 use mathlib.Core.Bool.{Bool, true, false, cond, _&&_, _||_, not}
 use mathlib.Core.List.{List}
-use mathlib.Core.Option.{Option, none, some}
 use Prim.Native.Nat.{ℕ, suc}
 use Rattle.base.specs.Update.{upd}
 use Rattle.protocol.specs.Changed.{upd-zip}
 use Rattle.protocol.specs.Setting.{Setting}
 use Rattle.protocol.specs.System.{decided, Transaction, State, inner-before-after, after-apply, apply, Reach, after}
-use Rattle.protocol.specs.Machine.{Item, find, says, Slot, Machine, row, for-all, applied-slot, applied-at}
+use Rattle.protocol.specs.Machine.{Item, says, Machine, row, for-all, applied-slot, applied-at}
 use Rattle.protocol.specs.Items.{by-item}
-use Rattle.protocol.specs.Ghosts.{Own, Ghost, item-version, transaction-of, state-of, clients-put}
+use Rattle.protocol.specs.Ghosts.{Ghost, item-version, transaction-of, state-of, clients-put}
 
 -- one cell of each row, by the tests: written (w), kept (k), checked by value (b), inner (f)
 value-cell : {A : Type 0} (w k : Bool) (new d v : A) → cond (w && k) new v ≡ cond w (cond k (cond w new d) v) v
@@ -31,7 +30,7 @@ table-cell true false f old new d st n v h = refl
 table-cell false b f old new d st n v h = refl
 
 module _ (T : Setting) where
-  open Setting T using (Obj, Server, Client, Val, eqServer, eqClient, keeps, inner, by-value, by-value-outer, init)
+  open Setting T using (Obj, Server, Client, eqServer, eqClient, keeps, inner, by-value, by-value-outer, init)
 
   module _ (m : Machine T) (g : Ghost T) (c : Client) (s : Server) where
     abbrev x : Transaction T

@@ -1,17 +1,19 @@
 -- An apply at one server keeps the invariant: the decided writes reach its store and its table.
-use mathlib.Core.Path.{_≡_, refl, ap, sym, _∙_, subst}
-use mathlib.Core.Bool.{Bool, true, false, cond}
+use mathlib.Core.Path.{_≡_, ap, sym, _∙_, subst}
+use mathlib.Core.Bool.{true, false, cond}
 use mathlib.Core.Logic.{_⊎_, inl, inr}
-use Prim.Native.Nat.{ℕ, suc, _≤_}
+use Prim.Native.Nat.{ℕ, _≤_}
 use Rattle.base.specs.Test.{bool-cases, not-both}
 use Rattle.base.specs.Update.{upd-other, upd-all}
 use Rattle.protocol.specs.Changed.{upd-both}
 use Rattle.protocol.specs.Setting.{Setting}
-use Rattle.protocol.specs.System.{decided, after-commit, is-decided, Transaction, State, inner-before-after, Holds, applying, next-version, in-tables, after-apply, Parts}
-use Rattle.protocol.specs.Invariant.{Content, Course, Reads, Kept, OuterSince, Due, Pending, PendingInner, Newest, TableRight, Inv, still, apart-upd}
+use Rattle.protocol.specs.System.{decided, after-commit, is-decided, Transaction, State, inner-before-after, applying, next-version, in-tables}
+use Rattle.protocol.specs.System.{after-apply, Parts}
+use Rattle.protocol.specs.Invariant.{Content, Course, Reads, Kept, OuterSince, Due, Pending, PendingInner, Newest, TableRight, Inv, still}
+use Rattle.protocol.specs.Invariant.{apart-upd}
 
 module _ (T : Setting) where
-  open Setting T using (Obj, Server, Client, Val, eqServer, eqClient, keeps)
+  open Setting T using (Obj, Server, Client, eqServer, eqClient, keeps)
 
   module _ (σ : State T) (I : Inv T σ) (c : Client) (s : Server) (hp : σ .clients c .phase ≡ decided) (ha : σ .clients c .applied s ≡ false) where
     abbrev x : Transaction T

@@ -3,91 +3,31 @@
 use mathlib.Core.Path.{_≡_, refl, ap, sym, _∙_, subst, fun-ext}
 use mathlib.Core.Bool.{Bool, true, false, cond, false≢true}
 use mathlib.Core.List.{List, [], _∷_}
-use mathlib.Core.Logic.{_⊎_, inl, inr}
 use mathlib.Core.Option.{Option, none, some, Option·none-ne-some, Option·some-injective}
 use Prim.Native.Nat.{ℕ, suc, _≤_}
 use native.Mathlib.Omega.{arith}
 use Rattle.base.specs.Test.{cond-true, cond-false}
-use Rattle.base.specs.Update.{upd, upd-same, upd-other, upd-all}
+use Rattle.base.specs.Update.{upd, upd-all}
 use Rattle.plans.specs.Plan.{gives, exec, Asked}
 use Rattle.protocol.specs.Changed.{upd-both}
 use Rattle.protocol.specs.Setting.{Setting}
 use Rattle.protocol.specs.Writes.{writes?, written-all}
 use Rattle.protocol.specs.Lists.{all}
-use Rattle.protocol.specs.System.{idle, opened, committing, decided, after-commit, is-decided, Phase, Entry, Transaction, State, fresh, start, view, Reach, initial}
+use Rattle.protocol.specs.System.{idle, opened, committing, decided, after-commit, is-decided, Phase, Entry, State, fresh, start, view, Reach}
+use Rattle.protocol.specs.System.{initial}
 use Rattle.protocol.specs.Replay.{snapshot, due?, settled}
 use Rattle.protocol.specs.Invariant.{Inv}
 use Rattle.protocol.specs.History.{history-old, current-le}
 use Rattle.protocol.specs.Safety.{reach-inv, safety}
 use Rattle.protocol.specs.Meaning.{Meaning, Shown, shown-of, show, show-all, map-all, Right-all, log-right}
-use Rattle.protocol.specs.Machine.{
-  Item,
-  find,
-  says,
-  Slot,
-  Copy,
-  Lock,
-  Machine,
-  blank,
-  first-machine,
-  with-item,
-  seen,
-  answered-slot,
-  committed-slot,
-  check,
-  to-write,
-  to-read,
-  grants,
-  granted-row,
-  prepared-slot,
-  decided-slot,
-  applied-slot,
-  applied-at,
-  turned,
-  with-slot,
-  cleared,
-  with-copies,
-  Copied,
-  as-before,
-  dropped,
-  fetched,
-  renewed,
-  Move,
-  begins,
-  uses-copy,
-  fetches,
-  answers,
-  commits,
-  prepares,
-  decides,
-  applies,
-  ends,
-  aborts,
-  copies,
-  Reached,
-  at-first,
-  moved,
-}
+use Rattle.protocol.specs.Machine.{Item, find, says, Slot, Copy, Lock, Machine, blank, first-machine, with-item, seen, answered-slot, check}
+use Rattle.protocol.specs.Machine.{to-write, to-read, grants, granted-row, prepared-slot, decided-slot, applied-slot, applied-at, turned}
+use Rattle.protocol.specs.Machine.{with-slot, cleared, with-copies, Copied, as-before, dropped, fetched, renewed, Move, begins, uses-copy}
+use Rattle.protocol.specs.Machine.{fetches, answers, commits, prepares, decides, applies, ends, aborts, copies, Reached, at-first, moved}
 use Rattle.protocol.specs.Items.{each-part}
 use Rattle.protocol.specs.Locks.{Recorded, calm-recorded, drop-recorded, decide-recorded, apply-recorded}
-use Rattle.protocol.specs.Ghosts.{
-  Own,
-  Ghost,
-  nothing,
-  transaction-of,
-  state-of,
-  put-own,
-  clients-put,
-  stamped,
-  begin-reach,
-  abort-reach,
-  end-reach,
-  read-reach,
-  answer-reach,
-  commit-reach,
-  decided-ghost,
-  decide-reach,
-}
+use Rattle.protocol.specs.Ghosts.{Own, Ghost, nothing, transaction-of, state-of, put-own, clients-put, stamped, begin-reach, abort-reach}
+use Rattle.protocol.specs.Ghosts.{end-reach, read-reach, answer-reach, commit-reach, decided-ghost, decide-reach}
 use Rattle.protocol.specs.Prepared.{stamped-ghost, prepare-reach, locks-recorded}
 use Rattle.protocol.specs.Applied.{applied-ghost, apply-reach}
 

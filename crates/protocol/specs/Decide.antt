@@ -1,33 +1,20 @@
 -- The decision keeps the invariant: what the transaction read is current, so its trace runs on the newest snapshot, which its writes then
 -- change; and what others have checked stays current, since their locks keep these writes out.
 use mathlib.Core.Path.{_≡_, refl, ap, sym, _∙_, subst}
-use mathlib.Core.Bool.{Bool, true, false, cond, true≢false}
+use mathlib.Core.Bool.{true, false, cond, true≢false}
 use mathlib.Core.Logic.{_⊎_, inl, inr}
-use Prim.Native.Nat.{ℕ, suc}
+use Prim.Native.Nat.{suc}
 use native.Mathlib.Omega.{arith}
 use Rattle.base.specs.Test.{bool-cases, not-both, cond-false, or-left}
 use Rattle.base.specs.Update.{upd-same, upd-all}
 use Rattle.protocol.specs.Setting.{Setting}
-use Rattle.protocol.specs.System.{
-  committing,
-  after-commit,
-  is-decided,
-  Transaction,
-  State,
-  inner-before-after,
-  Holds,
-  Checked,
-  ReadLock,
-  WriteLock,
-  Apart,
-  deciding,
-  after-decision,
-  Parts,
-}
+use Rattle.protocol.specs.System.{committing, after-commit, is-decided, Transaction, State, inner-before-after, Holds, Checked, WriteLock}
+use Rattle.protocol.specs.System.{Apart, deciding, after-decision, Parts}
 use Rattle.protocol.specs.Replay.{Uncompared, Runs, Replays, snapshot}
-use Rattle.protocol.specs.Invariant.{Content, Course, Reads, Kept, OuterSince, Due, Pending, PendingInner, Newest, TableRight, Inv, still, apart-upd}
+use Rattle.protocol.specs.Invariant.{Content, Course, Reads, Kept, Due, Pending, PendingInner, Newest, TableRight, Inv, still, apart-upd}
 use Rattle.protocol.specs.Locked.{locked-part, kept-locked, pending-holds}
-use Rattle.protocol.specs.History.{read-now, written-now, current-written, current-else, history-new, current-le, history-old, reads-step, snapshot-step, outer-step}
+use Rattle.protocol.specs.History.{read-now, written-now, current-written, current-else, history-new, current-le, history-old, reads-step}
+use Rattle.protocol.specs.History.{snapshot-step, outer-step}
 
 module _ (T : Setting) where
   open Setting T using (Obj, Server, Client, Val, eqClient, home, keeps, inner)

@@ -1,7 +1,7 @@
 -- The protocol's state as a function of the machine's state and of ghosts: for each client its trace and the versions of what is checked by
 -- value, for each server such versions, and the protocol's own ghosts. Here the moves that change one slot are carried over.
 use mathlib.Core.Path.{_≡_, refl, ap, sym, _∙_, subst, fun-ext}
-use mathlib.Core.Bool.{Bool, true, false, cond, _||_, false≢true}
+use mathlib.Core.Bool.{true, false, cond, _||_, false≢true}
 use mathlib.Core.List.{List, [], _∷_, map}
 use mathlib.Core.Logic.{_⊎_, inl, inr}
 use mathlib.Core.Option.{Option, none, some, Option·map}
@@ -12,52 +12,10 @@ use Rattle.plans.specs.Plan.{gives, exec, Asked}
 use Rattle.protocol.specs.Changed.{upd-zip, upd-none}
 use Rattle.protocol.specs.Setting.{Setting}
 use Rattle.protocol.specs.Writes.{writes?, latest, latest-unwritten, latest-cond}
-use Rattle.protocol.specs.System.{
-  Phase,
-  idle,
-  opened,
-  committing,
-  decided,
-  is-decided,
-  Entry,
-  Transaction,
-  Decided,
-  State,
-  view,
-  fresh,
-  reading,
-  answering,
-  with-parts,
-  put,
-  after-decision,
-  begin,
-  read,
-  answer,
-  commit,
-  decide,
-  end,
-  abort,
-  Reach,
-  after,
-}
-use Rattle.protocol.specs.Machine.{
-  Item,
-  find,
-  says,
-  Slot,
-  Machine,
-  blank,
-  item,
-  with-items,
-  with-item,
-  wrote,
-  answered-slot,
-  participants,
-  first-of,
-  committed-slot,
-  decided-slot,
-  with-slot,
-}
+use Rattle.protocol.specs.System.{Phase, idle, opened, committing, decided, is-decided, Entry, Transaction, Decided, State, view, fresh}
+use Rattle.protocol.specs.System.{reading, answering, put, after-decision, begin, read, answer, commit, decide, end, abort, Reach, after}
+use Rattle.protocol.specs.Machine.{Item, find, says, Slot, Machine, blank, item, with-item, wrote, answered-slot, participants, first-of}
+use Rattle.protocol.specs.Machine.{committed-slot, decided-slot, with-slot}
 use Rattle.protocol.specs.Items.{find-item, participants-right}
 
 module _ (T : Setting) where

@@ -1,7 +1,7 @@
 -- What a decision does to versions and histories: what was read is current, so each written object gets one version more, and no older
 -- entry of its history changes. An old copy therefore stays something that the object once was.
 use mathlib.Core.Path.{_≡_, refl, ap, sym, _∙_, subst}
-use mathlib.Core.Bool.{Bool, true, false, cond}
+use mathlib.Core.Bool.{true, false, cond}
 use mathlib.Core.Logic.{_⊎_, inl, inr}
 use Prim.Native.Nat.{ℕ, suc, _≤_, _<_}
 use native.Mathlib.Decide.{ℕ-discrete, decLt}

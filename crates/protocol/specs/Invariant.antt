@@ -8,7 +8,8 @@ use Prim.Native.Nat.{ℕ, suc, _≤_, _<_}
 use Rattle.base.specs.Test.{not-both}
 use Rattle.base.specs.Update.{upd, upd-other, upd-all}
 use Rattle.protocol.specs.Setting.{Setting}
-use Rattle.protocol.specs.System.{Phase, after-commit, is-decided, Entry, Transaction, State, inner-before-after, Holds, Checked, LockedAt, Apart, put, Parts}
+use Rattle.protocol.specs.System.{Phase, after-commit, is-decided, Entry, Transaction, State, inner-before-after, Holds, Checked, LockedAt}
+use Rattle.protocol.specs.System.{Apart, put, Parts}
 use Rattle.protocol.specs.Replay.{effect, Answers, Uncompared, Replays}
 
 module _ (T : Setting) where

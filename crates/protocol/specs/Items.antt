@@ -1,35 +1,16 @@
 -- The tests that the machine computes over a list of items, and what they say of every object.
 use mathlib.Core.Path.{_≡_, refl, ap, sym, _∙_, subst}
-use mathlib.Core.Bool.{Bool, true, false, cond, _&&_, _||_, not, true≢false, false≢true}
+use mathlib.Core.Bool.{Bool, true, false, _||_, not, false≢true}
 use mathlib.Core.List.{List, [], _∷_}
 use mathlib.Core.Logic.{_⊎_, inl, inr}
 use mathlib.Core.Option.{Option, none, some, Option·none-ne-some, Option·some-injective}
 use native.Mathlib.Decide.{ℕ-discrete}
-use Rattle.base.specs.Test.{bool-cases, not-both, cond-true, cond-false, and-both, or-left, or-right, yes?, yes-of, of-yes}
+use Rattle.base.specs.Test.{bool-cases, not-both, cond-true, or-left, or-right, yes?, yes-of, of-yes}
 use Rattle.protocol.specs.Setting.{Setting, Among}
 use Rattle.protocol.specs.Lists.{all, any, all-among, any-among}
-use Rattle.protocol.specs.System.{Transaction, inner-before-after, Checked, ReadLock, LockedAt, WriteLock, Parts}
-use Rattle.protocol.specs.Machine.{
-  Item,
-  find,
-  says,
-  Slot,
-  Lock,
-  shared,
-  owned,
-  Machine,
-  seen,
-  item-inner,
-  for-all,
-  for-home,
-  participants,
-  first-of,
-  all-parts,
-  check,
-  to-write,
-  to-read,
-  grants,
-}
+use Rattle.protocol.specs.System.{inner-before-after, Checked, ReadLock, LockedAt, WriteLock, Parts}
+use Rattle.protocol.specs.Machine.{Item, find, says, Slot, Lock, shared, owned, Machine, seen, item-inner, for-all, for-home, participants}
+use Rattle.protocol.specs.Machine.{first-of, all-parts, check, to-write, to-read, grants}
 
 module _ (T : Setting) where
   open Setting T using (Obj, Server, Client, eqObj, eqVal, eqServer, eqClient, servers, servers-all, home, inner, by-value)

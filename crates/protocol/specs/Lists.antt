@@ -1,8 +1,8 @@
 -- Tests of all elements of a list, and of any.
-use mathlib.Core.Path.{_≡_, refl, sym, subst}
+use mathlib.Core.Path.{_≡_, sym, subst}
 use mathlib.Core.Bool.{Bool, true, false, _&&_, _||_}
 use mathlib.Core.List.{List, [], _∷_}
-use mathlib.Core.Logic.{_⊎_, inl, inr}
+use mathlib.Core.Logic.{inl, inr}
 use Rattle.base.specs.Test.{and-both, or-left, or-right}
 use Rattle.protocol.specs.Setting.{Among}
 

@@ -1,10 +1,11 @@
 -- Where the locks of a transaction's writes are: at participants, and wherever the object is kept; so a pending write holds its lock.
 use mathlib.Core.Path.{_≡_, refl, sym, subst}
-use mathlib.Core.Bool.{Bool, true, false}
+use mathlib.Core.Bool.{true, false}
 use mathlib.Core.Logic.{_⊎_, inl, inr}
 use Rattle.base.specs.Test.{bool-cases, or-left, or-neither}
 use Rattle.protocol.specs.Setting.{Setting}
-use Rattle.protocol.specs.System.{Phase, idle, opened, committing, decided, after-commit, is-decided, Transaction, State, inner-before-after, Holds, LockedAt, WriteLock, Parts}
+use Rattle.protocol.specs.System.{Phase, idle, opened, committing, decided, after-commit, is-decided, Transaction, State, inner-before-after}
+use Rattle.protocol.specs.System.{Holds, LockedAt, WriteLock, Parts}
 use Rattle.protocol.specs.Invariant.{Content, Pending, Inv}
 
 decided-committed : (p : Phase) → is-decided p ≡ true → after-commit p ≡ true

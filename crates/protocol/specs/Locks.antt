@@ -1,9 +1,9 @@
 -- Locks as a server stores them, beside the protocol's locks, which follow from the transactions. Safety needs one direction only: each
 -- lock that a transaction holds is recorded.
 use mathlib.Core.Path.{_≡_, refl, ap, sym, _∙_, subst}
-use mathlib.Core.Bool.{Bool, true, false, cond, _&&_, _||_, not, true≢false, false≢true}
+use mathlib.Core.Bool.{Bool, true, false, _&&_, _||_, not, false≢true}
 use mathlib.Core.Logic.{_⊎_, inl, inr}
-use Rattle.base.specs.Test.{bool-cases, not-both, cond-true, cond-false, and-both, or-left, or-right, or-cases, yes?, yes-of, of-yes, of-no}
+use Rattle.base.specs.Test.{bool-cases, not-both, cond-true, or-left, or-right, yes?, yes-of, of-yes, of-no}
 use Rattle.base.specs.Update.{upd, upd-same, upd-other, upd-all}
 use Rattle.protocol.specs.Setting.{Setting}
 use Rattle.protocol.specs.Lists.{any, any-among}

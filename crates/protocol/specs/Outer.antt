@@ -1,8 +1,8 @@
 -- How a plan is shown to meet `asks-outer`: by its shape.
 use mathlib.Core.Path.{_≡_, refl, ap}
-use mathlib.Core.Bool.{Bool, true, false, _||_, not, true≢false, false≢true}
+use mathlib.Core.Bool.{Bool, true, false, _||_, not, false≢true}
 use mathlib.Core.Logic.{_⊎_, inl, inr}
-use Rattle.base.specs.Test.{bool-cases, or-cases}
+use Rattle.base.specs.Test.{or-cases}
 use Rattle.plans.specs.Plan.{Plan, ask, done, fail, Out, gives, fails, exec, Asked}
 
 module _ {Obj Val Res Why : Type 0} (inner : Obj → Val → Bool) where

@@ -1,20 +1,20 @@
 -- A prepare keeps the invariant: what it checks is current, and stays so until the decision.
 use mathlib.Core.Path.{_≡_, ap, sym, _∙_, subst}
 use mathlib.Core.Bool.{true, false}
-use mathlib.Core.Logic.{_⊎_, inl, inr}
-use Prim.Native.Nat.{ℕ, _<_}
+use mathlib.Core.Logic.{inl, inr}
+use Prim.Native.Nat.{_<_}
 use native.Mathlib.Decide.{decLt}
 use native.Mathlib.Omega.{arith}
 use Rattle.base.specs.Test.{not-both}
 use Rattle.base.specs.Update.{upd-other}
 use Rattle.protocol.specs.Setting.{Setting}
 use Rattle.protocol.specs.System.{after-commit, is-decided, Transaction, State, Holds, Checked, ReadLock, Apart, preparing, put, CanPrepare}
-use Rattle.protocol.specs.Invariant.{OuterSince, Pending, Newest, TableRight, Exclude, Inv, put-inv}
+use Rattle.protocol.specs.Invariant.{OuterSince, Pending, Newest, TableRight, Inv, put-inv}
 use Rattle.protocol.specs.Working.{none-pending}
 use Rattle.protocol.specs.Locked.{pending-holds}
 
 module _ (T : Setting) where
-  open Setting T using (Obj, Server, Client, eqServer, home, keeps, keeps-home, inner)
+  open Setting T using (Obj, Server, Client, eqServer, keeps, keeps-home, inner)
 
   module _ (σ : State T) (I : Inv T σ) (c : Client) (s : Server) (K : CanPrepare T σ c s) where
     abbrev x : Transaction T

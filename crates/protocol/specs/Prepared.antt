@@ -1,18 +1,17 @@
 -- The machine's prepare is a step of the system, after a stamp: its computed checks and grants are what the rules ask.
 use mathlib.Core.Path.{_≡_, refl, ap, sym, _∙_, subst}
 use mathlib.Core.Bool.{Bool, true, false, cond}
-use mathlib.Core.List.{List}
 use mathlib.Core.Logic.{_⊎_, inl, inr}
 use mathlib.Core.Option.{Option, none, some}
 use Prim.Native.Nat.{ℕ, _≤_}
-use Rattle.base.specs.Test.{bool-cases, not-both, yes?, of-yes, of-no}
+use Rattle.base.specs.Test.{bool-cases, not-both, yes?, of-yes}
 use Rattle.base.specs.Update.{upd, upd-same}
 use Rattle.protocol.specs.Setting.{Setting}
 use Rattle.protocol.specs.Lists.{all, all-among}
 use Rattle.protocol.specs.System.{committing, Transaction, State, Stamp, Checks, CanPrepare, stamp, prepare, Reach, after}
 use Rattle.protocol.specs.Invariant.{Inv}
 use Rattle.protocol.specs.Safety.{reach-inv}
-use Rattle.protocol.specs.Machine.{Item, find, says, Slot, Lock, Machine, check, to-write, to-read, grants, granted-row, prepared-slot, with-slot}
+use Rattle.protocol.specs.Machine.{Item, find, says, Slot, Machine, check, to-write, to-read, grants, granted-row, prepared-slot, with-slot}
 use Rattle.protocol.specs.Items.{find-item, found, at-item, asks-write, asks-read, granted-all, check-table, check-version, check-value}
 use Rattle.protocol.specs.Locks.{Recorded, granted-apart, prepare-recorded}
 use Rattle.protocol.specs.Ghosts.{Own, Ghost, item-version, transaction-of, state-of, put-own, clients-put, state-put, state-own}

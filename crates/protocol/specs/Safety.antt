@@ -1,37 +1,13 @@
 -- THE PROTOCOL'S THEOREM: every state that its steps reach is safe.
 use mathlib.Core.Path.{_≡_, refl, ap, sym, _∙_, subst}
-use mathlib.Core.Bool.{Bool, true, false, cond, _&&_, not, false≢true}
+use mathlib.Core.Bool.{Bool, true, false, _&&_, not, false≢true}
 use mathlib.Core.List.{List, [], _∷_}
 use mathlib.Core.Logic.{_⊎_, inl, inr}
 use native.Mathlib.Omega.{arith}
 use Rattle.base.specs.Test.{bool-cases, not-both, cond-true, cond-false}
 use Rattle.protocol.specs.Setting.{Setting, Among}
-use Rattle.protocol.specs.System.{
-  idle,
-  opened,
-  decided,
-  after-commit,
-  is-decided,
-  Transaction,
-  State,
-  fresh,
-  start,
-  put,
-  Step,
-  begin,
-  read,
-  answer,
-  commit,
-  stamp,
-  prepare,
-  decide,
-  apply,
-  end,
-  abort,
-  Reach,
-  initial,
-  after,
-}
+use Rattle.protocol.specs.System.{idle, opened, decided, after-commit, is-decided, State, fresh, start, put, Step, begin, read, answer, commit}
+use Rattle.protocol.specs.System.{stamp, prepare, decide, apply, end, abort, Reach, initial, after}
 use Rattle.protocol.specs.Replay.{Replays, snapshot, due?, settled, Safe}
 use Rattle.protocol.specs.Invariant.{Pending, Newest, Inv}
 use Rattle.protocol.specs.Working.{none-pending, fresh-content, fresh-course, fresh-inv, read-inv, answer-inv, commit-inv, stamp-inv}

@@ -12,25 +12,9 @@ use Rattle.protocol.specs.Writes.{writes?, latest}
 use Rattle.protocol.specs.Lists.{all, any}
 use Rattle.protocol.specs.System.{committing, Entry}
 use Rattle.protocol.specs.Meaning.{map-of, map-all, Right, Right-all}
-use Rattle.protocol.specs.Machine.{
-  Machine,
-  find,
-  first-of,
-  check,
-  to-write,
-  to-read,
-  grants,
-  granted-row,
-  prepared-slot,
-  turned,
-  begins,
-  fetches,
-  answers,
-  commits,
-  decides,
-  Reached,
-}
-use Rattle.protocol.specs.Claim.{Claim, claim}
+use Rattle.protocol.specs.Machine.{Machine, find, first-of, check, to-write, to-read, grants, granted-row, prepared-slot, turned, begins}
+use Rattle.protocol.specs.Machine.{fetches, answers, commits, decides, Reached}
+use Rattle.protocol.specs.Claim.{claim}
 use Rattle.protocol.specs.Variant.{ReachedWith, at-start, by-rule, also}
 use Rattle.protocol.specs.Example.{leaf, put, tiny, leaves, one}
 

@@ -6,32 +6,15 @@ use mathlib.Core.List.{List, [], _∷_}
 use mathlib.Core.Option.{Option, none, some, Option·none-ne-some, Option·some-ne-none}
 use Prim.Native.Nat.{ℕ}
 use Rattle.base.specs.Update.{upd, upd-same}
-use Rattle.plans.specs.Plan.{Plan, ask, done, fail, Out, gives, fails, exec, Asked}
+use Rattle.plans.specs.Plan.{Plan, ask, done, fail, gives, exec, Asked}
 use Rattle.plans.specs.Walk.{Met, lacks, ends, Every, Shows, walk, used, walk-has, walk-lacks, used-had, walk-exec, walk-asked}
 use Rattle.protocol.specs.Changed.{upd-none, upd-twice}
 use Rattle.protocol.specs.Setting.{Setting}
 use Rattle.protocol.specs.Lists.{all}
 use Rattle.protocol.specs.System.{opened, Entry, Transaction, view}
 use Rattle.protocol.specs.Meaning.{shown-of}
-use Rattle.protocol.specs.Machine.{
-  Item,
-  find,
-  says,
-  Slot,
-  Copy,
-  Machine,
-  seen,
-  item,
-  with-items,
-  answered-slot,
-  turned,
-  with-slot,
-  uses-copy,
-  fetches,
-  answers,
-  Reached,
-  moved,
-}
+use Rattle.protocol.specs.Machine.{Item, find, says, Slot, Copy, Machine, seen, item, with-items, answered-slot, turned, with-slot, uses-copy}
+use Rattle.protocol.specs.Machine.{fetches, answers, Reached, moved}
 use Rattle.protocol.specs.Items.{found}
 
 every-map : {A : Type 0} (P R : A → Type 0) → ((a : A) → P a → R a) → (l : List A) → Every P l → Every R l

@@ -1,40 +1,22 @@
 -- The steps of a transaction before its first prepare keep the invariant: begin, read, answer, commit, and the stamp, which may come later.
 use mathlib.Core.Path.{_≡_, refl, ap, sym, _∙_, subst}
-use mathlib.Core.Bool.{Bool, true, false, cond, _||_, true≢false, false≢true}
+use mathlib.Core.Bool.{Bool, true, false, cond, true≢false, false≢true}
 use mathlib.Core.List.{_∷_}
 use mathlib.Core.Logic.{_⊎_, inl, inr}
 use Prim.Native.Nat.{ℕ, _≤_}
 use native.Mathlib.Omega.{arith}
 use Rattle.base.specs.Test.{bool-cases, not-both, cond-false, or-right, or-cases}
-use Rattle.base.specs.Update.{upd, upd-same, upd-other, upd-all}
+use Rattle.base.specs.Update.{upd-same, upd-other}
 use Rattle.plans.specs.Plan.{gives, exec, Asked, exec-frame}
 use Rattle.protocol.specs.Setting.{Setting}
 use Rattle.protocol.specs.Writes.{writes?, latest, latest-cond}
-use Rattle.protocol.specs.System.{
-  Phase,
-  opened,
-  committing,
-  after-commit,
-  is-decided,
-  Entry,
-  Transaction,
-  State,
-  view,
-  Checked,
-  fresh,
-  reading,
-  answering,
-  stamping,
-  with-parts,
-  put,
-  Parts,
-  Stamp,
-}
+use Rattle.protocol.specs.System.{Phase, opened, committing, after-commit, is-decided, Entry, Transaction, State, view, Checked, fresh, reading}
+use Rattle.protocol.specs.System.{answering, stamping, with-parts, put, Parts, Stamp}
 use Rattle.protocol.specs.Replay.{effect, Answers, Uncompared}
-use Rattle.protocol.specs.Invariant.{Content, Course, Reads, Kept, Pending, Inv, Replaced, put-inv}
+use Rattle.protocol.specs.Invariant.{Content, Course, Reads, Pending, Inv, put-inv}
 
 module _ (T : Setting) where
-  open Setting T using (Obj, Server, Client, Val, eqObj, home, inner, by-value-outer, plan, writes, public, compared, asks-outer)
+  open Setting T using (Obj, Server, Client, Val, eqObj, inner, by-value-outer, plan, writes, public, compared, asks-outer)
 
   -- an undecided transaction has nothing pending
   pub none-pending : (x : Transaction T) → is-decided (x .phase) ≡ false → (s : Server) (o : Obj) → ¬ (Pending T x s o)
