@@ -26,6 +26,12 @@ pub does-mem : {A R : Type 0} (C : Coding A) (b : Block) (g : (A → ℕ) → Li
 unfolding stepped
 does-mem C b g ans w r w′ h l ok = ap (mem C b) (h .words) ∙ mem-stored C b (g (mem C b w)) w l ok
 
+-- code that does one step does every step with the same stores there
+pub does-as : {A R : Type 0} (C : Coding A) (b : Block) (g h : (A → ℕ) → List (Put A)) (ans : (A → ℕ) → R) (w : List ℕ) (r : R) (w′ : List ℕ)
+    → g (mem C b w) ≡ h (mem C b w) → Does C b g ans w r w′ → Does C b h ans w r w′
+unfolding stepped
+does-as C b g h ans w r w′ e d = record { answer = d .answer; words = d .words ∙ ap (stored C b w) e }
+
 module _ {A : Type 0} (C : Coding A) where
   pub changed-append : (ps qs : List (Put A)) (m : A → ℕ) → changed C m (ps ++ qs) ≡ changed C (changed C m ps) qs
   unfolding changed
@@ -41,6 +47,13 @@ module _ {A : Type 0} (C : Coding A) where
     unfolding stored
     stored-append [] qs w = refl
     stored-append (put a v ∷ ps) qs w = stored-append ps qs (set w (at C b a) v)
+
+    -- two steps whose stores do not depend on what stands there
+    pub does-both : (ps qs : List (Put A)) (w w₁ w₂ : List ℕ)
+        → Does C b (λ m. ps) silent w 0 w₁ → Does C b (λ m. qs) silent w₁ 0 w₂ → Does C b (λ m. ps ++ qs) silent w 0 w₂
+    unfolding stepped
+    does-both ps qs w w₁ w₂ p q =
+        record { answer = refl; words = q .words ∙ ap (λ (u : List ℕ). stored C b u qs) (p .words) ∙ sym (stored-append ps qs w) }
 
     pub valid-append : (ps qs : List (Put A)) → AllValid C b ps → AllValid C b qs → AllValid C b (ps ++ qs)
     unfolding AllValid

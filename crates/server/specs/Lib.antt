@@ -3,3 +3,4 @@ pub mod Layout
 pub mod Object
 pub mod Lock
 pub mod Check
+pub mod Store

@@ -3,3 +3,4 @@ pub mod check;
 pub mod lock;
 pub mod object;
 pub mod place;
+pub mod store;
