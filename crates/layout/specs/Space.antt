@@ -7,8 +7,8 @@ use Prim.Native.Nat.{ℕ, zero, suc, _+_, _≤_, _<_}
 use native.Mathlib.Omega.{arith}
 use borrow.Author.Tests.{eqb-true, eq-eqb}
 use lib.Dec.{eqb}
-use lib.ListN.{length, getD, take, drop, set, length-set}
-use lib.Seq.{sets, getD-set-same, getD-set-other, drop-cons}
+use lib.ListN.{length, getD, take, drop, set, length-set, replicate, length-replicate, getD-replicate, List·getD-append}
+use lib.Seq.{sets, sets-eq, getD-set-same, getD-set-other, drop-cons}
 use Rattle.base.specs.Test.{ifd, ifd-yes, ifd-no, and-both, not-both}
 use Rattle.base.specs.Update.{upd, upd-same, upd-other}
 use Rattle.layout.specs.Block.{Block, size, In, decIn, offset, below, apart}
@@ -204,6 +204,24 @@ module _ {A : Type 0} (C : Coding A) where
         let v : getD w k 0 ≡ mem w (f 0) = sym (mem-at w (f 0) (r .good 0 (omega arith)) ∙ ap (λ (j : ℕ). getD w j 0) (run-first f k n r)) in
         let s : k < length w = omega arith in
         rw (drop-cons w k 0) (ap₂ (λ (x : ℕ) (y : List ℕ). x ∷ y) v (mem-run n w (λ i. f (suc i)) (suc k) (run-later f k n r) (omega arith)))
+
+    -- a block full of zeros
+    pub mem-zeros : (w : List ℕ) → size b ≤ length w → mem (sets w 0 (replicate (size b) 0)) ≡ (λ a. 0)
+    mem-zeros w r = fun-ext (λ a. go a (valid? a))
+      where
+        zeros : List ℕ
+        zeros = replicate (size b) 0
+
+        whole : length zeros ≡ size b
+        whole = length-replicate (size b) 0
+
+        go : (a : A) → Dec (Valid a) → mem (sets w 0 zeros) a ≡ 0
+        go a (no h) = mem-none (sets w 0 zeros) a h
+        go a (yes h) =
+            mem-at (sets w 0 zeros) a h
+            ∙ ap (λ (u : List ℕ). getD u (at a) 0) (sets-eq zeros w 0 (omega (arith, whole)))
+            ∙ List·getD-append zeros (drop (0 + length zeros) w) 0 (at a) (omega (arith, whole, at-below a h))
+            ∙ getD-replicate (size b) (at a) 0 0 (at-below a h)
 
   -- the record that was stored is the record read
   pub tab-puts-same : (n : ℕ) (vs : List ℕ) (m : A → ℕ) (f : ℕ → A) → length vs ≡ n → ((i j : ℕ) → f i ≡ f j → i ≡ j)

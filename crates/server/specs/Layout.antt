@@ -3,7 +3,7 @@
 -- version and the lock of that server's node with this slot number.
 use mathlib.Core.Path.{_≡_, refl, sym, ap, _∙_, subst}
 use mathlib.Core.List.{List, [], _∷_}
-use Prim.Native.Nat.{ℕ, zero, suc, _+_, _*_, _≤_, _<_}
+use Prim.Native.Nat.{ℕ, zero, suc, _+_, _*_, _/_, _≤_, _<_}
 use native.Mathlib.Omega.{arith}
 use lib.ListN.{getD, set}
 use Rattle.layout.specs.Block.{Block, words, times, next, end, size, In, offset}
@@ -60,6 +60,19 @@ partWords n = size (block n)
 -- the store of one word
 unfoldable pub putStep : Place → ℕ → (Place → ℕ) → List (Put Place)
 putStep a v m = put a v ∷ []
+
+-- places that every part has
+pub root-valid : (n : ℕ) → Valid places (block n) Root
+unfolding Valid In
+root-valid n = omega arith
+
+pub version-valid : (n : ℕ) → Valid places (block n) Version
+unfolding Valid In
+version-valid n = omega arith
+
+pub vector-valid : (n k : ℕ) → k < 1024 → Valid places (block n) (Vector (k / 64))
+unfolding Valid In
+vector-valid n k h = omega arith
 
 -- a place lies at word i, in the part
 pub record Lies (n : ℕ) (a : Place) (i : ℕ) : Type 0 where

@@ -4,3 +4,5 @@ pub mod Object
 pub mod Lock
 pub mod Check
 pub mod Store
+pub mod HandOut
+pub mod Fresh

@@ -13,7 +13,7 @@ use Rattle.nodes.specs.declared.name.Name.{Name}
 use Rattle.server.specs.declared.object.Object.{Object}
 use Rattle.server.specs.declared.place.Place.{Place}
 use Rattle.server.specs.declared.place.Place.the-variants.{Root, Version, Vector, Table, Node}
-use Rattle.server.specs.Layout.{places, block, putStep}
+use Rattle.server.specs.Layout.{places, block, putStep, root-valid, version-valid, vector-valid}
 use Rattle.server.specs.Object.{lock-of, lock-valid}
 use Rattle.server.specs.Lock.{locked, unlocked}
 
@@ -56,17 +56,5 @@ module _ (n : ℕ) (w w′ : List ℕ) where
   unfolding putStep flag-step
   flag-stored x b t k word v i e q h d =
       does-as places (block n) (putStep (Vector (k / 64)) v) (flag-step x b) silent w 0 w′ (rw (h, q, i, e)) d
-
-pub root-valid : (n : ℕ) → Valid places (block n) Root
-unfolding Valid In
-root-valid n = omega arith
-
-pub version-valid : (n : ℕ) → Valid places (block n) Version
-unfolding Valid In
-version-valid n = omega arith
-
-pub vector-valid : (n k : ℕ) → k < 1024 → Valid places (block n) (Vector (k / 64))
-unfolding Valid In
-vector-valid n k h = omega arith
 
 pub ruleset store-exits = (now-locked, now-unlocked, metadata-stored, flag-stored, root-valid, version-valid, vector-valid, lock-valid)

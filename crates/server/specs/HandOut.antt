@@ -1,0 +1,62 @@
+-- What a server hands out for a fetch, and when it is out of range (refusal 10).
+use mathlib.Core.Path.{_≡_, refl, sym, ap, ap₂, _∙_}
+use mathlib.Core.Bool.{Bool, true, false, cond, _&&_}
+use mathlib.Core.List.{List, [], _∷_}
+use Prim.Native.Nat.{ℕ, _+_, _/_, _≤_, _<_}
+use native.Mathlib.Omega.{arith}
+use borrow.Author.Tests.{lt-ltb, le-ltb}
+use lib.Dec.{leb, ltb}
+use lib.ListN.{length, take, drop}
+use Rattle.memory.specs.Word.{view}
+use Rattle.memory.specs.WordLaws.{view-length}
+use Rattle.layout.specs.Block.{size, In, offset}
+use Rattle.layout.specs.Space.{tab, at, Valid, mem, Run, mem-run}
+use Rattle.nodes.specs.Name.{server-of, slot-of}
+use Rattle.nodes.specs.declared.name.Name.{Name}
+use Rattle.server.specs.declared.hand_out.Metadata.{Metadata}
+use Rattle.server.specs.declared.place.Place.{Place}
+use Rattle.server.specs.declared.place.Place.the-variants.{Root, Version, Vector, Node}
+use Rattle.server.specs.Layout.{places, block, partWords, root-valid, version-valid}
+
+unfoldable pub metadata-at : (Place → ℕ) → Metadata
+metadata-at m = record { root = m Root; version = m Version }
+
+-- refusal 10: the root's name is one of the store, the version one of 32 bits
+unfoldable pub metadata-sound : ℕ → ℕ → (Place → ℕ) → Bool
+metadata-sound servers slots m = ltb (server-of (m Root)) servers && ltb (slot-of (m Root)) slots && leb (m Version) 4294967295
+
+unfoldable pub vector-at : (Place → ℕ) → List ℕ
+vector-at m = tab 16 (λ i. m (Vector i))
+
+-- ---- ways out of the code
+module _ (m : Place → ℕ) where
+  pub metadata-got : (x v : ℕ) → x ≡ m Root → v ≡ m Version → record { root = x; version = v } ≡ metadata-at m
+  unfolding metadata-at
+  metadata-got x v p q = rw (p, q)
+
+  module _ (servers slots x r : ℕ) (p : x ≡ m Root) (e : r ≡ server-of x) where
+    pub no-server : servers ≤ r → false ≡ metadata-sound servers slots m
+    unfolding metadata-sound
+    no-server h = sym (rw (← p, ← e, le-ltb r servers h))
+
+    pub no-slot : (k : ℕ) → r < servers → k ≡ slot-of x → slots ≤ k → false ≡ metadata-sound servers slots m
+    unfolding metadata-sound
+    no-slot k h f g = sym (rw (← p, ← e, lt-ltb r servers h, ← f, le-ltb k slots g))
+
+    pub sound-version : (k v : ℕ) → r < servers → k ≡ slot-of x → k < slots → v ≡ m Version → leb v 4294967295 ≡ metadata-sound servers slots m
+    unfolding metadata-sound
+    sound-version k v h f g q = sym (rw (← p, ← e, lt-ltb r servers h, ← f, lt-ltb k slots g, q))
+
+vector-run : (n : ℕ) → Run places (block n) Vector 3 16
+unfolding at Valid In offset size
+vector-run n = record { good = λ i l. l; spot = λ i l. refl }
+
+pub vector-got : (n : ℕ) (s ws : List ℕ) → partWords n ≤ length s / 8 → ws ≡ take 16 (drop 3 (view s)) → ws ≡ vector-at (mem places (block n) (view s))
+unfolding vector-at partWords size
+vector-got n s ws l e = e ∙ mem-run places (block n) 16 (view s) Vector 3 (vector-run n) (omega (arith, view-length s))
+
+pub vector-room : (n l : ℕ) → partWords n ≤ l → 3 + 16 ≤ l
+unfolding partWords size
+vector-room n l h = omega arith
+
+pub ruleset hand-out-exits = (metadata-got, no-server, no-slot, sound-version, vector-got, vector-room, root-valid, version-valid)

@@ -1,0 +1,53 @@
+// What a server hands out for a fetch.
+ghost use mathlib.Core.Path.{_≡_};
+ghost use Prim.Native.Nat.{_/_, _<_, _≤_};
+ghost use lib.ListN.{length};
+ghost use Rattle.memory.specs.Word.{view};
+ghost use Rattle.layout.specs.Space.{mem};
+ghost use Rattle.server.specs.Layout.{places, block, partWords};
+ghost use Rattle.server.specs.HandOut.{metadata-at, metadata-sound, vector-at};
+use crate::place::Place;
+use crate::place::get;
+use nodes::name::Name;
+
+// "The metadata (root name and its version)"
+pub struct Metadata {
+    pub root: u64,
+    pub version: u64,
+}
+
+pub fn read_metadata(part: &[u8], slots: usize) -> Metadata
+    requires { ⌜ (slots ≤ 1024) × (partWords slots ≤ length (now part) / 8) ⌝ }
+    ensures { λ r. ⌜ r ≡ metadata-at (mem places (block slots) (view (now (part .entry)))) ⌝ }
+{
+    let root = get(part, slots, Place::Root);
+    let version = get(part, slots, Place::Version);
+    Metadata { root, version }
+}
+
+// Refusal 10: does the metadata name a node of the store, with a version of 32 bits?
+pub fn metadata_is_sound(part: &[u8], servers: u64, slots: usize) -> bool
+    requires { ⌜ (slots ≤ 1024) × (partWords slots ≤ length (now part) / 8) ⌝ }
+    ensures { λ r. ⌜ r ≡ metadata-sound servers slots (mem places (block slots) (view (now (part .entry)))) ⌝ }
+{
+    let root = Name {
+        number: get(part, slots, Place::Root),
+    };
+    if root.server() >= servers {
+        return false;
+    }
+    if root.slot() as usize >= slots {
+        return false;
+    }
+    get(part, slots, Place::Version) <= 4294967295
+}
+
+// "a server's flags are its vector"
+pub fn read_vector(part: &[u8], slots: usize) -> [u64; 16]
+    requires { ⌜ partWords slots ≤ length (now part) / 8 ⌝ }
+    ensures { λ r. ⌜ r ≡ vector-at (mem places (block slots) (view (now (part .entry)))) ⌝ }
+{
+    let mut words = [0u64; 16];
+    memory::read_words(part, 3, &mut words);
+    words
+}
