@@ -2,6 +2,7 @@
 pub mod Layout
 pub mod Object
 pub mod Lock
+pub mod LockLaws
 pub mod Check
 pub mod Store
 pub mod HandOut
