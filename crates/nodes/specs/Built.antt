@@ -101,12 +101,12 @@ module _ (w : Wide) (lk : length (w .keys) ≡ 32) (e : ℕ) (pe : e ≡ extra (
       (node-eq (w .kind) (w .level) v c₂ (rw (← pe, drop-take (i + e) m ks, ← a₁) r) (rw (← pe, drop-take (i + e) (m + e) (w .slots), ← a₂) s))
       (sym (getD-take m ks i 0 (pre .inside)))
 
-length-joined : (a b : Node) (sep : ℕ) → length (a .keys) ≡ 14 → length (b .keys) ≡ 14 → a .count ≤ 14 → b .count ≤ 14
+pub length-joined : (a b : Node) (sep : ℕ) → length (keysOf a) ≡ a .count → length (keysOf b) ≡ b .count
     → length (joined-keys a sep b) ≡ a .count + extra (a .kind) + b .count
 unfolding joined-keys
-length-joined a b sep la lb ha hb =
+length-joined a b sep la lb =
     let o : length (take (extra (a .kind)) (sep ∷ [])) ≡ extra (a .kind) = length-take-le (extra (a .kind)) (sep ∷ []) (extra-le (a .kind)) in
-    simp length-append (omega (arith, length-keysOf a la ha, length-keysOf b lb hb))
+    simp length-append (omega arith)
 
 pub keys-fit : (l : List ℕ) (m : ℕ) → length l ≡ 14 → m ≤ 14 → 0 + m ≤ length l
 keys-fit l m p h = omega arith
@@ -130,7 +130,7 @@ pub join-built : (a b : Node) (sep e f : ℕ) (ks ss : List ℕ) → length (a .
     → _≡_ {A = Wide} (record { kind = a .kind; level = a .level; version = a .version; count = a .count + e + b .count; keys = ks; slots = ss }) (join a sep b)
 unfolding join wide slotsOf
 join-built a b sep e f ks ss la lb pre pe pf p q =
-    let c : a .count + e + b .count ≡ length (joined-keys a sep b) = omega (arith, length-joined a b sep la lb (pre .0) (pre .1)) in
+    let c : a .count + e + b .count ≡ length (joined-keys a sep b) = omega (arith, length-joined a b sep (length-keysOf a la (pre .0)) (length-keysOf b lb (pre .1))) in
     wide-eq (a .kind) (a .level) (a .version) c p (rw (← pe, ← pf) q)
 
 -- ---- what was made wide is read back, and made narrow again

@@ -15,6 +15,10 @@ pub mod Built
 pub mod Stored
 pub mod StoredLaws
 pub mod Range
+pub mod Entries
+pub mod EntryLaws
+pub mod Kept
+pub mod Rising
 pub mod Small
 pub mod Placed
 pub mod Cases
