@@ -73,10 +73,7 @@ module _ (R : Obj → Type 0) where
 
   kid-wrote : (w : Writes) (l from n : ℕ) (k : Entries → Plan) → Known w → (R (node n) → (es : Entries) → Wrote (k es)) → Wrote (kid w l from n k)
   kid-wrote w l from n k h g =
-      let size : Entries → Plan = λ es. ifd (decLe (mn l) (length es)) (k es) (P.fail no-tree) in
-      let tests : ℕ → Entries → Plan = λ j es. ifd (ℕ-discrete j l) (size es) (P.fail no-tree) in
-      see-wrote w (node n) (λ v. open-node from v tests) h (λ r v. open-wrote from v tests (λ j es.
-      if-wrote (ℕ-discrete j l) (size es) (P.fail no-tree) (if-wrote (decLe (mn l) (length es)) (k es) (P.fail no-tree) (g r es) tt) tt))
+      see-wrote w (node n) _ h (λ r v. open-wrote from v _ (λ j es. if-wrote (ℕ-discrete j l) _ (P.fail no-tree) (if-wrote (decLe (mn l) (length es)) (k es) (P.fail no-tree) (g r es) tt) tt))
 
   -- the nodes on the path
   abbrev Passed : List Branch → Type 0
@@ -181,28 +178,22 @@ module _ (R : Obj → Type 0) where
   merged-wrote : (a : Ans) (l : ℕ) (fs : List Branch) (go : Go) (w : Writes) (k c : ℕ) (es : Entries) (r : ℕ) (pre post : Entries)
       → Known w → R (node c) → R (node r) → Goes go → Wrote (merged a l fs go w k c es r pre post)
   merged-wrote a l [] go w k c es r pre post h s q g =
-      if-wrote (ℕ-discrete (length (pre ++ (k, c) ∷ post)) 1) (release w c (λ w′. P.done (a, (node r, mk l es) ∷ w′))) (go ((node c, mk l es) ∷ w) (pre ++ (k, c) ∷ post))
+      if-wrote (ℕ-discrete (length (pre ++ (k, c) ∷ post)) 1) _ _
       (release-wrote w c (λ w′. P.done (a, (node r, mk l es) ∷ w′)) h s (λ u n. (q, n))) (g ((node c, mk l es) ∷ w) (pre ++ (k, c) ∷ post) (s, h))
   merged-wrote a l (f ∷ fs) go w k c es r pre post h s q g = g ((node c, mk l es) ∷ w) (pre ++ (k, c) ∷ post) (s, h)
 
   with-right-wrote : (a : Ans) (l : ℕ) (fs : List Branch) (go : Go) (w : Writes) (k c : ℕ) (es : Entries) (r : ℕ) (pre : Entries) (k2 c2 : ℕ) (post : Entries)
       → Known w → R (node c) → R (node r) → Goes go → Wrote (with-right a l fs go w k c es r pre k2 c2 post)
   with-right-wrote a l fs go w k c es r pre k2 c2 post h s q g =
-      let lend : Entries → Plan = λ es2. parted go l w k c (es ++ take 1 es2) c2 (drop 1 es2) pre post in
-      let merge : Entries → Plan = λ es2. release w c2 (λ w′. merged a l fs go w′ k c (es ++ es2) r pre post) in
-      let rest : Entries → Plan = λ es2. ifd (decLt (mn l) (length es2)) (lend es2) (merge es2) in
-      if-wrote (ℕ-discrete c2 c) (P.fail no-tree) (kid w l k2 c2 rest) tt
-      (kid-wrote w l k2 c2 rest h (λ t es2. if-wrote (decLt (mn l) (length es2)) (lend es2) (merge es2) (g _ _ (t, (s, h)))
+      if-wrote (ℕ-discrete c2 c) (P.fail no-tree) _ tt
+      (kid-wrote w l k2 c2 _ h (λ t es2. if-wrote (decLt (mn l) (length es2)) _ _ (g _ _ (t, (s, h)))
       (release-wrote w c2 (λ w′. merged a l fs go w′ k c (es ++ es2) r pre post) h t (λ u n. merged-wrote a l fs go u k c (es ++ es2) r pre post n s q g))))
 
   with-left-wrote : (a : Ans) (l : ℕ) (fs : List Branch) (go : Go) (w : Writes) (c : ℕ) (es : Entries) (r : ℕ) (pre : Entries) (k1 c1 : ℕ)
       → Known w → R (node c) → R (node r) → Goes go → Wrote (with-left a l fs go w c es r pre k1 c1)
   with-left-wrote a l fs go w c es r pre k1 c1 h s q g =
-      let lend : Entries → Plan = λ es1. parted go l w k1 c1 (take (length es1 - 1) es1) c (drop (length es1 - 1) es1 ++ es) pre [] in
-      let merge : Entries → Plan = λ es1. release w c (λ w′. merged a l fs go w′ k1 c1 (es1 ++ es) r pre []) in
-      let rest : Entries → Plan = λ es1. ifd (decLt (mn l) (length es1)) (lend es1) (merge es1) in
-      if-wrote (ℕ-discrete c1 c) (P.fail no-tree) (kid w l k1 c1 rest) tt
-      (kid-wrote w l k1 c1 rest h (λ t es1. if-wrote (decLt (mn l) (length es1)) (lend es1) (merge es1) (g _ _ (s, (t, h)))
+      if-wrote (ℕ-discrete c1 c) (P.fail no-tree) _ tt
+      (kid-wrote w l k1 c1 _ h (λ t es1. if-wrote (decLt (mn l) (length es1)) _ _ (g _ _ (s, (t, h)))
       (release-wrote w c (λ w′. merged a l fs go w′ k1 c1 (es1 ++ es) r pre []) h s (λ u n. merged-wrote a l fs go u k1 c1 (es1 ++ es) r pre [] n t q g))))
 
   neighbour-wrote : (a : Ans) (l : ℕ) (fs : List Branch) (go : Go) (w : Writes) (k c : ℕ) (es : Entries) (r : ℕ) (pre post : Entries)
@@ -217,29 +208,23 @@ module _ (R : Obj → Type 0) where
   split-root-wrote : (sz : Sizes) (a : Ans) (l : ℕ) (w : Writes) (r : ℕ) (es : Entries) → Known w → R (node r) → Wrote (split-root sz a l w r es)
   split-root-wrote sz a l w r es h s =
       let ss = present (sz .servers) (row (server-of r)) in
-      let end : ℕ → ℕ → Writes → Plan = λ c d w2.
-      parted (λ w′ es′. P.done (a, (node r, mk (suc l) es′) ∷ w′)) l w2 0 c (take (mn l) es) d (drop (mn l) es) [] [] in
-      let both : ℕ → ℕ → Writes → Plan = λ c d w2. take-node w2 c (take-node w2 d (end c d w2)) in
+      let both : ℕ → ℕ → Writes → Plan = λ c d w2. take-node w2 c (take-node w2 d
+      (parted (λ w′ es′. P.done (a, (node r, mk (suc l) es′) ∷ w′)) l w2 0 c (take (mn l) es) d (drop (mn l) es) [] [])) in
       take-wrote sz ss (slot-of r) w (λ c w1. take-for sz r w1 (both c)) h (λ c w1 n1.
-      take-wrote sz ss (slot-of r) w1 (both c) n1 (λ d w2 n2.
-      node-wrote w2 c (take-node w2 d (end c d w2)) n2 (λ p. node-wrote w2 d (end c d w2) n2 (λ q. (s, (q, (p, n2)))))))
+      take-wrote sz ss (slot-of r) w1 (both c) n1 (λ d w2 n2. node-wrote w2 c _ n2 (λ p. node-wrote w2 d _ n2 (λ q. (s, (q, (p, n2)))))))
 
   split-wrote : (sz : Sizes) (go : Go) (l : ℕ) (w : Writes) (k c : ℕ) (es pre post : Entries) → Known w → R (node c) → Goes go → Wrote (split sz go l w k c es pre post)
   split-wrote sz go l w k c es pre post h s g =
-      let end : ℕ → Writes → Plan = λ d w1. parted go l w1 k c (take (mn l) es) d (drop (mn l) es) pre post in
-      take-wrote sz (present (sz .servers) (row (server-of c))) (slot-of c) w (λ d w1. take-node w1 d (end d w1)) h
-      (λ d w1 n. node-wrote w1 d (end d w1) n (λ p. g _ _ (p, (s, n))))
+      take-wrote sz (present (sz .servers) (row (server-of c))) (slot-of c) w
+      (λ d w1. take-node w1 d (parted go l w1 k c (take (mn l) es) d (drop (mn l) es) pre post)) h (λ d w1 n. node-wrote w1 d _ n (λ p. g _ _ (p, (s, n))))
 
   up-wrote : (sz : Sizes) (a : Ans) (fs : List Branch) (l : ℕ) (w : Writes) (c : ℕ) (es : Entries) → Known w → Passed fs → R (node c) → Wrote (up sz a l fs w c es)
-  up-wrote sz a [] l w c es h p s =
-      if-wrote (decLe (length es) (mx l)) (P.done (a, (node c, mk l es) ∷ w)) (split-root sz a l w c es) (s, h) (split-root-wrote sz a l w c es h s)
+  up-wrote sz a [] l w c es h p s = if-wrote (decLe (length es) (mx l)) _ _ (s, h) (split-root-wrote sz a l w c es h s)
   up-wrote sz a (f ∷ fs) l w c es h p s =
       let go : Go = λ w′ es′. up sz a (suc l) fs w′ (f .nm) es′ in
-      let many = split sz go l w (f .key) c es (f .pre) (f .post) in
-      let few = neighbour a l fs go w (f .key) c es (f .nm) (f .pre) (f .post) in
       let on : Goes go = λ w′ es′ n. up-wrote sz a fs (suc l) w′ (f .nm) es′ n (p .1) (p .0) in
-      if-wrote (decLe (mn l) (length es)) (ifd (decLe (length es) (mx l)) (P.done (a, (node c, mk l es) ∷ w)) many) few
-      (if-wrote (decLe (length es) (mx l)) (P.done (a, (node c, mk l es) ∷ w)) many (s, h) (split-wrote sz go l w (f .key) c es (f .pre) (f .post) h s on))
+      if-wrote (decLe (mn l) (length es)) _ _
+      (if-wrote (decLe (length es) (mx l)) _ _ (s, h) (split-wrote sz go l w (f .key) c es (f .pre) (f .post) h s on))
       (neighbour-wrote a l fs go w (f .key) c es (f .nm) (f .pre) (f .post) h s (p .0) on)
 
   delete-wrote : (sz : Sizes) (fs : List Branch) (n : ℕ) (es : Entries) (o : Option ℕ) → Passed fs → R (node n) → Wrote (delete-at sz fs n es o)
@@ -250,9 +235,9 @@ module _ (R : Obj → Type 0) where
   moved-wrote : (sz : Sizes) (n s : ℕ) (v : Val) (x : ℕ → Writes → Writes) (k : ℕ → Writes → Plan) → R (node n) → ((d : ℕ) (w : Writes) → Known w → Known (x d w))
       → ((d : ℕ) (w : Writes) → Known w → Wrote (k d w)) → Wrote (moved sz n s v x k)
   moved-wrote sz n s v x k r hx hk =
-      take-wrote sz (s ∷ []) (slot-of n) [] (λ d w. take-node w d (release (x d w) n (λ w′. k d ((node d, v) ∷ w′)))) tt (λ d w h.
-      node-wrote w d (release (x d w) n (λ w′. k d ((node d, v) ∷ w′))) h (λ q.
-      release-wrote (x d w) n (λ w′. k d ((node d, v) ∷ w′)) (hx d w h) r (λ u g. hk d ((node d, v) ∷ u) (q, g))))
+      let on : ℕ → Writes → Plan = λ d w. k d ((node d, v) ∷ w) in
+      take-wrote sz (s ∷ []) (slot-of n) [] (λ d w. take-node w d (release (x d w) n (on d))) tt
+      (λ d w h. node-wrote w d _ h (λ q. release-wrote (x d w) n (on d) (hx d w h) r (λ u g. hk d ((node d, v) ∷ u) (q, g))))
 
   move-at-wrote : (sz : Sizes) (n s : ℕ) (v : Val) (key l : ℕ) (fs : List Branch) (m : ℕ) (es : Entries) → R (node n) → Passed fs → R (node m) → Wrote (move-at sz n s v key l fs m es)
   move-at-wrote sz n s v key zero fs m es r p q = tt
@@ -260,19 +245,18 @@ module _ (R : Obj → Type 0) where
   move-at-wrote sz n s v key (suc l) fs m (e ∷ es) r p q =
       let c = cut key e es in
       let end : ℕ → Writes → Plan = λ d w. P.done ((1, d), (node m, mk (suc l) (c .0 ++ (c .1 .0, d) ∷ c .2)) ∷ w) in
-      if-wrote (ℕ-discrete (c .1 .1) n) (moved sz n s v (λ d w. w) end) (P.fail no-tree) (moved-wrote sz n s v (λ d w. w) end r (λ d w h. h) (λ d w h. (q, h))) tt
+      if-wrote (ℕ-discrete (c .1 .1) n) _ (P.fail no-tree) (moved-wrote sz n s v (λ d w. w) end r (λ d w h. h) (λ d w h. (q, h))) tt
 
   move-node-wrote : (sz : Sizes) (r n s : ℕ) (v : Val) (l : ℕ) (ks : List ℕ) → R meta → R (node n) → Wrote (move-node sz r n s v l ks)
   move-node-wrote sz r n s v l ks a q =
-      if-wrote (ℕ-discrete n r) (move-root sz n s v) (ifd (decLe 7 (length ks)) (first-key ks (move-below sz r n s v l)) (P.fail no-tree))
+      if-wrote (ℕ-discrete n r) _ _
       (moved-wrote sz n s v (λ d w. (meta, root d) ∷ w) (λ d w. P.done ((1, d), w)) q (λ d w h. (a, h)) (λ d w h. h))
-      (if-wrote (decLe 7 (length ks)) (first-key ks (move-below sz r n s v l)) (P.fail no-tree) (by ks) tt)
+      (if-wrote (decLe 7 (length ks)) _ (P.fail no-tree) (by ks) tt)
     where
       by : (ks : List ℕ) → Wrote (first-key ks (move-below sz r n s v l))
       by [] = tt
       by (key ∷ ks) =
-          let go : ℕ → Entries → Plan = λ j es. down (to-level (suc l)) key (move-at sz n s v key) j [] r es in
-          at-root-wrote r (λ j es. ifd (decLt l j) (go j es) (P.fail no-tree)) (λ t j es. if-wrote (decLt l j) (go j es) (P.fail no-tree)
+          at-root-wrote r _ (λ t j es. if-wrote (decLt l j) _ (P.fail no-tree)
           (down-wrote (to-level (suc l)) key (move-at sz n s v key) (λ i fs m es p u. move-at-wrote sz n s v key i fs m es q p u) j [] r es tt t) tt)
 
   move-if-wrote : (sz : Sizes) (r n s : ℕ) (v : Val) → R meta → R (node n) → Wrote (move-if sz r n s v)
@@ -281,17 +265,15 @@ module _ (R : Obj → Type 0) where
   move-if-wrote sz r n s (flags fs) a t = tt
   move-if-wrote sz r n s (body zero l ks vs) a t = tt
   move-if-wrote sz r n s (body (suc j) l ks vs) a t =
-      let v = body (suc j) l ks vs in
-      if-wrote (ℕ-discrete (server-of n) s) (P.done ((0, 1), [])) (move-node sz r n s v l ks) tt (move-node-wrote sz r n s v l ks a t)
+      if-wrote (ℕ-discrete (server-of n) s) _ _ tt (move-node-wrote sz r n s (body (suc j) l ks vs) l ks a t)
 
   reading-wrote : (sz : Sizes) (op : Op) → Wrote (reading sz op)
-  reading-wrote sz (insert k v) = root-wrote k (λ fs n es. up sz (fresh (value-in k es)) zero fs [] n (with-pair k v es))
-      (λ fs n es p r. up-wrote sz (fresh (value-in k es)) fs zero [] n (with-pair k v es) tt p r)
-  reading-wrote sz (lookup k) = root-wrote k (λ fs n es. P.done (said (value-in k es), [])) (λ fs n es p r. tt)
-  reading-wrote sz (delete k) = root-wrote k (λ fs n es. delete-at sz fs n es (index k es)) (λ fs n es p r. delete-wrote sz fs n es (index k es) p r)
+  reading-wrote sz (insert k v) = root-wrote k _ (λ fs n es p r. up-wrote sz (fresh (value-in k es)) fs zero [] n (with-pair k v es) tt p r)
+  reading-wrote sz (lookup k) = root-wrote k _ (λ fs n es p r. tt)
+  reading-wrote sz (delete k) = root-wrote k _ (λ fs n es p r. delete-wrote sz fs n es (index k es) p r)
   reading-wrote sz (next k) = nearest-wrote next-in rightward (λ f. f .post) k right-wrote
   reading-wrote sz (previous k) = nearest-wrote previous-in leftward (λ f. f .pre) k left-wrote
-  reading-wrote sz (migrate n s) = λ v a. root-then v (λ r. P.ask (object (node n)) (λ u. move-if sz r n s u)) (λ r. λ u q. move-if-wrote sz r n s u a q)
+  reading-wrote sz (migrate n s) = λ v a. root-then v _ (λ r. λ u q. move-if-wrote sz r n s u a q)
 
   known-written : (w : Writes) → Known w → (o : Obj) → written w o ≡ true → R o
   known-written [] h o e = absurd (false≢true e)

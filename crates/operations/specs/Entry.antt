@@ -45,6 +45,11 @@ abbrev pub nxt : {A : Type 0} → List (ℕ × A) → ℕ → ℕ
 nxt [] b = b
 nxt (e ∷ es) b = e .0
 
+-- the number of keys below a key
+unfoldable pub under : List ℕ → ℕ → ℕ
+under [] k = 0
+under (x ∷ l) k = bit (ltb x k) + under l k
+
 -- INNER NODES: the entries before the one at an index, that one, and those after it
 abbrev pub Cut : Type 0 → Type 0
 Cut A = List (ℕ × A) × (ℕ × A) × List (ℕ × A)
@@ -91,11 +96,7 @@ without-at i es = take i es ++ drop (suc i) es
 abbrev pub next-in : ℕ → Entries → Option ℕ
 next-in key es = getElem? (keys es) (place (keys es) key)
 
--- the number of keys below, and the nearest of them
-unfoldable pub under : List ℕ → ℕ → ℕ
-under [] k = 0
-under (x ∷ l) k = bit (ltb x k) + under l k
-
+-- the nearest key strictly below: the last of those below
 abbrev pub before : List ℕ → ℕ → Option ℕ
 before ks zero = none
 before ks (suc i) = getElem? ks i

@@ -135,19 +135,15 @@ module _ (F : Why → Type 0) (lacking : F not-free × F no-slot) (sz : Sizes) (
   up-ok l (top r) w es f st n s =
       let fl = ren (word l) es in
       let y = ren-length (word l) es in
-      if-ok F E M (decLe (length fl) (mx l)) (P.done (a, (node r, mk l fl) ∷ w)) (split-root sz a l w r fl)
+      if-ok F E M (decLe (length fl) (mx l)) _ _
       (λ q. (refl, write-ok M m l (top r) w es f tt n (omega (arith, q, y))))
       (λ q. let e : length es ≡ suc (mx l) = omega (arith, q, s, y) in root-split-ok l r w es (level-ok l r w es e f) e f)
   up-ok l (frame k c pre post p) w es f st n s =
       let fl = ren (word l) es in
       let y = ren-length (word l) es in
-      let X = ren (word (suc l)) pre in
-      let Y = ren (word (suc l)) post in
       let go : Go = λ w es. up sz a (suc l) (branches (suc l) p) w (nm (suc l) p) es in
-      let many = split sz go l w k c fl X Y in
-      let few = neighbour a l (branches (suc l) p) go w k c fl (nm (suc l) p) X Y in
-      if-ok F E M (decLe (mn l) (length fl)) (ifd (decLe (length fl) (mx l)) (P.done (a, (node c, mk l fl) ∷ w)) many) few
-      (λ q. if-ok F E M (decLe (length fl) (mx l)) (P.done (a, (node c, mk l fl) ∷ w)) many
+      if-ok F E M (decLe (mn l) (length fl)) _ _
+      (λ q. if-ok F E M (decLe (length fl) (mx l)) _ _
       (λ i. (refl, write-ok M m l (frame k c pre post p) w es f st (omega (arith, q, y)) (omega (arith, i, y))))
       (λ i. split-ok l k c pre post p w es go (omega (arith, i, s, y)) (st .1) (st .2) (up-ok (suc l) p) f))
       (λ q. neighbour-ok F M m a l k c pre post p w es go (omega (arith, q, n, y)) (st .1) (st .2) (up-ok (suc l) p) f)

@@ -144,7 +144,7 @@ module _ (F : Why → Type 0) (lacking : F not-free × F no-slot) (sz : Sizes) (
         (λ es′. down (to-level (suc lv)) key (move-at sz n s v key) l (record { nm = nm (suc l) p; key = c .1 .0; pre = c .0; post = c .2 } ∷ branches (suc l) p) (c .1 .1) es′) in
         cond-ok F Kept M (to-level (suc lv) (suc l)) (met-here (cut key (y .0, w (y .1)) (ren w es))) (on (cut key (y .0, w (y .1)) (ren w es)))
         (λ q. subst (λ z. Ok F Kept M (met-here z)) (sym (ren-cut w key y es))
-        (if-ok F Kept M (ℕ-discrete (c .1 .1 .0) n) (there (ren w (c .0), (c .1 .0, c .1 .1 .0), ren w (c .2))) (P.fail no-tree)
+        (if-ok F Kept M (ℕ-discrete (c .1 .1 .0) n) _ (P.fail no-tree)
         (λ x. move-kid-ok key l (c .1 .0) n (c .0) (c .2) p (c .1 .1 .1) v e (subst (λ z. Site M m key l (frame (c .1 .0) z (c .0) (c .2) p) (c .1 .1 .1)) x (D .0)))
         (λ x. absurd (omega (
           arith,
@@ -178,7 +178,7 @@ module _ (F : Why → Type 0) (lacking : F not-free × F no-slot) (sz : Sizes) (
       let k7 : 7 ≤ length ks = subst (λ z. 7 ≤ length (keys-of z)) v
       (stored-length (G .lv) (ren (word (G .lv)) (G .es)) (omega (arith, G .kid .least, ren-length (word (G .lv)) (G .es)))) in
       let lt : l < R .level = omega (arith, G .under, sym (level-mk (G .lv) (ren (word (G .lv)) (G .es))) ∙ ap level-of v) in
-      if-ok F Kept M (decLe 7 (length ks)) (first-key ks (move-below sz (R .name) n s (body (suc j) l ks vs) l)) (P.fail no-tree)
+      if-ok F Kept M (decLe 7 (length ks)) _ (P.fail no-tree)
       (λ _. by ks e k7 lt h) (λ q. absurd (q k7))
     where
       by : (ks : List ℕ) → M (node n) ≡ body (suc j) l ks vs → 7 ≤ length ks → l < R .level → 1 ≤ tally (cnt (R .level)) (R .ents) n
@@ -191,7 +191,7 @@ module _ (F : Why → Type 0) (lacking : F not-free × F no-slot) (sz : Sizes) (
           let on : ℕ → Entries → Plan = λ i es. ifd (decLt l i) (go i es) (P.fail no-tree) in
           subst (λ u. Ok F Kept M (open-node 0 u on)) (sym (R .stored))
           (open-ok F Kept M (R .level) 0 H (R .ents) on (R .tree .from) (R .least)
-          (if-ok F Kept M (decLt l (R .level)) (go (R .level) (ren (word (R .level)) (R .ents))) (P.fail no-tree)
+          (if-ok F Kept M (decLt l (R .level)) _ (P.fail no-tree)
           (λ _. find-ok n (suc j) l key ks vs e (R .level) (top r) (R .ents) (site-root M m key R) h)
           (λ q. absurd (q lt))))
 
@@ -209,7 +209,7 @@ module _ (F : Why → Type 0) (lacking : F not-free × F no-slot) (sz : Sizes) (
       by (body zero l ks vs) e = R
       by (body (suc j) l ks vs) e =
           let v = body (suc j) l ks vs in
-          if-ok F Kept M (ℕ-discrete (server-of n) s) (P.done ((0, 1), [])) (move-node sz (R .name) n s v l ks) (λ _. R)
-          (λ _. if-ok F Kept M (ℕ-discrete n (R .name)) (move-root sz n s v) _
+          if-ok F Kept M (ℕ-discrete (server-of n) s) _ _ (λ _. R)
+          (λ _. if-ok F Kept M (ℕ-discrete n (R .name)) _ _
           (λ q. subst (λ z. Ok F Kept M (move-root sz z s v)) (sym q) (move-root-ok v (ap (λ z. M (node z)) (sym q) ∙ e)))
           (λ q. below-ok n j l ks vs e q))

@@ -139,8 +139,7 @@ module _ (F : Why → Type 0) (M : Obj → Val) (m : Map) (a : Ans) where
   merged-ok l k c pre post (top r) w es go i j n s next f =
       let W = word (suc l) in
       let z = length-append (ren W pre) ((k, c) ∷ ren W post) in
-      if-ok F E M (ℕ-discrete (length (ren W pre ++ ((k, c) ∷ ren W post))) 1) (release w c (λ w′. P.done (a, (node r, mk l (ren (word l) es)) ∷ w′)))
-      (go ((node c, mk l (ren (word l) es)) ∷ w) (ren W pre ++ ((k, c) ∷ ren W post)))
+      if-ok F E M (ℕ-discrete (length (ren W pre ++ (k, c) ∷ ren W post)) 1) _ _
       (λ q. collapse-ok l k c r pre post w es i j (omega (arith, q, z, ren-length W pre, ren-length W post)) f)
       (λ q. back-ok l k c pre post (top r) w es go i j (omega (arith, q, z, ren-length W pre, ren-length W post)) (omega (arith, s)) next f)
 
@@ -158,16 +157,12 @@ module _ (F : Why → Type 0) (M : Obj → Val) (m : Map) (a : Ans) where
       let b = nxt post (hi (suc l) p) in
       let t = mark-le (U (flag c)) (U (node c)) (around l (frame k c pre ((k2, (c2, es2)) ∷ post) p) c + one c c + tally (cnt l) es c + 0) (f .marks c) in
       let g = widen-right U m l k c k2 c2 es2 pre post p es nil (one c2) (λ x. omega arith) f in
-      let rest : List (ℕ × ℕ) → Plan = λ fs2. ifd (decLt (mn l) (length fs2))
-      (parted go l w k c (ren W es ++ take 1 fs2) c2 (drop 1 fs2) (ren W′ pre) (ren W′ post))
-      (release w c2 (λ w′. merged a l (branches (suc l) p) go w′ k c (ren W es ++ fs2) r (ren W′ pre) (ren W′ post))) in
       let x = mn-mx l in
       let y = ren-length W es2 in
-      if-ok F E M (ℕ-discrete c2 c) (P.fail no-tree) (kid w l k2 c2 rest)
+      if-ok F E M (ℕ-discrete c2 c) (P.fail no-tree) _
       (λ q. absurd (omega (arith, t, one-same c, subst (λ d. one d c ≡ 1) (sym q) (one-same c))))
-      (λ _. kid-ok F E M w l k2 b c2 es2 rest (K .at) (K .from) (K .least)
-      (if-ok F E M (decLt (mn l) (length (ren W es2))) (parted go l w k c (ren W es ++ take 1 (ren W es2)) c2 (drop 1 (ren W es2)) (ren W′ pre) (ren W′ post))
-      (release w c2 (λ w′. merged a l (branches (suc l) p) go w′ k c (ren W es ++ ren W es2) r (ren W′ pre) (ren W′ post)))
+      (λ _. kid-ok F E M w l k2 b c2 es2 _ (K .at) (K .from) (K .least)
+      (if-ok F E M (decLt (mn l) (length (ren W es2))) _ _
       (λ q.
       let tk = length-take-le 1 es2 (omega (arith, q, y)) in
       let td = length-append (take 1 es2) (drop 1 es2) in
@@ -202,17 +197,13 @@ module _ (F : Why → Type 0) (M : Obj → Val) (m : Map) (a : Ans) where
       let K : Kid (N w) l (Entry (N w) l) k1 k (c1, es1) = chain-right (Entry (N w) (suc l)) k pre mid (f .ctx .0) .0 in
       let t = mark-le (U (flag c)) (U (node c)) (around l (frame k c (pre ++ mid) [] p) c + one c c + tally (cnt l) es c + 0) (f .marks c) in
       let g = widen-left U m l k c k1 c1 es1 pre [] p es nil (one c) (λ x. omega arith) f in
-      let rest : List (ℕ × ℕ) → Plan = λ fs1. ifd (decLt (mn l) (length fs1))
-      (parted go l w k1 c1 (take (length fs1 - 1) fs1) c (drop (length fs1 - 1) fs1 ++ ren W es) (ren W′ pre) [])
-      (release w c (λ w′. merged a l (branches (suc l) p) go w′ k1 c1 (fs1 ++ ren W es) r (ren W′ pre) [])) in
       let x = mn-mx l in
       let y = ren-length W es1 in
       let j = length (ren W es1) - 1 in
-      if-ok F E M (ℕ-discrete c1 c) (P.fail no-tree) (kid w l k1 c1 rest)
+      if-ok F E M (ℕ-discrete c1 c) (P.fail no-tree) _
       (λ q. absurd (omega (arith, t, one-same c, tally-app (cnt (suc l)) pre mid c, subst (λ d. one d c ≡ 1) (sym q) (one-same c))))
-      (λ _. kid-ok F E M w l k1 k c1 es1 rest (K .at) (K .from) (K .least)
-      (if-ok F E M (decLt (mn l) (length (ren W es1))) (parted go l w k1 c1 (take j (ren W es1)) c (drop j (ren W es1) ++ ren W es) (ren W′ pre) [])
-      (release w c (λ w′. merged a l (branches (suc l) p) go w′ k1 c1 (ren W es1 ++ ren W es) r (ren W′ pre) []))
+      (λ _. kid-ok F E M w l k1 k c1 es1 _ (K .at) (K .from) (K .least)
+      (if-ok F E M (decLt (mn l) (length (ren W es1))) _ _
       (λ q.
       let tk = length-take-le j es1 (omega (arith, q, y)) in
       let td = length-append (take j es1) (drop j es1) in
