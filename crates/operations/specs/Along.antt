@@ -1,7 +1,6 @@
 -- What a plan ensures whatever is read: a property of its results that follows from what was asked for.
-use mathlib.Core.Path.{_≡_, refl, subst}
+use mathlib.Core.Path.{_≡_, subst}
 use mathlib.Core.Bool.{Bool, true, false, cond}
-use mathlib.Core.List.{List, [], _∷_}
 use Rattle.plans.specs.Plan as P
 use Rattle.operations.specs.Object.{Obj, Ask, object, vector, fetched, Val, Why, no-tree, Ans, Writes}
 use Rattle.operations.specs.Path.{Plan}

@@ -3,7 +3,7 @@ use mathlib.Core.Path.{_≡_, refl, ap, sym, subst}
 use mathlib.Core.Bool.{Bool, true, false, cond, false≢true}
 use mathlib.Core.List.{List, [], _∷_, _++_}
 use mathlib.Core.Option.{Option, none, some}
-use Prim.Native.Nat.{ℕ, zero, suc, _-_}
+use Prim.Native.Nat.{ℕ, zero, suc}
 use native.Mathlib.Decide.{ℕ-discrete, decLt, decLe}
 use lib.ListN.{length, take, drop}
 use Rattle.base.specs.Test.{ifd, ifd-all, yes-of}
@@ -11,13 +11,13 @@ use Rattle.plans.specs.Plan as P
 use Rattle.nodes.specs.Name.{name, server-of, slot-of}
 use Rattle.nodes.specs.Placement.{row}
 use Rattle.operations.specs.Object.{Obj, meta, node, flag, Ask, object, fetched, Val, root, body, taken, flags, free, no-tree, Ans, Writes, hit, written}
-use Rattle.operations.specs.Map.{Op, insert, lookup, delete, next, previous, migrate, said, fresh}
-use Rattle.operations.specs.Entry.{Entries, mk, mn, mx, nxt, cut, index, value-in, with-pair, without-at, next-in, previous-in}
+use Rattle.operations.specs.Map.{Op, insert, lookup, delete, next, previous, migrate, fresh}
+use Rattle.operations.specs.Entry.{Entries, mk, mn, mx, cut, index, value-in, with-pair, without-at, next-in, previous-in}
 use Rattle.operations.specs.Path.{Plan, see, when-root, open-node, kid, Branch, Cont, to-leaf, down, at-root, from-root}
 use Rattle.operations.specs.Slot.{Sizes, free-slot, chosen, search, present, when-free-flag, take-flag, take-on, take-for, when-free-node, take-node, release}
 use Rattle.operations.specs.Look.{told, Visit, rightward, leftward, seek, seek-up, nearest}
 use Rattle.operations.specs.Change.{Go, parted, merged, with-right, with-left, unsnoc, left-of, neighbour, split-root, split, up, delete-at}
-use Rattle.operations.specs.Migrate.{moved, move-root, move-at, to-level, first-key, move-below, move-node, move-if}
+use Rattle.operations.specs.Migrate.{moved, move-at, to-level, first-key, move-below, move-node, move-if}
 use Rattle.operations.specs.Operation.{reading, plan}
 use Rattle.operations.specs.Along.{Along, along-exec, along-checked}
 

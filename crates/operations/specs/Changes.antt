@@ -1,19 +1,19 @@
 -- Insert and delete on a snapshot that holds a tree.
-use mathlib.Core.Path.{_≡_, refl, ap, sym, _∙_, subst}
-use mathlib.Core.List.{List, [], _∷_, _++_}
+use mathlib.Core.Path.{_≡_, ap, sym, _∙_, subst}
+use mathlib.Core.List.{[], _++_}
 use mathlib.Core.Option.{Option, none, some}
 use Prim.Native.Nat.{ℕ, zero, suc, _+_, _<_, _≤_}
 use native.Mathlib.Omega.{arith}
 use lib.ListN.{length}
 use Rattle.operations.specs.Object.{Obj, node, flag, Val, Why, not-free, no-slot, Ans, Writes}
 use Rattle.operations.specs.Map.{Map, look, put, del, fresh, gone, H}
-use Rattle.operations.specs.Entry.{Entries, keys, nxt, index, value-at, value-in, with-pair, without-at}
+use Rattle.operations.specs.Entry.{Entries, nxt, index, value-at, value-in, with-pair, without-at}
 use Rattle.operations.specs.Slot.{Sizes, Allowed}
 use Rattle.operations.specs.Change.{up, insert-plan, delete-at, delete-plan}
 use Rattle.operations.specs.Chain.{one, Chain, tally}
 use Rattle.operations.specs.Places.{look-is, put-is, removed, del-is}
 use Rattle.operations.specs.Ensures.{Ok}
-use Rattle.operations.specs.Tree.{word, cnt}
+use Rattle.operations.specs.Tree.{cnt}
 use Rattle.operations.specs.Focus.{Path, top, frame, nm, lo, hi, around, left, right, floor, Focus, nil, Rep, Ends, mark-num}
 use Rattle.operations.specs.Maps.{leaf-pairs, leaf-words, look-mid, put-mid, del-mid, del-absent, put-from, put-chain, put-len, del-from, del-chain, del-len}
 use Rattle.operations.specs.Down.{branches, Site, site-rising, site-left, site-right, site-map, root-ok}

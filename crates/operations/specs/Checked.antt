@@ -2,16 +2,15 @@
 use mathlib.Core.Path.{_≡_, refl, ap, sym, _∙_, subst}
 use mathlib.Core.Bool.{Bool, true, false, cond, _&&_}
 use mathlib.Core.List.{List, [], _∷_}
-use mathlib.Core.Logic.{_⊎_, inl, inr}
-use Prim.Native.Nat.{ℕ, zero, suc, _+_, _<_, _≤_}
+use mathlib.Core.Logic.{inl, inr}
+use Prim.Native.Nat.{ℕ, suc, _+_}
 use native.Mathlib.Decide.{ℕ-discrete, decLt, decLe}
-use native.Mathlib.Omega.{arith}
 use Rattle.base.specs.Test.{of-yes, yes?}
 use Rattle.plans.specs.Plan as P
-use Rattle.operations.specs.Object.{Obj, meta, node, flag, Ask, object, vector, fetched, Val, keys-of, level-of, Why, no-tree, Ans, Writes, hit, over, written, value}
+use Rattle.operations.specs.Object.{Obj, meta, node, flag, object, vector, fetched, Val, keys-of, level-of, Why, no-tree, Ans, Writes, hit, over, written, value}
 use Rattle.operations.specs.Map.{Map, H}
 use Rattle.operations.specs.Path.{Plan}
-use Rattle.operations.specs.Operation.{rise?, fits?, all-fit?, check, checked}
+use Rattle.operations.specs.Operation.{rise?, fits?, all-fit?, checked}
 use Rattle.operations.specs.Chain.{Rising, one, tally}
 use Rattle.operations.specs.Ensures.{Ok}
 use Rattle.operations.specs.Tree.{cnt, Mark}

@@ -1,5 +1,5 @@
 -- How many nodes a tree has at least, and that there are no more than slots: no root of level 5.
-use mathlib.Core.Path.{_≡_, refl, ap, sym, _∙_, subst}
+use mathlib.Core.Path.{_≡_, ap, sym, subst}
 use mathlib.Core.List.{List, [], _∷_}
 use Prim.Native.Nat.{ℕ, zero, suc, _+_, _<_, _≤_}
 use native.Mathlib.Decide.{ℕ-discrete, decLt}
@@ -8,7 +8,7 @@ use lib.ListN.{length}
 use Rattle.operations.specs.Object.{Val}
 use Rattle.operations.specs.Entry.{mn, nxt}
 use Rattle.operations.specs.Chain.{one, one-same, Chain, tally}
-use Rattle.operations.specs.Tree.{Slot, cnt, Kid, Entry}
+use Rattle.operations.specs.Tree.{Slot, cnt, Entry}
 
 -- f 0 + .. + f (n - 1)
 sum : ℕ → (ℕ → ℕ) → ℕ

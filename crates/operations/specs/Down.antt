@@ -14,7 +14,7 @@ use Rattle.operations.specs.Path.{Plan, open-node, kid, when-root, Branc
 use Rattle.operations.specs.Chain.{Rising, chain-rising, ren, ren-app, ren-length}
 use Rattle.operations.specs.Places.{cut-app, cut-le, cut-gt, ren-cut}
 use Rattle.operations.specs.Ensures.{Ok, see-ok, if-ok}
-use Rattle.operations.specs.Tree.{Slot, word, Starts, Kid, Entry, bottom}
+use Rattle.operations.specs.Tree.{Slot, word, Starts, Entry, bottom}
 use Rattle.operations.specs.Focus.{entry-rise, Path, top, frame, nm, lo, hi, left, right, floor, Stored, Focus, nil, Rep}
 use Rattle.operations.specs.Moves.{lower}
 use Rattle.operations.specs.Maps.{Keys, keys-map, left-lt, right-ge, leaf-pairs, leaf-words}

@@ -1,7 +1,7 @@
 -- What a plan ensures on a snapshot, whatever the vectors say; and snapshots changed at one object.
-use mathlib.Core.Path.{_≡_, refl, subst}
+use mathlib.Core.Path.{_≡_, refl}
 use mathlib.Core.Bool.{Bool, true, false, cond}
-use mathlib.Core.List.{List, [], _∷_}
+use mathlib.Core.List.{[], _∷_}
 use Prim.Native.Nat.{ℕ}
 use native.Mathlib.Decide.{ℕ-discrete}
 use Rattle.base.specs.Test.{ifd, ifd-all, yes?}

@@ -1,6 +1,5 @@
 -- A node as a list of entries: its keys with its values or children. The first entry of an inner node has the key from which
 -- the node holds keys, which its parent stores and it does not. With it leaves and inner nodes split, merge and lend alike.
-use mathlib.Core.Path.{_≡_}
 use mathlib.Core.List.{List, [], _∷_, _++_, map, tail}
 use mathlib.Core.Option.{Option, none, some}
 use Prim.Native.Nat.{ℕ, zero, suc, _+_}

@@ -1,8 +1,8 @@
 -- The form of a held tree on which operations work: a path round a hole, and a focus (the path with new contents of the hole).
-use mathlib.Core.Path.{_≡_, refl, ap, sym, _∙_, subst}
+use mathlib.Core.Path.{_≡_, ap, sym, _∙_, subst}
 use mathlib.Core.Bool.{Bool, true, false, true≢false}
 use mathlib.Core.List.{List, [], _∷_, _++_, append-nil}
-use mathlib.Core.Logic.{_⊎_, inl, inr}
+use mathlib.Core.Logic.{inl, inr}
 use Prim.Native.Nat.{ℕ, zero, suc, _+_, _<_, _≤_}
 use native.Mathlib.Omega.{arith}
 use lib.ListN.{length}
@@ -11,7 +11,7 @@ use Rattle.operations.specs.Map.{Map, H, H-pos}
 use Rattle.operations.specs.Entry.{mk, mn, mx, nxt}
 use Rattle.operations.specs.Chain.{one, one-same, Chain, chain-frame, tally, gather, ren}
 use Rattle.operations.specs.Ensures.{sel-other}
-use Rattle.operations.specs.Tree.{room, Slot, word, cnt, pairs, Starts, Kid, Entry, bottom, Mark, Holds}
+use Rattle.operations.specs.Tree.{room, Slot, word, cnt, pairs, Starts, Entry, bottom, Mark, Holds}
 
 pub entry-rise : (N : ℕ → Val) (l k b : ℕ) (s : Slot l) → Entry N l k b s → k < b
 entry-rise N zero k b s h = h

@@ -2,7 +2,7 @@
 use mathlib.Core.Path.{_≡_, refl, ap, sym, _∙_, subst}
 use mathlib.Core.Bool.{Bool, true, false}
 use mathlib.Core.List.{List, [], _∷_}
-use mathlib.Core.Logic.{_⊎_, inl, inr}
+use mathlib.Core.Logic.{inl, inr}
 use Prim.Native.Nat.{ℕ, zero, suc, _+_, _<_, _≤_}
 use native.Mathlib.Decide.{ℕ-discrete, decLe}
 use native.Mathlib.Omega.{arith}
@@ -10,7 +10,7 @@ use lib.ListN.{length, length-map}
 use Rattle.operations.specs.Object.{Obj, node, flag, Val, root, body, taken, flags, free, keys-of, level-of}
 use Rattle.operations.specs.Map.{Map, H}
 use Rattle.operations.specs.Entry.{Entries, keys, mk, mn, nxt}
-use Rattle.operations.specs.Chain.{Rising, rising-from, rising-le, rising-upto, one, one-same, one-other, Chain, chain-le, chain-rising, tally, ren, ren-keys}
+use Rattle.operations.specs.Chain.{Rising, rising-from, rising-le, rising-upto, one, one-other, Chain, chain-le, chain-rising, tally, ren, ren-keys}
 use Rattle.operations.specs.Tree.{Slot, word, cnt, Starts, Kid, Entry, Mark}
 use Rattle.operations.specs.Focus.{entry-rise, Rep}
 use Rattle.operations.specs.Moves.{starts-le}

@@ -1,29 +1,28 @@
 -- Splits, and the whole way up.
 use mathlib.Core.Path.{_≡_, refl, ap, sym, _∙_, subst}
-use mathlib.Core.Bool.{true, false}
+use mathlib.Core.Bool.{true}
 use mathlib.Core.List.{List, [], _∷_, _++_}
-use Prim.Native.Nat.{ℕ, zero, suc, _+_, _<_, _≤_}
+use Prim.Native.Nat.{ℕ, suc, _+_, _≤_}
 use native.Mathlib.Decide.{decLe}
 use native.Mathlib.Omega.{arith}
 use lib.ListN.{length, take, drop, length-append, take-append-drop}
 use lib.Seq.{length-take-le}
-use Rattle.base.specs.Test.{ifd}
 use Rattle.plans.specs.Plan as P
 use Rattle.operations.specs.Object.{Obj, node, flag, Val, taken, Why, not-free, no-slot, Ans, Writes, wr, over}
 use Rattle.operations.specs.Map.{Map, H}
 use Rattle.operations.specs.Entry.{Entries, mk, mn, mx, nxt}
 use Rattle.operations.specs.Path.{Plan}
 use Rattle.operations.specs.Slot.{Sizes, Allowed, take-for, take-node}
-use Rattle.operations.specs.Change.{Go, parted, neighbour, split-root, split, up}
+use Rattle.operations.specs.Change.{Go, parted, split-root, split, up}
 use Rattle.operations.specs.Chain.{one, one-same, tally, ren, ren-length, ren-take, ren-drop, ren-nxt}
 use Rattle.operations.specs.Ensures.{Ok, if-ok, sel-same, sel-other}
-use Rattle.operations.specs.Tree.{room, room-is, Slot, word, cnt, bottom, Mark}
-use Rattle.operations.specs.Focus.{Path, top, frame, nm, around, floor, Stored, Focus, nil, Rep, Ends, mark-le, mark-free}
+use Rattle.operations.specs.Tree.{room, room-is, Slot, word, cnt}
+use Rattle.operations.specs.Focus.{Path, top, frame, nm, around, floor, Focus, nil, Rep, Ends, mark-le, mark-free}
 use Rattle.operations.specs.Count.{no-fifth}
 use Rattle.operations.specs.Moves.{set-node, take-slot as slot-taken, recut, grow}
 use Rattle.operations.specs.Down.{branches}
 use Rattle.operations.specs.Slots.{take-for-ok, take-node-ok}
-use Rattle.operations.specs.Rise.{Near, near-of, ne-of, mn-mx, Next, write-ok, parted-ok, neighbour-ok}
+use Rattle.operations.specs.Rise.{near-of, ne-of, mn-mx, Next, write-ok, parted-ok, neighbour-ok}
 
 module _ (F : Why → Type 0) (lacking : F not-free × F no-slot) (sz : Sizes) (al : Allowed sz) (M : Obj → Val) (m : Map) (a : Ans) where
   abbrev E : Ans → Writes → Type 0

@@ -1,5 +1,5 @@
 -- The map's operations on pairs of which a part is at hand, and where the pairs of a tree lie.
-use mathlib.Core.Path.{_≡_, refl, ap, sym, _∙_, subst}
+use mathlib.Core.Path.{_≡_, refl, ap, sym, _∙_}
 use mathlib.Core.List.{List, [], _∷_, _++_}
 use mathlib.Core.Option.{Option, none, some}
 use Prim.Native.Nat.{ℕ, zero, suc, _+_, _<_, _≤_}
@@ -12,7 +12,7 @@ use Rattle.operations.specs.Object.{Val}
 use Rattle.operations.specs.Map.{Map, look, put, del, above, below}
 use Rattle.operations.specs.Entry.{nxt}
 use Rattle.operations.specs.Chain.{Chain, chain-le, gather, ren}
-use Rattle.operations.specs.Tree.{Slot, word, pairs, Starts, Kid, Entry}
+use Rattle.operations.specs.Tree.{Slot, word, pairs, Entry}
 use Rattle.operations.specs.Focus.{entry-rise, Path, top, frame, lo, hi, left, right, Ctx}
 use Rattle.operations.specs.Moves.{starts-le}
 

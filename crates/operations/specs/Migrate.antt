@@ -1,6 +1,6 @@
 -- "Migrate moves a node to a named server (search there as above), frees the old slot and changes the parent, or the metadata
 -- for the root. A free node, else one already there, is answered and not moved, and its path isn't read."
-use mathlib.Core.Bool.{Bool, true, false}
+use mathlib.Core.Bool.{Bool}
 use mathlib.Core.List.{List, [], _∷_, _++_}
 use Prim.Native.Nat.{ℕ, zero, suc}
 use native.Mathlib.Decide.{ℕ-discrete, decLt, decLe}
@@ -8,9 +8,9 @@ use lib.ListN.{length}
 use Rattle.base.specs.Test.{ifd, yes?}
 use Rattle.plans.specs.Plan as P
 use Rattle.nodes.specs.Name.{server-of, slot-of}
-use Rattle.operations.specs.Object.{Obj, meta, node, Ask, object, Val, root, body, taken, flags, no-tree, Writes}
-use Rattle.operations.specs.Entry.{Entries, mk, cut}
-use Rattle.operations.specs.Path.{Plan, when-root, Branch, Cont, down, at-root}
+use Rattle.operations.specs.Object.{meta, node, object, Val, root, body, taken, flags, no-tree, Writes}
+use Rattle.operations.specs.Entry.{mk, cut}
+use Rattle.operations.specs.Path.{Plan, when-root, Cont, down, at-root}
 use Rattle.operations.specs.Slot.{Sizes, take-on, take-node, release}
 
 -- the node n with the value v goes to a slot of the server s: the slot is taken, its node read, the old slot freed. Beside

@@ -1,26 +1,26 @@
 -- Migrate on a snapshot that holds a tree.
 use mathlib.Core.Path.{_≡_, refl, ap, sym, _∙_, subst}
-use mathlib.Core.Bool.{Bool, true, false, cond, true≢false, false≢true}
+use mathlib.Core.Bool.{true, false, true≢false}
 use mathlib.Core.List.{List, [], _∷_, _++_}
-use mathlib.Core.Logic.{_⊎_, inl, inr}
+use mathlib.Core.Logic.{inl, inr}
 use Prim.Native.Nat.{ℕ, zero, suc, _+_, _<_, _≤_}
 use native.Mathlib.Decide.{ℕ-discrete, decLt, decLe}
 use native.Mathlib.Omega.{arith}
 use lib.ListN.{length, length-append}
-use Rattle.base.specs.Test.{ifd, yes?, yes-of, of-yes}
+use Rattle.base.specs.Test.{ifd, yes-of, of-yes}
 use Rattle.plans.specs.Plan as P
 use Rattle.nodes.specs.Name.{server-of, slot-of}
-use Rattle.operations.specs.Object.{Obj, meta, node, flag, Ask, object, Val, root, body, taken, flags, free, keys-of, level-of, Why, not-free, no-tree, no-slot, Ans, Writes, over}
+use Rattle.operations.specs.Object.{Obj, meta, node, flag, object, Val, root, body, taken, flags, free, keys-of, level-of, Why, not-free, no-tree, no-slot, Ans, Writes, over}
 use Rattle.operations.specs.Map.{Map, H}
-use Rattle.operations.specs.Entry.{Entries, mk, mx, nxt, Cut, cut}
-use Rattle.operations.specs.Path.{Plan, kid, when-root, open-node, down, at-root}
+use Rattle.operations.specs.Entry.{Entries, mk, Cut, cut}
+use Rattle.operations.specs.Path.{Plan, kid, when-root, open-node, down}
 use Rattle.operations.specs.Slot.{Sizes, Allowed, take-node, release}
-use Rattle.operations.specs.Migrate.{moved, move-root, move-at, to-level, first-key, move-below, move-node, move-if, migrate-plan}
+use Rattle.operations.specs.Migrate.{moved, move-root, move-at, to-level, first-key, move-below, move-if, migrate-plan}
 use Rattle.operations.specs.Chain.{one, one-same, one-other, tally, tally-app, ren, ren-app, ren-length}
 use Rattle.operations.specs.Places.{cut-app, cut-le, cut-gt, ren-cut}
 use Rattle.operations.specs.Ensures.{Ok, if-ok, cond-ok, sel-same}
-use Rattle.operations.specs.Tree.{room, Slot, word, cnt, Entry, Mark}
-use Rattle.operations.specs.Focus.{Path, top, frame, nm, hi, around, floor, Focus, nil, Rep, mark-free}
+use Rattle.operations.specs.Tree.{Slot, word, cnt, Mark}
+use Rattle.operations.specs.Focus.{Path, top, frame, nm, hi, around, nil, Rep, mark-free}
 use Rattle.operations.specs.Moves.{set-node, take-slot as slot-taken, release as slot-freed, lift, rename, rename-root}
 use Rattle.operations.specs.Down.{branches, open-ok, kid-ok, Site, site-root, site-rising, site-down}
 use Rattle.operations.specs.Slots.{take-node-ok, release-ok, take-at-ok}

@@ -2,7 +2,7 @@
 use mathlib.Core.Path.{_≡_, refl, ap, sym, _∙_, subst}
 use mathlib.Core.Bool.{true, false, cond}
 use mathlib.Core.List.{List, [], _∷_, _++_, append-assoc, append-nil}
-use mathlib.Core.Logic.{_⊎_, inl, inr}
+use mathlib.Core.Logic.{inl, inr}
 use Prim.Native.Nat.{ℕ, zero, suc, _+_, _<_, _≤_}
 use native.Mathlib.Decide.{ℕ-discrete}
 use native.Mathlib.Omega.{arith}
@@ -13,8 +13,8 @@ use Rattle.operations.specs.Map.{Map, H, H-pos}
 use Rattle.operations.specs.Entry.{mk, mn, mx, nxt}
 use Rattle.operations.specs.Chain.{one, one-same, one-other, nxt-app, Chain, chain-app, chain-left, chain-right, chain-lt, chain-frame, tally, tally-app, gather, gather-app, ren, ren-app}
 use Rattle.operations.specs.Ensures.{sel-all, sel-other}
-use Rattle.operations.specs.Tree.{room, Slot, word, cnt, pairs, Starts, Kid, Entry, bottom, Mark}
-use Rattle.operations.specs.Focus.{entry-rise, entry-frame, Path, top, frame, nm, lo, hi, root-lev, root-nm, around, left, right, floor, Ctx, Stored, Above, Focus, nil, Rep, ctx-frame, stored-frame, above-frame, stored-above, mark-le, mark-num, mark-node, mark-free, apart}
+use Rattle.operations.specs.Tree.{room, Slot, word, cnt, pairs, Starts, Kid, Entry, Mark}
+use Rattle.operations.specs.Focus.{entry-rise, entry-frame, Path, top, frame, nm, hi, around, left, right, floor, Stored, Focus, nil, Rep, ctx-frame, above-frame, stored-above, mark-le, mark-num, mark-node, mark-free, apart}
 
 -- lists and bounds
 pub nxt-any : {A : Type 0} (es : List (ℕ × A)) (a b : ℕ) → 0 < length es → nxt es a ≡ nxt es b

@@ -1,5 +1,4 @@
 -- What operations read and write, why a plan fails, and a snapshot with some writes.
-use mathlib.Core.Path.{_≡_, refl}
 use mathlib.Core.Bool.{Bool, true, false, cond}
 use mathlib.Core.List.{List, [], _∷_}
 use Prim.Native.Nat.{ℕ}

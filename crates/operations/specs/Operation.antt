@@ -1,11 +1,11 @@
 -- The six operations as plans, with the last check before the answer.
-use mathlib.Core.Bool.{Bool, true, false, cond, _&&_}
+use mathlib.Core.Bool.{Bool, true, cond, _&&_}
 use mathlib.Core.List.{List, [], _∷_}
 use Prim.Native.Nat.{ℕ, _<_}
 use native.Mathlib.Decide.{decLt, decLe}
 use Rattle.base.specs.Test.{yes?}
 use Rattle.plans.specs.Plan as P
-use Rattle.operations.specs.Object.{Val, keys-of, level-of, Why, no-tree, Ans, Writes, value}
+use Rattle.operations.specs.Object.{Val, keys-of, level-of, no-tree, Ans, Writes, value}
 use Rattle.operations.specs.Map.{H, Op, insert, lookup, delete, next, previous, migrate}
 use Rattle.operations.specs.Path.{Plan}
 use Rattle.operations.specs.Slot.{Sizes}

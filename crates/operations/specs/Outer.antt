@@ -1,14 +1,14 @@
 -- A compared operation that answers has asked for a node that is not inner: the leaf.
-use mathlib.Core.Path.{_≡_, refl, ap, sym, _∙_, subst}
+use mathlib.Core.Path.{_≡_, refl, ap, _∙_}
 use mathlib.Core.Bool.{Bool, true, false, false≢true}
 use mathlib.Core.List.{List, [], _∷_}
-use Prim.Native.Nat.{ℕ, zero, suc, _<_}
+use Prim.Native.Nat.{ℕ, zero, suc}
 use native.Mathlib.Decide.{ℕ-discrete, decLe}
 use native.Mathlib.Omega.{arith}
 use lib.ListN.{length}
 use Rattle.base.specs.Test.{ifd, ifd-all}
 use Rattle.plans.specs.Plan as P
-use Rattle.operations.specs.Object.{Obj, meta, node, Ask, object, Val, root, body, taken, flags, no-tree, inner, inner-node, Ans, Writes}
+use Rattle.operations.specs.Object.{Obj, node, Ask, object, Val, root, body, taken, flags, no-tree, inner, inner-node, Ans, Writes}
 use Rattle.operations.specs.Map.{Op, insert, lookup, delete, next, previous, migrate, compared}
 use Rattle.operations.specs.Entry.{Entries, mn, cut}
 use Rattle.operations.specs.Path.{Plan, open-node, kid, when-root, Branch, Cont, to-leaf, down, at-root, from-root}

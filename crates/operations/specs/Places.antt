@@ -9,13 +9,13 @@ use Prim.Native.Nat.{ℕ, zero, suc, _+_, _<_, _≤_}
 use native.Mathlib.Decide.{ℕ-discrete, decLt, decLe}
 use native.Mathlib.Omega.{arith}
 use lib.Dec.{T, leb, le→leb, leb→le, not-T}
-use lib.ListN.{length, take, drop, set, getD, getElem?}
+use lib.ListN.{length, take, drop, getD, getElem?}
 use Rattle.base.specs.Test.{ifd, ifd-yes, ifd-no}
 use Rattle.nodes.specs.Place.{place, bit}
 use Rattle.nodes.specs.Vector.{or-else}
-use Rattle.operations.specs.Map.{Map, look, put, del, above, below}
+use Rattle.operations.specs.Map.{look, put, del, above, below}
 use Rattle.operations.specs.Entry.{Entries, keys, nxt, Cut, cut-at, cut, index-at, index, value-at, value-in, with-at, with-pair, without-at, next-in, under, before, previous-in}
-use Rattle.operations.specs.Chain.{Rising, rising-from, ren, ren-keys}
+use Rattle.operations.specs.Chain.{Rising, ren, ren-keys}
 
 -- COUNTS of keys
 counts : (b : Bool) (n : ℕ) → T b → bit b + n ≡ suc n

@@ -7,7 +7,7 @@ use Rattle.operations.specs.Object.{Obj, meta, node, Val, keys-of, level
 use Rattle.operations.specs.Map.{Map, H}
 use Rattle.operations.specs.Entry.{vals, zip, mk, nxt}
 use Rattle.operations.specs.Chain.{Chain, gather, ren}
-use Rattle.operations.specs.Tree.{Slot, word, pairs, Kid, Entry, Holds}
+use Rattle.operations.specs.Tree.{Slot, word, pairs, Entry, Holds}
 use Rattle.operations.specs.Maps.{leaf-pairs, leaf-words}
 use Rattle.operations.specs.Down.{zip-keys}
 use Rattle.operations.specs.Found.{level-mk}

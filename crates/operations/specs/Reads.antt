@@ -1,19 +1,19 @@
 -- Lookup, next and previous on a snapshot that holds a tree.
-use mathlib.Core.Path.{_≡_, refl, ap, sym, _∙_}
+use mathlib.Core.Path.{_≡_, ap, sym, _∙_}
 use mathlib.Core.List.{List, [], _∷_, _++_}
 use mathlib.Core.Option.{Option, none, some}
-use Prim.Native.Nat.{ℕ, zero, suc, _<_, _≤_}
+use Prim.Native.Nat.{ℕ, zero, suc, _<_}
 use Rattle.nodes.specs.Vector.{or-else}
 use Rattle.operations.specs.Object.{Obj, node, Val, Why, Ans, Writes}
 use Rattle.operations.specs.Map.{Map, look, above, below, said, H}
 use Rattle.operations.specs.Entry.{Entries, keys, nxt, value-in, next-in, previous-in}
-use Rattle.operations.specs.Path.{Plan, Branch}
+use Rattle.operations.specs.Path.{Plan}
 use Rattle.operations.specs.Look.{lookup-plan, told, Visit, rightward, leftward, seek, seek-up, next-plan, previous-plan}
 use Rattle.operations.specs.Chain.{Rising, chain-rising, Chain, gather, ren}
 use Rattle.operations.specs.Places.{look-is, above-is, below-is}
 use Rattle.operations.specs.Ensures.{Ok}
-use Rattle.operations.specs.Tree.{Slot, word, pairs, Kid, Entry}
-use Rattle.operations.specs.Focus.{entry-rise, Path, top, frame, nm, hi, left, right, Ctx, Rep, Ends}
+use Rattle.operations.specs.Tree.{Slot, word, pairs, Entry}
+use Rattle.operations.specs.Focus.{entry-rise, Path, top, frame, hi, left, right, Ctx, Rep, Ends}
 use Rattle.operations.specs.Maps.{leaf-pairs, leaf-words, look-mid, above-app, above-none, below-app, below-none, or-assoc}
 use Rattle.operations.specs.Down.{branches, kid-ok, Site, site-rising, site-left, site-right, site-map, root-ok}
 

@@ -1,26 +1,24 @@
 -- New entries of a node carried up to the root: splits, one entry moved over, merges, the root's growth and collapse.
 use mathlib.Core.Path.{_≡_, refl, ap, sym, _∙_, subst}
-use mathlib.Core.Bool.{Bool, true, false}
+use mathlib.Core.Bool.{false}
 use mathlib.Core.List.{List, [], _∷_, _++_, append-assoc}
 use mathlib.Core.Logic.{_⊎_, inl, inr}
-use mathlib.Core.Option.{Option, none, some}
-use Prim.Native.Nat.{ℕ, zero, suc, _+_, _-_, _<_, _≤_}
-use native.Mathlib.Decide.{ℕ-discrete, decLt, decLe}
+use mathlib.Core.Option.{some}
+use Prim.Native.Nat.{ℕ, zero, suc, _+_, _-_, _≤_}
+use native.Mathlib.Decide.{ℕ-discrete, decLt}
 use native.Mathlib.Omega.{arith}
 use lib.ListN.{length, take, drop, length-append, take-append-drop}
 use lib.Seq.{length-take-le}
-use Rattle.base.specs.Test.{ifd}
 use Rattle.plans.specs.Plan as P
-use Rattle.operations.specs.Object.{Obj, meta, node, flag, Val, taken, free, Why, no-tree, Ans, Writes, wr, over}
+use Rattle.operations.specs.Object.{Obj, node, flag, Val, taken, free, Why, no-tree, Ans, Writes, wr, over}
 use Rattle.operations.specs.Map.{Map}
-use Rattle.operations.specs.Entry.{Entries, mk, mn, mx, nxt}
-use Rattle.operations.specs.Path.{Plan, Branch, kid}
+use Rattle.operations.specs.Entry.{mk, mn, mx, nxt}
 use Rattle.operations.specs.Slot.{release}
 use Rattle.operations.specs.Change.{Go, parted, merged, with-right, with-left, unsnoc-step, unsnoc, left-of, neighbour}
-use Rattle.operations.specs.Chain.{one, one-same, one-other, nxt-app, Chain, chain-right, tally, tally-app, ren, ren-app, ren-length, ren-take, ren-drop, ren-nxt}
+use Rattle.operations.specs.Chain.{one, one-same, chain-right, tally, tally-app, ren, ren-app, ren-length, ren-take, ren-drop, ren-nxt}
 use Rattle.operations.specs.Ensures.{Ok, if-ok, sel-same, sel-other}
-use Rattle.operations.specs.Tree.{Slot, word, cnt, Starts, Kid, Entry, bottom, Mark}
-use Rattle.operations.specs.Focus.{Path, top, frame, nm, lo, hi, around, floor, Ctx, Stored, Above, Focus, nil, Rep, Ends, stored-frame, mark-le, apart}
+use Rattle.operations.specs.Tree.{Slot, word, cnt, Kid, Entry, bottom}
+use Rattle.operations.specs.Focus.{Path, top, frame, nm, hi, around, floor, Stored, Focus, nil, Rep, Ends, stored-frame, mark-le, apart}
 use Rattle.operations.specs.Moves.{set-node, release as slot-freed, lift, recut, widen-right, widen-left, shrink, close}
 use Rattle.operations.specs.Down.{branches, bottom-mn, bottom-floor, kid-ok}
 use Rattle.operations.specs.Slots.{release-ok}

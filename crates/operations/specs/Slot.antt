@@ -10,7 +10,7 @@ use Rattle.plans.specs.Plan as P
 use Rattle.nodes.specs.Name.{name, server-of, slot-of}
 use Rattle.nodes.specs.Placement.{row}
 use Rattle.nodes.specs.Vector.{first-free}
-use Rattle.operations.specs.Object.{Obj, meta, node, flag, Ask, object, vector, fetched, Val, root, body, taken, flags, free, flags-of, Why, not-free, no-slot, Writes}
+use Rattle.operations.specs.Object.{Obj, meta, node, flag, vector, fetched, Val, root, body, taken, flags, free, flags-of, not-free, no-slot, Writes}
 use Rattle.operations.specs.Path.{Plan, see}
 
 -- a store's sizes: servers, and slots on each

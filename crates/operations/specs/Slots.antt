@@ -1,21 +1,21 @@
 -- Slots taken and freed on a snapshot with a tree: whatever the vectors show, the name that a search chooses is below 8 times 1,024, and
 -- the slot is taken only if its flag is free.
-use mathlib.Core.Path.{_≡_, refl, sym, subst}
+use mathlib.Core.Path.{_≡_, sym, subst}
 use mathlib.Core.Bool.{Bool, true, false}
 use mathlib.Core.List.{List, [], _∷_}
-use mathlib.Core.Logic.{_⊎_, inl, inr}
+use mathlib.Core.Logic.{inl, inr}
 use mathlib.Core.Option.{Option, none, some}
-use Prim.Native.Nat.{ℕ, zero, suc, _+_, _-_, _<_, _≤_}
+use Prim.Native.Nat.{ℕ, zero, suc, _-_, _<_, _≤_}
 use native.Mathlib.Decide.{decLt}
 use native.Mathlib.Omega.{arith}
 use lib.ListN.{length, take, drop, length-drop}
-use Rattle.base.specs.Test.{ifd, ifd-all}
+use Rattle.base.specs.Test.{ifd-all}
 use Rattle.plans.specs.Plan as P
 use Rattle.plans.specs.Walk.{Every}
 use Rattle.nodes.specs.Name.{name, server-of, slot-of}
 use Rattle.nodes.specs.Placement.{row}
 use Rattle.nodes.specs.Vector.{shifted, lowest, or-else, first-free}
-use Rattle.operations.specs.Object.{Obj, node, flag, Ask, fetched, Val, taken, free, flags-of, Why, not-free, no-slot, Ans, Writes, over}
+use Rattle.operations.specs.Object.{Obj, node, flag, fetched, Val, taken, free, flags-of, Why, not-free, no-slot, Ans, Writes, over}
 use Rattle.operations.specs.Path.{Plan}
 use Rattle.operations.specs.Slot.{Sizes, Allowed, counted, free-slot, chosen, search, present, when-free-flag, take-flag, take-on, take-for, when-free-node, take-node, release}
 use Rattle.operations.specs.Ensures.{Ok, see-ok}

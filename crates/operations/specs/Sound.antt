@@ -1,13 +1,13 @@
 -- THE THEOREM: on a snapshot that holds a B-tree of a map, whatever the vectors say, an operation that answers gives the map's answer and
 -- leaves a B-tree of the map after it; and none finds that what was read can't be one tree.
-use mathlib.Core.Path.{_≡_, refl, ap, sym, _∙_, subst}
-use mathlib.Core.Bool.{Bool, true, false, true≢false, false≢true}
-use mathlib.Core.List.{List, [], _∷_}
-use mathlib.Core.Logic.{_⊎_, inl, inr}
-use Prim.Native.Nat.{ℕ, zero, suc, _+_, _<_, _≤_}
+use mathlib.Core.Path.{_≡_, refl, subst}
+use mathlib.Core.Bool.{true, false, false≢true}
+use mathlib.Core.List.{[]}
+use mathlib.Core.Logic.{inl, inr}
+use Prim.Native.Nat.{ℕ, zero, suc, _+_, _≤_}
 use native.Mathlib.Omega.{arith}
 use Rattle.plans.specs.Plan.{gives, fails, exec}
-use Rattle.operations.specs.Object.{Obj, meta, node, flag, Ask, Val, root, body, taken, free, Why, not-free, no-tree, no-slot, Ans, Writes, over}
+use Rattle.operations.specs.Object.{Obj, meta, node, flag, Ask, Val, root, taken, free, Why, not-free, no-tree, no-slot, Ans, Writes, over}
 use Rattle.operations.specs.Map.{Map, Op, insert, lookup, delete, next, previous, migrate, answer, compared, map-after}
 use Rattle.operations.specs.Entry.{mk}
 use Rattle.operations.specs.Slot.{Sizes, Allowed}
@@ -15,10 +15,10 @@ use Rattle.operations.specs.Operation.{reading, plan, Legal}
 use Rattle.operations.specs.Chain.{one, one-same, one-other}
 use Rattle.operations.specs.Ensures.{Ok, Says, ok-says, ok-mono, objects}
 use Rattle.operations.specs.Tree.{room, room-is, Mark, Holds}
-use Rattle.operations.specs.Focus.{Rep, Ends, rep-of, holds-of}
+use Rattle.operations.specs.Focus.{Rep, rep-of, holds-of}
 use Rattle.operations.specs.Reads.{lookup-ok, next-ok, previous-ok}
 use Rattle.operations.specs.Changes.{insert-ok, delete-ok}
-use Rattle.operations.specs.Moved.{Kept, migrate-ok}
+use Rattle.operations.specs.Moved.{migrate-ok}
 use Rattle.operations.specs.Checked.{checked-ok, all-fit-rep}
 
 module _ (sz : Sizes) (al : Allowed sz) where
