@@ -199,9 +199,6 @@ is-taken (root r) = false
 is-taken (body k l ks vs) = false
 is-taken (flags fs) = false
 
-pub taken-not : (f : Val) → f ≡ taken true → f ≡ taken false → ⊥
-taken-not f p q = true≢false (sym (ap is-taken p) ∙ ap is-taken q)
-
 pub mark-free : (f v : Val) (n : ℕ) → f ≡ taken false → Mark f v n → (n ≡ 0) × (v ≡ free)
 mark-free f v n e (inl h) = absurd (true≢false (sym (ap is-taken (h .1)) ∙ ap is-taken e))
 mark-free f v n e (inr h) = (h .0, h .2)
