@@ -2,7 +2,7 @@
 -- a free node) and then uses it again, for 7, where the version starts again from 0. What client true read passes its check, and it answers 1.
 use mathlib.Core.Path.{_≡_, refl, subst}
 use mathlib.Core.Bool.{Bool, true, false, cond}
-use mathlib.Core.List.{[], _∷_}
+use mathlib.Core.List.{List, [], _∷_}
 use Prim.Native.Nat.{ℕ, suc}
 use native.Mathlib.Decide.{ℕ-discrete}
 use native.Mathlib.Omega.{arith}
@@ -12,7 +12,7 @@ use Rattle.plans.specs.Plan.{exec, Asked}
 use Rattle.protocol.specs.Writes.{writes?, latest}
 use Rattle.protocol.specs.Lists.{all, any}
 use Rattle.protocol.specs.System.{decided, Entry}
-use Rattle.protocol.specs.Meaning.{map-of, map-all, Right, Right-all}
+use Rattle.protocol.specs.Meaning.{Shown, map-of, map-all, Right, Right-all}
 use Rattle.protocol.specs.Machine.{Machine, find, first-of, stored-at, begins, fetches, answers, commits, prepares, decides, applies, ends}
 use Rattle.protocol.specs.Machine.{Reached}
 use Rattle.protocol.specs.Claim.{claim}
@@ -33,10 +33,13 @@ reused = record { op = put false false 7; result = (0, (leaf false, 7) ∷ []) }
 abbrev looked : Entry tiny
 looked = record { op = look (leaf false); result = (1, []) }
 
+abbrev pub outcome : List (List (Shown tiny))
+outcome = one (look (leaf false)) 1 ∷ one (put false false 7) 0 ∷ one (put false false 0) 1 ∷ []
+
 abbrev Goes : Machine tiny → Type 0
 Goes = ReachedWith tiny Afresh
 
-mistaken : (m : Machine tiny) × Goes m × (m .log ≡ one (look (leaf false)) 1 ∷ one (put false false 7) 0 ∷ one (put false false 0) 1 ∷ [])
+mistaken : (m : Machine tiny) × Goes m × (m .log ≡ outcome)
 unfolding upd exec Asked writes? latest find all any first-of ℕ-discrete
 mistaken =
     let r1 : Goes _ = by-rule at-start (begins true refl) in
@@ -64,7 +67,7 @@ mistaken =
     (_, r22, refl)
 
 -- the last one should have answered 7
-wrong : Right-all tiny leaves (one (look (leaf false)) 1 ∷ one (put false false 7) 0 ∷ one (put false false 0) 1 ∷ []) → ⊥
+wrong : Right-all tiny leaves outcome → ⊥
 unfolding Right-all Right map-all map-of upd
 wrong h = absurd (one-seven (h .1 .1 refl))
   where
@@ -72,6 +75,5 @@ wrong h = absurd (one-seven (h .1 .1 refl))
     one-seven e = omega (arith, e)
 
 -- so it is no run by the rules
-pub needed : {m : Machine tiny} → Reached tiny m
-    → m .log ≡ one (look (leaf false)) 1 ∷ one (put false false 7) 0 ∷ one (put false false 0) 1 ∷ [] → ⊥
+pub needed : {m : Machine tiny} → Reached tiny m → m .log ≡ outcome → ⊥
 needed r e = wrong (subst (Right-all tiny leaves) e (claim tiny leaves r .answered))

@@ -9,8 +9,8 @@ use Rattle.protocol.specs.Changed.{upd-both}
 use Rattle.protocol.specs.Setting.{Setting}
 use Rattle.protocol.specs.System.{decided, after-commit, is-decided, Transaction, State, inner-before-after, applying, next-version, in-tables}
 use Rattle.protocol.specs.System.{after-apply, Parts}
-use Rattle.protocol.specs.Invariant.{Content, Course, Reads, Kept, OuterSince, Due, Pending, PendingInner, Newest, TableRight, Inv, still}
-use Rattle.protocol.specs.Invariant.{apart-upd}
+use Rattle.protocol.specs.Invariant.{Content, Course, Reads, Kept, OuterSince, Due, Pending, PendingInner, Newest, TableRight, Inv}
+use Rattle.protocol.specs.Put.{still, apart-upd}
 
 module _ (T : Setting) where
   open Setting T using (Obj, Server, Client, eqServer, eqClient, keeps)

@@ -11,7 +11,8 @@ use Rattle.protocol.specs.Setting.{Setting}
 use Rattle.protocol.specs.System.{committing, after-commit, is-decided, Transaction, State, inner-before-after, Holds, Checked, WriteLock}
 use Rattle.protocol.specs.System.{Apart, deciding, after-decision, Parts}
 use Rattle.protocol.specs.Replay.{Uncompared, Runs, Replays, snapshot}
-use Rattle.protocol.specs.Invariant.{Content, Course, Reads, Kept, Due, Pending, PendingInner, Newest, TableRight, Inv, still, apart-upd}
+use Rattle.protocol.specs.Invariant.{Content, Course, Reads, Kept, Due, Pending, PendingInner, Newest, TableRight, Inv}
+use Rattle.protocol.specs.Put.{still, apart-upd}
 use Rattle.protocol.specs.Locked.{locked-part, kept-locked, pending-holds}
 use Rattle.protocol.specs.History.{read-now, written-now, current-written, current-else, history-new, current-le, history-old, reads-step}
 use Rattle.protocol.specs.History.{snapshot-step, outer-step}

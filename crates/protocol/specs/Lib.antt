@@ -1,30 +1,70 @@
+-- The protocol: in every reachable state the decided transactions, run one after another in the order of decision, explain every compared
+-- answer and what the servers store. It knows clients, copies, versions, locks, prepares and applies, and nothing of trees or bytes.
+
+-- WHAT IS SAID
+-- what the protocol is told of a store and its operations
 pub mod Setting
-pub mod Lists
-pub mod Writes
+-- 01's transaction rules as a transition system: states, locks, steps
 pub mod System
+-- the theorem's statement: the decided transactions replayed, and the stores with the due writes counted in
 pub mod Replay
-pub mod Invariant
-pub mod Working
-pub mod Locked
-pub mod Prepare
-pub mod History
-pub mod Decide
-pub mod Changed
-pub mod Apply
+-- THE PROTOCOL'S THEOREM, from the steps below
 pub mod Safety
+-- the interface of the operations: their meaning on one snapshot, and demand 3 as a claim on what steps and outcomes show
 pub mod Meaning
+-- the machine for the schedule: decoded state without ghosts, and its moves, with computed tests only
 pub mod Machine
-pub mod Locks
-pub mod Items
-pub mod Ghosts
-pub mod Prepared
-pub mod Applied
+-- THE CLAIM on every state that the machine reaches
 pub mod Claim
+-- a work step, fetching or answering, as moves of the machine
 pub mod Work
+-- how a plan is shown to ask for an outer object, which Setting demands of the compared ones
 pub mod Outer
+-- EXAMPLES, by computation
+-- a store of two servers, a root and two leaves, with its meaning
 pub mod Example
+-- a run of two transactions, one of them with an apply still due
 pub mod Small
+-- why the answers of a transaction without participants are not compared
 pub mod Unchecked
+-- runs with moves that the rules do not have
 pub mod Variant
+-- the second trap: reads checked, but not locked until the decision
 pub mod Unlocked
+-- the third trap: a reused slot's version started afresh
 pub mod Afresh
+-- WHY THE PROTOCOL'S THEOREM HOLDS
+-- the invariant, part by part, with its reasons
+pub mod Invariant
+-- steps that change one client's transaction alone
+pub mod Put
+-- begin, read, answer, commit, stamp
+pub mod Working
+-- where writes are locked
+pub mod Locked
+-- prepare
+pub mod Prepare
+-- what a decision does to versions and histories
+pub mod History
+-- decision
+pub mod Decide
+-- apply
+pub mod Apply
+-- WHY THE CLAIM FOLLOWS
+-- the tests over lists of items
+pub mod Items
+-- the stored locks
+pub mod Locks
+-- the system's state from the machine's and ghosts; moves that change one slot
+pub mod Ghosts
+-- the prepare move
+pub mod Prepared
+-- the apply move
+pub mod Applied
+-- GENERAL LAWS
+-- tests of all and of any elements of a list
+pub mod Lists
+-- a list of writes over a value
+pub mod Writes
+-- functions changed at one place
+pub mod Changed

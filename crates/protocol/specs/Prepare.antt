@@ -9,7 +9,8 @@ use Rattle.base.specs.Test.{not-both}
 use Rattle.base.specs.Update.{upd-other}
 use Rattle.protocol.specs.Setting.{Setting}
 use Rattle.protocol.specs.System.{after-commit, is-decided, Transaction, State, Holds, Checked, ReadLock, Apart, preparing, put, CanPrepare}
-use Rattle.protocol.specs.Invariant.{OuterSince, Pending, Newest, TableRight, Inv, put-inv}
+use Rattle.protocol.specs.Invariant.{OuterSince, Pending, Newest, TableRight, Inv}
+use Rattle.protocol.specs.Put.{put-inv}
 use Rattle.protocol.specs.Working.{none-pending}
 use Rattle.protocol.specs.Locked.{pending-holds}
 

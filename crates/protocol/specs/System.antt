@@ -1,6 +1,5 @@
 -- The transaction rules of document 01 as a transition system over objects, servers and operations: the states, the locks and the steps.
--- Tables, versions, prepares and applies are 01's; `current`, `history` and `log` are ghosts, which no step's rule reads but that of `read`,
--- where they say what an object once was.
+-- `current`, `history` and `log` are ghosts. Only the rules of `read` and `stamp` look at them: they say what an object once was.
 use mathlib.Core.Path.{_≡_}
 use mathlib.Core.Bool.{Bool, true, false, cond, _||_}
 use mathlib.Core.List.{List, [], _∷_}

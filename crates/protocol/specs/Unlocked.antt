@@ -2,7 +2,7 @@
 -- true looks at leaf true and writes leaf false. Both pass all checks, and both answer 1: no order of the two explains that.
 use mathlib.Core.Path.{_≡_, refl, subst}
 use mathlib.Core.Bool.{Bool, true, false}
-use mathlib.Core.List.{[], _∷_}
+use mathlib.Core.List.{List, [], _∷_}
 use Prim.Native.Nat.{ℕ}
 use native.Mathlib.Decide.{ℕ-discrete}
 use native.Mathlib.Omega.{arith}
@@ -11,7 +11,7 @@ use Rattle.plans.specs.Plan.{exec, Asked}
 use Rattle.protocol.specs.Writes.{writes?, latest}
 use Rattle.protocol.specs.Lists.{all, any}
 use Rattle.protocol.specs.System.{committing, Entry}
-use Rattle.protocol.specs.Meaning.{map-of, map-all, Right, Right-all}
+use Rattle.protocol.specs.Meaning.{Shown, map-of, map-all, Right, Right-all}
 use Rattle.protocol.specs.Machine.{Machine, find, first-of, check, to-write, to-read, grants, granted-row, prepared-slot, turned, begins}
 use Rattle.protocol.specs.Machine.{fetches, answers, commits, decides, Reached}
 use Rattle.protocol.specs.Claim.{claim}
@@ -29,10 +29,13 @@ data Loose (m : Machine tiny) : Machine tiny → Type 0 where
 abbrev crossed : Bool → Bool → Entry tiny
 crossed a b = record { op = put a b 7; result = (1, (leaf b, 7) ∷ []) }
 
+abbrev pub outcome : List (List (Shown tiny))
+outcome = one (put true false 7) 1 ∷ one (put false true 7) 1 ∷ []
+
 abbrev Goes : Machine tiny → Type 0
 Goes = ReachedWith tiny Loose
 
-skewed : (m : Machine tiny) × Goes m × (m .log ≡ one (put true false 7) 1 ∷ one (put false true 7) 1 ∷ [])
+skewed : (m : Machine tiny) × Goes m × (m .log ≡ outcome)
 unfolding upd exec Asked writes? latest find all any first-of ℕ-discrete
 skewed =
     let r1 : Goes _ = by-rule at-start (begins false refl) in
@@ -54,7 +57,7 @@ skewed =
     (_, r16, refl)
 
 -- the second of the two should have answered 7
-wrong : Right-all tiny leaves (one (put true false 7) 1 ∷ one (put false true 7) 1 ∷ []) → ⊥
+wrong : Right-all tiny leaves outcome → ⊥
 unfolding Right-all Right map-all map-of upd
 wrong h = absurd (one-seven (h .1 .1 refl))
   where
@@ -62,5 +65,5 @@ wrong h = absurd (one-seven (h .1 .1 refl))
     one-seven e = omega (arith, e)
 
 -- so it is no run by the rules
-pub needed : {m : Machine tiny} → Reached tiny m → m .log ≡ one (put true false 7) 1 ∷ one (put false true 7) 1 ∷ [] → ⊥
+pub needed : {m : Machine tiny} → Reached tiny m → m .log ≡ outcome → ⊥
 needed r e = wrong (subst (Right-all tiny leaves) e (claim tiny leaves r .answered))

@@ -13,7 +13,8 @@ use Rattle.protocol.specs.Writes.{writes?, latest, latest-cond}
 use Rattle.protocol.specs.System.{Phase, opened, committing, after-commit, is-decided, Entry, Transaction, State, view, Checked, fresh, reading}
 use Rattle.protocol.specs.System.{answering, stamping, with-parts, put, Parts, Stamp}
 use Rattle.protocol.specs.Replay.{effect, Answers, Uncompared}
-use Rattle.protocol.specs.Invariant.{Content, Course, Reads, Pending, Inv, put-inv}
+use Rattle.protocol.specs.Invariant.{Content, Course, Reads, Pending, Inv}
+use Rattle.protocol.specs.Put.{put-inv}
 
 module _ (T : Setting) where
   open Setting T using (Obj, Server, Client, Val, eqObj, inner, by-value-outer, plan, writes, public, compared, asks-outer)
