@@ -5,20 +5,18 @@
 -- current (`stored`, `newest`, `tables`), and what passes its checks is current; its locks keep it so (`apart`, `kept`). When all participants
 -- have prepared, everything read is current at one moment, the decision: there the newest snapshot agrees with what was read, the trace runs
 -- on it, and the log grows by one (`replay`). The writes are then pending at the servers that lock them, and each apply settles one (`due`).
-use mathlib.Core.Path.{_≡_, sym, subst}
+use mathlib.Core.Path.{_≡_}
 use mathlib.Core.Bool.{Bool, true, false, cond}
 use mathlib.Core.List.{List}
-use mathlib.Core.Logic.{_⊎_, inl, inr}
+use mathlib.Core.Logic.{_⊎_}
 use Prim.Native.Nat.{ℕ, suc, _≤_, _<_}
-use Rattle.base.specs.Test.{not-both}
-use Rattle.base.specs.Update.{upd, upd-other, upd-all}
 use Rattle.protocol.specs.Setting.{Setting}
 use Rattle.protocol.specs.System.{Phase, after-commit, is-decided, Entry, Transaction, State, inner-before-after, Holds, Checked, LockedAt}
-use Rattle.protocol.specs.System.{Apart, put, Parts}
+use Rattle.protocol.specs.System.{Apart, Parts}
 use Rattle.protocol.specs.Replay.{effect, Answers, Uncompared, Replays}
 
 module _ (T : Setting) where
-  open Setting T using (Obj, Server, Client, Val, eqClient, keeps, inner)
+  open Setting T using (Obj, Server, Client, Val, keeps, inner)
 
   -- Of a transaction's sets and its trace. The steps `read` and `answer` build it up; the decision needs it.
   pub record Contents (read written : Obj → Bool) (value-read value-written : Obj → Val) (trace : List (Entry T)) : Type 0 where

@@ -20,6 +20,8 @@ pub mod Claim
 pub mod Work
 -- how a plan is shown to ask for an outer object, which Setting demands of the compared ones
 pub mod Outer
+-- operations with hints: a walk that asks for vectors too, carried over to the hinted plan
+pub mod Hints
 -- EXAMPLES, by computation
 -- a store of two servers, a root and two leaves, with its meaning
 pub mod Example

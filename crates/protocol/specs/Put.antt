@@ -1,7 +1,7 @@
 -- Where one client's transaction is replaced: the law of the steps that change nothing else.
 use mathlib.Core.Path.{_≡_, sym, subst}
 use mathlib.Core.Bool.{true, false}
-use mathlib.Core.Logic.{_⊎_, inl, inr}
+use mathlib.Core.Logic.{inl, inr}
 use Rattle.base.specs.Test.{not-both}
 use Rattle.base.specs.Update.{upd, upd-other, upd-all}
 use Rattle.protocol.specs.Setting.{Setting}

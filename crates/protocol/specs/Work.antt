@@ -1,13 +1,13 @@
 -- A work step as moves of the machine: the plan is walked over items and copies, the copies used become items, and then the object lacking
 -- is fetched or the operation is answered.
 use mathlib.Core.Path.{_≡_, refl, ap, sym, _∙_, subst, fun-ext}
-use mathlib.Core.Bool.{Bool, true, false, cond, true≢false}
+use mathlib.Core.Bool.{Bool, true, false, cond}
 use mathlib.Core.List.{List, [], _∷_}
 use mathlib.Core.Option.{Option, none, some, Option·none-ne-some, Option·some-ne-none}
 use Prim.Native.Nat.{ℕ}
 use Rattle.base.specs.Update.{upd, upd-same}
-use Rattle.plans.specs.Plan.{Plan, ask, done, fail, gives, exec, Asked}
-use Rattle.plans.specs.Walk.{Met, lacks, ends, Every, Shows, walk, used, walk-has, walk-lacks, used-had, walk-exec, walk-asked}
+use Rattle.plans.specs.Plan.{gives, exec, Asked}
+use Rattle.plans.specs.Walk.{ends, Every, Shows, walk, used, used-had, walk-exec, walk-asked}
 use Rattle.protocol.specs.Changed.{upd-none, upd-twice}
 use Rattle.protocol.specs.Setting.{Setting}
 use Rattle.protocol.specs.Lists.{all}
@@ -21,26 +21,6 @@ every-map : {A : Type 0} (P R : A → Type 0) → ((a : A) → P a → R a) → 
 unfolding Every
 every-map P R f [] h = tt
 every-map P R f (a ∷ l) h = (f a (h .0), every-map P R f l (h .1))
-
--- an object that a walk lacks is not at hand
-module _ {Obj Res Why : Type 0} where
-  missing : Obj → Met Obj Res Why → Obj
-  missing d (lacks o) = o
-  missing d (ends e) = d
-
-  is-end : Met Obj Res Why → Bool
-  is-end (lacks o) = false
-  is-end (ends e) = true
-
-walk-lacking : {Obj Val Res Why : Type 0} (p : Plan Obj Val Res Why) (have : Obj → Option Val) (o : Obj) → walk p have ≡ lacks o → have o ≡ none
-unfolding walk missing is-end
-walk-lacking {Val = Val} (ask q k) have o w = go (have q) refl (λ v. walk-lacking (k v) have o)
-  where
-    go : (z : Option Val) → have q ≡ z → ((v : Val) → walk (k v) have ≡ lacks o → have o ≡ none) → have o ≡ none
-    go none e rec = subst (λ q. have q ≡ none) (ap (missing q) (sym (walk-lacks q k have e) ∙ w)) e
-    go (some v) e rec = rec v (sym (walk-has q k have v e) ∙ w)
-walk-lacking (done r) have o w = absurd (true≢false (ap is-end w))
-walk-lacking (fail y) have o w = absurd (true≢false (ap is-end w))
 
 module _ (T : Setting) where
   open Setting T using (Obj, Server, Client, Val, Op, Res, eqObj, eqClient, keeps, init, plan, writes)
@@ -167,7 +147,6 @@ module _ (T : Setting) where
     enter-reached is o none (some k) hp e q r =
         subst (λ n. Reached T n) (grown is o (k .value) (k .version)) (moved r (uses-copy c o k (is-open is hp) (no-item is o e) q))
 
-    -- COPIES USED: they become items
     absorb-reached : (os : List Obj) (is : List (Item T)) → m .slots c .phase ≡ opened → Reached T (having is)
         → Reached T (having (absorb (m .copy c) os is))
     unfolding absorb
@@ -175,43 +154,32 @@ module _ (T : Setting) where
     absorb-reached (o ∷ os) is hp r =
         absorb-reached os (enter is o (find T is o) (m .copy c o)) hp (enter-reached is o (find T is o) (m .copy c o) hp refl refl r)
 
-    -- the items after those copies have entered that a walk of p uses
-    abbrev pub items-used : Op → List (Item T)
-    items-used p = absorb (m .copy c) (used (plan p) (have (m .copy c) (m .slots c .items))) (m .slots c .items)
-
-    pub used-reached : (p : Op) → Reached T m → m .slots c .phase ≡ opened → Reached T (having (items-used p))
-    used-reached p r hp = absorb-reached (used (plan p) (have (m .copy c) (y .items))) (y .items) hp (subst (λ n. Reached T n) self r)
+    -- COPIES USED: the objects os are read from the copies, those that are there and not in the sets
+    pub copies-enter : (os : List Obj) → Reached T m → m .slots c .phase ≡ opened → Reached T (having (absorb (m .copy c) os (m .slots c .items)))
+    copies-enter os r hp = absorb-reached os (y .items) hp (subst (λ n. Reached T n) self r)
       where
         self : m ≡ having (y .items)
-        self j = record {
-          slots = λ d. sym (upd-none eqClient (m .slots) c y refl d) j;
-          value = m .value;
-          version = m .version;
-          table = m .table;
-          lock = m .lock;
-          copy = m .copy;
-          said = m .said;
-          log = m .log;
-        }
+        self j = turned T m (λ d. sym (upd-none eqClient (m .slots) c y refl d) j) (m .lock) (m .said) (m .log)
 
-    -- WORK THAT FETCHES "the first one lacking and does no more"
-    pub work-fetches : (p : Op) (s : Server) (o : Obj) → Reached T m → m .slots c .phase ≡ opened
-        → walk (plan p) (have (m .copy c) (m .slots c .items)) ≡ lacks o → keeps s o ≡ true
-        → Reached T (having (item T o (m .value s o) (m .version s o) ∷ items-used p))
-    work-fetches p s o r hp w k =
+    -- WORK THAT FETCHES "the first one lacking and does no more": o, which is not at hand, after os were used
+    pub work-fetches : (os : List Obj) (s : Server) (o : Obj) → Reached T m → m .slots c .phase ≡ opened
+        → have (m .copy c) (m .slots c .items) o ≡ none → keeps s o ≡ true
+        → Reached T (having (item T o (m .value s o) (m .version s o) ∷ absorb (m .copy c) os (m .slots c .items)))
+    work-fetches os s o r hp w k =
         subst (λ n. Reached T n) (grown is o (m .value s o) (m .version s o))
-        (moved (used-reached p r hp) (fetches c s o (is-open is hp) (no-item is o (lacking (find T is o) refl)) k))
+        (moved (copies-enter os r hp) (fetches c s o (is-open is hp) (no-item is o (lacking (find T is o) refl)) k))
       where
         is : List (Item T)
-        is = items-used p
-
-        gone : have (m .copy c) is o ≡ none
-        gone = have-absorb (m .copy c) (used (plan p) (have (m .copy c) (y .items))) (y .items) o
-            ∙ walk-lacking (plan p) (have (m .copy c) (y .items)) o w
+        is = absorb (m .copy c) os (y .items)
 
         lacking : (z : Option (Item T)) → find T is o ≡ z → find T is o ≡ none
         lacking none q = q
-        lacking (some i) q = absurd (Option·some-ne-none _ (sym (ap (λ z. at-hand z (m .copy c o)) q) ∙ gone))
+        lacking (some i) q =
+            absurd (Option·some-ne-none _ (sym (ap (λ z. at-hand z (m .copy c o)) q) ∙ have-absorb (m .copy c) os (y .items) o ∙ w))
+
+    -- the items after a walk of p, whose copies have entered
+    abbrev pub items-used : Op → List (Item T)
+    items-used p = absorb (m .copy c) (used (plan p) (have (m .copy c) (m .slots c .items))) (m .slots c .items)
 
     -- WORK THAT ANSWERS: the writes enter, and the answer is said
     pub work-answers : (p : Op) (res : Res) → Reached T m → m .slots c .phase ≡ opened
@@ -220,7 +188,7 @@ module _ (T : Setting) where
         → Reached T (turned T m (upd eqClient (m .slots) c (answered-slot T (with-items T (m .slots c) (items-used p)) (writes res))) (m .lock)
         (upd eqClient (m .said) c (shown-of T (record { op = p; result = res }) ∷ m .said c)) (m .log))
     work-answers p res r hp walked within =
-        subst (λ n. Reached T n) path (moved (used-reached p r hp) (answers c e (is-open is hp) asked ran within′))
+        subst (λ n. Reached T n) path (moved (copies-enter os r hp) (answers c e (is-open is hp) asked ran within′))
       where
         e : Entry T
         e = record { op = p; result = res }

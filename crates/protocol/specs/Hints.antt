@@ -1,0 +1,81 @@
+-- An operation of the protocol is a public one with its hint: what the client saw of the vectors, which are no objects and are not checked.
+-- A plan that asks for vectors too, walked over all that is at hand, comes to the same as the hinted plan walked over the objects alone.
+use mathlib.Core.Path.{_≡_, refl, ap, sym, _∙_, subst}
+use mathlib.Core.Bool.{Bool, true, false, _||_, not}
+use mathlib.Core.List.{List, [], _∷_}
+use mathlib.Core.Logic.{_⊎_, inl, inr}
+use mathlib.Core.Option.{Option, some}
+use Rattle.plans.specs.Plan.{Plan, ask, done, fail, Out, hinted}
+use Rattle.plans.specs.Walk.{Met, lacks, ends, walk, used, walk-has, used-has, walk-met}
+use Rattle.protocol.specs.Outer.{SeesOuter}
+
+-- a value at hand is what the hint says, or what is at hand of the object that the question is passed on to
+abbrev pub Fits : {Rest Val : Type 0} → (Rest → Option Val) → Val ⊎ Rest → Val → Type 0
+Fits rest (inl u) v = u ≡ v
+Fits rest (inr r) v = rest r ≡ some v
+
+-- the objects among what was asked for
+unfoldable pub objects : {Obj Rest Val : Type 0} → (Obj → Val ⊎ Rest) → List Obj → List Rest
+objects hint [] = []
+objects hint (o ∷ os) = elim (hint o) [ inl u ↦ objects hint os | inr r ↦ r ∷ objects hint os ]
+
+-- the outcome of a walk that ends
+came-to : {Obj Res Why : Type 0} → Out Res Why → Met Obj Res Why → Out Res Why
+came-to d (lacks o) = d
+came-to d (ends e) = e
+
+module _ {Obj Rest Val Res Why : Type 0} (hint : Obj → Val ⊎ Rest) where
+  told : (o : Obj) (k : Val → Plan Obj Val Res Why) (u : Val) → hint o ≡ inl u → hinted hint (ask o k) ≡ hinted hint (k u)
+  unfolding hinted
+  told o k u q = rw (q, hinted)
+
+  passed-on : (o : Obj) (k : Val → Plan Obj Val Res Why) (r : Rest) → hint o ≡ inr r → hinted hint (ask o k) ≡ ask r (λ v. hinted hint (k v))
+  unfolding hinted
+  passed-on o k r q = rw (q, hinted)
+
+  -- the walk that ends is the hinted plan's, and what that one uses are the objects used
+  pub walk-hinted : (have : Obj → Option Val) (rest : Rest → Option Val) → ((o : Obj) (v : Val) → have o ≡ some v → Fits rest (hint o) v)
+      → (p : Plan Obj Val Res Why) (e : Out Res Why)
+      → walk p have ≡ ends e → (walk (hinted hint p) rest ≡ ends e) × (used (hinted hint p) rest ≡ objects hint (used p have))
+  unfolding walk used hinted objects came-to
+  walk-hinted have rest fits (ask o k) e w =
+      let t = walk-met o k have e w in go (hint o) refl (t .0) (t .1) (walk-hinted have rest fits (k (t .0)) e (t .2))
+    where
+      Same : Plan Rest Val Res Why → List Obj → Type 0
+      Same p os = (walk p rest ≡ ends e) × (used p rest ≡ objects hint os)
+
+      go : (z : Val ⊎ Rest) → hint o ≡ z → (v : Val) → have o ≡ some v → Same (hinted hint (k v)) (used (k v) have)
+          → Same (hinted hint (ask o k)) (used (ask o k) have)
+      go (inl u) q v h s =
+          let here : u ≡ v = subst (λ z. Fits rest z v) q (fits o v h) in
+          subst (λ p. Same p (used (ask o k) have)) (sym (told o k u q ∙ ap (λ v. hinted hint (k v)) here))
+          (s .0, s .1 ∙ sym (ap (objects hint) (used-has o k have v h) ∙ rw (q, objects)))
+      go (inr r) q v h s =
+          let here : rest r ≡ some v = subst (λ z. Fits rest z v) q (fits o v h) in
+          subst (λ p. Same p (used (ask o k) have)) (sym (passed-on o k r q)) (
+            walk-has r (λ v. hinted hint (k v)) rest v here ∙ s .0,
+            used-has r (λ v. hinted hint (k v)) rest v here ∙ ap (λ l. r ∷ l) (s .1)
+                ∙ sym (ap (objects hint) (used-has o k have v h) ∙ rw (q, objects)),
+          )
+  walk-hinted have rest fits (done r) e w = (ap ends (ap (came-to e) w), refl)
+  walk-hinted have rest fits (fail y) e w = (ap ends (ap (came-to e) w), refl)
+
+  -- where vectors do not count as outer, the hinted plan asks for an outer object if the plan does
+  pub sees-hinted : (inner : Obj → Val → Bool) (inner-rest : Rest → Val → Bool) → ((o : Obj) (u : Val) → hint o ≡ inl u → (v : Val) → inner o v ≡ true)
+      → ((o : Obj) (r : Rest) → hint o ≡ inr r → (v : Val) → inner-rest r v ≡ inner o v)
+      → (p : Plan Obj Val Res Why) (b : Bool) → SeesOuter inner p b → SeesOuter inner-rest (hinted hint p) b
+  unfolding SeesOuter hinted
+  sees-hinted inner inner-rest vectors same (ask o k) b h = go (hint o) refl (λ v c. sees-hinted inner inner-rest vectors same (k v) c)
+    where
+      go : (z : Val ⊎ Rest) → hint o ≡ z
+          → ((v : Val) (c : Bool) → SeesOuter inner (k v) c → SeesOuter inner-rest (hinted hint (k v)) c)
+          → SeesOuter inner-rest (hinted hint (ask o k)) b
+      go (inl u) q rec = subst (λ p. SeesOuter inner-rest p b) (sym (told o k u q)) (rec u b (subst (SeesOuter inner (k u)) (unseen b) (h u)))
+        where
+          unseen : (b : Bool) → (b || not (inner o u)) ≡ b
+          unseen true = refl
+          unseen false = rw (vectors o u q u) refl
+      go (inr r) q rec = subst (λ p. SeesOuter inner-rest p b) (sym (passed-on o k r q))
+          (λ v. subst (λ i. SeesOuter inner-rest (hinted hint (k v)) (b || not i)) (sym (same o r q v)) (rec v (b || not (inner o v)) (h v)))
+  sees-hinted inner inner-rest vectors same (done r) b h = h
+  sees-hinted inner inner-rest vectors same (fail y) b h = tt
