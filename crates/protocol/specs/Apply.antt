@@ -7,7 +7,7 @@ use Rattle.base.specs.Test.{bool-cases, not-both}
 use Rattle.base.specs.Update.{upd-other, upd-all}
 use Rattle.protocol.specs.Changed.{upd-both}
 use Rattle.protocol.specs.Setting.{Setting}
-use Rattle.protocol.specs.System.{decided, after-commit, is-decided, Transaction, State, inner-before-after, applying, next-version, in-tables}
+use Rattle.protocol.specs.System.{decided, after-commit, is-decided, Transaction, State, applying, next-version, in-tables}
 use Rattle.protocol.specs.System.{after-apply, Parts}
 use Rattle.protocol.specs.Invariant.{Content, Course, Reads, Kept, OuterSince, Due, Pending, PendingInner, Newest, TableRight, Inv}
 use Rattle.protocol.specs.Put.{still, apart-upd}
@@ -40,13 +40,15 @@ module _ (T : Setting) where
         go (no ne) = sym (upd-other eqServer (x .applied) s true t ne) ∙ h
 
     -- at another server what is pending stays pending
+    own-else : (t : Server) → ¬ (t ≡ s) → (o : Obj) → Pending T x t o → Pending T x′ t o
+    own-else t ne o p = (p .0, upd-other eqServer (x .applied) s true t ne ∙ p .1, p .2, p .3)
+
     pending-else : (t : Server) → ¬ (t ≡ s) → (o : Obj) (d : Client) → Pending T (σ .clients d) t o → Pending T (τ .clients d) t o
-    pending-else t ne o = upd-all eqClient (σ .clients) c x′ (λ d y. Pending T (σ .clients d) t o → Pending T y t o)
-        (λ p. (p .0, upd-other eqServer (x .applied) s true t ne ∙ p .1, p .2, p .3)) (λ d _ p. p)
+    pending-else t ne o = upd-all eqClient (σ .clients) c x′ (λ d y. Pending T (σ .clients d) t o → Pending T y t o) (own-else t ne o) (λ d _ p. p)
 
     inner-else : (t : Server) → ¬ (t ≡ s) → (o : Obj) (d : Client) → PendingInner T (σ .clients d) t o → PendingInner T (τ .clients d) t o
-    inner-else t ne o d p =
-        (pending-else t ne o d (p .0), upd-all eqClient (σ .clients) c x′ (λ d y. inner-before-after T (σ .clients d) o ≡ true → inner-before-after T y o ≡ true) (λ b. b) (λ d _ b. b) d (p .1))
+    inner-else t ne o = upd-all eqClient (σ .clients) c x′ (λ d y. PendingInner T (σ .clients d) t o → PendingInner T y t o)
+        (λ p. (own-else t ne o (p .0), p .1)) (λ d _ p. p)
 
     -- what is stored at s is now the decided write, which is in the history
     stored-step : (t : Server) (o : Obj) → keeps t o ≡ true → (τ .value t o ≡ σ .history o (τ .version t o)) × (τ .version t o ≤ σ .current o)

@@ -21,18 +21,18 @@ use Rattle.protocol.specs.History.{history-old, current-le}
 use Rattle.protocol.specs.Safety.{reach-inv, safety}
 use Rattle.protocol.specs.Meaning.{Meaning, Shown, shown-of, show, show-all, map-all, Right-all, log-right}
 use Rattle.protocol.specs.Machine.{Item, find, says, Slot, Copy, Lock, Machine, blank, first-machine, with-item, seen, answered-slot, check}
-use Rattle.protocol.specs.Machine.{to-write, to-read, grants, granted-row, prepared-slot, decided-slot, applied-slot, applied-at, turned}
+use Rattle.protocol.specs.Machine.{to-write, to-read, grants, granted-at, prepared-slot, decided-slot, applied-slot, applied-at, turned}
 use Rattle.protocol.specs.Machine.{with-slot, cleared, with-copies, Copied, as-before, dropped, fetched, renewed, Move, begins, uses-copy}
 use Rattle.protocol.specs.Machine.{fetches, answers, commits, prepares, decides, applies, ends, aborts, copies, Reached, at-first, moved}
 use Rattle.protocol.specs.Items.{each-part}
 use Rattle.protocol.specs.Locks.{Recorded, calm-recorded, drop-recorded, decide-recorded, apply-recorded}
 use Rattle.protocol.specs.Ghosts.{Own, Ghost, nothing, transaction-of, state-of, put-own, clients-put, stamped, begin-reach, abort-reach}
 use Rattle.protocol.specs.Ghosts.{end-reach, read-reach, answer-reach, commit-reach, decided-ghost, decide-reach}
-use Rattle.protocol.specs.Prepared.{stamped-ghost, prepare-reach, locks-recorded}
+use Rattle.protocol.specs.Prepared.{stamped-ghost, prepared-ghost, prepare-reach, locks-recorded}
 use Rattle.protocol.specs.Applied.{applied-ghost, apply-reach}
 
 module _ (T : Setting) where
-  open Setting T using (Obj, Server, Client, Val, eqObj, eqServer, eqClient, keeps, by-value, init, plan, writes)
+  open Setting T using (Obj, Server, Client, Val, eqObj, eqClient, keeps, by-value, init, plan, writes)
 
   -- a copy is something that the object once was
   pub record Legal (current : Obj → ℕ) (history : Obj → ℕ → Val) (o : Obj) (k : Copy T) : Type 0 where
@@ -165,10 +165,9 @@ module _ (T : Setting) where
     prepare-good : (s : Server) → m .slots c .phase ≡ committing → m .slots c .prepared s ≡ false
         → all (check T m (m .slots c .lowest) s) (m .slots c .items) ≡ true
         → all (λ i. grants T c (to-write T s i) (to-read T (m .slots c .lowest) s i) (m .lock s (i .obj))) (m .slots c .items) ≡ true
-        → Good (turned T m (upd eqClient (m .slots) c (prepared-slot T (m .slots c) s))
-        (upd eqServer (m .lock) s (granted-row T c (to-write T s) (to-read T (m .slots c .lowest) s) (m .slots c .items) (m .lock s))) (m .said) (m .log))
+        → Good (turned T m (upd eqClient (m .slots) c (prepared-slot T (m .slots c) s)) (granted-at T m c s) (m .said) (m .log))
     prepare-good s hp new pass granted = record {
-      ghost = put-own T g1 c (g1 .own c);
+      ghost = prepared-ghost T g c s;
       reach = prepare-reach T m g c (G .reach) s hp new pass (G .recorded) granted;
       recorded = locks-recorded T m g c (G .reach) s hp new pass (G .recorded) granted;
       legal = G .legal;

@@ -14,7 +14,7 @@ use Rattle.protocol.specs.Setting.{Setting}
 use Rattle.protocol.specs.Writes.{writes?, latest, latest-unwritten, latest-cond}
 use Rattle.protocol.specs.System.{Phase, idle, opened, committing, decided, is-decided, Entry, Transaction, Decided, State, view, fresh}
 use Rattle.protocol.specs.System.{reading, answering, put, after-decision, begin, read, answer, commit, decide, end, abort, Reach, after}
-use Rattle.protocol.specs.Machine.{Item, find, says, Slot, Machine, blank, item, with-item, wrote, answered-slot, participants, first-of}
+use Rattle.protocol.specs.Machine.{Item, find, says, test, Slot, Machine, blank, item, with-item, wrote, answered-slot, participants, first-of}
 use Rattle.protocol.specs.Machine.{committed-slot, decided-slot, with-slot}
 use Rattle.protocol.specs.Items.{find-item, participants-right}
 
@@ -43,10 +43,10 @@ module _ (T : Setting) where
   abbrev pub transaction-of : Slot T → Own → Transaction T
   transaction-of y u = record {
     phase = y .phase;
-    read = λ o. says T (λ i. true) false (find T (y .items) o);
+    read = test T (λ i. true) (y .items);
     value-read = λ o. says T (λ i. i .old) (init o) (find T (y .items) o);
     version-read = λ o. item-version u o (find T (y .items) o);
-    written = λ o. says T (λ i. i .written) false (find T (y .items) o);
+    written = test T (λ i. i .written) (y .items);
     value-written = λ o. says T (λ i. cond (i .written) (i .new) (init o)) (init o) (find T (y .items) o);
     trace = u .trace;
     participant = y .participant;

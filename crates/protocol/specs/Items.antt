@@ -9,7 +9,8 @@ use Rattle.base.specs.Test.{bool-cases, not-both, cond-true, or-left, or-right,
 use Rattle.protocol.specs.Setting.{Setting, Among}
 use Rattle.protocol.specs.Lists.{all, any, all-among, any-among}
 use Rattle.protocol.specs.System.{inner-before-after, Checked, ReadLock, LockedAt, WriteLock, Parts}
-use Rattle.protocol.specs.Machine.{Item, find, says, Slot, Lock, shared, owned, Machine, seen, item-inner, for-all, for-home, participants}
+use Rattle.protocol.specs.Machine.{Item, find, says, test, Slot, Lock, shared, owned, Machine, seen, item-inner, for-all, for-home}
+use Rattle.protocol.specs.Machine.{participants}
 use Rattle.protocol.specs.Machine.{first-of, all-parts, check, to-write, to-read, grants}
 
 module _ (T : Setting) where
@@ -28,7 +29,7 @@ module _ (T : Setting) where
       go (no n) q rec = let r = rec (rw (q, find) at e) in (inr (r .0), r .1)
 
   -- what a test that fails without an item says: there is one
-  pub found : (f : Item T → Bool) (is : List (Item T)) (o : Obj) → says T f false (find T is o) ≡ true → (i : Item T) × (find T is o ≡ some i)
+  pub found : (f : Item T → Bool) (is : List (Item T)) (o : Obj) → test T f is o ≡ true → (i : Item T) × (find T is o ≡ some i)
   found f is o h = go (find T is o) refl
     where
       go : (z : Option (Item T)) → find T is o ≡ z → (i : Item T) × (find T is o ≡ some i)
@@ -69,8 +70,8 @@ module _ (T : Setting) where
     where
       homes : (o : Obj) (i : Item T) → find T (y .items) o ≡ some i → inner o (seen T y .value-read o) ≡ false → participants T (y .items) (home o) ≡ true
       homes o i q = at-item (y .items) o i q (λ o. inner o (seen T y .value-read o) ≡ false → participants T (y .items) (home o) ≡ true)
-          (λ q n. or-right (any (for-all T) (y .items)) (any (for-home T (home (i .obj))) (y .items))
-          (any-among (for-home T (home (i .obj))) (y .items) i (rw (rw q at n) (of-yes (eqServer (home (i .obj)) (home (i .obj))) refl)) (find-item (y .items) (i .obj) i q .0)))
+          (λ q n. let h = home (i .obj) in or-right (any (for-all T) (y .items)) (any (for-home T h) (y .items))
+          (any-among (for-home T h) (y .items) i (rw (rw q at n) (of-yes (eqServer h h) refl)) (find-item (y .items) (i .obj) i q .0)))
 
       everywhere : (o : Obj) (s : Server) (i : Item T) → find T (y .items) o ≡ some i → seen T y .written o ≡ true
           → inner-before-after T (seen T y) o ≡ true → participants T (y .items) s ≡ true
@@ -84,7 +85,7 @@ module _ (T : Setting) where
   each-part p done h s e = rw e at (all-among (λ s. not (p s) || done s) servers s h (servers-all s))
 
   -- LOCKS: what the protocol locks for writing and for reading the items ask for
-  pub asks-write : (y : Slot T) (s : Server) (o : Obj) → WriteLock T (seen T y) s o → says T (to-write T s) false (find T (y .items) o) ≡ true
+  pub asks-write : (y : Slot T) (s : Server) (o : Obj) → WriteLock T (seen T y) s o → test T (to-write T s) (y .items) o ≡ true
   asks-write y s o w = go (found (λ i. i .written) (y .items) o (w .0)) w
     where
       by : (i : Item T) → i .written ≡ true → (s ≡ home (i .obj)) ⊎ (item-inner T i ≡ true) → to-write T s i ≡ true
@@ -96,15 +97,15 @@ module _ (T : Setting) where
       locked i h q (inl e) = inl e
       locked i h q (inr b) = inr (rw (q, h) at b)
 
-      go : (i : Item T) × (find T (y .items) o ≡ some i) → WriteLock T (seen T y) s o → says T (to-write T s) false (find T (y .items) o) ≡ true
-      go (i, q) = at-item (y .items) o i q (λ o. WriteLock T (seen T y) s o → says T (to-write T s) false (find T (y .items) o) ≡ true)
+      go : (i : Item T) × (find T (y .items) o ≡ some i) → WriteLock T (seen T y) s o → test T (to-write T s) (y .items) o ≡ true
+      go (i, q) = at-item (y .items) o i q (λ o. WriteLock T (seen T y) s o → test T (to-write T s) (y .items) o ≡ true)
           (λ q w. let h : i .written ≡ true = rw q at (w .0) in rw q (by i h (locked i h q (w .1))))
 
-  pub asks-read : (y : Slot T) (s : Server) (o : Obj) → ReadLock T (seen T y) s o → says T (to-read T (y .lowest) s) false (find T (y .items) o) ≡ true
+  pub asks-read : (y : Slot T) (s : Server) (o : Obj) → ReadLock T (seen T y) s o → test T (to-read T (y .lowest) s) (y .items) o ≡ true
   asks-read y s o r = go (found (λ i. true) (y .items) o (r .0)) (r .1)
     where
       Asks : Obj → Type 0
-      Asks o = says T (to-read T (y .lowest) s) false (find T (y .items) o) ≡ true
+      Asks o = test T (to-read T (y .lowest) s) (y .items) o ≡ true
 
       by : (i : Item T) → find T (y .items) (i .obj) ≡ some i → Checked T (seen T y) s (i .obj) → Asks (i .obj)
       by i q (inl (n, inl e)) = rw (q, rw q at n) (or-left (yes? (eqServer (y .lowest) s)) (i .written) (of-yes (eqServer (y .lowest) s) e))
@@ -119,19 +120,22 @@ module _ (T : Setting) where
   none-asked c (shared q) = refl
   none-asked c (owned d) = or-right (yes? (eqClient d c)) true refl
 
-  pub granted-all : (c : Client) (y : Slot T) (s : Server) (row : Obj → Lock T)
-      → all (λ i. grants T c (to-write T s i) (to-read T (y .lowest) s i) (row (i .obj))) (y .items) ≡ true
-      → (o : Obj) → grants T c (says T (to-write T s) false (find T (y .items) o)) (says T (to-read T (y .lowest) s) false (find T (y .items) o)) (row o) ≡ true
-  granted-all c y s row h o = go (find T (y .items) o) refl
+  pub granted-all : (c : Client) (y : Slot T) (s : Server) (locks : Obj → Lock T)
+      → all (λ i. grants T c (to-write T s i) (to-read T (y .lowest) s i) (locks (i .obj))) (y .items) ≡ true
+      → (o : Obj) → grants T c (test T (to-write T s) (y .items) o) (test T (to-read T (y .lowest) s) (y .items) o) (locks o) ≡ true
+  granted-all c y s locks h o = go (find T (y .items) o) refl
     where
-      test : Item T → Bool
-      test i = grants T c (to-write T s i) (to-read T (y .lowest) s i) (row (i .obj))
+      w : Item T → Bool
+      w = to-write T s
 
-      go : (z : Option (Item T)) → find T (y .items) o ≡ z → grants T c (says T (to-write T s) false z) (says T (to-read T (y .lowest) s) false z) (row o) ≡ true
-      go none q = none-asked c (row o)
+      r : Item T → Bool
+      r = to-read T (y .lowest) s
+
+      go : (z : Option (Item T)) → find T (y .items) o ≡ z → grants T c (says T w false z) (says T r false z) (locks o) ≡ true
+      go none q = none-asked c (locks o)
       go (some i) q =
           let k = find-item (y .items) o i q in
-          subst (λ p. grants T c (to-write T s i) (to-read T (y .lowest) s i) (row p) ≡ true) (k .1) (all-among test (y .items) i h (k .0))
+          subst (λ p. grants T c (w i) (r i) (locks p) ≡ true) (k .1) (all-among (λ i. grants T c (w i) (r i) (locks (i .obj))) (y .items) i h (k .0))
 
   -- CHECKS: what the check of an item says
   pub check-table : (m : Machine T) (l s : Server) (i : Item T) → check T m l s i ≡ true → inner (i .obj) (i .old) ≡ true

@@ -16,9 +16,10 @@ use Rattle.protocol.specs.System.{Phase, idle, opened, committing, decid
 use Rattle.protocol.specs.Meaning.{Shown, shown-of}
 
 module _ (T : Setting) where
-  open Setting T using (Obj, Server, Client, Val, eqObj, eqVal, eqServer, eqClient, servers, some-server, clients, home, keeps, inner, by-value, init, plan, writes)
+  open Setting T using (Obj, Server, Client, Val, eqObj, eqVal, eqServer, eqClient, servers, some-server, clients)
+  open Setting T using (home, keeps, inner, by-value, init, plan, writes)
 
-  -- an object read, with its value and version; and, if it is written, its new value
+  -- an object read, with its value and version; if it is written, with its new value, else that is the old one
   pub record Item : Type 0 where
     pub obj : Obj
     pub old : Val
@@ -35,6 +36,10 @@ module _ (T : Setting) where
   abbrev pub says : {A : Type 0} → (Item → A) → A → Option Item → A
   says f a none = a
   says f a (some i) = f i
+
+  -- a test of the item of o, which fails if there is none
+  abbrev pub test : (Item → Bool) → List Item → Obj → Bool
+  test f is o = says f false (find is o)
 
   -- a client's transaction as it is stored
   pub record Slot : Type 0 where
@@ -103,10 +108,10 @@ module _ (T : Setting) where
   abbrev pub seen : Slot → Transaction T
   seen y = record {
     phase = y .phase;
-    read = λ o. says (λ i. true) false (find (y .items) o);
+    read = test (λ i. true) (y .items);
     value-read = λ o. says (λ i. i .old) (init o) (find (y .items) o);
     version-read = λ o. says (λ i. cond (by-value o) 0 (i .version)) 0 (find (y .items) o);
-    written = λ o. says (λ i. i .written) false (find (y .items) o);
+    written = test (λ i. i .written) (y .items);
     value-written = λ o. says (λ i. cond (i .written) (i .new) (init o)) (init o) (find (y .items) o);
     trace = [];
     participant = y .participant;
@@ -153,7 +158,7 @@ module _ (T : Setting) where
   abbrev pub committed-slot : Slot → Slot
   committed-slot y = let p = participants (y .items) in with-course y committing p (first-of p servers) (y .prepared) (y .applied)
 
-  -- PREPARE at s: the check of an item, where l is the lowest participant; "flags by value"
+  -- PREPARE at s, where l is the lowest participant: the check of an item, by the table, by value or by version
   abbrev pub check : Machine → Server → Server → Item → Bool
   check m l s i = cond (inner (i .obj) (i .old))
       (not (yes? (eqServer l s) || i .written) || yes? (ℕ-discrete (m .table s (i .obj)) (i .version)))
@@ -182,7 +187,10 @@ module _ (T : Setting) where
 
   -- the locks in a server's row, after those have been granted that the items ask for by two tests
   abbrev pub granted-row : Client → (Item → Bool) → (Item → Bool) → List Item → (Obj → Lock) → Obj → Lock
-  granted-row c w r is locks o = grant c (says w false (find is o)) (says r false (find is o)) (locks o)
+  granted-row c w r is locks o = grant c (test w is o) (test r is o) (locks o)
+
+  abbrev pub granted-at : Machine → Client → Server → Server → Obj → Lock
+  granted-at m c s = let y = m .slots c in upd eqServer (m .lock) s (granted-row c (to-write s) (to-read (y .lowest) s) (y .items) (m .lock s))
 
   abbrev pub prepared-slot : Slot → Server → Slot
   prepared-slot y s = with-course y (y .phase) (y .participant) (y .lowest) (upd eqServer (y .prepared) s true) (y .applied)
@@ -192,7 +200,7 @@ module _ (T : Setting) where
 
   -- APPLY at s: in a server's row, the objects whose items pass the test get what the item gives
   abbrev pub row : {A : Type 0} → List Item → (Item → Bool) → (Item → A) → (Obj → A) → Obj → A
-  row is test given old o = says (λ i. cond (test i) (given i) (old o)) (old o) (find is o)
+  row is new? given old o = says (λ i. cond (new? i) (given i) (old o)) (old o) (find is o)
 
   abbrev pub applied-slot : Slot → Server → Slot
   applied-slot y s = with-course y (y .phase) (y .participant) (y .lowest) (y .prepared) (upd eqServer (y .applied) s true)
@@ -220,7 +228,7 @@ module _ (T : Setting) where
   abbrev pub applied-at : Machine → Client → Server → Machine
   applied-at = stored-at (λ i. suc (i .version))
 
-  -- moves that change slots, locks and what was said, and moves that change copies
+  -- what moves change: slots, locks and what was said, or copies
   abbrev pub turned : Machine → (Client → Slot) → (Server → Obj → Lock) → (Client → List (Shown T)) → List (List (Shown T)) → Machine
   turned m slots lock said log = record {
     slots = slots;
@@ -277,8 +285,7 @@ module _ (T : Setting) where
     prepares : (c : Client) (s : Server) → m .slots c .phase ≡ committing → m .slots c .prepared s ≡ false
         → all (check m (m .slots c .lowest) s) (m .slots c .items) ≡ true
         → all (λ i. grants c (to-write s i) (to-read (m .slots c .lowest) s i) (m .lock s (i .obj))) (m .slots c .items) ≡ true
-        → Move m (turned m (upd eqClient (m .slots) c (prepared-slot (m .slots c) s))
-        (upd eqServer (m .lock) s (granted-row c (to-write s) (to-read (m .slots c .lowest) s) (m .slots c .items) (m .lock s))) (m .said) (m .log))
+        → Move m (turned m (upd eqClient (m .slots) c (prepared-slot (m .slots c) s)) (granted-at m c s) (m .said) (m .log))
     decides : (c : Client) → m .slots c .phase ≡ committing
         → all-parts (m .slots c .participant) (m .slots c .prepared) ≡ true
         → Move m (turned m (upd eqClient (m .slots) c (decided-slot (m .slots c))) (m .lock) (m .said) (m .said c ∷ m .log))

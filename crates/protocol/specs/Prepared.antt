@@ -5,13 +5,13 @@ use mathlib.Core.Logic.{_⊎_, inl, inr}
 use mathlib.Core.Option.{Option, none, some}
 use Prim.Native.Nat.{ℕ, _≤_}
 use Rattle.base.specs.Test.{bool-cases, not-both, yes?, of-yes}
-use Rattle.base.specs.Update.{upd, upd-same}
+use Rattle.base.specs.Update.{upd-same}
 use Rattle.protocol.specs.Setting.{Setting}
 use Rattle.protocol.specs.Lists.{all, all-among}
 use Rattle.protocol.specs.System.{committing, Transaction, State, Stamp, Checks, CanPrepare, stamp, prepare, Reach, after}
 use Rattle.protocol.specs.Invariant.{Inv}
 use Rattle.protocol.specs.Safety.{reach-inv}
-use Rattle.protocol.specs.Machine.{Item, find, says, Slot, Machine, check, to-write, to-read, grants, granted-row, prepared-slot, with-slot}
+use Rattle.protocol.specs.Machine.{Item, find, test, Slot, Machine, check, to-write, to-read, grants, granted-at, prepared-slot, with-slot}
 use Rattle.protocol.specs.Items.{find-item, found, at-item, asks-write, asks-read, granted-all, check-table, check-version, check-value}
 use Rattle.protocol.specs.Locks.{Recorded, granted-apart, prepare-recorded}
 use Rattle.protocol.specs.Ghosts.{Own, Ghost, item-version, transaction-of, state-of, put-own, clients-put, state-put, state-own}
@@ -32,6 +32,9 @@ module _ (T : Setting) where
 
   abbrev pub stamped-ghost : Ghost T → Client → Server → Ghost T
   stamped-ghost g c s = put-own T g c (record { trace = g .own c .trace; stamps = stamps-at g c s })
+
+  abbrev pub prepared-ghost : Ghost T → Client → Server → Ghost T
+  prepared-ghost g c s = put-own T (stamped-ghost g c s) c (stamped-ghost g c s .own c)
 
   module _ (m : Machine T) (g : Ghost T) (c : Client) (r : Reach T (state-of T m g)) (s : Server) (hp : m .slots c .phase ≡ committing)
       (new : m .slots c .prepared s ≡ false) (pass : all (check T m (m .slots c .lowest) s) (m .slots c .items) ≡ true) where
@@ -86,7 +89,7 @@ module _ (T : Setting) where
         (after r (stamp c (λ o. item-version T new-own o (find T (y .items) o)) hp stamp-right))
 
     -- the checks of the rules, for a client with these stamps
-    checks : (u : Own T) → u ≡ new-own → Checks T σ (transaction-of T (m .slots c) u) s
+    checks : (u : Own T) → u ≡ new-own → Checks T (σ .table) (σ .version) (transaction-of T (m .slots c) u) s
     checks u same = record {
       by-table = λ o hr. let f = found T (λ i. true) (y .items) o hr in by-table o (f .0) (f .1);
       at-home = λ o hr. let f = found T (λ i. true) (y .items) o hr in at-home o (f .0) (f .1);
@@ -114,31 +117,25 @@ module _ (T : Setting) where
     module _ (R : Recorded T (state-of T m g .clients) (m .lock))
         (granted : all (λ i. grants T c (to-write T s i) (to-read T (m .slots c .lowest) s i) (m .lock s (i .obj))) (m .slots c .items) ≡ true) where
       abbrev w : Obj → Bool
-      w o = says T (to-write T s) false (find T (y .items) o)
+      w = test T (to-write T s) (y .items)
 
       abbrev rd : Obj → Bool
-      rd o = says T (to-read T (y .lowest) s) false (find T (y .items) o)
+      rd = test T (to-read T (y .lowest) s) (y .items)
 
       G : (o : Obj) → grants T c (w o) (rd o) (m .lock s o) ≡ true
       G = granted-all T c y s (m .lock s) granted
 
-      pub prepare-reach : Reach T (state-of T (with-slot T m c (prepared-slot T (m .slots c) s))
-          (put-own T (stamped-ghost g c s) c (stamped-ghost g c s .own c)))
+      pub prepare-reach : Reach T (state-of T (with-slot T m c (prepared-slot T (m .slots c) s)) (prepared-ghost g c s))
       prepare-reach = subst (λ σ. Reach T σ) (sym (state-put T m g1 c (prepared-slot T y s) (g1 .own c) _ refl)) (after stamped (prepare c s can))
         where
-          C : Checks T σ (transaction-of T (m .slots c) (g1 .own c)) s
-          C = checks (g1 .own c) (upd-same eqClient (g .own) c _)
-
           can : CanPrepare T (state-of T m g1) c s
           can = record {
             phase = hp;
-            checks = record { by-table = C .by-table; at-home = C .at-home };
+            checks = checks (g1 .own c) (upd-same eqClient (g .own) c _);
             unlocked = granted-apart T (state-of T m g1 .clients) (m .lock) R c s w rd (asks-write T y s) (asks-read T y s) G;
           }
 
-      pub locks-recorded : Recorded T (state-of T (with-slot T m c (prepared-slot T (m .slots c) s))
-          (put-own T (stamped-ghost g c s) c (stamped-ghost g c s .own c)) .clients) (upd eqServer (m .lock) s (granted-row T c (to-write T s) (to-read T (m .slots c .lowest) s) (m .slots c .items) (m .lock s)))
+      pub locks-recorded : Recorded T (state-of T (with-slot T m c (prepared-slot T (m .slots c) s)) (prepared-ghost g c s) .clients) (granted-at T m c s)
       locks-recorded =
-          subst (λ f. Recorded T f (upd eqServer (m .lock) s (granted-row T c (to-write T s) (to-read T (m .slots c .lowest) s) (m .slots c .items) (m .lock s))))
-          (sym (clients-put T m g1 c (prepared-slot T y s) (g1 .own c) _ refl))
+          subst (λ f. Recorded T f (granted-at T m c s)) (sym (clients-put T m g1 c (prepared-slot T y s) (g1 .own c) _ refl))
           (prepare-recorded T (state-of T m g1 .clients) (m .lock) R c s w rd (asks-write T y s) (asks-read T y s) G)

@@ -236,15 +236,15 @@ module _ (T : Setting) where
   Parts x = Participants (x .read) (x .written) (λ o. inner o (x .value-read o)) (inner-before-after x)
 
   -- the checks of a prepare at s: by the table, or by the version at home
-  pub record Checks (σ : State) (x : Transaction) (s : Server) : Type 0 where
+  pub record Checks (table version : Server → Obj → ℕ) (x : Transaction) (s : Server) : Type 0 where
     pub by-table : (o : Obj) → x .read o ≡ true → inner o (x .value-read o) ≡ true
-        → (x .lowest ≡ s) ⊎ (x .written o ≡ true) → σ .table s o ≡ x .version-read o
-    pub at-home : (o : Obj) → x .read o ≡ true → inner o (x .value-read o) ≡ false → s ≡ home o → σ .version s o ≡ x .version-read o
+        → (x .lowest ≡ s) ⊎ (x .written o ≡ true) → table s o ≡ x .version-read o
+    pub at-home : (o : Obj) → x .read o ≡ true → inner o (x .value-read o) ≡ false → s ≡ home o → version s o ≡ x .version-read o
 
   -- "Prepare checks and locks"
   pub record CanPrepare (σ : State) (c : Client) (s : Server) : Type 0 where
     pub phase : σ .clients c .phase ≡ committing
-    pub checks : Checks σ (σ .clients c) s
+    pub checks : Checks (σ .table) (σ .version) (σ .clients c) s
     pub unlocked : (d : Client) → ¬ (d ≡ c) → Holds (σ .clients d) s
         → Apart (σ .clients c) (σ .clients d) s × Apart (σ .clients d) (σ .clients c) s
 

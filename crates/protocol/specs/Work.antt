@@ -13,7 +13,8 @@ use Rattle.protocol.specs.Setting.{Setting}
 use Rattle.protocol.specs.Lists.{all}
 use Rattle.protocol.specs.System.{opened, Entry, Transaction, view}
 use Rattle.protocol.specs.Meaning.{shown-of}
-use Rattle.protocol.specs.Machine.{Item, find, says, Slot, Copy, Machine, seen, item, with-items, answered-slot, turned, with-slot, uses-copy}
+use Rattle.protocol.specs.Machine.{Item, find, says, test, Slot, Copy, Machine, seen, item, with-items, answered-slot, turned, with-slot}
+use Rattle.protocol.specs.Machine.{uses-copy}
 use Rattle.protocol.specs.Machine.{fetches, answers, Reached, moved}
 use Rattle.protocol.specs.Items.{found}
 
@@ -44,8 +45,8 @@ module _ (T : Setting) where
   absorb copy [] is = is
   absorb copy (o ∷ os) is = absorb copy os (enter is o (find T is o) (copy o))
 
-  abbrev has-item : List (Item T) → Obj → Bool
-  has-item is o = says T (λ i. true) false (find T is o)
+  abbrev pub has-item : List (Item T) → Obj → Bool
+  has-item = test T (λ i. true)
 
   -- that changes nothing of what is at hand, and loses no item
   have-enter : (copy : Obj → Option (Copy T)) (is : List (Item T)) (o q : Obj) (z : Option (Item T)) (k : Option (Copy T)) → find T is o ≡ z → copy o ≡ k
