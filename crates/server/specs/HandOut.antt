@@ -12,11 +12,12 @@ use Rattle.memory.specs.WordLaws.{view-length}
 use Rattle.layout.specs.Block.{size, In, offset}
 use Rattle.layout.specs.Space.{tab, at, Valid, mem, Run, mem-run}
 use Rattle.nodes.specs.Name.{server-of, slot-of}
-use Rattle.nodes.specs.declared.name.Name.{Name}
+use Rattle.nodes.specs.Stored.{node-of, node-at}
+use Rattle.nodes.specs.declared.node.Node as node
 use Rattle.server.specs.declared.hand_out.Metadata.{Metadata}
 use Rattle.server.specs.declared.place.Place.{Place}
 use Rattle.server.specs.declared.place.Place.the-variants.{Root, Version, Vector, Node}
-use Rattle.server.specs.Layout.{places, block, partWords, root-valid, version-valid}
+use Rattle.server.specs.Layout.{places, block, partWords, Lies, node-run, node-room, node-valid, root-valid, version-valid}
 
 unfoldable pub metadata-at : (Place → ℕ) → Metadata
 metadata-at m = record { root = m Root; version = m Version }
@@ -27,6 +28,10 @@ metadata-sound servers slots m = ltb (server-of (m Root)) servers && ltb (slot-o
 
 unfoldable pub vector-at : (Place → ℕ) → List ℕ
 vector-at m = tab 16 (λ i. m (Vector i))
+
+-- the node in slot k of this server
+unfoldable pub node-here : ℕ → (Place → ℕ) → node.Node
+node-here k m = node-of (tab 33 (λ j. m (Node k j)))
 
 -- ---- ways out of the code
 module _ (m : Place → ℕ) where
@@ -55,8 +60,16 @@ pub vector-got : (n : ℕ) (s ws : List ℕ) → partWords n ≤ length s / 8 �
 unfolding vector-at partWords size
 vector-got n s ws l e = e ∙ mem-run places (block n) 16 (view s) Vector 3 (vector-run n) (omega (arith, view-length s))
 
+pub node-got : (n k i : ℕ) (s : List ℕ) (r : node.Node) → k < n → partWords n ≤ length s / 8 → Lies n (Node k 0) i → r ≡ node-at (view s) i
+    → r ≡ node-here k (mem places (block n) (view s))
+unfolding node-here node-at
+node-got n k i s r h l e q =
+    let f : at places (block n) (Node k 0) + 33 ≤ length (view s) =
+    omega (arith, view-length s, node-room n k (at places (block n) (Node k 0)) (length s / 8) h (record { spot = refl; within = rw (← e .spot) (e .within) }) l) in
+    q ∙ rw (e .spot) (ap node-of (mem-run places (block n) 33 (view s) (Node k) (at places (block n) (Node k 0)) (node-run n k h) f))
+
 pub vector-room : (n l : ℕ) → partWords n ≤ l → 3 + 16 ≤ l
 unfolding partWords size
 vector-room n l h = omega arith
 
-pub ruleset hand-out-exits = (metadata-got, no-server, no-slot, sound-version, vector-got, vector-room, root-valid, version-valid)
+pub ruleset hand-out-exits = (metadata-got, no-server, no-slot, sound-version, vector-got, vector-room, node-got, node-room, node-valid, root-valid, version-valid)

@@ -7,7 +7,7 @@ use Prim.Native.Nat.{ℕ, zero, suc, _+_, _*_, _/_, _≤_, _<_}
 use native.Mathlib.Omega.{arith}
 use lib.ListN.{getD, set}
 use Rattle.layout.specs.Block.{Block, words, times, next, end, size, In, offset}
-use Rattle.layout.specs.Space.{Coding, Put, put, at, Valid, mem, mem-at, at-below, stored}
+use Rattle.layout.specs.Space.{Coding, Put, put, at, Valid, mem, mem-at, at-below, stored, Run}
 use Rattle.layout.specs.Step.{Does, silent, stepped}
 use Rattle.server.specs.declared.place.Place.{Place}
 use Rattle.server.specs.declared.place.Place.the-variants.{Root, Version, MetadataLock, Vector, Node, FlagLock, Table, NodeLock}
@@ -61,6 +61,11 @@ partWords n = size (block n)
 unfoldable pub putStep : Place → ℕ → (Place → ℕ) → List (Put Place)
 putStep a v m = put a v ∷ []
 
+-- a place lies at word i, in the part
+pub record Lies (n : ℕ) (a : Place) (i : ℕ) : Type 0 where
+  pub spot : i ≡ at places (block n) a
+  pub within : i < partWords n
+
 -- places that every part has
 pub root-valid : (n : ℕ) → Valid places (block n) Root
 unfolding Valid In
@@ -74,10 +79,18 @@ pub vector-valid : (n k : ℕ) → k < 1024 → Valid places (block n) (Vector (
 unfolding Valid In
 vector-valid n k h = omega arith
 
--- a place lies at word i, in the part
-pub record Lies (n : ℕ) (a : Place) (i : ℕ) : Type 0 where
-  pub spot : i ≡ at places (block n) a
-  pub within : i < partWords n
+pub node-valid : (n k : ℕ) → k < n → Valid places (block n) (Node k 0)
+unfolding Valid In
+node-valid n k h = (h, omega arith)
+
+-- the words of a node lie one after another
+pub node-run : (n k : ℕ) → k < n → Run places (block n) (Node k) (at places (block n) (Node k 0)) 33
+unfolding at Valid In offset size
+node-run n k h = record { good = λ j l. (h, l); spot = λ j l. omega arith }
+
+pub node-room : (n k i l : ℕ) → k < n → Lies n (Node k 0) i → partWords n ≤ l → i + 33 ≤ l
+unfolding at offset size partWords
+node-room n k i l h e g = omega (arith, e .spot)
 
 -- ---- the bounds of a place that lies in the part
 pub record Cell (k n j m : ℕ) : Type 0 where

@@ -5,10 +5,13 @@ ghost use lib.ListN.{length};
 ghost use Rattle.memory.specs.Word.{view};
 ghost use Rattle.layout.specs.Space.{mem};
 ghost use Rattle.server.specs.Layout.{places, block, partWords};
-ghost use Rattle.server.specs.HandOut.{metadata-at, metadata-sound, vector-at};
+ghost use Rattle.server.specs.HandOut.{metadata-at, metadata-sound, vector-at, node-here};
 use crate::place::Place;
 use crate::place::get;
+use crate::place::index;
 use nodes::name::Name;
+use nodes::node::Node;
+use nodes::stored;
 
 // "The metadata (root name and its version)"
 pub struct Metadata {
@@ -50,4 +53,12 @@ pub fn read_vector(part: &[u8], slots: usize) -> [u64; 16]
     let mut words = [0u64; 16];
     memory::read_words(part, 3, &mut words);
     words
+}
+
+// The node in a slot of this server, with its own version.
+pub fn read_node(part: &[u8], slots: usize, slot: usize) -> Node
+    requires { ⌜ (slots ≤ 1024) × (slot < slots) × (partWords slots ≤ length (now part) / 8) ⌝ }
+    ensures { λ r. ⌜ r ≡ node-here slot (mem places (block slots) (view (now (part .entry)))) ⌝ }
+{
+    stored::read_node(part, index(slots, Place::Node(slot, 0)))
 }

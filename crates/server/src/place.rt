@@ -37,7 +37,7 @@ pub fn part_words(slots: usize) -> usize
 }
 
 // The word at which a place lies.
-fn index(slots: usize, place: Place) -> usize
+pub fn index(slots: usize, place: Place) -> usize
     requires { ⌜ (slots ≤ 1024) × Valid places (block slots) place ⌝ }
     ensures { λ r. ⌜ Lies slots place r ⌝ }
 {
