@@ -6,16 +6,19 @@ ghost use Rattle.memory.specs.Word.{view};
 ghost use Rattle.layout.specs.Step.{Does, silent};
 ghost use Rattle.server.specs.Layout.{places, block, partWords};
 ghost use Rattle.server.specs.Object.{Has};
-ghost use Rattle.server.specs.Store.{lock-step, unlock-step, metadata-step, flag-step};
+ghost use Rattle.server.specs.Store.{lock-step, unlock-step, metadata-step, flag-step, kept-of, home-step, table-step, node-step};
 use crate::lock::with_lock;
 use crate::lock::without_lock;
 use crate::object::Object;
 use crate::object::lock_place;
 use crate::place::Place;
 use crate::place::get;
+use crate::place::index;
 use crate::place::put;
 use memory::bits;
 use nodes::name::Name;
+use nodes::node::Node;
+use nodes::stored;
 
 // A client locks an object, for writing or for reading.
 pub fn lock(part: &mut [u8], slots: usize, object: Object, client: u32, writing: bool)
@@ -60,4 +63,63 @@ pub fn store_flag(part: &mut [u8], slots: usize, name: Name, taken: bool)
     } else {
         put(part, slots, at, bits::without(word, i));
     }
+}
+
+// A node with a version; "Freed nodes become kind 0 and keep only a version."
+fn kept(mut node: Node, version: u64) -> Node
+    ensures { λ r. ⌜ r ≡ kept-of node version ⌝ }
+{
+    if node.kind == 0 {
+        return Node::free(version);
+    }
+    node.version = version;
+    node
+}
+
+// A node is written at its home.
+fn store_at_home(part: &mut [u8], slots: usize, server: u64, name: Name, node: Node)
+    requires { ⌜ (slots ≤ 1024) × Has slots (Object.Node name) × (partWords slots ≤ length (now part) / 8) ⌝ }
+    ensures { λ _. ⌜ Does places (block slots) (home-step server name node) silent (view (now (part .entry))) 0 (view (now (part .exit))) ⌝ }
+{
+    if name.server() == server {
+        stored::write_node(
+            part,
+            index(slots, Place::Node(name.slot() as usize, 0)),
+            node,
+        );
+    }
+}
+
+// The table has a version for a node that is inner before or after.
+fn store_in_table(part: &mut [u8], slots: usize, name: Name, version: u64, inner: bool)
+    requires { ⌜ (slots ≤ 1024) × Has slots (Object.Node name) × (partWords slots ≤ length (now part) / 8) ⌝ }
+    ensures { λ _. ⌜ Does places (block slots) (table-step name version inner) silent (view (now (part .entry))) 0 (view (now (part .exit))) ⌝ }
+{
+    if inner {
+        put(
+            part,
+            slots,
+            Place::Table(name.server() as usize, name.slot() as usize),
+            version,
+        );
+    }
+}
+
+// A node, read with a version, is written: "at home and, for a node inner before or after, in every table, even where a table
+// holds an older number".
+pub fn store_node(
+    part: &mut [u8],
+    slots: usize,
+    server: u64,
+    name: Name,
+    node: Node,
+    read: u64,
+    inner: bool,
+)
+    requires { ⌜ (slots ≤ 1024) × Has slots (Object.Node name) × (read < 4294967295) × (partWords slots ≤ length (now part) / 8) ⌝ }
+    ensures { λ _. ⌜ Does places (block slots) (node-step server name node (read + 1) inner) silent (view (now (part .entry))) 0 (view (now (part .exit))) ⌝ }
+{
+    let version = read + 1;
+    store_at_home(part, slots, server, name, kept(node, version));
+    store_in_table(part, slots, name, version, inner);
 }
