@@ -32,3 +32,4 @@ pub mod Asked
 pub mod Outer
 pub mod Reading
 pub mod Seen
+pub mod Arrays
