@@ -1,11 +1,10 @@
 -- THE THIRD TRAP: "Starting a reused slot's version afresh." Client true reads leaf false at version 0. Client false empties it (0 stands for
 -- a free node) and then uses it again, for 7, where the version starts again from 0. What client true read passes its check, and it answers 1.
-use mathlib.Core.Path.{_≡_, refl, subst}
+use mathlib.Core.Path.{_≡_, refl}
 use mathlib.Core.Bool.{Bool, true, false, cond}
 use mathlib.Core.List.{List, [], _∷_}
-use Prim.Native.Nat.{ℕ, suc}
+use Prim.Native.Nat.{suc}
 use native.Mathlib.Decide.{ℕ-discrete}
-use native.Mathlib.Omega.{arith}
 use Rattle.base.specs.Test.{yes?}
 use Rattle.base.specs.Update.{upd}
 use Rattle.plans.specs.Plan.{exec, Asked}
@@ -15,9 +14,8 @@ use Rattle.protocol.specs.System.{decided, Entry}
 use Rattle.protocol.specs.Meaning.{Shown, map-of, map-all, Right, Right-all}
 use Rattle.protocol.specs.Machine.{Machine, find, first-of, stored-at, begins, fetches, answers, commits, prepares, decides, applies, ends}
 use Rattle.protocol.specs.Machine.{Reached}
-use Rattle.protocol.specs.Claim.{claim}
-use Rattle.protocol.specs.Variant.{ReachedWith, at-start, by-rule, also}
-use Rattle.protocol.specs.Example.{leaf, look, put, tiny, leaves, one}
+use Rattle.protocol.specs.Variant.{ReachedWith, at-start, by-rule, also, never}
+use Rattle.protocol.specs.Example.{leaf, look, put, tiny, leaves, one, one≢seven}
 
 -- an apply as the rules have it, but that the version of what was free becomes 0
 data Afresh (m : Machine tiny) : Machine tiny → Type 0 where
@@ -69,11 +67,8 @@ mistaken =
 -- the last one should have answered 7
 wrong : Right-all tiny leaves outcome → ⊥
 unfolding Right-all Right map-all map-of upd
-wrong h = absurd (one-seven (h .1 .1 refl))
-  where
-    one-seven : _≡_ {A = ℕ} 1 7 → ⊥
-    one-seven e = omega (arith, e)
+wrong h = one≢seven (h .1 .1 refl)
 
 -- so it is no run by the rules
-pub needed : {m : Machine tiny} → Reached tiny m → m .log ≡ outcome → ⊥
-needed r e = wrong (subst (Right-all tiny leaves) e (claim tiny leaves r .answered))
+pub needed : (m : Machine tiny) → Reached tiny m → m .log ≡ outcome → ⊥
+needed = never tiny leaves outcome wrong

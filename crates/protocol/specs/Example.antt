@@ -5,6 +5,7 @@ use mathlib.Core.List.{List, [], _∷_}
 use mathlib.Core.Logic.{_⊎_, inl, inr}
 use Prim.Native.Nat.{ℕ}
 use native.Mathlib.Decide.{ℕ-discrete}
+use native.Mathlib.Omega.{arith}
 use Rattle.base.specs.Test.{yes?, yes-of, of-yes}
 use Rattle.base.specs.Update.{upd}
 use Rattle.plans.specs.Plan.{Plan, ask, done, Out, gives, fails, exec}
@@ -166,3 +167,6 @@ leaves = record {
 -- what a transaction with one operation shows
 abbrev pub one : Op → ℕ → List (Shown tiny)
 one p n = record { asked = p; answered = n } ∷ []
+
+pub one≢seven : _≡_ {A = ℕ} 1 7 → ⊥
+one≢seven e = omega (arith, e)

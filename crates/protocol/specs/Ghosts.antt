@@ -1,5 +1,4 @@
--- The protocol's state as a function of the machine's state and of ghosts: for each client its trace and the versions of what is checked by
--- value, for each server such versions, and the protocol's own ghosts. Here the moves that change one slot are carried over.
+-- The system's state as a function of the machine's state and of ghosts; and the moves that change one slot, carried over by it.
 use mathlib.Core.Path.{_≡_, refl, ap, sym, _∙_, subst, fun-ext}
 use mathlib.Core.Bool.{true, false, cond, _||_, false≢true}
 use mathlib.Core.List.{List, [], _∷_, map}
@@ -21,10 +20,12 @@ use Rattle.protocol.specs.Items.{find-item, participants-right}
 module _ (T : Setting) where
   open Setting T using (Obj, Server, Client, Val, eqObj, eqClient, servers, by-value, init, plan, writes)
 
+  -- of a client: its trace, and the versions that its objects checked by value have been given
   pub record Own : Type 0 where
     pub trace : List (Entry T)
     pub stamps : Obj → ℕ
 
+  -- of the whole: the clients' ghosts, the versions that servers would store of objects checked by value, and the system's ghosts
   pub record Ghost : Type 0 where
     pub own : Client → Own
     pub versions : Server → Obj → ℕ

@@ -1,11 +1,9 @@
 -- THE SECOND TRAP: "Checking reads without locking them until the decision." Client false looks at leaf false and writes leaf true; client
 -- true looks at leaf true and writes leaf false. Both pass all checks, and both answer 1: no order of the two explains that.
-use mathlib.Core.Path.{_≡_, refl, subst}
+use mathlib.Core.Path.{_≡_, refl}
 use mathlib.Core.Bool.{Bool, true, false}
 use mathlib.Core.List.{List, [], _∷_}
-use Prim.Native.Nat.{ℕ}
 use native.Mathlib.Decide.{ℕ-discrete}
-use native.Mathlib.Omega.{arith}
 use Rattle.base.specs.Update.{upd}
 use Rattle.plans.specs.Plan.{exec, Asked}
 use Rattle.protocol.specs.Writes.{writes?, latest}
@@ -14,9 +12,8 @@ use Rattle.protocol.specs.System.{committing, Entry}
 use Rattle.protocol.specs.Meaning.{Shown, map-of, map-all, Right, Right-all}
 use Rattle.protocol.specs.Machine.{Machine, find, first-of, check, to-write, to-read, grants, granted-row, prepared-slot, turned, begins}
 use Rattle.protocol.specs.Machine.{fetches, answers, commits, decides, Reached}
-use Rattle.protocol.specs.Claim.{claim}
-use Rattle.protocol.specs.Variant.{ReachedWith, at-start, by-rule, also}
-use Rattle.protocol.specs.Example.{leaf, put, tiny, leaves, one}
+use Rattle.protocol.specs.Variant.{ReachedWith, at-start, by-rule, also, never}
+use Rattle.protocol.specs.Example.{leaf, put, tiny, leaves, one, one≢seven}
 
 -- a prepare as the rules have it, but that it leaves no lock on what is only read
 data Loose (m : Machine tiny) : Machine tiny → Type 0 where
@@ -59,11 +56,8 @@ skewed =
 -- the second of the two should have answered 7
 wrong : Right-all tiny leaves outcome → ⊥
 unfolding Right-all Right map-all map-of upd
-wrong h = absurd (one-seven (h .1 .1 refl))
-  where
-    one-seven : _≡_ {A = ℕ} 1 7 → ⊥
-    one-seven e = omega (arith, e)
+wrong h = one≢seven (h .1 .1 refl)
 
 -- so it is no run by the rules
-pub needed : {m : Machine tiny} → Reached tiny m → m .log ≡ outcome → ⊥
-needed r e = wrong (subst (Right-all tiny leaves) e (claim tiny leaves r .answered))
+pub needed : (m : Machine tiny) → Reached tiny m → m .log ≡ outcome → ⊥
+needed = never tiny leaves outcome wrong
