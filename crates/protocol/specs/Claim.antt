@@ -11,7 +11,6 @@ use Rattle.base.specs.Update.{upd, upd-all}
 use Rattle.plans.specs.Plan.{gives, exec, Asked}
 use Rattle.protocol.specs.Changed.{upd-both}
 use Rattle.protocol.specs.Setting.{Setting}
-use Rattle.protocol.specs.Writes.{writes?, written-all}
 use Rattle.protocol.specs.Lists.{all}
 use Rattle.protocol.specs.System.{idle, opened, committing, decided, after-commit, is-decided, Phase, Entry, State, fresh, start, view, Reach}
 use Rattle.protocol.specs.System.{initial}
@@ -32,7 +31,7 @@ use Rattle.protocol.specs.Prepared.{stamped-ghost, prepared-ghost, prepa
 use Rattle.protocol.specs.Applied.{applied-ghost, apply-reach}
 
 module _ (T : Setting) where
-  open Setting T using (Obj, Server, Client, Val, eqObj, eqClient, keeps, by-value, init, plan, writes)
+  open Setting T using (Obj, Server, Client, Val, eqClient, keeps, by-value, init, plan, writes)
 
   -- a copy is something that the object once was
   pub record Legal (current : Obj → ℕ) (history : Obj → ℕ → Val) (o : Obj) (k : Copy T) : Type 0 where
@@ -143,13 +142,12 @@ module _ (T : Setting) where
     answer-good : (e : Entry T) → m .slots c .phase ≡ opened
         → Asked (plan (e .op)) (seen T (m .slots c) .read) (view T (seen T (m .slots c)))
         → exec (plan (e .op)) (view T (seen T (m .slots c))) ≡ gives (e .result)
-        → ((o : Obj) → writes? eqObj (writes (e .result)) o ≡ true → seen T (m .slots c) .read o ≡ true)
         → Good (turned T m (upd eqClient (m .slots) c (answered-slot T (m .slots c) (writes (e .result)))) (m .lock)
         (upd eqClient (m .said) c (shown-of T e ∷ m .said c)) (m .log))
     unfolding show
-    answer-good e hp asked ran within = record {
+    answer-good e hp asked ran = record {
       ghost = put-own T g c u;
-      reach = answer-reach T m g c (G .reach) e hp asked ran within;
+      reach = answer-reach T m g c (G .reach) e hp asked ran;
       recorded = recorded-put y u (m .lock) (calm-recorded T (σ .clients) (m .lock) (G .recorded) c (transaction-of T y u) (unprepared (ap after-commit hp)));
       legal = G .legal;
       said-as = said-upd _ u (ap (λ t. shown-of T e ∷ t) (G .said-as c));
@@ -247,8 +245,7 @@ module _ (T : Setting) where
   move-good {m = m} G (begins c h) = cleared-good m G c opened (m .lock) (begin-reach T m (G .ghost) c (G .reach) h) (blank-calm m G c opened)
   move-good {m = m} G (uses-copy c o k hp hf e) = read-good m G c o k hp hf (G .legal c o k e)
   move-good {m = m} G (fetches c s o hp hf k) = read-good m G c o _ hp hf (stored-legal m G c s o k)
-  move-good {m = m} G (answers c e hp asked ran within) =
-      answer-good m G c e hp asked ran (λ o. written-all eqObj (seen T (m .slots c) .read) (writes (e .result)) o within)
+  move-good {m = m} G (answers c e hp asked ran) = answer-good m G c e hp asked ran
   move-good {m = m} G (commits c hp) =
       calm-good m G c _ (G .ghost .own c) (commit-reach T m (G .ghost) c (G .reach) hp) (unprepared m G c (ap after-commit hp)) refl
   move-good {m = m} G (prepares c s hp new pass granted) = prepare-good m G c s hp new pass granted

@@ -9,10 +9,12 @@ use native.Mathlib.Omega.{arith}
 use Rattle.base.specs.Test.{yes?, yes-of, of-yes}
 use Rattle.base.specs.Update.{upd}
 use Rattle.plans.specs.Plan.{Plan, ask, done, Out, gives, fails, exec}
-use Rattle.protocol.specs.Setting.{Setting, Among}
+use Rattle.plans.specs.Walk.{Every}
+use Rattle.protocol.specs.Setting.{Setting}
+use Rattle.protocol.specs.Lists.{Among}
 use Rattle.protocol.specs.Writes.{latest}
 use Rattle.protocol.specs.Meaning.{Meaning, Shown}
-use Rattle.protocol.specs.Outer.{SeesOuter, outer-asked}
+use Rattle.protocol.specs.Shape.{SeesOuter, outer-asked, WritesAsked, written-asked}
 
 -- the leaf of a server
 pub data Obj : Type 0 where
@@ -51,6 +53,12 @@ sees (look root) h = absurd (false≢true h)
 sees (look (leaf a)) h = λ v. refl
 sees (put a b n) h = λ v u. refl
 sees (turn n) h = absurd (false≢true h)
+
+pub within : (p : Op) → WritesAsked (Obj-discrete Bool-discrete) (λ r. r .1) (plan p) []
+unfolding WritesAsked Every Among
+within (look o) = λ v. tt
+within (put a b n) = λ v u. (inl refl, tt)
+within (turn n) = λ v. (inl refl, tt)
 
 abbrev pub keeps : Bool → Obj → Bool
 keeps s root = true
@@ -107,6 +115,7 @@ tiny = record {
   answer-of = λ r. r .0;
   compared = compared;
   asks-outer = λ p asked M r h. outer-asked inner (plan p) asked M r (sees p h);
+  writes-asked = λ p asked M r. written-asked (Obj-discrete Bool-discrete) (λ r. r .1) (plan p) asked M r (within p);
 }
 
 -- THE MEANING: the map is what the leaves hold

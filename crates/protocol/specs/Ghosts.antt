@@ -18,7 +18,7 @@ use Rattle.protocol.specs.Machine.{committed-slot, decided-slot, with-sl
 use Rattle.protocol.specs.Items.{find-item, participants-right}
 
 module _ (T : Setting) where
-  open Setting T using (Obj, Server, Client, Val, eqObj, eqClient, servers, by-value, init, plan, writes)
+  open Setting T using (Obj, Server, Client, Val, eqObj, eqClient, servers, by-value, init, plan, writes, writes-asked)
 
   -- of a client: its trace, and the versions that its objects checked by value have been given
   pub record Own : Type 0 where
@@ -194,8 +194,8 @@ module _ (T : Setting) where
       go (yes p) q rec = rw (q, find) refl
       go (no n) q rec = rw (q, find) rec
 
-  module _ (y : Slot T) (u : Own) (e : Entry T)
-      (within : (o : Obj) → writes? eqObj (writes (e .result)) o ≡ true → transaction-of y u .read o ≡ true) where
+  module _ (y : Slot T) (u : Own) (e : Entry T) (asked : Asked (plan (e .op)) (transaction-of y u .read) (view T (transaction-of y u)))
+      (ran : exec (plan (e .op)) (view T (transaction-of y u)) ≡ gives (e .result)) where
     abbrev is : List (Item T)
     is = y .items
 
@@ -206,7 +206,9 @@ module _ (T : Setting) where
     unwritten o q = go (bool-cases (writes? eqObj ws o))
       where
         go : (writes? eqObj ws o ≡ true) ⊎ (writes? eqObj ws o ≡ false) → writes? eqObj ws o ≡ false
-        go (inl h) = absurd (false≢true (sym (ap (says T (λ i. true) false) q) ∙ within o h))
+        go (inl h) =
+            let x = transaction-of y u in
+            absurd (false≢true (sym (ap (says T (λ i. true) false) q) ∙ writes-asked (e .op) (x .read) (view T x) (e .result) asked ran o h))
         go (inr h) = h
 
     -- what an item says stays, if it is not about writes
@@ -249,11 +251,10 @@ module _ (T : Setting) where
   pub answer-reach : (m : Machine T) (g : Ghost) (c : Client) → Reach T (state-of m g) → (e : Entry T) → m .slots c .phase ≡ opened
       → Asked (plan (e .op)) (transaction-of (m .slots c) (g .own c) .read) (view T (transaction-of (m .slots c) (g .own c)))
       → exec (plan (e .op)) (view T (transaction-of (m .slots c) (g .own c))) ≡ gives (e .result)
-      → ((o : Obj) → writes? eqObj (writes (e .result)) o ≡ true → transaction-of (m .slots c) (g .own c) .read o ≡ true)
       → Reach T (state-of (with-slot T m c (answered-slot T (m .slots c) (writes (e .result))))
       (put-own g c (record { trace = e ∷ g .own c .trace; stamps = g .own c .stamps })))
-  answer-reach m g c r e hp asked ran within =
-      subst (λ σ. Reach T σ) (sym (state-put m g c _ _ _ (slot-answered (m .slots c) (g .own c) e within))) (after r (answer c e hp asked ran within))
+  answer-reach m g c r e hp asked ran =
+      subst (λ σ. Reach T σ) (sym (state-put m g c _ _ _ (slot-answered (m .slots c) (g .own c) e asked ran))) (after r (answer c e hp asked ran))
 
   -- COMMIT
   pub commit-reach : (m : Machine T) (g : Ghost) (c : Client) → Reach T (state-of m g) → m .slots c .phase ≡ opened

@@ -1,13 +1,12 @@
 -- An operation of the protocol is a public one with its hint: what the client saw of the vectors, which are no objects and are not checked.
 -- A plan that asks for vectors too, walked over all that is at hand, comes to the same as the hinted plan walked over the objects alone.
 use mathlib.Core.Path.{_≡_, refl, ap, sym, _∙_, subst}
-use mathlib.Core.Bool.{Bool, true, false, _||_, not}
+use mathlib.Core.Bool.{Bool, true}
 use mathlib.Core.List.{List, [], _∷_}
 use mathlib.Core.Logic.{_⊎_, inl, inr}
 use mathlib.Core.Option.{Option, some}
-use Rattle.plans.specs.Plan.{Plan, ask, done, fail, Out, hinted}
+use Rattle.plans.specs.Plan.{Plan, ask, done, fail, Out, Asked, with-hint, hinted}
 use Rattle.plans.specs.Walk.{Met, lacks, ends, walk, used, walk-has, used-has, walk-met}
-use Rattle.protocol.specs.Outer.{SeesOuter}
 
 -- a value at hand is what the hint says, or what is at hand of the object that the question is passed on to
 abbrev pub Fits : {Rest Val : Type 0} → (Rest → Option Val) → Val ⊎ Rest → Val → Type 0
@@ -18,6 +17,10 @@ Fits rest (inr r) v = rest r ≡ some v
 unfoldable pub objects : {Obj Rest Val : Type 0} → (Obj → Val ⊎ Rest) → List Obj → List Rest
 objects hint [] = []
 objects hint (o ∷ os) = elim (hint o) [ inl u ↦ objects hint os | inr r ↦ r ∷ objects hint os ]
+
+-- what is asked for, counting what a hint tells
+unfoldable pub asked-with : {Obj Rest Val : Type 0} → (Obj → Val ⊎ Rest) → (Rest → Bool) → Obj → Bool
+asked-with hint asked o = elim (hint o) [ inl u ↦ true | inr r ↦ asked r ]
 
 -- the outcome of a walk that ends
 came-to : {Obj Res Why : Type 0} → Out Res Why → Met Obj Res Why → Out Res Why
@@ -60,22 +63,18 @@ module _ {Obj Rest Val Res Why : Type 0} (hint : Obj → Val ⊎ Rest) where
   walk-hinted have rest fits (done r) e w = (ap ends (ap (came-to e) w), refl)
   walk-hinted have rest fits (fail y) e w = (ap ends (ap (came-to e) w), refl)
 
-  -- where vectors do not count as outer, the hinted plan asks for an outer object if the plan does
-  pub sees-hinted : (inner : Obj → Val → Bool) (inner-rest : Rest → Val → Bool) → ((o : Obj) (u : Val) → hint o ≡ inl u → (v : Val) → inner o v ≡ true)
-      → ((o : Obj) (r : Rest) → hint o ≡ inr r → (v : Val) → inner-rest r v ≡ inner o v)
-      → (p : Plan Obj Val Res Why) (b : Bool) → SeesOuter inner p b → SeesOuter inner-rest (hinted hint p) b
-  unfolding SeesOuter hinted
-  sees-hinted inner inner-rest vectors same (ask o k) b h = go (hint o) refl (λ v c. sees-hinted inner inner-rest vectors same (k v) c)
+  -- what the hinted plan asks for the plan asks for, but for what the hint tells: so what holds of the plan's questions and writes holds of
+  -- the hinted plan's
+  pub asked-hinted : (p : Plan Obj Val Res Why) (asked : Rest → Bool) (M : Rest → Val) → Asked (hinted hint p) asked M
+      → Asked p (asked-with hint asked) (with-hint hint M)
+  unfolding Asked asked-with with-hint hinted
+  asked-hinted (ask o k) asked M h = go (hint o) refl (λ v. asked-hinted (k v) asked M)
     where
-      go : (z : Val ⊎ Rest) → hint o ≡ z
-          → ((v : Val) (c : Bool) → SeesOuter inner (k v) c → SeesOuter inner-rest (hinted hint (k v)) c)
-          → SeesOuter inner-rest (hinted hint (ask o k)) b
-      go (inl u) q rec = subst (λ p. SeesOuter inner-rest p b) (sym (told o k u q)) (rec u b (subst (SeesOuter inner (k u)) (unseen b) (h u)))
-        where
-          unseen : (b : Bool) → (b || not (inner o u)) ≡ b
-          unseen true = refl
-          unseen false = rw (vectors o u q u) refl
-      go (inr r) q rec = subst (λ p. SeesOuter inner-rest p b) (sym (passed-on o k r q))
-          (λ v. subst (λ i. SeesOuter inner-rest (hinted hint (k v)) (b || not i)) (sym (same o r q v)) (rec v (b || not (inner o v)) (h v)))
-  sees-hinted inner inner-rest vectors same (done r) b h = h
-  sees-hinted inner inner-rest vectors same (fail y) b h = tt
+      go : (z : Val ⊎ Rest) → hint o ≡ z → ((v : Val) → Asked (hinted hint (k v)) asked M → Asked (k v) (asked-with hint asked) (with-hint hint M))
+          → Asked (ask o k) (asked-with hint asked) (with-hint hint M)
+      go (inl v) q rec = (rw (q, asked-with) refl, rw (q, with-hint) (rec v (subst (λ p. Asked p asked M) (told o k v q) h)))
+      go (inr r) q rec =
+          let h′ = subst (λ p. Asked p asked M) (passed-on o k r q) h in
+          (rw (q, asked-with) (h′ .0), rw (q, with-hint) (rec (M r) (h′ .1)))
+  asked-hinted (done r) asked M h = tt
+  asked-hinted (fail y) asked M h = tt

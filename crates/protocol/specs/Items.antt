@@ -6,8 +6,8 @@ use mathlib.Core.Logic.{_⊎_, inl, inr}
 use mathlib.Core.Option.{Option, none, some, Option·none-ne-some, Option·some-injective}
 use native.Mathlib.Decide.{ℕ-discrete}
 use Rattle.base.specs.Test.{bool-cases, not-both, cond-true, or-left, or-right, yes?, yes-of, of-yes}
-use Rattle.protocol.specs.Setting.{Setting, Among}
-use Rattle.protocol.specs.Lists.{all, any, all-among, any-among}
+use Rattle.protocol.specs.Setting.{Setting}
+use Rattle.protocol.specs.Lists.{Among, all, any, all-among, any-among}
 use Rattle.protocol.specs.System.{inner-before-after, Checked, ReadLock, LockedAt, WriteLock, Parts}
 use Rattle.protocol.specs.Machine.{Item, find, says, test, Slot, Lock, shared, owned, Machine, seen, item-inner, for-all, for-home}
 use Rattle.protocol.specs.Machine.{participants}

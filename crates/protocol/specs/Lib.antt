@@ -18,8 +18,8 @@ pub mod Machine
 pub mod Claim
 -- a work step, fetching or answering, as moves of the machine
 pub mod Work
--- how a plan is shown to ask for an outer object, which Setting demands of the compared ones
-pub mod Outer
+-- how a plan is shown, by its shape, to meet what Setting demands of it
+pub mod Shape
 -- operations with hints: a walk that asks for vectors too, carried over to the hinted plan
 pub mod Hints
 -- EXAMPLES, by computation

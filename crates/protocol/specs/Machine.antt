@@ -278,7 +278,6 @@ module _ (T : Setting) where
     answers : (c : Client) (e : Entry T) → m .slots c .phase ≡ opened
         → Asked (plan (e .op)) (seen (m .slots c) .read) (view T (seen (m .slots c)))
         → exec (plan (e .op)) (view T (seen (m .slots c))) ≡ gives (e .result)
-        → all (λ w. seen (m .slots c) .read (w .0)) (writes (e .result)) ≡ true
         → Move m (turned m (upd eqClient (m .slots) c (answered-slot (m .slots c) (writes (e .result)))) (m .lock)
         (upd eqClient (m .said) c (shown-of T e ∷ m .said c)) (m .log))
     commits : (c : Client) → m .slots c .phase ≡ opened → Move m (with-slot m c (committed-slot (m .slots c)))

@@ -5,7 +5,8 @@ use mathlib.Core.List.{List, [], _∷_}
 use mathlib.Core.Logic.{_⊎_, inl, inr}
 use native.Mathlib.Omega.{arith}
 use Rattle.base.specs.Test.{bool-cases, not-both, cond-true, cond-false}
-use Rattle.protocol.specs.Setting.{Setting, Among}
+use Rattle.protocol.specs.Setting.{Setting}
+use Rattle.protocol.specs.Lists.{Among}
 use Rattle.protocol.specs.System.{idle, opened, decided, after-commit, is-decided, State, fresh, start, put, Step, begin, read, answer, commit}
 use Rattle.protocol.specs.System.{stamp, prepare, decide, apply, end, abort, Reach, initial, after}
 use Rattle.protocol.specs.Replay.{Replays, snapshot, due?, settled, Safe}
@@ -45,7 +46,7 @@ module _ (T : Setting) where
   step-inv : {σ τ : State T} → Inv T σ → Step T σ τ → Inv T τ
   step-inv {σ = σ} I (begin c h) = fresh-inv T σ I c opened refl refl (none-pending T (σ .clients c) (ap is-decided h))
   step-inv {σ = σ} I (read c o n hp hr hn) = read-inv T σ I c o n hp hr hn
-  step-inv {σ = σ} I (answer c e hp a r w) = answer-inv T σ I c e hp a r w
+  step-inv {σ = σ} I (answer c e hp a r) = answer-inv T σ I c e hp a r
   step-inv {σ = σ} I (commit c p l hp P) = commit-inv T σ I c p l hp P
   step-inv {σ = σ} I (stamp c n hp st) = stamp-inv T σ I c n hp st
   step-inv {σ = σ} I (prepare c s K) = prepare-inv T σ I c s K

@@ -2,13 +2,11 @@
 use mathlib.Core.Path.{_≡_}
 use mathlib.Core.Bool.{Bool, true, false}
 use mathlib.Core.HLevel.{Discrete}
-use mathlib.Core.List.{List, [], _∷_}
+use mathlib.Core.List.{List}
 use mathlib.Core.Logic.{_⊎_}
 use Rattle.plans.specs.Plan.{Plan, gives, exec, Asked}
-
-unfoldable pub Among : {A : Type 0} → A → List A → Type 0
-Among a [] = ⊥
-Among a (b ∷ l) = (a ≡ b) ⊎ Among a l
+use Rattle.protocol.specs.Lists.{Among}
+use Rattle.protocol.specs.Writes.{writes?}
 
 pub record Setting : Type 1 where
   -- "Objects are the metadata, nodes and flags"
@@ -55,3 +53,6 @@ pub record Setting : Type 1 where
   pub asks-outer : (p : Op) (asked : Obj → Bool) (M : Obj → Val) (r : Res)
       → compared (public p) ≡ true → Asked (plan p) asked M → exec (plan p) M ≡ gives r
       → (o : Obj) × (asked o ≡ true) × (inner o (M o) ≡ false)
+  -- what an operation writes it has asked for, so that it is read and checked
+  pub writes-asked : (p : Op) (asked : Obj → Bool) (M : Obj → Val) (r : Res) → Asked (plan p) asked M → exec (plan p) M ≡ gives r
+      → (o : Obj) → writes? eqObj (writes r) o ≡ true → asked o ≡ true

@@ -28,7 +28,7 @@ unfolding upd exec Asked writes? latest find all any first-of settled ℕ-discre
 run =
     let r1 : Reached tiny _ = moved at-first (begins false refl) in
     let r2 : Reached tiny _ = moved r1 (fetches false true (leaf true) refl refl refl) in
-    let r3 : Reached tiny _ = moved r2 (answers false put-seven refl (refl, (refl, tt)) refl refl) in
+    let r3 : Reached tiny _ = moved r2 (answers false put-seven refl (refl, (refl, tt)) refl) in
     let r4 : Reached tiny _ = moved r3 (commits false refl) in
     let r5 : Reached tiny _ = moved r4 (prepares false true refl refl refl refl) in
     let r6 : Reached tiny _ = moved r5 (decides false refl refl) in
@@ -36,7 +36,7 @@ run =
     let r8 : Reached tiny _ = moved r7 (ends false refl refl) in
     let r9 : Reached tiny _ = moved r8 (begins false refl) in
     let r10 : Reached tiny _ = moved r9 (fetches false true root refl refl refl) in
-    let r11 : Reached tiny _ = moved r10 (answers false turn-five refl (refl, tt) refl refl) in
+    let r11 : Reached tiny _ = moved r10 (answers false turn-five refl (refl, tt) refl) in
     let r12 : Reached tiny _ = moved r11 (commits false refl) in
     let r13 : Reached tiny _ = moved r12 (prepares false true refl refl refl refl) in
     let r14 : Reached tiny _ = moved r13 (prepares false false refl refl refl refl) in

@@ -259,11 +259,10 @@ module _ (T : Setting) where
     -- anything that the object once was: by a fetch, or from an old copy
     read : (c : Client) (o : Obj) (n : ℕ) → σ .clients c .phase ≡ opened → σ .clients c .read o ≡ false → n ≤ σ .current o
         → Step σ (put σ c (reading (σ .clients c) o (σ .history o n) n))
-    -- an operation is answered when all that its plan asks for has been read; what it writes it has read too
+    -- an operation is answered when all that its plan asks for has been read
     answer : (c : Client) (e : Entry) → σ .clients c .phase ≡ opened
         → Asked (plan (e .op)) (σ .clients c .read) (view (σ .clients c))
         → exec (plan (e .op)) (view (σ .clients c)) ≡ gives (e .result)
-        → ((o : Obj) → writes? eqObj (writes (e .result)) o ≡ true → σ .clients c .read o ≡ true)
         → Step σ (put σ c (answering (σ .clients c) e))
     commit : (c : Client) (p : Server → Bool) (l : Server) → σ .clients c .phase ≡ opened → Parts (σ .clients c) p l
         → Step σ (put σ c (with-parts (σ .clients c) p l))

@@ -10,7 +10,6 @@ use Rattle.plans.specs.Plan.{gives, exec, Asked}
 use Rattle.plans.specs.Walk.{ends, Every, Shows, walk, used, used-had, walk-exec, walk-asked}
 use Rattle.protocol.specs.Changed.{upd-none, upd-twice}
 use Rattle.protocol.specs.Setting.{Setting}
-use Rattle.protocol.specs.Lists.{all}
 use Rattle.protocol.specs.System.{opened, Entry, Transaction, view}
 use Rattle.protocol.specs.Meaning.{shown-of}
 use Rattle.protocol.specs.Machine.{Item, find, says, test, Slot, Copy, Machine, seen, item, with-items, answered-slot, turned, with-slot}
@@ -185,11 +184,10 @@ module _ (T : Setting) where
     -- WORK THAT ANSWERS: the writes enter, and the answer is said
     pub work-answers : (p : Op) (res : Res) → Reached T m → m .slots c .phase ≡ opened
         → walk (plan p) (have (m .copy c) (m .slots c .items)) ≡ ends (gives res)
-        → all (λ w. has-item (items-used p) (w .0)) (writes res) ≡ true
         → Reached T (turned T m (upd eqClient (m .slots) c (answered-slot T (with-items T (m .slots c) (items-used p)) (writes res))) (m .lock)
         (upd eqClient (m .said) c (shown-of T (record { op = p; result = res }) ∷ m .said c)) (m .log))
-    work-answers p res r hp walked within =
-        subst (λ n. Reached T n) path (moved (copies-enter os r hp) (answers c e (is-open is hp) asked ran within′))
+    work-answers p res r hp walked =
+        subst (λ n. Reached T n) path (moved (copies-enter os r hp) (answers c e (is-open is hp) asked ran))
       where
         e : Entry T
         e = record { op = p; result = res }
@@ -219,9 +217,6 @@ module _ (T : Setting) where
 
         ran : exec (plan p) (view T (seen T (having is .slots c))) ≡ gives res
         ran = subst (λ z. exec (plan p) (view T (seen T z)) ≡ gives res) (sym (here is)) (walk-exec (plan p) look (view T x) (gives res) shows walked)
-
-        within′ : all (λ w. seen T (having is .slots c) .read (w .0)) (writes res) ≡ true
-        within′ = subst (λ z. all (λ w. seen T z .read (w .0)) (writes res) ≡ true) (sym (here is)) within
 
         path : turned T (having is) (upd eqClient (having is .slots) c (answered-slot T (having is .slots c) (writes res))) (m .lock)
             (upd eqClient (m .said) c (shown-of T e ∷ m .said c)) (m .log)

@@ -17,7 +17,7 @@ use Rattle.protocol.specs.Invariant.{Content, Course, Reads, Pending, In
 use Rattle.protocol.specs.Put.{put-inv}
 
 module _ (T : Setting) where
-  open Setting T using (Obj, Server, Client, Val, eqObj, inner, by-value-outer, plan, writes, public, compared, asks-outer)
+  open Setting T using (Obj, Server, Client, Val, eqObj, inner, by-value-outer, plan, writes, public, compared, asks-outer, writes-asked)
 
   -- an undecided transaction has nothing pending
   pub none-pending : (x : Transaction T) → is-decided (x .phase) ≡ false → (s : Server) (o : Obj) → ¬ (Pending T x s o)
@@ -119,10 +119,9 @@ module _ (T : Setting) where
     pub answer-inv : (e : Entry T) → σ .clients c .phase ≡ opened
         → Asked (plan (e .op)) (σ .clients c .read) (view T (σ .clients c))
         → exec (plan (e .op)) (view T (σ .clients c)) ≡ gives (e .result)
-        → ((o : Obj) → writes? eqObj (writes (e .result)) o ≡ true → σ .clients c .read o ≡ true)
         → Inv T (put T σ c (answering T (σ .clients c) e))
     unfolding Answers effect Uncompared
-    answer-inv e hp asked ran within = sets-inv x′ hp hp (λ s. refl) content (I .course c) (I .reads c)
+    answer-inv e hp asked ran = sets-inv x′ hp hp (λ s. refl) content (I .course c) (I .reads c)
       where
         x′ : Transaction T
         x′ = answering T x e
@@ -131,7 +130,7 @@ module _ (T : Setting) where
         wrote = writes? eqObj (writes (e .result))
 
         was-read : (o : Obj) → (wrote o ≡ true) ⊎ (x .written o ≡ true) → x .read o ≡ true
-        was-read o (inl h) = within o h
+        was-read o (inl h) = writes-asked (e .op) (x .read) (view T x) (e .result) asked ran o h
         was-read o (inr h) = I .content c .written-read o h
 
         -- the plan asks only for what was read, so it has its result on every snapshot that agrees with that
