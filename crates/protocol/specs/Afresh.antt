@@ -10,7 +10,7 @@ use Rattle.base.specs.Update.{upd}
 use Rattle.plans.specs.Plan.{exec, Asked}
 use Rattle.protocol.specs.Writes.{writes?, latest}
 use Rattle.protocol.specs.Lists.{all, any}
-use Rattle.protocol.specs.System.{decided, Entry}
+use Rattle.protocol.specs.State.{decided, Entry}
 use Rattle.protocol.specs.Meaning.{Shown, map-of, map-all, Right, Right-all}
 use Rattle.protocol.specs.Machine.{Machine, find, first-of, stored-at, begins, fetches, answers, commits, prepares, decides, applies, ends}
 use Rattle.protocol.specs.Machine.{Reached}

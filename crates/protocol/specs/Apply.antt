@@ -7,8 +7,8 @@ use Rattle.base.specs.Test.{bool-cases, not-both}
 use Rattle.base.specs.Update.{upd-other, upd-all}
 use Rattle.protocol.specs.Changed.{upd-both}
 use Rattle.protocol.specs.Setting.{Setting}
-use Rattle.protocol.specs.System.{decided, after-commit, is-decided, Transaction, State, applying, next-version, in-tables}
-use Rattle.protocol.specs.System.{after-apply, Parts}
+use Rattle.protocol.specs.State.{decided, after-commit, is-decided, Transaction, State, applying}
+use Rattle.protocol.specs.System.{next-version, in-tables, after-apply, Parts}
 use Rattle.protocol.specs.Invariant.{Content, Course, Reads, Kept, OuterSince, Due, Pending, PendingInner, Newest, TableRight, Inv}
 use Rattle.protocol.specs.Put.{still, apart-upd}
 

@@ -12,8 +12,8 @@ use Rattle.plans.specs.Plan.{gives, exec, Asked}
 use Rattle.protocol.specs.Changed.{upd-both}
 use Rattle.protocol.specs.Setting.{Setting}
 use Rattle.protocol.specs.Lists.{all}
-use Rattle.protocol.specs.System.{idle, opened, committing, decided, after-commit, is-decided, Phase, Entry, State, fresh, start, view, Reach}
-use Rattle.protocol.specs.System.{initial}
+use Rattle.protocol.specs.State.{idle, opened, committing, decided, after-commit, is-decided, Phase, Entry, State, fresh, start, view}
+use Rattle.protocol.specs.System.{Reach, initial}
 use Rattle.protocol.specs.Replay.{snapshot, due?, settled}
 use Rattle.protocol.specs.Invariant.{Inv}
 use Rattle.protocol.specs.History.{history-old, current-le}

@@ -8,8 +8,8 @@ use native.Mathlib.Omega.{arith}
 use Rattle.base.specs.Test.{bool-cases, not-both, cond-false, or-left}
 use Rattle.base.specs.Update.{upd-same, upd-all}
 use Rattle.protocol.specs.Setting.{Setting}
-use Rattle.protocol.specs.System.{committing, after-commit, is-decided, Transaction, State, inner-before-after, Holds, Checked, WriteLock}
-use Rattle.protocol.specs.System.{Apart, deciding, after-decision, Parts}
+use Rattle.protocol.specs.State.{committing, after-commit, is-decided, Transaction, State, deciding}
+use Rattle.protocol.specs.System.{inner-before-after, Holds, Checked, WriteLock, Apart, after-decision, Parts}
 use Rattle.protocol.specs.Replay.{Uncompared, Runs, Replays, snapshot}
 use Rattle.protocol.specs.Invariant.{Content, Course, Reads, Kept, Due, Pending, PendingInner, Newest, TableRight, Inv}
 use Rattle.protocol.specs.Put.{still, apart-upd}

@@ -11,8 +11,9 @@ use Rattle.plans.specs.Plan.{gives, exec, Asked}
 use Rattle.protocol.specs.Changed.{upd-zip, upd-none}
 use Rattle.protocol.specs.Setting.{Setting}
 use Rattle.protocol.specs.Writes.{writes?, latest, latest-unwritten, latest-cond}
-use Rattle.protocol.specs.System.{Phase, idle, opened, committing, decided, is-decided, Entry, Transaction, Decided, State, view, fresh}
-use Rattle.protocol.specs.System.{reading, answering, put, after-decision, begin, read, answer, commit, decide, end, abort, Reach, after}
+use Rattle.protocol.specs.State.{Phase, idle, opened, committing, decided, is-decided, Entry, Transaction, Decided, State, view, fresh, reading}
+use Rattle.protocol.specs.State.{answering, put}
+use Rattle.protocol.specs.System.{after-decision, begin, read, answer, commit, decide, end, abort, Reach, after}
 use Rattle.protocol.specs.Machine.{Item, find, says, test, Slot, Machine, blank, item, with-item, wrote, answered-slot, participants, first-of}
 use Rattle.protocol.specs.Machine.{committed-slot, decided-slot, with-slot}
 use Rattle.protocol.specs.Items.{find-item, participants-right}

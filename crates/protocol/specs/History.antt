@@ -9,7 +9,8 @@ use native.Mathlib.Omega.{arith}
 use Rattle.base.specs.Test.{bool-cases, not-both, cond-true, cond-false, or-left, or-neither}
 use Rattle.base.specs.Update.{upd, upd-same, upd-other}
 use Rattle.protocol.specs.Setting.{Setting}
-use Rattle.protocol.specs.System.{committing, after-commit, is-decided, Transaction, State, inner-before-after, after-decision, Parts}
+use Rattle.protocol.specs.State.{committing, after-commit, is-decided, Transaction, State}
+use Rattle.protocol.specs.System.{inner-before-after, after-decision, Parts}
 use Rattle.protocol.specs.Replay.{snapshot}
 use Rattle.protocol.specs.Invariant.{Reads, OuterSince, Inv}
 

@@ -11,8 +11,8 @@ use mathlib.Core.List.{List}
 use mathlib.Core.Logic.{_⊎_}
 use Prim.Native.Nat.{ℕ, suc, _≤_, _<_}
 use Rattle.protocol.specs.Setting.{Setting}
-use Rattle.protocol.specs.System.{Phase, after-commit, is-decided, Entry, Transaction, State, inner-before-after, Holds, Checked, LockedAt}
-use Rattle.protocol.specs.System.{Apart, Parts}
+use Rattle.protocol.specs.State.{Phase, after-commit, is-decided, Entry, Transaction, State}
+use Rattle.protocol.specs.System.{inner-before-after, Holds, Checked, LockedAt, Apart, Parts}
 use Rattle.protocol.specs.Replay.{effect, Answers, Uncompared, Replays}
 
 module _ (T : Setting) where

@@ -4,7 +4,9 @@
 -- WHAT IS SAID
 -- what the protocol is told of a store and its operations
 pub mod Setting
--- 01's transaction rules as a transition system: states, locks, steps
+-- a transaction, and the state of clients and servers
+pub mod State
+-- 01's transaction rules as a transition system
 pub mod System
 -- the theorem's statement: the decided transactions replayed, and the stores with the due writes counted in
 pub mod Replay

@@ -4,8 +4,8 @@ use mathlib.Core.Bool.{true, false}
 use mathlib.Core.Logic.{_⊎_, inl, inr}
 use Rattle.base.specs.Test.{bool-cases, or-left, or-neither}
 use Rattle.protocol.specs.Setting.{Setting}
-use Rattle.protocol.specs.System.{Phase, idle, opened, committing, decided, after-commit, is-decided, Transaction, State, inner-before-after}
-use Rattle.protocol.specs.System.{Holds, LockedAt, WriteLock, Parts}
+use Rattle.protocol.specs.State.{Phase, idle, opened, committing, decided, after-commit, is-decided, Transaction, State}
+use Rattle.protocol.specs.System.{inner-before-after, Holds, LockedAt, WriteLock, Parts}
 use Rattle.protocol.specs.Invariant.{Content, Pending, Inv}
 
 decided-committed : (p : Phase) → is-decided p ≡ true → after-commit p ≡ true

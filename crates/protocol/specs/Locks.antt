@@ -7,7 +7,8 @@ use Rattle.base.specs.Test.{bool-cases, not-both, cond-true, or-left, or-right,
 use Rattle.base.specs.Update.{upd, upd-same, upd-other, upd-all}
 use Rattle.protocol.specs.Setting.{Setting}
 use Rattle.protocol.specs.Lists.{any, any-among}
-use Rattle.protocol.specs.System.{Transaction, Holds, ReadLock, WriteLock, Apart, preparing, deciding, applying}
+use Rattle.protocol.specs.State.{Transaction, preparing, deciding, applying}
+use Rattle.protocol.specs.System.{Holds, ReadLock, WriteLock, Apart}
 use Rattle.protocol.specs.Machine.{Lock, shared, owned, grants, grant, share, drop}
 
 module _ (T : Setting) where

@@ -12,7 +12,7 @@ use Rattle.plans.specs.Plan.{gives, exec, Asked}
 use Rattle.protocol.specs.Setting.{Setting}
 use Rattle.protocol.specs.Writes.{writes?, latest}
 use Rattle.protocol.specs.Lists.{all, any}
-use Rattle.protocol.specs.System.{Phase, idle, opened, committing, decided, is-decided, Entry, Transaction, view}
+use Rattle.protocol.specs.State.{Phase, idle, opened, committing, decided, is-decided, Entry, Transaction, view}
 use Rattle.protocol.specs.Meaning.{Shown, shown-of}
 
 module _ (T : Setting) where

@@ -7,7 +7,7 @@ use Rattle.base.specs.Test.{not-both}
 use Rattle.plans.specs.Plan.{gives, exec}
 use Rattle.protocol.specs.Setting.{Setting}
 use Rattle.protocol.specs.Writes.{latest}
-use Rattle.protocol.specs.System.{Entry, Decided}
+use Rattle.protocol.specs.State.{Entry, Decided}
 use Rattle.protocol.specs.Replay.{effect, Answers, Uncompared, Runs, Replays}
 
 pub record Meaning (T : Setting) : Type 1 where

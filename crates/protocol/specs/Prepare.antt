@@ -8,7 +8,8 @@ use native.Mathlib.Omega.{arith}
 use Rattle.base.specs.Test.{not-both}
 use Rattle.base.specs.Update.{upd-other}
 use Rattle.protocol.specs.Setting.{Setting}
-use Rattle.protocol.specs.System.{after-commit, is-decided, Transaction, State, Holds, Checked, ReadLock, Apart, preparing, put, CanPrepare}
+use Rattle.protocol.specs.State.{after-commit, is-decided, Transaction, State, preparing, put}
+use Rattle.protocol.specs.System.{Holds, Checked, ReadLock, Apart, CanPrepare}
 use Rattle.protocol.specs.Invariant.{OuterSince, Pending, Newest, TableRight, Inv}
 use Rattle.protocol.specs.Put.{put-inv}
 use Rattle.protocol.specs.Working.{none-pending}

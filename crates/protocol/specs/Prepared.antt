@@ -8,7 +8,8 @@ use Rattle.base.specs.Test.{bool-cases, not-both, yes?, of-yes}
 use Rattle.base.specs.Update.{upd-same}
 use Rattle.protocol.specs.Setting.{Setting}
 use Rattle.protocol.specs.Lists.{all, all-among}
-use Rattle.protocol.specs.System.{committing, Transaction, State, Stamp, Checks, CanPrepare, stamp, prepare, Reach, after}
+use Rattle.protocol.specs.State.{committing, Transaction, State}
+use Rattle.protocol.specs.System.{Stamp, Checks, CanPrepare, stamp, prepare, Reach, after}
 use Rattle.protocol.specs.Invariant.{Inv}
 use Rattle.protocol.specs.Safety.{reach-inv}
 use Rattle.protocol.specs.Machine.{Item, find, test, Slot, Machine, check, to-write, to-read, grants, granted-at, prepared-slot, with-slot}

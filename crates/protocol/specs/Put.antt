@@ -5,7 +5,8 @@ use mathlib.Core.Logic.{inl, inr}
 use Rattle.base.specs.Test.{not-both}
 use Rattle.base.specs.Update.{upd, upd-other, upd-all}
 use Rattle.protocol.specs.Setting.{Setting}
-use Rattle.protocol.specs.System.{after-commit, is-decided, Transaction, State, Holds, Apart, put, Parts}
+use Rattle.protocol.specs.State.{after-commit, is-decided, Transaction, State, put}
+use Rattle.protocol.specs.System.{Holds, Apart, Parts}
 use Rattle.protocol.specs.Invariant.{Content, Course, Reads, Kept, Due, Pending, PendingInner, Newest, TableRight, Inv}
 
 module _ (T : Setting) where

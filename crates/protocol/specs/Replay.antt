@@ -5,7 +5,7 @@ use mathlib.Core.List.{List, [], _∷_}
 use Rattle.plans.specs.Plan.{gives, exec}
 use Rattle.protocol.specs.Setting.{Setting}
 use Rattle.protocol.specs.Writes.{latest}
-use Rattle.protocol.specs.System.{is-decided, Entry, Transaction, Decided, State}
+use Rattle.protocol.specs.State.{is-decided, Entry, Transaction, Decided, State}
 
 module _ (T : Setting) where
   open Setting T using (Obj, Server, Client, Val, eqObj, clients, keeps, init, plan, public, compared, writes)

@@ -7,8 +7,8 @@ use native.Mathlib.Omega.{arith}
 use Rattle.base.specs.Test.{bool-cases, not-both, cond-true, cond-false}
 use Rattle.protocol.specs.Setting.{Setting}
 use Rattle.protocol.specs.Lists.{Among}
-use Rattle.protocol.specs.System.{idle, opened, decided, after-commit, is-decided, State, fresh, start, put, Step, begin, read, answer, commit}
-use Rattle.protocol.specs.System.{stamp, prepare, decide, apply, end, abort, Reach, initial, after}
+use Rattle.protocol.specs.State.{idle, opened, decided, after-commit, is-decided, State, fresh, start, put}
+use Rattle.protocol.specs.System.{Step, begin, read, answer, commit, stamp, prepare, decide, apply, end, abort, Reach, initial, after}
 use Rattle.protocol.specs.Replay.{Replays, snapshot, due?, settled, Safe}
 use Rattle.protocol.specs.Invariant.{Pending, Newest, Inv}
 use Rattle.protocol.specs.Working.{none-pending, fresh-content, fresh-course, fresh-inv, read-inv, answer-inv, commit-inv, stamp-inv}

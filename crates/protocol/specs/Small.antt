@@ -8,7 +8,7 @@ use Rattle.base.specs.Update.{upd}
 use Rattle.plans.specs.Plan.{exec, Asked}
 use Rattle.protocol.specs.Writes.{writes?, latest}
 use Rattle.protocol.specs.Lists.{all, any}
-use Rattle.protocol.specs.System.{Entry}
+use Rattle.protocol.specs.State.{Entry}
 use Rattle.protocol.specs.Replay.{settled}
 use Rattle.protocol.specs.Machine.{Machine, find, first-of, begins, fetches, answers, commits, prepares, decides, applies, ends, Reached}
 use Rattle.protocol.specs.Machine.{at-first, moved}

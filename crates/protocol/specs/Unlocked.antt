@@ -8,7 +8,7 @@ use Rattle.base.specs.Update.{upd}
 use Rattle.plans.specs.Plan.{exec, Asked}
 use Rattle.protocol.specs.Writes.{writes?, latest}
 use Rattle.protocol.specs.Lists.{all, any}
-use Rattle.protocol.specs.System.{committing, Entry}
+use Rattle.protocol.specs.State.{committing, Entry}
 use Rattle.protocol.specs.Meaning.{Shown, map-of, map-all, Right, Right-all}
 use Rattle.protocol.specs.Machine.{Machine, find, first-of, check, to-write, to-read, grants, granted-row, prepared-slot, turned, begins}
 use Rattle.protocol.specs.Machine.{fetches, answers, commits, decides, Reached}

@@ -10,7 +10,7 @@ use Rattle.plans.specs.Plan.{gives, exec, Asked}
 use Rattle.plans.specs.Walk.{ends, Every, Shows, walk, used, used-had, walk-exec, walk-asked}
 use Rattle.protocol.specs.Changed.{upd-none, upd-twice}
 use Rattle.protocol.specs.Setting.{Setting}
-use Rattle.protocol.specs.System.{opened, Entry, Transaction, view}
+use Rattle.protocol.specs.State.{opened, Entry, Transaction, view}
 use Rattle.protocol.specs.Meaning.{shown-of}
 use Rattle.protocol.specs.Machine.{Item, find, says, test, Slot, Copy, Machine, seen, item, with-items, answered-slot, turned, with-slot}
 use Rattle.protocol.specs.Machine.{uses-copy}

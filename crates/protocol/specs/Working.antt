@@ -10,8 +10,9 @@ use Rattle.base.specs.Update.{upd-same, upd-other}
 use Rattle.plans.specs.Plan.{gives, exec, Asked, exec-frame}
 use Rattle.protocol.specs.Setting.{Setting}
 use Rattle.protocol.specs.Writes.{writes?, latest, latest-cond}
-use Rattle.protocol.specs.System.{Phase, opened, committing, after-commit, is-decided, Entry, Transaction, State, view, Checked, fresh, reading}
-use Rattle.protocol.specs.System.{answering, stamping, with-parts, put, Parts, Stamp}
+use Rattle.protocol.specs.State.{Phase, opened, committing, after-commit, is-decided, Entry, Transaction, State, view, fresh, reading}
+use Rattle.protocol.specs.State.{answering, stamping, with-parts, put}
+use Rattle.protocol.specs.System.{Checked, Parts, Stamp}
 use Rattle.protocol.specs.Replay.{effect, Answers, Uncompared}
 use Rattle.protocol.specs.Invariant.{Content, Course, Reads, Pending, Inv}
 use Rattle.protocol.specs.Put.{put-inv}
