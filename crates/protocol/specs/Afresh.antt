@@ -12,8 +12,8 @@ use Rattle.protocol.specs.Writes.{writes?, latest}
 use Rattle.protocol.specs.Lists.{all, any}
 use Rattle.protocol.specs.State.{decided, Entry}
 use Rattle.protocol.specs.Meaning.{Shown, map-of, map-all, Right, Right-all}
-use Rattle.protocol.specs.Machine.{Machine, find, first-of, stored-at, begins, fetches, answers, commits, prepares, decides, applies, ends}
-use Rattle.protocol.specs.Machine.{Reached}
+use Rattle.protocol.specs.Machine.{Machine, find}
+use Rattle.protocol.specs.Moves.{first-of, stored-at, begins, fetches, answers, commits, prepares, decides, applies, ends, Reached}
 use Rattle.protocol.specs.Variant.{ReachedWith, at-start, by-rule, also, never}
 use Rattle.protocol.specs.Example.{leaf, look, put, tiny, leaves, one, one≢seven}
 

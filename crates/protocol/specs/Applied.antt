@@ -8,7 +8,8 @@ use Rattle.protocol.specs.Changed.{upd-zip}
 use Rattle.protocol.specs.Setting.{Setting}
 use Rattle.protocol.specs.State.{decided, Transaction, State}
 use Rattle.protocol.specs.System.{inner-before-after, after-apply, apply, Reach, after}
-use Rattle.protocol.specs.Machine.{Item, says, Machine, row, for-all, applied-slot, applied-at}
+use Rattle.protocol.specs.Machine.{Item, says, Machine}
+use Rattle.protocol.specs.Moves.{row, for-all, applied-slot, applied-at}
 use Rattle.protocol.specs.Items.{by-item}
 use Rattle.protocol.specs.Ghosts.{Ghost, item-version, transaction-of, state-of, clients-put}
 

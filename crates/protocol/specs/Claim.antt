@@ -19,10 +19,11 @@ use Rattle.protocol.specs.Invariant.{Inv}
 use Rattle.protocol.specs.History.{history-old, current-le}
 use Rattle.protocol.specs.Safety.{reach-inv, safety}
 use Rattle.protocol.specs.Meaning.{Meaning, Shown, shown-of, show, show-all, map-all, Right-all, log-right}
-use Rattle.protocol.specs.Machine.{Item, find, says, Slot, Copy, Lock, Machine, blank, first-machine, with-item, seen, answered-slot, check}
-use Rattle.protocol.specs.Machine.{to-write, to-read, grants, granted-at, prepared-slot, decided-slot, applied-slot, applied-at, turned}
-use Rattle.protocol.specs.Machine.{with-slot, cleared, with-copies, Copied, as-before, dropped, fetched, renewed, Move, begins, uses-copy}
-use Rattle.protocol.specs.Machine.{fetches, answers, commits, prepares, decides, applies, ends, aborts, copies, Reached, at-first, moved}
+use Rattle.protocol.specs.Machine.{Item, find, says, Slot, Copy, Lock, Machine, blank, first-machine, with-item, seen, turned, with-slot}
+use Rattle.protocol.specs.Machine.{with-copies}
+use Rattle.protocol.specs.Moves.{answered-slot, check, to-write, to-read, grants, granted-at, prepared-slot, decided-slot, applied-slot}
+use Rattle.protocol.specs.Moves.{applied-at, cleared, Copied, as-before, dropped, fetched, renewed, Move, begins, uses-copy, fetches, answers}
+use Rattle.protocol.specs.Moves.{commits, prepares, decides, applies, ends, aborts, copies, Reached, at-first, moved}
 use Rattle.protocol.specs.Items.{each-part}
 use Rattle.protocol.specs.Locks.{Recorded, calm-recorded, drop-recorded, decide-recorded, apply-recorded}
 use Rattle.protocol.specs.Ghosts.{Own, Ghost, nothing, transaction-of, state-of, put-own, clients-put, stamped, begin-reach, abort-reach}

@@ -14,8 +14,8 @@ use Rattle.protocol.specs.Writes.{writes?, latest, latest-unwritten, lat
 use Rattle.protocol.specs.State.{Phase, idle, opened, committing, decided, is-decided, Entry, Transaction, Decided, State, view, fresh, reading}
 use Rattle.protocol.specs.State.{answering, put}
 use Rattle.protocol.specs.System.{after-decision, begin, read, answer, commit, decide, end, abort, Reach, after}
-use Rattle.protocol.specs.Machine.{Item, find, says, test, Slot, Machine, blank, item, with-item, wrote, answered-slot, participants, first-of}
-use Rattle.protocol.specs.Machine.{committed-slot, decided-slot, with-slot}
+use Rattle.protocol.specs.Machine.{Item, find, says, test, Slot, Machine, blank, item, with-item, with-slot}
+use Rattle.protocol.specs.Moves.{wrote, answered-slot, participants, first-of, committed-slot, decided-slot}
 use Rattle.protocol.specs.Items.{find-item, participants-right}
 
 module _ (T : Setting) where

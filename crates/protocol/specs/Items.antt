@@ -9,9 +9,8 @@ use Rattle.base.specs.Test.{bool-cases, not-both, cond-true, or-left, or-right,
 use Rattle.protocol.specs.Setting.{Setting}
 use Rattle.protocol.specs.Lists.{Among, all, any, all-among, any-among}
 use Rattle.protocol.specs.System.{inner-before-after, Checked, ReadLock, LockedAt, WriteLock, Parts}
-use Rattle.protocol.specs.Machine.{Item, find, says, test, Slot, Lock, shared, owned, Machine, seen, item-inner, for-all, for-home}
-use Rattle.protocol.specs.Machine.{participants}
-use Rattle.protocol.specs.Machine.{first-of, all-parts, check, to-write, to-read, grants}
+use Rattle.protocol.specs.Machine.{Item, find, says, test, Slot, Lock, shared, owned, Machine, seen}
+use Rattle.protocol.specs.Moves.{item-inner, for-all, for-home, participants, first-of, all-parts, check, to-write, to-read, grants}
 
 module _ (T : Setting) where
   open Setting T using (Obj, Server, Client, eqObj, eqVal, eqServer, eqClient, servers, servers-all, home, inner, by-value)

@@ -14,8 +14,10 @@ pub mod Replay
 pub mod Safety
 -- the interface of the operations: their meaning on one snapshot, and demand 3 as a claim on what steps and outcomes show
 pub mod Meaning
--- the machine for the schedule: decoded state without ghosts, and its moves, with computed tests only
+-- the machine for the schedule: decoded state without ghosts
 pub mod Machine
+-- its moves, with computed tests only
+pub mod Moves
 -- THE CLAIM on every state that the machine reaches
 pub mod Claim
 -- a work step, fetching or answering, as moves of the machine

@@ -9,7 +9,8 @@ use Rattle.protocol.specs.Setting.{Setting}
 use Rattle.protocol.specs.Lists.{any, any-among}
 use Rattle.protocol.specs.State.{Transaction, preparing, deciding, applying}
 use Rattle.protocol.specs.System.{Holds, ReadLock, WriteLock, Apart}
-use Rattle.protocol.specs.Machine.{Lock, shared, owned, grants, grant, share, drop}
+use Rattle.protocol.specs.Machine.{Lock, shared, owned}
+use Rattle.protocol.specs.Moves.{grants, grant, share, drop}
 
 module _ (T : Setting) where
   open Setting T using (Obj, Server, Client, eqServer, eqClient, clients, clients-all)

@@ -12,7 +12,8 @@ use Rattle.protocol.specs.State.{committing, Transaction, State}
 use Rattle.protocol.specs.System.{Stamp, Checks, CanPrepare, stamp, prepare, Reach, after}
 use Rattle.protocol.specs.Invariant.{Inv}
 use Rattle.protocol.specs.Safety.{reach-inv}
-use Rattle.protocol.specs.Machine.{Item, find, test, Slot, Machine, check, to-write, to-read, grants, granted-at, prepared-slot, with-slot}
+use Rattle.protocol.specs.Machine.{Item, find, test, Slot, Machine, with-slot}
+use Rattle.protocol.specs.Moves.{check, to-write, to-read, grants, granted-at, prepared-slot}
 use Rattle.protocol.specs.Items.{find-item, found, at-item, asks-write, asks-read, granted-all, check-table, check-version, check-value}
 use Rattle.protocol.specs.Locks.{Recorded, granted-apart, prepare-recorded}
 use Rattle.protocol.specs.Ghosts.{Own, Ghost, item-version, transaction-of, state-of, put-own, clients-put, state-put, state-own}

@@ -10,8 +10,8 @@ use Rattle.protocol.specs.Writes.{writes?, latest}
 use Rattle.protocol.specs.Lists.{all, any}
 use Rattle.protocol.specs.State.{Entry}
 use Rattle.protocol.specs.Replay.{settled}
-use Rattle.protocol.specs.Machine.{Machine, find, first-of, begins, fetches, answers, commits, prepares, decides, applies, ends, Reached}
-use Rattle.protocol.specs.Machine.{at-first, moved}
+use Rattle.protocol.specs.Machine.{Machine, find}
+use Rattle.protocol.specs.Moves.{first-of, begins, fetches, answers, commits, prepares, decides, applies, ends, Reached, at-first, moved}
 use Rattle.protocol.specs.Claim.{due-in, Claim, claim}
 use Rattle.protocol.specs.Example.{root, leaf, put, turn, tiny, leaves, one}
 

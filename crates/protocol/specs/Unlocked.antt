@@ -10,8 +10,9 @@ use Rattle.protocol.specs.Writes.{writes?, latest}
 use Rattle.protocol.specs.Lists.{all, any}
 use Rattle.protocol.specs.State.{committing, Entry}
 use Rattle.protocol.specs.Meaning.{Shown, map-of, map-all, Right, Right-all}
-use Rattle.protocol.specs.Machine.{Machine, find, first-of, check, to-write, to-read, grants, granted-row, prepared-slot, turned, begins}
-use Rattle.protocol.specs.Machine.{fetches, answers, commits, decides, Reached}
+use Rattle.protocol.specs.Machine.{Machine, find, turned}
+use Rattle.protocol.specs.Moves.{first-of, check, to-write, to-read, grants, granted-row, prepared-slot, begins, fetches, answers, commits}
+use Rattle.protocol.specs.Moves.{decides, Reached}
 use Rattle.protocol.specs.Variant.{ReachedWith, at-start, by-rule, also, never}
 use Rattle.protocol.specs.Example.{leaf, put, tiny, leaves, one, one≢seven}
 
