@@ -2,13 +2,14 @@
 use mathlib.Core.Path.{_≡_, refl, sym, ap, ap₂, _∙_, subst, fun-ext}
 use mathlib.Core.Bool.{Bool, true, false, _&&_, true≢false}
 use mathlib.Core.HLevel.{Discrete}
-use mathlib.Core.List.{List, [], _∷_}
+use mathlib.Core.List.{List, [], _∷_, _++_}
 use Prim.Native.Nat.{ℕ, zero, suc, _+_, _≤_, _<_}
 use native.Mathlib.Omega.{arith}
+use native.Mathlib.Decide.{ℕ-discrete}
 use borrow.Author.Tests.{eqb-true, eq-eqb}
 use lib.Dec.{eqb}
 use lib.ListN.{length, getD, take, drop, set, length-set, replicate, length-replicate, getD-replicate, List·getD-append}
-use lib.Seq.{sets, sets-eq, getD-set-same, getD-set-other, drop-cons}
+use lib.Seq.{sets, sets-eq, getD-set-same, getD-set-other, drop-cons, ext-getD}
 use Rattle.base.specs.Test.{ifd, ifd-yes, ifd-no, and-both, not-both}
 use Rattle.base.specs.Update.{upd, upd-same, upd-other}
 use Rattle.layout.specs.Block.{Block, size, In, decIn, offset, below, apart}
@@ -49,6 +50,17 @@ tab-getD zero [] h = refl
 tab-getD zero (v ∷ vs) h = absurd (omega arith)
 tab-getD (suc n) [] h = absurd (omega arith)
 tab-getD (suc n) (v ∷ vs) h = ap (λ (y : List ℕ). v ∷ y) (tab-getD n vs (omega arith))
+
+pub length-tab : (n : ℕ) (f : ℕ → ℕ) → length (tab n f) ≡ n
+unfolding tab
+length-tab zero f = refl
+length-tab (suc n) f = ap suc (length-tab n (λ i. f (suc i)))
+
+pub getD-tab : (n : ℕ) (f : ℕ → ℕ) (i : ℕ) → i < n → getD (tab n f) i 0 ≡ f i
+unfolding tab
+getD-tab zero f i h = absurd (omega arith)
+getD-tab (suc n) f zero h = refl
+getD-tab (suc n) f (suc i) h = getD-tab n (λ j. f (suc j)) i (omega arith)
 
 -- a type of addresses: each has a place, and can be had back from it
 pub record Coding (A : Type 0) : Type 0 where
@@ -106,6 +118,27 @@ module _ {A : Type 0} (C : Coding A) where
       ∙ upd-same decide m (f 0) v
   puts-same (v ∷ vs) m f inj (suc i) l =
       puts-same vs (upd decide m (f 0) v) (λ i. f (suc i)) (λ i j e. let z : suc i ≡ suc j = inj (suc i) (suc j) e in omega arith) i (omega arith)
+
+  -- a list of stores to addresses of some kind alone leaves the others
+  unfoldable pub Only : (A → Bool) → List (Put A) → Type 0
+  Only f [] = Unit {0}
+  Only f (put a v ∷ ps) = (f a ≡ true) × Only f ps
+
+  pub changed-only : (f : A → Bool) (ps : List (Put A)) (m : A → ℕ) (x : A) → Only f ps → f x ≡ false → changed m ps x ≡ m x
+  unfolding changed Only
+  changed-only f [] m x h e = refl
+  changed-only f (put a v ∷ ps) m x h e =
+      changed-only f ps (upd decide m a v) x (h .1) e ∙ upd-other decide m a v x (λ s. not-both (ap f s ∙ h .0) e)
+
+  pub only-puts : (f : A → Bool) (g : ℕ → A) (vs : List ℕ) → ((i : ℕ) → f (g i) ≡ true) → Only f (puts g vs)
+  unfolding Only puts
+  only-puts f g [] h = tt
+  only-puts f g (v ∷ vs) h = (h 0, only-puts f (λ i. g (suc i)) vs (λ i. h (suc i)))
+
+  pub only-append : (f : A → Bool) (ps qs : List (Put A)) → Only f ps → Only f qs → Only f (ps ++ qs)
+  unfolding Only
+  only-append f [] qs p q = q
+  only-append f (put a v ∷ ps) qs p q = (p .0, only-append f ps qs (p .1) q)
 
   module _ (b : Block) where
     -- the word at which an address lies
@@ -228,6 +261,24 @@ module _ {A : Type 0} (C : Coding A) where
       → tab n (λ i. changed m (puts f vs) (f i)) ≡ vs
   tab-puts-same n vs m f l inj =
       tab-eq n (λ i. changed m (puts f vs) (f i)) (λ i. getD vs i 0) (λ i h. puts-same vs m f inj i (omega arith)) ∙ tab-getD n vs l
+
+  -- one word of a record is stored
+  pub tab-upd : (n : ℕ) (m : A → ℕ) (f : ℕ → A) → ((i j : ℕ) → f i ≡ f j → i ≡ j) → (i v : ℕ) → i < n
+      → tab n (λ j. upd decide m (f i) v (f j)) ≡ set (tab n (λ j. m (f j))) i v
+  tab-upd n m f inj i v h =
+      ext-getD 0 (tab n u) (set (tab n (λ j. m (f j))) i v)
+      (length-tab n u ∙ sym (length-set (tab n (λ j. m (f j))) i v ∙ length-tab n (λ j. m (f j))))
+      (λ j l. let k : j < n = omega (arith, length-tab n u) in getD-tab n u j k ∙ at-word j k (ℕ-discrete j i))
+    where
+      u : ℕ → ℕ
+      u j = upd decide m (f i) v (f j)
+
+      at-word : (j : ℕ) → j < n → Dec (j ≡ i) → u j ≡ getD (set (tab n (λ j. m (f j))) i v) j 0
+      at-word j k (yes e) =
+          rw e (upd-same decide m (f i) v ∙ sym (getD-set-same (tab n (λ j. m (f j))) i v 0 (omega (arith, length-tab n (λ j. m (f j))))))
+      at-word j k (no d) =
+          upd-other decide m (f i) v (f j) (λ e. d (inj j i e))
+          ∙ sym (getD-set-other (tab n (λ j. m (f j))) i j v 0 d ∙ getD-tab n (λ j. m (f j)) j k)
 
   -- a record elsewhere stays
   pub tab-puts-other : (n : ℕ) (vs : List ℕ) (m : A → ℕ) (f g : ℕ → A) → ((i j : ℕ) → ¬ (g i ≡ f j))

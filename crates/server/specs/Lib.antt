@@ -7,3 +7,4 @@ pub mod Check
 pub mod Store
 pub mod HandOut
 pub mod Fresh
+pub mod Laws
