@@ -1,13 +1,12 @@
 -- The cases of "Tried by hand" that speak of nodes, placement and names, and the same for inner nodes, vectors and free slots.
 use mathlib.Core.Path.{_≡_, refl}
-use mathlib.Core.Bool.{Bool, true, false, cond}
+use mathlib.Core.Bool.{cond}
 use mathlib.Core.List.{List, [], _∷_, _++_, map}
-use Prim.Native.Nat.{ℕ, zero, suc, _+_, _*_}
-use lib.ListN.{length, replicate}
+use Prim.Native.Nat.{ℕ, zero, suc, _+_}
+use lib.ListN.{replicate}
 use lib.Dec.{ltb}
 use Rattle.nodes.specs.declared.node.Node.{Node}
 use mathlib.Core.Option.{Option, none, some}
-use Rattle.nodes.specs.declared.change.Wide.{Wide}
 use Rattle.nodes.specs.declared.change.Halves.{Halves}
 use Rattle.nodes.specs.Lists.{insert, remove, pad}
 use Rattle.nodes.specs.Name.{name, server-of, slot-of}

@@ -1,6 +1,6 @@
 -- A node's entries: its keys, each with its slot. An inner node has one slot more than keys: its first entry has the key lo from
 -- which the node holds keys, which is not stored in it. "Child i holds the keys from key i up to, not including, key i+1."
-use Prim.Native.Nat.{ℕ, zero, suc, _+_}
+use Prim.Native.Nat.{ℕ, _+_}
 use mathlib.Core.List.{List, [], _∷_, _++_}
 use lib.ListN.{take}
 use Rattle.nodes.specs.declared.node.Node.{Node}

@@ -1,19 +1,14 @@
 -- What each change of a node leaves of its entries, for leaves and inner nodes alike.
 use Prim.Native.Nat.{ℕ, zero, suc, _+_, _-_, _≤_, _<_}
-use mathlib.Core.Path.{_≡_, refl, sym, _∙_, ap, ap₂}
+use mathlib.Core.Path.{_≡_, refl, sym, _∙_, ap}
 use mathlib.Core.List.{List, [], _∷_, _++_, map, append-assoc}
 use native.Mathlib.Omega.{arith}
-use native.Mathlib.Nat.{add-comm, add-zero}
+use native.Mathlib.Nat.{add-zero}
 use native.Mathlib.Numerals.{add-one}
-use lib.ListN.{length, take, drop, getD, set, length-append, length-drop, take-append-drop}
-use lib.Seq.{length-take-le, take-at, drop-at, drop-cons, take-nil, drop-nil, take-append-add, drop-append-add, take-append-le, drop-append-le, drop-drop, set-getD}
-use Rattle.nodes.specs.declared.node.Node.{Node}
-use Rattle.nodes.specs.declared.change.Wide.{Wide}
-use Rattle.nodes.specs.declared.change.Halves.{Halves}
+use lib.ListN.{length, take, drop, getD, set}
+use lib.Seq.{length-take-le, drop-cons, set-getD}
 use Rattle.nodes.specs.Lists.{insert, remove}
-use Rattle.nodes.specs.Node.{extra, keysOf, slotsOf, made, extra-le, length-keysOf, length-slotsOf, keys-made, slots-made}
-use Rattle.nodes.specs.Change.{wide, wide-keys, wide-slots, cut-at, join, joined-keys, merged, from-right, from-left, Cuttable}
-use Rattle.nodes.specs.Entries.{zip, headed, entries, entriesOf, wide-entries}
+use Rattle.nodes.specs.Entries.{zip, headed, entries}
 
 -- ---- keys beside slots
 pub length-zip : (ks ss : List ℕ) → length ks ≡ length ss → length (zip ks ss) ≡ length ss

@@ -1,6 +1,6 @@
 -- Where a key is in a node, and whether a node's keys rise.
-use Prim.Native.Nat.{ℕ, zero, suc, _+_, _-_, _≤_, _<_}
-use mathlib.Core.Path.{_≡_, refl, sym, _∙_, ap}
+use Prim.Native.Nat.{ℕ, suc, _+_, _-_, _≤_, _<_}
+use mathlib.Core.Path.{_≡_, refl, sym, _∙_}
 use mathlib.Core.List.{List, [], _∷_, _++_}
 use mathlib.Core.Bool.{Bool, true, false, cond, _&&_}
 use mathlib.Core.Option.{Option, none, some}
@@ -14,7 +14,7 @@ use Rattle.nodes.specs.declared.node.Node.{Node}
 use Rattle.nodes.specs.declared.found.Found.the-variants.{At, Absent}
 use Rattle.nodes.specs.Found.{found, Inside, at-inside}
 use Rattle.nodes.specs.Place.{bit, place}
-use Rattle.nodes.specs.Node.{keysOf, length-keysOf}
+use Rattle.nodes.specs.Node.{keysOf}
 
 -- a key with p keys not above it is there if it is the last of them
 unfoldable pub find-at : List ℕ → ℕ → ℕ → Option ℕ

@@ -19,6 +19,7 @@ pub mod Entries
 pub mod EntryLaws
 pub mod Kept
 pub mod Rising
+pub mod Ordered
 pub mod Small
 pub mod Placed
 pub mod Cases

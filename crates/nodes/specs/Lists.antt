@@ -1,11 +1,11 @@
 -- Lists with an element put in or taken out, and the arrays that hold lists of numbers.
 use Prim.Native.Nat.{ℕ, zero, suc, _+_, _-_, _≤_, _<_}
-use mathlib.Core.Path.{_≡_, refl, sym, _∙_, ap}
-use mathlib.Core.List.{List, [], _∷_, _++_, append-assoc, append-nil}
+use mathlib.Core.Path.{_≡_, refl, sym, _∙_}
+use mathlib.Core.List.{List, [], _∷_, _++_, append-nil}
 use native.Mathlib.Omega.{arith}
 use native.Mathlib.Numerals.{add-one}
 use native.Mathlib.Nat.{sub-zero}
-use lib.ListN.{length, take, drop, getD, set, replicate, length-append, length-take, length-drop, length-replicate, length-set}
+use lib.ListN.{length, take, drop, getD, set, replicate, length-append, length-drop, length-replicate, length-set}
 use lib.Seq.{paste, paste-zero, paste-suc, take-at, drop-append-add, length-take-le, take-take, take-nil, append-snoc, getD-drop, set-append-left}
 
 -- l with v put in before the element at i

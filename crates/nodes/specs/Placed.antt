@@ -4,11 +4,11 @@ use mathlib.Core.Bool.{Bool, _&&_}
 use mathlib.Core.List.{List, [], _∷_}
 use Prim.Native.Nat.{ℕ, _+_, _<_}
 use lib.Bits.{bitXor}
-use lib.Dec.{T, eqb, eqb→eq}
+use lib.Dec.{eqb, eqb→eq}
 use lib.ListN.{getD}
 use Rattle.nodes.specs.Place.{bit}
 use Rattle.nodes.specs.Placement.{row}
-use Rattle.nodes.specs.Small.{both, below, at₂}
+use Rattle.nodes.specs.Small.{both, at₂}
 
 -- how often x is named in a list
 abbrev pub times : ℕ → List ℕ → ℕ

@@ -1,11 +1,11 @@
 -- Keys that rise within bounds, and that every change of a node keeps them so.
 use Prim.Native.Nat.{ℕ, zero, suc, _+_, _-_, _≤_, _<_}
-use mathlib.Core.Path.{_≡_, refl, sym, _∙_, ap}
-use mathlib.Core.Bool.{Bool, true, false, _&&_}
+use mathlib.Core.Path.{_≡_, refl}
+use mathlib.Core.Bool.{Bool, true, false}
 use mathlib.Core.List.{List, [], _∷_, _++_}
 use native.Mathlib.Omega.{arith}
 use native.Mathlib.Numerals.{add-one}
-use borrow.Author.Tests.{le-leb, lt-leb, leb-true, leb-false, lt-ltb, ltb-true}
+use borrow.Author.Tests.{lt-leb, leb-true, leb-false, lt-ltb, ltb-true}
 use lib.ListN.{length, take, drop, getD, set}
 use lib.Dec.{leb, ltb}
 use Rattle.base.specs.Test.{and-both}

@@ -14,7 +14,6 @@ use lib.Count.{trailingZeros}
 use lib.Dec.{ltb}
 use lib.ListN.{length, take, drop, getD, replicate, length-drop, length-replicate, drop-of-length-le}
 use lib.Pow.{pow-pos, pow-lt}
-use lib.Seq.{take-nil}
 use Rattle.nodes.specs.declared.found.Found.{Found}
 use Rattle.nodes.specs.declared.found.Found.the-variants.{At, Absent}
 use Rattle.nodes.specs.Lists.{drop-take}

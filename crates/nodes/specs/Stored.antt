@@ -1,6 +1,6 @@
 -- A node as 33 words: kind, level, version, count, 14 keys, 15 slots.
 use Prim.Native.Nat.{ℕ}
-use mathlib.Core.List.{List, [], _∷_, _++_}
+use mathlib.Core.List.{List, _∷_, _++_}
 use lib.ListN.{getD, take, drop}
 use lib.Seq.{sets}
 use Rattle.nodes.specs.declared.node.Node.{Node}

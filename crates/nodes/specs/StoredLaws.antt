@@ -1,10 +1,10 @@
 -- Laws of nodes as words: a node that was put is the node read, others stay.
-use mathlib.Core.Path.{_≡_, refl, sym, ap, _∙_}
+use mathlib.Core.Path.{_≡_, sym, ap, _∙_}
 use mathlib.Core.List.{List, [], _∷_, _++_, append-nil}
 use mathlib.Core.Logic.{_⊎_}
-use Prim.Native.Nat.{ℕ, zero, suc, _+_, _-_, _≤_, _<_}
+use Prim.Native.Nat.{ℕ, _+_, _-_, _≤_}
 use native.Mathlib.Omega.{arith}
-use lib.ListN.{length, getD, take, drop, set, replicate, length-append, length-drop, take-append-drop, drop-of-length-le}
+use lib.ListN.{length, getD, take, drop, replicate, length-append, length-drop, take-append-drop, drop-of-length-le}
 use lib.Seq.{paste, sets, take-at, drop-at, take-all, length-take-le, drop-drop, drop-cons}
 use Rattle.memory.specs.Run.{run-same, run-beside}
 use Rattle.nodes.specs.declared.node.Node.{Node}

@@ -6,7 +6,7 @@ use crate::arrays::removed;
 use crate::arrays::slots_part;
 use crate::node::Node;
 ghost use mathlib.Core.Path.{_≡_};
-ghost use Prim.Native.Nat.{ℕ, _+_, _≤_, _<_};
+ghost use Prim.Native.Nat.{_+_, _≤_, _<_};
 ghost use lib.ListN.{length};
 ghost use Rattle.nodes.specs.Lists.{pad};
 ghost use Rattle.nodes.specs.Node.{extra};

@@ -1,4 +1,3 @@
-use borrow.Author.Needs.{needs}
 use mathlib.Core.Path.{refl}
 use Rattle.nodes.specs.Node.{made, free-node}
 use Rattle.nodes.specs.Lists.{pad}

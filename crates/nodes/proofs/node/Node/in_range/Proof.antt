@@ -6,19 +6,19 @@ use Rattle.nodes.proofs.node.Node.in_range.Tie as tie
 
 returns : tie.Need-returns
 unfolding in-range
-returns c = search (eq-eqb, ne-eqb, le-leb, lt-leb)
+returns c = search (eq-eqb, le-leb, lt-leb)
 
 returns-2 : tie.Need-returns-2
 unfolding in-range
-returns-2 c = search (eq-eqb, ne-eqb, le-leb, lt-leb)
+returns-2 c = search (eq-eqb, le-leb, lt-leb)
 
 returns-3 : tie.Need-returns-3
 unfolding in-range
-returns-3 c = search (eq-eqb, ne-eqb, le-leb, lt-leb)
+returns-3 c = search (eq-eqb, le-leb, lt-leb)
 
 returns-4 : tie.Need-returns-4
 unfolding in-range
-returns-4 c = search (eq-eqb, ne-eqb, le-leb, lt-leb)
+returns-4 c = search (eq-eqb, le-leb, lt-leb)
 
 returns-6 : tie.Need-returns-6
 unfolding in-range
