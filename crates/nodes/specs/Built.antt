@@ -10,7 +10,7 @@ use Rattle.nodes.specs.declared.change.Wide.{Wide}
 use Rattle.nodes.specs.declared.change.Halves.{Halves}
 use Rattle.nodes.specs.Lists.{pad, insert, remove, drop-take, take-pad, set-pad, length-insert, length-remove}
 use Rattle.nodes.specs.Node.{extra, keysOf, slotsOf, made, extra-le, length-keysOf, length-slotsOf, node-eq}
-use Rattle.nodes.specs.Change.{wide, wide-keys, wide-slots, put-in, without, take-out, with-version, with-key, with-slot, narrow, cut-at, joined-keys, join, merged, from-right, from-left, Cuttable}
+use Rattle.nodes.specs.Change.{wide, wide-keys, wide-slots, put-in, without, take-out, with-version, with-key, with-slot, part, narrow, cut-at, joined-keys, join, merged, from-right, from-left, Cuttable}
 
 wide-eq : (k l v : ℕ) {c d : ℕ} {ks ks′ ss ss′ : List ℕ} → c ≡ d → ks ≡ ks′ → ss ≡ ss′
     → _≡_ {A = Wide} (record { kind = k; level = l; version = v; count = c; keys = ks; slots = ss })
@@ -46,60 +46,48 @@ module _ (n : Node) (lk : length (n .keys) ≡ 14) (ls : length (n .slots) ≡ 1
         sym (length-remove at (take (n .count) (n .keys)) (omega (arith, long)) ∙ ap (λ (m : ℕ). m - 1) long) in
         wide-eq (n .kind) (n .level) (n .version) c pk (rw (← pe) ps)
 
-    module _ (ks ss : List ℕ) (pk : ks ≡ pad 14 (take (n .count) (n .keys))) (ps : ss ≡ pad 15 (take (n .count + e) (n .slots))) where
-      pub version-built : (v : ℕ)
-          → _≡_ {A = Node} (record { kind = n .kind; level = n .level; version = v; count = n .count; keys = ks; slots = ss }) (with-version n v)
-      unfolding with-version made keysOf slotsOf
-      version-built v = node-eq (n .kind) (n .level) v (sym long) pk (rw (← pe) ps)
+    pub version-built : (v : ℕ) (ks ss : List ℕ) → ks ≡ pad 14 (take (n .count) (n .keys)) → ss ≡ pad 15 (take (n .count + e) (n .slots))
+        → _≡_ {A = Node} (record { kind = n .kind; level = n .level; version = v; count = n .count; keys = ks; slots = ss }) (with-version n v)
+    unfolding with-version made keysOf slotsOf
+    version-built v ks ss pk ps = node-eq (n .kind) (n .level) v (sym long) pk (rw (← pe) ps)
 
-      pub key-built : (i k : ℕ) → i < n .count
-          → _≡_ {A = Node} (record { kind = n .kind; level = n .level; version = n .version; count = n .count; keys = set ks i k; slots = ss }) (with-key n i k)
-      unfolding with-key made keysOf slotsOf
-      key-built i k g =
-          let c : n .count ≡ length (set (take (n .count) (n .keys)) i k) = sym (length-set (take (n .count) (n .keys)) i k ∙ long) in
-          let a : i < length (take (n .count) (n .keys)) = omega (arith, long) in
-          node-eq (n .kind) (n .level) (n .version) c (rw (pk, set-pad 14 (take (n .count) (n .keys)) i k a)) (rw (← pe) ps)
+  module _ (m : Node) (p : m ≡ with-version n (n .version)) where
+    pub key-built : (i k : ℕ) → i < n .count
+        → _≡_ {A = Node} (record { kind = m .kind; level = m .level; version = m .version; count = m .count; keys = set (m .keys) i k; slots = m .slots }) (with-key n i k)
+    unfolding with-key with-version made keysOf
+    key-built i k g =
+        let a : i < length (take (n .count) (n .keys)) = omega (arith, long) in
+        rw (p, set-pad 14 (take (n .count) (n .keys)) i k a, length-set)
 
-      pub slot-built : (i s : ℕ) → i < n .count + extra (n .kind)
-          → _≡_ {A = Node} (record { kind = n .kind; level = n .level; version = n .version; count = n .count; keys = ks; slots = set ss i s }) (with-slot n i s)
-      unfolding with-slot made keysOf slotsOf
-      slot-built i s g =
-          let l : length (take (n .count + e) (n .slots)) ≡ n .count + e = length-take-le (n .count + e) (n .slots) (omega (arith, extra-le (n .kind))) in
-          let a : i < length (take (n .count + e) (n .slots)) = omega (arith, pe) in
-          node-eq (n .kind) (n .level) (n .version) (sym long) pk (rw (← pe, ps, set-pad 15 (take (n .count + e) (n .slots)) i s a))
+    pub slot-built : (i s : ℕ) → i < n .count + extra (n .kind)
+        → _≡_ {A = Node} (record { kind = m .kind; level = m .level; version = m .version; count = m .count; keys = m .keys; slots = set (m .slots) i s }) (with-slot n i s)
+    unfolding with-slot with-version made
+    slot-built i s g =
+        let a : i < length (slotsOf n) = omega (arith, length-slotsOf n ls h) in
+        rw (p, set-pad 15 (slotsOf n) i s a)
 
-module _ (w : Wide) (lk : length (w .keys) ≡ 32) (e : ℕ) (pe : e ≡ extra (w .kind)) where
-  pub narrow-built : (ks ss : List ℕ) → w .count ≤ 14 → ks ≡ pad 14 (take (w .count) (w .keys)) → ss ≡ pad 15 (take (w .count + e) (w .slots))
-      → _≡_ {A = Node} (record { kind = w .kind; level = w .level; version = w .version; count = w .count; keys = ks; slots = ss }) (narrow w)
-  unfolding narrow made wide-keys wide-slots
-  narrow-built ks ss h pk ps =
-      node-eq (w .kind) (w .level) (w .version) (sym (length-take-le (w .count) (w .keys) (omega arith))) pk (rw (← pe) ps)
+module _ (w : Wide) (lk : length (w .keys) ≡ 32) where
+  pub part-built : (from count v e : ℕ) (ks ss : List ℕ) → from + count ≤ 31 → e ≡ extra (w .kind)
+      → ks ≡ pad 14 (take count (drop from (w .keys))) → ss ≡ pad 15 (take (count + e) (drop from (w .slots)))
+      → _≡_ {A = Node} (record { kind = w .kind; level = w .level; version = v; count = count; keys = ks; slots = ss }) (part w from count v)
+  unfolding part made
+  part-built from count v e ks ss h pe pk ps =
+      let l : length (drop from (w .keys)) ≡ length (w .keys) - from = length-drop from (w .keys) in
+      node-eq (w .kind) (w .level) v (sym (length-take-le count (drop from (w .keys)) (omega arith))) pk (rw (← pe) ps)
 
-  pub cut-built : (i v : ℕ) (lks lss rks rss : List ℕ) → Cuttable w i
-      → lks ≡ pad 14 (take i (w .keys))
-      → lss ≡ pad 15 (take (i + e) (w .slots))
-      → rks ≡ pad 14 (take (w .count - i - e) (drop (i + e) (w .keys)))
-      → rss ≡ pad 15 (take (w .count - i) (drop (i + e) (w .slots)))
-      → _≡_ {A = Halves} (record {
-        left = record { kind = w .kind; level = w .level; version = w .version; count = i; keys = lks; slots = lss };
-        right = record { kind = w .kind; level = w .level; version = v; count = w .count - i - e; keys = rks; slots = rss };
-        sep = getD (w .keys) i 0;
-      }) (cut-at w i v)
-  unfolding cut-at made wide-keys wide-slots
-  cut-built i v lks lss rks rss pre p q r s =
-      let ks = w .keys in
+  pub cut-built : (i v e : ℕ) (a b : Node) → Cuttable w i → e ≡ extra (w .kind) → a ≡ part w 0 i (w .version) → b ≡ part w (i + e) (w .count - i - e) v
+      → _≡_ {A = Halves} (record { left = a; right = b; sep = getD (w .keys) i 0 }) (cut-at w i v)
+  unfolding cut-at part wide-keys wide-slots
+  cut-built i v e a b pre pe p q =
       let m = w .count in
-      let t : length (take m ks) ≡ m = length-take-le m ks (omega arith) in
-      let c₁ : i ≡ length (take i (take m ks)) = sym (length-take-le i (take m ks) (omega arith)) in
-      let c₂ : m - i - e ≡ length (drop (i + extra (w .kind)) (take m ks)) = simp length-drop (omega arith) in
-      let a₁ : m - i - e ≡ m - (i + e) = omega arith in
-      let a₂ : m - i ≡ m + e - (i + e) = omega arith in
-      let le : i ≤ m = omega arith in
+      let le : i ≤ m = omega (arith, pre .inside) in
       let le₂ : i + e ≤ m + e = omega arith in
+      let a₁ : m - i - e ≡ m - (i + e) = omega arith in
+      let a₂ : m - i - e + e ≡ m + e - (i + e) = omega (arith, pre .inside, extra-le (w .kind)) in
       halves-eq
-      (node-eq (w .kind) (w .level) (w .version) c₁ (rw (take-take i m ks le) p) (rw (← pe, take-take (i + e) (m + e) (w .slots) le₂) q))
-      (node-eq (w .kind) (w .level) v c₂ (rw (← pe, drop-take (i + e) m ks, ← a₁) r) (rw (← pe, drop-take (i + e) (m + e) (w .slots), ← a₂) s))
-      (sym (getD-take m ks i 0 (pre .inside)))
+      (p ∙ rw (← pe, take-take i m (w .keys) le, take-take (i + e) (m + e) (w .slots) le₂))
+      (q ∙ rw (← pe, drop-take (i + e) m (w .keys), drop-take (i + e) (m + e) (w .slots), a₂, a₁))
+      (sym (getD-take m (w .keys) i 0 (pre .inside)))
 
 pub length-joined : (a b : Node) (sep : ℕ) → length (keysOf a) ≡ a .count → length (keysOf b) ≡ b .count
     → length (joined-keys a sep b) ≡ a .count + extra (a .kind) + b .count

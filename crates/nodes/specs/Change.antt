@@ -39,6 +39,11 @@ with-key n i k = made (n .kind) (n .level) (n .version) (set (keysOf n) i k) (sl
 unfoldable pub with-slot : Node → ℕ → ℕ → Node
 with-slot n i s = made (n .kind) (n .level) (n .version) (keysOf n) (set (slotsOf n) i s)
 
+-- so many keys of a wide node from key number `from` on, with their slots
+unfoldable pub part : Wide → ℕ → ℕ → ℕ → Node
+part w from count version =
+    made (w .kind) (w .level) version (take count (drop from (w .keys))) (take (count + extra (w .kind)) (drop from (w .slots)))
+
 -- a wide node that is not overfull
 unfoldable pub narrow : Wide → Node
 narrow w = made (w .kind) (w .level) (w .version) (wide-keys w) (wide-slots w)

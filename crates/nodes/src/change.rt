@@ -5,12 +5,13 @@ use crate::arrays::keys_part;
 use crate::arrays::removed;
 use crate::arrays::slots_part;
 use crate::node::Node;
+use crate::node::slots_beyond;
 ghost use mathlib.Core.Path.{_≡_};
 ghost use Prim.Native.Nat.{_+_, _≤_, _<_};
 ghost use lib.ListN.{length};
 ghost use Rattle.nodes.specs.Lists.{pad};
 ghost use Rattle.nodes.specs.Node.{extra};
-ghost use Rattle.nodes.specs.Change.{put-in, without, take-out, with-key, with-slot, with-version, narrow, cut-at, Cuttable, split, joined-keys, join, merged, from-right, from-left};
+ghost use Rattle.nodes.specs.Change.{put-in, without, take-out, with-key, with-slot, with-version, part, narrow, cut-at, Cuttable, split, joined-keys, join, merged, from-right, from-left};
 
 // A node with room for two neighbours and their separator.
 pub struct Wide {
@@ -88,7 +89,7 @@ impl Node {
     pub fn with_version(self, version: u64) -> Node
         requires { ⌜ self .count ≤ 14 ⌝ }
         ensures { λ r. ⌜ r ≡ with-version self version ⌝ }
-        ensures size { λ r. ⌜ r .count ≡ self .count ⌝ }
+        ensures size { λ r. ⌜ (r .count ≡ self .count) × (extra (self .kind) ≤ 1) ⌝ }
     {
         let count = self.count;
         let e = self.extra();
@@ -112,18 +113,15 @@ impl Node {
         ensures { λ r. ⌜ r ≡ with-key self i key ⌝ }
         ensures size { λ r. ⌜ r .count ≡ self .count ⌝ }
     {
-        let count = self.count;
-        let e = self.extra();
-        let ks = self.keys;
-        let ss = self.slots;
-        let mut keys = keys_part(&ks, 0, count);
-        let slots = slots_part(&ss, 0, count + e);
+        let n = self.with_version(self.version);
+        let mut keys = n.keys;
+        let slots = n.slots;
         keys[i] = key;
         Node {
-            kind: self.kind,
-            level: self.level,
-            version: self.version,
-            count,
+            kind: n.kind,
+            level: n.level,
+            version: n.version,
+            count: n.count,
             keys,
             slots,
         }
@@ -135,18 +133,15 @@ impl Node {
         ensures { λ r. ⌜ r ≡ with-slot self i slot ⌝ }
         ensures size { λ r. ⌜ r .count ≡ self .count ⌝ }
     {
-        let count = self.count;
-        let e = self.extra();
-        let ks = self.keys;
-        let ss = self.slots;
-        let keys = keys_part(&ks, 0, count);
-        let mut slots = slots_part(&ss, 0, count + e);
+        let n = self.with_version(self.version);
+        let keys = n.keys;
+        let mut slots = n.slots;
         slots[i] = slot;
         Node {
-            kind: self.kind,
-            level: self.level,
-            version: self.version,
-            count,
+            kind: n.kind,
+            level: n.level,
+            version: n.version,
+            count: n.count,
             keys,
             slots,
         }
@@ -222,13 +217,34 @@ impl Node {
 }
 
 impl Wide {
-    // 1 for an inner node, which has one slot more than keys
+    // its slots beyond its keys
     fn extra(self) -> usize
         ensures { λ r. ⌜ r ≡ extra (self .kind) ⌝ }
         ensures small { λ r. ⌜ r ≤ 1 ⌝ }
         ensures sizes { λ _. ⌜ (length (self .keys) ≡ 32) × (length (self .slots) ≡ 32) ⌝ }
     {
-        if self.kind == 2 { 1 } else { 0 }
+        slots_beyond(self.kind)
+    }
+
+    // so many keys from key number `from` on, with their slots
+    fn part(self, from: usize, count: usize, version: u64) -> Node
+        requires { ⌜ (count ≤ 14) × (from + count ≤ 31) ⌝ }
+        ensures { λ r. ⌜ r ≡ part self from count version ⌝ }
+        ensures size { λ r. ⌜ r .count ≡ count ⌝ }
+    {
+        let e = self.extra();
+        let ks = self.keys;
+        let ss = self.slots;
+        let keys = keys_part(&ks, from, count);
+        let slots = slots_part(&ss, from, count + e);
+        Node {
+            kind: self.kind,
+            level: self.level,
+            version,
+            count,
+            keys,
+            slots,
+        }
     }
 
     // a node that is not overfull
@@ -237,20 +253,7 @@ impl Wide {
         ensures { λ r. ⌜ r ≡ narrow self ⌝ }
         ensures size { λ r. ⌜ r .count ≡ self .count ⌝ }
     {
-        let count = self.count;
-        let e = self.extra();
-        let ks = self.keys;
-        let ss = self.slots;
-        let keys = keys_part(&ks, 0, count);
-        let slots = slots_part(&ss, 0, count + e);
-        Node {
-            kind: self.kind,
-            level: self.level,
-            version: self.version,
-            count,
-            keys,
-            slots,
-        }
+        self.part(0, self.count, self.version)
     }
 
     // cut before key number i, which is the separator; the right half gets a version of its own
@@ -259,33 +262,15 @@ impl Wide {
         ensures { λ r. ⌜ r ≡ cut-at self i version ⌝ }
         ensures sizes { λ r. ⌜ (r .left .count ≤ 14) × (r .right .count ≤ 14) ⌝ }
     {
-        let n = self.count;
         let e = self.extra();
-        let ks = self.keys;
-        let ss = self.slots;
-        let keys = keys_part(&ks, 0, i);
-        let slots = slots_part(&ss, 0, i + e);
-        let left = Node {
-            kind: self.kind,
-            level: self.level,
-            version: self.version,
-            count: i,
-            keys,
-            slots,
-        };
-        let rest = n - i - e;
-        let keys = keys_part(&ks, i + e, rest);
-        let slots = slots_part(&ss, i + e, n - i);
-        let right = Node {
-            kind: self.kind,
-            level: self.level,
-            version,
-            count: rest,
-            keys,
-            slots,
-        };
-        let sep = ks[i];
-        Halves { left, right, sep }
+        let left = self.part(0, i, self.version);
+        let right = self.part(i + e, self.count - i - e, version);
+        let keys = self.keys;
+        Halves {
+            left,
+            right,
+            sep: keys[i],
+        }
     }
 
     // "A leaf of 15 pairs splits into 7 and 8, and the first key of the right one goes up.

@@ -19,14 +19,22 @@ pub struct Node {
     pub slots: [u64; 15],
 }
 
+// 1 for the inner kind, which has one slot more than keys
+pub fn slots_beyond(kind: u64) -> usize
+    ensures { λ r. ⌜ r ≡ extra kind ⌝ }
+    ensures small { λ r. ⌜ r ≤ 1 ⌝ }
+{
+    if kind == 2 { 1 } else { 0 }
+}
+
 impl Node {
-    // 1 for an inner node, which has one slot more than keys
+    // its slots beyond its keys
     pub fn extra(self) -> usize
         ensures { λ r. ⌜ r ≡ extra (self .kind) ⌝ }
         ensures small { λ r. ⌜ r ≤ 1 ⌝ }
         ensures sizes { λ _. ⌜ (length (self .keys) ≡ 14) × (length (self .slots) ≡ 15) ⌝ }
     {
-        if self.kind == 2 { 1 } else { 0 }
+        slots_beyond(self.kind)
     }
 
     // the number of keys that are not above the key

@@ -1,15 +1,14 @@
 use borrow.Author.Needs.{needs}
-use Rattle.nodes.specs.Built.{narrow-built}
+use Rattle.nodes.specs.Change.{wide-keys, wide-slots, part, narrow}
 use Rattle.nodes.proofs.change.Wide.node.Statement.{statement}
 use Rattle.nodes.proofs.change.Wide.node.Tie as tie
 
+returns : tie.Need-returns
+unfolding narrow part wide-keys wide-slots
+returns c = search needs
+
 pub node-spec : {M : Type 1} → statement M
 node-spec = tie.close (tie.spec
-    (λ c κs. search needs)  -- extra-requires
-    (λ c. search needs)  -- slice-aggregate-keys-part
-    (λ c κs. search needs)  -- keys-part-requires
-    (λ c. search needs)  -- slice-aggregate-slots-part
-    (λ c. search needs)  -- add-slots-part
-    (λ c κs. search needs)  -- slots-part-requires
-    (λ c. search (narrow-built, needs))  -- returns
+    (λ c κs. search needs)  -- part-requires
+    returns
     )

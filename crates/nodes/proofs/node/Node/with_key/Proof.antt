@@ -5,12 +5,7 @@ use Rattle.nodes.proofs.node.Node.with_key.Tie as tie
 
 pub with-key-spec : {M : Type 1} → statement M
 with-key-spec = tie.close (tie.spec
-    (λ c κs. search needs)  -- extra-requires
-    (λ c. search needs)  -- slice-aggregate-keys-part
-    (λ c κs. search needs)  -- keys-part-requires
-    (λ c. search needs)  -- slice-aggregate-slots-part
-    (λ c. search needs)  -- add-slots-part
-    (λ c κs. search needs)  -- slots-part-requires
+    (λ c κs. search needs)  -- with-version-requires
     (λ c. search needs)  -- mul-keys
     (λ c. search needs)  -- array-write-keys
     (λ c. search (key-built, needs))  -- returns

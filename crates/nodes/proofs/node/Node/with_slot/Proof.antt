@@ -5,12 +5,7 @@ use Rattle.nodes.proofs.node.Node.with_slot.Tie as tie
 
 pub with-slot-spec : {M : Type 1} → statement M
 with-slot-spec = tie.close (tie.spec
-    (λ c κs. search needs)  -- extra-requires
-    (λ c. search needs)  -- slice-aggregate-keys-part
-    (λ c κs. search needs)  -- keys-part-requires
-    (λ c. search needs)  -- slice-aggregate-slots-part
-    (λ c. search needs)  -- add-slots-part
-    (λ c κs. search needs)  -- slots-part-requires
+    (λ c κs. search needs)  -- with-version-requires
     (λ c. search needs)  -- mul-slots
     (λ c. search needs)  -- array-write-slots
     (λ c. search (slot-built, needs))  -- returns
