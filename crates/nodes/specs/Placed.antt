@@ -3,7 +3,7 @@ use mathlib.Core.Path.{_≡_}
 use mathlib.Core.Bool.{Bool, _&&_}
 use mathlib.Core.List.{List, [], _∷_}
 use Prim.Native.Nat.{ℕ, _+_, _<_}
-use lib.Bits.{bitXor}
+use lib.Bits.{bitXor, xor-lt}
 use lib.Dec.{eqb, eqb→eq}
 use lib.ListN.{getD}
 use Rattle.nodes.specs.Place.{bit}
@@ -23,3 +23,6 @@ pub placement : (s i : ℕ) → s < 8 → i < 8 → (getD (row s) i 0 ≡ bitXor
 placement s i hs hi =
     let t = both (eqb (getD (row s) i 0) (bitXor s i)) (eqb (times i (row s)) 1) (at₂ placed? 8 8 tt s i hs hi) in
     (eqb→eq (getD (row s) i 0) (bitXor s i) (t .0), eqb→eq (times i (row s)) 1 (t .1))
+
+pub row-below : (s i r : ℕ) → (s < 8) × (i < 8) → r ≡ getD (row s) i 0 → r < 8
+row-below s i r h e = rw (e, placement s i (h .0) (h .1) .0) (xor-lt 3 s i (h .0) (h .1))

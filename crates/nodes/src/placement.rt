@@ -16,9 +16,10 @@ const ROWS: [[u8; 8]; 8] = [
 ];
 
 // The server that is looked at in turn i for a node of server s.
-pub fn server_at(s: usize, i: usize) -> u8
+pub fn server_at(s: usize, i: usize) -> usize
     requires { ⌜ (s < 8) × (i < 8) ⌝ }
     ensures { λ r. ⌜ r ≡ getD (row s) i 0 ⌝ }
+    ensures within { λ r. ⌜ r < 8 ⌝ }
 {
-    ROWS[s][i]
+    ROWS[s][i] as usize
 }
