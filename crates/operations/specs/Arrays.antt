@@ -1,7 +1,6 @@
 -- Entries beside the keys and slots that a node stores: what each step of a plan is on the two lists, for leaves and inner nodes together.
-use mathlib.Core.Path.{_≡_, refl, ap, sym, _∙_, subst}
+use mathlib.Core.Path.{_≡_, refl, ap, sym, _∙_}
 use mathlib.Core.List.{List, [], _∷_, _++_, tail, map-append}
-use mathlib.Core.Option.{Option, none, some}
 use Prim.Native.Nat.{ℕ, zero, suc, _+_, _<_, _≤_}
 use native.Mathlib.Omega.{arith}
 use lib.ListN.{length, take, drop, getD, set, length-append, length-map}
@@ -9,8 +8,8 @@ use lib.Seq.{length-take-le, append-snoc, take-at, drop-at, set-at, set-append-s
 use Rattle.nodes.specs.Node.{extra}
 use Rattle.nodes.specs.Lists.{insert, remove}
 use Rattle.nodes.specs.Place.{place}
-use Rattle.operations.specs.Object.{Val, body}
-use Rattle.operations.specs.Entry.{Entries, keys, vals, zip, mk, nxt, Cut, cut-at, cut}
+use Rattle.operations.specs.Object.{body}
+use Rattle.operations.specs.Entry.{Entries, keys, vals, zip, mk, nxt, cut-at, cut}
 
 abbrev pub kind : ℕ → ℕ
 kind zero = 1

@@ -8,11 +8,12 @@ use native.Mathlib.Decide.{ℕ-discrete, decLt, decLe}
 use lib.ListN.{length, take, drop}
 use Rattle.base.specs.Test.{ifd, ifd-all, yes-of}
 use Rattle.plans.specs.Plan as P
+use Rattle.nodes.specs.Lists.{remove}
 use Rattle.nodes.specs.Name.{name, server-of, slot-of}
 use Rattle.nodes.specs.Placement.{row}
 use Rattle.operations.specs.Object.{Obj, meta, node, flag, Ask, object, fetched, Val, root, body, taken, flags, free, no-tree, Ans, Writes, hit, written}
 use Rattle.operations.specs.Map.{Op, insert, lookup, delete, next, previous, migrate, fresh}
-use Rattle.operations.specs.Entry.{Entries, mk, mn, mx, cut, index, value-in, with-pair, without-at, next-in, previous-in}
+use Rattle.operations.specs.Entry.{Entries, mk, mn, mx, cut, index, value-in, with-pair, next-in, previous-in}
 use Rattle.operations.specs.Path.{Plan, see, when-root, open-node, kid, Branch, Cont, to-leaf, down, at-root, from-root}
 use Rattle.operations.specs.Slot.{Sizes, free-slot, chosen, search, present, when-free-flag, take-flag, take-on, take-for, when-free-node, take-node, release}
 use Rattle.operations.specs.Look.{told, Visit, rightward, leftward, seek, seek-up, nearest}
@@ -229,7 +230,7 @@ module _ (R : Obj → Type 0) where
 
   delete-wrote : (sz : Sizes) (fs : List Branch) (n : ℕ) (es : Entries) (o : Option ℕ) → Passed fs → R (node n) → Wrote (delete-at sz fs n es o)
   delete-wrote sz fs n es none p s = tt
-  delete-wrote sz fs n es (some i) p s = up-wrote sz (1, 0) fs zero [] n (without-at i es) tt p s
+  delete-wrote sz fs n es (some i) p s = up-wrote sz (1, 0) fs zero [] n (remove i es) tt p s
 
   -- MIGRATE
   moved-wrote : (sz : Sizes) (n s : ℕ) (v : Val) (x : ℕ → Writes → Writes) (k : ℕ → Writes → Plan) → R (node n) → ((d : ℕ) (w : Writes) → Known w → Known (x d w))

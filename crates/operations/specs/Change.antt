@@ -6,9 +6,10 @@ use native.Mathlib.Decide.{ℕ-discrete, decLt, decLe}
 use lib.ListN.{length, take, drop}
 use Rattle.base.specs.Test.{ifd}
 use Rattle.plans.specs.Plan as P
+use Rattle.nodes.specs.Lists.{remove}
 use Rattle.operations.specs.Object.{node, no-tree, Ans, Writes}
 use Rattle.operations.specs.Map.{fresh}
-use Rattle.operations.specs.Entry.{Entries, mk, mn, mx, nxt, index, value-in, with-pair, without-at}
+use Rattle.operations.specs.Entry.{Entries, mk, mn, mx, nxt, index, value-in, with-pair}
 use Rattle.operations.specs.Path.{Plan, kid, Branch, from-root}
 use Rattle.operations.specs.Slot.{Sizes, take-for, take-node, release}
 
@@ -92,7 +93,7 @@ insert-plan sz key v = from-root key (λ fs n es. up sz (fresh (value-in key es)
 -- a key that is not there changes nothing
 abbrev pub delete-at : Sizes → List Branch → ℕ → Entries → Option ℕ → Plan
 delete-at sz fs n es none = P.done ((0, 0), [])
-delete-at sz fs n es (some i) = up sz (1, 0) zero fs [] n (without-at i es)
+delete-at sz fs n es (some i) = up sz (1, 0) zero fs [] n (remove i es)
 
 abbrev pub delete-plan : Sizes → ℕ → Plan
 delete-plan sz key = from-root key (λ fs n es. delete-at sz fs n es (index key es))

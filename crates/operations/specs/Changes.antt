@@ -5,9 +5,10 @@ use mathlib.Core.Option.{Option, none, some}
 use Prim.Native.Nat.{ℕ, zero, suc, _+_, _<_, _≤_}
 use native.Mathlib.Omega.{arith}
 use lib.ListN.{length}
+use Rattle.nodes.specs.Lists.{remove}
 use Rattle.operations.specs.Object.{Obj, node, flag, Val, Why, not-free, no-slot, Ans, Writes}
 use Rattle.operations.specs.Map.{Map, look, put, del, fresh, gone, H}
-use Rattle.operations.specs.Entry.{Entries, nxt, index, value-at, value-in, with-pair, without-at}
+use Rattle.operations.specs.Entry.{Entries, nxt, index, value-at, value-in, with-pair}
 use Rattle.operations.specs.Slot.{Sizes, Allowed}
 use Rattle.operations.specs.Change.{up, insert-plan, delete-at, delete-plan}
 use Rattle.operations.specs.Chain.{one, Chain, tally}
@@ -85,7 +86,7 @@ module _ (F : Why → Type 0) (lacking : F not-free × F no-slot) (sz : Sizes) (
       by p es s (some i) e d =
           let n = del-len key es in
           let b = hi zero p in
-          subst (λ a. Ok F Q M (up sz a zero (branches zero p) [] (nm zero p) (without-at i es))) (sym (ap gone e))
+          subst (λ a. Ok F Q M (up sz a zero (branches zero p) [] (nm zero p) (remove i es))) (sym (ap gone e))
           (subst (λ z. Ok F Q M (up sz (gone (look key m)) zero (branches zero p) [] (nm zero p) z)) (sym d)
           (leaf-up (del key m) (gone (look key m)) p es (del key es) s (del-chain key b es (s .focus .segs)) (del-from key (lo zero p) b es (s .focus .segs) (s .focus .from))
           (sym (del-mid key (left zero p) es (right zero p) (site-left M m key zero p es small s) (site-right M m key zero p es small s)) ∙ ap (del key) (site-map M m key p es s))

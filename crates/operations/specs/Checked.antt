@@ -4,13 +4,15 @@ use mathlib.Core.Bool.{Bool, true, false, cond, _&&_}
 use mathlib.Core.List.{List, [], _∷_}
 use mathlib.Core.Logic.{inl, inr}
 use Prim.Native.Nat.{ℕ, suc, _+_}
-use native.Mathlib.Decide.{ℕ-discrete, decLt, decLe}
+use native.Mathlib.Decide.{ℕ-discrete, decLe}
+use borrow.Author.Tests.{lt-ltb}
 use Rattle.base.specs.Test.{of-yes, yes?}
 use Rattle.plans.specs.Plan as P
+use Rattle.nodes.specs.Find.{above, rises}
 use Rattle.operations.specs.Object.{Obj, meta, node, flag, object, vector, fetched, Val, keys-of, level-of, Why, no-tree, Ans, Writes, hit, over, written, value}
 use Rattle.operations.specs.Map.{Map, H}
 use Rattle.operations.specs.Path.{Plan}
-use Rattle.operations.specs.Operation.{rise?, fits?, all-fit?, checked}
+use Rattle.operations.specs.Operation.{fits?, all-fit?, checked}
 use Rattle.operations.specs.Chain.{Rising, one, tally}
 use Rattle.operations.specs.Ensures.{Ok}
 use Rattle.operations.specs.Tree.{cnt, Mark}
@@ -36,10 +38,14 @@ checked-ok F Q M f (P.ask (fetched s) k) h = λ v. checked-ok F Q M f (k v) (h v
 checked-ok F Q M f (P.done r) h = subst (λ b. Ok F Q M (cond b (P.done r) (P.fail no-tree))) (sym (f (r .0) (r .1) h)) h
 checked-ok F Q M f (P.fail y) h = h
 
-rise-of : (a z : ℕ) (ks : List ℕ) → Rising a z ks → rise? ks ≡ true
+above-of : (k z : ℕ) (ks : List ℕ) → Rising (suc k) z ks → above k ks ≡ true
+above-of k z [] h = refl
+above-of k z (j ∷ ks) h = ap (λ b. b && above j ks) (lt-ltb k j (h .0)) ∙ above-of j z ks (h .1)
+
+rise-of : (a z : ℕ) (ks : List ℕ) → Rising a z ks → rises ks ≡ true
+unfolding rises
 rise-of a z [] h = refl
-rise-of a z (k ∷ []) h = refl
-rise-of a z (k ∷ j ∷ ks) h = ap (λ b. b && rise? (j ∷ ks)) (of-yes (decLt k j) (h .1 .0)) ∙ rise-of (suc k) z (j ∷ ks) (h .1)
+rise-of a z (k ∷ ks) h = above-of k z ks (h .1)
 
 hit-self : (o : Obj) → hit o o ≡ true
 hit-self meta = refl
@@ -65,7 +71,7 @@ among-self (e ∷ w) = (ap (λ b. cond b true (written w (e .0))) (hit-self (e .
 
 -- what a snapshot that holds a tree has may be written
 fits-rep : (U : Obj → Val) (m : Map) → Rep U m → (o : Obj) → fits? (U o) ≡ true
-unfolding decLe
+unfolding decLe rises
 fits-rep U m R meta = ap fits? (R .tree .top-is)
 fits-rep U m R (node n) =
     ap (λ b. b && yes? (decLe (level-of (U (node n))) 4)) (rise-of 0 H (keys-of (U (node n))) (all-rising U m R n))

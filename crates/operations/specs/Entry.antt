@@ -1,13 +1,13 @@
 -- A node as a list of entries: its keys with its values or children. The first entry of an inner node has the key from which
 -- the node holds keys, which its parent stores and it does not. With it leaves and inner nodes split, merge and lend alike.
-use mathlib.Core.List.{List, [], _∷_, _++_, map, tail}
+use mathlib.Core.List.{List, [], _∷_, map, tail}
 use mathlib.Core.Option.{Option, none, some}
 use Prim.Native.Nat.{ℕ, zero, suc, _+_}
-use native.Mathlib.Decide.{ℕ-discrete}
 use lib.Dec.{ltb}
-use lib.ListN.{take, drop, getD, set, getElem?}
-use Rattle.base.specs.Test.{ifd}
+use lib.ListN.{getD, set, getElem?}
+use Rattle.nodes.specs.Lists.{insert}
 use Rattle.nodes.specs.Place.{place, bit}
+use Rattle.nodes.specs.Find.{find}
 use Rattle.operations.specs.Object.{Val, body}
 
 abbrev pub Entries : Type 0
@@ -66,12 +66,8 @@ module _ {A : Type 0} where
 
 -- LEAVES
 -- the index of a present key: the place is not 0, and the key there is equal
-abbrev pub index-at : ℕ → Entries → ℕ → Option ℕ
-index-at key es zero = none
-index-at key es (suc i) = ifd (ℕ-discrete (getD (keys es) i 0) key) (some i) none
-
 abbrev pub index : ℕ → Entries → Option ℕ
-index key es = index-at key es (place (keys es) key)
+index key es = find (keys es) key
 
 abbrev pub value-at : Entries → Option ℕ → Option ℕ
 value-at es none = none
@@ -82,14 +78,11 @@ value-in key es = value-at es (index key es)
 
 -- "Insert of a present key replaces its value"; another comes after the keys not above it
 abbrev pub with-at : ℕ → ℕ → Entries → Option ℕ → Entries
-with-at key v es none = let p = place (keys es) key in take p es ++ (key, v) ∷ drop p es
+with-at key v es none = insert (place (keys es) key) (key, v) es
 with-at key v es (some i) = set es i (key, v)
 
 abbrev pub with-pair : ℕ → ℕ → Entries → Entries
 with-pair key v es = with-at key v es (index key es)
-
-abbrev pub without-at : ℕ → Entries → Entries
-without-at i es = take i es ++ drop (suc i) es
 
 -- the nearest key strictly above: the one after the keys not above
 abbrev pub next-in : ℕ → Entries → Option ℕ

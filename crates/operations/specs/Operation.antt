@@ -1,10 +1,11 @@
 -- The six operations as plans, with the last check before the answer.
 use mathlib.Core.Bool.{Bool, true, cond, _&&_}
-use mathlib.Core.List.{List, [], _∷_}
-use Prim.Native.Nat.{ℕ, _<_}
-use native.Mathlib.Decide.{decLt, decLe}
+use mathlib.Core.List.{[], _∷_}
+use Prim.Native.Nat.{_<_}
+use native.Mathlib.Decide.{decLe}
 use Rattle.base.specs.Test.{yes?}
 use Rattle.plans.specs.Plan as P
+use Rattle.nodes.specs.Find.{rises}
 use Rattle.operations.specs.Object.{Val, keys-of, level-of, no-tree, Ans, Writes, value}
 use Rattle.operations.specs.Map.{H, Op, insert, lookup, delete, next, previous, migrate}
 use Rattle.operations.specs.Path.{Plan}
@@ -13,14 +14,9 @@ use Rattle.operations.specs.Look.{lookup-plan, next-plan, previous-plan}
 use Rattle.operations.specs.Change.{insert-plan, delete-plan}
 use Rattle.operations.specs.Migrate.{migrate-plan}
 
-abbrev pub rise? : List ℕ → Bool
-rise? [] = true
-rise? (k ∷ []) = true
-rise? (k ∷ j ∷ ks) = yes? (decLt k j) && rise? (j ∷ ks)
-
 -- may this be written? "a node with keys that don't rise or a level above 4 would be written"
 abbrev pub fits? : Val → Bool
-fits? v = rise? (keys-of v) && yes? (decLe (level-of v) 4)
+fits? v = rises (keys-of v) && yes? (decLe (level-of v) 4)
 
 -- of the objects of w, what all the writes together leave there
 abbrev pub all-fit? : Writes → Writes → Bool

@@ -1,20 +1,23 @@
 -- Where the keys of a node rise, its own functions, which go by the place of a key, are the map's; and the child that a key
 -- leads to is the one whose part the key is in.
 use mathlib.Core.Path.{_≡_, refl, ap, sym, _∙_, subst}
-use mathlib.Core.Bool.{Bool, true, false, not}
+use mathlib.Core.Bool.{Bool, true, false, cond, not}
 use mathlib.Core.List.{List, [], _∷_, _++_}
 use mathlib.Core.Logic.{_⊎_, inl, inr}
 use mathlib.Core.Option.{Option, none, some}
-use Prim.Native.Nat.{ℕ, zero, suc, _+_, _<_, _≤_}
+use Prim.Native.Nat.{ℕ, zero, suc, _+_, _-_, _<_, _≤_}
 use native.Mathlib.Decide.{ℕ-discrete, decLt, decLe}
 use native.Mathlib.Omega.{arith}
-use lib.Dec.{T, leb, le→leb, leb→le, not-T}
+use lib.Dec.{T, leb, eqb, le→leb, leb→le, not-T, eqb·suc-zero}
+use borrow.Author.Tests.{eq-eqb, ne-eqb}
 use lib.ListN.{length, take, drop, getD, getElem?}
 use Rattle.base.specs.Test.{ifd, ifd-yes, ifd-no}
+use Rattle.nodes.specs.Lists.{insert, remove}
 use Rattle.nodes.specs.Place.{place, bit}
+use Rattle.nodes.specs.Find.{find, find-at}
 use Rattle.nodes.specs.Vector.{or-else}
 use Rattle.operations.specs.Map.{look, put, del, above, below}
-use Rattle.operations.specs.Entry.{Entries, keys, nxt, Cut, cut-at, cut, index-at, index, value-at, value-in, with-at, with-pair, without-at, next-in, under, before, previous-in}
+use Rattle.operations.specs.Entry.{Entries, keys, nxt, Cut, cut-at, cut, index, value-at, value-in, with-at, with-pair, next-in, under, before, previous-in}
 use Rattle.operations.specs.Chain.{Rising, ren, ren-keys}
 
 -- COUNTS of keys
@@ -115,12 +118,34 @@ abbrev later : Option ℕ → Option ℕ
 later none = none
 later (some i) = some (suc i)
 
+-- the search for a key, by its place
+abbrev index-at : ℕ → List ℕ → ℕ → Option ℕ
+index-at key ks zero = none
+index-at key ks (suc i) = ifd (ℕ-discrete (getD ks i 0) key) (some i) none
+
+find-is : (key : ℕ) (ks : List ℕ) → find ks key ≡ index-at key ks (place ks key)
+unfolding find find-at
+find-is key ks = go (place ks key)
+  where
+    go : (p : ℕ) → find-at ks key p ≡ index-at key ks p
+    go zero = refl
+    go (suc i) =
+        let e : suc i - 1 ≡ i = omega arith in
+        ap (λ b. cond b none (cond (eqb (getD ks (suc i - 1) 0) key) (some (suc i - 1)) none)) (eqb·suc-zero i)
+        ∙ ap (λ n. cond (eqb (getD ks n 0) key) (some n) none) e ∙ by (ℕ-discrete (getD ks i 0) key)
+      where
+        by : (d : Dec (getD ks i 0 ≡ key)) → cond (eqb (getD ks i 0) key) (some i) none ≡ ifd d (some i) none
+        by (yes q) = ap (λ b. cond b (some i) none) (eq-eqb (getD ks i 0) key q)
+        by (no q) = ap (λ b. cond b (some i) none) (ne-eqb (getD ks i 0) key q)
+
 module _ (key : ℕ) where
   -- the index of the key where the first key is below, equal, above
   index-lt : (e : ℕ × ℕ) (es : Entries) → e .0 < key → index key (e ∷ es) ≡ later (index key es)
-  index-lt e es h = ap (index-at key (e ∷ es)) (place-le key (e .0) (keys es) (omega (arith, h))) ∙ go (place (keys es) key)
+  index-lt e es h =
+      find-is key (keys (e ∷ es)) ∙ ap (index-at key (keys (e ∷ es))) (place-le key (e .0) (keys es) (omega (arith, h))) ∙ go (place (keys es) key)
+      ∙ sym (ap later (find-is key (keys es)))
     where
-      go : (p : ℕ) → index-at key (e ∷ es) (suc p) ≡ later (index-at key es p)
+      go : (p : ℕ) → index-at key (keys (e ∷ es)) (suc p) ≡ later (index-at key (keys es) p)
       go zero = ifd-no (ℕ-discrete (e .0) key) (some 0) none (λ q. absurd (omega (arith, q, h)))
       go (suc i) = by (ℕ-discrete (getD (keys es) i 0) key)
         where
@@ -130,11 +155,11 @@ module _ (key : ℕ) where
 
   index-eq : (z : ℕ) (e : ℕ × ℕ) (es : Entries) → e .0 ≡ key → Rising (suc (e .0)) z (keys es) → index key (e ∷ es) ≡ some 0
   index-eq z e es h r =
-      ap (index-at key (e ∷ es)) (place-le key (e .0) (keys es) (omega (arith, h)) ∙ ap suc (place-none key (suc (e .0)) z (keys es) (omega (arith, h)) r))
+      find-is key (keys (e ∷ es)) ∙ ap (index-at key (keys (e ∷ es))) (place-le key (e .0) (keys es) (omega (arith, h)) ∙ ap suc (place-none key (suc (e .0)) z (keys es) (omega (arith, h)) r))
       ∙ ifd-yes (ℕ-discrete (e .0) key) (some 0) none h
 
   index-gt : (a z : ℕ) (es : Entries) → key < a → Rising a z (keys es) → index key es ≡ none
-  index-gt a z es h r = ap (index-at key es) (place-none key a z (keys es) h r)
+  index-gt a z es h r = find-is key (keys es) ∙ ap (index-at key (keys es)) (place-none key a z (keys es) h r)
 
   abbrev Side : ℕ → Type 0
   Side x = (x < key) ⊎ ((x ≡ key) ⊎ (key < x))
@@ -148,7 +173,7 @@ module _ (key : ℕ) where
       go (no p) (no q) = inr (inr (omega (arith, p, q)))
 
   pub look-is : (a z : ℕ) (es : Entries) → Rising a z (keys es) → value-in key es ≡ look key es
-  unfolding place
+  unfolding place find find-at
   look-is a z [] r = refl
   look-is a z (e ∷ es) r = go (side (e .0)) (look-is (suc (e .0)) z es (r .1))
     where
@@ -165,7 +190,7 @@ module _ (key : ℕ) where
           ∙ sym (ifd-no (ℕ-discrete (e .0) key) (some (e .1)) (look key es) (λ q. absurd (omega (arith, q, h))))
 
   pub put-is : (v a z : ℕ) (es : Entries) → Rising a z (keys es) → with-pair key v es ≡ put key v es
-  unfolding place
+  unfolding place find find-at insert
   put-is v a z [] r = refl
   put-is v a z (e ∷ es) r = go (side (e .0)) (put-is v (suc (e .0)) z es (r .1))
     where
@@ -173,7 +198,7 @@ module _ (key : ℕ) where
       new = (key, v) ∷ e ∷ es
 
       shift : e .0 < key → (o : Option ℕ) → with-at key v (e ∷ es) (later o) ≡ e ∷ with-at key v es o
-      shift h none = ap (λ p. take p (e ∷ es) ++ (key, v) ∷ drop p (e ∷ es)) (place-le key (e .0) (keys es) (omega (arith, h)))
+      shift h none = ap (λ p. insert p (key, v) (e ∷ es)) (place-le key (e .0) (keys es) (omega (arith, h)))
       shift h (some i) = refl
 
       go : Side (e .0) → with-pair key v es ≡ put key v es → with-pair key v (e ∷ es) ≡ put key v (e ∷ es)
@@ -183,23 +208,23 @@ module _ (key : ℕ) where
           ∙ sym (ifd-no (decLt (e .0) key) (e ∷ put key v es) (ifd (ℕ-discrete (e .0) key) ((key, v) ∷ es) new) (λ q. absurd (omega (arith, q, h)))
           ∙ ifd-yes (ℕ-discrete (e .0) key) ((key, v) ∷ es) new h)
       go (inr (inr h)) rec = ap (with-at key v (e ∷ es)) (index-gt (e .0) z (e ∷ es) h (omega arith, r .1))
-          ∙ ap (λ p. take p (e ∷ es) ++ (key, v) ∷ drop p (e ∷ es)) (place-none key (e .0) z (keys (e ∷ es)) h (omega arith, r .1))
+          ∙ ap (λ p. insert p (key, v) (e ∷ es)) (place-none key (e .0) z (keys (e ∷ es)) h (omega arith, r .1))
           ∙ sym (ifd-no (decLt (e .0) key) (e ∷ put key v es) (ifd (ℕ-discrete (e .0) key) ((key, v) ∷ es) new) (λ q. absurd (omega (arith, q, h)))
           ∙ ifd-no (ℕ-discrete (e .0) key) ((key, v) ∷ es) new (λ q. absurd (omega (arith, q, h))))
 
   -- the entries without the one at an index, if there is one
   abbrev pub removed : Entries → Option ℕ → Entries
   removed es none = es
-  removed es (some i) = without-at i es
+  removed es (some i) = remove i es
 
   pub del-is : (a z : ℕ) (es : Entries) → Rising a z (keys es) → removed es (index key es) ≡ del key es
-  unfolding place
+  unfolding place find find-at remove
   del-is a z [] r = refl
   del-is a z (e ∷ es) r = go (side (e .0)) (del-is (suc (e .0)) z es (r .1))
     where
       shift : (o : Option ℕ) → removed (e ∷ es) (later o) ≡ e ∷ removed es o
       shift none = refl
-      shift (some i) = refl
+      shift (some i) = let n : suc i + 1 ≡ suc (i + 1) = omega arith in ap (λ n. take (suc i) (e ∷ es) ++ drop n (e ∷ es)) n
 
       kept : ¬ (e .0 ≡ key) → e ∷ del key es ≡ del key (e ∷ es)
       kept q = sym (ifd-no (ℕ-discrete (e .0) key) es (e ∷ del key es) q)
