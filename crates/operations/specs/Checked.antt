@@ -47,7 +47,7 @@ unfolding rises
 rise-of a z [] h = refl
 rise-of a z (k ∷ ks) h = above-of k z ks (h .1)
 
-hit-self : (o : Obj) → hit o o ≡ true
+pub hit-self : (o : Obj) → hit o o ≡ true
 hit-self meta = refl
 hit-self (node n) = of-yes (ℕ-discrete n n) refl
 hit-self (flag n) = of-yes (ℕ-discrete n n) refl

@@ -1,12 +1,12 @@
 -- The form of a held tree on which operations work: a path round a hole, and a focus (the path with new contents of the hole).
 use mathlib.Core.Path.{_≡_, ap, sym, _∙_, subst}
-use mathlib.Core.Bool.{Bool, true, false, true≢false}
+use mathlib.Core.Bool.{true, false, true≢false}
 use mathlib.Core.List.{List, [], _∷_, _++_, append-nil}
 use mathlib.Core.Logic.{inl, inr}
 use Prim.Native.Nat.{ℕ, zero, suc, _+_, _<_, _≤_}
 use native.Mathlib.Omega.{arith}
 use lib.ListN.{length}
-use Rattle.operations.specs.Object.{Obj, meta, node, flag, Val, root, body, taken, flags, free, Ans, Writes, wr, over}
+use Rattle.operations.specs.Object.{Obj, meta, node, flag, Val, root, taken, is-taken, free, Ans, Writes, wr, over}
 use Rattle.operations.specs.Map.{Map, H, H-pos}
 use Rattle.operations.specs.Entry.{mk, mn, mx, nxt}
 use Rattle.operations.specs.Chain.{one, one-same, Chain, chain-frame, tally, gather, ren}
@@ -192,12 +192,6 @@ mark-num f v n j e h = subst (λ i. Mark f v i) e h
 pub mark-node : (f v u : Val) (n : ℕ) → 1 ≤ n → Mark f v n → Mark f u n
 mark-node f v u n i (inl h) = inl h
 mark-node f v u n i (inr h) = absurd (omega (arith, h .0))
-
-abbrev is-taken : Val → Bool
-is-taken (taken b) = b
-is-taken (root r) = false
-is-taken (body k l ks vs) = false
-is-taken (flags fs) = false
 
 pub mark-free : (f v : Val) (n : ℕ) → f ≡ taken false → Mark f v n → (n ≡ 0) × (v ≡ free)
 mark-free f v n e (inl h) = absurd (true≢false (sym (ap is-taken (h .1)) ∙ ap is-taken e))

@@ -33,3 +33,4 @@ pub mod Outer
 pub mod Reading
 pub mod Seen
 pub mod Arrays
+pub mod Equal

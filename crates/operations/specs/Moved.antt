@@ -10,7 +10,7 @@ use lib.ListN.{length, length-append}
 use Rattle.base.specs.Test.{ifd, yes-of, of-yes}
 use Rattle.plans.specs.Plan as P
 use Rattle.nodes.specs.Name.{server-of, slot-of}
-use Rattle.operations.specs.Object.{Obj, meta, node, flag, object, Val, root, body, taken, flags, free, keys-of, level-of, Why, not-free, no-tree, no-slot, Ans, Writes, over}
+use Rattle.operations.specs.Object.{Obj, meta, node, flag, object, Val, root, body, taken, flags, free, kind-of, keys-of, level-of, Why, not-free, no-tree, no-slot, Ans, Writes, over}
 use Rattle.operations.specs.Map.{Map, H}
 use Rattle.operations.specs.Entry.{Entries, mk, Cut, cut}
 use Rattle.operations.specs.Path.{Plan, kid, when-root, open-node, down}
@@ -26,12 +26,6 @@ use Rattle.operations.specs.Down.{branches, open-ok, kid-ok, Site, site-
 use Rattle.operations.specs.Slots.{take-node-ok, release-ok, take-at-ok}
 use Rattle.operations.specs.Rise.{write-ok}
 use Rattle.operations.specs.Found.{leaf-tally, locate, level-mk, node-like, all-nodes, Met, met, stored-length}
-
-abbrev kind-of : Val → ℕ
-kind-of (root r) = 0
-kind-of (body k l ks vs) = k
-kind-of (taken b) = 0
-kind-of (flags fs) = 0
 
 module _ (F : Why → Type 0) (lacking : F not-free × F no-slot) (sz : Sizes) (al : Allowed sz) (M : Obj → Val) (m : Map) (R : Rep M m) (s : ℕ) (server : s < 8) where
   -- the snapshot with the writes holds the same map

@@ -36,6 +36,12 @@ keys-of (body k l ks vs) = ks
 keys-of (taken b) = []
 keys-of (flags fs) = []
 
+abbrev pub kind-of : Val → ℕ
+kind-of (root r) = 0
+kind-of (body k l ks vs) = k
+kind-of (taken b) = 0
+kind-of (flags fs) = 0
+
 abbrev pub level-of : Val → ℕ
 level-of (root r) = 0
 level-of (body k l ks vs) = l
@@ -54,6 +60,12 @@ root-of (body k l ks vs) = 0
 root-of (taken b) = 0
 root-of (flags fs) = 0
 
+abbrev pub is-taken : Val → Bool
+is-taken (root r) = false
+is-taken (body k l ks vs) = false
+is-taken (taken b) = b
+is-taken (flags fs) = false
+
 abbrev pub flags-of : Val → List Bool
 flags-of (root r) = []
 flags-of (body k l ks vs) = []
@@ -62,10 +74,7 @@ flags-of (flags fs) = fs
 
 -- "A server can check metadata, inner nodes by its table, and its own other nodes and flags"
 abbrev pub inner-node : Val → Bool
-inner-node (root r) = false
-inner-node (body k l ks vs) = eqb k 2
-inner-node (taken b) = false
-inner-node (flags fs) = false
+inner-node v = eqb (kind-of v) 2
 
 abbrev pub inner : Obj → Val → Bool
 inner meta v = true
