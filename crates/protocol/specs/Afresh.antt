@@ -13,7 +13,8 @@ use Rattle.protocol.specs.Lists.{all, any}
 use Rattle.protocol.specs.State.{decided, Entry}
 use Rattle.protocol.specs.Meaning.{Shown, map-of, map-all, Right, Right-all}
 use Rattle.protocol.specs.Machine.{Machine, find}
-use Rattle.protocol.specs.Moves.{first-of, stored-at, begins, fetches, answers, commits, prepares, decides, applies, ends, Reached}
+use Rattle.protocol.specs.Moves.{releases, given-back, first-of, stored-at, begins, fetches, answers, commits, prepares, decides, applies, ends}
+use Rattle.protocol.specs.Moves.{Reached}
 use Rattle.protocol.specs.Variant.{ReachedWith, at-start, by-rule, also, never}
 use Rattle.protocol.specs.Example.{leaf, look, put, tiny, leaves, one, one≢seven}
 
@@ -50,19 +51,21 @@ mistaken =
     let r8 : Goes _ = by-rule r7 (decides false refl refl) in
     let r9 : Goes _ = by-rule r8 (applies false false refl refl) in
     let r10 : Goes _ = by-rule r9 (ends false refl refl) in
-    let r11 : Goes _ = by-rule r10 (begins false refl) in
-    let r12 : Goes _ = by-rule r11 (fetches false false (leaf false) refl refl refl) in
-    let r13 : Goes _ = by-rule r12 (answers false reused refl (refl, (refl, tt)) refl) in
-    let r14 : Goes _ = by-rule r13 (commits false refl) in
-    let r15 : Goes _ = by-rule r14 (prepares false false refl refl refl refl) in
-    let r16 : Goes _ = by-rule r15 (decides false refl refl) in
-    let r17 : Goes _ = also r16 (applies-afresh false false refl refl) in
-    let r18 : Goes _ = by-rule r17 (ends false refl refl) in
-    let r19 : Goes _ = by-rule r18 (answers true looked refl (refl, tt) refl) in
-    let r20 : Goes _ = by-rule r19 (commits true refl) in
-    let r21 : Goes _ = by-rule r20 (prepares true false refl refl refl refl) in
-    let r22 : Goes _ = by-rule r21 (decides true refl refl) in
-    (_, r22, refl)
+    let r11 : Goes _ = by-rule r10 (releases _ (λ s o. given-back false refl)) in
+    let r12 : Goes _ = by-rule r11 (begins false refl) in
+    let r13 : Goes _ = by-rule r12 (fetches false false (leaf false) refl refl refl) in
+    let r14 : Goes _ = by-rule r13 (answers false reused refl (refl, (refl, tt)) refl) in
+    let r15 : Goes _ = by-rule r14 (commits false refl) in
+    let r16 : Goes _ = by-rule r15 (prepares false false refl refl refl refl) in
+    let r17 : Goes _ = by-rule r16 (decides false refl refl) in
+    let r18 : Goes _ = also r17 (applies-afresh false false refl refl) in
+    let r19 : Goes _ = by-rule r18 (ends false refl refl) in
+    let r20 : Goes _ = by-rule r19 (releases _ (λ s o. given-back false refl)) in
+    let r21 : Goes _ = by-rule r20 (answers true looked refl (refl, tt) refl) in
+    let r22 : Goes _ = by-rule r21 (commits true refl) in
+    let r23 : Goes _ = by-rule r22 (prepares true false refl refl refl refl) in
+    let r24 : Goes _ = by-rule r23 (decides true refl refl) in
+    (_, r24, refl)
 
 -- the last one should have answered 7
 wrong : Right-all tiny leaves outcome → ⊥

@@ -1,7 +1,7 @@
 -- THE CLAIM on the machine, with no ghost in it: in every state that its moves reach, the decided transactions' answers are the map's, what
 -- the servers store, with all due writes counted in, holds the map, and the servers agree. It is the protocol's theorem, carried over.
 use mathlib.Core.Path.{_≡_, refl, ap, sym, _∙_, subst, fun-ext}
-use mathlib.Core.Bool.{Bool, true, false, cond, false≢true}
+use mathlib.Core.Bool.{Bool, true, false, cond, true≢false, false≢true}
 use mathlib.Core.List.{List, [], _∷_}
 use mathlib.Core.Option.{Option, none, some, Option·none-ne-some, Option·some-injective}
 use Prim.Native.Nat.{ℕ, suc, _≤_}
@@ -21,11 +21,12 @@ use Rattle.protocol.specs.Safety.{reach-inv, safety}
 use Rattle.protocol.specs.Meaning.{Meaning, Shown, shown-of, show, show-all, map-all, Right-all, log-right}
 use Rattle.protocol.specs.Machine.{Item, find, says, Slot, Copy, Lock, Machine, blank, first-machine, with-item, seen, turned, with-slot}
 use Rattle.protocol.specs.Machine.{with-copies}
-use Rattle.protocol.specs.Moves.{answered-slot, check, to-write, to-read, grants, granted-at, prepared-slot, decided-slot, applied-slot}
+use Rattle.protocol.specs.Moves.{Released, unchanged, given-back, releases, answered-slot, check, to-write, to-read, grants, granted-at}
+use Rattle.protocol.specs.Moves.{prepared-slot, decided-slot, applied-slot}
 use Rattle.protocol.specs.Moves.{applied-at, cleared, Copied, as-before, dropped, fetched, renewed, Move, begins, uses-copy, fetches, answers}
 use Rattle.protocol.specs.Moves.{commits, prepares, decides, applies, ends, aborts, copies, Reached, at-first, moved}
 use Rattle.protocol.specs.Items.{each-part}
-use Rattle.protocol.specs.Locks.{Recorded, calm-recorded, drop-recorded, decide-recorded, apply-recorded}
+use Rattle.protocol.specs.Locks.{Known, Recorded, calm-recorded, drop-recorded, decide-recorded, apply-recorded}
 use Rattle.protocol.specs.Ghosts.{Own, Ghost, nothing, transaction-of, state-of, put-own, clients-put, stamped, begin-reach, abort-reach}
 use Rattle.protocol.specs.Ghosts.{end-reach, read-reach, answer-reach, commit-reach, decided-ghost, decide-reach}
 use Rattle.protocol.specs.Prepared.{stamped-ghost, prepared-ghost, prepare-reach, locks-recorded}
@@ -125,20 +126,17 @@ module _ (T : Setting) where
         (unprepared (ap after-commit hp)) refl
 
     -- begin, end, abort
-    cleared-good : (p : Phase) (lock : Server → Obj → Lock T) → Reach T (state-of T (with-slot T m c (blank T p)) (put-own T g c (nothing T)))
-        → Recorded T (upd eqClient (σ .clients) c (transaction-of T (blank T p) (nothing T))) lock → Good (cleared T m c p lock)
+    cleared-good : (p : Phase) → Reach T (state-of T (with-slot T m c (blank T p)) (put-own T g c (nothing T))) → Good (cleared T m c p)
     unfolding show
-    cleared-good p lock r R = record {
+    cleared-good p r = record {
       ghost = put-own T g c (nothing T);
       reach = r;
-      recorded = recorded-put (blank T p) (nothing T) lock R;
+      recorded = recorded-put (blank T p) (nothing T) (m .lock)
+          (calm-recorded T (σ .clients) (m .lock) (G .recorded) c (transaction-of T (blank T p) (nothing T)) (λ s. refl));
       legal = G .legal;
       said-as = said-upd [] (nothing T) refl;
       log-as = G .log-as;
     }
-
-    blank-calm : (p : Phase) → Recorded T (upd eqClient (σ .clients) c (transaction-of T (blank T p) (nothing T))) (m .lock)
-    blank-calm p = calm-recorded T (σ .clients) (m .lock) (G .recorded) c (transaction-of T (blank T p) (nothing T)) (λ s. refl)
 
     answer-good : (e : Entry T) → m .slots c .phase ≡ opened
         → Asked (plan (e .op)) (seen T (m .slots c) .read) (view T (seen T (m .slots c)))
@@ -232,6 +230,26 @@ module _ (T : Setting) where
     copied-legal o z (fetched s kept) k e = subst (Legal (g .current) (g .history) o) (Option·some-injective _ k e) (stored-legal s o kept)
     copied-legal o z (renewed i hp q w) k e = subst (Legal (g .current) (g .history) o) (Option·some-injective _ k e) (renewed-legal o i hp q w)
 
+  -- locks given back
+  released-known : (m : Machine T) (G : Good m) (s : Server) (o : Obj) (l : Lock T) → Released T m s o l → (d : Client)
+      → Known T d (state-of T m (G .ghost) .clients d) s o l
+  released-known m G s o l unchanged d = G .recorded d s o
+  released-known m G s o l (given-back c h) d = drop-recorded T (state-of T m (G .ghost) .clients) (m .lock) (G .recorded) c s holds d o
+    where
+      holds : ¬ ((m .slots c .prepared s ≡ true) × (m .slots c .applied s ≡ false))
+      holds q = true≢false (sym (rw (q .0, q .1) refl) ∙ h)
+
+  release-good : (m : Machine T) → Good m → (lock : Server → Obj → Lock T) → ((s : Server) (o : Obj) → Released T m s o (lock s o))
+      → Good (turned T m (m .slots) lock (m .said) (m .log))
+  release-good m G lock h = record {
+    ghost = G .ghost;
+    reach = G .reach;
+    recorded = λ d s o. released-known m G s o (lock s o) (h s o) d;
+    legal = G .legal;
+    said-as = G .said-as;
+    log-as = G .log-as;
+  }
+
   copies-good : (m : Machine T) → Good m → (f : Client → Obj → Option (Copy T)) → ((c : Client) (o : Obj) → Copied T m c o (f c o)) → Good (with-copies T m f)
   copies-good m G f h = record {
     ghost = G .ghost;
@@ -243,7 +261,7 @@ module _ (T : Setting) where
   }
 
   move-good : {m n : Machine T} → Good m → Move T m n → Good n
-  move-good {m = m} G (begins c h) = cleared-good m G c opened (m .lock) (begin-reach T m (G .ghost) c (G .reach) h) (blank-calm m G c opened)
+  move-good {m = m} G (begins c h) = cleared-good m G c opened (begin-reach T m (G .ghost) c (G .reach) h)
   move-good {m = m} G (uses-copy c o k hp hf e) = read-good m G c o k hp hf (G .legal c o k e)
   move-good {m = m} G (fetches c s o hp hf k) = read-good m G c o _ hp hf (stored-legal m G c s o k)
   move-good {m = m} G (answers c e hp asked ran) = answer-good m G c e hp asked ran
@@ -253,14 +271,12 @@ module _ (T : Setting) where
   move-good {m = m} G (decides c hp all) = decide-good m G c hp (each-part T (m .slots c .participant) (m .slots c .prepared) all)
   move-good {m = m} G (applies c s hp ha) = apply-good m G c s hp ha
   move-good {m = m} G (ends c hp all) =
-      cleared-good m G c idle (m .lock) (end-reach T m (G .ghost) c (G .reach) hp (each-part T (m .slots c .participant) (m .slots c .applied) all))
-      (blank-calm m G c idle)
-  move-good {m = m} G (aborts c h) =
-      cleared-good m G c idle _ (abort-reach T m (G .ghost) c (G .reach) h)
-      (drop-recorded T (state-of T m (G .ghost) .clients) (m .lock) (G .recorded) c _ (λ s. refl))
+      cleared-good m G c idle (end-reach T m (G .ghost) c (G .reach) hp (each-part T (m .slots c .participant) (m .slots c .applied) all))
+  move-good {m = m} G (aborts c h) = cleared-good m G c idle (abort-reach T m (G .ghost) c (G .reach) h)
+  move-good {m = m} G (releases lock h) = release-good m G lock h
   move-good {m = m} G (copies f h) = copies-good m G f h
 
-  reached-good : {m : Machine T} → Reached T m → Good m
+  pub reached-good : {m : Machine T} → Reached T m → Good m
   reached-good at-first = first-good
   reached-good (moved r k) = move-good (reached-good r) k
 

@@ -1,5 +1,6 @@
--- The machine's moves. Each has only computed tests for premises. The steps of a schedule are some moves each, perhaps none: begin, work
--- (`uses-copy`, `fetches`, `answers`), commit, prepare, decision, apply, end, abort, and changes of copies.
+-- The machine's moves, with computed tests for premises. A step of a schedule is some moves, perhaps none. A work step uses copies and
+-- then fetches or answers (file Work). The last prepare is `prepares`, `decides`; with one participant `applies`, `ends` and `releases` follow;
+-- a commit without participants is `commits`, `decides`, `ends`; an abort, for whatever reason, `aborts`, `releases`. `copies` may follow any.
 use mathlib.Core.Path.{_≡_}
 use mathlib.Core.Bool.{Bool, true, false, cond, _&&_, _||_, not}
 use mathlib.Core.List.{List, [], _∷_, map}
@@ -106,11 +107,6 @@ module _ (T : Setting) where
   abbrev pub applied-slot : Slot T → Server → Slot T
   applied-slot y s = with-course T y (y .phase) (y .participant) (y .lowest) (y .prepared) (upd eqServer (y .applied) s true)
 
-  -- "Apply writes and unlocks"; so does an abort, which "unlocks everywhere"
-  abbrev pub drop : Client → Lock T → Lock T
-  drop c (shared q) = shared (λ d. not (yes? (eqClient d c)) && q d)
-  drop c (owned d) = cond (yes? (eqClient d c)) (unlocked T) (owned d)
-
   -- the next versions are given by n; no version is stored of an object checked by value
   abbrev pub stored-at : (Item T → ℕ) → Machine T → Client → Server → Machine T
   stored-at n m c s = let is = m .slots c .items in record {
@@ -119,7 +115,7 @@ module _ (T : Setting) where
     version = upd eqServer (m .version) s
         (row is (λ i. not (by-value (i .obj)) && i .written && keeps s (i .obj)) n (m .version s));
     table = upd eqServer (m .table) s (row is for-all n (m .table s));
-    lock = upd eqServer (m .lock) s (λ o. drop c (m .lock s o));
+    lock = m .lock;
     copy = m .copy;
     said = m .said;
     log = m .log;
@@ -130,8 +126,18 @@ module _ (T : Setting) where
   applied-at = stored-at (λ i. suc (i .version))
 
   -- BEGIN, END and ABORT: the slot is blank, and nothing has been said
-  abbrev pub cleared : Machine T → Client → Phase → (Server → Obj → Lock T) → Machine T
-  cleared m c p lock = turned T m (upd eqClient (m .slots) c (blank T p)) lock (upd eqClient (m .said) c []) (m .log)
+  abbrev pub cleared : Machine T → Client → Phase → Machine T
+  cleared m c p = turned T m (upd eqClient (m .slots) c (blank T p)) (m .lock) (upd eqClient (m .said) c []) (m .log)
+
+  -- LOCKS GIVEN BACK: "Apply writes and unlocks", "An abort unlocks everywhere"
+  abbrev pub drop : Client → Lock T → Lock T
+  drop c (shared q) = shared (λ d. not (yes? (eqClient d c)) && q d)
+  drop c (owned d) = cond (yes? (eqClient d c)) (unlocked T) (owned d)
+
+  -- what the lock of o at s may be by the next state: c's part in it goes once c has not prepared there, or has applied there
+  pub data Released (m : Machine T) (s : Server) (o : Obj) : Lock T → Type 0 where
+    unchanged : Released m s o (m .lock s o)
+    given-back : (c : Client) → (m .slots c .prepared s && not (m .slots c .applied s)) ≡ false → Released m s o (drop c (m .lock s o))
 
   -- COPIES: what a client may have as its copy of o by the next state
   pub data Copied (m : Machine T) (c : Client) (o : Obj) : Option (Copy T) → Type 0 where
@@ -144,7 +150,7 @@ module _ (T : Setting) where
         → Copied m c o (some (record { value = i .new; version = cond (by-value o) (i .version) (suc (i .version)) }))
 
   pub data Move (m : Machine T) : Machine T → Type 0 where
-    begins : (c : Client) → m .slots c .phase ≡ idle → Move m (cleared m c opened (m .lock))
+    begins : (c : Client) → m .slots c .phase ≡ idle → Move m (cleared m c opened)
     uses-copy : (c : Client) (o : Obj) (k : Copy T) → m .slots c .phase ≡ opened → find T (m .slots c .items) o ≡ none → m .copy c o ≡ some k
         → Move m (with-slot T m c (with-item T (m .slots c) o (k .value) (k .version)))
     fetches : (c : Client) (s : Server) (o : Obj) → m .slots c .phase ≡ opened → find T (m .slots c .items) o ≡ none → keeps s o ≡ true
@@ -164,8 +170,10 @@ module _ (T : Setting) where
         → Move m (turned T m (upd eqClient (m .slots) c (decided-slot (m .slots c))) (m .lock) (m .said) (m .said c ∷ m .log))
     applies : (c : Client) (s : Server) → m .slots c .phase ≡ decided → m .slots c .applied s ≡ false → Move m (applied-at m c s)
     ends : (c : Client) → m .slots c .phase ≡ decided → all-parts (m .slots c .participant) (m .slots c .applied) ≡ true
-        → Move m (cleared m c idle (m .lock))
-    aborts : (c : Client) → is-decided (m .slots c .phase) ≡ false → Move m (cleared m c idle (λ s o. drop c (m .lock s o)))
+        → Move m (cleared m c idle)
+    aborts : (c : Client) → is-decided (m .slots c .phase) ≡ false → Move m (cleared m c idle)
+    releases : (lock : Server → Obj → Lock T) → ((s : Server) (o : Obj) → Released m s o (lock s o))
+        → Move m (turned T m (m .slots) lock (m .said) (m .log))
     copies : (f : Client → Obj → Option (Copy T)) → ((c : Client) (o : Obj) → Copied m c o (f c o)) → Move m (with-copies T m f)
 
   pub data Reached : Machine T → Type 0 where

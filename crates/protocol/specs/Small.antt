@@ -10,8 +10,9 @@ use Rattle.protocol.specs.Writes.{writes?, latest}
 use Rattle.protocol.specs.Lists.{all, any}
 use Rattle.protocol.specs.State.{Entry}
 use Rattle.protocol.specs.Replay.{settled}
-use Rattle.protocol.specs.Machine.{Machine, find}
-use Rattle.protocol.specs.Moves.{first-of, begins, fetches, answers, commits, prepares, decides, applies, ends, Reached, at-first, moved}
+use Rattle.protocol.specs.Machine.{Machine, unlocked, find}
+use Rattle.protocol.specs.Moves.{releases, given-back, first-of, begins, fetches, answers, commits, prepares, decides, applies, ends, Reached}
+use Rattle.protocol.specs.Moves.{at-first, moved}
 use Rattle.protocol.specs.Claim.{due-in, Claim, claim}
 use Rattle.protocol.specs.Example.{root, leaf, put, turn, tiny, leaves, one}
 
@@ -22,7 +23,7 @@ abbrev turn-five : Entry tiny
 turn-five = record { op = turn 5; result = (1, (root, 5) ∷ []) }
 
 run : (m : Machine tiny) × Reached tiny m × (m .log ≡ one (turn 5) 1 ∷ one (put true true 7) 1 ∷ [])
-    × (m .value true (leaf true) ≡ 7) × (m .version true (leaf true) ≡ 1)
+    × (m .value true (leaf true) ≡ 7) × (m .version true (leaf true) ≡ 1) × (m .lock true (leaf true) ≡ unlocked tiny)
     × (m .value false root ≡ 5) × (m .table false root ≡ 1) × (m .value true root ≡ 1) × (due-in tiny leaves m true root ≡ 5)
 unfolding upd exec Asked writes? latest find all any first-of settled ℕ-discrete
 run =
@@ -34,15 +35,16 @@ run =
     let r6 : Reached tiny _ = moved r5 (decides false refl refl) in
     let r7 : Reached tiny _ = moved r6 (applies false true refl refl) in
     let r8 : Reached tiny _ = moved r7 (ends false refl refl) in
-    let r9 : Reached tiny _ = moved r8 (begins false refl) in
-    let r10 : Reached tiny _ = moved r9 (fetches false true root refl refl refl) in
-    let r11 : Reached tiny _ = moved r10 (answers false turn-five refl (refl, tt) refl) in
-    let r12 : Reached tiny _ = moved r11 (commits false refl) in
-    let r13 : Reached tiny _ = moved r12 (prepares false true refl refl refl refl) in
-    let r14 : Reached tiny _ = moved r13 (prepares false false refl refl refl refl) in
-    let r15 : Reached tiny _ = moved r14 (decides false refl refl) in
-    let r16 : Reached tiny _ = moved r15 (applies false false refl refl) in
-    (_, r16, refl, refl, refl, refl, refl, refl, refl)
+    let r9 : Reached tiny _ = moved r8 (releases _ (λ s o. given-back false refl)) in
+    let r10 : Reached tiny _ = moved r9 (begins false refl) in
+    let r11 : Reached tiny _ = moved r10 (fetches false true root refl refl refl) in
+    let r12 : Reached tiny _ = moved r11 (answers false turn-five refl (refl, tt) refl) in
+    let r13 : Reached tiny _ = moved r12 (commits false refl) in
+    let r14 : Reached tiny _ = moved r13 (prepares false true refl refl refl refl) in
+    let r15 : Reached tiny _ = moved r14 (prepares false false refl refl refl refl) in
+    let r16 : Reached tiny _ = moved r15 (decides false refl refl) in
+    let r17 : Reached tiny _ = moved r16 (applies false false refl refl) in
+    (_, r17, refl, refl, refl, refl, refl, refl, refl, refl)
 
 -- and the claim holds of it
 claimed : Claim tiny leaves (run .0)
