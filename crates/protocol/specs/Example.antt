@@ -1,4 +1,5 @@
--- A store small enough to be run by computation: two servers, the root on both, a leaf on each. The closed examples stand on it.
+-- A store small enough to be run by computation: two servers, the root on both, a leaf on each. The leaf of server true is checked by value,
+-- as flags are. The closed examples stand on it.
 use mathlib.Core.Path.{_≡_, refl, ap, subst}
 use mathlib.Core.Bool.{Bool, true, false, Bool-discrete, true≢false, false≢true}
 use mathlib.Core.List.{List, [], _∷_}
@@ -60,6 +61,14 @@ within (look o) = λ v. tt
 within (put a b n) = λ v u. (inl refl, tt)
 within (turn n) = λ v. (inl refl, tt)
 
+abbrev pub by-value : Obj → Bool
+by-value root = false
+by-value (leaf a) = a
+
+pub by-value-outer : (o : Obj) → by-value o ≡ true → (v : ℕ) → inner o v ≡ false
+by-value-outer root h v = absurd (false≢true h)
+by-value-outer (leaf a) h v = refl
+
 abbrev pub keeps : Bool → Obj → Bool
 keeps s root = true
 keeps s (leaf a) = yes? (Bool-discrete s a)
@@ -101,8 +110,8 @@ tiny = record {
   keeps = keeps;
   keeps-home = keeps-home;
   keeps-where = keeps-where;
-  by-value = λ o. false;
-  by-value-outer = λ o h. absurd (false≢true h);
+  by-value = by-value;
+  by-value-outer = by-value-outer;
   init = λ o. 1;
   Op = Op;
   Res = Res;

@@ -31,6 +31,8 @@ pub mod Hints
 pub mod Example
 -- a run of two transactions, one of them with an apply still due
 pub mod Small
+-- a flag changed and changed back passes its check by value
+pub mod ByValue
 -- why the answers of a transaction without participants are not compared
 pub mod Unchecked
 -- runs with moves that the rules do not have

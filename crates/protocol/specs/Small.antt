@@ -1,4 +1,4 @@
--- A small run of the machine, with every test by computation: a client puts a number into the leaf of server true, whose prepare decides
+-- A small run of the machine, with every test by computation: a client puts a number into the leaf of server false, whose prepare decides
 -- alone. Then it gives the root a new number, which both servers prepare, and which has been applied at one of them only.
 use mathlib.Core.Path.{_≡_, refl}
 use mathlib.Core.Bool.{true, false}
@@ -17,23 +17,23 @@ use Rattle.protocol.specs.Claim.{due-in, Claim, claim}
 use Rattle.protocol.specs.Example.{root, leaf, put, turn, tiny, leaves, one}
 
 abbrev put-seven : Entry tiny
-put-seven = record { op = put true true 7; result = (1, (leaf true, 7) ∷ []) }
+put-seven = record { op = put false false 7; result = (1, (leaf false, 7) ∷ []) }
 
 abbrev turn-five : Entry tiny
 turn-five = record { op = turn 5; result = (1, (root, 5) ∷ []) }
 
-run : (m : Machine tiny) × Reached tiny m × (m .log ≡ one (turn 5) 1 ∷ one (put true true 7) 1 ∷ [])
-    × (m .value true (leaf true) ≡ 7) × (m .version true (leaf true) ≡ 1) × (m .lock true (leaf true) ≡ unlocked tiny)
+run : (m : Machine tiny) × Reached tiny m × (m .log ≡ one (turn 5) 1 ∷ one (put false false 7) 1 ∷ [])
+    × (m .value false (leaf false) ≡ 7) × (m .version false (leaf false) ≡ 1) × (m .lock false (leaf false) ≡ unlocked tiny)
     × (m .value false root ≡ 5) × (m .table false root ≡ 1) × (m .value true root ≡ 1) × (due-in tiny leaves m true root ≡ 5)
 unfolding upd exec Asked writes? latest find all any first-of settled ℕ-discrete
 run =
     let r1 : Reached tiny _ = moved at-first (begins false refl) in
-    let r2 : Reached tiny _ = moved r1 (fetches false true (leaf true) refl refl refl) in
+    let r2 : Reached tiny _ = moved r1 (fetches false false (leaf false) refl refl refl) in
     let r3 : Reached tiny _ = moved r2 (answers false put-seven refl (refl, (refl, tt)) refl) in
     let r4 : Reached tiny _ = moved r3 (commits false refl) in
-    let r5 : Reached tiny _ = moved r4 (prepares false true refl refl refl refl) in
+    let r5 : Reached tiny _ = moved r4 (prepares false false refl refl refl refl) in
     let r6 : Reached tiny _ = moved r5 (decides false refl refl) in
-    let r7 : Reached tiny _ = moved r6 (applies false true refl refl) in
+    let r7 : Reached tiny _ = moved r6 (applies false false refl refl) in
     let r8 : Reached tiny _ = moved r7 (ends false refl refl) in
     let r9 : Reached tiny _ = moved r8 (releases _ (λ s o. given-back false refl)) in
     let r10 : Reached tiny _ = moved r9 (begins false refl) in
