@@ -69,6 +69,8 @@ pub mod Ghosts
 pub mod Prepared
 -- the apply move
 pub mod Applied
+-- all moves
+pub mod Explained
 -- GENERAL LAWS
 -- tests of all and of any elements of a list
 pub mod Lists

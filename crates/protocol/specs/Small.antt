@@ -24,7 +24,7 @@ turn-five = record { op = turn 5; result = (1, (root, 5) ∷ []) }
 
 run : (m : Machine tiny) × Reached tiny m × (m .log ≡ one (turn 5) 1 ∷ one (put false false 7) 1 ∷ [])
     × (m .value false (leaf false) ≡ 7) × (m .version false (leaf false) ≡ 1) × (m .lock false (leaf false) ≡ unlocked tiny)
-    × (m .value false root ≡ 5) × (m .table false root ≡ 1) × (m .value true root ≡ 1) × (due-in tiny leaves m true root ≡ 5)
+    × (m .value false root ≡ 5) × (m .table false root ≡ 1) × (m .value true root ≡ 1) × (due-in tiny m true root ≡ 5)
 unfolding upd exec Asked writes? latest find all any first-of settled ℕ-discrete
 run =
     let r1 : Reached tiny _ = moved at-first (begins false refl) in

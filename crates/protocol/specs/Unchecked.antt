@@ -13,7 +13,7 @@ use Rattle.protocol.specs.Replay.{settled}
 use Rattle.protocol.specs.Machine.{Machine, find}
 use Rattle.protocol.specs.Moves.{first-of, begins, fetches, answers, commits, prepares, decides, Reached, at-first, moved}
 use Rattle.protocol.specs.Claim.{due-in}
-use Rattle.protocol.specs.Example.{root, look, turn, tiny, leaves, one}
+use Rattle.protocol.specs.Example.{root, look, turn, tiny, one}
 
 abbrev looked : Entry tiny
 looked = record { op = look root; result = (1, []) }
@@ -23,7 +23,7 @@ turned = record { op = turn 5; result = (1, (root, 5) ∷ []) }
 
 -- the root is 5 for both servers by the first decision, and the transaction decided after it has answered 1
 stale : (m : Machine tiny) × Reached tiny m × (m .log ≡ one (look root) 1 ∷ one (turn 5) 1 ∷ [])
-    × (due-in tiny leaves m false root ≡ 5) × (due-in tiny leaves m true root ≡ 5)
+    × (due-in tiny m false root ≡ 5) × (due-in tiny m true root ≡ 5)
 unfolding upd exec Asked writes? latest find all any first-of settled ℕ-discrete
 stale =
     let r1 : Reached tiny _ = moved at-first (begins true refl) in
