@@ -1,14 +1,14 @@
 -- Checking an object at a server: "A server can check metadata, inner nodes by its table, and its own other nodes and flags
 -- (flags by value)." `inner` says that the object was read as an inner node; its mark is the version read, or a flag's value.
-use mathlib.Core.Path.{_≡_, refl, sym, ap, _∙_, subst}
-use mathlib.Core.Bool.{Bool, true, false, cond, _&&_, _||_}
-use Prim.Native.Nat.{ℕ, _+_, _*_, _/_, _%_, _≤_, _<_}
+use mathlib.Core.Path.{_≡_, sym, _∙_}
+use mathlib.Core.Bool.{Bool, true, false, cond, _||_}
+use Prim.Native.Nat.{ℕ, _/_, _%_}
 use native.Mathlib.Omega.{arith}
 use borrow.Author.Tests.{eq-eqb, ne-eqb}
 use lib.Dec.{eqb, leb}
 use Rattle.memory.specs.Bit.{bit, digit}
 use Rattle.layout.specs.Block.{In}
-use Rattle.layout.specs.Space.{Valid, mem}
+use Rattle.layout.specs.Space.{Valid}
 use Rattle.nodes.specs.Name.{server-of, slot-of}
 use Rattle.nodes.specs.declared.name.Name.{Name}
 use Rattle.server.specs.declared.check.Finding.{Finding}

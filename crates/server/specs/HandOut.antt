@@ -1,22 +1,21 @@
 -- What a server hands out for a fetch, and when it is out of range (refusal 10).
-use mathlib.Core.Path.{_≡_, refl, sym, ap, ap₂, _∙_}
-use mathlib.Core.Bool.{Bool, true, false, cond, _&&_}
-use mathlib.Core.List.{List, [], _∷_}
+use mathlib.Core.Path.{_≡_, refl, sym, ap, _∙_}
+use mathlib.Core.Bool.{Bool, true, false, _&&_}
+use mathlib.Core.List.{List}
 use Prim.Native.Nat.{ℕ, _+_, _/_, _≤_, _<_}
 use native.Mathlib.Omega.{arith}
-use borrow.Author.Tests.{lt-ltb, le-ltb}
-use lib.Dec.{leb, ltb}
+use lib.Dec.{leb}
 use lib.ListN.{length, take, drop}
 use Rattle.memory.specs.Word.{view}
 use Rattle.memory.specs.WordLaws.{view-length}
 use Rattle.layout.specs.Block.{size, In, offset}
 use Rattle.layout.specs.Space.{tab, at, Valid, mem, Run, mem-run}
-use Rattle.nodes.specs.Name.{server-of, slot-of}
 use Rattle.nodes.specs.Stored.{node-of, node-at}
 use Rattle.nodes.specs.declared.node.Node as node
 use Rattle.server.specs.declared.hand_out.Metadata.{Metadata}
 use Rattle.server.specs.declared.place.Place.{Place}
 use Rattle.server.specs.declared.place.Place.the-variants.{Root, Version, Vector, Node}
+use Rattle.server.specs.Range.{in-store}
 use Rattle.server.specs.Layout.{places, block, partWords, Lies, node-run, node-room, node-valid, root-valid, version-valid}
 
 unfoldable pub metadata-at : (Place → ℕ) → Metadata
@@ -24,7 +23,7 @@ metadata-at m = record { root = m Root; version = m Version }
 
 -- refusal 10: the root's name is one of the store, the version one of 32 bits
 unfoldable pub metadata-sound : ℕ → ℕ → (Place → ℕ) → Bool
-metadata-sound servers slots m = ltb (server-of (m Root)) servers && ltb (slot-of (m Root)) slots && leb (m Version) 4294967295
+metadata-sound servers slots m = in-store servers slots (m Root) && leb (m Version) 4294967295
 
 unfoldable pub vector-at : (Place → ℕ) → List ℕ
 vector-at m = tab 16 (λ i. m (Vector i))
@@ -39,18 +38,14 @@ module _ (m : Place → ℕ) where
   unfolding metadata-at
   metadata-got x v p q = rw (p, q)
 
-  module _ (servers slots x r : ℕ) (p : x ≡ m Root) (e : r ≡ server-of x) where
-    pub no-server : servers ≤ r → false ≡ metadata-sound servers slots m
+  module _ (servers slots x : ℕ) (b : Bool) (p : x ≡ m Root) (e : b ≡ in-store servers slots x) where
+    pub sound-version : (v : ℕ) → b ≡ true → v ≡ m Version → leb v 4294967295 ≡ metadata-sound servers slots m
     unfolding metadata-sound
-    no-server h = sym (rw (← p, ← e, le-ltb r servers h))
+    sound-version v t q = sym (rw (← p, ← e, t, q))
 
-    pub no-slot : (k : ℕ) → r < servers → k ≡ slot-of x → slots ≤ k → false ≡ metadata-sound servers slots m
+    pub no-root : b ≡ false → false ≡ metadata-sound servers slots m
     unfolding metadata-sound
-    no-slot k h f g = sym (rw (← p, ← e, lt-ltb r servers h, ← f, le-ltb k slots g))
-
-    pub sound-version : (k v : ℕ) → r < servers → k ≡ slot-of x → k < slots → v ≡ m Version → leb v 4294967295 ≡ metadata-sound servers slots m
-    unfolding metadata-sound
-    sound-version k v h f g q = sym (rw (← p, ← e, lt-ltb r servers h, ← f, lt-ltb k slots g, q))
+    no-root t = sym (rw (← p, ← e, t))
 
 vector-run : (n : ℕ) → Run places (block n) Vector 3 16
 unfolding at Valid In offset size
@@ -72,4 +67,4 @@ pub vector-room : (n l : ℕ) → partWords n ≤ l → 3 + 16 ≤ l
 unfolding partWords size
 vector-room n l h = omega arith
 
-pub ruleset hand-out-exits = (metadata-got, no-server, no-slot, sound-version, vector-got, vector-room, node-got, node-room, node-valid, root-valid, version-valid)
+pub ruleset hand-out-exits = (metadata-got, sound-version, no-root, vector-got, vector-room, node-got, node-room, node-valid, root-valid, version-valid)

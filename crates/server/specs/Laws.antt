@@ -1,17 +1,16 @@
 -- What each step leaves at the places of a server's part: the thing stored is the thing read, others of its kind stay, and so
 -- does everything of another kind.
-use mathlib.Core.Path.{_≡_, refl, sym, ap, ap₂, _∙_}
-use mathlib.Core.Bool.{Bool, true, false, cond, _||_}
-use mathlib.Core.List.{List, [], _∷_, _++_}
-use Prim.Native.Nat.{ℕ, _+_, _/_, _%_, _≤_, _<_}
+use mathlib.Core.Path.{_≡_, refl, sym, ap, _∙_}
+use mathlib.Core.Bool.{Bool, true, false, cond}
+use mathlib.Core.List.{List, [], _∷_}
+use Prim.Native.Nat.{ℕ, _/_, _%_}
 use native.Mathlib.Omega.{arith}
 use borrow.Author.Tests.{eq-eqb, ne-eqb}
 use lib.Dec.{eqb}
-use lib.ListN.{length, getD, set}
+use lib.ListN.{getD, set}
 use Rattle.base.specs.Update.{upd, upd-same, upd-other}
 use Rattle.memory.specs.Bit.{putBit}
-use Rattle.layout.specs.Space.{Put, put, puts, tab, tab-eq, tab-upd, getD-tab, decide, upd-apart, changed, Only, changed-only, only-puts, only-append, tab-puts-same, tab-puts-other}
-use Rattle.layout.specs.Step.{changed-append}
+use Rattle.layout.specs.Space.{Put, put, puts, tab, tab-eq, tab-upd, getD-tab, decide, upd-apart, changed, Only, changed-only, only-puts, tab-puts-same, tab-puts-other}
 use Rattle.nodes.specs.Name.{server-of, slot-of}
 use Rattle.nodes.specs.Flags.{with-flag}
 use Rattle.nodes.specs.Stored.{node-of, words-of}

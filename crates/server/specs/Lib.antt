@@ -5,6 +5,7 @@ pub mod Lock
 pub mod LockLaws
 pub mod Check
 pub mod Store
+pub mod Range
 pub mod HandOut
 pub mod Fresh
 pub mod Laws

@@ -1,6 +1,6 @@
 -- "many readers, or one writer and nobody else". A lock is a word: below 65,536 it is the set of the clients that read, and
 -- 65,536 + c is the client c that writes.
-use mathlib.Core.Path.{_≡_, refl, sym, ap, _∙_}
+use mathlib.Core.Path.{_≡_, sym, _∙_}
 use mathlib.Core.Bool.{Bool, true, false, cond, not}
 use Prim.Native.Nat.{ℕ, _+_, _*_, _%_, _^_, _≤_, _<_}
 use native.Mathlib.Omega.{arith}

@@ -1,8 +1,9 @@
 -- "Objects are the metadata, nodes and flags": their numbers, and the places of their locks.
-use mathlib.Core.Path.{_≡_, refl, sym, ap, _∙_}
-use mathlib.Core.Bool.{Bool, true, false, cond}
+use mathlib.Core.Path.{_≡_, sym, ap, _∙_}
+use mathlib.Core.Bool.{cond}
 use Prim.Native.Nat.{ℕ, _+_, _-_, _≤_, _<_}
 use native.Mathlib.Omega.{arith}
+use native.Mathlib.Decide.{ℕ-discrete, decLe}
 use borrow.Author.Tests.{eq-eqb, ne-eqb, le-leb, lt-leb}
 use lib.Dec.{eqb, leb}
 use Rattle.layout.specs.Space.{Valid}
@@ -48,6 +49,28 @@ is-node n h g = sym (rw (ne-eqb n 0 h, le-leb n 8192 g))
 pub is-flag : (n : ℕ) → ¬ (n ≡ 0) → 8192 < n → Flag (named (n - 1 - 8192)) ≡ object-of n
 unfolding object-of
 is-flag n h g = sym (rw (ne-eqb n 0 h, lt-leb n 8192 g))
+
+-- the number of the object with a number, and the object with the number of an object
+pub number-again : (n : ℕ) → number-of (object-of n) ≡ n
+unfolding number-of object-of
+number-again n = go (ℕ-discrete n 0) (decLe n 8192)
+  where
+    go : Dec (n ≡ 0) → Dec (n ≤ 8192) → number-of (object-of n) ≡ n
+    go (yes z) d = rw (eq-eqb n 0 z) (sym z)
+    go (no z) (yes l) = rw (ne-eqb n 0 z, le-leb n 8192 l) (omega arith)
+    go (no z) (no l) = let h : 8192 < n = omega arith in rw (ne-eqb n 0 z, lt-leb n 8192 h) (omega arith)
+
+pub node-again : (x : Name) → x .number < 8192 → object-of (number-of (Node x)) ≡ Node x
+unfolding number-of
+node-again x h =
+    let e : 1 + x .number - 1 ≡ x .number = omega arith in
+    sym (is-node (1 + x .number) (λ z. omega arith) (omega arith)) ∙ ap (λ (n : ℕ). Node (named n)) e
+
+pub flag-again : (x : Name) → object-of (number-of (Flag x)) ≡ Flag x
+unfolding number-of
+flag-again x =
+    let e : 8193 + x .number - 1 - 8192 ≡ x .number = omega arith in
+    sym (is-flag (8193 + x .number) (λ z. omega arith) (omega arith)) ∙ ap (λ (n : ℕ). Flag (named n)) e
 
 module _ (o : Object) where
   pub lock-metadata : o ≡ Metadata → MetadataLock ≡ lock-of o

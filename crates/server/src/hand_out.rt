@@ -9,7 +9,7 @@ ghost use Rattle.server.specs.HandOut.{metadata-at, metadata-sound, vect
 use crate::place::Place;
 use crate::place::get;
 use crate::place::index;
-use nodes::name::Name;
+use crate::range::name_fits;
 use nodes::node::Node;
 use nodes::stored;
 
@@ -33,16 +33,11 @@ pub fn metadata_is_sound(part: &[u8], servers: u64, slots: usize) -> bool
     requires { ⌜ (slots ≤ 1024) × (partWords slots ≤ length (now part) / 8) ⌝ }
     ensures { λ r. ⌜ r ≡ metadata-sound servers slots (mem places (block slots) (view (now (part .entry)))) ⌝ }
 {
-    let root = Name {
-        number: get(part, slots, Place::Root),
-    };
-    if root.server() >= servers {
-        return false;
+    let root = get(part, slots, Place::Root);
+    if name_fits(root, servers, slots) {
+        return get(part, slots, Place::Version) <= 4294967295;
     }
-    if root.slot() as usize >= slots {
-        return false;
-    }
-    get(part, slots, Place::Version) <= 4294967295
+    false
 }
 
 // "a server's flags are its vector"

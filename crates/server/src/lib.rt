@@ -5,4 +5,5 @@ pub mod hand_out;
 pub mod lock;
 pub mod object;
 pub mod place;
+pub mod range;
 pub mod store;

@@ -1,7 +1,6 @@
 // Objects by value, their numbers, and where their locks lie.
 ghost use mathlib.Core.Path.{_≡_};
-ghost use Prim.Native.Nat.{_<_};
-ghost use Rattle.server.specs.Object.{object-of, number-of, lock-of};
+ghost use Rattle.server.specs.Object.{object-of, lock-of};
 use crate::place::Place;
 use nodes::name::Name;
 

@@ -1,10 +1,9 @@
 // The places of a server's part, and a word read and written at one.
 ghost use mathlib.Core.Path.{_≡_};
-ghost use mathlib.Core.List.{_∷_, []};
-ghost use Prim.Native.Nat.{_+_, _*_, _/_, _<_, _≤_};
+ghost use Prim.Native.Nat.{_+_, _*_, _/_, _≤_};
 ghost use lib.ListN.{length};
 ghost use Rattle.memory.specs.Word.{view};
-ghost use Rattle.layout.specs.Space.{at, Valid, mem};
+ghost use Rattle.layout.specs.Space.{Valid, mem};
 ghost use Rattle.layout.specs.Step.{Does, silent};
 ghost use Rattle.server.specs.Layout.{places, block, partWords, Lies, putStep};
 

@@ -9,8 +9,6 @@ metadata-is-sound-spec =
     (tie.spec
     (λ c κs. search (hand-out-exits, needs))
     (λ c κs. search needs)
-    (λ c. search (hand-out-exits, needs))
-    (λ c κs. search needs)
-    (λ c. search (hand-out-exits, needs))
     (λ c κs. search (hand-out-exits, needs))
+    (λ c. search (hand-out-exits, needs))
     (λ c. search (hand-out-exits, needs)))
