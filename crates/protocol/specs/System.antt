@@ -75,7 +75,7 @@ module _ (T : Setting) where
   }
 
   -- "Participants are the homes of leaves, free nodes and flags read; or all servers, where the metadata or a node inner before or after
-  -- is written"; and one of them, the lowest, where inner objects are checked
+  -- is written"; and the one of them where inner objects are checked, which the rules have be the lowest: for safety any will do
   pub record Participants (read written inner-read inner-any : Obj → Bool) (p : Server → Bool) (l : Server) : Type 0 where
     pub homes : (o : Obj) → read o ≡ true → inner-read o ≡ false → p (home o) ≡ true
     pub everywhere : (o : Obj) (s : Server) → written o ≡ true → inner-any o ≡ true → p s ≡ true
