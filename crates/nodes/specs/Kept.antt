@@ -1,6 +1,7 @@
 -- What each function on nodes keeps of the entries: nothing is lost by a split, a merge, or a move to a neighbour.
 use Prim.Native.Nat.{ℕ, _+_, _-_, _≤_, _<_}
 use mathlib.Core.Path.{_≡_, refl, sym, _∙_, ap}
+use mathlib.Core.Bool.{true}
 use mathlib.Core.List.{List, _++_}
 use native.Mathlib.Omega.{arith}
 use lib.ListN.{length, take, drop, getD, set, length-append, length-drop, length-set, take-append-drop}
@@ -12,6 +13,9 @@ use Rattle.nodes.specs.Lists.{insert, remove, length-insert, length-remo
 use Rattle.nodes.specs.Node.{extra, keysOf, slotsOf, made, extra-le, length-keysOf, length-slotsOf, keys-made, slots-made}
 use Rattle.nodes.specs.Change.{wide, wide-keys, wide-slots, put-in, take-out, with-version, with-key, with-slot, narrow, cut-at, joined-keys, join, merged, from-right, from-left}
 use Rattle.nodes.specs.Built.{wide-keys-made, wide-slots-made, length-joined}
+use Rattle.nodes.specs.Stored.{node-of}
+use Rattle.nodes.specs.StoredLaws.{node-sized}
+use Rattle.nodes.specs.Range.{in-range, range-count}
 use Rattle.nodes.specs.Entries.{headed, entries, entriesOf, wide-entries}
 use Rattle.nodes.specs.EntryLaws.{length-entries, entries-take, entries-drop, entries-join, entries-insert, entries-remove, entries-key, entries-slot, first, entries-first}
 
@@ -22,6 +26,9 @@ pub record Whole (n : Node) : Type 0 where
 
 pub whole : (n : Node) → length (n .keys) ≡ 14 → length (n .slots) ≡ 15 → n .count ≤ 14 → Whole n
 whole n lk ls h = record { keys = length-keysOf n lk h; slots = length-slotsOf n ls h }
+
+pub stored-whole : (ws : List ℕ) → length ws ≡ 33 → in-range (node-of ws) ≡ true → Whole (node-of ws)
+stored-whole ws l r = let s = node-sized ws l in whole (node-of ws) (s .keys) (s .slots) (range-count (node-of ws) r)
 
 -- and so a wide one
 pub record WholeWide (w : Wide) : Type 0 where

@@ -8,13 +8,18 @@ use lib.ListN.{length, getD, take, drop, replicate, length-append, length-drop, 
 use lib.Seq.{paste, sets, take-at, drop-at, take-all, length-take-le, drop-drop, drop-cons}
 use Rattle.memory.specs.Run.{run-same, run-beside}
 use Rattle.nodes.specs.declared.node.Node.{Node}
-use Rattle.nodes.specs.Lists.{pad, pad-full}
+use Rattle.nodes.specs.Lists.{pad, pad-full, length-pad}
+use Rattle.nodes.specs.Node.{made}
 use Rattle.nodes.specs.Stored.{node-of, words-of, node-at, put-node}
 
 -- the arrays have their sizes, as in every node of the code
 pub record Sized (n : Node) : Type 0 where
   pub keys : length (n .keys) ≡ 14
   pub slots : length (n .slots) ≡ 15
+
+pub made-sized : (k l v : ℕ) (ks ss : List ℕ) → length ks ≤ 14 → length ss ≤ 15 → Sized (made k l v ks ss)
+unfolding made
+made-sized k l v ks ss h g = record { keys = length-pad 14 ks h; slots = length-pad 15 ss g }
 
 pub length-words : (n : Node) → Sized n → length (words-of n) ≡ 33
 unfolding words-of
