@@ -11,7 +11,7 @@ use Rattle.nodes.specs.declared.change.Wide.{Wide}
 use Rattle.nodes.specs.declared.change.Halves.{Halves}
 use Rattle.nodes.specs.Lists.{insert, remove, length-insert, length-remove}
 use Rattle.nodes.specs.Node.{extra, keysOf, slotsOf, made, extra-le, length-keysOf, length-slotsOf, keys-made, slots-made}
-use Rattle.nodes.specs.Change.{wide, wide-keys, wide-slots, put-in, take-out, with-version, with-key, with-slot, narrow, cut-at, joined-keys, join, merged, from-right, from-left}
+use Rattle.nodes.specs.Change.{wide, wide-keys, wide-slots, put-in, take-out, with-version, with-key, with-slot, narrow, cut-at, split, joined-keys, join, merged, from-right, from-left}
 use Rattle.nodes.specs.Built.{wide-keys-made, wide-slots-made, length-joined}
 use Rattle.nodes.specs.Stored.{node-of}
 use Rattle.nodes.specs.StoredLaws.{node-sized}
@@ -83,14 +83,23 @@ module _ (n : Node) (lo : ℕ) (f : Whole n) where
   unfolding entriesOf
   length-entriesOf = length-entries (extra (n .kind)) lo (extra-le (n .kind)) (keysOf n) (slotsOf n) longer ∙ f .slots
 
-  pub put-in-entries : (i k s : ℕ) → i ≤ n .count → wide-entries (put-in n i k s) lo ≡ insert (i + extra (n .kind)) (k, s) (entriesOf n lo)
-  unfolding put-in entriesOf
-  put-in-entries i k s h =
-      let a : length (insert i k (keysOf n)) ≡ length (keysOf n) + 1 = length-insert i k (keysOf n) (omega (arith, f .keys)) in
-      let b : length (insert (i + extra (n .kind)) s (slotsOf n)) ≡ length (slotsOf n) + 1 =
-      length-insert (i + extra (n .kind)) s (slotsOf n) (omega (arith, f .slots)) in
-      entries-wide (n .kind) (n .level) (n .version) lo (insert i k (keysOf n)) (insert (i + extra (n .kind)) s (slotsOf n)) (omega (arith, longer))
-      ∙ entries-insert (extra (n .kind)) lo (extra-le (n .kind)) (keysOf n) (slotsOf n) longer i k s (omega (arith, f .keys))
+  module _ (i k s : ℕ) (h : i ≤ n .count) where
+    put-in-longer : length (insert (i + extra (n .kind)) s (slotsOf n)) ≡ length (insert i k (keysOf n)) + extra (n .kind)
+    put-in-longer =
+        let a : length (insert i k (keysOf n)) ≡ length (keysOf n) + 1 = length-insert i k (keysOf n) (omega (arith, f .keys)) in
+        let b : length (insert (i + extra (n .kind)) s (slotsOf n)) ≡ length (slotsOf n) + 1 =
+        length-insert (i + extra (n .kind)) s (slotsOf n) (omega (arith, f .slots)) in
+        omega (arith, longer)
+
+    pub put-in-whole : WholeWide (put-in n i k s)
+    unfolding put-in
+    put-in-whole = wide-whole (n .kind) (n .level) (n .version) lo (insert i k (keysOf n)) (insert (i + extra (n .kind)) s (slotsOf n)) put-in-longer
+
+    pub put-in-entries : wide-entries (put-in n i k s) lo ≡ insert (i + extra (n .kind)) (k, s) (entriesOf n lo)
+    unfolding put-in entriesOf
+    put-in-entries =
+        entries-wide (n .kind) (n .level) (n .version) lo (insert i k (keysOf n)) (insert (i + extra (n .kind)) s (slotsOf n)) put-in-longer
+        ∙ entries-insert (extra (n .kind)) lo (extra-le (n .kind)) (keysOf n) (slotsOf n) longer i k s (omega (arith, f .keys))
 
   pub take-out-entries : (i : ℕ) → i < n .count → entriesOf (take-out n i) lo ≡ remove (i + extra (n .kind)) (entriesOf n lo)
   unfolding take-out entriesOf
@@ -153,6 +162,20 @@ module _ (w : Wide) (lo : ℕ) (f : WholeWide w) where
     -- one half after the other
     pub cut-entries : entriesOf (cut-at w i v .left) lo ++ entriesOf (cut-at w i v .right) (cut-at w i v .sep) ≡ wide-entries w lo
     cut-entries = rw (left-entries, right-entries) (take-append-drop (i + extra (w .kind)) (wide-entries w lo))
+
+  -- an overfull node split: 7 entries of a leaf in the left half, 8 of an inner node
+  module _ (v : ℕ) (h : w .count ≡ 15) where
+    pub split-left : entriesOf (split w v .left) lo ≡ take (7 + extra (w .kind)) (wide-entries w lo)
+    unfolding split
+    split-left = left-entries 7 v (omega arith)
+
+    pub split-right : entriesOf (split w v .right) (split w v .sep) ≡ drop (7 + extra (w .kind)) (wide-entries w lo)
+    unfolding split
+    split-right = right-entries 7 v (omega arith)
+
+    pub split-sep : split w v .sep ≡ first (drop (7 + extra (w .kind)) (wide-entries w lo))
+    unfolding split
+    split-sep = sep-first 7 v (omega arith)
 
 -- ---- two neighbours: joined, merged, one key moved over
 module _ (a b : Node) (sep lo : ℕ) (fa : Whole a) (fb : Whole b) (k : b .kind ≡ a .kind) where
