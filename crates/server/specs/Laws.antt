@@ -10,7 +10,8 @@ use lib.Dec.{eqb}
 use lib.ListN.{getD, set}
 use Rattle.base.specs.Update.{upd, upd-same, upd-other}
 use Rattle.memory.specs.Bit.{putBit}
-use Rattle.layout.specs.Space.{Put, put, puts, tab, tab-eq, tab-upd, getD-tab, decide, upd-apart, changed, Only, changed-only, only-puts, tab-puts-same, tab-puts-other}
+use Rattle.layout.specs.Space.{Put, put, puts, tab, tab-eq, tab-upd, getD-tab, decide, upd-apart, changed, Only, changed-only, only-puts, tab-puts-same, tab-puts-other, at, AllValid, valid-run}
+use Rattle.layout.specs.Step.{valid-append}
 use Rattle.nodes.specs.Name.{server-of, slot-of}
 use Rattle.nodes.specs.Flags.{with-flag}
 use Rattle.nodes.specs.Stored.{node-of, words-of}
@@ -21,10 +22,10 @@ use Rattle.server.specs.declared.object.Object.{Object}
 use Rattle.server.specs.declared.object.Object.the-variants as object
 use Rattle.server.specs.declared.place.Place.{Place}
 use Rattle.server.specs.declared.place.Place.the-variants.{Root, Version, MetadataLock, Vector, Node, FlagLock, Table, NodeLock}
-use Rattle.server.specs.Layout.{places, code}
-use Rattle.server.specs.Object.{lock-of}
+use Rattle.server.specs.Layout.{places, code, block, node-run, root-valid, version-valid, vector-valid}
+use Rattle.server.specs.Object.{lock-of, Has}
 use Rattle.server.specs.Lock.{locked, unlocked}
-use Rattle.server.specs.Store.{lock-step, unlock-step, metadata-step, flag-step, home-step, table-step}
+use Rattle.server.specs.Store.{lock-step, unlock-step, metadata-step, flag-step, home-step, table-step, kept-of, node-step, slot-there, table-valid}
 use Rattle.server.specs.HandOut.{metadata-at, vector-at, node-here}
 
 -- the kinds of things stored: 0 metadata, 1 flags, 2 nodes, 3 versions in the table, 4 locks
@@ -165,3 +166,45 @@ module _ (m u : Place → ℕ) where
   pub node-by-kind : (k : ℕ) → ((a : Place) → of-kind 2 a ≡ true → u a ≡ m a) → node-here k u ≡ node-here k m
   unfolding node-here
   node-by-kind k h = ap node-of (tab-eq 33 (λ j. u (Node k j)) (λ j. m (Node k j)) (λ j l. h (Node k j) refl))
+
+-- ---- every store of a step lies in the part
+module _ (n : ℕ) (m : Place → ℕ) where
+  pub lock-inside : (o : Object) (b : Bool) (c : ℕ) → Has n o → AllValid places (block n) (lock-step o b c m)
+  unfolding lock-step AllValid
+  lock-inside o b c h = (h, tt)
+
+  pub unlock-inside : (o : Object) (c : ℕ) → Has n o → AllValid places (block n) (unlock-step o c m)
+  unfolding unlock-step AllValid
+  unlock-inside o c h = (h, tt)
+
+  pub metadata-inside : (r v : ℕ) → AllValid places (block n) (metadata-step r v m)
+  unfolding metadata-step AllValid
+  metadata-inside r v = (root-valid n, (version-valid n, tt))
+
+  pub flag-inside : (x : Name) (b : Bool) → AllValid places (block n) (flag-step x b m)
+  unfolding flag-step AllValid
+  flag-inside x b = (vector-valid n (slot-of (x .number)) (omega arith), tt)
+
+  pub home-inside : (s : ℕ) (x : Name) (y : node.Node) → Sized y → Has n (object.Node x) → AllValid places (block n) (home-step s x y m)
+  unfolding home-step AllValid
+  home-inside s x y h ok = go (eqb (server-of (x .number)) s)
+    where
+      k : ℕ
+      k = slot-of (x .number)
+
+      go : (t : Bool) → AllValid places (block n) (cond t (puts places (Node k) (words-of y)) [])
+      go true =
+          valid-run places (block n) (words-of y) (Node k) (at places (block n) (Node k 0))
+          (rw (length-words y h) (node-run n k (slot-there n k x ok refl)))
+      go false = tt
+
+  pub table-inside : (x : Name) (v : ℕ) (b : Bool) → Has n (object.Node x) → AllValid places (block n) (table-step x v b m)
+  unfolding table-step AllValid
+  table-inside x v true ok = (table-valid n x ok (server-of (x .number)) (slot-of (x .number)) refl refl, tt)
+  table-inside x v false ok = tt
+
+  pub node-inside : (s : ℕ) (x : Name) (y : node.Node) (v : ℕ) (b : Bool) → Sized (kept-of y v) → Has n (object.Node x)
+      → AllValid places (block n) (node-step s x y v b m)
+  unfolding node-step
+  node-inside s x y v b h ok =
+      valid-append places (block n) (home-step s x (kept-of y v) m) (table-step x v b m) (home-inside s x (kept-of y v) h ok) (table-inside x v b ok)

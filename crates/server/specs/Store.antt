@@ -94,7 +94,7 @@ pub slot-there : (n k : ℕ) (x : Name) → Has n (object.Node x) → k ≡ slot
 unfolding lock-of Valid In
 slot-there n k x h e = rw e (h .0)
 
-module _ (n : ℕ) (x : Name) (w w′ : List ℕ) (ok : Has n (object.Node x)) where
+module _ (n : ℕ) (x : Name) (ok : Has n (object.Node x)) where
   pub home-valid : (k : ℕ) → k ≡ slot-of (x .number) → Valid places (block n) (Node k 0)
   home-valid k e = node-valid n k (slot-there n k x ok e)
 
@@ -105,10 +105,10 @@ module _ (n : ℕ) (x : Name) (w w′ : List ℕ) (ok : Has n (object.Node x)) w
   unfolding lock-of Valid In
   table-valid s k p q = rw (p, q) ok
 
-  pub at-home : (s r k i : ℕ) (y : node.Node) → length (y .keys) ≡ 14 → length (y .slots) ≡ 15 → r ≡ server-of (x .number) → r ≡ s
+  pub at-home : (s r k i : ℕ) (y : node.Node) (w w′ : List ℕ) → length (y .keys) ≡ 14 → length (y .slots) ≡ 15 → r ≡ server-of (x .number) → r ≡ s
       → k ≡ slot-of (x .number) → Lies n (Node k 0) i → w′ ≡ put-node w i y → Does places (block n) (home-step s x y) silent w 0 w′
   unfolding stepped home-step put-node
-  at-home s r k i y lk ls p h e lies q =
+  at-home s r k i y w w′ lk ls p h e lies q =
       let b = at places (block n) (Node k 0) in
       let l : length (words-of y) ≡ 33 = length-words y (record { keys = lk; slots = ls }) in
       let stores : List (Put Place) = puts places (Node k) (words-of y) in
