@@ -1,7 +1,11 @@
--- What every layout of words needs once: nested blocks, addresses with places in them, memory as a function of addresses,
--- a step as a list of stores, and a part within the whole.
+-- What every layout of words needs once, in reading order.
+-- nested blocks of words that cannot overlap
 pub mod Block
+-- addresses with places in a block; memory as a function of addresses; records
 pub mod Space
+-- a step as a list of stores
 pub mod Step
+-- a part within the whole
 pub mod Part
+-- a loop of steps
 pub mod Sweep

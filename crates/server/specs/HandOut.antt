@@ -1,22 +1,15 @@
 -- What a server hands out for a fetch, and when it is out of range (refusal 10).
-use mathlib.Core.Path.{_≡_, refl, sym, ap, _∙_}
-use mathlib.Core.Bool.{Bool, true, false, _&&_}
+use mathlib.Core.Bool.{Bool, _&&_}
 use mathlib.Core.List.{List}
-use Prim.Native.Nat.{ℕ, _+_, _/_, _≤_, _<_}
-use native.Mathlib.Omega.{arith}
+use Prim.Native.Nat.{ℕ}
 use lib.Dec.{leb}
-use lib.ListN.{length, take, drop}
-use Rattle.memory.specs.Word.{view}
-use Rattle.memory.specs.WordLaws.{view-length}
-use Rattle.layout.specs.Block.{size, In, offset}
-use Rattle.layout.specs.Space.{tab, at, Valid, mem, Run, mem-run}
-use Rattle.nodes.specs.Stored.{node-of, node-at}
+use Rattle.layout.specs.Space.{tab}
+use Rattle.nodes.specs.Stored.{node-of}
 use Rattle.nodes.specs.declared.node.Node as node
 use Rattle.server.specs.declared.hand_out.Metadata.{Metadata}
 use Rattle.server.specs.declared.place.Place.{Place}
 use Rattle.server.specs.declared.place.Place.the-variants.{Root, Version, Vector, Node}
 use Rattle.server.specs.Range.{in-store}
-use Rattle.server.specs.Layout.{places, block, partWords, Lies, node-run, node-room, node-valid, root-valid, version-valid}
 
 unfoldable pub metadata-at : (Place → ℕ) → Metadata
 metadata-at m = record { root = m Root; version = m Version }
@@ -31,40 +24,3 @@ vector-at m = tab 16 (λ i. m (Vector i))
 -- the node in slot k of this server
 unfoldable pub node-here : ℕ → (Place → ℕ) → node.Node
 node-here k m = node-of (tab 33 (λ j. m (Node k j)))
-
--- ---- ways out of the code
-module _ (m : Place → ℕ) where
-  pub metadata-got : (x v : ℕ) → x ≡ m Root → v ≡ m Version → record { root = x; version = v } ≡ metadata-at m
-  unfolding metadata-at
-  metadata-got x v p q = rw (p, q)
-
-  module _ (servers slots x : ℕ) (b : Bool) (p : x ≡ m Root) (e : b ≡ in-store servers slots x) where
-    pub sound-version : (v : ℕ) → b ≡ true → v ≡ m Version → leb v 4294967295 ≡ metadata-sound servers slots m
-    unfolding metadata-sound
-    sound-version v t q = sym (rw (← p, ← e, t, q))
-
-    pub no-root : b ≡ false → false ≡ metadata-sound servers slots m
-    unfolding metadata-sound
-    no-root t = sym (rw (← p, ← e, t))
-
-vector-run : (n : ℕ) → Run places (block n) Vector 3 16
-unfolding at Valid In offset size
-vector-run n = record { good = λ i l. l; spot = λ i l. refl }
-
-pub vector-got : (n : ℕ) (s ws : List ℕ) → partWords n ≤ length s / 8 → ws ≡ take 16 (drop 3 (view s)) → ws ≡ vector-at (mem places (block n) (view s))
-unfolding vector-at partWords size
-vector-got n s ws l e = e ∙ mem-run places (block n) 16 (view s) Vector 3 (vector-run n) (omega (arith, view-length s))
-
-pub node-got : (n k i : ℕ) (s : List ℕ) (r : node.Node) → k < n → partWords n ≤ length s / 8 → Lies n (Node k 0) i → r ≡ node-at (view s) i
-    → r ≡ node-here k (mem places (block n) (view s))
-unfolding node-here node-at
-node-got n k i s r h l e q =
-    let f : at places (block n) (Node k 0) + 33 ≤ length (view s) =
-    omega (arith, view-length s, node-room n k (at places (block n) (Node k 0)) (length s / 8) h (record { spot = refl; within = rw (← e .spot) (e .within) }) l) in
-    q ∙ rw (e .spot) (ap node-of (mem-run places (block n) 33 (view s) (Node k) (at places (block n) (Node k 0)) (node-run n k h) f))
-
-pub vector-room : (n l : ℕ) → partWords n ≤ l → 3 + 16 ≤ l
-unfolding partWords size
-vector-room n l h = omega arith
-
-pub ruleset hand-out-exits = (metadata-got, sound-version, no-root, vector-got, vector-room, node-got, node-room, node-valid, root-valid, version-valid)

@@ -25,7 +25,7 @@ use Rattle.server.specs.declared.place.Place.the-variants.{Root, Version
 use Rattle.server.specs.Layout.{places, code, block, node-run, root-valid, version-valid, vector-valid}
 use Rattle.server.specs.Object.{lock-of, Has}
 use Rattle.server.specs.Lock.{locked, unlocked}
-use Rattle.server.specs.Store.{lock-step, unlock-step, metadata-step, flag-step, home-step, table-step, kept-of, node-step, slot-there, table-valid}
+use Rattle.server.specs.Store.{lock-step, unlock-step, metadata-step, flag-step, home-step, table-step, kept-of, node-step, slot-there, table-there}
 use Rattle.server.specs.HandOut.{metadata-at, vector-at, node-here}
 
 -- the kinds of things stored: 0 metadata, 1 flags, 2 nodes, 3 versions in the table, 4 locks
@@ -200,7 +200,7 @@ module _ (n : ℕ) (m : Place → ℕ) where
 
   pub table-inside : (x : Name) (v : ℕ) (b : Bool) → Has n (object.Node x) → AllValid places (block n) (table-step x v b m)
   unfolding table-step AllValid
-  table-inside x v true ok = (table-valid n x ok (server-of (x .number)) (slot-of (x .number)) refl refl, tt)
+  table-inside x v true ok = (table-there n x ok, tt)
   table-inside x v false ok = tt
 
   pub node-inside : (s : ℕ) (x : Name) (y : node.Node) (v : ℕ) (b : Bool) → Sized (kept-of y v) → Has n (object.Node x)

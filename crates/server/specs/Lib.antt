@@ -1,11 +1,19 @@
--- One server's part of the memory.
+-- One server's part of the memory, in reading order.
+-- its layout
 pub mod Layout
+-- objects, their numbers, the places of their locks
 pub mod Object
+-- the words of locks, and what they say of each client
 pub mod Lock
 pub mod LockLaws
+-- the check of an object
 pub mod Check
+-- what is stored, at a prepare and at an apply
 pub mod Store
+-- what is out of range (refusal 10), and what is handed out for a fetch
 pub mod Range
 pub mod HandOut
+-- a newly opened server
 pub mod Fresh
+-- what each step leaves of everything stored
 pub mod Laws

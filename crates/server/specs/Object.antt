@@ -27,7 +27,7 @@ number-of (Flag x) = 8193 + x .number
 unfoldable pub object-of : ℕ → Object
 object-of n = cond (eqb n 0) Metadata (cond (leb n 8192) (Node (named (n - 1))) (Flag (named (n - 1 - 8192))))
 
--- "One lock an object and server": a node's for its table entry too
+-- an object has one lock at a server; a node and its table entry share it
 unfoldable pub lock-of : Object → Place
 lock-of Metadata = MetadataLock
 lock-of (Node x) = NodeLock (server-of (x .number)) (slot-of (x .number))
@@ -37,7 +37,7 @@ lock-of (Flag x) = FlagLock (slot-of (x .number))
 abbrev pub Has : ℕ → Object → Type 0
 Has n o = Valid places (block n) (lock-of o)
 
--- ---- ways out of the code
+-- what the number tells
 pub is-metadata : (n : ℕ) → n ≡ 0 → Metadata ≡ object-of n
 unfolding object-of
 is-metadata n h = sym (rw (eq-eqb n 0 h))
@@ -71,21 +71,3 @@ unfolding number-of
 flag-again x =
     let e : 8193 + x .number - 1 - 8192 ≡ x .number = omega arith in
     sym (is-flag (8193 + x .number) (λ z. omega arith) (omega arith)) ∙ ap (λ (n : ℕ). Flag (named n)) e
-
-module _ (o : Object) where
-  pub lock-metadata : o ≡ Metadata → MetadataLock ≡ lock-of o
-  unfolding lock-of
-  lock-metadata e = sym (rw e)
-
-  pub lock-node : (x : Name) (s k : ℕ) → o ≡ Node x → s ≡ server-of (x .number) → k ≡ slot-of (x .number) → NodeLock s k ≡ lock-of o
-  unfolding lock-of
-  lock-node x s k e p q = rw (p, q) (sym (rw e))
-
-  pub lock-flag : (x : Name) (k : ℕ) → o ≡ Flag x → k ≡ slot-of (x .number) → FlagLock k ≡ lock-of o
-  unfolding lock-of
-  lock-flag x k e q = rw q (sym (rw e))
-
-  pub lock-valid : (n : ℕ) (a : Place) → Has n o → a ≡ lock-of o → Valid places (block n) a
-  lock-valid n a h e = rw e h
-
-pub ruleset object-exits = (is-metadata, is-node, is-flag, lock-metadata, lock-node, lock-flag, lock-valid)

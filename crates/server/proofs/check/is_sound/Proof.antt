@@ -1,5 +1,5 @@
-use Rattle.server.specs.Object.{lock-valid}
-use Rattle.server.specs.Check.{check-exits}
+use Rattle.server.proofs.ObjectExits.{lock-valid}
+use Rattle.server.proofs.CheckExits.{check-exits}
 use borrow.Author.Needs.{needs}
 use Rattle.server.proofs.check.is_sound.Statement.{statement}
 use Rattle.server.proofs.check.is_sound.Tie as tie

@@ -1,4 +1,4 @@
-use Rattle.server.specs.Check.{check-exits}
+use Rattle.server.proofs.CheckExits.{check-exits}
 use borrow.Author.Needs.{needs}
 use Rattle.server.proofs.check.stands.Statement.{statement}
 use Rattle.server.proofs.check.stands.Tie as tie

@@ -1,4 +1,4 @@
-use Rattle.server.specs.Fresh.{fresh-exits}
+use Rattle.server.proofs.FreshExits.{fresh-exits}
 use borrow.Author.Needs.{needs}
 use Rattle.server.proofs.fresh.open.Statement.{statement}
 use Rattle.server.proofs.fresh.open.Tie as tie

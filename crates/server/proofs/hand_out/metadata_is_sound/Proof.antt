@@ -1,4 +1,4 @@
-use Rattle.server.specs.HandOut.{hand-out-exits}
+use Rattle.server.proofs.HandOutExits.{hand-out-exits}
 use borrow.Author.Needs.{needs}
 use Rattle.server.proofs.hand_out.metadata_is_sound.Statement.{statement}
 use Rattle.server.proofs.hand_out.metadata_is_sound.Tie as tie

@@ -1,4 +1,4 @@
-use Rattle.server.specs.Lock.{lock-exits}
+use Rattle.server.proofs.LockExits.{lock-exits}
 use borrow.Author.Needs.{needs}
 use Rattle.server.proofs.lock.with_lock.Statement.{statement}
 use Rattle.server.proofs.lock.with_lock.Tie as tie

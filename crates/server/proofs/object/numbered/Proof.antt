@@ -1,4 +1,4 @@
-use Rattle.server.specs.Object.{object-exits}
+use Rattle.server.proofs.ObjectExits.{object-exits}
 use borrow.Author.Needs.{needs}
 use Rattle.server.proofs.object.numbered.Statement.{statement}
 use Rattle.server.proofs.object.numbered.Tie as tie

@@ -1,5 +1,5 @@
 use borrow.Author.Needs.{needs}
-use Rattle.server.specs.Layout.{got}
+use Rattle.server.proofs.LayoutExits.{got}
 use Rattle.server.proofs.place.get.Statement.{statement}
 use Rattle.server.proofs.place.get.Tie as tie
 

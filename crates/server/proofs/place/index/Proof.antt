@@ -1,7 +1,7 @@
 use Prim.Native.Nat.{_<_}
 use native.Mathlib.Omega.{arith}
 use borrow.Author.Needs.{needs}
-use Rattle.server.specs.Layout.{Cell, in-vector, in-node, in-flag, in-table, in-locks, indices}
+use Rattle.server.proofs.LayoutExits.{Cell, in-vector, in-node, in-flag, in-table, in-locks, indices}
 use Rattle.server.proofs.place.index.Statement.{statement}
 use Rattle.server.proofs.place.index.Tie as tie
 

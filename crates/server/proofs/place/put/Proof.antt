@@ -1,5 +1,5 @@
 use borrow.Author.Needs.{needs}
-use Rattle.server.specs.Layout.{was-put}
+use Rattle.server.proofs.LayoutExits.{was-put}
 use Rattle.server.proofs.place.put.Statement.{statement}
 use Rattle.server.proofs.place.put.Tie as tie
 

@@ -3,7 +3,8 @@ use mathlib.Core.Bool.{true}
 use Prim.Native.Nat.{_-_, _≤_}
 use borrow.Author.Needs.{needs}
 use lib.ListN.{take}
-use Rattle.server.specs.Range.{names-fit, range-exits}
+use Rattle.server.specs.Range.{names-fit}
+use Rattle.server.proofs.RangeExits.{range-exits}
 use Rattle.server.proofs.range.children_fit.Statement.{statement}
 use Rattle.server.proofs.range.children_fit.Tie as tie
 

@@ -1,4 +1,4 @@
-use Rattle.server.specs.Range.{range-exits}
+use Rattle.server.proofs.RangeExits.{range-exits}
 use borrow.Author.Needs.{needs}
 use Rattle.server.proofs.range.name_fits.Statement.{statement}
 use Rattle.server.proofs.range.name_fits.Tie as tie

@@ -1,4 +1,4 @@
-use Rattle.server.specs.Store.{store-exits}
+use Rattle.server.proofs.StoreExits.{store-exits}
 use borrow.Author.Needs.{needs}
 use Rattle.server.proofs.store.lock.Statement.{statement}
 use Rattle.server.proofs.store.lock.Tie as tie
