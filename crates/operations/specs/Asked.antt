@@ -17,7 +17,7 @@ use Rattle.operations.specs.Entry.{Entries, mk, mn, mx, cut, index, valu
 use Rattle.operations.specs.Path.{Plan, see, when-root, open-node, kid, Branch, Cont, to-leaf, down, at-root, from-root}
 use Rattle.operations.specs.Slot.{Sizes, free-slot, chosen, search, present, when-free-flag, take-flag, take-on, take-for, when-free-node, take-node, release}
 use Rattle.operations.specs.Look.{told, Visit, rightward, leftward, seek, seek-up, nearest}
-use Rattle.operations.specs.Change.{Go, parted, merged, with-right, with-left, unsnoc, left-of, neighbour, split-root, split, up, delete-at}
+use Rattle.operations.specs.Change.{Go, with-one, parted, at-top, onward, collapsed, merged, with-right, with-left, unsnoc, left-of, neighbour, split-root, split, up, delete-at}
 use Rattle.operations.specs.Migrate.{moved, move-at, to-level, first-key, move-below, move-node, move-if}
 use Rattle.operations.specs.Operation.{reading, plan}
 use Rattle.operations.specs.Along.{Along, along-exec, along-checked}
@@ -176,48 +176,49 @@ module _ (R : Obj → Type 0) where
   abbrev Goes : Go → Type 0
   Goes go = (w : Writes) (es : Entries) → Known w → Wrote (go w es)
 
-  merged-wrote : (a : Ans) (l : ℕ) (fs : List Branch) (go : Go) (w : Writes) (k c : ℕ) (es : Entries) (r : ℕ) (pre post : Entries)
-      → Known w → R (node c) → R (node r) → Goes go → Wrote (merged a l fs go w k c es r pre post)
-  merged-wrote a l [] go w k c es r pre post h s q g =
-      if-wrote (ℕ-discrete (length (pre ++ (k, c) ∷ post)) 1) _ _
-      (release-wrote w c (λ w′. P.done (a, (node r, mk l es) ∷ w′)) h s (λ u n. (q, n))) (g ((node c, mk l es) ∷ w) (pre ++ (k, c) ∷ post) (s, h))
-  merged-wrote a l (f ∷ fs) go w k c es r pre post h s q g = g ((node c, mk l es) ∷ w) (pre ++ (k, c) ∷ post) (s, h)
+  module _ (a : Ans) (l : ℕ) (fs : List Branch) (go : Go) (g : Goes go) where
+    merged-wrote : (w : Writes) (f : Branch) (c : ℕ) (es : Entries) → Known w → R (node c) → R (node (f .nm)) → Wrote (merged a l fs go w f c es)
+    merged-wrote w f c es h s q = by fs
+      where
+        one : Wrote (onward a l fs go w f c es)
+        one = g ((node c, mk l es) ∷ w) (with-one f c) (s, h)
 
-  with-right-wrote : (a : Ans) (l : ℕ) (fs : List Branch) (go : Go) (w : Writes) (k c : ℕ) (es : Entries) (r : ℕ) (pre : Entries) (k2 c2 : ℕ) (post : Entries)
-      → Known w → R (node c) → R (node r) → Goes go → Wrote (with-right a l fs go w k c es r pre k2 c2 post)
-  with-right-wrote a l fs go w k c es r pre k2 c2 post h s q g =
-      if-wrote (ℕ-discrete c2 c) (P.fail no-tree) _ tt
-      (kid-wrote w l k2 c2 _ h (λ t es2. if-wrote (decLt (mn l) (length es2)) _ _ (g _ _ (t, (s, h)))
-      (release-wrote w c2 (λ w′. merged a l fs go w′ k c (es ++ es2) r pre post) h t (λ u n. merged-wrote a l fs go u k c (es ++ es2) r pre post n s q g))))
+        by : (gs : List Branch) → Wrote (at-top gs (ifd (ℕ-discrete (length (with-one f c)) 1) (collapsed a l fs go w f c es) (onward a l fs go w f c es)) (onward a l fs go w f c es))
+        by [] = if-wrote (ℕ-discrete (length (with-one f c)) 1) _ _ (release-wrote w c (λ w′. P.done (a, (node (f .nm), mk l es) ∷ w′)) h s (λ u n. (q, n))) one
+        by (x ∷ gs) = one
 
-  with-left-wrote : (a : Ans) (l : ℕ) (fs : List Branch) (go : Go) (w : Writes) (c : ℕ) (es : Entries) (r : ℕ) (pre : Entries) (k1 c1 : ℕ)
-      → Known w → R (node c) → R (node r) → Goes go → Wrote (with-left a l fs go w c es r pre k1 c1)
-  with-left-wrote a l fs go w c es r pre k1 c1 h s q g =
-      if-wrote (ℕ-discrete c1 c) (P.fail no-tree) _ tt
-      (kid-wrote w l k1 c1 _ h (λ t es1. if-wrote (decLt (mn l) (length es1)) _ _ (g _ _ (s, (t, h)))
-      (release-wrote w c (λ w′. merged a l fs go w′ k1 c1 (es1 ++ es) r pre []) h s (λ u n. merged-wrote a l fs go u k1 c1 (es1 ++ es) r pre [] n t q g))))
+    with-right-wrote : (w : Writes) (f : Branch) (c : ℕ) (es : Entries) (k2 c2 : ℕ) → Known w → R (node c) → R (node (f .nm)) → Wrote (with-right a l fs go w f c es k2 c2)
+    with-right-wrote w f c es k2 c2 h s q =
+        if-wrote (ℕ-discrete c2 c) (P.fail no-tree) _ tt
+        (kid-wrote w l k2 c2 _ h (λ t es2. if-wrote (decLt (mn l) (length es2)) _ _ (g _ _ (t, (s, h)))
+        (release-wrote w c2 (λ w′. merged a l fs go w′ f c (es ++ es2)) h t (λ u n. merged-wrote u f c (es ++ es2) n s q))))
 
-  neighbour-wrote : (a : Ans) (l : ℕ) (fs : List Branch) (go : Go) (w : Writes) (k c : ℕ) (es : Entries) (r : ℕ) (pre post : Entries)
-      → Known w → R (node c) → R (node r) → Goes go → Wrote (neighbour a l fs go w k c es r pre post)
-  neighbour-wrote a l fs go w k c es r pre (e ∷ post) h s q g = with-right-wrote a l fs go w k c es r pre (e .0) (e .1) post h s q g
-  neighbour-wrote a l fs go w k c es r pre [] h s q g = by (unsnoc pre)
-    where
-      by : (o : Option (Entries × (ℕ × ℕ))) → Wrote (left-of a l fs go w c es r o)
-      by none = tt
-      by (some x) = with-left-wrote a l fs go w c es r (x .0) (x .1 .0) (x .1 .1) h s q g
+    with-left-wrote : (w : Writes) (f : Branch) (c : ℕ) (es : Entries) (c1 : ℕ) → Known w → R (node c) → R (node (f .nm)) → Wrote (with-left a l fs go w f c es c1)
+    with-left-wrote w f c es c1 h s q =
+        if-wrote (ℕ-discrete c1 c) (P.fail no-tree) _ tt
+        (kid-wrote w l (f .key) c1 _ h (λ t es1. if-wrote (decLt (mn l) (length es1)) _ _ (g _ _ (s, (t, h)))
+        (release-wrote w c (λ w′. merged a l fs go w′ f c1 (es1 ++ es)) h s (λ u n. merged-wrote u f c1 (es1 ++ es) n t q))))
+
+    neighbour-wrote : (w : Writes) (f : Branch) (c : ℕ) (es post : Entries) → Known w → R (node c) → R (node (f .nm)) → Wrote (neighbour a l fs go w f c es post)
+    neighbour-wrote w f c es (e ∷ post) h s q = with-right-wrote w (record { nm = f .nm; key = f .key; pre = f .pre; post = post }) c es (e .0) (e .1) h s q
+    neighbour-wrote w f c es [] h s q = by (unsnoc (f .pre))
+      where
+        by : (o : Option (Entries × (ℕ × ℕ))) → Wrote (left-of a l fs go w (f .nm) c es o)
+        by none = tt
+        by (some x) = with-left-wrote w (record { nm = f .nm; key = x .1 .0; pre = x .0; post = [] }) c es (x .1 .1) h s q
 
   split-root-wrote : (sz : Sizes) (a : Ans) (l : ℕ) (w : Writes) (r : ℕ) (es : Entries) → Known w → R (node r) → Wrote (split-root sz a l w r es)
   split-root-wrote sz a l w r es h s =
       let ss = present (sz .servers) (row (server-of r)) in
       let both : ℕ → ℕ → Writes → Plan = λ c d w2. take-node w2 c (take-node w2 d
-      (parted (λ w′ es′. P.done (a, (node r, mk (suc l) es′) ∷ w′)) l w2 0 c (take (mn l) es) d (drop (mn l) es) [] [])) in
+      (parted (λ w′ es′. P.done (a, (node r, mk (suc l) es′) ∷ w′)) l w2 (record { nm = r; key = 0; pre = []; post = [] }) c (take (mn l) es) d (drop (mn l) es))) in
       take-wrote sz ss (slot-of r) w (λ c w1. take-for sz r w1 (both c)) h (λ c w1 n1.
       take-wrote sz ss (slot-of r) w1 (both c) n1 (λ d w2 n2. node-wrote w2 c _ n2 (λ p. node-wrote w2 d _ n2 (λ q. (s, (q, (p, n2)))))))
 
-  split-wrote : (sz : Sizes) (go : Go) (l : ℕ) (w : Writes) (k c : ℕ) (es pre post : Entries) → Known w → R (node c) → Goes go → Wrote (split sz go l w k c es pre post)
-  split-wrote sz go l w k c es pre post h s g =
+  split-wrote : (sz : Sizes) (go : Go) (l : ℕ) (w : Writes) (f : Branch) (c : ℕ) (es : Entries) → Known w → R (node c) → Goes go → Wrote (split sz go l w f c es)
+  split-wrote sz go l w f c es h s g =
       take-wrote sz (present (sz .servers) (row (server-of c))) (slot-of c) w
-      (λ d w1. take-node w1 d (parted go l w1 k c (take (mn l) es) d (drop (mn l) es) pre post)) h (λ d w1 n. node-wrote w1 d _ n (λ p. g _ _ (p, (s, n))))
+      (λ d w1. take-node w1 d (parted go l w1 f c (take (mn l) es) d (drop (mn l) es))) h (λ d w1 n. node-wrote w1 d _ n (λ p. g _ _ (p, (s, n))))
 
   up-wrote : (sz : Sizes) (a : Ans) (fs : List Branch) (l : ℕ) (w : Writes) (c : ℕ) (es : Entries) → Known w → Passed fs → R (node c) → Wrote (up sz a l fs w c es)
   up-wrote sz a [] l w c es h p s = if-wrote (decLe (length es) (mx l)) _ _ (s, h) (split-root-wrote sz a l w c es h s)
@@ -225,8 +226,8 @@ module _ (R : Obj → Type 0) where
       let go : Go = λ w′ es′. up sz a (suc l) fs w′ (f .nm) es′ in
       let on : Goes go = λ w′ es′ n. up-wrote sz a fs (suc l) w′ (f .nm) es′ n (p .1) (p .0) in
       if-wrote (decLe (mn l) (length es)) _ _
-      (if-wrote (decLe (length es) (mx l)) _ _ (s, h) (split-wrote sz go l w (f .key) c es (f .pre) (f .post) h s on))
-      (neighbour-wrote a l fs go w (f .key) c es (f .nm) (f .pre) (f .post) h s (p .0) on)
+      (if-wrote (decLe (length es) (mx l)) _ _ (s, h) (split-wrote sz go l w f c es h s on))
+      (neighbour-wrote a l fs go on w f c es (f .post) h s (p .0))
 
   delete-wrote : (sz : Sizes) (fs : List Branch) (n : ℕ) (es : Entries) (o : Option ℕ) → Passed fs → R (node n) → Wrote (delete-at sz fs n es o)
   delete-wrote sz fs n es none p s = tt

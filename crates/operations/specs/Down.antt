@@ -28,9 +28,12 @@ zip-from k [] h e = absurd (omega arith)
 zip-from k (x ∷ es) h e = ap (λ j. (j, x .1) ∷ zip (keys es) (vals es)) (sym e) ∙ ap (λ r. x ∷ r) (zip-keys es)
 
 -- the path as the plan has it
+abbrev pub branch : (l k : ℕ) (pre post : List (ℕ × Slot (suc l))) → Path (suc l) → Branch
+branch l k pre post p = record { nm = nm (suc l) p; key = k; pre = ren (word (suc l)) pre; post = ren (word (suc l)) post }
+
 abbrev pub branches : (l : ℕ) → Path l → List Branch
 branches l (top r) = []
-branches l (frame k c pre post p) = record { nm = nm (suc l) p; key = k; pre = ren (word (suc l)) pre; post = ren (word (suc l)) post } ∷ branches (suc l) p
+branches l (frame k c pre post p) = branch l k pre post p ∷ branches (suc l) p
 
 pub bottom-mn : (l : ℕ) → bottom l ≤ mn l
 bottom-mn zero = omega arith

@@ -20,7 +20,7 @@ use Rattle.operations.specs.Tree.{room, room-is, Slot, word, cnt}
 use Rattle.operations.specs.Focus.{Path, top, frame, nm, around, floor, Focus, nil, Rep, Ends, mark-le, mark-free}
 use Rattle.operations.specs.Count.{no-fifth}
 use Rattle.operations.specs.Moves.{set-node, take-slot as slot-taken, recut, grow}
-use Rattle.operations.specs.Down.{branches}
+use Rattle.operations.specs.Down.{branch, branches}
 use Rattle.operations.specs.Slots.{take-for-ok, take-node-ok}
 use Rattle.operations.specs.Rise.{near-of, ne-of, mn-mx, Next, write-ok, parted-ok, neighbour-ok}
 
@@ -32,20 +32,18 @@ module _ (F : Why → Type 0) (lacking : F not-free × F no-slot) (sz : Sizes) (
   split-ok : (l k c : ℕ) (pre post : List (ℕ × Slot (suc l))) (p : Path (suc l)) (w : Writes) (es : List (ℕ × Slot l)) (go : Go)
       → length es ≡ suc (mx l) → floor (suc l) p ≤ suc (length pre + length post) → suc (length pre + length post) ≤ mx (suc l) → Next F M m a (suc l) p go
       → Focus (over w M) l (frame k c pre post p) es nil m
-      → Ok F E M (split sz go l w k c (ren (word l) es) (ren (word (suc l)) pre) (ren (word (suc l)) post))
+      → Ok F E M (split sz go l w (branch l k pre post p) c (ren (word l) es))
   split-ok l k c pre post p w es go n fl s next f =
       let U = over w M in
       let W = word l in
       let P = frame k c pre post p in
-      let X = ren (word (suc l)) pre in
-      let Y = ren (word (suc l)) post in
       let t : ℕ → ℕ = λ d. around l P d + one c d + tally (cnt l) es d + 0 in
       let x = mn-mx l in
       let j = mn l in
       let tk = length-take-le j es (omega (arith, n, x)) in
       let td = length-append (take j es) (drop j es) in
       let tt′ = ap length (take-append-drop j es) in
-      let on : Entries → Entries → ℕ → Writes → Plan = λ L R d w1. parted go l w1 k c L d R X Y in
+      let on : Entries → Entries → ℕ → Writes → Plan = λ L R d w1. parted go l w1 (branch l k pre post p) c L d R in
       take-for-ok F E M lacking sz al c w (λ d w1. take-node w1 d (on (take j (ren W es)) (drop j (ren W es)) d w1)) t (f .marks)
       (λ d sm z.
       let w1 : Writes = (flag d, taken true) ∷ w in

@@ -20,7 +20,7 @@ use Rattle.operations.specs.Ensures.{Ok, if-ok, sel-same, sel-other}
 use Rattle.operations.specs.Tree.{Slot, word, cnt, Kid, Entry, bottom}
 use Rattle.operations.specs.Focus.{Path, top, frame, nm, hi, around, floor, Stored, Focus, nil, Rep, Ends, stored-frame, mark-le, apart}
 use Rattle.operations.specs.Moves.{set-node, release as slot-freed, lift, recut, widen-right, widen-left, shrink, close}
-use Rattle.operations.specs.Down.{branches, bottom-mn, bottom-floor, kid-ok}
+use Rattle.operations.specs.Down.{branch, branches, bottom-mn, bottom-floor, kid-ok}
 use Rattle.operations.specs.Slots.{release-ok}
 
 -- how few entries new contents may have: for the root none too few, else one
@@ -97,7 +97,7 @@ module _ (F : Why → Type 0) (M : Obj → Val) (m : Map) (a : Ans) where
       → mn l ≤ length L → length L ≤ mx l → mn l ≤ length R → length R ≤ mx l
       → Near (suc l) p (length pre + suc (suc (length post))) → length pre + suc (suc (length post)) ≤ suc (mx (suc l)) → Next (suc l) p go
       → Focus (over w M) l (frame k c pre post p) es (one d) m
-      → Ok F E M (parted go l w k c (ren (word l) L) d (ren (word l) R) (ren (word (suc l)) pre) (ren (word (suc l)) post))
+      → Ok F E M (parted go l w (branch l k pre post p) c (ren (word l) L) d (ren (word l) R))
   parted-ok l k c d pre post p w es L R go e i1 j1 i2 j2 n s next f =
       let U = over w M in
       let P = frame k c pre post p in
@@ -131,7 +131,7 @@ module _ (F : Why → Type 0) (M : Obj → Val) (m : Map) (a : Ans) where
   merged-ok : (l k c : ℕ) (pre post : List (ℕ × Slot (suc l))) (p : Path (suc l)) (w : Writes) (es : List (ℕ × Slot l)) (go : Go)
       → mn l ≤ length es → length es ≤ mx l → floor (suc l) p ≤ suc (suc (length pre + length post)) → suc (length pre + length post) ≤ mx (suc l) → Next (suc l) p go
       → Focus (over w M) l (frame k c pre post p) es nil m
-      → Ok F E M (merged a l (branches (suc l) p) go w k c (ren (word l) es) (nm (suc l) p) (ren (word (suc l)) pre) (ren (word (suc l)) post))
+      → Ok F E M (merged a l (branches (suc l) p) go w (branch l k pre post p) c (ren (word l) es))
   merged-ok l k c pre post (frame k′ c′ pre′ post′ p) w es go i j n s next f =
       back-ok l k c pre post (frame k′ c′ pre′ post′ p) w es go i j (omega (arith, n)) (omega (arith, s)) next f
   merged-ok l k c pre post (top r) w es go i j n s next f =
@@ -145,7 +145,7 @@ module _ (F : Why → Type 0) (M : Obj → Val) (m : Map) (a : Ans) where
   right-ok : (l k c k2 c2 : ℕ) (es2 : List (ℕ × Slot l)) (pre post : List (ℕ × Slot (suc l))) (p : Path (suc l)) (w : Writes) (es : List (ℕ × Slot l)) (go : Go)
       → suc (length es) ≡ mn l → floor (suc l) p ≤ suc (suc (length pre + length post)) → suc (suc (length pre + length post)) ≤ mx (suc l) → Next (suc l) p go
       → Focus (over w M) l (frame k c pre ((k2, (c2, es2)) ∷ post) p) es nil m
-      → Ok F E M (with-right a l (branches (suc l) p) go w k c (ren (word l) es) (nm (suc l) p) (ren (word (suc l)) pre) k2 c2 (ren (word (suc l)) post))
+      → Ok F E M (with-right a l (branches (suc l) p) go w (branch l k pre post p) c (ren (word l) es) k2 c2)
   right-ok l k c k2 c2 es2 pre post p w es go n fl s next f =
       let U = over w M in
       let W = word l in
@@ -166,17 +166,17 @@ module _ (F : Why → Type 0) (M : Obj → Val) (m : Map) (a : Ans) where
       let td = length-append (take 1 es2) (drop 1 es2) in
       let tt′ = ap length (take-append-drop 1 es2) in
       let la = length-append es (take 1 es2) in
-      subst (λ z. Ok F E M (parted go l w k c z c2 (drop 1 (ren W es2)) (ren W′ pre) (ren W′ post)))
+      subst (λ z. Ok F E M (parted go l w (branch l k pre post p) c z c2 (drop 1 (ren W es2))))
       (ren-app W es (take 1 es2) ∙ ap (λ z. ren W es ++ z) (sym (ren-take W 1 es2)))
-      (subst (λ z. Ok F E M (parted go l w k c (ren W (es ++ take 1 es2)) c2 z (ren W′ pre) (ren W′ post))) (sym (ren-drop W 1 es2))
+      (subst (λ z. Ok F E M (parted go l w (branch l k pre post p) c (ren W (es ++ take 1 es2)) c2 z)) (sym (ren-drop W 1 es2))
       (parted-ok l k c c2 pre post p w (es ++ es2) (es ++ take 1 es2) (drop 1 es2) go
       (ap (λ z. es ++ z) (sym (take-append-drop 1 es2)) ∙ sym (append-assoc es (take 1 es2) (drop 1 es2)))
       (omega (arith, la, tk, n)) (omega (arith, la, tk, n, x)) (omega (arith, tk, td, tt′, q, y)) (omega (arith, tk, td, tt′, K .most))
       (near-of (suc l) p (length pre + suc (suc (length post))) (omega (arith, fl))) (omega (arith, s)) next g)))
       (λ q.
       let la = length-append es es2 in
-      release-ok F E M w c2 (λ w′. merged a l (branches (suc l) p) go w′ k c (ren W es ++ ren W es2) r (ren W′ pre) (ren W′ post))
-      (subst (λ z. Ok F E M (merged a l (branches (suc l) p) go ((node c2, free) ∷ (flag c2, taken false) ∷ w) k c z r (ren W′ pre) (ren W′ post))) (ren-app W es es2)
+      release-ok F E M w c2 (λ w′. merged a l (branches (suc l) p) go w′ (branch l k pre post p) c (ren W es ++ ren W es2))
+      (subst (λ z. Ok F E M (merged a l (branches (suc l) p) go ((node c2, free) ∷ (flag c2, taken false) ∷ w) (branch l k pre post p) c z)) (ren-app W es es2)
       (merged-ok l k c pre post p ((node c2, free) ∷ (flag c2, taken false) ∷ w) (es ++ es2) go
       (omega (arith, la, K .least)) (omega (arith, la, n, q, y, x)) fl (omega (arith, s)) next
       (slot-freed U m l (frame k c pre post p) (es ++ es2) (one c2) nil c2 (λ x. omega arith) g))))))
@@ -185,7 +185,7 @@ module _ (F : Why → Type 0) (M : Obj → Val) (m : Map) (a : Ans) where
   left-ok : (l k c k1 c1 : ℕ) (es1 : List (ℕ × Slot l)) (pre : List (ℕ × Slot (suc l))) (p : Path (suc l)) (w : Writes) (es : List (ℕ × Slot l)) (go : Go)
       → suc (length es) ≡ mn l → floor (suc l) p ≤ suc (suc (length pre)) → suc (suc (length pre)) ≤ mx (suc l) → Next (suc l) p go
       → Focus (over w M) l (frame k c (pre ++ ((k1, (c1, es1)) ∷ [])) [] p) es nil m
-      → Ok F E M (with-left a l (branches (suc l) p) go w c (ren (word l) es) (nm (suc l) p) (ren (word (suc l)) pre) k1 c1)
+      → Ok F E M (with-left a l (branches (suc l) p) go w (branch l k1 pre [] p) c (ren (word l) es) c1)
   left-ok l k c k1 c1 es1 pre p w es go n fl s next f =
       let U = over w M in
       let W = word l in
@@ -207,8 +207,8 @@ module _ (F : Why → Type 0) (M : Obj → Val) (m : Map) (a : Ans) where
       let td = length-append (take j es1) (drop j es1) in
       let tt′ = ap length (take-append-drop j es1) in
       let la = length-append (drop j es1) es in
-      subst (λ z. Ok F E M (parted go l w k1 c1 z c (drop j (ren W es1) ++ ren W es) (ren W′ pre) [])) (sym (ren-take W j es1))
-      (subst (λ z. Ok F E M (parted go l w k1 c1 (ren W (take j es1)) c z (ren W′ pre) []))
+      subst (λ z. Ok F E M (parted go l w (branch l k1 pre [] p) c1 z c (drop j (ren W es1) ++ ren W es))) (sym (ren-take W j es1))
+      (subst (λ z. Ok F E M (parted go l w (branch l k1 pre [] p) c1 (ren W (take j es1)) c z))
       (ren-app W (drop j es1) es ∙ ap (λ z. z ++ ren W es) (sym (ren-drop W j es1)))
       (parted-ok l k1 c1 c pre [] p w (es1 ++ es) (take j es1) (drop j es1 ++ es) go
       (ap (λ z. z ++ es) (sym (take-append-drop j es1)) ∙ append-assoc (take j es1) (drop j es1) es)
@@ -216,8 +216,8 @@ module _ (F : Why → Type 0) (M : Obj → Val) (m : Map) (a : Ans) where
       (near-of (suc l) p (length pre + 2) (omega (arith, fl))) (omega (arith, s)) next g)))
       (λ q.
       let la = length-append es1 es in
-      release-ok F E M w c (λ w′. merged a l (branches (suc l) p) go w′ k1 c1 (ren W es1 ++ ren W es) r (ren W′ pre) [])
-      (subst (λ z. Ok F E M (merged a l (branches (suc l) p) go ((node c, free) ∷ (flag c, taken false) ∷ w) k1 c1 z r (ren W′ pre) [])) (ren-app W es1 es)
+      release-ok F E M w c (λ w′. merged a l (branches (suc l) p) go w′ (branch l k1 pre [] p) c1 (ren W es1 ++ ren W es))
+      (subst (λ z. Ok F E M (merged a l (branches (suc l) p) go ((node c, free) ∷ (flag c, taken false) ∷ w) (branch l k1 pre [] p) c1 z)) (ren-app W es1 es)
       (merged-ok l k1 c1 pre [] p ((node c, free) ∷ (flag c, taken false) ∷ w) (es1 ++ es) go
       (omega (arith, la, K .least)) (omega (arith, la, n, q, y, x)) (omega (arith, fl)) (omega (arith, s)) next
       (slot-freed U m l (frame k1 c1 pre [] p) (es1 ++ es) (one c) nil c (λ x. omega arith) g))))))
@@ -225,17 +225,17 @@ module _ (F : Why → Type 0) (M : Obj → Val) (m : Map) (a : Ans) where
   pub neighbour-ok : (l k c : ℕ) (pre post : List (ℕ × Slot (suc l))) (p : Path (suc l)) (w : Writes) (es : List (ℕ × Slot l)) (go : Go)
       → suc (length es) ≡ mn l → floor (suc l) p ≤ suc (length pre + length post) → suc (length pre + length post) ≤ mx (suc l) → Next (suc l) p go
       → Focus (over w M) l (frame k c pre post p) es nil m
-      → Ok F E M (neighbour a l (branches (suc l) p) go w k c (ren (word l) es) (nm (suc l) p) (ren (word (suc l)) pre) (ren (word (suc l)) post))
+      → Ok F E M (neighbour a l (branches (suc l) p) go w (branch l k pre post p) c (ren (word l) es) (ren (word (suc l)) post))
   neighbour-ok l k c pre (e ∷ post) p w es go n fl s next f =
       right-ok l k c (e .0) (e .1 .0) (e .1 .1) pre post p w es go n (omega (arith, fl)) (omega (arith, s)) next f
   neighbour-ok l k c pre [] p w es go n fl s next f = by (snoc-view pre)
     where
       by : (pre ≡ []) ⊎ ((i : List (ℕ × Slot (suc l))) × (x : ℕ × Slot (suc l)) × (pre ≡ i ++ (x ∷ [])))
-          → Ok F E M (left-of a l (branches (suc l) p) go w c (ren (word l) es) (nm (suc l) p) (unsnoc (ren (word (suc l)) pre)))
+          → Ok F E M (left-of a l (branches (suc l) p) go w (nm (suc l) p) c (ren (word l) es) (unsnoc (ren (word (suc l)) pre)))
       by (inl q) = absurd (omega (arith, fl, ap length q, bottom-floor (suc l) p))
       by (inr (i, x, q)) =
           let z = ap length q ∙ length-append i (x ∷ []) in
-          subst (λ y. Ok F E M (left-of a l (branches (suc l) p) go w c (ren (word l) es) (nm (suc l) p) y))
+          subst (λ y. Ok F E M (left-of a l (branches (suc l) p) go w (nm (suc l) p) c (ren (word l) es) y))
           (sym (ap (λ y. unsnoc (ren (word (suc l)) y)) q ∙ ap unsnoc (ren-app (word (suc l)) i (x ∷ [])) ∙ unsnoc-app (ren (word (suc l)) i) (x .0, x .1 .0)))
           (left-ok l k c (x .0) (x .1 .0) (x .1 .1) i p w es go n (omega (arith, fl, z)) (omega (arith, s, z)) next
           (subst (λ y. Focus (over w M) l (frame k c y [] p) es nil m) q f))
