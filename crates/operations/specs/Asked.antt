@@ -1,12 +1,12 @@
 -- Everything written was asked for, whatever was read.
-use mathlib.Core.Path.{_≡_, refl, ap, sym, subst}
+use mathlib.Core.Path.{_≡_, refl, subst}
 use mathlib.Core.Bool.{Bool, true, false, cond, false≢true}
 use mathlib.Core.List.{List, [], _∷_, _++_}
 use mathlib.Core.Option.{Option, none, some}
 use Prim.Native.Nat.{ℕ, zero, suc}
 use native.Mathlib.Decide.{ℕ-discrete, decLt, decLe}
 use lib.ListN.{length, take, drop}
-use Rattle.base.specs.Test.{ifd, ifd-all, yes-of}
+use Rattle.base.specs.Test.{ifd, ifd-all}
 use Rattle.plans.specs.Plan as P
 use Rattle.nodes.specs.Lists.{remove}
 use Rattle.nodes.specs.Name.{name, server-of, slot-of}
@@ -20,18 +20,8 @@ use Rattle.operations.specs.Look.{told, Visit, rightward, leftward, seek
 use Rattle.operations.specs.Change.{Go, with-one, parted, at-top, onward, collapsed, merged, with-right, with-left, unsnoc, left-of, neighbour, split-root, split, up, delete-at}
 use Rattle.operations.specs.Migrate.{moved, move-at, to-level, first-key, move-below, move-node, move-if}
 use Rattle.operations.specs.Operation.{reading, plan}
+use Rattle.operations.specs.Hit.{hit-eq}
 use Rattle.operations.specs.Along.{Along, along-exec, along-checked}
-
-pub hit-eq : (a b : Obj) → hit a b ≡ true → a ≡ b
-hit-eq meta meta h = refl
-hit-eq meta (node x) h = absurd (false≢true h)
-hit-eq meta (flag x) h = absurd (false≢true h)
-hit-eq (node n) meta h = absurd (false≢true h)
-hit-eq (node n) (node x) h = ap node (sym (yes-of (ℕ-discrete x n) h))
-hit-eq (node n) (flag x) h = absurd (false≢true h)
-hit-eq (flag n) meta h = absurd (false≢true h)
-hit-eq (flag n) (node x) h = absurd (false≢true h)
-hit-eq (flag n) (flag x) h = ap flag (sym (yes-of (ℕ-discrete x n) h))
 
 -- R holds of every object asked for
 module _ (R : Obj → Type 0) where

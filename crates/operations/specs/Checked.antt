@@ -4,7 +4,7 @@ use mathlib.Core.Bool.{Bool, true, false, cond, _&&_}
 use mathlib.Core.List.{List, [], _∷_}
 use mathlib.Core.Logic.{inl, inr}
 use Prim.Native.Nat.{ℕ, suc, _+_}
-use native.Mathlib.Decide.{ℕ-discrete, decLe}
+use native.Mathlib.Decide.{decLe}
 use borrow.Author.Tests.{lt-ltb}
 use Rattle.base.specs.Test.{of-yes, yes?}
 use Rattle.plans.specs.Plan as P
@@ -14,6 +14,7 @@ use Rattle.operations.specs.Map.{Map, H}
 use Rattle.operations.specs.Path.{Plan}
 use Rattle.operations.specs.Operation.{fits?, all-fit?, checked}
 use Rattle.operations.specs.Chain.{Rising, one, tally}
+use Rattle.operations.specs.Hit.{hit-self}
 use Rattle.operations.specs.Ensures.{Ok}
 use Rattle.operations.specs.Tree.{cnt, Mark}
 use Rattle.operations.specs.Focus.{Rep}
@@ -46,11 +47,6 @@ rise-of : (a z : ℕ) (ks : List ℕ) → Rising a z ks → rises ks ≡ true
 unfolding rises
 rise-of a z [] h = refl
 rise-of a z (k ∷ ks) h = above-of k z ks (h .1)
-
-pub hit-self : (o : Obj) → hit o o ≡ true
-hit-self meta = refl
-hit-self (node n) = of-yes (ℕ-discrete n n) refl
-hit-self (flag n) = of-yes (ℕ-discrete n n) refl
 
 -- every object of w is written by all
 abbrev Among : Writes → Writes → Type 0

@@ -38,11 +38,11 @@ pub mod Reading
 pub mod Seen
 -- the plans' steps on entries are these on keys and slots
 pub mod Arrays
--- objects and values can be told apart
-pub mod Equal
 -- PROOFS
 -- a node's functions go by the place of a key, the map's by comparing keys: the same where keys rise
 pub mod Places
+-- whether a write hits an object
+pub mod Hit
 -- what a plan ensures on a snapshot, whatever the vectors say
 pub mod Ensures
 -- what it ensures whatever is read

@@ -11,6 +11,7 @@ pub data Obj : Type 0 where
   meta : Obj
   node : ℕ → Obj
   flag : ℕ → Obj
+  deriving Discrete as Obj-discrete
 
 -- What a plan asks for: an object; a server's vector; or the same vector, but only one that this transaction has fetched
 -- ("a server is passed over only by a vector that this transaction fetched").
@@ -25,6 +26,7 @@ pub data Val : Type 0 where
   body : (kind level : ℕ) (keys slots : List ℕ) → Val
   taken : Bool → Val
   flags : List Bool → Val
+  deriving Discrete as Val-discrete
 
 -- "Freed nodes become kind 0 and keep only a version."
 abbrev pub free : Val

@@ -1,11 +1,11 @@
 -- An operation with the vectors that were seen, as whoever commits transactions takes it: its plan asks for objects only.
 use mathlib.Core.Path.{_≡_, refl, sym, _∙_}
-use mathlib.Core.Bool.{Bool, true, false}
+use mathlib.Core.Bool.{Bool, true, false, true≢false}
 use mathlib.Core.Logic.{_⊎_, inl, inr}
 use Prim.Native.Nat.{ℕ}
 use Rattle.plans.specs.Plan as P
 use Rattle.operations.specs.Object.{Obj, node, Ask, object, vector, fetched, Val, inner, Why, no-tree, Ans, Writes, over, written}
-use Rattle.operations.specs.Map.{Map, Op, answer, compared, map-after}
+use Rattle.operations.specs.Map.{Map, Op, insert, lookup, delete, next, previous, migrate, answer, compared, map-after}
 use Rattle.operations.specs.Path.{Plan}
 use Rattle.operations.specs.Slot.{Sizes, Allowed}
 use Rattle.operations.specs.Operation.{plan, Legal}
@@ -18,6 +18,12 @@ use Rattle.operations.specs.Outer.{asks-outer}
 pub record Hint : Type 0 where
   pub copied : ℕ → Val
   pub fetched-one : ℕ → Val
+
+-- an operation as a transaction has it: given by a step that was not refused, and with its hint
+pub record Given (sz : Sizes) : Type 0 where
+  pub op : Op
+  pub legal : Legal sz op
+  pub hint : Hint
 
 abbrev pub hint-of : Hint → Ask → Val ⊎ Obj
 hint-of h (object o) = inr o
@@ -63,3 +69,12 @@ module _ (sz : Sizes) (h : Hint) (op : Op) (M : Obj → Val) where
   unfolding P.with-hint
   asks-outer-with rd a w c g e = asks-outer sz op (also rd) (P.with-hint (hint-of h) M) a w c (asked-with h rd M (plan sz op) g)
       (sym (P.exec-hinted (hint-of h) (plan sz op) M) ∙ e)
+
+-- "Migrate changes nothing"
+pub uncompared-after : (op : Op) (m : Map) → compared op ≡ false → map-after op m ≡ m
+uncompared-after (insert k v) m h = absurd (true≢false h)
+uncompared-after (lookup k) m h = refl
+uncompared-after (delete k) m h = absurd (true≢false h)
+uncompared-after (next k) m h = refl
+uncompared-after (previous k) m h = refl
+uncompared-after (migrate n s) m h = refl
