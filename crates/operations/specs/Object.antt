@@ -1,6 +1,7 @@
 -- What operations read and write, why a plan fails, and a snapshot with some writes.
-use mathlib.Core.Bool.{Bool, true, false, cond}
-use mathlib.Core.List.{List, [], _∷_}
+use mathlib.Core.Bool.{Bool, true, false, cond, Bool-discrete}
+use mathlib.Core.HLevel.{Discrete}
+use mathlib.Core.List.{List, [], _∷_, List-discrete}
 use Prim.Native.Nat.{ℕ}
 use native.Mathlib.Decide.{ℕ-discrete}
 use lib.Dec.{eqb}
@@ -11,7 +12,7 @@ pub data Obj : Type 0 where
   meta : Obj
   node : ℕ → Obj
   flag : ℕ → Obj
-  deriving Discrete as Obj-discrete
+  deriving Discrete as Obj-by
 
 -- What a plan asks for: an object; a server's vector; or the same vector, but only one that this transaction has fetched
 -- ("a server is passed over only by a vector that this transaction fetched").
@@ -26,7 +27,13 @@ pub data Val : Type 0 where
   body : (kind level : ℕ) (keys slots : List ℕ) → Val
   taken : Bool → Val
   flags : List Bool → Val
-  deriving Discrete as Val-discrete
+  deriving Discrete as Val-by
+
+pub Obj-discrete : Discrete Obj
+Obj-discrete = Obj-by ℕ-discrete
+
+pub Val-discrete : Discrete Val
+Val-discrete = Val-by ℕ-discrete (List-discrete ℕ-discrete) Bool-discrete (List-discrete Bool-discrete)
 
 -- "Freed nodes become kind 0 and keep only a version."
 abbrev pub free : Val
