@@ -8,8 +8,9 @@ use lib.Seq.{length-take-le, append-snoc, take-at, drop-at, set-at, set-append-s
 use Rattle.nodes.specs.Node.{extra}
 use Rattle.nodes.specs.Lists.{insert, remove}
 use Rattle.nodes.specs.Place.{place}
+use Rattle.nodes.specs.Find.{find}
 use Rattle.operations.specs.Object.{body}
-use Rattle.operations.specs.Entry.{Entries, keys, vals, zip, mk, nxt, cut-at, cut}
+use Rattle.operations.specs.Entry.{Entries, keys, vals, zip, mk, mn, mx, nxt, cut-at, cut, index}
 
 abbrev pub kind : ℕ → ℕ
 kind zero = 1
@@ -104,9 +105,22 @@ stored-back (suc l) lo ks (v ∷ vs) h =
     let n : length vs ≡ length ks = omega (arith, h) in
     ap (λ z. body 2 (suc l) z (v ∷ vals (zip ks vs))) (zip-keys-of ks vs n) ∙ ap (λ z. body 2 (suc l) ks (v ∷ z)) (zip-vals-of ks vs n)
 
+-- as many entries as 7 keys, as 14 keys have
+pub fewest-is : (l : ℕ) → mn l ≡ at l 7
+fewest-is zero = refl
+fewest-is (suc l) = refl
+
+pub most-is : (l : ℕ) → mx l ≡ at l 14
+most-is zero = refl
+most-is (suc l) = refl
+
 pub entries-length : (l lo : ℕ) (ks vs : List ℕ) → Sized l ks vs → length (entries l lo ks vs) ≡ at l (length ks)
 entries-length zero lo ks vs h = zip-length ks vs h
 entries-length (suc l) lo ks vs h = zip-length (lo ∷ ks) vs h
+
+-- a key is searched among the stored ones
+pub index-is : (key lo : ℕ) (ks vs : List ℕ) → Sized zero ks vs → index key (entries zero lo ks vs) ≡ find ks key
+index-is key lo ks vs h = ap (λ z. find z key) (zip-keys-of ks vs h)
 
 -- SPLIT before key number i: the left half, and the right half with that key
 pub left-half : (l lo i : ℕ) (ks vs : List ℕ) → take (at l i) (entries l lo ks vs) ≡ entries l lo (take i ks) (take (at l i) vs)
@@ -149,23 +163,19 @@ joined (suc l) lo sep ks vs js us h = sym (zip-append (lo ∷ ks) (sep ∷ js) v
 
 -- ONE MORE before key number i, ONE LESS at it, ANOTHER in its place
 pub put-in : (l lo i k s : ℕ) (ks vs : List ℕ) → Sized l ks vs → i ≤ length ks
-    → take (at l i) (entries l lo ks vs) ++ (k, s) ∷ drop (at l i) (entries l lo ks vs) ≡ entries l lo (insert i k ks) (insert (at l i) s vs)
+    → insert (at l i) (k, s) (entries l lo ks vs) ≡ entries l lo (insert i k ks) (insert (at l i) s vs)
 unfolding insert
 put-in zero lo i k s ks vs h j = zip-put i k s ks vs h j
 put-in (suc l) lo i k s ks vs h j = zip-put (suc i) k s (lo ∷ ks) vs h (omega (arith, j))
 
 pub taken-out : (l lo i : ℕ) (ks vs : List ℕ) → Sized l ks vs → i ≤ length ks
-    → take (at l i) (entries l lo ks vs) ++ drop (suc (at l i)) (entries l lo ks vs) ≡ entries l lo (remove i ks) (remove (at l i) vs)
+    → remove (at l i) (entries l lo ks vs) ≡ entries l lo (remove i ks) (remove (at l i) vs)
 unfolding remove
-taken-out zero lo i ks vs h j =
-    let e : suc i ≡ i + 1 = omega arith in
-    zip-out i (suc i) ks vs h j ∙ ap (λ n. zip (take i ks ++ drop n ks) (take i vs ++ drop n vs)) e
+taken-out zero lo i ks vs h j = zip-out i (i + 1) ks vs h j
 taken-out (suc l) lo i ks vs h j =
-    let e : suc i ≡ i + 1 = omega arith in
-    let f : suc (suc i) ≡ suc i + 1 = omega arith in
-    zip-out (suc i) (suc (suc i)) (lo ∷ ks) vs h (omega (arith, j))
-    ∙ ap (λ n. zip (lo ∷ (take i ks ++ drop n ks)) (take (suc i) vs ++ drop (suc (suc i)) vs)) e
-    ∙ ap (λ n. zip (lo ∷ (take i ks ++ drop (i + 1) ks)) (take (suc i) vs ++ drop n vs)) f
+    let e : suc i + 1 ≡ suc (i + 1) = omega arith in
+    zip-out (suc i) (suc i + 1) (lo ∷ ks) vs h (omega (arith, j))
+    ∙ ap (λ n. zip ((lo ∷ take i ks) ++ drop n (lo ∷ ks)) (take (suc i) vs ++ drop (suc i + 1) vs)) e
 
 pub replaced : (l lo i k s : ℕ) (ks vs : List ℕ) → set (entries l lo ks vs) (at l i) (k, s) ≡ entries l lo (set ks i k) (set vs (at l i) s)
 replaced zero lo i k s ks vs = zip-set i k s ks vs
@@ -212,6 +222,7 @@ module _ (l lo : ℕ) (ks vs : List ℕ) (h : Sized (suc l) ks vs) (pre post : E
 
   -- a new child right of c, with the separator between them
   pub child-added : (sep d : ℕ) → pre ++ (k, c) ∷ (sep, d) ∷ post ≡ entries (suc l) lo (insert (length pre) sep ks) (insert (suc (length pre)) d vs)
+  unfolding insert
   child-added sep d =
       sym (append-snoc pre (k, c) ((sep, d) ∷ post))
       ∙ ap (λ z. z ++ (sep, d) ∷ post) (sym up-to) ∙ ap (λ z. take (suc (length pre)) (entries (suc l) lo ks vs) ++ (sep, d) ∷ z) (sym beyond)
@@ -234,17 +245,21 @@ module _ (l lo : ℕ) (ks vs : List ℕ) (h : Sized (suc l) ks vs) (pre post : E
 module _ (l lo : ℕ) (ks vs : List ℕ) (h : Sized (suc l) ks vs) (pre post : Entries) (k c k2 c2 : ℕ) (e : entries (suc l) lo ks vs ≡ pre ++ (k, c) ∷ (k2, c2) ∷ post) where
   -- the right one of two goes, and the separator left of it
   pub child-dropped : pre ++ (k, c) ∷ post ≡ entries (suc l) lo (remove (length pre) ks) (remove (suc (length pre)) vs)
+  unfolding remove
   child-dropped =
       sym (append-snoc pre (k, c) post)
       ∙ ap (λ z. z ++ post) (sym (up-to l lo ks vs h pre ((k2, c2) ∷ post) k c e))
-      ∙ ap (λ z. take (suc (length pre)) (entries (suc l) lo ks vs) ++ z) (sym (next (suc (length pre)) (entries (suc l) lo ks vs) (beyond l lo ks vs h pre ((k2, c2) ∷ post) k c e)))
+      ∙ ap (λ z. take (suc (length pre)) (entries (suc l) lo ks vs) ++ z) (sym (next (suc (length pre)) (suc (length pre) + 1) (entries (suc l) lo ks vs) (omega arith) (beyond l lo ks vs h pre ((k2, c2) ∷ post) k c e)))
       ∙ taken-out (suc l) lo (length pre) ks vs h (pre-short l lo ks vs h pre ((k2, c2) ∷ post) k c e)
     where
-      next : (n : ℕ) (es : Entries) → drop n es ≡ (k2, c2) ∷ post → drop (suc n) es ≡ post
-      next zero [] q = absurd (omega (arith, ap length q))
-      next zero (x ∷ es) q = ap tail q
-      next (suc n) [] q = absurd (omega (arith, ap length q))
-      next (suc n) (x ∷ es) q = next n es q
+      next : (n m : ℕ) (es : Entries) → m ≡ suc n → drop n es ≡ (k2, c2) ∷ post → drop m es ≡ post
+      next n m es e q = ap (λ m. drop m es) e ∙ by n es q
+        where
+          by : (n : ℕ) (es : Entries) → drop n es ≡ (k2, c2) ∷ post → drop (suc n) es ≡ post
+          by zero [] q = absurd (omega (arith, ap length q))
+          by zero (x ∷ es) q = ap tail q
+          by (suc n) [] q = absurd (omega (arith, ap length q))
+          by (suc n) (x ∷ es) q = by n es q
 
   -- another separator between the two
   pub separator-replaced : (x : ℕ) → pre ++ (k, c) ∷ (x, c2) ∷ post ≡ entries (suc l) lo (set ks (length pre) x) vs

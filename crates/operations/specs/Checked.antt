@@ -15,20 +15,11 @@ use Rattle.operations.specs.Path.{Plan}
 use Rattle.operations.specs.Operation.{fits?, all-fit?, checked}
 use Rattle.operations.specs.Chain.{Rising, one, tally}
 use Rattle.operations.specs.Hit.{hit-self}
+use Rattle.operations.specs.Written.{over-is}
 use Rattle.operations.specs.Ensures.{Ok}
 use Rattle.operations.specs.Tree.{cnt, Mark}
 use Rattle.operations.specs.Focus.{Rep}
 use Rattle.operations.specs.Found.{all-rising, all-levels}
-
--- the snapshot with the writes, by the test and the function that they are
-pub over-is : (w : Writes) (M : Obj → Val) (o : Obj) → over w M o ≡ cond (written w o) (value w o) (M o)
-over-is [] M o = refl
-over-is (e ∷ w) M o = go (hit (e .0) o) (over-is w M o)
-  where
-    go : (b : Bool) → over w M o ≡ cond (written w o) (value w o) (M o)
-        → cond b (e .1) (over w M o) ≡ cond (cond b true (written w o)) (cond b (e .1) (value w o)) (M o)
-    go true r = refl
-    go false r = r
 
 pub checked-ok : (F : Why → Type 0) (Q : Ans → Writes → Type 0) (M : Obj → Val) → ((a : Ans) (w : Writes) → Q a w → all-fit? w w ≡ true)
     → (p : Plan) → Ok F Q M p → Ok F Q M (checked p)

@@ -36,6 +36,8 @@ pub mod Outer
 pub mod Reading
 -- the same for an operation with the vectors that were seen
 pub mod Seen
+-- an operation's writes as a test and a function
+pub mod Written
 -- the plans' steps on entries are these on keys and slots
 pub mod Arrays
 -- PROOFS
