@@ -6,18 +6,19 @@ use Prim.Native.Nat.{ℕ, zero, suc, _+_, _<_, _≤_}
 use native.Mathlib.Omega.{arith}
 use lib.ListN.{length}
 use Rattle.nodes.specs.Lists.{remove}
-use Rattle.operations.specs.Object.{Obj, node, flag, Val, Why, not-free, no-slot, Ans, Writes}
+use Rattle.operations.specs.Object.{Obj, node, flag, Val, Ans, Writes}
 use Rattle.operations.specs.Map.{Map, look, put, del, fresh, gone, H}
 use Rattle.operations.specs.Entry.{Entries, nxt, index, value-at, value-in, with-pair}
 use Rattle.operations.specs.Slot.{Sizes, Allowed}
 use Rattle.operations.specs.Change.{up, insert-plan, delete-at, delete-plan}
 use Rattle.operations.specs.Chain.{one, Chain, tally}
 use Rattle.operations.specs.Places.{look-is, put-is, removed, del-is}
-use Rattle.operations.specs.Ensures.{Ok}
+use Rattle.operations.specs.Ensures.{Terms, Ok}
 use Rattle.operations.specs.Tree.{cnt}
 use Rattle.operations.specs.Focus.{Path, top, frame, nm, lo, hi, around, left, right, floor, Focus, nil, Rep, Ends, mark-num}
 use Rattle.operations.specs.Maps.{leaf-pairs, leaf-words, look-mid, put-mid, del-mid, del-absent, put-from, put-chain, put-len, del-from, del-chain, del-len}
 use Rattle.operations.specs.Down.{branches, Site, site-rising, site-left, site-right, site-map, root-ok}
+use Rattle.operations.specs.Slots.{Supply}
 use Rattle.operations.specs.Rise.{Near, near-of}
 use Rattle.operations.specs.Grow.{up-ok}
 use Rattle.operations.specs.Found.{leaf-tally}
@@ -43,7 +44,7 @@ near-less : (p : Path zero) (n : ℕ) → floor zero p ≤ suc n → Near zero p
 near-less (top r) n h = omega arith
 near-less (frame k c pre post p) n h = h
 
-module _ (F : Why → Type 0) (lacking : F not-free × F no-slot) (sz : Sizes) (al : Allowed sz) (M : Obj → Val) (m : Map) (key : ℕ) (small : key < H) (R : Rep M m) where
+module _ (F : Terms) (sz : Sizes) (al : Allowed sz) (M : Obj → Val) (supply : Supply F M sz) (m : Map) (key : ℕ) (small : key < H) (R : Rep M m) where
   -- the value that the leaf has is the map's
   site-look : (p : Path zero) (es : Entries) → Site M m key zero p es → value-in key es ≡ look key m
   site-look p es s = look-is key (nxt es (hi zero p)) (hi zero p) es (site-rising M m key zero p es s)
@@ -55,7 +56,7 @@ module _ (F : Why → Type 0) (lacking : F not-free × F no-slot) (sz : Sizes) (
       → Near zero p (length fs) → length fs ≤ 15 → Ok F (Ends M n a) M (up sz a zero (branches zero p) [] (nm zero p) fs)
   leaf-up n a p es fs s c i e near most =
       subst (λ z. Ok F (Ends M n a) M (up sz a zero (branches zero p) [] (nm zero p) z)) (leaf-words fs)
-      (up-ok F lacking sz al M n a zero p [] fs (fill M p es fs m n (s .focus) c i e) (s .stored) near most)
+      (up-ok F sz al M supply n a zero p [] fs (fill M p es fs m n (s .focus) c i e) (s .stored) near most)
 
   pub insert-ok : (v : ℕ) → Ok F (Ends M (put key v m) (fresh (look key m))) M (insert-plan sz key v)
   insert-ok v = root-ok M m key F Q (λ fs n es. up sz (fresh (value-in key es)) zero fs [] n (with-pair key v es)) at R

@@ -9,24 +9,24 @@ use borrow.Author.Tests.{lt-ltb}
 use Rattle.base.specs.Test.{of-yes, yes?}
 use Rattle.plans.specs.Plan as P
 use Rattle.nodes.specs.Find.{above, rises}
-use Rattle.operations.specs.Object.{Obj, meta, node, flag, object, vector, fetched, Val, keys-of, level-of, Why, no-tree, Ans, Writes, hit, over, written, value}
+use Rattle.operations.specs.Object.{Obj, meta, node, flag, object, vector, fetched, Val, keys-of, level-of, no-tree, Ans, Writes, hit, over, written, value}
 use Rattle.operations.specs.Map.{Map, H}
 use Rattle.operations.specs.Path.{Plan}
 use Rattle.operations.specs.Operation.{fits?, all-fit?, checked}
 use Rattle.operations.specs.Chain.{Rising, one, tally}
 use Rattle.operations.specs.Hit.{hit-self}
 use Rattle.operations.specs.Written.{over-is}
-use Rattle.operations.specs.Ensures.{Ok}
+use Rattle.operations.specs.Ensures.{Terms, Ok}
 use Rattle.operations.specs.Tree.{cnt, Mark}
 use Rattle.operations.specs.Focus.{Rep}
 use Rattle.operations.specs.Found.{all-rising, all-levels}
 
-pub checked-ok : (F : Why → Type 0) (Q : Ans → Writes → Type 0) (M : Obj → Val) → ((a : Ans) (w : Writes) → Q a w → all-fit? w w ≡ true)
+pub checked-ok : (F : Terms) (Q : Ans → Writes → Type 0) (M : Obj → Val) → ((a : Ans) (w : Writes) → Q a w → all-fit? w w ≡ true)
     → (p : Plan) → Ok F Q M p → Ok F Q M (checked p)
 unfolding P.bind
 checked-ok F Q M f (P.ask (object o) k) h = checked-ok F Q M f (k (M o)) h
-checked-ok F Q M f (P.ask (vector s) k) h = λ v. checked-ok F Q M f (k v) (h v)
-checked-ok F Q M f (P.ask (fetched s) k) h = λ v. checked-ok F Q M f (k v) (h v)
+checked-ok F Q M f (P.ask (vector s) k) h = λ v t. checked-ok F Q M f (k v) (h v t)
+checked-ok F Q M f (P.ask (fetched s) k) h = λ v t. checked-ok F Q M f (k v) (h v t)
 checked-ok F Q M f (P.done r) h = subst (λ b. Ok F Q M (cond b (P.done r) (P.fail no-tree))) (sym (f (r .0) (r .1) h)) h
 checked-ok F Q M f (P.fail y) h = h
 

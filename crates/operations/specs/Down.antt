@@ -7,13 +7,13 @@ use native.Mathlib.Omega.{arith}
 use lib.ListN.{length, length-append}
 use Rattle.base.specs.Test.{ifd}
 use Rattle.plans.specs.Plan as P
-use Rattle.operations.specs.Object.{Obj, node, Val, Why, no-tree, Ans, Writes, over}
+use Rattle.operations.specs.Object.{Obj, node, Val, no-tree, Ans, Writes, over}
 use Rattle.operations.specs.Map.{Map, H}
 use Rattle.operations.specs.Entry.{Entries, keys, vals, zip, mk, mn, mx, nxt, Cut, cut}
 use Rattle.operations.specs.Path.{Plan, open-node, kid, when-root, Branch, to-leaf, down, at-root, from-root}
 use Rattle.operations.specs.Chain.{Rising, chain-rising, ren, ren-app, ren-length}
 use Rattle.operations.specs.Places.{cut-app, cut-le, cut-gt, ren-cut}
-use Rattle.operations.specs.Ensures.{Ok, see-ok, if-ok}
+use Rattle.operations.specs.Ensures.{Terms, Ok, see-ok, if-ok}
 use Rattle.operations.specs.Tree.{Slot, word, Starts, Entry, bottom}
 use Rattle.operations.specs.Focus.{entry-rise, Path, top, frame, nm, lo, hi, left, right, floor, Stored, Focus, nil, Rep}
 use Rattle.operations.specs.Moves.{lower}
@@ -43,7 +43,7 @@ pub bottom-floor : (l : ℕ) (p : Path l) → bottom l ≤ floor l p
 bottom-floor l (top r) = omega arith
 bottom-floor l (frame k c pre post p) = bottom-mn l
 
-module _ (F : Why → Type 0) (Q : Ans → Writes → Type 0) (M : Obj → Val) where
+module _ (F : Terms) (Q : Ans → Writes → Type 0) (M : Obj → Val) where
   pub open-ok : (l from b : ℕ) (es : List (ℕ × Slot l)) (k : ℕ → Entries → Plan) → Starts l from (nxt es b) → bottom l ≤ length es
       → Ok F Q M (k l (ren (word l) es)) → Ok F Q M (open-node from (mk l (ren (word l) es)) k)
   open-ok zero from b es k st i h = subst (λ z. Ok F Q M (k 0 z)) (sym (zip-keys (ren (word zero) es))) h
@@ -120,7 +120,7 @@ module _ (M : Obj → Val) (m : Map) (key : ℕ) where
   pub site-map : (p : Path zero) (es : Entries) → Site zero p es → left zero p ++ (es ++ right zero p) ≡ m
   site-map p es s = ap (λ z. left zero p ++ (z ++ right zero p)) (sym (leaf-pairs es)) ∙ s .focus .holds
 
-  module _ (F : Why → Type 0) (Q : Ans → Writes → Type 0) (k : List Branch → ℕ → Entries → Plan)
+  module _ (F : Terms) (Q : Ans → Writes → Type 0) (k : List Branch → ℕ → Entries → Plan)
       (hk : (p : Path zero) (es : Entries) → Site zero p es → Ok F Q M (k (branches zero p) (nm zero p) es)) where
     down-ok : (l : ℕ) (p : Path l) (es : List (ℕ × Slot l)) → Site l p es
         → Ok F Q M (down to-leaf key (λ _ fs n es. k fs n es) l (branches l p) (nm l p) (ren (word l) es))

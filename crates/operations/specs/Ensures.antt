@@ -9,39 +9,48 @@ use Rattle.plans.specs.Plan as P
 use Rattle.operations.specs.Object.{Obj, Ask, object, vector, fetched, Val, Why, Ans, Writes, hit, over}
 use Rattle.operations.specs.Path.{Plan, see}
 
--- the plan's outcome over the snapshot M is as Q says, and a failure's reason as F says, for every answer about vectors
-abbrev pub Ok : (Why → Type 0) → (Ans → Writes → Type 0) → (Obj → Val) → Plan → Type 0
+-- what is asked of a reason to fail, and what is known of a server's vector
+pub record Terms : Type 1 where
+  pub fails : Why → Type 0
+  pub shows : ℕ → Val → Type 0
+
+-- the plan's outcome over the snapshot M is as Q says, and a failure's reason as F says, for every vector that F allows
+abbrev pub Ok : Terms → (Ans → Writes → Type 0) → (Obj → Val) → Plan → Type 0
 Ok F Q M (P.ask (object o) k) = Ok F Q M (k (M o))
-Ok F Q M (P.ask (vector s) k) = (v : Val) → Ok F Q M (k v)
-Ok F Q M (P.ask (fetched s) k) = (v : Val) → Ok F Q M (k v)
+Ok F Q M (P.ask (vector s) k) = (v : Val) → F .shows s v → Ok F Q M (k v)
+Ok F Q M (P.ask (fetched s) k) = (v : Val) → F .shows s v → Ok F Q M (k v)
 Ok F Q M (P.done r) = Q (r .0) (r .1)
-Ok F Q M (P.fail y) = F y
+Ok F Q M (P.fail y) = F .fails y
 
 -- an outcome is as Q and F say
-abbrev pub Says : (Why → Type 0) → (Ans → Writes → Type 0) → P.Out (Ans × Writes) Why → Type 0
+abbrev pub Says : Terms → (Ans → Writes → Type 0) → P.Out (Ans × Writes) Why → Type 0
 Says F Q (P.gives r) = Q (r .0) (r .1)
-Says F Q (P.fails y) = F y
+Says F Q (P.fails y) = F .fails y
 
 -- a snapshot's objects
 abbrev pub objects : (Ask → Val) → Obj → Val
 objects S o = S (object o)
 
-pub ok-says : (F : Why → Type 0) (Q : Ans → Writes → Type 0) (S : Ask → Val) (p : Plan) → Ok F Q (objects S) p → Says F Q (P.exec p S)
-unfolding P.exec
-ok-says F Q S (P.ask (object o) k) h = ok-says F Q S (k (S (object o))) h
-ok-says F Q S (P.ask (vector s) k) h = ok-says F Q S (k (S (vector s))) (h (S (vector s)))
-ok-says F Q S (P.ask (fetched s) k) h = ok-says F Q S (k (S (fetched s))) (h (S (fetched s)))
-ok-says F Q S (P.done r) h = h
-ok-says F Q S (P.fail y) h = h
+-- the snapshot's vectors are as F allows
+abbrev pub Shown : Terms → (Ask → Val) → Type 0
+Shown F S = (s : ℕ) → F .shows s (S (vector s)) × F .shows s (S (fetched s))
 
-pub ok-mono : (F : Why → Type 0) (Q R : Ans → Writes → Type 0) (M : Obj → Val) → ((a : Ans) (w : Writes) → Q a w → R a w) → (p : Plan) → Ok F Q M p → Ok F R M p
+pub ok-says : (F : Terms) (Q : Ans → Writes → Type 0) (S : Ask → Val) → Shown F S → (p : Plan) → Ok F Q (objects S) p → Says F Q (P.exec p S)
+unfolding P.exec
+ok-says F Q S t (P.ask (object o) k) h = ok-says F Q S t (k (S (object o))) h
+ok-says F Q S t (P.ask (vector s) k) h = ok-says F Q S t (k (S (vector s))) (h (S (vector s)) (t s .0))
+ok-says F Q S t (P.ask (fetched s) k) h = ok-says F Q S t (k (S (fetched s))) (h (S (fetched s)) (t s .1))
+ok-says F Q S t (P.done r) h = h
+ok-says F Q S t (P.fail y) h = h
+
+pub ok-mono : (F : Terms) (Q R : Ans → Writes → Type 0) (M : Obj → Val) → ((a : Ans) (w : Writes) → Q a w → R a w) → (p : Plan) → Ok F Q M p → Ok F R M p
 ok-mono F Q R M f (P.ask (object o) k) h = ok-mono F Q R M f (k (M o)) h
-ok-mono F Q R M f (P.ask (vector s) k) h = λ v. ok-mono F Q R M f (k v) (h v)
-ok-mono F Q R M f (P.ask (fetched s) k) h = λ v. ok-mono F Q R M f (k v) (h v)
+ok-mono F Q R M f (P.ask (vector s) k) h = λ v t. ok-mono F Q R M f (k v) (h v t)
+ok-mono F Q R M f (P.ask (fetched s) k) h = λ v t. ok-mono F Q R M f (k v) (h v t)
 ok-mono F Q R M f (P.done r) h = f (r .0) (r .1) h
 ok-mono F Q R M f (P.fail y) h = h
 
-module _ (F : Why → Type 0) (Q : Ans → Writes → Type 0) (M : Obj → Val) where
+module _ (F : Terms) (Q : Ans → Writes → Type 0) (M : Obj → Val) where
   pub see-ok : (w : Writes) (o : Obj) (k : Val → Plan) → Ok F Q M (k (over w M o)) → Ok F Q M (see w o k)
   see-ok [] o k h = h
   see-ok (e ∷ w) o k h = go (hit (e .0) o) (see-ok w o k) h

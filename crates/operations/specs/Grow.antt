@@ -8,23 +8,23 @@ use native.Mathlib.Omega.{arith}
 use lib.ListN.{length, take, drop, length-append, take-append-drop}
 use lib.Seq.{length-take-le}
 use Rattle.plans.specs.Plan as P
-use Rattle.operations.specs.Object.{Obj, node, flag, Val, taken, Why, not-free, no-slot, Ans, Writes, wr, over}
+use Rattle.operations.specs.Object.{Obj, node, flag, Val, taken, Ans, Writes, wr, over}
 use Rattle.operations.specs.Map.{Map, H}
 use Rattle.operations.specs.Entry.{Entries, mk, mn, mx, nxt}
 use Rattle.operations.specs.Path.{Plan}
 use Rattle.operations.specs.Slot.{Sizes, Allowed, take-for, take-node}
 use Rattle.operations.specs.Change.{Go, parted, split-root, split, up}
 use Rattle.operations.specs.Chain.{one, one-same, tally, ren, ren-length, ren-take, ren-drop, ren-nxt}
-use Rattle.operations.specs.Ensures.{Ok, if-ok, sel-same, sel-other}
+use Rattle.operations.specs.Ensures.{Terms, Ok, if-ok, sel-same, sel-other}
 use Rattle.operations.specs.Tree.{room, room-is, Slot, word, cnt}
 use Rattle.operations.specs.Focus.{Path, top, frame, nm, around, floor, Focus, nil, Rep, Ends, mark-le, mark-free}
 use Rattle.operations.specs.Count.{no-fifth}
 use Rattle.operations.specs.Moves.{set-node, take-slot as slot-taken, recut, grow}
 use Rattle.operations.specs.Down.{branch, branches}
-use Rattle.operations.specs.Slots.{take-for-ok, take-node-ok}
+use Rattle.operations.specs.Slots.{Supply, take-for-ok, take-node-ok}
 use Rattle.operations.specs.Rise.{near-of, ne-of, mn-mx, Next, write-ok, parted-ok, neighbour-ok}
 
-module _ (F : Why → Type 0) (lacking : F not-free × F no-slot) (sz : Sizes) (al : Allowed sz) (M : Obj → Val) (m : Map) (a : Ans) where
+module _ (F : Terms) (sz : Sizes) (al : Allowed sz) (M : Obj → Val) (supply : Supply F M sz) (m : Map) (a : Ans) where
   abbrev E : Ans → Writes → Type 0
   E = Ends M m a
 
@@ -44,7 +44,7 @@ module _ (F : Why → Type 0) (lacking : F not-free × F no-slot) (sz : Sizes) (
       let td = length-append (take j es) (drop j es) in
       let tt′ = ap length (take-append-drop j es) in
       let on : Entries → Entries → ℕ → Writes → Plan = λ L R d w1. parted go l w1 (branch l k pre post p) c L d R in
-      take-for-ok F E M lacking sz al c w (λ d w1. take-node w1 d (on (take j (ren W es)) (drop j (ren W es)) d w1)) t (f .marks)
+      take-for-ok F E M sz al supply c w (λ d w1. take-node w1 d (on (take j (ren W es)) (drop j (ren W es)) d w1)) t (f .marks)
       (λ d sm z.
       let w1 : Writes = (flag d, taken true) ∷ w in
       take-node-ok F E M w1 d (on (take j (ren W es)) (drop j (ren W es)) d w1) (mark-free (U (flag d)) (U (node d)) (t d) z (f .marks d) .1)
@@ -92,12 +92,12 @@ module _ (F : Why → Type 0) (lacking : F not-free × F no-slot) (sz : Sizes) (
       let end : ℕ → ℕ → Entries → Entries → Writes → Writes = λ c d L R w2. (node r, mk (suc l) ((0, c) ∷ (nxt R 0, d) ∷ [])) ∷ (node d, mk l R) ∷ (node c, mk l L) ∷ w2 in
       let last : ℕ → ℕ → Writes → Plan = λ c d w2. take-node w2 c (take-node w2 d (P.done (a, end c d A B w2))) in
       let t1 : ℕ → ℕ = λ x. 0 + one r x + tally (cnt l) es x + 0 in
-      take-for-ok F E M lacking sz al r w (λ c w1. take-for sz r w1 (λ d w2. last c d w2)) t1 (f .marks)
+      take-for-ok F E M sz al supply r w (λ c w1. take-for sz r w1 (λ d w2. last c d w2)) t1 (f .marks)
       (λ c sm1 z1.
       let w1 : Writes = (flag c, taken true) ∷ w in
       let t2 : ℕ → ℕ = λ x. 0 + one r x + tally (cnt l) es x + one c x in
       let f1 = slot-taken (over w M) m l (top r) es nil (one c) c z1 sm1 (λ x. omega arith) f in
-      take-for-ok F E M lacking sz al r w1 (λ d w2. last c d w2) t2 (f1 .marks)
+      take-for-ok F E M sz al supply r w1 (λ d w2. last c d w2) t2 (f1 .marks)
       (λ d sm2 z2.
       let w2 : Writes = (flag d, taken true) ∷ w1 in
       let f2 = slot-taken (over w1 M) m l (top r) es (one c) (λ x. one c x + one d x) d z2 sm2 (λ x. refl) f1 in

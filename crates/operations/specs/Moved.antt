@@ -10,7 +10,7 @@ use lib.ListN.{length, length-append}
 use Rattle.base.specs.Test.{ifd, yes-of, of-yes}
 use Rattle.plans.specs.Plan as P
 use Rattle.nodes.specs.Name.{server-of, slot-of}
-use Rattle.operations.specs.Object.{Obj, meta, node, flag, object, Val, root, body, taken, flags, free, kind-of, keys-of, level-of, Why, not-free, no-tree, no-slot, Ans, Writes, over}
+use Rattle.operations.specs.Object.{Obj, meta, node, flag, object, Val, root, body, taken, flags, free, kind-of, keys-of, level-of, no-tree, Ans, Writes, over}
 use Rattle.operations.specs.Map.{Map, H}
 use Rattle.operations.specs.Entry.{Entries, mk, Cut, cut}
 use Rattle.operations.specs.Path.{Plan, kid, when-root, open-node, down}
@@ -18,16 +18,16 @@ use Rattle.operations.specs.Slot.{Sizes, Allowed, take-node, release}
 use Rattle.operations.specs.Migrate.{moved, move-root, move-at, to-level, first-key, move-below, move-if, migrate-plan}
 use Rattle.operations.specs.Chain.{one, one-same, one-other, tally, tally-app, ren, ren-app, ren-length}
 use Rattle.operations.specs.Places.{cut-app, cut-le, cut-gt, ren-cut}
-use Rattle.operations.specs.Ensures.{Ok, if-ok, cond-ok, sel-same}
+use Rattle.operations.specs.Ensures.{Terms, Ok, if-ok, cond-ok, sel-same}
 use Rattle.operations.specs.Tree.{Slot, word, cnt, Mark}
 use Rattle.operations.specs.Focus.{Path, top, frame, nm, hi, around, nil, Rep, mark-free}
 use Rattle.operations.specs.Moves.{set-node, take-slot as slot-taken, release as slot-freed, lift, rename, rename-root}
 use Rattle.operations.specs.Down.{branches, open-ok, kid-ok, Site, site-root, site-rising, site-down}
-use Rattle.operations.specs.Slots.{take-node-ok, release-ok, take-at-ok}
+use Rattle.operations.specs.Slots.{Supply, take-node-ok, release-ok, take-at-ok}
 use Rattle.operations.specs.Rise.{write-ok}
 use Rattle.operations.specs.Found.{leaf-tally, locate, level-mk, node-like, all-nodes, Met, met, stored-length}
 
-module _ (F : Why → Type 0) (lacking : F not-free × F no-slot) (sz : Sizes) (al : Allowed sz) (M : Obj → Val) (m : Map) (R : Rep M m) (s : ℕ) (server : s < 8) where
+module _ (F : Terms) (sz : Sizes) (al : Allowed sz) (M : Obj → Val) (supply : Supply F M sz) (m : Map) (R : Rep M m) (s : ℕ) (server : s < 8) where
   -- the snapshot with the writes holds the same map
   abbrev pub Kept : Ans → Writes → Type 0
   Kept b w = Rep (over w M) m
@@ -44,7 +44,7 @@ module _ (F : Why → Type 0) (lacking : F not-free × F no-slot) (sz : Sizes) (
       let f = R .tree in
       let t : ℕ → ℕ = λ d. 0 + one r d + tally (cnt l) es d + 0 in
       let end : ℕ → Writes → Plan = λ d w. P.done ((1, d), (node d, v) ∷ w) in
-      take-at-ok F Kept M lacking sz al s (slot-of r) [] (λ d w. take-node w d (release ((meta, root d) ∷ w) r (end d))) t server (f .marks)
+      take-at-ok F Kept M sz al supply s (slot-of r) [] (λ d w. take-node w d (release ((meta, root d) ∷ w) r (end d))) t server (f .marks)
       (λ d sm z.
       let w1 : Writes = (flag d, taken true) ∷ [] in
       let w2 : Writes = (meta, root d) ∷ w1 in
@@ -67,7 +67,7 @@ module _ (F : Why → Type 0) (lacking : F not-free × F no-slot) (sz : Sizes) (
       let hole = frame k n pre post p in
       let t : ℕ → ℕ = λ d. around l hole d + one n d + tally (cnt l) es d + 0 in
       let end : ℕ → Writes → Plan = λ d w. P.done ((1, d), (node (nm (suc l) p), mk (suc l) (ren W pre ++ (k, d) ∷ ren W post)) ∷ (node d, v) ∷ w) in
-      take-at-ok F Kept M lacking sz al s (slot-of n) [] (λ d w. take-node w d (release w n (end d))) t server (f .marks)
+      take-at-ok F Kept M sz al supply s (slot-of n) [] (λ d w. take-node w d (release w n (end d))) t server (f .marks)
       (λ d sm z.
       let w1 : Writes = (flag d, taken true) ∷ [] in
       let w2 : Writes = (node n, free) ∷ (flag n, taken false) ∷ w1 in

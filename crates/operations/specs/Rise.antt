@@ -10,13 +10,13 @@ use native.Mathlib.Omega.{arith}
 use lib.ListN.{length, take, drop, length-append, take-append-drop}
 use lib.Seq.{length-take-le}
 use Rattle.plans.specs.Plan as P
-use Rattle.operations.specs.Object.{Obj, node, flag, Val, taken, free, Why, no-tree, Ans, Writes, wr, over}
+use Rattle.operations.specs.Object.{Obj, node, flag, Val, taken, free, no-tree, Ans, Writes, wr, over}
 use Rattle.operations.specs.Map.{Map}
 use Rattle.operations.specs.Entry.{mk, mn, mx, nxt}
 use Rattle.operations.specs.Slot.{release}
 use Rattle.operations.specs.Change.{Go, parted, merged, with-right, with-left, unsnoc-step, unsnoc, left-of, neighbour}
 use Rattle.operations.specs.Chain.{one, one-same, chain-right, tally, tally-app, ren, ren-app, ren-length, ren-take, ren-drop, ren-nxt}
-use Rattle.operations.specs.Ensures.{Ok, if-ok, sel-same, sel-other}
+use Rattle.operations.specs.Ensures.{Terms, Ok, if-ok, sel-same, sel-other}
 use Rattle.operations.specs.Tree.{Slot, word, cnt, Kid, Entry, bottom}
 use Rattle.operations.specs.Focus.{Path, top, frame, nm, hi, around, floor, Stored, Focus, nil, Rep, Ends, stored-frame, mark-le, apart}
 use Rattle.operations.specs.Moves.{set-node, release as slot-freed, lift, recut, widen-right, widen-left, shrink, close}
@@ -64,7 +64,7 @@ write-ok M m l p w es f st i j =
     close (wr (node c) v U) m l p es (set-node U m l p es nil c v (omega (arith, one-same c)) f)
     (stored-frame (λ n. over w M (node n)) (λ x. wr (node c) v U (node x)) l p (apart U c v (around l p) out) st) (sel-same c v (U (node c))) i j
 
-module _ (F : Why → Type 0) (M : Obj → Val) (m : Map) (a : Ans) where
+module _ (F : Terms) (M : Obj → Val) (m : Map) (a : Ans) where
   abbrev E : Ans → Writes → Type 0
   E = Ends M m a
 

@@ -10,7 +10,7 @@ use Rattle.plans.specs.Plan as P
 use Rattle.nodes.specs.Name.{name, server-of, slot-of}
 use Rattle.nodes.specs.Placement.{row}
 use Rattle.nodes.specs.Vector.{first-free}
-use Rattle.operations.specs.Object.{Obj, meta, node, flag, vector, fetched, Val, root, body, taken, flags, free, flags-of, not-free, no-slot, Writes}
+use Rattle.operations.specs.Object.{Obj, meta, node, flag, vector, fetched, Val, root, body, taken, flags, free, is-taken, flags-of, not-free, no-slot, Writes}
 use Rattle.operations.specs.Path.{Plan, see}
 
 -- a store's sizes: servers, and slots on each
@@ -24,12 +24,9 @@ Allowed sz = (sz .servers ≤ 8) × (sz .slots ≤ 1024)
 
 -- "own frees and takes counted": a vector of the server s with what the operation has written
 abbrev pub count-one : Obj → Val → ℕ → List Bool → List Bool
-count-one (flag n) (taken b) s fs = ifd (ℕ-discrete (server-of n) s) (set fs (slot-of n) b) fs
-count-one (flag n) (root r) s fs = fs
-count-one (flag n) (body k l ks vs) s fs = fs
-count-one (flag n) (flags gs) s fs = fs
 count-one meta v s fs = fs
 count-one (node n) v s fs = fs
+count-one (flag n) v s fs = ifd (ℕ-discrete (server-of n) s) (set fs (slot-of n) (is-taken v)) fs
 
 abbrev pub counted : Writes → ℕ → List Bool → List Bool
 counted [] s fs = fs
