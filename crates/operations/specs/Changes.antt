@@ -59,7 +59,7 @@ module _ (F : Terms) (sz : Sizes) (al : Allowed sz) (M : Obj → Val) (supply : 
       (up-ok F sz al M supply n a zero p [] fs (fill M p es fs m n (s .focus) c i e) (s .stored) near most)
 
   pub insert-ok : (v : ℕ) → Ok F (Ends M (put key v m) (fresh (look key m))) M (insert-plan sz key v)
-  insert-ok v = root-ok M m key F Q (λ fs n es. up sz (fresh (value-in key es)) zero fs [] n (with-pair key v es)) at R
+  insert-ok v = root-ok M m key F Q _ at R
     where
       Q : Ans → Writes → Type 0
       Q = Ends M (put key v m) (fresh (look key m))
@@ -76,7 +76,7 @@ module _ (F : Terms) (sz : Sizes) (al : Allowed sz) (M : Obj → Val) (supply : 
           (near-of zero p (length (put key v es)) (omega (arith, s .least, n))) (omega (arith, s .most, n))))
 
   pub delete-ok : Ok F (Ends M (del key m) (gone (look key m))) M (delete-plan sz key)
-  delete-ok = root-ok M m key F Q (λ fs n es. delete-at sz fs n es (index key es)) at R
+  delete-ok = root-ok M m key F Q _ at R
     where
       Q : Ans → Writes → Type 0
       Q = Ends M (del key m) (gone (look key m))

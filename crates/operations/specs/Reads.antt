@@ -22,7 +22,7 @@ module _ (F : Terms) (M : Obj → Val) (m : Map) (key : ℕ) (small : key < H) (
   N n = M (node n)
 
   pub lookup-ok : Ok F (Ends M m (said (look key m))) M (lookup-plan key)
-  lookup-ok = root-ok M m key F (Ends M m (said (look key m))) (λ fs n es. Rattle.plans.specs.Plan.done (said (value-in key es), [])) at R
+  lookup-ok = root-ok M m key F (Ends M m (said (look key m))) _ at R
     where
       at : (p : Path zero) (es : Entries) → Site M m key zero p es → Ends M m (said (look key m)) (said (value-in key es)) []
       at p es s = (
@@ -62,13 +62,7 @@ module _ (F : Terms) (M : Obj → Val) (m : Map) (key : ℕ) (small : key < H) (
         (tr (seek f t l) l b (s .1) y p (seek-ok t tr l) (e .segs) h c)
 
   module _ (T : Option ℕ) where
-    abbrev sameA : (a z : ℕ) (es : Entries) → Rising a z (keys es) → next-in key es ≡ above key es
-    sameA = above-is key
-
-    abbrev sameB : (a z : ℕ) (es : Entries) → Rising a z (keys es) → previous-in key es ≡ below key es
-    sameB = below-is key
-
-    right-visits : Visits (next-in key) (above key) sameA T rightward
+    right-visits : Visits (next-in key) (above key) (above-is key) T rightward
     right-visits v l b [] y p e c h k = k h
     right-visits v l b (s ∷ es) y p e c h k =
         e (s .0) (nxt es b) (s .1) (or-else (above key (gather (pairs (suc l)) es)) y) (rightward v (ren (word (suc l)) es) p) (c .0)
@@ -76,7 +70,7 @@ module _ (F : Terms) (M : Obj → Val) (m : Map) (key : ℕ) (small : key < H) (
         ∙ ap (λ z. or-else z y) (sym (above-app key (pairs (suc l) (s .0) (s .1)) (gather (pairs (suc l)) es))) ∙ h)
         (λ q. right-visits v l b es y p e (c .1) q k)
 
-    left-visits : Visits (previous-in key) (below key) sameB T leftward
+    left-visits : Visits (previous-in key) (below key) (below-is key) T leftward
     left-visits v l b [] y p e c h k = k h
     left-visits v l b (s ∷ es) y p e c h k =
         left-visits v l b es (or-else (below key (pairs (suc l) (s .0) (s .1))) y) (v (s .0) (word (suc l) (s .1)) p) e (c .1)
@@ -88,18 +82,18 @@ module _ (F : Terms) (M : Obj → Val) (m : Map) (key : ℕ) (small : key < H) (
     next-up-ok l (top r) c h = (ap said h, R)
     next-up-ok l (frame k n pre post p) c h =
         right-visits (seek (next-in key) rightward l) l (hi (suc l) p) post (above key (right (suc l) p)) (seek-up (next-in key) rightward (λ f. f .post) (suc l) (branches (suc l) p))
-        (seek-ok (next-in key) (above key) sameA T rightward right-visits l) (c .1) (sym (above-app key (gather (pairs (suc l)) post) (right (suc l) p)) ∙ h)
+        (seek-ok (next-in key) (above key) (above-is key) T rightward right-visits l) (c .1) (sym (above-app key (gather (pairs (suc l)) post) (right (suc l) p)) ∙ h)
         (λ q. next-up-ok (suc l) p (c .4) q)
 
     previous-up-ok : (l : ℕ) (p : Path l) → Ctx N l p → below key (left l p) ≡ T → Ok F (Ends M m (said T)) M (seek-up (previous-in key) leftward (λ f. f .pre) l (branches l p))
     previous-up-ok l (top r) c h = (ap said h, R)
     previous-up-ok l (frame k n pre post p) c h =
         left-visits (seek (previous-in key) leftward l) l k pre (below key (left (suc l) p)) (seek-up (previous-in key) leftward (λ f. f .pre) (suc l) (branches (suc l) p))
-        (seek-ok (previous-in key) (below key) sameB T leftward left-visits l) (c .0) (sym (below-app key (left (suc l) p) (gather (pairs (suc l)) pre)) ∙ h)
+        (seek-ok (previous-in key) (below key) (below-is key) T leftward left-visits l) (c .0) (sym (below-app key (left (suc l) p) (gather (pairs (suc l)) pre)) ∙ h)
         (λ q. previous-up-ok (suc l) p (c .4) q)
 
   pub next-ok : Ok F (Ends M m (said (above key m))) M (next-plan key)
-  next-ok = root-ok M m key F (Ends M m (said T)) (λ fs n es. told (next-in key es) (seek-up (next-in key) rightward (λ f. f .post) zero fs)) at R
+  next-ok = root-ok M m key F (Ends M m (said T)) _ at R
     where
       T : Option ℕ
       T = above key m
@@ -115,7 +109,7 @@ module _ (F : Terms) (M : Obj → Val) (m : Map) (key : ℕ) (small : key < H) (
           (λ q. next-up-ok T zero p (s .focus .ctx) q)
 
   pub previous-ok : Ok F (Ends M m (said (below key m))) M (previous-plan key)
-  previous-ok = root-ok M m key F (Ends M m (said T)) (λ fs n es. told (previous-in key es) (seek-up (previous-in key) leftward (λ f. f .pre) zero fs)) at R
+  previous-ok = root-ok M m key F (Ends M m (said T)) _ at R
     where
       T : Option ℕ
       T = below key m
