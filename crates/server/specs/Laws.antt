@@ -9,11 +9,11 @@ use borrow.Author.Tests.{eq-eqb, ne-eqb}
 use lib.Dec.{eqb}
 use lib.ListN.{getD, set}
 use Rattle.base.specs.Update.{upd, upd-same, upd-other}
-use Rattle.memory.specs.Bit.{putBit}
-use Rattle.layout.specs.Space.{Put, put, puts, tab, tab-eq, tab-upd, getD-tab, decide, upd-apart, changed, Only, changed-only, only-puts, tab-puts-same, tab-puts-other, at, AllValid, valid-run}
+use Rattle.memory.specs.Bit.{putBit, bit, digit}
+use Rattle.layout.specs.Space.{Put, put, puts, tab, tab-eq, tab-upd, getD-tab, decide, upd-apart, changed, Only, changed-only, only-puts, tab-puts-same, tab-puts-other, at, AllValid, valid-run, length-tab}
 use Rattle.layout.specs.Step.{valid-append}
 use Rattle.nodes.specs.Name.{server-of, slot-of}
-use Rattle.nodes.specs.Flags.{with-flag}
+use Rattle.nodes.specs.Flags.{with-flag, all-flags}
 use Rattle.nodes.specs.Stored.{node-of, words-of}
 use Rattle.nodes.specs.StoredLaws.{Sized, length-words, node-words}
 use Rattle.nodes.specs.declared.name.Name.{Name}
@@ -22,6 +22,8 @@ use Rattle.server.specs.declared.object.Object.{Object}
 use Rattle.server.specs.declared.object.Object.the-variants as object
 use Rattle.server.specs.declared.place.Place.{Place}
 use Rattle.server.specs.declared.place.Place.the-variants.{Root, Version, MetadataLock, Vector, Node, FlagLock, Table, NodeLock}
+use Rattle.nodes.specs.Bits.{flag-read}
+use Rattle.server.specs.Check.{standing, mark-in, mark-place}
 use Rattle.server.specs.Layout.{places, code, block, node-run, root-valid, version-valid, vector-valid}
 use Rattle.server.specs.Object.{lock-of, Has}
 use Rattle.server.specs.Lock.{locked, unlocked}
@@ -208,3 +210,17 @@ module _ (n : ℕ) (m : Place → ℕ) where
   unfolding node-step
   node-inside s x y v b h ok =
       valid-append places (block n) (home-step s x (kept-of y v) m) (table-step x v b m) (home-inside s x (kept-of y v) h ok) (table-inside x v b ok)
+
+-- ---- the marks of a check are what is handed out
+module _ (m : Place → ℕ) (x : Name) where
+  pub own-version : standing (object.Node x) false m ≡ node-here (slot-of (x .number)) m .version
+  unfolding standing mark-in mark-place node-here node-of
+  own-version = sym (getD-tab 33 (λ j. m (Node (slot-of (x .number)) j)) 2 (omega arith))
+
+  pub own-flag : (inner : Bool) → standing (object.Flag x) inner m ≡ digit (getD (all-flags (vector-at m)) (slot-of (x .number)) false)
+  unfolding standing mark-in mark-place vector-at
+  own-flag inner =
+      let k = slot-of (x .number) in
+      let ws = tab 16 (λ i. m (Vector i)) in
+      let e : m (Vector (k / 64)) ≡ getD ws (k / 64) 0 = sym (getD-tab 16 (λ i. m (Vector i)) (k / 64) (omega arith)) in
+      ap digit (flag-read ws k (bit (m (Vector (k / 64))) (k % 64)) (length-tab 16 (λ i. m (Vector i))) (omega arith) (ap (λ (w : ℕ). bit w (k % 64)) e))
