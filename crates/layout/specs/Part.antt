@@ -87,6 +87,15 @@ module _ {A B : Type 0} (C : Coding A) (b : Block) (D : Coding B) (d : Block) (e
         from-stored (g (mem C b (drop k w))) w h
         ∙ ap (λ (m : A → ℕ). stored D d w (over e (g m))) (part-mem w)
 
+    -- and leaves in the whole what it leaves in the part
+    pub part-after : (w : List ℕ) → k ≤ length w → (λ a. mem D d (stepped D d (inPart e g) w) (e a)) ≡ mem C b (stepped C b g (drop k w))
+    unfolding from
+    part-after w h =
+        let t : length (take k w) ≡ k = length-take-le k w h in
+        ap (λ (u : List ℕ). (λ (a : A). mem D d u (e a))) (sym (from-stepped w h))
+        ∙ sym (part-mem (from k (stepped C b g) w))
+        ∙ ap (mem C b) (drop-at (take k w) (stepped C b g (drop k w)) k t)
+
     pub part-does : (w : List ℕ) (r : R) (p′ w′ : List ℕ) → k ≤ length w → Does C b g ans (drop k w) r p′ → w′ ≡ from k (stepped C b g) w
         → Does D d (inPart e g) (ofPart e ans) w r w′
     unfolding ofPart

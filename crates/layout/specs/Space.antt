@@ -12,7 +12,7 @@ use lib.ListN.{length, getD, take, drop, set, length-set, replicate, length-repl
 use lib.Seq.{sets, sets-eq, getD-set-same, getD-set-other, drop-cons, ext-getD}
 use Rattle.base.specs.Test.{ifd, ifd-yes, ifd-no, and-both, not-both}
 use Rattle.base.specs.Update.{upd, upd-same, upd-other}
-use Rattle.layout.specs.Block.{Block, size, In, decIn, offset, below, apart}
+use Rattle.layout.specs.Block.{Block, size, In, decIn, offset, below, apart, locate, located}
 
 -- are two places the same; where the numbers of two families differ, this computes
 abbrev pub same : List ℕ → List ℕ → Bool
@@ -255,6 +255,40 @@ module _ {A : Type 0} (C : Coding A) where
             ∙ ap (λ (u : List ℕ). getD u (at a) 0) (sets-eq zeros w 0 (omega (arith, whole)))
             ∙ List·getD-append zeros (drop (0 + length zeros) w) 0 (at a) (omega (arith, whole, at-below a h))
             ∙ getD-replicate (size b) (at a) 0 0 (at-below a h)
+
+    -- ---- all words of the block, where every place is one of an address
+    abbrev pub Onto : Type 0
+    Onto = (p : List ℕ) → In b p → C .code (C .back p) ≡ p
+
+    -- the address at word i
+    unfoldable pub nth : ℕ → A
+    nth i = C .back (locate b i)
+
+    pub nth-run : Onto → Run nth 0 (size b)
+    unfolding at Valid nth
+    nth-run onto =
+        record {
+          good = λ i l. let r = located b i l in subst (In b) (sym (onto (locate b i) (r .0))) (r .0);
+          spot = λ i l. let r = located b i l in ap (offset b) (onto (locate b i) (r .0)) ∙ r .1 ∙ omega arith;
+        }
+
+    -- zeros everywhere, as stores
+    unfoldable pub clear : List (Put A)
+    clear = puts nth (replicate (size b) 0)
+
+    zeros-run : Onto → Run nth 0 (length {A = ℕ} (replicate (size b) 0))
+    zeros-run onto = rw (length-replicate {A = ℕ} (size b) 0) (nth-run onto)
+
+    pub stored-clear : Onto → (w : List ℕ) → stored w clear ≡ sets w 0 (replicate (size b) 0)
+    unfolding clear
+    stored-clear onto w = stored-run (replicate (size b) 0) w nth 0 (zeros-run onto)
+
+    pub clear-valid : Onto → AllValid clear
+    unfolding clear
+    clear-valid onto = valid-run (replicate (size b) 0) nth 0 (zeros-run onto)
+
+    pub mem-clear : Onto → (w : List ℕ) → size b ≤ length w → mem (stored w clear) ≡ (λ a. 0)
+    mem-clear onto w r = ap mem (stored-clear onto w) ∙ mem-zeros w r
 
   -- the record that was stored is the record read
   pub tab-puts-same : (n : ℕ) (vs : List ℕ) (m : A → ℕ) (f : ℕ → A) → length vs ≡ n → ((i j : ℕ) → f i ≡ f j → i ≡ j)

@@ -3,11 +3,11 @@
 -- version and the lock of that server's node with this slot number.
 use mathlib.Core.Path.{_≡_, refl}
 use mathlib.Core.List.{List, [], _∷_}
-use Prim.Native.Nat.{ℕ, _+_, _/_, _≤_, _<_}
+use Prim.Native.Nat.{ℕ, zero, suc, _+_, _/_, _≤_, _<_}
 use native.Mathlib.Omega.{arith}
 use lib.ListN.{getD}
 use Rattle.layout.specs.Block.{Block, words, times, next, end, size, In, offset}
-use Rattle.layout.specs.Space.{Coding, Put, put, at, Valid, Run}
+use Rattle.layout.specs.Space.{Coding, Put, put, at, Valid, Run, Onto}
 use Rattle.server.specs.declared.place.Place.{Place}
 use Rattle.server.specs.declared.place.Place.the-variants.{Root, Version, MetadataLock, Vector, Node, FlagLock, Table, NodeLock}
 
@@ -51,6 +51,49 @@ again (NodeLock s k) = refl
 
 abbrev pub places : Coding Place
 places = record { code = code; back = back; again = again }
+
+-- and every place of the block is a place of the part
+metadata-onto : (q : List ℕ) → In (words 3) q → code (back (0 ∷ q)) ≡ 0 ∷ q
+unfolding In
+metadata-onto [] h = absurd h
+metadata-onto (zero ∷ []) h = refl
+metadata-onto (suc zero ∷ []) h = refl
+metadata-onto (suc (suc zero) ∷ []) h = refl
+metadata-onto (suc (suc (suc i)) ∷ []) h = absurd (omega arith)
+metadata-onto (zero ∷ j ∷ q) h = absurd h
+metadata-onto (suc zero ∷ j ∷ q) h = absurd h
+metadata-onto (suc (suc zero) ∷ j ∷ q) h = absurd h
+metadata-onto (suc (suc (suc i)) ∷ j ∷ q) h = absurd h
+
+row-onto : (k : ℕ) (r : List ℕ) → In row r → code (back (2 ∷ k ∷ r)) ≡ 2 ∷ k ∷ r
+unfolding In
+row-onto k [] h = absurd h
+row-onto k (zero ∷ []) h = absurd h
+row-onto k (zero ∷ j ∷ []) h = refl
+row-onto k (zero ∷ j ∷ i ∷ q) h = absurd h
+row-onto k (suc zero ∷ []) h = absurd h
+row-onto k (suc zero ∷ zero ∷ []) h = refl
+row-onto k (suc zero ∷ suc j ∷ []) h = absurd (omega arith)
+row-onto k (suc zero ∷ zero ∷ i ∷ q) h = absurd h
+row-onto k (suc zero ∷ suc j ∷ i ∷ q) h = absurd h
+row-onto k (suc (suc zero) ∷ []) h = absurd h
+row-onto k (suc (suc zero) ∷ j ∷ []) h = refl
+row-onto k (suc (suc zero) ∷ j ∷ i ∷ q) h = absurd h
+row-onto k (suc (suc (suc zero)) ∷ []) h = absurd h
+row-onto k (suc (suc (suc zero)) ∷ j ∷ []) h = refl
+row-onto k (suc (suc (suc zero)) ∷ j ∷ i ∷ q) h = absurd h
+row-onto k (suc (suc (suc (suc f))) ∷ q) h = absurd h
+
+pub places-onto : (n : ℕ) → Onto places (block n)
+unfolding In
+places-onto n [] h = absurd h
+places-onto n (zero ∷ q) h = metadata-onto q h
+places-onto n (suc zero ∷ []) h = absurd h
+places-onto n (suc zero ∷ i ∷ []) h = refl
+places-onto n (suc zero ∷ i ∷ j ∷ q) h = absurd h
+places-onto n (suc (suc zero) ∷ []) h = absurd h
+places-onto n (suc (suc zero) ∷ k ∷ r) h = row-onto k r (h .1)
+places-onto n (suc (suc (suc f)) ∷ q) h = absurd h
 
 -- how many words a server's part has
 unfoldable pub partWords : ℕ → ℕ
