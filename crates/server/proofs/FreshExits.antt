@@ -1,5 +1,5 @@
 -- Ways out of the code for opening: from the facts at hand there to what the contract says.
-use mathlib.Core.Path.{_≡_, sym, _∙_}
+use mathlib.Core.Path.{_≡_, refl, sym, ap, _∙_}
 use mathlib.Core.List.{List}
 use Prim.Native.Nat.{ℕ, _<_}
 use native.Mathlib.Omega.{arith}
@@ -7,21 +7,35 @@ use borrow.Author.Tests.{eq-eqb, ne-eqb}
 use lib.ListN.{replicate}
 use lib.Seq.{sets}
 use Rattle.layout.specs.Block.{In}
-use Rattle.layout.specs.Space.{Valid, stored}
-use Rattle.layout.specs.Step.{Does, silent, stepped}
+use Rattle.layout.specs.Space.{Valid, stored, clear, stored-clear}
+use Rattle.layout.specs.Step.{Does, silent, stepped, stored-append}
 use Rattle.server.specs.declared.place.Place.the-variants.{Vector, Node}
 use Rattle.server.specs.Layout.{places, block, partWords, putStep}
-use Rattle.server.specs.Fresh.{first-leaf, opened}
+use Rattle.server.specs.LayoutLaws.{places-onto}
+use Rattle.server.specs.Fresh.{first-leaf, open-step}
 
 module _ (s n k : ℕ) (w u : List ℕ) (l : k ≡ partWords n) (q : u ≡ sets w 0 (replicate k 0)) where
-  pub opened-first : (v w′ : List ℕ) → s ≡ 0 → Does places (block n) (putStep (Node 0 0) 1) silent u 0 v
-      → Does places (block n) (putStep (Vector 0) 1) silent v 0 w′ → w′ ≡ opened s n w
-  unfolding opened first-leaf stepped stored putStep
-  opened-first v w′ e p r = r .words ∙ rw (p .words, q, l) (sym (rw (eq-eqb s 0 e)))
+  cleared : u ≡ stored places (block n) w (clear places (block n))
+  unfolding partWords
+  cleared = q ∙ rw l (sym (stored-clear places (block n) (places-onto n) w))
 
-  pub opened-other : ¬ (s ≡ 0) → u ≡ opened s n w
-  unfolding opened first-leaf stored
-  opened-other e = q ∙ rw l (sym (rw (ne-eqb s 0 e)))
+  opens : (w′ : List ℕ) → w′ ≡ stored places (block n) u (first-leaf s) → Does places (block n) (open-step s n) silent w 0 w′
+  unfolding stepped open-step
+  opens w′ e =
+      record {
+        answer = refl;
+        words = e ∙ ap (λ (v : List ℕ). stored places (block n) v (first-leaf s)) cleared
+            ∙ sym (stored-append places (block n) (clear places (block n)) (first-leaf s) w);
+      }
+
+  pub opened-first : (v w′ : List ℕ) → s ≡ 0 → Does places (block n) (putStep (Node 0 0) 1) silent u 0 v
+      → Does places (block n) (putStep (Vector 0) 1) silent v 0 w′ → Does places (block n) (open-step s n) silent w 0 w′
+  unfolding first-leaf stepped stored putStep
+  opened-first v w′ e p r = opens w′ (r .words ∙ rw (p .words) (sym (rw (eq-eqb s 0 e))))
+
+  pub opened-other : ¬ (s ≡ 0) → Does places (block n) (open-step s n) silent w 0 u
+  unfolding first-leaf stored
+  opened-other e = opens u (sym (rw (ne-eqb s 0 e)))
 
 pub first-node-valid : (n : ℕ) → 0 < n → Valid places (block n) (Node 0 0)
 unfolding Valid In

@@ -15,7 +15,8 @@ use Rattle.nodes.specs.declared.node.Node as node
 use Rattle.server.specs.declared.place.Place.{Place}
 use Rattle.server.specs.declared.place.Place.the-variants.{Root, Version, Vector, Node}
 use Rattle.server.specs.Range.{in-store}
-use Rattle.server.specs.Layout.{places, block, partWords, Lies, node-run, node-room, node-valid, root-valid, version-valid}
+use Rattle.server.specs.Layout.{places, block, partWords, Lies}
+use Rattle.server.specs.LayoutLaws.{node-run, node-room, node-valid, root-valid, version-valid}
 use Rattle.server.specs.HandOut.{metadata-at, metadata-sound, vector-at, node-here}
 
 module _ (m : Place → ℕ) where

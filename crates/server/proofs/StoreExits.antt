@@ -19,7 +19,8 @@ use Rattle.server.specs.declared.object.Object.{Object}
 use Rattle.server.specs.declared.object.Object.the-variants as object
 use Rattle.server.specs.declared.place.Place.{Place}
 use Rattle.server.specs.declared.place.Place.the-variants.{Root, Version, Vector, Table, Node}
-use Rattle.server.specs.Layout.{places, block, partWords, putStep, Lies, node-run, node-room, node-valid, root-valid, version-valid, vector-valid}
+use Rattle.server.specs.Layout.{places, block, partWords, putStep, Lies}
+use Rattle.server.specs.LayoutLaws.{node-run, node-room, node-valid, root-valid, version-valid, vector-valid}
 use Rattle.server.specs.Object.{lock-of, Has}
 use Rattle.server.proofs.ObjectExits.{lock-valid}
 use Rattle.server.specs.Lock.{locked, unlocked}

@@ -1,19 +1,20 @@
 -- A newly opened server: "A new store has the root, an empty leaf, in node 0; all versions are 0."
 use mathlib.Core.Path.{_≡_, refl, ap, _∙_}
 use mathlib.Core.Bool.{Bool, true, false, cond}
-use mathlib.Core.List.{List, [], _∷_}
+use mathlib.Core.List.{List, [], _∷_, _++_}
 use Prim.Native.Nat.{ℕ, _≤_, _<_}
 use native.Mathlib.Omega.{arith}
 use lib.Dec.{eqb}
 use native.Mathlib.Decide.{ℕ-discrete}
 use borrow.Author.Tests.{ne-eqb}
 use lib.ListN.{length, replicate, getD, set}
-use lib.Seq.{sets, length-sets}
-use Rattle.layout.specs.Block.{size, In}
-use Rattle.layout.specs.Space.{Put, put, Valid, AllValid, mem, changed, stored, mem-zeros, mem-stored, tab, tab-eq, tab-upd, decide, upd-apart}
+use Rattle.layout.specs.Block.{In}
+use Rattle.layout.specs.Space.{Put, put, Valid, AllValid, mem, changed, stored, mem-stored, length-stored, clear, clear-valid, mem-clear, tab, tab-eq, tab-upd, decide, upd-apart}
+use Rattle.layout.specs.Step.{stepped, stored-append, valid-append}
 use Rattle.server.specs.declared.place.Place.{Place}
 use Rattle.server.specs.declared.place.Place.the-variants.{Vector, Node}
 use Rattle.server.specs.Layout.{places, block, partWords, code}
+use Rattle.server.specs.LayoutLaws.{places-onto}
 use Rattle.server.specs.HandOut.{vector-at, node-here}
 use Rattle.nodes.specs.Node.{made}
 use Rattle.nodes.specs.Lists.{pad}
@@ -24,9 +25,9 @@ use Rattle.base.specs.Update.{upd, upd-other}
 unfoldable pub first-leaf : ℕ → List (Put Place)
 first-leaf s = cond (eqb s 0) (put (Node 0 0) 1 ∷ put (Vector 0) 1 ∷ []) []
 
--- the words after opening server s: zeros in its part, and then the first leaf
-unfoldable pub opened : ℕ → ℕ → List ℕ → List ℕ
-opened s n w = stored places (block n) (sets w 0 (replicate (partWords n) 0)) (first-leaf s)
+-- opening server s: zeros at every place of its part, and then the first leaf
+unfoldable pub open-step : ℕ → ℕ → (Place → ℕ) → List (Put Place)
+open-step s n m = clear places (block n) ++ first-leaf s
 
 -- what stands at the places of a newly opened server
 unfoldable pub fresh : ℕ → Place → ℕ
@@ -38,11 +39,17 @@ unfolding AllValid Valid In
 first-valid n h true = ((h, omega arith), (omega arith, tt))
 first-valid n h false = tt
 
-pub mem-opened : (s n : ℕ) (w : List ℕ) → 0 < n → partWords n ≤ length w → mem places (block n) (opened s n w) ≡ fresh s
-unfolding opened fresh first-leaf partWords
+pub open-inside : (s n : ℕ) (m : Place → ℕ) → 0 < n → AllValid places (block n) (open-step s n m)
+unfolding open-step first-leaf
+open-inside s n m h =
+    valid-append places (block n) (clear places (block n)) (first-leaf s) (clear-valid places (block n) (places-onto n)) (first-valid n h (eqb s 0))
+
+pub mem-opened : (s n : ℕ) (w : List ℕ) → 0 < n → partWords n ≤ length w → mem places (block n) (stepped places (block n) (open-step s n) w) ≡ fresh s
+unfolding stepped open-step fresh first-leaf partWords
 mem-opened s n w h l =
-    mem-stored places (block n) (first-leaf s) (sets w 0 (replicate (size (block n)) 0)) (rw length-sets l) (first-valid n h (eqb s 0))
-    ∙ ap (λ (m : Place → ℕ). changed places m (first-leaf s)) (mem-zeros places (block n) w l)
+    ap (mem places (block n)) (stored-append places (block n) (clear places (block n)) (first-leaf s) w)
+    ∙ mem-stored places (block n) (first-leaf s) (stored places (block n) w (clear places (block n))) (rw length-stored l) (first-valid n h (eqb s 0))
+    ∙ ap (λ (m : Place → ℕ). changed places m (first-leaf s)) (mem-clear places (block n) (places-onto n) w l)
 
 -- ---- the same, as it is handed out
 pub fresh-other : (s : ℕ) (a : Place) → ¬ (s ≡ 0) → fresh s a ≡ 0

@@ -24,7 +24,8 @@ use Rattle.server.specs.declared.place.Place.{Place}
 use Rattle.server.specs.declared.place.Place.the-variants.{Root, Version, MetadataLock, Vector, Node, FlagLock, Table, NodeLock}
 use Rattle.nodes.specs.Bits.{flag-read}
 use Rattle.server.specs.Check.{standing, mark-in, mark-place}
-use Rattle.server.specs.Layout.{places, code, block, node-run, root-valid, version-valid, vector-valid}
+use Rattle.server.specs.Layout.{places, code, block}
+use Rattle.server.specs.LayoutLaws.{node-run, root-valid, version-valid, vector-valid}
 use Rattle.server.specs.Object.{lock-of, Has}
 use Rattle.server.specs.Lock.{locked, unlocked}
 use Rattle.server.specs.Store.{lock-step, unlock-step, metadata-step, flag-step, home-step, table-step, kept-of, node-step, slot-there, table-there}

@@ -1,6 +1,7 @@
 -- One server's part of the memory, in reading order.
 -- its layout
 pub mod Layout
+pub mod LayoutLaws
 -- objects, their numbers, the places of their locks
 pub mod Object
 -- the words of locks, and what they say of each client
