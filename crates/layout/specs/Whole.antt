@@ -1,12 +1,15 @@
 -- The whole memory: a head, the servers' parts, the clients' parts. What the parts are is left open.
-use mathlib.Core.Path.{_≡_, refl, ap}
+use mathlib.Core.Path.{_≡_, refl, ap, _∙_}
 use mathlib.Core.List.{List, [], _∷_}
-use Prim.Native.Nat.{ℕ, _+_, _*_, _≤_, _<_}
+use Prim.Native.Nat.{ℕ, _+_, _-_, _*_, _/_, _≤_, _<_}
 use native.Mathlib.Omega.{arith}
-use lib.ListN.{getD, drop}
+use lib.ListN.{length, getD, drop}
+use borrow.Rule.Slice.PartMut.{putMid, midOf}
+use Rattle.memory.specs.Word.{view}
 use Rattle.layout.specs.Block.{Block, words, times, next, end, size, In, offset, row-fits}
-use Rattle.layout.specs.Space.{Coding, at, Valid}
-use Rattle.layout.specs.Part.{Part}
+use Rattle.layout.specs.Space.{Coding, Put, at, Valid, mem}
+use Rattle.layout.specs.Part.{Part, inPart, ofPart, back-does, lent-mem}
+use Rattle.layout.specs.Step.{Does}
 
 -- an address: a word of the head, or an address of a server's or of a client's part
 pub data Whole (S K : Type 0) : Type 0 where
@@ -58,3 +61,25 @@ module _ {S K : Type 0} (C : Coding S) (D : Coding K) where
           spot = λ a. omega arith;
           room = omega (arith, row-fits c m (size d) l);
         }
+
+    -- ---- a part lent from its first word k on: `&mut all[8 * k..]` came back as t, `&all[8 * k..]` was read
+    module _ {R : Type 0} (k : ℕ) (all : List ℕ) (r : R) (l : size whole-block ≤ length all / 8) where
+      pub server-back : (s : ℕ) (g : (S → ℕ) → List (Put S)) (ans : (S → ℕ) → R) (t : List ℕ) → s < n → k ≡ h + s * size b
+          → Does C b g ans (view (midOf (8 * k) (length all - 8 * k) all)) r (view t)
+          → Does whole whole-block (inPart (server s) g) (ofPart (server s) ans) (view all) r (view (putMid (8 * k) (length all - 8 * k) all t))
+      server-back s g ans t i e did = back-does C b whole whole-block (server s) k (rw e (server-part s i)) g ans all t r l did
+
+      pub client-back : (c : ℕ) (g : (K → ℕ) → List (Put K)) (ans : (K → ℕ) → R) (t : List ℕ) → c < m → k ≡ h + n * size b + c * size d
+          → Does D d g ans (view (midOf (8 * k) (length all - 8 * k) all)) r (view t)
+          → Does whole whole-block (inPart (client c) g) (ofPart (client c) ans) (view all) r (view (putMid (8 * k) (length all - 8 * k) all t))
+      client-back c g ans t i e did = back-does D d whole whole-block (client c) k (rw e (client-part c i)) g ans all t r l did
+
+      pub server-lent : (s : ℕ) (ans : (S → ℕ) → R) → s < n → k ≡ h + s * size b
+          → r ≡ ans (mem C b (view (midOf (8 * k) (length all - 8 * k) all))) → r ≡ ofPart (server s) ans (mem whole whole-block (view all))
+      unfolding ofPart
+      server-lent s ans i e q = q ∙ ap ans (lent-mem C b whole whole-block (server s) k (rw e (server-part s i)) all l)
+
+      pub client-lent : (c : ℕ) (ans : (K → ℕ) → R) → c < m → k ≡ h + n * size b + c * size d
+          → r ≡ ans (mem D d (view (midOf (8 * k) (length all - 8 * k) all))) → r ≡ ofPart (client c) ans (mem whole whole-block (view all))
+      unfolding ofPart
+      client-lent c ans i e q = q ∙ ap ans (lent-mem D d whole whole-block (client c) k (rw e (client-part c i)) all l)
