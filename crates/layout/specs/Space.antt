@@ -25,7 +25,7 @@ same-self : (p : List ℕ) → same p p ≡ true
 same-self [] = refl
 same-self (i ∷ p) = rw (eq-eqb i i refl) (same-self p)
 
-same-is : (p q : List ℕ) → same p q ≡ true → p ≡ q
+pub same-is : (p q : List ℕ) → same p q ≡ true → p ≡ q
 same-is [] [] e = refl
 same-is [] (j ∷ q) e = absurd (true≢false (sym e))
 same-is (i ∷ p) [] e = absurd (true≢false (sym e))
@@ -76,10 +76,11 @@ module _ {A : Type 0} (C : Coding A) where
   pub code-inj : (a x : A) → C .code a ≡ C .code x → a ≡ x
   code-inj a x e = sym (C .again a) ∙ ap (C .back) e ∙ C .again x
 
-  differ : (a x : A) → same (C .code a) (C .code x) ≡ false → ¬ (a ≡ x)
+  pub differ : (a x : A) → same (C .code a) (C .code x) ≡ false → ¬ (a ≡ x)
   differ a x e s = not-both (same-self (C .code a)) (ap (λ (y : A). same (C .code a) (C .code y)) s ∙ e)
 
-  pub decide : Discrete A
+  -- it computes where the places do: closed examples are decided by `refl`
+  unfoldable pub decide : Discrete A
   decide a x = go (same (C .code a) (C .code x)) refl
     where
       go : (t : Bool) → same (C .code a) (C .code x) ≡ t → Dec (a ≡ x)

@@ -1,18 +1,16 @@
 -- Ways out of the code for opening: from the facts at hand there to what the contract says.
 use mathlib.Core.Path.{_≡_, refl, sym, ap, _∙_}
 use mathlib.Core.List.{List}
-use Prim.Native.Nat.{ℕ, _<_}
-use native.Mathlib.Omega.{arith}
+use Prim.Native.Nat.{ℕ}
 use borrow.Author.Tests.{eq-eqb, ne-eqb}
 use lib.ListN.{replicate}
 use lib.Seq.{sets}
-use Rattle.layout.specs.Block.{In}
-use Rattle.layout.specs.Space.{Valid, stored, clear, stored-clear}
+use Rattle.layout.specs.Space.{stored, clear, stored-clear}
 use Rattle.layout.specs.Step.{Does, silent, stepped, stored-append}
 use Rattle.server.specs.declared.place.Place.the-variants.{Vector, Node}
 use Rattle.server.specs.Layout.{places, block, partWords, putStep}
 use Rattle.server.specs.LayoutLaws.{places-onto}
-use Rattle.server.specs.Fresh.{first-leaf, open-step}
+use Rattle.server.specs.Fresh.{first-leaf, open-step, first-node-valid, first-flag-valid}
 
 module _ (s n k : ℕ) (w u : List ℕ) (l : k ≡ partWords n) (q : u ≡ sets w 0 (replicate k 0)) where
   cleared : u ≡ stored places (block n) w (clear places (block n))
@@ -36,13 +34,5 @@ module _ (s n k : ℕ) (w u : List ℕ) (l : k ≡ partWords n) (q : u ≡ sets 
   pub opened-other : ¬ (s ≡ 0) → Does places (block n) (open-step s n) silent w 0 u
   unfolding first-leaf stored
   opened-other e = opens u (sym (rw (ne-eqb s 0 e)))
-
-pub first-node-valid : (n : ℕ) → 0 < n → Valid places (block n) (Node 0 0)
-unfolding Valid In
-first-node-valid n h = (h, omega arith)
-
-pub first-flag-valid : (n : ℕ) → Valid places (block n) (Vector 0)
-unfolding Valid In
-first-flag-valid n = omega arith
 
 pub ruleset fresh-exits = (opened-first, opened-other, first-node-valid, first-flag-valid)

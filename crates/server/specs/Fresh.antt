@@ -33,10 +33,22 @@ open-step s n m = clear places (block n) ++ first-leaf s
 unfoldable pub fresh : ℕ → Place → ℕ
 fresh s = changed places (λ a. 0) (first-leaf s)
 
+pub fresh-sample : (fresh 0 (Node 0 0) ≡ 1) × (fresh 0 (Vector 0) ≡ 1) × (fresh 0 (Node 1 0) ≡ 0) × (fresh 1 (Node 0 0) ≡ 0)
+unfolding fresh first-leaf changed upd decide
+fresh-sample = (refl, refl, refl, refl)
+
 -- the words after opening hold that
+pub first-node-valid : (n : ℕ) → 0 < n → Valid places (block n) (Node 0 0)
+unfolding Valid In
+first-node-valid n h = (h, omega arith)
+
+pub first-flag-valid : (n : ℕ) → Valid places (block n) (Vector 0)
+unfolding Valid In
+first-flag-valid n = omega arith
+
 first-valid : (n : ℕ) → 0 < n → (b : Bool) → AllValid places (block n) (cond b (put (Node 0 0) 1 ∷ put (Vector 0) 1 ∷ []) [])
 unfolding AllValid Valid In
-first-valid n h true = ((h, omega arith), (omega arith, tt))
+first-valid n h true = (first-node-valid n h, (first-flag-valid n, tt))
 first-valid n h false = tt
 
 pub open-inside : (s n : ℕ) (m : Place → ℕ) → 0 < n → AllValid places (block n) (open-step s n m)
