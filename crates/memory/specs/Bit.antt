@@ -1,6 +1,6 @@
 -- The bits of a word, as a set of numbers: bit i is set where i is in the set.
-use mathlib.Core.Path.{_≡_, refl, ap, _∙_}
-use mathlib.Core.Bool.{Bool, true, false}
+use mathlib.Core.Path.{_≡_, refl, ap, _∙_, sym}
+use mathlib.Core.Bool.{Bool, true, false, true≢false}
 use Prim.Native.Nat.{ℕ, zero, suc, _+_, _-_, _*_, _/_, _%_, _^_, _≤_, _<_}
 use native.Mathlib.Nat.{pow-suc, div-one}
 use native.Mathlib.Omega.{arith}
@@ -125,3 +125,14 @@ pub zero-bit : (i : ℕ) → bit 0 i ≡ false
 unfolding bit
 zero-bit zero = refl
 zero-bit (suc i) = zero-bit i
+
+-- a word of n bits has no others
+pub bit-below : (n w i : ℕ) → w < 2 ^ n → bit w i ≡ true → i < n
+unfolding bit
+bit-below zero w i l h =
+    let z : w ≡ 0 = omega arith in
+    absurd (true≢false (sym h ∙ ap (λ (x : ℕ). bit x i) z ∙ zero-bit i))
+bit-below (suc n) w zero l h = omega arith
+bit-below (suc n) w (suc i) l h =
+    let p : w < 2 ^ n * 2 = rw pow-suc at l in
+    omega (arith, bit-below n (w / 2) i (omega arith) h)

@@ -1,15 +1,17 @@
 -- What a lock's word says of each client, and that locking and unlocking change one client's part of it alone.
 use mathlib.Core.Path.{_≡_, refl, sym, _∙_}
 use mathlib.Core.Bool.{Bool, true, false, _&&_, not}
-use Prim.Native.Nat.{ℕ, _+_, _≤_, _<_}
+use Prim.Native.Nat.{ℕ, _+_, _≤_, _<_, _^_}
 use native.Mathlib.Omega.{arith}
 use native.Mathlib.Decide.{decLt, ℕ-discrete}
-use borrow.Author.Tests.{eq-eqb, ne-eqb, lt-ltb, le-ltb, eqb-true, not-false}
+use borrow.Author.Tests.{eq-eqb, ne-eqb, lt-ltb, le-ltb, eqb-true, not-false, ltb-true}
 use lib.Dec.{eqb, ltb}
-use Rattle.memory.specs.Bit.{bit, putBit, bit-put-same, bit-put-other, put-lt, zero-bit}
+use lib.Pow.{pow-mono, pow-pos}
+use Rattle.base.specs.Test.{not-both}
+use Rattle.memory.specs.Bit.{bit, putBit, bit-put-same, bit-put-other, put-lt, zero-bit, bit-below}
 use Rattle.server.specs.declared.lock.Use.{Use}
 use Rattle.server.specs.declared.lock.Use.the-variants.{Write}
-use Rattle.server.specs.Lock.{busy, locked, unlocked}
+use Rattle.server.specs.Lock.{busy, locked, unlocked, in-range}
 
 -- does client c read, does it write
 unfoldable pub reads : ℕ → ℕ → Bool
@@ -137,3 +139,66 @@ module _ (c w : ℕ) (l : c < 16) where
       go (set h) = rw (of-set h) (writes-none d (putBit false w c) (still-set false c w l h) ∙ sym (writes-none d w h))
       go (mine e) = rw (of-mine e) (writes-none d 0 (omega arith) ∙ sym (writes-other c d w e n))
       go (other h k) = rw (of-other h k)
+
+-- a free lock is in range
+pub free-range : (n : ℕ) → in-range n 0 ≡ true
+unfolding in-range
+free-range n = lt-ltb 0 (2 ^ n) (pow-pos n)
+
+-- ---- in range: the clients that a word names are below n, and stay so
+module _ (n w : ℕ) (few : n ≤ 16) where
+  small : 2 ^ n ≤ 65536
+  small = pow-mono {i = n} {j = 16} few
+
+  range-set : w < 65536 → in-range n w ≡ ltb w (2 ^ n)
+  unfolding in-range
+  range-set h = rw (lt-ltb w 65536 h)
+
+  range-writer : 65536 ≤ w → in-range n w ≡ ltb w (65536 + n)
+  unfolding in-range
+  range-writer h = rw (le-ltb w 65536 h)
+
+  module _ (ok : in-range n w ≡ true) where
+    pub range-reads : (d : ℕ) → reads d w ≡ true → d < n
+    range-reads d r = go (decLt w 65536)
+      where
+        go : Dec (w < 65536) → d < n
+        go (yes h) = bit-below n w d (ltb-true w (2 ^ n) (sym (range-set h) ∙ ok)) (sym (reads-set d w h) ∙ r)
+        go (no h) = absurd (not-both r (reads-none d w (omega arith)))
+
+    pub range-writes : (d : ℕ) → writes d w ≡ true → d < n
+    unfolding writes
+    range-writes d r =
+        let e : w ≡ 65536 + d = eqb-true w (65536 + d) r in
+        omega (arith, ltb-true w (65536 + n) (sym (range-writer (omega arith)) ∙ ok))
+
+    readers : w < 65536 → w < 2 ^ n
+    readers h = ltb-true w (2 ^ n) (sym (range-set h) ∙ ok)
+
+    module _ (c : ℕ) (l : c < n) where
+      set-range : (b : Bool) → w < 65536 → in-range n (putBit b w c) ≡ true
+      unfolding in-range
+      set-range b h =
+          let p : putBit b w c < 2 ^ n = put-lt b n w c l (readers h) in
+          let q : putBit b w c < 65536 = omega (arith, small) in
+          rw (lt-ltb (putBit b w c) 65536 q) (lt-ltb (putBit b w c) (2 ^ n) p)
+
+      pub locked-range : (b : Bool) → in-range n (locked b c w) ≡ true
+      unfolding locked in-range
+      locked-range true =
+          let h : 65536 ≤ 65536 + c = omega arith in
+          let g : 65536 + c < 65536 + n = omega arith in
+          rw (le-ltb (65536 + c) 65536 h) (lt-ltb (65536 + c) (65536 + n) g)
+      locked-range false = go (decLt w 65536)
+        where
+          go : Dec (w < 65536) → in-range n (locked false c w) ≡ true
+          go (yes h) = rw (lt-ltb w 65536 h) (set-range true h)
+          go (no h) = let k : 65536 ≤ w = omega arith in rw (le-ltb w 65536 k) ok
+
+      pub unlocked-range : in-range n (unlocked c w) ≡ true
+      unlocked-range = go (way c w)
+        where
+          go : Way c w → in-range n (unlocked c w) ≡ true
+          go (set h) = rw (of-set c w (omega arith) h) (set-range false h)
+          go (mine e) = rw (of-mine c w (omega arith) e) (free-range n)
+          go (other h k) = rw (of-other c w (omega arith) h k) ok
