@@ -1,0 +1,53 @@
+-- "Copies: metadata, one vector a server, 64 inner nodes; when full, a node isn't copied."
+use mathlib.Core.Bool.{cond}
+use mathlib.Core.List.{List, []}
+use Prim.Native.Nat.{ℕ, _+_}
+use lib.Dec.{eqb}
+use Rattle.layout.specs.Sweep.{sweep}
+use Rattle.nodes.specs.declared.node.Node.{Node}
+use Rattle.nodes.specs.declared.found.Found.{Found}
+use Rattle.nodes.specs.declared.found.Found.the-variants.{At, Absent}
+use Rattle.nodes.specs.Name.{server-of}
+use Rattle.client.specs.declared.part.Set.the-variants.{Reads, Copies}
+use Rattle.client.specs.Layout.{client-words}
+use Rattle.client.specs.Record.{by-number}
+use Rattle.client.specs.Sets.{count, number-at, find}
+use Rattle.client.specs.Part.{Step, _then_, nothing, put-field, put-item, put-number, drop-vector}
+
+-- a node's copy goes to its own place, else to the first empty one (its number is 0), else nowhere
+abbrev pub to-empty : ℕ → Node → Found → Step
+to-empty x r (At i) = put-item Copies i x r
+to-empty x r Absent = nothing
+
+abbrev pub to-place : ℕ → Node → Found → Found → Step
+to-place x r (At i) e = put-item Copies i x r
+to-place x r Absent e = to-empty x r e
+
+unfoldable pub copy-node : ℕ → Node → Step
+copy-node x r m = to-place x r (find m Copies x) (find m Copies 0) m
+
+-- ---- dropped
+abbrev pub drop-at : Found → Step
+drop-at (At i) = put-number Copies i 0
+drop-at Absent = nothing
+
+unfoldable pub drop-node : ℕ → Step
+drop-node x m = drop-at (find m Copies x) m
+
+-- the copy of an object, by its number; "for a flag, its vector"
+unfoldable pub drop-object : ℕ → Step
+drop-object x = by-number x (put-field 12 0) (λ n. drop-node x) (λ n. drop-vector (server-of n))
+
+unfoldable pub drop-read : ℕ → Step
+drop-read i m = drop-object (number-at m Reads i) m
+
+-- "An abort .. drops copies of all objects read"
+unfoldable pub drop-reads : Step
+drop-reads m = sweep client-words drop-read (count m Reads) m
+
+-- "loss drops all copies"
+unfoldable pub empty-place : ℕ → Step
+empty-place i = put-number Copies i 0
+
+unfoldable pub drop-all : Step
+drop-all = put-field 12 0 then sweep client-words empty-place 64 then sweep client-words drop-vector 8

@@ -1,0 +1,52 @@
+-- Objects enter the read set and the write set.
+use mathlib.Core.Bool.{cond}
+use mathlib.Core.List.{List, []}
+use Prim.Native.Nat.{ℕ, _+_}
+use lib.Dec.{ltb}
+use lib.ListN.{getD}
+use Rattle.layout.specs.Sweep.{sweep}
+use Rattle.nodes.specs.declared.node.Node.{Node}
+use Rattle.nodes.specs.declared.found.Found.{Found}
+use Rattle.nodes.specs.declared.found.Found.the-variants.{At, Absent}
+use Rattle.client.specs.declared.part.Set.the-variants.{Reads, Writes}
+use Rattle.client.specs.Layout.{client-words}
+use Rattle.client.specs.Sets.{count, find}
+use Rattle.client.specs.Part.{Step, _then_, nothing, put-field, put-item}
+use Rattle.client.specs.Have.{copied}
+use Rattle.client.specs.Lent.{own-count, own-number, own-record}
+
+-- behind the items that are there, which are c; object 97 is not read
+abbrev pub read-behind : ℕ → ℕ → Node → Step
+read-behind c x r = put-item Reads c x r then put-field 10 (c + 1)
+
+unfoldable pub enter-read : ℕ → Node → Step
+enter-read x r m = cond (ltb (count m Reads) 96) (read-behind (count m Reads) x r) nothing m
+
+-- "what is used enters the read set": a copy, by its number
+unfoldable pub enter-copy : ℕ → Step
+enter-copy x m = enter-read x (copied m x .node) m
+
+-- the copies in use, in the order of use
+unfoldable pub enter-nth : List ℕ → ℕ → Step
+enter-nth u i = enter-copy (getD u (i + 1) 0)
+
+unfoldable pub enter-used : List ℕ → Step
+enter-used u = sweep client-words (enter-nth u) (getD u 0 0)
+
+-- a write replaces an earlier one of the same object, or comes behind the others; object 49 is not written
+abbrev pub written-behind : ℕ → ℕ → Node → Step
+written-behind c x r = put-item Writes c x r then put-field 11 (c + 1)
+
+abbrev pub enter-at : ℕ → Node → ℕ → Found → Step
+enter-at x r c (At i) = put-item Writes i x r
+enter-at x r c Absent = cond (ltb c 48) (written-behind c x r) nothing
+
+unfoldable pub enter-write : ℕ → Node → Step
+enter-write x r m = enter-at x r (count m Writes) (find m Writes x) m
+
+-- "only then do its writes enter the write set": the own writes, in the order of the first write
+unfoldable pub write-nth : List ℕ → ℕ → Step
+write-nth w i = enter-write (own-number w i) (own-record w i)
+
+unfoldable pub enter-writes : List ℕ → Step
+enter-writes w = sweep client-words (write-nth w) (own-count w)

@@ -1,0 +1,97 @@
+-- How objects enter the sets.
+use mathlib.Core.Path.{_≡_, refl, sym, ap, _∙_}
+use mathlib.Core.Bool.{Bool, true, false, cond}
+use mathlib.Core.List.{List, []}
+use Prim.Native.Nat.{ℕ, _+_, _*_, _/_, _≤_, _<_}
+use native.Mathlib.Omega.{arith}
+use borrow.Author.Tests.{ltb-true, lt-ltb, le-ltb}
+use lib.Dec.{ltb}
+use lib.ListN.{length, getD}
+use Rattle.layout.specs.Sweep.{sweep}
+use Rattle.nodes.specs.declared.node.Node.{Node}
+use Rattle.nodes.specs.declared.found.Found.{Found}
+use Rattle.nodes.specs.declared.found.Found.the-variants.{At, Absent}
+use Rattle.client.specs.declared.answer.Look.{Look}
+use Rattle.client.specs.declared.part.Set.the-variants.{Reads, Writes}
+use Rattle.client.specs.Layout.{ClientWord, client-words, limit}
+use Rattle.client.specs.Sets.{held, count, find}
+use Rattle.client.specs.Part.{Step, Did, _then_, nothing, put-field, put-item}
+use Rattle.client.specs.StepLaws.{Good, EachGood, did-then, did-as, did-nothing, good-then, good-nothing, good-field, good-item, good-cond, good-by, find-limit, swept-all}
+use Rattle.client.specs.Have.{copied}
+use Rattle.client.specs.Lent.{own-number, own-record, own-count}
+use Rattle.client.specs.Enter.{read-behind, enter-read, enter-copy, enter-nth, enter-used, written-behind, enter-at, enter-write, write-nth, enter-writes}
+
+module _ (s : List ℕ) (x c : ℕ) (n : Node) (e : c ≡ count (held s) Reads) where
+  pub read-full : 96 ≤ c → Did (enter-read x n) s s
+  unfolding enter-read nothing
+  read-full h = did-nothing (enter-read x n) s (rw (← e, le-ltb _ _ h))
+
+  pub read-entered : (t u : List ℕ) → c < 96 → 7223 ≤ length s / 8 → Did (put-item Reads c x n) s t → Did (put-field 10 (c + 1)) t u → Did (enter-read x n) s u
+  unfolding enter-read
+  read-entered t u h l p q =
+      did-as (read-behind c x n) (enter-read x n) s u (rw (← e, lt-ltb _ _ h))
+      (did-then (put-item Reads c x n) (put-field 10 (c + 1)) s t u l (good-item Reads c x n h) p q)
+
+pub good-read : (x : ℕ) (n : Node) → Good (enter-read x n)
+unfolding enter-read
+good-read x n =
+    good-by (λ m. cond (ltb (count m Reads) 96) (read-behind (count m Reads) x n) nothing)
+    (λ m. good-cond (read-behind (count m Reads) x n) nothing (ltb (count m Reads) 96)
+    (λ h. good-then (put-item Reads (count m Reads) x n) (put-field 10 (count m Reads + 1)) (good-item Reads (count m Reads) x n (ltb-true _ _ h)) (good-field 10 (count m Reads + 1) (omega arith)))
+    (λ h. good-nothing))
+
+pub copy-entered : (s t : List ℕ) (x : ℕ) (l : Look) → l ≡ copied (held s) x → Did (enter-read x (l .node)) s t → Did (enter-copy x) s t
+unfolding enter-copy
+copy-entered s t x l e p = did-as (enter-read x (l .node)) (enter-copy x) s t (rw e) p
+
+pub good-nth : (u : List ℕ) → EachGood (enter-nth u)
+unfolding enter-nth enter-copy
+good-nth u = record { each = λ j. good-by (λ m. enter-read (getD u (j + 1) 0) (copied m (getD u (j + 1) 0) .node)) (λ m. good-read (getD u (j + 1) 0) (copied m (getD u (j + 1) 0) .node)) }
+
+pub nth-entered : (u s t : List ℕ) (i : ℕ) → Did (enter-copy (getD u (i + 1) 0)) s t → Did (enter-nth u i) s t
+unfolding enter-nth
+nth-entered u s t i p = p
+
+pub used-entered : (u s t : List ℕ) (n i : ℕ) → n ≡ getD u 0 0 → i ≤ n → n ≤ i → Did (sweep client-words (enter-nth u) i) s t → Did (enter-used u) s t
+unfolding enter-used
+used-entered u s t n i e a b p = rw (← e) (swept-all (enter-nth u) n i s t a b p)
+
+-- ---- writes
+module _ (s : List ℕ) (x : ℕ) (n : Node) (g : Found) (f : g ≡ find (held s) Writes x) where
+  pub write-replaced : (t : List ℕ) (i : ℕ) → g ≡ At i → Did (put-item Writes i x n) s t → Did (enter-write x n) s t
+  unfolding enter-write
+  write-replaced t i e p = did-as (put-item Writes i x n) (enter-write x n) s t (rw (← f, e)) p
+
+  module _ (c : ℕ) (a : g ≡ Absent) (e : c ≡ count (held s) Writes) where
+    pub write-full : 48 ≤ c → Did (enter-write x n) s s
+    unfolding enter-write nothing
+    write-full h = did-nothing (enter-write x n) s (rw (← f, a, ← e, le-ltb _ _ h))
+
+    pub write-entered : (t u : List ℕ) → c < 48 → 7223 ≤ length s / 8 → Did (put-item Writes c x n) s t → Did (put-field 11 (c + 1)) t u → Did (enter-write x n) s u
+    unfolding enter-write
+    write-entered t u h l p q =
+        did-as (written-behind c x n) (enter-write x n) s u (rw (← f, a, ← e, lt-ltb _ _ h))
+        (did-then (put-item Writes c x n) (put-field 11 (c + 1)) s t u l (good-item Writes c x n h) p q)
+
+good-at : (m : ClientWord → ℕ) (x : ℕ) (n : Node) (g : Found) → find m Writes x ≡ g → Good (enter-at x n (count m Writes) g)
+good-at m x n (At i) e = good-item Writes i x n (find-limit m Writes x i e)
+good-at m x n Absent e =
+    good-cond (written-behind (count m Writes) x n) nothing (ltb (count m Writes) 48)
+    (λ h. good-then (put-item Writes (count m Writes) x n) (put-field 11 (count m Writes + 1)) (good-item Writes (count m Writes) x n (ltb-true _ _ h)) (good-field 11 (count m Writes + 1) (omega arith)))
+    (λ h. good-nothing)
+
+pub good-writes : (w : List ℕ) → EachGood (write-nth w)
+unfolding write-nth enter-write
+good-writes w =
+    record {
+      each = λ j. good-by (λ m. enter-at (own-number w j) (own-record w j) (count m Writes) (find m Writes (own-number w j)))
+          (λ m. good-at m (own-number w j) (own-record w j) (find m Writes (own-number w j)) refl);
+    }
+
+pub nth-written : (w s t : List ℕ) (i : ℕ) (n : Node) → n ≡ own-record w i → Did (enter-write (getD w (34 * i + 1) 0) n) s t → Did (write-nth w i) s t
+unfolding write-nth own-number
+nth-written w s t i n e p = rw (← e) p
+
+pub writes-entered : (w s t : List ℕ) (n i : ℕ) → n ≡ getD w 0 0 → i ≤ n → n ≤ i → Did (sweep client-words (write-nth w) i) s t → Did (enter-writes w) s t
+unfolding enter-writes
+writes-entered w s t n i e a b p = rw (← e) (swept-all (write-nth w) n i s t a b p)

@@ -1,0 +1,119 @@
+-- The ways out of the test of a client's own state.
+use mathlib.Core.Path.{_≡_, refl, sym, _∙_}
+use mathlib.Core.Bool.{Bool, true, false, cond, _&&_, not}
+use mathlib.Core.List.{List}
+use Prim.Native.Nat.{ℕ, _-_, _*_, _%_, _^_, _≤_, _<_}
+use native.Mathlib.Omega.{arith}
+use borrow.Author.Tests.{eq-eqb, ne-eqb, le-leb, lt-leb, not-true, not-false}
+use lib.Dec.{leb, ltb}
+use lib.ListN.{getD}
+use lib.Pow.{pow-lt, pow-pos}
+use Rattle.nodes.specs.declared.node.Node.{Node}
+use Rattle.nodes.specs.declared.found.Found.{Found}
+use Rattle.operations.specs.Slot.{Sizes}
+use Rattle.client.specs.declared.part.Set.{Set}
+use Rattle.client.specs.declared.part.Set.the-variants.{Reads, Writes, Copies}
+use Rattle.client.specs.Layout.{ClientWord, field, vector-word}
+use Rattle.client.specs.Record.{sizes, in-store, number-in-store, fits}
+use Rattle.client.specs.Sets.{count, number-at, record-at, find}
+use Rattle.client.specs.Commit.{all-of, is-at}
+use Rattle.client.specs.Fits.{bounds, field-fits, op-fits, has-read, item-fits, vector-fits, client-fits}
+
+pub field-asked : (m : ClientWord → ℕ) (every i q : ℕ) → q ≡ m (field i) → leb q (getD (bounds every) i 0) ≡ field-fits m every i
+unfolding field-fits
+field-asked m every i q e = rw e
+
+pub vector-asked : (m : ClientWord → ℕ) (s q : ℕ) → q ≡ m (vector-word s 0) → leb q 1 ≡ vector-fits m s
+unfolding vector-fits
+vector-asked m s q e = rw e
+
+module _ (z : Sizes) (x : ℕ) where
+  pub number-meta : x ≡ 0 → true ≡ number-in-store z x
+  unfolding number-in-store
+  number-meta e = rw (eq-eqb _ _ e)
+
+  pub number-node : (r : Bool) → (x ≡ 0 → ⊥) → x ≤ 8192 → r ≡ in-store z (x - 1) → r ≡ number-in-store z x
+  unfolding number-in-store
+  number-node r d h p = rw (ne-eqb _ _ d, le-leb _ _ h) p
+
+  pub number-flag : (r : Bool) → (x ≡ 0 → ⊥) → 8192 < x → r ≡ in-store z (x - 8193) → r ≡ number-in-store z x
+  unfolding number-in-store
+  number-flag r d h p = rw (ne-eqb _ _ d, lt-leb _ _ h) p
+
+module _ (m : ClientWord → ℕ) (s : Set) (x : ℕ) where
+  pub read-itself : s ≡ Reads → true ≡ has-read m s x
+  unfolding has-read
+  read-itself e = rw e
+
+  pub read-asked : (g : Found) (r : Bool) → s ≡ Writes → g ≡ find m Reads x → r ≡ is-at g → r ≡ has-read m s x
+  unfolding has-read
+  read-asked g r e p q = rw (e, ← p) q
+
+  pub read-copied : s ≡ Copies → true ≡ has-read m s x
+  unfolding has-read
+  read-copied e = rw e
+
+module _ (k l : ℕ) (m : ClientWord → ℕ) (q : ℕ) (e : q ≡ m (field 1)) where
+  pub op-other : (q ≡ 6 → ⊥) → true ≡ op-fits (sizes k l) m
+  unfolding op-fits
+  op-other d = rw (← e, ne-eqb _ _ d)
+
+  module _ (key : ℕ) (b : Bool) (d : q ≡ 6) (a : key ≡ m (field 2)) (p : b ≡ in-store (sizes k l) key) where
+    pub op-astray : not b ≡ true → false ≡ op-fits (sizes k l) m
+    unfolding op-fits
+    op-astray t = let y : in-store (sizes k l) key ≡ false = sym p ∙ not-true b t in rw (← e, eq-eqb _ _ d, ← a, y)
+
+    pub op-there : (v : ℕ) → not b ≡ false → v ≡ m (field 4) → ltb v k ≡ op-fits (sizes k l) m
+    unfolding op-fits
+    op-there v t f = let y : in-store (sizes k l) key ≡ true = sym p ∙ not-false b t in rw (← e, eq-eqb _ _ d, ← a, y, ← f)
+
+module _ (z : Sizes) (m : ClientWord → ℕ) (s : Set) (i x : ℕ) (b : Bool) (e : x ≡ number-at m s i) (p : b ≡ number-in-store z x) where
+  pub item-astray : not b ≡ true → false ≡ item-fits z m s i
+  unfolding item-fits
+  item-astray t = let y : number-in-store z x ≡ false = sym p ∙ not-true b t in rw (← e, y)
+
+  module _ (n : Node) (c : Bool) (t : not b ≡ false) (q : n ≡ record-at m s i) (f : c ≡ fits z x n) where
+    pub item-unfit : not c ≡ true → false ≡ item-fits z m s i
+    unfolding item-fits
+    item-unfit u =
+        let y : number-in-store z x ≡ true = sym p ∙ not-false b t in
+        let v : fits z x n ≡ false = sym f ∙ not-true c u in
+        rw (← e, y, ← q, v)
+
+    pub item-there : (r : Bool) → not c ≡ false → r ≡ has-read m s x → r ≡ item-fits z m s i
+    unfolding item-fits
+    item-there r u w =
+        let y : number-in-store z x ≡ true = sym p ∙ not-false b t in
+        let v : fits z x n ≡ true = sym f ∙ not-false c u in
+        rw (← e, y, ← q, v) w
+
+-- ---- the whole
+every-is : (k : ℕ) → k ≤ 8 → 1 * 2 ^ k % 18446744073709551616 - 1 ≡ 2 ^ k - 1
+every-is k h = let g : 2 ^ k < 2 ^ 64 = pow-lt {j = 64} (omega arith) in omega arith
+
+module _ (k l : ℕ) (m : ClientWord → ℕ) (b : Bool) (h : k ≤ 8) (p : b ≡ all-of (field-fits m (1 * 2 ^ k % 18446744073709551616 - 1)) 13) where
+  all-fields : b ≡ all-of (field-fits m (2 ^ k - 1)) 13
+  all-fields = p ∙ rw (every-is k h)
+
+  pub fields-unfit : not b ≡ true → false ≡ client-fits (sizes k l) m
+  unfolding client-fits
+  fields-unfit t = rw (← all-fields, not-true b t)
+
+  module _ (c : Bool) (t : not b ≡ false) (q : c ≡ op-fits (sizes k l) m) where
+    pub op-unfit : not c ≡ true → false ≡ client-fits (sizes k l) m
+    unfolding client-fits
+    op-unfit u = rw (← all-fields, not-false b t, ← q, not-true c u)
+
+    module _ (d : Bool) (u : not c ≡ false) (r : d ≡ all-of (item-fits (sizes k l) m Reads) (count m Reads)) where
+      pub reads-unfit : not d ≡ true → false ≡ client-fits (sizes k l) m
+      unfolding client-fits
+      reads-unfit v = rw (← all-fields, not-false b t, ← q, not-false c u, ← r, not-true d v)
+
+      module _ (f : Bool) (v : not d ≡ false) (s : f ≡ all-of (item-fits (sizes k l) m Writes) (count m Writes)) where
+        pub writes-unfit : not f ≡ true → false ≡ client-fits (sizes k l) m
+        unfolding client-fits
+        writes-unfit w = rw (← all-fields, not-false b t, ← q, not-false c u, ← r, not-false d v, ← s, not-true f w)
+
+        pub vectors-asked : (g : Bool) → not f ≡ false → g ≡ all-of (vector-fits m) 8 → g ≡ client-fits (sizes k l) m
+        unfolding client-fits
+        vectors-asked g w o = rw (← all-fields, not-false b t, ← q, not-false c u, ← r, not-false d v, ← s, not-false f w) o

@@ -1,0 +1,112 @@
+-- "An object is read from the write set, else the read set, else the client's copies"
+use mathlib.Core.Bool.{Bool, true, false, cond, _&&_, not}
+use mathlib.Core.List.{List, [], _∷_}
+use mathlib.Core.Option.{Option, none, some}
+use Prim.Native.Nat.{ℕ, _+_, _/_, _%_}
+use lib.Dec.{eqb, leb, ltb}
+use Rattle.memory.specs.Bit.{bit, digit}
+use Rattle.nodes.specs.declared.node.Node.{Node}
+use Rattle.nodes.specs.declared.found.Found.{Found}
+use Rattle.nodes.specs.declared.found.Found.the-variants.{At, Absent}
+use Rattle.nodes.specs.Node.{free-node}
+use Rattle.nodes.specs.Name.{server-of, slot-of}
+use Rattle.nodes.specs.Flags as N
+use Rattle.operations.specs.Object.{Obj, meta, node, flag, Ask, object, vector, fetched, Val, root, body, taken, flags}
+use Rattle.operations.specs.Slot.{Sizes}
+use Rattle.client.specs.declared.answer.How.{How}
+use Rattle.client.specs.declared.answer.How.the-variants.{Here, Copied, Full, Lacking, Broken}
+use Rattle.client.specs.declared.answer.Look.{Look}
+use Rattle.client.specs.declared.part.Set.the-variants.{Reads, Writes, Copies}
+use Rattle.client.specs.Layout.{ClientWord, vector-word, meta-copied, meta-root, meta-version}
+use Rattle.client.specs.Record.{number, by-number, value-of, single, object-in-store, fits}
+use Rattle.client.specs.Sets.{record-at, find}
+use Rattle.client.specs.Vectors.{has-vector, seen-words, is-fetched}
+
+-- what a lookup says: in a set; a copy; a copy for which there is no room in the read set; to be fetched; out of range
+abbrev pub here : Node → Look
+here r = record { how = Here; node = r }
+
+abbrev pub copy : Node → Look
+copy r = record { how = Copied; node = r }
+
+abbrev pub full : Node → Look
+full r = record { how = Full; node = r }
+
+abbrev pub lacking : Look
+lacking = record { how = Lacking; node = free-node 0 }
+
+abbrev pub unfit : Look
+unfit = record { how = Broken; node = free-node 0 }
+
+abbrev pub is-found : How → Bool
+is-found Here = true
+is-found Copied = true
+is-found Full = true
+is-found Lacking = false
+is-found Broken = false
+
+abbrev pub is-copied : How → Bool
+is-copied Here = false
+is-copied Copied = true
+is-copied Full = false
+is-copied Lacking = false
+is-copied Broken = false
+
+module _ (m : ClientWord → ℕ) where
+  -- "Copies: metadata, one vector a server, 64 inner nodes"
+  unfoldable pub copied-meta : Look
+  copied-meta = cond (eqb (m meta-copied) 1) (copy (single (m meta-version) (m meta-root))) lacking
+
+  abbrev pub copied-item : Found → Look
+  copied-item (At i) = copy (record-at m Copies i)
+  copied-item Absent = lacking
+
+  unfoldable pub copied-node : ℕ → Look
+  copied-node x = copied-item (find m Copies x)
+
+  -- the flag of a name is in its server's vector: bit i % 64 of word i / 64 for slot i
+  unfoldable pub copied-flag : ℕ → Look
+  copied-flag n =
+      let i = slot-of n in
+      cond (eqb (m (vector-word (server-of n) 0)) 1)
+      (copy (single 0 (digit (bit (m (vector-word (server-of n) (1 + i / 64))) (i % 64))))) lacking
+
+  unfoldable pub copied : ℕ → Look
+  copied x = by-number x copied-meta (λ n. copied-node x) copied-flag
+
+  abbrev pub or-copied : ℕ → Found → Look
+  or-copied x (At i) = here (record-at m Reads i)
+  or-copied x Absent = copied x
+
+  abbrev pub or-read : ℕ → Found → Look
+  or-read x (At i) = here (record-at m Writes i)
+  or-read x Absent = or-copied x (find m Reads x)
+
+  -- the object with the number x
+  unfoldable pub source : ℕ → Look
+  source x = or-read x (find m Writes x)
+
+module _ (z : Sizes) (m : ClientWord → ℕ) where
+  abbrev pub usable : ℕ → Look → Bool
+  usable x l = is-found (l .how) && fits z x (l .node)
+
+  abbrev pub valued : Obj → Look → Option Val
+  valued o l = cond (usable (number o) l) (some (value-of o (l .node))) none
+
+  abbrev pub have-vector : ℕ → Option Val
+  have-vector s = cond (ltb s (z .servers) && has-vector m s) (some (flags (N.flags (z .slots) (seen-words m s)))) none
+
+  -- what is at hand for a plan. "a server is passed over only by a vector that this transaction fetched"
+  unfoldable pub have : Ask → Option Val
+  have (object o) = cond (object-in-store z o) (valued o (source m (number o))) none
+  have (vector s) = have-vector s
+  have (fetched s) = cond (is-fetched m s) (have-vector s) none
+
+  abbrev pub unusable : ℕ → Look → Bool
+  unusable x l = is-found (l .how) && not (fits z x (l .node))
+
+  -- what is not at hand can't be fetched either: refusal 10
+  unfoldable pub broken : Ask → Bool
+  broken (object o) = cond (object-in-store z o) (unusable (number o) (source m (number o))) true
+  broken (vector s) = not (ltb s (z .servers))
+  broken (fetched s) = not (ltb s (z .servers))

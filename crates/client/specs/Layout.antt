@@ -1,0 +1,111 @@
+-- The layout of a client's part, in words.
+use mathlib.Core.Path.{_≡_, refl}
+use mathlib.Core.List.{List, [], _∷_}
+use Prim.Native.Nat.{ℕ, zero, suc, _+_, _*_}
+use lib.ListN.{getD}
+use Rattle.layout.specs.Block.{Block, words, times, next, end, size}
+use Rattle.layout.specs.Space.{Coding}
+use Rattle.client.specs.declared.part.Set.{Set}
+use Rattle.client.specs.declared.part.Set.the-variants.{Reads, Writes, Copies}
+
+-- a word of a client's part; the read set, the write set and the copies of inner nodes have items of one form
+pub data ClientWord : Type 0 where
+  field : ℕ → ClientWord
+  -- word j of item i of a set: 0 the object's number, then the record
+  item : Set → ℕ → ℕ → ClientWord
+  -- word j of the copy of a server's vector: 0 whether there is one, then its sixteen words
+  vector-word : ℕ → ℕ → ClientWord
+
+-- the fields: 0 no transaction, 1 open, 2 committing, 3 decided
+abbrev pub phase : ClientWord
+phase = field 0
+
+-- the operation given and not yet answered: its number (0: none waits), key, value, server
+abbrev pub op-number : ClientWord
+op-number = field 1
+
+abbrev pub op-key : ClientWord
+op-key = field 2
+
+abbrev pub op-value : ClientWord
+op-value = field 3
+
+abbrev pub op-server : ClientWord
+op-server = field 4
+
+-- sets of servers, bit s for server s: participants, prepared, applied; and the vectors that this transaction has fetched
+abbrev pub participants : ClientWord
+participants = field 5
+
+abbrev pub prepared : ClientWord
+prepared = field 6
+
+abbrev pub applied : ClientWord
+applied = field 7
+
+abbrev pub fetched-vectors : ClientWord
+fetched-vectors = field 8
+
+-- 1 for a client lost after its decision
+abbrev pub lost : ClientWord
+lost = field 9
+
+-- how many objects are read, and written
+abbrev pub reads-count : ClientWord
+reads-count = field 10
+
+abbrev pub writes-count : ClientWord
+writes-count = field 11
+
+-- the copy of the metadata: 1 if there is one, the root's name, the version
+abbrev pub meta-copied : ClientWord
+meta-copied = field 12
+
+abbrev pub meta-root : ClientWord
+meta-root = field 13
+
+abbrev pub meta-version : ClientWord
+meta-version = field 14
+
+-- "4 object 97 would be read or 49 written"; "64 inner nodes"
+abbrev pub limit : Set → ℕ
+limit Reads = 96
+limit Writes = 48
+limit Copies = 64
+
+-- where a set begins
+unfoldable pub base : Set → ℕ
+base Reads = 15
+base Writes = 3279
+base Copies = 4911
+
+abbrev pub client-block : Block
+client-block =
+    next (words 15) (next (times 96 (words 34)) (next (times 48 (words 34)) (next (times 64 (words 34)) (next (times 8 (words 17)) end))))
+
+abbrev pub client-code : ClientWord → List ℕ
+client-code (field i) = 0 ∷ i ∷ []
+client-code (item Reads i j) = 1 ∷ i ∷ j ∷ []
+client-code (item Writes i j) = 2 ∷ i ∷ j ∷ []
+client-code (item Copies i j) = 3 ∷ i ∷ j ∷ []
+client-code (vector-word s j) = 4 ∷ s ∷ j ∷ []
+
+abbrev pub client-back : List ℕ → ClientWord
+client-back p =
+    let i = getD p 1 0 in
+    let j = getD p 2 0 in
+    getD (field i ∷ item Reads i j ∷ item Writes i j ∷ item Copies i j ∷ vector-word i j ∷ []) (getD p 0 0) (field i)
+
+pub client-again : (a : ClientWord) → client-back (client-code a) ≡ a
+client-again (field i) = refl
+client-again (item Reads i j) = refl
+client-again (item Writes i j) = refl
+client-again (item Copies i j) = refl
+client-again (vector-word s j) = refl
+
+abbrev pub client-words : Coding ClientWord
+client-words = record { code = client-code; back = client-back; again = client-again }
+
+-- "the length that given sizes call for": a client's part has the same for all sizes
+unfoldable pub client-size : ℕ
+client-size = size client-block

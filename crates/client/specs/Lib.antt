@@ -1,0 +1,27 @@
+-- One client's part of the memory, and what a client does between two messages.
+pub mod Layout
+pub mod Words
+pub mod Record
+pub mod Sets
+pub mod Part
+pub mod Vectors
+pub mod Have
+pub mod Run
+pub mod Lent
+pub mod Look
+pub mod Enter
+pub mod Copies
+pub mod Fetched
+pub mod Life
+pub mod Commit
+pub mod Fits
+pub mod PartLaws
+pub mod FindLaws
+pub mod LentLaws
+pub mod LookLaws
+pub mod StepLaws
+pub mod VectorLaws
+pub mod EnterLaws
+pub mod CopiesLaws
+pub mod CommitLaws
+pub mod FitsLaws

@@ -1,0 +1,81 @@
+-- Objects as numbers, and their values as records of a node's form.
+use mathlib.Core.Path.{_≡_, refl, sym, _∙_}
+use mathlib.Core.Bool.{Bool, true, false, cond, _&&_, not}
+use mathlib.Core.List.{List, [], _∷_}
+use Prim.Native.Nat.{ℕ, _+_, _-_, _/_, _%_, _^_}
+use borrow.Author.Tests.{not-true, not-false}
+use lib.Dec.{eqb, leb, ltb}
+use lib.ListN.{getD}
+use Rattle.nodes.specs.declared.node.Node.{Node}
+use Rattle.nodes.specs.Name.{server-of, slot-of}
+use Rattle.nodes.specs.Node.{keysOf, slotsOf, made}
+use Rattle.nodes.specs.Place.{bit}
+use Rattle.nodes.specs.Range.{in-range}
+use Rattle.operations.specs.Object.{Obj, meta, node, flag, Val, root, body, taken, flags}
+use Rattle.operations.specs.Slot.{Sizes}
+
+-- "in the order metadata, nodes by name, flags by name": the order of these numbers
+abbrev pub number : Obj → ℕ
+number meta = 0
+number (node n) = 1 + n
+number (flag n) = 8193 + n
+
+-- by the number: what the metadata has, what a node of that name has, what a flag of that name has
+abbrev pub by-number : {A : Type 0} → ℕ → A → (ℕ → A) → (ℕ → A) → A
+by-number x a f g = cond (eqb x 0) a (cond (leb x 8192) (f (x - 1)) (g (x - 8193)))
+
+-- the root's name and a flag stand in the record's first slot
+abbrev pub first-slot : Node → ℕ
+first-slot r = getD (r .slots) 0 0
+
+-- the value that a record holds
+abbrev pub value-of : Obj → Node → Val
+value-of meta r = root (first-slot r)
+value-of (node n) r = body (r .kind) (r .level) (keysOf r) (slotsOf r)
+value-of (flag n) r = taken (eqb (first-slot r) 1)
+
+-- a record of the metadata or a flag, with that value
+unfoldable pub single : ℕ → ℕ → Node
+single v x = made 0 0 v [] (x ∷ [])
+
+-- the record that holds a value, with a version; vectors are never kept so
+unfoldable pub record-of : ℕ → Val → Node
+record-of v (root r) = single v r
+record-of v (body k l ks vs) = made k l v ks vs
+record-of v (taken b) = single v (bit b)
+record-of v (flags fs) = made 0 0 v [] []
+
+-- a store of these sizes
+abbrev pub sizes : ℕ → ℕ → Sizes
+sizes servers slots = record { servers = servers; slots = slots }
+
+-- a name that the store has
+unfoldable pub in-store : Sizes → ℕ → Bool
+in-store z n = ltb (server-of n) (z .servers) && ltb (slot-of n) (z .slots)
+
+abbrev pub object-in-store : Sizes → Obj → Bool
+object-in-store z meta = true
+object-in-store z (node n) = in-store z n
+object-in-store z (flag n) = in-store z n
+
+unfoldable pub number-in-store : Sizes → ℕ → Bool
+number-in-store z x = by-number x true (in-store z) (in-store z)
+
+-- "a 32-bit version"
+abbrev pub last-version : ℕ
+last-version = 4294967295
+
+-- "has a field out of range, or points to something that isn't there": may the record of the object with that number be used
+unfoldable pub fits : Sizes → ℕ → Node → Bool
+fits z x r =
+    by-number x (in-store z (first-slot r) && leb (r .version) last-version) (λ n. in-range r) (λ n. leb (first-slot r) 1)
+
+-- ---- laws
+module _ (z : Sizes) (x : ℕ) (n : Node) (b : Bool) (e : x ≡ 0) (p : b ≡ in-store z (first-slot n)) where
+  pub root-astray : not b ≡ true → false ≡ fits z x n
+  unfolding fits
+  root-astray t = let q : in-store z (first-slot n) ≡ false = sym p ∙ not-true b t in rw (e, q)
+
+  pub root-there : not b ≡ false → leb (n .version) 4294967295 ≡ fits z x n
+  unfolding fits
+  root-there t = let q : in-store z (first-slot n) ≡ true = sym p ∙ not-false b t in rw (e, q)

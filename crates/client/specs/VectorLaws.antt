@@ -1,0 +1,57 @@
+-- The ways out of the functions on vectors.
+use mathlib.Core.Path.{_≡_, refl, sym, ap, _∙_}
+use mathlib.Core.Bool.{Bool, true, false, cond}
+use mathlib.Core.List.{List}
+use Prim.Native.Nat.{ℕ, zero, suc, _+_, _-_, _/_, _%_, _≤_, _<_}
+use native.Mathlib.Omega.{arith}
+use native.Mathlib.Numerals.{add-one}
+use borrow.Author.Tests.{eq-eqb, ne-eqb, lt-ltb, le-ltb}
+use lib.Dec.{eqb}
+use Rattle.memory.specs.Bit.{bit}
+use Rattle.nodes.specs.Flags.{with-flag}
+use Rattle.client.specs.declared.part.Set.the-variants.{Writes}
+use Rattle.client.specs.Layout.{ClientWord, field, item, vector-word}
+use Rattle.client.specs.Sets.{count, number-at}
+use Rattle.client.specs.Vectors.{has-vector, is-fetched, vector-copy, counted-one, counted, seen-words}
+
+pub asked-vector : (m : ClientWord → ℕ) (s q : ℕ) → q ≡ m (vector-word s 0) → eqb q 1 ≡ has-vector m s
+unfolding has-vector
+asked-vector m s q e = rw e
+
+pub asked-fetched : (m : ClientWord → ℕ) (s q : ℕ) (r : Bool) → q ≡ m (field 8) → r ≡ bit q s → r ≡ is-fetched m s
+unfolding is-fetched
+asked-fetched m s q r e p = rw (← e) p
+
+module _ (m : ClientWord → ℕ) (s i x : ℕ) (ws : List ℕ) (e : x ≡ number-at m Writes i) where
+  pub no-flag : x < 8193 → ws ≡ counted-one m s i ws
+  unfolding counted-one
+  no-flag h = rw (← e, lt-ltb _ _ h)
+
+  module _ (h : 8193 ≤ x) where
+    pub elsewhere : ((x - 8193) / 1024 ≡ s → ⊥) → ws ≡ counted-one m s i ws
+    unfolding counted-one
+    elsewhere d = rw (← e, le-ltb _ _ h, ne-eqb _ _ d)
+
+    pub flag-counted : (v : ℕ) (r : List ℕ) → (x - 8193) / 1024 ≡ s → v ≡ m (item Writes i 19) → r ≡ with-flag ws ((x - 8193) % 1024) (eqb v 1) → r ≡ counted-one m s i ws
+    unfolding counted-one
+    flag-counted v r d a p = rw (← e, le-ltb _ _ h, eq-eqb _ _ d, ← a) p
+
+-- i of the n write items are counted
+pub record Counting (m : ClientWord → ℕ) (s n : ℕ) (ws : List ℕ) (i : ℕ) : Type 0 where
+  pub within : i ≤ n
+  pub is : n ≡ count m Writes
+  pub most : n ≤ 48
+  pub so-far : ws ≡ counted m s i (vector-copy m s)
+
+module _ (m : ClientWord → ℕ) (s n : ℕ) where
+  pub counting-none : (ws : List ℕ) → n ≡ count m Writes → n ≤ 48 → ws ≡ vector-copy m s → Counting m s n ws 0
+  unfolding counted
+  counting-none ws c l e = record { within = omega arith; is = c; most = l; so-far = e }
+
+  pub counting-next : (ws ws′ : List ℕ) (i : ℕ) → i < n → ws′ ≡ counted-one m s i ws → Counting m s n ws i → Counting m s n ws′ (i + 1)
+  unfolding counted
+  counting-next ws ws′ i h e c = record { within = omega arith; is = c .is; most = c .most; so-far = rw (add-one, counted, ← c .so-far) e }
+
+  pub counting-all : (ws : List ℕ) (i : ℕ) → n ≤ i → Counting m s n ws i → ws ≡ seen-words m s
+  unfolding seen-words
+  counting-all ws i h c = let z : i ≡ n = omega (arith, c .within) in rw (← c .is, ← z) (c .so-far)

@@ -1,0 +1,40 @@
+-- A server's vector as a client sees it: its copy, "own frees and takes counted".
+use mathlib.Core.Bool.{Bool, true, false, cond, _&&_}
+use mathlib.Core.List.{List}
+use Prim.Native.Nat.{ℕ, zero, suc, _-_}
+use lib.Dec.{eqb, leb, ltb}
+use Rattle.memory.specs.Bit.{bit}
+use Rattle.layout.specs.Space.{tab}
+use Rattle.nodes.specs.Name.{server-of, slot-of}
+use Rattle.nodes.specs.Flags.{with-flag}
+use Rattle.client.specs.declared.part.Set.the-variants.{Writes}
+use Rattle.client.specs.Layout.{ClientWord, item, vector-word, fetched-vectors}
+use Rattle.client.specs.Sets.{count, number-at}
+
+module _ (m : ClientWord → ℕ) (s : ℕ) where
+  -- is there a copy
+  unfoldable pub has-vector : Bool
+  has-vector = eqb (m (vector-word s 0)) 1
+
+  -- its words
+  unfoldable pub vector-copy : List ℕ
+  vector-copy = tab 16 (λ j. m (vector-word s (suc j)))
+
+  -- write item i: of a flag of this server, word 19 (the record's first slot) says whether it is taken
+  abbrev pub counted-flag : ℕ → ℕ → List ℕ → List ℕ
+  counted-flag n v ws = cond (eqb (server-of n) s) (with-flag ws (slot-of n) (eqb v 1)) ws
+
+  unfoldable pub counted-one : ℕ → List ℕ → List ℕ
+  counted-one i ws = cond (ltb (number-at m Writes i) 8193) ws (counted-flag (number-at m Writes i - 8193) (m (item Writes i 19)) ws)
+
+  -- the first n write items counted
+  unfoldable pub counted : ℕ → List ℕ → List ℕ
+  counted zero ws = ws
+  counted (suc n) ws = counted-one n (counted n ws)
+
+  unfoldable pub seen-words : List ℕ
+  seen-words = counted (count m Writes) vector-copy
+
+  -- has this transaction fetched it
+  unfoldable pub is-fetched : Bool
+  is-fetched = bit (m fetched-vectors) s

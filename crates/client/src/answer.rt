@@ -1,0 +1,91 @@
+// What a lookup says.
+use nodes::node::Node;
+ghost use mathlib.Core.Path.{_≡_};
+ghost use Rattle.client.specs.Have.{here, copy, full, lacking, unfit, is-found, is-copied};
+
+// Here: in a set, or a copy already in use. Copied: a copy that is not in use yet. Full: a copy that would be object 97.
+// Lacking: to be fetched. Broken: out of range, or not in the store.
+pub enum How {
+    Here,
+    Copied,
+    Full,
+    Lacking,
+    Broken,
+}
+
+// With Here, Copied and Full comes the object's record.
+pub struct Look {
+    pub how: How,
+    pub node: Node,
+}
+
+// Is there a record?
+pub fn is_found(how: How) -> bool
+    ensures { λ r. ⌜ r ≡ is-found how ⌝ }
+{
+    match how {
+        How::Here => true,
+        How::Copied => true,
+        How::Full => true,
+        How::Lacking => false,
+        How::Broken => false,
+    }
+}
+
+// Is it a copy that is not in use yet?
+pub fn is_copied(how: How) -> bool
+    ensures { λ r. ⌜ r ≡ is-copied how ⌝ }
+{
+    match how {
+        How::Here => false,
+        How::Copied => true,
+        How::Full => false,
+        How::Lacking => false,
+        How::Broken => false,
+    }
+}
+
+pub fn here(node: Node) -> Look
+    ensures { λ r. ⌜ r ≡ here node ⌝ }
+{
+    Look {
+        how: How::Here,
+        node,
+    }
+}
+
+pub fn copy(node: Node) -> Look
+    ensures { λ r. ⌜ r ≡ copy node ⌝ }
+{
+    Look {
+        how: How::Copied,
+        node,
+    }
+}
+
+pub fn full(node: Node) -> Look
+    ensures { λ r. ⌜ r ≡ full node ⌝ }
+{
+    Look {
+        how: How::Full,
+        node,
+    }
+}
+
+pub fn lacking() -> Look
+    ensures { λ r. ⌜ r ≡ lacking ⌝ }
+{
+    Look {
+        how: How::Lacking,
+        node: Node::free(0),
+    }
+}
+
+pub fn unfit() -> Look
+    ensures { λ r. ⌜ r ≡ unfit ⌝ }
+{
+    Look {
+        how: How::Broken,
+        node: Node::free(0),
+    }
+}

@@ -1,0 +1,120 @@
+// Copies of objects: put, and dropped.
+use crate::part::Set;
+use crate::part::count;
+use crate::part::drop_vector;
+use crate::part::find;
+use crate::part::number_at;
+use crate::part::set_field;
+use crate::part::set_item;
+use crate::part::set_number;
+use nodes::found::Found;
+use nodes::node::Node;
+ghost use Prim.Native.Nat.{_/_, _<_, _≤_};
+ghost use lib.ListN.{length};
+ghost use Rattle.layout.specs.Sweep.{sweep};
+ghost use Rattle.client.specs.Layout.{client-words};
+ghost use Rattle.client.specs.Part.{Did, drop-vector};
+ghost use Rattle.client.specs.Copies.{copy-node, drop-node, drop-object, drop-read, drop-reads, empty-place, drop-all};
+
+// A node's copy, where it has a place or one is empty.
+pub fn copy_node(part: &mut [u8], number: u64, n: Node)
+    requires { ⌜ 7223 ≤ length (now part) / 8 ⌝ }
+    ensures { λ _. ⌜ Did (copy-node number n) (now (part .entry)) (now (part .exit)) ⌝ }
+{
+    let own = find(part, Set::Copies, number);
+    match own {
+        Found::At(i) => {
+            set_item(part, Set::Copies, i, number, n);
+            return;
+        }
+        Found::Absent => {}
+    }
+    let empty = find(part, Set::Copies, 0);
+    match empty {
+        Found::At(i) => set_item(part, Set::Copies, i, number, n),
+        Found::Absent => {}
+    }
+}
+
+pub fn drop_node(part: &mut [u8], number: u64)
+    requires { ⌜ 7223 ≤ length (now part) / 8 ⌝ }
+    ensures { λ _. ⌜ Did (drop-node number) (now (part .entry)) (now (part .exit)) ⌝ }
+{
+    let at = find(part, Set::Copies, number);
+    match at {
+        Found::At(i) => set_number(part, Set::Copies, i, 0),
+        Found::Absent => {}
+    }
+}
+
+// The copy of the object with that number; of a flag, its server's vector.
+fn drop_object(part: &mut [u8], number: u64)
+    requires { ⌜ 7223 ≤ length (now part) / 8 ⌝ }
+    ensures { λ _. ⌜ Did (drop-object number) (now (part .entry)) (now (part .exit)) ⌝ }
+{
+    if number == 0 {
+        set_field(part, 12, 0);
+        return;
+    }
+    if number <= 8192 {
+        drop_node(part, number);
+        return;
+    }
+    let s = (number - 8193) / 1024;
+    if s < 8 {
+        drop_vector(part, s as usize);
+    }
+}
+
+fn drop_read(part: &mut [u8], i: usize)
+    requires { ⌜ (i < 96) × (7223 ≤ length (now part) / 8) ⌝ }
+    ensures { λ _. ⌜ Did (drop-read i) (now (part .entry)) (now (part .exit)) ⌝ }
+{
+    let number = number_at(part, Set::Reads, i);
+    drop_object(part, number);
+}
+
+// The copies of all objects read.
+pub fn drop_reads(part: &mut [u8])
+    requires { ⌜ 7223 ≤ length (now part) / 8 ⌝ }
+    ensures { λ _. ⌜ Did drop-reads (now (part .entry)) (now (part .exit)) ⌝ }
+{
+    let n = count(part, Set::Reads);
+    let mut i: usize = 0;
+    while i < n {
+        drop_read(part, i);
+        i += 1;
+    }
+}
+
+fn drop_nodes(part: &mut [u8])
+    requires { ⌜ 7223 ≤ length (now part) / 8 ⌝ }
+    ensures { λ _. ⌜ Did (sweep client-words empty-place 64) (now (part .entry)) (now (part .exit)) ⌝ }
+{
+    let mut i: usize = 0;
+    while i < 64 {
+        set_number(part, Set::Copies, i, 0);
+        i += 1;
+    }
+}
+
+fn drop_vectors(part: &mut [u8])
+    requires { ⌜ 7223 ≤ length (now part) / 8 ⌝ }
+    ensures { λ _. ⌜ Did (sweep client-words drop-vector 8) (now (part .entry)) (now (part .exit)) ⌝ }
+{
+    let mut s: usize = 0;
+    while s < 8 {
+        drop_vector(part, s);
+        s += 1;
+    }
+}
+
+// All copies.
+pub fn drop_all(part: &mut [u8])
+    requires { ⌜ 7223 ≤ length (now part) / 8 ⌝ }
+    ensures { λ _. ⌜ Did drop-all (now (part .entry)) (now (part .exit)) ⌝ }
+{
+    set_field(part, 12, 0);
+    drop_nodes(part);
+    drop_vectors(part);
+}

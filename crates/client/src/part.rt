@@ -1,0 +1,181 @@
+// A client's part, a lent slice of bytes that begins at the client's first word: its fields and its items.
+use crate::record::item_words;
+use crate::record::vector_words;
+use memory::read_word;
+use memory::write_word;
+use memory::write_words;
+use nodes::found::Found;
+use nodes::node::Node;
+use nodes::stored::read_node;
+ghost use mathlib.Core.Path.{_≡_};
+ghost use Prim.Native.Nat.{_+_, _*_, _/_, _<_, _≤_};
+ghost use lib.ListN.{length};
+ghost use Rattle.layout.specs.Space.{at};
+ghost use Rattle.client.specs.Layout.{client-words, client-block, field, item, vector-word, limit, base};
+ghost use Rattle.client.specs.Sets.{held, at-most, count, number-at, record-at, find};
+ghost use Rattle.nodes.specs.Found.{Inside};
+ghost use Rattle.client.specs.Part.{Did, put-field, put-fields, put-item, put-number, put-vector, drop-vector};
+
+// The words of a client's part: "the length that given sizes call for" has this for each client.
+pub const CLIENT_WORDS: usize = 7223;
+
+// The read set, the write set, and the copies of inner nodes.
+pub enum Set {
+    Reads,
+    Writes,
+    Copies,
+}
+
+// Where a set begins.
+fn base(set: Set) -> usize
+    ensures { λ r. ⌜ r ≡ base set ⌝ }
+    ensures within { λ r. ⌜ (limit set ≤ 96) × (r + 34 * limit set ≤ 7223) ⌝ }
+{
+    match set {
+        Set::Reads => 15,
+        Set::Writes => 3279,
+        Set::Copies => 4911,
+    }
+}
+
+// Where an item of a set begins.
+pub fn item_at(set: Set, i: usize) -> usize
+    requires { ⌜ i < limit set ⌝ }
+    ensures { λ r. ⌜ r ≡ at client-words client-block (item set i 0) ⌝ }
+    ensures within { λ r. ⌜ r + 34 ≤ 7223 ⌝ }
+{
+    let first = base(set);
+    first + 34 * i
+}
+
+// Where the copy of a server's vector begins.
+pub fn vector_at(s: usize) -> usize
+    requires { ⌜ s < 8 ⌝ }
+    ensures { λ r. ⌜ r ≡ at client-words client-block (vector-word s 0) ⌝ }
+    ensures within { λ r. ⌜ r + 17 ≤ 7223 ⌝ }
+{
+    7087 + 17 * s
+}
+
+pub fn get_field(part: &[u8], i: usize) -> u64
+    requires { ⌜ (i < 15) × (7223 ≤ length (now part) / 8) ⌝ }
+    ensures { λ r. ⌜ r ≡ held (now (part .entry)) (field i) ⌝ }
+{
+    read_word(part, i)
+}
+
+pub fn set_field(part: &mut [u8], i: usize, v: u64)
+    requires { ⌜ (i < 15) × (7223 ≤ length (now part) / 8) ⌝ }
+    ensures { λ _. ⌜ Did (put-field i v) (now (part .entry)) (now (part .exit)) ⌝ }
+{
+    write_word(part, i, v);
+}
+
+// The fields from i on become those given.
+pub fn set_fields(part: &mut [u8], i: usize, values: &[u64])
+    requires { ⌜ (i + length (now values) ≤ 15) × (7223 ≤ length (now part) / 8) ⌝ }
+    ensures { λ _. ⌜ Did (put-fields i (now (values .entry))) (now (part .entry)) (now (part .exit)) ⌝ }
+{
+    write_words(part, i, values);
+}
+
+// The copy of a server's vector becomes the words given.
+pub fn set_vector(part: &mut [u8], s: usize, words: [u64; 16])
+    requires { ⌜ (s < 8) × (7223 ≤ length (now part) / 8) ⌝ }
+    ensures { λ _. ⌜ Did (put-vector s words) (now (part .entry)) (now (part .exit)) ⌝ }
+{
+    let copy = vector_words(words);
+    write_words(part, vector_at(s), &copy);
+}
+
+pub fn drop_vector(part: &mut [u8], s: usize)
+    requires { ⌜ (s < 8) × (7223 ≤ length (now part) / 8) ⌝ }
+    ensures { λ _. ⌜ Did (drop-vector s) (now (part .entry)) (now (part .exit)) ⌝ }
+{
+    write_word(part, vector_at(s), 0);
+}
+
+// A word of the copy of a server's vector.
+pub fn vector_word(part: &[u8], s: usize, j: usize) -> u64
+    requires { ⌜ (s < 8) × (j < 17) × (7223 ≤ length (now part) / 8) ⌝ }
+    ensures { λ r. ⌜ r ≡ held (now (part .entry)) (vector-word s j) ⌝ }
+{
+    read_word(part, vector_at(s) + j)
+}
+
+// A word of an item.
+pub fn item_word(part: &[u8], set: Set, i: usize, j: usize) -> u64
+    requires { ⌜ (i < limit set) × (j < 34) × (7223 ≤ length (now part) / 8) ⌝ }
+    ensures { λ r. ⌜ r ≡ held (now (part .entry)) (item set i j) ⌝ }
+{
+    read_word(part, item_at(set, i) + j)
+}
+
+// The number of an item's object.
+pub fn number_at(part: &[u8], set: Set, i: usize) -> u64
+    requires { ⌜ (i < limit set) × (7223 ≤ length (now part) / 8) ⌝ }
+    ensures { λ r. ⌜ r ≡ number-at (held (now (part .entry))) set i ⌝ }
+{
+    read_word(part, item_at(set, i))
+}
+
+pub fn record_at(part: &[u8], set: Set, i: usize) -> Node
+    requires { ⌜ (i < limit set) × (7223 ≤ length (now part) / 8) ⌝ }
+    ensures { λ r. ⌜ r ≡ record-at (held (now (part .entry))) set i ⌝ }
+{
+    read_node(part, item_at(set, i) + 1)
+}
+
+// Item i of a set becomes the object of that number with that record.
+pub fn set_item(part: &mut [u8], set: Set, i: usize, number: u64, node: Node)
+    requires { ⌜ (i < limit set) × (7223 ≤ length (now part) / 8) ⌝ }
+    ensures { λ _. ⌜ Did (put-item set i number node) (now (part .entry)) (now (part .exit)) ⌝ }
+{
+    let words = item_words(number, node);
+    write_words(part, item_at(set, i), &words);
+}
+
+fn at_most(limit: usize, n: u64) -> usize
+    ensures { λ r. ⌜ r ≡ at-most limit n ⌝ }
+    ensures within { λ r. ⌜ r ≤ limit ⌝ }
+{
+    let n = n as usize;
+    if n <= limit { n } else { limit }
+}
+
+pub fn set_number(part: &mut [u8], set: Set, i: usize, number: u64)
+    requires { ⌜ (i < limit set) × (7223 ≤ length (now part) / 8) ⌝ }
+    ensures { λ _. ⌜ Did (put-number set i number) (now (part .entry)) (now (part .exit)) ⌝ }
+{
+    write_word(part, item_at(set, i), number);
+}
+
+// How many items a set has, at most its limit.
+pub fn count(part: &[u8], set: Set) -> usize
+    requires { ⌜ 7223 ≤ length (now part) / 8 ⌝ }
+    ensures { λ r. ⌜ r ≡ count (held (now (part .entry))) set ⌝ }
+    ensures within { λ r. ⌜ r ≤ limit set ⌝ }
+{
+    match set {
+        Set::Reads => at_most(96, get_field(part, 10)),
+        Set::Writes => at_most(48, get_field(part, 11)),
+        Set::Copies => 64,
+    }
+}
+
+// The first item of a set with that number.
+pub fn find(part: &[u8], set: Set, number: u64) -> Found
+    requires { ⌜ (7223 ≤ length (now part) / 8) ⌝ }
+    ensures { λ r. ⌜ r ≡ find (held (now (part .entry))) set number ⌝ }
+    ensures within { λ r. ⌜ Inside r (limit set) ⌝ }
+{
+    let n = count(part, set);
+    let mut i: usize = 0;
+    while i < n {
+        if number_at(part, set, i) == number {
+            return Found::At(i);
+        }
+        i += 1;
+    }
+    Found::Absent
+}

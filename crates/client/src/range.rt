@@ -1,0 +1,47 @@
+// Records of objects, and which of them are out of range.
+use nodes::node::Node;
+ghost use mathlib.Core.Path.{_≡_};
+ghost use Rattle.client.specs.Record.{single, in-store, fits, sizes};
+
+// A record of the metadata or a flag: its value stands in the first slot.
+pub fn single(version: u64, value: u64) -> Node
+    ensures { λ r. ⌜ r ≡ single version value ⌝ }
+{
+    let mut slots = [0u64; 15];
+    slots[0] = value;
+    Node {
+        kind: 0,
+        level: 0,
+        version,
+        count: 0,
+        keys: [0; 14],
+        slots,
+    }
+}
+
+// Is there a node of that name in a store of these sizes?
+pub fn in_store(servers: usize, slots: usize, name: u64) -> bool
+    ensures { λ r. ⌜ r ≡ in-store (sizes servers slots) name ⌝ }
+{
+    if (name / 1024) as usize >= servers {
+        return false;
+    }
+    ((name % 1024) as usize) < slots
+}
+
+// May the record of the object with that number be used?
+pub fn fits(servers: usize, slots: usize, number: u64, n: Node) -> bool
+    ensures { λ r. ⌜ r ≡ fits (sizes servers slots) number n ⌝ }
+{
+    let first = n.slots[0];
+    if number == 0 {
+        if !in_store(servers, slots, first) {
+            return false;
+        }
+        return n.version <= 4294967295;
+    }
+    if number <= 8192 {
+        return n.in_range();
+    }
+    first <= 1
+}

@@ -1,0 +1,75 @@
+// A server's vector as a client sees it: its copy, with the transaction's frees and takes.
+use crate::part::Set;
+use crate::part::count;
+use crate::part::get_field;
+use crate::part::item_word;
+use crate::part::number_at;
+use crate::part::vector_at;
+use crate::part::vector_word;
+use memory::bits::has;
+use memory::read_words;
+use nodes::vector::with_taken;
+ghost use mathlib.Core.Path.{_≡_};
+ghost use Prim.Native.Nat.{_/_, _<_, _≤_};
+ghost use lib.ListN.{length};
+ghost use Rattle.client.specs.Sets.{held};
+ghost use Rattle.client.specs.Vectors.{has-vector, vector-copy, counted-one, seen-words, is-fetched};
+
+// Is there a copy?
+pub fn has_vector(part: &[u8], s: usize) -> bool
+    requires { ⌜ (s < 8) × (7223 ≤ length (now part) / 8) ⌝ }
+    ensures { λ r. ⌜ r ≡ has-vector (held (now (part .entry))) s ⌝ }
+{
+    vector_word(part, s, 0) == 1
+}
+
+pub fn vector_copy(part: &[u8], s: usize) -> [u64; 16]
+    requires { ⌜ (s < 8) × (7223 ≤ length (now part) / 8) ⌝ }
+    ensures { λ r. ⌜ r ≡ vector-copy (held (now (part .entry))) s ⌝ }
+{
+    let mut words = [0u64; 16];
+    read_words(part, vector_at(s) + 1, &mut words);
+    words
+}
+
+// The vector with write item i counted.
+fn counted_one(part: &[u8], s: usize, i: usize, words: [u64; 16]) -> [u64; 16]
+    requires { ⌜ (i < 48) × (7223 ≤ length (now part) / 8) ⌝ }
+    ensures { λ r. ⌜ r ≡ counted-one (held (now (part .entry))) s i words ⌝ }
+{
+    let number = number_at(part, Set::Writes, i);
+    if number < 8193 {
+        return words;
+    }
+    let name = number - 8193;
+    if (name / 1024) as usize != s {
+        return words;
+    }
+    let taken = item_word(part, Set::Writes, i, 19) == 1;
+    with_taken(words, (name % 1024) as usize, taken)
+}
+
+// The vector with the transaction's frees and takes.
+pub fn seen_words(part: &[u8], s: usize) -> [u64; 16]
+    requires { ⌜ (s < 8) × (7223 ≤ length (now part) / 8) ⌝ }
+    ensures { λ r. ⌜ r ≡ seen-words (held (now (part .entry))) s ⌝ }
+{
+    let n = count(part, Set::Writes);
+    let copy = vector_copy(part, s);
+    let mut words = copy;
+    let mut i: usize = 0;
+    while i < n {
+        let next = counted_one(part, s, i, words);
+        words = next;
+        i += 1;
+    }
+    words
+}
+
+// Has this transaction fetched it?
+pub fn is_fetched(part: &[u8], s: usize) -> bool
+    requires { ⌜ (s < 8) × (7223 ≤ length (now part) / 8) ⌝ }
+    ensures { λ r. ⌜ r ≡ is-fetched (held (now (part .entry))) s ⌝ }
+{
+    has(get_field(part, 8), s as u32)
+}
