@@ -1,7 +1,7 @@
 -- Who takes part in a commit, and what a server has to know of an object that was read.
 use mathlib.Core.Bool.{Bool, true, false, cond, _&&_, _||_, not}
-use Prim.Native.Nat.{ℕ, zero, suc, _-_, _%_, _^_}
-use lib.Dec.{eqb}
+use Prim.Native.Nat.{ℕ, zero, suc, _-_, _^_}
+use lib.Dec.{eqb, ltb}
 use Rattle.memory.specs.Bit.{bit, digit, putBit}
 use Rattle.nodes.specs.declared.found.Found.{Found}
 use Rattle.nodes.specs.declared.found.Found.the-variants.{At, Absent}
@@ -37,11 +37,10 @@ module _ (m : ClientWord → ℕ) where
 
   -- "the homes of leaves, free nodes and flags read"
   unfoldable pub has-home : ℕ → Bool
-  has-home i = by-number (number-at m Reads i) false (λ n. not (eqb (m (item Reads i 1)) 2)) (λ n. true)
+  has-home i = by-number (number-at m Reads i) false (λ n. not (eqb (m (item Reads i 1)) 2)) (λ n. ltb (server-of n) 8)
 
-  -- (a server's number is below 64 in any case: it is a place in a word)
   unfoldable pub home : ℕ → ℕ
-  home i = by-number (number-at m Reads i) 0 server-of (λ n. server-of n % 64)
+  home i = by-number (number-at m Reads i) 0 server-of server-of
 
   unfoldable pub with-home : ℕ → ℕ → ℕ
   with-home i w = cond (has-home i) (putBit true w (home i)) w

@@ -1,14 +1,12 @@
 -- The ways out of the functions on a commit.
 use mathlib.Core.Path.{_≡_, refl, sym, ap, _∙_}
-use mathlib.Core.Bool.{Bool, true, false, cond, _&&_, _||_, not}
-use mathlib.Core.List.{List}
+use mathlib.Core.Bool.{Bool, true, false, not}
 use Prim.Native.Nat.{ℕ, zero, suc, _+_, _-_, _*_, _/_, _%_, _^_, _≤_, _<_}
 use native.Mathlib.Omega.{arith}
 use native.Mathlib.Numerals.{add-one}
-use borrow.Author.Tests.{eq-eqb, ne-eqb, le-leb, lt-leb, not-true, not-false}
-use lib.Dec.{eqb, leb}
-use lib.Pow.{pow-lt, pow-pos}
-use Rattle.base.specs.Test.{bool-cases}
+use borrow.Author.Tests.{eq-eqb, ne-eqb, le-leb, lt-leb, lt-ltb, le-ltb, not-true, not-false}
+use lib.Dec.{eqb}
+use lib.Pow.{pow-lt}
 use Rattle.memory.specs.Bit.{bit, digit, putBit}
 use Rattle.nodes.specs.declared.found.Found.{Found}
 use Rattle.nodes.specs.declared.found.Found.the-variants.{At, Absent}
@@ -89,9 +87,14 @@ module _ (m : ClientWord → ℕ) (i x w : ℕ) (e : x ≡ number-at m Reads i) 
       unfolding with-home has-home home
       home-node r q t = rw (← e, ne-eqb _ _ d, le-leb _ _ h, ← p, ne-eqb _ _ q) t
 
-    pub home-flag : (r : ℕ) → 8192 < x → r ≡ putBit true w ((x - 8193) / 1024 % 64) → r ≡ with-home m i w
-    unfolding with-home has-home home
-    home-flag r h t = rw (← e, ne-eqb _ _ d, lt-leb _ _ h) t
+    module _ (h : 8192 < x) where
+      pub home-flag : (r : ℕ) → (x - 8193) / 1024 < 8 → r ≡ putBit true w ((x - 8193) / 1024) → r ≡ with-home m i w
+      unfolding with-home has-home home
+      home-flag r l t = rw (← e, ne-eqb _ _ d, lt-leb _ _ h, lt-ltb _ _ l) t
+
+      pub home-beyond : 8 ≤ (x - 8193) / 1024 → w ≡ with-home m i w
+      unfolding with-home has-home
+      home-beyond l = rw (← e, ne-eqb _ _ d, lt-leb _ _ h, le-ltb _ _ l)
 
 -- i of the n objects read are counted
 pub record Homing (m : ClientWord → ℕ) (n w i : ℕ) : Type 0 where

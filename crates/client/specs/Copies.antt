@@ -1,8 +1,5 @@
 -- "Copies: metadata, one vector a server, 64 inner nodes; when full, a node isn't copied."
-use mathlib.Core.Bool.{cond}
-use mathlib.Core.List.{List, []}
-use Prim.Native.Nat.{ℕ, _+_}
-use lib.Dec.{eqb}
+use Prim.Native.Nat.{ℕ}
 use Rattle.layout.specs.Sweep.{sweep}
 use Rattle.nodes.specs.declared.node.Node.{Node}
 use Rattle.nodes.specs.declared.found.Found.{Found}

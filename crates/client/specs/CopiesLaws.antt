@@ -1,10 +1,10 @@
 -- How copies are put and dropped, and what a fetched object does.
-use mathlib.Core.Path.{_≡_, refl, sym, _∙_}
-use mathlib.Core.Bool.{Bool, true, false, cond}
+use mathlib.Core.Path.{_≡_, refl}
+use mathlib.Core.Bool.{true, cond}
 use mathlib.Core.List.{List, [], _∷_}
-use Prim.Native.Nat.{ℕ, _+_, _-_, _/_, _≤_, _<_}
+use Prim.Native.Nat.{ℕ, _-_, _/_, _≤_, _<_}
 use native.Mathlib.Omega.{arith}
-use borrow.Author.Tests.{eq-eqb, ne-eqb, le-leb, lt-leb, lt-ltb, le-ltb}
+use borrow.Author.Tests.{eq-eqb, ne-eqb, le-leb, lt-leb, le-ltb}
 use lib.Dec.{eqb, leb}
 use lib.ListN.{length, replicate}
 use Rattle.memory.specs.Bit.{putBit}
@@ -16,8 +16,8 @@ use Rattle.client.specs.declared.part.Set.the-variants.{Reads, Copies}
 use Rattle.client.specs.Layout.{ClientWord, client-words, field}
 use Rattle.client.specs.Record.{single}
 use Rattle.client.specs.Sets.{held, count, number-at, find}
-use Rattle.client.specs.Part.{Step, Did, nothing, put-field, put-fields, put-item, put-number, drop-vector}
-use Rattle.client.specs.StepLaws.{Good, AllGood, EachGood, did-as, did-nothing, good-nothing, good-field, good-item, good-number, good-drop, good-cond, good-by, good-sweep, good-loop, did-then, did-three, good-fields, find-limit, swept-all}
+use Rattle.client.specs.Part.{Did, nothing, put-field, put-fields, put-item, put-number, drop-vector}
+use Rattle.client.specs.StepLaws.{Good, AllGood, EachGood, did-as, did-nothing, good-nothing, good-field, good-item, good-number, good-drop, good-cond, good-by, good-sweep, good-loop, did-then, did-three, find-limit, swept-all}
 use Rattle.client.specs.Enter.{enter-read}
 use Rattle.client.specs.EnterLaws.{good-read}
 use Rattle.client.specs.Copies.{to-empty, to-place, copy-node, drop-at, drop-node, drop-object, drop-read, drop-reads, empty-place, drop-all}

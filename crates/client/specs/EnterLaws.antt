@@ -1,7 +1,7 @@
 -- How objects enter the sets.
-use mathlib.Core.Path.{_≡_, refl, sym, ap, _∙_}
-use mathlib.Core.Bool.{Bool, true, false, cond}
-use mathlib.Core.List.{List, []}
+use mathlib.Core.Path.{_≡_, refl}
+use mathlib.Core.Bool.{cond}
+use mathlib.Core.List.{List}
 use Prim.Native.Nat.{ℕ, _+_, _*_, _/_, _≤_, _<_}
 use native.Mathlib.Omega.{arith}
 use borrow.Author.Tests.{ltb-true, lt-ltb, le-ltb}
@@ -13,12 +13,12 @@ use Rattle.nodes.specs.declared.found.Found.{Found}
 use Rattle.nodes.specs.declared.found.Found.the-variants.{At, Absent}
 use Rattle.client.specs.declared.answer.Look.{Look}
 use Rattle.client.specs.declared.part.Set.the-variants.{Reads, Writes}
-use Rattle.client.specs.Layout.{ClientWord, client-words, limit}
+use Rattle.client.specs.Layout.{ClientWord, client-words}
 use Rattle.client.specs.Sets.{held, count, find}
-use Rattle.client.specs.Part.{Step, Did, _then_, nothing, put-field, put-item}
+use Rattle.client.specs.Part.{Did, nothing, put-field, put-item}
 use Rattle.client.specs.StepLaws.{Good, EachGood, did-then, did-as, did-nothing, good-then, good-nothing, good-field, good-item, good-cond, good-by, find-limit, swept-all}
 use Rattle.client.specs.Have.{copied}
-use Rattle.client.specs.Lent.{own-number, own-record, own-count}
+use Rattle.client.specs.Lent.{own-number, own-record}
 use Rattle.client.specs.Enter.{read-behind, enter-read, enter-copy, enter-nth, enter-used, written-behind, enter-at, enter-write, write-nth, enter-writes}
 
 module _ (s : List ℕ) (x c : ℕ) (n : Node) (e : c ≡ count (held s) Reads) where

@@ -1,21 +1,17 @@
 -- A search from the front, turn by turn.
-use mathlib.Core.Path.{_≡_, refl, sym, ap, _∙_}
-use mathlib.Core.Bool.{Bool, true, false, cond}
-use mathlib.Core.List.{List, [], _∷_}
+use mathlib.Core.Path.{_≡_, refl, sym, _∙_}
+use mathlib.Core.List.{List}
 use Prim.Native.Nat.{ℕ, zero, suc, _+_, _-_, _*_, _≤_, _<_}
 use native.Mathlib.Omega.{arith}
 use native.Mathlib.Numerals.{add-one}
-use native.Mathlib.Decide.{decLt}
 use borrow.Author.Tests.{eq-eqb, ne-eqb}
-use lib.Dec.{eqb}
 use lib.ListN.{getD}
-use Rattle.nodes.specs.declared.found.Found.{Found}
 use Rattle.nodes.specs.declared.found.Found.the-variants.{At, Absent}
 use Rattle.nodes.specs.Found.{Inside, at-inside}
 use Rattle.client.specs.declared.part.Set.{Set}
 use Rattle.client.specs.Layout.{ClientWord}
-use Rattle.client.specs.Sets.{count, number-at, or-found, first-of, find}
-use Rattle.client.specs.Lent.{own-number, own-count, own-find}
+use Rattle.client.specs.Sets.{count, number-at, first-of, find}
+use Rattle.client.specs.Lent.{own-number, own-find}
 
 -- of n the first i are not x
 pub record Searched (f : ℕ → ℕ) (n x i : ℕ) : Type 0 where

@@ -1,6 +1,6 @@
 -- "10. Something stored that this step's rule reads has a field out of range, or points to something that isn't there": the
 -- client's own state, read by every step of the client. Copies are judged where they are used.
-use mathlib.Core.Bool.{Bool, true, false, cond, _&&_}
+use mathlib.Core.Bool.{Bool, true, cond, _&&_}
 use mathlib.Core.List.{List, [], _∷_}
 use Prim.Native.Nat.{ℕ, _-_, _^_}
 use lib.Dec.{eqb, leb, ltb}

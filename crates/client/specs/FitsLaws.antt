@@ -1,13 +1,14 @@
 -- The ways out of the test of a client's own state.
-use mathlib.Core.Path.{_≡_, refl, sym, _∙_}
-use mathlib.Core.Bool.{Bool, true, false, cond, _&&_, not}
-use mathlib.Core.List.{List}
-use Prim.Native.Nat.{ℕ, _-_, _*_, _%_, _^_, _≤_, _<_}
+use mathlib.Core.Path.{_≡_, sym, _∙_}
+use mathlib.Core.Bool.{Bool, true, false, _&&_, not}
+use Prim.Native.Nat.{ℕ, zero, suc, _-_, _*_, _%_, _^_, _≤_, _<_}
 use native.Mathlib.Omega.{arith}
-use borrow.Author.Tests.{eq-eqb, ne-eqb, le-leb, lt-leb, not-true, not-false}
+use borrow.Author.Tests.{eq-eqb, ne-eqb, le-leb, lt-leb, leb-true, not-true, not-false}
+use native.Mathlib.Decide.{ℕ-discrete}
 use lib.Dec.{leb, ltb}
 use lib.ListN.{getD}
-use lib.Pow.{pow-lt, pow-pos}
+use lib.Pow.{pow-lt}
+use Rattle.base.specs.Test.{and-both}
 use Rattle.nodes.specs.declared.node.Node.{Node}
 use Rattle.nodes.specs.declared.found.Found.{Found}
 use Rattle.operations.specs.Slot.{Sizes}
@@ -117,3 +118,47 @@ module _ (k l : ℕ) (m : ClientWord → ℕ) (b : Bool) (h : k ≤ 8) (p : b �
         pub vectors-asked : (g : Bool) → not f ≡ false → g ≡ all-of (vector-fits m) 8 → g ≡ client-fits (sizes k l) m
         unfolding client-fits
         vectors-asked g w o = rw (← all-fields, not-false b t, ← q, not-false c u, ← r, not-false d v, ← s, not-false f w) o
+
+-- ---- what a state in range is known by
+pub all-at : (f : ℕ → Bool) (n i : ℕ) → all-of f n ≡ true → i < n → f i ≡ true
+unfolding all-of
+all-at f zero i h l = absurd (omega arith)
+all-at f (suc n) i h l = go (and-both (all-of f n) (f n) h) (ℕ-discrete i n) (all-at f n i)
+  where
+    go : (all-of f n ≡ true) × (f n ≡ true) → Dec (i ≡ n) → (all-of f n ≡ true → i < n → f i ≡ true) → f i ≡ true
+    go p (yes e) ih = rw e (p .1)
+    go p (no d) ih = ih (p .0) (omega arith)
+
+module _ (z : Sizes) (m : ClientWord → ℕ) (h : client-fits z m ≡ true) where
+  parts : (all-of (field-fits m (2 ^ z .servers - 1)) 13 ≡ true)
+      × (op-fits z m && (all-of (item-fits z m Reads) (count m Reads) && (all-of (item-fits z m Writes) (count m Writes) && all-of (vector-fits m) 8)) ≡ true)
+  unfolding client-fits
+  parts =
+      and-both (all-of (field-fits m (2 ^ z .servers - 1)) 13)
+      (op-fits z m && (all-of (item-fits z m Reads) (count m Reads) && (all-of (item-fits z m Writes) (count m Writes) && all-of (vector-fits m) 8))) h
+
+  sets : (all-of (item-fits z m Reads) (count m Reads) ≡ true) × (all-of (item-fits z m Writes) (count m Writes) && all-of (vector-fits m) 8 ≡ true)
+  sets =
+      and-both (all-of (item-fits z m Reads) (count m Reads)) (all-of (item-fits z m Writes) (count m Writes) && all-of (vector-fits m) 8)
+      (and-both (op-fits z m) (all-of (item-fits z m Reads) (count m Reads) && (all-of (item-fits z m Writes) (count m Writes) && all-of (vector-fits m) 8)) (parts .1) .1)
+
+  -- each field is within its bound, each item of both sets is in range
+  pub fits-field : (i : ℕ) → i < 13 → m (field i) ≤ getD (bounds (2 ^ z .servers - 1)) i 0
+  unfolding field-fits
+  fits-field i l = leb-true _ _ (all-at (field-fits m (2 ^ z .servers - 1)) 13 i (parts .0) l)
+
+  pub fits-read : (i : ℕ) → i < count m Reads → item-fits z m Reads i ≡ true
+  fits-read i l = all-at (item-fits z m Reads) (count m Reads) i (sets .0) l
+
+  pub fits-write : (i : ℕ) → i < count m Writes → item-fits z m Writes i ≡ true
+  fits-write i l =
+      all-at (item-fits z m Writes) (count m Writes) i (and-both (all-of (item-fits z m Writes) (count m Writes)) (all-of (vector-fits m) 8) (sets .1) .0) l
+
+  -- so the counts are what the fields say
+  pub exact-reads : count m Reads ≡ m (field 10)
+  unfolding count
+  exact-reads = rw (le-leb _ _ (fits-field 10 (omega arith)))
+
+  pub exact-writes : count m Writes ≡ m (field 11)
+  unfolding count
+  exact-writes = rw (le-leb _ _ (fits-field 11 (omega arith)))

@@ -1,7 +1,7 @@
 -- The layout of a client's part, in words.
 use mathlib.Core.Path.{_≡_, refl}
 use mathlib.Core.List.{List, [], _∷_}
-use Prim.Native.Nat.{ℕ, zero, suc, _+_, _*_}
+use Prim.Native.Nat.{ℕ}
 use lib.ListN.{getD}
 use Rattle.layout.specs.Block.{Block, words, times, next, end, size}
 use Rattle.layout.specs.Space.{Coding}

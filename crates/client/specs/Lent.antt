@@ -1,6 +1,6 @@
 -- The lent lists of a work step: the operation's own writes, and the copies that it uses. Nothing of them is stored.
-use mathlib.Core.List.{List, [], _∷_}
-use Prim.Native.Nat.{ℕ, zero, suc, _+_, _*_, _≤_, _<_}
+use mathlib.Core.List.{List, _∷_}
+use Prim.Native.Nat.{ℕ, _+_, _*_, _≤_, _<_}
 use lib.ListN.{length, getD, take, drop, set}
 use lib.Seq.{paste}
 use Rattle.nodes.specs.declared.node.Node.{Node}

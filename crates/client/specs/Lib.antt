@@ -15,6 +15,7 @@ pub mod Fetched
 pub mod Life
 pub mod Commit
 pub mod Fits
+pub mod Renew
 pub mod PartLaws
 pub mod FindLaws
 pub mod LentLaws
@@ -25,3 +26,16 @@ pub mod EnterLaws
 pub mod CopiesLaws
 pub mod CommitLaws
 pub mod FitsLaws
+pub mod RenewLaws
+pub mod GoodSteps
+pub mod Samples
+pub mod Entries
+pub mod Walk
+pub mod WalkAsk
+pub mod WalkDown
+pub mod WalkLook
+pub mod WalkSeek
+pub mod WalkNear
+pub mod WalkBegin
+pub mod WalkWrite
+pub mod WalkSlot

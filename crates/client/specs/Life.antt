@@ -1,5 +1,5 @@
 -- The life of a transaction in a client's part.
-use mathlib.Core.List.{List, [], _∷_}
+use mathlib.Core.List.{[], _∷_}
 use Prim.Native.Nat.{ℕ}
 use lib.ListN.{replicate}
 use Rattle.client.specs.Part.{Step, _then_, put-field, put-fields}

@@ -1,5 +1,5 @@
 -- What a work step's lookup of an object says: "own writes of the operation", else the part, with the copies in use counted.
-use mathlib.Core.Bool.{Bool, true, false, cond, _&&_}
+use mathlib.Core.Bool.{cond}
 use mathlib.Core.List.{List}
 use Prim.Native.Nat.{ℕ, _+_}
 use lib.Dec.{ltb}

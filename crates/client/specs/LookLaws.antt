@@ -1,18 +1,18 @@
 -- The ways out of a lookup.
-use mathlib.Core.Path.{_≡_, refl, sym, ap, _∙_}
+use mathlib.Core.Path.{_≡_, refl, sym, _∙_}
 use mathlib.Core.Bool.{Bool, true, false, cond, _&&_, not, true≢false}
 use mathlib.Core.List.{List}
-use Prim.Native.Nat.{ℕ, suc, _+_, _-_, _/_, _%_, _≤_, _<_}
+use Prim.Native.Nat.{ℕ, _+_, _-_, _/_, _%_, _≤_, _<_}
 use native.Mathlib.Omega.{arith}
 use borrow.Author.Tests.{eq-eqb, ne-eqb, lt-ltb, le-ltb, le-leb, lt-leb, ltb-true, not-true, not-false}
-use lib.Dec.{eqb, leb, ltb}
+use lib.Dec.{ltb}
 use lib.ListN.{length, getD}
 use Rattle.base.specs.Test.{and-both}
-use Rattle.memory.specs.Bit.{bit, digit}
+use Rattle.memory.specs.Bit.{bit}
 use Rattle.nodes.specs.declared.node.Node.{Node}
 use Rattle.nodes.specs.declared.found.Found.{Found}
 use Rattle.nodes.specs.declared.found.Found.the-variants.{At, Absent}
-use Rattle.operations.specs.Object.{Obj, meta, node, flag}
+use Rattle.operations.specs.Object.{Obj, node}
 use Rattle.operations.specs.Slot.{Sizes}
 use Rattle.client.specs.declared.answer.Look.{Look}
 use Rattle.client.specs.declared.part.Set.the-variants.{Reads, Writes, Copies}
@@ -21,7 +21,7 @@ use Rattle.client.specs.Record.{number, single, sizes, in-store, object-
 use Rattle.client.specs.Sets.{count, record-at, find}
 use Rattle.client.specs.Have.{here, copy, full, lacking, unfit, is-found, is-copied, copied-meta, copied-node, copied-flag, copied, source}
 use Rattle.client.specs.Run.{among}
-use Rattle.client.specs.Lent.{Lent, OwnFits, own-find, own-record, used-in, pushed}
+use Rattle.client.specs.Lent.{Lent, own-find, own-record, used-in, pushed}
 use Rattle.client.specs.LentLaws.{length-used, pushed-lent}
 use Rattle.client.specs.Look.{taken-up, or-in-part, looked, look-object, at-hand, used-after}
 

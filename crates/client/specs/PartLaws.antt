@@ -1,18 +1,18 @@
 -- Where the words of a client's part lie, and what reading and writing them means.
 use mathlib.Core.Path.{_≡_, refl, sym, ap, _∙_}
 use mathlib.Core.Bool.{Bool, true, false, cond}
-use mathlib.Core.List.{List, [], _∷_, _++_}
+use mathlib.Core.List.{List, _∷_}
 use Prim.Native.Nat.{ℕ, suc, _+_, _*_, _/_, _≤_, _<_}
 use native.Mathlib.Omega.{arith}
 use native.Mathlib.Nat.{add-zero}
 use borrow.Author.Tests.{leb-true}
 use lib.Dec.{leb}
-use lib.ListN.{length, getD, take, drop, set, length-append}
+use lib.ListN.{length, getD, take, drop, set}
 use lib.Seq.{sets}
 use Rattle.memory.specs.Word.{view}
 use Rattle.memory.specs.WordLaws.{view-length}
 use Rattle.layout.specs.Block.{size, In, offset}
-use Rattle.layout.specs.Space.{Run, at, Valid, mem, mem-at, mem-run, stored, stored-run, puts, tab-getD}
+use Rattle.layout.specs.Space.{Run, at, Valid, mem-at, mem-run, stored, stored-run, tab-getD}
 use Rattle.layout.specs.Step.{Does, stepped, silent}
 use Rattle.nodes.specs.declared.node.Node.{Node}
 use Rattle.client.specs.declared.part.Set.{Set}

@@ -1,12 +1,12 @@
 -- A plan worked on by a client: over what it has, counting the copies that come into use. Nothing is changed by it.
-use mathlib.Core.Bool.{Bool, true, false, cond, _||_}
+use mathlib.Core.Bool.{Bool, false, cond, _||_}
 use mathlib.Core.List.{List, [], _∷_, _++_}
 use mathlib.Core.Option.{Option, none, some}
 use Prim.Native.Nat.{ℕ}
 use lib.Dec.{eqb, ltb}
 use lib.ListN.{length}
 use Rattle.plans.specs.Plan as P
-use Rattle.operations.specs.Object.{Obj, Ask, object, vector, fetched, Val, Why, reason, Ans, Writes}
+use Rattle.operations.specs.Object.{Ask, object, vector, fetched, Val, reason, Ans, Writes}
 use Rattle.operations.specs.Path.{Plan}
 use Rattle.client.specs.Record.{number}
 

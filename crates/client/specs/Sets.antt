@@ -1,6 +1,6 @@
 -- The read set, the write set and the copies of inner nodes, as functions of what stands in a client's part.
-use mathlib.Core.Bool.{Bool, true, false, cond}
-use mathlib.Core.List.{List, [], _∷_}
+use mathlib.Core.Bool.{cond}
+use mathlib.Core.List.{List}
 use Prim.Native.Nat.{ℕ, zero, suc}
 use lib.Dec.{eqb, leb}
 use Rattle.memory.specs.Word.{view}

@@ -1,17 +1,17 @@
 -- Laws of steps: their stores lie in the part, and they follow one another.
 use mathlib.Core.Path.{_≡_, refl, sym, ap, _∙_, subst}
 use mathlib.Core.Bool.{Bool, true, false, cond}
-use mathlib.Core.List.{List, [], _∷_, _++_}
+use mathlib.Core.List.{List, [], _∷_}
 use Prim.Native.Nat.{ℕ, zero, suc, _+_, _/_, _≤_, _<_}
 use native.Mathlib.Omega.{arith}
-use borrow.Author.Tests.{ltb-true, lt-ltb, le-ltb}
+use borrow.Author.Tests.{ltb-true, lt-ltb}
 use lib.Dec.{ltb, eqb}
 use lib.ListN.{length, getD, set}
 use lib.Seq.{sets}
 use Rattle.memory.specs.Word.{view}
 use Rattle.memory.specs.WordLaws.{view-length}
 use Rattle.layout.specs.Block.{size, In, offset}
-use Rattle.layout.specs.Space.{Put, put, puts, tab, tab-getD, Run, at, Valid, mem, changed, stored, stored-run, valid-run, AllValid, mem-stored, length-stored}
+use Rattle.layout.specs.Space.{put, tab, tab-getD, Run, at, Valid, mem, changed, stored, stored-run, valid-run, AllValid, length-stored}
 use Rattle.layout.specs.Step.{Does, silent, stepped, andThen, does-then, does-mem, valid-append}
 use Rattle.layout.specs.Sweep.{sweep, sweep-valid, sweep-none, sweep-next}
 use Rattle.nodes.specs.declared.node.Node.{Node}

@@ -1,8 +1,8 @@
 -- A server's vector as a client sees it: its copy, "own frees and takes counted".
-use mathlib.Core.Bool.{Bool, true, false, cond, _&&_}
+use mathlib.Core.Bool.{Bool, cond}
 use mathlib.Core.List.{List}
 use Prim.Native.Nat.{ℕ, zero, suc, _-_}
-use lib.Dec.{eqb, leb, ltb}
+use lib.Dec.{eqb, ltb}
 use Rattle.memory.specs.Bit.{bit}
 use Rattle.layout.specs.Space.{tab}
 use Rattle.nodes.specs.Name.{server-of, slot-of}

@@ -1,10 +1,10 @@
 -- The words of an item, as they are read and written.
 use mathlib.Core.Path.{_≡_, _∙_, ap}
-use mathlib.Core.List.{List, [], _∷_, _++_, append-nil}
-use Prim.Native.Nat.{ℕ, _+_, _-_, _≤_}
+use mathlib.Core.List.{List, _∷_, append-nil}
+use Prim.Native.Nat.{ℕ}
 use native.Mathlib.Omega.{arith}
-use lib.ListN.{length, take, drop, set, replicate, length-drop, drop-of-length-le}
-use lib.Seq.{paste, take-all, take-take}
+use lib.ListN.{length, take, drop, set, replicate}
+use lib.Seq.{paste, take-all}
 use Rattle.nodes.specs.declared.node.Node.{Node}
 use Rattle.nodes.specs.Stored.{node-of, node-at, words-of}
 

@@ -8,13 +8,13 @@ use memory::bits::has;
 use memory::bits::with;
 use nodes::found::Found;
 ghost use mathlib.Core.Path.{_≡_};
-ghost use Prim.Native.Nat.{_/_, _<_, _≤_, _-_, _^_};
+ghost use Prim.Native.Nat.{_/_, _<_, _≤_, _-_};
 ghost use lib.ListN.{length};
 ghost use Rattle.nodes.specs.Found.{Inside};
 ghost use Rattle.client.specs.Layout.{limit};
 ghost use Rattle.client.specs.declared.part.Set.the-variants.{Reads, Writes};
 ghost use Rattle.client.specs.Sets.{held, count};
-ghost use Rattle.client.specs.Commit.{is-at, inner-at, inner-of, has-home, home, with-home, homes, stays-home, all-of, participants-of, use-of, lowest};
+ghost use Rattle.client.specs.Commit.{is-at, inner-at, inner-of, home, with-home, homes, stays-home, all-of, participants-of, use-of, lowest};
 
 // An object that was read: its number, its version and first slot as read, whether it is an inner node as read, whether it is
 // written, and whether it is written as an inner node.
@@ -52,7 +52,7 @@ pub fn inner_at(part: &[u8], set: Set, i: usize) -> bool
 }
 
 // Is the object with that number an inner node in a set?
-fn inner_of(part: &[u8], set: Set, number: u64) -> bool
+pub fn inner_of(part: &[u8], set: Set, number: u64) -> bool
     requires { ⌜ 7223 ≤ length (now part) / 8 ⌝ }
     ensures { λ r. ⌜ r ≡ inner-of (held (now (part .entry))) set number ⌝ }
 {
@@ -78,7 +78,11 @@ fn with_home(part: &[u8], i: usize, servers: u64) -> u64
         }
         return with(servers, ((number - 1) / 1024) as u32);
     }
-    with(servers, ((number - 8193) / 1024 % 64) as u32)
+    let home = (number - 8193) / 1024;
+    if home >= 8 {
+        return servers;
+    }
+    with(servers, home as u32)
 }
 
 fn homes(part: &[u8]) -> u64

@@ -25,7 +25,7 @@ use nodes::found::Found;
 use nodes::node::Node;
 ghost use mathlib.Core.Path.{_≡_};
 ghost use Prim.Native.Nat.{_+_, _/_, _<_, _≤_};
-ghost use lib.ListN.{length, getD};
+ghost use lib.ListN.{length};
 ghost use Rattle.operations.specs.Object.{meta, node, flag};
 ghost use Rattle.client.specs.Record.{sizes};
 ghost use Rattle.client.specs.Sets.{held};
@@ -138,7 +138,7 @@ fn looked(part: &[u8], servers: usize, slots: usize, own: &[u64], used: &[u64], 
 }
 
 // The same; a copy that comes into use is noted among those used, and is then at hand.
-fn look_at(
+pub fn look_at(
     part: &[u8],
     servers: usize,
     slots: usize,

@@ -1,8 +1,6 @@
 // The copies that a work step uses, in a lent list: their count, then their numbers, in the order of use. They become read items
 // at the end of the step.
 ghost use mathlib.Core.Path.{_≡_};
-ghost use Prim.Native.Nat.{_≤_};
-ghost use lib.ListN.{length, getD};
 ghost use Rattle.client.specs.Run.{among};
 ghost use Rattle.client.specs.Lent.{Lent, used-in, pushed};
 

@@ -7,10 +7,6 @@ use Rattle.client.specs.declared.part.Set.the-variants.{Writes}
 use borrow.Author.Needs.{needs}
 use Rattle.client.proofs.commit.all_stay_home.Statement.{statement}
 use Rattle.client.proofs.commit.all_stay_home.Tie as tie
-use Rattle.client.proofs.commit.all_stay_home.Reads as reads
-use Rattle.client.proofs.commit.all_stay_home.Lts as lts
-use Rattle.client.proofs.commit.stays_home.Reads as stays-home-reads
-use Rattle.client.proofs.part.count.Reads as count-reads
 
 abbrev Inv-loop : tie.InvT-loop
 Inv-loop part n i₀ i = (n ≤ 48) × (n ≡ count (held part) Writes) × Sofar (stays-home (held part)) n i
@@ -18,49 +14,16 @@ Inv-loop part n i₀ i = (n ≤ 48) × (n ≡ count (held part) Writes) × Sofar
 abbrev μ-loop : tie.MeasureT-loop
 μ-loop part n i₀ i = n - i
 
--- src/commit.rt:120:9
-count-requires : tie.Need-count-requires Inv-loop μ-loop
-count-requires c κs = search needs
-
--- src/commit.rt:122:5
-loop-holds : tie.Need-loop-holds Inv-loop μ-loop
-loop-holds c = (search needs, search needs, search (so-none, needs))
-
--- src/commit.rt:123:13
-stays-home-requires : tie.Need-stays-home-requires Inv-loop μ-loop
-stays-home-requires c κs = search needs
-
--- src/commit.rt:124:13
-returns : tie.Need-returns Inv-loop μ-loop
-returns c = search (so-fails, needs)
-
--- src/commit.rt:126:9
-add-i : tie.Need-add-i Inv-loop μ-loop
-add-i c = search needs
-
--- src/commit.rt:122:5
-loop-less : tie.Need-loop-less Inv-loop μ-loop
-loop-less c = search needs
-
--- src/commit.rt:122:5
-loop-again : tie.Need-loop-again Inv-loop μ-loop
-loop-again c = (search needs, search needs, search (so-next, needs))
-
--- src/commit.rt:116:1
-returns-2 : tie.Need-returns-2 Inv-loop μ-loop
-returns-2 c = search (so-all, needs)
-
 pub all-stay-home-spec : {M : Type 1} → statement M
-all-stay-home-spec =
-    tie.close
-    (tie.spec
+all-stay-home-spec = tie.close (tie.spec
     Inv-loop
     μ-loop
-    count-requires
-    loop-holds
-    stays-home-requires
-    returns
-    add-i
-    loop-less
-    loop-again
-    returns-2)
+    (λ c κs. search needs)  -- count-requires
+    (λ c. (search needs, search needs, search (so-none, needs)))  -- loop-holds
+    (λ c κs. search needs)  -- stays-home-requires
+    (λ c. search (so-fails, needs))  -- returns
+    (λ c. search needs)  -- add-i
+    (λ c. search needs)  -- loop-less
+    (λ c. (search needs, search needs, search (so-next, needs)))  -- loop-again
+    (λ c. search (so-all, needs))  -- returns-2
+    )

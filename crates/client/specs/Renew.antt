@@ -1,0 +1,99 @@
+-- "The last apply ends the transaction and renews its copies (nodes no longer inner go first; then written inner nodes by name,
+-- metadata, flags; a lost client gets none)."
+use mathlib.Core.Bool.{cond, _&&_}
+use mathlib.Core.List.{[], _∷_}
+use Prim.Native.Nat.{ℕ, zero, suc, _+_, _-_}
+use lib.Dec.{eqb, ltb}
+use Rattle.layout.specs.Sweep.{sweep}
+use Rattle.nodes.specs.declared.node.Node.{Node}
+use Rattle.nodes.specs.declared.found.Found.{Found}
+use Rattle.nodes.specs.declared.found.Found.the-variants.{At, Absent}
+use Rattle.nodes.specs.Name.{server-of, slot-of}
+use Rattle.nodes.specs.Flags.{with-flag}
+use Rattle.client.specs.declared.part.Set.the-variants.{Reads, Writes}
+use Rattle.client.specs.Layout.{ClientWord, client-words, item, lost}
+use Rattle.client.specs.Record.{by-number}
+use Rattle.client.specs.Sets.{first-of, count, number-at, record-at, find}
+use Rattle.client.specs.Vectors.{has-vector, vector-copy}
+use Rattle.client.specs.Commit.{inner-at}
+use Rattle.client.specs.Part.{Step, _then_, nothing, put-fields, put-vector}
+use Rattle.client.specs.Copies.{copy-node, drop-node}
+use Rattle.client.specs.Life.{reset}
+
+-- a node that is written and not inner loses its copy
+unfoldable pub drop-outer : ℕ → Step
+drop-outer i m = by-number (number-at m Writes i) nothing (λ n. cond (inner-at m Writes i) nothing (drop-node (number-at m Writes i))) (λ n. nothing) m
+
+-- "a written version becomes the one read plus 1"; a version out of range is refused before
+abbrev pub next-version : ℕ → ℕ
+next-version v = cond (ltb v 4294967295) (v + 1) 0
+
+unfoldable pub versioned : Node → ℕ → Node
+versioned n v = record { kind = n .kind; level = n .level; version = v; count = n .count; keys = n .keys; slots = n .slots }
+
+module _ (m : ClientWord → ℕ) where
+  abbrev pub version-found : Found → ℕ
+  version-found (At j) = next-version (m (item Reads j 3))
+  version-found Absent = 0
+
+  unfoldable pub new-version : ℕ → ℕ
+  new-version x = version-found (find m Reads x)
+
+  -- how many of the first n write items are inner nodes with a number below x
+  unfoldable pub with-inner : ℕ → ℕ → ℕ → ℕ
+  with-inner x i c = cond (inner-at m Writes i && ltb (number-at m Writes i) x) (c + 1) c
+
+  unfoldable pub inner-below : ℕ → ℕ → ℕ
+  inner-below x zero = 0
+  inner-below x (suc n) = with-inner x n (inner-below x n)
+
+  -- 1 + the place of write item i among the written inner nodes by name; 0 for another object
+  unfoldable pub rank : ℕ → ℕ
+  rank i = cond (inner-at m Writes i) (inner-below (number-at m Writes i) (count m Writes) + 1) 0
+
+  -- the write item of a rank
+  unfoldable pub ranked : ℕ → Found
+  ranked k = first-of rank (count m Writes) k
+
+  -- the copy of write item i
+  unfoldable pub renewed : ℕ → Node
+  renewed i = versioned (record-at m Writes i) (new-version (number-at m Writes i))
+
+-- "then written inner nodes by name": the one of rank k + 1
+abbrev pub renew-found : (ClientWord → ℕ) → Found → Step
+renew-found m (At i) = copy-node (number-at m Writes i) (renewed m i)
+renew-found m Absent = nothing
+
+unfoldable pub renew-nth : ℕ → Step
+renew-nth k m = renew-found m (ranked m (k + 1)) m
+
+abbrev pub meta-found : (ClientWord → ℕ) → Found → Step
+meta-found m (At i) = put-fields 12 (1 ∷ m (item Writes i 19) ∷ new-version m 0 ∷ [])
+meta-found m Absent = nothing
+
+unfoldable pub renew-meta : Step
+renew-meta m = meta-found m (find m Writes 0) m
+
+-- a flag is renewed in its server's vector, if there is a copy of that
+unfoldable pub renew-in : (ClientWord → ℕ) → ℕ → ℕ → Step
+renew-in m n v = cond (ltb (server-of n) 8 && has-vector m (server-of n)) (put-vector (server-of n) (with-flag (vector-copy m (server-of n)) (slot-of n) (eqb v 1))) nothing
+
+unfoldable pub renew-flag : ℕ → Step
+renew-flag i m = cond (ltb (number-at m Writes i) 8193) nothing (renew-in m (number-at m Writes i - 8193) (m (item Writes i 19))) m
+
+-- each for all write items
+unfoldable pub for-writes : (ℕ → Step) → Step
+for-writes g m = sweep client-words g (count m Writes) m
+
+unfoldable pub renew-written : Step
+renew-written = for-writes renew-nth then renew-meta then for-writes renew-flag
+
+unfoldable pub renew : Step
+renew = for-writes drop-outer then renew-written
+
+unfoldable pub renew-kept : Step
+renew-kept m = cond (eqb (m lost) 1) nothing renew m
+
+-- the transaction has ended
+unfoldable pub finish : Step
+finish = renew-kept then reset 0

@@ -1,0 +1,283 @@
+// Copies are renewed when a transaction ends.
+use crate::commit::inner_at;
+use crate::copies::copy_node;
+use crate::copies::drop_node;
+use crate::life::reset;
+use crate::part::Set;
+use crate::part::count;
+use crate::part::find;
+use crate::part::get_field;
+use crate::part::item_word;
+use crate::part::number_at;
+use crate::part::record_at;
+use crate::part::set_fields;
+use crate::part::set_vector;
+use crate::vector::has_vector;
+use crate::vector::vector_copy;
+use nodes::found::Found;
+use nodes::node::Node;
+use nodes::vector::with_taken;
+ghost use mathlib.Core.Path.{_≡_};
+ghost use Prim.Native.Nat.{_+_, _/_, _<_, _≤_};
+ghost use lib.ListN.{length};
+ghost use Rattle.nodes.specs.Found.{Inside};
+ghost use Rattle.client.specs.declared.part.Set.the-variants.{Writes};
+ghost use Rattle.client.specs.Sets.{held, count};
+ghost use Rattle.client.specs.Part.{Did};
+ghost use Rattle.client.specs.Renew.{drop-outer, versioned, new-version, with-inner, inner-below, rank, ranked, renewed, renew-nth, renew-meta, renew-in, renew-flag, for-writes, renew-written, renew, renew-kept, finish};
+
+// A node that is written and not inner loses its copy.
+fn drop_outer(part: &mut [u8], i: usize)
+    requires { ⌜ (i < 48) × (7223 ≤ length (now part) / 8) ⌝ }
+    ensures { λ _. ⌜ Did (drop-outer i) (now (part .entry)) (now (part .exit)) ⌝ }
+{
+    let number = number_at(part, Set::Writes, i);
+    if number == 0 {
+        return;
+    }
+    if number > 8192 {
+        return;
+    }
+    if inner_at(part, Set::Writes, i) {
+        return;
+    }
+    drop_node(part, number);
+}
+
+fn versioned(n: Node, version: u64) -> Node
+    ensures { λ r. ⌜ r ≡ versioned n version ⌝ }
+{
+    let keys = n.keys;
+    let slots = n.slots;
+    Node {
+        kind: n.kind,
+        level: n.level,
+        version,
+        count: n.count,
+        keys,
+        slots,
+    }
+}
+
+// The version read plus 1.
+pub fn new_version(part: &[u8], number: u64) -> u64
+    requires { ⌜ 7223 ≤ length (now part) / 8 ⌝ }
+    ensures { λ r. ⌜ r ≡ new-version (held (now (part .entry))) number ⌝ }
+{
+    let at = find(part, Set::Reads, number);
+    match at {
+        Found::At(j) => {
+            let read = item_word(part, Set::Reads, j, 3);
+            if read < 4294967295 {
+                return read + 1;
+            }
+            0
+        }
+        Found::Absent => 0,
+    }
+}
+
+// One more, where write item i is an inner node with a number below this one.
+fn with_inner(part: &[u8], number: u64, i: usize, below: usize) -> usize
+    requires { ⌜ (i < 48) × (below ≤ i) × (7223 ≤ length (now part) / 8) ⌝ }
+    ensures { λ r. ⌜ r ≡ with-inner (held (now (part .entry))) number i below ⌝ }
+    ensures within { λ r. ⌜ r ≤ i + 1 ⌝ }
+{
+    if !inner_at(part, Set::Writes, i) {
+        return below;
+    }
+    if number_at(part, Set::Writes, i) < number {
+        return below + 1;
+    }
+    below
+}
+
+// How many written inner nodes have a number below this one.
+fn inner_below(part: &[u8], number: u64) -> usize
+    requires { ⌜ 7223 ≤ length (now part) / 8 ⌝ }
+    ensures { λ r. ⌜ r ≡ inner-below (held (now (part .entry))) number (count (held (now (part .entry))) Writes) ⌝ }
+    ensures within { λ r. ⌜ r ≤ 48 ⌝ }
+{
+    let n = count(part, Set::Writes);
+    let mut below: usize = 0;
+    let mut i: usize = 0;
+    while i < n {
+        below = with_inner(part, number, i, below);
+        i += 1;
+    }
+    below
+}
+
+// 1 + the place of write item i among the written inner nodes by name; 0 for another object.
+fn rank(part: &[u8], i: usize) -> usize
+    requires { ⌜ (i < 48) × (7223 ≤ length (now part) / 8) ⌝ }
+    ensures { λ r. ⌜ r ≡ rank (held (now (part .entry))) i ⌝ }
+{
+    if !inner_at(part, Set::Writes, i) {
+        return 0;
+    }
+    let number = number_at(part, Set::Writes, i);
+    inner_below(part, number) + 1
+}
+
+// The write item of a rank.
+fn ranked(part: &[u8], k: usize) -> Found
+    requires { ⌜ 7223 ≤ length (now part) / 8 ⌝ }
+    ensures { λ r. ⌜ r ≡ ranked (held (now (part .entry))) k ⌝ }
+    ensures within { λ r. ⌜ Inside r 48 ⌝ }
+{
+    let n = count(part, Set::Writes);
+    let mut i: usize = 0;
+    while i < n {
+        if rank(part, i) == k {
+            return Found::At(i);
+        }
+        i += 1;
+    }
+    Found::Absent
+}
+
+// The copy of write item i.
+fn renewed(part: &[u8], i: usize) -> Node
+    requires { ⌜ (i < 48) × (7223 ≤ length (now part) / 8) ⌝ }
+    ensures { λ r. ⌜ r ≡ renewed (held (now (part .entry))) i ⌝ }
+{
+    let n = record_at(part, Set::Writes, i);
+    let number = number_at(part, Set::Writes, i);
+    let version = new_version(part, number);
+    versioned(n, version)
+}
+
+fn renew_nth(part: &mut [u8], k: usize)
+    requires { ⌜ (k < 48) × (7223 ≤ length (now part) / 8) ⌝ }
+    ensures { λ _. ⌜ Did (renew-nth k) (now (part .entry)) (now (part .exit)) ⌝ }
+{
+    let at = ranked(part, k + 1);
+    match at {
+        Found::At(i) => {
+            let number = number_at(part, Set::Writes, i);
+            let n = renewed(part, i);
+            copy_node(part, number, n);
+        }
+        Found::Absent => {}
+    }
+}
+
+fn renew_meta(part: &mut [u8])
+    requires { ⌜ 7223 ≤ length (now part) / 8 ⌝ }
+    ensures { λ _. ⌜ Did renew-meta (now (part .entry)) (now (part .exit)) ⌝ }
+{
+    let at = find(part, Set::Writes, 0);
+    match at {
+        Found::At(i) => {
+            let root = item_word(part, Set::Writes, i, 19);
+            let version = new_version(part, 0);
+            let fields = [1, root, version];
+            set_fields(part, 12, &fields);
+        }
+        Found::Absent => {}
+    }
+}
+
+// A flag is renewed in its server's vector, if there is a copy of that.
+fn renew_in(part: &mut [u8], name: u64, value: u64)
+    requires { ⌜ 7223 ≤ length (now part) / 8 ⌝ }
+    ensures { λ _. ⌜ Did (renew-in (held (now (part .entry))) name value) (now (part .entry)) (now (part .exit)) ⌝ }
+{
+    let s = name / 1024;
+    if s >= 8 {
+        return;
+    }
+    let s = s as usize;
+    if !has_vector(part, s) {
+        return;
+    }
+    let copy = vector_copy(part, s);
+    let words = with_taken(copy, (name % 1024) as usize, value == 1);
+    set_vector(part, s, words);
+}
+
+fn renew_flag(part: &mut [u8], i: usize)
+    requires { ⌜ (i < 48) × (7223 ≤ length (now part) / 8) ⌝ }
+    ensures { λ _. ⌜ Did (renew-flag i) (now (part .entry)) (now (part .exit)) ⌝ }
+{
+    let number = number_at(part, Set::Writes, i);
+    if number < 8193 {
+        return;
+    }
+    let value = item_word(part, Set::Writes, i, 19);
+    renew_in(part, number - 8193, value);
+}
+
+fn drop_outers(part: &mut [u8])
+    requires { ⌜ 7223 ≤ length (now part) / 8 ⌝ }
+    ensures { λ _. ⌜ Did (for-writes drop-outer) (now (part .entry)) (now (part .exit)) ⌝ }
+{
+    let n = count(part, Set::Writes);
+    let mut i: usize = 0;
+    while i < n {
+        drop_outer(part, i);
+        i += 1;
+    }
+}
+
+fn renew_inner(part: &mut [u8])
+    requires { ⌜ 7223 ≤ length (now part) / 8 ⌝ }
+    ensures { λ _. ⌜ Did (for-writes renew-nth) (now (part .entry)) (now (part .exit)) ⌝ }
+{
+    let n = count(part, Set::Writes);
+    let mut i: usize = 0;
+    while i < n {
+        renew_nth(part, i);
+        i += 1;
+    }
+}
+
+fn renew_flags(part: &mut [u8])
+    requires { ⌜ 7223 ≤ length (now part) / 8 ⌝ }
+    ensures { λ _. ⌜ Did (for-writes renew-flag) (now (part .entry)) (now (part .exit)) ⌝ }
+{
+    let n = count(part, Set::Writes);
+    let mut i: usize = 0;
+    while i < n {
+        renew_flag(part, i);
+        i += 1;
+    }
+}
+
+// The copies of what was written: inner nodes, metadata, flags.
+fn renew_written(part: &mut [u8])
+    requires { ⌜ 7223 ≤ length (now part) / 8 ⌝ }
+    ensures { λ _. ⌜ Did renew-written (now (part .entry)) (now (part .exit)) ⌝ }
+{
+    renew_inner(part);
+    renew_meta(part);
+    renew_flags(part);
+}
+
+fn renew(part: &mut [u8])
+    requires { ⌜ 7223 ≤ length (now part) / 8 ⌝ }
+    ensures { λ _. ⌜ Did renew (now (part .entry)) (now (part .exit)) ⌝ }
+{
+    drop_outers(part);
+    renew_written(part);
+}
+
+fn renew_kept(part: &mut [u8])
+    requires { ⌜ 7223 ≤ length (now part) / 8 ⌝ }
+    ensures { λ _. ⌜ Did renew-kept (now (part .entry)) (now (part .exit)) ⌝ }
+{
+    if get_field(part, 9) == 1 {
+        return;
+    }
+    renew(part);
+}
+
+// The transaction has ended: its copies are renewed, but not those of a lost client.
+pub fn finish(part: &mut [u8])
+    requires { ⌜ 7223 ≤ length (now part) / 8 ⌝ }
+    ensures { λ _. ⌜ Did finish (now (part .entry)) (now (part .exit)) ⌝ }
+{
+    renew_kept(part);
+    reset(part, 0);
+}
