@@ -1,0 +1,14 @@
+-- The course of a commit, in the fields of a transaction.
+use mathlib.Core.Bool.{true}
+use mathlib.Core.List.{List, [], _∷_}
+use Prim.Native.Nat.{ℕ}
+use Rattle.memory.specs.Bit.{putBit}
+use Rattle.layout.specs.Space.{Put, put}
+use Rattle.client.specs.Layout.{ClientWord, phase}
+
+-- a server has prepared or applied; the last one has prepared
+unfoldable pub noted : ClientWord → ℕ → (ClientWord → ℕ) → List (Put ClientWord)
+noted a s m = put a (putBit true (m a) s) ∷ []
+
+unfoldable pub decided : (ClientWord → ℕ) → List (Put ClientWord)
+decided m = put phase 3 ∷ []

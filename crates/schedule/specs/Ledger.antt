@@ -1,0 +1,81 @@
+-- Demand 3, what is compared: "Its transactions are read from the steps and their outcomes alone".
+use mathlib.Core.Path.{_≡_}
+use mathlib.Core.Bool.{true, cond, _||_}
+use mathlib.Core.List.{List, [], _∷_}
+use Prim.Native.Nat.{ℕ}
+use native.Mathlib.Decide.{ℕ-discrete}
+use lib.Dec.{eqb}
+use Rattle.base.specs.Update.{upd}
+use Rattle.operations.specs.Object.{Ans}
+use Rattle.operations.specs.Map.{Map, Op, lookup, answer, compared, map-after}
+use Rattle.schedule.specs.ClientWork.{op-of}
+use Rattle.schedule.specs.declared.step.Step.{Step}
+use Rattle.schedule.specs.declared.outcome.Outcome.{Outcome}
+use Rattle.schedule.specs.declared.outcome.Outcome.the-variants.{Refused, Done, Fetched, Answered, Prepared, Decided, Applied, Committed, Aborted}
+
+-- an operation with its answer
+pub record Told : Type 0 where
+  pub op : Op
+  pub ans : Ans
+
+-- What steps and outcomes show: for each client the operation given last, the operations answered in its transaction, the
+-- last first; and the decided transactions, the last first.
+pub record Ledger : Type 0 where
+  pub given : ℕ → Op
+  pub undecided : ℕ → List Told
+  pub decided : List (List Told)
+
+abbrev pub blank : Ledger
+blank = record { given = λ c. lookup 0; undecided = λ c. []; decided = [] }
+
+abbrev pub starts : Ledger → ℕ → Ledger
+starts L c = record { given = L .given; undecided = upd ℕ-discrete (L .undecided) c []; decided = L .decided }
+
+abbrev pub gives : Ledger → ℕ → Op → Ledger
+gives L c p = record { given = upd ℕ-discrete (L .given) c p; undecided = L .undecided; decided = L .decided }
+
+abbrev pub adds : Ledger → ℕ → Ans → Ledger
+adds L c a = record { given = L .given; undecided = upd ℕ-discrete (L .undecided) c (record { op = L .given c; ans = a } ∷ L .undecided c); decided = L .decided }
+
+abbrev pub decides : Ledger → ℕ → Ledger
+decides L c = record { given = L .given; undecided = L .undecided; decided = L .undecided c ∷ L .decided }
+
+-- "a begin starts its client's transaction, a give adds an op, key and value"
+abbrev pub note-done : Ledger → Step → Ledger
+note-done L k =
+    cond (eqb (k .kind) 0) (starts L (k .client))
+    (cond (eqb (k .kind) 1) (gives L (k .client) (op-of (k .op) (k .key) (k .value) (k .server))) L)
+
+-- "a commit or prepare with outcome 5 or 7 decides it"
+abbrev pub note-decided : Ledger → Step → Ledger
+note-decided L k = cond (eqb (k .kind) 3 || eqb (k .kind) 4) (decides L (k .client)) L
+
+-- "outcome 3 adds that operation's answer, a and b, outcome 8 drops the transaction .. ; refused steps do nothing"
+abbrev pub note : Ledger → Step → Outcome → Ledger
+note L k (Refused n) = L
+note L k Done = note-done L k
+note L k (Fetched a b) = L
+note L k (Answered a b) = adds L (k .client) (a, b)
+note L k (Prepared s) = L
+note L k Decided = note-decided L k
+note L k (Applied s) = L
+note L k Committed = note-decided L k
+note L k (Aborted y) = starts L (k .client)
+
+-- "run one after another in order of decision on one sorted map": the map after a transaction, and after all that were decided
+abbrev pub map-of : List Told → Map → Map
+map-of [] m = m
+map-of (t ∷ ts) m = map-after (t .op) (map-of ts m)
+
+abbrev pub map-all : List (List Told) → Map
+map-all [] = []
+map-all (ts ∷ l) = map-of ts (map-all l)
+
+-- "give exactly the answers the tablets got"; migrate's "answer isn't compared"
+abbrev pub Right : List Told → Map → Type 0
+Right [] m = Unit {0}
+Right (t ∷ ts) m = Right ts m × (compared (t .op) ≡ true → t .ans ≡ answer (t .op) (map-of ts m))
+
+abbrev pub Right-all : List (List Told) → Type 0
+Right-all [] = Unit {0}
+Right-all (ts ∷ l) = Right-all l × Right ts (map-all l)

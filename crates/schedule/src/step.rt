@@ -1,0 +1,23 @@
+// "A step has six fields: kind, client, op, key, value, server."
+pub struct Step {
+    pub kind: u64,
+    pub client: u64,
+    pub op: u64,
+    pub key: u64,
+    pub value: u64,
+    pub server: u64,
+}
+
+// "Kinds: 0 begin. 1 give an operation .. 2 work. 3 commit. 4 prepare at a server. 5 apply at a server. 6 give up.
+// 7 client lost."
+pub enum Kind {
+    Begin,
+    Give,
+    Work,
+    Commit,
+    Prepare,
+    Apply,
+    GiveUp,
+    Lost,
+    Unknown,
+}
