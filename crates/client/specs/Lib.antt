@@ -1,21 +1,32 @@
--- One client's part of the memory, and what a client does between two messages.
+-- One client's part of the memory, and what a client does between two messages, in reading order.
+
+-- DEFINITIONS
+-- the part's layout; nodes in words; objects as numbers and their records
 pub mod Layout
 pub mod Words
 pub mod Record
+-- the read set, the write set, the copies; a step of the part as a list of stores
 pub mod Sets
 pub mod Part
+-- vectors as this client sees them; what it has of an object; a plan worked on, with the limit of 96
 pub mod Vectors
 pub mod Have
 pub mod Run
+-- the lists that a walk is lent: own writes, copies in use; a lookup over them
 pub mod Lent
 pub mod Look
+-- objects enter the sets; copies kept and dropped; what is fetched
 pub mod Enter
 pub mod Copies
 pub mod Fetched
+-- a transaction's life; participants and what a server has to know; refusal 10; renewal of copies
 pub mod Life
 pub mod Commit
 pub mod Fits
 pub mod Renew
+-- the definitions tried on closed examples
+pub mod Samples
+-- LAWS, a file for each subject
 pub mod PartLaws
 pub mod FindLaws
 pub mod LentLaws
@@ -28,7 +39,7 @@ pub mod CommitLaws
 pub mod FitsLaws
 pub mod RenewLaws
 pub mod GoodSteps
-pub mod Samples
+-- THE WALK of an operation against its plan's run: nodes as entries, questions, the way down, lookup, next and previous, own writes, slots
 pub mod Entries
 pub mod Walk
 pub mod WalkAsk

@@ -65,6 +65,7 @@ pub mod Forgotten
 pub mod Opened
 -- what follows for answers and tree
 pub mod Answers
+-- FOR THE CODE: laws for its ways out, a file for each file of src
 pub mod CodeWhole
 pub mod CodeRefusal
 pub mod CodeOpen
