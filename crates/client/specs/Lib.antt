@@ -39,14 +39,3 @@ pub mod CommitLaws
 pub mod FitsLaws
 pub mod RenewLaws
 pub mod GoodSteps
--- THE WALK of an operation against its plan's run: nodes as entries, questions, the way down, lookup, next and previous, own writes, slots
-pub mod Entries
-pub mod Walk
-pub mod WalkAsk
-pub mod WalkDown
-pub mod WalkLook
-pub mod WalkSeek
-pub mod WalkNear
-pub mod WalkBegin
-pub mod WalkWrite
-pub mod WalkSlot

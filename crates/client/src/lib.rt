@@ -14,8 +14,3 @@ pub mod record;
 pub mod renew;
 pub mod used;
 pub mod vector;
-pub mod walk;
-pub mod walk_down;
-pub mod walk_look;
-pub mod walk_seek;
-pub mod walk_slot;

@@ -28,16 +28,16 @@ use Rattle.client.specs.Layout.{ClientWord, client-words, phase, prepared, appl
 use Rattle.client.specs.Record.{number}
 use Rattle.client.specs.Sets.{count, number-at, find}
 use Rattle.client.specs.Fits.{client-fits}
-use Rattle.schedule.specs.ClientCopies.{drop-used}
+use Rattle.steps.specs.ClientCopies.{drop-used}
 use Rattle.client.specs.Life.{reset}
-use Rattle.schedule.specs.declared.sizes.Sizes.{Sizes}
-use Rattle.schedule.specs.Whole.{Address, server, client, whole}
-use Rattle.schedule.specs.Uses as U
-use Rattle.schedule.specs.Judge.{lowest}
-use Rattle.schedule.specs.Steps.{unlock-each, at-servers, unlocked-everywhere, aborting}
+use Rattle.steps.specs.declared.sizes.Sizes.{Sizes}
+use Rattle.steps.specs.Whole.{Address, server, client, whole}
+use Rattle.steps.specs.Uses as U
+use Rattle.steps.specs.Judge.{lowest}
+use Rattle.steps.specs.Steps.{unlock-each, at-servers, unlocked-everywhere, aborting}
 use Rattle.schedule.specs.Ledger.{Ledger, starts}
 use Rattle.schedule.specs.Store.{sizes}
-use Rattle.schedule.specs.Stores.{client-of, server-of, client-changed, client-else, client-servers, server-changed, server-else, server-clients}
+use Rattle.steps.specs.Stores.{client-of, server-of, client-changed, client-else, client-servers, server-changed, server-else, server-clients}
 use Rattle.schedule.specs.Numbers.{object-number}
 use Rattle.schedule.specs.Shows.{phase-of, T, In-store, Recorded, lock-kept, Slot-shown, Server-shown, Client-shown, Related}
 use Rattle.schedule.specs.Locking.{after, swept-other, here, lk, lock-place, none-swept, one-swept, not-swept}

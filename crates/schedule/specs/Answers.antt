@@ -9,7 +9,7 @@ use Rattle.operations.specs.Tree.{Holds}
 use Rattle.protocol.specs.Meaning as Mean
 use Rattle.protocol.specs.Machine as P
 use Rattle.protocol.specs.Claim.{due-in, claim}
-use Rattle.schedule.specs.Whole.{Address}
+use Rattle.steps.specs.Whole.{Address}
 use Rattle.schedule.specs.Ledger as Ledger
 use Rattle.schedule.specs.Store.{sizes, home, meaning}
 use Rattle.schedule.specs.Shows.{T, told, Related}

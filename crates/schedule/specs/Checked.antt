@@ -28,9 +28,9 @@ use Rattle.client.specs.Layout.{ClientWord}
 use Rattle.nodes.specs.Stored.{node-of}
 use Rattle.client.specs.Record.{number, first-slot, value-of}
 use Rattle.client.specs.Sets.{record-at}
-use Rattle.schedule.specs.ClientItems as I
-use Rattle.schedule.specs.Steps.{node-at}
-use Rattle.schedule.specs.Uses as U
+use Rattle.steps.specs.ClientItems as I
+use Rattle.steps.specs.Steps.{node-at}
+use Rattle.steps.specs.Uses as U
 use Rattle.schedule.specs.Store.{sizes, home}
 use Rattle.schedule.specs.Numbers.{by-object, by-number-of, server-object}
 use Rattle.schedule.specs.Shows.{T, In-store, Server-shown}

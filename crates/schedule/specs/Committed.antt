@@ -22,16 +22,16 @@ use Rattle.client.specs.declared.part.Set.the-variants.{Reads, Writes, Copies}
 use Rattle.client.specs.Layout.{ClientWord, client-words, phase, op-number, op-key, op-value, op-server, participants, prepared, applied, item, vector-word, reads-count, writes-count, meta-copied, meta-root, meta-version}
 use Rattle.client.specs.Record.{number, value-of}
 use Rattle.client.specs.Sets.{count, record-at, number-at, find}
-use Rattle.schedule.specs.ClientItems as I
+use Rattle.steps.specs.ClientItems as I
 use Rattle.client.specs.Fits.{client-fits}
-use Rattle.schedule.specs.ClientCommit as K
+use Rattle.steps.specs.ClientCommit as K
 use Rattle.client.specs.Life.{reset}
-use Rattle.schedule.specs.ClientWork.{op-of, waiting}
+use Rattle.steps.specs.ClientWork.{op-of, waiting}
 use Rattle.operations.specs.Operation.{Legal}
-use Rattle.schedule.specs.Whole.{Address, client, whole}
+use Rattle.steps.specs.Whole.{Address, client, whole}
 use Rattle.schedule.specs.Ledger.{Told, Ledger, decides}
 use Rattle.schedule.specs.Store.{sizes, fins}
-use Rattle.schedule.specs.Stores.{client-of}
+use Rattle.steps.specs.Stores.{client-of}
 use Rattle.schedule.specs.Frame.{last, read-after}
 use Rattle.schedule.specs.Numbers.{obj-of, number-obj, inner-of}
 use Rattle.schedule.specs.Shows.{phase-of, T, In-store, new-value, Slot-shown, Related}

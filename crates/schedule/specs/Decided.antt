@@ -13,13 +13,13 @@ use Rattle.protocol.specs.State.{decided}
 use Rattle.protocol.specs.Machine as P
 use Rattle.protocol.specs.Moves as Mv
 use Rattle.client.specs.Layout.{ClientWord, client-words, phase, participants, prepared, applied}
-use Rattle.schedule.specs.ClientCommit.{lowest-of}
-use Rattle.schedule.specs.ClientLife as Life
-use Rattle.schedule.specs.Whole.{Address, client, whole}
-use Rattle.schedule.specs.Steps.{covers}
+use Rattle.steps.specs.ClientCommit.{lowest-of}
+use Rattle.steps.specs.ClientLife as Life
+use Rattle.steps.specs.Whole.{Address, client, whole}
+use Rattle.steps.specs.Steps.{covers}
 use Rattle.schedule.specs.Ledger.{Told, Ledger, decides}
 use Rattle.schedule.specs.Store.{fins}
-use Rattle.schedule.specs.Stores.{client-of}
+use Rattle.steps.specs.Stores.{client-of}
 use Rattle.schedule.specs.Frame.{last, read-after, Only}
 use Rattle.schedule.specs.Shows.{phase-of, T, Slot-shown, Client-shown, Related}
 use Rattle.schedule.specs.Course.{else-same, course-shown}

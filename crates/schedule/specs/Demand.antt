@@ -11,14 +11,14 @@ use Rattle.operations.specs.Reading.{pairs-below}
 use Rattle.server.specs.declared.place.Place.the-variants.{Root}
 use Rattle.client.specs.Layout.{applied}
 use Rattle.client.specs.Record.{value-of}
-use Rattle.schedule.specs.ClientLife.{noted}
-use Rattle.schedule.specs.declared.sizes.Sizes.{Sizes}
-use Rattle.schedule.specs.declared.step.Step.{Step}
-use Rattle.schedule.specs.declared.step.Kind.the-variants.{Apply}
-use Rattle.schedule.specs.Whole.{Address, server, client, whole, Allowed}
-use Rattle.schedule.specs.Refusal.{fits}
-use Rattle.schedule.specs.Steps.{step, node-at, in-client, applying}
-use Rattle.schedule.specs.Run.{opened, after}
+use Rattle.steps.specs.ClientLife.{noted}
+use Rattle.steps.specs.declared.sizes.Sizes.{Sizes}
+use Rattle.steps.specs.declared.step.Step.{Step}
+use Rattle.steps.specs.declared.step.Kind.the-variants.{Apply}
+use Rattle.steps.specs.Whole.{Address, server, client, whole, Allowed}
+use Rattle.steps.specs.Refusal.{fits}
+use Rattle.steps.specs.Steps.{step, node-at, in-client, applying}
+use Rattle.steps.specs.Run.{opened, after}
 use Rattle.schedule.specs.Ledger.{Ledger, blank, note, map-all, Right-all}
 
 -- "Keys and values are any unsigned 64-bit numbers": so are all six fields; H is 2^64

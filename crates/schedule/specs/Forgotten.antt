@@ -14,11 +14,11 @@ use Rattle.client.specs.Layout.{ClientWord, client-words, field, lost, phase, o
 use Rattle.client.specs.Copies.{drop-all}
 use Rattle.client.specs.Part.{put-field}
 use Rattle.client.specs.Life.{lose}
-use Rattle.schedule.specs.ClientWork.{op-of, waiting}
-use Rattle.schedule.specs.Whole.{Address, client, whole}
+use Rattle.steps.specs.ClientWork.{op-of, waiting}
+use Rattle.steps.specs.Whole.{Address, client, whole}
 use Rattle.schedule.specs.Ledger.{Ledger}
 use Rattle.schedule.specs.Store.{sizes}
-use Rattle.schedule.specs.Stores.{client-of}
+use Rattle.steps.specs.Stores.{client-of}
 use Rattle.schedule.specs.Shows.{T, Copies-shown, Related}
 use Rattle.schedule.specs.Slots.{Same-sets, slot-frame, copies-frame}
 use Rattle.schedule.specs.Dropped.{Mark, Fewer, fewer, kept-word, fewer-copies, only-all}

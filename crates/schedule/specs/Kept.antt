@@ -20,11 +20,11 @@ use Rattle.client.specs.Life.{reset, give}
 use Rattle.client.specs.Part.{put-field, put-fields}
 use Rattle.layout.specs.Space.{puts}
 use Rattle.layout.specs.Step.{andThen}
-use Rattle.schedule.specs.ClientWork.{op-of, waiting}
-use Rattle.schedule.specs.Whole.{Address, client, whole}
+use Rattle.steps.specs.ClientWork.{op-of, waiting}
+use Rattle.steps.specs.Whole.{Address, client, whole}
 use Rattle.schedule.specs.Ledger.{Told, Ledger, starts, gives}
 use Rattle.schedule.specs.Store.{sizes}
-use Rattle.schedule.specs.Stores.{client-of, server-of, client-changed, client-else, client-servers}
+use Rattle.steps.specs.Stores.{client-of, server-of, client-changed, client-else, client-servers}
 use Rattle.schedule.specs.Frame.{last, read-after}
 use Rattle.schedule.specs.Shows.{phase-of, T, told, Slot-shown, Copies-shown, Server-shown, Client-shown, Related}
 use Rattle.schedule.specs.Slots.{slot-frame, copies-frame, blank-shown}

@@ -22,13 +22,13 @@ use Rattle.server.specs.Layout.{places}
 use Rattle.server.specs.HandOut.{node-here}
 use Rattle.server.specs.Fresh.{first-leaf, fresh, fresh-other, fresh-root, fresh-zero}
 use Rattle.client.specs.Record.{value-of}
-use Rattle.schedule.specs.Steps.{node-at}
+use Rattle.steps.specs.Steps.{node-at}
 use Rattle.schedule.specs.Writing.{At-home}
-use Rattle.schedule.specs.declared.sizes.Sizes.{Sizes}
-use Rattle.schedule.specs.Whole.{Address, head, server, client, whole}
-use Rattle.schedule.specs.Run.{opened}
+use Rattle.steps.specs.declared.sizes.Sizes.{Sizes}
+use Rattle.steps.specs.Whole.{Address, head, server, client, whole}
+use Rattle.steps.specs.Run.{opened}
 use Rattle.schedule.specs.Ledger.{blank}
-use Rattle.schedule.specs.Stores.{client-of, server-of, server-changed, server-else}
+use Rattle.steps.specs.Stores.{client-of, server-of, server-changed, server-else}
 use Rattle.schedule.specs.Frame.{read-after}
 use Rattle.schedule.specs.Shows.{phase-of, T, In-store, value-at, version-at, table-at, Client-shown, Server-shown, Related}
 use Rattle.schedule.specs.Store.{keeps}

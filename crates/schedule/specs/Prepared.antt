@@ -27,18 +27,18 @@ use Rattle.client.specs.declared.part.Set.the-variants.{Reads, Writes}
 use Rattle.client.specs.Layout.{ClientWord, client-words, phase, participants, prepared, applied}
 use Rattle.client.specs.Record.{number, value-of}
 use Rattle.client.specs.Sets.{count, record-at, number-at, find}
-use Rattle.schedule.specs.ClientItems as I
+use Rattle.steps.specs.ClientItems as I
 use Rattle.client.specs.Fits.{client-fits}
-use Rattle.schedule.specs.ClientCommit.{lowest-of}
-use Rattle.schedule.specs.ClientLife.{noted}
-use Rattle.schedule.specs.declared.sizes.Sizes.{Sizes}
-use Rattle.schedule.specs.Whole.{Address}
-use Rattle.schedule.specs.Uses as U
-use Rattle.schedule.specs.Judge.{lowest}
-use Rattle.schedule.specs.Steps.{lock-each, prepare-reason, prepare-finding}
+use Rattle.steps.specs.ClientCommit.{lowest-of}
+use Rattle.steps.specs.ClientLife.{noted}
+use Rattle.steps.specs.declared.sizes.Sizes.{Sizes}
+use Rattle.steps.specs.Whole.{Address}
+use Rattle.steps.specs.Uses as U
+use Rattle.steps.specs.Judge.{lowest}
+use Rattle.steps.specs.Steps.{lock-each, prepare-reason, prepare-finding}
 use Rattle.schedule.specs.Ledger.{Ledger}
 use Rattle.schedule.specs.Store.{sizes}
-use Rattle.schedule.specs.Stores.{client-of, server-of}
+use Rattle.steps.specs.Stores.{client-of, server-of}
 use Rattle.schedule.specs.Frame.{last, read-after, Only}
 use Rattle.schedule.specs.Numbers.{obj-of, inner-of, server-object, object-number}
 use Rattle.schedule.specs.Shows.{phase-of, T, In-store, Recorded, lock-kept, item-from, item-of, Slot-shown, Server-shown, Client-shown, Related}

@@ -20,9 +20,9 @@ use Rattle.server.specs.Object.{lock-of}
 use Rattle.client.specs.Layout.{ClientWord, client-words}
 use Rattle.nodes.specs.Stored.{node-of}
 use Rattle.client.specs.Record.{value-of}
-use Rattle.schedule.specs.Whole.{Address, server, client, whole}
-use Rattle.schedule.specs.Steps.{node-at}
-use Rattle.schedule.specs.Stores.{client-of, server-of, client-changed, client-else, client-servers, server-changed, server-else, server-clients}
+use Rattle.steps.specs.Whole.{Address, server, client, whole}
+use Rattle.steps.specs.Steps.{node-at}
+use Rattle.steps.specs.Stores.{client-of, server-of, client-changed, client-else, client-servers, server-changed, server-else, server-clients}
 use Rattle.schedule.specs.Shows.{value-at, version-at, table-at}
 
 -- ---- stores at server s, then at client c

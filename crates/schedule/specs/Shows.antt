@@ -27,13 +27,13 @@ use Rattle.client.specs.declared.part.Set.the-variants.{Reads, Writes, Copies}
 use Rattle.client.specs.Layout.{ClientWord, phase, op-number, participants, prepared, applied, item, vector-word, meta-copied, meta-root, meta-version}
 use Rattle.client.specs.Record.{number, value-of, object-in-store}
 use Rattle.client.specs.Sets.{count, record-at, number-at, find}
-use Rattle.schedule.specs.ClientItems.{has}
-use Rattle.schedule.specs.ClientCommit.{lowest-of}
-use Rattle.schedule.specs.ClientWork.{waiting}
-use Rattle.schedule.specs.Whole.{Address}
-use Rattle.schedule.specs.Steps.{node-at}
+use Rattle.steps.specs.ClientItems.{has}
+use Rattle.steps.specs.ClientCommit.{lowest-of}
+use Rattle.steps.specs.ClientWork.{waiting}
+use Rattle.steps.specs.Whole.{Address}
+use Rattle.steps.specs.Steps.{node-at}
 use Rattle.schedule.specs.Ledger.{Told, Ledger}
-use Rattle.schedule.specs.Stores.{client-of, server-of}
+use Rattle.steps.specs.Stores.{client-of, server-of}
 use Rattle.schedule.specs.Store.{setting, sizes, keeps, by-value}
 
 unfoldable pub phase-of : ℕ → Phase

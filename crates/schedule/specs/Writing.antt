@@ -20,7 +20,7 @@ use Rattle.server.specs.Store.{metadata-step, flag-step}
 use Rattle.nodes.specs.Stored.{node-of, words-of}
 use Rattle.nodes.specs.StoredLaws.{Sized, length-words, node-words}
 use Rattle.client.specs.Record.{value-of}
-use Rattle.schedule.specs.Steps.{node-puts, table-puts, node-at}
+use Rattle.steps.specs.Steps.{node-puts, table-puts, node-at}
 use Rattle.schedule.specs.Numbers.{by-object}
 use Rattle.schedule.specs.Servers.{is-lock}
 use Rattle.schedule.specs.Shows.{value-at, version-at, table-at}

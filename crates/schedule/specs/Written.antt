@@ -25,10 +25,10 @@ use Rattle.nodes.specs.Stored.{node-of}
 use Rattle.nodes.specs.StoredLaws.{Sized}
 use Rattle.client.specs.Record.{number, by-number, first-slot, value-of}
 use Rattle.client.specs.Sets.{count, record-at, number-at, find}
-use Rattle.schedule.specs.ClientItems as I
-use Rattle.schedule.specs.ClientCommit.{at-home}
-use Rattle.schedule.specs.ClientCopies.{next-version, as-copy}
-use Rattle.schedule.specs.Steps.{store-write, store-all}
+use Rattle.steps.specs.ClientItems as I
+use Rattle.steps.specs.ClientCommit.{at-home}
+use Rattle.steps.specs.ClientCopies.{next-version, as-copy}
+use Rattle.steps.specs.Steps.{store-write, store-all}
 use Rattle.schedule.specs.Store.{sizes, keeps, by-value}
 use Rattle.schedule.specs.Numbers.{by-object, obj-of, number-obj, obj-number}
 use Rattle.schedule.specs.Shows.{T, In-store, value-at, version-at, table-at, Slot-shown}

@@ -1,0 +1,11 @@
+use Rattle.engine.specs.Items.{item-exits}
+use borrow.Author.Needs.{needs}
+use Rattle.engine.proofs.items.mark_of.Statement.{statement}
+use Rattle.engine.proofs.items.mark_of.Tie as tie
+
+pub mark-of-spec : {M : Type 1} → statement M
+mark-of-spec = tie.close (tie.spec
+    (λ c. search (item-exits, needs))  -- returns
+    (λ c. search needs)  -- array-read-result
+    (λ c. search (item-exits, needs))  -- returns-2
+    )

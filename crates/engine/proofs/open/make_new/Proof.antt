@@ -1,0 +1,16 @@
+use Rattle.server.specs.Fresh.{first-node-valid, first-flag-valid}
+use Rattle.engine.specs.Open.{made-new}
+use borrow.Author.Needs.{needs}
+use Rattle.engine.proofs.open.make_new.Statement.{statement}
+use Rattle.engine.proofs.open.make_new.Tie as tie
+
+pub make-new-spec : {M : Type 1} → statement M
+make-new-spec = tie.close (tie.spec
+    (λ c κs. search needs)  -- words-for-requires
+    (λ c κs. search needs)  -- fill-words-requires
+    (λ c κs. search needs)  -- put-head-requires
+    (λ c κs. search (first-node-valid, first-flag-valid, needs))  -- put-first-requires
+    (λ c κs. search (first-node-valid, first-flag-valid, needs))  -- put-first-requires-2
+    (λ c. search needs)  -- same-length
+    (λ c. search (made-new, needs))  -- returns
+    )

@@ -1,0 +1,70 @@
+// Opening a store in lent memory.
+ghost use mathlib.Core.Path.{_≡_};
+ghost use Prim.Native.Nat.{_/_, _≤_};
+ghost use lib.ListN.{length};
+ghost use Rattle.memory.specs.Word.{view};
+ghost use Rattle.layout.specs.Space.{Valid};
+ghost use Rattle.layout.specs.Step.{Does, silent};
+ghost use Rattle.layout.specs.Part.{inPart};
+ghost use Rattle.server.specs.Layout as Srv;
+ghost use Rattle.steps.specs.Whole.{server, whole, block};
+ghost use Rattle.steps.specs.Refusal.{open-refusal};
+ghost use Rattle.engine.specs.Parts.{Holds};
+ghost use Rattle.engine.specs.Open.{opening, with-head, new-words, words-opened};
+use crate::refusal::memory_refusal;
+use crate::whole::server_at;
+use crate::whole::words_for;
+use memory::fill_words;
+use memory::write_word;
+use server::place::Place;
+use server::place::put;
+use steps::sizes::Sizes;
+
+// Accepted, or the number by which the opening is refused.
+pub enum Opening {
+    Accepted,
+    Refused(u64),
+}
+
+// A word of server 0 becomes v.
+fn put_first(mem: &mut [u8], sizes: Sizes, place: Place, v: u64)
+    requires { ⌜ Holds sizes (length (now mem)) × Valid Srv.places (Srv.block (sizes .slots)) place ⌝ }
+    ensures { λ _. ⌜ Does whole (block sizes) (inPart (server 0) (Srv.putStep place v)) silent (view (now (mem .entry))) 0 (view (now (mem .exit))) ⌝ }
+{
+    let at = 8 * server_at(sizes, 0);
+    put(&mut mem[at..], sizes.slots, place, v);
+}
+
+// "a 64-byte head holding the three sizes"
+fn put_head(mem: &mut [u8], sizes: Sizes)
+    requires { ⌜ 8 ≤ length (now mem) / 8 ⌝ }
+    ensures { λ _. ⌜ view (now (mem .exit)) ≡ with-head sizes (view (now (mem .entry))) ⌝ }
+{
+    write_word(mem, 0, sizes.servers as u64);
+    write_word(mem, 1, sizes.slots as u64);
+    write_word(mem, 2, sizes.clients as u64);
+}
+
+// "A new store has the root, an empty leaf, in node 0; all versions are 0."
+fn make_new(mem: &mut [u8], sizes: Sizes)
+    requires { ⌜ Holds sizes (length (now mem)) ⌝ }
+    ensures { λ _. ⌜ view (now (mem .exit)) ≡ new-words sizes (view (now (mem .entry))) ⌝ }
+{
+    fill_words(mem, 0, words_for(sizes), 0);
+    put_head(mem, sizes);
+    put_first(mem, sizes, Place::Node(0, 0), 1);
+    put_first(mem, sizes, Place::Vector(0), 1);
+}
+
+// A new store of these sizes, if the memory lent is long enough.
+pub fn open(mem: &mut [u8], sizes: Sizes) -> Opening
+    ensures { λ r. ⌜ r ≡ opening (open-refusal (length (now (mem .entry))) sizes) ⌝ }
+    ensures words { λ _. ⌜ view (now (mem .exit)) ≡ words-opened (length (now (mem .entry))) sizes (view (now (mem .entry))) ⌝ }
+{
+    let number = memory_refusal(mem.len(), sizes);
+    if number != 0 {
+        return Opening::Refused(number);
+    }
+    make_new(mem, sizes);
+    Opening::Accepted
+}

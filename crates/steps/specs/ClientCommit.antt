@@ -1,0 +1,46 @@
+-- "Participants are the homes of leaves, free nodes and flags read; or all servers, where the metadata or a node inner before or after
+-- is written."
+use mathlib.Core.Bool.{Bool, true, cond, _&&_, _||_, not}
+use mathlib.Core.List.{List, [], _∷_}
+use Prim.Native.Nat.{ℕ, zero, suc}
+use lib.Dec.{eqb}
+use Rattle.memory.specs.Bit.{bit, putBit}
+use Rattle.layout.specs.Space.{Put, put}
+use Rattle.nodes.specs.Name.{server-of}
+use Rattle.client.specs.declared.part.Set.the-variants.{Reads, Writes}
+use Rattle.client.specs.Layout.{ClientWord, phase, participants}
+use Rattle.client.specs.Record.{by-number}
+use Rattle.client.specs.Sets.{record-at, count, number-at}
+use Rattle.steps.specs.ClientItems.{any-below, inner, inner-before-after}
+
+-- the set of the servers below n that pass a test
+unfoldable pub mask : ℕ → (ℕ → Bool) → ℕ
+mask zero f = 0
+mask (suc n) f = putBit (f n) (mask n f) n
+
+-- the lowest server below n in the set; n if there is none
+unfoldable pub lowest-of : ℕ → ℕ → ℕ
+lowest-of zero w = 0
+lowest-of (suc n) w = cond (bit w (lowest-of n w)) (lowest-of n w) (cond (bit w n) n (suc n))
+
+-- the home of the object with that number; the metadata is on every server
+unfoldable pub at-home : ℕ → ℕ → Bool
+at-home s x = by-number x true (λ n. eqb (server-of n) s) (λ n. eqb (server-of n) s)
+
+module _ (m : ClientWord → ℕ) where
+  -- does an object read make its home take part; does an object written make all take part
+  abbrev pub calls-home : ℕ → ℕ → Bool
+  calls-home s i = not (inner (number-at m Reads i) (record-at m Reads i)) && at-home s (number-at m Reads i)
+
+  abbrev pub calls-all : ℕ → Bool
+  calls-all i = inner-before-after m (number-at m Writes i)
+
+  abbrev pub takes-part : ℕ → Bool
+  takes-part s = any-below (count m Writes) calls-all || any-below (count m Reads) (calls-home s)
+
+  unfoldable pub participants-of : ℕ → ℕ
+  participants-of servers = mask servers takes-part
+
+-- the commit step with a participant
+unfoldable pub committing : ℕ → (ClientWord → ℕ) → List (Put ClientWord)
+committing servers m = put phase 2 ∷ put participants (participants-of m servers) ∷ []

@@ -1,0 +1,88 @@
+-- The work step: the waiting operation's plan over what the client has, and the last questions before the answer.
+use mathlib.Core.Bool.{Bool, false, cond, _&&_, _||_, not}
+use mathlib.Core.List.{List, [], _∷_}
+use Prim.Native.Nat.{ℕ, zero, suc, _+_, _-_}
+use lib.Dec.{eqb, leb, ltb}
+use lib.ListN.{length}
+use Rattle.nodes.specs.declared.found.Found.{Found}
+use Rattle.nodes.specs.declared.found.Found.the-variants.{At, Absent}
+use Rattle.operations.specs.Object.{Ask, Ans, Writes}
+use Rattle.operations.specs.Map.{Op, insert, lookup, delete, next, previous, migrate}
+use Rattle.operations.specs.Operation.{reading, all-fit?}
+use Rattle.operations.specs.Slot.{Sizes}
+use Rattle.client.specs.declared.part.Set.the-variants as set
+use Rattle.client.specs.Layout.{ClientWord, op-number, op-key, op-value, op-server, reads-count, writes-count}
+use Rattle.client.specs.Record.{number, last-version}
+use Rattle.client.specs.Sets.{record-at, find}
+use Rattle.client.specs.Have.{have, broken, copied}
+use Rattle.client.specs.Run.{End, lacks, aborts, gives, Ran, run, among}
+use Rattle.steps.specs.ClientItems.{has}
+
+-- how a work step ends: refused by 10; or the first thing lacking, an abort's reason, the answer with the operation's writes
+pub data Worked : Type 0 where
+  refused : Worked
+  fetches : Ask → Worked
+  aborted : ℕ → Worked
+  answers : Ans → Writes → Worked
+
+-- "op 1 insert, 2 lookup, 3 delete, 4 next key above, 5 previous key below, 6 migrate (key is the node name)"
+abbrev pub op-of : ℕ → ℕ → ℕ → ℕ → Op
+op-of zero key value server = lookup key
+op-of (suc zero) key value server = insert key value
+op-of (suc (suc zero)) key value server = lookup key
+op-of (suc (suc (suc zero))) key value server = delete key
+op-of (suc (suc (suc (suc zero)))) key value server = next key
+op-of (suc (suc (suc (suc (suc zero))))) key value server = previous key
+op-of (suc (suc (suc (suc (suc (suc n)))))) key value server = migrate key server
+
+module _ (m : ClientWord → ℕ) where
+  -- the operation that waits
+  abbrev pub waiting : Op
+  waiting = op-of (m op-number) (m op-key) (m op-value) (m op-server)
+
+  -- neither set has the object
+  abbrev pub new : ℕ → Bool
+  new x = not (has m set.Writes x) && not (has m set.Reads x)
+
+  -- the version of an object that is read, or comes into use in this step
+  abbrev pub version-in : ℕ → Found → ℕ
+  version-in x (At i) = record-at m set.Reads i .version
+  version-in x Absent = copied m x .node .version
+
+  -- how many objects the write set would have
+  unfoldable pub numbers : Writes → List ℕ
+  numbers [] = []
+  numbers (e ∷ w) =
+      let xs = numbers w in
+      cond (has m set.Writes (number (e .0)) || among (number (e .0)) xs) xs (number (e .0) ∷ xs)
+
+  abbrev pub writes-after : Writes → ℕ
+  writes-after w = m writes-count + length (numbers w)
+
+  -- "8 a written version is 4,294,967,295": of metadata and nodes
+  abbrev pub at-last-version : ℕ → Bool
+  at-last-version x = leb x 8192 && eqb (version-in x (find m set.Reads x)) last-version
+
+  unfoldable pub any-at-last : Writes → Bool
+  any-at-last [] = false
+  any-at-last (e ∷ w) = at-last-version (number (e .0)) || any-at-last w
+
+module _ (z : Sizes) (m : ClientWord → ℕ) where
+  -- what would be written is looked at once all is read: reason 3, then 4, then 8
+  abbrev pub last-questions : Ans → Writes → Worked
+  last-questions a w =
+      cond (not (all-fit? w w)) (aborted 3)
+      (cond (ltb 48 (writes-after m w)) (aborted 4)
+      (cond (any-at-last m w) (aborted 8) (answers a w)))
+
+  abbrev pub judge : End → Worked
+  judge (lacks a) = cond (broken z m a) refused (fetches a)
+  judge (aborts y) = aborted y
+  judge (gives a w) = last-questions a w
+
+  -- the walk of the plan, with room for 96 objects in the read set
+  unfoldable pub walked : Ran
+  walked = run (have z m) (new m) (96 - m reads-count) (reading z (waiting m)) []
+
+  unfoldable pub worked : Worked
+  worked = judge (walked .how)

@@ -1,0 +1,24 @@
+-- What a step is and does: its outcome and what it stores, from the memory and the step alone.
+
+-- outcomes, by document 01's numbers
+pub mod Outcome
+-- the whole memory: head, servers' parts, clients' parts; stores and what stands after them
+pub mod Whole
+pub mod Stores
+-- refusals 1 to 9 as tables
+pub mod Refusal
+-- what a client's part stores and says in a step: its sets, what enters them, participants, the course of a commit, copies, the work step
+pub mod ClientItems
+pub mod ClientEnter
+pub mod ClientCommit
+pub mod ClientLife
+pub mod ClientCopies
+pub mod ClientWork
+-- which object is checked where, and which is locked
+pub mod Uses
+-- refusal 10 at servers
+pub mod Judge
+-- the eight kinds of steps: outcome and stores
+pub mod Steps
+-- a list of steps, on a newly opened store
+pub mod Run

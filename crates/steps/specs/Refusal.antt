@@ -1,0 +1,108 @@
+-- "Steps refused": 1 to 9 as a table of tests, in document 01's order. "A refused step returns the first number that holds and
+-- changes no byte; opening checks 1 to 3 only."
+use mathlib.Core.Path.{_≡_, refl}
+use mathlib.Core.Bool.{Bool, true, cond, _&&_, _||_, not}
+use mathlib.Core.List.{List, [], _∷_}
+use Prim.Native.Nat.{ℕ}
+use lib.Dec.{eqb, leb, ltb}
+use lib.ListN.{getD}
+use Rattle.memory.specs.Bit.{bit}
+use Rattle.layout.specs.Block.{size}
+use Rattle.client.specs.Layout.{ClientWord, phase, op-number, participants, prepared, applied}
+use Rattle.client.specs.Record.{in-store}
+use Rattle.steps.specs.declared.sizes.Sizes.{Sizes}
+use Rattle.steps.specs.declared.step.Step.{Step}
+use Rattle.steps.specs.declared.step.Kind.{Kind}
+use Rattle.steps.specs.declared.step.Kind.the-variants.{Begin, Give, Work, Commit, Prepare, Apply, GiveUp, Lost, Unknown}
+use Rattle.steps.specs.Whole.{Address, client, tree-sizes, words-for, length-for}
+
+-- a row of the table: its number, and whether it holds
+pub record Row : Type 0 where
+  pub number : ℕ
+  pub holds : Bool
+
+abbrev pub row : ℕ → Bool → Row
+row n b = record { number = n; holds = b }
+
+-- the first number that holds; 0 if none does
+unfoldable pub first : List Row → ℕ
+first [] = 0
+first (r ∷ rs) = cond (r .holds) (r .number) (first rs)
+
+-- "Kinds: 0 begin. 1 give an operation .. 7 client lost."
+unfoldable pub kind-of : ℕ → Kind
+kind-of n = getD (Begin ∷ Give ∷ Work ∷ Commit ∷ Prepare ∷ Apply ∷ GiveUp ∷ Lost ∷ []) n Unknown
+
+abbrev pub between : ℕ → ℕ → ℕ → Bool
+between a b n = leb a n && leb n b
+
+-- "Servers 1 to 8, slots on each 1 to 1,024, clients 1 to 16."
+unfoldable pub allowed? : Sizes → Bool
+allowed? z = between 1 8 (z .servers) && between 1 1024 (z .slots) && between 1 16 (z .clients)
+
+-- the memory of that many bytes, for the sizes given or in the head
+abbrev pub of-memory : ℕ → Sizes → List Row
+of-memory bytes z =
+    -- "1. The lent memory is shorter than 64 bytes."
+    row 1 (ltb bytes 64)
+    -- "2. A size, given or in the head, is outside its range."
+    ∷ row 2 (not (allowed? z))
+    -- "3. The memory is shorter than the sizes call for."
+    ∷ row 3 (ltb bytes (length-for z))
+    ∷ []
+
+-- "begin needs no transaction; give and commit need one not yet committing with no operation waiting; work a waiting one; prepare,
+-- after commit, a participant not yet prepared; apply, after the decision, one not yet applied; give up an undecided transaction;
+-- lost fits always": phase 0 is no transaction, 1 an open one, 2 one after its commit, 3 one after its decision
+module _ (m : ClientWord → ℕ) (s : ℕ) where
+  abbrev pub unfinished : ClientWord → Bool
+  unfinished done = bit (m participants) s && not (bit (m done) s)
+
+  unfoldable pub fits : Kind → Bool
+  fits Begin = eqb (m phase) 0
+  fits Give = eqb (m phase) 1 && eqb (m op-number) 0
+  fits Work = eqb (m phase) 1 && not (eqb (m op-number) 0)
+  fits Commit = eqb (m phase) 1 && eqb (m op-number) 0
+  fits Prepare = eqb (m phase) 2 && unfinished prepared
+  fits Apply = eqb (m phase) 3 && unfinished applied
+  fits GiveUp = between 1 2 (m phase)
+  fits Lost = true
+  fits Unknown = true
+
+-- the step, where m holds the memory
+abbrev pub of-step : Sizes → Step → (Address → ℕ) → List Row
+of-step z k m =
+    let gives = eqb (k .kind) 1 in
+    let migrates = gives && eqb (k .op) 6 in
+    -- "4. The kind is above 7."
+    row 4 (ltb 7 (k .kind))
+    -- "5. The client is not in the store."
+    ∷ row 5 (leb (z .clients) (k .client))
+    -- "6. A given op is not 1 to 6."
+    ∷ row 6 (gives && not (between 1 6 (k .op)))
+    -- "7. The server of a migrate, prepare or apply is not in the store."
+    ∷ row 7 ((migrates || between 4 5 (k .kind)) && leb (z .servers) (k .server))
+    -- "8. A migrated node's name is not in the store."
+    ∷ row 8 (migrates && not (in-store (tree-sizes z) (k .key)))
+    -- "9. The client's state doesn't fit"
+    ∷ row 9 (not (fits (λ a. m (client (k .client) a)) (k .server) (kind-of (k .kind))))
+    ∷ []
+
+-- what opening refuses, and of a step all but 10
+unfoldable pub open-refusal : ℕ → Sizes → ℕ
+open-refusal bytes z = first (of-memory bytes z)
+
+unfoldable pub refusal : Sizes → Step → (Address → ℕ) → ℕ
+refusal z k m = first (of-step z k m)
+
+-- "Servers 0 and 9 refused by 2, 1 and 8 accepted; of 16 clients, 15 accepted, 16 refused by 5."
+abbrev opens : ℕ → ℕ
+opens s = open-refusal 5000000 (record { servers = s; slots = 1; clients = 1 })
+
+abbrev begins : ℕ → ℕ
+begins c =
+    refusal (record { servers = 1; slots = 1; clients = 16 }) (record { kind = 0; client = c; op = 0; key = 0; value = 0; server = 0 }) (λ a. 0)
+
+pub refusal-samples : (opens 0 ≡ 2) × (opens 9 ≡ 2) × (opens 1 ≡ 0) × (opens 8 ≡ 0) × (begins 15 ≡ 0) × (begins 16 ≡ 5)
+unfolding open-refusal refusal first allowed? length-for words-for size kind-of fits
+refusal-samples = (refl, refl, refl, refl, refl, refl)

@@ -1,0 +1,321 @@
+-- The eight kinds of steps: what each comes to, and what it stores. Everything that a rule reads is judged (refusal 10) before
+-- anything is stored.
+use mathlib.Core.Bool.{Bool, true, false, cond, _&&_, _||_, not}
+use mathlib.Core.List.{List, [], _∷_, _++_, map}
+use Prim.Native.Nat.{ℕ, zero, suc, _+_, _-_, _%_}
+use lib.Dec.{eqb, leb}
+use lib.ListN.{length}
+use Rattle.memory.specs.Bit.{bit, putBit}
+use Rattle.layout.specs.Space.{Put, put, puts, tab, changed}
+use Rattle.layout.specs.Step.{andThen}
+use Rattle.layout.specs.Part.{over}
+use Rattle.layout.specs.Sweep.{sweep}
+use Rattle.nodes.specs.declared.node.Node.{Node}
+use Rattle.nodes.specs.Name.{server-of, slot-of}
+use Rattle.operations.specs.Object as O
+use Rattle.server.specs.declared.place.Place.{Place}
+use Rattle.server.specs.declared.place.Place.the-variants as place
+use Rattle.server.specs.declared.lock.Use.the-variants.{Fetch}
+use Rattle.server.specs.Layout.{places}
+use Rattle.server.specs.Object.{object-of, named}
+use Rattle.server.specs.Check.{can-check, held, checked, reason}
+use Rattle.server.specs.Store.{lock-step, unlock-step, metadata-step, flag-step}
+use Rattle.server.specs.HandOut.{metadata-at, metadata-sound, vector-at}
+use Rattle.client.specs.declared.part.Set.the-variants.{Reads, Writes}
+use Rattle.client.specs.Layout.{ClientWord, client-words, phase, participants, prepared, applied, reads-count}
+use Rattle.nodes.specs.Stored.{node-of, words-of}
+use Rattle.client.specs.Record.{by-number, first-slot}
+use Rattle.nodes.specs.Range.{in-range}
+use Rattle.client.specs.Sets.{count, record-at, number-at}
+use Rattle.steps.specs.ClientItems.{all-below, inner-before-after}
+use Rattle.client.specs.Fits.{client-fits}
+use Rattle.steps.specs.ClientEnter.{used-enter, answered}
+use Rattle.client.specs.Fetched.{fetched-meta, fetched-node, fetched-vector}
+use Rattle.steps.specs.ClientCommit.{participants-of, committing, at-home}
+use Rattle.steps.specs.ClientCopies.{next-version, as-copy, drop-used}
+use Rattle.client.specs.Renew.{finish}
+use Rattle.client.specs.Copies.{drop-all}
+use Rattle.client.specs.Life as Life
+use Rattle.steps.specs.ClientLife.{noted, decided}
+use Rattle.steps.specs.ClientWork.{Worked, refused, fetches, aborted, answers, walked, worked}
+use Rattle.steps.specs.declared.sizes.Sizes.{Sizes}
+use Rattle.steps.specs.declared.step.Step.{Step}
+use Rattle.steps.specs.declared.step.Kind.{Kind}
+use Rattle.steps.specs.declared.step.Kind.the-variants.{Begin, Give, Work, Commit, Prepare, Apply, GiveUp, Lost, Unknown}
+use Rattle.steps.specs.declared.outcome.Outcome.{Outcome}
+use Rattle.steps.specs.declared.outcome.Outcome.the-variants.{
+  Refused,
+  Done,
+  Fetched,
+  Answered,
+  Prepared,
+  Decided,
+  Applied,
+  Committed,
+  Aborted,
+}
+use Rattle.steps.specs.Whole.{Address, server, client, whole, tree-sizes}
+use Rattle.steps.specs.Refusal.{kind-of, refusal}
+use Rattle.steps.specs.Uses.{Item, those, all, read-item, read-items, used-items, object, checked-at, locked-at, use-of, deciding}
+use Rattle.steps.specs.Judge.{
+  lock-fits,
+  check-fits,
+  lowest,
+  prepare-fits,
+  unlock-fits,
+  abort-fits,
+  versions-fit,
+}
+
+-- what comes of a step
+pub record Did : Type 0 where
+  pub outcome : Outcome
+  pub stores : List (Put Address)
+
+abbrev pub did : Outcome → List (Put Address) → Did
+did o ps = record { outcome = o; stores = ps }
+
+-- "A refused step returns the first number that holds and changes no byte"
+abbrev pub refuse : ℕ → Did
+refuse n = did (Refused n) []
+
+-- where what the rule reads is in range
+abbrev pub if-fit : Bool → Did → Did
+if-fit ok d = cond ok d (refuse 10)
+
+-- at the server s, the objects read that are locked there, in the order of the read set: locked, unlocked
+abbrev pub lock-each : (ClientWord → ℕ) → ℕ → ℕ → ℕ → (Place → ℕ) → List (Put Place)
+lock-each m c lowest s =
+    sweep places (λ n p. let i = read-item m n in cond (locked-at lowest s i) (lock-step (object i) (i .written) c p) []) (count m Reads)
+
+abbrev pub unlock-each : (ClientWord → ℕ) → ℕ → ℕ → ℕ → (Place → ℕ) → List (Put Place)
+unlock-each m c lowest s =
+    sweep places (λ n p. let i = read-item m n in cond (locked-at lowest s i) (unlock-step (object i) c p) []) (count m Reads)
+
+-- stores at every server below n
+unfoldable pub at-servers : ℕ → (ℕ → List (Put Address)) → List (Put Address)
+at-servers zero f = []
+at-servers (suc n) f = at-servers n f ++ f n
+
+-- what server s stores of the object with the number x at an apply: the value at home, with its version; the table's entry of a node
+-- inner before or after
+abbrev pub node-puts : ℕ → Node → List (Put Place)
+node-puts n r = puts places (place.Node (slot-of n)) (words-of r)
+
+abbrev pub table-puts : ℕ → ℕ → List (Put Place)
+table-puts n version = put (place.Table (server-of n) (slot-of n)) version ∷ []
+
+abbrev pub store-write : (ClientWord → ℕ) → ℕ → ℕ → (Place → ℕ) → List (Put Place)
+store-write m s i p =
+    let x = number-at m Writes i in
+    let r = record-at m Writes i in
+    by-number x (metadata-step (first-slot r) (next-version m x) p)
+    (λ n. cond (at-home s x) (node-puts n (as-copy m i .1)) []
+    ++ cond (inner-before-after m x) (table-puts n (next-version m x)) [])
+    (λ n. cond (at-home s x) (flag-step (named n) (eqb (first-slot r) 1) p) [])
+
+-- "Apply writes and unlocks": the write set's objects in order, then the locks
+abbrev pub store-all : (ClientWord → ℕ) → ℕ → (Place → ℕ) → List (Put Place)
+store-all m s = sweep places (store-write m s) (count m Writes)
+
+-- all of a set of servers are in another
+unfoldable pub covers : ℕ → ℕ → ℕ → Bool
+covers n p q = all-below n (λ t. not (bit p t) || bit q t)
+
+-- a fetch: from which server, what the outcome names
+pub record Wanted : Type 0 where
+  pub from : ℕ
+  pub what : ℕ
+  pub which : ℕ
+
+-- "Metadata comes from server (client modulo servers), a node from its home, a vector from its server."
+abbrev pub wanted : ℕ → ℕ → O.Ask → Wanted
+wanted servers c (O.object O.meta) = record { from = c % servers; what = 0; which = 0 }
+wanted servers c (O.object (O.node n)) = record { from = server-of n; what = 1; which = n }
+wanted servers c (O.object (O.flag n)) = record { from = server-of n; what = 2; which = server-of n }
+wanted servers c (O.vector s) = record { from = s; what = 2; which = s }
+wanted servers c (O.fetched s) = record { from = s; what = 2; which = s }
+
+-- the node that a server has in the slot of a name
+unfoldable pub node-at : (Place → ℕ) → ℕ → Node
+node-at p n = node-of (tab 33 (λ j. p (place.Node (slot-of n) j)))
+
+module _ (z : Sizes) (m : Address → ℕ) (c : ℕ) where
+  abbrev mine : ClientWord → ℕ
+  mine a = m (client c a)
+
+  abbrev theirs : ℕ → Place → ℕ
+  theirs s a = m (server s a)
+
+  abbrev pub in-client : ((ClientWord → ℕ) → List (Put ClientWord)) → List (Put Address)
+  in-client g = over (client c) (g mine)
+
+  abbrev pub in-server : ℕ → ((Place → ℕ) → List (Put Place)) → List (Put Address)
+  in-server s g = over (server s) (g (theirs s))
+
+  -- ---- ABORT: "An abort unlocks everywhere and drops copies of all objects read"; us came into use in this step
+  abbrev pub unlocked-everywhere : List (Put Address)
+  unlocked-everywhere =
+      at-servers (z .servers) (λ s. cond (bit (mine prepared) s) (in-server s (unlock-each mine c (lowest z m c) s)) [])
+
+  abbrev pub aborting : List ℕ → List (Put Address)
+  aborting us = unlocked-everywhere ++ in-client (andThen client-words (drop-used us) (Life.reset 0))
+
+  unfoldable pub abort : ℕ → List ℕ → Did
+  abort y us = if-fit (abort-fits z m c) (did (Aborted y) (aborting us))
+
+  -- ---- BEGIN AND GIVE
+  unfoldable pub begin : Did
+  begin = did Done (in-client (Life.reset 1))
+
+  unfoldable pub give : Step → Did
+  give k = did Done (in-client (Life.give (k .op) (k .key) (k .value) (k .server)))
+
+  -- ---- WORK: what a fetch hands over, and whether it is in range
+  module _ (us : List ℕ) where
+    -- "A fetch checks at that server what the transaction has read": the objects read that the server can check
+    abbrev pub fetch-items : ℕ → List Item
+    fetch-items s = those (λ i. can-check s (object i) (i .inner-read)) (read-items mine ++ used-items mine us)
+
+    abbrev pub fetch-finding : ℕ → Item → ℕ × ℕ
+    fetch-finding s i = (i .number, reason (checked (object i) (i .inner-read) (i .mark) c Fetch (theirs s)))
+
+    -- the stores, once the copies in use have become read items
+    abbrev pub handed : ((ClientWord → ℕ) → List (Put ClientWord)) → List (Put Address)
+    handed g = in-client (andThen client-words (used-enter us) g)
+
+    abbrev pub full : Bool
+    full = leb 96 (mine reads-count + length us)
+
+    -- "then the object fetched; a vector fetched is never busy"; then the limit of 96
+    abbrev pub fetch-object : ℕ → ℕ → Outcome → Bool → ((ClientWord → ℕ) → List (Put ClientWord)) → Did
+    fetch-object s x out ok g =
+        if-fit (ok && lock-fits z m s (record { number = x; inner-read = false; mark = 0; written = false; becomes = false }))
+        (cond (held (object-of x) c Fetch (theirs s)) (abort 2 us) (cond full (abort 4 us) (did out (handed g))))
+
+    abbrev pub hand-over : O.Ask → ℕ → Outcome → Did
+    hand-over (O.object O.meta) s out =
+        fetch-object s 0 out (metadata-sound (z .servers) (z .slots) (theirs s))
+        (fetched-meta (metadata-at (theirs s) .root) (metadata-at (theirs s) .version))
+    hand-over (O.object (O.node n)) s out =
+        fetch-object s (1 + n) out (in-range (node-at (theirs s) n)) (fetched-node n (node-at (theirs s) n))
+    hand-over (O.object (O.flag n)) s out = did out (handed (fetched-vector s (vector-at (theirs s))))
+    hand-over (O.vector s′) s out = did out (handed (fetched-vector s (vector-at (theirs s))))
+    hand-over (O.fetched s′) s out = did out (handed (fetched-vector s (vector-at (theirs s))))
+
+    abbrev pub checked-fetch : O.Ask → Wanted → Did
+    checked-fetch a w =
+        let found = deciding (map (fetch-finding (w .from)) (fetch-items (w .from))) in
+        if-fit (all (check-fits z m (w .from)) (fetch-items (w .from)))
+        (cond (eqb found 0) (hand-over a (w .from) (Fetched (w .what) (w .which))) (abort found us))
+
+    unfoldable pub fetch : O.Ask → Did
+    fetch a = checked-fetch a (wanted (z .servers) c a)
+
+  abbrev pub after-walk : List ℕ → Worked → Did
+  after-walk us refused = refuse 10
+  after-walk us (fetches a) = fetch us a
+  after-walk us (aborted y) = abort y us
+  after-walk us (answers a w) = did (Answered (a .0) (a .1)) (in-client (answered us w))
+
+  unfoldable pub work : Did
+  work = after-walk (walked (tree-sizes z) mine .used) (worked (tree-sizes z) mine)
+
+  -- ---- COMMIT: "commit with a participant .. done"; "with none the commit step decides and ends"
+  unfoldable pub commit : Did
+  commit =
+      cond (eqb (participants-of mine (z .servers)) 0) (did Committed (in-client (Life.reset 0))) (did Done (in-client (committing (z .servers))))
+
+  -- ---- APPLY at the server s
+  abbrev pub applying : ℕ → List (Put Address)
+  applying s = in-server s (andThen places (store-all mine s) (unlock-each mine c (lowest z m c) s))
+
+  abbrev pub all-applied : ℕ → Bool
+  all-applied s = covers (z .servers) (mine participants) (putBit true (mine applied) s)
+
+  -- "The last apply ends the transaction and renews its copies (.. a lost client gets none)."
+  unfoldable pub applied-at : ℕ → Did
+  applied-at s =
+      cond (all-applied s)
+      (did Committed (applying s ++ in-client (andThen client-words (noted applied s) finish)))
+      (did (Applied s) (applying s ++ in-client (noted applied s)))
+
+  abbrev pub apply-fits : ℕ → Bool
+  apply-fits s = unlock-fits z m c s && versions-fit z m c
+
+  unfoldable pub apply : ℕ → Did
+  apply s = if-fit (apply-fits s) (applied-at s)
+
+  -- ---- PREPARE at the server s
+  -- of an object that is locked there: what is checked, else the lock alone
+  abbrev pub prepare-reason : ℕ → Item → ℕ
+  prepare-reason s i =
+      cond (checked-at (lowest z m c) s i) (reason (checked (object i) (i .inner-read) (i .mark) c (use-of i) (theirs s)))
+      (cond (held (object i) c (use-of i) (theirs s)) 2 0)
+
+  abbrev pub prepare-finding : ℕ → Item → ℕ × ℕ
+  prepare-finding s i = (i .number, cond (locked-at (lowest z m c) s i) (prepare-reason s i) 0)
+
+  -- the locks, and the note that this server has prepared
+  abbrev pub preparing : ℕ → List (Put Address)
+  preparing s = in-server s (lock-each mine c (lowest z m c) s) ++ in-client (noted prepared s)
+
+  abbrev pub all-prepared : ℕ → Bool
+  all-prepared s = covers (z .servers) (mine participants) (putBit true (mine prepared) s)
+
+  abbrev pub only : ℕ → Bool
+  only s = eqb (mine participants) (putBit true 0 s)
+
+-- the stores of one step, and then those of another on what the first left
+abbrev pub then : (Address → ℕ) → List (Put Address) → ((Address → ℕ) → Did) → Did
+then m ps f = let d = f (changed whole m ps) in did (d .outcome) (ps ++ d .stores)
+
+module _ (z : Sizes) (m : Address → ℕ) (c : ℕ) where
+  -- "The last prepare is the decision"; "With one participant the prepare also applies"
+  abbrev pub deciding-stores : ℕ → List (Put Address)
+  deciding-stores s = preparing z m c s ++ in-client z m c decided
+
+  unfoldable pub prepared-at : ℕ → Did
+  prepared-at s =
+      cond (not (all-prepared z m c s)) (did (Prepared s) (preparing z m c s))
+      (cond (only z m c s)
+      (if-fit (versions-fit z m c) (then m (deciding-stores s) (λ u. applied-at z u c s)))
+      (did Decided (deciding-stores s)))
+
+  unfoldable pub prepare : ℕ → Did
+  prepare s =
+      let found = deciding (map (prepare-finding z m c s) (read-items (λ a. m (client c a)))) in
+      if-fit (prepare-fits z m c s) (cond (eqb found 0) (prepared-at s) (abort z m c found []))
+
+  -- ---- LOSS: "A decided transaction of a lost client is still applied"; "loss drops all copies"
+  abbrev pub forgetting : (Address → ℕ) → Did
+  forgetting u = did Done (in-client z u c drop-all)
+
+  abbrev pub lose-undecided : Did → Did
+  lose-undecided d = did (d .outcome) (then m (d .stores) forgetting .stores)
+
+  unfoldable pub lose : Did
+  lose =
+      cond (eqb (m (client c phase)) 0) (forgetting m)
+      (cond (eqb (m (client c phase)) 3) (did Done (in-client z m c Life.lose))
+      (if-fit (abort-fits z m c) (lose-undecided (abort z m c 7 []))))
+
+  -- ---- by kind
+  abbrev pub by-kind : Step → Kind → Did
+  by-kind k Begin = begin z m c
+  by-kind k Give = give z m c k
+  by-kind k Work = work z m c
+  by-kind k Commit = commit z m c
+  by-kind k Prepare = prepare (k .server)
+  by-kind k Apply = apply z m c (k .server)
+  by-kind k GiveUp = abort z m c 6 []
+  by-kind k Lost = lose
+  by-kind k Unknown = refuse 4
+
+-- THE STEP: refusals 4 to 9, then 10 for the client's own state, then the rule of its kind
+unfoldable pub step : Sizes → Step → (Address → ℕ) → Did
+step z k m =
+    let c = k .client in
+    cond (eqb (refusal z k m) 0)
+    (if-fit (client-fits (tree-sizes z) (λ a. m (client c a))) (by-kind z m c k (kind-of (k .kind))))
+    (refuse (refusal z k m))

@@ -1,0 +1,17 @@
+-- The walk of a waiting operation against its plan's run over what the client has.
+
+-- how a walk is told; nodes as the plans' entries
+pub mod Entries
+pub mod Walk
+-- a question: own writes, else the part
+pub mod Ask
+-- the way down from the root
+pub mod Down
+-- lookup, next and previous
+pub mod Lookup
+pub mod Seek
+pub mod Near
+pub mod Begin
+-- own writes, slots taken and freed
+pub mod Write
+pub mod Take
