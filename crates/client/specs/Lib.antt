@@ -24,6 +24,14 @@ pub mod Life
 pub mod Commit
 pub mod Fits
 pub mod Renew
+-- what a transaction has read and written, tests of all items; participants; the course of a commit
+pub mod Items
+pub mod Participants
+pub mod Course
+-- what enters the sets with the answer; copies dropped; the work step
+pub mod Answered
+pub mod Drops
+pub mod Work
 -- the definitions tried on closed examples
 pub mod Samples
 -- LAWS, a file for each subject

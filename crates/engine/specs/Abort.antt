@@ -25,7 +25,7 @@ use Rattle.steps.specs.Whole.{Address, server, client, whole, block, words-for}
 use Rattle.steps.specs.Stores.{client-of, server-of, server-clients, server-else}
 use Rattle.steps.specs.Uses.{item-of, locked-at}
 use Rattle.steps.specs.Judge.{lowest}
-use Rattle.steps.specs.ClientCommit.{lowest-of}
+use Rattle.client.specs.Participants.{lowest-of}
 use Rattle.steps.specs.Steps.{at-servers, unlocked-everywhere}
 use Rattle.engine.specs.Parts.{Holds, stored-in}
 use Rattle.engine.specs.Items.{read-item}

@@ -14,8 +14,8 @@ use Rattle.server.specs.Object.{object-of, Has}
 use Rattle.client.specs.declared.part.Set.the-variants.{Reads}
 use Rattle.client.specs.Layout.{ClientWord, field}
 use Rattle.client.specs.Sets.{held, count, number-at}
-use Rattle.steps.specs.ClientItems.{all-below}
-use Rattle.steps.specs.ClientCommit.{lowest-of}
+use Rattle.client.specs.Items.{all-below}
+use Rattle.client.specs.Participants.{lowest-of}
 use Rattle.steps.specs.declared.sizes.Sizes.{Sizes}
 use Rattle.engine.specs.declared.items.Item as code
 use Rattle.steps.specs.Whole.{Allowed, client-at, words-for}

@@ -15,8 +15,8 @@ use Rattle.client.specs.declared.part.Set.the-variants.{Reads, Writes}
 use Rattle.client.specs.Layout.{ClientWord}
 use Rattle.client.specs.Record.{by-number, first-slot}
 use Rattle.client.specs.Sets.{number-at, record-at, find}
-use Rattle.steps.specs.ClientItems.{inner, has, of-record}
-use Rattle.steps.specs.ClientCommit.{at-home}
+use Rattle.client.specs.Items.{inner, has, of-record}
+use Rattle.client.specs.Participants.{at-home}
 use Rattle.engine.specs.declared.items.Item as code
 use Rattle.steps.specs.Uses.{Item, item-of, checked-at, locked-at}
 

@@ -24,7 +24,7 @@ use Rattle.client.specs.declared.part.Set.{Set}
 use Rattle.client.specs.declared.part.Set.the-variants.{Writes}
 use Rattle.client.specs.Layout.{ClientWord, field, phase, writes-count}
 use Rattle.client.specs.Sets.{held}
-use Rattle.steps.specs.ClientItems.{all-below, has}
+use Rattle.client.specs.Items.{all-below, has}
 use Rattle.steps.specs.declared.sizes.Sizes.{Sizes}
 use Rattle.engine.specs.declared.items.Item as code
 use Rattle.steps.specs.Whole.{Allowed, server, client, client-at, server-at, words-for}

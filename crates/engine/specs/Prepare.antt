@@ -18,7 +18,7 @@ use Rattle.steps.specs.declared.sizes.Sizes.{Sizes}
 use Rattle.engine.specs.declared.locks.Change.the-variants.{Lock}
 use Rattle.steps.specs.Whole.{Address, server, client, whole, block, words-for}
 use Rattle.steps.specs.Stores.{client-of, server-clients}
-use Rattle.steps.specs.ClientLife.{noted}
+use Rattle.client.specs.Course.{noted}
 use Rattle.steps.specs.Steps.{preparing}
 use Rattle.engine.specs.Parts.{Holds, stored-in}
 use Rattle.engine.specs.Items.{read-item}

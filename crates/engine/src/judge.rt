@@ -6,7 +6,7 @@ ghost use lib.ListN.{length};
 ghost use Rattle.memory.specs.Word.{view};
 ghost use Rattle.server.specs.Lock.{in-range};
 ghost use Rattle.server.specs.Object.{object-of, lock-of, Has};
-ghost use Rattle.steps.specs.ClientItems.{has, all-below};
+ghost use Rattle.client.specs.Items.{has, all-below};
 ghost use Rattle.client.specs.Layout.{field};
 ghost use Rattle.steps.specs.Whole.{server as at-server};
 ghost use Rattle.steps.specs.Judge.{commits, writes, holders-fit, check-fits};

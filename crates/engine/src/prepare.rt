@@ -7,7 +7,7 @@ ghost use Rattle.layout.specs.Step.{Does, silent};
 ghost use Rattle.layout.specs.Part.{inPart};
 ghost use Rattle.client.specs.Layout.{field};
 ghost use Rattle.steps.specs.Whole.{client as at-client, whole, block};
-ghost use Rattle.steps.specs.ClientLife.{noted};
+ghost use Rattle.client.specs.Course.{noted};
 ghost use Rattle.engine.specs.Parts.{Holds};
 ghost use Rattle.engine.specs.Fits.{Known};
 ghost use Rattle.engine.specs.Prepare.{mark, prepares};

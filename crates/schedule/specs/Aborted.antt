@@ -28,7 +28,7 @@ use Rattle.client.specs.Layout.{ClientWord, client-words, phase, prepared, appl
 use Rattle.client.specs.Record.{number}
 use Rattle.client.specs.Sets.{count, number-at, find}
 use Rattle.client.specs.Fits.{client-fits}
-use Rattle.steps.specs.ClientCopies.{drop-used}
+use Rattle.client.specs.Drops.{drop-used}
 use Rattle.client.specs.Life.{reset}
 use Rattle.steps.specs.declared.sizes.Sizes.{Sizes}
 use Rattle.steps.specs.Whole.{Address, server, client, whole}

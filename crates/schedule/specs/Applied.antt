@@ -25,11 +25,11 @@ use Rattle.client.specs.Layout.{ClientWord, client-words, phase, participants, 
 use Rattle.client.specs.Record.{number, value-of}
 use Rattle.client.specs.Commit.{is-at}
 use Rattle.client.specs.Sets.{count, record-at, number-at, find}
-use Rattle.steps.specs.ClientItems as I
+use Rattle.client.specs.Items as I
 use Rattle.client.specs.Fits.{client-fits}
-use Rattle.steps.specs.ClientCommit.{lowest-of}
-use Rattle.steps.specs.ClientCopies.{version-of, next-version}
-use Rattle.steps.specs.ClientLife.{noted}
+use Rattle.client.specs.Participants.{lowest-of}
+use Rattle.client.specs.Drops.{version-of, next-version}
+use Rattle.client.specs.Course.{noted}
 use Rattle.steps.specs.declared.sizes.Sizes.{Sizes}
 use Rattle.steps.specs.Whole.{Address}
 use Rattle.steps.specs.Uses as U

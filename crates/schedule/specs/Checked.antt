@@ -28,7 +28,7 @@ use Rattle.client.specs.Layout.{ClientWord}
 use Rattle.nodes.specs.Stored.{node-of}
 use Rattle.client.specs.Record.{number, first-slot, value-of}
 use Rattle.client.specs.Sets.{record-at}
-use Rattle.steps.specs.ClientItems as I
+use Rattle.client.specs.Items as I
 use Rattle.steps.specs.Steps.{node-at}
 use Rattle.steps.specs.Uses as U
 use Rattle.schedule.specs.Store.{sizes, home}

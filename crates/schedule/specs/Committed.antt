@@ -22,11 +22,11 @@ use Rattle.client.specs.declared.part.Set.the-variants.{Reads, Writes, Copies}
 use Rattle.client.specs.Layout.{ClientWord, client-words, phase, op-number, op-key, op-value, op-server, participants, prepared, applied, item, vector-word, reads-count, writes-count, meta-copied, meta-root, meta-version}
 use Rattle.client.specs.Record.{number, value-of}
 use Rattle.client.specs.Sets.{count, record-at, number-at, find}
-use Rattle.steps.specs.ClientItems as I
+use Rattle.client.specs.Items as I
 use Rattle.client.specs.Fits.{client-fits}
-use Rattle.steps.specs.ClientCommit as K
+use Rattle.client.specs.Participants as K
 use Rattle.client.specs.Life.{reset}
-use Rattle.steps.specs.ClientWork.{op-of, waiting}
+use Rattle.client.specs.Work.{op-of, waiting}
 use Rattle.operations.specs.Operation.{Legal}
 use Rattle.steps.specs.Whole.{Address, client, whole}
 use Rattle.schedule.specs.Ledger.{Told, Ledger, decides}

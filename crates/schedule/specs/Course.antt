@@ -17,8 +17,8 @@ use Rattle.protocol.specs.Meaning.{Shown}
 use Rattle.protocol.specs.Machine as P
 use Rattle.client.specs.declared.part.Set.the-variants.{Reads, Writes, Copies}
 use Rattle.client.specs.Layout.{ClientWord, client-words, field, phase, op-number, op-key, op-value, op-server, participants, prepared, applied, item, vector-word, reads-count, writes-count, meta-copied, meta-root, meta-version}
-use Rattle.steps.specs.ClientCommit.{lowest-of}
-use Rattle.steps.specs.ClientWork.{op-of, waiting}
+use Rattle.client.specs.Participants.{lowest-of}
+use Rattle.client.specs.Work.{op-of, waiting}
 use Rattle.schedule.specs.Ledger.{Told}
 use Rattle.schedule.specs.Store.{sizes}
 use Rattle.schedule.specs.Frame.{Only, only-other}

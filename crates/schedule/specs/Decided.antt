@@ -13,8 +13,8 @@ use Rattle.protocol.specs.State.{decided}
 use Rattle.protocol.specs.Machine as P
 use Rattle.protocol.specs.Moves as Mv
 use Rattle.client.specs.Layout.{ClientWord, client-words, phase, participants, prepared, applied}
-use Rattle.steps.specs.ClientCommit.{lowest-of}
-use Rattle.steps.specs.ClientLife as Life
+use Rattle.client.specs.Participants.{lowest-of}
+use Rattle.client.specs.Course as Life
 use Rattle.steps.specs.Whole.{Address, client, whole}
 use Rattle.steps.specs.Steps.{covers}
 use Rattle.schedule.specs.Ledger.{Told, Ledger, decides}

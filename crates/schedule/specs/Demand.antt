@@ -11,7 +11,7 @@ use Rattle.operations.specs.Reading.{pairs-below}
 use Rattle.server.specs.declared.place.Place.the-variants.{Root}
 use Rattle.client.specs.Layout.{applied}
 use Rattle.client.specs.Record.{value-of}
-use Rattle.steps.specs.ClientLife.{noted}
+use Rattle.client.specs.Course.{noted}
 use Rattle.steps.specs.declared.sizes.Sizes.{Sizes}
 use Rattle.steps.specs.declared.step.Step.{Step}
 use Rattle.steps.specs.declared.step.Kind.the-variants.{Apply}

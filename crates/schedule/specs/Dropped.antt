@@ -24,7 +24,7 @@ use Rattle.client.specs.Record.{value-of}
 use Rattle.client.specs.Sets.{count, record-at, number-at, find}
 use Rattle.client.specs.Part.{nothing, put-field, put-number, drop-vector}
 use Rattle.client.specs.Copies.{drop-at, drop-node, drop-object, drop-read, drop-reads, empty-place, drop-all}
-use Rattle.steps.specs.ClientCopies.{drop-each, drop-used}
+use Rattle.client.specs.Drops.{drop-each, drop-used}
 use Rattle.schedule.specs.Frame.{Only, only-then, only-sweep}
 use Rattle.schedule.specs.Shows.{T, copy, Copies-shown}
 use Rattle.schedule.specs.Slots.{record-later}

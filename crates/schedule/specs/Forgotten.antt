@@ -14,7 +14,7 @@ use Rattle.client.specs.Layout.{ClientWord, client-words, field, lost, phase, o
 use Rattle.client.specs.Copies.{drop-all}
 use Rattle.client.specs.Part.{put-field}
 use Rattle.client.specs.Life.{lose}
-use Rattle.steps.specs.ClientWork.{op-of, waiting}
+use Rattle.client.specs.Work.{op-of, waiting}
 use Rattle.steps.specs.Whole.{Address, client, whole}
 use Rattle.schedule.specs.Ledger.{Ledger}
 use Rattle.schedule.specs.Store.{sizes}

@@ -23,7 +23,7 @@ use Rattle.client.specs.Layout.{ClientWord}
 use Rattle.client.specs.Record.{number, value-of, number-in-store, fits}
 use Rattle.client.specs.Sets.{or-found, count, record-at, number-at, first-of, find}
 use Rattle.client.specs.Commit.{is-at}
-use Rattle.steps.specs.ClientItems.{all-below, any-below, has}
+use Rattle.client.specs.Items.{all-below, any-below, has}
 use Rattle.client.specs.Commit.{all-of}
 use Rattle.client.specs.Fits.{field-fits, has-read, vector-fits, op-fits, item-fits, client-fits}
 use Rattle.schedule.specs.Store.{sizes}

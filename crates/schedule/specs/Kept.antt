@@ -20,7 +20,7 @@ use Rattle.client.specs.Life.{reset, give}
 use Rattle.client.specs.Part.{put-field, put-fields}
 use Rattle.layout.specs.Space.{puts}
 use Rattle.layout.specs.Step.{andThen}
-use Rattle.steps.specs.ClientWork.{op-of, waiting}
+use Rattle.client.specs.Work.{op-of, waiting}
 use Rattle.steps.specs.Whole.{Address, client, whole}
 use Rattle.schedule.specs.Ledger.{Told, Ledger, starts, gives}
 use Rattle.schedule.specs.Store.{sizes}

@@ -8,7 +8,7 @@ use lib.Dec.{eqb}
 use Rattle.base.specs.Update.{upd}
 use Rattle.operations.specs.Object.{Ans}
 use Rattle.operations.specs.Map.{Map, Op, lookup, answer, compared, map-after}
-use Rattle.steps.specs.ClientWork.{op-of}
+use Rattle.client.specs.Work.{op-of}
 use Rattle.steps.specs.declared.step.Step.{Step}
 use Rattle.steps.specs.declared.outcome.Outcome.{Outcome}
 use Rattle.steps.specs.declared.outcome.Outcome.the-variants.{Refused, Done, Fetched, Answered, Prepared, Decided, Applied, Committed, Aborted}

@@ -29,9 +29,9 @@ use Rattle.client.specs.Layout.{ClientWord}
 use Rattle.client.specs.Record.{number, value-of}
 use Rattle.client.specs.Commit.{is-at}
 use Rattle.client.specs.Sets.{count, record-at, number-at, find}
-use Rattle.steps.specs.ClientItems as I
+use Rattle.client.specs.Items as I
 use Rattle.client.specs.Fits.{client-fits}
-use Rattle.steps.specs.ClientCommit.{at-home}
+use Rattle.client.specs.Participants.{at-home}
 use Rattle.steps.specs.Uses as U
 use Rattle.schedule.specs.Store.{sizes, home, keeps}
 use Rattle.schedule.specs.Numbers.{obj-of, number-obj, obj-number, inner-of, server-object, object-number}

@@ -17,8 +17,8 @@ use Rattle.operations.specs.Slot.{Allowed}
 use Rattle.protocol.specs.Lists.{Among}
 use Rattle.protocol.specs.Moves as Mv
 use Rattle.client.specs.Record.{number, in-store}
-use Rattle.steps.specs.ClientItems.{any-below}
-use Rattle.steps.specs.ClientCommit.{mask, lowest-of, at-home}
+use Rattle.client.specs.Items.{any-below}
+use Rattle.client.specs.Participants.{mask, lowest-of, at-home}
 use Rattle.schedule.specs.Store.{sizes, server, home, keeps, fins, fins-all, zeroth}
 use Rattle.schedule.specs.Numbers.{by-object, by-number-of}
 use Rattle.schedule.specs.Held.{any-at, any-one}

@@ -14,7 +14,7 @@ use Rattle.server.specs.declared.object.Object.{Object}
 use Rattle.server.specs.declared.object.Object.the-variants as object
 use Rattle.server.specs.Object.{object-of, named}
 use Rattle.client.specs.Record.{number, by-number, value-of, in-store, object-in-store, number-in-store}
-use Rattle.steps.specs.ClientItems as I
+use Rattle.client.specs.Items as I
 
 -- one of three by the object
 abbrev pub by-object : {A : Type 0} → Obj → A → (ℕ → A) → (ℕ → A) → A

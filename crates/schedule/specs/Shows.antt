@@ -27,9 +27,9 @@ use Rattle.client.specs.declared.part.Set.the-variants.{Reads, Writes, Copies}
 use Rattle.client.specs.Layout.{ClientWord, phase, op-number, participants, prepared, applied, item, vector-word, meta-copied, meta-root, meta-version}
 use Rattle.client.specs.Record.{number, value-of, object-in-store}
 use Rattle.client.specs.Sets.{count, record-at, number-at, find}
-use Rattle.steps.specs.ClientItems.{has}
-use Rattle.steps.specs.ClientCommit.{lowest-of}
-use Rattle.steps.specs.ClientWork.{waiting}
+use Rattle.client.specs.Items.{has}
+use Rattle.client.specs.Participants.{lowest-of}
+use Rattle.client.specs.Work.{waiting}
 use Rattle.steps.specs.Whole.{Address}
 use Rattle.steps.specs.Steps.{node-at}
 use Rattle.schedule.specs.Ledger.{Told, Ledger}

@@ -19,8 +19,8 @@ use Rattle.client.specs.Record.{number, value-of}
 use Rattle.nodes.specs.Stored.{node-of}
 use Rattle.client.specs.Sets.{at-most, count, record-at, number-at, first-of, find}
 use Rattle.client.specs.Commit.{is-at}
-use Rattle.steps.specs.ClientItems.{has}
-use Rattle.steps.specs.ClientCommit.{lowest-of}
+use Rattle.client.specs.Items.{has}
+use Rattle.client.specs.Participants.{lowest-of}
 use Rattle.schedule.specs.Shows.{phase-of, T, new-value, item-from, item-of, Slot-shown, Copies-shown, copy}
 
 -- ---- items

@@ -25,9 +25,9 @@ use Rattle.nodes.specs.Stored.{node-of}
 use Rattle.nodes.specs.StoredLaws.{Sized}
 use Rattle.client.specs.Record.{number, by-number, first-slot, value-of}
 use Rattle.client.specs.Sets.{count, record-at, number-at, find}
-use Rattle.steps.specs.ClientItems as I
-use Rattle.steps.specs.ClientCommit.{at-home}
-use Rattle.steps.specs.ClientCopies.{next-version, as-copy}
+use Rattle.client.specs.Items as I
+use Rattle.client.specs.Participants.{at-home}
+use Rattle.client.specs.Drops.{next-version, as-copy}
 use Rattle.steps.specs.Steps.{store-write, store-all}
 use Rattle.schedule.specs.Store.{sizes, keeps, by-value}
 use Rattle.schedule.specs.Numbers.{by-object, obj-of, number-obj, obj-number}

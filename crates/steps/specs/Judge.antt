@@ -11,9 +11,9 @@ use Rattle.client.specs.declared.part.Set.the-variants.{Reads, Writes}
 use Rattle.client.specs.Layout.{ClientWord, phase, participants, prepared, writes-count}
 use Rattle.client.specs.Record.{last-version}
 use Rattle.client.specs.Sets.{find, count, number-at}
-use Rattle.steps.specs.ClientItems.{all-below, has}
-use Rattle.steps.specs.ClientCommit.{lowest-of}
-use Rattle.steps.specs.ClientCopies.{version-of}
+use Rattle.client.specs.Items.{all-below, has}
+use Rattle.client.specs.Participants.{lowest-of}
+use Rattle.client.specs.Drops.{version-of}
 use Rattle.steps.specs.declared.sizes.Sizes.{Sizes}
 use Rattle.steps.specs.Whole.{Address, server, client}
 use Rattle.steps.specs.Refusal.{between}

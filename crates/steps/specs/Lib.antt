@@ -7,13 +7,6 @@ pub mod Whole
 pub mod Stores
 -- refusals 1 to 9 as tables
 pub mod Refusal
--- what a client's part stores and says in a step: its sets, what enters them, participants, the course of a commit, copies, the work step
-pub mod ClientItems
-pub mod ClientEnter
-pub mod ClientCommit
-pub mod ClientLife
-pub mod ClientCopies
-pub mod ClientWork
 -- which object is checked where, and which is locked
 pub mod Uses
 -- refusal 10 at servers

@@ -27,17 +27,17 @@ use Rattle.nodes.specs.Stored.{node-of, words-of}
 use Rattle.client.specs.Record.{by-number, first-slot}
 use Rattle.nodes.specs.Range.{in-range}
 use Rattle.client.specs.Sets.{count, record-at, number-at}
-use Rattle.steps.specs.ClientItems.{all-below, inner-before-after}
+use Rattle.client.specs.Items.{all-below, inner-before-after}
 use Rattle.client.specs.Fits.{client-fits}
-use Rattle.steps.specs.ClientEnter.{used-enter, answered}
+use Rattle.client.specs.Answered.{used-enter, answered}
 use Rattle.client.specs.Fetched.{fetched-meta, fetched-node, fetched-vector}
-use Rattle.steps.specs.ClientCommit.{participants-of, committing, at-home}
-use Rattle.steps.specs.ClientCopies.{next-version, as-copy, drop-used}
+use Rattle.client.specs.Participants.{participants-of, committing, at-home}
+use Rattle.client.specs.Drops.{next-version, as-copy, drop-used}
 use Rattle.client.specs.Renew.{finish}
 use Rattle.client.specs.Copies.{drop-all}
 use Rattle.client.specs.Life as Life
-use Rattle.steps.specs.ClientLife.{noted, decided}
-use Rattle.steps.specs.ClientWork.{Worked, refused, fetches, aborted, answers, walked, worked}
+use Rattle.client.specs.Course.{noted, decided}
+use Rattle.client.specs.Work.{Worked, refused, fetches, aborted, answers, walked, worked}
 use Rattle.steps.specs.declared.sizes.Sizes.{Sizes}
 use Rattle.steps.specs.declared.step.Step.{Step}
 use Rattle.steps.specs.declared.step.Kind.{Kind}

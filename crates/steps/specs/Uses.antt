@@ -15,8 +15,8 @@ use Rattle.client.specs.Layout.{ClientWord}
 use Rattle.client.specs.Record.{by-number, first-slot}
 use Rattle.client.specs.Sets.{record-at, find, count, number-at}
 use Rattle.client.specs.Have.{copied}
-use Rattle.steps.specs.ClientItems.{inner, has, of-record}
-use Rattle.steps.specs.ClientCommit.{at-home}
+use Rattle.client.specs.Items.{inner, has, of-record}
+use Rattle.client.specs.Participants.{at-home}
 
 -- an object read: metadata, or a node read as inner; its version, or a flag's value; is it written, and as an inner node
 pub record Item : Type 0 where

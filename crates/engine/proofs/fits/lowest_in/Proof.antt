@@ -1,7 +1,7 @@
 use borrow.Author.Needs.{needs}
 use mathlib.Core.Path.{_≡_}
 use Prim.Native.Nat.{_-_, _≤_}
-use Rattle.steps.specs.ClientCommit.{lowest-of}
+use Rattle.client.specs.Participants.{lowest-of}
 use Rattle.engine.specs.Fits.{lowest-exits}
 use Rattle.engine.proofs.fits.lowest_in.Statement.{statement}
 use Rattle.engine.proofs.fits.lowest_in.Tie as tie

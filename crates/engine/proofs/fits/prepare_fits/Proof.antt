@@ -3,7 +3,7 @@ use mathlib.Core.Bool.{true}
 use mathlib.Core.Path.{_≡_}
 use Prim.Native.Nat.{_-_, _≤_}
 use Rattle.memory.specs.Word.{view}
-use Rattle.steps.specs.ClientItems.{all-below}
+use Rattle.client.specs.Items.{all-below}
 use Rattle.client.specs.Sets.{count}
 use Rattle.client.specs.declared.part.Set.the-variants.{Reads}
 use Rattle.steps.specs.Judge.{lowest}

@@ -1,4 +1,4 @@
-use Rattle.steps.specs.ClientCommit.{at-home}
+use Rattle.client.specs.Participants.{at-home}
 use Rattle.engine.specs.Refusal.{tests}
 use borrow.Author.Needs.{needs}
 use Rattle.engine.proofs.items.is_home.Statement.{statement}

@@ -1,5 +1,5 @@
 use borrow.Author.Needs.{needs}
-use Rattle.steps.specs.ClientItems.{inner}
+use Rattle.client.specs.Items.{inner}
 use Rattle.engine.specs.Refusal.{tests}
 use Rattle.engine.proofs.items.is_inner.Statement.{statement}
 use Rattle.engine.proofs.items.is_inner.Tie as tie

@@ -7,11 +7,11 @@ use lib.Dec.{eqb}
 use Rattle.memory.specs.Bit.{bit, putBit}
 use Rattle.layout.specs.Space.{Put, put}
 use Rattle.nodes.specs.Name.{server-of}
 use Rattle.client.specs.declared.part.Set.the-variants.{Reads, Writes}
 use Rattle.client.specs.Layout.{ClientWord, phase, participants}
 use Rattle.client.specs.Record.{by-number}
 use Rattle.client.specs.Sets.{record-at, count, number-at}
-use Rattle.steps.specs.ClientItems.{any-below, inner, inner-before-after}
+use Rattle.client.specs.Items.{any-below, inner, inner-before-after}
 
 -- the set of the servers below n that pass a test
 unfoldable pub mask : ℕ → (ℕ → Bool) → ℕ

@@ -10,13 +10,13 @@ use Rattle.operations.specs.Object.{Ask, Ans, Writes}
 use Rattle.operations.specs.Map.{Op, insert, lookup, delete, next, previous, migrate}
 use Rattle.operations.specs.Operation.{reading, all-fit?}
 use Rattle.operations.specs.Slot.{Sizes}
 use Rattle.client.specs.declared.part.Set.the-variants as set
 use Rattle.client.specs.Layout.{ClientWord, op-number, op-key, op-value, op-server, reads-count, writes-count}
 use Rattle.client.specs.Record.{number, last-version}
 use Rattle.client.specs.Sets.{record-at, find}
 use Rattle.client.specs.Have.{have, broken, copied}
 use Rattle.client.specs.Run.{End, lacks, aborts, gives, Ran, run, among}
-use Rattle.steps.specs.ClientItems.{has}
+use Rattle.client.specs.Items.{has}
 
 -- how a work step ends: refused by 10; or the first thing lacking, an abort's reason, the answer with the operation's writes
 pub data Worked : Type 0 where
