@@ -7,6 +7,7 @@ pub mod Whole
 pub mod Stores
 -- refusals 1 to 9 as tables
 pub mod Refusal
+pub mod Passed
 -- which object is checked where, and which is locked
 pub mod Uses
 -- refusal 10 at servers
