@@ -1,6 +1,6 @@
 -- Objects enter the read set and the write set.
 use mathlib.Core.Bool.{cond}
-use mathlib.Core.List.{List}
+use mathlib.Core.List.{List, [], _∷_}
 use Prim.Native.Nat.{ℕ, _+_}
 use lib.Dec.{ltb}
 use lib.ListN.{getD}
@@ -13,7 +13,7 @@ use Rattle.client.specs.Layout.{client-words}
 use Rattle.client.specs.Sets.{count, find}
 use Rattle.client.specs.Part.{Step, _then_, nothing, put-field, put-item}
 use Rattle.client.specs.Have.{copied}
-use Rattle.client.specs.Lent.{own-count, own-number, own-record}
+use Rattle.client.specs.Lent.{Entry, own-number, own-record}
 
 -- behind the items that are there, which are c; object 97 is not read
 abbrev pub read-behind : ℕ → ℕ → Node → Step
@@ -44,9 +44,10 @@ enter-at x r c Absent = cond (ltb c 48) (written-behind c x r) nothing
 unfoldable pub enter-write : ℕ → Node → Step
 enter-write x r m = enter-at x r (count m Writes) (find m Writes x) m
 
--- "only then do its writes enter the write set": the own writes, in the order of the first write
 unfoldable pub write-nth : List ℕ → ℕ → Step
 write-nth w i = enter-write (own-number w i) (own-record w i)
 
-unfoldable pub enter-writes : List ℕ → Step
-enter-writes w = sweep client-words (write-nth w) (own-count w)
+-- "only then do its writes enter the write set": entries, one after another
+unfoldable pub enter-entries : List Entry → Step
+enter-entries [] = nothing
+enter-entries (e ∷ l) = enter-write (e .0) (e .1) then enter-entries l

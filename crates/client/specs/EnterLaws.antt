@@ -1,12 +1,14 @@
 -- How objects enter the sets.
-use mathlib.Core.Path.{_≡_, refl}
+use mathlib.Core.Path.{_≡_, refl, sym, _∙_}
 use mathlib.Core.Bool.{cond}
-use mathlib.Core.List.{List}
-use Prim.Native.Nat.{ℕ, _+_, _*_, _/_, _≤_, _<_}
+use mathlib.Core.List.{List, [], _∷_, _++_, append-assoc, append-nil}
+use Prim.Native.Nat.{ℕ, zero, suc, _+_, _*_, _/_, _≤_, _<_}
 use native.Mathlib.Omega.{arith}
 use borrow.Author.Tests.{ltb-true, lt-ltb, le-ltb}
 use lib.Dec.{ltb}
 use lib.ListN.{length, getD}
+use Rattle.layout.specs.Space.{changed}
+use Rattle.layout.specs.Step.{andThen, changed-append}
 use Rattle.layout.specs.Sweep.{sweep}
 use Rattle.nodes.specs.declared.node.Node.{Node}
 use Rattle.nodes.specs.declared.found.Found.{Found}
@@ -15,11 +17,11 @@ use Rattle.client.specs.declared.answer.Look.{Look}
 use Rattle.client.specs.declared.part.Set.the-variants.{Reads, Writes}
 use Rattle.client.specs.Layout.{ClientWord, client-words}
 use Rattle.client.specs.Sets.{held, count, find}
-use Rattle.client.specs.Part.{Did, nothing, put-field, put-item}
+use Rattle.client.specs.Part.{Did, _then_, nothing, put-field, put-item}
 use Rattle.client.specs.StepLaws.{Good, EachGood, did-then, did-as, did-nothing, good-then, good-nothing, good-field, good-item, good-cond, good-by, find-limit, swept-all}
 use Rattle.client.specs.Have.{copied}
-use Rattle.client.specs.Lent.{own-number, own-record}
-use Rattle.client.specs.Enter.{read-behind, enter-read, enter-copy, enter-nth, enter-used, written-behind, enter-at, enter-write, write-nth, enter-writes}
+use Rattle.client.specs.Lent.{Entry, own-count, own-number, own-record, own-first, own-list}
+use Rattle.client.specs.Enter.{read-behind, enter-read, enter-copy, enter-nth, enter-used, written-behind, enter-at, enter-write, write-nth, enter-entries}
 
 module _ (s : List ℕ) (x c : ℕ) (n : Node) (e : c ≡ count (held s) Reads) where
   pub read-full : 96 ≤ c → Did (enter-read x n) s s
@@ -80,18 +82,44 @@ good-at m x n Absent e =
     (λ h. good-then (put-item Writes (count m Writes) x n) (put-field 11 (count m Writes + 1)) (good-item Writes (count m Writes) x n (ltb-true _ _ h)) (good-field 11 (count m Writes + 1) (omega arith)))
     (λ h. good-nothing)
 
+pub good-write : (x : ℕ) (n : Node) → Good (enter-write x n)
+unfolding enter-write
+good-write x n = good-by (λ m. enter-at x n (count m Writes) (find m Writes x)) (λ m. good-at m x n (find m Writes x) refl)
+
 pub good-writes : (w : List ℕ) → EachGood (write-nth w)
-unfolding write-nth enter-write
-good-writes w =
-    record {
-      each = λ j. good-by (λ m. enter-at (own-number w j) (own-record w j) (count m Writes) (find m Writes (own-number w j)))
-          (λ m. good-at m (own-number w j) (own-record w j) (find m Writes (own-number w j)) refl);
-    }
+unfolding write-nth
+good-writes w = record { each = λ j. good-write (own-number w j) (own-record w j) }
 
 pub nth-written : (w s t : List ℕ) (i : ℕ) (n : Node) → n ≡ own-record w i → Did (enter-write (getD w (34 * i + 1) 0) n) s t → Did (write-nth w i) s t
 unfolding write-nth own-number
 nth-written w s t i n e p = rw (← e) p
 
-pub writes-entered : (w s t : List ℕ) (n i : ℕ) → n ≡ getD w 0 0 → i ≤ n → n ≤ i → Did (sweep client-words (write-nth w) i) s t → Did (enter-writes w) s t
-unfolding enter-writes
-writes-entered w s t n i e a b p = rw (← e) (swept-all (write-nth w) n i s t a b p)
+-- the loop over the lent list is its entries, one after another
+entries-append : (l k : List Entry) (m : ClientWord → ℕ) → enter-entries (l ++ k) m ≡ (enter-entries l then enter-entries k) m
+unfolding enter-entries andThen nothing changed
+entries-append [] k m = refl
+entries-append (e ∷ l) k m =
+    let n = changed client-words m (enter-write (e .0) (e .1) m) in
+    rw (entries-append l k n, changed-append client-words (enter-write (e .0) (e .1) m) (enter-entries l n) m)
+    (sym (append-assoc (enter-write (e .0) (e .1) m) (enter-entries l n) (enter-entries k (changed client-words n (enter-entries l n)))))
+
+none-entered : (m : ClientWord → ℕ) → [] ≡ enter-entries [] m
+unfolding enter-entries nothing
+none-entered m = refl
+
+one-entered : (e : Entry) (m : ClientWord → ℕ) → enter-entries (e ∷ []) m ≡ enter-write (e .0) (e .1) m
+unfolding enter-entries andThen nothing
+one-entered e m = append-nil (enter-write (e .0) (e .1) m)
+
+first-entered : (w : List ℕ) (n : ℕ) (m : ClientWord → ℕ) → sweep client-words (write-nth w) n m ≡ enter-entries (own-first w n) m
+unfolding sweep own-first andThen write-nth
+first-entered w zero m = none-entered m
+first-entered w (suc n) m =
+    let e : Entry = (own-number w n, own-record w n) in
+    rw (first-entered w n m)
+    (sym (entries-append (own-first w n) (e ∷ []) m ∙ rw (andThen, one-entered e (changed client-words m (enter-entries (own-first w n) m)))))
+
+pub writes-entered : (w s t : List ℕ) (n i : ℕ) → n ≡ getD w 0 0 → i ≤ n → n ≤ i → Did (sweep client-words (write-nth w) i) s t → Did (enter-entries (own-list w)) s t
+unfolding own-list
+writes-entered w s t n i e a b p =
+    did-as (sweep client-words (write-nth w) n) (enter-entries (own-first w (own-count w))) s t (sym (rw (← e) (first-entered w n (held s)))) (swept-all (write-nth w) n i s t a b p)

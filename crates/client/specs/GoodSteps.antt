@@ -12,9 +12,9 @@ use Rattle.client.specs.Layout.{client-words, fetched-vectors}
 use Rattle.client.specs.Record.{single}
 use Rattle.client.specs.Part.{_then_, nothing, put-field, put-fields, put-vector, drop-vector}
 use Rattle.client.specs.StepLaws.{Good, good-then, good-nothing, good-field, good-fields, good-vector, good-cond, good-by, good-sweep, good-loop}
-use Rattle.client.specs.Lent.{own-count}
-use Rattle.client.specs.Enter.{enter-read, enter-nth, enter-used, write-nth, enter-writes}
-use Rattle.client.specs.EnterLaws.{good-read, good-nth, good-writes}
+use Rattle.client.specs.Lent.{Entry}
+use Rattle.client.specs.Enter.{enter-read, enter-nth, enter-used, enter-write, enter-entries}
+use Rattle.client.specs.EnterLaws.{good-read, good-nth, good-write}
 use Rattle.client.specs.Copies.{copy-node, empty-place, drop-reads, drop-all}
 use Rattle.client.specs.CopiesLaws.{good-copy, good-empty, good-vectors, good-drop-reads}
 use Rattle.client.specs.Fetched.{fetched-meta, copy-inner, fetched-node, mark-fetched, fetched-vector}
@@ -26,9 +26,10 @@ pub good-used : (u : List ℕ) → Good (enter-used u)
 unfolding enter-used
 good-used u = good-loop (enter-nth u) (getD u 0 0) (good-nth u)
 
-pub good-own : (w : List ℕ) → Good (enter-writes w)
-unfolding enter-writes
-good-own w = good-loop (write-nth w) (own-count w) (good-writes w)
+pub good-entries : (l : List Entry) → Good (enter-entries l)
+unfolding enter-entries
+good-entries [] = good-nothing
+good-entries (e ∷ l) = good-then (enter-write (e .0) (e .1)) (enter-entries l) (good-write (e .0) (e .1)) (good-entries l)
 
 pub good-fetched-meta : (root version : ℕ) → Good (fetched-meta root version)
 unfolding fetched-meta

@@ -1,6 +1,6 @@
 -- The lent lists of a work step: the operation's own writes, and the copies that it uses. Nothing of them is stored.
-use mathlib.Core.List.{List, _∷_}
-use Prim.Native.Nat.{ℕ, _+_, _*_, _≤_, _<_}
+use mathlib.Core.List.{List, [], _∷_, _++_}
+use Prim.Native.Nat.{ℕ, zero, suc, _+_, _*_, _≤_, _<_}
 use lib.ListN.{length, getD, take, drop, set}
 use lib.Seq.{paste}
 use Rattle.nodes.specs.declared.node.Node.{Node}
@@ -23,6 +23,17 @@ own-number w i = getD w (34 * i + 1) 0
 unfoldable pub own-record : List ℕ → ℕ → Node
 own-record w i = node-at w (34 * i + 2)
 
+-- the first n of them, and all, as entries: an object's number with its record
+abbrev pub Entry : Type 0
+Entry = ℕ × Node
+
+unfoldable pub own-first : List ℕ → ℕ → List Entry
+own-first w zero = []
+own-first w (suc n) = own-first w n ++ ((own-number w n, own-record w n) ∷ [])
+
+unfoldable pub own-list : List ℕ → List Entry
+own-list w = own-first w (own-count w)
+
 unfoldable pub own-find : List ℕ → ℕ → Found
 own-find w x = first-of (own-number w) (own-count w) x
 
@@ -41,6 +52,12 @@ own-put w x r = own-entered w x r (own-find w x)
 pub record Lent (u : List ℕ) : Type 0 where
   pub long : 98 ≤ length u
   pub few : getD u 0 0 ≤ 96
+  pub small : (i : ℕ) → i < getD u 0 0 → getD u (i + 1) 0 < 16385
+
+-- object 97 may be among them, where it is judged at once
+pub record InUse (u : List ℕ) : Type 0 where
+  pub long : 98 ≤ length u
+  pub few : getD u 0 0 ≤ 97
   pub small : (i : ℕ) → i < getD u 0 0 → getD u (i + 1) 0 < 16385
 
 unfoldable pub used-in : List ℕ → List ℕ

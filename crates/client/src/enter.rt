@@ -11,8 +11,8 @@ use nodes::node::Node;
 ghost use Prim.Native.Nat.{_/_, _<_, _≤_};
 ghost use lib.ListN.{length};
 ghost use Rattle.client.specs.Part.{Did};
-ghost use Rattle.client.specs.Lent.{Lent, OwnFits};
-ghost use Rattle.client.specs.Enter.{enter-read, enter-copy, enter-used, enter-write, write-nth, enter-writes};
+ghost use Rattle.client.specs.Lent.{Lent, OwnFits, own-list};
+ghost use Rattle.client.specs.Enter.{enter-read, enter-copy, enter-used, enter-write, write-nth, enter-entries};
 
 // An object with its record as read. Nothing is done where there are 96.
 pub fn enter_read(part: &mut [u8], number: u64, n: Node)
@@ -82,7 +82,7 @@ fn write_nth(part: &mut [u8], own: &[u64], i: usize)
 // The operation's own writes.
 pub fn enter_writes(part: &mut [u8], own: &[u64])
     requires { ⌜ OwnFits (now own) × (7223 ≤ length (now part) / 8) ⌝ }
-    ensures { λ _. ⌜ Did (enter-writes (now (own .entry))) (now (part .entry)) (now (part .exit)) ⌝ }
+    ensures { λ _. ⌜ Did (enter-entries (own-list (now (own .entry)))) (now (part .entry)) (now (part .exit)) ⌝ }
 {
     let n = own[0] as usize;
     let mut i: usize = 0;
