@@ -37,7 +37,8 @@ use Rattle.client.specs.Record.{number, sizes, object-in-store, in-store, value
 use Rattle.client.specs.Sets.{count, find}
 use Rattle.client.specs.Have.{here, copy, full, lacking, unfit, is-copied, is-found, copied, copied-meta, copied-item, copied-node, copied-flag, source, have, broken}
 use Rattle.client.specs.Run.{End, lacks, aborts, gives, Ran, ran, among, judged, run}
-use Rattle.client.specs.Lent.{OwnFits, own-find, own-record, own-count, Lent, used-in, pushed}
+use Rattle.client.specs.Lent.{OwnFits, own-find, own-record, own-count, own-list, Lent, used-in, pushed}
+use Rattle.client.specs.Answered.{entered}
 use Rattle.client.specs.Look.{taken-up, looked, at-hand, used-after}
 use Rattle.work.specs.Walk.{Told, told, goes, lack, over-run, fresh, room, over, worked, tell, walked, carry, walked-fails, full-ask, judged-over}
 
@@ -78,8 +79,9 @@ pub record OwnGood (x : List ℕ) : Type 0 where
   pub fit : OwnFits x
   pub small : (o : Obj) (i : ℕ) → own-find x (number o) ≡ At i → Small o (own-record x i)
 
--- it holds the writes w
+-- it holds the writes w: by object, and entry for entry
 pub record Holds (z : Sizes) (x : List ℕ) (w : Writes) : Type 0 where
+  pub entries : own-list x ≡ entered w
   pub same : (o : Obj) → object-in-store z o ≡ true → own-value x o (own-find x (number o)) ≡ write-of w o
   pub out : (o : Obj) → object-in-store z o ≡ false → write-of w o ≡ none
 

@@ -17,7 +17,8 @@ use Rattle.client.specs.Record.{number, object-in-store}
 use Rattle.client.specs.Sets.{count, first-of}
 use Rattle.client.specs.Have.{have}
 use Rattle.client.specs.Run.{run}
-use Rattle.client.specs.Lent.{OwnFits, own-find, used-in}
+use Rattle.client.specs.Lent.{OwnFits, own-find, own-first, own-list, used-in}
+use Rattle.client.specs.Answered.{entered}
 use Rattle.work.specs.Walk.{fresh, room, over, worked, tell, walked}
 use Rattle.work.specs.Ask.{OwnGood, Holds, Noted, reads-few}
 
@@ -44,7 +45,8 @@ module _ (x : List ℕ) (e : getD x 0 0 ≡ 0) where
       record { fit = record { long = l; few = omega arith }; small = λ o i f. absent-at i (sym (none-own x (number o) e) ∙ f) }
 
   pub nothing-held : (z : Sizes) → Holds z x []
-  nothing-held z = record { same = λ o t. rw (none-own x (number o) e); out = λ o t. refl }
+  unfolding own-list own-first entered
+  nothing-held z = record { entries = rw e; same = λ o t. rw (none-own x (number o) e); out = λ o t. refl }
 
 -- no copy in use
 module _ (m : ClientWord → ℕ) (u : List ℕ) (e : getD u 0 0 ≡ 0) where

@@ -13,5 +13,6 @@ pub mod Seek
 pub mod Near
 pub mod Begin
 -- own writes, slots taken and freed
+pub mod Own
 pub mod Write
 pub mod Take

@@ -10,6 +10,7 @@ use borrow.Author.Tests.{not-true, not-false, eq-eqb, ne-eqb}
 use Rattle.plans.specs.Plan as P
 use Rattle.nodes.specs.declared.node.Node.{Node}
 use Rattle.nodes.specs.Lists.{pad}
+use Rattle.nodes.specs.Place.{bit}
 use Rattle.nodes.specs.Node.{extra, keysOf, slotsOf, made, free-node}
 use Rattle.nodes.specs.StoredLaws.{Sized}
 use Rattle.operations.specs.Object.{Obj, node, flag, Val, body, taken, free, not-free, Writes}
@@ -18,7 +19,7 @@ use Rattle.operations.specs.Path.{Plan, see}
 use Rattle.work.specs.declared.walk.Stop.{Stop}
 use Rattle.work.specs.declared.walk.Stop.the-variants.{Going, LacksMeta, LacksNode, LacksVector, Refused, Aborts, Answers}
 use Rattle.client.specs.Layout.{ClientWord}
-use Rattle.client.specs.Record.{number, object-in-store, value-of, single, first-slot}
+use Rattle.client.specs.Record.{number, object-in-store, value-of, single, record-of, first-slot}
 use Rattle.client.specs.Lent.{OwnFits, own-count, own-put, used-in}
 use Rattle.work.specs.Walk.{goes, walked, carry, walked-fails}
 use Rattle.work.specs.Ask.{SmallNode, OwnGood, Holds, Noted, Answer}
@@ -77,6 +78,10 @@ taken-value : (n : ℕ) → value-of (flag n) (single 0 1) ≡ taken true
 unfolding single made pad
 taken-value n = refl
 
+flag-record : (b : Bool) → single 0 (bit b) ≡ record-of 0 (taken b)
+unfolding record-of
+flag-record b = refl
+
 module _ (z : Sizes) (m : ClientWord → ℕ) (x u : List ℕ) (n : ℕ) (s : Stop) (r : Node) (u′ : List ℕ) (h : Answer z m x u (flag n) s r u′) (b : Bool) (pb : b ≡ goes s) where
   pub flag-lacks : not b ≡ true → FlagTaken z m x u n s x u′
   flag-lacks nb = let no : goes s ≡ false = sym pb ∙ not-true b nb in
@@ -101,7 +106,7 @@ module _ (z : Sizes) (m : ClientWord → ℕ) (x u : List ℕ) (n : ℕ) (s : St
       let px′ : x′ ≡ own-put x (8193 + n) q = rw pk at px in
       record {
         asks = λ w hold k. rw (h .asks w hold .same, on, free-flag-is (eqb (first-slot r) 1) (k ((flag n, taken true) ∷ w)), ne-eqb (first-slot r) 1 e);
-        holds = λ _ w hold. rw px′ (holds-more z x w (flag n) (taken true) q eight g hold few t sized is-v);
+        holds = λ _ w hold. rw px′ (holds-more z x w (flag n) (taken true) q eight g hold few t sized is-v (pq ∙ flag-record true));
         good = λ _. rw px′ (good-more x (flag n) q g few sized (rw px′ at f) (rw pq (single-small 1)));
         noted = h .noted;
       }
@@ -127,6 +132,10 @@ free-value : (n : ℕ) → value-of (node n) (free-node 0) ≡ free
 unfolding free-node made keysOf slotsOf extra
 free-value n = refl
 
+free-record : free-node 0 ≡ record-of 0 free
+unfolding free-node record-of
+free-record = refl
+
 freed-small : SmallNode (free-node 0)
 unfolding free-node made
 freed-small = record { keys = omega arith; level = omega arith }
@@ -139,21 +148,21 @@ pub record Wrote (x : List ℕ) (o : Obj) (v : Val) (x′ : List ℕ) : Type 0 w
 
 module _ (x : List ℕ) (g : OwnGood x) (few : getD x 0 0 < 20) (k : ℕ) (q : Node) (x′ : List ℕ) (px : x′ ≡ own-put x k q) (f : OwnFits x′)
     (lk : length (q .keys) ≡ 14) (ls : length (q .slots) ≡ 15) where
-  wrote : (o : Obj) (v : Val) → k ≡ number o → value-of o q ≡ v → SmallNode q → Wrote x o v x′
-  wrote o v pk is-v small =
+  pub wrote : (o : Obj) (v : Val) → k ≡ number o → value-of o q ≡ v → q ≡ record-of 0 v → SmallNode q → Wrote x o v x′
+  wrote o v pk is-v is-q small =
       let sized : Sized q = record { keys = lk; slots = ls } in
       let p : x′ ≡ own-put x (number o) q = rw pk at px in
       record {
-        holds = λ z w eight t hold. rw p (holds-more z x w o v q eight g hold few t sized is-v);
+        holds = λ z w eight t hold. rw p (holds-more z x w o v q eight g hold few t sized is-v is-q);
         good = rw p (good-more x o q g few sized (rw p at f) small);
         few = rw p (count-more x o q g few sized);
       }
 
   pub flag-freed : (n : ℕ) → k ≡ 8193 + n → q ≡ single 0 0 → Wrote x (flag n) (taken false) x′
-  flag-freed n pk pq = wrote (flag n) (taken false) pk (rw pq (untaken-value n)) (rw pq (single-small 0))
+  flag-freed n pk pq = wrote (flag n) (taken false) pk (rw pq (untaken-value n)) (pq ∙ flag-record false) (rw pq (single-small 0))
 
   pub node-freed : (n : ℕ) → k ≡ 1 + n → q ≡ free-node 0 → Wrote x (node n) free x′
-  node-freed n pk pq = wrote (node n) free pk (rw pq (free-value n)) (rw pq freed-small)
+  node-freed n pk pq = wrote (node n) free pk (rw pq (free-value n)) (pq ∙ free-record) (rw pq freed-small)
 
 pub ruleset freed-exits = (flag-freed, node-freed)
 

@@ -1,7 +1,7 @@
 -- The lent list of own writes after one more: it holds the writes with the new one first.
 use mathlib.Core.Path.{_≡_, refl, sym, _∙_, ap}
 use mathlib.Core.Bool.{Bool, true, false, cond, _&&_, not}
-use mathlib.Core.List.{List, [], _∷_, _++_}
+use mathlib.Core.List.{List, [], _∷_, append-nil}
 use mathlib.Core.Logic.{_⊎_, inl, inr}
 use mathlib.Core.Option.{Option, none, some}
 use Prim.Native.Nat.{ℕ, zero, suc, _+_, _-_, _*_, _/_, _≤_, _<_}
@@ -21,9 +21,11 @@ use Rattle.nodes.specs.Stored.{words-of, node-of, node-at, put-node}
 use Rattle.nodes.specs.StoredLaws.{Sized, length-words, node-same}
 use Rattle.operations.specs.Object.{Obj, meta, node, flag, Val, Writes, hit}
 use Rattle.operations.specs.Slot.{Sizes}
-use Rattle.client.specs.Record.{number, in-store, object-in-store, value-of}
+use Rattle.client.specs.Record.{number, in-store, object-in-store, value-of, record-of}
 use Rattle.client.specs.Sets.{or-found, first-of}
-use Rattle.client.specs.Lent.{OwnFits, own-count, own-number, own-record, own-find, own-at, own-put}
+use Rattle.client.specs.Lent.{OwnFits, own-count, own-number, own-record, own-find, own-at, own-put, own-first, own-list}
+use Rattle.client.specs.Answered.{put-entry, entered}
+use Rattle.work.specs.Own.{first-same, first-at, own-entry, first-equal, entry-behind, entry-there}
 use Rattle.work.specs.Ask.{SmallNode, Small, OwnGood, write-of, own-value, Holds}
 
 -- ---- an object of the store and its number
@@ -119,22 +121,6 @@ pub counted-record : (x : List ℕ) (c j : ℕ) → own-record (set x 0 c) j ≡
 unfolding own-record node-at
 counted-record x c j = ap node-of (run-beside (c ∷ []) x 0 (34 * j + 2) 33 (inr (omega arith)))
 
--- ---- where a number is found
-first-same : (f g : ℕ → ℕ) (n y : ℕ) → ((j : ℕ) → j < n → f j ≡ g j) → first-of f n y ≡ first-of g n y
-unfolding first-of
-first-same f g zero y h = refl
-first-same f g (suc n) y h = rw (first-same f g n y (λ j l. h j (omega arith)), h n (omega arith))
-
-first-at : (f : ℕ → ℕ) (n y i : ℕ) → first-of f n y ≡ At i → (f i ≡ y) × (i < n)
-unfolding first-of
-first-at f zero y i e = let z : _≡_ {A = ℕ} 0 1 = cc in absurd (omega arith)
-first-at f (suc n) y i e = go (first-of f n y) refl (eqb (f n) y) refl (first-at f n y i)
-  where
-    go : (a : Found) → first-of f n y ≡ a → (b : Bool) → eqb (f n) y ≡ b → (first-of f n y ≡ At i → (f i ≡ y) × (i < n)) → (f i ≡ y) × (i < suc n)
-    go (At k) p b q ih = let r : At k ≡ At i = rw (first-of, p) at e in let t = ih (p ∙ r) in (t .0, omega (arith, t .1))
-    go Absent p true q ih = let r : At n ≡ At i = rw (first-of, p, q) at e in let s : n ≡ i = cc in (rw (← s) (eqb-true (f n) y q), omega arith)
-    go Absent p false q ih = let r : Absent ≡ At i = rw (first-of, p, q) at e in let z : _≡_ {A = ℕ} 0 1 = cc in absurd (omega arith)
-
 -- ---- the list after a write
 -- for each number: where it is found, and the record there
 pub record Put (x : List ℕ) (n : ℕ) (r : Node) (x′ : List ℕ) : Type 0 where
@@ -144,14 +130,24 @@ pub record Put (x : List ℕ) (n : ℕ) (r : Node) (x′ : List ℕ) : Type 0 wh
   pub others : (y : ℕ) → (y ≡ n → ⊥) → own-find x′ y ≡ own-find x y
   pub kept : (y i : ℕ) → (y ≡ n → ⊥) → own-find x y ≡ At i → own-record x′ i ≡ own-record x i
   pub few : own-count x′ ≤ own-count x + 1
+  pub list : own-list x′ ≡ put-entry (n, r) (own-list x)
 
 found-in : (x : List ℕ) (y j : ℕ) → own-find x y ≡ At j → j < own-count x
 unfolding own-find
 found-in x y j f = first-at (own-number x) (own-count x) y j f .1
 
 module _ (x : List ℕ) (n : ℕ) (r : Node) (sized : Sized r) (fit : OwnFits x) (few : own-count x < 20) where
+  -- the list with the entry in its place
+  list-replaced : (i : ℕ) → own-number x i ≡ n → 34 * i + 35 ≤ length x → first-of (own-number x) (own-count x) n ≡ At i
+      → own-first (own-at x n r i) (own-count x) ≡ put-entry (n, r) (own-first x (own-count x))
+  list-replaced i h g e =
+      let here : own-entry (own-at x n r i) i ≡ (n, r) = rw (number-here x n r sized i g, record-here x n r sized i g) in
+      let there : (j : ℕ) → (j ≡ i → ⊥) → own-entry (own-at x n r i) j ≡ own-entry x j = λ j d. rw (number-there x n r sized i g j d, record-there x n r sized i g j d) in
+      let a = entry-there x n r (own-at x n r i) i here there (own-count x) [] e in
+      sym (rw (append-nil (own-first x (own-count x)), append-nil (own-first (own-at x n r i) (own-count x))) at a)
+
   put-replaced : (i : ℕ) → own-find x n ≡ At i → Put x n r (own-at x n r i)
-  unfolding own-find
+  unfolding own-find own-list
   put-replaced i e =
       let h = first-at (own-number x) (own-count x) n i e in
       let g : 34 * i + 35 ≤ length x = omega (arith, h .1, fit .long) in
@@ -164,6 +160,7 @@ module _ (x : List ℕ) (n : ℕ) (r : Node) (sized : Sized r) (fit : OwnFits x)
         others = λ y d. same-find y;
         kept = λ y j d f. record-there x n r sized i g j (λ q. d (sym (first-at (own-number x) (own-count x) y j f .0) ∙ rw q (h .0)));
         few = omega (arith, count-same x n r sized i g);
+        list = rw (count-same x n r sized i g) (list-replaced i (h .0) g e);
       }
     where
       same : (j : ℕ) → Dec (j ≡ i) → own-number x i ≡ n → 34 * i + 35 ≤ length x → own-number (own-at x n r i) j ≡ own-number x j
@@ -195,18 +192,30 @@ module _ (x : List ℕ) (n : ℕ) (r : Node) (sized : Sized r) (fit : OwnFits x)
   or-absent (At i) = refl
   or-absent Absent = refl
 
+  last-record : own-record x′ (own-count x) ≡ r
+  last-record = counted-record (own-at x n r (own-count x)) (own-count x + 1) (own-count x) ∙ record-here x n r sized (own-count x) room
+
+  earlier-record : (j : ℕ) → j < own-count x → own-record x′ j ≡ own-record x j
+  earlier-record j h = counted-record (own-at x n r (own-count x)) (own-count x + 1) j ∙ record-there x n r sized (own-count x) room j (λ e. absurd (omega arith))
+
+  -- the list with the entry behind the others
+  list-behind : own-find x n ≡ Absent → own-list x′ ≡ put-entry (n, r) (own-list x)
+  unfolding own-find own-list own-first put-entry
+  list-behind e =
+      let f : own-first x′ (own-count x) ≡ own-first x (own-count x) = first-equal x′ x (own-count x) (λ j h. rw (earlier j h, earlier-record j h)) in
+      let b = entry-behind x n r (own-count x) [] e in
+      rw (own-list, one-more, own-first, last-number, last-record, f) (sym (rw (append-nil (own-first x (own-count x))) at b))
+
   put-behind : own-find x n ≡ Absent → Put x n r x′
   put-behind e = record {
     at = own-count x;
     found = rw (find-after n, e, eq-eqb n n refl);
-    is = counted-record (own-at x n r (own-count x)) (own-count x + 1) (own-count x) ∙ record-here x n r sized (own-count x) room;
+    is = last-record;
     others = λ y d. rw (find-after y, ne-eqb n y (λ q. d (sym q))) (or-absent (own-find x y));
-    kept = λ y j d f. counted-record (own-at x n r (own-count x)) (own-count x + 1) j ∙ record-there x n r sized (own-count x) room j (λ q. earlier-not y j f q);
+    kept = λ y j d f. earlier-record j (found-in x y j f);
     few = omega (arith, one-more);
+    list = list-behind e;
   }
-    where
-      earlier-not : (y j : ℕ) → own-find x y ≡ At j → j ≡ own-count x → ⊥
-      earlier-not y j f q = omega (arith, found-in x y j f)
 
   pub put : Put x n r (own-put x n r)
   unfolding own-put
@@ -251,7 +260,7 @@ module _ (x : List ℕ) (o : Obj) (r : Node) (good : OwnGood x) (few : own-count
       go q i e (no d) = let k : own-find x (number q) ≡ At i = sym (p .others (number q) d) ∙ e in rw (p .kept (number q) i d k) (good .small q i k)
 
 module _ (z : Sizes) (x : List ℕ) (w : Writes) (o : Obj) (v : Val) (r : Node) (eight : z .servers ≤ 8) (good : OwnGood x) (hold : Holds z x w)
-    (few : own-count x < 20) (t : object-in-store z o ≡ true) (sized : Sized r) (is-v : value-of o r ≡ v) where
+    (few : own-count x < 20) (t : object-in-store z o ≡ true) (sized : Sized r) (is-v : value-of o r ≡ v) (is-r : r ≡ record-of 0 v) where
   value-after : (q : Obj) → object-in-store z q ≡ true → own-value (own-put x (number o) r) q (own-find (own-put x (number o) r) (number q)) ≡ write-of ((o, v) ∷ w) q
   value-after q s = go (hit o q) refl
     where
@@ -269,7 +278,8 @@ module _ (z : Sizes) (x : List ℕ) (w : Writes) (o : Obj) (v : Val) (r : Node) 
           differ e f = eqb-false (number o) (number q) (sym (hit-is z eight o q t s) ∙ e) (sym f)
 
   pub holds-more : Holds z (own-put x (number o) r) ((o, v) ∷ w)
-  holds-more = record { same = value-after; out = λ q s. go q s (hit o q) refl }
+  unfolding entered
+  holds-more = record { entries = rw ((p x o r good few sized) .list, hold .entries, is-r); same = value-after; out = λ q s. go q s (hit o q) refl }
     where
       go : (q : Obj) → object-in-store z q ≡ false → (b : Bool) → hit o q ≡ b → write-of ((o, v) ∷ w) q ≡ none
       go q s true e = let same : o ≡ q = hit-same o q e in let c : true ≡ false = sym t ∙ rw same s in let y : _≡_ {A = ℕ} 0 1 = cc in absurd (omega arith)
