@@ -24,7 +24,7 @@ use Rattle.work.specs.declared.down.Rooted.{Rooted}
 use Rattle.work.specs.declared.walk.Stop.{Stop}
 use Rattle.work.specs.declared.walk.Stop.the-variants.{Going, LacksMeta, LacksNode, LacksVector, Refused, Aborts, Answers}
 use Rattle.client.specs.Layout.{ClientWord}
-use Rattle.client.specs.Record.{value-of}
+use Rattle.client.specs.Record.{value-of, in-store}
 use Rattle.client.specs.Lent.{used-in}
 use Rattle.work.specs.Entries.{opens, below, open-is, child-is, Inner, open-inner, extra-inner, branch-of, down-inner, down-there, Below, below-true}
 use Rattle.work.specs.Walk.{Told, told, goes, walked, carry, walked-fails}
@@ -39,6 +39,7 @@ pub record Kid (z : Sizes) (m : ClientWord → ℕ) (x u : List ℕ) (l n : ℕ)
   pub long : length u′ ≡ length u
   pub fits : goes s ≡ true → below l r ≡ true
   pub whole : Whole r
+  pub inside : goes s ≡ true → in-store z n ≡ true
 
 -- the root of that name
 pub record RootMet (z : Sizes) (m : ClientWord → ℕ) (x u : List ℕ) (n : ℕ) (s : Stop) (r : Node) (u′ : List ℕ) : Type 0 where
@@ -49,6 +50,7 @@ pub record RootMet (z : Sizes) (m : ClientWord → ℕ) (x u : List ℕ) (n : �
   pub long : length u′ ≡ length u
   pub fits : goes s ≡ true → opens r ≡ true
   pub whole : Whole r
+  pub inside : goes s ≡ true → in-store z n ≡ true
 
 pub stops-not : (s : Stop) {A : Type 0} → goes s ≡ false → goes s ≡ true → A
 stops-not s p q = let e : false ≡ true = sym p ∙ q in let z : _≡_ {A = ℕ} 0 1 = cc in absurd (omega arith)
@@ -63,10 +65,10 @@ module _ (z : Sizes) (m : ClientWord → ℕ) (x u : List ℕ) (n : ℕ) (s : St
     no = sym pb ∙ not-true b nb
 
     pub kid-stops : (l : ℕ) → Kid z m x u l n s r u′
-    kid-stops l = record { asks = λ w hold lo k. rw (h .asks w hold .same, no); noted = h .noted; long = h .long; small = h .small; fits = λ t. stops-not s no t; whole = f }
+    kid-stops l = record { asks = λ w hold lo k. rw (h .asks w hold .same, no); noted = h .noted; long = h .long; small = h .small; fits = λ t. stops-not s no t; whole = f; inside = h .inside }
 
     pub root-stops : RootMet z m x u n s r u′
-    root-stops = record { asks = λ hold k. rw (h .asks [] hold .same, no); noted = h .noted; long = h .long; small = h .small; fits = λ t. stops-not s no t; whole = f }
+    root-stops = record { asks = λ hold k. rw (h .asks [] hold .same, no); noted = h .noted; long = h .long; small = h .small; fits = λ t. stops-not s no t; whole = f; inside = h .inside }
 
   module _ (nb : not b ≡ false) (c : Bool) where
     on : goes s ≡ true
@@ -82,6 +84,7 @@ module _ (z : Sizes) (m : ClientWord → ℕ) (x u : List ℕ) (n : ℕ) (s : St
           small = h .small;
           fits = λ t. stops-not (Aborts 3) refl t;
           whole = f;
+          inside = λ t. stops-not (Aborts 3) refl t;
         }
 
     pub kid-good : (l : ℕ) → c ≡ below l r → not c ≡ false → Kid z m x u l n s r u′
@@ -94,6 +97,7 @@ module _ (z : Sizes) (m : ClientWord → ℕ) (x u : List ℕ) (n : ℕ) (s : St
           small = h .small;
           fits = λ t. e;
           whole = f;
+          inside = h .inside;
         }
 
     pub root-bad : c ≡ opens r → not c ≡ true → RootMet z m x u n (Aborts 3) r u′
@@ -106,6 +110,7 @@ module _ (z : Sizes) (m : ClientWord → ℕ) (x u : List ℕ) (n : ℕ) (s : St
           small = h .small;
           fits = λ t. stops-not (Aborts 3) refl t;
           whole = f;
+          inside = λ t. stops-not (Aborts 3) refl t;
         }
 
     pub root-good : c ≡ opens r → not c ≡ false → RootMet z m x u n s r u′
@@ -118,6 +123,7 @@ module _ (z : Sizes) (m : ClientWord → ℕ) (x u : List ℕ) (n : ℕ) (s : St
           small = h .small;
           fits = λ t. e;
           whole = f;
+          inside = h .inside;
         }
 
 pub ruleset node-exits = (kid-stops, root-stops, kid-bad, kid-good, root-bad, root-good)
@@ -152,6 +158,17 @@ unfoldable pub All : List Turn → Type 0
 All [] = Unit {0}
 All (b ∷ bs) = Followed b × All bs
 
+-- a branch as it is linked to the node below it, of the level l and the name n: "exactly one level lower", at the child that was followed
+pub record Link (z : Sizes) (l n : ℕ) (b : Turn) : Type 0 where
+  pub level : b .node .level ≡ suc l
+  pub child : n ≡ getD (b .node .slots) (b .at) 0
+  pub there : in-store z n ≡ true
+
+-- all the names of a path are in the store, and each branch is linked to the next
+unfoldable pub Linked : Sizes → ℕ → ℕ → List Turn → Type 0
+Linked z l n [] = in-store z n ≡ true
+Linked z l n (b ∷ bs) = Link z l n b × Linked z (suc l) (b .name) bs
+
 -- where a way down may begin: at a node that is open, no lower than the level looked for
 pub record From (n : Node) (target : ℕ) : Type 0 where
   pub whole : Whole n
@@ -185,6 +202,8 @@ pub record Lowered (z : Sizes) (m : ClientWord → ℕ) (x u : List ℕ) (key le
   pub small : SmallNode (r .node)
   pub whole : Whole (r .node)
   pub fits : goes (r .stop) ≡ true → Below (level - 1) (r .node)
+  pub child : r .name ≡ getD (n .slots) (r .at) 0
+  pub inside : goes (r .stop) ≡ true → in-store z (r .name) ≡ true
 
 -- how far a way down has come
 pub record Downward (z : Sizes) (m : ClientWord → ℕ) (x u₀ : List ℕ) (key target root : ℕ) (first : Node) (top : ℕ) (path : List Turn) (name : ℕ) (n : Node) (level : ℕ) (u : List ℕ) : Type 0 where
@@ -200,6 +219,7 @@ pub record Downward (z : Sizes) (m : ClientWord → ℕ) (x u₀ : List ℕ) (ke
   pub whole : Whole n
   pub noted : Noted m u
   pub good : All (trail path level (top - level))
+  pub linked : in-store z root ≡ true → Linked z level name (trail path level (top - level))
   pub same : Holds z x [] → (stop : ℕ → Bool) → Stops stop target → (k : Cont)
       → walked z m (down stop key k (first .level) [] root (entriesOf first 0)) (used-in u₀)
       ≡ walked z m (down stop key k level (branches (trail path level (top - level))) name (entriesOf n (low (trail path level (top - level))))) (used-in u)
@@ -223,6 +243,7 @@ pub record Led (z : Sizes) (m : ClientWord → ℕ) (x u : List ℕ) (key target
   pub noted : Noted m u′
   pub high : d .top ≤ 4
   pub reached : goes (d .stop) ≡ true → Reached target d
+  pub linked : in-store z root ≡ true → goes (d .stop) ≡ true → Linked z target (d .name) (trail (d .path) target (d .top - target))
 
 -- ---- one more branch in the array
 trail-kept : (p : List Turn) (i : ℕ) (b : Turn) (l n : ℕ) → i ≤ l → trail (set p i b) l n ≡ trail p l n
@@ -247,7 +268,7 @@ trail-none p l = let e : l - l ≡ 0 = omega arith in rw e
 -- ---- the turns of the loop, and its ends
 pub down-start : (z : Sizes) (m : ClientWord → ℕ) (x u : List ℕ) (key target root : ℕ) (first : Node) (path : List Turn) → From first target → Noted m u → length path ≡ 5
     → Downward z m x u key target root first (first .level) path root first (first .level) u
-unfolding All
+unfolding All Linked
 down-start z m x u key target root first path f h l = record {
   whole-way = refl;
   long = refl;
@@ -261,6 +282,7 @@ down-start z m x u key target root first path f h l = record {
   whole = f .whole;
   noted = h;
   good = rw (trail-none path (first .level)) tt;
+  linked = λ q. rw (trail-none path (first .level)) q;
   same = λ hold stop st k. rw (trail-none path (first .level));
 }
 
@@ -281,15 +303,17 @@ module _ (z : Sizes) (m : ClientWord → ℕ) (x u₀ : List ℕ) (key target ro
           noted = c .noted;
           high = d .high;
           reached = λ t. stops-not (r .stop) no t;
+          linked = λ q t. stops-not (r .stop) no t;
         }
 
     pub down-long : length u′ ≡ length u₀
     down-long = c .long ∙ d .long
 
     pub down-more : not b ≡ false → Downward z m x u₀ key target root first top (set path level turn) (r .name) (r .node) (level - 1) u′
-    unfolding All
+    unfolding All Linked
     down-more nb =
         let on : goes (r .stop) ≡ true = sym pb ∙ not-false b nb in
+        let up : suc (level - 1) ≡ level = omega arith in
         let t : trail (set path level turn) (level - 1) (top - (level - 1)) ≡ turn ∷ above = trail-more path turn level top (omega arith) (d .upper) (omega (arith, d .size, d .high, d .upper)) in
         let q : Below (level - 1) (r .node) = c .fits on in
         record {
@@ -305,6 +329,7 @@ module _ (z : Sizes) (m : ClientWord → ℕ) (x u₀ : List ℕ) (key target ro
           whole = c .whole;
           noted = c .noted;
           good = rw t (record { inner = c .turned .inner; whole = c .turned .whole; small = c .turned .small; within = c .within }, d .good);
+          linked = λ q. rw (t, up) (record { level = rw up (d .level-is); child = c .child; there = c .inside on }, d .linked q);
           same = λ hold stop st k. rw (t, d .same hold stop st k, c .asks hold stop (st .before level lt) k (branches above) name (low above), on);
         }
 
@@ -325,6 +350,7 @@ module _ (z : Sizes) (m : ClientWord → ℕ) (x u₀ : List ℕ) (key target ro
         noted = d .noted;
         high = d .high;
         reached = λ t. record { level = rw e at (d .level-is); opened = d .opened; small = d .small; whole = d .whole; size = d .size; above = omega (arith, d .upper); good = rw e at (d .good) };
+        linked = λ q t. rw e at (d .linked q);
       }
 
 pub ruleset down-exits = (down-start, down-stops, down-more, down-done, down-above)
@@ -345,6 +371,8 @@ module _ (z : Sizes) (m : ClientWord → ℕ) (x u : List ℕ) (key level : ℕ)
         small = c .small;
         whole = c .whole;
         fits = λ t. below-true (level - 1) r (c .fits t);
+        child = pn;
+        inside = c .inside;
       }
 
   pub child-inside : at < 15
@@ -359,6 +387,7 @@ pub record AtRoot (z : Sizes) (m : ClientWord → ℕ) (x u : List ℕ) (r : Roo
       ≡ carry (r .stop) (used-in u′) (λ us. walked z m (k (r .name) (r .node .level) (entriesOf (r .node) 0)) us)
   pub noted : Noted m u′
   pub begins : goes (r .stop) ≡ true → From (r .node) 0
+  pub inside : goes (r .stop) ≡ true → in-store z (r .name) ≡ true
 
 -- down to the leaf for a key
 pub record Descends (z : Sizes) (m : ClientWord → ℕ) (x u : List ℕ) (key : ℕ) (d : Descent) (u′ : List ℕ) : Type 0 where
@@ -368,11 +397,12 @@ pub record Descends (z : Sizes) (m : ClientWord → ℕ) (x u : List ℕ) (key :
   pub noted : Noted m u′
   pub high : d .top ≤ 4
   pub reached : goes (d .stop) ≡ true → Reached 0 d
+  pub linked : goes (d .stop) ≡ true → Linked z 0 (d .name) (trail (d .path) 0 (d .top - 0))
 
 module _ (z : Sizes) (m : ClientWord → ℕ) (x u : List ℕ) (s : Stop) (n : Node) (u₁ : List ℕ) (a : Answer z m x u meta s n u₁) (b : Bool) (pb : b ≡ goes s) where
   pub no-root : not b ≡ true → AtRoot z m x u (record { stop = s; name = getD (n .slots) 0 0; node = n }) u₁
   no-root nb = let no : goes s ≡ false = sym pb ∙ not-true b nb in
-      record { asks = λ hold k. rw (a .asks [] hold .same, no); noted = a .noted; begins = λ t. stops-not s no t }
+      record { asks = λ hold k. rw (a .asks [] hold .same, no); noted = a .noted; begins = λ t. stops-not s no t; inside = λ t. stops-not s no t }
 
   pub met-root : (t : Stop) (r : Node) (u₂ : List ℕ) → not b ≡ false → RootMet z m x u₁ (getD (n .slots) 0 0) t r u₂ → AtRoot z m x u (record { stop = t; name = getD (n .slots) 0 0; node = r }) u₂
   met-root t r u₂ nb h = let on : goes s ≡ true = sym pb ∙ not-false b nb in
@@ -380,6 +410,7 @@ module _ (z : Sizes) (m : ClientWord → ℕ) (x u : List ℕ) (s : Stop) (n : N
         asks = λ hold k. rw (a .asks [] hold .same, on, h .asks hold);
         noted = h .noted;
         begins = λ g. record { whole = h .whole; small = h .small; opened = h .fits g; above = omega arith };
+        inside = h .inside;
       }
 
 pub ruleset root-exits = (no-root, met-root)
@@ -394,11 +425,11 @@ leaf-stops = record { before = λ l h. go l h; there = λ h. absurd (omega arith
 module _ (z : Sizes) (m : ClientWord → ℕ) (x u : List ℕ) (key : ℕ) (r : Rooted) (u₁ : List ℕ) (a : AtRoot z m x u r u₁) (b : Bool) (pb : b ≡ goes (r .stop)) where
   pub no-way : (d : Descent) → not b ≡ true → d .stop ≡ r .stop → d .top ≤ 4 → Descends z m x u key d u₁
   no-way d nb e t4 = let no : goes (r .stop) ≡ false = sym pb ∙ not-true b nb in
-      record { asks = λ hold k. rw (a .asks hold (λ q l es. down to-leaf key (λ _ fs n es. k fs n es) l [] q es), e, no); noted = a .noted; high = t4; reached = λ t. stops-not (r .stop) no (rw e at t) }
+      record { asks = λ hold k. rw (a .asks hold (λ q l es. down to-leaf key (λ _ fs n es. k fs n es) l [] q es), e, no); noted = a .noted; high = t4; reached = λ t. stops-not (r .stop) no (rw e at t); linked = λ t. stops-not (r .stop) no (rw e at t) }
 
   pub whole-way : (d : Descent) (u₂ : List ℕ) → not b ≡ false → Led z m x u₁ key 0 (r .name) (r .node) d u₂ → Descends z m x u key d u₂
   whole-way d u₂ nb h = let on : goes (r .stop) ≡ true = sym pb ∙ not-false b nb in
-      record { asks = λ hold k. rw (a .asks hold (λ q l es. down to-leaf key (λ _ fs n es. k fs n es) l [] q es), on) (h .asks hold to-leaf leaf-stops (λ l fs n es. k fs n es)); noted = h .noted; high = h .high; reached = h .reached }
+      record { asks = λ hold k. rw (a .asks hold (λ q l es. down to-leaf key (λ _ fs n es. k fs n es) l [] q es), on) (h .asks hold to-leaf leaf-stops (λ l fs n es. k fs n es)); noted = h .noted; high = h .high; reached = h .reached; linked = h .linked (a .inside on) }
 
   pub way-begins : not b ≡ false → From (r .node) 0
   way-begins nb = a .begins (sym pb ∙ not-false b nb)
