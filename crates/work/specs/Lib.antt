@@ -16,3 +16,5 @@ pub mod Begin
 pub mod Own
 pub mod Write
 pub mod Take
+-- changes carried up
+pub mod Rise

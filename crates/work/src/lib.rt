@@ -1,6 +1,7 @@
 // The walk of a waiting operation's plan over what its client has.
 pub mod down;
 pub mod lookup;
+pub mod rise;
 pub mod seek;
 pub mod take;
 pub mod walk;

@@ -1,0 +1,116 @@
+-- Changes carried up from a leaf: nodes written, and what one level hands to the next.
+use mathlib.Core.Path.{_≡_, refl, sym, _∙_, ap}
+use mathlib.Core.Bool.{Bool, true, false, cond}
+use mathlib.Core.List.{List, [], _∷_, _++_}
+use Prim.Native.Nat.{ℕ, zero, suc, _+_, _≤_, _<_}
+use native.Mathlib.Omega.{arith}
+use native.Mathlib.Decide.{ℕ-discrete}
+use lib.ListN.{length, getD}
+use Rattle.nodes.specs.declared.node.Node.{Node}
+use Rattle.nodes.specs.declared.change.Wide.{Wide}
+use Rattle.nodes.specs.declared.found.Found.the-variants.{At}
+use Rattle.nodes.specs.Node.{extra, keysOf, slotsOf, made, keys-made, slots-made}
+use Rattle.nodes.specs.Entries.{entriesOf, wide-entries}
+use Rattle.nodes.specs.Change.{with-version}
+use Rattle.nodes.specs.Kept.{Whole, whole, WholeWide}
+use Rattle.nodes.specs.StoredLaws.{Sized}
+use Rattle.operations.specs.Object.{Obj, meta, node, flag, Val, body, Ans, Writes}
+use Rattle.operations.specs.Slot.{Sizes}
+use Rattle.operations.specs.Entry.{Entries, mk}
+use Rattle.operations.specs.Arrays.{kind}
+use Rattle.operations.specs.Path.{Plan, Branch}
+use Rattle.operations.specs.Change.{Go, split, neighbour}
+use Rattle.work.specs.declared.rise.Risen.{Risen}
+use Rattle.work.specs.declared.down.Turn.{Turn}
+use Rattle.work.specs.declared.walk.Stop.{Stop}
+use Rattle.work.specs.declared.walk.Stop.the-variants.{Going, LacksMeta, LacksNode, LacksVector, Refused, Aborts, Answers}
+use Rattle.client.specs.Layout.{ClientWord}
+use Rattle.client.specs.Record.{number, in-store, object-in-store, value-of}
+use Rattle.client.specs.Lent.{OwnFits, own-find, own-record, own-put, used-in}
+use Rattle.work.specs.Walk.{Told, goes, walked}
+use Rattle.work.specs.Lookup.{ended}
+use Rattle.work.specs.Ask.{SmallNode, OwnGood, Holds, Noted}
+use Rattle.work.specs.Write.{Put, put, holds-more}
+use Rattle.work.specs.Take.{Wrote}
+use Rattle.work.specs.Entries.{branch-of}
+use Rattle.work.specs.Down.{Followed, Link}
+
+-- a node at hand has at most 14 keys
+abbrev pub FewKeys : Obj → Node → Type 0
+FewKeys meta r = Unit {0}
+FewKeys (node n) r = r .count ≤ 14
+FewKeys (flag n) r = Unit {0}
+
+-- what the answer finds in the lent list: a split root of level 4 is written too, with level 5, and judged only then
+pub record OwnKept (x : List ℕ) : Type 0 where
+  pub fit : OwnFits x
+  pub few : (o : Obj) (i : ℕ) → own-find x (number o) ≡ At i → FewKeys o (own-record x i)
+
+-- a node is written under its name
+pub record NodeWritten (x : List ℕ) (name : ℕ) (n : Node) (x′ : List ℕ) : Type 0 where
+  pub wrote : n .level ≤ 4 → Wrote x (node name) (value-of (node name) n) x′
+  pub holds : (z : Sizes) (w : Writes) → z .servers ≤ 8 → in-store z name ≡ true → Holds z x w → Holds z x′ ((node name, value-of (node name) n) ∷ w)
+  pub kept : OwnKept x′
+
+-- the new content of a node of level l: up to 15 keys
+pub record Content (l : ℕ) (n : Wide) : Type 0 where
+  pub kind : n .kind ≡ kind l
+  pub level : n .level ≡ l
+  pub whole : WholeWide n
+  pub few : n .count ≤ 15
+
+-- the walk goes on, or has come to the answer
+abbrev pub stands : Stop → Bool
+stands Going = true
+stands LacksMeta = false
+stands (LacksNode n) = false
+stands (LacksVector s) = false
+stands Refused = false
+stands (Aborts r) = false
+stands (Answers a b) = true
+
+-- with the copies us and the writes w the walk has ended, or goes on
+abbrev pub rose : Stop → List ℕ → Writes → (List ℕ → Writes → Told) → Told
+rose s us w f = cond (goes s) (f us w) (ended s us w)
+
+-- nothing is above the parent
+abbrev pub is-root : List Branch → Bool
+is-root [] = true
+is-root (f ∷ fs) = false
+
+-- One level below the root. `plan` is what it does, where the parent holds keys from lo on and has the path fs above it, before go;
+-- `more` are its writes, the latest first. With Going the parent's new content goes up.
+pub record Raised (z : Sizes) (m : ClientWord → ℕ) (x u : List ℕ) (l : ℕ) (root : Bool) (plan : ℕ → List Branch → Writes → Go → Plan) (r : Risen) (x′ u′ : List ℕ) : Type 0 where
+  pub more : Writes
+  pub same : (w : Writes) → Holds z x w → (lo : ℕ) (fs : List Branch) → is-root fs ≡ root → (go : Go)
+      → walked z m (plan lo fs w go) (used-in u) ≡ rose (r .stop) (used-in u′) (more ++ w) (λ us w′. walked z m (go w′ (wide-entries (r .up) lo)) us)
+  pub holds : stands (r .stop) ≡ true → (w : Writes) → Holds z x w → Holds z x′ (more ++ w)
+  pub kept : stands (r .stop) ≡ true → OwnKept x′
+  pub good : goes (r .stop) ≡ true → OwnGood x′
+  pub few : goes (r .stop) ≡ true → getD x′ 0 0 ≤ getD x 0 0 + 3
+  pub content : goes (r .stop) ≡ true → Content (suc l) (r .up)
+  pub noted : Noted m u′
+
+-- ---- the node of the name c and the level l whose parent is b, with the entries es lo where it holds keys from lo on
+abbrev pub in-parent : Turn → ℕ → Branch
+in-parent b lo = branch-of (b .name) (b .at) (entriesOf (b .node) lo)
+
+-- its parent is at hand, and both are in the store
+pub record Under (z : Sizes) (l c : ℕ) (b : Turn) : Type 0 where
+  pub followed : Followed b
+  pub link : Link z l c b
+  pub there : in-store z (b .name) ≡ true
+
+-- a node of level l
+pub record OfLevel (l : ℕ) (n : Node) : Type 0 where
+  pub kind : n .kind ≡ kind l
+  pub level : n .level ≡ l
+  pub whole : Whole n
+
+-- "a non-root node of 15 keys"
+unfoldable pub split-plan : Sizes → ℕ → Turn → ℕ → (ℕ → Entries) → ℕ → List Branch → Writes → Go → Plan
+split-plan z l b c es lo fs w go = let f = in-parent b lo in split z go l w f c (es (f .key))
+
+-- "left with 6 keys"
+unfoldable pub neighbour-plan : Ans → ℕ → Turn → ℕ → (ℕ → Entries) → ℕ → List Branch → Writes → Go → Plan
+neighbour-plan a l b c es lo fs w go = let f = in-parent b lo in neighbour a l fs go w f c (es (f .key)) (f .post)
