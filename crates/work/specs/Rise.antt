@@ -29,9 +29,9 @@ use Rattle.client.specs.Record.{number, in-store, object-in-store, value-of}
 use Rattle.client.specs.Lent.{OwnFits, own-find, own-record, own-put, used-in}
 use Rattle.work.specs.Walk.{Told, goes, walked}
 use Rattle.work.specs.Lookup.{ended}
-use Rattle.work.specs.Ask.{SmallNode, OwnGood, Holds, Noted}
+use Rattle.work.specs.Ask.{SmallNode, Small, OwnGood, Holds, Noted}
 use Rattle.work.specs.Write.{Put, put, holds-more}
-use Rattle.work.specs.Take.{Wrote}
+use Rattle.work.specs.Take.{Wrote, wrote}
 use Rattle.work.specs.Entries.{branch-of}
 use Rattle.work.specs.Down.{Followed, Link}
 
@@ -114,3 +114,66 @@ split-plan z l b c es lo fs w go = let f = in-parent b lo in split z go l w f c 
 -- "left with 6 keys"
 unfoldable pub neighbour-plan : Ans → ℕ → Turn → ℕ → (ℕ → Entries) → ℕ → List Branch → Writes → Go → Plan
 neighbour-plan a l b c es lo fs w go = let f = in-parent b lo in neighbour a l fs go w f c (es (f .key)) (f .post)
+
+-- ---- a node is written
+module _ (x : List ℕ) (g : OwnGood x) (few : getD x 0 0 < 20) (name k : ℕ) (pk : k ≡ 1 + name) (n : Node) (lk : length (n .keys) ≡ 14) (ls : length (n .slots) ≡ 15) (h : n .count ≤ 14)
+    (q : Node) (pq : q ≡ with-version n 0) (qk : length (q .keys) ≡ 14) (qs : length (q .slots) ≡ 15) (x′ : List ℕ) (px : x′ ≡ own-put x k q) (f : OwnFits x′) where
+  again-value : value-of (node name) (with-version n 0) ≡ value-of (node name) n
+  unfolding with-version made
+  again-value =
+      let t : Whole n = whole n lk ls h in
+      let e : length (slotsOf n) ≡ length (keysOf n) + extra (n .kind) = omega (arith, t .keys, t .slots) in
+      rw (keys-made (n .kind) (n .level) 0 (keysOf n) (slotsOf n), slots-made (n .kind) (n .level) 0 (keysOf n) (slotsOf n) e)
+
+  again-count : with-version n 0 .count ≡ n .count
+  unfolding with-version made
+  again-count = whole n lk ls h .keys
+
+  again-level : with-version n 0 .level ≡ n .level
+  unfolding with-version made
+  again-level = refl
+
+  is-value : value-of (node name) q ≡ value-of (node name) n
+  is-value = ap (value-of (node name)) pq ∙ again-value
+
+  few-keys : q .count ≤ 14
+  few-keys = let e : q .count ≡ n .count = ap (λ (r : Node). r .count) pq ∙ again-count in omega arith
+
+  sized : Sized q
+  sized = record { keys = qk; slots = qs }
+
+  named : x′ ≡ own-put x (number (node name)) q
+  named = rw pk at px
+
+  put-here : Put x (number (node name)) q (own-put x (number (node name)) q)
+  put-here = put x (number (node name)) q sized (g .fit) few
+
+  keep : (o : Obj) (i : ℕ) → own-find (own-put x (number (node name)) q) (number o) ≡ At i → FewKeys o (own-record (own-put x (number (node name)) q) i)
+  keep o i e = go (ℕ-discrete (number o) (number (node name)))
+    where
+      any : (o : Obj) → FewKeys o q
+      any meta = tt
+      any (node j) = few-keys
+      any (flag j) = tt
+
+      small : (o : Obj) (r : Node) → Small o r → FewKeys o r
+      small meta r t = tt
+      small (node j) r t = t .keys
+      small (flag j) r t = tt
+
+      go : Dec (number o ≡ number (node name)) → FewKeys o (own-record (own-put x (number (node name)) q) i)
+      go (yes d) =
+          let a : At (put-here .at) ≡ At i = sym (put-here .found) ∙ rw d at e in
+          let j : put-here .at ≡ i = cc in
+          rw (← j, put-here .is) (any o)
+      go (no d) =
+          let a : own-find x (number o) ≡ At i = sym (put-here .others (number o) d) ∙ e in
+          rw (put-here .kept (number o) i d a) (small o (own-record x i) (g .small o i a))
+
+  pub node-written : NodeWritten x name n x′
+  node-written = record {
+    wrote = λ l. let e : q .level ≡ n .level = ap (λ (r : Node). r .level) pq ∙ again-level in
+        wrote x g few k q x′ px f qk qs (node name) (value-of (node name) n) pk is-value (record { keys = few-keys; level = omega arith });
+    holds = λ z w eight t hold. rw named (holds-more z x w (node name) (value-of (node name) n) q eight g hold few t sized is-value);
+    kept = rw named (record { fit = rw named at f; few = keep });
+  }
