@@ -1,7 +1,7 @@
 -- The code's nodes as the entries that plans speak of.
 use mathlib.Core.Path.{_≡_, refl, sym, _∙_, ap}
 use mathlib.Core.Bool.{Bool, true, false, cond, _&&_, not}
-use mathlib.Core.List.{List, [], _∷_, _++_, map}
+use mathlib.Core.List.{List, [], _∷_, _++_, map, tail}
 use mathlib.Core.Option.{Option, none, some}
 use Prim.Native.Nat.{ℕ, zero, suc, _+_, _-_, _≤_, _<_}
 use native.Mathlib.Omega.{arith}
@@ -166,12 +166,15 @@ module _ (n : Node) (lo : ℕ) (f : Whole n) where
   longer : length (slotsOf n) ≡ length (keysOf n) + extra (n .kind)
   longer = omega (arith, f .keys, f .slots)
 
+  entry-slots : vals (entriesOf n lo) ≡ slotsOf n
+  unfolding entriesOf
+  entry-slots = entries-slots (extra (n .kind)) lo (extra-le (n .kind)) (keysOf n) (slotsOf n) longer
+
   pub entry-slot : (p : ℕ) → p < n .count + extra (n .kind) → getD (entriesOf n lo) p (0, 0) .1 ≡ getD (n .slots) p 0
-  unfolding entriesOf slotsOf
+  unfolding slotsOf
   entry-slot p h =
       let a : getD (vals (entriesOf n lo)) p 0 ≡ getD (entriesOf n lo) p (0, 0) .1 = List·getD-map (λ (e : ℕ × ℕ). e .1) (entriesOf n lo) p (0, 0) in
-      let b : vals (entriesOf n lo) ≡ slotsOf n = entries-slots (extra (n .kind)) lo (extra-le (n .kind)) (keysOf n) (slotsOf n) longer in
-      sym a ∙ rw b (getD-take (n .count + extra (n .kind)) (n .slots) p 0 h)
+      sym a ∙ rw entry-slots (getD-take (n .count + extra (n .kind)) (n .slots) p 0 h)
 
   pub entry-keys : keys (entriesOf n lo) ≡ N.headed (extra (n .kind)) lo (keysOf n)
   unfolding entriesOf
@@ -180,6 +183,29 @@ module _ (n : Node) (lo : ℕ) (f : Whole n) where
 keys-later : (E : Entries) → keys (drop 1 E) ≡ drop 1 (keys E)
 keys-later [] = refl
 keys-later (e ∷ es) = refl
+
+-- a node as it is written
+mk-leaf : (kind level : ℕ) (E : Entries) (ks vs : List ℕ) → kind ≡ 1 → level ≡ 0 → keys E ≡ ks → vals E ≡ vs → mk level E ≡ body kind level ks vs
+mk-leaf kind level E ks vs k e p q = rw (k, e, p, q)
+
+mk-inner : (kind level : ℕ) (E : Entries) (ks vs : List ℕ) → kind ≡ 2 → 0 < level → drop 1 (keys E) ≡ ks → vals E ≡ vs → mk level E ≡ body kind level ks vs
+mk-inner kind zero E ks vs k e p q = absurd (omega arith)
+mk-inner kind (suc l) E ks vs k e p q = rw (k, later E, p, q)
+  where
+    later : (E : Entries) → keys (tail E) ≡ drop 1 (keys E)
+    later [] = refl
+    later (e ∷ es) = refl
+
+pub stored-node : (n : Node) (lo x : ℕ) → Whole n → opens n ≡ true → mk (n .level) (entriesOf n lo) ≡ value-of (node x) n
+stored-node n lo x f h = go (n .level) refl
+  where
+    go : (l : ℕ) → n .level ≡ l → mk (n .level) (entriesOf n lo) ≡ value-of (node x) n
+    go zero e =
+        let k : Leaf n = open-leaf n h e in
+        mk-leaf (n .kind) (n .level) (entriesOf n lo) (keysOf n) (slotsOf n) (k .kind) e (rw (entry-keys n lo f, extra-leaf n k)) (entry-slots n lo f)
+    go (suc l) e =
+        let k : Inner n = open-inner n h (omega arith) in
+        mk-inner (n .kind) (n .level) (entriesOf n lo) (keysOf n) (slotsOf n) (k .kind) (k .level) (rw (entry-keys n lo f, extra-inner n k)) (entry-slots n lo f)
 
 -- "the path downward": a step from an inner node
 module _ (stop : ℕ → Bool) (key : ℕ) (k : Cont) (fs : List Branch) (nm p c : ℕ) where
