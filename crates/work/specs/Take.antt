@@ -19,7 +19,7 @@ use Rattle.operations.specs.Path.{Plan, see}
 use Rattle.work.specs.declared.walk.Stop.{Stop}
 use Rattle.work.specs.declared.walk.Stop.the-variants.{Going, LacksMeta, LacksNode, LacksVector, Refused, Aborts, Answers}
 use Rattle.client.specs.Layout.{ClientWord}
-use Rattle.client.specs.Record.{number, object-in-store, value-of, single, record-of, first-slot}
+use Rattle.client.specs.Record.{number, in-store, object-in-store, value-of, single, record-of, first-slot}
 use Rattle.client.specs.Lent.{OwnFits, own-count, own-put, used-in}
 use Rattle.work.specs.Walk.{goes, walked, carry, walked-fails}
 use Rattle.work.specs.Ask.{SmallNode, OwnGood, Holds, Noted, Answer}
@@ -31,6 +31,7 @@ pub record NodeTaken (z : Sizes) (m : ClientWord → ℕ) (x u : List ℕ) (n : 
   pub asks : (w : Writes) → Holds z x w → (k : Plan) → walked z m (take-node w n k) (used-in u) ≡ carry s (used-in u′) (λ us. walked z m k us)
   pub noted : Noted m u′
   pub long : length u′ ≡ length u
+  pub inside : goes s ≡ true → in-store z n ≡ true
 
 free-node-is : (kind level : ℕ) (ks vs : List ℕ) (k : Plan) → when-free-node (body kind level ks vs) k ≡ cond (eqb kind 0) k (P.fail not-free)
 free-node-is zero level ks vs k = refl
@@ -39,7 +40,7 @@ free-node-is (suc j) level ks vs k = let e : suc j ≡ 0 → ⊥ = λ q. omega a
 module _ (z : Sizes) (m : ClientWord → ℕ) (x u : List ℕ) (n : ℕ) (s : Stop) (r : Node) (u′ : List ℕ) (h : Answer z m x u (node n) s r u′) (b : Bool) (pb : b ≡ goes s) where
   pub node-lacks : not b ≡ true → NodeTaken z m x u n s u′
   node-lacks nb = let no : goes s ≡ false = sym pb ∙ not-true b nb in
-      record { asks = λ w hold k. rw (h .asks w hold .same, no); noted = h .noted; long = h .long }
+      record { asks = λ w hold k. rw (h .asks w hold .same, no); noted = h .noted; long = h .long; inside = h .inside }
 
   pub node-in-use : not b ≡ false → (r .kind ≡ 0 → ⊥) → NodeTaken z m x u n (Aborts 1) u′
   node-in-use nb d = let on : goes s ≡ true = sym pb ∙ not-false b nb in
@@ -47,6 +48,7 @@ module _ (z : Sizes) (m : ClientWord → ℕ) (x u : List ℕ) (n : ℕ) (s : St
         asks = λ w hold k. rw (h .asks w hold .same, on, free-node-is (r .kind) (r .level) (keysOf r) (slotsOf r) k, ne-eqb (r .kind) 0 d) (walked-fails z m (used-in u′) not-free);
         noted = h .noted;
         long = h .long;
+        inside = λ t. stops-not (Aborts 1) refl t;
       }
 
   pub node-free : not b ≡ false → r .kind ≡ 0 → NodeTaken z m x u n Going u′
@@ -55,6 +57,7 @@ module _ (z : Sizes) (m : ClientWord → ℕ) (x u : List ℕ) (n : ℕ) (s : St
         asks = λ w hold k. rw (h .asks w hold .same, on, free-node-is (r .kind) (r .level) (keysOf r) (slotsOf r) k, eq-eqb (r .kind) 0 d);
         noted = h .noted;
         long = h .long;
+        inside = λ _. h .inside on;
       }
 
 pub ruleset taken-node-exits = (node-lacks, node-in-use, node-free)
@@ -65,6 +68,9 @@ pub record FlagTaken (z : Sizes) (m : ClientWord → ℕ) (x u : List ℕ) (n : 
   pub holds : goes s ≡ true → (w : Writes) → Holds z x w → Holds z x′ ((flag n, taken true) ∷ w)
   pub good : goes s ≡ true → OwnGood x′
   pub noted : Noted m u′
+  pub long : length u′ ≡ length u
+  pub few : getD x′ 0 0 ≤ getD x 0 0 + 1
+  pub inside : goes s ≡ true → in-store z n ≡ true
 
 free-flag-is : (b : Bool) (k : Plan) → when-free-flag (taken b) k ≡ cond b (P.fail not-free) k
 free-flag-is true k = refl
@@ -85,7 +91,7 @@ flag-record b = refl
 module _ (z : Sizes) (m : ClientWord → ℕ) (x u : List ℕ) (n : ℕ) (s : Stop) (r : Node) (u′ : List ℕ) (h : Answer z m x u (flag n) s r u′) (b : Bool) (pb : b ≡ goes s) where
   pub flag-lacks : not b ≡ true → FlagTaken z m x u n s x u′
   flag-lacks nb = let no : goes s ≡ false = sym pb ∙ not-true b nb in
-      record { asks = λ w hold k. rw (h .asks w hold .same, no); holds = λ t. stops-not s no t; good = λ t. stops-not s no t; noted = h .noted }
+      record { asks = λ w hold k. rw (h .asks w hold .same, no); holds = λ t. stops-not s no t; good = λ t. stops-not s no t; noted = h .noted; long = h .long; few = omega arith; inside = h .inside }
 
   pub flag-in-use : not b ≡ false → getD (r .slots) 0 0 ≡ 1 → FlagTaken z m x u n (Aborts 1) x u′
   flag-in-use nb e = let on : goes s ≡ true = sym pb ∙ not-false b nb in
@@ -94,6 +100,9 @@ module _ (z : Sizes) (m : ClientWord → ℕ) (x u : List ℕ) (n : ℕ) (s : St
         holds = λ t. stops-not (Aborts 1) refl t;
         good = λ t. stops-not (Aborts 1) refl t;
         noted = h .noted;
+        long = h .long;
+        few = omega arith;
+        inside = λ t. stops-not (Aborts 1) refl t;
       }
 
   pub flag-taken : (k : ℕ) (q : Node) (x′ : List ℕ) → z .servers ≤ 8 → OwnGood x → not b ≡ false → (getD (r .slots) 0 0 ≡ 1 → ⊥) → getD x 0 0 < 20 → k ≡ 8193 + n
@@ -109,6 +118,9 @@ module _ (z : Sizes) (m : ClientWord → ℕ) (x u : List ℕ) (n : ℕ) (s : St
         holds = λ _ w hold. rw px′ (holds-more z x w (flag n) (taken true) q eight g hold few t sized is-v (pq ∙ flag-record true));
         good = λ _. rw px′ (good-more x (flag n) q g few sized (rw px′ at f) (rw pq (single-small 1)));
         noted = h .noted;
+        long = h .long;
+        few = rw px′ (count-more x (flag n) q g few sized);
+        inside = λ _. t;
       }
 
   pub flag-small : z .servers ≤ 8 → not b ≡ false → n < 8192
@@ -123,6 +135,9 @@ pub record Released (z : Sizes) (m : ClientWord → ℕ) (x u : List ℕ) (n : �
   pub holds : goes s ≡ true → (w : Writes) → Holds z x w → Holds z x′ ((node n, free) ∷ (flag n, taken false) ∷ w)
   pub good : goes s ≡ true → OwnGood x′
   pub noted : Noted m u′
+  pub long : length u′ ≡ length u
+  pub few : getD x′ 0 0 ≤ getD x 0 0 + 2
+  pub inside : goes s ≡ true → in-store z n ≡ true
 
 untaken-value : (n : ℕ) → value-of (flag n) (single 0 0) ≡ taken false
 unfolding single made pad
@@ -169,7 +184,7 @@ pub ruleset freed-exits = (flag-freed, node-freed)
 module _ (z : Sizes) (m : ClientWord → ℕ) (x u : List ℕ) (n : ℕ) (s : Stop) (r : Node) (u′ : List ℕ) (h : Answer z m x u (flag n) s r u′) (b : Bool) (pb : b ≡ goes s) where
   pub release-lacks : not b ≡ true → Released z m x u n s x u′
   release-lacks nb = let no : goes s ≡ false = sym pb ∙ not-true b nb in
-      record { asks = λ w hold k. rw (h .asks w hold .same, no); holds = λ t. stops-not s no t; good = λ t. stops-not s no t; noted = h .noted }
+      record { asks = λ w hold k. rw (h .asks w hold .same, no); holds = λ t. stops-not s no t; good = λ t. stops-not s no t; noted = h .noted; long = h .long; few = omega arith; inside = h .inside }
 
   pub released : (x₁ x₂ : List ℕ) → not b ≡ false → z .servers ≤ 8 → Wrote x (flag n) (taken false) x₁ → Wrote x₁ (node n) free x₂ → Released z m x u n Going x₂ u′
   released x₁ x₂ nb eight f d =
@@ -180,6 +195,9 @@ module _ (z : Sizes) (m : ClientWord → ℕ) (x u : List ℕ) (n : ℕ) (s : St
         holds = λ _ w hold. d .holds z ((flag n, taken false) ∷ w) eight t (f .holds z w eight t hold);
         good = λ _. d .good;
         noted = h .noted;
+        long = h .long;
+        few = omega (arith, f .few, d .few);
+        inside = λ _. t;
       }
 
 pub release-room : (x x₁ : List ℕ) (o : Obj) (v : Val) → Wrote x o v x₁ → getD x 0 0 < 19 → getD x₁ 0 0 < 20
