@@ -17,4 +17,5 @@ pub mod Own
 pub mod Write
 pub mod Take
 -- changes carried up
+pub mod Mute
 pub mod Rise
