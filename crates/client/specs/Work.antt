@@ -3,7 +3,6 @@ use mathlib.Core.Bool.{Bool, false, cond, _&&_, _||_, not}
 use mathlib.Core.List.{List, [], _∷_}
 use Prim.Native.Nat.{ℕ, zero, suc, _+_, _-_}
 use lib.Dec.{eqb, leb, ltb}
-use lib.ListN.{length}
 use Rattle.nodes.specs.declared.found.Found.{Found}
 use Rattle.nodes.specs.declared.found.Found.the-variants.{At, Absent}
 use Rattle.operations.specs.Object.{Ask, Ans, Writes}
@@ -12,11 +11,13 @@ use Rattle.operations.specs.Operation.{reading, all-fit?}
 use Rattle.operations.specs.Slot.{Sizes}
 use Rattle.client.specs.declared.part.Set.the-variants as set
 use Rattle.client.specs.Layout.{ClientWord, op-number, op-key, op-value, op-server, reads-count, writes-count}
-use Rattle.client.specs.Record.{number, last-version}
+use Rattle.client.specs.Record.{last-version}
 use Rattle.client.specs.Sets.{record-at, find}
 use Rattle.client.specs.Have.{have, broken, copied}
-use Rattle.client.specs.Run.{End, lacks, aborts, gives, Ran, run, among}
+use Rattle.client.specs.Run.{End, lacks, aborts, gives, Ran, run}
 use Rattle.client.specs.Items.{has}
+use Rattle.client.specs.Lent.{Entry}
+use Rattle.client.specs.Answered.{entered}
 
 -- how a work step ends: refused by 10; or the first thing lacking, an abort's reason, the answer with the operation's writes
 pub data Worked : Type 0 where
@@ -50,22 +51,20 @@ module _ (m : ClientWord → ℕ) where
   version-in x Absent = copied m x .node .version
 
   -- how many objects the write set would have
-  unfoldable pub numbers : Writes → List ℕ
-  numbers [] = []
-  numbers (e ∷ w) =
-      let xs = numbers w in
-      cond (has m set.Writes (number (e .0)) || among (number (e .0)) xs) xs (number (e .0) ∷ xs)
+  unfoldable pub count-new : List Entry → ℕ
+  count-new [] = 0
+  count-new (e ∷ l) = cond (has m set.Writes (e .0)) (count-new l) (suc (count-new l))
 
   abbrev pub writes-after : Writes → ℕ
-  writes-after w = m writes-count + length (numbers w)
+  writes-after w = m writes-count + count-new (entered w)
 
   -- "8 a written version is 4,294,967,295": of metadata and nodes
   abbrev pub at-last-version : ℕ → Bool
   at-last-version x = leb x 8192 && eqb (version-in x (find m set.Reads x)) last-version
 
-  unfoldable pub any-at-last : Writes → Bool
+  unfoldable pub any-at-last : List Entry → Bool
   any-at-last [] = false
-  any-at-last (e ∷ w) = at-last-version (number (e .0)) || any-at-last w
+  any-at-last (e ∷ l) = at-last-version (e .0) || any-at-last l
 
 module _ (z : Sizes) (m : ClientWord → ℕ) where
   -- what would be written is looked at once all is read: reason 3, then 4, then 8
@@ -73,7 +72,7 @@ module _ (z : Sizes) (m : ClientWord → ℕ) where
   last-questions a w =
       cond (not (all-fit? w w)) (aborted 3)
       (cond (ltb 48 (writes-after m w)) (aborted 4)
-      (cond (any-at-last m w) (aborted 8) (answers a w)))
+      (cond (any-at-last m (entered w)) (aborted 8) (answers a w)))
 
   abbrev pub judge : End → Worked
   judge (lacks a) = cond (broken z m a) refused (fetches a)
