@@ -74,9 +74,19 @@ abbrev pub own-value : List ℕ → Obj → Found → Option Val
 own-value x o (At i) = some (value-of o (own-record x i))
 own-value x o Absent = none
 
+-- no own write has more than 14 keys
+abbrev pub Few : List ℕ → Type 0
+Few x = (i : ℕ) → i < own-count x → own-record x i .count ≤ 14
+
+-- what the answer finds in the lent list: a split root of level 4 is written too, with level 5, and judged only then
+pub record OwnKept (x : List ℕ) : Type 0 where
+  pub fit : OwnFits x
+  pub few : Few x
+
 -- a lent list of own writes whose nodes are small
 pub record OwnGood (x : List ℕ) : Type 0 where
   pub fit : OwnFits x
+  pub few : Few x
   pub small : (o : Obj) (i : ℕ) → own-find x (number o) ≡ At i → Small o (own-record x i)
 
 -- it holds the writes w: by object, and entry for entry

@@ -42,7 +42,7 @@ absent-at i e = let z : _≡_ {A = ℕ} 0 1 = cc in absurd (omega arith)
 module _ (x : List ℕ) (e : getD x 0 0 ≡ 0) where
   pub nothing-good : 681 ≤ length x → OwnGood x
   nothing-good l =
-      record { fit = record { long = l; few = omega arith }; small = λ o i f. absent-at i (sym (none-own x (number o) e) ∙ f) }
+      record { fit = record { long = l; few = omega arith }; few = λ i h. absurd (omega arith); small = λ o i f. absent-at i (sym (none-own x (number o) e) ∙ f) }
 
   pub nothing-held : (z : Sizes) → Holds z x []
   unfolding own-list own-first entered

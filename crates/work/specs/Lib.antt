@@ -19,3 +19,5 @@ pub mod Take
 -- changes carried up
 pub mod Mute
 pub mod Rise
+-- an operation walked to its end
+pub mod Operated

@@ -4,7 +4,6 @@ use mathlib.Core.Bool.{Bool, true, false, cond}
 use mathlib.Core.List.{List, [], _∷_, _++_, append-nil}
 use Prim.Native.Nat.{ℕ, zero, suc, _+_, _≤_, _<_}
 use native.Mathlib.Omega.{arith}
-use native.Mathlib.Decide.{ℕ-discrete}
 use lib.ListN.{length, take, drop, getD}
 use lib.Seq.{length-take-le}
 use borrow.Author.Tests.{lt-ltb}
@@ -12,7 +11,6 @@ use Rattle.nodes.specs.declared.node.Node.{Node}
 use Rattle.nodes.specs.declared.change.Wide.{Wide}
 use Rattle.nodes.specs.declared.change.Halves.{Halves}
 use Rattle.nodes.specs.Lists.{pad}
-use Rattle.nodes.specs.declared.found.Found.the-variants.{At}
 use Rattle.nodes.specs.Node.{extra, keysOf, slotsOf, made, keys-made, slots-made}
 use Rattle.nodes.specs.Entries.{entriesOf, wide-entries}
 use Rattle.nodes.specs.Change.{wide, with-version}
@@ -29,27 +27,16 @@ use Rattle.work.specs.declared.down.Turn.{Turn}
 use Rattle.work.specs.declared.walk.Stop.{Stop}
 use Rattle.work.specs.declared.walk.Stop.the-variants.{Going, LacksMeta, LacksNode, LacksVector, Refused, Aborts, Answers}
 use Rattle.client.specs.Layout.{ClientWord}
-use Rattle.client.specs.Record.{number, in-store, object-in-store, value-of}
-use Rattle.client.specs.Lent.{OwnFits, own-find, own-record, own-put, used-in}
+use Rattle.client.specs.Record.{number, in-store, object-in-store, value-of, record-of}
+use Rattle.client.specs.Lent.{OwnFits, own-put, used-in}
 use Rattle.work.specs.Walk.{Told, told, goes, walked}
 use Rattle.work.specs.Lookup.{ended}
 use Rattle.work.specs.Mute.{stands}
-use Rattle.work.specs.Ask.{SmallNode, Small, OwnGood, Holds, Noted}
-use Rattle.work.specs.Write.{Put, put, holds-more}
+use Rattle.work.specs.Ask.{SmallNode, OwnKept, OwnGood, Holds, Noted}
+use Rattle.work.specs.Write.{few-more, holds-more}
 use Rattle.work.specs.Take.{Wrote, wrote}
 use Rattle.work.specs.Entries.{opens, stored-node, branch-of}
 use Rattle.work.specs.Down.{Followed, Link, stops-not}
-
--- a node at hand has at most 14 keys
-abbrev pub FewKeys : Obj → Node → Type 0
-FewKeys meta r = Unit {0}
-FewKeys (node n) r = r .count ≤ 14
-FewKeys (flag n) r = Unit {0}
-
--- what the answer finds in the lent list: a split root of level 4 is written too, with level 5, and judged only then
-pub record OwnKept (x : List ℕ) : Type 0 where
-  pub fit : OwnFits x
-  pub few : (o : Obj) (i : ℕ) → own-find x (number o) ≡ At i → FewKeys o (own-record x i)
 
 -- a node is written under its name
 pub record NodeWritten (x : List ℕ) (name : ℕ) (n : Node) (x′ : List ℕ) : Type 0 where
@@ -145,37 +132,16 @@ module _ (x : List ℕ) (g : OwnGood x) (few : getD x 0 0 < 20) (name k : ℕ) (
   named : x′ ≡ own-put x (number (node name)) q
   named = rw pk at px
 
-  put-here : Put x (number (node name)) q (own-put x (number (node name)) q)
-  put-here = put x (number (node name)) q sized (g .fit) few
-
-  keep : (o : Obj) (i : ℕ) → own-find (own-put x (number (node name)) q) (number o) ≡ At i → FewKeys o (own-record (own-put x (number (node name)) q) i)
-  keep o i e = go (ℕ-discrete (number o) (number (node name)))
-    where
-      any : (o : Obj) → FewKeys o q
-      any meta = tt
-      any (node j) = few-keys
-      any (flag j) = tt
-
-      small : (o : Obj) (r : Node) → Small o r → FewKeys o r
-      small meta r t = tt
-      small (node j) r t = t .keys
-      small (flag j) r t = tt
-
-      go : Dec (number o ≡ number (node name)) → FewKeys o (own-record (own-put x (number (node name)) q) i)
-      go (yes d) =
-          let a : At (put-here .at) ≡ At i = sym (put-here .found) ∙ rw d at e in
-          let j : put-here .at ≡ i = cc in
-          rw (← j, put-here .is) (any o)
-      go (no d) =
-          let a : own-find x (number o) ≡ At i = sym (put-here .others (number o) d) ∙ e in
-          rw (put-here .kept (number o) i d a) (small o (own-record x i) (g .small o i a))
+  is-record : q ≡ record-of 0 (value-of (node name) n)
+  unfolding with-version record-of
+  is-record = pq
 
   pub node-written : NodeWritten x name n x′
   node-written = record {
     wrote = λ l. let e : q .level ≡ n .level = ap (λ (r : Node). r .level) pq ∙ again-level in
-        wrote x g few k q x′ px f qk qs (node name) (value-of (node name) n) pk is-value (record { keys = few-keys; level = omega arith });
-    holds = λ z w eight t hold. rw named (holds-more z x w (node name) (value-of (node name) n) q eight g hold few t sized is-value);
-    kept = rw named (record { fit = rw named at f; few = keep });
+        wrote x g few k q x′ px f qk qs (node name) (value-of (node name) n) pk is-value is-record (record { keys = few-keys; level = omega arith });
+    holds = λ z w eight t hold. rw named (holds-more z x w (node name) (value-of (node name) n) q eight g hold few t sized is-value is-record);
+    kept = rw named (record { fit = rw named at f; few = few-more x (node name) q g few sized few-keys });
   }
 
 -- ---- two nodes are written

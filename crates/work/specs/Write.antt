@@ -26,7 +26,7 @@ use Rattle.client.specs.Sets.{or-found, first-of}
 use Rattle.client.specs.Lent.{OwnFits, own-count, own-number, own-record, own-find, own-at, own-put, own-first, own-list}
 use Rattle.client.specs.Answered.{put-entry, entered}
 use Rattle.work.specs.Own.{first-same, first-at, own-entry, first-equal, entry-behind, entry-there}
-use Rattle.work.specs.Ask.{SmallNode, Small, OwnGood, write-of, own-value, Holds}
+use Rattle.work.specs.Ask.{SmallNode, Small, Few, OwnGood, write-of, own-value, Holds}
 
 -- ---- an object of the store and its number
 pub name-below : (z : Sizes) (n : ℕ) → z .servers ≤ 8 → in-store z n ≡ true → n < 8192
@@ -131,6 +131,7 @@ pub record Put (x : List ℕ) (n : ℕ) (r : Node) (x′ : List ℕ) : Type 0 wh
   pub kept : (y i : ℕ) → (y ≡ n → ⊥) → own-find x y ≡ At i → own-record x′ i ≡ own-record x i
   pub few : own-count x′ ≤ own-count x + 1
   pub list : own-list x′ ≡ put-entry (n, r) (own-list x)
+  pub keys : r .count ≤ 14 → Few x → Few x′
 
 found-in : (x : List ℕ) (y j : ℕ) → own-find x y ≡ At j → j < own-count x
 unfolding own-find
@@ -161,11 +162,16 @@ module _ (x : List ℕ) (n : ℕ) (r : Node) (sized : Sized r) (fit : OwnFits x)
         kept = λ y j d f. record-there x n r sized i g j (λ q. d (sym (first-at (own-number x) (own-count x) y j f .0) ∙ rw q (h .0)));
         few = omega (arith, count-same x n r sized i g);
         list = rw (count-same x n r sized i g) (list-replaced i (h .0) g e);
+        keys = λ b few j l. keep b few j (ℕ-discrete j i) g (omega (arith, count-same x n r sized i g));
       }
     where
       same : (j : ℕ) → Dec (j ≡ i) → own-number x i ≡ n → 34 * i + 35 ≤ length x → own-number (own-at x n r i) j ≡ own-number x j
       same j (yes q) h g = rw q (number-here x n r sized i g ∙ sym h)
       same j (no d) h g = number-there x n r sized i g j d
+
+      keep : r .count ≤ 14 → Few x → (j : ℕ) → Dec (j ≡ i) → 34 * i + 35 ≤ length x → j < own-count x → own-record (own-at x n r i) j .count ≤ 14
+      keep b few j (yes q) g l = rw (q, record-here x n r sized i g) b
+      keep b few j (no d) g l = rw (record-there x n r sized i g j d) (few j l)
 
   room : 34 * own-count x + 35 ≤ length x
   room = omega (arith, fit .long)
@@ -215,7 +221,12 @@ module _ (x : List ℕ) (n : ℕ) (r : Node) (sized : Sized r) (fit : OwnFits x)
     kept = λ y j d f. earlier-record j (found-in x y j f);
     few = omega (arith, one-more);
     list = list-behind e;
+    keys = λ b few j l. keep b few j (ℕ-discrete j (own-count x)) (omega (arith, one-more));
   }
+    where
+      keep : r .count ≤ 14 → Few x → (j : ℕ) → Dec (j ≡ own-count x) → j < suc (own-count x) → own-record x′ j .count ≤ 14
+      keep b few j (yes q) l = rw (q, last-record) b
+      keep b few j (no d) l = let h : j < own-count x = omega arith in rw (earlier-record j h) (few j h)
 
   pub put : Put x n r (own-put x n r)
   unfolding own-put
@@ -249,8 +260,11 @@ module _ (x : List ℕ) (o : Obj) (r : Node) (good : OwnGood x) (few : own-count
   pub count-more : own-count (own-put x (number o) r) ≤ own-count x + 1
   count-more = p .few
 
+  pub few-more : r .count ≤ 14 → Few (own-put x (number o) r)
+  few-more b = p .keys b (good .few)
+
   pub good-more : OwnFits (own-put x (number o) r) → SmallNode r → OwnGood (own-put x (number o) r)
-  good-more f small = record { fit = f; small = λ q i e. go q i e (ℕ-discrete (number q) (number o)) }
+  good-more f small = record { fit = f; few = few-more (small .keys); small = λ q i e. go q i e (ℕ-discrete (number q) (number o)) }
     where
       go : (q : Obj) (i : ℕ) → own-find (own-put x (number o) r) (number q) ≡ At i → Dec (number q ≡ number o) → Small q (own-record (own-put x (number o) r) i)
       go q i e (yes d) =
