@@ -16,6 +16,10 @@ pub mod Begin
 pub mod Own
 pub mod Write
 pub mod Take
+-- slots looked for on servers in a row
+pub mod Counted
+pub mod Vector
+pub mod Search
 -- changes carried up
 pub mod Mute
 pub mod Rise

@@ -2,6 +2,7 @@
 pub mod down;
 pub mod lookup;
 pub mod rise;
+pub mod search;
 pub mod seek;
 pub mod take;
 pub mod walk;
