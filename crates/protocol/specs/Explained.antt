@@ -211,7 +211,7 @@ module _ (T : Setting) where
 
     -- what a decided transaction wrote may be copied, also after others wrote again
     renewed-legal : (o : Obj) (i : Item T) → m .slots c .phase ≡ decided → find T (m .slots c .items) o ≡ some i → i .written ≡ true
-        → Legal (g .current) (g .history) o (record { value = i .new; version = cond (by-value o) (i .version) (suc (i .version)) })
+        → Legal (g .current) (g .history) o (record { value = i .new; version = cond (by-value o) 0 (suc (i .version)) })
     renewed-legal o i hp q w = record {
       at = suc (σ .clients c .version-read o);
       was = sym (ap (says T (λ i. cond (i .written) (i .new) (init o)) (init o)) q ∙ cond-true (i .new) (init o) w) ∙ sym (past .0);

@@ -145,9 +145,9 @@ module _ (T : Setting) where
     dropped : Copied m c o none
     -- a fetch copies what the server stores
     fetched : (s : Server) → keeps s o ≡ true → Copied m c o (some (record { value = m .value s o; version = m .version s o }))
-    -- "The last apply ends the transaction and renews its copies"; the version of what is checked by value is not counted
+    -- "The last apply ends the transaction and renews its copies"; of what is checked by value no version is kept
     renewed : (i : Item T) → m .slots c .phase ≡ decided → find T (m .slots c .items) o ≡ some i → i .written ≡ true
-        → Copied m c o (some (record { value = i .new; version = cond (by-value o) (i .version) (suc (i .version)) }))
+        → Copied m c o (some (record { value = i .new; version = cond (by-value o) 0 (suc (i .version)) }))
 
   pub data Move (m : Machine T) : Machine T → Type 0 where
     begins : (c : Client) → m .slots c .phase ≡ idle → Move m (cleared m c opened)
