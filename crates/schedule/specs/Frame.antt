@@ -2,13 +2,14 @@
 use mathlib.Core.Path.{_≡_, refl, ap, ap₂, sym, _∙_, subst}
 use mathlib.Core.Bool.{Bool, true, false, cond, true≢false}
 use mathlib.Core.List.{List, [], _∷_, _++_}
-use Prim.Native.Nat.{ℕ, zero, suc}
+use Prim.Native.Nat.{ℕ, zero, suc, _<_}
+use native.Mathlib.Omega.{arith}
 use borrow.Author.Tests.{eqb-true}
 use lib.Dec.{eqb}
 use Rattle.base.specs.Test.{and-both}
 use Rattle.base.specs.Update.{upd, upd-same, upd-other}
 use Rattle.layout.specs.Space.{Coding, Put, put, same, code-inj, decide, changed, upd-apart}
-use Rattle.layout.specs.Step.{andThen}
+use Rattle.layout.specs.Step.{andThen, changed-append}
 use Rattle.layout.specs.Sweep.{sweep}
 
 same-is : (p q : List ℕ) → same p q ≡ true → p ≡ q
@@ -36,6 +37,20 @@ module _ {A : Type 0} (C : Coding A) where
   read-after [] m x = refl
   read-after (put a w ∷ ps) m x =
       read-after ps (upd (decide C) m a w) x ∙ ap (last ps x) (upd-cond m a w x (same (C .code x) (C .code a)) refl)
+
+  -- what one step after another keeps, and a loop of them
+  module _ (R : (A → ℕ) → Type 0) where
+    pub then-keeps : (f g : (A → ℕ) → List (Put A)) (m : A → ℕ) → R (changed C m (f m)) → ((u : A → ℕ) → R u → R (changed C u (g u)))
+        → R (changed C m (andThen C f g m))
+    unfolding andThen
+    then-keeps f g m r h = subst R (sym (changed-append C (f m) (g (changed C m (f m))) m)) (h (changed C m (f m)) r)
+
+    pub sweep-keeps : (g : ℕ → (A → ℕ) → List (Put A)) (n : ℕ) → ((i : ℕ) (u : A → ℕ) → i < n → R u → R (changed C u (g i u)))
+        → (m : A → ℕ) → R m → R (changed C m (sweep C g n m))
+    unfolding sweep changed
+    sweep-keeps g zero h m r = r
+    sweep-keeps g (suc n) h m r =
+        then-keeps (sweep C g n) (g n) m (sweep-keeps g n (λ i u l. h i u (omega arith)) m r) (λ u. h n u (omega arith))
 
   -- every store is as Q says
   unfoldable pub Only : (A → ℕ → Type 0) → List (Put A) → Type 0

@@ -39,6 +39,9 @@ pub mod Applied
 pub mod Dropped
 pub mod Aborted
 pub mod Forgotten
+-- copies that are stored, and the end of a transaction
+pub mod Placed
+pub mod Copied
 -- a new store
 pub mod Opened
 -- what follows for answers and tree

@@ -1,14 +1,14 @@
 -- What a client's part shows stays where the words that show it do; a transaction that begins or has ended.
 use mathlib.Core.Path.{_≡_, refl, ap, ap₂, sym, _∙_, subst, fun-ext}
 use mathlib.Core.Option.{Option, some}
-use Prim.Native.Nat.{ℕ, suc, _/_, _%_, _≤_, _<_}
+use Prim.Native.Nat.{ℕ, suc, _+_, _/_, _%_, _≤_, _<_}
 use native.Mathlib.Omega.{arith}
 use Rattle.memory.specs.Bit.{bit, zero-bit}
 use Rattle.layout.specs.Space.{tab}
 use Rattle.nodes.specs.declared.node.Node.{Node}
 use Rattle.nodes.specs.declared.found.Found.{Found}
 use Rattle.nodes.specs.declared.found.Found.the-variants.{At, Absent}
-use Rattle.operations.specs.Object.{Obj, node, Val, root, taken}
+use Rattle.operations.specs.Object.{Obj, meta, node, flag, Val, root, taken}
 use Rattle.nodes.specs.Name as N
 use Rattle.protocol.specs.Lists.{Among}
 use Rattle.protocol.specs.Machine as P
@@ -21,7 +21,7 @@ use Rattle.client.specs.Sets.{at-most, count, record-at, number-at, first-of, f
 use Rattle.client.specs.Commit.{is-at}
 use Rattle.client.specs.Items.{has}
 use Rattle.client.specs.Participants.{lowest-of}
-use Rattle.schedule.specs.Shows.{phase-of, T, new-value, item-from, item-of, Slot-shown, Copies-shown, copy}
+use Rattle.schedule.specs.Shows.{phase-of, T, In-store, new-value, item-from, item-of, Slot-shown, Copies-shown, copy}
 
 -- ---- items
 module _ (u v : ClientWord → ℕ) where
@@ -108,17 +108,32 @@ module _ (k j slots : ℕ) (u v : ClientWord → ℕ) (S : Same-sets u v) where
     lowest-as = λ l. h .lowest-as (subst (λ (w : ℕ). 2 ≤ w) p l) ∙ ap (lowest-of (suc k)) (sym q);
   }
 
--- ---- copies that stay
+-- ---- copies that stay, one by one and all; g: the copies afterwards
+module _ (k j slots : ℕ) (u v : ClientWord → ℕ) (f g : Obj → Option (P.Copy (T k j slots))) (h : Copies-shown k j slots u f) where
+  pub meta-stays : v meta-copied ≡ u meta-copied → v meta-root ≡ u meta-root → v meta-version ≡ u meta-version → g meta ≡ f meta
+      → v meta-copied ≡ 1 → g meta ≡ copy k j slots v (root (v meta-root)) (v meta-version)
+  meta-stays a b c s q = s ∙ h .meta-as (sym a ∙ q) ∙ ap₂ (λ (r n : ℕ). copy k j slots u (root r) n) (sym b) (sym c)
+
+  pub node-stays : (i n : ℕ) → ((q : ℕ) → v (item Copies i q) ≡ u (item Copies i q)) → g (node n) ≡ f (node n)
+      → i < 64 → v (item Copies i 0) ≡ 1 + n → g (node n) ≡ copy k j slots v (value-of (node n) (record-at v Copies i)) (record-at v Copies i .version)
+  node-stays i n d s l q =
+      s ∙ h .node-as i n l (sym (d 0) ∙ q)
+      ∙ ap (λ (r : Node). copy k j slots u (value-of (node n) r) (r .version)) (sym (record-frame u v Copies i d))
+
+  pub flag-stays : (n : ℕ) → ((q : ℕ) → v (vector-word (N.server-of n) q) ≡ u (vector-word (N.server-of n) q)) → g (flag n) ≡ f (flag n)
+      → In-store k j slots (flag n) → v (vector-word (N.server-of n) 0) ≡ 1
+      → g (flag n) ≡ copy k j slots v (taken (bit (v (vector-word (N.server-of n) (suc (N.slot-of n / 64)))) (N.slot-of n % 64))) 0
+  flag-stays n e s i q =
+      s ∙ h .flag-as n i (sym (e 0) ∙ q) ∙ ap (λ (w : ℕ). copy k j slots u (taken (bit w (N.slot-of n % 64))) 0) (sym (e (suc (N.slot-of n / 64))))
+
 module _ (k j slots : ℕ) (u v : ClientWord → ℕ) where
   pub copies-frame : (f : Obj → Option (P.Copy (T k j slots))) → v meta-copied ≡ u meta-copied → v meta-root ≡ u meta-root → v meta-version ≡ u meta-version
       → ((i n : ℕ) → v (item Copies i n) ≡ u (item Copies i n)) → ((s n : ℕ) → v (vector-word s n) ≡ u (vector-word s n))
       → Copies-shown k j slots u f → Copies-shown k j slots v f
   copies-frame f a b c d e h = record {
-    meta-as = λ q. h .meta-as (sym a ∙ q) ∙ ap₂ (λ (r n : ℕ). copy k j slots u (root r) n) (sym b) (sym c);
-    node-as = λ i n l q. h .node-as i n l (sym (d i 0) ∙ q)
-        ∙ ap (λ (r : Node). copy k j slots u (value-of (node n) r) (r .version)) (sym (record-frame u v Copies i (d i)));
-    flag-as = λ n i q. h .flag-as n i (sym (e (N.server-of n) 0) ∙ q)
-        ∙ ap (λ (w : ℕ). copy k j slots u (taken (bit w (N.slot-of n % 64))) 0) (sym (e (N.server-of n) (suc (N.slot-of n / 64))));
+    meta-as = meta-stays k j slots u v f f h a b c refl;
+    node-as = λ i n. node-stays k j slots u v f f h i n (d i) refl;
+    flag-as = λ n. flag-stays k j slots u v f f h n (e (N.server-of n)) refl;
     apart = λ i n l r q z. h .apart i n l r (sym (d i 0) ∙ q ∙ d n 0) (λ w. z (d i 0 ∙ w));
   }
 
