@@ -2,6 +2,7 @@
 use mathlib.Core.Path.{_≡_, refl, ap, ap₂, sym, _∙_, subst}
 use mathlib.Core.Bool.{Bool, true, false}
 use mathlib.Core.List.{List, [], _∷_}
+use mathlib.Core.Logic.{_⊎_, inl, inr}
 use mathlib.Core.Option.{Option}
 use Prim.Native.Nat.{ℕ, suc, _+_, _/_, _%_, _<_}
 use native.Mathlib.Omega.{arith}
@@ -11,6 +12,8 @@ use Rattle.base.specs.Update.{upd, upd-same, upd-other}
 use Rattle.memory.specs.Bit.{bit}
 use Rattle.layout.specs.Space.{changed, puts, tab, puts-other, puts-same, getD-tab, length-tab}
 use Rattle.nodes.specs.declared.node.Node.{Node}
+use Rattle.nodes.specs.declared.found.Found.{Found}
+use Rattle.nodes.specs.declared.found.Found.the-variants.{At, Absent}
 use Rattle.nodes.specs.StoredLaws.{Sized}
 use Rattle.nodes.specs.Name as N
 use Rattle.operations.specs.Object.{Obj, Obj-discrete, meta, node, flag, root, taken}
@@ -18,9 +21,11 @@ use Rattle.protocol.specs.Machine as P
 use Rattle.client.specs.declared.part.Set.the-variants.{Reads, Writes, Copies}
 use Rattle.client.specs.Layout.{ClientWord, client-words, field, item, vector-word, meta-copied, meta-root, meta-version}
 use Rattle.client.specs.Record.{value-of}
-use Rattle.client.specs.Sets.{record-at}
-use Rattle.client.specs.Part.{put-item, put-fields, put-vector}
+use Rattle.client.specs.Sets.{count, number-at, record-at, find}
+use Rattle.client.specs.Part.{nothing, put-item, put-fields, put-vector}
+use Rattle.client.specs.Copies.{to-place, copy-node}
 use Rattle.schedule.specs.Shows.{T, In-store, copy, Copies-shown}
+use Rattle.schedule.specs.Held.{found-at, none-at}
 use Rattle.schedule.specs.Slots.{meta-stays, node-stays, flag-stays}
 use Rattle.schedule.specs.Frame.{last, read-after}
 use Rattle.schedule.specs.Placed.{family, placed, placed-number, placed-record, placed-beside, placed-else}
@@ -101,6 +106,25 @@ module _ (k j slots : ℕ) (u : ClientWord → ℕ) (f : Obj → Option (P.Copy 
         by-places i q a b (yes e) (no d) z t = absurd (free q b d (sym (beside q 0 d) ∙ sym z ∙ ap (λ (x : ℕ). v (item Copies x 0)) e ∙ here))
         by-places i q a b (no e) (yes d) z t = absurd (free i a e (sym (beside i 0 e) ∙ z ∙ ap (λ (x : ℕ). v (item Copies x 0)) d ∙ here))
         by-places i q a b (no e) (no d) z t = h .apart i q a b (sym (beside i 0 e) ∙ z ∙ beside q 0 d) (λ y. t (beside i 0 e ∙ y))
+
+  -- "a node's copy goes to its own place", else to an empty one; "when full, a node isn't copied"
+  module _ (n : ℕ) (r : Node) (w : Sized r) where
+    abbrev pub given : Obj → Option (P.Copy (T k j slots))
+    given = upd Obj-discrete f (node n) (copy k j slots u (value-of (node n) r) (r .version))
+
+    abbrev After : Found → Found → Type 0
+    After a b = let v = changed client-words u (to-place (1 + n) r a b u) in Copies-shown k j slots v f ⊎ Copies-shown k j slots v given
+
+    pub copied-node : let v = changed client-words u (copy-node (1 + n) r u) in Copies-shown k j slots v f ⊎ Copies-shown k j slots v given
+    unfolding copy-node count number-at nothing changed
+    copied-node = go (find u Copies (1 + n)) refl (find u Copies 0) refl
+      where
+        go : (a : Found) → find u Copies (1 + n) ≡ a → (b : Found) → find u Copies 0 ≡ b → After a b
+        go (At p) e b d =
+            let at = found-at u Copies (1 + n) p e in
+            inr (node-copied p n r w (at .0) (λ i l z q. z (h .apart i p l (at .0) (q ∙ sym (at .1)) (λ y. absurd (omega (arith, y, q))))))
+        go Absent e (At p) d = inr (node-copied p n r w (found-at u Copies 0 p d .0) (λ i l z q. none-at u Copies (1 + n) e i l q))
+        go Absent e Absent d = inl h
 
   -- ---- the metadata's copy
   module _ (r n : ℕ) where

@@ -7,7 +7,7 @@ use mathlib.Core.Option.{some, Option·none-ne-some, Option·some-injective}
 use Prim.Native.Nat.{ℕ, zero, suc, _-_, _^_, _<_}
 use native.Mathlib.Omega.{arith}
 use native.Mathlib.Decide.{ℕ-discrete}
-use borrow.Author.Tests.{eqb-true}
+use borrow.Author.Tests.{eqb-true, eqb-false}
 use lib.Dec.{eqb}
 use Rattle.base.specs.Test.{and-both, or-left, or-right, or-cases}
 use Rattle.nodes.specs.declared.found.Found.{Found}
@@ -108,7 +108,24 @@ first-at f (suc n) x i h = go (first-of f n x) refl (eqb (f n) x) refl h (first-
     go Absent e true t h rec = subst (λ (w : ℕ). (w < suc n) × (f w ≡ x)) (at-same n i h) (omega arith, eqb-true (f n) x t)
     go Absent e false t h rec = absurd (absent≢at i h)
 
+first-none : (f : ℕ → ℕ) (n x : ℕ) → first-of f n x ≡ Absent → (i : ℕ) → i < n → ¬ (f i ≡ x)
+unfolding first-of
+first-none f zero x h i l e = absurd (omega arith)
+first-none f (suc n) x h i l e = go (first-of f n x) refl (eqb (f n) x) refl h (first-none f n x) (ℕ-discrete i n)
+  where
+    go : (z : Found) → first-of f n x ≡ z → (b : Bool) → eqb (f n) x ≡ b → or-found z (cond b (At n) Absent) ≡ Absent
+        → (first-of f n x ≡ Absent → (i : ℕ) → i < n → ¬ (f i ≡ x)) → Dec (i ≡ n) → ⊥
+    go (At q) p b t h rec d = absent≢at q (sym h)
+    go Absent p true t h rec d = absent≢at n (sym h)
+    go Absent p false t h rec (yes d) = eqb-false (f n) x t (ap f (sym d) ∙ e)
+    go Absent p false t h rec (no d) = rec p i (omega arith) e
+
 module _ (u : ClientWord → ℕ) where
+  -- an object that a set has not
+  pub none-at : (s : Set) (x : ℕ) → find u s x ≡ Absent → (i : ℕ) → i < count u s → ¬ (number-at u s i ≡ x)
+  unfolding find
+  none-at s x h = first-none (number-at u s) (count u s) x h
+
   pub found-at : (s : Set) (x i : ℕ) → find u s x ≡ At i → (i < count u s) × (number-at u s i ≡ x)
   unfolding find
   found-at s x i h = first-at (number-at u s) (count u s) x i h
