@@ -58,6 +58,10 @@ word-below n = omega arith
 pub other-kind : (a b : Obj) → ¬ (sort a ≡ sort b) → ¬ (a ≡ b)
 other-kind a b n e = n (ap sort e)
 
+pub flag-name : (q n : ℕ) → flag q ≡ flag n → q ≡ n
+unfolding name-of
+flag-name q n e = ap name-of e
+
 module _ (k j slots : ℕ) (u : ClientWord → ℕ) (f : Obj → Option (P.Copy (T k j slots))) (h : Copies-shown k j slots u f) where
   -- ---- a node's copy at place p, where no other place has that node
   module _ (p n : ℕ) (r : Node) (w : Sized r) (l : p < 64) (free : (i : ℕ) → i < 64 → ¬ (i ≡ p) → ¬ (u (item Copies i 0) ≡ 1 + n)) where

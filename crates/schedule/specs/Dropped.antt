@@ -19,15 +19,17 @@ use Rattle.nodes.specs.Name as N
 use Rattle.operations.specs.Object.{Obj, node, root, taken}
 use Rattle.protocol.specs.Machine as P
 use Rattle.client.specs.declared.part.Set.the-variants.{Reads, Writes, Copies}
-use Rattle.client.specs.Layout.{ClientWord, client-words, field, item, vector-word, meta-copied, meta-root, meta-version}
+use Rattle.client.specs.Layout.{ClientWord, client-words, field, item, vector-word, reads-count, writes-count, meta-copied, meta-root, meta-version}
 use Rattle.client.specs.Record.{value-of}
 use Rattle.client.specs.Sets.{count, record-at, number-at, find}
 use Rattle.client.specs.Part.{nothing, put-field, put-number, drop-vector}
 use Rattle.client.specs.Copies.{drop-at, drop-node, drop-object, drop-read, drop-reads, empty-place, drop-all}
+use Rattle.client.specs.Commit.{inner-at}
 use Rattle.client.specs.Drops.{drop-each, drop-used}
+use Rattle.client.specs.Renew.{drop-outer}
 use Rattle.schedule.specs.Frame.{Only, only-then, only-sweep}
 use Rattle.schedule.specs.Shows.{T, copy, Copies-shown}
-use Rattle.schedule.specs.Slots.{record-later}
+use Rattle.schedule.specs.Slots.{Same-sets, record-later}
 
 -- the words that say whether there is a copy
 unfoldable pub Mark : ClientWord → Type 0
@@ -93,6 +95,16 @@ fewer-copies k j slots f g c w h = record {
     words : (i : ℕ) → record-at g Copies i ≡ record-at f Copies i
     words i = record-later f g Copies i (λ n. kept-word f g w (item Copies i (suc n)) (λ z. absurd (omega (arith, z))))
 
+-- the sets stay
+pub fewer-sets : (f g : ClientWord → ℕ) → Fewer f g → Same-sets f g
+unfolding Mark
+fewer-sets f g w = record {
+  reads = kept-word f g w reads-count (λ z. absurd (omega (arith, z)));
+  writes = kept-word f g w writes-count (λ z. absurd (omega (arith, z)));
+  items-read = λ i n. kept-word f g w (item Reads i n) (λ z. z);
+  items-written = λ i n. kept-word f g w (item Writes i n) (λ z. z);
+}
+
 -- ---- the steps that drop
 dropped-at : (f : Found) (u : ClientWord → ℕ) → Only client-words Drop (drop-at f u)
 unfolding Only Mark put-number nothing
@@ -115,6 +127,20 @@ only-object x f = go (eqb x 0) (leb x 8192)
     go true b = ((refl, refl), tt)
     go false true = dropped-at (find f Copies x) f
     go false false = dropped-vector (N.server-of (x - 8193)) f
+
+-- a node that is written and not inner
+pub only-outer : (i : ℕ) (f : ClientWord → ℕ) → Only client-words Drop (drop-outer i f)
+unfolding drop-outer drop-node nothing Only
+only-outer i f = go (eqb x 0) (leb x 8192) (inner-at f Writes i)
+  where
+    x : ℕ
+    x = number-at f Writes i
+
+    go : (a b d : Bool) → Only client-words Drop (cond a nothing (cond b (cond d nothing (drop-node x)) nothing) f)
+    go true b d = tt
+    go false true true = tt
+    go false true false = dropped-at (find f Copies x) f
+    go false false d = tt
 
 only-each : (xs : List ℕ) (f : ClientWord → ℕ) → Only client-words Drop (drop-each xs f)
 unfolding drop-each Only

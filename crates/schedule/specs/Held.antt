@@ -94,7 +94,7 @@ absent≢at i e = true≢false (ap (λ (f : Found). elim f [ At i ↦ false | Ab
 pub at-same : (i n : ℕ) → _≡_ {A = Found} (At i) (At n) → i ≡ n
 at-same i n e = ap (λ (f : Found). elim f [ At x ↦ x | Absent ↦ 0 ]) e
 
-first-at : (f : ℕ → ℕ) (n x i : ℕ) → first-of f n x ≡ At i → (i < n) × (f i ≡ x)
+pub first-at : (f : ℕ → ℕ) (n x i : ℕ) → first-of f n x ≡ At i → (i < n) × (f i ≡ x)
 unfolding first-of
 first-at f zero x i h = absurd (absent≢at i h)
 first-at f (suc n) x i h = go (first-of f n x) refl (eqb (f n) x) refl h (first-at f n x)

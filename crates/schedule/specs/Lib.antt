@@ -42,6 +42,7 @@ pub mod Forgotten
 -- copies that are stored, and the end of a transaction
 pub mod Placed
 pub mod Copied
+pub mod Renewed
 -- a new store
 pub mod Opened
 -- what follows for answers and tree

@@ -38,7 +38,7 @@ module _ (u v : ClientWord → ℕ) where
   record-frame s i h = record-later s i (λ n. h (suc n))
 
   -- as many items, where the counts are the same
-  count-frame : (s : Set) → v reads-count ≡ u reads-count → v writes-count ≡ u writes-count → count v s ≡ count u s
+  pub count-frame : (s : Set) → v reads-count ≡ u reads-count → v writes-count ≡ u writes-count → count v s ≡ count u s
   unfolding count
   count-frame Reads r w = ap (at-most 96) r
   count-frame Writes r w = ap (at-most 48) w
@@ -78,7 +78,7 @@ module _ (u v : ClientWord → ℕ) where
 
 -- ---- a transaction whose sets stay
 module _ (k j slots : ℕ) (u v : ClientWord → ℕ) (S : Same-sets u v) where
-  number-frame : (s : Set) (i : ℕ) → v (item s i 0) ≡ u (item s i 0) → number-at v s i ≡ number-at u s i
+  pub number-frame : (s : Set) (i : ℕ) → v (item s i 0) ≡ u (item s i 0) → number-at v s i ≡ number-at u s i
   unfolding number-at
   number-frame s i h = h
 
