@@ -1,6 +1,5 @@
 -- Copies that are stored: of a node, of the metadata, of a vector. What the client's part shows then.
-use mathlib.Core.Path.{_≡_, refl, ap, ap₂, sym, _∙_, subst}
-use mathlib.Core.Bool.{Bool, true, false}
+use mathlib.Core.Path.{_≡_, refl, ap, ap₂, sym, _∙_}
 use mathlib.Core.List.{List, [], _∷_}
 use mathlib.Core.Logic.{_⊎_, inl, inr}
 use mathlib.Core.Option.{Option}
@@ -18,11 +17,11 @@ use Rattle.nodes.specs.StoredLaws.{Sized}
 use Rattle.nodes.specs.Name as N
 use Rattle.operations.specs.Object.{Obj, Obj-discrete, meta, node, flag, root, taken}
 use Rattle.protocol.specs.Machine as P
-use Rattle.client.specs.declared.part.Set.the-variants.{Reads, Writes, Copies}
-use Rattle.client.specs.Layout.{ClientWord, client-words, field, item, vector-word, meta-copied, meta-root, meta-version}
+use Rattle.client.specs.declared.part.Set.the-variants.{Copies}
+use Rattle.client.specs.Layout.{ClientWord, client-words, field, item, vector-word, meta-root, meta-version}
 use Rattle.client.specs.Record.{value-of}
 use Rattle.client.specs.Sets.{count, number-at, record-at, find}
-use Rattle.client.specs.Part.{nothing, put-item, put-fields, put-vector}
+use Rattle.client.specs.Part.{nothing, put-fields, put-vector}
 use Rattle.client.specs.Copies.{to-place, copy-node}
 use Rattle.schedule.specs.Shows.{T, In-store, copy, Copies-shown}
 use Rattle.schedule.specs.Held.{found-at, none-at}

@@ -41,6 +41,7 @@ pub mod Aborted
 pub mod Forgotten
 -- copies that are stored, and the end of a transaction
 pub mod Placed
+pub mod CopyWords
 pub mod Copied
 pub mod Renewed
 -- a new store

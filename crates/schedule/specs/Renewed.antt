@@ -1,5 +1,5 @@
 -- "The last apply .. renews its copies": each renewal is a move of the machine's copies.
-use mathlib.Core.Path.{_≡_, refl, ap, ap₂, sym, _∙_, subst}
+use mathlib.Core.Path.{_≡_, refl, ap, sym, _∙_, subst}
 use mathlib.Core.Bool.{Bool, true, false, cond, _&&_, _||_, false≢true}
 use mathlib.Core.List.{List, [], _∷_}
 use mathlib.Core.Logic.{_⊎_, inl, inr}
@@ -8,15 +8,13 @@ use Prim.Native.Nat.{ℕ, suc, _+_, _-_, _/_, _%_, _≤_, _<_, Fin}
 use native.Mathlib.Omega.{arith}
 use native.Mathlib.Numerals.{add-one}
 use native.Mathlib.Decide.{ℕ-discrete, Fin-discrete}
-use borrow.Author.Tests.{ltb-true, ltb-false, le-leb, lt-leb, ne-eqb, eqb-true}
-use lib.Dec.{eqb, leb, ltb}
-use lib.ListN.{length, getD, set}
-use lib.Seq.{getD-set-same, getD-set-other}
+use borrow.Author.Tests.{ltb-true, ltb-false, lt-leb, ne-eqb, eqb-true}
+use lib.Dec.{eqb, ltb}
+use lib.ListN.{length, getD}
 use Rattle.base.specs.Test.{bool-cases, and-both, or-cases}
 use Rattle.base.specs.Update.{upd, upd-same, upd-other}
-use Rattle.memory.specs.Bit.{bit, putBit, bit-put-same, bit-put-other}
-use Rattle.layout.specs.Space.{Put, changed, tab, length-tab, getD-tab, Only, changed-only, only-puts}
-use Rattle.layout.specs.Sweep.{sweep}
+use Rattle.memory.specs.Bit.{bit}
+use Rattle.layout.specs.Space.{changed, tab, length-tab, getD-tab}
 use Rattle.nodes.specs.declared.node.Node.{Node}
 use Rattle.nodes.specs.declared.found.Found.{Found}
 use Rattle.nodes.specs.declared.found.Found.the-variants.{At, Absent}
@@ -30,8 +28,8 @@ use Rattle.operations.specs.Slot.{Allowed}
 use Rattle.protocol.specs.State.{decided}
 use Rattle.protocol.specs.Machine as P
 use Rattle.protocol.specs.Moves as Mv
-use Rattle.client.specs.declared.part.Set.the-variants.{Reads, Writes, Copies}
-use Rattle.client.specs.Layout.{ClientWord, client-words, field, item, vector-word, lost, reads-count, writes-count}
+use Rattle.client.specs.declared.part.Set.the-variants.{Reads, Writes}
+use Rattle.client.specs.Layout.{ClientWord, client-words, item, vector-word, lost}
 use Rattle.client.specs.Record.{number, by-number, value-of, first-slot, last-version}
 use Rattle.client.specs.Sets.{count, record-at, number-at, find}
 use Rattle.client.specs.Vectors.{has-vector, vector-copy}
@@ -39,63 +37,20 @@ use Rattle.client.specs.Commit.{is-at, inner-at}
 use Rattle.client.specs.Items as I
 use Rattle.client.specs.Fits.{client-fits}
 use Rattle.client.specs.Drops.{version-of}
-use Rattle.client.specs.Copies.{to-place, copy-node, drop-node}
-use Rattle.client.specs.Part.{nothing, put-item, put-fields, put-vector}
+use Rattle.client.specs.Copies.{copy-node}
+use Rattle.client.specs.Part.{nothing, put-fields, put-vector}
 use Rattle.client.specs.Renew as Rn
 use Rattle.schedule.specs.Store.{sizes, by-value}
 use Rattle.schedule.specs.Frame.{then-keeps, sweep-keeps}
 use Rattle.schedule.specs.Numbers.{by-object, obj-of, number-obj, name-lt}
 use Rattle.schedule.specs.Shows.{T, In-store, copy, new-value, item-from, item-of, Slot-shown, Copies-shown}
-use Rattle.schedule.specs.Slots.{Same-sets, count-frame, number-frame, same-read, same-written, record-frame}
+use Rattle.schedule.specs.Slots.{Same-sets, count-frame, number-frame, same-read, record-frame}
 use Rattle.schedule.specs.Dropped.{fewer, fewer-copies, only-outer, fewer-sets}
 use Rattle.schedule.specs.Held.{first-at, found-at, has-at, written-in}
 use Rattle.schedule.specs.Written.{by-obj}
 use Rattle.schedule.specs.Placed.{record-sized}
+use Rattle.schedule.specs.CopyWords.{sets-stay, sets-then, only-copy, only-fields, only-vector, flag-same, flag-other}
 use Rattle.schedule.specs.Copied.{other-kind, flag-name, given, copied-node, meta-put, Taken, vector-put}
-
--- ---- the words of copies: stores there leave the sets
-abbrev pub of-copies : ClientWord → Bool
-of-copies (field i) = leb 12 i
-of-copies (item Reads i n) = false
-of-copies (item Writes i n) = false
-of-copies (item Copies i n) = true
-of-copies (vector-word s n) = true
-
-pub sets-stay : (ps : List (Put ClientWord)) (w : ClientWord → ℕ) → Only client-words of-copies ps → Same-sets w (changed client-words w ps)
-sets-stay ps w h = record {
-  reads = changed-only client-words of-copies ps w reads-count h refl;
-  writes = changed-only client-words of-copies ps w writes-count h refl;
-  items-read = λ i n. changed-only client-words of-copies ps w (item Reads i n) h refl;
-  items-written = λ i n. changed-only client-words of-copies ps w (item Writes i n) h refl;
-}
-
-pub sets-then : (u v w : ClientWord → ℕ) → Same-sets u v → Same-sets v w → Same-sets u w
-sets-then u v w a b = record {
-  reads = b .reads ∙ a .reads;
-  writes = b .writes ∙ a .writes;
-  items-read = λ i n. b .items-read i n ∙ a .items-read i n;
-  items-written = λ i n. b .items-written i n ∙ a .items-written i n;
-}
-
-pub only-copy : (x : ℕ) (r : Node) (w : ClientWord → ℕ) → Only client-words of-copies (copy-node x r w)
-unfolding copy-node put-item nothing Only
-only-copy x r w = go (find w Copies x) (find w Copies 0)
-  where
-    go : (a b : Found) → Only client-words of-copies (to-place x r a b w)
-    go (At p) b = only-puts client-words of-copies (item Copies p) _ (λ i. refl)
-    go Absent (At p) = only-puts client-words of-copies (item Copies p) _ (λ i. refl)
-    go Absent Absent = tt
-
-pub only-fields : (a b c : ℕ) (w : ClientWord → ℕ) → Only client-words of-copies (put-fields 12 (a ∷ b ∷ c ∷ []) w)
-unfolding put-fields
-only-fields a b c w = only-puts client-words of-copies (λ i. field (12 + i)) (a ∷ b ∷ c ∷ []) (λ i. above i)
-  where
-    above : (i : ℕ) → leb 12 (12 + i) ≡ true
-    above i = le-leb 12 (12 + i) (omega arith)
-
-pub only-vector : (s : ℕ) (ws : List ℕ) (w : ClientWord → ℕ) → Only client-words of-copies (put-vector s ws w)
-unfolding put-vector
-only-vector s ws w = only-puts client-words of-copies (vector-word s) _ (λ i. refl)
 
 -- ---- a number that names a node
 node-number : (x : ℕ) (f : ℕ → Bool) → by-number x false f (λ n. false) ≡ true → (n : ℕ) × (obj-of x ≡ node n) × (x ≡ 1 + n)
@@ -109,31 +64,6 @@ node-number x f h = go (obj-of x) refl (sym (by-obj x false f (λ n. false)) ∙
 flag-number : (x : ℕ) → 8193 ≤ x → obj-of x ≡ flag (x - 8193)
 unfolding obj-of
 flag-number x h = rw (ne-eqb x 0 (λ e. absurd (omega arith)), lt-leb x 8192 (omega arith))
-
--- a vector with one flag replaced: that flag, and the others
-flag-same : (ws : List ℕ) (n : ℕ) (b : Bool) → length ws ≡ 16 → bit (getD (with-flag ws (N.slot-of n) b) (N.slot-of n / 64) 0) (N.slot-of n % 64) ≡ b
-unfolding with-flag
-flag-same ws n b l =
-    ap (λ (x : ℕ). bit x (N.slot-of n % 64))
-    (getD-set-same ws (N.slot-of n / 64) (putBit b (getD ws (N.slot-of n / 64) 0) (N.slot-of n % 64)) 0 (omega (arith, l)))
-    ∙ bit-put-same b (getD ws (N.slot-of n / 64) 0) (N.slot-of n % 64)
-
-flag-other : (ws : List ℕ) (n q : ℕ) (b : Bool) → length ws ≡ 16 → ¬ (N.slot-of q ≡ N.slot-of n)
-    → bit (getD (with-flag ws (N.slot-of n) b) (N.slot-of q / 64) 0) (N.slot-of q % 64) ≡ bit (getD ws (N.slot-of q / 64) 0) (N.slot-of q % 64)
-unfolding with-flag
-flag-other ws n q b l d = go (ℕ-discrete (N.slot-of q / 64) (N.slot-of n / 64))
-  where
-    x : ℕ
-    x = putBit b (getD ws (N.slot-of n / 64) 0) (N.slot-of n % 64)
-
-    go : Dec (N.slot-of q / 64 ≡ N.slot-of n / 64)
-        → bit (getD (set ws (N.slot-of n / 64) x) (N.slot-of q / 64) 0) (N.slot-of q % 64) ≡ bit (getD ws (N.slot-of q / 64) 0) (N.slot-of q % 64)
-    go (no e) = ap (λ (y : ℕ). bit y (N.slot-of q % 64)) (getD-set-other ws (N.slot-of n / 64) (N.slot-of q / 64) x 0 e)
-    go (yes e) =
-        ap (λ (i : ℕ). bit (getD (set ws (N.slot-of n / 64) x) i 0) (N.slot-of q % 64)) e
-        ∙ ap (λ (y : ℕ). bit y (N.slot-of q % 64)) (getD-set-same ws (N.slot-of n / 64) x 0 (omega (arith, l)))
-        ∙ bit-put-other b (getD ws (N.slot-of n / 64) 0) (N.slot-of n % 64) (N.slot-of q % 64) (λ z. d (omega (arith, e, z)))
-        ∙ ap (λ (i : ℕ). bit (getD ws i 0) (N.slot-of q % 64)) (sym e)
 
 module _ (k j slots : ℕ) (al : Allowed (sizes k j slots)) (M : P.Machine (T k j slots)) (c : Fin (suc j)) (u : ClientWord → ℕ) (fit : client-fits (sizes k j slots) u ≡ true)
     (shown : Slot-shown k j slots u (M .slots c)) (now : M .slots c .phase ≡ decided)
