@@ -255,12 +255,16 @@ module _ (k j slots : ℕ) (al : Allowed (sizes k j slots)) (few : suc j ≤ 16)
         ap (λ (g : Address → ℕ). client-of g (c .0)) m-is ∙ client-changed n₁ (c .0) ps
         ∙ ap (λ (v : ClientWord → ℕ). changed client-words v ps) (clients-stay (c .0)) ∙ ends-cleared
 
+    pub abort-others : (d : Fin (suc j)) → ¬ (d ≡ c) → client-of m′ (d .0) ≡ client-of m (d .0)
+    abort-others d n =
+        ap (λ (g : Address → ℕ). client-of g (d .0)) m-is ∙ client-else n₁ (c .0) ps (d .0) (away k j slots c d n) ∙ clients-stay (d .0)
+
     pub abort-kept : Related k j slots m′ (starts L (c .0)) M₁
     unfolding phase-of
     abort-kept =
         related k j slots m m′ L (starts L (c .0)) M M₁ c R reached₁
         (record {
-          part = λ d n. ap (λ (g : Address → ℕ). client-of g (d .0)) m-is ∙ client-else n₁ (c .0) ps (d .0) (away k j slots c d n) ∙ clients-stay (d .0);
+          part = abort-others;
           given = λ d n. refl;
           undecided = λ d n. upd-other ℕ-discrete (L .undecided) (c .0) [] (d .0) (away k j slots c d n);
           slots-same = λ d n. upd-other (Fin-discrete (suc j)) (M .slots) c (P.blank (T k j slots) idle) d n;

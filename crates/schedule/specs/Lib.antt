@@ -48,3 +48,5 @@ pub mod Renewed
 pub mod Opened
 -- what follows for answers and tree
 pub mod Answers
+-- a good state, and what a step that applies nothing leaves
+pub mod Turns
