@@ -39,7 +39,7 @@ pub mod Applied
 pub mod Dropped
 pub mod Aborted
 pub mod Forgotten
--- copies that are stored, and the end of a transaction
+-- copies that are stored, and renewed at the end
 pub mod Placed
 pub mod CopyWords
 pub mod Copied
@@ -50,3 +50,5 @@ pub mod Opened
 pub mod Answers
 -- a good state, and what a step that applies nothing leaves
 pub mod Turns
+-- the end of a transaction
+pub mod Ended
