@@ -44,6 +44,8 @@ pub mod Placed
 pub mod CopyWords
 pub mod Copied
 pub mod Renewed
+-- work: what is at hand
+pub mod AtHand
 -- a new store
 pub mod Opened
 -- what follows for answers and tree
