@@ -45,7 +45,9 @@ pub mod CopyWords
 pub mod Copied
 pub mod Renewed
 -- work: what is at hand
+-- work: what is at hand; an object enters the read set
 pub mod AtHand
+pub mod Entered
 -- a new store
 pub mod Opened
 -- what follows for answers and tree
