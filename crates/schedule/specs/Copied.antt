@@ -1,11 +1,11 @@
 -- Copies that are stored: of a node, of the metadata, of a vector. What the client's part shows then.
-use mathlib.Core.Path.{_≡_, refl, ap, ap₂, sym, _∙_}
+use mathlib.Core.Path.{_≡_, refl, ap, ap₂, sym, _∙_, subst}
 use mathlib.Core.List.{List, [], _∷_}
 use mathlib.Core.Logic.{_⊎_, inl, inr}
 use mathlib.Core.Option.{Option}
-use Prim.Native.Nat.{ℕ, suc, _+_, _/_, _%_, _<_}
+use Prim.Native.Nat.{ℕ, suc, _+_, _/_, _%_, _<_, Fin}
 use native.Mathlib.Omega.{arith}
-use native.Mathlib.Decide.{ℕ-discrete}
+use native.Mathlib.Decide.{ℕ-discrete, Fin-discrete}
 use lib.ListN.{getD}
 use Rattle.base.specs.Update.{upd, upd-same, upd-other}
 use Rattle.memory.specs.Bit.{bit}
@@ -17,6 +17,7 @@ use Rattle.nodes.specs.StoredLaws.{Sized}
 use Rattle.nodes.specs.Name as N
 use Rattle.operations.specs.Object.{Obj, Obj-discrete, meta, node, flag, root, taken}
 use Rattle.protocol.specs.Machine as P
+use Rattle.protocol.specs.Moves as Mv
 use Rattle.client.specs.declared.part.Set.the-variants.{Copies}
 use Rattle.client.specs.Layout.{ClientWord, client-words, field, item, vector-word, meta-root, meta-version}
 use Rattle.client.specs.Record.{value-of}
@@ -196,3 +197,35 @@ module _ (k j slots : ℕ) (u : ClientWord → ℕ) (f : Obj → Option (P.Copy 
             t .ours q i e
             ∙ ap (λ (x : ℕ). copy k j slots u (taken (bit x (N.slot-of q % 64))) 0)
             (sym (ap (λ (x : ℕ). vv (vector-word x (suc (N.slot-of q / 64)))) e ∙ within (N.slot-of q / 64) (word-below q)))
+
+-- ---- the machine's copies of one client
+module _ (k j slots : ℕ) (M : P.Machine (T k j slots)) (c : Fin (suc j)) where
+  abbrev Copy : Type 0
+  Copy = Option (P.Copy (T k j slots))
+
+  abbrev Fine : Fin (suc j) → Obj → Copy → Type 0
+  Fine = Mv.Copied (T k j slots) M
+
+  -- a copy of o, beside those that are there
+  pub one-copy : (o : Obj) (z : Copy) → Fine c o z → (q : Obj) → Fine c q (upd Obj-discrete (M .copy c) o z q)
+  one-copy o z h q = go (Obj-discrete q o)
+    where
+      g : Obj → Copy
+      g = upd Obj-discrete (M .copy c) o z
+
+      go : Dec (q ≡ o) → Fine c q (g q)
+      go (yes e) = subst (λ (x : Obj). Fine c x (g x)) (sym e) (subst (Fine c o) (sym (upd-same Obj-discrete (M .copy c) o z)) h)
+      go (no n) = subst (Fine c q) (sym (upd-other Obj-discrete (M .copy c) o z q n)) Mv.as-before
+
+  pub copies-moved : (g : Obj → Copy) → Mv.Reached (T k j slots) M → ((q : Obj) → Fine c q (g q))
+      → Mv.Reached (T k j slots) (P.with-copies (T k j slots) M (upd (Fin-discrete (suc j)) (M .copy) c g))
+  copies-moved g r h = Mv.moved r (Mv.copies F (λ d q. go d q (Fin-discrete (suc j) d c)))
+    where
+      F : Fin (suc j) → Obj → Copy
+      F = upd (Fin-discrete (suc j)) (M .copy) c g
+
+      go : (d : Fin (suc j)) (q : Obj) → Dec (d ≡ c) → Fine d q (F d q)
+      go d q (yes e) =
+          subst (λ (x : Fin (suc j)). Fine x q (F x q)) (sym e)
+          (subst (Fine c q) (sym (ap (λ (f : Obj → Copy). f q) (upd-same (Fin-discrete (suc j)) (M .copy) c g))) (h q))
+      go d q (no n) = subst (Fine d q) (sym (ap (λ (f : Obj → Copy). f q) (upd-other (Fin-discrete (suc j)) (M .copy) c g d n))) Mv.as-before

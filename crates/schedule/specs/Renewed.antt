@@ -50,7 +50,7 @@ use Rattle.schedule.specs.Held.{first-at, found-at, has-at, written-in}
 use Rattle.schedule.specs.Written.{by-obj}
 use Rattle.schedule.specs.Placed.{record-sized}
 use Rattle.schedule.specs.CopyWords.{sets-stay, sets-then, only-copy, only-fields, only-vector, flag-same, flag-other}
-use Rattle.schedule.specs.Copied.{other-kind, flag-name, given, copied-node, meta-put, Taken, vector-put}
+use Rattle.schedule.specs.Copied.{other-kind, flag-name, one-copy, copies-moved, given, copied-node, meta-put, Taken, vector-put}
 
 -- ---- a number that names a node
 node-number : (x : ℕ) (f : ℕ → Bool) → by-number x false f (λ n. false) ≡ true → (n : ℕ) × (obj-of x ≡ node n) × (x ≡ 1 + n)
@@ -136,8 +136,8 @@ module _ (k j slots : ℕ) (al : Allowed (sizes k j slots)) (M : P.Machine (T k 
   renewal : (w v : ClientWord → ℕ) (K : Renewing w) → Same-sets w v → (o : Obj) (z : Copy) → Mv.Copied (T k j slots) (P.with-copies (T k j slots) M (K .copies)) c o z
       → Copies-shown k j slots v (upd Obj-discrete (K .copies c) o z) → Renewing v
   renewal w v K s o z legal h = record {
-    copies = F;
-    reached = Mv.moved (K .reached) (Mv.copies F (λ d q. by-client d q (Fin-discrete (suc j) d c)));
+    copies = upd (Fin-discrete (suc j)) (K .copies) c g;
+    reached = copies-moved k j slots N c g (K .reached) (one-copy k j slots N c o z legal);
     others = λ d n. upd-other (Fin-discrete (suc j)) (K .copies) c g d n ∙ K .others d n;
     shows = subst (Copies-shown k j slots v) (sym (upd-same (Fin-discrete (suc j)) (K .copies) c g)) h;
     sets = sets-then u w v (K .sets) s;
@@ -146,22 +146,8 @@ module _ (k j slots : ℕ) (al : Allowed (sizes k j slots)) (M : P.Machine (T k 
       g : Obj → Copy
       g = upd Obj-discrete (K .copies c) o z
 
-      F : Fin (suc j) → Obj → Copy
-      F = upd (Fin-discrete (suc j)) (K .copies) c g
-
-      Fine : Fin (suc j) → Obj → Copy → Type 0
-      Fine = Mv.Copied (T k j slots) (P.with-copies (T k j slots) M (K .copies))
-
-      own : (q : Obj) → Dec (q ≡ o) → Fine c q (g q)
-      own q (yes e) = subst (λ (x : Obj). Fine c x (g x)) (sym e) (subst (Fine c o) (sym (upd-same Obj-discrete (K .copies c) o z)) legal)
-      own q (no n) = subst (Fine c q) (sym (upd-other Obj-discrete (K .copies c) o z q n)) Mv.as-before
-
-      by-client : (d : Fin (suc j)) (q : Obj) → Dec (d ≡ c) → Fine d q (F d q)
-      by-client d q (yes e) =
-          subst (λ (x : Fin (suc j)). Fine x q (F x q)) (sym e)
-          (subst (Fine c q) (sym (ap (λ (f : Obj → Copy). f q) (upd-same (Fin-discrete (suc j)) (K .copies) c g))) (own q (Obj-discrete q o)))
-      by-client d q (no n) =
-          subst (Fine d q) (sym (ap (λ (f : Obj → Copy). f q) (upd-other (Fin-discrete (suc j)) (K .copies) c g d n))) Mv.as-before
+      N : P.Machine (T k j slots)
+      N = P.with-copies (T k j slots) M (K .copies)
 
   -- the copy that an item gives; n: no version of a flag, of others the one read plus 1
   renewed-legal : (F : Fin (suc j) → Obj → Copy) (i : ℕ) (o : Obj) (W : Written i o) (v : Val) (n : ℕ) → v ≡ value-of o (record-at u Writes i)
