@@ -1,14 +1,15 @@
--- The words of copies: stores there leave the sets. A vector with one flag replaced.
+-- The words of copies, and the one that says which vectors were fetched: stores there leave the transaction. A vector with one flag replaced.
 use mathlib.Core.Path.{_≡_, refl, ap, sym, _∙_}
-use mathlib.Core.Bool.{Bool, true, false}
+use mathlib.Core.Bool.{Bool, true, false, _||_}
 use mathlib.Core.List.{List, [], _∷_}
 use Prim.Native.Nat.{ℕ, _+_, _/_, _%_}
 use native.Mathlib.Omega.{arith}
 use native.Mathlib.Decide.{ℕ-discrete}
 use borrow.Author.Tests.{le-leb}
-use lib.Dec.{leb}
+use lib.Dec.{eqb, leb}
 use lib.ListN.{length, getD, set}
 use lib.Seq.{getD-set-same, getD-set-other}
+use Rattle.base.specs.Test.{or-left}
 use Rattle.memory.specs.Bit.{bit, putBit, bit-put-same, bit-put-other}
 use Rattle.layout.specs.Space.{Put, changed, Only, changed-only, only-puts}
 use Rattle.nodes.specs.declared.node.Node.{Node}
@@ -24,7 +25,7 @@ use Rattle.client.specs.Part.{nothing, put-item, put-fields, put-vector}
 use Rattle.schedule.specs.Slots.{Same-sets}
 
 abbrev pub of-copies : ClientWord → Bool
-of-copies (field i) = leb 12 i
+of-copies (field i) = leb 12 i || eqb i 8
 of-copies (item Reads i n) = false
 of-copies (item Writes i n) = false
 of-copies (item Copies i n) = true
@@ -59,8 +60,8 @@ pub only-fields : (a b c : ℕ) (w : ClientWord → ℕ) → Only client-words o
 unfolding put-fields
 only-fields a b c w = only-puts client-words of-copies (λ i. field (12 + i)) (a ∷ b ∷ c ∷ []) (λ i. above i)
   where
-    above : (i : ℕ) → leb 12 (12 + i) ≡ true
-    above i = le-leb 12 (12 + i) (omega arith)
+    above : (i : ℕ) → (leb 12 (12 + i) || eqb (12 + i) 8) ≡ true
+    above i = or-left (leb 12 (12 + i)) (eqb (12 + i) 8) (le-leb 12 (12 + i) (omega arith))
 
 pub only-vector : (s : ℕ) (ws : List ℕ) (w : ClientWord → ℕ) → Only client-words of-copies (put-vector s ws w)
 unfolding put-vector

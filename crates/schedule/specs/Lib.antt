@@ -56,3 +56,5 @@ pub mod Answers
 pub mod Turns
 -- the end of a transaction
 pub mod Ended
+-- work that fetches: stages of a step
+pub mod Stage
