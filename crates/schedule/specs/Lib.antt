@@ -56,5 +56,6 @@ pub mod Answers
 pub mod Turns
 -- the end of a transaction
 pub mod Ended
--- work that fetches: stages of a step
+-- work that fetches: stages of a step, what is handed over
 pub mod Stage
+pub mod Handed

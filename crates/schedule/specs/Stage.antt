@@ -16,13 +16,13 @@ use Rattle.operations.specs.Object.{Obj, Obj-discrete}
 use Rattle.operations.specs.Operation.{Legal}
 use Rattle.operations.specs.Slot.{Allowed}
 use Rattle.operations.specs.Map.{Op}
-use Rattle.protocol.specs.Changed.{upd-none, upd-twice}
+use Rattle.protocol.specs.Changed.{upd-twice}
 use Rattle.protocol.specs.State.{opened, is-decided}
 use Rattle.protocol.specs.Meaning.{Shown}
 use Rattle.protocol.specs.Machine as P
 use Rattle.protocol.specs.Moves as Mv
 use Rattle.client.specs.declared.part.Set.the-variants.{Reads, Writes, Copies}
-use Rattle.client.specs.Layout.{ClientWord, client-words, field, phase, op-number, op-key, op-value, op-server, participants, prepared, applied, item, vector-word, reads-count, meta-copied, meta-root, meta-version}
+use Rattle.client.specs.Layout.{ClientWord, client-words, field, phase, op-number, op-key, op-value, op-server, participants, prepared, applied, item, vector-word, reads-count}
 use Rattle.client.specs.Record.{number, value-of}
 use Rattle.client.specs.Sets.{find}
 use Rattle.client.specs.Enter.{enter-read}
@@ -32,7 +32,7 @@ use Rattle.steps.specs.Stores.{client-of, client-else}
 use Rattle.schedule.specs.Ledger.{Told, Ledger}
 use Rattle.schedule.specs.Store as Store
 use Rattle.schedule.specs.Store.{sizes}
-use Rattle.schedule.specs.Shows.{T, In-store, item-from, item-of, Slot-shown, Copies-shown, Said-shown, Client-shown, Related}
+use Rattle.schedule.specs.Shows.{T, In-store, item-from, item-of, Copies-shown, Said-shown, Client-shown, Related}
 use Rattle.schedule.specs.Slots.{slot-frame, copies-frame}
 use Rattle.schedule.specs.Kept.{away, client-related}
 use Rattle.schedule.specs.Placed.{family}
