@@ -46,6 +46,8 @@ pub mod Copied
 pub mod Renewed
 -- work: what is at hand
 -- work: what is at hand; an object enters the read set
+-- work: a run of a plan; what is at hand; an object enters the read set
+pub mod Ran
 pub mod AtHand
 pub mod Entered
 -- a new store
