@@ -1,6 +1,6 @@
 -- "what is used enters the read set": an object that enters it, behind the others.
 use mathlib.Core.Path.{_≡_, refl, ap, ap₂, sym, _∙_, subst}
-use mathlib.Core.Bool.{Bool, cond}
+use mathlib.Core.Bool.{Bool, true, false, cond, _||_, true≢false}
 use mathlib.Core.List.{List, [], _∷_}
 use mathlib.Core.Logic.{inl, inr}
 use mathlib.Core.Option.{some, none, Option·none-ne-some}
@@ -21,7 +21,8 @@ use Rattle.operations.specs.Object.{Obj, Obj-discrete, Val}
 use Rattle.operations.specs.Slot.{Allowed}
 use Rattle.protocol.specs.Lists.{Among}
 use Rattle.protocol.specs.Machine as P
-use Rattle.client.specs.declared.part.Set.the-variants.{Reads, Writes}
+use Rattle.client.specs.declared.part.Set.{Set}
+use Rattle.client.specs.declared.part.Set.the-variants.{Reads, Writes, Copies}
 use Rattle.client.specs.Layout.{ClientWord, client-words, field, item, vector-word, reads-count}
 use Rattle.client.specs.Record.{number, value-of}
 use Rattle.client.specs.Sets.{at-most, or-found, count, record-at, number-at, first-of, find}
@@ -63,6 +64,53 @@ module _ (k j slots : ℕ) (u v : ClientWord → ℕ) where
       ∙ new-same o (value-of o (record-at v Reads i)) (value-of o (record-at u Reads i)) (find u Writes (number o)) h (ap (value-of o) r) in
       λ t. some (record { obj = o; old = value-of o (r t); version = r t .version; written = is-at (w t); new = n t })
 
+-- ---- all words but those of the read set are the same
+abbrev pub Else-same : (ClientWord → ℕ) → (ClientWord → ℕ) → Type 0
+Else-same u v = (a : ClientWord) → ¬ (family a ≡ 1) → ¬ (a ≡ reads-count) → v a ≡ u a
+
+field-number : ClientWord → ℕ
+field-number (field i) = i
+field-number (item s i n) = 0
+field-number (vector-word s n) = 0
+
+module _ (u v : ClientWord → ℕ) (h : Else-same u v) where
+  pub field-same : (i : ℕ) → ¬ (i ≡ 10) → v (field i) ≡ u (field i)
+  unfolding field-number
+  field-same i d = h (field i) (λ e. absurd (omega arith)) (λ e. d (ap field-number e))
+
+  pub written-same : (i n : ℕ) → v (item Writes i n) ≡ u (item Writes i n)
+  written-same i n = h (item Writes i n) (λ e. absurd (omega arith)) (λ e. absurd (let z : 2 ≡ 0 = ap family e in omega arith))
+
+  pub copy-same : (i n : ℕ) → v (item Copies i n) ≡ u (item Copies i n)
+  copy-same i n = h (item Copies i n) (λ e. absurd (omega arith)) (λ e. absurd (let z : 3 ≡ 0 = ap family e in omega arith))
+
+  pub vector-same : (s n : ℕ) → v (vector-word s n) ≡ u (vector-word s n)
+  vector-same s n = h (vector-word s n) (λ e. absurd (omega arith)) (λ e. absurd (let z : 4 ≡ 0 = ap family e in omega arith))
+
+  pub writes-same : count v Writes ≡ count u Writes
+  unfolding count
+  writes-same = ap (at-most 48) (field-same 11 (λ e. absurd (omega arith)))
+
+  pub found-written : (x : ℕ) → find v Writes x ≡ find u Writes x
+  found-written x = find-frame u v Writes writes-same (λ i. written-same i 0) x
+
+  pub record-written : (i : ℕ) → record-at v Writes i ≡ record-at u Writes i
+  record-written i = record-frame u v Writes i (written-same i)
+
+-- an object that a set has not
+module _ (u : ClientWord → ℕ) (s : Set) (x : ℕ) where
+  pub absent-has : find u s x ≡ Absent → has u s x ≡ false
+  unfolding has
+  absent-has e = ap is-at e
+
+  pub has-absent : has u s x ≡ false → find u s x ≡ Absent
+  unfolding has
+  has-absent h = go (find u s x) h
+    where
+      go : (z : Found) → is-at z ≡ false → z ≡ Absent
+      go (At i) e = absurd (true≢false e)
+      go Absent e = refl
+
 -- ---- the machine's items: the first, and past it
 module _ (k j slots : ℕ) (i : P.Item (T k j slots)) (is : List (P.Item (T k j slots))) where
   pub find-first : P.find (T k j slots) (i ∷ is) (i .obj) ≡ some i
@@ -90,7 +138,7 @@ module _ (u v : ClientWord → ℕ) (x : ℕ) (r : Node) where
     pub number-as : number-at v Reads (u reads-count) ≡ x
     pub record-as : record-at v Reads (u reads-count) ≡ r
     pub below : (i w : ℕ) → ¬ (i ≡ u reads-count) → v (item Reads i w) ≡ u (item Reads i w)
-    pub other : (a : ClientWord) → ¬ (family a ≡ 1) → ¬ (a ≡ reads-count) → v a ≡ u a
+    pub other : Else-same u v
 
 pub read-entered : (u : ClientWord → ℕ) (x : ℕ) (r : Node) → Sized r → u reads-count < 96 → Read-entered u (changed client-words u (enter-read x r u)) x r
 unfolding enter-read put-field andThen changed number-at
@@ -135,6 +183,15 @@ module _ (k j slots : ℕ) (al : Allowed (sizes k j slots)) (u v : ClientWord �
       ∙ ap₂ (λ (z : Found) (w : ℕ). or-found z (cond (eqb w x) (At n) Absent)) (first-frame (number-at u Reads) (number-at v Reads) n x (λ i l. E .below i 0 (λ e. omega arith))) (E .number-as)
       ∙ ap (λ (c : ℕ). or-found (first-of (number-at u Reads) c x) (cond (eqb (number o) x) (At n) Absent)) (sym (counts .0))
 
+  pub has-after : (x : ℕ) → has v Reads x ≡ (has u Reads x || eqb (number o) x)
+  unfolding has
+  has-after x = ap is-at (find-after x) ∙ go (find u Reads x) (eqb (number o) x)
+    where
+      go : (z : Found) (b : Bool) → is-at (or-found z (cond b (At n) Absent)) ≡ (is-at z || b)
+      go (At i) b = refl
+      go Absent true = refl
+      go Absent false = refl
+
   pub found-new : find u Reads (number o) ≡ Absent → find v Reads (number o) ≡ At n
   found-new h =
       find-after (number o) ∙ ap (λ (z : Found). or-found z (cond (eqb (number o) (number o)) (At n) Absent)) h
@@ -148,23 +205,6 @@ module _ (k j slots : ℕ) (al : Allowed (sizes k j slots)) (u v : ClientWord �
       or-absent (At i) = refl
       or-absent Absent = refl
 
-  -- the write set stays
-  written : (i w : ℕ) → v (item Writes i w) ≡ u (item Writes i w)
-  written i w = E .other (item Writes i w) (λ e. absurd (omega arith)) (λ e. absurd (let z : 2 ≡ 0 = ap family e in omega arith))
-
-  other-field : (i : ℕ) → ¬ (i ≡ 10) → v (field i) ≡ u (field i)
-  other-field i d = E .other (field i) (λ e. absurd (omega arith)) (λ e. d (ap (λ (a : ClientWord). elim a [ field i ↦ i | item s i n ↦ 0 | vector-word s n ↦ 0 ]) e))
-
-  writes-same : count v Writes ≡ count u Writes
-  unfolding count
-  writes-same = ap (at-most 48) (other-field 11 (λ e. absurd (omega arith)))
-
-  found-written : (x : ℕ) → find v Writes x ≡ find u Writes x
-  found-written x = find-frame u v Writes writes-same (λ i. written i 0) x
-
-  record-written : (i : ℕ) → record-at v Writes i ≡ record-at u Writes i
-  record-written i = record-frame u v Writes i (written i)
-
   module _ (y : P.Slot (T k j slots)) (S : Slot-shown k j slots u y) (hi : In-store k j slots o) (unread : find u Reads (number o) ≡ Absent) (unwritten : find u Writes (number o) ≡ Absent) where
     abbrev it : P.Item (T k j slots)
     it = P.item (T k j slots) o (value-of o r) (r .version)
@@ -173,7 +213,7 @@ module _ (k j slots : ℕ) (al : Allowed (sizes k j slots)) (u v : ClientWord �
     unfolding item-of has
     new-item =
         let a = E .record-as in
-        let w = found-written (number o) ∙ unwritten in
+        let w = found-written u v (E .other) (number o) ∙ unwritten in
         ap (item-from k j slots v o) (found-new unread)
         ∙ (λ t. some (record { obj = o; old = value-of o (a t); version = a t .version; written = is-at (w t); new = new-value k j slots v o (value-of o (a t)) (w t) }))
 
@@ -188,7 +228,7 @@ module _ (k j slots : ℕ) (al : Allowed (sizes k j slots)) (u v : ClientWord �
         go Absent e = refl
         go (At i) e =
             let l : i < n = subst (λ (c : ℕ). i < c) (counts .0) (found-at u Reads (number q) i e .0) in
-            item-same k j slots u v q i (record-frame u v Reads i (λ w. E .below i w (λ z. omega arith))) (found-written (number q)) record-written
+            item-same k j slots u v q i (record-frame u v Reads i (λ w. E .below i w (λ z. omega arith))) (found-written u v (E .other) (number q)) (record-written u v (E .other))
 
     -- no object has two items
     read-found : (i : ℕ) → i < count v Reads → find v Reads (number-at v Reads i) ≡ At i
@@ -224,7 +264,7 @@ module _ (k j slots : ℕ) (al : Allowed (sizes k j slots)) (u v : ClientWord �
     pub slot-entered : Slot-shown k j slots v (P.with-item (T k j slots) y o (value-of o r) (r .version))
     unfolding Among number-at
     slot-entered =
-        let at : (i : ℕ) → ¬ (i ≡ 10) → v (field i) ≡ u (field i) = other-field in
+        let at : (i : ℕ) → ¬ (i ≡ 10) → v (field i) ≡ u (field i) = field-same u v (E .other) in
         let p = at 0 (λ e. absurd (omega arith)) in
         let q = at 5 (λ e. absurd (omega arith)) in
         let t = at 6 (λ e. absurd (omega arith)) in
@@ -234,7 +274,7 @@ module _ (k j slots : ℕ) (al : Allowed (sizes k j slots)) (u v : ClientWord �
           item-as = item-as;
           read-found = read-found;
           write-found = λ i l.
-              ap (find v Writes) (written i 0) ∙ found-written (number-at u Writes i) ∙ S .write-found i (subst (λ (c : ℕ). i < c) writes-same l);
+              ap (find v Writes) (written-same u v (E .other) i 0) ∙ found-written u v (E .other) (number-at u Writes i) ∙ S .write-found i (subst (λ (c : ℕ). i < c) (writes-same u v (E .other)) l);
           inside = λ i h. inside i h;
           unique = unique;
           participant-as = λ s. S .participant-as s ∙ ap (λ (w : ℕ). bit w (s .0)) (sym q);

@@ -50,6 +50,8 @@ pub mod Renewed
 pub mod Ran
 pub mod AtHand
 pub mod Entered
+-- copies in use enter the read set
+pub mod Used
 -- a new store
 pub mod Opened
 -- what follows for answers and tree

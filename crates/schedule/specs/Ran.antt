@@ -4,7 +4,7 @@ use mathlib.Core.Path.{_≡_, refl, sym, _∙_, subst}
 use mathlib.Core.Bool.{Bool, true, false, cond}
 use mathlib.Core.List.{List, [], _∷_, _++_}
 use mathlib.Core.Option.{Option, none, some}
-use Prim.Native.Nat.{ℕ, _+_, _≤_}
+use Prim.Native.Nat.{ℕ, suc, _≤_}
 use native.Mathlib.Omega.{arith}
 use borrow.Author.Tests.{ltb-true}
 use lib.Dec.{ltb}
@@ -16,7 +16,7 @@ use Rattle.operations.specs.Path.{Plan}
 use Rattle.client.specs.Record.{number}
 use Rattle.client.specs.Run.{End, lacks, aborts, gives, Ran, ran, among, judged, run}
 
-one-more : (us : List ℕ) (x : ℕ) → length (us ++ (x ∷ [])) ≡ 1 + length us
+pub one-more : (us : List ℕ) (x : ℕ) → length (us ++ (x ∷ [])) ≡ suc (length us)
 one-more us x = length-append us (x ∷ []) ∙ omega arith
 
 -- the numbers in use after one more question was answered, and after all of them
