@@ -25,6 +25,13 @@ lacks≢ends {Obj = Obj} {Res = Res} {Why = Why} e = true≢false (ap lacking e)
     lacking (lacks o) = true
     lacking (ends e) = false
 
+same-lack : {Obj Res Why : Type 0} {o q : Obj} → _≡_ {A = Met Obj Res Why} (lacks o) (lacks q) → o ≡ q
+same-lack {Obj = Obj} {Res = Res} {Why = Why} {o = o} e = ap lacking e
+  where
+    lacking : Met Obj Res Why → Obj
+    lacking (lacks x) = x
+    lacking (ends d) = o
+
 end-of : {Obj Res Why : Type 0} → Out Res Why → Met Obj Res Why → Out Res Why
 end-of d (lacks o) = d
 end-of d (ends e) = e
@@ -76,6 +83,17 @@ module _ {Obj Val Res Why : Type 0} where
       walk-has o k more (m .0) (h o (m .0) (m .1)) ∙ walk-more (k (m .0)) have more e h (m .2)
   walk-more (done r) have more e h w = w
   walk-more (fail y) have more e h w = w
+
+  -- an object that is lacking is not at hand
+  pub lacks-none : (p : Plan Obj Val Res Why) (have : Obj → Option Val) (o : Obj) → walk p have ≡ lacks o → have o ≡ none
+  unfolding walk
+  lacks-none (ask q k) have o w = go (have q) refl (λ v. lacks-none (k v) have o)
+    where
+      go : (z : Option Val) → have q ≡ z → ((v : Val) → walk (k v) have ≡ lacks o → have o ≡ none) → have o ≡ none
+      go none e rec = subst (λ x. have x ≡ none) (same-lack (sym (walk-lacks q k have e) ∙ w)) e
+      go (some v) e rec = rec v (sym (walk-has q k have v e) ∙ w)
+  lacks-none (done r) have o w = absurd (lacks≢ends (sym w))
+  lacks-none (fail y) have o w = absurd (lacks≢ends (sym w))
 
   -- an object that is used is at hand
   pub used-had : (p : Plan Obj Val Res Why) (have : Obj → Option Val) → Every (λ o. (v : Val) × (have o ≡ some v)) (used p have)
