@@ -62,4 +62,5 @@ pub mod Turns
 pub mod Ended
 -- work that fetches: stages of a step, what is handed over
 pub mod Stage
+pub mod Lacking
 pub mod Handed

@@ -21,8 +21,8 @@ use Rattle.protocol.specs.State.{opened, is-decided}
 use Rattle.protocol.specs.Meaning.{Shown}
 use Rattle.protocol.specs.Machine as P
 use Rattle.protocol.specs.Moves as Mv
-use Rattle.client.specs.declared.part.Set.the-variants.{Reads, Writes, Copies}
-use Rattle.client.specs.Layout.{ClientWord, client-words, field, phase, op-number, op-key, op-value, op-server, participants, prepared, applied, item, vector-word, reads-count}
+use Rattle.client.specs.declared.part.Set.the-variants.{Reads, Writes}
+use Rattle.client.specs.Layout.{ClientWord, client-words, field, phase, op-number, op-key, op-value, op-server, participants, prepared, applied, reads-count}
 use Rattle.client.specs.Record.{number, value-of}
 use Rattle.client.specs.Sets.{find}
 use Rattle.client.specs.Enter.{enter-read}
@@ -33,12 +33,12 @@ use Rattle.schedule.specs.Ledger.{Told, Ledger}
 use Rattle.schedule.specs.Store as Store
 use Rattle.schedule.specs.Store.{sizes}
 use Rattle.schedule.specs.Shows.{T, In-store, item-from, item-of, Copies-shown, Said-shown, Client-shown, Related}
-use Rattle.schedule.specs.Slots.{slot-frame, copies-frame}
+use Rattle.schedule.specs.Slots.{slot-frame}
 use Rattle.schedule.specs.Kept.{away, client-related}
-use Rattle.schedule.specs.Placed.{family}
 use Rattle.schedule.specs.CopyWords.{of-copies, sets-stay}
 use Rattle.schedule.specs.Copied.{one-copy, copies-moved}
-use Rattle.schedule.specs.Entered.{Read-entered, read-entered, slot-entered}
+use Rattle.schedule.specs.Entered.{Else-same, field-same, Read-entered, read-entered, slot-entered}
+use Rattle.schedule.specs.Used.{copies-stay}
 use Rattle.schedule.specs.Turns.{Turns}
 
 -- what was given and answered, where the phase and the operation are the same
@@ -52,6 +52,14 @@ said-frame k j slots u v given undecided said p a b d e h =
       given-as = λ n. h .given-as (λ z. n (a ∙ z)) ∙ sym same;
       legal = λ n. subst (Legal (sizes k j slots)) (sym same) (h .legal (λ z. n (a ∙ z)));
     }
+
+-- as where only the read set grows
+pub said-else : (k j slots : ℕ) (u v : ClientWord → ℕ) → Else-same u v → (given : Op) (undecided : List Told) (said : List (Shown (T k j slots)))
+    → Said-shown k j slots u given undecided said → Said-shown k j slots v given undecided said
+said-else k j slots u v h given undecided said =
+    let at : (i : ℕ) → ¬ (i ≡ 10) → v (field i) ≡ u (field i) = field-same u v h in
+    said-frame k j slots u v given undecided said (at 0 (λ e. absurd (omega arith))) (at 1 (λ e. absurd (omega arith))) (at 2 (λ e. absurd (omega arith)))
+    (at 3 (λ e. absurd (omega arith))) (at 4 (λ e. absurd (omega arith)))
 
 module _ (k j slots : ℕ) (m : Address → ℕ) (L : Ledger) (M : P.Machine (T k j slots)) (c : Fin (suc j)) (R : Related k j slots m L M) where
   abbrev Copy : Type 0
@@ -178,11 +186,8 @@ module _ (k j slots : ℕ) (m : Address → ℕ) (L : Ledger) (M : P.Machine (T 
       open-still = G .open-still;
       shows = record {
         slot = slot-entered k j slots al v w o r E y (G .shows .slot) hi unread unwritten;
-        copies = copies-frame k j slots v w (G .copies) (at 12 (λ e. absurd (omega arith))) (at 13 (λ e. absurd (omega arith))) (at 14 (λ e. absurd (omega arith)))
-            (λ i n. E .other (item Copies i n) (λ e. absurd (omega arith)) (λ e. absurd (let z : 3 ≡ 0 = ap family e in omega arith)))
-            (λ q n. E .other (vector-word q n) (λ e. absurd (omega arith)) (λ e. absurd (let z : 4 ≡ 0 = ap family e in omega arith))) (G .shows .copies);
-        says = said-frame k j slots v w (L .given (c .0)) (L .undecided (c .0)) (M .said c) (at 0 (λ e. absurd (omega arith))) (at 1 (λ e. absurd (omega arith)))
-            (at 2 (λ e. absurd (omega arith))) (at 3 (λ e. absurd (omega arith))) (at 4 (λ e. absurd (omega arith))) (G .shows .says);
+        copies = copies-stay v w (E .other) k j slots (G .copies) (G .shows .copies);
+        says = said-else k j slots v w (E .other) (L .given (c .0)) (L .undecided (c .0)) (M .said c) (G .shows .says);
       };
     }
       where
@@ -194,6 +199,3 @@ module _ (k j slots : ℕ) (m : Address → ℕ) (L : Ledger) (M : P.Machine (T 
 
         E : Read-entered v w (number o) r
         E = read-entered v (number o) r sized room
-
-        at : (i : ℕ) → ¬ (i ≡ 10) → w (field i) ≡ v (field i)
-        at i d = E .other (field i) (λ e. absurd (omega arith)) (λ e. d (ap (λ (a : ClientWord). elim a [ field i ↦ i | item s i n ↦ 0 | vector-word s n ↦ 0 ]) e))
