@@ -64,3 +64,4 @@ pub mod Ended
 pub mod Stage
 pub mod Lacking
 pub mod Handed
+pub mod Fetches

@@ -148,7 +148,7 @@ module _ (k j slots : ℕ) where
       go (yes e) = of-yes (Fin-discrete (suc k) s (server k j slots q)) (Fin·val-path (sym (server-is q h ∙ e))) ∙ sym (eq-eqb q (s .0) e)
       go (no n) = of-no (Fin-discrete (suc k) s (server k j slots q)) (λ e. n (sym (ap (λ (z : Fin (suc k)). z .0) e ∙ server-is q h))) ∙ sym (ne-eqb q (s .0) n)
 
-  name-server : (n : ℕ) → in-store (sizes k j slots) n ≡ true → server-of n < suc k
+  pub name-server : (n : ℕ) → in-store (sizes k j slots) n ≡ true → server-of n < suc k
   unfolding in-store
   name-server n h = ltb-true (server-of n) (suc k) (and-both (ltb (server-of n) (suc k)) (ltb (slot-of n) slots) h .0)
 
