@@ -44,8 +44,6 @@ pub mod Placed
 pub mod CopyWords
 pub mod Copied
 pub mod Renewed
--- work: what is at hand
--- work: what is at hand; an object enters the read set
 -- work: a run of a plan; what is at hand; an object enters the read set
 pub mod Ran
 pub mod AtHand
