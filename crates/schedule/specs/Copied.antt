@@ -28,7 +28,7 @@ use Rattle.schedule.specs.Shows.{T, In-store, copy, Copies-shown}
 use Rattle.schedule.specs.Held.{found-at, none-at}
 use Rattle.schedule.specs.Slots.{meta-stays, node-stays, flag-stays}
 use Rattle.schedule.specs.Frame.{last, read-after}
-use Rattle.schedule.specs.Placed.{family, placed, placed-number, placed-record, placed-beside, placed-else}
+use Rattle.schedule.specs.Placed.{family, which, word-in, placed, placed-number, placed-record, placed-beside, placed-else}
 
 -- objects of different kinds, and names
 abbrev pub sort : Obj → ℕ
@@ -40,17 +40,6 @@ name-of : Obj → ℕ
 name-of meta = 0
 name-of (node n) = n
 name-of (flag n) = n
-
--- the server of a vector's word, and which word it is
-whose : ClientWord → ℕ
-whose (field i) = 0
-whose (item s i n) = 0
-whose (vector-word s n) = s
-
-word-in : ClientWord → ℕ
-word-in (field i) = 0
-word-in (item s i n) = 0
-word-in (vector-word s n) = n
 
 word-below : (n : ℕ) → N.slot-of n / 64 < 16
 word-below n = omega arith
@@ -164,7 +153,7 @@ module _ (k j slots : ℕ) (u : ClientWord → ℕ) (f : Obj → Option (P.Copy 
     elsewhere a d = puts-other client-words (1 ∷ tab 16 (λ j. getD ws j 0)) u (vector-word s) a (λ q l. d q)
 
     within : (q : ℕ) → q < 16 → vv (vector-word s (suc q)) ≡ getD ws q 0
-    unfolding put-vector word-in
+    unfolding put-vector
     within q l =
         puts-same client-words (1 ∷ tab 16 (λ j. getD ws j 0)) u (vector-word s) (λ i j e. ap word-in e) (suc q) (omega (arith, length-tab 16 (λ j. getD ws j 0)))
         ∙ getD-tab 16 (λ j. getD ws j 0) q l
@@ -176,7 +165,6 @@ module _ (k j slots : ℕ) (u : ClientWord → ℕ) (f : Obj → Option (P.Copy 
       pub ours : (n : ℕ) → In-store k j slots (flag n) → N.server-of n ≡ s → g (flag n) ≡ copy k j slots u (taken (bit (getD ws (N.slot-of n / 64) 0) (N.slot-of n % 64))) 0
 
     pub vector-put : Taken → Copies-shown k j slots vv g
-    unfolding whose
     vector-put t = record {
       meta-as = meta-stays k j slots u vv f g h (at-field 12) (at-field 13) (at-field 14) (t .same meta (λ e. absurd (omega (arith, e))));
       node-as = λ i q. node-stays k j slots u vv f g h i q (at-copy i) (t .same (node q) (λ e. absurd (omega (arith, e))));
@@ -192,7 +180,7 @@ module _ (k j slots : ℕ) (u : ClientWord → ℕ) (f : Obj → Option (P.Copy 
 
         by-server : (q : ℕ) → Dec (N.server-of q ≡ s) → In-store k j slots (flag q) → vv (vector-word (N.server-of q) 0) ≡ 1
             → g (flag q) ≡ copy k j slots vv (taken (bit (vv (vector-word (N.server-of q) (suc (N.slot-of q / 64)))) (N.slot-of q % 64))) 0
-        by-server q (no d) = flag-stays k j slots u vv f g h q (λ x. elsewhere (vector-word (N.server-of q) x) (λ y e. d (ap whose e))) (t .others q d)
+        by-server q (no d) = flag-stays k j slots u vv f g h q (λ x. elsewhere (vector-word (N.server-of q) x) (λ y e. d (ap which e))) (t .others q d)
         by-server q (yes e) = λ i _.
             t .ours q i e
             ∙ ap (λ (x : ℕ). copy k j slots u (taken (bit x (N.slot-of q % 64))) 0)

@@ -1,24 +1,13 @@
 -- What stands at an address after a list of stores.
-use mathlib.Core.Path.{_≡_, refl, ap, ap₂, sym, _∙_, subst}
-use mathlib.Core.Bool.{Bool, true, false, cond, true≢false}
+use mathlib.Core.Path.{_≡_, refl, ap, sym, _∙_, subst}
+use mathlib.Core.Bool.{Bool, true, false, cond}
 use mathlib.Core.List.{List, [], _∷_, _++_}
 use Prim.Native.Nat.{ℕ, zero, suc, _<_}
 use native.Mathlib.Omega.{arith}
-use borrow.Author.Tests.{eqb-true}
-use lib.Dec.{eqb}
-use Rattle.base.specs.Test.{and-both}
 use Rattle.base.specs.Update.{upd, upd-same, upd-other}
-use Rattle.layout.specs.Space.{Coding, Put, put, same, code-inj, decide, changed, upd-apart}
+use Rattle.layout.specs.Space.{Coding, Put, put, same, same-is, code-inj, decide, changed, upd-apart}
 use Rattle.layout.specs.Step.{andThen, changed-append}
 use Rattle.layout.specs.Sweep.{sweep}
-
-same-is : (p q : List ℕ) → same p q ≡ true → p ≡ q
-same-is [] [] e = refl
-same-is [] (j ∷ q) e = absurd (true≢false (sym e))
-same-is (i ∷ p) [] e = absurd (true≢false (sym e))
-same-is (i ∷ p) (j ∷ q) e =
-    let h = and-both (eqb i j) (same p q) e in
-    ap₂ (λ (x : ℕ) (y : List ℕ). x ∷ y) (eqb-true i j (h .0)) (same-is p q (h .1))
 
 module _ {A : Type 0} (C : Coding A) where
   -- the last store at x, else v: for stores at known addresses this computes

@@ -6,9 +6,8 @@ use mathlib.Core.Option.{Option, none, some, Option·none-ne-some, Option·some-
 use Prim.Native.Nat.{ℕ, _-_, _≤_}
 use native.Mathlib.Omega.{arith}
 use borrow.Author.Tests.{ne-eqb}
-use lib.Dec.{eqb, ltb}
+use lib.Dec.{ltb}
 use lib.ListN.{length}
-use Rattle.base.specs.Test.{or-neither}
 use Rattle.plans.specs.Walk as W
 use Rattle.nodes.specs.declared.found.Found.{Found}
 use Rattle.nodes.specs.declared.found.Found.the-variants.{At, Absent}
@@ -34,7 +33,7 @@ use Rattle.schedule.specs.Numbers.{obj-of, obj-number}
 use Rattle.schedule.specs.Shows.{T, In-store, Slot-shown, Copies-shown}
 use Rattle.schedule.specs.AtHand.{had}
 use Rattle.schedule.specs.Ran.{Follows, with-used, all-used, run-follows}
-use Rattle.schedule.specs.Used.{At-hand}
+use Rattle.schedule.specs.Used.{among-more, At-hand}
 
 -- ---- the object that is fetched: the first one lacking
 abbrev fetched-ask : Worked → Option Ask
@@ -113,11 +112,6 @@ lacks-object z u o h b = in-store? (object-in-store z o) refl h b
         let p = sets (find u Writes (number o)) refl (find u Reads (number o)) refl (not-found (is-found (l .how)) (fits z (number o) (l .node)) h b) in
         record { inside = e; unwritten = p .0; unread = p .1 }
 
-among-end : (x y : ℕ) (us : List ℕ) → among x us ≡ false → ¬ (y ≡ x) → among x (us ++ (y ∷ [])) ≡ false
-unfolding among
-among-end x y [] h d = rw (ne-eqb y x d) refl
-among-end x y (w ∷ us) h d = let e = or-neither (eqb w x) (among x us) h in rw (e .0) (among-end x y us (e .1) d)
-
 module _ (k j slots : ℕ) (al : Allowed (sizes k j slots)) (u : ClientWord → ℕ) (fit : client-fits (sizes k j slots) u ≡ true)
     (y : P.Slot (T k j slots)) (shown : Slot-shown k j slots u y) (f : Obj → Option (P.Copy (T k j slots))) (copies : Copies-shown k j slots u f)
     (o : Obj) (hi : In-store k j slots o) (lack : have (sizes k j slots) u (object o) ≡ none) where
@@ -139,4 +133,4 @@ module _ (k j slots : ℕ) (al : Allowed (sizes k j slots)) (u : ClientWord → 
       go : (a b : Bool) → among (number o) (cond a (cond b us (us ++ (number q ∷ []))) us) ≡ false
       go false b = e
       go true true = e
-      go true false = among-end (number o) (number q) us e (apart q (h .0 .0) (h .0 .1))
+      go true false = among-more (number o) (number q) us ∙ rw (e, ne-eqb (number q) (number o) (apart q (h .0 .0) (h .0 .1))) refl

@@ -18,7 +18,7 @@ pub record-sized : (u : ClientWord → ℕ) (s : Set) (i : ℕ) → Sized (recor
 unfolding record-at node-of tab
 record-sized u s i = record { keys = refl; slots = refl }
 
--- which family a word is of, which item, and which word of it
+-- which family a word is of, which item or vector, and which word of it
 abbrev pub family : ClientWord → ℕ
 family (field i) = 0
 family (item Reads i n) = 1
@@ -26,15 +26,15 @@ family (item Writes i n) = 2
 family (item Copies i n) = 3
 family (vector-word s n) = 4
 
-which : ClientWord → ℕ
+abbrev pub which : ClientWord → ℕ
 which (field i) = 0
 which (item s i n) = i
-which (vector-word s n) = 0
+which (vector-word s n) = s
 
-word-in : ClientWord → ℕ
+abbrev pub word-in : ClientWord → ℕ
 word-in (field i) = 0
 word-in (item s i n) = n
-word-in (vector-word s n) = 0
+word-in (vector-word s n) = n
 
 one-family : (s : Set) (p n : ℕ) → family (item s p n) ≡ family (item s p 0)
 one-family Reads p n = refl
@@ -53,7 +53,7 @@ module _ (s : Set) (p x : ℕ) (r : Node) (w : Sized r) (u : ClientWord → ℕ)
 
   -- the words of the item, the number first
   words-are : tab 34 (λ n. placed (item s p n)) ≡ x ∷ words-of r
-  unfolding put-item word-in
+  unfolding put-item
   words-are = tab-puts-same client-words 34 stored u (item s p) (length-tab 34 (λ j. getD (x ∷ words-of r) j 0)) (λ i j e. ap word-in e) ∙ stored-is
 
   pub placed-number : placed (item s p 0) ≡ x
@@ -65,7 +65,7 @@ module _ (s : Set) (p x : ℕ) (r : Node) (w : Sized r) (u : ClientWord → ℕ)
   placed-record = ap (λ (l : List ℕ). node-of (drop 1 l)) words-are ∙ node-words r w
 
   pub placed-beside : (i n : ℕ) → ¬ (i ≡ p) → placed (item s i n) ≡ u (item s i n)
-  unfolding put-item which
+  unfolding put-item
   placed-beside i n d = puts-other client-words stored u (item s p) (item s i n) (λ q l e. d (ap which e))
 
   pub placed-else : (a : ClientWord) → ¬ (family a ≡ family (item s p 0)) → placed a ≡ u a

@@ -152,7 +152,7 @@ or-assoc : (a b c : Bool) → (a || (b || c)) ≡ ((a || b) || c)
 or-assoc true b c = refl
 or-assoc false b c = refl
 
-among-more : (x y : ℕ) (us : List ℕ) → among x (us ++ (y ∷ [])) ≡ (among x us || eqb y x)
+pub among-more : (x y : ℕ) (us : List ℕ) → among x (us ++ (y ∷ [])) ≡ (among x us || eqb y x)
 unfolding among
 among-more x y [] = or-false (eqb y x)
 among-more x y (z ∷ us) = ap (λ (b : Bool). eqb z x || b) (among-more x y us) ∙ or-assoc (eqb z x) (among x us) (eqb y x)
