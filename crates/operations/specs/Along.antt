@@ -1,7 +1,9 @@
 -- What a plan ensures whatever is read: a property of its results that follows from what was asked for.
 use mathlib.Core.Path.{_≡_, subst}
 use mathlib.Core.Bool.{Bool, true, false, cond}
+use mathlib.Core.Option.{Option, some}
 use Rattle.plans.specs.Plan as P
+use Rattle.plans.specs.Walk as W
 use Rattle.operations.specs.Object.{Obj, Ask, object, vector, fetched, Val, Why, no-tree, Ans, Writes}
 use Rattle.operations.specs.Path.{Plan}
 use Rattle.operations.specs.Operation.{all-fit?, checked}
@@ -18,6 +20,10 @@ abbrev Given : (Ans → Writes → Type 0) → P.Out (Ans × Writes) Why → Typ
 Given Q (P.gives r) = Q (r .0) (r .1)
 Given Q (P.fails y) = Unit {0}
 
+abbrev Ended : (Ans → Writes → Type 0) → W.Met Ask (Ans × Writes) Why → Type 0
+Ended Q (W.lacks o) = Unit {0}
+Ended Q (W.ends e) = Given Q e
+
 module _ (A : Obj → Val → Type 0) (Q : Ans → Writes → Type 0) (rd : Ask → Bool) (S : Ask → Val) (have : (o : Obj) → rd (object o) ≡ true → A o (S (object o))) where
   given : (p : Plan) → Along A Q p → P.Asked p rd S → Given Q (P.exec p S)
   unfolding P.exec P.Asked
@@ -30,6 +36,19 @@ module _ (A : Obj → Val → Type 0) (Q : Ans → Writes → Type 0) (rd : Ask 
   -- so, where A holds of what was asked for over S, Q holds of the answer and the writes
   pub along-exec : (p : Plan) (a : Ans) (w : Writes) → Along A Q p → P.Asked p rd S → P.exec p S ≡ P.gives (a, w) → Q a w
   along-exec p a w h g e = subst (Given Q) e (given p h g)
+
+-- and so of a walk, where A holds of what is at hand
+pub along-walk : (A : Obj → Val → Type 0) (Q : Ans → Writes → Type 0) (have : Ask → Option Val) → ((o : Obj) (v : Val) → have (object o) ≡ some v → A o v)
+    → (p : Plan) (a : Ans) (w : Writes) → Along A Q p → W.walk p have ≡ W.ends (P.gives (a, w)) → Q a w
+unfolding W.walk
+along-walk A Q have g (P.ask (object o) k) a w h e =
+    let m = W.walk-met (object o) k have (P.gives (a, w)) e in along-walk A Q have g (k (m .0)) a w (h (m .0) (g o (m .0) (m .1))) (m .2)
+along-walk A Q have g (P.ask (vector s) k) a w h e =
+    let m = W.walk-met (vector s) k have (P.gives (a, w)) e in along-walk A Q have g (k (m .0)) a w (h (m .0)) (m .2)
+along-walk A Q have g (P.ask (fetched s) k) a w h e =
+    let m = W.walk-met (fetched s) k have (P.gives (a, w)) e in along-walk A Q have g (k (m .0)) a w (h (m .0)) (m .2)
+along-walk A Q have g (P.done r) a w h e = subst (Ended Q) e h
+along-walk A Q have g (P.fail y) a w h e = subst (Ended Q) e h
 
 module _ (A : Obj → Val → Type 0) (Q : Ans → Writes → Type 0) where
   -- what always holds

@@ -13,14 +13,14 @@ use Rattle.nodes.specs.Name.{name, server-of, slot-of}
 use Rattle.nodes.specs.Placement.{row}
 use Rattle.operations.specs.Object.{Obj, meta, node, flag, Ask, object, fetched, Val, root, body, taken, flags, free, no-tree, Ans, Writes, hit, written}
 use Rattle.operations.specs.Map.{Op, insert, lookup, delete, next, previous, migrate, fresh}
-use Rattle.operations.specs.Entry.{Entries, mk, mn, mx, cut, index, value-in, with-pair, next-in, previous-in}
+use Rattle.operations.specs.Entry.{Entries, mk, mn, mx, cut, index, value-in, with-pair}
 use Rattle.operations.specs.Path.{Plan, see, when-root, open-node, kid, Branch, Cont, to-leaf, down, at-root, from-root}
 use Rattle.operations.specs.Slot.{Sizes, free-slot, chosen, search, present, when-free-flag, take-flag, take-on, take-for, when-free-node, take-node, release}
-use Rattle.operations.specs.Look.{told, Visit, rightward, leftward, seek, seek-up, nearest}
 use Rattle.operations.specs.Change.{Go, with-one, parted, at-top, onward, collapsed, merged, with-right, with-left, unsnoc, left-of, neighbour, split-root, split, up, delete-at}
 use Rattle.operations.specs.Migrate.{moved, move-at, to-level, first-key, move-below, move-node, move-if}
 use Rattle.operations.specs.Operation.{reading, plan}
 use Rattle.operations.specs.Hit.{hit-eq}
+use Rattle.operations.specs.Quiet.{lookup-quiet, next-quiet, previous-quiet}
 use Rattle.operations.specs.Along.{Along, along-exec, along-checked}
 
 -- R holds of every object asked for
@@ -95,35 +95,6 @@ module _ (R : Obj → Type 0) where
     where
       on : ℕ → ℕ → Entries → Plan
       on r l es = down to-leaf key (λ _ fs n es. k fs n es) l [] r es
-
-  -- NEXT AND PREVIOUS
-  told-wrote : (o : Option ℕ) (p : Plan) → Wrote p → Wrote (told o p)
-  told-wrote none p h = h
-  told-wrote (some x) p h = tt
-
-  abbrev Visits : Visit → Type 0
-  Visits t = (f : ℕ → ℕ → Plan → Plan) → ((k n : ℕ) (p : Plan) → Wrote p → Wrote (f k n p)) → (es : Entries) (p : Plan) → Wrote p → Wrote (t f es p)
-
-  right-wrote : Visits rightward
-  right-wrote f h [] p q = q
-  right-wrote f h (e ∷ es) p q = h (e .0) (e .1) (rightward f es p) (right-wrote f h es p q)
-
-  left-wrote : Visits leftward
-  left-wrote f h [] p q = q
-  left-wrote f h (e ∷ es) p q = left-wrote f h es (f (e .0) (e .1) p) (h (e .0) (e .1) p q)
-
-  seek-wrote : (g : Entries → Option ℕ) (t : Visit) → Visits t → (l k n : ℕ) (p : Plan) → Wrote p → Wrote (seek g t l k n p)
-  seek-wrote g t tr zero k n p q = kid-wrote [] zero k n (λ es. told (g es) p) tt (λ _ es. told-wrote (g es) p q)
-  seek-wrote g t tr (suc l) k n p q = kid-wrote [] (suc l) k n (λ es. t (seek g t l) es p) tt (λ _ es. tr (seek g t l) (λ k n p q. seek-wrote g t tr l k n p q) es p q)
-
-  seek-up-wrote : (g : Entries → Option ℕ) (t : Visit) (side : Branch → Entries) → Visits t → (fs : List Branch) (l : ℕ) → Wrote (seek-up g t side l fs)
-  seek-up-wrote g t side tr [] l = tt
-  seek-up-wrote g t side tr (f ∷ fs) l =
-      tr (seek g t l) (λ k n p q. seek-wrote g t tr l k n p q) (side f) (seek-up g t side (suc l) fs) (seek-up-wrote g t side tr fs (suc l))
-
-  nearest-wrote : (g : ℕ → Entries → Option ℕ) (t : Visit) (side : Branch → Entries) (key : ℕ) → Visits t → Wrote (nearest g t side key)
-  nearest-wrote g t side key tr = root-wrote key (λ fs n es. told (g key es) (seek-up (g key) t side zero fs))
-      (λ fs n es _ _. told-wrote (g key es) (seek-up (g key) t side zero fs) (seek-up-wrote (g key) t side tr fs zero))
 
   -- SLOTS
   flag-wrote : (w : Writes) (d : ℕ) (k : Writes → Plan) → Known w → ((u : Writes) → Known u → R (flag d) → Wrote (k u)) → Wrote (take-flag w d k)
@@ -261,10 +232,10 @@ module _ (R : Obj → Type 0) where
 
   reading-wrote : (sz : Sizes) (op : Op) → Wrote (reading sz op)
   reading-wrote sz (insert k v) = root-wrote k _ (λ fs n es p r. up-wrote sz (fresh (value-in k es)) fs zero [] n (with-pair k v es) tt p r)
-  reading-wrote sz (lookup k) = root-wrote k _ (λ fs n es p r. tt)
+  reading-wrote sz (lookup k) = lookup-quiet (λ o v. R o) (λ a w. Known w) (λ a. tt) k
   reading-wrote sz (delete k) = root-wrote k _ (λ fs n es p r. delete-wrote sz fs n es (index k es) p r)
-  reading-wrote sz (next k) = nearest-wrote next-in rightward (λ f. f .post) k right-wrote
-  reading-wrote sz (previous k) = nearest-wrote previous-in leftward (λ f. f .pre) k left-wrote
+  reading-wrote sz (next k) = next-quiet (λ o v. R o) (λ a w. Known w) (λ a. tt) k
+  reading-wrote sz (previous k) = previous-quiet (λ o v. R o) (λ a w. Known w) (λ a. tt) k
   reading-wrote sz (migrate n s) = λ v a. root-then v _ (λ r. λ u q. move-if-wrote sz r n s u a q)
 
   known-written : (w : Writes) → Known w → (o : Obj) → written w o ≡ true → R o

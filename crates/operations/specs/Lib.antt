@@ -30,6 +30,9 @@ pub mod Tree
 pub mod Sound
 -- everything written was asked for
 pub mod Asked
+-- and can be stored as what it is, where everything read can
+pub mod Storable
+pub mod Storing
 -- a compared operation has read a node that is not inner
 pub mod Outer
 -- the map is a function of the snapshot
@@ -47,8 +50,9 @@ pub mod Places
 pub mod Hit
 -- what a plan ensures on a snapshot, whatever the vectors say
 pub mod Ensures
--- what it ensures whatever is read
+-- what it ensures whatever is read; lookup, next and previous write nothing
 pub mod Along
+pub mod Quiet
 -- a held tree as a path round a hole
 pub mod Focus
 -- the fewest nodes of a tree: no root of level 5
