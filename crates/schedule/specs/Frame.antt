@@ -61,6 +61,11 @@ module _ {A : Type 0} (C : Coding A) where
     only-sweep g zero m h = tt
     only-sweep g (suc n) m h = only-then (sweep C g n) (g n) m (only-sweep g n m h) (h n)
 
+    pub only-mono : (Q′ : A → ℕ → Type 0) → ((a : A) (v : ℕ) → Q a v → Q′ a v) → (ps : List (Put A)) → Only Q ps → Only Q′ ps
+    unfolding Only
+    only-mono Q′ f [] h = tt
+    only-mono Q′ f (put a v ∷ ps) h = (f a v (h .0), only-mono Q′ f ps (h .1))
+
     -- what holds before each such store and stays, holds after
     pub only-keeps : (R : (A → ℕ) → Type 0) → ((m : A → ℕ) (a : A) (v : ℕ) → Q a v → R m → R (upd (decide C) m a v))
         → (ps : List (Put A)) (m : A → ℕ) → Only Q ps → R m → R (changed C m ps)

@@ -63,3 +63,5 @@ pub mod Stage
 pub mod Lacking
 pub mod Handed
 pub mod Fetches
+-- a part in range stays so
+pub mod InRange
