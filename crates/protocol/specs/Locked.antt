@@ -8,7 +8,7 @@ use Rattle.protocol.specs.State.{Phase, idle, opened, committing, decide
 use Rattle.protocol.specs.System.{inner-before-after, Holds, LockedAt, WriteLock, Parts}
 use Rattle.protocol.specs.Invariant.{Content, Pending, Inv}
 
-decided-committed : (p : Phase) → is-decided p ≡ true → after-commit p ≡ true
+pub decided-committed : (p : Phase) → is-decided p ≡ true → after-commit p ≡ true
 decided-committed idle h = h
 decided-committed opened h = h
 decided-committed committing h = refl

@@ -59,7 +59,7 @@ module _ (T : Setting) where
   reach-inv initial = start-inv
   reach-inv (after r k) = step-inv (reach-inv r) k
 
-  due-parts : (a b e : Bool) → (a && not b && e) ≡ true → (a ≡ true) × (b ≡ false) × (e ≡ true)
+  pub due-parts : (a b e : Bool) → (a && not b && e) ≡ true → (a ≡ true) × (b ≡ false) × (e ≡ true)
   due-parts true false true h = (refl, refl, refl)
   due-parts true false false h = absurd (false≢true h)
   due-parts true true e h = absurd (false≢true h)

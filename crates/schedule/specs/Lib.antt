@@ -63,5 +63,19 @@ pub mod Stage
 pub mod Lacking
 pub mod Handed
 pub mod Fetches
+-- the kinds of steps before the decision
+pub mod Undecided
 -- a part in range stays so
 pub mod InRange
+-- an apply that is due
+pub mod Due
+-- the last apply, and the end
+pub mod Applies
+-- the last prepare, and the decision
+pub mod Decides
+-- all that are due
+pub mod Settled
+-- every kind of step
+pub mod ByKind
+-- DEMAND 3, proved
+pub mod Theorem

@@ -4,7 +4,8 @@ use mathlib.Core.Path.{_≡_, refl, ap, sym, _∙_, subst}
 use mathlib.Core.Bool.{Bool, true, false, false≢true}
 use mathlib.Core.List.{List, []}
 use mathlib.Core.Logic.{_⊎_}
-use Prim.Native.Nat.{ℕ, suc, _≤_, Fin}
+use Prim.Native.Nat.{ℕ, zero, suc, _≤_, Fin}
+use native.Mathlib.Omega.{arith}
 use native.Mathlib.Decide.{Fin-discrete}
 use Rattle.base.specs.Test.{not-both}
 use Rattle.base.specs.Update.{upd-same}
@@ -26,10 +27,20 @@ use Rattle.schedule.specs.Store.{sizes}
 use Rattle.schedule.specs.Shows.{phase-of, T, Related}
 use Rattle.schedule.specs.Aborted as A
 
--- the words of phases, at the decision and not
-pub decided-word : (n : ℕ) → n ≡ 3 → is-decided (phase-of n) ≡ true
+-- a decided transaction by its word
+pub decided-word : (n : ℕ) → 3 ≤ n → is-decided (phase-of n) ≡ true
 unfolding phase-of
-decided-word n e = ap (λ (x : ℕ). is-decided (phase-of x)) e
+decided-word zero l = absurd (omega arith)
+decided-word (suc zero) l = absurd (omega arith)
+decided-word (suc (suc zero)) l = absurd (omega arith)
+decided-word (suc (suc (suc n))) l = refl
+
+pub word-decided : (n : ℕ) → is-decided (phase-of n) ≡ true → 3 ≤ n
+unfolding phase-of
+word-decided zero e = absurd (false≢true e)
+word-decided (suc zero) e = absurd (false≢true e)
+word-decided (suc (suc zero)) e = absurd (false≢true e)
+word-decided (suc (suc (suc n))) e = omega arith
 
 module _ (k j slots : ℕ) where
   abbrev Client : Type 0
@@ -43,7 +54,7 @@ module _ (k j slots : ℕ) where
   pub record Good (m : Address → ℕ) (L : Ledger) (M : P.Machine (T k j slots)) : Type 0 where
     pub shown : Related k j slots m L M
     -- a decided transaction is in range: its applies still due can be done
-    pub decided-fits : (c : Client) → client-of m (c .0) phase ≡ 3 → client-fits (sizes k j slots) (client-of m (c .0)) ≡ true
+    pub decided-fits : (c : Client) → 3 ≤ client-of m (c .0) phase → client-fits (sizes k j slots) (client-of m (c .0)) ≡ true
     -- nothing is written to what the store hasn't
     pub outside : (s : Fin (suc k)) (o : Obj) → object-in-store (sizes k j slots) o ≡ false → M .value s o ≡ new-store o
 
@@ -62,7 +73,7 @@ module _ (k j slots : ℕ) where
 
   module _ (m m′ : Address → ℕ) (L L′ : Ledger) (M : P.Machine (T k j slots)) (c : Client) (G : Good m L M) where
     abbrev Fits : Client → Type 0
-    Fits d = client-of m′ (d .0) phase ≡ 3 → client-fits (sizes k j slots) (client-of m′ (d .0)) ≡ true
+    Fits d = 3 ≤ client-of m′ (d .0) phase → client-fits (sizes k j slots) (client-of m′ (d .0)) ≡ true
 
     -- one client's part changes
     pub still-fits : Fits c → ((d : Client) → ¬ (d ≡ c) → client-of m′ (d .0) ≡ client-of m (d .0)) → (d : Client) → Fits d
@@ -70,7 +81,7 @@ module _ (k j slots : ℕ) where
       where
         go : Dec (d ≡ c) → Fits d
         go (yes e) = subst Fits (sym e) own
-        go (no n) = subst (λ u. u phase ≡ 3 → client-fits (sizes k j slots) u ≡ true) (sym (others d n)) (G .decided-fits d)
+        go (no n) = subst (λ u. 3 ≤ u phase → client-fits (sizes k j slots) u ≡ true) (sym (others d n)) (G .decided-fits d)
 
     pub turns-good : Turns m m′ L′ M c → Explained m′ L′
     turns-good t = record {
