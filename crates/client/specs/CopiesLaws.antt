@@ -1,13 +1,17 @@
 -- How copies are put and dropped, and what a fetched object does.
-use mathlib.Core.Path.{_≡_, refl}
+use mathlib.Core.Path.{_≡_, refl, sym, ap, _∙_, subst}
 use mathlib.Core.Bool.{true, cond}
-use mathlib.Core.List.{List, [], _∷_}
-use Prim.Native.Nat.{ℕ, _-_, _/_, _≤_, _<_}
+use mathlib.Core.List.{List, [], _∷_, _++_, append-assoc, append-nil}
+use Prim.Native.Nat.{ℕ, _+_, _-_, _/_, _≤_, _<_}
 use native.Mathlib.Omega.{arith}
+use native.Mathlib.Numerals.{add-one}
 use borrow.Author.Tests.{eq-eqb, ne-eqb, le-leb, lt-leb, le-ltb}
 use lib.Dec.{eqb, leb}
-use lib.ListN.{length, replicate}
+use lib.ListN.{length, getD, take, drop, replicate, length-drop}
+use lib.Seq.{take-suc, getD-drop}
 use Rattle.memory.specs.Bit.{putBit}
+use Rattle.layout.specs.Space.{Put, changed}
+use Rattle.layout.specs.Step.{andThen, changed-append}
 use Rattle.layout.specs.Sweep.{sweep}
 use Rattle.nodes.specs.declared.node.Node.{Node}
 use Rattle.nodes.specs.declared.found.Found.{Found}
@@ -16,8 +20,10 @@ use Rattle.client.specs.declared.part.Set.the-variants.{Reads, Copies}
 use Rattle.client.specs.Layout.{ClientWord, client-words, field}
 use Rattle.client.specs.Record.{single}
 use Rattle.client.specs.Sets.{held, count, number-at, find}
-use Rattle.client.specs.Part.{Did, nothing, put-field, put-fields, put-item, put-number, drop-vector}
-use Rattle.client.specs.StepLaws.{Good, AllGood, EachGood, did-as, did-nothing, good-nothing, good-field, good-item, good-number, good-drop, good-cond, good-by, good-sweep, good-loop, did-then, did-three, find-limit, swept-all}
+use Rattle.client.specs.Lent.{InUse, used-in}
+use Rattle.client.specs.Drops.{drop-each, drop-used}
+use Rattle.client.specs.Part.{Step, Did, _then_, nothing, put-field, put-fields, put-item, put-number, drop-vector}
+use Rattle.client.specs.StepLaws.{Good, AllGood, EachGood, did-as, did-nothing, good-nothing, good-field, good-item, good-number, good-drop, good-cond, good-by, good-sweep, good-loop, good-then, did-then, did-three, find-limit, swept-all}
 use Rattle.client.specs.Enter.{enter-read}
 use Rattle.client.specs.EnterLaws.{good-read}
 use Rattle.client.specs.Copies.{to-empty, to-place, copy-node, drop-at, drop-node, drop-object, drop-read, drop-reads, empty-place, drop-all}
@@ -110,6 +116,56 @@ pub good-drop-reads : Good drop-reads
 unfolding drop-reads
 good-drop-reads = good-by (λ m. sweep client-words drop-read (count m Reads)) (λ m. good-loop drop-read (count m Reads) good-drop-read)
 
+-- ---- dropped, of objects in use
+each-more : (xs : List ℕ) (x : ℕ) (m : ClientWord → ℕ) → drop-each (xs ++ (x ∷ [])) m ≡ (drop-each xs then drop-object x) m
+unfolding drop-each andThen changed
+each-more [] x m = append-nil (drop-object x m)
+each-more (y ∷ xs) x m =
+    let a = drop-object y m in
+    let u = changed client-words m a in
+    ap (λ (ps : List (Put ClientWord)). a ++ ps) (each-more xs x u)
+    ∙ sym (append-assoc a (drop-each xs u) (drop-object x (changed client-words u (drop-each xs u))))
+    ∙ ap (λ (v : ClientWord → ℕ). (a ++ drop-each xs u) ++ drop-object x v) (sym (changed-append client-words a (drop-each xs u) m))
+
+pub good-each : (us : List ℕ) → Good (drop-each us)
+unfolding drop-each nothing
+good-each [] = good-nothing
+good-each (x ∷ us) = good-then (drop-object x) (drop-each us) (good-object x) (good-each us)
+
+-- the first i of them
+unfoldable pub drop-first : List ℕ → ℕ → Step
+drop-first u i = drop-each (take i (drop 1 u))
+
+module _ (u : List ℕ) where
+  pub each-none : (s : List ℕ) → Did (drop-first u 0) s s
+  unfolding drop-first drop-each
+  each-none s = did-nothing (drop-each []) s refl
+
+  pub each-next : (i : ℕ) (s t v : List ℕ) → InUse u → i < getD u 0 0 → 7223 ≤ length s / 8 → Did (drop-first u i) s t → Did (drop-object (getD u (i + 1) 0)) t v
+      → Did (drop-first u (i + 1)) s v
+  unfolding drop-first
+  each-next i s t v f h l p q =
+      let k : length (drop 1 u) ≡ length u - 1 = length-drop 1 u in
+      let g : i < length (drop 1 u) = omega (arith, f .long, f .few) in
+      let x : getD (drop 1 u) i 0 ≡ getD u (i + 1) 0 = rw getD-drop (ap (λ (j : ℕ). getD u j 0) (omega arith)) in
+      let y : take (i + 1) (drop 1 u) ≡ take i (drop 1 u) ++ (getD u (i + 1) 0 ∷ []) =
+      ap (λ (j : ℕ). take j (drop 1 u)) (add-one i) ∙ take-suc (drop 1 u) i 0 g ∙ ap (λ (z : ℕ). take i (drop 1 u) ++ (z ∷ [])) x in
+      did-as (drop-each (take i (drop 1 u)) then drop-object (getD u (i + 1) 0)) (drop-each (take (i + 1) (drop 1 u))) s v
+      (rw y (each-more (take i (drop 1 u)) (getD u (i + 1) 0) (held s)))
+      (did-then (drop-each (take i (drop 1 u))) (drop-object (getD u (i + 1) 0)) s t v l (good-each (take i (drop 1 u))) p q)
+
+  pub each-all : (i n : ℕ) (s t : List ℕ) → i ≤ n → n ≤ i → n ≡ getD u 0 0 → Did (drop-first u i) s t → Did (drop-each (used-in u)) s t
+  unfolding used-in drop-first
+  each-all i n s t a b e p = let z : i ≡ getD u 0 0 = omega arith in subst (λ (j : ℕ). Did (drop-each (take j (drop 1 u))) s t) z p
+
+pub good-drop-used : (us : List ℕ) → Good (drop-used us)
+unfolding drop-used
+good-drop-used us = good-then drop-reads (drop-each us) good-drop-reads (good-each us)
+
+pub used-dropped : (us s t u : List ℕ) → 7223 ≤ length s / 8 → Did drop-reads s t → Did (drop-each us) t u → Did (drop-used us) s u
+unfolding drop-used
+used-dropped us s t u l p q = did-then drop-reads (drop-each us) s t u l good-drop-reads p q
+
 pub place-emptied : (s t : List ℕ) (i : ℕ) → Did (put-number Copies i 0) s t → Did (empty-place i) s t
 unfolding empty-place
 place-emptied s t i p = p
@@ -151,9 +207,8 @@ unfolding reset
 was-reset s t u v phase l p q r =
     did-three (put-field 0 phase) (put-field 1 0) (put-fields 5 (replicate 7 0)) s t u v l (good-field 0 phase (omega arith)) (good-field 1 0 (omega arith)) p q r
 
-pub was-aborted : (s t u : List ℕ) → 7223 ≤ length s / 8 → Did drop-reads s t → Did (reset 0) t u → Did abort s u
-unfolding abort
-was-aborted s t u l p q = did-then drop-reads (reset 0) s t u l good-drop-reads p q
+pub was-aborted : (us s t u : List ℕ) → 7223 ≤ length s / 8 → Did (drop-used us) s t → Did (reset 0) t u → Did (abort us) s u
+was-aborted us s t u l p q = did-then (drop-used us) (reset 0) s t u l (good-drop-used us) p q
 
 pub was-lost : (s t u : List ℕ) → 7223 ≤ length s / 8 → Did (put-field 9 1) s t → Did drop-all t u → Did lose s u
 unfolding lose

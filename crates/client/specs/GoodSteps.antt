@@ -15,8 +15,9 @@ use Rattle.client.specs.StepLaws.{Good, good-then, good-nothing, good-fi
 use Rattle.client.specs.Lent.{Entry}
 use Rattle.client.specs.Enter.{enter-read, enter-nth, enter-used, enter-write, enter-entries}
 use Rattle.client.specs.EnterLaws.{good-read, good-nth, good-write}
-use Rattle.client.specs.Copies.{copy-node, empty-place, drop-reads, drop-all}
-use Rattle.client.specs.CopiesLaws.{good-copy, good-empty, good-vectors, good-drop-reads}
+use Rattle.client.specs.Copies.{copy-node, empty-place, drop-all}
+use Rattle.client.specs.Drops.{drop-used}
+use Rattle.client.specs.CopiesLaws.{good-copy, good-empty, good-vectors, good-drop-used}
 use Rattle.client.specs.Fetched.{fetched-meta, copy-inner, fetched-node, mark-fetched, fetched-vector}
 use Rattle.client.specs.Life.{reset, give, abort, lose}
 use Rattle.client.specs.Renew.{renew-kept, finish}
@@ -68,9 +69,8 @@ pub good-give : (op key value server : ℕ) → Good (give op key value server)
 unfolding give
 good-give op key value server = good-fields 1 (op ∷ key ∷ value ∷ server ∷ []) (omega arith)
 
-pub good-abort : Good abort
-unfolding abort
-good-abort = good-then drop-reads (reset 0) good-drop-reads (good-reset 0)
+pub good-abort : (us : List ℕ) → Good (abort us)
+good-abort us = good-then (drop-used us) (reset 0) (good-drop-used us) (good-reset 0)
 
 pub good-lose : Good lose
 unfolding lose

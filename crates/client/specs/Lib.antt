@@ -18,6 +18,7 @@ pub mod Look
 -- objects enter the sets; copies kept and dropped; what is fetched
 pub mod Enter
 pub mod Copies
+pub mod Drops
 pub mod Fetched
 -- a transaction's life; participants and what a server has to know; refusal 10; renewal of copies
 pub mod Life
@@ -28,9 +29,8 @@ pub mod Renew
 pub mod Items
 pub mod Participants
 pub mod Course
--- what enters the sets with the answer; copies dropped; the work step
+-- what enters the sets with the answer; the work step
 pub mod Answered
-pub mod Drops
 pub mod Work
 -- the definitions tried on closed examples
 pub mod Samples

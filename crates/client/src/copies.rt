@@ -14,6 +14,8 @@ ghost use lib.ListN.{length};
 ghost use Rattle.layout.specs.Sweep.{sweep};
 ghost use Rattle.client.specs.Layout.{client-words};
 ghost use Rattle.client.specs.Part.{Did, drop-vector};
+ghost use Rattle.client.specs.Lent.{InUse, used-in};
+ghost use Rattle.client.specs.Drops.{drop-each, drop-used};
 ghost use Rattle.client.specs.Copies.{copy-node, drop-node, drop-object, drop-read, drop-reads, empty-place, drop-all};
 
 // A node's copy, where it has a place or one is empty.
@@ -75,7 +77,7 @@ fn drop_read(part: &mut [u8], i: usize)
 }
 
 // The copies of all objects read.
-pub fn drop_reads(part: &mut [u8])
+fn drop_reads(part: &mut [u8])
     requires { ⌜ 7223 ≤ length (now part) / 8 ⌝ }
     ensures { λ _. ⌜ Did drop-reads (now (part .entry)) (now (part .exit)) ⌝ }
 {
@@ -85,6 +87,28 @@ pub fn drop_reads(part: &mut [u8])
         drop_read(part, i);
         i += 1;
     }
+}
+
+// The copies of the objects in use.
+fn drop_each(part: &mut [u8], used: &[u64])
+    requires { ⌜ InUse (now used) × (7223 ≤ length (now part) / 8) ⌝ }
+    ensures { λ _. ⌜ Did (drop-each (used-in (now (used .entry)))) (now (part .entry)) (now (part .exit)) ⌝ }
+{
+    let n = used[0] as usize;
+    let mut i: usize = 0;
+    while i < n {
+        drop_object(part, used[i + 1]);
+        i += 1;
+    }
+}
+
+// The copies of all objects read, those in use included.
+pub fn drop_used(part: &mut [u8], used: &[u64])
+    requires { ⌜ InUse (now used) × (7223 ≤ length (now part) / 8) ⌝ }
+    ensures { λ _. ⌜ Did (drop-used (used-in (now (used .entry)))) (now (part .entry)) (now (part .exit)) ⌝ }
+{
+    drop_reads(part);
+    drop_each(part, used);
 }
 
 fn drop_nodes(part: &mut [u8])

@@ -1,11 +1,12 @@
 // The life of a transaction: begun, given an operation, ended, lost.
 use crate::copies::drop_all;
-use crate::copies::drop_reads;
+use crate::copies::drop_used;
 use crate::part::set_field;
 use crate::part::set_fields;
 ghost use Prim.Native.Nat.{_/_, _≤_};
 ghost use lib.ListN.{length};
 ghost use Rattle.client.specs.Part.{Did};
+ghost use Rattle.client.specs.Lent.{InUse, used-in};
 ghost use Rattle.client.specs.Life.{reset, give, abort, lose};
 
 // A transaction begins (1), or has ended (0).
@@ -28,12 +29,12 @@ pub fn give(part: &mut [u8], op: u64, key: u64, value: u64, server: u64)
     set_fields(part, 1, &fields);
 }
 
-// The transaction ends without effect.
-pub fn abort(part: &mut [u8])
-    requires { ⌜ 7223 ≤ length (now part) / 8 ⌝ }
-    ensures { λ _. ⌜ Did abort (now (part .entry)) (now (part .exit)) ⌝ }
+// The transaction ends without effect; the copies in use are those of this step.
+pub fn abort(part: &mut [u8], used: &[u64])
+    requires { ⌜ InUse (now used) × (7223 ≤ length (now part) / 8) ⌝ }
+    ensures { λ _. ⌜ Did (abort (used-in (now (used .entry)))) (now (part .entry)) (now (part .exit)) ⌝ }
 {
-    drop_reads(part);
+    drop_used(part, used);
     reset(part, 0);
 }
 

@@ -32,7 +32,7 @@ use Rattle.client.specs.Fits.{client-fits}
 use Rattle.client.specs.Answered.{used-enter, answered}
 use Rattle.client.specs.Fetched.{fetched-meta, fetched-node, fetched-vector}
 use Rattle.client.specs.Participants.{participants-of, committing, at-home}
-use Rattle.client.specs.Drops.{next-version, as-copy, drop-used}
+use Rattle.client.specs.Drops.{next-version, as-copy}
 use Rattle.client.specs.Renew.{finish}
 use Rattle.client.specs.Copies.{drop-all}
 use Rattle.client.specs.Life as Life
@@ -159,7 +159,7 @@ module _ (z : Sizes) (m : Address → ℕ) (c : ℕ) where
       at-servers (z .servers) (λ s. cond (bit (mine prepared) s) (in-server s (unlock-each mine c (lowest z m c) s)) [])
 
   abbrev pub aborting : List ℕ → List (Put Address)
-  aborting us = unlocked-everywhere ++ in-client (andThen client-words (drop-used us) (Life.reset 0))
+  aborting us = unlocked-everywhere ++ in-client (Life.abort us)
 
   unfoldable pub abort : ℕ → List ℕ → Did
   abort y us = if-fit (abort-fits z m c) (did (Aborted y) (aborting us))
