@@ -1,22 +1,20 @@
 -- The ways out of the functions on a commit.
 use mathlib.Core.Path.{_≡_, refl, sym, ap, _∙_}
-use mathlib.Core.Bool.{Bool, true, false, not}
-use Prim.Native.Nat.{ℕ, zero, suc, _+_, _-_, _*_, _/_, _%_, _^_, _≤_, _<_}
+use mathlib.Core.Bool.{Bool, true, false, not, _||_}
+use Prim.Native.Nat.{ℕ, zero, suc, _+_, _-_, _≤_, _<_}
 use native.Mathlib.Omega.{arith}
 use native.Mathlib.Numerals.{add-one}
-use borrow.Author.Tests.{eq-eqb, ne-eqb, le-leb, lt-leb, lt-ltb, le-ltb, not-true, not-false}
+use borrow.Author.Tests.{eq-eqb, ne-eqb, le-leb, lt-leb, not-true, not-false}
 use lib.Dec.{eqb}
-use lib.Pow.{pow-lt}
-use Rattle.memory.specs.Bit.{bit, digit, putBit}
-use Rattle.nodes.specs.declared.found.Found.{Found}
-use Rattle.nodes.specs.declared.found.Found.the-variants.{At, Absent}
+use Rattle.memory.specs.Bit.{putBit}
+use Rattle.nodes.specs.declared.node.Node.{Node}
 use Rattle.client.specs.declared.part.Set.{Set}
 use Rattle.client.specs.declared.part.Set.the-variants.{Reads, Writes}
-use Rattle.client.specs.declared.commit.Use.{Use}
 use Rattle.client.specs.Layout.{ClientWord, item}
-use Rattle.client.specs.Sets.{count, number-at, find}
-use Rattle.client.specs.FindLaws.{Searched, none-searched, not-here, found-here, all-searched}
-use Rattle.client.specs.Commit.{all-of, is-at, inner-at, inner-of, has-home, home, with-home, homes, stays-home, participants-of, use-of, lowest}
+use Rattle.client.specs.Sets.{count, number-at, record-at}
+use Rattle.client.specs.Commit.{all-of, inner-at}
+use Rattle.client.specs.Items.{any-below, inner, inner-before-after}
+use Rattle.client.specs.Participants.{mask, at-home, calls-home, calls-all, takes-part, participants-of}
 
 -- ---- all below a number
 pub record Sofar (f : ℕ → Bool) (n i : ℕ) : Type 0 where
@@ -62,121 +60,71 @@ module _ (m : ClientWord → ℕ) (s : Set) (i x : ℕ) (e : x ≡ number-at m s
   unfolding inner-at
   inner-flag d h = rw (← e, ne-eqb _ _ d, lt-leb _ _ h)
 
-module _ (m : ClientWord → ℕ) (s : Set) (x : ℕ) (g : Found) (f : g ≡ find m s x) where
-  pub inner-there : (i : ℕ) (r : Bool) → g ≡ At i → r ≡ inner-at m s i → r ≡ inner-of m s x
-  unfolding inner-of
-  inner-there i r e p = rw (← f, e) p
+-- ---- any below a number
+module _ (f : ℕ → Bool) where
+  pub any-none : any-below 0 f ≡ false
+  unfolding any-below
+  any-none = refl
 
-  pub inner-absent : g ≡ Absent → false ≡ inner-of m s x
-  unfolding inner-of
-  inner-absent e = rw (← f, e)
+  pub any-next : (i : ℕ) (b : Bool) → any-below i f ≡ false → b ≡ f i → b ≡ false → any-below (i + 1) f ≡ false
+  unfolding any-below
+  any-next i b h e t = let q : f i ≡ false = sym e ∙ t in rw (add-one i, h, q)
 
--- ---- homes
-module _ (m : ClientWord → ℕ) (i x w : ℕ) (e : x ≡ number-at m Reads i) where
-  pub home-meta : x ≡ 0 → w ≡ with-home m i w
-  unfolding with-home has-home
-  home-meta d = rw (← e, eq-eqb _ _ d)
+  stays-true : (i k : ℕ) → f i ≡ true → any-below (suc i + k) f ≡ true
+  unfolding any-below
+  stays-true i zero h = let e : suc i + 0 ≡ suc i = omega arith in rw (e, h) (go (any-below i f))
+    where
+      go : (b : Bool) → (b || true) ≡ true
+      go true = refl
+      go false = refl
+  stays-true i (suc k) h = let e : suc i + suc k ≡ suc (suc i + k) = omega arith in rw (e, stays-true i k h)
 
-  module _ (d : x ≡ 0 → ⊥) where
-    module _ (k : ℕ) (h : x ≤ 8192) (p : k ≡ m (item Reads i 1)) where
-      pub home-inner : k ≡ 2 → w ≡ with-home m i w
-      unfolding with-home has-home
-      home-inner q = rw (← e, ne-eqb _ _ d, le-leb _ _ h, ← p, eq-eqb _ _ q)
+  pub any-here : (i n : ℕ) (b : Bool) → i < n → b ≡ f i → b ≡ true → true ≡ any-below n f
+  any-here i n b l e t = let q : n ≡ suc i + (n - suc i) = omega arith in sym (rw q (stays-true i (n - suc i) (sym e ∙ t)))
 
-      pub home-node : (r : ℕ) → (k ≡ 2 → ⊥) → r ≡ putBit true w ((x - 1) / 1024) → r ≡ with-home m i w
-      unfolding with-home has-home home
-      home-node r q t = rw (← e, ne-eqb _ _ d, le-leb _ _ h, ← p, ne-eqb _ _ q) t
+  pub any-absent : (i n : ℕ) → i ≤ n → n ≤ i → any-below i f ≡ false → false ≡ any-below n f
+  any-absent i n l g h = let e : n ≡ i = omega arith in sym (rw e h)
 
-    module _ (h : 8192 < x) where
-      pub home-flag : (r : ℕ) → (x - 8193) / 1024 < 8 → r ≡ putBit true w ((x - 8193) / 1024) → r ≡ with-home m i w
-      unfolding with-home has-home home
-      home-flag r l t = rw (← e, ne-eqb _ _ d, lt-leb _ _ h, lt-ltb _ _ l) t
+-- ---- who takes part
+pub with-all : (all b : Bool) → all ≡ true → true ≡ (all || b)
+with-all all b e = sym (rw e)
 
-      pub home-beyond : 8 ≤ (x - 8193) / 1024 → w ≡ with-home m i w
-      unfolding with-home has-home
-      home-beyond l = rw (← e, ne-eqb _ _ d, lt-leb _ _ h, le-ltb _ _ l)
+pub by-home : (all b r : Bool) → all ≡ false → r ≡ b → r ≡ (all || b)
+by-home all b r e h = h ∙ sym (rw e)
 
--- i of the n objects read are counted
-pub record Homing (m : ClientWord → ℕ) (n w i : ℕ) : Type 0 where
-  pub within : i ≤ n
-  pub is : n ≡ count m Reads
-  pub most : n ≤ 96
-  pub so-far : w ≡ homes m i
+pub is-marked : (w i r : ℕ) (b t : Bool) → b ≡ t → r ≡ putBit t w i → r ≡ putBit b w i
+is-marked w i r b t e h = h ∙ sym (rw e)
 
-module _ (m : ClientWord → ℕ) (n : ℕ) where
-  pub homing-none : n ≡ count m Reads → n ≤ 96 → Homing m n 0 0
-  unfolding homes
-  homing-none c l = record { within = omega arith; is = c; most = l; so-far = refl }
+pub one-calls : (n : ℕ) (r : Bool) (f : ℕ → Bool) (k : ℕ) → n ≡ k → r ≡ any-below n f → r ≡ any-below k f
+one-calls n r f k e h = h ∙ rw e
 
-  pub homing-next : (w w′ i : ℕ) → i < n → w′ ≡ with-home m i w → Homing m n w i → Homing m n w′ (i + 1)
-  unfolding homes
-  homing-next w w′ i h e c = record { within = omega arith; is = c .is; most = c .most; so-far = rw (add-one, homes, ← c .so-far) e }
+module _ (m : ClientWord → ℕ) where
+  pub all-called : (i x : ℕ) (r : Bool) → x ≡ number-at m Writes i → r ≡ inner-before-after m x → r ≡ calls-all m i
+  all-called i x r e h = h ∙ ap (inner-before-after m) e
 
-  pub homing-all : (w i : ℕ) → n ≤ i → Homing m n w i → w ≡ homes m (count m Reads)
-  homing-all w i h c = let z : i ≡ n = omega (arith, c .within) in rw (← c .is, ← z) (c .so-far)
+  module _ (s i x : ℕ) (n : Node) (b : Bool) (e : x ≡ number-at m Reads i) (q : n ≡ record-at m Reads i) (h : b ≡ inner x n) where
+    same-inner : b ≡ inner (number-at m Reads i) (record-at m Reads i)
+    same-inner = h ∙ rw (e, q)
 
--- ---- writes
-module _ (m : ClientWord → ℕ) (i x : ℕ) (e : x ≡ number-at m Writes i) where
-  pub stays-meta : x ≡ 0 → false ≡ stays-home m i
-  unfolding stays-home
-  stays-meta d = rw (← e, eq-eqb _ _ d)
+    pub home-not-called : b ≡ true → false ≡ calls-home m s i
+    home-not-called t = sym (rw (← same-inner, t))
 
-  module _ (d : x ≡ 0 → ⊥) where
-    module _ (b : Bool) (h : x ≤ 8192) (p : b ≡ inner-at m Writes i) where
-      pub stays-inner : b ≡ true → false ≡ stays-home m i
-      unfolding stays-home
-      stays-inner t = let z : inner-at m Writes i ≡ true = sym p ∙ t in rw (← e, ne-eqb _ _ d, le-leb _ _ h, z)
+    pub home-called : (r : Bool) → b ≡ false → r ≡ at-home s x → r ≡ calls-home m s i
+    home-called r t p = p ∙ ap (at-home s) e ∙ sym (rw (← same-inner, t))
 
-      pub stays-node : (c : Bool) → b ≡ false → c ≡ inner-of m Reads x → not c ≡ stays-home m i
-      unfolding stays-home
-      stays-node c t q = let z : inner-at m Writes i ≡ false = sym p ∙ t in rw (← e, ne-eqb _ _ d, le-leb _ _ h, z, q)
+  -- the servers below s
+  unfoldable pub taking : ℕ → ℕ
+  taking s = mask s (takes-part m)
 
-    pub stays-flag : 8192 < x → true ≡ stays-home m i
-    unfolding stays-home
-    stays-flag h = rw (← e, ne-eqb _ _ d, lt-leb _ _ h)
+  pub taking-none : 0 ≡ taking 0
+  unfolding taking mask
+  taking-none = refl
 
-module _ (m : ClientWord → ℕ) (k : ℕ) (b : Bool) (e : b ≡ all-of (stays-home m) (count m Writes)) where
-  pub some-take-part : (r : ℕ) → b ≡ true → r ≡ homes m (count m Reads) → r ≡ participants-of m k
-  unfolding participants-of
-  some-take-part r t p = let z : all-of (stays-home m) (count m Writes) ≡ true = sym e ∙ t in rw z p
+  pub taking-next : (s w w′ : ℕ) (all b : Bool) → b ≡ (all || any-below (count m Reads) (calls-home m s)) → w′ ≡ putBit b w s
+      → w ≡ taking s → all ≡ any-below (count m Writes) (calls-all m) → w′ ≡ taking (s + 1)
+  unfolding taking mask
+  taking-next s w w′ all b h p e a = p ∙ rw (h, a, e, add-one s)
 
-  pub all-take-part : b ≡ false → k ≤ 8 → 1 * 2 ^ k % 18446744073709551616 - 1 ≡ participants-of m k
-  unfolding participants-of
-  all-take-part t h =
-      let z : all-of (stays-home m) (count m Writes) ≡ false = sym e ∙ t in
-      let g : 2 ^ k < 2 ^ 64 = pow-lt {j = 64} (omega arith) in
-      let q : 1 * 2 ^ k % 18446744073709551616 - 1 ≡ 2 ^ k - 1 = omega arith in
-      rw z q
-
-pub use-made : (m : ClientWord → ℕ) (i x v f : ℕ) (a b c : Bool) (g : Found) → x ≡ number-at m Reads i → v ≡ m (item Reads i 3) → f ≡ m (item Reads i 19)
-    → a ≡ inner-at m Reads i → g ≡ find m Writes x → b ≡ is-at g → c ≡ inner-of m Writes x
-    → _≡_ {A = Use} (record { number = x; version = v; first = f; inner = a; written = b; becomes = c }) (use-of m i)
-unfolding use-of
-use-made m i x v f a b c g p q r s t u w = rw (← p, ← q, ← r, ← s, ← t, ← u, ← w)
-
--- ---- the lowest server
-bit-is : (b : Bool) → b ≡ true → digit b ≡ 1
-bit-is b e = rw e
-
-bit-not : (b : Bool) → b ≡ false → digit b ≡ 1 → ⊥
-bit-not b e p = absurd (let z : 0 ≡ 1 = sym (ap digit e) ∙ p in omega arith)
-
-unfoldable pub bit-at : ℕ → ℕ → ℕ
-bit-at w s = digit (bit w s)
-
-module _ (w : ℕ) where
-  pub low-none : Searched (bit-at w) 8 1 0
-  low-none = none-searched (bit-at w) 8 1
-
-  module _ (s : ℕ) (b : Bool) (h : s < 8) (e : b ≡ bit w s) (t : Searched (bit-at w) 8 1 s) where
-    pub low-next : b ≡ false → Searched (bit-at w) 8 1 (s + 1)
-    unfolding bit-at
-    low-next d = not-here (bit-at w) 8 1 s h (bit-not (bit w s) (sym e ∙ d)) t
-
-    pub low-here : b ≡ true → At s ≡ lowest w
-    unfolding lowest bit-at
-    low-here d = found-here (bit-at w) 8 1 s h (bit-is (bit w s) (sym e ∙ d)) t
-
-  pub low-absent : (s : ℕ) → 8 ≤ s → Searched (bit-at w) 8 1 s → Absent ≡ lowest w
-  unfolding lowest bit-at
-  low-absent s h t = all-searched (bit-at w) 8 1 s h t
+  pub taking-all : (s n w : ℕ) → s ≤ n → n ≤ s → w ≡ taking s → w ≡ participants-of m n
+  unfolding taking participants-of
+  taking-all s n w l g e = let q : s ≡ n = omega arith in e ∙ rw q

@@ -35,6 +35,10 @@ module _ (m : ClientWord → ℕ) where
   of-record s f (At i) = f (record-at m s i)
   of-record s f Absent = false
 
+  -- is the object inner in the set
+  unfoldable pub inner-in : Set → ℕ → Bool
+  inner-in s x = of-record s (inner x) (find m s x)
+
   -- "inner before or after": as read or as written
   unfoldable pub inner-before-after : ℕ → Bool
-  inner-before-after x = of-record Reads (inner x) (find m Reads x) || of-record Writes (inner x) (find m Writes x)
+  inner-before-after x = inner-in Reads x || inner-in Writes x

@@ -20,7 +20,7 @@ pub mod Enter
 pub mod Copies
 pub mod Drops
 pub mod Fetched
--- a transaction's life; participants and what a server has to know; refusal 10; renewal of copies
+-- a transaction's life; tests of its sets; refusal 10; renewal of copies
 pub mod Life
 pub mod Commit
 pub mod Fits
@@ -43,6 +43,7 @@ pub mod StepLaws
 pub mod VectorLaws
 pub mod EnterLaws
 pub mod CopiesLaws
+pub mod ItemLaws
 pub mod CommitLaws
 pub mod FitsLaws
 pub mod RenewLaws

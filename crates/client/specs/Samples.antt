@@ -4,13 +4,16 @@ use mathlib.Core.Bool.{cond}
 use mathlib.Core.List.{List, [], _∷_}
 use Prim.Native.Nat.{ℕ}
 use Rattle.layout.specs.Block.{size, offset}
-use Rattle.layout.specs.Space.{at, same}
-use Rattle.memory.specs.Bit.{bit, putBit}
+use Rattle.layout.specs.Space.{at, same, tab}
+use Rattle.memory.specs.Bit.{putBit}
+use Rattle.nodes.specs.Stored.{node-of}
 use Rattle.nodes.specs.declared.found.Found.the-variants.{At, Absent}
 use Rattle.client.specs.declared.part.Set.the-variants.{Reads, Writes, Copies}
 use Rattle.client.specs.Layout.{ClientWord, client-words, client-block, client-code, client-size, item, vector-word}
-use Rattle.client.specs.Sets.{first-of, count, number-at, find}
-use Rattle.client.specs.Commit.{all-of, inner-at, inner-of, has-home, home, with-home, homes, stays-home, participants-of, lowest}
+use Rattle.client.specs.Sets.{first-of, count, number-at, record-at, find}
+use Rattle.client.specs.Commit.{inner-at}
+use Rattle.client.specs.Items.{any-below, inner, inner-in, inner-before-after}
+use Rattle.client.specs.Participants.{mask, at-home, participants-of}
 use Rattle.client.specs.Renew.{rank, with-inner, inner-below}
 
 -- what stands at some places, and 0 elsewhere
@@ -35,12 +38,8 @@ find-sample = (refl, refl)
 
 -- the leaf's home, server 1, takes part; all three servers, where the leaf becomes inner
 pub participants-sample : (participants-of (part-with 1) 3 ≡ 2) × (participants-of (part-with 2) 3 ≡ 7)
-unfolding participants-of all-of stays-home inner-at inner-of homes with-home has-home home find first-of count number-at putBit
+unfolding participants-of mask at-home any-below inner inner-in inner-before-after find first-of count number-at record-at node-of tab putBit
 participants-sample = (refl, refl)
-
-pub lowest-sample : (lowest 6 ≡ At 1) × (lowest 0 ≡ Absent)
-unfolding lowest first-of bit
-lowest-sample = (refl, refl)
 
 -- the only written inner node is the first by name; a leaf has no rank
 pub rank-sample : (rank (part-with 2) 0 ≡ 1) × (rank (part-with 1) 0 ≡ 0)

@@ -5,6 +5,7 @@ pub mod copies;
 pub mod enter;
 pub mod fetched;
 pub mod fits;
+pub mod items;
 pub mod life;
 pub mod lookup;
 pub mod own;

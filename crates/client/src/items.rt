@@ -1,0 +1,73 @@
+// What a transaction has read and written, object by object.
+use crate::part::Set;
+use crate::part::find;
+use crate::part::record_at;
+use nodes::found::Found;
+use nodes::node::Node;
+ghost use mathlib.Core.Path.{_≡_};
+ghost use Prim.Native.Nat.{_/_, _≤_};
+ghost use lib.ListN.{length};
+ghost use Rattle.client.specs.Sets.{held};
+ghost use Rattle.client.specs.Items.{inner, has, inner-in, inner-before-after};
+ghost use Rattle.client.specs.Participants.{at-home};
+
+// "metadata and inner nodes": is the object of that number one of them, with that record?
+pub fn is_inner(number: u64, node: Node) -> bool
+    ensures { λ r. ⌜ r ≡ inner number node ⌝ }
+{
+    if number == 0 {
+        return true;
+    }
+    if number <= 8192 {
+        return node.kind == 2;
+    }
+    false
+}
+
+// Is there an item of the object in the set?
+pub fn has(part: &[u8], set: Set, number: u64) -> bool
+    requires { ⌜ 7223 ≤ length (now part) / 8 ⌝ }
+    ensures { λ r. ⌜ r ≡ has (held (now (part .entry))) set number ⌝ }
+{
+    let at = find(part, set, number);
+    match at {
+        Found::At(_) => true,
+        Found::Absent => false,
+    }
+}
+
+// Is there one, and is the object inner in it?
+pub fn inner_in(part: &[u8], set: Set, number: u64) -> bool
+    requires { ⌜ 7223 ≤ length (now part) / 8 ⌝ }
+    ensures { λ r. ⌜ r ≡ inner-in (held (now (part .entry))) set number ⌝ }
+{
+    let at = find(part, set, number);
+    match at {
+        Found::At(i) => is_inner(number, record_at(part, set, i)),
+        Found::Absent => false,
+    }
+}
+
+// "inner before or after": as read or as written.
+pub fn inner_before_after(part: &[u8], number: u64) -> bool
+    requires { ⌜ 7223 ≤ length (now part) / 8 ⌝ }
+    ensures { λ r. ⌜ r ≡ inner-before-after (held (now (part .entry))) number ⌝ }
+{
+    if inner_in(part, Set::Reads, number) {
+        return true;
+    }
+    inner_in(part, Set::Writes, number)
+}
+
+// The home of the object with that number; the metadata is on every server.
+pub fn is_home(server: u64, number: u64) -> bool
+    ensures { λ r. ⌜ r ≡ at-home server number ⌝ }
+{
+    if number == 0 {
+        return true;
+    }
+    if number <= 8192 {
+        return (number - 1) / 1024 == server;
+    }
+    (number - 8193) / 1024 == server
+}
