@@ -1,5 +1,5 @@
 -- The ways out of the functions on items.
-use mathlib.Core.Path.{_≡_, sym, _∙_}
+use mathlib.Core.Path.{_≡_, sym, ap, _∙_}
 use mathlib.Core.Bool.{Bool, true, false, _||_}
 use Prim.Native.Nat.{ℕ}
 use Rattle.nodes.specs.declared.node.Node.{Node}
@@ -9,6 +9,7 @@ use Rattle.client.specs.declared.part.Set.{Set}
 use Rattle.client.specs.declared.part.Set.the-variants.{Reads, Writes}
 use Rattle.client.specs.Layout.{ClientWord}
 use Rattle.client.specs.Sets.{record-at, find}
+use Rattle.client.specs.Drops.{version-of}
 use Rattle.client.specs.Items.{inner, has, inner-in, inner-before-after}
 
 module _ (m : ClientWord → ℕ) (s : Set) (x : ℕ) (f : Found) (e : f ≡ find m s x) where
@@ -36,3 +37,11 @@ module _ (m : ClientWord → ℕ) (x : ℕ) (b : Bool) (e : b ≡ inner-in m Rea
   pub inner-after : (r : Bool) → b ≡ false → r ≡ inner-in m Writes x → r ≡ inner-before-after m x
   unfolding inner-before-after
   inner-after r t h = h ∙ sym (rw (← e, t))
+
+-- ---- versions
+module _ (m : ClientWord → ℕ) (x : ℕ) (f : Found) (e : f ≡ find m Reads x) where
+  pub version-there : (i : ℕ) (n : Node) → f ≡ At i → n ≡ record-at m Reads i → n .version ≡ version-of m (find m Reads x)
+  version-there i n q p = ap (λ (r : Node). r .version) p ∙ sym (ap (version-of m) (sym e ∙ q))
+
+  pub version-absent : f ≡ Absent → 0 ≡ version-of m (find m Reads x)
+  version-absent q = sym (ap (version-of m) (sym e ∙ q))

@@ -7,7 +7,9 @@ use nodes::node::Node;
 ghost use mathlib.Core.Path.{_≡_};
 ghost use Prim.Native.Nat.{_/_, _≤_};
 ghost use lib.ListN.{length};
-ghost use Rattle.client.specs.Sets.{held};
+ghost use Rattle.client.specs.declared.part.Set.the-variants.{Reads};
+ghost use Rattle.client.specs.Sets.{held, find};
+ghost use Rattle.client.specs.Drops.{version-of};
 ghost use Rattle.client.specs.Items.{inner, has, inner-in, inner-before-after};
 ghost use Rattle.client.specs.Participants.{at-home};
 
@@ -70,4 +72,19 @@ pub fn is_home(server: u64, number: u64) -> bool
         return (number - 1) / 1024 == server;
     }
     (number - 8193) / 1024 == server
+}
+
+// The version of an object as it was read.
+pub fn version_read(part: &[u8], number: u64) -> u64
+    requires { ⌜ 7223 ≤ length (now part) / 8 ⌝ }
+    ensures { λ r. ⌜ r ≡ version-of (held (now (part .entry))) (find (held (now (part .entry))) Reads number) ⌝ }
+{
+    let at = find(part, Set::Reads, number);
+    match at {
+        Found::At(i) => {
+            let read = record_at(part, Set::Reads, i);
+            read.version
+        }
+        Found::Absent => 0,
+    }
 }

@@ -5,7 +5,7 @@ use mathlib.Core.List.{List, [], _∷_, _++_}
 use Prim.Native.Nat.{ℕ, zero, suc, _+_, _/_, _≤_, _<_}
 use native.Mathlib.Omega.{arith}
 use native.Mathlib.Numerals.{add-one}
-use lib.ListN.{length}
+use lib.ListN.{length, replicate}
 use Rattle.memory.specs.Word.{view}
 use Rattle.memory.specs.WordLaws.{view-length}
 use Rattle.memory.specs.Bit.{bit}
@@ -19,18 +19,24 @@ use Rattle.client.specs.declared.part.Set.the-variants.{Reads}
 use Rattle.client.specs.Layout.{ClientWord, field}
 use Rattle.client.specs.Sets.{count, number-at}
 use Rattle.steps.specs.declared.sizes.Sizes.{Sizes}
+use Rattle.steps.specs.declared.outcome.Outcome.{Outcome}
+use Rattle.steps.specs.declared.outcome.Outcome.the-variants.{Refused, Aborted}
 use Rattle.engine.specs.declared.locks.Change.{Change}
 use Rattle.engine.specs.declared.locks.Change.the-variants.{Lock, Unlock}
 use Rattle.steps.specs.Whole.{Address, server, client, whole, block, words-for}
 use Rattle.steps.specs.Stores.{client-of, server-of, server-clients, server-else}
 use Rattle.steps.specs.Uses.{item-of, locked-at}
-use Rattle.steps.specs.Judge.{lowest}
+use Rattle.steps.specs.Judge.{lowest, abort-fits}
 use Rattle.client.specs.Participants.{lowest-of}
-use Rattle.steps.specs.Steps.{at-servers, unlocked-everywhere}
+use Rattle.client.specs.Lent.{InUse, used-in}
+use Rattle.client.specs.Life as L
+use Rattle.client.specs.GoodSteps.{good-abort}
+use Rattle.steps.specs.Steps.{at-servers, unlocked-everywhere, aborting, did, abort}
 use Rattle.engine.specs.Parts.{Holds, stored-in}
 use Rattle.engine.specs.Items.{read-item}
 use Rattle.engine.specs.Judge.{of-client}
 use Rattle.engine.specs.Fits.{Known}
+use Rattle.engine.specs.Kinds.{Meets, meets-did, meets-as, meets-refused, Apart, then-client, client-inside}
 use Rattle.engine.specs.Locks.{rule, passing, upto, changes, upto-inside, rule-inside, in-whole}
 
 -- ---- stores at some servers, which are those of a set p, leave clients and the servers behind
@@ -75,6 +81,11 @@ module _ (z : Sizes) (c : ℕ) where
       (upto-inside z (rule k c) (locked-at (lowest z (stored-in z w) c) s) (read-item (of-client z w c)) (count (of-client z w c) Reads)
       (λ j l. rule-inside z c k (read-item (of-client z w c) j) (known .known j l)))
 
+  pub changes-apart : (s : ℕ) (k : Change) (w : List ℕ) → s < z .servers → Known z w c → Apart z c (changes z c s k) (stored-in z w)
+  unfolding changes
+  changes-apart s k w h known =
+      record { valid = changes-inside s k w h known; stays = server-clients (stored-in z w) s _ c }
+
 -- "An abort unlocks everywhere"
 unfoldable pub freeing : Sizes → ℕ → (Address → ℕ) → List (Put Address)
 freeing z c m = unlocked-everywhere z m c
@@ -88,6 +99,31 @@ Freed z c p s w w′ = Does whole (block z) (unlocking z c p s) silent w 0 w′
 
 unfoldable pub FreedUpto : Sizes → ℕ → ℕ → ℕ → List ℕ → List ℕ → Type 0
 FreedUpto z c p n w w′ = Does whole (block z) (λ m. at-servers n (λ s. unlocking z c p s m)) silent w 0 w′
+
+-- where they lie, and what they leave alone
+module _ (z : Sizes) (c p : ℕ) (w : List ℕ) (known : Known z w c) where
+  abbrev here : ℕ → List (Put Place)
+  here s =
+      let m = stored-in z w in
+      upto (rule Unlock c) (locked-at (lowest z m c) s) (read-item (of-client z w c)) (count (of-client z w c) Reads) (server-of m s)
+
+  stores-inside : (k : ℕ) → k ≤ z .servers → AllValid whole (block z) (at-servers k (λ s. unlocking z c p s (stored-in z w)))
+  unfolding at-servers unlocking AllValid
+  stores-inside zero h = tt
+  stores-inside (suc k) h =
+      let m = stored-in z w in
+      valid-append whole (block z) (at-servers k (λ s. unlocking z c p s m)) (unlocking z c p k m) (stores-inside k (omega arith))
+      (go (bit p k) (changes-inside z c k Unlock w (omega arith) known))
+    where
+      go : (t : Bool) → AllValid whole (block z) (changes z c k Unlock (stored-in z w)) → AllValid whole (block z) (cond t (changes z c k Unlock (stored-in z w)) [])
+      go true ok = ok
+      go false ok = tt
+
+pub freeing-apart : (z : Sizes) (c : ℕ) (w : List ℕ) → Known z w c → Apart z c (freeing z c) (stored-in z w)
+unfolding freeing unlocking changes rule passing upto read-item
+freeing-apart z c w known =
+    let p = of-client z w c (field 6) in
+    record { valid = stores-inside z c p w known (z .servers) (omega arith); stays = clients-kept p (here z c p w known) (z .servers) (stored-in z w) c }
 
 module _ (z : Sizes) (c p : ℕ) where
   pub freed-here : (s : ℕ) (b : Bool) (w w′ : List ℕ) → b ≡ bit p s → b ≡ true → Does whole (block z) (changes z c s Unlock) silent w 0 w′ → Freed z c p s w w′
@@ -109,32 +145,18 @@ module _ (z : Sizes) (c p : ℕ) where
     abbrev before : Address → ℕ
     before = stored-in z (view b₀)
 
-    abbrev here : ℕ → List (Put Place)
-    here s = upto (rule Unlock c) (locked-at (lowest z before c) s) (read-item (of-client z (view b₀) c)) (count (of-client z (view b₀) c) Reads) (server-of before s)
-
-    stores-inside : (k : ℕ) → k ≤ i → AllValid whole (block z) (at-servers k (λ s. unlocking z c p s before))
-    unfolding at-servers unlocking AllValid
-    stores-inside zero h = tt
-    stores-inside (suc k) h =
-        valid-append whole (block z) (at-servers k (λ s. unlocking z c p s before)) (unlocking z c p k before) (stores-inside k (omega arith))
-        (go (bit p k) (changes-inside z c k Unlock (view b₀) (omega arith) known))
-      where
-        go : (t : Bool) → AllValid whole (block z) (changes z c k Unlock before) → AllValid whole (block z) (cond t (changes z c k Unlock before) [])
-        go true ok = ok
-        go false ok = tt
-
     after : stored-in z (view b) ≡ changed whole before (at-servers i (λ s. unlocking z c p s before))
     unfolding FreedUpto words-for
     after =
-        does-mem whole (block z) (λ m. at-servers i (λ s. unlocking z c p s m)) silent (view b₀) 0 (view b) so (omega (arith, hold .room, view-length b₀)) (stores-inside i (omega arith))
+        does-mem whole (block z) (λ m. at-servers i (λ s. unlocking z c p s m)) silent (view b₀) 0 (view b) so (omega (arith, hold .room, view-length b₀)) (stores-inside z c p (view b₀) known i (omega arith))
 
     client-stays : client-of (stored-in z (view b)) c ≡ client-of before c
     unfolding unlocking changes
-    client-stays = ap (λ (u : Address → ℕ). client-of u c) after ∙ clients-kept p here i before c
+    client-stays = ap (λ (u : Address → ℕ). client-of u c) after ∙ clients-kept p (here z c p (view b₀) known) i before c
 
     server-stays : server-of (stored-in z (view b)) i ≡ server-of before i
     unfolding unlocking changes
-    server-stays = ap (λ (u : Address → ℕ). server-of u i) after ∙ servers-kept p here i before i (omega arith)
+    server-stays = ap (λ (u : Address → ℕ). server-of u i) after ∙ servers-kept p (here z c p (view b₀) known) i before i (omega arith)
 
     pub freed-known : Known z (view b) c
     freed-known = record { known = λ j h. subst (λ (m : ClientWord → ℕ). j < count m Reads → Has (z .slots) (object-of (number-at m Reads j))) (sym client-stays) (known .known j) h }
@@ -161,3 +183,40 @@ module _ (z : Sizes) (c p : ℕ) where
   freed-all n i w w′ a b en ep d =
       let e : i ≡ z .servers = omega arith in
       does-as whole (block z) (λ m. at-servers i (λ s. unlocking z c p s m)) (freeing z c) silent w 0 w′ (rw (e, ep)) d
+
+-- ---- "and drops copies of all objects read"
+unfoldable pub aborts : Sizes → ℕ → List ℕ → (Address → ℕ) → List (Put Address)
+aborts z c us m = aborting z m c us
+
+pub is-aborted : (z : Sizes) (c : ℕ) (us b₀ b b′ : List ℕ) → Holds z (length b₀) → Known z (view b₀) c
+    → Does whole (block z) (freeing z c) silent (view b₀) 0 (view b) → Does whole (block z) (inPart (client c) (L.abort us)) silent (view b) 0 (view b′)
+    → Does whole (block z) (aborts z c us) silent (view b₀) 0 (view b′)
+unfolding aborts freeing inPart
+is-aborted z c us b₀ b b′ hold known p q = then-client z c (freeing z c) (L.abort us) b₀ b b′ hold (freeing-apart z c (view b₀) known) p q
+
+pub aborts-inside : (z : Sizes) (c : ℕ) (us w : List ℕ) → c < z .clients → Known z w c → AllValid whole (block z) (aborts z c us (stored-in z w))
+unfolding aborts freeing inPart
+aborts-inside z c us w h known =
+    let m = stored-in z w in
+    valid-append whole (block z) (freeing z c m) (inPart (client c) (L.abort us) m) (freeing-apart z c w known .valid) (client-inside z c (L.abort us) m h (good-abort us))
+
+module _ (z : Sizes) (c y : ℕ) (us w : List ℕ) (b : Bool) (e : b ≡ abort-fits z (stored-in z w) c) where
+  pub abort-done : (w′ : List ℕ) → b ≡ true → Does whole (block z) (aborts z c us) silent w 0 w′ → Meets z (λ m. abort z m c y us) w (Aborted y) w′
+  unfolding abort aborts
+  abort-done w′ t d =
+      meets-as z w (Aborted y) w′ (λ m. did (Aborted y) (aborts z c us m)) (λ m. abort z m c y us) (sym (rw (← e, t)))
+      (meets-did z w (Aborted y) w′ (aborts z c us) d)
+
+  pub abort-refused : b ≡ false → Meets z (λ m. abort z m c y us) w (Refused 10) w
+  unfolding abort
+  abort-refused t = meets-refused z w 10 (λ m. abort z m c y us) (sym (rw (← e, t)))
+
+pub ruleset abort-exits = (is-aborted, abort-done, abort-refused)
+
+-- ---- of a step that uses no copies
+pub none-in-use : InUse (replicate 98 0)
+none-in-use = record { long = omega arith; few = omega arith; small = λ i h. absurd (omega arith) }
+
+pub abort-unused : (z : Sizes) (c y : ℕ) (w : List ℕ) (o : Outcome) (w′ : List ℕ) → Meets z (λ m. abort z m c y (used-in (replicate 98 0))) w o w′ → Meets z (λ m. abort z m c y []) w o w′
+unfolding used-in
+abort-unused z c y w o w′ d = d

@@ -8,14 +8,11 @@ use borrow.Author.Tests.{eq-eqb, ne-eqb, le-leb, lt-leb}
 use lib.Dec.{eqb, leb}
 use lib.ListN.{getD}
 use Rattle.nodes.specs.declared.node.Node.{Node}
-use Rattle.nodes.specs.declared.found.Found.{Found}
-use Rattle.nodes.specs.declared.found.Found.the-variants.{At, Absent}
-use Rattle.client.specs.declared.part.Set.{Set}
 use Rattle.client.specs.declared.part.Set.the-variants.{Reads, Writes}
 use Rattle.client.specs.Layout.{ClientWord}
 use Rattle.client.specs.Record.{by-number, first-slot}
-use Rattle.client.specs.Sets.{number-at, record-at, find}
-use Rattle.client.specs.Items.{inner, has, of-record}
+use Rattle.client.specs.Sets.{number-at, record-at}
+use Rattle.client.specs.Items.{inner, has, inner-in}
 use Rattle.client.specs.Participants.{at-home}
 use Rattle.engine.specs.declared.items.Item as code
 use Rattle.steps.specs.Uses.{Item, item-of, checked-at, locked-at}
@@ -27,9 +24,6 @@ as-item i = record { number = i .number; inner-read = i .inner; mark = i .mark; 
 -- that by which an object is checked: its version, or a flag's value
 unfoldable pub mark-of : ℕ → Node → ℕ
 mark-of x r = by-number x (r .version) (λ n. r .version) (λ n. first-slot r)
-
-unfoldable pub becomes-inner : (ClientWord → ℕ) → ℕ → Bool
-becomes-inner m x = of-record m Writes (inner x) (find m Writes x)
 
 -- item i of the read set
 unfoldable pub read-item : (ClientWord → ℕ) → ℕ → Item
@@ -48,29 +42,10 @@ pub mark-flag : (x : ℕ) (r : Node) → 8192 < x → getD (r .slots) 0 0 ≡ ma
 unfolding mark-of
 mark-flag x r h = sym (rw (ne-eqb x 0 (λ e. omega arith), lt-leb x 8192 h))
 
--- ---- sets
-module _ (m : ClientWord → ℕ) (s : Set) (x : ℕ) (f : Found) (e : f ≡ find m s x) where
-  pub has-one : (i : ℕ) → f ≡ At i → true ≡ has m s x
-  unfolding has
-  has-one i q = sym (rw (← e, q))
-
-  pub has-none : f ≡ Absent → false ≡ has m s x
-  unfolding has
-  has-none q = sym (rw (← e, q))
-
-module _ (m : ClientWord → ℕ) (x : ℕ) (f : Found) (e : f ≡ find m Writes x) where
-  pub written-inner : (i : ℕ) (n : Node) (r : Bool) → f ≡ At i → n ≡ record-at m Writes i → r ≡ inner x n → r ≡ becomes-inner m x
-  unfolding becomes-inner
-  written-inner i n r q p h = h ∙ rw p (sym (rw (← e, q)))
-
-  pub not-written : f ≡ Absent → false ≡ becomes-inner m x
-  unfolding becomes-inner
-  not-written q = sym (rw (← e, q))
-
 -- ---- items
-pub item-made : (m : ClientWord → ℕ) (x k : ℕ) (n : Node) (a w b : Bool) → a ≡ inner x n → k ≡ mark-of x n → w ≡ has m Writes x → b ≡ becomes-inner m x
+pub item-made : (m : ClientWord → ℕ) (x k : ℕ) (n : Node) (a w b : Bool) → a ≡ inner x n → k ≡ mark-of x n → w ≡ has m Writes x → b ≡ inner-in m Writes x
     → _≡_ {A = Item} (record { number = x; inner-read = a; mark = k; written = w; becomes = b }) (item-of m x n)
-unfolding item-of mark-of becomes-inner
+unfolding item-of mark-of inner-in
 item-made m x k n a w b ea ek ew eb = rw (ea, ek, ew, eb)
 
 pub item-read : (m : ClientWord → ℕ) (i x : ℕ) (n : Node) (r : Item) → x ≡ number-at m Reads i → n ≡ record-at m Reads i → r ≡ item-of m x n → r ≡ read-item m i
@@ -107,10 +82,6 @@ module _ (i : code.Item) (low s : ℕ) where
 pub ruleset item-exits = (
   mark-version,
   mark-flag,
-  has-one,
-  has-none,
-  written-inner,
-  not-written,
   item-made,
   item-read,
   checked-lowest,

@@ -12,5 +12,7 @@ pub mod Locks
 -- the steps by kind
 pub mod Kinds
 pub mod Abort
+pub mod Loss
 pub mod Prepare
+pub mod Commit
 pub mod Known

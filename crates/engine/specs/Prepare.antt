@@ -25,7 +25,8 @@ use Rattle.engine.specs.Items.{read-item}
 use Rattle.engine.specs.Judge.{of-client}
 use Rattle.engine.specs.Fits.{Known}
 use Rattle.engine.specs.Locks.{rule, passing, upto, changes}
-use Rattle.engine.specs.Abort.{changes-inside}
+use Rattle.engine.specs.Kinds.{then-client}
+use Rattle.engine.specs.Abort.{changes-apart}
 
 -- one field of a client's part
 unfoldable pub mark : ℕ → ℕ → (ClientWord → ℕ) → List (Put ClientWord)
@@ -48,15 +49,6 @@ prepares z c s m = preparing z m c s
 pub is-prepared : (z : Sizes) (c s : ℕ) (b₀ b b′ : List ℕ) → Holds z (length b₀) → Known z (view b₀) c → s < z .servers
     → Does whole (block z) (changes z c s Lock) silent (view b₀) 0 (view b) → Does whole (block z) (inPart (client c) (noted (field 6) s)) silent (view b) 0 (view b′)
     → Does whole (block z) (prepares z c s) silent (view b₀) 0 (view b′)
-unfolding prepares changes rule passing upto read-item stepped inPart words-for
+unfolding prepares changes rule passing upto read-item inPart
 is-prepared z c s b₀ b b′ hold known h p q =
-    let m = stored-in z (view b₀) in
-    let e : stored-in z (view b) ≡ changed whole m (changes z c s Lock m) =
-    does-mem whole (block z) (changes z c s Lock) silent (view b₀) 0 (view b) p (omega (arith, hold .room, view-length b₀)) (changes-inside z c s Lock (view b₀) h known) in
-    let f : client-of (stored-in z (view b)) c ≡ client-of m c = ap (λ (u : Address → ℕ). client-of u c) e ∙ server-clients m s _ c in
-    record {
-      answer = refl;
-      words = q .words ∙ ap (λ (u : ClientWord → ℕ). stored whole (block z) (view b) (over (client c) (noted (field 6) s u))) f
-          ∙ ap (λ (u : List ℕ). stored whole (block z) u (over (client c) (noted (field 6) s (client-of m c)))) (p .words)
-          ∙ sym (stored-append whole (block z) (changes z c s Lock m) (over (client c) (noted (field 6) s (client-of m c))) (view b₀));
-    }
+    then-client z c (changes z c s Lock) (noted (field 6) s) b₀ b b′ hold (changes-apart z c s Lock (view b₀) h known) p q

@@ -3,15 +3,15 @@ ghost use mathlib.Core.Path.{_≡_};
 ghost use Prim.Native.Nat.{_/_, _<_, _≤_};
 ghost use lib.ListN.{length};
 ghost use Rattle.client.specs.Sets.{held};
-ghost use Rattle.client.specs.Items.{inner, has};
-ghost use Rattle.client.specs.Participants.{at-home};
 ghost use Rattle.steps.specs.Uses.{item-of, checked-at, locked-at};
-ghost use Rattle.engine.specs.Items.{as-item, mark-of, becomes-inner, read-item};
+ghost use Rattle.engine.specs.Items.{as-item, mark-of, read-item};
+use client::items::has;
+use client::items::inner_in;
+use client::items::is_home;
+use client::items::is_inner;
 use client::part::Set;
-use client::part::find;
 use client::part::number_at;
 use client::part::record_at;
-use nodes::found::Found;
 use nodes::node::Node;
 
 // An object read: metadata, or a node read as inner; its version, or a flag's value; is it written, and as an inner node?
@@ -21,19 +21,6 @@ pub struct Item {
     pub mark: u64,
     pub written: bool,
     pub becomes: bool,
-}
-
-// "metadata and inner nodes": is the object of that number one of them, with that record?
-fn is_inner(number: u64, node: Node) -> bool
-    ensures { λ r. ⌜ r ≡ inner number node ⌝ }
-{
-    if number == 0 {
-        return true;
-    }
-    if number <= 8192 {
-        return node.kind == 2;
-    }
-    false
 }
 
 // That by which an object is checked.
@@ -47,30 +34,6 @@ fn mark_of(number: u64, node: Node) -> u64
     slots[0]
 }
 
-// Is there an item of the object in the set?
-pub fn has(part: &[u8], set: Set, number: u64) -> bool
-    requires { ⌜ 7223 ≤ length (now part) / 8 ⌝ }
-    ensures { λ r. ⌜ r ≡ has (held (now (part .entry))) set number ⌝ }
-{
-    let at = find(part, set, number);
-    match at {
-        Found::At(_) => true,
-        Found::Absent => false,
-    }
-}
-
-// Is the object written, and as an inner node?
-fn becomes_inner(part: &[u8], number: u64) -> bool
-    requires { ⌜ 7223 ≤ length (now part) / 8 ⌝ }
-    ensures { λ r. ⌜ r ≡ becomes-inner (held (now (part .entry))) number ⌝ }
-{
-    let at = find(part, Set::Writes, number);
-    match at {
-        Found::At(i) => is_inner(number, record_at(part, Set::Writes, i)),
-        Found::Absent => false,
-    }
-}
-
 pub fn item_of(part: &[u8], number: u64, node: Node) -> Item
     requires { ⌜ 7223 ≤ length (now part) / 8 ⌝ }
     ensures { λ r. ⌜ as-item r ≡ item-of (held (now (part .entry))) number node ⌝ }
@@ -78,7 +41,7 @@ pub fn item_of(part: &[u8], number: u64, node: Node) -> Item
     let inner = is_inner(number, node);
     let mark = mark_of(number, node);
     let written = has(part, Set::Writes, number);
-    let becomes = becomes_inner(part, number);
+    let becomes = inner_in(part, Set::Writes, number);
     Item {
         number,
         inner,
@@ -96,19 +59,6 @@ pub fn read_item(part: &[u8], i: usize) -> Item
     let number = number_at(part, Set::Reads, i);
     let node = record_at(part, Set::Reads, i);
     item_of(part, number, node)
-}
-
-// The home of the object with that number; the metadata is on every server.
-pub fn is_home(server: u64, number: u64) -> bool
-    ensures { λ r. ⌜ r ≡ at-home server number ⌝ }
-{
-    if number == 0 {
-        return true;
-    }
-    if number <= 8192 {
-        return (number - 1) / 1024 == server;
-    }
-    (number - 8193) / 1024 == server
 }
 
 // "Metadata and inner nodes are checked at the lowest participant, and at every one if written"; other nodes and flags at home.

@@ -42,7 +42,7 @@ use Rattle.schedule.specs.Frame.{last, read-after, Only}
 use Rattle.schedule.specs.Numbers.{server-object, object-number}
 use Rattle.schedule.specs.Shows.{phase-of, T, In-store, Recorded, lock-kept, new-value, item-from, item-of, value-at, version-at, table-at, Slot-shown, Server-shown, Client-shown, Related}
 use Rattle.schedule.specs.Course.{else-same, course-shown}
-use Rattle.schedule.specs.Held.{absent≢at, found-at, has-at, written-in}
+use Rattle.schedule.specs.Held.{absent≢at, found-at, has-at, written-in, written-fits}
 use Rattle.schedule.specs.Locking.{after, swept-other, here, lk, lock-place, none-swept, one-swept, not-swept}
 use Rattle.schedule.specs.Recorded.{drop-kept, drop-recorded}
 use Rattle.schedule.specs.Servers.{both, both-client, both-other, both-server, both-else, is-lock, a-lock, not-a-lock, value-frame, version-frame, table-frame, noted-bit}
@@ -170,7 +170,7 @@ module _ (k j slots : ℕ) (al : Allowed (sizes k j slots)) (few : suc j ≤ 16)
         by (At i) e (At w) q =
             row-is (λ i. i .written && keeps k j slots s (i .obj)) (λ i. i .new) (M .value s) (At i) e
             ∙ ap₂ (λ (g : Found) (b : Bool). cond (is-at g && b) (new-value k j slots u o (value-of o (record-at u Reads i)) g) (M .value s o)) q kept
-            ∙ sym (value-one k j slots al u y shown s o hi kept p w q)
+            ∙ sym (value-one k j slots al u y shown s o hi kept p w q (written-fits k j slots al u fit w (found-at u Writes (number o) w q .0)))
 
     version-after : keeps k j slots s o ≡ true
         → Mv.row (T k j slots) (y .items) (λ i. not (by-value k j slots (i .obj)) && i .written && keeps k j slots s (i .obj)) (λ i. suc (i .version)) (M .version s) o ≡ version-at k j slots p₂ o

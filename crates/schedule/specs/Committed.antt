@@ -52,7 +52,7 @@ module _ (k j slots : ℕ) (al : Allowed (sizes k j slots)) (u : ClientWord → 
   -- "inner before or after" of an object that is read and written
   pub both-ways : (o : Obj) (i w : ℕ) → In-store k j slots o → find u Reads (number o) ≡ At i → find u Writes (number o) ≡ At w
       → I.inner-before-after u (number o) ≡ (inner o (value-of o (record-at u Reads i)) || inner o (value-of o (record-at u Writes w)))
-  unfolding I.inner-before-after
+  unfolding I.inner-before-after I.inner-in
   both-ways o i w h r e =
       ap₂ _||_ (ap (I.of-record u Reads (I.inner (number o))) r ∙ inner-of (sizes k j slots) al o h (record-at u Reads i))
       (ap (I.of-record u Writes (I.inner (number o))) e ∙ inner-of (sizes k j slots) al o h (record-at u Writes w))

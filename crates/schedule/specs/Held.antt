@@ -175,6 +175,13 @@ module _ (k j slots : ℕ) (al : Allowed (sizes k j slots)) (u : ClientWord → 
   unfolding has has-read
   written-in i l = judged Writes i (sets-fit .1) l
 
+  pub written-fits : (i : ℕ) → i < count u Writes → fits z (number-at u Writes i) (record-at u Writes i) ≡ true
+  unfolding item-fits
+  written-fits i l =
+      let x = number-at u Writes i in
+      let f = and-both (number-in-store z x) (fits z x (record-at u Writes i) && has-read u Writes x) (all-of-at (item-fits z u Writes) (count u Writes) (sets-fit .1) i l) in
+      and-both (fits z x (record-at u Writes i)) (has-read u Writes x) (f .1) .0
+
   -- the item at place i of the read set, for the object o
   abbrev item-for : Obj → ℕ → P.Item (T k j slots)
   item-for o i = record {

@@ -20,7 +20,7 @@ use Rattle.server.specs.Store.{metadata-step, flag-step}
 use Rattle.nodes.specs.Stored.{node-of, words-of}
 use Rattle.nodes.specs.StoredLaws.{Sized, length-words, node-words}
 use Rattle.client.specs.Record.{value-of}
-use Rattle.steps.specs.Steps.{node-puts, table-puts, node-at}
+use Rattle.steps.specs.Steps.{node-at}
 use Rattle.schedule.specs.Numbers.{by-object}
 use Rattle.schedule.specs.Servers.{is-lock}
 use Rattle.schedule.specs.Shows.{value-at, version-at, table-at}
@@ -81,6 +81,13 @@ abbrev pub At-home : ℕ → Obj → Type 0
 At-home s meta = Unit {0}
 At-home s (node n) = n / 1024 ≡ s
 At-home s (flag n) = n / 1024 ≡ s
+
+-- a node's words, and its entry in the table
+abbrev pub node-puts : ℕ → Record.Node → List (Put Place)
+node-puts n r = puts places (Node (n % 1024)) (words-of r)
+
+abbrev pub table-puts : ℕ → ℕ → List (Put Place)
+table-puts n version = put (Table (n / 1024) (n % 1024)) version ∷ []
 
 -- h: the object is at home here; b: a node inner before or after; version: the one read plus 1; r: the node with it; first, t: the root's name, a flag
 module _ (k j slots : ℕ) (h b t : Bool) (version first : ℕ) (r : Record.Node) (w : Sized r) where

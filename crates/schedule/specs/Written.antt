@@ -1,8 +1,9 @@
 -- What all writes of an apply do to each object that a server stores.
 use mathlib.Core.Path.{_≡_, refl, ap, sym, _∙_, subst}
-use mathlib.Core.Bool.{Bool, true, false, cond, true≢false}
-use mathlib.Core.List.{List}
-use Prim.Native.Nat.{ℕ, zero, suc, _-_, _<_, Fin}
+use mathlib.Core.Bool.{Bool, true, false, cond, _&&_, true≢false}
+use mathlib.Core.List.{List, [], _++_}
+use mathlib.Core.Logic.{_⊎_, inl, inr}
+use Prim.Native.Nat.{ℕ, zero, suc, _-_, _≤_, _<_, Fin}
 use native.Mathlib.Omega.{arith}
 use native.Mathlib.Decide.{ℕ-discrete}
 use borrow.Author.Tests.{eqb-true}
@@ -13,21 +14,25 @@ use Rattle.layout.specs.Sweep.{sweep}
 use Rattle.nodes.specs.declared.node.Node.{Node}
 use Rattle.nodes.specs.declared.found.Found.the-variants.{At, Absent}
 use Rattle.nodes.specs.Name as N
-use Rattle.nodes.specs.Node.{keysOf, slotsOf}
+use Rattle.nodes.specs.Node.{extra, keysOf, slotsOf, made, free-node}
+use Rattle.nodes.specs.Lists.{pad}
+use Rattle.nodes.specs.Range.{in-range, range-cases}
 use Rattle.operations.specs.Object.{Obj, meta, node, flag}
 use Rattle.operations.specs.Slot.{Allowed}
 use Rattle.protocol.specs.Machine as P
 use Rattle.server.specs.declared.place.Place.{Place}
 use Rattle.server.specs.Layout.{places}
+use Rattle.server.specs.Object.{named}
+use Rattle.server.specs.Store.{metadata-step, flag-step, kept-of, home-step, table-step, node-step}
 use Rattle.client.specs.declared.part.Set.the-variants.{Writes}
 use Rattle.client.specs.Layout.{ClientWord}
 use Rattle.nodes.specs.Stored.{node-of}
 use Rattle.nodes.specs.StoredLaws.{Sized}
-use Rattle.client.specs.Record.{number, by-number, first-slot, value-of}
+use Rattle.client.specs.Record.{number, by-number, first-slot, value-of, in-store, fits, last-version}
 use Rattle.client.specs.Sets.{count, record-at, number-at, find}
 use Rattle.client.specs.Items as I
 use Rattle.client.specs.Participants.{at-home}
-use Rattle.client.specs.Drops.{next-version, as-copy}
+use Rattle.client.specs.Drops.{next-version}
 use Rattle.steps.specs.Steps.{store-write, store-all}
 use Rattle.schedule.specs.Store.{sizes, keeps, by-value}
 use Rattle.schedule.specs.Numbers.{by-object, obj-of, number-obj, obj-number}
@@ -72,10 +77,41 @@ by-obj x a f g = go (eqb x 0) (leb x 8192)
     go false true = refl
     go false false = refl
 
--- a record that is stored has whole arrays
-record-whole : (u : ClientWord → ℕ) (i : ℕ) → Sized (as-copy u i .1)
-unfolding as-copy record-at node-of tab
-record-whole u i = record { keys = refl; slots = refl }
+-- a node that is stored has whole arrays, the version that it gets, and the value that it had
+abbrev stored-node : (ClientWord → ℕ) → ℕ → Node
+stored-node u i = kept-of (record-at u Writes i) (next-version u (number-at u Writes i))
+
+record-whole : (u : ClientWord → ℕ) (i : ℕ) → Sized (stored-node u i)
+unfolding kept-of free-node made pad record-at node-of tab
+record-whole u i = go (eqb (record-at u Writes i .kind) 0)
+  where
+    r : Node
+    r = record-at u Writes i
+
+    v : ℕ
+    v = next-version u (number-at u Writes i)
+
+    go : (b : Bool) → Sized (cond b (free-node v) (record { kind = r .kind; level = r .level; version = v; count = r .count; keys = r .keys; slots = r .slots }))
+    go true = record { keys = refl; slots = refl }
+    go false = record { keys = refl; slots = refl }
+
+kept-version : (r : Node) (v : ℕ) → kept-of r v .version ≡ v
+unfolding kept-of free-node made
+kept-version r v = go (eqb (r .kind) 0)
+  where
+    go : (b : Bool) → cond b (free-node v) (record { kind = r .kind; level = r .level; version = v; count = r .count; keys = r .keys; slots = r .slots }) .version ≡ v
+    go true = refl
+    go false = refl
+
+kept-value : (r : Node) (v n : ℕ) → in-range r ≡ true → value-of (node n) (kept-of r v) ≡ value-of (node n) r
+unfolding kept-of free-node made keysOf slotsOf extra
+kept-value r v n h = go (range-cases r h)
+  where
+    go : ((r .kind ≡ 0) × (r .level ≡ 0) × (r .count ≡ 0)) ⊎ ((r .kind ≡ 1) × (r .level ≡ 0)) ⊎ ((r .kind ≡ 2) × (1 ≤ r .level) × (r .level ≤ 4))
+        → value-of (node n) (kept-of r v) ≡ value-of (node n) r
+    go (inl (k, l, c)) = rw (k, l, c)
+    go (inr (inl (k, l))) = rw k
+    go (inr (inr (k, l, m))) = rw k
 
 module _ (k j slots : ℕ) (al : Allowed (sizes k j slots)) (u : ClientWord → ℕ) (y : P.Slot (T k j slots)) (shown : Slot-shown k j slots u y) (s : Fin (suc k)) where
   -- write i
@@ -104,15 +140,26 @@ module _ (k j slots : ℕ) (al : Allowed (sizes k j slots)) (u : ClientWord → 
   A i = first-slot (r i)
 
   abbrev write : ℕ → (Place → ℕ) → List (Put Place)
-  write i = W.write-of k j slots (H i) (B i) (F i) (Next i) (A i) (as-copy u i .1) (record-whole u i) (o i)
+  write i = W.write-of k j slots (H i) (B i) (F i) (Next i) (A i) (stored-node u i) (record-whole u i) (o i)
+
+  at-home-obj : (i : ℕ) → H i ≡ by-object (o i) true (λ n. eqb (N.server-of n) (s .0)) (λ n. eqb (N.server-of n) (s .0))
+  unfolding at-home
+  at-home-obj i = by-obj (x i) true (λ n. eqb (N.server-of n) (s .0)) (λ n. eqb (N.server-of n) (s .0))
 
   write-is : (i : ℕ) (q : Place → ℕ) → store-write u (s .0) i q ≡ write i q
-  write-is i q = by-obj (x i) _ _ _
+  write-is i q = by-obj (x i) _ _ _ ∙ go (o i) (at-home-obj i)
+    where
+      go : (v : Obj) → H i ≡ by-object v true (λ n. eqb (N.server-of n) (s .0)) (λ n. eqb (N.server-of n) (s .0))
+          → by-object v (metadata-step (A i) (Next i) q) (λ n. node-step (s .0) (named n) (r i) (Next i) (B i) q) (λ n. cond (H i) (flag-step (named n) (F i) q) [])
+          ≡ W.write-of k j slots (H i) (B i) (F i) (Next i) (A i) (stored-node u i) (record-whole u i) v q
+      unfolding node-step home-step table-step
+      go meta e = refl
+      go (node n) e = ap (λ (b : Bool). cond b (W.node-puts n (stored-node u i)) [] ++ cond (B i) (W.table-puts n (Next i)) []) (sym e)
+      go (flag n) e = refl
 
   -- a write that is stored here is of an object that is at home here
   homed : (i : ℕ) → at-home (s .0) (x i) ≡ true → W.At-home (s .0) (o i)
-  unfolding at-home
-  homed i h = go (o i) (sym (by-obj (x i) true (λ n. eqb (N.server-of n) (s .0)) (λ n. eqb (N.server-of n) (s .0))) ∙ h)
+  homed i h = go (o i) (sym (at-home-obj i) ∙ h)
     where
       go : (q : Obj) → by-object q true (λ n. eqb (N.server-of n) (s .0)) (λ n. eqb (N.server-of n) (s .0)) ≡ true → W.At-home (s .0) q
       go meta e = tt
@@ -159,44 +206,44 @@ module _ (k j slots : ℕ) (al : Allowed (sizes k j slots)) (u : ClientWord → 
       pub value-none : find u Writes (number q) ≡ Absent → value-at k j slots (p₁ p) q ≡ value-at k j slots p q
       value-none e =
           seen-none (λ f. value-at k j slots f q) (store-write u (s .0)) p (count u Writes)
-          (λ i l. other-of (λ f. value-at k j slots f q) i (λ f. W.other-value k j slots (H i) (B i) (F i) (Next i) (A i) (as-copy u i .1) (record-whole u i) f (s .0) q (o i) (kept-here q hi kept) (none-of e i l) (homed i)))
+          (λ i l. other-of (λ f. value-at k j slots f q) i (λ f. W.other-value k j slots (H i) (B i) (F i) (Next i) (A i) (stored-node u i) (record-whole u i) f (s .0) q (o i) (kept-here q hi kept) (none-of e i l) (homed i)))
 
       pub version-none : find u Writes (number q) ≡ Absent → version-at k j slots (p₁ p) q ≡ version-at k j slots p q
       version-none e =
           seen-none (λ f. version-at k j slots f q) (store-write u (s .0)) p (count u Writes)
-          (λ i l. other-of (λ f. version-at k j slots f q) i (λ f. W.other-version k j slots (H i) (B i) (F i) (Next i) (A i) (as-copy u i .1) (record-whole u i) f (s .0) q (o i) (kept-here q hi kept) (none-of e i l) (homed i)))
+          (λ i l. other-of (λ f. version-at k j slots f q) i (λ f. W.other-version k j slots (H i) (B i) (F i) (Next i) (A i) (stored-node u i) (record-whole u i) f (s .0) q (o i) (kept-here q hi kept) (none-of e i l) (homed i)))
 
       module _ (w : ℕ) (e : find u Writes (number q) ≡ At w) where
         home-here : at-home (s .0) (x w) ≡ true
         home-here = ap (at-home (s .0)) (number-is w e) ∙ sym (kept-home k j slots al s q hi) ∙ kept
 
-        pub value-one : value-at k j slots (p₁ p) q ≡ value-of q (r w)
-        unfolding as-copy keysOf slotsOf
-        value-one =
+        pub value-one : fits (sizes k j slots) (x w) (r w) ≡ true → value-at k j slots (p₁ p) q ≡ value-of q (r w)
+        unfolding fits
+        value-one ok =
             seen-one (λ f. value-at k j slots f q) (store-write u (s .0)) p (λ _. value-of q (r w)) (count u Writes) w (within w e)
-            (λ i l d. other-of (λ f. value-at k j slots f q) i (λ f. W.other-value k j slots (H i) (B i) (F i) (Next i) (A i) (as-copy u i .1) (record-whole u i) f (s .0) q (o i) (kept-here q hi kept) (others-of w e i l d) (homed i)))
+            (λ i l d. other-of (λ f. value-at k j slots f q) i (λ f. W.other-value k j slots (H i) (B i) (F i) (Next i) (A i) (stored-node u i) (record-whole u i) f (s .0) q (o i) (kept-here q hi kept) (others-of w e i l d) (homed i)))
             (λ f. ap (λ (ps : List (Put Place)). value-at k j slots (changed places f ps) q) (write-is w f)
             ∙ subst (λ (z : Obj). value-at k j slots (changed places f (write w f)) z ≡ value-of z (r w)) (it-is w e)
-            (W.own-value k j slots (H w) (B w) (F w) (Next w) (A w) (as-copy u w .1) (record-whole u w) f (o w) home-here ∙ same (o w)))
+            (W.own-value k j slots (H w) (B w) (F w) (Next w) (A w) (stored-node u w) (record-whole u w) f (o w) home-here ∙ same (o w) (sym (by-obj (x w) _ _ _) ∙ ok)))
           where
-            same : (z : Obj) → W.given-value k j slots (H w) (B w) (F w) (Next w) (A w) (as-copy u w .1) (record-whole u w) p z ≡ value-of z (r w)
-            same meta = refl
-            same (node n) = refl
-            same (flag n) = refl
+            same : (z : Obj) → by-object z (in-store (sizes k j slots) (A w) && leb (r w .version) last-version) (λ n. in-range (r w)) (λ n. leb (A w) 1) ≡ true
+                → W.given-value k j slots (H w) (B w) (F w) (Next w) (A w) (stored-node u w) (record-whole u w) p z ≡ value-of z (r w)
+            same meta e = refl
+            same (node n) e = kept-value (r w) (Next w) n e
+            same (flag n) e = refl
 
         pub version-one : by-value k j slots q ≡ false → version-at k j slots (p₁ p) q ≡ next-version u (x w)
-        unfolding as-copy
         version-one nf =
             seen-one (λ f. version-at k j slots f q) (store-write u (s .0)) p (λ _. next-version u (x w)) (count u Writes) w (within w e)
-            (λ i l d. other-of (λ f. version-at k j slots f q) i (λ f. W.other-version k j slots (H i) (B i) (F i) (Next i) (A i) (as-copy u i .1) (record-whole u i) f (s .0) q (o i) (kept-here q hi kept) (others-of w e i l d) (homed i)))
+            (λ i l d. other-of (λ f. version-at k j slots f q) i (λ f. W.other-version k j slots (H i) (B i) (F i) (Next i) (A i) (stored-node u i) (record-whole u i) f (s .0) q (o i) (kept-here q hi kept) (others-of w e i l d) (homed i)))
             (λ f. ap (λ (ps : List (Put Place)). version-at k j slots (changed places f ps) q) (write-is w f)
             ∙ subst (λ (z : Obj). by-value k j slots z ≡ false → version-at k j slots (changed places f (write w f)) z ≡ next-version u (x w)) (it-is w e)
-            (λ g. W.own-version k j slots (H w) (B w) (F w) (Next w) (A w) (as-copy u w .1) (record-whole u w) f (o w) home-here ∙ same (o w) g) nf)
+            (λ g. W.own-version k j slots (H w) (B w) (F w) (Next w) (A w) (stored-node u w) (record-whole u w) f (o w) home-here ∙ same (o w) g) nf)
           where
             same : (z : Obj) → by-value k j slots z ≡ false
-                → W.given-version k j slots (H w) (B w) (F w) (Next w) (A w) (as-copy u w .1) (record-whole u w) p z ≡ next-version u (x w)
+                → W.given-version k j slots (H w) (B w) (F w) (Next w) (A w) (stored-node u w) (record-whole u w) p z ≡ next-version u (x w)
             same meta g = refl
-            same (node n) g = refl
+            same (node n) g = kept-version (r w) (Next w)
             same (flag n) g = absurd (true≢false g)
 
     -- ---- tables
@@ -204,20 +251,20 @@ module _ (k j slots : ℕ) (al : Allowed (sizes k j slots)) (u : ClientWord → 
       pub table-none : find u Writes (number q) ≡ Absent → table-at k j slots (p₁ p) q ≡ table-at k j slots p q
       table-none e =
           seen-none (λ f. table-at k j slots f q) (store-write u (s .0)) p (count u Writes)
-          (λ i l. other-of (λ f. table-at k j slots f q) i (λ f. W.other-table k j slots (H i) (B i) (F i) (Next i) (A i) (as-copy u i .1) (record-whole u i) f q (o i) (none-of e i l)))
+          (λ i l. other-of (λ f. table-at k j slots f q) i (λ f. W.other-table k j slots (H i) (B i) (F i) (Next i) (A i) (stored-node u i) (record-whole u i) f q (o i) (none-of e i l)))
 
       pub table-one : (w : ℕ) (e : find u Writes (number q) ≡ At w) → by-value k j slots q ≡ false → (q ≡ meta → B w ≡ true)
           → table-at k j slots (p₁ p) q ≡ cond (B w) (Next w) (table-at k j slots p q)
       table-one w e nf m =
           seen-one (λ f. table-at k j slots f q) (store-write u (s .0)) p (λ a. cond (B w) (Next w) a) (count u Writes) w (within w e)
-          (λ i l d. other-of (λ f. table-at k j slots f q) i (λ f. W.other-table k j slots (H i) (B i) (F i) (Next i) (A i) (as-copy u i .1) (record-whole u i) f q (o i) (others-of w e i l d)))
+          (λ i l d. other-of (λ f. table-at k j slots f q) i (λ f. W.other-table k j slots (H i) (B i) (F i) (Next i) (A i) (stored-node u i) (record-whole u i) f q (o i) (others-of w e i l d)))
           (λ f. ap (λ (ps : List (Put Place)). table-at k j slots (changed places f ps) q) (write-is w f)
           ∙ subst (λ (z : Obj). by-value k j slots z ≡ false → (z ≡ meta → B w ≡ true)
           → table-at k j slots (changed places f (write w f)) z ≡ cond (B w) (Next w) (table-at k j slots f z))
-          (it-is w e) (λ g n. W.own-table k j slots (H w) (B w) (F w) (Next w) (A w) (as-copy u w .1) (record-whole u w) f (o w) ∙ same f (o w) g n) nf m)
+          (it-is w e) (λ g n. W.own-table k j slots (H w) (B w) (F w) (Next w) (A w) (stored-node u w) (record-whole u w) f (o w) ∙ same f (o w) g n) nf m)
         where
           same : (f : Place → ℕ) (z : Obj) → by-value k j slots z ≡ false → (z ≡ meta → B w ≡ true)
-              → W.given-table k j slots (H w) (B w) (F w) (Next w) (A w) (as-copy u w .1) (record-whole u w) f z ≡ cond (B w) (Next w) (table-at k j slots f z)
+              → W.given-table k j slots (H w) (B w) (F w) (Next w) (A w) (stored-node u w) (record-whole u w) f z ≡ cond (B w) (Next w) (table-at k j slots f z)
           same f meta g n = sym (ap (λ (b : Bool). cond b (Next w) (table-at k j slots f meta)) (n refl))
           same f (node n) g m = refl
           same f (flag n) g m = absurd (true≢false g)
@@ -229,6 +276,6 @@ module _ (k j slots : ℕ) (al : Allowed (sizes k j slots)) (u : ClientWord → 
       seen-none (λ f. f a) (store-write u (s .0)) p (count u Writes)
       (λ i l f. ap (λ (ps : List (Put Place)). changed places f ps a) (write-is k j slots al u y shown s i f)
       ∙ W.untouched k j slots (H k j slots al u y shown s i) (B k j slots al u y shown s i) (F k j slots al u y shown s i) (Next k j slots al u y shown s i)
-      (A k j slots al u y shown s i) (as-copy u i .1) (record-whole u i) (o k j slots al u y shown s i) f a
+      (A k j slots al u y shown s i) (stored-node u i) (record-whole u i) (o k j slots al u y shown s i) f a
       (W.no-lock k j slots (H k j slots al u y shown s i) (B k j slots al u y shown s i) (F k j slots al u y shown s i) (Next k j slots al u y shown s i)
-      (A k j slots al u y shown s i) (as-copy u i .1) (record-whole u i) (o k j slots al u y shown s i) a h))
+      (A k j slots al u y shown s i) (stored-node u i) (record-whole u i) (o k j slots al u y shown s i) a h))

@@ -6,7 +6,7 @@ use Prim.Native.Nat.{ℕ, zero, suc, _+_, _-_, _%_}
 use lib.Dec.{eqb, leb}
 use lib.ListN.{length}
 use Rattle.memory.specs.Bit.{bit, putBit}
-use Rattle.layout.specs.Space.{Put, put, puts, tab, changed}
+use Rattle.layout.specs.Space.{Put, tab, changed}
 use Rattle.layout.specs.Step.{andThen}
 use Rattle.layout.specs.Part.{over}
 use Rattle.layout.specs.Sweep.{sweep}
@@ -19,11 +19,11 @@ use Rattle.server.specs.declared.lock.Use.the-variants.{Fetch}
 use Rattle.server.specs.Layout.{places}
 use Rattle.server.specs.Object.{object-of, named}
 use Rattle.server.specs.Check.{can-check, held, checked, reason}
-use Rattle.server.specs.Store.{lock-step, unlock-step, metadata-step, flag-step}
+use Rattle.server.specs.Store.{lock-step, unlock-step, metadata-step, flag-step, node-step}
 use Rattle.server.specs.HandOut.{metadata-at, metadata-sound, vector-at}
 use Rattle.client.specs.declared.part.Set.the-variants.{Reads, Writes}
 use Rattle.client.specs.Layout.{ClientWord, client-words, phase, participants, prepared, applied, reads-count}
-use Rattle.nodes.specs.Stored.{node-of, words-of}
+use Rattle.nodes.specs.Stored.{node-of}
 use Rattle.client.specs.Record.{by-number, first-slot}
 use Rattle.nodes.specs.Range.{in-range}
 use Rattle.client.specs.Sets.{count, record-at, number-at}
@@ -32,7 +32,7 @@ use Rattle.client.specs.Fits.{client-fits}
 use Rattle.client.specs.Answered.{used-enter, answered}
 use Rattle.client.specs.Fetched.{fetched-meta, fetched-node, fetched-vector}
 use Rattle.client.specs.Participants.{participants-of, committing, at-home}
-use Rattle.client.specs.Drops.{next-version, as-copy}
+use Rattle.client.specs.Drops.{next-version}
 use Rattle.client.specs.Renew.{finish}
 use Rattle.client.specs.Copies.{drop-all}
 use Rattle.client.specs.Life as Life
@@ -97,21 +97,13 @@ unfoldable pub at-servers : ℕ → (ℕ → List (Put Address)) → List (Put A
 at-servers zero f = []
 at-servers (suc n) f = at-servers n f ++ f n
 
--- what server s stores of the object with the number x at an apply: the value at home, with its version; the table's entry of a node
--- inner before or after
-abbrev pub node-puts : ℕ → Node → List (Put Place)
-node-puts n r = puts places (place.Node (slot-of n)) (words-of r)
-
-abbrev pub table-puts : ℕ → ℕ → List (Put Place)
-table-puts n version = put (place.Table (server-of n) (slot-of n)) version ∷ []
-
+-- what server s stores of write i at an apply: the value at home, with its version; the table's entry of a node inner before or after
 abbrev pub store-write : (ClientWord → ℕ) → ℕ → ℕ → (Place → ℕ) → List (Put Place)
 store-write m s i p =
     let x = number-at m Writes i in
     let r = record-at m Writes i in
     by-number x (metadata-step (first-slot r) (next-version m x) p)
-    (λ n. cond (at-home s x) (node-puts n (as-copy m i .1)) []
-    ++ cond (inner-before-after m x) (table-puts n (next-version m x)) [])
+    (λ n. node-step s (named n) r (next-version m x) (inner-before-after m x) p)
     (λ n. cond (at-home s x) (flag-step (named n) (eqb (first-slot r) 1) p) [])
 
 -- "Apply writes and unlocks": the write set's objects in order, then the locks

@@ -8,6 +8,6 @@ item-of-spec = tie.close (tie.spec
     (λ c κs. search needs)  -- is-inner-requires
     (λ c κs. search needs)  -- mark-of-requires
     (λ c κs. search needs)  -- has-requires
-    (λ c κs. search needs)  -- becomes-inner-requires
+    (λ c κs. search needs)  -- inner-in-requires
     (λ c. search (item-exits, needs))  -- returns
     )
