@@ -36,6 +36,7 @@ use Rattle.schedule.specs.Slots.{Same-sets, count-frame, number-frame, s
 use Rattle.schedule.specs.Course.{else-same}
 use Rattle.schedule.specs.Servers.{both-client}
 use Rattle.schedule.specs.Turns.{store, Good, Explained, Turns, turns-good}
+use Rattle.schedule.specs.Ended.{finish-turns}
 use Rattle.schedule.specs.Due.{m₁, M₁, apply-good}
 
 -- ---- versions of what is written, as the sets have them
@@ -74,14 +75,7 @@ over-append e [] qs = refl
 over-append e (put a v ∷ ps) qs = ap (λ (t : List (Put _)). put (e a) v ∷ t) (over-append e ps qs)
 
 module _ (k j slots : ℕ) where
-  -- "The last apply ends the transaction and renews its copies": the end as a step after it
-  abbrev pub Ends : Type 0
-  Ends = (m : Address → ℕ) (L : Ledger) (M : P.Machine (T k j slots)) (c : Fin (suc j)) → Related k j slots m L M → client-fits (sizes k j slots) (client-of m (c .0)) ≡ true
-      → client-of m (c .0) phase ≡ 3 → covers (suc k) (client-of m (c .0) participants) (client-of m (c .0) applied) ≡ true
-      → versions-fit (store k j slots) m (c .0) ≡ true
-      → Turns k j slots m (changed whole m (over (client (c .0)) (finish (client-of m (c .0))))) L M c
-
-  module _ (E : Ends) (al : Allowed (sizes k j slots)) (few : suc j ≤ 16) (m : Address → ℕ) (L : Ledger) (M : P.Machine (T k j slots)) (c : Fin (suc j)) (G : Good k j slots m L M)
+  module _ (al : Allowed (sizes k j slots)) (few : suc j ≤ 16) (m : Address → ℕ) (L : Ledger) (M : P.Machine (T k j slots)) (c : Fin (suc j)) (G : Good k j slots m L M)
       (s : Fin (suc k)) (now : client-of m (c .0) phase ≡ 3) (new : bit (client-of m (c .0) applied) (s .0) ≡ false)
       (versions : versions-fit (store k j slots) m (c .0) ≡ true) where
     abbrev u : ClientWord → ℕ
@@ -106,13 +100,13 @@ module _ (k j slots : ℕ) where
     word : (a : ClientWord) → client-of n₁ (c .0) a ≡ last client-words (noted applied (s .0) u) a (u a)
     word a = ap (λ (f : ClientWord → ℕ). f a) own ∙ read-after client-words (noted applied (s .0) u) u a
 
-    -- the end, on what the apply left
+    -- "The last apply ends the transaction and renews its copies": the end, on what the apply left
     ends : all-applied (store k j slots) m (c .0) (s .0) ≡ true → Explained k j slots (changed whole n₁ (over (client (c .0)) (finish (client-of n₁ (c .0))))) L
     unfolding noted
     ends all =
         let g : client-of n₁ (c .0) phase ≡ 3 = word phase ∙ now in
         turns-good k j slots n₁ _ L L _ c good₁
-        (E n₁ L _ c (good₁ .shown) (good₁ .decided-fits c (omega (arith, g))) g
+        (finish-turns k j slots al n₁ L _ c (good₁ .shown) (good₁ .decided-fits c (omega (arith, g))) g
         (ap₂ (covers (suc k)) (word participants) (word applied) ∙ all)
         (versions-kept k j slots m n₁ (c .0) same-sets versions))
 

@@ -12,7 +12,7 @@ use Rattle.memory.specs.Bit.{bit, putBit}
 use Rattle.layout.specs.Space.{Put, changed}
 use Rattle.layout.specs.Step.{changed-append}
 use Rattle.layout.specs.Part.{over}
-use Rattle.operations.specs.Object.{Ask, Ans, Writes}
+use Rattle.operations.specs.Object.{Ans, Writes}
 use Rattle.operations.specs.Map.{H}
 use Rattle.operations.specs.Slot.{Allowed}
 use Rattle.protocol.specs.Machine as P
@@ -42,9 +42,10 @@ use Rattle.schedule.specs.Kept.{away}
 use Rattle.schedule.specs.Forgotten.{lost-kept}
 use Rattle.schedule.specs.InRange.{loss-fits}
 use Rattle.schedule.specs.Turns.{store, Good, still-fits, Explained, Turns, turns-good, abort-turns}
+use Rattle.schedule.specs.Fetches.{fetch-turns}
 use Rattle.schedule.specs.Undecided.{given-legal, begin-turns, give-turns, forget-turns, commit-turns, end-turns, lost-turns}
 use Rattle.schedule.specs.Settled.{due-now}
-use Rattle.schedule.specs.Applies.{versions-kept, applied-outcome, Ends, apply-explained}
+use Rattle.schedule.specs.Applies.{versions-kept, applied-outcome, apply-explained}
 use Rattle.schedule.specs.Decides as D
 
 -- an open transaction, or one after its commit
@@ -61,21 +62,14 @@ undecided-word : (x : ℕ) → eqb x 0 ≡ false → eqb x 3 ≡ false → x ≤
 undecided-word x p q l = let a = eqb-false x 0 p in let b = eqb-false x 3 q in either x (omega arith) (omega arith)
 
 module _ (k j slots : ℕ) where
-  -- a work step that answers, and one that lacks an object
+  -- a work step that answers
   abbrev pub Answering : Type 0
   Answering = (m : Address → ℕ) (L : Ledger) (M : P.Machine (T k j slots)) (c : Fin (suc j)) → Related k j slots m L M
       → let u = client-of m (c .0) in
       client-fits (sizes k j slots) u ≡ true → u phase ≡ 1 → ¬ (u op-number ≡ 0) → (a : Ans) (w : Writes) → worked (sizes k j slots) u ≡ answers a w
       → Turns k j slots m (changed whole m (over (client (c .0)) (answered (walked (sizes k j slots) u .used) w u))) (adds L (c .0) a) M c
 
-  abbrev pub Fetching : Type 0
-  Fetching = (m : Address → ℕ) (L : Ledger) (M : P.Machine (T k j slots)) (c : Fin (suc j)) → Related k j slots m L M
-      → let u = client-of m (c .0) in
-      client-fits (sizes k j slots) u ≡ true → u phase ≡ 1 → ¬ (u op-number ≡ 0) → (a : Ask) → worked (sizes k j slots) u ≡ fetches a
-      → (n : Step) → n .client ≡ c .0
-      → let d = S.fetch (store k j slots) m (c .0) (walked (sizes k j slots) u .used) a in Turns k j slots m (changed whole m (d .stores)) (note L n (d .outcome)) M c
-
-  module _ (al : Allowed (sizes k j slots)) (few : suc j ≤ 16) (E : Ends k j slots) (A : Answering) (F : Fetching)
+  module _ (al : Allowed (sizes k j slots)) (few : suc j ≤ 16) (A : Answering)
       (m : Address → ℕ) (L : Ledger) (M : P.Machine (T k j slots)) (G : Good k j slots m L M) (n : Step) where
     abbrev z : Sizes
     z = store k j slots
@@ -153,7 +147,7 @@ module _ (k j slots : ℕ) where
 
           go : (w : Worked) → worked (sizes k j slots) u ≡ w → After (S.after-walk z m (n .client) us w)
           go refused e = refused-after 10
-          go (fetches a) e = turned (F m L M c R fit open-now waits a e n refl)
+          go (fetches a) e = turned (fetch-turns k j slots al few m L M c R fit open-now n refl a e)
           go (aborted y) e = abort-after y us (inl open-now)
           go (answers a w) e = turned (A m L M c R fit open-now waits a w e)
 
@@ -225,7 +219,7 @@ module _ (k j slots : ℕ) where
               let ends : note L n (S.applied-at z m₂ (n .client) (n .server) .outcome) ≡ decides L (n .client)
               = ap (note L n) (applied-outcome z m₂ (n .client) (n .server) ∙ cond-true Committed (Applied (n .server)) done) ∙ decided-is 4 e in
               coe 1 0 (t. Explained k j slots (changed-append whole ps (S.applied-at z m₂ (n .client) (n .server) .stores) m t) (ends t))
-              (apply-explained k j slots E al few m₂ (decides L (n .client)) (D.M₂ k j slots al few m L M c G fit s now new fine all) c
+              (apply-explained k j slots al few m₂ (decides L (n .client)) (D.M₂ k j slots al few m L M c G fit s now new fine all) c
               (D.decide-good k j slots al few m L M c G fit s now new fine all) s
               (D.now₂ k j slots al few m L M c G fit s now new fine all) (D.new₂ k j slots al few m L M c G fit s now new fine all)
               (versions-kept k j slots m m₂ (n .client) (D.same-sets₂ k j slots al few m L M c G fit s now new fine all) versions))
@@ -252,7 +246,7 @@ module _ (k j slots : ℕ) where
             let d = due-now u (n .server) f in
             if-after (S.apply-fits z m (n .client) (n .server)) _
             (λ q. subst (Explained k j slots _) (sym (applied-is e))
-            (apply-explained k j slots E al few m L M c G s (d .0) (d .2) (and-both (unlock-fits z m (n .client) (n .server)) (versions-fit z m (n .client)) q .1)))
+            (apply-explained k j slots al few m L M c G s (d .0) (d .2) (and-both (unlock-fits z m (n .client) (n .server)) (versions-fit z m (n .client)) q .1)))
           where
             applied-is : n .kind ≡ 5 → note L n (S.applied-at z m (n .client) (n .server) .outcome) ≡ L
             applied-is e = ap (note L n) (applied-outcome z m (n .client) (n .server)) ∙ go (S.all-applied z m (n .client) (n .server))

@@ -26,6 +26,7 @@ use Rattle.client.specs.Fits.{client-fits}
 use Rattle.client.specs.Run as Run
 use Rattle.client.specs.Run.{among}
 use Rattle.client.specs.Have.{is-found, or-copied, or-read, source, valued, have, unusable, broken}
+use Rattle.client.specs.Answered.{entered}
 use Rattle.client.specs.Work as Work
 use Rattle.client.specs.Work.{Worked, walked, worked}
 use Rattle.schedule.specs.Store.{sizes}
@@ -45,7 +46,7 @@ fetched-ask (Work.answers a w) = none
 module _ (z : Sizes) (u : ClientWord → ℕ) where
   -- the last questions fetch nothing
   no-fetch : (a : Ans) (w : O.Writes) → fetched-ask (Work.last-questions z u a w) ≡ none
-  no-fetch a w = go (not (all-fit? w w)) (ltb 48 (Work.writes-after u w)) (Work.any-at-last u w)
+  no-fetch a w = go (not (all-fit? w w)) (ltb 48 (Work.writes-after u w)) (Work.any-at-last u (entered w))
     where
       go : (p q r : Bool) → fetched-ask (cond p (Work.aborted 3) (cond q (Work.aborted 4) (cond r (Work.aborted 8) (Work.answers a w)))) ≡ none
       go true q r = refl

@@ -34,8 +34,7 @@ use Rattle.schedule.specs.Answers.{answers-right, tree-holds}
 use Rattle.schedule.specs.Opened.{opened-related}
 use Rattle.schedule.specs.Turns.{decided-word, store, Good, Explained}
 use Rattle.schedule.specs.Settled.{all-settled, settled-applied}
-use Rattle.schedule.specs.Applies.{Ends}
-use Rattle.schedule.specs.ByKind.{Answering, Fetching, step-after}
+use Rattle.schedule.specs.ByKind.{Answering, step-after}
 
 module _ (k j slots : ℕ) (al : Allowed (sizes k j slots)) (few : suc j ≤ 16) where
   -- ---- where no apply is due, the tree
@@ -84,13 +83,13 @@ module _ (k j slots : ℕ) (al : Allowed (sizes k j slots)) (few : suc j ≤ 16)
     pairs-read = read-is Stored (map-all (L .decided)) holds (D.node-in m) node-read
 
   -- ---- a list of steps
-  module _ (E : Ends k j slots) (A : Answering k j slots) (F : Fetching k j slots) where
+  module _ (A : Answering k j slots) where
     course-good : (ks : List Step) → D.All-words ks → (x : D.Course) → Explained k j slots (x .memory) (x .ledger)
         → Explained k j slots (D.course (store k j slots) x ks .memory) (D.course (store k j slots) x ks .ledger)
     unfolding D.course D.All-words
     course-good [] w x e = e
     course-good (n ∷ ks) w x e =
-        course-good ks (w .1) (D.next (store k j slots) x n) (step-after k j slots al few E A F (x .memory) (x .ledger) (e .machine) (e .good) n (w .0 .key))
+        course-good ks (w .1) (D.next (store k j slots) x n) (step-after k j slots al few A (x .memory) (x .ledger) (e .machine) (e .good) n (w .0 .key))
 
     -- from a newly opened store
     first-good : Good k j slots (opened (store k j slots)) blank (P.first-machine (T k j slots))
@@ -118,9 +117,9 @@ module _ (k j slots : ℕ) (al : Allowed (sizes k j slots)) (few : suc j ≤ 16)
           pairs = pairs-read some-slot (D.settled (store k j slots) (x .memory)) (x .ledger) (n .machine) (n .good) done;
         }
 
--- what the three files show that this one rests on
+-- what is missing: a work step that answers
 abbrev Work-steps : Type 0
-Work-steps = (k j slots : ℕ) → Allowed (sizes k j slots) → suc j ≤ 16 → Ends k j slots × Answering k j slots × Fetching k j slots
+Work-steps = (k j slots : ℕ) → Allowed (sizes k j slots) → suc j ≤ 16 → Answering k j slots
 
 module _ (S : Work-steps) where
   with-sizes : (servers slots clients : ℕ) → W.Allowed (record { servers = servers; slots = slots; clients = clients })
@@ -129,8 +128,7 @@ module _ (S : Work-steps) where
   with-sizes (suc k) slots zero a ks w = absurd (omega (arith, a .clients .0))
   with-sizes (suc k) slots (suc j) a ks w =
       let al : Allowed (sizes k j slots) = (a .servers .1, a .slots .1) in
-      let s = S k j slots al (a .clients .1) in
-      demanded k j slots al (a .clients .1) (s .0) (s .1) (s .2) (a .slots .0) ks w
+      demanded k j slots al (a .clients .1) (S k j slots al (a .clients .1)) (a .slots .0) ks w
 
   pub demand-3 : D.Demand-3
   demand-3 z a ks w = with-sizes (z .servers) (z .slots) (z .clients) a ks w
