@@ -25,3 +25,6 @@ pub mod Mute
 pub mod Rise
 -- an operation walked to its end
 pub mod Operated
+-- the last questions
+pub mod Fit
+pub mod Last

@@ -33,7 +33,7 @@ pub name-below : (z : Sizes) (n : ℕ) → z .servers ≤ 8 → in-store z n ≡
 unfolding in-store
 name-below z n h t = let a : n / 1024 < z .servers = ltb-true _ _ (and-both _ _ t .0) in omega arith
 
-hit-is : (z : Sizes) → z .servers ≤ 8 → (o p : Obj) → object-in-store z o ≡ true → object-in-store z p ≡ true → hit o p ≡ eqb (number o) (number p)
+pub hit-is : (z : Sizes) → z .servers ≤ 8 → (o p : Obj) → object-in-store z o ≡ true → object-in-store z p ≡ true → hit o p ≡ eqb (number o) (number p)
 hit-is z h meta meta s t = refl
 hit-is z h meta (node n) s t = let e : 0 ≡ 1 + n → ⊥ = λ q. omega arith in sym (ne-eqb 0 (1 + n) e)
 hit-is z h meta (flag n) s t = let e : 0 ≡ 8193 + n → ⊥ = λ q. omega arith in sym (ne-eqb 0 (8193 + n) e)
@@ -236,7 +236,7 @@ module _ (x : List ℕ) (n : ℕ) (r : Node) (sized : Sized r) (fit : OwnFits x)
       go (At i) e = rw (own-put, e) (put-replaced i e)
       go Absent e = rw (own-put, e) (put-behind e)
 
-hit-same : (o q : Obj) → hit o q ≡ true → o ≡ q
+pub hit-same : (o q : Obj) → hit o q ≡ true → o ≡ q
 hit-same meta meta e = refl
 hit-same meta (node n) e = let z : _≡_ {A = ℕ} 0 1 = cc in absurd (omega arith)
 hit-same meta (flag n) e = let z : _≡_ {A = ℕ} 0 1 = cc in absurd (omega arith)

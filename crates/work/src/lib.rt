@@ -1,5 +1,6 @@
 // The walk of a waiting operation's plan over what its client has.
 pub mod down;
+pub mod last;
 pub mod lookup;
 pub mod rise;
 pub mod search;
