@@ -6,7 +6,9 @@ use Prim.Native.Nat.{ℕ, zero, suc, _+_, _*_, _/_, _≤_, _<_}
 use native.Mathlib.Omega.{arith}
 use borrow.Author.Tests.{ltb-true, lt-ltb, le-ltb}
 use lib.Dec.{ltb}
-use lib.ListN.{length, getD}
+use native.Mathlib.Numerals.{one-add}
+use lib.ListN.{length, getD, take, drop}
+use lib.Seq.{getD-take, getD-drop}
 use Rattle.layout.specs.Space.{changed}
 use Rattle.layout.specs.Step.{andThen, changed-append}
 use Rattle.layout.specs.Sweep.{sweep}
@@ -17,10 +19,12 @@ use Rattle.client.specs.declared.answer.Look.{Look}
 use Rattle.client.specs.declared.part.Set.the-variants.{Reads, Writes}
 use Rattle.client.specs.Layout.{ClientWord, client-words}
 use Rattle.client.specs.Sets.{held, count, find}
-use Rattle.client.specs.Part.{Did, _then_, nothing, put-field, put-item}
+use Rattle.client.specs.Part.{Step, Did, _then_, nothing, put-field, put-item}
 use Rattle.client.specs.StepLaws.{Good, EachGood, did-then, did-as, did-nothing, good-then, good-nothing, good-field, good-item, good-cond, good-by, find-limit, swept-all}
 use Rattle.client.specs.Have.{copied}
-use Rattle.client.specs.Lent.{Entry, own-count, own-number, own-record, own-first, own-list}
+use Rattle.client.specs.Lent.{Entry, InUse, used-in, own-count, own-number, own-record, own-first, own-list}
+use Rattle.client.specs.LentLaws.{length-used}
+use Rattle.client.specs.Answered.{used-enter}
 use Rattle.client.specs.Enter.{read-behind, enter-read, enter-copy, enter-nth, enter-used, written-behind, enter-at, enter-write, write-nth, enter-entries}
 
 module _ (s : List ℕ) (x c : ℕ) (n : Node) (e : c ≡ count (held s) Reads) where
@@ -54,9 +58,26 @@ pub nth-entered : (u s t : List ℕ) (i : ℕ) → Did (enter-copy (getD u (i + 
 unfolding enter-nth
 nth-entered u s t i p = p
 
-pub used-entered : (u s t : List ℕ) (n i : ℕ) → n ≡ getD u 0 0 → i ≤ n → n ≤ i → Did (sweep client-words (enter-nth u) i) s t → Did (enter-used u) s t
-unfolding enter-used
-used-entered u s t n i e a b p = rw (← e) (swept-all (enter-nth u) n i s t a b p)
+-- the numbers in the lent list, one after another
+sweep-same : (g h : ℕ → Step) (n : ℕ) (m : ClientWord → ℕ) → ((i : ℕ) → i < n → g i ≡ h i) → sweep client-words g n m ≡ sweep client-words h n m
+unfolding sweep andThen
+sweep-same g h zero m e = refl
+sweep-same g h (suc n) m e = rw (sweep-same g h n m (λ i l. e i (omega arith)), e n (omega arith))
+
+nth-same : (u : List ℕ) (i : ℕ) → i < getD u 0 0 → enter-nth u i ≡ enter-nth (length (used-in u) ∷ used-in u) i
+unfolding enter-nth used-in
+nth-same u i h =
+    let e : getD (take (getD u 0 0) (drop 1 u)) i 0 ≡ getD u (1 + i) 0 = getD-take (getD u 0 0) (drop 1 u) i 0 h ∙ getD-drop 1 u i 0 in
+    let z : i + 1 ≡ 1 + i = omega arith in
+    rw (z, one-add i, e, one-add i)
+
+pub used-entered : (u s t : List ℕ) (n i : ℕ) → InUse u → n ≡ getD u 0 0 → i ≤ n → n ≤ i → Did (sweep client-words (enter-nth u) i) s t → Did (used-enter (used-in u)) s t
+unfolding used-enter enter-used
+used-entered u s t n i f e a b p =
+    let l : length (used-in u) ≡ n = length-used u f ∙ sym e in
+    let q : sweep client-words (enter-nth (length (used-in u) ∷ used-in u)) n (held s) ≡ sweep client-words (enter-nth u) n (held s) =
+    sym (sweep-same (enter-nth u) (enter-nth (length (used-in u) ∷ used-in u)) n (held s) (λ j h. nth-same u j (omega arith))) in
+    did-as (sweep client-words (enter-nth u) n) (used-enter (used-in u)) s t (rw (used-enter, enter-used, l) (rw l at q)) (swept-all (enter-nth u) n i s t a b p)
 
 -- ---- writes
 module _ (s : List ℕ) (x : ℕ) (n : Node) (g : Found) (f : g ≡ find (held s) Writes x) where

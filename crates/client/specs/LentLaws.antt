@@ -15,7 +15,7 @@ use Rattle.nodes.specs.declared.found.Found.{Found}
 use Rattle.nodes.specs.declared.found.Found.the-variants.{At, Absent}
 use Rattle.nodes.specs.Stored.{words-of}
 use Rattle.client.specs.Run.{among}
-use Rattle.client.specs.Lent.{Lent, used-in, pushed, OwnFits, own-find, own-at, own-put}
+use Rattle.client.specs.Lent.{Lent, InUse, used-in, pushed, OwnFits, own-find, own-at, own-put}
 
 -- ---- the copies in use
 pub among-append : (x : ℕ) (l m : List ℕ) → among x (l ++ m) ≡ (among x l || among x m)
@@ -94,7 +94,10 @@ pushed-lent u x b f h =
     go i (yes e) l = rw (e, getD-set-same u (c + 1) x 0 (omega (arith, f .long, f .few))) b
     go i (no d) l = rw (getD-set-other u (c + 1) (i + 1) x 0 (λ e. d (omega arith))) (f .small i (omega arith))
 
-pub length-used : (u : List ℕ) → Lent u → length (used-in u) ≡ getD u 0 0
+pub lent-in-use : (u : List ℕ) → Lent u → InUse u
+lent-in-use u f = record { long = f .long; few = omega (arith, f .few); small = f .small }
+
+pub length-used : (u : List ℕ) → InUse u → length (used-in u) ≡ getD u 0 0
 unfolding used-in
 length-used u f =
     let l : length (drop 1 u) ≡ length u - 1 = length-drop 1 u in
@@ -133,5 +136,5 @@ pub own-set : (w words w′ : List ℕ) (x i : ℕ) (n : Node) → words ≡ x �
 unfolding own-at
 own-set w words w′ x i n e p = p ∙ rw e
 
-pub small-nth : (u : List ℕ) (n i : ℕ) → Lent u → n ≡ getD u 0 0 → i < n → getD u (i + 1) 0 < 16385
+pub small-nth : (u : List ℕ) (n i : ℕ) → InUse u → n ≡ getD u 0 0 → i < n → getD u (i + 1) 0 < 16385
 small-nth u n i f e h = f .small i (omega arith)

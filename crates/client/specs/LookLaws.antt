@@ -22,7 +22,7 @@ use Rattle.client.specs.Sets.{count, record-at, find}
 use Rattle.client.specs.Have.{here, copy, full, lacking, unfit, is-found, is-copied, copied-meta, copied-node, copied-flag, copied, source}
 use Rattle.client.specs.Run.{among}
 use Rattle.client.specs.Lent.{Lent, own-find, own-record, used-in, pushed}
-use Rattle.client.specs.LentLaws.{length-used, pushed-lent}
+use Rattle.client.specs.LentLaws.{lent-in-use, length-used, pushed-lent}
 use Rattle.client.specs.Look.{taken-up, or-in-part, looked, look-object, at-hand, used-after}
 
 -- ---- copies
@@ -93,7 +93,7 @@ module _ (m : ClientWord → ℕ) (u : List ℕ) (x : ℕ) (n : Node) (b : Bool)
 
   module _ (q : ℕ) (t : b ≡ false) (f : Lent u) (g : q ≡ count m Reads) where
     room : ltb (count m Reads + length (used-in u)) 96 ≡ ltb (q + getD u 0 0) 96
-    room = rw (length-used u f, ← g)
+    room = rw (length-used u (lent-in-use u f), ← g)
 
     pub up-new : q + getD u 0 0 < 96 → r ≡ copy n → r ≡ taken-up m u x n
     unfolding taken-up
@@ -191,7 +191,7 @@ module _ (z : Sizes) (m : ClientWord → ℕ) (w u : List ℕ) (x : ℕ) where
       use-copy u′ p = rw is-copy p
 
       pub use-lent : (u′ : List ℕ) → x < 16385 → Lent u → u′ ≡ pushed u x → Lent u′
-      use-lent u′ h g p = rw p (pushed-lent u x h g (omega (arith, has-room is-copy, length-used u g)))
+      use-lent u′ h g p = rw p (pushed-lent u x h g (omega (arith, has-room is-copy, length-used u (lent-in-use u g))))
 
 -- ---- an object of the store
 pub small-name : (s k n : ℕ) (b : Bool) → b ≡ in-store (sizes s k) n → not b ≡ false → s ≤ 8 → n < 8192

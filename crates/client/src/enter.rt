@@ -11,8 +11,9 @@ use nodes::node::Node;
 ghost use Prim.Native.Nat.{_/_, _<_, _≤_};
 ghost use lib.ListN.{length};
 ghost use Rattle.client.specs.Part.{Did};
-ghost use Rattle.client.specs.Lent.{Lent, OwnFits, own-list};
-ghost use Rattle.client.specs.Enter.{enter-read, enter-copy, enter-used, enter-write, write-nth, enter-entries};
+ghost use Rattle.client.specs.Lent.{InUse, used-in, OwnFits, own-list};
+ghost use Rattle.client.specs.Enter.{enter-read, enter-copy, enter-write, write-nth, enter-entries};
+ghost use Rattle.client.specs.Answered.{used-enter};
 
 // An object with its record as read. Nothing is done where there are 96.
 pub fn enter_read(part: &mut [u8], number: u64, n: Node)
@@ -38,8 +39,8 @@ fn enter_copy(part: &mut [u8], number: u64)
 
 // All copies that came into use.
 pub fn enter_used(part: &mut [u8], used: &[u64])
-    requires { ⌜ Lent (now used) × (7223 ≤ length (now part) / 8) ⌝ }
-    ensures { λ _. ⌜ Did (enter-used (now (used .entry))) (now (part .entry)) (now (part .exit)) ⌝ }
+    requires { ⌜ InUse (now used) × (7223 ≤ length (now part) / 8) ⌝ }
+    ensures { λ _. ⌜ Did (used-enter (used-in (now (used .entry)))) (now (part .entry)) (now (part .exit)) ⌝ }
 {
     let n = used[0] as usize;
     let mut i: usize = 0;
