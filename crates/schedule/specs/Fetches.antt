@@ -36,7 +36,6 @@ use Rattle.client.specs.Layout.{ClientWord, client-words, phase, reads-count}
 use Rattle.client.specs.Record.{number}
 use Rattle.client.specs.Fits.{client-fits}
 use Rattle.client.specs.FitsLaws.{fits-field}
-use Rattle.client.specs.Items.{has}
 use Rattle.client.specs.Have.{have, broken}
 use Rattle.client.specs.Participants.{at-home}
 use Rattle.client.specs.Run as Run
@@ -58,7 +57,8 @@ use Rattle.schedule.specs.Store.{positive, sizes, keeps}
 use Rattle.schedule.specs.Numbers.{as-node, name-lt}
 use Rattle.schedule.specs.Shows.{phase-of, T, In-store, Slot-shown, Copies-shown, Related}
 use Rattle.schedule.specs.Members.{kept-home, name-server}
-use Rattle.schedule.specs.Entered.{absent-has, has-absent, found-written}
+use Rattle.schedule.specs.Behind.{absent-has, has-absent}
+use Rattle.schedule.specs.Entered.{found-written}
 use Rattle.schedule.specs.Ran.{all-used}
 use Rattle.schedule.specs.Used.{after-used, Entering, copies-used, copies-stay}
 use Rattle.schedule.specs.Turns.{store, Turns, abort-turns}
@@ -147,7 +147,7 @@ module _ (k j slots : ℕ) (al : Allowed (sizes k j slots)) (few : suc j ≤ 16)
         open-still = open-now;
         shows = record {
           slot = E .slot;
-          copies = copies-stay u v (E .other) k j slots (M .copy c) copies;
+          copies = copies-stay Reads 10 u v (E .other) (λ e. absurd (omega arith)) (omega arith) k j slots (M .copy c) copies;
           says = said-else k j slots u v (E .other) (L .given (c .0)) (L .undecided (c .0)) (M .said c) (R .clients c .says);
         };
       }

@@ -47,6 +47,7 @@ pub mod Renewed
 -- work: a run of a plan; what is at hand; an object enters the read set
 pub mod Ran
 pub mod AtHand
+pub mod Behind
 pub mod Entered
 -- copies in use enter the read set
 pub mod Used

@@ -37,7 +37,8 @@ use Rattle.schedule.specs.Slots.{slot-frame}
 use Rattle.schedule.specs.Kept.{away, client-related}
 use Rattle.schedule.specs.CopyWords.{of-copies, sets-stay}
 use Rattle.schedule.specs.Copied.{one-copy, copies-moved}
-use Rattle.schedule.specs.Entered.{Else-same, field-same, Read-entered, read-entered, slot-entered}
+use Rattle.schedule.specs.Behind.{field-same}
+use Rattle.schedule.specs.Entered.{Else-same, Read-entered, read-entered, slot-entered}
 use Rattle.schedule.specs.Used.{copies-stay}
 use Rattle.schedule.specs.Turns.{Turns}
 
@@ -57,7 +58,7 @@ said-frame k j slots u v given undecided said p a b d e h =
 pub said-else : (k j slots : ℕ) (u v : ClientWord → ℕ) → Else-same u v → (given : Op) (undecided : List Told) (said : List (Shown (T k j slots)))
     → Said-shown k j slots u given undecided said → Said-shown k j slots v given undecided said
 said-else k j slots u v h given undecided said =
-    let at : (i : ℕ) → ¬ (i ≡ 10) → v (field i) ≡ u (field i) = field-same u v h in
+    let at : (i : ℕ) → ¬ (i ≡ 10) → v (field i) ≡ u (field i) = field-same Reads 10 u v h in
     said-frame k j slots u v given undecided said (at 0 (λ e. absurd (omega arith))) (at 1 (λ e. absurd (omega arith))) (at 2 (λ e. absurd (omega arith)))
     (at 3 (λ e. absurd (omega arith))) (at 4 (λ e. absurd (omega arith)))
 
@@ -186,7 +187,7 @@ module _ (k j slots : ℕ) (m : Address → ℕ) (L : Ledger) (M : P.Machine (T 
       open-still = G .open-still;
       shows = record {
         slot = slot-entered k j slots al v w o r E y (G .shows .slot) hi unread unwritten;
-        copies = copies-stay v w (E .other) k j slots (G .copies) (G .shows .copies);
+        copies = copies-stay Reads 10 v w (E .other) (λ e. absurd (omega arith)) (omega arith) k j slots (G .copies) (G .shows .copies);
         says = said-else k j slots v w (E .other) (L .given (c .0)) (L .undecided (c .0)) (M .said c) (G .shows .says);
       };
     }

@@ -28,6 +28,7 @@ use Rattle.protocol.specs.Hints.{objects}
 use Rattle.protocol.specs.Machine as P
 use Rattle.protocol.specs.Work as W
 use Rattle.client.specs.declared.answer.Look.{Look}
+use Rattle.client.specs.declared.part.Set.{Set}
 use Rattle.client.specs.declared.part.Set.the-variants.{Reads, Writes, Copies}
 use Rattle.client.specs.Layout.{ClientWord, client-words, item, vector-word, reads-count, meta-copied, meta-root, meta-version}
 use Rattle.client.specs.Record.{number, single, value-of}
@@ -43,9 +44,10 @@ use Rattle.schedule.specs.Store.{sizes}
 use Rattle.schedule.specs.Shows.{T, In-store, item-from, item-of, Slot-shown, Copies-shown}
 use Rattle.schedule.specs.Slots.{find-frame, record-frame, copies-frame}
 use Rattle.schedule.specs.Held.{at-has}
-use Rattle.schedule.specs.Placed.{record-sized}
+use Rattle.schedule.specs.Placed.{family, record-sized}
 use Rattle.schedule.specs.AtHand.{copy-there, written-read, Had, had}
-use Rattle.schedule.specs.Entered.{absent-has, has-absent, has-after, Else-same, field-same, copy-same, vector-same, found-written, Read-entered, read-entered, slot-entered}
+use Rattle.schedule.specs.Behind.{Elsewhere, field-same, set-same, vector-same, absent-has, has-absent, has-behind}
+use Rattle.schedule.specs.Entered.{Else-same, found-written, Read-entered, read-entered, slot-entered}
 use Rattle.schedule.specs.Ran.{one-more, with-used, all-used, used-grows}
 
 -- ---- copies do not depend on the read set
@@ -56,31 +58,33 @@ module _ (u v : ClientWord → ℕ) (h : Else-same u v) where
     where
       of-meta : copied-meta v ≡ copied-meta u
       of-meta =
-          let a = field-same u v h 12 (λ e. absurd (omega arith)) in
-          let b = field-same u v h 13 (λ e. absurd (omega arith)) in
-          let c = field-same u v h 14 (λ e. absurd (omega arith)) in
+          let a = field-same Reads 10 u v h 12 (λ e. absurd (omega arith)) in
+          let b = field-same Reads 10 u v h 13 (λ e. absurd (omega arith)) in
+          let c = field-same Reads 10 u v h 14 (λ e. absurd (omega arith)) in
           λ t. cond (eqb (a t) 1) (copy (single (c t) (b t))) lacking
 
       of-item : (z : Found) → copied-item v z ≡ copied-item u z
-      of-item (At i) = ap copy (record-frame u v Copies i (copy-same u v h i))
+      of-item (At i) = ap copy (record-frame u v Copies i (set-same Reads 10 u v h Copies (λ e. absurd (omega arith)) i))
       of-item Absent = refl
 
       of-node : copied-node v x ≡ copied-node u x
-      of-node = ap (copied-item v) (find-frame u v Copies refl (λ i. copy-same u v h i 0) x) ∙ of-item (find u Copies x)
+      of-node = ap (copied-item v) (find-frame u v Copies refl (λ i. set-same Reads 10 u v h Copies (λ e. absurd (omega arith)) i 0) x) ∙ of-item (find u Copies x)
 
       of-flag : (n : ℕ) → copied-flag v n ≡ copied-flag u n
       of-flag n =
-          let a = vector-same u v h (N.server-of n) 0 in
-          let b = vector-same u v h (N.server-of n) (1 + N.slot-of n / 64) in
+          let a = vector-same Reads 10 u v h (N.server-of n) 0 in
+          let b = vector-same Reads 10 u v h (N.server-of n) (1 + N.slot-of n / 64) in
           λ t. cond (eqb (a t) 1) (copy (single 0 (digit (bit (b t) (N.slot-of n % 64))))) lacking
 
-  pub copies-stay : (k j slots : ℕ) (f : Obj → Option (P.Copy (T k j slots))) → Copies-shown k j slots u f → Copies-shown k j slots v f
-  copies-stay k j slots f =
-      copies-frame k j slots u v f (field-same u v h 12 (λ e. absurd (omega arith))) (field-same u v h 13 (λ e. absurd (omega arith)))
-      (field-same u v h 14 (λ e. absurd (omega arith))) (copy-same u v h) (vector-same u v h)
+-- and stay, where only a set and its count change
+pub copies-stay : (s : Set) (f : ℕ) (u v : ClientWord → ℕ) → Elsewhere s f u v → ¬ (family (item Copies 0 0) ≡ family (item s 0 0)) → f < 12
+    → (k j slots : ℕ) (g : Obj → Option (P.Copy (T k j slots))) → Copies-shown k j slots u g → Copies-shown k j slots v g
+copies-stay s f u v h c l k j slots g =
+    copies-frame k j slots u v g (field-same s f u v h 12 (λ e. absurd (omega arith))) (field-same s f u v h 13 (λ e. absurd (omega arith)))
+    (field-same s f u v h 14 (λ e. absurd (omega arith))) (set-same s f u v h Copies c) (vector-same s f u v h)
 
 -- a copy's record has whole arrays
-copied-sized : (u : ClientWord → ℕ) (x : ℕ) → Sized (copied u x .node)
+pub copied-sized : (u : ClientWord → ℕ) (x : ℕ) → Sized (copied u x .node)
 unfolding copied copied-meta copied-node copied-flag single free-node
 copied-sized u x = go (eqb x 0) (leb x 8192)
   where
@@ -211,7 +215,7 @@ module _ (k j slots : ℕ) (al : Allowed (sizes k j slots)) (u : ClientWord → 
           other = λ a p q. R .other a p q ∙ E .other a p q;
           counted = R .counted ∙ ap suc (E .counted) ∙ omega (arith, one-more us (number o));
           has-now = λ x.
-              has-after k j slots al v (after-used u more) o r R x ∙ ap (λ (b : Bool). b || eqb (number o) x) (E .has-now x)
+              has-behind Reads 10 v (after-used u more) (number o) r R x ∙ ap (λ (b : Bool). b || eqb (number o) x) (E .has-now x)
               ∙ sym (or-assoc (has u Reads x) (among x us) (eqb (number o) x)) ∙ ap (λ (b : Bool). has u Reads x || b) (sym (among-more x (number o) us));
         }
 
