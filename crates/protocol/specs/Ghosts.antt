@@ -185,7 +185,7 @@ module _ (T : Setting) where
       (after r (read c o k hp (ap (says T (λ i. true) false) hf) hn)))
 
   -- ANSWER: the written items change
-  find-wrote : (ws : List (Obj × Val)) (is : List (Item T)) (o : Obj) → find T (map (wrote T ws) is) o ≡ Option·map (wrote T ws) (find T is o)
+  pub find-wrote : (ws : List (Obj × Val)) (is : List (Item T)) (o : Obj) → find T (map (wrote T ws) is) o ≡ Option·map (wrote T ws) (find T is o)
   unfolding find
   find-wrote ws [] o = refl
   find-wrote ws (i ∷ is) o = go (eqObj (i .obj) o) refl (find-wrote ws is o)

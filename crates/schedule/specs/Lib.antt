@@ -51,6 +51,10 @@ pub mod Behind
 pub mod Entered
 -- copies in use enter the read set
 pub mod Used
+-- records that hold what is written, each object once; the writes enter the write set
+pub mod Records
+pub mod Latest
+pub mod Rewritten
 -- a new store
 pub mod Opened
 -- what follows for answers and tree
