@@ -23,6 +23,7 @@ pub mod Search
 -- changes carried up
 pub mod Mute
 pub mod Rise
+pub mod Split
 -- an operation walked to its end
 pub mod Operated
 -- the last questions

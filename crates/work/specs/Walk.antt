@@ -86,6 +86,12 @@ module _ (z : Sizes) (m : ClientWord → ℕ) where
 abbrev pub carry : Stop → List ℕ → (List ℕ → Told) → Told
 carry s us f = cond (goes s) (f us) (told s us)
 
+pub carry-stops : (s : Stop) (us : List ℕ) (f : List ℕ → Told) → goes s ≡ false → carry s us f ≡ told s us
+carry-stops s us f e = rw e
+
+pub carry-goes : (s : Stop) (us : List ℕ) (f : List ℕ → Told) → goes s ≡ true → carry s us f ≡ f us
+carry-goes s us f e = rw e
+
 -- ---- the ends of a walk
 module _ (z : Sizes) (m : ClientWord → ℕ) (us : List ℕ) where
   pub walked-fails : (y : Why) → walked z m (P.fail y) us ≡ told (Aborts (reason y)) us

@@ -5,5 +5,6 @@ pub mod lookup;
 pub mod rise;
 pub mod search;
 pub mod seek;
+pub mod split;
 pub mod take;
 pub mod walk;
