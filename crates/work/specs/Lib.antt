@@ -24,6 +24,7 @@ pub mod Search
 pub mod Mute
 pub mod Rise
 pub mod Split
+pub mod Grow
 -- an operation walked to its end
 pub mod Operated
 -- the last questions

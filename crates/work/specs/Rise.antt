@@ -73,6 +73,14 @@ pub record Raised (z : Sizes) (m : ClientWord → ℕ) (x u : List ℕ) (l : ℕ
   pub content : goes (r .stop) ≡ true → Content (suc l) (r .up)
   pub noted : Noted m u′
 
+-- The last level. `plan` is what it does after the writes w.
+pub record Closed (z : Sizes) (m : ClientWord → ℕ) (x u : List ℕ) (plan : Writes → Plan) (s : Stop) (x′ u′ : List ℕ) : Type 0 where
+  pub more : Writes
+  pub same : (w : Writes) → Holds z x w → walked z m (plan w) (used-in u) ≡ ended s (used-in u′) (more ++ w)
+  pub holds : stands s ≡ true → (w : Writes) → Holds z x w → Holds z x′ (more ++ w)
+  pub kept : stands s ≡ true → (w : Writes) → Holds z x w → OwnKept x′
+  pub noted : Noted m u′
+
 -- ---- the node of the name c and the level l whose parent is b, with the entries es lo where it holds keys from lo on
 abbrev pub in-parent : Turn → ℕ → Branch
 in-parent b lo = branch-of (b .name) (b .at) (entriesOf (b .node) lo)
@@ -232,5 +240,15 @@ stopped-raised z m x u l root plan r x′ u′ halts mute same noted = record {
   good = λ t. stops-not (r .stop) halts t;
   few = λ t. stops-not (r .stop) halts t;
   content = λ t. stops-not (r .stop) halts t;
+  noted = noted;
+}
+
+pub stopped-closed : (z : Sizes) (m : ClientWord → ℕ) (x u : List ℕ) (plan : Writes → Plan) (s : Stop) (x′ u′ : List ℕ) → ((w : Writes) → Holds z x w → stands s ≡ false)
+    → ((w : Writes) → Holds z x w → walked z m (plan w) (used-in u) ≡ told s (used-in u′)) → Noted m u′ → Closed z m x u plan s x′ u′
+stopped-closed z m x u plan s x′ u′ mute same noted = record {
+  more = [];
+  same = λ w hold. same w hold ∙ sym (stopped-told s (used-in u′) w (mute w hold));
+  holds = λ t w hold. stands-not s (mute w hold) t;
+  kept = λ t w hold. stands-not s (mute w hold) t;
   noted = noted;
 }

@@ -1,6 +1,7 @@
 // The walk of a waiting operation's plan over what its client has.
 pub mod down;
 pub mod last;
+pub mod grow;
 pub mod lookup;
 pub mod rise;
 pub mod search;

@@ -42,7 +42,7 @@ fn take_half(
 }
 
 // A node's halves are written; the result is the separator between them.
-fn halve(own: &mut [u64], left: u64, right: u64, n: Wide) -> u64
+pub fn halve(own: &mut [u64], left: u64, right: u64, n: Wide) -> u64
     requires { ⌜ (left < 8192) × (right < 8192) × OwnGood (now own) × (getD (now own) 0 0 < 19) ⌝ }
     requires full { ⌜ Overfull n ⌝ }
     ensures { λ r. ⌜ Halved (now (own .entry)) left right n r (now (own .exit)) ⌝ }
