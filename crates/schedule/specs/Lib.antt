@@ -55,6 +55,10 @@ pub mod Used
 pub mod Records
 pub mod Latest
 pub mod Rewritten
+-- work that answers: the writes as the machine has them; the step
+pub mod Overwritten
+pub mod Answered
+pub mod Answering
 -- a new store
 pub mod Opened
 -- what follows for answers and tree

@@ -156,7 +156,7 @@ one-entered u x r w l = go (find u Writes x) refl
 
 -- ---- ALL OF THEM
 -- with more objects written, fewer are new
-fewer-new : (u v : ClientWord → ℕ) → ((x : ℕ) → has u Writes x ≡ true → has v Writes x ≡ true) → (l : List Entry) → count-new v l ≤ count-new u l
+pub fewer-new : (u v : ClientWord → ℕ) → ((x : ℕ) → has u Writes x ≡ true → has v Writes x ≡ true) → (l : List Entry) → count-new v l ≤ count-new u l
 unfolding count-new
 fewer-new u v h [] = omega arith
 fewer-new u v h (e ∷ l) = go (has u Writes (e .0)) refl (has v Writes (e .0)) refl (fewer-new u v h l)
