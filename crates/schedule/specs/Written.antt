@@ -147,12 +147,12 @@ module _ (k j slots : ℕ) (al : Allowed (sizes k j slots)) (u : ClientWord → 
   at-home-obj i = by-obj (x i) true (λ n. eqb (N.server-of n) (s .0)) (λ n. eqb (N.server-of n) (s .0))
 
   write-is : (i : ℕ) (q : Place → ℕ) → store-write u (s .0) i q ≡ write i q
+  unfolding node-step home-step table-step
   write-is i q = by-obj (x i) _ _ _ ∙ go (o i) (at-home-obj i)
     where
       go : (v : Obj) → H i ≡ by-object v true (λ n. eqb (N.server-of n) (s .0)) (λ n. eqb (N.server-of n) (s .0))
           → by-object v (metadata-step (A i) (Next i) q) (λ n. node-step (s .0) (named n) (r i) (Next i) (B i) q) (λ n. cond (H i) (flag-step (named n) (F i) q) [])
           ≡ W.write-of k j slots (H i) (B i) (F i) (Next i) (A i) (stored-node u i) (record-whole u i) v q
-      unfolding node-step home-step table-step
       go meta e = refl
       go (node n) e = ap (λ (b : Bool). cond b (W.node-puts n (stored-node u i)) [] ++ cond (B i) (W.table-puts n (Next i)) []) (sym e)
       go (flag n) e = refl
