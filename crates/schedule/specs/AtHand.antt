@@ -32,6 +32,10 @@ use Rattle.schedule.specs.Shows as S
 use Rattle.schedule.specs.Shows.{T, In-store, item-from, item-of, Slot-shown, Copies-shown}
 use Rattle.schedule.specs.Held.{found-at, has-at, at-has, written-in}
 
+-- a lookup has found something
+abbrev pub Is-there : Look → Type 0
+Is-there l = is-found (l .how) ≡ true
+
 flag-back : (b : Bool) → eqb (digit b) 1 ≡ b
 flag-back true = refl
 flag-back false = refl
@@ -41,9 +45,6 @@ module _ (k j slots : ℕ) (al : Allowed (sizes k j slots)) (u : ClientWord → 
   -- the machine has what a lookup among the copies says
   abbrev Same-copy : Obj → Look → Type 0
   Same-copy o l = f o ≡ S.copy k j slots u (value-of o (l .node)) (l .node .version)
-
-  abbrev Is-there : Look → Type 0
-  Is-there l = is-found (l .how) ≡ true
 
   meta-there : Is-there (copied-meta u) → Same-copy meta (copied-meta u)
   unfolding copied-meta single made pad

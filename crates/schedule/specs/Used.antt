@@ -35,7 +35,7 @@ use Rattle.client.specs.Record.{number, single, value-of}
 use Rattle.client.specs.Sets.{count, find}
 use Rattle.client.specs.Items.{has}
 use Rattle.client.specs.Fits.{client-fits}
-use Rattle.client.specs.Have.{copy, lacking, is-found, copied-meta, copied-item, copied-node, copied-flag, copied, or-copied, or-read, source, have}
+use Rattle.client.specs.Have.{copy, lacking, copied-meta, copied-item, copied-node, copied-flag, copied, or-copied, or-read, source, have}
 use Rattle.client.specs.Run.{among}
 use Rattle.client.specs.Work.{new}
 use Rattle.client.specs.Enter.{enter-read, enter-copy, enter-nth, enter-used}
@@ -45,7 +45,7 @@ use Rattle.schedule.specs.Shows.{T, In-store, item-from, item-of, Slot-s
 use Rattle.schedule.specs.Slots.{find-frame, record-frame, copies-frame}
 use Rattle.schedule.specs.Held.{at-has}
 use Rattle.schedule.specs.Placed.{family, record-sized}
-use Rattle.schedule.specs.AtHand.{copy-there, written-read, Had, had}
+use Rattle.schedule.specs.AtHand.{Is-there, copy-there, written-read, Had, had}
 use Rattle.schedule.specs.Behind.{Elsewhere, field-same, set-same, vector-same, absent-has, has-absent, has-behind}
 use Rattle.schedule.specs.Entered.{Else-same, found-written, Read-entered, read-entered, slot-entered}
 use Rattle.schedule.specs.Ran.{one-more, with-used, all-used, used-grows}
@@ -160,9 +160,6 @@ pub among-more : (x y : ℕ) (us : List ℕ) → among x (us ++ (y ∷ [])) ≡ 
 unfolding among
 among-more x y [] = or-false (eqb y x)
 among-more x y (z ∷ us) = ap (λ (b : Bool). eqb z x || b) (among-more x y us) ∙ or-assoc (eqb z x) (among x us) (eqb y x)
-
-abbrev Is-there : Look → Type 0
-Is-there l = is-found (l .how) ≡ true
 
 module _ (k j slots : ℕ) (al : Allowed (sizes k j slots)) (u : ClientWord → ℕ) (fit : client-fits (sizes k j slots) u ≡ true)
     (y : P.Slot (T k j slots)) (shown : Slot-shown k j slots u y) (f : Obj → Option (P.Copy (T k j slots))) (copies : Copies-shown k j slots u f) where
