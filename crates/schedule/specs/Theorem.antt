@@ -1,24 +1,23 @@
 -- DEMAND 3, proved. Every list of steps leads to a good state: the answers of its decided transactions are the map's; and where all applies
 -- still due have been done, the tree is read from what the servers store.
 use mathlib.Core.Path.{_≡_, refl, ap, sym, _∙_, subst, fun-ext}
-use mathlib.Core.Bool.{Bool, true, false, _&&_, true≢false, false≢true}
+use mathlib.Core.Bool.{Bool, true, false, false≢true}
 use mathlib.Core.List.{List, [], _∷_}
 use Prim.Native.Nat.{ℕ, zero, suc, _≤_, _<_, Fin}
 use native.Mathlib.Omega.{arith}
 use borrow.Author.Tests.{lt-ltb}
-use lib.Dec.{ltb}
 use Rattle.base.specs.Test.{not-both}
 use Rattle.nodes.specs.Name as N
-use Rattle.operations.specs.Object.{Obj, meta, node, flag, Val, root-of, level-of, taken, is-taken}
+use Rattle.operations.specs.Object.{Obj, meta, node, flag, Val, root-of, taken, is-taken}
 use Rattle.operations.specs.Slot.{Allowed}
 use Rattle.operations.specs.Tree.{Holds}
 use Rattle.operations.specs.Sound.{new-store}
-use Rattle.operations.specs.Reading.{pairs-below, read-is}
+use Rattle.operations.specs.Reading.{read-is}
 use Rattle.protocol.specs.State.{is-decided}
 use Rattle.protocol.specs.Machine as P
 use Rattle.protocol.specs.Claim.{Applied, due-in, claim, none-due}
 use Rattle.server.specs.declared.place.Place.the-variants.{Root}
-use Rattle.client.specs.Record.{in-store, object-in-store, value-of}
+use Rattle.client.specs.Record.{in-store, value-of}
 use Rattle.steps.specs.declared.step.Step.{Step}
 use Rattle.steps.specs.Whole as W
 use Rattle.steps.specs.Whole.{Address, server}
@@ -34,7 +33,7 @@ use Rattle.schedule.specs.Answers.{answers-right, tree-holds}
 use Rattle.schedule.specs.Opened.{opened-related}
 use Rattle.schedule.specs.Turns.{decided-word, store, Good, Explained}
 use Rattle.schedule.specs.Settled.{all-settled, settled-applied}
-use Rattle.schedule.specs.ByKind.{Answering, step-after}
+use Rattle.schedule.specs.ByKind.{step-after}
 
 module _ (k j slots : ℕ) (al : Allowed (sizes k j slots)) (few : suc j ≤ 16) where
   -- ---- where no apply is due, the tree
@@ -83,52 +82,46 @@ module _ (k j slots : ℕ) (al : Allowed (sizes k j slots)) (few : suc j ≤ 16)
     pairs-read = read-is Stored (map-all (L .decided)) holds (D.node-in m) node-read
 
   -- ---- a list of steps
-  module _ (A : Answering k j slots) where
-    course-good : (ks : List Step) → D.All-words ks → (x : D.Course) → Explained k j slots (x .memory) (x .ledger)
-        → Explained k j slots (D.course (store k j slots) x ks .memory) (D.course (store k j slots) x ks .ledger)
-    unfolding D.course D.All-words
-    course-good [] w x e = e
-    course-good (n ∷ ks) w x e =
-        course-good ks (w .1) (D.next (store k j slots) x n) (step-after k j slots al few A (x .memory) (x .ledger) (e .machine) (e .good) n (w .0 .key))
+  course-good : (ks : List Step) → D.All-words ks → (x : D.Course) → Explained k j slots (x .memory) (x .ledger)
+      → Explained k j slots (D.course (store k j slots) x ks .memory) (D.course (store k j slots) x ks .ledger)
+  unfolding D.course D.All-words
+  course-good [] w x e = e
+  course-good (n ∷ ks) w x e =
+      course-good ks (w .1) (D.next (store k j slots) x n) (step-after k j slots al few (x .memory) (x .ledger) (e .machine) (e .good) n (w .0 .key))
 
-    -- from a newly opened store
-    first-good : Good k j slots (opened (store k j slots)) blank (P.first-machine (T k j slots))
-    first-good = record {
-      shown = opened-related k j slots;
-      decided-fits = λ c l. absurd (not-both (sym (ap is-decided (opened-related k j slots .clients c .slot .phase-as)) ∙ decided-word _ l) refl);
-      outside = λ s o h. refl;
-    }
+  -- from a newly opened store
+  first-good : Good k j slots (opened (store k j slots)) blank (P.first-machine (T k j slots))
+  first-good = record {
+    shown = opened-related k j slots;
+    decided-fits = λ c l. absurd (not-both (sym (ap is-decided (opened-related k j slots .clients c .slot .phase-as)) ∙ decided-word _ l) refl);
+    outside = λ s o h. refl;
+  }
 
-    run-good : (ks : List Step) → D.All-words ks → Explained k j slots (D.course-of (store k j slots) ks .memory) (D.course-of (store k j slots) ks .ledger)
-    run-good ks w = course-good ks w (record { memory = opened (store k j slots); ledger = blank }) (record { machine = P.first-machine (T k j slots); good = first-good })
+  run-good : (ks : List Step) → D.All-words ks → Explained k j slots (D.course-of (store k j slots) ks .memory) (D.course-of (store k j slots) ks .ledger)
+  run-good ks w = course-good ks w (record { memory = opened (store k j slots); ledger = blank }) (record { machine = P.first-machine (T k j slots); good = first-good })
 
-    -- THE DEMAND
-    pub demanded : 1 ≤ slots → (ks : List Step) → D.All-words ks → D.Demand (store k j slots) ks
-    demanded some-slot ks w =
-        let x = D.course-of (store k j slots) ks in
-        let e = run-good ks w in
-        let f = all-settled k j slots al few (x .ledger) (x .memory) e in
-        let n = f .explained in
-        let done = settled-applied k j slots al few (x .ledger) (D.settled (store k j slots) (x .memory)) (n .machine) (n .good) (λ c t l. f .done c (c .1) t l) in
-        record {
-          answers = answers-right k j slots al (x .memory) (x .ledger) (e .machine) (e .good .shown);
-          root = the-root some-slot (D.settled (store k j slots) (x .memory)) (x .ledger) (n .machine) (n .good) done;
-          named = root-named some-slot (D.settled (store k j slots) (x .memory)) (x .ledger) (n .machine) (n .good) done;
-          pairs = pairs-read some-slot (D.settled (store k j slots) (x .memory)) (x .ledger) (n .machine) (n .good) done;
-        }
+  -- THE DEMAND
+  pub demanded : 1 ≤ slots → (ks : List Step) → D.All-words ks → D.Demand (store k j slots) ks
+  demanded some-slot ks w =
+      let x = D.course-of (store k j slots) ks in
+      let e = run-good ks w in
+      let f = all-settled k j slots al few (x .ledger) (x .memory) e in
+      let n = f .explained in
+      let done = settled-applied k j slots al few (x .ledger) (D.settled (store k j slots) (x .memory)) (n .machine) (n .good) (λ c t l. f .done c (c .1) t l) in
+      record {
+        answers = answers-right k j slots al (x .memory) (x .ledger) (e .machine) (e .good .shown);
+        root = the-root some-slot (D.settled (store k j slots) (x .memory)) (x .ledger) (n .machine) (n .good) done;
+        named = root-named some-slot (D.settled (store k j slots) (x .memory)) (x .ledger) (n .machine) (n .good) done;
+        pairs = pairs-read some-slot (D.settled (store k j slots) (x .memory)) (x .ledger) (n .machine) (n .good) done;
+      }
 
--- what is missing: a work step that answers
-abbrev Work-steps : Type 0
-Work-steps = (k j slots : ℕ) → Allowed (sizes k j slots) → suc j ≤ 16 → Answering k j slots
+with-sizes : (servers slots clients : ℕ) → W.Allowed (record { servers = servers; slots = slots; clients = clients })
+    → (ks : List Step) → D.All-words ks → D.Demand (record { servers = servers; slots = slots; clients = clients }) ks
+with-sizes zero slots clients a ks w = absurd (omega (arith, a .servers .0))
+with-sizes (suc k) slots zero a ks w = absurd (omega (arith, a .clients .0))
+with-sizes (suc k) slots (suc j) a ks w =
+    let al : Allowed (sizes k j slots) = (a .servers .1, a .slots .1) in
+    demanded k j slots al (a .clients .1) (a .slots .0) ks w
 
-module _ (S : Work-steps) where
-  with-sizes : (servers slots clients : ℕ) → W.Allowed (record { servers = servers; slots = slots; clients = clients })
-      → (ks : List Step) → D.All-words ks → D.Demand (record { servers = servers; slots = slots; clients = clients }) ks
-  with-sizes zero slots clients a ks w = absurd (omega (arith, a .servers .0))
-  with-sizes (suc k) slots zero a ks w = absurd (omega (arith, a .clients .0))
-  with-sizes (suc k) slots (suc j) a ks w =
-      let al : Allowed (sizes k j slots) = (a .servers .1, a .slots .1) in
-      demanded k j slots al (a .clients .1) (S k j slots al (a .clients .1)) (a .slots .0) ks w
-
-  pub demand-3 : D.Demand-3
-  demand-3 z a ks w = with-sizes (z .servers) (z .slots) (z .clients) a ks w
+pub demand-3 : D.Demand-3
+demand-3 z a ks w = with-sizes (z .servers) (z .slots) (z .clients) a ks w
