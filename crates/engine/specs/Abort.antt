@@ -35,7 +35,7 @@ use Rattle.steps.specs.Steps.{at-servers, unlocked-everywhere, aborting, did, a
 use Rattle.engine.specs.Parts.{Holds, stored-in}
 use Rattle.engine.specs.Items.{read-item}
 use Rattle.engine.specs.Judge.{of-client}
-use Rattle.engine.specs.Fits.{Known}
+use Rattle.engine.specs.Fits.{Known, known-same}
 use Rattle.engine.specs.Kinds.{Meets, meets-did, meets-as, meets-refused, Apart, then-client, client-inside}
 use Rattle.engine.specs.Locks.{rule, passing, upto, changes, upto-inside, rule-inside, in-whole}
 
@@ -159,7 +159,7 @@ module _ (z : Sizes) (c p : ℕ) where
     server-stays = ap (λ (u : Address → ℕ). server-of u i) after ∙ servers-kept p (here z c p (view b₀) known) i before i (omega arith)
 
     pub freed-known : Known z (view b) c
-    freed-known = record { known = λ j h. subst (λ (m : ClientWord → ℕ). j < count m Reads → Has (z .slots) (object-of (number-at m Reads j))) (sym client-stays) (known .known j) h }
+    freed-known = known-same z c (view b₀) (view b) client-stays known
 
     pub freed-next : (b′ : List ℕ) → Freed z c p i (view b) (view b′) → FreedUpto z c p (i + 1) (view b₀) (view b′)
     unfolding Freed FreedUpto stepped unlocking at-servers

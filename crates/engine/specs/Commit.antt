@@ -19,7 +19,7 @@ use Rattle.steps.specs.Whole.{Address, client, whole, block, client-at}
 use Rattle.steps.specs.Steps.{did, commit}
 use Rattle.engine.specs.Parts.{Holds, stored-in, client-lent}
 use Rattle.engine.specs.Judge.{of-client}
-use Rattle.engine.specs.Prepare.{mark}
+use Rattle.engine.specs.Course.{mark}
 use Rattle.engine.specs.Kinds.{Meets, meets-did, meets-as}
 
 pub participants-lent : (z : Sizes) (b : List ℕ) (c k r : ℕ) → Holds z (length b) → c < z .clients → k ≡ client-at z c

@@ -11,7 +11,8 @@ use lib.ListN.{length}
 use Rattle.memory.specs.Word.{view}
 use Rattle.memory.specs.Bit.{bit}
 use Rattle.server.specs.Object.{object-of, Has}
-use Rattle.client.specs.declared.part.Set.the-variants.{Reads}
+use Rattle.client.specs.declared.part.Set.{Set}
+use Rattle.client.specs.declared.part.Set.the-variants.{Reads, Writes}
 use Rattle.client.specs.Layout.{ClientWord, field}
 use Rattle.client.specs.Sets.{held, count, number-at}
 use Rattle.client.specs.Items.{all-below}
@@ -25,9 +26,16 @@ use Rattle.engine.specs.Parts.{Holds, stored-in, client-lent}
 use Rattle.engine.specs.Items.{as-item, read-item}
 use Rattle.engine.specs.Judge.{of-client, lock-at, lock-fits-at, none-passed, one-passed, one-fails, all-passed}
 
--- every object that the client has read is one of the store
+-- every object that the client has read or written is one of the store
+abbrev pub In-set : Sizes → Set → (ClientWord → ℕ) → Type 0
+In-set z s m = (i : ℕ) → i < count m s → Has (z .slots) (object-of (number-at m s i))
+
 pub record Known (z : Sizes) (w : List ℕ) (c : ℕ) : Type 0 where
-  pub known : (i : ℕ) → i < count (of-client z w c) Reads → Has (z .slots) (object-of (number-at (of-client z w c) Reads i))
+  pub known : In-set z Reads (of-client z w c)
+  pub written : In-set z Writes (of-client z w c)
+
+pub known-same : (z : Sizes) (c : ℕ) (w w′ : List ℕ) → of-client z w′ c ≡ of-client z w c → Known z w c → Known z w′ c
+known-same z c w w′ e k = record { known = subst (In-set z Reads) (sym e) (k .known); written = subst (In-set z Writes) (sym e) (k .written) }
 
 pub known-item : (z : Sizes) (w : List ℕ) (c n i : ℕ) (t : code.Item) → Known z w c → n ≡ count (of-client z w c) Reads → i < n
     → as-item t ≡ read-item (of-client z w c) i → Has (z .slots) (object-of (t .number))

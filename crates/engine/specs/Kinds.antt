@@ -1,14 +1,14 @@
 -- Laws of the steps' code: a client's part that is lent on, and what a kind of step comes to.
 use mathlib.Core.Path.{_≡_, refl, sym, ap, _∙_}
-use mathlib.Core.List.{List, _++_}
+use mathlib.Core.List.{List, [], _∷_, _++_}
 use Prim.Native.Nat.{ℕ, _-_, _*_, _/_, _≤_, _<_}
 use native.Mathlib.Omega.{arith}
 use borrow.Rule.Slice.PartMut.{putMid, midOf}
 use lib.ListN.{length}
 use Rattle.memory.specs.Word.{view}
 use Rattle.memory.specs.WordLaws.{view-length}
-use Rattle.layout.specs.Space.{Put, changed, stored, AllValid}
-use Rattle.layout.specs.Step.{Does, silent, stepped, stored-append, does-as, does-mem}
+use Rattle.layout.specs.Space.{Put, put, changed, stored, AllValid}
+use Rattle.layout.specs.Step.{Does, silent, stepped, stored-append, andThen, does-then, does-as, does-mem}
 use Rattle.layout.specs.Part.{inPart, over, good-all}
 use Rattle.client.specs.Layout.{ClientWord, client-words, client-block}
 use Rattle.client.specs.Life as L
@@ -18,7 +18,7 @@ use Rattle.steps.specs.declared.step.Step.{Step}
 use Rattle.steps.specs.declared.outcome.Outcome.{Outcome}
 use Rattle.steps.specs.declared.outcome.Outcome.the-variants.{Refused, Done}
 use Rattle.steps.specs.Whole.{Address, client, whole, block, words-for, client-at, client-part}
-use Rattle.steps.specs.Stores.{client-of}
+use Rattle.steps.specs.Stores.{client-of, client-changed}
 use Rattle.steps.specs.Steps.{Did, did, refuse, begin, give}
 use Rattle.engine.specs.Parts.{Holds, stored-in, client-back}
 
@@ -56,6 +56,11 @@ unfolding stepped stored
 meets-refused z w n g e = meets-as z w (Refused n) w (λ m. refuse n) g e (record { answer = refl; words = refl })
 
 -- ---- one after another
+pub over-append : {A B : Type 0} (e : A → B) (ps qs : List (Put A)) → over e (ps ++ qs) ≡ over e ps ++ over e qs
+unfolding over
+over-append e [] qs = refl
+over-append e (put a v ∷ ps) qs = ap (λ (t : List (Put _)). put (e a) v ∷ t) (over-append e ps qs)
+
 module _ (z : Sizes) (c : ℕ) where
   -- stores that lie in the whole and leave the client's part alone
   pub record Apart (f : (Address → ℕ) → List (Put Address)) (m : Address → ℕ) : Type 0 where
@@ -78,11 +83,30 @@ module _ (z : Sizes) (c : ℕ) where
             ∙ sym (stored-append whole (block z) (f m) (over (client c) (g (client-of m c))) (view b₀));
       }
 
+  -- two steps in the client's part
+  in-then : (f g : Rule) (m : Address → ℕ) → inPart (client c) (andThen client-words f g) m ≡ andThen whole (inPart (client c) f) (inPart (client c) g) m
+  unfolding inPart andThen
+  in-then f g m =
+      let u = client-of m c in
+      over-append (client c) (f u) (g (changed client-words u (f u)))
+      ∙ ap (λ (v : ClientWord → ℕ). over (client c) (f u) ++ over (client c) (g v)) (sym (client-changed m c (f u)))
+
   -- stores in the client's part lie in the whole
   pub client-inside : (g : Rule) (m : Address → ℕ) → c < z .clients → Good g → AllValid whole (block z) (inPart (client c) g m)
   unfolding inPart
   client-inside g m h ok =
       good-all client-words client-block whole (block z) (client c) (client-at z c) (client-part z c h) (g (client-of m c)) (ok .all (client-of m c))
+
+  pub client-both : (f g : Rule) (b₀ b b′ : List ℕ) → Holds z (length b₀) → c < z .clients → Good f
+      → Does whole (block z) (inPart (client c) f) silent (view b₀) 0 (view b) → Does whole (block z) (inPart (client c) g) silent (view b) 0 (view b′)
+      → Does whole (block z) (inPart (client c) (andThen client-words f g)) silent (view b₀) 0 (view b′)
+  unfolding words-for
+  client-both f g b₀ b b′ hold h ok p q =
+      let m = stored-in z (view b₀) in
+      let d = does-then whole (block z) (inPart (client c) f) (inPart (client c) g) silent silent (view b₀) (view b) (view b′) 0 0
+      (omega (arith, hold .room, view-length b₀)) (client-inside f m h ok) p q in
+      does-as whole (block z) (andThen whole (inPart (client c) f) (inPart (client c) g)) (inPart (client c) (andThen client-words f g)) silent (view b₀) 0 (view b′)
+      (sym (in-then f g m)) (record { answer = refl; words = d .words })
 
 -- ---- begin, give
 module _ (z : Sizes) (c : ℕ) (w w′ : List ℕ) where

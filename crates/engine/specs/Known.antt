@@ -17,6 +17,7 @@ use Rattle.nodes.specs.Name.{server-of, slot-of}
 use Rattle.operations.specs.Slot as S
 use Rattle.server.specs.Layout as Srv
 use Rattle.server.specs.Object.{object-of, lock-of, named, Has}
+use Rattle.client.specs.declared.part.Set.{Set}
 use Rattle.client.specs.declared.part.Set.the-variants.{Reads, Writes}
 use Rattle.client.specs.Layout.{ClientWord}
 use Rattle.client.specs.Record.{in-store, number-in-store, fits}
@@ -38,16 +39,23 @@ all-at f (suc n) i h l = go (ℕ-discrete i n) (and-both (all-of f n) (f n) h) (
     go (yes e) p k = rw e (p .1)
     go (no d) p k = k (omega arith)
 
--- every object read is one of the store
-pub fits-reads : (z : S.Sizes) (m : ClientWord → ℕ) (i : ℕ) → client-fits z m ≡ true → i < count m Reads → number-in-store z (number-at m Reads i) ≡ true
-unfolding client-fits item-fits
-fits-reads z m i h l =
-    let a = and-both (all-of (field-fits m (2 ^ z .servers - 1)) 13)
-    (op-fits z m && (all-of (item-fits z m Reads) (count m Reads) && (all-of (item-fits z m Writes) (count m Writes) && all-of (vector-fits m) 8))) h in
-    let b = and-both (op-fits z m) (all-of (item-fits z m Reads) (count m Reads) && (all-of (item-fits z m Writes) (count m Writes) && all-of (vector-fits m) 8)) (a .1) in
-    let d = and-both (all-of (item-fits z m Reads) (count m Reads)) (all-of (item-fits z m Writes) (count m Writes) && all-of (vector-fits m) 8) (b .1) in
-    and-both (number-in-store z (number-at m Reads i)) (fits z (number-at m Reads i) (record-at m Reads i) && has-read m Reads (number-at m Reads i))
-    (all-at (item-fits z m Reads) (count m Reads) i (d .0) l) .0
+-- every object read or written is one of the store
+module _ (z : S.Sizes) (m : ClientWord → ℕ) where
+  pub fits-sets : client-fits z m ≡ true → (all-of (item-fits z m Reads) (count m Reads) ≡ true) × (all-of (item-fits z m Writes) (count m Writes) ≡ true)
+  unfolding client-fits
+  fits-sets h =
+      let reads = all-of (item-fits z m Reads) (count m Reads) in
+      let writes = all-of (item-fits z m Writes) (count m Writes) in
+      let vectors = all-of (vector-fits m) 8 in
+      let a = and-both (all-of (field-fits m (2 ^ z .servers - 1)) 13) (op-fits z m && (reads && (writes && vectors))) h in
+      let b = and-both reads (writes && vectors) (and-both (op-fits z m) (reads && (writes && vectors)) (a .1) .1) in
+      (b .0, and-both writes vectors (b .1) .0)
+
+  pub fits-item : (s : Set) (i : ℕ) → all-of (item-fits z m s) (count m s) ≡ true → i < count m s → number-in-store z (number-at m s i) ≡ true
+  unfolding item-fits
+  fits-item s i h l =
+      and-both (number-in-store z (number-at m s i)) (fits z (number-at m s i) (record-at m s i) && has-read m s (number-at m s i))
+      (all-at (item-fits z m s) (count m s) i h l) .0
 
 named-in : (z : S.Sizes) (n : ℕ) → in-store z n ≡ true → (server-of n < z .servers) × (slot-of n < z .slots)
 unfolding in-store
@@ -74,7 +82,12 @@ in-store-has z x f h = go (ℕ-discrete x 0) (decLe x 8192)
 
 pub fits-known : (z : Sizes) (w : List ℕ) (c : ℕ) (b : Bool) → Allowed z → b ≡ client-fits (tree-sizes z) (of-client z w c) → b ≡ true → Known z w c
 fits-known z w c b f e t =
-    record { known = λ i l. in-store-has z (number-at (of-client z w c) Reads i) f (fits-reads (tree-sizes z) (of-client z w c) i (sym e ∙ t) l) }
+    let m = of-client z w c in
+    let h = fits-sets (tree-sizes z) m (sym e ∙ t) in
+    record {
+      known = λ i l. in-store-has z (number-at m Reads i) f (fits-item (tree-sizes z) m Reads i (h .0) l);
+      written = λ i l. in-store-has z (number-at m Writes i) f (fits-item (tree-sizes z) m Writes i (h .1) l);
+    }
 
 pub fits-lent : (z : Sizes) (b : List ℕ) (c k : ℕ) (r : Bool) → Holds z (length b) → c < z .clients → k ≡ client-at z c
     → r ≡ client-fits (tree-sizes z) (held (midOf (8 * k) (length b - 8 * k) b)) → r ≡ client-fits (tree-sizes z) (of-client z (view b) c)

@@ -13,6 +13,10 @@ pub mod Locks
 pub mod Kinds
 pub mod Abort
 pub mod Loss
-pub mod Prepare
+pub mod Course
 pub mod Commit
+pub mod Versions
+pub mod Writes
+pub mod Apply
+pub mod Prepare
 pub mod Known

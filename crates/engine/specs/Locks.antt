@@ -35,6 +35,7 @@ use Rattle.engine.specs.Parts.{Holds, stored-in, server-back}
 use Rattle.engine.specs.Items.{as-item, read-item}
 use Rattle.engine.specs.Judge.{of-client}
 use Rattle.engine.specs.Fits.{Known}
+use Rattle.engine.specs.Kinds.{over-append}
 
 abbrev Rule : Type 0
 Rule = (Place → ℕ) → List (Put Place)
@@ -58,23 +59,18 @@ changes z c s k m =
     in-server z m c s (upto (rule k c) (locked-at (lowest z m c) s) (read-item (λ a. m (client c a))) (count (λ a. m (client c a)) Reads))
 
 -- ---- in the whole
-over-append : (s : ℕ) (ps qs : List (Put Place)) → over (server s) (ps ++ qs) ≡ over (server s) ps ++ over (server s) qs
-unfolding over
-over-append s [] qs = refl
-over-append s (put a v ∷ ps) qs = ap (λ (t : List (Put Address)). put (server s a) v ∷ t) (over-append s ps qs)
-
 in-then : (s : ℕ) (f g : Rule) (m : Address → ℕ) → inPart (server s) (andThen Srv.places f g) m ≡ andThen whole (inPart (server s) f) (inPart (server s) g) m
 unfolding inPart andThen
 in-then s f g m =
     let p : Place → ℕ = λ a. m (server s a) in
-    over-append s (f p) (g (changed Srv.places p (f p)))
+    over-append (server s) (f p) (g (changed Srv.places p (f p)))
     ∙ ap (λ (u : Place → ℕ). over (server s) (f p) ++ over (server s) (g u)) (sym (server-changed m s (f p)))
 
 -- what code did in a server's part of the whole
 abbrev pub Done : Sizes → ℕ → Rule → List ℕ → List ℕ → Type 0
 Done z s f w w′ = Does whole (block z) (inPart (server s) f) silent w 0 w′
 
-done-as : (z : Sizes) (s : ℕ) (f g : Rule) (w w′ : List ℕ) → ((m : Place → ℕ) → f m ≡ g m) → Done z s f w w′ → Done z s g w w′
+pub done-as : (z : Sizes) (s : ℕ) (f g : Rule) (w w′ : List ℕ) → ((m : Place → ℕ) → f m ≡ g m) → Done z s f w w′ → Done z s g w w′
 unfolding inPart
 done-as z s f g w w′ e d =
     does-as whole (block z) (inPart (server s) f) (inPart (server s) g) silent w 0 w′ (ap (over (server s)) (e (λ a. stored-in z w (server s a)))) d

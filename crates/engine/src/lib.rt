@@ -1,6 +1,8 @@
 // Opening a store, and its steps.
 pub mod abort;
+pub mod apply;
 pub mod commit;
+pub mod course;
 pub mod findings;
 pub mod fits;
 pub mod items;
@@ -13,4 +15,6 @@ pub mod open;
 pub mod prepare;
 pub mod refusal;
 pub mod sizes;
+pub mod versions;
 pub mod whole;
+pub mod writes;

@@ -8,14 +8,13 @@ use native.Mathlib.Omega.{arith}
 use native.Mathlib.Decide.{ℕ-discrete}
 use borrow.Author.Tests.{eqb-true}
 use lib.Dec.{eqb, leb}
-use Rattle.layout.specs.Space.{Put, changed, tab}
+use Rattle.layout.specs.Space.{Put, changed}
 use Rattle.layout.specs.Step.{andThen, changed-append}
 use Rattle.layout.specs.Sweep.{sweep}
 use Rattle.nodes.specs.declared.node.Node.{Node}
 use Rattle.nodes.specs.declared.found.Found.the-variants.{At, Absent}
 use Rattle.nodes.specs.Name as N
 use Rattle.nodes.specs.Node.{extra, keysOf, slotsOf, made, free-node}
-use Rattle.nodes.specs.Lists.{pad}
 use Rattle.nodes.specs.Range.{in-range, range-cases}
 use Rattle.operations.specs.Object.{Obj, meta, node, flag}
 use Rattle.operations.specs.Slot.{Allowed}
@@ -26,7 +25,6 @@ use Rattle.server.specs.Object.{named}
 use Rattle.server.specs.Store.{metadata-step, flag-step, kept-of, home-step, table-step, node-step}
 use Rattle.client.specs.declared.part.Set.the-variants.{Writes}
 use Rattle.client.specs.Layout.{ClientWord}
-use Rattle.nodes.specs.Stored.{node-of}
 use Rattle.nodes.specs.StoredLaws.{Sized}
 use Rattle.client.specs.Record.{number, by-number, first-slot, value-of, in-store, fits, last-version}
 use Rattle.client.specs.Sets.{count, record-at, number-at, find}
@@ -34,12 +32,14 @@ use Rattle.client.specs.Items as I
 use Rattle.client.specs.Participants.{at-home}
 use Rattle.client.specs.Drops.{next-version}
 use Rattle.steps.specs.Steps.{store-write, store-all}
+use Rattle.steps.specs.Writes.{kept-sized}
 use Rattle.schedule.specs.Store.{sizes, keeps, by-value}
 use Rattle.schedule.specs.Numbers.{by-object, obj-of, number-obj, obj-number}
 use Rattle.schedule.specs.Shows.{T, In-store, value-at, version-at, table-at, Slot-shown}
 use Rattle.schedule.specs.Held.{absent≢at, at-same, found-at}
 use Rattle.schedule.specs.Members.{kept-at, kept-home}
 use Rattle.schedule.specs.Servers.{is-lock}
+use Rattle.schedule.specs.Placed.{record-sized}
 use Rattle.schedule.specs.Writing as W
 
 -- ---- something that is observed of the words, over a sweep
@@ -82,18 +82,7 @@ abbrev stored-node : (ClientWord → ℕ) → ℕ → Node
 stored-node u i = kept-of (record-at u Writes i) (next-version u (number-at u Writes i))
 
 record-whole : (u : ClientWord → ℕ) (i : ℕ) → Sized (stored-node u i)
-unfolding kept-of free-node made pad record-at node-of tab
-record-whole u i = go (eqb (record-at u Writes i .kind) 0)
-  where
-    r : Node
-    r = record-at u Writes i
-
-    v : ℕ
-    v = next-version u (number-at u Writes i)
-
-    go : (b : Bool) → Sized (cond b (free-node v) (record { kind = r .kind; level = r .level; version = v; count = r .count; keys = r .keys; slots = r .slots }))
-    go true = record { keys = refl; slots = refl }
-    go false = record { keys = refl; slots = refl }
+record-whole u i = kept-sized (record-at u Writes i) (next-version u (number-at u Writes i)) (record-sized u Writes i)
 
 kept-version : (r : Node) (v : ℕ) → kept-of r v .version ≡ v
 unfolding kept-of free-node made

@@ -14,5 +14,7 @@ pub mod Uses
 pub mod Judge
 -- the eight kinds of steps: outcome and stores
 pub mod Steps
+-- the stores of an apply lie in the server's part
+pub mod Writes
 -- a list of steps, on a newly opened store
 pub mod Run

@@ -1,7 +1,7 @@
-use Rattle.engine.specs.Prepare.{is-noted}
+use Rattle.engine.specs.Course.{is-noted}
 use borrow.Author.Needs.{needs}
-use Rattle.engine.proofs.prepare.note.Statement.{statement}
-use Rattle.engine.proofs.prepare.note.Tie as tie
+use Rattle.engine.proofs.course.note.Statement.{statement}
+use Rattle.engine.proofs.course.note.Tie as tie
 
 pub note-spec : {M : Type 1} → statement M
 note-spec = tie.close (tie.spec

@@ -1,8 +1,8 @@
-use Rattle.engine.specs.Prepare.{mark-same}
+use Rattle.engine.specs.Course.{mark-same}
 use Rattle.engine.specs.Kinds.{client-as}
 use borrow.Author.Needs.{needs}
-use Rattle.engine.proofs.prepare.put_field.Statement.{statement}
-use Rattle.engine.proofs.prepare.put_field.Tie as tie
+use Rattle.engine.proofs.course.put_field.Statement.{statement}
+use Rattle.engine.proofs.course.put_field.Tie as tie
 
 pub put-field-spec : {M : Type 1} → statement M
 put-field-spec = tie.close (tie.spec
