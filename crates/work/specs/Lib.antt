@@ -30,3 +30,7 @@ pub mod Operated
 -- the last questions
 pub mod Fit
 pub mod Last
+-- a node left with 6 keys
+pub mod Beside
+pub mod Parts
+pub mod Lend

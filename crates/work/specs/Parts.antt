@@ -1,0 +1,67 @@
+-- The parts of a wide node are nodes of its level: one half, the other, or all of it.
+use mathlib.Core.Path.{_≡_, refl, sym, _∙_, ap}
+use mathlib.Core.Bool.{true}
+use Prim.Native.Nat.{ℕ, zero, suc, _+_, _-_, _<_}
+use native.Mathlib.Omega.{arith}
+use lib.ListN.{length, take, drop, length-drop}
+use lib.Seq.{length-take-le}
+use Rattle.nodes.specs.declared.node.Node.{Node}
+use Rattle.nodes.specs.declared.change.Wide.{Wide}
+use Rattle.nodes.specs.Node.{extra, extra-le, made}
+use Rattle.nodes.specs.Change.{wide, wide-keys, wide-slots, narrow, cut-at, join}
+use Rattle.nodes.specs.Kept.{Whole, WholeWide, made-whole, join-whole}
+use Rattle.operations.specs.Entry.{mn}
+use Rattle.operations.specs.Arrays.{kind}
+use Rattle.work.specs.Rise.{OfLevel}
+
+-- as many slots more than keys as a node of that level has
+pub extra-level : (l : ℕ) → 7 + extra (kind l) ≡ mn l
+unfolding extra
+extra-level zero = refl
+extra-level (suc l) = refl
+
+-- what has the parts of a node of level l
+pub record Leveled (l : ℕ) (w : Wide) : Type 0 where
+  pub kind : w .kind ≡ kind l
+  pub level : w .level ≡ l
+  pub whole : WholeWide w
+
+module _ (l : ℕ) (w : Wide) (f : Leveled l w) where
+  fits : length (wide-slots w) ≡ length (wide-keys w) + extra (w .kind)
+  fits = omega (arith, f .whole .keys, f .whole .slots)
+
+  pub narrow-level : OfLevel l (narrow w)
+  unfolding narrow made
+  narrow-level = record {
+    kind = f .kind;
+    level = f .level;
+    whole = made-whole (w .kind) (w .level) (w .version) 0 (wide-keys w) (wide-slots w) fits;
+  }
+
+  module _ (i v : ℕ) (h : i < w .count) where
+    pub left-level : OfLevel l (cut-at w i v .left)
+    unfolding cut-at made
+    left-level =
+        let a : length (take i (wide-keys w)) ≡ i = length-take-le i (wide-keys w) (omega (arith, f .whole .keys)) in
+        let b : length (take (i + extra (w .kind)) (wide-slots w)) ≡ i + extra (w .kind) = length-take-le (i + extra (w .kind)) (wide-slots w) (omega (arith, f .whole .slots)) in
+        record {
+          kind = f .kind;
+          level = f .level;
+          whole = made-whole (w .kind) (w .level) (w .version) 0 (take i (wide-keys w)) (take (i + extra (w .kind)) (wide-slots w)) (omega arith);
+        }
+
+    pub right-level : OfLevel l (cut-at w i v .right)
+    unfolding cut-at made
+    right-level =
+        let a : length (drop (i + extra (w .kind)) (wide-keys w)) ≡ length (wide-keys w) - (i + extra (w .kind)) = length-drop (i + extra (w .kind)) (wide-keys w) in
+        let b : length (drop (i + extra (w .kind)) (wide-slots w)) ≡ length (wide-slots w) - (i + extra (w .kind)) = length-drop (i + extra (w .kind)) (wide-slots w) in
+        record {
+          kind = f .kind;
+          level = f .level;
+          whole = made-whole (w .kind) (w .level) v 0 (drop (i + extra (w .kind)) (wide-keys w)) (drop (i + extra (w .kind)) (wide-slots w)) (omega (arith, fits, f .whole .keys, extra-le (w .kind)));
+        }
+
+-- two neighbours of a level in one
+pub join-level : (l : ℕ) (a : Node) (sep : ℕ) (b : Node) → OfLevel l a → OfLevel l b → Leveled l (join a sep b)
+unfolding join wide
+join-level l a sep b f g = record { kind = f .kind; level = f .level; whole = join-whole a b sep 0 (f .whole) (g .whole) (g .kind ∙ sym (f .kind)) }
