@@ -11,7 +11,7 @@ use borrow.Author.Tests.{ltb-true, ltb-false}
 use Rattle.base.specs.Test.{ifd, ifd-yes, ifd-no}
 use Rattle.nodes.specs.declared.node.Node.{Node}
 use Rattle.nodes.specs.declared.change.Halves.{Halves}
-use Rattle.nodes.specs.Node.{extra}
+use Rattle.nodes.specs.Node.{extra, extra-le}
 use Rattle.nodes.specs.Entries.{entriesOf}
 use Rattle.nodes.specs.EntryLaws.{first}
 use Rattle.nodes.specs.Built.{length-joined}
@@ -34,6 +34,35 @@ lent last n sep m = cond last (from-left m sep n) (from-right n sep m)
 
 unfoldable pub joined : Bool → Node → ℕ → Node → Node
 joined last n sep m = cond last (merged m sep n) (merged n sep m)
+
+-- ---- ways out of the code that makes them
+module _ (last : Bool) (n : Node) (sep : ℕ) (m : Node) where
+  pub lent-by-left : (h : Halves) → last ≡ true → h ≡ from-left m sep n → h ≡ lent last n sep m
+  unfolding lent
+  lent-by-left h t e = rw t e
+
+  pub lent-by-right : (h : Halves) → last ≡ false → h ≡ from-right n sep m → h ≡ lent last n sep m
+  unfolding lent
+  lent-by-right h t e = rw t e
+
+  pub joined-to-left : (r : Node) → last ≡ true → r ≡ merged m sep n → r ≡ joined last n sep m
+  unfolding joined
+  joined-to-left r t e = rw t e
+
+  pub joined-to-own : (r : Node) → last ≡ false → r ≡ merged n sep m → r ≡ joined last n sep m
+  unfolding joined
+  joined-to-own r t e = rw t e
+
+pub left-joins : (n m : Node) → (n .count ≤ 6) × (m .count ≤ 7) → m .count + extra (m .kind) + n .count ≤ 14
+left-joins n m h = omega (arith, extra-le (m .kind))
+
+pub right-joins : (n m : Node) → (n .count ≤ 6) × (m .count ≤ 7) → n .count + extra (n .kind) + m .count ≤ 14
+right-joins n m h = omega (arith, extra-le (n .kind))
+
+pub joined-few : (r a b : Node) → a .count + extra (a .kind) + b .count ≤ 14 → r .count ≡ a .count + extra (a .kind) + b .count → r .count ≤ 14
+joined-few r a b h e = omega arith
+
+pub ruleset lend-exits = (lent-by-left, lent-by-right, joined-to-left, joined-to-own, left-joins, right-joins, joined-few)
 
 -- two parts of level l, and the key from which the right one holds keys
 pub record Halved (l : ℕ) (h : Halves) : Type 0 where

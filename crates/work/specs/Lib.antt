@@ -34,3 +34,5 @@ pub mod Last
 pub mod Beside
 pub mod Parts
 pub mod Lend
+pub mod Merge
+pub mod Neighbour

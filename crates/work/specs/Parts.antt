@@ -1,18 +1,20 @@
--- The parts of a wide node are nodes of its level: one half, the other, or all of it.
+-- What is made of a node is of its level: its halves, two in one, and a parent's new content.
 use mathlib.Core.Path.{_≡_, refl, sym, _∙_, ap}
 use mathlib.Core.Bool.{true}
-use Prim.Native.Nat.{ℕ, zero, suc, _+_, _-_, _<_}
+use Prim.Native.Nat.{ℕ, zero, suc, _+_, _-_, _≤_, _<_}
 use native.Mathlib.Omega.{arith}
-use lib.ListN.{length, take, drop, length-drop}
+use lib.ListN.{length, take, drop, set, length-drop, length-set}
 use lib.Seq.{length-take-le}
 use Rattle.nodes.specs.declared.node.Node.{Node}
 use Rattle.nodes.specs.declared.change.Wide.{Wide}
-use Rattle.nodes.specs.Node.{extra, extra-le, made}
-use Rattle.nodes.specs.Change.{wide, wide-keys, wide-slots, narrow, cut-at, join}
-use Rattle.nodes.specs.Kept.{Whole, WholeWide, made-whole, join-whole}
+use Rattle.nodes.specs.Lists.{remove, length-remove}
+use Rattle.nodes.specs.Node.{extra, extra-le, keysOf, slotsOf, made}
+use Rattle.nodes.specs.Entries.{entriesOf, wide-entries}
+use Rattle.nodes.specs.Change.{wide, wide-keys, wide-slots, take-out, with-key, narrow, cut-at, join}
+use Rattle.nodes.specs.Kept.{Whole, WholeWide, made-whole, wide-whole, entries-wide, join-whole}
 use Rattle.operations.specs.Entry.{mn}
 use Rattle.operations.specs.Arrays.{kind}
-use Rattle.work.specs.Rise.{OfLevel}
+use Rattle.work.specs.Rise.{OfLevel, Content, widened}
 
 -- as many slots more than keys as a node of that level has
 pub extra-level : (l : ℕ) → 7 + extra (kind l) ≡ mn l
@@ -65,3 +67,39 @@ module _ (l : ℕ) (w : Wide) (f : Leveled l w) where
 pub join-level : (l : ℕ) (a : Node) (sep : ℕ) (b : Node) → OfLevel l a → OfLevel l b → Leveled l (join a sep b)
 unfolding join wide
 join-level l a sep b f g = record { kind = f .kind; level = f .level; whole = join-whole a b sep 0 (f .whole) (g .whole) (g .kind ∙ sym (f .kind)) }
+
+-- a parent with another separator, or without key number i and the child right of it
+module _ (l : ℕ) (n : Node) (f : OfLevel l n) where
+  longer : length (slotsOf n) ≡ length (keysOf n) + extra (n .kind)
+  longer = omega (arith, f .whole .keys, f .whole .slots)
+
+  pub key-level : (i k : ℕ) → OfLevel l (with-key n i k)
+  unfolding with-key made
+  key-level i k =
+      let e : length (slotsOf n) ≡ length (set (keysOf n) i k) + extra (n .kind) = rw length-set longer in
+      record { kind = f .kind; level = f .level; whole = made-whole (n .kind) (n .level) (n .version) 0 (set (keysOf n) i k) (slotsOf n) e }
+
+  pub out-level : (i : ℕ) → i < n .count → OfLevel l (take-out n i)
+  unfolding take-out made
+  out-level i h =
+      let a : length (remove i (keysOf n)) ≡ length (keysOf n) - 1 = length-remove i (keysOf n) (omega (arith, f .whole .keys)) in
+      let b : length (remove (i + extra (n .kind)) (slotsOf n)) ≡ length (slotsOf n) - 1 = length-remove (i + extra (n .kind)) (slotsOf n) (omega (arith, f .whole .slots)) in
+      record {
+        kind = f .kind;
+        level = f .level;
+        whole = made-whole (n .kind) (n .level) (n .version) 0 (remove i (keysOf n)) (remove (i + extra (n .kind)) (slotsOf n)) (omega (arith, longer, f .whole .keys));
+      }
+
+  -- and as the content that goes up
+  pub widened-entries : (lo : ℕ) → wide-entries (widened n) lo ≡ entriesOf n lo
+  unfolding widened entriesOf
+  widened-entries lo = entries-wide (n .kind) (n .level) (n .version) lo (keysOf n) (slotsOf n) longer
+
+  pub widened-content : n .count ≤ 14 → Content l (widened n)
+  unfolding widened wide
+  widened-content h = record {
+    kind = f .kind;
+    level = f .level;
+    whole = wide-whole (n .kind) (n .level) (n .version) 0 (keysOf n) (slotsOf n) longer;
+    few = omega (arith, f .whole .keys);
+  }

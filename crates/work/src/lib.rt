@@ -3,6 +3,7 @@ pub mod down;
 pub mod last;
 pub mod grow;
 pub mod lookup;
+pub mod neighbour;
 pub mod rise;
 pub mod search;
 pub mod seek;
