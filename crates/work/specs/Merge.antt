@@ -2,12 +2,12 @@
 use mathlib.Core.Path.{_≡_, refl, sym, _∙_, ap}
 use mathlib.Core.Bool.{Bool, true, false, cond, _&&_, not}
 use mathlib.Core.List.{List, [], _∷_, _++_, append-assoc}
-use Prim.Native.Nat.{ℕ, zero, suc, _+_, _-_, _≤_, _<_}
+use Prim.Native.Nat.{ℕ, suc, _+_, _≤_, _<_}
 use native.Mathlib.Omega.{arith}
 use native.Mathlib.Decide.{ℕ-discrete}
 use native.Mathlib.Numerals.{add-one}
 use lib.Dec.{eqb}
-use lib.ListN.{length, take, drop, getD, List·getD-map}
+use lib.ListN.{length, getD, List·getD-map}
 use lib.Seq.{getD-take}
 use borrow.Author.Tests.{not-true, not-false, eqb-true, eqb-false}
 use Rattle.base.specs.Test.{ifd-yes, ifd-no}
@@ -18,29 +18,29 @@ use Rattle.nodes.specs.Lists.{remove, length-remove}
 use Rattle.nodes.specs.Node.{extra, keysOf, pair-at, made, free-node}
 use Rattle.nodes.specs.Entries.{entriesOf, wide-entries}
 use Rattle.nodes.specs.Change.{take-out}
-use Rattle.nodes.specs.Kept.{Whole, length-entriesOf, take-out-entries}
+use Rattle.nodes.specs.Kept.{length-entriesOf, take-out-entries}
 use Rattle.operations.specs.Object.{node, flag, taken, free, no-tree, Ans, Writes}
 use Rattle.operations.specs.Slot.{Sizes, release}
-use Rattle.operations.specs.Entry.{Entries, keys, mk}
+use Rattle.operations.specs.Entry.{Entries, keys}
 use Rattle.operations.specs.Path.{Plan, Branch}
 use Rattle.operations.specs.Change.{Go, with-one, collapsed, onward, merged}
 use Rattle.work.specs.declared.down.Turn.{Turn}
 use Rattle.work.specs.declared.neighbour.Sides.{Sides}
 use Rattle.work.specs.declared.rise.Risen.{Risen}
 use Rattle.work.specs.declared.walk.Stop.{Stop}
-use Rattle.work.specs.declared.walk.Stop.the-variants.{Going, LacksMeta, LacksNode, LacksVector, Refused, Aborts, Answers}
+use Rattle.work.specs.declared.walk.Stop.the-variants.{Going}
 use Rattle.client.specs.Layout.{ClientWord}
 use Rattle.client.specs.Record.{in-store, value-of}
 use Rattle.client.specs.Lent.{used-in}
-use Rattle.work.specs.Entries.{Inner, extra-inner, entry-slot, entry-keys}
+use Rattle.work.specs.Entries.{extra-inner, entry-slot, entry-keys}
 use Rattle.work.specs.Walk.{Told, told, goes, over, walked, walked-done, full-done}
-use Rattle.work.specs.Ask.{SmallNode, OwnGood, Holds, Noted}
+use Rattle.work.specs.Ask.{SmallNode, OwnGood, Holds}
 use Rattle.work.specs.Down.{Followed, stops-not}
-use Rattle.work.specs.Lookup.{ended, Ends}
+use Rattle.work.specs.Lookup.{Ends}
 use Rattle.work.specs.Take.{Wrote, Released}
 use Rattle.work.specs.Write.{name-below}
 use Rattle.work.specs.Mute.{Mute, stands, walked-mute, release-mute}
-use Rattle.work.specs.Rise.{NodeWritten, OwnKept, Content, OfLevel, of-level-value, is-root, Raised, rose, widened, stopped-raised}
+use Rattle.work.specs.Rise.{NodeWritten, OfLevel, of-level-value, is-root, Raised, widened, stopped-raised}
 use Rattle.work.specs.Parts.{out-level, widened-entries, widened-content}
 use Rattle.work.specs.Beside.{pair-of, Paired, paired, right-out}
 
@@ -67,7 +67,11 @@ pub record Neighbours (z : Sizes) (b : Turn) (s : Sides) : Type 0 where
   pub left : in-store z (s .left) ≡ true
   pub right : in-store z (s .right) ≡ true
 
--- the same by the parent's entries, where it holds keys from lo on
+-- the branch to them, where the parent holds keys from lo on
+abbrev pub pair-in : Turn → Sides → ℕ → Branch
+pair-in b s lo = pair-of (b .name) (s .at) (entriesOf (b .node) lo)
+
+-- the same by the parent's entries
 module _ (b : Turn) (s : Sides) (g : Followed b) (h : Between b s) (lo : ℕ) where
   abbrev pub above : Entries
   above = entriesOf (b .node) lo
@@ -188,7 +192,7 @@ pub ruleset root-exits = (root-not, root-by)
 
 unfoldable pub merge-plan : Ans → ℕ → Turn → Sides → Node → ℕ → List Branch → Writes → Go → Plan
 merge-plan a l b s one lo fs w go =
-    let f = pair-of (b .name) (s .at) (entriesOf (b .node) lo) in
+    let f = pair-in b s lo in
     release w (s .right) (λ w′. merged a l fs go w′ f (s .left) (entriesOf one (f .key)))
 
 pub record Merges (z : Sizes) (m : ClientWord → ℕ) (x u : List ℕ) (root : Bool) (a : Ans) (b : Turn) (s : Sides) (one : Node) (r : Risen) (x′ u′ : List ℕ) : Type 0 where
@@ -207,11 +211,11 @@ merged-is a l (g ∷ fs) go root count w f c es e n = rw (← e)
 
 module _ (z : Sizes) (b : Turn) (s : Sides) (h : Neighbours z b s) where
   -- the parent's entries without the right one
-  pub one-less : (lo : ℕ) → with-one (pair-of (b .name) (s .at) (entriesOf (b .node) lo)) (s .left) ≡ remove (suc (s .at)) (entriesOf (b .node) lo)
+  pub one-less : (lo : ℕ) → with-one (pair-in b s lo) (s .left) ≡ remove (suc (s .at)) (entriesOf (b .node) lo)
   one-less lo =
       right-out (b .name) (s .at) (entriesOf (b .node) lo) (both-inside b s (h .followed) (h .between) lo) (s .left) (left-entry b s (h .followed) (h .between) lo)
 
-  one-less-length : (lo : ℕ) → length (with-one (pair-of (b .name) (s .at) (entriesOf (b .node) lo)) (s .left)) ≡ b .node .count
+  one-less-length : (lo : ℕ) → length (with-one (pair-in b s lo) (s .left)) ≡ b .node .count
   one-less-length lo =
       let e = length-remove (suc (s .at)) (entriesOf (b .node) lo) (both-inside b s (h .followed) (h .between) lo) in
       ap length (one-less lo) ∙ omega (arith, e, long b s (h .followed) (h .between) lo)
@@ -219,7 +223,7 @@ module _ (z : Sizes) (b : Turn) (s : Sides) (h : Neighbours z b s) where
   pub parent-level : (l : ℕ) → b .node .level ≡ suc l → OfLevel (suc l) (b .node)
   parent-level l e = record { kind = h .followed .inner .kind; level = e; whole = h .followed .whole }
 
-  goes-up : (l lo : ℕ) → b .node .level ≡ suc l → with-one (pair-of (b .name) (s .at) (entriesOf (b .node) lo)) (s .left) ≡ wide-entries (widened (take-out (b .node) (s .at))) lo
+  goes-up : (l lo : ℕ) → b .node .level ≡ suc l → with-one (pair-in b s lo) (s .left) ≡ wide-entries (widened (take-out (b .node) (s .at))) lo
   goes-up l lo e =
       let i : s .at < b .node .count = h .between .paired .inside in
       let x : s .at + extra (b .node .kind) ≡ suc (s .at) = let y = extra-inner (b .node) (h .followed .inner) in omega arith in
@@ -252,7 +256,7 @@ module _ (z : Sizes) (m : ClientWord → ℕ) (x u : List ℕ) (root : Bool) (a 
         same = λ w hold lo fs f go. rw (
           freed .asks w hold _,
           go-on,
-          merged-is (a, c) l fs go root (b .node .count) (let-go ++ w) (pair-of (b .name) (s .at) (entriesOf (b .node) lo)) (s .left) (entriesOf one (getD (entriesOf (b .node) lo) (s .at) (0, 0) .0)) f (one-less-length z b s h lo),
+          merged-is (a, c) l fs go root (b .node .count) (let-go ++ w) (pair-in b s lo) (s .left) (entriesOf one (getD (entriesOf (b .node) lo) (s .at) (0, 0) .0)) f (one-less-length z b s h lo),
           ← pt,
           e,
           of-level-value l one (getD (entriesOf (b .node) lo) (s .at) (0, 0) .0) (b .name) lv,
@@ -279,11 +283,11 @@ module _ (z : Sizes) (m : ClientWord → ℕ) (x u : List ℕ) (root : Bool) (a 
             same = λ w hold lo fs f go. rw (
               freed .asks w hold _,
               go-on,
-              merged-is (a, c) l fs go root (b .node .count) (let-go ++ w) (pair-of (b .name) (s .at) (entriesOf (b .node) lo)) (s .left)
-                  (entriesOf one (pair-of (b .name) (s .at) (entriesOf (b .node) lo) .key)) f (one-less-length z b s h lo),
+              merged-is (a, c) l fs go root (b .node .count) (let-go ++ w) (pair-in b s lo) (s .left)
+                  (entriesOf one (pair-in b s lo .key)) f (one-less-length z b s h lo),
               ← pt,
               e,
-              of-level-value l one (pair-of (b .name) (s .at) (entriesOf (b .node) lo) .key) (s .left) lv,
+              of-level-value l one (pair-in b s lo .key) (s .left) lv,
               goes-up z b s h l lo v,
               is-up,
             );

@@ -1,7 +1,7 @@
 -- A node left with 6 keys turns to a neighbour: the two at hand, and the way to them.
 use mathlib.Core.Path.{_≡_, refl, sym, _∙_, ap}
 use mathlib.Core.Bool.{Bool, true, false, cond, not}
-use mathlib.Core.List.{List, [], _∷_, _++_}
+use mathlib.Core.List.{List, [], _∷_}
 use Prim.Native.Nat.{ℕ, zero, suc, _+_, _≤_, _<_}
 use native.Mathlib.Omega.{arith}
 use lib.Dec.{ltb}
@@ -18,7 +18,6 @@ use Rattle.nodes.specs.Change.{wide, join, narrow, cut-at, merged, from-left, f
 use Rattle.nodes.specs.Kept.{Whole, length-entriesOf, key-entries}
 use Rattle.operations.specs.Object.{node, no-tree, Ans, Writes}
 use Rattle.operations.specs.Slot.{Sizes}
-use Rattle.operations.specs.Entry.{Entries, mk, nxt}
 use Rattle.operations.specs.Arrays.{kind}
 use Rattle.operations.specs.Path.{Plan, Branch, kid}
 use Rattle.operations.specs.Change.{Go, with-two, parted}
@@ -27,25 +26,25 @@ use Rattle.work.specs.declared.down.Turn.{Turn}
 use Rattle.work.specs.declared.neighbour.Sides.{Sides}
 use Rattle.work.specs.declared.rise.Risen.{Risen}
 use Rattle.work.specs.declared.walk.Stop.{Stop}
-use Rattle.work.specs.declared.walk.Stop.the-variants.{Going, LacksMeta, LacksNode, LacksVector, Refused, Aborts, Answers}
+use Rattle.work.specs.declared.walk.Stop.the-variants.{Going, Aborts}
 use Rattle.client.specs.Layout.{ClientWord}
 use Rattle.client.specs.Record.{in-store, value-of}
 use Rattle.client.specs.Lent.{used-in}
 use Rattle.work.specs.Entries.{branch-of, extra-inner, Below, below-true, open-leaf, open-inner}
 use Rattle.work.specs.Walk.{Told, told, goes, walked, walked-fails}
-use Rattle.work.specs.Ask.{SmallNode, OwnGood, Holds, Noted}
-use Rattle.work.specs.Down.{Followed, Link, Kid}
-use Rattle.work.specs.Mute.{Mute, stands, walked-mute, kid-mute}
-use Rattle.work.specs.Rise.{Content, OfLevel, of-level-value, is-root, Raised, Under, Fitting, BothWritten, widened, stopped-raised, neighbour-plan}
+use Rattle.work.specs.Ask.{SmallNode, Holds, Noted}
+use Rattle.work.specs.Down.{Kid}
+use Rattle.work.specs.Mute.{Mute, walked-mute, kid-mute}
+use Rattle.work.specs.Rise.{OfLevel, of-level-value, Raised, Under, Fitting, BothWritten, widened, stopped-raised, neighbour-plan}
 use Rattle.work.specs.Parts.{key-level, widened-entries, widened-content}
-use Rattle.work.specs.Beside.{own-side, far-side, Paired, pair-of, evened, only-child, turns, turns-to-itself, key-between}
+use Rattle.work.specs.Beside.{own-side, far-side, pair-of, evened, only-child, turns, turns-to-itself, key-between}
 use Rattle.work.specs.Lend.{lent, joined, Halved, lent-halved, joined-level, evened-is}
-use Rattle.work.specs.Merge.{Between, Neighbours, both-inside, left-entry, right-entry, key-entry, long, parent-level, left-named, right-named, Merges, merge-plan}
+use Rattle.work.specs.Merge.{Between, Neighbours, pair-in, both-inside, left-entry, right-entry, key-entry, long, parent-level, left-named, right-named, Merges, merge-plan}
 
 -- ---- with both at hand: n turns to k
 unfoldable pub even-plan : Ans → ℕ → Turn → Sides → Node → Node → ℕ → List Branch → Writes → Go → Plan
 even-plan a l b s n k lo fs w go =
-    let f = pair-of (b .name) (s .at) (entriesOf (b .node) lo) in
+    let f = pair-in b s lo in
     let sep = getD (b .node .keys) (s .at) 0 in
     evened a l fs go (s .last) w f (s .left) (s .right) (entriesOf n (own-side (s .last) (f .key) sep)) (entriesOf k (far-side (s .last) (f .key) sep))
 
@@ -96,12 +95,12 @@ module _ (z : Sizes) (m : ClientWord → ℕ) (x u : List ℕ) (root : Bool) (a 
   even-is : (l lo : ℕ) → OfLevel l n → OfLevel l k → 7 ≤ k .count → (fs : List Branch) (w : Writes) (go : Go)
       → even-plan (a, c) l b s n k lo fs w go
       ≡ cond (ltb 7 (k .count))
-      (parted go l w (pair-of (b .name) (s .at) (entriesOf (b .node) lo)) (s .left) (entriesOf (lent (s .last) n sep k .left) (pair-of (b .name) (s .at) (entriesOf (b .node) lo) .key))
+      (parted go l w (pair-in b s lo) (s .left) (entriesOf (lent (s .last) n sep k .left) (pair-in b s lo .key))
       (s .right) (entriesOf (lent (s .last) n sep k .right) (lent (s .last) n sep k .sep)))
       (merge-plan (a, c) l b s (joined (s .last) n sep k) lo fs w go)
   unfolding even-plan merge-plan
   even-is l lo fn fk seven fs w go =
-      rw (← ps) (evened-is l n k sep fn fk (omega arith) (a, c) fs go (s .last) w (pair-of (b .name) (s .at) (entriesOf (b .node) lo)) (s .left) (s .right) (pair-of (b .name) (s .at) (entriesOf (b .node) lo) .key))
+      rw (← ps) (evened-is l n k sep fn fk (omega arith) (a, c) fs go (s .last) w (pair-in b s lo) (s .left) (s .right) (pair-in b s lo .key))
 
   pub even-merges : (one : Node) (r : Risen) (x₁ u₁ : List ℕ) → k .count ≤ 7 → one ≡ joined (s .last) n sep k → Merges z m x u root (a, c) b s one r x₁ u₁ → Evens z m x u root (a, c) b s n k r x₁ u₁
   even-merges one r x₁ u₁ few e d = record {
@@ -112,7 +111,7 @@ module _ (z : Sizes) (m : ClientWord → ℕ) (x u : List ℕ) (root : Bool) (a 
   }
 
   module _ (h′ : Halves) (e : h′ ≡ lent (s .last) n sep k) (p : Node) (pp : p ≡ with-key (b .node) (s .at) (h′ .sep)) where
-    key-goes-up : (l lo : ℕ) → b .node .level ≡ suc l → with-two (pair-of (b .name) (s .at) (entriesOf (b .node) lo)) (s .left) (h′ .sep) (s .right) ≡ wide-entries (widened p) lo
+    key-goes-up : (l lo : ℕ) → b .node .level ≡ suc l → with-two (pair-in b s lo) (s .left) (h′ .sep) (s .right) ≡ wide-entries (widened p) lo
     unfolding slotsOf
     key-goes-up l lo v =
         let y = extra-inner (b .node) (h .followed .inner) in
@@ -135,7 +134,7 @@ module _ (z : Sizes) (m : ClientWord → ℕ) (x u : List ℕ) (root : Bool) (a 
           even-is l lo fn fk seven fs w go,
           lt-ltb 7 (k .count) plenty,
           ← e,
-          of-level-value l (h′ .left) (pair-of (b .name) (s .at) (entriesOf (b .node) lo) .key) (s .left) (parts .left),
+          of-level-value l (h′ .left) (pair-in b s lo .key) (s .left) (parts .left),
           of-level-value l (h′ .right) (h′ .sep) (s .right) (parts .right),
           parts .next,
           key-goes-up l lo v,
@@ -196,7 +195,6 @@ turning-small z l b name n d f six = record { keys = omega arith; level = omega 
 -- the name of the node that turns
 side-name : (z : Sizes) (l : ℕ) (b : Turn) (name : ℕ) (s : Sides) → Under z l name b → Between b s → name ≡ own-side (s .last) (s .left) (s .right)
 side-name z l b name s d h =
-    let at : ℕ → ℕ = λ i. getD (b .node .slots) i 0 in
     d .link .child ∙ ap (λ (i : ℕ). getD (b .node .slots) i 0) (h .paired .here) ∙ side-of (s .last) (λ i. getD (b .node .slots) i 0) (s .at) (suc (s .at))
     ∙ ap (λ (q : ℕ). own-side (s .last) q (getD (b .node .slots) (suc (s .at)) 0)) (sym (h .left)) ∙ ap (λ (q : ℕ). own-side (s .last) (s .left) q) (sym (h .right))
 
@@ -268,7 +266,7 @@ module _ (z : Sizes) (l a c : ℕ) (b : Turn) (name : ℕ) (n : Node) (d : Under
         meets : (lo : ℕ) (fs : List Branch) (w : Writes) (go : Go)
             → whole-plan lo fs w go
             ≡ kid w l (far-side (s .last) (lows lo) sep) other
-            (λ es2. evened (a, c) l fs go (s .last) w (pair-of (b .name) (s .at) (entriesOf (b .node) lo)) (s .left) (s .right) (entriesOf n (own-side (s .last) (lows lo) sep)) es2)
+            (λ es2. evened (a, c) l fs go (s .last) w (pair-in b s lo) (s .left) (s .right) (entriesOf n (own-side (s .last) (lows lo) sep)) es2)
         meets lo fs w go =
             let two : s .left ≡ s .right → ⊥ = λ e. apart (po ∙ same-names (s .last) (s .left) (s .right) e ∙ sym (side-name z l b name s d h)) in
             by-side lo fs w go

@@ -1,6 +1,5 @@
 -- What is made of a node is of its level: its halves, two in one, and a parent's new content.
-use mathlib.Core.Path.{_≡_, refl, sym, _∙_, ap}
-use mathlib.Core.Bool.{true}
+use mathlib.Core.Path.{_≡_, refl, sym, _∙_}
 use Prim.Native.Nat.{ℕ, zero, suc, _+_, _-_, _≤_, _<_}
 use native.Mathlib.Omega.{arith}
 use lib.ListN.{length, take, drop, set, length-drop, length-set}
@@ -11,7 +10,7 @@ use Rattle.nodes.specs.Lists.{remove, length-remove}
 use Rattle.nodes.specs.Node.{extra, extra-le, keysOf, slotsOf, made}
 use Rattle.nodes.specs.Entries.{entriesOf, wide-entries}
 use Rattle.nodes.specs.Change.{wide, wide-keys, wide-slots, take-out, with-key, narrow, cut-at, join}
-use Rattle.nodes.specs.Kept.{Whole, WholeWide, made-whole, wide-whole, entries-wide, join-whole}
+use Rattle.nodes.specs.Kept.{WholeWide, made-whole, wide-whole, entries-wide, join-whole}
 use Rattle.operations.specs.Entry.{mn}
 use Rattle.operations.specs.Arrays.{kind}
 use Rattle.work.specs.Rise.{OfLevel, Content, widened}
