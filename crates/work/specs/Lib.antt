@@ -25,14 +25,14 @@ pub mod Mute
 pub mod Rise
 pub mod Split
 pub mod Grow
--- an operation walked to its end
-pub mod Operated
--- the last questions
-pub mod Fit
-pub mod Last
 -- a node left with 6 keys
 pub mod Beside
 pub mod Parts
 pub mod Lend
 pub mod Merge
 pub mod Neighbour
+-- an operation walked to its end
+pub mod Operated
+-- the last questions
+pub mod Fit
+pub mod Last
