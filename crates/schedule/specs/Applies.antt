@@ -1,11 +1,11 @@
 -- APPLY as a step: what it stores is applied, and the last one ends the transaction.
 use mathlib.Core.Path.{_≡_, refl, ap, ap₂, sym, _∙_, subst, fun-ext}
-use mathlib.Core.Bool.{Bool, true, false, cond, _||_, not}
+use mathlib.Core.Bool.{Bool, true, false, cond, _||_}
 use mathlib.Core.List.{List, [], _∷_, _++_, append-assoc}
-use Prim.Native.Nat.{ℕ, zero, suc, _≤_, _<_, Fin}
+use Prim.Native.Nat.{ℕ, suc, _≤_, Fin}
 use native.Mathlib.Omega.{arith}
 use lib.Dec.{ltb}
-use Rattle.memory.specs.Bit.{bit, putBit}
+use Rattle.memory.specs.Bit.{bit}
 use Rattle.layout.specs.Space.{Put, put, changed}
 use Rattle.layout.specs.Step.{andThen, changed-append}
 use Rattle.layout.specs.Part.{over}
@@ -16,9 +16,8 @@ use Rattle.protocol.specs.Machine as P
 use Rattle.client.specs.declared.part.Set.the-variants.{Reads, Writes}
 use Rattle.client.specs.Layout.{ClientWord, client-words, phase, participants, applied}
 use Rattle.client.specs.Record.{last-version}
-use Rattle.client.specs.Sets.{count, number-at, record-at, find}
+use Rattle.client.specs.Sets.{number-at, find}
 use Rattle.client.specs.Items.{all-below}
-use Rattle.client.specs.Fits.{client-fits}
 use Rattle.client.specs.Drops.{version-of}
 use Rattle.client.specs.Renew.{finish}
 use Rattle.client.specs.Course.{noted}
@@ -31,11 +30,11 @@ use Rattle.steps.specs.declared.outcome.Outcome.the-variants.{Applied, Committe
 use Rattle.schedule.specs.Ledger.{Ledger}
 use Rattle.schedule.specs.Store.{sizes}
 use Rattle.schedule.specs.Frame.{last, read-after, Only}
-use Rattle.schedule.specs.Shows.{T, Related}
+use Rattle.schedule.specs.Shows.{T}
 use Rattle.schedule.specs.Slots.{Same-sets, count-frame, number-frame, same-read, record-frame}
 use Rattle.schedule.specs.Course.{else-same}
 use Rattle.schedule.specs.Servers.{both-client}
-use Rattle.schedule.specs.Turns.{store, Good, Explained, Turns, turns-good}
+use Rattle.schedule.specs.Turns.{store, Good, Explained, turns-good}
 use Rattle.schedule.specs.Ended.{finish-turns}
 use Rattle.schedule.specs.Due.{m₁, M₁, apply-good}
 

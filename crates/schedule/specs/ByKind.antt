@@ -1,11 +1,11 @@
 -- EVERY STEP, of whatever kind, refused ones included, leads from a good state to a good one.
 use mathlib.Core.Path.{_≡_, refl, ap, sym, _∙_, subst}
-use mathlib.Core.Bool.{Bool, true, false, cond, _&&_, _||_, not, true≢false, false≢true}
+use mathlib.Core.Bool.{Bool, true, false, cond, _&&_, _||_, not, false≢true}
 use mathlib.Core.List.{List, [], map}
 use mathlib.Core.Logic.{_⊎_, inl, inr}
 use Prim.Native.Nat.{ℕ, zero, suc, _≤_, _<_, Fin}
 use native.Mathlib.Omega.{arith}
-use borrow.Author.Tests.{eqb-true, eqb-false, eq-eqb, leb-true, not-true}
+use borrow.Author.Tests.{eqb-true, eqb-false, eq-eqb, leb-true, not-true, not-false}
 use lib.Dec.{eqb, leb}
 use Rattle.base.specs.Test.{and-both, cond-true}
 use Rattle.memory.specs.Bit.{bit, putBit}
@@ -52,10 +52,6 @@ either : (x : ℕ) → 1 ≤ x → x ≤ 2 → (x ≡ 1) ⊎ (x ≡ 2)
 either zero l h = absurd (omega arith)
 either (suc zero) l h = inl refl
 either (suc (suc x)) l h = inr (omega arith)
-
-un-not : (b : Bool) → not b ≡ false → b ≡ true
-un-not true e = refl
-un-not false e = absurd (true≢false e)
 
 undecided-word : (x : ℕ) → eqb x 0 ≡ false → eqb x 3 ≡ false → x ≤ 3 → (x ≡ 1) ⊎ (x ≡ 2)
 undecided-word x p q l = let a = eqb-false x 0 p in let b = eqb-false x 3 q in either x (omega arith) (omega arith)
@@ -220,8 +216,8 @@ module _ (k j slots : ℕ) (al : Allowed (sizes k j slots)) (few : suc j ≤ 16)
         prepared-after fine =
             one-of (not (S.all-prepared z m (n .client) (n .server))) _ _ (λ _. turned (D.prepare-turns k j slots al few m L M c G fit s now new fine))
             (λ q. one-of (S.only z m (n .client) (n .server)) _ _
-            (λ one. if-after (versions-fit z m (n .client)) _ (alone-after fine (un-not (S.all-prepared z m (n .client) (n .server)) q) one))
-            (λ _. decided-after fine (un-not (S.all-prepared z m (n .client) (n .server)) q)))
+            (λ one. if-after (versions-fit z m (n .client)) _ (alone-after fine (not-false (S.all-prepared z m (n .client) (n .server)) q) one))
+            (λ _. decided-after fine (not-false (S.all-prepared z m (n .client) (n .server)) q)))
 
         prepare-after : After (S.prepare z m (n .client) (n .server))
         unfolding S.prepare

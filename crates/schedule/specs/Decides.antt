@@ -1,17 +1,13 @@
 -- PREPARE as a step: the locks are noted, an abort, or the decision; with one participant it also applies.
 use mathlib.Core.Path.{_≡_, refl, ap, ap₂, sym, _∙_, subst}
-use mathlib.Core.Bool.{Bool, true, false, cond, _||_, not}
-use mathlib.Core.List.{List, [], _++_, map}
-use mathlib.Core.Logic.{_⊎_, inl, inr}
-use Prim.Native.Nat.{ℕ, zero, suc, _≤_, _<_, Fin}
-use native.Mathlib.Omega.{arith}
+use mathlib.Core.Bool.{Bool, true, false, _||_, not}
+use mathlib.Core.List.{map}
+use Prim.Native.Nat.{ℕ, zero, suc, _≤_, Fin}
 use native.Mathlib.Decide.{ℕ-discrete, Fin-discrete}
-use borrow.Author.Tests.{eqb-true}
-use lib.Dec.{eqb}
 use Rattle.base.specs.Test.{or-right}
 use Rattle.base.specs.Update.{upd-same}
 use Rattle.memory.specs.Bit.{bit, putBit, bit-put-same, bit-put-other, zero-bit}
-use Rattle.layout.specs.Space.{Put, changed}
+use Rattle.layout.specs.Space.{changed}
 use Rattle.layout.specs.Step.{changed-append}
 use Rattle.layout.specs.Part.{over}
 use Rattle.operations.specs.Slot.{Allowed}
@@ -27,15 +23,13 @@ use Rattle.steps.specs.declared.sizes.Sizes.{Sizes}
 use Rattle.steps.specs.Whole.{Address, client, whole}
 use Rattle.steps.specs.Stores.{client-of, client-changed, client-else}
 use Rattle.steps.specs.Uses as U
-use Rattle.steps.specs.Judge.{versions-fit}
-use Rattle.steps.specs.Steps.{in-client, covers, preparing, deciding-stores, prepare-finding, all-prepared, all-applied}
+use Rattle.steps.specs.Steps.{covers, preparing, deciding-stores, prepare-finding, all-prepared, all-applied}
 use Rattle.schedule.specs.Ledger.{Ledger, decides}
 use Rattle.schedule.specs.Store.{sizes, meaning}
-use Rattle.schedule.specs.Frame.{last, read-after, Only}
+use Rattle.schedule.specs.Frame.{last, read-after}
 use Rattle.schedule.specs.Shows.{phase-of, T, Related}
 use Rattle.schedule.specs.Kept.{away}
 use Rattle.schedule.specs.Slots.{Same-sets}
-use Rattle.schedule.specs.Course.{else-same}
 use Rattle.schedule.specs.Servers.{both-client, both-other}
 use Rattle.schedule.specs.Prepared as A
 use Rattle.schedule.specs.Decided as D

@@ -1,7 +1,7 @@
 -- An APPLY that is due leads from a good state to a good one.
 use mathlib.Core.Path.{_≡_, refl, ap, sym, _∙_, subst}
 use mathlib.Core.Bool.{Bool, true, false, cond, _&&_}
-use mathlib.Core.List.{List, _++_}
+use mathlib.Core.List.{_++_}
 use mathlib.Core.Option.{Option, none, some}
 use Prim.Native.Nat.{ℕ, suc, _≤_, Fin}
 use native.Mathlib.Omega.{arith}
@@ -17,7 +17,7 @@ use Rattle.protocol.specs.Lists.{Among}
 use Rattle.protocol.specs.Items.{find-item}
 use Rattle.protocol.specs.Machine as P
 use Rattle.protocol.specs.Moves as Mv
-use Rattle.client.specs.Layout.{ClientWord, client-words, phase, applied}
+use Rattle.client.specs.Layout.{client-words, phase, applied}
 use Rattle.client.specs.Record.{object-in-store}
 use Rattle.client.specs.Fits.{client-fits}
 use Rattle.client.specs.Course.{noted}

@@ -5,20 +5,19 @@ use mathlib.Core.List.{List, [], _∷_}
 use Prim.Native.Nat.{ℕ, zero, suc, _-_, _^_, _≤_, _<_}
 use native.Mathlib.Omega.{arith}
 use borrow.Author.Tests.{le-leb, leb-true}
-use lib.Dec.{eqb, leb, ltb}
+use lib.Dec.{eqb, ltb}
 use lib.ListN.{getD}
 use lib.Pow.{pow-pos}
 use Rattle.base.specs.Test.{and-both}
 use Rattle.base.specs.Update.{upd, upd-same, upd-other}
 use Rattle.memory.specs.Bit.{putBit, put-lt}
 use Rattle.layout.specs.Space.{Put, decide, changed}
-use Rattle.nodes.specs.declared.found.Found.{Found}
 use Rattle.operations.specs.Slot.{Sizes}
 use Rattle.client.specs.declared.part.Set.{Set}
 use Rattle.client.specs.declared.part.Set.the-variants.{Reads, Writes, Copies}
 use Rattle.client.specs.Layout.{ClientWord, client-words, field, item, vector-word, op-number, op-key, op-server, prepared, applied, reads-count, writes-count}
 use Rattle.client.specs.Record.{in-store, number-in-store, fits}
-use Rattle.client.specs.Sets.{count, record-at, number-at, find}
+use Rattle.client.specs.Sets.{count, number-at}
 use Rattle.client.specs.Commit.{all-of, is-at}
 use Rattle.client.specs.Fits.{bounds, field-fits, has-read, vector-fits, op-fits, item-fits, client-fits}
 use Rattle.client.specs.FitsLaws.{all-at, fits-field}

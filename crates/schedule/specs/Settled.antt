@@ -1,14 +1,13 @@
 -- "The memory as all applies still due would leave it": it shows a state of the machine in which none is due.
 use mathlib.Core.Path.{_≡_, refl, ap, ap₂, sym, _∙_, subst}
-use mathlib.Core.Bool.{Bool, true, false, cond, _&&_, not, and-false, true≢false, false≢true}
+use mathlib.Core.Bool.{Bool, true, false, cond, _&&_, not, and-false}
 use mathlib.Core.List.{List, [], _++_}
-use mathlib.Core.Logic.{_⊎_, inl, inr}
 use Prim.Native.Nat.{ℕ, zero, suc, _≤_, _<_, Fin}
 use native.Mathlib.Omega.{arith}
 use native.Mathlib.Decide.{ℕ-discrete, Fin-discrete, Fin·val-path}
-use borrow.Author.Tests.{eqb-true, eq-eqb}
+use borrow.Author.Tests.{eqb-true, eq-eqb, not-true, not-false}
 use lib.Dec.{eqb}
-use Rattle.base.specs.Test.{bool-cases, not-both, and-both}
+use Rattle.base.specs.Test.{and-both}
 use Rattle.memory.specs.Bit.{bit, putBit, bit-put-same, bit-put-other}
 use Rattle.layout.specs.Space.{Put, changed}
 use Rattle.operations.specs.Slot.{Allowed}
@@ -31,7 +30,7 @@ use Rattle.schedule.specs.Shows.{T}
 use Rattle.schedule.specs.Kept.{away}
 use Rattle.schedule.specs.Servers.{both-client, both-other}
 use Rattle.schedule.specs.Turns.{store, word-decided, Good, Explained}
-use Rattle.schedule.specs.Due.{m₁, M₁, apply-good}
+use Rattle.schedule.specs.Due.{M₁, apply-good}
 
 -- ---- an apply noted is not due again, and the others are as before
 module _ (u : ClientWord → ℕ) (s : ℕ) where
@@ -60,11 +59,7 @@ unfolding fits
 due-now u s h =
     let p = and-both (eqb (u phase) 3) (bit (u participants) s && not (bit (u applied) s)) h in
     let q = and-both (bit (u participants) s) (not (bit (u applied) s)) (p .1) in
-    (eqb-true (u phase) 3 (p .0), q .0, no (bit (u applied) s) (q .1))
-  where
-    no : (b : Bool) → not b ≡ true → b ≡ false
-    no true e = absurd (false≢true e)
-    no false e = refl
+    (eqb-true (u phase) 3 (p .0), q .0, not-true (bit (u applied) s) (q .1))
 
 module _ (k j slots : ℕ) (al : Allowed (sizes k j slots)) (few : suc j ≤ 16) (L : Ledger) where
   abbrev Client : Type 0
@@ -161,10 +156,6 @@ module _ (k j slots : ℕ) (al : Allowed (sizes k j slots)) (few : suc j ≤ 16)
   settled-applied m M G none c h s p =
       let u = client-of m (c .0) in
       let shown = G .shown .clients c .slot in
-      let late : 3 ≤ u phase = word-decided (u phase) (ap (λ x. is-decided x) (shown .phase-as) ∙ h) in
+      let late : 3 ≤ u phase = word-decided (u phase) (ap is-decided (shown .phase-as) ∙ h) in
       let now : u phase ≡ 3 = omega (arith, late, fits-field (sizes k j slots) u (G .decided-fits c late) 0 (omega arith)) in
-      shown .applied-as s ∙ by (bit (u applied) (s .0)) (sym (ap₂ (λ (a b : Bool). a && (b && not (bit (u applied) (s .0)))) (eq-eqb (u phase) 3 now) (sym (shown .participant-as s) ∙ p)) ∙ none c (s .0) (s .1))
-    where
-      by : (b : Bool) → not b ≡ false → b ≡ true
-      by true e = refl
-      by false e = absurd (true≢false e)
+      shown .applied-as s ∙ not-false (bit (u applied) (s .0)) (sym (ap₂ (λ (a b : Bool). a && (b && not (bit (u applied) (s .0)))) (eq-eqb (u phase) 3 now) (sym (shown .participant-as s) ∙ p)) ∙ none c (s .0) (s .1))

@@ -115,6 +115,7 @@ module _ (k j slots : ℕ) (al : Allowed (sizes k j slots)) (few : suc j ≤ 16)
         pairs = pairs-read some-slot (D.settled (store k j slots) (x .memory)) (x .ledger) (n .machine) (n .good) done;
       }
 
+-- whatever the sizes
 with-sizes : (servers slots clients : ℕ) → W.Allowed (record { servers = servers; slots = slots; clients = clients })
     → (ks : List Step) → D.All-words ks → D.Demand (record { servers = servers; slots = slots; clients = clients }) ks
 with-sizes zero slots clients a ks w = absurd (omega (arith, a .servers .0))
@@ -123,5 +124,6 @@ with-sizes (suc k) slots (suc j) a ks w =
     let al : Allowed (sizes k j slots) = (a .servers .1, a .slots .1) in
     demanded k j slots al (a .clients .1) (a .slots .0) ks w
 
+-- THE THEOREM
 pub demand-3 : D.Demand-3
 demand-3 z a ks w = with-sizes (z .servers) (z .slots) (z .clients) a ks w

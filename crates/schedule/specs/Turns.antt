@@ -1,8 +1,8 @@
 -- What holds after each step of a list: the memory shows a state that the machine reaches, and two facts more, which the applies still due and
 -- the reading of the tree need.
 use mathlib.Core.Path.{_≡_, refl, ap, sym, _∙_, subst}
-use mathlib.Core.Bool.{Bool, true, false, false≢true}
-use mathlib.Core.List.{List, []}
+use mathlib.Core.Bool.{true, false, false≢true}
+use mathlib.Core.List.{List}
 use mathlib.Core.Logic.{_⊎_}
 use Prim.Native.Nat.{ℕ, zero, suc, _≤_, Fin}
 use native.Mathlib.Omega.{arith}

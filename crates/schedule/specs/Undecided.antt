@@ -1,8 +1,8 @@
 -- Each kind of step that leaves its client undecided and applies nothing: begin, give, commit, give up, and loss before the decision.
 use mathlib.Core.Path.{_≡_, refl, ap, sym, _∙_, subst}
-use mathlib.Core.Bool.{Bool, true, false, cond}
+use mathlib.Core.Bool.{true, false}
 use mathlib.Core.List.{List, [], _++_}
-use mathlib.Core.Logic.{_⊎_, inl, inr}
+use mathlib.Core.Logic.{_⊎_}
 use Prim.Native.Nat.{ℕ, zero, suc, _≤_, _<_, Fin}
 use native.Mathlib.Omega.{arith}
 use native.Mathlib.Decide.{Fin-discrete}
@@ -16,7 +16,7 @@ use Rattle.operations.specs.Slot.{Allowed}
 use Rattle.protocol.specs.State.{Phase, idle, opened, is-decided}
 use Rattle.protocol.specs.Machine as P
 use Rattle.protocol.specs.Moves as Mv
-use Rattle.client.specs.Layout.{ClientWord, client-words, phase}
+use Rattle.client.specs.Layout.{ClientWord, phase}
 use Rattle.client.specs.Fits.{client-fits}
 use Rattle.client.specs.Copies.{drop-all}
 use Rattle.client.specs.Participants as K
