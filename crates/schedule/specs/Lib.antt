@@ -88,3 +88,5 @@ pub mod Settled
 pub mod ByKind
 -- DEMAND 3, proved
 pub mod Theorem
+-- every store of a step lies in the memory
+pub mod Inside

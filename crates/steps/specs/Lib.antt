@@ -14,6 +14,8 @@ pub mod Uses
 pub mod Judge
 -- the eight kinds of steps: outcome and stores
 pub mod Steps
+-- objects of the store have locks
+pub mod There
 -- the stores of an apply lie in the server's part
 pub mod Writes
 -- a list of steps, on a newly opened store
