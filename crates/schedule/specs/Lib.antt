@@ -5,6 +5,8 @@
 pub mod Ledger
 -- DEMAND 3, the statement
 pub mod Demand
+-- document 01's example by these definitions
+pub mod Example
 -- WHY IT HOLDS
 -- the protocol at this store, with the operations' meaning
 pub mod Store
