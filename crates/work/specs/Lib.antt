@@ -33,6 +33,8 @@ pub mod Merge
 pub mod Neighbour
 -- an operation walked to its end
 pub mod Operated
+-- migrate
+pub mod Move
 -- the last questions
 pub mod Fit
 pub mod Last

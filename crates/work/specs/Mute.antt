@@ -12,7 +12,7 @@ use Rattle.plans.specs.Plan as P
 use Rattle.nodes.specs.Name.{server-of, slot-of}
 use Rattle.nodes.specs.Placement.{row}
 use Rattle.operations.specs.Object.{Obj, meta, node, flag, Ask, object, vector, fetched, Val, root, body, taken, flags, Writes, hit}
-use Rattle.operations.specs.Slot.{Sizes, present, chosen, free-slot, search, when-free-flag, take-flag, take-for, when-free-node, take-node, release}
+use Rattle.operations.specs.Slot.{Sizes, present, chosen, free-slot, search, when-free-flag, take-flag, take-on, take-for, when-free-node, take-node, release}
 use Rattle.operations.specs.Entry.{Entries, mn}
 use Rattle.operations.specs.Path.{Plan, see, open-node, kid}
 use Rattle.work.specs.declared.walk.Stop.{Stop}
@@ -136,8 +136,11 @@ search-mute z w slot [] k h = tt
 search-mute z w slot (s ∷ ss) k h =
     λ v. chosen-mute s (free-slot z w slot s v) k _ h (λ u. chosen-mute s (free-slot z w slot s u) k _ h (search-mute z w slot ss k h))
 
+pub take-on-mute : (z : Sizes) (ss : List ℕ) (slot : ℕ) (w : Writes) (k : ℕ → Writes → Plan) → ((d : ℕ) (w : Writes) → Mute (k d w)) → Mute (take-on z ss slot w k)
+take-on-mute z ss slot w k h = search-mute z w slot ss _ (λ d. take-flag-mute w d (λ w′. k d w′) (h d))
+
 pub take-for-mute : (z : Sizes) (n : ℕ) (w : Writes) (k : ℕ → Writes → Plan) → ((d : ℕ) (w : Writes) → Mute (k d w)) → Mute (take-for z n w k)
-take-for-mute z n w k h = search-mute z w (slot-of n) (present (z .servers) (row (server-of n))) _ (λ d. take-flag-mute w d (λ w′. k d w′) (h d))
+take-for-mute z n w k h = take-on-mute z (present (z .servers) (row (server-of n))) (slot-of n) w k h
 
 node-mute : (v : Val) (k : Plan) → Mute k → Mute (when-free-node v k)
 unfolding Mute

@@ -76,7 +76,7 @@ free-flag-is : (b : Bool) (k : Plan) → when-free-flag (taken b) k ≡ cond b (
 free-flag-is true k = refl
 free-flag-is false k = refl
 
-single-small : (v : ℕ) → SmallNode (single 0 v)
+pub single-small : (v : ℕ) → SmallNode (single 0 v)
 unfolding single made
 single-small v = record { keys = omega arith; level = omega arith }
 

@@ -71,7 +71,7 @@ pub fn child(
 }
 
 // The root, by its name.
-fn root(
+pub fn root(
     part: &[u8],
     servers: usize,
     slots: usize,

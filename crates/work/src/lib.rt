@@ -4,6 +4,7 @@ pub mod last;
 pub mod grow;
 pub mod lookup;
 pub mod neighbour;
+pub mod migrate;
 pub mod rise;
 pub mod search;
 pub mod seek;
