@@ -147,7 +147,7 @@ module _ (n : Node) (l : ℕ) (t : Bool) (e : t ≡ opens n) where
 pub ruleset below-exits = (below-shut, below-other, below-count)
 
 -- ---- the entry that a key leads to
-cut-at-is : (i : ℕ) (e : ℕ × ℕ) (es : Entries) → i ≤ length es → cut-at i e es ≡ (take i (e ∷ es), getD (e ∷ es) i (0, 0), drop (suc i) (e ∷ es))
+pub cut-at-is : (i : ℕ) (e : ℕ × ℕ) (es : Entries) → i ≤ length es → cut-at i e es ≡ (take i (e ∷ es), getD (e ∷ es) i (0, 0), drop (suc i) (e ∷ es))
 cut-at-is zero e es h = refl
 cut-at-is (suc i) e [] h = absurd (omega arith)
 cut-at-is (suc i) e (f ∷ es) h = let r : cut-at i f es ≡ (take i (f ∷ es), getD (f ∷ es) i (0, 0), drop (suc i) (f ∷ es)) = cut-at-is i f es (omega arith) in rw r
@@ -180,7 +180,7 @@ module _ (n : Node) (lo : ℕ) (f : Whole n) where
   unfolding entriesOf
   entry-keys = entries-keys (extra (n .kind)) lo (extra-le (n .kind)) (keysOf n) (slotsOf n) longer
 
-keys-later : (E : Entries) → keys (drop 1 E) ≡ drop 1 (keys E)
+pub keys-later : (E : Entries) → keys (drop 1 E) ≡ drop 1 (keys E)
 keys-later [] = refl
 keys-later (e ∷ es) = refl
 

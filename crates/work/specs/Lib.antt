@@ -35,6 +35,8 @@ pub mod Neighbour
 pub mod Operated
 -- migrate
 pub mod Move
+pub mod Parent
+pub mod Migrate
 -- the last questions
 pub mod Fit
 pub mod Last

@@ -1,8 +1,8 @@
 -- A node moved to a slot of another server: the slot is taken, its node read, the old slot freed.
-use mathlib.Core.Path.{_≡_, refl, sym, _∙_, ap}
-use mathlib.Core.Bool.{Bool, true, false, cond, not}
+use mathlib.Core.Path.{_≡_, refl, sym, _∙_}
+use mathlib.Core.Bool.{Bool, true, false, not}
 use mathlib.Core.List.{List, [], _∷_}
-use Prim.Native.Nat.{ℕ, zero, suc, _+_, _%_, _≤_, _<_}
+use Prim.Native.Nat.{ℕ, _+_, _%_, _≤_, _<_}
 use native.Mathlib.Omega.{arith}
 use lib.ListN.{length, getD}
 use borrow.Author.Tests.{not-true, not-false}
@@ -17,7 +17,6 @@ use Rattle.operations.specs.Path.{Plan}
 use Rattle.operations.specs.Migrate.{moved}
 use Rattle.work.specs.declared.search.Taken.{Taken}
 use Rattle.work.specs.declared.walk.Stop.{Stop}
-use Rattle.work.specs.declared.walk.Stop.the-variants.{Going}
 use Rattle.client.specs.Layout.{ClientWord}
 use Rattle.client.specs.Record.{sizes, in-store, value-of, single, record-of}
 use Rattle.client.specs.Lent.{OwnFits, own-put, used-in}

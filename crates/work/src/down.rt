@@ -236,7 +236,7 @@ pub fn at_root(part: &[u8], servers: usize, slots: usize, own: &[u64], used: &mu
     Rooted { stop, name, node }
 }
 
-fn no_descent(stop: Stop) -> Descent
+pub fn no_descent(stop: Stop) -> Descent
     ensures { λ r. ⌜ r .stop ≡ stop ⌝ }
     ensures low { λ r. ⌜ r .top ≤ 4 ⌝ }
 {

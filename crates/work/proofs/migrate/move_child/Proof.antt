@@ -1,0 +1,20 @@
+use borrow.Author.Needs.{needs}
+use Rattle.work.specs.Parent.{child-count, child-done, child-exits}
+use Rattle.work.proofs.migrate.move_child.Statement.{statement}
+use Rattle.work.proofs.migrate.move_child.Tie as tie
+
+pub move-child-spec : {M : Type 1} → statement M
+move-child-spec = tie.close (tie.spec
+    (λ c κs. ((search needs, search needs, search needs, search needs, search needs), search needs))  -- move-to-requires
+    (λ c κs. search needs)  -- going-requires
+    (λ c. search needs)  -- same-length
+    (λ c. search needs)  -- same-length-2
+    (λ c. search (child-exits, needs))  -- returns
+    (λ c κs. (search needs, search (child-exits, needs)))  -- with-slot-requires
+    (λ c κs. (search (child-exits, needs), search (child-exits, needs), search (child-exits, needs), search child-count))  -- write-node-requires
+    (λ c κs. let p = c .before .before .before .before .before .before .before .before .before .before .before .before .before .before .before .before .before .before .pre .0 in search needs)  -- answers-requires
+    (λ c. search needs)  -- same-length-3
+    (λ c. search needs)  -- same-length-4
+    (λ c. let w = c .before .before .before .before .before .before .write-node .ensures in let a = c .before .before .answers .ensures in let h = c .before .before .before .before .before .before .before .before .before .before .before .before .before .before .before .move-to .ensures in let g = c .before .before .before .before .before .before .before .before .before .before .going .ensures in let t = c .before .before .before .before .before .before .before .before .before .if1 .left in let e = c .before .before .before .before .before .before .before .before .with-slot .ensures .0 in let p = c .before .before .before .before .before .before .before .before .before .before .before .before .before .before .before .before .before .before .before .before .before .pre in
+    child-done _ _ _ _ _ _ _ _ _ _ _ _ _ h _ g _ _ _ _ _ t (p .0 .0) (p .1 .1 .0) (p .1 .1 .1) e w a)  -- returns-2
+    )
