@@ -25,6 +25,12 @@ pub mod Mute
 pub mod Rise
 pub mod Split
 pub mod Grow
+pub mod Level
+-- an operation walked to its end
+pub mod Operated
+-- the last questions
+pub mod Fit
+pub mod Last
 -- a node left with 6 keys
 pub mod Beside
 pub mod Parts

@@ -2,6 +2,7 @@
 pub mod down;
 pub mod last;
 pub mod grow;
+pub mod level;
 pub mod lookup;
 pub mod neighbour;
 pub mod migrate;
