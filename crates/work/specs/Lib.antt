@@ -46,3 +46,5 @@ pub mod Migrate
 -- the last questions
 pub mod Fit
 pub mod Last
+-- insert and delete
+pub mod Up

@@ -11,4 +11,5 @@ pub mod search;
 pub mod seek;
 pub mod split;
 pub mod take;
+pub mod up;
 pub mod walk;
