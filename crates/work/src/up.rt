@@ -1,4 +1,5 @@
 // The new content of a leaf, carried up "level by level from the lowest".
+use crate::down::Descent;
 use crate::down::Turn;
 use crate::level::at_top;
 use crate::level::raise;
@@ -61,4 +62,27 @@ pub fn rise(
         level += 1;
     }
     at_top(part, servers, slots, own, used, level, name, n, a, b)
+}
+
+// From where a way down ended.
+pub fn carry_up(
+    part: &[u8],
+    servers: usize,
+    slots: usize,
+    own: &mut [u64],
+    used: &mut [u64],
+    d: Descent,
+    content: Wide,
+    a: u64,
+) -> Stop
+    requires { ⌜ (servers ≤ 8) × OwnGood (now own) × (getD (now own) 0 0 ≡ 0) × Noted (held (now part)) (now used) × (7223 ≤ length (now part) / 8) ⌝ }
+    requires ready { ⌜ Ready (sizes servers slots) (d .top) (d .path) (d .name) content ⌝ }
+    ensures { λ r. ⌜ Operated (sizes servers slots) (held (now (part .entry))) (now (own .entry)) (now (used .entry)) (rise-plan (sizes servers slots) (a, 0) (d .top) (d .path) (d .name) content) r (now (own .exit)) (now (used .exit)) ⌝ }
+{
+    let top = d.top;
+    let path = d.path;
+    let name = d.name;
+    rise(
+        part, servers, slots, own, used, top, path, name, content, a, 0,
+    )
 }
