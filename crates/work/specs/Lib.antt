@@ -25,12 +25,6 @@ pub mod Mute
 pub mod Rise
 pub mod Split
 pub mod Grow
-pub mod Level
--- an operation walked to its end
-pub mod Operated
--- the last questions
-pub mod Fit
-pub mod Last
 -- a node left with 6 keys
 pub mod Beside
 pub mod Parts
@@ -43,8 +37,14 @@ pub mod Operated
 pub mod Move
 pub mod Parent
 pub mod Migrate
+-- one level, and all of them
+pub mod Level
+-- an operation walked to its end
+pub mod Operated
 -- the last questions
 pub mod Fit
 pub mod Last
 -- insert and delete
 pub mod Up
+pub mod Insert
+pub mod Delete

@@ -110,7 +110,7 @@ unfolding place
 place-within [] key = omega arith
 place-within (k ∷ ks) key = omega (arith, bit-small (leb k key), place-within ks key)
 
-find-inside : (ks : List ℕ) (key i : ℕ) → find ks key ≡ some i → i < length ks
+pub find-inside : (ks : List ℕ) (key i : ℕ) → find ks key ≡ some i → i < length ks
 unfolding find find-at
 find-inside ks key i e = go (eqb (place ks key) 0) (eqb (getD ks (place ks key - 1) 0) key) refl refl
   where

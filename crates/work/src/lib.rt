@@ -1,7 +1,9 @@
 // The walk of a waiting operation's plan over what its client has.
+pub mod delete;
 pub mod down;
-pub mod last;
 pub mod grow;
+pub mod insert;
+pub mod last;
 pub mod level;
 pub mod lookup;
 pub mod neighbour;

@@ -83,6 +83,16 @@ pub fn carry_up(
     let path = d.path;
     let name = d.name;
     rise(
-        part, servers, slots, own, used, top, path, name, content, a, 0,
+        part,
+        servers,
+        slots,
+        own,
+        used,
+        top,
+        path,
+        name,
+        content,
+        a,
+        0,
     )
 }
