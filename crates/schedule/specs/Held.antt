@@ -4,7 +4,7 @@ use mathlib.Core.Bool.{Bool, true, false, cond, _&&_, _||_, true≢false, false�
 use mathlib.Core.List.{List, [], _∷_}
 use mathlib.Core.Logic.{_⊎_, inl, inr}
 use mathlib.Core.Option.{some, Option·none-ne-some, Option·some-injective}
-use Prim.Native.Nat.{ℕ, zero, suc, _-_, _^_, _<_}
+use Prim.Native.Nat.{ℕ, zero, suc, _-_, _<_}
 use native.Mathlib.Omega.{arith}
 use native.Mathlib.Decide.{ℕ-discrete}
 use borrow.Author.Tests.{eqb-true, eqb-false}
@@ -24,8 +24,8 @@ use Rattle.client.specs.Record.{number, value-of, number-in-store, fits}
 use Rattle.client.specs.Sets.{or-found, count, record-at, number-at, first-of, find}
 use Rattle.client.specs.Commit.{is-at}
 use Rattle.client.specs.Items.{all-below, any-below, has}
-use Rattle.client.specs.Commit.{all-of}
-use Rattle.client.specs.Fits.{field-fits, has-read, vector-fits, op-fits, item-fits, client-fits}
+use Rattle.client.specs.FitsLaws.{fits-read, fits-write}
+use Rattle.client.specs.Fits.{has-read, item-fits, client-fits}
 use Rattle.schedule.specs.Store.{sizes}
 use Rattle.schedule.specs.Numbers.{obj-of, number-obj, store-obj, obj-number}
 use Rattle.schedule.specs.Shows.{T, In-store, new-value, item-from, item-of, Slot-shown}
@@ -35,15 +35,6 @@ pub all-at : (n : ℕ) (f : ℕ → Bool) → all-below n f ≡ true → (i : �
 unfolding all-below
 all-at zero f h i l = absurd (omega arith)
 all-at (suc n) f h i l = let both = and-both (all-below n f) (f n) h in go (ℕ-discrete i n) (both .1) (λ q. all-at n f (both .0) i q)
-  where
-    go : Dec (i ≡ n) → f n ≡ true → (i < n → f i ≡ true) → f i ≡ true
-    go (yes e) here rec = subst (λ (x : ℕ). f x ≡ true) (sym e) here
-    go (no d) here rec = rec (omega arith)
-
-pub all-of-at : (f : ℕ → Bool) (n : ℕ) → all-of f n ≡ true → (i : ℕ) → i < n → f i ≡ true
-unfolding all-of
-all-of-at f zero h i l = absurd (omega arith)
-all-of-at f (suc n) h i l = let both = and-both (all-of f n) (f n) h in go (ℕ-discrete i n) (both .1) (λ q. all-of-at f n (both .0) i q)
   where
     go : Dec (i ≡ n) → f n ≡ true → (i < n → f i ≡ true) → f i ≡ true
     go (yes e) here rec = subst (λ (x : ℕ). f x ≡ true) (sym e) here
@@ -148,39 +139,25 @@ module _ (k j slots : ℕ) (al : Allowed (sizes k j slots)) (u : ClientWord → 
   abbrev z : Sizes
   z = sizes k j slots
 
-  -- what is judged of the sets
-  sets-fit : (all-of (item-fits z u Reads) (count u Reads) ≡ true) × (all-of (item-fits z u Writes) (count u Writes) ≡ true)
-  unfolding client-fits
-  sets-fit =
-      let vectors = all-of (vector-fits u) 8 in
-      let writes = all-of (item-fits z u Writes) (count u Writes) in
-      let reads = all-of (item-fits z u Reads) (count u Reads) in
-      let fields = and-both (all-of (field-fits u (2 ^ z .servers - 1)) 13) (op-fits z u && (reads && (writes && vectors))) fit in
-      let sets = and-both reads (writes && vectors) (and-both (op-fits z u) (reads && (writes && vectors)) (fields .1) .1) in
-      (sets .0, and-both writes vectors (sets .1) .0)
-
-  -- an item that is judged
-  judged : (s : Set) (i : ℕ) → all-of (item-fits z u s) (count u s) ≡ true → i < count u s
-      → In-store k j slots (obj-of (number-at u s i)) × (has-read u s (number-at u s i) ≡ true)
+  -- what an item in range is known by
+  judged : (s : Set) (i : ℕ) → item-fits z u s i ≡ true
+      → In-store k j slots (obj-of (number-at u s i)) × (fits z (number-at u s i) (record-at u s i) ≡ true) × (has-read u s (number-at u s i) ≡ true)
   unfolding item-fits
-  judged s i h l =
+  judged s i h =
       let x = number-at u s i in
-      let f = and-both (number-in-store z x) (fits z x (record-at u s i) && has-read u s x) (all-of-at (item-fits z u s) (count u s) h i l) in
-      (sym (store-obj z x) ∙ f .0, and-both (fits z x (record-at u s i)) (has-read u s x) (f .1) .1)
+      let f = and-both (number-in-store z x) (fits z x (record-at u s i) && has-read u s x) h in
+      let g = and-both (fits z x (record-at u s i)) (has-read u s x) (f .1) in
+      (sym (store-obj z x) ∙ f .0, g .0, g .1)
 
   pub read-in : (i : ℕ) → i < count u Reads → In-store k j slots (obj-of (number-at u Reads i))
-  read-in i l = judged Reads i (sets-fit .0) l .0
+  read-in i l = judged Reads i (fits-read z u fit i l) .0
 
   pub written-in : (i : ℕ) → i < count u Writes → In-store k j slots (obj-of (number-at u Writes i)) × (has u Reads (number-at u Writes i) ≡ true)
   unfolding has has-read
-  written-in i l = judged Writes i (sets-fit .1) l
+  written-in i l = let f = judged Writes i (fits-write z u fit i l) in (f .0, f .2)
 
   pub written-fits : (i : ℕ) → i < count u Writes → fits z (number-at u Writes i) (record-at u Writes i) ≡ true
-  unfolding item-fits
-  written-fits i l =
-      let x = number-at u Writes i in
-      let f = and-both (number-in-store z x) (fits z x (record-at u Writes i) && has-read u Writes x) (all-of-at (item-fits z u Writes) (count u Writes) (sets-fit .1) i l) in
-      and-both (fits z x (record-at u Writes i)) (has-read u Writes x) (f .1) .0
+  written-fits i l = judged Writes i (fits-write z u fit i l) .1
 
   -- the item at place i of the read set, for the object o
   abbrev item-for : Obj → ℕ → P.Item (T k j slots)
