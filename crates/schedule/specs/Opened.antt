@@ -29,7 +29,7 @@ use Rattle.steps.specs.Whole.{Address, head, server, client, whole}
 use Rattle.steps.specs.Run.{opened}
 use Rattle.schedule.specs.Ledger.{blank}
 use Rattle.steps.specs.Stores.{client-of, server-of, server-changed, server-else}
-use Rattle.schedule.specs.Frame.{read-after}
+use Rattle.schedule.specs.Frame.{last, read-after}
 use Rattle.schedule.specs.Shows.{phase-of, T, In-store, value-at, version-at, table-at, Client-shown, Server-shown, Related}
 use Rattle.schedule.specs.Store.{keeps}
 use Rattle.schedule.specs.Members.{kept-at}
@@ -71,6 +71,17 @@ is-node (Node k i) = true
 is-node (FlagLock k) = false
 is-node (Table s k) = false
 is-node (NodeLock s k) = false
+
+-- the head of a new store: "the three sizes"
+pub opened-head : (z : Sizes) → (opened z (head 0) ≡ z .servers) × (opened z (head 1) ≡ z .slots) × (opened z (head 2) ≡ z .clients)
+unfolding opened over first-leaf
+opened-head z = (at (head 0), at (head 1), at (head 2))
+  where
+    stores : List (Put Address)
+    stores = put (head 0) (z .servers) ∷ put (head 1) (z .slots) ∷ put (head 2) (z .clients) ∷ over (server 0) (first-leaf 0)
+
+    at : (a : Address) → changed whole (λ _. 0) stores a ≡ last whole stores a 0
+    at a = read-after whole stores (λ _. 0) a
 
 module _ (k j slots : ℕ) where
   abbrev z : Sizes
