@@ -1,28 +1,26 @@
 -- Laws of an abort's code: "An abort unlocks everywhere".
 use mathlib.Core.Path.{_≡_, refl, sym, ap, ap₂, _∙_, subst}
 use mathlib.Core.Bool.{Bool, true, false, cond}
-use mathlib.Core.List.{List, [], _∷_, _++_}
-use Prim.Native.Nat.{ℕ, zero, suc, _+_, _/_, _≤_, _<_}
+use mathlib.Core.List.{List, []}
+use Prim.Native.Nat.{ℕ, zero, suc, _+_, _≤_, _<_}
 use native.Mathlib.Omega.{arith}
 use native.Mathlib.Numerals.{add-one}
 use lib.ListN.{length, replicate}
 use Rattle.memory.specs.Word.{view}
 use Rattle.memory.specs.WordLaws.{view-length}
 use Rattle.memory.specs.Bit.{bit}
-use Rattle.layout.specs.Block.{size}
 use Rattle.layout.specs.Space.{Put, changed, stored, AllValid}
 use Rattle.layout.specs.Step.{Does, silent, stepped, changed-append, stored-append, does-as, does-mem, valid-append}
 use Rattle.layout.specs.Part.{over, inPart}
 use Rattle.server.specs.declared.place.Place.{Place}
-use Rattle.server.specs.Object.{object-of, Has}
 use Rattle.client.specs.declared.part.Set.the-variants.{Reads}
 use Rattle.client.specs.Layout.{ClientWord, field}
-use Rattle.client.specs.Sets.{count, number-at}
+use Rattle.client.specs.Sets.{count}
 use Rattle.steps.specs.declared.sizes.Sizes.{Sizes}
 use Rattle.steps.specs.declared.outcome.Outcome.{Outcome}
 use Rattle.steps.specs.declared.outcome.Outcome.the-variants.{Refused, Aborted}
 use Rattle.engine.specs.declared.locks.Change.{Change}
-use Rattle.engine.specs.declared.locks.Change.the-variants.{Lock, Unlock}
+use Rattle.engine.specs.declared.locks.Change.the-variants.{Unlock}
 use Rattle.steps.specs.Whole.{Address, server, client, whole, block, words-for}
 use Rattle.steps.specs.Stores.{client-of, server-of, server-clients, server-else}
 use Rattle.steps.specs.Uses.{item-of, locked-at}

@@ -1,6 +1,6 @@
 -- Laws of the commit step's code.
 use mathlib.Core.Path.{_≡_, sym, ap, _∙_}
-use mathlib.Core.List.{List, [], _∷_, _++_}
+use mathlib.Core.List.{List, [], _∷_}
 use Prim.Native.Nat.{ℕ, _-_, _*_, _<_}
 use borrow.Author.Tests.{eq-eqb, ne-eqb}
 use borrow.Rule.Slice.PartMut.{midOf}
@@ -15,9 +15,9 @@ use Rattle.client.specs.Participants.{participants-of, committing}
 use Rattle.client.specs.Life as L
 use Rattle.steps.specs.declared.sizes.Sizes.{Sizes}
 use Rattle.steps.specs.declared.outcome.Outcome.the-variants.{Done, Committed}
-use Rattle.steps.specs.Whole.{Address, client, whole, block, client-at}
+use Rattle.steps.specs.Whole.{client, whole, block, client-at}
 use Rattle.steps.specs.Steps.{did, commit}
-use Rattle.engine.specs.Parts.{Holds, stored-in, client-lent}
+use Rattle.engine.specs.Parts.{Holds, client-lent}
 use Rattle.engine.specs.Judge.{of-client}
 use Rattle.engine.specs.Course.{mark}
 use Rattle.engine.specs.Kinds.{Meets, meets-did, meets-as}

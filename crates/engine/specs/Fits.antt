@@ -1,11 +1,10 @@
 -- Laws of refusal 10's code over all objects read.
 use mathlib.Core.Path.{_≡_, refl, sym, ap, _∙_, subst}
-use mathlib.Core.Bool.{Bool, true, false, cond, _&&_, _||_, not}
-use mathlib.Core.List.{List, [], _∷_, _++_}
-use Prim.Native.Nat.{ℕ, zero, suc, _+_, _-_, _*_, _/_, _≤_, _<_}
+use mathlib.Core.Bool.{Bool, true, false, cond, _||_, not}
+use mathlib.Core.List.{List}
+use Prim.Native.Nat.{ℕ, zero, suc, _+_, _-_, _*_, _≤_, _<_}
 use native.Mathlib.Omega.{arith}
 use native.Mathlib.Numerals.{add-one}
-use borrow.Author.Tests.{not-true, not-false}
 use borrow.Rule.Slice.PartMut.{midOf}
 use lib.ListN.{length}
 use Rattle.memory.specs.Word.{view}
@@ -19,7 +18,7 @@ use Rattle.client.specs.Items.{all-below}
 use Rattle.client.specs.Participants.{lowest-of}
 use Rattle.steps.specs.declared.sizes.Sizes.{Sizes}
 use Rattle.engine.specs.declared.items.Item as code
-use Rattle.steps.specs.Whole.{Allowed, client-at, words-for}
+use Rattle.steps.specs.Whole.{client-at}
 use Rattle.steps.specs.Uses.{Item, item-of, checked-at, locked-at}
 use Rattle.steps.specs.Judge.{lock-fits, check-fits, lowest, prepare-fits, unlock-fits, abort-fits}
 use Rattle.engine.specs.Parts.{Holds, stored-in, client-lent}

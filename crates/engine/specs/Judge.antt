@@ -1,14 +1,14 @@
 -- Laws of refusal 10's code: what is read of parts that are lent, and tests of all items.
 use mathlib.Core.Path.{_≡_, refl, sym, ap, _∙_, subst}
-use mathlib.Core.Bool.{Bool, true, false, cond, _&&_, _||_, not}
+use mathlib.Core.Bool.{Bool, true, false, _&&_, _||_, not}
 use mathlib.Core.List.{List}
-use Prim.Native.Nat.{ℕ, zero, suc, _+_, _-_, _*_, _/_, _≤_, _<_}
+use Prim.Native.Nat.{ℕ, zero, suc, _+_, _-_, _*_, _≤_, _<_}
 use native.Mathlib.Omega.{arith}
 use native.Mathlib.Numerals.{add-one}
-use native.Mathlib.Decide.{decLt, ℕ-discrete}
+use native.Mathlib.Decide.{ℕ-discrete}
 use borrow.Author.Tests.{lt-ltb, le-ltb, le-leb, lt-leb, ltb-true}
 use borrow.Rule.Slice.PartMut.{midOf}
-use lib.Dec.{eqb, leb, ltb}
+use lib.Dec.{ltb}
 use lib.ListN.{length}
 use Rattle.base.specs.Test.{and-both}
 use Rattle.memory.specs.Word.{view}
@@ -22,12 +22,12 @@ use Rattle.server.specs.Lock.{in-range}
 use Rattle.server.specs.Check.{sound}
 use Rattle.client.specs.declared.part.Set.{Set}
 use Rattle.client.specs.declared.part.Set.the-variants.{Writes}
-use Rattle.client.specs.Layout.{ClientWord, field, phase, writes-count}
+use Rattle.client.specs.Layout.{ClientWord, field}
 use Rattle.client.specs.Sets.{held}
 use Rattle.client.specs.Items.{all-below, has}
 use Rattle.steps.specs.declared.sizes.Sizes.{Sizes}
 use Rattle.engine.specs.declared.items.Item as code
-use Rattle.steps.specs.Whole.{Allowed, server, client, client-at, server-at, words-for}
+use Rattle.steps.specs.Whole.{server, client, client-at, server-at}
 use Rattle.steps.specs.Refusal.{between}
 use Rattle.steps.specs.Uses.{Item, object}
 use Rattle.steps.specs.Judge.{commits, writes, holders-fit, lock-fits, check-fits}

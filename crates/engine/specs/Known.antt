@@ -1,32 +1,26 @@
 -- A client whose own state is in range knows only objects of the store.
-use mathlib.Core.Path.{_≡_, refl, sym, ap, _∙_}
-use mathlib.Core.Bool.{Bool, true, false, cond, _&&_, false≢true}
-use mathlib.Core.List.{List, [], _∷_}
-use Prim.Native.Nat.{ℕ, zero, suc, _+_, _-_, _*_, _/_, _%_, _^_, _≤_, _<_}
+use mathlib.Core.Path.{_≡_, sym, ap, _∙_}
+use mathlib.Core.Bool.{Bool, true, _&&_}
+use mathlib.Core.List.{List}
+use Prim.Native.Nat.{ℕ, zero, suc, _-_, _*_, _^_, _<_}
 use native.Mathlib.Omega.{arith}
-use native.Mathlib.Decide.{ℕ-discrete, decLe}
-use borrow.Author.Tests.{eq-eqb, ne-eqb, le-leb, lt-leb, ltb-true}
+use native.Mathlib.Decide.{ℕ-discrete}
 use borrow.Rule.Slice.PartMut.{midOf}
-use lib.Dec.{eqb, leb, ltb}
 use lib.ListN.{length}
 use Rattle.base.specs.Test.{and-both}
 use Rattle.memory.specs.Word.{view}
-use Rattle.layout.specs.Block.{In}
-use Rattle.layout.specs.Space.{Valid}
-use Rattle.nodes.specs.Name.{server-of, slot-of}
 use Rattle.operations.specs.Slot as S
-use Rattle.server.specs.Layout as Srv
-use Rattle.server.specs.Object.{object-of, lock-of, named, Has}
 use Rattle.client.specs.declared.part.Set.{Set}
 use Rattle.client.specs.declared.part.Set.the-variants.{Reads, Writes}
 use Rattle.client.specs.Layout.{ClientWord}
-use Rattle.client.specs.Record.{in-store, number-in-store, fits}
+use Rattle.client.specs.Record.{number-in-store, fits}
 use Rattle.client.specs.Sets.{held, count, number-at, record-at}
 use Rattle.client.specs.Commit.{all-of}
 use Rattle.client.specs.Fits.{field-fits, op-fits, item-fits, has-read, vector-fits, client-fits}
 use Rattle.steps.specs.declared.sizes.Sizes.{Sizes}
 use Rattle.steps.specs.Whole.{Allowed, tree-sizes, client-at}
-use Rattle.engine.specs.Parts.{Holds, stored-in, client-lent}
+use Rattle.steps.specs.There.{in-store-has}
+use Rattle.engine.specs.Parts.{Holds, client-lent}
 use Rattle.engine.specs.Judge.{of-client}
 use Rattle.engine.specs.Fits.{Known}
 
@@ -56,29 +50,6 @@ module _ (z : S.Sizes) (m : ClientWord → ℕ) where
   fits-item s i h l =
       and-both (number-in-store z (number-at m s i)) (fits z (number-at m s i) (record-at m s i) && has-read m s (number-at m s i))
       (all-at (item-fits z m s) (count m s) i h l) .0
-
-named-in : (z : S.Sizes) (n : ℕ) → in-store z n ≡ true → (server-of n < z .servers) × (slot-of n < z .slots)
-unfolding in-store
-named-in z n h =
-    let p = and-both (ltb (server-of n) (z .servers)) (ltb (slot-of n) (z .slots)) h in
-    (ltb-true (server-of n) (z .servers) (p .0), ltb-true (slot-of n) (z .slots) (p .1))
-
-pub in-store-has : (z : Sizes) (x : ℕ) → Allowed z → number-in-store (tree-sizes z) x ≡ true → Has (z .slots) (object-of x)
-unfolding number-in-store object-of lock-of Valid In
-in-store-has z x f h = go (ℕ-discrete x 0) (decLe x 8192)
-  where
-    go : Dec (x ≡ 0) → Dec (x ≤ 8192) → Has (z .slots) (object-of x)
-    go (yes e) d = rw (eq-eqb x 0 e) (omega arith)
-    go (no e) (yes l) =
-        let q : in-store (tree-sizes z) (x - 1) ≡ true = sym (rw (ne-eqb x 0 e, le-leb x 8192 l)) ∙ h in
-        let p = named-in (tree-sizes z) (x - 1) q in
-        rw (ne-eqb x 0 e, le-leb x 8192 l) (p .1, omega (arith, p .0, f .servers))
-    go (no e) (no l) =
-        let g : 8192 < x = omega arith in
-        let q : in-store (tree-sizes z) (x - 8193) ≡ true = sym (rw (ne-eqb x 0 e, lt-leb x 8192 g)) ∙ h in
-        let p = named-in (tree-sizes z) (x - 8193) q in
-        let k : x - 1 - 8192 ≡ x - 8193 = omega arith in
-        rw (ne-eqb x 0 e, lt-leb x 8192 g, k) (p .1, omega arith)
 
 pub fits-known : (z : Sizes) (w : List ℕ) (c : ℕ) (b : Bool) → Allowed z → b ≡ client-fits (tree-sizes z) (of-client z w c) → b ≡ true → Known z w c
 fits-known z w c b f e t =

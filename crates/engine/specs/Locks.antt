@@ -1,16 +1,15 @@
 -- Laws of the locks' code: one rule at each object read that passes a test, one after another, in one server's part.
 use mathlib.Core.Path.{_≡_, refl, sym, ap, _∙_, subst}
 use mathlib.Core.Bool.{Bool, true, false, cond}
-use mathlib.Core.List.{List, [], _∷_, _++_}
-use Prim.Native.Nat.{ℕ, zero, suc, _+_, _-_, _*_, _/_, _≤_, _<_}
+use mathlib.Core.List.{List, [], _++_}
+use Prim.Native.Nat.{ℕ, suc, _+_, _-_, _*_, _/_, _≤_, _<_}
 use native.Mathlib.Omega.{arith}
 use native.Mathlib.Numerals.{add-one}
 use borrow.Rule.Slice.PartMut.{putMid, midOf}
 use lib.ListN.{length}
 use Rattle.memory.specs.Word.{view}
 use Rattle.memory.specs.WordLaws.{view-length}
-use Rattle.layout.specs.Block.{size}
-use Rattle.layout.specs.Space.{Put, put, changed, stored, AllValid}
+use Rattle.layout.specs.Space.{Put, changed, stored, AllValid}
 use Rattle.layout.specs.Step.{Does, silent, stepped, andThen, does-then, does-as, does-mem}
 use Rattle.layout.specs.Part.{over, inPart, good-all}
 use Rattle.layout.specs.Sweep.{sweep, sweep-valid}

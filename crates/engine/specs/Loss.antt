@@ -8,9 +8,9 @@ use borrow.Author.Tests.{eq-eqb, ne-eqb}
 use lib.ListN.{length, replicate}
 use Rattle.memory.specs.Word.{view}
 use Rattle.memory.specs.WordLaws.{view-length}
-use Rattle.layout.specs.Space.{Put, changed}
-use Rattle.layout.specs.Step.{Does, silent, stepped, andThen, does-then}
-use Rattle.layout.specs.Part.{over, inPart}
+use Rattle.layout.specs.Space.{Put}
+use Rattle.layout.specs.Step.{Does, silent, andThen, does-then}
+use Rattle.layout.specs.Part.{inPart}
 use Rattle.client.specs.Layout.{field}
 use Rattle.client.specs.Lent.{used-in}
 use Rattle.client.specs.Copies.{drop-all}

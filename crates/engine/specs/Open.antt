@@ -1,15 +1,15 @@
 -- Opening: the words of a new store, and laws of its code.
 use mathlib.Core.Path.{_≡_, refl, sym, ap, _∙_}
-use mathlib.Core.Bool.{Bool, true, false, cond}
-use mathlib.Core.List.{List, [], _∷_}
-use Prim.Native.Nat.{ℕ, zero, suc, _≤_, _<_}
+use mathlib.Core.Bool.{cond}
+use mathlib.Core.List.{List, _∷_}
+use Prim.Native.Nat.{ℕ, zero, suc, _≤_}
 use native.Mathlib.Omega.{arith}
-use borrow.Author.Tests.{eq-eqb, ne-eqb}
+use borrow.Author.Tests.{ne-eqb}
 use lib.Dec.{eqb}
 use lib.ListN.{length, set, replicate}
 use lib.Seq.{sets, length-sets}
 use Rattle.layout.specs.Block.{In, offset, size}
-use Rattle.layout.specs.Space.{Put, put, at, Valid, AllValid, mem, changed, stored, mem-zeros, mem-stored}
+use Rattle.layout.specs.Space.{Put, put, at, Valid, AllValid, changed, stored, mem-zeros, mem-stored}
 use Rattle.layout.specs.Step.{Does, silent, stepped}
 use Rattle.layout.specs.Part.{over, inPart}
 use Rattle.server.specs.declared.place.Place.the-variants.{Vector, Node}

@@ -1,9 +1,9 @@
 -- The whole memory as code is lent it: sizes, offsets, and parts that are lent on.
-use mathlib.Core.Path.{_≡_, refl, sym, ap, _∙_, subst}
+use mathlib.Core.Path.{_≡_, sym, _∙_, subst}
 use mathlib.Core.Bool.{Bool, true, false, cond, _&&_}
 use mathlib.Core.List.{List}
 use Prim.Native.Nat.{ℕ, _+_, _-_, _*_, _/_, _≤_, _<_}
-use native.Mathlib.Nat.{mul-le-mul-right, mul-comm}
+use native.Mathlib.Nat.{mul-le-mul-right}
 use native.Mathlib.Omega.{arith}
 use borrow.Author.Tests.{leb-true}
 use borrow.Rule.Slice.PartMut.{putMid, midOf}
@@ -11,7 +11,7 @@ use lib.Dec.{leb}
 use lib.ListN.{length, getD}
 use Rattle.base.specs.Test.{and-both}
 use Rattle.memory.specs.Word.{view}
-use Rattle.layout.specs.Block.{size, row-fits}
+use Rattle.layout.specs.Block.{size}
 use Rattle.layout.specs.Space.{Put, mem}
 use Rattle.layout.specs.Step.{Does, silent}
 use Rattle.layout.specs.Part.{Part, inPart, ofPart, lent-mem, back-does}
@@ -21,7 +21,7 @@ use Rattle.client.specs.Layout.{ClientWord, client-words, client-block}
 use Rattle.steps.specs.declared.sizes.Sizes.{Sizes}
 use Rattle.engine.specs.declared.whole.Length.{Length}
 use Rattle.engine.specs.declared.whole.Length.the-variants.{Bytes, Refused}
-use Rattle.steps.specs.Whole.{Allowed, Address, server, client, whole, block, words-for, length-for, server-at, client-at, server-part, client-part, words-within}
+use Rattle.steps.specs.Whole.{Allowed, Address, server, client, whole, block, words-for, length-for, server-at, client-at, server-part, client-part}
 use Rattle.steps.specs.Refusal.{between, allowed?}
 
 -- "a 64-byte head holding the three sizes"

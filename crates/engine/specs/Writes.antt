@@ -1,18 +1,18 @@
 -- Laws of the code that stores a write set at one server.
 use mathlib.Core.Path.{_≡_, refl, sym, ap, _∙_, subst}
-use mathlib.Core.Bool.{Bool, true, false, cond, _||_}
+use mathlib.Core.Bool.{Bool, true, false, cond}
 use mathlib.Core.List.{List, []}
-use Prim.Native.Nat.{ℕ, suc, _+_, _-_, _*_, _/_, _≤_, _<_}
+use Prim.Native.Nat.{ℕ, _+_, _-_, _*_, _≤_, _<_}
 use native.Mathlib.Omega.{arith}
 use native.Mathlib.Numerals.{add-one}
 use borrow.Author.Tests.{eq-eqb, ne-eqb, le-leb, lt-leb, le-ltb, ltb-true}
-use borrow.Rule.Slice.PartMut.{putMid, midOf}
-use lib.Dec.{eqb, leb, ltb}
+use borrow.Rule.Slice.PartMut.{midOf}
+use lib.Dec.{eqb}
 use lib.ListN.{length}
 use Rattle.memory.specs.Word.{view}
 use Rattle.memory.specs.WordLaws.{view-length}
-use Rattle.layout.specs.Space.{Put, stored, AllValid}
-use Rattle.layout.specs.Step.{Does, silent, stepped, andThen, does-as}
+use Rattle.layout.specs.Space.{Put, stored}
+use Rattle.layout.specs.Step.{Does, silent, stepped, does-as}
 use Rattle.layout.specs.Part.{over, inPart}
 use Rattle.layout.specs.Sweep.{sweep, sweep-valid}
 use Rattle.nodes.specs.declared.node.Node.{Node}
@@ -22,20 +22,20 @@ use Rattle.server.specs.Object.{object-of, named, Has}
 use Rattle.server.specs.Store.{metadata-step, flag-step, node-step}
 use Rattle.client.specs.declared.part.Set.the-variants.{Reads, Writes}
 use Rattle.client.specs.Layout.{ClientWord}
-use Rattle.client.specs.Record.{by-number, first-slot, last-version}
+use Rattle.client.specs.Record.{by-number, first-slot}
 use Rattle.client.specs.Sets.{held, count, number-at, record-at, find}
-use Rattle.client.specs.Items.{inner-before-after, all-below}
+use Rattle.client.specs.Items.{inner-before-after}
 use Rattle.client.specs.Participants.{at-home}
 use Rattle.client.specs.Drops.{version-of, next-version}
 use Rattle.steps.specs.declared.sizes.Sizes.{Sizes}
 use Rattle.engine.specs.declared.writes.Write as code
-use Rattle.steps.specs.Whole.{Address, server, client, whole, block, words-for, client-at, server-at}
+use Rattle.steps.specs.Whole.{Address, server, client, whole, block, words-for, client-at}
 use Rattle.steps.specs.Judge.{versions-fit}
 use Rattle.steps.specs.Steps.{in-server, store-write, store-all}
 use Rattle.steps.specs.Writes.{write-inside}
 use Rattle.engine.specs.Parts.{Holds, stored-in, client-lent}
 use Rattle.engine.specs.Judge.{of-client, below-at}
-use Rattle.engine.specs.Fits.{Known, known-same}
+use Rattle.engine.specs.Fits.{Known}
 use Rattle.engine.specs.Versions.{version-fits}
 use Rattle.engine.specs.Locks.{Done, Inside, done-as, done-then, clients-stay}
 

@@ -1,5 +1,4 @@
 // "An abort unlocks everywhere and drops copies of all objects read (for a flag, its vector)".
-ghost use mathlib.Core.Path.{_≡_};
 ghost use Prim.Native.Nat.{_<_};
 ghost use lib.ListN.{length};
 ghost use Rattle.memory.specs.Word.{view};

@@ -1,11 +1,11 @@
 // What a check of the objects read finds at a server: the failing one with the least number decides.
 ghost use mathlib.Core.Path.{_≡_};
-ghost use Prim.Native.Nat.{_≤_, _<_};
+ghost use Prim.Native.Nat.{_<_};
 ghost use lib.ListN.{length};
 ghost use Rattle.memory.specs.Word.{view};
 ghost use Rattle.server.specs.Check.{checked, held, reason};
 ghost use Rattle.server.specs.Object.{object-of, Has};
-ghost use Rattle.steps.specs.Uses.{use-of, locked-at};
+ghost use Rattle.steps.specs.Uses.{use-of};
 ghost use Rattle.engine.specs.Parts.{Holds};
 ghost use Rattle.engine.specs.Items.{as-item};
 ghost use Rattle.engine.specs.Judge.{of-server};

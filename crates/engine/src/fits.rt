@@ -5,7 +5,7 @@ ghost use lib.ListN.{length};
 ghost use Rattle.memory.specs.Word.{view};
 ghost use Rattle.server.specs.Object.{object-of, Has};
 ghost use Rattle.client.specs.declared.part.Set.the-variants.{Reads};
-ghost use Rattle.client.specs.Sets.{held, count};
+ghost use Rattle.client.specs.Sets.{count};
 ghost use Rattle.client.specs.Participants.{lowest-of};
 ghost use Rattle.steps.specs.Judge.{lowest, prepare-fits, unlock-fits, abort-fits};
 ghost use Rattle.engine.specs.Parts.{Holds, stored-in};

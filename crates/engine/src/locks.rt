@@ -1,6 +1,5 @@
 // The locks of the objects read, at one server: "Prepare checks and locks", "Apply writes and unlocks".
-ghost use mathlib.Core.Path.{_≡_};
-ghost use Prim.Native.Nat.{_≤_, _<_};
+ghost use Prim.Native.Nat.{_<_};
 ghost use lib.ListN.{length};
 ghost use Rattle.memory.specs.Word.{view};
 ghost use Rattle.layout.specs.Step.{Does, silent};
