@@ -5,7 +5,6 @@ use Prim.Native.Nat.{ℕ, _≤_, _<_}
 use native.Mathlib.Omega.{arith}
 use borrow.Author.Tests.{eq-eqb, ne-eqb, le-leb, lt-leb}
 use lib.Dec.{eqb}
-use lib.ListN.{getD}
 use Rattle.nodes.specs.declared.node.Node.{Node}
 use Rattle.client.specs.declared.part.Set.the-variants.{Reads, Writes}
 use Rattle.client.specs.Layout.{ClientWord}
@@ -37,9 +36,9 @@ mark-version x r h = rw (le-leb x 8192 h) (go (eqb x 0))
     go true = refl
     go false = refl
 
-pub mark-flag : (x : ℕ) (r : Node) → 8192 < x → getD (r .slots) 0 0 ≡ mark-of x r
+pub mark-flag : (x k : ℕ) (r : Node) → 8192 < x → k ≡ first-slot r → k ≡ mark-of x r
 unfolding mark-of
-mark-flag x r h = sym (rw (ne-eqb x 0 (λ e. omega arith), lt-leb x 8192 h))
+mark-flag x k r h q = q ∙ sym (rw (ne-eqb x 0 (λ e. omega arith), lt-leb x 8192 h))
 
 -- ---- items
 pub item-made : (m : ClientWord → ℕ) (x k : ℕ) (n : Node) (a w b : Bool) → a ≡ inner x n → k ≡ mark-of x n → w ≡ has m Writes x → b ≡ inner-in m Writes x

@@ -2,6 +2,7 @@
 ghost use mathlib.Core.Path.{_≡_};
 ghost use Prim.Native.Nat.{_/_, _<_, _≤_};
 ghost use lib.ListN.{length};
+ghost use Rattle.client.specs.Record.{first-slot};
 ghost use Rattle.client.specs.Sets.{held};
 ghost use Rattle.steps.specs.Uses.{item-of, checked-at, locked-at};
 ghost use Rattle.engine.specs.Items.{as-item, mark-of, read-item};
@@ -23,6 +24,14 @@ pub struct Item {
     pub becomes: bool,
 }
 
+// The root's name, or a flag.
+pub fn first_slot(node: Node) -> u64
+    ensures { λ r. ⌜ r ≡ first-slot node ⌝ }
+{
+    let slots = node.slots;
+    slots[0]
+}
+
 // That by which an object is checked.
 fn mark_of(number: u64, node: Node) -> u64
     ensures { λ r. ⌜ r ≡ mark-of number node ⌝ }
@@ -30,8 +39,7 @@ fn mark_of(number: u64, node: Node) -> u64
     if number <= 8192 {
         return node.version;
     }
-    let slots = node.slots;
-    slots[0]
+    first_slot(node)
 }
 
 pub fn item_of(part: &[u8], number: u64, node: Node) -> Item

@@ -9,7 +9,6 @@ ghost use Rattle.layout.specs.Step.{Does, silent};
 ghost use Rattle.layout.specs.Part.{inPart};
 ghost use Rattle.server.specs.Layout as Srv;
 ghost use Rattle.server.specs.Object.{object-of, Has};
-ghost use Rattle.client.specs.Record.{first-slot};
 ghost use Rattle.client.specs.declared.part.Set.the-variants.{Writes};
 ghost use Rattle.client.specs.Sets.{held, count};
 ghost use Rattle.steps.specs.Whole.{server as at-server, whole, block};
@@ -18,6 +17,7 @@ ghost use Rattle.engine.specs.Parts.{Holds, stored-in};
 ghost use Rattle.engine.specs.Judge.{of-client};
 ghost use Rattle.engine.specs.Fits.{Known};
 ghost use Rattle.engine.specs.Writes.{write-nth, write-step, Storable, Writable, StoredNth, stores};
+use crate::items::first_slot;
 use crate::whole::client_at;
 use crate::whole::server_at;
 use client::items::inner_before_after;
@@ -40,14 +40,6 @@ pub struct Write {
     pub node: Node,
     pub read: u64,
     pub inner: bool,
-}
-
-// The root's name, or a flag.
-fn first_slot(node: Node) -> u64
-    ensures { λ r. ⌜ r ≡ first-slot node ⌝ }
-{
-    let slots = node.slots;
-    slots[0]
 }
 
 // Item i of the write set.

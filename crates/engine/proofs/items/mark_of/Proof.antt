@@ -6,6 +6,6 @@ use Rattle.engine.proofs.items.mark_of.Tie as tie
 pub mark-of-spec : {M : Type 1} → statement M
 mark-of-spec = tie.close (tie.spec
     (λ c. search (item-exits, needs))  -- returns
-    (λ c. search needs)  -- array-read-result
+    (λ c κs. search needs)  -- first-slot-requires
     (λ c. search (item-exits, needs))  -- returns-2
     )

@@ -1,6 +1,6 @@
 use borrow.Author.Needs.{needs}
-use Rattle.engine.proofs.writes.first_slot.Statement.{statement}
-use Rattle.engine.proofs.writes.first_slot.Tie as tie
+use Rattle.engine.proofs.items.first_slot.Statement.{statement}
+use Rattle.engine.proofs.items.first_slot.Tie as tie
 
 pub first-slot-spec : {M : Type 1} → statement M
 first-slot-spec = tie.close (tie.spec
