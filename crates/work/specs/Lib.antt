@@ -48,3 +48,5 @@ pub mod Last
 pub mod Up
 pub mod Insert
 pub mod Delete
+-- the whole work step
+pub mod Work
