@@ -10,12 +10,14 @@ use borrow.Author.Tests.{not-true, not-false, le-leb, eq-eqb, ne-eqb}
 use Rattle.operations.specs.Object.{Obj, meta, node, flag, Ask, object, vector, fetched, Ans, Writes}
 use Rattle.operations.specs.Slot.{Sizes}
 use Rattle.operations.specs.Path.{Plan}
+use Rattle.operations.specs.Look.{lookup-plan}
+use Rattle.operations.specs.Change.{insert-plan, delete-plan}
+use Rattle.operations.specs.Migrate.{migrate-plan}
 use Rattle.operations.specs.Operation.{reading, all-fit?}
 use Rattle.work.specs.declared.walk.Stop.{Stop}
 use Rattle.work.specs.declared.walk.Stop.the-variants.{Going, LacksMeta, LacksNode, LacksVector, Refused, Aborts, Answers}
-use Rattle.client.specs.Layout.{ClientWord, op-number, op-key, op-server, reads-count, writes-count}
+use Rattle.client.specs.Layout.{ClientWord, op-number, op-key, op-value, op-server, reads-count, writes-count}
 use Rattle.client.specs.declared.part.Set.the-variants.{Reads}
-use Rattle.client.specs.Record.{in-store}
 use Rattle.client.specs.Sets.{count}
 use Rattle.client.specs.Items.{has}
 use Rattle.client.specs.Have.{have, broken}
@@ -25,21 +27,21 @@ use Rattle.client.specs.Answered.{entered}
 use Rattle.client.specs.Work as C
 use Rattle.client.specs.Work.{Worked, refused, fetches, aborted, answers, waiting, count-new, any-at-last, last-questions, worked}
 use Rattle.work.specs.Walk.{Told, told, lack, room, tell, walked}
-use Rattle.work.specs.Ask.{OwnKept, Holds, Noted}
+use Rattle.work.specs.Ask.{OwnKept, OwnGood, Holds, Noted}
 use Rattle.work.specs.Begin.{walk-begins, nothing-good, nothing-held, nothing-used, nothing-noted}
 use Rattle.work.specs.Mute.{stands}
-use Rattle.work.specs.Lookup.{ended}
-use Rattle.work.specs.Operated.{Operated}
+use Rattle.work.specs.Lookup.{ended, Walks}
+use Rattle.work.specs.Operated.{Operated, walks-operated}
+use Rattle.work.specs.Seek.{near-plan}
 use Rattle.work.specs.Fit.{entries-fit, all-fit-entries}
 use Rattle.work.specs.Last.{last-reason}
 
 -- an operation waits; what refusals 9 and 10 have judged
-pub record Waiting (z : Sizes) (m : ClientWord → ℕ) : Type 0 where
+pub record Waiting (m : ClientWord → ℕ) : Type 0 where
   pub some : m op-number ≡ 0 → ⊥
   pub known : m op-number ≤ 6
   pub reads : m reads-count ≤ 96
   pub writes : m writes-count ≤ 48
-  pub named : m op-number ≡ 6 → (in-store z (m op-key) ≡ true) × (m op-server < z .servers)
 
 -- both lists are empty
 pub record Ready (x u : List ℕ) : Type 0 where
@@ -144,7 +146,7 @@ module _ (z : Sizes) (m : ClientWord → ℕ) where
         record { answer = a; is = rw q; stop = sym p }
 
 -- ---- the ways out of the work step
-module _ (z : Sizes) (m : ClientWord → ℕ) (eight : z .servers ≤ 8) (wait : Waiting z m) (x u : List ℕ) (ready : Ready x u) (s : Stop) (x′ u′ : List ℕ)
+module _ (z : Sizes) (m : ClientWord → ℕ) (eight : z .servers ≤ 8) (wait : Waiting m) (x u : List ℕ) (ready : Ready x u) (s : Stop) (x′ u′ : List ℕ)
     (o : Operated z m x u (reading z (waiting m)) s x′ u′) (b : Bool) (pb : b ≡ is-answer s) where
   empty : Holds z x []
   empty = nothing-held x (ready .own-none) z
@@ -221,3 +223,54 @@ module _ (z : Sizes) (m : ClientWord → ℕ) (eight : z .servers ≤ 8) (wait :
           }
 
 pub ruleset work-exits = (work-stops, own-kept, work-aborts, work-answers)
+
+-- ---- by the operation's number
+from-three : (n : ℕ) → (n ≡ 0 → ⊥) → (n ≡ 1 → ⊥) → (n ≡ 2 → ⊥) → 3 ≤ n
+from-three n n₀ n₁ n₂ = omega (arith, n₀, n₁, n₂)
+
+only-six : (n : ℕ) → 3 ≤ n → (n ≡ 3 → ⊥) → (n ≡ 4 → ⊥) → (n ≡ 5 → ⊥) → n ≤ 6 → n ≡ 6
+only-six n l n₃ n₄ n₅ h = omega (arith, n₃, n₄, n₅)
+
+module _ (z : Sizes) (m : ClientWord → ℕ) (x u : List ℕ) (s : Stop) (x′ u′ : List ℕ) (op key : ℕ) (po : op ≡ m op-number) (pk : key ≡ m op-key) where
+  abbrev By : Plan → Type 0
+  By p = Operated z m x u p s x′ u′
+
+  by-plan : (p : Plan) → reading z (waiting m) ≡ p → By p → By (reading z (waiting m))
+  by-plan p e h = rw e h
+
+  pub by-insert : (value : ℕ) → op ≡ 1 → value ≡ m op-value → By (insert-plan z key value) → By (reading z (waiting m))
+  by-insert value e pv h = let q : m op-number ≡ 1 = sym po ∙ e in by-plan (insert-plan z key value) (rw (q, pk, pv)) h
+
+  pub by-delete : op ≡ 3 → By (delete-plan z key) → By (reading z (waiting m))
+  by-delete e h = let q : m op-number ≡ 3 = sym po ∙ e in by-plan (delete-plan z key) (rw (q, pk)) h
+
+  -- no other number is left
+  module _ (wait : Waiting m) (n₁ : op ≡ 1 → ⊥) (n₂ : op ≡ 2 → ⊥) (n₃ : op ≡ 3 → ⊥) (n₄ : op ≡ 4 → ⊥) (n₅ : op ≡ 5 → ⊥) where
+    six : m op-number ≡ 6
+    six = sym po ∙ only-six op (from-three op (λ q. wait .some (sym po ∙ q)) n₁ n₂) n₃ n₄ n₅ (rw po (wait .known))
+
+    pub by-migrate : (server : ℕ) → server ≡ m op-server → By (migrate-plan z key server) → By (reading z (waiting m))
+    by-migrate server pv h = by-plan (migrate-plan z key server) (rw (six, pk, pv)) h
+
+-- those that write nothing
+module _ (z : Sizes) (m : ClientWord → ℕ) (x u : List ℕ) (s : Stop) (u′ : List ℕ) (good : OwnGood x) (op key : ℕ) (po : op ≡ m op-number) (pk : key ≡ m op-key) where
+  by-walk : (p : Plan) → reading z (waiting m) ≡ p → Walks z m x u p s u′ → Operated z m x u (reading z (waiting m)) s x u′
+  by-walk p e h = rw e (walks-operated z m x u p s u′ good h)
+
+  pub by-lookup : op ≡ 2 → Walks z m x u (lookup-plan key) s u′ → Operated z m x u (reading z (waiting m)) s x u′
+  by-lookup e h = let q : m op-number ≡ 2 = sym po ∙ e in by-walk (lookup-plan key) (rw (q, pk)) h
+
+  pub by-next : op ≡ 4 → Walks z m x u (near-plan true key) s u′ → Operated z m x u (reading z (waiting m)) s x u′
+  by-next e h = let q : m op-number ≡ 4 = sym po ∙ e in by-walk (near-plan true key) (rw (q, pk)) h
+
+  pub by-previous : op ≡ 5 → Walks z m x u (near-plan false key) s u′ → Operated z m x u (reading z (waiting m)) s x u′
+  by-previous e h = let q : m op-number ≡ 5 = sym po ∙ e in by-walk (near-plan false key) (rw (q, pk)) h
+
+pub ruleset by-number = (by-insert, by-delete, by-migrate, by-lookup, by-next, by-previous)
+
+-- ---- what the parts of the work step ask for
+pub ready-good : (x u : List ℕ) → Ready x u → OwnGood x
+ready-good x u h = nothing-good x (h .own-none) (h .own-long)
+
+pub ready-noted : (m : ClientWord → ℕ) (x u : List ℕ) → Ready x u → Noted m u
+ready-noted m x u h = nothing-noted m u (h .used-none) (h .used-long)
