@@ -167,7 +167,7 @@ map-append : {A B : Type 0} (f : A → B) (l k : List A) → map f (l ++ k) ≡ 
 map-append f [] k = refl
 map-append f (a ∷ l) k = ap (λ (t : List _). f a ∷ t) (map-append f l k)
 
-reason-again : (x y : ℕ) → reason-of (fault x y) ≡ y
+pub reason-again : (x y : ℕ) → reason-of (fault x y) ≡ y
 reason-again x y = go (eqb y 0) refl
   where
     go : (b : Bool) → eqb y 0 ≡ b → reason-of (cond b none (some (x, y))) ≡ y

@@ -12,6 +12,10 @@ pub mod Known
 -- what a check finds
 pub mod Findings
 -- what a kind of step comes to; one store after another
+pub mod Fetch
+pub mod Hand
+pub mod Locks
+-- the steps by kind
 pub mod Kinds
 -- the locks at a server; those of an abort; a loss
 pub mod Locks
