@@ -6,7 +6,7 @@ use mathlib.Core.Option.{Option, none, some}
 use Prim.Native.Nat.{ℕ, zero, suc, _+_, _-_, _*_, _/_, _≤_, _<_}
 use native.Mathlib.Omega.{arith}
 use native.Mathlib.Numerals.{add-one, one-add}
-use borrow.Author.Tests.{lt-ltb, le-ltb, ltb-true, ltb-false}
+use borrow.Author.Tests.{eq-eqb, ne-eqb, lt-ltb, le-ltb, le-leb, lt-leb}
 use borrow.Rule.Slice.PartMut.{midOf}
 use lib.Dec.{eqb, leb, ltb}
 use lib.ListN.{length, getD, take, drop}
@@ -15,25 +15,28 @@ use Rattle.memory.specs.Word.{view}
 use Rattle.server.specs.declared.object.Object.{Object}
 use Rattle.server.specs.declared.lock.Use.the-variants.{Fetch}
 use Rattle.server.specs.Object.{object-of, Has}
-use Rattle.server.specs.Check.{can-check, checked, reason}
+use Rattle.server.specs.Check.{can-check, checked, held, reason}
 use Rattle.client.specs.declared.answer.Look.{Look}
 use Rattle.client.specs.declared.part.Set.the-variants.{Reads}
 use Rattle.client.specs.Layout.{ClientWord, reads-count}
-use Rattle.client.specs.Sets.{held, count}
+use Rattle.client.specs.Sets as sets
+use Rattle.client.specs.Sets.{count}
 use Rattle.client.specs.Items.{all-below}
 use Rattle.client.specs.Have.{copied}
 use Rattle.client.specs.Lent.{InUse, used-in}
 use Rattle.client.specs.LentLaws.{length-used}
 use Rattle.steps.specs.declared.sizes.Sizes.{Sizes}
 use Rattle.engine.specs.declared.items.Item as code
-use Rattle.engine.specs.declared.findings.Fault.{Fault}
+use Rattle.engine.specs.declared.findings.Fault as code-fault
+use Rattle.engine.specs.declared.fetch.Verdict.{Verdict}
+use Rattle.engine.specs.declared.fetch.Verdict.the-variants.{Unfit, Fault, Clear}
 use Rattle.steps.specs.Whole.{client-at}
 use Rattle.steps.specs.Uses.{Item, each, those, all, item-of, read-items, used-items, object, least, reason-of, deciding}
 use Rattle.steps.specs.Judge.{check-fits}
 use Rattle.steps.specs.Steps.{fetch-items, fetch-finding}
 use Rattle.engine.specs.Parts.{Holds, stored-in, client-lent}
 use Rattle.engine.specs.Items.{as-item, read-item}
-use Rattle.engine.specs.Judge.{of-client, of-server, none-passed, one-passed, one-fails, all-passed}
+use Rattle.engine.specs.Judge.{of-client, of-server, lock-at, none-passed, one-passed, one-fails, all-passed}
 use Rattle.engine.specs.Findings.{fault, as-fault, later, least-later, reason-again}
 
 -- a copy in use, as an object read
@@ -160,8 +163,8 @@ module _ (g : Item → Bool) where
 
 -- ---- the parts of the code
 pub used-lent : (z : Sizes) (b : List ℕ) (c k x : ℕ) (r : Item) → Holds z (length b) → c < z .clients → k ≡ client-at z c
-    → r ≡ used-item (held (midOf (8 * k) (length b - 8 * k) b)) x → r ≡ used-item (of-client z (view b) c) x
-unfolding held
+    → r ≡ used-item (sets.held (midOf (8 * k) (length b - 8 * k) b)) x → r ≡ used-item (of-client z (view b) c) x
+unfolding sets.held
 used-lent z b c k x r l h e q = q ∙ ap (λ (m : ClientWord → ℕ). used-item m x) (client-lent z c k b h e (l .room))
 
 pub used-by : (m : ClientWord → ℕ) (x : ℕ) (l : Look) (r : Item) → l ≡ copied m x → r ≡ item-of m x (l .node) → r ≡ used-item m x
@@ -247,7 +250,7 @@ module _ (z : Sizes) (w : List ℕ) (c s : ℕ) (u : List ℕ) where
   unfolding known-found each least
   known-found-none = refl
 
-  pub known-found-next : (i y : ℕ) (t : code.Item) (f g : Fault) → as-fault f ≡ known-found i → as-item t ≡ known-at (of-client z w c) (used-in u) i
+  pub known-found-next : (i y : ℕ) (t : code.Item) (f g : code-fault.Fault) → as-fault f ≡ known-found i → as-item t ≡ known-at (of-client z w c) (used-in u) i
       → y ≡ fetch-fault z w c s (as-item t) → as-fault g ≡ later (as-fault f) (t .number) y → as-fault g ≡ known-found (i + 1)
   unfolding known-found each
   known-found-next i y t f g h q e p =
@@ -258,7 +261,7 @@ module _ (z : Sizes) (w : List ℕ) (c s : ℕ) (u : List ℕ) where
       rw (e, h) (ap (λ (x : Item). later (least (map F l)) (x .number) (fetch-fault z w c s x)) q) in
       p ∙ k ∙ rw (add-one i) (sym (ap least (map-append F l (v ∷ [])) ∙ least-later (map F l) (F v)))
 
-  pub known-found-all : (i n : ℕ) (f : Fault) → InUse u → i ≤ n → n ≤ i → n ≡ count (of-client z w c) Reads + getD u 0 0 → as-fault f ≡ known-found i
+  pub known-found-all : (i n : ℕ) (f : code-fault.Fault) → InUse u → i ≤ n → n ≤ i → n ≡ count (of-client z w c) Reads + getD u 0 0 → as-fault f ≡ known-found i
       → f .reason ≡ items-found z w c s (used-in u)
   unfolding known-found items-found deciding fetch-fault
   known-found-all i n f used a b e h =
@@ -271,3 +274,48 @@ module _ (z : Sizes) (w : List ℕ) (c s : ℕ) (u : List ℕ) where
 pub ruleset checking = (known-has, known-passed, known-fails, none-checked, all-checked, checks-all)
 
 pub ruleset finding-all = (known-has, known-found-none, known-found-next, known-found-all)
+
+-- ---- what comes of it: refusal 10, a reason, or on
+abbrev pub faulty : ℕ → Verdict
+faulty y = cond (eqb y 0) Clear (Fault y)
+
+abbrev pub verdict-of : Bool → ℕ → Verdict
+verdict-of ok y = cond ok (faulty y) Unfit
+
+-- the object fetched, of the number x: busy by a writer, or one too many
+unfoldable pub gate-of : Sizes → List ℕ → ℕ → ℕ → ℕ → List ℕ → Verdict
+gate-of z w c s x us =
+    cond (lock-at z w s x)
+    (cond (held (object-of x) c Fetch (of-server z w s)) (Fault 2) (cond (leb 96 (of-client z w c reads-count + length us)) (Fault 4) Clear)) Unfit
+
+module _ (b : Bool) (fit : Bool) (e : b ≡ fit) where
+  pub verdict-unfit : (y : ℕ) → b ≡ false → Unfit ≡ verdict-of fit y
+  verdict-unfit y t = rw (← e, t)
+
+  module _ (x y : ℕ) (q : x ≡ y) (t : b ≡ true) where
+    pub verdict-clear : x ≡ 0 → Clear ≡ verdict-of fit y
+    verdict-clear h = rw (← e, t, ← q, eq-eqb x 0 h)
+
+    pub verdict-fault : (x ≡ 0 → ⊥) → Fault x ≡ verdict-of fit y
+    verdict-fault d = rw (← e, t, ← q, ne-eqb x 0 d)
+
+module _ (z : Sizes) (w : List ℕ) (c s x : ℕ) (u : List ℕ) (b : Bool) (e : b ≡ lock-at z w s x) where
+  pub gate-unfit : b ≡ false → Unfit ≡ gate-of z w c s x (used-in u)
+  unfolding gate-of
+  gate-unfit t = rw (← e, t)
+
+  module _ (t : b ≡ true) (h : Bool) (p : h ≡ held (object-of x) c Fetch (of-server z w s)) where
+    pub gate-busy : h ≡ true → Fault 2 ≡ gate-of z w c s x (used-in u)
+    unfolding gate-of
+    gate-busy q = rw (← e, t, ← p, q)
+
+    module _ (q : h ≡ false) (f : InUse u) (r : ℕ) (pr : r ≡ of-client z w c reads-count) where
+      pub gate-full : 96 ≤ r + getD u 0 0 → Fault 4 ≡ gate-of z w c s x (used-in u)
+      unfolding gate-of
+      gate-full l = rw (← e, t, ← p, q, ← pr, length-used u f, le-leb 96 (r + getD u 0 0) l)
+
+      pub gate-clear : r + getD u 0 0 < 96 → Clear ≡ gate-of z w c s x (used-in u)
+      unfolding gate-of
+      gate-clear l = rw (← e, t, ← p, q, ← pr, length-used u f, lt-leb 96 (r + getD u 0 0) l)
+
+pub ruleset verdicts = (verdict-unfit, verdict-clear, verdict-fault, gate-unfit, gate-busy, gate-full, gate-clear)

@@ -20,6 +20,7 @@ pub mod Kinds
 -- the locks at a server; those of an abort; a loss
 pub mod Locks
 pub mod Abort
+pub mod Lack
 pub mod Loss
 -- the course of a commit at its client; the commit step
 pub mod Course

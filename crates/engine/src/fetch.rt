@@ -10,15 +10,18 @@ ghost use Rattle.client.specs.Lent.{InUse, used-in};
 ghost use Rattle.engine.specs.Parts.{Holds};
 ghost use Rattle.engine.specs.Items.{as-item};
 ghost use Rattle.engine.specs.Judge.{of-client};
-ghost use Rattle.engine.specs.Fetch.{used-item, known-at, check-item, fetch-fault, items-fit, items-found, Checking};
+ghost use Rattle.engine.specs.Fetch.{used-item, known-at, check-item, fetch-fault, items-fit, items-found, Checking, verdict-of, gate-of};
 use crate::findings::Fault;
 use crate::findings::checked_at;
 use crate::findings::lesser;
 use crate::fits::reads_of;
 use crate::items::Item;
 use crate::items::item_of;
+use crate::findings::held_at;
 use crate::judge::check_fits;
+use crate::judge::field_of;
 use crate::judge::item_at;
+use crate::judge::lock_fits;
 use crate::whole::client_at;
 use client::lookup::copied;
 use server::check::can_check;
@@ -117,4 +120,51 @@ fn items_found(mem: &[u8], sizes: Sizes, client: usize, server: usize, used: &[u
         i += 1;
     }
     best.reason
+}
+
+// What comes of a check: refusal 10, a reason to abort, or the step goes on.
+pub enum Verdict {
+    Unfit,
+    Fault(u64),
+    Clear,
+}
+
+// "in the order metadata, nodes by name, flags by name"
+pub fn check_all(mem: &[u8], sizes: Sizes, client: usize, server: usize, used: &[u64]) -> Verdict
+    requires { ⌜ Checking sizes (now mem) client server (now used) ⌝ }
+    ensures { λ r. ⌜ r ≡ verdict-of (items-fit sizes (view (now (mem .entry))) client server (used-in (now (used .entry)))) (items-found sizes (view (now (mem .entry))) client server (used-in (now (used .entry)))) ⌝ }
+{
+    if items_fit(mem, sizes, client, server, used) {
+        let found = items_found(mem, sizes, client, server, used);
+        if found == 0 {
+            return Verdict::Clear;
+        }
+        return Verdict::Fault(found);
+    }
+    Verdict::Unfit
+}
+
+// "then the object fetched"; then the limit of 96.
+pub fn gate(
+    mem: &[u8],
+    sizes: Sizes,
+    client: usize,
+    server: usize,
+    number: u64,
+    used: &[u64],
+) -> Verdict
+    requires { ⌜ Checking sizes (now mem) client server (now used) × Has (sizes .slots) (object-of number) ⌝ }
+    ensures { λ r. ⌜ r ≡ gate-of sizes (view (now (mem .entry))) client server number (used-in (now (used .entry))) ⌝ }
+{
+    if lock_fits(mem, sizes, server, number) {
+        if held_at(mem, sizes, server, number, client, Use::Fetch) {
+            return Verdict::Fault(2);
+        }
+        let read = field_of(mem, sizes, client, 10) as usize;
+        if 96 <= read + used[0] as usize {
+            return Verdict::Fault(4);
+        }
+        return Verdict::Clear;
+    }
+    Verdict::Unfit
 }
