@@ -1,13 +1,11 @@
 -- Delete, walked: the key out of the leaf for it, then the way up.
-use mathlib.Core.Path.{_≡_, refl, sym, _∙_, ap}
-use mathlib.Core.Bool.{Bool, true, false, not}
-use mathlib.Core.List.{List, [], _∷_}
+use mathlib.Core.Path.{_≡_, sym, _∙_}
+use mathlib.Core.Bool.{Bool, false, not}
+use mathlib.Core.List.{List, []}
 use mathlib.Core.Option.{Option, none, some}
-use Prim.Native.Nat.{ℕ, zero, suc, _+_, _-_, _≤_, _<_}
+use Prim.Native.Nat.{ℕ, _+_, _-_, _≤_, _<_}
 use native.Mathlib.Omega.{arith}
 use lib.ListN.{length}
-use borrow.Author.Tests.{not-true, not-false}
-use Rattle.plans.specs.Plan as P
 use Rattle.nodes.specs.declared.node.Node.{Node}
 use Rattle.nodes.specs.declared.change.Wide.{Wide}
 use Rattle.nodes.specs.declared.found.Found.{Found}
@@ -15,24 +13,22 @@ use Rattle.nodes.specs.declared.found.Found.the-variants.{At, Absent}
 use Rattle.nodes.specs.Found.{found, Inside, found-some, found-none}
 use Rattle.nodes.specs.Lists.{remove, length-remove}
 use Rattle.nodes.specs.Find.{find}
-use Rattle.nodes.specs.Node.{extra, keysOf, made}
+use Rattle.nodes.specs.Node.{keysOf, made}
 use Rattle.nodes.specs.Entries.{entriesOf, wide-entries}
 use Rattle.nodes.specs.Change.{take-out}
-use Rattle.nodes.specs.Kept.{Whole, take-out-entries}
-use Rattle.operations.specs.Object.{Writes}
+use Rattle.nodes.specs.Kept.{take-out-entries}
 use Rattle.operations.specs.Slot.{Sizes}
-use Rattle.operations.specs.Entry.{Entries, index}
-use Rattle.operations.specs.Path.{Plan, Branch, from-root}
+use Rattle.operations.specs.Entry.{index}
+use Rattle.operations.specs.Path.{Plan}
 use Rattle.operations.specs.Change.{up, delete-at, delete-plan}
 use Rattle.work.specs.declared.down.Descent.{Descent}
 use Rattle.work.specs.declared.walk.Stop.{Stop}
 use Rattle.client.specs.Layout.{ClientWord}
-use Rattle.client.specs.Lent.{used-in}
 use Rattle.work.specs.Entries.{extra-leaf, leaf-index}
 use Rattle.work.specs.Walk.{goes, walked}
-use Rattle.work.specs.Lookup.{Ends, ended-nothing}
-use Rattle.work.specs.Ask.{OwnGood, Holds, Noted}
-use Rattle.work.specs.Down.{low, branches, trail, Linked, Reached, Descends}
+use Rattle.work.specs.Lookup.{Ends}
+use Rattle.work.specs.Ask.{OwnGood}
+use Rattle.work.specs.Down.{low, branches, Descends}
 use Rattle.work.specs.Operated.{Operated}
 use Rattle.work.specs.Rise.{Content, widened}
 use Rattle.work.specs.Parts.{out-level, widened-entries, widened-content}

@@ -1,10 +1,9 @@
 -- A root of 15 keys split, walked.
-use mathlib.Core.Path.{_≡_, refl, sym, _∙_, ap}
-use mathlib.Core.Bool.{Bool, true, false, cond, not}
-use mathlib.Core.List.{List, [], _∷_, _++_}
-use Prim.Native.Nat.{ℕ, zero, suc, _+_, _-_, _≤_, _<_}
+use mathlib.Core.Path.{_≡_, refl, sym, _∙_}
+use mathlib.Core.Bool.{Bool, true, false, not}
+use mathlib.Core.List.{List, [], _∷_}
+use Prim.Native.Nat.{ℕ, suc, _+_, _≤_, _<_}
 use native.Mathlib.Omega.{arith}
-use native.Mathlib.Numerals.{add-one}
 use lib.ListN.{length, take, drop, getD}
 use borrow.Author.Tests.{not-true, not-false}
 use Rattle.nodes.specs.declared.node.Node.{Node}
@@ -21,11 +20,10 @@ use Rattle.plans.specs.Plan as P
 use Rattle.work.specs.declared.grow.Two.{Two}
 use Rattle.work.specs.declared.search.Taken.{Taken}
 use Rattle.work.specs.declared.walk.Stop.{Stop}
-use Rattle.work.specs.declared.walk.Stop.the-variants.{Going, LacksMeta, LacksNode, LacksVector, Refused, Aborts, Answers}
 use Rattle.client.specs.Layout.{ClientWord}
 use Rattle.client.specs.Record.{in-store, value-of}
 use Rattle.client.specs.Lent.{used-in}
-use Rattle.work.specs.Walk.{Told, told, goes, walked, carry}
+use Rattle.work.specs.Walk.{goes, walked, carry}
 use Rattle.work.specs.Ask.{OwnKept, OwnGood, Holds, Noted}
 use Rattle.work.specs.Lookup.{Ends}
 use Rattle.work.specs.Down.{stops-not}
@@ -280,13 +278,10 @@ module _ (z : Sizes) (m : ClientWord → ℕ) (x u : List ℕ) (l r : ℕ) (n : 
           noted = e .noted;
         }
 
-pub root-name : (z : Sizes) (r : ℕ) → z .servers ≤ 8 → in-store z r ≡ true → r < 8192
-root-name z r eight t = name-below z r eight t
-
 pub root-begins : (x : List ℕ) → getD x 0 0 ≤ 12 → getD x 0 0 < 19
 root-begins x h = omega arith
 
 pub root-overfull : (l : ℕ) (n : Wide) → Full l n → l ≤ 4 → Overfull n
 root-overfull l n k h = record { full = k .full; level = omega (arith, k .content .level) }
 
-pub ruleset root-exits = (root-lacks, root-good, root-noted, root-room, root-left, root-right, root-parts, root-name, root-begins, root-overfull)
+pub ruleset root-exits = (root-lacks, root-good, root-noted, root-room, root-left, root-right, root-parts, name-below, root-begins, root-overfull)

@@ -1,9 +1,9 @@
 -- Insert, walked: the pair in the leaf for the key, then the way up.
-use mathlib.Core.Path.{_≡_, refl, sym, _∙_, ap}
+use mathlib.Core.Path.{_≡_, refl, sym, _∙_}
 use mathlib.Core.Bool.{Bool, true, false, not}
-use mathlib.Core.List.{List, [], _∷_, _++_}
+use mathlib.Core.List.{List, []}
 use mathlib.Core.Option.{Option, none, some}
-use Prim.Native.Nat.{ℕ, zero, suc, _+_, _-_, _≤_, _<_}
+use Prim.Native.Nat.{ℕ, zero, _+_, _-_, _≤_, _<_}
 use native.Mathlib.Omega.{arith}
 use lib.Dec.{eqb}
 use lib.ListN.{length, getD, set, length-set}
@@ -17,13 +17,12 @@ use Rattle.nodes.specs.Lists.{insert, length-insert}
 use Rattle.nodes.specs.Place.{place}
 use Rattle.nodes.specs.Find.{find, find-at}
 use Rattle.nodes.specs.Node.{extra, keysOf, slotsOf, made}
-use Rattle.nodes.specs.Entries.{headed, entriesOf, wide-entries}
+use Rattle.nodes.specs.Entries.{entriesOf, wide-entries}
 use Rattle.nodes.specs.Change.{wide, put-in, with-slot}
 use Rattle.nodes.specs.Kept.{Whole, made-whole, put-in-whole, put-in-entries, slot-entries}
-use Rattle.operations.specs.Object.{Ans, Writes}
 use Rattle.operations.specs.Map.{fresh}
 use Rattle.operations.specs.Slot.{Sizes}
-use Rattle.operations.specs.Entry.{Entries, keys, index, value-in, with-pair, with-at, value-at}
+use Rattle.operations.specs.Entry.{Entries, keys, index, value-in, with-pair}
 use Rattle.operations.specs.Path.{Plan, Branch, from-root}
 use Rattle.operations.specs.Change.{up, insert-plan}
 use Rattle.work.specs.declared.down.Turn.{Turn}
@@ -33,10 +32,9 @@ use Rattle.work.specs.declared.walk.Stop.{Stop}
 use Rattle.client.specs.Layout.{ClientWord}
 use Rattle.client.specs.Lent.{used-in}
 use Rattle.work.specs.Entries.{Leaf, open-leaf, extra-leaf, leaf-keys, leaf-index, leaf-value, leaf-absent}
-use Rattle.work.specs.Walk.{Told, told, goes, walked, carry}
+use Rattle.work.specs.Walk.{goes, walked}
 use Rattle.work.specs.Lookup.{ended-nothing, place-within, find-inside}
-use Rattle.work.specs.Mute.{stands}
-use Rattle.work.specs.Ask.{SmallNode, OwnKept, OwnGood, Holds, Noted}
+use Rattle.work.specs.Ask.{OwnGood, Noted}
 use Rattle.work.specs.Down.{low, branches, trail, Linked, Reached, Descends}
 use Rattle.work.specs.Operated.{Operated}
 use Rattle.work.specs.Rise.{OfLevel, Content, widened}

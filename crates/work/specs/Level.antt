@@ -1,8 +1,8 @@
 -- One level of a change, walked.
 use mathlib.Core.Path.{_≡_, refl, sym, _∙_, ap}
-use mathlib.Core.Bool.{Bool, true, false, cond}
-use mathlib.Core.List.{List, [], _∷_, _++_}
-use Prim.Native.Nat.{ℕ, zero, suc, _+_, _-_, _≤_, _<_}
+use mathlib.Core.Bool.{Bool, true, false}
+use mathlib.Core.List.{List, [], _∷_}
+use Prim.Native.Nat.{ℕ, zero, suc, _+_, _≤_, _<_}
 use native.Mathlib.Omega.{arith}
 use native.Mathlib.Decide.{decLe}
 use lib.ListN.{length, getD}
@@ -10,11 +10,11 @@ use Rattle.base.specs.Test.{ifd, ifd-yes, ifd-no}
 use Rattle.plans.specs.Plan as P
 use Rattle.nodes.specs.declared.node.Node.{Node}
 use Rattle.nodes.specs.declared.change.Wide.{Wide}
-use Rattle.nodes.specs.Node.{extra, extra-le, made}
+use Rattle.nodes.specs.Node.{extra, extra-le}
 use Rattle.nodes.specs.Entries.{entriesOf, wide-entries}
 use Rattle.nodes.specs.EntryLaws.{length-entries}
 use Rattle.nodes.specs.Change.{narrow, wide-keys, wide-slots}
-use Rattle.nodes.specs.Kept.{made-whole, narrow-entries}
+use Rattle.nodes.specs.Kept.{narrow-entries}
 use Rattle.operations.specs.Object.{node, Ans, Writes}
 use Rattle.operations.specs.Slot.{Sizes}
 use Rattle.operations.specs.Entry.{Entries, mk, mn, mx}
@@ -24,7 +24,6 @@ use Rattle.operations.specs.Change.{Go, split, split-root, neighbour, up}
 use Rattle.work.specs.declared.down.Turn.{Turn}
 use Rattle.work.specs.declared.rise.Risen.{Risen}
 use Rattle.work.specs.declared.walk.Stop.{Stop}
-use Rattle.work.specs.declared.walk.Stop.the-variants.{Going, LacksMeta, LacksNode, LacksVector, Refused, Aborts, Answers}
 use Rattle.client.specs.Layout.{ClientWord}
 use Rattle.client.specs.Record.{in-store, value-of}
 use Rattle.client.specs.Run.{run}
@@ -32,19 +31,15 @@ use Rattle.client.specs.Lent.{used-in}
 use Rattle.work.specs.Entries.{branch-of}
 use Rattle.work.specs.Walk.{Told, goes, over, worked, walked}
 use Rattle.work.specs.Lookup.{Ends, ended}
-use Rattle.work.specs.Mute.{stands}
-use Rattle.work.specs.Ask.{OwnKept, OwnGood, Holds, Noted}
+use Rattle.work.specs.Ask.{Noted}
 use Rattle.work.specs.Down.{stops-not}
 use Rattle.work.specs.Write.{name-below}
-use Rattle.work.specs.Rise.{NodeWritten, Content, Full, OfLevel, of-level-value, Under, in-parent, Raised, Closed, split-plan, neighbour-plan}
+use Rattle.work.specs.Rise.{NodeWritten, Content, Full, OfLevel, of-level-value, Under, under-name, level-room, in-parent, Raised, Closed, split-plan, neighbour-plan}
+use Rattle.work.specs.Parts.{extra-level, narrow-level}
 use Rattle.work.specs.Split.{Splits}
 use Rattle.work.specs.Grow.{root-split}
 
 -- ---- the plans
--- the node of the name c is written, and that is all
-unfoldable pub write-plan : Ans → ℕ → ℕ → Entries → Writes → Plan
-write-plan a l c es w = P.done (a, (node c, mk l es) ∷ w)
-
 -- below the root: "a non-root node" of 7 to 14 keys, of 15, of 6
 unfoldable pub level-plan : Sizes → Ans → ℕ → Turn → ℕ → (ℕ → Entries) → ℕ → List Branch → Writes → Go → Plan
 level-plan z a l b c es lo fs w go =
@@ -72,12 +67,7 @@ module _ (l : ℕ) (n : Wide) (k : Content l n) (lo : ℕ) where
   entries-many = length-entries (extra (n .kind)) lo (extra-le (n .kind)) (wide-keys n) (wide-slots n) fits ∙ k .whole .slots
 
   least : mn l ≡ 7 + extra (n .kind)
-  unfolding extra
-  least = by l ∙ sym (ap (λ (j : ℕ). 7 + extra j) (k .kind))
-    where
-      by : (l : ℕ) → mn l ≡ 7 + extra (kind l)
-      by zero = refl
-      by (suc l) = refl
+  least = sym (ap (λ (j : ℕ). 7 + extra j) (k .kind) ∙ extra-level l)
 
   most : mx l ≡ 14 + extra (n .kind)
   unfolding extra
@@ -88,8 +78,7 @@ module _ (l : ℕ) (n : Wide) (k : Content l n) (lo : ℕ) where
       by (suc l) = refl
 
   narrow-of-level : OfLevel l (narrow n)
-  unfolding narrow made
-  narrow-of-level = record { kind = k .kind; level = k .level; whole = made-whole (n .kind) (n .level) (n .version) 0 (wide-keys n) (wide-slots n) fits }
+  narrow-of-level = narrow-level l n (record { kind = k .kind; level = k .level; whole = k .whole })
 
   narrow-value : (c : ℕ) → mk l (wide-entries n lo) ≡ value-of (node c) (narrow n)
   narrow-value c = ap (mk l) (sym (narrow-entries n lo (k .whole))) ∙ of-level-value l (narrow n) lo c narrow-of-level
@@ -200,16 +189,10 @@ raise-few n d e h = omega arith
 pub raise-turn-few : (n : Wide) → n .count < 7 → n .count ≤ 14
 raise-turn-few n h = omega arith
 
-pub raise-room : (x : List ℕ) → getD x 0 0 ≤ 12 → getD x 0 0 < 20
-raise-room x h = omega arith
-
 pub raise-turn-room : (x : List ℕ) → getD x 0 0 ≤ 12 → getD x 0 0 ≤ 15
 raise-turn-room x h = omega arith
 
-pub raise-name : (z : Sizes) (l c : ℕ) (b : Turn) → z .servers ≤ 8 → Under z l c b → c < 8192
-raise-name z l c b eight un = name-below z c eight (un .link .there)
-
-pub ruleset raise-exits = (raise-splits, raise-turns, raise-of-level, raise-writes, raise-full, raise-narrow, raise-few, raise-turn-few, raise-room, raise-turn-room, raise-name)
+pub ruleset raise-exits = (raise-splits, raise-turns, raise-of-level, raise-writes, raise-full, raise-narrow, raise-few, raise-turn-few, level-room, raise-turn-room, under-name)
 
 -- ---- the root
 module _ (z : Sizes) (m : ClientWord → ℕ) (x u : List ℕ) (l c : ℕ) (n : Wide) (a b : ℕ) (k : Content l n) where
@@ -239,7 +222,4 @@ module _ (z : Sizes) (m : ClientWord → ℕ) (x u : List ℕ) (l c : ℕ) (n : 
         noted = h .noted;
       }
 
-pub top-name : (z : Sizes) (c : ℕ) → z .servers ≤ 8 → in-store z c ≡ true → c < 8192
-top-name z c eight t = name-below z c eight t
-
-pub ruleset top-exits = (top-splits, top-writes, top-name, raise-full, raise-narrow, raise-room)
+pub ruleset top-exits = (top-splits, top-writes, name-below, raise-full, raise-narrow, level-room)

@@ -31,22 +31,20 @@ pub mod Parts
 pub mod Lend
 pub mod Merge
 pub mod Neighbour
--- an operation walked to its end
-pub mod Operated
--- migrate
-pub mod Move
-pub mod Parent
-pub mod Migrate
 -- one level, and all of them
 pub mod Level
 -- an operation walked to its end
 pub mod Operated
--- the last questions
-pub mod Fit
-pub mod Last
 -- insert and delete
 pub mod Up
 pub mod Insert
 pub mod Delete
 -- the whole work step
 pub mod Work
+-- migrate
+pub mod Move
+pub mod Parent
+pub mod Migrate
+-- the last questions
+pub mod Fit
+pub mod Last

@@ -1,5 +1,5 @@
 -- Plans that never come to an answer: what stops the walk of one is no answer. Every question is one, up to what follows it.
-use mathlib.Core.Path.{_≡_, refl, sym, _∙_, ap}
+use mathlib.Core.Path.{_≡_, refl}
 use mathlib.Core.Bool.{Bool, true, false, cond}
 use mathlib.Core.List.{List, [], _∷_, _++_}
 use mathlib.Core.Option.{Option, none, some}
@@ -20,8 +20,8 @@ use Rattle.work.specs.declared.walk.Stop.the-variants.{Going, LacksMeta,
 use Rattle.client.specs.Layout.{ClientWord}
 use Rattle.client.specs.Record.{number}
 use Rattle.client.specs.Have.{have, broken}
-use Rattle.client.specs.Run.{End, lacks, aborts, gives, Ran, among, judged, run}
-use Rattle.work.specs.Walk.{told, lack, over-run, fresh, room, over, worked, tell, walked}
+use Rattle.client.specs.Run.{End, lacks, aborts, gives, among, judged, run}
+use Rattle.work.specs.Walk.{lack, over-run, fresh, room, over, worked, tell, walked}
 
 unfoldable pub Mute : Plan → Type 0
 Mute (P.ask a k) = (v : Val) → Mute (k v)

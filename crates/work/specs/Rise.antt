@@ -16,7 +16,7 @@ use Rattle.nodes.specs.Entries.{entriesOf, wide-entries}
 use Rattle.nodes.specs.Change.{wide, with-version}
 use Rattle.nodes.specs.Kept.{Whole, whole, WholeWide}
 use Rattle.nodes.specs.StoredLaws.{Sized}
-use Rattle.operations.specs.Object.{Obj, meta, node, flag, Val, body, Ans, Writes}
+use Rattle.operations.specs.Object.{node, Ans, Writes}
 use Rattle.operations.specs.Slot.{Sizes}
 use Rattle.operations.specs.Entry.{Entries, mk}
 use Rattle.operations.specs.Arrays.{kind}
@@ -27,13 +27,13 @@ use Rattle.work.specs.declared.down.Turn.{Turn}
 use Rattle.work.specs.declared.walk.Stop.{Stop}
 use Rattle.work.specs.declared.walk.Stop.the-variants.{Going, LacksMeta, LacksNode, LacksVector, Refused, Aborts, Answers}
 use Rattle.client.specs.Layout.{ClientWord}
-use Rattle.client.specs.Record.{number, in-store, object-in-store, value-of, record-of}
+use Rattle.client.specs.Record.{number, in-store, value-of, record-of}
 use Rattle.client.specs.Lent.{OwnFits, own-put, used-in}
 use Rattle.work.specs.Walk.{Told, told, goes, walked}
 use Rattle.work.specs.Lookup.{ended}
 use Rattle.work.specs.Mute.{stands}
 use Rattle.work.specs.Ask.{SmallNode, OwnKept, OwnGood, Holds, Noted}
-use Rattle.work.specs.Write.{few-more, holds-more}
+use Rattle.work.specs.Write.{name-below, few-more, holds-more}
 use Rattle.work.specs.Take.{Wrote, wrote}
 use Rattle.work.specs.Entries.{opens, stored-node, branch-of}
 use Rattle.work.specs.Down.{Followed, Link, stops-not}
@@ -90,6 +90,13 @@ pub record Under (z : Sizes) (l c : ℕ) (b : Turn) : Type 0 where
   pub followed : Followed b
   pub link : Link z l c b
   pub there : in-store z (b .name) ≡ true
+
+pub under-name : (z : Sizes) (l c : ℕ) (b : Turn) → z .servers ≤ 8 → Under z l c b → c < 8192
+under-name z l c b eight un = name-below z c eight (un .link .there)
+
+-- room for the writes of one level
+pub level-room : (x : List ℕ) → getD x 0 0 ≤ 12 → getD x 0 0 < 20
+level-room x h = omega arith
 
 -- a node of level l
 pub record OfLevel (l : ℕ) (n : Node) : Type 0 where

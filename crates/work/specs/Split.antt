@@ -1,27 +1,25 @@
 -- A node of 15 keys split, walked.
 use mathlib.Core.Path.{_≡_, refl, sym, _∙_, ap}
-use mathlib.Core.Bool.{Bool, true, false, cond, not}
+use mathlib.Core.Bool.{Bool, true, false, not}
 use mathlib.Core.List.{List, [], _∷_, _++_}
-use Prim.Native.Nat.{ℕ, zero, suc, _+_, _-_, _≤_, _<_}
+use Prim.Native.Nat.{ℕ, zero, suc, _+_, _≤_, _<_}
 use native.Mathlib.Omega.{arith}
 use native.Mathlib.Numerals.{add-one}
-use lib.ListN.{length, take, drop, getD, length-drop}
-use lib.Seq.{length-take-le}
+use lib.ListN.{length, take, drop, getD}
 use borrow.Author.Tests.{not-true, not-false}
 use Rattle.plans.specs.Plan as P
-use Rattle.nodes.specs.declared.node.Node.{Node}
 use Rattle.nodes.specs.declared.change.Wide.{Wide}
 use Rattle.nodes.specs.declared.change.Halves.{Halves}
 use Rattle.nodes.specs.Lists.{insert, length-insert}
-use Rattle.nodes.specs.Node.{extra, keysOf, made, extra-le}
+use Rattle.nodes.specs.Node.{extra, keysOf, made}
 use Rattle.nodes.specs.Entries.{entriesOf, wide-entries}
 use Rattle.nodes.specs.EntryLaws.{first}
 use Rattle.nodes.specs.Change as N
-use Rattle.nodes.specs.Change.{wide, wide-keys, wide-slots, put-in, cut-at}
-use Rattle.nodes.specs.Kept.{WholeWide, made-whole, length-entriesOf, put-in-whole, put-in-entries, split-left, split-right, split-sep}
+use Rattle.nodes.specs.Change.{wide, put-in, cut-at}
+use Rattle.nodes.specs.Kept.{length-entriesOf, put-in-whole, put-in-entries, split-left, split-right, split-sep}
 use Rattle.operations.specs.Object.{node, flag, taken, no-tree, Writes}
 use Rattle.operations.specs.Slot.{Sizes, take-for, take-node}
-use Rattle.operations.specs.Entry.{Entries, mk, mn, nxt}
+use Rattle.operations.specs.Entry.{Entries, mn, nxt}
 use Rattle.operations.specs.Arrays.{kind}
 use Rattle.operations.specs.Path.{Plan, Branch}
 use Rattle.operations.specs.Change.{Go, with-two, parted, split}
@@ -29,61 +27,42 @@ use Rattle.work.specs.declared.down.Turn.{Turn}
 use Rattle.work.specs.declared.rise.Risen.{Risen}
 use Rattle.work.specs.declared.search.Taken.{Taken}
 use Rattle.work.specs.declared.walk.Stop.{Stop}
-use Rattle.work.specs.declared.walk.Stop.the-variants.{Going, LacksMeta, LacksNode, LacksVector, Refused, Aborts, Answers}
+use Rattle.work.specs.declared.walk.Stop.the-variants.{Going}
 use Rattle.client.specs.Layout.{ClientWord}
 use Rattle.client.specs.Record.{in-store, value-of}
 use Rattle.client.specs.Lent.{used-in}
-use Rattle.work.specs.Entries.{Inner, extra-inner, entry-slot, branch-of}
+use Rattle.work.specs.Entries.{extra-inner, entry-slot, branch-of}
 use Rattle.work.specs.Walk.{Told, told, goes, walked, carry}
-use Rattle.work.specs.Ask.{SmallNode, OwnGood, Holds, Noted}
-use Rattle.work.specs.Down.{Followed, stops-not}
+use Rattle.work.specs.Ask.{OwnGood, Holds, Noted}
+use Rattle.work.specs.Down.{Followed}
 use Rattle.work.specs.Write.{name-below}
 use Rattle.work.specs.Take.{NodeTaken}
 use Rattle.work.specs.Search.{TakenFor}
 use Rattle.work.specs.Mute.{Mute, stands, walked-mute, take-for-mute, take-node-mute}
-use Rattle.work.specs.Rise.{Content, Full, OfLevel, of-level-value, Under, in-parent, Raised, stopped-raised, Fitting, BothWritten, split-plan}
+use Rattle.work.specs.Parts.{extra-level, Leveled, left-level, right-level}
+use Rattle.work.specs.Rise.{Content, Full, OfLevel, of-level-value, Under, under-name, level-room, in-parent, Raised, stopped-raised, Fitting, BothWritten, split-plan}
 
 -- the halves of a full node of level l
 module _ (l : ℕ) (n : Wide) (k : Full l n) where
   abbrev halves : Halves
   halves = N.split n 0
 
-  kind-is : n .kind ≡ kind l
-  kind-is = k .content .kind
+  leveled : Leveled l n
+  leveled = record { kind = k .content .kind; level = k .content .level; whole = k .content .whole }
 
   seven : 7 + extra (n .kind) ≡ mn l
-  unfolding extra
-  seven = ap (λ (j : ℕ). 7 + extra j) kind-is ∙ by l
-    where
-      by : (l : ℕ) → 7 + extra (kind l) ≡ mn l
-      by zero = refl
-      by (suc l) = refl
+  seven = ap (λ (j : ℕ). 7 + extra j) (k .content .kind) ∙ extra-level l
 
-  -- the parts of the whole
-  left-long : length (take 7 (wide-keys n)) ≡ 7
-  left-long = length-take-le 7 (wide-keys n) (omega (arith, k .content .whole .keys, k .full))
-
-  left-slots : length (take (7 + extra (n .kind)) (wide-slots n)) ≡ length (take 7 (wide-keys n)) + extra (n .kind)
-  left-slots = length-take-le (7 + extra (n .kind)) (wide-slots n) (omega (arith, k .content .whole .slots, k .full)) ∙ omega (arith, left-long)
-
-  right-slots : length (drop (7 + extra (n .kind)) (wide-slots n)) ≡ length (drop (7 + extra (n .kind)) (wide-keys n)) + extra (n .kind)
-  right-slots = simp length-drop (omega (arith, k .content .whole .keys, k .content .whole .slots, k .full, extra-le (n .kind)))
+  inside : 7 < n .count
+  inside = omega (arith, k .full)
 
   pub left-of-level : OfLevel l (halves .left)
-  unfolding N.split cut-at made
-  left-of-level = record {
-    kind = kind-is;
-    level = k .content .level;
-    whole = made-whole (n .kind) (n .level) (n .version) 0 (take 7 (wide-keys n)) (take (7 + extra (n .kind)) (wide-slots n)) left-slots;
-  }
+  unfolding N.split
+  left-of-level = left-level l n leveled 7 0 inside
 
   pub right-of-level : OfLevel l (halves .right)
-  unfolding N.split cut-at made
-  right-of-level = record {
-    kind = kind-is;
-    level = k .content .level;
-    whole = made-whole (n .kind) (n .level) 0 0 (drop (7 + extra (n .kind)) (wide-keys n)) (drop (7 + extra (n .kind)) (wide-slots n)) right-slots;
-  }
+  unfolding N.split
+  right-of-level = right-level l n leveled 7 0 inside
 
   first-nxt : (es : Entries) → nxt es 0 ≡ first es
   first-nxt [] = refl
@@ -228,13 +207,7 @@ divided x b c d n up sep x′ h e = record { up-is = rw (h .sep-is) at e; writte
 pub record Splits (z : Sizes) (m : ClientWord → ℕ) (x u : List ℕ) (l : ℕ) (b : Turn) (c : ℕ) (n : Wide) (r : Risen) (x′ u′ : List ℕ) : Type 0 where
   pub raised : (root : Bool) → Raised z m x u l root (split-plan z l b c (wide-entries n)) r x′ u′
 
-pub split-begins : (x : List ℕ) → getD x 0 0 ≤ 12 → getD x 0 0 < 20
-split-begins x h = omega arith
-
 module _ (z : Sizes) (l c : ℕ) (b : Turn) (un : Under z l c b) where
-  pub split-name : z .servers ≤ 8 → c < 8192
-  split-name eight = name-below z c eight (un .link .there)
-
   pub parent-few : b .node .count ≤ 14
   parent-few = un .followed .small .keys
 
@@ -301,4 +274,4 @@ module _ (z : Sizes) (m : ClientWord → ℕ) (x u : List ℕ) (l : ℕ) (b : Tu
           };
         }
 
-pub ruleset split-exits = (split-begins, split-name, parent-few, parent-at, split-overfull, split-lacks, split-good, right-name, split-room, split-done)
+pub ruleset split-exits = (level-room, under-name, parent-few, parent-at, split-overfull, split-lacks, split-good, right-name, split-room, split-done)

@@ -1,6 +1,6 @@
 -- The new content of a leaf carried up its path, walked.
 use mathlib.Core.Path.{_≡_, refl, sym, _∙_, ap}
-use mathlib.Core.Bool.{Bool, true, false, cond, not}
+use mathlib.Core.Bool.{Bool, true, false, not}
 use mathlib.Core.List.{List, [], _∷_, _++_}
 use Prim.Native.Nat.{ℕ, zero, suc, _+_, _-_, _*_, _≤_, _<_}
 use native.Mathlib.Omega.{arith}
@@ -9,11 +9,10 @@ use lib.Dec.{eqb}
 use lib.ListN.{length, getD}
 use borrow.Author.Tests.{not-true, not-false, eq-eqb, ne-eqb}
 use Rattle.nodes.specs.declared.change.Wide.{Wide}
-use Rattle.nodes.specs.Entries.{entriesOf, wide-entries}
+use Rattle.nodes.specs.Entries.{wide-entries}
 use Rattle.operations.specs.Object.{Ans, Writes}
 use Rattle.operations.specs.Slot.{Sizes}
-use Rattle.operations.specs.Entry.{Entries}
-use Rattle.operations.specs.Path.{Plan, Branch}
+use Rattle.operations.specs.Path.{Plan}
 use Rattle.operations.specs.Change.{Go, up}
 use Rattle.work.specs.declared.down.Turn.{Turn}
 use Rattle.work.specs.declared.rise.Risen.{Risen}
@@ -23,13 +22,12 @@ use Rattle.client.specs.Layout.{ClientWord}
 use Rattle.client.specs.Record.{in-store}
 use Rattle.client.specs.Lent.{used-in}
 use Rattle.work.specs.Entries.{branch-of}
-use Rattle.work.specs.Walk.{Told, goes, walked}
-use Rattle.work.specs.Lookup.{ended}
+use Rattle.work.specs.Walk.{goes, walked}
 use Rattle.work.specs.Mute.{stands}
-use Rattle.work.specs.Ask.{OwnKept, OwnGood, Holds, Noted}
+use Rattle.work.specs.Ask.{OwnGood, Holds, Noted}
 use Rattle.work.specs.Down.{low, branches, trail, blank, Followed, All, Link, Linked}
 use Rattle.work.specs.Operated.{Operated}
-use Rattle.work.specs.Rise.{Content, Under, in-parent, is-root, rose, Raised, Closed}
+use Rattle.work.specs.Rise.{Content, Under, is-root, rose, Raised, Closed}
 use Rattle.work.specs.Level.{level-plan, top-plan, up-level}
 
 -- the plan from the level l on: the inner nodes of the path above it, and the new content of the node of that level

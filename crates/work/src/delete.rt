@@ -10,7 +10,6 @@ use nodes::change::Wide;
 use nodes::found::Found;
 use nodes::node::Node;
 ghost use mathlib.Core.Path.{_≡_};
-ghost use mathlib.Core.Bool.{true};
 ghost use Prim.Native.Nat.{_/_, _<_, _≤_};
 ghost use lib.ListN.{length, getD};
 ghost use Rattle.nodes.specs.Change.{take-out};
