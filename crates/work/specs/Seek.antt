@@ -258,7 +258,7 @@ pub record Climbed (right : Bool) (top : ℕ) (path : List Turn) (level : ℕ) (
   pub below : a .state ≡ Next → a .level < top
   pub lighter : a .state ≡ Next → weight right top (a .path) (a .level) ≤ load right level (trail path level (top - level))
 
-getD-any : {A : Type 0} (l : List A) (i : ℕ) (a b : A) → i < length l → getD l i a ≡ getD l i b
+pub getD-any : {A : Type 0} (l : List A) (i : ℕ) (a b : A) → i < length l → getD l i a ≡ getD l i b
 getD-any [] i a b h = absurd (omega arith)
 getD-any (x ∷ l) zero a b h = refl
 getD-any (x ∷ l) (suc i) a b h = getD-any l i a b (omega arith)

@@ -26,6 +26,7 @@ use Rattle.work.specs.Walk.{goes, walked}
 use Rattle.work.specs.Mute.{stands}
 use Rattle.work.specs.Ask.{OwnGood, Holds, Noted}
 use Rattle.work.specs.Down.{low, branches, trail, blank, Followed, All, Link, Linked}
+use Rattle.work.specs.Seek.{getD-any}
 use Rattle.work.specs.Operated.{Operated}
 use Rattle.work.specs.Rise.{Content, Under, is-root, rose, Raised, Closed}
 use Rattle.work.specs.Level.{level-plan, top-plan, up-level}
@@ -95,11 +96,6 @@ linked-there : (z : Sizes) (l n : ℕ) (bs : List Turn) → Linked z l n bs → 
 unfolding Linked
 linked-there z l n [] h = h
 linked-there z l n (b ∷ bs) h = h .0 .there
-
-getD-any : {A : Type 0} (l : List A) (i : ℕ) (a b : A) → i < length l → getD l i a ≡ getD l i b
-getD-any [] i a b h = absurd (omega arith)
-getD-any (x ∷ l) zero a b h = refl
-getD-any (x ∷ l) (suc i) a b h = getD-any l i a b (omega arith)
 
 -- the parent is the root where the path ends with it
 root-is : (path : List Turn) (l top : ℕ) → l < top → is-root (branches (trail path (suc l) (top - suc l))) ≡ eqb (l + 1) top

@@ -1,27 +1,23 @@
 -- The walk of a plan as a work step tells it, and what comes of a question.
-use mathlib.Core.Path.{_≡_, refl, sym, _∙_, ap}
+use mathlib.Core.Path.{_≡_, refl}
 use mathlib.Core.Bool.{Bool, true, false, cond, _&&_, not}
 use mathlib.Core.List.{List, [], _∷_, _++_}
-use mathlib.Core.Option.{Option, none, some}
-use Prim.Native.Nat.{ℕ, _+_, _-_, _≤_, _<_}
+use Prim.Native.Nat.{ℕ, _+_, _-_}
 use native.Mathlib.Omega.{arith}
 use lib.Dec.{ltb}
 use lib.ListN.{length, take, length-append}
 use lib.Seq.{take-append-seam}
-use borrow.Author.Tests.{lt-ltb, le-ltb}
-use Rattle.base.specs.Test.{bool-cases}
 use Rattle.plans.specs.Plan as P
 use Rattle.nodes.specs.Name.{server-of}
-use Rattle.operations.specs.Object.{Obj, meta, node, flag, Ask, object, vector, fetched, Val, Why, reason, Ans, Writes, hit}
+use Rattle.operations.specs.Object.{meta, node, flag, Ask, object, vector, fetched, Val, Why, reason, Ans, Writes}
 use Rattle.operations.specs.Slot.{Sizes}
-use Rattle.operations.specs.Path.{Plan, see}
+use Rattle.operations.specs.Path.{Plan}
 use Rattle.work.specs.declared.walk.Stop.{Stop}
 use Rattle.work.specs.declared.walk.Stop.the-variants.{Going, LacksMeta, LacksNode, LacksVector, Refused, Aborts, Answers}
 use Rattle.client.specs.declared.part.Set.the-variants.{Reads}
 use Rattle.client.specs.declared.part.Set.the-variants as set
 use Rattle.client.specs.Layout.{ClientWord}
 use Rattle.client.specs.Sets.{count, find}
-use Rattle.client.specs.Record.{number}
 use Rattle.client.specs.Have.{have, broken}
 use Rattle.client.specs.Commit.{is-at}
 use Rattle.client.specs.Run.{End, lacks, aborts, gives, Ran, ran, judged, run}
@@ -85,12 +81,6 @@ module _ (z : Sizes) (m : ClientWord → ℕ) where
 -- with the copies us the walk has stopped, or goes on
 abbrev pub carry : Stop → List ℕ → (List ℕ → Told) → Told
 carry s us f = cond (goes s) (f us) (told s us)
-
-pub carry-stops : (s : Stop) (us : List ℕ) (f : List ℕ → Told) → goes s ≡ false → carry s us f ≡ told s us
-carry-stops s us f e = rw e
-
-pub carry-goes : (s : Stop) (us : List ℕ) (f : List ℕ → Told) → goes s ≡ true → carry s us f ≡ f us
-carry-goes s us f e = rw e
 
 -- ---- the ends of a walk
 module _ (z : Sizes) (m : ClientWord → ℕ) (us : List ℕ) where
