@@ -20,7 +20,6 @@ pub mod Kinds
 -- the locks at a server; those of an abort; a loss
 pub mod Locks
 pub mod Abort
-pub mod Lack
 pub mod Loss
 -- the course of a commit at its client; the commit step
 pub mod Course
@@ -30,3 +29,6 @@ pub mod Versions
 pub mod Writes
 pub mod Apply
 pub mod Prepare
+pub mod Known
+-- a work step that fetches
+pub mod Lack

@@ -10,6 +10,7 @@ pub mod hand;
 pub mod items;
 pub mod judge;
 pub mod known;
+pub mod lack;
 pub mod life;
 pub mod locks;
 pub mod loss;
