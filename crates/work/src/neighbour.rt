@@ -27,11 +27,11 @@ ghost use Rattle.work.specs.Neighbour.{Evens};
 
 // Two neighbours by their names. The left one's number among the children is that of the separator between them; `last` says that
 // the node which turns is the right one.
-pub struct Sides {
-    pub at: usize,
-    pub last: bool,
-    pub left: u64,
-    pub right: u64,
+struct Sides {
+    at: usize,
+    last: bool,
+    left: u64,
+    right: u64,
 }
 
 // "turns to its right neighbour under the same parent, or to the left one if it is the last child"
