@@ -15,3 +15,4 @@ pub mod split;
 pub mod take;
 pub mod up;
 pub mod walk;
+pub mod work;
