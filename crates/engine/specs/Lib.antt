@@ -12,10 +12,6 @@ pub mod Known
 -- what a check finds
 pub mod Findings
 -- what a kind of step comes to; one store after another
-pub mod Fetch
-pub mod Hand
-pub mod Locks
--- the steps by kind
 pub mod Kinds
 -- the locks at a server; those of an abort; a loss
 pub mod Locks
@@ -29,6 +25,7 @@ pub mod Versions
 pub mod Writes
 pub mod Apply
 pub mod Prepare
-pub mod Known
--- a work step that fetches
+-- a work step that fetches: what it checks at the server, what it hands over
+pub mod Fetch
+pub mod Hand
 pub mod Lack
