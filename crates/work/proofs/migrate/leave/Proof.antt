@@ -11,10 +11,22 @@ leave-spec = tie.close (tie.spec
     (λ c. search needs)  -- same-length
     (λ c. search needs)  -- same-length-2
     (λ c. search (leave-exits, needs))  -- returns
-    (λ c κs. let h = c .before .before .before .before .before .before .before .release .ensures in let g = c .before .before .going .ensures in let t = c .before .if1 .left in let f = c .before .before .before .before .before .before .before .before .before .before .before .before .write-root .ensures in let p = c .before .before .before .before .before .before .before .before .before .before .before .before .before .before .before .before .before .pre .0 .2 in
-    (search leave-name, search leave-last-good, search leave-last-room, search needs))  -- write-node-requires
+    (λ c κs.
+    let g = c .before .before in
+    let r = g .before .before .before .before .before in
+    let f = r .before .before .before .before .before in
+    let few = f .before .before .before .before .before .pre .0 .2 in (
+      search leave-name,
+      leave-last-good _ _ _ _ _ _ _ _ _ (r .release .ensures) (g .going .ensures) (c .before .if1 .left),
+      leave-last-room _ _ _ _ (f .write-root .ensures) few _ _ _ _ _ _ _ (r .release .ensures),
+      search needs,
+    ))  -- write-node-requires
     (λ c. search needs)  -- same-length-3
     (λ c. search needs)  -- same-length-4
-    (λ c. let w = c .before .before .write-node .ensures in let h = c .before .before .before .before .before .before .before .before .before .before .release .ensures in let g = c .before .before .before .before .before .going .ensures in let t = c .before .before .before .before .if1 .left in let f = c .before .before .before .before .before .before .before .before .before .before .before .before .before .before .before .write-root .ensures in let p = c .before .before .before .before .before .before .before .before .before .before .before .before .before .before .before .before .before .before .before .before .pre in
-    leave-done _ _ _ _ _ _ _ _ (p .0 .2) _ f (p .0 .0) _ _ _ h _ g _ t (p .1 .0) (p .1 .1) w)  -- returns-2
+    (λ c.
+    let g = c .before .before .before .before .before in
+    let r = g .before .before .before .before .before in
+    let f = r .before .before .before .before .before in
+    let p = f .before .before .before .before .before .pre in
+    leave-done _ _ _ _ _ _ _ _ (p .0 .2) _ (f .write-root .ensures) (p .0 .0) _ _ _ (r .release .ensures) _ (g .going .ensures) _ (c .before .before .before .before .if1 .left) (p .1 .0) (p .1 .1) (c .before .before .write-node .ensures))  -- returns-2
     )

@@ -15,6 +15,10 @@ move-child-spec = tie.close (tie.spec
     (λ c κs. let p = c .before .before .before .before .before .before .before .before .before .before .before .before .before .before .before .before .before .before .pre .0 in search needs)  -- answers-requires
     (λ c. search needs)  -- same-length-3
     (λ c. search needs)  -- same-length-4
-    (λ c. let w = c .before .before .before .before .before .before .write-node .ensures in let a = c .before .before .answers .ensures in let h = c .before .before .before .before .before .before .before .before .before .before .before .before .before .before .before .move-to .ensures in let g = c .before .before .before .before .before .before .before .before .before .before .going .ensures in let t = c .before .before .before .before .before .before .before .before .before .if1 .left in let e = c .before .before .before .before .before .before .before .before .with-slot .ensures .0 in let p = c .before .before .before .before .before .before .before .before .before .before .before .before .before .before .before .before .before .before .before .before .before .pre in
-    child-done _ _ _ _ _ _ _ _ _ _ _ _ _ h _ g _ _ _ _ _ t (p .0 .0) (p .1 .1 .0) (p .1 .1 .1) e w a)  -- returns-2
+    (λ c.
+    let g = c .before .before .before .before .before .before .before .before .before .before in
+    let m = g .before .before .before .before .before in
+    let p = m .before .before .before .before .before .before .pre in
+    child-done _ _ _ _ _ _ _ _ _ _ _ _ _ (m .move-to .ensures) _ (g .going .ensures) _ _ _ _ _ (c .before .before .before .before .before .before .before .before .before .if1 .left) (p .0 .0) (p .1 .1 .0) (p .1 .1 .1)
+    (c .before .before .before .before .before .before .before .before .with-slot .ensures .0) (c .before .before .before .before .before .before .write-node .ensures) (c .before .before .answers .ensures))  -- returns-2
     )
