@@ -38,7 +38,7 @@ use Rattle.steps.specs.Steps.{Did, did, refuse, abort, in-client, wanted, node-
 use Rattle.steps.specs.Judge.{lock-fits}
 use Rattle.engine.specs.Parts.{Holds, stored-in, server-lent}
 use Rattle.engine.specs.Judge.{of-client, of-server, lock-at, lock-fits-at}
-use Rattle.engine.specs.Known.{in-store-has}
+use Rattle.steps.specs.There.{in-store-has}
 use Rattle.engine.specs.Kinds.{Meets, meets-did, meets-as, meets-refused}
 use Rattle.engine.specs.Fetch.{Checking, items-fit, items-found, faulty, verdict-of, gate-of}
 
