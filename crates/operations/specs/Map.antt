@@ -2,6 +2,7 @@
 use mathlib.Core.Bool.{Bool, true, false}
 use mathlib.Core.List.{List, [], _∷_}
 use mathlib.Core.Option.{Option, none, some}
+use mathlib.Core.Path.{_≡_, refl}
 use Prim.Native.Nat.{ℕ, _^_, _<_}
 use native.Mathlib.Decide.{ℕ-discrete, decLt}
 use native.Mathlib.Omega.{arith}
@@ -15,6 +16,10 @@ Map = List (ℕ × ℕ)
 -- "Keys and values are any unsigned 64-bit numbers": keys are below this
 pub H : ℕ
 H = 2 ^ 64
+
+pub H-is : H ≡ 2 ^ 64
+unfolding H
+H-is = refl
 
 pub H-pos : 0 < H
 unfolding H
