@@ -1,6 +1,5 @@
 -- Laws of what a fetch hands over.
-use mathlib.Core.Path.{_≡_, refl}
-use mathlib.Core.List.{List, [], _∷_}
+use mathlib.Core.List.{List, _∷_}
 use Prim.Native.Nat.{ℕ, _/_, _≤_}
 use lib.ListN.{length}
 use Rattle.client.specs.Part.{Step, Did, _then_}

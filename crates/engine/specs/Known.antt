@@ -24,7 +24,7 @@ use Rattle.engine.specs.Parts.{Holds, client-lent}
 use Rattle.engine.specs.Judge.{of-client}
 use Rattle.engine.specs.Fits.{Known}
 
-all-at : (f : ℕ → Bool) (n i : ℕ) → all-of f n ≡ true → i < n → f i ≡ true
+pub all-at : (f : ℕ → Bool) (n i : ℕ) → all-of f n ≡ true → i < n → f i ≡ true
 unfolding all-of
 all-at f zero i h l = absurd (omega arith)
 all-at f (suc n) i h l = go (ℕ-discrete i n) (and-both (all-of f n) (f n) h) (λ k. all-at f n i (and-both (all-of f n) (f n) h .0) k)

@@ -1,8 +1,8 @@
 -- Laws of a fetch: what is lacking comes from its server, once what was read is checked there.
-use mathlib.Core.Path.{_≡_, refl, sym, ap, _∙_, subst}
+use mathlib.Core.Path.{_≡_, refl, sym, ap, _∙_}
 use mathlib.Core.Bool.{Bool, true, false, cond, _&&_, not}
 use mathlib.Core.List.{List}
-use Prim.Native.Nat.{ℕ, _+_, _-_, _*_, _/_, _%_, _≤_, _<_}
+use Prim.Native.Nat.{ℕ, _+_, _-_, _*_, _%_, _≤_, _<_}
 use native.Mathlib.Omega.{arith}
 use borrow.Author.Tests.{not-true, not-false, ne-eqb, le-leb}
 use borrow.Rule.Slice.PartMut.{midOf}
@@ -13,7 +13,7 @@ use Rattle.layout.specs.Space.{Put, mem}
 use Rattle.layout.specs.Step.{Does, silent}
 use Rattle.layout.specs.Part.{inPart}
 use Rattle.nodes.specs.declared.node.Node.{Node}
-use Rattle.nodes.specs.Name.{server-of, slot-of}
+use Rattle.nodes.specs.Name.{slot-of}
 use Rattle.nodes.specs.Range.{in-range}
 use Rattle.operations.specs.Object as O
 use Rattle.server.specs.declared.hand_out.Metadata.{Metadata}
@@ -34,13 +34,13 @@ use Rattle.steps.specs.declared.outcome.Outcome.the-variants.{Refused, Fetched}
 use Rattle.engine.specs.declared.fetch.Verdict.{Verdict}
 use Rattle.engine.specs.declared.fetch.Verdict.the-variants.{Unfit, Fault, Clear}
 use Rattle.steps.specs.Whole.{Address, server, client, whole, block, server-at, tree-sizes}
-use Rattle.steps.specs.Steps.{Did, did, refuse, abort, in-client, wanted, node-at, handed, fetch-object, hand-over, checked-fetch, fetch}
+use Rattle.steps.specs.Steps.{Did, did, refuse, abort, wanted, node-at, handed, fetch-object, hand-over, fetch}
 use Rattle.steps.specs.Judge.{lock-fits}
 use Rattle.engine.specs.Parts.{Holds, stored-in, server-lent}
-use Rattle.engine.specs.Judge.{of-client, of-server, lock-at, lock-fits-at}
+use Rattle.engine.specs.Judge.{of-client, of-server, lock-at}
 use Rattle.steps.specs.There.{in-store-has}
 use Rattle.engine.specs.Kinds.{Meets, meets-did, meets-as, meets-refused}
-use Rattle.engine.specs.Fetch.{Checking, items-fit, items-found, faulty, verdict-of, gate-of}
+use Rattle.engine.specs.Fetch.{Checking, items-fit, items-found, verdict-of, gate-of}
 
 -- refused, aborted, or on
 abbrev pub by-verdict : Sizes → (Address → ℕ) → ℕ → List ℕ → Verdict → Did → Did

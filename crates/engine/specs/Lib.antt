@@ -29,3 +29,6 @@ pub mod Prepare
 pub mod Fetch
 pub mod Hand
 pub mod Lack
+-- the work step
+pub mod Used
+pub mod Work

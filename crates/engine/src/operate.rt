@@ -1,0 +1,67 @@
+// 2 work: the waiting operation is walked over what the client has. It is answered, or the first thing lacking is fetched.
+ghost use Prim.Native.Nat.{_/_, _≤_, _<_};
+ghost use lib.ListN.{length};
+ghost use Rattle.memory.specs.Word.{view};
+ghost use Rattle.layout.specs.Step.{Does, silent};
+ghost use Rattle.layout.specs.Part.{inPart};
+ghost use Rattle.client.specs.Part.{Did};
+ghost use Rattle.client.specs.Lent.{InUse, used-in, OwnFits, own-list};
+ghost use Rattle.work.specs.Work.{Waiting};
+ghost use Rattle.steps.specs.Whole.{client as at-client, whole, block};
+ghost use Rattle.steps.specs.Steps.{work};
+ghost use Rattle.engine.specs.Parts.{Holds};
+ghost use Rattle.engine.specs.Judge.{of-client};
+ghost use Rattle.engine.specs.Fits.{Known};
+ghost use Rattle.engine.specs.Kinds.{Meets};
+ghost use Rattle.engine.specs.Work.{entering};
+use crate::abort::abort;
+use crate::lack::fetch_meta;
+use crate::lack::fetch_node;
+use crate::lack::fetch_vector;
+use crate::walking::walk_at;
+use crate::whole::client_at;
+use client::enter::enter_used;
+use client::enter::enter_writes;
+use client::part::set_field;
+use steps::outcome::Outcome;
+use steps::sizes::Sizes;
+use work::walk::Stop;
+
+// "otherwise it answers the operation, and only then do its writes enter the write set": no operation waits any more.
+fn enter_answer(part: &mut [u8], own: &[u64], used: &[u64])
+    requires { ⌜ InUse (now used) × OwnFits (now own) × (7223 ≤ length (now part) / 8) ⌝ }
+    ensures { λ _. ⌜ Did (entering (used-in (now (used .entry))) (own-list (now (own .entry)))) (now (part .entry)) (now (part .exit)) ⌝ }
+{
+    enter_used(part, used);
+    enter_writes(part, own);
+    set_field(part, 1, 0);
+}
+
+fn store_answer(mem: &mut [u8], sizes: Sizes, client: usize, own: &[u64], used: &[u64])
+    requires { ⌜ Holds sizes (length (now mem)) × (client < sizes .clients) × InUse (now used) × OwnFits (now own) ⌝ }
+    ensures { λ _. ⌜ Does whole (block sizes) (inPart (at-client client) (entering (used-in (now (used .entry))) (own-list (now (own .entry))))) silent (view (now (mem .entry))) 0 (view (now (mem .exit))) ⌝ }
+{
+    let at = 8 * client_at(sizes, client);
+    enter_answer(&mut mem[at..], own, used);
+}
+
+pub fn work(mem: &mut [u8], sizes: Sizes, client: usize) -> Outcome
+    requires { ⌜ Holds sizes (length (now mem)) × (client < sizes .clients) × Known sizes (view (now mem)) client × Waiting (of-client sizes (view (now mem)) client) ⌝ }
+    ensures { λ r. ⌜ Meets sizes (λ m. work sizes m client) (view (now (mem .entry))) r (view (now (mem .exit))) ⌝ }
+{
+    let mut own = [0u64; 681];
+    let mut used = [0u64; 98];
+    let stop = walk_at(mem, sizes, client, &mut own, &mut used);
+    match stop {
+        Stop::Going => Outcome::Refused(10),
+        Stop::LacksMeta => fetch_meta(mem, sizes, client, &used),
+        Stop::LacksNode(name) => fetch_node(mem, sizes, client, name, &used),
+        Stop::LacksVector(s) => fetch_vector(mem, sizes, client, s as usize, &used),
+        Stop::Refused => Outcome::Refused(10),
+        Stop::Aborts(reason) => abort(mem, sizes, client, reason, &used),
+        Stop::Answers(a, b) => {
+            store_answer(mem, sizes, client, &own, &used);
+            Outcome::Answered(a, b)
+        }
+    }
+}

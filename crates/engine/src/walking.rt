@@ -1,0 +1,21 @@
+// The walk of a client's waiting operation, over its part of the memory.
+ghost use Prim.Native.Nat.{_<_};
+ghost use lib.ListN.{length};
+ghost use Rattle.memory.specs.Word.{view};
+ghost use Rattle.work.specs.Work.{Waiting, Ready, Works};
+ghost use Rattle.steps.specs.Whole.{tree-sizes};
+ghost use Rattle.engine.specs.Parts.{Holds};
+ghost use Rattle.engine.specs.Judge.{of-client};
+use crate::whole::client_at;
+use steps::sizes::Sizes;
+use work::walk::Stop;
+use work::work::work;
+
+// Both lists are lent empty.
+pub fn walk_at(mem: &[u8], sizes: Sizes, client: usize, own: &mut [u64], used: &mut [u64]) -> Stop
+    requires { ⌜ Holds sizes (length (now mem)) × (client < sizes .clients) × Ready (now own) (now used) × Waiting (of-client sizes (view (now mem)) client) ⌝ }
+    ensures { λ r. ⌜ Works (tree-sizes sizes) (of-client sizes (view (now (mem .entry))) client) r (now (own .exit)) (now (used .exit)) ⌝ }
+{
+    let at = 8 * client_at(sizes, client);
+    work(&mem[at..], sizes.servers, sizes.slots, own, used)
+}
