@@ -32,3 +32,5 @@ pub mod Lack
 -- the work step
 pub mod Used
 pub mod Work
+-- one step on any memory lent
+pub mod Step

@@ -19,6 +19,7 @@ pub mod operate;
 pub mod prepare;
 pub mod refusal;
 pub mod sizes;
+pub mod step;
 pub mod versions;
 pub mod walking;
 pub mod whole;

@@ -1,0 +1,84 @@
+// One step of a store, on any memory lent.
+ghost use mathlib.Core.Path.{_≡_};
+ghost use mathlib.Core.Bool.{true};
+ghost use Prim.Native.Nat.{_<_};
+ghost use lib.ListN.{length};
+ghost use Rattle.memory.specs.Word.{view};
+ghost use Rattle.client.specs.Fits.{client-fits};
+ghost use Rattle.steps.specs.Whole.{tree-sizes};
+ghost use Rattle.steps.specs.Refusal.{kind-of};
+ghost use Rattle.steps.specs.Passed.{Passed};
+ghost use Rattle.steps.specs.Steps.{step as rule};
+ghost use Rattle.engine.specs.Parts.{Holds, stored-in};
+ghost use Rattle.engine.specs.Judge.{of-client};
+ghost use Rattle.engine.specs.Kinds.{Meets};
+ghost use Rattle.engine.specs.Step.{rule-of, outcome-of, words-after};
+use crate::abort::give_up;
+use crate::apply::apply;
+use crate::commit::commit;
+use crate::known::is_fit;
+use crate::life::begin;
+use crate::life::give;
+use crate::loss::lose;
+use crate::operate::work;
+use crate::prepare::prepare;
+use crate::refusal::kind_of;
+use crate::refusal::memory_refusal;
+use crate::refusal::refusal;
+use crate::sizes::head;
+use steps::outcome::Outcome;
+use steps::sizes::Sizes;
+use steps::step::Kind;
+use steps::step::Step;
+
+// The rule of a step's kind.
+fn by_kind(mem: &mut [u8], sizes: Sizes, client: usize, step: Step, kind: Kind) -> Outcome
+    requires { ⌜ Holds sizes (length (now mem)) × (client ≡ step .client) × (kind ≡ kind-of (step .kind)) × Passed sizes step (stored-in sizes (view (now mem))) × (client-fits (tree-sizes sizes) (of-client sizes (view (now mem)) client) ≡ true) ⌝ }
+    ensures { λ r. ⌜ Meets sizes (rule-of sizes client step kind) (view (now (mem .entry))) r (view (now (mem .exit))) ⌝ }
+{
+    match kind {
+        Kind::Begin => begin(mem, sizes, client),
+        Kind::Give => give(mem, sizes, client, step),
+        Kind::Work => work(mem, sizes, client),
+        Kind::Commit => commit(mem, sizes, client),
+        Kind::Prepare => prepare(mem, sizes, client, step.server as usize),
+        Kind::Apply => apply(mem, sizes, client, step.server as usize),
+        Kind::GiveUp => give_up(mem, sizes, client),
+        Kind::Lost => lose(mem, sizes, client),
+        Kind::Unknown => Outcome::Refused(4),
+    }
+}
+
+// Refusals 4 to 9, then 10 for the client's own state, then the rule.
+fn in_store(mem: &mut [u8], sizes: Sizes, step: Step) -> Outcome
+    requires { ⌜ Holds sizes (length (now mem)) ⌝ }
+    ensures { λ r. ⌜ Meets sizes (rule sizes step) (view (now (mem .entry))) r (view (now (mem .exit))) ⌝ }
+{
+    let number = refusal(mem, sizes, step);
+    if number != 0 {
+        return Outcome::Refused(number);
+    }
+    let client = step.client as usize;
+    if is_fit(mem, sizes, client) {
+        let kind = kind_of(step.kind);
+        return by_kind(mem, sizes, client, step, kind);
+    }
+    Outcome::Refused(10)
+}
+
+// "A refused step returns the first number that holds and changes no byte".
+pub fn step(mem: &mut [u8], step: Step) -> Outcome
+    ensures { λ r. ⌜ r ≡ outcome-of (length (now (mem .entry))) (view (now (mem .entry))) step ⌝ }
+    ensures words { λ _. ⌜ view (now (mem .exit)) ≡ words-after (length (now (mem .entry))) (view (now (mem .entry))) step ⌝ }
+{
+    let bytes = mem.len();
+    if bytes < 64 {
+        return Outcome::Refused(1);
+    }
+    let sizes = head(mem);
+    let number = memory_refusal(bytes, sizes);
+    if number != 0 {
+        return Outcome::Refused(number);
+    }
+    in_store(mem, sizes, step)
+}
