@@ -92,3 +92,6 @@ pub mod ByKind
 pub mod Theorem
 -- every store of a step lies in the memory
 pub mod Inside
+-- a list of steps as code runs it: its words and outcomes, and demand 3 of them
+pub mod Listed
+pub mod Carried

@@ -1,0 +1,43 @@
+// "A schedule is a lent list of step records, run front to back."
+ghost use mathlib.Core.Path.{_≡_};
+ghost use lib.ListN.{length};
+ghost use Rattle.memory.specs.Word.{view};
+ghost use Rattle.steps.specs.Outcome.{line};
+ghost use Rattle.engine.specs.Step.{outcome-of, words-after};
+ghost use Rattle.schedule.specs.Listed.{words-run, outcomes-run, noted, lines};
+ghost use Rattle.schedule.specs.Carried.{Demanded};
+use engine::step::step;
+use steps::outcome::Line;
+use steps::step::Step;
+
+// The three numbers of an outcome, as those of step i; without room for them they are left out.
+fn note(out: &mut [u64], i: usize, l: Line)
+    ensures { λ _. ⌜ now (out .exit) ≡ noted (now (out .entry)) i l ⌝ }
+{
+    if i < out.len() / 3 {
+        out[3 * i] = l.outcome;
+        out[3 * i + 1] = l.a;
+        out[3 * i + 2] = l.b;
+    }
+}
+
+// One step, by value, the i-th of a list. Its outcome is written down, and its number returned.
+pub fn turn(mem: &mut [u8], out: &mut [u64], i: usize, k: Step) -> u64
+    ensures { λ r. ⌜ (r ≡ line (outcome-of (length (now (mem .entry))) (view (now (mem .entry))) k) .outcome) × (view (now (mem .exit)) ≡ words-after (length (now (mem .entry))) (view (now (mem .entry))) k) × (now (out .exit) ≡ noted (now (out .entry)) i (line (outcome-of (length (now (mem .entry))) (view (now (mem .entry))) k))) ⌝ }
+{
+    let o = step(mem, k);
+    let l = Line::of(o);
+    note(out, i, l);
+    l.outcome
+}
+
+// All steps, front to back, and their outcomes, three numbers a step. On memory as `open` left it they are as demand 3 says.
+pub fn run(mem: &mut [u8], out: &mut [u64], steps: &[Step])
+    ensures { λ _. ⌜ (view (now (mem .exit)) ≡ words-run (length (now (mem .entry))) (view (now (mem .entry))) (now (steps .entry))) × (now (out .exit) ≡ lines (now (out .entry)) 0 (outcomes-run (length (now (mem .entry))) (view (now (mem .entry))) (now (steps .entry)))) × Demanded (length (now (mem .entry))) (view (now (mem .entry))) (now (steps .entry)) (view (now (mem .exit))) ⌝ }
+{
+    let mut i: usize = 0;
+    while i < steps.len() {
+        turn(mem, out, i, steps[i]);
+        i += 1;
+    }
+}
