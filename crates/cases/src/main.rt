@@ -1,0 +1,58 @@
+// The cases of "Tried by hand" that speak of steps, each as an input of `stepshow`.
+ghost use Prim.Native.Nat.{_≤_};
+ghost use lib.ListN.{length};
+
+// What an input prints, under its title.
+fn print_case(memory: &mut [u8], title: &[u8], input: &[u8])
+    requires { ⌜ length (now input) ≤ 700 ⌝ }
+{
+    let mut out = io::large_buffer();
+    let n = show::show_all(memory, input, &mut out);
+    io::write_all(1, title);
+    io::write_all(1, &out[..n]);
+}
+
+// "Two clients insert into one leaf read at version 0: the second prepare aborts with 1"
+fn two_clients(memory: &mut [u8]) {
+    print_case(
+        memory,
+        b"two clients insert into one leaf\n",
+        b"1 4 2\n0 0 0 0 0 0\n1 0 1 5 50 0\n2 0 0 0 0 0\n2 0 0 0 0 0\n2 0 0 0 0 0\n0 1 0 0 0 0\n1 1 1 6 60 0\n2 1 0 0 0 0\n2 1 0 0 0 0\n2 1 0 0 0 0\n3 0 0 0 0 0\n4 0 0 0 0 0\n3 1 0 0 0 0\n4 1 0 0 0 0\n",
+    );
+}
+
+// "while the first is prepared elsewhere still due, with 2"
+fn one_due(memory: &mut [u8]) {
+    print_case(
+        memory,
+        b"the first has a prepare due\n",
+        b"2 4 2\n0 0 0 0 0 0\n1 0 1 5 50 0\n2 0 0 0 0 0\n2 0 0 0 0 0\n2 0 0 0 0 0\n1 0 6 0 0 1\n2 0 0 0 0 0\n2 0 0 0 0 0\n2 0 0 0 0 0\n2 0 0 0 0 0\n0 1 0 0 0 0\n1 1 1 6 60 0\n2 1 0 0 0 0\n2 1 0 0 0 0\n2 1 0 0 0 0\n3 0 0 0 0 0\n4 0 0 0 0 0\n3 1 0 0 0 0\n4 1 0 0 0 0\n4 0 0 0 0 1\n5 0 0 0 0 1\n5 0 0 0 0 0\n",
+    );
+}
+
+// "Servers 0 and 9 refused by 2, 1 and 8 accepted"
+fn sizes(memory: &mut [u8]) {
+    print_case(memory, b"0 servers\n", b"0 4 1\n0 0 0 0 0 0\n");
+    print_case(memory, b"9 servers\n", b"9 4 1\n0 0 0 0 0 0\n");
+    print_case(memory, b"1 server\n", b"1 4 1\n0 0 0 0 0 0\n");
+    print_case(memory, b"8 servers\n", b"8 4 1\n0 0 0 0 0 0\n");
+}
+
+// "of 16 clients, 15 accepted, 16 refused by 5"
+fn clients(memory: &mut [u8]) {
+    print_case(
+        memory,
+        b"clients 15 and 16\n",
+        b"1 4 16\n0 15 0 0 0 0\n0 16 0 0 0 0\n",
+    );
+}
+
+fn main() {
+    let mut memory = show::fresh();
+    two_clients(&mut memory);
+    one_due(&mut memory);
+    sizes(&mut memory);
+    clients(&mut memory);
+    print_case(&mut memory, b"no line\n", b"");
+    print_case(&mut memory, b"no newline at the end\n", b"1 4 1");
+}
