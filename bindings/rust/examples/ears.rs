@@ -1,0 +1,107 @@
+//! Both ears in one transaction: a child's left and right ear are two entries that change together or not at all.
+//!
+//! Two tablets test the same child at the same time. Whoever comes second is told so and starts again, so that both ears are always of one
+//! test. Run it by `cargo run --example ears`.
+
+use gemandrolo::{Failure, Operation, Outcome, Sizes, Step, Store};
+
+/// The keys of a child's two ears.
+fn ears(child: u64) -> (u64, u64) {
+    (2 * child, 2 * child + 1)
+}
+
+/// Stores what the tablet measured, in dB, and hands back what both ears were before.
+fn record<B: AsMut<[u8]>>(
+    store: &mut Store<B>,
+    tablet: u64,
+    child: u64,
+    (left_db, right_db): (u64, u64),
+) -> Result<(Option<u64>, Option<u64>), Failure> {
+    let (left, right) = ears(child);
+    store.transaction(tablet, 10, |t| {
+        let before = (t.lookup(left)?, t.lookup(right)?);
+        t.insert(left, left_db)?;
+        t.insert(right, right_db)?;
+        Ok(before)
+    })
+}
+
+/// Both ears as one reader sees them.
+fn both<B: AsMut<[u8]>>(
+    store: &mut Store<B>,
+    tablet: u64,
+    child: u64,
+) -> Result<(Option<u64>, Option<u64>), Failure> {
+    let (left, right) = ears(child);
+    store.transaction(tablet, 10, |t| Ok((t.lookup(left)?, t.lookup(right)?)))
+}
+
+/// Steps of one tablet until its operation is answered, or its transaction ends.
+fn give<B: AsMut<[u8]>>(store: &mut Store<B>, client: u64, operation: Operation) -> Outcome {
+    store.step(Step::Give { client, operation });
+    loop {
+        match store.step(Step::Work { client }) {
+            Outcome::Fetched(_) => {}
+            outcome => return outcome,
+        }
+    }
+}
+
+fn main() -> Result<(), Failure> {
+    let sizes = Sizes {
+        servers: 2,
+        slots: 64,
+        clients: 2,
+    };
+    let mut store = Store::new(sizes).map_err(Failure::Refused)?;
+    for child in 0..40 {
+        record(&mut store, 0, child, (20, 20))?;
+    }
+    println!("40 children stored, both ears at 20 dB");
+
+    // Tablet 0 has written the left ear in its transaction, and is not done: nobody sees it.
+    let child = 17;
+    let (left, right) = ears(child);
+    store.step(Step::Begin { client: 0 });
+    give(
+        &mut store,
+        0,
+        Operation::Insert {
+            key: left,
+            value: 45,
+        },
+    );
+    println!(
+        "tablet 0 has measured the left ear only; tablet 1 sees {:?}",
+        both(&mut store, 1, child)?
+    );
+
+    // Tablet 1 tests the same child and is done first.
+    record(&mut store, 1, child, (30, 35))?;
+    println!(
+        "tablet 1 has stored both ears: {:?}",
+        both(&mut store, 1, child)?
+    );
+
+    // Tablet 0 goes on from what it read before, and is told that it has changed.
+    let told = give(
+        &mut store,
+        0,
+        Operation::Insert {
+            key: right,
+            value: 50,
+        },
+    );
+    println!(
+        "tablet 0 goes on with the right ear: {told:?}; still {:?}",
+        both(&mut store, 1, child)?
+    );
+
+    // It starts again, and is now the second of the two.
+    let before = record(&mut store, 0, child, (45, 50))?;
+    println!(
+        "tablet 0 again: before {before:?}, now {:?}",
+        both(&mut store, 1, child)?
+    );
+    Ok(())
+}

@@ -1,0 +1,207 @@
+use std::fmt;
+
+/// What came of a step.
+#[derive(Clone, Copy, Debug, PartialEq, Eq, Hash)]
+pub enum Outcome {
+    /// Nothing was done, and no byte changed.
+    Refused(Refusal),
+    /// The step was taken: a begin, a give, a commit with a participant, a loss that aborts nothing.
+    Done,
+    /// An object came to the client; the operation still waits.
+    Fetched(Fetched),
+    /// The waiting operation's answer.
+    Answered(Answer),
+    /// This server has prepared, and others are still due.
+    Prepared(u64),
+    /// The last prepare: the transaction is decided, and will be applied whatever happens.
+    Decided,
+    /// This server has applied, and others are still due.
+    Applied(u64),
+    /// The transaction has ended, decided and applied everywhere.
+    Committed,
+    /// The transaction has ended and changed nothing.
+    Aborted(Reason),
+}
+
+/// What a work step fetched.
+#[derive(Clone, Copy, Debug, PartialEq, Eq, Hash)]
+pub enum Fetched {
+    Metadata,
+    /// The node of this name.
+    Node(u64),
+    /// The vector of taken flags of this server.
+    Vector(u64),
+}
+
+/// An answer's two numbers; [`crate::Operation`] says what they are.
+#[derive(Clone, Copy, Debug, PartialEq, Eq, Hash)]
+pub struct Answer {
+    pub a: u64,
+    pub b: u64,
+}
+
+impl Answer {
+    /// b, if a is 1.
+    pub fn found(self) -> Option<u64> {
+        (self.a == 1).then_some(self.b)
+    }
+}
+
+/// Why a step is refused: the first that holds.
+#[derive(Clone, Copy, Debug, PartialEq, Eq, Hash)]
+pub enum Refusal {
+    /// 1: the lent memory is shorter than 64 bytes.
+    NoHead,
+    /// 2: a size, given or in the head, is outside its range.
+    Sizes,
+    /// 3: the memory is shorter than the sizes call for.
+    TooShort,
+    /// 4: the kind is above 7.
+    UnknownKind,
+    /// 5: the client is not in the store.
+    UnknownClient,
+    /// 6: a given operation is not 1 to 6.
+    UnknownOperation,
+    /// 7: the server of a migrate, prepare or apply is not in the store.
+    UnknownServer,
+    /// 8: a migrated node's name is not in the store.
+    UnknownNode,
+    /// 9: the client's state doesn't fit.
+    Unfit,
+    /// 10: something stored that the step reads is out of range, or points to something that isn't there.
+    Damaged,
+}
+
+/// Why a transaction aborted.
+#[derive(Clone, Copy, Debug, PartialEq, Eq, Hash)]
+pub enum Reason {
+    /// 1: a checked object differs, or a slot taken as free isn't.
+    Differs,
+    /// 2: an object is locked against this use by another client.
+    Busy,
+    /// 3: what was read can't be one tree.
+    NoTree,
+    /// 4: object 97 would be read, or object 49 written.
+    TooMany,
+    /// 5: no slot is free.
+    NoSlot,
+    /// 6: given up.
+    GivenUp,
+    /// 7: lost, and undecided.
+    Lost,
+    /// 8: a written version is 4,294,967,295.
+    LastVersion,
+}
+
+const REFUSALS: [Refusal; 10] = [
+    Refusal::NoHead,
+    Refusal::Sizes,
+    Refusal::TooShort,
+    Refusal::UnknownKind,
+    Refusal::UnknownClient,
+    Refusal::UnknownOperation,
+    Refusal::UnknownServer,
+    Refusal::UnknownNode,
+    Refusal::Unfit,
+    Refusal::Damaged,
+];
+
+const REASONS: [Reason; 8] = [
+    Reason::Differs,
+    Reason::Busy,
+    Reason::NoTree,
+    Reason::TooMany,
+    Reason::NoSlot,
+    Reason::GivenUp,
+    Reason::Lost,
+    Reason::LastVersion,
+];
+
+impl Refusal {
+    /// The number, 1 to 10.
+    pub fn number(self) -> u64 {
+        self as u64 + 1
+    }
+
+    pub(crate) fn of(number: u64) -> Refusal {
+        REFUSALS[number as usize - 1]
+    }
+}
+
+impl Reason {
+    /// The number, 1 to 8.
+    pub fn number(self) -> u64 {
+        self as u64 + 1
+    }
+
+    /// Whether the same transaction may pass when it is run again: what was read was old or just in use. An abort drops the old copies.
+    pub fn may_pass_later(self) -> bool {
+        matches!(self, Reason::Differs | Reason::Busy | Reason::NoTree)
+    }
+
+    fn of(number: u64) -> Reason {
+        REASONS[number as usize - 1]
+    }
+}
+
+impl Outcome {
+    /// The outcome of three numbers as the library gives them.
+    pub(crate) fn of([outcome, a, b]: [u64; 3]) -> Outcome {
+        match outcome {
+            0 => Outcome::Refused(Refusal::of(a)),
+            1 => Outcome::Done,
+            2 => Outcome::Fetched(Fetched::of(a, b)),
+            3 => Outcome::Answered(Answer { a, b }),
+            4 => Outcome::Prepared(a),
+            5 => Outcome::Decided,
+            6 => Outcome::Applied(a),
+            7 => Outcome::Committed,
+            8 => Outcome::Aborted(Reason::of(a)),
+            _ => unreachable!("the library has outcomes 0 to 8"),
+        }
+    }
+}
+
+impl Fetched {
+    fn of(a: u64, b: u64) -> Fetched {
+        match a {
+            0 => Fetched::Metadata,
+            1 => Fetched::Node(b),
+            _ => Fetched::Vector(b),
+        }
+    }
+}
+
+impl fmt::Display for Refusal {
+    fn fmt(&self, f: &mut fmt::Formatter) -> fmt::Result {
+        let words = match self {
+            Refusal::NoHead => "the memory is shorter than 64 bytes",
+            Refusal::Sizes => "a size is outside its range",
+            Refusal::TooShort => "the memory is shorter than the sizes call for",
+            Refusal::UnknownKind => "the kind is above 7",
+            Refusal::UnknownClient => "the client is not in the store",
+            Refusal::UnknownOperation => "the operation is not 1 to 6",
+            Refusal::UnknownServer => "the server is not in the store",
+            Refusal::UnknownNode => "the node's name is not in the store",
+            Refusal::Unfit => "the client's state doesn't fit",
+            Refusal::Damaged => "something stored is out of range",
+        };
+        write!(f, "refused by {}: {words}", self.number())
+    }
+}
+
+impl fmt::Display for Reason {
+    fn fmt(&self, f: &mut fmt::Formatter) -> fmt::Result {
+        let words = match self {
+            Reason::Differs => "an object read has changed",
+            Reason::Busy => "an object is locked by another client",
+            Reason::NoTree => "what was read can't be one tree",
+            Reason::TooMany => "more than 96 objects read or 48 written",
+            Reason::NoSlot => "no slot is free",
+            Reason::GivenUp => "given up",
+            Reason::Lost => "the client was lost",
+            Reason::LastVersion => "a version has come to its end",
+        };
+        write!(f, "aborted by {}: {words}", self.number())
+    }
+}

@@ -1,0 +1,94 @@
+use crate::{library, Outcome, Refusal, Sizes, Step};
+
+/// A store in memory that the caller lends: a `Vec<u8>`, a `&mut [u8]`, a mapped file.
+///
+/// The store keeps nothing outside that memory. Whoever writes to it by other means finds steps refused ([`Refusal::Damaged`]) or wrong
+/// answers, never a crash.
+#[derive(Debug)]
+pub struct Store<B> {
+    memory: B,
+    sizes: Sizes,
+}
+
+impl Store<Vec<u8>> {
+    /// A new, empty store in memory of its own.
+    pub fn new(sizes: Sizes) -> Result<Self, Refusal> {
+        let bytes = sizes.length().ok_or(Refusal::Sizes)?;
+        Store::create(vec![0; bytes], sizes)
+    }
+}
+
+impl<B: AsMut<[u8]>> Store<B> {
+    /// A new, empty store in the memory lent; what stood there is gone. Bytes behind the store's length stay.
+    pub fn create(mut memory: B, sizes: Sizes) -> Result<Self, Refusal> {
+        let number = library::open(memory.as_mut(), sizes.servers, sizes.slots, sizes.clients);
+        if number != 0 {
+            return Err(Refusal::of(number));
+        }
+        Ok(Store { memory, sizes })
+    }
+
+    /// The store that stands in the memory lent already.
+    pub fn resume(mut memory: B) -> Result<Self, Refusal> {
+        // A step of an unknown kind tells whether one of refusals 1 to 3 holds, and changes nothing.
+        let asked = library::step(memory.as_mut(), [u64::MAX, 0, 0, 0, 0, 0]);
+        match Outcome::of(asked) {
+            Outcome::Refused(Refusal::UnknownKind) => {
+                let sizes = head(memory.as_mut());
+                Ok(Store { memory, sizes })
+            }
+            Outcome::Refused(refusal) => Err(refusal),
+            _ => unreachable!("a step of an unknown kind is refused"),
+        }
+    }
+
+    /// The sizes that the store was opened with.
+    pub fn sizes(&self) -> Sizes {
+        self.sizes
+    }
+
+    /// The memory lent.
+    pub fn memory(&mut self) -> &mut [u8] {
+        self.memory.as_mut()
+    }
+
+    /// The memory back; [`Store::resume`] takes it up again.
+    pub fn into_memory(self) -> B {
+        self.memory
+    }
+
+    /// One step.
+    pub fn step(&mut self, step: Step) -> Outcome {
+        self.step_words(step.words())
+    }
+
+    /// One step of any six numbers, as they come from a file or a network: kind, client, op, key, value, server.
+    pub fn step_words(&mut self, words: [u64; 6]) -> Outcome {
+        Outcome::of(library::step(self.memory.as_mut(), words))
+    }
+
+    /// A list of steps, run front to back: the outcome of each.
+    pub fn run(&mut self, steps: &[Step]) -> Vec<Outcome> {
+        let words: Vec<[u64; 6]> = steps.iter().map(|step| step.words()).collect();
+        self.run_words(&words)
+    }
+
+    /// A list of steps of any six numbers each, run front to back.
+    pub fn run_words(&mut self, steps: &[[u64; 6]]) -> Vec<Outcome> {
+        let lines = library::run(self.memory.as_mut(), steps);
+        lines.into_iter().map(Outcome::of).collect()
+    }
+}
+
+/// The sizes in the head: three words of eight bytes, lowest byte first.
+fn head(memory: &[u8]) -> Sizes {
+    let word = |i: usize| {
+        let bytes = memory[8 * i..8 * i + 8].try_into();
+        u64::from_le_bytes(bytes.expect("eight bytes")) as usize
+    };
+    Sizes {
+        servers: word(0),
+        slots: word(1),
+        clients: word(2),
+    }
+}

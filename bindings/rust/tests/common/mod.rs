@@ -1,0 +1,42 @@
+//! What the tests share: random numbers, the map that 01 asks for, and schedules of steps that mostly fit.
+#![allow(dead_code)]
+
+pub mod layout;
+pub mod ledger;
+pub mod player;
+
+/// Random numbers that are the same in every run (SplitMix64).
+pub struct Random(pub u64);
+
+impl Random {
+    pub fn next(&mut self) -> u64 {
+        self.0 = self.0.wrapping_add(0x9e37_79b9_7f4a_7c15);
+        let z = (self.0 ^ (self.0 >> 30)).wrapping_mul(0xbf58_476d_1ce4_e5b9);
+        let z = (z ^ (z >> 27)).wrapping_mul(0x94d0_49bb_1331_11eb);
+        z ^ (z >> 31)
+    }
+
+    pub fn below(&mut self, n: u64) -> u64 {
+        self.next() % n
+    }
+
+    pub fn index(&mut self, n: usize) -> usize {
+        self.below(n as u64) as usize
+    }
+
+    pub fn percent(&mut self, p: u64) -> bool {
+        self.below(100) < p
+    }
+
+    pub fn pick<T: Copy>(&mut self, of: &[T]) -> T {
+        of[self.index(of.len())]
+    }
+}
+
+/// How many inputs to try: `usual`, or as many times that as GEMANDROLO_TIMES says.
+pub fn inputs(usual: usize) -> usize {
+    let times = std::env::var("GEMANDROLO_TIMES")
+        .ok()
+        .and_then(|t| t.parse::<f64>().ok());
+    (usual as f64 * times.unwrap_or(1.0)).ceil() as usize
+}

@@ -1,0 +1,150 @@
+//! Clients that take steps at random: mostly such that fit, sometimes any.
+
+use super::ledger::Ledger;
+use super::Random;
+use gemandrolo::{Outcome, Sizes, Store};
+
+#[derive(Clone, Copy, PartialEq)]
+enum Phase {
+    Idle,
+    Open,
+    Waiting,
+    Committing,
+    Decided,
+}
+
+/// What the clients of a schedule want.
+#[derive(Clone, Copy)]
+pub struct Taste {
+    /// Keys are below this.
+    pub keys: u64,
+    /// How many of 100 operations are inserts, and how many deletes.
+    pub inserts: u64,
+    pub deletes: u64,
+    pub migrates: u64,
+    /// How many of 100 steps are any step at all, a give up, or a loss.
+    pub noise: u64,
+    /// Operations in a transaction, about.
+    pub length: u64,
+}
+
+pub struct Player {
+    pub sizes: Sizes,
+    pub taste: Taste,
+    pub ledger: Ledger,
+    pub steps: usize,
+    pub refused: [usize; 11],
+    pub aborted: [usize; 9],
+    phases: Vec<Phase>,
+}
+
+impl Player {
+    pub fn new(sizes: Sizes, taste: Taste) -> Player {
+        Player {
+            sizes,
+            taste,
+            ledger: Ledger::default(),
+            steps: 0,
+            refused: [0; 11],
+            aborted: [0; 9],
+            phases: vec![Phase::Idle; sizes.clients],
+        }
+    }
+
+    /// One step, chosen at random and noted.
+    pub fn play<B: AsMut<[u8]>>(&mut self, random: &mut Random, store: &mut Store<B>) -> Outcome {
+        let step = self.choose(random);
+        let outcome = store.step_words(step);
+        self.note(step, outcome);
+        outcome
+    }
+
+    pub fn choose(&self, random: &mut Random) -> [u64; 6] {
+        if random.percent(self.taste.noise) {
+            return self.any(random);
+        }
+        let client = random.index(self.sizes.clients);
+        self.fitting(random, client)
+    }
+
+    /// A step that fits the client's state, but for a server that may take no part.
+    pub fn fitting(&self, random: &mut Random, client: usize) -> [u64; 6] {
+        let (c, server) = (client as u64, random.index(self.sizes.servers) as u64);
+        match self.phases[client] {
+            Phase::Idle => [0, c, 0, 0, 0, 0],
+            Phase::Open if random.below(self.taste.length + 1) == 0 => [3, c, 0, 0, 0, 0],
+            Phase::Open => self.operation(random, c),
+            Phase::Waiting => [2, c, 0, 0, 0, 0],
+            Phase::Committing => [4, c, 0, 0, 0, server],
+            Phase::Decided => [5, c, 0, 0, 0, server],
+        }
+    }
+
+    fn operation(&self, random: &mut Random, client: u64) -> [u64; 6] {
+        let (key, value) = (random.below(self.taste.keys), random.next());
+        let die = random.below(100);
+        if die < self.taste.inserts {
+            return [1, client, 1, key, value, 0];
+        }
+        if die < self.taste.inserts + self.taste.deletes {
+            return [1, client, 3, key, 0, 0];
+        }
+        if die < self.taste.inserts + self.taste.deletes + self.taste.migrates {
+            let server = random.index(self.sizes.servers) as u64;
+            let node = 1024 * random.index(self.sizes.servers) as u64
+                + random.index(self.sizes.slots) as u64;
+            return [1, client, 6, node, 0, server];
+        }
+        [1, client, random.pick(&[2, 4, 5]), key, 0, 0]
+    }
+
+    /// Any step: also of clients, kinds and servers that are not there.
+    pub fn any(&self, random: &mut Random) -> [u64; 6] {
+        let client = random.below(self.sizes.clients as u64 + 1);
+        let server = random.below(self.sizes.servers as u64 + 1);
+        let kind = random.below(9);
+        [
+            kind,
+            client,
+            random.below(8),
+            random.below(self.taste.keys),
+            random.next(),
+            server,
+        ]
+    }
+
+    pub fn note(&mut self, step: [u64; 6], outcome: Outcome) {
+        self.steps += 1;
+        self.ledger.note(step, outcome);
+        if let Outcome::Refused(refusal) = outcome {
+            self.refused[refusal.number() as usize] += 1;
+            return;
+        }
+        let client = step[1] as usize;
+        self.phases[client] = match (step[0], outcome) {
+            (_, Outcome::Aborted(reason)) => {
+                self.aborted[reason.number() as usize] += 1;
+                Phase::Idle
+            }
+            (_, Outcome::Committed) => Phase::Idle,
+            (_, Outcome::Decided) => Phase::Decided,
+            (0, _) | (_, Outcome::Answered(_)) => Phase::Open,
+            (1, _) => Phase::Waiting,
+            (3, _) => Phase::Committing,
+            _ => self.phases[client],
+        };
+    }
+
+    /// All applies still due.
+    pub fn settle<B: AsMut<[u8]>>(&mut self, store: &mut Store<B>) {
+        for client in 0..self.sizes.clients {
+            for server in 0..self.sizes.servers {
+                if self.phases[client] == Phase::Decided {
+                    let step = [5, client as u64, 0, 0, 0, server as u64];
+                    let outcome = store.step_words(step);
+                    self.note(step, outcome);
+                }
+            }
+        }
+    }
+}
