@@ -1,0 +1,79 @@
+//! Stores are filled alike, run the same transactions, and must give the same answers.
+
+use crate::btreemap::Map;
+use crate::lmdb::Lmdb;
+use crate::ours::Ours;
+use crate::sqlite::Sqlite;
+use crate::workload::{fill, Rival, Workload};
+use gemandrolo::Sizes;
+use std::collections::BTreeMap;
+use std::time::{Duration, Instant};
+
+pub const SMALL_KEYS: u64 = 100;
+pub const OTHERS: [&str; 3] = ["btreemap", "sqlite", "lmdb"];
+
+/// How long each workload is measured in each store, after a tenth of it for warming up.
+const TIME: Duration = Duration::from_millis(200);
+
+pub fn rival(name: &str, sizes: Sizes) -> Box<dyn Rival> {
+    match name {
+        "gemandrolo" => Box::new(Ours::new(sizes)),
+        "btreemap" => Box::new(Map(BTreeMap::new())),
+        "sqlite" => Box::new(Sqlite::new()),
+        "lmdb" => Box::new(Lmdb::new()),
+        _ => panic!("no store is called {name}"),
+    }
+}
+
+/// Transactions `from` to `from + n - 1` of a workload: the sum of their answers.
+pub fn run_some(store: &mut dyn Rival, workload: Workload, keys: u64, from: u64, n: u64) -> u64 {
+    let mut operations = Vec::new();
+    let mut sum = 0u64;
+    for i in from..from + n {
+        workload.transaction(i, keys, &mut operations);
+        sum = sum.wrapping_add(store.transaction(&operations));
+    }
+    sum
+}
+
+/// Transactions and steps a second.
+#[derive(Clone, Copy)]
+pub struct Rate {
+    pub transactions: f64,
+    pub steps: f64,
+}
+
+/// Runs a workload for a while: an even number of transactions, so that every deleted key is back.
+pub fn rate(store: &mut dyn Rival, workload: Workload, keys: u64) -> Rate {
+    const BATCH: u64 = 32;
+    let mut done = 0;
+    let warm = Instant::now();
+    while warm.elapsed() < TIME / 10 {
+        run_some(store, workload, keys, done, BATCH);
+        done += BATCH;
+    }
+    store.steps();
+    let (start, first) = (Instant::now(), done);
+    while start.elapsed() < TIME {
+        run_some(store, workload, keys, done, BATCH);
+        done += BATCH;
+    }
+    let seconds = start.elapsed().as_secs_f64();
+    Rate {
+        transactions: (done - first) as f64 / seconds,
+        steps: store.steps() as f64 / seconds,
+    }
+}
+
+/// A filled store; its answers to some transactions of each workload are those of the map.
+pub fn filled(name: &str, sizes: Sizes, keys: u64) -> Box<dyn Rival> {
+    let mut store = rival(name, sizes);
+    let mut map = rival("btreemap", sizes);
+    fill(store.as_mut(), keys);
+    fill(map.as_mut(), keys);
+    for workload in crate::workload::WORKLOADS {
+        let sums = [&mut store, &mut map].map(|s| run_some(s.as_mut(), workload, keys, 0, 100));
+        assert_eq!(sums[0], sums[1], "{name}: answers to {}", workload.name());
+    }
+    store
+}
