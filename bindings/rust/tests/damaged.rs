@@ -6,7 +6,7 @@ use common::player::{Player, Taste};
 use common::{inputs, layout, Random};
 use gemandrolo::{Outcome, Refusal, Sizes, Store};
 
-const STATES: usize = 150;
+const STATES: usize = 1000;
 const DAMAGES: usize = 200;
 const STEPS: usize = 8;
 
@@ -99,39 +99,29 @@ fn flipped_bits() {
     }
 }
 
+/// Random bytes in all of the memory, in some of it, or in the servers' parts alone, which the clients then read.
 #[test]
 fn random_bytes() {
     let mut random = Random(2);
     let mut counts = [0; 2];
-    for _ in 0..inputs(STATES) {
+    for round in 0..3 * inputs(STATES) {
         let (player, sound) = state(&mut random);
-        for whole in [true, false] {
-            let mut memory = sound.clone();
-            let from = if whole {
-                64
-            } else {
-                64 + random.index(memory.len() - 64)
-            };
-            let most = memory.len() - from;
-            let to = if whole {
-                memory.len()
-            } else {
-                from + random.index(most.min(4000))
-            };
-            memory[from..to].fill_with(|| random.next() as u8);
-            steps_on(&mut random, &player, &mut memory, &mut counts);
-            let mut headless = memory;
-            headless[..64].fill_with(|| random.next() as u8);
-            assert_eq!(
-                tried(&mut headless, [0; 6]),
-                None,
-                "random sizes are refused"
-            );
-        }
+        let mut memory = sound;
+        let servers = layout::clients_from(player.sizes);
+        let some = 64 + random.index(memory.len() - 64);
+        let ranges = [
+            64..memory.len(),
+            some..memory.len().min(some + 4000),
+            64..servers,
+        ];
+        memory[ranges[round % 3].clone()].fill_with(|| random.next() as u8);
+        steps_on(&mut random, &player, &mut memory, &mut counts);
+        memory[..64].fill_with(|| random.next() as u8);
+        assert_eq!(tried(&mut memory, [0; 6]), None, "random sizes are refused");
     }
     println!(
         "{} random memories: {} steps refused by 10, {} other outcomes",
-        2 * inputs(STATES),
+        3 * inputs(STATES),
         counts[0],
         counts[1]
     );

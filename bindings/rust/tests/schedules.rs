@@ -7,7 +7,7 @@ use common::player::{Player, Taste};
 use common::{inputs, layout, Random};
 use gemandrolo::{Outcome, Sizes, Store};
 
-const SCHEDULES: usize = 1500;
+const SCHEDULES: usize = 10_000;
 
 fn taste(random: &mut Random) -> Taste {
     let (inserts, deletes) = random.pick(&[(70, 10), (40, 40), (25, 60), (30, 10), (95, 0)]);
@@ -17,7 +17,7 @@ fn taste(random: &mut Random) -> Taste {
         deletes,
         migrates: random.pick(&[0, 0, 3]),
         noise: random.pick(&[0, 1, 5, 30]),
-        length: random.pick(&[1, 2, 4, 12, 60]),
+        length: random.pick(&[1, 2, 4, 12, 300]),
     }
 }
 
@@ -40,7 +40,7 @@ fn fill(random: &mut Random, player: &mut Player, store: &mut Store<Vec<u8>>) {
         length: 6,
         ..usual
     };
-    for _ in 0..random.pick(&[0, 0, 300, 1500]) {
+    for _ in 0..random.pick(&[0, 0, 0, 300, 300, 1500, 1500, 12_000]) {
         let step = player.fitting(random, 0);
         let outcome = store.step_words(step);
         player.note(step, outcome);

@@ -33,6 +33,11 @@ fn node_at(sizes: Sizes, name: u64) -> usize {
     server_at(sizes, server) + 19 + 50 * slot
 }
 
+/// The byte at which the clients' parts begin.
+pub fn clients_from(sizes: Sizes) -> usize {
+    8 * client_at(sizes, 0)
+}
+
 /// The pairs of the leaves, left to right, under the root that all servers' metadata name. Fails where they are no B-tree.
 pub fn pairs(memory: &[u8], sizes: Sizes) -> Vec<(u64, u64)> {
     let root = word(memory, server_at(sizes, 0));
