@@ -12,8 +12,10 @@ use std::time::{Duration, Instant};
 pub const SMALL_KEYS: u64 = 100;
 pub const OTHERS: [&str; 3] = ["btreemap", "sqlite", "lmdb"];
 
-/// How long each workload is measured in each store, after a tenth of it for warming up.
-const TIME: Duration = Duration::from_millis(200);
+/// Each workload is run in each store this often, this long, and the best run counts: other programs only ever slow one down. Before it, it
+/// is run once to warm up.
+const RUNS: usize = 5;
+const TIME: Duration = Duration::from_millis(40);
 
 pub fn rival(name: &str, sizes: Sizes) -> Box<dyn Rival> {
     match name {
@@ -43,24 +45,27 @@ pub struct Rate {
     pub steps: f64,
 }
 
-/// Runs a workload for a while: an even number of transactions, so that every deleted key is back.
+/// The best of some runs of a workload.
 pub fn rate(store: &mut dyn Rival, workload: Workload, keys: u64) -> Rate {
-    const BATCH: u64 = 32;
     let mut done = 0;
-    let warm = Instant::now();
-    while warm.elapsed() < TIME / 10 {
-        run_some(store, workload, keys, done, BATCH);
-        done += BATCH;
-    }
+    run(store, workload, keys, &mut done);
+    let runs = (0..RUNS).map(|_| run(store, workload, keys, &mut done));
+    let best = runs.max_by(|a, b| a.transactions.total_cmp(&b.transactions));
+    best.expect("there are runs")
+}
+
+/// Goes on with a workload for a while: an even number of transactions, so that every deleted key is back.
+fn run(store: &mut dyn Rival, workload: Workload, keys: u64, done: &mut u64) -> Rate {
+    const BATCH: u64 = 32;
     store.steps();
-    let (start, first) = (Instant::now(), done);
+    let (start, first) = (Instant::now(), *done);
     while start.elapsed() < TIME {
-        run_some(store, workload, keys, done, BATCH);
-        done += BATCH;
+        run_some(store, workload, keys, *done, BATCH);
+        *done += BATCH;
     }
     let seconds = start.elapsed().as_secs_f64();
     Rate {
-        transactions: (done - first) as f64 / seconds,
+        transactions: (*done - first) as f64 / seconds,
         steps: store.steps() as f64 / seconds,
     }
 }
