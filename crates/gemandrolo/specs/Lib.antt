@@ -1,0 +1,2 @@
+-- sizes, steps and lengths as numbers; a list of steps as words
+pub mod Numbers
