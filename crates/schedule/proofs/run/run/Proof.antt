@@ -1,7 +1,7 @@
--- `steps::run` meets its contract: a walk of its MIR, by hand. Each turn copies one step out of the slice, lends the memory again to `work`, for a lifetime that is
--- made for the call, and takes it back at the list that `work` left.
--- The invariant, where t steps are left: the memory that the steps from i on make of the present memory is the one that all steps make of the first.
--- All that the proof knows of `work` is that it meets its contract.
+-- `run` meets its contract: a walk of its MIR, by hand, since its signature has a slice of structs. Each turn copies one step out of the slice, lends memory and output again
+-- to `turn`, for lifetimes that are made for the call, and takes them back as `turn` left them.
+-- The invariant, where t steps are left: what the steps from i on make of the present words and output is what all steps make of the first; and each step so far has fields of 64 bits.
+-- All that the proof knows of `turn` is that it meets its contract.
 -- Assumes nothing.
 use mathlib.Core.Path.{_≡_, refl, sym, ap, _∙_, subst, ap₂}
 use Prim.Native.Nat.{ℕ, zero, suc, _+_, _<_, _≤_, _^_, _*_}
