@@ -21,7 +21,7 @@ use Rattle.engine.specs.declared.open.Opening.the-variants.{Accepted, Re
 use Rattle.steps.specs.Whole.{Allowed, Address, head, server, whole, block, words-for}
 use Rattle.steps.specs.Refusal.{open-refusal}
 use Rattle.steps.specs.Run.{opened}
-use Rattle.engine.specs.Parts.{stored-in}
+use Rattle.kinds.specs.Parts.{stored-in}
 
 -- the refusal's number, if there is one
 unfoldable pub opening : ℕ → Opening

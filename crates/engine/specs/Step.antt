@@ -23,12 +23,12 @@ use Rattle.steps.specs.Whole.{Address, whole, block, tree-sizes}
 use Rattle.steps.specs.Refusal.{kind-of, fits, open-refusal, refusal}
 use Rattle.steps.specs.Passed.{Passed, passed}
 use Rattle.steps.specs.Steps.{Did, begin, give, work, commit, prepare, apply, abort, lose, by-kind, step}
-use Rattle.engine.specs.Parts.{Holds, head-sizes, stored-in}
-use Rattle.engine.specs.Judge.{of-client}
-use Rattle.engine.specs.Refusal.{too-short}
-use Rattle.engine.specs.Fits.{Known}
-use Rattle.engine.specs.Known.{fits-known}
-use Rattle.engine.specs.Kinds.{Meets}
+use Rattle.kinds.specs.Parts.{Holds, head-sizes, stored-in}
+use Rattle.kinds.specs.Judge.{of-client}
+use Rattle.kinds.specs.Refusal.{too-short}
+use Rattle.kinds.specs.Fits.{Known}
+use Rattle.kinds.specs.Known.{fits-known}
+use Rattle.kinds.specs.Kinds.{Meets}
 use Rattle.engine.specs.Work.{fits-waiting}
 
 -- ---- the rule of a kind

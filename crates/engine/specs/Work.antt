@@ -45,15 +45,15 @@ use Rattle.steps.specs.Whole.{Allowed, Address, client, whole, block, tree-size
 use Rattle.steps.specs.Uses.{item-of}
 use Rattle.steps.specs.Steps.{did, abort, fetch, after-walk, work}
 use Rattle.steps.specs.There.{in-store-has}
-use Rattle.engine.specs.Parts.{Holds, stored-in, client-lent}
-use Rattle.engine.specs.Items.{read-item}
-use Rattle.engine.specs.Judge.{of-client}
-use Rattle.engine.specs.Fits.{Known}
-use Rattle.engine.specs.Known.{all-at}
-use Rattle.engine.specs.Kinds.{Meets, meets-did, meets-as, meets-refused}
-use Rattle.engine.specs.Fetch.{used-item, known-at, AllKnown, Checking}
-use Rattle.engine.specs.Hand.{good-used-enter}
-use Rattle.engine.specs.Lack.{There}
+use Rattle.kinds.specs.Parts.{Holds, stored-in, client-lent}
+use Rattle.kinds.specs.Items.{read-item}
+use Rattle.kinds.specs.Judge.{of-client}
+use Rattle.kinds.specs.Fits.{Known}
+use Rattle.kinds.specs.Known.{all-at}
+use Rattle.kinds.specs.Kinds.{Meets, meets-did, meets-as, meets-refused}
+use Rattle.kinds.specs.Fetch.{used-item, known-at, AllKnown, Checking}
+use Rattle.kinds.specs.Hand.{good-used-enter}
+use Rattle.kinds.specs.Lack.{There}
 use Rattle.engine.specs.Used.{stored-at, used-stored}
 
 -- ---- the stores of an answer

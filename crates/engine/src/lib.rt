@@ -1,26 +1,5 @@
 // Opening a store, and its steps.
-pub mod abort;
-pub mod apply;
-pub mod commit;
-pub mod course;
-pub mod fetch;
-pub mod findings;
-pub mod fits;
-pub mod hand;
-pub mod items;
-pub mod judge;
-pub mod known;
-pub mod lack;
-pub mod life;
-pub mod locks;
-pub mod loss;
 pub mod open;
 pub mod operate;
-pub mod prepare;
-pub mod refusal;
-pub mod sizes;
 pub mod step;
-pub mod versions;
 pub mod walking;
-pub mod whole;
-pub mod writes;

@@ -9,8 +9,8 @@ use Rattle.steps.specs.declared.step.Step.{Step}
 use Rattle.steps.specs.declared.outcome.Outcome.{Outcome}
 use Rattle.steps.specs.declared.outcome.Line.{Line}
 use Rattle.steps.specs.Outcome.{line}
-use Rattle.engine.specs.declared.whole.Length.{Length}
-use Rattle.engine.specs.declared.whole.Length.the-variants.{Bytes, Refused}
+use Rattle.kinds.specs.declared.whole.Length.{Length}
+use Rattle.kinds.specs.declared.whole.Length.the-variants.{Bytes, Refused}
 use Rattle.engine.specs.declared.open.Opening.{Opening}
 use Rattle.engine.specs.declared.open.Opening.the-variants.{Accepted, Refused as Shut}
 use Rattle.engine.specs.Open.{opening}

@@ -15,8 +15,8 @@ use Rattle.steps.specs.Whole.{Address, head, whole, block, words-for, Allowed}
 use Rattle.steps.specs.Refusal.{open-refusal}
 use Rattle.steps.specs.Steps.{step}
 use Rattle.steps.specs.Run.{opened, after, outcomes}
-use Rattle.engine.specs.Parts.{Holds, head-sizes, stored-in}
-use Rattle.engine.specs.Refusal.{none-holds}
+use Rattle.kinds.specs.Parts.{Holds, head-sizes, stored-in}
+use Rattle.kinds.specs.Refusal.{none-holds}
 use Rattle.engine.specs.Open.{first-stores, new-words, words-opened, new-store}
 use Rattle.engine.specs.Step.{outcome-of, words-after}
 use Rattle.schedule.specs.Ledger.{Ledger, blank, note}

@@ -1,4 +1,4 @@
-use Rattle.engine.specs.Refusal.{none-holds}
+use Rattle.kinds.specs.Refusal.{none-holds}
 use Rattle.engine.specs.Open.{is-refused, stays-shut, is-accepted, is-open}
 use borrow.Author.Needs.{needs}
 use Rattle.engine.proofs.open.open.Statement.{statement}

@@ -1,4 +1,4 @@
-use Rattle.engine.specs.Refusal.{none-holds}
+use Rattle.kinds.specs.Refusal.{none-holds}
 use Rattle.engine.specs.Step.{step-exits}
 use borrow.Author.Needs.{needs}
 use Rattle.engine.proofs.step.step.Statement.{statement}

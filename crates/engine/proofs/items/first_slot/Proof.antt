@@ -1,9 +1,0 @@
-use borrow.Author.Needs.{needs}
-use Rattle.engine.proofs.items.first_slot.Statement.{statement}
-use Rattle.engine.proofs.items.first_slot.Tie as tie
-
-pub first-slot-spec : {M : Type 1} → statement M
-first-slot-spec = tie.close (tie.spec
-    (λ c. search needs)  -- array-read-result
-    (λ c. search needs)  -- returns
-    )

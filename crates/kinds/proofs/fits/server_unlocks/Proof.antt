@@ -1,0 +1,13 @@
+use Rattle.kinds.specs.Fits.{not-there, there}
+use borrow.Author.Needs.{needs}
+use Rattle.kinds.proofs.fits.server_unlocks.Statement.{statement}
+use Rattle.kinds.proofs.fits.server_unlocks.Tie as tie
+
+pub server-unlocks-spec : {M : Type 1} → statement M
+server-unlocks-spec = tie.close (tie.spec
+    (λ c. search needs)  -- cast-has
+    (λ c κs. search needs)  -- has-requires
+    (λ c κs. search needs)  -- unlock-fits-requires
+    (λ c. search (not-there, there, needs))  -- returns
+    (λ c. search (not-there, there, needs))  -- returns-2
+    )

@@ -1,0 +1,12 @@
+use Rattle.kinds.specs.Hand.{entered-then}
+use borrow.Author.Needs.{needs}
+use Rattle.kinds.proofs.hand.enter_node.Statement.{statement}
+use Rattle.kinds.proofs.hand.enter_node.Tie as tie
+
+pub enter-node-spec : {M : Type 1} → statement M
+enter-node-spec = tie.close (tie.spec
+    (λ c κs. search needs)  -- enter-used-requires
+    (λ c κs. search needs)  -- fetched-node-requires
+    (λ c. search needs)  -- same-length
+    (λ c. search (entered-then, needs))  -- returns
+    )

@@ -1,0 +1,14 @@
+use Rattle.kinds.specs.Judge.{judge-exits}
+use borrow.Author.Needs.{needs}
+use Rattle.kinds.proofs.judge.lock_fits.Statement.{statement}
+use Rattle.kinds.proofs.judge.lock_fits.Tie as tie
+
+pub lock-fits-spec : {M : Type 1} → statement M
+lock-fits-spec = tie.close (tie.spec
+    (λ c κs. search needs)  -- lock-word-requires
+    (λ c. search needs)  -- cast-is-lock
+    (λ c κs. search needs)  -- is-lock-requires
+    (λ c κs. search (judge-exits, needs))  -- holders-fit-requires
+    (λ c. search (judge-exits, needs))  -- returns
+    (λ c. search (judge-exits, needs))  -- returns-2
+    )

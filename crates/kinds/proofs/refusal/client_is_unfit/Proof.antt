@@ -1,0 +1,16 @@
+use Rattle.kinds.specs.Refusal.{sited-as, client-unfit}
+use borrow.Author.Needs.{needs}
+use Rattle.kinds.proofs.refusal.client_is_unfit.Statement.{statement}
+use Rattle.kinds.proofs.refusal.client_is_unfit.Tie as tie
+
+pub client-is-unfit-spec : {M : Type 1} → statement M
+client-is-unfit-spec = tie.close (tie.spec
+    (λ c κs. search needs)  -- client-at-requires
+    (λ c. search needs)  -- mul-at
+    (λ c. search needs)  -- sub-state-fits
+    (λ c. search needs)  -- part-state-fits-start
+    (λ c. search needs)  -- part-state-fits-end
+    (λ c κs. search needs)  -- kind-of-requires
+    (λ c κs. search (sited-as, client-unfit, needs))  -- state-fits-requires
+    (λ c. search (sited-as, client-unfit, needs))  -- returns
+    )

@@ -1,0 +1,170 @@
+// "A fetch checks at that server what the transaction has read": the read set and the copies that came into use in the step.
+ghost use mathlib.Core.Path.{_≡_};
+ghost use Prim.Native.Nat.{_+_, _/_, _≤_, _<_};
+ghost use lib.ListN.{length, getD};
+ghost use Rattle.memory.specs.Word.{view};
+ghost use Rattle.server.specs.Object.{object-of, Has};
+ghost use Rattle.client.specs.declared.part.Set.the-variants.{Reads};
+ghost use Rattle.client.specs.Sets.{held, count};
+ghost use Rattle.client.specs.Lent.{InUse, used-in};
+ghost use Rattle.kinds.specs.Parts.{Holds};
+ghost use Rattle.kinds.specs.Items.{as-item};
+ghost use Rattle.kinds.specs.Judge.{of-client};
+ghost use Rattle.kinds.specs.Fetch.{used-item, known-at, check-item, fetch-fault, items-fit, items-found, Checking, verdict-of, gate-of};
+use crate::findings::Fault;
+use crate::findings::checked_at;
+use crate::findings::held_at;
+use crate::findings::lesser;
+use crate::fits::reads_of;
+use crate::items::Item;
+use crate::items::item_of;
+use crate::judge::check_fits;
+use crate::judge::field_of;
+use crate::judge::item_at;
+use crate::judge::lock_fits;
+use crate::whole::client_at;
+use client::lookup::copied;
+use server::check::can_check;
+use server::lock::Use;
+use server::object::numbered;
+use steps::sizes::Sizes;
+
+// A copy in use, as an object read.
+fn used_item(part: &[u8], number: u64) -> Item
+    requires { ⌜ (number < 16385) × (7223 ≤ length (now part) / 8) ⌝ }
+    ensures { λ r. ⌜ as-item r ≡ used-item (held (now (part .entry))) number ⌝ }
+{
+    let l = copied(part, number);
+    let n = l.node;
+    item_of(part, number, n)
+}
+
+fn used_at(mem: &[u8], sizes: Sizes, client: usize, number: u64) -> Item
+    requires { ⌜ Holds sizes (length (now mem)) × (client < sizes .clients) × (number < 16385) ⌝ }
+    ensures { λ r. ⌜ as-item r ≡ used-item (of-client sizes (view (now (mem .entry))) client) number ⌝ }
+{
+    let at = 8 * client_at(sizes, client);
+    used_item(&mem[at..], number)
+}
+
+// Object i of those read: the read set's, then the copies in use.
+fn known_at(mem: &[u8], sizes: Sizes, client: usize, used: &[u64], i: usize) -> Item
+    requires { ⌜ Holds sizes (length (now mem)) × (client < sizes .clients) × InUse (now used) × (i < count (of-client sizes (view (now mem)) client) Reads + getD (now used) 0 0) ⌝ }
+    ensures { λ r. ⌜ as-item r ≡ known-at (of-client sizes (view (now (mem .entry))) client) (used-in (now (used .entry))) i ⌝ }
+{
+    let n = reads_of(mem, sizes, client);
+    if i < n {
+        return item_at(mem, sizes, client, i);
+    }
+    let number = used[i - n + 1];
+    used_at(mem, sizes, client, number)
+}
+
+// What a check of the item reads at the server is in range, if the server can check it.
+fn item_checks(mem: &[u8], sizes: Sizes, server: usize, item: Item) -> bool
+    requires { ⌜ Holds sizes (length (now mem)) × (server < sizes .servers) × Has (sizes .slots) (object-of (item .number)) ⌝ }
+    ensures { λ r. ⌜ r ≡ check-item sizes (view (now (mem .entry))) server (as-item item) ⌝ }
+{
+    let object = numbered(item.number);
+    if can_check(server as u64, object, item.inner) {
+        return check_fits(mem, sizes, server, item);
+    }
+    true
+}
+
+// The reason that the check of an item finds; 0 if there is none, or the server can't check it.
+fn fetch_fault(mem: &[u8], sizes: Sizes, client: usize, server: usize, item: Item) -> u64
+    requires { ⌜ Holds sizes (length (now mem)) × (server < sizes .servers) × (client < sizes .clients) × Has (sizes .slots) (object-of (item .number)) ⌝ }
+    ensures { λ r. ⌜ r ≡ fetch-fault sizes (view (now (mem .entry))) client server (as-item item) ⌝ }
+{
+    let object = numbered(item.number);
+    if can_check(server as u64, object, item.inner) {
+        return checked_at(mem, sizes, server, item, client, Use::Fetch);
+    }
+    0
+}
+
+fn items_fit(mem: &[u8], sizes: Sizes, client: usize, server: usize, used: &[u64]) -> bool
+    requires { ⌜ Checking sizes (now mem) client server (now used) ⌝ }
+    ensures { λ r. ⌜ r ≡ items-fit sizes (view (now (mem .entry))) client server (used-in (now (used .entry))) ⌝ }
+{
+    let n = reads_of(mem, sizes, client) + used[0] as usize;
+    let mut i: usize = 0;
+    while i < n {
+        let item = known_at(mem, sizes, client, used, i);
+        if item_checks(mem, sizes, server, item) {
+            i += 1;
+        } else {
+            return false;
+        }
+    }
+    true
+}
+
+// The reason for which the fetch aborts, that of the least object; 0 if there is none.
+fn items_found(mem: &[u8], sizes: Sizes, client: usize, server: usize, used: &[u64]) -> u64
+    requires { ⌜ Checking sizes (now mem) client server (now used) ⌝ }
+    ensures { λ r. ⌜ r ≡ items-found sizes (view (now (mem .entry))) client server (used-in (now (used .entry))) ⌝ }
+{
+    let n = reads_of(mem, sizes, client) + used[0] as usize;
+    let mut best = Fault {
+        number: 0,
+        reason: 0,
+    };
+    let mut i: usize = 0;
+    while i < n {
+        let item = known_at(mem, sizes, client, used, i);
+        let number = item.number;
+        let reason = fetch_fault(mem, sizes, client, server, item);
+        best = lesser(best, Fault { number, reason });
+        i += 1;
+    }
+    best.reason
+}
+
+// What comes of a check: refusal 10, a reason to abort, or the step goes on.
+pub enum Verdict {
+    Unfit,
+    Fault(u64),
+    Clear,
+}
+
+// "in the order metadata, nodes by name, flags by name"
+pub fn check_all(mem: &[u8], sizes: Sizes, client: usize, server: usize, used: &[u64]) -> Verdict
+    requires { ⌜ Checking sizes (now mem) client server (now used) ⌝ }
+    ensures { λ r. ⌜ r ≡ verdict-of (items-fit sizes (view (now (mem .entry))) client server (used-in (now (used .entry)))) (items-found sizes (view (now (mem .entry))) client server (used-in (now (used .entry)))) ⌝ }
+{
+    if items_fit(mem, sizes, client, server, used) {
+        let found = items_found(mem, sizes, client, server, used);
+        if found == 0 {
+            return Verdict::Clear;
+        }
+        return Verdict::Fault(found);
+    }
+    Verdict::Unfit
+}
+
+// "then the object fetched"; then the limit of 96.
+pub fn gate(
+    mem: &[u8],
+    sizes: Sizes,
+    client: usize,
+    server: usize,
+    number: u64,
+    used: &[u64],
+) -> Verdict
+    requires { ⌜ Checking sizes (now mem) client server (now used) × Has (sizes .slots) (object-of number) ⌝ }
+    ensures { λ r. ⌜ r ≡ gate-of sizes (view (now (mem .entry))) client server number (used-in (now (used .entry))) ⌝ }
+{
+    if lock_fits(mem, sizes, server, number) {
+        if held_at(mem, sizes, server, number, client, Use::Fetch) {
+            return Verdict::Fault(2);
+        }
+        let read = field_of(mem, sizes, client, 10) as usize;
+        if 96 <= read + used[0] as usize {
+            return Verdict::Fault(4);
+        }
+        return Verdict::Clear;
+    }
+    Verdict::Unfit
+}

@@ -1,0 +1,150 @@
+// Refusal 10 for what a prepare, an apply and an abort read at servers, item by item.
+ghost use mathlib.Core.Path.{_≡_};
+ghost use Prim.Native.Nat.{_/_, _≤_, _<_};
+ghost use lib.ListN.{length};
+ghost use Rattle.memory.specs.Word.{view};
+ghost use Rattle.server.specs.Object.{object-of, Has};
+ghost use Rattle.client.specs.declared.part.Set.the-variants.{Reads};
+ghost use Rattle.client.specs.Sets.{count};
+ghost use Rattle.client.specs.Participants.{lowest-of};
+ghost use Rattle.steps.specs.Judge.{lowest, prepare-fits, unlock-fits, abort-fits};
+ghost use Rattle.kinds.specs.Parts.{Holds, stored-in};
+ghost use Rattle.kinds.specs.Items.{as-item};
+ghost use Rattle.kinds.specs.Judge.{of-client};
+ghost use Rattle.kinds.specs.Fits.{Known, prepare-item, unlock-item, unlocks-at};
+use crate::items::Item;
+use crate::items::is_checked_at;
+use crate::items::is_locked_at;
+use crate::judge::check_fits;
+use crate::judge::field_of;
+use crate::judge::item_at;
+use crate::judge::lock_fits;
+use crate::whole::client_at;
+use client::part::Set;
+use client::part::count;
+use memory::bits;
+use steps::sizes::Sizes;
+
+// How many objects a client has read.
+pub fn reads_of(mem: &[u8], sizes: Sizes, client: usize) -> usize
+    requires { ⌜ Holds sizes (length (now mem)) × (client < sizes .clients) ⌝ }
+    ensures { λ r. ⌜ r ≡ count (of-client sizes (view (now (mem .entry))) client) Reads ⌝ }
+    ensures within { λ r. ⌜ r ≤ 96 ⌝ }
+{
+    let at = 8 * client_at(sizes, client);
+    count(&mem[at..], Set::Reads)
+}
+
+// The lowest of n servers in the set; n if there is none.
+fn lowest_in(n: usize, set: u64) -> usize
+    requires { ⌜ n ≤ 8 ⌝ }
+    ensures { λ r. ⌜ r ≡ lowest-of n set ⌝ }
+{
+    let mut s: usize = 0;
+    while s < n {
+        if bits::has(set, s as u32) {
+            return s;
+        }
+        s += 1;
+    }
+    s
+}
+
+// The lowest participant, where metadata and inner nodes are checked.
+pub fn lowest(mem: &[u8], sizes: Sizes, client: usize) -> u64
+    requires { ⌜ Holds sizes (length (now mem)) × (client < sizes .clients) ⌝ }
+    ensures { λ r. ⌜ r ≡ lowest sizes (stored-in sizes (view (now (mem .entry)))) client ⌝ }
+{
+    let set = field_of(mem, sizes, client, 5);
+    lowest_in(sizes.servers, set) as u64
+}
+
+// What a prepare at a server reads of an item there.
+fn item_prepares(mem: &[u8], sizes: Sizes, server: usize, lowest: u64, item: Item) -> bool
+    requires { ⌜ Holds sizes (length (now mem)) × (server < sizes .servers) × Has (sizes .slots) (object-of (item .number)) ⌝ }
+    ensures { λ r. ⌜ r ≡ prepare-item sizes (view (now (mem .entry))) lowest server (as-item item) ⌝ }
+{
+    if is_locked_at(item, lowest, server as u64) {
+        if is_checked_at(item, lowest, server as u64) {
+            return check_fits(mem, sizes, server, item);
+        }
+        return lock_fits(mem, sizes, server, item.number);
+    }
+    true
+}
+
+// What is unlocked of an item at a server.
+fn item_unlocks(mem: &[u8], sizes: Sizes, server: usize, lowest: u64, item: Item) -> bool
+    requires { ⌜ Holds sizes (length (now mem)) × (server < sizes .servers) × Has (sizes .slots) (object-of (item .number)) ⌝ }
+    ensures { λ r. ⌜ r ≡ unlock-item sizes (view (now (mem .entry))) lowest server (as-item item) ⌝ }
+{
+    if is_locked_at(item, lowest, server as u64) {
+        return lock_fits(mem, sizes, server, item.number);
+    }
+    true
+}
+
+// Is what a prepare at a server reads there in range?
+pub fn prepare_fits(mem: &[u8], sizes: Sizes, client: usize, server: usize) -> bool
+    requires { ⌜ Holds sizes (length (now mem)) × (client < sizes .clients) × (server < sizes .servers) × Known sizes (view (now mem)) client ⌝ }
+    ensures { λ r. ⌜ r ≡ prepare-fits sizes (stored-in sizes (view (now (mem .entry)))) client server ⌝ }
+{
+    let low = lowest(mem, sizes, client);
+    let n = reads_of(mem, sizes, client);
+    let mut i: usize = 0;
+    while i < n {
+        if item_prepares(mem, sizes, server, low, item_at(mem, sizes, client, i)) {
+            i += 1;
+        } else {
+            return false;
+        }
+    }
+    true
+}
+
+// Are the locks that are given back at a server in range?
+pub fn unlock_fits(mem: &[u8], sizes: Sizes, client: usize, server: usize) -> bool
+    requires { ⌜ Holds sizes (length (now mem)) × (client < sizes .clients) × (server < sizes .servers) × Known sizes (view (now mem)) client ⌝ }
+    ensures { λ r. ⌜ r ≡ unlock-fits sizes (stored-in sizes (view (now (mem .entry)))) client server ⌝ }
+{
+    let low = lowest(mem, sizes, client);
+    let n = reads_of(mem, sizes, client);
+    let mut i: usize = 0;
+    while i < n {
+        if item_unlocks(mem, sizes, server, low, item_at(mem, sizes, client, i)) {
+            i += 1;
+        } else {
+            return false;
+        }
+    }
+    true
+}
+
+// And at a server, if the transaction is prepared there?
+fn server_unlocks(mem: &[u8], sizes: Sizes, client: usize, prepared: u64, server: usize) -> bool
+    requires { ⌜ Holds sizes (length (now mem)) × (client < sizes .clients) × (server < sizes .servers) × Known sizes (view (now mem)) client ⌝ }
+    ensures { λ r. ⌜ r ≡ unlocks-at sizes (view (now (mem .entry))) client prepared server ⌝ }
+{
+    if bits::has(prepared, server as u32) {
+        return unlock_fits(mem, sizes, client, server);
+    }
+    true
+}
+
+// And at every server at which the transaction is prepared?
+pub fn abort_fits(mem: &[u8], sizes: Sizes, client: usize) -> bool
+    requires { ⌜ Holds sizes (length (now mem)) × (client < sizes .clients) × Known sizes (view (now mem)) client ⌝ }
+    ensures { λ r. ⌜ r ≡ abort-fits sizes (stored-in sizes (view (now (mem .entry)))) client ⌝ }
+{
+    let prepared = field_of(mem, sizes, client, 6);
+    let n = sizes.servers;
+    let mut s: usize = 0;
+    while s < n {
+        if server_unlocks(mem, sizes, client, prepared, s) {
+            s += 1;
+        } else {
+            return false;
+        }
+    }
+    true
+}

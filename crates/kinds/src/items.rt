@@ -1,0 +1,96 @@
+// What a transaction has read, as servers are asked about it: which object is checked where, and which is locked.
+ghost use mathlib.Core.Path.{_≡_};
+ghost use Prim.Native.Nat.{_/_, _<_, _≤_};
+ghost use lib.ListN.{length};
+ghost use Rattle.client.specs.Record.{first-slot};
+ghost use Rattle.client.specs.Sets.{held};
+ghost use Rattle.steps.specs.Uses.{item-of, checked-at, locked-at};
+ghost use Rattle.kinds.specs.Items.{as-item, mark-of, read-item};
+use client::items::has;
+use client::items::inner_in;
+use client::items::is_home;
+use client::items::is_inner;
+use client::part::Set;
+use client::part::number_at;
+use client::part::record_at;
+use nodes::node::Node;
+
+// An object read: metadata, or a node read as inner; its version, or a flag's value; is it written, and as an inner node?
+pub struct Item {
+    pub number: u64,
+    pub inner: bool,
+    pub mark: u64,
+    pub written: bool,
+    pub becomes: bool,
+}
+
+// The root's name, or a flag.
+pub fn first_slot(node: Node) -> u64
+    ensures { λ r. ⌜ r ≡ first-slot node ⌝ }
+{
+    let slots = node.slots;
+    slots[0]
+}
+
+// That by which an object is checked.
+fn mark_of(number: u64, node: Node) -> u64
+    ensures { λ r. ⌜ r ≡ mark-of number node ⌝ }
+{
+    if number <= 8192 {
+        return node.version;
+    }
+    first_slot(node)
+}
+
+pub fn item_of(part: &[u8], number: u64, node: Node) -> Item
+    requires { ⌜ 7223 ≤ length (now part) / 8 ⌝ }
+    ensures { λ r. ⌜ as-item r ≡ item-of (held (now (part .entry))) number node ⌝ }
+{
+    let inner = is_inner(number, node);
+    let mark = mark_of(number, node);
+    let written = has(part, Set::Writes, number);
+    let becomes = inner_in(part, Set::Writes, number);
+    Item {
+        number,
+        inner,
+        mark,
+        written,
+        becomes,
+    }
+}
+
+// Item i of the read set.
+pub fn read_item(part: &[u8], i: usize) -> Item
+    requires { ⌜ (i < 96) × (7223 ≤ length (now part) / 8) ⌝ }
+    ensures { λ r. ⌜ as-item r ≡ read-item (held (now (part .entry))) i ⌝ }
+{
+    let number = number_at(part, Set::Reads, i);
+    let node = record_at(part, Set::Reads, i);
+    item_of(part, number, node)
+}
+
+// "Metadata and inner nodes are checked at the lowest participant, and at every one if written"; other nodes and flags at home.
+pub fn is_checked_at(item: Item, lowest: u64, server: u64) -> bool
+    ensures { λ r. ⌜ r ≡ checked-at lowest server (as-item item) ⌝ }
+{
+    if item.inner {
+        if server == lowest {
+            return true;
+        }
+        return item.written;
+    }
+    is_home(server, item.number)
+}
+
+// "a node becoming inner is checked at home, locked at all"
+pub fn is_locked_at(item: Item, lowest: u64, server: u64) -> bool
+    ensures { λ r. ⌜ r ≡ locked-at lowest server (as-item item) ⌝ }
+{
+    if is_checked_at(item, lowest, server) {
+        return true;
+    }
+    if item.written {
+        return item.becomes;
+    }
+    false
+}

@@ -1,0 +1,165 @@
+// A work step that lacks something fetches it. "Metadata comes from server (client modulo servers), a node from its home, a vector
+// from its server."
+ghost use mathlib.Core.Path.{_≡_};
+ghost use Prim.Native.Nat.{_%_, _<_};
+ghost use lib.ListN.{length};
+ghost use Rattle.memory.specs.Word.{view};
+ghost use Rattle.nodes.specs.Name.{server-of, slot-of};
+ghost use Rattle.operations.specs.Object.{object, meta, node, vector};
+ghost use Rattle.server.specs.HandOut.{metadata-at, metadata-sound, vector-at};
+ghost use Rattle.client.specs.Lent.{used-in};
+ghost use Rattle.steps.specs.declared.outcome.Outcome.the-variants.{Fetched};
+ghost use Rattle.steps.specs.Steps.{node-at, hand-over, fetch};
+ghost use Rattle.kinds.specs.Parts.{Holds};
+ghost use Rattle.kinds.specs.Judge.{of-server};
+ghost use Rattle.kinds.specs.Fits.{Known};
+ghost use Rattle.kinds.specs.Fetch.{Checking};
+ghost use Rattle.kinds.specs.Kinds.{Meets};
+ghost use Rattle.kinds.specs.Lack.{There};
+use crate::abort::abort;
+use crate::fetch::Verdict;
+use crate::fetch::check_all;
+use crate::fetch::gate;
+use crate::hand::store_meta;
+use crate::hand::store_node;
+use crate::hand::store_vector;
+use crate::whole::server_at;
+use nodes::node::Node;
+use server::hand_out::Metadata;
+use server::hand_out::metadata_is_sound;
+use server::hand_out::read_metadata;
+use server::hand_out::read_node;
+use server::hand_out::read_vector;
+use steps::outcome::Outcome;
+use steps::sizes::Sizes;
+
+fn meta_fits(mem: &[u8], sizes: Sizes, server: usize) -> bool
+    requires { ⌜ Holds sizes (length (now mem)) × (server < sizes .servers) ⌝ }
+    ensures { λ r. ⌜ r ≡ metadata-sound (sizes .servers) (sizes .slots) (of-server sizes (view (now (mem .entry))) server) ⌝ }
+{
+    let at = 8 * server_at(sizes, server);
+    metadata_is_sound(&mem[at..], sizes.servers as u64, sizes.slots)
+}
+
+fn meta_of(mem: &[u8], sizes: Sizes, server: usize) -> Metadata
+    requires { ⌜ Holds sizes (length (now mem)) × (server < sizes .servers) ⌝ }
+    ensures { λ r. ⌜ r ≡ metadata-at (of-server sizes (view (now (mem .entry))) server) ⌝ }
+{
+    let at = 8 * server_at(sizes, server);
+    read_metadata(&mem[at..], sizes.slots)
+}
+
+fn hand_meta(mem: &mut [u8], sizes: Sizes, client: usize, server: usize, used: &[u64]) -> Outcome
+    requires { ⌜ Checking sizes (now mem) client server (now used) × Known sizes (view (now mem)) client ⌝ }
+    ensures { λ r. ⌜ Meets sizes (λ m. hand-over sizes m client (used-in (now (used .entry))) (object meta) server (Fetched 0 0)) (view (now (mem .entry))) r (view (now (mem .exit))) ⌝ }
+{
+    if !meta_fits(mem, sizes, server) {
+        return Outcome::Refused(10);
+    }
+    let g = gate(mem, sizes, client, server, 0, used);
+    match g {
+        Verdict::Unfit => Outcome::Refused(10),
+        Verdict::Fault(reason) => abort(mem, sizes, client, reason, used),
+        Verdict::Clear => {
+            let m = meta_of(mem, sizes, server);
+            store_meta(mem, sizes, client, used, m.root, m.version);
+            Outcome::Fetched(0, 0)
+        }
+    }
+}
+
+// The metadata is lacking.
+pub fn fetch_meta(mem: &mut [u8], sizes: Sizes, client: usize, used: &[u64]) -> Outcome
+    requires { ⌜ Checking sizes (now mem) client (client % sizes .servers) (now used) × Known sizes (view (now mem)) client ⌝ }
+    ensures { λ r. ⌜ Meets sizes (λ m. fetch sizes m client (used-in (now (used .entry))) (object meta)) (view (now (mem .entry))) r (view (now (mem .exit))) ⌝ }
+{
+    let server = client % sizes.servers;
+    let v = check_all(mem, sizes, client, server, used);
+    match v {
+        Verdict::Unfit => Outcome::Refused(10),
+        Verdict::Fault(reason) => abort(mem, sizes, client, reason, used),
+        Verdict::Clear => hand_meta(mem, sizes, client, server, used),
+    }
+}
+
+// The node of that name, as its home has it.
+fn node_of(mem: &[u8], sizes: Sizes, server: usize, name: u64) -> Node
+    requires { ⌜ Holds sizes (length (now mem)) × (server < sizes .servers) × (slot-of name < sizes .slots) ⌝ }
+    ensures { λ r. ⌜ r ≡ node-at (of-server sizes (view (now (mem .entry))) server) name ⌝ }
+{
+    let at = 8 * server_at(sizes, server);
+    let slot = (name % 1024) as usize;
+    read_node(&mem[at..], sizes.slots, slot)
+}
+
+fn hand_node(
+    mem: &mut [u8],
+    sizes: Sizes,
+    client: usize,
+    server: usize,
+    name: u64,
+    used: &[u64],
+) -> Outcome
+    requires { ⌜ Checking sizes (now mem) client server (now used) × Known sizes (view (now mem)) client × There sizes name ⌝ }
+    ensures { λ r. ⌜ Meets sizes (λ m. hand-over sizes m client (used-in (now (used .entry))) (object (node name)) server (Fetched 1 name)) (view (now (mem .entry))) r (view (now (mem .exit))) ⌝ }
+{
+    let n = node_of(mem, sizes, server, name);
+    if !n.in_range() {
+        return Outcome::Refused(10);
+    }
+    let number = 1 + name;
+    let g = gate(mem, sizes, client, server, number, used);
+    match g {
+        Verdict::Unfit => Outcome::Refused(10),
+        Verdict::Fault(reason) => abort(mem, sizes, client, reason, used),
+        Verdict::Clear => {
+            store_node(mem, sizes, client, used, name, n);
+            Outcome::Fetched(1, name)
+        }
+    }
+}
+
+// A node is lacking.
+pub fn fetch_node(mem: &mut [u8], sizes: Sizes, client: usize, name: u64, used: &[u64]) -> Outcome
+    requires { ⌜ Checking sizes (now mem) client (server-of name) (now used) × Known sizes (view (now mem)) client × There sizes name ⌝ }
+    ensures { λ r. ⌜ Meets sizes (λ m. fetch sizes m client (used-in (now (used .entry))) (object (node name))) (view (now (mem .entry))) r (view (now (mem .exit))) ⌝ }
+{
+    let server = (name / 1024) as usize;
+    let v = check_all(mem, sizes, client, server, used);
+    match v {
+        Verdict::Unfit => Outcome::Refused(10),
+        Verdict::Fault(reason) => abort(mem, sizes, client, reason, used),
+        Verdict::Clear => hand_node(mem, sizes, client, server, name, used),
+    }
+}
+
+fn vector_of(mem: &[u8], sizes: Sizes, server: usize) -> [u64; 16]
+    requires { ⌜ Holds sizes (length (now mem)) × (server < sizes .servers) ⌝ }
+    ensures { λ r. ⌜ r ≡ vector-at (of-server sizes (view (now (mem .entry))) server) ⌝ }
+{
+    let at = 8 * server_at(sizes, server);
+    read_vector(&mem[at..], sizes.slots)
+}
+
+// A server's vector is lacking: "a vector fetched is never busy".
+pub fn fetch_vector(
+    mem: &mut [u8],
+    sizes: Sizes,
+    client: usize,
+    server: usize,
+    used: &[u64],
+) -> Outcome
+    requires { ⌜ Checking sizes (now mem) client server (now used) × Known sizes (view (now mem)) client ⌝ }
+    ensures { λ r. ⌜ Meets sizes (λ m. fetch sizes m client (used-in (now (used .entry))) (vector server)) (view (now (mem .entry))) r (view (now (mem .exit))) ⌝ }
+{
+    let v = check_all(mem, sizes, client, server, used);
+    match v {
+        Verdict::Unfit => Outcome::Refused(10),
+        Verdict::Fault(reason) => abort(mem, sizes, client, reason, used),
+        Verdict::Clear => {
+            let words = vector_of(mem, sizes, server);
+            store_vector(mem, sizes, client, used, server, words);
+            Outcome::Fetched(2, server as u64)
+        }
+    }
+}

@@ -1,0 +1,108 @@
+// The locks of the objects read, at one server: "Prepare checks and locks", "Apply writes and unlocks".
+ghost use Prim.Native.Nat.{_<_};
+ghost use lib.ListN.{length};
+ghost use Rattle.memory.specs.Word.{view};
+ghost use Rattle.layout.specs.Step.{Does, silent};
+ghost use Rattle.layout.specs.Part.{inPart};
+ghost use Rattle.server.specs.Object.{object-of, Has};
+ghost use Rattle.server.specs.Store.{lock-step, unlock-step};
+ghost use Rattle.steps.specs.Whole.{server as at-server, whole, block};
+ghost use Rattle.steps.specs.Uses.{locked-at};
+ghost use Rattle.kinds.specs.Parts.{Holds};
+ghost use Rattle.kinds.specs.Items.{as-item};
+ghost use Rattle.kinds.specs.Fits.{Known};
+ghost use Rattle.kinds.specs.Locks.{rule, passing, changes, Knows, Turn};
+use crate::fits::lowest;
+use crate::fits::reads_of;
+use crate::items::Item;
+use crate::items::is_locked_at;
+use crate::judge::item_at;
+use crate::whole::server_at;
+use server::object::numbered;
+use server::store::lock;
+use server::store::unlock;
+use steps::sizes::Sizes;
+
+pub enum Change {
+    Lock,
+    Unlock,
+}
+
+// A client locks the object of that number at a server.
+fn lock_at(mem: &mut [u8], sizes: Sizes, client: usize, server: usize, number: u64, writing: bool)
+    requires { ⌜ Holds sizes (length (now mem)) × (client < sizes .clients) × (server < sizes .servers) × Has (sizes .slots) (object-of number) ⌝ }
+    ensures { λ _. ⌜ Does whole (block sizes) (inPart (at-server server) (lock-step (object-of number) writing client)) silent (view (now (mem .entry))) 0 (view (now (mem .exit))) ⌝ }
+{
+    let at = 8 * server_at(sizes, server);
+    let object = numbered(number);
+    lock(&mut mem[at..], sizes.slots, object, client as u32, writing);
+}
+
+// Its lock goes.
+fn unlock_at(mem: &mut [u8], sizes: Sizes, client: usize, server: usize, number: u64)
+    requires { ⌜ Holds sizes (length (now mem)) × (client < sizes .clients) × (server < sizes .servers) × Has (sizes .slots) (object-of number) ⌝ }
+    ensures { λ _. ⌜ Does whole (block sizes) (inPart (at-server server) (unlock-step (object-of number) client)) silent (view (now (mem .entry))) 0 (view (now (mem .exit))) ⌝ }
+{
+    let at = 8 * server_at(sizes, server);
+    let object = numbered(number);
+    unlock(&mut mem[at..], sizes.slots, object, client as u32);
+}
+
+fn change_at(mem: &mut [u8], sizes: Sizes, client: usize, server: usize, change: Change, item: Item)
+    requires { ⌜ Holds sizes (length (now mem)) × (client < sizes .clients) × (server < sizes .servers) × Has (sizes .slots) (object-of (item .number)) ⌝ }
+    ensures { λ _. ⌜ Does whole (block sizes) (inPart (at-server server) (rule change client (as-item item))) silent (view (now (mem .entry))) 0 (view (now (mem .exit))) ⌝ }
+{
+    match change {
+        Change::Lock => lock_at(mem, sizes, client, server, item.number, item.written),
+        Change::Unlock => unlock_at(mem, sizes, client, server, item.number),
+    }
+}
+
+// An item's lock, if it is locked at the server.
+fn change_item(
+    mem: &mut [u8],
+    sizes: Sizes,
+    client: usize,
+    server: usize,
+    low: u64,
+    change: Change,
+    item: Item,
+)
+    requires { ⌜ Holds sizes (length (now mem)) × (client < sizes .clients) × (server < sizes .servers) × Has (sizes .slots) (object-of (item .number)) ⌝ }
+    ensures { λ _. ⌜ Does whole (block sizes) (inPart (at-server server) (passing (locked-at low server) (rule change client) (as-item item))) silent (view (now (mem .entry))) 0 (view (now (mem .exit))) ⌝ }
+{
+    if is_locked_at(item, low, server as u64) {
+        change_at(mem, sizes, client, server, change, item);
+    }
+}
+
+// The lock of item i of the read set.
+fn change_nth(
+    mem: &mut [u8],
+    sizes: Sizes,
+    client: usize,
+    server: usize,
+    low: u64,
+    change: Change,
+    i: usize,
+)
+    requires { ⌜ Holds sizes (length (now mem)) × (client < sizes .clients) × (server < sizes .servers) × (i < 96) × Knows sizes (view (now mem)) client i ⌝ }
+    ensures { λ _. ⌜ Turn sizes client server change low i (view (now (mem .entry))) (view (now (mem .exit))) ⌝ }
+{
+    let item = item_at(mem, sizes, client, i);
+    change_item(mem, sizes, client, server, low, change, item);
+}
+
+// The locks of all objects that are locked at the server.
+pub fn change_all(mem: &mut [u8], sizes: Sizes, client: usize, server: usize, change: Change)
+    requires { ⌜ Holds sizes (length (now mem)) × (client < sizes .clients) × (server < sizes .servers) × Known sizes (view (now mem)) client ⌝ }
+    ensures { λ _. ⌜ Does whole (block sizes) (changes sizes client server change) silent (view (now (mem .entry))) 0 (view (now (mem .exit))) ⌝ }
+{
+    let low = lowest(mem, sizes, client);
+    let n = reads_of(mem, sizes, client);
+    let mut i: usize = 0;
+    while i < n {
+        change_nth(mem, sizes, client, server, low, change, i);
+        i += 1;
+    }
+}

@@ -1,0 +1,190 @@
+// "Steps refused": 1 to 9. "A refused step returns the first number that holds and changes no byte".
+ghost use mathlib.Core.Path.{_≡_};
+ghost use Prim.Native.Nat.{_/_, _<_, _≤_};
+ghost use lib.ListN.{length};
+ghost use Rattle.memory.specs.Word.{view};
+ghost use Rattle.client.specs.Sets.{held};
+ghost use Rattle.steps.specs.Refusal.{kind-of, open-refusal, refusal, fits};
+ghost use Rattle.kinds.specs.Parts.{Holds, stored-in};
+ghost use Rattle.kinds.specs.Refusal.{unknown-op, unknown-server, unknown-node, left, due, fitting, unfit, Sited};
+use crate::sizes::allowed;
+use crate::sizes::between;
+use crate::whole::client_at;
+use crate::whole::words_for;
+use client::part::get_field;
+use client::range::in_store;
+use memory::bits;
+use steps::sizes::Sizes;
+use steps::step::Kind;
+use steps::step::Step;
+
+// 1 to 3: the memory of so many bytes, for the sizes given or in the head.
+pub fn memory_refusal(bytes: usize, sizes: Sizes) -> u64
+    ensures { λ r. ⌜ r ≡ open-refusal bytes sizes ⌝ }
+{
+    if bytes < 64 {
+        return 1;
+    }
+    if allowed(sizes) {
+        if bytes < 8 * words_for(sizes) {
+            return 3;
+        }
+        return 0;
+    }
+    2
+}
+
+// "Kinds: 0 begin. 1 give an operation .. 7 client lost."
+pub fn kind_of(number: u64) -> Kind
+    ensures { λ r. ⌜ r ≡ kind-of number ⌝ }
+{
+    match number {
+        0 => Kind::Begin,
+        1 => Kind::Give,
+        2 => Kind::Work,
+        3 => Kind::Commit,
+        4 => Kind::Prepare,
+        5 => Kind::Apply,
+        6 => Kind::GiveUp,
+        7 => Kind::Lost,
+        _ => Kind::Unknown,
+    }
+}
+
+// 6: "A given op is not 1 to 6."
+fn has_unknown_op(step: Step) -> bool
+    ensures { λ r. ⌜ r ≡ unknown-op step ⌝ }
+{
+    let op = step.op;
+    if step.kind == 1 {
+        return match op {
+            1..=6 => false,
+            _ => true,
+        };
+    }
+    false
+}
+
+// 7: "The server of a migrate, prepare or apply is not in the store."
+fn has_unknown_server(sizes: Sizes, step: Step) -> bool
+    ensures { λ r. ⌜ r ≡ unknown-server sizes step ⌝ }
+{
+    let kind = step.kind;
+    let beyond = step.server >= sizes.servers as u64;
+    match kind {
+        1 => {
+            if step.op == 6 {
+                return beyond;
+            }
+            false
+        }
+        4..=5 => beyond,
+        _ => false,
+    }
+}
+
+// 8: "A migrated node's name is not in the store."
+fn has_unknown_node(sizes: Sizes, step: Step) -> bool
+    ensures { λ r. ⌜ r ≡ unknown-node sizes step ⌝ }
+{
+    if step.kind == 1 {
+        if step.op == 6 {
+            return !in_store(sizes.servers, sizes.slots, step.key);
+        }
+    }
+    false
+}
+
+// Is a server a participant that is not in the set of the field `done` yet?
+fn is_unfinished(part: &[u8], done: usize, server: u64) -> bool
+    requires { ⌜ (server < 8) × (done < 15) × (7223 ≤ length (now part) / 8) ⌝ }
+    ensures { λ r. ⌜ r ≡ left (held (now (part .entry))) done server ⌝ }
+{
+    let s = server as u32;
+    if bits::has(get_field(part, 5), s) {
+        return !bits::has(get_field(part, done), s);
+    }
+    false
+}
+
+// Is a prepare or an apply still to come at the server?
+fn is_due(part: &[u8], kind: Kind, server: u64) -> bool
+    requires { ⌜ Sited kind server × (7223 ≤ length (now part) / 8) ⌝ }
+    ensures { λ r. ⌜ r ≡ due (held (now (part .entry))) server kind ⌝ }
+{
+    match kind {
+        Kind::Begin => false,
+        Kind::Give => false,
+        Kind::Work => false,
+        Kind::Commit => false,
+        Kind::Prepare => is_unfinished(part, 6, server),
+        Kind::Apply => is_unfinished(part, 7, server),
+        Kind::GiveUp => false,
+        Kind::Lost => false,
+        Kind::Unknown => false,
+    }
+}
+
+// 9: does the state fit? Phase 0 is no transaction, 1 an open one, 2 one after its commit, 3 one after its decision; op is the
+// number of the operation that waits.
+fn is_fitting(kind: Kind, phase: u64, op: u64, due: bool) -> bool
+    ensures { λ r. ⌜ r ≡ fitting kind phase op due ⌝ }
+{
+    match kind {
+        Kind::Begin => phase == 0,
+        Kind::Give => phase == 1 && op == 0,
+        Kind::Work => phase == 1 && op != 0,
+        Kind::Commit => phase == 1 && op == 0,
+        Kind::Prepare => phase == 2 && due,
+        Kind::Apply => phase == 3 && due,
+        Kind::GiveUp => between(1, 2, phase),
+        Kind::Lost => true,
+        Kind::Unknown => true,
+    }
+}
+
+// 9 in the client's part.
+fn state_fits(part: &[u8], kind: Kind, server: u64) -> bool
+    requires { ⌜ Sited kind server × (7223 ≤ length (now part) / 8) ⌝ }
+    ensures { λ r. ⌜ r ≡ fits (held (now (part .entry))) server kind ⌝ }
+{
+    let phase = get_field(part, 0);
+    let op = get_field(part, 1);
+    let due = is_due(part, kind, server);
+    is_fitting(kind, phase, op, due)
+}
+
+// 9 for the client's part of the whole memory.
+fn client_is_unfit(mem: &[u8], sizes: Sizes, step: Step) -> bool
+    requires { ⌜ Holds sizes (length (now mem)) × (step .client < sizes .clients) × Sited (kind-of (step .kind)) (step .server) ⌝ }
+    ensures { λ r. ⌜ r ≡ unfit sizes step (view (now (mem .entry))) ⌝ }
+{
+    let at = 8 * client_at(sizes, step.client as usize);
+    !state_fits(&mem[at..], kind_of(step.kind), step.server)
+}
+
+// 4 to 9: 0 if none holds.
+pub fn refusal(mem: &[u8], sizes: Sizes, step: Step) -> u64
+    requires { ⌜ Holds sizes (length (now mem)) ⌝ }
+    ensures { λ r. ⌜ r ≡ refusal sizes step (stored-in sizes (view (now (mem .entry)))) ⌝ }
+{
+    if step.kind > 7 {
+        return 4;
+    }
+    if step.client >= sizes.clients as u64 {
+        return 5;
+    }
+    if has_unknown_op(step) {
+        return 6;
+    }
+    if has_unknown_server(sizes, step) {
+        return 7;
+    }
+    if has_unknown_node(sizes, step) {
+        return 8;
+    }
+    if client_is_unfit(mem, sizes, step) {
+        return 9;
+    }
+    0
+}

@@ -1,0 +1,140 @@
+// The write set stored at one server: "a written version becomes the one read plus 1, at home and, for a node inner before or
+// after, in every table".
+ghost use mathlib.Core.Path.{_≡_};
+ghost use mathlib.Core.Bool.{true};
+ghost use Prim.Native.Nat.{_/_, _≤_, _<_};
+ghost use lib.ListN.{length};
+ghost use Rattle.memory.specs.Word.{view};
+ghost use Rattle.layout.specs.Step.{Does, silent};
+ghost use Rattle.layout.specs.Part.{inPart};
+ghost use Rattle.server.specs.Layout as Srv;
+ghost use Rattle.server.specs.Object.{object-of, Has};
+ghost use Rattle.client.specs.declared.part.Set.the-variants.{Writes};
+ghost use Rattle.client.specs.Sets.{held, count};
+ghost use Rattle.steps.specs.Whole.{server as at-server, whole, block};
+ghost use Rattle.steps.specs.Judge.{versions-fit};
+ghost use Rattle.kinds.specs.Parts.{Holds, stored-in};
+ghost use Rattle.kinds.specs.Judge.{of-client};
+ghost use Rattle.kinds.specs.Fits.{Known};
+ghost use Rattle.kinds.specs.Writes.{write-nth, write-step, Storable, Writable, StoredNth, stores};
+use crate::items::first_slot;
+use crate::whole::client_at;
+use crate::whole::server_at;
+use client::items::inner_before_after;
+use client::items::is_home;
+use client::items::version_read;
+use client::part::Set;
+use client::part::count;
+use client::part::number_at;
+use client::part::record_at;
+use nodes::name::Name;
+use nodes::node::Node;
+use server::store::store_flag;
+use server::store::store_metadata;
+use server::store::store_node;
+use steps::sizes::Sizes;
+
+// A write by value: the object's number and record, the version read, and whether it is inner before or after.
+pub struct Write {
+    pub number: u64,
+    pub node: Node,
+    pub read: u64,
+    pub inner: bool,
+}
+
+// Item i of the write set.
+fn write_in(part: &[u8], i: usize) -> Write
+    requires { ⌜ (i < 48) × (7223 ≤ length (now part) / 8) ⌝ }
+    ensures { λ r. ⌜ r ≡ write-nth (held (now (part .entry))) i ⌝ }
+{
+    let number = number_at(part, Set::Writes, i);
+    let node = record_at(part, Set::Writes, i);
+    let read = version_read(part, number);
+    let inner = inner_before_after(part, number);
+    Write {
+        number,
+        node,
+        read,
+        inner,
+    }
+}
+
+fn write_at(mem: &[u8], sizes: Sizes, client: usize, i: usize) -> Write
+    requires { ⌜ Holds sizes (length (now mem)) × (client < sizes .clients) × (i < 48) ⌝ }
+    ensures { λ r. ⌜ r ≡ write-nth (of-client sizes (view (now (mem .entry))) client) i ⌝ }
+{
+    let at = 8 * client_at(sizes, client);
+    write_in(&mem[at..], i)
+}
+
+// How many objects a client has written.
+fn writes_of(mem: &[u8], sizes: Sizes, client: usize) -> usize
+    requires { ⌜ Holds sizes (length (now mem)) × (client < sizes .clients) ⌝ }
+    ensures { λ r. ⌜ r ≡ count (of-client sizes (view (now (mem .entry))) client) Writes ⌝ }
+    ensures within { λ r. ⌜ r ≤ 48 ⌝ }
+{
+    let at = 8 * client_at(sizes, client);
+    count(&mem[at..], Set::Writes)
+}
+
+// What a server stores of a write.
+fn store_write(part: &mut [u8], slots: usize, server: u64, write: Write)
+    requires { ⌜ (slots ≤ 1024) × Has slots (object-of (write .number)) × Storable write × (Srv.partWords slots ≤ length (now part) / 8) ⌝ }
+    ensures { λ _. ⌜ Does Srv.places (Srv.block slots) (write-step server write) silent (view (now (part .entry))) 0 (view (now (part .exit))) ⌝ }
+{
+    let number = write.number;
+    let first = first_slot(write.node);
+    if number == 0 {
+        store_metadata(part, slots, first, write.read);
+        return;
+    }
+    if number <= 8192 {
+        let name = Name { number: number - 1 };
+        store_node(
+            part,
+            slots,
+            server,
+            name,
+            write.node,
+            write.read,
+            write.inner,
+        );
+        return;
+    }
+    if is_home(server, number) {
+        let name = Name {
+            number: number - 8193,
+        };
+        store_flag(part, slots, name, first == 1);
+    }
+}
+
+fn store_at(mem: &mut [u8], sizes: Sizes, server: usize, write: Write)
+    requires { ⌜ Holds sizes (length (now mem)) × (server < sizes .servers) × Has (sizes .slots) (object-of (write .number)) × Storable write ⌝ }
+    ensures { λ _. ⌜ Does whole (block sizes) (inPart (at-server server) (write-step server write)) silent (view (now (mem .entry))) 0 (view (now (mem .exit))) ⌝ }
+{
+    let at = 8 * server_at(sizes, server);
+    store_write(&mut mem[at..], sizes.slots, server as u64, write);
+}
+
+fn store_nth(mem: &mut [u8], sizes: Sizes, client: usize, server: usize, i: usize)
+    requires { ⌜ Holds sizes (length (now mem)) × (client < sizes .clients) × (server < sizes .servers) × (i < 48) × Writable sizes (of-client sizes (view (now mem)) client) i ⌝ }
+    ensures { λ _. ⌜ StoredNth sizes client server i (view (now (mem .entry))) (view (now (mem .exit))) ⌝ }
+{
+    let write = write_at(mem, sizes, client, i);
+    store_at(mem, sizes, server, write);
+}
+
+// The write set's objects in order, at a server.
+pub fn store_all(mem: &mut [u8], sizes: Sizes, client: usize, server: usize)
+    requires { ⌜ Holds sizes (length (now mem)) × (client < sizes .clients) × (server < sizes .servers) × Known sizes (view (now mem)) client ⌝ }
+    requires fresh { ⌜ versions-fit sizes (stored-in sizes (view (now mem))) client ≡ true ⌝ }
+    ensures { λ _. ⌜ Does whole (block sizes) (stores sizes client server) silent (view (now (mem .entry))) 0 (view (now (mem .exit))) ⌝ }
+{
+    let n = writes_of(mem, sizes, client);
+    let mut i: usize = 0;
+    while i < n {
+        store_nth(mem, sizes, client, server, i);
+        i += 1;
+    }
+}
