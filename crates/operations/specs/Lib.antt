@@ -28,11 +28,12 @@ pub mod Tree
 -- THEOREMS
 -- the map's answer and a tree of the next map; no reason 3; a new store
 pub mod Sound
+-- where everything read can be stored, everything written can, and every question is about something of the store
+pub mod Storable
+pub mod Quiet
+pub mod Storing
 -- everything written was asked for
 pub mod Asked
--- and can be stored as what it is, where everything read can
-pub mod Storable
-pub mod Storing
 -- a compared operation has read a node that is not inner
 pub mod Outer
 -- the map is a function of the snapshot
@@ -50,9 +51,8 @@ pub mod Places
 pub mod Hit
 -- what a plan ensures on a snapshot, whatever the vectors say
 pub mod Ensures
--- what it ensures whatever is read; lookup, next and previous write nothing
+-- what it ensures whatever is read
 pub mod Along
-pub mod Quiet
 -- a held tree as a path round a hole
 pub mod Focus
 -- the fewest nodes of a tree: no root of level 5

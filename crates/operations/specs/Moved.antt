@@ -27,7 +27,7 @@ use Rattle.operations.specs.Slots.{Supply, take-node-ok, release-ok, tak
 use Rattle.operations.specs.Rise.{write-ok}
 use Rattle.operations.specs.Found.{leaf-tally, locate, level-mk, node-like, all-nodes, Met, met, stored-length}
 
-module _ (F : Terms) (sz : Sizes) (al : Allowed sz) (M : Obj → Val) (supply : Supply F M sz) (m : Map) (R : Rep M m) (s : ℕ) (server : s < 8) where
+module _ (F : Terms) (sz : Sizes) (al : Allowed sz) (M : Obj → Val) (supply : Supply F M sz) (m : Map) (R : Rep M m) (s : ℕ) (server : s < sz .servers) where
   -- the snapshot with the writes holds the same map
   abbrev pub Kept : Ans → Writes → Type 0
   Kept b w = Rep (over w M) m

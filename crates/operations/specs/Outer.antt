@@ -1,5 +1,5 @@
 -- A compared operation that answers has asked for a node that is not inner: the leaf.
-use mathlib.Core.Path.{_≡_, refl, ap, _∙_}
+use mathlib.Core.Path.{_≡_, refl, ap, _∙_, subst}
 use mathlib.Core.Bool.{Bool, true, false, false≢true}
 use mathlib.Core.List.{List, [], _∷_}
 use Prim.Native.Nat.{ℕ, zero, suc}
@@ -8,24 +8,25 @@ use native.Mathlib.Omega.{arith}
 use lib.ListN.{length}
 use Rattle.base.specs.Test.{ifd, ifd-all}
 use Rattle.plans.specs.Plan as P
-use Rattle.operations.specs.Object.{Obj, node, Ask, object, Val, root, body, taken, flags, no-tree, inner, inner-node, Ans, Writes}
+use Rattle.plans.specs.Walk as W
+use Rattle.operations.specs.Object.{node, Ask, object, Val, root, body, taken, flags, no-tree, inner, inner-node, Ans, Writes}
 use Rattle.operations.specs.Map.{Op, insert, lookup, delete, next, previous, migrate, compared}
 use Rattle.operations.specs.Entry.{Entries, mn, cut}
 use Rattle.operations.specs.Path.{Plan, open-node, kid, when-root, Branch, Cont, to-leaf, down, at-root, from-root}
 use Rattle.operations.specs.Slot.{Sizes}
 use Rattle.operations.specs.Operation.{reading, plan}
-use Rattle.operations.specs.Along.{Along, along-exec, along-any, along-checked}
+use Rattle.operations.specs.Along.{Along, Ended, along-exec, along-any, along-checked}
 
 -- G follows from a node read that is not inner
-module _ (G : Type 0) (A : Obj → Val → Type 0) (out : (n : ℕ) (v : Val) → A (node n) v → inner-node v ≡ false → G) where
+module _ (G : Type 0) (A : Ask → Val → Type 0) (out : (n : ℕ) (v : Val) → A (object (node n)) v → inner-node v ≡ false → G) where
   abbrev Outer : Plan → Type 0
-  Outer p = Along A (λ a w. G) p
+  Outer p = Along (λ q. Unit {0}) A (λ a w. G) p
 
   -- at level 0 it has been read
   abbrev Seen : ℕ → Type 0
   Seen l = l ≡ 0 → G
 
-  open-outer : (from n : ℕ) (v : Val) (k : ℕ → Entries → Plan) → A (node n) v → ((l : ℕ) (es : Entries) → Seen l → Outer (k l es)) → Outer (open-node from v k)
+  open-outer : (from n : ℕ) (v : Val) (k : ℕ → Entries → Plan) → A (object (node n)) v → ((l : ℕ) (es : Entries) → Seen l → Outer (k l es)) → Outer (open-node from v k)
   open-outer from n (root r) k a h = tt
   open-outer from n (taken b) k a h = tt
   open-outer from n (flags fs) k a h = tt
@@ -38,13 +39,15 @@ module _ (G : Type 0) (A : Obj → Val → Type 0) (out : (n : ℕ) (v : Val) �
 
   kid-outer : (l from n : ℕ) (k : Entries → Plan) → ((es : Entries) → Seen l → Outer (k es)) → Outer (kid [] l from n k)
   kid-outer l from n k h =
-      let size : Entries → Plan = λ es. ifd (decLe (mn l) (length es)) (k es) (P.fail no-tree) in
-      λ v a. open-outer from n v (λ j es. ifd (ℕ-discrete j l) (size es) (P.fail no-tree)) a (λ j es s.
-      ifd-all (ℕ-discrete j l) (size es) (P.fail no-tree) Outer
-      (λ q. ifd-all (decLe (mn l) (length es)) (k es) (P.fail no-tree) Outer (λ _. h es (λ z. s (q ∙ z))) (λ _. tt)) (λ _. tt))
+      let size : Entries → Plan = λ es. ifd (decLe (mn l) (length es)) (k es) (P.fail no-tree) in (
+        tt,
+        λ v a. open-outer from n v (λ j es. ifd (ℕ-discrete j l) (size es) (P.fail no-tree)) a (λ j es s.
+            ifd-all (ℕ-discrete j l) (size es) (P.fail no-tree) Outer
+            (λ q. ifd-all (decLe (mn l) (length es)) (k es) (P.fail no-tree) Outer (λ _. h es (λ z. s (q ∙ z))) (λ _. tt)) (λ _. tt)),
+      )
 
   down-outer : (key : ℕ) (k : Cont) (l : ℕ) (fs : List Branch) (n : ℕ) (es : Entries) → Seen l → Outer (down to-leaf key k l fs n es)
-  down-outer key k zero fs n es h = along-any A (λ a w. G) (λ a w. h refl) (k zero fs n es)
+  down-outer key k zero fs n es h = along-any (λ q. Unit {0}) A (λ a w. G) (λ q. tt) (λ a w. h refl) (k zero fs n es)
   down-outer key k (suc l) fs n [] h = tt
   down-outer key k (suc l) fs n (e ∷ es) h =
       let c = cut key e es in
@@ -52,13 +55,13 @@ module _ (G : Type 0) (A : Obj → Val → Type 0) (out : (n : ℕ) (v : Val) �
       kid-outer l (c .1 .0) (c .1 .1) (λ gs. down to-leaf key k l (f ∷ fs) (c .1 .1) gs) (λ gs s. down-outer key k l (f ∷ fs) (c .1 .1) gs s)
 
   root-outer : (key : ℕ) (k : List Branch → ℕ → Entries → Plan) → Outer (from-root key k)
-  root-outer key k = λ v _. go v
+  root-outer key k = (tt, λ v _. go v)
     where
       on : ℕ → ℕ → Entries → Plan
       on r l es = down to-leaf key (λ _ fs n es. k fs n es) l [] r es
 
       go : (v : Val) → Outer (when-root v (λ r. at-root r (on r)))
-      go (root r) = λ u a. open-outer 0 r u (on r) a (λ l es s. down-outer key (λ _ fs n es. k fs n es) l [] r es s)
+      go (root r) = (tt, λ u a. open-outer 0 r u (on r) a (λ l es s. down-outer key (λ _ fs n es. k fs n es) l [] r es s))
       go (body j l ks vs) = tt
       go (taken b) = tt
       go (flags fs) = tt
@@ -76,6 +79,8 @@ pub asks-outer : (sz : Sizes) (op : Op) (rd : Ask → Bool) (S : Ask → Val) (a
     → (n : ℕ) × (rd (object (node n)) ≡ true) × (inner (node n) (S (object (node n))) ≡ false)
 asks-outer sz op rd S a w c g e =
     let G : Type 0 = (n : ℕ) × (rd (object (node n)) ≡ true) × (inner (node n) (S (object (node n))) ≡ false) in
-    let A : Obj → Val → Type 0 = λ o v. (rd (object o) ≡ true) × (S (object o) ≡ v) in
-    along-exec A (λ a w. G) rd S (λ o q. (q, refl)) (plan sz op) a w
-    (along-checked A (λ a w. G) (reading sz op) (reading-outer G A (λ n v a i. (n, a .0, ap inner-node (a .1) ∙ i)) sz op c)) g e
+    let I : Ask → Type 0 = λ q. Unit {0} in
+    let A : Ask → Val → Type 0 = λ q v. (rd q ≡ true) × (S q ≡ v) in
+    let Q : Ans → Writes → Type 0 = λ a w. G in
+    let h = along-checked I A Q (reading sz op) (reading-outer G A (λ n v a i. (n, a .0, ap inner-node (a .1) ∙ i)) sz op c) in
+    subst (λ r. Ended I A Q (W.ends r)) e (along-exec I A Q rd S (λ q h. (h, refl)) (plan sz op) h g)

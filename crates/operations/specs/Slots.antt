@@ -11,7 +11,6 @@ use native.Mathlib.Omega.{arith}
 use lib.ListN.{length, take, drop, getD, set, length-drop, length-set}
 use lib.Seq.{getD-drop, getD-take, getD-set-same, getD-set-other}
 use Rattle.base.specs.Test.{ifd, ifd-all, yes?}
-use Rattle.plans.specs.Plan as P
 use Rattle.plans.specs.Walk.{Every}
 use Rattle.nodes.specs.Name.{name, server-of, slot-of}
 use Rattle.nodes.specs.Placement.{row}
@@ -23,7 +22,7 @@ use Rattle.operations.specs.Ensures.{Terms, Ok, see-ok}
 use Rattle.operations.specs.Tree.{room, room-is, Mark}
 
 -- P holds of the index, if there is one
-abbrev Each : (ℕ → Type 0) → Option ℕ → Type 0
+abbrev pub Each : (ℕ → Type 0) → Option ℕ → Type 0
 Each P none = Unit {0}
 Each P (some i) = P i
 
@@ -40,7 +39,7 @@ each-else P none y h g = g
 each-else P (some x) y h g = h
 
 -- the slot is in the vector, and free there
-abbrev Open : List Bool → ℕ → Type 0
+abbrev pub Open : List Bool → ℕ → Type 0
 Open fs i = (i < length fs) × (getD fs i true ≡ false)
 
 open-lowest : (fs : List Bool) → Each (Open fs) (lowest fs)
@@ -67,12 +66,12 @@ take-longer zero l = omega arith
 take-longer (suc n) [] = omega arith
 take-longer (suc n) (x ∷ l) = omega (arith, take-longer n l)
 
-open-slot : (sz : Sizes) → Allowed sz → (w : Writes) (slot s : ℕ) (v : Val) → Each (λ i. (i < 1024) × Open (counted w s (flags-of v)) i) (free-slot sz w slot s v)
-open-slot sz al w slot s v =
+pub open-slot : (sz : Sizes) (w : Writes) (slot s : ℕ) (v : Val) → Each (λ i. (i < sz .slots) × Open (counted w s (flags-of v)) i) (free-slot sz w slot s v)
+open-slot sz w slot s v =
     let n = sz .slots in
     let fs = counted w s (flags-of v) in
-    each-map (Open (take n fs)) (λ i. (i < 1024) × Open fs i)
-    (λ i h. let a : i < n = omega (arith, h .0, take-short n fs) in (omega (arith, a, al .1), (omega (arith, h .0, take-longer n fs), sym (getD-take n fs i true a) ∙ h .1)))
+    each-map (Open (take n fs)) (λ i. (i < n) × Open fs i)
+    (λ i h. let a : i < n = omega (arith, h .0, take-short n fs) in (a, (omega (arith, h .0, take-longer n fs), sym (getD-take n fs i true a) ∙ h .1)))
     (first-free slot (take n fs)) (open-first slot (take n fs))
 
 -- VECTORS THAT SHOW THE FLAGS of a snapshot
@@ -116,11 +115,11 @@ counted-true M (e ∷ w) s fs h = go (e .0) (counted-true M w s fs h)
     go (node n) t = t
     go (flag n) t = λ i small. by n i small t (ℕ-discrete (server-of n) s) (ℕ-discrete (name s i) n)
 
--- the servers that are there are below 8
-present-below : (n : ℕ) → n ≤ 8 → (ss : List ℕ) → Every (λ s. s < 8) (present n ss)
+-- the servers that are there
+pub present-below : (n : ℕ) (ss : List ℕ) → Every (λ s. s < n) (present n ss)
 unfolding Every
-present-below n h [] = tt
-present-below n h (s ∷ ss) = ifd-all (decLt s n) (s ∷ present n ss) (present n ss) (Every (λ s. s < 8)) (λ i. (omega (arith, i, h), present-below n h ss)) (λ _. present-below n h ss)
+present-below n [] = tt
+present-below n (s ∷ ss) = ifd-all (decLt s n) (s ∷ present n ss) (present n ss) (Every (λ s. s < n)) (λ i. (i, present-below n ss)) (λ _. present-below n ss)
 
 module _ (F : Terms) (Q : Ans → Writes → Type 0) (M : Obj → Val) where
   pub take-node-ok : (w : Writes) (d : ℕ) (k : Plan) → over w M (node d) ≡ free → Ok F Q M k → Ok F Q M (take-node w d k)
@@ -156,14 +155,16 @@ module _ (F : Terms) (Q : Ans → Writes → Type 0) (M : Obj → Val) (sz : Siz
   abbrev Follows : Writes → (ℕ → Plan) → Type 0
   Follows w k = (d : ℕ) → d < room → Free-or w d → Ok F Q M (k d)
 
-  chosen-ok : (w : Writes) (slot s : ℕ) (v : Val) (k : ℕ → Plan) (p : Plan) → s < 8 → F .shows s v → Follows w k → Ok F Q M p → Ok F Q M (chosen s (free-slot sz w slot s v) k p)
-  chosen-ok w slot s v k p i t h g = go (free-slot sz w slot s v) (open-slot sz al w slot s v)
+  chosen-ok : (w : Writes) (slot s : ℕ) (v : Val) (k : ℕ → Plan) (p : Plan) → s < sz .servers → F .shows s v → Follows w k → Ok F Q M p
+      → Ok F Q M (chosen s (free-slot sz w slot s v) k p)
+  chosen-ok w slot s v k p i t h g = go (free-slot sz w slot s v) (open-slot sz w slot s v)
     where
-      go : (o : Option ℕ) → Each (λ j. (j < 1024) × Open (counted w s (flags-of v)) j) o → Ok F Q M (chosen s o k p)
+      go : (o : Option ℕ) → Each (λ j. (j < sz .slots) × Open (counted w s (flags-of v)) j) o → Ok F Q M (chosen s o k p)
       go none u = g
-      go (some j) u = h (name s j) (omega (arith, i, u .0, room-is)) (supply .chosen-free w s j v t (u .0) (u .1))
+      go (some j) u =
+          let small : j < 1024 = omega (arith, u .0, al .1) in h (name s j) (omega (arith, i, al .0, small, room-is)) (supply .chosen-free w s j v t small (u .1))
 
-  search-ok : (w : Writes) (slot : ℕ) (ss : List ℕ) (k : ℕ → Plan) → Every (λ s. s < 8) ss → Follows w k → Ok F Q M (search sz w slot ss k)
+  search-ok : (w : Writes) (slot : ℕ) (ss : List ℕ) (k : ℕ → Plan) → Every (λ s. s < sz .servers) ss → Follows w k → Ok F Q M (search sz w slot ss k)
   unfolding Every
   search-ok w slot [] k i h = supply .none-left
   search-ok w slot (s ∷ ss) k i h = λ v t. chosen-ok w slot s v k _ (i .0) t h (λ u t. chosen-ok w slot s u k _ (i .0) t h (search-ok w slot ss k (i .1) h))
@@ -175,17 +176,17 @@ module _ (F : Terms) (Q : Ans → Writes → Type 0) (M : Obj → Val) (sz : Siz
   abbrev Marked : Writes → (ℕ → ℕ) → Type 0
   Marked w t = (x : ℕ) → Mark (over w M (flag x)) (over w M (node x)) (t x)
 
-  take-on-ok : (ss : List ℕ) (slot : ℕ) (w : Writes) (k : ℕ → Writes → Plan) (t : ℕ → ℕ) → Every (λ s. s < 8) ss → Marked w t → Takes w k
+  take-on-ok : (ss : List ℕ) (slot : ℕ) (w : Writes) (k : ℕ → Writes → Plan) (t : ℕ → ℕ) → Every (λ s. s < sz .servers) ss → Marked w t → Takes w k
       → Ok F Q M (take-on sz ss slot w k)
   take-on-ok ss slot w k t i g h =
       search-ok w slot ss (λ d. take-flag w d (λ w′. k d w′)) i (λ d sm u. take-flag-ok w d (t d) (λ w′. k d w′) (g d) u (h d sm))
 
   -- on one server
-  pub take-at-ok : (s slot : ℕ) (w : Writes) (k : ℕ → Writes → Plan) (t : ℕ → ℕ) → s < 8 → Marked w t → Takes w k → Ok F Q M (take-on sz (s ∷ []) slot w k)
+  pub take-at-ok : (s slot : ℕ) (w : Writes) (k : ℕ → Writes → Plan) (t : ℕ → ℕ) → s < sz .servers → Marked w t → Takes w k → Ok F Q M (take-on sz (s ∷ []) slot w k)
   unfolding Every
   take-at-ok s slot w k t i g h = take-on-ok (s ∷ []) slot w k t (i, tt) g h
 
   pub take-for-ok : (n : ℕ) (w : Writes) (k : ℕ → Writes → Plan) (t : ℕ → ℕ) → Marked w t → Takes w k → Ok F Q M (take-for sz n w k)
   take-for-ok n w k t g h =
       let ss = row (server-of n) in
-      take-on-ok (present (sz .servers) ss) (slot-of n) w k t (present-below (sz .servers) (al .0) ss) g h
+      take-on-ok (present (sz .servers) ss) (slot-of n) w k t (present-below (sz .servers) ss) g h

@@ -36,7 +36,7 @@ module _ (sz : Sizes) (al : Allowed sz) where
     reading-ok (next k) i = ok-mono F _ (Right (next k) M m) M (λ a w q. (λ _. q .0, q .1)) (reading sz (next k)) (next-ok F M m k i R)
     reading-ok (previous k) i = ok-mono F _ (Right (previous k) M m) M (λ a w q. (λ _. q .0, q .1)) (reading sz (previous k)) (previous-ok F M m k i R)
     reading-ok (migrate n s) i = ok-mono F _ (Right (migrate n s) M m) M (λ a w q. (λ c. absurd (false≢true c), q)) (reading sz (migrate n s))
-        (migrate-ok F sz al M supply m R s (omega (arith, i, al .0)) n)
+        (migrate-ok F sz al M supply m R s i n)
 
     plan-ok : (op : Op) → Legal sz op → Ok F (Right op M m) M (plan sz op)
     plan-ok op i = checked-ok F (Right op M m) M (λ a w q. all-fit-rep M (map-after op m) w (q .1)) (reading sz op) (reading-ok op i)

@@ -31,7 +31,8 @@ use Rattle.client.specs.Commit.{is-at}
 use Rattle.client.specs.Items.{has}
 use Rattle.client.specs.Fits.{client-fits}
 use Rattle.client.specs.FitsLaws.{fits-field}
-use Rattle.client.specs.Have.{have, broken}
+use Rattle.client.specs.Record.{number}
+use Rattle.client.specs.Have.{source, have, broken}
 use Rattle.client.specs.Run as Run
 use Rattle.client.specs.Work as Work
 use Rattle.client.specs.Work.{new, waiting, walked, worked}
@@ -45,7 +46,7 @@ use Rattle.schedule.specs.AtHand.{had, have-there}
 use Rattle.schedule.specs.Ran.{Follows, all-used, run-follows}
 use Rattle.schedule.specs.Entered.{found-written}
 use Rattle.schedule.specs.Used.{copies-stay, after-used, Entering, copies-used}
-use Rattle.schedule.specs.Records.{have-storable}
+use Rattle.schedule.specs.Records.{Any, points-any, op-names, have-storable}
 use Rattle.schedule.specs.Latest.{by-writes, entered-last, entered-whole, All-inside}
 use Rattle.schedule.specs.Rewritten.{write-of, Rewritten, fewer-new, all-entered}
 use Rattle.schedule.specs.Overwritten.{slot-written}
@@ -164,8 +165,10 @@ module _ (k j slots : ℕ) (al : Allowed (sizes k j slots)) (u : ClientWord → 
       (h .0, h .1 ∙ ap (objects (hint-of hint)) uses)
 
   -- ---- the writes: each can be stored, and is of an object in the store
-  pub storable : All-storable w
-  storable = writes-storable z (waiting u) (have z u) (have-storable k j slots al u f copies fit y shown) a w (ran .0)
+  pub storable : All-storable Any w
+  storable =
+      writes-storable Any z (λ s i _ _. tt) (waiting u) (op-names Any z (λ n _. tt) u fit) (have z u)
+      (have-storable k j slots al u f copies fit y shown Any (λ o v _. points-any o (source u (number o) .node))) a w (ran .0)
 
   written-in : (o : Obj) → written w o ≡ true → In-store k j slots o
   unfolding is-had

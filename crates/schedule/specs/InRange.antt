@@ -68,7 +68,7 @@ module _ (z : Sizes) (u : ClientWord → ℕ) (fit : client-fits z u ≡ true) w
   items m s = all-of (item-fits z m s) (count m s)
 
   -- what is judged
-  judged : (op-fits z u ≡ true) × (items u Reads ≡ true) × (items u Writes ≡ true) × (all-of (vector-fits u) 8 ≡ true)
+  pub judged : (op-fits z u ≡ true) × (items u Reads ≡ true) × (items u Writes ≡ true) × (all-of (vector-fits u) 8 ≡ true)
   unfolding client-fits
   judged =
       let vectors = all-of (vector-fits u) 8 in

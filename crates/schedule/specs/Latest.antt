@@ -19,7 +19,7 @@ use Rattle.client.specs.Answered.{put-entry, entered}
 use Rattle.schedule.specs.Store.{sizes}
 use Rattle.schedule.specs.Numbers.{obj-of, obj-number}
 use Rattle.schedule.specs.Shows.{In-store}
-use Rattle.schedule.specs.Records.{read-back, record-whole}
+use Rattle.schedule.specs.Records.{Any, read-back, record-whole}
 
 -- what is written under the number q: by one entry, else d
 abbrev pub with-entry : Entry → ℕ → Option Node → Option Node
@@ -129,10 +129,10 @@ put-whole e (f ∷ l) s h = go (eqb (f .0) (e .0)) (put-whole e l s (h .1))
     go true rec = (s, h .1)
     go false rec = (h .0, rec)
 
-pub entered-whole : (w : Writes) → All-storable w → All-whole (entered w)
+pub entered-whole : (w : Writes) → All-storable Any w → All-whole (entered w)
 unfolding entered
 entered-whole [] h = tt
-entered-whole (e ∷ w) h = put-whole (entry-of e) (entered w) (record-whole (e .0) (e .1) (h .0)) (entered-whole w (h .1))
+entered-whole (e ∷ w) h = put-whole (entry-of e) (entered w) (record-whole Any (e .0) (e .1) (h .1)) (entered-whole w (h .2))
 
 -- ---- as the machine has it
 abbrev pub is-there : Option Node → Bool
@@ -168,16 +168,16 @@ module _ (k j slots : ℕ) (al : Allowed (sizes k j slots)) where
         go true rec = refl
         go false rec = rec
 
-    pub last-value : (w : Writes) → All-storable w → All-inside w → (a : Val) (d : Option Node)
+    pub last-value : (w : Writes) → All-storable Any w → All-inside w → (a : Val) (d : Option Node)
         → value-in o a (by-writes w (number o) d) ≡ latest Obj-discrete w o (value-in o a d)
     unfolding by-writes latest
     last-value [] s g a d = refl
     last-value (e ∷ w) s g a d =
         let x = Obj-discrete o (e .0) in
         ap (λ (b : Bool). value-in o a (cond b (some (record-of 0 (e .1))) (by-writes w (number o) d))) (same-number o (e .0) h (g .0) x)
-        ∙ go x (last-value w (s .1) (g .1) a d)
+        ∙ go x (last-value w (s .2) (g .1) a d)
       where
         go : (x : Dec (o ≡ e .0)) → value-in o a (by-writes w (number o) d) ≡ latest Obj-discrete w o (value-in o a d)
             → value-in o a (cond (yes? x) (some (record-of 0 (e .1))) (by-writes w (number o) d)) ≡ ifd x (e .1) (latest Obj-discrete w o (value-in o a d))
-        go (yes p) rec = read-back o (e .1) (subst (λ q. Storable q (e .1)) (sym p) (s .0))
+        go (yes p) rec = read-back Any o (e .1) (subst (λ q. Storable Any q (e .1)) (sym p) (s .1))
         go (no n) rec = rec

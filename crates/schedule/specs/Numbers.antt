@@ -3,10 +3,10 @@ use mathlib.Core.Path.{_≡_, refl, sym, _∙_}
 use mathlib.Core.Bool.{Bool, true, false, cond}
 use Prim.Native.Nat.{ℕ, _+_, _-_, _/_, _<_}
 use native.Mathlib.Omega.{arith}
-use borrow.Author.Tests.{ltb-true, leb-false, eqb-true, eqb-false, le-leb, lt-leb, ne-eqb}
+use borrow.Author.Tests.{ltb-true, lt-ltb, leb-false, eqb-true, eqb-false, le-leb, lt-leb, ne-eqb}
 use lib.Dec.{eqb, leb, ltb}
 use Rattle.base.specs.Test.{and-both}
-use Rattle.nodes.specs.Name.{server-of, slot-of}
+use Rattle.nodes.specs.Name.{name, server-of, slot-of}
 use Rattle.nodes.specs.declared.node.Node.{Node}
 use Rattle.operations.specs.Object.{Obj, meta, node, flag, inner}
 use Rattle.operations.specs.Slot.{Sizes, Allowed}
@@ -69,6 +69,14 @@ module _ (z : Sizes) (al : Allowed z) where
   name-lt n h =
       let s : n / 1024 < z .servers = ltb-true (server-of n) (z .servers) (and-both (ltb (server-of n) (z .servers)) (ltb (slot-of n) (z .slots)) h .0) in
       omega (arith, s, al .0)
+
+  -- every slot has a name
+  pub slot-named : (s i : ℕ) → s < z .servers → i < z .slots → in-store z (name s i) ≡ true
+  unfolding in-store
+  slot-named s i h g =
+      let p : server-of (name s i) ≡ s = omega (arith, al .1) in
+      let q : slot-of (name s i) ≡ i = omega (arith, al .1) in
+      rw (p, q, lt-ltb s (z .servers) h, lt-ltb i (z .slots) g)
 
   pub by-number-of : {A : Type 0} (o : Obj) → object-in-store z o ≡ true → (a : A) (f g : ℕ → A) → by-number (number o) a f g ≡ by-object o a f g
   by-number-of meta h a f g = refl

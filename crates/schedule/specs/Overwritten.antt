@@ -25,6 +25,7 @@ use Rattle.schedule.specs.Shows.{T, In-store, new-value, item-from, item
 use Rattle.schedule.specs.Slots.{find-frame, record-frame}
 use Rattle.schedule.specs.Behind.{field-same, set-same}
 use Rattle.schedule.specs.Entered.{slot-with}
+use Rattle.schedule.specs.Records.{Any}
 use Rattle.schedule.specs.Latest.{by-writes, is-there, value-in, All-inside, last-there, last-value}
 use Rattle.schedule.specs.Rewritten.{written-at, write-of, has-write, Rewritten}
 
@@ -44,7 +45,7 @@ new-write k j slots u o a = go (find u set.Writes (number o))
     go (At i) = refl
     go Absent = refl
 
-module _ (k j slots : ℕ) (al : Allowed (sizes k j slots)) (u v : ClientWord → ℕ) (w : Writes) (R : Rewritten u v (by-writes w)) (kept : All-storable w)
+module _ (k j slots : ℕ) (al : Allowed (sizes k j slots)) (u v : ClientWord → ℕ) (w : Writes) (R : Rewritten u v (by-writes w)) (kept : All-storable Any w)
     (within : All-inside k j slots al w) (y : P.Slot (T k j slots)) (S : Slot-shown k j slots u y) where
   abbrev wrote : P.Item (T k j slots) → P.Item (T k j slots)
   wrote = Mv.wrote (T k j slots) w
