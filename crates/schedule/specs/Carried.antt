@@ -19,12 +19,12 @@ use Rattle.kinds.specs.Parts.{Holds, head-sizes, stored-in}
 use Rattle.kinds.specs.Refusal.{none-holds}
 use Rattle.engine.specs.Open.{first-stores, new-words, words-opened, new-store}
 use Rattle.engine.specs.Step.{outcome-of, words-after}
-use Rattle.schedule.specs.Ledger.{Ledger, blank, note}
-use Rattle.schedule.specs.Demand as D
-use Rattle.schedule.specs.Demand.{All-words, Demand, Course, course, course-of, next}
-use Rattle.schedule.specs.Inside.{step-lies}
-use Rattle.schedule.specs.Opened.{opened-head}
-use Rattle.schedule.specs.Theorem.{demand-3}
+use Rattle.demand.specs.Ledger.{Ledger, blank, note}
+use Rattle.demand.specs.Demand as D
+use Rattle.demand.specs.Demand.{All-words, Demand, Course, course, course-of, next}
+use Rattle.demand.specs.Inside.{step-lies}
+use Rattle.demand.specs.Opened.{opened-head}
+use Rattle.demand.specs.Theorem.{demand-3}
 use Rattle.schedule.specs.Listed.{words-run, outcomes-run}
 
 -- memory of n bytes with the words that `open` leaves for the sizes z; `before` are the words that it was lent

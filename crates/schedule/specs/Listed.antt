@@ -14,7 +14,7 @@ use Rattle.steps.specs.declared.outcome.Outcome.{Outcome}
 use Rattle.steps.specs.declared.outcome.Line.{Line}
 use Rattle.steps.specs.Outcome.{line}
 use Rattle.engine.specs.Step.{outcome-of, words-after}
-use Rattle.schedule.specs.Demand.{Words, All-words}
+use Rattle.demand.specs.Demand.{Words, All-words}
 
 -- what stands past the end of a list of steps
 abbrev pub no-step : Step

@@ -55,7 +55,7 @@ use Rattle.memory.specs.Word.{view}
 use Rattle.steps.specs.declared.step.Step.{Step}
 use Rattle.steps.specs.Outcome.{line}
 use Rattle.engine.specs.Step.{outcome-of, words-after}
-use Rattle.schedule.specs.Demand.{Words, All-words}
+use Rattle.demand.specs.Demand.{Words, All-words}
 use Rattle.schedule.specs.Listed.{no-step, words-run, outcomes-run, noted, lines, all-words, words-next, word-below}
 use Rattle.schedule.specs.Carried.{Demanded, carried}
 use Rattle.steps.proofs.step.Step as T

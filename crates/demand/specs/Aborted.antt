@@ -1,0 +1,279 @@
+-- ABORT and LOSS: "An abort unlocks everywhere and drops copies of all objects read"; "loss drops all copies".
+use mathlib.Core.Path.{_≡_, refl, ap, sym, _∙_, subst}
+use mathlib.Core.Bool.{Bool, true, false, cond, _&&_, not, true≢false}
+use mathlib.Core.List.{List, []}
+use mathlib.Core.Logic.{_⊎_, inl, inr}
+use Prim.Native.Nat.{ℕ, zero, suc, _≤_, _<_, Fin}
+use native.Mathlib.Omega.{arith}
+use native.Mathlib.Decide.{ℕ-discrete, Fin-discrete}
+use Rattle.base.specs.Update.{upd-same, upd-other}
+use Rattle.memory.specs.Bit.{bit, zero-bit}
+use Rattle.layout.specs.Space.{Put, changed}
+use Rattle.layout.specs.Step.{andThen, changed-append}
+use Rattle.layout.specs.Part.{over}
+use Rattle.nodes.specs.declared.found.Found.{Found}
+use Rattle.nodes.specs.declared.found.Found.the-variants.{At, Absent}
+use Rattle.operations.specs.Object.{Obj}
+use Rattle.operations.specs.Slot.{Allowed}
+use Rattle.protocol.specs.State.{idle, is-decided}
+use Rattle.protocol.specs.Machine as P
+use Rattle.protocol.specs.Moves as Mv
+use Rattle.server.specs.declared.place.Place.{Place}
+use Rattle.server.specs.Layout.{places}
+use Rattle.server.specs.Object.{object-of, lock-of}
+use Rattle.server.specs.Lock.{unlocked}
+use Rattle.server.specs.Store.{unlock-step}
+use Rattle.client.specs.declared.part.Set.the-variants.{Reads}
+use Rattle.client.specs.Layout.{ClientWord, client-words, phase, prepared, applied}
+use Rattle.client.specs.Record.{number}
+use Rattle.client.specs.Sets.{count, number-at, find}
+use Rattle.client.specs.Fits.{client-fits}
+use Rattle.client.specs.Drops.{drop-used}
+use Rattle.client.specs.Life.{reset}
+use Rattle.steps.specs.declared.sizes.Sizes.{Sizes}
+use Rattle.steps.specs.Whole.{Address, server, client, whole}
+use Rattle.steps.specs.Uses as U
+use Rattle.steps.specs.Judge.{lowest}
+use Rattle.steps.specs.Steps.{unlock-each, at-servers, unlocked-everywhere, aborting}
+use Rattle.demand.specs.Ledger.{Ledger, starts}
+use Rattle.demand.specs.Store.{sizes}
+use Rattle.steps.specs.Stores.{client-of, server-of, client-changed, client-else, client-servers, server-changed, server-else, server-clients}
+use Rattle.demand.specs.Numbers.{object-number}
+use Rattle.demand.specs.Shows.{phase-of, T, In-store, Recorded, lock-kept, Slot-shown, Server-shown, Client-shown, Related}
+use Rattle.demand.specs.Locking.{after, swept-other, here, lk, lock-place, none-swept, one-swept, not-swept}
+use Rattle.demand.specs.Recorded.{drop-kept, drop-recorded}
+use Rattle.demand.specs.Servers.{is-lock, not-a-lock, value-frame, version-frame, table-frame}
+use Rattle.demand.specs.Dropped.{fewer, fewer-copies, only-used}
+use Rattle.demand.specs.Kept.{away, related, cleared, cleared-shown}
+
+-- an open transaction and one that commits are undecided
+first-phases : (is-decided (phase-of 1) ≡ false) × (is-decided (phase-of 2) ≡ false)
+unfolding phase-of
+first-phases = (refl, refl)
+
+-- ---- one server's locks
+module _ (k j slots : ℕ) (al : Allowed (sizes k j slots)) (few : suc j ≤ 16) (c : Fin (suc j)) (u : ClientWord → ℕ) (fit : client-fits (sizes k j slots) u ≡ true)
+    (y : P.Slot (T k j slots)) (shown : Slot-shown k j slots u y) (s : Fin (suc k)) (low : ℕ) (el : y .lowest .0 ≡ low) (p : Place → ℕ) where
+  F : ℕ → ℕ → ℕ
+  F i w = unlocked (c .0) w
+
+  abbrev p′ : Place → ℕ
+  p′ = changed places p (unlock-each u (c .0) low (s .0) p)
+
+  swept-is : p′ ≡ after (here k j slots al u fit y shown s low el p) (lk k j slots al u fit y shown s low el p) F p (count u Reads)
+  unfolding F unlock-step count number-at U.item-of
+  swept-is = refl
+
+  pub unlock-stays : (a : Place) → is-lock a ≡ false → p′ a ≡ p a
+  unlock-stays a h =
+      ap (λ (f : Place → ℕ). f a) swept-is
+      ∙ swept-other (here k j slots al u fit y shown s low el p) (lk k j slots al u fit y shown s low el p) F p (count u Reads) a
+      (λ i _ _ e. not-a-lock a (object-of (number-at u Reads i)) h e)
+
+  pub unlock-recorded : (o : Obj) (hi : In-store k j slots o) → lock-kept k j slots p s o ≡ true → (l : P.Lock (T k j slots))
+      → Recorded k j slots l (p (lock-of (object-of (number o)))) → Recorded k j slots (Mv.drop (T k j slots) c l) (p′ (lock-of (object-of (number o))))
+  unfolding F
+  unlock-recorded o hi kept l h =
+      subst (Recorded k j slots (Mv.drop (T k j slots) c l))
+      (sym (ap (λ (f : Place → ℕ). f (lock-of (object-of (number o)))) swept-is
+      ∙ ap (λ (x : _). after (here k j slots al u fit y shown s low el p) (lk k j slots al u fit y shown s low el p) F p (count u Reads) (lock-of x)) (object-number (sizes k j slots) al o hi)))
+      (by (find u Reads (number o)) refl)
+    where
+      W : ℕ
+      W = after (here k j slots al u fit y shown s low el p) (lk k j slots al u fit y shown s low el p) F p (count u Reads) (lock-place k j slots al o)
+
+      old : Recorded k j slots l (p (lock-place k j slots al o))
+      old = subst (λ (x : _). Recorded k j slots l (p (lock-of x))) (object-number (sizes k j slots) al o hi) h
+
+      by : (f : Found) → find u Reads (number o) ≡ f → Recorded k j slots (Mv.drop (T k j slots) c l) W
+      by Absent e =
+          subst (Recorded k j slots (Mv.drop (T k j slots) c l)) (sym (none-swept k j slots al u fit y shown s low el p F o hi kept e))
+          (drop-kept k j slots few c l (p (lock-place k j slots al o)) old)
+      by (At i) e = here? (here k j slots al u fit y shown s low el p i) refl
+        where
+          here? : (b : Bool) → here k j slots al u fit y shown s low el p i ≡ b → Recorded k j slots (Mv.drop (T k j slots) c l) W
+          here? true b =
+              subst (Recorded k j slots (Mv.drop (T k j slots) c l)) (sym (one-swept k j slots al u fit y shown s low el p F o hi kept i e b))
+              (drop-recorded k j slots few c l (p (lock-place k j slots al o)) old)
+          here? false b =
+              subst (Recorded k j slots (Mv.drop (T k j slots) c l)) (sym (not-swept k j slots al u fit y shown s low el p F o hi kept i e b))
+              (drop-kept k j slots few c l (p (lock-place k j slots al o)) old)
+
+-- ---- stores at every server
+module _ (m : Address → ℕ) (f : ℕ → List (Put Address)) (qs : ℕ → List (Put Place)) (e : (t : ℕ) → f t ≡ over (server t) (qs t)) where
+  abbrev m₁ : ℕ → Address → ℕ
+  m₁ n = changed whole m (at-servers n f)
+
+  step : (n : ℕ) → m₁ (suc n) ≡ changed whole (m₁ n) (over (server n) (qs n))
+  unfolding at-servers
+  step n = changed-append whole (at-servers n f) (f n) m ∙ ap (changed whole (m₁ n)) (e n)
+
+  pub every-client : (n d : ℕ) → client-of (m₁ n) d ≡ client-of m d
+  unfolding at-servers changed
+  every-client zero d = refl
+  every-client (suc n) d = ap (λ (g : Address → ℕ). client-of g d) (step n) ∙ server-clients (m₁ n) n (qs n) d ∙ every-client n d
+
+  later : (n t : ℕ) → n ≤ t → server-of (m₁ n) t ≡ server-of m t
+  unfolding at-servers changed
+  later zero t l = refl
+  later (suc n) t l = ap (λ (g : Address → ℕ). server-of g t) (step n) ∙ server-else (m₁ n) n (qs n) t (λ z. absurd (omega arith)) ∙ later n t (omega arith)
+
+  pub every-server : (n t : ℕ) → t < n → server-of (m₁ n) t ≡ changed places (server-of m t) (qs t)
+  every-server zero t l = absurd (omega arith)
+  every-server (suc n) t l = ap (λ (g : Address → ℕ). server-of g t) (step n) ∙ go (ℕ-discrete t n) (every-server n t)
+    where
+      go : Dec (t ≡ n) → (t < n → server-of (m₁ n) t ≡ changed places (server-of m t) (qs t))
+          → server-of (changed whole (m₁ n) (over (server n) (qs n))) t ≡ changed places (server-of m t) (qs t)
+      go (yes z) rec =
+          subst (λ (x : ℕ). server-of (changed whole (m₁ n) (over (server n) (qs n))) x ≡ changed places (server-of m x) (qs x)) (sym z)
+          (server-changed (m₁ n) n (qs n) ∙ ap (λ (g : Place → ℕ). changed places g (qs n)) (later n n (omega arith)))
+      go (no d) rec = server-else (m₁ n) n (qs n) t d ∙ rec (omega arith)
+
+-- ---- ABORT
+module _ (k j slots : ℕ) (al : Allowed (sizes k j slots)) (few : suc j ≤ 16) (m : Address → ℕ) (L : Ledger) (M : P.Machine (T k j slots)) (c : Fin (suc j))
+    (R : Related k j slots m L M) (fit : client-fits (sizes k j slots) (client-of m (c .0)) ≡ true) where
+  abbrev z : Sizes
+  z = record { servers = suc k; slots = slots; clients = suc j }
+
+  abbrev u : ClientWord → ℕ
+  u = client-of m (c .0)
+
+  abbrev y : P.Slot (T k j slots)
+  y = M .slots c
+
+  abbrev shown : Slot-shown k j slots u y
+  shown = R .clients c .slot
+
+  abbrev low : ℕ
+  low = lowest z m (c .0)
+
+  abbrev locks : Fin (suc k) → Obj → P.Lock (T k j slots)
+  locks s o = Mv.drop (T k j slots) c (M .lock s o)
+
+  abbrev M₀ : P.Machine (T k j slots)
+  M₀ = Mv.cleared (T k j slots) M c idle
+
+  abbrev pub M₁ : P.Machine (T k j slots)
+  M₁ = P.turned (T k j slots) M₀ (M₀ .slots) locks (M₀ .said) (M₀ .log)
+
+  module _ (us : List ℕ) (undecided : (u phase ≡ 1) ⊎ (u phase ≡ 2)) where
+    reached₁ : Mv.Reached (T k j slots) M₁
+    reached₁ =
+        Mv.moved (Mv.moved (R .reached) (Mv.aborts c (ap is-decided (sym (shown .phase-as)) ∙ go undecided)))
+        (Mv.releases locks (λ s o. Mv.given-back c (ap (λ (w : P.Slot (T k j slots)). w .prepared s && not (w .applied s)) (upd-same (Fin-discrete (suc j)) (M .slots) c (P.blank (T k j slots) idle)))))
+      where
+        go : (u phase ≡ 1) ⊎ (u phase ≡ 2) → is-decided (phase-of (u phase)) ≡ false
+        go (inl e) = ap (λ (n : ℕ). is-decided (phase-of n)) e ∙ first-phases .0
+        go (inr e) = ap (λ (n : ℕ). is-decided (phase-of n)) e ∙ first-phases .1
+
+    -- what is unlocked at a server
+    qs : ℕ → List (Put Place)
+    qs t = cond (bit (u prepared) t) (unlock-each u (c .0) low t (server-of m t)) []
+
+    f : ℕ → List (Put Address)
+    f t = cond (bit (u prepared) t) (over (server t) (unlock-each u (c .0) low t (server-of m t))) []
+
+    same-stores : (t : ℕ) → f t ≡ over (server t) (qs t)
+    unfolding f qs over
+    same-stores t = go (bit (u prepared) t)
+      where
+        go : (b : Bool) → cond b (over (server t) (unlock-each u (c .0) low t (server-of m t))) [] ≡ over (server t) (cond b (unlock-each u (c .0) low t (server-of m t)) [])
+        go true = refl
+        go false = refl
+
+    abbrev n₁ : Address → ℕ
+    n₁ = changed whole m (unlocked-everywhere z m (c .0))
+
+    unlocked-is : n₁ ≡ m₁ m f qs same-stores (suc k)
+    unfolding f
+    unlocked-is = refl
+
+    server-shown : (s : Fin (suc k)) → Server-shown k j slots (server-of n₁ (s .0)) s (M .value s) (M .version s) (M .table s) (locks s)
+    unfolding qs changed
+    server-shown s =
+        subst (λ (p : Place → ℕ). Server-shown k j slots p s (M .value s) (M .version s) (M .table s) (locks s))
+        (sym (ap (λ (g : Address → ℕ). server-of g (s .0)) unlocked-is ∙ every-server m f qs same-stores (suc k) (s .0) (s .1)))
+        (by (bit (u prepared) (s .0)) refl)
+      where
+        p : Place → ℕ
+        p = server-of m (s .0)
+
+        S : Server-shown k j slots p s (M .value s) (M .version s) (M .table s) (M .lock s)
+        S = R .servers s
+
+        by : (b : Bool) → bit (u prepared) (s .0) ≡ b
+            → Server-shown k j slots (changed places p (cond b (unlock-each u (c .0) low (s .0) p) [])) s (M .value s) (M .version s) (M .table s) (locks s)
+        by false e = record {
+          value-as = S .value-as;
+          version-as = S .version-as;
+          table-as = S .table-as;
+          lock-as = λ o i q. drop-kept k j slots few c (M .lock s o) (p (lock-of (object-of (number o)))) (S .lock-as o i q);
+        }
+        by true e = record {
+          value-as = λ o i q. S .value-as o i q ∙ sym (value-frame k j slots p p₁ kept o);
+          version-as = λ o i q. S .version-as o i q ∙ sym (version-frame k j slots p p₁ kept o);
+          table-as = λ o i q. S .table-as o i q ∙ sym (table-frame k j slots p p₁ kept o);
+          lock-as = λ o i q. unlock-recorded k j slots al few c u fit y shown s low el p o i q (M .lock s o) (S .lock-as o i q);
+        }
+          where
+            after-commit : (u phase ≡ 1) ⊎ (u phase ≡ 2) → 2 ≤ u phase
+            after-commit (inr q) = omega (arith, q)
+            after-commit (inl q) =
+                absurd (true≢false (sym e ∙ ap (λ (w : ℕ). bit w (s .0)) (shown .calm (omega (arith, q))) ∙ zero-bit (s .0)))
+
+            el : y .lowest .0 ≡ low
+            el = shown .lowest-as (after-commit undecided)
+
+            p₁ : Place → ℕ
+            p₁ = changed places p (unlock-each u (c .0) low (s .0) p)
+
+            kept : (a : Place) → is-lock a ≡ false → p₁ a ≡ p a
+            kept = unlock-stays k j slots al few c u fit y shown s low el p
+
+    -- ---- the client's part, and the whole
+    abbrev dropped : ClientWord → ℕ
+    dropped = changed client-words u (drop-used us u)
+
+    abbrev ps : List (Put ClientWord)
+    ps = andThen client-words (drop-used us) (reset 0) u
+
+    ends-cleared : changed client-words u ps ≡ cleared k j slots dropped 0
+    unfolding andThen
+    ends-cleared = changed-append client-words (drop-used us u) (reset 0 dropped) u
+
+    abbrev m′ : Address → ℕ
+    m′ = changed whole m (aborting z m (c .0) us)
+
+    m-is : m′ ≡ changed whole n₁ (over (client (c .0)) ps)
+    m-is = changed-append whole (unlocked-everywhere z m (c .0)) (over (client (c .0)) ps) m
+
+    clients-stay : (d : ℕ) → client-of n₁ d ≡ client-of m d
+    clients-stay d = ap (λ (g : Address → ℕ). client-of g d) unlocked-is ∙ every-client m f qs same-stores (suc k) d
+
+    own-words : client-of m′ (c .0) ≡ cleared k j slots dropped 0
+    own-words =
+        ap (λ (g : Address → ℕ). client-of g (c .0)) m-is ∙ client-changed n₁ (c .0) ps
+        ∙ ap (λ (v : ClientWord → ℕ). changed client-words v ps) (clients-stay (c .0)) ∙ ends-cleared
+
+    pub abort-others : (d : Fin (suc j)) → ¬ (d ≡ c) → client-of m′ (d .0) ≡ client-of m (d .0)
+    abort-others d n =
+        ap (λ (g : Address → ℕ). client-of g (d .0)) m-is ∙ client-else n₁ (c .0) ps (d .0) (away k j slots c d n) ∙ clients-stay (d .0)
+
+    pub abort-kept : Related k j slots m′ (starts L (c .0)) M₁
+    unfolding phase-of
+    abort-kept =
+        related k j slots m m′ L (starts L (c .0)) M M₁ c R reached₁
+        (record {
+          part = abort-others;
+          given = λ d n. refl;
+          undecided = λ d n. upd-other ℕ-discrete (L .undecided) (c .0) [] (d .0) (away k j slots c d n);
+          slots-same = λ d n. upd-other (Fin-discrete (suc j)) (M .slots) c (P.blank (T k j slots) idle) d n;
+          copy-same = λ d n. refl;
+          said-same = λ d n. upd-other (Fin-discrete (suc j)) (M .said) c [] d n;
+        })
+        (subst (λ (v : ClientWord → ℕ). Client-shown k j slots v (L .given (c .0)) (starts L (c .0) .undecided (c .0)) (M₁ .slots c) (M .copy c) (M₁ .said c)) (sym own-words)
+        (cleared-shown k j slots M c 0 (omega arith) (L .given (c .0)) (starts L (c .0) .undecided (c .0)) dropped
+        (fewer-copies k j slots u dropped (M .copy c) (fewer (drop-used us u) u (only-used us u)) (R .clients c .copies)) (λ n. absurd (n refl))))
+        (λ s. subst (λ (p : Place → ℕ). Server-shown k j slots p s (M .value s) (M .version s) (M .table s) (locks s))
+        (sym (ap (λ (g : Address → ℕ). server-of g (s .0)) m-is ∙ client-servers n₁ (c .0) ps (s .0))) (server-shown s))
+        (R .log-as)

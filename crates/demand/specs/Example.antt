@@ -1,0 +1,75 @@
+-- Document 01's example of a schedule, run by the definitions: sizes 1 4 1; a transaction that inserts key 5 with value 70.
+use mathlib.Core.Path.{_≡_, refl}
+use mathlib.Core.List.{List, [], _∷_}
+use Prim.Native.Nat.{ℕ}
+use native.Mathlib.Decide.{decLe, ℕ-discrete}
+use Rattle.operations.specs.Map.{insert}
+use Rattle.steps.specs.declared.sizes.Sizes.{Sizes}
+use Rattle.steps.specs.declared.step.Step.{Step}
+use Rattle.steps.specs.declared.outcome.Outcome.the-variants.{Done, Fetched, Answered, Committed}
+use Rattle.demand.specs.Ledger.{Told}
+use Rattle.demand.specs.Demand.{course, course-of, settle, settle-client, settled, node-in, pairs-under}
+use Rattle.base.specs.Update as Update
+use Rattle.memory.specs.Bit as Bit
+use Rattle.layout.specs.Part as LayoutPart
+use Rattle.layout.specs.Space as Space
+use Rattle.layout.specs.Step as LayoutStep
+use Rattle.layout.specs.Sweep as Sweep
+use Rattle.nodes.specs.Find as Find
+use Rattle.nodes.specs.Lists as Lists
+use Rattle.nodes.specs.Node as Node
+use Rattle.nodes.specs.Place as Place
+use Rattle.nodes.specs.Range as NodesRange
+use Rattle.nodes.specs.Stored as Stored
+use Rattle.operations.specs.Entry as Entry
+use Rattle.server.specs.Check as Check
+use Rattle.server.specs.Fresh as Fresh
+use Rattle.server.specs.HandOut as HandOut
+use Rattle.server.specs.Lock as Lock
+use Rattle.server.specs.Object as Object
+use Rattle.server.specs.Range as ServerRange
+use Rattle.server.specs.Store as Store
+use Rattle.client.specs.Answered as Answered
+use Rattle.client.specs.Commit as Commit
+use Rattle.client.specs.Copies as Copies
+use Rattle.client.specs.Course as Course
+use Rattle.client.specs.Drops as Drops
+use Rattle.client.specs.Enter as Enter
+use Rattle.client.specs.Fetched as Fetched
+use Rattle.client.specs.Fits as Fits
+use Rattle.client.specs.Have as Have
+use Rattle.client.specs.Items as Items
+use Rattle.client.specs.Life as Life
+use Rattle.client.specs.Part as ClientPart
+use Rattle.client.specs.Participants as Participants
+use Rattle.client.specs.Record as Record
+use Rattle.client.specs.Renew as Renew
+use Rattle.client.specs.Run as ClientRun
+use Rattle.client.specs.Sets as Sets
+use Rattle.client.specs.Work as Work
+use Rattle.steps.specs.Judge as Judge
+use Rattle.steps.specs.Refusal as Refusal
+use Rattle.steps.specs.Run as Run
+use Rattle.steps.specs.Steps as Steps
+use Rattle.steps.specs.Uses as Uses
+
+abbrev sizes : Sizes
+sizes = record { servers = 1; slots = 4; clients = 1 }
+
+abbrev line : ℕ → ℕ → ℕ → ℕ → Step
+line kind op key value = record { kind = kind; client = 0; op = op; key = key; value = value; server = 0 }
+
+-- begin, give, work three times, commit, prepare
+abbrev steps : List Step
+steps = line 0 0 0 0 ∷ line 1 1 5 70 ∷ line 2 0 0 0 ∷ line 2 0 0 0 ∷ line 2 0 0 0 ∷ line 3 0 0 0 ∷ line 4 0 0 0 ∷ []
+
+abbrev inserted : Told
+inserted = record { op = insert 5 70; ans = (1, 0) }
+
+-- The outcomes that stepshow prints; one decided transaction, with its answer; and the tree holds its pair. All that the run computes with is
+-- named below, so that it computes.
+pub example : (Run.outcomes sizes (Run.opened sizes) steps ≡ Done ∷ Done ∷ Fetched 0 0 ∷ Fetched 1 0 ∷ Answered 1 0 ∷ Done ∷ Committed ∷ [])
+    × (course-of sizes steps .ledger .decided ≡ (inserted ∷ []) ∷ [])
+    × (pairs-under (settled sizes (course-of sizes steps .memory)) 0 ≡ (5, 70) ∷ [])
+unfolding Update.upd Bit.bit Bit.putBit LayoutPart.over Space.changed Space.decide Space.puts Space.tab LayoutStep.andThen Sweep.sweep Find.find Find.find-at Find.rises Lists.insert Lists.pad Node.extra Node.free-node Node.keysOf Node.made Node.slotsOf Place.place NodesRange.in-range Stored.node-of Stored.words-of Entry.under Check.can-check Check.checked Check.held Check.mark-in Check.mark-place Check.sound Check.standing Fresh.first-leaf HandOut.metadata-at HandOut.metadata-sound Lock.busy Lock.in-range Lock.locked Lock.unlocked Object.lock-of Object.object-of ServerRange.in-store Store.home-step Store.kept-of Store.lock-step Store.node-step Store.table-step Store.unlock-step Answered.answered Answered.enter-writes Answered.entered Answered.put-entry Answered.used-enter Commit.all-of Commit.inner-at Copies.drop-node Course.decided Course.noted Drops.next-version Enter.enter-entries Enter.enter-read Enter.enter-used Enter.enter-write Fetched.copy-inner Fetched.fetched-meta Fetched.fetched-node Fits.client-fits Fits.field-fits Fits.has-read Fits.item-fits Fits.op-fits Fits.vector-fits Have.broken Have.copied Have.copied-meta Have.copied-node Have.have Have.source Items.all-below Items.any-below Items.has Items.inner Items.inner-before-after Items.inner-in Life.give Life.reset ClientPart.nothing ClientPart.put-field ClientPart.put-fields ClientPart.put-item Participants.at-home Participants.committing Participants.lowest-of Participants.mask Participants.participants-of Record.fits Record.in-store Record.number-in-store Record.record-of Record.single Renew.drop-outer Renew.finish Renew.for-writes Renew.rank Renew.ranked Renew.renew Renew.renew-flag Renew.renew-kept Renew.renew-meta Renew.renew-nth Renew.renew-written ClientRun.among ClientRun.run Sets.count Sets.find Sets.first-of Sets.number-at Sets.record-at Work.any-at-last Work.count-new Work.walked Work.worked Judge.check-fits Judge.holders-fit Judge.lock-fits Judge.prepare-fits Judge.versions-fit Refusal.first Refusal.fits Refusal.kind-of Refusal.refusal Run.opened Run.outcomes Steps.applied-at Steps.begin Steps.commit Steps.covers Steps.fetch Steps.give Steps.node-at Steps.prepare Steps.prepared-at Steps.step Steps.work Uses.all Uses.checked-at Uses.deciding Uses.each Uses.item-of Uses.least Uses.locked-at Uses.read-items Uses.those Uses.used-items course node-in settle settle-client decLe ℕ-discrete
+example = (refl, refl, refl)
