@@ -63,23 +63,25 @@ module _ (z : Sizes) (u : ClientWord → ℕ) (a : Ans) (w : Writes) where
     pub how : walked z u .how ≡ Run.gives a w
     pub fitting : all-fit? w w ≡ true
     pub few : Work.writes-after u w ≤ 48
+    pub young : Work.any-at-last u (entered w) ≡ false
 
   pub answered-as : worked z u ≡ Work.answers a w → Answers
   unfolding worked the-answer
   answered-as e = go (walked z u .how) refl (ap the-answer e)
     where
       last : (b : Ans) (v : Writes) → walked z u .how ≡ Run.gives b v → (f m l : Bool) → all-fit? v v ≡ f → ltb 48 (Work.writes-after u v) ≡ m
-          → the-answer (cond (not f) (Work.aborted 3) (cond m (Work.aborted 4) (cond l (Work.aborted 8) (Work.answers b v)))) ≡ some (a, w) → Answers
-      last b v p false m l f n q = absurd (Option·none-ne-some (a, w) q)
-      last b v p true true l f n q = absurd (Option·none-ne-some (a, w) q)
-      last b v p true false true f n q = absurd (Option·none-ne-some (a, w) q)
-      last b v p true false false f n q =
+          → Work.any-at-last u (entered v) ≡ l → the-answer (cond (not f) (Work.aborted 3) (cond m (Work.aborted 4) (cond l (Work.aborted 8) (Work.answers b v)))) ≡ some (a, w) → Answers
+      last b v p false m l f n r q = absurd (Option·none-ne-some (a, w) q)
+      last b v p true true l f n r q = absurd (Option·none-ne-some (a, w) q)
+      last b v p true false true f n r q = absurd (Option·none-ne-some (a, w) q)
+      last b v p true false false f n r q =
           let same = Option·some-injective {A = Ans × Writes} (b, v) (a, w) q in
           let ws : v ≡ w = ap (λ (r : Ans × Writes). r .1) same in
           record {
             how = p ∙ ap (λ (r : Ans × Writes). Run.gives (r .0) (r .1)) same;
             fitting = subst (λ (v : Writes). all-fit? v v ≡ true) ws f;
             few = subst (λ (v : Writes). Work.writes-after u v ≤ 48) ws (ltb-false 48 (Work.writes-after u v) n);
+            young = subst (λ (v : Writes). Work.any-at-last u (entered v) ≡ false) ws r;
           }
 
       go : (h : Run.End) → walked z u .how ≡ h → the-answer (Work.judge z u h) ≡ some (a, w) → Answers
@@ -90,17 +92,17 @@ module _ (z : Sizes) (u : ClientWord → ℕ) (a : Ans) (w : Writes) where
           lacks true = refl
           lacks false = refl
       go (Run.gives b v) p q =
-          last b v p (all-fit? v v) (ltb 48 (Work.writes-after u v)) (Work.any-at-last u (entered v)) refl refl q
+          last b v p (all-fit? v v) (ltb 48 (Work.writes-after u v)) (Work.any-at-last u (entered v)) refl refl refl q
 
 -- ---- a snapshot of what is at hand
-is-had : Option Val → Bool
+pub is-had : Option Val → Bool
 is-had none = false
 is-had (some v) = true
 
 abbrev pub snapshot : (Ask → Option Val) → Ask → Val
 snapshot have q = Option·getD (have q) (root 0)
 
-snapshot-shows : (have : Ask → Option Val) (l : List Ask) → Wk.Every (λ q. (v : Val) × (have q ≡ some v)) l
+pub snapshot-shows : (have : Ask → Option Val) (l : List Ask) → Wk.Every (λ q. (v : Val) × (have q ≡ some v)) l
     → Wk.Shows have (snapshot have) l × Wk.Every (λ q. is-had (have q) ≡ true) l
 unfolding Wk.Every is-had
 snapshot-shows have [] g = (tt, tt)
@@ -122,7 +124,7 @@ module _ (k j slots : ℕ) (al : Allowed (sizes k j slots)) (u : ClientWord → 
   abbrev pub qs : List Ask
   qs = Wk.used (reading z (waiting u)) (have z u)
 
-  ran : (Wk.walk (reading z (waiting u)) (have z u) ≡ Wk.ends (Pl.gives (a, w))) × (us ≡ all-used (new u) qs []) × (u reads-count + length us ≤ 96)
+  pub ran : (Wk.walk (reading z (waiting u)) (have z u) ≡ Wk.ends (Pl.gives (a, w))) × (us ≡ all-used (new u) qs []) × (u reads-count + length us ≤ 96)
   unfolding walked
   ran =
       let room = 96 - u reads-count in
@@ -132,13 +134,13 @@ module _ (k j slots : ℕ) (al : Allowed (sizes k j slots)) (u : ClientWord → 
       (g .0, g .1, omega (arith, g .2 (omega arith), fits-field z u fit 10 (omega arith)))
 
   -- the last check lets the answer pass, and asks for nothing
-  checks : Wk.walk (plan z (waiting u)) (have z u) ≡ Wk.ends (Pl.gives (a, w))
+  pub checks : Wk.walk (plan z (waiting u)) (have z u) ≡ Wk.ends (Pl.gives (a, w))
   unfolding Wk.walk
   checks =
       Wk.walk-bind (reading z (waiting u)) check (have z u) ∙ ap (λ m. Wk.then m (λ r. Wk.walk (check r) (have z u))) (ran .0)
       ∙ ap (λ (b : Bool). Wk.walk (cond b (Pl.done (a, w)) (Pl.fail no-tree)) (have z u)) (A .fitting)
 
-  uses : Wk.used (plan z (waiting u)) (have z u) ≡ qs
+  pub uses : Wk.used (plan z (waiting u)) (have z u) ≡ qs
   unfolding Wk.used
   uses = Wk.used-bind (reading z (waiting u)) check (have z u) (λ r. none-asked r (all-fit? (r .1) (r .1)))
     where
@@ -221,7 +223,7 @@ module _ (k j slots : ℕ) (al : Allowed (sizes k j slots)) (u : ClientWord → 
   abbrev pub used-items : List (P.Item (T k j slots))
   used-items = W.absorb (T k j slots) f (objects (hint-of hint) qs) (y .items)
 
-  entering : Entering k j slots al u fit y shown f copies us used-items
+  pub entering : Entering k j slots al u fit y shown f copies us used-items
   entering =
       subst (λ (l : List ℕ). Entering k j slots al u fit y shown f copies l used-items) (sym (ran .1))
       (copies-used k j slots al u fit y shown f copies hint qs (Wk.used-had (reading z (waiting u)) (have z u))

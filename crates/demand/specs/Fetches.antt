@@ -111,10 +111,10 @@ module _ (k j slots : ℕ) (al : Allowed (sizes k j slots)) (few : suc j ≤ 16)
 
     -- ---- what is lacking, and the copies in use
     module _ (a : Ask) (e : worked (sizes k j slots) u ≡ Work.fetches a) where
-      lacks : (walked (sizes k j slots) u .how ≡ Run.lacks a) × (broken (sizes k j slots) u a ≡ false)
+      pub lacks : (walked (sizes k j slots) u .how ≡ Run.lacks a) × (broken (sizes k j slots) u a ≡ false)
       lacks = fetch-lacks (sizes k j slots) u a e
 
-      walk : (have (sizes k j slots) u a ≡ none) × (us ≡ all-used (Work.new u) (asked (sizes k j slots) u) []) × (length us ≤ 96 - u reads-count)
+      pub walk : (have (sizes k j slots) u a ≡ none) × (us ≡ all-used (Work.new u) (asked (sizes k j slots) u) []) × (length us ≤ 96 - u reads-count)
       walk = lacking (sizes k j slots) u a (lacks .0)
 
       -- vectors are no objects: any will do for the hint
@@ -124,10 +124,10 @@ module _ (k j slots : ℕ) (al : Allowed (sizes k j slots)) (few : suc j ≤ 16)
       os : List Obj
       os = objects (hint-of no-hint) (asked (sizes k j slots) u)
 
-      is : List (P.Item (T k j slots))
+      pub is : List (P.Item (T k j slots))
       is = PW.absorb (T k j slots) (M .copy c) os (y .items)
 
-      E : Entering k j slots al u fit y shown (M .copy c) copies us is
+      pub E : Entering k j slots al u fit y shown (M .copy c) copies us is
       unfolding is os
       E =
           subst (λ (l : List ℕ). Entering k j slots al u fit y shown (M .copy c) copies l is) (sym (walk .1))

@@ -97,8 +97,11 @@ module _ (k j slots : ℕ) (al : Allowed (sizes k j slots)) (few : suc j ≤ 16)
     outside = λ s o h. refl;
   }
 
+  pub opened-explained : Explained k j slots (opened (store k j slots)) blank
+  opened-explained = record { machine = P.first-machine (T k j slots); good = first-good }
+
   run-good : (ks : List Step) → D.All-words ks → Explained k j slots (D.course-of (store k j slots) ks .memory) (D.course-of (store k j slots) ks .ledger)
-  run-good ks w = course-good ks w (record { memory = opened (store k j slots); ledger = blank }) (record { machine = P.first-machine (T k j slots); good = first-good })
+  run-good ks w = course-good ks w (record { memory = opened (store k j slots); ledger = blank }) opened-explained
 
   -- THE DEMAND
   pub demanded : 1 ≤ slots → (ks : List Step) → D.All-words ks → D.Demand (store k j slots) ks

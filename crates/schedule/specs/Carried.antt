@@ -1,4 +1,4 @@
--- What a walk over a list of steps does to memory as `open` left it is what demand 3 speaks of.
+-- What a walk over a list of steps does to memory as `open` left it is what demand 3 speaks of; and no step of it is refused by 10.
 use mathlib.Core.Path.{_≡_, refl, ap, ap₂, sym, _∙_, subst}
 use mathlib.Core.Bool.{Bool, true, false, cond}
 use mathlib.Core.List.{List, [], _∷_}
@@ -6,6 +6,7 @@ use Prim.Native.Nat.{ℕ, suc, _/_, _*_, _≤_, _<_}
 use native.Mathlib.Omega.{arith}
 use lib.ListN.{length, getD, replicate}
 use lib.Seq.{sets, length-sets}
+use Rattle.plans.specs.Walk.{Every}
 use Rattle.layout.specs.Block.{size, In, offset}
 use Rattle.layout.specs.Space.{Put, at, Valid, AllValid, mem-at, mem-stored, changed, stored, length-stored}
 use Rattle.steps.specs.declared.sizes.Sizes.{Sizes}
@@ -25,6 +26,8 @@ use Rattle.demand.specs.Demand.{All-words, Demand, Course, course, course-of, n
 use Rattle.demand.specs.Inside.{step-lies}
 use Rattle.demand.specs.Opened.{opened-head}
 use Rattle.demand.specs.Theorem.{demand-3}
+use Rattle.ranges.specs.Claim.{Accepted}
+use Rattle.ranges.specs.Theorem.{never-refused-by-10}
 use Rattle.schedule.specs.Listed.{words-run, outcomes-run}
 
 -- memory of n bytes with the words that `open` leaves for the sizes z; `before` are the words that it was lent
@@ -34,11 +37,12 @@ pub record Newly (z : Sizes) (n : ℕ) (w : List ℕ) : Type 0 where
   pub long : n / 8 ≤ length before
   pub opened-words : w ≡ words-opened n z before
 
--- demand 3 of the steps, on the words and with the outcomes that the code left
+-- demand 3 of the steps, on the words and with the outcomes that the code left, none of which is a refusal by 10
 pub record Carried (z : Sizes) (n : ℕ) (w : List ℕ) (ks : List Step) (w′ : List ℕ) : Type 0 where
   pub demand : Demand z ks
   pub memory : stored-in z w′ ≡ course-of z ks .memory
   pub answers : outcomes-run n w ks ≡ outcomes z (opened z) ks
+  pub accepted : Every Accepted (outcomes-run n w ks)
 
 unfoldable pub Demanded : ℕ → List ℕ → List Step → List ℕ → Type 0
 Demanded n w ks w′ = (z : Sizes) → Newly z n w → Carried z n w ks w′
@@ -142,8 +146,11 @@ pub carried : (n : ℕ) (w w′ : List ℕ) (ks : List Step) → All-words ks �
 unfolding Demanded
 carried n w w′ ks words e z N =
     let S = newly-shown z n (N .accepted) w N in
+    let allowed = none-holds n z 0 (sym (N .accepted)) refl .allowed in
+    let same = outcomes-are z n (N .accepted) ks w (opened z) S in
     record {
-      demand = demand-3 z (none-holds n z 0 (sym (N .accepted)) refl .allowed) ks words;
+      demand = demand-3 z allowed ks words;
       memory = ap (stored-in z) e ∙ shown-run z n (N .accepted) ks w (record { memory = opened z; ledger = blank }) S .memory-as;
-      answers = outcomes-are z n (N .accepted) ks w (opened z) S;
+      answers = same;
+      accepted = subst (Every Accepted) (sym same) (never-refused-by-10 z allowed ks words);
     }

@@ -1,0 +1,183 @@
+-- WORK THAT ANSWERS: what is written was read, with a version before the last, and is sound; so the write set stays sound.
+use mathlib.Core.Path.{_≡_, refl, ap, sym, _∙_, subst}
+use mathlib.Core.Bool.{Bool, true, false, cond, _&&_, _||_, not}
+use mathlib.Core.List.{List, [], _∷_, _++_}
+use mathlib.Core.Option.{Option}
+use Prim.Native.Nat.{ℕ, suc, _+_, _≤_, Fin}
+use native.Mathlib.Omega.{arith}
+use borrow.Author.Tests.{eq-eqb}
+use lib.Dec.{eqb}
+use lib.ListN.{length}
+use Rattle.base.specs.Test.{or-left, or-right}
+use Rattle.layout.specs.Space.{changed}
+use Rattle.layout.specs.Part.{over}
+use Rattle.plans.specs.Plan as Pl
+use Rattle.plans.specs.Walk as Wk
+use Rattle.plans.specs.Walk.{Every}
+use Rattle.operations.specs.Object.{Obj, Ask, object, vector, fetched, Ans, Writes, hit, written}
+use Rattle.operations.specs.Asked.{written-asked}
+use Rattle.operations.specs.Hit.{hit-self}
+use Rattle.operations.specs.Operation as Op
+use Rattle.operations.specs.Path.{Plan}
+use Rattle.operations.specs.Slot.{Allowed}
+use Rattle.protocol.specs.Machine as P
+use Rattle.client.specs.declared.part.Set.the-variants as set
+use Rattle.client.specs.Layout.{ClientWord, client-words, phase, reads-count}
+use Rattle.client.specs.Record.{number, record-of}
+use Rattle.client.specs.Have.{have}
+use Rattle.client.specs.Items.{has}
+use Rattle.client.specs.Fits.{client-fits}
+use Rattle.client.specs.Lent.{Entry}
+use Rattle.client.specs.Run.{among}
+use Rattle.client.specs.Work as Work
+use Rattle.client.specs.Work.{waiting, walked, worked, new}
+use Rattle.client.specs.Answered.{put-entry, entered, answered}
+use Rattle.steps.specs.declared.outcome.Outcome.the-variants.{Answered}
+use Rattle.steps.specs.Whole.{Address, client}
+use Rattle.steps.specs.Steps.{did}
+use Rattle.steps.specs.Stores.{client-of}
+use Rattle.demand.specs.Answered as A
+use Rattle.demand.specs.AtHand.{written-read}
+use Rattle.demand.specs.Lacking.{asked}
+use Rattle.demand.specs.Latest.{entered-whole}
+use Rattle.demand.specs.Ledger.{Ledger}
+use Rattle.demand.specs.Ran.{with-used, all-used}
+use Rattle.demand.specs.Shows.{T, Slot-shown, Copies-shown, Related}
+use Rattle.demand.specs.Store.{sizes}
+use Rattle.demand.specs.Used.{after-used, among-more}
+use Rattle.ranges.specs.Sound.{Part-sound, Sound-store}
+use Rattle.ranges.specs.Sets.{part-fits, May-write, All-copied}
+use Rattle.ranges.specs.Entries.{There, entries-sound, used-last, not-last}
+use Rattle.ranges.specs.Part.{used-part, answer-part}
+use Rattle.ranges.specs.Locks.{early-stored}
+use Rattle.ranges.specs.Whole.{client-sound}
+use Rattle.ranges.specs.Undecided.{accepted, Kept}
+use Rattle.ranges.specs.Hand.{writes-there, used-copied}
+
+-- of the objects of an operation's writes
+module _ (Q : ℕ → Type 0) where
+  every-put : (e : Entry) (l : List Entry) → Q (e .0) → Every (λ (f : Entry). Q (f .0)) l → Every (λ (f : Entry). Q (f .0)) (put-entry e l)
+  unfolding put-entry Every
+  every-put e [] q h = (q, tt)
+  every-put e (f ∷ l) q h = go (eqb (f .0) (e .0)) (every-put e l q (h .1))
+    where
+      go : (b : Bool) → Every (λ (f : Entry). Q (f .0)) (put-entry e l) → Every (λ (f : Entry). Q (f .0)) (cond b (e ∷ l) (f ∷ put-entry e l))
+      go true r = (q, h .1)
+      go false r = (h .0, r)
+
+  every-entered : (w : Writes) → ((o : Obj) → written w o ≡ true → Q (number o)) → Every (λ (e : Entry). Q (e .0)) (entered w)
+  unfolding entered Every
+  every-entered [] h = tt
+  every-entered (e ∷ w) h =
+      every-put (number (e .0), record-of 0 (e .1)) (entered w) (h (e .0) (ap (λ (b : Bool). cond b true (written w (e .0))) (hit-self (e .0))))
+      (every-entered w (λ o q. h o (later (hit (e .0) o) (written w o) q)))
+    where
+      later : (b c : Bool) → c ≡ true → cond b true c ≡ true
+      later true c h = refl
+      later false c h = h
+
+module _ (k j slots : ℕ) (al : Allowed (sizes k j slots)) (u : ClientWord → ℕ) (part : Part-sound (sizes k j slots) u) (f : Obj → Option (P.Copy (T k j slots))) (copies : Copies-shown k j slots u f)
+    (y : P.Slot (T k j slots)) (shown : Slot-shown k j slots u y) where
+  fit : client-fits (sizes k j slots) u ≡ true
+  fit = part-fits (sizes k j slots) u part
+
+  -- ---- everything that the plan asked for is read, once the copies in use have entered
+  -- l: those in use
+  abbrev is-read : List ℕ → Ask → Bool
+  is-read l (object o) = has u set.Reads (number o) || among (number o) l
+  is-read l (vector s) = true
+  is-read l (fetched s) = true
+
+  among-stays : (x : ℕ) (qs : List Ask) (l : List ℕ) → among x l ≡ true → among x (all-used (new u) qs l) ≡ true
+  unfolding all-used with-used
+  among-stays x [] l h = h
+  among-stays x (vector s ∷ qs) l h = among-stays x qs l h
+  among-stays x (fetched s ∷ qs) l h = among-stays x qs l h
+  among-stays x (object o ∷ qs) l h = among-stays x qs (with-used (new u) l (object o)) (go (new u (number o)) (among (number o) l))
+    where
+      go : (a b : Bool) → among x (cond a (cond b l (l ++ (number o ∷ []))) l) ≡ true
+      go false b = h
+      go true true = h
+      go true false = among-more x (number o) l ∙ or-left (among x l) (eqb (number o) x) h
+
+  all-read : (qs : List Ask) (l : List ℕ) → Every (λ (q : Ask). is-read (all-used (new u) qs l) q ≡ true) qs
+  unfolding all-used with-used Every
+  all-read [] l = tt
+  all-read (vector s ∷ qs) l = (refl, all-read qs l)
+  all-read (fetched s ∷ qs) l = (refl, all-read qs l)
+  all-read (object o ∷ qs) l =
+      (go (has u set.Writes x) refl (has u set.Reads x) refl (λ l′. among-stays x qs l′), all-read qs (with-used (new u) l (object o)))
+    where
+      x : ℕ
+      x = number o
+
+      now : (b : Bool) → among x l ≡ b → among x (cond b l (l ++ (x ∷ []))) ≡ true
+      now true e = e
+      now false e = among-more x x l ∙ or-right (among x l) (eqb x x) (eq-eqb x x refl)
+
+      go : (w : Bool) → has u set.Writes x ≡ w → (r : Bool) → has u set.Reads x ≡ r → ((l′ : List ℕ) → among x l′ ≡ true → among x (all-used (new u) qs l′) ≡ true)
+          → (has u set.Reads x || among x (all-used (new u) qs (cond (not (has u set.Writes x) && not (has u set.Reads x)) (cond (among x l) l (l ++ (x ∷ []))) l))) ≡ true
+      go w p true q rec = or-left (has u set.Reads x) _ q
+      go true p false q rec = or-left (has u set.Reads x) _ (written-read k j slots al u f copies fit y shown o p)
+      go false p false q rec = or-right (has u set.Reads x) _ (rw (p, q) (rec (cond (among x l) l (l ++ (x ∷ []))) (now (among x l) refl)))
+
+  -- ---- the answer a with the writes w
+  module _ (a : Ans) (w : Writes) (e : worked (sizes k j slots) u ≡ Work.answers a w) where
+    abbrev us : List ℕ
+    us = walked (sizes k j slots) u .used
+
+    abbrev v : ClientWord → ℕ
+    v = after-used u us
+
+    answers : A.Answers (sizes k j slots) u a w
+    answers = A.answered-as (sizes k j slots) u a w e
+
+    ran : (Wk.walk (Op.reading (sizes k j slots) (waiting u)) (have (sizes k j slots) u) ≡ Wk.ends (Pl.gives (a, w))) × (us ≡ all-used (new u) (asked (sizes k j slots) u) []) × (u reads-count + length us ≤ 96)
+    ran = A.ran k j slots al u fit y shown f copies a w answers
+
+    all-copied : All-copied (sizes k j slots) u us
+    all-copied = used-copied k j slots al u part f copies y shown us (ran .1)
+
+    read-now : (o : Obj) → written w o ≡ true → has v set.Reads (number o) ≡ true
+    read-now o h =
+        A.entering k j slots al u fit y shown f copies a w answers .has-now (number o)
+        ∙ written-asked (sizes k j slots) (waiting u) (is-read us) (A.snapshot (have (sizes k j slots) u)) a w
+        (Wk.walk-asked p (have (sizes k j slots) u) (A.snapshot (have (sizes k j slots) u)) (is-read us) (Pl.gives (a, w)) checks shows every-read)
+        (Wk.walk-exec p (have (sizes k j slots) u) (A.snapshot (have (sizes k j slots) u)) (Pl.gives (a, w)) shows checks) o h
+      where
+        p : Plan
+        p = Op.plan (sizes k j slots) (waiting u)
+
+        checks : Wk.walk p (have (sizes k j slots) u) ≡ Wk.ends (Pl.gives (a, w))
+        checks = A.checks k j slots al u fit y shown f copies a w answers
+
+        shows : Wk.Shows (have (sizes k j slots) u) (A.snapshot (have (sizes k j slots) u)) (Wk.used p (have (sizes k j slots) u))
+        shows = A.snapshot-shows (have (sizes k j slots) u) (Wk.used p (have (sizes k j slots) u)) (Wk.used-had p (have (sizes k j slots) u)) .0
+
+        every-read : Every (λ (q : Ask). is-read us q ≡ true) (Wk.used p (have (sizes k j slots) u))
+        every-read =
+            subst (Every (λ (q : Ask). is-read us q ≡ true)) (sym (A.uses k j slots al u fit y shown f copies a w answers))
+            (subst (λ (l : List ℕ). Every (λ (q : Ask). is-read l q ≡ true) (asked (sizes k j slots) u)) (sym (ran .1)) (all-read (asked (sizes k j slots) u) []))
+
+    may-write : Every (λ (e : Entry). May-write v (e .0)) (entered w)
+    may-write =
+        not-last (sizes k j slots) v (used-part (sizes k j slots) u part us all-copied .sets) (entered w) (used-last u us (entered w) ∙ answers .young)
+        (every-entered (λ x. has v set.Reads x ≡ true) w read-now)
+
+    pub answered-sound : Part-sound (sizes k j slots) (changed client-words u (answered us w u))
+    answered-sound =
+        answer-part (sizes k j slots) u part us w all-copied
+        (entries-sound (sizes k j slots) al w (writes-there k j slots al u part f copies y shown a w (ran .0)) (answers .fitting))
+        (entered-whole w (A.storable k j slots al u fit y shown f copies a w answers)) may-write
+
+pub answer-kept : (k j slots : ℕ) (al : Allowed (sizes k j slots)) (few : suc j ≤ 16) (m : Address → ℕ) (S : Sound-store k j slots m) (L : Ledger) (M : P.Machine (T k j slots))
+    → Related k j slots m L M → (c : Fin (suc j)) → client-of m (c .0) phase ≡ 1 → (a : Ans) (w : Writes) → worked (sizes k j slots) (client-of m (c .0)) ≡ Work.answers a w
+    → Kept k j slots al few m S (did (Answered (a .0) (a .1)) (over (client (c .0)) (answered (walked (sizes k j slots) (client-of m (c .0)) .used) w (client-of m (c .0)))))
+answer-kept k j slots al few m S L M R c now a w e =
+    let ps = answered (walked (sizes k j slots) (client-of m (c .0)) .used) w (client-of m (c .0)) in
+    record {
+      passes = accepted (Answered (a .0) (a .1)) refl;
+      sound = client-sound k j slots m S c ps
+          (answered-sound k j slots al (client-of m (c .0)) (S .parts c) (M .copy c) (R .clients c .copies) (M .slots c) (R .clients c .slot) a w e)
+          (early-stored k j slots m (c .0) ps (S .locks) (omega (arith, now)));
+    }

@@ -1,0 +1,187 @@
+-- What servers store stays sound where only locks change; and A NEW STORE IS SOUND.
+use mathlib.Core.Path.{_≡_, refl, ap, ap₂, sym, _∙_, subst, fun-ext}
+use mathlib.Core.Bool.{Bool, true, false, cond}
+use mathlib.Core.List.{List, []}
+use Prim.Native.Nat.{ℕ, zero, suc, _+_, _%_, _≤_, Fin}
+use native.Mathlib.Omega.{arith}
+use native.Mathlib.Decide.{ℕ-discrete}
+use borrow.Author.Tests.{lt-ltb, ne-eqb}
+use lib.ListN.{getD}
+use Rattle.base.specs.Test.{not-both}
+use Rattle.memory.specs.Bit.{zero-bit}
+use Rattle.layout.specs.Space.{Put, changed, tab}
+use Rattle.layout.specs.Sweep.{sweep}
+use Rattle.nodes.specs.Lists.{pad}
+use Rattle.nodes.specs.Name as N
+use Rattle.nodes.specs.Node.{made}
+use Rattle.nodes.specs.Range.{in-range}
+use Rattle.nodes.specs.Stored.{node-of}
+use Rattle.operations.specs.Slot as S
+use Rattle.server.specs.declared.object.Object.{Object}
+use Rattle.server.specs.declared.object.Object.the-variants as object
+use Rattle.server.specs.declared.place.Place.{Place}
+use Rattle.server.specs.declared.place.Place.the-variants.{Root, Version, MetadataLock, Vector, Node, FlagLock, Table, NodeLock}
+use Rattle.server.specs.Layout.{code, places}
+use Rattle.server.specs.Object.{object-of, lock-of}
+use Rattle.server.specs.LockLaws.{reads, writes, free-range}
+use Rattle.server.specs.Store.{lock-step, unlock-step}
+use Rattle.server.specs.HandOut.{node-here}
+use Rattle.server.specs.Fresh.{fresh, fresh-other, fresh-root, fresh-zero}
+use Rattle.client.specs.declared.part.Set.the-variants.{Reads}
+use Rattle.client.specs.Layout.{ClientWord}
+use Rattle.client.specs.Record.{number, single, in-store, fits, last-version}
+use Rattle.client.specs.Sets.{count}
+use Rattle.client.specs.Fits.{op-fits}
+use Rattle.steps.specs.Whole.{Address}
+use Rattle.steps.specs.Stores.{client-of, server-of}
+use Rattle.steps.specs.Steps.{lock-each, unlock-each, node-at}
+use Rattle.steps.specs.Uses.{Item, read-item, locked-at, object}
+use Rattle.steps.specs.Run.{opened}
+use Rattle.demand.specs.Store.{sizes}
+use Rattle.demand.specs.Frame.{Only, only-sweep, only-other}
+use Rattle.demand.specs.Servers.{is-lock, a-lock, node-frame}
+use Rattle.demand.specs.Opened.{no-client, server-fresh}
+use Rattle.demand.specs.Turns.{store}
+use Rattle.ranges.specs.Sound.{children-there, Node-sound, Sound, Part-sound, Server-sound, Lock-sound, Locks-sound, Sound-store}
+
+-- ---- locks are no part of it
+module _ (z : S.Sizes) (s : ℕ) where
+  pub server-frame : (p q : Place → ℕ) → ((a : Place) → is-lock a ≡ false → q a ≡ p a) → Server-sound z s p → Server-sound z s q
+  server-frame p q h sound = record {
+    metadata = subst (Sound z 0) (sym (ap₂ single (h Version refl) (h Root refl))) (sound .metadata);
+    nodes = λ n i e. subst (Node-sound z) (sym (node-frame 0 0 0 p q h n)) (sound .nodes n i e);
+    tables = λ n i. subst (λ (v : ℕ). v ≤ last-version) (sym (h (Table (N.server-of n) (N.slot-of n)) refl)) (sound .tables n i);
+  }
+
+  -- stores at locks alone
+  abbrev At-locks : List (Put Place) → Type 0
+  At-locks ps = Only places (λ a v. is-lock a ≡ true) ps
+
+  at-locks : (ps : List (Put Place)) (p : Place → ℕ) → At-locks ps → Server-sound z s p → Server-sound z s (changed places p ps)
+  at-locks ps p only =
+      server-frame p (changed places p ps) (λ a h. only-other places (λ x v. is-lock x ≡ true) a (λ x v l e. not-both (ap is-lock e ∙ l) h) ps p only)
+
+  -- those of a test
+  if-tested : (b : Bool) (ps : List (Put Place)) → At-locks ps → At-locks (cond b ps [])
+  unfolding Only
+  if-tested true ps h = h
+  if-tested false ps h = tt
+
+  module _ (u : ClientWord → ℕ) (c low t : ℕ) (p : Place → ℕ) (sound : Server-sound z s p) where
+    abbrev each : (Item → (Place → ℕ) → List (Put Place)) → (Place → ℕ) → List (Put Place)
+    each f = sweep places (λ n q. cond (locked-at low t (read-item u n)) (f (read-item u n) q) []) (count u Reads)
+
+    each-sound : (f : Item → (Place → ℕ) → List (Put Place)) → ((i : Item) (q : Place → ℕ) → At-locks (f i q)) → Server-sound z s (changed places p (each f p))
+    each-sound f h =
+        at-locks (each f p) p
+        (only-sweep places (λ a v. is-lock a ≡ true) (λ n q. cond (locked-at low t (read-item u n)) (f (read-item u n) q) []) (count u Reads) p
+        (λ n q. if-tested (locked-at low t (read-item u n)) (f (read-item u n) q) (h (read-item u n) q))) sound
+
+    pub lock-each-sound : Server-sound z s (changed places p (lock-each u c low t p))
+    unfolding lock-step Only
+    lock-each-sound = each-sound (λ i q. lock-step (object i) (i .written) c q) (λ i q. (a-lock (object i), tt))
+
+    pub unlock-each-sound : Server-sound z s (changed places p (unlock-each u c low t p))
+    unfolding unlock-step Only
+    unlock-each-sound = each-sound (λ i q. unlock-step (object i) c q) (λ i q. (a-lock (object i), tt))
+
+-- ---- A NEW SERVER
+-- nodes and flags apart, everything is 0
+abbrev of-node : Place → Bool
+of-node Root = false
+of-node Version = false
+of-node MetadataLock = false
+of-node (Vector i) = true
+of-node (Node k i) = true
+of-node (FlagLock k) = false
+of-node (Table s k) = false
+of-node (NodeLock s k) = false
+
+zero-at : (s : ℕ) (a : Place) → of-node a ≡ false → fresh s a ≡ 0
+zero-at s a h = fresh-zero s a (λ e. not-both (ap of-node e) h) (λ e. not-both (ap of-node e) h)
+
+lock-zero : (s : ℕ) (o : Object) → fresh s (lock-of o) ≡ 0
+unfolding lock-of
+lock-zero s object.Metadata = zero-at s MetadataLock refl
+lock-zero s (object.Node x) = zero-at s (NodeLock (N.server-of (x .number)) (N.slot-of (x .number))) refl
+lock-zero s (object.Flag x) = zero-at s (FlagLock (N.slot-of (x .number))) refl
+
+-- the slot of a node's word
+abbrev slot-in : Place → ℕ
+slot-in a = getD (code a) 1 0
+
+-- all nodes but the root are free
+free-word : (s n i : ℕ) → N.server-of n ≡ s → ¬ (n ≡ 0) → fresh s (Node (N.slot-of n) i) ≡ 0
+free-word s n i e d = go (ℕ-discrete s 0)
+  where
+    go : Dec (s ≡ 0) → fresh s (Node (N.slot-of n) i) ≡ 0
+    go (no h) = fresh-other s (Node (N.slot-of n) i) h
+    go (yes h) =
+        fresh-zero s (Node (N.slot-of n) i) (λ q. d (let r : n % 1024 ≡ 0 = ap slot-in q in omega arith))
+        (λ q. absurd (let r : 2 ≡ 1 = ap (λ (a : Place). getD (code a) 0 0) q in omega arith))
+
+new-node : (z : S.Sizes) (s n : ℕ) → N.server-of n ≡ s → Node-sound z (node-at (fresh s) n)
+unfolding node-at node-here made pad node-of tab in-range children-there
+new-node z s zero e =
+    subst (λ (t : ℕ). Node-sound z (node-at (fresh t) 0)) e (subst (Node-sound z) (sym fresh-root) (record { range = refl; children = refl }))
+new-node z s (suc n) e =
+    subst (λ (f : ℕ → ℕ). Node-sound z (node-of (tab 33 f))) (sym (fun-ext (λ i. free-word s (suc n) i e (λ q. absurd (omega arith)))))
+    (record { range = refl; children = refl })
+
+new-server : (z : S.Sizes) → in-store z 0 ≡ true → (s : ℕ) → Server-sound z s (fresh s)
+unfolding single made pad fits
+new-server z there s = record {
+  metadata = subst (Sound z 0) (sym (ap₂ single (zero-at s Version refl) (zero-at s Root refl))) (record { fitting = rw there; children = refl });
+  nodes = λ n i e. new-node z s n e;
+  tables = λ n i. omega (arith, zero-at s (Table (N.server-of n) (N.slot-of n)) refl);
+}
+
+-- ---- A NEW CLIENT'S PART
+new-part : (z : S.Sizes) → Part-sound z (λ a. 0)
+unfolding op-fits count
+new-part z = record {
+  fields = record { within = λ i l. omega arith; op = refl };
+  sets = record {
+    read = λ i l. absurd (omega arith);
+    written = λ i l. absurd (omega arith);
+    written-read = λ i l. absurd (omega arith);
+    young = λ i l. absurd (omega arith);
+  };
+  copies = record {
+    meta-copy = λ e. absurd (omega (arith, e));
+    copies = λ i l n. absurd (n refl);
+    vectors = λ s l. omega arith;
+  };
+}
+
+-- ---- A NEW STORE
+module _ (k j slots : ℕ) where
+  abbrev first : Address → ℕ
+  first = opened (store k j slots)
+
+  pub opened-part : (c : ℕ) → Part-sound (sizes k j slots) (client-of first c)
+  opened-part c = subst (Part-sound (sizes k j slots)) (sym (no-client k j slots c)) (new-part (sizes k j slots))
+
+  -- no client reads or writes
+  pub opened-locks : (s : Fin (suc k)) → Locks-sound k j slots first s
+  unfolding reads writes
+  opened-locks s o i kept =
+      subst (Lock-sound (store k j slots) first (s .0) (number o))
+      (sym (ap (λ (p : Place → ℕ). p (lock-of (object-of (number o)))) (server-fresh k j slots (s .0)) ∙ lock-zero (s .0) (object-of (number o))))
+      (record {
+        range = free-range (suc j);
+        readers = λ d l h. absurd (not-both h (zero-bit d));
+        writer = λ d l h. absurd (not-both h (ne-eqb 0 (65536 + d) (λ e. omega arith)));
+      })
+
+  module _ (some-slot : 1 ≤ slots) where
+    -- "the root .. in node 0"
+    zeroth-there : in-store (sizes k j slots) 0 ≡ true
+    unfolding in-store
+    zeroth-there = rw (lt-ltb 0 (suc k) (omega arith), lt-ltb 0 slots some-slot)
+
+    pub opened-sound : (s : Fin (suc k)) → Server-sound (sizes k j slots) (s .0) (server-of first (s .0))
+    opened-sound s = subst (Server-sound (sizes k j slots) (s .0)) (sym (server-fresh k j slots (s .0))) (new-server (sizes k j slots) zeroth-there (s .0))
+
+    pub first-sound : Sound-store k j slots first
+    first-sound = record { parts = λ c. opened-part (c .0); servers = opened-sound; locks = opened-locks }
