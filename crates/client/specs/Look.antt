@@ -7,13 +7,12 @@ use lib.ListN.{length}
 use Rattle.nodes.specs.declared.node.Node.{Node}
 use Rattle.nodes.specs.declared.found.Found.{Found}
 use Rattle.nodes.specs.declared.found.Found.the-variants.{At, Absent}
-use Rattle.operations.specs.Object.{Obj}
 use Rattle.operations.specs.Slot.{Sizes}
 use Rattle.client.specs.declared.answer.Look.{Look}
 use Rattle.client.specs.Layout.{ClientWord}
 use Rattle.client.specs.declared.part.Set.the-variants.{Reads}
 use Rattle.client.specs.Sets.{count}
-use Rattle.client.specs.Record.{number, object-in-store, fits}
+use Rattle.client.specs.Record.{fits}
 use Rattle.client.specs.Have.{here, copy, full, lacking, unfit, is-found, is-copied, source}
 use Rattle.client.specs.Run.{among}
 use Rattle.client.specs.Lent.{own-find, own-record, used-in, pushed}
@@ -33,9 +32,6 @@ module _ (z : Sizes) (m : ClientWord → ℕ) (w u : List ℕ) where
   -- the object with the number x: w are the own writes, u the copies in use
   unfoldable pub looked : ℕ → Look
   looked x = or-in-part x (own-find w x)
-
-  unfoldable pub look-object : Obj → Look
-  look-object o = cond (object-in-store z o) (looked (number o)) unfit
 
 -- a copy that comes into use is at hand, and is one of those used
 unfoldable pub at-hand : Look → Look

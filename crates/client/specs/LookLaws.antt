@@ -1,29 +1,28 @@
 -- The ways out of a lookup.
 use mathlib.Core.Path.{_≡_, refl, sym, _∙_}
-use mathlib.Core.Bool.{Bool, true, false, cond, _&&_, not, true≢false}
+use mathlib.Core.Bool.{Bool, true, false, cond, not, true≢false}
 use mathlib.Core.List.{List}
 use Prim.Native.Nat.{ℕ, _+_, _-_, _/_, _%_, _≤_, _<_}
 use native.Mathlib.Omega.{arith}
 use borrow.Author.Tests.{eq-eqb, ne-eqb, lt-ltb, le-ltb, le-leb, lt-leb, ltb-true, not-true, not-false}
 use lib.Dec.{ltb}
 use lib.ListN.{length, getD}
-use Rattle.base.specs.Test.{and-both}
 use Rattle.memory.specs.Bit.{bit}
 use Rattle.nodes.specs.declared.node.Node.{Node}
 use Rattle.nodes.specs.declared.found.Found.{Found}
 use Rattle.nodes.specs.declared.found.Found.the-variants.{At, Absent}
-use Rattle.operations.specs.Object.{Obj, node}
+use Rattle.operations.specs.Object.{node}
 use Rattle.operations.specs.Slot.{Sizes}
 use Rattle.client.specs.declared.answer.Look.{Look}
 use Rattle.client.specs.declared.part.Set.the-variants.{Reads, Writes, Copies}
 use Rattle.client.specs.Layout.{ClientWord, field, vector-word}
-use Rattle.client.specs.Record.{number, single, sizes, in-store, object-in-store, fits}
+use Rattle.client.specs.Record.{single, fits}
 use Rattle.client.specs.Sets.{count, record-at, find}
 use Rattle.client.specs.Have.{here, copy, full, lacking, unfit, is-found, is-copied, copied-meta, copied-node, copied-flag, copied, source}
 use Rattle.client.specs.Run.{among}
 use Rattle.client.specs.Lent.{Lent, own-find, own-record, used-in, pushed}
 use Rattle.client.specs.LentLaws.{lent-in-use, length-used, pushed-lent}
-use Rattle.client.specs.Look.{taken-up, or-in-part, looked, look-object, at-hand, used-after}
+use Rattle.client.specs.Look.{taken-up, or-in-part, looked, at-hand, used-after}
 
 -- ---- copies
 module _ (m : ClientWord → ℕ) (r : Look) where
@@ -192,36 +191,3 @@ module _ (z : Sizes) (m : ClientWord → ℕ) (w u : List ℕ) (x : ℕ) where
 
       pub use-lent : (u′ : List ℕ) → x < 16385 → Lent u → u′ ≡ pushed u x → Lent u′
       use-lent u′ h g p = rw p (pushed-lent u x h g (omega (arith, has-room is-copy, length-used u (lent-in-use u g))))
-
--- ---- an object of the store
-pub small-name : (s k n : ℕ) (b : Bool) → b ≡ in-store (sizes s k) n → not b ≡ false → s ≤ 8 → n < 8192
-unfolding in-store
-small-name s k n b e t h =
-    let p : (ltb (n / 1024) s && ltb (n % 1024) k) ≡ true = sym e ∙ not-false b t in
-    let q : n / 1024 < s = ltb-true _ _ (and-both (ltb (n / 1024) s) (ltb (n % 1024) k) p .0) in
-    omega arith
-
-module _ (z : Sizes) (m : ClientWord → ℕ) (w u : List ℕ) (o : Obj) (b : Bool) (e : b ≡ object-in-store z o) where
-  module _ (t : not b ≡ true) where
-    astray : look-object z m w u o ≡ unfit
-    unfolding look-object
-    astray = let q : object-in-store z o ≡ false = sym e ∙ not-true b t in rw q
-
-    pub hand-astray : (r : Look) → r ≡ unfit → r ≡ at-hand (look-object z m w u o)
-    unfolding at-hand
-    hand-astray r p = rw astray p
-
-    pub use-astray : (x : ℕ) → u ≡ used-after (look-object z m w u o) u x
-    unfolding used-after
-    use-astray x = rw astray
-
-  module _ (t : not b ≡ false) where
-    there : look-object z m w u o ≡ looked z m w u (number o)
-    unfolding look-object
-    there = let q : object-in-store z o ≡ true = sym e ∙ not-false b t in rw q
-
-    pub hand-there : (r : Look) → r ≡ at-hand (looked z m w u (number o)) → r ≡ at-hand (look-object z m w u o)
-    hand-there r p = rw there p
-
-    pub use-there : (x : ℕ) (u′ : List ℕ) → u′ ≡ used-after (looked z m w u (number o)) u x → u′ ≡ used-after (look-object z m w u o) u x
-    use-there x u′ p = rw there p

@@ -16,7 +16,6 @@ use crate::part::get_field;
 use crate::part::record_at;
 use crate::part::vector_word;
 use crate::range::fits;
-use crate::range::in_store;
 use crate::range::single;
 use crate::used::is_used;
 use crate::used::push_used;
@@ -24,14 +23,13 @@ use memory::bits::has;
 use nodes::found::Found;
 use nodes::node::Node;
 ghost use mathlib.Core.Path.{_≡_};
-ghost use Prim.Native.Nat.{_+_, _/_, _<_, _≤_};
+ghost use Prim.Native.Nat.{_/_, _<_, _≤_};
 ghost use lib.ListN.{length};
-ghost use Rattle.operations.specs.Object.{meta, node, flag};
 ghost use Rattle.client.specs.Record.{sizes};
 ghost use Rattle.client.specs.Sets.{held};
 ghost use Rattle.client.specs.Have.{copied, copied-meta, copied-node, copied-flag, source};
 ghost use Rattle.client.specs.Lent.{Lent, OwnFits};
-ghost use Rattle.client.specs.Look.{taken-up, looked, look-object, at-hand, used-after};
+ghost use Rattle.client.specs.Look.{taken-up, looked, at-hand, used-after};
 
 fn copied_meta(part: &[u8]) -> Look
     requires { ⌜ 7223 ≤ length (now part) / 8 ⌝ }
@@ -158,54 +156,4 @@ pub fn look_at(
     }
     push_used(used, number);
     here(l.node)
-}
-
-// The metadata.
-pub fn look_meta(part: &[u8], servers: usize, slots: usize, own: &[u64], used: &mut [u64]) -> Look
-    requires { ⌜ OwnFits (now own) × Lent (now used) × (7223 ≤ length (now part) / 8) ⌝ }
-    ensures { λ r. ⌜ r ≡ at-hand (look-object (sizes servers slots) (held (now (part .entry))) (now (own .entry)) (now (used .entry)) meta) ⌝ }
-    ensures uses { λ _. ⌜ now (used .exit) ≡ used-after (look-object (sizes servers slots) (held (now (part .entry))) (now (own .entry)) (now (used .entry)) meta) (now (used .entry)) 0 ⌝ }
-    ensures lent { λ _. ⌜ Lent (now (used .exit)) ⌝ }
-{
-    look_at(part, servers, slots, own, used, 0)
-}
-
-// A node.
-pub fn look_node(
-    part: &[u8],
-    servers: usize,
-    slots: usize,
-    own: &[u64],
-    used: &mut [u64],
-    name: u64,
-) -> Look
-    requires { ⌜ (servers ≤ 8) × OwnFits (now own) × Lent (now used) × (7223 ≤ length (now part) / 8) ⌝ }
-    ensures { λ r. ⌜ r ≡ at-hand (look-object (sizes servers slots) (held (now (part .entry))) (now (own .entry)) (now (used .entry)) (node name)) ⌝ }
-    ensures uses { λ _. ⌜ now (used .exit) ≡ used-after (look-object (sizes servers slots) (held (now (part .entry))) (now (own .entry)) (now (used .entry)) (node name)) (now (used .entry)) (1 + name) ⌝ }
-    ensures lent { λ _. ⌜ Lent (now (used .exit)) ⌝ }
-{
-    if !in_store(servers, slots, name) {
-        return unfit();
-    }
-    look_at(part, servers, slots, own, used, 1 + name)
-}
-
-// A flag.
-pub fn look_flag(
-    part: &[u8],
-    servers: usize,
-    slots: usize,
-    own: &[u64],
-    used: &mut [u64],
-    name: u64,
-) -> Look
-    requires { ⌜ (servers ≤ 8) × OwnFits (now own) × Lent (now used) × (7223 ≤ length (now part) / 8) ⌝ }
-    ensures { λ r. ⌜ r ≡ at-hand (look-object (sizes servers slots) (held (now (part .entry))) (now (own .entry)) (now (used .entry)) (flag name)) ⌝ }
-    ensures uses { λ _. ⌜ now (used .exit) ≡ used-after (look-object (sizes servers slots) (held (now (part .entry))) (now (own .entry)) (now (used .entry)) (flag name)) (now (used .entry)) (8193 + name) ⌝ }
-    ensures lent { λ _. ⌜ Lent (now (used .exit)) ⌝ }
-{
-    if !in_store(servers, slots, name) {
-        return unfit();
-    }
-    look_at(part, servers, slots, own, used, 8193 + name)
 }
