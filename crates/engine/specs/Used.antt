@@ -17,7 +17,7 @@ use Rattle.client.specs.Record.{number, object-in-store, number-in-store}
 use Rattle.client.specs.Have.{have}
 use Rattle.client.specs.Run.{among, judged, run}
 use Rattle.client.specs.Work.{walked}
-use Rattle.work.specs.Write.{name-below}
+use Rattle.walk.specs.Write.{name-below}
 
 module _ (z : Sizes) where
   -- all of these numbers are of objects of the store

@@ -34,10 +34,10 @@ use Rattle.client.specs.Lent.{Entry, used-in, OwnFits, own-list}
 use Rattle.client.specs.Enter.{enter-entries}
 use Rattle.client.specs.Answered.{used-enter, enter-writes, entered, answered}
 use Rattle.client.specs.Work.{Worked, refused, fetches, aborted, answers, count-new, any-at-last, last-questions, judge, walked, worked}
-use Rattle.work.specs.declared.walk.Stop.{Stop}
-use Rattle.work.specs.declared.walk.Stop.the-variants.{Going, LacksMeta, LacksNode, LacksVector, Refused, Aborts, Answers}
-use Rattle.work.specs.Walk.{lack}
-use Rattle.work.specs.Work.{Waiting, Ready, stop-of, Works}
+use Rattle.walk.specs.declared.walk.Stop.{Stop}
+use Rattle.walk.specs.declared.walk.Stop.the-variants.{Going, LacksMeta, LacksNode, LacksVector, Refused, Aborts, Answers}
+use Rattle.walk.specs.Walk.{lack}
+use Rattle.change.specs.Work.{Waiting, Ready, stop-of, Works}
 use Rattle.steps.specs.declared.sizes.Sizes.{Sizes}
 use Rattle.steps.specs.declared.outcome.Outcome.{Outcome}
 use Rattle.steps.specs.declared.outcome.Outcome.the-variants as outcome

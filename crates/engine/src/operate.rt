@@ -6,7 +6,7 @@ ghost use Rattle.layout.specs.Step.{Does, silent};
 ghost use Rattle.layout.specs.Part.{inPart};
 ghost use Rattle.client.specs.Part.{Did};
 ghost use Rattle.client.specs.Lent.{InUse, used-in, OwnFits, own-list};
-ghost use Rattle.work.specs.Work.{Waiting};
+ghost use Rattle.change.specs.Work.{Waiting};
 ghost use Rattle.steps.specs.Whole.{client as at-client, whole, block};
 ghost use Rattle.steps.specs.Steps.{work};
 ghost use Rattle.kinds.specs.Parts.{Holds};
@@ -25,7 +25,7 @@ use kinds::lack::fetch_vector;
 use kinds::whole::client_at;
 use steps::outcome::Outcome;
 use steps::sizes::Sizes;
-use work::walk::Stop;
+use walk::walk::Stop;
 
 // "otherwise it answers the operation, and only then do its writes enter the write set": no operation waits any more.
 fn enter_answer(part: &mut [u8], own: &[u64], used: &[u64])

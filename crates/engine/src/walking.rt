@@ -2,14 +2,14 @@
 ghost use Prim.Native.Nat.{_<_};
 ghost use lib.ListN.{length};
 ghost use Rattle.memory.specs.Word.{view};
-ghost use Rattle.work.specs.Work.{Waiting, Ready, Works};
+ghost use Rattle.change.specs.Work.{Waiting, Ready, Works};
 ghost use Rattle.steps.specs.Whole.{tree-sizes};
 ghost use Rattle.kinds.specs.Parts.{Holds};
 ghost use Rattle.kinds.specs.Judge.{of-client};
+use change::work::work;
 use kinds::whole::client_at;
 use steps::sizes::Sizes;
-use work::walk::Stop;
-use work::work::work;
+use walk::walk::Stop;
 
 // Both lists are lent empty.
 pub fn walk_at(mem: &[u8], sizes: Sizes, client: usize, own: &mut [u64], used: &mut [u64]) -> Stop

@@ -1,0 +1,17 @@
+use borrow.Author.Needs.{needs}
+use Rattle.change.specs.Insert.{pair-exits}
+use Rattle.change.proofs.insert.with_pair.Statement.{statement}
+use Rattle.change.proofs.insert.with_pair.Tie as tie
+
+pub with-pair-spec : {M : Type 1} → statement M
+with-pair-spec = tie.close (tie.spec
+    (λ c κs. search (pair-exits, needs))  -- find-requires
+    (λ c. search (pair-exits, needs))  -- enum-known-f
+    (λ c κs. search (pair-exits, needs))  -- with-slot-requires
+    (λ c κs. search (pair-exits, needs))  -- widen-requires
+    (λ c. search (pair-exits, needs))  -- enum-told
+    (λ c κs. search (pair-exits, needs))  -- place-requires
+    (λ c κs. search (pair-exits, needs))  -- put-in-requires
+    (λ c. search (pair-exits, needs))  -- returns
+    (λ c. search (pair-exits, needs))  -- returns-2
+    )

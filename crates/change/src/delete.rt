@@ -1,0 +1,77 @@
+// Delete: the key goes from the leaf for it; "a key that is not there changes nothing".
+use crate::rise::widen;
+use crate::up::carry_up;
+use nodes::change::Wide;
+use nodes::found::Found;
+use nodes::node::Node;
+use walk::down::Descent;
+use walk::down::descend;
+use walk::lookup::answers;
+use walk::walk::Stop;
+use walk::walk::going;
+ghost use mathlib.Core.Path.{_≡_};
+ghost use Prim.Native.Nat.{_/_, _<_, _≤_};
+ghost use lib.ListN.{length, getD};
+ghost use Rattle.nodes.specs.Change.{take-out};
+ghost use Rattle.operations.specs.Change.{delete-plan};
+ghost use Rattle.client.specs.Record.{sizes};
+ghost use Rattle.client.specs.Sets.{held};
+ghost use Rattle.walk.specs.Ask.{OwnGood, Noted};
+ghost use Rattle.change.specs.Rise.{widened};
+ghost use Rattle.change.specs.Operated.{Operated};
+ghost use Rattle.change.specs.Insert.{Ended};
+ghost use Rattle.change.specs.Delete.{delete-in};
+
+// The leaf's content without key number i.
+fn without(n: Node, i: usize) -> Wide
+    requires { ⌜ (n .count ≤ 14) × (i < n .count) ⌝ }
+    ensures { λ r. ⌜ r ≡ widened (take-out n i) ⌝ }
+{
+    let m = n.take_out(i);
+    widen(m)
+}
+
+// At the leaf.
+fn delete_at(
+    part: &[u8],
+    servers: usize,
+    slots: usize,
+    own: &mut [u64],
+    used: &mut [u64],
+    d: Descent,
+    key: u64,
+) -> Stop
+    requires { ⌜ (servers ≤ 8) × OwnGood (now own) × (getD (now own) 0 0 ≡ 0) × Noted (held (now part)) (now used) × (7223 ≤ length (now part) / 8) ⌝ }
+    requires ended { ⌜ Ended (sizes servers slots) d ⌝ }
+    ensures { λ r. ⌜ Operated (sizes servers slots) (held (now (part .entry))) (now (own .entry)) (now (used .entry)) (delete-in (sizes servers slots) d key) r (now (own .exit)) (now (used .exit)) ⌝ }
+{
+    let leaf = d.node;
+    let f = leaf.find(key);
+    match f {
+        Found::At(i) => {
+            let content = without(leaf, i);
+            carry_up(part, servers, slots, own, used, d, content, 1)
+        }
+        Found::Absent => answers(part, used, 0, 0),
+    }
+}
+
+pub fn delete(
+    part: &[u8],
+    servers: usize,
+    slots: usize,
+    own: &mut [u64],
+    used: &mut [u64],
+    key: u64,
+) -> Stop
+    requires { ⌜ (servers ≤ 8) × OwnGood (now own) × (getD (now own) 0 0 ≡ 0) × Noted (held (now part)) (now used) × (7223 ≤ length (now part) / 8) ⌝ }
+    ensures { λ r. ⌜ Operated (sizes servers slots) (held (now (part .entry))) (now (own .entry)) (now (used .entry)) (delete-plan (sizes servers slots) key) r (now (own .exit)) (now (used .exit)) ⌝ }
+{
+    let d = descend(part, servers, slots, own, used, key);
+    let stop = d.stop;
+    let on = going(stop);
+    if !on {
+        return stop;
+    }
+    delete_at(part, servers, slots, own, used, d, key)
+}

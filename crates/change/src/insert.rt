@@ -1,0 +1,88 @@
+// Insert: the pair comes into the leaf for the key.
+use crate::rise::widen;
+use crate::up::carry_up;
+use nodes::change::Wide;
+use nodes::found::Found;
+use nodes::node::Node;
+use walk::down::Descent;
+use walk::down::descend;
+use walk::walk::Stop;
+use walk::walk::going;
+ghost use mathlib.Core.Path.{_≡_};
+ghost use Prim.Native.Nat.{_/_, _≤_};
+ghost use lib.ListN.{length, getD};
+ghost use Rattle.operations.specs.Change.{insert-plan};
+ghost use Rattle.client.specs.Record.{sizes};
+ghost use Rattle.client.specs.Sets.{held};
+ghost use Rattle.walk.specs.Ask.{OwnGood, Noted};
+ghost use Rattle.change.specs.Operated.{Operated};
+ghost use Rattle.change.specs.Insert.{Ended, paired, insert-in};
+
+// A leaf's new content, with the answer a: 1 if the key is new.
+pub struct Paired {
+    pub content: Wide,
+    pub a: u64,
+}
+
+// "Insert of a present key replaces its value"
+fn with_pair(n: Node, key: u64, value: u64) -> Paired
+    requires { ⌜ n .count ≤ 14 ⌝ }
+    ensures { λ r. ⌜ r ≡ paired n key value ⌝ }
+{
+    let f = n.find(key);
+    match f {
+        Found::At(i) => {
+            let m = n.with_slot(i, value);
+            let content = widen(m);
+            Paired { content, a: 0 }
+        }
+        Found::Absent => {
+            let p = n.place(key);
+            let content = n.put_in(p, key, value);
+            Paired { content, a: 1 }
+        }
+    }
+}
+
+// At the leaf.
+fn insert_at(
+    part: &[u8],
+    servers: usize,
+    slots: usize,
+    own: &mut [u64],
+    used: &mut [u64],
+    d: Descent,
+    key: u64,
+    value: u64,
+) -> Stop
+    requires { ⌜ (servers ≤ 8) × OwnGood (now own) × (getD (now own) 0 0 ≡ 0) × Noted (held (now part)) (now used) × (7223 ≤ length (now part) / 8) ⌝ }
+    requires ended { ⌜ Ended (sizes servers slots) d ⌝ }
+    ensures { λ r. ⌜ Operated (sizes servers slots) (held (now (part .entry))) (now (own .entry)) (now (used .entry)) (insert-in (sizes servers slots) d key value) r (now (own .exit)) (now (used .exit)) ⌝ }
+{
+    let leaf = d.node;
+    let p = with_pair(leaf, key, value);
+    let content = p.content;
+    let a = p.a;
+    carry_up(part, servers, slots, own, used, d, content, a)
+}
+
+pub fn insert(
+    part: &[u8],
+    servers: usize,
+    slots: usize,
+    own: &mut [u64],
+    used: &mut [u64],
+    key: u64,
+    value: u64,
+) -> Stop
+    requires { ⌜ (servers ≤ 8) × OwnGood (now own) × (getD (now own) 0 0 ≡ 0) × Noted (held (now part)) (now used) × (7223 ≤ length (now part) / 8) ⌝ }
+    ensures { λ r. ⌜ Operated (sizes servers slots) (held (now (part .entry))) (now (own .entry)) (now (used .entry)) (insert-plan (sizes servers slots) key value) r (now (own .exit)) (now (used .exit)) ⌝ }
+{
+    let d = descend(part, servers, slots, own, used, key);
+    let stop = d.stop;
+    let on = going(stop);
+    if !on {
+        return stop;
+    }
+    insert_at(part, servers, slots, own, used, d, key, value)
+}

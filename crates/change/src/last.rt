@@ -1,0 +1,141 @@
+// The last questions before the answer: what would be written is looked at once all is read.
+use client::lookup::copied;
+use client::own::own_record;
+use client::part::Set;
+use client::part::find;
+use client::part::get_field;
+use client::part::record_at;
+use nodes::found::Found;
+ghost use mathlib.Core.Path.{_≡_};
+ghost use mathlib.Core.Bool.{not};
+ghost use Prim.Native.Nat.{_/_, _<_, _≤_};
+ghost use lib.ListN.{length, getD};
+ghost use Rattle.client.specs.declared.part.Set.the-variants.{Reads};
+ghost use Rattle.client.specs.Layout.{writes-count};
+ghost use Rattle.client.specs.Sets.{held, find};
+ghost use Rattle.client.specs.Lent.{OwnFits, own-list};
+ghost use Rattle.client.specs.Work.{version-in, at-last-version, count-new, any-at-last};
+ghost use Rattle.walk.specs.Ask.{OwnKept};
+ghost use Rattle.change.specs.Fit.{entries-fit};
+ghost use Rattle.change.specs.Last.{own-fits, new-at, stays-below, last-reason};
+
+// "a node with keys that don't rise or a level above 4 would be written"
+fn own_fits(own: &[u64], i: usize) -> bool
+    requires { ⌜ (i < getD (now own) 0 0) × OwnKept (now own) ⌝ }
+    ensures { λ r. ⌜ r ≡ own-fits (now (own .entry)) i ⌝ }
+{
+    let n = own_record(own, i);
+    if !n.keys_rise() {
+        return false;
+    }
+    n.level <= 4
+}
+
+fn all_fit(own: &[u64]) -> bool
+    requires { ⌜ OwnKept (now own) ⌝ }
+    ensures { λ r. ⌜ r ≡ entries-fit (own-list (now (own .entry))) ⌝ }
+{
+    let n = own[0] as usize;
+    let mut i: usize = 0;
+    while i < n {
+        if !own_fits(own, i) {
+            return false;
+        }
+        i += 1;
+    }
+    true
+}
+
+// 1 for an own write of an object that the write set lacks.
+fn new_at(part: &[u8], own: &[u64], i: usize) -> usize
+    requires { ⌜ (i < getD (now own) 0 0) × OwnFits (now own) × (7223 ≤ length (now part) / 8) ⌝ }
+    ensures { λ r. ⌜ r ≡ new-at (held (now (part .entry))) (now (own .entry)) i ⌝ }
+    ensures within { λ r. ⌜ r ≤ 1 ⌝ }
+{
+    let at = find(part, Set::Writes, own[34 * i + 1]);
+    match at {
+        Found::At(_) => 0,
+        Found::Absent => 1,
+    }
+}
+
+fn count_new(part: &[u8], own: &[u64]) -> usize
+    requires { ⌜ OwnFits (now own) × (7223 ≤ length (now part) / 8) ⌝ }
+    ensures { λ r. ⌜ r ≡ count-new (held (now (part .entry))) (own-list (now (own .entry))) ⌝ }
+    ensures within { λ r. ⌜ r ≤ 20 ⌝ }
+{
+    let n = own[0] as usize;
+    let mut i: usize = 0;
+    let mut c: usize = 0;
+    while i < n {
+        c += new_at(part, own, i);
+        i += 1;
+    }
+    c
+}
+
+// The version of an object that was read, or that came into use.
+fn version_in(part: &[u8], number: u64) -> u64
+    requires { ⌜ (number < 16385) × (7223 ≤ length (now part) / 8) ⌝ }
+    ensures { λ r. ⌜ r ≡ version-in (held (now (part .entry))) number (find (held (now (part .entry))) Reads number) ⌝ }
+{
+    let at = find(part, Set::Reads, number);
+    match at {
+        Found::At(i) => {
+            let n = record_at(part, Set::Reads, i);
+            n.version
+        }
+        Found::Absent => {
+            let l = copied(part, number);
+            let n = l.node;
+            n.version
+        }
+    }
+}
+
+// "8 a written version is 4,294,967,295": of metadata and nodes.
+fn stays_below(part: &[u8], own: &[u64], i: usize) -> bool
+    requires { ⌜ (i < getD (now own) 0 0) × OwnFits (now own) × (7223 ≤ length (now part) / 8) ⌝ }
+    ensures { λ r. ⌜ r ≡ stays-below (held (now (part .entry))) (now (own .entry)) i ⌝ }
+{
+    let number = own[34 * i + 1];
+    if number > 8192 {
+        return true;
+    }
+    let version = version_in(part, number);
+    version != 4294967295
+}
+
+fn all_below(part: &[u8], own: &[u64]) -> bool
+    requires { ⌜ OwnFits (now own) × (7223 ≤ length (now part) / 8) ⌝ }
+    ensures { λ r. ⌜ r ≡ not (any-at-last (held (now (part .entry))) (own-list (now (own .entry)))) ⌝ }
+{
+    let n = own[0] as usize;
+    let mut i: usize = 0;
+    while i < n {
+        if !stays_below(part, own, i) {
+            return false;
+        }
+        i += 1;
+    }
+    true
+}
+
+// The reason to abort, 0 if there is none: 3, then 4, then 8.
+pub fn last_reason(part: &[u8], own: &[u64]) -> u64
+    requires { ⌜ OwnKept (now own) × (held (now part) writes-count ≤ 48) × (7223 ≤ length (now part) / 8) ⌝ }
+    ensures { λ r. ⌜ r ≡ last-reason (held (now (part .entry))) (own-list (now (own .entry))) ⌝ }
+{
+    if !all_fit(own) {
+        return 3;
+    }
+    let written = get_field(part, 11) as usize;
+    let new = count_new(part, own);
+    if 48 < written + new {
+        return 4;
+    }
+    if !all_below(part, own) {
+        return 8;
+    }
+    0
+}

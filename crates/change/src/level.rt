@@ -1,0 +1,108 @@
+// One level of a change: a node whose new content is in range is written, one of 15 keys splits, one of 6 turns to a neighbour.
+use crate::grow::split_root;
+use crate::neighbour::neighbour;
+use crate::rise::Risen;
+use crate::rise::write_node;
+use crate::split::split;
+use nodes::change::Wide;
+use walk::down::Turn;
+use walk::lookup::answers;
+use walk::walk::Stop;
+ghost use mathlib.Core.Path.{_≡_};
+ghost use mathlib.Core.Bool.{true};
+ghost use Prim.Native.Nat.{_/_, _<_, _≤_};
+ghost use lib.ListN.{length, getD};
+ghost use Rattle.nodes.specs.Entries.{wide-entries};
+ghost use Rattle.client.specs.Record.{sizes, in-store};
+ghost use Rattle.client.specs.Sets.{held};
+ghost use Rattle.walk.specs.Ask.{OwnGood, Noted};
+ghost use Rattle.change.specs.Rise.{Content, Under, Raised, Closed};
+ghost use Rattle.change.specs.Level.{Settled, level-plan, top-plan};
+
+// A node is written, and the operation answered.
+fn settle(
+    part: &[u8],
+    own: &mut [u64],
+    used: &mut [u64],
+    name: u64,
+    n: Wide,
+    a: u64,
+    b: u64,
+) -> Stop
+    requires { ⌜ (name < 8192) × OwnGood (now own) × (getD (now own) 0 0 < 20) × (n .count ≤ 14) ⌝ }
+    requires noted { ⌜ Noted (held (now part)) (now used) × (7223 ≤ length (now part) / 8) ⌝ }
+    ensures { λ r. ⌜ Settled (held (now (part .entry))) (now (own .entry)) (now (used .entry)) name n a b r (now (own .exit)) (now (used .exit)) ⌝ }
+{
+    let node = n.node();
+    write_node(own, name, node);
+    answers(part, used, a, b)
+}
+
+// Below the root; `root` says that the parent is the root.
+pub fn raise(
+    part: &[u8],
+    servers: usize,
+    slots: usize,
+    own: &mut [u64],
+    used: &mut [u64],
+    level: usize,
+    root: bool,
+    above: Turn,
+    name: u64,
+    n: Wide,
+    a: u64,
+    b: u64,
+) -> Risen
+    requires { ⌜ (servers ≤ 8) × OwnGood (now own) × (getD (now own) 0 0 ≤ 12) × Noted (held (now part)) (now used) × (7223 ≤ length (now part) / 8) ⌝ }
+    requires under { ⌜ Under (sizes servers slots) level name above ⌝ }
+    requires content { ⌜ Content level n ⌝ }
+    ensures { λ r. ⌜ Raised (sizes servers slots) (held (now (part .entry))) (now (own .entry)) (now (used .entry)) level root (level-plan (sizes servers slots) (a, b) level above name (wide-entries n)) r (now (own .exit)) (now (used .exit)) ⌝ }
+{
+    if n.count == 15 {
+        return split(part, servers, slots, own, used, level, above, name, n);
+    }
+    if n.count < 7 {
+        let node = n.node();
+        return neighbour(
+            part,
+            servers,
+            slots,
+            own,
+            used,
+            level,
+            root,
+            above,
+            name,
+            node,
+            a,
+            b,
+        );
+    }
+    let stop = settle(part, own, used, name, n, a, b);
+    Risen { stop, up: n }
+}
+
+// The root.
+pub fn at_top(
+    part: &[u8],
+    servers: usize,
+    slots: usize,
+    own: &mut [u64],
+    used: &mut [u64],
+    level: usize,
+    name: u64,
+    n: Wide,
+    a: u64,
+    b: u64,
+) -> Stop
+    requires { ⌜ (servers ≤ 8) × OwnGood (now own) × (getD (now own) 0 0 ≤ 12) × Noted (held (now part)) (now used) × (7223 ≤ length (now part) / 8) ⌝ }
+    requires there { ⌜ in-store (sizes servers slots) name ≡ true ⌝ }
+    requires content { ⌜ Content level n ⌝ }
+    requires low { ⌜ level ≤ 4 ⌝ }
+    ensures { λ r. ⌜ Closed (sizes servers slots) (held (now (part .entry))) (now (own .entry)) (now (used .entry)) (top-plan (sizes servers slots) (a, b) level name (wide-entries n 0)) r (now (own .exit)) (now (used .exit)) ⌝ }
+{
+    if n.count == 15 {
+        return split_root(part, servers, slots, own, used, level, name, n, a, b);
+    }
+    settle(part, own, used, name, n, a, b)
+}

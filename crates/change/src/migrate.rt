@@ -1,0 +1,371 @@
+// Migrate: a node goes to a slot of a named server.
+use crate::rise::write_node;
+use client::own::put_own;
+use client::range::single;
+use nodes::node::Node;
+use walk::down::Descent;
+use walk::down::go_down;
+use walk::down::no_descent;
+use walk::down::root;
+use walk::lookup::answers;
+use walk::search::Taken;
+use walk::search::take_on;
+use walk::take::release;
+use walk::take::take_node;
+use walk::walk::Stop;
+use walk::walk::ask_meta;
+use walk::walk::ask_node;
+use walk::walk::going;
+ghost use mathlib.Core.Path.{_≡_};
+ghost use mathlib.Core.Bool.{true};
+ghost use Prim.Native.Nat.{_+_, _/_, _<_, _≤_};
+ghost use lib.ListN.{length, getD};
+ghost use Rattle.nodes.specs.Kept.{Whole};
+ghost use Rattle.operations.specs.Object.{node};
+ghost use Rattle.operations.specs.Migrate.{move-root, move-below, move-if, migrate-plan};
+ghost use Rattle.client.specs.Record.{sizes, in-store, value-of};
+ghost use Rattle.client.specs.Sets.{held};
+ghost use Rattle.walk.specs.Ask.{SmallNode, OwnGood, Noted};
+ghost use Rattle.change.specs.Operated.{Operated};
+ghost use Rattle.change.specs.Move.{Beside, Placed, Left, Moved};
+ghost use Rattle.change.specs.Migrate.{named-plan};
+ghost use Rattle.change.specs.Parent.{Parent, ToParent, ChildMoved, MovedAt};
+
+// "changes .. the metadata for the root"
+fn write_root(own: &mut [u64], is_root: bool, name: u64)
+    requires { ⌜ OwnGood (now own) × (getD (now own) 0 0 < 20) ⌝ }
+    ensures { λ _. ⌜ Beside (now (own .entry)) «is_root» name (now (own .exit)) ⌝ }
+{
+    if !is_root {
+        return;
+    }
+    let record = single(0, name);
+    put_own(own, 0, record);
+}
+
+// A slot of the server, above a slot number, with its node.
+fn take_place(
+    part: &[u8],
+    servers: usize,
+    slots: usize,
+    own: &mut [u64],
+    used: &mut [u64],
+    server: usize,
+    slot: usize,
+) -> Taken
+    requires { ⌜ (servers ≤ 8) × OwnGood (now own) × (getD (now own) 0 0 < 20) × Noted (held (now part)) (now used) × (7223 ≤ length (now part) / 8) ⌝ }
+    requires above { ⌜ slot < 1024 ⌝ }
+    ensures { λ r. ⌜ Placed (sizes servers slots) (held (now (part .entry))) (now (own .entry)) (now (used .entry)) server slot r (now (own .exit)) (now (used .exit)) ⌝ }
+{
+    let t = take_on(part, servers, slots, own, used, server, slot);
+    let stop = t.stop;
+    let on = going(stop);
+    if !on {
+        return t;
+    }
+    let name = t.name;
+    let stop = take_node(part, servers, slots, own, used, name);
+    Taken { stop, name }
+}
+
+// The node goes to the slot of the name `to`, and its old slot is freed.
+fn leave(
+    part: &[u8],
+    servers: usize,
+    slots: usize,
+    own: &mut [u64],
+    used: &mut [u64],
+    name: u64,
+    to: u64,
+    n: Node,
+    is_root: bool,
+) -> Stop
+    requires { ⌜ (servers ≤ 8) × OwnGood (now own) × (getD (now own) 0 0 < 16) × Noted (held (now part)) (now used) × (7223 ≤ length (now part) / 8) ⌝ }
+    requires there { ⌜ in-store (sizes servers slots) to ≡ true ⌝ }
+    requires small { ⌜ SmallNode n ⌝ }
+    ensures { λ r. ⌜ Left (sizes servers slots) (held (now (part .entry))) (now (own .entry)) (now (used .entry)) name to n «is_root» r (now (own .exit)) (now (used .exit)) ⌝ }
+{
+    write_root(own, is_root, to);
+    let stop = release(part, servers, slots, own, used, name);
+    let on = going(stop);
+    if !on {
+        return stop;
+    }
+    write_node(own, to, n);
+    stop
+}
+
+// The node goes to a slot of the server. With Going the new name.
+fn move_to(
+    part: &[u8],
+    servers: usize,
+    slots: usize,
+    own: &mut [u64],
+    used: &mut [u64],
+    name: u64,
+    server: u64,
+    n: Node,
+    is_root: bool,
+) -> Taken
+    requires { ⌜ (servers ≤ 8) × OwnGood (now own) × (getD (now own) 0 0 ≡ 0) × Noted (held (now part)) (now used) × (7223 ≤ length (now part) / 8) ⌝ }
+    requires small { ⌜ SmallNode n ⌝ }
+    ensures { λ r. ⌜ Moved (sizes servers slots) (held (now (part .entry))) (now (own .entry)) (now (used .entry)) name server n «is_root» r (now (own .exit)) (now (used .exit)) ⌝ }
+{
+    let slot = (name % 1024) as usize;
+    let t = take_place(part, servers, slots, own, used, server as usize, slot);
+    let stop = t.stop;
+    let on = going(stop);
+    if !on {
+        return t;
+    }
+    let to = t.name;
+    let stop = leave(part, servers, slots, own, used, name, to, n, is_root);
+    Taken { stop, name: to }
+}
+
+// The root: the metadata gets the new name.
+fn move_root(
+    part: &[u8],
+    servers: usize,
+    slots: usize,
+    own: &mut [u64],
+    used: &mut [u64],
+    name: u64,
+    server: u64,
+    n: Node,
+) -> Stop
+    requires { ⌜ (servers ≤ 8) × OwnGood (now own) × (getD (now own) 0 0 ≡ 0) × Noted (held (now part)) (now used) × (7223 ≤ length (now part) / 8) ⌝ }
+    requires small { ⌜ SmallNode n ⌝ }
+    ensures { λ r. ⌜ Operated (sizes servers slots) (held (now (part .entry))) (now (own .entry)) (now (used .entry)) (move-root (sizes servers slots) name server (value-of (node name) n)) r (now (own .exit)) (now (used .exit)) ⌝ }
+{
+    let t = move_to(part, servers, slots, own, used, name, server, n, true);
+    let stop = t.stop;
+    let on = going(stop);
+    if !on {
+        return stop;
+    }
+    let to = t.name;
+    answers(part, used, 1, to)
+}
+
+// Child number `at` of the parent p: p gets the new name, under its own name `above`.
+fn move_child(
+    part: &[u8],
+    servers: usize,
+    slots: usize,
+    own: &mut [u64],
+    used: &mut [u64],
+    name: u64,
+    server: u64,
+    n: Node,
+    above: u64,
+    p: Node,
+    at: usize,
+) -> Stop
+    requires { ⌜ (servers ≤ 8) × OwnGood (now own) × (getD (now own) 0 0 ≡ 0) × Noted (held (now part)) (now used) × (7223 ≤ length (now part) / 8) ⌝ }
+    requires small { ⌜ SmallNode n ⌝ }
+    requires parent { ⌜ Parent (sizes servers slots) (n .level) above p ⌝ }
+    requires child { ⌜ at ≤ p .count ⌝ }
+    ensures { λ r. ⌜ ChildMoved (sizes servers slots) (held (now (part .entry))) (now (own .entry)) (now (used .entry)) name server n above p at r (now (own .exit)) (now (used .exit)) ⌝ }
+{
+    let t = move_to(part, servers, slots, own, used, name, server, n, false);
+    let stop = t.stop;
+    let on = going(stop);
+    if !on {
+        return stop;
+    }
+    let to = t.name;
+    let parent = p.with_slot(at, to);
+    write_node(own, above, parent);
+    answers(part, used, 1, to)
+}
+
+// "isn't met at its level going down from the root by its first key"
+fn move_at(
+    part: &[u8],
+    servers: usize,
+    slots: usize,
+    own: &mut [u64],
+    used: &mut [u64],
+    key: u64,
+    name: u64,
+    server: u64,
+    n: Node,
+    above: u64,
+    p: Node,
+) -> Stop
+    requires { ⌜ (servers ≤ 8) × OwnGood (now own) × (getD (now own) 0 0 ≡ 0) × Noted (held (now part)) (now used) × (7223 ≤ length (now part) / 8) ⌝ }
+    requires small { ⌜ SmallNode n ⌝ }
+    requires parent { ⌜ Parent (sizes servers slots) (n .level) above p ⌝ }
+    ensures { λ r. ⌜ MovedAt (sizes servers slots) (held (now (part .entry))) (now (own .entry)) (now (used .entry)) key name server n above p r (now (own .exit)) (now (used .exit)) ⌝ }
+{
+    let at = p.place(key);
+    let children = p.slots;
+    if children[at] != name {
+        return Stop::Aborts(3);
+    }
+    move_child(
+        part,
+        servers,
+        slots,
+        own,
+        used,
+        name,
+        server,
+        n,
+        above,
+        p,
+        at,
+    )
+}
+
+// From the root of the name `top` down to the level above a level.
+fn to_parent(
+    part: &[u8],
+    servers: usize,
+    slots: usize,
+    own: &[u64],
+    used: &mut [u64],
+    key: u64,
+    top: u64,
+    level: usize,
+) -> Descent
+    requires { ⌜ (servers ≤ 8) × OwnGood (now own) × Noted (held (now part)) (now used) × (7223 ≤ length (now part) / 8) ⌝ }
+    requires low { ⌜ level ≤ 4 ⌝ }
+    ensures { λ r. ⌜ ToParent (sizes servers slots) (held (now (part .entry))) (now (own .entry)) (now (used .entry)) key top level r (now (used .exit)) ⌝ }
+{
+    let r = root(part, servers, slots, own, used, top);
+    let stop = r.stop;
+    let on = going(stop);
+    if !on {
+        return no_descent(stop);
+    }
+    let first = r.node;
+    if first.level as usize <= level {
+        return no_descent(Stop::Aborts(3));
+    }
+    go_down(part, servers, slots, own, used, key, level + 1, top, first)
+}
+
+// A node below the root of the name `top`.
+fn move_below(
+    part: &[u8],
+    servers: usize,
+    slots: usize,
+    own: &mut [u64],
+    used: &mut [u64],
+    top: u64,
+    name: u64,
+    server: u64,
+    n: Node,
+) -> Stop
+    requires { ⌜ (servers ≤ 8) × OwnGood (now own) × (getD (now own) 0 0 ≡ 0) × Noted (held (now part)) (now used) × (7223 ≤ length (now part) / 8) ⌝ }
+    requires small { ⌜ SmallNode n ⌝ }
+    ensures { λ r. ⌜ Operated (sizes servers slots) (held (now (part .entry))) (now (own .entry)) (now (used .entry)) (move-below (sizes servers slots) top name server (value-of (node name) n) (n .level) (getD (n .keys) 0 0)) r (now (own .exit)) (now (used .exit)) ⌝ }
+{
+    let keys = n.keys;
+    let key = keys[0];
+    let level = n.level as usize;
+    let d = to_parent(part, servers, slots, own, used, key, top, level);
+    let stop = d.stop;
+    let on = going(stop);
+    if !on {
+        return stop;
+    }
+    let above = d.name;
+    let p = d.node;
+    move_at(
+        part,
+        servers,
+        slots,
+        own,
+        used,
+        key,
+        name,
+        server,
+        n,
+        above,
+        p,
+    )
+}
+
+// "for an unmoved node 0 if free, 1 if there already"
+fn move_if(
+    part: &[u8],
+    servers: usize,
+    slots: usize,
+    own: &mut [u64],
+    used: &mut [u64],
+    top: u64,
+    name: u64,
+    server: u64,
+    n: Node,
+) -> Stop
+    requires { ⌜ (servers ≤ 8) × OwnGood (now own) × (getD (now own) 0 0 ≡ 0) × Noted (held (now part)) (now used) × (7223 ≤ length (now part) / 8) ⌝ }
+    requires small { ⌜ SmallNode n ⌝ }
+    requires whole { ⌜ Whole n ⌝ }
+    ensures { λ r. ⌜ Operated (sizes servers slots) (held (now (part .entry))) (now (own .entry)) (now (used .entry)) (move-if (sizes servers slots) top name server (value-of (node name) n)) r (now (own .exit)) (now (used .exit)) ⌝ }
+{
+    if n.kind == 0 {
+        return answers(part, used, 0, 0);
+    }
+    if name / 1024 == server {
+        return answers(part, used, 0, 1);
+    }
+    if name == top {
+        return move_root(part, servers, slots, own, used, name, server, n);
+    }
+    if n.count < 7 {
+        return Stop::Aborts(3);
+    }
+    move_below(part, servers, slots, own, used, top, name, server, n)
+}
+
+// The node of that name, where the root's is `top`.
+fn move_named(
+    part: &[u8],
+    servers: usize,
+    slots: usize,
+    own: &mut [u64],
+    used: &mut [u64],
+    top: u64,
+    name: u64,
+    server: u64,
+) -> Stop
+    requires { ⌜ (servers ≤ 8) × OwnGood (now own) × (getD (now own) 0 0 ≡ 0) × Noted (held (now part)) (now used) × (7223 ≤ length (now part) / 8) ⌝ }
+    ensures { λ r. ⌜ Operated (sizes servers slots) (held (now (part .entry))) (now (own .entry)) (now (used .entry)) (named-plan (sizes servers slots) top name server) r (now (own .exit)) (now (used .exit)) ⌝ }
+{
+    let a = ask_node(part, servers, slots, own, used, name);
+    let stop = a.stop;
+    let on = going(stop);
+    if !on {
+        return stop;
+    }
+    let n = a.node;
+    move_if(part, servers, slots, own, used, top, name, server, n)
+}
+
+// The node of that name goes to the server: "in the order metadata, a migrated node, the path downward".
+pub fn migrate(
+    part: &[u8],
+    servers: usize,
+    slots: usize,
+    own: &mut [u64],
+    used: &mut [u64],
+    name: u64,
+    server: u64,
+) -> Stop
+    requires { ⌜ (servers ≤ 8) × OwnGood (now own) × (getD (now own) 0 0 ≡ 0) × Noted (held (now part)) (now used) × (7223 ≤ length (now part) / 8) ⌝ }
+    ensures { λ r. ⌜ Operated (sizes servers slots) (held (now (part .entry))) (now (own .entry)) (now (used .entry)) (migrate-plan (sizes servers slots) name server) r (now (own .exit)) (now (used .exit)) ⌝ }
+{
+    let a = ask_meta(part, servers, slots, own, used);
+    let stop = a.stop;
+    let on = going(stop);
+    if !on {
+        return stop;
+    }
+    let meta = a.node;
+    let values = meta.slots;
+    let top = values[0];
+    move_named(part, servers, slots, own, used, top, name, server)
+}

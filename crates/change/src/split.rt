@@ -1,0 +1,95 @@
+// A node of 15 keys splits: "The left half keeps the name; a split root keeps its name as parent and both halves get new ones."
+use crate::rise::Risen;
+use crate::rise::write_halves;
+use nodes::change::Wide;
+use walk::down::Turn;
+use walk::search::Taken;
+use walk::search::take_for;
+use walk::take::take_node;
+use walk::walk::Stop;
+use walk::walk::going;
+ghost use Prim.Native.Nat.{_/_, _<_, _≤_};
+ghost use lib.ListN.{length, getD};
+ghost use Rattle.client.specs.Record.{sizes};
+ghost use Rattle.client.specs.Sets.{held};
+ghost use Rattle.walk.specs.Ask.{OwnGood, Noted};
+ghost use Rattle.change.specs.Rise.{Under, Full};
+ghost use Rattle.change.specs.Split.{HalfTaken, Overfull, Halved, Divided, Splits};
+
+// A slot for a half of a node, and its node, which must be free.
+fn take_half(
+    part: &[u8],
+    servers: usize,
+    slots: usize,
+    own: &mut [u64],
+    used: &mut [u64],
+    name: u64,
+) -> Taken
+    requires { ⌜ (servers ≤ 8) × OwnGood (now own) × (getD (now own) 0 0 < 20) × Noted (held (now part)) (now used) × (7223 ≤ length (now part) / 8) ⌝ }
+    requires there { ⌜ name < 8192 ⌝ }
+    ensures { λ r. ⌜ HalfTaken (sizes servers slots) (held (now (part .entry))) (now (own .entry)) (now (used .entry)) name r (now (own .exit)) (now (used .exit)) ⌝ }
+{
+    let t = take_for(part, servers, slots, own, used, name);
+    let stop = t.stop;
+    let on = going(stop);
+    if !on {
+        return t;
+    }
+    let name = t.name;
+    let stop = take_node(part, servers, slots, own, used, name);
+    Taken { stop, name }
+}
+
+// A node's halves are written; the result is the separator between them.
+pub fn halve(own: &mut [u64], left: u64, right: u64, n: Wide) -> u64
+    requires { ⌜ (left < 8192) × (right < 8192) × OwnGood (now own) × (getD (now own) 0 0 < 19) ⌝ }
+    requires full { ⌜ Overfull n ⌝ }
+    ensures { λ r. ⌜ Halved (now (own .entry)) left right n r (now (own .exit)) ⌝ }
+{
+    let h = n.split(0);
+    write_halves(own, left, right, h);
+    h.sep
+}
+
+// A child's halves are written; the result is its parent with the right one as one more child.
+fn divide(own: &mut [u64], above: Turn, left: u64, right: u64, n: Wide) -> Wide
+    requires { ⌜ (left < 8192) × (right < 8192) × OwnGood (now own) × (getD (now own) 0 0 < 19) ⌝ }
+    requires parent { ⌜ (above .node .count ≤ 14) × (above .at ≤ above .node .count) ⌝ }
+    requires full { ⌜ Overfull n ⌝ }
+    ensures { λ r. ⌜ Divided (now (own .entry)) above left right n r (now (own .exit)) ⌝ }
+{
+    let sep = halve(own, left, right, n);
+    let parent = above.node;
+    parent.put_in(above.at, sep, right)
+}
+
+// Below the root: the right half is a new node, and the parent gets one more child.
+pub fn split(
+    part: &[u8],
+    servers: usize,
+    slots: usize,
+    own: &mut [u64],
+    used: &mut [u64],
+    level: usize,
+    above: Turn,
+    name: u64,
+    n: Wide,
+) -> Risen
+    requires { ⌜ (servers ≤ 8) × OwnGood (now own) × (getD (now own) 0 0 ≤ 12) × Noted (held (now part)) (now used) × (7223 ≤ length (now part) / 8) ⌝ }
+    requires under { ⌜ Under (sizes servers slots) level name above ⌝ }
+    requires full { ⌜ Full level n ⌝ }
+    ensures { λ r. ⌜ Splits (sizes servers slots) (held (now (part .entry))) (now (own .entry)) (now (used .entry)) level above name n r (now (own .exit)) (now (used .exit)) ⌝ }
+{
+    let t = take_half(part, servers, slots, own, used, name);
+    let stop = t.stop;
+    let on = going(stop);
+    if !on {
+        return Risen { stop, up: n };
+    }
+    let right = t.name;
+    let up = divide(own, above, name, right, n);
+    Risen {
+        stop: Stop::Going,
+        up,
+    }
+}

@@ -1,0 +1,98 @@
+// The new content of a leaf, carried up "level by level from the lowest".
+use crate::level::at_top;
+use crate::level::raise;
+use nodes::change::Wide;
+use walk::down::Descent;
+use walk::down::Turn;
+use walk::walk::Stop;
+use walk::walk::going;
+ghost use mathlib.Core.Path.{_≡_};
+ghost use Prim.Native.Nat.{_/_, _≤_};
+ghost use lib.ListN.{length, getD};
+ghost use Rattle.client.specs.Record.{sizes};
+ghost use Rattle.client.specs.Sets.{held};
+ghost use Rattle.walk.specs.Ask.{OwnGood, Noted};
+ghost use Rattle.change.specs.Operated.{Operated};
+ghost use Rattle.change.specs.Up.{Ready, rise-plan};
+
+pub fn rise(
+    part: &[u8],
+    servers: usize,
+    slots: usize,
+    own: &mut [u64],
+    used: &mut [u64],
+    top: usize,
+    path: [Turn; 5],
+    leaf: u64,
+    content: Wide,
+    a: u64,
+    b: u64,
+) -> Stop
+    requires { ⌜ (servers ≤ 8) × OwnGood (now own) × (getD (now own) 0 0 ≡ 0) × Noted (held (now part)) (now used) × (7223 ≤ length (now part) / 8) ⌝ }
+    requires ready { ⌜ Ready (sizes servers slots) top path leaf content ⌝ }
+    ensures { λ r. ⌜ Operated (sizes servers slots) (held (now (part .entry))) (now (own .entry)) (now (used .entry)) (rise-plan (sizes servers slots) (a, b) top path leaf content) r (now (own .exit)) (now (used .exit)) ⌝ }
+{
+    let mut name = leaf;
+    let mut n = content;
+    let mut level: usize = 0;
+    while level < top {
+        let above = path[level + 1];
+        let root = level + 1 == top;
+        let r = raise(
+            part,
+            servers,
+            slots,
+            own,
+            used,
+            level,
+            root,
+            above,
+            name,
+            n,
+            a,
+            b,
+        );
+        let stop = r.stop;
+        let on = going(stop);
+        if !on {
+            return stop;
+        }
+        name = above.name;
+        n = r.up;
+        level += 1;
+    }
+    at_top(part, servers, slots, own, used, level, name, n, a, b)
+}
+
+// From where a way down ended.
+pub fn carry_up(
+    part: &[u8],
+    servers: usize,
+    slots: usize,
+    own: &mut [u64],
+    used: &mut [u64],
+    d: Descent,
+    content: Wide,
+    a: u64,
+) -> Stop
+    requires { ⌜ (servers ≤ 8) × OwnGood (now own) × (getD (now own) 0 0 ≡ 0) × Noted (held (now part)) (now used) × (7223 ≤ length (now part) / 8) ⌝ }
+    requires ready { ⌜ Ready (sizes servers slots) (d .top) (d .path) (d .name) content ⌝ }
+    ensures { λ r. ⌜ Operated (sizes servers slots) (held (now (part .entry))) (now (own .entry)) (now (used .entry)) (rise-plan (sizes servers slots) (a, 0) (d .top) (d .path) (d .name) content) r (now (own .exit)) (now (used .exit)) ⌝ }
+{
+    let top = d.top;
+    let path = d.path;
+    let name = d.name;
+    rise(
+        part,
+        servers,
+        slots,
+        own,
+        used,
+        top,
+        path,
+        name,
+        content,
+        a,
+        0,
+    )
+}

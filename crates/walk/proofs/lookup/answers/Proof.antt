@@ -1,0 +1,15 @@
+use borrow.Author.Needs.{needs}
+use Rattle.walk.specs.Ask.{over-some, over-long}
+use Rattle.walk.specs.Lookup.{answer-ends}
+use Rattle.walk.proofs.lookup.answers.Statement.{statement}
+use Rattle.walk.proofs.lookup.answers.Tie as tie
+
+pub answers-spec : {M : Type 1} → statement M
+answers-spec = tie.close (tie.spec
+    (λ c κs. search needs)  -- over-requires
+    (λ c κs. search (over-some, over-long, answer-ends, needs))  -- pop-used-requires
+    (λ c. search needs)  -- same-length
+    (λ c. search (over-some, over-long, answer-ends, needs))  -- returns
+    (λ c. search needs)  -- same-length-2
+    (λ c. search (over-some, over-long, answer-ends, needs))  -- returns-2
+    )

@@ -1,0 +1,35 @@
+use Rattle.client.specs.Record.{sizes}
+use Rattle.client.specs.Sets.{held}
+use Rattle.walk.specs.Seek.{weight, Seeking, seek-exits}
+use borrow.Author.Needs.{needs}
+use Rattle.walk.proofs.seek.seek.Statement.{statement}
+use Rattle.walk.proofs.seek.seek.Tie as tie
+
+abbrev Inv-loop : tie.InvT-loop
+Inv-loop part servers slots own used₀ right key top from child path₀ level₀ name₀ used path level name =
+    Seeking (sizes servers slots) (held part) own used₀ right key top path₀ level₀ name₀ path level name used
+
+abbrev μ-loop : tie.MeasureT-loop
+μ-loop part servers slots own used₀ right key top from child path₀ level₀ name₀ used path level name = weight right top path level
+
+pub seek-spec : {M : Type 1} → statement M
+seek-spec = tie.close (tie.spec
+    Inv-loop
+    μ-loop
+    (λ c. search (seek-exits, needs))  -- loop-holds
+    (λ c κs. search (seek-exits, needs))  -- read-on-requires
+    (λ c κs. search (seek-exits, needs))  -- going-requires
+    (λ c. search (seek-exits, needs))  -- same-length
+    (λ c. search (seek-exits, needs))  -- returns
+    (λ c. search (seek-exits, needs))  -- enum-known-state
+    (λ c κs. search (seek-exits, needs))  -- answers-requires
+    (λ c. search (seek-exits, needs))  -- same-length-2
+    (λ c. search (seek-exits, needs))  -- returns-2
+    (λ c. search (seek-exits, needs))  -- enum-told
+    (λ c κs. search (seek-exits, needs))  -- answers-requires-2
+    (λ c. search (seek-exits, needs))  -- same-length-3
+    (λ c. search (seek-exits, needs))  -- returns-3
+    (λ c. search (seek-exits, needs))  -- enum-told-2
+    (λ c. search (seek-exits, needs))  -- loop-less
+    (λ c. search (seek-exits, needs))  -- loop-again
+    )

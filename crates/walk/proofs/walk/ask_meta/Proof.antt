@@ -1,0 +1,11 @@
+use borrow.Author.Needs.{needs}
+use Rattle.walk.specs.Ask.{answer-exits}
+use Rattle.walk.proofs.walk.ask_meta.Statement.{statement}
+use Rattle.walk.proofs.walk.ask_meta.Tie as tie
+
+pub ask-meta-spec : {M : Type 1} → statement M
+ask-meta-spec = tie.close (tie.spec
+    (λ c κs. search needs)  -- ask-number-requires
+    (λ c. search needs)  -- same-length
+    (λ c. search (answer-exits, needs))  -- returns
+    )

@@ -1,0 +1,22 @@
+-- The walk of a plan against its run over what the client has: questions, the way down, what only reads, slots.
+
+-- how a walk is told; nodes as the plans' entries
+pub mod Entries
+pub mod Walk
+-- a question: own writes, else the part
+pub mod Ask
+-- the way down from the root
+pub mod Down
+-- lookup, next and previous
+pub mod Lookup
+pub mod Seek
+pub mod Near
+pub mod Begin
+-- own writes, slots taken and freed
+pub mod Own
+pub mod Write
+pub mod Take
+-- slots looked for on servers in a row
+pub mod Counted
+pub mod Vector
+pub mod Search

@@ -1,0 +1,112 @@
+-- The walk of a plan as a work step tells it, and what comes of a question.
+use mathlib.Core.Path.{_≡_, refl}
+use mathlib.Core.Bool.{Bool, true, false, cond, _&&_, not}
+use mathlib.Core.List.{List, [], _∷_, _++_}
+use Prim.Native.Nat.{ℕ, _+_, _-_}
+use native.Mathlib.Omega.{arith}
+use lib.Dec.{ltb}
+use lib.ListN.{length, take, length-append}
+use lib.Seq.{take-append-seam}
+use Rattle.plans.specs.Plan as P
+use Rattle.nodes.specs.Name.{server-of}
+use Rattle.operations.specs.Object.{meta, node, flag, Ask, object, vector, fetched, Val, Why, reason, Ans, Writes}
+use Rattle.operations.specs.Slot.{Sizes}
+use Rattle.operations.specs.Path.{Plan}
+use Rattle.walk.specs.declared.walk.Stop.{Stop}
+use Rattle.walk.specs.declared.walk.Stop.the-variants.{Going, LacksMeta, LacksNode, LacksVector, Refused, Aborts, Answers}
+use Rattle.client.specs.declared.part.Set.the-variants.{Reads}
+use Rattle.client.specs.declared.part.Set.the-variants as set
+use Rattle.client.specs.Layout.{ClientWord}
+use Rattle.client.specs.Sets.{count, find}
+use Rattle.client.specs.Have.{have, broken}
+use Rattle.client.specs.Commit.{is-at}
+use Rattle.client.specs.Run.{End, lacks, aborts, gives, Ran, ran, judged, run}
+
+-- how a walk ends, the copies that it used, and what it would write
+pub record Told : Type 0 where
+  pub stop : Stop
+  pub used : List ℕ
+  pub writes : Writes
+
+abbrev pub told : Stop → List ℕ → Told
+told s us = record { stop = s; used = us; writes = [] }
+
+abbrev pub goes : Stop → Bool
+goes Going = true
+goes LacksMeta = false
+goes (LacksNode n) = false
+goes (LacksVector s) = false
+goes Refused = false
+goes (Aborts r) = false
+goes (Answers a b) = false
+
+-- "Metadata comes from server (client modulo servers), a node from its home, a vector from its server": a flag is in its vector
+abbrev pub lack : Ask → Stop
+lack (object meta) = LacksMeta
+lack (object (node n)) = LacksNode n
+lack (object (flag n)) = LacksVector (server-of n)
+lack (vector s) = LacksVector s
+lack (fetched s) = LacksVector s
+
+-- Object 97 from the copies is entered as the others are. The next question, or the answer, finds that it is one too many; a
+-- failure at once leaves it among what was read.
+abbrev pub over-run : Plan → List ℕ → Ran
+over-run (P.ask a k) us = ran (aborts 4) (take (length us - 1) us)
+over-run (P.done r) us = ran (aborts 4) (take (length us - 1) us)
+over-run (P.fail y) us = ran (aborts (reason y)) us
+
+module _ (m : ClientWord → ℕ) where
+  -- an object that neither set has
+  abbrev pub fresh : ℕ → Bool
+  fresh x = not (is-at (find m set.Writes x)) && not (is-at (find m Reads x))
+
+  abbrev pub room : ℕ
+  room = 96 - count m Reads
+
+  unfoldable pub over : List ℕ → Bool
+  over us = ltb 96 (count m Reads + length us)
+
+module _ (z : Sizes) (m : ClientWord → ℕ) where
+  unfoldable pub worked : Plan → List ℕ → Ran
+  worked p us = cond (over m us) (over-run p us) (run (have z m) (fresh m) (room m) p us)
+
+  abbrev pub tell : End → List ℕ → Told
+  tell (lacks a) us = told (cond (broken z m a) Refused (lack a)) us
+  tell (aborts r) us = told (Aborts r) us
+  tell (gives a w) us = record { stop = Answers (a .0) (a .1); used = us; writes = w }
+
+  unfoldable pub walked : Plan → List ℕ → Told
+  walked p us = tell (worked p us .how) (worked p us .used)
+
+-- with the copies us the walk has stopped, or goes on
+abbrev pub carry : Stop → List ℕ → (List ℕ → Told) → Told
+carry s us f = cond (goes s) (f us) (told s us)
+
+-- ---- the ends of a walk
+module _ (z : Sizes) (m : ClientWord → ℕ) (us : List ℕ) where
+  pub walked-fails : (y : Why) → walked z m (P.fail y) us ≡ told (Aborts (reason y)) us
+  unfolding walked worked run
+  walked-fails y = go (over m us) refl
+    where
+      go : (b : Bool) → over m us ≡ b → walked z m (P.fail y) us ≡ told (Aborts (reason y)) us
+      go true e = rw (e, walked, worked)
+      go false e = rw (e, walked, worked)
+
+  pub walked-done : (r : Ans × Writes) → over m us ≡ false
+      → walked z m (P.done r) us ≡ record { stop = Answers (r .0 .0) (r .0 .1); used = us; writes = r .1 }
+  unfolding walked worked run
+  walked-done r h = rw h
+
+  pub full-done : (r : Ans × Writes) → over m us ≡ true → walked z m (P.done r) us ≡ told (Aborts 4) (take (length us - 1) us)
+  unfolding walked worked
+  full-done r h = rw h
+
+  pub full-ask : (a : Ask) (k : Val → Plan) → over m us ≡ true → walked z m (P.ask a k) us ≡ told (Aborts 4) (take (length us - 1) us)
+  unfolding walked worked
+  full-ask a k h = rw h
+
+-- the object 97 that is entered
+pub judged-over : (p : Plan) (x : ℕ) (us : List ℕ) → judged p x us ≡ over-run p (us ++ (x ∷ []))
+judged-over (P.ask a k) x us = let e : length (us ++ (x ∷ [])) - 1 ≡ length us = simp length-append (omega arith) in rw (e, take-append-seam us (x ∷ []))
+judged-over (P.done r) x us = let e : length (us ++ (x ∷ [])) - 1 ≡ length us = simp length-append (omega arith) in rw (e, take-append-seam us (x ∷ []))
+judged-over (P.fail y) x us = refl

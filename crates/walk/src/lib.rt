@@ -1,0 +1,7 @@
+// The walk of a plan over what its client has: questions, the way down, what only reads, and the slots that a change takes.
+pub mod down;
+pub mod lookup;
+pub mod search;
+pub mod seek;
+pub mod take;
+pub mod walk;

@@ -1,0 +1,297 @@
+// A slot looked for on servers in a row, and taken.
+use crate::take::take_flag;
+use crate::walk::Stop;
+use crate::walk::going;
+use crate::walk::over;
+use crate::walk::pop_used;
+use client::own::own_record;
+use client::vector::has_vector;
+use client::vector::is_fetched;
+use client::vector::seen_words;
+use nodes::found::Found;
+use nodes::name::Name;
+use nodes::placement::server_at;
+use nodes::vector::first_free;
+use nodes::vector::with_taken;
+ghost use mathlib.Core.Path.{_≡_};
+ghost use mathlib.Core.List.{[], _∷_};
+ghost use Prim.Native.Nat.{_+_, _/_, _<_, _≤_};
+ghost use lib.ListN.{length, getD};
+ghost use Rattle.nodes.specs.Name.{name};
+ghost use Rattle.nodes.specs.Placement.{row};
+ghost use Rattle.operations.specs.Slot.{present};
+ghost use Rattle.client.specs.Record.{sizes};
+ghost use Rattle.client.specs.Sets.{held};
+ghost use Rattle.client.specs.Lent.{OwnFits};
+ghost use Rattle.walk.specs.Ask.{OwnGood, Noted};
+ghost use Rattle.walk.specs.Counted.{counts-one, counts};
+ghost use Rattle.walk.specs.Vector.{VectorAsked, passes, Looked};
+ghost use Rattle.walk.specs.Search.{LookedInRow, Sought, TakenOn, TakenFor};
+
+// A server's vector with own write i counted.
+fn count_one(own: &[u64], s: usize, i: usize, words: [u64; 16]) -> [u64; 16]
+    requires { ⌜ (i < 20) × OwnFits (now own) ⌝ }
+    ensures { λ r. ⌜ r ≡ counts-one (now (own .entry)) s i words ⌝ }
+{
+    let number = own[34 * i + 1];
+    if number < 8193 {
+        return words;
+    }
+    let name = number - 8193;
+    if (name / 1024) as usize != s {
+        return words;
+    }
+    let r = own_record(own, i);
+    let values = r.slots;
+    let taken = values[0] == 1;
+    with_taken(words, (name % 1024) as usize, taken)
+}
+
+// "own frees and takes counted": the operation's own, the first item of the list last.
+fn count_own(own: &[u64], s: usize, seen: [u64; 16]) -> [u64; 16]
+    requires { ⌜ OwnFits (now own) ⌝ }
+    ensures { λ r. ⌜ r ≡ counts (now (own .entry)) s (getD (now (own .entry)) 0 0) seen ⌝ }
+{
+    let mut words = seen;
+    let mut i = own[0] as usize;
+    while 0 < i {
+        let next = count_one(own, s, i - 1, words);
+        words = next;
+        i -= 1;
+    }
+    words
+}
+
+// The question for a server's vector.
+fn ask_vector(part: &[u8], servers: usize, used: &mut [u64], s: usize) -> Stop
+    requires { ⌜ (servers ≤ 8) × Noted (held (now part)) (now used) × (7223 ≤ length (now part) / 8) ⌝ }
+    ensures { λ r. ⌜ VectorAsked (held (now (part .entry))) servers (now (used .entry)) s r (now (used .exit)) ⌝ }
+{
+    if over(part, used) {
+        pop_used(used);
+        return Stop::Aborts(4);
+    }
+    if servers <= s {
+        return Stop::Refused;
+    }
+    let has = has_vector(part, s);
+    if !has {
+        return Stop::LacksVector(s as u64);
+    }
+    Stop::Going
+}
+
+// "a server is passed over only by a vector that this transaction fetched"
+fn passed(part: &[u8], s: usize) -> Stop
+    requires { ⌜ (s < 8) × (7223 ≤ length (now part) / 8) ⌝ }
+    ensures { λ r. ⌜ r ≡ passes (held (now (part .entry))) s ⌝ }
+{
+    let fetched = is_fetched(part, s);
+    if !fetched {
+        return Stop::LacksVector(s as u64);
+    }
+    Stop::Going
+}
+
+// A look at a server: with Going the slot that is chosen there, or none where the server is passed over.
+struct Chosen {
+    stop: Stop,
+    found: Found,
+}
+
+fn look_on(
+    part: &[u8],
+    servers: usize,
+    slots: usize,
+    own: &[u64],
+    used: &mut [u64],
+    s: usize,
+    slot: usize,
+) -> Chosen
+    requires { ⌜ (servers ≤ 8) × OwnGood (now own) × Noted (held (now part)) (now used) × (7223 ≤ length (now part) / 8) ⌝ }
+    requires above { ⌜ slot < 1024 ⌝ }
+    ensures { λ r. ⌜ Looked (sizes servers slots) (held (now (part .entry))) (now (own .entry)) (now (used .entry)) s slot (r .stop) (r .found) (now (used .exit)) ⌝ }
+{
+    let stop = ask_vector(part, servers, used, s);
+    let on = going(stop);
+    if !on {
+        return Chosen {
+            stop,
+            found: Found::Absent,
+        };
+    }
+    let seen = seen_words(part, s);
+    let words = count_own(own, s, seen);
+    let found = first_free(words, slots, slot);
+    match found {
+        Found::At(_) => Chosen { stop, found },
+        Found::Absent => Chosen {
+            stop: passed(part, s),
+            found,
+        },
+    }
+}
+
+// The next server of a row: "absent servers are skipped".
+fn look_next(
+    part: &[u8],
+    servers: usize,
+    slots: usize,
+    own: &[u64],
+    used: &mut [u64],
+    s: usize,
+    slot: usize,
+) -> Chosen
+    requires { ⌜ (servers ≤ 8) × OwnGood (now own) × Noted (held (now part)) (now used) × (7223 ≤ length (now part) / 8) ⌝ }
+    requires above { ⌜ slot < 1024 ⌝ }
+    ensures { λ r. ⌜ LookedInRow (sizes servers slots) (held (now (part .entry))) (now (own .entry)) (now (used .entry)) s slot (r .stop) (r .found) (now (used .exit)) ⌝ }
+{
+    if servers <= s {
+        return Chosen {
+            stop: Stop::Going,
+            found: Found::Absent,
+        };
+    }
+    look_on(part, servers, slots, own, used, s, slot)
+}
+
+// A slot looked for: with Going its name.
+pub struct Taken {
+    pub stop: Stop,
+    pub name: u64,
+}
+
+fn slot_name(s: usize, slot: usize) -> u64
+    requires { ⌜ (s < 8) × (slot < 1024) ⌝ }
+    ensures { λ r. ⌜ r ≡ name s slot ⌝ }
+{
+    let n = Name::new(s as u64, slot as u64);
+    n.number
+}
+
+// On the servers of a home's row, in its order.
+fn search(
+    part: &[u8],
+    servers: usize,
+    slots: usize,
+    own: &[u64],
+    used: &mut [u64],
+    home: usize,
+    slot: usize,
+) -> Taken
+    requires { ⌜ (servers ≤ 8) × OwnGood (now own) × Noted (held (now part)) (now used) × (7223 ≤ length (now part) / 8) ⌝ }
+    requires from { ⌜ home < 8 ⌝ }
+    requires above { ⌜ slot < 1024 ⌝ }
+    ensures { λ r. ⌜ Sought (sizes servers slots) (held (now (part .entry))) (now (own .entry)) (now (used .entry)) (present servers (row home)) slot r (now (used .exit)) ⌝ }
+{
+    let mut i: usize = 0;
+    while i < 8 {
+        let s = server_at(home, i);
+        let c = look_next(part, servers, slots, own, used, s, slot);
+        let stop = c.stop;
+        let on = going(stop);
+        if !on {
+            return Taken { stop, name: 0 };
+        }
+        let found = c.found;
+        match found {
+            Found::At(j) => {
+                return Taken {
+                    stop,
+                    name: slot_name(s, j),
+                };
+            }
+            Found::Absent => {
+                i += 1;
+            }
+        }
+    }
+    Taken {
+        stop: Stop::Aborts(5),
+        name: 0,
+    }
+}
+
+// On one server. "no slot is free (migrate: on that server)"
+fn search_one(
+    part: &[u8],
+    servers: usize,
+    slots: usize,
+    own: &[u64],
+    used: &mut [u64],
+    s: usize,
+    slot: usize,
+) -> Taken
+    requires { ⌜ (servers ≤ 8) × OwnGood (now own) × Noted (held (now part)) (now used) × (7223 ≤ length (now part) / 8) ⌝ }
+    requires above { ⌜ slot < 1024 ⌝ }
+    ensures { λ r. ⌜ Sought (sizes servers slots) (held (now (part .entry))) (now (own .entry)) (now (used .entry)) (s ∷ []) slot r (now (used .exit)) ⌝ }
+{
+    let c = look_on(part, servers, slots, own, used, s, slot);
+    let stop = c.stop;
+    let on = going(stop);
+    if !on {
+        return Taken { stop, name: 0 };
+    }
+    let found = c.found;
+    match found {
+        Found::At(j) => Taken {
+            stop,
+            name: slot_name(s, j),
+        },
+        Found::Absent => Taken {
+            stop: Stop::Aborts(5),
+            name: 0,
+        },
+    }
+}
+
+// A slot for a new node beside the node of that name, which is split: looked for, and taken.
+pub fn take_for(
+    part: &[u8],
+    servers: usize,
+    slots: usize,
+    own: &mut [u64],
+    used: &mut [u64],
+    name: u64,
+) -> Taken
+    requires { ⌜ (servers ≤ 8) × OwnGood (now own) × (getD (now own) 0 0 < 20) × Noted (held (now part)) (now used) × (7223 ≤ length (now part) / 8) ⌝ }
+    requires there { ⌜ name < 8192 ⌝ }
+    ensures { λ r. ⌜ TakenFor (sizes servers slots) (held (now (part .entry))) (now (own .entry)) (now (used .entry)) name r (now (own .exit)) (now (used .exit)) ⌝ }
+{
+    let home = (name / 1024) as usize;
+    let slot = (name % 1024) as usize;
+    let t = search(part, servers, slots, own, used, home, slot);
+    let stop = t.stop;
+    let on = going(stop);
+    if !on {
+        return t;
+    }
+    let name = t.name;
+    let stop = take_flag(part, servers, slots, own, used, name);
+    Taken { stop, name }
+}
+
+// The same on one server, above a slot number.
+pub fn take_on(
+    part: &[u8],
+    servers: usize,
+    slots: usize,
+    own: &mut [u64],
+    used: &mut [u64],
+    s: usize,
+    slot: usize,
+) -> Taken
+    requires { ⌜ (servers ≤ 8) × OwnGood (now own) × (getD (now own) 0 0 < 20) × Noted (held (now part)) (now used) × (7223 ≤ length (now part) / 8) ⌝ }
+    requires above { ⌜ slot < 1024 ⌝ }
+    ensures { λ r. ⌜ TakenOn (sizes servers slots) (held (now (part .entry))) (now (own .entry)) (now (used .entry)) (s ∷ []) slot r (now (own .exit)) (now (used .exit)) ⌝ }
+{
+    let t = search_one(part, servers, slots, own, used, s, slot);
+    let stop = t.stop;
+    let on = going(stop);
+    if !on {
+        return t;
+    }
+    let name = t.name;
+    let stop = take_flag(part, servers, slots, own, used, name);
+    Taken { stop, name }
+}

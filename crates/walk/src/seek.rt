@@ -1,0 +1,354 @@
+// Next and previous: "if the leaf has none, go on down the nearest branch on that side".
+use crate::down::Turn;
+use crate::down::child;
+use crate::down::descend;
+use crate::lookup::answers;
+use crate::lookup::slot;
+use crate::walk::Stop;
+use crate::walk::going;
+use nodes::node::Node;
+ghost use mathlib.Core.Path.{_≡_};
+ghost use mathlib.Core.Bool.{true, false};
+ghost use Prim.Native.Nat.{_+_, _/_, _<_, _≤_};
+ghost use lib.ListN.{length, getD};
+ghost use Rattle.client.specs.Record.{sizes};
+ghost use Rattle.client.specs.Sets.{held};
+ghost use Rattle.walk.specs.Ask.{OwnGood, Noted};
+ghost use Rattle.walk.specs.Lookup.{Walks};
+ghost use Rattle.walk.specs.Near.{Beyond};
+ghost use Rattle.walk.specs.Seek.{in-leaf, more, onward, first-at, Stacked, Climbed, Standing, Advanced, ReadOn, Seeks, near-plan};
+
+// A key, if there is one.
+pub enum Key {
+    Is(u64),
+    Nothing,
+}
+
+fn key_at(keys: [u64; 14], i: usize) -> u64
+    requires { ⌜ i < 14 ⌝ }
+    ensures { λ r. ⌜ r ≡ getD keys i 0 ⌝ }
+{
+    keys[i]
+}
+
+// The nearest key of a leaf strictly above the key, or strictly below it.
+fn in_leaf(right: bool, n: Node, key: u64) -> Key
+    requires { ⌜ n .count ≤ 14 ⌝ }
+    ensures { λ r. ⌜ r ≡ in-leaf right n key ⌝ }
+{
+    let keys = n.keys;
+    if right {
+        let p = n.place(key);
+        if p < n.count {
+            return Key::Is(key_at(keys, p));
+        }
+        return Key::Nothing;
+    }
+    if key == 0 {
+        return Key::Nothing;
+    }
+    let p = n.place(key - 1);
+    if p == 0 {
+        return Key::Nothing;
+    }
+    Key::Is(key_at(keys, p - 1))
+}
+
+// Is there a child left on that side of the one that was followed?
+fn more(right: bool, b: Turn) -> bool
+    ensures { λ r. ⌜ r ≡ more right b ⌝ }
+{
+    let n = b.node;
+    if right {
+        return b.at < n.count;
+    }
+    0 < b.at
+}
+
+// The number of the next child on that side.
+fn onward(right: bool, at: usize) -> usize
+    requires { ⌜ at ≤ 14 ⌝ }
+    ensures { λ r. ⌜ r ≡ onward right at ⌝ }
+{
+    if right {
+        return at + 1;
+    }
+    if at == 0 {
+        return 0;
+    }
+    at - 1
+}
+
+// The first child from that side's other end.
+fn first_at(right: bool, n: Node) -> usize
+    ensures { λ r. ⌜ r ≡ first-at right n ⌝ }
+{
+    if right {
+        return 0;
+    }
+    n.count
+}
+
+pub enum Where {
+    Found(u64),
+    Nowhere,
+    Next,
+}
+
+// With Next: the child to be read next, its name and its level, with the inner nodes above it.
+pub struct Ahead {
+    pub state: Where,
+    pub path: [Turn; 5],
+    pub level: usize,
+    pub name: u64,
+}
+
+// The nearest branch on that side, of the nodes above a level.
+fn climb(right: bool, top: usize, path: [Turn; 5], level: usize) -> Ahead
+    requires { ⌜ Stacked top path level ⌝ }
+    ensures { λ r. ⌜ Climbed right top path level r ⌝ }
+{
+    let mut l = level;
+    while l < top {
+        let b = path[l + 1];
+        if more(right, b) {
+            let at = onward(right, b.at);
+            let node = b.node;
+            let children = node.slots;
+            let name = slot(children, at);
+            let mut out = path;
+            out[l + 1] = Turn {
+                name: b.name,
+                at,
+                node,
+            };
+            return Ahead {
+                state: Where::Next,
+                path: out,
+                level: l,
+                name,
+            };
+        }
+        l += 1;
+    }
+    Ahead {
+        state: Where::Nowhere,
+        path,
+        level: l,
+        name: 0,
+    }
+}
+
+// On from a node that was read: from a leaf without such a key to the nearest branch, from an inner node to its first child.
+fn advance(
+    right: bool,
+    key: u64,
+    top: usize,
+    path: [Turn; 5],
+    level: usize,
+    name: u64,
+    node: Node,
+) -> Ahead
+    requires { ⌜ Stacked top path level ⌝ }
+    requires at { ⌜ Standing node level top ⌝ }
+    ensures { λ r. ⌜ Advanced right key top path level node r ⌝ }
+{
+    if level == 0 {
+        let k = in_leaf(right, node, key);
+        match k {
+            Key::Is(x) => {
+                return Ahead {
+                    state: Where::Found(x),
+                    path,
+                    level,
+                    name,
+                };
+            }
+            Key::Nothing => {
+                return climb(right, top, path, level);
+            }
+        }
+    }
+    let at = first_at(right, node);
+    let children = node.slots;
+    let child = slot(children, at);
+    let mut out = path;
+    out[level] = Turn { name, at, node };
+    Ahead {
+        state: Where::Next,
+        path: out,
+        level: level - 1,
+        name: child,
+    }
+}
+
+// A child read, and where it leads.
+struct Reading {
+    stop: Stop,
+    ahead: Ahead,
+}
+
+fn read_on(
+    part: &[u8],
+    servers: usize,
+    slots: usize,
+    own: &[u64],
+    used: &mut [u64],
+    right: bool,
+    key: u64,
+    top: usize,
+    path: [Turn; 5],
+    level: usize,
+    name: u64,
+) -> Reading
+    requires { ⌜ (servers ≤ 8) × OwnGood (now own) × Noted (held (now part)) (now used) × (7223 ≤ length (now part) / 8) ⌝ }
+    requires at { ⌜ Stacked top path level × (level < top) ⌝ }
+    ensures { λ r. ⌜ ReadOn (sizes servers slots) (held (now (part .entry))) (now (own .entry)) (now (used .entry)) right key top path level name r (now (used .exit)) ⌝ }
+{
+    let c = child(part, servers, slots, own, used, level as u64, name);
+    let stop = c.stop;
+    let on = going(stop);
+    if !on {
+        return Reading {
+            stop,
+            ahead: Ahead {
+                state: Where::Nowhere,
+                path,
+                level,
+                name,
+            },
+        };
+    }
+    let node = c.node;
+    let ahead = advance(right, key, top, path, level, name, node);
+    Reading { stop, ahead }
+}
+
+// The leaves on that side of the path, from a child on, until one has such a key.
+fn seek(
+    part: &[u8],
+    servers: usize,
+    slots: usize,
+    own: &[u64],
+    used: &mut [u64],
+    right: bool,
+    key: u64,
+    top: usize,
+    first: [Turn; 5],
+    from: usize,
+    child: u64,
+) -> Stop
+    requires { ⌜ (servers ≤ 8) × OwnGood (now own) × Noted (held (now part)) (now used) × (7223 ≤ length (now part) / 8) ⌝ }
+    requires at { ⌜ Stacked top first from × (from < top) ⌝ }
+    ensures { λ r. ⌜ Seeks (sizes servers slots) (held (now (part .entry))) (now (own .entry)) (now (used .entry)) right key top first from child r (now (used .exit)) ⌝ }
+{
+    let mut path = first;
+    let mut level = from;
+    let mut name = child;
+    loop {
+        let r = read_on(
+            part,
+            servers,
+            slots,
+            own,
+            used,
+            right,
+            key,
+            top,
+            path,
+            level,
+            name,
+        );
+        let stop = r.stop;
+        let on = going(stop);
+        if !on {
+            return stop;
+        }
+        let a = r.ahead;
+        let state = a.state;
+        match state {
+            Where::Found(x) => {
+                return answers(part, used, 1, x);
+            }
+            Where::Nowhere => {
+                return answers(part, used, 0, 0);
+            }
+            Where::Next => {}
+        }
+        path = a.path;
+        level = a.level;
+        name = a.name;
+    }
+}
+
+// Beyond the leaf of a path, on that side.
+fn beyond(
+    part: &[u8],
+    servers: usize,
+    slots: usize,
+    own: &[u64],
+    used: &mut [u64],
+    right: bool,
+    key: u64,
+    top: usize,
+    path: [Turn; 5],
+) -> Stop
+    requires { ⌜ (servers ≤ 8) × OwnGood (now own) × Noted (held (now part)) (now used) × (7223 ≤ length (now part) / 8) ⌝ }
+    requires at { ⌜ Stacked top path 0 ⌝ }
+    ensures { λ r. ⌜ Beyond (sizes servers slots) (held (now (part .entry))) (now (own .entry)) (now (used .entry)) right key top path r (now (used .exit)) ⌝ }
+{
+    let a = climb(right, top, path, 0);
+    let state = a.state;
+    match state {
+        Where::Found(_) => answers(part, used, 0, 0),
+        Where::Nowhere => answers(part, used, 0, 0),
+        Where::Next => {
+            let branches = a.path;
+            let level = a.level;
+            let name = a.name;
+            seek(
+                part,
+                servers,
+                slots,
+                own,
+                used,
+                right,
+                key,
+                top,
+                branches,
+                level,
+                name,
+            )
+        }
+    }
+}
+
+// "Next and previous: a 1, b the nearest key strictly above or below, if any": next to the right, previous to the left.
+pub fn near(
+    part: &[u8],
+    servers: usize,
+    slots: usize,
+    own: &[u64],
+    used: &mut [u64],
+    right: bool,
+    key: u64,
+) -> Stop
+    requires { ⌜ (servers ≤ 8) × OwnGood (now own) × Noted (held (now part)) (now used) × (7223 ≤ length (now part) / 8) ⌝ }
+    ensures { λ r. ⌜ Walks (sizes servers slots) (held (now (part .entry))) (now (own .entry)) (now (used .entry)) (near-plan right key) r (now (used .exit)) ⌝ }
+{
+    let d = descend(part, servers, slots, own, used, key);
+    let stop = d.stop;
+    let on = going(stop);
+    if !on {
+        return stop;
+    }
+    let n = d.node;
+    let k = in_leaf(right, n, key);
+    match k {
+        Key::Is(x) => answers(part, used, 1, x),
+        Key::Nothing => {
+            let path = d.path;
+            beyond(part, servers, slots, own, used, right, key, d.top, path)
+        }
+    }
+}

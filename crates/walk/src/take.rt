@@ -1,0 +1,114 @@
+// Slots taken and freed: their flags and nodes are read and written.
+use crate::walk::Stop;
+use crate::walk::ask_flag;
+use crate::walk::ask_node;
+use crate::walk::flag_number;
+use crate::walk::going;
+use crate::walk::node_number;
+use client::own::put_own;
+use client::range::single;
+use nodes::node::Node;
+ghost use mathlib.Core.Path.{_≡_};
+ghost use Prim.Native.Nat.{_+_, _/_, _<_, _≤_};
+ghost use lib.ListN.{length, getD};
+ghost use mathlib.Core.Bool.{false};
+ghost use Rattle.operations.specs.Object.{node, flag, taken, free};
+ghost use Rattle.client.specs.Record.{sizes};
+ghost use Rattle.client.specs.Sets.{held};
+ghost use Rattle.walk.specs.Ask.{OwnGood, Noted};
+ghost use Rattle.walk.specs.Take.{NodeTaken, FlagTaken, Wrote, Released};
+
+// "A taken slot's node is read too, and must be free."
+pub fn take_node(
+    part: &[u8],
+    servers: usize,
+    slots: usize,
+    own: &[u64],
+    used: &mut [u64],
+    name: u64,
+) -> Stop
+    requires { ⌜ (servers ≤ 8) × OwnGood (now own) × Noted (held (now part)) (now used) × (7223 ≤ length (now part) / 8) ⌝ }
+    ensures { λ r. ⌜ NodeTaken (sizes servers slots) (held (now (part .entry))) (now (own .entry)) (now (used .entry)) name r (now (used .exit)) ⌝ }
+{
+    let a = ask_node(part, servers, slots, own, used, name);
+    let stop = a.stop;
+    let node = a.node;
+    let on = going(stop);
+    if !on {
+        return stop;
+    }
+    if node.kind != 0 {
+        return Stop::Aborts(1);
+    }
+    Stop::Going
+}
+
+// The flag of a slot to be taken: it must be free, and is then taken.
+pub fn take_flag(
+    part: &[u8],
+    servers: usize,
+    slots: usize,
+    own: &mut [u64],
+    used: &mut [u64],
+    name: u64,
+) -> Stop
+    requires { ⌜ (servers ≤ 8) × OwnGood (now own) × (getD (now own) 0 0 < 20) × Noted (held (now part)) (now used) × (7223 ≤ length (now part) / 8) ⌝ }
+    ensures { λ r. ⌜ FlagTaken (sizes servers slots) (held (now (part .entry))) (now (own .entry)) (now (used .entry)) name r (now (own .exit)) (now (used .exit)) ⌝ }
+{
+    let a = ask_flag(part, servers, slots, own, used, name);
+    let stop = a.stop;
+    let node = a.node;
+    let on = going(stop);
+    if !on {
+        return stop;
+    }
+    let values = node.slots;
+    if values[0] == 1 {
+        return Stop::Aborts(1);
+    }
+    let number = flag_number(name);
+    let taken = single(0, 1);
+    put_own(own, number, taken);
+    Stop::Going
+}
+
+fn free_flag(own: &mut [u64], name: u64)
+    requires { ⌜ (name < 8192) × OwnGood (now own) × (getD (now own) 0 0 < 20) ⌝ }
+    ensures { λ _. ⌜ Wrote (now (own .entry)) (flag name) (taken false) (now (own .exit)) ⌝ }
+{
+    let number = flag_number(name);
+    let n = single(0, 0);
+    put_own(own, number, n);
+}
+
+fn free_node(own: &mut [u64], name: u64)
+    requires { ⌜ (name < 8192) × OwnGood (now own) × (getD (now own) 0 0 < 20) ⌝ }
+    ensures { λ _. ⌜ Wrote (now (own .entry)) (node name) free (now (own .exit)) ⌝ }
+{
+    let number = node_number(name);
+    let n = Node::free(0);
+    put_own(own, number, n);
+}
+
+// A node freed: its flag is read, and both are written.
+pub fn release(
+    part: &[u8],
+    servers: usize,
+    slots: usize,
+    own: &mut [u64],
+    used: &mut [u64],
+    name: u64,
+) -> Stop
+    requires { ⌜ (servers ≤ 8) × OwnGood (now own) × (getD (now own) 0 0 < 19) × Noted (held (now part)) (now used) × (7223 ≤ length (now part) / 8) ⌝ }
+    ensures { λ r. ⌜ Released (sizes servers slots) (held (now (part .entry))) (now (own .entry)) (now (used .entry)) name r (now (own .exit)) (now (used .exit)) ⌝ }
+{
+    let a = ask_flag(part, servers, slots, own, used, name);
+    let stop = a.stop;
+    let on = going(stop);
+    if !on {
+        return stop;
+    }
+    free_flag(own, name);
+    free_node(own, name);
+    Stop::Going
+}

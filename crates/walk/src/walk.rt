@@ -1,0 +1,231 @@
+// A question of an operation's plan: an object, looked up among the operation's own writes, else in the client's part.
+use client::answer::How;
+use client::lookup::look_at;
+use client::own::find_own;
+use client::own::own_record;
+use client::part::Set;
+use client::part::count;
+use client::range::in_store;
+use client::used::push_used;
+use nodes::found::Found;
+use nodes::node::Node;
+ghost use mathlib.Core.Path.{_≡_};
+ghost use mathlib.Core.Bool.{true};
+ghost use Prim.Native.Nat.{_+_, _/_, _<_, _≤_};
+ghost use lib.ListN.{length, getD};
+ghost use Rattle.operations.specs.Object.{meta, node, flag};
+ghost use Rattle.client.specs.Record.{sizes};
+ghost use Rattle.client.specs.Sets.{held};
+ghost use Rattle.client.specs.Lent.{OwnFits, Lent, used-in};
+ghost use Rattle.walk.specs.Walk.{goes, over};
+ghost use Rattle.walk.specs.Ask.{OwnGood, Noted, Numbered, Outside, Answer, popped, entered-stop, entered-used, stopped, own-asked, own-used};
+
+// How the walk of a plan goes on or ends: a lack is to be fetched, Refused is refusal 10.
+pub enum Stop {
+    Going,
+    LacksMeta,
+    LacksNode(u64),
+    LacksVector(u64),
+    Refused,
+    Aborts(u64),
+    Answers(u64, u64),
+}
+
+// With Going comes the object's record.
+pub struct Asked {
+    pub stop: Stop,
+    pub node: Node,
+}
+
+pub fn going(stop: Stop) -> bool
+    ensures { λ r. ⌜ r ≡ goes stop ⌝ }
+{
+    match stop {
+        Stop::Going => true,
+        Stop::LacksMeta => false,
+        Stop::LacksNode(_) => false,
+        Stop::LacksVector(_) => false,
+        Stop::Refused => false,
+        Stop::Aborts(_) => false,
+        Stop::Answers(_, _) => false,
+    }
+}
+
+// Is object 97 among the copies in use?
+pub fn over(part: &[u8], used: &[u64]) -> bool
+    requires { ⌜ Noted (held (now part)) (now used) × (7223 ≤ length (now part) / 8) ⌝ }
+    ensures { λ r. ⌜ r ≡ over (held (now (part .entry))) (used-in (now (used .entry))) ⌝ }
+{
+    let read = count(part, Set::Reads);
+    let copies = used[0] as usize;
+    96 < read + copies
+}
+
+// The last copy in use is taken back.
+pub fn pop_used(used: &mut [u64])
+    requires { ⌜ (0 < getD (now used) 0 0) × (98 ≤ length (now used)) ⌝ }
+    ensures { λ _. ⌜ now (used .exit) ≡ popped (now (used .entry)) ⌝ }
+{
+    let count = used[0];
+    used[0] = count - 1;
+}
+
+// What was looked up comes into use, or stops the walk.
+fn entered(used: &mut [u64], how: How, number: u64, lacks: Stop) -> Stop
+    requires { ⌜ Lent (now used) ⌝ }
+    ensures { λ r. ⌜ r ≡ entered-stop how lacks ⌝ }
+    ensures uses { λ _. ⌜ now (used .exit) ≡ entered-used how (now (used .entry)) number ⌝ }
+{
+    match how {
+        How::Here => Stop::Going,
+        How::Copied => Stop::Going,
+        How::Full => {
+            push_used(used, number);
+            Stop::Going
+        }
+        How::Lacking => lacks,
+        How::Broken => Stop::Refused,
+    }
+}
+
+fn stopped(stop: Stop) -> Asked
+    ensures { λ r. ⌜ r ≡ stopped stop ⌝ }
+{
+    Asked {
+        stop,
+        node: Node::free(0),
+    }
+}
+
+// One object too many is read: it is taken back. Only an own write can still be read.
+fn ask_own(own: &[u64], used: &mut [u64], number: u64) -> Asked
+    requires { ⌜ OwnFits (now own) × (0 < getD (now used) 0 0) × (98 ≤ length (now used)) ⌝ }
+    ensures { λ r. ⌜ r ≡ own-asked (now (own .entry)) number ⌝ }
+    ensures uses { λ _. ⌜ now (used .exit) ≡ own-used (now (own .entry)) (now (used .entry)) number ⌝ }
+{
+    let f = find_own(own, number);
+    match f {
+        Found::At(i) => Asked {
+            stop: Stop::Going,
+            node: own_record(own, i),
+        },
+        Found::Absent => {
+            pop_used(used);
+            stopped(Stop::Aborts(4))
+        }
+    }
+}
+
+// The object of that number; `lacks` says what is to be fetched for it.
+fn ask_number(
+    part: &[u8],
+    servers: usize,
+    slots: usize,
+    own: &[u64],
+    used: &mut [u64],
+    number: u64,
+    lacks: Stop,
+) -> Asked
+    requires { ⌜ (number < 16385) × (servers ≤ 8) × OwnGood (now own) × Noted (held (now part)) (now used) × (7223 ≤ length (now part) / 8) ⌝ }
+    ensures { λ r. ⌜ Numbered (sizes servers slots) (held (now (part .entry))) (now (own .entry)) (now (used .entry)) number lacks (r .stop) (r .node) (now (used .exit)) ⌝ }
+{
+    if over(part, used) {
+        return ask_own(own, used, number);
+    }
+    let l = look_at(part, servers, slots, own, used, number);
+    let how = l.how;
+    let node = l.node;
+    let stop = entered(used, how, number, lacks);
+    Asked { stop, node }
+}
+
+// An object that is not in the store.
+fn ask_outside(part: &[u8], used: &mut [u64]) -> Asked
+    requires { ⌜ Noted (held (now part)) (now used) × (7223 ≤ length (now part) / 8) ⌝ }
+    ensures { λ r. ⌜ Outside (held (now (part .entry))) (now (used .entry)) (r .stop) (r .node) (now (used .exit)) ⌝ }
+{
+    if over(part, used) {
+        pop_used(used);
+        return stopped(Stop::Aborts(4));
+    }
+    stopped(Stop::Refused)
+}
+
+pub fn node_number(name: u64) -> u64
+    requires { ⌜ name < 8192 ⌝ }
+    ensures { λ r. ⌜ r ≡ 1 + name ⌝ }
+    ensures within { λ r. ⌜ r < 16385 ⌝ }
+{
+    1 + name
+}
+
+pub fn flag_number(name: u64) -> u64
+    requires { ⌜ name < 8192 ⌝ }
+    ensures { λ r. ⌜ r ≡ 8193 + name ⌝ }
+    ensures within { λ r. ⌜ r < 16385 ⌝ }
+{
+    8193 + name
+}
+
+pub fn ask_meta(part: &[u8], servers: usize, slots: usize, own: &[u64], used: &mut [u64]) -> Asked
+    requires { ⌜ (servers ≤ 8) × OwnGood (now own) × Noted (held (now part)) (now used) × (7223 ≤ length (now part) / 8) ⌝ }
+    ensures { λ r. ⌜ Answer (sizes servers slots) (held (now (part .entry))) (now (own .entry)) (now (used .entry)) meta (r .stop) (r .node) (now (used .exit)) ⌝ }
+{
+    ask_number(part, servers, slots, own, used, 0, Stop::LacksMeta)
+}
+
+pub fn ask_node(
+    part: &[u8],
+    servers: usize,
+    slots: usize,
+    own: &[u64],
+    used: &mut [u64],
+    name: u64,
+) -> Asked
+    requires { ⌜ (servers ≤ 8) × OwnGood (now own) × Noted (held (now part)) (now used) × (7223 ≤ length (now part) / 8) ⌝ }
+    ensures { λ r. ⌜ Answer (sizes servers slots) (held (now (part .entry))) (now (own .entry)) (now (used .entry)) (node name) (r .stop) (r .node) (now (used .exit)) ⌝ }
+{
+    let there = in_store(servers, slots, name);
+    if !there {
+        return ask_outside(part, used);
+    }
+    let number = node_number(name);
+    ask_number(
+        part,
+        servers,
+        slots,
+        own,
+        used,
+        number,
+        Stop::LacksNode(name),
+    )
+}
+
+// A flag is in its server's vector.
+pub fn ask_flag(
+    part: &[u8],
+    servers: usize,
+    slots: usize,
+    own: &[u64],
+    used: &mut [u64],
+    name: u64,
+) -> Asked
+    requires { ⌜ (servers ≤ 8) × OwnGood (now own) × Noted (held (now part)) (now used) × (7223 ≤ length (now part) / 8) ⌝ }
+    ensures { λ r. ⌜ Answer (sizes servers slots) (held (now (part .entry))) (now (own .entry)) (now (used .entry)) (flag name) (r .stop) (r .node) (now (used .exit)) ⌝ }
+{
+    let there = in_store(servers, slots, name);
+    if !there {
+        return ask_outside(part, used);
+    }
+    let number = flag_number(name);
+    let server = name / 1024;
+    ask_number(
+        part,
+        servers,
+        slots,
+        own,
+        used,
+        number,
+        Stop::LacksVector(server),
+    )
+}
