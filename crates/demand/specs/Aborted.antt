@@ -1,11 +1,12 @@
 -- ABORT and LOSS: "An abort unlocks everywhere and drops copies of all objects read"; "loss drops all copies".
 use mathlib.Core.Path.{_≡_, refl, ap, sym, _∙_, subst}
-use mathlib.Core.Bool.{Bool, true, false, cond, _&&_, not, true≢false}
+use mathlib.Core.Bool.{Bool, true, false, cond, _&&_, not}
 use mathlib.Core.List.{List, []}
 use mathlib.Core.Logic.{_⊎_, inl, inr}
 use Prim.Native.Nat.{ℕ, zero, suc, _≤_, _<_, Fin}
 use native.Mathlib.Omega.{arith}
 use native.Mathlib.Decide.{ℕ-discrete, Fin-discrete}
+use Rattle.base.specs.Test.{not-both}
 use Rattle.base.specs.Update.{upd-same, upd-other}
 use Rattle.memory.specs.Bit.{bit, zero-bit}
 use Rattle.layout.specs.Space.{Put, changed}
@@ -29,7 +30,7 @@ use Rattle.client.specs.Record.{number}
 use Rattle.client.specs.Sets.{count, number-at, find}
 use Rattle.client.specs.Fits.{client-fits}
 use Rattle.client.specs.Drops.{drop-used}
-use Rattle.client.specs.Life.{reset}
+use Rattle.client.specs.Life.{reset, abort}
 use Rattle.steps.specs.declared.sizes.Sizes.{Sizes}
 use Rattle.steps.specs.Whole.{Address, server, client, whole}
 use Rattle.steps.specs.Uses as U
@@ -129,6 +130,64 @@ module _ (m : Address → ℕ) (f : ℕ → List (Put Address)) (qs : ℕ → Li
           (server-changed (m₁ n) n (qs n) ∙ ap (λ (g : Place → ℕ). changed places g (qs n)) (later n n (omega arith)))
       go (no d) rec = server-else (m₁ n) n (qs n) t d ∙ rec (omega arith)
 
+-- ---- what an abort stores: at every server where the client is prepared its locks go, then its part begins anew; us came into use in the step
+module _ (k j slots : ℕ) (m : Address → ℕ) (c : ℕ) (us : List ℕ) where
+  abbrev z₀ : Sizes
+  z₀ = record { servers = suc k; slots = slots; clients = suc j }
+
+  abbrev u₀ : ClientWord → ℕ
+  u₀ = client-of m c
+
+  abbrev unlocks : ℕ → List (Put Place)
+  unlocks t = unlock-each u₀ c (lowest z₀ m c) t (server-of m t)
+
+  -- what is unlocked at a server
+  abbrev pub given-back : ℕ → List (Put Place)
+  given-back t = cond (bit (u₀ prepared) t) (unlocks t) []
+
+  abbrev f₀ : ℕ → List (Put Address)
+  f₀ t = cond (bit (u₀ prepared) t) (over (server t) (unlocks t)) []
+
+  same-stores : (t : ℕ) → f₀ t ≡ over (server t) (given-back t)
+  unfolding over
+  same-stores t = go (bit (u₀ prepared) t)
+    where
+      go : (b : Bool) → cond b (over (server t) (unlocks t)) [] ≡ over (server t) (cond b (unlocks t) [])
+      go true = refl
+      go false = refl
+
+  abbrev n₀ : Address → ℕ
+  n₀ = changed whole m (unlocked-everywhere z₀ m c)
+
+  abbrev ends : List (Put ClientWord)
+  ends = abort us u₀
+
+  abbrev pub aborted : Address → ℕ
+  aborted = changed whole m (aborting z₀ m c us)
+
+  aborted-is : aborted ≡ changed whole n₀ (over (client c) ends)
+  aborted-is = changed-append whole (unlocked-everywhere z₀ m c) (over (client c) ends) m
+
+  clients-stay : (d : ℕ) → client-of n₀ d ≡ client-of m d
+  clients-stay d = every-client m f₀ given-back same-stores (suc k) d
+
+  pub aborted-client : client-of aborted c ≡ changed client-words u₀ (abort us u₀)
+  aborted-client =
+      ap (λ (g : Address → ℕ). client-of g c) aborted-is ∙ client-changed n₀ c ends ∙ ap (λ (v : ClientWord → ℕ). changed client-words v ends) (clients-stay c)
+
+  pub aborted-others : (d : ℕ) → ¬ (d ≡ c) → client-of aborted d ≡ client-of m d
+  aborted-others d n = ap (λ (g : Address → ℕ). client-of g d) aborted-is ∙ client-else n₀ c ends d n ∙ clients-stay d
+
+  pub aborted-server : (s : ℕ) → s < suc k → server-of aborted s ≡ changed places (server-of m s) (given-back s)
+  aborted-server s l =
+      ap (λ (g : Address → ℕ). server-of g s) aborted-is ∙ client-servers n₀ c ends s ∙ every-server m f₀ given-back same-stores (suc k) s l
+
+-- what is prepared anywhere is after its commit
+pub prepared-late : (k j slots : ℕ) (u : ClientWord → ℕ) (y : P.Slot (T k j slots)) → Slot-shown k j slots u y → (s : ℕ) → bit (u prepared) s ≡ true
+    → (u phase ≡ 1) ⊎ (u phase ≡ 2) → 2 ≤ u phase
+prepared-late k j slots u y shown s b (inr e) = omega (arith, e)
+prepared-late k j slots u y shown s b (inl e) = absurd (not-both b (ap (λ (w : ℕ). bit w s) (shown .calm (omega (arith, e))) ∙ zero-bit s))
+
 -- ---- ABORT
 module _ (k j slots : ℕ) (al : Allowed (sizes k j slots)) (few : suc j ≤ 16) (m : Address → ℕ) (L : Ledger) (M : P.Machine (T k j slots)) (c : Fin (suc j))
     (R : Related k j slots m L M) (fit : client-fits (sizes k j slots) (client-of m (c .0)) ≡ true) where
@@ -157,6 +216,9 @@ module _ (k j slots : ℕ) (al : Allowed (sizes k j slots)) (few : suc j ≤ 16)
   M₁ = P.turned (T k j slots) M₀ (M₀ .slots) locks (M₀ .said) (M₀ .log)
 
   module _ (us : List ℕ) (undecided : (u phase ≡ 1) ⊎ (u phase ≡ 2)) where
+    abbrev m′ : Address → ℕ
+    m′ = aborted k j slots m (c .0) us
+
     reached₁ : Mv.Reached (T k j slots) M₁
     reached₁ =
         Mv.moved (Mv.moved (R .reached) (Mv.aborts c (ap is-decided (sym (shown .phase-as)) ∙ go undecided)))
@@ -166,33 +228,11 @@ module _ (k j slots : ℕ) (al : Allowed (sizes k j slots)) (few : suc j ≤ 16)
         go (inl e) = ap (λ (n : ℕ). is-decided (phase-of n)) e ∙ first-phases .0
         go (inr e) = ap (λ (n : ℕ). is-decided (phase-of n)) e ∙ first-phases .1
 
-    -- what is unlocked at a server
-    qs : ℕ → List (Put Place)
-    qs t = cond (bit (u prepared) t) (unlock-each u (c .0) low t (server-of m t)) []
-
-    f : ℕ → List (Put Address)
-    f t = cond (bit (u prepared) t) (over (server t) (unlock-each u (c .0) low t (server-of m t))) []
-
-    same-stores : (t : ℕ) → f t ≡ over (server t) (qs t)
-    unfolding f qs over
-    same-stores t = go (bit (u prepared) t)
-      where
-        go : (b : Bool) → cond b (over (server t) (unlock-each u (c .0) low t (server-of m t))) [] ≡ over (server t) (cond b (unlock-each u (c .0) low t (server-of m t)) [])
-        go true = refl
-        go false = refl
-
-    abbrev n₁ : Address → ℕ
-    n₁ = changed whole m (unlocked-everywhere z m (c .0))
-
-    unlocked-is : n₁ ≡ m₁ m f qs same-stores (suc k)
-    unfolding f
-    unlocked-is = refl
-
-    server-shown : (s : Fin (suc k)) → Server-shown k j slots (server-of n₁ (s .0)) s (M .value s) (M .version s) (M .table s) (locks s)
-    unfolding qs changed
+    server-shown : (s : Fin (suc k)) → Server-shown k j slots (server-of m′ (s .0)) s (M .value s) (M .version s) (M .table s) (locks s)
+    unfolding changed
     server-shown s =
         subst (λ (p : Place → ℕ). Server-shown k j slots p s (M .value s) (M .version s) (M .table s) (locks s))
-        (sym (ap (λ (g : Address → ℕ). server-of g (s .0)) unlocked-is ∙ every-server m f qs same-stores (suc k) (s .0) (s .1)))
+        (sym (aborted-server k j slots m (c .0) us (s .0) (s .1)))
         (by (bit (u prepared) (s .0)) refl)
       where
         p : Place → ℕ
@@ -216,13 +256,8 @@ module _ (k j slots : ℕ) (al : Allowed (sizes k j slots)) (few : suc j ≤ 16)
           lock-as = λ o i q. unlock-recorded k j slots al few c u fit y shown s low el p o i q (M .lock s o) (S .lock-as o i q);
         }
           where
-            after-commit : (u phase ≡ 1) ⊎ (u phase ≡ 2) → 2 ≤ u phase
-            after-commit (inr q) = omega (arith, q)
-            after-commit (inl q) =
-                absurd (true≢false (sym e ∙ ap (λ (w : ℕ). bit w (s .0)) (shown .calm (omega (arith, q))) ∙ zero-bit (s .0)))
-
             el : y .lowest .0 ≡ low
-            el = shown .lowest-as (after-commit undecided)
+            el = shown .lowest-as (prepared-late k j slots u y shown (s .0) e undecided)
 
             p₁ : Place → ℕ
             p₁ = changed places p (unlock-each u (c .0) low (s .0) p)
@@ -234,30 +269,12 @@ module _ (k j slots : ℕ) (al : Allowed (sizes k j slots)) (few : suc j ≤ 16)
     abbrev dropped : ClientWord → ℕ
     dropped = changed client-words u (drop-used us u)
 
-    abbrev ps : List (Put ClientWord)
-    ps = andThen client-words (drop-used us) (reset 0) u
-
-    ends-cleared : changed client-words u ps ≡ cleared k j slots dropped 0
-    unfolding andThen
-    ends-cleared = changed-append client-words (drop-used us u) (reset 0 dropped) u
-
-    abbrev m′ : Address → ℕ
-    m′ = changed whole m (aborting z m (c .0) us)
-
-    m-is : m′ ≡ changed whole n₁ (over (client (c .0)) ps)
-    m-is = changed-append whole (unlocked-everywhere z m (c .0)) (over (client (c .0)) ps) m
-
-    clients-stay : (d : ℕ) → client-of n₁ d ≡ client-of m d
-    clients-stay d = ap (λ (g : Address → ℕ). client-of g d) unlocked-is ∙ every-client m f qs same-stores (suc k) d
-
     own-words : client-of m′ (c .0) ≡ cleared k j slots dropped 0
-    own-words =
-        ap (λ (g : Address → ℕ). client-of g (c .0)) m-is ∙ client-changed n₁ (c .0) ps
-        ∙ ap (λ (v : ClientWord → ℕ). changed client-words v ps) (clients-stay (c .0)) ∙ ends-cleared
+    unfolding andThen
+    own-words = aborted-client k j slots m (c .0) us ∙ changed-append client-words (drop-used us u) (reset 0 dropped) u
 
     pub abort-others : (d : Fin (suc j)) → ¬ (d ≡ c) → client-of m′ (d .0) ≡ client-of m (d .0)
-    abort-others d n =
-        ap (λ (g : Address → ℕ). client-of g (d .0)) m-is ∙ client-else n₁ (c .0) ps (d .0) (away k j slots c d n) ∙ clients-stay (d .0)
+    abort-others d n = aborted-others k j slots m (c .0) us (d .0) (away k j slots c d n)
 
     pub abort-kept : Related k j slots m′ (starts L (c .0)) M₁
     unfolding phase-of
@@ -274,6 +291,5 @@ module _ (k j slots : ℕ) (al : Allowed (sizes k j slots)) (few : suc j ≤ 16)
         (subst (λ (v : ClientWord → ℕ). Client-shown k j slots v (L .given (c .0)) (starts L (c .0) .undecided (c .0)) (M₁ .slots c) (M .copy c) (M₁ .said c)) (sym own-words)
         (cleared-shown k j slots M c 0 (omega arith) (L .given (c .0)) (starts L (c .0) .undecided (c .0)) dropped
         (fewer-copies k j slots u dropped (M .copy c) (fewer (drop-used us u) u (only-used us u)) (R .clients c .copies)) (λ n. absurd (n refl))))
-        (λ s. subst (λ (p : Place → ℕ). Server-shown k j slots p s (M .value s) (M .version s) (M .table s) (locks s))
-        (sym (ap (λ (g : Address → ℕ). server-of g (s .0)) m-is ∙ client-servers n₁ (c .0) ps (s .0))) (server-shown s))
+        server-shown
         (R .log-as)

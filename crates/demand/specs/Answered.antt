@@ -12,8 +12,7 @@ use Rattle.layout.specs.Space.{put, changed}
 use Rattle.layout.specs.Step.{andThen, changed-append}
 use Rattle.plans.specs.Plan as Pl
 use Rattle.plans.specs.Walk as Wk
-use Rattle.operations.specs.Object.{Obj, Ask, object, vector, fetched, Val, root, no-tree, Ans, Writes, hit, written}
-use Rattle.operations.specs.Hit.{hit-self}
+use Rattle.operations.specs.Object.{Obj, Ask, object, vector, fetched, Val, root, no-tree, Ans, Writes, written}
 use Rattle.operations.specs.Path.{Plan}
 use Rattle.operations.specs.Operation.{all-fit?, check, reading, plan}
 use Rattle.operations.specs.Slot.{Sizes, Allowed}
@@ -47,7 +46,7 @@ use Rattle.demand.specs.Ran.{Follows, all-used, run-follows}
 use Rattle.demand.specs.Entered.{found-written}
 use Rattle.demand.specs.Used.{copies-stay, after-used, Entering, copies-used}
 use Rattle.demand.specs.Records.{Any, points-any, op-names, have-storable}
-use Rattle.demand.specs.Latest.{by-writes, entered-last, entered-whole, All-inside}
+use Rattle.demand.specs.Latest.{every-written, by-writes, entered-last, entered-whole, All-inside}
 use Rattle.demand.specs.Rewritten.{write-of, Rewritten, fewer-new, all-entered}
 use Rattle.demand.specs.Overwritten.{slot-written}
 
@@ -172,37 +171,32 @@ module _ (k j slots : ℕ) (al : Allowed (sizes k j slots)) (u : ClientWord → 
       writes-storable Any z (λ s i _ _. tt) (waiting u) (op-names Any z (λ n _. tt) u fit) (have z u)
       (have-storable k j slots al u f copies fit y shown Any (λ o v _. points-any o (source u (number o) .node))) a w (ran .0)
 
-  written-in : (o : Obj) → written w o ≡ true → In-store k j slots o
-  unfolding is-had
-  written-in o h = go (have z u (object o)) refl asked
+  -- what holds of everything that the plan asks for holds of what is written
+  pub asked-of-written : (holds : Ask → Bool) → Wk.Every (λ q. holds q ≡ true) (Wk.used (plan z (waiting u)) (have z u)) → (o : Obj) → written w o ≡ true → holds (object o) ≡ true
+  asked-of-written holds every =
+      written-asked z (waiting u) holds (snapshot (have z u)) a w
+      (Wk.walk-asked p (have z u) (snapshot (have z u)) holds (Pl.gives (a, w)) checks shows every)
+      (Wk.walk-exec p (have z u) (snapshot (have z u)) (Pl.gives (a, w)) shows checks)
     where
       p : Plan
       p = plan z (waiting u)
 
-      seen : Wk.Shows (have z u) (snapshot (have z u)) (Wk.used p (have z u)) × Wk.Every (λ q. is-had (have z u q) ≡ true) (Wk.used p (have z u))
-      seen = snapshot-shows (have z u) (Wk.used p (have z u)) (Wk.used-had p (have z u))
+      shows : Wk.Shows (have z u) (snapshot (have z u)) (Wk.used p (have z u))
+      shows = snapshot-shows (have z u) (Wk.used p (have z u)) (Wk.used-had p (have z u)) .0
 
-      asked : is-had (have z u (object o)) ≡ true
-      asked =
-          written-asked z (waiting u) (λ q. is-had (have z u q)) (snapshot (have z u)) a w
-          (Wk.walk-asked p (have z u) (snapshot (have z u)) (λ q. is-had (have z u q)) (Pl.gives (a, w)) checks (seen .0) (seen .1))
-          (Wk.walk-exec p (have z u) (snapshot (have z u)) (Pl.gives (a, w)) (seen .0) checks) o h
-
+  written-in : (o : Obj) → written w o ≡ true → In-store k j slots o
+  unfolding is-had
+  written-in o h =
+      let p = plan z (waiting u) in
+      go (have z u (object o)) refl
+      (asked-of-written (λ q. is-had (have z u q)) (snapshot-shows (have z u) (Wk.used p (have z u)) (Wk.used-had p (have z u)) .1) o h)
+    where
       go : (r : Option Val) → have z u (object o) ≡ r → is-had (have z u (object o)) ≡ true → In-store k j slots o
       go none e t = absurd (false≢true (sym (ap is-had e) ∙ t))
       go (some v) e t = had k j slots al u f copies fit y shown o v e .in-store
 
   pub inside : All-inside k j slots al w
-  inside = all w written-in
-    where
-      all : (w : Writes) → ((o : Obj) → written w o ≡ true → In-store k j slots o) → All-inside k j slots al w
-      all [] g = tt
-      all (e ∷ w) g =
-          (g (e .0) (ap (λ (b : Bool). cond b true (written w (e .0))) (hit-self (e .0))), all w (λ o h. g o (later (hit (e .0) o) (written w o) h)))
-        where
-          later : (b c : Bool) → c ≡ true → cond b true c ≡ true
-          later true c h = refl
-          later false c h = h
+  inside = every-written (In-store k j slots) w written-in
 
   -- ---- THE CLIENT'S PART: the copies in use enter, then the writes, and no operation waits
   abbrev pub v₁ : ClientWord → ℕ

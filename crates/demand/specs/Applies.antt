@@ -68,12 +68,27 @@ applied-outcome z m c s = go (all-applied z m c s) _ _
     go false ps qs = refl
 
 -- stores of a part, one list after another
-over-append : {A B : Type 0} (e : A → B) (ps qs : List (Put A)) → over e (ps ++ qs) ≡ over e ps ++ over e qs
+pub over-append : {A B : Type 0} (e : A → B) (ps qs : List (Put A)) → over e (ps ++ qs) ≡ over e ps ++ over e qs
 unfolding over
 over-append e [] qs = refl
 over-append e (put a v ∷ ps) qs = ap (λ (t : List (Put _)). put (e a) v ∷ t) (over-append e ps qs)
 
 module _ (k j slots : ℕ) where
+  -- the stores of the end, after those of the last apply
+  pub end-stores : (m : Address → ℕ) (c s : ℕ)
+      → let z = store k j slots in
+      let u = client-of m c in
+      changed whole m (applying z m c s ++ in-client z m c (andThen client-words (noted applied s) finish))
+      ≡ changed whole (changed whole m (applying z m c s ++ in-client z m c (noted applied s))) (over (client c) (finish (changed client-words u (noted applied s u))))
+  unfolding andThen
+  end-stores m c s =
+      let u = client-of m c in
+      let v = changed client-words u (noted applied s u) in
+      let ps = applying (store k j slots) m c s in
+      let qs = over (client c) (noted applied s u) in
+      ap (λ (l : List (Put Address)). changed whole m (ps ++ l)) (over-append (client c) (noted applied s u) (finish v))
+      ∙ ap (changed whole m) (sym (append-assoc ps qs (over (client c) (finish v)))) ∙ changed-append whole (ps ++ qs) (over (client c) (finish v)) m
+
   module _ (al : Allowed (sizes k j slots)) (few : suc j ≤ 16) (m : Address → ℕ) (L : Ledger) (M : P.Machine (T k j slots)) (c : Fin (suc j)) (G : Good k j slots m L M)
       (s : Fin (suc k)) (now : client-of m (c .0) phase ≡ 3) (new : bit (client-of m (c .0) applied) (s .0) ≡ false)
       (versions : versions-fit (store k j slots) m (c .0) ≡ true) where
@@ -109,17 +124,9 @@ module _ (k j slots : ℕ) where
         (ap₂ (covers (suc k)) (word participants) (word applied) ∙ all)
         (versions-kept k j slots m n₁ (c .0) same-sets versions))
 
-    -- its stores, after those of the apply
-    end-stores : changed whole m (applying (store k j slots) m (c .0) (s .0) ++ in-client (store k j slots) m (c .0) (andThen client-words (noted applied (s .0)) finish))
+    stores-end : changed whole m (applying (store k j slots) m (c .0) (s .0) ++ in-client (store k j slots) m (c .0) (andThen client-words (noted applied (s .0)) finish))
         ≡ changed whole n₁ (over (client (c .0)) (finish (client-of n₁ (c .0))))
-    unfolding andThen
-    end-stores =
-        let ps = applying (store k j slots) m (c .0) (s .0) in
-        let qs = over (client (c .0)) (noted applied (s .0) u) in
-        ap (λ (l : List (Put Address)). changed whole m (ps ++ l)) (over-append (client (c .0)) (noted applied (s .0) u) (finish v))
-        ∙ ap (changed whole m) (sym (append-assoc ps qs (over (client (c .0)) (finish v))))
-        ∙ changed-append whole (ps ++ qs) (over (client (c .0)) (finish v)) m
-        ∙ ap (λ (w : ClientWord → ℕ). changed whole n₁ (over (client (c .0)) (finish w))) (sym own)
+    stores-end = end-stores m (c .0) (s .0) ∙ ap (λ (w : ClientWord → ℕ). changed whole n₁ (over (client (c .0)) (finish w))) (sym own)
 
     pub apply-explained : Explained k j slots (changed whole m (applied-at (store k j slots) m (c .0) (s .0) .stores)) L
     unfolding applied-at
@@ -132,5 +139,5 @@ module _ (k j slots : ℕ) where
         one-more = did (Applied (s .0)) (applying (store k j slots) m (c .0) (s .0) ++ in-client (store k j slots) m (c .0) (noted applied (s .0)))
 
         go : (b : Bool) → all-applied (store k j slots) m (c .0) (s .0) ≡ b → Explained k j slots (changed whole m (cond b last-one one-more .stores)) L
-        go true e = subst (λ (f : Address → ℕ). Explained k j slots f L) (sym end-stores) (ends e)
+        go true e = subst (λ (f : Address → ℕ). Explained k j slots f L) (sym stores-end) (ends e)
         go false e = record { machine = M₁ k j slots al few m L M c G s now new; good = good₁ }

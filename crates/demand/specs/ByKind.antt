@@ -42,19 +42,10 @@ use Rattle.demand.specs.InRange.{loss-fits}
 use Rattle.demand.specs.Turns.{store, Good, still-fits, Explained, Turns, turns-good, abort-turns}
 use Rattle.demand.specs.Answering.{answer-turns}
 use Rattle.demand.specs.Fetches.{fetch-turns}
-use Rattle.demand.specs.Undecided.{given-legal, begin-turns, give-turns, forget-turns, commit-turns, end-turns, lost-turns}
+use Rattle.demand.specs.Undecided.{either, undecided-word, given-legal, begin-turns, give-turns, forget-turns, commit-turns, end-turns, lost-turns}
 use Rattle.demand.specs.Settled.{due-now}
 use Rattle.demand.specs.Applies.{versions-kept, applied-outcome, apply-explained}
 use Rattle.demand.specs.Decides as D
-
--- an open transaction, or one after its commit
-either : (x : ℕ) → 1 ≤ x → x ≤ 2 → (x ≡ 1) ⊎ (x ≡ 2)
-either zero l h = absurd (omega arith)
-either (suc zero) l h = inl refl
-either (suc (suc x)) l h = inr (omega arith)
-
-undecided-word : (x : ℕ) → eqb x 0 ≡ false → eqb x 3 ≡ false → x ≤ 3 → (x ≡ 1) ⊎ (x ≡ 2)
-undecided-word x p q l = let a = eqb-false x 0 p in let b = eqb-false x 3 q in either x (omega arith) (omega arith)
 
 module _ (k j slots : ℕ) (al : Allowed (sizes k j slots)) (few : suc j ≤ 16)
     (m : Address → ℕ) (L : Ledger) (M : P.Machine (T k j slots)) (G : Good k j slots m L M) (n : Step) where

@@ -16,7 +16,6 @@ use Rattle.protocol.specs.Machine as P
 use Rattle.protocol.specs.Moves as Mv
 use Rattle.protocol.specs.Claim.{unapplied}
 use Rattle.client.specs.Layout.{ClientWord, client-words, phase, participants, prepared, applied}
-use Rattle.client.specs.Items.{all-below}
 use Rattle.client.specs.Fits.{client-fits}
 use Rattle.client.specs.Course.{noted, decided}
 use Rattle.steps.specs.declared.sizes.Sizes.{Sizes}
@@ -28,6 +27,7 @@ use Rattle.demand.specs.Ledger.{Ledger, decides}
 use Rattle.demand.specs.Store.{sizes, meaning}
 use Rattle.demand.specs.Frame.{last, read-after}
 use Rattle.demand.specs.Shows.{phase-of, T, Related}
+use Rattle.demand.specs.Held.{every-below}
 use Rattle.demand.specs.Kept.{away}
 use Rattle.demand.specs.Slots.{Same-sets}
 use Rattle.demand.specs.Servers.{both-client, both-other}
@@ -35,11 +35,6 @@ use Rattle.demand.specs.Prepared as A
 use Rattle.demand.specs.Decided as D
 use Rattle.demand.specs.InRange.{prepared-fits, decision-fits}
 use Rattle.demand.specs.Turns.{store, Good, still-fits, Turns}
-
-every-below : (n : ℕ) (f : ℕ → Bool) → ((t : ℕ) → f t ≡ true) → all-below n f ≡ true
-unfolding all-below
-every-below zero f h = refl
-every-below (suc n) f h = rw (every-below n f h, h n)
 
 module _ (k j slots : ℕ) (al : Allowed (sizes k j slots)) (few : suc j ≤ 16) (m : Address → ℕ) (L : Ledger) (M : P.Machine (T k j slots)) (c : Fin (suc j)) (G : Good k j slots m L M)
     (fit : client-fits (sizes k j slots) (client-of m (c .0)) ≡ true) (s : Fin (suc k))
@@ -150,7 +145,7 @@ module _ (k j slots : ℕ) (al : Allowed (sizes k j slots)) (few : suc j ≤ 16)
     unfolding decided noted covers
     only-applied e =
         ap (λ (w : ℕ). covers (suc k) w (putBit true (client-of m₂ (c .0) applied) (s .0))) (word₂ participants ∙ e)
-        ∙ every-below (suc k) _ (λ t. at t (ℕ-discrete t (s .0)))
+        ∙ every-below (suc k) _ (λ t _. at t (ℕ-discrete t (s .0)))
       where
         at : (t : ℕ) → Dec (t ≡ s .0) → (not (bit (putBit true 0 (s .0)) t) || bit (putBit true (client-of m₂ (c .0) applied) (s .0)) t) ≡ true
         at t (yes q) =

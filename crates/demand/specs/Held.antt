@@ -40,6 +40,11 @@ all-at (suc n) f h i l = let both = and-both (all-below n f) (f n) h in go (ℕ-
     go (yes e) here rec = subst (λ (x : ℕ). f x ≡ true) (sym e) here
     go (no d) here rec = rec (omega arith)
 
+pub every-below : (n : ℕ) (f : ℕ → Bool) → ((i : ℕ) → i < n → f i ≡ true) → all-below n f ≡ true
+unfolding all-below
+every-below zero f h = refl
+every-below (suc n) f h = rw (every-below n f (λ i l. h i (omega arith)), h n (omega arith))
+
 pub any-at : (n : ℕ) (f : ℕ → Bool) (i : ℕ) → i < n → f i ≡ true → any-below n f ≡ true
 unfolding any-below
 any-at zero f i l h = absurd (omega arith)

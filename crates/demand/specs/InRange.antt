@@ -7,10 +7,8 @@ use native.Mathlib.Omega.{arith}
 use borrow.Author.Tests.{le-leb, leb-true}
 use lib.Dec.{eqb, ltb}
 use lib.ListN.{getD}
-use lib.Pow.{pow-pos}
 use Rattle.base.specs.Test.{and-both}
 use Rattle.base.specs.Update.{upd, upd-same, upd-other}
-use Rattle.memory.specs.Bit.{putBit, put-lt}
 use Rattle.layout.specs.Space.{Put, decide, changed}
 use Rattle.operations.specs.Slot.{Sizes}
 use Rattle.client.specs.declared.part.Set.{Set}
@@ -27,6 +25,7 @@ use Rattle.client.specs.Life.{lose}
 use Rattle.client.specs.Course.{noted, decided}
 use Rattle.demand.specs.Frame.{Only, only-then, only-mono, only-keeps}
 use Rattle.demand.specs.Dropped.{Mark, Drop, only-all}
+use Rattle.demand.specs.Members.{one-more}
 use Rattle.demand.specs.Slots.{Same-sets, count-frame, same-read, record-frame}
 
 pub all-from : (f : ℕ → Bool) (n : ℕ) → ((i : ℕ) → i < n → f i ≡ true) → all-of f n ≡ true
@@ -157,18 +156,14 @@ stores-fit z ps u h fit =
 
 -- ---- the steps of a decided transaction
 module _ (z : Sizes) (u : ClientWord → ℕ) (fit : client-fits z u ≡ true) where
-  -- one more server in a set of servers
   module _ (s : ℕ) (l : s < z .servers) where
-    more : (w : ℕ) → w ≤ 2 ^ z .servers - 1 → putBit true w s ≤ 2 ^ z .servers - 1
-    more w h = omega (arith, pow-pos (z .servers), put-lt true (z .servers) w s l (omega (arith, pow-pos (z .servers))))
-
     pub prepared-fits : client-fits z (changed client-words u (noted prepared s u)) ≡ true
     unfolding noted Only Harmless
-    prepared-fits = stores-fit z (noted prepared s u) u ((refl, more (u prepared) (fits-field z u fit 6 (omega arith))), tt) fit
+    prepared-fits = stores-fit z (noted prepared s u) u ((refl, one-more (z .servers) s l (u prepared) (fits-field z u fit 6 (omega arith))), tt) fit
 
     pub applied-fits : client-fits z (changed client-words u (noted applied s u)) ≡ true
     unfolding noted Only Harmless
-    applied-fits = stores-fit z (noted applied s u) u ((refl, more (u applied) (fits-field z u fit 7 (omega arith))), tt) fit
+    applied-fits = stores-fit z (noted applied s u) u ((refl, one-more (z .servers) s l (u applied) (fits-field z u fit 7 (omega arith))), tt) fit
 
   pub decision-fits : client-fits z (changed client-words u (decided u)) ≡ true
   unfolding decided Only Harmless

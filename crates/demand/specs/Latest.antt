@@ -7,9 +7,11 @@ use Prim.Native.Nat.{ℕ}
 use borrow.Author.Tests.{eqb-true, eqb-false, eq-eqb, ne-eqb}
 use lib.Dec.{eqb}
 use Rattle.base.specs.Test.{or-neither, yes?, ifd}
+use Rattle.plans.specs.Walk.{Every}
 use Rattle.nodes.specs.declared.node.Node.{Node}
 use Rattle.nodes.specs.StoredLaws.{Sized}
-use Rattle.operations.specs.Object.{Obj, Obj-discrete, Val, Writes}
+use Rattle.operations.specs.Object.{Obj, Obj-discrete, Val, Writes, hit, written}
+use Rattle.operations.specs.Hit.{hit-self}
 use Rattle.operations.specs.Slot.{Allowed}
 use Rattle.operations.specs.Storable.{Storable, All-storable}
 use Rattle.protocol.specs.Writes.{writes?, latest}
@@ -35,7 +37,7 @@ first [] q d = d
 first (e ∷ l) q d = with-entry e q (first l q d)
 
 -- by an operation's writes, the last first
-abbrev entry-of : Obj × Val → Entry
+abbrev pub entry-of : Obj × Val → Entry
 entry-of e = (number (e .0), record-of 0 (e .1))
 
 unfoldable pub by-writes : Writes → ℕ → Option Node → Option Node
@@ -43,11 +45,11 @@ by-writes [] q d = d
 by-writes (e ∷ w) q d = with-entry (entry-of e) q (by-writes w q d)
 
 -- ---- each number once
-unfoldable there : ℕ → List Entry → Bool
+unfoldable pub there : ℕ → List Entry → Bool
 there x [] = false
 there x (f ∷ l) = eqb (f .0) x || there x l
 
-unfoldable Apart : List Entry → Type 0
+unfoldable pub Apart : List Entry → Type 0
 Apart [] = Unit {0}
 Apart (e ∷ l) = (there (e .0) l ≡ false) × Apart l
 
@@ -69,10 +71,43 @@ put-apart e (f ∷ l) h = go (eqb (f .0) (e .0)) refl (put-apart e l (h .1))
     go true q rec = (subst (λ (x : ℕ). there x l ≡ false) (eqb-true (f .0) (e .0) q) (h .0), h .1)
     go false q rec = (put-there e l (f .0) (ne-eqb (e .0) (f .0) (λ z. eqb-false (f .0) (e .0) q (sym z))) (h .0), rec)
 
-entered-apart : (w : Writes) → Apart (entered w)
+pub entered-apart : (w : Writes) → Apart (entered w)
 unfolding entered Apart
 entered-apart [] = tt
 entered-apart (e ∷ w) = put-apart (entry-of e) (entered w) (entered-apart w)
+
+-- an entry is put in, and the others of its number are gone: what holds of it and of the others
+module _ (P Q : Entry → Type 0) (e : Entry) (f : (g : Entry) → eqb (g .0) (e .0) ≡ false → P g → Q g) where
+  others : (l : List Entry) → there (e .0) l ≡ false → Every P l → Every Q l
+  unfolding Every there
+  others [] a h = tt
+  others (g ∷ l) a h = let n = or-neither (eqb (g .0) (e .0)) (there (e .0) l) a in (f g (n .0) (h .0), others l (n .1) (h .1))
+
+  pub put-every : Q e → (l : List Entry) → Apart l → Every P l → Every Q (put-entry e l)
+  unfolding Every Apart put-entry
+  put-every q [] a h = (q, tt)
+  put-every q (g ∷ l) a h = go (eqb (g .0) (e .0)) refl (put-every q l (a .1) (h .1))
+    where
+      go : (b : Bool) → eqb (g .0) (e .0) ≡ b → Every Q (put-entry e l) → Every Q (cond b (e ∷ l) (g ∷ put-entry e l))
+      go true t rec = (q, others l (subst (λ (x : ℕ). there x l ≡ false) (eqb-true (g .0) (e .0) t) (a .0)) (h .1))
+      go false t rec = (f g t (h .0), rec)
+
+-- what holds of every write holds of every entry
+pub entered-every : (P : Entry → Type 0) (w : Writes) → Every (λ (e : Obj × Val). P (entry-of e)) w → Every P (entered w)
+unfolding entered Every
+entered-every P [] h = tt
+entered-every P (e ∷ w) h = put-every P P (entry-of e) (λ g _ p. p) (h .0) (entered w) (entered-apart w) (entered-every P w (h .1))
+
+-- and what holds of every object that is written, of every write
+pub every-written : (Q : Obj → Type 0) (w : Writes) → ((o : Obj) → written w o ≡ true → Q o) → Every (λ (e : Obj × Val). Q (e .0)) w
+unfolding Every
+every-written Q [] h = tt
+every-written Q (e ∷ w) h =
+    (h (e .0) (ap (λ (b : Bool). cond b true (written w (e .0))) (hit-self (e .0))), every-written Q w (λ o q. h o (later (hit (e .0) o) (written w o) q)))
+  where
+    later : (b c : Bool) → c ≡ true → cond b true c ≡ true
+    later true c h = refl
+    later false c h = h
 
 first-missing : (l : List Entry) (q : ℕ) (d : Option Node) → there q l ≡ false → first l q d ≡ d
 unfolding first there
@@ -117,22 +152,15 @@ entered-last w q d = in-turn (entered w) q d (entered-apart w) ∙ entered-first
 
 -- ---- records of what can be stored
 abbrev pub All-whole : List Entry → Type 0
-All-whole [] = Unit {0}
-All-whole (e ∷ l) = Sized (e .1) × All-whole l
-
-put-whole : (e : Entry) (l : List Entry) → Sized (e .1) → All-whole l → All-whole (put-entry e l)
-unfolding put-entry
-put-whole e [] s h = (s, tt)
-put-whole e (f ∷ l) s h = go (eqb (f .0) (e .0)) (put-whole e l s (h .1))
-  where
-    go : (b : Bool) → All-whole (put-entry e l) → All-whole (cond b (e ∷ l) (f ∷ put-entry e l))
-    go true rec = (s, h .1)
-    go false rec = (h .0, rec)
+All-whole = Every (λ (e : Entry). Sized (e .1))
 
 pub entered-whole : (w : Writes) → All-storable Any w → All-whole (entered w)
-unfolding entered
-entered-whole [] h = tt
-entered-whole (e ∷ w) h = put-whole (entry-of e) (entered w) (record-whole Any (e .0) (e .1) (h .1)) (entered-whole w (h .2))
+unfolding Every
+entered-whole w h = entered-every (λ (e : Entry). Sized (e .1)) w (whole w h)
+  where
+    whole : (w : Writes) → All-storable Any w → Every (λ (e : Obj × Val). Sized (record-of 0 (e .1))) w
+    whole [] h = tt
+    whole (e ∷ w) h = (record-whole Any (e .0) (e .1) (h .1), whole w (h .2))
 
 -- ---- as the machine has it
 abbrev pub is-there : Option Node → Bool
@@ -146,8 +174,7 @@ value-in o a (some r) = value-of o r
 
 module _ (k j slots : ℕ) (al : Allowed (sizes k j slots)) where
   abbrev pub All-inside : Writes → Type 0
-  All-inside [] = Unit {0}
-  All-inside (e ∷ w) = In-store k j slots (e .0) × All-inside w
+  All-inside = Every (λ (e : Obj × Val). In-store k j slots (e .0))
 
   same-number : (o q : Obj) → In-store k j slots o → In-store k j slots q → (d : Dec (o ≡ q)) → eqb (number q) (number o) ≡ yes? d
   same-number o q h g (yes p) = eq-eqb (number q) (number o) (ap number (sym p))
@@ -156,7 +183,7 @@ module _ (k j slots : ℕ) (al : Allowed (sizes k j slots)) where
 
   module _ (o : Obj) (h : In-store k j slots o) where
     pub last-there : (w : Writes) → All-inside w → (d : Option Node) → is-there (by-writes w (number o) d) ≡ (writes? Obj-discrete w o || is-there d)
-    unfolding by-writes writes?
+    unfolding by-writes writes? Every
     last-there [] g d = refl
     last-there (e ∷ w) g d =
         let x = Obj-discrete o (e .0) in
@@ -170,7 +197,7 @@ module _ (k j slots : ℕ) (al : Allowed (sizes k j slots)) where
 
     pub last-value : (w : Writes) → All-storable Any w → All-inside w → (a : Val) (d : Option Node)
         → value-in o a (by-writes w (number o) d) ≡ latest Obj-discrete w o (value-in o a d)
-    unfolding by-writes latest
+    unfolding by-writes latest Every
     last-value [] s g a d = refl
     last-value (e ∷ w) s g a d =
         let x = Obj-discrete o (e .0) in

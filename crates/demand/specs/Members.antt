@@ -3,12 +3,12 @@ use mathlib.Core.Path.{_≡_, refl, ap, sym, _∙_, subst}
 use mathlib.Core.Bool.{Bool, true, false, cond, _&&_, not}
 use mathlib.Core.List.{List, [], _∷_, map}
 use mathlib.Core.Logic.{_⊎_, inl, inr}
-use Prim.Native.Nat.{ℕ, zero, suc, _^_, _≤_, _<_, Fin}
+use Prim.Native.Nat.{ℕ, zero, suc, _-_, _^_, _≤_, _<_, Fin}
 use native.Mathlib.Omega.{arith}
 use native.Mathlib.Decide.{decLt, ℕ-discrete, Fin-discrete, Fin·succ, Fin·val-path}
 use borrow.Author.Tests.{ltb-true, eqb-true, eq-eqb, ne-eqb}
 use lib.Dec.{eqb, ltb}
-use lib.Pow.{pow-lt}
+use lib.Pow.{pow-pos, pow-lt}
 use Rattle.base.specs.Test.{bool-cases, not-both, and-both, cond-true, cond-false, yes?, of-yes, of-no}
 use Rattle.memory.specs.Bit.{bit, putBit, bit-put-same, bit-put-other, put-lt, no-bits}
 use Rattle.nodes.specs.Name.{server-of, slot-of}
@@ -34,12 +34,16 @@ mask-bit (suc n) f i l = go (ℕ-discrete i n) (λ q. mask-bit n f i q)
     go (yes e) rec = subst (λ (x : ℕ). bit (putBit (f n) (mask n f) n) x ≡ f x) (sym e) (bit-put-same (f n) (mask n f) n)
     go (no d) rec = bit-put-other (f n) (mask n f) n i d ∙ rec (omega arith)
 
-mask-lt : (n : ℕ) (f : ℕ → Bool) → mask n f < 2 ^ n
+pub mask-lt : (n : ℕ) (f : ℕ → Bool) → mask n f < 2 ^ n
 unfolding mask
 mask-lt zero f = omega arith
 mask-lt (suc n) f =
     let p : 2 ^ n < 2 ^ suc n = pow-lt {i = n} {j = suc n} (omega arith) in
     put-lt (f n) (suc n) (mask n f) n (omega arith) (omega (arith, mask-lt n f))
+
+-- one more server in a set of n
+pub one-more : (n s : ℕ) → s < n → (w : ℕ) → w ≤ 2 ^ n - 1 → putBit true w s ≤ 2 ^ n - 1
+one-more n s l w h = omega (arith, pow-pos n, put-lt true n w s l (omega (arith, pow-pos n)))
 
 -- a set that is not empty has a member
 pub member : (n : ℕ) (f : ℕ → Bool) → ¬ (mask n f ≡ 0) → (i : ℕ) × (i < n) × (f i ≡ true)

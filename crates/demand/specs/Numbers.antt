@@ -63,6 +63,11 @@ store-obj z x = go (eqb x 0) (leb x 8192)
     go false true = refl
     go false false = refl
 
+-- node 0, which holds the first root
+pub zeroth-there : (z : Sizes) → 0 < z .servers → 0 < z .slots → in-store z 0 ≡ true
+unfolding in-store
+zeroth-there z h g = rw (lt-ltb 0 (z .servers) h, lt-ltb 0 (z .slots) g)
+
 module _ (z : Sizes) (al : Allowed z) where
   pub name-lt : (n : ℕ) → in-store z n ≡ true → n < 8192
   unfolding in-store

@@ -4,6 +4,7 @@ use mathlib.Core.Bool.{Bool, true, false, true≢false, false≢true}
 use mathlib.Core.List.{List, [], _∷_}
 use Prim.Native.Nat.{ℕ, zero, suc, _/_, _%_, Fin}
 use native.Mathlib.Omega.{arith}
+use Rattle.base.specs.Test.{not-both}
 use Rattle.memory.specs.Bit.{bit, zero-bit}
 use Rattle.layout.specs.Space.{Put, put, changed, tab}
 use Rattle.layout.specs.Part.{over}
@@ -62,15 +63,37 @@ is-vector (FlagLock k) = false
 is-vector (Table s k) = false
 is-vector (NodeLock s k) = false
 
-abbrev is-node : Place → Bool
-is-node Root = false
-is-node Version = false
-is-node MetadataLock = false
-is-node (Vector i) = false
-is-node (Node k i) = true
-is-node (FlagLock k) = false
-is-node (Table s k) = false
-is-node (NodeLock s k) = false
+-- nodes and flags apart, everything is 0
+abbrev pub of-node : Place → Bool
+of-node Root = false
+of-node Version = false
+of-node MetadataLock = false
+of-node (Vector i) = true
+of-node (Node k i) = true
+of-node (FlagLock k) = false
+of-node (Table s k) = false
+of-node (NodeLock s k) = false
+
+pub zero-at : (s : ℕ) (a : Place) → of-node a ≡ false → fresh s a ≡ 0
+zero-at s a h = fresh-zero s a (λ e. not-both (ap of-node e) h) (λ e. not-both (ap of-node e) h)
+
+-- all nodes but the root are free
+empty-word : (s n i : ℕ) → n / 1024 ≡ s → ¬ (n ≡ 0) → fresh s (Node (n % 1024) i) ≡ 0
+unfolding sort-slot
+empty-word s n i e d = go (ℕ-discrete s 0)
+  where
+    go : Dec (s ≡ 0) → fresh s (Node (n % 1024) i) ≡ 0
+    go (no h) = fresh-other s (Node (n % 1024) i) h
+    go (yes h) =
+        fresh-zero s (Node (n % 1024) i) (λ q. d (let r : n % 1024 ≡ 0 = ap sort-slot q in omega arith)) (λ q. absurd (true≢false (sym (ap is-vector q))))
+
+pub empty-node : (s n : ℕ) → n / 1024 ≡ s → ¬ (n ≡ 0) → node-at (fresh s) n ≡ node-of (tab 33 (λ i. 0))
+unfolding node-at
+empty-node s n e d = ap (λ (f : ℕ → ℕ). node-of (tab 33 f)) (fun-ext (λ i. empty-word s n i e d))
+
+pub root-node : node-at (fresh 0) 0 ≡ made 1 0 0 [] []
+unfolding node-at node-here
+root-node = fresh-root
 
 -- the head of a new store: "the three sizes"
 pub opened-head : (z : Sizes) → (opened z (head 0) ≡ z .servers) × (opened z (head 1) ≡ z .slots) × (opened z (head 2) ≡ z .clients)
@@ -138,26 +161,6 @@ module _ (k j slots : ℕ) where
           (server-changed heads 0 (first-leaf 0) ∙ ap (λ (f : Place → ℕ). changed places f (first-leaf 0)) (no-server 0))
       go (no n) = server-else heads 0 (first-leaf 0) s n ∙ no-server s ∙ fun-ext (λ a. sym (fresh-other s a n))
 
-  -- a place that is not the first leaf's holds 0
-  empty-word : (s n i : ℕ) → n / 1024 ≡ s → ¬ (n ≡ 0) → fresh s (Node (n % 1024) i) ≡ 0
-  unfolding sort-slot
-  empty-word s n i e d = go (ℕ-discrete s 0)
-    where
-      go : Dec (s ≡ 0) → fresh s (Node (n % 1024) i) ≡ 0
-      go (no h) = fresh-other s (Node (n % 1024) i) h
-      go (yes h) = fresh-zero s (Node (n % 1024) i) (λ q. d (let r : n % 1024 ≡ 0 = ap sort-slot q in omega arith)) (λ q. not-vector q)
-        where
-          not-vector : ¬ (Node (n % 1024) i ≡ Vector 0)
-          not-vector q = absurd (true≢false (sym (ap is-vector q)))
-
-  empty-node : (s n : ℕ) → n / 1024 ≡ s → ¬ (n ≡ 0) → node-at (fresh s) n ≡ node-of (tab 33 (λ i. 0))
-  unfolding node-at
-  empty-node s n e d = ap (λ (f : ℕ → ℕ). node-of (tab 33 f)) (fun-ext (λ i. empty-word s n i e d))
-
-  root-node : node-at (fresh 0) 0 ≡ made 1 0 0 [] []
-  unfolding node-at node-here
-  root-node = fresh-root
-
   first-word : fresh 0 (Vector 0) ≡ 1
   unfolding fresh first-leaf
   first-word = read-after places (put (Node 0 0) 1 ∷ put (Vector 0) 1 ∷ []) (λ a. 0) (Vector 0)
@@ -178,7 +181,7 @@ module _ (k j slots : ℕ) where
 
   value-first : (s : ℕ) (o : Obj) → At-home s o → new-store o ≡ value-at k j slots (fresh s) o
   unfolding made pad keysOf slotsOf extra node-of tab bit
-  value-first s meta h = ap root (sym (fresh-zero s Root (λ q. absurd (true≢false (sym (ap is-node q)))) (λ q. absurd (true≢false (sym (ap is-vector q))))))
+  value-first s meta h = ap root (sym (zero-at s Root refl))
   value-first s (node zero) h = subst (λ (x : ℕ). new-store (node 0) ≡ value-at k j slots (fresh x) (node 0)) h (ap (value-of (node 0)) (sym root-node))
   value-first s (node (suc n)) h = ap (value-of (node (suc n))) (sym (empty-node s (suc n) h (λ q. absurd (omega arith))))
   value-first s (flag zero) h =
@@ -188,15 +191,14 @@ module _ (k j slots : ℕ) where
   -- versions, tables and locks: all 0
   version-first : (s : ℕ) (o : Obj) → At-home s o → 0 ≡ version-at k j slots (fresh s) o
   unfolding made node-of tab
-  version-first s meta h = sym (fresh-zero s Version (λ q. absurd (true≢false (sym (ap is-node q)))) (λ q. absurd (true≢false (sym (ap is-vector q)))))
+  version-first s meta h = sym (zero-at s Version refl)
   version-first s (node zero) h = subst (λ (x : ℕ). 0 ≡ version-at k j slots (fresh x) (node 0)) h (ap (λ r. r .version) (sym root-node))
   version-first s (node (suc n)) h = ap (λ r. r .version) (sym (empty-node s (suc n) h (λ q. absurd (omega arith))))
   version-first s (flag n) h = refl
 
   table-first : (s : ℕ) (o : Obj) → 0 ≡ table-at k j slots (fresh s) o
-  table-first s meta = sym (fresh-zero s Version (λ q. absurd (true≢false (sym (ap is-node q)))) (λ q. absurd (true≢false (sym (ap is-vector q)))))
-  table-first s (node n) =
-      sym (fresh-zero s (Table (n / 1024) (n % 1024)) (λ q. absurd (true≢false (sym (ap is-node q)))) (λ q. absurd (true≢false (sym (ap is-vector q)))))
+  table-first s meta = sym (zero-at s Version refl)
+  table-first s (node n) = sym (zero-at s (Table (n / 1024) (n % 1024)) refl)
   table-first s (flag n) = refl
 
   pub server-opened : (s : Fin (suc k)) → Server-shown k j slots (server-of (opened z) (s .0)) s (P.first-machine (T k j slots) .value s)

@@ -11,6 +11,7 @@ use lib.Dec.{eqb}
 use Rattle.base.specs.Test.{not-both}
 use Rattle.layout.specs.Space.{changed}
 use Rattle.layout.specs.Step.{andThen, changed-append}
+use Rattle.plans.specs.Walk.{Every}
 use Rattle.nodes.specs.declared.node.Node.{Node}
 use Rattle.nodes.specs.declared.found.Found.{Found}
 use Rattle.nodes.specs.declared.found.Found.the-variants.{At, Absent}
@@ -170,7 +171,7 @@ fewer-new u v h (e ∷ l) = go (has u Writes (e .0)) refl (has v Writes (e .0)) 
 
 pub all-entered : (l : List Entry) → All-whole l → (u : ClientWord → ℕ) → u writes-count + count-new u l ≤ 48
     → Rewritten u (changed client-words u (enter-entries l u)) (by-entries l)
-unfolding enter-entries nothing andThen changed by-entries count-new
+unfolding enter-entries nothing andThen changed by-entries count-new Every
 all-entered [] h u l = record { looked = λ q. refl; once = λ g. g; other = λ a p q. refl }
 all-entered (e ∷ es) h u l =
     let o = one-entered u (e .0) (e .1) (h .0) (room (has u Writes (e .0)) l) in

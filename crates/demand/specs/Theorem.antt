@@ -5,7 +5,6 @@ use mathlib.Core.Bool.{Bool, true, false, false≢true}
 use mathlib.Core.List.{List, [], _∷_}
 use Prim.Native.Nat.{ℕ, zero, suc, _≤_, _<_, Fin}
 use native.Mathlib.Omega.{arith}
-use borrow.Author.Tests.{lt-ltb}
 use Rattle.base.specs.Test.{not-both}
 use Rattle.nodes.specs.Name as N
 use Rattle.operations.specs.Object.{Obj, meta, node, flag, Val, root-of, taken, is-taken}
@@ -28,6 +27,7 @@ use Rattle.demand.specs.Ledger.{Ledger, blank, map-all}
 use Rattle.demand.specs.Demand as D
 use Rattle.demand.specs.Store.{sizes, home, keeps-home, meaning}
 use Rattle.demand.specs.Members.{server-is, name-server}
+use Rattle.demand.specs.Numbers.{zeroth-there}
 use Rattle.demand.specs.Shows.{T}
 use Rattle.demand.specs.Answers.{answers-right, tree-holds}
 use Rattle.demand.specs.Opened.{opened-related}
@@ -59,10 +59,6 @@ module _ (k j slots : ℕ) (al : Allowed (sizes k j slots)) (few : suc j ≤ 16)
         ap root-of (sym (G .shown .servers t .value-as meta refl refl) ∙ sym (none-due (T k j slots) Z (G .shown .reached) done t meta refl)
         ∙ claim (T k j slots) Z (G .shown .reached) .agree t meta refl ∙ none-due (T k j slots) Z (G .shown .reached) done (home k j slots meta) meta refl)
 
-    zeroth-there : in-store (sizes k j slots) 0 ≡ true
-    unfolding in-store
-    zeroth-there = rw (lt-ltb 0 (suc k) (omega arith), lt-ltb 0 slots some-slot)
-
     -- a taken slot is one of the store's, and its node is read at its home
     node-read : (x : ℕ) → Stored (flag x) ≡ taken true → D.node-in m x ≡ Stored (node x)
     unfolding D.node-in
@@ -75,7 +71,7 @@ module _ (k j slots : ℕ) (al : Allowed (sizes k j slots)) (few : suc j ≤ 16)
         go false i = absurd (first-flag x i (sym (G .outside (home k j slots (flag x)) (flag x) i) ∙ e))
           where
             first-flag : (x : ℕ) → in-store (sizes k j slots) x ≡ false → ¬ (new-store (flag x) ≡ taken true)
-            first-flag zero i e = not-both zeroth-there i
+            first-flag zero i e = not-both (zeroth-there (sizes k j slots) (omega arith) some-slot) i
             first-flag (suc x) i e = false≢true (ap is-taken e)
 
     pub pairs-read : D.pairs-under m the-root ≡ map-all (L .decided)

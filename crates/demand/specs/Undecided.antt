@@ -2,10 +2,12 @@
 use mathlib.Core.Path.{_≡_, refl, ap, sym, _∙_, subst}
 use mathlib.Core.Bool.{true, false}
 use mathlib.Core.List.{List, [], _++_}
-use mathlib.Core.Logic.{_⊎_}
+use mathlib.Core.Logic.{_⊎_, inl, inr}
 use Prim.Native.Nat.{ℕ, zero, suc, _≤_, _<_, Fin}
 use native.Mathlib.Omega.{arith}
 use native.Mathlib.Decide.{Fin-discrete}
+use borrow.Author.Tests.{eqb-false}
+use lib.Dec.{eqb}
 use Rattle.base.specs.Update.{upd-same}
 use Rattle.layout.specs.Space.{Put, changed}
 use Rattle.layout.specs.Step.{changed-append}
@@ -40,6 +42,15 @@ early-word zero l = refl
 early-word (suc zero) l = refl
 early-word (suc (suc zero)) l = refl
 early-word (suc (suc (suc n))) l = absurd (omega arith)
+
+-- an open transaction, or one after its commit
+pub either : (x : ℕ) → 1 ≤ x → x ≤ 2 → (x ≡ 1) ⊎ (x ≡ 2)
+either zero l h = absurd (omega arith)
+either (suc zero) l h = inl refl
+either (suc (suc x)) l h = inr (omega arith)
+
+pub undecided-word : (x : ℕ) → eqb x 0 ≡ false → eqb x 3 ≡ false → x ≤ 3 → (x ≡ 1) ⊎ (x ≡ 2)
+undecided-word x p q l = let a = eqb-false x 0 p in let b = eqb-false x 3 q in either x (omega arith) (omega arith)
 
 -- "op 1 insert .. 6 migrate": what was given is an operation that the store can do
 pub given-legal : (k j slots op key value server : ℕ) → key < H → 1 ≤ op → op ≤ 6 → (op ≡ 6 → server < suc k) → Legal (sizes k j slots) (op-of op key value server)

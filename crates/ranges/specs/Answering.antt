@@ -39,7 +39,7 @@ use Rattle.steps.specs.Stores.{client-of}
 use Rattle.demand.specs.Answered as A
 use Rattle.demand.specs.AtHand.{written-read}
 use Rattle.demand.specs.Lacking.{asked}
-use Rattle.demand.specs.Latest.{entered-whole}
+use Rattle.demand.specs.Latest.{entered-every, every-written, entered-whole}
 use Rattle.demand.specs.Ledger.{Ledger}
 use Rattle.demand.specs.Ran.{with-used, all-used}
 use Rattle.demand.specs.Shows.{T, Slot-shown, Copies-shown, Related}
@@ -53,28 +53,6 @@ use Rattle.ranges.specs.Locks.{early-stored}
 use Rattle.ranges.specs.Whole.{client-sound}
 use Rattle.ranges.specs.Undecided.{accepted, Kept}
 use Rattle.ranges.specs.Hand.{writes-there, used-copied}
-
--- of the objects of an operation's writes
-module _ (Q : ℕ → Type 0) where
-  every-put : (e : Entry) (l : List Entry) → Q (e .0) → Every (λ (f : Entry). Q (f .0)) l → Every (λ (f : Entry). Q (f .0)) (put-entry e l)
-  unfolding put-entry Every
-  every-put e [] q h = (q, tt)
-  every-put e (f ∷ l) q h = go (eqb (f .0) (e .0)) (every-put e l q (h .1))
-    where
-      go : (b : Bool) → Every (λ (f : Entry). Q (f .0)) (put-entry e l) → Every (λ (f : Entry). Q (f .0)) (cond b (e ∷ l) (f ∷ put-entry e l))
-      go true r = (q, h .1)
-      go false r = (h .0, r)
-
-  every-entered : (w : Writes) → ((o : Obj) → written w o ≡ true → Q (number o)) → Every (λ (e : Entry). Q (e .0)) (entered w)
-  unfolding entered Every
-  every-entered [] h = tt
-  every-entered (e ∷ w) h =
-      every-put (number (e .0), record-of 0 (e .1)) (entered w) (h (e .0) (ap (λ (b : Bool). cond b true (written w (e .0))) (hit-self (e .0))))
-      (every-entered w (λ o q. h o (later (hit (e .0) o) (written w o) q)))
-    where
-      later : (b c : Bool) → c ≡ true → cond b true c ≡ true
-      later true c h = refl
-      later false c h = h
 
 module _ (k j slots : ℕ) (al : Allowed (sizes k j slots)) (u : ClientWord → ℕ) (part : Part-sound (sizes k j slots) u) (f : Obj → Option (P.Copy (T k j slots))) (copies : Copies-shown k j slots u f)
     (y : P.Slot (T k j slots)) (shown : Slot-shown k j slots u y) where
@@ -141,20 +119,9 @@ module _ (k j slots : ℕ) (al : Allowed (sizes k j slots)) (u : ClientWord → 
     read-now : (o : Obj) → written w o ≡ true → has v set.Reads (number o) ≡ true
     read-now o h =
         A.entering k j slots al u fit y shown f copies a w answers .has-now (number o)
-        ∙ written-asked (sizes k j slots) (waiting u) (is-read us) (A.snapshot (have (sizes k j slots) u)) a w
-        (Wk.walk-asked p (have (sizes k j slots) u) (A.snapshot (have (sizes k j slots) u)) (is-read us) (Pl.gives (a, w)) checks shows every-read)
-        (Wk.walk-exec p (have (sizes k j slots) u) (A.snapshot (have (sizes k j slots) u)) (Pl.gives (a, w)) shows checks) o h
+        ∙ A.asked-of-written k j slots al u fit y shown f copies a w answers (is-read us) every-read o h
       where
-        p : Plan
-        p = Op.plan (sizes k j slots) (waiting u)
-
-        checks : Wk.walk p (have (sizes k j slots) u) ≡ Wk.ends (Pl.gives (a, w))
-        checks = A.checks k j slots al u fit y shown f copies a w answers
-
-        shows : Wk.Shows (have (sizes k j slots) u) (A.snapshot (have (sizes k j slots) u)) (Wk.used p (have (sizes k j slots) u))
-        shows = A.snapshot-shows (have (sizes k j slots) u) (Wk.used p (have (sizes k j slots) u)) (Wk.used-had p (have (sizes k j slots) u)) .0
-
-        every-read : Every (λ (q : Ask). is-read us q ≡ true) (Wk.used p (have (sizes k j slots) u))
+        every-read : Every (λ (q : Ask). is-read us q ≡ true) (Wk.used (Op.plan (sizes k j slots) (waiting u)) (have (sizes k j slots) u))
         every-read =
             subst (Every (λ (q : Ask). is-read us q ≡ true)) (sym (A.uses k j slots al u fit y shown f copies a w answers))
             (subst (λ (l : List ℕ). Every (λ (q : Ask). is-read l q ≡ true) (asked (sizes k j slots) u)) (sym (ran .1)) (all-read (asked (sizes k j slots) u) []))
@@ -162,7 +129,7 @@ module _ (k j slots : ℕ) (al : Allowed (sizes k j slots)) (u : ClientWord → 
     may-write : Every (λ (e : Entry). May-write v (e .0)) (entered w)
     may-write =
         not-last (sizes k j slots) v (used-part (sizes k j slots) u part us all-copied .sets) (entered w) (used-last u us (entered w) ∙ answers .young)
-        (every-entered (λ x. has v set.Reads x ≡ true) w read-now)
+        (entered-every (λ (e : Entry). has v set.Reads (e .0) ≡ true) w (every-written (λ o. has v set.Reads (number o) ≡ true) w read-now))
 
     pub answered-sound : Part-sound (sizes k j slots) (changed client-words u (answered us w u))
     answered-sound =

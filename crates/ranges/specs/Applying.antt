@@ -28,6 +28,7 @@ use Rattle.steps.specs.Judge.{lowest, versions-fit}
 use Rattle.steps.specs.Stores.{client-of, server-of}
 use Rattle.steps.specs.Steps as Steps
 use Rattle.steps.specs.Steps.{unlock-each, store-all}
+use Rattle.demand.specs.Held.{every-below}
 use Rattle.demand.specs.Ledger.{Ledger}
 use Rattle.demand.specs.Shows.{T}
 use Rattle.demand.specs.Store.{sizes}
@@ -37,7 +38,7 @@ use Rattle.ranges.specs.Part.{applied-part, finish-part}
 use Rattle.ranges.specs.Stored.{apply-sound}
 use Rattle.ranges.specs.Sets.{part-fits}
 use Rattle.ranges.specs.Unlocks.{apply-locks, last-locks}
-use Rattle.ranges.specs.Held.{each-below, unlock-judged}
+use Rattle.ranges.specs.Held.{unlock-judged}
 use Rattle.ranges.specs.Whole.{both-sound}
 use Rattle.ranges.specs.Undecided.{accepted, Kept, if-kept, one-kept}
 use Rattle.server.specs.Layout.{places}
@@ -49,7 +50,7 @@ module _ (k j slots : ℕ) (al : Allowed (sizes k j slots)) (few : suc j ≤ 16)
   -- "no decided transaction has a written version of 4,294,967,295"
   pub versions-judged : (m : Address → ℕ) (c : ℕ) → Part-sound (sizes k j slots) (client-of m c) → versions-fit z m c ≡ true
   unfolding versions-fit
-  versions-judged m c P = each-below (count u Writes) _ (λ i l. go i l (decLe (number-at u Writes i) 8192))
+  versions-judged m c P = every-below (count u Writes) _ (λ i l. go i l (decLe (number-at u Writes i) 8192))
     where
       u : ClientWord → ℕ
       u = client-of m c

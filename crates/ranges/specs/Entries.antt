@@ -47,7 +47,7 @@ use Rattle.demand.specs.Placed.{placed, placed-number, placed-record, placed-be
 use Rattle.demand.specs.Behind.{writes-within, Elsewhere, field-same, set-same, Behind, find-behind, put-behind}
 use Rattle.demand.specs.Entered.{Else-same, Read-entered}
 use Rattle.demand.specs.Used.{copied-same, after-used}
-use Rattle.demand.specs.Latest.{All-whole}
+use Rattle.demand.specs.Latest.{entry-of, entered-apart, put-every, All-whole}
 use Rattle.ranges.specs.Sound.{children-there, Item-sound, Sets-sound}
 use Rattle.ranges.specs.Lists.{every-weaker, every-all}
 use Rattle.ranges.specs.Sets.{sound-version, item-stays, all-stay, May-write, written-may, sets-from, Reads-stay, reads-stay, entered-stay, may-stay, used-keeps}
@@ -116,54 +116,6 @@ module _ (z : Sizes) (al : Allowed z) where
   entry-sound (flag n) (flags fs) h s l = absurd s
 
 -- ---- THE LATEST WRITES
--- each number once
-unfoldable among : ℕ → List Entry → Bool
-among x [] = false
-among x (f ∷ l) = eqb (f .0) x || among x l
-
-unfoldable Apart : List Entry → Type 0
-Apart [] = Unit {0}
-Apart (e ∷ l) = (among (e .0) l ≡ false) × Apart l
-
-put-among : (e : Entry) (l : List Entry) (x : ℕ) → eqb (e .0) x ≡ false → among x l ≡ false → among x (put-entry e l) ≡ false
-unfolding among put-entry
-put-among e [] x a b = rw a refl
-put-among e (f ∷ l) x a b = let h = or-neither (eqb (f .0) x) (among x l) b in go (eqb (f .0) (e .0)) h (put-among e l x a (h .1))
-  where
-    go : (c : Bool) → (eqb (f .0) x ≡ false) × (among x l ≡ false) → among x (put-entry e l) ≡ false → among x (cond c (e ∷ l) (f ∷ put-entry e l)) ≡ false
-    go true h rec = rw (a, h .1) refl
-    go false h rec = rw (h .0, rec) refl
-
-put-apart : (e : Entry) (l : List Entry) → Apart l → Apart (put-entry e l)
-unfolding Apart among put-entry
-put-apart e [] h = (refl, tt)
-put-apart e (f ∷ l) h = go (eqb (f .0) (e .0)) refl (put-apart e l (h .1))
-  where
-    go : (c : Bool) → eqb (f .0) (e .0) ≡ c → Apart (put-entry e l) → Apart (cond c (e ∷ l) (f ∷ put-entry e l))
-    go true q rec = (subst (λ (x : ℕ). among x l ≡ false) (eqb-true (f .0) (e .0) q) (h .0), h .1)
-    go false q rec = (put-among e l (f .0) (ne-eqb (e .0) (f .0) (λ z. eqb-false (f .0) (e .0) q (sym z))) (h .0), rec)
-
-entered-apart : (w : Writes) → Apart (entered w)
-unfolding entered Apart
-entered-apart [] = tt
-entered-apart (e ∷ w) = put-apart (number (e .0), record-of 0 (e .1)) (entered w) (entered-apart w)
-
--- an entry is put in, and the others of its number are gone: what holds of it and of the others
-module _ (P Q : Entry → Type 0) (e : Entry) (f : (g : Entry) → eqb (g .0) (e .0) ≡ false → P g → Q g) where
-  others : (l : List Entry) → among (e .0) l ≡ false → Every P l → Every Q l
-  unfolding Every among
-  others [] a h = tt
-  others (g ∷ l) a h = let n = or-neither (eqb (g .0) (e .0)) (among (e .0) l) a in (f g (n .0) (h .0), others l (n .1) (h .1))
-
-  put-every : Q e → (l : List Entry) → Apart l → Every P l → Every Q (put-entry e l)
-  unfolding Every Apart put-entry
-  put-every q [] a h = (q, tt)
-  put-every q (g ∷ l) a h = go (eqb (g .0) (e .0)) refl (put-every q l (a .1) (h .1))
-    where
-      go : (b : Bool) → eqb (g .0) (e .0) ≡ b → Every Q (put-entry e l) → Every Q (cond b (e ∷ l) (g ∷ put-entry e l))
-      go true t rec = (q, others l (subst (λ (x : ℕ). among x l ≡ false) (eqb-true (g .0) (e .0) t) (a .0)) (h .1))
-      go false t rec = (f g t (h .0), rec)
-
 module _ (N : ℕ → Type 0) where
   -- an entry holds what the writes leave of an object of theirs
   record Latest (w : Writes) (f : Entry) : Type 0 where
@@ -179,9 +131,9 @@ module _ (N : ℕ → Type 0) where
   unfolding Every entered
   latest-entries [] h = tt
   latest-entries (e ∷ w) h =
-      put-every (Latest w) (Latest (e ∷ w)) (number (e .0), record-of 0 (e .1)) older newest (entered w) (entered-apart w) (latest-entries w (h .2))
+      put-every (Latest w) (Latest (e ∷ w)) (entry-of e) older newest (entered w) (entered-apart w) (latest-entries w (h .2))
     where
-      newest : Latest (e ∷ w) (number (e .0), record-of 0 (e .1))
+      newest : Latest (e ∷ w) (entry-of e)
       newest = let t = hit-self (e .0) in record { obj = e .0; val = e .1; is = refl; named = h .0; storable = h .1; is-written = rw t; is-value = rw t }
 
       older : (g : Entry) → eqb (g .0) (number (e .0)) ≡ false → Latest w g → Latest (e ∷ w) g

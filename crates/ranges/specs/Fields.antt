@@ -36,6 +36,7 @@ use Rattle.client.specs.Life.{reset, give, abort, lose}
 use Rattle.client.specs.Fetched.{copy-inner, mark-fetched, fetched-vector}
 use Rattle.client.specs.Renew as Rn
 use Rattle.demand.specs.Frame.{Only, only-then, only-sweep, only-mono, only-keeps, then-keeps, last, read-after}
+use Rattle.demand.specs.Members.{mask-lt, one-more}
 use Rattle.demand.specs.Dropped.{Mark, Drop, only-used, only-outer, only-all}
 use Rattle.demand.specs.Behind.{Elsewhere, field-same}
 use Rattle.ranges.specs.Sound.{Fields-sound}
@@ -127,18 +128,6 @@ module _ (z : S.Sizes) (u v : ClientWord → ℕ) where
   pub count-sound : (s : Set) (f : ℕ) → 4 < f → Elsewhere s f u v → v (field f) ≤ bound z f → Fields-sound z u → Fields-sound z v
   count-sound s f l h = field-sound f l (λ i q n. field-same s f u v h i n)
 
--- ---- sets of servers
--- one more server in a set of them
-pub one-more : (z : S.Sizes) (s : ℕ) → s < z .servers → (w : ℕ) → w ≤ 2 ^ z .servers - 1 → putBit true w s ≤ 2 ^ z .servers - 1
-one-more z s l w h = omega (arith, pow-pos (z .servers), put-lt true (z .servers) w s l (omega (arith, pow-pos (z .servers))))
-
-pub mask-lt : (n : ℕ) (f : ℕ → Bool) → mask n f < 2 ^ n
-unfolding mask
-mask-lt zero f = omega arith
-mask-lt (suc n) f =
-    let p : 2 ^ n < 2 ^ suc n = pow-lt {i = n} {j = suc n} (omega arith) in
-    put-lt (f n) (suc n) (mask n f) n (omega arith) (omega (arith, mask-lt n f))
-
 -- ---- THE STEPS
 module _ (z : S.Sizes) (u : ClientWord → ℕ) where
   abbrev Stays : List (Put ClientWord) → Type 0
@@ -208,11 +197,11 @@ module _ (z : S.Sizes) (u : ClientWord → ℕ) where
   module _ (s : ℕ) (l : s < z .servers) (F : Fields-sound z u) where
     pub prepared-fields : Fields-sound z (changed client-words u (noted prepared s u))
     unfolding noted Only Within-store
-    prepared-fields = stores-within z u (noted prepared s u) ((refl, λ q. one-more z s l (u prepared) (F .within 6 (omega arith))), tt) F
+    prepared-fields = stores-within z u (noted prepared s u) ((refl, λ q. one-more (z .servers) s l (u prepared) (F .within 6 (omega arith))), tt) F
 
     pub applied-fields : Fields-sound z (changed client-words u (noted applied s u))
     unfolding noted Only Within-store
-    applied-fields = stores-within z u (noted applied s u) ((refl, λ q. one-more z s l (u applied) (F .within 7 (omega arith))), tt) F
+    applied-fields = stores-within z u (noted applied s u) ((refl, λ q. one-more (z .servers) s l (u applied) (F .within 7 (omega arith))), tt) F
 
   pub decided-fields : Stays (decided u)
   unfolding decided Only Within-store
@@ -280,7 +269,7 @@ module _ (z : S.Sizes) where
     unfolding fetched-vector mark-fetched put-field Only Within-store
     vector-fields s l ws =
         then-keeps client-words (Fields-sound z) (put-vector s ws) (mark-fetched s) u (stores-within z u (put-vector s ws u) (vector-within s ws u) F)
-        (λ w G. stores-within z w (mark-fetched s w) ((refl, λ q. one-more z s l (w fetched-vectors) (G .within 8 (omega arith))), tt) G)
+        (λ w G. stores-within z w (mark-fetched s w) ((refl, λ q. one-more (z .servers) s l (w fetched-vectors) (G .within 8 (omega arith))), tt) G)
 
   -- ---- "The last apply ends the transaction and renews its copies"
   nth-within : (i : ℕ) (u : ClientWord → ℕ) → Fine (Rn.renew-nth i u)

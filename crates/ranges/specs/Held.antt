@@ -27,16 +27,11 @@ use Rattle.steps.specs.Judge as J
 use Rattle.demand.specs.Store.{sizes}
 use Rattle.demand.specs.Numbers.{obj-of, number-obj, store-obj}
 use Rattle.demand.specs.Shows.{T, In-store, lock-kept, Slot-shown}
-use Rattle.demand.specs.Held.{read-in}
+use Rattle.demand.specs.Aborted.{prepared-late}
+use Rattle.demand.specs.Held.{every-below, read-in}
 use Rattle.demand.specs.Locking.{here-kept}
 use Rattle.demand.specs.Turns.{store}
 use Rattle.ranges.specs.Sound.{Holds, Lock-sound, Sound-store}
-
--- a test that holds of each number below n
-pub each-below : (n : ℕ) (f : ℕ → Bool) → ((i : ℕ) → i < n → f i ≡ true) → all-below n f ≡ true
-unfolding all-below
-each-below zero f h = refl
-each-below (suc n) f h = rw (each-below n f (λ i l. h i (omega arith)), h n (omega arith))
 
 -- where a test holds, another is true
 unless : (a b : Bool) → (a ≡ true → b ≡ true) → (not a || b) ≡ true
@@ -72,7 +67,7 @@ module _ (k j slots : ℕ) (few : suc j ≤ 16) (m : Address → ℕ) (W : Sound
           rw (commits-now s d x (q .0), n, q .1)
 
       go : Dec (w < 65536) → J.holders-fit z m x w ≡ true
-      go (yes q) = rw (lt-ltb w 65536 q) (each-below (suc j) (λ d. not (bit w d) || J.commits z m d) (λ d l. unless (bit w d) (J.commits z m d) (reader q d l)))
+      go (yes q) = rw (lt-ltb w 65536 q) (every-below (suc j) (λ d. not (bit w d) || J.commits z m d) (λ d l. unless (bit w d) (J.commits z m d) (reader q d l)))
       go (no n) =
           let q : 65536 ≤ w = omega arith in
           rw (le-ltb w 65536 q) (writer (range-writes (suc j) w few (h .range) d (is-writer q)) (is-writer q))
@@ -109,15 +104,10 @@ module _ (k j slots : ℕ) (few : suc j ≤ 16) (m : Address → ℕ) (W : Sound
     pub unlock-judged : 2 ≤ u phase → (s : Fin (suc k)) → J.unlock-fits z m (c .0) (s .0) ≡ true
     unfolding J.unlock-fits
     unlock-judged late s =
-        each-below (count u Reads) (λ n. not (locked-at (J.lowest z m (c .0)) (s .0) (read-item u n)) || J.lock-fits z m (s .0) (read-item u n))
+        every-below (count u Reads) (λ n. not (locked-at (J.lowest z m (c .0)) (s .0) (read-item u n)) || J.lock-fits z m (s .0) (read-item u n))
         (λ n l. unless _ _ (item-judged late s n l))
 
     pub abort-judged : (u phase ≡ 1) ⊎ (u phase ≡ 2) → J.abort-fits z m (c .0) ≡ true
     unfolding J.abort-fits
     abort-judged undecided =
-        each-below (suc k) (λ s. not (bit (u prepared) s) || J.unlock-fits z m (c .0) s) (λ s l. unless _ _ (λ b. unlock-judged (after-commit s b undecided) (s, l)))
-      where
-        -- what is prepared anywhere is after its commit
-        after-commit : (s : ℕ) → bit (u prepared) s ≡ true → (u phase ≡ 1) ⊎ (u phase ≡ 2) → 2 ≤ u phase
-        after-commit s b (inr e) = omega (arith, e)
-        after-commit s b (inl e) = absurd (not-both b (ap (λ (w : ℕ). bit w s) (shown .calm (omega (arith, e))) ∙ zero-bit s))
+        every-below (suc k) (λ s. not (bit (u prepared) s) || J.unlock-fits z m (c .0) s) (λ s l. unless _ _ (λ b. unlock-judged (prepared-late k j slots u y shown s b undecided) (s, l)))

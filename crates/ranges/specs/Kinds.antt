@@ -31,6 +31,7 @@ use Rattle.demand.specs.Ledger.{Ledger}
 use Rattle.demand.specs.Shows.{T}
 use Rattle.demand.specs.Store.{sizes}
 use Rattle.demand.specs.Turns.{store, Good}
+use Rattle.demand.specs.Undecided.{either}
 use Rattle.ranges.specs.Sound.{Part-sound, Sound-store}
 use Rattle.ranges.specs.Sets.{part-fits}
 use Rattle.ranges.specs.Undecided.{accepted, Kept, if-kept, one-kept, begin-kept, give-kept, commit-kept, abort-kept, loss-kept}
@@ -95,11 +96,6 @@ module _ (k j slots : ℕ) (al : Allowed (sizes k j slots)) (few : suc j ≤ 16)
         let b = and-both (bit (u participants) (n .server)) (not (bit (u done) (n .server))) (a .1) in
         (eqb-true (u phase) p (a .0), b .0, not-true (bit (u done) (n .server)) (b .1))
 
-    undecided : (x : ℕ) → 1 ≤ x → x ≤ 2 → (x ≡ 1) ⊎ (x ≡ 2)
-    undecided zero l r = absurd (omega arith)
-    undecided (suc zero) l r = inl refl
-    undecided (suc (suc x)) l r = inr (omega arith)
-
     kind-kept : Passed z n m → Fine (Steps.by-kind z m (n .client) n (kind-of (n .kind)))
     unfolding kind-of fits
     kind-kept p = go (n .kind) refl (p .known-kind) (p .fitting)
@@ -119,7 +115,7 @@ module _ (k j slots : ℕ) (al : Allowed (sizes k j slots)) (few : suc j ≤ 16)
             apply-kept k j slots al few m S L M G c (n .server, p .known-participant (omega (arith, e)) (omega (arith, e))) (q .0) (q .2)
         go (suc (suc (suc (suc (suc (suc zero)))))) e l f =
             let b = and-both (leb 1 (u phase)) (leb (u phase) 2) f in
-            abort-kept k j slots al few m S c L M (G .shown) (undecided (u phase) (leb-true 1 (u phase) (b .0)) (leb-true (u phase) 2 (b .1))) 6 []
+            abort-kept k j slots al few m S c L M (G .shown) (either (u phase) (leb-true 1 (u phase) (b .0)) (leb-true (u phase) 2 (b .1))) 6 []
         go (suc (suc (suc (suc (suc (suc (suc zero))))))) e l f = loss-kept k j slots al few m S c L M (G .shown) (S .parts c .fields .within 0 (omega arith))
         go (suc (suc (suc (suc (suc (suc (suc (suc x)))))))) e l f = absurd (omega arith)
 

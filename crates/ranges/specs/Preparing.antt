@@ -28,6 +28,7 @@ use Rattle.steps.specs.Steps.{lock-each}
 use Rattle.steps.specs.Uses as U
 use Rattle.steps.specs.Uses.{read-item, checked-at, locked-at}
 use Rattle.demand.specs.Decides as D
+use Rattle.demand.specs.Held.{every-below}
 use Rattle.demand.specs.Ledger.{Ledger, decides}
 use Rattle.demand.specs.Shows.{T}
 use Rattle.demand.specs.Store.{sizes}
@@ -38,7 +39,7 @@ use Rattle.ranges.specs.Part.{prepared-part, decided-part}
 use Rattle.ranges.specs.Servers.{lock-each-sound}
 use Rattle.ranges.specs.Checks as Checks
 use Rattle.ranges.specs.Locks.{prepare-locks, decided-locks}
-use Rattle.ranges.specs.Held.{each-below, item-judged}
+use Rattle.ranges.specs.Held.{item-judged}
 use Rattle.ranges.specs.Whole.{client-sound, both-sound}
 use Rattle.ranges.specs.Undecided.{accepted, Kept, if-kept, one-kept, abort-kept}
 use Rattle.ranges.specs.Applying.{versions-judged, applied-kept}
@@ -59,7 +60,7 @@ module _ (k j slots : ℕ) (al : Allowed (sizes k j slots)) (few : suc j ≤ 16)
     -- what a prepare reads is in range
     judged : prepare-fits z m (c .0) (s .0) ≡ true
     unfolding prepare-fits U.item-of number-at
-    judged = each-below (count u Reads) _ (λ n l. one n l (locked-at (lowest z m (c .0)) (s .0) (read-item u n)) refl)
+    judged = every-below (count u Reads) _ (λ n l. one n l (locked-at (lowest z m (c .0)) (s .0) (read-item u n)) refl)
       where
         one : (n : ℕ) → n < count u Reads → (b : Bool) → locked-at (lowest z m (c .0)) (s .0) (read-item u n) ≡ b
             → (not b || cond (checked-at (lowest z m (c .0)) (s .0) (read-item u n)) (check-fits z m (s .0) (read-item u n)) (lock-fits z m (s .0) (read-item u n))) ≡ true

@@ -40,7 +40,8 @@ use Rattle.steps.specs.Run.{opened}
 use Rattle.demand.specs.Store.{sizes}
 use Rattle.demand.specs.Frame.{Only, only-sweep, only-other}
 use Rattle.demand.specs.Servers.{is-lock, a-lock, node-frame}
-use Rattle.demand.specs.Opened.{no-client, server-fresh}
+use Rattle.demand.specs.Numbers.{zeroth-there}
+use Rattle.demand.specs.Opened.{zero-at, empty-node, root-node, no-client, server-fresh}
 use Rattle.demand.specs.Turns.{store}
 use Rattle.ranges.specs.Sound.{children-there, Node-sound, Sound, Part-sound, Server-sound, Lock-sound, Locks-sound, Sound-store}
 
@@ -86,47 +87,16 @@ module _ (z : S.Sizes) (s : ℕ) where
     unlock-each-sound = each-sound (λ i q. unlock-step (object i) c q) (λ i q. (a-lock (object i), tt))
 
 -- ---- A NEW SERVER
--- nodes and flags apart, everything is 0
-abbrev of-node : Place → Bool
-of-node Root = false
-of-node Version = false
-of-node MetadataLock = false
-of-node (Vector i) = true
-of-node (Node k i) = true
-of-node (FlagLock k) = false
-of-node (Table s k) = false
-of-node (NodeLock s k) = false
-
-zero-at : (s : ℕ) (a : Place) → of-node a ≡ false → fresh s a ≡ 0
-zero-at s a h = fresh-zero s a (λ e. not-both (ap of-node e) h) (λ e. not-both (ap of-node e) h)
-
 lock-zero : (s : ℕ) (o : Object) → fresh s (lock-of o) ≡ 0
 unfolding lock-of
 lock-zero s object.Metadata = zero-at s MetadataLock refl
 lock-zero s (object.Node x) = zero-at s (NodeLock (N.server-of (x .number)) (N.slot-of (x .number))) refl
 lock-zero s (object.Flag x) = zero-at s (FlagLock (N.slot-of (x .number))) refl
 
--- the slot of a node's word
-abbrev slot-in : Place → ℕ
-slot-in a = getD (code a) 1 0
-
--- all nodes but the root are free
-free-word : (s n i : ℕ) → N.server-of n ≡ s → ¬ (n ≡ 0) → fresh s (Node (N.slot-of n) i) ≡ 0
-free-word s n i e d = go (ℕ-discrete s 0)
-  where
-    go : Dec (s ≡ 0) → fresh s (Node (N.slot-of n) i) ≡ 0
-    go (no h) = fresh-other s (Node (N.slot-of n) i) h
-    go (yes h) =
-        fresh-zero s (Node (N.slot-of n) i) (λ q. d (let r : n % 1024 ≡ 0 = ap slot-in q in omega arith))
-        (λ q. absurd (let r : 2 ≡ 1 = ap (λ (a : Place). getD (code a) 0 0) q in omega arith))
-
 new-node : (z : S.Sizes) (s n : ℕ) → N.server-of n ≡ s → Node-sound z (node-at (fresh s) n)
-unfolding node-at node-here made pad node-of tab in-range children-there
-new-node z s zero e =
-    subst (λ (t : ℕ). Node-sound z (node-at (fresh t) 0)) e (subst (Node-sound z) (sym fresh-root) (record { range = refl; children = refl }))
-new-node z s (suc n) e =
-    subst (λ (f : ℕ → ℕ). Node-sound z (node-of (tab 33 f))) (sym (fun-ext (λ i. free-word s (suc n) i e (λ q. absurd (omega arith)))))
-    (record { range = refl; children = refl })
+unfolding made pad node-of tab in-range children-there
+new-node z s zero e = subst (λ (t : ℕ). Node-sound z (node-at (fresh t) 0)) e (subst (Node-sound z) (sym root-node) (record { range = refl; children = refl }))
+new-node z s (suc n) e = subst (Node-sound z) (sym (empty-node s (suc n) e (λ q. absurd (omega arith)))) (record { range = refl; children = refl })
 
 new-server : (z : S.Sizes) → in-store z 0 ≡ true → (s : ℕ) → Server-sound z s (fresh s)
 unfolding single made pad fits
@@ -175,13 +145,8 @@ module _ (k j slots : ℕ) where
       })
 
   module _ (some-slot : 1 ≤ slots) where
-    -- "the root .. in node 0"
-    zeroth-there : in-store (sizes k j slots) 0 ≡ true
-    unfolding in-store
-    zeroth-there = rw (lt-ltb 0 (suc k) (omega arith), lt-ltb 0 slots some-slot)
-
     pub opened-sound : (s : Fin (suc k)) → Server-sound (sizes k j slots) (s .0) (server-of first (s .0))
-    opened-sound s = subst (Server-sound (sizes k j slots) (s .0)) (sym (server-fresh k j slots (s .0))) (new-server (sizes k j slots) zeroth-there (s .0))
+    opened-sound s = subst (Server-sound (sizes k j slots) (s .0)) (sym (server-fresh k j slots (s .0))) (new-server (sizes k j slots) (zeroth-there (sizes k j slots) (omega arith) some-slot) (s .0))
 
     pub first-sound : Sound-store k j slots first
     first-sound = record { parts = λ c. opened-part (c .0); servers = opened-sound; locks = opened-locks }

@@ -31,12 +31,13 @@ use Rattle.steps.specs.Judge.{lowest, abort-fits}
 use Rattle.steps.specs.Steps as Steps
 use Rattle.steps.specs.Steps.{Did, did, if-fit, unlock-each, at-servers, unlocked-everywhere, aborting}
 use Rattle.steps.specs.Stores.{client-of, server-of, client-changed, client-else, client-servers}
-use Rattle.demand.specs.Aborted.{every-client, every-server}
+use Rattle.demand.specs.Aborted.{given-back, aborted, aborted-client, aborted-others, aborted-server}
 use Rattle.demand.specs.Kept.{away, reset-phase}
 use Rattle.demand.specs.Ledger.{Ledger}
 use Rattle.demand.specs.Shows.{T, Related}
 use Rattle.demand.specs.Store.{sizes}
 use Rattle.demand.specs.Turns.{store}
+use Rattle.demand.specs.Undecided.{undecided-word}
 use Rattle.ranges.specs.Sound.{Part-sound, Server-sound, Locks-sound, Sound-store}
 use Rattle.ranges.specs.Claim.{Accepted}
 use Rattle.ranges.specs.Part.{reset-part, give-part, commit-part, lose-part, forget-part, abort-part}
@@ -117,66 +118,24 @@ module _ (k j slots : ℕ) (al : Allowed (sizes k j slots)) (few : suc j ≤ 16)
 
     -- ---- ABORT, of an undecided transaction
     module _ (L : Ledger) (M : P.Machine (T k j slots)) (R : Related k j slots m L M) (open-still : (u phase ≡ 1) ⊎ (u phase ≡ 2)) where
-      abbrev low : ℕ
-      low = lowest z m (c .0)
-
-      -- what is unlocked at a server
-      qs : ℕ → List (Put Place)
-      qs t = cond (bit (u prepared) t) (unlock-each u (c .0) low t (server-of m t)) []
-
-      at : ℕ → List (Put Address)
-      at t = cond (bit (u prepared) t) (over (server t) (unlock-each u (c .0) low t (server-of m t))) []
-
-      same-stores : (t : ℕ) → at t ≡ over (server t) (qs t)
-      unfolding at qs over
-      same-stores t = go (bit (u prepared) t)
-        where
-          go : (b : Bool) → cond b (over (server t) (unlock-each u (c .0) low t (server-of m t))) [] ≡ over (server t) (cond b (unlock-each u (c .0) low t (server-of m t)) [])
-          go true = refl
-          go false = refl
-
       module _ (us : List ℕ) where
-        abbrev n₁ : Address → ℕ
-        n₁ = changed whole m (at-servers (suc k) at)
-
-        abbrev ps : List (Put ClientWord)
-        ps = Life.abort us u
-
         abbrev m′ : Address → ℕ
-        m′ = changed whole m (aborting z m (c .0) us)
+        m′ = aborted k j slots m (c .0) us
 
-        m-is : m′ ≡ changed whole n₁ (over (client (c .0)) ps)
-        unfolding at
-        m-is = changed-append whole (unlocked-everywhere z m (c .0)) (over (client (c .0)) ps) m
-
-        clients-stay : (d : ℕ) → client-of n₁ d ≡ client-of m d
-        clients-stay d = every-client m at qs same-stores (suc k) d
-
-        own : client-of m′ (c .0) ≡ changed client-words u ps
-        own =
-            ap (λ (g : Address → ℕ). client-of g (c .0)) m-is ∙ client-changed n₁ (c .0) ps
-            ∙ ap (λ (v : ClientWord → ℕ). changed client-words v ps) (clients-stay (c .0))
-
-        others : (d : Fin (suc j)) → ¬ (d ≡ c) → client-of m′ (d .0) ≡ client-of m (d .0)
-        others d n = ap (λ (g : Address → ℕ). client-of g (d .0)) m-is ∙ client-else n₁ (c .0) ps (d .0) (away k j slots c d n) ∙ clients-stay (d .0)
-
-        here : (s : Fin (suc k)) → server-of m′ (s .0) ≡ changed places (server-of m (s .0)) (qs (s .0))
-        here s =
-            ap (λ (g : Address → ℕ). server-of g (s .0)) m-is ∙ client-servers n₁ (c .0) ps (s .0)
-            ∙ every-server m at qs same-stores (suc k) (s .0) (s .1)
-
-        still : (s : Fin (suc k)) → Server-sound (sizes k j slots) (s .0) (changed places (server-of m (s .0)) (qs (s .0)))
-        unfolding qs changed
+        still : (s : Fin (suc k)) → Server-sound (sizes k j slots) (s .0) (changed places (server-of m (s .0)) (given-back k j slots m (c .0) us (s .0)))
+        unfolding changed
         still s = go (bit (u prepared) (s .0))
           where
-            go : (b : Bool) → Server-sound (sizes k j slots) (s .0) (changed places (server-of m (s .0)) (cond b (unlock-each u (c .0) low (s .0) (server-of m (s .0))) []))
-            go true = unlock-each-sound (sizes k j slots) (s .0) u (c .0) low (s .0) (server-of m (s .0)) (S .servers s)
+            go : (b : Bool) → Server-sound (sizes k j slots) (s .0) (changed places (server-of m (s .0)) (cond b (unlock-each u (c .0) (lowest z m (c .0)) (s .0) (server-of m (s .0))) []))
+            go true = unlock-each-sound (sizes k j slots) (s .0) u (c .0) (lowest z m (c .0)) (s .0) (server-of m (s .0)) (S .servers s)
             go false = S .servers s
 
         pub abort-sound : Sound-store k j slots m′
         abort-sound = record {
-          parts = parts-sound k j slots m S m′ c (subst (Part-sound (sizes k j slots)) (sym own) (abort-part (sizes k j slots) u part us)) others;
-          servers = λ s. subst (Server-sound (sizes k j slots) (s .0)) (sym (here s)) (still s);
+          parts = parts-sound k j slots m S m′ c
+              (subst (Part-sound (sizes k j slots)) (sym (aborted-client k j slots m (c .0) us)) (abort-part (sizes k j slots) u part us))
+              (λ d n. aborted-others k j slots m (c .0) us (d .0) (away k j slots c d n));
+          servers = λ s. subst (Server-sound (sizes k j slots) (s .0)) (sym (aborted-server k j slots m (c .0) us (s .0) (s .1))) (still s);
           locks = abort-locks k j slots al few m L M c R (part-fits (sizes k j slots) u part) (S .locks) us open-still;
         }
 
@@ -195,15 +154,6 @@ module _ (k j slots : ℕ) (al : Allowed (sizes k j slots)) (few : suc j ≤ 16)
       (λ q. one-kept k j slots al few m S (eqb (client-of m (c .0) phase) 3) _ _ (λ _. lose-kept k j slots al few m S c)
       (λ r. now (undecided-word (client-of m (c .0) phase) q r l)))
     where
-      undecided-word : (x : ℕ) → eqb x 0 ≡ false → eqb x 3 ≡ false → x ≤ 3 → (x ≡ 1) ⊎ (x ≡ 2)
-      undecided-word x p q l = either x (eqb-false x 0 p) (eqb-false x 3 q) l
-        where
-          either : (x : ℕ) → ¬ (x ≡ 0) → ¬ (x ≡ 3) → x ≤ 3 → (x ≡ 1) ⊎ (x ≡ 2)
-          either zero p q l = absurd (p refl)
-          either (suc zero) p q l = inl refl
-          either (suc (suc zero)) p q l = inr refl
-          either (suc (suc (suc x))) p q l = absurd (q (omega arith))
-
       now : (client-of m (c .0) phase ≡ 1) ⊎ (client-of m (c .0) phase ≡ 2)
           → Kept k j slots al few m S (if-fit (abort-fits (store k j slots) m (c .0)) (Steps.lose-undecided (store k j slots) m (c .0) (Steps.abort (store k j slots) m (c .0) 7 [])))
       now e =

@@ -46,7 +46,8 @@ use Rattle.demand.specs.Held.{all-at}
 use Rattle.demand.specs.Locking.{after, here, lk}
 use Rattle.demand.specs.Servers.{both, both-client, both-other, both-server, both-else, is-lock, a-lock}
 use Rattle.demand.specs.Written.{locks-stay}
-use Rattle.demand.specs.Aborted.{every-client, every-server}
+use Rattle.demand.specs.Aborted.{aborted, aborted-client, aborted-others, aborted-server, prepared-late}
+use Rattle.demand.specs.Applies.{end-stores}
 use Rattle.demand.specs.Kept.{reset-phase}
 use Rattle.demand.specs.Turns.{store}
 use Rattle.ranges.specs.Sound.{Holds, Locks-sound}
@@ -68,12 +69,6 @@ given-back-locks k j slots m m′ c others s g S o hi kept =
     lock-from (store k j slots) (s .0) m′ (number o) (m′ a) (g o hi kept .range)
     (λ role d l e. let q = g o hi kept .others role d e in
     other-held k j slots m m′ c others s role d (number o) (q .0) (held-by (store k j slots) (s .0) m (number o) (m a) (S o hi kept) role d l (q .1)))
-
--- stores of a part, one list after another
-over-append : {A B : Type 0} (e : A → B) (ps qs : List (Put A)) → over e (ps ++ qs) ≡ over e ps ++ over e qs
-unfolding over
-over-append e [] qs = refl
-over-append e (put a v ∷ ps) qs = ap (λ (t : List (Put _)). put (e a) v ∷ t) (over-append e ps qs)
 
 module _ (k j slots : ℕ) (al : Allowed (sizes k j slots)) (few : suc j ≤ 16) (m : Address → ℕ) (L : Ledger) (M : P.Machine (T k j slots)) (c : Fin (suc j))
     (R : Related k j slots m L M) (fit : client-fits (sizes k j slots) (client-of m (c .0)) ≡ true) (S : (s : Fin (suc k)) → Locks-sound k j slots m s) where
@@ -142,80 +137,26 @@ module _ (k j slots : ℕ) (al : Allowed (sizes k j slots)) (few : suc j ≤ 16)
 
   -- ---- ABORT: "An abort unlocks everywhere"
   module _ (us : List ℕ) (undecided : (u phase ≡ 1) ⊎ (u phase ≡ 2)) where
-    -- what is unlocked at a server
-    abbrev qs : ℕ → List (Put Place)
-    qs t = cond (bit (u prepared) t) (unlock-each u (c .0) low t (server-of m t)) []
-
-    abbrev f : ℕ → List (Put Address)
-    f t = cond (bit (u prepared) t) (over (server t) (unlock-each u (c .0) low t (server-of m t))) []
-
-    same-stores : (t : ℕ) → f t ≡ over (server t) (qs t)
-    unfolding over
-    same-stores t = go (bit (u prepared) t)
-      where
-        go : (b : Bool) → cond b (over (server t) (unlock-each u (c .0) low t (server-of m t))) []
-            ≡ over (server t) (cond b (unlock-each u (c .0) low t (server-of m t)) [])
-        go true = refl
-        go false = refl
-
-    abbrev m₁ : Address → ℕ
-    m₁ = changed whole m (unlocked-everywhere z m (c .0))
-
-    abbrev ends : List (Put ClientWord)
-    ends = andThen client-words (drop-used us) (reset 0) u
-
-    abbrev m₂ : Address → ℕ
-    m₂ = changed whole m (aborting z m (c .0) us)
-
-    m₂-is : m₂ ≡ changed whole m₁ (over (client (c .0)) ends)
-    m₂-is = changed-append whole (unlocked-everywhere z m (c .0)) (over (client (c .0)) ends) m
-
-    clients-stay : (d : ℕ) → client-of m₁ d ≡ client-of m d
-    clients-stay d = every-client m f qs same-stores (suc k) d
-
-    others-stay : (d : ℕ) → ¬ (d ≡ c .0) → client-of m₂ d ≡ client-of m d
-    others-stay d n = ap (λ (g : Address → ℕ). client-of g d) m₂-is ∙ client-else m₁ (c .0) ends d n ∙ clients-stay d
-
-    server-now : (s : Fin (suc k)) → server-of m₂ (s .0) ≡ changed places (server-of m (s .0)) (qs (s .0))
-    server-now s =
-        ap (λ (g : Address → ℕ). server-of g (s .0)) m₂-is ∙ client-servers m₁ (c .0) ends (s .0) ∙ every-server m f qs same-stores (suc k) (s .0) (s .1)
-
-    pub abort-locks : (s : Fin (suc k)) → Locks-sound k j slots (changed whole m (aborting z m (c .0) us)) s
+    pub abort-locks : (s : Fin (suc k)) → Locks-sound k j slots (aborted k j slots m (c .0) us) s
     unfolding changed
     abort-locks s =
-        given-back-locks k j slots m m₂ (c .0) others-stay s
+        given-back-locks k j slots m (aborted k j slots m (c .0) us) (c .0) (aborted-others k j slots m (c .0) us) s
         (λ o hi kept. let a = lock-of (object-of (number o)) in
-        subst (Given-back (suc j) (c .0) (m (server (s .0) a))) (sym (ap (λ (p : Place → ℕ). p a) (server-now s))) (by (bit (u prepared) (s .0)) refl o hi kept))
+        subst (Given-back (suc j) (c .0) (m (server (s .0) a))) (sym (ap (λ (p : Place → ℕ). p a) (aborted-server k j slots m (c .0) us (s .0) (s .1)))) (by (bit (u prepared) (s .0)) refl o hi kept))
         (S s)
       where
-        after-commit : bit (u prepared) (s .0) ≡ true → (u phase ≡ 1) ⊎ (u phase ≡ 2) → 2 ≤ u phase
-        after-commit e (inr q) = omega (arith, q)
-        after-commit e (inl q) = absurd (not-both e (ap (λ (w : ℕ). bit w (s .0)) (shown .calm (omega (arith, q))) ∙ zero-bit (s .0)))
-
         by : (b : Bool) → bit (u prepared) (s .0) ≡ b → (o : Obj) → In-store k j slots o → lock-kept k j slots (server-of m (s .0)) s o ≡ true
             → Given-back (suc j) (c .0) (m (server (s .0) (lock-of (object-of (number o)))))
             (changed places (server-of m (s .0)) (cond b (unlock-each u (c .0) low (s .0) (server-of m (s .0))) []) (lock-of (object-of (number o))))
         by false e o hi kept = not-held s o hi kept (λ h. not-both (h .has-prepared) e)
-        by true e o hi kept = unlocked-here s (shown .lowest-as (after-commit e undecided)) (server-of m (s .0)) (λ a _. refl) o hi kept
+        by true e o hi kept = unlocked-here s (shown .lowest-as (prepared-late k j slots u y shown (s .0) e undecided)) (server-of m (s .0)) (λ a _. refl) o hi kept
 
-    pub abort-phase : client-of (changed whole m (aborting z m (c .0) us)) (c .0) phase ≡ 0
+    pub abort-phase : client-of (aborted k j slots m (c .0) us) (c .0) phase ≡ 0
     unfolding andThen
     abort-phase =
         let dropped = changed client-words u (drop-used us u) in
-        ap (λ (g : ClientWord → ℕ). g phase)
-        (ap (λ (g : Address → ℕ). client-of g (c .0)) m₂-is ∙ client-changed m₁ (c .0) ends
-        ∙ ap (λ (v : ClientWord → ℕ). changed client-words v ends) (clients-stay (c .0)) ∙ changed-append client-words (drop-used us u) (reset 0 dropped) u)
+        ap (λ (g : ClientWord → ℕ). g phase) (aborted-client k j slots m (c .0) us ∙ changed-append client-words (drop-used us u) (reset 0 dropped) u)
         ∙ reset-phase k j slots dropped 0
-
-  -- loss before the decision: the abort, and then all copies
-  pub lost-early-locks : (u phase ≡ 1) ⊎ (u phase ≡ 2)
-      → let m₁ = changed whole m (aborting z m (c .0) []) in
-      (s : Fin (suc k)) → Locks-sound k j slots (changed whole m (aborting z m (c .0) [] ++ over (client (c .0)) (drop-all (client-of m₁ (c .0))))) s
-  lost-early-locks undecided s =
-      let m₁ = changed whole m (aborting z m (c .0) []) in
-      let ps = drop-all (client-of m₁ (c .0)) in
-      subst (λ (f : Address → ℕ). Locks-sound k j slots f s) (sym (changed-append whole (aborting z m (c .0) []) (over (client (c .0)) ps) m))
-      (early-stored k j slots m₁ (c .0) ps (abort-locks [] undecided) (omega (arith, abort-phase [] undecided)) s)
 
   -- ---- APPLY at s
   module _ (s : Fin (suc k)) (now : u phase ≡ 3) where
@@ -276,23 +217,12 @@ module _ (k j slots : ℕ) (al : Allowed (sizes k j slots)) (few : suc j ≤ 16)
             unstored k j slots m m′ (c .0) (both-other m (s .0) (c .0) stores note) t (λ _ _. goes-on (t .0) away)
             (both-else m (s .0) (c .0) stores note (t .0) away) (S t)
 
-    -- the stores of the end come after those of the apply
-    end-stores : changed whole m (applying z m (c .0) (s .0) ++ in-client z m (c .0) (andThen client-words (noted applied (s .0)) finish))
-        ≡ changed whole m′ (over (client (c .0)) (finish v))
-    unfolding andThen
-    end-stores =
-        let ps = applying z m (c .0) (s .0) in
-        let qs = over (client (c .0)) note in
-        ap (λ (l : List (Put Address)). changed whole m (ps ++ l)) (over-append (client (c .0)) note (finish v))
-        ∙ ap (changed whole m) (sym (append-assoc ps qs (over (client (c .0)) (finish v))))
-        ∙ changed-append whole (ps ++ qs) (over (client (c .0)) (finish v)) m
-
     -- it has applied wherever it takes part
     pub last-locks : all-applied z m (c .0) (s .0) ≡ true → (t : Fin (suc k))
         → Locks-sound k j slots (changed whole m (applying z m (c .0) (s .0) ++ in-client z m (c .0) (andThen client-words (noted applied (s .0)) finish))) t
     unfolding covers noted
     last-locks all t =
-        subst (λ (g : Address → ℕ). Locks-sound k j slots g t) (sym end-stores)
+        subst (λ (g : Address → ℕ). Locks-sound k j slots g t) (sym (end-stores k j slots m (c .0) (s .0)))
         (part-stored k j slots m′ (c .0) (finish v) apply-locks (λ t x h. absurd (done t (h .takes-part) (h .not-applied))) t)
       where
         done : (t : Fin (suc k)) → bit (client-of m′ (c .0) participants) (t .0) ≡ true → bit (client-of m′ (c .0) applied) (t .0) ≡ false → ⊥
@@ -302,17 +232,3 @@ module _ (k j slots : ℕ) (al : Allowed (sizes k j slots)) (few : suc j ≤ 16)
           where
             uncovered : (a b : Bool) → a ≡ true → b ≡ false → (not a || b) ≡ false
             uncovered a b p q = rw (p, q)
-
-    pub applied-locks : (t : Fin (suc k)) → Locks-sound k j slots (changed whole m (applied-at z m (c .0) (s .0) .stores)) t
-    unfolding applied-at
-    applied-locks t = go (all-applied z m (c .0) (s .0)) refl
-      where
-        last-one : Did
-        last-one = did Committed (applying z m (c .0) (s .0) ++ in-client z m (c .0) (andThen client-words (noted applied (s .0)) finish))
-
-        one-more : Did
-        one-more = did (Applied (s .0)) (applying z m (c .0) (s .0) ++ in-client z m (c .0) (noted applied (s .0)))
-
-        go : (b : Bool) → all-applied z m (c .0) (s .0) ≡ b → Locks-sound k j slots (changed whole m (cond b last-one one-more .stores)) t
-        go true e = last-locks e t
-        go false e = apply-locks t
