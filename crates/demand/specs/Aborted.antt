@@ -25,7 +25,7 @@ use Rattle.server.specs.Object.{object-of, lock-of}
 use Rattle.server.specs.Lock.{unlocked}
 use Rattle.server.specs.Store.{unlock-step}
 use Rattle.client.specs.declared.part.Set.the-variants.{Reads}
-use Rattle.client.specs.Layout.{ClientWord, client-words, phase, prepared, applied}
+use Rattle.client.specs.Layout.{ClientWord, client-words, phase, prepared}
 use Rattle.client.specs.Record.{number}
 use Rattle.client.specs.Sets.{count, number-at, find}
 use Rattle.client.specs.Fits.{client-fits}

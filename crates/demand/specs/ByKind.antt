@@ -1,11 +1,11 @@
 -- EVERY STEP, of whatever kind, refused ones included, leads from a good state to a good one.
 use mathlib.Core.Path.{_≡_, refl, ap, sym, _∙_, subst}
-use mathlib.Core.Bool.{Bool, true, false, cond, _&&_, _||_, not, false≢true}
+use mathlib.Core.Bool.{Bool, true, false, cond, _||_, not, false≢true}
 use mathlib.Core.List.{List, [], map}
 use mathlib.Core.Logic.{_⊎_, inl, inr}
 use Prim.Native.Nat.{ℕ, zero, suc, _≤_, _<_, Fin}
 use native.Mathlib.Omega.{arith}
-use borrow.Author.Tests.{eqb-true, eqb-false, eq-eqb, leb-true, not-true, not-false}
+use borrow.Author.Tests.{eqb-true, eqb-false, eq-eqb, leb-true, not-false}
 use lib.Dec.{eqb, leb}
 use Rattle.base.specs.Test.{and-both, cond-true}
 use Rattle.memory.specs.Bit.{bit, putBit}
@@ -39,11 +39,11 @@ use Rattle.demand.specs.Shows.{T, Related}
 use Rattle.demand.specs.Kept.{away}
 use Rattle.demand.specs.Forgotten.{lost-kept}
 use Rattle.demand.specs.InRange.{loss-fits}
-use Rattle.demand.specs.Turns.{store, Good, still-fits, Explained, Turns, turns-good, abort-turns}
+use Rattle.demand.specs.Turns.{one-of, store, Good, still-fits, Explained, Turns, turns-good, abort-turns}
 use Rattle.demand.specs.Answering.{answer-turns}
 use Rattle.demand.specs.Fetches.{fetch-turns}
 use Rattle.demand.specs.Undecided.{either, undecided-word, given-legal, begin-turns, give-turns, forget-turns, commit-turns, end-turns, lost-turns}
-use Rattle.demand.specs.Settled.{due-now}
+use Rattle.demand.specs.Settled.{unfinished, due-now}
 use Rattle.demand.specs.Applies.{versions-kept, applied-outcome, apply-explained}
 use Rattle.demand.specs.Decides as D
 
@@ -64,10 +64,6 @@ module _ (k j slots : ℕ) (al : Allowed (sizes k j slots)) (few : suc j ≤ 16)
   if-after : (b : Bool) (d : Did) → (b ≡ true → After d) → After (if-fit b d)
   if-after true d f = f refl
   if-after false d f = refused-after 10
-
-  one-of : (b : Bool) (d e : Did) → (b ≡ true → After d) → (b ≡ false → After e) → After (cond b d e)
-  one-of true d e f g = f refl
-  one-of false d e f g = g refl
 
   module _ (h : n .client < suc j) (fit : client-fits (sizes k j slots) (client-of m (n .client)) ≡ true) where
     abbrev c : Fin (suc j)
@@ -134,7 +130,7 @@ module _ (k j slots : ℕ) (al : Allowed (sizes k j slots)) (few : suc j ≤ 16)
     unfolding S.commit fits
     commit-after e f =
         let open-now = eqb-true (u phase) 1 (and-both (eqb (u phase) 1) (eqb (u op-number) 0) f .0) in
-        one-of (eqb (participants-of u (suc k)) 0) _ _
+        one-of After (eqb (participants-of u (suc k)) 0) _ _
         (λ q. subst (Explained k j slots _) (sym (decided-is 3 e)) (turned (end-turns k j slots al few m L M c R fit open-now (eqb-true (participants-of u (suc k)) 0 q))))
         (λ q. subst (Explained k j slots _) (sym (done-is 3 e)) (turned (commit-turns k j slots al few m L M c R fit open-now (eqb-false (participants-of u (suc k)) 0 q))))
 
@@ -168,9 +164,9 @@ module _ (k j slots : ℕ) (al : Allowed (sizes k j slots)) (few : suc j ≤ 16)
     lose-after : n .kind ≡ 7 → After (S.lose z m (n .client))
     unfolding S.lose
     lose-after e =
-        one-of (eqb (u phase) 0) _ _
+        one-of After (eqb (u phase) 0) _ _
         (λ q. subst (Explained k j slots _) (sym (done-is 7 e)) (turned (forget-turns k j slots al few m L M c R (eqb-true (u phase) 0 q))))
-        (λ q. one-of (eqb (u phase) 3) _ _ (λ _. subst (Explained k j slots _) (sym (done-is 7 e)) lost-later)
+        (λ q. one-of After (eqb (u phase) 3) _ _ (λ _. subst (Explained k j slots _) (sym (done-is 7 e)) lost-later)
         (λ r. if-after (abort-fits z m (n .client)) _ (lost-now (undecided-word (u phase) q r (fits-field (sizes k j slots) u fit 0 (omega arith))))))
 
     -- ---- 4 prepare, at the server s
@@ -205,8 +201,8 @@ module _ (k j slots : ℕ) (al : Allowed (sizes k j slots)) (few : suc j ≤ 16)
         prepared-after : Fine → After (S.prepared-at z m (n .client) (n .server))
         unfolding S.prepared-at
         prepared-after fine =
-            one-of (not (S.all-prepared z m (n .client) (n .server))) _ _ (λ _. turned (D.prepare-turns k j slots al few m L M c G fit s now new fine))
-            (λ q. one-of (S.only z m (n .client) (n .server)) _ _
+            one-of After (not (S.all-prepared z m (n .client) (n .server))) _ _ (λ _. turned (D.prepare-turns k j slots al few m L M c G fit s now new fine))
+            (λ q. one-of After (S.only z m (n .client) (n .server)) _ _
             (λ one. if-after (versions-fit z m (n .client)) _ (alone-after fine (not-false (S.all-prepared z m (n .client) (n .server)) q) one))
             (λ _. decided-after fine (not-false (S.all-prepared z m (n .client) (n .server)) q)))
 
@@ -215,7 +211,7 @@ module _ (k j slots : ℕ) (al : Allowed (sizes k j slots)) (few : suc j ≤ 16)
         prepare-after =
             let found = U.deciding (map (S.prepare-finding z m (n .client) (n .server)) (U.read-items u)) in
             if-after (prepare-fits z m (n .client) (n .server)) _
-            (λ _. one-of (eqb found 0) _ _ (λ q. prepared-after (eqb-true found 0 q)) (λ _. abort-after found [] (inr now)))
+            (λ _. one-of After (eqb found 0) _ _ (λ q. prepared-after (eqb-true found 0 q)) (λ _. abort-after found [] (inr now)))
 
       -- ---- 5 apply
       apply-after : n .kind ≡ 5 → fits u (n .server) Apply ≡ true → After (S.apply z m (n .client) (n .server))
@@ -244,9 +240,7 @@ module _ (k j slots : ℕ) (al : Allowed (sizes k j slots)) (few : suc j ≤ 16)
         go (suc (suc zero)) e l f = work-after f
         go (suc (suc (suc zero))) e l f = commit-after e f
         go (suc (suc (suc (suc zero)))) e l f =
-            let q = and-both (eqb (u phase) 2) (bit (u participants) (n .server) && not (bit (u prepared) (n .server))) f in
-            let r = and-both (bit (u participants) (n .server)) (not (bit (u prepared) (n .server))) (q .1) in
-            prepare-after (p .known-participant (omega (arith, e)) (omega (arith, e))) e (eqb-true (u phase) 2 (q .0)) (not-true (bit (u prepared) (n .server)) (r .1))
+            let q = unfinished u (n .server) prepared 2 f in prepare-after (p .known-participant (omega (arith, e)) (omega (arith, e))) e (q .0) (q .2)
         go (suc (suc (suc (suc (suc zero))))) e l f = apply-after (p .known-participant (omega (arith, e)) (omega (arith, e))) e f
         go (suc (suc (suc (suc (suc (suc zero)))))) e l f = give-up-after f
         go (suc (suc (suc (suc (suc (suc (suc zero))))))) e l f = lose-after e
@@ -256,7 +250,7 @@ module _ (k j slots : ℕ) (al : Allowed (sizes k j slots)) (few : suc j ≤ 16)
   pub step-after : n .key < H → After (S.step z n m)
   unfolding S.step
   step-after w =
-      one-of (eqb (refusal z n m) 0) _ _
+      one-of After (eqb (refusal z n m) 0) _ _
       (λ q. let p = passed z n m (eqb-true (refusal z n m) 0 q) in
       if-after (client-fits (sizes k j slots) (client-of m (n .client))) _ (λ fit. kind-after (p .known-client) fit p w))
       (λ _. refused-after (refusal z n m))

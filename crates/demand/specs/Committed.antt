@@ -15,7 +15,7 @@ use Rattle.operations.specs.Slot.{Allowed}
 use Rattle.nodes.specs.declared.found.Found.{Found}
 use Rattle.nodes.specs.declared.found.Found.the-variants.{At}
 use Rattle.protocol.specs.Lists.{any}
-use Rattle.protocol.specs.State.{idle, opened, committing}
+use Rattle.protocol.specs.State.{idle, opened}
 use Rattle.protocol.specs.Machine as P
 use Rattle.protocol.specs.Moves as Mv
 use Rattle.client.specs.declared.part.Set.the-variants.{Reads, Writes, Copies}
@@ -38,7 +38,7 @@ use Rattle.demand.specs.Shows.{phase-of, T, In-store, new-value, Slot-sh
 use Rattle.demand.specs.Slots.{Same-sets, item-frame, read-frame, write-frame, copies-frame}
 use Rattle.demand.specs.Held.{any-at, any-one, same-test, all-in, found-at, has-at, at-has, read-in, written-in, item-at, any-items}
 use Rattle.demand.specs.Members.{mask-bit, member, lowest-same, kept-home, outer-home}
-use Rattle.demand.specs.Kept.{cleared, cleared-shown, client-related}
+use Rattle.demand.specs.Kept.{cleared-shown, client-related}
 
 pub both-true : (a b : Bool) → a ≡ true → b ≡ true → (a && b) ≡ true
 both-true a b p q = rw (p, q)

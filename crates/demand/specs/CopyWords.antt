@@ -39,6 +39,9 @@ sets-stay ps w h = record {
   items-written = λ i n. changed-only client-words of-copies ps w (item Writes i n) h refl;
 }
 
+pub sets-refl : (u : ClientWord → ℕ) → Same-sets u u
+sets-refl u = record { reads = refl; writes = refl; items-read = λ i n. refl; items-written = λ i n. refl }
+
 pub sets-then : (u v w : ClientWord → ℕ) → Same-sets u v → Same-sets v w → Same-sets u w
 sets-then u v w a b = record {
   reads = b .reads ∙ a .reads;

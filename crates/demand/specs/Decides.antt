@@ -2,7 +2,7 @@
 use mathlib.Core.Path.{_≡_, refl, ap, ap₂, sym, _∙_, subst}
 use mathlib.Core.Bool.{Bool, true, false, _||_, not}
 use mathlib.Core.List.{map}
-use Prim.Native.Nat.{ℕ, zero, suc, _≤_, Fin}
+use Prim.Native.Nat.{ℕ, suc, _≤_, Fin}
 use native.Mathlib.Decide.{ℕ-discrete, Fin-discrete}
 use Rattle.base.specs.Test.{or-right}
 use Rattle.base.specs.Update.{upd-same}
@@ -35,6 +35,14 @@ use Rattle.demand.specs.Prepared as A
 use Rattle.demand.specs.Decided as D
 use Rattle.demand.specs.InRange.{prepared-fits, decision-fits}
 use Rattle.demand.specs.Turns.{store, Good, still-fits, Turns}
+
+-- nothing is applied before the decision
+pub nothing-applied : (k j slots : ℕ) → Allowed (sizes k j slots) → (m : Address → ℕ) (L : Ledger) (M : P.Machine (T k j slots)) (c : Fin (suc j)) → Related k j slots m L M
+    → client-of m (c .0) phase ≡ 2 → (s : Fin (suc k)) → bit (client-of m (c .0) applied) (s .0) ≡ false
+unfolding phase-of
+nothing-applied k j slots al m L M c R now s =
+    let shown = R .clients c .slot in
+    sym (shown .applied-as s) ∙ unapplied (T k j slots) (meaning k j slots al) (R .reached) c (ap is-decided (sym (shown .phase-as) ∙ ap phase-of now)) s
 
 module _ (k j slots : ℕ) (al : Allowed (sizes k j slots)) (few : suc j ≤ 16) (m : Address → ℕ) (L : Ledger) (M : P.Machine (T k j slots)) (c : Fin (suc j)) (G : Good k j slots m L M)
     (fit : client-fits (sizes k j slots) (client-of m (c .0)) ≡ true) (s : Fin (suc k))
@@ -126,10 +134,8 @@ module _ (k j slots : ℕ) (al : Allowed (sizes k j slots)) (few : suc j ≤ 16)
     now₂ = word₂ phase
 
     pub new₂ : bit (client-of m₂ (c .0) applied) (s .0) ≡ false
-    unfolding decided noted phase-of
-    new₂ =
-        ap (λ (w : ℕ). bit w (s .0)) (word₂ applied) ∙ sym (G .shown .clients c .slot .applied-as s)
-        ∙ unapplied (T k j slots) (meaning k j slots al) (G .shown .reached) c (ap is-decided (sym (G .shown .clients c .slot .phase-as) ∙ ap phase-of now)) s
+    unfolding decided noted
+    new₂ = ap (λ (w : ℕ). bit w (s .0)) (word₂ applied) ∙ nothing-applied k j slots al m L M c (G .shown) now s
 
     pub same-sets₂ : Same-sets u (client-of m₂ (c .0))
     unfolding decided noted

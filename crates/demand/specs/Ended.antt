@@ -32,6 +32,7 @@ use Rattle.demand.specs.Shows.{phase-of, T, Slot-shown, Client-shown, Re
 use Rattle.demand.specs.Held.{all-at}
 use Rattle.demand.specs.Decided.{parts-covered}
 use Rattle.demand.specs.Kept.{away, cleared, client-related, cleared-shown}
+use Rattle.demand.specs.CopyWords.{sets-refl}
 use Rattle.demand.specs.Renewed.{Renewing, renew-kept}
 use Rattle.demand.specs.Turns.{store, Turns}
 
@@ -63,7 +64,7 @@ module _ (k j slots : ℕ) (al : Allowed (sizes k j slots)) (m : Address → ℕ
         reached = R .reached;
         others = λ d n. refl;
         shows = R .clients c .copies;
-        sets = record { reads = refl; writes = refl; items-read = λ i n. refl; items-written = λ i n. refl };
+        sets = sets-refl u;
       })
 
   -- and then the transaction ends

@@ -47,7 +47,7 @@ use Rattle.client.specs.Fetched.{fetched-meta, fetched-node, fetched-vector}
 use Rattle.steps.specs.declared.sizes.Sizes.{Sizes}
 use Rattle.steps.specs.declared.step.Step.{Step}
 use Rattle.steps.specs.declared.outcome.Outcome.the-variants.{Fetched, Aborted}
-use Rattle.steps.specs.Whole.{Address, client, whole}
+use Rattle.steps.specs.Whole.{Address, whole}
 use Rattle.steps.specs.Judge.{lock-fits, check-fits, abort-fits}
 use Rattle.steps.specs.Uses.{all, deciding}
 use Rattle.steps.specs.Steps.{Did, did, refuse, if-fit, abort, aborting, handed, full, fetch-object, hand-over, fetch-items, fetch-finding, Wanted, wanted, node-at, checked-fetch, fetch}
@@ -62,7 +62,7 @@ use Rattle.demand.specs.Entered.{found-written}
 use Rattle.demand.specs.Ran.{all-used}
 use Rattle.demand.specs.Used.{after-used, Entering, copies-used, copies-stay}
 use Rattle.demand.specs.Turns.{store, Turns, abort-turns}
-use Rattle.demand.specs.Stage.{said-else, machine, Stage, stage-turns}
+use Rattle.demand.specs.Stage.{said-else, Stage, stage-turns}
 use Rattle.demand.specs.Lacking.{fetch-lacks, plan, asked, lacking, Lacks, lacks-object, unused}
 use Rattle.demand.specs.Handed.{Unread, meta-handed, node-handed, vector-handed}
 

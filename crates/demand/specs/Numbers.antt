@@ -25,11 +25,8 @@ by-object (flag n) a f g = g n
 unfoldable pub obj-of : ℕ → Obj
 obj-of x = by-number x meta node flag
 
--- the three cases of a number
+-- a number of a node, and of a flag
 module _ {A : Type 0} (a : A) (f g : ℕ → A) where
-  pub as-meta : by-number 0 a f g ≡ a
-  as-meta = refl
-
   pub as-node : (n : ℕ) → n < 8192 → by-number (1 + n) a f g ≡ f n
   as-node n h =
       let e : 1 + n - 1 ≡ n = omega arith in

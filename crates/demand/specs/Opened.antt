@@ -1,9 +1,10 @@
 -- A NEW STORE shows the machine's first state.
 use mathlib.Core.Path.{_≡_, refl, ap, ap₂, sym, _∙_, subst, fun-ext}
-use mathlib.Core.Bool.{Bool, true, false, true≢false, false≢true}
+use mathlib.Core.Bool.{Bool, true, false, false≢true}
 use mathlib.Core.List.{List, [], _∷_}
 use Prim.Native.Nat.{ℕ, zero, suc, _/_, _%_, Fin}
 use native.Mathlib.Omega.{arith}
+use lib.ListN.{getD}
 use Rattle.base.specs.Test.{not-both}
 use Rattle.memory.specs.Bit.{bit, zero-bit}
 use Rattle.layout.specs.Space.{Put, put, changed, tab}
@@ -19,7 +20,7 @@ use Rattle.operations.specs.Object.{Obj, meta, node, flag, root, taken}
 use Rattle.operations.specs.Sound.{new-store}
 use Rattle.server.specs.declared.place.Place.{Place}
 use Rattle.server.specs.declared.place.Place.the-variants.{Root, Version, MetadataLock, Vector, Node, FlagLock, Table, NodeLock}
-use Rattle.server.specs.Layout.{places}
+use Rattle.server.specs.Layout.{code, places}
 use Rattle.server.specs.HandOut.{node-here}
 use Rattle.server.specs.Fresh.{first-leaf, fresh, fresh-other, fresh-root, fresh-zero}
 use Rattle.client.specs.Record.{value-of}
@@ -42,26 +43,12 @@ unfolding bit
 one-bit zero n = absurd (n refl)
 one-bit (suc i) n = zero-bit i
 
--- what a place is
-sort-slot : Place → ℕ
-sort-slot Root = 0
-sort-slot Version = 0
-sort-slot MetadataLock = 0
-sort-slot (Vector i) = i
-sort-slot (Node k i) = k
-sort-slot (FlagLock k) = 0
-sort-slot (Table s k) = 0
-sort-slot (NodeLock s k) = 0
+-- what a place is: 1 a word of flags, 2 one of a slot; and which of them, or of which slot
+abbrev kind-in : Place → ℕ
+kind-in a = getD (code a) 0 0
 
-abbrev is-vector : Place → Bool
-is-vector Root = false
-is-vector Version = false
-is-vector MetadataLock = false
-is-vector (Vector i) = true
-is-vector (Node k i) = false
-is-vector (FlagLock k) = false
-is-vector (Table s k) = false
-is-vector (NodeLock s k) = false
+abbrev slot-in : Place → ℕ
+slot-in a = getD (code a) 1 0
 
 -- nodes and flags apart, everything is 0
 abbrev pub of-node : Place → Bool
@@ -79,13 +66,12 @@ zero-at s a h = fresh-zero s a (λ e. not-both (ap of-node e) h) (λ e. not-both
 
 -- all nodes but the root are free
 empty-word : (s n i : ℕ) → n / 1024 ≡ s → ¬ (n ≡ 0) → fresh s (Node (n % 1024) i) ≡ 0
-unfolding sort-slot
 empty-word s n i e d = go (ℕ-discrete s 0)
   where
     go : Dec (s ≡ 0) → fresh s (Node (n % 1024) i) ≡ 0
     go (no h) = fresh-other s (Node (n % 1024) i) h
     go (yes h) =
-        fresh-zero s (Node (n % 1024) i) (λ q. d (let r : n % 1024 ≡ 0 = ap sort-slot q in omega arith)) (λ q. absurd (true≢false (sym (ap is-vector q))))
+        fresh-zero s (Node (n % 1024) i) (λ q. d (let r : n % 1024 ≡ 0 = ap slot-in q in omega arith)) (λ q. absurd (omega (arith, ap kind-in q)))
 
 pub empty-node : (s n : ℕ) → n / 1024 ≡ s → ¬ (n ≡ 0) → node-at (fresh s) n ≡ node-of (tab 33 (λ i. 0))
 unfolding node-at
@@ -166,7 +152,6 @@ module _ (k j slots : ℕ) where
   first-word = read-after places (put (Node 0 0) 1 ∷ put (Vector 0) 1 ∷ []) (λ a. 0) (Vector 0)
 
   empty-bit : (s n : ℕ) → n / 1024 ≡ s → ¬ (n ≡ 0) → bit (fresh s (Vector (n % 1024 / 64))) (n % 1024 % 64) ≡ false
-  unfolding sort-slot
   empty-bit s n e d = go (ℕ-discrete s 0) (ℕ-discrete (n % 1024 / 64) 0)
     where
       none : fresh s (Vector (n % 1024 / 64)) ≡ 0 → bit (fresh s (Vector (n % 1024 / 64))) (n % 1024 % 64) ≡ false
@@ -175,7 +160,7 @@ module _ (k j slots : ℕ) where
       go : Dec (s ≡ 0) → Dec (n % 1024 / 64 ≡ 0) → bit (fresh s (Vector (n % 1024 / 64))) (n % 1024 % 64) ≡ false
       go (no h) q = none (fresh-other s (Vector (n % 1024 / 64)) h)
       go (yes h) (no q) =
-          none (fresh-zero s (Vector (n % 1024 / 64)) (λ w. absurd (true≢false (ap is-vector w))) (λ w. q (ap sort-slot w)))
+          none (fresh-zero s (Vector (n % 1024 / 64)) (λ w. absurd (omega (arith, ap kind-in w))) (λ w. q (ap slot-in w)))
       go (yes h) (yes q) =
           ap (λ (w : ℕ). bit w (n % 1024 % 64)) (ap₂ (λ (x i : ℕ). fresh x (Vector i)) h q ∙ first-word) ∙ one-bit (n % 1024 % 64) (λ r. d (omega arith))
 

@@ -44,7 +44,7 @@ use Rattle.demand.specs.Numbers.{obj-of, inner-of, server-object, object
 use Rattle.demand.specs.Shows.{phase-of, T, In-store, Recorded, lock-kept, item-from, item-of, Slot-shown, Server-shown, Client-shown, Related}
 use Rattle.demand.specs.Course.{else-same, course-shown}
 use Rattle.demand.specs.Held.{found-at, read-in, item-at, all-items}
-use Rattle.demand.specs.Locking.{asked, held, read-same, write-same, after, swept-other, obj, here, lk, by-object, here-kept, lock-place, none-swept, one-swept, not-swept, the-object}
+use Rattle.demand.specs.Locking.{asked, held, read-same, write-same, after, swept-other, here, lk, by-object, here-kept, lock-place, none-swept, one-swept, not-swept, the-object}
 use Rattle.demand.specs.Recorded.{write-recorded, read-recorded, grants-write, grants-read, grants-none}
 use Rattle.demand.specs.Servers.{both, both-client, both-other, both-server, both-else, is-lock, not-a-lock, value-frame, version-frame, table-frame, noted-bit}
 use Rattle.demand.specs.Checked.{all-found, found-same, mark-of, mark-is, check-passes}

@@ -31,9 +31,6 @@ use Rattle.demand.specs.Held.{any-in}
 use Rattle.demand.specs.Shows.{T, Recorded}
 
 -- one of two, where the other is not
-second : (a b : Bool) → (a || b) ≡ true → a ≡ false → b ≡ true
-second a b h e = subst (λ (x : Bool). (x || b) ≡ true) e h
-
 first : (a b : Bool) → (a || b) ≡ true → b ≡ false → a ≡ true
 first true b h e = refl
 first false b h e = absurd (not-both h e)

@@ -38,7 +38,7 @@ use Rattle.client.specs.Items as I
 use Rattle.client.specs.Fits.{client-fits}
 use Rattle.client.specs.Drops.{version-of}
 use Rattle.client.specs.Copies.{copy-node}
-use Rattle.client.specs.Part.{nothing, put-fields, put-vector}
+use Rattle.client.specs.Part.{Step, nothing, put-fields, put-vector}
 use Rattle.client.specs.Renew as Rn
 use Rattle.demand.specs.Store.{sizes, by-value}
 use Rattle.demand.specs.Frame.{then-keeps, sweep-keeps}
@@ -64,6 +64,76 @@ node-number x f h = go (obj-of x) refl (sym (by-obj x false f (λ n. false)) ∙
 flag-number : (x : ℕ) → 8193 ≤ x → obj-of x ≡ flag (x - 8193)
 unfolding obj-of
 flag-number x h = rw (ne-eqb x 0 (λ e. absurd (omega arith)), lt-leb x 8192 (omega arith))
+
+-- ---- copies are renewed one after another: what each of these steps leaves as it is said, they leave all together
+pub record Renews (R : (ClientWord → ℕ) → Type 0) : Type 0 where
+  -- "nodes no longer inner go first"
+  pub outer-drops : (i : ℕ) (w : ClientWord → ℕ) → R w → R (changed client-words w (Rn.drop-outer i w))
+  -- "then written inner nodes by name"
+  pub node-renews : (i : ℕ) (w : ClientWord → ℕ) → R w → i < count w Writes → inner-at w Writes i ≡ true
+      → R (changed client-words w (copy-node (number-at w Writes i) (Rn.renewed w i) w))
+  -- "metadata"
+  pub meta-renews : (i : ℕ) (w : ClientWord → ℕ) → R w → find w Writes 0 ≡ At i
+      → R (changed client-words w (put-fields 12 (1 ∷ w (item Writes i 19) ∷ Rn.new-version w 0 ∷ []) w))
+  -- "flags", in their vectors; x: before the first of them
+  pub flag-renews : (i : ℕ) (w x : ClientWord → ℕ) → R w → R x → i < count x Writes → 8193 ≤ number-at w Writes i
+      → let n = number-at w Writes i - 8193 in has-vector w (N.server-of n) ≡ true
+      → R (changed client-words w (put-vector (N.server-of n) (with-flag (vector-copy w (N.server-of n)) (N.slot-of n) (eqb (w (item Writes i 19)) 1)) w))
+
+module _ (R : (ClientWord → ℕ) → Type 0) (K : Renews R) where
+  nth-renews : (q : ℕ) (w : ClientWord → ℕ) → R w → R (changed client-words w (Rn.renew-nth q w))
+  unfolding Rn.renew-nth Rn.ranked Rn.rank nothing changed
+  nth-renews q w r = go (Rn.ranked w (q + 1)) refl
+    where
+      go : (f : Found) → Rn.ranked w (q + 1) ≡ f → R (changed client-words w (Rn.renew-found w f w))
+      go Absent e = r
+      go (At i) e = by-kind (bool-cases (inner-at w Writes i))
+        where
+          at : (i < count w Writes) × (Rn.rank w i ≡ q + 1)
+          at = first-at (Rn.rank w) (count w Writes) (q + 1) i e
+
+          by-kind : (inner-at w Writes i ≡ true) ⊎ (inner-at w Writes i ≡ false) → R (changed client-words w (copy-node (number-at w Writes i) (Rn.renewed w i) w))
+          by-kind (inl h) = K .node-renews i w r (at .0) h
+          by-kind (inr h) =
+              let none : Rn.rank w i ≡ 0 = ap (λ (b : Bool). cond b (Rn.inner-below w (number-at w Writes i) (count w Writes) + 1) 0) h in
+              absurd (omega (arith, none, at .1))
+
+  metadata-renews : (w : ClientWord → ℕ) → R w → R (changed client-words w (Rn.renew-meta w))
+  unfolding Rn.renew-meta nothing changed
+  metadata-renews w r = go (find w Writes 0) refl
+    where
+      go : (f : Found) → find w Writes 0 ≡ f → R (changed client-words w (Rn.meta-found w f w))
+      go Absent e = r
+      go (At i) e = K .meta-renews i w r e
+
+  in-vector : (i : ℕ) (w x : ClientWord → ℕ) → R w → R x → i < count x Writes → R (changed client-words w (Rn.renew-flag i w))
+  unfolding Rn.renew-flag Rn.renew-in nothing changed
+  in-vector i w x r s l = go (ltb (number-at w Writes i) 8193) refl (ltb (N.server-of n) 8 && has-vector w (N.server-of n)) refl
+    where
+      n : ℕ
+      n = number-at w Writes i - 8193
+
+      put : Step
+      put = put-vector (N.server-of n) (with-flag (vector-copy w (N.server-of n)) (N.slot-of n) (eqb (w (item Writes i 19)) 1))
+
+      go : (a : Bool) → ltb (number-at w Writes i) 8193 ≡ a → (b : Bool) → (ltb (N.server-of n) 8 && has-vector w (N.server-of n)) ≡ b
+          → R (changed client-words w (cond a nothing (cond b put nothing) w))
+      go true e b d = r
+      go false e false d = r
+      go false e true d = K .flag-renews i w x r s l (ltb-false (number-at w Writes i) 8193 e) (and-both (ltb (N.server-of n) 8) (has-vector w (N.server-of n)) d .1)
+
+  pub renew-keeps : (u : ClientWord → ℕ) → R u → R (changed client-words u (Rn.renew-kept u))
+  unfolding Rn.renew-kept Rn.renew Rn.renew-written Rn.for-writes nothing changed
+  renew-keeps u r = go (eqb (u lost) 1)
+    where
+      go : (b : Bool) → R (changed client-words u (cond b nothing Rn.renew u))
+      go true = r
+      go false =
+          then-keeps client-words R (Rn.for-writes Rn.drop-outer) Rn.renew-written u
+          (sweep-keeps client-words R Rn.drop-outer (count u Writes) (λ i w l. K .outer-drops i w) u r)
+          (λ w q. then-keeps client-words R (Rn.for-writes Rn.renew-nth) _ w (sweep-keeps client-words R Rn.renew-nth (count w Writes) (λ i v l. nth-renews i v) w q)
+          (λ v p. then-keeps client-words R Rn.renew-meta (Rn.for-writes Rn.renew-flag) v (metadata-renews v p)
+          (λ x s. sweep-keeps client-words R Rn.renew-flag (count x Writes) (λ i y l t. in-vector i y x t s l) x s)))
 
 module _ (k j slots : ℕ) (al : Allowed (sizes k j slots)) (M : P.Machine (T k j slots)) (c : Fin (suc j)) (u : ClientWord → ℕ) (fit : client-fits (sizes k j slots) u ≡ true)
     (shown : Slot-shown k j slots u (M .slots c)) (now : M .slots c .phase ≡ decided)
@@ -231,49 +301,28 @@ module _ (k j slots : ℕ) (al : Allowed (sizes k j slots)) (M : P.Machine (T k 
             renewal w v K (sets-stay (copy-node (1 + n) r w) w (only-copy (1 + n) r w)) (node n) (copy k j slots u (value-of (node n) r) (r .version))
             (renewed-legal (K .copies) i (node n) W (value-of (node n) r) (r .version) (ap (value-of (node n)) (record-is i)) new) h
 
-    nth-renewed : (q : ℕ) → Renewing (changed client-words w (Rn.renew-nth q w))
-    unfolding Rn.renew-nth Rn.ranked Rn.rank inner-at nothing changed
-    nth-renewed q = go (Rn.ranked w (q + 1)) refl
-      where
-        go : (f : Found) → Rn.ranked w (q + 1) ≡ f → Renewing (changed client-words w (Rn.renew-found w f w))
-        go Absent e = K
-        go (At i) e = by-kind (bool-cases (inner-at w Writes i))
-          where
-            at : (i < count w Writes) × (Rn.rank w i ≡ q + 1)
-            at = first-at (Rn.rank w) (count w Writes) (q + 1) i e
-
-            by-kind : (inner-at w Writes i ≡ true) ⊎ (inner-at w Writes i ≡ false) → Renewing (changed client-words w (copy-node (number-at w Writes i) (Rn.renewed w i) w))
-            by-kind (inl h) = let a = node-number (number-at w Writes i) (λ n. eqb (w (item Writes i 1)) 2) h in node-renewed i (a .0) (at .0) (a .1) (a .2)
-            by-kind (inr h) =
-                let none : Rn.rank w i ≡ 0 = ap (λ (b : Bool). cond b (Rn.inner-below w (number-at w Writes i) (count w Writes) + 1) 0) h in
-                absurd (omega (arith, none, at .1))
-
     -- ---- "metadata"
-    meta-renewed : Renewing (changed client-words w (Rn.renew-meta w))
-    unfolding Rn.renew-meta nothing changed obj-of
-    meta-renewed = go (find w Writes 0) refl
+    meta-renewed : (i : ℕ) → find w Writes 0 ≡ At i → Renewing (changed client-words w (put-fields 12 (1 ∷ w (item Writes i 19) ∷ Rn.new-version w 0 ∷ []) w))
+    unfolding obj-of
+    meta-renewed i e =
+        renewal w (changed client-words w (put-fields 12 (1 ∷ w (item Writes i 19) ∷ Rn.new-version w 0 ∷ []) w)) K
+        (sets-stay (put-fields 12 (1 ∷ w (item Writes i 19) ∷ Rn.new-version w 0 ∷ []) w) w (only-fields 1 (w (item Writes i 19)) (Rn.new-version w 0) w))
+        meta (copy k j slots u (root (w (item Writes i 19))) (Rn.new-version w 0))
+        (renewed-legal (K .copies) i meta W (root (w (item Writes i 19))) (Rn.new-version w 0) (ap root (first-is i))
+        (ap (Rn.new-version w) (sym zero-at) ∙ next-is w (K .sets) i inside meta W (omega (arith, zero-at))))
+        (meta-put k j slots w (K .copies c) (K .shows) (w (item Writes i 19)) (Rn.new-version w 0))
       where
-        go : (f : Found) → find w Writes 0 ≡ f → Renewing (changed client-words w (Rn.meta-found w f w))
-        go Absent e = K
-        go (At i) e =
-            renewal w (changed client-words w (put-fields 12 (1 ∷ w (item Writes i 19) ∷ Rn.new-version w 0 ∷ []) w)) K
-            (sets-stay (put-fields 12 (1 ∷ w (item Writes i 19) ∷ Rn.new-version w 0 ∷ []) w) w (only-fields 1 (w (item Writes i 19)) (Rn.new-version w 0) w))
-            meta (copy k j slots u (root (w (item Writes i 19))) (Rn.new-version w 0))
-            (renewed-legal (K .copies) i meta W (root (w (item Writes i 19))) (Rn.new-version w 0) (ap root (first-is i))
-            (ap (Rn.new-version w) (sym zero-at) ∙ next-is w (K .sets) i inside meta W (omega (arith, zero-at))))
-            (meta-put k j slots w (K .copies c) (K .shows) (w (item Writes i 19)) (Rn.new-version w 0))
-          where
-            at : (i < count w Writes) × (number-at w Writes i ≡ 0)
-            at = found-at w Writes 0 i e
+        at : (i < count w Writes) × (number-at w Writes i ≡ 0)
+        at = found-at w Writes 0 i e
 
-            inside : i < count u Writes
-            inside = subst (λ (x : ℕ). i < x) count-is (at .0)
+        inside : i < count u Writes
+        inside = subst (λ (x : ℕ). i < x) count-is (at .0)
 
-            zero-at : number-at u Writes i ≡ 0
-            zero-at = sym (number-is i) ∙ at .1
+        zero-at : number-at u Writes i ≡ 0
+        zero-at = sym (number-is i) ∙ at .1
 
-            W : Written i meta
-            W = subst (λ (x : ℕ). Written i (obj-of x)) zero-at (write-item i inside)
+        W : Written i meta
+        W = subst (λ (x : ℕ). Written i (obj-of x)) zero-at (write-item i inside)
 
     -- ---- "flags": in their vectors
     module _ (i n : ℕ) (W : Written i (flag n)) (b : Bool) (at : taken b ≡ value-of (flag n) (record-at u Writes i)) (there : has-vector w (N.server-of n) ≡ true) where
@@ -323,40 +372,18 @@ module _ (k j slots : ℕ) (al : Allowed (sizes k j slots)) (M : P.Machine (T k 
           (renewed-legal (K .copies) i (flag n) W (taken b) 0 at refl)
           (vector-put k j slots w (K .copies c) (K .shows) (N.server-of n) ws g bits-are)
 
-    flag-renewed : (i : ℕ) → i < count u Writes → Renewing (changed client-words w (Rn.renew-flag i w))
-    unfolding Rn.renew-flag Rn.renew-in nothing changed
-    flag-renewed i l = go (ltb (number-at w Writes i) 8193) refl
-      where
-        n : ℕ
-        n = number-at w Writes i - 8193
-
-        b : Bool
-        b = eqb (w (item Writes i 19)) 1
-
-        go : (t : Bool) → ltb (number-at w Writes i) 8193 ≡ t → Renewing (changed client-words w (cond t nothing (Rn.renew-in w n (w (item Writes i 19))) w))
-        go true e = K
-        go false e = in-vector (ltb (N.server-of n) 8 && has-vector w (N.server-of n)) refl
-          where
-            W : Written i (flag n)
-            W = subst (Written i) (ap obj-of (sym (number-is i)) ∙ flag-number (number-at w Writes i) (ltb-false (number-at w Writes i) 8193 e)) (write-item i l)
-
-            in-vector : (t : Bool) → (ltb (N.server-of n) 8 && has-vector w (N.server-of n)) ≡ t
-                → Renewing (changed client-words w (cond t (put-vector (N.server-of n) (with-flag (vector-copy w (N.server-of n)) (N.slot-of n) b)) nothing w))
-            in-vector false d = K
-            in-vector true d =
-                flag-put i n W b (ap (λ (x : ℕ). taken (eqb x 1)) (first-is i)) (and-both (ltb (N.server-of n) 8) (has-vector w (N.server-of n)) d .1)
-
   -- ---- all of them, in order
   pub renew-kept : Renewing u → Renewing (changed client-words u (Rn.renew-kept u))
-  unfolding Rn.renew-kept Rn.renew Rn.renew-written Rn.for-writes nothing changed
-  renew-kept K = go (eqb (u lost) 1)
-    where
-      go : (b : Bool) → Renewing (changed client-words u (cond b nothing Rn.renew u))
-      go true = K
-      go false =
-          then-keeps client-words Renewing (Rn.for-writes Rn.drop-outer) Rn.renew-written u
-          (sweep-keeps client-words Renewing Rn.drop-outer (count u Writes) (λ i w l. outer-dropped i w) u K)
-          (λ w k. then-keeps client-words Renewing (Rn.for-writes Rn.renew-nth) _ w
-          (sweep-keeps client-words Renewing Rn.renew-nth (count w Writes) (λ i v l q. nth-renewed v q i) w k)
-          (λ v q. then-keeps client-words Renewing Rn.renew-meta (Rn.for-writes Rn.renew-flag) v (meta-renewed v q)
-          (λ x r. sweep-keeps client-words Renewing Rn.renew-flag (count x Writes) (λ i y l t. flag-renewed y t i (subst (λ (a : ℕ). i < a) (count-is x r) l)) x r)))
+  unfolding inner-at
+  renew-kept =
+      renew-keeps Renewing
+      (record {
+        outer-drops = outer-dropped;
+        node-renews = λ i w K l h.
+            let a = node-number (number-at w Writes i) (λ n. eqb (w (item Writes i 1)) 2) h in node-renewed w K i (a .0) l (a .1) (a .2);
+        meta-renews = λ i w K e. meta-renewed w K i e;
+        flag-renews = λ i w x K Kx l big there.
+            let n = number-at w Writes i - 8193 in
+            let W = subst (Written i) (ap obj-of (sym (number-is w K i)) ∙ flag-number (number-at w Writes i) big) (write-item i (subst (λ (a : ℕ). i < a) (count-is x Kx) l)) in
+            flag-put w K i n W (eqb (w (item Writes i 19)) 1) (ap (λ (x : ℕ). taken (eqb x 1)) (first-is w K i)) there;
+      }) u

@@ -23,7 +23,7 @@ use Rattle.steps.specs.Stores.{client-of}
 use Rattle.steps.specs.Refusal.{fits}
 use Rattle.steps.specs.Steps.{in-client, applying}
 use Rattle.demand.specs.Ledger.{Ledger}
-use Rattle.demand.specs.Demand.{due, settle-client, settle, settled}
+use Rattle.demand.specs.Demand.{settle-client, settle, settled}
 use Rattle.demand.specs.Store.{sizes, meaning}
 use Rattle.demand.specs.Frame.{last, read-after}
 use Rattle.demand.specs.Shows.{T}
@@ -53,13 +53,17 @@ module _ (u : ClientWord → ℕ) (s : ℕ) where
   unfolding fits
   noted-else t n = fits-after t ∙ ap (λ (b : Bool). eqb (u phase) 3 && (bit (u participants) t && not b)) (bit-put-other true (u applied) s t n)
 
--- what is known where an apply is due
+-- what is known where a prepare or an apply at s fits: the phase, a participant, and that it isn't done
+pub unfinished : (u : ClientWord → ℕ) (s : ℕ) (done : ClientWord) (p : ℕ) → (eqb (u phase) p && (bit (u participants) s && not (bit (u done) s))) ≡ true
+    → (u phase ≡ p) × (bit (u participants) s ≡ true) × (bit (u done) s ≡ false)
+unfinished u s done p h =
+    let a = and-both (eqb (u phase) p) (bit (u participants) s && not (bit (u done) s)) h in
+    let b = and-both (bit (u participants) s) (not (bit (u done) s)) (a .1) in
+    (eqb-true (u phase) p (a .0), b .0, not-true (bit (u done) s) (b .1))
+
 pub due-now : (u : ClientWord → ℕ) (s : ℕ) → fits u s Apply ≡ true → (u phase ≡ 3) × (bit (u participants) s ≡ true) × (bit (u applied) s ≡ false)
 unfolding fits
-due-now u s h =
-    let p = and-both (eqb (u phase) 3) (bit (u participants) s && not (bit (u applied) s)) h in
-    let q = and-both (bit (u participants) s) (not (bit (u applied) s)) (p .1) in
-    (eqb-true (u phase) 3 (p .0), q .0, not-true (bit (u applied) s) (q .1))
+due-now u s = unfinished u s applied 3
 
 module _ (k j slots : ℕ) (al : Allowed (sizes k j slots)) (few : suc j ≤ 16) (L : Ledger) where
   abbrev Client : Type 0

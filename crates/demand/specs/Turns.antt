@@ -1,7 +1,7 @@
 -- What holds after each step of a list: the memory shows a state that the machine reaches, and two facts more, which the applies still due and
 -- the reading of the tree need.
 use mathlib.Core.Path.{_≡_, refl, ap, sym, _∙_, subst}
-use mathlib.Core.Bool.{true, false, false≢true}
+use mathlib.Core.Bool.{Bool, true, false, cond, false≢true}
 use mathlib.Core.List.{List}
 use mathlib.Core.Logic.{_⊎_}
 use Prim.Native.Nat.{ℕ, zero, suc, _≤_, Fin}
@@ -13,7 +13,7 @@ use Rattle.layout.specs.Space.{changed}
 use Rattle.operations.specs.Object.{Obj}
 use Rattle.operations.specs.Slot.{Allowed}
 use Rattle.operations.specs.Sound.{new-store}
-use Rattle.protocol.specs.State.{idle, decided, is-decided}
+use Rattle.protocol.specs.State.{idle, is-decided}
 use Rattle.protocol.specs.Machine as P
 use Rattle.client.specs.Layout.{phase}
 use Rattle.client.specs.Record.{object-in-store}
@@ -41,6 +41,11 @@ word-decided zero e = absurd (false≢true e)
 word-decided (suc zero) e = absurd (false≢true e)
 word-decided (suc (suc zero)) e = absurd (false≢true e)
 word-decided (suc (suc (suc n))) e = omega arith
+
+-- one of two, by a test
+pub one-of : {A : Type 0} (P : A → Type 0) (b : Bool) (x y : A) → (b ≡ true → P x) → (b ≡ false → P y) → P (cond b x y)
+one-of P true x y f g = f refl
+one-of P false x y f g = g refl
 
 module _ (k j slots : ℕ) where
   abbrev Client : Type 0

@@ -60,9 +60,6 @@ word-in (NodeLock s k) = 0
 abbrev Same : ℕ → ℕ → Type 0
 Same a b = a ≡ b
 
-pub other-sort : (a b : Place) → ¬ (sort a ≡ sort b) → ¬ (a ≡ b)
-other-sort a b n e = n (ap sort e)
-
 -- one store is what stands there
 put-same : {A : Type 0} (C : Coding A) (f : A → ℕ) (a : A) (v : ℕ) → changed C f (put a v ∷ []) a ≡ v
 unfolding changed

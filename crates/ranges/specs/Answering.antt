@@ -1,6 +1,6 @@
 -- WORK THAT ANSWERS: what is written was read, with a version before the last, and is sound; so the write set stays sound.
-use mathlib.Core.Path.{_≡_, refl, ap, sym, _∙_, subst}
-use mathlib.Core.Bool.{Bool, true, false, cond, _&&_, _||_, not}
+use mathlib.Core.Path.{_≡_, refl, sym, _∙_, subst}
+use mathlib.Core.Bool.{Bool, true, false, cond, _||_}
 use mathlib.Core.List.{List, [], _∷_, _++_}
 use mathlib.Core.Option.{Option}
 use Prim.Native.Nat.{ℕ, suc, _+_, _≤_, Fin}
@@ -14,16 +14,13 @@ use Rattle.layout.specs.Part.{over}
 use Rattle.plans.specs.Plan as Pl
 use Rattle.plans.specs.Walk as Wk
 use Rattle.plans.specs.Walk.{Every}
-use Rattle.operations.specs.Object.{Obj, Ask, object, vector, fetched, Ans, Writes, hit, written}
-use Rattle.operations.specs.Asked.{written-asked}
-use Rattle.operations.specs.Hit.{hit-self}
+use Rattle.operations.specs.Object.{Obj, Ask, object, vector, fetched, Ans, Writes, written}
 use Rattle.operations.specs.Operation as Op
-use Rattle.operations.specs.Path.{Plan}
 use Rattle.operations.specs.Slot.{Allowed}
 use Rattle.protocol.specs.Machine as P
 use Rattle.client.specs.declared.part.Set.the-variants as set
 use Rattle.client.specs.Layout.{ClientWord, client-words, phase, reads-count}
-use Rattle.client.specs.Record.{number, record-of}
+use Rattle.client.specs.Record.{number}
 use Rattle.client.specs.Have.{have}
 use Rattle.client.specs.Items.{has}
 use Rattle.client.specs.Fits.{client-fits}
@@ -31,7 +28,7 @@ use Rattle.client.specs.Lent.{Entry}
 use Rattle.client.specs.Run.{among}
 use Rattle.client.specs.Work as Work
 use Rattle.client.specs.Work.{waiting, walked, worked, new}
-use Rattle.client.specs.Answered.{put-entry, entered, answered}
+use Rattle.client.specs.Answered.{entered, answered}
 use Rattle.steps.specs.declared.outcome.Outcome.the-variants.{Answered}
 use Rattle.steps.specs.Whole.{Address, client}
 use Rattle.steps.specs.Steps.{did}
@@ -47,15 +44,14 @@ use Rattle.demand.specs.Store.{sizes}
 use Rattle.demand.specs.Used.{after-used, among-more}
 use Rattle.ranges.specs.Sound.{Part-sound, Sound-store}
 use Rattle.ranges.specs.Sets.{part-fits, May-write, All-copied}
-use Rattle.ranges.specs.Entries.{There, entries-sound, used-last, not-last}
+use Rattle.ranges.specs.Entries.{entries-sound, used-last, not-last}
 use Rattle.ranges.specs.Part.{used-part, answer-part}
 use Rattle.ranges.specs.Locks.{early-stored}
-use Rattle.ranges.specs.Whole.{client-sound}
-use Rattle.ranges.specs.Undecided.{accepted, Kept}
+use Rattle.ranges.specs.Whole.{accepted, Kept, client-sound}
 use Rattle.ranges.specs.Hand.{writes-there, used-copied}
 
-module _ (k j slots : ℕ) (al : Allowed (sizes k j slots)) (u : ClientWord → ℕ) (part : Part-sound (sizes k j slots) u) (f : Obj → Option (P.Copy (T k j slots))) (copies : Copies-shown k j slots u f)
-    (y : P.Slot (T k j slots)) (shown : Slot-shown k j slots u y) where
+module _ (k j slots : ℕ) (al : Allowed (sizes k j slots)) (u : ClientWord → ℕ) (part : Part-sound (sizes k j slots) u)
+    (f : Obj → Option (P.Copy (T k j slots))) (copies : Copies-shown k j slots u f) (y : P.Slot (T k j slots)) (shown : Slot-shown k j slots u y) where
   fit : client-fits (sizes k j slots) u ≡ true
   fit = part-fits (sizes k j slots) u part
 
@@ -94,7 +90,7 @@ module _ (k j slots : ℕ) (al : Allowed (sizes k j slots)) (u : ClientWord → 
       now false e = among-more x x l ∙ or-right (among x l) (eqb x x) (eq-eqb x x refl)
 
       go : (w : Bool) → has u set.Writes x ≡ w → (r : Bool) → has u set.Reads x ≡ r → ((l′ : List ℕ) → among x l′ ≡ true → among x (all-used (new u) qs l′) ≡ true)
-          → (has u set.Reads x || among x (all-used (new u) qs (cond (not (has u set.Writes x) && not (has u set.Reads x)) (cond (among x l) l (l ++ (x ∷ []))) l))) ≡ true
+          → (has u set.Reads x || among x (all-used (new u) qs (cond (new u x) (cond (among x l) l (l ++ (x ∷ []))) l))) ≡ true
       go w p true q rec = or-left (has u set.Reads x) _ q
       go true p false q rec = or-left (has u set.Reads x) _ (written-read k j slots al u f copies fit y shown o p)
       go false p false q rec = or-right (has u set.Reads x) _ (rw (p, q) (rec (cond (among x l) l (l ++ (x ∷ []))) (now (among x l) refl)))
@@ -110,7 +106,8 @@ module _ (k j slots : ℕ) (al : Allowed (sizes k j slots)) (u : ClientWord → 
     answers : A.Answers (sizes k j slots) u a w
     answers = A.answered-as (sizes k j slots) u a w e
 
-    ran : (Wk.walk (Op.reading (sizes k j slots) (waiting u)) (have (sizes k j slots) u) ≡ Wk.ends (Pl.gives (a, w))) × (us ≡ all-used (new u) (asked (sizes k j slots) u) []) × (u reads-count + length us ≤ 96)
+    ran : (Wk.walk (Op.reading (sizes k j slots) (waiting u)) (have (sizes k j slots) u) ≡ Wk.ends (Pl.gives (a, w)))
+        × (us ≡ all-used (new u) (asked (sizes k j slots) u) []) × (u reads-count + length us ≤ 96)
     ran = A.ran k j slots al u fit y shown f copies a w answers
 
     all-copied : All-copied (sizes k j slots) u us
@@ -131,15 +128,16 @@ module _ (k j slots : ℕ) (al : Allowed (sizes k j slots)) (u : ClientWord → 
         not-last (sizes k j slots) v (used-part (sizes k j slots) u part us all-copied .sets) (entered w) (used-last u us (entered w) ∙ answers .young)
         (entered-every (λ (e : Entry). has v set.Reads (e .0) ≡ true) w (every-written (λ o. has v set.Reads (number o) ≡ true) w read-now))
 
-    pub answered-sound : Part-sound (sizes k j slots) (changed client-words u (answered us w u))
+    answered-sound : Part-sound (sizes k j slots) (changed client-words u (answered us w u))
     answered-sound =
         answer-part (sizes k j slots) u part us w all-copied
         (entries-sound (sizes k j slots) al w (writes-there k j slots al u part f copies y shown a w (ran .0)) (answers .fitting))
         (entered-whole w (A.storable k j slots al u fit y shown f copies a w answers)) may-write
 
-pub answer-kept : (k j slots : ℕ) (al : Allowed (sizes k j slots)) (few : suc j ≤ 16) (m : Address → ℕ) (S : Sound-store k j slots m) (L : Ledger) (M : P.Machine (T k j slots))
-    → Related k j slots m L M → (c : Fin (suc j)) → client-of m (c .0) phase ≡ 1 → (a : Ans) (w : Writes) → worked (sizes k j slots) (client-of m (c .0)) ≡ Work.answers a w
-    → Kept k j slots al few m S (did (Answered (a .0) (a .1)) (over (client (c .0)) (answered (walked (sizes k j slots) (client-of m (c .0)) .used) w (client-of m (c .0)))))
+pub answer-kept : (k j slots : ℕ) (al : Allowed (sizes k j slots)) (few : suc j ≤ 16) (m : Address → ℕ) (S : Sound-store k j slots m)
+    (L : Ledger) (M : P.Machine (T k j slots)) → Related k j slots m L M → (c : Fin (suc j)) → client-of m (c .0) phase ≡ 1
+    → (a : Ans) (w : Writes) → worked (sizes k j slots) (client-of m (c .0)) ≡ Work.answers a w
+    → Kept k j slots m (did (Answered (a .0) (a .1)) (over (client (c .0)) (answered (walked (sizes k j slots) (client-of m (c .0)) .used) w (client-of m (c .0)))))
 answer-kept k j slots al few m S L M R c now a w e =
     let ps = answered (walked (sizes k j slots) (client-of m (c .0)) .used) w (client-of m (c .0)) in
     record {

@@ -1,7 +1,7 @@
 -- Apply: what servers store, and the end of a transaction.
 use mathlib.Core.Path.{_≡_, refl, sym, subst}
-use mathlib.Core.Bool.{Bool, true, false, _||_}
-use Prim.Native.Nat.{ℕ, zero, suc, _≤_, _<_, Fin}
+use mathlib.Core.Bool.{true, false, _||_}
+use Prim.Native.Nat.{ℕ, suc, _≤_, _<_, Fin}
 use native.Mathlib.Omega.{arith}
 use native.Mathlib.Decide.{decLe}
 use borrow.Author.Tests.{lt-ltb}
@@ -16,10 +16,9 @@ use Rattle.client.specs.declared.part.Set.the-variants.{Reads, Writes}
 use Rattle.client.specs.Layout.{ClientWord, client-words, phase, applied}
 use Rattle.client.specs.Record.{last-version}
 use Rattle.client.specs.Sets.{count, number-at, find}
-use Rattle.client.specs.Items.{all-below}
 use Rattle.client.specs.Drops.{version-of}
 use Rattle.client.specs.Fits.{client-fits}
-use Rattle.client.specs.Course.{noted, decided}
+use Rattle.client.specs.Course.{noted}
 use Rattle.client.specs.Renew.{finish}
 use Rattle.steps.specs.declared.sizes.Sizes.{Sizes}
 use Rattle.steps.specs.declared.outcome.Outcome.the-variants.{Applied, Committed}
@@ -32,18 +31,17 @@ use Rattle.demand.specs.Held.{every-below}
 use Rattle.demand.specs.Ledger.{Ledger}
 use Rattle.demand.specs.Shows.{T}
 use Rattle.demand.specs.Store.{sizes}
-use Rattle.demand.specs.Turns.{store, Good}
+use Rattle.demand.specs.Turns.{one-of, store, Good}
 use Rattle.ranges.specs.Sound.{Part-sound, Server-sound, Sound-store}
 use Rattle.ranges.specs.Part.{applied-part, finish-part}
 use Rattle.ranges.specs.Stored.{apply-sound}
 use Rattle.ranges.specs.Sets.{part-fits}
 use Rattle.ranges.specs.Unlocks.{apply-locks, last-locks}
 use Rattle.ranges.specs.Held.{unlock-judged}
-use Rattle.ranges.specs.Whole.{both-sound}
-use Rattle.ranges.specs.Undecided.{accepted, Kept, if-kept, one-kept}
+use Rattle.ranges.specs.Whole.{accepted, Kept, if-kept, both-sound}
 use Rattle.server.specs.Layout.{places}
 
-module _ (k j slots : ℕ) (al : Allowed (sizes k j slots)) (few : suc j ≤ 16) where
+module _ (k j slots : ℕ) where
   abbrev z : Sizes
   z = store k j slots
 
@@ -55,12 +53,14 @@ module _ (k j slots : ℕ) (al : Allowed (sizes k j slots)) (few : suc j ≤ 16)
       u : ClientWord → ℕ
       u = client-of m c
 
-      go : (i : ℕ) → i < count u Writes → Dec (number-at u Writes i ≤ 8192) → (ltb 8192 (number-at u Writes i) || ltb (version-of u (find u Reads (number-at u Writes i))) last-version) ≡ true
+      go : (i : ℕ) → i < count u Writes → Dec (number-at u Writes i ≤ 8192)
+          → (ltb 8192 (number-at u Writes i) || ltb (version-of u (find u Reads (number-at u Writes i))) last-version) ≡ true
       go i l (yes h) = or-right (ltb 8192 (number-at u Writes i)) _ (lt-ltb (version-of u (find u Reads (number-at u Writes i))) last-version (P .sets .young i l h))
       go i l (no h) = or-left (ltb 8192 (number-at u Writes i)) _ (lt-ltb 8192 (number-at u Writes i) (omega arith))
 
   -- ---- APPLY at the server s
-  module _ (m : Address → ℕ) (S : Sound-store k j slots m) (L : Ledger) (M : P.Machine (T k j slots)) (G : Good k j slots m L M) (c : Fin (suc j)) (s : Fin (suc k))
+  module _ (al : Allowed (sizes k j slots)) (few : suc j ≤ 16) (m : Address → ℕ) (S : Sound-store k j slots m) (L : Ledger) (M : P.Machine (T k j slots))
+      (G : Good k j slots m L M) (c : Fin (suc j)) (s : Fin (suc k))
       (now : client-of m (c .0) phase ≡ 3) (new : bit (client-of m (c .0) applied) (s .0) ≡ false) where
     abbrev u : ClientWord → ℕ
     u = client-of m (c .0)
@@ -83,10 +83,10 @@ module _ (k j slots : ℕ) (al : Allowed (sizes k j slots)) (few : suc j ≤ 16)
     ended-part =
         subst (Part-sound (sizes k j slots)) (sym (changed-append client-words (noted applied (s .0) u) (finish v) u)) (finish-part (sizes k j slots) v noted-part)
 
-    pub applied-kept : Kept k j slots al few m S (Steps.applied-at z m (c .0) (s .0))
+    pub applied-kept : Kept k j slots m (Steps.applied-at z m (c .0) (s .0))
     unfolding Steps.applied-at
     applied-kept =
-        one-kept k j slots al few m S (Steps.all-applied z m (c .0) (s .0)) _ _
+        one-of (Kept k j slots m) (Steps.all-applied z m (c .0) (s .0)) _ _
         (λ e. record {
           passes = accepted Committed refl;
           sound = both-sound k j slots m S s c _ _ here ended-part (last-locks k j slots al few m L M c (G .shown) fit (S .locks) s now e);
@@ -96,8 +96,9 @@ module _ (k j slots : ℕ) (al : Allowed (sizes k j slots)) (few : suc j ≤ 16)
           sound = both-sound k j slots m S s c _ _ here noted-part (apply-locks k j slots al few m L M c (G .shown) fit (S .locks) s now);
         })
 
-    pub apply-kept : Kept k j slots al few m S (Steps.apply z m (c .0) (s .0))
+    pub apply-kept : Kept k j slots m (Steps.apply z m (c .0) (s .0))
     unfolding Steps.apply
     apply-kept =
-        if-kept k j slots al few m S (Steps.apply-fits z m (c .0) (s .0)) _
-        (rw (unlock-judged k j slots few m S al c fit (M .slots c) (G .shown .clients c .slot) (omega (arith, now)) s, versions-judged m (c .0) (S .parts c)) refl) applied-kept
+        if-kept k j slots m (Steps.apply-fits z m (c .0) (s .0)) _
+        (rw (unlock-judged k j slots few m S al c fit (M .slots c) (G .shown .clients c .slot) (omega (arith, now)) s, versions-judged m (c .0) (S .parts c)) refl)
+        applied-kept

@@ -47,7 +47,7 @@ module _ (z : S.Sizes) (s : ℕ) (p : Place → ℕ) (good : Server-sound z s p)
   node-standing n true there h = good .tables n there
   node-standing n false there h = range-version (node-at p n) (good .nodes n there (eqb-true (N.server-of n) s h) .range)
 
-  pub standing-judged : (x : ℕ) (inner : Bool) → number-in-store z x ≡ true → (inner || at-home s x) ≡ true → leb (standing (object-of x) inner p) last-version ≡ true
+  standing-judged : (x : ℕ) (inner : Bool) → number-in-store z x ≡ true → (inner || at-home s x) ≡ true → leb (standing (object-of x) inner p) last-version ≡ true
   unfolding number-in-store at-home object-of standing mark-in mark-place
   standing-judged x inner there h = le-leb (standing (object-of x) inner p) last-version (go (eqb x 0) (leb x 8192) there h)
     where
@@ -61,7 +61,7 @@ module _ (z : S.Sizes) (s : ℕ) (p : Place → ℕ) (good : Server-sound z s p)
 -- ---- what is checked, beside its lock
 module _ (z : Sizes) (m : Address → ℕ) (s : ℕ) (good : Server-sound (tree-sizes z) s (server-of m s)) (i : U.Item)
     (there : number-in-store (tree-sizes z) (i .number) ≡ true) (lock : lock-fits z m s i ≡ true) where
-  pub check-judged : (i .inner-read || at-home s (i .number)) ≡ true → check-fits z m s i ≡ true
+  check-judged : (i .inner-read || at-home s (i .number)) ≡ true → check-fits z m s i ≡ true
   unfolding check-fits sound lock-fits
   check-judged h =
       let w = m (server s (lock-of (U.object i))) in

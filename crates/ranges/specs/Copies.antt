@@ -1,11 +1,11 @@
 -- The copies of a client's part stay sound: where they stay, where there are fewer, and where one is made.
 use mathlib.Core.Path.{_≡_, refl, ap, sym, _∙_, subst}
-use mathlib.Core.Bool.{Bool, true, false, cond}
+use mathlib.Core.Bool.{Bool, true, false}
 use mathlib.Core.List.{List, [], _∷_}
 use Prim.Native.Nat.{ℕ, suc, _≤_, _<_}
 use native.Mathlib.Omega.{arith}
 use native.Mathlib.Decide.{ℕ-discrete}
-use lib.Dec.{eqb, ltb}
+use lib.Dec.{ltb}
 use lib.ListN.{getD}
 use Rattle.layout.specs.Space.{Put, put, tab, puts, puts-other, puts-same, changed, Only, changed-only}
 use Rattle.layout.specs.Step.{andThen}
@@ -22,16 +22,14 @@ use Rattle.client.specs.Sets.{record-at, find}
 use Rattle.client.specs.Part.{nothing, put-field, put-fields, put-vector}
 use Rattle.client.specs.Participants.{committing}
 use Rattle.client.specs.Course.{noted, decided}
-use Rattle.client.specs.Copies.{to-place, copy-node, drop-all}
-use Rattle.client.specs.Drops.{drop-used}
-use Rattle.client.specs.Life.{reset, give, abort, lose}
-use Rattle.client.specs.Fetched.{copy-inner, mark-fetched, fetched-vector}
-use Rattle.client.specs.Renew.{drop-outer}
-use Rattle.demand.specs.Frame.{then-keeps, last, read-after}
+use Rattle.client.specs.Copies.{to-place, copy-node}
+use Rattle.client.specs.Life.{reset, give}
+use Rattle.client.specs.Fetched.{mark-fetched}
+use Rattle.demand.specs.Frame as Frame
+use Rattle.demand.specs.Frame.{last, read-after}
 use Rattle.demand.specs.Slots.{Same-sets, record-frame, record-later}
 use Rattle.demand.specs.Placed.{family, which, word-in, placed, placed-record, placed-beside, placed-else}
-use Rattle.demand.specs.Dropped.{Mark, Fewer, fewer, fewer-sets, kept-word, still-there, only-used, only-outer, only-all}
-use Rattle.demand.specs.CopyWords.{sets-stay, sets-then, only-vector}
+use Rattle.demand.specs.Dropped.{Mark, Drop, Fewer, fewer, kept-word, still-there}
 use Rattle.demand.specs.Behind.{Elsewhere, field-same, set-same, vector-same}
 use Rattle.ranges.specs.Sound.{Sound, Node-sound, Copies-sound}
 
@@ -47,12 +45,12 @@ module _ (z : S.Sizes) (u v : ClientWord → ℕ) (h : Copies-sound z u) where
   vector-stays : (s : ℕ) → v (vector-word s 0) ≡ u (vector-word s 0) → s < 8 → v (vector-word s 0) ≤ 1
   vector-stays s e l = subst (λ (x : ℕ). x ≤ 1) (sym e) (h .vectors s l)
 
-  pub copies-frame : v meta-copied ≡ u meta-copied → v meta-root ≡ u meta-root → v meta-version ≡ u meta-version
+  copies-frame : v meta-copied ≡ u meta-copied → v meta-root ≡ u meta-root → v meta-version ≡ u meta-version
       → ((i n : ℕ) → v (item Copies i n) ≡ u (item Copies i n)) → ((s : ℕ) → v (vector-word s 0) ≡ u (vector-word s 0)) → Copies-sound z v
   copies-frame a b c d e = record { meta-copy = meta-stays a b c; copies = λ i. node-stays i (d i); vectors = λ s. vector-stays s (e s) }
 
   -- where only a set and its count change
-  pub copies-elsewhere : (s : Set) (f : ℕ) → ¬ (family (item Copies 0 0) ≡ family (item s 0 0)) → f < 12 → Elsewhere s f u v → Copies-sound z v
+  copies-elsewhere : (s : Set) (f : ℕ) → ¬ (family (item Copies 0 0) ≡ family (item s 0 0)) → f < 12 → Elsewhere s f u v → Copies-sound z v
   copies-elsewhere s f c l e =
       copies-frame (field-same s f u v e 12 (λ q. absurd (omega arith))) (field-same s f u v e 13 (λ q. absurd (omega arith)))
       (field-same s f u v e 14 (λ q. absurd (omega arith))) (set-same s f u v e Copies c) (λ t. vector-same s f u v e t 0)
@@ -64,7 +62,7 @@ module _ (z : S.Sizes) (u v : ClientWord → ℕ) (h : Copies-sound z u) where
   copies-written = copies-elsewhere Writes 11 (λ e. absurd (omega arith)) (omega arith)
 
   -- ---- fewer copies
-  pub fewer-sound : Fewer u v → Copies-sound z v
+  fewer-sound : Fewer u v → Copies-sound z v
   unfolding Mark
   fewer-sound w = record {
     meta-copy = λ q. meta-stays (still-there u v w meta-copied (λ e. absurd (omega (arith, e, q)))) (kept-word u v w meta-root (λ e. absurd (omega (arith, e))))
@@ -81,14 +79,8 @@ module _ (z : S.Sizes) (u v : ClientWord → ℕ) (h : Copies-sound z u) where
       of-vector s l (no n) = vector-stays s (still-there u v w (vector-word s 0) n) l
 
 module _ (z : S.Sizes) (u : ClientWord → ℕ) (h : Copies-sound z u) where
-  pub used-dropped : (us : List ℕ) → Copies-sound z (changed client-words u (drop-used us u))
-  used-dropped us = fewer-sound z u (changed client-words u (drop-used us u)) h (fewer (drop-used us u) u (only-used us u))
-
-  pub all-dropped : Copies-sound z (changed client-words u (drop-all u))
-  all-dropped = fewer-sound z u (changed client-words u (drop-all u)) h (fewer (drop-all u) u (only-all u))
-
-  pub outer-dropped : (i : ℕ) → Copies-sound z (changed client-words u (drop-outer i u))
-  outer-dropped i = fewer-sound z u (changed client-words u (drop-outer i u)) h (fewer (drop-outer i u) u (only-outer i u))
+  pub dropped-copies : (ps : List (Put ClientWord)) → Frame.Only client-words Drop ps → Copies-sound z (changed client-words u ps)
+  dropped-copies ps o = fewer-sound z u (changed client-words u ps) h (fewer ps u o)
 
   pub reset-copies : (p : ℕ) → Copies-sound z (changed client-words u (reset p u))
   unfolding reset put-field put-fields puts andThen
@@ -127,15 +119,6 @@ module _ (z : S.Sizes) (u : ClientWord → ℕ) (h : Copies-sound z u) where
         go (At p) b = placed-sound p
         go Absent (At p) = placed-sound p
         go Absent Absent = h
-
-    -- "an inner node is copied too"
-    pub copy-inner-sound : Copies-sound z (changed client-words u (copy-inner x r u))
-    unfolding copy-inner nothing changed
-    copy-inner-sound = go (eqb (r .kind) 2)
-      where
-        go : (b : Bool) → Copies-sound z (changed client-words u (cond b (copy-node x r) nothing u))
-        go true = copy-node-sound
-        go false = h
 
   -- ---- the metadata's copy
   pub meta-sound : (root version : ℕ) → Sound z 0 (single version root) → Copies-sound z (changed client-words u (put-fields 12 (1 ∷ root ∷ version ∷ []) u))
@@ -227,41 +210,10 @@ module _ (u : ClientWord → ℕ) where
   unfolding decided Only
   only-decided = (refl, tt)
 
-  only-lost : Only client-words before-counts (put-field 9 1 u)
+  pub only-lost : Only client-words before-counts (put-field 9 1 u)
   unfolding put-field Only
   only-lost = (refl, tt)
 
-  only-marked : (s : ℕ) → Only client-words before-counts (mark-fetched s u)
+  pub only-marked : (s : ℕ) → Only client-words before-counts (mark-fetched s u)
   unfolding mark-fetched put-field Only
   only-marked s = (refl, tt)
-
--- ---- steps of two parts
-module _ (u : ClientWord → ℕ) where
-  -- a vector is fetched
-  pub fetched-copies : (z : S.Sizes) → Copies-sound z u → (s : ℕ) (ws : List ℕ) → Copies-sound z (changed client-words u (fetched-vector s ws u))
-  unfolding fetched-vector
-  fetched-copies z h s ws =
-      then-keeps client-words (Copies-sound z) (put-vector s ws) (mark-fetched s) u (vector-sound z u h s ws)
-      (λ w q. fields-copies w (mark-fetched s w) (only-marked w s) z q)
-
-  pub fetched-sets : (s : ℕ) (ws : List ℕ) → Same-sets u (changed client-words u (fetched-vector s ws u))
-  unfolding fetched-vector
-  fetched-sets s ws =
-      then-keeps client-words (Same-sets u) (put-vector s ws) (mark-fetched s) u (sets-stay (put-vector s ws u) u (only-vector s ws u))
-      (λ w q. sets-then u w (changed client-words w (mark-fetched s w)) q (fields-sets w (mark-fetched s w) (only-marked w s)))
-
-  -- "An abort .. drops copies of all objects read"
-  pub abort-copies : (z : S.Sizes) → Copies-sound z u → (us : List ℕ) → Copies-sound z (changed client-words u (abort us u))
-  abort-copies z h us = then-keeps client-words (Copies-sound z) (drop-used us) (reset 0) u (used-dropped z u h us) (λ w q. reset-copies z w q 0)
-
-  -- "loss drops all copies"
-  pub lose-copies : (z : S.Sizes) → Copies-sound z u → Copies-sound z (changed client-words u (lose u))
-  unfolding lose
-  lose-copies z h =
-      then-keeps client-words (Copies-sound z) (put-field 9 1) drop-all u (fields-copies u (put-field 9 1 u) (only-lost u) z h) (λ w q. all-dropped z w q)
-
-  pub lose-sets : Same-sets u (changed client-words u (lose u))
-  unfolding lose
-  lose-sets =
-      then-keeps client-words (Same-sets u) (put-field 9 1) drop-all u (fields-sets u (put-field 9 1 u) (only-lost u))
-      (λ w q. let x = changed client-words w (drop-all w) in sets-then u w x q (fewer-sets w x (fewer (drop-all w) w (only-all w))))

@@ -3,10 +3,10 @@ use mathlib.Core.Path.{_≡_, refl, ap, ap₂, sym, _∙_, subst}
 use mathlib.Core.Bool.{Bool, true, false, cond, _&&_, _||_, not, false≢true}
 use mathlib.Core.List.{List, [], _∷_}
 use mathlib.Core.Logic.{_⊎_, inl, inr}
-use Prim.Native.Nat.{ℕ, zero, suc, _+_, _≤_, _<_}
+use Prim.Native.Nat.{ℕ, zero, suc, _≤_, _<_}
 use native.Mathlib.Omega.{arith}
 use native.Mathlib.Decide.{ℕ-discrete, decLe}
-use borrow.Author.Tests.{eqb-true, eqb-false, eq-eqb, ne-eqb, le-leb, ltb-true, lt-ltb}
+use borrow.Author.Tests.{eqb-true, eqb-false, eq-eqb, le-leb, ltb-true, lt-ltb}
 use lib.Dec.{eqb, leb, ltb}
 use lib.ListN.{length}
 use Rattle.base.specs.Test.{and-both, or-neither, bool-cases, yes?, yes-of}
@@ -18,7 +18,7 @@ use Rattle.nodes.specs.declared.found.Found.{Found}
 use Rattle.nodes.specs.declared.found.Found.the-variants.{At, Absent}
 use Rattle.nodes.specs.Find.{rises}
 use Rattle.nodes.specs.Lists.{pad}
-use Rattle.nodes.specs.Node.{extra, slotsOf, made, slots-made}
+use Rattle.nodes.specs.Node.{slotsOf, made, slots-made}
 use Rattle.nodes.specs.Place.{bit}
 use Rattle.nodes.specs.Range.{in-range, range-of}
 use Rattle.nodes.specs.StoredLaws.{Sized}
@@ -37,7 +37,7 @@ use Rattle.client.specs.Part.{nothing}
 use Rattle.client.specs.Have.{copied}
 use Rattle.client.specs.Lent.{Entry}
 use Rattle.client.specs.Enter.{enter-at, enter-write, enter-entries}
-use Rattle.client.specs.Answered.{put-entry, entered}
+use Rattle.client.specs.Answered.{entered}
 use Rattle.client.specs.Drops.{version-of}
 use Rattle.client.specs.Work.{version-in, at-last-version, any-at-last}
 use Rattle.steps.specs.Uses.{all}
@@ -50,7 +50,7 @@ use Rattle.demand.specs.Used.{copied-same, after-used}
 use Rattle.demand.specs.Latest.{entry-of, entered-apart, put-every, All-whole}
 use Rattle.ranges.specs.Sound.{children-there, Item-sound, Sets-sound}
 use Rattle.ranges.specs.Lists.{every-weaker, every-all}
-use Rattle.ranges.specs.Sets.{sound-version, item-stays, all-stay, May-write, written-may, sets-from, Reads-stay, reads-stay, entered-stay, may-stay, used-keeps}
+use Rattle.ranges.specs.Sets.{sound-version, item-stays, all-stay, May-write, written-may, sets-from, Reads-stay, reads-stay, entered-stay, may-stay, room, used-keeps}
 
 -- ---- ONE WRITE of an operation
 -- a name of the store
@@ -95,7 +95,7 @@ module _ (z : Sizes) (al : Allowed z) where
       go true e = ap (all (in-store z)) (slots-made k l 0 ks vs (h .beside)) ∙ every-all (in-store z) vs (h .children (eqb-true k 2 e))
       go false e = refl
 
-  pub entry-sound : (o : Obj) (v : Val) → Named (There z) o → Storable (There z) o v → level-of v ≤ 4 → Item-sound z (number o) (record-of 0 v)
+  entry-sound : (o : Obj) (v : Val) → Named (There z) o → Storable (There z) o v → level-of v ≤ 4 → Item-sound z (number o) (record-of 0 v)
   unfolding record-of single made pad
   entry-sound meta (root r) n s l = object-sound meta (record-of 0 (root r)) refl (rw s) refl
   entry-sound (node n) (body k j ks vs) h s l =
@@ -185,7 +185,7 @@ module _ (u v : ClientWord → ℕ) (other : Elsewhere set.Writes 11 u v) where
   same-count = ap (at-most 96) (field-same set.Writes 11 u v other 10 (λ e. absurd (omega arith)))
 
   -- the read set has what it had
-  pub unwritten-stay : Reads-stay u v
+  unwritten-stay : Reads-stay u v
   unwritten-stay = reads-stay u v same-count same-words
 
   one-sound : (z : Sizes) (x : ℕ) (r : Node) → One-written u v x r → Item-sound z x r → May-write u x → Sets-sound z u → Sets-sound z v
@@ -241,10 +241,6 @@ module _ (z : Sizes) (u : ClientWord → ℕ) (x : ℕ) (r : Node) (w : Sized r)
   unfolding enter-write nothing changed count
   write-sound = go (find u set.Writes x) refl
     where
-      room : (b : Bool) → leb (u writes-count) 48 ≡ b → cond b (u writes-count) 48 < 48 → u writes-count < 48
-      room true e l = l
-      room false e l = absurd (omega arith)
-
       go : (f : Found) → find u set.Writes x ≡ f → Sound-else (changed client-words u (enter-at x r (count u set.Writes) (find u set.Writes x) u))
       go (At i) e = subst (λ f. Sound-else (changed client-words u (enter-at x r (count u set.Writes) f u))) (sym e) (replaced-sound i)
       go Absent e = subst (λ f. Sound-else (changed client-words u (enter-at x r (count u set.Writes) f u))) (sym e) (by (ltb (count u set.Writes) 48) refl)
@@ -252,7 +248,7 @@ module _ (z : Sizes) (u : ClientWord → ℕ) (x : ℕ) (r : Node) (w : Sized r)
           by : (b : Bool) → ltb (count u set.Writes) 48 ≡ b → Sound-else (changed client-words u (enter-at x r (count u set.Writes) Absent u))
           by false t = rw t (S, λ a p q. refl)
           by true t =
-              let l = room (leb (u writes-count) 48) refl (ltb-true (count u set.Writes) 48 t) in
+              let l = room 48 (u writes-count) (ltb-true (count u set.Writes) 48 t) in
               let c = writes-within u (omega arith) in
               let b = lt-ltb (u writes-count) 48 l in
               rw (c, b) (behind-sound _ (put-behind set.Writes 11 x r w u c (λ v q. writes-within v (omega (arith, q, l)) ∙ q)))
@@ -273,8 +269,10 @@ module _ (z : Sizes) where
 
 -- ---- the last version
 -- what comes into use has the version of its copy
-pub version-used : (u : ClientWord → ℕ) (us : List ℕ) (x : ℕ) → version-in (after-used u us) x (find (after-used u us) set.Reads x) ≡ version-in u x (find u set.Reads x)
-version-used u us x = used-keeps u (λ y. Unit {0}) (λ v. version-in v x (find v set.Reads x) ≡ version-in u x (find u set.Reads x)) one us (every-any (λ y. Unit {0}) (λ y. tt) us) refl .0
+version-used : (u : ClientWord → ℕ) (us : List ℕ) (x : ℕ) → version-in (after-used u us) x (find (after-used u us) set.Reads x) ≡ version-in u x (find u set.Reads x)
+version-used u us x =
+    used-keeps u (λ y. Unit {0}) (λ v. version-in v x (find v set.Reads x) ≡ version-in u x (find u set.Reads x)) one us (every-any (λ y. Unit {0}) (λ y. tt) us) refl
+    .0
   where
     one : (y : ℕ) → Unit {0} → (m v : ClientWord → ℕ) → Else-same u m → Read-entered m v y (copied u y .node)
         → version-in m x (find m set.Reads x) ≡ version-in u x (find u set.Reads x) → version-in v x (find v set.Reads x) ≡ version-in u x (find u set.Reads x)

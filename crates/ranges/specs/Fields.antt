@@ -8,45 +8,40 @@ use native.Mathlib.Decide.{ℕ-discrete}
 use borrow.Author.Tests.{eqb-true, ne-eqb, lt-ltb}
 use lib.Dec.{eqb, ltb}
 use lib.ListN.{getD}
-use lib.Pow.{pow-pos, pow-lt}
 use Rattle.base.specs.Update.{upd, upd-same, upd-other}
-use Rattle.memory.specs.Bit.{putBit, put-lt}
 use Rattle.layout.specs.Space.{Put, put, puts, puts-other, decide, changed}
 use Rattle.layout.specs.Step.{andThen}
 use Rattle.nodes.specs.declared.node.Node.{Node}
 use Rattle.nodes.specs.declared.found.Found.{Found}
 use Rattle.nodes.specs.declared.found.Found.the-variants.{At, Absent}
-use Rattle.nodes.specs.Name.{server-of, slot-of}
-use Rattle.nodes.specs.Flags.{with-flag}
 use Rattle.operations.specs.Map.{H, H-is}
 use Rattle.operations.specs.Slot as S
 use Rattle.client.specs.declared.part.Set.{Set}
 use Rattle.client.specs.declared.part.Set.the-variants.{Writes, Copies}
-use Rattle.client.specs.Layout.{ClientWord, client-code, client-words, field, item, vector-word, op-number, op-key, op-server, prepared, applied, fetched-vectors, lost}
+use Rattle.client.specs.Layout.{ClientWord, client-code, client-words, field, item, vector-word, op-number, op-key, op-server, prepared, applied, fetched-vectors}
 use Rattle.client.specs.Record.{in-store}
-use Rattle.client.specs.Sets.{count, number-at, find}
-use Rattle.client.specs.Vectors.{has-vector, vector-copy}
+use Rattle.client.specs.Sets.{number-at, find}
 use Rattle.client.specs.Fits.{bounds, op-fits}
 use Rattle.client.specs.Part.{nothing, put-field, put-fields, put-item, put-vector}
-use Rattle.client.specs.Participants.{mask, takes-part, participants-of, committing}
+use Rattle.client.specs.Participants.{takes-part, participants-of, committing}
 use Rattle.client.specs.Course.{noted, decided}
-use Rattle.client.specs.Copies.{to-place, copy-node, drop-all}
-use Rattle.client.specs.Drops.{drop-used}
-use Rattle.client.specs.Life.{reset, give, abort, lose}
-use Rattle.client.specs.Fetched.{copy-inner, mark-fetched, fetched-vector}
+use Rattle.client.specs.Copies.{to-place, copy-node}
+use Rattle.client.specs.Life.{reset, give}
+use Rattle.client.specs.Fetched.{mark-fetched}
 use Rattle.client.specs.Renew as Rn
-use Rattle.demand.specs.Frame.{Only, only-then, only-sweep, only-mono, only-keeps, then-keeps, last, read-after}
+use Rattle.demand.specs.Frame.{Only, only-mono, only-keeps, last, read-after}
 use Rattle.demand.specs.Members.{mask-lt, one-more}
-use Rattle.demand.specs.Dropped.{Mark, Drop, only-used, only-outer, only-all}
+use Rattle.demand.specs.Dropped.{Mark, Drop, only-outer}
 use Rattle.demand.specs.Behind.{Elsewhere, field-same}
+use Rattle.demand.specs.Renewed.{renew-keeps}
 use Rattle.ranges.specs.Sound.{Fields-sound}
 
 -- the greatest value of a field
-abbrev pub bound : S.Sizes → ℕ → ℕ
+abbrev bound : S.Sizes → ℕ → ℕ
 bound z i = getD (bounds (2 ^ z .servers - 1)) i 0
 
 -- a store leaves the operation that waits as it is, or takes it away
-abbrev pub calm : ℕ → ℕ → Bool
+abbrev calm : ℕ → ℕ → Bool
 calm i v = getD (true ∷ eqb v 0 ∷ false ∷ true ∷ false ∷ []) i true
 
 -- a store in range
@@ -99,7 +94,7 @@ stores-within z u ps h F =
     only-keeps client-words (Within-store z) (Fields-sound z) (λ m a v q f. store-within z m a v q f) ps u h F
 
 -- what is dropped is in range
-pub drop-within : (z : S.Sizes) (a : ClientWord) (v : ℕ) → Drop a v → Within-store z a v
+drop-within : (z : S.Sizes) (a : ClientWord) (v : ℕ) → Drop a v → Within-store z a v
 unfolding Within-store Mark
 drop-within z (field i) v h =
     subst (λ (j : ℕ). (calm j v ≡ true) × (j < 13 → v ≤ bound z j)) (sym (h .0)) (refl, λ l. omega (arith, h .1))
@@ -108,7 +103,7 @@ drop-within z (vector-word s n) v h = tt
 
 -- ---- one field changes, and none of the operation's: a count
 module _ (z : S.Sizes) (u v : ClientWord → ℕ) where
-  pub field-sound : (f : ℕ) → 4 < f → ((i : ℕ) → i < 13 → ¬ (i ≡ f) → v (field i) ≡ u (field i)) → v (field f) ≤ bound z f
+  field-sound : (f : ℕ) → 4 < f → ((i : ℕ) → i < 13 → ¬ (i ≡ f) → v (field i) ≡ u (field i)) → v (field f) ≤ bound z f
       → Fields-sound z u → Fields-sound z v
   unfolding op-fits
   field-sound f l same b F = record {
@@ -199,6 +194,10 @@ module _ (z : S.Sizes) (u : ClientWord → ℕ) where
     unfolding noted Only Within-store
     prepared-fields = stores-within z u (noted prepared s u) ((refl, λ q. one-more (z .servers) s l (u prepared) (F .within 6 (omega arith))), tt) F
 
+    pub marked-fields : Fields-sound z (changed client-words u (mark-fetched s u))
+    unfolding mark-fetched put-field Only Within-store
+    marked-fields = stores-within z u (mark-fetched s u) ((refl, λ q. one-more (z .servers) s l (u fetched-vectors) (F .within 8 (omega arith))), tt) F
+
     pub applied-fields : Fields-sound z (changed client-words u (noted applied s u))
     unfolding noted Only Within-store
     applied-fields = stores-within z u (noted applied s u) ((refl, λ q. one-more (z .servers) s l (u applied) (F .within 7 (omega arith))), tt) F
@@ -207,19 +206,14 @@ module _ (z : S.Sizes) (u : ClientWord → ℕ) where
   unfolding decided Only Within-store
   decided-fields = stores-within z u (decided u) ((refl, λ l. omega arith), tt)
 
-  -- ---- copies dropped
-  pub all-dropped-fields : Stays (drop-all u)
-  all-dropped-fields = stores-within z u (drop-all u) (only-mono client-words Drop (Within-store z) (drop-within z) (drop-all u) (only-all u))
+  -- a lost client's mark
+  pub lost-fields : Stays (put-field 9 1 u)
+  unfolding put-field Only Within-store
+  lost-fields = stores-within z u (put-field 9 1 u) ((refl, λ l. omega arith), tt)
 
-  pub dropped-fields : (us : List ℕ) → Stays (drop-used us u)
-  dropped-fields us = stores-within z u (drop-used us u) (only-mono client-words Drop (Within-store z) (drop-within z) (drop-used us u) (only-used us u))
-
-  pub lose-fields : Stays (lose u)
-  unfolding lose put-field Only Within-store
-  lose-fields =
-      stores-within z u (lose u)
-      (only-then client-words (Within-store z) (put-field 9 1) drop-all u ((refl, λ l. omega arith), tt)
-      (λ m. only-mono client-words Drop (Within-store z) (drop-within z) (drop-all m) (only-all m)))
+  -- copies are dropped
+  pub dropped-fields : (ps : List (Put ClientWord)) → Only client-words Drop ps → Stays ps
+  dropped-fields ps h = stores-within z u ps (only-mono client-words Drop (Within-store z) (drop-within z) ps h)
 
 -- ---- words of copies
 module _ (z : S.Sizes) where
@@ -249,7 +243,6 @@ module _ (z : S.Sizes) where
   unfolding put-vector Within-store
   vector-within s ws u = words-within (vector-word s) _ (λ i v. tt)
 
-  -- ---- fetched
   module _ (u : ClientWord → ℕ) (F : Fields-sound z u) where
     pub meta-fields : (root version : ℕ) → Fields-sound z (changed client-words u (put-fields 12 (1 ∷ root ∷ version ∷ []) u))
     meta-fields root version = stores-within z u (put-fields 12 (1 ∷ root ∷ version ∷ []) u) (meta-within root version u) F
@@ -257,78 +250,16 @@ module _ (z : S.Sizes) where
     pub copied-fields : (x : ℕ) (r : Node) → Fields-sound z (changed client-words u (copy-node x r u))
     copied-fields x r = stores-within z u (copy-node x r u) (copy-within x r u) F
 
-    pub inner-fields : (x : ℕ) (r : Node) → Fields-sound z (changed client-words u (copy-inner x r u))
-    unfolding copy-inner nothing changed
-    inner-fields x r = go (eqb (r .kind) 2)
-      where
-        go : (b : Bool) → Fields-sound z (changed client-words u (cond b (copy-node x r) nothing u))
-        go true = copied-fields x r
-        go false = F
+    pub vector-fields : (s : ℕ) (ws : List ℕ) → Fields-sound z (changed client-words u (put-vector s ws u))
+    vector-fields s ws = stores-within z u (put-vector s ws u) (vector-within s ws u) F
 
-    pub vector-fields : (s : ℕ) → s < z .servers → (ws : List ℕ) → Fields-sound z (changed client-words u (fetched-vector s ws u))
-    unfolding fetched-vector mark-fetched put-field Only Within-store
-    vector-fields s l ws =
-        then-keeps client-words (Fields-sound z) (put-vector s ws) (mark-fetched s) u (stores-within z u (put-vector s ws u) (vector-within s ws u) F)
-        (λ w G. stores-within z w (mark-fetched s w) ((refl, λ q. one-more (z .servers) s l (w fetched-vectors) (G .within 8 (omega arith))), tt) G)
-
-  -- ---- "The last apply ends the transaction and renews its copies"
-  nth-within : (i : ℕ) (u : ClientWord → ℕ) → Fine (Rn.renew-nth i u)
-  unfolding Rn.renew-nth nothing Only
-  nth-within i u = go (Rn.ranked u (i + 1))
-    where
-      go : (f : Found) → Fine (Rn.renew-found u f u)
-      go (At n) = copy-within (number-at u Writes n) (Rn.renewed u n) u
-      go Absent = tt
-
-  renewed-meta-within : (u : ClientWord → ℕ) → Fine (Rn.renew-meta u)
-  unfolding Rn.renew-meta nothing Only
-  renewed-meta-within u = go (find u Writes 0)
-    where
-      go : (f : Found) → Fine (Rn.meta-found u f u)
-      go (At i) = meta-within (u (item Writes i 19)) (Rn.new-version u 0) u
-      go Absent = tt
-
-  flag-within : (i : ℕ) (u : ClientWord → ℕ) → Fine (Rn.renew-flag i u)
-  unfolding Rn.renew-flag Rn.renew-in nothing Only
-  flag-within i u = go (ltb (number-at u Writes i) 8193) (ltb (server-of n) 8 && has-vector u (server-of n))
-    where
-      n : ℕ
-      n = number-at u Writes i - 8193
-
-      ws : List ℕ
-      ws = with-flag (vector-copy u (server-of n)) (slot-of n) (eqb (u (item Writes i 19)) 1)
-
-      go : (a b : Bool) → Fine (cond a nothing (cond b (put-vector (server-of n) ws) nothing) u)
-      go true b = tt
-      go false true = vector-within (server-of n) ws u
-      go false false = tt
-
-  renew-within : (u : ClientWord → ℕ) → Fine (Rn.renew-kept u)
-  unfolding Rn.renew-kept Rn.renew Rn.renew-written Rn.for-writes nothing Only
-  renew-within u = go (eqb (u lost) 1)
-    where
-      Q : ClientWord → ℕ → Type 0
-      Q = Within-store z
-
-      go : (b : Bool) → Fine (cond b nothing Rn.renew u)
-      go true = tt
-      go false =
-          only-then client-words Q (Rn.for-writes Rn.drop-outer) Rn.renew-written u
-          (only-sweep client-words Q Rn.drop-outer (count u Writes) u (λ i w. only-mono client-words Drop Q (drop-within z) (Rn.drop-outer i w) (only-outer i w)))
-          (λ v. only-then client-words Q (Rn.for-writes Rn.renew-nth) _ v (only-sweep client-words Q Rn.renew-nth (count v Writes) v nth-within)
-          (λ w. only-then client-words Q Rn.renew-meta (Rn.for-writes Rn.renew-flag) w (renewed-meta-within w)
-          (λ x. only-sweep client-words Q Rn.renew-flag (count x Writes) x flag-within)))
-
-  pub finish-fields : (u : ClientWord → ℕ) → Fields-sound z u → Fields-sound z (changed client-words u (Rn.finish u))
-  unfolding Rn.finish
-  finish-fields u =
-      stores-within z u (Rn.finish u)
-      (only-then client-words (Within-store z) Rn.renew-kept (reset 0) u (renew-within u) (λ w. reset-within z w 0 (omega arith)))
-
--- ---- steps of two parts
-module _ (z : S.Sizes) (u : ClientWord → ℕ) (F : Fields-sound z u) where
-  pub abort-fields : (us : List ℕ) → Fields-sound z (changed client-words u (abort us u))
-  abort-fields us = then-keeps client-words (Fields-sound z) (drop-used us) (reset 0) u (dropped-fields z u us F) (λ w. reset-fields z w 0 (omega arith))
-
-  pub last-applied-fields : (s : ℕ) → s < z .servers → Fields-sound z (changed client-words u (andThen client-words (noted applied s) Rn.finish u))
-  last-applied-fields s l = then-keeps client-words (Fields-sound z) (noted applied s) Rn.finish u (applied-fields z u s l F) (λ w. finish-fields z w)
+  -- ---- "The last apply .. renews its copies"
+  pub renewed-fields : (u : ClientWord → ℕ) → Fields-sound z u → Fields-sound z (changed client-words u (Rn.renew-kept u))
+  renewed-fields =
+      renew-keeps (Fields-sound z)
+      (record {
+        outer-drops = λ i w. dropped-fields z w (Rn.drop-outer i w) (only-outer i w);
+        node-renews = λ i w F _ _. copied-fields w F (number-at w Writes i) (Rn.renewed w i);
+        meta-renews = λ i w F _. meta-fields w F _ _;
+        flag-renews = λ i w x F _ _ _ _. vector-fields w F _ _;
+      })

@@ -4,13 +4,11 @@ use mathlib.Core.Bool.{Bool, true, false, cond, _&&_, _||_, not, false≢true}
 use mathlib.Core.List.{List, [], _∷_, _++_}
 use mathlib.Core.Option.{Option, some}
 use Prim.Native.Nat.{ℕ, _+_, _-_}
-use native.Mathlib.Omega.{arith}
 use borrow.Author.Tests.{eq-eqb, lt-ltb, not-true}
 use lib.Dec.{eqb, ltb}
 use Rattle.base.specs.Test.{and-both, not-both}
 use Rattle.plans.specs.Plan.{gives}
 use Rattle.plans.specs.Walk.{Every, lacks, ends, walk, used-had}
-use Rattle.nodes.specs.declared.node.Node.{Node}
 use Rattle.nodes.specs.declared.found.Found.{Found}
 use Rattle.nodes.specs.declared.found.Found.the-variants.{At, Absent}
 use Rattle.nodes.specs.Node.{slotsOf}
@@ -55,14 +53,14 @@ is-refused (Work.aborted y) = false
 is-refused (Work.answers a w) = false
 
 -- an object of the store
-pub named-there : (z : Sizes) (o : Obj) → Named (There z) o → object-in-store z o ≡ true
+named-there : (z : Sizes) (o : Obj) → Named (There z) o → object-in-store z o ≡ true
 named-there z meta h = refl
 named-there z (node n) h = h
 named-there z (flag n) h = h
 
 module _ (z : Sizes) (u : ClientWord → ℕ) (P : Part-sound z u) where
   -- "An object is read from the write set, else the read set, else the client's copies"
-  pub source-sound : (x : ℕ) → is-found (source u x .how) ≡ true → Sound z x (source u x .node)
+  source-sound : (x : ℕ) → is-found (source u x .how) ≡ true → Sound z x (source u x .node)
   unfolding source
   source-sound x h = go (find u set.Writes x) refl (find u set.Reads x) refl h
     where
@@ -72,10 +70,11 @@ module _ (z : Sizes) (u : ClientWord → ℕ) (P : Part-sound z u) where
           let f = found-at u set.Reads x i q in
           subst (λ (r : Found). Sound z x (or-copied u x r .node)) (sym q) (subst (λ (x : ℕ). Sound z x (record-at u set.Reads i)) (f .1) (P .sets .read i (f .0) .sound))
       go Absent e Absent q h =
-          subst (λ (r : Found). Sound z x (or-copied u x r .node)) (sym q) (copied-sound z u (P .copies) x (subst (λ (r : Found). is-found (or-copied u x r .how) ≡ true) q h))
+          subst (λ (r : Found). Sound z x (or-copied u x r .node)) (sym q)
+          (copied-sound z u (P .copies) x (subst (λ (r : Found). is-found (or-copied u x r .how) ≡ true) q h))
 
   -- a question about something of the store is never broken
-  pub unbroken : (a : Ask) → Inside (There z) z a → broken z u a ≡ false
+  unbroken : (a : Ask) → Inside (There z) z a → broken z u a ≡ false
   unfolding broken
   unbroken (object o) h = rw (named-there z o h) (go (is-found (source u (number o) .how)) refl)
     where
@@ -85,7 +84,7 @@ module _ (z : Sizes) (u : ClientWord → ℕ) (P : Part-sound z u) where
   unbroken (vector s) h = ap not (lt-ltb s (z .servers) h)
   unbroken (fetched s) h = ap not (lt-ltb s (z .servers) h)
 
-  pub points : Allowed z → (o : Obj) → object-in-store z o ≡ true → is-found (source u (number o) .how) ≡ true → Points (There z) o (source u (number o) .node)
+  points : Allowed z → (o : Obj) → object-in-store z o ≡ true → is-found (source u (number o) .how) ≡ true → Points (There z) o (source u (number o) .node)
   unfolding children-there
   points al meta hi h = root-there z (source u 0 .node) (source-sound 0 h)
   points al (node n) hi h = λ e. go (eqb (source u (1 + n) .node .kind) 2) (eq-eqb (source u (1 + n) .node .kind) 2 e)
@@ -112,7 +111,7 @@ module _ (k j slots : ℕ) (al : Allowed (sizes k j slots)) (u : ClientWord → 
   at-hand = have-storable k j slots al u f copies fit y shown (There z) (λ o v h. points z u P al o (h .in-store) (h .found))
 
   -- the plan asks for nothing but what the store has
-  pub lacks-unbroken : (a : Ask) → walk (plan z u) (have z u) ≡ lacks a → broken z u a ≡ false
+  lacks-unbroken : (a : Ask) → walk (plan z u) (have z u) ≡ lacks a → broken z u a ≡ false
   lacks-unbroken a e = unbroken z u P a (asked-inside (There z) z (slot-named z al) (waiting u) (op-names (There z) z (λ n h. h) u fit) (have z u) at-hand a e)
 
   pub never-refused : ¬ (worked z u ≡ Work.refused)
@@ -128,7 +127,8 @@ module _ (k j slots : ℕ) (al : Allowed (sizes k j slots)) (u : ClientWord → 
           by false false true = refl
           by false false false = refl
 
-      go : (h : Run.End) → Follows (walk (plan z u) (have z u)) (all-used (new u) (asked z u) []) [] (96 - u reads-count) h (walked z u .used) → is-refused (Work.judge z u h) ≡ false
+      go : (h : Run.End) → Follows (walk (plan z u) (have z u)) (all-used (new u) (asked z u) []) [] (96 - u reads-count) h (walked z u .used)
+          → is-refused (Work.judge z u h) ≡ false
       go (Run.aborts y) f = refl
       go (Run.gives a w) f = asks a w
       go (Run.lacks a) f = ap (λ (b : Bool). is-refused (cond b Work.refused (Work.fetches a))) (lacks-unbroken a (f .0))

@@ -1,13 +1,12 @@
 -- WHAT IS JUDGED OF LOCKS, "a lock's transaction or its write": in a sound store it is in range.
-use mathlib.Core.Path.{_≡_, refl, ap, sym, _∙_}
+use mathlib.Core.Path.{_≡_, refl, sym, _∙_}
 use mathlib.Core.Bool.{Bool, true, false, _&&_, _||_, not}
-use mathlib.Core.Logic.{_⊎_, inl, inr}
-use Prim.Native.Nat.{ℕ, zero, suc, _+_, _-_, _≤_, _<_, Fin}
+use mathlib.Core.Logic.{_⊎_}
+use Prim.Native.Nat.{ℕ, suc, _+_, _-_, _≤_, _<_, Fin}
 use native.Mathlib.Omega.{arith}
 use native.Mathlib.Decide.{decLt}
 use borrow.Author.Tests.{eq-eqb, lt-ltb, le-ltb, le-leb}
-use Rattle.base.specs.Test.{not-both}
-use Rattle.memory.specs.Bit.{bit, zero-bit}
+use Rattle.memory.specs.Bit.{bit}
 use Rattle.operations.specs.Object.{Obj}
 use Rattle.operations.specs.Slot.{Allowed}
 use Rattle.protocol.specs.Machine as P
@@ -17,7 +16,6 @@ use Rattle.client.specs.declared.part.Set.the-variants.{Reads}
 use Rattle.client.specs.Layout.{ClientWord, phase, prepared, writes-count}
 use Rattle.client.specs.Record.{number, number-in-store}
 use Rattle.client.specs.Sets.{count, number-at}
-use Rattle.client.specs.Items.{all-below}
 use Rattle.client.specs.Fits.{client-fits}
 use Rattle.steps.specs.declared.sizes.Sizes.{Sizes}
 use Rattle.steps.specs.Whole.{Address, server}
@@ -73,7 +71,7 @@ module _ (k j slots : ℕ) (few : suc j ≤ 16) (m : Address → ℕ) (W : Sound
           rw (le-ltb w 65536 q) (writer (range-writes (suc j) w few (h .range) d (is-writer q)) (is-writer q))
 
   -- the lock of the object o at a server that keeps it
-  pub lock-judged : (s : Fin (suc k)) (o : Obj) → In-store k j slots o → lock-kept k j slots (server-of m (s .0)) s o ≡ true
+  lock-judged : (s : Fin (suc k)) (o : Obj) → In-store k j slots o → lock-kept k j slots (server-of m (s .0)) s o ≡ true
       → (i : Item) → i .number ≡ number o → J.lock-fits z m (s .0) i ≡ true
   unfolding J.lock-fits
   lock-judged s o hi kept i e =
@@ -110,4 +108,5 @@ module _ (k j slots : ℕ) (few : suc j ≤ 16) (m : Address → ℕ) (W : Sound
     pub abort-judged : (u phase ≡ 1) ⊎ (u phase ≡ 2) → J.abort-fits z m (c .0) ≡ true
     unfolding J.abort-fits
     abort-judged undecided =
-        every-below (suc k) (λ s. not (bit (u prepared) s) || J.unlock-fits z m (c .0) s) (λ s l. unless _ _ (λ b. unlock-judged (prepared-late k j slots u y shown s b undecided) (s, l)))
+        every-below (suc k) (λ s. not (bit (u prepared) s) || J.unlock-fits z m (c .0) s)
+        (λ s l. unless _ _ (λ b. unlock-judged (prepared-late k j slots u y shown s b undecided) (s, l)))

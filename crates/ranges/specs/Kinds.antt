@@ -1,40 +1,40 @@
 -- EVERY STEP from a sound store, of whatever kind, is not refused by 10 and leaves a sound store.
-use mathlib.Core.Path.{_≡_, refl, ap, sym, _∙_, subst}
-use mathlib.Core.Bool.{Bool, true, false, cond, _&&_, not}
+use mathlib.Core.Path.{_≡_, refl}
+use mathlib.Core.Bool.{Bool, true, false, cond, not}
 use mathlib.Core.List.{List, [], _∷_}
-use mathlib.Core.Logic.{_⊎_, inl, inr}
+use mathlib.Core.Logic.{inl}
 use Prim.Native.Nat.{ℕ, zero, suc, _≤_, _<_, Fin}
 use native.Mathlib.Omega.{arith}
-use borrow.Author.Tests.{eqb-true, leb-true, ne-eqb, not-true}
+use borrow.Author.Tests.{eqb-true, leb-true, ne-eqb}
 use lib.Dec.{eqb, leb}
 use Rattle.base.specs.Test.{and-both}
-use Rattle.memory.specs.Bit.{bit}
 use Rattle.layout.specs.Space.{changed}
 use Rattle.plans.specs.Walk.{Every}
 use Rattle.operations.specs.Slot.{Allowed}
 use Rattle.protocol.specs.Machine as P
-use Rattle.client.specs.Layout.{ClientWord, phase, op-number, participants, prepared, applied}
+use Rattle.client.specs.Layout.{ClientWord, phase, op-number, prepared, applied}
 use Rattle.client.specs.Fits.{client-fits}
-use Rattle.client.specs.Run as Run
 use Rattle.client.specs.Work as Work
 use Rattle.client.specs.Work.{Worked, walked, worked}
 use Rattle.steps.specs.declared.sizes.Sizes.{Sizes}
 use Rattle.steps.specs.declared.step.Step.{Step}
-use Rattle.steps.specs.declared.step.Kind.the-variants.{Work, Prepare, Apply}
-use Rattle.steps.specs.Whole.{Address, whole}
+use Rattle.steps.specs.declared.step.Kind.the-variants.{Work}
+use Rattle.steps.specs.Whole.{Address}
 use Rattle.steps.specs.Refusal.{Row, first, kind-of, fits, of-step, refusal}
 use Rattle.steps.specs.Passed.{Passed, passed}
 use Rattle.steps.specs.Steps as Steps
 use Rattle.steps.specs.Stores.{client-of}
 use Rattle.demand.specs.Demand.{Words}
 use Rattle.demand.specs.Ledger.{Ledger}
+use Rattle.demand.specs.Settled.{unfinished}
 use Rattle.demand.specs.Shows.{T}
 use Rattle.demand.specs.Store.{sizes}
-use Rattle.demand.specs.Turns.{store, Good}
+use Rattle.demand.specs.Turns.{one-of, store, Good}
 use Rattle.demand.specs.Undecided.{either}
-use Rattle.ranges.specs.Sound.{Part-sound, Sound-store}
+use Rattle.ranges.specs.Sound.{Sound-store}
 use Rattle.ranges.specs.Sets.{part-fits}
-use Rattle.ranges.specs.Undecided.{accepted, Kept, if-kept, one-kept, begin-kept, give-kept, commit-kept, abort-kept, loss-kept}
+use Rattle.ranges.specs.Whole.{accepted, Kept, if-kept}
+use Rattle.ranges.specs.Undecided.{begin-kept, give-kept, commit-kept, abort-kept, loss-kept}
 use Rattle.ranges.specs.Applying.{apply-kept}
 use Rattle.ranges.specs.Preparing.{prepare-kept}
 use Rattle.ranges.specs.Hand.{never-refused}
@@ -61,7 +61,7 @@ module _ (k j slots : ℕ) (al : Allowed (sizes k j slots)) (few : suc j ≤ 16)
   z = store k j slots
 
   abbrev Fine : Steps.Did → Type 0
-  Fine = Kept k j slots al few m S
+  Fine = Kept k j slots m
 
   -- refused by another number: nothing is stored
   refused-kept : (x : ℕ) → x ≤ 9 → Fine (Steps.refuse x)
@@ -85,37 +85,29 @@ module _ (k j slots : ℕ) (al : Allowed (sizes k j slots)) (few : suc j ≤ 16)
         go : (w : Worked) → worked (sizes k j slots) u ≡ w → Fine (Steps.after-walk z m (n .client) (walked (sizes k j slots) u .used) w)
         go Work.refused e = absurd (never-refused k j slots al u (S .parts c) (M .copy c) (G .shown .clients c .copies) (M .slots c) (G .shown .clients c .slot) e)
         go (Work.fetches a) e = fetch-kept k j slots al few m S L M (G .shown) c now a e
-        go (Work.aborted y) e = abort-kept k j slots al few m S c L M (G .shown) (inl now) y (walked (sizes k j slots) u .used)
+        go (Work.aborted y) e = abort-kept k j slots m S c al few L M (G .shown) (inl now) y (walked (sizes k j slots) u .used)
         go (Work.answers a w) e = answer-kept k j slots al few m S L M (G .shown) c now a w e
-
-    -- at a server
-    unfinished : (done : ClientWord) (p : ℕ) → (eqb (u phase) p && (bit (u participants) (n .server) && not (bit (u done) (n .server)))) ≡ true
-        → (u phase ≡ p) × (bit (u participants) (n .server) ≡ true) × (bit (u done) (n .server) ≡ false)
-    unfinished done p f =
-        let a = and-both (eqb (u phase) p) (bit (u participants) (n .server) && not (bit (u done) (n .server))) f in
-        let b = and-both (bit (u participants) (n .server)) (not (bit (u done) (n .server))) (a .1) in
-        (eqb-true (u phase) p (a .0), b .0, not-true (bit (u done) (n .server)) (b .1))
 
     kind-kept : Passed z n m → Fine (Steps.by-kind z m (n .client) n (kind-of (n .kind)))
     unfolding kind-of fits
     kind-kept p = go (n .kind) refl (p .known-kind) (p .fitting)
       where
         go : (x : ℕ) → n .kind ≡ x → x ≤ 7 → fits u (n .server) (kind-of x) ≡ true → Fine (Steps.by-kind z m (n .client) n (kind-of x))
-        go zero e l f = begin-kept k j slots al few m S c (eqb-true (u phase) 0 f)
+        go zero e l f = begin-kept k j slots m S c (eqb-true (u phase) 0 f)
         go (suc zero) e l f =
-            give-kept k j slots al few m S c n (eqb-true (u phase) 1 (and-both (eqb (u phase) 1) (eqb (u op-number) 0) f .0)) (p .known-op e) (words .key) (words .value) (words .server)
-            (λ o. (p .known-node e o, p .known-server e o))
+            give-kept k j slots m S c n (eqb-true (u phase) 1 (and-both (eqb (u phase) 1) (eqb (u op-number) 0) f .0)) (p .known-op e)
+            (words .key) (words .value) (words .server) (λ o. (p .known-node e o, p .known-server e o))
         go (suc (suc zero)) e l f = work-kept f
-        go (suc (suc (suc zero))) e l f = commit-kept k j slots al few m S c (eqb-true (u phase) 1 (and-both (eqb (u phase) 1) (eqb (u op-number) 0) f .0))
+        go (suc (suc (suc zero))) e l f = commit-kept k j slots m S c (eqb-true (u phase) 1 (and-both (eqb (u phase) 1) (eqb (u op-number) 0) f .0))
         go (suc (suc (suc (suc zero)))) e l f =
-            let q = unfinished prepared 2 f in
+            let q = unfinished u (n .server) prepared 2 f in
             prepare-kept k j slots al few m S L M G c (n .server, p .known-participant (omega (arith, e)) (omega (arith, e))) (q .0) (q .1) (q .2)
         go (suc (suc (suc (suc (suc zero))))) e l f =
-            let q = unfinished applied 3 f in
+            let q = unfinished u (n .server) applied 3 f in
             apply-kept k j slots al few m S L M G c (n .server, p .known-participant (omega (arith, e)) (omega (arith, e))) (q .0) (q .2)
         go (suc (suc (suc (suc (suc (suc zero)))))) e l f =
             let b = and-both (leb 1 (u phase)) (leb (u phase) 2) f in
-            abort-kept k j slots al few m S c L M (G .shown) (either (u phase) (leb-true 1 (u phase) (b .0)) (leb-true (u phase) 2 (b .1))) 6 []
+            abort-kept k j slots m S c al few L M (G .shown) (either (u phase) (leb-true 1 (u phase) (b .0)) (leb-true (u phase) 2 (b .1))) 6 []
         go (suc (suc (suc (suc (suc (suc (suc zero))))))) e l f = loss-kept k j slots al few m S c L M (G .shown) (S .parts c .fields .within 0 (omega arith))
         go (suc (suc (suc (suc (suc (suc (suc (suc x)))))))) e l f = absurd (omega arith)
 
@@ -123,8 +115,9 @@ module _ (k j slots : ℕ) (al : Allowed (sizes k j slots)) (few : suc j ≤ 16)
   pub step-kept : Fine (Steps.step z n m)
   unfolding Steps.step
   step-kept =
-      one-kept k j slots al few m S (eqb (refusal z n m) 0) _ _
+      one-of Fine (eqb (refusal z n m) 0) _ _
       (λ q. let p = passed z n m (eqb-true (refusal z n m) 0 q) in
-      if-kept k j slots al few m S (client-fits (sizes k j slots) (client-of m (n .client))) _ (part-fits (sizes k j slots) (client-of m (n .client)) (S .parts (n .client, p .known-client)))
+      if-kept k j slots m (client-fits (sizes k j slots) (client-of m (n .client))) _
+      (part-fits (sizes k j slots) (client-of m (n .client)) (S .parts (n .client, p .known-client)))
       (kind-kept (p .known-client) p))
       (λ _. refused-kept (refusal z n m) (refusal-low z n m))

@@ -10,16 +10,13 @@ use lib.Dec.{eqb}
 use Rattle.base.specs.Test.{not-both}
 use Rattle.memory.specs.Bit.{bit, putBit, bit-put-same, bit-put-other}
 use Rattle.layout.specs.Space.{Put, changed}
-use Rattle.layout.specs.Step.{changed-append}
 use Rattle.layout.specs.Part.{over}
 use Rattle.nodes.specs.declared.node.Node.{Node}
 use Rattle.nodes.specs.declared.found.Found.{Found}
 use Rattle.nodes.specs.declared.found.Found.the-variants.{At, Absent}
 use Rattle.operations.specs.Object.{Obj}
 use Rattle.operations.specs.Slot.{Allowed}
-use Rattle.protocol.specs.State.{is-decided}
 use Rattle.protocol.specs.Machine as P
-use Rattle.protocol.specs.Claim.{unapplied}
 use Rattle.server.specs.declared.place.Place.{Place}
 use Rattle.server.specs.Object.{object-of, lock-of}
 use Rattle.server.specs.Layout.{places}
@@ -43,14 +40,16 @@ use Rattle.steps.specs.Whole.{Address, server, client, whole}
 use Rattle.steps.specs.Stores.{client-of, server-of, client-changed, client-else, client-servers}
 use Rattle.steps.specs.Uses as U
 use Rattle.steps.specs.Judge.{lowest}
-use Rattle.steps.specs.Steps.{lock-each, preparing, deciding-stores}
-use Rattle.demand.specs.Store.{sizes, meaning}
+use Rattle.steps.specs.Steps.{lock-each, preparing}
+use Rattle.demand.specs.Store.{sizes}
 use Rattle.demand.specs.Frame.{last, read-after, Only, only-then, only-mono, only-other}
 use Rattle.demand.specs.Ledger.{Ledger}
 use Rattle.demand.specs.Numbers.{object-number}
-use Rattle.demand.specs.Shows.{phase-of, T, In-store, lock-kept, Slot-shown, Related}
+use Rattle.demand.specs.Shows.{T, In-store, lock-kept, Slot-shown, Related}
 use Rattle.demand.specs.Slots.{Same-sets, number-frame, same-read, same-written, record-frame}
+use Rattle.demand.specs.CopyWords.{sets-refl}
 use Rattle.demand.specs.Course.{else-same}
+use Rattle.demand.specs.Decides.{nothing-applied}
 use Rattle.demand.specs.Dropped.{Mark, Drop, only-all}
 use Rattle.demand.specs.Held.{absent≢at, at-same, found-at}
 use Rattle.demand.specs.Locking.{after, here, lk, lock-place, none-swept, one-swept, not-swept}
@@ -67,28 +66,28 @@ pub record Goes-on (s : ℕ) (u v : ClientWord → ℕ) : Type 0 where
   pub still-unapplied : bit (u applied) s ≡ false → bit (v applied) s ≡ false
   pub sets : Same-sets u v
 
-pub goes-on-same : (s : ℕ) (u v : ClientWord → ℕ) → v ≡ u → Goes-on s u v
+goes-on-same : (s : ℕ) (u v : ClientWord → ℕ) → v ≡ u → Goes-on s u v
 goes-on-same s u v e = subst (Goes-on s u) (sym e) (record {
   after-commit = λ h. h;
   same-participants = refl;
   still-prepared = λ h. h;
   still-unapplied = λ h. h;
-  sets = record { reads = refl; writes = refl; items-read = λ i n. refl; items-written = λ i n. refl };
+  sets = sets-refl u;
 })
 
 -- the words that tell whether a client goes on
-abbrev pub telling : ClientWord → Bool
+abbrev telling : ClientWord → Bool
 telling (field i) = eqb i 0 || eqb i 5 || eqb i 6 || eqb i 7 || eqb i 10 || eqb i 11
 telling (item Reads i n) = true
 telling (item Writes i n) = true
 telling (item Copies i n) = false
 telling (vector-word s n) = false
 
-abbrev pub Silent : ClientWord → ℕ → Type 0
+abbrev Silent : ClientWord → ℕ → Type 0
 Silent a v = telling a ≡ false
 
 -- stores at none of them
-pub goes-on-silent : (s : ℕ) (u : ClientWord → ℕ) (ps : List (Put ClientWord)) → Only client-words Silent ps → Goes-on s u (changed client-words u ps)
+goes-on-silent : (s : ℕ) (u : ClientWord → ℕ) (ps : List (Put ClientWord)) → Only client-words Silent ps → Goes-on s u (changed client-words u ps)
 goes-on-silent s u ps h = record {
   after-commit = λ q. subst (λ (n : ℕ). (2 ≤ n) × (n ≤ 3)) (sym (at phase refl)) q;
   same-participants = at participants refl;
@@ -106,7 +105,7 @@ goes-on-silent s u ps h = record {
     at a e = only-other client-words Silent a (λ x v c q. not-both e (ap telling q ∙ c)) ps u h
 
 -- "A decided transaction of a lost client is still applied"
-pub goes-on-lost : (s : ℕ) (u : ClientWord → ℕ) → Goes-on s u (changed client-words u (lose u))
+goes-on-lost : (s : ℕ) (u : ClientWord → ℕ) → Goes-on s u (changed client-words u (lose u))
 unfolding lose put-field Only Mark
 goes-on-lost s u =
     goes-on-silent s u (lose u)
@@ -121,7 +120,7 @@ goes-on-lost s u =
     drop-silent (vector-word s n) v h = refl
 
 -- the decision
-pub goes-on-decided : (s : ℕ) (u : ClientWord → ℕ) → Goes-on s u (changed client-words u (decided u))
+goes-on-decided : (s : ℕ) (u : ClientWord → ℕ) → Goes-on s u (changed client-words u (decided u))
 unfolding decided Only
 goes-on-decided s u = record {
   after-commit = λ _. subst (λ (n : ℕ). (2 ≤ n) × (n ≤ 3)) (sym (at phase)) (omega arith, omega arith);
@@ -137,7 +136,7 @@ goes-on-decided s u = record {
 -- ---- those that a lock's word names
 module _ (z : Sizes) (s : ℕ) where
   -- client d holds the lock of x as its writer, or as a reader
-  abbrev pub Held : (Address → ℕ) → Bool → ℕ → ℕ → Type 0
+  abbrev Held : (Address → ℕ) → Bool → ℕ → ℕ → Type 0
   Held m role d x = Holds z m s d x × (role ≡ true → has (client-of m d) Writes x ≡ true)
 
   pub held-by : (m : Address → ℕ) (x w : ℕ) → Lock-sound z m s x w → (role : Bool) (d : ℕ) → d < z .clients → names role d w ≡ true → Held m role d x
@@ -177,15 +176,15 @@ module _ (z : Sizes) (s : ℕ) where
           becomes = b t;
         }
 
-    pub item-same : (i : ℕ) → U.read-item v₀ i ≡ U.read-item u₀ i
+    item-same : (i : ℕ) → U.read-item v₀ i ≡ U.read-item u₀ i
     item-same i =
         item-as (number-at v₀ Reads i) (record-at v₀ Reads i)
         ∙ ap₂ (U.item-of u₀) (number-frame 0 0 0 u₀ v₀ (G .sets) Reads i (G .sets .items-read i 0)) (record-frame u₀ v₀ Reads i (G .sets .items-read i))
 
-    pub locked-same : (i : ℕ) → U.locked-at (lowest z m′ d) s (U.read-item v₀ i) ≡ U.locked-at (lowest z m d) s (U.read-item u₀ i)
+    locked-same : (i : ℕ) → U.locked-at (lowest z m′ d) s (U.read-item v₀ i) ≡ U.locked-at (lowest z m d) s (U.read-item u₀ i)
     locked-same i = ap₂ (λ (w : ℕ) (i : U.Item). U.locked-at (lowest-of (z .servers) w) s i) (G .same-participants) (item-same i)
 
-    pub goes-on-held : (role : Bool) (x : ℕ) → Held m role d x → Held m′ role d x
+    goes-on-held : (role : Bool) (x : ℕ) → Held m role d x → Held m′ role d x
     unfolding has
     goes-on-held role x h = (
       record {
@@ -214,7 +213,7 @@ module _ (k j slots : ℕ) (m m′ : Address → ℕ) (c : ℕ) (others : (d : �
 
   -- c, where it holds a lock, goes on
   module _ (own : (x : ℕ) → Holds zz m (s .0) c x → Goes-on (s .0) (client-of m c) (client-of m′ c)) where
-    pub each-held : (role : Bool) (d x : ℕ) → Held zz (s .0) m role d x → Held zz (s .0) m′ role d x
+    each-held : (role : Bool) (d x : ℕ) → Held zz (s .0) m role d x → Held zz (s .0) m′ role d x
     each-held role d x h = go (ℕ-discrete d c)
       where
         mine : Held zz (s .0) m role c x → Held zz (s .0) m′ role c x
@@ -259,13 +258,13 @@ module _ (k j slots : ℕ) (m : Address → ℕ) (c : ℕ) (S : (s : Fin (suc k)
 module _ (k j slots : ℕ) (al : Allowed (sizes k j slots)) (u : ClientWord → ℕ) (fit : client-fits (sizes k j slots) u ≡ true) (y : P.Slot (T k j slots))
     (h : Slot-shown k j slots u y) (s : Fin (suc k)) (low : ℕ) (el : y .lowest .0 ≡ low) (p : Place → ℕ) (F : ℕ → ℕ → ℕ)
     (o : Obj) (hi : In-store k j slots o) (kept : lock-kept k j slots p s o ≡ true) where
-  abbrev pub Here : ℕ → Type 0
+  abbrev Here : ℕ → Type 0
   Here i = (find u Reads (number o) ≡ At i) × (U.locked-at low (s .0) (U.read-item u i) ≡ true)
 
-  abbrev pub swept : ℕ
+  abbrev swept : ℕ
   swept = after (here k j slots al u fit y h s low el p) (lk k j slots al u fit y h s low el p) F p (count u Reads) (lock-of (object-of (number o)))
 
-  abbrev pub old : ℕ
+  abbrev old : ℕ
   old = p (lock-of (object-of (number o)))
 
   abbrev pub Swept : ℕ → Type 0
@@ -355,11 +354,6 @@ module _ (k j slots : ℕ) (al : Allowed (sizes k j slots)) (few : suc j ≤ 16)
   goes-on : (t : ℕ) → Goes-on t u (client-of m′ (c .0))
   goes-on t = subst (Goes-on t u) (sym (both-client m (s .0) (c .0) ps qs)) (own-on t)
 
-  -- nothing is applied before the decision
-  nothing-applied : bit (u applied) (s .0) ≡ false
-  unfolding phase-of
-  nothing-applied = sym (shown .applied-as s) ∙ unapplied (T k j slots) (meaning k j slots al) (R .reached) c (ap is-decided (sym (shown .phase-as) ∙ ap phase-of now)) s
-
   -- what c has locked it holds now
   now-held : (o : Obj) (i : ℕ) (role : Bool) → find u Reads (number o) ≡ At i → U.locked-at low (s .0) (U.read-item u i) ≡ true
       → (role ≡ true → has u Writes (number o) ≡ true) → Held z (s .0) m′ role (c .0) (number o)
@@ -371,7 +365,7 @@ module _ (k j slots : ℕ) (al : Allowed (sizes k j slots)) (few : suc j ≤ 16)
           after-commit = g .after-commit (omega (arith, now), omega (arith, now));
           takes-part = ap (λ (x : ℕ). bit x (s .0)) (g .same-participants) ∙ part;
           has-prepared = ap (λ (x : ℕ). bit x (s .0)) (noted-now ∙ now-prepared) ∙ bit-put-same true (u prepared) (s .0);
-          not-applied = g .still-unapplied nothing-applied;
+          not-applied = g .still-unapplied (nothing-applied k j slots al m L M c R now s);
           place = i;
           found = same-read u (client-of m′ (c .0)) 0 0 0 (g .sets) (number o) ∙ e;
           locks = locked-same z (s .0) m m′ (c .0) g i ∙ b;
@@ -385,6 +379,13 @@ module _ (k j slots : ℕ) (al : Allowed (sizes k j slots)) (few : suc j ≤ 16)
   swept-is : changed places p ps ≡ after (here k j slots al u fit y shown s low el p) (lk k j slots al u fit y shown s low el p) F p (count u Reads)
   unfolding F lock-step count number-at U.item-of
   swept-is = refl
+
+  -- those whom a lock's word named before hold it still
+  before : (o : Obj) → In-store k j slots o → lock-kept k j slots p s o ≡ true → (role : Bool) (d : ℕ) → d < suc j
+      → names role d (p (lock-of (object-of (number o)))) ≡ true → Held z (s .0) m′ role d (number o)
+  before o hi kept role d l e =
+      each-held k j slots m m′ (c .0) (both-other m (s .0) (c .0) ps qs) s (λ _ _. goes-on (s .0)) role d (number o)
+      (held-by z (s .0) m (number o) (p (lock-of (object-of (number o)))) (S s o hi kept) role d l e)
 
   at-server : Locks-sound k j slots m′ s
   unfolding F U.item-of
@@ -410,14 +411,8 @@ module _ (k j slots : ℕ) (al : Allowed (sizes k j slots)) (few : suc j ≤ 16)
           subst (λ (x : ℕ). in-range (suc j) x ≡ true) (sym (q .2)) (locked-range (suc j) w few (S s o hi kept .range) (c .0) (c .1) (U.read-item u (q .0) .written))
       in-range-now (inr q) = subst (λ (x : ℕ). in-range (suc j) x ≡ true) (sym (q .1)) (S s o hi kept .range)
 
-      -- whom the word named before
-      before : (role : Bool) (d : ℕ) → d < suc j → names role d w ≡ true → Held z (s .0) m′ role d (number o)
-      before role d l e =
-          each-held k j slots m m′ (c .0) (both-other m (s .0) (c .0) ps qs) s (λ _ _. goes-on (s .0)) role d (number o)
-          (held-by z (s .0) m (number o) w (S s o hi kept) role d l e)
-
       named : Now → (role : Bool) (d : ℕ) → d < suc j → names role d w′ ≡ true → Held z (s .0) m′ role d (number o)
-      named (inr q) role d l e = before role d l (subst (λ (x : ℕ). names role d x ≡ true) (q .1) e)
+      named (inr q) role d l e = before o hi kept role d l (subst (λ (x : ℕ). names role d x ≡ true) (q .1) e)
       named (inl q) role d l e =
           go (locked-names (c .0) w (omega (arith, few, c .1)) (U.read-item u (q .0) .written) role d (subst (λ (x : ℕ). names role d x ≡ true) (q .2) e))
         where
@@ -425,7 +420,7 @@ module _ (k j slots : ℕ) (al : Allowed (sizes k j slots)) (few : suc j ≤ 16)
           is-o = found-at u Reads (number o) (q .0) (q .1 .0) .1
 
           go : ((d ≡ c .0) × (role ≡ true → U.read-item u (q .0) .written ≡ true)) ⊎ (names role d w ≡ true) → Held z (s .0) m′ role d (number o)
-          go (inr b) = before role d l b
+          go (inr b) = before o hi kept role d l b
           go (inl b) =
               subst (λ (x : ℕ). Held z (s .0) m′ role x (number o)) (sym (b .0))
               (now-held o (q .0) role (q .1 .0) (q .1 .1) (λ r. ap (has u Writes) (sym is-o) ∙ b .1 r))
@@ -438,10 +433,3 @@ module _ (k j slots : ℕ) (al : Allowed (sizes k j slots)) (few : suc j ≤ 16)
       go (no n) =
           unstored k j slots m m′ (c .0) (both-other m (s .0) (c .0) ps qs) t (λ _ _. goes-on (t .0))
           (both-else m (s .0) (c .0) ps qs (t .0) (λ q. n (Fin·val-path q))) (S t)
-
-  -- "The last prepare is the decision"
-  pub deciding-locks : (t : Fin (suc k)) → Locks-sound k j slots (changed whole m (deciding-stores (store k j slots) m (c .0) (s .0))) t
-  unfolding decided
-  deciding-locks t =
-      subst (λ (f : Address → ℕ). Locks-sound k j slots f t) (sym (changed-append whole (preparing z m (c .0) (s .0)) (over (client (c .0)) (decided u)) m))
-      (decided-locks k j slots m′ (c .0) prepare-locks t)

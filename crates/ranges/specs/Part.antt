@@ -2,12 +2,12 @@
 use mathlib.Core.Path.{_≡_, refl, sym, subst}
 use mathlib.Core.Bool.{Bool, true, false, cond}
 use mathlib.Core.List.{List, [], _∷_}
-use Prim.Native.Nat.{ℕ, suc, _+_, _≤_, _<_}
+use Prim.Native.Nat.{ℕ, _+_, _≤_, _<_}
 use native.Mathlib.Omega.{arith}
-use borrow.Author.Tests.{leb-true, ltb-true}
-use lib.Dec.{eqb, leb, ltb}
+use borrow.Author.Tests.{ltb-true}
+use lib.Dec.{eqb, ltb}
 use Rattle.layout.specs.Space as Space
-use Rattle.layout.specs.Space.{Put, put, changed}
+use Rattle.layout.specs.Space.{Put, put, puts, changed}
 use Rattle.layout.specs.Step.{andThen, changed-append}
 use Rattle.plans.specs.Walk.{Every}
 use Rattle.nodes.specs.declared.node.Node.{Node}
@@ -20,26 +20,27 @@ use Rattle.operations.specs.Slot as S
 use Rattle.client.specs.declared.part.Set.the-variants as set
 use Rattle.client.specs.Layout.{ClientWord, client-words, item, op-number, prepared, applied, reads-count, writes-count}
 use Rattle.client.specs.Record.{number-in-store, in-store, single}
+use Rattle.client.specs.PartLaws.{count-limit}
 use Rattle.client.specs.Sets.{count, find}
-use Rattle.client.specs.Have.{is-found, copied}
+use Rattle.client.specs.Have.{copied}
 use Rattle.client.specs.Lent.{Entry}
-use Rattle.client.specs.Part.{Step, nothing, put-field, put-fields, put-item}
+use Rattle.client.specs.Part.{nothing, put-field, put-fields, put-item, put-vector}
 use Rattle.client.specs.Participants.{committing}
 use Rattle.client.specs.Course.{noted, decided}
 use Rattle.client.specs.Copies.{copy-node, drop-all}
+use Rattle.client.specs.Drops.{drop-used}
 use Rattle.client.specs.Enter.{enter-read, written-behind, enter-at, enter-write, enter-entries}
-use Rattle.client.specs.Fetched.{fetched-meta, copy-inner, fetched-node, fetched-vector}
+use Rattle.client.specs.Fetched.{fetched-meta, copy-inner, mark-fetched, fetched-node, fetched-vector}
 use Rattle.client.specs.Answered.{used-enter, entered, enter-writes, answered}
 use Rattle.client.specs.Life.{reset, give, lose, abort}
-use Rattle.client.specs.Renew.{finish}
-use Rattle.demand.specs.Slots.{Same-sets}
-use Rattle.demand.specs.Frame.{Only, only-then}
-use Rattle.demand.specs.CopyWords.{of-copies, sets-stay, only-copy, only-fields}
-use Rattle.demand.specs.Dropped.{fewer, fewer-sets, only-all}
+use Rattle.client.specs.Renew as Rn
+use Rattle.demand.specs.Frame.{Only, only-then, then-keeps, read-after}
+use Rattle.demand.specs.CopyWords.{sets-stay, sets-refl, only-copy, only-fields, only-vector}
+use Rattle.demand.specs.Dropped.{Drop, fewer, fewer-sets, only-used, only-all}
 use Rattle.demand.specs.Latest.{All-whole}
 use Rattle.demand.specs.Entered.{Read-entered}
-use Rattle.demand.specs.Used.{after-used, copied-sized}
-use Rattle.ranges.specs.Sound.{Sound, Node-sound, Item-sound, Fields-sound, Copies-sound, Part-sound}
+use Rattle.demand.specs.Used.{after-used}
+use Rattle.ranges.specs.Sound.{Sound, Node-sound, Item-sound, Fields-sound, Part-sound}
 use Rattle.ranges.specs.Sets.{sets-frame, no-sets, read-sound, read-or-not, copied-sound, May-write, All-copied, used-keeps}
 use Rattle.ranges.specs.Entries.{written-sound}
 use Rattle.ranges.specs.Fields as F
@@ -47,25 +48,20 @@ use Rattle.ranges.specs.Copies as C
 use Rattle.ranges.specs.Renewing as R
 
 -- an object that enters the read set
-pub entered-part : (z : S.Sizes) (u v : ClientWord → ℕ) (x : ℕ) (r : Node) → Read-entered u v x r → Item-sound z x r → Part-sound z u → Part-sound z v
+entered-part : (z : S.Sizes) (u v : ClientWord → ℕ) (x : ℕ) (r : Node) → Read-entered u v x r → Item-sound z x r → Part-sound z u → Part-sound z v
 unfolding count
 entered-part z u v x r E I P = record {
-  fields = F.count-sound z u v set.Reads 10 (omega arith) (E .other) (omega (arith, E .counted, E .after, within)) (P .fields);
+  fields = F.count-sound z u v set.Reads 10 (omega arith) (E .other) (omega (arith, E .counted, E .after, count-limit v set.Reads)) (P .fields);
   sets = read-sound z u v x r E I (P .sets);
   copies = C.copies-read z u v (P .copies) (E .other);
 }
-  where
-    within : count v set.Reads ≤ 96
-    within = go (leb (v reads-count) 96) refl
-      where
-        go : (b : Bool) → leb (v reads-count) 96 ≡ b → cond b (v reads-count) 96 ≤ 96
-        go true e = leb-true (v reads-count) 96 e
-        go false e = omega arith
 
 module _ (z : S.Sizes) (u : ClientWord → ℕ) (P : Part-sound z u) where
   -- stores in the fields before the counts
-  few-fields : (ps : List (Put ClientWord)) → Space.Only client-words C.before-counts ps → Fields-sound z (changed client-words u ps) → Part-sound z (changed client-words u ps)
-  few-fields ps h f = record { fields = f; sets = sets-frame z u (changed client-words u ps) (C.fields-sets u ps h) (P .sets); copies = C.fields-copies u ps h z (P .copies) }
+  few-fields : (ps : List (Put ClientWord)) → Space.Only client-words C.before-counts ps → Fields-sound z (changed client-words u ps)
+      → Part-sound z (changed client-words u ps)
+  few-fields ps h f =
+      record { fields = f; sets = sets-frame z u (changed client-words u ps) (C.fields-sets u ps h) (P .sets); copies = C.fields-copies u ps h z (P .copies) }
 
   pub give-part : (op key value server : ℕ) → op ≤ 6 → key < H → value < H → server < H → (op ≡ 6 → (in-store z key ≡ true) × (server < z .servers))
       → Part-sound z (changed client-words u (give op key value server u))
@@ -87,98 +83,129 @@ module _ (z : S.Sizes) (u : ClientWord → ℕ) (P : Part-sound z u) where
   answered-part : Part-sound z (changed client-words u (put op-number 0 ∷ []))
   answered-part = few-fields (put op-number 0 ∷ []) C.only-answered (F.answered-fields z u (P .fields))
 
-  -- ---- the end of a transaction, and copies dropped
-  ended : (p : ℕ) (v : ClientWord → ℕ) → R.Ended p v → Fields-sound z v → Copies-sound z v → Part-sound z v
-  ended p v e f c = record { fields = f; sets = no-sets z v (e .reads-none) (e .writes-none); copies = c }
-
+  -- ---- a transaction begins anew, or ends: both sets are empty
   pub reset-part : (p : ℕ) → p ≤ 1 → Part-sound z (changed client-words u (reset p u))
-  reset-part p l = ended p (changed client-words u (reset p u)) (R.reset-ended u p) (F.reset-fields z u p l (P .fields)) (C.reset-copies z u (P .copies) p)
+  unfolding reset put-field put-fields puts andThen
+  reset-part p l = record {
+    fields = F.reset-fields z u p l (P .fields);
+    sets = no-sets z (changed client-words u (reset p u)) (read-after client-words (reset p u) u reads-count) (read-after client-words (reset p u) u writes-count);
+    copies = C.reset-copies z u (P .copies) p;
+  }
 
-  pub abort-part : (us : List ℕ) → Part-sound z (changed client-words u (abort us u))
-  abort-part us = ended 0 (changed client-words u (abort us u)) (R.then-ended _ 0 u) (F.abort-fields z u (P .fields) us) (C.abort-copies u z (P .copies) us)
+  -- ---- copies are dropped
+  dropped-part : (ps : List (Put ClientWord)) → Only client-words Drop ps → Part-sound z (changed client-words u ps)
+  dropped-part ps h = record {
+    fields = F.dropped-fields z u ps h (P .fields);
+    sets = sets-frame z u (changed client-words u ps) (fewer-sets u (changed client-words u ps) (fewer ps u h)) (P .sets);
+    copies = C.dropped-copies z u (P .copies) ps h;
+  }
 
-  pub finish-part : Part-sound z (changed client-words u (finish u))
-  finish-part =
-      ended 0 (changed client-words u (finish u)) (R.finish-ended u) (F.finish-fields z u (P .fields))
-      (R.finish-copies z u (P .sets) u (record { reads = refl; writes = refl; items-read = λ i n. refl; items-written = λ i n. refl }) (P .copies))
-
-  pub lose-part : Part-sound z (changed client-words u (lose u))
-  lose-part = record { fields = F.lose-fields z u (P .fields); sets = sets-frame z u (changed client-words u (lose u)) (C.lose-sets u) (P .sets); copies = C.lose-copies u z (P .copies) }
-
-  pub forget-part : Part-sound z (changed client-words u (drop-all u))
-  forget-part = record { fields = F.all-dropped-fields z u (P .fields); sets = sets-frame z u (changed client-words u (drop-all u)) (fewer-sets u (changed client-words u (drop-all u)) (fewer (drop-all u) u (only-all u))) (P .sets); copies = C.all-dropped z u (P .copies) }
+  lost-part : Part-sound z (changed client-words u (put-field 9 1 u))
+  lost-part = few-fields (put-field 9 1 u) (C.only-lost u) (F.lost-fields z u (P .fields))
 
   -- ---- a fetch: the copies in use enter the read set, then the object
   pub used-part : (us : List ℕ) → All-copied z u us → Part-sound z (after-used u us)
-  used-part us h = used-keeps u _ (Part-sound z) (λ x q m v same E. entered-part z m v x (copied u x .node) E (record { inside = q .0; sound = copied-sound z u (P .copies) x (q .1) })) us h P .0
+  used-part us h =
+      used-keeps u _ (Part-sound z)
+      (λ x q m v same E. entered-part z m v x (copied u x .node) E (record { inside = q .0; sound = copied-sound z u (P .copies) x (q .1) })) us h P .0
 
   read-part : (x : ℕ) (r : Node) → Sized r → Item-sound z x r → Part-sound z (changed client-words u (enter-read x r u))
   read-part x r w I = read-or-not u x r w (Part-sound z) (λ v E. entered-part z u v x r E I P) P
 
+  copied-part : (x : ℕ) (r : Node) → Sized r → Node-sound z r → Part-sound z (changed client-words u (copy-node x r u))
+  copied-part x r w s = record {
+    fields = F.copied-fields z u (P .fields) x r;
+    sets = sets-frame z u _ (sets-stay (copy-node x r u) u (only-copy x r u)) (P .sets);
+    copies = C.copy-node-sound z u (P .copies) x r w s;
+  }
+
 -- the writes of an operation keep their count within its limit
-item-within : (z : S.Sizes) (i x : ℕ) (r : Node) (u : ClientWord → ℕ) → Only client-words (F.Within-store z) (put-item set.Writes i x r u)
-unfolding put-item F.Within-store
-item-within z i x r u = F.words-within z (item set.Writes i) _ (λ q v. tt)
+module _ (z : S.Sizes) where
+  abbrev Fine : List (Put ClientWord) → Type 0
+  Fine = Only client-words (F.Within-store z)
 
-entries-within : (z : S.Sizes) (l : List Entry) (u : ClientWord → ℕ) → Only client-words (F.Within-store z) (enter-entries l u)
-unfolding enter-entries enter-write nothing put-field Only F.Within-store
-entries-within z [] u = tt
-entries-within z (e ∷ l) u = only-then client-words (F.Within-store z) (enter-write (e .0) (e .1)) (enter-entries l) u (one (find u set.Writes (e .0)) (ltb (count u set.Writes) 48) refl) (entries-within z l)
-  where
-    one : (f : Found) (b : Bool) → ltb (count u set.Writes) 48 ≡ b → Only client-words (F.Within-store z) (enter-at (e .0) (e .1) (count u set.Writes) f u)
-    one (At i) b h = item-within z i (e .0) (e .1) u
-    one Absent true h = subst (λ (t : Bool). Only client-words (F.Within-store z) (cond t (written-behind (count u set.Writes) (e .0) (e .1)) nothing u)) (sym h)
-        (only-then client-words (F.Within-store z) (put-item set.Writes (count u set.Writes) (e .0) (e .1)) (put-field 11 (count u set.Writes + 1)) u (item-within z (count u set.Writes) (e .0) (e .1) u)
-        (λ v. ((refl, λ _. omega (arith, ltb-true (count u set.Writes) 48 h)), tt)))
-    one Absent false h = subst (λ (t : Bool). Only client-words (F.Within-store z) (cond t (written-behind (count u set.Writes) (e .0) (e .1)) nothing u)) (sym h) tt
+  item-within : (i x : ℕ) (r : Node) (u : ClientWord → ℕ) → Fine (put-item set.Writes i x r u)
+  unfolding put-item F.Within-store
+  item-within i x r u = F.words-within z (item set.Writes i) _ (λ q v. tt)
 
--- what is handed over
+  entries-within : (l : List Entry) (u : ClientWord → ℕ) → Fine (enter-entries l u)
+  unfolding enter-entries enter-write nothing put-field Only F.Within-store
+  entries-within [] u = tt
+  entries-within (e ∷ l) u =
+      only-then client-words (F.Within-store z) (enter-write (e .0) (e .1)) (enter-entries l) u (one (find u set.Writes (e .0))) (entries-within l)
+    where
+      n : ℕ
+      n = count u set.Writes
+
+      behind : (b : Bool) → ltb n 48 ≡ b → Fine (cond b (written-behind n (e .0) (e .1)) nothing u)
+      behind true h =
+          only-then client-words (F.Within-store z) (put-item set.Writes n (e .0) (e .1)) (put-field 11 (n + 1)) u (item-within n (e .0) (e .1) u)
+          (λ v. ((refl, λ _. omega (arith, ltb-true n 48 h)), tt))
+      behind false h = tt
+
+      one : (f : Found) → Fine (enter-at (e .0) (e .1) n f u)
+      one (At i) = item-within i (e .0) (e .1) u
+      one Absent = behind (ltb n 48) refl
+
 module _ (z : S.Sizes) (u : ClientWord → ℕ) (P : Part-sound z u) where
-  after-then : (g h : Step) → Part-sound z (changed client-words (changed client-words u (g u)) (h (changed client-words u (g u)))) → Part-sound z (changed client-words u (andThen client-words g h u))
-  unfolding andThen
-  after-then g h Q = subst (Part-sound z) (sym (changed-append client-words (g u) (h (changed client-words u (g u))) u)) Q
+  -- a transaction ends: "An abort .. drops copies of all objects read"; "The last apply ends the transaction and renews its copies"
+  pub abort-part : (us : List ℕ) → Part-sound z (changed client-words u (abort us u))
+  abort-part us =
+      then-keeps client-words (Part-sound z) (drop-used us) (reset 0) u (dropped-part z u P (drop-used us u) (only-used us u)) (λ w Q. reset-part z w Q 0 (omega arith))
 
+  pub finish-part : Part-sound z (changed client-words u (Rn.finish u))
+  unfolding Rn.finish
+  finish-part =
+      let K = R.renewed z u (P .sets) u (record { copies = P .copies; same = sets-refl u }) in
+      let w = changed client-words u (Rn.renew-kept u) in
+      then-keeps client-words (Part-sound z) Rn.renew-kept (reset 0) u
+      (record { fields = F.renewed-fields z u (P .fields); sets = sets-frame z u w (K .same) (P .sets); copies = K .copies })
+      (λ w Q. reset-part z w Q 0 (omega arith))
+
+  -- "loss drops all copies"
+  pub forget-part : Part-sound z (changed client-words u (drop-all u))
+  forget-part = dropped-part z u P (drop-all u) (only-all u)
+
+  pub lose-part : Part-sound z (changed client-words u (lose u))
+  unfolding lose
+  lose-part = then-keeps client-words (Part-sound z) (put-field 9 1) drop-all u (lost-part z u P) (λ w Q. dropped-part z w Q (drop-all w) (only-all w))
+
+  -- ---- what is handed over
   pub meta-part : (root version : ℕ) → Sound z 0 (single version root) → Part-sound z (changed client-words u (fetched-meta root version u))
   unfolding fetched-meta number-in-store single
   meta-part root version s =
-      let r = single version root in
-      let v = changed client-words u (enter-read 0 r u) in
-      let Q = read-part z u P 0 r (one-sized version root) (record { inside = refl; sound = s }) in
-      after-then (enter-read 0 r) (put-fields 12 (1 ∷ root ∷ version ∷ []))
-      (record {
+      then-keeps client-words (Part-sound z) (enter-read 0 (single version root)) (put-fields 12 (1 ∷ root ∷ version ∷ [])) u
+      (read-part z u P 0 (single version root) (made-sized 0 0 version [] (root ∷ []) (omega arith) (omega arith)) (record { inside = refl; sound = s }))
+      (λ v Q. record {
         fields = F.meta-fields z v (Q .fields) root version;
         sets = sets-frame z v _ (sets-stay (put-fields 12 (1 ∷ root ∷ version ∷ []) v) v (only-fields 1 root version v)) (Q .sets);
         copies = C.meta-sound z v (Q .copies) root version s;
       })
-    where
-      one-sized : (v x : ℕ) → Sized (single v x)
-      one-sized v x = made-sized 0 0 v [] (x ∷ []) (omega arith) (omega arith)
 
   pub node-part : (n : ℕ) (r : Node) → Sized r → Item-sound z (1 + n) r → Node-sound z r → Part-sound z (changed client-words u (fetched-node n r u))
-  unfolding fetched-node Space.Only nothing copy-inner
+  unfolding fetched-node copy-inner nothing changed
   node-part n r w I s =
-      let v = changed client-words u (enter-read (1 + n) r u) in
-      let Q = read-part z u P (1 + n) r w I in
-      after-then (enter-read (1 + n) r) (copy-inner (1 + n) r)
-      (record {
-        fields = F.inner-fields z v (Q .fields) (1 + n) r;
-        sets = sets-frame z v _ (sets-stay (copy-inner (1 + n) r v) v (only-inner (eqb (r .kind) 2) v)) (Q .sets);
-        copies = C.copy-inner-sound z v (Q .copies) (1 + n) r w s;
-      })
+      then-keeps client-words (Part-sound z) (enter-read (1 + n) r) (copy-inner (1 + n) r) u (read-part z u P (1 + n) r w I) (λ v Q. inner v Q (eqb (r .kind) 2))
     where
-      only-inner : (b : Bool) (v : ClientWord → ℕ) → Space.Only client-words of-copies (cond b (copy-node (1 + n) r) nothing v)
-      only-inner true v = only-copy (1 + n) r v
-      only-inner false v = tt
+      -- "an inner node is copied too"
+      inner : (v : ClientWord → ℕ) → Part-sound z v → (b : Bool) → Part-sound z (changed client-words v (cond b (copy-node (1 + n) r) nothing v))
+      inner v Q true = copied-part z v Q (1 + n) r w s
+      inner v Q false = Q
 
   pub vector-part : (s : ℕ) (ws : List ℕ) → s < z .servers → Part-sound z (changed client-words u (fetched-vector s ws u))
-  vector-part s ws l = record {
-    fields = F.vector-fields z u (P .fields) s l ws;
-    sets = sets-frame z u _ (C.fetched-sets u s ws) (P .sets);
-    copies = C.fetched-copies u z (P .copies) s ws;
-  }
+  unfolding fetched-vector
+  vector-part s ws l =
+      then-keeps client-words (Part-sound z) (put-vector s ws) (mark-fetched s) u
+      (record {
+        fields = F.vector-fields z u (P .fields) s ws;
+        sets = sets-frame z u _ (sets-stay (put-vector s ws u) u (only-vector s ws u)) (P .sets);
+        copies = C.vector-sound z u (P .copies) s ws;
+      })
+      (λ v Q. few-fields z v Q (mark-fetched s v) (C.only-marked v s) (F.marked-fields z v s l (Q .fields)))
 
   -- ---- an answer: the writes enter the write set
-  pub writes-part : (l : List Entry) → Every (λ e. Item-sound z (e .0) (e .1)) l → All-whole l → Every (λ e. May-write u (e .0)) l → Part-sound z (changed client-words u (enter-entries l u))
+  writes-part : (l : List Entry) → Every (λ e. Item-sound z (e .0) (e .1)) l → All-whole l → Every (λ e. May-write u (e .0)) l
+      → Part-sound z (changed client-words u (enter-entries l u))
   writes-part l I w h =
       let W = written-sound z l I w u h (P .sets) in record {
         fields = F.stores-within z u (enter-entries l u) (entries-within z l u) (P .fields);
@@ -192,6 +219,6 @@ module _ (z : S.Sizes) (u : ClientWord → ℕ) (P : Part-sound z u) where
   unfolding answered enter-writes andThen
   answer-part us w c I h m =
       let v = after-used u us in
-      let Q = writes-part z v (used-part z u P us c) (entered w) I h m in
-      after-then z u P (used-enter us) (andThen client-words (enter-writes w) (λ x. put op-number 0 ∷ []))
-      (subst (Part-sound z) (sym (changed-append client-words (enter-writes w v) (put op-number 0 ∷ []) v)) (answered-part z _ Q))
+      subst (Part-sound z) (sym (changed-append client-words (used-enter us u) (andThen client-words (enter-writes w) (λ x. put op-number 0 ∷ []) v) u))
+      (then-keeps client-words (Part-sound z) (enter-writes w) (λ x. put op-number 0 ∷ []) v
+      (writes-part z v (used-part z u P us c) (entered w) I h m) (λ x Q. answered-part z x Q))

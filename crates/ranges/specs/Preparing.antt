@@ -32,7 +32,7 @@ use Rattle.demand.specs.Held.{every-below}
 use Rattle.demand.specs.Ledger.{Ledger, decides}
 use Rattle.demand.specs.Shows.{T}
 use Rattle.demand.specs.Store.{sizes}
-use Rattle.demand.specs.Turns.{store, Good}
+use Rattle.demand.specs.Turns.{one-of, store, Good}
 use Rattle.ranges.specs.Sound.{Sound-store}
 use Rattle.ranges.specs.Sets.{part-fits}
 use Rattle.ranges.specs.Part.{prepared-part, decided-part}
@@ -40,8 +40,8 @@ use Rattle.ranges.specs.Servers.{lock-each-sound}
 use Rattle.ranges.specs.Checks as Checks
 use Rattle.ranges.specs.Locks.{prepare-locks, decided-locks}
 use Rattle.ranges.specs.Held.{item-judged}
-use Rattle.ranges.specs.Whole.{client-sound, both-sound}
-use Rattle.ranges.specs.Undecided.{accepted, Kept, if-kept, one-kept, abort-kept}
+use Rattle.ranges.specs.Whole.{accepted, Kept, if-kept, client-sound, both-sound}
+use Rattle.ranges.specs.Undecided.{abort-kept}
 use Rattle.ranges.specs.Applying.{versions-judged, applied-kept}
 
 module _ (k j slots : ℕ) (al : Allowed (sizes k j slots)) (few : suc j ≤ 16) where
@@ -50,9 +50,13 @@ module _ (k j slots : ℕ) (al : Allowed (sizes k j slots)) (few : suc j ≤ 16)
 
   -- ---- PREPARE at the server s
   module _ (m : Address → ℕ) (S : Sound-store k j slots m) (L : Ledger) (M : P.Machine (T k j slots)) (G : Good k j slots m L M) (c : Fin (suc j)) (s : Fin (suc k))
-      (now : client-of m (c .0) phase ≡ 2) (takes-part : bit (client-of m (c .0) participants) (s .0) ≡ true) (new : bit (client-of m (c .0) prepared) (s .0) ≡ false) where
+      (now : client-of m (c .0) phase ≡ 2) (takes-part : bit (client-of m (c .0) participants) (s .0) ≡ true)
+      (new : bit (client-of m (c .0) prepared) (s .0) ≡ false) where
     abbrev u : ClientWord → ℕ
     u = client-of m (c .0)
+
+    abbrev low : ℕ
+    low = lowest z m (c .0)
 
     fit : client-fits (sizes k j slots) u ≡ true
     fit = part-fits (sizes k j slots) u (S .parts c)
@@ -60,18 +64,19 @@ module _ (k j slots : ℕ) (al : Allowed (sizes k j slots)) (few : suc j ≤ 16)
     -- what a prepare reads is in range
     judged : prepare-fits z m (c .0) (s .0) ≡ true
     unfolding prepare-fits U.item-of number-at
-    judged = every-below (count u Reads) _ (λ n l. one n l (locked-at (lowest z m (c .0)) (s .0) (read-item u n)) refl)
+    judged = every-below (count u Reads) _ (λ n l. one n l (locked-at low (s .0) (read-item u n)) refl)
       where
-        one : (n : ℕ) → n < count u Reads → (b : Bool) → locked-at (lowest z m (c .0)) (s .0) (read-item u n) ≡ b
-            → (not b || cond (checked-at (lowest z m (c .0)) (s .0) (read-item u n)) (check-fits z m (s .0) (read-item u n)) (lock-fits z m (s .0) (read-item u n))) ≡ true
+        one : (n : ℕ) → n < count u Reads → (b : Bool) → locked-at low (s .0) (read-item u n) ≡ b
+            → (not b || cond (checked-at low (s .0) (read-item u n)) (check-fits z m (s .0) (read-item u n)) (lock-fits z m (s .0) (read-item u n))) ≡ true
         one n l false e = refl
-        one n l true e = by (checked-at (lowest z m (c .0)) (s .0) (read-item u n)) refl
+        one n l true e = by (checked-at low (s .0) (read-item u n)) refl
           where
             lock : lock-fits z m (s .0) (read-item u n) ≡ true
             lock = item-judged k j slots few m S al c fit (M .slots c) (G .shown .clients c .slot) (omega (arith, now)) s n l e
 
-            by : (t : Bool) → checked-at (lowest z m (c .0)) (s .0) (read-item u n) ≡ t → cond t (check-fits z m (s .0) (read-item u n)) (lock-fits z m (s .0) (read-item u n)) ≡ true
-            by true h = Checks.prepare-judged z m (s .0) (S .servers s) (read-item u n) (S .parts c .sets .read n l .inside) lock (lowest z m (c .0)) h
+            by : (t : Bool) → checked-at low (s .0) (read-item u n) ≡ t
+                → cond t (check-fits z m (s .0) (read-item u n)) (lock-fits z m (s .0) (read-item u n)) ≡ true
+            by true h = Checks.prepare-judged z m (s .0) (S .servers s) (read-item u n) (S .parts c .sets .read n l .inside) lock low h
             by false h = lock
 
     abbrev m₁ : Address → ℕ
@@ -79,8 +84,8 @@ module _ (k j slots : ℕ) (al : Allowed (sizes k j slots)) (few : suc j ≤ 16)
 
     prepared-sound : Sound-store k j slots m₁
     prepared-sound =
-        both-sound k j slots m S s c (lock-each u (c .0) (lowest z m (c .0)) (s .0) (server-of m (s .0))) (noted prepared (s .0) u)
-        (lock-each-sound (sizes k j slots) (s .0) u (c .0) (lowest z m (c .0)) (s .0) (server-of m (s .0)) (S .servers s))
+        both-sound k j slots m S s c (lock-each u (c .0) low (s .0) (server-of m (s .0))) (noted prepared (s .0) u)
+        (lock-each-sound (sizes k j slots) (s .0) u (c .0) low (s .0) (server-of m (s .0)) (S .servers s))
         (prepared-part (sizes k j slots) u (S .parts c) (s .0) (s .1)) (prepare-locks k j slots al few m L M c (G .shown) fit s now takes-part (S .locks))
 
     module _ (fine : U.deciding (map (Steps.prepare-finding z m (c .0) (s .0)) (U.read-items u)) ≡ 0) (all : Steps.all-prepared z m (c .0) (s .0) ≡ true) where
@@ -98,24 +103,26 @@ module _ (k j slots : ℕ) (al : Allowed (sizes k j slots)) (few : suc j ≤ 16)
           (decided-locks k j slots m₁ (c .0) (prepared-sound .locks)))
 
       -- with one participant it also applies
-      alone : Kept k j slots al few m S (Steps.then m (Steps.deciding-stores z m (c .0) (s .0)) (λ m₃. Steps.applied-at z m₃ (c .0) (s .0)))
+      alone : Kept k j slots m (Steps.then m (Steps.deciding-stores z m (c .0) (s .0)) (λ m₃. Steps.applied-at z m₃ (c .0) (s .0)))
       alone =
-          let K = applied-kept k j slots al few m₂ decided-sound (decides L (c .0)) (D.M₂ k j slots al few m L M c G fit s now new fine all) (D.decide-good k j slots al few m L M c G fit s now new fine all) c s
+          let K = applied-kept k j slots al few m₂ decided-sound (decides L (c .0)) (D.M₂ k j slots al few m L M c G fit s now new fine all)
+          (D.decide-good k j slots al few m L M c G fit s now new fine all) c s
           (D.now₂ k j slots al few m L M c G fit s now new fine all) (D.new₂ k j slots al few m L M c G fit s now new fine all) in
           record {
             passes = K .passes;
-            sound = subst (Sound-store k j slots) (sym (changed-append whole (Steps.deciding-stores z m (c .0) (s .0)) (Steps.applied-at z m₂ (c .0) (s .0) .stores) m)) (K .sound);
+            sound = subst (Sound-store k j slots)
+                (sym (changed-append whole (Steps.deciding-stores z m (c .0) (s .0)) (Steps.applied-at z m₂ (c .0) (s .0) .stores) m)) (K .sound);
           }
 
-    pub prepare-kept : Kept k j slots al few m S (Steps.prepare z m (c .0) (s .0))
+    pub prepare-kept : Kept k j slots m (Steps.prepare z m (c .0) (s .0))
     unfolding Steps.prepare Steps.prepared-at
     prepare-kept =
         let found = U.deciding (map (Steps.prepare-finding z m (c .0) (s .0)) (U.read-items u)) in
         let every = Steps.all-prepared z m (c .0) (s .0) in
-        if-kept k j slots al few m S (prepare-fits z m (c .0) (s .0)) _ judged
-        (one-kept k j slots al few m S (eqb found 0) _ _
-        (λ q. one-kept k j slots al few m S (not every) _ _ (λ _. record { passes = accepted (Prepared (s .0)) refl; sound = prepared-sound })
-        (λ e. one-kept k j slots al few m S (Steps.only z m (c .0) (s .0)) _ _
-        (λ _. if-kept k j slots al few m S (versions-fit z m (c .0)) _ (versions-judged k j slots al few m (c .0) (S .parts c)) (alone (eqb-true found 0 q) (not-false every e)))
+        if-kept k j slots m (prepare-fits z m (c .0) (s .0)) _ judged
+        (one-of (Kept k j slots m) (eqb found 0) _ _
+        (λ q. one-of (Kept k j slots m) (not every) _ _ (λ _. record { passes = accepted (Prepared (s .0)) refl; sound = prepared-sound })
+        (λ e. one-of (Kept k j slots m) (Steps.only z m (c .0) (s .0)) _ _
+        (λ _. if-kept k j slots m (versions-fit z m (c .0)) _ (versions-judged k j slots m (c .0) (S .parts c)) (alone (eqb-true found 0 q) (not-false every e)))
         (λ _. record { passes = accepted Decided refl; sound = decided-sound (eqb-true found 0 q) (not-false every e) })))
-        (λ _. abort-kept k j slots al few m S c L M (G .shown) (inr now) found []))
+        (λ _. abort-kept k j slots m S c al few L M (G .shown) (inr now) found []))

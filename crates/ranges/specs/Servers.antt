@@ -1,12 +1,10 @@
 -- What servers store stays sound where only locks change; and A NEW STORE IS SOUND.
-use mathlib.Core.Path.{_≡_, refl, ap, ap₂, sym, _∙_, subst, fun-ext}
+use mathlib.Core.Path.{_≡_, refl, ap, ap₂, sym, _∙_, subst}
 use mathlib.Core.Bool.{Bool, true, false, cond}
 use mathlib.Core.List.{List, []}
-use Prim.Native.Nat.{ℕ, zero, suc, _+_, _%_, _≤_, Fin}
+use Prim.Native.Nat.{ℕ, zero, suc, _+_, _≤_, Fin}
 use native.Mathlib.Omega.{arith}
-use native.Mathlib.Decide.{ℕ-discrete}
-use borrow.Author.Tests.{lt-ltb, ne-eqb}
-use lib.ListN.{getD}
+use borrow.Author.Tests.{ne-eqb}
 use Rattle.base.specs.Test.{not-both}
 use Rattle.memory.specs.Bit.{zero-bit}
 use Rattle.layout.specs.Space.{Put, changed, tab}
@@ -20,13 +18,12 @@ use Rattle.operations.specs.Slot as S
 use Rattle.server.specs.declared.object.Object.{Object}
 use Rattle.server.specs.declared.object.Object.the-variants as object
 use Rattle.server.specs.declared.place.Place.{Place}
-use Rattle.server.specs.declared.place.Place.the-variants.{Root, Version, MetadataLock, Vector, Node, FlagLock, Table, NodeLock}
-use Rattle.server.specs.Layout.{code, places}
+use Rattle.server.specs.declared.place.Place.the-variants.{Root, Version, MetadataLock, FlagLock, Table, NodeLock}
+use Rattle.server.specs.Layout.{places}
 use Rattle.server.specs.Object.{object-of, lock-of}
 use Rattle.server.specs.LockLaws.{reads, writes, free-range}
 use Rattle.server.specs.Store.{lock-step, unlock-step}
-use Rattle.server.specs.HandOut.{node-here}
-use Rattle.server.specs.Fresh.{fresh, fresh-other, fresh-root, fresh-zero}
+use Rattle.server.specs.Fresh.{fresh}
 use Rattle.client.specs.declared.part.Set.the-variants.{Reads}
 use Rattle.client.specs.Layout.{ClientWord}
 use Rattle.client.specs.Record.{number, single, in-store, fits, last-version}
@@ -47,7 +44,7 @@ use Rattle.ranges.specs.Sound.{children-there, Node-sound, Sound, Part-s
 
 -- ---- locks are no part of it
 module _ (z : S.Sizes) (s : ℕ) where
-  pub server-frame : (p q : Place → ℕ) → ((a : Place) → is-lock a ≡ false → q a ≡ p a) → Server-sound z s p → Server-sound z s q
+  server-frame : (p q : Place → ℕ) → ((a : Place) → is-lock a ≡ false → q a ≡ p a) → Server-sound z s p → Server-sound z s q
   server-frame p q h sound = record {
     metadata = subst (Sound z 0) (sym (ap₂ single (h Version refl) (h Root refl))) (sound .metadata);
     nodes = λ n i e. subst (Node-sound z) (sym (node-frame 0 0 0 p q h n)) (sound .nodes n i e);
@@ -129,11 +126,11 @@ module _ (k j slots : ℕ) where
   abbrev first : Address → ℕ
   first = opened (store k j slots)
 
-  pub opened-part : (c : ℕ) → Part-sound (sizes k j slots) (client-of first c)
+  opened-part : (c : ℕ) → Part-sound (sizes k j slots) (client-of first c)
   opened-part c = subst (Part-sound (sizes k j slots)) (sym (no-client k j slots c)) (new-part (sizes k j slots))
 
   -- no client reads or writes
-  pub opened-locks : (s : Fin (suc k)) → Locks-sound k j slots first s
+  opened-locks : (s : Fin (suc k)) → Locks-sound k j slots first s
   unfolding reads writes
   opened-locks s o i kept =
       subst (Lock-sound (store k j slots) first (s .0) (number o))
@@ -145,8 +142,10 @@ module _ (k j slots : ℕ) where
       })
 
   module _ (some-slot : 1 ≤ slots) where
-    pub opened-sound : (s : Fin (suc k)) → Server-sound (sizes k j slots) (s .0) (server-of first (s .0))
-    opened-sound s = subst (Server-sound (sizes k j slots) (s .0)) (sym (server-fresh k j slots (s .0))) (new-server (sizes k j slots) (zeroth-there (sizes k j slots) (omega arith) some-slot) (s .0))
+    opened-sound : (s : Fin (suc k)) → Server-sound (sizes k j slots) (s .0) (server-of first (s .0))
+    opened-sound s =
+        subst (Server-sound (sizes k j slots) (s .0)) (sym (server-fresh k j slots (s .0)))
+        (new-server (sizes k j slots) (zeroth-there (sizes k j slots) (omega arith) some-slot) (s .0))
 
     pub first-sound : Sound-store k j slots first
     first-sound = record { parts = λ c. opened-part (c .0); servers = opened-sound; locks = opened-locks }

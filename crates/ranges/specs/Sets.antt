@@ -68,7 +68,7 @@ sound-version z x r h l = go (eqb x 0) (leb x 8192) (le-leb x 8192 l) (h .fittin
 
 -- ---- all items of a set
 module _ (z : Sizes) (u : ClientWord → ℕ) where
-  abbrev pub All-sound : Set → Type 0
+  abbrev All-sound : Set → Type 0
   All-sound s = (i : ℕ) → i < count u s → Item-sound z (number-at u s i) (record-at u s i)
 
 module _ (z : Sizes) (u v : ClientWord → ℕ) (s : Set) where
@@ -82,7 +82,7 @@ module _ (z : Sizes) (u v : ClientWord → ℕ) (s : Set) where
   all-stay c e h i l = item-stays i (e i) (h i (subst (λ (n : ℕ). i < n) c l))
 
   -- one more behind them
-  pub all-behind : (f x : ℕ) (r : Node) → Behind s f u v x r → Item-sound z x r → All-sound z u s → All-sound z v s
+  all-behind : (f x : ℕ) (r : Node) → Behind s f u v x r → Item-sound z x r → All-sound z u s → All-sound z v s
   all-behind f x r B new h i l = go (ℕ-discrete i (u (field f)))
     where
       go : Dec (i ≡ u (field f)) → Item-sound z (number-at v s i) (record-at v s i)
@@ -129,7 +129,7 @@ module _ (u v : ClientWord → ℕ) where
 
   module _ (z : Sizes) (stay : Reads-stay) (c : count v Writes ≡ count u Writes) (e : (i n : ℕ) → v (item Writes i n) ≡ u (item Writes i n)) where
     -- the write set's words are the same, the read set has what it had
-    pub sets-stay : All-sound z v Reads → Sets-sound z u → Sets-sound z v
+    sets-stay : All-sound z v Reads → Sets-sound z u → Sets-sound z v
     unfolding number-at
     sets-stay r S =
         sets-from z v r (all-stay z u v Writes c e (S .written))
@@ -162,6 +162,14 @@ module _ (z : Sizes) (u : ClientWord → ℕ) where
       sets-stay u v z (entered-stay u v x r E) (ap (at-most 48) (field-same Reads 10 u v (E .other) 11 (λ e. absurd (omega arith))))
       (set-same Reads 10 u v (E .other) Writes (λ e. absurd (omega arith))) (all-behind z u v Reads 10 x r E new (S .read)) S
 
+-- a set that has room
+pub room : (limit n : ℕ) → at-most limit n < limit → n < limit
+room limit n = go (leb n limit) refl
+  where
+    go : (b : Bool) → leb n limit ≡ b → cond b n limit < limit → n < limit
+    go true e l = l
+    go false e l = absurd (omega arith)
+
 -- by the client's own step, which does not read object 97
 module _ (u : ClientWord → ℕ) (x : ℕ) (r : Node) (w : Sized r) where
   -- what holds with the object behind the others, and without it, holds then
@@ -169,12 +177,8 @@ module _ (u : ClientWord → ℕ) (x : ℕ) (r : Node) (w : Sized r) where
   unfolding enter-read nothing changed count
   read-or-not P enters stays = go (ltb (count u Reads) 96) refl
     where
-      room : (b : Bool) → leb (u reads-count) 96 ≡ b → cond b (u reads-count) 96 < 96 → u reads-count < 96
-      room true e l = l
-      room false e l = absurd (omega arith)
-
       go : (b : Bool) → ltb (count u Reads) 96 ≡ b → P (changed client-words u (enter-read x r u))
-      go true e = enters (changed client-words u (enter-read x r u)) (read-entered u x r w (room (leb (u reads-count) 96) refl (ltb-true (count u Reads) 96 e)))
+      go true e = enters (changed client-words u (enter-read x r u)) (read-entered u x r w (room 96 (u reads-count) (ltb-true (count u Reads) 96 e)))
       go false e = rw e stays
 
 -- ---- COPIES
@@ -244,8 +248,3 @@ module _ (u : ClientWord → ℕ) where
           subst (λ ps. R (changed client-words m ps) × Else-same u (changed client-words m ps)) (sym e)
           (read-or-not m x (copied u x .node) (copied-sized u x) (λ v. R v × Else-same u v)
           (λ v E. (step x (every-at Q 0 us all i l) m v (h .1) E (h .0), λ a p q. E .other a p q ∙ h .1 a p q)) h)
-
-  pub used-sound : (z : Sizes) (us : List ℕ) → All-copied z u us → Copies-sound z u → Sets-sound z u → Sets-sound z (after-used u us)
-  used-sound z us all C S =
-      used-keeps (λ (x : ℕ). (number-in-store z x ≡ true) × (is-found (copied u x .how) ≡ true)) (Sets-sound z)
-      (λ x q m v _ E. read-sound z m v x (copied u x .node) E (record { inside = q .0; sound = copied-sound z u C x (q .1) })) us all S .0

@@ -1,7 +1,7 @@
 -- A SOUND STORE: everything stored is in range, and what it points to is there. From it no step is refused by 10, and every step leaves one.
 use mathlib.Core.Path.{_≡_}
 use mathlib.Core.Bool.{Bool, true, false, _||_, not}
-use Prim.Native.Nat.{ℕ, suc, _+_, _-_, _^_, _≤_, _<_, Fin}
+use Prim.Native.Nat.{ℕ, suc, _-_, _^_, _≤_, _<_, Fin}
 use lib.Dec.{eqb}
 use lib.ListN.{getD}
 use Rattle.memory.specs.Bit.{bit}
@@ -25,7 +25,7 @@ use Rattle.client.specs.Items.{has}
 use Rattle.client.specs.Drops.{version-of}
 use Rattle.client.specs.Fits.{bounds, op-fits}
 use Rattle.steps.specs.declared.sizes.Sizes.{Sizes}
-use Rattle.steps.specs.Whole.{Address, server, tree-sizes}
+use Rattle.steps.specs.Whole.{Address, server}
 use Rattle.steps.specs.Stores.{client-of, server-of}
 use Rattle.steps.specs.Uses.{all, read-item, locked-at}
 use Rattle.steps.specs.Judge.{lowest}

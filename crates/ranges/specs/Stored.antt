@@ -32,6 +32,7 @@ use Rattle.client.specs.Sets.{count, record-at, number-at}
 use Rattle.client.specs.Items.{inner-before-after}
 use Rattle.client.specs.Participants.{at-home}
 use Rattle.client.specs.Drops.{next-version}
+use Rattle.client.specs.Renew.{versioned}
 use Rattle.steps.specs.Steps.{store-write, store-all, unlock-each, node-at}
 use Rattle.steps.specs.Writes.{kept-sized}
 use Rattle.demand.specs.Frame.{then-keeps, sweep-keeps, Only, only-keeps}
@@ -49,23 +50,23 @@ module _ (z : S.Sizes) where
   unfolding fits single made pad
   metadata-parts v r h = let q = and-both (in-store z r) (leb v last-version) (h .fitting) in (q .0, leb-true v last-version (q .1))
 
-  -- ---- a node as it is kept: with the new version; freed, nothing else
-  pub kept-sound : (r : Record.Node) (v : ℕ) → Node-sound z r → v ≤ last-version → Node-sound z (kept-of r v)
-  unfolding kept-of free-node made pad in-range children-there slotsOf
+  -- ---- a node with another version
+  pub versioned-sound : (r : Record.Node) (v : ℕ) → v ≤ last-version → Node-sound z r → Node-sound z (versioned r v)
+  unfolding versioned in-range children-there slotsOf
+  versioned-sound r v l h =
+      let rest = level-fits (r .kind) (r .level) && count-fits (r .kind) (r .count) in
+      let a = and-both (leb (r .kind) 2) (leb (r .version) last-version && rest) (h .range) in
+      let b = and-both (leb (r .version) last-version) rest (a .1) in
+      record { range = rw (a .0, le-leb v last-version l, b .1); children = h .children }
+
+  -- as it is kept: freed, nothing else
+  kept-sound : (r : Record.Node) (v : ℕ) → Node-sound z r → v ≤ last-version → Node-sound z (kept-of r v)
+  unfolding kept-of versioned free-node made pad in-range children-there
   kept-sound r v h l = go (eqb (r .kind) 0)
     where
-      fine : leb v last-version ≡ true
-      fine = le-leb v last-version l
-
-      rest : Bool
-      rest = level-fits (r .kind) (r .level) && count-fits (r .kind) (r .count)
-
-      parts : (leb (r .kind) 2 ≡ true) × ((leb (r .version) last-version && rest) ≡ true)
-      parts = and-both (leb (r .kind) 2) (leb (r .version) last-version && rest) (h .range)
-
-      go : (b : Bool) → Node-sound z (cond b (free-node v) (record { kind = r .kind; level = r .level; version = v; count = r .count; keys = r .keys; slots = r .slots }))
-      go true = record { range = rw fine; children = refl }
-      go false = record { range = rw (parts .0, fine) (and-both (leb (r .version) last-version) rest (parts .1) .1); children = h .children }
+      go : (b : Bool) → Node-sound z (cond b (free-node v) (versioned r v))
+      go true = record { range = rw (le-leb v last-version l); children = refl }
+      go false = versioned-sound r v l h
 
   module _ (s : ℕ) where
     -- ---- a store at one word: of the metadata, a table's entry, a vector
@@ -123,7 +124,8 @@ module _ (z : S.Sizes) where
           go (yes h) = subst (λ (t : ℕ). Node-sound z (node-of (tab 33 (λ i. p′ (Node t i))))) (sym h) (subst (Node-sound z) (sym stored) good)
           go (no d) =
               subst (λ (f : ℕ → ℕ). Node-sound z (node-of (tab 33 f)))
-              (sym (fun-ext (λ i. puts-other places (words-of r) p (Node k) (Node (N.slot-of n) i) (λ j l q. d (ap (λ (a : Place). getD (code a) 1 0) q))))) (sound .nodes n i e)
+              (sym (fun-ext (λ i. puts-other places (words-of r) p (Node k) (Node (N.slot-of n) i) (λ j l q. d (ap (λ (a : Place). getD (code a) 1 0) q)))))
+              (sound .nodes n i e)
 
       words-sound : Server-sound z s p′
       words-sound =
@@ -193,7 +195,7 @@ module _ (z : S.Sizes) where
           go false e false f h g = flag-stored p sound (at-home s x) (eqb (first-slot r) 1) (x - 8193)
 
       module _ (p : Place → ℕ) (sound : Server-sound z s p) where
-        pub applied-sound : Server-sound z s (changed places p (store-all u s p))
+        applied-sound : Server-sound z s (changed places p (store-all u s p))
         applied-sound = sweep-keeps places (Server-sound z s) (store-write u s) (count u Writes) (λ i q l. write-sound i l q) p sound
 
         pub apply-sound : (c low : ℕ) → Server-sound z s (changed places p (andThen places (store-all u s) (unlock-each u c low s) p))

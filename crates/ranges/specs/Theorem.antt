@@ -25,11 +25,13 @@ module _ (k j slots : ℕ) (al : Allowed (sizes k j slots)) (few : suc j ≤ 16)
   course-accepted [] w x e S = tt
   course-accepted (n ∷ ks) w x e S =
       let K = step-kept k j slots al few (x .memory) S (x .ledger) (e .machine) (e .good) n (w .0) in
-      (K .passes, course-accepted ks (w .1) (D.next (store k j slots) x n) (step-after k j slots al few (x .memory) (x .ledger) (e .machine) (e .good) n (w .0 .key)) (K .sound))
+      let after = step-after k j slots al few (x .memory) (x .ledger) (e .machine) (e .good) n (w .0 .key) in
+      (K .passes, course-accepted ks (w .1) (D.next (store k j slots) x n) after (K .sound))
 
 -- whatever the sizes
 with-sizes : (servers slots clients : ℕ) → W.Allowed (record { servers = servers; slots = slots; clients = clients })
-    → (ks : List Step) → D.All-words ks → Every Accepted (outcomes (record { servers = servers; slots = slots; clients = clients }) (opened (record { servers = servers; slots = slots; clients = clients })) ks)
+    → (ks : List Step) → D.All-words ks
+    → Every Accepted (outcomes (record { servers = servers; slots = slots; clients = clients }) (opened (record { servers = servers; slots = slots; clients = clients })) ks)
 with-sizes zero slots clients a ks w = absurd (omega (arith, a .servers .0))
 with-sizes (suc k) slots zero a ks w = absurd (omega (arith, a .clients .0))
 with-sizes (suc k) slots (suc j) a ks w =

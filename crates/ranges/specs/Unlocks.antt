@@ -1,16 +1,15 @@
 -- LOCKS GIVEN BACK: "An abort unlocks everywhere", "Apply writes and unlocks", and the last apply ends the transaction. The client isn't named then.
 use mathlib.Core.Path.{_≡_, refl, ap, sym, _∙_, subst}
 use mathlib.Core.Bool.{Bool, true, false, cond, _||_, not}
-use mathlib.Core.List.{List, [], _∷_, _++_, append-assoc}
+use mathlib.Core.List.{List, [], _++_}
 use mathlib.Core.Logic.{_⊎_, inl, inr}
 use Prim.Native.Nat.{ℕ, suc, _≤_, Fin}
 use native.Mathlib.Omega.{arith}
 use native.Mathlib.Decide.{Fin-discrete, Fin·val-path}
 use Rattle.base.specs.Test.{not-both}
-use Rattle.memory.specs.Bit.{bit, putBit, zero-bit, bit-put-other}
-use Rattle.layout.specs.Space.{Put, put, changed}
+use Rattle.memory.specs.Bit.{bit, putBit, bit-put-other}
+use Rattle.layout.specs.Space.{Put, changed}
 use Rattle.layout.specs.Step.{andThen, changed-append}
-use Rattle.layout.specs.Part.{over}
 use Rattle.operations.specs.Object.{Obj}
 use Rattle.operations.specs.Slot.{Allowed}
 use Rattle.protocol.specs.Machine as P
@@ -26,17 +25,15 @@ use Rattle.client.specs.Record.{number}
 use Rattle.client.specs.Sets.{count, number-at}
 use Rattle.client.specs.Fits.{client-fits}
 use Rattle.client.specs.Drops.{drop-used}
-use Rattle.client.specs.Copies.{drop-all}
 use Rattle.client.specs.Life.{reset}
 use Rattle.client.specs.Renew.{finish}
 use Rattle.client.specs.Course.{noted}
 use Rattle.steps.specs.declared.sizes.Sizes.{Sizes}
-use Rattle.steps.specs.Whole.{Address, server, client, whole}
-use Rattle.steps.specs.Stores.{client-of, server-of, client-changed, client-else, client-servers}
+use Rattle.steps.specs.Whole.{Address, server, whole}
+use Rattle.steps.specs.Stores.{client-of, server-of}
 use Rattle.steps.specs.Uses as U
 use Rattle.steps.specs.Judge.{lowest}
-use Rattle.steps.specs.Steps.{Did, did, in-client, covers, unlock-each, store-all, unlocked-everywhere, aborting, applying, all-applied, applied-at}
-use Rattle.steps.specs.declared.outcome.Outcome.the-variants.{Applied, Committed}
+use Rattle.steps.specs.Steps.{in-client, covers, unlock-each, store-all, applying, all-applied}
 use Rattle.demand.specs.Store.{sizes}
 use Rattle.demand.specs.Frame.{last, read-after, Only}
 use Rattle.demand.specs.Ledger.{Ledger}
@@ -52,15 +49,15 @@ use Rattle.demand.specs.Kept.{reset-phase}
 use Rattle.demand.specs.Turns.{store}
 use Rattle.ranges.specs.Sound.{Holds, Locks-sound}
 use Rattle.ranges.specs.Words.{names, unlocked-names}
-use Rattle.ranges.specs.Locks.{Goes-on, held-by, lock-from, other-held, unstored, part-stored, early-stored, Swept, swept-or-not}
+use Rattle.ranges.specs.Locks.{Goes-on, held-by, lock-from, other-held, unstored, part-stored, Swept, swept-or-not}
 
 -- ---- a lock that c gives back, or hasn't: whom the word w′ names w named, and c isn't among them
-pub record Given-back (n c w w′ : ℕ) : Type 0 where
+record Given-back (n c w w′ : ℕ) : Type 0 where
   pub range : in-range n w′ ≡ true
   pub others : (role : Bool) (d : ℕ) → names role d w′ ≡ true → (¬ (d ≡ c)) × (names role d w ≡ true)
 
 -- so at every lock of a server: its locks are sound, whatever c's part becomes
-pub given-back-locks : (k j slots : ℕ) (m m′ : Address → ℕ) (c : ℕ) → ((d : ℕ) → ¬ (d ≡ c) → client-of m′ d ≡ client-of m d) → (s : Fin (suc k))
+given-back-locks : (k j slots : ℕ) (m m′ : Address → ℕ) (c : ℕ) → ((d : ℕ) → ¬ (d ≡ c) → client-of m′ d ≡ client-of m d) → (s : Fin (suc k))
     → ((o : Obj) → In-store k j slots o → lock-kept k j slots (server-of m (s .0)) s o ≡ true
     → Given-back (suc j) c (m (server (s .0) (lock-of (object-of (number o))))) (m′ (server (s .0) (lock-of (object-of (number o))))))
     → Locks-sound k j slots m s → Locks-sound k j slots m′ s
@@ -142,7 +139,8 @@ module _ (k j slots : ℕ) (al : Allowed (sizes k j slots)) (few : suc j ≤ 16)
     abort-locks s =
         given-back-locks k j slots m (aborted k j slots m (c .0) us) (c .0) (aborted-others k j slots m (c .0) us) s
         (λ o hi kept. let a = lock-of (object-of (number o)) in
-        subst (Given-back (suc j) (c .0) (m (server (s .0) a))) (sym (ap (λ (p : Place → ℕ). p a) (aborted-server k j slots m (c .0) us (s .0) (s .1)))) (by (bit (u prepared) (s .0)) refl o hi kept))
+        subst (Given-back (suc j) (c .0) (m (server (s .0) a))) (sym (ap (λ (p : Place → ℕ). p a) (aborted-server k j slots m (c .0) us (s .0) (s .1))))
+        (by (bit (u prepared) (s .0)) refl o hi kept))
         (S s)
       where
         by : (b : Bool) → bit (u prepared) (s .0) ≡ b → (o : Obj) → In-store k j slots o → lock-kept k j slots (server-of m (s .0)) s o ≡ true
