@@ -12,8 +12,6 @@ use Rattle.memory.specs.Bit.{bit, zero-bit}
 use Rattle.layout.specs.Space.{Put, changed}
 use Rattle.layout.specs.Step.{andThen, changed-append}
 use Rattle.layout.specs.Part.{over}
-use Rattle.nodes.specs.declared.found.Found.{Found}
-use Rattle.nodes.specs.declared.found.Found.the-variants.{At, Absent}
 use Rattle.operations.specs.Object.{Obj}
 use Rattle.operations.specs.Slot.{Allowed}
 use Rattle.protocol.specs.State.{idle, is-decided}
@@ -22,28 +20,21 @@ use Rattle.protocol.specs.Moves as Mv
 use Rattle.server.specs.declared.place.Place.{Place}
 use Rattle.server.specs.Layout.{places}
 use Rattle.server.specs.Object.{object-of, lock-of}
-use Rattle.server.specs.Lock.{unlocked}
-use Rattle.server.specs.Store.{unlock-step}
-use Rattle.client.specs.declared.part.Set.the-variants.{Reads}
 use Rattle.client.specs.Layout.{ClientWord, client-words, phase, prepared}
 use Rattle.client.specs.Record.{number}
-use Rattle.client.specs.Sets.{count, number-at, find}
 use Rattle.client.specs.Fits.{client-fits}
 use Rattle.client.specs.Drops.{drop-used}
 use Rattle.client.specs.Life.{reset, abort}
 use Rattle.steps.specs.declared.sizes.Sizes.{Sizes}
 use Rattle.steps.specs.Whole.{Address, server, client, whole}
-use Rattle.steps.specs.Uses as U
 use Rattle.steps.specs.Judge.{lowest}
 use Rattle.steps.specs.Steps.{unlock-each, at-servers, unlocked-everywhere, aborting}
 use Rattle.demand.specs.Ledger.{Ledger, starts}
 use Rattle.demand.specs.Store.{sizes}
 use Rattle.steps.specs.Stores.{client-of, server-of, client-changed, client-else, client-servers, server-changed, server-else, server-clients}
-use Rattle.demand.specs.Numbers.{object-number}
-use Rattle.demand.specs.Shows.{phase-of, T, In-store, Recorded, lock-kept, Slot-shown, Server-shown, Client-shown, Related}
-use Rattle.demand.specs.Locking.{after, swept-other, here, lk, lock-place, none-swept, one-swept, not-swept}
-use Rattle.demand.specs.Recorded.{drop-kept, drop-recorded}
-use Rattle.demand.specs.Servers.{is-lock, not-a-lock, value-frame, version-frame, table-frame}
+use Rattle.demand.specs.Shows.{phase-of, T, Slot-shown, Server-shown, Client-shown, Related}
+use Rattle.demand.specs.Recorded.{drop-kept, unlock-recorded}
+use Rattle.demand.specs.Servers.{is-lock, unlock-stays, value-frame, version-frame, table-frame}
 use Rattle.demand.specs.Dropped.{fewer, fewer-copies, only-used}
 use Rattle.demand.specs.Kept.{away, related, cleared, cleared-shown}
 
@@ -51,54 +42,6 @@ use Rattle.demand.specs.Kept.{away, related, cleared, cleared-shown}
 first-phases : (is-decided (phase-of 1) ≡ false) × (is-decided (phase-of 2) ≡ false)
 unfolding phase-of
 first-phases = (refl, refl)
-
--- ---- one server's locks
-module _ (k j slots : ℕ) (al : Allowed (sizes k j slots)) (few : suc j ≤ 16) (c : Fin (suc j)) (u : ClientWord → ℕ) (fit : client-fits (sizes k j slots) u ≡ true)
-    (y : P.Slot (T k j slots)) (shown : Slot-shown k j slots u y) (s : Fin (suc k)) (low : ℕ) (el : y .lowest .0 ≡ low) (p : Place → ℕ) where
-  F : ℕ → ℕ → ℕ
-  F i w = unlocked (c .0) w
-
-  abbrev p′ : Place → ℕ
-  p′ = changed places p (unlock-each u (c .0) low (s .0) p)
-
-  swept-is : p′ ≡ after (here k j slots al u fit y shown s low el p) (lk k j slots al u fit y shown s low el p) F p (count u Reads)
-  unfolding F unlock-step count number-at U.item-of
-  swept-is = refl
-
-  pub unlock-stays : (a : Place) → is-lock a ≡ false → p′ a ≡ p a
-  unlock-stays a h =
-      ap (λ (f : Place → ℕ). f a) swept-is
-      ∙ swept-other (here k j slots al u fit y shown s low el p) (lk k j slots al u fit y shown s low el p) F p (count u Reads) a
-      (λ i _ _ e. not-a-lock a (object-of (number-at u Reads i)) h e)
-
-  pub unlock-recorded : (o : Obj) (hi : In-store k j slots o) → lock-kept k j slots p s o ≡ true → (l : P.Lock (T k j slots))
-      → Recorded k j slots l (p (lock-of (object-of (number o)))) → Recorded k j slots (Mv.drop (T k j slots) c l) (p′ (lock-of (object-of (number o))))
-  unfolding F
-  unlock-recorded o hi kept l h =
-      subst (Recorded k j slots (Mv.drop (T k j slots) c l))
-      (sym (ap (λ (f : Place → ℕ). f (lock-of (object-of (number o)))) swept-is
-      ∙ ap (λ (x : _). after (here k j slots al u fit y shown s low el p) (lk k j slots al u fit y shown s low el p) F p (count u Reads) (lock-of x)) (object-number (sizes k j slots) al o hi)))
-      (by (find u Reads (number o)) refl)
-    where
-      W : ℕ
-      W = after (here k j slots al u fit y shown s low el p) (lk k j slots al u fit y shown s low el p) F p (count u Reads) (lock-place k j slots al o)
-
-      old : Recorded k j slots l (p (lock-place k j slots al o))
-      old = subst (λ (x : _). Recorded k j slots l (p (lock-of x))) (object-number (sizes k j slots) al o hi) h
-
-      by : (f : Found) → find u Reads (number o) ≡ f → Recorded k j slots (Mv.drop (T k j slots) c l) W
-      by Absent e =
-          subst (Recorded k j slots (Mv.drop (T k j slots) c l)) (sym (none-swept k j slots al u fit y shown s low el p F o hi kept e))
-          (drop-kept k j slots few c l (p (lock-place k j slots al o)) old)
-      by (At i) e = here? (here k j slots al u fit y shown s low el p i) refl
-        where
-          here? : (b : Bool) → here k j slots al u fit y shown s low el p i ≡ b → Recorded k j slots (Mv.drop (T k j slots) c l) W
-          here? true b =
-              subst (Recorded k j slots (Mv.drop (T k j slots) c l)) (sym (one-swept k j slots al u fit y shown s low el p F o hi kept i e b))
-              (drop-recorded k j slots few c l (p (lock-place k j slots al o)) old)
-          here? false b =
-              subst (Recorded k j slots (Mv.drop (T k j slots) c l)) (sym (not-swept k j slots al u fit y shown s low el p F o hi kept i e b))
-              (drop-kept k j slots few c l (p (lock-place k j slots al o)) old)
 
 -- ---- stores at every server
 module _ (m : Address → ℕ) (f : ℕ → List (Put Address)) (qs : ℕ → List (Put Place)) (e : (t : ℕ) → f t ≡ over (server t) (qs t)) where
@@ -109,7 +52,7 @@ module _ (m : Address → ℕ) (f : ℕ → List (Put Address)) (qs : ℕ → Li
   unfolding at-servers
   step n = changed-append whole (at-servers n f) (f n) m ∙ ap (changed whole (m₁ n)) (e n)
 
-  pub every-client : (n d : ℕ) → client-of (m₁ n) d ≡ client-of m d
+  every-client : (n d : ℕ) → client-of (m₁ n) d ≡ client-of m d
   unfolding at-servers changed
   every-client zero d = refl
   every-client (suc n) d = ap (λ (g : Address → ℕ). client-of g d) (step n) ∙ server-clients (m₁ n) n (qs n) d ∙ every-client n d
@@ -119,7 +62,7 @@ module _ (m : Address → ℕ) (f : ℕ → List (Put Address)) (qs : ℕ → Li
   later zero t l = refl
   later (suc n) t l = ap (λ (g : Address → ℕ). server-of g t) (step n) ∙ server-else (m₁ n) n (qs n) t (λ z. absurd (omega arith)) ∙ later n t (omega arith)
 
-  pub every-server : (n t : ℕ) → t < n → server-of (m₁ n) t ≡ changed places (server-of m t) (qs t)
+  every-server : (n t : ℕ) → t < n → server-of (m₁ n) t ≡ changed places (server-of m t) (qs t)
   every-server zero t l = absurd (omega arith)
   every-server (suc n) t l = ap (λ (g : Address → ℕ). server-of g t) (step n) ∙ go (ℕ-discrete t n) (every-server n t)
     where
@@ -263,7 +206,7 @@ module _ (k j slots : ℕ) (al : Allowed (sizes k j slots)) (few : suc j ≤ 16)
             p₁ = changed places p (unlock-each u (c .0) low (s .0) p)
 
             kept : (a : Place) → is-lock a ≡ false → p₁ a ≡ p a
-            kept = unlock-stays k j slots al few c u fit y shown s low el p
+            kept a h = unlock-stays u low (s .0) p a h (c .0)
 
     -- ---- the client's part, and the whole
     abbrev dropped : ClientWord → ℕ

@@ -94,14 +94,14 @@ module _ (z : Sizes) (u : ClientWord → ℕ) (a : Ans) (w : Writes) where
           last b v p (all-fit? v v) (ltb 48 (Work.writes-after u v)) (Work.any-at-last u (entered v)) refl refl refl q
 
 -- ---- a snapshot of what is at hand
-pub is-had : Option Val → Bool
+is-had : Option Val → Bool
 is-had none = false
 is-had (some v) = true
 
-abbrev pub snapshot : (Ask → Option Val) → Ask → Val
+abbrev snapshot : (Ask → Option Val) → Ask → Val
 snapshot have q = Option·getD (have q) (root 0)
 
-pub snapshot-shows : (have : Ask → Option Val) (l : List Ask) → Wk.Every (λ q. (v : Val) × (have q ≡ some v)) l
+snapshot-shows : (have : Ask → Option Val) (l : List Ask) → Wk.Every (λ q. (v : Val) × (have q ≡ some v)) l
     → Wk.Shows have (snapshot have) l × Wk.Every (λ q. is-had (have q) ≡ true) l
 unfolding Wk.Every is-had
 snapshot-shows have [] g = (tt, tt)
@@ -133,7 +133,7 @@ module _ (k j slots : ℕ) (al : Allowed (sizes k j slots)) (u : ClientWord → 
       (g .0, g .1, omega (arith, g .2 (omega arith), fits-field z u fit 10 (omega arith)))
 
   -- the last check lets the answer pass, and asks for nothing
-  pub checks : Wk.walk (plan z (waiting u)) (have z u) ≡ Wk.ends (Pl.gives (a, w))
+  checks : Wk.walk (plan z (waiting u)) (have z u) ≡ Wk.ends (Pl.gives (a, w))
   unfolding Wk.walk
   checks =
       Wk.walk-bind (reading z (waiting u)) check (have z u) ∙ ap (λ m. Wk.then m (λ r. Wk.walk (check r) (have z u))) (ran .0)
@@ -172,7 +172,8 @@ module _ (k j slots : ℕ) (al : Allowed (sizes k j slots)) (u : ClientWord → 
       (have-storable k j slots al u f copies fit y shown Any (λ o v _. points-any o (source u (number o) .node))) a w (ran .0)
 
   -- what holds of everything that the plan asks for holds of what is written
-  pub asked-of-written : (holds : Ask → Bool) → Wk.Every (λ q. holds q ≡ true) (Wk.used (plan z (waiting u)) (have z u)) → (o : Obj) → written w o ≡ true → holds (object o) ≡ true
+  pub asked-of-written : (holds : Ask → Bool) → Wk.Every (λ q. holds q ≡ true) (Wk.used (plan z (waiting u)) (have z u))
+      → (o : Obj) → written w o ≡ true → holds (object o) ≡ true
   asked-of-written holds every =
       written-asked z (waiting u) holds (snapshot (have z u)) a w
       (Wk.walk-asked p (have z u) (snapshot (have z u)) holds (Pl.gives (a, w)) checks shows every)

@@ -18,8 +18,6 @@ use Rattle.protocol.specs.Moves as Mv
 use Rattle.server.specs.declared.place.Place.{Place}
 use Rattle.server.specs.Layout.{places}
 use Rattle.server.specs.Object.{object-of, lock-of}
-use Rattle.server.specs.Lock.{unlocked}
-use Rattle.server.specs.Store.{unlock-step}
 use Rattle.client.specs.declared.part.Set.the-variants.{Reads, Writes}
 use Rattle.client.specs.Layout.{ClientWord, client-words, phase, participants, prepared, applied}
 use Rattle.client.specs.Record.{number, value-of}
@@ -32,20 +30,17 @@ use Rattle.client.specs.Drops.{version-of, next-version}
 use Rattle.client.specs.Course.{noted}
 use Rattle.steps.specs.declared.sizes.Sizes.{Sizes}
 use Rattle.steps.specs.Whole.{Address}
-use Rattle.steps.specs.Uses as U
 use Rattle.steps.specs.Judge.{lowest}
 use Rattle.steps.specs.Steps.{unlock-each, store-all}
 use Rattle.demand.specs.Ledger.{Ledger}
 use Rattle.demand.specs.Store.{sizes, keeps, by-value}
 use Rattle.steps.specs.Stores.{client-of, server-of}
 use Rattle.demand.specs.Frame.{last, read-after, Only}
-use Rattle.demand.specs.Numbers.{server-object, object-number}
 use Rattle.demand.specs.Shows.{phase-of, T, In-store, Recorded, lock-kept, new-value, item-from, item-of, value-at, version-at, table-at, Slot-shown, Server-shown, Client-shown, Related}
 use Rattle.demand.specs.Course.{else-same, course-shown}
 use Rattle.demand.specs.Held.{absent≢at, found-at, has-at, written-in, written-fits}
-use Rattle.demand.specs.Locking.{after, swept-other, here, lk, lock-place, none-swept, one-swept, not-swept}
-use Rattle.demand.specs.Recorded.{drop-kept, drop-recorded}
-use Rattle.demand.specs.Servers.{both, both-client, both-other, both-server, both-else, is-lock, a-lock, not-a-lock, value-frame, version-frame, table-frame, noted-bit}
+use Rattle.demand.specs.Recorded.{unlock-recorded}
+use Rattle.demand.specs.Servers.{both, both-client, both-other, both-server, both-else, is-lock, a-lock, unlock-stays, value-frame, version-frame, table-frame, noted-bit}
 use Rattle.demand.specs.Committed.{both-ways}
 use Rattle.demand.specs.Written.{value-none, value-one, version-none, version-one, table-none, table-one, locks-stay}
 use Rattle.demand.specs.Kept.{away, related}
@@ -117,18 +112,12 @@ module _ (k j slots : ℕ) (al : Allowed (sizes k j slots)) (few : suc j ≤ 16)
   abbrev p₂ : Place → ℕ
   p₂ = changed places p ps
 
-  F : ℕ → ℕ → ℕ
-  F i w = unlocked (c .0) w
-
-  swept-is : p₂ ≡ after (here k j slots al u fit y shown s low el p₁) (lk k j slots al u fit y shown s low el p₁) F p₁ (count u Reads)
-  unfolding F unlock-step count number-at U.item-of andThen
-  swept-is = changed-append places (store-all u (s .0) p) (unlock-each u (c .0) low (s .0) p₁) p
+  then-unlocked : p₂ ≡ changed places p₁ (unlock-each u (c .0) low (s .0) p₁)
+  unfolding andThen
+  then-unlocked = changed-append places (store-all u (s .0) p) (unlock-each u (c .0) low (s .0) p₁) p
 
   stays : (a : Place) → is-lock a ≡ false → p₂ a ≡ p₁ a
-  stays a h =
-      ap (λ (f : Place → ℕ). f a) swept-is
-      ∙ swept-other (here k j slots al u fit y shown s low el p₁) (lk k j slots al u fit y shown s low el p₁) F p₁ (count u Reads) a
-      (λ i _ _ e. not-a-lock a (object-of (number-at u Reads i)) h e)
+  stays a h = ap (λ (f : Place → ℕ). f a) then-unlocked ∙ unlock-stays u low (s .0) p₁ a h (c .0)
 
   module _ (o : Obj) (hi : In-store k j slots o) where
     -- what is not read is not written
@@ -233,34 +222,11 @@ module _ (k j slots : ℕ) (al : Allowed (sizes k j slots)) (few : suc j ≤ 16)
             (λ is-meta. same ∙ subst (λ (v : Obj). (inner v (value-of o (record-at u Reads i)) || inner v (value-of o (record-at u Writes w))) ≡ true) (sym is-meta) refl))
 
     lock-after : lock-kept k j slots p s o ≡ true → Recorded k j slots (Mv.drop (T k j slots) c (M .lock s o)) (p₂ (lock-of (object-of (number o))))
-    unfolding F
     lock-after kept =
-        subst (Recorded k j slots (Mv.drop (T k j slots) c (M .lock s o)))
-        (sym (ap (λ (f : Place → ℕ). f (lock-of (object-of (number o)))) swept-is
-        ∙ ap (λ (x : _). after (here k j slots al u fit y shown s low el p₁) (lk k j slots al u fit y shown s low el p₁) F p₁ (count u Reads) (lock-of x)) (object-number (sizes k j slots) al o hi)))
-        (by (find u Reads (number o)) refl)
-      where
-        W : ℕ
-        W = after (here k j slots al u fit y shown s low el p₁) (lk k j slots al u fit y shown s low el p₁) F p₁ (count u Reads) (lock-place k j slots al o)
-
-        old : Recorded k j slots (M .lock s o) (p₁ (lock-place k j slots al o))
-        old =
-            subst (Recorded k j slots (M .lock s o)) (sym (locks-stay k j slots al u y shown s p (lock-place k j slots al o) (a-lock (server-object o))))
-            (subst (λ (x : _). Recorded k j slots (M .lock s o) (p (lock-of x))) (object-number (sizes k j slots) al o hi) (S .lock-as o hi kept))
-
-        by : (f : Found) → find u Reads (number o) ≡ f → Recorded k j slots (Mv.drop (T k j slots) c (M .lock s o)) W
-        by Absent e =
-            subst (Recorded k j slots (Mv.drop (T k j slots) c (M .lock s o))) (sym (none-swept k j slots al u fit y shown s low el p₁ F o hi kept e))
-            (drop-kept k j slots few c (M .lock s o) (p₁ (lock-place k j slots al o)) old)
-        by (At i) e = here? (here k j slots al u fit y shown s low el p₁ i) refl
-          where
-            here? : (b : Bool) → here k j slots al u fit y shown s low el p₁ i ≡ b → Recorded k j slots (Mv.drop (T k j slots) c (M .lock s o)) W
-            here? true b =
-                subst (Recorded k j slots (Mv.drop (T k j slots) c (M .lock s o))) (sym (one-swept k j slots al u fit y shown s low el p₁ F o hi kept i e b))
-                (drop-recorded k j slots few c (M .lock s o) (p₁ (lock-place k j slots al o)) old)
-            here? false b =
-                subst (Recorded k j slots (Mv.drop (T k j slots) c (M .lock s o))) (sym (not-swept k j slots al u fit y shown s low el p₁ F o hi kept i e b))
-                (drop-kept k j slots few c (M .lock s o) (p₁ (lock-place k j slots al o)) old)
+        let a = lock-of (object-of (number o)) in
+        subst (Recorded k j slots (Mv.drop (T k j slots) c (M .lock s o))) (sym (ap (λ (f : Place → ℕ). f a) then-unlocked))
+        (unlock-recorded k j slots al few c u fit y shown s low el p₁ o hi kept (M .lock s o)
+        (subst (Recorded k j slots (M .lock s o)) (sym (locks-stay k j slots al u y shown s p a (a-lock (object-of (number o))))) (S .lock-as o hi kept)))
 
   -- ---- the client's part, and the whole
   abbrev qs : List (Put ClientWord)

@@ -68,7 +68,7 @@ applied-outcome z m c s = go (all-applied z m c s) _ _
     go false ps qs = refl
 
 -- stores of a part, one list after another
-pub over-append : {A B : Type 0} (e : A → B) (ps qs : List (Put A)) → over e (ps ++ qs) ≡ over e ps ++ over e qs
+over-append : {A B : Type 0} (e : A → B) (ps qs : List (Put A)) → over e (ps ++ qs) ≡ over e ps ++ over e qs
 unfolding over
 over-append e [] qs = refl
 over-append e (put a v ∷ ps) qs = ap (λ (t : List (Put _)). put (e a) v ∷ t) (over-append e ps qs)

@@ -37,8 +37,8 @@ use Rattle.demand.specs.InRange.{prepared-fits, decision-fits}
 use Rattle.demand.specs.Turns.{store, Good, still-fits, Turns}
 
 -- nothing is applied before the decision
-pub nothing-applied : (k j slots : ℕ) → Allowed (sizes k j slots) → (m : Address → ℕ) (L : Ledger) (M : P.Machine (T k j slots)) (c : Fin (suc j)) → Related k j slots m L M
-    → client-of m (c .0) phase ≡ 2 → (s : Fin (suc k)) → bit (client-of m (c .0) applied) (s .0) ≡ false
+pub nothing-applied : (k j slots : ℕ) → Allowed (sizes k j slots) → (m : Address → ℕ) (L : Ledger) (M : P.Machine (T k j slots)) (c : Fin (suc j))
+    → Related k j slots m L M → client-of m (c .0) phase ≡ 2 → (s : Fin (suc k)) → bit (client-of m (c .0) applied) (s .0) ≡ false
 unfolding phase-of
 nothing-applied k j slots al m L M c R now s =
     let shown = R .clients c .slot in

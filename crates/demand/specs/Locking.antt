@@ -23,7 +23,9 @@ use Rattle.protocol.specs.Moves as Mv
 use Rattle.server.specs.declared.place.Place.{Place}
 use Rattle.server.specs.declared.place.Place.the-variants as place
 use Rattle.server.specs.Layout.{places}
+use Rattle.server.specs.Lock.{locked, unlocked}
 use Rattle.server.specs.Object.{object-of, lock-of}
+use Rattle.server.specs.Store.{lock-step, unlock-step}
 use Rattle.client.specs.declared.part.Set.the-variants.{Reads, Writes}
 use Rattle.client.specs.Layout.{ClientWord}
 use Rattle.client.specs.Record.{number, value-of}
@@ -32,6 +34,7 @@ use Rattle.client.specs.Sets.{count, record-at, number-at, find}
 use Rattle.client.specs.Items as I
 use Rattle.client.specs.Fits.{client-fits}
 use Rattle.client.specs.Participants.{at-home}
+use Rattle.steps.specs.Steps.{lock-each, unlock-each}
 use Rattle.steps.specs.Uses as U
 use Rattle.demand.specs.Store.{sizes, home, keeps}
 use Rattle.demand.specs.Numbers.{obj-of, number-obj, obj-number, inner-of, server-object, object-number}
@@ -283,3 +286,36 @@ module _ (k j slots : ℕ) (al : Allowed (sizes k j slots)) where
         not-swept b =
             swept-other here lk F p (count u Reads) (lock-place o)
             (λ t l r q. not-both (subst (λ (x : ℕ). here x ≡ true) (one-place i t (at .0) l (sym (is-it t l r q) ∙ sym the-object)) r) b)
+
+      -- the lock is that of an object that is read and locked here, or its word stays
+      abbrev pub Here : ℕ → Type 0
+      Here i = (find u Reads (number o) ≡ At i) × (here i ≡ true)
+
+      abbrev Becomes : ℕ → ℕ → Type 0
+      Becomes w old = ((i : ℕ) × Here i × (w ≡ F i old)) ⊎ (((i : ℕ) → ¬ (Here i)) × (w ≡ old))
+
+      abbrev pub Swept : ℕ → Type 0
+      Swept w = Becomes w (p (lock-of (object-of (number o))))
+
+      swept-or-not : Swept (after here lk F p (count u Reads) (lock-of (object-of (number o))))
+      swept-or-not =
+          subst (λ (a : Place). Becomes (after here lk F p (count u Reads) a) (p a)) (sym (ap lock-of (object-number (sizes k j slots) al o hi)))
+          (go (find u Reads (number o)) refl)
+        where
+          go : (f : Found) → find u Reads (number o) ≡ f → Becomes swept (p (lock-place o))
+          go Absent e = inr (λ i q. absent≢at i (sym e ∙ q .0), none-swept e)
+          go (At i) e = by (here i) refl
+            where
+              by : (b : Bool) → here i ≡ b → Becomes swept (p (lock-place o))
+              by true b = inl (i, (e, b), one-swept i e b)
+              by false b = inr (λ n q. not-both (subst (λ (x : ℕ). here x ≡ true) (at-same n i (sym (q .0) ∙ e)) (q .1)) b, not-swept i e b)
+
+    -- at a prepare, and at an apply or an abort
+    module _ (c : ℕ) (o : Obj) (hi : In-store k j slots o) (kept : lock-kept k j slots p s o ≡ true) where
+      pub locked-swept : Swept (λ i. locked (U.read-item u i .written) c) o hi kept (changed places p (lock-each u c low (s .0) p) (lock-of (object-of (number o))))
+      unfolding lock-step count number-at U.item-of
+      locked-swept = swept-or-not (λ i. locked (U.read-item u i .written) c) o hi kept
+
+      pub unlocked-swept : Swept (λ i. unlocked c) o hi kept (changed places p (unlock-each u c low (s .0) p) (lock-of (object-of (number o))))
+      unfolding unlock-step count number-at U.item-of
+      unlocked-swept = swept-or-not (λ i. unlocked c) o hi kept

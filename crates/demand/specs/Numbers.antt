@@ -1,5 +1,5 @@
 -- Objects and their numbers, at a store of allowed sizes.
-use mathlib.Core.Path.{_≡_, refl, sym, _∙_}
+use mathlib.Core.Path.{_≡_, refl, ap, sym, _∙_}
 use mathlib.Core.Bool.{Bool, true, false, cond}
 use Prim.Native.Nat.{ℕ, _+_, _-_, _/_, _<_}
 use native.Mathlib.Omega.{arith}
@@ -93,6 +93,9 @@ module _ (z : Sizes) (al : Allowed z) where
       same meta = refl
       same (node n) = refl
       same (flag n) = refl
+
+  pub number-inside : (o : Obj) → object-in-store z o ≡ true → number-in-store z (number o) ≡ true
+  number-inside o h = store-obj z (number o) ∙ ap (object-in-store z) (obj-number o h) ∙ h
 
   pub inner-of : (o : Obj) → object-in-store z o ≡ true → (r : Node) → I.inner (number o) r ≡ inner o (value-of o r)
   unfolding I.inner

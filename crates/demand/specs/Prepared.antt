@@ -44,9 +44,9 @@ use Rattle.demand.specs.Numbers.{obj-of, inner-of, server-object, object
 use Rattle.demand.specs.Shows.{phase-of, T, In-store, Recorded, lock-kept, item-from, item-of, Slot-shown, Server-shown, Client-shown, Related}
 use Rattle.demand.specs.Course.{else-same, course-shown}
 use Rattle.demand.specs.Held.{found-at, read-in, item-at, all-items}
-use Rattle.demand.specs.Locking.{asked, held, read-same, write-same, after, swept-other, here, lk, by-object, here-kept, lock-place, none-swept, one-swept, not-swept, the-object}
+use Rattle.demand.specs.Locking.{asked, held, read-same, write-same, after, here, lk, by-object, here-kept, lock-place, none-swept, one-swept, not-swept, the-object}
 use Rattle.demand.specs.Recorded.{write-recorded, read-recorded, grants-write, grants-read, grants-none}
-use Rattle.demand.specs.Servers.{both, both-client, both-other, both-server, both-else, is-lock, not-a-lock, value-frame, version-frame, table-frame, noted-bit}
+use Rattle.demand.specs.Servers.{both, both-client, both-other, both-server, both-else, is-lock, lock-stays, value-frame, version-frame, table-frame, noted-bit}
 use Rattle.demand.specs.Checked.{all-found, found-same, mark-of, mark-is, check-passes}
 use Rattle.demand.specs.Kept.{away, related}
 
@@ -221,10 +221,7 @@ module _ (k j slots : ℕ) (al : Allowed (sizes k j slots)) (few : suc j ≤ 16)
 
     -- words that are no locks stay
     stays : (a : Place) → is-lock a ≡ false → p′ a ≡ p a
-    stays a h =
-        ap (λ (f : Place → ℕ). f a) swept-is
-        ∙ swept-other (here k j slots al u fit y shown s low el p) (lk k j slots al u fit y shown s low el p) F p (count u Reads) a
-        (λ i _ _ e. not-a-lock a (object-of (number-at u Reads i)) h e)
+    stays a h = lock-stays u low (s .0) p a h (c .0)
 
     -- locks as the machine has them are recorded
     recorded-at : (o : Obj) → In-store k j slots o → lock-kept k j slots p s o ≡ true

@@ -9,11 +9,17 @@ use native.Mathlib.Decide.{decLt, Fin-discrete, Fin·val-path}
 use borrow.Author.Tests.{eqb-true, le-ltb, not-false}
 use lib.Dec.{eqb}
 use Rattle.base.specs.Test.{bool-cases, not-both, and-both, or-left, or-right, yes?}
+use Rattle.layout.specs.Space.{changed}
+use Rattle.operations.specs.Object.{Obj}
+use Rattle.operations.specs.Slot.{Allowed}
 use Rattle.protocol.specs.Lists.{any}
 use Rattle.protocol.specs.Machine as P
 use Rattle.protocol.specs.Moves as Mv
 use Rattle.server.specs.declared.lock.Use.{Use}
 use Rattle.server.specs.declared.lock.Use.the-variants.{Read, Write}
+use Rattle.server.specs.declared.place.Place.{Place}
+use Rattle.server.specs.Layout.{places}
+use Rattle.server.specs.Object.{object-of, lock-of}
 use Rattle.server.specs.Lock.{busy, locked, unlocked}
 use Rattle.server.specs.LockLaws.{
   reads,
@@ -26,9 +32,14 @@ use Rattle.server.specs.LockLaws.{
   unlocked-reads-other,
   unlocked-writes-other,
 }
-use Rattle.demand.specs.Store.{fins}
+use Rattle.client.specs.Layout.{ClientWord}
+use Rattle.client.specs.Record.{number}
+use Rattle.client.specs.Fits.{client-fits}
+use Rattle.steps.specs.Steps.{unlock-each}
+use Rattle.demand.specs.Store.{sizes, fins}
 use Rattle.demand.specs.Held.{any-in}
-use Rattle.demand.specs.Shows.{T, Recorded}
+use Rattle.demand.specs.Locking.{Swept, unlocked-swept}
+use Rattle.demand.specs.Shows.{T, In-store, lock-kept, Slot-shown, Recorded}
 
 -- one of two, where the other is not
 first : (a b : Bool) → (a || b) ≡ true → b ≡ false → a ≡ true
@@ -158,3 +169,20 @@ module _ (k j slots : ℕ) (few : suc j ≤ 16) (c : Fin (suc j)) where
   pub grants-none : (l : P.Lock (T k j slots)) → Mv.grants (T k j slots) c false false l ≡ true
   grants-none (P.shared q) = refl
   grants-none (P.owned d) = or-right (yes? (Fin-discrete (suc j) d c)) true refl
+
+-- what is unlocked at a server, at an apply or an abort
+pub unlock-recorded : (k j slots : ℕ) (al : Allowed (sizes k j slots)) (few : suc j ≤ 16) (c : Fin (suc j)) (u : ClientWord → ℕ)
+    (fit : client-fits (sizes k j slots) u ≡ true) (y : P.Slot (T k j slots)) (shown : Slot-shown k j slots u y) (s : Fin (suc k)) (low : ℕ)
+    (el : y .lowest .0 ≡ low) (p : Place → ℕ) (o : Obj) (hi : In-store k j slots o) → lock-kept k j slots p s o ≡ true → (l : P.Lock (T k j slots)) → Recorded k j slots l (p (lock-of (object-of (number o))))
+    → Recorded k j slots (Mv.drop (T k j slots) c l) (changed places p (unlock-each u (c .0) low (s .0) p) (lock-of (object-of (number o))))
+unlock-recorded k j slots al few c u fit y shown s low el p o hi kept l h = go (unlocked-swept k j slots al u fit y shown s low el p (c .0) o hi kept)
+  where
+    now : ℕ
+    now = changed places p (unlock-each u (c .0) low (s .0) p) (lock-of (object-of (number o)))
+
+    old : ℕ
+    old = p (lock-of (object-of (number o)))
+
+    go : Swept k j slots al u fit y shown s low el p (λ i. unlocked (c .0)) o hi kept now → Recorded k j slots (Mv.drop (T k j slots) c l) now
+    go (inl q) = subst (Recorded k j slots (Mv.drop (T k j slots) c l)) (sym (q .2)) (drop-recorded k j slots few c l old h)
+    go (inr q) = subst (Recorded k j slots (Mv.drop (T k j slots) c l)) (sym (q .1)) (drop-kept k j slots few c l old h)

@@ -384,6 +384,7 @@ module _ (k j slots : ℕ) (al : Allowed (sizes k j slots)) (M : P.Machine (T k 
         meta-renews = λ i w K e. meta-renewed w K i e;
         flag-renews = λ i w x K Kx l big there.
             let n = number-at w Writes i - 8193 in
-            let W = subst (Written i) (ap obj-of (sym (number-is w K i)) ∙ flag-number (number-at w Writes i) big) (write-item i (subst (λ (a : ℕ). i < a) (count-is x Kx) l)) in
+            let W = subst (Written i) (ap obj-of (sym (number-is w K i)) ∙ flag-number (number-at w Writes i) big)
+            (write-item i (subst (λ (a : ℕ). i < a) (count-is x Kx) l)) in
             flag-put w K i n W (eqb (w (item Writes i 19)) 1) (ap (λ (x : ℕ). taken (eqb x 1)) (first-is w K i)) there;
       }) u

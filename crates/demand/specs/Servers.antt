@@ -1,14 +1,16 @@
 -- Steps that store in one server's part and in one client's; what a server shows stays where only locks change.
 use mathlib.Core.Path.{_≡_, refl, ap, sym, _∙_, subst, fun-ext}
-use mathlib.Core.Bool.{Bool, true, false, true≢false}
-use mathlib.Core.List.{List, _++_}
+use mathlib.Core.Bool.{Bool, true, false, cond}
+use mathlib.Core.List.{List, [], _++_}
 use Prim.Native.Nat.{ℕ, _/_, _%_, Fin}
 use native.Mathlib.Decide.{Fin-discrete, Fin·val-path}
+use Rattle.base.specs.Test.{not-both}
 use Rattle.base.specs.Update.{upd, upd-same, upd-other}
 use Rattle.memory.specs.Bit.{bit, putBit, bit-put-same, bit-put-other}
 use Rattle.layout.specs.Space.{Put, tab, changed}
 use Rattle.layout.specs.Step.{changed-append}
 use Rattle.layout.specs.Part.{over}
+use Rattle.layout.specs.Sweep.{sweep}
 use Rattle.nodes.specs.Name as N
 use Rattle.operations.specs.Object.{Obj, meta, node, flag, root, taken}
 use Rattle.server.specs.declared.object.Object.{Object}
@@ -17,12 +19,17 @@ use Rattle.server.specs.declared.place.Place.{Place}
 use Rattle.server.specs.declared.place.Place.the-variants as place
 use Rattle.server.specs.Layout.{places}
 use Rattle.server.specs.Object.{lock-of}
+use Rattle.server.specs.Store.{lock-step, unlock-step}
+use Rattle.client.specs.declared.part.Set.the-variants.{Reads}
 use Rattle.client.specs.Layout.{ClientWord, client-words}
 use Rattle.nodes.specs.Stored.{node-of}
 use Rattle.client.specs.Record.{value-of}
+use Rattle.client.specs.Sets.{count}
 use Rattle.steps.specs.Whole.{Address, server, client, whole}
-use Rattle.steps.specs.Steps.{node-at}
+use Rattle.steps.specs.Steps.{lock-each, unlock-each, node-at}
+use Rattle.steps.specs.Uses as U
 use Rattle.steps.specs.Stores.{client-of, server-of, client-changed, client-else, client-servers, server-changed, server-else, server-clients}
+use Rattle.demand.specs.Frame.{Only, only-sweep, only-other}
 use Rattle.demand.specs.Shows.{value-at, version-at, table-at}
 
 -- ---- stores at server s, then at client c
@@ -71,8 +78,32 @@ a-lock object.Metadata = refl
 a-lock (object.Node x) = refl
 a-lock (object.Flag x) = refl
 
-pub not-a-lock : (a : Place) (o : Object) → is-lock a ≡ false → ¬ (a ≡ lock-of o)
-not-a-lock a o h e = true≢false (sym (a-lock o) ∙ ap is-lock (sym e) ∙ h)
+-- locking and unlocking what is read changes locks alone
+module _ (u : ClientWord → ℕ) (low t : ℕ) (p : Place → ℕ) (a : Place) (h : is-lock a ≡ false) where
+  abbrev At-locks : List (Put Place) → Type 0
+  At-locks = Only places (λ x v. is-lock x ≡ true)
+
+  abbrev each : (U.Item → (Place → ℕ) → List (Put Place)) → ℕ → (Place → ℕ) → List (Put Place)
+  each f n q = cond (U.locked-at low t (U.read-item u n)) (f (U.read-item u n) q) []
+
+  stays : (f : U.Item → (Place → ℕ) → List (Put Place)) → ((i : U.Item) (q : Place → ℕ) → At-locks (f i q))
+      → changed places p (sweep places (each f) (count u Reads) p) a ≡ p a
+  unfolding Only
+  stays f at =
+      only-other places (λ x v. is-lock x ≡ true) a (λ x v l e. not-both (ap is-lock e ∙ l) h) (sweep places (each f) (count u Reads) p) p
+      (only-sweep places (λ x v. is-lock x ≡ true) (each f) (count u Reads) p (λ n q. tested (U.locked-at low t (U.read-item u n)) _ (at (U.read-item u n) q)))
+    where
+      tested : (b : Bool) (ps : List (Put Place)) → At-locks ps → At-locks (cond b ps [])
+      tested true ps g = g
+      tested false ps g = tt
+
+  pub lock-stays : (c : ℕ) → changed places p (lock-each u c low t p) a ≡ p a
+  unfolding lock-step Only
+  lock-stays c = stays (λ i q. lock-step (U.object i) (i .written) c q) (λ i q. (a-lock (U.object i), tt))
+
+  pub unlock-stays : (c : ℕ) → changed places p (unlock-each u c low t p) a ≡ p a
+  unfolding unlock-step Only
+  unlock-stays c = stays (λ i q. unlock-step (U.object i) c q) (λ i q. (a-lock (U.object i), tt))
 
 -- what a server stores but its locks
 module _ (k j slots : ℕ) (p q : Place → ℕ) (h : (a : Place) → is-lock a ≡ false → q a ≡ p a) where

@@ -1,17 +1,17 @@
 -- Apply: what servers store, and the end of a transaction.
 use mathlib.Core.Path.{_≡_, refl, sym, subst}
-use mathlib.Core.Bool.{true, false, _||_}
+use mathlib.Core.Bool.{true, _||_}
 use Prim.Native.Nat.{ℕ, suc, _≤_, _<_, Fin}
 use native.Mathlib.Omega.{arith}
 use native.Mathlib.Decide.{decLe}
 use borrow.Author.Tests.{lt-ltb}
 use lib.Dec.{ltb}
 use Rattle.base.specs.Test.{or-left, or-right}
-use Rattle.memory.specs.Bit.{bit}
 use Rattle.layout.specs.Space.{changed}
 use Rattle.layout.specs.Step.{andThen, changed-append}
 use Rattle.operations.specs.Slot.{Allowed}
 use Rattle.protocol.specs.Machine as P
+use Rattle.server.specs.Layout.{places}
 use Rattle.client.specs.declared.part.Set.the-variants.{Reads, Writes}
 use Rattle.client.specs.Layout.{ClientWord, client-words, phase, applied}
 use Rattle.client.specs.Record.{last-version}
@@ -29,9 +29,9 @@ use Rattle.steps.specs.Steps as Steps
 use Rattle.steps.specs.Steps.{unlock-each, store-all}
 use Rattle.demand.specs.Held.{every-below}
 use Rattle.demand.specs.Ledger.{Ledger}
-use Rattle.demand.specs.Shows.{T}
+use Rattle.demand.specs.Shows.{T, Related}
 use Rattle.demand.specs.Store.{sizes}
-use Rattle.demand.specs.Turns.{one-of, store, Good}
+use Rattle.demand.specs.Turns.{one-of, store}
 use Rattle.ranges.specs.Sound.{Part-sound, Server-sound, Sound-store}
 use Rattle.ranges.specs.Part.{applied-part, finish-part}
 use Rattle.ranges.specs.Stored.{apply-sound}
@@ -39,7 +39,6 @@ use Rattle.ranges.specs.Sets.{part-fits}
 use Rattle.ranges.specs.Unlocks.{apply-locks, last-locks}
 use Rattle.ranges.specs.Held.{unlock-judged}
 use Rattle.ranges.specs.Whole.{accepted, Kept, if-kept, both-sound}
-use Rattle.server.specs.Layout.{places}
 
 module _ (k j slots : ℕ) where
   abbrev z : Sizes
@@ -60,8 +59,8 @@ module _ (k j slots : ℕ) where
 
   -- ---- APPLY at the server s
   module _ (al : Allowed (sizes k j slots)) (few : suc j ≤ 16) (m : Address → ℕ) (S : Sound-store k j slots m) (L : Ledger) (M : P.Machine (T k j slots))
-      (G : Good k j slots m L M) (c : Fin (suc j)) (s : Fin (suc k))
-      (now : client-of m (c .0) phase ≡ 3) (new : bit (client-of m (c .0) applied) (s .0) ≡ false) where
+      (R : Related k j slots m L M) (c : Fin (suc j)) (s : Fin (suc k))
+      (now : client-of m (c .0) phase ≡ 3) where
     abbrev u : ClientWord → ℕ
     u = client-of m (c .0)
 
@@ -89,16 +88,16 @@ module _ (k j slots : ℕ) where
         one-of (Kept k j slots m) (Steps.all-applied z m (c .0) (s .0)) _ _
         (λ e. record {
           passes = accepted Committed refl;
-          sound = both-sound k j slots m S s c _ _ here ended-part (last-locks k j slots al few m L M c (G .shown) fit (S .locks) s now e);
+          sound = both-sound k j slots m S s c _ _ here ended-part (last-locks k j slots al few m L M c R fit (S .locks) s now e);
         })
         (λ _. record {
           passes = accepted (Applied (s .0)) refl;
-          sound = both-sound k j slots m S s c _ _ here noted-part (apply-locks k j slots al few m L M c (G .shown) fit (S .locks) s now);
+          sound = both-sound k j slots m S s c _ _ here noted-part (apply-locks k j slots al few m L M c R fit (S .locks) s now);
         })
 
     pub apply-kept : Kept k j slots m (Steps.apply z m (c .0) (s .0))
     unfolding Steps.apply
     apply-kept =
         if-kept k j slots m (Steps.apply-fits z m (c .0) (s .0)) _
-        (rw (unlock-judged k j slots few m S al c fit (M .slots c) (G .shown .clients c .slot) (omega (arith, now)) s, versions-judged m (c .0) (S .parts c)) refl)
+        (rw (unlock-judged k j slots few m S al c fit (M .slots c) (R .clients c .slot) (omega (arith, now)) s, versions-judged m (c .0) (S .parts c)) refl)
         applied-kept

@@ -30,7 +30,7 @@ use Rattle.operations.specs.Hit.{hit-eq, hit-self}
 use Rattle.client.specs.declared.answer.Look.{Look}
 use Rattle.client.specs.declared.part.Set.the-variants as set
 use Rattle.client.specs.Layout.{ClientWord, client-words, item, reads-count, writes-count}
-use Rattle.client.specs.Record.{number, first-slot, single, record-of, in-store, object-in-store, number-in-store, last-version, fits}
+use Rattle.client.specs.Record.{number, first-slot, single, record-of, in-store, object-in-store, last-version, fits}
 use Rattle.client.specs.Sets.{or-found, at-most, count, record-at, number-at, find}
 use Rattle.client.specs.Items.{has}
 use Rattle.client.specs.Part.{nothing}
@@ -41,7 +41,7 @@ use Rattle.client.specs.Answered.{entered}
 use Rattle.client.specs.Drops.{version-of}
 use Rattle.client.specs.Work.{version-in, at-last-version, any-at-last}
 use Rattle.steps.specs.Uses.{all}
-use Rattle.demand.specs.Numbers.{by-object, by-number-of}
+use Rattle.demand.specs.Numbers.{by-object, by-number-of, number-inside}
 use Rattle.demand.specs.Held.{found-at, has-at}
 use Rattle.demand.specs.Placed.{placed, placed-number, placed-record, placed-beside, placed-else}
 use Rattle.demand.specs.Behind.{writes-within, Elsewhere, field-same, set-same, Behind, find-behind, put-behind}
@@ -62,19 +62,14 @@ module _ (z : Sizes) (al : Allowed z) where
   pub object-sound : (o : Obj) (r : Node) → object-in-store z o ≡ true
       → by-object o (in-store z (first-slot r) && leb (r .version) last-version) (λ n. in-range r) (λ n. leb (first-slot r) 1) ≡ true
       → by-object o true (λ n. children-there z r) (λ n. true) ≡ true → Item-sound z (number o) r
-  unfolding number-in-store fits
+  unfolding fits
   object-sound o r h f c = record {
-    inside = by-number-of z al o h true (in-store z) (in-store z) ∙ same o ∙ h;
+    inside = number-inside z al o h;
     sound = record {
       fitting = by-number-of z al o h (in-store z (first-slot r) && leb (r .version) last-version) (λ n. in-range r) (λ n. leb (first-slot r) 1) ∙ f;
       children = by-number-of z al o h true (λ n. children-there z r) (λ n. true) ∙ c;
     };
   }
-    where
-      same : (o : Obj) → by-object o true (in-store z) (in-store z) ≡ object-in-store z o
-      same meta = refl
-      same (node n) = refl
-      same (flag n) = refl
 
   -- a node's record
   kept-range : (k l : ℕ) (ks vs : List ℕ) → Kept (There z) k l ks vs → l ≤ 4 → in-range (made k l 0 ks vs) ≡ true

@@ -50,7 +50,7 @@ use Rattle.demand.specs.Fetches as F
 use Rattle.demand.specs.Lacking.{asked, lacks-object}
 use Rattle.demand.specs.Ledger.{Ledger}
 use Rattle.demand.specs.Members.{kept-home, name-server}
-use Rattle.demand.specs.Numbers.{obj-of, as-flag, number-obj, store-obj, name-lt, object-number}
+use Rattle.demand.specs.Numbers.{obj-of, as-flag, number-obj, store-obj, name-lt, object-number, number-inside}
 use Rattle.demand.specs.Ran.{all-used}
 use Rattle.demand.specs.Shows.{T, In-store, lock-kept, Related}
 use Rattle.demand.specs.Store.{positive, sizes, keeps}
@@ -60,7 +60,7 @@ use Rattle.ranges.specs.Sound.{Part-sound, Sound-store}
 use Rattle.ranges.specs.Checks.{metadata-judged, fetch-judged}
 use Rattle.ranges.specs.Lists.{every-map, every-each, all-those}
 use Rattle.ranges.specs.Sets.{part-fits, All-copied}
-use Rattle.ranges.specs.Hand.{in-store-number, used-copied}
+use Rattle.ranges.specs.Hand.{used-copied}
 use Rattle.ranges.specs.Entries.{object-sound}
 use Rattle.ranges.specs.Part.{used-part, meta-part, node-part, vector-part}
 use Rattle.ranges.specs.Locks.{early-stored}
@@ -174,9 +174,9 @@ module _ (k j slots : ℕ) (al : Allowed (sizes k j slots)) (few : suc j ≤ 16)
           (one-of Fine (eqb found 0) _ _ (λ _. K) (λ _. aborts found))
 
     -- ---- "Metadata comes from server (client modulo servers), a node from its home, a vector from its server."
-    meta-kept : a ≡ object meta → (s : Fin (suc k)) → Fine (hand-over z m (c .0) us (object meta) (s .0) (Fetched 0 0))
+    meta-kept : (s : Fin (suc k)) → Fine (hand-over z m (c .0) us (object meta) (s .0) (Fetched 0 0))
     unfolding number-in-store metadata-at
-    meta-kept is-o s =
+    meta-kept s =
         object-kept s 0 0 0 (metadata-sound (suc k) slots (server-of m (s .0))) _ refl (omega arith)
         (metadata-judged (sizes k j slots) (s .0) (server-of m (s .0)) (S .servers s))
         (meta-part (sizes k j slots) v used _ _ (S .servers s .metadata))
@@ -186,7 +186,7 @@ module _ (k j slots : ℕ) (al : Allowed (sizes k j slots)) (few : suc j ≤ 16)
     node-kept x hi s home =
         let N = S .servers s .nodes x hi home in
         object-kept s (1 + x) 1 x (in-range (node-at (server-of m (s .0)) x)) (fetched-node x (node-at (server-of m (s .0)) x))
-        (in-store-number k j slots al u part (M .copy c) (R .clients c .copies) (M .slots c) (R .clients c .slot) (node x) hi)
+        (number-inside (sizes k j slots) al (node x) hi)
         (omega (arith, name-lt (sizes k j slots) al x hi)) (N .range)
         (node-part (sizes k j slots) v used x (node-at (server-of m (s .0)) x) (record { keys = refl; slots = refl })
         (object-sound (sizes k j slots) al (node x) (node-at (server-of m (s .0)) x) hi (N .range) (N .children)) N)
@@ -211,7 +211,7 @@ module _ (k j slots : ℕ) (al : Allowed (sizes k j slots)) (few : suc j ≤ 16)
   pub fetch-kept : (a : Ask) → worked (sizes k j slots) u ≡ Work.fetches a → Fine (Steps.fetch z m (c .0) us a)
   unfolding Steps.fetch broken
   fetch-kept (object meta) e =
-      let s : Fin (suc k) = (c .0 % suc k, mod-lt (c .0) (positive k)) in checked-kept (object meta) e s _ refl (meta-kept (object meta) e refl s)
+      let s : Fin (suc k) = (c .0 % suc k, mod-lt (c .0) (positive k)) in checked-kept (object meta) e s _ refl (meta-kept (object meta) e s)
   fetch-kept (object (node x)) e =
       let hi = lacked (object (node x)) e (node x) refl in
       let s : Fin (suc k) = (N.server-of x, name-server k j slots x hi) in

@@ -17,10 +17,10 @@ use Rattle.nodes.specs.declared.found.Found.the-variants.{At, Absent}
 use Rattle.operations.specs.Map.{H, H-is}
 use Rattle.operations.specs.Slot as S
 use Rattle.client.specs.declared.part.Set.{Set}
-use Rattle.client.specs.declared.part.Set.the-variants.{Writes, Copies}
+use Rattle.client.specs.declared.part.Set.the-variants.{Copies}
 use Rattle.client.specs.Layout.{ClientWord, client-code, client-words, field, item, vector-word, op-number, op-key, op-server, prepared, applied, fetched-vectors}
 use Rattle.client.specs.Record.{in-store}
-use Rattle.client.specs.Sets.{number-at, find}
+use Rattle.client.specs.Sets.{find}
 use Rattle.client.specs.Fits.{bounds, op-fits}
 use Rattle.client.specs.Part.{nothing, put-field, put-fields, put-item, put-vector}
 use Rattle.client.specs.Participants.{takes-part, participants-of, committing}
@@ -28,12 +28,10 @@ use Rattle.client.specs.Course.{noted, decided}
 use Rattle.client.specs.Copies.{to-place, copy-node}
 use Rattle.client.specs.Life.{reset, give}
 use Rattle.client.specs.Fetched.{mark-fetched}
-use Rattle.client.specs.Renew as Rn
 use Rattle.demand.specs.Frame.{Only, only-mono, only-keeps, last, read-after}
 use Rattle.demand.specs.Members.{mask-lt, one-more}
-use Rattle.demand.specs.Dropped.{Mark, Drop, only-outer}
+use Rattle.demand.specs.Dropped.{Mark, Drop}
 use Rattle.demand.specs.Behind.{Elsewhere, field-same}
-use Rattle.demand.specs.Renewed.{renew-keeps}
 use Rattle.ranges.specs.Sound.{Fields-sound}
 
 -- the greatest value of a field
@@ -252,14 +250,3 @@ module _ (z : S.Sizes) where
 
     pub vector-fields : (s : ℕ) (ws : List ℕ) → Fields-sound z (changed client-words u (put-vector s ws u))
     vector-fields s ws = stores-within z u (put-vector s ws u) (vector-within s ws u) F
-
-  -- ---- "The last apply .. renews its copies"
-  pub renewed-fields : (u : ClientWord → ℕ) → Fields-sound z u → Fields-sound z (changed client-words u (Rn.renew-kept u))
-  renewed-fields =
-      renew-keeps (Fields-sound z)
-      (record {
-        outer-drops = λ i w. dropped-fields z w (Rn.drop-outer i w) (only-outer i w);
-        node-renews = λ i w F _ _. copied-fields w F (number-at w Writes i) (Rn.renewed w i);
-        meta-renews = λ i w F _. meta-fields w F _ _;
-        flag-renews = λ i w x F _ _ _ _. vector-fields w F _ _;
-      })

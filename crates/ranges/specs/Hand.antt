@@ -21,7 +21,7 @@ use Rattle.protocol.specs.Machine as M
 use Rattle.client.specs.declared.part.Set.the-variants as set
 use Rattle.client.specs.Layout.{ClientWord, reads-count}
 use Rattle.client.specs.Answered.{entered}
-use Rattle.client.specs.Record.{number, in-store, object-in-store, number-in-store, fits}
+use Rattle.client.specs.Record.{number, in-store, object-in-store, fits}
 use Rattle.client.specs.Sets.{record-at, find}
 use Rattle.client.specs.Have.{is-found, copied, or-copied, or-read, source, have, broken}
 use Rattle.client.specs.Items.{has}
@@ -34,9 +34,9 @@ use Rattle.steps.specs.Uses.{all}
 use Rattle.demand.specs.AtHand.{had}
 use Rattle.demand.specs.Behind.{has-absent}
 use Rattle.demand.specs.Lacking.{plan, asked}
-use Rattle.demand.specs.Numbers.{name-lt, as-node, store-obj, obj-number, slot-named}
+use Rattle.demand.specs.Numbers.{name-lt, as-node, number-inside, slot-named}
 use Rattle.demand.specs.Ran.{with-used, all-used, Follows, run-follows}
-use Rattle.demand.specs.Shows.{T, In-store, Slot-shown, Copies-shown}
+use Rattle.demand.specs.Shows.{T, Slot-shown, Copies-shown}
 use Rattle.demand.specs.Store.{sizes}
 use Rattle.demand.specs.Held.{found-at}
 use Rattle.demand.specs.Records.{Points, op-names, have-storable}
@@ -44,7 +44,7 @@ use Rattle.ranges.specs.Sound.{children-there, Sound, Part-sound}
 use Rattle.ranges.specs.Lists.{every-more, all-every}
 use Rattle.ranges.specs.Sets.{part-fits, copied-sound, All-copied}
 use Rattle.ranges.specs.Entries.{There}
-use Rattle.ranges.specs.Renewing.{root-there}
+use Rattle.ranges.specs.Stored.{root-there}
 
 abbrev is-refused : Worked → Bool
 is-refused Work.refused = true
@@ -104,9 +104,6 @@ module _ (k j slots : ℕ) (al : Allowed (sizes k j slots)) (u : ClientWord → 
   fit : client-fits z u ≡ true
   fit = part-fits z u P
 
-  pub in-store-number : (o : Obj) → In-store k j slots o → number-in-store z (number o) ≡ true
-  in-store-number o h = store-obj z (number o) ∙ ap (object-in-store z) (obj-number z al o h) ∙ h
-
   at-hand : (o : Obj) (v : Val) → have z u (object o) ≡ some v → Storable (There z) o v
   at-hand = have-storable k j slots al u f copies fit y shown (There z) (λ o v h. points z u P al o (h .in-store) (h .found))
 
@@ -158,7 +155,7 @@ module _ (k j slots : ℕ) (al : Allowed (sizes k j slots)) (u : ClientWord → 
       go true e true = g
       go true e false =
           let H = had k j slots al u f copies fit y shown o (h .0 .0) (h .0 .1) in
-          every-more _ l (number o) g (in-store-number o (H .in-store), new-copy o (H .found) e)
+          every-more _ l (number o) g (number-inside z al o (H .in-store), new-copy o (H .found) e)
 
   pub used-copied : (us : List ℕ) → us ≡ all-used (new u) (asked z u) [] → All-copied z u us
   unfolding Every

@@ -104,7 +104,7 @@ module _ (k j slots : ℕ) (al : Allowed (sizes k j slots)) (few : suc j ≤ 16)
             prepare-kept k j slots al few m S L M G c (n .server, p .known-participant (omega (arith, e)) (omega (arith, e))) (q .0) (q .1) (q .2)
         go (suc (suc (suc (suc (suc zero))))) e l f =
             let q = unfinished u (n .server) applied 3 f in
-            apply-kept k j slots al few m S L M G c (n .server, p .known-participant (omega (arith, e)) (omega (arith, e))) (q .0) (q .2)
+            apply-kept k j slots al few m S L M (G .shown) c (n .server, p .known-participant (omega (arith, e)) (omega (arith, e))) (q .0)
         go (suc (suc (suc (suc (suc (suc zero)))))) e l f =
             let b = and-both (leb 1 (u phase)) (leb (u phase) 2) f in
             abort-kept k j slots m S c al few L M (G .shown) (either (u phase) (leb-true 1 (u phase) (b .0)) (leb-true (u phase) 2 (b .1))) 6 []

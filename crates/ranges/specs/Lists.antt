@@ -4,6 +4,7 @@ use mathlib.Core.Bool.{Bool, true, false, cond}
 use mathlib.Core.List.{List, [], _∷_, _++_, map}
 use Prim.Native.Nat.{ℕ, zero, suc, _<_}
 use native.Mathlib.Omega.{arith}
+use lib.ListN.{length, getD}
 use Rattle.base.specs.Test.{and-both}
 use Rattle.plans.specs.Walk.{Every}
 use Rattle.operations.specs.Storable.{every-append}
@@ -27,6 +28,12 @@ pub every-each : {A : Type 0} (Q : A → Type 0) (n : ℕ) (f : ℕ → A) → (
 unfolding each Every
 every-each Q zero f h = tt
 every-each Q (suc n) f h = every-more Q (each n f) (f n) (every-each Q n f (λ i l. h i (omega arith))) (h n (omega arith))
+
+pub every-at : {A : Type 0} (P : A → Type 0) (d : A) (l : List A) → Every P l → (i : ℕ) → i < length l → P (getD l i d)
+unfolding Every
+every-at P d [] h i l = absurd (omega arith)
+every-at P d (a ∷ m) h zero l = h .0
+every-at P d (a ∷ m) h (suc i) l = every-at P d m (h .1) i (omega arith)
 
 -- a test of all of them
 pub all-every : {A : Type 0} (f : A → Bool) (l : List A) → all f l ≡ true → Every (λ a. f a ≡ true) l

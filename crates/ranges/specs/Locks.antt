@@ -19,15 +19,13 @@ use Rattle.operations.specs.Slot.{Allowed}
 use Rattle.protocol.specs.Machine as P
 use Rattle.server.specs.declared.place.Place.{Place}
 use Rattle.server.specs.Object.{object-of, lock-of}
-use Rattle.server.specs.Layout.{places}
 use Rattle.server.specs.Lock.{locked, in-range}
 use Rattle.server.specs.LockLaws.{locked-range}
-use Rattle.server.specs.Store.{lock-step}
 use Rattle.client.specs.declared.part.Set.the-variants.{Reads, Writes, Copies}
 use Rattle.client.specs.Layout.{ClientWord, client-words, field, item, vector-word, phase, participants, prepared, applied, reads-count, writes-count}
 use Rattle.client.specs.Record.{number, by-number, first-slot}
 use Rattle.client.specs.Commit.{is-at}
-use Rattle.client.specs.Sets.{count, record-at, number-at, find}
+use Rattle.client.specs.Sets.{record-at, number-at, find}
 use Rattle.client.specs.Items.{inner, has, of-record}
 use Rattle.client.specs.Participants.{lowest-of}
 use Rattle.client.specs.Part.{put-field}
@@ -44,15 +42,14 @@ use Rattle.steps.specs.Steps.{lock-each, preparing}
 use Rattle.demand.specs.Store.{sizes}
 use Rattle.demand.specs.Frame.{last, read-after, Only, only-then, only-mono, only-other}
 use Rattle.demand.specs.Ledger.{Ledger}
-use Rattle.demand.specs.Numbers.{object-number}
 use Rattle.demand.specs.Shows.{T, In-store, lock-kept, Slot-shown, Related}
 use Rattle.demand.specs.Slots.{Same-sets, number-frame, same-read, same-written, record-frame}
 use Rattle.demand.specs.CopyWords.{sets-refl}
 use Rattle.demand.specs.Course.{else-same}
 use Rattle.demand.specs.Decides.{nothing-applied}
 use Rattle.demand.specs.Dropped.{Mark, Drop, only-all}
-use Rattle.demand.specs.Held.{absent≢at, at-same, found-at}
-use Rattle.demand.specs.Locking.{after, here, lk, lock-place, none-swept, one-swept, not-swept}
+use Rattle.demand.specs.Held.{found-at}
+use Rattle.demand.specs.Locking.{Swept, locked-swept}
 use Rattle.demand.specs.Servers.{both, both-client, both-other, both-server, both-else}
 use Rattle.demand.specs.Turns.{store}
 use Rattle.ranges.specs.Sound.{Holds, Lock-sound, Locks-sound}
@@ -254,43 +251,6 @@ module _ (k j slots : ℕ) (m : Address → ℕ) (c : ℕ) (S : (s : Fin (suc k)
   pub decided-locks : (s : Fin (suc k)) → Locks-sound k j slots (changed whole m (over (client c) (decided (client-of m c)))) s
   decided-locks = part-stored k j slots m c (decided (client-of m c)) S (λ s x h. goes-on-decided (s .0) (client-of m c))
 
--- ---- a sweep over the read set, at the lock of one object: it is read and locked here, or its word stays
-module _ (k j slots : ℕ) (al : Allowed (sizes k j slots)) (u : ClientWord → ℕ) (fit : client-fits (sizes k j slots) u ≡ true) (y : P.Slot (T k j slots))
-    (h : Slot-shown k j slots u y) (s : Fin (suc k)) (low : ℕ) (el : y .lowest .0 ≡ low) (p : Place → ℕ) (F : ℕ → ℕ → ℕ)
-    (o : Obj) (hi : In-store k j slots o) (kept : lock-kept k j slots p s o ≡ true) where
-  abbrev Here : ℕ → Type 0
-  Here i = (find u Reads (number o) ≡ At i) × (U.locked-at low (s .0) (U.read-item u i) ≡ true)
-
-  abbrev swept : ℕ
-  swept = after (here k j slots al u fit y h s low el p) (lk k j slots al u fit y h s low el p) F p (count u Reads) (lock-of (object-of (number o)))
-
-  abbrev old : ℕ
-  old = p (lock-of (object-of (number o)))
-
-  abbrev pub Swept : ℕ → Type 0
-  Swept w = ((i : ℕ) × Here i × (w ≡ F i old)) ⊎ (((i : ℕ) → ¬ (Here i)) × (w ≡ old))
-
-  pub swept-or-not : Swept swept
-  swept-or-not =
-      subst Out (sym (ap lock-of (object-number (sizes k j slots) al o hi))) (go (find u Reads (number o)) refl)
-    where
-      Out : Place → Type 0
-      Out a =
-          let w = after (here k j slots al u fit y h s low el p) (lk k j slots al u fit y h s low el p) F p (count u Reads) a in
-          ((i : ℕ) × Here i × (w ≡ F i (p a))) ⊎ (((i : ℕ) → ¬ (Here i)) × (w ≡ p a))
-
-      go : (f : Found) → find u Reads (number o) ≡ f → Out (lock-place k j slots al o)
-      go Absent e = inr (λ i q. absent≢at i (sym e ∙ q .0), none-swept k j slots al u fit y h s low el p F o hi kept e)
-      go (At i) e = by (U.locked-at low (s .0) (U.read-item u i)) refl
-        where
-          by : (b : Bool) → U.locked-at low (s .0) (U.read-item u i) ≡ b → Out (lock-place k j slots al o)
-          by true b = inl (i, (e, b), one-swept k j slots al u fit y h s low el p F o hi kept i e b)
-          by false b =
-              inr (
-                λ n q. not-both (subst (λ (x : ℕ). U.locked-at low (s .0) (U.read-item u x) ≡ true) (at-same n i (sym (q .0) ∙ e)) (q .1)) b,
-                not-swept k j slots al u fit y h s low el p F o hi kept i e b,
-              )
-
 -- ---- PREPARE at s, where c takes part
 module _ (k j slots : ℕ) (al : Allowed (sizes k j slots)) (few : suc j ≤ 16) (m : Address → ℕ) (L : Ledger) (M : P.Machine (T k j slots)) (c : Fin (suc j))
     (R : Related k j slots m L M) (fit : client-fits (sizes k j slots) (client-of m (c .0)) ≡ true) (s : Fin (suc k))
@@ -373,13 +333,6 @@ module _ (k j slots : ℕ) (al : Allowed (sizes k j slots)) (few : suc j ≤ 16)
         λ q. ap is-at (same-written u (client-of m′ (c .0)) 0 0 0 (g .sets) (number o)) ∙ w q,
       )
 
-  F : ℕ → ℕ → ℕ
-  F i w = locked (U.read-item u i .written) (c .0) w
-
-  swept-is : changed places p ps ≡ after (here k j slots al u fit y shown s low el p) (lk k j slots al u fit y shown s low el p) F p (count u Reads)
-  unfolding F lock-step count number-at U.item-of
-  swept-is = refl
-
   -- those whom a lock's word named before hold it still
   before : (o : Obj) → In-store k j slots o → lock-kept k j slots p s o ≡ true → (role : Bool) (d : ℕ) → d < suc j
       → names role d (p (lock-of (object-of (number o)))) ≡ true → Held z (s .0) m′ role d (number o)
@@ -388,7 +341,7 @@ module _ (k j slots : ℕ) (al : Allowed (sizes k j slots)) (few : suc j ≤ 16)
       (held-by z (s .0) m (number o) (p (lock-of (object-of (number o)))) (S s o hi kept) role d l e)
 
   at-server : Locks-sound k j slots m′ s
-  unfolding F U.item-of
+  unfolding U.item-of
   at-server o hi kept = lock-from z (s .0) m′ (number o) w′ (in-range-now now-swept) (named now-swept)
     where
       w : ℕ
@@ -398,13 +351,13 @@ module _ (k j slots : ℕ) (al : Allowed (sizes k j slots)) (few : suc j ≤ 16)
       w′ = m′ (server (s .0) (lock-of (object-of (number o))))
 
       Now : Type 0
-      Now = Swept k j slots al u fit y shown s low el p F o hi kept w′
+      Now = Swept k j slots al u fit y shown s low el p (λ i. locked (U.read-item u i .written) (c .0)) o hi kept w′
 
       now-swept : Now
       now-swept =
-          subst (Swept k j slots al u fit y shown s low el p F o hi kept)
-          (sym (ap (λ (f : Place → ℕ). f (lock-of (object-of (number o)))) (both-server m (s .0) (c .0) ps qs ∙ swept-is)))
-          (swept-or-not k j slots al u fit y shown s low el p F o hi kept)
+          subst (Swept k j slots al u fit y shown s low el p (λ i. locked (U.read-item u i .written) (c .0)) o hi kept)
+          (sym (ap (λ (f : Place → ℕ). f (lock-of (object-of (number o)))) (both-server m (s .0) (c .0) ps qs)))
+          (locked-swept k j slots al u fit y shown s low el p (c .0) o hi kept)
 
       in-range-now : Now → in-range (suc j) w′ ≡ true
       in-range-now (inl q) =

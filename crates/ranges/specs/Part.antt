@@ -21,7 +21,7 @@ use Rattle.client.specs.declared.part.Set.the-variants as set
 use Rattle.client.specs.Layout.{ClientWord, client-words, item, op-number, prepared, applied, reads-count, writes-count}
 use Rattle.client.specs.Record.{number-in-store, in-store, single}
 use Rattle.client.specs.PartLaws.{count-limit}
-use Rattle.client.specs.Sets.{count, find}
+use Rattle.client.specs.Sets.{count, number-at, find}
 use Rattle.client.specs.Have.{copied}
 use Rattle.client.specs.Lent.{Entry}
 use Rattle.client.specs.Part.{nothing, put-field, put-fields, put-item, put-vector}
@@ -35,8 +35,9 @@ use Rattle.client.specs.Answered.{used-enter, entered, enter-writes, answered}
 use Rattle.client.specs.Life.{reset, give, lose, abort}
 use Rattle.client.specs.Renew as Rn
 use Rattle.demand.specs.Frame.{Only, only-then, then-keeps, read-after}
-use Rattle.demand.specs.CopyWords.{sets-stay, sets-refl, only-copy, only-fields, only-vector}
-use Rattle.demand.specs.Dropped.{Drop, fewer, fewer-sets, only-used, only-all}
+use Rattle.demand.specs.CopyWords.{sets-stay, only-copy, only-fields, only-vector}
+use Rattle.demand.specs.Dropped.{Drop, fewer, fewer-sets, only-used, only-outer, only-all}
+use Rattle.demand.specs.Renewed.{Renews, renew-keeps}
 use Rattle.demand.specs.Latest.{All-whole}
 use Rattle.demand.specs.Entered.{Read-entered}
 use Rattle.demand.specs.Used.{after-used}
@@ -45,7 +46,7 @@ use Rattle.ranges.specs.Sets.{sets-frame, no-sets, read-sound, read-or-n
 use Rattle.ranges.specs.Entries.{written-sound}
 use Rattle.ranges.specs.Fields as F
 use Rattle.ranges.specs.Copies as C
-use Rattle.ranges.specs.Renewing as R
+use Rattle.ranges.specs.Renewing.{renewed-node, renewed-meta}
 
 -- an object that enters the read set
 entered-part : (z : S.Sizes) (u v : ClientWord → ℕ) (x : ℕ) (r : Node) → Read-entered u v x r → Item-sound z x r → Part-sound z u → Part-sound z v
@@ -112,12 +113,36 @@ module _ (z : S.Sizes) (u : ClientWord → ℕ) (P : Part-sound z u) where
   read-part : (x : ℕ) (r : Node) → Sized r → Item-sound z x r → Part-sound z (changed client-words u (enter-read x r u))
   read-part x r w I = read-or-not u x r w (Part-sound z) (λ v E. entered-part z u v x r E I P) P
 
-  copied-part : (x : ℕ) (r : Node) → Sized r → Node-sound z r → Part-sound z (changed client-words u (copy-node x r u))
-  copied-part x r w s = record {
+  -- ---- a copy is made
+  node-copied : (x : ℕ) (r : Node) → Sized r → Node-sound z r → Part-sound z (changed client-words u (copy-node x r u))
+  node-copied x r w s = record {
     fields = F.copied-fields z u (P .fields) x r;
     sets = sets-frame z u _ (sets-stay (copy-node x r u) u (only-copy x r u)) (P .sets);
     copies = C.copy-node-sound z u (P .copies) x r w s;
   }
+
+  meta-copied : (root version : ℕ) → Sound z 0 (single version root) → Part-sound z (changed client-words u (put-fields 12 (1 ∷ root ∷ version ∷ []) u))
+  meta-copied root version s = record {
+    fields = F.meta-fields z u (P .fields) root version;
+    sets = sets-frame z u _ (sets-stay (put-fields 12 (1 ∷ root ∷ version ∷ []) u) u (only-fields 1 root version u)) (P .sets);
+    copies = C.meta-sound z u (P .copies) root version s;
+  }
+
+  vector-copied : (s : ℕ) (ws : List ℕ) → Part-sound z (changed client-words u (put-vector s ws u))
+  vector-copied s ws = record {
+    fields = F.vector-fields z u (P .fields) s ws;
+    sets = sets-frame z u _ (sets-stay (put-vector s ws u) u (only-vector s ws u)) (P .sets);
+    copies = C.vector-sound z u (P .copies) s ws;
+  }
+
+-- copies are renewed
+renews : (z : S.Sizes) → Renews (Part-sound z)
+renews z = record {
+  outer-drops = λ i w Q. dropped-part z w Q (Rn.drop-outer i w) (only-outer i w);
+  node-renews = λ i w Q l h. let n = renewed-node z w (Q .sets) i l h in node-copied z w Q (number-at w set.Writes i) (Rn.renewed w i) (n .0) (n .1);
+  meta-renews = λ i w Q e. meta-copied z w Q _ _ (renewed-meta z w (Q .sets) i e);
+  flag-renews = λ i w x Q _ _ _ _. vector-copied z w Q _ _;
+}
 
 -- the writes of an operation keep their count within its limit
 module _ (z : S.Sizes) where
@@ -155,12 +180,7 @@ module _ (z : S.Sizes) (u : ClientWord → ℕ) (P : Part-sound z u) where
 
   pub finish-part : Part-sound z (changed client-words u (Rn.finish u))
   unfolding Rn.finish
-  finish-part =
-      let K = R.renewed z u (P .sets) u (record { copies = P .copies; same = sets-refl u }) in
-      let w = changed client-words u (Rn.renew-kept u) in
-      then-keeps client-words (Part-sound z) Rn.renew-kept (reset 0) u
-      (record { fields = F.renewed-fields z u (P .fields); sets = sets-frame z u w (K .same) (P .sets); copies = K .copies })
-      (λ w Q. reset-part z w Q 0 (omega arith))
+  finish-part = then-keeps client-words (Part-sound z) Rn.renew-kept (reset 0) u (renew-keeps (Part-sound z) (renews z) u P) (λ w Q. reset-part z w Q 0 (omega arith))
 
   -- "loss drops all copies"
   pub forget-part : Part-sound z (changed client-words u (drop-all u))
@@ -176,11 +196,7 @@ module _ (z : S.Sizes) (u : ClientWord → ℕ) (P : Part-sound z u) where
   meta-part root version s =
       then-keeps client-words (Part-sound z) (enter-read 0 (single version root)) (put-fields 12 (1 ∷ root ∷ version ∷ [])) u
       (read-part z u P 0 (single version root) (made-sized 0 0 version [] (root ∷ []) (omega arith) (omega arith)) (record { inside = refl; sound = s }))
-      (λ v Q. record {
-        fields = F.meta-fields z v (Q .fields) root version;
-        sets = sets-frame z v _ (sets-stay (put-fields 12 (1 ∷ root ∷ version ∷ []) v) v (only-fields 1 root version v)) (Q .sets);
-        copies = C.meta-sound z v (Q .copies) root version s;
-      })
+      (λ v Q. meta-copied z v Q root version s)
 
   pub node-part : (n : ℕ) (r : Node) → Sized r → Item-sound z (1 + n) r → Node-sound z r → Part-sound z (changed client-words u (fetched-node n r u))
   unfolding fetched-node copy-inner nothing changed
@@ -189,18 +205,13 @@ module _ (z : S.Sizes) (u : ClientWord → ℕ) (P : Part-sound z u) where
     where
       -- "an inner node is copied too"
       inner : (v : ClientWord → ℕ) → Part-sound z v → (b : Bool) → Part-sound z (changed client-words v (cond b (copy-node (1 + n) r) nothing v))
-      inner v Q true = copied-part z v Q (1 + n) r w s
+      inner v Q true = node-copied z v Q (1 + n) r w s
       inner v Q false = Q
 
   pub vector-part : (s : ℕ) (ws : List ℕ) → s < z .servers → Part-sound z (changed client-words u (fetched-vector s ws u))
   unfolding fetched-vector
   vector-part s ws l =
-      then-keeps client-words (Part-sound z) (put-vector s ws) (mark-fetched s) u
-      (record {
-        fields = F.vector-fields z u (P .fields) s ws;
-        sets = sets-frame z u _ (sets-stay (put-vector s ws u) u (only-vector s ws u)) (P .sets);
-        copies = C.vector-sound z u (P .copies) s ws;
-      })
+      then-keeps client-words (Part-sound z) (put-vector s ws) (mark-fetched s) u (vector-copied z u P s ws)
       (λ v Q. few-fields z v Q (mark-fetched s v) (C.only-marked v s) (F.marked-fields z v s l (Q .fields)))
 
   -- ---- an answer: the writes enter the write set

@@ -106,8 +106,7 @@ module _ (k j slots : ℕ) (al : Allowed (sizes k j slots)) (few : suc j ≤ 16)
       alone : Kept k j slots m (Steps.then m (Steps.deciding-stores z m (c .0) (s .0)) (λ m₃. Steps.applied-at z m₃ (c .0) (s .0)))
       alone =
           let K = applied-kept k j slots al few m₂ decided-sound (decides L (c .0)) (D.M₂ k j slots al few m L M c G fit s now new fine all)
-          (D.decide-good k j slots al few m L M c G fit s now new fine all) c s
-          (D.now₂ k j slots al few m L M c G fit s now new fine all) (D.new₂ k j slots al few m L M c G fit s now new fine all) in
+          (D.decide-good k j slots al few m L M c G fit s now new fine all .shown) c s (D.now₂ k j slots al few m L M c G fit s now new fine all) in
           record {
             passes = K .passes;
             sound = subst (Sound-store k j slots)

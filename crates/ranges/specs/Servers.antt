@@ -1,14 +1,12 @@
 -- What servers store stays sound where only locks change; and A NEW STORE IS SOUND.
 use mathlib.Core.Path.{_≡_, refl, ap, ap₂, sym, _∙_, subst}
-use mathlib.Core.Bool.{Bool, true, false, cond}
-use mathlib.Core.List.{List, []}
+use mathlib.Core.Bool.{true, false}
 use Prim.Native.Nat.{ℕ, zero, suc, _+_, _≤_, Fin}
 use native.Mathlib.Omega.{arith}
 use borrow.Author.Tests.{ne-eqb}
 use Rattle.base.specs.Test.{not-both}
 use Rattle.memory.specs.Bit.{zero-bit}
-use Rattle.layout.specs.Space.{Put, changed, tab}
-use Rattle.layout.specs.Sweep.{sweep}
+use Rattle.layout.specs.Space.{changed, tab}
 use Rattle.nodes.specs.Lists.{pad}
 use Rattle.nodes.specs.Name as N
 use Rattle.nodes.specs.Node.{made}
@@ -22,9 +20,7 @@ use Rattle.server.specs.declared.place.Place.the-variants.{Root, Version, Metad
 use Rattle.server.specs.Layout.{places}
 use Rattle.server.specs.Object.{object-of, lock-of}
 use Rattle.server.specs.LockLaws.{reads, writes, free-range}
-use Rattle.server.specs.Store.{lock-step, unlock-step}
 use Rattle.server.specs.Fresh.{fresh}
-use Rattle.client.specs.declared.part.Set.the-variants.{Reads}
 use Rattle.client.specs.Layout.{ClientWord}
 use Rattle.client.specs.Record.{number, single, in-store, fits, last-version}
 use Rattle.client.specs.Sets.{count}
@@ -32,11 +28,10 @@ use Rattle.client.specs.Fits.{op-fits}
 use Rattle.steps.specs.Whole.{Address}
 use Rattle.steps.specs.Stores.{client-of, server-of}
 use Rattle.steps.specs.Steps.{lock-each, unlock-each, node-at}
-use Rattle.steps.specs.Uses.{Item, read-item, locked-at, object}
+use Rattle.steps.specs.Uses.{object}
 use Rattle.steps.specs.Run.{opened}
 use Rattle.demand.specs.Store.{sizes}
-use Rattle.demand.specs.Frame.{Only, only-sweep, only-other}
-use Rattle.demand.specs.Servers.{is-lock, a-lock, node-frame}
+use Rattle.demand.specs.Servers.{is-lock, lock-stays, unlock-stays, node-frame}
 use Rattle.demand.specs.Numbers.{zeroth-there}
 use Rattle.demand.specs.Opened.{zero-at, empty-node, root-node, no-client, server-fresh}
 use Rattle.demand.specs.Turns.{store}
@@ -51,37 +46,12 @@ module _ (z : S.Sizes) (s : ℕ) where
     tables = λ n i. subst (λ (v : ℕ). v ≤ last-version) (sym (h (Table (N.server-of n) (N.slot-of n)) refl)) (sound .tables n i);
   }
 
-  -- stores at locks alone
-  abbrev At-locks : List (Put Place) → Type 0
-  At-locks ps = Only places (λ a v. is-lock a ≡ true) ps
+  module _ (u : ClientWord → ℕ) (c low t : ℕ) (p : Place → ℕ) where
+    pub lock-each-sound : Server-sound z s p → Server-sound z s (changed places p (lock-each u c low t p))
+    lock-each-sound = server-frame p (changed places p (lock-each u c low t p)) (λ a h. lock-stays u low t p a h c)
 
-  at-locks : (ps : List (Put Place)) (p : Place → ℕ) → At-locks ps → Server-sound z s p → Server-sound z s (changed places p ps)
-  at-locks ps p only =
-      server-frame p (changed places p ps) (λ a h. only-other places (λ x v. is-lock x ≡ true) a (λ x v l e. not-both (ap is-lock e ∙ l) h) ps p only)
-
-  -- those of a test
-  if-tested : (b : Bool) (ps : List (Put Place)) → At-locks ps → At-locks (cond b ps [])
-  unfolding Only
-  if-tested true ps h = h
-  if-tested false ps h = tt
-
-  module _ (u : ClientWord → ℕ) (c low t : ℕ) (p : Place → ℕ) (sound : Server-sound z s p) where
-    abbrev each : (Item → (Place → ℕ) → List (Put Place)) → (Place → ℕ) → List (Put Place)
-    each f = sweep places (λ n q. cond (locked-at low t (read-item u n)) (f (read-item u n) q) []) (count u Reads)
-
-    each-sound : (f : Item → (Place → ℕ) → List (Put Place)) → ((i : Item) (q : Place → ℕ) → At-locks (f i q)) → Server-sound z s (changed places p (each f p))
-    each-sound f h =
-        at-locks (each f p) p
-        (only-sweep places (λ a v. is-lock a ≡ true) (λ n q. cond (locked-at low t (read-item u n)) (f (read-item u n) q) []) (count u Reads) p
-        (λ n q. if-tested (locked-at low t (read-item u n)) (f (read-item u n) q) (h (read-item u n) q))) sound
-
-    pub lock-each-sound : Server-sound z s (changed places p (lock-each u c low t p))
-    unfolding lock-step Only
-    lock-each-sound = each-sound (λ i q. lock-step (object i) (i .written) c q) (λ i q. (a-lock (object i), tt))
-
-    pub unlock-each-sound : Server-sound z s (changed places p (unlock-each u c low t p))
-    unfolding unlock-step Only
-    unlock-each-sound = each-sound (λ i q. unlock-step (object i) c q) (λ i q. (a-lock (object i), tt))
+    pub unlock-each-sound : Server-sound z s p → Server-sound z s (changed places p (unlock-each u c low t p))
+    unlock-each-sound = server-frame p (changed places p (unlock-each u c low t p)) (λ a h. unlock-stays u low t p a h c)
 
 -- ---- A NEW SERVER
 lock-zero : (s : ℕ) (o : Object) → fresh s (lock-of o) ≡ 0

@@ -1,8 +1,8 @@
 -- The read set and the write set stay sound: where their words do, where they are empty, and as objects enter the read set. A sound part is in range.
 use mathlib.Core.Path.{_≡_, refl, ap, sym, _∙_, subst}
 use mathlib.Core.Bool.{Bool, true, false, cond, _&&_, false≢true}
-use mathlib.Core.List.{List, [], _∷_}
-use Prim.Native.Nat.{ℕ, zero, suc, _+_, _-_, _^_, _/_, _%_, _≤_, _<_}
+use mathlib.Core.List.{List, _∷_}
+use Prim.Native.Nat.{ℕ, suc, _+_, _-_, _^_, _/_, _%_, _≤_, _<_}
 use native.Mathlib.Omega.{arith}
 use native.Mathlib.Decide.{ℕ-discrete}
 use borrow.Author.Tests.{eqb-true, eqb-false, le-leb, leb-true, ltb-true}
@@ -41,6 +41,7 @@ use Rattle.demand.specs.Held.{found-at, has-at, at-has}
 use Rattle.demand.specs.Behind.{field-same, set-same, Behind, find-behind}
 use Rattle.demand.specs.Entered.{Else-same, Read-entered, read-entered}
 use Rattle.demand.specs.Used.{copied-same, copied-sized, after-used}
+use Rattle.ranges.specs.Lists.{every-at}
 use Rattle.ranges.specs.Sound.{Sound, Item-sound, Sets-sound, Copies-sound, Part-sound}
 
 -- ---- A SOUND PART IS IN RANGE
@@ -223,12 +224,6 @@ module _ (z : Sizes) (u : ClientWord → ℕ) where
   All-copied us = Every (λ (x : ℕ). (number-in-store z x ≡ true) × (is-found (copied u x .how) ≡ true)) us
 
 -- ---- "what is used enters the read set"
-every-at : {A : Type 0} (P : A → Type 0) (d : A) (l : List A) → Every P l → (i : ℕ) → i < length l → P (getD l i d)
-unfolding Every
-every-at P d [] h i l = absurd (omega arith)
-every-at P d (a ∷ m) h zero l = h .0
-every-at P d (a ∷ m) h (suc i) l = every-at P d m (h .1) i (omega arith)
-
 module _ (u : ClientWord → ℕ) where
   -- what holds before and stays as each copy enters holds after; and all but the read set is the same
   pub used-keeps : (Q : ℕ → Type 0) (R : (ClientWord → ℕ) → Type 0)

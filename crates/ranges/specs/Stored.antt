@@ -41,7 +41,11 @@ use Rattle.ranges.specs.Sound.{children-there, Node-sound, Sound, Sets-s
 use Rattle.ranges.specs.Servers.{unlock-each-sound}
 
 module _ (z : S.Sizes) where
-  -- ---- the metadata, by its two words
+  -- ---- the metadata: its root is there; and by its two words
+  pub root-there : (r : Record.Node) → Sound z 0 r → in-store z (first-slot r) ≡ true
+  unfolding fits
+  root-there r h = and-both (in-store z (first-slot r)) (leb (r .version) last-version) (h .fitting) .0
+
   pub metadata-of : (v r : ℕ) → v ≤ last-version → in-store z r ≡ true → Sound z 0 (single v r)
   unfolding fits single made pad
   metadata-of v r h there = record { fitting = rw (there, le-leb v last-version h); children = refl }

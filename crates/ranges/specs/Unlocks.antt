@@ -18,11 +18,8 @@ use Rattle.server.specs.Layout.{places}
 use Rattle.server.specs.Object.{object-of, lock-of}
 use Rattle.server.specs.Lock.{unlocked, in-range}
 use Rattle.server.specs.LockLaws.{unlocked-range}
-use Rattle.server.specs.Store.{unlock-step}
-use Rattle.client.specs.declared.part.Set.the-variants.{Reads}
 use Rattle.client.specs.Layout.{ClientWord, client-words, phase, participants, prepared, applied}
 use Rattle.client.specs.Record.{number}
-use Rattle.client.specs.Sets.{count, number-at}
 use Rattle.client.specs.Fits.{client-fits}
 use Rattle.client.specs.Drops.{drop-used}
 use Rattle.client.specs.Life.{reset}
@@ -31,7 +28,6 @@ use Rattle.client.specs.Course.{noted}
 use Rattle.steps.specs.declared.sizes.Sizes.{Sizes}
 use Rattle.steps.specs.Whole.{Address, server, whole}
 use Rattle.steps.specs.Stores.{client-of, server-of}
-use Rattle.steps.specs.Uses as U
 use Rattle.steps.specs.Judge.{lowest}
 use Rattle.steps.specs.Steps.{in-client, covers, unlock-each, store-all, applying, all-applied}
 use Rattle.demand.specs.Store.{sizes}
@@ -40,7 +36,7 @@ use Rattle.demand.specs.Ledger.{Ledger}
 use Rattle.demand.specs.Shows.{T, In-store, lock-kept, Slot-shown, Related}
 use Rattle.demand.specs.Course.{else-same}
 use Rattle.demand.specs.Held.{all-at}
-use Rattle.demand.specs.Locking.{after, here, lk}
+use Rattle.demand.specs.Locking.{Swept, unlocked-swept}
 use Rattle.demand.specs.Servers.{both, both-client, both-other, both-server, both-else, is-lock, a-lock}
 use Rattle.demand.specs.Written.{locks-stay}
 use Rattle.demand.specs.Aborted.{aborted, aborted-client, aborted-others, aborted-server, prepared-late}
@@ -49,7 +45,7 @@ use Rattle.demand.specs.Kept.{reset-phase}
 use Rattle.demand.specs.Turns.{store}
 use Rattle.ranges.specs.Sound.{Holds, Locks-sound}
 use Rattle.ranges.specs.Words.{names, unlocked-names}
-use Rattle.ranges.specs.Locks.{Goes-on, held-by, lock-from, other-held, unstored, part-stored, Swept, swept-or-not}
+use Rattle.ranges.specs.Locks.{Goes-on, held-by, lock-from, other-held, unstored, part-stored}
 
 -- ---- a lock that c gives back, or hasn't: whom the word w′ names w named, and c isn't among them
 record Given-back (n c w w′ : ℕ) : Type 0 where
@@ -96,20 +92,9 @@ module _ (k j slots : ℕ) (al : Allowed (sizes k j slots)) (few : suc j ≤ 16)
 
   -- ---- at the server s, whose locks are in p as they were, what is read and locked is unlocked
   module _ (s : Fin (suc k)) (el : y .lowest .0 ≡ low) (p : Place → ℕ) (same : (a : Place) → is-lock a ≡ true → p a ≡ m (server (s .0) a)) where
-    F : ℕ → ℕ → ℕ
-    F i w = unlocked (c .0) w
-
-    swept-is : changed places p (unlock-each u (c .0) low (s .0) p)
-        ≡ after (here k j slots al u fit y shown s low el p) (lk k j slots al u fit y shown s low el p) F p (count u Reads)
-    unfolding F unlock-step count number-at U.item-of
-    swept-is = refl
-
     unlocked-here : (o : Obj) → In-store k j slots o → lock-kept k j slots (server-of m (s .0)) s o ≡ true
         → let a = lock-of (object-of (number o)) in Given-back (suc j) (c .0) (m (server (s .0) a)) (changed places p (unlock-each u (c .0) low (s .0) p) a)
-    unfolding F
-    unlocked-here o hi kept =
-        go (subst (Swept k j slots al u fit y shown s low el p F o hi kept) (sym (ap (λ (f : Place → ℕ). f a) swept-is))
-        (swept-or-not k j slots al u fit y shown s low el p F o hi kept))
+    unlocked-here o hi kept = go (unlocked-swept k j slots al u fit y shown s low el p (c .0) o hi kept)
       where
         a : Place
         a = lock-of (object-of (number o))
@@ -123,7 +108,7 @@ module _ (k j slots : ℕ) (al : Allowed (sizes k j slots)) (few : suc j ≤ 16)
         w′ : ℕ
         w′ = changed places p (unlock-each u (c .0) low (s .0) p) a
 
-        go : Swept k j slots al u fit y shown s low el p F o hi kept w′ → Given-back (suc j) (c .0) w w′
+        go : Swept k j slots al u fit y shown s low el p (λ i. unlocked (c .0)) o hi kept w′ → Given-back (suc j) (c .0) w w′
         go (inl q) =
             subst (Given-back (suc j) (c .0) w) (sym (q .2 ∙ ap (unlocked (c .0)) was))
             (record {

@@ -47,7 +47,7 @@ if-kept k j slots m true d e K = K
 if-kept k j slots m false d e K = absurd (false≢true e)
 
 module _ (k j slots : ℕ) (m : Address → ℕ) (S : Sound-store k j slots m) where
-  -- one part of each kind is another
+  -- one client's part is another
   module _ (m′ : Address → ℕ) (c : Fin (suc j)) where
     pub parts-sound : Part-sound (sizes k j slots) (client-of m′ (c .0)) → ((d : Fin (suc j)) → ¬ (d ≡ c) → client-of m′ (d .0) ≡ client-of m (d .0))
         → (d : Fin (suc j)) → Part-sound (sizes k j slots) (client-of m′ (d .0))
