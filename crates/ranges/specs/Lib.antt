@@ -24,7 +24,7 @@ pub mod Words
 pub mod Locks
 pub mod Unlocks
 pub mod Held
--- the whole from its parts
+-- the whole from its parts; what a step must leave
 pub mod Whole
 -- the kinds of steps
 pub mod Undecided
