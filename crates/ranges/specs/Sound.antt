@@ -5,13 +5,12 @@ use mathlib.Core.List.{[], _∷_}
 use Prim.Native.Nat.{ℕ, suc, _-_, _^_, _≤_, _<_, Fin}
 use lib.Dec.{eqb}
 use lib.ListN.{getD}
-use Rattle.memory.specs.Bit as Bit
+use Rattle.memory.specs.Bit.{bit}
 use Rattle.nodes.specs.declared.node.Node.{Node}
 use Rattle.nodes.specs.declared.found.Found.the-variants.{At}
 use Rattle.nodes.specs.Name as N
 use Rattle.nodes.specs.Lists.{pad}
 use Rattle.nodes.specs.Node.{extra, slotsOf, made}
-use Rattle.nodes.specs.Place.{bit}
 use Rattle.nodes.specs.Range.{in-range}
 use Rattle.operations.specs.Object.{Obj}
 use Rattle.operations.specs.Slot as S
@@ -45,7 +44,7 @@ children-there z r = not (eqb (r .kind) 2) || all (in-store z) (slotsOf r)
 children-sample : let z : S.Sizes = record { servers = 1; slots = 2 } in
     (children-there z (made 2 1 0 (5 ∷ []) (0 ∷ 1 ∷ [])) ≡ true) × (children-there z (made 2 1 0 (5 ∷ []) (0 ∷ 2 ∷ [])) ≡ false)
     × (children-there z (made 1 0 0 (5 ∷ []) (2 ∷ [])) ≡ true)
-unfolding children-there made pad slotsOf extra bit all in-store
+unfolding children-there made pad slotsOf extra all in-store
 children-sample = (refl, refl, refl)
 
 -- a node's record
@@ -97,9 +96,9 @@ module _ (z : Sizes) (m : Address → ℕ) (s : ℕ) where
   -- client d holds the lock of the object with number x at server s: after its commit, prepared there and not yet applied, it has read x
   pub record Holds (d x : ℕ) : Type 0 where
     pub after-commit : (2 ≤ client-of m d phase) × (client-of m d phase ≤ 3)
-    pub takes-part : Bit.bit (client-of m d participants) s ≡ true
-    pub has-prepared : Bit.bit (client-of m d prepared) s ≡ true
-    pub not-applied : Bit.bit (client-of m d applied) s ≡ false
+    pub takes-part : bit (client-of m d participants) s ≡ true
+    pub has-prepared : bit (client-of m d prepared) s ≡ true
+    pub not-applied : bit (client-of m d applied) s ≡ false
     pub place : ℕ
     pub found : find (client-of m d) Reads x ≡ At place
     pub locks : locked-at (lowest z m d) s (read-item (client-of m d) place) ≡ true
