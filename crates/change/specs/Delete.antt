@@ -110,7 +110,7 @@ module _ (z : Sizes) (m : ClientWord → ℕ) (x u : List ℕ) (d : Descent) (ke
 pub ruleset delete-exits = (ended-few, delete-nothing, delete-inside, delete-ready, delete-goes)
 
 -- ---- from the root on
-pub deleted : (z : Sizes) (m : ClientWord → ℕ) (x u : List ℕ) (key : ℕ) (d : Descent) (u₁ : List ℕ) → Descends z m x u key d u₁ → (on : Bool) → on ≡ goes (d .stop) → not on ≡ false
+pub deleted : (z : Sizes) (m : ClientWord → ℕ) (x u : List ℕ) (key : ℕ) (d : Descent) (u₁ : List ℕ) → Descends z m u key d u₁ → (on : Bool) → on ≡ goes (d .stop) → not on ≡ false
     → (s : Stop) (x′ u′ : List ℕ) → Operated z m x u₁ (delete-in z d key) s x′ u′ → Operated z m x u (delete-plan z key) s x′ u′
 unfolding delete-in
 deleted z m x u key d u₁ h on po nb s x′ u′ q = change-on z m x u key d u₁ h on po nb (λ fs n es. delete-at z fs n es (index key es)) s x′ u′ q

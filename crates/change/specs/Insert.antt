@@ -169,14 +169,14 @@ module _ (z : Sizes) (d : Descent) (t : Ended z d) where
   pub ended-ready : (n : Wide) → Content 0 n → Ready z (d .top) (d .path) (d .name) n
   ended-ready n c = record { high = t .high; size = t .reached .size; good = t .reached .good; linked = t .linked; content = c }
 
-module _ (z : Sizes) (m : ClientWord → ℕ) (x u : List ℕ) (key : ℕ) (d : Descent) (u₁ : List ℕ) (h : Descends z m x u key d u₁) (on : Bool) (po : on ≡ goes (d .stop)) where
+module _ (z : Sizes) (m : ClientWord → ℕ) (x u : List ℕ) (key : ℕ) (d : Descent) (u₁ : List ℕ) (h : Descends z m u key d u₁) (on : Bool) (po : on ≡ goes (d .stop)) where
   -- an operation that stops on the way has written nothing
   pub change-stops : (k : List Branch → ℕ → Entries → Plan) → OwnGood x → not on ≡ true → Operated z m x u (from-root key k) (d .stop) x u₁
   change-stops k g nb =
       let halts : goes (d .stop) ≡ false = sym po ∙ not-true on nb in
       record {
         writes = [];
-        same = λ hold. h .asks hold k ∙ rw halts (sym (ended-nothing (d .stop) (used-in u₁)));
+        same = λ hold. h .asks k ∙ rw halts (sym (ended-nothing (d .stop) (used-in u₁)));
         holds = λ t hold. hold;
         kept = λ t hold. record { fit = g .fit; few = g .few };
         noted = h .noted;
@@ -197,7 +197,7 @@ module _ (z : Sizes) (m : ClientWord → ℕ) (x u : List ℕ) (key : ℕ) (d : 
         → Operated z m x u₁ (k (branches (way d)) (d .name) (entriesOf (d .node) (low (way d)))) s x′ u′ → Operated z m x u (from-root key k) s x′ u′
     change-on k s x′ u′ q = record {
       writes = q .writes;
-      same = λ hold. h .asks hold k ∙ rw going (q .same hold);
+      same = λ hold. h .asks k ∙ rw going (q .same hold);
       holds = q .holds;
       kept = q .kept;
       noted = q .noted;
@@ -227,7 +227,7 @@ module _ (z : Sizes) (m : ClientWord → ℕ) (x u : List ℕ) (d : Descent) (ke
 
 pub ruleset insert-exits = (ended-few, insert-ready, insert-goes)
 
-pub inserted : (z : Sizes) (m : ClientWord → ℕ) (x u : List ℕ) (key v : ℕ) (d : Descent) (u₁ : List ℕ) → Descends z m x u key d u₁ → (on : Bool) → on ≡ goes (d .stop) → not on ≡ false
+pub inserted : (z : Sizes) (m : ClientWord → ℕ) (x u : List ℕ) (key v : ℕ) (d : Descent) (u₁ : List ℕ) → Descends z m u key d u₁ → (on : Bool) → on ≡ goes (d .stop) → not on ≡ false
     → (s : Stop) (x′ u′ : List ℕ) → Operated z m x u₁ (insert-in z d key v) s x′ u′ → Operated z m x u (insert-plan z key v) s x′ u′
 unfolding insert-in
 inserted z m x u key v d u₁ h on po nb s x′ u′ q = change-on z m x u key d u₁ h on po nb (λ fs n es. up z (fresh (value-in key es)) zero fs [] n (with-pair key v es)) s x′ u′ q

@@ -26,7 +26,7 @@ use Rattle.client.specs.Layout.{ClientWord}
 use Rattle.client.specs.Record.{value-of}
 use Rattle.client.specs.Lent.{used-in}
 use Rattle.walk.specs.Walk.{goes, walked, walked-fails}
-use Rattle.walk.specs.Ask.{SmallNode, OwnGood, Holds, Noted, Answer}
+use Rattle.walk.specs.Ask.{SmallNode, OwnGood, Holds, Noted, Answer, nothing, none-held}
 use Rattle.walk.specs.Down.{branches, trail, low}
 use Rattle.change.specs.Mute.{stands}
 use Rattle.walk.specs.Lookup.{Ends, ended-nothing}
@@ -72,25 +72,25 @@ module _ (z : Sizes) (m : ClientWord → ℕ) (x u : List ℕ) (nm s : ℕ) (n :
 pub ruleset root-moves = (root-stays, root-moved)
 
 -- ---- a node below the root
-module _ (z : Sizes) (m : ClientWord → ℕ) (x u : List ℕ) (top nm s key : ℕ) (n : Node) (d : Descent) (u₁ : List ℕ) (h : ToParent z m x u key top (n .level) d u₁) (b : Bool) (pb : b ≡ goes (d .stop)) where
+module _ (z : Sizes) (m : ClientWord → ℕ) (x u : List ℕ) (top nm s key : ℕ) (n : Node) (d : Descent) (u₁ : List ℕ) (h : ToParent z m u key top (n .level) d u₁) (b : Bool) (pb : b ≡ goes (d .stop)) where
   abbrev w : Val
   w = value-of (node nm) n
 
   pub below-stops : OwnGood x → not b ≡ true → Operated z m x u (move-below z top nm s w (n .level) key) (d .stop) x u₁
   below-stops g nb =
       let q : goes (d .stop) ≡ false = sym pb ∙ not-true b nb in
-      walks-operated z m x u (move-below z top nm s w (n .level) key) (d .stop) u₁ g (record { same = λ hold. rw (h .asks hold (move-at z nm s w key), q); noted = h .noted })
+      walks-operated z m x u (move-below z top nm s w (n .level) key) (d .stop) u₁ g (record { same = rw (h .asks (move-at z nm s w key), q); noted = h .noted })
 
   pub below-moves : (st : Stop) (x′ u′ : List ℕ) → not b ≡ false → MovedAt z m x u₁ key nm s n (d .name) (d .node) st x′ u′ → Operated z m x u (move-below z top nm s w (n .level) key) st x′ u′
   below-moves st x′ u′ nb c =
       let on : goes (d .stop) ≡ true = sym pb ∙ not-false b nb in
       let e : d .node .level ≡ suc (n .level) = h .parent on .level in
-      follows z m x u u₁ (move-below z top nm s w (n .level) key) _ st x′ u′ (λ hold. rw (h .asks hold (move-at z nm s w key), on, ← e))
+      follows z m x u u₁ (move-below z top nm s w (n .level) key) _ st x′ u′ (λ hold. rw (h .asks (move-at z nm s w key), on, ← e))
       (c .operated (branches (trail (d .path) (suc (n .level)) (d .top - suc (n .level)))) (low (trail (d .path) (suc (n .level)) (d .top - suc (n .level)))))
 
-pub below-parent : (z : Sizes) (m : ClientWord → ℕ) (x u : List ℕ) (key top l : ℕ) (d : Descent) (u′ : List ℕ) (b : Bool) → ToParent z m x u key top l d u′ → b ≡ goes (d .stop) → not b ≡ false
+pub below-parent : (z : Sizes) (m : ClientWord → ℕ) (u : List ℕ) (key top l : ℕ) (d : Descent) (u′ : List ℕ) (b : Bool) → ToParent z m u key top l d u′ → b ≡ goes (d .stop) → not b ≡ false
     → Parent z l (d .name) (d .node)
-below-parent z m x u key top l d u′ b h pb nb = h .parent (sym pb ∙ not-false b nb)
+below-parent z m u key top l d u′ b h pb nb = h .parent (sym pb ∙ not-false b nb)
 
 pub ruleset below-exits = (below-stops, below-parent, below-moves)
 
@@ -113,7 +113,7 @@ module _ (z : Sizes) (m : ClientWord → ℕ) (x u : List ℕ) (g : OwnGood x) (
 
   pub if-free : (st : Stop) (u′ : List ℕ) → n .kind ≡ 0 → Ends m u 0 0 st u′ → Operated z m x u (move-if z top nm s y) st x u′
   if-free st u′ k a = walks-operated z m x u (move-if z top nm s y) st u′ g (record {
-    same = λ hold. rw (move-free z top nm s (n .kind) (n .level) (keysOf n) (slotsOf n) k) (a .same z [] ∙ ended-nothing st (used-in u′));
+    same = rw (move-free z top nm s (n .kind) (n .level) (keysOf n) (slotsOf n) k) (a .same z [] ∙ ended-nothing st (used-in u′));
     noted = a .noted;
   })
 
@@ -123,7 +123,7 @@ module _ (z : Sizes) (m : ClientWord → ℕ) (x u : List ℕ) (g : OwnGood x) (
 
     pub if-there : (st : Stop) (u′ : List ℕ) → nm / 1024 ≡ s → Ends m u 0 1 st u′ → Operated z m x u (move-if z top nm s y) st x u′
     if-there st u′ e a = walks-operated z m x u (move-if z top nm s y) st u′ g (record {
-      same = λ hold. rw (used-is, ifd-yes (ℕ-discrete (server-of nm) s) (P.done ((0, 1), [])) (move-node z top nm s y (n .level) (keysOf n)) e) (a .same z [] ∙ ended-nothing st (used-in u′));
+      same = rw (used-is, ifd-yes (ℕ-discrete (server-of nm) s) (P.done ((0, 1), [])) (move-node z top nm s y (n .level) (keysOf n)) e) (a .same z [] ∙ ended-nothing st (used-in u′));
       noted = a .noted;
     })
 
@@ -140,7 +140,7 @@ module _ (z : Sizes) (m : ClientWord → ℕ) (x u : List ℕ) (g : OwnGood x) (
 
         pub if-few : Noted m u → n .count < 7 → Operated z m x u (move-if z top nm s y) (Aborts 3) x u
         if-few h c = walks-operated z m x u (move-if z top nm s y) (Aborts 3) u g (record {
-          same = λ hold. rw (other-is, ifd-no (decLe 7 (length (keysOf n))) (first-key (keysOf n) (move-below z top nm s y (n .level))) (P.fail no-tree) (λ a. absurd (omega (arith, w .keys)))) (walked-fails z m (used-in u) no-tree);
+          same = rw (other-is, ifd-no (decLe 7 (length (keysOf n))) (first-key (keysOf n) (move-below z top nm s y (n .level))) (P.fail no-tree) (λ a. absurd (omega (arith, w .keys)))) (walked-fails z m (used-in u) no-tree);
           noted = h;
         })
 
@@ -158,37 +158,37 @@ pub ruleset if-exits = (if-free, if-there, if-root, if-few, if-below)
 unfoldable pub named-plan : Sizes → ℕ → ℕ → ℕ → Plan
 named-plan z top nm s = P.ask (object (node nm)) (λ v. move-if z top nm s v)
 
-module _ (z : Sizes) (m : ClientWord → ℕ) (x u : List ℕ) (g : OwnGood x) (top nm s : ℕ) (s₁ : Stop) (n : Node) (u₁ : List ℕ) (a : Answer z m x u (node nm) s₁ n u₁) (b : Bool) (pb : b ≡ goes s₁) where
+module _ (z : Sizes) (m : ClientWord → ℕ) (x u : List ℕ) (g : OwnGood x) (top nm s : ℕ) (s₁ : Stop) (n : Node) (u₁ : List ℕ) (a : Answer z m nothing u (node nm) s₁ n u₁) (b : Bool) (pb : b ≡ goes s₁) where
   pub named-stops : not b ≡ true → Operated z m x u (named-plan z top nm s) s₁ x u₁
   unfolding named-plan
   named-stops nb =
       let q : goes s₁ ≡ false = sym pb ∙ not-true b nb in
-      walks-operated z m x u (named-plan z top nm s) s₁ u₁ g (record { same = λ hold. rw (a .asks [] hold .same, q); noted = a .noted })
+      walks-operated z m x u (named-plan z top nm s) s₁ u₁ g (record { same = rw (a .asks [] (none-held z) .same, q); noted = a .noted })
 
   pub named-goes-on : (st : Stop) (x′ u′ : List ℕ) → not b ≡ false → Operated z m x u₁ (move-if z top nm s (value-of (node nm) n)) st x′ u′ → Operated z m x u (named-plan z top nm s) st x′ u′
   unfolding named-plan
   named-goes-on st x′ u′ nb h =
       let on : goes s₁ ≡ true = sym pb ∙ not-false b nb in
-      follows z m x u u₁ (named-plan z top nm s) (move-if z top nm s (value-of (node nm) n)) st x′ u′ (λ hold. rw (a .asks [] hold .same, on)) h
+      follows z m x u u₁ (named-plan z top nm s) (move-if z top nm s (value-of (node nm) n)) st x′ u′ (λ hold. rw (a .asks [] (none-held z) .same, on)) h
 
-pub named-small : (z : Sizes) (m : ClientWord → ℕ) (x u : List ℕ) (nm : ℕ) (s : Stop) (n : Node) (u′ : List ℕ) → Answer z m x u (node nm) s n u′ → SmallNode n
-named-small z m x u nm s n u′ c = c .small
+pub named-small : (z : Sizes) (m : ClientWord → ℕ) (u : List ℕ) (nm : ℕ) (s : Stop) (n : Node) (u′ : List ℕ) → Answer z m nothing u (node nm) s n u′ → SmallNode n
+named-small z m u nm s n u′ c = c .small
 
-pub named-whole : (z : Sizes) (m : ClientWord → ℕ) (x u : List ℕ) (nm : ℕ) (s : Stop) (n : Node) (u′ : List ℕ) → Answer z m x u (node nm) s n u′ → length (n .keys) ≡ 14 → length (n .slots) ≡ 15 → Whole n
-named-whole z m x u nm s n u′ c lk ls = whole n lk ls (c .small .keys)
+pub named-whole : (z : Sizes) (m : ClientWord → ℕ) (u : List ℕ) (nm : ℕ) (s : Stop) (n : Node) (u′ : List ℕ) → Answer z m nothing u (node nm) s n u′ → length (n .keys) ≡ 14 → length (n .slots) ≡ 15 → Whole n
+named-whole z m u nm s n u′ c lk ls = whole n lk ls (c .small .keys)
 
 pub ruleset named-exits = (named-stops, named-goes-on, named-small, named-whole)
 
-module _ (z : Sizes) (m : ClientWord → ℕ) (x u : List ℕ) (nm s : ℕ) (s₁ : Stop) (r : Node) (u₁ : List ℕ) (a : Answer z m x u meta s₁ r u₁) (b : Bool) (pb : b ≡ goes s₁) where
+module _ (z : Sizes) (m : ClientWord → ℕ) (x u : List ℕ) (nm s : ℕ) (s₁ : Stop) (r : Node) (u₁ : List ℕ) (a : Answer z m nothing u meta s₁ r u₁) (b : Bool) (pb : b ≡ goes s₁) where
   pub migrate-stops : OwnGood x → not b ≡ true → Operated z m x u (migrate-plan z nm s) s₁ x u₁
   migrate-stops g nb =
       let q : goes s₁ ≡ false = sym pb ∙ not-true b nb in
-      walks-operated z m x u (migrate-plan z nm s) s₁ u₁ g (record { same = λ hold. rw (a .asks [] hold .same, q); noted = a .noted })
+      walks-operated z m x u (migrate-plan z nm s) s₁ u₁ g (record { same = rw (a .asks [] (none-held z) .same, q); noted = a .noted })
 
   pub migrate-goes-on : (st : Stop) (x′ u′ : List ℕ) → not b ≡ false → Operated z m x u₁ (named-plan z (getD (r .slots) 0 0) nm s) st x′ u′ → Operated z m x u (migrate-plan z nm s) st x′ u′
   unfolding named-plan
   migrate-goes-on st x′ u′ nb h =
       let on : goes s₁ ≡ true = sym pb ∙ not-false b nb in
-      follows z m x u u₁ (migrate-plan z nm s) (named-plan z (getD (r .slots) 0 0) nm s) st x′ u′ (λ hold. rw (a .asks [] hold .same, on)) h
+      follows z m x u u₁ (migrate-plan z nm s) (named-plan z (getD (r .slots) 0 0) nm s) st x′ u′ (λ hold. rw (a .asks [] (none-held z) .same, on)) h
 
 pub ruleset migrate-exits = (migrate-stops, migrate-goes-on)

@@ -23,10 +23,10 @@ pub record Operated (z : Sizes) (m : ClientWord → ℕ) (x u : List ℕ) (p : P
   pub noted : Noted m u′
 
 -- one that writes nothing
-pub walks-operated : (z : Sizes) (m : ClientWord → ℕ) (x u : List ℕ) (p : Plan) (s : Stop) (u′ : List ℕ) → OwnGood x → Walks z m x u p s u′ → Operated z m x u p s x u′
+pub walks-operated : (z : Sizes) (m : ClientWord → ℕ) (x u : List ℕ) (p : Plan) (s : Stop) (u′ : List ℕ) → OwnGood x → Walks z m u p s u′ → Operated z m x u p s x u′
 walks-operated z m x u p s u′ g h = record {
   writes = [];
-  same = λ hold. h .same hold ∙ sym (ended-nothing s (used-in u′));
+  same = λ hold. h .same ∙ sym (ended-nothing s (used-in u′));
   holds = λ t hold. hold;
   kept = λ t hold. record { fit = g .fit; few = g .few };
   noted = h .noted;

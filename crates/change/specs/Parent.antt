@@ -33,7 +33,7 @@ use Rattle.client.specs.Record.{sizes, in-store, value-of}
 use Rattle.client.specs.Lent.{used-in}
 use Rattle.walk.specs.Entries.{opens, Inner, open-inner, extra-inner, cut-at-is, keys-later, entry-slot, entry-keys, stored-node}
 use Rattle.walk.specs.Walk.{goes, walked, carry, walked-fails}
-use Rattle.walk.specs.Ask.{SmallNode, OwnGood, Holds, Noted}
+use Rattle.walk.specs.Ask.{SmallNode, OwnGood, Noted}
 use Rattle.walk.specs.Down.{stops-not, RootMet, From, Stops, Led, Linked, branches, trail, low, Reached}
 use Rattle.walk.specs.Write.{name-below}
 use Rattle.walk.specs.Take.{Wrote}
@@ -53,8 +53,8 @@ pub record Parent (z : Sizes) (l up : ℕ) (p : Node) : Type 0 where
   pub there : in-store z up ≡ true
 
 -- "the path downward" from the root of the name top to the level above l
-pub record ToParent (z : Sizes) (m : ClientWord → ℕ) (x u : List ℕ) (key top l : ℕ) (d : Descent) (u′ : List ℕ) : Type 0 where
-  pub asks : Holds z x [] → (k : Cont)
+pub record ToParent (z : Sizes) (m : ClientWord → ℕ) (u : List ℕ) (key top l : ℕ) (d : Descent) (u′ : List ℕ) : Type 0 where
+  pub asks : (k : Cont)
       → walked z m (at-root top (λ j es. ifd (decLt l j) (down (to-level (suc l)) key k j [] top es) (P.fail no-tree))) (used-in u)
       ≡ carry (d .stop) (used-in u′) (λ us. walked z m
       (k (suc l) (branches (trail (d .path) (suc l) (d .top - suc l))) (d .name) (entriesOf (d .node) (low (trail (d .path) (suc l) (d .top - suc l))))) us)
@@ -183,7 +183,7 @@ module _ (z : Sizes) (m : ClientWord → ℕ) (x u : List ℕ) (key nm s : ℕ) 
   pub at-elsewhere : OwnGood x → Noted m u → (getD (p .slots) at 0 ≡ nm → ⊥) → MovedAt z m x u key nm s n up p (Aborts 3) x u
   at-elsewhere g h d = record {
     operated = λ fs lo. walks-operated z m x u _ (Aborts 3) u g (record {
-      same = λ hold. rw (at-is fs lo, ifd-no (ℕ-discrete (getD (p .slots) at 0) nm) (child-plan z nm s (value-of (node nm) n) up (p .level) at (entriesOf p lo)) (P.fail no-tree) d) (walked-fails z m (used-in u) no-tree);
+      same = rw (at-is fs lo, ifd-no (ℕ-discrete (getD (p .slots) at 0) nm) (child-plan z nm s (value-of (node nm) n) up (p .level) at (entriesOf p lo)) (P.fail no-tree) d) (walked-fails z m (used-in u) no-tree);
       noted = h;
     });
   }
@@ -208,22 +208,22 @@ linked-there z l nm (b ∷ bs) h = h .0 .there
 level-stops : (t : ℕ) → Stops (to-level t) t
 level-stops t = record { before = λ l h. of-no (ℕ-discrete l t) (λ e. absurd (omega arith)); there = λ h. of-yes (ℕ-discrete t t) refl }
 
-module _ (z : Sizes) (m : ClientWord → ℕ) (x u : List ℕ) (key top l : ℕ) (st : Stop) (r : Node) (u₁ : List ℕ) (h : RootMet z m x u top st r u₁) (b : Bool) (pb : b ≡ goes st) where
+module _ (z : Sizes) (m : ClientWord → ℕ) (u : List ℕ) (key top l : ℕ) (st : Stop) (r : Node) (u₁ : List ℕ) (h : RootMet z m u top st r u₁) (b : Bool) (pb : b ≡ goes st) where
   abbrev below : Cont → ℕ → Entries → Plan
   below k j es = ifd (decLt l j) (down (to-level (suc l)) key k j [] top es) (P.fail no-tree)
 
-  pub parent-no-root : (d : Descent) → not b ≡ true → d .stop ≡ st → ToParent z m x u key top l d u₁
+  pub parent-no-root : (d : Descent) → not b ≡ true → d .stop ≡ st → ToParent z m u key top l d u₁
   parent-no-root d nb e =
       let q : goes st ≡ false = sym pb ∙ not-true b nb in
-      record { asks = λ hold k. rw (h .asks hold (below k), e, q); noted = h .noted; parent = λ t. stops-not st q (rw e at t) }
+      record { asks = λ k. rw (h .asks (below k), e, q); noted = h .noted; parent = λ t. stops-not st q (rw e at t) }
 
   module _ (nb : not b ≡ false) where
     on : goes st ≡ true
     on = sym pb ∙ not-false b nb
 
-    pub parent-low : (d : Descent) → r .level ≤ l → d .stop ≡ Aborts 3 → ToParent z m x u key top l d u₁
+    pub parent-low : (d : Descent) → r .level ≤ l → d .stop ≡ Aborts 3 → ToParent z m u key top l d u₁
     parent-low d g e = record {
-      asks = λ hold k. rw (h .asks hold (below k), on, ifd-no (decLt l (r .level)) (down (to-level (suc l)) key k (r .level) [] top (entriesOf r 0)) (P.fail no-tree) (λ a. absurd (omega arith)), e)
+      asks = λ k. rw (h .asks (below k), on, ifd-no (decLt l (r .level)) (down (to-level (suc l)) key k (r .level) [] top (entriesOf r 0)) (P.fail no-tree) (λ a. absurd (omega arith)), e)
           (walked-fails z m (used-in u₁) no-tree);
       noted = h .noted;
       parent = λ t. stops-not (Aborts 3) refl (rw e at t);
@@ -232,12 +232,12 @@ module _ (z : Sizes) (m : ClientWord → ℕ) (x u : List ℕ) (key top l : ℕ)
     pub parent-from : l < r .level → From r (l + 1)
     parent-from g = record { whole = h .whole; small = h .small; opened = h .fits on; above = omega arith }
 
-    pub parent-led : (d : Descent) (u₂ : List ℕ) → l < r .level → Led z m x u₁ key (l + 1) top r d u₂ → ToParent z m x u key top l d u₂
+    pub parent-led : (d : Descent) (u₂ : List ℕ) → l < r .level → Led z m u₁ key (l + 1) top r d u₂ → ToParent z m u key top l d u₂
     parent-led d u₂ g c =
-        let c′ : Led z m x u₁ key (suc l) top r d u₂ = rw add-one at c in
+        let c′ : Led z m u₁ key (suc l) top r d u₂ = rw add-one at c in
         record {
-          asks = λ hold k. rw (h .asks hold (below k), on, ifd-yes (decLt l (r .level)) (down (to-level (suc l)) key k (r .level) [] top (entriesOf r 0)) (P.fail no-tree) g)
-              (c′ .asks hold (to-level (suc l)) (level-stops (suc l)) k);
+          asks = λ k. rw (h .asks (below k), on, ifd-yes (decLt l (r .level)) (down (to-level (suc l)) key k (r .level) [] top (entriesOf r 0)) (P.fail no-tree) g)
+              (c′ .asks (to-level (suc l)) (level-stops (suc l)) k);
           noted = c′ .noted;
           parent = λ t. let e : Reached (suc l) d = c′ .reached t in
               record {

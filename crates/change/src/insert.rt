@@ -78,7 +78,7 @@ pub fn insert(
     requires { ⌜ (servers ≤ 8) × OwnGood (now own) × (getD (now own) 0 0 ≡ 0) × Noted (held (now part)) (now used) × (7223 ≤ length (now part) / 8) ⌝ }
     ensures { λ r. ⌜ Operated (sizes servers slots) (held (now (part .entry))) (now (own .entry)) (now (used .entry)) (insert-plan (sizes servers slots) key value) r (now (own .exit)) (now (used .exit)) ⌝ }
 {
-    let d = descend(part, servers, slots, own, used, key);
+    let d = descend(part, servers, slots, used, key);
     let stop = d.stop;
     let on = going(stop);
     if !on {

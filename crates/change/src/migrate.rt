@@ -224,17 +224,16 @@ fn to_parent(
     part: &[u8],
     servers: usize,
     slots: usize,
-    own: &[u64],
     used: &mut [u64],
     key: u64,
     top: u64,
     level: usize,
 ) -> Descent
-    requires { ⌜ (servers ≤ 8) × OwnGood (now own) × Noted (held (now part)) (now used) × (7223 ≤ length (now part) / 8) ⌝ }
+    requires { ⌜ (servers ≤ 8) × Noted (held (now part)) (now used) × (7223 ≤ length (now part) / 8) ⌝ }
     requires low { ⌜ level ≤ 4 ⌝ }
-    ensures { λ r. ⌜ ToParent (sizes servers slots) (held (now (part .entry))) (now (own .entry)) (now (used .entry)) key top level r (now (used .exit)) ⌝ }
+    ensures { λ r. ⌜ ToParent (sizes servers slots) (held (now (part .entry))) (now (used .entry)) key top level r (now (used .exit)) ⌝ }
 {
-    let r = root(part, servers, slots, own, used, top);
+    let r = root(part, servers, slots, used, top);
     let stop = r.stop;
     let on = going(stop);
     if !on {
@@ -244,7 +243,7 @@ fn to_parent(
     if first.level as usize <= level {
         return no_descent(Stop::Aborts(3));
     }
-    go_down(part, servers, slots, own, used, key, level + 1, top, first)
+    go_down(part, servers, slots, used, key, level + 1, top, first)
 }
 
 // A node below the root of the name `top`.
@@ -266,7 +265,7 @@ fn move_below(
     let keys = n.keys;
     let key = keys[0];
     let level = n.level as usize;
-    let d = to_parent(part, servers, slots, own, used, key, top, level);
+    let d = to_parent(part, servers, slots, used, key, top, level);
     let stop = d.stop;
     let on = going(stop);
     if !on {
@@ -335,7 +334,7 @@ fn move_named(
     requires { ⌜ (servers ≤ 8) × OwnGood (now own) × (getD (now own) 0 0 ≡ 0) × Noted (held (now part)) (now used) × (7223 ≤ length (now part) / 8) ⌝ }
     ensures { λ r. ⌜ Operated (sizes servers slots) (held (now (part .entry))) (now (own .entry)) (now (used .entry)) (named-plan (sizes servers slots) top name server) r (now (own .exit)) (now (used .exit)) ⌝ }
 {
-    let a = ask_node(part, servers, slots, own, used, name);
+    let a = ask_node(part, servers, slots, used, name);
     let stop = a.stop;
     let on = going(stop);
     if !on {
@@ -358,7 +357,7 @@ pub fn migrate(
     requires { ⌜ (servers ≤ 8) × OwnGood (now own) × (getD (now own) 0 0 ≡ 0) × Noted (held (now part)) (now used) × (7223 ≤ length (now part) / 8) ⌝ }
     ensures { λ r. ⌜ Operated (sizes servers slots) (held (now (part .entry))) (now (own .entry)) (now (used .entry)) (migrate-plan (sizes servers slots) name server) r (now (own .exit)) (now (used .exit)) ⌝ }
 {
-    let a = ask_meta(part, servers, slots, own, used);
+    let a = ask_meta(part, servers, slots, used);
     let stop = a.stop;
     let on = going(stop);
     if !on {

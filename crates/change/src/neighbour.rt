@@ -6,7 +6,7 @@ use crate::rise::write_node;
 use nodes::change::Halves;
 use nodes::node::Node;
 use walk::down::Turn;
-use walk::down::child;
+use walk::down::see_child;
 use walk::lookup::answers;
 use walk::take::release;
 use walk::walk::Stop;
@@ -241,7 +241,7 @@ pub fn neighbour(
     if other == name {
         return halted(Stop::Aborts(3));
     }
-    let c = child(part, servers, slots, own, used, level as u64, other);
+    let c = see_child(part, servers, slots, own, used, level as u64, other);
     let stop = c.stop;
     let on = going(stop);
     if !on {

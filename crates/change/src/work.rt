@@ -1,27 +1,30 @@
-// The work step's walk: the waiting operation, and the last questions before its answer.
+// The work step's walk of an operation that writes, and the last questions before its answer.
 use crate::delete::delete;
 use crate::insert::insert;
 use crate::last::last_reason;
 use crate::migrate::migrate;
 use client::part::get_field;
-use walk::lookup::lookup;
-use walk::seek::near;
 use walk::walk::Stop;
+use walk::walk::is_answer;
 ghost use Prim.Native.Nat.{_/_, _≤_};
 ghost use lib.ListN.{length, getD};
 ghost use mathlib.Core.Path.{_≡_};
+ghost use mathlib.Core.Bool.{false};
 ghost use Rattle.operations.specs.Operation.{reading};
+ghost use Rattle.client.specs.Layout.{op-number};
 ghost use Rattle.client.specs.Record.{sizes};
 ghost use Rattle.client.specs.Sets.{held};
 ghost use Rattle.client.specs.Work.{waiting};
 ghost use Rattle.walk.specs.Ask.{OwnGood, Noted};
 ghost use Rattle.change.specs.Operated.{Operated};
-ghost use Rattle.change.specs.Work.{is-answer, Waiting, Ready, Works};
+ghost use Rattle.walk.specs.Stopped.{Waiting};
+ghost use Rattle.walk.specs.Look.{only-reads};
+ghost use Rattle.change.specs.Work.{Ready, Works};
 
-// "op 1 insert, 2 lookup, 3 delete, 4 next key above, 5 previous key below, 6 migrate (key is the node name)"
+// "op 1 insert, .. 3 delete, .. 6 migrate (key is the node name)"
 fn walk(part: &[u8], servers: usize, slots: usize, own: &mut [u64], used: &mut [u64]) -> Stop
     requires { ⌜ (servers ≤ 8) × OwnGood (now own) × (getD (now own) 0 0 ≡ 0) × Noted (held (now part)) (now used) × (7223 ≤ length (now part) / 8) ⌝ }
-    requires waits { ⌜ Waiting (held (now part)) ⌝ }
+    requires waits { ⌜ Waiting (held (now part)) × (only-reads (held (now part) op-number) ≡ false) ⌝ }
     ensures { λ r. ⌜ Operated (sizes servers slots) (held (now (part .entry))) (now (own .entry)) (now (used .entry)) (reading (sizes servers slots) (waiting (held (now (part .entry))))) r (now (own .exit)) (now (used .exit)) ⌝ }
 {
     let op = get_field(part, 1);
@@ -31,10 +34,7 @@ fn walk(part: &[u8], servers: usize, slots: usize, own: &mut [u64], used: &mut [
             let value = get_field(part, 3);
             insert(part, servers, slots, own, used, key, value)
         }
-        2 => lookup(part, servers, slots, own, used, key),
         3 => delete(part, servers, slots, own, used, key),
-        4 => near(part, servers, slots, own, used, true, key),
-        5 => near(part, servers, slots, own, used, false, key),
         _ => {
             let server = get_field(part, 4);
             migrate(part, servers, slots, own, used, key, server)
@@ -42,24 +42,10 @@ fn walk(part: &[u8], servers: usize, slots: usize, own: &mut [u64], used: &mut [
     }
 }
 
-pub fn is_answer(stop: Stop) -> bool
-    ensures { λ r. ⌜ r ≡ is-answer stop ⌝ }
-{
-    match stop {
-        Stop::Going => false,
-        Stop::LacksMeta => false,
-        Stop::LacksNode(_) => false,
-        Stop::LacksVector(_) => false,
-        Stop::Refused => false,
-        Stop::Aborts(_) => false,
-        Stop::Answers(_, _) => true,
-    }
-}
-
 // Both lists are lent empty. With the answer, `own` has the operation's writes; `used` has the copies in use.
 pub fn work(part: &[u8], servers: usize, slots: usize, own: &mut [u64], used: &mut [u64]) -> Stop
     requires { ⌜ (servers ≤ 8) × Ready (now own) (now used) × (7223 ≤ length (now part) / 8) ⌝ }
-    requires waits { ⌜ Waiting (held (now part)) ⌝ }
+    requires waits { ⌜ Waiting (held (now part)) × (only-reads (held (now part) op-number) ≡ false) ⌝ }
     ensures { λ r. ⌜ Works (sizes servers slots) (held (now (part .entry))) r (now (own .exit)) (now (used .exit)) ⌝ }
 {
     let stop = walk(part, servers, slots, own, used);

@@ -12,7 +12,7 @@ use Rattle.layout.specs.Space.{stored}
 use Rattle.layout.specs.Step.{stepped}
 use Rattle.client.specs.Layout.{phase, op-number}
 use Rattle.client.specs.Fits.{client-fits}
-use Rattle.change.specs.Work.{Waiting}
+use Rattle.walk.specs.Stopped.{Waiting}
 use Rattle.steps.specs.declared.sizes.Sizes.{Sizes}
 use Rattle.steps.specs.declared.step.Step.{Step}
 use Rattle.steps.specs.declared.step.Kind.{Kind}

@@ -1,12 +1,12 @@
 -- Laws of the work step's code: how the walk stopped is what the rule comes to.
 use mathlib.Core.Path.{_≡_, refl, sym, ap, _∙_, subst}
 use mathlib.Core.Bool.{Bool, true, false, cond, _&&_, not}
-use mathlib.Core.List.{List}
+use mathlib.Core.List.{List, []}
 use Prim.Native.Nat.{ℕ, _+_, _-_, _*_, _/_, _%_, _^_, _≤_, _<_}
 use native.Mathlib.Nat.{mod-lt}
 use native.Mathlib.Omega.{arith}
 use native.Mathlib.Decide.{decLt}
-use borrow.Author.Tests.{lt-ltb, le-ltb, ltb-true, leb-true}
+use borrow.Author.Tests.{not-true, not-false, lt-ltb, le-ltb, ltb-true, leb-true}
 use borrow.Rule.Slice.PartMut.{midOf}
 use lib.Dec.{ltb}
 use lib.ListN.{length, getD, replicate}
@@ -25,8 +25,8 @@ use Rattle.client.specs.Sets as sets
 use Rattle.client.specs.Sets.{count}
 use Rattle.client.specs.Commit.{all-of}
 use Rattle.client.specs.Fits.{field-fits, op-fits, item-fits, vector-fits, client-fits}
-use Rattle.client.specs.Part.{Step, Did, _then_, put-field}
-use Rattle.client.specs.StepLaws.{did-three}
+use Rattle.client.specs.Part.{Step, Did, _then_, nothing, put-field}
+use Rattle.client.specs.StepLaws.{did-three, did-nothing}
 use Rattle.client.specs.GoodSteps.{good-entries}
 use Rattle.client.specs.Have.{broken}
 use Rattle.client.specs.Run.{End, lacks, aborts, gives}
@@ -36,8 +36,10 @@ use Rattle.client.specs.Answered.{used-enter, enter-writes, entered, answered}
 use Rattle.client.specs.Work.{Worked, refused, fetches, aborted, answers, count-new, any-at-last, last-questions, judge, walked, worked}
 use Rattle.walk.specs.declared.walk.Stop.{Stop}
 use Rattle.walk.specs.declared.walk.Stop.the-variants.{Going, LacksMeta, LacksNode, LacksVector, Refused, Aborts, Answers}
-use Rattle.walk.specs.Walk.{lack}
-use Rattle.change.specs.Work.{Waiting, Ready, stop-of, Works}
+use Rattle.walk.specs.Walk.{is-answer, lack}
+use Rattle.walk.specs.Stopped.{Waiting, stop-of, Stopped}
+use Rattle.walk.specs.Look.{only-reads, Looks}
+use Rattle.change.specs.Work.{Ready, Works}
 use Rattle.steps.specs.declared.sizes.Sizes.{Sizes}
 use Rattle.steps.specs.declared.outcome.Outcome.{Outcome}
 use Rattle.steps.specs.declared.outcome.Outcome.the-variants as outcome
@@ -65,6 +67,11 @@ pub answer-entered : (us : List ℕ) (l : List Entry) (s t v x : List ℕ) → 7
 unfolding entering
 answer-entered us l s t v x h p q r = did-three (used-enter us) (enter-entries l) (put-field 1 0) s t v x h (good-used-enter us) (good-entries l) p q r
 
+-- nothing was written
+pub seen-entered : (us s t x : List ℕ) → 7223 ≤ length s / 8 → Did (used-enter us) s t → Did (put-field 1 0) t x → Did (entering us []) s x
+unfolding enter-entries nothing
+seen-entered us s t x h p r = answer-entered us [] s t t x h p (did-nothing (enter-entries []) t refl) r
+
 entering-is : (us : List ℕ) (l : List Entry) (w : O.Writes) → l ≡ entered w → entering us l ≡ answered us w
 unfolding entering answered enter-writes put-field
 entering-is us l w e = rw e
@@ -79,6 +86,27 @@ pub waiting-lent : (z : Sizes) (b : List ℕ) (c k : ℕ) → Holds z (length b)
     → Waiting (sets.held (midOf (8 * k) (length b - 8 * k) b))
 unfolding sets.held
 waiting-lent z b c k l h e d = subst Waiting (sym (client-lent z c k b h e (l .room))) d
+
+pub looks-lent : (z : Sizes) (b : List ℕ) (c k : ℕ) (s : Stop) (u : List ℕ) → Holds z (length b) → c < z .clients → k ≡ client-at z c
+    → Looks (tree-sizes z) (sets.held (midOf (8 * k) (length b - 8 * k) b)) s u → Looks (tree-sizes z) (of-client z (view b) c) s u
+unfolding sets.held
+looks-lent z b c k s u l h e d = subst (λ (m : ClientWord → ℕ). Looks (tree-sizes z) m s u) (client-lent z c k b h e (l .room)) d
+
+-- which of the two it is
+module _ (z : Sizes) (b : List ℕ) (c k : ℕ) (l : Holds z (length b)) (h : c < z .clients) (e : k ≡ client-at z c) (r : Bool) where
+  pub reads-lent : r ≡ only-reads (sets.held (midOf (8 * k) (length b - 8 * k) b) op-number) → r ≡ only-reads (of-client z (view b) c op-number)
+  unfolding sets.held
+  reads-lent d = subst (λ (m : ClientWord → ℕ). r ≡ only-reads (m op-number)) (client-lent z c k b h e (l .room)) d
+
+  pub reads-so : only-reads (of-client z (view b) c op-number) ≡ r → only-reads (sets.held (midOf (8 * k) (length b - 8 * k) b) op-number) ≡ r
+  unfolding sets.held
+  reads-so d = subst (λ (m : ClientWord → ℕ). only-reads (m op-number) ≡ r) (sym (client-lent z c k b h e (l .room))) d
+
+-- the code's test
+pub tested : (r c d : Bool) → r ≡ c → r ≡ d → c ≡ d
+tested r c d p q = sym p ∙ q
+
+pub ruleset walk-lent = (works-lent, looks-lent, waiting-lent, reads-lent, reads-so)
 
 pub ready : Ready (replicate 681 0) (replicate 98 0)
 ready = record { own-long = omega arith; own-none = refl; used-long = omega arith; used-none = refl }
@@ -101,6 +129,40 @@ Ended (LacksVector s) W = Vector s W
 Ended Refused W = W ≡ refused
 Ended (Aborts y) W = W ≡ aborted y
 Ended (Answers a b) W = Answering a b W
+
+-- the outcome of a walk that stopped with an answer
+abbrev pub answer-of : Stop → Outcome
+answer-of Going = outcome.Refused 10
+answer-of LacksMeta = outcome.Refused 10
+answer-of (LacksNode n) = outcome.Refused 10
+answer-of (LacksVector s) = outcome.Refused 10
+answer-of Refused = outcome.Refused 10
+answer-of (Aborts y) = outcome.Refused 10
+answer-of (Answers a b) = outcome.Answered a b
+
+pub answer-is : (s : Stop) (a b : ℕ) → s ≡ Answers a b → outcome.Answered a b ≡ answer-of s
+answer-is s a b e = rw e
+
+module _ (s : Stop) (b : Bool) (e : b ≡ is-answer s) where
+  pub no-answer : not b ≡ true → is-answer s ≡ false
+  no-answer n = sym e ∙ not-true b n
+
+  pub some-answer : not b ≡ false → is-answer s ≡ true
+  some-answer n = sym e ∙ not-false b n
+
+pub record Pair (s : Stop) : Type 0 where
+  pub a : ℕ
+  pub b : ℕ
+  pub is : s ≡ Answers a b
+
+pair-of : (s : Stop) → is-answer s ≡ true → Pair s
+pair-of Going e = let q : _≡_ {A = ℕ} 0 1 = cc in absurd (omega arith)
+pair-of LacksMeta e = let q : _≡_ {A = ℕ} 0 1 = cc in absurd (omega arith)
+pair-of (LacksNode n) e = let q : _≡_ {A = ℕ} 0 1 = cc in absurd (omega arith)
+pair-of (LacksVector x) e = let q : _≡_ {A = ℕ} 0 1 = cc in absurd (omega arith)
+pair-of Refused e = let q : _≡_ {A = ℕ} 0 1 = cc in absurd (omega arith)
+pair-of (Aborts y) e = let q : _≡_ {A = ℕ} 0 1 = cc in absurd (omega arith)
+pair-of (Answers a b) e = record { a = a; b = b; is = refl }
 
 ends : (W : Worked) → Ended (stop-of W) W
 ends refused = refl
@@ -225,8 +287,8 @@ all-known z w c al k = record { known = λ i l. go i l (decLt i (count (of-clien
         (in-store-has z (getD us (i - count (of-client z w c) Reads) 0) al
         (stored-at (tree-sizes z) us (i - count (of-client z w c) Reads) (used-stored (tree-sizes z) (al .servers .1) (of-client z w c)) (omega arith)))
 
-module _ (z : Sizes) (b : List ℕ) (c : ℕ) (hold : Holds z (length b)) (h : c < z .clients) (known : Known z (view b) c) (wait : Waiting (of-client z (view b) c)) (s : Stop) (x u : List ℕ)
-    (k : Works (tree-sizes z) (of-client z (view b) c) s x u) where
+module _ (z : Sizes) (b : List ℕ) (c : ℕ) (hold : Holds z (length b)) (h : c < z .clients) (known : Known z (view b) c) (wait : Waiting (of-client z (view b) c)) (s : Stop) (u : List ℕ)
+    (k : Stopped (tree-sizes z) (of-client z (view b) c) s u) where
   abbrev W : Worked
   W = worked (tree-sizes z) (of-client z (view b) c)
 
@@ -268,7 +330,7 @@ module _ (z : Sizes) (b : List ℕ) (c : ℕ) (hold : Holds z (length b)) (h : c
       let q : W ≡ refused = subst (λ (t : Stop). Ended t W) e end in
       meets-refused z (view b) 10 (λ m. work z m c) (sym (work-is ∙ rw q))
 
-  pub work-never : {A : Type 0} → s ≡ Going → A
+  pub work-never : s ≡ Going → Comes (outcome.Refused 10) (view b)
   work-never e = absurd (subst (λ (t : Stop). Ended t W) e end)
 
   module _ (o : Outcome) (w′ : List ℕ) where
@@ -294,17 +356,44 @@ module _ (z : Sizes) (b : List ℕ) (c : ℕ) (hold : Holds z (length b)) (h : c
         meets-as z (view b) o w′ (λ m. fetch z m c (used-in u) (O.vector t)) (λ m. work z m c)
         (sym (work-is ∙ rw q (vector-same z (stored-in z (view b)) c (used-in u) t (v .asks) (v .lacked)))) d
 
-  pub work-fits : (a d : ℕ) → s ≡ Answers a d → OwnFits x
-  work-fits a d e = let v : Answering a d W = subst (λ (y : Stop). Ended y W) e end in k .fits (a, d) (v .writes) (v .is)
+  pub work-unanswered : (a d : ℕ) → s ≡ Answers a d → is-answer s ≡ false → Comes (outcome.Refused 10) (view b)
+  work-unanswered a d e n = let q : true ≡ false = sym (ap is-answer e) ∙ n in let y : _≡_ {A = ℕ} 0 1 = cc in absurd (omega arith)
 
-  pub work-answers : (a d : ℕ) (w′ : List ℕ) → s ≡ Answers a d → Does whole (block z) (inPart (client c) (entering (used-in u) (own-list x))) silent (view b) 0 w′ → Comes (outcome.Answered a d) w′
-  unfolding inPart
-  work-answers a d w′ e p =
-      let v : Answering a d W = subst (λ (y : Stop). Ended y W) e end in
-      let q : W ≡ answers (a, d) (v .writes) = v .is in
-      let r : entering (used-in u) (own-list x) ≡ answered (used-in u) (v .writes) = entering-is (used-in u) (own-list x) (v .writes) (k .own (a, d) (v .writes) q) in
-      meets-as z (view b) (outcome.Answered a d) w′ (λ m. did (outcome.Answered a d) (inPart (client c) (entering (used-in u) (own-list x)) m)) (λ m. work z m c)
-      (sym (work-is ∙ rw (q, ← r))) (meets-did z (view b) (outcome.Answered a d) w′ (inPart (client c) (entering (used-in u) (own-list x))) p)
+  -- with an answer; l are the entries of the write set that the code stores
+  module _ (yes-answer : is-answer s ≡ true) where
+    pair : Pair s
+    pair = pair-of s yes-answer
+
+    answering : Answering (pair .a) (pair .b) W
+    answering = subst (λ (y : Stop). Ended y W) (pair .is) end
+
+    work-answers : (l : List Entry) (w′ : List ℕ) → ((a : O.Ans) (w : O.Writes) → W ≡ answers a w → l ≡ entered w)
+        → Does whole (block z) (inPart (client c) (entering (used-in u) l)) silent (view b) 0 w′ → Comes (answer-of s) w′
+    unfolding inPart
+    work-answers l w′ f p =
+        let q : W ≡ answers (pair .a, pair .b) (answering .writes) = answering .is in
+        let r : entering (used-in u) l ≡ answered (used-in u) (answering .writes) = entering-is (used-in u) l (answering .writes) (f (pair .a, pair .b) (answering .writes) q) in
+        let o : Outcome = outcome.Answered (pair .a) (pair .b) in
+        subst (λ (y : Stop). Comes (answer-of y) w′) (sym (pair .is))
+        (meets-as z (view b) o w′ (λ m. did o (inPart (client c) (entering (used-in u) l) m)) (λ m. work z m c)
+        (sym (work-is ∙ rw (q, ← r))) (meets-did z (view b) o w′ (inPart (client c) (entering (used-in u) l)) p))
+
+module _ (z : Sizes) (b : List ℕ) (c : ℕ) (hold : Holds z (length b)) (h : c < z .clients) (known : Known z (view b) c) (wait : Waiting (of-client z (view b) c)) (s : Stop) where
+  -- an operation that only reads
+  module _ (u : List ℕ) (k : Looks (tree-sizes z) (of-client z (view b) c) s u) where
+    pub look-answers : (o : Outcome) (w′ : List ℕ) → is-answer s ≡ true → o ≡ answer-of s → Does whole (block z) (inPart (client c) (entering (used-in u) [])) silent (view b) 0 w′
+        → Meets z (λ m. work z m c) (view b) o w′
+    unfolding entered
+    look-answers o w′ n e p = rw e (work-answers z b c hold h known wait s u (k .stopped) n [] w′ (λ a w q. rw (k .none a w q)) p)
+
+  -- one that writes
+  module _ (x u : List ℕ) (k : Works (tree-sizes z) (of-client z (view b) c) s x u) where
+    pub change-fits : is-answer s ≡ true → OwnFits x
+    change-fits n = let v = answering z b c hold h known wait s u (k .stopped) n in k .fits _ (v .writes) (v .is)
+
+    pub change-answers : (o : Outcome) (w′ : List ℕ) → is-answer s ≡ true → o ≡ answer-of s
+        → Does whole (block z) (inPart (client c) (entering (used-in u) (own-list x))) silent (view b) 0 w′ → Meets z (λ m. work z m c) (view b) o w′
+    change-answers o w′ n e p = rw e (work-answers z b c hold h known wait s u (k .stopped) n (own-list x) w′ (k .own) p)
 
 -- ---- what refusals 9 and 10 have judged
 pub fits-waiting : (z : Sizes) (m : ClientWord → ℕ) → client-fits (tree-sizes z) m ≡ true → (m op-number ≡ 0 → ⊥) → Waiting m

@@ -1,19 +1,27 @@
 // 2 work: the waiting operation is walked over what the client has. It is answered, or the first thing lacking is fetched.
+ghost use mathlib.Core.Path.{_≡_};
+ghost use mathlib.Core.Bool.{true, false};
+ghost use mathlib.Core.List.{[]};
 ghost use Prim.Native.Nat.{_/_, _≤_, _<_};
 ghost use lib.ListN.{length};
 ghost use Rattle.memory.specs.Word.{view};
 ghost use Rattle.layout.specs.Step.{Does, silent};
 ghost use Rattle.layout.specs.Part.{inPart};
+ghost use Rattle.client.specs.Layout.{op-number};
 ghost use Rattle.client.specs.Part.{Did};
 ghost use Rattle.client.specs.Lent.{InUse, used-in, OwnFits, own-list};
-ghost use Rattle.change.specs.Work.{Waiting};
-ghost use Rattle.steps.specs.Whole.{client as at-client, whole, block};
+ghost use Rattle.walk.specs.Walk.{is-answer};
+ghost use Rattle.walk.specs.Stopped.{Waiting, Stopped};
+ghost use Rattle.walk.specs.Look.{only-reads};
+ghost use Rattle.steps.specs.Whole.{client as at-client, whole, block, tree-sizes};
 ghost use Rattle.steps.specs.Steps.{work};
 ghost use Rattle.kinds.specs.Parts.{Holds};
 ghost use Rattle.kinds.specs.Judge.{of-client};
 ghost use Rattle.kinds.specs.Fits.{Known};
 ghost use Rattle.kinds.specs.Kinds.{Meets};
-ghost use Rattle.engine.specs.Work.{entering};
+ghost use Rattle.engine.specs.Work.{entering, answer-of};
+use crate::walking::look_at;
+use crate::walking::only_reads_at;
 use crate::walking::walk_at;
 use client::enter::enter_used;
 use client::enter::enter_writes;
@@ -26,6 +34,7 @@ use kinds::whole::client_at;
 use steps::outcome::Outcome;
 use steps::sizes::Sizes;
 use walk::walk::Stop;
+use walk::walk::is_answer;
 
 // "otherwise it answers the operation, and only then do its writes enter the write set": no operation waits any more.
 fn enter_answer(part: &mut [u8], own: &[u64], used: &[u64])
@@ -45,23 +54,95 @@ fn store_answer(mem: &mut [u8], sizes: Sizes, client: usize, own: &[u64], used: 
     enter_answer(&mut mem[at..], own, used);
 }
 
-pub fn work(mem: &mut [u8], sizes: Sizes, client: usize) -> Outcome
+// The same of an operation that only reads: nothing enters the write set.
+fn enter_seen(part: &mut [u8], used: &[u64])
+    requires { ⌜ InUse (now used) × (7223 ≤ length (now part) / 8) ⌝ }
+    ensures { λ _. ⌜ Did (entering (used-in (now (used .entry))) []) (now (part .entry)) (now (part .exit)) ⌝ }
+{
+    enter_used(part, used);
+    set_field(part, 1, 0);
+}
+
+fn store_seen(mem: &mut [u8], sizes: Sizes, client: usize, used: &[u64])
+    requires { ⌜ Holds sizes (length (now mem)) × (client < sizes .clients) × InUse (now used) ⌝ }
+    ensures { λ _. ⌜ Does whole (block sizes) (inPart (at-client client) (entering (used-in (now (used .entry))) [])) silent (view (now (mem .entry))) 0 (view (now (mem .exit))) ⌝ }
+{
+    let at = 8 * client_at(sizes, client);
+    enter_seen(&mut mem[at..], used);
+}
+
+// A walk that stopped without an answer.
+fn unanswered(mem: &mut [u8], sizes: Sizes, client: usize, stop: Stop, used: &[u64]) -> Outcome
     requires { ⌜ Holds sizes (length (now mem)) × (client < sizes .clients) × Known sizes (view (now mem)) client × Waiting (of-client sizes (view (now mem)) client) ⌝ }
+    requires stopped { ⌜ Stopped (tree-sizes sizes) (of-client sizes (view (now mem)) client) stop (now used) × (is-answer stop ≡ false) ⌝ }
+    ensures { λ r. ⌜ Meets sizes (λ m. work sizes m client) (view (now (mem .entry))) r (view (now (mem .exit))) ⌝ }
+{
+    match stop {
+        Stop::Going => Outcome::Refused(10),
+        Stop::LacksMeta => fetch_meta(mem, sizes, client, used),
+        Stop::LacksNode(name) => fetch_node(mem, sizes, client, name, used),
+        Stop::LacksVector(s) => fetch_vector(mem, sizes, client, s as usize, used),
+        Stop::Refused => Outcome::Refused(10),
+        Stop::Aborts(reason) => abort(mem, sizes, client, reason, used),
+        Stop::Answers(_, _) => Outcome::Refused(10),
+    }
+}
+
+// A walk that stopped with an answer.
+fn answered(stop: Stop) -> Outcome
+    ensures { λ r. ⌜ r ≡ answer-of stop ⌝ }
+{
+    match stop {
+        Stop::Going => Outcome::Refused(10),
+        Stop::LacksMeta => Outcome::Refused(10),
+        Stop::LacksNode(_) => Outcome::Refused(10),
+        Stop::LacksVector(_) => Outcome::Refused(10),
+        Stop::Refused => Outcome::Refused(10),
+        Stop::Aborts(_) => Outcome::Refused(10),
+        Stop::Answers(a, b) => Outcome::Answered(a, b),
+    }
+}
+
+// Lookup, next and previous.
+fn look(mem: &mut [u8], sizes: Sizes, client: usize) -> Outcome
+    requires { ⌜ Holds sizes (length (now mem)) × (client < sizes .clients) × Known sizes (view (now mem)) client × Waiting (of-client sizes (view (now mem)) client) ⌝ }
+    requires reads { ⌜ only-reads (of-client sizes (view (now mem)) client op-number) ≡ true ⌝ }
+    ensures { λ r. ⌜ Meets sizes (λ m. work sizes m client) (view (now (mem .entry))) r (view (now (mem .exit))) ⌝ }
+{
+    let mut used = [0u64; 98];
+    let stop = look_at(mem, sizes, client, &mut used);
+    let done = is_answer(stop);
+    if !done {
+        return unanswered(mem, sizes, client, stop, &used);
+    }
+    store_seen(mem, sizes, client, &used);
+    answered(stop)
+}
+
+// Insert, delete and migrate.
+fn change(mem: &mut [u8], sizes: Sizes, client: usize) -> Outcome
+    requires { ⌜ Holds sizes (length (now mem)) × (client < sizes .clients) × Known sizes (view (now mem)) client × Waiting (of-client sizes (view (now mem)) client) ⌝ }
+    requires writes { ⌜ only-reads (of-client sizes (view (now mem)) client op-number) ≡ false ⌝ }
     ensures { λ r. ⌜ Meets sizes (λ m. work sizes m client) (view (now (mem .entry))) r (view (now (mem .exit))) ⌝ }
 {
     let mut own = [0u64; 681];
     let mut used = [0u64; 98];
     let stop = walk_at(mem, sizes, client, &mut own, &mut used);
-    match stop {
-        Stop::Going => Outcome::Refused(10),
-        Stop::LacksMeta => fetch_meta(mem, sizes, client, &used),
-        Stop::LacksNode(name) => fetch_node(mem, sizes, client, name, &used),
-        Stop::LacksVector(s) => fetch_vector(mem, sizes, client, s as usize, &used),
-        Stop::Refused => Outcome::Refused(10),
-        Stop::Aborts(reason) => abort(mem, sizes, client, reason, &used),
-        Stop::Answers(a, b) => {
-            store_answer(mem, sizes, client, &own, &used);
-            Outcome::Answered(a, b)
-        }
+    let done = is_answer(stop);
+    if !done {
+        return unanswered(mem, sizes, client, stop, &used);
     }
+    store_answer(mem, sizes, client, &own, &used);
+    answered(stop)
+}
+
+pub fn work(mem: &mut [u8], sizes: Sizes, client: usize) -> Outcome
+    requires { ⌜ Holds sizes (length (now mem)) × (client < sizes .clients) × Known sizes (view (now mem)) client × Waiting (of-client sizes (view (now mem)) client) ⌝ }
+    ensures { λ r. ⌜ Meets sizes (λ m. work sizes m client) (view (now (mem .entry))) r (view (now (mem .exit))) ⌝ }
+{
+    let reads = only_reads_at(mem, sizes, client);
+    if reads {
+        return look(mem, sizes, client);
+    }
+    change(mem, sizes, client)
 }

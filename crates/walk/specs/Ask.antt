@@ -1,5 +1,5 @@
 -- What comes of a question: an own write of the operation, else what the part has.
-use mathlib.Core.Path.{_≡_, refl, sym, _∙_, ap}
+use mathlib.Core.Path.{_≡_, refl, sym, _∙_}
 use mathlib.Core.Bool.{Bool, true, false, cond, _&&_, not}
 use mathlib.Core.List.{List, [], _∷_, _++_}
 use mathlib.Core.Option.{Option, none, some}
@@ -9,7 +9,7 @@ use native.Mathlib.Numerals.{add-one}
 use native.Mathlib.Decide.{ℕ-discrete}
 use lib.Dec.{ltb, leb, eqb}
 use lib.ListN.{length, take, drop, getD, set, length-append, length-set, length-drop}
-use lib.Seq.{take-append-seam, take-suc-set, getD-set-same, getD-set-other, length-take-le, take-take}
+use lib.Seq.{take-suc-set, getD-set-same, getD-set-other, length-take-le, take-take}
 use borrow.Author.Tests.{lt-ltb, le-ltb, ltb-true, ltb-false, leb-true, le-leb, ne-eqb, eqb-true}
 use Rattle.base.specs.Test.{and-both}
 use borrow.Author.Tests.{not-true, not-false}
@@ -21,7 +21,7 @@ use Rattle.nodes.specs.Name.{server-of}
 use Rattle.nodes.specs.Node.{free-node, made}
 use Rattle.nodes.specs.Range.{level-fits, count-fits, in-range, range-count}
 use Rattle.nodes.specs.Found.{Inside}
-use Rattle.operations.specs.Object.{Obj, meta, node, flag, Ask, object, vector, fetched, Val, Why, reason, Ans, Writes, hit}
+use Rattle.operations.specs.Object.{Obj, meta, node, flag, Ask, object, vector, fetched, Val, Writes, hit}
 use Rattle.operations.specs.Slot.{Sizes}
 use Rattle.operations.specs.Path.{Plan, see}
 use Rattle.client.specs.declared.answer.How.{How}
@@ -29,18 +29,18 @@ use Rattle.client.specs.declared.answer.How.the-variants.{Here, Copied, Full, L
 use Rattle.client.specs.declared.answer.Look.{Look}
 use Rattle.walk.specs.declared.walk.Asked.{Asked}
 use Rattle.walk.specs.declared.walk.Stop.{Stop}
-use Rattle.walk.specs.declared.walk.Stop.the-variants.{Going, LacksMeta, LacksNode, LacksVector, Refused, Aborts, Answers}
+use Rattle.walk.specs.declared.walk.Stop.the-variants.{Going, LacksMeta, LacksNode, LacksVector, Refused, Aborts}
 use Rattle.client.specs.declared.part.Set.the-variants.{Reads, Copies}
 use Rattle.client.specs.declared.part.Set.the-variants as set
 use Rattle.client.specs.Layout.{ClientWord, reads-count, meta-copied, vector-word}
 use Rattle.client.specs.Record.{number, sizes, object-in-store, in-store, value-of, fits}
-use Rattle.client.specs.Sets.{count, find}
+use Rattle.client.specs.Sets.{count, find, first-of}
 use Rattle.client.specs.Have.{here, copy, full, lacking, unfit, is-copied, is-found, copied, copied-meta, copied-item, copied-node, copied-flag, source, have, broken}
-use Rattle.client.specs.Run.{End, lacks, aborts, gives, Ran, ran, among, judged, run}
-use Rattle.client.specs.Lent.{OwnFits, own-find, own-record, own-count, own-list, Lent, used-in, pushed}
+use Rattle.client.specs.Run.{lacks, Ran, ran, among, judged, run}
+use Rattle.client.specs.Lent.{OwnFits, own-find, own-first, own-record, own-count, own-list, Lent, used-in, pushed}
 use Rattle.client.specs.Answered.{entered}
 use Rattle.client.specs.Look.{taken-up, looked, at-hand, used-after}
-use Rattle.walk.specs.Walk.{Told, told, goes, lack, over-run, fresh, room, over, worked, tell, walked, carry, walked-fails, full-ask, judged-over}
+use Rattle.walk.specs.Walk.{told, goes, lack, fresh, room, over, worked, walked, carry, full-ask, judged-over}
 
 -- ---- a node at hand has at most 14 keys, and a level of at most 4
 pub record SmallNode (r : Node) : Type 0 where
@@ -94,6 +94,30 @@ pub record Holds (z : Sizes) (x : List ℕ) (w : Writes) : Type 0 where
   pub entries : own-list x ≡ entered w
   pub same : (o : Obj) → object-in-store z o ≡ true → own-value x o (own-find x (number o)) ≡ write-of w o
   pub out : (o : Obj) → object-in-store z o ≡ false → write-of w o ≡ none
+
+-- an empty list of own writes
+none-own : (x : List ℕ) (n : ℕ) → getD x 0 0 ≡ 0 → own-find x n ≡ Absent
+unfolding own-find first-of
+none-own x n e = rw e
+
+absent-at : {A : Type 0} (i : ℕ) → Absent ≡ At i → A
+absent-at i e = let z : _≡_ {A = ℕ} 0 1 = cc in absurd (omega arith)
+
+module _ (x : List ℕ) (e : getD x 0 0 ≡ 0) where
+  pub nothing-good : 681 ≤ length x → OwnGood x
+  nothing-good l =
+      record { fit = record { long = l; few = omega arith }; few = λ i h. absurd (omega arith); small = λ o i f. absent-at i (sym (none-own x (number o) e) ∙ f) }
+
+  pub nothing-held : (z : Sizes) → Holds z x []
+  unfolding own-list own-first entered
+  nothing-held z = record { entries = rw e; same = λ o t. rw (none-own x (number o) e); out = λ o t. refl }
+
+-- that of a walk to which none is lent
+abbrev pub nothing : List ℕ
+nothing = 0 ∷ []
+
+pub none-held : (z : Sizes) → Holds z nothing []
+none-held z = nothing-held nothing refl z
 
 -- ---- the copies in use: object 97 may be among them
 pub record Noted (m : ClientWord → ℕ) (u : List ℕ) : Type 0 where
@@ -363,29 +387,18 @@ popped u = set u 0 (getD u 0 0 - 1)
 abbrev pub stopped : Stop → Asked
 stopped s = record { stop = s; node = free-node 0 }
 
--- where object 97 is in use: only an own write can still be read
-abbrev pub own-or-over : List ℕ → Found → Asked
-own-or-over x (At i) = record { stop = Going; node = own-record x i }
-own-or-over x Absent = stopped (Aborts 4)
+-- a copy that is not in use yet comes into use
+unfoldable pub noted-copy : How → List ℕ → ℕ → List ℕ
+noted-copy d u n = cond (is-copied d) (cond (among n (used-in u)) u (pushed u n)) u
 
-unfoldable pub own-asked : List ℕ → ℕ → Asked
-own-asked x n = own-or-over x (own-find x n)
-
-abbrev pub or-popped : List ℕ → Found → List ℕ
-or-popped u (At i) = u
-or-popped u Absent = popped u
-
-unfoldable pub own-used : List ℕ → List ℕ → ℕ → List ℕ
-own-used x u n = or-popped u (own-find x n)
-
-abbrev pub entered-stop : How → Stop → Stop
+abbrev entered-stop : How → Stop → Stop
 entered-stop Here l = Going
 entered-stop Copied l = Going
 entered-stop Full l = Going
 entered-stop Lacking l = l
 entered-stop Broken l = Refused
 
-abbrev pub entered-used : How → List ℕ → ℕ → List ℕ
+abbrev entered-used : How → List ℕ → ℕ → List ℕ
 entered-used Here u n = u
 entered-used Copied u n = u
 entered-used Full u n = pushed u n
@@ -426,27 +439,13 @@ pushed-noted m u x b f h =
     go i (yes e) l = rw (e, getD-set-same u (c + 1) x 0 (omega (arith, f .long, f .few, h))) b
     go i (no d) l = rw (getD-set-other u (c + 1) (i + 1) x 0 (λ e. d (omega arith))) (f .each i (omega arith))
 
-module _ (z : Sizes) (m : ClientWord → ℕ) (x u : List ℕ) (n : ℕ) (l : Stop) (eight : z .servers ≤ 8) (near : n < 16385) (h : Noted m u) (g : OwnGood x) where
-  pub own-found : (c : Bool) (r : Asked) (u′ : List ℕ) → c ≡ over m (used-in u) → c ≡ true → r ≡ own-asked x n → u′ ≡ own-used x u n → Numbered z m x u n l (r .stop) (r .node) u′
-  unfolding own-asked own-used
-  own-found c r u′ vc ct pr pu = go (own-find x n) refl
-    where
-      v : over m (used-in u) ≡ true
-      v = sym vc ∙ ct
-
-      go : (f : Found) → own-find x n ≡ f → Numbered z m x u n l (r .stop) (r .node) u′
-      go (At i) e = rw (pr, pu, own-asked, own-used, e) (record {
-        asks = λ o p t b w hold. let f : own-find x (number o) ≡ At i = rw p e in
-            let y : write-of w o ≡ some (value-of o (own-record x i)) = sym (hold .same o t) ∙ rw f in
-            record { same = λ k. rw (see-is w o k, y) };
-        noted = h;
-        long = refl;
-        small = λ o p t. g .small o i (rw p e);
-      })
-      go Absent e = let c : getD u 0 0 ≤ 97 = omega arith in rw (pr, pu, own-asked, own-used, e) (record {
-        asks = λ o p t b w hold. let f : own-find x (number o) ≡ Absent = rw p e in
-            let y : write-of w o ≡ none = sym (hold .same o t) ∙ rw f in
-            record { same = λ k. rw (see-is w o k, y, full-ask z m (used-in u) (object o) k v, popped-used u (h .long) c) };
+module _ (z : Sizes) (m : ClientWord → ℕ) (u : List ℕ) (n : ℕ) (l : Stop) (eight : z .servers ≤ 8) (near : n < 16385) (h : Noted m u) where
+  pub asked-over : (c : Bool) (r : Asked) (u′ : List ℕ) → c ≡ over m (used-in u) → c ≡ true → r ≡ stopped (Aborts 4) → u′ ≡ popped u → Numbered z m nothing u n l (r .stop) (r .node) u′
+  asked-over c r u′ vc ct pr pu =
+      let b : getD u 0 0 ≤ 97 = omega arith in
+      rw (pr, pu) (record {
+        asks = λ o p t b′ w hold. let y : write-of w o ≡ none = sym (hold .same o t) ∙ rw (none-own nothing (number o) refl) in
+            record { same = λ k. rw (see-is w o k, y, full-ask z m (used-in u) (object o) k (sym vc ∙ ct), popped-used u (h .long) b) };
         noted = popped-noted m u h;
         long = simp length-set;
         small = λ o p t. free-small o;
@@ -460,7 +459,7 @@ module _ (z : Sizes) (m : ClientWord → ℕ) (x u : List ℕ) (n : ℕ) (l : St
     more : Noted m (pushed u n)
     more = pushed-noted m u n near h few
 
-    looked-noted : (d : How) → looked z m x u n .how ≡ d → Noted m (entered-used (at-hand (looked z m x u n) .how) (used-after (looked z m x u n) u n) n)
+    looked-noted : (d : How) → looked z m nothing u n .how ≡ d → Noted m (entered-used (at-hand (looked z m nothing u n) .how) (used-after (looked z m nothing u n) u n) n)
     unfolding at-hand used-after
     looked-noted Here e = rw (at-hand, used-after, e) h
     looked-noted Copied e = rw (at-hand, used-after, e) more
@@ -468,7 +467,7 @@ module _ (z : Sizes) (m : ClientWord → ℕ) (x u : List ℕ) (n : ℕ) (l : St
     looked-noted Lacking e = rw (at-hand, used-after, e) h
     looked-noted Broken e = rw (at-hand, used-after, e) h
 
-    looked-long : (d : How) → looked z m x u n .how ≡ d → length (entered-used (at-hand (looked z m x u n) .how) (used-after (looked z m x u n) u n) n) ≡ length u
+    looked-long : (d : How) → looked z m nothing u n .how ≡ d → length (entered-used (at-hand (looked z m nothing u n) .how) (used-after (looked z m nothing u n) u n) n) ≡ length u
     unfolding at-hand used-after pushed
     looked-long Here e = rw (at-hand, used-after, e)
     looked-long Copied e = rw (at-hand, used-after, e) (simp length-set)
@@ -484,41 +483,94 @@ module _ (z : Sizes) (m : ClientWord → ℕ) (x u : List ℕ) (n : ℕ) (l : St
         go true e = rw (at-hand, e)
         go false e = rw (at-hand, e)
 
-    module _ (o : Obj) (t : object-in-store z o ≡ true) (b : lack (object o) ≡ l) (w : Writes) (hold : Holds z x w) where
+    module _ (o : Obj) (t : object-in-store z o ≡ true) (b : lack (object o) ≡ l) (w : Writes) (hold : Holds z nothing w) where
       abbrev L : Look
-      L = looked z m x u (number o)
+      L = looked z m nothing u (number o)
 
       pushed-in : used-in (pushed u (number o)) ≡ used-in u ++ (number o ∷ [])
       pushed-in = used-pushed u (number o) (h .long) (omega (arith, few))
 
       looked-asks : (d : How) → L .how ≡ d → Asks z m w o u (entered-stop (at-hand L .how) l) (at-hand L .node) (entered-used (at-hand L .how) (used-after L u (number o)) (number o))
       unfolding at-hand used-after walked
-      looked-asks Here e = rw (at-hand, used-after, e) (record { same = λ k. rw (walked, looked-run z m x u w o t v k hold, e) })
-      looked-asks Copied e = rw (at-hand, used-after, e) (record { same = λ k. rw (pushed-in, walked, looked-run z m x u w o t v k hold, e) })
-      looked-asks Full e = rw (at-hand, used-after, e) (record { same = λ k. rw (pushed-in, walked, looked-run z m x u w o t v k hold, e) })
+      looked-asks Here e = rw (at-hand, used-after, e) (record { same = λ k. rw (walked, looked-run z m nothing u w o t v k hold, e) })
+      looked-asks Copied e = rw (at-hand, used-after, e) (record { same = λ k. rw (pushed-in, walked, looked-run z m nothing u w o t v k hold, e) })
+      looked-asks Full e = rw (at-hand, used-after, e) (record { same = λ k. rw (pushed-in, walked, looked-run z m nothing u w o t v k hold, e) })
       looked-asks Lacking e =
-          let f : broken z m (object o) ≡ false = looked-broken z m x u o t (rw e) ∙ rw e in
-          rw (at-hand, used-after, e) (record { same = λ k. rw (walked, looked-run z m x u w o t v k hold, e, f, ← b, lack-stops (object o)) })
+          let f : broken z m (object o) ≡ false = looked-broken z m nothing u o t (rw e) ∙ rw e in
+          rw (at-hand, used-after, e) (record { same = λ k. rw (walked, looked-run z m nothing u w o t v k hold, e, f, ← b, lack-stops (object o)) })
       looked-asks Broken e =
-          let f : broken z m (object o) ≡ true = looked-broken z m x u o t (rw e) ∙ rw e in
-          rw (at-hand, used-after, e) (record { same = λ k. rw (walked, looked-run z m x u w o t v k hold, e, f) })
+          let f : broken z m (object o) ≡ true = looked-broken z m nothing u o t (rw e) ∙ rw e in
+          rw (at-hand, used-after, e) (record { same = λ k. rw (walked, looked-run z m nothing u w o t v k hold, e, f) })
 
-  pub part-found : (c : Bool) (a : Look) (s : Stop) (u₁ u₂ : List ℕ) → c ≡ over m (used-in u) → c ≡ false → a ≡ at-hand (looked z m x u n) → u₁ ≡ used-after (looked z m x u n) u n
-      → s ≡ entered-stop (a .how) l → u₂ ≡ entered-used (a .how) u₁ n → Numbered z m x u n l s (a .node) u₂
-  part-found c a s u₁ u₂ vc cf pa p₁ ps p₂ =
-      let v : over m (used-in u) ≡ false = sym vc ∙ cf in
+  -- what the part has of the object, as it is looked up
+  looked-found : over m (used-in u) ≡ false → (L : Look) → looked z m nothing u n ≡ L
+      → Numbered z m nothing u n l (entered-stop (at-hand L .how) l) (at-hand L .node) (entered-used (at-hand L .how) (used-after L u n) n)
+  looked-found v L e = rw (← e) (record {
+    asks = λ o p t b w hold. rw (← p) (looked-asks v o t b w hold (looked z m nothing u (number o) .how) refl);
+    noted = looked-noted v (looked z m nothing u n .how) refl;
+    long = looked-long v (looked z m nothing u n .how) refl;
+    small = λ o p t. rw (hand-node v (looked z m nothing u n), ← p) (looked-small z m nothing u o eight t (λ i q. absent-at i (sym (none-own nothing (number o) refl) ∙ q)));
+  })
+
+  module _ (c : Bool) (vc : c ≡ over m (used-in u)) (cf : c ≡ false) (a : Look) (pa : a ≡ source m n) (f : Bool) (pf : f ≡ is-found (a .how)) where
+    under : over m (used-in u) ≡ false
+    under = sym vc ∙ cf
+
+    pub asked-lacking : (r : Asked) → not f ≡ true → r ≡ stopped l → Numbered z m nothing u n l (r .stop) (r .node) u
+    unfolding looked at-hand used-after
+    asked-lacking r nf pr =
+        let k : is-found (source m n .how) ≡ false = rw pa at (sym pf ∙ not-true f nf) in
+        rw pr (looked-found under lacking (rw (looked, none-own nothing n refl, k)))
+
+    module _ (nf : not f ≡ false) (g : Bool) (pg : g ≡ fits z n (a .node)) where
+      k : is-found (source m n .how) ≡ true
+      k = rw pa at (sym pf ∙ not-false f nf)
+
+      pub asked-broken : (r : Asked) → not g ≡ true → r ≡ stopped Refused → Numbered z m nothing u n l (r .stop) (r .node) u
+      unfolding looked at-hand used-after
+      asked-broken r ng pr =
+          let q : fits z n (source m n .node) ≡ false = rw pa at (sym pg ∙ not-true g ng) in
+          rw pr (looked-found under unfit (rw (looked, none-own nothing n refl, k, q)))
+
+      pub asked-going : (u′ : List ℕ) → not g ≡ false → u′ ≡ noted-copy (a .how) u n → Numbered z m nothing u n l Going (a .node) u′
+      unfolding looked taken-up at-hand used-after noted-copy
+      asked-going u′ ng pu = rw (pu, pa) (go (is-copied (source m n .how)) refl (among n (used-in u)) refl (ltb (count m Reads + length (used-in u)) 96) refl)
+        where
+          q : fits z n (source m n .node) ≡ true
+          q = rw pa at (sym pg ∙ not-false g ng)
+
+          go : (b : Bool) → is-copied (source m n .how) ≡ b → (d : Bool) → among n (used-in u) ≡ d → (e : Bool) → ltb (count m Reads + length (used-in u)) 96 ≡ e
+              → Numbered z m nothing u n l Going (source m n .node) (noted-copy (source m n .how) u n)
+          go false pb d pd e pe = rw (noted-copy, pb) (looked-found under (here (source m n .node)) (rw (looked, none-own nothing n refl, k, q, pb)))
+          go true pb true pd e pe = rw (noted-copy, pb, pd) (looked-found under (here (source m n .node)) (rw (looked, none-own nothing n refl, k, q, pb, taken-up, pd)))
+          go true pb false pd true pe = rw (noted-copy, pb, pd) (looked-found under (copy (source m n .node)) (rw (looked, none-own nothing n refl, k, q, pb, taken-up, pd, pe)))
+          go true pb false pd false pe = rw (noted-copy, pb, pd) (looked-found under (full (source m n .node)) (rw (looked, none-own nothing n refl, k, q, pb, taken-up, pd, pe)))
+
+-- ---- an object seen: an own write, else what was asked for
+module _ (z : Sizes) (m : ClientWord → ℕ) (x u : List ℕ) (n : ℕ) (l : Stop) (h : Noted m u) (g : OwnGood x) (f : Found) (pf : f ≡ own-find x n) where
+  pub seen-own : (i : ℕ) (r : Node) → f ≡ At i → r ≡ own-record x i → Numbered z m x u n l Going r u
+  seen-own i r e q =
+      let a : own-find x n ≡ At i = sym pf ∙ e in
+      rw q (record {
+        asks = λ o p t b w hold. let k : own-find x (number o) ≡ At i = rw p a in
+            let y : write-of w o ≡ some (value-of o (own-record x i)) = sym (hold .same o t) ∙ rw k in
+            record { same = λ k. rw (see-is w o k, y) };
+        noted = h;
+        long = refl;
+        small = λ o p t. g .small o i (rw p a);
+      })
+
+  pub seen-asked : (s : Stop) (r : Node) (u′ : List ℕ) → f ≡ Absent → Numbered z m nothing u n l s r u′ → Numbered z m x u n l s r u′
+  seen-asked s r u′ e d =
+      let a : own-find x n ≡ Absent = sym pf ∙ e in
       record {
-        asks = λ o p t b w hold. rw (p₂, ps, p₁, pa, ← p) (looked-asks v o t b w hold (looked z m x u (number o) .how) refl);
-        noted = rw (p₂, p₁, pa) (looked-noted v (looked z m x u n .how) refl);
-        long = rw (p₂, p₁, pa) (looked-long v (looked z m x u n .how) refl);
-        small = λ o p t. rw (pa, hand-node v (looked z m x u n), ← p) (looked-small z m x u o eight t (g .small o));
+        asks = λ o p t b w hold. let k : own-find x (number o) ≡ Absent = rw p a in
+            let y : write-of w o ≡ none = sym (hold .same o t) ∙ rw k in
+            record { same = λ k. rw (see-is w o k, y) (d .asks o p t b [] (none-held z) .same k) };
+        noted = d .noted;
+        long = d .long;
+        small = d .small;
       }
-
-pub full-stop : (d : How) (l : Stop) → d ≡ Full → Going ≡ entered-stop d l
-full-stop d l e = rw e
-
-pub full-used : (d : How) (u u′ : List ℕ) (n : ℕ) → d ≡ Full → u′ ≡ pushed u n → u′ ≡ entered-used d u n
-full-used d u u′ n e p = rw (e, p)
 
 -- ---- ways out of the code that asks
 pub stopped-is : (s : Stop) (n : Node) → n ≡ free-node 0 → _≡_ {A = Asked} (record { stop = s; node = n }) (stopped s)
@@ -527,22 +579,25 @@ stopped-is s n e = rw e
 pub at-inside : (f : Found) (i n : ℕ) → Inside f n → f ≡ At i → i < n
 at-inside f i n h e = h .inside i e
 
-module _ (x u : List ℕ) (n : ℕ) (f : Found) (p : f ≡ own-find x n) where
-  pub own-is : (i : ℕ) (r : Node) → f ≡ At i → r ≡ own-record x i → _≡_ {A = Asked} (record { stop = Going; node = r }) (own-asked x n)
-  unfolding own-asked
-  own-is i r e q = rw (← p, e, q)
+-- a copy comes into use
+module _ (d : How) (u : List ℕ) (n : ℕ) (b : Bool) (pb : b ≡ is-copied d) where
+  pub copy-no : not b ≡ true → u ≡ noted-copy d u n
+  unfolding noted-copy
+  copy-no nb = let e : is-copied d ≡ false = sym pb ∙ not-true b nb in rw e
 
-  pub own-is-not : (r : Asked) → f ≡ Absent → r ≡ stopped (Aborts 4) → r ≡ own-asked x n
-  unfolding own-asked
-  own-is-not r e q = rw (← p, e, q)
+  module _ (nb : not b ≡ false) (c : Bool) (pc : c ≡ among n (used-in u)) where
+    e : is-copied d ≡ true
+    e = sym pb ∙ not-false b nb
 
-  pub own-kept : (i : ℕ) → f ≡ At i → u ≡ own-used x u n
-  unfolding own-used
-  own-kept i e = rw (← p, e)
+    pub copy-known : c ≡ true → u ≡ noted-copy d u n
+    unfolding noted-copy
+    copy-known t = let q : among n (used-in u) ≡ true = sym pc ∙ t in rw (e, q)
 
-  pub own-popped : (u′ : List ℕ) → f ≡ Absent → u′ ≡ popped u → u′ ≡ own-used x u n
-  unfolding own-used
-  own-popped u′ e q = rw (← p, e, q)
+    pub copy-new : (u′ : List ℕ) → c ≡ false → u′ ≡ pushed u n → u′ ≡ noted-copy d u n
+    unfolding noted-copy
+    copy-new u′ t p = let q : among n (used-in u) ≡ false = sym pc ∙ t in rw (p, e, q)
+
+pub ruleset copy-exits = (copy-no, copy-known, copy-new)
 
 pub reads-few : (m : ClientWord → ℕ) → count m Reads ≤ 96
 unfolding count
@@ -564,9 +619,9 @@ module _ (m : ClientWord → ℕ) (u : List ℕ) (b : Bool) (e : b ≡ over m (u
   pub under-lent : b ≡ false → Lent u
   under-lent f = not-over m u h (sym e ∙ f)
 
-pub ruleset number-exits = (over-some, over-long, under-lent, own-found, part-found)
+pub ruleset number-exits = (over-some, over-long, under-lent, asked-over, asked-lacking, asked-broken, asked-going)
 
-pub ruleset own-exits = (own-is, own-is-not, own-kept, own-popped, at-inside)
+pub ruleset seen-exits = (seen-own, seen-asked, at-inside)
 
 module _ (m : ClientWord → ℕ) (u : List ℕ) (b : Bool) (e : b ≡ over m (used-in u)) (h : Noted m u) where
   pub out-over : (r : Asked) (u′ : List ℕ) → b ≡ true → r ≡ stopped (Aborts 4) → u′ ≡ popped u → Outside m u (r .stop) (r .node) u′

@@ -21,6 +21,7 @@ use Rattle.walk.specs.declared.down.Turn.{Turn}
 use Rattle.walk.specs.declared.down.Descent.{Descent}
 use Rattle.walk.specs.declared.down.Lower.{Lower}
 use Rattle.walk.specs.declared.down.Rooted.{Rooted}
+use Rattle.walk.specs.declared.walk.Asked.{Asked}
 use Rattle.walk.specs.declared.walk.Stop.{Stop}
 use Rattle.walk.specs.declared.walk.Stop.the-variants.{Going, LacksMeta, LacksNode, LacksVector, Refused, Aborts, Answers}
 use Rattle.client.specs.Layout.{ClientWord}
@@ -28,7 +29,7 @@ use Rattle.client.specs.Record.{value-of, in-store}
 use Rattle.client.specs.Lent.{used-in}
 use Rattle.walk.specs.Entries.{opens, below, open-is, child-is, Inner, open-inner, extra-inner, branch-of, down-inner, down-there, Below, below-true}
 use Rattle.walk.specs.Walk.{Told, told, goes, walked, carry, walked-fails}
-use Rattle.walk.specs.Ask.{SmallNode, Holds, Noted, Asks, Answer}
+use Rattle.walk.specs.Ask.{SmallNode, Holds, Noted, Asks, Answer, nothing, none-held}
 
 -- a node of level l below the root, for any key lo from which it holds keys
 pub record Kid (z : Sizes) (m : ClientWord → ℕ) (x u : List ℕ) (l n : ℕ) (s : Stop) (r : Node) (u′ : List ℕ) : Type 0 where
@@ -42,8 +43,8 @@ pub record Kid (z : Sizes) (m : ClientWord → ℕ) (x u : List ℕ) (l n : ℕ)
   pub inside : goes s ≡ true → in-store z n ≡ true
 
 -- the root of that name
-pub record RootMet (z : Sizes) (m : ClientWord → ℕ) (x u : List ℕ) (n : ℕ) (s : Stop) (r : Node) (u′ : List ℕ) : Type 0 where
-  pub asks : Holds z x [] → (k : ℕ → Entries → Plan)
+pub record RootMet (z : Sizes) (m : ClientWord → ℕ) (u : List ℕ) (n : ℕ) (s : Stop) (r : Node) (u′ : List ℕ) : Type 0 where
+  pub asks : (k : ℕ → Entries → Plan)
       → walked z m (at-root n k) (used-in u) ≡ carry s (used-in u′) (λ us. walked z m (k (r .level) (entriesOf r 0)) us)
   pub noted : Noted m u′
   pub small : SmallNode r
@@ -64,17 +65,14 @@ module _ (z : Sizes) (m : ClientWord → ℕ) (x u : List ℕ) (n : ℕ) (s : St
     no : goes s ≡ false
     no = sym pb ∙ not-true b nb
 
-    pub kid-stops : (l : ℕ) → Kid z m x u l n s r u′
+    kid-stops : (l : ℕ) → Kid z m x u l n s r u′
     kid-stops l = record { asks = λ w hold lo k. rw (h .asks w hold .same, no); noted = h .noted; long = h .long; small = h .small; fits = λ t. stops-not s no t; whole = f; inside = h .inside }
-
-    pub root-stops : RootMet z m x u n s r u′
-    root-stops = record { asks = λ hold k. rw (h .asks [] hold .same, no); noted = h .noted; long = h .long; small = h .small; fits = λ t. stops-not s no t; whole = f; inside = h .inside }
 
   module _ (nb : not b ≡ false) (c : Bool) where
     on : goes s ≡ true
     on = sym pb ∙ not-false b nb
 
-    pub kid-bad : (l : ℕ) → c ≡ below l r → not c ≡ true → Kid z m x u l n (Aborts 3) r u′
+    kid-bad : (l : ℕ) → c ≡ below l r → not c ≡ true → Kid z m x u l n (Aborts 3) r u′
     kid-bad l pc nc =
         let e : below l r ≡ false = sym pc ∙ not-true c nc in
         record {
@@ -87,7 +85,7 @@ module _ (z : Sizes) (m : ClientWord → ℕ) (x u : List ℕ) (n : ℕ) (s : St
           inside = λ t. stops-not (Aborts 3) refl t;
         }
 
-    pub kid-good : (l : ℕ) → c ≡ below l r → not c ≡ false → Kid z m x u l n s r u′
+    kid-good : (l : ℕ) → c ≡ below l r → not c ≡ false → Kid z m x u l n s r u′
     kid-good l pc nc =
         let e : below l r ≡ true = sym pc ∙ not-false c nc in
         record {
@@ -100,33 +98,68 @@ module _ (z : Sizes) (m : ClientWord → ℕ) (x u : List ℕ) (n : ℕ) (s : St
           inside = h .inside;
         }
 
-    pub root-bad : c ≡ opens r → not c ≡ true → RootMet z m x u n (Aborts 3) r u′
+-- whatever node was asked for, it has been judged as a child
+pub record Checked (l : ℕ) (a r : Asked) : Type 0 where
+  pub met : (z : Sizes) (m : ClientWord → ℕ) (x u : List ℕ) (n : ℕ) (u′ : List ℕ) → Answer z m x u (node n) (a .stop) (a .node) u′ → Kid z m x u l n (r .stop) (r .node) u′
+
+module _ (l : ℕ) (a : Asked) (b : Bool) (pb : b ≡ goes (a .stop)) (lk : length (a .node .keys) ≡ 14) (ls : length (a .node .slots) ≡ 15) where
+  pub check-stops : not b ≡ true → Checked l a a
+  check-stops nb = record { met = λ z m x u n u′ h. kid-stops z m x u n (a .stop) (a .node) u′ h b pb lk ls nb l }
+
+  module _ (nb : not b ≡ false) (c : Bool) (pc : c ≡ below l (a .node)) where
+    pub check-bad : not c ≡ true → Checked l a (record { stop = Aborts 3; node = a .node })
+    check-bad nc = record { met = λ z m x u n u′ h. kid-bad z m x u n (a .stop) (a .node) u′ h b pb lk ls nb c l pc nc }
+
+    pub check-good : not c ≡ false → Checked l a a
+    check-good nc = record { met = λ z m x u n u′ h. kid-good z m x u n (a .stop) (a .node) u′ h b pb lk ls nb c l pc nc }
+
+pub ruleset check-exits = (check-stops, check-bad, check-good)
+
+pub kid-is : (z : Sizes) (m : ClientWord → ℕ) (x u : List ℕ) (l n : ℕ) (a r : Asked) (u′ : List ℕ) → Answer z m x u (node n) (a .stop) (a .node) u′ → Checked l a r
+    → Kid z m x u l n (r .stop) (r .node) u′
+kid-is z m x u l n a r u′ h c = c .met z m x u n u′ h
+
+-- the root
+module _ (z : Sizes) (m : ClientWord → ℕ) (u : List ℕ) (n : ℕ) (s : Stop) (r : Node) (u′ : List ℕ) (h : Answer z m nothing u (node n) s r u′) (b : Bool) (pb : b ≡ goes s)
+    (lk : length (r .keys) ≡ 14) (ls : length (r .slots) ≡ 15) where
+  g : Whole r
+  g = whole r lk ls (h .small .keys)
+
+  pub root-stops : not b ≡ true → RootMet z m u n s r u′
+  root-stops nb = let no : goes s ≡ false = sym pb ∙ not-true b nb in
+      record { asks = λ k. rw (h .asks [] (none-held z) .same, no); noted = h .noted; long = h .long; small = h .small; fits = λ t. stops-not s no t; whole = g; inside = h .inside }
+
+  module _ (nb : not b ≡ false) (c : Bool) where
+    goes-on : goes s ≡ true
+    goes-on = sym pb ∙ not-false b nb
+
+    pub root-bad : c ≡ opens r → not c ≡ true → RootMet z m u n (Aborts 3) r u′
     root-bad pc nc =
         let e : opens r ≡ false = sym pc ∙ not-true c nc in
         record {
-          asks = λ hold k. rw (h .asks [] hold .same, on, open-is 0 n r k, e) (walked-fails z m (used-in u′) no-tree);
+          asks = λ k. rw (h .asks [] (none-held z) .same, goes-on, open-is 0 n r k, e) (walked-fails z m (used-in u′) no-tree);
           noted = h .noted;
           long = h .long;
           small = h .small;
           fits = λ t. stops-not (Aborts 3) refl t;
-          whole = f;
+          whole = g;
           inside = λ t. stops-not (Aborts 3) refl t;
         }
 
-    pub root-good : c ≡ opens r → not c ≡ false → RootMet z m x u n s r u′
+    pub root-good : c ≡ opens r → not c ≡ false → RootMet z m u n s r u′
     root-good pc nc =
         let e : opens r ≡ true = sym pc ∙ not-false c nc in
         record {
-          asks = λ hold k. rw (h .asks [] hold .same, on, open-is 0 n r k, e);
+          asks = λ k. rw (h .asks [] (none-held z) .same, goes-on, open-is 0 n r k, e);
           noted = h .noted;
           long = h .long;
           small = h .small;
           fits = λ t. e;
-          whole = f;
+          whole = g;
           inside = h .inside;
         }
 
-pub ruleset node-exits = (kid-stops, root-stops, kid-bad, kid-good, root-bad, root-good)
+pub ruleset root-ways = (root-stops, root-bad, root-good)
 
 -- a place of the path that is not passed
 abbrev pub blank : Turn
@@ -190,8 +223,8 @@ pub record Above (n : Node) (level : ℕ) : Type 0 where
   pub inner : 0 < level
 
 -- a step down from it
-pub record Lowered (z : Sizes) (m : ClientWord → ℕ) (x u : List ℕ) (key level : ℕ) (n : Node) (r : Lower) (u′ : List ℕ) : Type 0 where
-  pub asks : Holds z x [] → (stop : ℕ → Bool) → stop level ≡ false → (k : Cont) (fs : List Branch) (nm lo : ℕ)
+pub record Lowered (z : Sizes) (m : ClientWord → ℕ) (u : List ℕ) (key level : ℕ) (n : Node) (r : Lower) (u′ : List ℕ) : Type 0 where
+  pub asks : (stop : ℕ → Bool) → stop level ≡ false → (k : Cont) (fs : List Branch) (nm lo : ℕ)
       → walked z m (down stop key k level fs nm (entriesOf n lo)) (used-in u)
       ≡ carry (r .stop) (used-in u′) (λ us. walked z m
       (down stop key k (level - 1) (branch-of nm (r .at) (entriesOf n lo) ∷ fs) (r .name) (entriesOf (r .node) (getD (entriesOf n lo) (r .at) (0, 0) .0))) us)
@@ -206,7 +239,7 @@ pub record Lowered (z : Sizes) (m : ClientWord → ℕ) (x u : List ℕ) (key le
   pub inside : goes (r .stop) ≡ true → in-store z (r .name) ≡ true
 
 -- how far a way down has come
-pub record Downward (z : Sizes) (m : ClientWord → ℕ) (x u₀ : List ℕ) (key target root : ℕ) (first : Node) (top : ℕ) (path : List Turn) (name : ℕ) (n : Node) (level : ℕ) (u : List ℕ) : Type 0 where
+pub record Downward (z : Sizes) (m : ClientWord → ℕ) (u₀ : List ℕ) (key target root : ℕ) (first : Node) (top : ℕ) (path : List Turn) (name : ℕ) (n : Node) (level : ℕ) (u : List ℕ) : Type 0 where
   pub whole-way : top ≡ first .level
   pub long : length u ≡ length u₀
   pub lower : target ≤ level
@@ -220,7 +253,7 @@ pub record Downward (z : Sizes) (m : ClientWord → ℕ) (x u₀ : List ℕ) (ke
   pub noted : Noted m u
   pub good : All (trail path level (top - level))
   pub linked : in-store z root ≡ true → Linked z level name (trail path level (top - level))
-  pub same : Holds z x [] → (stop : ℕ → Bool) → Stops stop target → (k : Cont)
+  pub same : (stop : ℕ → Bool) → Stops stop target → (k : Cont)
       → walked z m (down stop key k (first .level) [] root (entriesOf first 0)) (used-in u₀)
       ≡ walked z m (down stop key k level (branches (trail path level (top - level))) name (entriesOf n (low (trail path level (top - level))))) (used-in u)
 
@@ -235,8 +268,8 @@ pub record Reached (target : ℕ) (d : Descent) : Type 0 where
   pub good : All (trail (d .path) target (d .top - target))
 
 -- the way down from a root to a level
-pub record Led (z : Sizes) (m : ClientWord → ℕ) (x u : List ℕ) (key target root : ℕ) (first : Node) (d : Descent) (u′ : List ℕ) : Type 0 where
-  pub asks : Holds z x [] → (stop : ℕ → Bool) → Stops stop target → (k : Cont)
+pub record Led (z : Sizes) (m : ClientWord → ℕ) (u : List ℕ) (key target root : ℕ) (first : Node) (d : Descent) (u′ : List ℕ) : Type 0 where
+  pub asks : (stop : ℕ → Bool) → Stops stop target → (k : Cont)
       → walked z m (down stop key k (first .level) [] root (entriesOf first 0)) (used-in u)
       ≡ carry (d .stop) (used-in u′) (λ us. walked z m
       (k target (branches (trail (d .path) target (d .top - target))) (d .name) (entriesOf (d .node) (low (trail (d .path) target (d .top - target))))) us)
@@ -266,10 +299,10 @@ unfolding trail
 trail-none p l = let e : l - l ≡ 0 = omega arith in rw e
 
 -- ---- the turns of the loop, and its ends
-pub down-start : (z : Sizes) (m : ClientWord → ℕ) (x u : List ℕ) (key target root : ℕ) (first : Node) (path : List Turn) → From first target → Noted m u → length path ≡ 5
-    → Downward z m x u key target root first (first .level) path root first (first .level) u
+pub down-start : (z : Sizes) (m : ClientWord → ℕ) (u : List ℕ) (key target root : ℕ) (first : Node) (path : List Turn) → From first target → Noted m u → length path ≡ 5
+    → Downward z m u key target root first (first .level) path root first (first .level) u
 unfolding All Linked
-down-start z m x u key target root first path f h l = record {
+down-start z m u key target root first path f h l = record {
   whole-way = refl;
   long = refl;
   lower = f .above;
@@ -283,23 +316,23 @@ down-start z m x u key target root first path f h l = record {
   noted = h;
   good = rw (trail-none path (first .level)) tt;
   linked = λ q. rw (trail-none path (first .level)) q;
-  same = λ hold stop st k. rw (trail-none path (first .level));
+  same = λ stop st k. rw (trail-none path (first .level));
 }
 
-module _ (z : Sizes) (m : ClientWord → ℕ) (x u₀ : List ℕ) (key target root : ℕ) (first : Node) (top : ℕ) (path : List Turn) (name : ℕ) (n : Node) (level : ℕ) (u : List ℕ)
-    (d : Downward z m x u₀ key target root first top path name n level u) where
-  module _ (lt : target < level) (r : Lower) (u′ : List ℕ) (c : Lowered z m x u key level n r u′) (b : Bool) (pb : b ≡ goes (r .stop)) where
+module _ (z : Sizes) (m : ClientWord → ℕ) (u₀ : List ℕ) (key target root : ℕ) (first : Node) (top : ℕ) (path : List Turn) (name : ℕ) (n : Node) (level : ℕ) (u : List ℕ)
+    (d : Downward z m u₀ key target root first top path name n level u) where
+  module _ (lt : target < level) (r : Lower) (u′ : List ℕ) (c : Lowered z m u key level n r u′) (b : Bool) (pb : b ≡ goes (r .stop)) where
     abbrev above : List Turn
     above = trail path level (top - level)
 
     abbrev turn : Turn
     turn = record { name = name; at = r .at; node = n }
 
-    pub down-stops : not b ≡ true → Led z m x u₀ key target root first (record { stop = r .stop; top = top; path = path; name = name; node = n }) u′
+    pub down-stops : not b ≡ true → Led z m u₀ key target root first (record { stop = r .stop; top = top; path = path; name = name; node = n }) u′
     down-stops nb =
         let no : goes (r .stop) ≡ false = sym pb ∙ not-true b nb in
         record {
-          asks = λ hold stop st k. rw (d .same hold stop st k, c .asks hold stop (st .before level lt) k (branches above) name (low above), no);
+          asks = λ stop st k. rw (d .same stop st k, c .asks stop (st .before level lt) k (branches above) name (low above), no);
           noted = c .noted;
           high = d .high;
           reached = λ t. stops-not (r .stop) no t;
@@ -309,7 +342,7 @@ module _ (z : Sizes) (m : ClientWord → ℕ) (x u₀ : List ℕ) (key target ro
     pub down-long : length u′ ≡ length u₀
     down-long = c .long ∙ d .long
 
-    pub down-more : not b ≡ false → Downward z m x u₀ key target root first top (set path level turn) (r .name) (r .node) (level - 1) u′
+    pub down-more : not b ≡ false → Downward z m u₀ key target root first top (set path level turn) (r .name) (r .node) (level - 1) u′
     unfolding All Linked
     down-more nb =
         let on : goes (r .stop) ≡ true = sym pb ∙ not-false b nb in
@@ -330,19 +363,19 @@ module _ (z : Sizes) (m : ClientWord → ℕ) (x u₀ : List ℕ) (key target ro
           noted = c .noted;
           good = rw t (record { inner = c .turned .inner; whole = c .turned .whole; small = c .turned .small; within = c .within }, d .good);
           linked = λ q. rw (t, up) (record { level = rw up (d .level-is); child = c .child; there = c .inside on }, d .linked q);
-          same = λ hold stop st k. rw (t, d .same hold stop st k, c .asks hold stop (st .before level lt) k (branches above) name (low above), on);
+          same = λ stop st k. rw (t, d .same stop st k, c .asks stop (st .before level lt) k (branches above) name (low above), on);
         }
 
   pub down-above : target < level → Above n level
   down-above lt = record { whole = d .whole; small = d .small; opened = d .opened; level-is = d .level-is; inner = omega arith }
 
-  pub down-done : level ≤ target → Led z m x u₀ key target root first (record { stop = Going; top = top; path = path; name = name; node = n }) u
+  pub down-done : level ≤ target → Led z m u₀ key target root first (record { stop = Going; top = top; path = path; name = name; node = n }) u
   down-done h =
       let e : level ≡ target = omega (arith, d .lower) in
       let some : (lo : ℕ) → 0 < target → 0 < length (entriesOf n lo) = λ lo g. let x = extra-inner n (open-inner n (d .opened) (omega (arith, d .level-is))) in omega (arith, length-entriesOf n lo (d .whole)) in
       record {
-        asks = λ hold stop st k. rw (
-          d .same hold stop st k,
+        asks = λ stop st k. rw (
+          d .same stop st k,
           e,
           down-there stop key k (branches (trail path target (top - target))) name target
               (entriesOf n (low (trail path target (top - target)))) (st .there) (some (low (trail path target (top - target)))),
@@ -355,15 +388,15 @@ module _ (z : Sizes) (m : ClientWord → ℕ) (x u₀ : List ℕ) (key target ro
 
 pub ruleset down-exits = (down-start, down-stops, down-more, down-done, down-above)
 
-module _ (z : Sizes) (m : ClientWord → ℕ) (x u : List ℕ) (key level : ℕ) (n : Node) (g : Above n level)
+module _ (z : Sizes) (m : ClientWord → ℕ) (u : List ℕ) (key level : ℕ) (n : Node) (g : Above n level)
     (at next : ℕ) (pa : at ≡ place (keysOf n) key) (ha : at ≤ n .count) (pn : next ≡ getD (n .slots) at 0) where
-  pub lowered : (s : Stop) (r : Node) (u′ : List ℕ) → Kid z m x u (level - 1) next s r u′
-      → Lowered z m x u key level n (record { stop = s; at = at; name = next; node = r }) u′
+  pub lowered : (s : Stop) (r : Node) (u′ : List ℕ) → Kid z m nothing u (level - 1) next s r u′
+      → Lowered z m u key level n (record { stop = s; at = at; name = next; node = r }) u′
   lowered s r u′ c =
       let wn : Whole n = g .whole in
       let i : Inner n = open-inner n (g .opened) (omega (arith, g .level-is, g .inner)) in
       record {
-        asks = λ hold stop e k fs nm lo. rw (down-inner stop key k fs nm at next n lo level (g .level-is) wn i e pa ha pn, c .asks [] hold);
+        asks = λ stop e k fs nm lo. rw (down-inner stop key k fs nm at next n lo level (g .level-is) wn i e pa ha pn, c .asks [] (none-held z));
         noted = c .noted;
         long = c .long;
         within = ha;
@@ -381,8 +414,8 @@ module _ (z : Sizes) (m : ClientWord → ℕ) (x u : List ℕ) (key level : ℕ)
 pub ruleset lower-exits = (lowered, child-inside)
 
 -- ---- from the metadata on
-pub record AtRoot (z : Sizes) (m : ClientWord → ℕ) (x u : List ℕ) (r : Rooted) (u′ : List ℕ) : Type 0 where
-  pub asks : Holds z x [] → (k : ℕ → ℕ → Entries → Plan)
+pub record AtRoot (z : Sizes) (m : ClientWord → ℕ) (u : List ℕ) (r : Rooted) (u′ : List ℕ) : Type 0 where
+  pub asks : (k : ℕ → ℕ → Entries → Plan)
       → walked z m (P.ask (object meta) (λ v. when-root v (λ q. at-root q (k q)))) (used-in u)
       ≡ carry (r .stop) (used-in u′) (λ us. walked z m (k (r .name) (r .node .level) (entriesOf (r .node) 0)) us)
   pub noted : Noted m u′
@@ -390,8 +423,8 @@ pub record AtRoot (z : Sizes) (m : ClientWord → ℕ) (x u : List ℕ) (r : Roo
   pub inside : goes (r .stop) ≡ true → in-store z (r .name) ≡ true
 
 -- down to the leaf for a key
-pub record Descends (z : Sizes) (m : ClientWord → ℕ) (x u : List ℕ) (key : ℕ) (d : Descent) (u′ : List ℕ) : Type 0 where
-  pub asks : Holds z x [] → (k : List Branch → ℕ → Entries → Plan)
+pub record Descends (z : Sizes) (m : ClientWord → ℕ) (u : List ℕ) (key : ℕ) (d : Descent) (u′ : List ℕ) : Type 0 where
+  pub asks : (k : List Branch → ℕ → Entries → Plan)
       → walked z m (from-root key k) (used-in u)
       ≡ carry (d .stop) (used-in u′) (λ us. walked z m (k (branches (trail (d .path) 0 (d .top - 0))) (d .name) (entriesOf (d .node) (low (trail (d .path) 0 (d .top - 0))))) us)
   pub noted : Noted m u′
@@ -399,15 +432,15 @@ pub record Descends (z : Sizes) (m : ClientWord → ℕ) (x u : List ℕ) (key :
   pub reached : goes (d .stop) ≡ true → Reached 0 d
   pub linked : goes (d .stop) ≡ true → Linked z 0 (d .name) (trail (d .path) 0 (d .top - 0))
 
-module _ (z : Sizes) (m : ClientWord → ℕ) (x u : List ℕ) (s : Stop) (n : Node) (u₁ : List ℕ) (a : Answer z m x u meta s n u₁) (b : Bool) (pb : b ≡ goes s) where
-  pub no-root : not b ≡ true → AtRoot z m x u (record { stop = s; name = getD (n .slots) 0 0; node = n }) u₁
+module _ (z : Sizes) (m : ClientWord → ℕ) (u : List ℕ) (s : Stop) (n : Node) (u₁ : List ℕ) (a : Answer z m nothing u meta s n u₁) (b : Bool) (pb : b ≡ goes s) where
+  pub no-root : not b ≡ true → AtRoot z m u (record { stop = s; name = getD (n .slots) 0 0; node = n }) u₁
   no-root nb = let no : goes s ≡ false = sym pb ∙ not-true b nb in
-      record { asks = λ hold k. rw (a .asks [] hold .same, no); noted = a .noted; begins = λ t. stops-not s no t; inside = λ t. stops-not s no t }
+      record { asks = λ k. rw (a .asks [] (none-held z) .same, no); noted = a .noted; begins = λ t. stops-not s no t; inside = λ t. stops-not s no t }
 
-  pub met-root : (t : Stop) (r : Node) (u₂ : List ℕ) → not b ≡ false → RootMet z m x u₁ (getD (n .slots) 0 0) t r u₂ → AtRoot z m x u (record { stop = t; name = getD (n .slots) 0 0; node = r }) u₂
+  pub met-root : (t : Stop) (r : Node) (u₂ : List ℕ) → not b ≡ false → RootMet z m u₁ (getD (n .slots) 0 0) t r u₂ → AtRoot z m u (record { stop = t; name = getD (n .slots) 0 0; node = r }) u₂
   met-root t r u₂ nb h = let on : goes s ≡ true = sym pb ∙ not-false b nb in
       record {
-        asks = λ hold k. rw (a .asks [] hold .same, on, h .asks hold);
+        asks = λ k. rw (a .asks [] (none-held z) .same, on, h .asks);
         noted = h .noted;
         begins = λ g. record { whole = h .whole; small = h .small; opened = h .fits g; above = omega arith };
         inside = h .inside;
@@ -422,14 +455,14 @@ leaf-stops = record { before = λ l h. go l h; there = λ h. absurd (omega arith
     go zero h = absurd (omega arith)
     go (suc l) h = refl
 
-module _ (z : Sizes) (m : ClientWord → ℕ) (x u : List ℕ) (key : ℕ) (r : Rooted) (u₁ : List ℕ) (a : AtRoot z m x u r u₁) (b : Bool) (pb : b ≡ goes (r .stop)) where
-  pub no-way : (d : Descent) → not b ≡ true → d .stop ≡ r .stop → d .top ≤ 4 → Descends z m x u key d u₁
+module _ (z : Sizes) (m : ClientWord → ℕ) (u : List ℕ) (key : ℕ) (r : Rooted) (u₁ : List ℕ) (a : AtRoot z m u r u₁) (b : Bool) (pb : b ≡ goes (r .stop)) where
+  pub no-way : (d : Descent) → not b ≡ true → d .stop ≡ r .stop → d .top ≤ 4 → Descends z m u key d u₁
   no-way d nb e t4 = let no : goes (r .stop) ≡ false = sym pb ∙ not-true b nb in
-      record { asks = λ hold k. rw (a .asks hold (λ q l es. down to-leaf key (λ _ fs n es. k fs n es) l [] q es), e, no); noted = a .noted; high = t4; reached = λ t. stops-not (r .stop) no (rw e at t); linked = λ t. stops-not (r .stop) no (rw e at t) }
+      record { asks = λ k. rw (a .asks (λ q l es. down to-leaf key (λ _ fs n es. k fs n es) l [] q es), e, no); noted = a .noted; high = t4; reached = λ t. stops-not (r .stop) no (rw e at t); linked = λ t. stops-not (r .stop) no (rw e at t) }
 
-  pub whole-way : (d : Descent) (u₂ : List ℕ) → not b ≡ false → Led z m x u₁ key 0 (r .name) (r .node) d u₂ → Descends z m x u key d u₂
+  pub whole-way : (d : Descent) (u₂ : List ℕ) → not b ≡ false → Led z m u₁ key 0 (r .name) (r .node) d u₂ → Descends z m u key d u₂
   whole-way d u₂ nb h = let on : goes (r .stop) ≡ true = sym pb ∙ not-false b nb in
-      record { asks = λ hold k. rw (a .asks hold (λ q l es. down to-leaf key (λ _ fs n es. k fs n es) l [] q es), on) (h .asks hold to-leaf leaf-stops (λ l fs n es. k fs n es)); noted = h .noted; high = h .high; reached = h .reached; linked = h .linked (a .inside on) }
+      record { asks = λ k. rw (a .asks (λ q l es. down to-leaf key (λ _ fs n es. k fs n es) l [] q es), on) (h .asks to-leaf leaf-stops (λ l fs n es. k fs n es)); noted = h .noted; high = h .high; reached = h .reached; linked = h .linked (a .inside on) }
 
   pub way-begins : not b ≡ false → From (r .node) 0
   way-begins nb = a .begins (sym pb ∙ not-false b nb)

@@ -12,6 +12,9 @@ pub mod Lookup
 pub mod Seek
 pub mod Near
 pub mod Begin
+-- how a walk stops; the work step of an operation that only reads
+pub mod Stopped
+pub mod Look
 -- own writes, slots taken and freed
 pub mod Own
 pub mod Write

@@ -33,7 +33,7 @@ use Rattle.client.specs.Layout.{ClientWord}
 use Rattle.client.specs.Lent.{used-in}
 use Rattle.walk.specs.Entries.{Leaf, open-leaf, leaf-value, leaf-absent}
 use Rattle.walk.specs.Walk.{Told, told, goes, over, walked, carry, walked-done, full-done}
-use Rattle.walk.specs.Ask.{Holds, Noted, popped, popped-used, popped-noted}
+use Rattle.walk.specs.Ask.{Noted, popped, popped-used, popped-noted}
 use Rattle.walk.specs.Down.{low, branches, trail, Reached, Descends}
 
 -- an answer with writes: of an abort none are kept
@@ -55,8 +55,8 @@ pub record Ends (m : ClientWord → ℕ) (u : List ℕ) (a b : ℕ) (s : Stop) (
   pub noted : Noted m u′
 
 -- a plan that writes nothing, walked to its end
-pub record Walks (z : Sizes) (m : ClientWord → ℕ) (x u : List ℕ) (p : Plan) (s : Stop) (u′ : List ℕ) : Type 0 where
-  pub same : Holds z x [] → walked z m p (used-in u) ≡ told s (used-in u′)
+pub record Walks (z : Sizes) (m : ClientWord → ℕ) (u : List ℕ) (p : Plan) (s : Stop) (u′ : List ℕ) : Type 0 where
+  pub same : walked z m p (used-in u) ≡ told s (used-in u′)
   pub noted : Noted m u′
 
 module _ (m : ClientWord → ℕ) (u : List ℕ) (c : Bool) (e : c ≡ over m (used-in u)) (h : Noted m u) (a b : ℕ) where
@@ -131,20 +131,20 @@ leaf-said n lo key f l = go (find (keysOf n) key) refl
     go none e = rw (leaf-absent n lo key f l e, look-in, e)
     go (some i) e = let h : i < n .count = omega (arith, find-inside (keysOf n) key i e, f .keys) in rw (leaf-value n lo key f l i e h, look-in, e)
 
-module _ (z : Sizes) (m : ClientWord → ℕ) (x u : List ℕ) (key : ℕ) (d : Descent) (u₁ : List ℕ) (h : Descends z m x u key d u₁) (b : Bool) (pb : b ≡ goes (d .stop)) where
-  pub look-stops : (k : List Branch → ℕ → Entries → Plan) → not b ≡ true → Walks z m x u (from-root key k) (d .stop) u₁
+module _ (z : Sizes) (m : ClientWord → ℕ) (u : List ℕ) (key : ℕ) (d : Descent) (u₁ : List ℕ) (h : Descends z m u key d u₁) (b : Bool) (pb : b ≡ goes (d .stop)) where
+  pub look-stops : (k : List Branch → ℕ → Entries → Plan) → not b ≡ true → Walks z m u (from-root key k) (d .stop) u₁
   look-stops k nb = let no : goes (d .stop) ≡ false = sym pb ∙ not-true b nb in
-      record { same = λ hold. rw (h .asks hold k, no); noted = h .noted }
+      record { same = rw (h .asks k, no); noted = h .noted }
 
   pub leaf-small : not b ≡ false → d .node .count ≤ 14
   leaf-small nb = h .reached (sym pb ∙ not-false b nb) .small .keys
 
-  pub look-ends : (p : Pair) (s : Stop) (u₂ : List ℕ) → not b ≡ false → p ≡ look-in (d .node) key → Ends m u₁ (p .a) (p .b) s u₂ → Walks z m x u (lookup-plan key) s u₂
+  pub look-ends : (p : Pair) (s : Stop) (u₂ : List ℕ) → not b ≡ false → p ≡ look-in (d .node) key → Ends m u₁ (p .a) (p .b) s u₂ → Walks z m u (lookup-plan key) s u₂
   look-ends p s u₂ nb pp q =
       let on : goes (d .stop) ≡ true = sym pb ∙ not-false b nb in
       let end : Reached 0 d = h .reached on in
       let lo : ℕ = low (trail (d .path) 0 (d .top - 0)) in
       let v : said (value-in key (entriesOf (d .node) lo)) ≡ (p .a, p .b) = rw pp (leaf-said (d .node) lo key (end .whole) (open-leaf (d .node) (end .opened) (end .level))) in
-      record { same = λ hold. rw (h .asks hold (λ fs n es. P.done (said (value-in key es), [])), on, v) (q .same z [] ∙ ended-nothing s (used-in u₂)); noted = q .noted }
+      record { same = rw (h .asks (λ fs n es. P.done (said (value-in key es), [])), on, v) (q .same z [] ∙ ended-nothing s (used-in u₂)); noted = q .noted }
 
 pub ruleset look-exits = (look-stops, leaf-small, look-ends)

@@ -21,25 +21,25 @@ use Rattle.client.specs.Lent.{used-in}
 use Rattle.walk.specs.Entries.{Leaf, open-leaf, branch-of}
 use Rattle.walk.specs.Walk as W
 use Rattle.walk.specs.Walk.{goes, walked}
-use Rattle.walk.specs.Ask.{Holds, Noted}
+use Rattle.walk.specs.Ask.{Noted}
 use Rattle.walk.specs.Down.{Descends, Reached, low, branches, trail}
 use Rattle.walk.specs.Lookup.{Ends, Walks, ended-nothing}
 use Rattle.walk.specs.Seek.{visit, side, nearest-in, near-plan, key-of, in-leaf, is-key, no-key, near-of, rests, climb, seek-climb, Stacked, Climbed, Seeks}
 
 -- ---- beyond the leaf of a path
-pub record Beyond (z : Sizes) (m : ClientWord → ℕ) (x u : List ℕ) (right : Bool) (key top : ℕ) (path : List Turn) (s : Stop) (u′ : List ℕ) : Type 0 where
-  pub same : Holds z x [] → (f : ℕ → ℕ) → walked z m (climb (nearest-in right key) right 0 (rests right (trail path 0 (top - 0)) f)) (used-in u) ≡ W.told s (used-in u′)
+pub record Beyond (z : Sizes) (m : ClientWord → ℕ) (u : List ℕ) (right : Bool) (key top : ℕ) (path : List Turn) (s : Stop) (u′ : List ℕ) : Type 0 where
+  pub same : (f : ℕ → ℕ) → walked z m (climb (nearest-in right key) right 0 (rests right (trail path 0 (top - 0)) f)) (used-in u) ≡ W.told s (used-in u′)
   pub noted : Noted m u′
 
-module _ (z : Sizes) (m : ClientWord → ℕ) (x u : List ℕ) (right : Bool) (key top : ℕ) (path : List Turn) (a : Ahead) (h : Climbed right top path 0 a) (s : Stop) (u′ : List ℕ) where
-  pub beyond-found : (y : ℕ) → a .state ≡ Found y → Beyond z m x u right key top path s u′
+module _ (z : Sizes) (m : ClientWord → ℕ) (u : List ℕ) (right : Bool) (key top : ℕ) (path : List Turn) (a : Ahead) (h : Climbed right top path 0 a) (s : Stop) (u′ : List ℕ) where
+  pub beyond-found : (y : ℕ) → a .state ≡ Found y → Beyond z m u right key top path s u′
   beyond-found y e = absurd (h .found y e)
 
-  pub beyond-none : a .state ≡ Nowhere → Ends m u 0 0 s u′ → Beyond z m x u right key top path s u′
-  beyond-none e q = record { same = λ hold f. rw (h .ends e (nearest-in right key) f) (q .same z [] ∙ ended-nothing s (used-in u′)); noted = q .noted }
+  pub beyond-none : a .state ≡ Nowhere → Ends m u 0 0 s u′ → Beyond z m u right key top path s u′
+  beyond-none e q = record { same = λ f. rw (h .ends e (nearest-in right key) f) (q .same z [] ∙ ended-nothing s (used-in u′)); noted = q .noted }
 
-  pub beyond-next : a .state ≡ Next → Seeks z m x u right key top (a .path) (a .level) (a .name) s u′ → Beyond z m x u right key top path s u′
-  beyond-next e q = record { same = λ hold f. rw (h .next e (nearest-in right key) f) (q .same hold (h .lo f) (h .lows f)); noted = q .noted }
+  pub beyond-next : a .state ≡ Next → Seeks z m u right key top (a .path) (a .level) (a .name) s u′ → Beyond z m u right key top path s u′
+  beyond-next e q = record { same = λ f. rw (h .next e (nearest-in right key) f) (q .same (h .lo f) (h .lows f)); noted = q .noted }
 
 pub next-stacked : (right : Bool) (top : ℕ) (path : List Turn) (a : Ahead) → Climbed right top path 0 a → a .state ≡ Next → Stacked top (a .path) (a .level)
 next-stacked right top path a h e = h .stacked e
@@ -60,10 +60,10 @@ sides-are false [] = refl
 sides-are true (b ∷ bs) = rw (sides-are true bs)
 sides-are false (b ∷ bs) = rw (sides-are false bs)
 
-module _ (z : Sizes) (m : ClientWord → ℕ) (x u : List ℕ) (right : Bool) (key : ℕ) (d : Descent) (u₁ : List ℕ) (h : Descends z m x u key d u₁) (b : Bool) (pb : b ≡ goes (d .stop)) where
-  pub near-stops : not b ≡ true → Walks z m x u (near-plan right key) (d .stop) u₁
+module _ (z : Sizes) (m : ClientWord → ℕ) (u : List ℕ) (right : Bool) (key : ℕ) (d : Descent) (u₁ : List ℕ) (h : Descends z m u key d u₁) (b : Bool) (pb : b ≡ goes (d .stop)) where
+  pub near-stops : not b ≡ true → Walks z m u (near-plan right key) (d .stop) u₁
   near-stops nb = let no : goes (d .stop) ≡ false = sym pb ∙ not-true b nb in
-      record { same = λ hold. rw (h .asks hold (λ fs n es. told (nearest-in right key es) (seek-up (nearest-in right key) (visit right) (side right) zero fs)), no); noted = h .noted }
+      record { same = rw (h .asks (λ fs n es. told (nearest-in right key es) (seek-up (nearest-in right key) (visit right) (side right) zero fs)), no); noted = h .noted }
 
   module _ (nb : not b ≡ false) where
     on : goes (d .stop) ≡ true
@@ -85,26 +85,26 @@ module _ (z : Sizes) (m : ClientWord → ℕ) (x u : List ℕ) (right : Bool) (k
     pub near-small : d .node .count ≤ 14
     near-small = end .small .keys
 
-    pub near-found : (k : Key) (y : ℕ) (s : Stop) (u₂ : List ℕ) → k ≡ in-leaf right (d .node) key → k ≡ Is y → Ends m u₁ 1 y s u₂ → Walks z m x u (near-plan right key) s u₂
+    pub near-found : (k : Key) (y : ℕ) (s : Stop) (u₂ : List ℕ) → k ≡ in-leaf right (d .node) key → k ≡ Is y → Ends m u₁ 1 y s u₂ → Walks z m u (near-plan right key) s u₂
     near-found k y s u₂ pk e q =
         let v : nearest-in right key (entriesOf (d .node) (low bs)) ≡ some y = is-key (nearest-in right key (entriesOf (d .node) (low bs))) y (near ∙ sym pk ∙ e) in
         record {
-          same = λ hold. rw (h .asks hold (λ fs n es. told (nearest-in right key es) (seek-up (nearest-in right key) (visit right) (side right) zero fs)), on, v)
+          same = rw (h .asks (λ fs n es. told (nearest-in right key es) (seek-up (nearest-in right key) (visit right) (side right) zero fs)), on, v)
               (q .same z [] ∙ ended-nothing s (used-in u₂));
           noted = q .noted;
         }
 
-    pub near-beyond : (k : Key) (s : Stop) (u₂ : List ℕ) → k ≡ in-leaf right (d .node) key → k ≡ Nothing → Beyond z m x u₁ right key (d .top) (d .path) s u₂ → Walks z m x u (near-plan right key) s u₂
+    pub near-beyond : (k : Key) (s : Stop) (u₂ : List ℕ) → k ≡ in-leaf right (d .node) key → k ≡ Nothing → Beyond z m u₁ right key (d .top) (d .path) s u₂ → Walks z m u (near-plan right key) s u₂
     near-beyond k s u₂ pk e q =
         let v : nearest-in right key (entriesOf (d .node) (low bs)) ≡ none = no-key (nearest-in right key (entriesOf (d .node) (low bs))) (near ∙ sym pk ∙ e) in
         record {
-          same = λ hold. rw (
-            h .asks hold (λ fs n es. told (nearest-in right key es) (seek-up (nearest-in right key) (visit right) (side right) zero fs)),
+          same = rw (
+            h .asks (λ fs n es. told (nearest-in right key es) (seek-up (nearest-in right key) (visit right) (side right) zero fs)),
             on,
             v,
             seek-climb (nearest-in right key) right zero (branches bs),
             sides-are right bs,
-          ) (q .same hold (lows-of bs));
+          ) (q .same (lows-of bs));
           noted = q .noted;
         }
 

@@ -34,7 +34,7 @@ use Rattle.client.specs.Layout.{ClientWord}
 use Rattle.client.specs.Lent.{used-in}
 use Rattle.walk.specs.Walk as W
 use Rattle.walk.specs.Walk.{goes, walked, carry}
-use Rattle.walk.specs.Ask.{SmallNode, Holds, Noted}
+use Rattle.walk.specs.Ask.{SmallNode, Noted, nothing, none-held}
 use Rattle.walk.specs.Lookup.{Ends, Walks, ended-nothing}
 use Rattle.walk.specs.Down.{Kid, Descends, Reached, stops-not, low, branches, trail, trail-more, Followed, All, blank}
 
@@ -564,26 +564,26 @@ abbrev pub afterwards : Bool → ℕ → ℕ → List Turn → ℕ → Node → 
 afterwards right key top path level n j f =
     read-on (nearest-in right key) right level (entriesOf n j) (climb (nearest-in right key) right level (rests right (trail path level (top - level)) f))
 
-pub record ReadOn (z : Sizes) (m : ClientWord → ℕ) (x u : List ℕ) (right : Bool) (key top : ℕ) (path : List Turn) (level name : ℕ) (r : Reading) (u′ : List ℕ) : Type 0 where
+pub record ReadOn (z : Sizes) (m : ClientWord → ℕ) (u : List ℕ) (right : Bool) (key top : ℕ) (path : List Turn) (level name : ℕ) (r : Reading) (u′ : List ℕ) : Type 0 where
   pub node : Node
-  pub asks : Holds z x [] → (j : ℕ) (f : ℕ → ℕ) → walked z m (onto (nearest-in right key) right top path level name j f) (used-in u)
+  pub asks : (j : ℕ) (f : ℕ → ℕ) → walked z m (onto (nearest-in right key) right top path level name j f) (used-in u)
       ≡ carry (r .stop) (used-in u′) (λ us. walked z m (afterwards right key top path level node j f) us)
   pub noted : Noted m u′
   pub long : length u′ ≡ length u
   pub leads : goes (r .stop) ≡ true → Advanced right key top path level node (r .ahead)
 
-module _ (z : Sizes) (m : ClientWord → ℕ) (x u : List ℕ) (right : Bool) (key top : ℕ) (path : List Turn) (level name : ℕ) (s : Stop) (n : Node) (u′ : List ℕ)
-    (h : Kid z m x u level name s n u′) (b : Bool) (pb : b ≡ goes s) where
-  asked : Holds z x [] → (j : ℕ) (f : ℕ → ℕ) → walked z m (onto (nearest-in right key) right top path level name j f) (used-in u)
+module _ (z : Sizes) (m : ClientWord → ℕ) (u : List ℕ) (right : Bool) (key top : ℕ) (path : List Turn) (level name : ℕ) (s : Stop) (n : Node) (u′ : List ℕ)
+    (h : Kid z m nothing u level name s n u′) (b : Bool) (pb : b ≡ goes s) where
+  asked : (j : ℕ) (f : ℕ → ℕ) → walked z m (onto (nearest-in right key) right top path level name j f) (used-in u)
       ≡ carry s (used-in u′) (λ us. walked z m (afterwards right key top path level n j f) us)
-  asked hold j f =
+  asked j f =
       let p = climb (nearest-in right key) right level (rests right (trail path level (top - level)) f) in
-      rw (seek-reads (nearest-in right key) right level j name p, h .asks [] hold)
+      rw (seek-reads (nearest-in right key) right level j name p, h .asks [] (none-held z))
 
-  pub read-stops : (a : Ahead) → not b ≡ true → ReadOn z m x u right key top path level name (record { stop = s; ahead = a }) u′
+  pub read-stops : (a : Ahead) → not b ≡ true → ReadOn z m u right key top path level name (record { stop = s; ahead = a }) u′
   read-stops a nb = record { node = n; asks = asked; noted = h .noted; long = h .long; leads = λ t. stops-not s (sym pb ∙ not-true b nb) t }
 
-  pub read-leads : (a : Ahead) → not b ≡ false → Advanced right key top path level n a → ReadOn z m x u right key top path level name (record { stop = s; ahead = a }) u′
+  pub read-leads : (a : Ahead) → not b ≡ false → Advanced right key top path level n a → ReadOn z m u right key top path level name (record { stop = s; ahead = a }) u′
   read-leads a nb v = record { node = n; asks = asked; noted = h .noted; long = h .long; leads = λ t. v }
 
   pub read-standing : not b ≡ false → level < top → Standing n level top
@@ -594,15 +594,15 @@ module _ (z : Sizes) (m : ClientWord → ℕ) (x u : List ℕ) (right : Bool) (k
 pub ruleset read-exits = (read-stops, read-leads, read-standing)
 
 -- ---- the leaves on that side, from a child on
-pub record Seeks (z : Sizes) (m : ClientWord → ℕ) (x u : List ℕ) (right : Bool) (key top : ℕ) (path : List Turn) (level name : ℕ) (s : Stop) (u′ : List ℕ) : Type 0 where
-  pub same : Holds z x [] → (j : ℕ) (f : ℕ → ℕ) → walked z m (onto (nearest-in right key) right top path level name j f) (used-in u) ≡ W.told s (used-in u′)
+pub record Seeks (z : Sizes) (m : ClientWord → ℕ) (u : List ℕ) (right : Bool) (key top : ℕ) (path : List Turn) (level name : ℕ) (s : Stop) (u′ : List ℕ) : Type 0 where
+  pub same : (j : ℕ) (f : ℕ → ℕ) → walked z m (onto (nearest-in right key) right top path level name j f) (used-in u) ≡ W.told s (used-in u′)
   pub noted : Noted m u′
 
 -- how far the search has come
-pub record Seeking (z : Sizes) (m : ClientWord → ℕ) (x u₀ : List ℕ) (right : Bool) (key top : ℕ) (path₀ : List Turn) (level₀ name₀ : ℕ) (path : List Turn) (level name : ℕ) (u : List ℕ) : Type 0 where
+pub record Seeking (z : Sizes) (m : ClientWord → ℕ) (u₀ : List ℕ) (right : Bool) (key top : ℕ) (path₀ : List Turn) (level₀ name₀ : ℕ) (path : List Turn) (level name : ℕ) (u : List ℕ) : Type 0 where
   pub lo : ℕ → (ℕ → ℕ) → ℕ
   pub lows : ℕ → (ℕ → ℕ) → ℕ → ℕ
-  pub same : Holds z x [] → (j : ℕ) (f : ℕ → ℕ)
+  pub same : (j : ℕ) (f : ℕ → ℕ)
       → walked z m (onto (nearest-in right key) right top path₀ level₀ name₀ j f) (used-in u₀)
       ≡ walked z m (onto (nearest-in right key) right top path level name (lo j f) (lows j f)) (used-in u)
   pub stacked : Stacked top path level
@@ -610,17 +610,17 @@ pub record Seeking (z : Sizes) (m : ClientWord → ℕ) (x u₀ : List ℕ) (rig
   pub noted : Noted m u
   pub long : length u ≡ length u₀
 
-pub seek-start : (z : Sizes) (m : ClientWord → ℕ) (x u : List ℕ) (right : Bool) (key top : ℕ) (path : List Turn) (level name : ℕ) → Stacked top path level × (level < top) → Noted m u
-    → Seeking z m x u right key top path level name path level name u
-seek-start z m x u right key top path level name k n =
-    record { lo = λ j f. j; lows = λ j f. f; same = λ hold j f. refl; stacked = k .0; below = k .1; noted = n; long = refl }
+pub seek-start : (z : Sizes) (m : ClientWord → ℕ) (u : List ℕ) (right : Bool) (key top : ℕ) (path : List Turn) (level name : ℕ) → Stacked top path level × (level < top) → Noted m u
+    → Seeking z m u right key top path level name path level name u
+seek-start z m u right key top path level name k n =
+    record { lo = λ j f. j; lows = λ j f. f; same = λ j f. refl; stacked = k .0; below = k .1; noted = n; long = refl }
 
-module _ (z : Sizes) (m : ClientWord → ℕ) (x u₀ : List ℕ) (right : Bool) (key top : ℕ) (path₀ : List Turn) (level₀ name₀ : ℕ) (path : List Turn) (level name : ℕ) (u : List ℕ)
-    (d : Seeking z m x u₀ right key top path₀ level₀ name₀ path level name u)
-    (r : Reading) (u₁ : List ℕ) (h : ReadOn z m x u right key top path level name r u₁) (b : Bool) (pb : b ≡ goes (r .stop)) where
-  pub seek-stops : not b ≡ true → Seeks z m x u₀ right key top path₀ level₀ name₀ (r .stop) u₁
+module _ (z : Sizes) (m : ClientWord → ℕ) (u₀ : List ℕ) (right : Bool) (key top : ℕ) (path₀ : List Turn) (level₀ name₀ : ℕ) (path : List Turn) (level name : ℕ) (u : List ℕ)
+    (d : Seeking z m u₀ right key top path₀ level₀ name₀ path level name u)
+    (r : Reading) (u₁ : List ℕ) (h : ReadOn z m u right key top path level name r u₁) (b : Bool) (pb : b ≡ goes (r .stop)) where
+  pub seek-stops : not b ≡ true → Seeks z m u₀ right key top path₀ level₀ name₀ (r .stop) u₁
   seek-stops nb = let no : goes (r .stop) ≡ false = sym pb ∙ not-true b nb in
-      record { same = λ hold j f. rw (d .same hold j f, h .asks hold (d .lo j f) (d .lows j f), no); noted = h .noted }
+      record { same = λ j f. rw (d .same j f, h .asks (d .lo j f) (d .lows j f), no); noted = h .noted }
 
   pub seek-long : length u₁ ≡ length u₀
   seek-long = h .long ∙ d .long
@@ -629,24 +629,24 @@ module _ (z : Sizes) (m : ClientWord → ℕ) (x u₀ : List ℕ) (right : Bool)
     on : goes (r .stop) ≡ true
     on = sym pb ∙ not-false b nb
 
-    pub seek-found : (y : ℕ) (s : Stop) (u₂ : List ℕ) → r .ahead .state ≡ Found y → Ends m u₁ 1 y s u₂ → Seeks z m x u₀ right key top path₀ level₀ name₀ s u₂
+    pub seek-found : (y : ℕ) (s : Stop) (u₂ : List ℕ) → r .ahead .state ≡ Found y → Ends m u₁ 1 y s u₂ → Seeks z m u₀ right key top path₀ level₀ name₀ s u₂
     seek-found y s u₂ e q = record {
-      same = λ hold j f. rw (d .same hold j f, h .asks hold (d .lo j f) (d .lows j f), on, h .leads on .found y e (d .lo j f) (d .lows j f)) (q .same z [] ∙ ended-nothing s (used-in u₂));
+      same = λ j f. rw (d .same j f, h .asks (d .lo j f) (d .lows j f), on, h .leads on .found y e (d .lo j f) (d .lows j f)) (q .same z [] ∙ ended-nothing s (used-in u₂));
       noted = q .noted;
     }
 
-    pub seek-nowhere : (s : Stop) (u₂ : List ℕ) → r .ahead .state ≡ Nowhere → Ends m u₁ 0 0 s u₂ → Seeks z m x u₀ right key top path₀ level₀ name₀ s u₂
+    pub seek-nowhere : (s : Stop) (u₂ : List ℕ) → r .ahead .state ≡ Nowhere → Ends m u₁ 0 0 s u₂ → Seeks z m u₀ right key top path₀ level₀ name₀ s u₂
     seek-nowhere s u₂ e q = record {
-      same = λ hold j f. rw (d .same hold j f, h .asks hold (d .lo j f) (d .lows j f), on, h .leads on .ends e (d .lo j f) (d .lows j f)) (q .same z [] ∙ ended-nothing s (used-in u₂));
+      same = λ j f. rw (d .same j f, h .asks (d .lo j f) (d .lows j f), on, h .leads on .ends e (d .lo j f) (d .lows j f)) (q .same z [] ∙ ended-nothing s (used-in u₂));
       noted = q .noted;
     }
 
-    pub seek-more : r .ahead .state ≡ Next → Seeking z m x u₀ right key top path₀ level₀ name₀ (r .ahead .path) (r .ahead .level) (r .ahead .name) u₁
+    pub seek-more : r .ahead .state ≡ Next → Seeking z m u₀ right key top path₀ level₀ name₀ (r .ahead .path) (r .ahead .level) (r .ahead .name) u₁
     seek-more e = let v = h .leads on in
         record {
           lo = λ j f. v .lo (d .lo j f) (d .lows j f);
           lows = λ j f. v .lows (d .lo j f) (d .lows j f);
-          same = λ hold j f. rw (d .same hold j f, h .asks hold (d .lo j f) (d .lows j f), on, v .next e (d .lo j f) (d .lows j f));
+          same = λ j f. rw (d .same j f, h .asks (d .lo j f) (d .lows j f), on, v .next e (d .lo j f) (d .lows j f));
           stacked = v .stacked e;
           below = v .below e;
           noted = h .noted;

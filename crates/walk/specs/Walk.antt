@@ -40,6 +40,15 @@ goes Refused = false
 goes (Aborts r) = false
 goes (Answers a b) = false
 
+abbrev pub is-answer : Stop → Bool
+is-answer Going = false
+is-answer LacksMeta = false
+is-answer (LacksNode n) = false
+is-answer (LacksVector s) = false
+is-answer Refused = false
+is-answer (Aborts r) = false
+is-answer (Answers a b) = true
+
 -- "Metadata comes from server (client modulo servers), a node from its home, a vector from its server": a flag is in its vector
 abbrev pub lack : Ask → Stop
 lack (object meta) = LacksMeta

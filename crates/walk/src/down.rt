@@ -4,15 +4,16 @@ use crate::walk::Stop;
 use crate::walk::ask_meta;
 use crate::walk::ask_node;
 use crate::walk::going;
+use crate::walk::see_node;
 use nodes::node::Node;
 ghost use mathlib.Core.Path.{_≡_};
-ghost use Prim.Native.Nat.{_+_, _/_, _<_, _≤_};
-ghost use lib.ListN.{length, getD};
+ghost use Prim.Native.Nat.{_/_, _<_, _≤_};
+ghost use lib.ListN.{length};
 ghost use Rattle.client.specs.Record.{sizes};
 ghost use Rattle.client.specs.Sets.{held};
 ghost use Rattle.walk.specs.Entries.{opens, below};
-ghost use Rattle.walk.specs.Ask.{OwnGood, Noted};
-ghost use Rattle.walk.specs.Down.{Kid, RootMet, Above, Lowered, From, Led, AtRoot, Descends};
+ghost use Rattle.walk.specs.Ask.{OwnGood, Noted, nothing};
+ghost use Rattle.walk.specs.Down.{Kid, Checked, RootMet, Above, Lowered, From, Led, AtRoot, Descends};
 
 // Is the node a leaf or an inner node?
 fn opens(n: Node) -> bool
@@ -40,20 +41,10 @@ fn below(n: Node, level: u64) -> bool
     7 <= n.count
 }
 
-// A node below the root.
-pub fn child(
-    part: &[u8],
-    servers: usize,
-    slots: usize,
-    own: &[u64],
-    used: &mut [u64],
-    level: u64,
-    name: u64,
-) -> Asked
-    requires { ⌜ (servers ≤ 8) × OwnGood (now own) × Noted (held (now part)) (now used) × (7223 ≤ length (now part) / 8) ⌝ }
-    ensures { λ r. ⌜ Kid (sizes servers slots) (held (now (part .entry))) (now (own .entry)) (now (used .entry)) level name (r .stop) (r .node) (now (used .exit)) ⌝ }
+// What was asked for as a node of that level below the root.
+fn as_child(a: Asked, level: u64) -> Asked
+    ensures { λ r. ⌜ Checked level a r ⌝ }
 {
-    let a = ask_node(part, servers, slots, own, used, name);
     let stop = a.stop;
     let node = a.node;
     let on = going(stop);
@@ -70,19 +61,45 @@ pub fn child(
     a
 }
 
-// The root, by its name.
-pub fn root(
+// A node below the root.
+pub fn child(
+    part: &[u8],
+    servers: usize,
+    slots: usize,
+    used: &mut [u64],
+    level: u64,
+    name: u64,
+) -> Asked
+    requires { ⌜ (servers ≤ 8) × Noted (held (now part)) (now used) × (7223 ≤ length (now part) / 8) ⌝ }
+    ensures { λ r. ⌜ Kid (sizes servers slots) (held (now (part .entry))) nothing (now (used .entry)) level name (r .stop) (r .node) (now (used .exit)) ⌝ }
+{
+    let a = ask_node(part, servers, slots, used, name);
+    as_child(a, level)
+}
+
+// The same, where the operation may have written it.
+pub fn see_child(
     part: &[u8],
     servers: usize,
     slots: usize,
     own: &[u64],
     used: &mut [u64],
+    level: u64,
     name: u64,
 ) -> Asked
     requires { ⌜ (servers ≤ 8) × OwnGood (now own) × Noted (held (now part)) (now used) × (7223 ≤ length (now part) / 8) ⌝ }
-    ensures { λ r. ⌜ RootMet (sizes servers slots) (held (now (part .entry))) (now (own .entry)) (now (used .entry)) name (r .stop) (r .node) (now (used .exit)) ⌝ }
+    ensures { λ r. ⌜ Kid (sizes servers slots) (held (now (part .entry))) (now (own .entry)) (now (used .entry)) level name (r .stop) (r .node) (now (used .exit)) ⌝ }
 {
-    let a = ask_node(part, servers, slots, own, used, name);
+    let a = see_node(part, servers, slots, own, used, name);
+    as_child(a, level)
+}
+
+// The root, by its name.
+pub fn root(part: &[u8], servers: usize, slots: usize, used: &mut [u64], name: u64) -> Asked
+    requires { ⌜ (servers ≤ 8) × Noted (held (now part)) (now used) × (7223 ≤ length (now part) / 8) ⌝ }
+    ensures { λ r. ⌜ RootMet (sizes servers slots) (held (now (part .entry))) (now (used .entry)) name (r .stop) (r .node) (now (used .exit)) ⌝ }
+{
+    let a = ask_node(part, servers, slots, used, name);
     let stop = a.stop;
     let node = a.node;
     let on = going(stop);
@@ -128,20 +145,19 @@ fn go_lower(
     part: &[u8],
     servers: usize,
     slots: usize,
-    own: &[u64],
     used: &mut [u64],
     key: u64,
     level: usize,
     n: Node,
 ) -> Lower
-    requires { ⌜ (servers ≤ 8) × OwnGood (now own) × Noted (held (now part)) (now used) × (7223 ≤ length (now part) / 8) ⌝ }
+    requires { ⌜ (servers ≤ 8) × Noted (held (now part)) (now used) × (7223 ≤ length (now part) / 8) ⌝ }
     requires from { ⌜ Above n level ⌝ }
-    ensures { λ r. ⌜ Lowered (sizes servers slots) (held (now (part .entry))) (now (own .entry)) (now (used .entry)) key level n r (now (used .exit)) ⌝ }
+    ensures { λ r. ⌜ Lowered (sizes servers slots) (held (now (part .entry))) (now (used .entry)) key level n r (now (used .exit)) ⌝ }
 {
     let at = n.place(key);
     let children = n.slots;
     let name = children[at];
-    let c = child(part, servers, slots, own, used, (level - 1) as u64, name);
+    let c = child(part, servers, slots, used, (level - 1) as u64, name);
     let stop = c.stop;
     let node = c.node;
     Lower {
@@ -157,16 +173,15 @@ pub fn go_down(
     part: &[u8],
     servers: usize,
     slots: usize,
-    own: &[u64],
     used: &mut [u64],
     key: u64,
     target: usize,
     root: u64,
     first: Node,
 ) -> Descent
-    requires { ⌜ (servers ≤ 8) × OwnGood (now own) × Noted (held (now part)) (now used) × (7223 ≤ length (now part) / 8) ⌝ }
+    requires { ⌜ (servers ≤ 8) × Noted (held (now part)) (now used) × (7223 ≤ length (now part) / 8) ⌝ }
     requires from { ⌜ From first target ⌝ }
-    ensures { λ r. ⌜ Led (sizes servers slots) (held (now (part .entry))) (now (own .entry)) (now (used .entry)) key target root first r (now (used .exit)) ⌝ }
+    ensures { λ r. ⌜ Led (sizes servers slots) (held (now (part .entry))) (now (used .entry)) key target root first r (now (used .exit)) ⌝ }
 {
     let top = first.level as usize;
     let blank = Turn {
@@ -179,7 +194,7 @@ pub fn go_down(
     let mut node = first;
     let mut level = top;
     while target < level {
-        let l = go_lower(part, servers, slots, own, used, key, level, node);
+        let l = go_lower(part, servers, slots, used, key, level, node);
         let stop = l.stop;
         let on = going(stop);
         if !on {
@@ -217,11 +232,11 @@ pub struct Rooted {
 }
 
 // The metadata, and the root that it names.
-pub fn at_root(part: &[u8], servers: usize, slots: usize, own: &[u64], used: &mut [u64]) -> Rooted
-    requires { ⌜ (servers ≤ 8) × OwnGood (now own) × Noted (held (now part)) (now used) × (7223 ≤ length (now part) / 8) ⌝ }
-    ensures { λ r. ⌜ AtRoot (sizes servers slots) (held (now (part .entry))) (now (own .entry)) (now (used .entry)) r (now (used .exit)) ⌝ }
+pub fn at_root(part: &[u8], servers: usize, slots: usize, used: &mut [u64]) -> Rooted
+    requires { ⌜ (servers ≤ 8) × Noted (held (now part)) (now used) × (7223 ≤ length (now part) / 8) ⌝ }
+    ensures { λ r. ⌜ AtRoot (sizes servers slots) (held (now (part .entry))) (now (used .entry)) r (now (used .exit)) ⌝ }
 {
-    let a = ask_meta(part, servers, slots, own, used);
+    let a = ask_meta(part, servers, slots, used);
     let stop = a.stop;
     let node = a.node;
     let values = node.slots;
@@ -230,7 +245,7 @@ pub fn at_root(part: &[u8], servers: usize, slots: usize, own: &[u64], used: &mu
     if !on {
         return Rooted { stop, name, node };
     }
-    let r = root(part, servers, slots, own, used, name);
+    let r = root(part, servers, slots, used, name);
     let stop = r.stop;
     let node = r.node;
     Rooted { stop, name, node }
@@ -256,18 +271,11 @@ pub fn no_descent(stop: Stop) -> Descent
 }
 
 // From the metadata down to the leaf for a key.
-pub fn descend(
-    part: &[u8],
-    servers: usize,
-    slots: usize,
-    own: &[u64],
-    used: &mut [u64],
-    key: u64,
-) -> Descent
-    requires { ⌜ (servers ≤ 8) × OwnGood (now own) × Noted (held (now part)) (now used) × (7223 ≤ length (now part) / 8) ⌝ }
-    ensures { λ r. ⌜ Descends (sizes servers slots) (held (now (part .entry))) (now (own .entry)) (now (used .entry)) key r (now (used .exit)) ⌝ }
+pub fn descend(part: &[u8], servers: usize, slots: usize, used: &mut [u64], key: u64) -> Descent
+    requires { ⌜ (servers ≤ 8) × Noted (held (now part)) (now used) × (7223 ≤ length (now part) / 8) ⌝ }
+    ensures { λ r. ⌜ Descends (sizes servers slots) (held (now (part .entry))) (now (used .entry)) key r (now (used .exit)) ⌝ }
 {
-    let r = at_root(part, servers, slots, own, used);
+    let r = at_root(part, servers, slots, used);
     let stop = r.stop;
     let on = going(stop);
     if !on {
@@ -275,5 +283,5 @@ pub fn descend(
     }
     let name = r.name;
     let node = r.node;
-    go_down(part, servers, slots, own, used, key, 0, name, node)
+    go_down(part, servers, slots, used, key, 0, name, node)
 }

@@ -1,4 +1,4 @@
-// Lookup, next and previous: they write nothing.
+// Lookup, and how every operation answers.
 use crate::down::descend;
 use crate::walk::Stop;
 use crate::walk::going;
@@ -7,12 +7,12 @@ use crate::walk::pop_used;
 use nodes::found::Found;
 use nodes::node::Node;
 ghost use mathlib.Core.Path.{_≡_};
-ghost use Prim.Native.Nat.{_+_, _/_, _<_, _≤_};
+ghost use Prim.Native.Nat.{_/_, _<_, _≤_};
 ghost use lib.ListN.{length, getD};
 ghost use Rattle.operations.specs.Look.{lookup-plan};
 ghost use Rattle.client.specs.Record.{sizes};
 ghost use Rattle.client.specs.Sets.{held};
-ghost use Rattle.walk.specs.Ask.{OwnGood, Noted};
+ghost use Rattle.walk.specs.Ask.{Noted};
 ghost use Rattle.walk.specs.Lookup.{Ends, Walks, look-in};
 
 // The answer, unless object 97 has been read.
@@ -56,18 +56,11 @@ fn look_in(n: Node, key: u64) -> Pair
     }
 }
 
-pub fn lookup(
-    part: &[u8],
-    servers: usize,
-    slots: usize,
-    own: &[u64],
-    used: &mut [u64],
-    key: u64,
-) -> Stop
-    requires { ⌜ (servers ≤ 8) × OwnGood (now own) × Noted (held (now part)) (now used) × (7223 ≤ length (now part) / 8) ⌝ }
-    ensures { λ r. ⌜ Walks (sizes servers slots) (held (now (part .entry))) (now (own .entry)) (now (used .entry)) (lookup-plan key) r (now (used .exit)) ⌝ }
+pub fn lookup(part: &[u8], servers: usize, slots: usize, used: &mut [u64], key: u64) -> Stop
+    requires { ⌜ (servers ≤ 8) × Noted (held (now part)) (now used) × (7223 ≤ length (now part) / 8) ⌝ }
+    ensures { λ r. ⌜ Walks (sizes servers slots) (held (now (part .entry))) (now (used .entry)) (lookup-plan key) r (now (used .exit)) ⌝ }
 {
-    let d = descend(part, servers, slots, own, used, key);
+    let d = descend(part, servers, slots, used, key);
     let stop = d.stop;
     let on = going(stop);
     if !on {

@@ -13,7 +13,7 @@ ghost use Prim.Native.Nat.{_+_, _/_, _<_, _≤_};
 ghost use lib.ListN.{length, getD};
 ghost use Rattle.client.specs.Record.{sizes};
 ghost use Rattle.client.specs.Sets.{held};
-ghost use Rattle.walk.specs.Ask.{OwnGood, Noted};
+ghost use Rattle.walk.specs.Ask.{Noted};
 ghost use Rattle.walk.specs.Lookup.{Walks};
 ghost use Rattle.walk.specs.Near.{Beyond};
 ghost use Rattle.walk.specs.Seek.{in-leaf, more, onward, first-at, Stacked, Climbed, Standing, Advanced, ReadOn, Seeks, near-plan};
@@ -192,7 +192,6 @@ fn read_on(
     part: &[u8],
     servers: usize,
     slots: usize,
-    own: &[u64],
     used: &mut [u64],
     right: bool,
     key: u64,
@@ -201,11 +200,11 @@ fn read_on(
     level: usize,
     name: u64,
 ) -> Reading
-    requires { ⌜ (servers ≤ 8) × OwnGood (now own) × Noted (held (now part)) (now used) × (7223 ≤ length (now part) / 8) ⌝ }
+    requires { ⌜ (servers ≤ 8) × Noted (held (now part)) (now used) × (7223 ≤ length (now part) / 8) ⌝ }
     requires at { ⌜ Stacked top path level × (level < top) ⌝ }
-    ensures { λ r. ⌜ ReadOn (sizes servers slots) (held (now (part .entry))) (now (own .entry)) (now (used .entry)) right key top path level name r (now (used .exit)) ⌝ }
+    ensures { λ r. ⌜ ReadOn (sizes servers slots) (held (now (part .entry))) (now (used .entry)) right key top path level name r (now (used .exit)) ⌝ }
 {
-    let c = child(part, servers, slots, own, used, level as u64, name);
+    let c = child(part, servers, slots, used, level as u64, name);
     let stop = c.stop;
     let on = going(stop);
     if !on {
@@ -229,7 +228,6 @@ fn seek(
     part: &[u8],
     servers: usize,
     slots: usize,
-    own: &[u64],
     used: &mut [u64],
     right: bool,
     key: u64,
@@ -238,9 +236,9 @@ fn seek(
     from: usize,
     child: u64,
 ) -> Stop
-    requires { ⌜ (servers ≤ 8) × OwnGood (now own) × Noted (held (now part)) (now used) × (7223 ≤ length (now part) / 8) ⌝ }
+    requires { ⌜ (servers ≤ 8) × Noted (held (now part)) (now used) × (7223 ≤ length (now part) / 8) ⌝ }
     requires at { ⌜ Stacked top first from × (from < top) ⌝ }
-    ensures { λ r. ⌜ Seeks (sizes servers slots) (held (now (part .entry))) (now (own .entry)) (now (used .entry)) right key top first from child r (now (used .exit)) ⌝ }
+    ensures { λ r. ⌜ Seeks (sizes servers slots) (held (now (part .entry))) (now (used .entry)) right key top first from child r (now (used .exit)) ⌝ }
 {
     let mut path = first;
     let mut level = from;
@@ -250,7 +248,6 @@ fn seek(
             part,
             servers,
             slots,
-            own,
             used,
             right,
             key,
@@ -286,16 +283,15 @@ fn beyond(
     part: &[u8],
     servers: usize,
     slots: usize,
-    own: &[u64],
     used: &mut [u64],
     right: bool,
     key: u64,
     top: usize,
     path: [Turn; 5],
 ) -> Stop
-    requires { ⌜ (servers ≤ 8) × OwnGood (now own) × Noted (held (now part)) (now used) × (7223 ≤ length (now part) / 8) ⌝ }
+    requires { ⌜ (servers ≤ 8) × Noted (held (now part)) (now used) × (7223 ≤ length (now part) / 8) ⌝ }
     requires at { ⌜ Stacked top path 0 ⌝ }
-    ensures { λ r. ⌜ Beyond (sizes servers slots) (held (now (part .entry))) (now (own .entry)) (now (used .entry)) right key top path r (now (used .exit)) ⌝ }
+    ensures { λ r. ⌜ Beyond (sizes servers slots) (held (now (part .entry))) (now (used .entry)) right key top path r (now (used .exit)) ⌝ }
 {
     let a = climb(right, top, path, 0);
     let state = a.state;
@@ -310,7 +306,6 @@ fn beyond(
                 part,
                 servers,
                 slots,
-                own,
                 used,
                 right,
                 key,
@@ -328,15 +323,14 @@ pub fn near(
     part: &[u8],
     servers: usize,
     slots: usize,
-    own: &[u64],
     used: &mut [u64],
     right: bool,
     key: u64,
 ) -> Stop
-    requires { ⌜ (servers ≤ 8) × OwnGood (now own) × Noted (held (now part)) (now used) × (7223 ≤ length (now part) / 8) ⌝ }
-    ensures { λ r. ⌜ Walks (sizes servers slots) (held (now (part .entry))) (now (own .entry)) (now (used .entry)) (near-plan right key) r (now (used .exit)) ⌝ }
+    requires { ⌜ (servers ≤ 8) × Noted (held (now part)) (now used) × (7223 ≤ length (now part) / 8) ⌝ }
+    ensures { λ r. ⌜ Walks (sizes servers slots) (held (now (part .entry))) (now (used .entry)) (near-plan right key) r (now (used .exit)) ⌝ }
 {
-    let d = descend(part, servers, slots, own, used, key);
+    let d = descend(part, servers, slots, used, key);
     let stop = d.stop;
     let on = going(stop);
     if !on {
@@ -348,7 +342,7 @@ pub fn near(
         Key::Is(x) => answers(part, used, 1, x),
         Key::Nothing => {
             let path = d.path;
-            beyond(part, servers, slots, own, used, right, key, d.top, path)
+            beyond(part, servers, slots, used, right, key, d.top, path)
         }
     }
 }

@@ -1,10 +1,10 @@
 // Slots taken and freed: their flags and nodes are read and written.
 use crate::walk::Stop;
-use crate::walk::ask_flag;
-use crate::walk::ask_node;
 use crate::walk::flag_number;
 use crate::walk::going;
 use crate::walk::node_number;
+use crate::walk::see_flag;
+use crate::walk::see_node;
 use client::own::put_own;
 use client::range::single;
 use nodes::node::Node;
@@ -30,7 +30,7 @@ pub fn take_node(
     requires { ⌜ (servers ≤ 8) × OwnGood (now own) × Noted (held (now part)) (now used) × (7223 ≤ length (now part) / 8) ⌝ }
     ensures { λ r. ⌜ NodeTaken (sizes servers slots) (held (now (part .entry))) (now (own .entry)) (now (used .entry)) name r (now (used .exit)) ⌝ }
 {
-    let a = ask_node(part, servers, slots, own, used, name);
+    let a = see_node(part, servers, slots, own, used, name);
     let stop = a.stop;
     let node = a.node;
     let on = going(stop);
@@ -55,7 +55,7 @@ pub fn take_flag(
     requires { ⌜ (servers ≤ 8) × OwnGood (now own) × (getD (now own) 0 0 < 20) × Noted (held (now part)) (now used) × (7223 ≤ length (now part) / 8) ⌝ }
     ensures { λ r. ⌜ FlagTaken (sizes servers slots) (held (now (part .entry))) (now (own .entry)) (now (used .entry)) name r (now (own .exit)) (now (used .exit)) ⌝ }
 {
-    let a = ask_flag(part, servers, slots, own, used, name);
+    let a = see_flag(part, servers, slots, own, used, name);
     let stop = a.stop;
     let node = a.node;
     let on = going(stop);
@@ -102,7 +102,7 @@ pub fn release(
     requires { ⌜ (servers ≤ 8) × OwnGood (now own) × (getD (now own) 0 0 < 19) × Noted (held (now part)) (now used) × (7223 ≤ length (now part) / 8) ⌝ }
     ensures { λ r. ⌜ Released (sizes servers slots) (held (now (part .entry))) (now (own .entry)) (now (used .entry)) name r (now (own .exit)) (now (used .exit)) ⌝ }
 {
-    let a = ask_flag(part, servers, slots, own, used, name);
+    let a = see_flag(part, servers, slots, own, used, name);
     let stop = a.stop;
     let on = going(stop);
     if !on {

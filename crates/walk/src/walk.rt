@@ -1,11 +1,15 @@
-// A question of an operation's plan: an object, looked up among the operation's own writes, else in the client's part.
+// A question of an operation's plan: an object, asked for in the client's part; and seen, where the operation may have written it itself: its own writes come first.
 use client::answer::How;
-use client::lookup::look_at;
+use client::answer::is_copied;
+use client::answer::is_found;
+use client::lookup::source;
 use client::own::find_own;
 use client::own::own_record;
 use client::part::Set;
 use client::part::count;
+use client::range::fits;
 use client::range::in_store;
+use client::used::is_used;
 use client::used::push_used;
 use nodes::found::Found;
 use nodes::node::Node;
@@ -16,9 +20,9 @@ ghost use lib.ListN.{length, getD};
 ghost use Rattle.operations.specs.Object.{meta, node, flag};
 ghost use Rattle.client.specs.Record.{sizes};
 ghost use Rattle.client.specs.Sets.{held};
-ghost use Rattle.client.specs.Lent.{OwnFits, Lent, used-in};
-ghost use Rattle.walk.specs.Walk.{goes, over};
-ghost use Rattle.walk.specs.Ask.{OwnGood, Noted, Numbered, Outside, Answer, popped, entered-stop, entered-used, stopped, own-asked, own-used};
+ghost use Rattle.client.specs.Lent.{Lent, used-in};
+ghost use Rattle.walk.specs.Walk.{goes, is-answer, over};
+ghost use Rattle.walk.specs.Ask.{OwnGood, Noted, Numbered, Outside, Answer, nothing, popped, noted-copy, stopped};
 
 // How the walk of a plan goes on or ends: a lack is to be fetched, Refused is refusal 10.
 pub enum Stop {
@@ -51,6 +55,20 @@ pub fn going(stop: Stop) -> bool
     }
 }
 
+pub fn is_answer(stop: Stop) -> bool
+    ensures { λ r. ⌜ r ≡ is-answer stop ⌝ }
+{
+    match stop {
+        Stop::Going => false,
+        Stop::LacksMeta => false,
+        Stop::LacksNode(_) => false,
+        Stop::LacksVector(_) => false,
+        Stop::Refused => false,
+        Stop::Aborts(_) => false,
+        Stop::Answers(_, _) => true,
+    }
+}
+
 // Is object 97 among the copies in use?
 pub fn over(part: &[u8], used: &[u64]) -> bool
     requires { ⌜ Noted (held (now part)) (now used) × (7223 ≤ length (now part) / 8) ⌝ }
@@ -70,22 +88,20 @@ pub fn pop_used(used: &mut [u64])
     used[0] = count - 1;
 }
 
-// What was looked up comes into use, or stops the walk.
-fn entered(used: &mut [u64], how: How, number: u64, lacks: Stop) -> Stop
+// A copy that is not in use yet comes into use.
+fn note_copy(used: &mut [u64], how: How, number: u64)
     requires { ⌜ Lent (now used) ⌝ }
-    ensures { λ r. ⌜ r ≡ entered-stop how lacks ⌝ }
-    ensures uses { λ _. ⌜ now (used .exit) ≡ entered-used how (now (used .entry)) number ⌝ }
+    ensures { λ _. ⌜ now (used .exit) ≡ noted-copy how (now (used .entry)) number ⌝ }
 {
-    match how {
-        How::Here => Stop::Going,
-        How::Copied => Stop::Going,
-        How::Full => {
-            push_used(used, number);
-            Stop::Going
-        }
-        How::Lacking => lacks,
-        How::Broken => Stop::Refused,
+    let copied = is_copied(how);
+    if !copied {
+        return;
     }
+    let known = is_used(used, number);
+    if known {
+        return;
+    }
+    push_used(used, number);
 }
 
 fn stopped(stop: Stop) -> Asked
@@ -97,46 +113,38 @@ fn stopped(stop: Stop) -> Asked
     }
 }
 
-// One object too many is read: it is taken back. Only an own write can still be read.
-fn ask_own(own: &[u64], used: &mut [u64], number: u64) -> Asked
-    requires { ⌜ OwnFits (now own) × (0 < getD (now used) 0 0) × (98 ≤ length (now used)) ⌝ }
-    ensures { λ r. ⌜ r ≡ own-asked (now (own .entry)) number ⌝ }
-    ensures uses { λ _. ⌜ now (used .exit) ≡ own-used (now (own .entry)) (now (used .entry)) number ⌝ }
-{
-    let f = find_own(own, number);
-    match f {
-        Found::At(i) => Asked {
-            stop: Stop::Going,
-            node: own_record(own, i),
-        },
-        Found::Absent => {
-            pop_used(used);
-            stopped(Stop::Aborts(4))
-        }
-    }
-}
-
-// The object of that number; `lacks` says what is to be fetched for it.
+// The object of that number in the part; `lacks` says what is to be fetched for it.
 fn ask_number(
     part: &[u8],
     servers: usize,
     slots: usize,
-    own: &[u64],
     used: &mut [u64],
     number: u64,
     lacks: Stop,
 ) -> Asked
-    requires { ⌜ (number < 16385) × (servers ≤ 8) × OwnGood (now own) × Noted (held (now part)) (now used) × (7223 ≤ length (now part) / 8) ⌝ }
-    ensures { λ r. ⌜ Numbered (sizes servers slots) (held (now (part .entry))) (now (own .entry)) (now (used .entry)) number lacks (r .stop) (r .node) (now (used .exit)) ⌝ }
+    requires { ⌜ (number < 16385) × (servers ≤ 8) × Noted (held (now part)) (now used) × (7223 ≤ length (now part) / 8) ⌝ }
+    ensures { λ r. ⌜ Numbered (sizes servers slots) (held (now (part .entry))) nothing (now (used .entry)) number lacks (r .stop) (r .node) (now (used .exit)) ⌝ }
 {
     if over(part, used) {
-        return ask_own(own, used, number);
+        pop_used(used);
+        return stopped(Stop::Aborts(4));
     }
-    let l = look_at(part, servers, slots, own, used, number);
+    let l = source(part, number);
     let how = l.how;
     let node = l.node;
-    let stop = entered(used, how, number, lacks);
-    Asked { stop, node }
+    let found = is_found(how);
+    if !found {
+        return stopped(lacks);
+    }
+    let right = fits(servers, slots, number, node);
+    if !right {
+        return stopped(Stop::Refused);
+    }
+    note_copy(used, how, number);
+    Asked {
+        stop: Stop::Going,
+        node,
+    }
 }
 
 // An object that is not in the store.
@@ -167,14 +175,49 @@ pub fn flag_number(name: u64) -> u64
     8193 + name
 }
 
-pub fn ask_meta(part: &[u8], servers: usize, slots: usize, own: &[u64], used: &mut [u64]) -> Asked
-    requires { ⌜ (servers ≤ 8) × OwnGood (now own) × Noted (held (now part)) (now used) × (7223 ≤ length (now part) / 8) ⌝ }
-    ensures { λ r. ⌜ Answer (sizes servers slots) (held (now (part .entry))) (now (own .entry)) (now (used .entry)) meta (r .stop) (r .node) (now (used .exit)) ⌝ }
+pub fn ask_meta(part: &[u8], servers: usize, slots: usize, used: &mut [u64]) -> Asked
+    requires { ⌜ (servers ≤ 8) × Noted (held (now part)) (now used) × (7223 ≤ length (now part) / 8) ⌝ }
+    ensures { λ r. ⌜ Answer (sizes servers slots) (held (now (part .entry))) nothing (now (used .entry)) meta (r .stop) (r .node) (now (used .exit)) ⌝ }
 {
-    ask_number(part, servers, slots, own, used, 0, Stop::LacksMeta)
+    ask_number(part, servers, slots, used, 0, Stop::LacksMeta)
 }
 
-pub fn ask_node(
+pub fn ask_node(part: &[u8], servers: usize, slots: usize, used: &mut [u64], name: u64) -> Asked
+    requires { ⌜ (servers ≤ 8) × Noted (held (now part)) (now used) × (7223 ≤ length (now part) / 8) ⌝ }
+    ensures { λ r. ⌜ Answer (sizes servers slots) (held (now (part .entry))) nothing (now (used .entry)) (node name) (r .stop) (r .node) (now (used .exit)) ⌝ }
+{
+    let there = in_store(servers, slots, name);
+    if !there {
+        return ask_outside(part, used);
+    }
+    let number = node_number(name);
+    ask_number(part, servers, slots, used, number, Stop::LacksNode(name))
+}
+
+// The object of that number: an own write of the operation, else in the part.
+fn see_number(
+    part: &[u8],
+    servers: usize,
+    slots: usize,
+    own: &[u64],
+    used: &mut [u64],
+    number: u64,
+    lacks: Stop,
+) -> Asked
+    requires { ⌜ (number < 16385) × (servers ≤ 8) × OwnGood (now own) × Noted (held (now part)) (now used) × (7223 ≤ length (now part) / 8) ⌝ }
+    ensures { λ r. ⌜ Numbered (sizes servers slots) (held (now (part .entry))) (now (own .entry)) (now (used .entry)) number lacks (r .stop) (r .node) (now (used .exit)) ⌝ }
+{
+    let f = find_own(own, number);
+    match f {
+        Found::At(i) => Asked {
+            stop: Stop::Going,
+            node: own_record(own, i),
+        },
+        Found::Absent => ask_number(part, servers, slots, used, number, lacks),
+    }
+}
+
+pub fn see_node(
     part: &[u8],
     servers: usize,
     slots: usize,
@@ -190,7 +233,7 @@ pub fn ask_node(
         return ask_outside(part, used);
     }
     let number = node_number(name);
-    ask_number(
+    see_number(
         part,
         servers,
         slots,
@@ -202,7 +245,7 @@ pub fn ask_node(
 }
 
 // A flag is in its server's vector.
-pub fn ask_flag(
+pub fn see_flag(
     part: &[u8],
     servers: usize,
     slots: usize,
@@ -219,7 +262,7 @@ pub fn ask_flag(
     }
     let number = flag_number(name);
     let server = name / 1024;
-    ask_number(
+    see_number(
         part,
         servers,
         slots,

@@ -8,10 +8,9 @@ delete-spec = tie.close (tie.spec
     (λ c κs. search (deleted-exits, needs))  -- descend-requires
     (λ c κs. search needs)  -- going-requires
     (λ c. search needs)  -- same-length
-    (λ c. search needs)  -- same-length-2
     (λ c. search (deleted-exits, needs))  -- returns
     (λ c κs. search (deleted-exits, needs))  -- delete-at-requires
+    (λ c. search needs)  -- same-length-2
     (λ c. search needs)  -- same-length-3
-    (λ c. search needs)  -- same-length-4
     (λ c. search (deleted-exits, needs))  -- returns-2
     )

@@ -8,10 +8,9 @@ insert-spec = tie.close (tie.spec
     (λ c κs. search (inserted-exits, needs))  -- descend-requires
     (λ c κs. search needs)  -- going-requires
     (λ c. search needs)  -- same-length
-    (λ c. search needs)  -- same-length-2
     (λ c. search (inserted-exits, needs))  -- returns
     (λ c κs. search (inserted-exits, needs))  -- insert-at-requires
+    (λ c. search needs)  -- same-length-2
     (λ c. search needs)  -- same-length-3
-    (λ c. search needs)  -- same-length-4
     (λ c. search (inserted-exits, needs))  -- returns-2
     )

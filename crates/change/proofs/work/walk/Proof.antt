@@ -9,10 +9,7 @@ walk-spec = tie.close (tie.spec
     (λ c κs. search needs)  -- get-field-requires-2
     (λ c κs. search needs)  -- get-field-requires-3
     (λ c κs. search needs)  -- insert-requires
-    (λ c κs. search needs)  -- lookup-requires
     (λ c κs. search needs)  -- delete-requires
-    (λ c κs. search needs)  -- near-requires
-    (λ c κs. search needs)  -- near-requires-2
     (λ c κs. search needs)  -- get-field-requires-4
     (λ c κs. search needs)  -- migrate-requires
     (λ c. search needs)  -- same-length
@@ -24,13 +21,4 @@ walk-spec = tie.close (tie.spec
     (λ c. search needs)  -- same-length-5
     (λ c. search needs)  -- same-length-6
     (λ c. search (by-number, needs))  -- returns-3
-    (λ c. search needs)  -- same-length-7
-    (λ c. search needs)  -- same-length-8
-    (λ c. search (by-number, needs))  -- returns-4
-    (λ c. search needs)  -- same-length-9
-    (λ c. search needs)  -- same-length-10
-    (λ c. search (by-number, needs))  -- returns-5
-    (λ c. search needs)  -- same-length-11
-    (λ c. search needs)  -- same-length-12
-    (λ c. search (by-number, needs))  -- returns-6
     )

@@ -1,5 +1,5 @@
 use borrow.Author.Needs.{needs}
-use Rattle.engine.specs.Work.{works-lent, waiting-lent}
+use Rattle.engine.specs.Work.{walk-lent}
 use Rattle.engine.proofs.walking.walk_at.Statement.{statement}
 use Rattle.engine.proofs.walking.walk_at.Tie as tie
 
@@ -10,8 +10,8 @@ walk-at-spec = tie.close (tie.spec
     (λ c. search needs)  -- sub-work
     (λ c. search needs)  -- part-work-start
     (λ c. search needs)  -- part-work-end
-    (λ c κs. search (waiting-lent, needs))  -- work-requires
+    (λ c κs. search (walk-lent, needs))  -- work-requires
     (λ c. search needs)  -- same-length
     (λ c. search needs)  -- same-length-2
-    (λ c. search (works-lent, needs))  -- returns
+    (λ c. search (walk-lent, needs))  -- returns
     )

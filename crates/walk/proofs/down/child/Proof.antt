@@ -1,17 +1,12 @@
 use borrow.Author.Needs.{needs}
-use Rattle.walk.specs.Down.{node-exits}
+use Rattle.walk.specs.Down.{kid-is}
 use Rattle.walk.proofs.down.child.Statement.{statement}
 use Rattle.walk.proofs.down.child.Tie as tie
 
 pub child-spec : {M : Type 1} → statement M
 child-spec = tie.close (tie.spec
     (λ c κs. search needs)  -- ask-node-requires
-    (λ c κs. search needs)  -- going-requires
+    (λ c κs. search needs)  -- as-child-requires
     (λ c. search needs)  -- same-length
-    (λ c. search (node-exits, needs))  -- returns
-    (λ c κs. search needs)  -- below-requires
-    (λ c. search needs)  -- same-length-2
-    (λ c. search (node-exits, needs))  -- returns-2
-    (λ c. search needs)  -- same-length-3
-    (λ c. search (node-exits, needs))  -- returns-3
+    (λ c. search (kid-is, needs))  -- returns
     )

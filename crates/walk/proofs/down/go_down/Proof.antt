@@ -6,11 +6,11 @@ use Rattle.walk.proofs.down.go_down.Statement.{statement}
 use Rattle.walk.proofs.down.go_down.Tie as tie
 
 abbrev Inv-loop : tie.InvT-loop
-Inv-loop part servers slots own used₀ key target root top path₀ name₀ node₀ level₀ used path name node level =
-    Downward (sizes servers slots) (held part) own used₀ key target root node₀ top path name node level used
+Inv-loop part servers slots used₀ key target root top path₀ name₀ node₀ level₀ used path name node level =
+    Downward (sizes servers slots) (held part) used₀ key target root node₀ top path name node level used
 
 abbrev μ-loop : tie.MeasureT-loop
-μ-loop part servers slots own used₀ key target root top path₀ name₀ node₀ level₀ used path name node level = level
+μ-loop part servers slots used₀ key target root top path₀ name₀ node₀ level₀ used path name node level = level
 
 pub go-down-spec : {M : Type 1} → statement M
 go-down-spec = tie.close (tie.spec

@@ -1,5 +1,5 @@
 use borrow.Author.Needs.{needs}
-use Rattle.walk.specs.Down.{node-exits}
+use Rattle.walk.specs.Down.{root-ways}
 use Rattle.walk.proofs.down.root.Statement.{statement}
 use Rattle.walk.proofs.down.root.Tie as tie
 
@@ -8,10 +8,10 @@ root-spec = tie.close (tie.spec
     (λ c κs. search needs)  -- ask-node-requires
     (λ c κs. search needs)  -- going-requires
     (λ c. search needs)  -- same-length
-    (λ c. search (node-exits, needs))  -- returns
+    (λ c. search (root-ways, needs))  -- returns
     (λ c κs. search needs)  -- opens-requires
     (λ c. search needs)  -- same-length-2
-    (λ c. search (node-exits, needs))  -- returns-2
+    (λ c. search (root-ways, needs))  -- returns-2
     (λ c. search needs)  -- same-length-3
-    (λ c. search (node-exits, needs))  -- returns-3
+    (λ c. search (root-ways, needs))  -- returns-3
     )

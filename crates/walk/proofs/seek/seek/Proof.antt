@@ -6,11 +6,11 @@ use Rattle.walk.proofs.seek.seek.Statement.{statement}
 use Rattle.walk.proofs.seek.seek.Tie as tie
 
 abbrev Inv-loop : tie.InvT-loop
-Inv-loop part servers slots own used₀ right key top from child path₀ level₀ name₀ used path level name =
-    Seeking (sizes servers slots) (held part) own used₀ right key top path₀ level₀ name₀ path level name used
+Inv-loop part servers slots used₀ right key top from child path₀ level₀ name₀ used path level name =
+    Seeking (sizes servers slots) (held part) used₀ right key top path₀ level₀ name₀ path level name used
 
 abbrev μ-loop : tie.MeasureT-loop
-μ-loop part servers slots own used₀ right key top from child path₀ level₀ name₀ used path level name = weight right top path level
+μ-loop part servers slots used₀ right key top from child path₀ level₀ name₀ used path level name = weight right top path level
 
 pub seek-spec : {M : Type 1} → statement M
 seek-spec = tie.close (tie.spec

@@ -5,7 +5,7 @@ use Rattle.walk.proofs.take.release.Tie as tie
 
 pub release-spec : {M : Type 1} → statement M
 release-spec = tie.close (tie.spec
-    (λ c κs. search needs)  -- ask-flag-requires
+    (λ c κs. search needs)  -- see-flag-requires
     (λ c κs. search needs)  -- going-requires
     (λ c. search needs)  -- same-length
     (λ c. search needs)  -- same-length-2

@@ -5,7 +5,7 @@ use Rattle.walk.proofs.take.take_flag.Tie as tie
 
 pub take-flag-spec : {M : Type 1} → statement M
 take-flag-spec = tie.close (tie.spec
-    (λ c κs. search needs)  -- ask-flag-requires
+    (λ c κs. search needs)  -- see-flag-requires
     (λ c κs. search needs)  -- going-requires
     (λ c. search needs)  -- same-length
     (λ c. search needs)  -- same-length-2

@@ -5,7 +5,7 @@ use Rattle.walk.proofs.take.take_node.Tie as tie
 
 pub take-node-spec : {M : Type 1} → statement M
 take-node-spec = tie.close (tie.spec
-    (λ c κs. search needs)  -- ask-node-requires
+    (λ c κs. search needs)  -- see-node-requires
     (λ c κs. search needs)  -- going-requires
     (λ c. search needs)  -- same-length
     (λ c. search (taken-node-exits, needs))  -- returns

@@ -1,16 +1,16 @@
 use borrow.Author.Needs.{needs}
 use Rattle.walk.specs.Ask.{answer-exits}
-use Rattle.walk.proofs.walk.ask_flag.Statement.{statement}
-use Rattle.walk.proofs.walk.ask_flag.Tie as tie
+use Rattle.walk.proofs.walk.see_node.Statement.{statement}
+use Rattle.walk.proofs.walk.see_node.Tie as tie
 
-pub ask-flag-spec : {M : Type 1} → statement M
-ask-flag-spec = tie.close (tie.spec
+pub see-node-spec : {M : Type 1} → statement M
+see-node-spec = tie.close (tie.spec
     (λ c κs. search needs)  -- in-store-requires
     (λ c κs. search needs)  -- ask-outside-requires
     (λ c. search needs)  -- same-length
     (λ c. search (answer-exits, needs))  -- returns
-    (λ c κs. search (answer-exits, needs))  -- flag-number-requires
-    (λ c κs. search needs)  -- ask-number-requires
+    (λ c κs. search (answer-exits, needs))  -- node-number-requires
+    (λ c κs. search needs)  -- see-number-requires
     (λ c. search needs)  -- same-length-2
     (λ c. search (answer-exits, needs))  -- returns-2
     )

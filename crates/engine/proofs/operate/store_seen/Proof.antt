@@ -1,0 +1,17 @@
+use mathlib.Core.Path.{refl}
+use Rattle.kinds.specs.Kinds.{client-as}
+use borrow.Author.Needs.{needs}
+use Rattle.engine.proofs.operate.store_seen.Statement.{statement}
+use Rattle.engine.proofs.operate.store_seen.Tie as tie
+
+pub store-seen-spec : {M : Type 1} → statement M
+store-seen-spec = tie.close (tie.spec
+    (λ c κs. search needs)  -- client-at-requires
+    (λ c. search needs)  -- mul-at
+    (λ c. search needs)  -- sub-enter-seen
+    (λ c. search needs)  -- part-enter-seen-start
+    (λ c. search needs)  -- part-enter-seen-end
+    (λ c κs. search needs)  -- enter-seen-requires
+    (λ c. search needs)  -- same-length
+    (λ c. let a = c .before .before .before .before .before .before .before .args in let k = c .before .before .before .before .client-at in client-as (a .sizes) (a .client) (k .result) _ _ _ _ (search needs) (search needs) (search needs) (λ m. refl) (c .before .before .enter-seen .ensures))  -- returns
+    )

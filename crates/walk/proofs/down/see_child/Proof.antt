@@ -1,0 +1,12 @@
+use borrow.Author.Needs.{needs}
+use Rattle.walk.specs.Down.{kid-is}
+use Rattle.walk.proofs.down.see_child.Statement.{statement}
+use Rattle.walk.proofs.down.see_child.Tie as tie
+
+pub see-child-spec : {M : Type 1} → statement M
+see-child-spec = tie.close (tie.spec
+    (λ c κs. search needs)  -- see-node-requires
+    (λ c κs. search needs)  -- as-child-requires
+    (λ c. search needs)  -- same-length
+    (λ c. search (kid-is, needs))  -- returns
+    )

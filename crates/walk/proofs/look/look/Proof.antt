@@ -1,0 +1,20 @@
+use borrow.Author.Needs.{needs}
+use Rattle.walk.specs.Begin.{nothing-noted}
+use Rattle.walk.specs.Look.{look-by-number}
+use Rattle.walk.proofs.look.look.Statement.{statement}
+use Rattle.walk.proofs.look.look.Tie as tie
+
+pub look-spec : {M : Type 1} → statement M
+look-spec = tie.close (tie.spec
+    (λ c κs. search needs)  -- get-field-requires
+    (λ c κs. search needs)  -- get-field-requires-2
+    (λ c κs. search (nothing-noted, needs))  -- lookup-requires
+    (λ c κs. search (nothing-noted, needs))  -- near-requires
+    (λ c κs. search (nothing-noted, needs))  -- near-requires-2
+    (λ c. search needs)  -- same-length
+    (λ c. search (look-by-number, needs))  -- returns
+    (λ c. search needs)  -- same-length-2
+    (λ c. search (look-by-number, needs))  -- returns-2
+    (λ c. search needs)  -- same-length-3
+    (λ c. search (look-by-number, needs))  -- returns-3
+    )

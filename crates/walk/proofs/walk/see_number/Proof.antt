@@ -1,0 +1,16 @@
+use borrow.Author.Needs.{needs}
+use Rattle.walk.specs.Ask.{seen-exits}
+use Rattle.walk.proofs.walk.see_number.Statement.{statement}
+use Rattle.walk.proofs.walk.see_number.Tie as tie
+
+pub see-number-spec : {M : Type 1} → statement M
+see-number-spec = tie.close (tie.spec
+    (λ c κs. search needs)  -- find-own-requires
+    (λ c. search needs)  -- enum-known-f
+    (λ c κs. search (seen-exits, needs))  -- own-record-requires
+    (λ c. search needs)  -- enum-told
+    (λ c κs. search needs)  -- ask-number-requires
+    (λ c. search (seen-exits, needs))  -- returns
+    (λ c. search needs)  -- same-length
+    (λ c. search (seen-exits, needs))  -- returns-2
+    )
