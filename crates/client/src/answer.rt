@@ -1,7 +1,7 @@
 // What a lookup says.
 use nodes::node::Node;
 ghost use mathlib.Core.Path.{_≡_};
-ghost use Rattle.client.specs.Have.{here, copy, full, lacking, unfit, is-found, is-copied};
+ghost use Rattle.client.specs.Have.{here, copy, lacking, is-found, is-copied};
 
 // Here: in a set, or a copy already in use. Copied: a copy that is not in use yet. Full: a copy that would be object 97.
 // Lacking: to be fetched. Broken: out of range, or not in the store.
@@ -63,29 +63,11 @@ pub fn copy(node: Node) -> Look
     }
 }
 
-pub fn full(node: Node) -> Look
-    ensures { λ r. ⌜ r ≡ full node ⌝ }
-{
-    Look {
-        how: How::Full,
-        node,
-    }
-}
-
 pub fn lacking() -> Look
     ensures { λ r. ⌜ r ≡ lacking ⌝ }
 {
     Look {
         how: How::Lacking,
-        node: Node::free(0),
-    }
-}
-
-pub fn unfit() -> Look
-    ensures { λ r. ⌜ r ≡ unfit ⌝ }
-{
-    Look {
-        how: How::Broken,
         node: Node::free(0),
     }
 }
