@@ -1,26 +1,16 @@
 -- Two neighbours under one parent: the plan that turns to one of them, by the parent's entries.
-use mathlib.Core.Path.{_≡_, refl, sym, _∙_, ap}
+use mathlib.Core.Path.{_≡_}
 use mathlib.Core.Bool.{Bool, true, false, cond}
-use mathlib.Core.List.{List, [], _∷_, _++_}
-use mathlib.Core.Option.{some}
-use Prim.Native.Nat.{ℕ, zero, suc, _-_, _≤_, _<_}
-use native.Mathlib.Omega.{arith}
-use native.Mathlib.Decide.{ℕ-discrete, decLt}
-use native.Mathlib.Numerals.{add-one}
-use lib.Dec.{eqb}
-use lib.ListN.{length, take, drop, getD, set}
-use lib.Seq.{drop-cons, drop-length}
-use borrow.Author.Tests.{lt-ltb, le-ltb, eqb-true, eqb-false}
-use Rattle.base.specs.Test.{ifd, ifd-yes, ifd-no}
-use Rattle.plans.specs.Plan as P
-use Rattle.nodes.specs.Lists.{remove}
-use Rattle.nodes.specs.Node.{pair-at}
-use Rattle.operations.specs.Object.{no-tree, Ans, Writes}
+use mathlib.Core.List.{List, _++_}
+use Prim.Native.Nat.{ℕ, suc, _-_, _<_}
+use native.Mathlib.Decide.{decLt}
+use lib.ListN.{length, take, drop, getD}
+use Rattle.base.specs.Test.{ifd}
+use Rattle.operations.specs.Object.{Ans, Writes}
 use Rattle.operations.specs.Slot.{release}
 use Rattle.operations.specs.Entry.{Entries, mn}
-use Rattle.operations.specs.Path.{Plan, kid, Branch}
-use Rattle.operations.specs.Change.{Go, with-one, with-two, parted, unsnoc, merged, with-right, with-left, neighbour}
-use Rattle.walk.specs.Entries.{branch-of}
+use Rattle.operations.specs.Path.{Plan, Branch}
+use Rattle.operations.specs.Change.{Go, parted, merged}
 
 -- the branch to two neighbours, the left one of which is entry number j
 unfoldable pub pair-of : ℕ → ℕ → Entries → Branch
@@ -39,32 +29,6 @@ pub record Paired (count i j : ℕ) (last : Bool) : Type 0 where
   pub inside : j < count
   pub ends : last ≡ true → count ≡ suc j
 
-pub paired : (count i j : ℕ) (last : Bool) → i ≤ count → 0 < count → j ≡ pair-at count i → last ≡ eqb i count → Paired count i j last
-unfolding pair-at
-paired count i j last h one pj pl = go (eqb i count) refl
-  where
-    go : (b : Bool) → eqb i count ≡ b → Paired count i j last
-    go true e =
-        let c : i ≡ count = eqb-true i count e in
-        let t : last ≡ true = pl ∙ e in
-        let n : count ≤ i = omega arith in
-        let p : j ≡ i - 1 = rw (le-ltb i count n) at pj in
-        let q : i ≡ suc j = omega arith in
-        rw t (record { here = q; inside = omega arith; ends = λ _. omega arith })
-    go false e =
-        let c : i ≡ count → ⊥ = eqb-false i count e in
-        let n : i < count = omega arith in
-        let p : j ≡ i = rw (lt-ltb i count n) at pj in
-        rw (pl, e) (record { here = sym p; inside = omega arith; ends = λ t. let z : _≡_ {A = ℕ} 0 1 = cc in absurd (omega arith) })
-
-unsnoc-take : (j : ℕ) (E : Entries) → j < length E → unsnoc (take (suc j) E) ≡ some (take j E, getD E j (0, 0))
-unsnoc-take j [] h = absurd (omega arith)
-unsnoc-take zero (e ∷ E) h = refl
-unsnoc-take (suc j) (e ∷ E) h = rw (unsnoc-take j E (omega arith))
-
-drop-all : (n : ℕ) (E : Entries) → length E ≡ n → drop n E ≡ []
-drop-all n E e = rw (← e) (drop-length E)
-
 module _ (a : Ans) (l : ℕ) (fs : List Branch) (go : Go) where
   -- the two are c1 and c2; the one that turns has the entries es, its neighbour es2. "From 8 or more keys one moves over, in inner nodes
   -- through the parent; from 7 the two merge into the left one and the right is freed."
@@ -73,57 +37,3 @@ module _ (a : Ans) (l : ℕ) (fs : List Branch) (go : Go) where
       ifd (decLt (mn l) (length es2)) (parted go l w f c1 (take n es2) c2 (drop n es2 ++ es)) (release w c2 (λ w′. merged a l fs go w′ f c1 (es2 ++ es)))
   evened false w f c1 c2 es es2 =
       ifd (decLt (mn l) (length es2)) (parted go l w f c1 (es ++ take 1 es2) c2 (drop 1 es2)) (release w c2 (λ w′. merged a l fs go w′ f c1 (es ++ es2)))
-
-  module _ (w : Writes) (nm : ℕ) (E : Entries) (es : Entries) where
-    abbrev turning : ℕ → ℕ → Plan
-    turning i c = neighbour a l fs go w (branch-of nm i E) c es (branch-of nm i E .post)
-
-    -- "a node is its own neighbour": an only child
-    pub only-child : (c : ℕ) → length E ≡ 1 → turning 0 c ≡ P.fail no-tree
-    unfolding branch-of
-    only-child c e = rw (drop-all 1 E e)
-
-    module _ (j : ℕ) (h : suc j < length E) where
-      right-turn : (c : ℕ) → turning j c ≡ with-right a l fs go w (pair-of nm j E) c es (getD E (suc j) (0, 0) .0) (getD E (suc j) (0, 0) .1)
-      unfolding branch-of pair-of
-      right-turn c = rw (drop-cons E (suc j) (0, 0) h)
-
-      left-turn : (c : ℕ) → length E ≡ suc (suc j) → turning (suc j) c ≡ with-left a l fs go w (pair-of nm j E) c es (getD E j (0, 0) .1)
-      unfolding branch-of pair-of
-      left-turn c e = let n : j < length E = omega arith in rw (drop-all (suc (suc j)) E e, unsnoc-take j E n)
-
-      module _ (left right : ℕ) (pl : left ≡ getD E j (0, 0) .1) (pr : right ≡ getD E (suc j) (0, 0) .1) where
-        -- "a node is its own neighbour"
-        pub turns-to-itself : (last : Bool) → (last ≡ true → length E ≡ suc (suc j)) → left ≡ right → turning (own-side last j (suc j)) (own-side last left right) ≡ P.fail no-tree
-        turns-to-itself true e q = rw (left-turn right (e refl), ← pl) (ifd-yes (ℕ-discrete left right) _ _ q)
-        turns-to-itself false e q = rw (right-turn left, ← pr) (ifd-yes (ℕ-discrete right left) _ _ (sym q))
-
-        -- the plan of both sides
-        pub turns : (last : Bool) → (last ≡ true → length E ≡ suc (suc j)) → (left ≡ right → ⊥)
-            → turning (own-side last j (suc j)) (own-side last left right)
-            ≡ kid w l (getD E (far-side last j (suc j)) (0, 0) .0) (far-side last left right) (λ es2. evened last w (pair-of nm j E) left right es es2)
-        unfolding pair-of
-        turns true e d = rw (left-turn right (e refl), ← pl) (ifd-no (ℕ-discrete left right) _ _ d)
-        turns false e d = rw (right-turn left, ← pr) (ifd-no (ℕ-discrete right left) _ _ (λ q. d (sym q)))
-
--- the parent with another separator between the two, or without the right one
-module _ (nm j : ℕ) (E : Entries) (h : suc j < length E) where
-  pub key-between : (k left right : ℕ) → left ≡ getD E j (0, 0) .1 → right ≡ getD E (suc j) (0, 0) .1 → with-two (pair-of nm j E) left k right ≡ set E (suc j) (k, right)
-  unfolding pair-of
-  key-between k left right pl pr = rw pl (go j E h)
-    where
-      go : (j : ℕ) (E : Entries) → suc j < length E → take j E ++ (getD E j (0, 0) .0, getD E j (0, 0) .1) ∷ (k, right) ∷ drop (suc (suc j)) E ≡ set E (suc j) (k, right)
-      go j [] h = absurd (omega arith)
-      go j (e ∷ []) h = absurd (omega arith)
-      go zero (e ∷ f ∷ E) h = refl
-      go (suc j) (e ∷ f ∷ E) h = ap (λ (l : Entries). e ∷ l) (go j (f ∷ E) (omega arith))
-
-  pub right-out : (left : ℕ) → left ≡ getD E j (0, 0) .1 → with-one (pair-of nm j E) left ≡ remove (suc j) E
-  unfolding pair-of remove
-  right-out left pl = rw (pl, add-one (suc j)) (go j E h)
-    where
-      go : (j : ℕ) (E : Entries) → suc j < length E → take j E ++ (getD E j (0, 0) .0, getD E j (0, 0) .1) ∷ drop (suc (suc j)) E ≡ take (suc j) E ++ drop (suc (suc j)) E
-      go j [] h = absurd (omega arith)
-      go j (e ∷ []) h = absurd (omega arith)
-      go zero (e ∷ f ∷ E) h = refl
-      go (suc j) (e ∷ f ∷ E) h = ap (λ (l : Entries). e ∷ l) (go j (f ∷ E) (omega arith))

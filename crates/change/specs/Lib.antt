@@ -7,7 +7,6 @@ pub mod Split
 pub mod Grow
 -- a node left with 6 keys
 pub mod Beside
-pub mod Parts
 pub mod Lend
 pub mod Merge
 pub mod Neighbour
@@ -28,3 +27,5 @@ pub mod Migrate
 -- the last questions
 pub mod Fit
 pub mod Last
+-- laws and proofs
+pub mod Laws

@@ -1,5 +1,5 @@
 -- An operation walked to its end.
-use mathlib.Core.Path.{_≡_, sym, _∙_}
+use mathlib.Core.Path.{_≡_}
 use mathlib.Core.Bool.{true}
 use mathlib.Core.List.{List, []}
 use Prim.Native.Nat.{ℕ}
@@ -10,9 +10,9 @@ use Rattle.walk.specs.declared.walk.Stop.{Stop}
 use Rattle.client.specs.Layout.{ClientWord}
 use Rattle.client.specs.Lent.{used-in}
 use Rattle.walk.specs.Walk.{walked}
-use Rattle.walk.specs.Ask.{OwnKept, OwnGood, Holds, Noted}
+use Rattle.walk.specs.Ask.{OwnKept, Holds, Noted}
 use Rattle.change.specs.Mute.{stands}
-use Rattle.walk.specs.Lookup.{ended, ended-nothing, Walks}
+use Rattle.walk.specs.Lookup.{ended}
 
 -- from an empty lent list; with an answer the list holds the operation's writes
 pub record Operated (z : Sizes) (m : ClientWord → ℕ) (x u : List ℕ) (p : Plan) (s : Stop) (x′ u′ : List ℕ) : Type 0 where
@@ -21,13 +21,3 @@ pub record Operated (z : Sizes) (m : ClientWord → ℕ) (x u : List ℕ) (p : P
   pub holds : stands s ≡ true → Holds z x [] → Holds z x′ writes
   pub kept : stands s ≡ true → Holds z x [] → OwnKept x′
   pub noted : Noted m u′
-
--- one that writes nothing
-pub walks-operated : (z : Sizes) (m : ClientWord → ℕ) (x u : List ℕ) (p : Plan) (s : Stop) (u′ : List ℕ) → OwnGood x → Walks z m u p s u′ → Operated z m x u p s x u′
-walks-operated z m x u p s u′ g h = record {
-  writes = [];
-  same = λ hold. h .same ∙ sym (ended-nothing s (used-in u′));
-  holds = λ t hold. hold;
-  kept = λ t hold. record { fit = g .fit; few = g .few };
-  noted = h .noted;
-}

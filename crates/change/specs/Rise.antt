@@ -1,42 +1,35 @@
 -- Changes carried up from a leaf: nodes written, and what one level hands to the next.
-use mathlib.Core.Path.{_≡_, refl, sym, _∙_, ap}
+use mathlib.Core.Path.{_≡_}
 use mathlib.Core.Bool.{Bool, true, false, cond}
-use mathlib.Core.List.{List, [], _∷_, _++_, append-nil}
-use Prim.Native.Nat.{ℕ, zero, suc, _+_, _≤_, _<_}
-use native.Mathlib.Omega.{arith}
-use lib.ListN.{length, take, drop, getD}
-use lib.Seq.{length-take-le}
-use borrow.Author.Tests.{lt-ltb}
+use mathlib.Core.List.{List, [], _∷_, _++_}
+use Prim.Native.Nat.{ℕ, suc, _+_, _≤_}
+use lib.ListN.{getD}
 use Rattle.nodes.specs.declared.node.Node.{Node}
 use Rattle.nodes.specs.declared.change.Wide.{Wide}
 use Rattle.nodes.specs.declared.change.Halves.{Halves}
-use Rattle.nodes.specs.Lists.{pad}
-use Rattle.nodes.specs.Node.{extra, keysOf, slotsOf, made, keys-made, slots-made}
+use Rattle.nodes.specs.Node.{keysOf, slotsOf}
 use Rattle.nodes.specs.Entries.{entriesOf, wide-entries}
-use Rattle.nodes.specs.Change.{wide, with-version}
-use Rattle.nodes.specs.Kept.{Whole, whole, WholeWide}
-use Rattle.nodes.specs.StoredLaws.{Sized}
+use Rattle.nodes.specs.Change.{wide}
+use Rattle.nodes.specs.Kept.{Whole, WholeWide}
 use Rattle.operations.specs.Object.{node, Ans, Writes}
 use Rattle.operations.specs.Slot.{Sizes}
-use Rattle.operations.specs.Entry.{Entries, mk}
+use Rattle.operations.specs.Entry.{Entries}
 use Rattle.operations.specs.Arrays.{kind}
 use Rattle.operations.specs.Path.{Plan, Branch}
 use Rattle.operations.specs.Change.{Go, split, neighbour}
 use Rattle.change.specs.declared.rise.Risen.{Risen}
 use Rattle.walk.specs.declared.down.Turn.{Turn}
 use Rattle.walk.specs.declared.walk.Stop.{Stop}
-use Rattle.walk.specs.declared.walk.Stop.the-variants.{Going, LacksMeta, LacksNode, LacksVector, Refused, Aborts, Answers}
 use Rattle.client.specs.Layout.{ClientWord}
-use Rattle.client.specs.Record.{number, in-store, value-of, record-of}
-use Rattle.client.specs.Lent.{OwnFits, own-put, used-in}
-use Rattle.walk.specs.Walk.{Told, told, goes, walked}
+use Rattle.client.specs.Record.{in-store, value-of}
+use Rattle.client.specs.Lent.{used-in}
+use Rattle.walk.specs.Walk.{Told, goes, walked}
 use Rattle.walk.specs.Lookup.{ended}
 use Rattle.change.specs.Mute.{stands}
 use Rattle.walk.specs.Ask.{SmallNode, OwnKept, OwnGood, Holds, Noted}
-use Rattle.walk.specs.Write.{name-below, few-more, holds-more}
-use Rattle.walk.specs.Take.{Wrote, wrote}
-use Rattle.walk.specs.Entries.{opens, stored-node, branch-of}
-use Rattle.walk.specs.Down.{Followed, Link, stops-not}
+use Rattle.walk.specs.Take.{Wrote}
+use Rattle.walk.specs.Entries.{branch-of}
+use Rattle.walk.specs.Down.{Followed, Link}
 
 -- a node is written under its name
 pub record NodeWritten (x : List ℕ) (name : ℕ) (n : Node) (x′ : List ℕ) : Type 0 where
@@ -91,13 +84,6 @@ pub record Under (z : Sizes) (l c : ℕ) (b : Turn) : Type 0 where
   pub link : Link z l c b
   pub there : in-store z (b .name) ≡ true
 
-pub under-name : (z : Sizes) (l c : ℕ) (b : Turn) → z .servers ≤ 8 → Under z l c b → c < 8192
-under-name z l c b eight un = name-below z c eight (un .link .there)
-
--- room for the writes of one level
-pub level-room : (x : List ℕ) → getD x 0 0 ≤ 12 → getD x 0 0 < 20
-level-room x h = omega arith
-
 -- a node of level l
 pub record OfLevel (l : ℕ) (n : Node) : Type 0 where
   pub kind : n .kind ≡ kind l
@@ -117,48 +103,6 @@ split-plan z l b c es lo fs w go = let f = in-parent b lo in split z go l w f c 
 unfoldable pub neighbour-plan : Ans → ℕ → Turn → ℕ → (ℕ → Entries) → ℕ → List Branch → Writes → Go → Plan
 neighbour-plan a l b c es lo fs w go = let f = in-parent b lo in neighbour a l fs go w f c (es (f .key)) (f .post)
 
--- ---- a node is written
-module _ (x : List ℕ) (g : OwnGood x) (few : getD x 0 0 < 20) (name k : ℕ) (pk : k ≡ 1 + name) (n : Node) (lk : length (n .keys) ≡ 14) (ls : length (n .slots) ≡ 15) (h : n .count ≤ 14)
-    (q : Node) (pq : q ≡ with-version n 0) (qk : length (q .keys) ≡ 14) (qs : length (q .slots) ≡ 15) (x′ : List ℕ) (px : x′ ≡ own-put x k q) (f : OwnFits x′) where
-  again-value : value-of (node name) (with-version n 0) ≡ value-of (node name) n
-  unfolding with-version made
-  again-value =
-      let t : Whole n = whole n lk ls h in
-      let e : length (slotsOf n) ≡ length (keysOf n) + extra (n .kind) = omega (arith, t .keys, t .slots) in
-      rw (keys-made (n .kind) (n .level) 0 (keysOf n) (slotsOf n), slots-made (n .kind) (n .level) 0 (keysOf n) (slotsOf n) e)
-
-  again-count : with-version n 0 .count ≡ n .count
-  unfolding with-version made
-  again-count = whole n lk ls h .keys
-
-  again-level : with-version n 0 .level ≡ n .level
-  unfolding with-version made
-  again-level = refl
-
-  is-value : value-of (node name) q ≡ value-of (node name) n
-  is-value = ap (value-of (node name)) pq ∙ again-value
-
-  few-keys : q .count ≤ 14
-  few-keys = let e : q .count ≡ n .count = ap (λ (r : Node). r .count) pq ∙ again-count in omega arith
-
-  sized : Sized q
-  sized = record { keys = qk; slots = qs }
-
-  named : x′ ≡ own-put x (number (node name)) q
-  named = rw pk at px
-
-  is-record : q ≡ record-of 0 (value-of (node name) n)
-  unfolding with-version record-of
-  is-record = pq
-
-  pub node-written : NodeWritten x name n x′
-  node-written = record {
-    wrote = λ l. let e : q .level ≡ n .level = ap (λ (r : Node). r .level) pq ∙ again-level in
-        wrote x g few k q x′ px f qk qs (node name) (value-of (node name) n) pk is-value is-record (record { keys = few-keys; level = omega arith });
-    holds = λ z w eight t hold. rw named (holds-more z x w (node name) (value-of (node name) n) q eight g hold few t sized is-value is-record);
-    kept = rw named (record { fit = rw named at f; few = few-more x (node name) q g few sized few-keys });
-  }
-
 -- ---- two nodes are written
 -- two nodes of a level up to 4
 pub record Fitting (h : Halves) : Type 0 where
@@ -172,90 +116,6 @@ pub record BothWritten (x : List ℕ) (c d : ℕ) (h : Halves) (x′ : List ℕ)
   pub few : getD x′ 0 0 ≤ getD x 0 0 + 2
   pub kept : OwnKept x′
 
-module _ (x : List ℕ) (c d : ℕ) (h : Halves) (f : Fitting h) (x₁ : List ℕ) (p : NodeWritten x c (h .left) x₁) where
-  one : Wrote x (node c) (value-of (node c) (h .left)) x₁
-  one = p .wrote (f .left .level)
-
-  pub one-good : OwnGood x₁
-  one-good = one .good
-
-  pub one-room : getD x 0 0 < 19 → getD x₁ 0 0 < 20
-  one-room r = omega (arith, one .few)
-
-  pub both-written : (x₂ : List ℕ) → NodeWritten x₁ d (h .right) x₂ → BothWritten x c d h x₂
-  both-written x₂ q =
-      let two = q .wrote (f .right .level) in
-      record {
-        holds = λ z w eight s t hold. two .holds z ((node c, value-of (node c) (h .left)) ∷ w) eight t (one .holds z w eight s hold);
-        good = two .good;
-        few = omega (arith, one .few, two .few);
-        kept = q .kept;
-      }
-
-pub left-few : (h : Halves) → Fitting h → h .left .count ≤ 14
-left-few h f = f .left .keys
-
-pub right-few : (h : Halves) → Fitting h → h .right .count ≤ 14
-right-few h f = f .right .keys
-
-pub ruleset both-exits = (one-good, one-room, both-written, left-few, right-few)
-
 -- ---- a node as the content that goes up
 unfoldable pub widened : Node → Wide
 widened n = wide (n .kind) (n .level) (n .version) (keysOf n) (slotsOf n)
-
-pub widened-is : (n : Node) (e : ℕ) (ks ss : List ℕ) → length (n .keys) ≡ 14 → n .count ≤ 14 → e ≡ extra (n .kind)
-    → ks ≡ pad 32 (take (n .count) (n .keys) ++ take 0 (drop 0 (n .keys))) → ss ≡ pad 32 (take (n .count + e) (n .slots) ++ take 0 (drop 0 (n .slots)))
-    → _≡_ {A = Wide} (record { kind = n .kind; level = n .level; version = n .version; count = n .count; keys = ks; slots = ss }) (widened n)
-unfolding widened wide keysOf slotsOf
-widened-is n e ks ss l h pe pk ps =
-    let c : length (take (n .count) (n .keys)) ≡ n .count = length-take-le (n .count) (n .keys) (omega arith) in
-    rw (pk, ps, pe, append-nil (take (n .count) (n .keys)), append-nil (take (n .count + extra (n .kind)) (n .slots)), c)
-
--- ---- a node of level l as it is written
-of-level-open : (l : ℕ) (n : Node) → OfLevel l n → opens n ≡ true
-unfolding opens
-of-level-open zero n h = rw (h .kind, h .level)
-of-level-open (suc l) n h = let p : 0 < suc l = omega arith in rw (h .kind, h .level, lt-ltb 0 (suc l) p)
-
-pub of-level-value : (l : ℕ) (n : Node) (lo x : ℕ) → OfLevel l n → mk l (entriesOf n lo) ≡ value-of (node x) n
-of-level-value l n lo x h = ap (λ (j : ℕ). mk j (entriesOf n lo)) (sym (h .level)) ∙ stored-node n lo x (h .whole) (of-level-open l n h)
-
--- ---- a level that a question stops
-stopped-told : (s : Stop) (us : List ℕ) (w : Writes) → stands s ≡ false → ended s us w ≡ told s us
-stopped-told Going us w h = refl
-stopped-told LacksMeta us w h = refl
-stopped-told (LacksNode n) us w h = refl
-stopped-told (LacksVector n) us w h = refl
-stopped-told Refused us w h = refl
-stopped-told (Aborts r) us w h = refl
-stopped-told (Answers a b) us w h = let e : true ≡ false = h in let z : _≡_ {A = ℕ} 0 1 = cc in absurd (omega arith)
-
-stands-not : (s : Stop) {A : Type 0} → stands s ≡ false → stands s ≡ true → A
-stands-not s p q = let e : false ≡ true = sym p ∙ q in let z : _≡_ {A = ℕ} 0 1 = cc in absurd (omega arith)
-
--- some plan that never answers ends as the level does
-pub stopped-raised : (z : Sizes) (m : ClientWord → ℕ) (x u : List ℕ) (l : ℕ) (root : Bool) (plan : ℕ → List Branch → Writes → Go → Plan) (r : Risen) (x′ u′ : List ℕ) → goes (r .stop) ≡ false
-    → ((w : Writes) → Holds z x w → stands (r .stop) ≡ false)
-    → ((w : Writes) → Holds z x w → (lo : ℕ) (fs : List Branch) → is-root fs ≡ root → (go : Go) → walked z m (plan lo fs w go) (used-in u) ≡ told (r .stop) (used-in u′))
-    → Noted m u′ → Raised z m x u l root plan r x′ u′
-stopped-raised z m x u l root plan r x′ u′ halts mute same noted = record {
-  more = [];
-  same = λ w hold lo fs e go. rw halts (same w hold lo fs e go ∙ sym (stopped-told (r .stop) (used-in u′) w (mute w hold)));
-  holds = λ t w hold. stands-not (r .stop) (mute w hold) t;
-  kept = λ t w hold. stands-not (r .stop) (mute w hold) t;
-  good = λ t. stops-not (r .stop) halts t;
-  few = λ t. stops-not (r .stop) halts t;
-  content = λ t. stops-not (r .stop) halts t;
-  noted = noted;
-}
-
-pub stopped-closed : (z : Sizes) (m : ClientWord → ℕ) (x u : List ℕ) (plan : Writes → Plan) (s : Stop) (x′ u′ : List ℕ) → ((w : Writes) → Holds z x w → stands s ≡ false)
-    → ((w : Writes) → Holds z x w → walked z m (plan w) (used-in u) ≡ told s (used-in u′)) → Noted m u′ → Closed z m x u plan s x′ u′
-stopped-closed z m x u plan s x′ u′ mute same noted = record {
-  more = [];
-  same = λ w hold. same w hold ∙ sym (stopped-told s (used-in u′) w (mute w hold));
-  holds = λ t w hold. stands-not s (mute w hold) t;
-  kept = λ t w hold. stands-not s (mute w hold) t;
-  noted = noted;
-}

@@ -1,35 +1,16 @@
 -- The work step of an operation that writes: it is walked, then come the last questions.
-use mathlib.Core.Path.{_≡_, refl, sym, _∙_, ap}
-use mathlib.Core.Bool.{Bool, true, false, cond, not}
-use mathlib.Core.List.{List, []}
-use Prim.Native.Nat.{ℕ, zero, suc, _+_, _≤_}
-use native.Mathlib.Omega.{arith}
-use lib.Dec.{eqb, ltb}
+use mathlib.Core.Path.{_≡_}
+use mathlib.Core.List.{List}
+use Prim.Native.Nat.{ℕ, _≤_}
 use lib.ListN.{length, getD}
-use borrow.Author.Tests.{not-true, not-false, eq-eqb, ne-eqb}
 use Rattle.operations.specs.Object.{Ans, Writes}
 use Rattle.operations.specs.Slot.{Sizes}
-use Rattle.operations.specs.Path.{Plan}
-use Rattle.operations.specs.Change.{insert-plan, delete-plan}
-use Rattle.operations.specs.Migrate.{migrate-plan}
-use Rattle.operations.specs.Operation.{reading, all-fit?}
-use Rattle.client.specs.Layout.{ClientWord, op-number, op-key, op-value, op-server, writes-count}
-use Rattle.client.specs.Lent.{OwnFits, own-list, used-in}
+use Rattle.client.specs.Layout.{ClientWord}
+use Rattle.client.specs.Lent.{OwnFits, own-list}
 use Rattle.client.specs.Answered.{entered}
-use Rattle.client.specs.Work as C
-use Rattle.client.specs.Work.{aborted, answers, waiting, count-new, any-at-last, last-questions, worked}
+use Rattle.client.specs.Work.{answers, worked}
 use Rattle.walk.specs.declared.walk.Stop.{Stop}
-use Rattle.walk.specs.declared.walk.Stop.the-variants.{Going, LacksMeta, LacksNode, LacksVector, Refused, Aborts, Answers}
-use Rattle.walk.specs.Walk.{Told, is-answer, tell, walked}
-use Rattle.walk.specs.Ask.{OwnKept, OwnGood, Holds, Noted, nothing-good, nothing-held}
-use Rattle.walk.specs.Begin.{nothing-used, nothing-noted}
-use Rattle.walk.specs.Lookup.{ended}
-use Rattle.walk.specs.Stopped.{Waiting, stop-of, Stopped, noted-in-use, R, run-is, never, told-used, Given, stops, given}
-use Rattle.walk.specs.Look.{only-reads}
-use Rattle.change.specs.Mute.{stands}
-use Rattle.change.specs.Operated.{Operated}
-use Rattle.change.specs.Fit.{entries-fit, all-fit-entries}
-use Rattle.change.specs.Last.{last-reason}
+use Rattle.walk.specs.Stopped.{Stopped}
 
 -- both lists are empty
 pub record Ready (x u : List ℕ) : Type 0 where
@@ -43,129 +24,3 @@ pub record Works (z : Sizes) (m : ClientWord → ℕ) (s : Stop) (x u : List ℕ
   pub stopped : Stopped z m s u
   pub own : (a : Ans) (w : Writes) → worked z m ≡ answers a w → own-list x ≡ entered w
   pub fits : (a : Ans) (w : Writes) → worked z m ≡ answers a w → OwnFits x
-
--- ---- the last questions, by their reason
-pub last-is : (z : Sizes) (m : ClientWord → ℕ) (a : Ans) (w : Writes) → all-fit? w w ≡ entries-fit (entered w)
-    → last-questions z m a w ≡ cond (eqb (last-reason m (entered w)) 0) (answers a w) (aborted (last-reason m (entered w)))
-unfolding last-reason
-last-is z m a w e = go (entries-fit (entered w)) refl (ltb 48 (m writes-count + count-new m (entered w))) refl (any-at-last m (entered w)) refl
-  where
-    go : (b : Bool) → entries-fit (entered w) ≡ b → (c : Bool) → ltb 48 (m writes-count + count-new m (entered w)) ≡ c → (d : Bool) → any-at-last m (entered w) ≡ d
-        → last-questions z m a w ≡ cond (eqb (last-reason m (entered w)) 0) (answers a w) (aborted (last-reason m (entered w)))
-    go false p c q d r = rw (e, last-reason, p)
-    go true p true q d r = rw (e, last-reason, p, q)
-    go true p false q true r = rw (e, last-reason, p, q, r)
-    go true p false q false r = rw (e, last-reason, p, q, r)
-
--- ---- the ways out of the work step
-module _ (z : Sizes) (m : ClientWord → ℕ) (eight : z .servers ≤ 8) (wait : Waiting m) (x u : List ℕ) (ready : Ready x u) (s : Stop) (x′ u′ : List ℕ)
-    (o : Operated z m x u (reading z (waiting m)) s x′ u′) (b : Bool) (pb : b ≡ is-answer s) where
-  empty : Holds z x []
-  empty = nothing-held x (ready .own-none) z
-
-  tells : tell z m (R z m (wait .reads) .how) (R z m (wait .reads) .used) ≡ ended s (used-in u′) (o .writes)
-  tells = sym (run-is z m (wait .reads)) ∙ ap (walked z m (reading z (waiting m))) (sym (nothing-used m u (ready .used-none))) ∙ o .same empty
-
-  used-are : used-in u′ ≡ C.walked z m .used
-  used-are = sym (ap (λ (k : Told). k .used) tells) ∙ told-used z m (R z m (wait .reads) .how) (R z m (wait .reads) .used)
-
-  stopped-as : (t : Stop) → t ≡ stop-of (worked z m) → Stopped z m t u′
-  stopped-as t e = record { stop = e; used = used-are; in-use = noted-in-use m u′ (o .noted) }
-
-  pub work-stops : not b ≡ true → Works z m s x′ u′
-  unfolding worked
-  work-stops nb =
-      let no : is-answer s ≡ false = sym pb ∙ not-true b nb in
-      let e : s ≡ stop-of (worked z m) = stops z m s (R z m (wait .reads) .used) (used-in u′) (o .writes) (R z m (wait .reads) .how) tells no in
-      record {
-        stopped = stopped-as s (e);
-        own = λ a w p. never s (Answers (a .0) (a .1)) (e ∙ rw p) no refl;
-        fits = λ a w p. never s (Answers (a .0) (a .1)) (e ∙ rw p) no refl;
-      }
-
-  module _ (nb : not b ≡ false) where
-    yes-answer : is-answer s ≡ true
-    yes-answer = sym pb ∙ not-false b nb
-
-    stand : (s : Stop) → is-answer s ≡ true → stands s ≡ true
-    stand Going n = refl
-    stand LacksMeta n = n
-    stand (LacksNode k) n = n
-    stand (LacksVector k) n = n
-    stand Refused n = n
-    stand (Aborts r) n = n
-    stand (Answers c d) n = refl
-
-    held : Holds z x′ (o .writes)
-    held = o .holds (stand s yes-answer) empty
-
-    pub own-kept : OwnKept x′
-    own-kept = o .kept (stand s yes-answer) empty
-
-    given-is : Given z m (R z m (wait .reads) .how) s (o .writes)
-    given-is = given z m s (R z m (wait .reads) .used) (used-in u′) (o .writes) (R z m (wait .reads) .how) tells yes-answer
-
-    worked-is : worked z m ≡ cond (eqb (last-reason m (own-list x′)) 0) (answers (given-is .answer) (o .writes)) (aborted (last-reason m (own-list x′)))
-    unfolding worked
-    worked-is = rw (given-is .is, held .entries) (last-is z m (given-is .answer) (o .writes) (all-fit-entries z eight (o .writes) (held .out)))
-
-    module _ (r : ℕ) (pr : r ≡ last-reason m (own-list x′)) where
-      pub work-aborts : (r ≡ 0 → ⊥) → Works z m (Aborts r) x′ u′
-      work-aborts d =
-          let e : worked z m ≡ aborted r = rw (worked-is, ← pr, ne-eqb r 0 d) in
-          record {
-            stopped = stopped-as (Aborts r) (rw e);
-            own = λ a w p. never (Aborts r) (Answers (a .0) (a .1)) (ap stop-of (sym e ∙ p)) refl refl;
-            fits = λ a w p. own-kept .fit;
-          }
-
-      pub work-answers : r ≡ 0 → Works z m s x′ u′
-      work-answers d =
-          let e : worked z m ≡ answers (given-is .answer) (o .writes) = rw (worked-is, ← pr, eq-eqb r 0 d) in
-          record {
-            stopped = stopped-as s (given-is .stop ∙ rw e);
-            own = λ a w p. let q : answers (given-is .answer) (o .writes) ≡ answers a w = sym e ∙ p in let v : o .writes ≡ w = cc in held .entries ∙ rw v;
-            fits = λ a w p. own-kept .fit;
-          }
-
-pub ruleset work-exits = (work-stops, own-kept, work-aborts, work-answers)
-
--- ---- by the operation's number
-only-six : (n : ℕ) → (n ≡ 0 → ⊥) → n ≤ 6 → only-reads n ≡ false → (n ≡ 1 → ⊥) → (n ≡ 3 → ⊥) → n ≡ 6
-only-six zero n₀ h r n₁ n₃ = absurd (n₀ refl)
-only-six (suc zero) n₀ h r n₁ n₃ = absurd (n₁ refl)
-only-six (suc (suc zero)) n₀ h r n₁ n₃ = cc
-only-six (suc (suc (suc zero))) n₀ h r n₁ n₃ = absurd (n₃ refl)
-only-six (suc (suc (suc (suc zero)))) n₀ h r n₁ n₃ = cc
-only-six (suc (suc (suc (suc (suc zero))))) n₀ h r n₁ n₃ = cc
-only-six (suc (suc (suc (suc (suc (suc n)))))) n₀ h r n₁ n₃ = omega arith
-
-module _ (z : Sizes) (m : ClientWord → ℕ) (x u : List ℕ) (s : Stop) (x′ u′ : List ℕ) (op key : ℕ) (po : op ≡ m op-number) (pk : key ≡ m op-key) where
-  abbrev By : Plan → Type 0
-  By p = Operated z m x u p s x′ u′
-
-  by-plan : (p : Plan) → reading z (waiting m) ≡ p → By p → By (reading z (waiting m))
-  by-plan p e h = rw e h
-
-  pub by-insert : (value : ℕ) → op ≡ 1 → value ≡ m op-value → By (insert-plan z key value) → By (reading z (waiting m))
-  by-insert value e pv h = let q : m op-number ≡ 1 = sym po ∙ e in by-plan (insert-plan z key value) (rw (q, pk, pv)) h
-
-  pub by-delete : op ≡ 3 → By (delete-plan z key) → By (reading z (waiting m))
-  by-delete e h = let q : m op-number ≡ 3 = sym po ∙ e in by-plan (delete-plan z key) (rw (q, pk)) h
-
-  -- no other number is left
-  module _ (wait : Waiting m) (writes : only-reads (m op-number) ≡ false) (n₁ : op ≡ 1 → ⊥) (n₃ : op ≡ 3 → ⊥) where
-    six : m op-number ≡ 6
-    six = only-six (m op-number) (wait .some) (wait .known) writes (λ q. n₁ (po ∙ q)) (λ q. n₃ (po ∙ q))
-
-    pub by-migrate : (server : ℕ) → server ≡ m op-server → By (migrate-plan z key server) → By (reading z (waiting m))
-    by-migrate server pv h = by-plan (migrate-plan z key server) (rw (six, pk, pv)) h
-
-pub ruleset by-number = (by-insert, by-delete, by-migrate)
-
--- ---- what the parts of the work step ask for
-pub ready-good : (x u : List ℕ) → Ready x u → OwnGood x
-ready-good x u h = nothing-good x (h .own-none) (h .own-long)
-
-pub ready-noted : (m : ClientWord → ℕ) (x u : List ℕ) → Ready x u → Noted m u
-ready-noted m x u h = nothing-noted m u (h .used-none) (h .used-long)

@@ -9,8 +9,7 @@ use Rattle.nodes.specs.declared.found.Found.{Found}
 use Rattle.nodes.specs.declared.found.Found.the-variants.{At, Absent}
 use Rattle.nodes.specs.Node.{free-node}
 use Rattle.nodes.specs.Name.{server-of, slot-of}
-use Rattle.nodes.specs.Flags as N
-use Rattle.operations.specs.Object.{Obj, node, flag, Ask, object, vector, fetched, Val, flags}
+use Rattle.operations.specs.Object.{Obj, node, Ask, object, vector, fetched, Val, flags}
 use Rattle.operations.specs.Slot.{Sizes}
 use Rattle.client.specs.declared.answer.How.{How}
 use Rattle.client.specs.declared.answer.How.the-variants.{Here, Copied, Full, Lacking, Broken}
@@ -20,6 +19,7 @@ use Rattle.client.specs.Layout.{ClientWord, vector-word, meta-copied, me
 use Rattle.client.specs.Record.{number, by-number, value-of, single, object-in-store, fits}
 use Rattle.client.specs.Sets.{record-at, find}
 use Rattle.client.specs.Vectors.{has-vector, seen-words, is-fetched}
+use Rattle.nodes.specs.Flags as N
 
 -- what a lookup says: in a set; a copy; a copy for which there is no room in the read set; to be fetched; out of range
 abbrev pub here : Node → Look
@@ -28,14 +28,8 @@ here r = record { how = Here; node = r }
 abbrev pub copy : Node → Look
 copy r = record { how = Copied; node = r }
 
-abbrev pub full : Node → Look
-full r = record { how = Full; node = r }
-
 abbrev pub lacking : Look
 lacking = record { how = Lacking; node = free-node 0 }
-
-abbrev pub unfit : Look
-unfit = record { how = Broken; node = free-node 0 }
 
 abbrev pub is-found : How → Bool
 is-found Here = true

@@ -3,7 +3,7 @@ use mathlib.Core.Path.{_≡_, refl}
 use mathlib.Core.List.{List, [], _∷_}
 use Prim.Native.Nat.{ℕ}
 use lib.ListN.{getD}
-use Rattle.layout.specs.Block.{Block, words, times, next, end, size}
+use Rattle.layout.specs.Block.{Block, words, times, next, end}
 use Rattle.layout.specs.Space.{Coding}
 use Rattle.client.specs.declared.part.Set.{Set}
 use Rattle.client.specs.declared.part.Set.the-variants.{Reads, Writes, Copies}
@@ -105,7 +105,3 @@ client-again (vector-word s j) = refl
 
 abbrev pub client-words : Coding ClientWord
 client-words = record { code = client-code; back = client-back; again = client-again }
-
--- "the length that given sizes call for": a client's part has the same for all sizes
-unfoldable pub client-size : ℕ
-client-size = size client-block

@@ -3,7 +3,6 @@
 -- DEFINITIONS
 -- the part's layout; nodes in words; objects as numbers and their records
 pub mod Layout
-pub mod Words
 pub mod Record
 -- the read set, the write set, the copies; a step of the part as a list of stores
 pub mod Sets
@@ -14,7 +13,6 @@ pub mod Have
 pub mod Run
 -- the lists that a walk is lent: own writes, copies in use; a lookup over them
 pub mod Lent
-pub mod Look
 -- objects enter the sets; copies kept and dropped; what is fetched
 pub mod Enter
 pub mod Copies
@@ -32,19 +30,5 @@ pub mod Course
 -- what enters the sets with the answer; the work step
 pub mod Answered
 pub mod Work
--- the definitions tried on closed examples
-pub mod Samples
--- LAWS, a file for each subject
-pub mod PartLaws
-pub mod FindLaws
-pub mod LentLaws
-pub mod LookLaws
-pub mod StepLaws
-pub mod VectorLaws
-pub mod EnterLaws
-pub mod CopiesLaws
-pub mod ItemLaws
-pub mod CommitLaws
-pub mod FitsLaws
-pub mod RenewLaws
-pub mod GoodSteps
+-- laws and proofs
+pub mod Laws

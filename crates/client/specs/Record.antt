@@ -1,9 +1,7 @@
 -- Objects as numbers, and their values as records of a node's form.
-use mathlib.Core.Path.{_≡_, sym, _∙_}
-use mathlib.Core.Bool.{Bool, true, false, cond, _&&_, not}
+use mathlib.Core.Bool.{Bool, true, cond, _&&_}
 use mathlib.Core.List.{[], _∷_}
 use Prim.Native.Nat.{ℕ, _+_, _-_}
-use borrow.Author.Tests.{not-true, not-false}
 use lib.Dec.{eqb, leb, ltb}
 use lib.ListN.{getD}
 use Rattle.nodes.specs.declared.node.Node.{Node}
@@ -69,13 +67,3 @@ last-version = 4294967295
 unfoldable pub fits : Sizes → ℕ → Node → Bool
 fits z x r =
     by-number x (in-store z (first-slot r) && leb (r .version) last-version) (λ n. in-range r) (λ n. leb (first-slot r) 1)
-
--- ---- laws
-module _ (z : Sizes) (x : ℕ) (n : Node) (b : Bool) (e : x ≡ 0) (p : b ≡ in-store z (first-slot n)) where
-  pub root-astray : not b ≡ true → false ≡ fits z x n
-  unfolding fits
-  root-astray t = let q : in-store z (first-slot n) ≡ false = sym p ∙ not-true b t in rw (e, q)
-
-  pub root-there : not b ≡ false → leb (n .version) 4294967295 ≡ fits z x n
-  unfolding fits
-  root-there t = let q : in-store z (first-slot n) ≡ true = sym p ∙ not-false b t in rw (e, q)

@@ -5,10 +5,10 @@ use mathlib.Core.Option.{Option, none, some}
 use Prim.Native.Nat.{ℕ}
 use lib.Dec.{eqb, ltb}
 use lib.ListN.{length}
-use Rattle.plans.specs.Plan as P
 use Rattle.operations.specs.Object.{Ask, object, vector, fetched, Val, reason, Ans, Writes}
 use Rattle.operations.specs.Path.{Plan}
 use Rattle.client.specs.Record.{number}
+use Rattle.plans.specs.Plan as P
 
 -- how a work step ends: the first thing lacking; an abort's reason; the answer with the operation's writes
 pub data End : Type 0 where

@@ -1,43 +1,27 @@
--- Laws of a fetch's check: "A fetch checks at that server what the transaction has read".
-use mathlib.Core.Path.{_≡_, refl, sym, ap, ap₂, _∙_, subst}
-use mathlib.Core.Bool.{Bool, true, false, cond, _&&_, _||_, not}
-use mathlib.Core.List.{List, [], _∷_, _++_, map, map-append, append-assoc, append-nil}
-use mathlib.Core.Option.{Option}
-use Prim.Native.Nat.{ℕ, zero, suc, _+_, _-_, _*_, _≤_, _<_}
-use native.Mathlib.Omega.{arith}
-use native.Mathlib.Numerals.{add-one}
-use borrow.Author.Tests.{eq-eqb, ne-eqb, lt-ltb, le-ltb, le-leb, lt-leb}
-use borrow.Rule.Slice.PartMut.{midOf}
+-- A fetch's check, as code makes it: "A fetch checks at that server what the transaction has read".
+use mathlib.Core.Bool.{Bool, cond, _||_, not}
+use mathlib.Core.List.{List, map}
+use Prim.Native.Nat.{ℕ, _+_, _-_, _≤_, _<_}
 use lib.Dec.{eqb, leb, ltb}
-use lib.ListN.{length, getD, take, drop}
-use lib.Seq.{getD-take, getD-drop}
+use lib.ListN.{length, getD}
 use Rattle.memory.specs.Word.{view}
-use Rattle.server.specs.declared.object.Object.{Object}
 use Rattle.server.specs.declared.lock.Use.the-variants.{Fetch}
 use Rattle.server.specs.Object.{object-of, Has}
 use Rattle.server.specs.Check.{can-check, checked, held, reason}
-use Rattle.client.specs.declared.answer.Look.{Look}
 use Rattle.client.specs.declared.part.Set.the-variants.{Reads}
 use Rattle.client.specs.Layout.{ClientWord, reads-count}
-use Rattle.client.specs.Sets as sets
 use Rattle.client.specs.Sets.{count}
-use Rattle.client.specs.Items.{all-below}
 use Rattle.client.specs.Have.{copied}
 use Rattle.client.specs.Lent.{InUse, used-in}
-use Rattle.client.specs.LentLaws.{length-used}
 use Rattle.steps.specs.declared.sizes.Sizes.{Sizes}
-use Rattle.kinds.specs.declared.items.Item as code
-use Rattle.kinds.specs.declared.findings.Fault as code-fault
 use Rattle.kinds.specs.declared.fetch.Verdict.{Verdict}
 use Rattle.kinds.specs.declared.fetch.Verdict.the-variants.{Unfit, Fault, Clear}
-use Rattle.steps.specs.Whole.{client-at}
-use Rattle.steps.specs.Uses.{Item, each, those, all, item-of, read-items, used-items, object, least, reason-of, deciding}
+use Rattle.steps.specs.Uses.{Item, all, item-of, object, deciding}
 use Rattle.steps.specs.Judge.{check-fits}
 use Rattle.steps.specs.Steps.{fetch-items, fetch-finding}
-use Rattle.kinds.specs.Parts.{Holds, stored-in, client-lent}
-use Rattle.kinds.specs.Items.{as-item, read-item}
-use Rattle.kinds.specs.Judge.{of-client, of-server, lock-at, none-passed, one-passed, one-fails, all-passed}
-use Rattle.kinds.specs.Findings.{fault, as-fault, later, least-later, reason-again}
+use Rattle.kinds.specs.Parts.{Holds, stored-in}
+use Rattle.kinds.specs.Items.{read-item}
+use Rattle.kinds.specs.Judge.{of-client, of-server, lock-at}
 
 -- a copy in use, as an object read
 unfoldable pub used-item : (ClientWord → ℕ) → ℕ → Item
@@ -61,7 +45,7 @@ pub record Checking (z : Sizes) (b : List ℕ) (c s : ℕ) (u : List ℕ) : Type
   pub known : AllKnown z (view b) c (used-in u)
 
 -- can the server s check the item
-abbrev checks : ℕ → Item → Bool
+abbrev pub checks : ℕ → Item → Bool
 checks s i = can-check s (object i) (i .inner-read)
 
 unfoldable pub check-item : Sizes → List ℕ → ℕ → Item → Bool
@@ -77,204 +61,6 @@ items-fit z w c s us = all (check-fits z (stored-in z w) s) (fetch-items z (stor
 unfoldable pub items-found : Sizes → List ℕ → ℕ → ℕ → List ℕ → ℕ
 items-found z w c s us = deciding (map (fetch-finding z (stored-in z w) c us s) (fetch-items z (stored-in z w) c us s))
 
--- ---- items by their number in the list
-module _ {A : Type 0} where
-  each-same : (n : ℕ) (f g : ℕ → A) → ((i : ℕ) → i < n → f i ≡ g i) → each n f ≡ each n g
-  unfolding each
-  each-same zero f g e = refl
-  each-same (suc n) f g e = rw (each-same n f g (λ i l. e i (omega arith)), e n (omega arith))
-
-  each-more : (n k : ℕ) (f : ℕ → A) → each n f ++ each k (λ i. f (n + i)) ≡ each (n + k) f
-  unfolding each
-  each-more n zero f = let e : n + 0 ≡ n = omega arith in rw e (append-nil (each n f))
-  each-more n (suc k) f =
-      let e : n + suc k ≡ suc (n + k) = omega arith in
-      rw e (sym (append-assoc (each n f) (each k (λ i. f (n + i))) (f (n + k) ∷ [])) ∙ ap (λ (l : List A). l ++ (f (n + k) ∷ [])) (each-more n k f))
-
-  each-first : (n : ℕ) (f : ℕ → A) → f 0 ∷ each n (λ i. f (suc i)) ≡ each (suc n) f
-  unfolding each
-  each-first zero f = refl
-  each-first (suc n) f = ap (λ (l : List A). l ++ (f (suc n) ∷ [])) (each-first n f)
-
-  map-each : (g : ℕ → A) (us : List ℕ) → map g us ≡ each (length us) (λ i. g (getD us i 0))
-  unfolding each
-  map-each g [] = refl
-  map-each g (x ∷ us) = ap (λ (l : List A). g x ∷ l) (map-each g us) ∙ each-first (length us) (λ i. g (getD (x ∷ us) i 0))
-
-module _ (m : ClientWord → ℕ) (us : List ℕ) where
-  pub known-read : (i : ℕ) → i < count m Reads → read-item m i ≡ known-at m us i
-  unfolding known-at
-  known-read i h = sym (rw (lt-ltb i (count m Reads) h))
-
-  known-used : (i : ℕ) → used-item m (getD us i 0) ≡ known-at m us (count m Reads + i)
-  unfolding known-at
-  known-used i =
-      let l : count m Reads ≤ count m Reads + i = omega arith in
-      let e : count m Reads + i - count m Reads ≡ i = omega arith in
-      sym (rw (le-ltb (count m Reads + i) (count m Reads) l, e))
-
-  known-items : read-items m ++ used-items m us ≡ each (count m Reads + length us) (known-at m us)
-  unfolding read-items used-items read-item used-item
-  known-items =
-      ap₂ (λ (a b : List Item). a ++ b)
-      (each-same (count m Reads) (λ i. read-item m i) (known-at m us) known-read)
-      (map-each (λ x. used-item m x) us ∙ each-same (length us) (λ i. used-item m (getD us i 0)) (λ i. known-at m us (count m Reads + i)) (λ i l. known-used i))
-      ∙ each-more (count m Reads) (length us) (known-at m us)
-
-and-true : (b : Bool) → (b && true) ≡ b
-and-true true = refl
-and-true false = refl
-
-and-more : (a b c d : Bool) → b ≡ (c && d) → (a && b) ≡ ((a && c) && d)
-and-more true b c d h = h
-and-more false b c d h = refl
-
--- ---- a test, and a reason, of those that the server can check
-module _ (g : Item → Bool) where
-  all-snoc : (f : Item → Bool) (l : List Item) (a : Item) → all f (those g (l ++ (a ∷ []))) ≡ (all f (those g l) && (not (g a) || f a))
-  unfolding all those
-  all-snoc f [] a = go (g a) (f a)
-    where
-      go : (b d : Bool) → all f (cond b (a ∷ []) []) ≡ (not b || f a)
-      go true d = and-true (f a)
-      go false d = refl
-  all-snoc f (e ∷ l) a = go (g e) (f e) (all-snoc f l a)
-    where
-      go : (b d : Bool) → all f (those g (l ++ (a ∷ []))) ≡ (all f (those g l) && (not (g a) || f a))
-          → all f (cond b (e ∷ those g (l ++ (a ∷ []))) (those g (l ++ (a ∷ [])))) ≡ (all f (cond b (e ∷ those g l) (those g l)) && (not (g a) || f a))
-      go true d h = and-more (f e) (all f (those g (l ++ (a ∷ [])))) (all f (those g l)) (not (g a) || f a) h
-      go false d h = h
-
-  all-each : (f : Item → Bool) (h : ℕ → Item) (n : ℕ) → all f (those g (each n h)) ≡ all-below n (λ i. not (g (h i)) || f (h i))
-  unfolding all those each all-below
-  all-each f h zero = refl
-  all-each f h (suc n) = all-snoc f (each n h) (h n) ∙ rw (all-each f h n)
-
-  least-those : (f : Item → ℕ) (l : List Item) → least (map (λ i. (i .number, f i)) (those g l)) ≡ least (map (λ i. (i .number, cond (g i) (f i) 0)) l)
-  unfolding least those
-  least-those f [] = refl
-  least-those f (a ∷ l) = go (g a) (least-those f l)
-    where
-      go : (b : Bool) → least (map (λ i. (i .number, f i)) (those g l)) ≡ least (map (λ i. (i .number, cond (g i) (f i) 0)) l)
-          → least (map (λ i. (i .number, f i)) (cond b (a ∷ those g l) (those g l)))
-          ≡ least ((a .number, cond b (f a) 0) ∷ map (λ i. (i .number, cond (g i) (f i) 0)) l)
-      go true h = rw h
-      go false h = h
-
--- ---- the parts of the code
-pub used-lent : (z : Sizes) (b : List ℕ) (c k x : ℕ) (r : Item) → Holds z (length b) → c < z .clients → k ≡ client-at z c
-    → r ≡ used-item (sets.held (midOf (8 * k) (length b - 8 * k) b)) x → r ≡ used-item (of-client z (view b) c) x
-unfolding sets.held
-used-lent z b c k x r l h e q = q ∙ ap (λ (m : ClientWord → ℕ). used-item m x) (client-lent z c k b h e (l .room))
-
-pub used-by : (m : ClientWord → ℕ) (x : ℕ) (l : Look) (r : Item) → l ≡ copied m x → r ≡ item-of m x (l .node) → r ≡ used-item m x
-unfolding used-item
-used-by m x l r e q = q ∙ rw e
-
-module _ (m : ClientWord → ℕ) (u : List ℕ) (n i : ℕ) (en : n ≡ count m Reads) (r : Item) where
-  pub known-there : i < n → r ≡ read-item m i → r ≡ known-at m (used-in u) i
-  known-there h q = q ∙ known-read m (used-in u) i (rw (← en) h)
-
-  pub known-copy : InUse u → n ≤ i → i < count m Reads + getD u 0 0 → r ≡ used-item m (getD u (i - n + 1) 0) → r ≡ known-at m (used-in u) i
-  unfolding used-in
-  known-copy f h l q =
-      let j : i - n < getD u 0 0 = omega arith in
-      let e : getD (take (getD u 0 0) (drop 1 u)) (i - n) 0 ≡ getD u (1 + (i - n)) 0 = getD-take (getD u 0 0) (drop 1 u) (i - n) 0 j ∙ getD-drop 1 u (i - n) 0 in
-      let o : i - n + 1 ≡ 1 + (i - n) = omega arith in
-      let v : count m Reads + (i - n) ≡ i = omega arith in
-      q ∙ rw (o, ← e) (known-used m (used-in u) (i - n) ∙ rw v)
-
-pub copy-small : (m : ClientWord → ℕ) (u : List ℕ) (n i : ℕ) → n ≡ count m Reads → InUse u → n ≤ i → i < count m Reads + getD u 0 0 → getD u (i - n + 1) 0 < 16385
-copy-small m u n i en f h l = f .small (i - n) (omega arith)
-
-module _ (z : Sizes) (w : List ℕ) (c s : ℕ) (i : code.Item) (o : Object) (po : o ≡ object-of (i .number)) (b : Bool) (pb : b ≡ can-check s o (i .inner)) where
-  pub item-checked : (r : Bool) → b ≡ true → r ≡ check-fits z (stored-in z w) s (as-item i) → r ≡ check-item z w s (as-item i)
-  unfolding check-item
-  item-checked r t q = q ∙ sym (rw (← po, ← pb, t))
-
-  pub item-elsewhere : b ≡ false → true ≡ check-item z w s (as-item i)
-  unfolding check-item
-  item-elsewhere t = sym (rw (← po, ← pb, t))
-
-  pub fault-checked : (r : ℕ) → b ≡ true → r ≡ reason (checked (object-of (i .number)) (i .inner) (i .mark) c Fetch (of-server z w s)) → r ≡ fetch-fault z w c s (as-item i)
-  unfolding fetch-fault
-  fault-checked r t q = let e : can-check s (object-of (i .number)) (i .inner) ≡ true = ap (λ (x : Object). can-check s x (i .inner)) (sym po) ∙ sym pb ∙ t in q ∙ sym (rw e)
-
-  pub fault-elsewhere : b ≡ false → 0 ≡ fetch-fault z w c s (as-item i)
-  unfolding fetch-fault
-  fault-elsewhere t = sym (rw (← po, ← pb, t))
-
-pub ruleset fetch-items-exits = (used-lent, used-by, known-there, known-copy, copy-small, item-checked, item-elsewhere, fault-checked, fault-elsewhere)
-
--- ---- over all objects read, one after another
-module _ (z : Sizes) (w : List ℕ) (c s : ℕ) (u : List ℕ) where
-  abbrev N : ℕ
-  N = count (of-client z w c) Reads + length (used-in u)
-
-  abbrev pub each-checks : ℕ → Bool
-  each-checks i = check-item z w s (known-at (of-client z w c) (used-in u) i)
-
-  whole-count : (n : ℕ) → InUse u → n ≡ count (of-client z w c) Reads + getD u 0 0 → n ≡ N
-  whole-count n f e = e ∙ ap (λ (k : ℕ). count (of-client z w c) Reads + k) (sym (length-used u f))
-
-  pub known-has : (n i : ℕ) (t : code.Item) → InUse u → AllKnown z w c (used-in u) → n ≡ count (of-client z w c) Reads + getD u 0 0 → i < n
-      → as-item t ≡ known-at (of-client z w c) (used-in u) i → Has (z .slots) (object-of (t .number))
-  known-has n i t f k e h q =
-      subst (λ (x : ℕ). Has (z .slots) (object-of x)) (sym (ap (λ (v : Item). v .number) q)) (k .known i (rw (← whole-count n f e) h))
-
-  module _ (t : code.Item) (i : ℕ) (q : as-item t ≡ known-at (of-client z w c) (used-in u) i) where
-    module _ (b : Bool) (e : b ≡ check-item z w s (as-item t)) where
-      pub known-passed : all-below i each-checks ≡ true → b ≡ true → all-below (i + 1) each-checks ≡ true
-      known-passed h v = one-passed each-checks i b h (e ∙ ap (check-item z w s) q) v
-
-      pub known-fails : (n : ℕ) → i < n → b ≡ false → false ≡ all-below n each-checks
-      known-fails n h v = one-fails each-checks i n b h (e ∙ ap (check-item z w s) q) v
-
-  pub none-checked : all-below 0 each-checks ≡ true
-  none-checked = none-passed each-checks
-
-  pub all-checked : (i n : ℕ) → i ≤ n → n ≤ i → all-below i each-checks ≡ true → true ≡ all-below n each-checks
-  all-checked i n h g p = all-passed each-checks i n h g p
-
-  pub checks-all : (n : ℕ) (r : Bool) → InUse u → n ≡ count (of-client z w c) Reads + getD u 0 0 → r ≡ all-below n each-checks → r ≡ items-fit z w c s (used-in u)
-  unfolding items-fit check-item
-  checks-all n r f e q =
-      q ∙ rw (whole-count n f e) (sym (ap (λ (l : List Item). all (check-fits z (stored-in z w) s) (those (checks s) l)) (known-items (of-client z w c) (used-in u))
-      ∙ all-each (checks s) (check-fits z (stored-in z w) s) (known-at (of-client z w c) (used-in u)) N))
-
-  -- ---- the fault of the least object
-  unfoldable pub known-found : ℕ → Option (ℕ × ℕ)
-  known-found n = least (map (λ i. (i .number, fetch-fault z w c s i)) (each n (known-at (of-client z w c) (used-in u))))
-
-  pub known-found-none : fault 0 0 ≡ known-found 0
-  unfolding known-found each least
-  known-found-none = refl
-
-  pub known-found-next : (i y : ℕ) (t : code.Item) (f g : code-fault.Fault) → as-fault f ≡ known-found i → as-item t ≡ known-at (of-client z w c) (used-in u) i
-      → y ≡ fetch-fault z w c s (as-item t) → as-fault g ≡ later (as-fault f) (t .number) y → as-fault g ≡ known-found (i + 1)
-  unfolding known-found each
-  known-found-next i y t f g h q e p =
-      let F : Item → ℕ × ℕ = λ v. (v .number, fetch-fault z w c s v) in
-      let l : List Item = each i (known-at (of-client z w c) (used-in u)) in
-      let v : Item = known-at (of-client z w c) (used-in u) i in
-      let k : later (as-fault f) (t .number) y ≡ later (least (map F l)) (v .number) (fetch-fault z w c s v) =
-      rw (e, h) (ap (λ (x : Item). later (least (map F l)) (x .number) (fetch-fault z w c s x)) q) in
-      p ∙ k ∙ rw (add-one i) (sym (ap least (map-append F l (v ∷ [])) ∙ least-later (map F l) (F v)))
-
-  pub known-found-all : (i n : ℕ) (f : code-fault.Fault) → InUse u → i ≤ n → n ≤ i → n ≡ count (of-client z w c) Reads + getD u 0 0 → as-fault f ≡ known-found i
-      → f .reason ≡ items-found z w c s (used-in u)
-  unfolding known-found items-found deciding fetch-fault
-  known-found-all i n f used a b e h =
-      let q : i ≡ N = omega (arith, whole-count n used e) in
-      let R : Item → ℕ = λ v. reason (checked (object v) (v .inner-read) (v .mark) c Fetch (of-server z w s)) in
-      let l : List Item = each N (known-at (of-client z w c) (used-in u)) in
-      sym (reason-again (f .number) (f .reason)) ∙ ap reason-of h ∙ rw q (sym (ap reason-of (
-      ap (λ (k : List Item). least (map (λ v. (v .number, R v)) (those (checks s) k))) (known-items (of-client z w c) (used-in u)) ∙ least-those (checks s) R l)))
-
-pub ruleset checking = (known-has, known-passed, known-fails, none-checked, all-checked, checks-all)
-
-pub ruleset finding-all = (known-has, known-found-none, known-found-next, known-found-all)
-
 -- ---- what comes of it: refusal 10, a reason, or on
 abbrev pub faulty : ℕ → Verdict
 faulty y = cond (eqb y 0) Clear (Fault y)
@@ -287,35 +73,3 @@ unfoldable pub gate-of : Sizes → List ℕ → ℕ → ℕ → ℕ → List ℕ
 gate-of z w c s x us =
     cond (lock-at z w s x)
     (cond (held (object-of x) c Fetch (of-server z w s)) (Fault 2) (cond (leb 96 (of-client z w c reads-count + length us)) (Fault 4) Clear)) Unfit
-
-module _ (b : Bool) (fit : Bool) (e : b ≡ fit) where
-  pub verdict-unfit : (y : ℕ) → b ≡ false → Unfit ≡ verdict-of fit y
-  verdict-unfit y t = rw (← e, t)
-
-  module _ (x y : ℕ) (q : x ≡ y) (t : b ≡ true) where
-    pub verdict-clear : x ≡ 0 → Clear ≡ verdict-of fit y
-    verdict-clear h = rw (← e, t, ← q, eq-eqb x 0 h)
-
-    pub verdict-fault : (x ≡ 0 → ⊥) → Fault x ≡ verdict-of fit y
-    verdict-fault d = rw (← e, t, ← q, ne-eqb x 0 d)
-
-module _ (z : Sizes) (w : List ℕ) (c s x : ℕ) (u : List ℕ) (b : Bool) (e : b ≡ lock-at z w s x) where
-  pub gate-unfit : b ≡ false → Unfit ≡ gate-of z w c s x (used-in u)
-  unfolding gate-of
-  gate-unfit t = rw (← e, t)
-
-  module _ (t : b ≡ true) (h : Bool) (p : h ≡ held (object-of x) c Fetch (of-server z w s)) where
-    pub gate-busy : h ≡ true → Fault 2 ≡ gate-of z w c s x (used-in u)
-    unfolding gate-of
-    gate-busy q = rw (← e, t, ← p, q)
-
-    module _ (q : h ≡ false) (f : InUse u) (r : ℕ) (pr : r ≡ of-client z w c reads-count) where
-      pub gate-full : 96 ≤ r + getD u 0 0 → Fault 4 ≡ gate-of z w c s x (used-in u)
-      unfolding gate-of
-      gate-full l = rw (← e, t, ← p, q, ← pr, length-used u f, le-leb 96 (r + getD u 0 0) l)
-
-      pub gate-clear : r + getD u 0 0 < 96 → Clear ≡ gate-of z w c s x (used-in u)
-      unfolding gate-of
-      gate-clear l = rw (← e, t, ← p, q, ← pr, length-used u f, lt-leb 96 (r + getD u 0 0) l)
-
-pub ruleset verdicts = (verdict-unfit, verdict-clear, verdict-fault, gate-unfit, gate-busy, gate-full, gate-clear)

@@ -1,29 +1,18 @@
--- Laws of refusal 10's code over all objects read.
-use mathlib.Core.Path.{_≡_, refl, sym, ap, _∙_, subst}
-use mathlib.Core.Bool.{Bool, true, false, cond, _||_, not}
+-- Refusal 10 over all objects read, as code asks it item by item.
+use mathlib.Core.Bool.{Bool, cond, _||_, not}
 use mathlib.Core.List.{List}
-use Prim.Native.Nat.{ℕ, zero, suc, _+_, _-_, _*_, _≤_, _<_}
-use native.Mathlib.Omega.{arith}
-use native.Mathlib.Numerals.{add-one}
-use borrow.Rule.Slice.PartMut.{midOf}
-use lib.ListN.{length}
-use Rattle.memory.specs.Word.{view}
+use Prim.Native.Nat.{ℕ, _-_, _<_}
 use Rattle.memory.specs.Bit.{bit}
 use Rattle.server.specs.Object.{object-of, Has}
 use Rattle.client.specs.declared.part.Set.{Set}
 use Rattle.client.specs.declared.part.Set.the-variants.{Reads, Writes}
-use Rattle.client.specs.Layout.{ClientWord, field}
-use Rattle.client.specs.Sets.{held, count, number-at}
-use Rattle.client.specs.Items.{all-below}
-use Rattle.client.specs.Participants.{lowest-of}
+use Rattle.client.specs.Layout.{ClientWord}
+use Rattle.client.specs.Sets.{count, number-at}
 use Rattle.steps.specs.declared.sizes.Sizes.{Sizes}
-use Rattle.kinds.specs.declared.items.Item as code
-use Rattle.steps.specs.Whole.{client-at}
-use Rattle.steps.specs.Uses.{Item, item-of, checked-at, locked-at}
-use Rattle.steps.specs.Judge.{lock-fits, check-fits, lowest, prepare-fits, unlock-fits, abort-fits}
-use Rattle.kinds.specs.Parts.{Holds, stored-in, client-lent}
-use Rattle.kinds.specs.Items.{as-item, read-item}
-use Rattle.kinds.specs.Judge.{of-client, lock-at, lock-fits-at, none-passed, one-passed, one-fails, all-passed}
+use Rattle.steps.specs.Uses.{Item, checked-at, locked-at}
+use Rattle.steps.specs.Judge.{lock-fits, check-fits, unlock-fits}
+use Rattle.kinds.specs.Parts.{stored-in}
+use Rattle.kinds.specs.Judge.{of-client}
 
 -- every object that the client has read or written is one of the store
 abbrev pub In-set : Sizes → Set → (ClientWord → ℕ) → Type 0
@@ -33,46 +22,6 @@ pub record Known (z : Sizes) (w : List ℕ) (c : ℕ) : Type 0 where
   pub known : In-set z Reads (of-client z w c)
   pub written : In-set z Writes (of-client z w c)
 
-pub known-same : (z : Sizes) (c : ℕ) (w w′ : List ℕ) → of-client z w′ c ≡ of-client z w c → Known z w c → Known z w′ c
-known-same z c w w′ e k = record { known = subst (In-set z Reads) (sym e) (k .known); written = subst (In-set z Writes) (sym e) (k .written) }
-
-pub known-item : (z : Sizes) (w : List ℕ) (c n i : ℕ) (t : code.Item) → Known z w c → n ≡ count (of-client z w c) Reads → i < n
-    → as-item t ≡ read-item (of-client z w c) i → Has (z .slots) (object-of (t .number))
-unfolding read-item item-of
-known-item z w c n i t k e h q =
-    subst (λ (x : ℕ). Has (z .slots) (object-of x)) (sym (ap (λ (u : Item). u .number) q)) (k .known i (rw (← e) h))
-
-pub count-lent : (z : Sizes) (b : List ℕ) (c k r : ℕ) → Holds z (length b) → c < z .clients → k ≡ client-at z c
-    → r ≡ count (held (midOf (8 * k) (length b - 8 * k) b)) Reads → r ≡ count (of-client z (view b) c) Reads
-unfolding held
-count-lent z b c k r l h e q = q ∙ ap (λ (m : ClientWord → ℕ). count m Reads) (client-lent z c k b h e (l .room))
-
--- ---- the lowest server
-module _ (w : ℕ) where
-  pub lowest-none : lowest-of 0 w ≡ 0
-  unfolding lowest-of
-  lowest-none = refl
-
-  pub lowest-next : (i : ℕ) (b : Bool) → lowest-of i w ≡ i → b ≡ bit w i → b ≡ false → lowest-of (i + 1) w ≡ i + 1
-  unfolding lowest-of
-  lowest-next i b h e t = let q : bit w i ≡ false = sym e ∙ t in rw (add-one i, h, q)
-
-  stays-lowest : (i k : ℕ) → lowest-of i w ≡ i → bit w i ≡ true → lowest-of (suc i + k) w ≡ i
-  unfolding lowest-of
-  stays-lowest i zero h q = let e : suc i + 0 ≡ suc i = omega arith in rw (e, h, q)
-  stays-lowest i (suc k) h q = let e : suc i + suc k ≡ suc (suc i + k) = omega arith in rw (e, stays-lowest i k h q, q)
-
-  pub lowest-here : (i n : ℕ) (b : Bool) → i < n → lowest-of i w ≡ i → b ≡ bit w i → b ≡ true → i ≡ lowest-of n w
-  lowest-here i n b l h e t =
-      let q : n ≡ suc i + (n - suc i) = omega arith in
-      sym (rw q (stays-lowest i (n - suc i) h (sym e ∙ t)))
-
-  pub lowest-absent : (i n : ℕ) → i ≤ n → n ≤ i → lowest-of i w ≡ i → i ≡ lowest-of n w
-  lowest-absent i n l g h = let q : n ≡ i = omega arith in sym (rw q h)
-
-pub lowest-by : (z : Sizes) (w : List ℕ) (c p r : ℕ) → p ≡ of-client z w c (field 5) → r ≡ lowest-of (z .servers) p → r ≡ lowest z (stored-in z w) c
-lowest-by z w c p r e q = q ∙ rw e
-
 -- what a prepare reads of an item at the server s, and what an unlocking reads
 unfoldable pub prepare-item : Sizes → List ℕ → ℕ → ℕ → Item → Bool
 prepare-item z w low s i =
@@ -81,69 +30,6 @@ prepare-item z w low s i =
 unfoldable pub unlock-item : Sizes → List ℕ → ℕ → ℕ → Item → Bool
 unlock-item z w low s i = not (locked-at low s i) || lock-fits z (stored-in z w) s i
 
-module _ (z : Sizes) (w : List ℕ) (low s : ℕ) (i : code.Item) (b : Bool) (e : b ≡ locked-at low s (as-item i)) where
-  pub not-prepared : b ≡ false → true ≡ prepare-item z w low s (as-item i)
-  unfolding prepare-item
-  not-prepared t = sym (rw (← e, t))
-
-  pub prepare-checks : (d r : Bool) → b ≡ true → d ≡ checked-at low s (as-item i) → d ≡ true → r ≡ check-fits z (stored-in z w) s (as-item i)
-      → r ≡ prepare-item z w low s (as-item i)
-  unfolding prepare-item
-  prepare-checks d r t q u h = h ∙ sym (rw (← e, t, ← q, u))
-
-  pub prepare-locks : (d r : Bool) → b ≡ true → d ≡ checked-at low s (as-item i) → d ≡ false → r ≡ lock-at z w s (i .number)
-      → r ≡ prepare-item z w low s (as-item i)
-  unfolding prepare-item
-  prepare-locks d r t q u h = h ∙ lock-fits-at z w s (as-item i) ∙ sym (rw (← e, t, ← q, u))
-
-  pub not-unlocked : b ≡ false → true ≡ unlock-item z w low s (as-item i)
-  unfolding unlock-item
-  not-unlocked t = sym (rw (← e, t))
-
-  pub unlocks : (r : Bool) → b ≡ true → r ≡ lock-at z w s (i .number) → r ≡ unlock-item z w low s (as-item i)
-  unfolding unlock-item
-  unlocks r t h = h ∙ lock-fits-at z w s (as-item i) ∙ sym (rw (← e, t))
-
-pub ruleset fit-exits = (known-item, count-lent, lowest-by, not-prepared, prepare-checks, prepare-locks, not-unlocked, unlocks)
-
-pub ruleset lowest-exits = (lowest-none, lowest-next, lowest-here, lowest-absent)
-
--- ---- over all objects read: f is the test of an item
-abbrev pub each-fits : Sizes → List ℕ → ℕ → (Item → Bool) → ℕ → Bool
-each-fits z w c f i = f (read-item (of-client z w c) i)
-
-module _ (z : Sizes) (w : List ℕ) (c : ℕ) (f : Item → Bool) (t : code.Item) (i : ℕ) (b : Bool) (q : as-item t ≡ read-item (of-client z w c) i) (e : b ≡ f (as-item t)) where
-  pub item-passed : all-below i (each-fits z w c f) ≡ true → b ≡ true → all-below (i + 1) (each-fits z w c f) ≡ true
-  item-passed h u = one-passed (each-fits z w c f) i b h (e ∙ ap f q) u
-
-  pub item-fails : (n : ℕ) → i < n → b ≡ false → false ≡ all-below n (each-fits z w c f)
-  item-fails n h u = one-fails (each-fits z w c f) i n b h (e ∙ ap f q) u
-
--- the names that the definitions give to these tests
-module _ (z : Sizes) (w : List ℕ) (c s n low : ℕ) (r : Bool) (en : n ≡ count (of-client z w c) Reads) (el : low ≡ lowest z (stored-in z w) c) where
-  pub prepare-all : r ≡ all-below n (each-fits z w c (prepare-item z w low s)) → r ≡ prepare-fits z (stored-in z w) c s
-  unfolding prepare-fits read-item prepare-item
-  prepare-all h = h ∙ rw (en, el)
-
-  pub unlock-all : r ≡ all-below n (each-fits z w c (unlock-item z w low s)) → r ≡ unlock-fits z (stored-in z w) c s
-  unfolding unlock-fits read-item unlock-item
-  unlock-all h = h ∙ rw (en, el)
-
 -- ---- at every server at which the transaction is prepared
 unfoldable pub unlocks-at : Sizes → List ℕ → ℕ → ℕ → ℕ → Bool
 unlocks-at z w c p s = not (bit p s) || unlock-fits z (stored-in z w) c s
-
-module _ (z : Sizes) (w : List ℕ) (c p : ℕ) where
-  pub not-there : (s : ℕ) (b : Bool) → b ≡ bit p s → b ≡ false → true ≡ unlocks-at z w c p s
-  unfolding unlocks-at
-  not-there s b e t = sym (rw (← e, t))
-
-  pub there : (s : ℕ) (b r : Bool) → b ≡ bit p s → b ≡ true → r ≡ unlock-fits z (stored-in z w) c s → r ≡ unlocks-at z w c p s
-  unfolding unlocks-at
-  there s b r e t h = h ∙ sym (rw (← e, t))
-
-  pub abort-all : (n : ℕ) (r : Bool) → n ≡ z .servers → p ≡ of-client z w c (field 6) → r ≡ all-below n (unlocks-at z w c p) → r ≡ abort-fits z (stored-in z w) c
-  unfolding abort-fits unlocks-at
-  abort-all n r en ep h = h ∙ rw (en, ep)
-
-pub ruleset passing-items = (none-passed, item-passed, item-fails, all-passed, prepare-all, unlock-all)

@@ -7,7 +7,6 @@ pub mod Refusal
 pub mod Items
 pub mod Judge
 pub mod Fits
-pub mod Known
 -- what a check finds
 pub mod Findings
 -- what a kind of step comes to; one store after another
@@ -18,7 +17,6 @@ pub mod Abort
 pub mod Loss
 -- the course of a commit at its client; the commit step
 pub mod Course
-pub mod Commit
 -- versions that are written; the write set at a server; apply, prepare
 pub mod Versions
 pub mod Writes
@@ -26,5 +24,6 @@ pub mod Apply
 pub mod Prepare
 -- a work step that fetches: what it checks at the server, what it hands over
 pub mod Fetch
-pub mod Hand
 pub mod Lack
+-- laws and proofs
+pub mod Laws

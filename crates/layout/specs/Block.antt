@@ -1,14 +1,9 @@
--- Blocks of words, nested. A place in a block is a list of numbers, one for each level. A layout that is a block cannot
--- overlap: `below` and `apart` are proved once for every block.
-use mathlib.Core.Path.{_≡_, refl, ap, ap₂, _∙_}
+-- Blocks of words, nested. A place in a block is a list of numbers, one for each level.
 use mathlib.Core.Bool.{cond}
 use mathlib.Core.List.{List, [], _∷_}
 use mathlib.Core.Logic.{Dec·and}
-use Prim.Native.Nat.{ℕ, zero, suc, _+_, _-_, _*_, _/_, _%_, _≤_, _<_}
-use native.Mathlib.Nat.{suc-mul, mul-le-mul-right, mul-zero, mul-comm, mod-lt, div-add-mod, div-lt-iff-lt-mul}
-use native.Mathlib.Omega.{arith}
+use Prim.Native.Nat.{ℕ, zero, suc, _+_, _-_, _*_, _/_, _%_, _<_}
 use native.Mathlib.Decide.{decLt}
-use borrow.Author.Tests.{lt-ltb, le-ltb}
 use lib.Dec.{ltb}
 
 pub data Block : Type 0 where
@@ -61,23 +56,6 @@ locate (times n b) i = i / size b ∷ locate b (i % size b)
 locate (next a b) i = cond (ltb i (size a)) (0 ∷ locate a i) (step (locate b (i - size a)))
 locate end i = []
 
--- three words, then two rows of four: the last word of the second row is the eleventh, at 10
-pub offset-sample : let b = next (words 3) (next (times 2 (words 4)) end) in (size b ≡ 11) × (offset b (1 ∷ 1 ∷ 3 ∷ []) ≡ 10)
-unfolding size offset
-offset-sample = (refl, refl)
-
--- the one law on products: a row that comes earlier ends before a later one begins
-pub row-fits : (i j t : ℕ) → i < j → i * t + t ≤ j * t
-row-fits i j t h = rw (← suc-mul i t) (mul-le-mul-right t h)
-
-row-same : (i j t o q : ℕ) → o < t → q < t → i * t + o ≡ j * t + q → i ≡ j
-row-same i j t o q ho hq e = go (decLt i j) (decLt j i)
-  where
-    go : Dec (i < j) → Dec (j < i) → i ≡ j
-    go (yes p) y = absurd (omega (arith, row-fits i j t p))
-    go (no p) (yes y) = absurd (omega (arith, row-fits j i t y))
-    go (no p) (no y) = omega arith
-
 pub decIn : (b : Block) (p : List ℕ) → Dec (In b p)
 unfolding In
 decIn (words n) [] = no (λ h. h)
@@ -89,92 +67,3 @@ decIn (next a b) [] = no (λ h. h)
 decIn (next a b) (zero ∷ p) = decIn a p
 decIn (next a b) (suc i ∷ p) = decIn b (i ∷ p)
 decIn end p = no (λ h. h)
-
--- a place lies in its block
-pub below : (b : Block) (p : List ℕ) → In b p → offset b p < size b
-unfolding size In offset
-below (words n) [] h = absurd h
-below (words n) (i ∷ []) h = h
-below (words n) (i ∷ j ∷ p) h = absurd h
-below (times n b) [] h = absurd h
-below (times n b) (i ∷ p) h = omega (arith, row-fits i n (size b) (h .0), below b p (h .1))
-below (next a b) [] h = absurd h
-below (next a b) (zero ∷ p) h = omega (arith, below a p h)
-below (next a b) (suc i ∷ p) h = omega (arith, below b (i ∷ p) h)
-below end p h = absurd h
-
-cons : {x y : ℕ} {p q : List ℕ} → x ≡ y → p ≡ q → _≡_ {A = List ℕ} (x ∷ p) (y ∷ q)
-cons a b = ap₂ (λ (x : ℕ) (p : List ℕ). x ∷ p) a b
-
--- places with one offset are one place
-pub apart : (b : Block) (p q : List ℕ) → In b p → In b q → offset b p ≡ offset b q → p ≡ q
-unfolding size In offset
-apart (words n) [] q h g e = absurd h
-apart (words n) (i ∷ j ∷ p) q h g e = absurd h
-apart (words n) (i ∷ []) [] h g e = absurd g
-apart (words n) (i ∷ []) (j ∷ []) h g e = cons e refl
-apart (words n) (i ∷ []) (j ∷ k ∷ q) h g e = absurd g
-apart (times n b) [] q h g e = absurd h
-apart (times n b) (i ∷ p) [] h g e = absurd g
-apart (times n b) (i ∷ p) (j ∷ q) h g e =
-    let s : i ≡ j = row-same i j (size b) (offset b p) (offset b q) (below b p (h .1)) (below b q (g .1)) e in
-    let t : i * size b ≡ j * size b = rw s in
-    cons s (apart b p q (h .1) (g .1) (omega arith))
-apart (next a b) [] q h g e = absurd h
-apart (next a b) (zero ∷ p) [] h g e = absurd g
-apart (next a b) (zero ∷ p) (zero ∷ q) h g e = cons refl (apart a p q h g e)
-apart (next a b) (zero ∷ p) (suc j ∷ q) h g e = absurd (omega (arith, below a p h))
-apart (next a b) (suc i ∷ p) [] h g e = absurd g
-apart (next a b) (suc i ∷ p) (zero ∷ q) h g e = absurd (omega (arith, below a q g))
-apart (next a b) (suc i ∷ p) (suc j ∷ q) h g e = ap step (apart b (i ∷ p) (j ∷ q) h g (omega arith))
-apart end p q h g e = absurd h
-
--- every word of a block has a place
-none : (b : Block) → In b [] → ⊥
-unfolding In
-none (words n) h = h
-none (times n b) h = h
-none (next a b) h = h
-none end h = h
-
-in-next : (a b : Block) (p : List ℕ) (i : ℕ) → In b p → offset b p ≡ i → In (next a b) (step p) × (offset (next a b) (step p) ≡ size a + i)
-unfolding In offset
-in-next a b [] i h e = absurd (none b h)
-in-next a b (j ∷ p) i h e = (h, rw e)
-
-filled : (n t i : ℕ) → i < n * t → 0 < t
-filled n t i h = go (decLt 0 t)
-  where
-    go : Dec (0 < t) → 0 < t
-    go (yes p) = p
-    go (no q) =
-        let z : t ≡ 0 = omega arith in
-        let e : n * t ≡ 0 = rw (z, mul-zero) in
-        absurd (omega arith)
-
-next-located : (a b : Block) (i : ℕ) → i < size (next a b)
-    → (i < size a → In a (locate a i) × (offset a (locate a i) ≡ i))
-    → (i - size a < size b → In b (locate b (i - size a)) × (offset b (locate b (i - size a)) ≡ i - size a))
-    → In (next a b) (locate (next a b) i) × (offset (next a b) (locate (next a b) i) ≡ i)
-unfolding size In offset locate
-next-located a b i h first rest = go (decLt i (size a))
-  where
-    go : Dec (i < size a) → In (next a b) (locate (next a b) i) × (offset (next a b) (locate (next a b) i) ≡ i)
-    go (yes l) = rw (lt-ltb i (size a) l) (first l)
-    go (no l) =
-        let g : size a ≤ i = omega arith in
-        let r = rest (omega arith) in
-        let q = in-next a b (locate b (i - size a)) (i - size a) (r .0) (r .1) in
-        rw (le-ltb i (size a) g) (q .0, q .1 ∙ omega arith)
-
-pub located : (b : Block) (i : ℕ) → i < size b → In b (locate b i) × (offset b (locate b i) ≡ i)
-unfolding size In offset locate
-located (words n) i h = (h, refl)
-located (times n b) i h =
-    let t = size b in
-    let pos : 0 < t = filled n t i h in
-    let r = located b (i % t) (mod-lt i pos) in
-    let e : t * (i / t) + i % t ≡ i = div-add-mod i t in
-    ((div-lt-iff-lt-mul pos .1 h, r .0), rw (r .1, mul-comm (i / t) t) e)
-located (next a b) i h = next-located a b i h (λ l. located a i l) (λ l. located b (i - size a) l)
-located end i h = absurd (omega arith)

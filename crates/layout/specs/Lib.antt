@@ -7,7 +7,7 @@ pub mod Space
 pub mod Step
 -- a part within the whole
 pub mod Part
--- the whole: a head, and the parts of servers and clients
-pub mod Whole
 -- a loop of steps
 pub mod Sweep
+-- laws and proofs
+pub mod Laws

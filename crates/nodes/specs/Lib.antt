@@ -5,21 +5,15 @@ pub mod Name
 pub mod Placement
 pub mod Vector
 pub mod Flags
-pub mod Bits
-pub mod Search
 pub mod Place
 pub mod Node
 pub mod Find
 pub mod Change
-pub mod Built
 pub mod Stored
-pub mod StoredLaws
 pub mod Range
 pub mod Entries
-pub mod EntryLaws
 pub mod Kept
-pub mod Rising
-pub mod Ordered
-pub mod Small
 pub mod Placed
 pub mod Cases
+-- laws and proofs
+pub mod Laws

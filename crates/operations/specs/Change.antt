@@ -5,13 +5,13 @@ use Prim.Native.Nat.{ℕ, zero, suc, _-_}
 use native.Mathlib.Decide.{ℕ-discrete, decLt, decLe}
 use lib.ListN.{length, take, drop}
 use Rattle.base.specs.Test.{ifd}
-use Rattle.plans.specs.Plan as P
 use Rattle.nodes.specs.Lists.{remove}
 use Rattle.operations.specs.Object.{node, no-tree, Ans, Writes}
 use Rattle.operations.specs.Map.{fresh}
 use Rattle.operations.specs.Entry.{Entries, mk, mn, mx, nxt, index, value-in, with-pair}
 use Rattle.operations.specs.Path.{Plan, kid, Branch, from-root}
 use Rattle.operations.specs.Slot.{Sizes, take-for, take-node, release}
+use Rattle.plans.specs.Plan as P
 
 -- what follows with the new entries of the parent
 abbrev pub Go : Type 0

@@ -1,20 +1,15 @@
 -- The plans run on small snapshots: the cases that document 01 tried by hand, and one of each kind of change.
-use mathlib.Core.Path.{_≡_, refl}
+use mathlib.Core.Path.{_≡_}
 use mathlib.Core.Bool.{Bool, true, false}
 use mathlib.Core.List.{List, [], _∷_, _++_}
 use mathlib.Core.Option.{none, some}
 use Prim.Native.Nat.{ℕ, zero, suc, _+_, _-_}
-use native.Mathlib.Decide.{ℕ-discrete, decLt, decLe}
 use lib.ListN.{getD, replicate}
-use Rattle.plans.specs.Plan.{Out, gives, fails, exec, bind}
+use Rattle.plans.specs.Plan.{Out, gives, fails, exec}
 use Rattle.plans.specs.Walk.{used}
-use Rattle.nodes.specs.Lists.{insert as put-in, remove}
-use Rattle.nodes.specs.Place.{place}
-use Rattle.nodes.specs.Find.{find, find-at, rises}
-use Rattle.nodes.specs.Vector.{first-free}
 use Rattle.operations.specs.Object.{Obj, meta, node, flag, Ask, object, vector, fetched, Val, root, body, taken, flags, free, Why, not-free, no-tree, no-slot, Ans, Writes, over}
 use Rattle.operations.specs.Map.{Op, insert, lookup, delete, next, previous, migrate, above, below}
-use Rattle.operations.specs.Entry.{Entries, mk, under}
+use Rattle.operations.specs.Entry.{Entries, mk}
 use Rattle.operations.specs.Slot.{Sizes}
 use Rattle.operations.specs.Operation.{plan}
 
@@ -41,10 +36,10 @@ abbrev small : Writes → Ask → Val
 small = store (first 10 ∷ first 0 ∷ [])
 
 -- what comes out, and what was asked for
-run : Op → (Ask → Val) → Out (Ans × Writes) Why
+unfoldable pub run : Op → (Ask → Val) → Out (Ans × Writes) Why
 run op M = exec (plan two op) M
 
-asked : Op → (Ask → Val) → List Ask
+unfoldable pub asked : Op → (Ask → Val) → List Ask
 asked op M = used (plan two op) (λ o. some (M o))
 
 -- a leaf with the keys k, k + 1, .. (n of them), each its own value; the separators and children of an inner node
@@ -77,7 +72,7 @@ abbrev full-leaf : List (List Bool) → Ask → Val
 full-leaf vs = store vs ((node 0, mk 1 ((0, 1) ∷ (8, 2) ∷ [])) ∷ (node 2, mk 0 (leaf 8 14)) ∷ [])
 
 -- THE CASES
-record Tried : Type 0 where
+pub record Tried : Type 0 where
   -- "Leaf 1 to 14, insert 15: 1 to 7, 8 to 15; 8 goes up." The leaf is the root, so both halves get new names
   pub root-split : run (insert 15 15) (small ((node 0, mk 0 (leaf 1 14)) ∷ []))
       ≡ gives (
@@ -161,37 +156,3 @@ record Tried : Type 0 where
   pub wrong-level : run (lookup 3) (small ((node 0, mk 2 ((0, 1) ∷ (8, 2) ∷ [])) ∷ (node 1, mk 0 (leaf 1 7)) ∷ [])) ≡ fails no-tree
   pub own-neighbour : run (delete 3) (small ((node 0, mk 1 ((0, 1) ∷ (8, 1) ∷ [])) ∷ (node 1, mk 0 (leaf 1 7)) ∷ [])) ≡ fails no-tree
   pub not-rising : run (insert 9 9) (small ((node 0, mk 0 ((5, 5) ∷ (3, 3) ∷ [])) ∷ [])) ≡ fails no-tree
-
-tried : Tried
-unfolding run asked exec used bind place under find find-at rises put-in remove first-free ℕ-discrete decLt decLe
-tried = record {
-  root-split = refl;
-  root-split-asks = refl;
-  replaced = refl;
-  leaf-split = refl;
-  inner-split = refl;
-  inner-split-keys = refl;
-  moved-left = refl;
-  collapse = refl;
-  collapse-asks = refl;
-  moved-right = refl;
-  merged-left = refl;
-  inner-moved-left = refl;
-  inner-moved-right = refl;
-  inner-collapse = refl;
-  found = refl;
-  next-leaf = refl;
-  previous-leaf = refl;
-  ends = (refl, refl, refl, refl);
-  leaf-moves = refl;
-  leaf-moves-asks = refl;
-  inner-moves = refl;
-  root-moves = refl;
-  unmoved = (refl, refl);
-  passed-over = refl;
-  nowhere = refl;
-  taken-meanwhile = refl;
-  wrong-level = refl;
-  own-neighbour = refl;
-  not-rising = refl;
-}

@@ -2,10 +2,10 @@
 use mathlib.Core.List.{List, [], _∷_}
 use mathlib.Core.Option.{Option, none, some}
 use Prim.Native.Nat.{ℕ, zero, suc}
-use Rattle.plans.specs.Plan as P
 use Rattle.operations.specs.Map.{said}
 use Rattle.operations.specs.Entry.{Entries, value-in, next-in, previous-in}
 use Rattle.operations.specs.Path.{Plan, kid, Branch, from-root}
+use Rattle.plans.specs.Plan as P
 
 -- "Lookup of a key there: a 1, b the value."
 abbrev pub lookup-plan : ℕ → Plan

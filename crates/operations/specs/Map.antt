@@ -2,10 +2,8 @@
 use mathlib.Core.Bool.{Bool, true, false}
 use mathlib.Core.List.{List, [], _∷_}
 use mathlib.Core.Option.{Option, none, some}
-use mathlib.Core.Path.{_≡_, refl}
-use Prim.Native.Nat.{ℕ, _^_, _<_}
+use Prim.Native.Nat.{ℕ, _^_}
 use native.Mathlib.Decide.{ℕ-discrete, decLt}
-use native.Mathlib.Omega.{arith}
 use Rattle.base.specs.Test.{ifd}
 use Rattle.nodes.specs.Vector.{or-else}
 use Rattle.operations.specs.Object.{Ans}
@@ -14,16 +12,8 @@ abbrev pub Map : Type 0
 Map = List (ℕ × ℕ)
 
 -- "Keys and values are any unsigned 64-bit numbers": keys are below this
-pub H : ℕ
+unfoldable pub H : ℕ
 H = 2 ^ 64
-
-pub H-is : H ≡ 2 ^ 64
-unfolding H
-H-is = refl
-
-pub H-pos : 0 < H
-unfolding H
-H-pos = omega arith
 
 -- "op 1 insert, 2 lookup, 3 delete, 4 next key above, 5 previous key below, 6 migrate (key is the node name)"
 pub data Op : Type 0 where
@@ -33,14 +23,6 @@ pub data Op : Type 0 where
   next : (key : ℕ) → Op
   previous : (key : ℕ) → Op
   migrate : (name server : ℕ) → Op
-
-abbrev pub number : Op → ℕ
-number (insert k v) = 1
-number (lookup k) = 2
-number (delete k) = 3
-number (next k) = 4
-number (previous k) = 5
-number (migrate n s) = 6
 
 abbrev pub look : ℕ → Map → Option ℕ
 look k [] = none

@@ -6,12 +6,12 @@ use Prim.Native.Nat.{ℕ, zero, suc}
 use native.Mathlib.Decide.{ℕ-discrete, decLt, decLe}
 use lib.ListN.{length}
 use Rattle.base.specs.Test.{ifd, yes?}
-use Rattle.plans.specs.Plan as P
 use Rattle.nodes.specs.Name.{server-of, slot-of}
 use Rattle.operations.specs.Object.{meta, node, object, Val, root, body, taken, flags, no-tree, Writes}
 use Rattle.operations.specs.Entry.{mk, cut}
 use Rattle.operations.specs.Path.{Plan, when-root, Cont, down, at-root}
 use Rattle.operations.specs.Slot.{Sizes, take-on, take-node, release}
+use Rattle.plans.specs.Plan as P
 
 -- the node n with the value v goes to a slot of the server s: the slot is taken, its node read, the old slot freed. Beside
 -- that x is written

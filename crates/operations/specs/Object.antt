@@ -1,10 +1,9 @@
 -- What operations read and write, why a plan fails, and a snapshot with some writes.
-use mathlib.Core.Bool.{Bool, true, false, cond, Bool-discrete}
+use mathlib.Core.Bool.{Bool, true, false, cond}
 use mathlib.Core.HLevel.{Discrete}
-use mathlib.Core.List.{List, [], _∷_, List-discrete}
+use mathlib.Core.List.{List, [], _∷_}
 use Prim.Native.Nat.{ℕ}
 use native.Mathlib.Decide.{ℕ-discrete}
-use lib.Dec.{eqb}
 use Rattle.base.specs.Test.{yes?}
 
 -- "Objects are the metadata, nodes and flags"
@@ -29,12 +28,6 @@ pub data Val : Type 0 where
   flags : List Bool → Val
   deriving Discrete as Val-by
 
-pub Obj-discrete : Discrete Obj
-Obj-discrete = Obj-by ℕ-discrete
-
-pub Val-discrete : Discrete Val
-Val-discrete = Val-by ℕ-discrete (List-discrete ℕ-discrete) Bool-discrete (List-discrete Bool-discrete)
-
 -- "Freed nodes become kind 0 and keep only a version."
 abbrev pub free : Val
 free = body 0 0 [] []
@@ -44,12 +37,6 @@ keys-of (root r) = []
 keys-of (body k l ks vs) = ks
 keys-of (taken b) = []
 keys-of (flags fs) = []
-
-abbrev pub kind-of : Val → ℕ
-kind-of (root r) = 0
-kind-of (body k l ks vs) = k
-kind-of (taken b) = 0
-kind-of (flags fs) = 0
 
 abbrev pub level-of : Val → ℕ
 level-of (root r) = 0
@@ -80,15 +67,6 @@ flags-of (root r) = []
 flags-of (body k l ks vs) = []
 flags-of (taken b) = []
 flags-of (flags fs) = fs
-
--- "A server can check metadata, inner nodes by its table, and its own other nodes and flags"
-abbrev pub inner-node : Val → Bool
-inner-node v = eqb (kind-of v) 2
-
-abbrev pub inner : Obj → Val → Bool
-inner meta v = true
-inner (node n) v = inner-node v
-inner (flag n) v = false
 
 -- "a slot taken as free isn't"; "what was read can't be one tree"; "no slot is free"
 pub data Why : Type 0 where
@@ -130,11 +108,6 @@ wr o v U x = cond (hit o x) v (U x)
 abbrev pub over : Writes → (Obj → Val) → Obj → Val
 over [] M = M
 over (e ∷ w) M = wr (e .0) (e .1) (over w M)
-
--- the writes as a test and a function
-abbrev pub written : Writes → Obj → Bool
-written [] o = false
-written (e ∷ w) o = cond (hit (e .0) o) true (written w o)
 
 abbrev pub value : Writes → Obj → Val
 value [] o = root 0

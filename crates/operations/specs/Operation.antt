@@ -4,7 +4,6 @@ use mathlib.Core.List.{[], _∷_}
 use Prim.Native.Nat.{_<_}
 use native.Mathlib.Decide.{decLe}
 use Rattle.base.specs.Test.{yes?}
-use Rattle.plans.specs.Plan as P
 use Rattle.nodes.specs.Find.{rises}
 use Rattle.operations.specs.Object.{Val, keys-of, level-of, no-tree, Ans, Writes, value}
 use Rattle.operations.specs.Map.{H, Op, insert, lookup, delete, next, previous, migrate}
@@ -13,6 +12,7 @@ use Rattle.operations.specs.Slot.{Sizes}
 use Rattle.operations.specs.Look.{lookup-plan, next-plan, previous-plan}
 use Rattle.operations.specs.Change.{insert-plan, delete-plan}
 use Rattle.operations.specs.Migrate.{migrate-plan}
+use Rattle.plans.specs.Plan as P
 
 -- may this be written? "a node with keys that don't rise or a level above 4 would be written"
 abbrev pub fits? : Val → Bool

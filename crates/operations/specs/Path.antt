@@ -5,9 +5,9 @@ use Prim.Native.Nat.{ℕ, zero, suc}
 use native.Mathlib.Decide.{ℕ-discrete, decLe}
 use lib.ListN.{length}
 use Rattle.base.specs.Test.{ifd}
-use Rattle.plans.specs.Plan as P
 use Rattle.operations.specs.Object.{Obj, meta, node, Ask, object, Val, root, body, taken, flags, Why, no-tree, Ans, Writes, hit}
 use Rattle.operations.specs.Entry.{Entries, zip, mn, cut}
+use Rattle.plans.specs.Plan as P
 
 -- an operation's plan ends with its answer and its writes
 abbrev pub Plan : Type 0

@@ -6,12 +6,12 @@ use Prim.Native.Nat.{ℕ, zero, suc, _≤_}
 use native.Mathlib.Decide.{ℕ-discrete, decLt}
 use lib.ListN.{take, set}
 use Rattle.base.specs.Test.{ifd}
-use Rattle.plans.specs.Plan as P
 use Rattle.nodes.specs.Name.{name, server-of, slot-of}
 use Rattle.nodes.specs.Placement.{row}
 use Rattle.nodes.specs.Vector.{first-free}
 use Rattle.operations.specs.Object.{Obj, meta, node, flag, vector, fetched, Val, root, body, taken, flags, free, is-taken, flags-of, not-free, no-slot, Writes}
 use Rattle.operations.specs.Path.{Plan, see}
+use Rattle.plans.specs.Plan as P
 
 -- a store's sizes: servers, and slots on each
 pub record Sizes : Type 0 where

@@ -1,5 +1,5 @@
 -- What it means that a snapshot holds a B-tree of a map.
-use mathlib.Core.Path.{_≡_, refl}
+use mathlib.Core.Path.{_≡_}
 use mathlib.Core.Bool.{true, false}
 use mathlib.Core.List.{List, [], _∷_}
 use mathlib.Core.Logic.{_⊎_}
@@ -13,10 +13,6 @@ use Rattle.operations.specs.Chain.{one, Chain, tally, gather, ren}
 -- names are below this: 8 servers with 1,024 slots
 unfoldable pub room : ℕ
 room = 8192
-
-pub room-is : room ≡ 8192
-unfolding room
-room-is = refl
 
 -- A TREE: what an entry of level l holds is a value, or a node's name and its entries
 abbrev pub Slot : ℕ → Type 0

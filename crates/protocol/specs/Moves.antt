@@ -15,8 +15,7 @@ use Rattle.protocol.specs.Writes.{writes?, latest}
 use Rattle.protocol.specs.Lists.{all, any}
 use Rattle.protocol.specs.State.{Phase, idle, opened, committing, decided, is-decided, Entry, view}
 use Rattle.protocol.specs.Meaning.{shown-of}
-use Rattle.protocol.specs.Machine.{Item, find, says, test, Slot, Copy, Lock, shared, owned, Machine, with-items, with-course, blank, unlocked}
-use Rattle.protocol.specs.Machine.{first-machine, with-item, seen, turned, with-slot, with-copies}
+use Rattle.protocol.specs.Machine.{Item, find, says, test, Slot, Copy, Lock, shared, owned, Machine, with-items, with-course, blank, unlocked, first-machine, with-item, seen, turned, with-slot, with-copies}
 
 module _ (T : Setting) where
   open Setting T using (Obj, Server, Client, Val, eqObj, eqVal, eqServer, eqClient, servers, some-server, clients)

@@ -12,12 +12,6 @@ use Rattle.protocol.specs.Writes.{writes?, latest}
 pub data Phase : Type 0 where
   idle opened committing decided : Phase
 
-abbrev pub after-commit : Phase → Bool
-after-commit idle = false
-after-commit opened = false
-after-commit committing = true
-after-commit decided = true
-
 abbrev pub is-decided : Phase → Bool
 is-decided idle = false
 is-decided opened = false

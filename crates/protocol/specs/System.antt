@@ -8,8 +8,7 @@ use native.Mathlib.Decide.{ℕ-discrete}
 use Rattle.base.specs.Update.{upd}
 use Rattle.plans.specs.Plan.{gives, exec, Asked}
 use Rattle.protocol.specs.Setting.{Setting}
-use Rattle.protocol.specs.State.{idle, opened, committing, decided, is-decided, Entry, Transaction, State, view, fresh, reading, answering}
-use Rattle.protocol.specs.State.{stamping, with-parts, preparing, deciding, applying, start, put}
+use Rattle.protocol.specs.State.{idle, opened, committing, decided, is-decided, Entry, Transaction, State, view, fresh, reading, answering, stamping, with-parts, preparing, deciding, applying, start, put}
 
 module _ (T : Setting) where
   open Setting T using (Obj, Server, Client, eqServer, eqClient, home, keeps, inner, by-value, plan)

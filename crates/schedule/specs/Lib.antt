@@ -1,3 +1,5 @@
 -- A list of steps as code runs it: its words and outcomes, and what is proved of them.
 pub mod Listed
 pub mod Carried
+-- laws and proofs
+pub mod Laws

@@ -5,12 +5,15 @@ use Prim.Native.Nat.{ℕ}
 use borrow.Author.Tests.{eq-eqb, ne-eqb}
 use lib.ListN.{replicate}
 use lib.Seq.{sets}
-use Rattle.layout.specs.Space.{stored, clear, stored-clear}
-use Rattle.layout.specs.Step.{Does, silent, stepped, stored-append}
+use Rattle.layout.specs.Space.{stored, clear}
+use Rattle.layout.specs.Laws.Space.{stored-clear}
+use Rattle.layout.specs.Step.{Does, silent, stepped}
+use Rattle.layout.specs.Laws.Step.{stored-append}
 use Rattle.server.specs.declared.place.Place.the-variants.{Vector, Node}
 use Rattle.server.specs.Layout.{places, block, partWords, putStep}
-use Rattle.server.specs.LayoutLaws.{places-onto}
-use Rattle.server.specs.Fresh.{first-leaf, open-step, first-node-valid, first-flag-valid}
+use Rattle.server.specs.Laws.Layout.{places-onto}
+use Rattle.server.specs.Fresh.{first-leaf, open-step}
+use Rattle.server.specs.Laws.Fresh.{first-node-valid, first-flag-valid}
 
 module _ (s n k : ℕ) (w u : List ℕ) (l : k ≡ partWords n) (q : u ≡ sets w 0 (replicate k 0)) where
   cleared : u ≡ stored places (block n) w (clear places (block n))

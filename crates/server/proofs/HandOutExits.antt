@@ -7,16 +7,17 @@ use native.Mathlib.Omega.{arith}
 use lib.Dec.{leb}
 use lib.ListN.{length, take, drop}
 use Rattle.memory.specs.Word.{view}
-use Rattle.memory.specs.WordLaws.{view-length}
+use Rattle.memory.specs.Laws.Word.{view-length}
 use Rattle.layout.specs.Block.{size, In, offset}
-use Rattle.layout.specs.Space.{at, Valid, mem, Run, mem-run}
+use Rattle.layout.specs.Space.{at, Valid, mem}
+use Rattle.layout.specs.Laws.Space.{Run, mem-run}
 use Rattle.nodes.specs.Stored.{node-of, node-at}
 use Rattle.nodes.specs.declared.node.Node as node
 use Rattle.server.specs.declared.place.Place.{Place}
 use Rattle.server.specs.declared.place.Place.the-variants.{Root, Version, Vector, Node}
 use Rattle.server.specs.Range.{in-store}
 use Rattle.server.specs.Layout.{places, block, partWords, Lies}
-use Rattle.server.specs.LayoutLaws.{node-run, node-room, node-valid, root-valid, version-valid}
+use Rattle.server.specs.Laws.Layout.{node-run, node-room, node-valid, root-valid, version-valid}
 use Rattle.server.specs.HandOut.{metadata-at, metadata-sound, vector-at, node-here}
 
 module _ (m : Place → ℕ) where

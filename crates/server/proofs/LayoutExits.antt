@@ -5,7 +5,8 @@ use Prim.Native.Nat.{ℕ, _+_, _*_, _<_}
 use native.Mathlib.Omega.{arith}
 use lib.ListN.{getD, set}
 use Rattle.layout.specs.Block.{words, size, In, offset}
-use Rattle.layout.specs.Space.{at, Valid, mem, mem-at, at-below, stored}
+use Rattle.layout.specs.Space.{at, Valid, mem, stored}
+use Rattle.layout.specs.Laws.Space.{mem-at, at-below}
 use Rattle.layout.specs.Step.{Does, silent, stepped}
 use Rattle.server.specs.declared.place.Place.{Place}
 use Rattle.server.specs.declared.place.Place.the-variants.{Root, Version, MetadataLock, Vector, Node, FlagLock, Table, NodeLock}

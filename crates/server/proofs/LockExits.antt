@@ -5,7 +5,8 @@ use Prim.Native.Nat.{ℕ, _+_, _*_, _%_, _^_, _≤_, _<_}
 use native.Mathlib.Omega.{arith}
 use borrow.Author.Tests.{eq-eqb, ne-eqb, lt-ltb, le-ltb}
 use lib.Dec.{eqb, ltb}
-use Rattle.memory.specs.Bit.{putBit, one-shifted}
+use Rattle.memory.specs.Bit.{putBit}
+use Rattle.memory.specs.Laws.Bit.{one-shifted}
 use Rattle.server.specs.declared.lock.Use.{Use}
 use Rattle.server.specs.declared.lock.Use.the-variants.{Fetch, Read, Write}
 use Rattle.server.specs.Lock.{busy, locked, unlocked, in-range}

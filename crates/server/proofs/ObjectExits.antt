@@ -9,7 +9,8 @@ use Rattle.server.specs.declared.object.Object.the-variants.{Metadata, N
 use Rattle.server.specs.declared.place.Place.{Place}
 use Rattle.server.specs.declared.place.Place.the-variants.{MetadataLock, FlagLock, NodeLock}
 use Rattle.server.specs.Layout.{places, block}
-use Rattle.server.specs.Object.{lock-of, Has, is-metadata, is-node, is-flag}
+use Rattle.server.specs.Object.{lock-of, Has}
+use Rattle.server.specs.Laws.Object.{is-metadata, is-node, is-flag}
 
 module _ (o : Object) where
   pub lock-metadata : o ≡ Metadata → MetadataLock ≡ lock-of o

@@ -7,24 +7,27 @@ use borrow.Author.Tests.{eq-eqb, ne-eqb}
 use lib.ListN.{length}
 use lib.Seq.{sets}
 use Rattle.memory.specs.Bit.{putBit}
-use Rattle.layout.specs.Space.{Put, put, puts, at, Valid, mem, stored, stored-run}
-use Rattle.layout.specs.Step.{Does, silent, stepped, does-as, does-both}
+use Rattle.layout.specs.Space.{Put, put, puts, at, Valid, mem, stored}
+use Rattle.layout.specs.Laws.Space.{stored-run}
+use Rattle.layout.specs.Step.{Does, silent, stepped}
+use Rattle.layout.specs.Laws.Step.{does-as, does-both}
 use Rattle.nodes.specs.Name.{server-of, slot-of}
 use Rattle.nodes.specs.declared.name.Name.{Name}
 use Rattle.nodes.specs.declared.node.Node as node
 use Rattle.nodes.specs.Node.{free-node}
 use Rattle.nodes.specs.Stored.{words-of, put-node}
-use Rattle.nodes.specs.StoredLaws.{length-words}
+use Rattle.nodes.specs.Laws.Stored.{length-words}
 use Rattle.server.specs.declared.object.Object.{Object}
 use Rattle.server.specs.declared.object.Object.the-variants as object
 use Rattle.server.specs.declared.place.Place.{Place}
 use Rattle.server.specs.declared.place.Place.the-variants.{Root, Version, Vector, Table, Node}
 use Rattle.server.specs.Layout.{places, block, partWords, putStep, Lies}
-use Rattle.server.specs.LayoutLaws.{node-run, node-room, node-valid, root-valid, version-valid, vector-valid}
+use Rattle.server.specs.Laws.Layout.{node-run, node-room, node-valid, root-valid, version-valid, vector-valid}
 use Rattle.server.specs.Object.{lock-of, Has}
 use Rattle.server.proofs.ObjectExits.{lock-valid}
 use Rattle.server.specs.Lock.{locked, unlocked}
-use Rattle.server.specs.Store.{lock-step, unlock-step, metadata-step, flag-step, kept-of, home-step, table-step, node-step, slot-there, table-there}
+use Rattle.server.specs.Store.{lock-step, unlock-step, metadata-step, flag-step, kept-of, home-step, table-step, node-step}
+use Rattle.server.specs.Laws.Store.{slot-there, table-there}
 
 module _ (n : ℕ) (w w′ : List ℕ) where
   pub now-locked : (o : Object) (b : Bool) (c word v : ℕ) (a : Place) → a ≡ lock-of o → word ≡ mem places (block n) w a → v ≡ locked b c word

@@ -9,11 +9,11 @@ use Rattle.server.specs.declared.check.Finding.{Finding}
 use Rattle.server.specs.declared.check.Finding.the-variants.{Same, Differs, Busy}
 use Rattle.server.specs.declared.lock.Use.{Use}
 use Rattle.server.specs.declared.object.Object.{Object}
-use Rattle.server.specs.declared.object.Object.the-variants as object
 use Rattle.server.specs.declared.place.Place.{Place}
-use Rattle.server.specs.declared.place.Place.the-variants as place
 use Rattle.server.specs.Object.{lock-of}
 use Rattle.server.specs.Lock.{busy, in-range}
+use Rattle.server.specs.declared.object.Object.the-variants as object
+use Rattle.server.specs.declared.place.Place.the-variants as place
 
 unfoldable pub can-check : ℕ → Object → Bool → Bool
 can-check s object.Metadata inner = true

@@ -1,25 +1,12 @@
 -- A newly opened server: "A new store has the root, an empty leaf, in node 0; all versions are 0."
-use mathlib.Core.Path.{_≡_, refl, ap, _∙_}
-use mathlib.Core.Bool.{Bool, true, false, cond}
+use mathlib.Core.Bool.{cond}
 use mathlib.Core.List.{List, [], _∷_, _++_}
-use Prim.Native.Nat.{ℕ, _≤_, _<_}
-use native.Mathlib.Omega.{arith}
+use Prim.Native.Nat.{ℕ}
 use lib.Dec.{eqb}
-use native.Mathlib.Decide.{ℕ-discrete}
-use borrow.Author.Tests.{ne-eqb}
-use lib.ListN.{length, replicate, getD, set}
-use Rattle.layout.specs.Block.{In}
-use Rattle.layout.specs.Space.{Put, put, Valid, AllValid, mem, changed, stored, mem-stored, length-stored, clear, clear-valid, mem-clear, tab, tab-eq, tab-upd, decide, upd-apart}
-use Rattle.layout.specs.Step.{stepped, stored-append, valid-append}
+use Rattle.layout.specs.Space.{Put, put, clear}
 use Rattle.server.specs.declared.place.Place.{Place}
 use Rattle.server.specs.declared.place.Place.the-variants.{Vector, Node}
-use Rattle.server.specs.Layout.{places, block, partWords, code}
-use Rattle.server.specs.LayoutLaws.{places-onto}
-use Rattle.server.specs.HandOut.{vector-at, node-here}
-use Rattle.nodes.specs.Node.{made}
-use Rattle.nodes.specs.Lists.{pad}
-use Rattle.nodes.specs.Stored.{node-of}
-use Rattle.base.specs.Update.{upd, upd-other}
+use Rattle.server.specs.Layout.{places, block}
 
 -- the stores of the first leaf, at server 0: its kind, and its flag
 unfoldable pub first-leaf : ℕ → List (Put Place)
@@ -28,71 +15,3 @@ first-leaf s = cond (eqb s 0) (put (Node 0 0) 1 ∷ put (Vector 0) 1 ∷ []) []
 -- opening server s: zeros at every place of its part, and then the first leaf
 unfoldable pub open-step : ℕ → ℕ → (Place → ℕ) → List (Put Place)
 open-step s n m = clear places (block n) ++ first-leaf s
-
--- what stands at the places of a newly opened server
-unfoldable pub fresh : ℕ → Place → ℕ
-fresh s = changed places (λ a. 0) (first-leaf s)
-
-pub fresh-sample : (fresh 0 (Node 0 0) ≡ 1) × (fresh 0 (Vector 0) ≡ 1) × (fresh 0 (Node 1 0) ≡ 0) × (fresh 1 (Node 0 0) ≡ 0)
-unfolding fresh first-leaf changed upd decide
-fresh-sample = (refl, refl, refl, refl)
-
--- the words after opening hold that
-pub first-node-valid : (n : ℕ) → 0 < n → Valid places (block n) (Node 0 0)
-unfolding Valid In
-first-node-valid n h = (h, omega arith)
-
-pub first-flag-valid : (n : ℕ) → Valid places (block n) (Vector 0)
-unfolding Valid In
-first-flag-valid n = omega arith
-
-first-valid : (n : ℕ) → 0 < n → (b : Bool) → AllValid places (block n) (cond b (put (Node 0 0) 1 ∷ put (Vector 0) 1 ∷ []) [])
-unfolding AllValid Valid In
-first-valid n h true = (first-node-valid n h, (first-flag-valid n, tt))
-first-valid n h false = tt
-
-pub open-inside : (s n : ℕ) (m : Place → ℕ) → 0 < n → AllValid places (block n) (open-step s n m)
-unfolding open-step first-leaf
-open-inside s n m h =
-    valid-append places (block n) (clear places (block n)) (first-leaf s) (clear-valid places (block n) (places-onto n)) (first-valid n h (eqb s 0))
-
-pub mem-opened : (s n : ℕ) (w : List ℕ) → 0 < n → partWords n ≤ length w → mem places (block n) (stepped places (block n) (open-step s n) w) ≡ fresh s
-unfolding stepped open-step fresh first-leaf partWords
-mem-opened s n w h l =
-    ap (mem places (block n)) (stored-append places (block n) (clear places (block n)) (first-leaf s) w)
-    ∙ mem-stored places (block n) (first-leaf s) (stored places (block n) w (clear places (block n))) (rw length-stored l) (first-valid n h (eqb s 0))
-    ∙ ap (λ (m : Place → ℕ). changed places m (first-leaf s)) (mem-clear places (block n) (places-onto n) w l)
-
--- ---- the same, as it is handed out
-pub fresh-other : (s : ℕ) (a : Place) → ¬ (s ≡ 0) → fresh s a ≡ 0
-unfolding fresh first-leaf changed
-fresh-other s a h = rw (ne-eqb s 0 h)
-
--- at server 0, all but the kind of the node in slot 0 and its flag
-at-first : (a : Place) → fresh 0 a ≡ upd (decide places) (upd (decide places) (λ b. 0) (Node 0 0) 1) (Vector 0) 1 a
-unfolding fresh first-leaf changed
-at-first a = refl
-
-pub fresh-root : node-here 0 (fresh 0) ≡ made 1 0 0 [] []
-unfolding node-here made pad node-of tab
-fresh-root =
-    ap node-of
-    (tab-eq 33 (λ j. fresh 0 (Node 0 j)) (λ j. upd (decide places) (λ b. 0) (Node 0 0) 1 (Node 0 j))
-    (λ j l. at-first (Node 0 j) ∙ upd-apart places (upd (decide places) (λ b. 0) (Node 0 0) 1) (Vector 0) 1 (Node 0 j) refl)
-    ∙ tab-upd places 33 (λ b. 0) (Node 0) (λ i j e. ap (λ (a : Place). getD (code a) 3 0) e) 0 1 (omega arith))
-
-pub fresh-vector : vector-at (fresh 0) ≡ 1 ∷ replicate 15 0
-unfolding vector-at tab
-fresh-vector =
-    tab-eq 16 (λ i. fresh 0 (Vector i)) (λ i. upd (decide places) (upd (decide places) (λ b. 0) (Node 0 0) 1) (Vector 0) 1 (Vector i)) (λ i l. at-first (Vector i))
-    ∙ tab-upd places 16 (upd (decide places) (λ b. 0) (Node 0 0) 1) Vector (λ i j e. ap (λ (a : Place). getD (code a) 1 0) e) 0 1 (omega arith)
-    ∙ ap (λ (l : List ℕ). set l 0 1) (tab-eq 16 (λ i. upd (decide places) (λ b. 0) (Node 0 0) 1 (Vector i)) (λ i. 0) (λ i l. upd-apart places (λ b. 0) (Node 0 0) 1 (Vector i) refl))
-
--- everything else is 0
-pub fresh-zero : (s : ℕ) (a : Place) → ¬ (a ≡ Node 0 0) → ¬ (a ≡ Vector 0) → fresh s a ≡ 0
-fresh-zero s a p q = go (ℕ-discrete s 0)
-  where
-    go : Dec (s ≡ 0) → fresh s a ≡ 0
-    go (no h) = fresh-other s a h
-    go (yes e) =
-        rw e (at-first a ∙ upd-other (decide places) (upd (decide places) (λ b. 0) (Node 0 0) 1) (Vector 0) 1 a q ∙ upd-other (decide places) (λ b. 0) (Node 0 0) 1 a p)

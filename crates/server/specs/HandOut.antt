@@ -5,11 +5,11 @@ use Prim.Native.Nat.{ℕ}
 use lib.Dec.{leb}
 use Rattle.layout.specs.Space.{tab}
 use Rattle.nodes.specs.Stored.{node-of}
-use Rattle.nodes.specs.declared.node.Node as node
 use Rattle.server.specs.declared.hand_out.Metadata.{Metadata}
 use Rattle.server.specs.declared.place.Place.{Place}
 use Rattle.server.specs.declared.place.Place.the-variants.{Root, Version, Vector, Node}
 use Rattle.server.specs.Range.{in-store}
+use Rattle.nodes.specs.declared.node.Node as node
 
 unfoldable pub metadata-at : (Place → ℕ) → Metadata
 metadata-at m = record { root = m Root; version = m Version }

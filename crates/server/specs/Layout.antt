@@ -5,7 +5,7 @@ use mathlib.Core.Path.{_≡_, refl}
 use mathlib.Core.List.{List, [], _∷_}
 use Prim.Native.Nat.{ℕ, _<_}
 use lib.ListN.{getD}
-use Rattle.layout.specs.Block.{Block, words, times, next, end, size, offset}
+use Rattle.layout.specs.Block.{Block, words, times, next, end, size}
 use Rattle.layout.specs.Space.{Coding, Put, put, at}
 use Rattle.server.specs.declared.place.Place.{Place}
 use Rattle.server.specs.declared.place.Place.the-variants.{Root, Version, MetadataLock, Vector, Node, FlagLock, Table, NodeLock}
@@ -54,11 +54,6 @@ places = record { code = code; back = back; again = again }
 -- how many words a server's part has
 unfoldable pub partWords : ℕ → ℕ
 partWords n = size (block n)
-
--- with four slots, 219 words; the lock of node 2 × 1,024 + 1 is the third of the locks in row 1
-pub layout-sample : (partWords 4 ≡ 219) × (at places (block 4) (NodeLock 2 1) ≡ 113)
-unfolding partWords size at offset
-layout-sample = (refl, refl)
 
 -- the store of one word
 unfoldable pub putStep : Place → ℕ → (Place → ℕ) → List (Put Place)

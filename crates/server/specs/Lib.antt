@@ -1,12 +1,10 @@
 -- One server's part of the memory, in reading order.
 -- its layout
 pub mod Layout
-pub mod LayoutLaws
 -- objects, their numbers, the places of their locks
 pub mod Object
 -- the words of locks, and what they say of each client
 pub mod Lock
-pub mod LockLaws
 -- the check of an object
 pub mod Check
 -- what is stored, at a prepare and at an apply
@@ -16,5 +14,5 @@ pub mod Range
 pub mod HandOut
 -- a newly opened server
 pub mod Fresh
--- what each step leaves of everything stored
+-- laws and proofs
 pub mod Laws

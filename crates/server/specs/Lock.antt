@@ -1,6 +1,5 @@
 -- "many readers, or one writer and nobody else". A lock is a word: below 65,536 it is the set of the clients that read, and
 -- 65,536 + c is the client c that writes.
-use mathlib.Core.Path.{_≡_, refl}
 use mathlib.Core.Bool.{Bool, true, false, cond, not}
 use Prim.Native.Nat.{ℕ, _+_, _^_}
 use lib.Dec.{eqb, ltb}
@@ -30,9 +29,3 @@ unlocked c w = cond (ltb w 65536) (putBit false w c) (cond (eqb w (65536 + c)) 0
 -- refusal 10: the clients that it names are below n
 unfoldable pub in-range : ℕ → ℕ → Bool
 in-range n w = cond (ltb w 65536) (ltb w (2 ^ n)) (ltb w (65536 + n))
-
--- client 3 reads; client 1 reads too; then 3 may not write, but may once 1 has unlocked; client 3 writes, and 1 may not even fetch
-pub lock-sample : let w = locked false 1 (locked false 3 0) in
-    (w ≡ 10) × (busy Write 3 w ≡ true) × (busy Write 3 (unlocked 1 w) ≡ false) × (busy Fetch 1 (locked true 3 8) ≡ true)
-unfolding busy locked unlocked putBit
-lock-sample = (refl, refl, refl, refl)

@@ -1,24 +1,21 @@
 -- What a server stores, as lists of stores in order.
-use mathlib.Core.Path.{_≡_}
 use mathlib.Core.Bool.{Bool, cond}
 use mathlib.Core.List.{List, [], _∷_, _++_}
-use Prim.Native.Nat.{ℕ, _/_, _%_, _<_}
+use Prim.Native.Nat.{ℕ, _/_, _%_}
 use lib.Dec.{eqb}
 use Rattle.memory.specs.Bit.{putBit}
-use Rattle.layout.specs.Block.{In}
-use Rattle.layout.specs.Space.{Put, put, puts, Valid}
+use Rattle.layout.specs.Space.{Put, put, puts}
 use Rattle.nodes.specs.Name.{server-of, slot-of}
 use Rattle.nodes.specs.declared.name.Name.{Name}
-use Rattle.nodes.specs.declared.node.Node as node
 use Rattle.nodes.specs.Node.{free-node}
 use Rattle.nodes.specs.Stored.{words-of}
 use Rattle.server.specs.declared.object.Object.{Object}
-use Rattle.server.specs.declared.object.Object.the-variants as object
 use Rattle.server.specs.declared.place.Place.{Place}
 use Rattle.server.specs.declared.place.Place.the-variants.{Root, Version, Vector, Table, Node}
-use Rattle.server.specs.Layout.{places, block}
-use Rattle.server.specs.Object.{lock-of, Has}
+use Rattle.server.specs.Layout.{places}
+use Rattle.server.specs.Object.{lock-of}
 use Rattle.server.specs.Lock.{locked, unlocked}
+use Rattle.nodes.specs.declared.node.Node as node
 
 -- "Prepare checks and locks"
 unfoldable pub lock-step : Object → Bool → ℕ → (Place → ℕ) → List (Put Place)
@@ -51,12 +48,3 @@ table-step x v inner m = cond inner (put (Table (server-of (x .number)) (slot-of
 
 unfoldable pub node-step : ℕ → Name → node.Node → ℕ → Bool → (Place → ℕ) → List (Put Place)
 node-step s x n v inner m = home-step s x (kept-of n v) m ++ table-step x v inner m
-
--- ---- where they are stored
-pub slot-there : (n k : ℕ) (x : Name) → Has n (object.Node x) → k ≡ slot-of (x .number) → k < n
-unfolding lock-of Valid In
-slot-there n k x h e = rw e (h .0)
-
-pub table-there : (n : ℕ) (x : Name) → Has n (object.Node x) → Valid places (block n) (Table (server-of (x .number)) (slot-of (x .number)))
-unfolding lock-of Valid In
-table-there n x ok = ok

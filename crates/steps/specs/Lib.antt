@@ -4,7 +4,6 @@
 pub mod Outcome
 -- the whole memory: head, servers' parts, clients' parts; stores and what stands after them
 pub mod Whole
-pub mod Stores
 -- refusals 1 to 9 as tables
 pub mod Refusal
 pub mod Passed
@@ -14,9 +13,7 @@ pub mod Uses
 pub mod Judge
 -- the eight kinds of steps: outcome and stores
 pub mod Steps
--- objects of the store have locks
-pub mod There
--- the stores of an apply lie in the server's part
-pub mod Writes
 -- a list of steps, on a newly opened store
 pub mod Run
+-- laws and proofs
+pub mod Laws

@@ -1,6 +1,5 @@
 -- "Outcomes: 0 refused (a number); 1 done; 2 fetched (a 0 metadata, 1 node, 2 vector; b name or server); 3 answered;
 -- 4 prepared (a server); 5 decided; 6 applied (a server); 7 committed; 8 aborted (a reason). Unused are 0."
-use mathlib.Core.Path.{_≡_, sym, ap, _∙_}
 use Prim.Native.Nat.{ℕ}
 use Rattle.steps.specs.declared.outcome.Outcome.{Outcome}
 use Rattle.steps.specs.declared.outcome.Outcome.the-variants.{Refused, Done, Fetched, Answered, Prepared, Decided, Applied, Committed, Aborted}
@@ -19,7 +18,3 @@ line Decided = three 5 0 0
 line (Applied s) = three 6 s 0
 line Committed = three 7 0 0
 line (Aborted y) = three 8 y 0
-
--- the way out of each arm of the match
-pub shows : (o p : Outcome) (r : Line) → o ≡ p → r ≡ line p → r ≡ line o
-shows o p r e h = h ∙ ap line (sym e)

@@ -1,16 +1,12 @@
 -- What is known of a step of which none of refusals 4 to 9 holds.
-use mathlib.Core.Path.{_≡_, refl, sym, _∙_}
-use mathlib.Core.Bool.{Bool, true, false, cond, _&&_, _||_, not, true≢false, false≢true}
+use mathlib.Core.Path.{_≡_}
+use mathlib.Core.Bool.{true}
 use Prim.Native.Nat.{ℕ, _≤_, _<_}
-use native.Mathlib.Omega.{arith}
-use borrow.Author.Tests.{eq-eqb, le-leb, ltb-false, leb-false, leb-true}
-use lib.Dec.{eqb, leb, ltb}
-use Rattle.base.specs.Test.{and-both}
 use Rattle.client.specs.Record.{in-store}
 use Rattle.steps.specs.declared.sizes.Sizes.{Sizes}
 use Rattle.steps.specs.declared.step.Step.{Step}
 use Rattle.steps.specs.Whole.{Address, client, tree-sizes}
-use Rattle.steps.specs.Refusal.{first, kind-of, between, fits, refusal}
+use Rattle.steps.specs.Refusal.{kind-of, fits}
 
 pub record Passed (z : Sizes) (k : Step) (m : Address → ℕ) : Type 0 where
   pub known-kind : k .kind ≤ 7
@@ -21,46 +17,3 @@ pub record Passed (z : Sizes) (k : Step) (m : Address → ℕ) : Type 0 where
   pub known-participant : 4 ≤ k .kind → k .kind ≤ 5 → k .server < z .servers
   pub known-node : k .kind ≡ 1 → k .op ≡ 6 → in-store (tree-sizes z) (k .key) ≡ true
   pub fitting : fits (λ a. m (client (k .client) a)) (k .server) (kind-of (k .kind)) ≡ true
-
--- a row that does not hold, and those behind it
-peel : (n : ℕ) (b : Bool) (r : ℕ) → 0 < n → cond b n r ≡ 0 → (b ≡ false) × (r ≡ 0)
-peel n true r l e = absurd (omega arith)
-peel n false r l e = (refl, e)
-
-not-so : (b : Bool) → not b ≡ false → b ≡ true
-not-so true e = refl
-not-so false e = absurd (true≢false e)
-
--- of a test that fails, with its first half
-given-half : (a b : Bool) → (a && b) ≡ false → a ≡ true → b ≡ false
-given-half true b e h = e
-given-half false b e h = absurd (false≢true h)
-
-pub passed : (z : Sizes) (k : Step) (m : Address → ℕ) → refusal z k m ≡ 0 → Passed z k m
-unfolding refusal first
-passed z k m e =
-    let gives = eqb (k .kind) 1 in
-    let migrates = gives && eqb (k .op) 6 in
-    let sited = migrates || between 4 5 (k .kind) in
-    let unfit = not (fits (λ a. m (client (k .client) a)) (k .server) (kind-of (k .kind))) in
-    let p4 = peel 4 (ltb 7 (k .kind)) _ (omega arith) e in
-    let p5 = peel 5 (leb (z .clients) (k .client)) _ (omega arith) (p4 .1) in
-    let p6 = peel 6 (gives && not (between 1 6 (k .op))) _ (omega arith) (p5 .1) in
-    let p7 = peel 7 (sited && leb (z .servers) (k .server)) _ (omega arith) (p6 .1) in
-    let p8 = peel 8 (migrates && not (in-store (tree-sizes z) (k .key))) _ (omega arith) (p7 .1) in
-    let p9 = peel 9 unfit 0 (omega arith) (p8 .1) in
-    record {
-      known-kind = ltb-false 7 (k .kind) (p4 .0);
-      known-client = leb-false (z .clients) (k .client) (p5 .0);
-      known-op = λ h.
-          let r = and-both (leb 1 (k .op)) (leb (k .op) 6) (not-so (between 1 6 (k .op)) (given-half gives (not (between 1 6 (k .op))) (p6 .0) (eq-eqb (k .kind) 1 h))) in
-          (leb-true 1 (k .op) (r .0), leb-true (k .op) 6 (r .1));
-      known-server = λ h o. leb-false (z .servers) (k .server) (given-half sited (leb (z .servers) (k .server)) (p7 .0) (rw (eq-eqb (k .kind) 1 h, eq-eqb (k .op) 6 o)));
-      known-participant = λ l h. leb-false (z .servers) (k .server) (given-half sited (leb (z .servers) (k .server)) (p7 .0) (either migrates (between 4 5 (k .kind)) (rw (le-leb 4 (k .kind) l, le-leb (k .kind) 5 h))));
-      known-node = λ h o. not-so (in-store (tree-sizes z) (k .key)) (given-half migrates (not (in-store (tree-sizes z) (k .key))) (p8 .0) (rw (eq-eqb (k .kind) 1 h, eq-eqb (k .op) 6 o)));
-      fitting = not-so (fits (λ a. m (client (k .client) a)) (k .server) (kind-of (k .kind))) (p9 .0);
-    }
-  where
-    either : (a b : Bool) → b ≡ true → (a || b) ≡ true
-    either true b h = refl
-    either false b h = h

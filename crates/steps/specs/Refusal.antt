@@ -1,20 +1,18 @@
 -- "Steps refused": 1 to 9 as a table of tests, in document 01's order. "A refused step returns the first number that holds and
 -- changes no byte; opening checks 1 to 3 only."
-use mathlib.Core.Path.{_≡_, refl}
 use mathlib.Core.Bool.{Bool, true, cond, _&&_, _||_, not}
 use mathlib.Core.List.{List, [], _∷_}
 use Prim.Native.Nat.{ℕ}
 use lib.Dec.{eqb, leb, ltb}
 use lib.ListN.{getD}
 use Rattle.memory.specs.Bit.{bit}
-use Rattle.layout.specs.Block.{size}
 use Rattle.client.specs.Layout.{ClientWord, phase, op-number, participants, prepared, applied}
 use Rattle.client.specs.Record.{in-store}
 use Rattle.steps.specs.declared.sizes.Sizes.{Sizes}
 use Rattle.steps.specs.declared.step.Step.{Step}
 use Rattle.steps.specs.declared.step.Kind.{Kind}
 use Rattle.steps.specs.declared.step.Kind.the-variants.{Begin, Give, Work, Commit, Prepare, Apply, GiveUp, Lost, Unknown}
-use Rattle.steps.specs.Whole.{Address, client, tree-sizes, words-for, length-for}
+use Rattle.steps.specs.Whole.{Address, client, tree-sizes, length-for}
 
 -- a row of the table: its number, and whether it holds
 pub record Row : Type 0 where
@@ -94,15 +92,3 @@ open-refusal bytes z = first (of-memory bytes z)
 
 unfoldable pub refusal : Sizes → Step → (Address → ℕ) → ℕ
 refusal z k m = first (of-step z k m)
-
--- "Servers 0 and 9 refused by 2, 1 and 8 accepted; of 16 clients, 15 accepted, 16 refused by 5."
-abbrev opens : ℕ → ℕ
-opens s = open-refusal 5000000 (record { servers = s; slots = 1; clients = 1 })
-
-abbrev begins : ℕ → ℕ
-begins c =
-    refusal (record { servers = 1; slots = 1; clients = 16 }) (record { kind = 0; client = c; op = 0; key = 0; value = 0; server = 0 }) (λ a. 0)
-
-pub refusal-samples : (opens 0 ≡ 2) × (opens 9 ≡ 2) × (opens 1 ≡ 0) × (opens 8 ≡ 0) × (begins 15 ≡ 0) × (begins 16 ≡ 5)
-unfolding open-refusal refusal first allowed? length-for words-for size kind-of fits
-refusal-samples = (refl, refl, refl, refl, refl, refl)

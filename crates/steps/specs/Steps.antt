@@ -1,7 +1,7 @@
 -- The eight kinds of steps: what each comes to, and what it stores. Everything that a rule reads is judged (refusal 10) before
 -- anything is stored.
 use mathlib.Core.Bool.{Bool, true, false, cond, _&&_, _||_, not}
-use mathlib.Core.List.{List, [], _∷_, _++_, map}
+use mathlib.Core.List.{List, [], _++_, map}
 use Prim.Native.Nat.{ℕ, zero, suc, _+_, _-_, _%_}
 use lib.Dec.{eqb, leb}
 use lib.ListN.{length}
@@ -12,9 +12,7 @@ use Rattle.layout.specs.Part.{over}
 use Rattle.layout.specs.Sweep.{sweep}
 use Rattle.nodes.specs.declared.node.Node.{Node}
 use Rattle.nodes.specs.Name.{server-of, slot-of}
-use Rattle.operations.specs.Object as O
 use Rattle.server.specs.declared.place.Place.{Place}
-use Rattle.server.specs.declared.place.Place.the-variants as place
 use Rattle.server.specs.declared.lock.Use.the-variants.{Fetch}
 use Rattle.server.specs.Layout.{places}
 use Rattle.server.specs.Object.{object-of, named}
@@ -35,7 +33,6 @@ use Rattle.client.specs.Participants.{participants-of, committing, at-home}
 use Rattle.client.specs.Drops.{next-version}
 use Rattle.client.specs.Renew.{finish}
 use Rattle.client.specs.Copies.{drop-all}
-use Rattle.client.specs.Life as Life
 use Rattle.client.specs.Course.{noted, decided}
 use Rattle.client.specs.Work.{Worked, refused, fetches, aborted, answers, walked, worked}
 use Rattle.steps.specs.declared.sizes.Sizes.{Sizes}
@@ -43,29 +40,14 @@ use Rattle.steps.specs.declared.step.Step.{Step}
 use Rattle.steps.specs.declared.step.Kind.{Kind}
 use Rattle.steps.specs.declared.step.Kind.the-variants.{Begin, Give, Work, Commit, Prepare, Apply, GiveUp, Lost, Unknown}
 use Rattle.steps.specs.declared.outcome.Outcome.{Outcome}
-use Rattle.steps.specs.declared.outcome.Outcome.the-variants.{
-  Refused,
-  Done,
-  Fetched,
-  Answered,
-  Prepared,
-  Decided,
-  Applied,
-  Committed,
-  Aborted,
-}
+use Rattle.steps.specs.declared.outcome.Outcome.the-variants.{Refused, Done, Fetched, Answered, Prepared, Decided, Applied, Committed, Aborted}
 use Rattle.steps.specs.Whole.{Address, server, client, whole, tree-sizes}
 use Rattle.steps.specs.Refusal.{kind-of, refusal}
 use Rattle.steps.specs.Uses.{Item, those, all, read-item, read-items, used-items, object, checked-at, locked-at, use-of, deciding}
-use Rattle.steps.specs.Judge.{
-  lock-fits,
-  check-fits,
-  lowest,
-  prepare-fits,
-  unlock-fits,
-  abort-fits,
-  versions-fit,
-}
+use Rattle.steps.specs.Judge.{lock-fits, check-fits, lowest, prepare-fits, unlock-fits, abort-fits, versions-fit}
+use Rattle.operations.specs.Object as O
+use Rattle.server.specs.declared.place.Place.the-variants as place
+use Rattle.client.specs.Life as Life
 
 -- what comes of a step
 pub record Did : Type 0 where

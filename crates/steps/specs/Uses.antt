@@ -1,5 +1,4 @@
 -- What a transaction has read, as servers are asked about it: which object is checked where, and which is locked.
-use mathlib.Core.Path.{_≡_, refl}
 use mathlib.Core.Bool.{Bool, true, cond, _&&_, _||_}
 use mathlib.Core.List.{List, [], _∷_, _++_, map}
 use mathlib.Core.Option.{Option, none, some}
@@ -90,8 +89,3 @@ reason-of (some f) = f .1
 
 unfoldable pub deciding : List (ℕ × ℕ) → ℕ
 deciding fs = reason-of (least fs)
-
--- of a node that differs and a flag that is busy the node decides
-pub deciding-sample : deciding ((8200, 2) ∷ (4, 0) ∷ (7, 1) ∷ []) ≡ 1
-unfolding deciding least
-deciding-sample = refl

@@ -1,18 +1,15 @@
 -- The whole memory: "a 64-byte head holding the three sizes", then the servers' parts, then the clients' parts.
 use mathlib.Core.Path.{_≡_, refl}
 use mathlib.Core.List.{List, [], _∷_}
-use Prim.Native.Nat.{ℕ, _+_, _*_, _≤_, _<_}
-use native.Mathlib.Nat.{mul-le-mul-right}
-use native.Mathlib.Omega.{arith}
+use Prim.Native.Nat.{ℕ, _+_, _*_, _≤_}
 use lib.ListN.{getD, drop}
-use Rattle.layout.specs.Block.{Block, words, times, next, end, size, In, offset, row-fits}
-use Rattle.layout.specs.Space.{Coding, at, Valid}
-use Rattle.layout.specs.Part.{Part}
-use Rattle.operations.specs.Slot as S
+use Rattle.layout.specs.Block.{Block, words, times, next, end, size}
+use Rattle.layout.specs.Space.{Coding}
 use Rattle.server.specs.declared.place.Place.{Place}
-use Rattle.server.specs.Layout as Srv
-use Rattle.client.specs.Layout.{ClientWord, client-code, client-back, client-again, client-words, client-block}
+use Rattle.client.specs.Layout.{ClientWord, client-code, client-back, client-again, client-block}
 use Rattle.steps.specs.declared.sizes.Sizes.{Sizes}
+use Rattle.operations.specs.Slot as S
+use Rattle.server.specs.Layout as Srv
 
 -- "Servers 1 to 8, slots on each 1 to 1,024, clients 1 to 16."
 pub record Allowed (z : Sizes) : Type 0 where
@@ -62,38 +59,3 @@ server-at z s = 8 + s * size (Srv.block (z .slots))
 
 unfoldable pub client-at : Sizes → ℕ → ℕ
 client-at z c = 8 + z .servers * size (Srv.block (z .slots)) + c * size client-block
-
--- ---- laws
-module _ (z : Sizes) where
-  -- the parts lie in the whole
-  pub server-part : (s : ℕ) → s < z .servers → Part Srv.places (Srv.block (z .slots)) whole (block z) (server s) (server-at z s)
-  unfolding at Valid In offset size server-at
-  server-part s h = record {
-    good = λ a ok. (h, ok);
-    only = λ a ok. ok .1;
-    spot = λ a. omega arith;
-    room = omega (arith, row-fits s (z .servers) (size (Srv.block (z .slots))) h);
-  }
-
-  pub client-part : (c : ℕ) → c < z .clients → Part client-words client-block whole (block z) (client c) (client-at z c)
-  unfolding at Valid In offset size client-at
-  client-part c h = record {
-    good = λ a ok. (h, ok);
-    only = λ a ok. ok .1;
-    spot = λ a. omega arith;
-    room = omega (arith, row-fits c (z .clients) (size client-block) h);
-  }
-
-  -- the whole is never large
-  pub words-within : Allowed z → words-for z ≤ 525328
-  unfolding words-for size
-  words-within f =
-      omega (arith, f .servers, f .slots, f .clients, mul-le-mul-right (size (Srv.block (z .slots))) (f .servers .1))
-
--- the smallest store, and the largest
-abbrev sized : ℕ → ℕ → ℕ → Sizes
-sized s n c = record { servers = s; slots = n; clients = c }
-
-pub words-samples : (words-for (sized 1 1 1) ≡ 7300) × (words-for (sized 8 1024 16) ≡ 525328)
-unfolding words-for size
-words-samples = (refl, refl)

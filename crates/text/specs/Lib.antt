@@ -2,8 +2,5 @@
 pub mod Line
 pub mod Reader
 pub mod Print
--- The theorem that a line read byte by byte is read as it says (`reads`).
-pub mod Reads
--- Laws that the code's proofs cite.
-pub mod Exits
-pub mod Printing
+-- laws and proofs
+pub mod Laws

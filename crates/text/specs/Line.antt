@@ -1,5 +1,4 @@
 -- "A line is 3 or 6 unsigned 64-bit numbers in decimal, parted by one space; any other .. prints `bad`": bytes without the newline.
-use mathlib.Core.Path.{_≡_, refl}
 use mathlib.Core.Bool.{Bool, true, false, cond, _&&_}
 use mathlib.Core.List.{List, [], _∷_, map}
 use Prim.Native.Nat.{ℕ, _+_, _*_, _-_, _^_}
@@ -52,12 +51,3 @@ of-numbers n =
 
 unfoldable pub line-of : List ℕ → Line
 line-of bytes = cond (numbers? (pieces bytes)) (of-numbers (map value (pieces bytes))) Bad
-
--- `1 04 1` is sizes; `1  4 1`, `1 4 1 `, `1 4` and the empty line are bad
-pub line-samples : (line-of (49 ∷ 32 ∷ 48 ∷ 52 ∷ 32 ∷ 49 ∷ []) ≡ Sizes 1 4 1)
-    × (line-of (49 ∷ 32 ∷ 32 ∷ 52 ∷ 32 ∷ 49 ∷ []) ≡ Bad)
-    × (line-of (49 ∷ 32 ∷ 52 ∷ 32 ∷ 49 ∷ 32 ∷ []) ≡ Bad)
-    × (line-of (49 ∷ 32 ∷ 52 ∷ []) ≡ Bad)
-    × (line-of [] ≡ Bad)
-unfolding line-of numbers? number? digits? value-from pieces of-numbers
-line-samples = (refl, refl, refl, refl, refl)

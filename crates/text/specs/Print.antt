@@ -1,5 +1,5 @@
 -- What is printed: numbers in decimal, and the lines of document 01, each with its newline (byte 10).
-use mathlib.Core.Path.{_≡_, refl}
+use mathlib.Core.Path.{_≡_}
 use mathlib.Core.Bool.{cond}
 use mathlib.Core.List.{List, [], _∷_, _++_}
 use Prim.Native.Nat.{ℕ, zero, suc, _+_, _/_, _%_}
@@ -42,12 +42,3 @@ bad-line = 98 ∷ 97 ∷ 100 ∷ 10 ∷ []
 pub record Printed (out : List ℕ) (at : ℕ) (line : List ℕ) (out' : List ℕ) (r : ℕ) : Type 0 where
   pub bytes : out' ≡ sets out at line
   pub end : r ≡ at + length line
-
--- `3 2 1 0`, `12 3 0 18446744073709551615`
-pub line-samples : (step-line 3 2 1 0 ≡ 51 ∷ 32 ∷ 50 ∷ 32 ∷ 49 ∷ 32 ∷ 48 ∷ 10 ∷ [])
-    × (step-line 12 3 0 18446744073709551615
-    ≡ 49 ∷ 50 ∷ 32 ∷ 51 ∷ 32 ∷ 48 ∷ 32
-    ∷ 49 ∷ 56 ∷ 52 ∷ 52 ∷ 54 ∷ 55 ∷ 52 ∷ 52 ∷ 48 ∷ 55 ∷ 51 ∷ 55 ∷ 48 ∷ 57 ∷ 53 ∷ 53 ∷ 49 ∷ 54 ∷ 49 ∷ 53 ∷ 10 ∷ [])
-    × (store-line 1 4 1 ≡ 115 ∷ 116 ∷ 111 ∷ 114 ∷ 101 ∷ 32 ∷ 49 ∷ 32 ∷ 52 ∷ 32 ∷ 49 ∷ 10 ∷ [])
-unfolding step-line store-line field decimal digits-within
-line-samples = (refl, refl, refl)

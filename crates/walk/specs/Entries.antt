@@ -1,35 +1,12 @@
--- The code's nodes as the entries that plans speak of.
-use mathlib.Core.Path.{_≡_, refl, sym, _∙_, ap}
-use mathlib.Core.Bool.{Bool, true, false, cond, _&&_, not}
-use mathlib.Core.List.{List, [], _∷_, _++_, map, tail}
-use mathlib.Core.Option.{Option, none, some}
-use Prim.Native.Nat.{ℕ, zero, suc, _+_, _-_, _≤_, _<_}
-use native.Mathlib.Omega.{arith}
-use native.Mathlib.Decide.{ℕ-discrete, decLe}
-use native.Mathlib.Numerals.{add-one}
+-- The code's nodes beside the entries that plans speak of.
+use mathlib.Core.Path.{_≡_}
+use mathlib.Core.Bool.{Bool, true, false, cond}
+use Prim.Native.Nat.{ℕ, suc, _-_, _≤_, _<_}
 use lib.Dec.{ltb, leb, eqb}
-use lib.ListN.{length, take, drop, getD, List·getD-map}
-use lib.Seq.{getD-take, drop-cons}
-use borrow.Author.Tests.{lt-ltb, le-ltb, ltb-true, ltb-false, leb-true, leb-false, le-leb, eq-eqb, ne-eqb, eqb-true, eqb-false, not-true, not-false}
-use Rattle.base.specs.Test.{and-both, ifd, ifd-yes, ifd-no}
-use Rattle.plans.specs.Plan as P
+use lib.ListN.{take, drop, getD}
 use Rattle.nodes.specs.declared.node.Node.{Node}
-use Rattle.nodes.specs.Place.{place}
-use Rattle.nodes.specs.Find.{find}
-use Rattle.nodes.specs.Node.{extra, keysOf, slotsOf, extra-le}
-use Rattle.nodes.specs.Entries as N
-use Rattle.nodes.specs.Entries.{entries, entriesOf}
-use Rattle.nodes.specs.EntryLaws.{entries-keys, entries-slots, length-entries}
-use Rattle.nodes.specs.Kept.{Whole, length-entriesOf}
-use Rattle.operations.specs.Object.{Obj, meta, node, Val, body, Why, no-tree}
-use Rattle.operations.specs.Entry.{Entries, zip, keys, vals, mk, mn, cut-at, index, value-in}
-use Rattle.operations.specs.Path.{Plan, open-node, kid, Branch, Cont, down}
-use Rattle.client.specs.Record.{value-of}
-
-zip-same : (ks vs : List ℕ) → zip ks vs ≡ N.zip ks vs
-zip-same [] vs = refl
-zip-same (k ∷ ks) [] = refl
-zip-same (k ∷ ks) (v ∷ vs) = ap (λ (l : Entries). (k, v) ∷ l) (zip-same ks vs)
+use Rattle.operations.specs.Entry.{Entries}
+use Rattle.operations.specs.Path.{Branch}
 
 -- "the root is free, a child is free": a leaf or an inner node, with a level of its kind
 unfoldable pub opens : Node → Bool
@@ -39,221 +16,15 @@ opens n = cond (eqb (n .kind) 1) (eqb (n .level) 0) (cond (eqb (n .kind) 2) (ltb
 unfoldable pub below : ℕ → Node → Bool
 below l n = cond (opens n) (cond (eqb (n .level) l) (leb 7 (n .count)) false) false
 
-open-body : (lo k l : ℕ) (ks vs : List ℕ) (c : ℕ → Entries → Plan)
-    → open-node lo (body k l ks vs) c ≡ cond (cond (eqb k 1) (eqb l 0) (cond (eqb k 2) (ltb 0 l) false)) (c l (entries (extra k) lo ks vs)) (P.fail no-tree)
-unfolding entries extra
-open-body lo zero l ks vs c = refl
-open-body lo (suc zero) zero ks vs c = rw (zip-same ks vs)
-open-body lo (suc zero) (suc l) ks vs c = let a : suc l ≡ 0 → ⊥ = λ e. omega arith in rw (ne-eqb (suc l) 0 a)
-open-body lo (suc (suc zero)) zero ks vs c = refl
-open-body lo (suc (suc zero)) (suc l) ks vs c = let a : 0 < suc l = omega arith in rw (zip-same (lo ∷ ks) vs, lt-ltb 0 (suc l) a)
-open-body lo (suc (suc (suc k))) l ks vs c =
-    let a : suc (suc (suc k)) ≡ 1 → ⊥ = λ e. omega arith in
-    let b : suc (suc (suc k)) ≡ 2 → ⊥ = λ e. omega arith in
-    rw (ne-eqb (suc (suc (suc k))) 1 a, ne-eqb (suc (suc (suc k))) 2 b)
-
-pub open-is : (lo x : ℕ) (n : Node) (c : ℕ → Entries → Plan)
-    → open-node lo (value-of (node x) n) c ≡ cond (opens n) (c (n .level) (entriesOf n lo)) (P.fail no-tree)
-unfolding opens entriesOf
-open-is lo x n c = open-body lo (n .kind) (n .level) (keysOf n) (slotsOf n) c
-
--- a node that is open is a leaf of level 0, or an inner node of a level from 1
-pub record Leaf (n : Node) : Type 0 where
-  pub kind : n .kind ≡ 1
-  pub level : n .level ≡ 0
-
 pub record Inner (n : Node) : Type 0 where
   pub kind : n .kind ≡ 2
   pub level : 0 < n .level
-
-open-kind : (n : Node) → opens n ≡ true → cond (eqb (n .kind) 1) (eqb (n .level) 0) (cond (eqb (n .kind) 2) (ltb 0 (n .level)) false) ≡ true
-unfolding opens
-open-kind n h = h
-
-module _ (n : Node) (h : opens n ≡ true) where
-  pub open-leaf : n .level ≡ 0 → Leaf n
-  open-leaf z = go (eqb (n .kind) 1) (eqb (n .kind) 2) refl refl
-    where
-      go : (a b : Bool) → eqb (n .kind) 1 ≡ a → eqb (n .kind) 2 ≡ b → Leaf n
-      go true b p q = record { kind = eqb-true (n .kind) 1 p; level = z }
-      go false true p q = let l : 0 < n .level = ltb-true 0 (n .level) (rw (p, q) at (open-kind n h)) in absurd (omega arith)
-      go false false p q = let e : false ≡ true = rw (p, q) at (open-kind n h) in let z : _≡_ {A = ℕ} 0 1 = cc in absurd (omega arith)
-
-  pub open-inner : 0 < n .level → Inner n
-  open-inner z = go (eqb (n .kind) 1) (eqb (n .kind) 2) refl refl
-    where
-      go : (a b : Bool) → eqb (n .kind) 1 ≡ a → eqb (n .kind) 2 ≡ b → Inner n
-      go true b p q = let l : n .level ≡ 0 = eqb-true (n .level) 0 (rw p at (open-kind n h)) in absurd (omega arith)
-      go false true p q = record { kind = eqb-true (n .kind) 2 q; level = z }
-      go false false p q = let e : false ≡ true = rw (p, q) at (open-kind n h) in let z : _≡_ {A = ℕ} 0 1 = cc in absurd (omega arith)
-
-pub extra-leaf : (n : Node) → Leaf n → extra (n .kind) ≡ 0
-unfolding extra
-extra-leaf n h = rw (h .kind)
-
-pub extra-inner : (n : Node) → Inner n → extra (n .kind) ≡ 1
-unfolding extra
-extra-inner n h = rw (h .kind)
-
--- enough entries: 7 keys
-enough-by : (l c len : ℕ) (a b : Plan) → (l ≡ 0 → len ≡ c) → (0 < l → len ≡ c + 1) → ifd (decLe (mn l) len) a b ≡ cond (leb 7 c) a b
-enough-by l c len a b z s = go l refl (leb 7 c) refl
-  where
-    go : (j : ℕ) → l ≡ j → (t : Bool) → leb 7 c ≡ t → ifd (decLe (mn l) len) a b ≡ cond (leb 7 c) a b
-    go zero e true p = let g : 7 ≤ c = leb-true 7 c p in let d : mn l ≤ len = rw e (omega (arith, z e)) in rw p (ifd-yes (decLe (mn l) len) a b d)
-    go zero e false p = let g : c < 7 = leb-false 7 c p in let d : mn l ≤ len → ⊥ = rw e (λ q. omega (arith, z e, q)) in rw p (ifd-no (decLe (mn l) len) a b d)
-    go (suc j) e true p = let g : 7 ≤ c = leb-true 7 c p in let d : mn l ≤ len = rw e (omega (arith, s (omega arith))) in rw p (ifd-yes (decLe (mn l) len) a b d)
-    go (suc j) e false p = let g : c < 7 = leb-false 7 c p in let y = s (omega arith) in let d : mn l ≤ len → ⊥ = rw e (λ q. omega (arith, y, q)) in rw p (ifd-no (decLe (mn l) len) a b d)
-
-enough : (n : Node) (lo : ℕ) → Whole n → opens n ≡ true → (a b : Plan)
-    → ifd (decLe (mn (n .level)) (length (entriesOf n lo))) a b ≡ cond (leb 7 (n .count)) a b
-enough n lo f h a b =
-    enough-by (n .level) (n .count) (length (entriesOf n lo)) a b
-    (λ z. let x = extra-leaf n (open-leaf n h z) in omega (arith, length-entriesOf n lo f))
-    (λ z. let x = extra-inner n (open-inner n h z) in omega (arith, length-entriesOf n lo f))
-
--- what a plan makes of a node below the root
-pub child-is : (l lo x : ℕ) (n : Node) → Whole n → (k : Entries → Plan)
-    → open-node lo (value-of (node x) n) (λ j es. ifd (ℕ-discrete j l) (ifd (decLe (mn l) (length es)) (k es) (P.fail no-tree)) (P.fail no-tree))
-    ≡ cond (below l n) (k (entriesOf n lo)) (P.fail no-tree)
-unfolding below
-child-is l lo x n f k = open-is lo x n _ ∙ go (opens n) (eqb (n .level) l) refl refl
-  where
-    go : (a b : Bool) → opens n ≡ a → eqb (n .level) l ≡ b
-        → cond (opens n) (ifd (ℕ-discrete (n .level) l) (ifd (decLe (mn l) (length (entriesOf n lo))) (k (entriesOf n lo)) (P.fail no-tree)) (P.fail no-tree)) (P.fail no-tree)
-        ≡ cond (below l n) (k (entriesOf n lo)) (P.fail no-tree)
-    go true true p q =
-        let e : n .level ≡ l = eqb-true (n .level) l q in
-        rw (below, p, q, ← e, ifd-yes (ℕ-discrete (n .level) (n .level)) _ _ refl) (enough n lo f p (k (entriesOf n lo)) (P.fail no-tree))
-    go true false p q =
-        let e : n .level ≡ l → ⊥ = eqb-false (n .level) l q in
-        rw (below, p, q, ifd-no (ℕ-discrete (n .level) l) _ _ e)
-    go false b p q = rw (below, p)
-
--- ---- ways out of the code that decides it
-module _ (n : Node) (l : ℕ) (t : Bool) (e : t ≡ opens n) where
-  pub below-shut : not t ≡ true → false ≡ below l n
-  unfolding below
-  below-shut q = rw (← e, not-true t q)
-
-  pub below-other : not t ≡ false → (n .level ≡ l → ⊥) → false ≡ below l n
-  unfolding below
-  below-other q h = rw (← e, not-false t q, ne-eqb (n .level) l h)
-
-  pub below-count : not t ≡ false → n .level ≡ l → leb 7 (n .count) ≡ below l n
-  unfolding below
-  below-count q h = rw (← e, not-false t q, eq-eqb (n .level) l h)
-
-pub ruleset below-exits = (below-shut, below-other, below-count)
-
--- ---- the entry that a key leads to
-pub cut-at-is : (i : ℕ) (e : ℕ × ℕ) (es : Entries) → i ≤ length es → cut-at i e es ≡ (take i (e ∷ es), getD (e ∷ es) i (0, 0), drop (suc i) (e ∷ es))
-cut-at-is zero e es h = refl
-cut-at-is (suc i) e [] h = absurd (omega arith)
-cut-at-is (suc i) e (f ∷ es) h = let r : cut-at i f es ≡ (take i (f ∷ es), getD (f ∷ es) i (0, 0), drop (suc i) (f ∷ es)) = cut-at-is i f es (omega arith) in rw r
 
 -- an inner node on the path, followed at its entry number i
 unfoldable pub branch-of : ℕ → ℕ → Entries → Branch
 branch-of n i es = record { nm = n; key = getD es i (0, 0) .0; pre = take i es; post = drop (suc i) es }
 
-down-at : (stop : ℕ → Bool) (key : ℕ) (k : Cont) (l : ℕ) (fs : List Branch) (n : ℕ) (e : ℕ × ℕ) (es : Entries) (p : ℕ) → stop (suc l) ≡ false → p ≡ place (keys es) key → p ≤ length es
-    → down stop key k (suc l) fs n (e ∷ es)
-    ≡ kid [] l (getD (e ∷ es) p (0, 0) .0) (getD (e ∷ es) p (0, 0) .1) (λ es′. down stop key k l (branch-of n p (e ∷ es) ∷ fs) (getD (e ∷ es) p (0, 0) .1) es′)
-unfolding branch-of
-down-at stop key k l fs n e es p s q h = rw (s, ← q, cut-at-is p e es h)
-
-module _ (n : Node) (lo : ℕ) (f : Whole n) where
-  longer : length (slotsOf n) ≡ length (keysOf n) + extra (n .kind)
-  longer = omega (arith, f .keys, f .slots)
-
-  entry-slots : vals (entriesOf n lo) ≡ slotsOf n
-  unfolding entriesOf
-  entry-slots = entries-slots (extra (n .kind)) lo (extra-le (n .kind)) (keysOf n) (slotsOf n) longer
-
-  pub entry-slot : (p : ℕ) → p < n .count + extra (n .kind) → getD (entriesOf n lo) p (0, 0) .1 ≡ getD (n .slots) p 0
-  unfolding slotsOf
-  entry-slot p h =
-      let a : getD (vals (entriesOf n lo)) p 0 ≡ getD (entriesOf n lo) p (0, 0) .1 = List·getD-map (λ (e : ℕ × ℕ). e .1) (entriesOf n lo) p (0, 0) in
-      sym a ∙ rw entry-slots (getD-take (n .count + extra (n .kind)) (n .slots) p 0 h)
-
-  pub entry-keys : keys (entriesOf n lo) ≡ N.headed (extra (n .kind)) lo (keysOf n)
-  unfolding entriesOf
-  entry-keys = entries-keys (extra (n .kind)) lo (extra-le (n .kind)) (keysOf n) (slotsOf n) longer
-
-pub keys-later : (E : Entries) → keys (drop 1 E) ≡ drop 1 (keys E)
-keys-later [] = refl
-keys-later (e ∷ es) = refl
-
--- a node as it is written
-mk-leaf : (kind level : ℕ) (E : Entries) (ks vs : List ℕ) → kind ≡ 1 → level ≡ 0 → keys E ≡ ks → vals E ≡ vs → mk level E ≡ body kind level ks vs
-mk-leaf kind level E ks vs k e p q = rw (k, e, p, q)
-
-mk-inner : (kind level : ℕ) (E : Entries) (ks vs : List ℕ) → kind ≡ 2 → 0 < level → drop 1 (keys E) ≡ ks → vals E ≡ vs → mk level E ≡ body kind level ks vs
-mk-inner kind zero E ks vs k e p q = absurd (omega arith)
-mk-inner kind (suc l) E ks vs k e p q = rw (k, later E, p, q)
-  where
-    later : (E : Entries) → keys (tail E) ≡ drop 1 (keys E)
-    later [] = refl
-    later (e ∷ es) = refl
-
-pub stored-node : (n : Node) (lo x : ℕ) → Whole n → opens n ≡ true → mk (n .level) (entriesOf n lo) ≡ value-of (node x) n
-stored-node n lo x f h = go (n .level) refl
-  where
-    go : (l : ℕ) → n .level ≡ l → mk (n .level) (entriesOf n lo) ≡ value-of (node x) n
-    go zero e =
-        let k : Leaf n = open-leaf n h e in
-        mk-leaf (n .kind) (n .level) (entriesOf n lo) (keysOf n) (slotsOf n) (k .kind) e (rw (entry-keys n lo f, extra-leaf n k)) (entry-slots n lo f)
-    go (suc l) e =
-        let k : Inner n = open-inner n h (omega arith) in
-        mk-inner (n .kind) (n .level) (entriesOf n lo) (keysOf n) (slotsOf n) (k .kind) (k .level) (rw (entry-keys n lo f, extra-inner n k)) (entry-slots n lo f)
-
--- "the path downward": a step from an inner node
-module _ (stop : ℕ → Bool) (key : ℕ) (k : Cont) (fs : List Branch) (nm p c : ℕ) where
-  down-list : (l : ℕ) (E : Entries) → 0 < l → stop l ≡ false → p ≡ place (keys (drop 1 E)) key → suc p ≤ length E → c ≡ getD E p (0, 0) .1
-      → down stop key k l fs nm E ≡ kid [] (l - 1) (getD E p (0, 0) .0) c (λ es′. down stop key k (l - 1) (branch-of nm p E ∷ fs) c es′)
-  down-list zero E z s pp h pc = absurd (omega arith)
-  down-list (suc l) [] z s pp h pc = absurd (omega arith)
-  down-list (suc l) (e ∷ es) z s pp h pc = let d : suc l - 1 ≡ l = omega arith in rw (d, pc) (down-at stop key k l fs nm e es p s pp (omega arith))
-
-  pub down-inner : (n : Node) (lo l : ℕ) → n .level ≡ l → Whole n → Inner n → stop l ≡ false → p ≡ place (keysOf n) key → p ≤ n .count → c ≡ getD (n .slots) p 0
-      → down stop key k l fs nm (entriesOf n lo)
-      ≡ kid [] (l - 1) (getD (entriesOf n lo) p (0, 0) .0) c (λ es′. down stop key k (l - 1) (branch-of nm p (entriesOf n lo) ∷ fs) c es′)
-  down-inner n lo l e f i s pp h pc =
-      let x = extra-inner n i in
-      let q : keys (drop 1 (entriesOf n lo)) ≡ keysOf n = rw (keys-later (entriesOf n lo), entry-keys n lo f, x) in
-      down-list l (entriesOf n lo) (omega (arith, i .level, e)) s (rw q pp) (omega (arith, length-entriesOf n lo f)) (rw (entry-slot n lo f p (omega arith)) pc)
-
-pub down-there : (stop : ℕ → Bool) (key : ℕ) (k : Cont) (fs : List Branch) (nm l : ℕ) (E : Entries) → (0 < l → stop l ≡ true) → (0 < l → 0 < length E) → down stop key k l fs nm E ≡ k l fs nm E
-down-there stop key k fs nm zero E s h = refl
-down-there stop key k fs nm (suc l) [] s h = absurd (omega (arith, h (omega arith)))
-down-there stop key k fs nm (suc l) (e ∷ es) s h = let t : stop (suc l) ≡ true = s (omega arith) in rw t
-
 pub record Below (l : ℕ) (n : Node) : Type 0 where
   pub opened : opens n ≡ true
   pub level : n .level ≡ l
   pub enough : 7 ≤ n .count
-
-pub below-true : (l : ℕ) (n : Node) → below l n ≡ true → Below l n
-unfolding below
-below-true l n h = go (opens n) (eqb (n .level) l) refl refl
-  where
-    go : (a b : Bool) → opens n ≡ a → eqb (n .level) l ≡ b → Below l n
-    go true true p q = record { opened = p; level = eqb-true (n .level) l q; enough = leb-true 7 (n .count) (rw (below, p, q) at h) }
-    go true false p q = let e : false ≡ true = rw (below, p, q) at h in let z : _≡_ {A = ℕ} 0 1 = cc in absurd (omega arith)
-    go false b p q = let e : false ≡ true = rw (below, p) at h in let z : _≡_ {A = ℕ} 0 1 = cc in absurd (omega arith)
-
--- ---- a key in a leaf
-module _ (n : Node) (lo key : ℕ) (f : Whole n) (l : Leaf n) where
-  pub leaf-keys : keys (entriesOf n lo) ≡ keysOf n
-  leaf-keys = rw (entry-keys n lo f, extra-leaf n l)
-
-  pub leaf-index : index key (entriesOf n lo) ≡ find (keysOf n) key
-  leaf-index = rw leaf-keys
-
-  pub leaf-value : (i : ℕ) → find (keysOf n) key ≡ some i → i < n .count → value-in key (entriesOf n lo) ≡ some (getD (n .slots) i 0)
-  leaf-value i e h =
-      let a : getD (vals (entriesOf n lo)) i 0 ≡ getD (entriesOf n lo) i (0, 0) .1 = List·getD-map (λ (e : ℕ × ℕ). e .1) (entriesOf n lo) i (0, 0) in
-      rw (leaf-index, e, a, entry-slot n lo f i (omega arith))
-
-  pub leaf-absent : find (keysOf n) key ≡ none → value-in key (entriesOf n lo) ≡ none
-  leaf-absent e = rw (leaf-index, e)

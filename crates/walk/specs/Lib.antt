@@ -11,15 +11,14 @@ pub mod Down
 pub mod Lookup
 pub mod Seek
 pub mod Near
-pub mod Begin
 -- how a walk stops; the work step of an operation that only reads
 pub mod Stopped
 pub mod Look
 -- own writes, slots taken and freed
-pub mod Own
-pub mod Write
 pub mod Take
 -- slots looked for on servers in a row
 pub mod Counted
 pub mod Vector
 pub mod Search
+-- laws and proofs
+pub mod Laws

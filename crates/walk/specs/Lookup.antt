@@ -1,40 +1,23 @@
 -- Lookup, next and previous, walked.
-use mathlib.Core.Path.{_≡_, refl, sym, _∙_, ap}
-use mathlib.Core.Bool.{Bool, true, false, cond, not}
-use mathlib.Core.List.{List, [], _∷_, _++_}
+use mathlib.Core.Path.{_≡_}
+use mathlib.Core.List.{List, []}
 use mathlib.Core.Option.{Option, none, some}
-use Prim.Native.Nat.{ℕ, zero, suc, _+_, _-_, _≤_, _<_}
-use native.Mathlib.Omega.{arith}
-use lib.ListN.{length, take, drop, getD, set}
-use lib.Dec.{eqb, leb}
-use borrow.Author.Tests.{not-true, not-false, eqb-false}
-use Rattle.plans.specs.Plan as P
+use Prim.Native.Nat.{ℕ, _-_}
+use lib.ListN.{getD}
 use Rattle.nodes.specs.declared.node.Node.{Node}
-use Rattle.nodes.specs.declared.found.Found.{Found}
-use Rattle.nodes.specs.declared.found.Found.the-variants.{At, Absent}
-use Rattle.nodes.specs.Found.{found, Inside, found-some, found-none}
-use Rattle.nodes.specs.Place.{place, bit}
-use Rattle.nodes.specs.Find.{find, find-at}
+use Rattle.nodes.specs.Find.{find}
 use Rattle.nodes.specs.Node.{keysOf}
-use Rattle.nodes.specs.Entries.{entriesOf}
-use Rattle.nodes.specs.Kept.{Whole}
 use Rattle.operations.specs.Object.{Writes}
-use Rattle.operations.specs.Map.{said}
 use Rattle.operations.specs.Slot.{Sizes}
-use Rattle.operations.specs.Entry.{Entries, value-in}
-use Rattle.operations.specs.Path.{Plan, Branch, from-root}
-use Rattle.operations.specs.Look.{lookup-plan}
-use Rattle.walk.specs.declared.down.Turn.{Turn}
-use Rattle.walk.specs.declared.down.Descent.{Descent}
+use Rattle.operations.specs.Path.{Plan}
 use Rattle.walk.specs.declared.lookup.Pair.{Pair}
 use Rattle.walk.specs.declared.walk.Stop.{Stop}
 use Rattle.walk.specs.declared.walk.Stop.the-variants.{Going, LacksMeta, LacksNode, LacksVector, Refused, Aborts, Answers}
 use Rattle.client.specs.Layout.{ClientWord}
 use Rattle.client.specs.Lent.{used-in}
-use Rattle.walk.specs.Entries.{Leaf, open-leaf, leaf-value, leaf-absent}
-use Rattle.walk.specs.Walk.{Told, told, goes, over, walked, carry, walked-done, full-done}
-use Rattle.walk.specs.Ask.{Noted, popped, popped-used, popped-noted}
-use Rattle.walk.specs.Down.{low, branches, trail, Reached, Descends}
+use Rattle.walk.specs.Walk.{Told, told, walked}
+use Rattle.walk.specs.Ask.{Noted}
+use Rattle.plans.specs.Plan as P
 
 -- an answer with writes: of an abort none are kept
 abbrev pub kept : Stop → Writes → Writes
@@ -59,26 +42,6 @@ pub record Walks (z : Sizes) (m : ClientWord → ℕ) (u : List ℕ) (p : Plan) 
   pub same : walked z m p (used-in u) ≡ told s (used-in u′)
   pub noted : Noted m u′
 
-module _ (m : ClientWord → ℕ) (u : List ℕ) (c : Bool) (e : c ≡ over m (used-in u)) (h : Noted m u) (a b : ℕ) where
-  pub ends-over : (u′ : List ℕ) → c ≡ true → u′ ≡ popped u → Ends m u a b (Aborts 4) u′
-  ends-over u′ t p =
-      let few : getD u 0 0 ≤ 97 = omega arith in
-      rw p (record { same = λ z w. rw (full-done z m (used-in u) ((a, b), w) (sym e ∙ t), popped-used u (h .long) few); noted = popped-noted m u h })
-
-  pub ends-here : c ≡ false → Ends m u a b (Answers a b) u
-  ends-here t = record { same = λ z w. walked-done z m (used-in u) ((a, b), w) (sym e ∙ t); noted = h }
-
-pub ruleset answer-ends = (ends-over, ends-here)
-
-pub ended-nothing : (s : Stop) (us : List ℕ) → ended s us [] ≡ told s us
-ended-nothing Going us = refl
-ended-nothing LacksMeta us = refl
-ended-nothing (LacksNode n) us = refl
-ended-nothing (LacksVector s) us = refl
-ended-nothing Refused us = refl
-ended-nothing (Aborts r) us = refl
-ended-nothing (Answers a b) us = refl
-
 -- ---- a key looked up in a leaf
 abbrev pub pair-at : Node → Option ℕ → Pair
 pair-at n (some i) = record { a = 1; b = getD (n .slots) i 0 }
@@ -86,65 +49,3 @@ pair-at n none = record { a = 0; b = 0 }
 
 unfoldable pub look-in : Node → ℕ → Pair
 look-in n key = pair-at n (find (keysOf n) key)
-
-module _ (n : Node) (key : ℕ) (f : Found) (pf : f ≡ found (find (keysOf n) key)) where
-  pub look-there : (i v : ℕ) → f ≡ At i → v ≡ getD (n .slots) i 0 → _≡_ {A = Pair} (record { a = 1; b = v }) (look-in n key)
-  unfolding look-in
-  look-there i v e q = rw (found-some (find (keysOf n) key) i (sym pf ∙ e), q)
-
-  pub look-not-there : f ≡ Absent → _≡_ {A = Pair} (record { a = 0; b = 0 }) (look-in n key)
-  unfolding look-in
-  look-not-there e = rw (found-none (find (keysOf n) key) (sym pf ∙ e))
-
-pub slot-inside : (f : Found) (i n : ℕ) → Inside f n → f ≡ At i → n ≤ 14 → i < 15
-slot-inside f i n h e l = omega (arith, h .inside i e)
-
-pub ruleset look-in-exits = (look-there, look-not-there, slot-inside)
-
-bit-small : (b : Bool) → bit b ≤ 1
-bit-small true = omega arith
-bit-small false = omega arith
-
-pub place-within : (ks : List ℕ) (key : ℕ) → place ks key ≤ length ks
-unfolding place
-place-within [] key = omega arith
-place-within (k ∷ ks) key = omega (arith, bit-small (leb k key), place-within ks key)
-
-pub find-inside : (ks : List ℕ) (key i : ℕ) → find ks key ≡ some i → i < length ks
-unfolding find find-at
-find-inside ks key i e = go (eqb (place ks key) 0) (eqb (getD ks (place ks key - 1) 0) key) refl refl
-  where
-    go : (a b : Bool) → eqb (place ks key) 0 ≡ a → eqb (getD ks (place ks key - 1) 0) key ≡ b → i < length ks
-    go true b p q = let r : none ≡ some i = rw (find, find-at, p) at e in let z : _≡_ {A = ℕ} 0 1 = cc in absurd (omega arith)
-    go false true p q =
-        let r : some (place ks key - 1) ≡ some i = rw (find, find-at, p, q) at e in
-        let t : place ks key - 1 ≡ i = cc in
-        let n : place ks key ≡ 0 → ⊥ = eqb-false (place ks key) 0 p in
-        omega (arith, place-within ks key)
-    go false false p q = let r : none ≡ some i = rw (find, find-at, p, q) at e in let z : _≡_ {A = ℕ} 0 1 = cc in absurd (omega arith)
-
-leaf-said : (n : Node) (lo key : ℕ) → Whole n → Leaf n → said (value-in key (entriesOf n lo)) ≡ (look-in n key .a, look-in n key .b)
-unfolding look-in
-leaf-said n lo key f l = go (find (keysOf n) key) refl
-  where
-    go : (o : Option ℕ) → find (keysOf n) key ≡ o → said (value-in key (entriesOf n lo)) ≡ (look-in n key .a, look-in n key .b)
-    go none e = rw (leaf-absent n lo key f l e, look-in, e)
-    go (some i) e = let h : i < n .count = omega (arith, find-inside (keysOf n) key i e, f .keys) in rw (leaf-value n lo key f l i e h, look-in, e)
-
-module _ (z : Sizes) (m : ClientWord → ℕ) (u : List ℕ) (key : ℕ) (d : Descent) (u₁ : List ℕ) (h : Descends z m u key d u₁) (b : Bool) (pb : b ≡ goes (d .stop)) where
-  pub look-stops : (k : List Branch → ℕ → Entries → Plan) → not b ≡ true → Walks z m u (from-root key k) (d .stop) u₁
-  look-stops k nb = let no : goes (d .stop) ≡ false = sym pb ∙ not-true b nb in
-      record { same = rw (h .asks k, no); noted = h .noted }
-
-  pub leaf-small : not b ≡ false → d .node .count ≤ 14
-  leaf-small nb = h .reached (sym pb ∙ not-false b nb) .small .keys
-
-  pub look-ends : (p : Pair) (s : Stop) (u₂ : List ℕ) → not b ≡ false → p ≡ look-in (d .node) key → Ends m u₁ (p .a) (p .b) s u₂ → Walks z m u (lookup-plan key) s u₂
-  look-ends p s u₂ nb pp q =
-      let on : goes (d .stop) ≡ true = sym pb ∙ not-false b nb in
-      let end : Reached 0 d = h .reached on in
-      let lo : ℕ = low (trail (d .path) 0 (d .top - 0)) in
-      let v : said (value-in key (entriesOf (d .node) lo)) ≡ (p .a, p .b) = rw pp (leaf-said (d .node) lo key (end .whole) (open-leaf (d .node) (end .opened) (end .level))) in
-      record { same = rw (h .asks (λ fs n es. P.done (said (value-in key es), [])), on, v) (q .same z [] ∙ ended-nothing s (used-in u₂)); noted = q .noted }
-
-pub ruleset look-exits = (look-stops, leaf-small, look-ends)

@@ -1,114 +1,21 @@
 -- Next and previous, walked: the leaf for the key, then the nearest branch on that side.
-use mathlib.Core.Path.{_≡_, refl, sym, _∙_, ap}
-use mathlib.Core.Bool.{Bool, true, false, not}
-use mathlib.Core.List.{List, [], _∷_, map}
-use mathlib.Core.Option.{Option, none, some}
-use Prim.Native.Nat.{ℕ, zero, suc, _-_, _≤_, _<_}
-use lib.ListN.{length, drop}
-use borrow.Author.Tests.{not-true, not-false}
-use Rattle.nodes.specs.Entries.{entriesOf}
+use mathlib.Core.Path.{_≡_}
+use mathlib.Core.Bool.{Bool}
+use mathlib.Core.List.{List}
+use Prim.Native.Nat.{ℕ, _-_}
 use Rattle.operations.specs.Slot.{Sizes}
-use Rattle.operations.specs.Look.{told, seek-up}
+use Rattle.operations.specs.Look.{told}
 use Rattle.walk.specs.declared.down.Turn.{Turn}
-use Rattle.walk.specs.declared.down.Descent.{Descent}
 use Rattle.walk.specs.declared.walk.Stop.{Stop}
-use Rattle.walk.specs.declared.seek.Ahead.{Ahead}
-use Rattle.walk.specs.declared.seek.Where.the-variants.{Found, Nowhere, Next}
-use Rattle.walk.specs.declared.seek.Key.{Key}
-use Rattle.walk.specs.declared.seek.Key.the-variants.{Is, Nothing}
 use Rattle.client.specs.Layout.{ClientWord}
 use Rattle.client.specs.Lent.{used-in}
-use Rattle.walk.specs.Entries.{Leaf, open-leaf, branch-of}
-use Rattle.walk.specs.Walk as W
-use Rattle.walk.specs.Walk.{goes, walked}
+use Rattle.walk.specs.Walk.{walked}
 use Rattle.walk.specs.Ask.{Noted}
-use Rattle.walk.specs.Down.{Descends, Reached, low, branches, trail}
-use Rattle.walk.specs.Lookup.{Ends, Walks, ended-nothing}
-use Rattle.walk.specs.Seek.{visit, side, nearest-in, near-plan, key-of, in-leaf, is-key, no-key, near-of, rests, climb, seek-climb, Stacked, Climbed, Seeks}
+use Rattle.walk.specs.Down.{trail}
+use Rattle.walk.specs.Seek.{nearest-in, rests, climb}
+use Rattle.walk.specs.Walk as W
 
 -- ---- beyond the leaf of a path
 pub record Beyond (z : Sizes) (m : ClientWord → ℕ) (u : List ℕ) (right : Bool) (key top : ℕ) (path : List Turn) (s : Stop) (u′ : List ℕ) : Type 0 where
   pub same : (f : ℕ → ℕ) → walked z m (climb (nearest-in right key) right 0 (rests right (trail path 0 (top - 0)) f)) (used-in u) ≡ W.told s (used-in u′)
   pub noted : Noted m u′
-
-module _ (z : Sizes) (m : ClientWord → ℕ) (u : List ℕ) (right : Bool) (key top : ℕ) (path : List Turn) (a : Ahead) (h : Climbed right top path 0 a) (s : Stop) (u′ : List ℕ) where
-  pub beyond-found : (y : ℕ) → a .state ≡ Found y → Beyond z m u right key top path s u′
-  beyond-found y e = absurd (h .found y e)
-
-  pub beyond-none : a .state ≡ Nowhere → Ends m u 0 0 s u′ → Beyond z m u right key top path s u′
-  beyond-none e q = record { same = λ f. rw (h .ends e (nearest-in right key) f) (q .same z [] ∙ ended-nothing s (used-in u′)); noted = q .noted }
-
-  pub beyond-next : a .state ≡ Next → Seeks z m u right key top (a .path) (a .level) (a .name) s u′ → Beyond z m u right key top path s u′
-  beyond-next e q = record { same = λ f. rw (h .next e (nearest-in right key) f) (q .same (h .lo f) (h .lows f)); noted = q .noted }
-
-pub next-stacked : (right : Bool) (top : ℕ) (path : List Turn) (a : Ahead) → Climbed right top path 0 a → a .state ≡ Next → Stacked top (a .path) (a .level)
-next-stacked right top path a h e = h .stacked e
-
-pub next-below : (right : Bool) (top : ℕ) (path : List Turn) (a : Ahead) → Climbed right top path 0 a → a .state ≡ Next → a .level < top
-next-below right top path a h e = h .below e
-
-pub ruleset beyond-exits = (beyond-found, beyond-none, beyond-next, next-stacked, next-below)
-
--- ---- next and previous
-abbrev lows-of : List Turn → ℕ → ℕ
-lows-of bs i = low (drop (suc i) bs)
-
-sides-are : (right : Bool) (bs : List Turn) → map (side right) (branches bs) ≡ rests right bs (lows-of bs)
-unfolding branch-of
-sides-are true [] = refl
-sides-are false [] = refl
-sides-are true (b ∷ bs) = rw (sides-are true bs)
-sides-are false (b ∷ bs) = rw (sides-are false bs)
-
-module _ (z : Sizes) (m : ClientWord → ℕ) (u : List ℕ) (right : Bool) (key : ℕ) (d : Descent) (u₁ : List ℕ) (h : Descends z m u key d u₁) (b : Bool) (pb : b ≡ goes (d .stop)) where
-  pub near-stops : not b ≡ true → Walks z m u (near-plan right key) (d .stop) u₁
-  near-stops nb = let no : goes (d .stop) ≡ false = sym pb ∙ not-true b nb in
-      record { same = rw (h .asks (λ fs n es. told (nearest-in right key es) (seek-up (nearest-in right key) (visit right) (side right) zero fs)), no); noted = h .noted }
-
-  module _ (nb : not b ≡ false) where
-    on : goes (d .stop) ≡ true
-    on = sym pb ∙ not-false b nb
-
-    end : Reached 0 d
-    end = h .reached on
-
-    abbrev bs : List Turn
-    bs = trail (d .path) 0 (d .top - 0)
-
-    leaf : Leaf (d .node)
-    leaf = open-leaf (d .node) (end .opened) (end .level)
-
-    near : key-of (nearest-in right key (entriesOf (d .node) (low bs))) ≡ in-leaf right (d .node) key
-    unfolding in-leaf
-    near = rw (near-of right key (d .node) (low bs) (end .whole) leaf)
-
-    pub near-small : d .node .count ≤ 14
-    near-small = end .small .keys
-
-    pub near-found : (k : Key) (y : ℕ) (s : Stop) (u₂ : List ℕ) → k ≡ in-leaf right (d .node) key → k ≡ Is y → Ends m u₁ 1 y s u₂ → Walks z m u (near-plan right key) s u₂
-    near-found k y s u₂ pk e q =
-        let v : nearest-in right key (entriesOf (d .node) (low bs)) ≡ some y = is-key (nearest-in right key (entriesOf (d .node) (low bs))) y (near ∙ sym pk ∙ e) in
-        record {
-          same = rw (h .asks (λ fs n es. told (nearest-in right key es) (seek-up (nearest-in right key) (visit right) (side right) zero fs)), on, v)
-              (q .same z [] ∙ ended-nothing s (used-in u₂));
-          noted = q .noted;
-        }
-
-    pub near-beyond : (k : Key) (s : Stop) (u₂ : List ℕ) → k ≡ in-leaf right (d .node) key → k ≡ Nothing → Beyond z m u₁ right key (d .top) (d .path) s u₂ → Walks z m u (near-plan right key) s u₂
-    near-beyond k s u₂ pk e q =
-        let v : nearest-in right key (entriesOf (d .node) (low bs)) ≡ none = no-key (nearest-in right key (entriesOf (d .node) (low bs))) (near ∙ sym pk ∙ e) in
-        record {
-          same = rw (
-            h .asks (λ fs n es. told (nearest-in right key es) (seek-up (nearest-in right key) (visit right) (side right) zero fs)),
-            on,
-            v,
-            seek-climb (nearest-in right key) right zero (branches bs),
-            sides-are right bs,
-          ) (q .same (lows-of bs));
-          noted = q .noted;
-        }
-
-    pub near-stacked : Stacked (d .top) (d .path) 0
-    near-stacked = record { high = h .high; size = end .size; good = end .good }
-
-pub ruleset near-exits = (near-stops, near-small, near-found, near-beyond, near-stacked)

@@ -1,42 +1,35 @@
 -- Next and previous: the nearest branch on one side, and the leaves below it.
-use mathlib.Core.Path.{_≡_, refl, sym, _∙_, ap}
-use mathlib.Core.Bool.{Bool, true, false, cond, not}
-use mathlib.Core.List.{List, [], _∷_, _++_, map}
+use mathlib.Core.Path.{_≡_}
+use mathlib.Core.Bool.{Bool, true, false, cond}
+use mathlib.Core.List.{List, [], _∷_}
 use mathlib.Core.Option.{Option, none, some}
-use Prim.Native.Nat.{ℕ, zero, suc, _+_, _-_, _*_, _≤_, _<_}
-use native.Mathlib.Omega.{arith}
-use lib.Dec.{eqb, leb, ltb}
-use lib.ListN.{length, take, drop, getD, set, getElem?, drop-of-length-le, length-set}
-use native.Mathlib.Numerals.{add-one}
-use lib.Seq.{drop-cons, take-suc, getD-take, take-all}
-use borrow.Author.Tests.{not-true, not-false, lt-ltb, le-ltb, ltb-true, ltb-false, le-leb, lt-leb, eq-eqb, ne-eqb}
-use Rattle.plans.specs.Plan as P
+use Prim.Native.Nat.{ℕ, zero, suc, _+_, _-_, _≤_, _<_}
+use lib.Dec.{ltb}
+use lib.ListN.{length, take, drop, getElem?}
 use Rattle.nodes.specs.declared.node.Node.{Node}
-use Rattle.nodes.specs.Place.{place, bit}
-use Rattle.nodes.specs.Node.{keysOf, length-keysOf}
+use Rattle.nodes.specs.Place.{place}
+use Rattle.nodes.specs.Node.{keysOf}
 use Rattle.nodes.specs.Entries.{entriesOf}
-use Rattle.nodes.specs.Kept.{Whole, length-entriesOf}
+use Rattle.nodes.specs.Kept.{Whole}
 use Rattle.operations.specs.Slot.{Sizes}
-use Rattle.operations.specs.Entry.{Entries, keys, next-in, previous-in, under, before}
-use Rattle.operations.specs.Path.{Plan, kid, Branch, from-root}
-use Rattle.operations.specs.Look as O
-use Rattle.operations.specs.Look.{told, Visit, rightward, leftward, seek, seek-up, nearest}
+use Rattle.operations.specs.Entry.{Entries, next-in, previous-in, under, before}
+use Rattle.operations.specs.Path.{Plan, Branch}
+use Rattle.operations.specs.Look.{told, Visit, rightward, leftward, seek, nearest}
 use Rattle.walk.specs.declared.down.Turn.{Turn}
-use Rattle.walk.specs.declared.down.Descent.{Descent}
 use Rattle.walk.specs.declared.walk.Stop.{Stop}
 use Rattle.walk.specs.declared.seek.Ahead.{Ahead}
 use Rattle.walk.specs.declared.seek.Reading.{Reading}
 use Rattle.walk.specs.declared.seek.Where.the-variants.{Found, Nowhere, Next}
 use Rattle.walk.specs.declared.seek.Key.{Key}
 use Rattle.walk.specs.declared.seek.Key.the-variants.{Is, Nothing}
-use Rattle.walk.specs.Entries.{opens, branch-of, below-true, Leaf, Inner, open-leaf, open-inner, leaf-keys, extra-inner, entry-slot}
+use Rattle.walk.specs.Entries.{opens}
 use Rattle.client.specs.Layout.{ClientWord}
 use Rattle.client.specs.Lent.{used-in}
-use Rattle.walk.specs.Walk as W
 use Rattle.walk.specs.Walk.{goes, walked, carry}
-use Rattle.walk.specs.Ask.{SmallNode, Noted, nothing, none-held}
-use Rattle.walk.specs.Lookup.{Ends, Walks, ended-nothing}
-use Rattle.walk.specs.Down.{Kid, Descends, Reached, stops-not, low, branches, trail, trail-more, Followed, All, blank}
+use Rattle.walk.specs.Ask.{SmallNode, Noted}
+use Rattle.walk.specs.Down.{trail, All}
+use Rattle.plans.specs.Plan as P
+use Rattle.walk.specs.Walk as W
 
 -- ---- one side: true for the right one
 abbrev pub visit : Bool → Visit
@@ -80,87 +73,6 @@ abbrev pub first-at : Bool → Node → ℕ
 first-at true n = 0
 first-at false n = n .count
 
--- ---- ways out of the code on one node
-elem-some : (l : List ℕ) (i : ℕ) → i < length l → getElem? l i ≡ some (getD l i 0)
-elem-some [] i h = absurd (omega arith)
-elem-some (x ∷ l) zero h = refl
-elem-some (x ∷ l) (suc i) h = elem-some l i (omega arith)
-
-elem-none : (l : List ℕ) (i : ℕ) → length l ≤ i → getElem? l i ≡ none
-elem-none [] i h = refl
-elem-none (x ∷ l) zero h = absurd (omega arith)
-elem-none (x ∷ l) (suc i) h = elem-none l i (omega arith)
-
-under-none : (ks : List ℕ) → under ks 0 ≡ 0
-unfolding under
-under-none [] = refl
-under-none (x ∷ ks) = let e : ltb x 0 ≡ false = le-ltb x 0 (omega arith) in rw (e, under-none ks)
-
-ltb-leb : (x k : ℕ) → (k ≡ 0 → ⊥) → ltb x k ≡ leb x (k - 1)
-ltb-leb x k h = go (ltb x k) refl
-  where
-    go : (t : Bool) → ltb x k ≡ t → ltb x k ≡ leb x (k - 1)
-    go true e = let a : x < k = ltb-true x k e in let b : x ≤ k - 1 = omega arith in rw (e, le-leb x (k - 1) b)
-    go false e = let a : k ≤ x = ltb-false x k e in let b : k - 1 < x = omega arith in rw (e, lt-leb x (k - 1) b)
-
-under-place : (ks : List ℕ) (k : ℕ) → (k ≡ 0 → ⊥) → under ks k ≡ place ks (k - 1)
-unfolding under place
-under-place [] k h = refl
-under-place (x ∷ ks) k h = rw (ltb-leb x k h, under-place ks k h)
-
-before-some : (ks : List ℕ) (p : ℕ) → (p ≡ 0 → ⊥) → before ks p ≡ getElem? ks (p - 1)
-before-some ks zero h = absurd (h refl)
-before-some ks (suc p) h = let e : suc p - 1 ≡ p = omega arith in rw e
-
-module _ (right : Bool) (n : Node) (key : ℕ) (lk : length (n .keys) ≡ 14) (small : n .count ≤ 14) where
-  long : length (keysOf n) ≡ n .count
-  long = length-keysOf n lk small
-
-  key-is : (i : ℕ) → i < n .count → getElem? (keysOf n) i ≡ some (getD (n .keys) i 0)
-  unfolding keysOf
-  key-is i h = elem-some (keysOf n) i (omega (arith, long)) ∙ rw (getD-take (n .count) (n .keys) i 0 h)
-
-  pub right-some : (p x : ℕ) → right ≡ true → p ≡ place (keysOf n) key → p < n .count → x ≡ getD (n .keys) p 0 → Is x ≡ in-leaf right n key
-  unfolding in-leaf
-  right-some p x t e h q = rw (t, ← e, key-is p h, q)
-
-  pub right-none : (p : ℕ) → right ≡ true → p ≡ place (keysOf n) key → n .count ≤ p → Nothing ≡ in-leaf right n key
-  unfolding in-leaf
-  right-none p t e h = rw (t, ← e, elem-none (keysOf n) p (omega (arith, long)))
-
-  pub left-zero : right ≡ false → key ≡ 0 → Nothing ≡ in-leaf right n key
-  unfolding in-leaf
-  left-zero t e = rw (t, e, under-none (keysOf n))
-
-  pub left-none : (p : ℕ) → right ≡ false → (key ≡ 0 → ⊥) → p ≡ place (keysOf n) (key - 1) → p ≡ 0 → Nothing ≡ in-leaf right n key
-  unfolding in-leaf
-  left-none p t z e h = rw (t, under-place (keysOf n) key z, ← e, h)
-
-  pub left-some : (p x : ℕ) → right ≡ false → (key ≡ 0 → ⊥) → p ≡ place (keysOf n) (key - 1) → p ≤ n .count → (p ≡ 0 → ⊥) → x ≡ getD (n .keys) (p - 1) 0 → Is x ≡ in-leaf right n key
-  unfolding in-leaf
-  left-some p x t z e h g q = let l : p - 1 < n .count = omega arith in rw (t, under-place (keysOf n) key z, ← e, before-some (keysOf n) p g, key-is (p - 1) l, q)
-
-pub ruleset leaf-exits = (right-some, right-none, left-zero, left-none, left-some)
-
-pub more-right : (b : Turn) (right : Bool) → right ≡ true → ltb (b .at) (b .node .count) ≡ more right b
-unfolding more
-more-right b right t = rw t
-
-pub more-left : (b : Turn) (right : Bool) → right ≡ false → ltb 0 (b .at) ≡ more right b
-unfolding more
-more-left b right t = rw t
-
-pub onward-right : (i : ℕ) (right : Bool) → right ≡ true → i + 1 ≡ onward right i
-onward-right i right t = rw t
-
-pub onward-none : (i : ℕ) (right : Bool) → right ≡ false → i ≡ 0 → 0 ≡ onward right i
-onward-none i right t e = rw (t, e)
-
-pub onward-left : (i : ℕ) (right : Bool) → right ≡ false → i - 1 ≡ onward right i
-onward-left i right t = rw t
-
-pub ruleset turn-exits = (more-right, more-left, onward-right, onward-none, onward-left)
-
 -- ---- the children left to visit, level by level from the lowest
 abbrev pub rest : Bool → ℕ → Entries → Entries
 rest true i es = drop (suc i) es
@@ -170,47 +82,6 @@ rest false i es = take i es
 unfoldable pub climb : (Entries → Option ℕ) → Bool → ℕ → List Entries → Plan
 climb g right l [] = P.done ((0, 0), [])
 climb g right l (es ∷ ess) = visit right (seek g (visit right) l) es (climb g right (suc l) ess)
-
-pub seek-climb : (g : Entries → Option ℕ) (right : Bool) (l : ℕ) (fs : List Branch) → seek-up g (visit right) (side right) l fs ≡ climb g right l (map (side right) fs)
-unfolding climb
-seek-climb g right l [] = refl
-seek-climb g right l (f ∷ fs) = rw (seek-climb g right (suc l) fs)
-
--- a child of an inner node, and those left after it
-leftward-last : (f : ℕ → ℕ → Plan → Plan) (es : Entries) (e : ℕ × ℕ) (p : Plan) → leftward f (es ++ (e ∷ [])) p ≡ f (e .0) (e .1) (leftward f es p)
-leftward-last f [] e p = refl
-leftward-last f (x ∷ es) e p = leftward-last f es e (f (x .0) (x .1) p)
-
-visit-right : (f : ℕ → ℕ → Plan → Plan) (es : Entries) (i : ℕ) (p : Plan) → i < length es
-    → rightward f (drop i es) p ≡ f (getD es i (0, 0) .0) (getD es i (0, 0) .1) (rightward f (drop (suc i) es) p)
-visit-right f es i p h = rw (drop-cons es i (0, 0) h)
-
-visit-left : (f : ℕ → ℕ → Plan → Plan) (es : Entries) (i : ℕ) (p : Plan) → i < length es
-    → leftward f (take (suc i) es) p ≡ f (getD es i (0, 0) .0) (getD es i (0, 0) .1) (leftward f (take i es) p)
-visit-left f es i p h = rw (take-suc es i (0, 0) h) (leftward-last f (take i es) (getD es i (0, 0)) p)
-
--- the children of a node all left to visit: the first from that side
-visit-first : (right : Bool) (f : ℕ → ℕ → Plan → Plan) (es : Entries) (n : ℕ) (p : Plan) → length es ≡ suc n
-    → visit right f es p ≡ f (getD es (cond right 0 n) (0, 0) .0) (getD es (cond right 0 n) (0, 0) .1) (visit right f (rest right (cond right 0 n) es) p)
-visit-first true f es n p h = visit-right f es 0 p (omega arith)
-visit-first false f es n p h = let e : take (suc n) es ≡ es = take-all (suc n) es (omega arith) in rw e at (visit-left f es n p (omega arith))
-
--- the next of those left, after child number i of n + 1
-visit-next : (right : Bool) (f : ℕ → ℕ → Plan → Plan) (es : Entries) (n i : ℕ) (p : Plan) → length es ≡ suc n → i ≤ n → cond right (ltb i n) (ltb 0 i) ≡ true
-    → visit right f (rest right i es) p
-    ≡ f (getD es (onward right i) (0, 0) .0) (getD es (onward right i) (0, 0) .1) (visit right f (rest right (onward right i) es) p)
-visit-next true f es n i p h g t = let a : i < n = ltb-true i n t in rw add-one (visit-right f es (suc i) p (omega arith))
-visit-next false f es n zero p h g t = let a : 0 < 0 = ltb-true 0 0 t in absurd (omega arith)
-visit-next false f es n (suc i) p h g t = let e : suc i - 1 ≡ i = omega arith in rw e (visit-left f es i p (omega arith))
-
--- none is left
-visit-none : (right : Bool) (f : ℕ → ℕ → Plan → Plan) (es : Entries) (n i : ℕ) (p : Plan) → length es ≡ suc n → i ≤ n → cond right (ltb i n) (ltb 0 i) ≡ false
-    → visit right f (rest right i es) p ≡ p
-visit-none true f es n i p h g t =
-    let a : n ≤ i = ltb-false i n t in
-    let e : drop (suc i) es ≡ [] = drop-of-length-le es {i = suc i} (omega arith) in rw e
-visit-none false f es n zero p h g t = refl
-visit-none false f es n (suc i) p h g t = let a : suc i ≤ 0 = ltb-false 0 (suc i) t in absurd (omega arith)
 
 -- ---- a stack of inner nodes: what is left to visit of each, for some keys from which they hold keys
 abbrev pub rests : Bool → List Turn → (ℕ → ℕ) → List Entries
@@ -258,149 +129,6 @@ pub record Climbed (right : Bool) (top : ℕ) (path : List Turn) (level : ℕ) (
   pub below : a .state ≡ Next → a .level < top
   pub lighter : a .state ≡ Next → weight right top (a .path) (a .level) ≤ load right level (trail path level (top - level))
 
-pub getD-any : {A : Type 0} (l : List A) (i : ℕ) (a b : A) → i < length l → getD l i a ≡ getD l i b
-getD-any [] i a b h = absurd (omega arith)
-getD-any (x ∷ l) zero a b h = refl
-getD-any (x ∷ l) (suc i) a b h = getD-any l i a b (omega arith)
-
-trail-next : (p : List Turn) (b : Turn) (l top : ℕ) → l < top → suc l < length p → trail (set p (l + 1) b) l (top - l) ≡ b ∷ trail p (suc l) (top - suc l)
-trail-next p b l top h g = let e : suc l - 1 ≡ l = omega arith in rw add-one (rw e at (trail-more p b (suc l) top (omega arith) (omega arith) g))
-
--- how far a climb has come
-pub record Climbing (right : Bool) (top : ℕ) (path : List Turn) (level l : ℕ) : Type 0 where
-  pub lows : (ℕ → ℕ) → ℕ → ℕ
-  pub same : (g : Entries → Option ℕ) (f : ℕ → ℕ) → climb g right level (rests right (trail path level (top - level)) f) ≡ climb g right l (rests right (trail path l (top - l)) (lows f))
-  pub stacked : Stacked top path l
-  pub lighter : load right l (trail path l (top - l)) ≤ load right level (trail path level (top - level))
-
-pub climb-start : (right : Bool) (top : ℕ) (path : List Turn) (level : ℕ) → Stacked top path level → Climbing right top path level level
-climb-start right top path level s = record { lows = λ f. f; same = λ g f. refl; stacked = s; lighter = omega arith }
-
-module _ (right : Bool) (top : ℕ) (path : List Turn) (level l : ℕ) (c : Climbing right top path level l) where
-  pub climb-ends : top ≤ l → (n : ℕ) → Climbed right top path level (record { state = Nowhere; path = path; level = l; name = n })
-  unfolding trail climb
-  climb-ends h n =
-      let e : top - l ≡ 0 = omega arith in
-      record {
-        lo = λ f. 0;
-        lows = λ f. f;
-        found = λ x q. let z : _≡_ {A = ℕ} 0 1 = cc in omega arith;
-        ends = λ q g f. rw (c .same g f, e);
-        next = λ q. let z : _≡_ {A = ℕ} 0 1 = cc in absurd (omega arith);
-        stacked = λ q. let z : _≡_ {A = ℕ} 0 1 = cc in absurd (omega arith);
-        below = λ q. let z : _≡_ {A = ℕ} 0 1 = cc in absurd (omega arith);
-        lighter = λ q. let z : _≡_ {A = ℕ} 0 1 = cc in absurd (omega arith);
-      }
-
-  module _ (h : l < top) (d : Turn) where
-    abbrev bs : List Turn
-    bs = trail path (suc l) (top - suc l)
-
-    inside : suc l < length path
-    inside = omega (arith, c .stacked .size, c .stacked .high)
-
-    here : getD path (l + 1) d ≡ getD path (suc l) blank
-    here = rw add-one (getD-any path (suc l) d blank inside)
-
-    opened : trail path l (top - l) ≡ getD path (l + 1) d ∷ bs
-    unfolding trail
-    opened = let e : top - l ≡ suc (top - suc l) = omega arith in rw (e, here)
-
-    taken : Followed (getD path (l + 1) d) × All bs
-    unfolding All
-    taken = rw opened at (c .stacked .good)
-
-    long-enough : (lo : ℕ) → length (entriesOf (getD path (l + 1) d .node) lo) ≡ suc (getD path (l + 1) d .node .count)
-    long-enough lo = let x = extra-inner (getD path (l + 1) d .node) (taken .0 .inner) in omega (arith, length-entriesOf (getD path (l + 1) d .node) lo (taken .0 .whole))
-
-    pub climb-at : getD path (l + 1) d .at ≤ 14
-    climb-at = omega (arith, taken .0 .within, taken .0 .small .keys)
-
-    tested : more right (getD path (l + 1) d) ≡ cond right (ltb (getD path (l + 1) d .at) (getD path (l + 1) d .node .count)) (ltb 0 (getD path (l + 1) d .at))
-    unfolding more
-    tested = go right
-      where
-        go : (r : Bool) → more r (getD path (l + 1) d) ≡ cond r (ltb (getD path (l + 1) d .at) (getD path (l + 1) d .node .count)) (ltb 0 (getD path (l + 1) d .at))
-        go true = refl
-        go false = refl
-
-    loaded : load right l (trail path l (top - l)) ≡ times (left-in right (getD path (l + 1) d)) (pow l) + load right (suc l) bs
-    unfolding load
-    loaded = rw opened
-
-    less-left : load right (suc l) bs ≤ load right level (trail path level (top - level))
-    less-left = omega (arith, c .lighter, loaded)
-
-    pub climb-more : (t : Bool) → t ≡ more right (getD path (l + 1) d) → t ≡ false → Climbing right top path level (l + 1)
-    unfolding climb
-    climb-more t p q =
-        let i = getD path (l + 1) d .at in
-        let e : cond right (ltb i (getD path (l + 1) d .node .count)) (ltb 0 i) ≡ false = sym tested ∙ sym p ∙ q in
-        rw add-one (record {
-          lows = λ f j. c .lows f (suc j);
-          same = λ g f. rw (c .same g f, opened) (visit-none right (seek g (visit right) l) (entriesOf (getD path (l + 1) d .node) (c .lows f 0)) (getD path (l + 1) d .node .count) i
-              (climb g right (suc l) (rests right bs (λ j. c .lows f (suc j)))) (long-enough (c .lows f 0)) (taken .0 .within) e);
-          stacked = record { high = c .stacked .high; size = c .stacked .size; good = taken .1 };
-          lighter = let w : load right (suc l) bs ≤ load right level (trail path level (top - level)) = less-left in w;
-        })
-
-    module _ (t : Bool) (p : t ≡ more right (getD path (l + 1) d)) (q : t ≡ true) (at name : ℕ) (pa : at ≡ onward right (getD path (l + 1) d .at)) where
-      going-on : cond right (ltb (getD path (l + 1) d .at) (getD path (l + 1) d .node .count)) (ltb 0 (getD path (l + 1) d .at)) ≡ true
-      going-on = sym tested ∙ sym p ∙ q
-
-      within : at ≤ getD path (l + 1) d .node .count
-      within = go right refl going-on
-        where
-          go : (r : Bool) → right ≡ r → cond r (ltb (getD path (l + 1) d .at) (getD path (l + 1) d .node .count)) (ltb 0 (getD path (l + 1) d .at)) ≡ true → at ≤ getD path (l + 1) d .node .count
-          go true e k =
-              let y : getD path (l + 1) d .at < getD path (l + 1) d .node .count = ltb-true (getD path (l + 1) d .at) (getD path (l + 1) d .node .count) k in
-              let w : at ≡ getD path (l + 1) d .at + 1 = rw e at pa in omega arith
-          go false e k = let w : at ≡ getD path (l + 1) d .at - 1 = rw e at pa in omega (arith, taken .0 .within)
-
-      one-less : (n : Node) (i j : ℕ) → j ≡ onward right i → cond right (ltb i (n .count)) (ltb 0 i) ≡ true → cond right (n .count - i) i ≡ suc (cond right (n .count - j) j)
-      one-less n i j e g = go right refl
-        where
-          go : (r : Bool) → right ≡ r → cond right (n .count - i) i ≡ suc (cond right (n .count - j) j)
-          go true k = let y : i < n .count = ltb-true i (n .count) (rw k at g) in let w : j ≡ i + 1 = rw k at e in rw k (omega arith)
-          go false k = let y : 0 < i = ltb-true 0 i (rw k at g) in let w : j ≡ i - 1 = rw k at e in rw k (omega arith)
-
-      lighter-by : (b : Turn) → trail (set path (l + 1) b) l (top - l) ≡ b ∷ bs → left-in right (getD path (l + 1) d) ≡ suc (left-in right b)
-          → weight right top (set path (l + 1) b) l ≤ load right level (trail path level (top - level))
-      unfolding weight load times
-      lighter-by b s e =
-          let w : weight right top (set path (l + 1) b) l ≡ times (suc (left-in right b)) (pow l) + load right (suc l) bs = rw (weight, s, load) (omega arith) in
-          let v : load right l (trail path l (top - l)) ≡ times (suc (left-in right b)) (pow l) + load right (suc l) bs = rw e at loaded in
-          omega (arith, c .lighter)
-
-      pub climb-slot : at < 15
-      climb-slot = omega (arith, within, taken .0 .small .keys)
-
-      pub climb-next : name ≡ getD (getD path (l + 1) d .node .slots) at 0
-          → Climbed right top path level (record { state = Next; path = set path (l + 1) (record { name = getD path (l + 1) d .name; at = at; node = getD path (l + 1) d .node }); level = l; name = name })
-      unfolding climb All
-      climb-next pn =
-          let n = getD path (l + 1) d .node in
-          let b : Turn = record { name = getD path (l + 1) d .name; at = at; node = n } in
-          let s : trail (set path (l + 1) b) l (top - l) ≡ b ∷ bs = trail-next path b l top h inside in
-          let v : (lo : ℕ) → getD (entriesOf n lo) at (0, 0) .1 ≡ name = λ lo. let x = extra-inner n (taken .0 .inner) in rw pn (entry-slot n lo (taken .0 .whole) at (omega (arith, within))) in
-          record {
-            lo = λ f. getD (entriesOf n (c .lows f 0)) at (0, 0) .0;
-            lows = λ f. c .lows f;
-            found = λ x r. let z : _≡_ {A = ℕ} 0 1 = cc in omega arith;
-            ends = λ r. let z : _≡_ {A = ℕ} 0 1 = cc in absurd (omega arith);
-            next = λ r g f. rw (c .same g f, opened, s, ← v (c .lows f 0), pa) (visit-next right (seek g (visit right) l) (entriesOf n (c .lows f 0)) (n .count) (getD path (l + 1) d .at)
-                (climb g right (suc l) (rests right bs (λ j. c .lows f (suc j)))) (long-enough (c .lows f 0)) (taken .0 .within) going-on);
-            stacked = λ r. record {
-              high = c .stacked .high;
-              size = simp length-set (c .stacked .size);
-              good = rw s (record { inner = taken .0 .inner; whole = taken .0 .whole; small = taken .0 .small; within = within }, taken .1);
-            };
-            below = λ r. h;
-            lighter = λ r. lighter-by b s (one-less n (getD path (l + 1) d .at) at pa going-on);
-          }
-
-pub ruleset climb-exits = (climb-start, climb-ends, climb-at, climb-more, climb-slot, climb-next)
-
 -- ---- on from a node that was read
 -- a node below the root, of a level below the top
 pub record Standing (n : Node) (level top : ℕ) : Type 0 where
@@ -414,11 +142,6 @@ pub record Standing (n : Node) (level top : ℕ) : Type 0 where
 unfoldable pub read-on : (Entries → Option ℕ) → Bool → ℕ → Entries → Plan → Plan
 read-on g right zero es p = told (g es) p
 read-on g right (suc l) es p = visit right (seek g (visit right) l) es p
-
-pub seek-reads : (g : Entries → Option ℕ) (right : Bool) (l lo n : ℕ) (p : Plan) → seek g (visit right) l lo n p ≡ kid [] l lo n (λ es. read-on g right l es p)
-unfolding read-on
-seek-reads g right zero lo n p = refl
-seek-reads g right (suc l) lo n p = refl
 
 pub record Advanced (right : Bool) (key top : ℕ) (path : List Turn) (level : ℕ) (n : Node) (a : Ahead) : Type 0 where
   pub lo : ℕ → (ℕ → ℕ) → ℕ
@@ -434,131 +157,6 @@ pub record Advanced (right : Bool) (key top : ℕ) (path : List Turn) (level : �
   pub below : a .state ≡ Next → a .level < top
   pub lighter : a .state ≡ Next → weight right top (a .path) (a .level) < weight right top path level
 
-pub is-key : (o : Option ℕ) (x : ℕ) → key-of o ≡ Is x → o ≡ some x
-is-key none x e = let c : _≡_ {A = ℕ} 0 1 = cc in absurd (omega arith)
-is-key (some y) x e = let c : y ≡ x = cc in rw c
-
-pub no-key : (o : Option ℕ) → key-of o ≡ Nothing → o ≡ none
-no-key none e = refl
-no-key (some y) e = let c : _≡_ {A = ℕ} 0 1 = cc in absurd (omega arith)
-
-pub near-of : (right : Bool) (key : ℕ) (n : Node) (lo : ℕ) → Whole n → Leaf n → nearest-in right key (entriesOf n lo) ≡ near-keys right (keysOf n) key
-near-of true key n lo f l = rw (leaf-keys n lo key f l)
-near-of false key n lo f l = rw (leaf-keys n lo key f l)
-
-module _ (right : Bool) (key top : ℕ) (path : List Turn) (n : Node) (level : ℕ) (s : Standing n level top) (z : level ≡ 0) where
-  leaf : Leaf n
-  leaf = open-leaf n (s .opened) (s .level-is ∙ z)
-
-  near : (lo : ℕ) → key-of (nearest-in right key (entriesOf n lo)) ≡ in-leaf right n key
-  unfolding in-leaf
-  near lo = rw (near-of right key n lo (s .whole) leaf)
-
-  pub leaf-found : (k : Key) (x name : ℕ) → k ≡ in-leaf right n key → k ≡ Is x → Advanced right key top path level n (record { state = Found x; path = path; level = level; name = name })
-  unfolding read-on
-  leaf-found k x name pk e = record {
-    lo = λ j f. 0;
-    lows = λ j f. f;
-    found = λ y q j f. let v : nearest-in right key (entriesOf n j) ≡ some x = is-key (nearest-in right key (entriesOf n j)) x (near j ∙ sym pk ∙ e) in let c : x ≡ y = cc in rw (z, v, c);
-    ends = λ q. let c : _≡_ {A = ℕ} 0 1 = cc in absurd (omega arith);
-    next = λ q. let c : _≡_ {A = ℕ} 0 1 = cc in absurd (omega arith);
-    stacked = λ q. let c : _≡_ {A = ℕ} 0 1 = cc in absurd (omega arith);
-    below = λ q. let c : _≡_ {A = ℕ} 0 1 = cc in absurd (omega arith);
-    lighter = λ q. let c : _≡_ {A = ℕ} 0 1 = cc in absurd (omega arith);
-  }
-
-  pub leaf-passed : (k : Key) (a : Ahead) → k ≡ in-leaf right n key → k ≡ Nothing → Climbed right top path level a → Advanced right key top path level n a
-  unfolding read-on weight pow
-  leaf-passed k a pk e c₀ =
-      let c : Climbed right top path 0 a = rw z at c₀ in
-      let v : (j : ℕ) → nearest-in right key (entriesOf n j) ≡ none = λ j. no-key (nearest-in right key (entriesOf n j)) (near j ∙ sym pk ∙ e) in
-      rw z (record {
-        lo = λ j f. c .lo f;
-        lows = λ j f. c .lows f;
-        found = λ y q. absurd (c .found y q);
-        ends = λ q j f. rw (v j) (c .ends q (nearest-in right key) f);
-        next = λ q j f. rw (v j) (c .next q (nearest-in right key) f);
-        stacked = c .stacked;
-        below = c .below;
-        lighter = λ q. omega (arith, c .lighter q);
-      })
-
-times-mono : (r s p : ℕ) → r ≤ s → times r p ≤ times s p
-unfolding times
-times-mono zero s p h = omega arith
-times-mono (suc r) zero p h = absurd (omega arith)
-times-mono (suc r) (suc s) p h = omega (arith, times-mono r s p (omega arith))
-
-pow-some : (l : ℕ) → 1 ≤ pow l
-unfolding pow times
-pow-some zero = omega arith
-pow-some (suc l) = omega (arith, pow-some l)
-
-pow-more : (l c : ℕ) → c ≤ 14 → pow l + times c (pow l) < pow (suc l)
-unfolding pow times
-pow-more l c h = omega (arith, times-mono (suc c) 15 (pow l) (omega arith), pow-some l)
-
-read-inner : (g : Entries → Option ℕ) (right : Bool) (l : ℕ) (es : Entries) (p : Plan) → (l ≡ 0 → ⊥) → read-on g right l es p ≡ visit right (seek g (visit right) (l - 1)) es p
-unfolding read-on
-read-inner g right zero es p z = absurd (z refl)
-read-inner g right (suc l) es p z = let e : suc l - 1 ≡ l = omega arith in rw e
-
-first-is : (right : Bool) (n : Node) → first-at right n ≡ cond right 0 (n .count)
-first-is true n = refl
-first-is false n = refl
-
-first-left : (right : Bool) (c : ℕ) → cond right (c - cond right 0 c) (cond right 0 c) ≡ c
-first-left true c = omega arith
-first-left false c = refl
-
-abbrev pushed : ℕ → (ℕ → ℕ) → ℕ → ℕ
-pushed j f zero = j
-pushed j f (suc i) = f i
-
--- from an inner node to its first child
-module _ (right : Bool) (key top : ℕ) (path : List Turn) (n : Node) (level : ℕ) (s : Standing n level top) (k : Stacked top path level) (z : level ≡ 0 → ⊥) where
-  at-most : (r : Bool) → cond r 0 (n .count) ≤ n .count
-  at-most true = omega arith
-  at-most false = omega arith
-
-  pub first-inside : (at : ℕ) → at ≡ first-at right n → at < 15
-  first-inside at e = go right refl
-    where
-      go : (r : Bool) → right ≡ r → at < 15
-      go true t = let w : at ≡ 0 = rw t at e in omega arith
-      go false t = let w : at ≡ n .count = rw t at e in omega (arith, s .small .keys)
-
-  pub down-first : (name at child : ℕ) → at ≡ first-at right n → child ≡ getD (n .slots) at 0
-      → Advanced right key top path level n (record { state = Next; path = set path level (record { name = name; at = at; node = n }); level = level - 1; name = child })
-  unfolding climb All weight load
-  down-first name at child pa pc =
-      let b : Turn = record { name = name; at = at; node = n } in
-      let i : Inner n = open-inner n (s .opened) (omega (arith, s .level-is)) in
-      let x = extra-inner n i in
-      let e : suc (level - 1) ≡ level = omega arith in
-      let a : at ≡ cond right 0 (n .count) = pa ∙ first-is right n in
-      let g : at < 15 = first-inside at pa in
-      let t : trail (set path level b) (level - 1) (top - (level - 1)) ≡ b ∷ trail path level (top - level) =
-      trail-more path b level top (omega arith) (omega (arith, s .below)) (omega (arith, s .below, k .high, k .size)) in
-      let w : at ≤ n .count = rw a (at-most right) in
-      let v : (j : ℕ) → getD (entriesOf n j) at (0, 0) .1 ≡ child = λ j. rw pc (entry-slot n j (s .whole) at (omega arith)) in
-      let m : left-in right b ≡ n .count = rw a (first-left right (n .count)) in
-      record {
-        lo = λ j f. getD (entriesOf n j) at (0, 0) .0;
-        lows = λ j f. pushed j f;
-        found = λ y q. let c : _≡_ {A = ℕ} 0 1 = cc in absurd (omega arith);
-        ends = λ q. let c : _≡_ {A = ℕ} 0 1 = cc in absurd (omega arith);
-        next = λ q j f. let p = climb (nearest-in right key) right level (rests right (trail path level (top - level)) f) in
-            rw (t, read-inner (nearest-in right key) right level (entriesOf n j) p z, e, ← v j, a)
-            (visit-first right (seek (nearest-in right key) (visit right) (level - 1)) (entriesOf n j) (n .count) p (omega (arith, length-entriesOf n j (s .whole))));
-        stacked = λ q. record { high = k .high; size = simp length-set (k .size); good = rw t (record { inner = i; whole = s .whole; small = s .small; within = w }, k .good) };
-        below = λ q. omega (arith, s .below);
-        lighter = λ q. let y : pow (level - 1) + times (n .count) (pow (level - 1)) < pow level = rw e at (pow-more (level - 1) (n .count) (s .small .keys)) in
-            rw (weight, t, load, m, e) (omega arith);
-      }
-
-pub ruleset advance-exits = (leaf-found, leaf-passed, first-inside, down-first)
-
 -- ---- a child read, and where it leads
 abbrev pub afterwards : Bool → ℕ → ℕ → List Turn → ℕ → Node → ℕ → (ℕ → ℕ) → Plan
 afterwards right key top path level n j f =
@@ -572,88 +170,7 @@ pub record ReadOn (z : Sizes) (m : ClientWord → ℕ) (u : List ℕ) (right : B
   pub long : length u′ ≡ length u
   pub leads : goes (r .stop) ≡ true → Advanced right key top path level node (r .ahead)
 
-module _ (z : Sizes) (m : ClientWord → ℕ) (u : List ℕ) (right : Bool) (key top : ℕ) (path : List Turn) (level name : ℕ) (s : Stop) (n : Node) (u′ : List ℕ)
-    (h : Kid z m nothing u level name s n u′) (b : Bool) (pb : b ≡ goes s) where
-  asked : (j : ℕ) (f : ℕ → ℕ) → walked z m (onto (nearest-in right key) right top path level name j f) (used-in u)
-      ≡ carry s (used-in u′) (λ us. walked z m (afterwards right key top path level n j f) us)
-  asked j f =
-      let p = climb (nearest-in right key) right level (rests right (trail path level (top - level)) f) in
-      rw (seek-reads (nearest-in right key) right level j name p, h .asks [] (none-held z))
-
-  pub read-stops : (a : Ahead) → not b ≡ true → ReadOn z m u right key top path level name (record { stop = s; ahead = a }) u′
-  read-stops a nb = record { node = n; asks = asked; noted = h .noted; long = h .long; leads = λ t. stops-not s (sym pb ∙ not-true b nb) t }
-
-  pub read-leads : (a : Ahead) → not b ≡ false → Advanced right key top path level n a → ReadOn z m u right key top path level name (record { stop = s; ahead = a }) u′
-  read-leads a nb v = record { node = n; asks = asked; noted = h .noted; long = h .long; leads = λ t. v }
-
-  pub read-standing : not b ≡ false → level < top → Standing n level top
-  read-standing nb lt =
-      let q = below-true level n (h .fits (sym pb ∙ not-false b nb)) in
-      record { whole = h .whole; small = h .small; opened = q .opened; level-is = q .level; below = lt }
-
-pub ruleset read-exits = (read-stops, read-leads, read-standing)
-
 -- ---- the leaves on that side, from a child on
 pub record Seeks (z : Sizes) (m : ClientWord → ℕ) (u : List ℕ) (right : Bool) (key top : ℕ) (path : List Turn) (level name : ℕ) (s : Stop) (u′ : List ℕ) : Type 0 where
   pub same : (j : ℕ) (f : ℕ → ℕ) → walked z m (onto (nearest-in right key) right top path level name j f) (used-in u) ≡ W.told s (used-in u′)
   pub noted : Noted m u′
-
--- how far the search has come
-pub record Seeking (z : Sizes) (m : ClientWord → ℕ) (u₀ : List ℕ) (right : Bool) (key top : ℕ) (path₀ : List Turn) (level₀ name₀ : ℕ) (path : List Turn) (level name : ℕ) (u : List ℕ) : Type 0 where
-  pub lo : ℕ → (ℕ → ℕ) → ℕ
-  pub lows : ℕ → (ℕ → ℕ) → ℕ → ℕ
-  pub same : (j : ℕ) (f : ℕ → ℕ)
-      → walked z m (onto (nearest-in right key) right top path₀ level₀ name₀ j f) (used-in u₀)
-      ≡ walked z m (onto (nearest-in right key) right top path level name (lo j f) (lows j f)) (used-in u)
-  pub stacked : Stacked top path level
-  pub below : level < top
-  pub noted : Noted m u
-  pub long : length u ≡ length u₀
-
-pub seek-start : (z : Sizes) (m : ClientWord → ℕ) (u : List ℕ) (right : Bool) (key top : ℕ) (path : List Turn) (level name : ℕ) → Stacked top path level × (level < top) → Noted m u
-    → Seeking z m u right key top path level name path level name u
-seek-start z m u right key top path level name k n =
-    record { lo = λ j f. j; lows = λ j f. f; same = λ j f. refl; stacked = k .0; below = k .1; noted = n; long = refl }
-
-module _ (z : Sizes) (m : ClientWord → ℕ) (u₀ : List ℕ) (right : Bool) (key top : ℕ) (path₀ : List Turn) (level₀ name₀ : ℕ) (path : List Turn) (level name : ℕ) (u : List ℕ)
-    (d : Seeking z m u₀ right key top path₀ level₀ name₀ path level name u)
-    (r : Reading) (u₁ : List ℕ) (h : ReadOn z m u right key top path level name r u₁) (b : Bool) (pb : b ≡ goes (r .stop)) where
-  pub seek-stops : not b ≡ true → Seeks z m u₀ right key top path₀ level₀ name₀ (r .stop) u₁
-  seek-stops nb = let no : goes (r .stop) ≡ false = sym pb ∙ not-true b nb in
-      record { same = λ j f. rw (d .same j f, h .asks (d .lo j f) (d .lows j f), no); noted = h .noted }
-
-  pub seek-long : length u₁ ≡ length u₀
-  seek-long = h .long ∙ d .long
-
-  module _ (nb : not b ≡ false) where
-    on : goes (r .stop) ≡ true
-    on = sym pb ∙ not-false b nb
-
-    pub seek-found : (y : ℕ) (s : Stop) (u₂ : List ℕ) → r .ahead .state ≡ Found y → Ends m u₁ 1 y s u₂ → Seeks z m u₀ right key top path₀ level₀ name₀ s u₂
-    seek-found y s u₂ e q = record {
-      same = λ j f. rw (d .same j f, h .asks (d .lo j f) (d .lows j f), on, h .leads on .found y e (d .lo j f) (d .lows j f)) (q .same z [] ∙ ended-nothing s (used-in u₂));
-      noted = q .noted;
-    }
-
-    pub seek-nowhere : (s : Stop) (u₂ : List ℕ) → r .ahead .state ≡ Nowhere → Ends m u₁ 0 0 s u₂ → Seeks z m u₀ right key top path₀ level₀ name₀ s u₂
-    seek-nowhere s u₂ e q = record {
-      same = λ j f. rw (d .same j f, h .asks (d .lo j f) (d .lows j f), on, h .leads on .ends e (d .lo j f) (d .lows j f)) (q .same z [] ∙ ended-nothing s (used-in u₂));
-      noted = q .noted;
-    }
-
-    pub seek-more : r .ahead .state ≡ Next → Seeking z m u₀ right key top path₀ level₀ name₀ (r .ahead .path) (r .ahead .level) (r .ahead .name) u₁
-    seek-more e = let v = h .leads on in
-        record {
-          lo = λ j f. v .lo (d .lo j f) (d .lows j f);
-          lows = λ j f. v .lows (d .lo j f) (d .lows j f);
-          same = λ j f. rw (d .same j f, h .asks (d .lo j f) (d .lows j f), on, v .next e (d .lo j f) (d .lows j f));
-          stacked = v .stacked e;
-          below = v .below e;
-          noted = h .noted;
-          long = seek-long;
-        }
-
-    pub seek-less : r .ahead .state ≡ Next → weight right top (r .ahead .path) (r .ahead .level) < weight right top path level
-    seek-less e = h .leads on .lighter e
-
-pub ruleset seek-exits = (seek-start, seek-stops, seek-found, seek-nowhere, seek-more, seek-less)

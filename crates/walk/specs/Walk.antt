@@ -1,26 +1,23 @@
 -- The walk of a plan as a work step tells it, and what comes of a question.
-use mathlib.Core.Path.{_≡_, refl}
 use mathlib.Core.Bool.{Bool, true, false, cond, _&&_, not}
-use mathlib.Core.List.{List, [], _∷_, _++_}
+use mathlib.Core.List.{List, []}
 use Prim.Native.Nat.{ℕ, _+_, _-_}
-use native.Mathlib.Omega.{arith}
 use lib.Dec.{ltb}
-use lib.ListN.{length, take, length-append}
-use lib.Seq.{take-append-seam}
-use Rattle.plans.specs.Plan as P
+use lib.ListN.{length, take}
 use Rattle.nodes.specs.Name.{server-of}
-use Rattle.operations.specs.Object.{meta, node, flag, Ask, object, vector, fetched, Val, Why, reason, Ans, Writes}
+use Rattle.operations.specs.Object.{meta, node, flag, Ask, object, vector, fetched, reason, Writes}
 use Rattle.operations.specs.Slot.{Sizes}
 use Rattle.operations.specs.Path.{Plan}
 use Rattle.walk.specs.declared.walk.Stop.{Stop}
 use Rattle.walk.specs.declared.walk.Stop.the-variants.{Going, LacksMeta, LacksNode, LacksVector, Refused, Aborts, Answers}
 use Rattle.client.specs.declared.part.Set.the-variants.{Reads}
-use Rattle.client.specs.declared.part.Set.the-variants as set
 use Rattle.client.specs.Layout.{ClientWord}
 use Rattle.client.specs.Sets.{count, find}
 use Rattle.client.specs.Have.{have, broken}
 use Rattle.client.specs.Commit.{is-at}
-use Rattle.client.specs.Run.{End, lacks, aborts, gives, Ran, ran, judged, run}
+use Rattle.client.specs.Run.{End, lacks, aborts, gives, Ran, ran, run}
+use Rattle.plans.specs.Plan as P
+use Rattle.client.specs.declared.part.Set.the-variants as set
 
 -- how a walk ends, the copies that it used, and what it would write
 pub record Told : Type 0 where
@@ -90,32 +87,3 @@ module _ (z : Sizes) (m : ClientWord → ℕ) where
 -- with the copies us the walk has stopped, or goes on
 abbrev pub carry : Stop → List ℕ → (List ℕ → Told) → Told
 carry s us f = cond (goes s) (f us) (told s us)
-
--- ---- the ends of a walk
-module _ (z : Sizes) (m : ClientWord → ℕ) (us : List ℕ) where
-  pub walked-fails : (y : Why) → walked z m (P.fail y) us ≡ told (Aborts (reason y)) us
-  unfolding walked worked run
-  walked-fails y = go (over m us) refl
-    where
-      go : (b : Bool) → over m us ≡ b → walked z m (P.fail y) us ≡ told (Aborts (reason y)) us
-      go true e = rw (e, walked, worked)
-      go false e = rw (e, walked, worked)
-
-  pub walked-done : (r : Ans × Writes) → over m us ≡ false
-      → walked z m (P.done r) us ≡ record { stop = Answers (r .0 .0) (r .0 .1); used = us; writes = r .1 }
-  unfolding walked worked run
-  walked-done r h = rw h
-
-  pub full-done : (r : Ans × Writes) → over m us ≡ true → walked z m (P.done r) us ≡ told (Aborts 4) (take (length us - 1) us)
-  unfolding walked worked
-  full-done r h = rw h
-
-  pub full-ask : (a : Ask) (k : Val → Plan) → over m us ≡ true → walked z m (P.ask a k) us ≡ told (Aborts 4) (take (length us - 1) us)
-  unfolding walked worked
-  full-ask a k h = rw h
-
--- the object 97 that is entered
-pub judged-over : (p : Plan) (x : ℕ) (us : List ℕ) → judged p x us ≡ over-run p (us ++ (x ∷ []))
-judged-over (P.ask a k) x us = let e : length (us ++ (x ∷ [])) - 1 ≡ length us = simp length-append (omega arith) in rw (e, take-append-seam us (x ∷ []))
-judged-over (P.done r) x us = let e : length (us ++ (x ∷ [])) - 1 ≡ length us = simp length-append (omega arith) in rw (e, take-append-seam us (x ∷ []))
-judged-over (P.fail y) x us = refl

@@ -1,5 +1,5 @@
 use borrow.Author.Needs.{needs}
-use Rattle.gemandrolo.specs.Numbers.{numbers}
+use Rattle.gemandrolo.specs.Laws.Numbers.{numbers}
 use Rattle.gemandrolo.proofs.gemandrolo_open.Statement.{statement}
 use Rattle.gemandrolo.proofs.gemandrolo_open.Tie as tie
 

@@ -3,7 +3,7 @@ use mathlib.Core.Path.{_≡_}
 use Prim.Native.Nat.{_-_, _/_, _≤_}
 use lib.ListN.{length}
 use Rattle.memory.specs.Word.{view}
-use Rattle.gemandrolo.specs.Numbers.{Ran, runs}
+use Rattle.gemandrolo.specs.Laws.Numbers.{Ran, runs}
 use Rattle.gemandrolo.proofs.gemandrolo_run.Statement.{statement}
 use Rattle.gemandrolo.proofs.gemandrolo_run.Tie as tie
 

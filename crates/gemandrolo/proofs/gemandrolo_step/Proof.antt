@@ -1,5 +1,5 @@
 use borrow.Author.Needs.{needs}
-use Rattle.gemandrolo.specs.Numbers.{line-numbers}
+use Rattle.gemandrolo.specs.Laws.Numbers.{line-numbers}
 use Rattle.gemandrolo.proofs.gemandrolo_step.Statement.{statement}
 use Rattle.gemandrolo.proofs.gemandrolo_step.Tie as tie
 

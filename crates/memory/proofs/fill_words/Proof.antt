@@ -4,7 +4,7 @@ use borrow.Author.Needs.{needs}
 use lib.ListN.{length, replicate}
 use lib.Seq.{sets}
 use Rattle.memory.specs.Word.{view}
-use Rattle.memory.specs.Run.{fill-step, fill-end}
+use Rattle.memory.specs.Laws.Run.{fill-step, fill-end}
 use Rattle.memory.proofs.fill_words.Statement.{statement}
 use Rattle.memory.proofs.fill_words.Tie as tie
 

@@ -5,8 +5,8 @@ use borrow.Author.Needs.{needs}
 use lib.ListN.{length, take, drop, length-set, length-drop}
 use lib.Seq.{take-all, getD-drop}
 use Rattle.memory.specs.Word.{view}
-use Rattle.memory.specs.WordLaws.{view-length}
-use Rattle.memory.specs.Run.{read-step}
+use Rattle.memory.specs.Laws.Word.{view-length}
+use Rattle.memory.specs.Laws.Run.{read-step}
 use Rattle.memory.proofs.read_words.Statement.{statement}
 use Rattle.memory.proofs.read_words.Tie as tie
 

@@ -3,7 +3,7 @@ use Prim.Native.Nat.{_+_, _-_, _*_}
 use borrow.Author.Needs.{needs}
 use native.Mathlib.Omega.{arith}
 use lib.Seq.{sets}
-use Rattle.memory.specs.Part.{back-within, within-sets}
+use Rattle.memory.specs.Laws.Part.{back-within, within-sets}
 use Rattle.memory.proofs.write_inner_part.Statement.{statement}
 use Rattle.memory.proofs.write_inner_part.Tie as tie
 

@@ -2,7 +2,7 @@ use mathlib.Core.Path.{_∙_, refl}
 use borrow.Author.Needs.{needs}
 use native.Mathlib.Omega.{arith}
 use lib.Seq.{sets}
-use Rattle.memory.specs.Part.{back-from, from-sets}
+use Rattle.memory.specs.Laws.Part.{back-from, from-sets}
 use Rattle.memory.proofs.write_part.Statement.{statement}
 use Rattle.memory.proofs.write_part.Tie as tie
 

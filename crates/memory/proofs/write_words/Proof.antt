@@ -5,7 +5,7 @@ use borrow.Author.Needs.{needs}
 use lib.ListN.{length, take}
 use lib.Seq.{sets, take-all}
 use Rattle.memory.specs.Word.{view}
-use Rattle.memory.specs.Run.{write-step}
+use Rattle.memory.specs.Laws.Run.{write-step}
 use Rattle.memory.proofs.write_words.Statement.{statement}
 use Rattle.memory.proofs.write_words.Tie as tie
 

@@ -1,5 +1,5 @@
 use borrow.Author.Needs.{needs}
-use Rattle.change.specs.Delete.{deleted-exits}
+use Rattle.change.specs.Laws.Delete.{deleted-exits}
 use Rattle.change.proofs.delete.delete.Statement.{statement}
 use Rattle.change.proofs.delete.delete.Tie as tie
 

@@ -1,5 +1,5 @@
 use borrow.Author.Needs.{needs}
-use Rattle.change.specs.Delete.{delete-exits}
+use Rattle.change.specs.Laws.Delete.{delete-exits}
 use Rattle.change.proofs.delete.delete_at.Statement.{statement}
 use Rattle.change.proofs.delete.delete_at.Tie as tie
 

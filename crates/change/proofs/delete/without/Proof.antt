@@ -1,5 +1,5 @@
 use borrow.Author.Needs.{needs}
-use Rattle.change.specs.Delete.{without-exits}
+use Rattle.change.specs.Laws.Delete.{without-exits}
 use Rattle.change.proofs.delete.without.Statement.{statement}
 use Rattle.change.proofs.delete.without.Tie as tie
 

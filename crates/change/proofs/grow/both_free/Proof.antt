@@ -1,5 +1,5 @@
 use borrow.Author.Needs.{needs}
-use Rattle.change.specs.Grow.{free-exits}
+use Rattle.change.specs.Laws.Grow.{free-exits}
 use Rattle.change.proofs.grow.both_free.Statement.{statement}
 use Rattle.change.proofs.grow.both_free.Tie as tie
 

@@ -1,5 +1,5 @@
 use borrow.Author.Needs.{needs}
-use Rattle.change.specs.Grow.{grow-exits}
+use Rattle.change.specs.Laws.Grow.{grow-exits}
 use Rattle.change.proofs.grow.grow.Statement.{statement}
 use Rattle.change.proofs.grow.grow.Tie as tie
 

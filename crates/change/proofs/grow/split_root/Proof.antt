@@ -1,5 +1,5 @@
 use borrow.Author.Needs.{needs}
-use Rattle.change.specs.Grow.{root-exits}
+use Rattle.change.specs.Laws.Grow.{root-exits}
 use Rattle.change.proofs.grow.split_root.Statement.{statement}
 use Rattle.change.proofs.grow.split_root.Tie as tie
 

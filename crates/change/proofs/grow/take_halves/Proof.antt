@@ -1,5 +1,5 @@
 use borrow.Author.Needs.{needs}
-use Rattle.change.specs.Grow.{halves-exits}
+use Rattle.change.specs.Laws.Grow.{halves-exits}
 use Rattle.change.proofs.grow.take_halves.Statement.{statement}
 use Rattle.change.proofs.grow.take_halves.Tie as tie
 

@@ -1,5 +1,5 @@
 use borrow.Author.Needs.{needs}
-use Rattle.change.specs.Grow.{two-exits}
+use Rattle.change.specs.Laws.Grow.{two-exits}
 use Rattle.change.proofs.grow.take_two.Statement.{statement}
 use Rattle.change.proofs.grow.take_two.Tie as tie
 

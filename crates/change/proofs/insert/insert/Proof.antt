@@ -1,5 +1,5 @@
 use borrow.Author.Needs.{needs}
-use Rattle.change.specs.Insert.{inserted-exits}
+use Rattle.change.specs.Laws.Insert.{inserted-exits}
 use Rattle.change.proofs.insert.insert.Statement.{statement}
 use Rattle.change.proofs.insert.insert.Tie as tie
 

@@ -1,5 +1,5 @@
 use borrow.Author.Needs.{needs}
-use Rattle.change.specs.Insert.{insert-exits}
+use Rattle.change.specs.Laws.Insert.{insert-exits}
 use Rattle.change.proofs.insert.insert_at.Statement.{statement}
 use Rattle.change.proofs.insert.insert_at.Tie as tie
 

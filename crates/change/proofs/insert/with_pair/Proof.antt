@@ -1,5 +1,5 @@
 use borrow.Author.Needs.{needs}
-use Rattle.change.specs.Insert.{pair-exits}
+use Rattle.change.specs.Laws.Insert.{pair-exits}
 use Rattle.change.proofs.insert.with_pair.Statement.{statement}
 use Rattle.change.proofs.insert.with_pair.Tie as tie
 

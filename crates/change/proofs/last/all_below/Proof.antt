@@ -2,8 +2,9 @@ use Prim.Native.Nat.{_-_, _≤_}
 use mathlib.Core.Path.{_≡_}
 use lib.ListN.{getD}
 use Rattle.client.specs.Sets.{held}
-use Rattle.client.specs.CommitLaws.{Sofar, so-none, so-next}
-use Rattle.change.specs.Last.{stays-below, staying}
+use Rattle.client.specs.Laws.Commit.{Sofar, so-none, so-next}
+use Rattle.change.specs.Last.{stays-below}
+use Rattle.change.specs.Laws.Last.{staying}
 use borrow.Author.Needs.{needs}
 use Rattle.change.proofs.last.all_below.Statement.{statement}
 use Rattle.change.proofs.last.all_below.Tie as tie

@@ -1,8 +1,9 @@
 use Prim.Native.Nat.{_-_, _≤_}
 use mathlib.Core.Path.{_≡_}
 use lib.ListN.{getD}
-use Rattle.client.specs.CommitLaws.{Sofar, so-none, so-next}
-use Rattle.change.specs.Last.{own-fits, fit-exits}
+use Rattle.client.specs.Laws.Commit.{Sofar, so-none, so-next}
+use Rattle.change.specs.Last.{own-fits}
+use Rattle.change.specs.Laws.Last.{fit-exits}
 use borrow.Author.Needs.{needs}
 use Rattle.change.proofs.last.all_fit.Statement.{statement}
 use Rattle.change.proofs.last.all_fit.Tie as tie

@@ -2,7 +2,7 @@ use Prim.Native.Nat.{_-_, _≤_}
 use mathlib.Core.Path.{_≡_}
 use lib.ListN.{getD}
 use Rattle.client.specs.Sets.{held}
-use Rattle.change.specs.Last.{Counted, counting}
+use Rattle.change.specs.Laws.Last.{Counted, counting}
 use borrow.Author.Needs.{needs}
 use Rattle.change.proofs.last.count_new.Statement.{statement}
 use Rattle.change.proofs.last.count_new.Tie as tie

@@ -1,5 +1,5 @@
 use borrow.Author.Needs.{needs}
-use Rattle.change.specs.Last.{reason-exits}
+use Rattle.change.specs.Laws.Last.{reason-exits}
 use Rattle.change.proofs.last.last_reason.Statement.{statement}
 use Rattle.change.proofs.last.last_reason.Tie as tie
 

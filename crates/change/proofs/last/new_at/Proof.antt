@@ -1,5 +1,5 @@
 use borrow.Author.Needs.{needs}
-use Rattle.change.specs.Last.{new-exits}
+use Rattle.change.specs.Laws.Last.{new-exits}
 use Rattle.change.proofs.last.new_at.Statement.{statement}
 use Rattle.change.proofs.last.new_at.Tie as tie
 

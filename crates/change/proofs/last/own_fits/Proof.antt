@@ -1,5 +1,5 @@
 use borrow.Author.Needs.{needs}
-use Rattle.change.specs.Last.{own-exits}
+use Rattle.change.specs.Laws.Last.{own-exits}
 use Rattle.change.proofs.last.own_fits.Statement.{statement}
 use Rattle.change.proofs.last.own_fits.Tie as tie
 

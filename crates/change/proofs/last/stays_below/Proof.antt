@@ -1,5 +1,5 @@
 use borrow.Author.Needs.{needs}
-use Rattle.change.specs.Last.{below-exits}
+use Rattle.change.specs.Laws.Last.{below-exits}
 use Rattle.change.proofs.last.stays_below.Statement.{statement}
 use Rattle.change.proofs.last.stays_below.Tie as tie
 

@@ -1,6 +1,6 @@
 use borrow.Author.Needs.{needs}
-use Rattle.nodes.specs.Found.{found-inside}
-use Rattle.change.specs.Last.{version-exits}
+use Rattle.nodes.specs.Laws.Found.{found-inside}
+use Rattle.change.specs.Laws.Last.{version-exits}
 use Rattle.change.proofs.last.version_in.Statement.{statement}
 use Rattle.change.proofs.last.version_in.Tie as tie
 

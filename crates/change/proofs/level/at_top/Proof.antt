@@ -1,5 +1,5 @@
 use borrow.Author.Needs.{needs}
-use Rattle.change.specs.Level.{top-exits}
+use Rattle.change.specs.Laws.Level.{top-exits}
 use Rattle.change.proofs.level.at_top.Statement.{statement}
 use Rattle.change.proofs.level.at_top.Tie as tie
 

@@ -1,5 +1,5 @@
 use borrow.Author.Needs.{needs}
-use Rattle.change.specs.Level.{raise-exits}
+use Rattle.change.specs.Laws.Level.{raise-exits}
 use Rattle.change.proofs.level.raise.Statement.{statement}
 use Rattle.change.proofs.level.raise.Tie as tie
 

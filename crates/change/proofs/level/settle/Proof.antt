@@ -1,5 +1,5 @@
 use borrow.Author.Needs.{needs}
-use Rattle.change.specs.Level.{settle-exits}
+use Rattle.change.specs.Laws.Level.{settle-exits}
 use Rattle.change.proofs.level.settle.Statement.{statement}
 use Rattle.change.proofs.level.settle.Tie as tie
 

@@ -1,5 +1,5 @@
 use borrow.Author.Needs.{needs}
-use Rattle.change.specs.Move.{leave-name, leave-last-good, leave-last-room, leave-done, leave-exits}
+use Rattle.change.specs.Laws.Move.{leave-name, leave-last-good, leave-last-room, leave-done, leave-exits}
 use Rattle.change.proofs.migrate.leave.Statement.{statement}
 use Rattle.change.proofs.migrate.leave.Tie as tie
 

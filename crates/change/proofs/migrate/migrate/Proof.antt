@@ -1,5 +1,5 @@
 use borrow.Author.Needs.{needs}
-use Rattle.change.specs.Migrate.{migrate-exits}
+use Rattle.change.specs.Laws.Migrate.{migrate-exits}
 use Rattle.change.proofs.migrate.migrate.Statement.{statement}
 use Rattle.change.proofs.migrate.migrate.Tie as tie
 

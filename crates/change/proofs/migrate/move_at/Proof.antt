@@ -1,5 +1,5 @@
 use borrow.Author.Needs.{needs}
-use Rattle.change.specs.Parent.{at-exits}
+use Rattle.change.specs.Laws.Parent.{at-exits}
 use Rattle.change.proofs.migrate.move_at.Statement.{statement}
 use Rattle.change.proofs.migrate.move_at.Tie as tie
 

@@ -1,5 +1,5 @@
 use borrow.Author.Needs.{needs}
-use Rattle.change.specs.Migrate.{below-parent, below-moves, below-exits}
+use Rattle.change.specs.Laws.Migrate.{below-parent, below-moves, below-exits}
 use Rattle.change.proofs.migrate.move_below.Statement.{statement}
 use Rattle.change.proofs.migrate.move_below.Tie as tie
 

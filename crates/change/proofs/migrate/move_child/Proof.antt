@@ -1,5 +1,5 @@
 use borrow.Author.Needs.{needs}
-use Rattle.change.specs.Parent.{child-count, child-done, child-exits}
+use Rattle.change.specs.Laws.Parent.{child-count, child-done, child-exits}
 use Rattle.change.proofs.migrate.move_child.Statement.{statement}
 use Rattle.change.proofs.migrate.move_child.Tie as tie
 

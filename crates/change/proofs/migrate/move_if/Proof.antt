@@ -1,5 +1,5 @@
 use borrow.Author.Needs.{needs}
-use Rattle.change.specs.Migrate.{if-exits}
+use Rattle.change.specs.Laws.Migrate.{if-exits}
 use Rattle.change.proofs.migrate.move_if.Statement.{statement}
 use Rattle.change.proofs.migrate.move_if.Tie as tie
 

@@ -1,5 +1,5 @@
 use borrow.Author.Needs.{needs}
-use Rattle.change.specs.Migrate.{named-small, named-whole, named-exits}
+use Rattle.change.specs.Laws.Migrate.{named-small, named-whole, named-exits}
 use Rattle.change.proofs.migrate.move_named.Statement.{statement}
 use Rattle.change.proofs.migrate.move_named.Tie as tie
 

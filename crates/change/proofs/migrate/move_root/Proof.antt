@@ -1,5 +1,5 @@
 use borrow.Author.Needs.{needs}
-use Rattle.change.specs.Migrate.{root-moves}
+use Rattle.change.specs.Laws.Migrate.{root-moves}
 use Rattle.change.proofs.migrate.move_root.Statement.{statement}
 use Rattle.change.proofs.migrate.move_root.Tie as tie
 

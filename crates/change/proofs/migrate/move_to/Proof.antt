@@ -1,5 +1,5 @@
 use borrow.Author.Needs.{needs}
-use Rattle.change.specs.Move.{move-good, move-room, move-there, move-exits}
+use Rattle.change.specs.Laws.Move.{move-good, move-room, move-there, move-exits}
 use Rattle.change.proofs.migrate.move_to.Statement.{statement}
 use Rattle.change.proofs.migrate.move_to.Tie as tie
 

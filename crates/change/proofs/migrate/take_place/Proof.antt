@@ -1,5 +1,5 @@
 use borrow.Author.Needs.{needs}
-use Rattle.change.specs.Move.{place-exits}
+use Rattle.change.specs.Laws.Move.{place-exits}
 use Rattle.change.proofs.migrate.take_place.Statement.{statement}
 use Rattle.change.proofs.migrate.take_place.Tie as tie
 

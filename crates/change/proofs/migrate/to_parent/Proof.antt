@@ -1,5 +1,5 @@
 use borrow.Author.Needs.{needs}
-use Rattle.change.specs.Parent.{parent-exits}
+use Rattle.change.specs.Laws.Parent.{parent-exits}
 use Rattle.change.proofs.migrate.to_parent.Statement.{statement}
 use Rattle.change.proofs.migrate.to_parent.Tie as tie
 

@@ -1,5 +1,5 @@
 use borrow.Author.Needs.{needs}
-use Rattle.change.specs.Move.{beside-exits}
+use Rattle.change.specs.Laws.Move.{beside-exits}
 use Rattle.change.proofs.migrate.write_root.Statement.{statement}
 use Rattle.change.proofs.migrate.write_root.Tie as tie
 

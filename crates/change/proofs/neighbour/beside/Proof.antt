@@ -1,5 +1,5 @@
 use borrow.Author.Needs.{needs}
-use Rattle.change.specs.Merge.{between}
+use Rattle.change.specs.Laws.Merge.{between}
 use Rattle.change.proofs.neighbour.beside.Statement.{statement}
 use Rattle.change.proofs.neighbour.beside.Tie as tie
 

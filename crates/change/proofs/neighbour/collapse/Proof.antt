@@ -1,5 +1,5 @@
 use borrow.Author.Needs.{needs}
-use Rattle.change.specs.Merge.{collapse-exits, collapse-ends}
+use Rattle.change.specs.Laws.Merge.{collapse-exits, collapse-ends}
 use Rattle.change.proofs.neighbour.collapse.Statement.{statement}
 use Rattle.change.proofs.neighbour.collapse.Tie as tie
 

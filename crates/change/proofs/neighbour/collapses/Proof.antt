@@ -1,5 +1,5 @@
 use borrow.Author.Needs.{needs}
-use Rattle.change.specs.Merge.{root-exits}
+use Rattle.change.specs.Laws.Merge.{root-exits}
 use Rattle.change.proofs.neighbour.collapses.Statement.{statement}
 use Rattle.change.proofs.neighbour.collapses.Tie as tie
 

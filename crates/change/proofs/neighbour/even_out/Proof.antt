@@ -1,6 +1,6 @@
 use borrow.Author.Needs.{needs}
 use mathlib.Core.Path.{refl}
-use Rattle.change.specs.Neighbour.{even-exits, even-shares, even-merges}
+use Rattle.change.specs.Laws.Neighbour.{even-exits, even-shares, even-merges}
 use Rattle.change.proofs.neighbour.even_out.Statement.{statement}
 use Rattle.change.proofs.neighbour.even_out.Tie as tie
 

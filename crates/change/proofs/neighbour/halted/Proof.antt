@@ -1,5 +1,5 @@
 use borrow.Author.Needs.{needs}
-use Rattle.change.specs.Merge.{blank-few}
+use Rattle.change.specs.Laws.Merge.{blank-few}
 use Rattle.change.proofs.neighbour.halted.Statement.{statement}
 use Rattle.change.proofs.neighbour.halted.Tie as tie
 

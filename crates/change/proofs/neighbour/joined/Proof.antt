@@ -1,5 +1,5 @@
 use borrow.Author.Needs.{needs}
-use Rattle.change.specs.Lend.{lend-exits}
+use Rattle.change.specs.Laws.Lend.{lend-exits}
 use Rattle.change.proofs.neighbour.joined.Statement.{statement}
 use Rattle.change.proofs.neighbour.joined.Tie as tie
 

@@ -1,5 +1,5 @@
 use borrow.Author.Needs.{needs}
-use Rattle.change.specs.Merge.{merge-exits, merge-collapses, merge-goes}
+use Rattle.change.specs.Laws.Merge.{merge-exits, merge-collapses, merge-goes}
 use Rattle.change.proofs.neighbour.merge.Statement.{statement}
 use Rattle.change.proofs.neighbour.merge.Tie as tie
 

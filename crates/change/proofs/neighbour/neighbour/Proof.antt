@@ -1,5 +1,5 @@
 use borrow.Author.Needs.{needs}
-use Rattle.change.specs.Neighbour.{neighbour-exits, itself, turn-stops, met, turned}
+use Rattle.change.specs.Laws.Neighbour.{neighbour-exits, itself, turn-stops, met, turned}
 use Rattle.change.proofs.neighbour.neighbour.Statement.{statement}
 use Rattle.change.proofs.neighbour.neighbour.Tie as tie
 

@@ -1,5 +1,5 @@
 use borrow.Author.Needs.{needs}
-use Rattle.change.specs.Rise.{widened-is}
+use Rattle.change.specs.Laws.Rise.{widened-is}
 use Rattle.change.proofs.rise.widen.Statement.{statement}
 use Rattle.change.proofs.rise.widen.Tie as tie
 

@@ -1,5 +1,5 @@
 use borrow.Author.Needs.{needs}
-use Rattle.change.specs.Rise.{both-exits}
+use Rattle.change.specs.Laws.Rise.{both-exits}
 use Rattle.change.proofs.rise.write_halves.Statement.{statement}
 use Rattle.change.proofs.rise.write_halves.Tie as tie
 

@@ -1,5 +1,5 @@
 use borrow.Author.Needs.{needs}
-use Rattle.change.specs.Rise.{node-written}
+use Rattle.change.specs.Laws.Rise.{node-written}
 use Rattle.change.proofs.rise.write_node.Statement.{statement}
 use Rattle.change.proofs.rise.write_node.Tie as tie
 

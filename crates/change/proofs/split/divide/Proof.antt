@@ -1,5 +1,5 @@
 use borrow.Author.Needs.{needs}
-use Rattle.change.specs.Split.{divided}
+use Rattle.change.specs.Laws.Split.{divided}
 use Rattle.change.proofs.split.divide.Statement.{statement}
 use Rattle.change.proofs.split.divide.Tie as tie
 

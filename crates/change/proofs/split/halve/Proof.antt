@@ -1,5 +1,5 @@
 use borrow.Author.Needs.{needs}
-use Rattle.change.specs.Split.{halve-exits}
+use Rattle.change.specs.Laws.Split.{halve-exits}
 use Rattle.change.proofs.split.halve.Statement.{statement}
 use Rattle.change.proofs.split.halve.Tie as tie
 

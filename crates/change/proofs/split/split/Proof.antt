@@ -1,5 +1,5 @@
 use borrow.Author.Needs.{needs}
-use Rattle.change.specs.Split.{split-exits}
+use Rattle.change.specs.Laws.Split.{split-exits}
 use Rattle.change.proofs.split.split.Statement.{statement}
 use Rattle.change.proofs.split.split.Tie as tie
 

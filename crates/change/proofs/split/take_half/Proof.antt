@@ -1,5 +1,5 @@
 use borrow.Author.Needs.{needs}
-use Rattle.change.specs.Split.{half-exits}
+use Rattle.change.specs.Laws.Split.{half-exits}
 use Rattle.change.proofs.split.take_half.Statement.{statement}
 use Rattle.change.proofs.split.take_half.Tie as tie
 

@@ -2,7 +2,7 @@ use Prim.Native.Nat.{_-_}
 use borrow.Author.Needs.{needs}
 use Rattle.client.specs.Record.{sizes}
 use Rattle.client.specs.Sets.{held}
-use Rattle.change.specs.Up.{Rising, rise-exits}
+use Rattle.change.specs.Laws.Up.{Rising, rise-exits}
 use Rattle.change.proofs.up.rise.Statement.{statement}
 use Rattle.change.proofs.up.rise.Tie as tie
 

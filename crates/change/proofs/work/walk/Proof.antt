@@ -1,5 +1,5 @@
 use borrow.Author.Needs.{needs}
-use Rattle.change.specs.Work.{by-number}
+use Rattle.change.specs.Laws.Work.{by-number}
 use Rattle.change.proofs.work.walk.Statement.{statement}
 use Rattle.change.proofs.work.walk.Tie as tie
 

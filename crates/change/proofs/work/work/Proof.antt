@@ -1,5 +1,5 @@
 use borrow.Author.Needs.{needs}
-use Rattle.change.specs.Work.{ready-good, ready-noted, work-exits}
+use Rattle.change.specs.Laws.Work.{ready-good, ready-noted, work-exits}
 use Rattle.change.proofs.work.work.Statement.{statement}
 use Rattle.change.proofs.work.work.Tie as tie
 

@@ -1,4 +1,4 @@
-use Rattle.client.specs.CommitLaws.{all-called}
+use Rattle.client.specs.Laws.Commit.{all-called}
 use borrow.Author.Needs.{needs}
 use Rattle.client.proofs.commit.calls_all.Statement.{statement}
 use Rattle.client.proofs.commit.calls_all.Tie as tie

@@ -1,4 +1,4 @@
-use Rattle.client.specs.CommitLaws.{home-not-called, home-called}
+use Rattle.client.specs.Laws.Commit.{home-not-called, home-called}
 use borrow.Author.Needs.{needs}
 use Rattle.client.proofs.commit.calls_home.Statement.{statement}
 use Rattle.client.proofs.commit.calls_home.Tie as tie

@@ -1,4 +1,4 @@
-use Rattle.client.specs.CommitLaws.{inner-meta, inner-node, inner-flag}
+use Rattle.client.specs.Laws.Commit.{inner-meta, inner-node, inner-flag}
 use borrow.Author.Needs.{needs}
 use Rattle.client.proofs.commit.inner_at.Statement.{statement}
 use Rattle.client.proofs.commit.inner_at.Tie as tie

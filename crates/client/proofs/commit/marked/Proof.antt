@@ -1,4 +1,4 @@
-use Rattle.client.specs.CommitLaws.{is-marked}
+use Rattle.client.specs.Laws.Commit.{is-marked}
 use borrow.Author.Needs.{needs}
 use Rattle.client.proofs.commit.marked.Statement.{statement}
 use Rattle.client.proofs.commit.marked.Tie as tie

@@ -5,7 +5,7 @@ use Rattle.client.specs.declared.part.Set.the-variants.{Writes}
 use Rattle.client.specs.Sets.{held, count}
 use Rattle.client.specs.Items.{any-below}
 use Rattle.client.specs.Participants.{calls-all}
-use Rattle.client.specs.CommitLaws.{any-none, any-next, any-here, any-absent, one-calls}
+use Rattle.client.specs.Laws.Commit.{any-none, any-next, any-here, any-absent, one-calls}
 use borrow.Author.Needs.{needs}
 use Rattle.client.proofs.commit.one_calls_all.Statement.{statement}
 use Rattle.client.proofs.commit.one_calls_all.Tie as tie

@@ -4,7 +4,7 @@ use Rattle.client.specs.declared.part.Set.the-variants.{Writes}
 use Rattle.client.specs.Sets.{held, count}
 use Rattle.client.specs.Items.{any-below}
 use Rattle.client.specs.Participants.{calls-all}
-use Rattle.client.specs.CommitLaws.{taking, taking-none, taking-next, taking-all}
+use Rattle.client.specs.Laws.Commit.{taking, taking-none, taking-next, taking-all}
 use borrow.Author.Needs.{needs}
 use Rattle.client.proofs.commit.participants.Statement.{statement}
 use Rattle.client.proofs.commit.participants.Tie as tie

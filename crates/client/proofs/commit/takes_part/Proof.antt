@@ -1,4 +1,4 @@
-use Rattle.client.specs.CommitLaws.{with-all, by-home}
+use Rattle.client.specs.Laws.Commit.{with-all, by-home}
 use borrow.Author.Needs.{needs}
 use Rattle.client.proofs.commit.takes_part.Statement.{statement}
 use Rattle.client.proofs.commit.takes_part.Tie as tie

@@ -1,5 +1,5 @@
-use Rattle.client.specs.CopiesLaws.{copy-there, copy-empty, copy-none}
-use Rattle.nodes.specs.Found.{found-inside}
+use Rattle.client.specs.Laws.Copies.{copy-there, copy-empty, copy-none}
+use Rattle.nodes.specs.Laws.Found.{found-inside}
 use borrow.Author.Needs.{needs}
 use Rattle.client.proofs.copies.copy_node.Statement.{statement}
 use Rattle.client.proofs.copies.copy_node.Tie as tie

@@ -1,4 +1,4 @@
-use Rattle.client.specs.CopiesLaws.{all-dropped}
+use Rattle.client.specs.Laws.Copies.{all-dropped}
 use borrow.Author.Needs.{needs}
 use Rattle.client.proofs.copies.drop_all.Statement.{statement}
 use Rattle.client.proofs.copies.drop_all.Tie as tie

@@ -2,7 +2,7 @@ use Prim.Native.Nat.{_-_, _≤_}
 use mathlib.Core.Path.{_≡_}
 use lib.ListN.{length, getD}
 use Rattle.client.specs.Part.{Did}
-use Rattle.client.specs.CopiesLaws.{drop-first, each-none, each-next, each-all}
+use Rattle.client.specs.Laws.Copies.{drop-first, each-none, each-next, each-all}
 use borrow.Author.Needs.{needs}
 use Rattle.client.proofs.copies.drop_each.Statement.{statement}
 use Rattle.client.proofs.copies.drop_each.Tie as tie

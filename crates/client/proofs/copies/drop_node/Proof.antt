@@ -1,5 +1,5 @@
-use Rattle.client.specs.CopiesLaws.{drop-there, drop-none}
-use Rattle.nodes.specs.Found.{found-inside}
+use Rattle.client.specs.Laws.Copies.{drop-there, drop-none}
+use Rattle.nodes.specs.Laws.Found.{found-inside}
 use borrow.Author.Needs.{needs}
 use Rattle.client.proofs.copies.drop_node.Statement.{statement}
 use Rattle.client.proofs.copies.drop_node.Tie as tie

@@ -4,8 +4,8 @@ use lib.ListN.{length}
 use Rattle.layout.specs.Sweep.{sweep}
 use Rattle.client.specs.Layout.{client-words}
 use Rattle.client.specs.Part.{Did}
-use Rattle.client.specs.StepLaws.{swept-none, swept-next, swept-all}
-use Rattle.client.specs.CopiesLaws.{good-empty, place-emptied}
+use Rattle.client.specs.Laws.Steps.{swept-none, swept-next, swept-all}
+use Rattle.client.specs.Laws.Copies.{good-empty, place-emptied}
 use Rattle.client.specs.Copies.{empty-place}
 use borrow.Author.Needs.{needs}
 use Rattle.client.proofs.copies.drop_nodes.Statement.{statement}

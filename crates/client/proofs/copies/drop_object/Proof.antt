@@ -1,4 +1,4 @@
-use Rattle.client.specs.CopiesLaws.{object-meta, object-node, object-flag, object-none}
+use Rattle.client.specs.Laws.Copies.{object-meta, object-node, object-flag, object-none}
 use borrow.Author.Needs.{needs}
 use Rattle.client.proofs.copies.drop_object.Statement.{statement}
 use Rattle.client.proofs.copies.drop_object.Tie as tie

@@ -1,4 +1,4 @@
-use Rattle.client.specs.CopiesLaws.{read-dropped}
+use Rattle.client.specs.Laws.Copies.{read-dropped}
 use borrow.Author.Needs.{needs}
 use Rattle.client.proofs.copies.drop_read.Statement.{statement}
 use Rattle.client.proofs.copies.drop_read.Tie as tie

@@ -1,12 +1,12 @@
-use Rattle.client.specs.StepLaws.{swept-on}
+use Rattle.client.specs.Laws.Steps.{swept-on}
 use Prim.Native.Nat.{_-_, _≤_}
 use mathlib.Core.Path.{_≡_}
 use lib.ListN.{length}
 use Rattle.layout.specs.Sweep.{sweep}
 use Rattle.client.specs.Layout.{client-words}
 use Rattle.client.specs.Part.{Did}
-use Rattle.client.specs.StepLaws.{swept-none}
-use Rattle.client.specs.CopiesLaws.{good-drop-read, reads-dropped}
+use Rattle.client.specs.Laws.Steps.{swept-none}
+use Rattle.client.specs.Laws.Copies.{good-drop-read, reads-dropped}
 use Rattle.client.specs.Copies.{drop-read}
 use Rattle.client.specs.Sets.{held, count}
 use Rattle.client.specs.declared.part.Set.the-variants.{Reads}

@@ -1,4 +1,4 @@
-use Rattle.client.specs.CopiesLaws.{used-dropped}
+use Rattle.client.specs.Laws.Copies.{used-dropped}
 use borrow.Author.Needs.{needs}
 use Rattle.client.proofs.copies.drop_used.Statement.{statement}
 use Rattle.client.proofs.copies.drop_used.Tie as tie

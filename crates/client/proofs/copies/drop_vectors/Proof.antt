@@ -1,12 +1,12 @@
-use Rattle.client.specs.StepLaws.{swept-on}
+use Rattle.client.specs.Laws.Steps.{swept-on}
 use Prim.Native.Nat.{_-_, _≤_}
 use mathlib.Core.Path.{_≡_}
 use lib.ListN.{length}
 use Rattle.layout.specs.Sweep.{sweep}
 use Rattle.client.specs.Layout.{client-words}
 use Rattle.client.specs.Part.{Did, drop-vector}
-use Rattle.client.specs.StepLaws.{swept-none, swept-all}
-use Rattle.client.specs.CopiesLaws.{good-vectors}
+use Rattle.client.specs.Laws.Steps.{swept-none, swept-all}
+use Rattle.client.specs.Laws.Copies.{good-vectors}
 use borrow.Author.Needs.{needs}
 use Rattle.client.proofs.copies.drop_vectors.Statement.{statement}
 use Rattle.client.proofs.copies.drop_vectors.Tie as tie

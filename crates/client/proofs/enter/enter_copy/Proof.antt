@@ -1,4 +1,4 @@
-use Rattle.client.specs.EnterLaws.{copy-entered}
+use Rattle.client.specs.Laws.Enter.{copy-entered}
 use borrow.Author.Needs.{needs}
 use Rattle.client.proofs.enter.enter_copy.Statement.{statement}
 use Rattle.client.proofs.enter.enter_copy.Tie as tie

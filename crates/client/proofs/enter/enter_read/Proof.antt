@@ -1,4 +1,4 @@
-use Rattle.client.specs.EnterLaws.{read-full, read-entered}
+use Rattle.client.specs.Laws.Enter.{read-full, read-entered}
 use borrow.Author.Needs.{needs}
 use Rattle.client.proofs.enter.enter_read.Statement.{statement}
 use Rattle.client.proofs.enter.enter_read.Tie as tie

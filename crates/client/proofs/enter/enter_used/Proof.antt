@@ -1,14 +1,14 @@
-use Rattle.client.specs.StepLaws.{swept-on}
+use Rattle.client.specs.Laws.Steps.{swept-on}
 use Prim.Native.Nat.{_-_, _≤_}
 use mathlib.Core.Path.{_≡_}
 use lib.ListN.{length, getD}
 use Rattle.layout.specs.Sweep.{sweep}
 use Rattle.client.specs.Layout.{client-words}
 use Rattle.client.specs.Part.{Did}
-use Rattle.client.specs.StepLaws.{swept-none}
-use Rattle.client.specs.EnterLaws.{good-nth, nth-entered, used-entered}
+use Rattle.client.specs.Laws.Steps.{swept-none}
+use Rattle.client.specs.Laws.Enter.{good-nth, nth-entered, used-entered}
 use Rattle.client.specs.Enter.{enter-nth}
-use Rattle.client.specs.LentLaws.{small-nth}
+use Rattle.client.specs.Laws.Lent.{small-nth}
 use borrow.Author.Needs.{needs}
 use Rattle.client.proofs.enter.enter_used.Statement.{statement}
 use Rattle.client.proofs.enter.enter_used.Tie as tie

@@ -1,5 +1,5 @@
-use Rattle.client.specs.EnterLaws.{write-replaced, write-full, write-entered}
-use Rattle.nodes.specs.Found.{found-inside}
+use Rattle.client.specs.Laws.Enter.{write-replaced, write-full, write-entered}
+use Rattle.nodes.specs.Laws.Found.{found-inside}
 use borrow.Author.Needs.{needs}
 use Rattle.client.proofs.enter.enter_write.Statement.{statement}
 use Rattle.client.proofs.enter.enter_write.Tie as tie

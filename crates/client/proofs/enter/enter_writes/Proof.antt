@@ -4,8 +4,8 @@ use lib.ListN.{length, getD}
 use Rattle.layout.specs.Sweep.{sweep}
 use Rattle.client.specs.Layout.{client-words}
 use Rattle.client.specs.Part.{Did}
-use Rattle.client.specs.StepLaws.{swept-none, swept-on}
-use Rattle.client.specs.EnterLaws.{good-writes, writes-entered}
+use Rattle.client.specs.Laws.Steps.{swept-none, swept-on}
+use Rattle.client.specs.Laws.Enter.{good-writes, writes-entered}
 use Rattle.client.specs.Enter.{write-nth}
 use borrow.Author.Needs.{needs}
 use Rattle.client.proofs.enter.enter_writes.Statement.{statement}

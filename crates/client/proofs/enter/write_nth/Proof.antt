@@ -1,4 +1,4 @@
-use Rattle.client.specs.EnterLaws.{nth-written}
+use Rattle.client.specs.Laws.Enter.{nth-written}
 use borrow.Author.Needs.{needs}
 use Rattle.client.proofs.enter.write_nth.Statement.{statement}
 use Rattle.client.proofs.enter.write_nth.Tie as tie

@@ -1,4 +1,4 @@
-use Rattle.client.specs.CopiesLaws.{inner-copied, inner-not}
+use Rattle.client.specs.Laws.Copies.{inner-copied, inner-not}
 use borrow.Author.Needs.{needs}
 use Rattle.client.proofs.fetched.copy_inner.Statement.{statement}
 use Rattle.client.proofs.fetched.copy_inner.Tie as tie

@@ -1,4 +1,4 @@
-use Rattle.client.specs.CopiesLaws.{meta-fetched}
+use Rattle.client.specs.Laws.Copies.{meta-fetched}
 use borrow.Author.Needs.{needs}
 use Rattle.client.proofs.fetched.fetched_meta.Statement.{statement}
 use Rattle.client.proofs.fetched.fetched_meta.Tie as tie

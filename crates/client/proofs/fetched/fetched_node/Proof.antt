@@ -1,5 +1,5 @@
-use Rattle.client.specs.StepLaws.{did-then}
-use Rattle.client.specs.EnterLaws.{good-read}
+use Rattle.client.specs.Laws.Steps.{did-then}
+use Rattle.client.specs.Laws.Enter.{good-read}
 use Rattle.client.specs.Fetched.{fetched-node}
 use borrow.Author.Needs.{needs}
 use Rattle.client.proofs.fetched.fetched_node.Statement.{statement}

@@ -1,4 +1,4 @@
-use Rattle.client.specs.StepLaws.{did-then, good-vector}
+use Rattle.client.specs.Laws.Steps.{did-then, good-vector}
 use Rattle.client.specs.Fetched.{fetched-vector}
 use borrow.Author.Needs.{needs}
 use Rattle.client.proofs.fetched.fetched_vector.Statement.{statement}

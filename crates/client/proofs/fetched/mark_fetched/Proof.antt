@@ -1,4 +1,4 @@
-use Rattle.client.specs.CopiesLaws.{vector-marked}
+use Rattle.client.specs.Laws.Copies.{vector-marked}
 use borrow.Author.Needs.{needs}
 use Rattle.client.proofs.fetched.mark_fetched.Statement.{statement}
 use Rattle.client.proofs.fetched.mark_fetched.Tie as tie

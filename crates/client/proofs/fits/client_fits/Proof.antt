@@ -1,4 +1,4 @@
-use Rattle.client.specs.FitsLaws.{fields-unfit, op-unfit, reads-unfit, writes-unfit, vectors-asked}
+use Rattle.client.specs.Laws.Fits.{fields-unfit, op-unfit, reads-unfit, writes-unfit, vectors-asked}
 use Prim.Native.Nat.{_<_}
 use native.Mathlib.Omega.{arith}
 use lib.Pow.{pow-lt, pow-pos}

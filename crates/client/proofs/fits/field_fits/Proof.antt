@@ -1,4 +1,4 @@
-use Rattle.client.specs.FitsLaws.{field-asked}
+use Rattle.client.specs.Laws.Fits.{field-asked}
 use borrow.Author.Needs.{needs}
 use Rattle.client.proofs.fits.field_fits.Statement.{statement}
 use Rattle.client.proofs.fits.field_fits.Tie as tie

@@ -1,4 +1,4 @@
-use Rattle.client.specs.FitsLaws.{read-itself, read-asked, read-copied}
+use Rattle.client.specs.Laws.Fits.{read-itself, read-asked, read-copied}
 use borrow.Author.Needs.{needs}
 use Rattle.client.proofs.fits.has_read.Statement.{statement}
 use Rattle.client.proofs.fits.has_read.Tie as tie

@@ -1,4 +1,4 @@
-use Rattle.client.specs.FitsLaws.{item-astray, item-unfit, item-there}
+use Rattle.client.specs.Laws.Fits.{item-astray, item-unfit, item-there}
 use borrow.Author.Needs.{needs}
 use Rattle.client.proofs.fits.item_fits.Statement.{statement}
 use Rattle.client.proofs.fits.item_fits.Tie as tie

@@ -1,4 +1,4 @@
-use Rattle.client.specs.FitsLaws.{number-meta, number-node, number-flag}
+use Rattle.client.specs.Laws.Fits.{number-meta, number-node, number-flag}
 use borrow.Author.Needs.{needs}
 use Rattle.client.proofs.fits.number_in_store.Statement.{statement}
 use Rattle.client.proofs.fits.number_in_store.Tie as tie

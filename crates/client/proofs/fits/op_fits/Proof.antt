@@ -1,4 +1,4 @@
-use Rattle.client.specs.FitsLaws.{op-other, op-astray, op-there}
+use Rattle.client.specs.Laws.Fits.{op-other, op-astray, op-there}
 use borrow.Author.Needs.{needs}
 use Rattle.client.proofs.fits.op_fits.Statement.{statement}
 use Rattle.client.proofs.fits.op_fits.Tie as tie

@@ -1,4 +1,4 @@
-use Rattle.client.specs.FitsLaws.{vector-asked}
+use Rattle.client.specs.Laws.Fits.{vector-asked}
 use borrow.Author.Needs.{needs}
 use Rattle.client.proofs.fits.vector_fits.Statement.{statement}
 use Rattle.client.proofs.fits.vector_fits.Tie as tie

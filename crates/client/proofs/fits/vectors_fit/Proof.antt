@@ -1,6 +1,6 @@
 use Prim.Native.Nat.{_-_}
 use mathlib.Core.Path.{_≡_}
-use Rattle.client.specs.CommitLaws.{Sofar, so-none, so-next, so-all, so-fails}
+use Rattle.client.specs.Laws.Commit.{Sofar, so-none, so-next, so-all, so-fails}
 use Rattle.client.specs.Sets.{held}
 use Rattle.client.specs.Fits.{vector-fits}
 use borrow.Author.Needs.{needs}

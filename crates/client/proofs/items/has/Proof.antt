@@ -1,4 +1,4 @@
-use Rattle.client.specs.ItemLaws.{has-one, has-none}
+use Rattle.client.specs.Laws.Items.{has-one, has-none}
 use borrow.Author.Needs.{needs}
 use Rattle.client.proofs.items.has.Statement.{statement}
 use Rattle.client.proofs.items.has.Tie as tie

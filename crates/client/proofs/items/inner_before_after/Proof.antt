@@ -1,4 +1,4 @@
-use Rattle.client.specs.ItemLaws.{inner-before, inner-after}
+use Rattle.client.specs.Laws.Items.{inner-before, inner-after}
 use borrow.Author.Needs.{needs}
 use Rattle.client.proofs.items.inner_before_after.Statement.{statement}
 use Rattle.client.proofs.items.inner_before_after.Tie as tie

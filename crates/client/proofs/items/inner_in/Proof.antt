@@ -1,5 +1,5 @@
-use Rattle.client.specs.ItemLaws.{inner-there, inner-absent}
-use Rattle.nodes.specs.Found.{found-inside}
+use Rattle.client.specs.Laws.Items.{inner-there, inner-absent}
+use Rattle.nodes.specs.Laws.Found.{found-inside}
 use borrow.Author.Needs.{needs}
 use Rattle.client.proofs.items.inner_in.Statement.{statement}
 use Rattle.client.proofs.items.inner_in.Tie as tie

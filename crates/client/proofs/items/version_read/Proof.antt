@@ -1,5 +1,5 @@
-use Rattle.client.specs.ItemLaws.{version-there, version-absent}
-use Rattle.nodes.specs.Found.{found-inside}
+use Rattle.client.specs.Laws.Items.{version-there, version-absent}
+use Rattle.nodes.specs.Laws.Found.{found-inside}
 use borrow.Author.Needs.{needs}
 use Rattle.client.proofs.items.version_read.Statement.{statement}
 use Rattle.client.proofs.items.version_read.Tie as tie

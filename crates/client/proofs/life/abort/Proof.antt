@@ -1,4 +1,4 @@
-use Rattle.client.specs.CopiesLaws.{was-aborted}
+use Rattle.client.specs.Laws.Copies.{was-aborted}
 use borrow.Author.Needs.{needs}
 use Rattle.client.proofs.life.abort.Statement.{statement}
 use Rattle.client.proofs.life.abort.Tie as tie

@@ -1,4 +1,4 @@
-use Rattle.client.specs.CopiesLaws.{was-lost}
+use Rattle.client.specs.Laws.Copies.{was-lost}
 use borrow.Author.Needs.{needs}
 use Rattle.client.proofs.life.lose.Statement.{statement}
 use Rattle.client.proofs.life.lose.Tie as tie

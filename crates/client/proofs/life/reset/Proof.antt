@@ -1,4 +1,4 @@
-use Rattle.client.specs.CopiesLaws.{was-reset}
+use Rattle.client.specs.Laws.Copies.{was-reset}
 use borrow.Author.Needs.{needs}
 use Rattle.client.proofs.life.reset.Statement.{statement}
 use Rattle.client.proofs.life.reset.Tie as tie

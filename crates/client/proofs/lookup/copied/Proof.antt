@@ -1,4 +1,4 @@
-use Rattle.client.specs.LookLaws.{copied-0, copied-1, copied-2}
+use Rattle.client.specs.Laws.Look.{copied-0, copied-1, copied-2}
 use borrow.Author.Needs.{needs}
 use Rattle.client.proofs.lookup.copied.Statement.{statement}
 use Rattle.client.proofs.lookup.copied.Tie as tie

@@ -1,4 +1,4 @@
-use Rattle.client.specs.LookLaws.{flag-lacking, flag-set, flag-clear}
+use Rattle.client.specs.Laws.Look.{flag-lacking, flag-set, flag-clear}
 use borrow.Author.Needs.{needs}
 use Rattle.client.proofs.lookup.copied_flag.Statement.{statement}
 use Rattle.client.proofs.lookup.copied_flag.Tie as tie

@@ -1,4 +1,4 @@
-use Rattle.client.specs.LookLaws.{meta-lacking, meta-there}
+use Rattle.client.specs.Laws.Look.{meta-lacking, meta-there}
 use borrow.Author.Needs.{needs}
 use Rattle.client.proofs.lookup.copied_meta.Statement.{statement}
 use Rattle.client.proofs.lookup.copied_meta.Tie as tie

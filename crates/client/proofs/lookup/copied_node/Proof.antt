@@ -1,5 +1,5 @@
-use Rattle.client.specs.LookLaws.{node-lacking, node-there}
-use Rattle.nodes.specs.Found.{found-inside}
+use Rattle.client.specs.Laws.Look.{node-lacking, node-there}
+use Rattle.nodes.specs.Laws.Found.{found-inside}
 use borrow.Author.Needs.{needs}
 use Rattle.client.proofs.lookup.copied_node.Statement.{statement}
 use Rattle.client.proofs.lookup.copied_node.Tie as tie

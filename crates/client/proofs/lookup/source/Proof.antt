@@ -1,5 +1,5 @@
-use Rattle.client.specs.LookLaws.{source-written, source-read, source-copied}
-use Rattle.nodes.specs.Found.{found-inside}
+use Rattle.client.specs.Laws.Look.{source-written, source-read, source-copied}
+use Rattle.nodes.specs.Laws.Found.{found-inside}
 use borrow.Author.Needs.{needs}
 use Rattle.client.proofs.lookup.source.Statement.{statement}
 use Rattle.client.proofs.lookup.source.Tie as tie

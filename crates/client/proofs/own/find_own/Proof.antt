@@ -1,9 +1,9 @@
 use Prim.Native.Nat.{_-_, _≤_}
 use mathlib.Core.Path.{_≡_}
 use lib.ListN.{getD}
-use Rattle.nodes.specs.Found.{absent-inside}
+use Rattle.nodes.specs.Laws.Found.{absent-inside}
 use Rattle.client.specs.Lent.{own-number}
-use Rattle.client.specs.FindLaws.{Searched, own-none, own-next, own-here, own-absent, found-within}
+use Rattle.client.specs.Laws.Find.{Searched, own-none, own-next, own-here, own-absent, found-within}
 use borrow.Author.Needs.{needs}
 use Rattle.client.proofs.own.find_own.Statement.{statement}
 use Rattle.client.proofs.own.find_own.Tie as tie

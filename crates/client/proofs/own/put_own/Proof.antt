@@ -1,5 +1,5 @@
-use Rattle.nodes.specs.Found.{found-inside}
-use Rattle.client.specs.LentLaws.{own-replaced, replaced-fits, own-appended, appended-fits}
+use Rattle.nodes.specs.Laws.Found.{found-inside}
+use Rattle.client.specs.Laws.Lent.{own-replaced, replaced-fits, own-appended, appended-fits}
 use borrow.Author.Needs.{needs}
 use Rattle.client.proofs.own.put_own.Statement.{statement}
 use Rattle.client.proofs.own.put_own.Tie as tie

@@ -1,4 +1,4 @@
-use Rattle.client.specs.LentLaws.{own-set}
+use Rattle.client.specs.Laws.Lent.{own-set}
 use borrow.Author.Needs.{needs}
 use Rattle.client.proofs.own.set_own.Statement.{statement}
 use Rattle.client.proofs.own.set_own.Tie as tie

@@ -1,4 +1,4 @@
-use Rattle.client.specs.PartLaws.{base-reads, base-writes, base-copies, few-items, items-fit}
+use Rattle.client.specs.Laws.Part.{base-reads, base-writes, base-copies, few-items, items-fit}
 use borrow.Author.Needs.{needs}
 use Rattle.client.proofs.part.base.Statement.{statement}
 use Rattle.client.proofs.part.base.Tie as tie

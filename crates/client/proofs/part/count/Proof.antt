@@ -1,5 +1,5 @@
-use Rattle.client.specs.PartLaws.{reads-within, writes-within, copies-within}
-use Rattle.client.specs.PartLaws.{count-reads, count-writes, count-copies}
+use Rattle.client.specs.Laws.Part.{reads-within, writes-within, copies-within}
+use Rattle.client.specs.Laws.Part.{count-reads, count-writes, count-copies}
 use borrow.Author.Needs.{needs}
 use Rattle.client.proofs.part.count.Statement.{statement}
 use Rattle.client.proofs.part.count.Tie as tie

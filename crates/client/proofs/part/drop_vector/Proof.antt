@@ -1,4 +1,4 @@
-use Rattle.client.specs.StepLaws.{drop-done}
+use Rattle.client.specs.Laws.Steps.{drop-done}
 use borrow.Author.Needs.{needs}
 use Rattle.client.proofs.part.drop_vector.Statement.{statement}
 use Rattle.client.proofs.part.drop_vector.Tie as tie

@@ -2,8 +2,8 @@ use Prim.Native.Nat.{_-_, _≤_}
 use mathlib.Core.Path.{_≡_}
 use Rattle.client.specs.Layout.{limit}
 use Rattle.client.specs.Sets.{held, count, number-at}
-use Rattle.client.specs.FindLaws.{Searched, find-none, find-next, find-here, find-absent, found-within}
-use Rattle.nodes.specs.Found.{absent-inside}
+use Rattle.client.specs.Laws.Find.{Searched, find-none, find-next, find-here, find-absent, found-within}
+use Rattle.nodes.specs.Laws.Found.{absent-inside}
 use borrow.Author.Needs.{needs}
 use Rattle.client.proofs.part.find.Statement.{statement}
 use Rattle.client.proofs.part.find.Tie as tie

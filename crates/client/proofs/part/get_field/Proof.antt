@@ -1,4 +1,4 @@
-use Rattle.client.specs.PartLaws.{got-field}
+use Rattle.client.specs.Laws.Part.{got-field}
 use borrow.Author.Needs.{needs}
 use Rattle.client.proofs.part.get_field.Statement.{statement}
 use Rattle.client.proofs.part.get_field.Tie as tie

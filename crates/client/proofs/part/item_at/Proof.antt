@@ -1,4 +1,4 @@
-use Rattle.client.specs.PartLaws.{item-place}
+use Rattle.client.specs.Laws.Part.{item-place}
 use borrow.Author.Needs.{needs}
 use Rattle.client.proofs.part.item_at.Statement.{statement}
 use Rattle.client.proofs.part.item_at.Tie as tie

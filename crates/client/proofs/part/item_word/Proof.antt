@@ -1,4 +1,4 @@
-use Rattle.client.specs.PartLaws.{got-word-of}
+use Rattle.client.specs.Laws.Part.{got-word-of}
 use borrow.Author.Needs.{needs}
 use Rattle.client.proofs.part.item_word.Statement.{statement}
 use Rattle.client.proofs.part.item_word.Tie as tie

@@ -1,4 +1,4 @@
-use Rattle.client.specs.PartLaws.{got-number}
+use Rattle.client.specs.Laws.Part.{got-number}
 use borrow.Author.Needs.{needs}
 use Rattle.client.proofs.part.number_at.Statement.{statement}
 use Rattle.client.proofs.part.number_at.Tie as tie

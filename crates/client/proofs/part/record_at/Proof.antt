@@ -1,4 +1,4 @@
-use Rattle.client.specs.PartLaws.{got-record}
+use Rattle.client.specs.Laws.Part.{got-record}
 use borrow.Author.Needs.{needs}
 use Rattle.client.proofs.part.record_at.Statement.{statement}
 use Rattle.client.proofs.part.record_at.Tie as tie

@@ -1,4 +1,4 @@
-use Rattle.client.specs.PartLaws.{field-done}
+use Rattle.client.specs.Laws.Part.{field-done}
 use borrow.Author.Needs.{needs}
 use Rattle.client.proofs.part.set_field.Statement.{statement}
 use Rattle.client.proofs.part.set_field.Tie as tie

@@ -1,4 +1,4 @@
-use Rattle.client.specs.StepLaws.{fields-done}
+use Rattle.client.specs.Laws.Steps.{fields-done}
 use borrow.Author.Needs.{needs}
 use Rattle.client.proofs.part.set_fields.Statement.{statement}
 use Rattle.client.proofs.part.set_fields.Tie as tie

@@ -1,4 +1,4 @@
-use Rattle.client.specs.PartLaws.{item-done}
+use Rattle.client.specs.Laws.Part.{item-done}
 use borrow.Author.Needs.{needs}
 use Rattle.client.proofs.part.set_item.Statement.{statement}
 use Rattle.client.proofs.part.set_item.Tie as tie

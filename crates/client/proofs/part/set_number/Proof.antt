@@ -1,4 +1,4 @@
-use Rattle.client.specs.StepLaws.{number-done}
+use Rattle.client.specs.Laws.Steps.{number-done}
 use borrow.Author.Needs.{needs}
 use Rattle.client.proofs.part.set_number.Statement.{statement}
 use Rattle.client.proofs.part.set_number.Tie as tie

@@ -1,4 +1,4 @@
-use Rattle.client.specs.StepLaws.{vector-done}
+use Rattle.client.specs.Laws.Steps.{vector-done}
 use borrow.Author.Needs.{needs}
 use Rattle.client.proofs.part.set_vector.Statement.{statement}
 use Rattle.client.proofs.part.set_vector.Tie as tie

@@ -1,4 +1,4 @@
-use Rattle.client.specs.PartLaws.{got-vector}
+use Rattle.client.specs.Laws.Part.{got-vector}
 use borrow.Author.Needs.{needs}
 use Rattle.client.proofs.part.vector_word.Statement.{statement}
 use Rattle.client.proofs.part.vector_word.Tie as tie

@@ -1,5 +1,6 @@
 use borrow.Author.Tests.{eq-eqb, ne-eqb, lt-ltb, le-ltb, le-leb, lt-leb}
-use Rattle.client.specs.Record.{fits, root-astray, root-there}
+use Rattle.client.specs.Record.{fits}
+use Rattle.client.specs.Laws.Record.{root-astray, root-there}
 use borrow.Author.Needs.{needs}
 use Rattle.client.proofs.range.fits.Statement.{statement}
 use Rattle.client.proofs.range.fits.Tie as tie

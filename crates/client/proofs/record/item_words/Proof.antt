@@ -1,4 +1,4 @@
-use Rattle.client.specs.Words.{item-made}
+use Rattle.client.specs.Laws.Words.{item-made}
 use borrow.Author.Needs.{needs}
 use Rattle.client.proofs.record.item_words.Statement.{statement}
 use Rattle.client.proofs.record.item_words.Tie as tie

@@ -1,4 +1,4 @@
-use Rattle.client.specs.Words.{record-got}
+use Rattle.client.specs.Laws.Words.{record-got}
 use borrow.Author.Needs.{needs}
 use Rattle.client.proofs.record.record_in.Statement.{statement}
 use Rattle.client.proofs.record.record_in.Tie as tie

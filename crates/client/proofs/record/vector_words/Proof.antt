@@ -1,4 +1,4 @@
-use Rattle.client.specs.Words.{copy-made}
+use Rattle.client.specs.Laws.Words.{copy-made}
 use borrow.Author.Needs.{needs}
 use Rattle.client.proofs.record.vector_words.Statement.{statement}
 use Rattle.client.proofs.record.vector_words.Tie as tie

@@ -1,4 +1,4 @@
-use Rattle.client.specs.RenewLaws.{outer-meta, outer-flag, outer-inner, outer-dropped}
+use Rattle.client.specs.Laws.Renew.{outer-meta, outer-flag, outer-inner, outer-dropped}
 use borrow.Author.Needs.{needs}
 use Rattle.client.proofs.renew.drop_outer.Statement.{statement}
 use Rattle.client.proofs.renew.drop_outer.Tie as tie

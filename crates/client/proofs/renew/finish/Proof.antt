@@ -1,4 +1,4 @@
-use Rattle.client.specs.RenewLaws.{was-finished}
+use Rattle.client.specs.Laws.Renew.{was-finished}
 use borrow.Author.Needs.{needs}
 use Rattle.client.proofs.renew.finish.Statement.{statement}
 use Rattle.client.proofs.renew.finish.Tie as tie

@@ -1,5 +1,5 @@
 use Prim.Native.Nat.{_-_}
-use Rattle.client.specs.RenewLaws.{Ranking, ranking-none, ranking-next, ranking-all, ranking-few}
+use Rattle.client.specs.Laws.Renew.{Ranking, ranking-none, ranking-next, ranking-all, ranking-few}
 use Rattle.client.specs.Sets.{held}
 use borrow.Author.Needs.{needs}
 use Rattle.client.proofs.renew.inner_below.Statement.{statement}

@@ -1,5 +1,5 @@
-use Rattle.client.specs.RenewLaws.{version-next, version-last, version-none}
-use Rattle.nodes.specs.Found.{found-inside}
+use Rattle.client.specs.Laws.Renew.{version-next, version-last, version-none}
+use Rattle.nodes.specs.Laws.Found.{found-inside}
 use borrow.Author.Needs.{needs}
 use Rattle.client.proofs.renew.new_version.Statement.{statement}
 use Rattle.client.proofs.renew.new_version.Tie as tie

@@ -1,4 +1,4 @@
-use Rattle.client.specs.RenewLaws.{rank-none, rank-of}
+use Rattle.client.specs.Laws.Renew.{rank-none, rank-of}
 use borrow.Author.Needs.{needs}
 use Rattle.client.proofs.renew.rank.Statement.{statement}
 use Rattle.client.proofs.renew.rank.Tie as tie

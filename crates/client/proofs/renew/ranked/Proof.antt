@@ -1,8 +1,8 @@
 use Prim.Native.Nat.{_-_, _≤_}
 use mathlib.Core.Path.{_≡_}
-use Rattle.client.specs.RenewLaws.{ranked-none, ranked-next, ranked-here, ranked-absent}
-use Rattle.nodes.specs.Found.{absent-inside}
-use Rattle.client.specs.FindLaws.{Searched, found-within}
+use Rattle.client.specs.Laws.Renew.{ranked-none, ranked-next, ranked-here, ranked-absent}
+use Rattle.nodes.specs.Laws.Found.{absent-inside}
+use Rattle.client.specs.Laws.Find.{Searched, found-within}
 use Rattle.client.specs.Sets.{held, count}
 use Rattle.client.specs.Renew.{rank}
 use Rattle.client.specs.declared.part.Set.the-variants.{Writes}

@@ -1,4 +1,4 @@
-use Rattle.client.specs.RenewLaws.{was-renewed}
+use Rattle.client.specs.Laws.Renew.{was-renewed}
 use borrow.Author.Needs.{needs}
 use Rattle.client.proofs.renew.renew.Statement.{statement}
 use Rattle.client.proofs.renew.renew.Tie as tie

@@ -1,4 +1,4 @@
-use Rattle.client.specs.RenewLaws.{flag-not, flag-put}
+use Rattle.client.specs.Laws.Renew.{flag-not, flag-put}
 use borrow.Author.Needs.{needs}
 use Rattle.client.proofs.renew.renew_flag.Statement.{statement}
 use Rattle.client.proofs.renew.renew_flag.Tie as tie

@@ -1,4 +1,4 @@
-use Rattle.client.specs.RenewLaws.{flag-beyond, flag-uncopied, flag-renewed}
+use Rattle.client.specs.Laws.Renew.{flag-beyond, flag-uncopied, flag-renewed}
 use borrow.Author.Needs.{needs}
 use Rattle.client.proofs.renew.renew_in.Statement.{statement}
 use Rattle.client.proofs.renew.renew_in.Tie as tie

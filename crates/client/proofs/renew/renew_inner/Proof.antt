@@ -6,8 +6,8 @@ use Rattle.client.specs.Layout.{client-words}
 use Rattle.client.specs.Part.{Did}
 use Rattle.client.specs.Sets.{held, count}
 use Rattle.client.specs.declared.part.Set.the-variants.{Writes}
-use Rattle.client.specs.StepLaws.{swept-none, swept-on}
-use Rattle.client.specs.RenewLaws.{good-renew-nth, all-writes}
+use Rattle.client.specs.Laws.Steps.{swept-none, swept-on}
+use Rattle.client.specs.Laws.Renew.{good-renew-nth, all-writes}
 use Rattle.client.specs.Renew.{renew-nth}
 use borrow.Author.Needs.{needs}
 use Rattle.client.proofs.renew.renew_inner.Statement.{statement}

@@ -1,4 +1,4 @@
-use Rattle.client.specs.RenewLaws.{lost-kept, kept-renewed}
+use Rattle.client.specs.Laws.Renew.{lost-kept, kept-renewed}
 use borrow.Author.Needs.{needs}
 use Rattle.client.proofs.renew.renew_kept.Statement.{statement}
 use Rattle.client.proofs.renew.renew_kept.Tie as tie

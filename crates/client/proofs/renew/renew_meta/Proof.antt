@@ -1,5 +1,5 @@
-use Rattle.client.specs.RenewLaws.{meta-renewed, meta-kept}
-use Rattle.nodes.specs.Found.{found-inside}
+use Rattle.client.specs.Laws.Renew.{meta-renewed, meta-kept}
+use Rattle.nodes.specs.Laws.Found.{found-inside}
 use borrow.Author.Needs.{needs}
 use Rattle.client.proofs.renew.renew_meta.Statement.{statement}
 use Rattle.client.proofs.renew.renew_meta.Tie as tie

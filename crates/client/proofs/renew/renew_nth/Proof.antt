@@ -1,5 +1,5 @@
-use Rattle.client.specs.RenewLaws.{nth-renewed, nth-none}
-use Rattle.nodes.specs.Found.{found-inside}
+use Rattle.client.specs.Laws.Renew.{nth-renewed, nth-none}
+use Rattle.nodes.specs.Laws.Found.{found-inside}
 use borrow.Author.Needs.{needs}
 use Rattle.client.proofs.renew.renew_nth.Statement.{statement}
 use Rattle.client.proofs.renew.renew_nth.Tie as tie

@@ -1,4 +1,4 @@
-use Rattle.client.specs.RenewLaws.{written-renewed}
+use Rattle.client.specs.Laws.Renew.{written-renewed}
 use borrow.Author.Needs.{needs}
 use Rattle.client.proofs.renew.renew_written.Statement.{statement}
 use Rattle.client.proofs.renew.renew_written.Tie as tie

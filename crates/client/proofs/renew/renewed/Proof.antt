@@ -1,4 +1,4 @@
-use Rattle.client.specs.RenewLaws.{renewed-is}
+use Rattle.client.specs.Laws.Renew.{renewed-is}
 use borrow.Author.Needs.{needs}
 use Rattle.client.proofs.renew.renewed.Statement.{statement}
 use Rattle.client.proofs.renew.renewed.Tie as tie

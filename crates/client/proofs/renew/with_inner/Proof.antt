@@ -1,4 +1,4 @@
-use Rattle.client.specs.RenewLaws.{inner-other, inner-one, inner-above}
+use Rattle.client.specs.Laws.Renew.{inner-other, inner-one, inner-above}
 use borrow.Author.Needs.{needs}
 use Rattle.client.proofs.renew.with_inner.Statement.{statement}
 use Rattle.client.proofs.renew.with_inner.Tie as tie

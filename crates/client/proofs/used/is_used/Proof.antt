@@ -1,5 +1,5 @@
 use Prim.Native.Nat.{_-_}
-use Rattle.client.specs.LentLaws.{Unused, unused-none, unused-next, unused-all, used-here}
+use Rattle.client.specs.Laws.Lent.{Unused, unused-none, unused-next, unused-all, used-here}
 use borrow.Author.Needs.{needs}
 use Rattle.client.proofs.used.is_used.Statement.{statement}
 use Rattle.client.proofs.used.is_used.Tie as tie

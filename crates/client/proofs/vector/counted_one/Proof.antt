@@ -1,4 +1,4 @@
-use Rattle.client.specs.VectorLaws.{no-flag, elsewhere, flag-counted}
+use Rattle.client.specs.Laws.Vectors.{no-flag, elsewhere, flag-counted}
 use borrow.Author.Needs.{needs}
 use Rattle.client.proofs.vector.counted_one.Statement.{statement}
 use Rattle.client.proofs.vector.counted_one.Tie as tie

@@ -1,4 +1,4 @@
-use Rattle.client.specs.VectorLaws.{asked-vector}
+use Rattle.client.specs.Laws.Vectors.{asked-vector}
 use borrow.Author.Needs.{needs}
 use Rattle.client.proofs.vector.has_vector.Statement.{statement}
 use Rattle.client.proofs.vector.has_vector.Tie as tie

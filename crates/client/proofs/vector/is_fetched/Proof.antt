@@ -1,4 +1,4 @@
-use Rattle.client.specs.VectorLaws.{asked-fetched}
+use Rattle.client.specs.Laws.Vectors.{asked-fetched}
 use borrow.Author.Needs.{needs}
 use Rattle.client.proofs.vector.is_fetched.Statement.{statement}
 use Rattle.client.proofs.vector.is_fetched.Tie as tie

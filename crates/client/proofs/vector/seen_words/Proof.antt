@@ -1,6 +1,6 @@
 use Prim.Native.Nat.{_-_}
 use Rattle.client.specs.Sets.{held}
-use Rattle.client.specs.VectorLaws.{Counting, counting-none, counting-next, counting-all}
+use Rattle.client.specs.Laws.Vectors.{Counting, counting-none, counting-next, counting-all}
 use borrow.Author.Needs.{needs}
 use Rattle.client.proofs.vector.seen_words.Statement.{statement}
 use Rattle.client.proofs.vector.seen_words.Tie as tie

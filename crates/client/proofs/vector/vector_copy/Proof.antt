@@ -1,4 +1,4 @@
-use Rattle.client.specs.PartLaws.{got-copy}
+use Rattle.client.specs.Laws.Part.{got-copy}
 use borrow.Author.Needs.{needs}
 use Rattle.client.proofs.vector.vector_copy.Statement.{statement}
 use Rattle.client.proofs.vector.vector_copy.Tie as tie

@@ -1,5 +1,5 @@
-use Rattle.server.specs.Fresh.{first-node-valid, first-flag-valid}
-use Rattle.engine.specs.Open.{made-new}
+use Rattle.server.specs.Laws.Fresh.{first-node-valid, first-flag-valid}
+use Rattle.engine.specs.Laws.Open.{made-new}
 use borrow.Author.Needs.{needs}
 use Rattle.engine.proofs.open.make_new.Statement.{statement}
 use Rattle.engine.proofs.open.make_new.Tie as tie

@@ -1,5 +1,5 @@
-use Rattle.kinds.specs.Refusal.{none-holds}
-use Rattle.engine.specs.Open.{is-refused, stays-shut, is-accepted, is-open}
+use Rattle.kinds.specs.Laws.Refusal.{none-holds}
+use Rattle.engine.specs.Laws.Open.{is-refused, stays-shut, is-accepted, is-open}
 use borrow.Author.Needs.{needs}
 use Rattle.engine.proofs.open.open.Statement.{statement}
 use Rattle.engine.proofs.open.open.Tie as tie

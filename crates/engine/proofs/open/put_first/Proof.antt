@@ -1,4 +1,4 @@
-use Rattle.kinds.specs.Parts.{server-back}
+use Rattle.kinds.specs.Laws.Parts.{server-back}
 use borrow.Author.Needs.{needs}
 use Rattle.engine.proofs.open.put_first.Statement.{statement}
 use Rattle.engine.proofs.open.put_first.Tie as tie

@@ -1,4 +1,4 @@
-use Rattle.engine.specs.Open.{head-put}
+use Rattle.engine.specs.Laws.Open.{head-put}
 use borrow.Author.Needs.{needs}
 use Rattle.engine.proofs.open.put_head.Statement.{statement}
 use Rattle.engine.proofs.open.put_head.Tie as tie

@@ -1,5 +1,5 @@
 use borrow.Author.Needs.{needs}
-use Rattle.engine.specs.Work.{answer-is}
+use Rattle.engine.specs.Laws.Work.{answer-is}
 use Rattle.engine.proofs.operate.answered.Statement.{statement}
 use Rattle.engine.proofs.operate.answered.Tie as tie
 

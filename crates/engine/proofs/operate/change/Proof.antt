@@ -1,5 +1,5 @@
 use borrow.Author.Needs.{needs}
-use Rattle.engine.specs.Work.{ready, no-answer, some-answer, change-fits, change-answers}
+use Rattle.engine.specs.Laws.Work.{ready, no-answer, some-answer, change-fits, change-answers}
 use Rattle.engine.proofs.operate.change.Statement.{statement}
 use Rattle.engine.proofs.operate.change.Tie as tie
 

@@ -1,5 +1,5 @@
 use borrow.Author.Needs.{needs}
-use Rattle.engine.specs.Work.{answer-entered}
+use Rattle.engine.specs.Laws.Work.{answer-entered}
 use Rattle.engine.proofs.operate.enter_answer.Statement.{statement}
 use Rattle.engine.proofs.operate.enter_answer.Tie as tie
 

@@ -1,5 +1,5 @@
 use borrow.Author.Needs.{needs}
-use Rattle.engine.specs.Work.{seen-entered}
+use Rattle.engine.specs.Laws.Work.{seen-entered}
 use Rattle.engine.proofs.operate.enter_seen.Statement.{statement}
 use Rattle.engine.proofs.operate.enter_seen.Tie as tie
 

@@ -1,5 +1,5 @@
 use borrow.Author.Needs.{needs}
-use Rattle.engine.specs.Work.{no-answer, some-answer, look-answers}
+use Rattle.engine.specs.Laws.Work.{no-answer, some-answer, look-answers}
 use Rattle.engine.proofs.operate.look.Statement.{statement}
 use Rattle.engine.proofs.operate.look.Tie as tie
 

@@ -1,5 +1,5 @@
 use borrow.Author.Needs.{needs}
-use Rattle.engine.specs.Work.{meta-checking, node-checking, node-there, vector-checking, work-never, work-refused, work-aborts, work-meta, work-node, work-vector, work-unanswered}
+use Rattle.engine.specs.Laws.Work.{meta-checking, node-checking, node-there, vector-checking, work-never, work-refused, work-aborts, work-meta, work-node, work-vector, work-unanswered}
 use Rattle.engine.proofs.operate.unanswered.Statement.{statement}
 use Rattle.engine.proofs.operate.unanswered.Tie as tie
 

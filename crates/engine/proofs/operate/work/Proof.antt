@@ -1,5 +1,5 @@
 use borrow.Author.Needs.{needs}
-use Rattle.engine.specs.Work.{tested}
+use Rattle.engine.specs.Laws.Work.{tested}
 use Rattle.engine.proofs.operate.work.Statement.{statement}
 use Rattle.engine.proofs.operate.work.Tie as tie
 

@@ -1,4 +1,4 @@
-use Rattle.engine.specs.Step.{kinds, known-client, known-by, at-work, at-prepare, at-apply}
+use Rattle.engine.specs.Laws.Step.{kinds, known-client, known-by, at-work, at-prepare, at-apply}
 use borrow.Author.Needs.{needs}
 use Rattle.engine.proofs.step.by_kind.Statement.{statement}
 use Rattle.engine.proofs.step.by_kind.Tie as tie

@@ -1,4 +1,4 @@
-use Rattle.engine.specs.Step.{rule-exits, passes, is-fit}
+use Rattle.engine.specs.Laws.Step.{rule-exits, passes, is-fit}
 use borrow.Author.Needs.{needs}
 use Rattle.engine.proofs.step.in_store.Statement.{statement}
 use Rattle.engine.proofs.step.in_store.Tie as tie

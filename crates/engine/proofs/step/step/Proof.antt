@@ -1,5 +1,5 @@
-use Rattle.kinds.specs.Refusal.{none-holds}
-use Rattle.engine.specs.Step.{step-exits}
+use Rattle.kinds.specs.Laws.Refusal.{none-holds}
+use Rattle.engine.specs.Laws.Step.{step-exits}
 use borrow.Author.Needs.{needs}
 use Rattle.engine.proofs.step.step.Statement.{statement}
 use Rattle.engine.proofs.step.step.Tie as tie

@@ -1,5 +1,5 @@
 use borrow.Author.Needs.{needs}
-use Rattle.engine.specs.Work.{walk-lent}
+use Rattle.engine.specs.Laws.Work.{walk-lent}
 use Rattle.engine.proofs.walking.look_at.Statement.{statement}
 use Rattle.engine.proofs.walking.look_at.Tie as tie
 

@@ -1,4 +1,4 @@
-use Rattle.kinds.specs.Abort.{abort-done, abort-refused}
+use Rattle.kinds.specs.Laws.Abort.{abort-done, abort-refused}
 use borrow.Author.Needs.{needs}
 use Rattle.kinds.proofs.abort.abort.Statement.{statement}
 use Rattle.kinds.proofs.abort.abort.Tie as tie

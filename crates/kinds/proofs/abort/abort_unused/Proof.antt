@@ -1,4 +1,4 @@
-use Rattle.kinds.specs.Abort.{none-in-use, abort-unused}
+use Rattle.kinds.specs.Laws.Abort.{none-in-use, abort-unused}
 use borrow.Author.Needs.{needs}
 use Rattle.kinds.proofs.abort.abort_unused.Statement.{statement}
 use Rattle.kinds.proofs.abort.abort_unused.Tie as tie

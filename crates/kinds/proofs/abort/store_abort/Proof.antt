@@ -1,4 +1,4 @@
-use Rattle.kinds.specs.Abort.{abort-exits}
+use Rattle.kinds.specs.Laws.Abort.{abort-exits}
 use borrow.Author.Needs.{needs}
 use Rattle.kinds.proofs.abort.store_abort.Statement.{statement}
 use Rattle.kinds.proofs.abort.store_abort.Tie as tie

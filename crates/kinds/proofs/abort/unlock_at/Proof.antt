@@ -1,4 +1,4 @@
-use Rattle.kinds.specs.Abort.{freed-here, freed-not}
+use Rattle.kinds.specs.Laws.Abort.{freed-here, freed-not}
 use borrow.Author.Needs.{needs}
 use Rattle.kinds.proofs.abort.unlock_at.Statement.{statement}
 use Rattle.kinds.proofs.abort.unlock_at.Tie as tie

@@ -4,9 +4,9 @@ use Prim.Native.Nat.{_-_, _≤_}
 use lib.ListN.{length}
 use Rattle.memory.specs.Word.{view}
 use Rattle.client.specs.Layout.{field}
-use Rattle.kinds.specs.Parts.{holds-as}
+use Rattle.kinds.specs.Laws.Parts.{holds-as}
 use Rattle.kinds.specs.Judge.{of-client}
-use Rattle.kinds.specs.Abort.{FreedUpto, freed-none, freed-known, freed-next, freed-all}
+use Rattle.kinds.specs.Laws.Abort.{FreedUpto, freed-none, freed-known, freed-next, freed-all}
 use Rattle.kinds.proofs.abort.unlock_everywhere.Statement.{statement}
 use Rattle.kinds.proofs.abort.unlock_everywhere.Tie as tie
 

@@ -1,4 +1,4 @@
-use Rattle.kinds.specs.Apply.{apply-locked, apply-last-version, apply-fits, fresh-by}
+use Rattle.kinds.specs.Laws.Apply.{apply-locked, apply-last-version, apply-fits, fresh-by}
 use borrow.Author.Needs.{needs}
 use Rattle.kinds.proofs.apply.apply.Statement.{statement}
 use Rattle.kinds.proofs.apply.apply.Tie as tie

@@ -1,5 +1,5 @@
-use Rattle.kinds.specs.Parts.{holds-as}
-use Rattle.kinds.specs.Apply.{applied-one, applied-last}
+use Rattle.kinds.specs.Laws.Parts.{holds-as}
+use Rattle.kinds.specs.Laws.Apply.{applied-one, applied-last}
 use borrow.Author.Needs.{needs}
 use Rattle.kinds.proofs.apply.apply_at.Statement.{statement}
 use Rattle.kinds.proofs.apply.apply_at.Tie as tie

@@ -1,5 +1,5 @@
-use Rattle.kinds.specs.Parts.{holds-as}
-use Rattle.kinds.specs.Apply.{still-known, is-applied}
+use Rattle.kinds.specs.Laws.Parts.{holds-as}
+use Rattle.kinds.specs.Laws.Apply.{still-known, is-applied}
 use borrow.Author.Needs.{needs}
 use Rattle.kinds.proofs.apply.store_server.Statement.{statement}
 use Rattle.kinds.proofs.apply.store_server.Tie as tie

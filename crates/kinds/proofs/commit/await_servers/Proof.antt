@@ -1,4 +1,4 @@
-use Rattle.kinds.specs.Commit.{now-committing}
+use Rattle.kinds.specs.Laws.Commit.{now-committing}
 use borrow.Author.Needs.{needs}
 use Rattle.kinds.proofs.commit.await_servers.Statement.{statement}
 use Rattle.kinds.proofs.commit.await_servers.Tie as tie

@@ -1,4 +1,4 @@
-use Rattle.kinds.specs.Commit.{commit-ends, commit-waits}
+use Rattle.kinds.specs.Laws.Commit.{commit-ends, commit-waits}
 use borrow.Author.Needs.{needs}
 use Rattle.kinds.proofs.commit.commit.Statement.{statement}
 use Rattle.kinds.proofs.commit.commit.Tie as tie

@@ -1,4 +1,4 @@
-use Rattle.kinds.specs.Commit.{participants-lent}
+use Rattle.kinds.specs.Laws.Commit.{participants-lent}
 use borrow.Author.Needs.{needs}
 use Rattle.kinds.proofs.commit.participants_of.Statement.{statement}
 use Rattle.kinds.proofs.commit.participants_of.Tie as tie

@@ -2,8 +2,9 @@ use mathlib.Core.Bool.{true}
 use mathlib.Core.Path.{_≡_}
 use Prim.Native.Nat.{_-_, _≤_}
 use Rattle.client.specs.Items.{all-below}
-use Rattle.kinds.specs.Judge.{passing}
-use Rattle.kinds.specs.Course.{covered, covers-all}
+use Rattle.kinds.specs.Laws.Judge.{passing}
+use Rattle.kinds.specs.Course.{covered}
+use Rattle.kinds.specs.Laws.Course.{covers-all}
 use borrow.Author.Needs.{needs}
 use Rattle.kinds.proofs.course.covers.Statement.{statement}
 use Rattle.kinds.proofs.course.covers.Tie as tie

@@ -1,4 +1,4 @@
-use Rattle.kinds.specs.Course.{covered-not, covered-done}
+use Rattle.kinds.specs.Laws.Course.{covered-not, covered-done}
 use borrow.Author.Needs.{needs}
 use Rattle.kinds.proofs.course.is_covered.Statement.{statement}
 use Rattle.kinds.proofs.course.is_covered.Tie as tie

@@ -1,4 +1,4 @@
-use Rattle.kinds.specs.Course.{last-by}
+use Rattle.kinds.specs.Laws.Course.{last-by}
 use borrow.Author.Needs.{needs}
 use Rattle.kinds.proofs.course.is_last.Statement.{statement}
 use Rattle.kinds.proofs.course.is_last.Tie as tie

@@ -1,4 +1,4 @@
-use Rattle.kinds.specs.Course.{is-noted}
+use Rattle.kinds.specs.Laws.Course.{is-noted}
 use borrow.Author.Needs.{needs}
 use Rattle.kinds.proofs.course.note.Statement.{statement}
 use Rattle.kinds.proofs.course.note.Tie as tie

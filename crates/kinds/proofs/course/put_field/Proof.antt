@@ -1,5 +1,5 @@
-use Rattle.kinds.specs.Course.{mark-same}
-use Rattle.kinds.specs.Kinds.{client-as}
+use Rattle.kinds.specs.Laws.Course.{mark-same}
+use Rattle.kinds.specs.Laws.Kinds.{client-as}
 use borrow.Author.Needs.{needs}
 use Rattle.kinds.proofs.course.put_field.Statement.{statement}
 use Rattle.kinds.proofs.course.put_field.Tie as tie

@@ -1,5 +1,5 @@
 use borrow.Author.Needs.{needs}
-use Rattle.kinds.specs.Fetch.{verdicts}
+use Rattle.kinds.specs.Laws.Fetch.{verdicts}
 use Rattle.kinds.proofs.fetch.gate.Statement.{statement}
 use Rattle.kinds.proofs.fetch.gate.Tie as tie
 

@@ -8,7 +8,7 @@ use Rattle.client.specs.Items.{all-below}
 use Rattle.client.specs.Sets.{count}
 use Rattle.client.specs.declared.part.Set.the-variants.{Reads}
 use Rattle.kinds.specs.Judge.{of-client}
-use Rattle.kinds.specs.Fetch.{each-checks, checking}
+use Rattle.kinds.specs.Laws.Fetch.{each-checks, checking}
 use Rattle.kinds.proofs.fetch.items_fit.Statement.{statement}
 use Rattle.kinds.proofs.fetch.items_fit.Tie as tie
 

@@ -7,7 +7,7 @@ use Rattle.client.specs.Sets.{count}
 use Rattle.client.specs.declared.part.Set.the-variants.{Reads}
 use Rattle.kinds.specs.Judge.{of-client}
 use Rattle.kinds.specs.Findings.{as-fault}
-use Rattle.kinds.specs.Fetch.{known-found, finding-all}
+use Rattle.kinds.specs.Laws.Fetch.{known-found, finding-all}
 use Rattle.kinds.proofs.fetch.items_found.Statement.{statement}
 use Rattle.kinds.proofs.fetch.items_found.Tie as tie
 

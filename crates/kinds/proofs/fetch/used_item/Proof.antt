@@ -1,5 +1,5 @@
 use borrow.Author.Needs.{needs}
-use Rattle.kinds.specs.Fetch.{fetch-items-exits}
+use Rattle.kinds.specs.Laws.Fetch.{fetch-items-exits}
 use Rattle.kinds.proofs.fetch.used_item.Statement.{statement}
 use Rattle.kinds.proofs.fetch.used_item.Tie as tie
 

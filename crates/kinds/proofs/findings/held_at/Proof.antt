@@ -1,5 +1,5 @@
-use Rattle.kinds.specs.Judge.{has-as}
-use Rattle.kinds.specs.Findings.{finding-exits}
+use Rattle.kinds.specs.Laws.Judge.{has-as}
+use Rattle.kinds.specs.Laws.Findings.{finding-exits}
 use borrow.Author.Needs.{needs}
 use Rattle.kinds.proofs.findings.held_at.Statement.{statement}
 use Rattle.kinds.proofs.findings.held_at.Tie as tie

@@ -1,5 +1,5 @@
 use borrow.Author.Needs.{needs}
-use Rattle.kinds.specs.Findings.{finding-exits}
+use Rattle.kinds.specs.Laws.Findings.{finding-exits}
 use Rattle.kinds.proofs.findings.lesser.Statement.{statement}
 use Rattle.kinds.proofs.findings.lesser.Tie as tie
 

@@ -7,8 +7,9 @@ use Rattle.client.specs.declared.part.Set.the-variants.{Reads}
 use Rattle.steps.specs.Judge.{lowest}
 use Rattle.kinds.specs.Parts.{stored-in}
 use Rattle.kinds.specs.Judge.{of-client}
-use Rattle.kinds.specs.Fits.{fit-exits}
-use Rattle.kinds.specs.Findings.{as-fault, found-upto, found-exits}
+use Rattle.kinds.specs.Laws.Fits.{fit-exits}
+use Rattle.kinds.specs.Findings.{as-fault}
+use Rattle.kinds.specs.Laws.Findings.{found-upto, found-exits}
 use Rattle.kinds.proofs.findings.prepare_finds.Statement.{statement}
 use Rattle.kinds.proofs.findings.prepare_finds.Tie as tie
 

@@ -1,4 +1,4 @@
-use Rattle.kinds.specs.Findings.{finding-exits}
+use Rattle.kinds.specs.Laws.Findings.{finding-exits}
 use borrow.Author.Needs.{needs}
 use Rattle.kinds.proofs.findings.prepare_reason.Statement.{statement}
 use Rattle.kinds.proofs.findings.prepare_reason.Tie as tie

@@ -5,8 +5,10 @@ use Prim.Native.Nat.{_-_, _≤_}
 use Rattle.memory.specs.Word.{view}
 use Rattle.client.specs.Items.{all-below}
 use Rattle.client.specs.Layout.{field}
-use Rattle.kinds.specs.Judge.{of-client, passing}
-use Rattle.kinds.specs.Fits.{unlocks-at, abort-all}
+use Rattle.kinds.specs.Judge.{of-client}
+use Rattle.kinds.specs.Laws.Judge.{passing}
+use Rattle.kinds.specs.Fits.{unlocks-at}
+use Rattle.kinds.specs.Laws.Fits.{abort-all}
 use Rattle.kinds.proofs.fits.abort_fits.Statement.{statement}
 use Rattle.kinds.proofs.fits.abort_fits.Tie as tie
 

@@ -1,4 +1,4 @@
-use Rattle.kinds.specs.Fits.{fit-exits}
+use Rattle.kinds.specs.Laws.Fits.{fit-exits}
 use borrow.Author.Needs.{needs}
 use Rattle.kinds.proofs.fits.item_unlocks.Statement.{statement}
 use Rattle.kinds.proofs.fits.item_unlocks.Tie as tie

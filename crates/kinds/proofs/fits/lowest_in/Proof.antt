@@ -2,7 +2,7 @@ use borrow.Author.Needs.{needs}
 use mathlib.Core.Path.{_≡_}
 use Prim.Native.Nat.{_-_, _≤_}
 use Rattle.client.specs.Participants.{lowest-of}
-use Rattle.kinds.specs.Fits.{lowest-exits}
+use Rattle.kinds.specs.Laws.Fits.{lowest-exits}
 use Rattle.kinds.proofs.fits.lowest_in.Statement.{statement}
 use Rattle.kinds.proofs.fits.lowest_in.Tie as tie
 

@@ -1,4 +1,4 @@
-use Rattle.kinds.specs.Fits.{not-there, there}
+use Rattle.kinds.specs.Laws.Fits.{not-there, there}
 use borrow.Author.Needs.{needs}
 use Rattle.kinds.proofs.fits.server_unlocks.Statement.{statement}
 use Rattle.kinds.proofs.fits.server_unlocks.Tie as tie

@@ -9,7 +9,8 @@ use Rattle.client.specs.declared.part.Set.the-variants.{Reads}
 use Rattle.steps.specs.Judge.{lowest}
 use Rattle.kinds.specs.Parts.{stored-in}
 use Rattle.kinds.specs.Judge.{of-client}
-use Rattle.kinds.specs.Fits.{fit-exits, passing-items, each-fits, unlock-item}
+use Rattle.kinds.specs.Laws.Fits.{fit-exits, passing-items, each-fits}
+use Rattle.kinds.specs.Fits.{unlock-item}
 use Rattle.kinds.proofs.fits.unlock_fits.Statement.{statement}
 use Rattle.kinds.proofs.fits.unlock_fits.Tie as tie
 

@@ -1,4 +1,4 @@
-use Rattle.kinds.specs.Hand.{entered-then}
+use Rattle.kinds.specs.Laws.Hand.{entered-then}
 use borrow.Author.Needs.{needs}
 use Rattle.kinds.proofs.hand.enter_vector.Statement.{statement}
 use Rattle.kinds.proofs.hand.enter_vector.Tie as tie

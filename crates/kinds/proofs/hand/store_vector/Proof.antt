@@ -1,5 +1,5 @@
 use mathlib.Core.Path.{refl}
-use Rattle.kinds.specs.Kinds.{client-as}
+use Rattle.kinds.specs.Laws.Kinds.{client-as}
 use borrow.Author.Needs.{needs}
 use Rattle.kinds.proofs.hand.store_vector.Statement.{statement}
 use Rattle.kinds.proofs.hand.store_vector.Tie as tie

@@ -1,4 +1,4 @@
-use Rattle.kinds.specs.Items.{item-exits}
+use Rattle.kinds.specs.Laws.Items.{item-exits}
 use borrow.Author.Needs.{needs}
 use Rattle.kinds.proofs.items.is_locked_at.Statement.{statement}
 use Rattle.kinds.proofs.items.is_locked_at.Tie as tie

@@ -1,4 +1,4 @@
-use Rattle.kinds.specs.Items.{item-exits}
+use Rattle.kinds.specs.Laws.Items.{item-exits}
 use borrow.Author.Needs.{needs}
 use Rattle.kinds.proofs.items.item_of.Statement.{statement}
 use Rattle.kinds.proofs.items.item_of.Tie as tie

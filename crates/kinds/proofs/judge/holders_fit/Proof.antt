@@ -1,4 +1,4 @@
-use Rattle.kinds.specs.Judge.{judge-exits}
+use Rattle.kinds.specs.Laws.Judge.{judge-exits}
 use borrow.Author.Needs.{needs}
 use Rattle.kinds.proofs.judge.holders_fit.Statement.{statement}
 use Rattle.kinds.proofs.judge.holders_fit.Tie as tie

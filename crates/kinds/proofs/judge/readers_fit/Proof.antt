@@ -4,7 +4,8 @@ use mathlib.Core.Path.{_≡_}
 use Prim.Native.Nat.{_-_, _≤_}
 use Rattle.memory.specs.Word.{view}
 use Rattle.client.specs.Items.{all-below}
-use Rattle.kinds.specs.Judge.{passing, reader-fits}
+use Rattle.kinds.specs.Laws.Judge.{passing}
+use Rattle.kinds.specs.Judge.{reader-fits}
 use Rattle.kinds.proofs.judge.readers_fit.Statement.{statement}
 use Rattle.kinds.proofs.judge.readers_fit.Tie as tie
 

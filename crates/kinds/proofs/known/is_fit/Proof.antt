@@ -1,4 +1,4 @@
-use Rattle.kinds.specs.Known.{fits-lent}
+use Rattle.kinds.specs.Laws.Known.{fits-lent}
 use borrow.Author.Needs.{needs}
 use Rattle.kinds.proofs.known.is_fit.Statement.{statement}
 use Rattle.kinds.proofs.known.is_fit.Tie as tie

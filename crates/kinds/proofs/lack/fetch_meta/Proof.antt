@@ -1,5 +1,5 @@
 use borrow.Author.Needs.{needs}
-use Rattle.kinds.specs.Lack.{fetch-unfit, fetch-aborts, fetch-hands}
+use Rattle.kinds.specs.Laws.Lack.{fetch-unfit, fetch-aborts, fetch-hands}
 use Rattle.kinds.proofs.lack.fetch_meta.Statement.{statement}
 use Rattle.kinds.proofs.lack.fetch_meta.Tie as tie
 

@@ -1,5 +1,5 @@
 use borrow.Author.Needs.{needs}
-use Rattle.kinds.specs.Lack.{fetch-unfit, fetch-aborts, vector-handed}
+use Rattle.kinds.specs.Laws.Lack.{fetch-unfit, fetch-aborts, vector-handed}
 use Rattle.kinds.proofs.lack.fetch_vector.Statement.{statement}
 use Rattle.kinds.proofs.lack.fetch_vector.Tie as tie
 

@@ -1,5 +1,5 @@
 use borrow.Author.Needs.{needs}
-use Rattle.kinds.specs.Lack.{meta-has, meta-unsound, meta-unfit, meta-aborts, meta-handed}
+use Rattle.kinds.specs.Laws.Lack.{meta-has, meta-unsound, meta-unfit, meta-aborts, meta-handed}
 use Rattle.kinds.proofs.lack.hand_meta.Statement.{statement}
 use Rattle.kinds.proofs.lack.hand_meta.Tie as tie
 

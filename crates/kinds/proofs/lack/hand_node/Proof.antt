@@ -1,6 +1,6 @@
 use mathlib.Core.Path.{refl}
 use borrow.Author.Needs.{needs}
-use Rattle.kinds.specs.Lack.{node-has, node-unsound, node-unfit, node-aborts, node-handed}
+use Rattle.kinds.specs.Laws.Lack.{node-has, node-unsound, node-unfit, node-aborts, node-handed}
 use Rattle.kinds.proofs.lack.hand_node.Statement.{statement}
 use Rattle.kinds.proofs.lack.hand_node.Tie as tie
 

@@ -1,5 +1,5 @@
 use borrow.Author.Needs.{needs}
-use Rattle.kinds.specs.Lack.{there-exits}
+use Rattle.kinds.specs.Laws.Lack.{there-exits}
 use Rattle.kinds.proofs.lack.node_of.Statement.{statement}
 use Rattle.kinds.proofs.lack.node_of.Tie as tie
 

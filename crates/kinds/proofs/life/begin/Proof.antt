@@ -1,4 +1,4 @@
-use Rattle.kinds.specs.Kinds.{begun}
+use Rattle.kinds.specs.Laws.Kinds.{begun}
 use borrow.Author.Needs.{needs}
 use Rattle.kinds.proofs.life.begin.Statement.{statement}
 use Rattle.kinds.proofs.life.begin.Tie as tie

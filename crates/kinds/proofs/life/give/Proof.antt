@@ -1,4 +1,4 @@
-use Rattle.kinds.specs.Kinds.{was-given}
+use Rattle.kinds.specs.Laws.Kinds.{was-given}
 use borrow.Author.Needs.{needs}
 use Rattle.kinds.proofs.life.give.Statement.{statement}
 use Rattle.kinds.proofs.life.give.Tie as tie

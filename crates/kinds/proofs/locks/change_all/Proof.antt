@@ -6,9 +6,10 @@ use Rattle.memory.specs.Word.{view}
 use Rattle.client.specs.Sets.{count}
 use Rattle.client.specs.declared.part.Set.the-variants.{Reads}
 use Rattle.steps.specs.Judge.{lowest}
-use Rattle.kinds.specs.Parts.{stored-in, holds-as}
+use Rattle.kinds.specs.Parts.{stored-in}
+use Rattle.kinds.specs.Laws.Parts.{holds-as}
 use Rattle.kinds.specs.Judge.{of-client}
-use Rattle.kinds.specs.Locks.{Changed, changed-none, changed-known, changed-next, changed-all}
+use Rattle.kinds.specs.Laws.Locks.{Changed, changed-none, changed-known, changed-next, changed-all}
 use Rattle.kinds.proofs.locks.change_all.Statement.{statement}
 use Rattle.kinds.proofs.locks.change_all.Tie as tie
 

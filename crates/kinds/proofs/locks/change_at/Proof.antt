@@ -1,4 +1,4 @@
-use Rattle.kinds.specs.Locks.{now-lock, now-unlock}
+use Rattle.kinds.specs.Laws.Locks.{now-lock, now-unlock}
 use borrow.Author.Needs.{needs}
 use Rattle.kinds.proofs.locks.change_at.Statement.{statement}
 use Rattle.kinds.proofs.locks.change_at.Tie as tie

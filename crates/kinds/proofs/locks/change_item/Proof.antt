@@ -1,4 +1,4 @@
-use Rattle.kinds.specs.Locks.{change-exits}
+use Rattle.kinds.specs.Laws.Locks.{change-exits}
 use borrow.Author.Needs.{needs}
 use Rattle.kinds.proofs.locks.change_item.Statement.{statement}
 use Rattle.kinds.proofs.locks.change_item.Tie as tie

@@ -1,4 +1,4 @@
-use Rattle.kinds.specs.Locks.{nth-known, nth-turn}
+use Rattle.kinds.specs.Laws.Locks.{nth-known, nth-turn}
 use borrow.Author.Needs.{needs}
 use Rattle.kinds.proofs.locks.change_nth.Statement.{statement}
 use Rattle.kinds.proofs.locks.change_nth.Tie as tie

@@ -1,6 +1,6 @@
 use Rattle.server.specs.Store.{unlock-step}
-use Rattle.kinds.specs.Locks.{rule-back}
-use Rattle.kinds.specs.Judge.{has-as}
+use Rattle.kinds.specs.Laws.Locks.{rule-back}
+use Rattle.kinds.specs.Laws.Judge.{has-as}
 use borrow.Author.Needs.{needs}
 use Rattle.kinds.proofs.locks.unlock_at.Statement.{statement}
 use Rattle.kinds.proofs.locks.unlock_at.Tie as tie

@@ -1,4 +1,4 @@
-use Rattle.kinds.specs.Loss.{lost-idle, lost-decided, lost-undecided}
+use Rattle.kinds.specs.Laws.Loss.{lost-idle, lost-decided, lost-undecided}
 use borrow.Author.Needs.{needs}
 use Rattle.kinds.proofs.loss.lose.Statement.{statement}
 use Rattle.kinds.proofs.loss.lose.Tie as tie

@@ -1,4 +1,4 @@
-use Rattle.kinds.specs.Loss.{loss-aborts, loss-refused}
+use Rattle.kinds.specs.Laws.Loss.{loss-aborts, loss-refused}
 use borrow.Author.Needs.{needs}
 use Rattle.kinds.proofs.loss.lose_undecided.Statement.{statement}
 use Rattle.kinds.proofs.loss.lose_undecided.Tie as tie

@@ -1,5 +1,5 @@
-use Rattle.kinds.specs.Abort.{none-in-use}
-use Rattle.kinds.specs.Loss.{loss-exits}
+use Rattle.kinds.specs.Laws.Abort.{none-in-use}
+use Rattle.kinds.specs.Laws.Loss.{loss-exits}
 use borrow.Author.Needs.{needs}
 use Rattle.kinds.proofs.loss.store_loss.Statement.{statement}
 use Rattle.kinds.proofs.loss.store_loss.Tie as tie

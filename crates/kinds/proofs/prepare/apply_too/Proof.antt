@@ -1,5 +1,5 @@
-use Rattle.kinds.specs.Parts.{holds-as}
-use Rattle.kinds.specs.Prepare.{too-refused, too-fresh, too-applied, decided-known}
+use Rattle.kinds.specs.Laws.Parts.{holds-as}
+use Rattle.kinds.specs.Laws.Prepare.{too-refused, too-fresh, too-applied, decided-known}
 use borrow.Author.Needs.{needs}
 use Rattle.kinds.proofs.prepare.apply_too.Statement.{statement}
 use Rattle.kinds.proofs.prepare.apply_too.Tie as tie

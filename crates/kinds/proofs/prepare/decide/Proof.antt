@@ -1,5 +1,5 @@
-use Rattle.kinds.specs.Parts.{holds-as}
-use Rattle.kinds.specs.Prepare.{is-decided}
+use Rattle.kinds.specs.Laws.Parts.{holds-as}
+use Rattle.kinds.specs.Laws.Prepare.{is-decided}
 use borrow.Author.Needs.{needs}
 use Rattle.kinds.proofs.prepare.decide.Statement.{statement}
 use Rattle.kinds.proofs.prepare.decide.Tie as tie

@@ -1,4 +1,4 @@
-use Rattle.kinds.specs.Prepare.{only-by}
+use Rattle.kinds.specs.Laws.Prepare.{only-by}
 use borrow.Author.Needs.{needs}
 use Rattle.kinds.proofs.prepare.is_only.Statement.{statement}
 use Rattle.kinds.proofs.prepare.is_only.Tie as tie

@@ -1,4 +1,4 @@
-use Rattle.kinds.specs.Prepare.{is-prepared}
+use Rattle.kinds.specs.Laws.Prepare.{is-prepared}
 use borrow.Author.Needs.{needs}
 use Rattle.kinds.proofs.prepare.lock_server.Statement.{statement}
 use Rattle.kinds.proofs.prepare.lock_server.Tie as tie

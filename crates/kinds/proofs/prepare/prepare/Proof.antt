@@ -1,4 +1,4 @@
-use Rattle.kinds.specs.Prepare.{prepare-unfit, prepare-goes, prepare-aborts}
+use Rattle.kinds.specs.Laws.Prepare.{prepare-unfit, prepare-goes, prepare-aborts}
 use borrow.Author.Needs.{needs}
 use Rattle.kinds.proofs.prepare.prepare.Statement.{statement}
 use Rattle.kinds.proofs.prepare.prepare.Tie as tie

@@ -1,4 +1,4 @@
-use Rattle.kinds.specs.Prepare.{not-last, last-only, last-decides}
+use Rattle.kinds.specs.Laws.Prepare.{not-last, last-only, last-decides}
 use borrow.Author.Needs.{needs}
 use Rattle.kinds.proofs.prepare.prepare_at.Statement.{statement}
 use Rattle.kinds.proofs.prepare.prepare_at.Tie as tie

@@ -1,4 +1,4 @@
-use Rattle.kinds.specs.Refusal.{sited-as, client-unfit}
+use Rattle.kinds.specs.Laws.Refusal.{sited-as, client-unfit}
 use borrow.Author.Needs.{needs}
 use Rattle.kinds.proofs.refusal.client_is_unfit.Statement.{statement}
 use Rattle.kinds.proofs.refusal.client_is_unfit.Tie as tie

@@ -1,4 +1,5 @@
-use Rattle.kinds.specs.Refusal.{tests, by-name, unknown-node}
+use Rattle.kinds.specs.Laws.Refusal.{tests, by-name}
+use Rattle.kinds.specs.Refusal.{unknown-node}
 use borrow.Author.Needs.{needs}
 use Rattle.kinds.proofs.refusal.has_unknown_node.Statement.{statement}
 use Rattle.kinds.proofs.refusal.has_unknown_node.Tie as tie

@@ -1,5 +1,6 @@
 use borrow.Author.Needs.{needs}
-use Rattle.kinds.specs.Refusal.{tests, unknown-op}
+use Rattle.kinds.specs.Laws.Refusal.{tests}
+use Rattle.kinds.specs.Refusal.{unknown-op}
 use Rattle.kinds.proofs.refusal.has_unknown_op.Statement.{statement}
 use Rattle.kinds.proofs.refusal.has_unknown_op.Tie as tie
 use Rattle.kinds.proofs.refusal.has_unknown_op.Reads as reads

@@ -1,5 +1,6 @@
 use borrow.Author.Needs.{needs}
-use Rattle.kinds.specs.Refusal.{tests, given-here, unknown-server}
+use Rattle.kinds.specs.Laws.Refusal.{tests, given-here}
+use Rattle.kinds.specs.Refusal.{unknown-server}
 use Rattle.kinds.proofs.refusal.has_unknown_server.Statement.{statement}
 use Rattle.kinds.proofs.refusal.has_unknown_server.Tie as tie
 use Rattle.kinds.proofs.refusal.has_unknown_server.Reads as reads

@@ -1,4 +1,5 @@
-use Rattle.kinds.specs.Refusal.{prepare-sited, apply-sited, kind-due, due}
+use Rattle.kinds.specs.Laws.Refusal.{prepare-sited, apply-sited, kind-due}
+use Rattle.kinds.specs.Refusal.{due}
 use borrow.Author.Needs.{needs}
 use Rattle.kinds.proofs.refusal.is_due.Statement.{statement}
 use Rattle.kinds.proofs.refusal.is_due.Tie as tie

@@ -1,4 +1,5 @@
-use Rattle.kinds.specs.Refusal.{kind-fitting, tests, fitting}
+use Rattle.kinds.specs.Laws.Refusal.{kind-fitting, tests}
+use Rattle.kinds.specs.Refusal.{fitting}
 use borrow.Author.Needs.{needs}
 use Rattle.kinds.proofs.refusal.is_fitting.Statement.{statement}
 use Rattle.kinds.proofs.refusal.is_fitting.Tie as tie

@@ -1,4 +1,4 @@
-use Rattle.kinds.specs.Refusal.{no-participant, by-done}
+use Rattle.kinds.specs.Laws.Refusal.{no-participant, by-done}
 use borrow.Author.Needs.{needs}
 use Rattle.kinds.proofs.refusal.is_unfinished.Statement.{statement}
 use Rattle.kinds.proofs.refusal.is_unfinished.Tie as tie

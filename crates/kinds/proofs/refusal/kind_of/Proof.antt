@@ -1,6 +1,6 @@
 use borrow.Author.Needs.{needs}
 use Rattle.steps.specs.Refusal.{kind-of}
-use Rattle.kinds.specs.Refusal.{of-number, of-none}
+use Rattle.kinds.specs.Laws.Refusal.{of-number, of-none}
 use Rattle.kinds.proofs.refusal.kind_of.Statement.{statement}
 use Rattle.kinds.proofs.refusal.kind_of.Tie as tie
 use Rattle.kinds.proofs.refusal.kind_of.Reads as reads

@@ -1,5 +1,5 @@
-use Rattle.kinds.specs.Parts.{are-allowed}
-use Rattle.kinds.specs.Refusal.{memory-exits}
+use Rattle.kinds.specs.Laws.Parts.{are-allowed}
+use Rattle.kinds.specs.Laws.Refusal.{memory-exits}
 use borrow.Author.Needs.{needs}
 use Rattle.kinds.proofs.refusal.memory_refusal.Statement.{statement}
 use Rattle.kinds.proofs.refusal.memory_refusal.Tie as tie

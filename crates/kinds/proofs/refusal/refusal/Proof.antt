@@ -1,4 +1,4 @@
-use Rattle.kinds.specs.Refusal.{rows, is-sited}
+use Rattle.kinds.specs.Laws.Refusal.{rows, is-sited}
 use borrow.Author.Needs.{needs}
 use Rattle.kinds.proofs.refusal.refusal.Statement.{statement}
 use Rattle.kinds.proofs.refusal.refusal.Tie as tie

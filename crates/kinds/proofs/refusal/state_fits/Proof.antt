@@ -1,4 +1,4 @@
-use Rattle.kinds.specs.Refusal.{fits-by}
+use Rattle.kinds.specs.Laws.Refusal.{fits-by}
 use borrow.Author.Needs.{needs}
 use Rattle.kinds.proofs.refusal.state_fits.Statement.{statement}
 use Rattle.kinds.proofs.refusal.state_fits.Tie as tie

@@ -1,5 +1,5 @@
 use borrow.Author.Needs.{needs}
-use Rattle.kinds.specs.Refusal.{tests}
+use Rattle.kinds.specs.Laws.Refusal.{tests}
 use Rattle.kinds.proofs.sizes.between.Statement.{statement}
 use Rattle.kinds.proofs.sizes.between.Tie as tie
 

@@ -1,4 +1,4 @@
-use Rattle.kinds.specs.Parts.{head-read}
+use Rattle.kinds.specs.Laws.Parts.{head-read}
 use borrow.Author.Needs.{needs}
 use Rattle.kinds.proofs.sizes.head.Statement.{statement}
 use Rattle.kinds.proofs.sizes.head.Tie as tie

@@ -4,8 +4,9 @@ use Prim.Native.Nat.{_-_, _≤_}
 use Rattle.client.specs.declared.part.Set.the-variants.{Writes}
 use Rattle.client.specs.Sets.{held, count}
 use Rattle.client.specs.Items.{all-below}
-use Rattle.kinds.specs.Judge.{passing}
-use Rattle.kinds.specs.Versions.{version-fits, versions-all}
+use Rattle.kinds.specs.Laws.Judge.{passing}
+use Rattle.kinds.specs.Versions.{version-fits}
+use Rattle.kinds.specs.Laws.Versions.{versions-all}
 use borrow.Author.Needs.{needs}
 use Rattle.kinds.proofs.versions.all_fit.Statement.{statement}
 use Rattle.kinds.proofs.versions.all_fit.Tie as tie

@@ -1,4 +1,4 @@
-use Rattle.kinds.specs.Versions.{version-none, version-asked}
+use Rattle.kinds.specs.Laws.Versions.{version-none, version-asked}
 use borrow.Author.Needs.{needs}
 use Rattle.kinds.proofs.versions.version_fits.Statement.{statement}
 use Rattle.kinds.proofs.versions.version_fits.Tie as tie

@@ -1,4 +1,4 @@
-use Rattle.kinds.specs.Versions.{versions-lent}
+use Rattle.kinds.specs.Laws.Versions.{versions-lent}
 use borrow.Author.Needs.{needs}
 use Rattle.kinds.proofs.versions.versions_fit.Statement.{statement}
 use Rattle.kinds.proofs.versions.versions_fit.Tie as tie

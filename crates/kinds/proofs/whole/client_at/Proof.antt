@@ -1,6 +1,6 @@
 use Prim.Native.Nat.{_*_, _≤_}
 use native.Mathlib.Omega.{arith}
-use Rattle.kinds.specs.Parts.{few-rows, words-few, server-few, client-few, words-sum, server-sum, client-sum, server-room, client-room}
+use Rattle.kinds.specs.Laws.Parts.{few-rows, words-few, server-few, client-few, words-sum, server-sum, client-sum, server-room, client-room}
 use borrow.Author.Needs.{needs}
 use Rattle.kinds.proofs.whole.client_at.Statement.{statement}
 use Rattle.kinds.proofs.whole.client_at.Tie as tie

@@ -1,4 +1,4 @@
-use Rattle.kinds.specs.Parts.{size-exits}
+use Rattle.kinds.specs.Laws.Parts.{size-exits}
 use borrow.Author.Needs.{needs}
 use Rattle.kinds.proofs.whole.length_for.Statement.{statement}
 use Rattle.kinds.proofs.whole.length_for.Tie as tie

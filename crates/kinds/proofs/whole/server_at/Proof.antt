@@ -1,6 +1,6 @@
 use Prim.Native.Nat.{_*_, _≤_}
 use native.Mathlib.Omega.{arith}
-use Rattle.kinds.specs.Parts.{server-row, words-few, server-few, client-few, words-sum, server-sum, client-sum, server-room, client-room}
+use Rattle.kinds.specs.Laws.Parts.{server-row, words-few, server-few, client-few, words-sum, server-sum, client-sum, server-room, client-room}
 use borrow.Author.Needs.{needs}
 use Rattle.kinds.proofs.whole.server_at.Statement.{statement}
 use Rattle.kinds.proofs.whole.server_at.Tie as tie

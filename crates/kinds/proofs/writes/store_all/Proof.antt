@@ -4,9 +4,9 @@ use lib.ListN.{length}
 use Rattle.memory.specs.Word.{view}
 use Rattle.client.specs.Sets.{count}
 use Rattle.client.specs.declared.part.Set.the-variants.{Writes}
-use Rattle.kinds.specs.Parts.{holds-as}
+use Rattle.kinds.specs.Laws.Parts.{holds-as}
 use Rattle.kinds.specs.Judge.{of-client}
-use Rattle.kinds.specs.Writes.{StoredUpto, stored-none, stored-writable, stored-next, stored-all}
+use Rattle.kinds.specs.Laws.Writes.{StoredUpto, stored-none, stored-writable, stored-next, stored-all}
 use borrow.Author.Needs.{needs}
 use Rattle.kinds.proofs.writes.store_all.Statement.{statement}
 use Rattle.kinds.proofs.writes.store_all.Tie as tie

@@ -1,4 +1,4 @@
-use Rattle.kinds.specs.Parts.{server-back}
+use Rattle.kinds.specs.Laws.Parts.{server-back}
 use borrow.Author.Needs.{needs}
 use Rattle.kinds.proofs.writes.store_at.Statement.{statement}
 use Rattle.kinds.proofs.writes.store_at.Tie as tie

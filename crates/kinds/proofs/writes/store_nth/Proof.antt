@@ -1,4 +1,4 @@
-use Rattle.kinds.specs.Writes.{stored-exits}
+use Rattle.kinds.specs.Laws.Writes.{stored-exits}
 use borrow.Author.Needs.{needs}
 use Rattle.kinds.proofs.writes.store_nth.Statement.{statement}
 use Rattle.kinds.proofs.writes.store_nth.Tie as tie

@@ -1,5 +1,5 @@
-use Rattle.kinds.specs.Writes.{write-exits}
-use Rattle.steps.specs.Writes.{node-has}
+use Rattle.kinds.specs.Laws.Writes.{write-exits}
+use Rattle.steps.specs.Laws.Writes.{node-has}
 use borrow.Author.Needs.{needs}
 use Rattle.kinds.proofs.writes.store_write.Statement.{statement}
 use Rattle.kinds.proofs.writes.store_write.Tie as tie

@@ -1,4 +1,4 @@
-use Rattle.kinds.specs.Writes.{write-lent}
+use Rattle.kinds.specs.Laws.Writes.{write-lent}
 use borrow.Author.Needs.{needs}
 use Rattle.kinds.proofs.writes.write_at.Statement.{statement}
 use Rattle.kinds.proofs.writes.write_at.Tie as tie

@@ -1,4 +1,4 @@
-use Rattle.kinds.specs.Writes.{write-made}
+use Rattle.kinds.specs.Laws.Writes.{write-made}
 use borrow.Author.Needs.{needs}
 use Rattle.kinds.proofs.writes.write_in.Statement.{statement}
 use Rattle.kinds.proofs.writes.write_in.Tie as tie

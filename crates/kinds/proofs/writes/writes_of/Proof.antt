@@ -1,4 +1,4 @@
-use Rattle.kinds.specs.Writes.{writes-lent}
+use Rattle.kinds.specs.Laws.Writes.{writes-lent}
 use borrow.Author.Needs.{needs}
 use Rattle.kinds.proofs.writes.writes_of.Statement.{statement}
 use Rattle.kinds.proofs.writes.writes_of.Tie as tie

@@ -1,4 +1,4 @@
-use Rattle.memory.specs.Bit.{bit-shifted}
+use Rattle.memory.specs.Laws.Bit.{bit-shifted}
 use borrow.Author.Needs.{needs}
 use Rattle.memory.proofs.bits.has.Statement.{statement}
 use Rattle.memory.proofs.bits.has.Tie as tie

@@ -1,4 +1,4 @@
-use Rattle.memory.specs.Bit.{put-shifted}
+use Rattle.memory.specs.Laws.Bit.{put-shifted}
 use borrow.Author.Needs.{needs}
 use Rattle.memory.proofs.bits.with.Statement.{statement}
 use Rattle.memory.proofs.bits.with.Tie as tie

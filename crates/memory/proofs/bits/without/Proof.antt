@@ -1,4 +1,4 @@
-use Rattle.memory.specs.Bit.{above-shifted, minus-shifted}
+use Rattle.memory.specs.Laws.Bit.{above-shifted, minus-shifted}
 use borrow.Author.Needs.{needs}
 use Rattle.memory.proofs.bits.without.Statement.{statement}
 use Rattle.memory.proofs.bits.without.Tie as tie

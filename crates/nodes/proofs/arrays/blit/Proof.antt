@@ -1,6 +1,6 @@
 use borrow.Author.Needs.{needs}
 use Prim.Native.Nat.{_-_}
-use Rattle.nodes.specs.Lists.{Copied, copied-none, copied-more, copied-all}
+use Rattle.nodes.specs.Laws.Lists.{Copied, copied-none, copied-more, copied-all}
 use Rattle.nodes.proofs.arrays.blit.Statement.{statement}
 use Rattle.nodes.proofs.arrays.blit.Tie as tie
 

@@ -1,5 +1,5 @@
 use borrow.Author.Needs.{needs}
-use Rattle.nodes.specs.Lists.{inserted-is}
+use Rattle.nodes.specs.Laws.Lists.{inserted-is}
 use Rattle.nodes.proofs.arrays.inserted.Statement.{statement}
 use Rattle.nodes.proofs.arrays.inserted.Tie as tie
 

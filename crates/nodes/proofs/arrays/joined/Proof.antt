@@ -1,5 +1,5 @@
 use borrow.Author.Needs.{needs}
-use Rattle.nodes.specs.Lists.{joined-is}
+use Rattle.nodes.specs.Laws.Lists.{joined-is}
 use Rattle.nodes.proofs.arrays.joined.Statement.{statement}
 use Rattle.nodes.proofs.arrays.joined.Tie as tie
 

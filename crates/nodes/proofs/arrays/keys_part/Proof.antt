@@ -1,5 +1,5 @@
 use borrow.Author.Needs.{needs}
-use Rattle.nodes.specs.Lists.{part-is}
+use Rattle.nodes.specs.Laws.Lists.{part-is}
 use Rattle.nodes.proofs.arrays.keys_part.Statement.{statement}
 use Rattle.nodes.proofs.arrays.keys_part.Tie as tie
 

@@ -1,5 +1,5 @@
 use borrow.Author.Needs.{needs}
-use Rattle.nodes.specs.Lists.{removed-is}
+use Rattle.nodes.specs.Laws.Lists.{removed-is}
 use Rattle.nodes.proofs.arrays.removed.Statement.{statement}
 use Rattle.nodes.proofs.arrays.removed.Tie as tie
 

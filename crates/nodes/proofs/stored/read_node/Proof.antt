@@ -1,5 +1,5 @@
 use borrow.Author.Needs.{needs}
-use Rattle.nodes.specs.StoredLaws.{node-read}
+use Rattle.nodes.specs.Laws.Stored.{node-read}
 use Rattle.nodes.proofs.stored.read_node.Statement.{statement}
 use Rattle.nodes.proofs.stored.read_node.Tie as tie
 

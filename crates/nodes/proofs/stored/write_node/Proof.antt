@@ -1,5 +1,5 @@
 use borrow.Author.Needs.{needs}
-use Rattle.nodes.specs.StoredLaws.{node-written}
+use Rattle.nodes.specs.Laws.Stored.{node-written}
 use Rattle.nodes.proofs.stored.write_node.Statement.{statement}
 use Rattle.nodes.proofs.stored.write_node.Tie as tie
 

@@ -1,5 +1,5 @@
 use borrow.Author.Needs.{needs}
-use Rattle.nodes.specs.Search.{above-found, above-none}
+use Rattle.nodes.specs.Laws.Search.{above-found, above-none}
 use Rattle.nodes.proofs.vector.first_free.Statement.{statement}
 use Rattle.nodes.proofs.vector.first_free.Tie as tie
 

@@ -1,7 +1,7 @@
 use borrow.Author.Needs.{needs}
 use native.Mathlib.Omega.{arith}
 use lib.Pow.{pow-lt, pow-pos}
-use Rattle.nodes.specs.Search.{zero-found}
+use Rattle.nodes.specs.Laws.Search.{zero-found}
 use Rattle.nodes.proofs.vector.first_zero.Statement.{statement}
 use Rattle.nodes.proofs.vector.first_zero.Tie as tie
 

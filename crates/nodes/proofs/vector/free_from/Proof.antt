@@ -1,7 +1,7 @@
 use borrow.Author.Needs.{needs}
 use Prim.Native.Nat.{_-_}
-use Rattle.nodes.specs.Search.{Looked, looked-none, looked-more, looked-all, slot-found, slot-beyond}
-use Rattle.nodes.specs.Found.{absent-inside, at-inside}
+use Rattle.nodes.specs.Laws.Search.{Looked, looked-none, looked-more, looked-all, slot-found, slot-beyond}
+use Rattle.nodes.specs.Laws.Found.{absent-inside, at-inside}
 use Rattle.nodes.proofs.vector.free_from.Statement.{statement}
 use Rattle.nodes.proofs.vector.free_from.Tie as tie
 

@@ -1,5 +1,5 @@
 use borrow.Author.Needs.{needs}
-use Rattle.nodes.specs.Bits.{flag-read}
+use Rattle.nodes.specs.Laws.Bits.{flag-read}
 use Rattle.nodes.proofs.vector.is_taken.Statement.{statement}
 use Rattle.nodes.proofs.vector.is_taken.Tie as tie
 

@@ -1,5 +1,5 @@
 use borrow.Author.Needs.{needs}
-use Rattle.nodes.specs.Bits.{flag-written}
+use Rattle.nodes.specs.Laws.Bits.{flag-written}
 use Rattle.nodes.proofs.vector.with_taken.Statement.{statement}
 use Rattle.nodes.proofs.vector.with_taken.Tie as tie
 

@@ -1,4 +1,4 @@
-use Rattle.schedule.specs.Listed.{note-exits}
+use Rattle.schedule.specs.Laws.Listed.{note-exits}
 use borrow.Author.Needs.{needs}
 use Rattle.schedule.proofs.run.note.Statement.{statement}
 use Rattle.schedule.proofs.run.note.Tie as tie

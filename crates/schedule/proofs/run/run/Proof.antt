@@ -56,8 +56,10 @@ use Rattle.steps.specs.declared.step.Step.{Step}
 use Rattle.steps.specs.Outcome.{line}
 use Rattle.engine.specs.Step.{outcome-of, words-after}
 use Rattle.demand.specs.Demand.{Words, All-words}
-use Rattle.schedule.specs.Listed.{no-step, words-run, outcomes-run, noted, lines, all-words, words-next, word-below}
-use Rattle.schedule.specs.Carried.{Demanded, carried}
+use Rattle.schedule.specs.Laws.Listed.{no-step, all-words, words-next, word-below}
+use Rattle.schedule.specs.Listed.{words-run, outcomes-run, noted, lines}
+use Rattle.schedule.specs.Carried.{Demanded}
+use Rattle.schedule.specs.Laws.Carried.{carried}
 use Rattle.steps.proofs.step.Step as T
 use Rattle.steps.proofs.step.Step.Laws as T′
 use Rattle.schedule.proofs.Again.{LentAgain, lends-again, comes-back}

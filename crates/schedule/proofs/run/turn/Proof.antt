@@ -1,4 +1,4 @@
-use Rattle.schedule.specs.Listed.{turn-exits}
+use Rattle.schedule.specs.Laws.Listed.{turn-exits}
 use borrow.Author.Needs.{needs}
 use Rattle.schedule.proofs.run.turn.Statement.{statement}
 use Rattle.schedule.proofs.run.turn.Tie as tie

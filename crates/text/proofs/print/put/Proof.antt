@@ -1,5 +1,5 @@
 use borrow.Author.Needs.{needs}
-use Rattle.text.specs.Printing.{put-made}
+use Rattle.text.specs.Laws.Printing.{put-made}
 use Rattle.text.proofs.print.put.Statement.{statement}
 use Rattle.text.proofs.print.put.Tie as tie
 

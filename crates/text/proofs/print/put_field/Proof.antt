@@ -1,5 +1,5 @@
 use borrow.Author.Needs.{needs}
-use Rattle.text.specs.Printing.{field-room, field-inside, field-short, field-fits, field-made}
+use Rattle.text.specs.Laws.Printing.{field-room, field-inside, field-short, field-fits, field-made}
 use Rattle.text.proofs.print.put_field.Statement.{statement}
 use Rattle.text.proofs.print.put_field.Tie as tie
 

@@ -1,5 +1,5 @@
 use borrow.Author.Needs.{needs}
-use Rattle.text.specs.Printing.{step-made}
+use Rattle.text.specs.Laws.Printing.{step-made}
 use Rattle.text.proofs.print.put_step.Statement.{statement}
 use Rattle.text.proofs.print.put_step.Tie as tie
 

@@ -1,5 +1,5 @@
 use borrow.Author.Needs.{needs}
-use Rattle.text.specs.Printing.{store-made}
+use Rattle.text.specs.Laws.Printing.{store-made}
 use Rattle.text.proofs.print.put_store.Statement.{statement}
 use Rattle.text.proofs.print.put_store.Tie as tie
 

@@ -4,7 +4,7 @@ use native.Mathlib.Omega.{arith}
 use borrow.Author.Needs.{needs}
 use lib.ListN.{length, drop}
 use Rattle.text.specs.Reader.{start, after}
-use Rattle.text.specs.Reads.{after-one, read-all}
+use Rattle.text.specs.Laws.Reads.{after-one, read-all}
 use Rattle.text.proofs.read.read_line.Statement.{statement}
 use Rattle.text.proofs.read.read_line.Tie as tie
 

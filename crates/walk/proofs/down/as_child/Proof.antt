@@ -1,5 +1,5 @@
 use borrow.Author.Needs.{needs}
-use Rattle.walk.specs.Down.{check-exits}
+use Rattle.walk.specs.Laws.Down.{check-exits}
 use Rattle.walk.proofs.down.as_child.Statement.{statement}
 use Rattle.walk.proofs.down.as_child.Tie as tie
 

@@ -1,5 +1,5 @@
 use borrow.Author.Needs.{needs}
-use Rattle.walk.specs.Down.{root-exits}
+use Rattle.walk.specs.Laws.Down.{root-exits}
 use Rattle.walk.proofs.down.at_root.Statement.{statement}
 use Rattle.walk.proofs.down.at_root.Tie as tie
 

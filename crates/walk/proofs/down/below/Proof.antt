@@ -1,5 +1,5 @@
 use borrow.Author.Needs.{needs}
-use Rattle.walk.specs.Entries.{below-exits}
+use Rattle.walk.specs.Laws.Entries.{below-exits}
 use Rattle.walk.proofs.down.below.Statement.{statement}
 use Rattle.walk.proofs.down.below.Tie as tie
 

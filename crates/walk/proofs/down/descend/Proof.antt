@@ -1,5 +1,5 @@
 use borrow.Author.Needs.{needs}
-use Rattle.walk.specs.Down.{descend-exits}
+use Rattle.walk.specs.Laws.Down.{descend-exits}
 use Rattle.walk.proofs.down.descend.Statement.{statement}
 use Rattle.walk.proofs.down.descend.Tie as tie
 

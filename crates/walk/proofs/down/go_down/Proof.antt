@@ -1,7 +1,7 @@
 use borrow.Author.Needs.{needs}
 use Rattle.client.specs.Record.{sizes}
 use Rattle.client.specs.Sets.{held}
-use Rattle.walk.specs.Down.{Downward, down-exits}
+use Rattle.walk.specs.Laws.Down.{Downward, down-exits}
 use Rattle.walk.proofs.down.go_down.Statement.{statement}
 use Rattle.walk.proofs.down.go_down.Tie as tie
 

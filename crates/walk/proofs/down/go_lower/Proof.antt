@@ -1,5 +1,5 @@
 use borrow.Author.Needs.{needs}
-use Rattle.walk.specs.Down.{lower-exits}
+use Rattle.walk.specs.Laws.Down.{lower-exits}
 use Rattle.walk.proofs.down.go_lower.Statement.{statement}
 use Rattle.walk.proofs.down.go_lower.Tie as tie
 

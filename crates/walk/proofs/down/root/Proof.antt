@@ -1,5 +1,5 @@
 use borrow.Author.Needs.{needs}
-use Rattle.walk.specs.Down.{root-ways}
+use Rattle.walk.specs.Laws.Down.{root-ways}
 use Rattle.walk.proofs.down.root.Statement.{statement}
 use Rattle.walk.proofs.down.root.Tie as tie
 

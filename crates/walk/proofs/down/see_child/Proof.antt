@@ -1,5 +1,5 @@
 use borrow.Author.Needs.{needs}
-use Rattle.walk.specs.Down.{kid-is}
+use Rattle.walk.specs.Laws.Down.{kid-is}
 use Rattle.walk.proofs.down.see_child.Statement.{statement}
 use Rattle.walk.proofs.down.see_child.Tie as tie
 

@@ -1,6 +1,6 @@
 use borrow.Author.Needs.{needs}
-use Rattle.walk.specs.Begin.{nothing-noted}
-use Rattle.walk.specs.Look.{look-by-number}
+use Rattle.walk.specs.Laws.Begin.{nothing-noted}
+use Rattle.walk.specs.Laws.Look.{look-by-number}
 use Rattle.walk.proofs.look.look.Statement.{statement}
 use Rattle.walk.proofs.look.look.Tie as tie
 

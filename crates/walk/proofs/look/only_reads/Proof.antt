@@ -1,5 +1,5 @@
 use borrow.Author.Needs.{needs}
-use Rattle.walk.specs.Look.{reads-exits}
+use Rattle.walk.specs.Laws.Look.{reads-exits}
 use Rattle.walk.proofs.look.only_reads.Statement.{statement}
 use Rattle.walk.proofs.look.only_reads.Tie as tie
 

@@ -1,6 +1,6 @@
 use borrow.Author.Needs.{needs}
-use Rattle.walk.specs.Ask.{over-some, over-long}
-use Rattle.walk.specs.Lookup.{answer-ends}
+use Rattle.walk.specs.Laws.Ask.{over-some, over-long}
+use Rattle.walk.specs.Laws.Lookup.{answer-ends}
 use Rattle.walk.proofs.lookup.answers.Statement.{statement}
 use Rattle.walk.proofs.lookup.answers.Tie as tie
 

@@ -1,5 +1,5 @@
 use borrow.Author.Needs.{needs}
-use Rattle.walk.specs.Lookup.{look-in-exits}
+use Rattle.walk.specs.Laws.Lookup.{look-in-exits}
 use Rattle.walk.proofs.lookup.look_in.Statement.{statement}
 use Rattle.walk.proofs.lookup.look_in.Tie as tie
 

@@ -1,5 +1,5 @@
 use borrow.Author.Needs.{needs}
-use Rattle.walk.specs.Lookup.{look-exits}
+use Rattle.walk.specs.Laws.Lookup.{look-exits}
 use Rattle.walk.proofs.lookup.lookup.Statement.{statement}
 use Rattle.walk.proofs.lookup.lookup.Tie as tie
 

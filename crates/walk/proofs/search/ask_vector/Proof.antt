@@ -1,5 +1,5 @@
 use borrow.Author.Needs.{needs}
-use Rattle.walk.specs.Vector.{vector-exits}
+use Rattle.walk.specs.Laws.Vector.{vector-exits}
 use Rattle.walk.proofs.search.ask_vector.Statement.{statement}
 use Rattle.walk.proofs.search.ask_vector.Tie as tie
 

@@ -1,5 +1,5 @@
 use borrow.Author.Needs.{needs}
-use Rattle.walk.specs.Counted.{count-exits}
+use Rattle.walk.specs.Laws.Counted.{count-exits}
 use Rattle.walk.proofs.search.count_one.Statement.{statement}
 use Rattle.walk.proofs.search.count_one.Tie as tie
 

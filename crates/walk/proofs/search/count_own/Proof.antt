@@ -1,5 +1,5 @@
 use borrow.Author.Needs.{needs}
-use Rattle.walk.specs.Counted.{Counting, counting-exits}
+use Rattle.walk.specs.Laws.Counted.{Counting, counting-exits}
 use Rattle.walk.proofs.search.count_own.Statement.{statement}
 use Rattle.walk.proofs.search.count_own.Tie as tie
 

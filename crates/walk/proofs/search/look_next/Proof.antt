@@ -1,5 +1,5 @@
 use borrow.Author.Needs.{needs}
-use Rattle.walk.specs.Search.{row-exits}
+use Rattle.walk.specs.Laws.Search.{row-exits}
 use Rattle.walk.proofs.search.look_next.Statement.{statement}
 use Rattle.walk.proofs.search.look_next.Tie as tie
 

@@ -1,5 +1,5 @@
 use borrow.Author.Needs.{needs}
-use Rattle.walk.specs.Vector.{look-exits}
+use Rattle.walk.specs.Laws.Vector.{look-exits}
 use Rattle.walk.proofs.search.look_on.Statement.{statement}
 use Rattle.walk.proofs.search.look_on.Tie as tie
 

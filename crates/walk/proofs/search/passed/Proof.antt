@@ -1,5 +1,5 @@
 use borrow.Author.Needs.{needs}
-use Rattle.walk.specs.Vector.{passed-exits}
+use Rattle.walk.specs.Laws.Vector.{passed-exits}
 use Rattle.walk.proofs.search.passed.Statement.{statement}
 use Rattle.walk.proofs.search.passed.Tie as tie
 

@@ -2,7 +2,7 @@ use Prim.Native.Nat.{_-_}
 use borrow.Author.Needs.{needs}
 use Rattle.client.specs.Record.{sizes}
 use Rattle.client.specs.Sets.{held}
-use Rattle.walk.specs.Search.{Seeking, seek-exits}
+use Rattle.walk.specs.Laws.Search.{Seeking, seek-exits}
 use Rattle.walk.proofs.search.search.Statement.{statement}
 use Rattle.walk.proofs.search.search.Tie as tie
 

@@ -1,5 +1,5 @@
 use borrow.Author.Needs.{needs}
-use Rattle.walk.specs.Search.{only-exits}
+use Rattle.walk.specs.Laws.Search.{only-exits}
 use Rattle.walk.proofs.search.search_one.Statement.{statement}
 use Rattle.walk.proofs.search.search_one.Tie as tie
 

@@ -1,5 +1,5 @@
 use borrow.Author.Needs.{needs}
-use Rattle.walk.specs.Search.{take-exits}
+use Rattle.walk.specs.Laws.Search.{take-exits}
 use Rattle.walk.proofs.search.take_for.Statement.{statement}
 use Rattle.walk.proofs.search.take_for.Tie as tie
 

@@ -1,5 +1,5 @@
 use borrow.Author.Needs.{needs}
-use Rattle.walk.specs.Seek.{advance-exits}
+use Rattle.walk.specs.Laws.Seek.{advance-exits}
 use Rattle.walk.proofs.seek.advance.Statement.{statement}
 use Rattle.walk.proofs.seek.advance.Tie as tie
 

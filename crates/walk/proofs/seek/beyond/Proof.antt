@@ -1,5 +1,5 @@
 use borrow.Author.Needs.{needs}
-use Rattle.walk.specs.Near.{beyond-exits}
+use Rattle.walk.specs.Laws.Near.{beyond-exits}
 use Rattle.walk.proofs.seek.beyond.Statement.{statement}
 use Rattle.walk.proofs.seek.beyond.Tie as tie
 

@@ -1,5 +1,5 @@
 use Prim.Native.Nat.{_-_}
-use Rattle.walk.specs.Seek.{Climbing, climb-exits}
+use Rattle.walk.specs.Laws.Seek.{Climbing, climb-exits}
 use borrow.Author.Needs.{needs}
 use Rattle.walk.proofs.seek.climb.Statement.{statement}
 use Rattle.walk.proofs.seek.climb.Tie as tie

@@ -1,5 +1,5 @@
 use borrow.Author.Needs.{needs}
-use Rattle.walk.specs.Seek.{leaf-exits}
+use Rattle.walk.specs.Laws.Seek.{leaf-exits}
 use Rattle.walk.proofs.seek.in_leaf.Statement.{statement}
 use Rattle.walk.proofs.seek.in_leaf.Tie as tie
 

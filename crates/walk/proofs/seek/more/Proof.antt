@@ -1,5 +1,5 @@
 use borrow.Author.Needs.{needs}
-use Rattle.walk.specs.Seek.{turn-exits}
+use Rattle.walk.specs.Laws.Seek.{turn-exits}
 use Rattle.walk.proofs.seek.more.Statement.{statement}
 use Rattle.walk.proofs.seek.more.Tie as tie
 

@@ -1,5 +1,5 @@
 use borrow.Author.Needs.{needs}
-use Rattle.walk.specs.Near.{near-exits}
+use Rattle.walk.specs.Laws.Near.{near-exits}
 use Rattle.walk.proofs.seek.near.Statement.{statement}
 use Rattle.walk.proofs.seek.near.Tie as tie
 

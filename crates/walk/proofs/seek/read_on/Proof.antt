@@ -1,5 +1,5 @@
 use borrow.Author.Needs.{needs}
-use Rattle.walk.specs.Seek.{read-exits}
+use Rattle.walk.specs.Laws.Seek.{read-exits}
 use Rattle.walk.proofs.seek.read_on.Statement.{statement}
 use Rattle.walk.proofs.seek.read_on.Tie as tie
 

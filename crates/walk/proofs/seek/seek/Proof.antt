@@ -1,6 +1,7 @@
 use Rattle.client.specs.Record.{sizes}
 use Rattle.client.specs.Sets.{held}
-use Rattle.walk.specs.Seek.{weight, Seeking, seek-exits}
+use Rattle.walk.specs.Seek.{weight}
+use Rattle.walk.specs.Laws.Seek.{Seeking, seek-exits}
 use borrow.Author.Needs.{needs}
 use Rattle.walk.proofs.seek.seek.Statement.{statement}
 use Rattle.walk.proofs.seek.seek.Tie as tie

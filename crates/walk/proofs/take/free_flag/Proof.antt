@@ -1,5 +1,5 @@
 use borrow.Author.Needs.{needs}
-use Rattle.walk.specs.Take.{freed-exits}
+use Rattle.walk.specs.Laws.Take.{freed-exits}
 use Rattle.walk.proofs.take.free_flag.Statement.{statement}
 use Rattle.walk.proofs.take.free_flag.Tie as tie
 

@@ -1,5 +1,5 @@
 use borrow.Author.Needs.{needs}
-use Rattle.walk.specs.Take.{release-exits}
+use Rattle.walk.specs.Laws.Take.{release-exits}
 use Rattle.walk.proofs.take.release.Statement.{statement}
 use Rattle.walk.proofs.take.release.Tie as tie
 

@@ -1,5 +1,5 @@
 use borrow.Author.Needs.{needs}
-use Rattle.walk.specs.Take.{taken-flag-exits}
+use Rattle.walk.specs.Laws.Take.{taken-flag-exits}
 use Rattle.walk.proofs.take.take_flag.Statement.{statement}
 use Rattle.walk.proofs.take.take_flag.Tie as tie
 

@@ -1,5 +1,5 @@
 use borrow.Author.Needs.{needs}
-use Rattle.walk.specs.Take.{taken-node-exits}
+use Rattle.walk.specs.Laws.Take.{taken-node-exits}
 use Rattle.walk.proofs.take.take_node.Statement.{statement}
 use Rattle.walk.proofs.take.take_node.Tie as tie
 

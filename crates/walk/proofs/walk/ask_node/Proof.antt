@@ -1,5 +1,5 @@
 use borrow.Author.Needs.{needs}
-use Rattle.walk.specs.Ask.{answer-exits}
+use Rattle.walk.specs.Laws.Ask.{answer-exits}
 use Rattle.walk.proofs.walk.ask_node.Statement.{statement}
 use Rattle.walk.proofs.walk.ask_node.Tie as tie
 

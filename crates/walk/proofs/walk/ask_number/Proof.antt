@@ -1,5 +1,5 @@
 use borrow.Author.Needs.{needs}
-use Rattle.walk.specs.Ask.{number-exits}
+use Rattle.walk.specs.Laws.Ask.{number-exits}
 use Rattle.walk.proofs.walk.ask_number.Statement.{statement}
 use Rattle.walk.proofs.walk.ask_number.Tie as tie
 

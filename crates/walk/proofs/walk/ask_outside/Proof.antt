@@ -1,5 +1,5 @@
 use borrow.Author.Needs.{needs}
-use Rattle.walk.specs.Ask.{outside-exits}
+use Rattle.walk.specs.Laws.Ask.{outside-exits}
 use Rattle.walk.proofs.walk.ask_outside.Statement.{statement}
 use Rattle.walk.proofs.walk.ask_outside.Tie as tie
 

@@ -1,5 +1,5 @@
 use borrow.Author.Needs.{needs}
-use Rattle.walk.specs.Ask.{copy-exits}
+use Rattle.walk.specs.Laws.Ask.{copy-exits}
 use Rattle.walk.proofs.walk.note_copy.Statement.{statement}
 use Rattle.walk.proofs.walk.note_copy.Tie as tie
 

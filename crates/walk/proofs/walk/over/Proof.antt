@@ -1,5 +1,5 @@
 use borrow.Author.Needs.{needs}
-use Rattle.walk.specs.Ask.{over-is}
+use Rattle.walk.specs.Laws.Ask.{over-is}
 use Rattle.walk.proofs.walk.over.Statement.{statement}
 use Rattle.walk.proofs.walk.over.Tie as tie
 

@@ -1,5 +1,5 @@
 use borrow.Author.Needs.{needs}
-use Rattle.walk.specs.Ask.{seen-exits}
+use Rattle.walk.specs.Laws.Ask.{seen-exits}
 use Rattle.walk.proofs.walk.see_number.Statement.{statement}
 use Rattle.walk.proofs.walk.see_number.Tie as tie
 

@@ -1,5 +1,5 @@
 use borrow.Author.Needs.{needs}
-use Rattle.walk.specs.Ask.{stopped-is}
+use Rattle.walk.specs.Laws.Ask.{stopped-is}
 use Rattle.walk.proofs.walk.stopped.Statement.{statement}
 use Rattle.walk.proofs.walk.stopped.Tie as tie
 

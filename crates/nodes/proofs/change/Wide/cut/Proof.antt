@@ -1,5 +1,5 @@
 use borrow.Author.Needs.{needs}
-use Rattle.nodes.specs.Built.{cut-built}
+use Rattle.nodes.specs.Laws.Built.{cut-built}
 use Rattle.nodes.proofs.change.Wide.cut.Statement.{statement}
 use Rattle.nodes.proofs.change.Wide.cut.Tie as tie
 

@@ -1,5 +1,5 @@
 use borrow.Author.Needs.{needs}
-use Rattle.nodes.specs.Built.{part-built}
+use Rattle.nodes.specs.Laws.Built.{part-built}
 use Rattle.nodes.proofs.change.Wide.part.Statement.{statement}
 use Rattle.nodes.proofs.change.Wide.part.Tie as tie
 

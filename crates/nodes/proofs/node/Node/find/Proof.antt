@@ -1,6 +1,6 @@
 use borrow.Author.Needs.{needs}
-use Rattle.nodes.specs.Find.{no-place, other-key, this-key, key-inside}
-use Rattle.nodes.specs.Found.{absent-inside}
+use Rattle.nodes.specs.Laws.Find.{no-place, other-key, this-key, key-inside}
+use Rattle.nodes.specs.Laws.Found.{absent-inside}
 use Rattle.nodes.proofs.node.Node.find.Statement.{statement}
 use Rattle.nodes.proofs.node.Node.find.Tie as tie
 

@@ -1,5 +1,5 @@
 use borrow.Author.Needs.{needs}
-use Rattle.nodes.specs.Built.{left-moved}
+use Rattle.nodes.specs.Laws.Built.{left-moved}
 use Rattle.nodes.proofs.node.Node.from_left.Statement.{statement}
 use Rattle.nodes.proofs.node.Node.from_left.Tie as tie
 

@@ -1,5 +1,5 @@
 use borrow.Author.Needs.{needs}
-use Rattle.nodes.specs.Built.{right-moved}
+use Rattle.nodes.specs.Laws.Built.{right-moved}
 use Rattle.nodes.proofs.node.Node.from_right.Statement.{statement}
 use Rattle.nodes.proofs.node.Node.from_right.Tie as tie
 

@@ -1,5 +1,5 @@
 use borrow.Author.Needs.{needs}
-use Rattle.nodes.specs.StoredLaws.{node-built}
+use Rattle.nodes.specs.Laws.Stored.{node-built}
 use Rattle.nodes.proofs.node.Node.from_words.Statement.{statement}
 use Rattle.nodes.proofs.node.Node.from_words.Tie as tie
 

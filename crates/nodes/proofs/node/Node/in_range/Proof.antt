@@ -1,6 +1,7 @@
 use borrow.Author.Needs.{needs}
 use borrow.Author.Tests.{eq-eqb, ne-eqb, le-leb, lt-leb}
-use Rattle.nodes.specs.Range.{in-range, inner-range}
+use Rattle.nodes.specs.Range.{in-range}
+use Rattle.nodes.specs.Laws.Range.{inner-range}
 use Rattle.nodes.proofs.node.Node.in_range.Statement.{statement}
 use Rattle.nodes.proofs.node.Node.in_range.Tie as tie
 

@@ -1,5 +1,5 @@
 use borrow.Author.Needs.{needs}
-use Rattle.nodes.specs.Built.{join-built}
+use Rattle.nodes.specs.Laws.Built.{join-built}
 use Rattle.nodes.proofs.node.Node.join.Statement.{statement}
 use Rattle.nodes.proofs.node.Node.join.Tie as tie
 

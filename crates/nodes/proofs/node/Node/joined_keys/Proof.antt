@@ -1,5 +1,5 @@
 use borrow.Author.Needs.{needs}
-use Rattle.nodes.specs.Built.{keys-fit, keys-joined}
+use Rattle.nodes.specs.Laws.Built.{keys-fit, keys-joined}
 use Rattle.nodes.proofs.node.Node.joined_keys.Statement.{statement}
 use Rattle.nodes.proofs.node.Node.joined_keys.Tie as tie
 

@@ -1,5 +1,5 @@
 use borrow.Author.Needs.{needs}
-use Rattle.nodes.specs.Built.{merged-is}
+use Rattle.nodes.specs.Laws.Built.{merged-is}
 use Rattle.nodes.proofs.node.Node.merge.Statement.{statement}
 use Rattle.nodes.proofs.node.Node.merge.Tie as tie
 

@@ -5,7 +5,7 @@ use mathlib.Core.Logic.{⊎-elim}
 use lib.ListN.{take}
 use Rattle.nodes.specs.Place.{place}
 use Rattle.nodes.specs.Node.{keysOf}
-use Rattle.nodes.specs.Find.{place-yes, place-no, place-all}
+use Rattle.nodes.specs.Laws.Find.{place-yes, place-no, place-all}
 use Rattle.nodes.proofs.node.Node.place.Statement.{statement}
 use Rattle.nodes.proofs.node.Node.place.Tie as tie
 

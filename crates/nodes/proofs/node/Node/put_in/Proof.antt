@@ -1,5 +1,5 @@
 use borrow.Author.Needs.{needs}
-use Rattle.nodes.specs.Built.{put-built}
+use Rattle.nodes.specs.Laws.Built.{put-built}
 use Rattle.nodes.proofs.node.Node.put_in.Statement.{statement}
 use Rattle.nodes.proofs.node.Node.put_in.Tie as tie
 

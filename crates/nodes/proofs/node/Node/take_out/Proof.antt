@@ -1,5 +1,5 @@
 use borrow.Author.Needs.{needs}
-use Rattle.nodes.specs.Built.{take-out-is}
+use Rattle.nodes.specs.Laws.Built.{take-out-is}
 use Rattle.nodes.proofs.node.Node.take_out.Statement.{statement}
 use Rattle.nodes.proofs.node.Node.take_out.Tie as tie
 

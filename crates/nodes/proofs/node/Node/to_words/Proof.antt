@@ -1,5 +1,5 @@
 use borrow.Author.Needs.{needs}
-use Rattle.nodes.specs.StoredLaws.{holds, words-built}
+use Rattle.nodes.specs.Laws.Stored.{holds, words-built}
 use Rattle.nodes.proofs.node.Node.to_words.Statement.{statement}
 use Rattle.nodes.proofs.node.Node.to_words.Tie as tie
 

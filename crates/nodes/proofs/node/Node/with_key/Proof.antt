@@ -1,5 +1,5 @@
 use borrow.Author.Needs.{needs}
-use Rattle.nodes.specs.Built.{key-built}
+use Rattle.nodes.specs.Laws.Built.{key-built}
 use Rattle.nodes.proofs.node.Node.with_key.Statement.{statement}
 use Rattle.nodes.proofs.node.Node.with_key.Tie as tie
 

@@ -1,5 +1,5 @@
 use borrow.Author.Needs.{needs}
-use Rattle.nodes.specs.Built.{slot-built}
+use Rattle.nodes.specs.Laws.Built.{slot-built}
 use Rattle.nodes.proofs.node.Node.with_slot.Statement.{statement}
 use Rattle.nodes.proofs.node.Node.with_slot.Tie as tie
 

@@ -1,5 +1,5 @@
 use borrow.Author.Needs.{needs}
-use Rattle.nodes.specs.Built.{version-built}
+use Rattle.nodes.specs.Laws.Built.{version-built}
 use Rattle.nodes.proofs.node.Node.with_version.Statement.{statement}
 use Rattle.nodes.proofs.node.Node.with_version.Tie as tie
 

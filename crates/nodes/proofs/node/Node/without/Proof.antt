@@ -1,5 +1,5 @@
 use borrow.Author.Needs.{needs}
-use Rattle.nodes.specs.Built.{without-built}
+use Rattle.nodes.specs.Laws.Built.{without-built}
 use Rattle.nodes.proofs.node.Node.without.Statement.{statement}
 use Rattle.nodes.proofs.node.Node.without.Tie as tie
 

@@ -1,5 +1,6 @@
 use borrow.Author.Needs.{needs}
-use Rattle.steps.specs.Outcome.{line, shows}
+use Rattle.steps.specs.Outcome.{line}
+use Rattle.steps.specs.Laws.Outcome.{shows}
 use Rattle.steps.proofs.outcome.Line.of.Statement.{statement}
 use Rattle.steps.proofs.outcome.Line.of.Tie as tie
 use Rattle.steps.proofs.outcome.Line.of.Reads as reads

@@ -1,5 +1,5 @@
 use borrow.Author.Needs.{needs}
-use Rattle.text.specs.Exits.{space-early, space-late, space-ends}
+use Rattle.text.specs.Laws.Exits.{space-early, space-late, space-ends}
 use Rattle.text.proofs.read.Reader.ended.Statement.{statement}
 use Rattle.text.proofs.read.Reader.ended.Tie as tie
 

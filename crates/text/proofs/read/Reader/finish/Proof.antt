@@ -1,5 +1,5 @@
 use borrow.Author.Needs.{needs}
-use Rattle.text.specs.Exits.{finish-spoiled, finish-unbegun, finish-sizes, finish-step, finish-short}
+use Rattle.text.specs.Laws.Exits.{finish-spoiled, finish-unbegun, finish-sizes, finish-step, finish-short}
 use Rattle.text.proofs.read.Reader.finish.Statement.{statement}
 use Rattle.text.proofs.read.Reader.finish.Tie as tie
 

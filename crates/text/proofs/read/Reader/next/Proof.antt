@@ -1,5 +1,5 @@
 use borrow.Author.Needs.{needs}
-use Rattle.text.specs.Exits.{next-space, next-below, next-above, next-digit}
+use Rattle.text.specs.Laws.Exits.{next-space, next-below, next-above, next-digit}
 use Rattle.text.proofs.read.Reader.next.Statement.{statement}
 use Rattle.text.proofs.read.Reader.next.Tie as tie
 

@@ -1,5 +1,5 @@
 use borrow.Author.Needs.{needs}
-use Rattle.text.specs.Exits.{digit-spoils, digit-grows}
+use Rattle.text.specs.Laws.Exits.{digit-spoils, digit-grows}
 use Rattle.text.proofs.read.Reader.with_digit.Statement.{statement}
 use Rattle.text.proofs.read.Reader.with_digit.Tie as tie
 

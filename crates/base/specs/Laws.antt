@@ -1,0 +1,5 @@
+-- Laws and proofs, in reading order.
+
+-- What every other crate's definitions use: tests, decisions, and functions changed at one place.
+pub mod Test
+pub mod Update

@@ -1,0 +1,216 @@
+-- Laws of an insert's walk.
+use mathlib.Core.Path.{_≡_, refl, sym, _∙_}
+use mathlib.Core.Bool.{Bool, true, false, not}
+use mathlib.Core.List.{List, []}
+use mathlib.Core.Option.{Option, none, some}
+use Prim.Native.Nat.{ℕ, zero, _+_, _-_, _≤_, _<_}
+use native.Mathlib.Omega.{arith}
+use lib.Dec.{eqb}
+use lib.ListN.{length, getD, set, length-set}
+use borrow.Author.Tests.{not-true, not-false, eqb-true}
+use Rattle.nodes.specs.declared.node.Node.{Node}
+use Rattle.nodes.specs.declared.change.Wide.{Wide}
+use Rattle.nodes.specs.declared.found.Found.{Found}
+use Rattle.nodes.specs.declared.found.Found.the-variants.{At, Absent}
+use Rattle.nodes.specs.Found.{found, Inside}
+use Rattle.nodes.specs.Laws.Found.{found-some, found-none}
+use Rattle.nodes.specs.Lists.{insert}
+use Rattle.nodes.specs.Laws.Lists.{length-insert}
+use Rattle.nodes.specs.Place.{place}
+use Rattle.nodes.specs.Find.{find, find-at}
+use Rattle.nodes.specs.Node.{extra, keysOf, slotsOf, made}
+use Rattle.nodes.specs.Entries.{entriesOf, wide-entries}
+use Rattle.nodes.specs.Change.{wide, put-in, with-slot}
+use Rattle.nodes.specs.Kept.{Whole}
+use Rattle.nodes.specs.Laws.Kept.{made-whole, put-in-whole, put-in-entries, slot-entries}
+use Rattle.operations.specs.Map.{fresh}
+use Rattle.operations.specs.Slot.{Sizes}
+use Rattle.operations.specs.Entry.{Entries, keys, index, value-in, with-pair}
+use Rattle.operations.specs.Path.{Plan, Branch, from-root}
+use Rattle.operations.specs.Change.{up, insert-plan}
+use Rattle.walk.specs.declared.down.Descent.{Descent}
+use Rattle.change.specs.declared.insert.Paired.{Paired}
+use Rattle.walk.specs.declared.walk.Stop.{Stop}
+use Rattle.client.specs.Layout.{ClientWord}
+use Rattle.client.specs.Lent.{used-in}
+use Rattle.walk.specs.Laws.Entries.{Leaf, open-leaf, extra-leaf, leaf-keys, leaf-index, leaf-value, leaf-absent}
+use Rattle.walk.specs.Walk.{goes}
+use Rattle.walk.specs.Laws.Lookup.{ended-nothing, place-within, find-inside}
+use Rattle.walk.specs.Ask.{OwnGood, Noted}
+use Rattle.walk.specs.Down.{low, branches, Descends}
+use Rattle.change.specs.Operated.{Operated}
+use Rattle.change.specs.Rise.{OfLevel, Content, widened}
+use Rattle.change.specs.Laws.Parts.{widened-entries, widened-content}
+use Rattle.change.specs.Up.{Ready, rise-plan}
+use Rattle.change.specs.Insert.{paired-at, paired, Ended, way, insert-in}
+
+find-key : (ks : List ℕ) (key i : ℕ) → find ks key ≡ some i → getD ks i 0 ≡ key
+unfolding find find-at
+find-key ks key i e = go (eqb (place ks key) 0) (eqb (getD ks (place ks key - 1) 0) key) refl refl
+  where
+    go : (a b : Bool) → eqb (place ks key) 0 ≡ a → eqb (getD ks (place ks key - 1) 0) key ≡ b → getD ks i 0 ≡ key
+    go true b p q = let r : none ≡ some i = rw (find, find-at, p) at e in let z : _≡_ {A = ℕ} 0 1 = cc in absurd (omega arith)
+    go false true p q =
+        let r : some (place ks key - 1) ≡ some i = rw (find, find-at, p, q) at e in
+        let t : place ks key - 1 ≡ i = cc in
+        rw (← t) (eqb-true (getD ks (place ks key - 1) 0) key q)
+    go false false p q = let r : none ≡ some i = rw (find, find-at, p, q) at e in let z : _≡_ {A = ℕ} 0 1 = cc in absurd (omega arith)
+
+-- a leaf at hand
+pub record AtLeaf (n : Node) : Type 0 where
+  pub whole : Whole n
+  pub leaf : Leaf n
+  pub small : n .count ≤ 14
+
+module _ (n : Node) (f : AtLeaf n) where
+  none-more : extra (n .kind) ≡ 0
+  none-more = extra-leaf n (f .leaf)
+
+  pub leaf-level : OfLevel 0 n
+  leaf-level = record { kind = f .leaf .kind; level = f .leaf .level; whole = f .whole }
+
+  slot-level : (i v : ℕ) → OfLevel 0 (with-slot n i v)
+  unfolding with-slot made
+  slot-level i v =
+      let e : length (set (slotsOf n) i v) ≡ length (keysOf n) + extra (n .kind) = rw length-set (omega (arith, f .whole .keys, f .whole .slots)) in
+      record { kind = f .leaf .kind; level = f .leaf .level; whole = made-whole (n .kind) (n .level) (n .version) 0 (keysOf n) (set (slotsOf n) i v) e }
+
+  slot-few : (i v : ℕ) → with-slot n i v .count ≤ 14
+  unfolding with-slot made
+  slot-few i v = omega (arith, f .whole .keys, f .small)
+
+  module _ (key v : ℕ) where
+    place-inside : place (keysOf n) key ≤ n .count
+    place-inside = omega (arith, place-within (keysOf n) key, f .whole .keys)
+
+    put-content : Content 0 (put-in n (place (keysOf n) key) key v)
+    unfolding put-in wide
+    put-content = record {
+      kind = f .leaf .kind;
+      level = f .leaf .level;
+      whole = put-in-whole n 0 (f .whole) (place (keysOf n) key) key v place-inside;
+      few = let g : length (insert (place (keysOf n) key) key (keysOf n)) ≡ length (keysOf n) + 1 = length-insert (place (keysOf n) key) key (keysOf n) (omega (arith, f .whole .keys, place-inside)) in
+          omega (arith, f .whole .keys, f .small);
+    }
+
+    pub paired-content : Content 0 (paired n key v .content)
+    unfolding paired
+    paired-content = go (find (keysOf n) key) refl
+      where
+        go : (o : Option ℕ) → find (keysOf n) key ≡ o → Content 0 (paired-at n key v (find (keysOf n) key) .content)
+        go none e = rw e put-content
+        go (some i) e = rw e (widened-content 0 (with-slot n i v) (slot-level i v) (slot-few i v))
+
+    -- the entries are those of the plan, and so is the answer
+    module _ (lo : ℕ) where
+      pub paired-entries : wide-entries (paired n key v .content) lo ≡ with-pair key v (entriesOf n lo)
+      unfolding paired
+      paired-entries = go (find (keysOf n) key) refl
+        where
+          ix : index key (entriesOf n lo) ≡ find (keysOf n) key
+          ix = leaf-index n lo key (f .whole) (f .leaf)
+
+          go : (o : Option ℕ) → find (keysOf n) key ≡ o → wide-entries (paired-at n key v (find (keysOf n) key) .content) lo ≡ with-pair key v (entriesOf n lo)
+          go none e =
+              let z : place (keysOf n) key + 0 ≡ place (keysOf n) key = omega arith in
+              rw (ix, e, leaf-keys n lo key (f .whole) (f .leaf)) (put-in-entries n lo (f .whole) (place (keysOf n) key) key v place-inside ∙ rw (none-more, z))
+          go (some i) e =
+              rw (ix, e) (widened-entries 0 (with-slot n i v) (slot-level i v) lo ∙ slot-entries n lo (f .whole) i v ∙ rw (none-more, find-key (keysOf n) key i e))
+
+      pub paired-answer : fresh (value-in key (entriesOf n lo)) ≡ (paired n key v .a, 0)
+      unfolding paired
+      paired-answer = go (find (keysOf n) key) refl
+        where
+          go : (o : Option ℕ) → find (keysOf n) key ≡ o → fresh (value-in key (entriesOf n lo)) ≡ (paired-at n key v (find (keysOf n) key) .a, 0)
+          go none e = rw (leaf-absent n lo key (f .whole) (f .leaf) e, e)
+          go (some i) e =
+              let h : i < n .count = omega (arith, find-inside (keysOf n) key i e, f .whole .keys) in
+              rw (leaf-value n lo key (f .whole) (f .leaf) i e h, e)
+
+-- ---- ways out of the code that makes it
+module _ (n : Node) (key v : ℕ) (f : Found) (p : f ≡ found (find (keysOf n) key)) where
+  pub pair-replaced : (i : ℕ) (d : Node) (w : Wide) → f ≡ At i → d ≡ with-slot n i v → w ≡ widened d → _≡_ {A = Paired} (record { content = w; a = 0 }) (paired n key v)
+  unfolding paired
+  pair-replaced i d w e q r = let t : find (keysOf n) key ≡ some i = found-some (find (keysOf n) key) i (sym p ∙ e) in rw (t, r, q)
+
+  pub pair-new : (w : Wide) (i : ℕ) → f ≡ Absent → i ≡ place (keysOf n) key → w ≡ put-in n i key v → _≡_ {A = Paired} (record { content = w; a = 1 }) (paired n key v)
+  unfolding paired
+  pair-new w i e q r = let t : find (keysOf n) key ≡ none = found-none (find (keysOf n) key) (sym p ∙ e) in rw (t, r, q)
+
+pub pair-inside : (n : Node) (f : Found) (i : ℕ) → Inside f (n .count) → f ≡ At i → i < n .count + extra (n .kind)
+pair-inside n f i h e = omega (arith, h .inside i e)
+
+pub pair-few : (n d : Node) → d .count ≡ n .count → n .count ≤ 14 → d .count ≤ 14
+pair-few n d e h = omega arith
+
+pub ruleset pair-exits = (pair-replaced, pair-new, pair-inside, pair-few)
+
+module _ (z : Sizes) (d : Descent) (t : Ended z d) where
+  pub ended-leaf : AtLeaf (d .node)
+  ended-leaf = record { whole = t .reached .whole; leaf = open-leaf (d .node) (t .reached .opened) (t .reached .level); small = t .reached .small .keys }
+
+  pub ended-few : d .node .count ≤ 14
+  ended-few = ended-leaf .small
+
+  pub ended-ready : (n : Wide) → Content 0 n → Ready z (d .top) (d .path) (d .name) n
+  ended-ready n c = record { high = t .high; size = t .reached .size; good = t .reached .good; linked = t .linked; content = c }
+
+module _ (z : Sizes) (m : ClientWord → ℕ) (x u : List ℕ) (key : ℕ) (d : Descent) (u₁ : List ℕ) (h : Descends z m u key d u₁) (on : Bool) (po : on ≡ goes (d .stop)) where
+  -- an operation that stops on the way has written nothing
+  pub change-stops : (k : List Branch → ℕ → Entries → Plan) → OwnGood x → not on ≡ true → Operated z m x u (from-root key k) (d .stop) x u₁
+  change-stops k g nb =
+      let halts : goes (d .stop) ≡ false = sym po ∙ not-true on nb in
+      record {
+        writes = [];
+        same = λ hold. h .asks k ∙ rw halts (sym (ended-nothing (d .stop) (used-in u₁)));
+        holds = λ t hold. hold;
+        kept = λ t hold. record { fit = g .fit; few = g .few };
+        noted = h .noted;
+      }
+
+  pub change-noted : Noted m u₁
+  change-noted = h .noted
+
+  module _ (nb : not on ≡ false) where
+    going : goes (d .stop) ≡ true
+    going = sym po ∙ not-false on nb
+
+    pub change-ended : Ended z d
+    change-ended = record { high = h .high; reached = h .reached going; linked = h .linked going }
+
+    -- what follows at the leaf
+    pub change-on : (k : List Branch → ℕ → Entries → Plan) (s : Stop) (x′ u′ : List ℕ)
+        → Operated z m x u₁ (k (branches (way d)) (d .name) (entriesOf (d .node) (low (way d)))) s x′ u′ → Operated z m x u (from-root key k) s x′ u′
+    change-on k s x′ u′ q = record {
+      writes = q .writes;
+      same = λ hold. h .asks k ∙ rw going (q .same hold);
+      holds = q .holds;
+      kept = q .kept;
+      noted = q .noted;
+    }
+
+module _ (z : Sizes) (m : ClientWord → ℕ) (x u : List ℕ) (d : Descent) (key v : ℕ) (t : Ended z d) (p : Paired) (pp : p ≡ paired (d .node) key v) where
+  pub insert-ready : Ready z (d .top) (d .path) (d .name) (p .content)
+  insert-ready = ended-ready z d t (p .content) (rw pp (paired-content (d .node) (ended-leaf z d t) key v))
+
+  pub insert-goes : (s : Stop) (x′ u′ : List ℕ) → Operated z m x u (rise-plan z (p .a, 0) (d .top) (d .path) (d .name) (p .content)) s x′ u′ → Operated z m x u (insert-in z d key v) s x′ u′
+  unfolding rise-plan insert-in
+  insert-goes s x′ u′ q =
+      let e : wide-entries (p .content) (low (way d)) ≡ with-pair key v (entriesOf (d .node) (low (way d))) = rw pp (paired-entries (d .node) (ended-leaf z d t) key v (low (way d))) in
+      let a : fresh (value-in key (entriesOf (d .node) (low (way d)))) ≡ (p .a, 0) = rw pp (paired-answer (d .node) (ended-leaf z d t) key v (low (way d))) in
+      record {
+        writes = q .writes;
+        same = λ hold. rw (a, ← e) (q .same hold);
+        holds = q .holds;
+        kept = q .kept;
+        noted = q .noted;
+      }
+
+pub ruleset insert-exits = (ended-few, insert-ready, insert-goes)
+
+pub inserted : (z : Sizes) (m : ClientWord → ℕ) (x u : List ℕ) (key v : ℕ) (d : Descent) (u₁ : List ℕ) → Descends z m u key d u₁ → (on : Bool) → on ≡ goes (d .stop) → not on ≡ false
+    → (s : Stop) (x′ u′ : List ℕ) → Operated z m x u₁ (insert-in z d key v) s x′ u′ → Operated z m x u (insert-plan z key v) s x′ u′
+unfolding insert-in
+inserted z m x u key v d u₁ h on po nb s x′ u′ q = change-on z m x u key d u₁ h on po nb (λ fs n es. up z (fresh (value-in key es)) zero fs [] n (with-pair key v es)) s x′ u′ q
+
+pub ruleset inserted-exits = (change-stops, change-noted, change-ended, inserted)

@@ -1,0 +1,167 @@
+-- Plans that never come to an answer: what stops the walk of one is no answer. Every question is one, up to what follows it.
+use mathlib.Core.Path.{_≡_, refl}
+use mathlib.Core.Bool.{Bool, true, false, cond}
+use mathlib.Core.List.{List, [], _∷_, _++_}
+use mathlib.Core.Option.{Option, none, some}
+use Prim.Native.Nat.{ℕ, zero, suc}
+use native.Mathlib.Decide.{ℕ-discrete, decLe}
+use lib.Dec.{ltb}
+use lib.ListN.{length}
+use Rattle.base.specs.Test.{ifd}
+use Rattle.nodes.specs.Name.{server-of, slot-of}
+use Rattle.nodes.specs.Placement.{row}
+use Rattle.operations.specs.Object.{Obj, meta, node, flag, Ask, object, vector, fetched, Val, root, body, taken, flags, Writes, hit}
+use Rattle.operations.specs.Slot.{Sizes, present, chosen, free-slot, search, when-free-flag, take-flag, take-on, take-for, when-free-node, take-node, release}
+use Rattle.operations.specs.Entry.{Entries, mn}
+use Rattle.operations.specs.Path.{Plan, see, open-node, kid}
+use Rattle.client.specs.Layout.{ClientWord}
+use Rattle.client.specs.Record.{number}
+use Rattle.client.specs.Have.{have, broken}
+use Rattle.client.specs.Run.{End, lacks, aborts, gives, among, judged, run}
+use Rattle.walk.specs.Walk.{lack, over-run, fresh, room, over, worked, tell, walked}
+use Rattle.change.specs.Mute.{stands}
+use Rattle.plans.specs.Plan as P
+
+unfoldable pub Mute : Plan → Type 0
+Mute (P.ask a k) = (v : Val) → Mute (k v)
+Mute (P.done r) = ⊥
+Mute (P.fail y) = Unit {0}
+
+abbrev given : End → Bool
+given (lacks a) = false
+given (aborts r) = false
+given (gives a w) = true
+
+judged-mute : (p : Plan) → Mute p → (x : ℕ) (us : List ℕ) → given (judged p x us .how) ≡ false
+unfolding Mute
+judged-mute (P.ask a k) q x us = refl
+judged-mute (P.done r) q x us = absurd q
+judged-mute (P.fail y) q x us = refl
+
+over-mute : (p : Plan) → Mute p → (us : List ℕ) → given (over-run p us .how) ≡ false
+unfolding Mute
+over-mute (P.ask a k) q us = refl
+over-mute (P.done r) q us = absurd q
+over-mute (P.fail y) q us = refl
+
+module _ (H : Ask → Option Val) (f : ℕ → Bool) (r : ℕ) where
+  run-mute : (p : Plan) → Mute p → (us : List ℕ) → given (run H f r p us .how) ≡ false
+  unfolding run Mute
+  run-mute (P.done a) q us = absurd q
+  run-mute (P.fail y) q us = refl
+  run-mute (P.ask (vector s) k) q us = go (H (vector s)) refl (λ v us. run-mute (k v) (q v) us)
+    where
+      go : (h : Option Val) → H (vector s) ≡ h → ((v : Val) (us : List ℕ) → given (run H f r (k v) us .how) ≡ false) → given (run H f r (P.ask (vector s) k) us .how) ≡ false
+      go none e ih = rw (run, e)
+      go (some v) e ih = rw (run, e) (ih v us)
+  run-mute (P.ask (fetched s) k) q us = go (H (fetched s)) refl (λ v us. run-mute (k v) (q v) us)
+    where
+      go : (h : Option Val) → H (fetched s) ≡ h → ((v : Val) (us : List ℕ) → given (run H f r (k v) us .how) ≡ false) → given (run H f r (P.ask (fetched s) k) us .how) ≡ false
+      go none e ih = rw (run, e)
+      go (some v) e ih = rw (run, e) (ih v us)
+  run-mute (P.ask (object o) k) q us = go (H (object o)) (f (number o)) (among (number o) us) (ltb (length us) r) refl refl refl refl (λ v us. run-mute (k v) (q v) us)
+    where
+      go : (h : Option Val) (a b c : Bool) → H (object o) ≡ h → f (number o) ≡ a → among (number o) us ≡ b → ltb (length us) r ≡ c
+          → ((v : Val) (us : List ℕ) → given (run H f r (k v) us .how) ≡ false) → given (run H f r (P.ask (object o) k) us .how) ≡ false
+      go none a b c e ea eb ec ih = rw (run, e)
+      go (some v) false b c e ea eb ec ih = rw (run, e, ea) (ih v us)
+      go (some v) true true c e ea eb ec ih = rw (run, e, ea, eb) (ih v us)
+      go (some v) true false true e ea eb ec ih = rw (run, e, ea, eb, ec) (ih v (us ++ (number o ∷ [])))
+      go (some v) true false false e ea eb ec ih = rw (run, e, ea, eb, ec) (judged-mute (k v) (q v) (number o) us)
+
+lack-not : (a : Ask) → stands (lack a) ≡ false
+lack-not (object meta) = refl
+lack-not (object (node n)) = refl
+lack-not (object (flag n)) = refl
+lack-not (vector s) = refl
+lack-not (fetched s) = refl
+
+module _ (z : Sizes) (m : ClientWord → ℕ) where
+  tell-mute : (e : End) (us : List ℕ) → given e ≡ false → stands (tell z m e us .stop) ≡ false
+  tell-mute (lacks a) us h = go (broken z m a) refl
+    where
+      go : (b : Bool) → broken z m a ≡ b → stands (tell z m (lacks a) us .stop) ≡ false
+      go true e = rw e
+      go false e = rw e (lack-not a)
+  tell-mute (aborts r) us h = refl
+  tell-mute (gives a w) us h = h
+
+  pub walked-mute : (p : Plan) → Mute p → (us : List ℕ) → stands (walked z m p us .stop) ≡ false
+  unfolding walked worked
+  walked-mute p q us = tell-mute (worked z m p us .how) (worked z m p us .used) (go (over m us) refl)
+    where
+      go : (b : Bool) → over m us ≡ b → given (worked z m p us .how) ≡ false
+      go true e = rw (worked, e) (over-mute p q us)
+      go false e = rw (worked, e) (run-mute (have z m) (fresh m) (room m) p q us)
+
+-- ---- questions, with what follows them
+cond-mute : (b : Bool) (p q : Plan) → Mute p → Mute q → Mute (cond b p q)
+cond-mute true p q f g = f
+cond-mute false p q f g = g
+
+pub see-mute : (w : Writes) (o : Obj) (k : Val → Plan) → ((v : Val) → Mute (k v)) → Mute (see w o k)
+unfolding Mute
+see-mute [] o k h = h
+see-mute (e ∷ w) o k h = cond-mute (hit (e .0) o) (k (e .1)) (see w o k) (h (e .1)) (see-mute w o k h)
+
+flag-mute : (v : Val) (k : Plan) → Mute k → Mute (when-free-flag v k)
+unfolding Mute
+flag-mute (root r) k h = tt
+flag-mute (body j l ks vs) k h = tt
+flag-mute (taken true) k h = tt
+flag-mute (taken false) k h = h
+flag-mute (flags fs) k h = tt
+
+pub take-flag-mute : (w : Writes) (d : ℕ) (k : Writes → Plan) → ((w : Writes) → Mute (k w)) → Mute (take-flag w d k)
+take-flag-mute w d k h = see-mute w (flag d) (λ v. when-free-flag v (k ((flag d, taken true) ∷ w))) (λ v. flag-mute v (k ((flag d, taken true) ∷ w)) (h ((flag d, taken true) ∷ w)))
+
+chosen-mute : (s : ℕ) (o : Option ℕ) (k : ℕ → Plan) (p : Plan) → ((d : ℕ) → Mute (k d)) → Mute p → Mute (chosen s o k p)
+chosen-mute s none k p h g = g
+chosen-mute s (some i) k p h g = h _
+
+search-mute : (z : Sizes) (w : Writes) (slot : ℕ) (ss : List ℕ) (k : ℕ → Plan) → ((d : ℕ) → Mute (k d)) → Mute (search z w slot ss k)
+unfolding Mute
+search-mute z w slot [] k h = tt
+search-mute z w slot (s ∷ ss) k h =
+    λ v. chosen-mute s (free-slot z w slot s v) k _ h (λ u. chosen-mute s (free-slot z w slot s u) k _ h (search-mute z w slot ss k h))
+
+pub take-on-mute : (z : Sizes) (ss : List ℕ) (slot : ℕ) (w : Writes) (k : ℕ → Writes → Plan) → ((d : ℕ) (w : Writes) → Mute (k d w)) → Mute (take-on z ss slot w k)
+take-on-mute z ss slot w k h = search-mute z w slot ss _ (λ d. take-flag-mute w d (λ w′. k d w′) (h d))
+
+pub take-for-mute : (z : Sizes) (n : ℕ) (w : Writes) (k : ℕ → Writes → Plan) → ((d : ℕ) (w : Writes) → Mute (k d w)) → Mute (take-for z n w k)
+take-for-mute z n w k h = take-on-mute z (present (z .servers) (row (server-of n))) (slot-of n) w k h
+
+node-mute : (v : Val) (k : Plan) → Mute k → Mute (when-free-node v k)
+unfolding Mute
+node-mute (root r) k h = tt
+node-mute (body zero l ks vs) k h = h
+node-mute (body (suc j) l ks vs) k h = tt
+node-mute (taken b) k h = tt
+node-mute (flags fs) k h = tt
+
+pub take-node-mute : (w : Writes) (d : ℕ) (k : Plan) → Mute k → Mute (take-node w d k)
+take-node-mute w d k h = see-mute w (node d) (λ v. when-free-node v k) (λ v. node-mute v k h)
+
+pub release-mute : (w : Writes) (n : ℕ) (k : Writes → Plan) → ((w : Writes) → Mute (k w)) → Mute (release w n k)
+release-mute w n k h = see-mute w (flag n) _ (λ v. h _)
+
+open-mute : (lo : ℕ) (v : Val) (k : ℕ → Entries → Plan) → ((l : ℕ) (es : Entries) → Mute (k l es)) → Mute (open-node lo v k)
+unfolding Mute
+open-mute lo (root r) k h = tt
+open-mute lo (taken b) k h = tt
+open-mute lo (flags fs) k h = tt
+open-mute lo (body zero l ks vs) k h = tt
+open-mute lo (body (suc zero) zero ks vs) k h = h _ _
+open-mute lo (body (suc zero) (suc l) ks vs) k h = tt
+open-mute lo (body (suc (suc zero)) zero ks vs) k h = tt
+open-mute lo (body (suc (suc zero)) (suc l) ks vs) k h = h _ _
+open-mute lo (body (suc (suc (suc j))) l ks vs) k h = tt
+
+ifd-mute : {A : Type 0} (d : Dec A) (p q : Plan) → Mute p → Mute q → Mute (ifd d p q)
+ifd-mute (yes a) p q f g = f
+ifd-mute (no a) p q f g = g
+
+pub kid-mute : (w : Writes) (l lo n : ℕ) (k : Entries → Plan) → ((es : Entries) → Mute (k es)) → Mute (kid w l lo n k)
+unfolding Mute
+kid-mute w l lo n k h =
+    see-mute w (node n) _ (λ v. open-mute lo v _ (λ j es. ifd-mute (ℕ-discrete j l) _ _ (ifd-mute (decLe (mn l) (length es)) _ _ (h es) tt) tt))

@@ -1,0 +1,30 @@
+-- Laws and proofs, in reading order.
+
+-- DEFINITIONS
+-- the part's layout; nodes in words; objects as numbers and their records
+pub mod Layout
+pub mod Words
+pub mod Record
+-- the read set, the write set, the copies; a step of the part as a list of stores
+pub mod Part
+-- vectors as this client sees them; what it has of an object; a plan worked on, with the limit of 96
+pub mod Vectors
+pub mod Have
+-- the lists that a walk is lent: own writes, copies in use; a lookup over them
+pub mod Lent
+pub mod Look
+-- objects enter the sets; copies kept and dropped; what is fetched
+pub mod Enter
+pub mod Copies
+-- a transaction's life; tests of its sets; refusal 10; renewal of copies
+pub mod Commit
+pub mod Fits
+pub mod Renew
+-- what a transaction has read and written, tests of all items; participants; the course of a commit
+pub mod Items
+-- the definitions tried on closed examples
+pub mod Samples
+-- LAWS, a file for each subject
+pub mod Find
+pub mod Steps
+pub mod GoodSteps

@@ -1,0 +1,105 @@
+-- The answer of a lookup over the lent lists, and how it comes to it.
+use mathlib.Core.Bool.{cond, Bool, true, false}
+use mathlib.Core.List.{List}
+use Prim.Native.Nat.{ℕ, _+_, _-_, _/_, _%_, _≤_, _<_}
+use lib.Dec.{ltb}
+use lib.ListN.{length}
+use mathlib.Core.Path.{_≡_, sym, _∙_}
+use borrow.Author.Tests.{eq-eqb, ne-eqb, le-leb, lt-leb}
+use Rattle.nodes.specs.declared.node.Node.{Node}
+use Rattle.nodes.specs.declared.found.Found.{Found}
+use Rattle.nodes.specs.declared.found.Found.the-variants.{At, Absent}
+use Rattle.operations.specs.Slot.{Sizes}
+use Rattle.client.specs.declared.answer.Look.{Look}
+use Rattle.client.specs.Layout.{ClientWord, field, vector-word}
+use Rattle.client.specs.declared.part.Set.the-variants.{Reads, Writes, Copies}
+use Rattle.client.specs.Sets.{count, record-at, find}
+use Rattle.client.specs.Record.{fits, single}
+use Rattle.client.specs.Have.{here, copy, lacking, is-found, is-copied, source, copied-meta, copied-node, copied-flag, copied}
+use Rattle.client.specs.Laws.Have.{full, unfit}
+use Rattle.client.specs.Run.{among}
+use Rattle.client.specs.Lent.{own-find, own-record, used-in, pushed}
+use Rattle.memory.specs.Bit.{bit}
+
+-- a copy that is in use already is at hand; "object 97 would be read"
+unfoldable pub taken-up : (ClientWord → ℕ) → List ℕ → ℕ → Node → Look
+taken-up m u x r = cond (among x (used-in u)) (here r) (cond (ltb (count m Reads + length (used-in u)) 96) (copy r) (full r))
+
+module _ (z : Sizes) (m : ClientWord → ℕ) (w u : List ℕ) where
+  abbrev pub in-part : ℕ → Look → Look
+  in-part x l = cond (is-found (l .how)) (cond (fits z x (l .node)) (cond (is-copied (l .how)) (taken-up m u x (l .node)) (here (l .node))) unfit) lacking
+
+  abbrev pub or-in-part : ℕ → Found → Look
+  or-in-part x (At i) = here (own-record w i)
+  or-in-part x Absent = in-part x (source m x)
+
+  -- the object with the number x: w are the own writes, u the copies in use
+  unfoldable pub looked : ℕ → Look
+  looked x = or-in-part x (own-find w x)
+
+-- a copy that comes into use is at hand, and is one of those used
+unfoldable pub at-hand : Look → Look
+at-hand l = cond (is-copied (l .how)) (here (l .node)) l
+
+unfoldable pub used-after : Look → List ℕ → ℕ → List ℕ
+used-after l u x = cond (is-copied (l .how)) (pushed u x) u
+
+-- ---- copies
+module _ (m : ClientWord → ℕ) (r : Look) where
+  pub meta-lacking : (q : ℕ) → q ≡ m (field 12) → (q ≡ 1 → ⊥) → r ≡ lacking → r ≡ copied-meta m
+  unfolding copied-meta
+  meta-lacking q e d p = rw (← e, ne-eqb _ _ d) p
+
+  pub meta-there : (q v x : ℕ) (n : Node) → q ≡ m (field 12) → q ≡ 1 → v ≡ m (field 14) → x ≡ m (field 13) → n ≡ single v x → r ≡ copy n → r ≡ copied-meta m
+  unfolding copied-meta
+  meta-there q v x n e d a b c p = rw (← e, eq-eqb _ _ d, ← a, ← b, ← c) p
+
+  module _ (x : ℕ) (g : Found) (e : g ≡ find m Copies x) where
+    pub node-lacking : g ≡ Absent → r ≡ lacking → r ≡ copied-node m x
+    unfolding copied-node
+    node-lacking d p = rw (← e, d) p
+
+    pub node-there : (i : ℕ) (n : Node) → g ≡ At i → n ≡ record-at m Copies i → r ≡ copy n → r ≡ copied-node m x
+    unfolding copied-node
+    node-there i n d q p = rw (← e, d, ← q) p
+
+  module _ (n q : ℕ) (e : q ≡ m (vector-word (n / 1024) 0)) where
+    pub flag-lacking : (q ≡ 1 → ⊥) → r ≡ lacking → r ≡ copied-flag m n
+    unfolding copied-flag
+    flag-lacking d p = rw (← e, ne-eqb _ _ d) p
+
+    module _ (w : ℕ) (b : Bool) (y : Node) (d : q ≡ 1) (a : w ≡ m (vector-word (n / 1024) (1 + n % 1024 / 64))) (f : b ≡ bit w (n % 1024 % 64)) where
+      pub flag-set : b ≡ true → y ≡ single 0 1 → r ≡ copy y → r ≡ copied-flag m n
+      unfolding copied-flag
+      flag-set t s p = let z : bit w (n % 1024 % 64) ≡ true = sym f ∙ t in rw (← e, eq-eqb _ _ d, ← a, z, ← s) p
+
+      pub flag-clear : b ≡ false → y ≡ single 0 0 → r ≡ copy y → r ≡ copied-flag m n
+      unfolding copied-flag
+      flag-clear t s p = let z : bit w (n % 1024 % 64) ≡ false = sym f ∙ t in rw (← e, eq-eqb _ _ d, ← a, z, ← s) p
+
+  module _ (x : ℕ) where
+    pub copied-0 : x ≡ 0 → r ≡ copied-meta m → r ≡ copied m x
+    unfolding copied
+    copied-0 e p = rw e p
+
+    pub copied-1 : (x ≡ 0 → ⊥) → x ≤ 8192 → r ≡ copied-node m x → r ≡ copied m x
+    unfolding copied
+    copied-1 d h p = rw (ne-eqb _ _ d, le-leb _ _ h) p
+
+    pub copied-2 : (x ≡ 0 → ⊥) → 8192 < x → r ≡ copied-flag m (x - 8193) → r ≡ copied m x
+    unfolding copied
+    copied-2 d h p = rw (ne-eqb _ _ d, lt-leb _ _ h) p
+
+    module _ (g : Found) (e : g ≡ find m Writes x) where
+      pub source-written : (i : ℕ) (n : Node) → g ≡ At i → n ≡ record-at m Writes i → r ≡ here n → r ≡ source m x
+      unfolding source
+      source-written i n d q p = rw (← e, d, ← q) p
+
+      module _ (h : Found) (a : g ≡ Absent) (f : h ≡ find m Reads x) where
+        pub source-read : (i : ℕ) (n : Node) → h ≡ At i → n ≡ record-at m Reads i → r ≡ here n → r ≡ source m x
+        unfolding source
+        source-read i n d q p = rw (← e, a, ← f, d, ← q) p
+
+        pub source-copied : h ≡ Absent → r ≡ copied m x → r ≡ source m x
+        unfolding source
+        source-copied d p = rw (← e, a, ← f, d) p

@@ -1,0 +1,167 @@
+-- What a client has at hand, its sets and copies, is at hand for the machine.
+use mathlib.Core.Path.{_≡_, refl, ap, sym, _∙_, subst}
+use mathlib.Core.Bool.{Bool, true, false, cond, false≢true}
+use mathlib.Core.Option.{Option, none, some, Option·none-ne-some, Option·some-injective}
+use Prim.Native.Nat.{ℕ, suc, _+_, _/_, _%_}
+use native.Mathlib.Omega.{arith}
+use borrow.Author.Tests.{eqb-true}
+use lib.Dec.{eqb}
+use Rattle.base.specs.Test.{and-both}
+use Rattle.memory.specs.Bit.{bit, digit}
+use Rattle.nodes.specs.declared.found.Found.{Found}
+use Rattle.nodes.specs.declared.found.Found.the-variants.{At, Absent}
+use Rattle.nodes.specs.Lists.{pad}
+use Rattle.nodes.specs.Node.{made}
+use Rattle.operations.specs.Object.{Obj, meta, node, flag, object, Val, taken}
+use Rattle.operations.specs.Slot.{Allowed}
+use Rattle.client.specs.declared.answer.Look.{Look}
+use Rattle.client.specs.declared.part.Set.the-variants.{Reads, Writes, Copies}
+use Rattle.client.specs.Layout.{ClientWord, vector-word, meta-copied, meta-root, meta-version}
+use Rattle.client.specs.Record.{number, value-of, single, object-in-store, fits}
+use Rattle.client.specs.Sets.{record-at, number-at, count, find}
+use Rattle.client.specs.Commit.{is-at}
+use Rattle.client.specs.Items.{has}
+use Rattle.client.specs.Fits.{client-fits}
+use Rattle.client.specs.Have.{here, copy, lacking, is-found, copied-meta, copied-item, copied-node, copied-flag, copied, or-copied, or-read, source, usable, have}
+use Rattle.demand.specs.Laws.Store.{sizes}
+use Rattle.demand.specs.Laws.Numbers.{by-object, by-number-of}
+use Rattle.demand.specs.Laws.Shows.{T, In-store, item-from, item-of, Slot-shown, Copies-shown}
+use Rattle.demand.specs.Laws.Held.{found-at, has-at, at-has, written-in}
+use Rattle.nodes.specs.Name as N
+use Rattle.protocol.specs.Machine as P
+use Rattle.protocol.specs.Laws.Work as W
+use Rattle.demand.specs.Laws.Shows as S
+
+-- a lookup has found something
+abbrev pub Is-there : Look → Type 0
+Is-there l = is-found (l .how) ≡ true
+
+flag-back : (b : Bool) → eqb (digit b) 1 ≡ b
+flag-back true = refl
+flag-back false = refl
+
+-- ---- copies: one that is stored is the machine's
+module _ (k j slots : ℕ) (al : Allowed (sizes k j slots)) (u : ClientWord → ℕ) (f : Obj → Option (P.Copy (T k j slots))) (copies : Copies-shown k j slots u f) where
+  -- the machine has what a lookup among the copies says
+  abbrev Same-copy : Obj → Look → Type 0
+  Same-copy o l = f o ≡ S.copy k j slots u (value-of o (l .node)) (l .node .version)
+
+  meta-there : Is-there (copied-meta u) → Same-copy meta (copied-meta u)
+  unfolding copied-meta single made pad
+  meta-there b = go (eqb (u meta-copied) 1) refl b
+    where
+      go : (t : Bool) → eqb (u meta-copied) 1 ≡ t → Is-there (cond t (copy (single (u meta-version) (u meta-root))) lacking)
+          → Same-copy meta (cond t (copy (single (u meta-version) (u meta-root))) lacking)
+      go true e b = copies .meta-as (eqb-true (u meta-copied) 1 e)
+      go false e b = absurd (false≢true b)
+
+  node-there : (n : ℕ) → Is-there (copied-node u (number (node n))) → Same-copy (node n) (copied-node u (number (node n)))
+  unfolding copied-node count number-at
+  node-there n b = go (find u Copies (number (node n))) refl b
+    where
+      go : (z : Found) → find u Copies (number (node n)) ≡ z → Is-there (copied-item u z) → Same-copy (node n) (copied-item u z)
+      go Absent e b = absurd (false≢true b)
+      go (At i) e b = let h = found-at u Copies (number (node n)) i e in copies .node-as i n (h .0) (h .1)
+
+  flag-there : (n : ℕ) → In-store k j slots (flag n) → Is-there (copied-flag u n) → Same-copy (flag n) (copied-flag u n)
+  unfolding copied-flag single made pad
+  flag-there n h b = go (eqb (u (vector-word (N.server-of n) 0)) 1) refl b
+    where
+      w : ℕ
+      w = u (vector-word (N.server-of n) (1 + N.slot-of n / 64))
+
+      go : (t : Bool) → eqb (u (vector-word (N.server-of n) 0)) 1 ≡ t
+          → Is-there (cond t (copy (single 0 (digit (bit w (N.slot-of n % 64))))) lacking)
+          → Same-copy (flag n) (cond t (copy (single 0 (digit (bit w (N.slot-of n % 64))))) lacking)
+      go true e b =
+          let next : suc (N.slot-of n / 64) ≡ 1 + N.slot-of n / 64 = omega arith in
+          copies .flag-as n h (eqb-true (u (vector-word (N.server-of n) 0)) 1 e)
+          ∙ ap (λ (i : ℕ). S.copy k j slots u (taken (bit (u (vector-word (N.server-of n) i)) (N.slot-of n % 64))) 0) next
+          ∙ ap (λ (t : Bool). S.copy k j slots u (taken t) 0) (sym (flag-back (bit w (N.slot-of n % 64))))
+      go false e b = absurd (false≢true b)
+
+  pub copy-there : (o : Obj) → In-store k j slots o → Is-there (copied u (number o)) → Same-copy o (copied u (number o))
+  unfolding copied
+  copy-there o h b =
+      let e = by-number-of (sizes k j slots) al o h (copied-meta u) (λ n. copied-node u (number o)) (copied-flag u) in
+      subst (Same-copy o) (sym e) (by o h (subst Is-there e b))
+    where
+      by : (o : Obj) → In-store k j slots o → Is-there (by-object o (copied-meta u) (λ n. copied-node u (number o)) (copied-flag u))
+          → Same-copy o (by-object o (copied-meta u) (λ n. copied-node u (number o)) (copied-flag u))
+      by meta h b = meta-there b
+      by (node n) h b = node-there n b
+      by (flag n) h b = flag-there n h b
+
+  -- ---- "An object is read from the write set, else the read set, else the client's copies"
+  module _ (fit : client-fits (sizes k j slots) u ≡ true) (y : P.Slot (T k j slots)) (shown : Slot-shown k j slots u y) where
+    -- what is written has been read
+    pub written-read : (o : Obj) → has u Writes (number o) ≡ true → has u Reads (number o) ≡ true
+    written-read o h =
+        let w = has-at u Writes (number o) h in
+        let f = found-at u Writes (number o) (w .0) (w .1) in
+        subst (λ (x : ℕ). has u Reads x ≡ true) (f .1) (written-in k j slots al u fit (w .0) (f .0) .1)
+
+    -- what a lookup says is what the machine has at hand of o
+    abbrev Machine-has : Obj → Look → Type 0
+    Machine-has o l = W.have (T k j slots) f (y .items) o ≡ some (value-of o (l .node))
+
+    has-as : (o : Obj) → In-store k j slots o → W.have (T k j slots) f (y .items) o ≡ W.at-hand (T k j slots) (item-of k j slots u o) (f o)
+    has-as o h = ap (λ z. W.at-hand (T k j slots) z (f o)) (shown .item-as o h)
+
+    from-written : (o : Obj) → In-store k j slots o → (i : ℕ) → find u Writes (number o) ≡ At i → Machine-has o (here (record-at u Writes i))
+    unfolding item-of has
+    from-written o h i e =
+        let r = has-at u Reads (number o) (written-read o (at-has u Writes (number o) i e)) in
+        has-as o h ∙ ap (λ z. W.at-hand (T k j slots) (item-from k j slots u o z) (f o)) (r .1)
+        ∙ ap (λ z. some (cond (is-at z) (S.new-value k j slots u o (value-of o (record-at u Reads (r .0))) z) (value-of o (record-at u Reads (r .0))))) e
+
+    from-read : (o : Obj) → In-store k j slots o → (i : ℕ) → find u Writes (number o) ≡ Absent → find u Reads (number o) ≡ At i
+        → Machine-has o (here (record-at u Reads i))
+    unfolding item-of has
+    from-read o h i n e =
+        has-as o h ∙ ap (λ z. W.at-hand (T k j slots) (item-from k j slots u o z) (f o)) e
+        ∙ ap (λ z. some (cond (is-at z) (S.new-value k j slots u o (value-of o (record-at u Reads i)) z) (value-of o (record-at u Reads i)))) n
+
+    from-copy : (o : Obj) → In-store k j slots o → find u Reads (number o) ≡ Absent → Is-there (copied u (number o)) → Machine-has o (copied u (number o))
+    unfolding item-of
+    from-copy o h e b =
+        has-as o h ∙ ap (λ z. W.at-hand (T k j slots) (item-from k j slots u o z) (f o)) e
+        ∙ ap (W.at-hand (T k j slots) none) (copy-there o h b)
+
+    -- what a lookup finds
+    pub source-there : (o : Obj) → In-store k j slots o → Is-there (source u (number o)) → Machine-has o (source u (number o))
+    unfolding source
+    source-there o h b = go (find u Writes (number o)) refl (find u Reads (number o)) refl b
+      where
+        go : (w : Found) → find u Writes (number o) ≡ w → (r : Found) → find u Reads (number o) ≡ r → Is-there (or-read u (number o) w) → Machine-has o (or-read u (number o) w)
+        go (At i) e r q b = from-written o h i e
+        go Absent e (At i) q b = subst (λ z. Machine-has o (or-copied u (number o) z)) (sym q) (from-read o h i e q)
+        go Absent e Absent q b =
+            subst (λ z. Machine-has o (or-copied u (number o) z)) (sym q)
+            (from-copy o h q (subst (λ z. Is-there (or-copied u (number o) z)) q b))
+
+    -- an object at hand is in the store, its record fits, and the machine has its value at hand
+    pub record Had (o : Obj) (v : Val) : Type 0 where
+      pub in-store : In-store k j slots o
+      pub found : Is-there (source u (number o))
+      pub fitting : fits (sizes k j slots) (number o) (source u (number o) .node) ≡ true
+      pub value-as : v ≡ value-of o (source u (number o) .node)
+
+    pub had : (o : Obj) (v : Val) → have (sizes k j slots) u (object o) ≡ some v → Had o v
+    unfolding have
+    had o v e = go (object-in-store (sizes k j slots) o) refl (usable (sizes k j slots) u (number o) (source u (number o))) refl e
+      where
+        l : Look
+        l = source u (number o)
+
+        go : (a : Bool) → object-in-store (sizes k j slots) o ≡ a → (b : Bool) → usable (sizes k j slots) u (number o) l ≡ b
+            → cond a (cond b (some (value-of o (l .node))) none) none ≡ some v → Had o v
+        go false p b q e = absurd (Option·none-ne-some v e)
+        go true p false q e = absurd (Option·none-ne-some v e)
+        go true p true q e =
+            let h = and-both (is-found (l .how)) (fits (sizes k j slots) (number o) (l .node)) q in
+            record { in-store = p; found = h .0; fitting = h .1; value-as = sym (Option·some-injective (value-of o (l .node)) v e) }
+
+    -- AT HAND
+    pub have-there : (o : Obj) (v : Val) → have (sizes k j slots) u (object o) ≡ some v → W.have (T k j slots) f (y .items) o ≡ some v
+    have-there o v e = let h = had o v e in source-there o (h .in-store) (h .found) ∙ ap some (sym (h .value-as))

@@ -1,0 +1,375 @@
+-- Every store of a step lies in the memory, and none in the head: whatever the memory holds.
+use mathlib.Core.Path.{_≡_, refl, ap, sym, _∙_, subst}
+use mathlib.Core.Bool.{Bool, true, false, cond, _&&_, not, true≢false}
+use mathlib.Core.List.{List, [], _∷_, _++_, map}
+use Prim.Native.Nat.{ℕ, zero, suc, _+_, _%_, _≤_, _<_}
+use native.Mathlib.Omega.{arith}
+use borrow.Author.Tests.{eqb-true, ltb-true, not-false}
+use lib.Dec.{eqb, ltb}
+use lib.ListN.{length}
+use Rattle.base.specs.Test.{and-both}
+use Rattle.memory.specs.Bit.{bit}
+use Rattle.layout.specs.Block.{In}
+use Rattle.layout.specs.Space.{Put, changed, Valid}
+use Rattle.layout.specs.Laws.Space.{AllValid}
+use Rattle.layout.specs.Step.{andThen}
+use Rattle.layout.specs.Laws.Step.{changed-append, valid-append}
+use Rattle.layout.specs.Part.{over}
+use Rattle.layout.specs.Laws.Part.{good-all}
+use Rattle.layout.specs.Laws.Sweep.{sweep-valid}
+use Rattle.nodes.specs.Range.{in-range}
+use Rattle.server.specs.declared.place.Place.{Place}
+use Rattle.server.specs.declared.lock.Use.the-variants.{Fetch}
+use Rattle.server.specs.Check.{held}
+use Rattle.server.specs.HandOut.{metadata-at, metadata-sound, vector-at}
+use Rattle.server.specs.Object.{object-of, Has}
+use Rattle.server.specs.Store.{lock-step, unlock-step}
+use Rattle.server.specs.Laws.Leaves.{lock-inside, unlock-inside}
+use Rattle.client.specs.declared.part.Set.the-variants.{Reads, Writes}
+use Rattle.client.specs.Layout.{ClientWord, client-words, client-block, field, phase, prepared, applied}
+use Rattle.client.specs.Record.{in-store, number-in-store, fits}
+use Rattle.client.specs.Sets.{count, number-at, record-at}
+use Rattle.client.specs.Fits.{item-fits, has-read, client-fits}
+use Rattle.client.specs.Laws.Fits.{fits-read, fits-write}
+use Rattle.client.specs.Have.{source, unusable, broken}
+use Rattle.client.specs.Part.{Step, put-field}
+use Rattle.client.specs.Laws.Steps.{Good, good-then, good-field}
+use Rattle.client.specs.Answered.{used-enter, entered, enter-writes, answered}
+use Rattle.client.specs.Fetched.{fetched-meta, fetched-node, fetched-vector}
+use Rattle.client.specs.Participants.{participants-of, committing}
+use Rattle.client.specs.Copies.{drop-all}
+use Rattle.client.specs.Course.{noted, decided}
+use Rattle.client.specs.Renew.{finish}
+use Rattle.client.specs.Work.{Worked, refused, fetches, aborted, answers, walked, worked}
+use Rattle.client.specs.Laws.GoodSteps.{good-used, good-entries, good-fetched-meta, good-fetched-node, good-fetched-vector, good-drop-all, good-reset, good-give, good-abort, good-lose, good-finish}
+use Rattle.steps.specs.declared.sizes.Sizes.{Sizes}
+use Rattle.steps.specs.Whole.{Address, head, server, client, whole, block, tree-sizes, server-at, client-at, Allowed}
+use Rattle.steps.specs.Laws.Whole.{server-part, client-part}
+use Rattle.steps.specs.Laws.Stores.{client-of, server-of, part-other, client-changed}
+use Rattle.steps.specs.Laws.Writes.{write-inside}
+use Rattle.steps.specs.Laws.There.{named-in, in-store-has}
+use Rattle.steps.specs.Judge.{lock-fits, check-fits, abort-fits, versions-fit, prepare-fits, lowest}
+use Rattle.steps.specs.declared.outcome.Outcome.{Outcome}
+use Rattle.steps.specs.declared.outcome.Outcome.the-variants.{Fetched}
+use Rattle.steps.specs.Refusal.{kind-of, refusal}
+use Rattle.steps.specs.Passed.{Passed}
+use Rattle.steps.specs.Laws.Passed.{passed}
+use Rattle.demand.specs.Laws.Lacking.{fetch-lacks}
+use Rattle.demand.specs.Laws.Servers.{both-client}
+use Rattle.demand.specs.Laws.InRange.{prepared-fits, decision-fits}
+use Rattle.nodes.specs.Name as N
+use Rattle.operations.specs.Object as O
+use Rattle.server.specs.Layout as Srv
+use Rattle.client.specs.Life as Life
+use Rattle.steps.specs.Uses as U
+use Rattle.steps.specs.Steps as S
+use Rattle.steps.specs.declared.step.Step as Step
+
+-- ---- the client's own steps
+good-entering : (us : List ℕ) → Good (used-enter us)
+unfolding used-enter
+good-entering us = good-used (length us ∷ us)
+
+good-answered : (us : List ℕ) (w : O.Writes) → Good (answered us w)
+unfolding answered enter-writes put-field
+good-answered us w =
+    good-then (used-enter us) (andThen client-words (enter-writes w) (put-field 1 0)) (good-entering us)
+    (good-then (enter-writes w) (put-field 1 0) (good-entries (entered w)) (good-field 1 0 (omega arith)))
+
+good-committing : (n : ℕ) → Good (committing n)
+unfolding committing AllValid Valid In
+good-committing n = record { all = λ m. (omega arith, (omega arith, tt)) }
+
+good-noted : (i s : ℕ) → i < 15 → Good (noted (field i) s)
+unfolding noted AllValid Valid In
+good-noted i s l = record { all = λ m. (l, tt) }
+
+good-decided : Good decided
+unfolding decided AllValid Valid In
+good-decided = record { all = λ m. (omega arith, tt) }
+
+-- what an address belongs to
+in-head : Address → Bool
+in-head (head i) = true
+in-head (server s a) = false
+in-head (client c a) = false
+
+module _ (z : Sizes) where
+  -- each store is at an address of the memory; what the head holds stays
+  pub record Lies (ps : List (Put Address)) : Type 0 where
+    pub valid : AllValid whole (block z) ps
+    pub headless : (m : Address → ℕ) (i : ℕ) → changed whole m ps (head i) ≡ m (head i)
+
+  pub lies-none : Lies []
+  unfolding AllValid changed
+  lies-none = record { valid = tt; headless = λ m i. refl }
+
+  pub lies-append : (ps qs : List (Put Address)) → Lies ps → Lies qs → Lies (ps ++ qs)
+  lies-append ps qs p q = record {
+    valid = valid-append whole (block z) ps qs (p .valid) (q .valid);
+    headless = λ m i. ap (λ (f : Address → ℕ). f (head i)) (changed-append whole ps qs m) ∙ q .headless (changed whole m ps) i ∙ p .headless m i;
+  }
+
+  -- stores in a client's part, and in a server's
+  pub lies-client : (c : ℕ) → c < z .clients → (ps : List (Put ClientWord)) → AllValid client-words client-block ps → Lies (over (client c) ps)
+  unfolding in-head
+  lies-client c l ps ok = record {
+    valid = good-all client-words client-block whole (block z) (client c) (client-at z c) (client-part z c l) ps ok;
+    headless = λ m i. part-other client-words whole (client c) (head i) (λ a q. true≢false (ap in-head q)) ps m;
+  }
+
+  pub lies-server : (s : ℕ) → s < z .servers → (ps : List (Put Place)) → AllValid Srv.places (Srv.block (z .slots)) ps → Lies (over (server s) ps)
+  unfolding in-head
+  lies-server s l ps ok = record {
+    valid = good-all Srv.places (Srv.block (z .slots)) whole (block z) (server s) (server-at z s) (server-part z s l) ps ok;
+    headless = λ m i. part-other Srv.places whole (server s) (head i) (λ a q. true≢false (ap in-head q)) ps m;
+  }
+
+  lies-either : (b : Bool) (ps qs : List (Put Address)) → Lies ps → Lies qs → Lies (cond b ps qs)
+  lies-either true ps qs p q = p
+  lies-either false ps qs p q = q
+
+  lies-servers : (n : ℕ) (f : ℕ → List (Put Address)) → ((s : ℕ) → s < n → Lies (f s)) → Lies (S.at-servers n f)
+  unfolding S.at-servers
+  lies-servers zero f h = lies-none
+  lies-servers (suc n) f h = lies-append (S.at-servers n f) (f n) (lies-servers n f (λ s l. h s (omega arith))) (h n (omega arith))
+
+  -- ---- of a client whose own state is in range
+  module _ (al : Allowed z) (m : Address → ℕ) (c : ℕ) (l : c < z .clients) (fit : client-fits (tree-sizes z) (client-of m c) ≡ true) where
+    abbrev u : ClientWord → ℕ
+    u = client-of m c
+
+    pub lies-part : (g : Step) → Good g → Lies (S.in-client z m c g)
+    lies-part g ok = lies-client c l (g u) (ok .all u)
+
+    read-has : (i : ℕ) → i < count u Reads → Has (z .slots) (object-of (number-at u Reads i))
+    unfolding item-fits
+    read-has i h = in-store-has z (number-at u Reads i) al
+        (and-both (number-in-store (tree-sizes z) (number-at u Reads i)) (fits (tree-sizes z) (number-at u Reads i) (record-at u Reads i) && has-read u Reads (number-at u Reads i))
+        (fits-read (tree-sizes z) u fit i h) .0)
+
+    written-has : (i : ℕ) → i < count u Writes → Has (z .slots) (object-of (number-at u Writes i))
+    unfolding item-fits
+    written-has i h = in-store-has z (number-at u Writes i) al
+        (and-both (number-in-store (tree-sizes z) (number-at u Writes i)) (fits (tree-sizes z) (number-at u Writes i) (record-at u Writes i) && has-read u Writes (number-at u Writes i))
+        (fits-write (tree-sizes z) u fit i h) .0)
+
+    -- locks and unlocks of what is read, and the writes
+    abbrev Inside : List (Put Place) → Type 0
+    Inside ps = AllValid Srv.places (Srv.block (z .slots)) ps
+
+    inside-if : (b : Bool) (ps : List (Put Place)) → Inside ps → Inside (cond b ps [])
+    unfolding AllValid
+    inside-if true ps h = h
+    inside-if false ps h = tt
+
+    unlock-valid : (low s : ℕ) (p : Place → ℕ) → Inside (S.unlock-each u c low s p)
+    unfolding U.item-of
+    unlock-valid low s p =
+        sweep-valid Srv.places (Srv.block (z .slots)) _ (count u Reads) p
+        (λ i q h. inside-if (U.locked-at low s (U.read-item u i)) (unlock-step (object-of (number-at u Reads i)) c q) (unlock-inside (z .slots) q (object-of (number-at u Reads i)) c (read-has i h)))
+
+    lock-valid : (low s : ℕ) (p : Place → ℕ) → Inside (S.lock-each u c low s p)
+    unfolding U.item-of
+    lock-valid low s p =
+        sweep-valid Srv.places (Srv.block (z .slots)) _ (count u Reads) p
+        (λ i q h. inside-if (U.locked-at low s (U.read-item u i)) (lock-step (object-of (number-at u Reads i)) (U.read-item u i .written) c q)
+        (lock-inside (z .slots) q (object-of (number-at u Reads i)) (U.read-item u i .written) c (read-has i h)))
+
+    writes-valid : (s : ℕ) (p : Place → ℕ) → Inside (S.store-all u s p)
+    writes-valid s p = sweep-valid Srv.places (Srv.block (z .slots)) (S.store-write u s) (count u Writes) p (λ i q h. write-inside (z .slots) u s i q (written-has i h))
+
+    -- ---- ABORT
+    pub aborting-lies : (us : List ℕ) → Lies (S.aborting z m c us)
+    aborting-lies us =
+        lies-append (S.unlocked-everywhere z m c) (S.in-client z m c (Life.abort us))
+        (lies-servers (z .servers) _
+        (λ s h. lies-either (bit (u prepared) s) _ [] (lies-server s h (S.unlock-each u c (lowest z m c) s (server-of m s)) (unlock-valid (lowest z m c) s (server-of m s))) lies-none))
+        (lies-part (Life.abort us) (good-abort us))
+
+    -- ---- a step that is refused where something is out of range, and one of two
+    lies-if : (b : Bool) (d : S.Did) → Lies (d .stores) → Lies (S.if-fit b d .stores)
+    lies-if true d h = h
+    lies-if false d h = lies-none
+
+    lies-one : (b : Bool) (d e : S.Did) → Lies (d .stores) → Lies (e .stores) → Lies (cond b d e .stores)
+    lies-one true d e p q = p
+    lies-one false d e p q = q
+
+    abort-lies : (y : ℕ) (us : List ℕ) → Lies (S.abort z m c y us .stores)
+    unfolding S.abort
+    abort-lies y us = lies-if (abort-fits z m c) _ (aborting-lies us)
+
+    -- ---- WORK
+    handed-lies : (us : List ℕ) (g : Step) → Good g → Lies (S.handed z m c us g)
+    handed-lies us g ok = lies-part (andThen client-words (used-enter us) g) (good-then (used-enter us) g (good-entering us) ok)
+
+    object-lies : (us : List ℕ) (s x : ℕ) (out : Outcome) (ok : Bool) (g : Step) → Good g → Lies (S.fetch-object z m c us s x out ok g .stores)
+    object-lies us s x out ok g h =
+        lies-if (ok && lock-fits z m s _) _
+        (lies-one (held (object-of x) c Fetch (server-of m s)) _ _ (abort-lies 2 us) (lies-one (S.full z m c us) _ _ (abort-lies 4 us) (handed-lies us g h)))
+
+    vector-lies : (us : List ℕ) (s : ℕ) → s < 8 → Lies (S.handed z m c us (fetched-vector s (vector-at (server-of m s))))
+    vector-lies us s h = handed-lies us (fetched-vector s (vector-at (server-of m s))) (good-fetched-vector s (vector-at (server-of m s)) h)
+
+    -- the server that a vector is fetched from
+    abbrev Near : O.Ask → Type 0
+    Near (O.object O.meta) = Unit {0}
+    Near (O.object (O.node n)) = Unit {0}
+    Near (O.object (O.flag n)) = N.server-of n < 8
+    Near (O.vector s) = s < 8
+    Near (O.fetched s) = s < 8
+
+    hand-over-lies : (us : List ℕ) (a : O.Ask) (out : Outcome) → Near a → Lies (S.hand-over z m c us a (S.wanted (z .servers) c a .from) out .stores)
+    hand-over-lies us (O.object O.meta) out h =
+        let p = server-of m (c % z .servers) in
+        object-lies us (c % z .servers) 0 out (metadata-sound (z .servers) (z .slots) p) (fetched-meta (metadata-at p .root) (metadata-at p .version))
+        (good-fetched-meta (metadata-at p .root) (metadata-at p .version))
+    hand-over-lies us (O.object (O.node n)) out h =
+        let r = S.node-at (server-of m (N.server-of n)) n in
+        object-lies us (N.server-of n) (1 + n) out (in-range r) (fetched-node n r) (good-fetched-node n r)
+    hand-over-lies us (O.object (O.flag n)) out h = vector-lies us (N.server-of n) h
+    hand-over-lies us (O.vector s) out h = vector-lies us s h
+    hand-over-lies us (O.fetched s) out h = vector-lies us s h
+
+    fetch-lies : (us : List ℕ) (a : O.Ask) → Near a → Lies (S.fetch z m c us a .stores)
+    unfolding S.fetch
+    fetch-lies us a h =
+        let w = S.wanted (z .servers) c a in
+        let items = S.fetch-items z m c us (w .from) in
+        let found = U.deciding (map (S.fetch-finding z m c us (w .from)) items) in
+        let over = S.hand-over z m c us a (w .from) (Fetched (w .what) (w .which)) in
+        lies-if (U.all (check-fits z m (w .from)) items) (cond (eqb found 0) over (S.abort z m c found us))
+        (lies-one (eqb found 0) over (S.abort z m c found us) (hand-over-lies us a (Fetched (w .what) (w .which)) h) (abort-lies found us))
+
+    -- what is fetched is one of the store's
+    near : (a : O.Ask) → broken (tree-sizes z) u a ≡ false → Near a
+    unfolding broken
+    near (O.object O.meta) e = tt
+    near (O.object (O.node n)) e = tt
+    near (O.object (O.flag n)) e = go (in-store (tree-sizes z) n) refl e
+      where
+        go : (b : Bool) → in-store (tree-sizes z) n ≡ b → cond b (unusable (tree-sizes z) u (8193 + n) (source u (8193 + n))) true ≡ false → N.server-of n < 8
+        go true i q = omega (arith, named-in (tree-sizes z) n i .0, al .servers)
+        go false i q = absurd (true≢false q)
+    near (O.vector s) e = omega (arith, ltb-true s (z .servers) (not-false (ltb s (z .servers)) e), al .servers)
+    near (O.fetched s) e = omega (arith, ltb-true s (z .servers) (not-false (ltb s (z .servers)) e), al .servers)
+
+    work-lies : Lies (S.work z m c .stores)
+    unfolding S.work
+    work-lies = go (worked (tree-sizes z) u) refl
+      where
+        us : List ℕ
+        us = walked (tree-sizes z) u .used
+
+        go : (w : Worked) → worked (tree-sizes z) u ≡ w → Lies (S.after-walk z m c us w .stores)
+        go refused e = lies-none
+        go (fetches a) e = fetch-lies us a (near a (fetch-lacks (tree-sizes z) u a e .1))
+        go (aborted y) e = abort-lies y us
+        go (answers a w) e = lies-part (answered us w) (good-answered us w)
+
+    -- ---- COMMIT
+    commit-lies : Lies (S.commit z m c .stores)
+    unfolding S.commit
+    commit-lies = lies-one (eqb (participants-of u (z .servers)) 0) _ _ (lies-part (Life.reset 0) (good-reset 0)) (lies-part (committing (z .servers)) (good-committing (z .servers)))
+
+    -- ---- APPLY and PREPARE at a server
+    module _ (s : ℕ) (h : s < z .servers) where
+      applying-lies : Lies (S.applying z m c s)
+      unfolding andThen
+      applying-lies =
+          let p = server-of m s in
+          lies-server s h (andThen Srv.places (S.store-all u s) (S.unlock-each u c (lowest z m c) s) p)
+          (valid-append Srv.places (Srv.block (z .slots)) (S.store-all u s p) (S.unlock-each u c (lowest z m c) s (changed Srv.places p (S.store-all u s p)))
+          (writes-valid s p) (unlock-valid (lowest z m c) s (changed Srv.places p (S.store-all u s p))))
+
+      pub applied-lies : Lies (S.applied-at z m c s .stores)
+      unfolding S.applied-at
+      applied-lies =
+          lies-one (S.all-applied z m c s) _ _
+          (lies-append (S.applying z m c s) _ applying-lies (lies-part _ (good-then (noted applied s) finish (good-noted 7 s (omega arith)) good-finish)))
+          (lies-append (S.applying z m c s) _ applying-lies (lies-part (noted applied s) (good-noted 7 s (omega arith))))
+
+      preparing-lies : Lies (S.preparing z m c s)
+      preparing-lies =
+          lies-append (S.in-server z m c s (S.lock-each u c (lowest z m c) s)) _
+          (lies-server s h (S.lock-each u c (lowest z m c) s (server-of m s)) (lock-valid (lowest z m c) s (server-of m s))) (lies-part (noted prepared s) (good-noted 6 s (omega arith)))
+
+      deciding-lies : Lies (S.deciding-stores z m c s)
+      deciding-lies = lies-append (S.preparing z m c s) _ preparing-lies (lies-part decided good-decided)
+
+    -- ---- LOSS
+    lose-lies : Lies (S.lose z m c .stores)
+    unfolding S.lose
+    lose-lies =
+        lies-one (eqb (u phase) 0) _ _ (lies-part drop-all good-drop-all)
+        (lies-one (eqb (u phase) 3) _ _ (lies-part Life.lose good-lose)
+        (lies-if (abort-fits z m c) _
+        (lies-append (S.abort z m c 7 [] .stores) _ (abort-lies 7 []) (lies-client c l _ (good-drop-all .all (client-of (changed whole m (S.abort z m c 7 [] .stores)) c))))))
+
+-- ---- PREPARE: its own part is in range still where it also applies
+module _ (z : Sizes) (al : Allowed z) (m : Address → ℕ) (c : ℕ) (l : c < z .clients) (fit : client-fits (tree-sizes z) (client-of m c) ≡ true) (s : ℕ) (h : s < z .servers) where
+  abbrev m₂ : Address → ℕ
+  m₂ = changed whole m (S.deciding-stores z m c s)
+
+  fit₂ : client-fits (tree-sizes z) (client-of m₂ c) ≡ true
+  unfolding decided
+  fit₂ =
+      let u = client-of m c in
+      let v = changed client-words u (noted prepared s u) in
+      let m₁ = changed whole m (S.preparing z m c s) in
+      subst (λ (w : ClientWord → ℕ). client-fits (tree-sizes z) w ≡ true)
+      (sym (ap (λ (f : Address → ℕ). client-of f c) (changed-append whole (S.preparing z m c s) (over (client c) (decided u)) m)
+      ∙ client-changed m₁ c (decided u) ∙ ap (λ (w : ClientWord → ℕ). changed client-words w (decided u)) (both-client m s c _ _)))
+      (decision-fits (tree-sizes z) v (prepared-fits (tree-sizes z) u fit s h))
+
+  prepared-lies : Lies z (S.prepared-at z m c s .stores)
+  unfolding S.prepared-at
+  prepared-lies =
+      let ps = S.deciding-stores z m c s in
+      lies-one z al m c l fit (not (S.all-prepared z m c s)) _ _ (preparing-lies z al m c l fit s h)
+      (lies-one z al m c l fit (S.only z m c s) _ _
+      (lies-if z al m c l fit (versions-fit z m c) _ (lies-append z ps (S.applied-at z m₂ c s .stores) (deciding-lies z al m c l fit s h) (applied-lies z al m₂ c l fit₂ s h)))
+      (deciding-lies z al m c l fit s h))
+
+  prepare-lies : Lies z (S.prepare z m c s .stores)
+  unfolding S.prepare
+  prepare-lies =
+      let found = U.deciding (map (S.prepare-finding z m c s) (U.read-items (client-of m c))) in
+      lies-if z al m c l fit (prepare-fits z m c s) (cond (eqb found 0) (S.prepared-at z m c s) (S.abort z m c found []))
+      (lies-one z al m c l fit (eqb found 0) (S.prepared-at z m c s) (S.abort z m c found []) prepared-lies (abort-lies z al m c l fit found []))
+
+-- ---- THE STEP
+module _ (z : Sizes) (al : Allowed z) (k : Step.Step) (m : Address → ℕ) where
+  kind-lies : Passed z k m → client-fits (tree-sizes z) (client-of m (k .client)) ≡ true → Lies z (S.by-kind z m (k .client) k (kind-of (k .kind)) .stores)
+  unfolding kind-of S.begin S.give S.apply
+  kind-lies p fit = go (k .kind) refl (p .known-kind)
+    where
+      c : ℕ
+      c = k .client
+
+      l : k .client < z .clients
+      l = p .known-client
+
+      go : (x : ℕ) → k .kind ≡ x → x ≤ 7 → Lies z (S.by-kind z m (k .client) k (kind-of x) .stores)
+      go zero e r = lies-part z al m c l fit (Life.reset 1) (good-reset 1)
+      go (suc zero) e r = lies-part z al m c l fit (Life.give (k .op) (k .key) (k .value) (k .server)) (good-give (k .op) (k .key) (k .value) (k .server))
+      go (suc (suc zero)) e r = work-lies z al m c l fit
+      go (suc (suc (suc zero))) e r = commit-lies z al m c l fit
+      go (suc (suc (suc (suc zero)))) e r = prepare-lies z al m c l fit (k .server) (p .known-participant (omega (arith, e)) (omega (arith, e)))
+      go (suc (suc (suc (suc (suc zero))))) e r =
+          lies-if z al m c l fit (S.apply-fits z m c (k .server)) (S.applied-at z m c (k .server))
+          (applied-lies z al m c l fit (k .server) (p .known-participant (omega (arith, e)) (omega (arith, e))))
+      go (suc (suc (suc (suc (suc (suc zero)))))) e r = abort-lies z al m c l fit 6 []
+      go (suc (suc (suc (suc (suc (suc (suc zero))))))) e r = lose-lies z al m c l fit
+      go (suc (suc (suc (suc (suc (suc (suc (suc x)))))))) e r = absurd (omega arith)
+
+  pub step-lies : Lies z (S.step z k m .stores)
+  unfolding S.step
+  step-lies = go (eqb (refusal z k m) 0) refl (client-fits (tree-sizes z) (client-of m (k .client))) refl
+    where
+      go : (a : Bool) → eqb (refusal z k m) 0 ≡ a → (b : Bool) → client-fits (tree-sizes z) (client-of m (k .client)) ≡ b
+          → Lies z (cond a (S.if-fit b (S.by-kind z m (k .client) k (kind-of (k .kind)))) (S.refuse (refusal z k m)) .stores)
+      go true e true f = kind-lies (passed z k m (eqb-true (refusal z k m) 0 e)) f
+      go true e false f = lies-none z
+      go false e b f = lies-none z

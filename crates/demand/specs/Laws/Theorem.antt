@@ -1,0 +1,129 @@
+-- DEMAND 3, proved. Every list of steps leads to a good state: the answers of its decided transactions are the map's; and where all applies
+-- still due have been done, the tree is read from what the servers store.
+use mathlib.Core.Path.{_≡_, refl, ap, sym, _∙_, subst, fun-ext}
+use mathlib.Core.Bool.{Bool, true, false, false≢true}
+use mathlib.Core.List.{List, [], _∷_}
+use Prim.Native.Nat.{ℕ, zero, suc, _≤_, _<_, Fin}
+use native.Mathlib.Omega.{arith}
+use Rattle.base.specs.Test.{not-both}
+use Rattle.operations.specs.Object.{Obj, meta, node, flag, Val, root-of, taken, is-taken}
+use Rattle.operations.specs.Slot.{Allowed}
+use Rattle.operations.specs.Tree.{Holds}
+use Rattle.operations.specs.Laws.Sound.{new-store}
+use Rattle.operations.specs.Laws.Reading.{read-is}
+use Rattle.protocol.specs.State.{is-decided}
+use Rattle.protocol.specs.Laws.Claim.{Applied, claim, none-due}
+use Rattle.protocol.specs.Claim.{due-in}
+use Rattle.server.specs.declared.place.Place.the-variants.{Root}
+use Rattle.client.specs.Record.{in-store, value-of}
+use Rattle.steps.specs.declared.step.Step.{Step}
+use Rattle.steps.specs.Whole.{Address, server}
+use Rattle.steps.specs.Laws.Stores.{server-of}
+use Rattle.steps.specs.Steps.{node-at}
+use Rattle.steps.specs.Run.{opened}
+use Rattle.demand.specs.Ledger.{Ledger, blank, map-all}
+use Rattle.demand.specs.Laws.Store.{sizes, home, keeps-home, meaning}
+use Rattle.demand.specs.Laws.Members.{server-is, name-server}
+use Rattle.demand.specs.Laws.Numbers.{zeroth-there}
+use Rattle.demand.specs.Laws.Shows.{T}
+use Rattle.demand.specs.Laws.Answers.{answers-right, tree-holds}
+use Rattle.demand.specs.Laws.Opened.{opened-related}
+use Rattle.demand.specs.Laws.Turns.{decided-word, store, Good, Explained}
+use Rattle.demand.specs.Laws.Settled.{all-settled, settled-applied}
+use Rattle.demand.specs.Laws.ByKind.{step-after}
+use Rattle.nodes.specs.Name as N
+use Rattle.protocol.specs.Machine as P
+use Rattle.steps.specs.Whole as W
+use Rattle.demand.specs.Demand as D
+
+module _ (k j slots : ℕ) (al : Allowed (sizes k j slots)) (few : suc j ≤ 16) where
+  -- ---- where no apply is due, the tree
+  module _ (some-slot : 1 ≤ slots) (m : Address → ℕ) (L : Ledger) (M : P.Machine (T k j slots)) (G : Good k j slots m L M) (done : Applied (T k j slots) (meaning k j slots al) M) where
+    -- what the servers store, each object at its home
+    abbrev Stored : Obj → Val
+    Stored o = M .value (home k j slots o) o
+
+    stored-is : (λ o. due-in (T k j slots) M (home k j slots o) o) ≡ Stored
+    stored-is = fun-ext (λ o. none-due (T k j slots) (meaning k j slots al) (G .shown .reached) done (home k j slots o) o (keeps-home k j slots o))
+
+    holds : Holds Stored (map-all (L .decided))
+    holds = subst (λ S. Holds S (map-all (L .decided))) stored-is (tree-holds k j slots al m L M (G .shown))
+
+    -- "the root that all servers' metadata then name"
+    abbrev pub the-root : ℕ
+    the-root = root-of (Stored meta)
+
+    pub root-named : (s : ℕ) → s < suc k → m (server s Root) ≡ the-root
+    root-named s l =
+        let t : Fin (suc k) = (s, l) in
+        let Z = meaning k j slots al in
+        ap root-of (sym (G .shown .servers t .value-as meta refl refl) ∙ sym (none-due (T k j slots) Z (G .shown .reached) done t meta refl)
+        ∙ claim (T k j slots) Z (G .shown .reached) .agree t meta refl ∙ none-due (T k j slots) Z (G .shown .reached) done (home k j slots meta) meta refl)
+
+    -- a taken slot is one of the store's, and its node is read at its home
+    node-read : (x : ℕ) → Stored (flag x) ≡ taken true → D.node-in m x ≡ Stored (node x)
+    unfolding D.node-in
+    node-read x e = go (in-store (sizes k j slots) x) refl
+      where
+        go : (b : Bool) → in-store (sizes k j slots) x ≡ b → D.node-in m x ≡ Stored (node x)
+        go true i =
+            sym (G .shown .servers (home k j slots (node x)) .value-as (node x) i (keeps-home k j slots (node x))
+            ∙ ap (λ (q : ℕ). value-of (node x) (node-at (server-of m q) x)) (server-is k j slots (N.server-of x) (name-server k j slots x i)))
+        go false i = absurd (first-flag x i (sym (G .outside (home k j slots (flag x)) (flag x) i) ∙ e))
+          where
+            first-flag : (x : ℕ) → in-store (sizes k j slots) x ≡ false → ¬ (new-store (flag x) ≡ taken true)
+            first-flag zero i e = not-both (zeroth-there (sizes k j slots) (omega arith) some-slot) i
+            first-flag (suc x) i e = false≢true (ap is-taken e)
+
+    pub pairs-read : D.pairs-under m the-root ≡ map-all (L .decided)
+    pairs-read = read-is Stored (map-all (L .decided)) holds (D.node-in m) node-read
+
+  -- ---- a list of steps
+  course-good : (ks : List Step) → D.All-words ks → (x : D.Course) → Explained k j slots (x .memory) (x .ledger)
+      → Explained k j slots (D.course (store k j slots) x ks .memory) (D.course (store k j slots) x ks .ledger)
+  unfolding D.course D.All-words
+  course-good [] w x e = e
+  course-good (n ∷ ks) w x e =
+      course-good ks (w .1) (D.next (store k j slots) x n) (step-after k j slots al few (x .memory) (x .ledger) (e .machine) (e .good) n (w .0 .key))
+
+  -- from a newly opened store
+  first-good : Good k j slots (opened (store k j slots)) blank (P.first-machine (T k j slots))
+  first-good = record {
+    shown = opened-related k j slots;
+    decided-fits = λ c l. absurd (not-both (sym (ap is-decided (opened-related k j slots .clients c .slot .phase-as)) ∙ decided-word _ l) refl);
+    outside = λ s o h. refl;
+  }
+
+  pub opened-explained : Explained k j slots (opened (store k j slots)) blank
+  opened-explained = record { machine = P.first-machine (T k j slots); good = first-good }
+
+  run-good : (ks : List Step) → D.All-words ks → Explained k j slots (D.course-of (store k j slots) ks .memory) (D.course-of (store k j slots) ks .ledger)
+  run-good ks w = course-good ks w (record { memory = opened (store k j slots); ledger = blank }) opened-explained
+
+  -- THE DEMAND
+  pub demanded : 1 ≤ slots → (ks : List Step) → D.All-words ks → D.Demand (store k j slots) ks
+  demanded some-slot ks w =
+      let x = D.course-of (store k j slots) ks in
+      let e = run-good ks w in
+      let f = all-settled k j slots al few (x .ledger) (x .memory) e in
+      let n = f .explained in
+      let done = settled-applied k j slots al few (x .ledger) (D.settled (store k j slots) (x .memory)) (n .machine) (n .good) (λ c t l. f .done c (c .1) t l) in
+      record {
+        answers = answers-right k j slots al (x .memory) (x .ledger) (e .machine) (e .good .shown);
+        root = the-root some-slot (D.settled (store k j slots) (x .memory)) (x .ledger) (n .machine) (n .good) done;
+        named = root-named some-slot (D.settled (store k j slots) (x .memory)) (x .ledger) (n .machine) (n .good) done;
+        pairs = pairs-read some-slot (D.settled (store k j slots) (x .memory)) (x .ledger) (n .machine) (n .good) done;
+      }
+
+-- whatever the sizes
+with-sizes : (servers slots clients : ℕ) → W.Allowed (record { servers = servers; slots = slots; clients = clients })
+    → (ks : List Step) → D.All-words ks → D.Demand (record { servers = servers; slots = slots; clients = clients }) ks
+with-sizes zero slots clients a ks w = absurd (omega (arith, a .servers .0))
+with-sizes (suc k) slots zero a ks w = absurd (omega (arith, a .clients .0))
+with-sizes (suc k) slots (suc j) a ks w =
+    let al : Allowed (sizes k j slots) = (a .servers .1, a .slots .1) in
+    demanded k j slots al (a .clients .1) (a .slots .0) ks w
+
+-- THE THEOREM
+pub demand-3 : D.Demand-3
+demand-3 z a ks w = with-sizes (z .servers) (z .slots) (z .clients) a ks w

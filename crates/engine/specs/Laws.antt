@@ -1,0 +1,9 @@
+-- Laws and proofs, in reading order.
+
+-- a new store
+pub mod Open
+-- the work step: copies in use are of objects of the store; how it ends
+pub mod Used
+pub mod Work
+-- one step on any memory lent
+pub mod Step

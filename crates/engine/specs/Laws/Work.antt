@@ -1,0 +1,398 @@
+-- Laws of the work step's code: how the walk stopped is what the rule comes to.
+use mathlib.Core.Path.{_≡_, refl, sym, ap, _∙_, subst}
+use mathlib.Core.Bool.{Bool, true, false, cond, _&&_, not}
+use mathlib.Core.List.{List, []}
+use Prim.Native.Nat.{ℕ, _+_, _-_, _*_, _/_, _%_, _^_, _≤_, _<_}
+use native.Mathlib.Nat.{mod-lt}
+use native.Mathlib.Omega.{arith}
+use native.Mathlib.Decide.{decLt}
+use borrow.Author.Tests.{not-true, not-false, lt-ltb, le-ltb, ltb-true, leb-true}
+use borrow.Rule.Slice.PartMut.{midOf}
+use lib.Dec.{ltb}
+use lib.ListN.{length, getD, replicate}
+use Rattle.base.specs.Test.{and-both}
+use Rattle.memory.specs.Word.{view}
+use Rattle.layout.specs.Step.{Does, silent}
+use Rattle.layout.specs.Part.{inPart}
+use Rattle.nodes.specs.Name.{server-of, slot-of}
+use Rattle.operations.specs.Operation.{all-fit?}
+use Rattle.server.specs.Object.{object-of, Has}
+use Rattle.client.specs.declared.part.Set.the-variants.{Reads, Writes}
+use Rattle.client.specs.Layout.{ClientWord, op-number, reads-count, writes-count}
+use Rattle.client.specs.Record.{in-store, object-in-store}
+use Rattle.client.specs.Sets.{count}
+use Rattle.client.specs.Commit.{all-of}
+use Rattle.client.specs.Fits.{field-fits, op-fits, item-fits, vector-fits, client-fits}
+use Rattle.client.specs.Part.{Did, nothing, put-field}
+use Rattle.client.specs.Laws.Steps.{did-three, did-nothing}
+use Rattle.client.specs.Laws.GoodSteps.{good-entries}
+use Rattle.client.specs.Have.{broken}
+use Rattle.client.specs.Run.{End, lacks, aborts, gives}
+use Rattle.client.specs.Lent.{Entry, used-in, OwnFits, own-list}
+use Rattle.client.specs.Enter.{enter-entries}
+use Rattle.client.specs.Answered.{used-enter, enter-writes, entered, answered}
+use Rattle.client.specs.Work.{Worked, refused, fetches, aborted, answers, count-new, any-at-last, last-questions, judge, walked, worked}
+use Rattle.walk.specs.declared.walk.Stop.{Stop}
+use Rattle.walk.specs.declared.walk.Stop.the-variants.{Going, LacksMeta, LacksNode, LacksVector, Refused, Aborts, Answers}
+use Rattle.walk.specs.Walk.{is-answer, lack}
+use Rattle.walk.specs.Stopped.{Waiting, stop-of, Stopped}
+use Rattle.walk.specs.Look.{only-reads, Looks}
+use Rattle.change.specs.Work.{Ready, Works}
+use Rattle.steps.specs.declared.sizes.Sizes.{Sizes}
+use Rattle.steps.specs.declared.outcome.Outcome.{Outcome}
+use Rattle.steps.specs.Whole.{Allowed, Address, client, whole, block, tree-sizes, client-at}
+use Rattle.steps.specs.Uses.{item-of}
+use Rattle.steps.specs.Steps.{did, abort, fetch, after-walk, work}
+use Rattle.steps.specs.Laws.There.{in-store-has}
+use Rattle.kinds.specs.Parts.{Holds, stored-in}
+use Rattle.kinds.specs.Laws.Parts.{client-lent}
+use Rattle.kinds.specs.Items.{read-item}
+use Rattle.kinds.specs.Judge.{of-client}
+use Rattle.kinds.specs.Fits.{Known}
+use Rattle.kinds.specs.Laws.Known.{all-at}
+use Rattle.kinds.specs.Kinds.{Meets}
+use Rattle.kinds.specs.Laws.Kinds.{meets-did, meets-as, meets-refused}
+use Rattle.kinds.specs.Fetch.{used-item, known-at, AllKnown, Checking}
+use Rattle.kinds.specs.Laws.Hand.{good-used-enter}
+use Rattle.kinds.specs.Lack.{There}
+use Rattle.engine.specs.Laws.Used.{stored-at, used-stored}
+use Rattle.engine.specs.Work.{entering, answer-of}
+use Rattle.operations.specs.Object as O
+use Rattle.client.specs.Sets as sets
+use Rattle.steps.specs.declared.outcome.Outcome.the-variants as outcome
+
+pub answer-entered : (us : List ℕ) (l : List Entry) (s t v x : List ℕ) → 7223 ≤ length s / 8 → Did (used-enter us) s t → Did (enter-entries l) t v → Did (put-field 1 0) v x
+    → Did (entering us l) s x
+unfolding entering
+answer-entered us l s t v x h p q r = did-three (used-enter us) (enter-entries l) (put-field 1 0) s t v x h (good-used-enter us) (good-entries l) p q r
+
+-- nothing was written
+pub seen-entered : (us s t x : List ℕ) → 7223 ≤ length s / 8 → Did (used-enter us) s t → Did (put-field 1 0) t x → Did (entering us []) s x
+unfolding enter-entries nothing
+seen-entered us s t x h p r = answer-entered us [] s t t x h p (did-nothing (enter-entries []) t refl) r
+
+entering-is : (us : List ℕ) (l : List Entry) (w : O.Writes) → l ≡ entered w → entering us l ≡ answered us w
+unfolding entering answered enter-writes put-field
+entering-is us l w e = rw e
+
+-- ---- the walk of the part that is lent on
+pub works-lent : (z : Sizes) (b : List ℕ) (c k : ℕ) (s : Stop) (x u : List ℕ) → Holds z (length b) → c < z .clients → k ≡ client-at z c
+    → Works (tree-sizes z) (sets.held (midOf (8 * k) (length b - 8 * k) b)) s x u → Works (tree-sizes z) (of-client z (view b) c) s x u
+unfolding sets.held
+works-lent z b c k s x u l h e d = subst (λ (m : ClientWord → ℕ). Works (tree-sizes z) m s x u) (client-lent z c k b h e (l .room)) d
+
+pub waiting-lent : (z : Sizes) (b : List ℕ) (c k : ℕ) → Holds z (length b) → c < z .clients → k ≡ client-at z c → Waiting (of-client z (view b) c)
+    → Waiting (sets.held (midOf (8 * k) (length b - 8 * k) b))
+unfolding sets.held
+waiting-lent z b c k l h e d = subst Waiting (sym (client-lent z c k b h e (l .room))) d
+
+pub looks-lent : (z : Sizes) (b : List ℕ) (c k : ℕ) (s : Stop) (u : List ℕ) → Holds z (length b) → c < z .clients → k ≡ client-at z c
+    → Looks (tree-sizes z) (sets.held (midOf (8 * k) (length b - 8 * k) b)) s u → Looks (tree-sizes z) (of-client z (view b) c) s u
+unfolding sets.held
+looks-lent z b c k s u l h e d = subst (λ (m : ClientWord → ℕ). Looks (tree-sizes z) m s u) (client-lent z c k b h e (l .room)) d
+
+-- which of the two it is
+module _ (z : Sizes) (b : List ℕ) (c k : ℕ) (l : Holds z (length b)) (h : c < z .clients) (e : k ≡ client-at z c) (r : Bool) where
+  pub reads-lent : r ≡ only-reads (sets.held (midOf (8 * k) (length b - 8 * k) b) op-number) → r ≡ only-reads (of-client z (view b) c op-number)
+  unfolding sets.held
+  reads-lent d = subst (λ (m : ClientWord → ℕ). r ≡ only-reads (m op-number)) (client-lent z c k b h e (l .room)) d
+
+  pub reads-so : only-reads (of-client z (view b) c op-number) ≡ r → only-reads (sets.held (midOf (8 * k) (length b - 8 * k) b) op-number) ≡ r
+  unfolding sets.held
+  reads-so d = subst (λ (m : ClientWord → ℕ). only-reads (m op-number) ≡ r) (sym (client-lent z c k b h e (l .room))) d
+
+-- the code's test
+pub tested : (r c d : Bool) → r ≡ c → r ≡ d → c ≡ d
+tested r c d p q = sym p ∙ q
+
+pub ruleset walk-lent = (works-lent, looks-lent, waiting-lent, reads-lent, reads-so)
+
+pub ready : Ready (replicate 681 0) (replicate 98 0)
+ready = record { own-long = omega arith; own-none = refl; used-long = omega arith; used-none = refl }
+
+-- ---- how the rule ends, by how the walk stopped
+pub record Vector (s : ℕ) (W : Worked) : Type 0 where
+  pub asks : O.Ask
+  pub is : W ≡ fetches asks
+  pub lacked : lack asks ≡ LacksVector s
+
+pub record Answering (a b : ℕ) (W : Worked) : Type 0 where
+  pub writes : O.Writes
+  pub is : W ≡ answers (a, b) writes
+
+abbrev Ended : Stop → Worked → Type 0
+Ended Going W = ⊥
+Ended LacksMeta W = W ≡ fetches (O.object O.meta)
+Ended (LacksNode n) W = W ≡ fetches (O.object (O.node n))
+Ended (LacksVector s) W = Vector s W
+Ended Refused W = W ≡ refused
+Ended (Aborts y) W = W ≡ aborted y
+Ended (Answers a b) W = Answering a b W
+
+pub answer-is : (s : Stop) (a b : ℕ) → s ≡ Answers a b → outcome.Answered a b ≡ answer-of s
+answer-is s a b e = rw e
+
+module _ (s : Stop) (b : Bool) (e : b ≡ is-answer s) where
+  pub no-answer : not b ≡ true → is-answer s ≡ false
+  no-answer n = sym e ∙ not-true b n
+
+  pub some-answer : not b ≡ false → is-answer s ≡ true
+  some-answer n = sym e ∙ not-false b n
+
+pub record Pair (s : Stop) : Type 0 where
+  pub a : ℕ
+  pub b : ℕ
+  pub is : s ≡ Answers a b
+
+pair-of : (s : Stop) → is-answer s ≡ true → Pair s
+pair-of Going e = let q : _≡_ {A = ℕ} 0 1 = cc in absurd (omega arith)
+pair-of LacksMeta e = let q : _≡_ {A = ℕ} 0 1 = cc in absurd (omega arith)
+pair-of (LacksNode n) e = let q : _≡_ {A = ℕ} 0 1 = cc in absurd (omega arith)
+pair-of (LacksVector x) e = let q : _≡_ {A = ℕ} 0 1 = cc in absurd (omega arith)
+pair-of Refused e = let q : _≡_ {A = ℕ} 0 1 = cc in absurd (omega arith)
+pair-of (Aborts y) e = let q : _≡_ {A = ℕ} 0 1 = cc in absurd (omega arith)
+pair-of (Answers a b) e = record { a = a; b = b; is = refl }
+
+ends : (W : Worked) → Ended (stop-of W) W
+ends refused = refl
+ends (fetches (O.object O.meta)) = refl
+ends (fetches (O.object (O.node n))) = refl
+ends (fetches (O.object (O.flag n))) = record { asks = O.object (O.flag n); is = refl; lacked = refl }
+ends (fetches (O.vector s)) = record { asks = O.vector s; is = refl; lacked = refl }
+ends (fetches (O.fetched s)) = record { asks = O.fetched s; is = refl; lacked = refl }
+ends (aborted y) = refl
+ends (answers a w) = record { writes = w; is = refl }
+
+-- a flag is fetched with its vector
+lack-server : Stop → ℕ
+lack-server (LacksVector x) = x
+lack-server Going = 0
+lack-server LacksMeta = 0
+lack-server (LacksNode n) = 0
+lack-server Refused = 0
+lack-server (Aborts y) = 0
+lack-server (Answers a b) = 0
+
+vector-same : (z : Sizes) (m : Address → ℕ) (c : ℕ) (us : List ℕ) (s : ℕ) (a : O.Ask) → lack a ≡ LacksVector s → fetch z m c us a ≡ fetch z m c us (O.vector s)
+unfolding fetch lack-server
+vector-same z m c us s (O.object O.meta) e = let y : _≡_ {A = ℕ} 0 1 = cc in absurd (omega arith)
+vector-same z m c us s (O.object (O.node n)) e = let y : _≡_ {A = ℕ} 0 1 = cc in absurd (omega arith)
+vector-same z m c us s (O.object (O.flag n)) e = let q : server-of n ≡ s = ap lack-server e in rw (← q)
+vector-same z m c us s (O.vector x) e = let q : x ≡ s = ap lack-server e in rw (← q)
+vector-same z m c us s (O.fetched x) e = let q : x ≡ s = ap lack-server e in rw (← q)
+
+-- ---- what is fetched is in the store
+never : {A : Type 0} (x y : ℕ) → x ≡ 0 → y ≡ 1 → x ≡ y → A
+never x y p q e = absurd (omega arith)
+
+abbrev tag : Worked → ℕ
+tag refused = 0
+tag (fetches a) = 1
+tag (aborted y) = 0
+tag (answers a w) = 0
+
+asked-of : Worked → O.Ask → O.Ask
+asked-of refused d = d
+asked-of (fetches a) d = a
+asked-of (aborted y) d = d
+asked-of (answers a w) d = d
+
+module _ (z : Sizes) (m : ClientWord → ℕ) where
+  -- the last questions never fetch
+  last-tag : (a : O.Ans) (w : O.Writes) → tag (last-questions (tree-sizes z) m a w) ≡ 0
+  last-tag a w = go (all-fit? w w) (ltb 48 (m writes-count + count-new m (entered w))) (any-at-last m (entered w))
+    where
+      go : (b c d : Bool) → tag (cond (not b) (aborted 3) (cond c (aborted 4) (cond d (aborted 8) (answers a w)))) ≡ 0
+      go false c d = refl
+      go true true d = refl
+      go true false true = refl
+      go true false false = refl
+
+  sound-end : (e : End) (a : O.Ask) → judge (tree-sizes z) m e ≡ fetches a → broken (tree-sizes z) m a ≡ false
+  unfolding asked-of
+  sound-end (lacks x) a p = go (broken (tree-sizes z) m x) refl
+    where
+      go : (b : Bool) → broken (tree-sizes z) m x ≡ b → broken (tree-sizes z) m a ≡ false
+      go true q = let r : refused ≡ fetches a = rw q at p in never 0 1 refl refl (ap tag r)
+      go false q = let r : fetches x ≡ fetches a = rw q at p in let y : x ≡ a = ap (λ (W : Worked). asked-of W x) r in rw (← y) q
+  sound-end (aborts y) a p = never 0 1 refl refl (ap tag p)
+  sound-end (gives x w) a p = never (tag (last-questions (tree-sizes z) m x w)) 1 (last-tag x w) refl (ap tag p)
+
+  sound-worked : (a : O.Ask) → worked (tree-sizes z) m ≡ fetches a → broken (tree-sizes z) m a ≡ false
+  unfolding worked
+  sound-worked a p = sound-end (walked (tree-sizes z) m .how) a p
+
+  object-there : (o : O.Obj) → broken (tree-sizes z) m (O.object o) ≡ false → object-in-store (tree-sizes z) o ≡ true
+  unfolding broken
+  object-there o p = go (object-in-store (tree-sizes z) o) refl
+    where
+      go : (b : Bool) → object-in-store (tree-sizes z) o ≡ b → object-in-store (tree-sizes z) o ≡ true
+      go true q = q
+      go false q = let r : true ≡ false = rw (broken, q) at p in let c : _≡_ {A = ℕ} 0 1 = cc in absurd (omega arith)
+
+  server-there : (s : ℕ) → not (ltb s (z .servers)) ≡ false → s < z .servers
+  server-there s p = go (ltb s (z .servers)) refl
+    where
+      go : (b : Bool) → ltb s (z .servers) ≡ b → s < z .servers
+      go true q = ltb-true s (z .servers) q
+      go false q = let r : true ≡ false = rw q at p in let c : _≡_ {A = ℕ} 0 1 = cc in absurd (omega arith)
+
+  home-there : (n : ℕ) → in-store (tree-sizes z) n ≡ true → (server-of n < z .servers) × (slot-of n < z .slots)
+  unfolding in-store
+  home-there n h =
+      let p = and-both (ltb (server-of n) (z .servers)) (ltb (slot-of n) (z .slots)) h in
+      (ltb-true (server-of n) (z .servers) (p .0), ltb-true (slot-of n) (z .slots) (p .1))
+
+  pub named-there : (n : ℕ) → z .servers ≤ 8 → worked (tree-sizes z) m ≡ fetches (O.object (O.node n)) → There z n × (server-of n < z .servers)
+  named-there n eight p =
+      let t = object-there (O.node n) (sound-worked (O.object (O.node n)) p) in
+      let h = home-there n t in
+      (record { named = t; slot = h .1; small = let a : n / 1024 < z .servers = h .0 in omega arith }, h .0)
+
+  pub vector-server : (s : ℕ) → Vector s (worked (tree-sizes z) m) → s < z .servers
+  unfolding broken lack-server
+  vector-server s v = go (v .asks) (v .lacked) (sound-worked (v .asks) (v .is))
+    where
+      go : (a : O.Ask) → lack a ≡ LacksVector s → broken (tree-sizes z) m a ≡ false → s < z .servers
+      go (O.object O.meta) e p = let c : _≡_ {A = ℕ} 0 1 = cc in absurd (omega arith)
+      go (O.object (O.node n)) e p = let c : _≡_ {A = ℕ} 0 1 = cc in absurd (omega arith)
+      go (O.object (O.flag n)) e p = let q : server-of n ≡ s = ap lack-server e in rw (← q) (home-there n (object-there (O.flag n) p) .0)
+      go (O.vector x) e p = let q : x ≡ s = ap lack-server e in rw (← q) (server-there x p)
+      go (O.fetched x) e p = let q : x ≡ s = ap lack-server e in rw (← q) (server-there x p)
+
+-- ---- what was read, with the copies in use, is of the store
+pub all-known : (z : Sizes) (w : List ℕ) (c : ℕ) → Allowed z → Known z w c → AllKnown z w c (walked (tree-sizes z) (of-client z w c) .used)
+unfolding known-at read-item used-item item-of
+all-known z w c al k = record { known = λ i l. go i l (decLt i (count (of-client z w c) Reads)) }
+  where
+    us : List ℕ
+    us = walked (tree-sizes z) (of-client z w c) .used
+
+    go : (i : ℕ) → i < count (of-client z w c) Reads + length us → Dec (i < count (of-client z w c) Reads) → Has (z .slots) (object-of (known-at (of-client z w c) us i .number))
+    go i l (yes h) = rw (known-at, lt-ltb i (count (of-client z w c) Reads) h) (k .known i h)
+    go i l (no h) =
+        let g : count (of-client z w c) Reads ≤ i = omega arith in
+        rw (known-at, le-ltb i (count (of-client z w c) Reads) g)
+        (in-store-has z (getD us (i - count (of-client z w c) Reads) 0) al
+        (stored-at (tree-sizes z) us (i - count (of-client z w c) Reads) (used-stored (tree-sizes z) (al .servers .1) (of-client z w c)) (omega arith)))
+
+module _ (z : Sizes) (b : List ℕ) (c : ℕ) (hold : Holds z (length b)) (h : c < z .clients) (known : Known z (view b) c) (wait : Waiting (of-client z (view b) c)) (s : Stop) (u : List ℕ) (k : Stopped (tree-sizes z) (of-client z (view b) c) s u) where
+  abbrev W : Worked
+  W = worked (tree-sizes z) (of-client z (view b) c)
+
+  end : Ended s W
+  end = subst (λ (t : Stop). Ended t W) (sym (k .stop)) (ends W)
+
+  checking : (t : ℕ) → t < z .servers → Checking z b c t u
+  checking t l = record {
+    holds = hold;
+    client = h;
+    server = l;
+    in-use = k .in-use;
+    reads = wait .reads;
+    known = rw (k .used) (all-known z (view b) c (hold .allowed) known);
+  }
+
+  pub meta-checking : Checking z b c (c % z .servers) u
+  meta-checking = checking (c % z .servers) (mod-lt c (omega (arith, hold .allowed .servers)))
+
+  pub node-checking : (n : ℕ) → s ≡ LacksNode n → Checking z b c (server-of n) u
+  node-checking n e = checking (server-of n) (named-there z (of-client z (view b) c) n (hold .allowed .servers .1) (subst (λ (t : Stop). Ended t W) e end) .1)
+
+  pub node-there : (n : ℕ) → s ≡ LacksNode n → There z n
+  node-there n e = named-there z (of-client z (view b) c) n (hold .allowed .servers .1) (subst (λ (t : Stop). Ended t W) e end) .0
+
+  pub vector-checking : (t : ℕ) → s ≡ LacksVector t → Checking z b c t u
+  vector-checking t e = checking t (vector-server z (of-client z (view b) c) t (subst (λ (t : Stop). Ended t W) e end))
+
+  -- ---- what the step comes to
+  work-is : work z (stored-in z (view b)) c ≡ after-walk z (stored-in z (view b)) c (used-in u) W
+  unfolding work
+  work-is = rw (k .used)
+
+  abbrev Comes : Outcome → List ℕ → Type 0
+  Comes o w′ = Meets z (λ m. work z m c) (view b) o w′
+
+  pub work-refused : s ≡ Refused → Comes (outcome.Refused 10) (view b)
+  work-refused e =
+      let q : W ≡ refused = subst (λ (t : Stop). Ended t W) e end in
+      meets-refused z (view b) 10 (λ m. work z m c) (sym (work-is ∙ rw q))
+
+  pub work-never : s ≡ Going → Comes (outcome.Refused 10) (view b)
+  work-never e = absurd (subst (λ (t : Stop). Ended t W) e end)
+
+  module _ (o : Outcome) (w′ : List ℕ) where
+    pub work-aborts : (y : ℕ) → s ≡ Aborts y → Meets z (λ m. abort z m c y (used-in u)) (view b) o w′ → Comes o w′
+    work-aborts y e d =
+        let q : W ≡ aborted y = subst (λ (t : Stop). Ended t W) e end in
+        meets-as z (view b) o w′ (λ m. abort z m c y (used-in u)) (λ m. work z m c) (sym (work-is ∙ rw q)) d
+
+    pub work-meta : s ≡ LacksMeta → Meets z (λ m. fetch z m c (used-in u) (O.object O.meta)) (view b) o w′ → Comes o w′
+    work-meta e d =
+        let q : W ≡ fetches (O.object O.meta) = subst (λ (t : Stop). Ended t W) e end in
+        meets-as z (view b) o w′ (λ m. fetch z m c (used-in u) (O.object O.meta)) (λ m. work z m c) (sym (work-is ∙ rw q)) d
+
+    pub work-node : (n : ℕ) → s ≡ LacksNode n → Meets z (λ m. fetch z m c (used-in u) (O.object (O.node n))) (view b) o w′ → Comes o w′
+    work-node n e d =
+        let q : W ≡ fetches (O.object (O.node n)) = subst (λ (t : Stop). Ended t W) e end in
+        meets-as z (view b) o w′ (λ m. fetch z m c (used-in u) (O.object (O.node n))) (λ m. work z m c) (sym (work-is ∙ rw q)) d
+
+    pub work-vector : (t : ℕ) → s ≡ LacksVector t → Meets z (λ m. fetch z m c (used-in u) (O.vector t)) (view b) o w′ → Comes o w′
+    work-vector t e d =
+        let v : Vector t W = subst (λ (y : Stop). Ended y W) e end in
+        let q : W ≡ fetches (v .asks) = v .is in
+        meets-as z (view b) o w′ (λ m. fetch z m c (used-in u) (O.vector t)) (λ m. work z m c)
+        (sym (work-is ∙ rw q (vector-same z (stored-in z (view b)) c (used-in u) t (v .asks) (v .lacked)))) d
+
+  pub work-unanswered : (a d : ℕ) → s ≡ Answers a d → is-answer s ≡ false → Comes (outcome.Refused 10) (view b)
+  work-unanswered a d e n = let q : true ≡ false = sym (ap is-answer e) ∙ n in let y : _≡_ {A = ℕ} 0 1 = cc in absurd (omega arith)
+
+  -- with an answer; l are the entries of the write set that the code stores
+  module _ (yes-answer : is-answer s ≡ true) where
+    pair : Pair s
+    pair = pair-of s yes-answer
+
+    answering : Answering (pair .a) (pair .b) W
+    answering = subst (λ (y : Stop). Ended y W) (pair .is) end
+
+    work-answers : (l : List Entry) (w′ : List ℕ) → ((a : O.Ans) (w : O.Writes) → W ≡ answers a w → l ≡ entered w)
+        → Does whole (block z) (inPart (client c) (entering (used-in u) l)) silent (view b) 0 w′ → Comes (answer-of s) w′
+    unfolding inPart
+    work-answers l w′ f p =
+        let q : W ≡ answers (pair .a, pair .b) (answering .writes) = answering .is in
+        let r : entering (used-in u) l ≡ answered (used-in u) (answering .writes) = entering-is (used-in u) l (answering .writes) (f (pair .a, pair .b) (answering .writes) q) in
+        let o : Outcome = outcome.Answered (pair .a) (pair .b) in
+        subst (λ (y : Stop). Comes (answer-of y) w′) (sym (pair .is))
+        (meets-as z (view b) o w′ (λ m. did o (inPart (client c) (entering (used-in u) l) m)) (λ m. work z m c)
+        (sym (work-is ∙ rw (q, ← r))) (meets-did z (view b) o w′ (inPart (client c) (entering (used-in u) l)) p))
+
+module _ (z : Sizes) (b : List ℕ) (c : ℕ) (hold : Holds z (length b)) (h : c < z .clients) (known : Known z (view b) c) (wait : Waiting (of-client z (view b) c)) (s : Stop) where
+  -- an operation that only reads
+  module _ (u : List ℕ) (k : Looks (tree-sizes z) (of-client z (view b) c) s u) where
+    pub look-answers : (o : Outcome) (w′ : List ℕ) → is-answer s ≡ true → o ≡ answer-of s → Does whole (block z) (inPart (client c) (entering (used-in u) [])) silent (view b) 0 w′
+        → Meets z (λ m. work z m c) (view b) o w′
+    unfolding entered
+    look-answers o w′ n e p = rw e (work-answers z b c hold h known wait s u (k .stopped) n [] w′ (λ a w q. rw (k .none a w q)) p)
+
+  -- one that writes
+  module _ (x u : List ℕ) (k : Works (tree-sizes z) (of-client z (view b) c) s x u) where
+    pub change-fits : is-answer s ≡ true → OwnFits x
+    change-fits n = let v = answering z b c hold h known wait s u (k .stopped) n in k .fits _ (v .writes) (v .is)
+
+    pub change-answers : (o : Outcome) (w′ : List ℕ) → is-answer s ≡ true → o ≡ answer-of s
+        → Does whole (block z) (inPart (client c) (entering (used-in u) (own-list x))) silent (view b) 0 w′ → Meets z (λ m. work z m c) (view b) o w′
+    change-answers o w′ n e p = rw e (work-answers z b c hold h known wait s u (k .stopped) n (own-list x) w′ (k .own) p)
+
+-- ---- what refusals 9 and 10 have judged
+pub fits-waiting : (z : Sizes) (m : ClientWord → ℕ) → client-fits (tree-sizes z) m ≡ true → (m op-number ≡ 0 → ⊥) → Waiting m
+unfolding client-fits field-fits
+fits-waiting z m h n =
+    let every : ℕ = 2 ^ z .servers - 1 in
+    let a = and-both (all-of (field-fits m every) 13)
+    (op-fits (tree-sizes z) m && (all-of (item-fits (tree-sizes z) m Reads) (count m Reads) && (all-of (item-fits (tree-sizes z) m Writes) (count m Writes) && all-of (vector-fits m) 8))) h in
+    record {
+      some = n;
+      known = leb-true (m op-number) 6 (all-at (field-fits m every) 13 1 (a .0) (omega arith));
+      reads = leb-true (m reads-count) 96 (all-at (field-fits m every) 13 10 (a .0) (omega arith));
+      writes = leb-true (m writes-count) 48 (all-at (field-fits m every) 13 11 (a .0) (omega arith));
+    }

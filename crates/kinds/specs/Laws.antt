@@ -1,0 +1,30 @@
+-- Laws and proofs, in reading order.
+
+-- the whole memory and its parts lent on; refusals 1 to 9
+pub mod Parts
+pub mod Refusal
+-- the objects read; refusal 10 at servers, of one item and of all, and for the client's own state
+pub mod Items
+pub mod Judge
+pub mod Fits
+pub mod Known
+-- what a check finds
+pub mod Findings
+-- what a kind of step comes to; one store after another
+pub mod Kinds
+-- the locks at a server; those of an abort; a loss
+pub mod Locks
+pub mod Abort
+pub mod Loss
+-- the course of a commit at its client; the commit step
+pub mod Course
+pub mod Commit
+-- versions that are written; the write set at a server; apply, prepare
+pub mod Versions
+pub mod Writes
+pub mod Apply
+pub mod Prepare
+-- a work step that fetches: what it checks at the server, what it hands over
+pub mod Fetch
+pub mod Hand
+pub mod Lack

@@ -1,0 +1,54 @@
+-- Laws of the commit step's code.
+use mathlib.Core.Path.{_≡_, sym, ap, _∙_}
+use mathlib.Core.List.{List, [], _∷_}
+use Prim.Native.Nat.{ℕ, _-_, _*_, _<_}
+use borrow.Author.Tests.{eq-eqb, ne-eqb}
+use borrow.Rule.Slice.PartMut.{midOf}
+use lib.ListN.{length}
+use Rattle.memory.specs.Word.{view}
+use Rattle.layout.specs.Space.{put}
+use Rattle.layout.specs.Step.{Does, silent}
+use Rattle.layout.specs.Laws.Step.{does-both, does-as}
+use Rattle.layout.specs.Part.{over, inPart}
+use Rattle.client.specs.Layout.{ClientWord, field}
+use Rattle.client.specs.Sets.{held}
+use Rattle.client.specs.Participants.{participants-of, committing}
+use Rattle.steps.specs.declared.sizes.Sizes.{Sizes}
+use Rattle.steps.specs.declared.outcome.Outcome.the-variants.{Done, Committed}
+use Rattle.steps.specs.Whole.{client, whole, block, client-at}
+use Rattle.steps.specs.Steps.{did, commit}
+use Rattle.kinds.specs.Parts.{Holds}
+use Rattle.kinds.specs.Laws.Parts.{client-lent}
+use Rattle.kinds.specs.Judge.{of-client}
+use Rattle.kinds.specs.Course.{mark}
+use Rattle.kinds.specs.Kinds.{Meets}
+use Rattle.kinds.specs.Laws.Kinds.{meets-did, meets-as}
+use Rattle.client.specs.Life as L
+
+pub participants-lent : (z : Sizes) (b : List ℕ) (c k r : ℕ) → Holds z (length b) → c < z .clients → k ≡ client-at z c
+    → r ≡ participants-of (held (midOf (8 * k) (length b - 8 * k) b)) (z .servers) → r ≡ participants-of (of-client z (view b) c) (z .servers)
+unfolding held
+participants-lent z b c k r l h e q = q ∙ ap (λ (m : ClientWord → ℕ). participants-of m (z .servers)) (client-lent z c k b h e (l .room))
+
+module _ (z : Sizes) (c p : ℕ) (w w′ : List ℕ) (e : p ≡ participants-of (of-client z w c) (z .servers)) where
+  -- phase and participants
+  pub now-committing : (u : List ℕ) → Does whole (block z) (inPart (client c) (mark 0 2)) silent w 0 u → Does whole (block z) (inPart (client c) (mark 5 p)) silent u 0 w′
+      → Does whole (block z) (inPart (client c) (committing (z .servers))) silent w 0 w′
+  unfolding inPart mark committing over
+  now-committing u d q =
+      does-as whole (block z) (λ m. put (client c (field 0)) 2 ∷ put (client c (field 5)) p ∷ []) (inPart (client c) (committing (z .servers))) silent w 0 w′ (rw e)
+      (does-both whole (block z) (put (client c (field 0)) 2 ∷ []) (put (client c (field 5)) p ∷ []) w u w′ d q)
+
+  pub commit-ends : p ≡ 0 → Does whole (block z) (inPart (client c) (L.reset 0)) silent w 0 w′ → Meets z (λ m. commit z m c) w Committed w′
+  unfolding commit inPart
+  commit-ends q d =
+      meets-as z w Committed w′ (λ m. did Committed (inPart (client c) (L.reset 0) m)) (λ m. commit z m c) (sym (rw (← e, eq-eqb p 0 q)))
+      (meets-did z w Committed w′ (inPart (client c) (L.reset 0)) d)
+
+  pub commit-waits : (p ≡ 0 → ⊥) → Does whole (block z) (inPart (client c) (committing (z .servers))) silent w 0 w′ → Meets z (λ m. commit z m c) w Done w′
+  unfolding commit inPart
+  commit-waits q d =
+      meets-as z w Done w′ (λ m. did Done (inPart (client c) (committing (z .servers)) m)) (λ m. commit z m c) (sym (rw (← e, ne-eqb p 0 q)))
+      (meets-did z w Done w′ (inPart (client c) (committing (z .servers))) d)
+
+pub ruleset commit-exits = (now-committing, commit-ends, commit-waits)

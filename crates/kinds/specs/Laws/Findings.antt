@@ -1,0 +1,186 @@
+-- Laws of the findings' code: "in the order metadata, nodes by name, flags by name".
+use mathlib.Core.Path.{_≡_, refl, sym, ap, _∙_}
+use mathlib.Core.Bool.{Bool, true, false, cond}
+use mathlib.Core.List.{List, [], _∷_, _++_, map}
+use mathlib.Core.Option.{Option, none, some}
+use Prim.Native.Nat.{ℕ, suc, _+_, _-_, _*_, _≤_, _<_}
+use native.Mathlib.Omega.{arith}
+use native.Mathlib.Numerals.{add-one}
+use borrow.Author.Tests.{eq-eqb, ne-eqb, le-leb, lt-leb, leb-true, leb-false, eqb-true}
+use borrow.Rule.Slice.PartMut.{midOf}
+use lib.Dec.{eqb, leb}
+use lib.ListN.{length}
+use Rattle.memory.specs.Word.{view}
+use Rattle.layout.specs.Space.{mem}
+use Rattle.server.specs.declared.check.Finding.{Finding}
+use Rattle.server.specs.declared.lock.Use.{Use}
+use Rattle.server.specs.declared.object.Object.{Object}
+use Rattle.server.specs.declared.place.Place.{Place}
+use Rattle.server.specs.Object.{object-of}
+use Rattle.server.specs.Check.{checked, held, reason}
+use Rattle.client.specs.declared.part.Set.the-variants.{Reads}
+use Rattle.client.specs.Sets.{count}
+use Rattle.steps.specs.declared.sizes.Sizes.{Sizes}
+use Rattle.kinds.specs.declared.findings.Fault.{Fault}
+use Rattle.steps.specs.Whole.{server-at}
+use Rattle.steps.specs.Uses.{Item, each, read-items, use-of, checked-at, locked-at, lesser, least, reason-of, deciding}
+use Rattle.steps.specs.Judge.{lowest}
+use Rattle.kinds.specs.Parts.{Holds, stored-in}
+use Rattle.kinds.specs.Laws.Parts.{server-lent}
+use Rattle.kinds.specs.Items.{as-item, read-item}
+use Rattle.kinds.specs.Judge.{of-client, of-server}
+use Rattle.kinds.specs.Findings.{fault, as-fault, or-later, later, prepare-reason, prepare-fault, prepare-found}
+use Rattle.server.specs.Layout as Srv
+use Rattle.kinds.specs.declared.items.Item as code
+
+-- ---- the least, once there is one more
+lesser-later : (f g : ℕ × ℕ) (l : Option (ℕ × ℕ)) → lesser f (or-later l g) ≡ or-later (lesser f l) g
+lesser-later f g none = refl
+lesser-later f g (some e) = go (leb (f .0) (e .0)) (leb (e .0) (g .0)) (leb (f .0) (g .0)) refl refl refl
+  where
+    go : (a b c : Bool) → leb (f .0) (e .0) ≡ a → leb (e .0) (g .0) ≡ b → leb (f .0) (g .0) ≡ c
+        → lesser f (cond b (some e) (some g)) ≡ or-later (cond a (some f) (some e)) g
+    go true true true p q r = rw (p, r)
+    go true true false p q r =
+        absurd (let x : f .0 ≤ e .0 = leb-true (f .0) (e .0) p in let y : e .0 ≤ g .0 = leb-true (e .0) (g .0) q in let t : g .0 < f .0 = leb-false (f .0) (g .0) r in omega arith)
+    go true false true p q r = rw r
+    go true false false p q r = rw r
+    go false true c p q r = rw (p, q)
+    go false false true p q r =
+        absurd (let x : e .0 < f .0 = leb-false (f .0) (e .0) p in let y : g .0 < e .0 = leb-false (e .0) (g .0) q in let t : f .0 ≤ g .0 = leb-true (f .0) (g .0) r in omega arith)
+    go false false false p q r = rw (q, r)
+
+pub least-later : (l : List (ℕ × ℕ)) (g : ℕ × ℕ) → least (l ++ (g ∷ [])) ≡ later (least l) (g .0) (g .1)
+unfolding least later
+least-later [] g = refl
+least-later (f ∷ l) g = go (eqb (f .1) 0) (eqb (g .1) 0) refl (least-later l g)
+  where
+    go : (a b : Bool) → eqb (g .1) 0 ≡ b → least (l ++ (g ∷ [])) ≡ cond (eqb (g .1) 0) (least l) (or-later (least l) g)
+        → cond a (least (l ++ (g ∷ []))) (lesser f (least (l ++ (g ∷ []))))
+        ≡ cond b (cond a (least l) (lesser f (least l))) (or-later (cond a (least l) (lesser f (least l))) g)
+    go true true q h = h ∙ rw q
+    go true false q h = h ∙ rw q
+    go false true q h = let k : least (l ++ (g ∷ [])) ≡ least l = h ∙ rw q in ap (lesser f) k
+    go false false q h =
+        let k : least (l ++ (g ∷ [])) ≡ or-later (least l) g = h ∙ rw q in
+        ap (lesser f) k ∙ lesser-later f g (least l)
+
+-- ---- the lesser of two faults
+module _ (f g : Fault) where
+  pub no-second : g .reason ≡ 0 → as-fault f ≡ later (as-fault f) (g .number) (g .reason)
+  unfolding later
+  no-second e = sym (rw (eq-eqb (g .reason) 0 e))
+
+  module _ (d : g .reason ≡ 0 → ⊥) where
+    pub no-first : f .reason ≡ 0 → as-fault g ≡ later (as-fault f) (g .number) (g .reason)
+    unfolding later
+    no-first e = rw (ne-eqb (g .reason) 0 d) (sym (rw (eq-eqb (f .reason) 0 e)))
+
+    module _ (c : f .reason ≡ 0 → ⊥) where
+      pub first-least : f .number ≤ g .number → as-fault f ≡ later (as-fault f) (g .number) (g .reason)
+      unfolding later
+      first-least h = rw (ne-eqb (g .reason) 0 d, ne-eqb (f .reason) 0 c, le-leb (f .number) (g .number) h)
+
+      pub second-least : g .number < f .number → as-fault g ≡ later (as-fault f) (g .number) (g .reason)
+      unfolding later
+      second-least h = rw (ne-eqb (g .reason) 0 d, ne-eqb (f .reason) 0 c, lt-leb (f .number) (g .number) h)
+
+-- ---- parts lent to be read
+module _ (z : Sizes) (b : List ℕ) (l : Holds z (length b)) (s k : ℕ) (h : s < z .servers) (e : k ≡ server-at z s) (o : Object) (c : ℕ) (u : Use) where
+  pub check-lent : (i : code.Item) (f : Finding) (r : ℕ) → o ≡ object-of (i .number)
+      → f ≡ checked o (i .inner) (i .mark) c u (mem Srv.places (Srv.block (z .slots)) (view (midOf (8 * k) (length b - 8 * k) b))) → r ≡ reason f
+      → r ≡ reason (checked (object-of (i .number)) (i .inner) (i .mark) c u (of-server z (view b) s))
+  check-lent i f r p q t =
+      t ∙ ap reason (q ∙ ap (λ (m : Place → ℕ). checked o (i .inner) (i .mark) c u m) (server-lent z s k b h e (l .room))) ∙ rw p
+
+  pub held-lent : (x : ℕ) (r : Bool) → o ≡ object-of x → r ≡ held o c u (mem Srv.places (Srv.block (z .slots)) (view (midOf (8 * k) (length b - 8 * k) b)))
+      → r ≡ held (object-of x) c u (of-server z (view b) s)
+  held-lent x r p q = q ∙ ap (λ (m : Place → ℕ). held o c u m) (server-lent z s k b h e (l .room)) ∙ rw p
+
+-- ---- the reason of an item
+module _ (z : Sizes) (w : List ℕ) (c s low : ℕ) (i : code.Item) where
+  module _ (b : Bool) (u : Use) (e : b ≡ checked-at low s (as-item i)) (q : u ≡ use-of (as-item i)) where
+    pub reason-checked : (r : ℕ) → b ≡ true → r ≡ reason (checked (object-of (i .number)) (i .inner) (i .mark) c u (of-server z w s)) → r ≡ prepare-reason z w c s low (as-item i)
+    unfolding prepare-reason
+    reason-checked r t h = h ∙ rw q (sym (rw (← e, t)))
+
+    module _ (d : Bool) (t : b ≡ false) (p : d ≡ held (object-of (i .number)) c u (of-server z w s)) where
+      pub reason-held : d ≡ true → 2 ≡ prepare-reason z w c s low (as-item i)
+      unfolding prepare-reason
+      reason-held h = sym (rw (← e, t, ← q, ← p, h))
+
+      pub reason-none : d ≡ false → 0 ≡ prepare-reason z w c s low (as-item i)
+      unfolding prepare-reason
+      reason-none h = sym (rw (← e, t, ← q, ← p, h))
+
+  module _ (b : Bool) (e : b ≡ locked-at low s (as-item i)) where
+    pub fault-locked : (r : ℕ) → b ≡ true → r ≡ prepare-reason z w c s low (as-item i) → r ≡ prepare-fault z w c s low (as-item i)
+    unfolding prepare-fault
+    fault-locked r t h = h ∙ sym (rw (← e, t))
+
+    pub fault-none : b ≡ false → 0 ≡ prepare-fault z w c s low (as-item i)
+    unfolding prepare-fault
+    fault-none t = sym (rw (← e, t))
+
+pub ruleset finding-exits = (
+  no-second,
+  no-first,
+  first-least,
+  second-least,
+  check-lent,
+  held-lent,
+  reason-checked,
+  reason-held,
+  reason-none,
+  fault-locked,
+  fault-none,
+)
+
+-- ---- over all objects read
+map-append : {A B : Type 0} (f : A → B) (l k : List A) → map f (l ++ k) ≡ map f l ++ map f k
+map-append f [] k = refl
+map-append f (a ∷ l) k = ap (λ (t : List _). f a ∷ t) (map-append f l k)
+
+pub reason-again : (x y : ℕ) → reason-of (fault x y) ≡ y
+reason-again x y = go (eqb y 0) refl
+  where
+    go : (b : Bool) → eqb y 0 ≡ b → reason-of (cond b none (some (x, y))) ≡ y
+    go true e = sym (eqb-true y 0 e)
+    go false e = refl
+
+module _ (z : Sizes) (w : List ℕ) (c s low : ℕ) where
+  abbrev finding : Item → ℕ × ℕ
+  finding i = (i .number, prepare-fault z w c s low i)
+
+  -- of the first n objects read
+  unfoldable pub found-upto : ℕ → Option (ℕ × ℕ)
+  found-upto n = least (map finding (each n (read-item (of-client z w c))))
+
+  pub found-first : fault 0 0 ≡ found-upto 0
+  unfolding found-upto each least
+  found-first = refl
+
+  found-more : (i : ℕ) → found-upto (suc i) ≡ later (found-upto i) (read-item (of-client z w c) i .number) (prepare-fault z w c s low (read-item (of-client z w c) i))
+  unfolding found-upto each
+  found-more i =
+      let l = each i (read-item (of-client z w c)) in
+      let u = read-item (of-client z w c) i in
+      ap least (map-append finding l (u ∷ [])) ∙ least-later (map finding l) (finding u)
+
+  pub found-next : (i y : ℕ) (t : code.Item) (f g : Fault) → as-fault f ≡ found-upto i → as-item t ≡ read-item (of-client z w c) i
+      → y ≡ prepare-fault z w c s low (as-item t) → as-fault g ≡ later (as-fault f) (t .number) y → as-fault g ≡ found-upto (i + 1)
+  found-next i y t f g h q e p =
+      let u = read-item (of-client z w c) i in
+      let k : later (as-fault f) (t .number) y ≡ later (found-upto i) (u .number) (prepare-fault z w c s low u) =
+      rw (e, h) (ap (λ (v : Item). later (found-upto i) (v .number) (prepare-fault z w c s low v)) q) in
+      let m : found-upto (i + 1) ≡ later (found-upto i) (u .number) (prepare-fault z w c s low u) = rw (add-one i) (found-more i) in
+      p ∙ k ∙ sym m
+
+  pub found-all : (i n : ℕ) (f : Fault) → i ≤ n → n ≤ i → n ≡ count (of-client z w c) Reads → low ≡ lowest z (stored-in z w) c → as-fault f ≡ found-upto i
+      → f .reason ≡ prepare-found z w c s
+  unfolding found-upto prepare-found deciding read-items read-item prepare-fault prepare-reason
+  found-all i n f a b en el h =
+      let q : i ≡ count (of-client z w c) Reads = omega arith in
+      sym (reason-again (f .number) (f .reason)) ∙ ap reason-of h ∙ rw (q, el)
+
+pub ruleset found-exits = (found-first, found-next, found-all)

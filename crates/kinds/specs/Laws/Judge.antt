@@ -1,0 +1,198 @@
+-- Laws of refusal 10's code: what is read of parts that are lent, and tests of all items.
+use mathlib.Core.Path.{_≡_, refl, sym, ap, _∙_, subst}
+use mathlib.Core.Bool.{Bool, true, false, _&&_}
+use mathlib.Core.List.{List}
+use Prim.Native.Nat.{ℕ, zero, suc, _+_, _-_, _*_, _≤_, _<_}
+use native.Mathlib.Omega.{arith}
+use native.Mathlib.Numerals.{add-one}
+use native.Mathlib.Decide.{ℕ-discrete}
+use borrow.Author.Tests.{lt-ltb, le-ltb, le-leb, lt-leb, ltb-true}
+use borrow.Rule.Slice.PartMut.{midOf}
+use lib.Dec.{ltb}
+use lib.ListN.{length}
+use Rattle.base.specs.Test.{and-both}
+use Rattle.memory.specs.Word.{view}
+use Rattle.memory.specs.Bit.{bit}
+use Rattle.layout.specs.Space.{Valid, mem}
+use Rattle.server.specs.declared.object.Object.{Object}
+use Rattle.server.specs.declared.place.Place.{Place}
+use Rattle.server.specs.Object.{object-of, lock-of, Has}
+use Rattle.server.specs.Lock.{in-range}
+use Rattle.server.specs.Check.{sound}
+use Rattle.client.specs.declared.part.Set.{Set}
+use Rattle.client.specs.declared.part.Set.the-variants.{Writes}
+use Rattle.client.specs.Layout.{ClientWord, field}
+use Rattle.client.specs.Sets.{held}
+use Rattle.client.specs.Items.{all-below, has}
+use Rattle.steps.specs.declared.sizes.Sizes.{Sizes}
+use Rattle.steps.specs.Whole.{server, client-at, server-at}
+use Rattle.steps.specs.Refusal.{between}
+use Rattle.steps.specs.Uses.{Item}
+use Rattle.steps.specs.Judge.{commits, writes, holders-fit, lock-fits, check-fits}
+use Rattle.kinds.specs.Parts.{Holds, stored-in}
+use Rattle.kinds.specs.Laws.Parts.{client-lent, server-lent}
+use Rattle.kinds.specs.Items.{as-item, read-item}
+use Rattle.kinds.specs.Judge.{of-client, reader-fits, lock-at, sound-at}
+use Rattle.server.specs.Layout as Srv
+use Rattle.kinds.specs.declared.items.Item as code
+
+-- ---- objects of the store
+pub has-as : (n x : ℕ) (o : Object) → o ≡ object-of x → Has n (object-of x) → Has n o
+has-as n x o e h = subst (Has n) (sym e) h
+
+pub lies-as : (n x : ℕ) (o : Object) (a : Place) → o ≡ object-of x → a ≡ lock-of o → Has n (object-of x) → Valid Srv.places (Srv.block n) a
+lies-as n x o a e q h = subst (Valid Srv.places (Srv.block n)) (sym (q ∙ ap lock-of e)) h
+
+-- ---- parts lent to be read
+module _ (z : Sizes) (b : List ℕ) (l : Holds z (length b)) where
+  module _ (c k : ℕ) (h : c < z .clients) (e : k ≡ client-at z c) where
+    part-held : held (midOf (8 * k) (length b - 8 * k) b) ≡ of-client z (view b) c
+    unfolding held
+    part-held = client-lent z c k b h e (l .room)
+
+    pub field-lent : (i r : ℕ) → r ≡ held (midOf (8 * k) (length b - 8 * k) b) (field i) → r ≡ of-client z (view b) c (field i)
+    field-lent i r q = q ∙ ap (λ (m : ClientWord → ℕ). m (field i)) part-held
+
+    pub has-lent : (s : Set) (x : ℕ) (r : Bool) → r ≡ has (held (midOf (8 * k) (length b - 8 * k) b)) s x → r ≡ has (of-client z (view b) c) s x
+    has-lent s x r q = q ∙ ap (λ (m : ClientWord → ℕ). has m s x) part-held
+
+    pub item-lent : (i : ℕ) (r : Item) → r ≡ read-item (held (midOf (8 * k) (length b - 8 * k) b)) i → r ≡ read-item (of-client z (view b) c) i
+    item-lent i r q = q ∙ ap (λ (m : ClientWord → ℕ). read-item m i) part-held
+
+  module _ (s k : ℕ) (h : s < z .servers) (e : k ≡ server-at z s) where
+    pub word-lent : (x r : ℕ) (o : Object) (a : Place) → o ≡ object-of x → a ≡ lock-of o
+        → r ≡ mem Srv.places (Srv.block (z .slots)) (view (midOf (8 * k) (length b - 8 * k) b)) a → r ≡ stored-in z (view b) (server s (lock-of (object-of x)))
+    word-lent x r o a p q f =
+        f ∙ ap (λ (m : Place → ℕ). m a) (server-lent z s k b h e (l .room)) ∙ rw (q, p)
+
+    pub sound-lent : (i : code.Item) (r : Bool) (o : Object) → o ≡ object-of (i .number)
+        → r ≡ sound (z .clients) o (i .inner) (mem Srv.places (Srv.block (z .slots)) (view (midOf (8 * k) (length b - 8 * k) b))) → r ≡ sound-at z (view b) s (as-item i)
+    unfolding sound-at
+    sound-lent i r o p f =
+        f ∙ ap (λ (m : Place → ℕ). sound (z .clients) o (i .inner) m) (server-lent z s k b h e (l .room)) ∙ rw p
+
+-- ---- a test of all numbers, one after another
+module _ (f : ℕ → Bool) where
+  pub none-passed : all-below 0 f ≡ true
+  unfolding all-below
+  none-passed = refl
+
+  pub one-passed : (i : ℕ) (b : Bool) → all-below i f ≡ true → b ≡ f i → b ≡ true → all-below (i + 1) f ≡ true
+  unfolding all-below
+  one-passed i b h e t = let g : f i ≡ true = sym e ∙ t in rw (add-one i, h, g)
+
+  fails-on : (i k : ℕ) → f i ≡ false → all-below (suc i + k) f ≡ false
+  unfolding all-below
+  fails-on i zero h = let e : suc i + 0 ≡ suc i = omega arith in rw (e, h) (go (all-below i f))
+    where
+      go : (b : Bool) → (b && false) ≡ false
+      go true = refl
+      go false = refl
+  fails-on i (suc k) h = let e : suc i + suc k ≡ suc (suc i + k) = omega arith in rw (e, fails-on i k h)
+
+  pub one-fails : (i n : ℕ) (b : Bool) → i < n → b ≡ f i → b ≡ false → false ≡ all-below n f
+  one-fails i n b h e t = let q : n ≡ suc i + (n - suc i) = omega arith in sym (rw q (fails-on i (n - suc i) (sym e ∙ t)))
+
+  pub below-at : (n i : ℕ) → all-below n f ≡ true → i < n → f i ≡ true
+  unfolding all-below
+  below-at zero i h l = absurd (omega arith)
+  below-at (suc n) i h l = go (ℕ-discrete i n) (and-both (all-below n f) (f n) h) (λ k. below-at n i (and-both (all-below n f) (f n) h .0) k)
+    where
+      go : Dec (i ≡ n) → (all-below n f ≡ true) × (f n ≡ true) → (i < n → f i ≡ true) → f i ≡ true
+      go (yes e) p k = rw e (p .1)
+      go (no d) p k = k (omega arith)
+
+  pub all-passed : (i n : ℕ) → i ≤ n → n ≤ i → all-below i f ≡ true → true ≡ all-below n f
+  all-passed i n h g p = let e : n ≡ i = omega arith in sym (rw e p)
+
+-- ---- holders of locks
+module _ (z : Sizes) (w : List ℕ) where
+  pub commits-by : (d p : ℕ) (b : Bool) → p ≡ of-client z w d (field 0) → b ≡ between 2 3 p → b ≡ commits z (stored-in z w) d
+  commits-by d p b e q = q ∙ rw e
+
+  pub writes-many : (d x n : ℕ) → n ≡ of-client z w d (field 11) → 48 < n → false ≡ writes z (stored-in z w) d x
+  writes-many d x n e h = sym (rw (← e, lt-leb n 48 h))
+
+  pub writes-by : (d x n : ℕ) (b : Bool) → n ≡ of-client z w d (field 11) → n ≤ 48 → b ≡ has (of-client z w d) Writes x → b ≡ writes z (stored-in z w) d x
+  writes-by d x n b e h q = q ∙ sym (rw (← e, le-leb n 48 h))
+
+  module _ (x d : ℕ) (b : Bool) (e : b ≡ bit x d) where
+    pub reader-free : b ≡ false → true ≡ reader-fits z w x d
+    unfolding reader-fits
+    reader-free t = sym (rw (← e, t))
+
+    pub reader-in : (c : Bool) → b ≡ true → c ≡ commits z (stored-in z w) d → c ≡ reader-fits z w x d
+    unfolding reader-fits
+    reader-in c t q = q ∙ sym (rw (← e, t))
+
+  module _ (x v : ℕ) where
+    pub by-readers : (b : Bool) → v < 65536 → b ≡ all-below (z .clients) (reader-fits z w v) → b ≡ holders-fit z (stored-in z w) x v
+    unfolding holders-fit reader-fits
+    by-readers b h q = q ∙ sym (rw (lt-ltb v 65536 h))
+
+    module _ (b : Bool) (h : 65536 ≤ v) (e : b ≡ commits z (stored-in z w) (v - 65536)) where
+      pub writer-out : b ≡ false → false ≡ holders-fit z (stored-in z w) x v
+      unfolding holders-fit
+      writer-out t = sym (rw (le-ltb v 65536 h, ← e, t))
+
+      pub by-writer : (r : Bool) → b ≡ true → r ≡ writes z (stored-in z w) (v - 65536) x → r ≡ holders-fit z (stored-in z w) x v
+      unfolding holders-fit
+      by-writer r t q = q ∙ sym (rw (le-ltb v 65536 h, ← e, t))
+
+  pub a-client : (n v : ℕ) → in-range n v ≡ true → 65536 ≤ v → v - 65536 < n
+  unfolding in-range
+  a-client n v h g =
+      let q : ltb v (65536 + n) ≡ true = sym (rw (le-ltb v 65536 g)) ∙ h in
+      omega (arith, ltb-true v (65536 + n) q)
+
+  pub is-range : (n v : ℕ) (b : Bool) → b ≡ in-range n v → b ≡ true → in-range n v ≡ true
+  is-range n v b e t = sym e ∙ t
+
+  -- ---- locks
+  module _ (s x v : ℕ) (b : Bool) (e : v ≡ stored-in z w (server s (lock-of (object-of x)))) (q : b ≡ in-range (z .clients) v) where
+    pub lock-out : b ≡ false → false ≡ lock-at z w s x
+    unfolding lock-at
+    lock-out t = sym (rw (← e, ← q, t))
+
+    pub lock-by : (r : Bool) → b ≡ true → r ≡ holders-fit z (stored-in z w) x v → r ≡ lock-at z w s x
+    unfolding lock-at
+    lock-by r t p = p ∙ sym (rw (← e, ← q, t))
+
+  pub lock-fits-at : (s : ℕ) (i : Item) → lock-at z w s (i .number) ≡ lock-fits z (stored-in z w) s i
+  unfolding lock-at lock-fits
+  lock-fits-at s i = refl
+
+  module _ (s : ℕ) (i : code.Item) (b : Bool) (e : b ≡ sound-at z w s (as-item i)) where
+    pub check-out : b ≡ false → false ≡ check-fits z (stored-in z w) s (as-item i)
+    unfolding check-fits sound-at
+    check-out t = sym (rw (← e, t))
+
+    pub check-by : (r : Bool) → b ≡ true → r ≡ lock-at z w s (i .number) → r ≡ check-fits z (stored-in z w) s (as-item i)
+    unfolding check-fits sound-at
+    check-by r t p = p ∙ lock-fits-at s (as-item i) ∙ sym (rw (← e, t))
+
+pub ruleset judge-exits = (
+  has-as,
+  lies-as,
+  field-lent,
+  has-lent,
+  item-lent,
+  word-lent,
+  sound-lent,
+  commits-by,
+  writes-many,
+  writes-by,
+  reader-free,
+  reader-in,
+  by-readers,
+  writer-out,
+  by-writer,
+  a-client,
+  is-range,
+  lock-out,
+  lock-by,
+  check-out,
+  check-by,
+)
+
+pub ruleset passing = (none-passed, one-passed, one-fails, all-passed)

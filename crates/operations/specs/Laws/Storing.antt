@@ -1,0 +1,311 @@
+-- What is asked for and written, as in file Storable: the way up of insert and delete, and migrate. The theorems.
+use mathlib.Core.Path.{_≡_, refl, ap, subst}
+use mathlib.Core.List.{List, [], _∷_, _++_}
+use mathlib.Core.Option.{Option, none, some}
+use Prim.Native.Nat.{ℕ, zero, suc, _+_, _-_, _≤_, _<_}
+use native.Mathlib.Omega.{arith}
+use native.Mathlib.Decide.{ℕ-discrete, decLt, decLe}
+use lib.ListN.{length, take, drop, length-append, length-take, length-drop, length-set}
+use lib.Seq.{length-take-le}
+use Rattle.base.specs.Test.{ifd}
+use Rattle.plans.specs.Walk.{Every}
+use Rattle.nodes.specs.Lists.{remove}
+use Rattle.nodes.specs.Name.{name, server-of, slot-of}
+use Rattle.nodes.specs.Place.{place}
+use Rattle.nodes.specs.Placement.{row}
+use Rattle.operations.specs.Object.{Obj, meta, node, Ask, object, vector, fetched, Val, root, body, taken, flags, no-tree, Ans, Writes}
+use Rattle.operations.specs.Map.{Op, insert, lookup, delete, next, previous, migrate, fresh}
+use Rattle.operations.specs.Entry.{Entries, keys, mk, mn, mx, nxt, cut, index, value-in, with-at, with-pair}
+use Rattle.operations.specs.Path.{Plan, when-root, Branch}
+use Rattle.operations.specs.Slot.{Sizes, present, take-for, take-node, release}
+use Rattle.operations.specs.Laws.Slots.{present-below}
+use Rattle.operations.specs.Change.{Go, with-one, with-two, parted, at-top, onward, collapsed, merged, with-right, with-left, unsnoc-step, unsnoc, left-of, neighbour, split-root, split, up, delete-at}
+use Rattle.operations.specs.Migrate.{moved, move-at, to-level, first-key, move-below, move-node, move-if}
+use Rattle.operations.specs.Operation.{reading}
+use Rattle.operations.specs.Laws.Along.{along-walk}
+use Rattle.operations.specs.Laws.Quiet.{lookup-quiet, next-quiet, previous-quiet}
+use Rattle.operations.specs.Laws.Storable.{Storable, All-storable, Inside, every-any, every-append, every-take, every-drop, Scope, least, Children, Within, Sized, Asks, Read, Well, All-well, Ok, Comes, Met, mk-well, see-ok, if-ok, kid-ok, Beside, Branched, Path, cut-ok, down-ok, root-ok, at-root-ok, leaf-ok, node-ok, release-ok, Servers, take-ok}
+use Rattle.plans.specs.Plan as P
+use Rattle.plans.specs.Laws.Walk as W
+use Rattle.nodes.specs.Lists as L
+
+-- two nodes of the fewest keys are at most one entry too many
+pub record Bounds (l : ℕ) : Type 0 where
+  pub one : least l ≤ 1
+  pub fewest : 1 < mn l
+  pub between : mn l ≤ mx l
+  pub twice : mn l + mn l ≤ suc (mx l)
+
+bounds : (l : ℕ) → Bounds l
+bounds zero = record { one = omega arith; fewest = omega arith; between = omega arith; twice = omega arith }
+bounds (suc l) = record { one = omega arith; fewest = omega arith; between = omega arith; twice = omega arith }
+
+-- what an operation names is of the store
+abbrev pub Names : (ℕ → Type 0) → Sizes → Op → Type 0
+Names N sz (insert k v) = Unit {0}
+Names N sz (lookup k) = Unit {0}
+Names N sz (delete k) = Unit {0}
+Names N sz (next k) = Unit {0}
+Names N sz (previous k) = Unit {0}
+Names N sz (migrate n s) = N n × (s < sz .servers)
+
+-- a pair put into a leaf, or taken out
+with-few : (key v : ℕ) (es : Entries) → length (with-pair key v es) ≤ suc (length es)
+unfolding L.insert
+with-few key v es = go (index key es)
+  where
+    go : (o : Option ℕ) → length (with-at key v es o) ≤ suc (length es)
+    go none =
+        let i = place (keys es) key in omega (arith, length-append (take i es) ((key, v) ∷ drop i es), length-take i es, length-drop i es)
+    go (some i) = omega (arith, length-set es i (key, v))
+
+remove-few : (i : ℕ) (es : Entries) → length (remove i es) ≤ length es
+unfolding remove
+remove-few i es = omega (arith, length-append (take i es) (drop (i + 1) es), length-take i es, length-drop (i + 1) es)
+
+module _ (T : Scope) where
+  abbrev N : ℕ → Type 0
+  N = T .N
+
+  abbrev Z : Type 0
+  Z = T .Z
+
+  abbrev sz : Sizes
+  sz = T .sz
+
+  -- ---- THE WAY UP: entries that may be one too many
+  abbrev Risen : ℕ → Entries → Type 0
+  Risen l es = Within T (suc (mx l)) l es
+
+  sized : (l n : ℕ) (es : Entries) → length es ≡ n → 1 ≤ n → n ≤ mx l → Children T l es → Sized T l es
+  sized l n es e a b c = record { some-child = omega (arith, bounds l .one); few = omega arith; children = c }
+
+  joined : (l : ℕ) (xs ys : Entries) → 1 ≤ length xs + length ys → length xs + length ys ≤ mx l → Children T l xs → Children T l ys → Sized T l (xs ++ ys)
+  joined l xs ys a b p q = sized l (length xs + length ys) (xs ++ ys) (length-append xs ys) a b (every-append _ xs ys p q)
+
+  -- a node with more than the fewest entries, without one
+  lender : (l : ℕ) (es xs : Entries) → Sized T l es → mn l < length es → length xs ≡ length es - 1 → Children T l xs → Sized T l xs
+  lender l es xs s q e c = sized l (length es - 1) xs e (omega (arith, bounds l .fewest)) (omega (arith, s .few)) c
+
+  abbrev Goes : ℕ → Go → Type 0
+  Goes l go = (w : Writes) (es : Entries) → All-well T w → (Z → Risen (suc l) es) → Ok T (go w es)
+
+  one-within : (m l : ℕ) (f : Branch) (c : ℕ) → 15 ≤ m → Beside T (f .pre) (f .post) → N c → Within T m (suc l) (with-one f c)
+  unfolding Every
+  one-within m l f c x b i =
+      let es : Entries = (f .key, c) ∷ f .post in
+      let e = length-append (f .pre) es in
+      record { some-child = omega (arith, e); few = omega (arith, e, b .few); children = every-append _ (f .pre) es (b .before) (i, b .after) }
+
+  risen-two : (l : ℕ) (f : Branch) (c k d : ℕ) → Beside T (f .pre) (f .post) → N c → N d → Risen (suc l) (with-two f c k d)
+  unfolding Every
+  risen-two l f c k d b i j =
+      let es : Entries = (f .key, c) ∷ (k, d) ∷ f .post in
+      let e = length-append (f .pre) es in
+      record { some-child = omega (arith, e); few = omega (arith, e, b .few); children = every-append _ (f .pre) es (b .before) (i, (j, b .after)) }
+
+  parted-ok : (go : Go) (l : ℕ) → Goes l go → (w : Writes) (f : Branch) (c : ℕ) (es : Entries) (d : ℕ) (es′ : Entries)
+      → All-well T w → Branched T f → Met T c → (Z → Sized T l es) → Met T d → (Z → Sized T l es′) → Ok T (parted go l w f c es d es′)
+  parted-ok go l g w f c es d es′ h b m s m′ s′ =
+      g _ _ (mk-well T l d es′ m′ s′, (mk-well T l c es m s, h)) (λ z. risen-two l f c _ d (b .1 z) (m .1 z) (m′ .1 z))
+
+  -- the two halves of a node with an entry too many
+  halves : (l : ℕ) (es : Entries) → Risen l es → mx l < length es → Sized T l (take (mn l) es) × Sized T l (drop (mn l) es)
+  halves l es s m = (
+    sized l (mn l) (take (mn l) es) (length-take-le (mn l) es (omega (arith, bounds l .between))) (omega (arith, bounds l .fewest)) (bounds l .between)
+        (every-take _ (mn l) es (s .children)),
+    sized l (length es - mn l) (drop (mn l) es) (length-drop (mn l) es) (omega (arith, bounds l .between)) (omega (arith, bounds l .fewest, s .few))
+        (every-drop _ (mn l) es (s .children)),
+  )
+
+  -- the entries but the last are one fewer
+  abbrev Last : Entries → Option (Entries × (ℕ × ℕ)) → Type 0
+  Last es none = length es ≡ 0
+  Last es (some r) = (length es ≡ suc (length (r .0))) × (Children T 1 es → Children T 1 (r .0) × N (r .1 .1))
+
+  unsnoc-last : (es : Entries) → Last es (unsnoc es)
+  unfolding Every
+  unsnoc-last [] = refl
+  unsnoc-last (e ∷ es) = go (unsnoc es) (unsnoc-last es)
+    where
+      go : (o : Option (Entries × (ℕ × ℕ))) → Last es o → Last (e ∷ es) (unsnoc-step e o)
+      go none q = (ap suc q, λ c. (tt, c .0))
+      go (some r) q = (ap suc (q .0), λ c. let d = q .1 (c .1) in ((c .0, d .0), d .1))
+
+  module _ (a : Ans) (l : ℕ) (fs : List Branch) (go : Go) (g : Goes l go) where
+    merged-ok : (w : Writes) (f : Branch) (c : ℕ) (es : Entries) → All-well T w → Branched T f → Met T c → (Z → Sized T l es) → Ok T (merged a l fs go w f c es)
+    merged-ok w f c es h b m s = by fs
+      where
+        one : Ok T (onward a l fs go w f c es)
+        one = g ((node c, mk l es) ∷ w) (with-one f c) (mk-well T l c es m s, h) (λ z. one-within 16 l f c (omega arith) (b .1 z) (m .1 z))
+
+        by : (gs : List Branch) → let p = onward a l fs go w f c es in Ok T (at-top gs (ifd (ℕ-discrete (length (with-one f c)) 1) (collapsed a l fs go w f c es) p) p)
+        by [] = if-ok T (ℕ-discrete (length (with-one f c)) 1) _ _
+            (λ _. release-ok T w c (λ w′. P.done (a, (node (f .nm), mk l es) ∷ w′)) h m (λ u n. (mk-well T l (f .nm) es (b .0) s, n))) (λ _. one)
+        by (x ∷ gs) = one
+
+    -- the entries es of c, too few, and a neighbour; f: the branch without the neighbour
+    module _ (w : Writes) (f : Branch) (c : ℕ) (es : Entries) (h : All-well T w) (b : Branched T f) (m : Met T c) (i : Z → Children T l es) (n : length es < mn l) where
+      with-right-ok : (k2 c2 : ℕ) → (Z → N c2) → Ok T (with-right a l fs go w f c es k2 c2)
+      with-right-ok k2 c2 j =
+          if-ok T (ℕ-discrete c2 c) (P.fail no-tree) _ (λ _. tt) (λ _.
+          kid-ok T w l k2 c2 _ h j (λ es2 m2 s t. if-ok T (decLt (mn l) (length es2)) _ _
+          (λ q. let e = length-take-le 1 es2 (omega (arith, q)) in parted-ok go l g w f c (es ++ take 1 es2) c2 (drop 1 es2) h b
+          m (λ z. joined l es (take 1 es2) (omega (arith, e)) (omega (arith, e, bounds l .between)) (i z) (every-take _ 1 es2 (s z .children)))
+          m2 (λ z. lender l es2 (drop 1 es2) (s z) q (length-drop 1 es2) (every-drop _ 1 es2 (s z .children))))
+          (λ q. release-ok T w c2 (λ w′. merged a l fs go w′ f c (es ++ es2)) h m2 (λ u o. merged-ok u f c (es ++ es2) o b
+          m (λ z. joined l es es2 (omega (arith, t, bounds l .fewest)) (omega (arith, q, bounds l .twice)) (i z) (s z .children))))))
+
+      with-left-ok : (c1 : ℕ) → (Z → N c1) → Ok T (with-left a l fs go w f c es c1)
+      with-left-ok c1 j =
+          if-ok T (ℕ-discrete c1 c) (P.fail no-tree) _ (λ _. tt) (λ _.
+          kid-ok T w l (f .key) c1 _ h j (λ es1 m1 s t. let x = length es1 - 1 in if-ok T (decLt (mn l) (length es1)) _ _
+          (λ q. let e = length-drop x es1 in parted-ok go l g w f c1 (take x es1) c (drop x es1 ++ es) h b
+          m1 (λ z. lender l es1 (take x es1) (s z) q (length-take-le x es1 (omega arith)) (every-take _ x es1 (s z .children)))
+          m (λ z. joined l (drop x es1) es (omega (arith, e, q)) (omega (arith, e, q, bounds l .between)) (every-drop _ x es1 (s z .children)) (i z)))
+          (λ q. release-ok T w c (λ w′. merged a l fs go w′ f c1 (es1 ++ es)) h m (λ u o. merged-ok u f c1 (es1 ++ es) o b
+          m1 (λ z. joined l es1 es (omega (arith, t, bounds l .fewest)) (omega (arith, q, bounds l .twice)) (s z .children) (i z))))))
+
+    neighbour-ok : (w : Writes) (f : Branch) (c : ℕ) (es post : Entries) → All-well T w → Met T (f .nm) → (Z → Beside T (f .pre) post) → Met T c → (Z → Children T l es)
+        → length es < mn l → Ok T (neighbour a l fs go w f c es post)
+    unfolding Every
+    neighbour-ok w f c es (e ∷ post) h x b m i n =
+        with-right-ok w (record { nm = f .nm; key = f .key; pre = f .pre; post = post }) c es h
+        (x, λ z. record { few = omega (arith, b z .few); before = b z .before; after = b z .after .1 }) m i n (e .0) (e .1) (λ z. b z .after .0)
+    neighbour-ok w f c es [] h x b m i n = by (unsnoc (f .pre)) (unsnoc-last (f .pre))
+      where
+        by : (o : Option (Entries × (ℕ × ℕ))) → Last (f .pre) o → Ok T (left-of a l fs go w (f .nm) c es o)
+        by none e = tt
+        by (some r) e =
+            with-left-ok w (record { nm = f .nm; key = r .1 .0; pre = r .0; post = [] }) c es h
+            (x, λ z. record { few = omega (arith, b z .few, e .0); before = e .1 (b z .before) .0; after = tt }) m i n (r .1 .1) (λ z. e .1 (b z .before) .1)
+
+  -- the servers in placement order
+  in-order : (n : ℕ) → Z → Servers T (present (sz .servers) (row (server-of n)))
+  in-order n z = present-below (sz .servers) (row (server-of n))
+
+  split-root-ok : (a : Ans) (l : ℕ) (w : Writes) (r : ℕ) (es : Entries) → All-well T w → Met T r → (Z → Risen l es) → mx l < length es → Ok T (split-root sz a l w r es)
+  unfolding Every
+  split-root-ok a l w r es h m s q =
+      let ss = present (sz .servers) (row (server-of r)) in
+      let f : Branch = record { nm = r; key = 0; pre = []; post = [] } in
+      let top : Go = λ w′ es′. P.done (a, (node r, mk (suc l) es′) ∷ w′) in
+      let both : ℕ → ℕ → Writes → Plan = λ c d w2. take-node w2 c (take-node w2 d (parted top l w2 f c (take (mn l) es) d (drop (mn l) es))) in
+      take-ok T ss (slot-of r) w (λ c w1. take-for sz r w1 (both c)) h (in-order r) (λ c w1 i n1.
+      take-ok T ss (slot-of r) w1 (both c) n1 (in-order r) (λ d w2 j n2. node-ok T w2 c _ n2 i (λ mc. node-ok T w2 d _ n2 j (λ md. (
+        mk-well T (suc l) r (with-two f c (nxt (drop (mn l) es) 0) d) m (λ z. record { some-child = omega arith; few = omega arith; children = (i z, (j z, tt)) }),
+        (mk-well T l d _ md (λ z. halves l es (s z) q .1), (mk-well T l c _ mc (λ z. halves l es (s z) q .0), n2)),
+      )))))
+
+  split-ok : (go : Go) (l : ℕ) (w : Writes) (f : Branch) (c : ℕ) (es : Entries) → All-well T w → Branched T f → Met T c → (Z → Risen l es) → mx l < length es → Goes l go
+      → Ok T (split sz go l w f c es)
+  split-ok go l w f c es h b m s q g =
+      take-ok T (present (sz .servers) (row (server-of c))) (slot-of c) w
+      (λ d w1. take-node w1 d (parted go l w1 f c (take (mn l) es) d (drop (mn l) es))) h (in-order c) (λ d w1 i n. node-ok T w1 d _ n i (λ md.
+      parted-ok go l g w1 f c (take (mn l) es) d (drop (mn l) es) n b m (λ z. halves l es (s z) q .0) md (λ z. halves l es (s z) q .1)))
+
+  -- not one too many after all
+  fits-well : (l c : ℕ) (es : Entries) → Met T c → (Z → Risen l es) → length es ≤ mx l → Well T (node c) (mk l es)
+  fits-well l c es m s q = mk-well T l c es m (λ z. record { some-child = s z .some-child; few = q; children = s z .children })
+
+  up-ok : (a : Ans) (fs : List Branch) (l : ℕ) (w : Writes) (c : ℕ) (es : Entries) → All-well T w → Path T fs → Met T c → (Z → Risen l es) → Ok T (up sz a l fs w c es)
+  up-ok a [] l w c es h p m s =
+      if-ok T (decLe (length es) (mx l)) _ _ (λ q. (fits-well l c es m s q, h)) (λ q. split-root-ok a l w c es h m s (omega (arith, q)))
+  up-ok a (f ∷ fs) l w c es h p m s =
+      let go : Go = λ w′ es′. up sz a (suc l) fs w′ (f .nm) es′ in
+      let on : Goes l go = λ w′ es′ n r. up-ok a fs (suc l) w′ (f .nm) es′ n (p .1) (p .0 .0) r in
+      if-ok T (decLe (mn l) (length es)) _ _
+      (λ _. if-ok T (decLe (length es) (mx l)) _ _ (λ q. (fits-well l c es m s q, h)) (λ q. split-ok go l w f c es h (p .0) m s (omega (arith, q)) on))
+      (λ q. neighbour-ok a l fs go on w f c es (f .post) h (p .0 .0) (p .0 .1) m (λ z. s z .children) (omega (arith, q)))
+
+  -- a leaf has no children
+  leaf-risen : (es : Entries) → length es ≤ 15 → Risen 0 es
+  leaf-risen es h = record { some-child = omega arith; few = omega arith; children = every-any _ (λ _. tt) es }
+
+  delete-ok : (fs : List Branch) (n : ℕ) (es : Entries) (o : Option ℕ) → Path T fs → Met T n → (Z → Sized T 0 es) → Ok T (delete-at sz fs n es o)
+  delete-ok fs n es none p m s = tt
+  delete-ok fs n es (some i) p m s = up-ok (1, 0) fs zero [] n (remove i es) tt p m (λ z. leaf-risen (remove i es) (omega (arith, remove-few i es, s z .few)))
+
+  -- ---- MIGRATE
+  module _ (n s : ℕ) (server : Z → s < sz .servers) (m : Met T n) (v : Val) (kept : Z → Storable N (node n) v) where
+    moved-ok : (x : ℕ → Writes → Writes) (k : ℕ → Writes → Plan) → ((d : ℕ) (w : Writes) → (Z → N d) → All-well T w → All-well T (x d w))
+        → ((d : ℕ) (w : Writes) → (Z → N d) → All-well T w → Ok T (k d w)) → Ok T (moved sz n s v x k)
+    unfolding Every
+    moved-ok x k hx hk =
+        let on : ℕ → Writes → Plan = λ d w. k d ((node d, v) ∷ w) in
+        take-ok T (s ∷ []) (slot-of n) [] (λ d w. take-node w d (release (x d w) n (on d))) tt (λ z. (server z, tt)) (λ d w i h.
+        node-ok T w d _ h i (λ md. release-ok T (x d w) n (on d) (hx d w i h) m (λ u g. hk d ((node d, v) ∷ u) i ((md .0, λ z. (i z, elsewhere d v (kept z))), g))))
+      where
+        -- a node can be stored under any name
+        elsewhere : (d : ℕ) (v : Val) → Storable N (node n) v → Storable N (node d) v
+        elsewhere d (root q) h = h
+        elsewhere d (body k l ks vs) h = h
+        elsewhere d (taken b) h = h
+        elsewhere d (flags fs) h = h
+
+    move-at-ok : (key l : ℕ) (fs : List Branch) (p : ℕ) (es : Entries) → Met T p → (Z → Sized T l es) → Ok T (move-at sz n s v key l fs p es)
+    move-at-ok key zero fs p es o h = tt
+    move-at-ok key (suc l) fs p [] o h = tt
+    move-at-ok key (suc l) fs p (e ∷ es) o h =
+        let c = cut key e es in
+        let f : Branch = record { nm = p; key = c .1 .0; pre = c .0; post = c .2 } in
+        let end : ℕ → Writes → Plan = λ d w. P.done ((1, d), (node p, mk (suc l) (with-one f d)) ∷ w) in
+        if-ok T (ℕ-discrete (c .1 .1) n) _ (P.fail no-tree)
+        (λ _. moved-ok (λ d w. w) end (λ d w i g. g)
+        (λ d w i g. (mk-well T (suc l) p (with-one f d) o (λ z. one-within 15 l f d (omega arith) (cut-ok T key l e es (h z) .0) (i z)), g))) (λ _. tt)
+
+    move-node-ok : (r l : ℕ) (ks : List ℕ) → T .R meta → (Z → N r) → Ok T (move-node sz r n s v l ks)
+    move-node-ok r l ks a i =
+        if-ok T (ℕ-discrete n r) _ _
+        (λ _. moved-ok (λ d w. (meta, root d) ∷ w) (λ d w. P.done ((1, d), w)) (λ d w j h. ((a, λ z. (tt, j z)), h)) (λ d w j h. h))
+        (λ _. if-ok T (decLe 7 (length ks)) _ (P.fail no-tree) (λ _. by ks) (λ _. tt))
+      where
+        by : (ks : List ℕ) → Ok T (first-key ks (move-below sz r n s v l))
+        by [] = tt
+        by (key ∷ ks) =
+            at-root-ok T r _ i (λ j es o f. if-ok T (decLt l j) _ (P.fail no-tree)
+            (λ _. down-ok T (to-level (suc l)) key (move-at sz n s v key) (λ i fs p es _ o g _. move-at-ok key i fs p es o g) j [] r es tt o f) (λ _. tt))
+
+  move-if-ok : (r n s : ℕ) (v : Val) → (Z → s < sz .servers) → T .R meta → (Z → N r) → Well T (node n) v → Ok T (move-if sz r n s v)
+  move-if-ok r n s (root q) x a i t = tt
+  move-if-ok r n s (taken b) x a i t = tt
+  move-if-ok r n s (flags fs) x a i t = tt
+  move-if-ok r n s (body zero l ks vs) x a i t = tt
+  move-if-ok r n s (body (suc j) l ks vs) x a i t =
+      if-ok T (ℕ-discrete (server-of n) s) _ _ (λ _. tt) (λ _. move-node-ok n s x (t .0, λ z. t .1 z .0) (body (suc j) l ks vs) (λ z. t .1 z .1) r l ks a i)
+
+  pub reading-ok : (op : Op) → (Z → Names N sz op) → Ok T (reading sz op)
+  reading-ok (insert k v) h = leaf-ok T k _ (λ fs n es p m s.
+      up-ok (fresh (value-in k es)) fs zero [] n (with-pair k v es) tt p m (λ z. leaf-risen (with-pair k v es) (omega (arith, with-few k v es, s z .few))))
+  reading-ok (lookup k) h = lookup-quiet T k
+  reading-ok (delete k) h = leaf-ok T k _ (λ fs n es p m s. delete-ok fs n es (index k es) p m s)
+  reading-ok (next k) h = next-quiet T k
+  reading-ok (previous k) h = previous-quiet T k
+  reading-ok (migrate n s) h =
+      see-ok T [] meta (λ v. when-root v (λ r. P.ask (object (node n)) (λ u. move-if sz r n s u))) tt (λ _. tt) (λ v b. root-ok T v _ b (λ r i.
+      see-ok T [] (node n) (λ u. move-if sz r n s u) tt (λ z. h z .0) (λ u t. move-if-ok r n s u (λ z. h z .1) (b .0) i t)))
+
+-- THE THEOREMS, where everything at hand can be stored in a store of the names N
+module _ (N : ℕ → Type 0) (sz : Sizes) (new : (s i : ℕ) → s < sz .servers → i < sz .slots → N (name s i)) (op : Op) (names : Names N sz op) (have : Ask → Option Val) (kept : (o : Obj) (v : Val) → have (object o) ≡ some v → Storable N o v) where
+  abbrev T : Scope
+  T = record { sz = sz; N = N; new = new; R = λ o. Unit {0}; Z = Unit {0} }
+
+  ended : Comes T (W.walk (reading sz op) have)
+  ended = along-walk (Asks T) (Read T) (λ a w. All-well T w) have read (reading sz op) (reading-ok T op (λ _. names))
+    where
+      read : (q : Ask) (v : Val) → have q ≡ some v → Read T q v
+      read (object o) v e = (tt, λ _. kept o v e)
+      read (vector s) v e = tt
+      read (fetched s) v e = tt
+
+  -- EVERYTHING WRITTEN CAN BE STORED, and is of the store
+  pub writes-storable : (a : Ans) (w : Writes) → W.walk (reading sz op) have ≡ W.ends (P.gives (a, w)) → All-storable N w
+  writes-storable a w e = all w (subst (Comes T) e ended)
+    where
+      all : (w : Writes) → All-well T w → All-storable N w
+      all [] h = tt
+      all (e ∷ w) h = let k = h .0 .1 tt in (k .0, k .1, all w (h .1))
+
+  -- EVERY QUESTION is about something of the store
+  pub asked-inside : (q : Ask) → W.walk (reading sz op) have ≡ W.lacks q → Inside N sz q
+  asked-inside q e = subst (Comes T) e ended tt

@@ -1,0 +1,20 @@
+-- Tests of all and of any elements, element by element.
+use mathlib.Core.Path.{_≡_, sym, subst}
+use mathlib.Core.Bool.{Bool, true}
+use mathlib.Core.List.{List, [], _∷_}
+use mathlib.Core.Logic.{inl, inr}
+use Rattle.base.specs.Test.{and-both}
+use Rattle.base.specs.Laws.Test.{or-left, or-right}
+use Rattle.protocol.specs.Lists.{Among, all, any}
+
+pub all-among : {A : Type 0} (f : A → Bool) (l : List A) (a : A) → all f l ≡ true → Among a l → f a ≡ true
+unfolding all Among
+all-among f [] a h i = absurd i
+all-among f (b ∷ l) a h (inl e) = subst (λ c. f c ≡ true) (sym e) (and-both (f b) (all f l) h .0)
+all-among f (b ∷ l) a h (inr i) = all-among f l a (and-both (f b) (all f l) h .1) i
+
+pub any-among : {A : Type 0} (f : A → Bool) (l : List A) (a : A) → f a ≡ true → Among a l → any f l ≡ true
+unfolding any Among
+any-among f [] a h i = absurd i
+any-among f (b ∷ l) a h (inl e) = or-left (f b) (any f l) (subst (λ c. f c ≡ true) e h)
+any-among f (b ∷ l) a h (inr i) = or-right (f b) (any f l) (any-among f l a h i)

@@ -1,0 +1,225 @@
+-- WORK THAT FETCHES: what is checked at the server is in range, and what is handed over is sound.
+use mathlib.Core.Path.{_≡_, refl, ap, sym, _∙_, subst}
+use mathlib.Core.Bool.{Bool, true, false, cond, _&&_, not, false≢true}
+use mathlib.Core.List.{List, [], _++_, map}
+use mathlib.Core.Logic.{inl}
+use mathlib.Core.Option.{none}
+use Prim.Native.Nat.{ℕ, suc, _+_, _-_, _%_, _≤_, _<_, Fin}
+use native.Mathlib.Nat.{mod-lt}
+use native.Mathlib.Omega.{arith}
+use borrow.Author.Tests.{le-leb, ltb-true, not-false}
+use lib.Dec.{eqb, leb, ltb}
+use lib.ListN.{length}
+use Rattle.layout.specs.Space.{Put, changed, tab}
+use Rattle.layout.specs.Step.{andThen}
+use Rattle.layout.specs.Laws.Step.{changed-append}
+use Rattle.nodes.specs.Range.{in-range}
+use Rattle.nodes.specs.Stored.{node-of}
+use Rattle.operations.specs.Object.{Obj, meta, node, flag, Ask, object, vector, fetched}
+use Rattle.operations.specs.Slot.{Allowed}
+use Rattle.operations.specs.Laws.Storable.{every-append}
+use Rattle.server.specs.declared.lock.Use.the-variants.{Fetch}
+use Rattle.server.specs.Object.{object-of}
+use Rattle.server.specs.Check.{can-check, held}
+use Rattle.server.specs.HandOut.{metadata-at, metadata-sound, vector-at}
+use Rattle.client.specs.declared.part.Set.the-variants.{Reads}
+use Rattle.client.specs.Layout.{ClientWord, client-words, phase, reads-count}
+use Rattle.client.specs.Record.{number, object-in-store, number-in-store}
+use Rattle.client.specs.Sets.{count, number-at}
+use Rattle.client.specs.Fits.{client-fits}
+use Rattle.client.specs.Have.{copied, have, broken}
+use Rattle.client.specs.Participants.{at-home}
+use Rattle.client.specs.Work.{walked, worked, new}
+use Rattle.client.specs.Answered.{used-enter}
+use Rattle.client.specs.Fetched.{fetched-node, fetched-vector}
+use Rattle.steps.specs.declared.sizes.Sizes.{Sizes}
+use Rattle.steps.specs.declared.step.Step.{Step}
+use Rattle.steps.specs.declared.outcome.Outcome.{Outcome}
+use Rattle.steps.specs.declared.outcome.Outcome.the-variants.{Fetched}
+use Rattle.steps.specs.Whole.{Address}
+use Rattle.steps.specs.Judge.{lock-fits, check-fits}
+use Rattle.steps.specs.Uses.{Item, all, item-of, read-item, read-items, used-items, deciding}
+use Rattle.steps.specs.Steps.{Did, did, handed, full, fetch-object, hand-over, fetch-items, fetch-finding, Wanted, node-at, checked-fetch}
+use Rattle.steps.specs.Laws.Stores.{client-of, server-of}
+use Rattle.demand.specs.Laws.Lacking.{asked, lacks-object}
+use Rattle.demand.specs.Ledger.{Ledger}
+use Rattle.demand.specs.Laws.Members.{kept-home, name-server}
+use Rattle.demand.specs.Laws.Numbers.{obj-of, as-flag, number-obj, store-obj, name-lt, object-number, number-inside}
+use Rattle.demand.specs.Laws.Ran.{all-used}
+use Rattle.demand.specs.Laws.Shows.{T, In-store, lock-kept, Related}
+use Rattle.demand.specs.Laws.Store.{positive, sizes, keeps}
+use Rattle.demand.specs.Laws.Turns.{one-of, store}
+use Rattle.demand.specs.Laws.Used.{after-used}
+use Rattle.ranges.specs.Laws.Sound.{Part-sound, Sound-store}
+use Rattle.ranges.specs.Laws.Checks.{metadata-judged, fetch-judged}
+use Rattle.ranges.specs.Laws.Lists.{every-map, every-each, all-those}
+use Rattle.ranges.specs.Laws.Sets.{part-fits, All-copied}
+use Rattle.ranges.specs.Laws.Hand.{used-copied}
+use Rattle.ranges.specs.Laws.Entries.{object-sound}
+use Rattle.ranges.specs.Laws.Part.{used-part, meta-part, node-part, vector-part}
+use Rattle.ranges.specs.Laws.Locks.{early-stored}
+use Rattle.ranges.specs.Laws.Held.{number-judged}
+use Rattle.ranges.specs.Laws.Whole.{by-10, accepted, Kept, if-kept, client-sound}
+use Rattle.ranges.specs.Laws.Undecided.{abort-kept}
+use Rattle.nodes.specs.Name as N
+use Rattle.protocol.specs.Machine as P
+use Rattle.client.specs.Run as Run
+use Rattle.client.specs.Work as Work
+use Rattle.steps.specs.Uses as U
+use Rattle.steps.specs.Steps as Steps
+use Rattle.demand.specs.Laws.Fetches as F
+
+module _ (k j slots : ℕ) (al : Allowed (sizes k j slots)) (few : suc j ≤ 16) (m : Address → ℕ) (S : Sound-store k j slots m) (L : Ledger) (M : P.Machine (T k j slots)) (R : Related k j slots m L M) (c : Fin (suc j)) (now : client-of m (c .0) phase ≡ 1) where
+  abbrev z : Sizes
+  z = store k j slots
+
+  abbrev Fine : Did → Type 0
+  Fine = Kept k j slots m
+
+  abbrev u : ClientWord → ℕ
+  u = client-of m (c .0)
+
+  abbrev part : Part-sound (sizes k j slots) u
+  part = S .parts c
+
+  fit : client-fits (sizes k j slots) u ≡ true
+  fit = part-fits (sizes k j slots) u part
+
+  -- what is lacking doesn't depend on the step's words
+  abbrev n : Step
+  n = record { kind = 0; client = c .0; op = 0; key = 0; value = 0; server = 0 }
+
+  abbrev us : List ℕ
+  us = walked (sizes k j slots) u .used
+
+  -- ---- FETCH
+  module _ (a : Ask) (e : worked (sizes k j slots) u ≡ Work.fetches a) where
+    lacking : (have (sizes k j slots) u a ≡ none) × (us ≡ all-used (new u) (asked (sizes k j slots) u) []) × (length us ≤ 96 - u reads-count)
+    lacking = F.walk k j slots al few m L M c R fit now n refl a e
+
+    all-copied : All-copied (sizes k j slots) u us
+    all-copied = used-copied k j slots al u part (M .copy c) (R .clients c .copies) (M .slots c) (R .clients c .slot) us (lacking .1)
+
+    abbrev v : ClientWord → ℕ
+    v = after-used u us
+
+    used : Part-sound (sizes k j slots) v
+    used = used-part (sizes k j slots) u part us all-copied
+
+    -- what is checked at a server is in range
+    module _ (s : Fin (suc k)) where
+      -- a flag is checked at home
+      flag-home : (n : ℕ) → In-store k j slots (flag n) → (b : Bool) → can-check (s .0) (object-of (number (flag n))) b ≡ true → keeps k j slots s (flag n) ≡ true
+      unfolding can-check at-home
+      flag-home n hi b h =
+          kept-home k j slots al s (flag n) hi ∙ as-flag true (λ i. eqb (N.server-of i) (s .0)) (λ i. eqb (N.server-of i) (s .0)) n
+          ∙ subst (λ o. can-check (s .0) o b ≡ true) (object-number (sizes k j slots) al (flag n) hi) h
+
+      at-server : (i : Item) → number-in-store (sizes k j slots) (i .number) ≡ true
+          → can-check (s .0) (U.object i) (i .inner-read) ≡ true → check-fits z m (s .0) i ≡ true
+      at-server i h b = fetch-judged z m (s .0) (S .servers s) i h (number-judged k j slots few m S s (i .number) h (kept (obj-of (i .number)) refl) i refl) b
+        where
+          kept : (o : Obj) → obj-of (i .number) ≡ o → lock-kept k j slots (server-of m (s .0)) s o ≡ true
+          kept meta q = refl
+          kept (node n) q = refl
+          kept (flag n) q =
+              flag-home n (sym (ap (object-in-store (sizes k j slots)) q) ∙ sym (store-obj (sizes k j slots) (i .number)) ∙ h) (i .inner-read)
+              (subst (λ (x : ℕ). can-check (s .0) (object-of x) (i .inner-read) ≡ true) (sym (number-obj (i .number)) ∙ ap number q) b)
+
+      fetch-fits : all (check-fits z m (s .0)) (fetch-items z m (c .0) us (s .0)) ≡ true
+      unfolding read-items used-items item-of number-at
+      fetch-fits =
+          all-those (check-fits z m (s .0)) (λ i. can-check (s .0) (U.object i) (i .inner-read)) (read-items u ++ used-items u us)
+          (every-append _ (read-items u) (used-items u us)
+          (every-each _ (count u Reads) (read-item u) (λ i l. at-server (read-item u i) (part .sets .read i l .inside)))
+          (every-map _ _ (λ x. item-of u x (copied u x .node)) (λ x h. at-server (item-of u x (copied u x .node)) (h .0)) us all-copied))
+
+      -- what is handed over, once the copies in use have become items
+      handed-kept : (o : Outcome) → by-10 o ≡ false → (g : (ClientWord → ℕ) → List (Put ClientWord))
+          → Part-sound (sizes k j slots) (changed client-words v (g v)) → Fine (did o (handed z m (c .0) us g))
+      unfolding andThen
+      handed-kept o h g Q = record {
+        passes = accepted o h;
+        sound = client-sound k j slots m S c (andThen client-words (used-enter us) g u)
+            (subst (Part-sound (sizes k j slots)) (sym (changed-append client-words (used-enter us u) (g v) u)) Q)
+            (early-stored k j slots m (c .0) (andThen client-words (used-enter us) g u) (S .locks) (omega (arith, now)));
+      }
+
+      aborts : (y : ℕ) → Fine (Steps.abort z m (c .0) y us)
+      aborts y = abort-kept k j slots m S c al few L M R (inl now) y us
+
+      object-kept : (x p q : ℕ) (ok : Bool) (g : (ClientWord → ℕ) → List (Put ClientWord)) → number-in-store (sizes k j slots) x ≡ true → x ≤ 8192 → ok ≡ true
+          → Part-sound (sizes k j slots) (changed client-words v (g v)) → Fine (fetch-object z m (c .0) us (s .0) x (Fetched p q) ok g)
+      unfolding obj-of
+      object-kept x p q ok g hi l fine Q =
+          let i : Item = record { number = x; inner-read = false; mark = 0; written = false; becomes = false } in
+          if-kept k j slots m (ok && lock-fits z m (s .0) i) _ (rw (fine, number-judged k j slots few m S s x hi (lock-there x l) i refl) refl)
+          (one-of Fine (held (object-of x) (c .0) Fetch (server-of m (s .0))) _ _ (λ _. aborts 2)
+          (λ _. one-of Fine (full z m (c .0) us) _ _ (λ _. aborts 4) (λ _. handed-kept (Fetched p q) refl g Q)))
+        where
+          lock-there : (x : ℕ) → x ≤ 8192 → lock-kept k j slots (server-of m (s .0)) s (obj-of x) ≡ true
+          lock-there x l = go (eqb x 0) (leb x 8192) (le-leb x 8192 l)
+            where
+              go : (a b : Bool) → b ≡ true → lock-kept k j slots (server-of m (s .0)) s (cond a meta (cond b (node (x - 1)) (flag (x - 8193)))) ≡ true
+              go true b h = refl
+              go false true h = refl
+              go false false h = absurd (false≢true h)
+
+      checked-kept : (w : Wanted) → w .from ≡ s .0 → Fine (hand-over z m (c .0) us a (w .from) (Fetched (w .what) (w .which)))
+          → Fine (checked-fetch z m (c .0) us a w)
+      checked-kept w h K =
+          let found = deciding (map (fetch-finding z m (c .0) us (w .from)) (fetch-items z m (c .0) us (w .from))) in
+          if-kept k j slots m (all (check-fits z m (w .from)) (fetch-items z m (c .0) us (w .from))) _
+          (subst (λ (t : ℕ). all (check-fits z m t) (fetch-items z m (c .0) us t) ≡ true) (sym h) fetch-fits)
+          (one-of Fine (eqb found 0) _ _ (λ _. K) (λ _. aborts found))
+
+    -- ---- "Metadata comes from server (client modulo servers), a node from its home, a vector from its server."
+    meta-kept : (s : Fin (suc k)) → Fine (hand-over z m (c .0) us (object meta) (s .0) (Fetched 0 0))
+    unfolding number-in-store metadata-at
+    meta-kept s =
+        object-kept s 0 0 0 (metadata-sound (suc k) slots (server-of m (s .0))) _ refl (omega arith)
+        (metadata-judged (sizes k j slots) (s .0) (server-of m (s .0)) (S .servers s))
+        (meta-part (sizes k j slots) v used _ _ (S .servers s .metadata))
+
+    node-kept : (x : ℕ) → In-store k j slots (node x) → (s : Fin (suc k)) → N.server-of x ≡ s .0 → Fine (hand-over z m (c .0) us (object (node x)) (s .0) (Fetched 1 x))
+    unfolding node-at node-of tab
+    node-kept x hi s home =
+        let N = S .servers s .nodes x hi home in
+        object-kept s (1 + x) 1 x (in-range (node-at (server-of m (s .0)) x)) (fetched-node x (node-at (server-of m (s .0)) x))
+        (number-inside (sizes k j slots) al (node x) hi)
+        (omega (arith, name-lt (sizes k j slots) al x hi)) (N .range)
+        (node-part (sizes k j slots) v used x (node-at (server-of m (s .0)) x) (record { keys = refl; slots = refl })
+        (object-sound (sizes k j slots) al (node x) (node-at (server-of m (s .0)) x) hi (N .range) (N .children)) N)
+
+    vector-kept : (s : Fin (suc k)) (p q : ℕ) → Fine (did (Fetched p q) (handed z m (c .0) us (fetched-vector (s .0) (vector-at (server-of m (s .0))))))
+    vector-kept s p q =
+        handed-kept s (Fetched p q) refl (fetched-vector (s .0) (vector-at (server-of m (s .0))))
+        (vector-part (sizes k j slots) v used (s .0) (vector-at (server-of m (s .0))) (s .1))
+
+    -- what is lacking is of the store
+    lacks : (walked (sizes k j slots) u .how ≡ Run.lacks a) × (broken (sizes k j slots) u a ≡ false)
+    lacks = F.lacks k j slots al few m L M c R fit now n refl a e
+
+    lacked : (o : Obj) → a ≡ object o → In-store k j slots o
+    lacked o is-o =
+        lacks-object (sizes k j slots) u o (subst (λ (x : Ask). have (sizes k j slots) u x ≡ none) is-o (lacking .0))
+        (subst (λ (x : Ask). broken (sizes k j slots) u x ≡ false) is-o (lacks .1)) .inside
+
+    server-there : (s : ℕ) → not (ltb s (suc k)) ≡ false → s < suc k
+    server-there s h = ltb-true s (suc k) (not-false (ltb s (suc k)) h)
+
+  pub fetch-kept : (a : Ask) → worked (sizes k j slots) u ≡ Work.fetches a → Fine (Steps.fetch z m (c .0) us a)
+  unfolding Steps.fetch broken
+  fetch-kept (object meta) e =
+      let s : Fin (suc k) = (c .0 % suc k, mod-lt (c .0) (positive k)) in checked-kept (object meta) e s _ refl (meta-kept (object meta) e s)
+  fetch-kept (object (node x)) e =
+      let hi = lacked (object (node x)) e (node x) refl in
+      let s : Fin (suc k) = (N.server-of x, name-server k j slots x hi) in
+      checked-kept (object (node x)) e s _ refl (node-kept (object (node x)) e x hi s refl)
+  fetch-kept (object (flag x)) e =
+      let s : Fin (suc k) = (N.server-of x, name-server k j slots x (lacked (object (flag x)) e (flag x) refl)) in
+      checked-kept (object (flag x)) e s _ refl (vector-kept (object (flag x)) e s 2 (N.server-of x))
+  fetch-kept (vector s) e =
+      let t : Fin (suc k) = (s, server-there (vector s) e s (lacks (vector s) e .1)) in checked-kept (vector s) e t _ refl (vector-kept (vector s) e t 2 s)
+  fetch-kept (fetched s) e =
+      let t : Fin (suc k) = (s, server-there (fetched s) e s (lacks (fetched s) e .1)) in checked-kept (fetched s) e t _ refl (vector-kept (fetched s) e t 2 s)

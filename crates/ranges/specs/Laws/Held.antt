@@ -1,0 +1,111 @@
+-- WHAT IS JUDGED OF LOCKS, "a lock's transaction or its write": in a sound store it is in range.
+use mathlib.Core.Path.{_≡_, refl, sym, _∙_}
+use mathlib.Core.Bool.{Bool, true, false, _&&_, _||_, not}
+use mathlib.Core.Logic.{_⊎_}
+use Prim.Native.Nat.{ℕ, suc, _+_, _-_, _≤_, _<_, Fin}
+use native.Mathlib.Omega.{arith}
+use native.Mathlib.Decide.{decLt}
+use borrow.Author.Tests.{eq-eqb, lt-ltb, le-ltb, le-leb}
+use Rattle.memory.specs.Bit.{bit}
+use Rattle.operations.specs.Object.{Obj}
+use Rattle.operations.specs.Slot.{Allowed}
+use Rattle.server.specs.Object.{object-of, lock-of}
+use Rattle.server.specs.Laws.Lock.{reads, writes, range-writes}
+use Rattle.client.specs.declared.part.Set.the-variants.{Reads}
+use Rattle.client.specs.Layout.{ClientWord, phase, prepared, writes-count}
+use Rattle.client.specs.Record.{number, number-in-store}
+use Rattle.client.specs.Sets.{count, number-at}
+use Rattle.client.specs.Fits.{client-fits}
+use Rattle.steps.specs.declared.sizes.Sizes.{Sizes}
+use Rattle.steps.specs.Whole.{Address, server}
+use Rattle.steps.specs.Laws.Stores.{client-of, server-of}
+use Rattle.steps.specs.Uses.{Item, item-of, read-item, locked-at}
+use Rattle.demand.specs.Laws.Store.{sizes}
+use Rattle.demand.specs.Laws.Numbers.{obj-of, number-obj, store-obj}
+use Rattle.demand.specs.Laws.Shows.{T, In-store, lock-kept, Slot-shown}
+use Rattle.demand.specs.Laws.Aborted.{prepared-late}
+use Rattle.demand.specs.Laws.Held.{every-below, read-in}
+use Rattle.demand.specs.Laws.Locking.{here-kept}
+use Rattle.demand.specs.Laws.Turns.{store}
+use Rattle.ranges.specs.Laws.Sound.{Holds, Lock-sound, Sound-store}
+use Rattle.protocol.specs.Machine as P
+use Rattle.steps.specs.Judge as J
+
+-- where a test holds, another is true
+unless : (a b : Bool) → (a ≡ true → b ≡ true) → (not a || b) ≡ true
+unless true b h = h refl
+unless false b h = refl
+
+module _ (k j slots : ℕ) (few : suc j ≤ 16) (m : Address → ℕ) (W : Sound-store k j slots m) where
+  abbrev z : Sizes
+  z = store k j slots
+
+  commits-now : (s d x : ℕ) → Holds z m s d x → J.commits z m d ≡ true
+  commits-now s d x h = rw (le-leb 2 (client-of m d phase) (h .after-commit .0), le-leb (client-of m d phase) 3 (h .after-commit .1))
+
+  -- a lock's word that is sound
+  holders-now : (s x w : ℕ) → Lock-sound z m s x w → J.holders-fit z m x w ≡ true
+  unfolding J.holders-fit reads writes
+  holders-now s x w h = go (decLt w 65536)
+    where
+      -- many readers, or one writer
+      reader : w < 65536 → (d : ℕ) → d < suc j → bit w d ≡ true → J.commits z m d ≡ true
+      reader q d l b = commits-now s d x (h .readers d l (rw (lt-ltb w 65536 q, b)))
+
+      d : ℕ
+      d = w - 65536
+
+      is-writer : 65536 ≤ w → writes d w ≡ true
+      is-writer q = eq-eqb w (65536 + d) (omega arith)
+
+      writer : (l : d < suc j) → writes d w ≡ true → (J.commits z m d && J.writes z m d x) ≡ true
+      writer l e =
+          let q = h .writer d l e in
+          let n = le-leb (client-of m d writes-count) 48 (W .parts (d, l) .fields .within 11 (omega arith)) in
+          rw (commits-now s d x (q .0), n, q .1)
+
+      go : Dec (w < 65536) → J.holders-fit z m x w ≡ true
+      go (yes q) = rw (lt-ltb w 65536 q) (every-below (suc j) (λ d. not (bit w d) || J.commits z m d) (λ d l. unless (bit w d) (J.commits z m d) (reader q d l)))
+      go (no n) =
+          let q : 65536 ≤ w = omega arith in
+          rw (le-ltb w 65536 q) (writer (range-writes (suc j) w few (h .range) d (is-writer q)) (is-writer q))
+
+  -- the lock of the object o at a server that keeps it
+  lock-judged : (s : Fin (suc k)) (o : Obj) → In-store k j slots o → lock-kept k j slots (server-of m (s .0)) s o ≡ true
+      → (i : Item) → i .number ≡ number o → J.lock-fits z m (s .0) i ≡ true
+  unfolding J.lock-fits
+  lock-judged s o hi kept i e =
+      let sound = W .locks s o hi kept in
+      let w = m (server (s .0) (lock-of (object-of (number o)))) in
+      rw (e, sound .range) (holders-now (s .0) (number o) w sound)
+
+  -- of the object with number x
+  pub number-judged : (s : Fin (suc k)) (x : ℕ) → number-in-store (sizes k j slots) x ≡ true → lock-kept k j slots (server-of m (s .0)) s (obj-of x) ≡ true
+      → (i : Item) → i .number ≡ x → J.lock-fits z m (s .0) i ≡ true
+  number-judged s x hi kept i e = lock-judged s (obj-of x) (sym (store-obj (sizes k j slots) x) ∙ hi) kept i (e ∙ sym (number-obj x))
+
+  -- ---- what is unlocked
+  module _ (al : Allowed (sizes k j slots)) (c : Fin (suc j)) (fit : client-fits (sizes k j slots) (client-of m (c .0)) ≡ true) (y : P.Slot (T k j slots)) (shown : Slot-shown k j slots (client-of m (c .0)) y) where
+    abbrev u : ClientWord → ℕ
+    u = client-of m (c .0)
+
+    -- an item of the read set that is locked at s
+    pub item-judged : 2 ≤ u phase → (s : Fin (suc k)) (n : ℕ) → n < count u Reads → locked-at (J.lowest z m (c .0)) (s .0) (read-item u n) ≡ true
+        → J.lock-fits z m (s .0) (read-item u n) ≡ true
+    unfolding item-of
+    item-judged late s n l b =
+        lock-judged s (obj-of (number-at u Reads n)) (read-in k j slots al u fit n l)
+        (here-kept k j slots al u fit y shown s (J.lowest z m (c .0)) (shown .lowest-as late) (server-of m (s .0)) n l b) (read-item u n)
+        (sym (number-obj (number-at u Reads n)))
+
+    pub unlock-judged : 2 ≤ u phase → (s : Fin (suc k)) → J.unlock-fits z m (c .0) (s .0) ≡ true
+    unfolding J.unlock-fits
+    unlock-judged late s =
+        every-below (count u Reads) (λ n. not (locked-at (J.lowest z m (c .0)) (s .0) (read-item u n)) || J.lock-fits z m (s .0) (read-item u n))
+        (λ n l. unless _ _ (item-judged late s n l))
+
+    pub abort-judged : (u phase ≡ 1) ⊎ (u phase ≡ 2) → J.abort-fits z m (c .0) ≡ true
+    unfolding J.abort-fits
+    abort-judged undecided =
+        every-below (suc k) (λ s. not (bit (u prepared) s) || J.unlock-fits z m (c .0) s)
+        (λ s l. unless _ _ (λ b. unlock-judged (prepared-late k j slots u y shown s b undecided) (s, l)))

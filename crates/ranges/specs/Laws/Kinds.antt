@@ -1,0 +1,123 @@
+-- EVERY STEP from a sound store, of whatever kind, is not refused by 10 and leaves a sound store.
+use mathlib.Core.Path.{_≡_, refl}
+use mathlib.Core.Bool.{Bool, true, false, cond, not}
+use mathlib.Core.List.{List, [], _∷_}
+use mathlib.Core.Logic.{inl}
+use Prim.Native.Nat.{ℕ, zero, suc, _≤_, _<_, Fin}
+use native.Mathlib.Omega.{arith}
+use borrow.Author.Tests.{eqb-true, leb-true, ne-eqb}
+use lib.Dec.{eqb, leb}
+use Rattle.base.specs.Test.{and-both}
+use Rattle.layout.specs.Space.{changed}
+use Rattle.plans.specs.Walk.{Every}
+use Rattle.operations.specs.Slot.{Allowed}
+use Rattle.client.specs.Layout.{ClientWord, phase, op-number, prepared, applied}
+use Rattle.client.specs.Fits.{client-fits}
+use Rattle.client.specs.Work.{Worked, walked, worked}
+use Rattle.steps.specs.declared.sizes.Sizes.{Sizes}
+use Rattle.steps.specs.declared.step.Step.{Step}
+use Rattle.steps.specs.declared.step.Kind.the-variants.{Work}
+use Rattle.steps.specs.Whole.{Address}
+use Rattle.steps.specs.Refusal.{Row, first, kind-of, fits, of-step, refusal}
+use Rattle.steps.specs.Passed.{Passed}
+use Rattle.steps.specs.Laws.Passed.{passed}
+use Rattle.steps.specs.Laws.Stores.{client-of}
+use Rattle.demand.specs.Demand.{Words}
+use Rattle.demand.specs.Ledger.{Ledger}
+use Rattle.demand.specs.Laws.Settled.{unfinished}
+use Rattle.demand.specs.Laws.Shows.{T}
+use Rattle.demand.specs.Laws.Store.{sizes}
+use Rattle.demand.specs.Laws.Turns.{one-of, store, Good}
+use Rattle.demand.specs.Laws.Undecided.{either}
+use Rattle.ranges.specs.Laws.Sound.{Sound-store}
+use Rattle.ranges.specs.Laws.Sets.{part-fits}
+use Rattle.ranges.specs.Laws.Whole.{accepted, Kept, if-kept}
+use Rattle.ranges.specs.Laws.Undecided.{begin-kept, give-kept, commit-kept, abort-kept, loss-kept}
+use Rattle.ranges.specs.Laws.Applying.{apply-kept}
+use Rattle.ranges.specs.Laws.Preparing.{prepare-kept}
+use Rattle.ranges.specs.Laws.Hand.{never-refused}
+use Rattle.ranges.specs.Laws.Fetching.{fetch-kept}
+use Rattle.ranges.specs.Laws.Answering.{answer-kept}
+use Rattle.protocol.specs.Machine as P
+use Rattle.client.specs.Work as Work
+use Rattle.steps.specs.Steps as Steps
+
+-- the numbers of the table are below 10
+first-low : (rs : List Row) → Every (λ (r : Row). r .number ≤ 9) rs → first rs ≤ 9
+unfolding first Every
+first-low [] h = omega arith
+first-low (r ∷ rs) h = go (r .holds) (first-low rs (h .1))
+  where
+    go : (b : Bool) → first rs ≤ 9 → cond b (r .number) (first rs) ≤ 9
+    go true l = h .0
+    go false l = l
+
+refusal-low : (z : Sizes) (n : Step) (m : Address → ℕ) → refusal z n m ≤ 9
+unfolding refusal Every
+refusal-low z n m = first-low (of-step z n m) (omega arith, (omega arith, (omega arith, (omega arith, (omega arith, (omega arith, tt))))))
+
+module _ (k j slots : ℕ) (al : Allowed (sizes k j slots)) (few : suc j ≤ 16) (m : Address → ℕ) (S : Sound-store k j slots m) (L : Ledger) (M : P.Machine (T k j slots)) (G : Good k j slots m L M) (n : Step) (words : Words n) where
+  abbrev z : Sizes
+  z = store k j slots
+
+  abbrev Fine : Steps.Did → Type 0
+  Fine = Kept k j slots m
+
+  -- refused by another number: nothing is stored
+  refused-kept : (x : ℕ) → x ≤ 9 → Fine (Steps.refuse x)
+  unfolding changed
+  refused-kept x l = record { passes = accepted _ (ne-eqb x 10 (λ e. absurd (omega (arith, e)))); sound = S }
+
+  module _ (h : n .client < suc j) where
+    abbrev c : Fin (suc j)
+    c = (n .client, h)
+
+    abbrev u : ClientWord → ℕ
+    u = client-of m (n .client)
+
+    work-kept : fits u (n .server) Work ≡ true → Fine (Steps.work z m (n .client))
+    unfolding Steps.work fits
+    work-kept f = go (worked (sizes k j slots) u) refl
+      where
+        now : u phase ≡ 1
+        now = eqb-true (u phase) 1 (and-both (eqb (u phase) 1) (not (eqb (u op-number) 0)) f .0)
+
+        go : (w : Worked) → worked (sizes k j slots) u ≡ w → Fine (Steps.after-walk z m (n .client) (walked (sizes k j slots) u .used) w)
+        go Work.refused e = absurd (never-refused k j slots al u (S .parts c) (M .copy c) (G .shown .clients c .copies) (M .slots c) (G .shown .clients c .slot) e)
+        go (Work.fetches a) e = fetch-kept k j slots al few m S L M (G .shown) c now a e
+        go (Work.aborted y) e = abort-kept k j slots m S c al few L M (G .shown) (inl now) y (walked (sizes k j slots) u .used)
+        go (Work.answers a w) e = answer-kept k j slots al few m S L M (G .shown) c now a w e
+
+    kind-kept : Passed z n m → Fine (Steps.by-kind z m (n .client) n (kind-of (n .kind)))
+    unfolding kind-of fits
+    kind-kept p = go (n .kind) refl (p .known-kind) (p .fitting)
+      where
+        go : (x : ℕ) → n .kind ≡ x → x ≤ 7 → fits u (n .server) (kind-of x) ≡ true → Fine (Steps.by-kind z m (n .client) n (kind-of x))
+        go zero e l f = begin-kept k j slots m S c (eqb-true (u phase) 0 f)
+        go (suc zero) e l f =
+            give-kept k j slots m S c n (eqb-true (u phase) 1 (and-both (eqb (u phase) 1) (eqb (u op-number) 0) f .0)) (p .known-op e)
+            (words .key) (words .value) (words .server) (λ o. (p .known-node e o, p .known-server e o))
+        go (suc (suc zero)) e l f = work-kept f
+        go (suc (suc (suc zero))) e l f = commit-kept k j slots m S c (eqb-true (u phase) 1 (and-both (eqb (u phase) 1) (eqb (u op-number) 0) f .0))
+        go (suc (suc (suc (suc zero)))) e l f =
+            let q = unfinished u (n .server) prepared 2 f in
+            prepare-kept k j slots al few m S L M G c (n .server, p .known-participant (omega (arith, e)) (omega (arith, e))) (q .0) (q .1) (q .2)
+        go (suc (suc (suc (suc (suc zero))))) e l f =
+            let q = unfinished u (n .server) applied 3 f in
+            apply-kept k j slots al few m S L M (G .shown) c (n .server, p .known-participant (omega (arith, e)) (omega (arith, e))) (q .0)
+        go (suc (suc (suc (suc (suc (suc zero)))))) e l f =
+            let b = and-both (leb 1 (u phase)) (leb (u phase) 2) f in
+            abort-kept k j slots m S c al few L M (G .shown) (either (u phase) (leb-true 1 (u phase) (b .0)) (leb-true (u phase) 2 (b .1))) 6 []
+        go (suc (suc (suc (suc (suc (suc (suc zero))))))) e l f = loss-kept k j slots al few m S c L M (G .shown) (S .parts c .fields .within 0 (omega arith))
+        go (suc (suc (suc (suc (suc (suc (suc (suc x)))))))) e l f = absurd (omega arith)
+
+  -- THE STEP
+  pub step-kept : Fine (Steps.step z n m)
+  unfolding Steps.step
+  step-kept =
+      one-of Fine (eqb (refusal z n m) 0) _ _
+      (λ q. let p = passed z n m (eqb-true (refusal z n m) 0 q) in
+      if-kept k j slots m (client-fits (sizes k j slots) (client-of m (n .client))) _
+      (part-fits (sizes k j slots) (client-of m (n .client)) (S .parts (n .client, p .known-client)))
+      (kind-kept (p .known-client) p))
+      (λ _. refused-kept (refusal z n m) (refusal-low z n m))

@@ -1,0 +1,236 @@
+-- A client's part stays sound: the stores of each kind of step.
+use mathlib.Core.Path.{_≡_, refl, sym, subst}
+use mathlib.Core.Bool.{Bool, true, false, cond}
+use mathlib.Core.List.{List, [], _∷_}
+use Prim.Native.Nat.{ℕ, _+_, _≤_, _<_}
+use native.Mathlib.Omega.{arith}
+use borrow.Author.Tests.{ltb-true}
+use lib.Dec.{eqb, ltb}
+use Rattle.layout.specs.Space.{Put, put, puts, changed}
+use Rattle.layout.specs.Step.{andThen}
+use Rattle.layout.specs.Laws.Step.{changed-append}
+use Rattle.plans.specs.Walk.{Every}
+use Rattle.nodes.specs.declared.node.Node.{Node}
+use Rattle.nodes.specs.declared.found.Found.{Found}
+use Rattle.nodes.specs.declared.found.Found.the-variants.{At, Absent}
+use Rattle.nodes.specs.Laws.Stored.{Sized, made-sized}
+use Rattle.operations.specs.Object.{Writes}
+use Rattle.operations.specs.Map.{H}
+use Rattle.client.specs.Layout.{ClientWord, client-words, item, op-number, prepared, applied, reads-count, writes-count}
+use Rattle.client.specs.Record.{number-in-store, in-store, single}
+use Rattle.client.specs.Laws.Part.{count-limit}
+use Rattle.client.specs.Sets.{count, number-at, find}
+use Rattle.client.specs.Have.{copied}
+use Rattle.client.specs.Lent.{Entry}
+use Rattle.client.specs.Part.{nothing, put-field, put-fields, put-item, put-vector}
+use Rattle.client.specs.Participants.{committing}
+use Rattle.client.specs.Course.{noted, decided}
+use Rattle.client.specs.Copies.{copy-node, drop-all}
+use Rattle.client.specs.Drops.{drop-used}
+use Rattle.client.specs.Enter.{enter-read, written-behind, enter-at, enter-write, enter-entries}
+use Rattle.client.specs.Fetched.{fetched-meta, copy-inner, mark-fetched, fetched-node, fetched-vector}
+use Rattle.client.specs.Answered.{used-enter, entered, enter-writes, answered}
+use Rattle.client.specs.Life.{reset, give, lose, abort}
+use Rattle.demand.specs.Laws.Frame.{Only, only-then, then-keeps, read-after}
+use Rattle.demand.specs.Laws.CopyWords.{sets-stay, only-copy, only-fields, only-vector}
+use Rattle.demand.specs.Laws.Dropped.{Drop, fewer, fewer-sets, only-used, only-outer, only-all}
+use Rattle.demand.specs.Laws.Renewed.{Renews, renew-keeps}
+use Rattle.demand.specs.Laws.Latest.{All-whole}
+use Rattle.demand.specs.Laws.Entered.{Read-entered}
+use Rattle.demand.specs.Laws.Used.{after-used}
+use Rattle.ranges.specs.Laws.Sound.{Sound, Node-sound, Item-sound, Fields-sound, Part-sound}
+use Rattle.ranges.specs.Laws.Sets.{sets-frame, no-sets, read-sound, read-or-not, copied-sound, May-write, All-copied, used-keeps}
+use Rattle.ranges.specs.Laws.Entries.{written-sound}
+use Rattle.ranges.specs.Laws.Renewing.{renewed-node, renewed-meta}
+use Rattle.layout.specs.Laws.Space as Space
+use Rattle.operations.specs.Slot as S
+use Rattle.client.specs.declared.part.Set.the-variants as set
+use Rattle.client.specs.Renew as Rn
+use Rattle.ranges.specs.Laws.Fields as F
+use Rattle.ranges.specs.Laws.Copies as C
+
+-- an object that enters the read set
+entered-part : (z : S.Sizes) (u v : ClientWord → ℕ) (x : ℕ) (r : Node) → Read-entered u v x r → Item-sound z x r → Part-sound z u → Part-sound z v
+unfolding count
+entered-part z u v x r E I P = record {
+  fields = F.count-sound z u v set.Reads 10 (omega arith) (E .other) (omega (arith, E .counted, E .after, count-limit v set.Reads)) (P .fields);
+  sets = read-sound z u v x r E I (P .sets);
+  copies = C.copies-read z u v (P .copies) (E .other);
+}
+
+module _ (z : S.Sizes) (u : ClientWord → ℕ) (P : Part-sound z u) where
+  -- stores in the fields before the counts
+  few-fields : (ps : List (Put ClientWord)) → Space.Only client-words C.before-counts ps → Fields-sound z (changed client-words u ps)
+      → Part-sound z (changed client-words u ps)
+  few-fields ps h f =
+      record { fields = f; sets = sets-frame z u (changed client-words u ps) (C.fields-sets u ps h) (P .sets); copies = C.fields-copies u ps h z (P .copies) }
+
+  pub give-part : (op key value server : ℕ) → op ≤ 6 → key < H → value < H → server < H → (op ≡ 6 → (in-store z key ≡ true) × (server < z .servers))
+      → Part-sound z (changed client-words u (give op key value server u))
+  give-part op key value server l k v s there =
+      few-fields (give op key value server u) (C.only-give u op key value server) (F.give-fields z u op key value server l k v s there (P .fields))
+
+  pub commit-part : Part-sound z (changed client-words u (committing (z .servers) u))
+  commit-part = few-fields (committing (z .servers) u) (C.only-committing u (z .servers)) (F.committing-fields z u (P .fields))
+
+  pub decided-part : Part-sound z (changed client-words u (decided u))
+  decided-part = few-fields (decided u) (C.only-decided u) (F.decided-fields z u (P .fields))
+
+  pub prepared-part : (s : ℕ) → s < z .servers → Part-sound z (changed client-words u (noted prepared s u))
+  prepared-part s l = few-fields (noted prepared s u) (C.only-noted u prepared refl s) (F.prepared-fields z u s l (P .fields))
+
+  pub applied-part : (s : ℕ) → s < z .servers → Part-sound z (changed client-words u (noted applied s u))
+  applied-part s l = few-fields (noted applied s u) (C.only-noted u applied refl s) (F.applied-fields z u s l (P .fields))
+
+  answered-part : Part-sound z (changed client-words u (put op-number 0 ∷ []))
+  answered-part = few-fields (put op-number 0 ∷ []) C.only-answered (F.answered-fields z u (P .fields))
+
+  -- ---- a transaction begins anew, or ends: both sets are empty
+  pub reset-part : (p : ℕ) → p ≤ 1 → Part-sound z (changed client-words u (reset p u))
+  unfolding reset put-field put-fields puts andThen
+  reset-part p l = record {
+    fields = F.reset-fields z u p l (P .fields);
+    sets = no-sets z (changed client-words u (reset p u)) (read-after client-words (reset p u) u reads-count) (read-after client-words (reset p u) u writes-count);
+    copies = C.reset-copies z u (P .copies) p;
+  }
+
+  -- ---- copies are dropped
+  dropped-part : (ps : List (Put ClientWord)) → Only client-words Drop ps → Part-sound z (changed client-words u ps)
+  dropped-part ps h = record {
+    fields = F.dropped-fields z u ps h (P .fields);
+    sets = sets-frame z u (changed client-words u ps) (fewer-sets u (changed client-words u ps) (fewer ps u h)) (P .sets);
+    copies = C.dropped-copies z u (P .copies) ps h;
+  }
+
+  lost-part : Part-sound z (changed client-words u (put-field 9 1 u))
+  lost-part = few-fields (put-field 9 1 u) (C.only-lost u) (F.lost-fields z u (P .fields))
+
+  -- ---- a fetch: the copies in use enter the read set, then the object
+  pub used-part : (us : List ℕ) → All-copied z u us → Part-sound z (after-used u us)
+  used-part us h =
+      used-keeps u _ (Part-sound z)
+      (λ x q m v same E. entered-part z m v x (copied u x .node) E (record { inside = q .0; sound = copied-sound z u (P .copies) x (q .1) })) us h P .0
+
+  read-part : (x : ℕ) (r : Node) → Sized r → Item-sound z x r → Part-sound z (changed client-words u (enter-read x r u))
+  read-part x r w I = read-or-not u x r w (Part-sound z) (λ v E. entered-part z u v x r E I P) P
+
+  -- ---- a copy is made
+  node-copied : (x : ℕ) (r : Node) → Sized r → Node-sound z r → Part-sound z (changed client-words u (copy-node x r u))
+  node-copied x r w s = record {
+    fields = F.copied-fields z u (P .fields) x r;
+    sets = sets-frame z u _ (sets-stay (copy-node x r u) u (only-copy x r u)) (P .sets);
+    copies = C.copy-node-sound z u (P .copies) x r w s;
+  }
+
+  meta-copied : (root version : ℕ) → Sound z 0 (single version root) → Part-sound z (changed client-words u (put-fields 12 (1 ∷ root ∷ version ∷ []) u))
+  meta-copied root version s = record {
+    fields = F.meta-fields z u (P .fields) root version;
+    sets = sets-frame z u _ (sets-stay (put-fields 12 (1 ∷ root ∷ version ∷ []) u) u (only-fields 1 root version u)) (P .sets);
+    copies = C.meta-sound z u (P .copies) root version s;
+  }
+
+  vector-copied : (s : ℕ) (ws : List ℕ) → Part-sound z (changed client-words u (put-vector s ws u))
+  vector-copied s ws = record {
+    fields = F.vector-fields z u (P .fields) s ws;
+    sets = sets-frame z u _ (sets-stay (put-vector s ws u) u (only-vector s ws u)) (P .sets);
+    copies = C.vector-sound z u (P .copies) s ws;
+  }
+
+-- copies are renewed
+renews : (z : S.Sizes) → Renews (Part-sound z)
+renews z = record {
+  outer-drops = λ i w Q. dropped-part z w Q (Rn.drop-outer i w) (only-outer i w);
+  node-renews = λ i w Q l h. let n = renewed-node z w (Q .sets) i l h in node-copied z w Q (number-at w set.Writes i) (Rn.renewed w i) (n .0) (n .1);
+  meta-renews = λ i w Q e. meta-copied z w Q _ _ (renewed-meta z w (Q .sets) i e);
+  flag-renews = λ i w x Q _ _ _ _. vector-copied z w Q _ _;
+}
+
+-- the writes of an operation keep their count within its limit
+module _ (z : S.Sizes) where
+  abbrev Fine : List (Put ClientWord) → Type 0
+  Fine = Only client-words (F.Within-store z)
+
+  item-within : (i x : ℕ) (r : Node) (u : ClientWord → ℕ) → Fine (put-item set.Writes i x r u)
+  unfolding put-item F.Within-store
+  item-within i x r u = F.words-within z (item set.Writes i) _ (λ q v. tt)
+
+  entries-within : (l : List Entry) (u : ClientWord → ℕ) → Fine (enter-entries l u)
+  unfolding enter-entries enter-write nothing put-field Only F.Within-store
+  entries-within [] u = tt
+  entries-within (e ∷ l) u =
+      only-then client-words (F.Within-store z) (enter-write (e .0) (e .1)) (enter-entries l) u (one (find u set.Writes (e .0))) (entries-within l)
+    where
+      n : ℕ
+      n = count u set.Writes
+
+      behind : (b : Bool) → ltb n 48 ≡ b → Fine (cond b (written-behind n (e .0) (e .1)) nothing u)
+      behind true h =
+          only-then client-words (F.Within-store z) (put-item set.Writes n (e .0) (e .1)) (put-field 11 (n + 1)) u (item-within n (e .0) (e .1) u)
+          (λ v. ((refl, λ _. omega (arith, ltb-true n 48 h)), tt))
+      behind false h = tt
+
+      one : (f : Found) → Fine (enter-at (e .0) (e .1) n f u)
+      one (At i) = item-within i (e .0) (e .1) u
+      one Absent = behind (ltb n 48) refl
+
+module _ (z : S.Sizes) (u : ClientWord → ℕ) (P : Part-sound z u) where
+  -- a transaction ends: "An abort .. drops copies of all objects read"; "The last apply ends the transaction and renews its copies"
+  pub abort-part : (us : List ℕ) → Part-sound z (changed client-words u (abort us u))
+  abort-part us =
+      then-keeps client-words (Part-sound z) (drop-used us) (reset 0) u (dropped-part z u P (drop-used us u) (only-used us u)) (λ w Q. reset-part z w Q 0 (omega arith))
+
+  pub finish-part : Part-sound z (changed client-words u (Rn.finish u))
+  unfolding Rn.finish
+  finish-part = then-keeps client-words (Part-sound z) Rn.renew-kept (reset 0) u (renew-keeps (Part-sound z) (renews z) u P) (λ w Q. reset-part z w Q 0 (omega arith))
+
+  -- "loss drops all copies"
+  pub forget-part : Part-sound z (changed client-words u (drop-all u))
+  forget-part = dropped-part z u P (drop-all u) (only-all u)
+
+  pub lose-part : Part-sound z (changed client-words u (lose u))
+  unfolding lose
+  lose-part = then-keeps client-words (Part-sound z) (put-field 9 1) drop-all u (lost-part z u P) (λ w Q. dropped-part z w Q (drop-all w) (only-all w))
+
+  -- ---- what is handed over
+  pub meta-part : (root version : ℕ) → Sound z 0 (single version root) → Part-sound z (changed client-words u (fetched-meta root version u))
+  unfolding fetched-meta number-in-store single
+  meta-part root version s =
+      then-keeps client-words (Part-sound z) (enter-read 0 (single version root)) (put-fields 12 (1 ∷ root ∷ version ∷ [])) u
+      (read-part z u P 0 (single version root) (made-sized 0 0 version [] (root ∷ []) (omega arith) (omega arith)) (record { inside = refl; sound = s }))
+      (λ v Q. meta-copied z v Q root version s)
+
+  pub node-part : (n : ℕ) (r : Node) → Sized r → Item-sound z (1 + n) r → Node-sound z r → Part-sound z (changed client-words u (fetched-node n r u))
+  unfolding fetched-node copy-inner nothing changed
+  node-part n r w I s =
+      then-keeps client-words (Part-sound z) (enter-read (1 + n) r) (copy-inner (1 + n) r) u (read-part z u P (1 + n) r w I) (λ v Q. inner v Q (eqb (r .kind) 2))
+    where
+      -- "an inner node is copied too"
+      inner : (v : ClientWord → ℕ) → Part-sound z v → (b : Bool) → Part-sound z (changed client-words v (cond b (copy-node (1 + n) r) nothing v))
+      inner v Q true = node-copied z v Q (1 + n) r w s
+      inner v Q false = Q
+
+  pub vector-part : (s : ℕ) (ws : List ℕ) → s < z .servers → Part-sound z (changed client-words u (fetched-vector s ws u))
+  unfolding fetched-vector
+  vector-part s ws l =
+      then-keeps client-words (Part-sound z) (put-vector s ws) (mark-fetched s) u (vector-copied z u P s ws)
+      (λ v Q. few-fields z v Q (mark-fetched s v) (C.only-marked v s) (F.marked-fields z v s l (Q .fields)))
+
+  -- ---- an answer: the writes enter the write set
+  writes-part : (l : List Entry) → Every (λ e. Item-sound z (e .0) (e .1)) l → All-whole l → Every (λ e. May-write u (e .0)) l
+      → Part-sound z (changed client-words u (enter-entries l u))
+  writes-part l I w h =
+      let W = written-sound z l I w u h (P .sets) in record {
+        fields = F.stores-within z u (enter-entries l u) (entries-within z l u) (P .fields);
+        sets = W .0;
+        copies = C.copies-written z u _ (P .copies) (W .1);
+      }
+
+module _ (z : S.Sizes) (u : ClientWord → ℕ) (P : Part-sound z u) where
+  pub answer-part : (us : List ℕ) (w : Writes) → All-copied z u us → Every (λ e. Item-sound z (e .0) (e .1)) (entered w) → All-whole (entered w)
+      → Every (λ e. May-write (after-used u us) (e .0)) (entered w) → Part-sound z (changed client-words u (answered us w u))
+  unfolding answered enter-writes andThen
+  answer-part us w c I h m =
+      let v = after-used u us in
+      subst (Part-sound z) (sym (changed-append client-words (used-enter us u) (andThen client-words (enter-writes w) (λ x. put op-number 0 ∷ []) v) u))
+      (then-keeps client-words (Part-sound z) (enter-writes w) (λ x. put op-number 0 ∷ []) v
+      (writes-part z v (used-part z u P us c) (entered w) I h m) (λ x Q. answered-part z x Q))

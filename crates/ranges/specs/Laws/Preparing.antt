@@ -1,0 +1,125 @@
+-- Prepare: the locks, the decision, and with one participant the apply.
+use mathlib.Core.Path.{_≡_, refl, sym, subst}
+use mathlib.Core.Bool.{Bool, true, false, cond, _||_, not}
+use mathlib.Core.List.{[], map}
+use mathlib.Core.Logic.{inr}
+use Prim.Native.Nat.{ℕ, suc, _≤_, _<_, Fin}
+use native.Mathlib.Omega.{arith}
+use borrow.Author.Tests.{eqb-true, not-false}
+use lib.Dec.{eqb}
+use Rattle.memory.specs.Bit.{bit}
+use Rattle.layout.specs.Space.{changed}
+use Rattle.layout.specs.Part.{over}
+use Rattle.layout.specs.Laws.Step.{changed-append}
+use Rattle.operations.specs.Slot.{Allowed}
+use Rattle.client.specs.declared.part.Set.the-variants.{Reads}
+use Rattle.client.specs.Sets.{count, number-at}
+use Rattle.client.specs.Layout.{ClientWord, phase, participants, prepared}
+use Rattle.client.specs.Course.{noted, decided}
+use Rattle.client.specs.Fits.{client-fits}
+use Rattle.steps.specs.declared.sizes.Sizes.{Sizes}
+use Rattle.steps.specs.declared.outcome.Outcome.the-variants.{Prepared, Decided}
+use Rattle.steps.specs.Whole.{Address, client, whole}
+use Rattle.steps.specs.Judge.{lock-fits, check-fits, lowest, versions-fit, prepare-fits}
+use Rattle.steps.specs.Laws.Stores.{client-of, server-of}
+use Rattle.steps.specs.Steps.{lock-each}
+use Rattle.steps.specs.Uses.{read-item, checked-at, locked-at}
+use Rattle.demand.specs.Laws.Held.{every-below}
+use Rattle.demand.specs.Ledger.{Ledger, decides}
+use Rattle.demand.specs.Laws.Shows.{T}
+use Rattle.demand.specs.Laws.Store.{sizes}
+use Rattle.demand.specs.Laws.Turns.{one-of, store, Good}
+use Rattle.ranges.specs.Laws.Sound.{Sound-store}
+use Rattle.ranges.specs.Laws.Sets.{part-fits}
+use Rattle.ranges.specs.Laws.Part.{prepared-part, decided-part}
+use Rattle.ranges.specs.Laws.Servers.{lock-each-sound}
+use Rattle.ranges.specs.Laws.Locks.{prepare-locks, decided-locks}
+use Rattle.ranges.specs.Laws.Held.{item-judged}
+use Rattle.ranges.specs.Laws.Whole.{accepted, Kept, if-kept, client-sound, both-sound}
+use Rattle.ranges.specs.Laws.Undecided.{abort-kept}
+use Rattle.ranges.specs.Laws.Applying.{versions-judged, applied-kept}
+use Rattle.protocol.specs.Machine as P
+use Rattle.steps.specs.Steps as Steps
+use Rattle.steps.specs.Uses as U
+use Rattle.demand.specs.Laws.Decides as D
+use Rattle.ranges.specs.Laws.Checks as Checks
+
+module _ (k j slots : ℕ) (al : Allowed (sizes k j slots)) (few : suc j ≤ 16) where
+  abbrev z : Sizes
+  z = store k j slots
+
+  -- ---- PREPARE at the server s
+  module _ (m : Address → ℕ) (S : Sound-store k j slots m) (L : Ledger) (M : P.Machine (T k j slots)) (G : Good k j slots m L M) (c : Fin (suc j)) (s : Fin (suc k)) (now : client-of m (c .0) phase ≡ 2) (takes-part : bit (client-of m (c .0) participants) (s .0) ≡ true) (new : bit (client-of m (c .0) prepared) (s .0) ≡ false) where
+    abbrev u : ClientWord → ℕ
+    u = client-of m (c .0)
+
+    abbrev low : ℕ
+    low = lowest z m (c .0)
+
+    fit : client-fits (sizes k j slots) u ≡ true
+    fit = part-fits (sizes k j slots) u (S .parts c)
+
+    -- what a prepare reads is in range
+    judged : prepare-fits z m (c .0) (s .0) ≡ true
+    unfolding prepare-fits U.item-of number-at
+    judged = every-below (count u Reads) _ (λ n l. one n l (locked-at low (s .0) (read-item u n)) refl)
+      where
+        one : (n : ℕ) → n < count u Reads → (b : Bool) → locked-at low (s .0) (read-item u n) ≡ b
+            → (not b || cond (checked-at low (s .0) (read-item u n)) (check-fits z m (s .0) (read-item u n)) (lock-fits z m (s .0) (read-item u n))) ≡ true
+        one n l false e = refl
+        one n l true e = by (checked-at low (s .0) (read-item u n)) refl
+          where
+            lock : lock-fits z m (s .0) (read-item u n) ≡ true
+            lock = item-judged k j slots few m S al c fit (M .slots c) (G .shown .clients c .slot) (omega (arith, now)) s n l e
+
+            by : (t : Bool) → checked-at low (s .0) (read-item u n) ≡ t
+                → cond t (check-fits z m (s .0) (read-item u n)) (lock-fits z m (s .0) (read-item u n)) ≡ true
+            by true h = Checks.prepare-judged z m (s .0) (S .servers s) (read-item u n) (S .parts c .sets .read n l .inside) lock low h
+            by false h = lock
+
+    abbrev m₁ : Address → ℕ
+    m₁ = changed whole m (Steps.preparing z m (c .0) (s .0))
+
+    prepared-sound : Sound-store k j slots m₁
+    prepared-sound =
+        both-sound k j slots m S s c (lock-each u (c .0) low (s .0) (server-of m (s .0))) (noted prepared (s .0) u)
+        (lock-each-sound (sizes k j slots) (s .0) u (c .0) low (s .0) (server-of m (s .0)) (S .servers s))
+        (prepared-part (sizes k j slots) u (S .parts c) (s .0) (s .1)) (prepare-locks k j slots al few m L M c (G .shown) fit s now takes-part (S .locks))
+
+    module _ (fine : U.deciding (map (Steps.prepare-finding z m (c .0) (s .0)) (U.read-items u)) ≡ 0) (all : Steps.all-prepared z m (c .0) (s .0) ≡ true) where
+      abbrev m₂ : Address → ℕ
+      m₂ = changed whole m (Steps.deciding-stores z m (c .0) (s .0))
+
+      m₂-is : m₂ ≡ changed whole m₁ (over (client (c .0)) (decided (client-of m₁ (c .0))))
+      unfolding decided
+      m₂-is = changed-append whole (Steps.preparing z m (c .0) (s .0)) (over (client (c .0)) (decided u)) m
+
+      decided-sound : Sound-store k j slots m₂
+      decided-sound =
+          subst (Sound-store k j slots) (sym m₂-is)
+          (client-sound k j slots m₁ prepared-sound c (decided (client-of m₁ (c .0))) (decided-part (sizes k j slots) (client-of m₁ (c .0)) (prepared-sound .parts c))
+          (decided-locks k j slots m₁ (c .0) (prepared-sound .locks)))
+
+      -- with one participant it also applies
+      alone : Kept k j slots m (Steps.then m (Steps.deciding-stores z m (c .0) (s .0)) (λ m₃. Steps.applied-at z m₃ (c .0) (s .0)))
+      alone =
+          let K = applied-kept k j slots al few m₂ decided-sound (decides L (c .0)) (D.M₂ k j slots al few m L M c G fit s now new fine all)
+          (D.decide-good k j slots al few m L M c G fit s now new fine all .shown) c s (D.now₂ k j slots al few m L M c G fit s now new fine all) in
+          record {
+            passes = K .passes;
+            sound = subst (Sound-store k j slots)
+                (sym (changed-append whole (Steps.deciding-stores z m (c .0) (s .0)) (Steps.applied-at z m₂ (c .0) (s .0) .stores) m)) (K .sound);
+          }
+
+    pub prepare-kept : Kept k j slots m (Steps.prepare z m (c .0) (s .0))
+    unfolding Steps.prepare Steps.prepared-at
+    prepare-kept =
+        let found = U.deciding (map (Steps.prepare-finding z m (c .0) (s .0)) (U.read-items u)) in
+        let every = Steps.all-prepared z m (c .0) (s .0) in
+        if-kept k j slots m (prepare-fits z m (c .0) (s .0)) _ judged
+        (one-of (Kept k j slots m) (eqb found 0) _ _
+        (λ q. one-of (Kept k j slots m) (not every) _ _ (λ _. record { passes = accepted (Prepared (s .0)) refl; sound = prepared-sound })
+        (λ e. one-of (Kept k j slots m) (Steps.only z m (c .0) (s .0)) _ _
+        (λ _. if-kept k j slots m (versions-fit z m (c .0)) _ (versions-judged k j slots m (c .0) (S .parts c)) (alone (eqb-true found 0 q) (not-false every e)))
+        (λ _. record { passes = accepted Decided refl; sound = decided-sound (eqb-true found 0 q) (not-false every e) })))
+        (λ _. abort-kept k j slots m S c al few L M (G .shown) (inr now) found []))

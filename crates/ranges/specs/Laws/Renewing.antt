@@ -1,0 +1,70 @@
+-- "The last apply ends the transaction and renews its copies": what is copied then comes from the write set, and is sound as its items are.
+use mathlib.Core.Path.{_≡_, refl, subst}
+use mathlib.Core.Bool.{Bool, true, false, cond, false≢true, _&&_}
+use Prim.Native.Nat.{ℕ, _+_, _≤_, _<_}
+use native.Mathlib.Omega.{arith}
+use borrow.Author.Tests.{ltb-true}
+use lib.Dec.{eqb, leb, ltb}
+use Rattle.layout.specs.Space.{tab}
+use Rattle.nodes.specs.declared.node.Node.{Node}
+use Rattle.nodes.specs.declared.found.Found.{Found}
+use Rattle.nodes.specs.declared.found.Found.the-variants.{At, Absent}
+use Rattle.nodes.specs.Range.{in-range}
+use Rattle.nodes.specs.Stored.{node-of}
+use Rattle.nodes.specs.Laws.Stored.{Sized}
+use Rattle.client.specs.declared.part.Set.the-variants.{Reads, Writes}
+use Rattle.client.specs.Layout.{ClientWord, item}
+use Rattle.client.specs.Record.{single, by-number, first-slot, in-store, last-version, fits}
+use Rattle.client.specs.Sets.{count, record-at, number-at, find}
+use Rattle.client.specs.Commit.{inner-at}
+use Rattle.demand.specs.Laws.Held.{found-at}
+use Rattle.demand.specs.Laws.Placed.{record-sized}
+use Rattle.ranges.specs.Laws.Sound.{children-there, Node-sound, Sound, Sets-sound}
+use Rattle.ranges.specs.Laws.Stored.{root-there, metadata-of, versioned-sound}
+use Rattle.operations.specs.Slot as S
+use Rattle.client.specs.Renew as Rn
+
+-- the record of an object whose number names a node
+node-record : (z : S.Sizes) (x : ℕ) (r : Node) (b : Bool) → by-number x false (λ n. b) (λ n. false) ≡ true → Sound z x r → Node-sound z r
+unfolding fits
+node-record z x r b h s = go (eqb x 0) (leb x 8192) h (s .fitting) (s .children)
+  where
+    go : (c d : Bool) → cond c false (cond d b false) ≡ true
+        → cond c (in-store z (first-slot r) && leb (r .version) last-version) (cond d (in-range r) (leb (first-slot r) 1)) ≡ true
+        → cond c true (cond d (children-there z r) true) ≡ true → Node-sound z r
+    go true d h f g = absurd (false≢true h)
+    go false true h f g = record { range = f; children = g }
+    go false false h f g = absurd (false≢true h)
+
+-- "a 32-bit version"
+new-within : (w : ClientWord → ℕ) (x : ℕ) → Rn.new-version w x ≤ last-version
+unfolding Rn.new-version
+new-within w x = go (find w Reads x)
+  where
+    next : (v : ℕ) (b : Bool) → ltb v 4294967295 ≡ b → cond b (v + 1) 0 ≤ last-version
+    next v true e = omega (arith, ltb-true v 4294967295 e)
+    next v false e = omega arith
+
+    go : (f : Found) → Rn.version-found w f ≤ last-version
+    go (At j) = next (w (item Reads j 3)) (ltb (w (item Reads j 3)) 4294967295) refl
+    go Absent = omega arith
+
+module _ (z : S.Sizes) (w : ClientWord → ℕ) (S : Sets-sound z w) where
+  -- "then written inner nodes by name"
+  pub renewed-node : (i : ℕ) → i < count w Writes → inner-at w Writes i ≡ true → Sized (Rn.renewed w i) × Node-sound z (Rn.renewed w i)
+  unfolding Rn.renewed Rn.versioned inner-at
+  renewed-node i l h =
+      let x = number-at w Writes i in
+      let r = record-at w Writes i in
+      let whole : Sized r = record-sized w Writes i in (
+        record { keys = whole .keys; slots = whole .slots },
+        versioned-sound z r (Rn.new-version w x) (new-within w x) (node-record z x r (eqb (w (item Writes i 1)) 2) h (S .written i l .sound)),
+      )
+
+  -- "metadata"
+  pub renewed-meta : (i : ℕ) → find w Writes 0 ≡ At i → Sound z 0 (single (Rn.new-version w 0) (w (item Writes i 19)))
+  unfolding record-at node-of tab
+  renewed-meta i e =
+      let at = found-at w Writes 0 i e in
+      metadata-of z (Rn.new-version w 0) (w (item Writes i 19)) (new-within w 0)
+      (root-there z (record-at w Writes i) (subst (λ (x : ℕ). Sound z x (record-at w Writes i)) (at .1) (S .written i (at .0) .sound)))

@@ -1,0 +1,209 @@
+-- What an apply stores at a server leaves it sound: what is written is in range, and so is the version that it gets.
+use mathlib.Core.Path.{_≡_, refl, ap, ap₂, sym, _∙_, subst, fun-ext}
+use mathlib.Core.Bool.{Bool, true, false, cond, _&&_, and-false}
+use mathlib.Core.List.{List, []}
+use Prim.Native.Nat.{ℕ, _-_, _≤_, _<_}
+use native.Mathlib.Omega.{arith}
+use native.Mathlib.Decide.{ℕ-discrete}
+use borrow.Author.Tests.{eqb-true, leb-true, le-leb}
+use lib.Dec.{eqb, leb}
+use lib.ListN.{getD}
+use Rattle.base.specs.Test.{and-both}
+use Rattle.base.specs.Update.{upd}
+use Rattle.base.specs.Laws.Update.{upd-same, upd-other}
+use Rattle.layout.specs.Space.{Put, decide, changed, puts, tab}
+use Rattle.layout.specs.Laws.Space.{puts-apart, puts-other, tab-puts-same}
+use Rattle.layout.specs.Step.{andThen}
+use Rattle.layout.specs.Laws.Step.{changed-append}
+use Rattle.nodes.specs.Lists.{pad}
+use Rattle.nodes.specs.Node.{made, free-node, slotsOf}
+use Rattle.nodes.specs.Range.{level-fits, count-fits, in-range}
+use Rattle.nodes.specs.Stored.{node-of, words-of}
+use Rattle.nodes.specs.Laws.Stored.{Sized, length-words, node-words}
+use Rattle.server.specs.declared.place.Place.{Place}
+use Rattle.server.specs.declared.place.Place.the-variants.{Root, Version, MetadataLock, Vector, Node, FlagLock, Table, NodeLock}
+use Rattle.server.specs.Layout.{code, places}
+use Rattle.server.specs.Object.{named}
+use Rattle.server.specs.Store.{kept-of, metadata-step, flag-step, home-step, table-step, node-step}
+use Rattle.client.specs.declared.part.Set.the-variants.{Writes}
+use Rattle.client.specs.Layout.{ClientWord}
+use Rattle.client.specs.Record.{first-slot, single, in-store, fits, last-version}
+use Rattle.client.specs.Sets.{count, record-at, number-at}
+use Rattle.client.specs.Items.{inner-before-after}
+use Rattle.client.specs.Participants.{at-home}
+use Rattle.client.specs.Drops.{next-version}
+use Rattle.client.specs.Renew.{versioned}
+use Rattle.steps.specs.Steps.{store-write, store-all, unlock-each, node-at}
+use Rattle.steps.specs.Laws.Writes.{kept-sized}
+use Rattle.demand.specs.Laws.Frame.{then-keeps, sweep-keeps, Only, only-keeps}
+use Rattle.demand.specs.Laws.Placed.{record-sized}
+use Rattle.ranges.specs.Laws.Sound.{children-there, Node-sound, Sound, Sets-sound, Server-sound}
+use Rattle.ranges.specs.Laws.Servers.{unlock-each-sound}
+use Rattle.nodes.specs.declared.node.Node as Record
+use Rattle.nodes.specs.Name as N
+use Rattle.operations.specs.Slot as S
+
+module _ (z : S.Sizes) where
+  -- ---- the metadata: its root is there; and by its two words
+  pub root-there : (r : Record.Node) → Sound z 0 r → in-store z (first-slot r) ≡ true
+  unfolding fits
+  root-there r h = and-both (in-store z (first-slot r)) (leb (r .version) last-version) (h .fitting) .0
+
+  pub metadata-of : (v r : ℕ) → v ≤ last-version → in-store z r ≡ true → Sound z 0 (single v r)
+  unfolding fits single made pad
+  metadata-of v r h there = record { fitting = rw (there, le-leb v last-version h); children = refl }
+
+  pub metadata-parts : (v r : ℕ) → Sound z 0 (single v r) → (in-store z r ≡ true) × (v ≤ last-version)
+  unfolding fits single made pad
+  metadata-parts v r h = let q = and-both (in-store z r) (leb v last-version) (h .fitting) in (q .0, leb-true v last-version (q .1))
+
+  -- ---- a node with another version
+  pub versioned-sound : (r : Record.Node) (v : ℕ) → v ≤ last-version → Node-sound z r → Node-sound z (versioned r v)
+  unfolding versioned in-range children-there slotsOf
+  versioned-sound r v l h =
+      let rest = level-fits (r .kind) (r .level) && count-fits (r .kind) (r .count) in
+      let a = and-both (leb (r .kind) 2) (leb (r .version) last-version && rest) (h .range) in
+      let b = and-both (leb (r .version) last-version) rest (a .1) in
+      record { range = rw (a .0, le-leb v last-version l, b .1); children = h .children }
+
+  -- as it is kept: freed, nothing else
+  kept-sound : (r : Record.Node) (v : ℕ) → Node-sound z r → v ≤ last-version → Node-sound z (kept-of r v)
+  unfolding kept-of versioned free-node made pad in-range children-there
+  kept-sound r v h l = go (eqb (r .kind) 0)
+    where
+      go : (b : Bool) → Node-sound z (cond b (free-node v) (versioned r v))
+      go true = record { range = rw (le-leb v last-version l); children = refl }
+      go false = versioned-sound r v l h
+
+  module _ (s : ℕ) where
+    -- ---- a store at one word: of the metadata, a table's entry, a vector
+    unfoldable Harmless : Place → ℕ → Type 0
+    Harmless Root v = in-store z v ≡ true
+    Harmless Version v = v ≤ last-version
+    Harmless MetadataLock v = ⊥
+    Harmless (Vector i) v = Unit {0}
+    Harmless (Node k i) v = ⊥
+    Harmless (FlagLock k) v = ⊥
+    Harmless (Table t k) v = v ≤ last-version
+    Harmless (NodeLock t k) v = ⊥
+
+    module _ (p : Place → ℕ) (a : Place) (v : ℕ) (h : Harmless a v) where
+      abbrev q : Place → ℕ
+      q = upd (decide places) p a v
+
+      -- a word in range stays so; one at which there is no such store stays as it was
+      still : (x : Place) → Harmless x (p x) → Harmless x (q x)
+      still x was = go (decide places x a)
+        where
+          go : Dec (x ≡ a) → Harmless x (q x)
+          go (yes e) = subst (λ (y : Place). Harmless y (q y)) (sym e) (subst (Harmless a) (sym (upd-same (decide places) p a v)) h)
+          go (no n) = subst (Harmless x) (sym (upd-other (decide places) p a v x n)) was
+
+      same : (x : Place) → ((w : ℕ) → ¬ (Harmless x w)) → q x ≡ p x
+      same x n = upd-other (decide places) p a v x (λ e. n v (subst (λ (y : Place). Harmless y v) (sym e) h))
+
+      store-sound : Server-sound z s p → Server-sound z s q
+      unfolding Harmless node-at
+      store-sound sound =
+          let m = metadata-parts (p Version) (p Root) (sound .metadata) in
+          record {
+            metadata = metadata-of (q Version) (q Root) (still Version (m .1)) (still Root (m .0));
+            nodes = λ n i e. subst (λ (f : ℕ → ℕ). Node-sound z (node-of (tab 33 f))) (sym (fun-ext (λ i. same (Node (N.slot-of n) i) (λ w b. b)))) (sound .nodes n i e);
+            tables = λ n i. still (Table (N.server-of n) (N.slot-of n)) (sound .tables n i);
+          }
+
+    stores-sound : (ps : List (Put Place)) (p : Place → ℕ) → Only places Harmless ps → Server-sound z s p → Server-sound z s (changed places p ps)
+    stores-sound = only-keeps places Harmless (Server-sound z s) store-sound
+
+    -- ---- a node's words
+    module _ (k : ℕ) (r : Record.Node) (whole : Sized r) (good : Node-sound z r) (p : Place → ℕ) (sound : Server-sound z s p) where
+      abbrev p′ : Place → ℕ
+      p′ = changed places p (puts places (Node k) (words-of r))
+
+      stored : node-of (tab 33 (λ i. p′ (Node k i))) ≡ r
+      stored = ap node-of (tab-puts-same places 33 (words-of r) p (Node k) (length-words r whole) (λ i j e. ap (λ (a : Place). getD (code a) 3 0) e)) ∙ node-words r whole
+
+      node-sound : (n : ℕ) → in-store z n ≡ true → N.server-of n ≡ s → Node-sound z (node-at p′ n)
+      unfolding node-at
+      node-sound n i e = go (ℕ-discrete (N.slot-of n) k)
+        where
+          go : Dec (N.slot-of n ≡ k) → Node-sound z (node-of (tab 33 (λ i. p′ (Node (N.slot-of n) i))))
+          go (yes h) = subst (λ (t : ℕ). Node-sound z (node-of (tab 33 (λ i. p′ (Node t i))))) (sym h) (subst (Node-sound z) (sym stored) good)
+          go (no d) =
+              subst (λ (f : ℕ → ℕ). Node-sound z (node-of (tab 33 f)))
+              (sym (fun-ext (λ i. puts-other places (words-of r) p (Node k) (Node (N.slot-of n) i) (λ j l q. d (ap (λ (a : Place). getD (code a) 1 0) q)))))
+              (sound .nodes n i e)
+
+      words-sound : Server-sound z s p′
+      words-sound =
+          let beside = puts-apart places (words-of r) p (Node k) in
+          record {
+            metadata = subst (Sound z 0) (sym (ap₂ single (beside Version (λ i. refl)) (beside Root (λ i. refl)))) (sound .metadata);
+            nodes = node-sound;
+            tables = λ n i. subst (λ (v : ℕ). v ≤ last-version) (sym (beside (Table (N.server-of n) (N.slot-of n)) (λ i. simp and-false))) (sound .tables n i);
+          }
+
+    -- ---- a write, of metadata, a node, a flag
+    module _ (p : Place → ℕ) (sound : Server-sound z s p) where
+      metadata-stored : (r v : ℕ) → in-store z r ≡ true → v ≤ last-version → Server-sound z s (changed places p (metadata-step r v p))
+      unfolding metadata-step Only Harmless
+      metadata-stored r v there l = stores-sound (metadata-step r v p) p (there, (l, tt)) sound
+
+      flag-stored : (h t : Bool) (n : ℕ) → Server-sound z s (changed places p (cond h (flag-step (named n) t p) []))
+      unfolding flag-step Only Harmless changed
+      flag-stored true t n = stores-sound (flag-step (named n) t p) p (tt, tt) sound
+      flag-stored false t n = sound
+
+      home-stored : (h : Bool) (k : ℕ) (r : Record.Node) → Sized r → Node-sound z r → Server-sound z s (changed places p (cond h (puts places (Node k) (words-of r)) []))
+      unfolding changed
+      home-stored true k r whole good = words-sound k r whole good p sound
+      home-stored false k r whole good = sound
+
+      node-stored : (n : ℕ) (r : Record.Node) (v : ℕ) (b : Bool) → Sized r → Node-sound z r → v ≤ last-version
+          → Server-sound z s (changed places p (node-step s (named n) r v b p))
+      unfolding node-step home-step table-step Only Harmless
+      node-stored n r v b whole good l =
+          subst (Server-sound z s) (sym (changed-append places (home-step s (named n) (kept-of r v) p) (table-step (named n) v b p) p))
+          (stores-sound (table-step (named n) v b p) (changed places p (home-step s (named n) (kept-of r v) p)) (entry b)
+          (home-stored (eqb (N.server-of n) s) (N.slot-of n) (kept-of r v) (kept-sized r v whole) (kept-sound r v good l)))
+        where
+          entry : (b : Bool) → Only places Harmless (table-step (named n) v b p)
+          entry true = (l, tt)
+          entry false = tt
+
+    -- ---- THE APPLY: the writes, and then the locks
+    module _ (u : ClientWord → ℕ) (sets : Sets-sound z u) where
+      write-sound : (i : ℕ) → i < count u Writes → (p : Place → ℕ) → Server-sound z s p → Server-sound z s (changed places p (store-write u s i p))
+      unfolding fits next-version
+      write-sound i l p sound = go (eqb x 0) refl (leb x 8192) refl (sets .written i l .sound .fitting) (sets .written i l .sound .children)
+        where
+          x : ℕ
+          x = number-at u Writes i
+
+          r : Record.Node
+          r = record-at u Writes i
+
+          -- "a written version becomes the one read plus 1"
+          version : x ≤ 8192 → next-version u x ≤ last-version
+          version h = sets .young i l h
+
+          go : (a : Bool) → eqb x 0 ≡ a → (b : Bool) → leb x 8192 ≡ b
+              → cond a (in-store z (first-slot r) && leb (r .version) last-version) (cond b (in-range r) (leb (first-slot r) 1)) ≡ true
+              → cond a true (cond b (children-there z r) true) ≡ true
+              → Server-sound z s (changed places p (cond a (metadata-step (first-slot r) (next-version u x) p)
+              (cond b (node-step s (named (x - 1)) r (next-version u x) (inner-before-after u x) p)
+              (cond (at-home s x) (flag-step (named (x - 8193)) (eqb (first-slot r) 1) p) []))))
+          go true e b f h g =
+              metadata-stored p sound (first-slot r) (next-version u x) (and-both (in-store z (first-slot r)) (leb (r .version) last-version) h .0)
+              (version (let q = eqb-true x 0 e in omega arith))
+          go false e true f h g =
+              node-stored p sound (x - 1) r (next-version u x) (inner-before-after u x) (record-sized u Writes i) (record { range = h; children = g })
+              (version (leb-true x 8192 f))
+          go false e false f h g = flag-stored p sound (at-home s x) (eqb (first-slot r) 1) (x - 8193)
+
+      module _ (p : Place → ℕ) (sound : Server-sound z s p) where
+        applied-sound : Server-sound z s (changed places p (store-all u s p))
+        applied-sound = sweep-keeps places (Server-sound z s) (store-write u s) (count u Writes) (λ i q l. write-sound i l q) p sound
+
+        pub apply-sound : (c low : ℕ) → Server-sound z s (changed places p (andThen places (store-all u s) (unlock-each u c low s) p))
+        apply-sound c low = then-keeps places (Server-sound z s) (store-all u s) (unlock-each u c low s) p applied-sound (λ q. unlock-each-sound z s u c low s q)

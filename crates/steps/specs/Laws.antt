@@ -1,0 +1,16 @@
+-- Laws and proofs, in reading order.
+
+-- outcomes, by document 01's numbers
+pub mod Outcome
+-- the whole memory: head, servers' parts, clients' parts; stores and what stands after them
+pub mod Whole
+pub mod Stores
+-- refusals 1 to 9 as tables
+pub mod Refusal
+pub mod Passed
+-- which object is checked where, and which is locked
+pub mod Uses
+-- objects of the store have locks
+pub mod There
+-- the stores of an apply lie in the server's part
+pub mod Writes

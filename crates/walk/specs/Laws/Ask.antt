@@ -1,0 +1,588 @@
+-- Laws of a question: own writes, then what the part has.
+use mathlib.Core.Path.{_≡_, refl, sym, _∙_}
+use mathlib.Core.Bool.{Bool, true, false, _&&_, not}
+use mathlib.Core.List.{List, [], _∷_, _++_}
+use mathlib.Core.Option.{Option, none, some}
+use Prim.Native.Nat.{ℕ, _+_, _-_, _/_, _≤_, _<_}
+use native.Mathlib.Omega.{arith}
+use native.Mathlib.Numerals.{add-one}
+use native.Mathlib.Decide.{ℕ-discrete}
+use lib.Dec.{ltb, leb, eqb}
+use lib.ListN.{length, take, drop, getD, set, length-append, length-set, length-drop}
+use lib.Seq.{take-suc-set, getD-set-same, getD-set-other, length-take-le, take-take}
+use borrow.Author.Tests.{lt-ltb, le-ltb, ltb-true, ltb-false, leb-true, le-leb, ne-eqb, eqb-true, not-true, not-false}
+use Rattle.base.specs.Test.{and-both}
+use Rattle.nodes.specs.declared.node.Node.{Node}
+use Rattle.nodes.specs.declared.found.Found.{Found}
+use Rattle.nodes.specs.declared.found.Found.the-variants.{At, Absent}
+use Rattle.nodes.specs.Name.{server-of}
+use Rattle.nodes.specs.Node.{free-node, made}
+use Rattle.nodes.specs.Range.{level-fits, count-fits, in-range}
+use Rattle.nodes.specs.Laws.Range.{range-count}
+use Rattle.nodes.specs.Found.{Inside}
+use Rattle.operations.specs.Object.{Obj, meta, node, flag, Ask, object, vector, fetched, Val, Writes, hit}
+use Rattle.operations.specs.Slot.{Sizes}
+use Rattle.operations.specs.Path.{Plan, see}
+use Rattle.client.specs.declared.answer.How.{How}
+use Rattle.client.specs.declared.answer.How.the-variants.{Here, Copied, Full, Lacking, Broken}
+use Rattle.client.specs.declared.answer.Look.{Look}
+use Rattle.walk.specs.declared.walk.Asked.{Asked}
+use Rattle.walk.specs.declared.walk.Stop.{Stop}
+use Rattle.walk.specs.declared.walk.Stop.the-variants.{Going, LacksMeta, LacksNode, LacksVector, Refused, Aborts}
+use Rattle.client.specs.declared.part.Set.the-variants.{Reads, Copies}
+use Rattle.client.specs.Layout.{ClientWord, reads-count, meta-copied, vector-word}
+use Rattle.client.specs.Record.{number, sizes, object-in-store, in-store, value-of, fits}
+use Rattle.client.specs.Sets.{count, find, first-of}
+use Rattle.client.specs.Have.{here, copy, lacking, is-copied, is-found, copied, copied-meta, copied-item, copied-node, copied-flag, source, have, broken}
+use Rattle.client.specs.Laws.Have.{full, unfit}
+use Rattle.client.specs.Run.{lacks, Ran, ran, among, run}
+use Rattle.client.specs.Lent.{own-find, own-first, own-record, own-list, Lent, used-in, pushed}
+use Rattle.client.specs.Answered.{entered}
+use Rattle.client.specs.Laws.Look.{taken-up, looked, at-hand, used-after}
+use Rattle.walk.specs.Walk.{goes, lack, fresh, room, over, worked, walked}
+use Rattle.walk.specs.Laws.Walk.{full-ask, judged-over}
+use Rattle.walk.specs.Ask.{Small, write-of, OwnGood, Holds, nothing, Noted, Asks, Numbered, Outside, Answer, popped, stopped, noted-copy}
+use Rattle.plans.specs.Plan as P
+use Rattle.client.specs.declared.part.Set.the-variants as set
+
+abbrev pub or-ask : Obj → (Val → Plan) → Option Val → Plan
+or-ask o k none = P.ask (object o) k
+or-ask o k (some v) = k v
+
+pub see-is : (w : Writes) (o : Obj) (k : Val → Plan) → see w o k ≡ or-ask o k (write-of w o)
+see-is [] o k = refl
+see-is (e ∷ w) o k = go (hit (e .0) o) refl (see-is w o k)
+  where
+    go : (b : Bool) → hit (e .0) o ≡ b → see w o k ≡ or-ask o k (write-of w o) → see (e ∷ w) o k ≡ or-ask o k (write-of (e ∷ w) o)
+    go true p h = rw p
+    go false p h = rw p h
+
+-- an empty list of own writes
+none-own : (x : List ℕ) (n : ℕ) → getD x 0 0 ≡ 0 → own-find x n ≡ Absent
+unfolding own-find first-of
+none-own x n e = rw e
+
+absent-at : {A : Type 0} (i : ℕ) → Absent ≡ At i → A
+absent-at i e = let z : _≡_ {A = ℕ} 0 1 = cc in absurd (omega arith)
+
+module _ (x : List ℕ) (e : getD x 0 0 ≡ 0) where
+  pub nothing-good : 681 ≤ length x → OwnGood x
+  nothing-good l =
+      record { fit = record { long = l; few = omega arith }; few = λ i h. absurd (omega arith); small = λ o i f. absent-at i (sym (none-own x (number o) e) ∙ f) }
+
+  pub nothing-held : (z : Sizes) → Holds z x []
+  unfolding own-list own-first entered
+  nothing-held z = record { entries = rw e; same = λ o t. rw (none-own x (number o) e); out = λ o t. refl }
+
+pub none-held : (z : Sizes) → Holds z nothing []
+none-held z = nothing-held nothing refl z
+
+module _ (m : ClientWord → ℕ) (u : List ℕ) (h : Noted m u) where
+  pub used-length : length (used-in u) ≡ getD u 0 0
+  unfolding used-in
+  used-length = let l : getD u 0 0 ≤ length (drop 1 u) = simp length-drop (omega arith) in length-take-le (getD u 0 0) (drop 1 u) l
+
+  pub not-over : over m (used-in u) ≡ false → Lent u
+  unfolding over
+  not-over e = let l : count m Reads + length (used-in u) ≤ 96 = ltb-false _ _ e in record { long = h .long; few = omega (arith, used-length); small = h .each }
+
+  pub over-is : (n c : ℕ) → n ≡ count m Reads → c ≡ getD u 0 0 → ltb 96 (n + c) ≡ over m (used-in u)
+  unfolding over
+  over-is n c p q = rw (used-length, p, q)
+
+pub used-pushed : (u : List ℕ) (x : ℕ) → 98 ≤ length u → getD u 0 0 ≤ 96 → used-in (pushed u x) ≡ used-in u ++ (x ∷ [])
+unfolding used-in pushed
+used-pushed [] x l f = absurd (omega arith)
+used-pushed (n ∷ u) x l f = let g : n < length u = omega arith in rw (add-one, take-suc-set u n x g)
+
+-- ---- what is looked up is the plan's next step
+room-left : (a b : ℕ) → ltb a (96 - b) ≡ ltb (b + a) 96
+room-left a b = go (ltb (b + a) 96) refl
+  where
+    go : (t : Bool) → ltb (b + a) 96 ≡ t → ltb a (96 - b) ≡ ltb (b + a) 96
+    go true e = let l : b + a < 96 = ltb-true _ _ e in let g : a < 96 - b = omega arith in rw (e, lt-ltb _ _ g)
+    go false e = let l : 96 ≤ b + a = ltb-false _ _ e in let g : 96 - b ≤ a = omega arith in rw (e, le-ltb _ _ g)
+
+-- what is found, and in neither set, is a copy
+module _ (m : ClientWord → ℕ) where
+  item-copied : (f : Found) → is-found (copied-item m f .how) ≡ is-copied (copied-item m f .how)
+  item-copied (At i) = refl
+  item-copied Absent = refl
+
+  meta-found-is : is-found (copied-meta m .how) ≡ is-copied (copied-meta m .how)
+  unfolding copied-meta
+  meta-found-is = go (eqb (m meta-copied) 1) refl
+    where
+      go : (b : Bool) → eqb (m meta-copied) 1 ≡ b → is-found (copied-meta m .how) ≡ is-copied (copied-meta m .how)
+      go true e = rw (copied-meta, e)
+      go false e = rw (copied-meta, e)
+
+  flag-found-is : (n : ℕ) → is-found (copied-flag m n .how) ≡ is-copied (copied-flag m n .how)
+  unfolding copied-flag
+  flag-found-is n = go (eqb (m (vector-word (server-of n) 0)) 1) refl
+    where
+      go : (b : Bool) → eqb (m (vector-word (server-of n) 0)) 1 ≡ b → is-found (copied-flag m n .how) ≡ is-copied (copied-flag m n .how)
+      go true e = rw (copied-flag, e)
+      go false e = rw (copied-flag, e)
+
+  copied-found : (x : ℕ) → is-found (copied m x .how) ≡ is-copied (copied m x .how)
+  unfolding copied copied-node
+  copied-found x = go (eqb x 0) (leb x 8192) refl refl
+    where
+      go : (a b : Bool) → eqb x 0 ≡ a → leb x 8192 ≡ b → is-found (copied m x .how) ≡ is-copied (copied m x .how)
+      go true b p q = rw (copied, p) meta-found-is
+      go false true p q = rw (copied, p, q, copied-node) (item-copied (find m Copies x))
+      go false false p q = rw (copied, p, q) (flag-found-is (x - 8193))
+
+  fresh-is : (x : ℕ) → is-found (source m x .how) ≡ true → fresh m x ≡ is-copied (source m x .how)
+  unfolding source
+  fresh-is x h = go (find m set.Writes x) (find m Reads x) refl refl
+    where
+      go : (f g : Found) → find m set.Writes x ≡ f → find m Reads x ≡ g → fresh m x ≡ is-copied (source m x .how)
+      go (At i) g p q = rw (source, p)
+      go Absent (At i) p q = rw (source, p, q)
+      go Absent Absent p q = rw (source, p, q) (sym (rw (source, p, q) at h) ∙ copied-found x)
+
+module _ (z : Sizes) (m : ClientWord → ℕ) (o : Obj) (k : Val → Plan) (us : List ℕ) where
+  abbrev pub met : How → Node → Ran
+  met Here n = worked z m (k (value-of o n)) us
+  met Copied n = worked z m (k (value-of o n)) (us ++ (number o ∷ []))
+  met Full n = worked z m (k (value-of o n)) (us ++ (number o ∷ []))
+  met Lacking n = ran (lacks (object o)) us
+  met Broken n = ran (lacks (object o)) us
+
+module _ (z : Sizes) (m : ClientWord → ℕ) (x u : List ℕ) (w : Writes) (o : Obj) (t : object-in-store z o ≡ true) (v : over m (used-in u) ≡ false) (k : Val → Plan) where
+  abbrev asked-run : Ran
+  asked-run = run (have z m) (fresh m) (room m) (P.ask (object o) k) (used-in u)
+
+  one-more : length (used-in u ++ (number o ∷ [])) ≡ length (used-in u) + 1
+  one-more = simp length-append (omega arith)
+
+  taken-run : (r : Node) → fresh m (number o) ≡ true → have z m (object o) ≡ some (value-of o r)
+      → asked-run ≡ met z m o k (used-in u) (taken-up m u (number o) r .how) (taken-up m u (number o) r .node)
+  unfolding run taken-up worked over
+  taken-run r c h = go (among (number o) (used-in u)) (ltb (count m Reads + length (used-in u)) 96) refl refl
+    where
+      go : (a b : Bool) → among (number o) (used-in u) ≡ a → ltb (count m Reads + length (used-in u)) 96 ≡ b
+          → asked-run ≡ met z m o k (used-in u) (taken-up m u (number o) r .how) (taken-up m u (number o) r .node)
+      go true b p q = rw (run, taken-up, worked, h, c, p, v)
+      go false true p q =
+          let l : count m Reads + length (used-in u) < 96 = ltb-true (count m Reads + length (used-in u)) 96 q in
+          let g : count m Reads + length (used-in u ++ (number o ∷ [])) ≤ 96 = omega (arith, one-more) in
+          rw (run, taken-up, worked, over, h, c, p, room-left (length (used-in u)) (count m Reads), q, le-ltb _ _ g)
+      go false false p q =
+          let l : 96 ≤ count m Reads + length (used-in u) = ltb-false (count m Reads + length (used-in u)) 96 q in
+          let g : 96 < count m Reads + length (used-in u ++ (number o ∷ [])) = omega (arith, one-more) in
+          rw (run, taken-up, worked, over, h, c, p, room-left (length (used-in u)) (count m Reads), q, lt-ltb _ _ g) (judged-over (k (value-of o r)) (number o) (used-in u))
+
+  part-run : own-find x (number o) ≡ Absent → asked-run ≡ met z m o k (used-in u) (looked z m x u (number o) .how) (looked z m x u (number o) .node)
+  unfolding run have looked worked
+  part-run a = go (is-found (source m (number o) .how)) (fits z (number o) (source m (number o) .node)) (is-copied (source m (number o) .how)) refl refl refl
+    where
+      go : (b c d : Bool) → is-found (source m (number o) .how) ≡ b → fits z (number o) (source m (number o) .node) ≡ c → is-copied (source m (number o) .how) ≡ d
+          → asked-run ≡ met z m o k (used-in u) (looked z m x u (number o) .how) (looked z m x u (number o) .node)
+      go true true true p q r =
+          let h : have z m (object o) ≡ some (value-of o (source m (number o) .node)) = rw (have, t, p, q) in
+          rw (looked, a, p, q, r) (taken-run (source m (number o) .node) (fresh-is m (number o) p ∙ r) h)
+      go true true false p q r = rw (run, have, looked, worked, a, t, p, q, r, fresh-is m (number o) p, r, v)
+      go true false d p q r = rw (run, have, looked, a, t, p, q)
+      go false c d p q r = rw (run, have, looked, a, t, p)
+
+  looked-run : Holds z x w → worked z m (see w o k) (used-in u) ≡ met z m o k (used-in u) (looked z m x u (number o) .how) (looked z m x u (number o) .node)
+  unfolding looked worked
+  looked-run h = go (own-find x (number o)) refl
+    where
+      go : (f : Found) → own-find x (number o) ≡ f
+          → worked z m (see w o k) (used-in u) ≡ met z m o k (used-in u) (looked z m x u (number o) .how) (looked z m x u (number o) .node)
+      go (At i) e = let y : write-of w o ≡ some (value-of o (own-record x i)) = sym (h .same o t) ∙ rw e in rw (see-is w o k, y, looked, e)
+      go Absent e = let y : write-of w o ≡ none = sym (h .same o t) ∙ rw e in rw (see-is w o k, y, worked, v) (part-run e)
+
+-- whether what is lacking may be fetched
+abbrev unfit? : How → Bool
+unfit? Here = false
+unfit? Copied = false
+unfit? Full = false
+unfit? Lacking = false
+unfit? Broken = true
+
+abbrev fetched? : How → Bool
+fetched? Here = true
+fetched? Copied = true
+fetched? Full = true
+fetched? Lacking = false
+fetched? Broken = false
+
+module _ (z : Sizes) (m : ClientWord → ℕ) (x u : List ℕ) (o : Obj) (t : object-in-store z o ≡ true) where
+  taken-fetched : (r : Node) → fetched? (taken-up m u (number o) r .how) ≡ true
+  unfolding taken-up
+  taken-fetched r = go (among (number o) (used-in u)) (ltb (count m Reads + length (used-in u)) 96) refl refl
+    where
+      go : (a b : Bool) → among (number o) (used-in u) ≡ a → ltb (count m Reads + length (used-in u)) 96 ≡ b → fetched? (taken-up m u (number o) r .how) ≡ true
+      go true b p q = rw (taken-up, p)
+      go false true p q = rw (taken-up, p, q)
+      go false false p q = rw (taken-up, p, q)
+
+  looked-broken : fetched? (looked z m x u (number o) .how) ≡ false → broken z m (object o) ≡ unfit? (looked z m x u (number o) .how)
+  unfolding looked broken
+  looked-broken h = own (own-find x (number o)) refl
+    where
+      go : own-find x (number o) ≡ Absent → (b c d : Bool) → is-found (source m (number o) .how) ≡ b → fits z (number o) (source m (number o) .node) ≡ c → is-copied (source m (number o) .how) ≡ d
+          → broken z m (object o) ≡ unfit? (looked z m x u (number o) .how)
+      go a true true true p q r =
+          let f : fetched? (looked z m x u (number o) .how) ≡ true = rw (looked, a, p, q, r) (taken-fetched (source m (number o) .node)) in
+          let e : true ≡ false = sym f ∙ h in cc
+      go a true true false p q r = rw (broken, looked, a, t, p, q, r)
+      go a true false d p q r = rw (broken, looked, a, t, p, q)
+      go a false c d p q r = rw (broken, looked, a, t, p)
+
+      own : (f : Found) → own-find x (number o) ≡ f → broken z m (object o) ≡ unfit? (looked z m x u (number o) .how)
+      own (At i) e = let f : fetched? (looked z m x u (number o) .how) ≡ true = rw (looked, e) in let g : true ≡ false = sym f ∙ h in cc
+      own Absent e = go e (is-found (source m (number o) .how)) (fits z (number o) (source m (number o) .node)) (is-copied (source m (number o) .how)) refl refl refl
+
+free-small : (o : Obj) → Small o (free-node 0)
+unfolding free-node made
+free-small meta = tt
+free-small (node n) = record { keys = omega arith; level = omega arith }
+free-small (flag n) = tt
+
+range-level : (n : Node) → in-range n ≡ true → n .level ≤ 4
+unfolding in-range
+range-level n h = go (eqb (n .kind) 2) refl
+  where
+    rest : Bool
+    rest = level-fits (n .kind) (n .level) && count-fits (n .kind) (n .count)
+
+    fit : level-fits (n .kind) (n .level) ≡ true
+    fit =
+        and-both (level-fits (n .kind) (n .level)) (count-fits (n .kind) (n .count))
+        (and-both (leb (n .version) 4294967295) rest (and-both (leb (n .kind) 2) (leb (n .version) 4294967295 && rest) h .1) .1) .0
+
+    go : (b : Bool) → eqb (n .kind) 2 ≡ b → n .level ≤ 4
+    go true e = leb-true (n .level) 4 (and-both (leb 1 (n .level)) (leb (n .level) 4) (rw e at fit) .1)
+    go false e = let z : n .level ≡ 0 = eqb-true (n .level) 0 (rw e at fit) in omega arith
+
+fits-small : (z : Sizes) (o : Obj) (r : Node) → z .servers ≤ 8 → object-in-store z o ≡ true → fits z (number o) r ≡ true → Small o r
+unfolding fits in-store
+fits-small z meta r s t h = tt
+fits-small z (node n) r s t h =
+    let a : n / 1024 < z .servers = ltb-true _ _ (and-both _ _ t .0) in
+    let b : 1 + n ≤ 8192 = omega arith in
+    let c : 1 + n ≡ 0 → ⊥ = λ e. omega arith in
+    let g : in-range r ≡ true = rw (ne-eqb _ _ c, le-leb _ _ b) at h in
+    record { keys = range-count r g; level = range-level r g }
+fits-small z (flag n) r s t h = tt
+
+module _ (z : Sizes) (m : ClientWord → ℕ) (x u : List ℕ) (o : Obj) (s : z .servers ≤ 8) (t : object-in-store z o ≡ true) (own : (i : ℕ) → own-find x (number o) ≡ At i → Small o (own-record x i)) where
+  looked-small : Small o (looked z m x u (number o) .node)
+  unfolding looked taken-up
+  looked-small = go (own-find x (number o)) refl
+    where
+      taken : (r : Node) → Small o r → (a b : Bool) → among (number o) (used-in u) ≡ a → ltb (count m Reads + length (used-in u)) 96 ≡ b → Small o (taken-up m u (number o) r .node)
+      taken r h true b p q = rw (taken-up, p) h
+      taken r h false true p q = rw (taken-up, p, q) h
+      taken r h false false p q = rw (taken-up, p, q) h
+
+      part : own-find x (number o) ≡ Absent → (b c d : Bool) → is-found (source m (number o) .how) ≡ b → fits z (number o) (source m (number o) .node) ≡ c
+          → is-copied (source m (number o) .how) ≡ d → Small o (looked z m x u (number o) .node)
+      part a true true true p q r = rw (looked, a, p, q, r) (taken (source m (number o) .node) (fits-small z o (source m (number o) .node) s t q) (among (number o) (used-in u)) (ltb (count m Reads + length (used-in u)) 96) refl refl)
+      part a true true false p q r = rw (looked, a, p, q, r) (fits-small z o (source m (number o) .node) s t q)
+      part a true false d p q r = rw (looked, a, p, q) (free-small o)
+      part a false c d p q r = rw (looked, a, p) (free-small o)
+
+      go : (f : Found) → own-find x (number o) ≡ f → Small o (looked z m x u (number o) .node)
+      go (At i) e = rw (looked, e) (own i e)
+      go Absent e = part e (is-found (source m (number o) .how)) (fits z (number o) (source m (number o) .node)) (is-copied (source m (number o) .how)) refl refl refl
+
+never : {A : Type 0} {b : Bool} → b ≡ false → b ≡ true → A
+never p q = let e : false ≡ true = sym p ∙ q in let z : _≡_ {A = ℕ} 0 1 = cc in absurd (omega arith)
+
+lack-stops : (a : Ask) → goes (lack a) ≡ false
+lack-stops (object meta) = refl
+lack-stops (object (node n)) = refl
+lack-stops (object (flag n)) = refl
+lack-stops (vector s) = refl
+lack-stops (fetched s) = refl
+
+abbrev entered-stop : How → Stop → Stop
+entered-stop Here l = Going
+entered-stop Copied l = Going
+entered-stop Full l = Going
+entered-stop Lacking l = l
+entered-stop Broken l = Refused
+
+abbrev entered-used : How → List ℕ → ℕ → List ℕ
+entered-used Here u n = u
+entered-used Copied u n = u
+entered-used Full u n = pushed u n
+entered-used Lacking u n = u
+entered-used Broken u n = u
+
+pub popped-used : (u : List ℕ) → 98 ≤ length u → getD u 0 0 ≤ 97 → used-in (popped u) ≡ take (length (used-in u) - 1) (used-in u)
+unfolding used-in
+popped-used [] l f = absurd (omega arith)
+popped-used (c ∷ u) l f =
+    let g : length (take c u) ≡ c = length-take-le c u (omega arith) in
+    let d : c - 1 ≤ c = omega arith in
+    rw (g, take-take (c - 1) c u d)
+
+pub popped-noted : (m : ClientWord → ℕ) (u : List ℕ) → Noted m u → Noted m (popped u)
+popped-noted m [] h = absurd (omega arith)
+popped-noted m (c ∷ u) h = record { long = h .long; few = omega arith; each = λ i l. rw add-one (rw add-one at (h .each i (omega arith))) }
+
+pushed-noted : (m : ClientWord → ℕ) (u : List ℕ) (x : ℕ) → x < 16385 → Noted m u → count m Reads + getD u 0 0 ≤ 96 → Noted m (pushed u x)
+unfolding pushed
+pushed-noted m u x b f h =
+    record {
+      long = rw (length-set (set u (c + 1) x) 0 (c + 1), length-set u (c + 1) x) (f .long);
+      few = rw first (omega arith);
+      each = λ i l. rw (getD-set-other (set u (c + 1) x) 0 (i + 1) (c + 1) 0 (λ e. absurd (omega arith))) (go i (ℕ-discrete i c) (rw first at l));
+    }
+  where
+    c : ℕ
+    c = getD u 0 0
+
+    a : 0 < length (set u (c + 1) x)
+    a = rw (length-set u (c + 1) x) (omega (arith, f .long))
+
+    first : getD (set (set u (c + 1) x) 0 (c + 1)) 0 0 ≡ c + 1
+    first = getD-set-same (set u (c + 1) x) 0 (c + 1) 0 a
+
+    go : (i : ℕ) → Dec (i ≡ c) → i < c + 1 → getD (set u (c + 1) x) (i + 1) 0 < 16385
+    go i (yes e) l = rw (e, getD-set-same u (c + 1) x 0 (omega (arith, f .long, f .few, h))) b
+    go i (no d) l = rw (getD-set-other u (c + 1) (i + 1) x 0 (λ e. d (omega arith))) (f .each i (omega arith))
+
+module _ (z : Sizes) (m : ClientWord → ℕ) (u : List ℕ) (n : ℕ) (l : Stop) (eight : z .servers ≤ 8) (near : n < 16385) (h : Noted m u) where
+  pub asked-over : (c : Bool) (r : Asked) (u′ : List ℕ) → c ≡ over m (used-in u) → c ≡ true → r ≡ stopped (Aborts 4) → u′ ≡ popped u → Numbered z m nothing u n l (r .stop) (r .node) u′
+  asked-over c r u′ vc ct pr pu =
+      let b : getD u 0 0 ≤ 97 = omega arith in
+      rw (pr, pu) (record {
+        asks = λ o p t b′ w hold. let y : write-of w o ≡ none = sym (hold .same o t) ∙ rw (none-own nothing (number o) refl) in
+            record { same = λ k. rw (see-is w o k, y, full-ask z m (used-in u) (object o) k (sym vc ∙ ct), popped-used u (h .long) b) };
+        noted = popped-noted m u h;
+        long = simp length-set;
+        small = λ o p t. free-small o;
+      })
+
+  module _ (v : over m (used-in u) ≡ false) where
+    few : count m Reads + getD u 0 0 ≤ 96
+    unfolding over
+    few = let c : count m Reads + length (used-in u) ≤ 96 = ltb-false _ _ v in omega (arith, used-length m u h)
+
+    more : Noted m (pushed u n)
+    more = pushed-noted m u n near h few
+
+    looked-noted : (d : How) → looked z m nothing u n .how ≡ d → Noted m (entered-used (at-hand (looked z m nothing u n) .how) (used-after (looked z m nothing u n) u n) n)
+    unfolding at-hand used-after
+    looked-noted Here e = rw (at-hand, used-after, e) h
+    looked-noted Copied e = rw (at-hand, used-after, e) more
+    looked-noted Full e = rw (at-hand, used-after, e) more
+    looked-noted Lacking e = rw (at-hand, used-after, e) h
+    looked-noted Broken e = rw (at-hand, used-after, e) h
+
+    looked-long : (d : How) → looked z m nothing u n .how ≡ d → length (entered-used (at-hand (looked z m nothing u n) .how) (used-after (looked z m nothing u n) u n) n) ≡ length u
+    unfolding at-hand used-after pushed
+    looked-long Here e = rw (at-hand, used-after, e)
+    looked-long Copied e = rw (at-hand, used-after, e) (simp length-set)
+    looked-long Full e = rw (at-hand, used-after, e) (simp length-set)
+    looked-long Lacking e = rw (at-hand, used-after, e)
+    looked-long Broken e = rw (at-hand, used-after, e)
+
+    hand-node : (L : Look) → at-hand L .node ≡ L .node
+    unfolding at-hand
+    hand-node L = go (is-copied (L .how)) refl
+      where
+        go : (b : Bool) → is-copied (L .how) ≡ b → at-hand L .node ≡ L .node
+        go true e = rw (at-hand, e)
+        go false e = rw (at-hand, e)
+
+    module _ (o : Obj) (t : object-in-store z o ≡ true) (b : lack (object o) ≡ l) (w : Writes) (hold : Holds z nothing w) where
+      abbrev L : Look
+      L = looked z m nothing u (number o)
+
+      pushed-in : used-in (pushed u (number o)) ≡ used-in u ++ (number o ∷ [])
+      pushed-in = used-pushed u (number o) (h .long) (omega (arith, few))
+
+      looked-asks : (d : How) → L .how ≡ d → Asks z m w o u (entered-stop (at-hand L .how) l) (at-hand L .node) (entered-used (at-hand L .how) (used-after L u (number o)) (number o))
+      unfolding at-hand used-after walked
+      looked-asks Here e = rw (at-hand, used-after, e) (record { same = λ k. rw (walked, looked-run z m nothing u w o t v k hold, e) })
+      looked-asks Copied e = rw (at-hand, used-after, e) (record { same = λ k. rw (pushed-in, walked, looked-run z m nothing u w o t v k hold, e) })
+      looked-asks Full e = rw (at-hand, used-after, e) (record { same = λ k. rw (pushed-in, walked, looked-run z m nothing u w o t v k hold, e) })
+      looked-asks Lacking e =
+          let f : broken z m (object o) ≡ false = looked-broken z m nothing u o t (rw e) ∙ rw e in
+          rw (at-hand, used-after, e) (record { same = λ k. rw (walked, looked-run z m nothing u w o t v k hold, e, f, ← b, lack-stops (object o)) })
+      looked-asks Broken e =
+          let f : broken z m (object o) ≡ true = looked-broken z m nothing u o t (rw e) ∙ rw e in
+          rw (at-hand, used-after, e) (record { same = λ k. rw (walked, looked-run z m nothing u w o t v k hold, e, f) })
+
+  -- what the part has of the object, as it is looked up
+  looked-found : over m (used-in u) ≡ false → (L : Look) → looked z m nothing u n ≡ L
+      → Numbered z m nothing u n l (entered-stop (at-hand L .how) l) (at-hand L .node) (entered-used (at-hand L .how) (used-after L u n) n)
+  looked-found v L e = rw (← e) (record {
+    asks = λ o p t b w hold. rw (← p) (looked-asks v o t b w hold (looked z m nothing u (number o) .how) refl);
+    noted = looked-noted v (looked z m nothing u n .how) refl;
+    long = looked-long v (looked z m nothing u n .how) refl;
+    small = λ o p t. rw (hand-node v (looked z m nothing u n), ← p) (looked-small z m nothing u o eight t (λ i q. absent-at i (sym (none-own nothing (number o) refl) ∙ q)));
+  })
+
+  module _ (c : Bool) (vc : c ≡ over m (used-in u)) (cf : c ≡ false) (a : Look) (pa : a ≡ source m n) (f : Bool) (pf : f ≡ is-found (a .how)) where
+    under : over m (used-in u) ≡ false
+    under = sym vc ∙ cf
+
+    pub asked-lacking : (r : Asked) → not f ≡ true → r ≡ stopped l → Numbered z m nothing u n l (r .stop) (r .node) u
+    unfolding looked at-hand used-after
+    asked-lacking r nf pr =
+        let k : is-found (source m n .how) ≡ false = rw pa at (sym pf ∙ not-true f nf) in
+        rw pr (looked-found under lacking (rw (looked, none-own nothing n refl, k)))
+
+    module _ (nf : not f ≡ false) (g : Bool) (pg : g ≡ fits z n (a .node)) where
+      k : is-found (source m n .how) ≡ true
+      k = rw pa at (sym pf ∙ not-false f nf)
+
+      pub asked-broken : (r : Asked) → not g ≡ true → r ≡ stopped Refused → Numbered z m nothing u n l (r .stop) (r .node) u
+      unfolding looked at-hand used-after
+      asked-broken r ng pr =
+          let q : fits z n (source m n .node) ≡ false = rw pa at (sym pg ∙ not-true g ng) in
+          rw pr (looked-found under unfit (rw (looked, none-own nothing n refl, k, q)))
+
+      pub asked-going : (u′ : List ℕ) → not g ≡ false → u′ ≡ noted-copy (a .how) u n → Numbered z m nothing u n l Going (a .node) u′
+      unfolding looked taken-up at-hand used-after noted-copy
+      asked-going u′ ng pu = rw (pu, pa) (go (is-copied (source m n .how)) refl (among n (used-in u)) refl (ltb (count m Reads + length (used-in u)) 96) refl)
+        where
+          q : fits z n (source m n .node) ≡ true
+          q = rw pa at (sym pg ∙ not-false g ng)
+
+          go : (b : Bool) → is-copied (source m n .how) ≡ b → (d : Bool) → among n (used-in u) ≡ d → (e : Bool) → ltb (count m Reads + length (used-in u)) 96 ≡ e
+              → Numbered z m nothing u n l Going (source m n .node) (noted-copy (source m n .how) u n)
+          go false pb d pd e pe = rw (noted-copy, pb) (looked-found under (here (source m n .node)) (rw (looked, none-own nothing n refl, k, q, pb)))
+          go true pb true pd e pe = rw (noted-copy, pb, pd) (looked-found under (here (source m n .node)) (rw (looked, none-own nothing n refl, k, q, pb, taken-up, pd)))
+          go true pb false pd true pe = rw (noted-copy, pb, pd) (looked-found under (copy (source m n .node)) (rw (looked, none-own nothing n refl, k, q, pb, taken-up, pd, pe)))
+          go true pb false pd false pe = rw (noted-copy, pb, pd) (looked-found under (full (source m n .node)) (rw (looked, none-own nothing n refl, k, q, pb, taken-up, pd, pe)))
+
+-- ---- an object seen: an own write, else what was asked for
+module _ (z : Sizes) (m : ClientWord → ℕ) (x u : List ℕ) (n : ℕ) (l : Stop) (h : Noted m u) (g : OwnGood x) (f : Found) (pf : f ≡ own-find x n) where
+  pub seen-own : (i : ℕ) (r : Node) → f ≡ At i → r ≡ own-record x i → Numbered z m x u n l Going r u
+  seen-own i r e q =
+      let a : own-find x n ≡ At i = sym pf ∙ e in
+      rw q (record {
+        asks = λ o p t b w hold. let k : own-find x (number o) ≡ At i = rw p a in
+            let y : write-of w o ≡ some (value-of o (own-record x i)) = sym (hold .same o t) ∙ rw k in
+            record { same = λ k. rw (see-is w o k, y) };
+        noted = h;
+        long = refl;
+        small = λ o p t. g .small o i (rw p a);
+      })
+
+  pub seen-asked : (s : Stop) (r : Node) (u′ : List ℕ) → f ≡ Absent → Numbered z m nothing u n l s r u′ → Numbered z m x u n l s r u′
+  seen-asked s r u′ e d =
+      let a : own-find x n ≡ Absent = sym pf ∙ e in
+      record {
+        asks = λ o p t b w hold. let k : own-find x (number o) ≡ Absent = rw p a in
+            let y : write-of w o ≡ none = sym (hold .same o t) ∙ rw k in
+            record { same = λ k. rw (see-is w o k, y) (d .asks o p t b [] (none-held z) .same k) };
+        noted = d .noted;
+        long = d .long;
+        small = d .small;
+      }
+
+-- ---- ways out of the code that asks
+pub stopped-is : (s : Stop) (n : Node) → n ≡ free-node 0 → _≡_ {A = Asked} (record { stop = s; node = n }) (stopped s)
+stopped-is s n e = rw e
+
+pub at-inside : (f : Found) (i n : ℕ) → Inside f n → f ≡ At i → i < n
+at-inside f i n h e = h .inside i e
+
+-- a copy comes into use
+module _ (d : How) (u : List ℕ) (n : ℕ) (b : Bool) (pb : b ≡ is-copied d) where
+  pub copy-no : not b ≡ true → u ≡ noted-copy d u n
+  unfolding noted-copy
+  copy-no nb = let e : is-copied d ≡ false = sym pb ∙ not-true b nb in rw e
+
+  module _ (nb : not b ≡ false) (c : Bool) (pc : c ≡ among n (used-in u)) where
+    e : is-copied d ≡ true
+    e = sym pb ∙ not-false b nb
+
+    pub copy-known : c ≡ true → u ≡ noted-copy d u n
+    unfolding noted-copy
+    copy-known t = let q : among n (used-in u) ≡ true = sym pc ∙ t in rw (e, q)
+
+    pub copy-new : (u′ : List ℕ) → c ≡ false → u′ ≡ pushed u n → u′ ≡ noted-copy d u n
+    unfolding noted-copy
+    copy-new u′ t p = let q : among n (used-in u) ≡ false = sym pc ∙ t in rw (p, e, q)
+
+pub ruleset copy-exits = (copy-no, copy-known, copy-new)
+
+pub reads-few : (m : ClientWord → ℕ) → count m Reads ≤ 96
+unfolding count
+reads-few m = go (leb (m reads-count) 96) refl
+  where
+    go : (b : Bool) → leb (m reads-count) 96 ≡ b → count m Reads ≤ 96
+    go true e = rw (count, e) (leb-true (m reads-count) 96 e)
+    go false e = rw (count, e) (omega arith)
+
+-- the code's test of the limit
+module _ (m : ClientWord → ℕ) (u : List ℕ) (b : Bool) (e : b ≡ over m (used-in u)) (h : Noted m u) where
+  pub over-some : b ≡ true → 0 < getD u 0 0
+  unfolding over
+  over-some t = let l : 96 < count m Reads + length (used-in u) = ltb-true _ _ (sym e ∙ t) in omega (arith, used-length m u h, reads-few m)
+
+  pub over-long : b ≡ true → 98 ≤ length u
+  over-long t = h .long
+
+  pub under-lent : b ≡ false → Lent u
+  under-lent f = not-over m u h (sym e ∙ f)
+
+pub ruleset number-exits = (over-some, over-long, under-lent, asked-over, asked-lacking, asked-broken, asked-going)
+
+pub ruleset seen-exits = (seen-own, seen-asked, at-inside)
+
+module _ (m : ClientWord → ℕ) (u : List ℕ) (b : Bool) (e : b ≡ over m (used-in u)) (h : Noted m u) where
+  pub out-over : (r : Asked) (u′ : List ℕ) → b ≡ true → r ≡ stopped (Aborts 4) → u′ ≡ popped u → Outside m u (r .stop) (r .node) u′
+  out-over r u′ t q p =
+      let c : getD u 0 0 ≤ 97 = omega arith in
+      rw (q, p) (record {
+        asks = λ z x o f w hold. record { same = λ k. rw (see-is w o k, hold .out o f, full-ask z m (used-in u) (object o) k (sym e ∙ t), popped-used u (h .long) c) };
+        noted = popped-noted m u h;
+        long = simp length-set;
+        stops = refl;
+        small = λ o. free-small o;
+      })
+
+  pub out-refused : (r : Asked) → b ≡ false → r ≡ stopped Refused → Outside m u (r .stop) (r .node) u
+  unfolding walked worked run have broken
+  out-refused r t q =
+      let v : over m (used-in u) ≡ false = sym e ∙ t in
+      rw q (record {
+        asks = λ z x o f w hold. record { same = λ k. rw (see-is w o k, hold .out o f, walked, worked, run, have, v, f, broken, f) };
+        noted = h;
+        long = refl;
+        stops = refl;
+        small = λ o. free-small o;
+      })
+
+pub ruleset outside-exits = (over-some, over-long, out-over, out-refused)
+
+module _ (z : Sizes) (m : ClientWord → ℕ) (x u : List ℕ) (n : ℕ) (s : Stop) (r : Node) (u′ : List ℕ) (b : Bool) (e : b ≡ in-store z n) where
+  pub node-out : not b ≡ true → Outside m u s r u′ → Answer z m x u (node n) s r u′
+  node-out t h = record { asks = λ w hold. h .asks z x (node n) (sym e ∙ not-true b t) w hold; noted = h .noted; long = h .long; inside = λ g. never (h .stops) g; small = h .small (node n) }
+
+  pub flag-out : not b ≡ true → Outside m u s r u′ → Answer z m x u (flag n) s r u′
+  flag-out t h = record { asks = λ w hold. h .asks z x (flag n) (sym e ∙ not-true b t) w hold; noted = h .noted; long = h .long; inside = λ g. never (h .stops) g; small = h .small (flag n) }
+
+  pub node-found : (k : ℕ) → not b ≡ false → k ≡ 1 + n → Numbered z m x u k (LacksNode n) s r u′ → Answer z m x u (node n) s r u′
+  node-found k t p h =
+      record { asks = λ w hold. h .asks (node n) (sym p) (sym e ∙ not-false b t) refl w hold; noted = h .noted; long = h .long; inside = λ g. sym e ∙ not-false b t; small = h .small (node n) (sym p) (sym e ∙ not-false b t) }
+
+  pub flag-found : (k : ℕ) → not b ≡ false → k ≡ 8193 + n → Numbered z m x u k (LacksVector (n / 1024)) s r u′ → Answer z m x u (flag n) s r u′
+  flag-found k t p h =
+      record { asks = λ w hold. h .asks (flag n) (sym p) (sym e ∙ not-false b t) refl w hold; noted = h .noted; long = h .long; inside = λ g. sym e ∙ not-false b t; small = h .small (flag n) (sym p) (sym e ∙ not-false b t) }
+
+pub meta-found : (z : Sizes) (m : ClientWord → ℕ) (x u : List ℕ) (s : Stop) (r : Node) (u′ : List ℕ) → Numbered z m x u 0 LacksMeta s r u′ → Answer z m x u meta s r u′
+meta-found z m x u s r u′ h = record { asks = λ w hold. h .asks meta refl refl refl w hold; noted = h .noted; long = h .long; inside = λ g. refl; small = h .small meta refl refl }
+
+pub name-small : (servers slots n : ℕ) (b : Bool) → b ≡ in-store (sizes servers slots) n → servers ≤ 8 → not b ≡ false → n < 8192
+unfolding in-store
+name-small servers slots n b e h t =
+    let a : n / 1024 < servers = ltb-true _ _ (and-both _ _ (sym e ∙ not-false b t) .0) in
+    omega arith
+
+pub ruleset answer-exits = (node-out, flag-out, node-found, flag-found, meta-found, name-small)

@@ -1,0 +1,108 @@
+-- Laws of the work step of an operation that only reads.
+use mathlib.Core.Path.{_≡_, refl, sym, _∙_, ap}
+use mathlib.Core.Bool.{Bool, true, false}
+use mathlib.Core.List.{List, []}
+use Prim.Native.Nat.{ℕ, zero, suc, _+_, _≤_}
+use native.Mathlib.Omega.{arith}
+use lib.Dec.{ltb}
+use lib.ListN.{getD}
+use borrow.Author.Tests.{le-ltb}
+use Rattle.operations.specs.Object.{Ans}
+use Rattle.operations.specs.Slot.{Sizes}
+use Rattle.operations.specs.Path.{Plan}
+use Rattle.operations.specs.Look.{lookup-plan}
+use Rattle.operations.specs.Operation.{reading}
+use Rattle.walk.specs.declared.walk.Stop.{Stop}
+use Rattle.walk.specs.declared.walk.Stop.the-variants.{Answers}
+use Rattle.client.specs.Layout.{ClientWord, op-number, op-key, writes-count}
+use Rattle.client.specs.Run.{End}
+use Rattle.client.specs.Lent.{used-in}
+use Rattle.client.specs.Answered.{entered}
+use Rattle.client.specs.Work.{answers, waiting, count-new, any-at-last, last-questions, worked}
+use Rattle.walk.specs.Walk.{Told, is-answer, tell, walked}
+use Rattle.walk.specs.Laws.Begin.{nothing-used}
+use Rattle.walk.specs.Lookup.{ended, Walks}
+use Rattle.walk.specs.Laws.Lookup.{ended-nothing}
+use Rattle.walk.specs.Seek.{near-plan}
+use Rattle.walk.specs.Stopped.{Waiting, stop-of}
+use Rattle.walk.specs.Laws.Stopped.{noted-in-use, R, run-is, never, told-used, Given, stops, given}
+use Rattle.walk.specs.Look.{only-reads, Looks}
+use Rattle.client.specs.Work as C
+
+module _ (n op : ℕ) (po : op ≡ n) where
+  pub reads-two : op ≡ 2 → true ≡ only-reads n
+  reads-two e = let q : n ≡ 2 = sym po ∙ e in rw q
+
+  pub reads-four : op ≡ 4 → true ≡ only-reads n
+  reads-four e = let q : n ≡ 4 = sym po ∙ e in rw q
+
+  pub reads-five : op ≡ 5 → true ≡ only-reads n
+  reads-five e = let q : n ≡ 5 = sym po ∙ e in rw q
+
+  pub reads-no : (op ≡ 2 → ⊥) → (op ≡ 4 → ⊥) → (op ≡ 5 → ⊥) → false ≡ only-reads n
+  reads-no n₂ n₄ n₅ = go n (λ q. n₂ (po ∙ q)) (λ q. n₄ (po ∙ q)) (λ q. n₅ (po ∙ q))
+    where
+      go : (k : ℕ) → (k ≡ 2 → ⊥) → (k ≡ 4 → ⊥) → (k ≡ 5 → ⊥) → false ≡ only-reads k
+      go zero n₂ n₄ n₅ = refl
+      go (suc zero) n₂ n₄ n₅ = refl
+      go (suc (suc zero)) n₂ n₄ n₅ = absurd (n₂ refl)
+      go (suc (suc (suc zero))) n₂ n₄ n₅ = refl
+      go (suc (suc (suc (suc zero)))) n₂ n₄ n₅ = absurd (n₄ refl)
+      go (suc (suc (suc (suc (suc zero))))) n₂ n₄ n₅ = absurd (n₅ refl)
+      go (suc (suc (suc (suc (suc (suc k)))))) n₂ n₄ n₅ = refl
+
+pub ruleset reads-exits = (reads-two, reads-four, reads-five, reads-no)
+
+last-none : (z : Sizes) (m : ClientWord → ℕ) (a : Ans) → m writes-count ≤ 48 → last-questions z m a [] ≡ answers a []
+unfolding entered count-new any-at-last
+last-none z m a h = let l : m writes-count + 0 ≤ 48 = omega arith in let e : ltb 48 (m writes-count + 0) ≡ false = le-ltb 48 (m writes-count + 0) l in rw e
+
+module _ (z : Sizes) (m : ClientWord → ℕ) (wait : Waiting m) (u : List ℕ) (empty : getD u 0 0 ≡ 0) (s : Stop) (u′ : List ℕ) where
+  module _ (p : Plan) (e : reading z (waiting m) ≡ p) (h : Walks z m u p s u′) where
+    tells : tell z m (R z m (wait .reads) .how) (R z m (wait .reads) .used) ≡ ended s (used-in u′) []
+    tells =
+        sym (run-is z m (wait .reads)) ∙ ap (walked z m (reading z (waiting m))) (sym (nothing-used m u empty)) ∙ ap (λ (q : Plan). walked z m q (used-in u)) e ∙ h .same
+        ∙ sym (ended-nothing s (used-in u′))
+
+    used-are : used-in u′ ≡ C.walked z m .used
+    used-are = sym (ap (λ (k : Told). k .used) tells) ∙ told-used z m (R z m (wait .reads) .how) (R z m (wait .reads) .used)
+
+    looks : Looks z m s u′
+    unfolding worked
+    looks = go (is-answer s) refl
+      where
+        go : (b : Bool) → is-answer s ≡ b → Looks z m s u′
+        go false f =
+            let q : s ≡ stop-of (worked z m) = stops z m s (R z m (wait .reads) .used) (used-in u′) [] (R z m (wait .reads) .how) tells f in
+            record {
+              stopped = record { stop = q; used = used-are; in-use = noted-in-use m u′ (h .noted) };
+              none = λ a w k. never s (Answers (a .0) (a .1)) (q ∙ rw k) f refl;
+            }
+        go true f =
+            let g : Given z m (R z m (wait .reads) .how) s [] = given z m s (R z m (wait .reads) .used) (used-in u′) [] (R z m (wait .reads) .how) tells f in
+            let q : worked z m ≡ answers (g .answer) [] = ap (λ (e : End). C.judge z m e) (g .is) ∙ last-none z m (g .answer) (wait .writes) in
+            record {
+              stopped = record { stop = g .stop ∙ rw q; used = used-are; in-use = noted-in-use m u′ (h .noted) };
+              none = λ a w k. let y : answers (g .answer) [] ≡ answers a w = sym q ∙ k in let v : [] ≡ w = cc in sym v;
+            }
+
+  module _ (op key : ℕ) (po : op ≡ m op-number) (pk : key ≡ m op-key) where
+    pub look-lookup : op ≡ 2 → Walks z m u (lookup-plan key) s u′ → Looks z m s u′
+    look-lookup e h = let q : m op-number ≡ 2 = sym po ∙ e in looks (lookup-plan key) (rw (q, pk)) h
+
+    pub look-next : op ≡ 4 → Walks z m u (near-plan true key) s u′ → Looks z m s u′
+    look-next e h = let q : m op-number ≡ 4 = sym po ∙ e in looks (near-plan true key) (rw (q, pk)) h
+
+    pub look-previous : only-reads (m op-number) ≡ true → (op ≡ 2 → ⊥) → (op ≡ 4 → ⊥) → Walks z m u (near-plan false key) s u′ → Looks z m s u′
+    look-previous r n₂ n₄ h = looks (near-plan false key) (rw (five (m op-number) r (λ q. n₂ (po ∙ q)) (λ q. n₄ (po ∙ q)), pk)) h
+      where
+        five : (n : ℕ) → only-reads n ≡ true → (n ≡ 2 → ⊥) → (n ≡ 4 → ⊥) → n ≡ 5
+        five zero r n₂ n₄ = cc
+        five (suc zero) r n₂ n₄ = cc
+        five (suc (suc zero)) r n₂ n₄ = absurd (n₂ refl)
+        five (suc (suc (suc zero))) r n₂ n₄ = cc
+        five (suc (suc (suc (suc zero)))) r n₂ n₄ = absurd (n₄ refl)
+        five (suc (suc (suc (suc (suc zero))))) r n₂ n₄ = refl
+        five (suc (suc (suc (suc (suc (suc n)))))) r n₂ n₄ = cc
+
+pub ruleset look-by-number = (look-lookup, look-next, look-previous)
