@@ -8,7 +8,7 @@ use lib.ListN.{length, take, drop, getD}
 use Rattle.base.specs.Test.{ifd}
 use Rattle.operations.specs.Object.{Ans, Writes}
 use Rattle.operations.specs.Slot.{release}
-use Rattle.operations.specs.Entry.{Entries, mn}
+use Rattle.operations.specs.Entry.{Entries, fewest-entries}
 use Rattle.operations.specs.Path.{Plan, Branch}
 use Rattle.operations.specs.Change.{Go, parted, merged}
 
@@ -34,6 +34,6 @@ module _ (a : Ans) (l : ℕ) (fs : List Branch) (go : Go) where
   -- through the parent; from 7 the two merge into the left one and the right is freed."
   abbrev pub evened : Bool → Writes → Branch → ℕ → ℕ → Entries → Entries → Plan
   evened true w f c1 c2 es es2 = let n = length es2 - 1 in
-      ifd (decLt (mn l) (length es2)) (parted go l w f c1 (take n es2) c2 (drop n es2 ++ es)) (release w c2 (λ w′. merged a l fs go w′ f c1 (es2 ++ es)))
+      ifd (decLt (fewest-entries l) (length es2)) (parted go l w f c1 (take n es2) c2 (drop n es2 ++ es)) (release w c2 (λ w′. merged a l fs go w′ f c1 (es2 ++ es)))
   evened false w f c1 c2 es es2 =
-      ifd (decLt (mn l) (length es2)) (parted go l w f c1 (es ++ take 1 es2) c2 (drop 1 es2)) (release w c2 (λ w′. merged a l fs go w′ f c1 (es ++ es2)))
+      ifd (decLt (fewest-entries l) (length es2)) (parted go l w f c1 (es ++ take 1 es2) c2 (drop 1 es2)) (release w c2 (λ w′. merged a l fs go w′ f c1 (es ++ es2)))

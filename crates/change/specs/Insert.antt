@@ -4,12 +4,12 @@ use mathlib.Core.Option.{Option, none, some}
 use Prim.Native.Nat.{ℕ, zero, _-_, _≤_}
 use Rattle.nodes.specs.declared.node.Node.{Node}
 use Rattle.nodes.specs.Place.{place}
-use Rattle.nodes.specs.Find.{find}
+use Rattle.nodes.specs.Find.{key-index}
 use Rattle.nodes.specs.Node.{keysOf}
 use Rattle.nodes.specs.Entries.{entriesOf}
 use Rattle.nodes.specs.Change.{put-in, with-slot}
 use Rattle.operations.specs.Map.{fresh}
-use Rattle.operations.specs.Slot.{Sizes}
+use Rattle.operations.specs.Slot.{TreeSizes}
 use Rattle.operations.specs.Entry.{value-in, with-pair}
 use Rattle.operations.specs.Path.{Plan}
 use Rattle.operations.specs.Change.{up}
@@ -25,10 +25,10 @@ paired-at n key v none = record { content = put-in n (place (keysOf n) key) key 
 paired-at n key v (some i) = record { content = widened (with-slot n i v); a = 0 }
 
 unfoldable pub paired : Node → ℕ → ℕ → Paired
-paired n key v = paired-at n key v (find (keysOf n) key)
+paired n key v = paired-at n key v (key-index (keysOf n) key)
 
 -- ---- a way down that ended at a leaf
-pub record Ended (z : Sizes) (d : Descent) : Type 0 where
+pub record Ended (z : TreeSizes) (d : Descent) : Type 0 where
   pub high : d .top ≤ 4
   pub reached : Reached 0 d
   pub linked : Linked z 0 (d .name) (trail (d .path) 0 (d .top - 0))
@@ -38,5 +38,5 @@ way d = trail (d .path) 0 (d .top - 0)
 
 -- ---- insert
 -- the plan from the leaf on
-unfoldable pub insert-in : Sizes → Descent → ℕ → ℕ → Plan
+unfoldable pub insert-in : TreeSizes → Descent → ℕ → ℕ → Plan
 insert-in z d key v = let es = entriesOf (d .node) (low (way d)) in up z (fresh (value-in key es)) zero (branches (way d)) [] (d .name) (with-pair key v es)

@@ -10,8 +10,8 @@ use Rattle.nodes.specs.declared.node.Node.{Node}
 use Rattle.nodes.specs.Entries.{entriesOf}
 use Rattle.nodes.specs.Kept.{Whole}
 use Rattle.operations.specs.Object.{node, Val, no-tree}
-use Rattle.operations.specs.Slot.{Sizes}
-use Rattle.operations.specs.Entry.{Entries, mk}
+use Rattle.operations.specs.Slot.{TreeSizes}
+use Rattle.operations.specs.Entry.{Entries, node-value}
 use Rattle.operations.specs.Path.{Plan, Branch, Cont, down, at-root}
 use Rattle.operations.specs.Migrate.{moved, move-at, to-level}
 use Rattle.walk.specs.declared.down.Descent.{Descent}
@@ -28,7 +28,7 @@ use Rattle.plans.specs.Plan as P
 
 -- ---- the statements
 -- an inner node one level above l, and its name
-pub record Parent (z : Sizes) (l up : ℕ) (p : Node) : Type 0 where
+pub record Parent (z : TreeSizes) (l up : ℕ) (p : Node) : Type 0 where
   pub whole : Whole p
   pub small : SmallNode p
   pub opened : opens p ≡ true
@@ -36,7 +36,7 @@ pub record Parent (z : Sizes) (l up : ℕ) (p : Node) : Type 0 where
   pub there : in-store z up ≡ true
 
 -- "the path downward" from the root of the name top to the level above l
-pub record ToParent (z : Sizes) (m : ClientWord → ℕ) (u : List ℕ) (key top l : ℕ) (d : Descent) (u′ : List ℕ) : Type 0 where
+pub record ToParent (z : TreeSizes) (m : ClientWord → ℕ) (u : List ℕ) (key top l : ℕ) (d : Descent) (u′ : List ℕ) : Type 0 where
   pub asks : (k : Cont)
       → walked z m (at-root top (λ j es. ifd (decLt l j) (down (to-level (suc l)) key k j [] top es) (P.fail no-tree))) (used-in u)
       ≡ carry (d .stop) (used-in u′) (λ us. walked z m
@@ -49,13 +49,13 @@ abbrev pub with-child : Entries → ℕ → ℕ → Entries
 with-child es i d = take i es ++ (getD es i (0, 0) .0, d) ∷ drop (suc i) es
 
 -- the plan of a move with that write
-abbrev pub child-plan : Sizes → ℕ → ℕ → Val → ℕ → ℕ → ℕ → Entries → Plan
-child-plan z nm s v up l at es = moved z nm s v (λ d w. w) (λ d w. P.done ((1, d), (node up, mk l (with-child es at d)) ∷ w))
+abbrev pub child-plan : TreeSizes → ℕ → ℕ → Val → ℕ → ℕ → ℕ → Entries → Plan
+child-plan z nm s v up l at es = moved z nm s v (λ d w. w) (λ d w. P.done ((1, d), (node up, node-value l (with-child es at d)) ∷ w))
 
 -- "Migrate moves a node .. and changes the parent": the node n of the name nm, child number at of p
-pub record ChildMoved (z : Sizes) (m : ClientWord → ℕ) (x u : List ℕ) (nm s : ℕ) (n : Node) (up : ℕ) (p : Node) (at : ℕ) (st : Stop) (x′ u′ : List ℕ) : Type 0 where
+pub record ChildMoved (z : TreeSizes) (m : ClientWord → ℕ) (x u : List ℕ) (nm s : ℕ) (n : Node) (up : ℕ) (p : Node) (at : ℕ) (st : Stop) (x′ u′ : List ℕ) : Type 0 where
   pub operated : (lo : ℕ) → Operated z m x u (child-plan z nm s (value-of (node nm) n) up (p .level) at (entriesOf p lo)) st x′ u′
 
 -- "isn't met at its level going down from the root by its first key": at the parent
-pub record MovedAt (z : Sizes) (m : ClientWord → ℕ) (x u : List ℕ) (key nm s : ℕ) (n : Node) (up : ℕ) (p : Node) (st : Stop) (x′ u′ : List ℕ) : Type 0 where
+pub record MovedAt (z : TreeSizes) (m : ClientWord → ℕ) (x u : List ℕ) (key nm s : ℕ) (n : Node) (up : ℕ) (p : Node) (st : Stop) (x′ u′ : List ℕ) : Type 0 where
   pub operated : (fs : List Branch) (lo : ℕ) → Operated z m x u (move-at z nm s (value-of (node nm) n) key (p .level) fs up (entriesOf p lo)) st x′ u′

@@ -12,7 +12,7 @@ use Rattle.nodes.specs.Entries.{entriesOf, wide-entries}
 use Rattle.nodes.specs.Change.{wide}
 use Rattle.nodes.specs.Kept.{Whole, WholeWide}
 use Rattle.operations.specs.Object.{node, Ans, Writes}
-use Rattle.operations.specs.Slot.{Sizes}
+use Rattle.operations.specs.Slot.{TreeSizes}
 use Rattle.operations.specs.Entry.{Entries}
 use Rattle.operations.specs.Arrays.{kind}
 use Rattle.operations.specs.Path.{Plan, Branch}
@@ -26,7 +26,7 @@ use Rattle.client.specs.Lent.{used-in}
 use Rattle.walk.specs.Walk.{Told, goes, walked}
 use Rattle.walk.specs.Lookup.{ended}
 use Rattle.change.specs.Mute.{stands}
-use Rattle.walk.specs.Ask.{SmallNode, OwnKept, OwnGood, Holds, Noted}
+use Rattle.walk.specs.Ask.{SmallNode, OwnKept, OwnGood, Holds-writes, Noted}
 use Rattle.walk.specs.Take.{Wrote}
 use Rattle.walk.specs.Entries.{branch-of}
 use Rattle.walk.specs.Down.{Followed, Link}
@@ -34,7 +34,7 @@ use Rattle.walk.specs.Down.{Followed, Link}
 -- a node is written under its name
 pub record NodeWritten (x : List ℕ) (name : ℕ) (n : Node) (x′ : List ℕ) : Type 0 where
   pub wrote : n .level ≤ 4 → Wrote x (node name) (value-of (node name) n) x′
-  pub holds : (z : Sizes) (w : Writes) → z .servers ≤ 8 → in-store z name ≡ true → Holds z x w → Holds z x′ ((node name, value-of (node name) n) ∷ w)
+  pub holds : (z : TreeSizes) (w : Writes) → z .servers ≤ 8 → in-store z name ≡ true → Holds-writes z x w → Holds-writes z x′ ((node name, value-of (node name) n) ∷ w)
   pub kept : OwnKept x′
 
 -- the new content of a node of level l: up to 15 keys
@@ -55,23 +55,23 @@ is-root (f ∷ fs) = false
 
 -- One level below the root. `plan` is what it does, where the parent holds keys from lo on and has the path fs above it, before go;
 -- `more` are its writes, the latest first. With Going the parent's new content goes up.
-pub record Raised (z : Sizes) (m : ClientWord → ℕ) (x u : List ℕ) (l : ℕ) (root : Bool) (plan : ℕ → List Branch → Writes → Go → Plan) (r : Risen) (x′ u′ : List ℕ) : Type 0 where
+pub record Raised (z : TreeSizes) (m : ClientWord → ℕ) (x u : List ℕ) (l : ℕ) (root : Bool) (plan : ℕ → List Branch → Writes → Go → Plan) (r : Risen) (x′ u′ : List ℕ) : Type 0 where
   pub more : Writes
-  pub same : (w : Writes) → Holds z x w → (lo : ℕ) (fs : List Branch) → is-root fs ≡ root → (go : Go)
+  pub same : (w : Writes) → Holds-writes z x w → (lo : ℕ) (fs : List Branch) → is-root fs ≡ root → (go : Go)
       → walked z m (plan lo fs w go) (used-in u) ≡ rose (r .stop) (used-in u′) (more ++ w) (λ us w′. walked z m (go w′ (wide-entries (r .up) lo)) us)
-  pub holds : stands (r .stop) ≡ true → (w : Writes) → Holds z x w → Holds z x′ (more ++ w)
-  pub kept : stands (r .stop) ≡ true → (w : Writes) → Holds z x w → OwnKept x′
+  pub holds : stands (r .stop) ≡ true → (w : Writes) → Holds-writes z x w → Holds-writes z x′ (more ++ w)
+  pub kept : stands (r .stop) ≡ true → (w : Writes) → Holds-writes z x w → OwnKept x′
   pub good : goes (r .stop) ≡ true → OwnGood x′
   pub few : goes (r .stop) ≡ true → getD x′ 0 0 ≤ getD x 0 0 + 3
   pub content : goes (r .stop) ≡ true → Content (suc l) (r .up)
   pub noted : Noted m u′
 
 -- The last level. `plan` is what it does after the writes w.
-pub record Closed (z : Sizes) (m : ClientWord → ℕ) (x u : List ℕ) (plan : Writes → Plan) (s : Stop) (x′ u′ : List ℕ) : Type 0 where
+pub record Closed (z : TreeSizes) (m : ClientWord → ℕ) (x u : List ℕ) (plan : Writes → Plan) (s : Stop) (x′ u′ : List ℕ) : Type 0 where
   pub more : Writes
-  pub same : (w : Writes) → Holds z x w → walked z m (plan w) (used-in u) ≡ ended s (used-in u′) (more ++ w)
-  pub holds : stands s ≡ true → (w : Writes) → Holds z x w → Holds z x′ (more ++ w)
-  pub kept : stands s ≡ true → (w : Writes) → Holds z x w → OwnKept x′
+  pub same : (w : Writes) → Holds-writes z x w → walked z m (plan w) (used-in u) ≡ ended s (used-in u′) (more ++ w)
+  pub holds : stands s ≡ true → (w : Writes) → Holds-writes z x w → Holds-writes z x′ (more ++ w)
+  pub kept : stands s ≡ true → (w : Writes) → Holds-writes z x w → OwnKept x′
   pub noted : Noted m u′
 
 -- ---- the node of the name c and the level l whose parent is b, with the entries es lo where it holds keys from lo on
@@ -79,7 +79,7 @@ abbrev pub in-parent : Turn → ℕ → Branch
 in-parent b lo = branch-of (b .name) (b .at) (entriesOf (b .node) lo)
 
 -- its parent is at hand, and both are in the store
-pub record Under (z : Sizes) (l c : ℕ) (b : Turn) : Type 0 where
+pub record Under (z : TreeSizes) (l c : ℕ) (b : Turn) : Type 0 where
   pub followed : Followed b
   pub link : Link z l c b
   pub there : in-store z (b .name) ≡ true
@@ -96,7 +96,7 @@ pub record Full (l : ℕ) (n : Wide) : Type 0 where
   pub full : n .count ≡ 15
 
 -- "a non-root node of 15 keys"
-unfoldable pub split-plan : Sizes → ℕ → Turn → ℕ → (ℕ → Entries) → ℕ → List Branch → Writes → Go → Plan
+unfoldable pub split-plan : TreeSizes → ℕ → Turn → ℕ → (ℕ → Entries) → ℕ → List Branch → Writes → Go → Plan
 split-plan z l b c es lo fs w go = let f = in-parent b lo in split z go l w f c (es (f .key))
 
 -- "left with 6 keys"
@@ -110,8 +110,8 @@ pub record Fitting (h : Halves) : Type 0 where
   pub right : SmallNode (h .right)
 
 pub record BothWritten (x : List ℕ) (c d : ℕ) (h : Halves) (x′ : List ℕ) : Type 0 where
-  pub holds : (z : Sizes) (w : Writes) → z .servers ≤ 8 → in-store z c ≡ true → in-store z d ≡ true → Holds z x w
-      → Holds z x′ ((node d, value-of (node d) (h .right)) ∷ (node c, value-of (node c) (h .left)) ∷ w)
+  pub holds : (z : TreeSizes) (w : Writes) → z .servers ≤ 8 → in-store z c ≡ true → in-store z d ≡ true → Holds-writes z x w
+      → Holds-writes z x′ ((node d, value-of (node d) (h .right)) ∷ (node c, value-of (node c) (h .left)) ∷ w)
   pub good : OwnGood x′
   pub few : getD x′ 0 0 ≤ getD x 0 0 + 2
   pub kept : OwnKept x′

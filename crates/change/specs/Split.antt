@@ -8,7 +8,7 @@ use Rattle.nodes.specs.declared.change.Wide.{Wide}
 use Rattle.nodes.specs.Entries.{wide-entries}
 use Rattle.nodes.specs.Change.{put-in}
 use Rattle.operations.specs.Object.{node, flag, taken, Writes}
-use Rattle.operations.specs.Slot.{Sizes, take-for, take-node}
+use Rattle.operations.specs.Slot.{TreeSizes, take-for, take-node}
 use Rattle.operations.specs.Path.{Plan}
 use Rattle.operations.specs.Change.{split}
 use Rattle.walk.specs.declared.down.Turn.{Turn}
@@ -18,17 +18,17 @@ use Rattle.client.specs.Layout.{ClientWord}
 use Rattle.client.specs.Record.{in-store}
 use Rattle.client.specs.Lent.{used-in}
 use Rattle.walk.specs.Walk.{goes, walked, carry}
-use Rattle.walk.specs.Ask.{OwnGood, Holds, Noted}
+use Rattle.walk.specs.Ask.{OwnGood, Holds-writes, Noted}
 use Rattle.change.specs.Mute.{stands}
 use Rattle.change.specs.Rise.{Raised, BothWritten, split-plan}
 use Rattle.nodes.specs.Change as N
 
 -- ---- a slot for a half
-pub record HalfTaken (z : Sizes) (m : ClientWord → ℕ) (x u : List ℕ) (n : ℕ) (r : Taken) (x′ u′ : List ℕ) : Type 0 where
-  pub asks : (w : Writes) → Holds z x w → (k : ℕ → Writes → Plan)
+pub record HalfTaken (z : TreeSizes) (m : ClientWord → ℕ) (x u : List ℕ) (n : ℕ) (r : Taken) (x′ u′ : List ℕ) : Type 0 where
+  pub asks : (w : Writes) → Holds-writes z x w → (k : ℕ → Writes → Plan)
       → walked z m (take-for z n w (λ d w′. take-node w′ d (k d w′))) (used-in u) ≡ carry (r .stop) (used-in u′) (λ us. walked z m (k (r .name) ((flag (r .name), taken true) ∷ w)) us)
-  pub mute : (w : Writes) → Holds z x w → goes (r .stop) ≡ false → stands (r .stop) ≡ false
-  pub holds : goes (r .stop) ≡ true → (w : Writes) → Holds z x w → Holds z x′ ((flag (r .name), taken true) ∷ w)
+  pub mute : (w : Writes) → Holds-writes z x w → goes (r .stop) ≡ false → stands (r .stop) ≡ false
+  pub holds : goes (r .stop) ≡ true → (w : Writes) → Holds-writes z x w → Holds-writes z x′ ((flag (r .name), taken true) ∷ w)
   pub good : goes (r .stop) ≡ true → OwnGood x′
   pub noted : Noted m u′
   pub few : getD x′ 0 0 ≤ getD x 0 0 + 1
@@ -48,5 +48,5 @@ pub record Divided (x : List ℕ) (b : Turn) (c d : ℕ) (n up : Wide) (x′ : L
   pub written : BothWritten x c d (N.split n 0) x′
 
 -- ---- below the root
-pub record Splits (z : Sizes) (m : ClientWord → ℕ) (x u : List ℕ) (l : ℕ) (b : Turn) (c : ℕ) (n : Wide) (r : Risen) (x′ u′ : List ℕ) : Type 0 where
+pub record Splits (z : TreeSizes) (m : ClientWord → ℕ) (x u : List ℕ) (l : ℕ) (b : Turn) (c : ℕ) (n : Wide) (r : Risen) (x′ u′ : List ℕ) : Type 0 where
   pub raised : (root : Bool) → Raised z m x u l root (split-plan z l b c (wide-entries n)) r x′ u′

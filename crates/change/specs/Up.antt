@@ -6,7 +6,7 @@ use lib.ListN.{length}
 use Rattle.nodes.specs.declared.change.Wide.{Wide}
 use Rattle.nodes.specs.Entries.{wide-entries}
 use Rattle.operations.specs.Object.{Ans, Writes}
-use Rattle.operations.specs.Slot.{Sizes}
+use Rattle.operations.specs.Slot.{TreeSizes}
 use Rattle.operations.specs.Path.{Plan}
 use Rattle.operations.specs.Change.{up}
 use Rattle.walk.specs.declared.down.Turn.{Turn}
@@ -14,14 +14,14 @@ use Rattle.walk.specs.Down.{low, branches, trail, All, Linked}
 use Rattle.change.specs.Rise.{Content}
 
 -- the plan from the level l on: the inner nodes of the path above it, and the new content of the node of that level
-abbrev pub from-level : Sizes → Ans → ℕ → List Turn → ℕ → Writes → ℕ → Wide → Plan
+abbrev pub from-level : TreeSizes → Ans → ℕ → List Turn → ℕ → Writes → ℕ → Wide → Plan
 from-level z a top path l w c n = let bs = trail path l (top - l) in up z a l (branches bs) w c (wide-entries n (low bs))
 
-unfoldable pub rise-plan : Sizes → Ans → ℕ → List Turn → ℕ → Wide → Plan
+unfoldable pub rise-plan : TreeSizes → Ans → ℕ → List Turn → ℕ → Wide → Plan
 rise-plan z a top path c n = from-level z a top path 0 [] c n
 
 -- a leaf's new content, and the path to it
-pub record Ready (z : Sizes) (top : ℕ) (path : List Turn) (c : ℕ) (n : Wide) : Type 0 where
+pub record Ready (z : TreeSizes) (top : ℕ) (path : List Turn) (c : ℕ) (n : Wide) : Type 0 where
   pub high : top ≤ 4
   pub size : length path ≡ 5
   pub good : All (trail path 0 (top - 0))

@@ -4,7 +4,7 @@ use mathlib.Core.List.{List}
 use Prim.Native.Nat.{ℕ, _≤_}
 use lib.ListN.{length, getD}
 use Rattle.operations.specs.Object.{Ans, Writes}
-use Rattle.operations.specs.Slot.{Sizes}
+use Rattle.operations.specs.Slot.{TreeSizes}
 use Rattle.client.specs.Layout.{ClientWord}
 use Rattle.client.specs.Lent.{OwnFits, own-list}
 use Rattle.client.specs.Answered.{entered}
@@ -20,7 +20,7 @@ pub record Ready (x u : List ℕ) : Type 0 where
   pub used-none : getD u 0 0 ≡ 0
 
 -- the walk has stopped as the work step ends; with an answer the lent list has the writes that enter
-pub record Works (z : Sizes) (m : ClientWord → ℕ) (s : Stop) (x u : List ℕ) : Type 0 where
+pub record Works (z : TreeSizes) (m : ClientWord → ℕ) (s : Stop) (x u : List ℕ) : Type 0 where
   pub stopped : Stopped z m s u
   pub own : (a : Ans) (w : Writes) → worked z m ≡ answers a w → own-list x ≡ entered w
   pub fits : (a : Ans) (w : Writes) → worked z m ≡ answers a w → OwnFits x

@@ -43,7 +43,8 @@ fn delete_at(
 ) -> Stop
     requires { ⌜ (servers ≤ 8) × OwnGood (now own) × (getD (now own) 0 0 ≡ 0) × Noted (held (now part)) (now used) × (7223 ≤ length (now part) / 8) ⌝ }
     requires ended { ⌜ Ended (sizes servers slots) d ⌝ }
-    ensures { λ r. ⌜ Operated (sizes servers slots) (held (now (part .entry))) (now (own .entry)) (now (used .entry)) (delete-in (sizes servers slots) d key) r (now (own .exit)) (now (used .exit)) ⌝ }
+    ensures { λ r. ⌜ Operated (sizes servers slots) (held (now (part .entry))) (now (own .entry)) (now (used .entry))
+        (delete-in (sizes servers slots) d key) r (now (own .exit)) (now (used .exit)) ⌝ }
 {
     let leaf = d.node;
     let f = leaf.find(key);

@@ -9,42 +9,42 @@ use Rattle.client.specs.declared.part.Set.the-variants.{Reads, Copies}
 use Rattle.client.specs.Layout.{client-words}
 use Rattle.client.specs.Record.{by-number}
 use Rattle.client.specs.Sets.{count, number-at, find}
-use Rattle.client.specs.Part.{Step, _then_, nothing, put-field, put-item, put-number, drop-vector}
+use Rattle.client.specs.Part.{PartStep, _then_, nothing, put-field, put-item, put-number, drop-vector}
 
 -- a node's copy goes to its own place, else to the first empty one (its number is 0), else nowhere
-abbrev pub to-empty : ℕ → Node → Found → Step
+abbrev pub to-empty : ℕ → Node → Found → PartStep
 to-empty x r (At i) = put-item Copies i x r
 to-empty x r Absent = nothing
 
-abbrev pub to-place : ℕ → Node → Found → Found → Step
+abbrev pub to-place : ℕ → Node → Found → Found → PartStep
 to-place x r (At i) e = put-item Copies i x r
 to-place x r Absent e = to-empty x r e
 
-unfoldable pub copy-node : ℕ → Node → Step
+unfoldable pub copy-node : ℕ → Node → PartStep
 copy-node x r m = to-place x r (find m Copies x) (find m Copies 0) m
 
 -- ---- dropped
-abbrev pub drop-at : Found → Step
+abbrev pub drop-at : Found → PartStep
 drop-at (At i) = put-number Copies i 0
 drop-at Absent = nothing
 
-unfoldable pub drop-node : ℕ → Step
+unfoldable pub drop-node : ℕ → PartStep
 drop-node x m = drop-at (find m Copies x) m
 
 -- the copy of an object, by its number; "for a flag, its vector"
-unfoldable pub drop-object : ℕ → Step
+unfoldable pub drop-object : ℕ → PartStep
 drop-object x = by-number x (put-field 12 0) (λ n. drop-node x) (λ n. drop-vector (server-of n))
 
-unfoldable pub drop-read : ℕ → Step
+unfoldable pub drop-read : ℕ → PartStep
 drop-read i m = drop-object (number-at m Reads i) m
 
 -- "An abort .. drops copies of all objects read"
-unfoldable pub drop-reads : Step
+unfoldable pub drop-reads : PartStep
 drop-reads m = sweep client-words drop-read (count m Reads) m
 
 -- "loss drops all copies"
-unfoldable pub empty-place : ℕ → Step
+unfoldable pub empty-place : ℕ → PartStep
 empty-place i = put-number Copies i 0
 
-unfoldable pub drop-all : Step
+unfoldable pub drop-all : PartStep
 drop-all = put-field 12 0 then sweep client-words empty-place 64 then sweep client-words drop-vector 8

@@ -11,43 +11,43 @@ use Rattle.nodes.specs.declared.found.Found.the-variants.{At, Absent}
 use Rattle.client.specs.declared.part.Set.the-variants.{Reads, Writes}
 use Rattle.client.specs.Layout.{client-words}
 use Rattle.client.specs.Sets.{count, find}
-use Rattle.client.specs.Part.{Step, _then_, nothing, put-field, put-item}
+use Rattle.client.specs.Part.{PartStep, _then_, nothing, put-field, put-item}
 use Rattle.client.specs.Have.{copied}
 use Rattle.client.specs.Lent.{Entry, own-number, own-record}
 
 -- behind the items that are there, which are c; object 97 is not read
-abbrev pub read-behind : ℕ → ℕ → Node → Step
+abbrev pub read-behind : ℕ → ℕ → Node → PartStep
 read-behind c x r = put-item Reads c x r then put-field 10 (c + 1)
 
-unfoldable pub enter-read : ℕ → Node → Step
+unfoldable pub enter-read : ℕ → Node → PartStep
 enter-read x r m = cond (ltb (count m Reads) 96) (read-behind (count m Reads) x r) nothing m
 
 -- "what is used enters the read set": a copy, by its number
-unfoldable pub enter-copy : ℕ → Step
+unfoldable pub enter-copy : ℕ → PartStep
 enter-copy x m = enter-read x (copied m x .node) m
 
 -- the copies in use, in the order of use
-unfoldable pub enter-nth : List ℕ → ℕ → Step
+unfoldable pub enter-nth : List ℕ → ℕ → PartStep
 enter-nth u i = enter-copy (getD u (i + 1) 0)
 
-unfoldable pub enter-used : List ℕ → Step
+unfoldable pub enter-used : List ℕ → PartStep
 enter-used u = sweep client-words (enter-nth u) (getD u 0 0)
 
 -- a write replaces an earlier one of the same object, or comes behind the others; object 49 is not written
-abbrev pub written-behind : ℕ → ℕ → Node → Step
+abbrev pub written-behind : ℕ → ℕ → Node → PartStep
 written-behind c x r = put-item Writes c x r then put-field 11 (c + 1)
 
-abbrev pub enter-at : ℕ → Node → ℕ → Found → Step
+abbrev pub enter-at : ℕ → Node → ℕ → Found → PartStep
 enter-at x r c (At i) = put-item Writes i x r
 enter-at x r c Absent = cond (ltb c 48) (written-behind c x r) nothing
 
-unfoldable pub enter-write : ℕ → Node → Step
+unfoldable pub enter-write : ℕ → Node → PartStep
 enter-write x r m = enter-at x r (count m Writes) (find m Writes x) m
 
-unfoldable pub write-nth : List ℕ → ℕ → Step
+unfoldable pub write-nth : List ℕ → ℕ → PartStep
 write-nth w i = enter-write (own-number w i) (own-record w i)
 
 -- "only then do its writes enter the write set": entries, one after another
-unfoldable pub enter-entries : List Entry → Step
+unfoldable pub enter-entries : List Entry → PartStep
 enter-entries [] = nothing
 enter-entries (e ∷ l) = enter-write (e .0) (e .1) then enter-entries l

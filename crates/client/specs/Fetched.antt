@@ -7,23 +7,23 @@ use Rattle.memory.specs.Bit.{putBit}
 use Rattle.nodes.specs.declared.node.Node.{Node}
 use Rattle.client.specs.Layout.{fetched-vectors}
 use Rattle.client.specs.Record.{single}
-use Rattle.client.specs.Part.{Step, _then_, nothing, put-field, put-fields, put-vector}
+use Rattle.client.specs.Part.{PartStep, _then_, nothing, put-field, put-fields, put-vector}
 use Rattle.client.specs.Enter.{enter-read}
 use Rattle.client.specs.Copies.{copy-node}
 
-unfoldable pub fetched-meta : ℕ → ℕ → Step
+unfoldable pub fetched-meta : ℕ → ℕ → PartStep
 fetched-meta root version = enter-read 0 (single version root) then put-fields 12 (1 ∷ root ∷ version ∷ [])
 
 -- an inner node is copied too
-unfoldable pub copy-inner : ℕ → Node → Step
+unfoldable pub copy-inner : ℕ → Node → PartStep
 copy-inner x r = cond (eqb (r .kind) 2) (copy-node x r) nothing
 
-unfoldable pub fetched-node : ℕ → Node → Step
+unfoldable pub fetched-node : ℕ → Node → PartStep
 fetched-node name r = enter-read (1 + name) r then copy-inner (1 + name) r
 
 -- a vector is no object: it enters no set
-unfoldable pub mark-fetched : ℕ → Step
+unfoldable pub mark-fetched : ℕ → PartStep
 mark-fetched s m = put-field 8 (putBit true (m fetched-vectors) s) m
 
-unfoldable pub fetched-vector : ℕ → List ℕ → Step
+unfoldable pub fetched-vector : ℕ → List ℕ → PartStep
 fetched-vector s ws = put-vector s ws then mark-fetched s

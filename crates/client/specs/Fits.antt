@@ -5,11 +5,11 @@ use mathlib.Core.List.{List, [], _∷_}
 use Prim.Native.Nat.{ℕ, _-_, _^_}
 use lib.Dec.{eqb, leb, ltb}
 use lib.ListN.{getD}
-use Rattle.operations.specs.Slot.{Sizes}
+use Rattle.operations.specs.Slot.{TreeSizes}
 use Rattle.client.specs.declared.part.Set.{Set}
 use Rattle.client.specs.declared.part.Set.the-variants.{Reads, Writes, Copies}
 use Rattle.client.specs.Layout.{ClientWord, field, vector-word, op-number, op-key, op-server}
-use Rattle.client.specs.Record.{in-store, number-in-store, fits}
+use Rattle.client.specs.Record.{in-store, number-in-store, record-in-range}
 use Rattle.client.specs.Sets.{count, number-at, record-at, find}
 use Rattle.client.specs.Commit.{all-of, is-at}
 
@@ -32,13 +32,13 @@ module _ (m : ClientWord → ℕ) where
   unfoldable pub vector-fits : ℕ → Bool
   vector-fits s = leb (m (vector-word s 0)) 1
 
-module _ (z : Sizes) (m : ClientWord → ℕ) where
+module _ (z : TreeSizes) (m : ClientWord → ℕ) where
   -- a migrate's node and server are in the store
   unfoldable pub op-fits : Bool
   op-fits = cond (eqb (m op-number) 6) (in-store z (m op-key) && ltb (m op-server) (z .servers)) true
 
   unfoldable pub item-fits : Set → ℕ → Bool
-  item-fits s i = number-in-store z (number-at m s i) && (fits z (number-at m s i) (record-at m s i) && has-read m s (number-at m s i))
+  item-fits s i = number-in-store z (number-at m s i) && (record-in-range z (number-at m s i) (record-at m s i) && has-read m s (number-at m s i))
 
   unfoldable pub client-fits : Bool
   client-fits =

@@ -10,13 +10,13 @@ use Rattle.nodes.specs.declared.found.Found.the-variants.{At, Absent}
 use Rattle.nodes.specs.Node.{free-node}
 use Rattle.nodes.specs.Name.{server-of, slot-of}
 use Rattle.operations.specs.Object.{Obj, node, Ask, object, vector, fetched, Val, flags}
-use Rattle.operations.specs.Slot.{Sizes}
+use Rattle.operations.specs.Slot.{TreeSizes}
 use Rattle.client.specs.declared.answer.How.{How}
 use Rattle.client.specs.declared.answer.How.the-variants.{Here, Copied, Full, Lacking, Broken}
 use Rattle.client.specs.declared.answer.Look.{Look}
 use Rattle.client.specs.declared.part.Set.the-variants.{Reads, Writes, Copies}
 use Rattle.client.specs.Layout.{ClientWord, vector-word, meta-copied, meta-root, meta-version}
-use Rattle.client.specs.Record.{number, by-number, value-of, single, object-in-store, fits}
+use Rattle.client.specs.Record.{number, by-number, value-of, single, object-in-store, record-in-range}
 use Rattle.client.specs.Sets.{record-at, find}
 use Rattle.client.specs.Vectors.{has-vector, seen-words, is-fetched}
 use Rattle.nodes.specs.Flags as N
@@ -79,15 +79,15 @@ module _ (m : ClientWord → ℕ) where
   unfoldable pub source : ℕ → Look
   source x = or-read x (find m Writes x)
 
-module _ (z : Sizes) (m : ClientWord → ℕ) where
+module _ (z : TreeSizes) (m : ClientWord → ℕ) where
   abbrev pub usable : ℕ → Look → Bool
-  usable x l = is-found (l .how) && fits z x (l .node)
+  usable x l = is-found (l .how) && record-in-range z x (l .node)
 
   abbrev pub valued : Obj → Look → Option Val
   valued o l = cond (usable (number o) l) (some (value-of o (l .node))) none
 
   abbrev pub have-vector : ℕ → Option Val
-  have-vector s = cond (ltb s (z .servers) && has-vector m s) (some (flags (N.flags (z .slots) (seen-words m s)))) none
+  have-vector s = cond (ltb s (z .servers) && has-vector m s) (some (flags (N.flags-in (z .slots) (seen-words m s)))) none
 
   -- what is at hand for a plan. "a server is passed over only by a vector that this transaction fetched"
   unfoldable pub have : Ask → Option Val
@@ -96,7 +96,7 @@ module _ (z : Sizes) (m : ClientWord → ℕ) where
   have (fetched s) = cond (is-fetched m s) (have-vector s) none
 
   abbrev pub unusable : ℕ → Look → Bool
-  unusable x l = is-found (l .how) && not (fits z x (l .node))
+  unusable x l = is-found (l .how) && not (record-in-range z x (l .node))
 
   -- what is not at hand can't be fetched either: refusal 10
   unfoldable pub broken : Ask → Bool

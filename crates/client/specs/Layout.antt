@@ -3,7 +3,7 @@ use mathlib.Core.Path.{_≡_, refl}
 use mathlib.Core.List.{List, [], _∷_}
 use Prim.Native.Nat.{ℕ}
 use lib.ListN.{getD}
-use Rattle.layout.specs.Block.{Block, words, times, next, end}
+use Rattle.layout.specs.Block.{Block, words, times, followed-by, end}
 use Rattle.layout.specs.Space.{Coding}
 use Rattle.client.specs.declared.part.Set.{Set}
 use Rattle.client.specs.declared.part.Set.the-variants.{Reads, Writes, Copies}
@@ -81,7 +81,7 @@ base Copies = 4911
 
 abbrev pub client-block : Block
 client-block =
-    next (words 15) (next (times 96 (words 34)) (next (times 48 (words 34)) (next (times 64 (words 34)) (next (times 8 (words 17)) end))))
+    followed-by (words 15) (followed-by (times 96 (words 34)) (followed-by (times 48 (words 34)) (followed-by (times 64 (words 34)) (followed-by (times 8 (words 17)) end))))
 
 abbrev pub client-code : ClientWord → List ℕ
 client-code (field i) = 0 ∷ i ∷ []

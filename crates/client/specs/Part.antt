@@ -13,40 +13,40 @@ use Rattle.client.specs.declared.part.Set.{Set}
 use Rattle.client.specs.Layout.{ClientWord, client-words, client-block, field, item, vector-word}
 
 -- a step is its stores, as a function of what the part holds
-abbrev pub Step : Type 0
-Step = (ClientWord → ℕ) → List (Put ClientWord)
+abbrev pub PartStep : Type 0
+PartStep = (ClientWord → ℕ) → List (Put ClientWord)
 
 -- code with bytes s before and t after does the step
-abbrev pub Did : Step → List ℕ → List ℕ → Type 0
+abbrev pub Did : PartStep → List ℕ → List ℕ → Type 0
 Did g s t = Does client-words client-block g silent (view s) 0 (view t)
 
 infixr 20 _then_
 -- one step, and then another
-abbrev pub _then_ : Step → Step → Step
+abbrev pub _then_ : PartStep → PartStep → PartStep
 g then h = andThen client-words g h
 
-unfoldable pub nothing : Step
+unfoldable pub nothing : PartStep
 nothing m = []
 
 -- field i becomes v
-unfoldable pub put-field : ℕ → ℕ → Step
+unfoldable pub put-field : ℕ → ℕ → PartStep
 put-field i v m = put (field i) v ∷ []
 
 -- the fields from i on become vs
-unfoldable pub put-fields : ℕ → List ℕ → Step
+unfoldable pub put-fields : ℕ → List ℕ → PartStep
 put-fields i vs m = puts client-words (λ j. field (i + j)) vs
 
 -- item i of a set (34 words) becomes the object of number x with the record r
-unfoldable pub put-item : Set → ℕ → ℕ → Node → Step
+unfoldable pub put-item : Set → ℕ → ℕ → Node → PartStep
 put-item s i x r m = puts client-words (item s i) (tab 34 (λ j. getD (x ∷ words-of r) j 0))
 
 -- the number of item i becomes x
-unfoldable pub put-number : Set → ℕ → ℕ → Step
+unfoldable pub put-number : Set → ℕ → ℕ → PartStep
 put-number s i x m = put (item s i 0) x ∷ []
 
 -- the copy of a server's vector (sixteen words) becomes ws; and there is none
-unfoldable pub put-vector : ℕ → List ℕ → Step
+unfoldable pub put-vector : ℕ → List ℕ → PartStep
 put-vector s ws m = puts client-words (vector-word s) (1 ∷ tab 16 (λ j. getD ws j 0))
 
-unfoldable pub drop-vector : ℕ → Step
+unfoldable pub drop-vector : ℕ → PartStep
 drop-vector s m = cond (ltb s 8) (put (vector-word s 0) 0 ∷ []) []

@@ -7,10 +7,10 @@ use lib.ListN.{getD}
 use Rattle.nodes.specs.declared.node.Node.{Node}
 use Rattle.nodes.specs.Name.{server-of, slot-of}
 use Rattle.nodes.specs.Node.{keysOf, slotsOf, made}
-use Rattle.nodes.specs.Place.{bit}
-use Rattle.nodes.specs.Range.{in-range}
+use Rattle.nodes.specs.Place.{one-if}
+use Rattle.nodes.specs.Range.{node-in-range}
 use Rattle.operations.specs.Object.{Obj, meta, node, flag, Val, root, body, taken, flags}
-use Rattle.operations.specs.Slot.{Sizes}
+use Rattle.operations.specs.Slot.{TreeSizes}
 
 -- "in the order metadata, nodes by name, flags by name": the order of these numbers
 abbrev pub number : Obj → ℕ
@@ -40,23 +40,23 @@ single v x = made 0 0 v [] (x ∷ [])
 unfoldable pub record-of : ℕ → Val → Node
 record-of v (root r) = single v r
 record-of v (body k l ks vs) = made k l v ks vs
-record-of v (taken b) = single v (bit b)
+record-of v (taken b) = single v (one-if b)
 record-of v (flags fs) = made 0 0 v [] []
 
 -- a store of these sizes
-abbrev pub sizes : ℕ → ℕ → Sizes
+abbrev pub sizes : ℕ → ℕ → TreeSizes
 sizes servers slots = record { servers = servers; slots = slots }
 
 -- a name that the store has
-unfoldable pub in-store : Sizes → ℕ → Bool
+unfoldable pub in-store : TreeSizes → ℕ → Bool
 in-store z n = ltb (server-of n) (z .servers) && ltb (slot-of n) (z .slots)
 
-abbrev pub object-in-store : Sizes → Obj → Bool
+abbrev pub object-in-store : TreeSizes → Obj → Bool
 object-in-store z meta = true
 object-in-store z (node n) = in-store z n
 object-in-store z (flag n) = in-store z n
 
-unfoldable pub number-in-store : Sizes → ℕ → Bool
+unfoldable pub number-in-store : TreeSizes → ℕ → Bool
 number-in-store z x = by-number x true (in-store z) (in-store z)
 
 -- "a 32-bit version"
@@ -64,6 +64,6 @@ abbrev pub last-version : ℕ
 last-version = 4294967295
 
 -- "has a field out of range, or points to something that isn't there": may the record of the object with that number be used
-unfoldable pub fits : Sizes → ℕ → Node → Bool
-fits z x r =
-    by-number x (in-store z (first-slot r) && leb (r .version) last-version) (λ n. in-range r) (λ n. leb (first-slot r) 1)
+unfoldable pub record-in-range : TreeSizes → ℕ → Node → Bool
+record-in-range z x r =
+    by-number x (in-store z (first-slot r) && leb (r .version) last-version) (λ n. node-in-range r) (λ n. leb (first-slot r) 1)

@@ -16,12 +16,12 @@ use Rattle.client.specs.Record.{by-number}
 use Rattle.client.specs.Sets.{first-of, count, number-at, record-at, find}
 use Rattle.client.specs.Vectors.{has-vector, vector-copy}
 use Rattle.client.specs.Commit.{inner-at}
-use Rattle.client.specs.Part.{Step, _then_, nothing, put-fields, put-vector}
+use Rattle.client.specs.Part.{PartStep, _then_, nothing, put-fields, put-vector}
 use Rattle.client.specs.Copies.{copy-node, drop-node}
 use Rattle.client.specs.Life.{reset}
 
 -- a node that is written and not inner loses its copy
-unfoldable pub drop-outer : ℕ → Step
+unfoldable pub drop-outer : ℕ → PartStep
 drop-outer i m = by-number (number-at m Writes i) nothing (λ n. cond (inner-at m Writes i) nothing (drop-node (number-at m Writes i))) (λ n. nothing) m
 
 -- "a written version becomes the one read plus 1"; a version out of range is refused before
@@ -60,40 +60,40 @@ module _ (m : ClientWord → ℕ) where
   renewed i = versioned (record-at m Writes i) (new-version (number-at m Writes i))
 
 -- "then written inner nodes by name": the one of rank k + 1
-abbrev pub renew-found : (ClientWord → ℕ) → Found → Step
+abbrev pub renew-found : (ClientWord → ℕ) → Found → PartStep
 renew-found m (At i) = copy-node (number-at m Writes i) (renewed m i)
 renew-found m Absent = nothing
 
-unfoldable pub renew-nth : ℕ → Step
+unfoldable pub renew-nth : ℕ → PartStep
 renew-nth k m = renew-found m (ranked m (k + 1)) m
 
-abbrev pub meta-found : (ClientWord → ℕ) → Found → Step
+abbrev pub meta-found : (ClientWord → ℕ) → Found → PartStep
 meta-found m (At i) = put-fields 12 (1 ∷ m (item Writes i 19) ∷ new-version m 0 ∷ [])
 meta-found m Absent = nothing
 
-unfoldable pub renew-meta : Step
+unfoldable pub renew-meta : PartStep
 renew-meta m = meta-found m (find m Writes 0) m
 
 -- a flag is renewed in its server's vector, if there is a copy of that
-unfoldable pub renew-in : (ClientWord → ℕ) → ℕ → ℕ → Step
+unfoldable pub renew-in : (ClientWord → ℕ) → ℕ → ℕ → PartStep
 renew-in m n v = cond (ltb (server-of n) 8 && has-vector m (server-of n)) (put-vector (server-of n) (with-flag (vector-copy m (server-of n)) (slot-of n) (eqb v 1))) nothing
 
-unfoldable pub renew-flag : ℕ → Step
+unfoldable pub renew-flag : ℕ → PartStep
 renew-flag i m = cond (ltb (number-at m Writes i) 8193) nothing (renew-in m (number-at m Writes i - 8193) (m (item Writes i 19))) m
 
 -- each for all write items
-unfoldable pub for-writes : (ℕ → Step) → Step
+unfoldable pub for-writes : (ℕ → PartStep) → PartStep
 for-writes g m = sweep client-words g (count m Writes) m
 
-unfoldable pub renew-written : Step
+unfoldable pub renew-written : PartStep
 renew-written = for-writes renew-nth then renew-meta then for-writes renew-flag
 
-unfoldable pub renew : Step
+unfoldable pub renew : PartStep
 renew = for-writes drop-outer then renew-written
 
-unfoldable pub renew-kept : Step
+unfoldable pub renew-kept : PartStep
 renew-kept m = cond (eqb (m lost) 1) nothing renew m
 
 -- the transaction has ended
-unfoldable pub finish : Step
+unfoldable pub finish : PartStep
 finish = renew-kept then reset 0

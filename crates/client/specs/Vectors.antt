@@ -28,12 +28,12 @@ module _ (m : ClientWord → ℕ) (s : ℕ) where
   counted-one i ws = cond (ltb (number-at m Writes i) 8193) ws (counted-flag (number-at m Writes i - 8193) (m (item Writes i 19)) ws)
 
   -- the first n write items counted
-  unfoldable pub counted : ℕ → List ℕ → List ℕ
-  counted zero ws = ws
-  counted (suc n) ws = counted-one n (counted n ws)
+  unfoldable pub counted-words : ℕ → List ℕ → List ℕ
+  counted-words zero ws = ws
+  counted-words (suc n) ws = counted-one n (counted-words n ws)
 
   unfoldable pub seen-words : List ℕ
-  seen-words = counted (count m Writes) vector-copy
+  seen-words = counted-words (count m Writes) vector-copy
 
   -- has this transaction fetched it
   unfoldable pub is-fetched : Bool

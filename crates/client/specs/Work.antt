@@ -8,7 +8,7 @@ use Rattle.nodes.specs.declared.found.Found.the-variants.{At, Absent}
 use Rattle.operations.specs.Object.{Ask, Ans, Writes}
 use Rattle.operations.specs.Map.{Op, insert, lookup, delete, next, previous, migrate}
 use Rattle.operations.specs.Operation.{reading, all-fit?}
-use Rattle.operations.specs.Slot.{Sizes}
+use Rattle.operations.specs.Slot.{TreeSizes}
 use Rattle.client.specs.Layout.{ClientWord, op-number, op-key, op-value, op-server, reads-count, writes-count}
 use Rattle.client.specs.Record.{last-version}
 use Rattle.client.specs.Sets.{record-at, find}
@@ -66,7 +66,7 @@ module _ (m : ClientWord → ℕ) where
   any-at-last [] = false
   any-at-last (e ∷ l) = at-last-version (e .0) || any-at-last l
 
-module _ (z : Sizes) (m : ClientWord → ℕ) where
+module _ (z : TreeSizes) (m : ClientWord → ℕ) where
   -- what would be written is looked at once all is read: reason 3, then 4, then 8
   abbrev pub last-questions : Ans → Writes → Worked
   last-questions a w =

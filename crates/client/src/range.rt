@@ -1,7 +1,7 @@
 // Records of objects, and which of them are out of range.
 use nodes::node::Node;
 ghost use mathlib.Core.Path.{_≡_};
-ghost use Rattle.client.specs.Record.{single, in-store, fits, sizes};
+ghost use Rattle.client.specs.Record.{single, in-store, record-in-range, sizes};
 
 // A record of the metadata or a flag: its value stands in the first slot.
 pub fn single(version: u64, value: u64) -> Node
@@ -31,7 +31,7 @@ pub fn in_store(servers: usize, slots: usize, name: u64) -> bool
 
 // May the record of the object with that number be used?
 pub fn fits(servers: usize, slots: usize, number: u64, n: Node) -> bool
-    ensures { λ r. ⌜ r ≡ fits (sizes servers slots) number n ⌝ }
+    ensures { λ r. ⌜ r ≡ record-in-range (sizes servers slots) number n ⌝ }
 {
     let first = n.slots[0];
     if number == 0 {

@@ -6,7 +6,7 @@ use Prim.Native.Nat.{ℕ, zero, suc, _<_}
 use Rattle.layout.specs.Space.{Put, changed}
 use Rattle.nodes.specs.Name.{server-of}
 use Rattle.operations.specs.Object.{node, Val, level-of}
-use Rattle.operations.specs.Map.{Map, H}
+use Rattle.operations.specs.Map.{Map, two-to-64}
 use Rattle.operations.specs.Reading.{pairs-below}
 use Rattle.server.specs.declared.place.Place.the-variants.{Root}
 use Rattle.client.specs.Layout.{applied}
@@ -16,14 +16,14 @@ use Rattle.steps.specs.declared.sizes.Sizes.{Sizes}
 use Rattle.steps.specs.declared.step.Step.{Step}
 use Rattle.steps.specs.declared.step.Kind.the-variants.{Apply}
 use Rattle.steps.specs.Whole.{Address, server, client, whole, Allowed}
-use Rattle.steps.specs.Refusal.{fits}
+use Rattle.steps.specs.Refusal.{state-fits}
 use Rattle.steps.specs.Steps.{step, node-at, in-client, applying}
 use Rattle.steps.specs.Run.{opened, after}
 use Rattle.demand.specs.Ledger.{Ledger, blank, note, map-all, Right-all}
 
 -- "Keys and values are any unsigned 64-bit numbers": so are all six fields; H is 2^64
 abbrev pub Word : ℕ → Type 0
-Word n = n < H
+Word n = n < two-to-64
 
 pub record Words (k : Step) : Type 0 where
   pub kind : Word (k .kind)
@@ -43,13 +43,13 @@ pub record Course : Type 0 where
   pub ledger : Ledger
 
 -- "Its transactions are read from the steps and their outcomes alone"
-abbrev pub next : Sizes → Course → Step → Course
-next z x k = record { memory = after z (x .memory) k; ledger = note (x .ledger) k (step z k (x .memory) .outcome) }
+abbrev pub next-course : Sizes → Course → Step → Course
+next-course z x k = record { memory = after z (x .memory) k; ledger = note (x .ledger) k (step z k (x .memory) .outcome) }
 
 -- "run front to back"
 unfoldable pub course : Sizes → Course → List Step → Course
 course z x [] = x
-course z x (k ∷ ks) = course z (next z x k) ks
+course z x (k ∷ ks) = course z (next-course z x k) ks
 
 -- from a newly opened store, where no transaction has been seen
 abbrev pub course-of : Sizes → List Step → Course
@@ -58,7 +58,7 @@ course-of z ks = course z (record { memory = opened z; ledger = blank }) ks
 -- ---- "The tree is read from the memory as all applies still due would leave it"
 -- what the apply of client c at server s stores, if it is still due
 abbrev pub due : Sizes → (Address → ℕ) → ℕ → ℕ → List (Put Address)
-due z m c s = cond (fits (λ a. m (client c a)) s Apply) (applying z m c s ++ in-client z m c (noted applied s)) []
+due z m c s = cond (state-fits (λ a. m (client c a)) s Apply) (applying z m c s ++ in-client z m c (noted applied s)) []
 
 -- at the servers below n, one after another; of the clients below n
 unfoldable pub settle-client : Sizes → ℕ → ℕ → (Address → ℕ) → Address → ℕ

@@ -9,7 +9,7 @@ ghost use Rattle.layout.specs.Part.{inPart};
 ghost use Rattle.server.specs.Layout as Srv;
 ghost use Rattle.steps.specs.Whole.{server, whole, block};
 ghost use Rattle.steps.specs.Refusal.{open-refusal};
-ghost use Rattle.kinds.specs.Parts.{Holds};
+ghost use Rattle.kinds.specs.Parts.{Store-in};
 ghost use Rattle.engine.specs.Open.{opening, with-head, new-words, words-opened};
 use kinds::refusal::memory_refusal;
 use kinds::whole::server_at;
@@ -28,7 +28,7 @@ pub enum Opening {
 
 // A word of server 0 becomes v.
 fn put_first(mem: &mut [u8], sizes: Sizes, place: Place, v: u64)
-    requires { ⌜ Holds sizes (length (now mem)) × Valid Srv.places (Srv.block (sizes .slots)) place ⌝ }
+    requires { ⌜ Store-in sizes (length (now mem)) × Valid Srv.places (Srv.server-block (sizes .slots)) place ⌝ }
     ensures { λ _. ⌜ Does whole (block sizes) (inPart (server 0) (Srv.putStep place v)) silent (view (now (mem .entry))) 0 (view (now (mem .exit))) ⌝ }
 {
     let at = 8 * server_at(sizes, 0);
@@ -47,7 +47,7 @@ fn put_head(mem: &mut [u8], sizes: Sizes)
 
 // "A new store has the root, an empty leaf, in node 0; all versions are 0."
 fn make_new(mem: &mut [u8], sizes: Sizes)
-    requires { ⌜ Holds sizes (length (now mem)) ⌝ }
+    requires { ⌜ Store-in sizes (length (now mem)) ⌝ }
     ensures { λ _. ⌜ view (now (mem .exit)) ≡ new-words sizes (view (now (mem .entry))) ⌝ }
 {
     fill_words(mem, 0, words_for(sizes), 0);

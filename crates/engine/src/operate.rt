@@ -15,7 +15,7 @@ ghost use Rattle.walk.specs.Stopped.{Waiting, Stopped};
 ghost use Rattle.walk.specs.Look.{only-reads};
 ghost use Rattle.steps.specs.Whole.{client as at-client, whole, block, tree-sizes};
 ghost use Rattle.steps.specs.Steps.{work};
-ghost use Rattle.kinds.specs.Parts.{Holds};
+ghost use Rattle.kinds.specs.Parts.{Store-in};
 ghost use Rattle.kinds.specs.Judge.{of-client};
 ghost use Rattle.kinds.specs.Fits.{Known};
 ghost use Rattle.kinds.specs.Kinds.{Meets};
@@ -47,7 +47,7 @@ fn enter_answer(part: &mut [u8], own: &[u64], used: &[u64])
 }
 
 fn store_answer(mem: &mut [u8], sizes: Sizes, client: usize, own: &[u64], used: &[u64])
-    requires { ⌜ Holds sizes (length (now mem)) × (client < sizes .clients) × InUse (now used) × OwnFits (now own) ⌝ }
+    requires { ⌜ Store-in sizes (length (now mem)) × (client < sizes .clients) × InUse (now used) × OwnFits (now own) ⌝ }
     ensures { λ _. ⌜ Does whole (block sizes) (inPart (at-client client) (entering (used-in (now (used .entry))) (own-list (now (own .entry))))) silent (view (now (mem .entry))) 0 (view (now (mem .exit))) ⌝ }
 {
     let at = 8 * client_at(sizes, client);
@@ -64,7 +64,7 @@ fn enter_seen(part: &mut [u8], used: &[u64])
 }
 
 fn store_seen(mem: &mut [u8], sizes: Sizes, client: usize, used: &[u64])
-    requires { ⌜ Holds sizes (length (now mem)) × (client < sizes .clients) × InUse (now used) ⌝ }
+    requires { ⌜ Store-in sizes (length (now mem)) × (client < sizes .clients) × InUse (now used) ⌝ }
     ensures { λ _. ⌜ Does whole (block sizes) (inPart (at-client client) (entering (used-in (now (used .entry))) [])) silent (view (now (mem .entry))) 0 (view (now (mem .exit))) ⌝ }
 {
     let at = 8 * client_at(sizes, client);
@@ -73,7 +73,7 @@ fn store_seen(mem: &mut [u8], sizes: Sizes, client: usize, used: &[u64])
 
 // A walk that stopped without an answer.
 fn unanswered(mem: &mut [u8], sizes: Sizes, client: usize, stop: Stop, used: &[u64]) -> Outcome
-    requires { ⌜ Holds sizes (length (now mem)) × (client < sizes .clients) × Known sizes (view (now mem)) client × Waiting (of-client sizes (view (now mem)) client) ⌝ }
+    requires { ⌜ Store-in sizes (length (now mem)) × (client < sizes .clients) × Known sizes (view (now mem)) client × Waiting (of-client sizes (view (now mem)) client) ⌝ }
     requires stopped { ⌜ Stopped (tree-sizes sizes) (of-client sizes (view (now mem)) client) stop (now used) × (is-answer stop ≡ false) ⌝ }
     ensures { λ r. ⌜ Meets sizes (λ m. work sizes m client) (view (now (mem .entry))) r (view (now (mem .exit))) ⌝ }
 {
@@ -105,7 +105,7 @@ fn answered(stop: Stop) -> Outcome
 
 // Lookup, next and previous.
 fn look(mem: &mut [u8], sizes: Sizes, client: usize) -> Outcome
-    requires { ⌜ Holds sizes (length (now mem)) × (client < sizes .clients) × Known sizes (view (now mem)) client × Waiting (of-client sizes (view (now mem)) client) ⌝ }
+    requires { ⌜ Store-in sizes (length (now mem)) × (client < sizes .clients) × Known sizes (view (now mem)) client × Waiting (of-client sizes (view (now mem)) client) ⌝ }
     requires reads { ⌜ only-reads (of-client sizes (view (now mem)) client op-number) ≡ true ⌝ }
     ensures { λ r. ⌜ Meets sizes (λ m. work sizes m client) (view (now (mem .entry))) r (view (now (mem .exit))) ⌝ }
 {
@@ -121,7 +121,7 @@ fn look(mem: &mut [u8], sizes: Sizes, client: usize) -> Outcome
 
 // Insert, delete and migrate.
 fn change(mem: &mut [u8], sizes: Sizes, client: usize) -> Outcome
-    requires { ⌜ Holds sizes (length (now mem)) × (client < sizes .clients) × Known sizes (view (now mem)) client × Waiting (of-client sizes (view (now mem)) client) ⌝ }
+    requires { ⌜ Store-in sizes (length (now mem)) × (client < sizes .clients) × Known sizes (view (now mem)) client × Waiting (of-client sizes (view (now mem)) client) ⌝ }
     requires writes { ⌜ only-reads (of-client sizes (view (now mem)) client op-number) ≡ false ⌝ }
     ensures { λ r. ⌜ Meets sizes (λ m. work sizes m client) (view (now (mem .entry))) r (view (now (mem .exit))) ⌝ }
 {
@@ -137,7 +137,7 @@ fn change(mem: &mut [u8], sizes: Sizes, client: usize) -> Outcome
 }
 
 pub fn work(mem: &mut [u8], sizes: Sizes, client: usize) -> Outcome
-    requires { ⌜ Holds sizes (length (now mem)) × (client < sizes .clients) × Known sizes (view (now mem)) client × Waiting (of-client sizes (view (now mem)) client) ⌝ }
+    requires { ⌜ Store-in sizes (length (now mem)) × (client < sizes .clients) × Known sizes (view (now mem)) client × Waiting (of-client sizes (view (now mem)) client) ⌝ }
     ensures { λ r. ⌜ Meets sizes (λ m. work sizes m client) (view (now (mem .entry))) r (view (now (mem .exit))) ⌝ }
 {
     let reads = only_reads_at(mem, sizes, client);

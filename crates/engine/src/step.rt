@@ -9,7 +9,7 @@ ghost use Rattle.steps.specs.Whole.{tree-sizes};
 ghost use Rattle.steps.specs.Refusal.{kind-of};
 ghost use Rattle.steps.specs.Passed.{Passed};
 ghost use Rattle.steps.specs.Steps.{step as rule};
-ghost use Rattle.kinds.specs.Parts.{Holds, stored-in};
+ghost use Rattle.kinds.specs.Parts.{Store-in, stored-in};
 ghost use Rattle.kinds.specs.Judge.{of-client};
 ghost use Rattle.kinds.specs.Kinds.{Meets};
 ghost use Rattle.engine.specs.Step.{rule-of, outcome-of, words-after};
@@ -33,7 +33,7 @@ use steps::step::Step;
 
 // The rule of a step's kind.
 fn by_kind(mem: &mut [u8], sizes: Sizes, client: usize, step: Step, kind: Kind) -> Outcome
-    requires { ⌜ Holds sizes (length (now mem)) × (client ≡ step .client) × (kind ≡ kind-of (step .kind)) × Passed sizes step (stored-in sizes (view (now mem))) × (client-fits (tree-sizes sizes) (of-client sizes (view (now mem)) client) ≡ true) ⌝ }
+    requires { ⌜ Store-in sizes (length (now mem)) × (client ≡ step .client) × (kind ≡ kind-of (step .kind)) × Passed sizes step (stored-in sizes (view (now mem))) × (client-fits (tree-sizes sizes) (of-client sizes (view (now mem)) client) ≡ true) ⌝ }
     ensures { λ r. ⌜ Meets sizes (rule-of sizes client step kind) (view (now (mem .entry))) r (view (now (mem .exit))) ⌝ }
 {
     match kind {
@@ -51,7 +51,7 @@ fn by_kind(mem: &mut [u8], sizes: Sizes, client: usize, step: Step, kind: Kind) 
 
 // Refusals 4 to 9, then 10 for the client's own state, then the rule.
 fn in_store(mem: &mut [u8], sizes: Sizes, step: Step) -> Outcome
-    requires { ⌜ Holds sizes (length (now mem)) ⌝ }
+    requires { ⌜ Store-in sizes (length (now mem)) ⌝ }
     ensures { λ r. ⌜ Meets sizes (rule sizes step) (view (now (mem .entry))) r (view (now (mem .exit))) ⌝ }
 {
     let number = refusal(mem, sizes, step);

@@ -9,7 +9,7 @@ ghost use Rattle.walk.specs.Stopped.{Waiting};
 ghost use Rattle.walk.specs.Look.{only-reads, Looks};
 ghost use Rattle.change.specs.Work.{Ready, Works};
 ghost use Rattle.steps.specs.Whole.{tree-sizes};
-ghost use Rattle.kinds.specs.Parts.{Holds};
+ghost use Rattle.kinds.specs.Parts.{Store-in};
 ghost use Rattle.kinds.specs.Judge.{of-client};
 use change::work::work;
 use kinds::whole::client_at;
@@ -19,7 +19,7 @@ use walk::look::only_reads;
 use walk::walk::Stop;
 
 pub fn only_reads_at(mem: &[u8], sizes: Sizes, client: usize) -> bool
-    requires { ⌜ Holds sizes (length (now mem)) × (client < sizes .clients) ⌝ }
+    requires { ⌜ Store-in sizes (length (now mem)) × (client < sizes .clients) ⌝ }
     ensures { λ r. ⌜ r ≡ only-reads (of-client sizes (view (now (mem .entry))) client op-number) ⌝ }
 {
     let at = 8 * client_at(sizes, client);
@@ -28,7 +28,7 @@ pub fn only_reads_at(mem: &[u8], sizes: Sizes, client: usize) -> bool
 
 // An operation that only reads: no list of own writes is lent, and the other one is empty.
 pub fn look_at(mem: &[u8], sizes: Sizes, client: usize, used: &mut [u64]) -> Stop
-    requires { ⌜ Holds sizes (length (now mem)) × (client < sizes .clients) × (98 ≤ length (now used)) × (getD (now used) 0 0 ≡ 0) ⌝ }
+    requires { ⌜ Store-in sizes (length (now mem)) × (client < sizes .clients) × (98 ≤ length (now used)) × (getD (now used) 0 0 ≡ 0) ⌝ }
     requires waits { ⌜ Waiting (of-client sizes (view (now mem)) client) × (only-reads (of-client sizes (view (now mem)) client op-number) ≡ true) ⌝ }
     ensures { λ r. ⌜ Looks (tree-sizes sizes) (of-client sizes (view (now (mem .entry))) client) r (now (used .exit)) ⌝ }
 {
@@ -38,7 +38,7 @@ pub fn look_at(mem: &[u8], sizes: Sizes, client: usize, used: &mut [u64]) -> Sto
 
 // One that writes: both lists are lent empty.
 pub fn walk_at(mem: &[u8], sizes: Sizes, client: usize, own: &mut [u64], used: &mut [u64]) -> Stop
-    requires { ⌜ Holds sizes (length (now mem)) × (client < sizes .clients) × Ready (now own) (now used) ⌝ }
+    requires { ⌜ Store-in sizes (length (now mem)) × (client < sizes .clients) × Ready (now own) (now used) ⌝ }
     requires waits { ⌜ Waiting (of-client sizes (view (now mem)) client) × (only-reads (of-client sizes (view (now mem)) client op-number) ≡ false) ⌝ }
     ensures { λ r. ⌜ Works (tree-sizes sizes) (of-client sizes (view (now (mem .entry))) client) r (now (own .exit)) (now (used .exit)) ⌝ }
 {

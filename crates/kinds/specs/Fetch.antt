@@ -7,7 +7,7 @@ use lib.ListN.{length, getD}
 use Rattle.memory.specs.Word.{view}
 use Rattle.server.specs.declared.lock.Use.the-variants.{Fetch}
 use Rattle.server.specs.Object.{object-of, Has}
-use Rattle.server.specs.Check.{can-check, checked, held, reason}
+use Rattle.server.specs.Check.{can-check, checked, held, finding-reason}
 use Rattle.client.specs.declared.part.Set.the-variants.{Reads}
 use Rattle.client.specs.Layout.{ClientWord, reads-count}
 use Rattle.client.specs.Sets.{count}
@@ -16,10 +16,10 @@ use Rattle.client.specs.Lent.{InUse, used-in}
 use Rattle.steps.specs.declared.sizes.Sizes.{Sizes}
 use Rattle.kinds.specs.declared.fetch.Verdict.{Verdict}
 use Rattle.kinds.specs.declared.fetch.Verdict.the-variants.{Unfit, Fault, Clear}
-use Rattle.steps.specs.Uses.{Item, all, item-of, object, deciding}
+use Rattle.steps.specs.Uses.{Item, all, item-of, item-object, deciding}
 use Rattle.steps.specs.Judge.{check-fits}
 use Rattle.steps.specs.Steps.{fetch-items, fetch-finding}
-use Rattle.kinds.specs.Parts.{Holds, stored-in}
+use Rattle.kinds.specs.Parts.{Store-in, stored-in}
 use Rattle.kinds.specs.Items.{read-item}
 use Rattle.kinds.specs.Judge.{of-client, of-server, lock-at}
 
@@ -37,7 +37,7 @@ pub record AllKnown (z : Sizes) (w : List ℕ) (c : ℕ) (us : List ℕ) : Type 
 
 -- what the check of a fetch from the server s knows
 pub record Checking (z : Sizes) (b : List ℕ) (c s : ℕ) (u : List ℕ) : Type 0 where
-  pub holds : Holds z (length b)
+  pub holds : Store-in z (length b)
   pub client : c < z .clients
   pub server : s < z .servers
   pub in-use : InUse u
@@ -46,13 +46,13 @@ pub record Checking (z : Sizes) (b : List ℕ) (c s : ℕ) (u : List ℕ) : Type
 
 -- can the server s check the item
 abbrev pub checks : ℕ → Item → Bool
-checks s i = can-check s (object i) (i .inner-read)
+checks s i = can-check s (item-object i) (i .inner-read)
 
 unfoldable pub check-item : Sizes → List ℕ → ℕ → Item → Bool
 check-item z w s i = not (checks s i) || check-fits z (stored-in z w) s i
 
 unfoldable pub fetch-fault : Sizes → List ℕ → ℕ → ℕ → Item → ℕ
-fetch-fault z w c s i = cond (checks s i) (reason (checked (object i) (i .inner-read) (i .mark) c Fetch (of-server z w s))) 0
+fetch-fault z w c s i = cond (checks s i) (finding-reason (checked (item-object i) (i .inner-read) (i .mark) c Fetch (of-server z w s))) 0
 
 -- what Steps.checked-fetch asks
 unfoldable pub items-fit : Sizes → List ℕ → ℕ → ℕ → List ℕ → Bool

@@ -5,12 +5,12 @@ use Prim.Native.Nat.{ℕ, _-_}
 use Rattle.memory.specs.Bit.{bit}
 use Rattle.server.specs.declared.place.Place.{Place}
 use Rattle.server.specs.Object.{object-of, lock-of}
-use Rattle.server.specs.Lock.{in-range}
+use Rattle.server.specs.Lock.{lock-in-range}
 use Rattle.server.specs.Check.{sound}
 use Rattle.client.specs.Layout.{ClientWord}
 use Rattle.steps.specs.declared.sizes.Sizes.{Sizes}
 use Rattle.steps.specs.Whole.{server, client}
-use Rattle.steps.specs.Uses.{Item, object}
+use Rattle.steps.specs.Uses.{Item, item-object}
 use Rattle.steps.specs.Judge.{commits, holders-fit}
 use Rattle.kinds.specs.Parts.{stored-in}
 
@@ -29,7 +29,7 @@ reader-fits z w x d = not (bit x d) || commits z (stored-in z w) d
 unfoldable pub lock-at : Sizes → List ℕ → ℕ → ℕ → Bool
 lock-at z w s x =
     let v = stored-in z w (server s (lock-of (object-of x))) in
-    in-range (z .clients) v && holders-fit z (stored-in z w) x v
+    lock-in-range (z .clients) v && holders-fit z (stored-in z w) x v
 
 unfoldable pub sound-at : Sizes → List ℕ → ℕ → Item → Bool
-sound-at z w s i = sound (z .clients) (object i) (i .inner-read) (of-server z w s)
+sound-at z w s i = sound (z .clients) (item-object i) (i .inner-read) (of-server z w s)

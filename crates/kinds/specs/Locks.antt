@@ -15,8 +15,8 @@ use Rattle.steps.specs.declared.sizes.Sizes.{Sizes}
 use Rattle.kinds.specs.declared.locks.Change.{Change}
 use Rattle.kinds.specs.declared.locks.Change.the-variants.{Lock, Unlock}
 use Rattle.steps.specs.Whole.{Address, server, client, whole, block}
-use Rattle.steps.specs.Uses.{Item, object, locked-at}
-use Rattle.steps.specs.Judge.{lowest}
+use Rattle.steps.specs.Uses.{Item, item-object, locked-at}
+use Rattle.steps.specs.Judge.{lowest-participant}
 use Rattle.steps.specs.Steps.{in-server}
 use Rattle.kinds.specs.Items.{read-item}
 use Rattle.kinds.specs.Judge.{of-client}
@@ -27,8 +27,8 @@ Rule = (Place → ℕ) → List (Put Place)
 
 -- what a change does to an object's lock
 unfoldable pub rule : Change → ℕ → Item → Rule
-rule Lock c i = lock-step (object i) (i .written) c
-rule Unlock c i = unlock-step (object i) c
+rule Lock c i = lock-step (item-object i) (i .written) c
+rule Unlock c i = unlock-step (item-object i) c
 
 -- a rule where the test holds
 unfoldable pub passing : (Item → Bool) → (Item → Rule) → Item → Rule
@@ -41,7 +41,7 @@ upto g t h n m = sweep Srv.places (λ i. passing t g (h i)) n m
 -- the objects read that are locked at s, in the order of the read set
 unfoldable pub changes : Sizes → ℕ → ℕ → Change → (Address → ℕ) → List (Put Address)
 changes z c s k m =
-    in-server z m c s (upto (rule k c) (locked-at (lowest z m c) s) (read-item (λ a. m (client c a))) (count (λ a. m (client c a)) Reads))
+    in-server z m c s (upto (rule k c) (locked-at (lowest-participant z m c) s) (read-item (λ a. m (client c a))) (count (λ a. m (client c a)) Reads))
 
 -- what code did in a server's part of the whole
 abbrev pub Done : Sizes → ℕ → Rule → List ℕ → List ℕ → Type 0

@@ -11,7 +11,7 @@ use Rattle.steps.specs.declared.step.Step.{Step}
 use Rattle.steps.specs.declared.step.Kind.{Kind}
 use Rattle.steps.specs.declared.step.Kind.the-variants.{Begin, Give, Work, Commit, Prepare, Apply, GiveUp, Lost, Unknown}
 use Rattle.steps.specs.Whole.{client, tree-sizes}
-use Rattle.steps.specs.Refusal.{between, kind-of, fits}
+use Rattle.steps.specs.Refusal.{between, kind-of, state-fits}
 use Rattle.kinds.specs.Parts.{stored-in}
 
 -- ---- 4 to 9: the tests of the table's rows
@@ -52,7 +52,7 @@ fitting Lost p o d = true
 fitting Unknown p o d = true
 
 unfoldable pub unfit : Sizes → Step → List ℕ → Bool
-unfit z k w = not (fits (λ a. stored-in z w (client (k .client) a)) (k .server) (kind-of (k .kind)))
+unfit z k w = not (state-fits (λ a. stored-in z w (client (k .client) a)) (k .server) (kind-of (k .kind)))
 
 -- the server of a prepare or an apply is one of eight
 unfoldable pub Sited : Kind → ℕ → Type 0

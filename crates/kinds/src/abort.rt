@@ -9,7 +9,7 @@ ghost use Rattle.client.specs.Lent.{InUse, used-in};
 ghost use Rattle.client.specs.Life as Life;
 ghost use Rattle.steps.specs.Whole.{client as at-client, whole, block};
 ghost use Rattle.steps.specs.Steps.{abort};
-ghost use Rattle.kinds.specs.Parts.{Holds};
+ghost use Rattle.kinds.specs.Parts.{Store-in};
 ghost use Rattle.kinds.specs.Fits.{Known};
 ghost use Rattle.kinds.specs.Abort.{Freed, freeing, aborts};
 ghost use Rattle.kinds.specs.Kinds.{Meets};
@@ -25,7 +25,7 @@ use steps::sizes::Sizes;
 
 // The locks at a server go, if the transaction is prepared there.
 fn unlock_at(mem: &mut [u8], sizes: Sizes, client: usize, prepared: u64, server: usize)
-    requires { ⌜ Holds sizes (length (now mem)) × (client < sizes .clients) × (server < sizes .servers) × Known sizes (view (now mem)) client ⌝ }
+    requires { ⌜ Store-in sizes (length (now mem)) × (client < sizes .clients) × (server < sizes .servers) × Known sizes (view (now mem)) client ⌝ }
     ensures { λ _. ⌜ Freed sizes client prepared server (view (now (mem .entry))) (view (now (mem .exit))) ⌝ }
 {
     if bits::has(prepared, server as u32) {
@@ -35,7 +35,7 @@ fn unlock_at(mem: &mut [u8], sizes: Sizes, client: usize, prepared: u64, server:
 
 // The locks at all servers at which the transaction is prepared.
 pub fn unlock_everywhere(mem: &mut [u8], sizes: Sizes, client: usize)
-    requires { ⌜ Holds sizes (length (now mem)) × (client < sizes .clients) × Known sizes (view (now mem)) client ⌝ }
+    requires { ⌜ Store-in sizes (length (now mem)) × (client < sizes .clients) × Known sizes (view (now mem)) client ⌝ }
     ensures { λ _. ⌜ Does whole (block sizes) (freeing sizes client) silent (view (now (mem .entry))) 0 (view (now (mem .exit))) ⌝ }
 {
     let prepared = field_of(mem, sizes, client, 6);
@@ -49,8 +49,8 @@ pub fn unlock_everywhere(mem: &mut [u8], sizes: Sizes, client: usize)
 
 // Copies go and the transaction has ended.
 fn end_at(mem: &mut [u8], sizes: Sizes, client: usize, used: &[u64])
-    requires { ⌜ Holds sizes (length (now mem)) × (client < sizes .clients) × InUse (now used) ⌝ }
-    ensures { λ _. ⌜ Does whole (block sizes) (inPart (at-client client) (Life.abort (used-in (now (used .entry))))) silent (view (now (mem .entry))) 0 (view (now (mem .exit))) ⌝ }
+    requires { ⌜ Store-in sizes (length (now mem)) × (client < sizes .clients) × InUse (now used) ⌝ }
+    ensures { λ _. ⌜ Does whole (block sizes) (inPart (at-client client) (Life.abort-part (used-in (now (used .entry))))) silent (view (now (mem .entry))) 0 (view (now (mem .exit))) ⌝ }
 {
     let at = 8 * client_at(sizes, client);
     life::abort(&mut mem[at..], used);
@@ -58,7 +58,7 @@ fn end_at(mem: &mut [u8], sizes: Sizes, client: usize, used: &[u64])
 
 // What an abort stores.
 pub fn store_abort(mem: &mut [u8], sizes: Sizes, client: usize, used: &[u64])
-    requires { ⌜ Holds sizes (length (now mem)) × (client < sizes .clients) × Known sizes (view (now mem)) client × InUse (now used) ⌝ }
+    requires { ⌜ Store-in sizes (length (now mem)) × (client < sizes .clients) × Known sizes (view (now mem)) client × InUse (now used) ⌝ }
     ensures { λ _. ⌜ Does whole (block sizes) (aborts sizes client (used-in (now (used .entry)))) silent (view (now (mem .entry))) 0 (view (now (mem .exit))) ⌝ }
 {
     unlock_everywhere(mem, sizes, client);
@@ -67,7 +67,7 @@ pub fn store_abort(mem: &mut [u8], sizes: Sizes, client: usize, used: &[u64])
 
 // The transaction aborts for a reason; the copies in use are those of this step.
 pub fn abort(mem: &mut [u8], sizes: Sizes, client: usize, reason: u64, used: &[u64]) -> Outcome
-    requires { ⌜ Holds sizes (length (now mem)) × (client < sizes .clients) × Known sizes (view (now mem)) client × InUse (now used) ⌝ }
+    requires { ⌜ Store-in sizes (length (now mem)) × (client < sizes .clients) × Known sizes (view (now mem)) client × InUse (now used) ⌝ }
     ensures { λ r. ⌜ Meets sizes (λ m. abort sizes m client reason (used-in (now (used .entry)))) (view (now (mem .entry))) r (view (now (mem .exit))) ⌝ }
 {
     if abort_fits(mem, sizes, client) {
@@ -79,7 +79,7 @@ pub fn abort(mem: &mut [u8], sizes: Sizes, client: usize, reason: u64, used: &[u
 
 // And where a step uses no copies.
 pub fn abort_unused(mem: &mut [u8], sizes: Sizes, client: usize, reason: u64) -> Outcome
-    requires { ⌜ Holds sizes (length (now mem)) × (client < sizes .clients) × Known sizes (view (now mem)) client ⌝ }
+    requires { ⌜ Store-in sizes (length (now mem)) × (client < sizes .clients) × Known sizes (view (now mem)) client ⌝ }
     ensures { λ r. ⌜ Meets sizes (λ m. abort sizes m client reason []) (view (now (mem .entry))) r (view (now (mem .exit))) ⌝ }
 {
     let none = [0u64; 98];
@@ -88,7 +88,7 @@ pub fn abort_unused(mem: &mut [u8], sizes: Sizes, client: usize, reason: u64) ->
 
 // 6 give up
 pub fn give_up(mem: &mut [u8], sizes: Sizes, client: usize) -> Outcome
-    requires { ⌜ Holds sizes (length (now mem)) × (client < sizes .clients) × Known sizes (view (now mem)) client ⌝ }
+    requires { ⌜ Store-in sizes (length (now mem)) × (client < sizes .clients) × Known sizes (view (now mem)) client ⌝ }
     ensures { λ r. ⌜ Meets sizes (λ m. abort sizes m client 6 []) (view (now (mem .entry))) r (view (now (mem .exit))) ⌝ }
 {
     abort_unused(mem, sizes, client, 6)

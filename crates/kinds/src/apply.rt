@@ -10,7 +10,7 @@ ghost use Rattle.client.specs.Renew.{finish};
 ghost use Rattle.steps.specs.Whole.{client as at-client, whole, block};
 ghost use Rattle.steps.specs.Judge.{versions-fit};
 ghost use Rattle.steps.specs.Steps.{applied-at, apply};
-ghost use Rattle.kinds.specs.Parts.{Holds, stored-in};
+ghost use Rattle.kinds.specs.Parts.{AtClient, Store-in, stored-in};
 ghost use Rattle.kinds.specs.Fits.{Known};
 ghost use Rattle.kinds.specs.Kinds.{Meets};
 ghost use Rattle.kinds.specs.Apply.{applies};
@@ -28,7 +28,7 @@ use steps::sizes::Sizes;
 
 // What a server stores.
 fn store_server(mem: &mut [u8], sizes: Sizes, client: usize, server: usize)
-    requires { ⌜ Holds sizes (length (now mem)) × (client < sizes .clients) × (server < sizes .servers) × Known sizes (view (now mem)) client ⌝ }
+    requires { ⌜ Store-in sizes (length (now mem)) × (client < sizes .clients) × (server < sizes .servers) × Known sizes (view (now mem)) client ⌝ }
     requires fresh { ⌜ versions-fit sizes (stored-in sizes (view (now mem))) client ≡ true ⌝ }
     ensures { λ _. ⌜ Does whole (block sizes) (applies sizes client server) silent (view (now (mem .entry))) 0 (view (now (mem .exit))) ⌝ }
 {
@@ -38,7 +38,7 @@ fn store_server(mem: &mut [u8], sizes: Sizes, client: usize, server: usize)
 
 // The transaction has ended.
 fn finish_at(mem: &mut [u8], sizes: Sizes, client: usize)
-    requires { ⌜ Holds sizes (length (now mem)) × (client < sizes .clients) ⌝ }
+    requires { ⌜ AtClient sizes (length (now mem)) client ⌝ }
     ensures { λ _. ⌜ Does whole (block sizes) (inPart (at-client client) finish) silent (view (now (mem .entry))) 0 (view (now (mem .exit))) ⌝ }
 {
     let at = 8 * client_at(sizes, client);
@@ -47,7 +47,7 @@ fn finish_at(mem: &mut [u8], sizes: Sizes, client: usize)
 
 // An apply where all that it reads is in range.
 pub fn apply_at(mem: &mut [u8], sizes: Sizes, client: usize, server: usize) -> Outcome
-    requires { ⌜ Holds sizes (length (now mem)) × (client < sizes .clients) × (server < sizes .servers) × Known sizes (view (now mem)) client ⌝ }
+    requires { ⌜ Store-in sizes (length (now mem)) × (client < sizes .clients) × (server < sizes .servers) × Known sizes (view (now mem)) client ⌝ }
     requires fresh { ⌜ versions-fit sizes (stored-in sizes (view (now mem))) client ≡ true ⌝ }
     ensures { λ r. ⌜ Meets sizes (λ m. applied-at sizes m client server) (view (now (mem .entry))) r (view (now (mem .exit))) ⌝ }
 {
@@ -62,7 +62,7 @@ pub fn apply_at(mem: &mut [u8], sizes: Sizes, client: usize, server: usize) -> O
 }
 
 pub fn apply(mem: &mut [u8], sizes: Sizes, client: usize, server: usize) -> Outcome
-    requires { ⌜ Holds sizes (length (now mem)) × (client < sizes .clients) × (server < sizes .servers) × Known sizes (view (now mem)) client ⌝ }
+    requires { ⌜ Store-in sizes (length (now mem)) × (client < sizes .clients) × (server < sizes .servers) × Known sizes (view (now mem)) client ⌝ }
     ensures { λ r. ⌜ Meets sizes (λ m. apply sizes m client server) (view (now (mem .entry))) r (view (now (mem .exit))) ⌝ }
 {
     if !unlock_fits(mem, sizes, client, server) {

@@ -11,7 +11,7 @@ ghost use Rattle.client.specs.Layout.{field};
 ghost use Rattle.client.specs.Course.{noted};
 ghost use Rattle.steps.specs.Whole.{client as at-client, whole, block};
 ghost use Rattle.steps.specs.Steps.{covers};
-ghost use Rattle.kinds.specs.Parts.{Holds};
+ghost use Rattle.kinds.specs.Parts.{Store-in};
 ghost use Rattle.kinds.specs.Judge.{of-client};
 ghost use Rattle.kinds.specs.Course.{covered, mark};
 use crate::judge::field_of;
@@ -22,7 +22,7 @@ use steps::sizes::Sizes;
 
 // A field of a client becomes v.
 pub fn put_field(mem: &mut [u8], sizes: Sizes, client: usize, i: usize, v: u64)
-    requires { ⌜ Holds sizes (length (now mem)) × (client < sizes .clients) × (i < 15) ⌝ }
+    requires { ⌜ Store-in sizes (length (now mem)) × (client < sizes .clients) × (i < 15) ⌝ }
     ensures { λ _. ⌜ Does whole (block sizes) (inPart (at-client client) (mark i v)) silent (view (now (mem .entry))) 0 (view (now (mem .exit))) ⌝ }
 {
     let at = 8 * client_at(sizes, client);
@@ -31,7 +31,7 @@ pub fn put_field(mem: &mut [u8], sizes: Sizes, client: usize, i: usize, v: u64)
 
 // A server enters the set of servers that a client's field has.
 pub fn note(mem: &mut [u8], sizes: Sizes, client: usize, i: usize, server: usize)
-    requires { ⌜ Holds sizes (length (now mem)) × (client < sizes .clients) × (server < sizes .servers) × (i < 15) ⌝ }
+    requires { ⌜ Store-in sizes (length (now mem)) × (client < sizes .clients) × (server < sizes .servers) × (i < 15) ⌝ }
     ensures { λ _. ⌜ Does whole (block sizes) (inPart (at-client client) (noted (field i) server)) silent (view (now (mem .entry))) 0 (view (now (mem .exit))) ⌝ }
 {
     let set = field_of(mem, sizes, client, i);
@@ -67,7 +67,7 @@ fn covers(n: usize, set: u64, done: u64) -> bool
 
 // Are all participants in the field's set, once the server is?
 pub fn is_last(mem: &[u8], sizes: Sizes, client: usize, i: usize, server: usize) -> bool
-    requires { ⌜ Holds sizes (length (now mem)) × (client < sizes .clients) × (server < sizes .servers) × (i < 15) ⌝ }
+    requires { ⌜ Store-in sizes (length (now mem)) × (client < sizes .clients) × (server < sizes .servers) × (i < 15) ⌝ }
     ensures { λ r. ⌜ r ≡ covers (sizes .servers) (of-client sizes (view (now (mem .entry))) client (field 5)) (putBit true (of-client sizes (view (now (mem .entry))) client (field i)) server) ⌝ }
 {
     let set = field_of(mem, sizes, client, 5);

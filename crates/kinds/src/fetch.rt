@@ -7,7 +7,7 @@ ghost use Rattle.server.specs.Object.{object-of, Has};
 ghost use Rattle.client.specs.declared.part.Set.the-variants.{Reads};
 ghost use Rattle.client.specs.Sets.{held, count};
 ghost use Rattle.client.specs.Lent.{InUse, used-in};
-ghost use Rattle.kinds.specs.Parts.{Holds};
+ghost use Rattle.kinds.specs.Parts.{Store-in};
 ghost use Rattle.kinds.specs.Items.{as-item};
 ghost use Rattle.kinds.specs.Judge.{of-client};
 ghost use Rattle.kinds.specs.Fetch.{used-item, known-at, check-item, fetch-fault, items-fit, items-found, Checking, verdict-of, gate-of};
@@ -40,7 +40,7 @@ fn used_item(part: &[u8], number: u64) -> Item
 }
 
 fn used_at(mem: &[u8], sizes: Sizes, client: usize, number: u64) -> Item
-    requires { ⌜ Holds sizes (length (now mem)) × (client < sizes .clients) × (number < 16385) ⌝ }
+    requires { ⌜ Store-in sizes (length (now mem)) × (client < sizes .clients) × (number < 16385) ⌝ }
     ensures { λ r. ⌜ as-item r ≡ used-item (of-client sizes (view (now (mem .entry))) client) number ⌝ }
 {
     let at = 8 * client_at(sizes, client);
@@ -49,7 +49,7 @@ fn used_at(mem: &[u8], sizes: Sizes, client: usize, number: u64) -> Item
 
 // Object i of those read: the read set's, then the copies in use.
 fn known_at(mem: &[u8], sizes: Sizes, client: usize, used: &[u64], i: usize) -> Item
-    requires { ⌜ Holds sizes (length (now mem)) × (client < sizes .clients) × InUse (now used) × (i < count (of-client sizes (view (now mem)) client) Reads + getD (now used) 0 0) ⌝ }
+    requires { ⌜ Store-in sizes (length (now mem)) × (client < sizes .clients) × InUse (now used) × (i < count (of-client sizes (view (now mem)) client) Reads + getD (now used) 0 0) ⌝ }
     ensures { λ r. ⌜ as-item r ≡ known-at (of-client sizes (view (now (mem .entry))) client) (used-in (now (used .entry))) i ⌝ }
 {
     let n = reads_of(mem, sizes, client);
@@ -62,7 +62,7 @@ fn known_at(mem: &[u8], sizes: Sizes, client: usize, used: &[u64], i: usize) -> 
 
 // What a check of the item reads at the server is in range, if the server can check it.
 fn item_checks(mem: &[u8], sizes: Sizes, server: usize, item: Item) -> bool
-    requires { ⌜ Holds sizes (length (now mem)) × (server < sizes .servers) × Has (sizes .slots) (object-of (item .number)) ⌝ }
+    requires { ⌜ Store-in sizes (length (now mem)) × (server < sizes .servers) × Has (sizes .slots) (object-of (item .number)) ⌝ }
     ensures { λ r. ⌜ r ≡ check-item sizes (view (now (mem .entry))) server (as-item item) ⌝ }
 {
     let object = numbered(item.number);
@@ -74,7 +74,7 @@ fn item_checks(mem: &[u8], sizes: Sizes, server: usize, item: Item) -> bool
 
 // The reason that the check of an item finds; 0 if there is none, or the server can't check it.
 fn fetch_fault(mem: &[u8], sizes: Sizes, client: usize, server: usize, item: Item) -> u64
-    requires { ⌜ Holds sizes (length (now mem)) × (server < sizes .servers) × (client < sizes .clients) × Has (sizes .slots) (object-of (item .number)) ⌝ }
+    requires { ⌜ Store-in sizes (length (now mem)) × (server < sizes .servers) × (client < sizes .clients) × Has (sizes .slots) (object-of (item .number)) ⌝ }
     ensures { λ r. ⌜ r ≡ fetch-fault sizes (view (now (mem .entry))) client server (as-item item) ⌝ }
 {
     let object = numbered(item.number);

@@ -3,10 +3,10 @@ ghost use mathlib.Core.Path.{_≡_};
 ghost use Prim.Native.Nat.{_<_};
 ghost use lib.ListN.{length};
 ghost use Rattle.memory.specs.Word.{view};
-ghost use Rattle.server.specs.Check.{checked, held, reason};
+ghost use Rattle.server.specs.Check.{checked, held, finding-reason};
 ghost use Rattle.server.specs.Object.{object-of, Has};
 ghost use Rattle.steps.specs.Uses.{use-of};
-ghost use Rattle.kinds.specs.Parts.{Holds};
+ghost use Rattle.kinds.specs.Parts.{Store-in};
 ghost use Rattle.kinds.specs.Items.{as-item};
 ghost use Rattle.kinds.specs.Judge.{of-server};
 ghost use Rattle.kinds.specs.Fits.{Known};
@@ -49,7 +49,7 @@ pub fn lesser(first: Fault, second: Fault) -> Fault
 
 // "1 a checked object differs .. 2 it is locked against this use by another client"
 fn reason_of(finding: Finding) -> u64
-    ensures { λ r. ⌜ r ≡ reason finding ⌝ }
+    ensures { λ r. ⌜ r ≡ finding-reason finding ⌝ }
 {
     match finding {
         Finding::Same => 0,
@@ -77,8 +77,8 @@ pub fn checked_at(
     client: usize,
     wanted: Use,
 ) -> u64
-    requires { ⌜ Holds sizes (length (now mem)) × (server < sizes .servers) × (client < sizes .clients) × Has (sizes .slots) (object-of (item .number)) ⌝ }
-    ensures { λ r. ⌜ r ≡ reason (checked (object-of (item .number)) (item .inner) (item .mark) client wanted (of-server sizes (view (now (mem .entry))) server)) ⌝ }
+    requires { ⌜ Store-in sizes (length (now mem)) × (server < sizes .servers) × (client < sizes .clients) × Has (sizes .slots) (object-of (item .number)) ⌝ }
+    ensures { λ r. ⌜ r ≡ finding-reason (checked (object-of (item .number)) (item .inner) (item .mark) client wanted (of-server sizes (view (now (mem .entry))) server)) ⌝ }
 {
     let at = 8 * server_at(sizes, server);
     let object = numbered(item.number);
@@ -104,7 +104,7 @@ pub fn held_at(
     client: usize,
     wanted: Use,
 ) -> bool
-    requires { ⌜ Holds sizes (length (now mem)) × (server < sizes .servers) × (client < sizes .clients) × Has (sizes .slots) (object-of number) ⌝ }
+    requires { ⌜ Store-in sizes (length (now mem)) × (server < sizes .servers) × (client < sizes .clients) × Has (sizes .slots) (object-of number) ⌝ }
     ensures { λ r. ⌜ r ≡ held (object-of number) client wanted (of-server sizes (view (now (mem .entry))) server) ⌝ }
 {
     let at = 8 * server_at(sizes, server);
@@ -121,7 +121,7 @@ fn prepare_reason(
     low: u64,
     item: Item,
 ) -> u64
-    requires { ⌜ Holds sizes (length (now mem)) × (server < sizes .servers) × (client < sizes .clients) × Has (sizes .slots) (object-of (item .number)) ⌝ }
+    requires { ⌜ Store-in sizes (length (now mem)) × (server < sizes .servers) × (client < sizes .clients) × Has (sizes .slots) (object-of (item .number)) ⌝ }
     ensures { λ r. ⌜ r ≡ prepare-reason sizes (view (now (mem .entry))) client server low (as-item item) ⌝ }
 {
     if is_checked_at(item, low, server as u64) {
@@ -142,7 +142,7 @@ fn prepare_fault(
     low: u64,
     item: Item,
 ) -> u64
-    requires { ⌜ Holds sizes (length (now mem)) × (server < sizes .servers) × (client < sizes .clients) × Has (sizes .slots) (object-of (item .number)) ⌝ }
+    requires { ⌜ Store-in sizes (length (now mem)) × (server < sizes .servers) × (client < sizes .clients) × Has (sizes .slots) (object-of (item .number)) ⌝ }
     ensures { λ r. ⌜ r ≡ prepare-fault sizes (view (now (mem .entry))) client server low (as-item item) ⌝ }
 {
     if is_locked_at(item, low, server as u64) {
@@ -153,7 +153,7 @@ fn prepare_fault(
 
 // The reason for which a prepare at a server aborts; 0 if there is none.
 pub fn prepare_finds(mem: &[u8], sizes: Sizes, client: usize, server: usize) -> u64
-    requires { ⌜ Holds sizes (length (now mem)) × (client < sizes .clients) × (server < sizes .servers) × Known sizes (view (now mem)) client ⌝ }
+    requires { ⌜ Store-in sizes (length (now mem)) × (client < sizes .clients) × (server < sizes .servers) × Known sizes (view (now mem)) client ⌝ }
     ensures { λ r. ⌜ r ≡ prepare-found sizes (view (now (mem .entry))) client server ⌝ }
 {
     let low = lowest(mem, sizes, client);

@@ -7,8 +7,8 @@ ghost use Rattle.server.specs.Object.{object-of, Has};
 ghost use Rattle.client.specs.declared.part.Set.the-variants.{Reads};
 ghost use Rattle.client.specs.Sets.{count};
 ghost use Rattle.client.specs.Participants.{lowest-of};
-ghost use Rattle.steps.specs.Judge.{lowest, prepare-fits, unlock-fits, abort-fits};
-ghost use Rattle.kinds.specs.Parts.{Holds, stored-in};
+ghost use Rattle.steps.specs.Judge.{lowest-participant, prepare-fits, unlock-fits, abort-fits};
+ghost use Rattle.kinds.specs.Parts.{AtClient, Store-in, stored-in};
 ghost use Rattle.kinds.specs.Items.{as-item};
 ghost use Rattle.kinds.specs.Judge.{of-client};
 ghost use Rattle.kinds.specs.Fits.{Known, prepare-item, unlock-item, unlocks-at};
@@ -27,7 +27,7 @@ use steps::sizes::Sizes;
 
 // How many objects a client has read.
 pub fn reads_of(mem: &[u8], sizes: Sizes, client: usize) -> usize
-    requires { ⌜ Holds sizes (length (now mem)) × (client < sizes .clients) ⌝ }
+    requires { ⌜ AtClient sizes (length (now mem)) client ⌝ }
     ensures { λ r. ⌜ r ≡ count (of-client sizes (view (now (mem .entry))) client) Reads ⌝ }
     ensures within { λ r. ⌜ r ≤ 96 ⌝ }
 {
@@ -52,8 +52,8 @@ fn lowest_in(n: usize, set: u64) -> usize
 
 // The lowest participant, where metadata and inner nodes are checked.
 pub fn lowest(mem: &[u8], sizes: Sizes, client: usize) -> u64
-    requires { ⌜ Holds sizes (length (now mem)) × (client < sizes .clients) ⌝ }
-    ensures { λ r. ⌜ r ≡ lowest sizes (stored-in sizes (view (now (mem .entry)))) client ⌝ }
+    requires { ⌜ AtClient sizes (length (now mem)) client ⌝ }
+    ensures { λ r. ⌜ r ≡ lowest-participant sizes (stored-in sizes (view (now (mem .entry)))) client ⌝ }
 {
     let set = field_of(mem, sizes, client, 5);
     lowest_in(sizes.servers, set) as u64
@@ -61,7 +61,7 @@ pub fn lowest(mem: &[u8], sizes: Sizes, client: usize) -> u64
 
 // What a prepare at a server reads of an item there.
 fn item_prepares(mem: &[u8], sizes: Sizes, server: usize, lowest: u64, item: Item) -> bool
-    requires { ⌜ Holds sizes (length (now mem)) × (server < sizes .servers) × Has (sizes .slots) (object-of (item .number)) ⌝ }
+    requires { ⌜ Store-in sizes (length (now mem)) × (server < sizes .servers) × Has (sizes .slots) (object-of (item .number)) ⌝ }
     ensures { λ r. ⌜ r ≡ prepare-item sizes (view (now (mem .entry))) lowest server (as-item item) ⌝ }
 {
     if is_locked_at(item, lowest, server as u64) {
@@ -75,7 +75,7 @@ fn item_prepares(mem: &[u8], sizes: Sizes, server: usize, lowest: u64, item: Ite
 
 // What is unlocked of an item at a server.
 fn item_unlocks(mem: &[u8], sizes: Sizes, server: usize, lowest: u64, item: Item) -> bool
-    requires { ⌜ Holds sizes (length (now mem)) × (server < sizes .servers) × Has (sizes .slots) (object-of (item .number)) ⌝ }
+    requires { ⌜ Store-in sizes (length (now mem)) × (server < sizes .servers) × Has (sizes .slots) (object-of (item .number)) ⌝ }
     ensures { λ r. ⌜ r ≡ unlock-item sizes (view (now (mem .entry))) lowest server (as-item item) ⌝ }
 {
     if is_locked_at(item, lowest, server as u64) {
@@ -86,7 +86,7 @@ fn item_unlocks(mem: &[u8], sizes: Sizes, server: usize, lowest: u64, item: Item
 
 // Is what a prepare at a server reads there in range?
 pub fn prepare_fits(mem: &[u8], sizes: Sizes, client: usize, server: usize) -> bool
-    requires { ⌜ Holds sizes (length (now mem)) × (client < sizes .clients) × (server < sizes .servers) × Known sizes (view (now mem)) client ⌝ }
+    requires { ⌜ Store-in sizes (length (now mem)) × (client < sizes .clients) × (server < sizes .servers) × Known sizes (view (now mem)) client ⌝ }
     ensures { λ r. ⌜ r ≡ prepare-fits sizes (stored-in sizes (view (now (mem .entry)))) client server ⌝ }
 {
     let low = lowest(mem, sizes, client);
@@ -104,7 +104,7 @@ pub fn prepare_fits(mem: &[u8], sizes: Sizes, client: usize, server: usize) -> b
 
 // Are the locks that are given back at a server in range?
 pub fn unlock_fits(mem: &[u8], sizes: Sizes, client: usize, server: usize) -> bool
-    requires { ⌜ Holds sizes (length (now mem)) × (client < sizes .clients) × (server < sizes .servers) × Known sizes (view (now mem)) client ⌝ }
+    requires { ⌜ Store-in sizes (length (now mem)) × (client < sizes .clients) × (server < sizes .servers) × Known sizes (view (now mem)) client ⌝ }
     ensures { λ r. ⌜ r ≡ unlock-fits sizes (stored-in sizes (view (now (mem .entry)))) client server ⌝ }
 {
     let low = lowest(mem, sizes, client);
@@ -122,7 +122,7 @@ pub fn unlock_fits(mem: &[u8], sizes: Sizes, client: usize, server: usize) -> bo
 
 // And at a server, if the transaction is prepared there?
 fn server_unlocks(mem: &[u8], sizes: Sizes, client: usize, prepared: u64, server: usize) -> bool
-    requires { ⌜ Holds sizes (length (now mem)) × (client < sizes .clients) × (server < sizes .servers) × Known sizes (view (now mem)) client ⌝ }
+    requires { ⌜ Store-in sizes (length (now mem)) × (client < sizes .clients) × (server < sizes .servers) × Known sizes (view (now mem)) client ⌝ }
     ensures { λ r. ⌜ r ≡ unlocks-at sizes (view (now (mem .entry))) client prepared server ⌝ }
 {
     if bits::has(prepared, server as u32) {
@@ -133,7 +133,7 @@ fn server_unlocks(mem: &[u8], sizes: Sizes, client: usize, prepared: u64, server
 
 // And at every server at which the transaction is prepared?
 pub fn abort_fits(mem: &[u8], sizes: Sizes, client: usize) -> bool
-    requires { ⌜ Holds sizes (length (now mem)) × (client < sizes .clients) × Known sizes (view (now mem)) client ⌝ }
+    requires { ⌜ Store-in sizes (length (now mem)) × (client < sizes .clients) × Known sizes (view (now mem)) client ⌝ }
     ensures { λ r. ⌜ r ≡ abort-fits sizes (stored-in sizes (view (now (mem .entry)))) client ⌝ }
 {
     let prepared = field_of(mem, sizes, client, 6);

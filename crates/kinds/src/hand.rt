@@ -9,7 +9,7 @@ ghost use Rattle.client.specs.Lent.{InUse, used-in};
 ghost use Rattle.client.specs.Answered.{used-enter};
 ghost use Rattle.client.specs.Fetched.{fetched-meta, fetched-node, fetched-vector};
 ghost use Rattle.steps.specs.Whole.{client as at-client, whole, block};
-ghost use Rattle.kinds.specs.Parts.{Holds};
+ghost use Rattle.kinds.specs.Parts.{Store-in};
 use crate::whole::client_at;
 use client::enter::enter_used;
 use client::fetched::fetched_meta;
@@ -50,7 +50,7 @@ pub fn store_meta(
     root: u64,
     version: u64,
 )
-    requires { ⌜ Holds sizes (length (now mem)) × (client < sizes .clients) × InUse (now used) ⌝ }
+    requires { ⌜ Store-in sizes (length (now mem)) × (client < sizes .clients) × InUse (now used) ⌝ }
     ensures { λ _. ⌜ Does whole (block sizes) (inPart (at-client client) (used-enter (used-in (now (used .entry))) then fetched-meta root version)) silent (view (now (mem .entry))) 0 (view (now (mem .exit))) ⌝ }
 {
     let at = 8 * client_at(sizes, client);
@@ -58,7 +58,7 @@ pub fn store_meta(
 }
 
 pub fn store_node(mem: &mut [u8], sizes: Sizes, client: usize, used: &[u64], name: u64, n: Node)
-    requires { ⌜ Holds sizes (length (now mem)) × (client < sizes .clients) × InUse (now used) × (name < 8192) ⌝ }
+    requires { ⌜ Store-in sizes (length (now mem)) × (client < sizes .clients) × InUse (now used) × (name < 8192) ⌝ }
     ensures { λ _. ⌜ Does whole (block sizes) (inPart (at-client client) (used-enter (used-in (now (used .entry))) then fetched-node name n)) silent (view (now (mem .entry))) 0 (view (now (mem .exit))) ⌝ }
 {
     let at = 8 * client_at(sizes, client);
@@ -73,7 +73,7 @@ pub fn store_vector(
     s: usize,
     words: [u64; 16],
 )
-    requires { ⌜ Holds sizes (length (now mem)) × (client < sizes .clients) × InUse (now used) × (s < 8) ⌝ }
+    requires { ⌜ Store-in sizes (length (now mem)) × (client < sizes .clients) × InUse (now used) × (s < 8) ⌝ }
     ensures { λ _. ⌜ Does whole (block sizes) (inPart (at-client client) (used-enter (used-in (now (used .entry))) then fetched-vector s words)) silent (view (now (mem .entry))) 0 (view (now (mem .exit))) ⌝ }
 {
     let at = 8 * client_at(sizes, client);

@@ -4,13 +4,13 @@ ghost use mathlib.Core.Bool.{true};
 ghost use Prim.Native.Nat.{_<_};
 ghost use lib.ListN.{length};
 ghost use Rattle.memory.specs.Word.{view};
-ghost use Rattle.server.specs.Lock.{in-range};
+ghost use Rattle.server.specs.Lock.{lock-in-range};
 ghost use Rattle.server.specs.Object.{object-of, lock-of, Has};
 ghost use Rattle.client.specs.Items.{has, all-below};
 ghost use Rattle.client.specs.Layout.{field};
 ghost use Rattle.steps.specs.Whole.{server as at-server};
 ghost use Rattle.steps.specs.Judge.{commits, writes, holders-fit, check-fits};
-ghost use Rattle.kinds.specs.Parts.{Holds, stored-in};
+ghost use Rattle.kinds.specs.Parts.{AtClient, Store-in, stored-in};
 ghost use Rattle.kinds.specs.Items.{as-item, read-item};
 ghost use Rattle.kinds.specs.Judge.{of-client, reader-fits, lock-at, sound-at};
 use crate::items::Item;
@@ -31,7 +31,7 @@ use steps::sizes::Sizes;
 
 // A field of a client.
 pub fn field_of(mem: &[u8], sizes: Sizes, client: usize, i: usize) -> u64
-    requires { ⌜ Holds sizes (length (now mem)) × (client < sizes .clients) × (i < 15) ⌝ }
+    requires { ⌜ Store-in sizes (length (now mem)) × (client < sizes .clients) × (i < 15) ⌝ }
     ensures { λ r. ⌜ r ≡ of-client sizes (view (now (mem .entry))) client (field i) ⌝ }
 {
     let at = 8 * client_at(sizes, client);
@@ -40,7 +40,7 @@ pub fn field_of(mem: &[u8], sizes: Sizes, client: usize, i: usize) -> u64
 
 // Is there an item of the object in a client's set?
 pub fn has_item(mem: &[u8], sizes: Sizes, client: usize, set: Set, number: u64) -> bool
-    requires { ⌜ Holds sizes (length (now mem)) × (client < sizes .clients) ⌝ }
+    requires { ⌜ AtClient sizes (length (now mem)) client ⌝ }
     ensures { λ r. ⌜ r ≡ has (of-client sizes (view (now (mem .entry))) client) set number ⌝ }
 {
     let at = 8 * client_at(sizes, client);
@@ -49,7 +49,7 @@ pub fn has_item(mem: &[u8], sizes: Sizes, client: usize, set: Set, number: u64) 
 
 // Item i of a client's read set.
 pub fn item_at(mem: &[u8], sizes: Sizes, client: usize, i: usize) -> Item
-    requires { ⌜ Holds sizes (length (now mem)) × (client < sizes .clients) × (i < 96) ⌝ }
+    requires { ⌜ Store-in sizes (length (now mem)) × (client < sizes .clients) × (i < 96) ⌝ }
     ensures { λ r. ⌜ as-item r ≡ read-item (of-client sizes (view (now (mem .entry))) client) i ⌝ }
 {
     let at = 8 * client_at(sizes, client);
@@ -58,7 +58,7 @@ pub fn item_at(mem: &[u8], sizes: Sizes, client: usize, i: usize) -> Item
 
 // "a lock's transaction": is the client's one after its commit?
 fn commits(mem: &[u8], sizes: Sizes, client: usize) -> bool
-    requires { ⌜ Holds sizes (length (now mem)) × (client < sizes .clients) ⌝ }
+    requires { ⌜ AtClient sizes (length (now mem)) client ⌝ }
     ensures { λ r. ⌜ r ≡ commits sizes (stored-in sizes (view (now (mem .entry)))) client ⌝ }
 {
     let phase = field_of(mem, sizes, client, 0);
@@ -67,7 +67,7 @@ fn commits(mem: &[u8], sizes: Sizes, client: usize) -> bool
 
 // "or its write": is the object in the client's write set?
 fn writes(mem: &[u8], sizes: Sizes, client: usize, number: u64) -> bool
-    requires { ⌜ Holds sizes (length (now mem)) × (client < sizes .clients) ⌝ }
+    requires { ⌜ AtClient sizes (length (now mem)) client ⌝ }
     ensures { λ r. ⌜ r ≡ writes sizes (stored-in sizes (view (now (mem .entry)))) client number ⌝ }
 {
     if field_of(mem, sizes, client, 11) <= 48 {
@@ -78,7 +78,7 @@ fn writes(mem: &[u8], sizes: Sizes, client: usize, number: u64) -> bool
 
 // Does the word not name the client, or has it a transaction after its commit?
 fn reader_fits(mem: &[u8], sizes: Sizes, word: u64, client: usize) -> bool
-    requires { ⌜ Holds sizes (length (now mem)) × (client < sizes .clients) ⌝ }
+    requires { ⌜ AtClient sizes (length (now mem)) client ⌝ }
     ensures { λ r. ⌜ r ≡ reader-fits sizes (view (now (mem .entry))) word client ⌝ }
 {
     if bits::has(word, client as u32) {
@@ -89,7 +89,7 @@ fn reader_fits(mem: &[u8], sizes: Sizes, word: u64, client: usize) -> bool
 
 // All readers that the word names.
 fn readers_fit(mem: &[u8], sizes: Sizes, word: u64) -> bool
-    requires { ⌜ Holds sizes (length (now mem)) ⌝ }
+    requires { ⌜ Store-in sizes (length (now mem)) ⌝ }
     ensures { λ r. ⌜ r ≡ all-below (sizes .clients) (reader-fits sizes (view (now (mem .entry))) word) ⌝ }
 {
     let n = sizes.clients;
@@ -106,7 +106,7 @@ fn readers_fit(mem: &[u8], sizes: Sizes, word: u64) -> bool
 
 // Those that a lock's word names: many readers, or one writer.
 fn holders_fit(mem: &[u8], sizes: Sizes, number: u64, word: u64) -> bool
-    requires { ⌜ Holds sizes (length (now mem)) × (in-range (sizes .clients) word ≡ true) ⌝ }
+    requires { ⌜ Store-in sizes (length (now mem)) × (lock-in-range (sizes .clients) word ≡ true) ⌝ }
     ensures { λ r. ⌜ r ≡ holders-fit sizes (stored-in sizes (view (now (mem .entry)))) number word ⌝ }
 {
     if word < 65536 {
@@ -121,7 +121,7 @@ fn holders_fit(mem: &[u8], sizes: Sizes, number: u64, word: u64) -> bool
 
 // The word of an object's lock at a server.
 pub fn lock_word(mem: &[u8], sizes: Sizes, server: usize, number: u64) -> u64
-    requires { ⌜ Holds sizes (length (now mem)) × (server < sizes .servers) × Has (sizes .slots) (object-of number) ⌝ }
+    requires { ⌜ Store-in sizes (length (now mem)) × (server < sizes .servers) × Has (sizes .slots) (object-of number) ⌝ }
     ensures { λ r. ⌜ r ≡ stored-in sizes (view (now (mem .entry))) (at-server server (lock-of (object-of number))) ⌝ }
 {
     let at = 8 * server_at(sizes, server);
@@ -131,7 +131,7 @@ pub fn lock_word(mem: &[u8], sizes: Sizes, server: usize, number: u64) -> u64
 
 // Is an object's lock at a server in range, and are its holders there?
 pub fn lock_fits(mem: &[u8], sizes: Sizes, server: usize, number: u64) -> bool
-    requires { ⌜ Holds sizes (length (now mem)) × (server < sizes .servers) × Has (sizes .slots) (object-of number) ⌝ }
+    requires { ⌜ Store-in sizes (length (now mem)) × (server < sizes .servers) × Has (sizes .slots) (object-of number) ⌝ }
     ensures { λ r. ⌜ r ≡ lock-at sizes (view (now (mem .entry))) server number ⌝ }
 {
     let word = lock_word(mem, sizes, server, number);
@@ -143,7 +143,7 @@ pub fn lock_fits(mem: &[u8], sizes: Sizes, server: usize, number: u64) -> bool
 
 // Is what a check of the item reads at a server in range?
 fn is_sound_at(mem: &[u8], sizes: Sizes, server: usize, item: Item) -> bool
-    requires { ⌜ Holds sizes (length (now mem)) × (server < sizes .servers) × Has (sizes .slots) (object-of (item .number)) ⌝ }
+    requires { ⌜ Store-in sizes (length (now mem)) × (server < sizes .servers) × Has (sizes .slots) (object-of (item .number)) ⌝ }
     ensures { λ r. ⌜ r ≡ sound-at sizes (view (now (mem .entry))) server (as-item item) ⌝ }
 {
     let at = 8 * server_at(sizes, server);
@@ -159,7 +159,7 @@ fn is_sound_at(mem: &[u8], sizes: Sizes, server: usize, item: Item) -> bool
 
 // What a check at a server reads, and its lock.
 pub fn check_fits(mem: &[u8], sizes: Sizes, server: usize, item: Item) -> bool
-    requires { ⌜ Holds sizes (length (now mem)) × (server < sizes .servers) × Has (sizes .slots) (object-of (item .number)) ⌝ }
+    requires { ⌜ Store-in sizes (length (now mem)) × (server < sizes .servers) × Has (sizes .slots) (object-of (item .number)) ⌝ }
     ensures { λ r. ⌜ r ≡ check-fits sizes (stored-in sizes (view (now (mem .entry)))) server (as-item item) ⌝ }
 {
     if is_sound_at(mem, sizes, server, item) {

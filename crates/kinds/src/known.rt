@@ -5,7 +5,7 @@ ghost use lib.ListN.{length};
 ghost use Rattle.memory.specs.Word.{view};
 ghost use Rattle.client.specs.Fits.{client-fits};
 ghost use Rattle.steps.specs.Whole.{tree-sizes};
-ghost use Rattle.kinds.specs.Parts.{Holds};
+ghost use Rattle.kinds.specs.Parts.{AtClient, Store-in};
 ghost use Rattle.kinds.specs.Judge.{of-client};
 use crate::whole::client_at;
 use client::fits::client_fits;
@@ -13,7 +13,7 @@ use steps::sizes::Sizes;
 
 // Is the state of a client in range?
 pub fn is_fit(mem: &[u8], sizes: Sizes, client: usize) -> bool
-    requires { ⌜ Holds sizes (length (now mem)) × (client < sizes .clients) ⌝ }
+    requires { ⌜ AtClient sizes (length (now mem)) client ⌝ }
     ensures { λ r. ⌜ r ≡ client-fits (tree-sizes sizes) (of-client sizes (view (now (mem .entry))) client) ⌝ }
 {
     let at = 8 * client_at(sizes, client);

@@ -10,7 +10,7 @@ ghost use Rattle.server.specs.HandOut.{metadata-at, metadata-sound, vector-at};
 ghost use Rattle.client.specs.Lent.{used-in};
 ghost use Rattle.steps.specs.declared.outcome.Outcome.the-variants.{Fetched};
 ghost use Rattle.steps.specs.Steps.{node-at, hand-over, fetch};
-ghost use Rattle.kinds.specs.Parts.{Holds};
+ghost use Rattle.kinds.specs.Parts.{Store-in};
 ghost use Rattle.kinds.specs.Judge.{of-server};
 ghost use Rattle.kinds.specs.Fits.{Known};
 ghost use Rattle.kinds.specs.Fetch.{Checking};
@@ -34,7 +34,7 @@ use steps::outcome::Outcome;
 use steps::sizes::Sizes;
 
 fn meta_fits(mem: &[u8], sizes: Sizes, server: usize) -> bool
-    requires { ⌜ Holds sizes (length (now mem)) × (server < sizes .servers) ⌝ }
+    requires { ⌜ Store-in sizes (length (now mem)) × (server < sizes .servers) ⌝ }
     ensures { λ r. ⌜ r ≡ metadata-sound (sizes .servers) (sizes .slots) (of-server sizes (view (now (mem .entry))) server) ⌝ }
 {
     let at = 8 * server_at(sizes, server);
@@ -42,7 +42,7 @@ fn meta_fits(mem: &[u8], sizes: Sizes, server: usize) -> bool
 }
 
 fn meta_of(mem: &[u8], sizes: Sizes, server: usize) -> Metadata
-    requires { ⌜ Holds sizes (length (now mem)) × (server < sizes .servers) ⌝ }
+    requires { ⌜ Store-in sizes (length (now mem)) × (server < sizes .servers) ⌝ }
     ensures { λ r. ⌜ r ≡ metadata-at (of-server sizes (view (now (mem .entry))) server) ⌝ }
 {
     let at = 8 * server_at(sizes, server);
@@ -84,7 +84,7 @@ pub fn fetch_meta(mem: &mut [u8], sizes: Sizes, client: usize, used: &[u64]) -> 
 
 // The node of that name, as its home has it.
 fn node_of(mem: &[u8], sizes: Sizes, server: usize, name: u64) -> Node
-    requires { ⌜ Holds sizes (length (now mem)) × (server < sizes .servers) × (slot-of name < sizes .slots) ⌝ }
+    requires { ⌜ Store-in sizes (length (now mem)) × (server < sizes .servers) × (slot-of name < sizes .slots) ⌝ }
     ensures { λ r. ⌜ r ≡ node-at (of-server sizes (view (now (mem .entry))) server) name ⌝ }
 {
     let at = 8 * server_at(sizes, server);
@@ -134,7 +134,7 @@ pub fn fetch_node(mem: &mut [u8], sizes: Sizes, client: usize, name: u64, used: 
 }
 
 fn vector_of(mem: &[u8], sizes: Sizes, server: usize) -> [u64; 16]
-    requires { ⌜ Holds sizes (length (now mem)) × (server < sizes .servers) ⌝ }
+    requires { ⌜ Store-in sizes (length (now mem)) × (server < sizes .servers) ⌝ }
     ensures { λ r. ⌜ r ≡ vector-at (of-server sizes (view (now (mem .entry))) server) ⌝ }
 {
     let at = 8 * server_at(sizes, server);

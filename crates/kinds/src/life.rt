@@ -7,7 +7,7 @@ ghost use Rattle.layout.specs.Part.{inPart};
 ghost use Rattle.steps.specs.Whole.{client as at-client, whole, block};
 ghost use Rattle.client.specs.Life as Life;
 ghost use Rattle.steps.specs.Steps.{begin, give};
-ghost use Rattle.kinds.specs.Parts.{Holds};
+ghost use Rattle.kinds.specs.Parts.{AtClient, Store-in};
 ghost use Rattle.kinds.specs.Kinds.{Meets};
 use crate::whole::client_at;
 use client::life;
@@ -17,7 +17,7 @@ use steps::step::Step;
 
 // A client's transaction begins (1), or has ended (0).
 pub fn reset_at(mem: &mut [u8], sizes: Sizes, client: usize, phase: u64)
-    requires { ⌜ Holds sizes (length (now mem)) × (client < sizes .clients) ⌝ }
+    requires { ⌜ AtClient sizes (length (now mem)) client ⌝ }
     ensures { λ _. ⌜ Does whole (block sizes) (inPart (at-client client) (Life.reset phase)) silent (view (now (mem .entry))) 0 (view (now (mem .exit))) ⌝ }
 {
     let at = 8 * client_at(sizes, client);
@@ -25,8 +25,8 @@ pub fn reset_at(mem: &mut [u8], sizes: Sizes, client: usize, phase: u64)
 }
 
 fn give_at(mem: &mut [u8], sizes: Sizes, client: usize, op: u64, key: u64, value: u64, server: u64)
-    requires { ⌜ Holds sizes (length (now mem)) × (client < sizes .clients) ⌝ }
-    ensures { λ _. ⌜ Does whole (block sizes) (inPart (at-client client) (Life.give op key value server)) silent (view (now (mem .entry))) 0 (view (now (mem .exit))) ⌝ }
+    requires { ⌜ AtClient sizes (length (now mem)) client ⌝ }
+    ensures { λ _. ⌜ Does whole (block sizes) (inPart (at-client client) (Life.give-part op key value server)) silent (view (now (mem .entry))) 0 (view (now (mem .exit))) ⌝ }
 {
     let at = 8 * client_at(sizes, client);
     life::give(&mut mem[at..], op, key, value, server);
@@ -34,7 +34,7 @@ fn give_at(mem: &mut [u8], sizes: Sizes, client: usize, op: u64, key: u64, value
 
 // 0 begin
 pub fn begin(mem: &mut [u8], sizes: Sizes, client: usize) -> Outcome
-    requires { ⌜ Holds sizes (length (now mem)) × (client < sizes .clients) ⌝ }
+    requires { ⌜ AtClient sizes (length (now mem)) client ⌝ }
     ensures { λ r. ⌜ Meets sizes (λ m. begin sizes m client) (view (now (mem .entry))) r (view (now (mem .exit))) ⌝ }
 {
     reset_at(mem, sizes, client, 1);
@@ -43,7 +43,7 @@ pub fn begin(mem: &mut [u8], sizes: Sizes, client: usize) -> Outcome
 
 // 1 give an operation
 pub fn give(mem: &mut [u8], sizes: Sizes, client: usize, step: Step) -> Outcome
-    requires { ⌜ Holds sizes (length (now mem)) × (client < sizes .clients) ⌝ }
+    requires { ⌜ AtClient sizes (length (now mem)) client ⌝ }
     ensures { λ r. ⌜ Meets sizes (λ m. give sizes m client step) (view (now (mem .entry))) r (view (now (mem .exit))) ⌝ }
 {
     give_at(

@@ -8,7 +8,7 @@ ghost use Rattle.server.specs.Object.{object-of, Has};
 ghost use Rattle.server.specs.Store.{lock-step, unlock-step};
 ghost use Rattle.steps.specs.Whole.{server as at-server, whole, block};
 ghost use Rattle.steps.specs.Uses.{locked-at};
-ghost use Rattle.kinds.specs.Parts.{Holds};
+ghost use Rattle.kinds.specs.Parts.{Store-in};
 ghost use Rattle.kinds.specs.Items.{as-item};
 ghost use Rattle.kinds.specs.Fits.{Known};
 ghost use Rattle.kinds.specs.Locks.{rule, passing, changes, Knows, Turn};
@@ -30,7 +30,7 @@ pub enum Change {
 
 // A client locks the object of that number at a server.
 fn lock_at(mem: &mut [u8], sizes: Sizes, client: usize, server: usize, number: u64, writing: bool)
-    requires { ⌜ Holds sizes (length (now mem)) × (client < sizes .clients) × (server < sizes .servers) × Has (sizes .slots) (object-of number) ⌝ }
+    requires { ⌜ Store-in sizes (length (now mem)) × (client < sizes .clients) × (server < sizes .servers) × Has (sizes .slots) (object-of number) ⌝ }
     ensures { λ _. ⌜ Does whole (block sizes) (inPart (at-server server) (lock-step (object-of number) writing client)) silent (view (now (mem .entry))) 0 (view (now (mem .exit))) ⌝ }
 {
     let at = 8 * server_at(sizes, server);
@@ -40,7 +40,7 @@ fn lock_at(mem: &mut [u8], sizes: Sizes, client: usize, server: usize, number: u
 
 // Its lock goes.
 fn unlock_at(mem: &mut [u8], sizes: Sizes, client: usize, server: usize, number: u64)
-    requires { ⌜ Holds sizes (length (now mem)) × (client < sizes .clients) × (server < sizes .servers) × Has (sizes .slots) (object-of number) ⌝ }
+    requires { ⌜ Store-in sizes (length (now mem)) × (client < sizes .clients) × (server < sizes .servers) × Has (sizes .slots) (object-of number) ⌝ }
     ensures { λ _. ⌜ Does whole (block sizes) (inPart (at-server server) (unlock-step (object-of number) client)) silent (view (now (mem .entry))) 0 (view (now (mem .exit))) ⌝ }
 {
     let at = 8 * server_at(sizes, server);
@@ -49,7 +49,7 @@ fn unlock_at(mem: &mut [u8], sizes: Sizes, client: usize, server: usize, number:
 }
 
 fn change_at(mem: &mut [u8], sizes: Sizes, client: usize, server: usize, change: Change, item: Item)
-    requires { ⌜ Holds sizes (length (now mem)) × (client < sizes .clients) × (server < sizes .servers) × Has (sizes .slots) (object-of (item .number)) ⌝ }
+    requires { ⌜ Store-in sizes (length (now mem)) × (client < sizes .clients) × (server < sizes .servers) × Has (sizes .slots) (object-of (item .number)) ⌝ }
     ensures { λ _. ⌜ Does whole (block sizes) (inPart (at-server server) (rule change client (as-item item))) silent (view (now (mem .entry))) 0 (view (now (mem .exit))) ⌝ }
 {
     match change {
@@ -68,7 +68,7 @@ fn change_item(
     change: Change,
     item: Item,
 )
-    requires { ⌜ Holds sizes (length (now mem)) × (client < sizes .clients) × (server < sizes .servers) × Has (sizes .slots) (object-of (item .number)) ⌝ }
+    requires { ⌜ Store-in sizes (length (now mem)) × (client < sizes .clients) × (server < sizes .servers) × Has (sizes .slots) (object-of (item .number)) ⌝ }
     ensures { λ _. ⌜ Does whole (block sizes) (inPart (at-server server) (passing (locked-at low server) (rule change client) (as-item item))) silent (view (now (mem .entry))) 0 (view (now (mem .exit))) ⌝ }
 {
     if is_locked_at(item, low, server as u64) {
@@ -86,7 +86,7 @@ fn change_nth(
     change: Change,
     i: usize,
 )
-    requires { ⌜ Holds sizes (length (now mem)) × (client < sizes .clients) × (server < sizes .servers) × (i < 96) × Knows sizes (view (now mem)) client i ⌝ }
+    requires { ⌜ Store-in sizes (length (now mem)) × (client < sizes .clients) × (server < sizes .servers) × (i < 96) × Knows sizes (view (now mem)) client i ⌝ }
     ensures { λ _. ⌜ Turn sizes client server change low i (view (now (mem .entry))) (view (now (mem .exit))) ⌝ }
 {
     let item = item_at(mem, sizes, client, i);
@@ -95,7 +95,7 @@ fn change_nth(
 
 // The locks of all objects that are locked at the server.
 pub fn change_all(mem: &mut [u8], sizes: Sizes, client: usize, server: usize, change: Change)
-    requires { ⌜ Holds sizes (length (now mem)) × (client < sizes .clients) × (server < sizes .servers) × Known sizes (view (now mem)) client ⌝ }
+    requires { ⌜ Store-in sizes (length (now mem)) × (client < sizes .clients) × (server < sizes .servers) × Known sizes (view (now mem)) client ⌝ }
     ensures { λ _. ⌜ Does whole (block sizes) (changes sizes client server change) silent (view (now (mem .entry))) 0 (view (now (mem .exit))) ⌝ }
 {
     let low = lowest(mem, sizes, client);

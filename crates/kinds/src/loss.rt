@@ -8,7 +8,7 @@ ghost use Rattle.client.specs.Copies.{drop-all};
 ghost use Rattle.client.specs.Life as Life;
 ghost use Rattle.steps.specs.Whole.{client as at-client, whole, block};
 ghost use Rattle.steps.specs.Steps.{lose};
-ghost use Rattle.kinds.specs.Parts.{Holds};
+ghost use Rattle.kinds.specs.Parts.{AtClient, Store-in};
 ghost use Rattle.kinds.specs.Fits.{Known};
 ghost use Rattle.kinds.specs.Kinds.{Meets};
 ghost use Rattle.kinds.specs.Loss.{loses-undecided, losing};
@@ -23,7 +23,7 @@ use steps::sizes::Sizes;
 
 // A client's copies go.
 fn forget(mem: &mut [u8], sizes: Sizes, client: usize)
-    requires { ⌜ Holds sizes (length (now mem)) × (client < sizes .clients) ⌝ }
+    requires { ⌜ AtClient sizes (length (now mem)) client ⌝ }
     ensures { λ _. ⌜ Does whole (block sizes) (inPart (at-client client) drop-all) silent (view (now (mem .entry))) 0 (view (now (mem .exit))) ⌝ }
 {
     let at = 8 * client_at(sizes, client);
@@ -32,8 +32,8 @@ fn forget(mem: &mut [u8], sizes: Sizes, client: usize)
 
 // The client of a decided transaction is marked as lost.
 fn mark_lost(mem: &mut [u8], sizes: Sizes, client: usize)
-    requires { ⌜ Holds sizes (length (now mem)) × (client < sizes .clients) ⌝ }
-    ensures { λ _. ⌜ Does whole (block sizes) (inPart (at-client client) Life.lose) silent (view (now (mem .entry))) 0 (view (now (mem .exit))) ⌝ }
+    requires { ⌜ AtClient sizes (length (now mem)) client ⌝ }
+    ensures { λ _. ⌜ Does whole (block sizes) (inPart (at-client client) Life.lose-part) silent (view (now (mem .entry))) 0 (view (now (mem .exit))) ⌝ }
 {
     let at = 8 * client_at(sizes, client);
     life::lose(&mut mem[at..]);
@@ -41,7 +41,7 @@ fn mark_lost(mem: &mut [u8], sizes: Sizes, client: usize)
 
 // An abort, and then all copies go.
 fn store_loss(mem: &mut [u8], sizes: Sizes, client: usize)
-    requires { ⌜ Holds sizes (length (now mem)) × (client < sizes .clients) × Known sizes (view (now mem)) client ⌝ }
+    requires { ⌜ Store-in sizes (length (now mem)) × (client < sizes .clients) × Known sizes (view (now mem)) client ⌝ }
     ensures { λ _. ⌜ Does whole (block sizes) (losing sizes client) silent (view (now (mem .entry))) 0 (view (now (mem .exit))) ⌝ }
 {
     let none = [0u64; 98];
@@ -51,7 +51,7 @@ fn store_loss(mem: &mut [u8], sizes: Sizes, client: usize)
 
 // "7 lost, and undecided"
 fn lose_undecided(mem: &mut [u8], sizes: Sizes, client: usize) -> Outcome
-    requires { ⌜ Holds sizes (length (now mem)) × (client < sizes .clients) × Known sizes (view (now mem)) client ⌝ }
+    requires { ⌜ Store-in sizes (length (now mem)) × (client < sizes .clients) × Known sizes (view (now mem)) client ⌝ }
     ensures { λ r. ⌜ Meets sizes (loses-undecided sizes client) (view (now (mem .entry))) r (view (now (mem .exit))) ⌝ }
 {
     if abort_fits(mem, sizes, client) {
@@ -62,7 +62,7 @@ fn lose_undecided(mem: &mut [u8], sizes: Sizes, client: usize) -> Outcome
 }
 
 pub fn lose(mem: &mut [u8], sizes: Sizes, client: usize) -> Outcome
-    requires { ⌜ Holds sizes (length (now mem)) × (client < sizes .clients) × Known sizes (view (now mem)) client ⌝ }
+    requires { ⌜ Store-in sizes (length (now mem)) × (client < sizes .clients) × Known sizes (view (now mem)) client ⌝ }
     ensures { λ r. ⌜ Meets sizes (λ m. lose sizes m client) (view (now (mem .entry))) r (view (now (mem .exit))) ⌝ }
 {
     let phase = field_of(mem, sizes, client, 0);

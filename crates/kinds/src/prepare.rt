@@ -10,7 +10,7 @@ ghost use Rattle.layout.specs.Step.{Does, silent};
 ghost use Rattle.client.specs.Layout.{field};
 ghost use Rattle.steps.specs.Whole.{whole, block};
 ghost use Rattle.steps.specs.Steps.{prepared-at, prepare};
-ghost use Rattle.kinds.specs.Parts.{Holds};
+ghost use Rattle.kinds.specs.Parts.{Store-in};
 ghost use Rattle.kinds.specs.Judge.{of-client};
 ghost use Rattle.kinds.specs.Fits.{Known};
 ghost use Rattle.kinds.specs.Kinds.{Meets};
@@ -32,7 +32,7 @@ use steps::sizes::Sizes;
 
 // The locks, and the note that this server has prepared.
 fn lock_server(mem: &mut [u8], sizes: Sizes, client: usize, server: usize)
-    requires { ⌜ Holds sizes (length (now mem)) × (client < sizes .clients) × (server < sizes .servers) × Known sizes (view (now mem)) client ⌝ }
+    requires { ⌜ Store-in sizes (length (now mem)) × (client < sizes .clients) × (server < sizes .servers) × Known sizes (view (now mem)) client ⌝ }
     ensures { λ _. ⌜ Does whole (block sizes) (prepares sizes client server) silent (view (now (mem .entry))) 0 (view (now (mem .exit))) ⌝ }
 {
     change_all(mem, sizes, client, server, Change::Lock);
@@ -41,7 +41,7 @@ fn lock_server(mem: &mut [u8], sizes: Sizes, client: usize, server: usize)
 
 // And the decision.
 fn decide(mem: &mut [u8], sizes: Sizes, client: usize, server: usize)
-    requires { ⌜ Holds sizes (length (now mem)) × (client < sizes .clients) × (server < sizes .servers) × Known sizes (view (now mem)) client ⌝ }
+    requires { ⌜ Store-in sizes (length (now mem)) × (client < sizes .clients) × (server < sizes .servers) × Known sizes (view (now mem)) client ⌝ }
     ensures { λ _. ⌜ Does whole (block sizes) (decides sizes client server) silent (view (now (mem .entry))) 0 (view (now (mem .exit))) ⌝ }
 {
     lock_server(mem, sizes, client, server);
@@ -50,7 +50,7 @@ fn decide(mem: &mut [u8], sizes: Sizes, client: usize, server: usize)
 
 // Is the server the only participant?
 fn is_only(mem: &[u8], sizes: Sizes, client: usize, server: usize) -> bool
-    requires { ⌜ Holds sizes (length (now mem)) × (client < sizes .clients) × (server < sizes .servers) ⌝ }
+    requires { ⌜ Store-in sizes (length (now mem)) × (client < sizes .clients) × (server < sizes .servers) ⌝ }
     ensures { λ r. ⌜ r ≡ eqb (of-client sizes (view (now (mem .entry))) client (field 5)) (putBit true 0 server) ⌝ }
 {
     let servers = field_of(mem, sizes, client, 5);
@@ -59,7 +59,7 @@ fn is_only(mem: &[u8], sizes: Sizes, client: usize, server: usize) -> bool
 
 // The prepare of the only participant decides and applies.
 fn apply_too(mem: &mut [u8], sizes: Sizes, client: usize, server: usize) -> Outcome
-    requires { ⌜ Holds sizes (length (now mem)) × (client < sizes .clients) × (server < sizes .servers) × Known sizes (view (now mem)) client ⌝ }
+    requires { ⌜ Store-in sizes (length (now mem)) × (client < sizes .clients) × (server < sizes .servers) × Known sizes (view (now mem)) client ⌝ }
     ensures { λ r. ⌜ Meets sizes (applies-too sizes client server) (view (now (mem .entry))) r (view (now (mem .exit))) ⌝ }
 {
     if !versions_fit(mem, sizes, client) {
@@ -71,7 +71,7 @@ fn apply_too(mem: &mut [u8], sizes: Sizes, client: usize, server: usize) -> Outc
 
 // A prepare that finds no fault.
 fn prepare_at(mem: &mut [u8], sizes: Sizes, client: usize, server: usize) -> Outcome
-    requires { ⌜ Holds sizes (length (now mem)) × (client < sizes .clients) × (server < sizes .servers) × Known sizes (view (now mem)) client ⌝ }
+    requires { ⌜ Store-in sizes (length (now mem)) × (client < sizes .clients) × (server < sizes .servers) × Known sizes (view (now mem)) client ⌝ }
     ensures { λ r. ⌜ Meets sizes (λ m. prepared-at sizes m client server) (view (now (mem .entry))) r (view (now (mem .exit))) ⌝ }
 {
     if !is_last(mem, sizes, client, 6, server) {
@@ -86,7 +86,7 @@ fn prepare_at(mem: &mut [u8], sizes: Sizes, client: usize, server: usize) -> Out
 }
 
 pub fn prepare(mem: &mut [u8], sizes: Sizes, client: usize, server: usize) -> Outcome
-    requires { ⌜ Holds sizes (length (now mem)) × (client < sizes .clients) × (server < sizes .servers) × Known sizes (view (now mem)) client ⌝ }
+    requires { ⌜ Store-in sizes (length (now mem)) × (client < sizes .clients) × (server < sizes .servers) × Known sizes (view (now mem)) client ⌝ }
     ensures { λ r. ⌜ Meets sizes (λ m. prepare sizes m client server) (view (now (mem .entry))) r (view (now (mem .exit))) ⌝ }
 {
     if !prepare_fits(mem, sizes, client, server) {

@@ -4,8 +4,8 @@ ghost use Prim.Native.Nat.{_/_, _<_, _≤_};
 ghost use lib.ListN.{length};
 ghost use Rattle.memory.specs.Word.{view};
 ghost use Rattle.client.specs.Sets.{held};
-ghost use Rattle.steps.specs.Refusal.{kind-of, open-refusal, refusal, fits};
-ghost use Rattle.kinds.specs.Parts.{Holds, stored-in};
+ghost use Rattle.steps.specs.Refusal.{kind-of, open-refusal, refusal, state-fits};
+ghost use Rattle.kinds.specs.Parts.{Store-in, stored-in};
 ghost use Rattle.kinds.specs.Refusal.{unknown-op, unknown-server, unknown-node, left, due, fitting, unfit, Sited};
 use crate::sizes::allowed;
 use crate::sizes::between;
@@ -146,7 +146,7 @@ fn is_fitting(kind: Kind, phase: u64, op: u64, due: bool) -> bool
 // 9 in the client's part.
 fn state_fits(part: &[u8], kind: Kind, server: u64) -> bool
     requires { ⌜ Sited kind server × (7223 ≤ length (now part) / 8) ⌝ }
-    ensures { λ r. ⌜ r ≡ fits (held (now (part .entry))) server kind ⌝ }
+    ensures { λ r. ⌜ r ≡ state-fits (held (now (part .entry))) server kind ⌝ }
 {
     let phase = get_field(part, 0);
     let op = get_field(part, 1);
@@ -156,7 +156,7 @@ fn state_fits(part: &[u8], kind: Kind, server: u64) -> bool
 
 // 9 for the client's part of the whole memory.
 fn client_is_unfit(mem: &[u8], sizes: Sizes, step: Step) -> bool
-    requires { ⌜ Holds sizes (length (now mem)) × (step .client < sizes .clients) × Sited (kind-of (step .kind)) (step .server) ⌝ }
+    requires { ⌜ Store-in sizes (length (now mem)) × (step .client < sizes .clients) × Sited (kind-of (step .kind)) (step .server) ⌝ }
     ensures { λ r. ⌜ r ≡ unfit sizes step (view (now (mem .entry))) ⌝ }
 {
     let at = 8 * client_at(sizes, step.client as usize);
@@ -165,7 +165,7 @@ fn client_is_unfit(mem: &[u8], sizes: Sizes, step: Step) -> bool
 
 // 4 to 9: 0 if none holds.
 pub fn refusal(mem: &[u8], sizes: Sizes, step: Step) -> u64
-    requires { ⌜ Holds sizes (length (now mem)) ⌝ }
+    requires { ⌜ Store-in sizes (length (now mem)) ⌝ }
     ensures { λ r. ⌜ r ≡ refusal sizes step (stored-in sizes (view (now (mem .entry)))) ⌝ }
 {
     if step.kind > 7 {

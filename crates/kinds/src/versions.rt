@@ -7,7 +7,7 @@ ghost use Rattle.client.specs.declared.part.Set.the-variants.{Writes};
 ghost use Rattle.client.specs.Sets.{held, count};
 ghost use Rattle.client.specs.Items.{all-below};
 ghost use Rattle.steps.specs.Judge.{versions-fit};
-ghost use Rattle.kinds.specs.Parts.{Holds, stored-in};
+ghost use Rattle.kinds.specs.Parts.{AtClient, Store-in, stored-in};
 ghost use Rattle.kinds.specs.Versions.{version-fits};
 use crate::whole::client_at;
 use client::items::version_read;
@@ -46,7 +46,7 @@ fn all_fit(part: &[u8]) -> bool
 
 // Of all that a client writes?
 pub fn versions_fit(mem: &[u8], sizes: Sizes, client: usize) -> bool
-    requires { ⌜ Holds sizes (length (now mem)) × (client < sizes .clients) ⌝ }
+    requires { ⌜ AtClient sizes (length (now mem)) client ⌝ }
     ensures { λ r. ⌜ r ≡ versions-fit sizes (stored-in sizes (view (now (mem .entry)))) client ⌝ }
 {
     let at = 8 * client_at(sizes, client);

@@ -13,7 +13,7 @@ ghost use Rattle.client.specs.declared.part.Set.the-variants.{Writes};
 ghost use Rattle.client.specs.Sets.{held, count};
 ghost use Rattle.steps.specs.Whole.{server as at-server, whole, block};
 ghost use Rattle.steps.specs.Judge.{versions-fit};
-ghost use Rattle.kinds.specs.Parts.{Holds, stored-in};
+ghost use Rattle.kinds.specs.Parts.{AtClient, Store-in, stored-in};
 ghost use Rattle.kinds.specs.Judge.{of-client};
 ghost use Rattle.kinds.specs.Fits.{Known};
 ghost use Rattle.kinds.specs.Writes.{write-nth, write-step, Storable, Writable, StoredNth, stores};
@@ -60,7 +60,7 @@ fn write_in(part: &[u8], i: usize) -> Write
 }
 
 fn write_at(mem: &[u8], sizes: Sizes, client: usize, i: usize) -> Write
-    requires { ⌜ Holds sizes (length (now mem)) × (client < sizes .clients) × (i < 48) ⌝ }
+    requires { ⌜ Store-in sizes (length (now mem)) × (client < sizes .clients) × (i < 48) ⌝ }
     ensures { λ r. ⌜ r ≡ write-nth (of-client sizes (view (now (mem .entry))) client) i ⌝ }
 {
     let at = 8 * client_at(sizes, client);
@@ -69,7 +69,7 @@ fn write_at(mem: &[u8], sizes: Sizes, client: usize, i: usize) -> Write
 
 // How many objects a client has written.
 fn writes_of(mem: &[u8], sizes: Sizes, client: usize) -> usize
-    requires { ⌜ Holds sizes (length (now mem)) × (client < sizes .clients) ⌝ }
+    requires { ⌜ AtClient sizes (length (now mem)) client ⌝ }
     ensures { λ r. ⌜ r ≡ count (of-client sizes (view (now (mem .entry))) client) Writes ⌝ }
     ensures within { λ r. ⌜ r ≤ 48 ⌝ }
 {
@@ -80,7 +80,7 @@ fn writes_of(mem: &[u8], sizes: Sizes, client: usize) -> usize
 // What a server stores of a write.
 fn store_write(part: &mut [u8], slots: usize, server: u64, write: Write)
     requires { ⌜ (slots ≤ 1024) × Has slots (object-of (write .number)) × Storable write × (Srv.partWords slots ≤ length (now part) / 8) ⌝ }
-    ensures { λ _. ⌜ Does Srv.places (Srv.block slots) (write-step server write) silent (view (now (part .entry))) 0 (view (now (part .exit))) ⌝ }
+    ensures { λ _. ⌜ Does Srv.places (Srv.server-block slots) (write-step server write) silent (view (now (part .entry))) 0 (view (now (part .exit))) ⌝ }
 {
     let number = write.number;
     let first = first_slot(write.node);
@@ -110,7 +110,7 @@ fn store_write(part: &mut [u8], slots: usize, server: u64, write: Write)
 }
 
 fn store_at(mem: &mut [u8], sizes: Sizes, server: usize, write: Write)
-    requires { ⌜ Holds sizes (length (now mem)) × (server < sizes .servers) × Has (sizes .slots) (object-of (write .number)) × Storable write ⌝ }
+    requires { ⌜ Store-in sizes (length (now mem)) × (server < sizes .servers) × Has (sizes .slots) (object-of (write .number)) × Storable write ⌝ }
     ensures { λ _. ⌜ Does whole (block sizes) (inPart (at-server server) (write-step server write)) silent (view (now (mem .entry))) 0 (view (now (mem .exit))) ⌝ }
 {
     let at = 8 * server_at(sizes, server);
@@ -118,7 +118,7 @@ fn store_at(mem: &mut [u8], sizes: Sizes, server: usize, write: Write)
 }
 
 fn store_nth(mem: &mut [u8], sizes: Sizes, client: usize, server: usize, i: usize)
-    requires { ⌜ Holds sizes (length (now mem)) × (client < sizes .clients) × (server < sizes .servers) × (i < 48) × Writable sizes (of-client sizes (view (now mem)) client) i ⌝ }
+    requires { ⌜ Store-in sizes (length (now mem)) × (client < sizes .clients) × (server < sizes .servers) × (i < 48) × Writable sizes (of-client sizes (view (now mem)) client) i ⌝ }
     ensures { λ _. ⌜ StoredNth sizes client server i (view (now (mem .entry))) (view (now (mem .exit))) ⌝ }
 {
     let write = write_at(mem, sizes, client, i);
@@ -127,7 +127,7 @@ fn store_nth(mem: &mut [u8], sizes: Sizes, client: usize, server: usize, i: usiz
 
 // The write set's objects in order, at a server.
 pub fn store_all(mem: &mut [u8], sizes: Sizes, client: usize, server: usize)
-    requires { ⌜ Holds sizes (length (now mem)) × (client < sizes .clients) × (server < sizes .servers) × Known sizes (view (now mem)) client ⌝ }
+    requires { ⌜ Store-in sizes (length (now mem)) × (client < sizes .clients) × (server < sizes .servers) × Known sizes (view (now mem)) client ⌝ }
     requires fresh { ⌜ versions-fit sizes (stored-in sizes (view (now mem))) client ≡ true ⌝ }
     ensures { λ _. ⌜ Does whole (block sizes) (stores sizes client server) silent (view (now (mem .entry))) 0 (view (now (mem .exit))) ⌝ }
 {

@@ -12,14 +12,14 @@ pub data Block : Type 0 where
   -- n equal blocks; a place is i ∷ place in the block
   times : ℕ → Block → Block
   -- a block and those that follow it; a place is 0 ∷ place in the first, or 1 + i ∷ .. for i ∷ .. in those that follow
-  next : Block → Block → Block
+  followed-by : Block → Block → Block
   end : Block
 
 -- how many words a block has
 unfoldable pub size : Block → ℕ
 size (words n) = n
 size (times n b) = n * size b
-size (next a b) = size a + size b
+size (followed-by a b) = size a + size b
 size end = 0
 
 -- is a list of numbers a place of the block
@@ -29,9 +29,9 @@ In (words n) (i ∷ []) = i < n
 In (words n) (i ∷ j ∷ p) = ⊥
 In (times n b) [] = ⊥
 In (times n b) (i ∷ p) = (i < n) × In b p
-In (next a b) [] = ⊥
-In (next a b) (zero ∷ p) = In a p
-In (next a b) (suc i ∷ p) = In b (i ∷ p)
+In (followed-by a b) [] = ⊥
+In (followed-by a b) (zero ∷ p) = In a p
+In (followed-by a b) (suc i ∷ p) = In b (i ∷ p)
 In end p = ⊥
 
 -- the word at which a place lies, counted from the start of the block
@@ -40,9 +40,9 @@ offset (words n) [] = 0
 offset (words n) (i ∷ p) = i
 offset (times n b) [] = 0
 offset (times n b) (i ∷ p) = i * size b + offset b p
-offset (next a b) [] = 0
-offset (next a b) (zero ∷ p) = offset a p
-offset (next a b) (suc i ∷ p) = size a + offset b (i ∷ p)
+offset (followed-by a b) [] = 0
+offset (followed-by a b) (zero ∷ p) = offset a p
+offset (followed-by a b) (suc i ∷ p) = size a + offset b (i ∷ p)
 offset end p = 0
 
 -- the place that lies at word i
@@ -53,7 +53,7 @@ step (i ∷ p) = suc i ∷ p
 unfoldable pub locate : Block → ℕ → List ℕ
 locate (words n) i = i ∷ []
 locate (times n b) i = i / size b ∷ locate b (i % size b)
-locate (next a b) i = cond (ltb i (size a)) (0 ∷ locate a i) (step (locate b (i - size a)))
+locate (followed-by a b) i = cond (ltb i (size a)) (0 ∷ locate a i) (step (locate b (i - size a)))
 locate end i = []
 
 pub decIn : (b : Block) (p : List ℕ) → Dec (In b p)
@@ -63,7 +63,7 @@ decIn (words n) (i ∷ []) = decLt i n
 decIn (words n) (i ∷ j ∷ p) = no (λ h. h)
 decIn (times n b) [] = no (λ h. h)
 decIn (times n b) (i ∷ p) = Dec·and (decLt i n) (decIn b p)
-decIn (next a b) [] = no (λ h. h)
-decIn (next a b) (zero ∷ p) = decIn a p
-decIn (next a b) (suc i ∷ p) = decIn b (i ∷ p)
+decIn (followed-by a b) [] = no (λ h. h)
+decIn (followed-by a b) (zero ∷ p) = decIn a p
+decIn (followed-by a b) (suc i ∷ p) = decIn b (i ∷ p)
 decIn end p = no (λ h. h)

@@ -11,7 +11,7 @@ use Rattle.nodes.specs.Name.{name, server-of, slot-of}
 use Rattle.nodes.specs.Place.{place}
 use Rattle.nodes.specs.Placement.{row}
 use Rattle.nodes.specs.Node.{keysOf, made}
-use Rattle.nodes.specs.Find.{find}
+use Rattle.nodes.specs.Find.{key-index}
 use Rattle.nodes.specs.Change.{wide, wide-keys, put-in, take-out, with-slot, split, merged, from-right, from-left}
 
 -- n numbers from a on, d apart
@@ -33,7 +33,7 @@ after n key none =
     cond (ltb (n .count) 14) (wide-keys (put-in n (place (keysOf n) key) key 1) ∷ []) (shown (split (put-in n (place (keysOf n) key) key 1) 0))
 
 abbrev inserted : Node → ℕ → List (List ℕ)
-inserted n key = after n key (find (keysOf n) key)
+inserted n key = after n key (key-index (keysOf n) key)
 
 -- each row: what the definitions say, and what 01 says
 abbrev pub cases : List (List (List ℕ) × List (List ℕ))

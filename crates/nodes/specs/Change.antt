@@ -5,7 +5,7 @@ use lib.ListN.{length, take, drop, getD, set}
 use Rattle.nodes.specs.declared.node.Node.{Node}
 use Rattle.nodes.specs.declared.change.Wide.{Wide}
 use Rattle.nodes.specs.declared.change.Halves.{Halves}
-use Rattle.nodes.specs.Lists.{pad, insert, remove}
+use Rattle.nodes.specs.Lists.{pad, insert-at, remove-at}
 use Rattle.nodes.specs.Node.{extra, keysOf, slotsOf, made}
 
 -- the wide node with these keys and slots
@@ -21,14 +21,14 @@ wide-slots w = take (w .count + extra (w .kind)) (w .slots)
 
 -- a key put in before key number i, with its slot: a leaf's value beside it, an inner node's child right of it
 unfoldable pub put-in : Node → ℕ → ℕ → ℕ → Wide
-put-in n i k s = wide (n .kind) (n .level) (n .version) (insert i k (keysOf n)) (insert (i + extra (n .kind)) s (slotsOf n))
+put-in n i k s = wide (n .kind) (n .level) (n .version) (insert-at i k (keysOf n)) (insert-at (i + extra (n .kind)) s (slotsOf n))
 
 -- key number i taken out, with its slot
 unfoldable pub without : Node → ℕ → Wide
-without n i = wide (n .kind) (n .level) (n .version) (remove i (keysOf n)) (remove (i + extra (n .kind)) (slotsOf n))
+without n i = wide (n .kind) (n .level) (n .version) (remove-at i (keysOf n)) (remove-at (i + extra (n .kind)) (slotsOf n))
 
 unfoldable pub take-out : Node → ℕ → Node
-take-out n i = made (n .kind) (n .level) (n .version) (remove i (keysOf n)) (remove (i + extra (n .kind)) (slotsOf n))
+take-out n i = made (n .kind) (n .level) (n .version) (remove-at i (keysOf n)) (remove-at (i + extra (n .kind)) (slotsOf n))
 
 unfoldable pub with-version : Node → ℕ → Node
 with-version n version = made (n .kind) (n .level) version (keysOf n) (slotsOf n)

@@ -11,15 +11,15 @@ use Rattle.nodes.specs.Place.{place}
 unfoldable pub find-at : List ℕ → ℕ → ℕ → Option ℕ
 find-at ks key p = cond (eqb p 0) none (cond (eqb (getD ks (p - 1) 0) key) (some (p - 1)) none)
 
-unfoldable pub find : List ℕ → ℕ → Option ℕ
-find ks key = find-at ks key (place ks key)
+unfoldable pub key-index : List ℕ → ℕ → Option ℕ
+key-index ks key = find-at ks key (place ks key)
 
 -- the elements are above x, each above the one before
-abbrev pub above : ℕ → List ℕ → Bool
-above x [] = true
-above x (y ∷ l) = ltb x y && above y l
+abbrev pub first-above : ℕ → List ℕ → Bool
+first-above x [] = true
+first-above x (y ∷ l) = ltb x y && first-above y l
 
 -- "keys in strictly rising order"
 unfoldable pub rises : List ℕ → Bool
 rises [] = true
-rises (x ∷ l) = above x l
+rises (x ∷ l) = first-above x l

@@ -17,8 +17,8 @@ all-flags [] = []
 all-flags (w ∷ ws) = bits 64 w ++ all-flags ws
 
 -- the flags of that many slots
-unfoldable pub flags : ℕ → List ℕ → List Bool
-flags slots ws = take slots (all-flags ws)
+unfoldable pub flags-in : ℕ → List ℕ → List Bool
+flags-in slots ws = take slots (all-flags ws)
 
 -- n where there is none
 abbrev pub otherwise : ℕ → Option ℕ → ℕ

@@ -4,12 +4,12 @@ use mathlib.Core.List.{List, _∷_, _++_}
 use lib.ListN.{length, take, drop, replicate}
 
 -- l with v put in before the element at i
-unfoldable pub insert : {A : Type 0} → ℕ → A → List A → List A
-insert i v l = take i l ++ v ∷ drop i l
+unfoldable pub insert-at : {A : Type 0} → ℕ → A → List A → List A
+insert-at i v l = take i l ++ v ∷ drop i l
 
 -- l without the element at i
-unfoldable pub remove : {A : Type 0} → ℕ → List A → List A
-remove i l = take i l ++ drop (i + 1) l
+unfoldable pub remove-at : {A : Type 0} → ℕ → List A → List A
+remove-at i l = take i l ++ drop (i + 1) l
 
 -- the array of w places that holds l at its front, and 0 after it
 unfoldable pub pad : ℕ → List ℕ → List ℕ

@@ -6,11 +6,11 @@ use lib.ListN.{length, take}
 use lib.Dec.{eqb, ltb}
 use Rattle.nodes.specs.declared.node.Node.{Node}
 use Rattle.nodes.specs.Lists.{pad}
-use Rattle.nodes.specs.Place.{bit}
+use Rattle.nodes.specs.Place.{one-if}
 
 -- the slots of a node beyond its keys: "14 values (leaf) or one child more than keys (inner)"
 unfoldable pub extra : ℕ → ℕ
-extra kind = bit (eqb kind 2)
+extra kind = one-if (eqb kind 2)
 
 unfoldable pub keysOf : Node → List ℕ
 keysOf n = take (n .count) (n .keys)

@@ -5,10 +5,10 @@ use Prim.Native.Nat.{ℕ, _+_}
 use lib.Dec.{leb}
 
 -- 1 for true, 0 for false
-abbrev pub bit : Bool → ℕ
-bit true = 1
-bit false = 0
+abbrev pub one-if : Bool → ℕ
+one-if true = 1
+one-if false = 0
 
 unfoldable pub place : List ℕ → ℕ → ℕ
 place [] k = 0
-place (x ∷ l) k = bit (leb x k) + place l k
+place (x ∷ l) k = one-if (leb x k) + place l k

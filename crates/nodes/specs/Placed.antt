@@ -2,9 +2,9 @@
 use mathlib.Core.List.{List, [], _∷_}
 use Prim.Native.Nat.{ℕ, _+_}
 use lib.Dec.{eqb}
-use Rattle.nodes.specs.Place.{bit}
+use Rattle.nodes.specs.Place.{one-if}
 
 -- how often x is named in a list
 abbrev pub times : ℕ → List ℕ → ℕ
 times x [] = 0
-times x (y ∷ l) = bit (eqb x y) + times x l
+times x (y ∷ l) = one-if (eqb x y) + times x l

@@ -11,10 +11,10 @@ shifted k none = none
 shifted k (some i) = some (k + i)
 
 -- the lowest free slot
-abbrev pub lowest : List Bool → Option ℕ
-lowest [] = none
-lowest (false ∷ fs) = some 0
-lowest (true ∷ fs) = shifted 1 (lowest fs)
+abbrev pub lowest-free : List Bool → Option ℕ
+lowest-free [] = none
+lowest-free (false ∷ fs) = some 0
+lowest-free (true ∷ fs) = shifted 1 (lowest-free fs)
 
 abbrev pub or-else : Option ℕ → Option ℕ → Option ℕ
 or-else none y = y
@@ -22,8 +22,8 @@ or-else (some x) y = some x
 
 -- the lowest free slot from the slot a on
 abbrev pub free-from : ℕ → List Bool → Option ℕ
-free-from a fs = shifted a (lowest (drop a fs))
+free-from a fs = shifted a (lowest-free (drop a fs))
 
 -- "it takes the first free slot above the split node's slot number, going round"
 unfoldable pub first-free : ℕ → List Bool → Option ℕ
-first-free slot fs = or-else (free-from (suc slot) fs) (lowest fs)
+first-free slot fs = or-else (free-from (suc slot) fs) (lowest-free fs)

@@ -4,7 +4,7 @@ ghost use mathlib.Core.List.{_++_};
 ghost use Prim.Native.Nat.{_+_, _≤_, _<_};
 ghost use lib.ListN.{length, take, drop};
 ghost use lib.Seq.{paste};
-ghost use Rattle.nodes.specs.Lists.{pad, insert, remove};
+ghost use Rattle.nodes.specs.Lists.{pad, insert-at, remove-at};
 
 // n elements of src, from the place `from` on, written to dst at the place `at` on
 pub fn blit(dst: &mut [u64], at: usize, src: &[u64], from: usize, n: usize)
@@ -34,7 +34,7 @@ pub fn joined(a: &[u64], n: usize, b: &[u64], from: usize, m: usize) -> [u64; 32
 // the first n of a with v put in at the place `at`
 pub fn inserted(a: &[u64], n: usize, at: usize, v: u64) -> [u64; 32]
     requires { ⌜ (at ≤ n) × (n < 32) × (n ≤ length (now a)) ⌝ }
-    ensures { λ r. ⌜ r ≡ pad 32 (insert at v (take n (now (a .entry)))) ⌝ }
+    ensures { λ r. ⌜ r ≡ pad 32 (insert-at at v (take n (now (a .entry)))) ⌝ }
 {
     let one = [v; 1];
     let t = joined(a, at, &one, 0, 1);
@@ -44,7 +44,7 @@ pub fn inserted(a: &[u64], n: usize, at: usize, v: u64) -> [u64; 32]
 // the first n of a without the one at the place `at`
 pub fn removed(a: &[u64], n: usize, at: usize) -> [u64; 32]
     requires { ⌜ (at < n) × (n ≤ 32) × (n ≤ length (now a)) ⌝ }
-    ensures { λ r. ⌜ r ≡ pad 32 (remove at (take n (now (a .entry)))) ⌝ }
+    ensures { λ r. ⌜ r ≡ pad 32 (remove-at at (take n (now (a .entry)))) ⌝ }
 {
     joined(a, at, a, at + 1, n - at - 1)
 }

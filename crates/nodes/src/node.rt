@@ -6,7 +6,7 @@ ghost use lib.ListN.{length};
 ghost use Rattle.nodes.specs.Place.{place};
 ghost use Rattle.nodes.specs.Node.{extra, keysOf, free-node, parent-of, pair-at};
 ghost use Rattle.nodes.specs.Found.{found, Inside};
-ghost use Rattle.nodes.specs.Find.{find, rises};
+ghost use Rattle.nodes.specs.Find.{key-index, rises};
 
 // "A node has a kind (0 free, 1 leaf, 2 inner), a level, a 32-bit version, at most 14 keys in strictly rising order,
 // and 14 values (leaf) or one child more than keys (inner)."
@@ -59,7 +59,7 @@ impl Node {
     // where the key is
     pub fn find(self, key: u64) -> Found
         requires { ⌜ self .count ≤ 14 ⌝ }
-        ensures { λ r. ⌜ r ≡ found (find (keysOf self) key) ⌝ }
+        ensures { λ r. ⌜ r ≡ found (key-index (keysOf self) key) ⌝ }
         ensures within { λ r. ⌜ Inside r (self .count) ⌝ }
     {
         let p = self.place(key);

@@ -8,7 +8,7 @@ ghost use Prim.Native.Nat.{_+_, _/_, _≤_};
 ghost use lib.ListN.{length};
 ghost use Rattle.memory.specs.Word.{view};
 ghost use Rattle.nodes.specs.Stored.{node-of, node-at, words-of, put-node};
-ghost use Rattle.nodes.specs.Range.{in-range};
+ghost use Rattle.nodes.specs.Range.{node-in-range};
 
 impl Node {
     pub fn from_words(words: [u64; 33]) -> Node
@@ -43,7 +43,7 @@ impl Node {
 
     // whether every field is in its range
     pub fn in_range(self) -> bool
-        ensures { λ r. ⌜ r ≡ in-range self ⌝ }
+        ensures { λ r. ⌜ r ≡ node-in-range self ⌝ }
     {
         if self.kind > 2 {
             return false;

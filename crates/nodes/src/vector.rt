@@ -6,7 +6,7 @@ ghost use Prim.Native.Nat.{_<_, _≤_};
 ghost use lib.ListN.{getD};
 ghost use Rattle.nodes.specs.Found.{found, Inside};
 ghost use Rattle.nodes.specs.Vector.{free-from, first-free};
-ghost use Rattle.nodes.specs.Flags.{bits, otherwise, all-flags, flags, with-flag};
+ghost use Rattle.nodes.specs.Flags.{bits, otherwise, all-flags, flags-in, with-flag};
 
 // the lowest bit that is 0, from bit p on, or 64
 fn first_zero(x: u64, p: u32) -> u32
@@ -21,7 +21,7 @@ fn first_zero(x: u64, p: u32) -> u32
 // the lowest free slot from the slot `from` on
 fn free_from(words: [u64; 16], slots: usize, from: usize) -> Found
     requires { ⌜ from ≤ 1024 ⌝ }
-    ensures { λ r. ⌜ r ≡ found (free-from from (flags slots words)) ⌝ }
+    ensures { λ r. ⌜ r ≡ found (free-from from (flags-in slots words)) ⌝ }
     ensures inside { λ r. ⌜ Inside r slots ⌝ }
 {
     let mut w = from / 64;
@@ -45,7 +45,7 @@ fn free_from(words: [u64; 16], slots: usize, from: usize) -> Found
 // "it takes the first free slot above the split node's slot number, going round"
 pub fn first_free(words: [u64; 16], slots: usize, slot: usize) -> Found
     requires { ⌜ slot < 1024 ⌝ }
-    ensures { λ r. ⌜ r ≡ found (first-free slot (flags slots words)) ⌝ }
+    ensures { λ r. ⌜ r ≡ found (first-free slot (flags-in slots words)) ⌝ }
     ensures inside { λ r. ⌜ Inside r slots ⌝ }
 {
     let above = free_from(words, slots, slot + 1);

@@ -3,7 +3,7 @@ use mathlib.Core.List.{List, [], _∷_, _++_, map}
 use Prim.Native.Nat.{ℕ, _+_}
 use native.Mathlib.Decide.{ℕ-discrete}
 use Rattle.base.specs.Test.{ifd}
-use Rattle.operations.specs.Entry.{nxt}
+use Rattle.operations.specs.Entry.{first-key-or}
 
 -- 1 at n, else 0
 abbrev pub one : ℕ → ℕ → ℕ
@@ -13,7 +13,7 @@ module _ {A : Type 0} where
   -- each entry with its key and the key that follows
   abbrev pub Chain : (ℕ → ℕ → A → Type 0) → ℕ → List (ℕ × A) → Type 0
   Chain P b [] = Unit {0}
-  Chain P b (e ∷ es) = P (e .0) (nxt es b) (e .1) × Chain P b es
+  Chain P b (e ∷ es) = P (e .0) (first-key-or es b) (e .1) × Chain P b es
 
   abbrev pub tally : (A → ℕ → ℕ) → List (ℕ × A) → ℕ → ℕ
   tally c [] x = 0

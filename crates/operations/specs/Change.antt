@@ -5,12 +5,12 @@ use Prim.Native.Nat.{ℕ, zero, suc, _-_}
 use native.Mathlib.Decide.{ℕ-discrete, decLt, decLe}
 use lib.ListN.{length, take, drop}
 use Rattle.base.specs.Test.{ifd}
-use Rattle.nodes.specs.Lists.{remove}
+use Rattle.nodes.specs.Lists.{remove-at}
 use Rattle.operations.specs.Object.{node, no-tree, Ans, Writes}
 use Rattle.operations.specs.Map.{fresh}
-use Rattle.operations.specs.Entry.{Entries, mk, mn, mx, nxt, index, value-in, with-pair}
+use Rattle.operations.specs.Entry.{Entries, node-value, fewest-entries, most-entries, first-key-or, index, value-in, with-pair}
 use Rattle.operations.specs.Path.{Plan, kid, Branch, from-root}
-use Rattle.operations.specs.Slot.{Sizes, take-for, take-node, release}
+use Rattle.operations.specs.Slot.{TreeSizes, take-for, take-node, release}
 use Rattle.plans.specs.Plan as P
 
 -- what follows with the new entries of the parent
@@ -27,7 +27,7 @@ with-two f c k d = f .pre ++ (f .key, c) ∷ (k, d) ∷ f .post
 -- two parts of one node's entries, or of two neighbours': es in c and es′ in d. "the first key of the right one goes up"; an inner node does not
 -- store that key, so of its keys it is "the eighth going up"
 abbrev pub parted : Go → ℕ → Writes → Branch → ℕ → Entries → ℕ → Entries → Plan
-parted go l w f c es d es′ = go ((node d, mk l es′) ∷ (node c, mk l es) ∷ w) (with-two f c (nxt es′ 0) d)
+parted go l w f c es d es′ = go ((node d, node-value l es′) ∷ (node c, node-value l es) ∷ w) (with-two f c (first-key-or es′ 0) d)
 
 -- the entries but the last, and the last
 abbrev pub unsnoc-step : {A : Type 0} → A → Option (List A × A) → Option (List A × A)
@@ -47,10 +47,10 @@ at-top (f ∷ fs) p q = q
 module _ (a : Ans) (l : ℕ) (fs : List Branch) (go : Go) where
   -- on with the parent's entries, or as a root that is left with one child
   abbrev pub onward : Writes → Branch → ℕ → Entries → Plan
-  onward w f c es = go ((node c, mk l es) ∷ w) (with-one f c)
+  onward w f c es = go ((node c, node-value l es) ∷ w) (with-one f c)
 
   abbrev pub collapsed : Writes → Branch → ℕ → Entries → Plan
-  collapsed w f c es = release w c (λ w′. P.done (a, (node (f .nm), mk l es) ∷ w′))
+  collapsed w f c es = release w c (λ w′. P.done (a, (node (f .nm), node-value l es) ∷ w′))
 
   -- two nodes merged into c. "An inner root left with no key takes over its only child's contents, and the child is freed."
   abbrev pub merged : Writes → Branch → ℕ → Entries → Plan
@@ -61,7 +61,7 @@ module _ (a : Ans) (l : ℕ) (fs : List Branch) (go : Go) where
   abbrev pub with-right : Writes → Branch → ℕ → Entries → ℕ → ℕ → Plan
   with-right w f c es k2 c2 =
       ifd (ℕ-discrete c2 c) (P.fail no-tree)
-      (kid w l k2 c2 (λ es2. ifd (decLt (mn l) (length es2))
+      (kid w l k2 c2 (λ es2. ifd (decLt (fewest-entries l) (length es2))
       (parted go l w f c (es ++ take 1 es2) c2 (drop 1 es2))
       (release w c2 (λ w′. merged w′ f c (es ++ es2)))))
 
@@ -69,7 +69,7 @@ module _ (a : Ans) (l : ℕ) (fs : List Branch) (go : Go) where
   abbrev pub with-left : Writes → Branch → ℕ → Entries → ℕ → Plan
   with-left w f c es c1 =
       ifd (ℕ-discrete c1 c) (P.fail no-tree)
-      (kid w l (f .key) c1 (λ es1. let n = length es1 - 1 in ifd (decLt (mn l) (length es1))
+      (kid w l (f .key) c1 (λ es1. let n = length es1 - 1 in ifd (decLt (fewest-entries l) (length es1))
       (parted go l w f c1 (take n es1) c (drop n es1 ++ es))
       (release w c (λ w′. merged w′ f c1 (es1 ++ es)))))
 
@@ -83,33 +83,33 @@ module _ (a : Ans) (l : ℕ) (fs : List Branch) (go : Go) where
   neighbour w f c es [] = left-of w (f .nm) c es (unsnoc (f .pre))
 
 -- "a split root keeps its name as parent and both halves get new ones"; "Of a root's halves the left is placed first."
-abbrev pub split-root : Sizes → Ans → ℕ → Writes → ℕ → Entries → Plan
+abbrev pub split-root : TreeSizes → Ans → ℕ → Writes → ℕ → Entries → Plan
 split-root sz a l w r es =
     take-for sz r w (λ c w1. take-for sz r w1 (λ d w2. take-node w2 c (take-node w2 d
-    (parted (λ w′ es′. P.done (a, (node r, mk (suc l) es′) ∷ w′)) l w2 (record { nm = r; key = 0; pre = []; post = [] })
-    c (take (mn l) es) d (drop (mn l) es)))))
+    (parted (λ w′ es′. P.done (a, (node r, node-value (suc l) es′) ∷ w′)) l w2 (record { nm = r; key = 0; pre = []; post = [] })
+    c (take (fewest-entries l) es) d (drop (fewest-entries l) es)))))
 
 -- "A leaf of 15 pairs splits into 7 and 8"; "An inner node of 15 keys splits into 7 and 7"; "The left half keeps the name"
-abbrev pub split : Sizes → Go → ℕ → Writes → Branch → ℕ → Entries → Plan
-split sz go l w f c es = take-for sz c w (λ d w1. take-node w1 d (parted go l w1 f c (take (mn l) es) d (drop (mn l) es)))
+abbrev pub split : TreeSizes → Go → ℕ → Writes → Branch → ℕ → Entries → Plan
+split sz go l w f c es = take-for sz c w (λ d w1. take-node w1 d (parted go l w1 f c (take (fewest-entries l) es) d (drop (fewest-entries l) es)))
 
 -- the new entries es of the node c at level l, below the path fs
-abbrev pub up : Sizes → Ans → (l : ℕ) → List Branch → Writes → ℕ → Entries → Plan
-up sz a l [] w c es = ifd (decLe (length es) (mx l)) (P.done (a, (node c, mk l es) ∷ w)) (split-root sz a l w c es)
+abbrev pub up : TreeSizes → Ans → (l : ℕ) → List Branch → Writes → ℕ → Entries → Plan
+up sz a l [] w c es = ifd (decLe (length es) (most-entries l)) (P.done (a, (node c, node-value l es) ∷ w)) (split-root sz a l w c es)
 up sz a l (f ∷ fs) w c es =
     let go : Go = λ w′ es′. up sz a (suc l) fs w′ (f .nm) es′ in
-    ifd (decLe (mn l) (length es))
-    (ifd (decLe (length es) (mx l)) (P.done (a, (node c, mk l es) ∷ w)) (split sz go l w f c es))
+    ifd (decLe (fewest-entries l) (length es))
+    (ifd (decLe (length es) (most-entries l)) (P.done (a, (node c, node-value l es) ∷ w)) (split sz go l w f c es))
     (neighbour a l fs go w f c es (f .post))
 
 -- "Insert of a present key replaces its value and writes the leaf, even with an equal value."
-abbrev pub insert-plan : Sizes → ℕ → ℕ → Plan
+abbrev pub insert-plan : TreeSizes → ℕ → ℕ → Plan
 insert-plan sz key v = from-root key (λ fs n es. up sz (fresh (value-in key es)) zero fs [] n (with-pair key v es))
 
 -- a key that is not there changes nothing
-abbrev pub delete-at : Sizes → List Branch → ℕ → Entries → Option ℕ → Plan
+abbrev pub delete-at : TreeSizes → List Branch → ℕ → Entries → Option ℕ → Plan
 delete-at sz fs n es none = P.done ((0, 0), [])
-delete-at sz fs n es (some i) = up sz (1, 0) zero fs [] n (remove i es)
+delete-at sz fs n es (some i) = up sz (1, 0) zero fs [] n (remove-at i es)
 
-abbrev pub delete-plan : Sizes → ℕ → Plan
+abbrev pub delete-plan : TreeSizes → ℕ → Plan
 delete-plan sz key = from-root key (λ fs n es. delete-at sz fs n es (index key es))

@@ -5,9 +5,9 @@ use mathlib.Core.Option.{Option, none, some}
 use Prim.Native.Nat.{ℕ, zero, suc, _+_}
 use lib.Dec.{ltb}
 use lib.ListN.{getD, set, getElem?}
-use Rattle.nodes.specs.Lists.{insert}
-use Rattle.nodes.specs.Place.{place, bit}
-use Rattle.nodes.specs.Find.{find}
+use Rattle.nodes.specs.Lists.{insert-at}
+use Rattle.nodes.specs.Place.{place, one-if}
+use Rattle.nodes.specs.Find.{key-index}
 use Rattle.operations.specs.Object.{Val, body}
 
 abbrev pub Entries : Type 0
@@ -26,28 +26,28 @@ zip (k ∷ ks) [] = []
 zip (k ∷ ks) (v ∷ vs) = (k, v) ∷ zip ks vs
 
 -- the node of a level with these entries: kind 1 and level 0, or kind 2 and a level from 1
-abbrev pub mk : ℕ → Entries → Val
-mk zero es = body 1 0 (keys es) (vals es)
-mk (suc l) es = body 2 (suc l) (keys (tail es)) (vals es)
+abbrev pub node-value : ℕ → Entries → Val
+node-value zero es = body 1 0 (keys es) (vals es)
+node-value (suc l) es = body 2 (suc l) (keys (tail es)) (vals es)
 
 -- the fewest and the most entries of a node other than the root: 7 to 14 keys, and in an inner node one child more
-abbrev pub mn : ℕ → ℕ
-mn zero = 7
-mn (suc l) = 8
+abbrev pub fewest-entries : ℕ → ℕ
+fewest-entries zero = 7
+fewest-entries (suc l) = 8
 
-abbrev pub mx : ℕ → ℕ
-mx zero = 14
-mx (suc l) = 15
+abbrev pub most-entries : ℕ → ℕ
+most-entries zero = 14
+most-entries (suc l) = 15
 
 -- the first key, or else the bound
-abbrev pub nxt : {A : Type 0} → List (ℕ × A) → ℕ → ℕ
-nxt [] b = b
-nxt (e ∷ es) b = e .0
+abbrev pub first-key-or : {A : Type 0} → List (ℕ × A) → ℕ → ℕ
+first-key-or [] b = b
+first-key-or (e ∷ es) b = e .0
 
 -- the number of keys below a key
 unfoldable pub under : List ℕ → ℕ → ℕ
 under [] k = 0
-under (x ∷ l) k = bit (ltb x k) + under l k
+under (x ∷ l) k = one-if (ltb x k) + under l k
 
 -- INNER NODES: the entries before the one at an index, that one, and those after it
 abbrev pub Cut : Type 0 → Type 0
@@ -67,7 +67,7 @@ module _ {A : Type 0} where
 -- LEAVES
 -- the index of a present key: the place is not 0, and the key there is equal
 abbrev pub index : ℕ → Entries → Option ℕ
-index key es = find (keys es) key
+index key es = key-index (keys es) key
 
 abbrev pub value-at : Entries → Option ℕ → Option ℕ
 value-at es none = none
@@ -78,7 +78,7 @@ value-in key es = value-at es (index key es)
 
 -- "Insert of a present key replaces its value"; another comes after the keys not above it
 abbrev pub with-at : ℕ → ℕ → Entries → Option ℕ → Entries
-with-at key v es none = insert (place (keys es) key) (key, v) es
+with-at key v es none = insert-at (place (keys es) key) (key, v) es
 with-at key v es (some i) = set es i (key, v)
 
 abbrev pub with-pair : ℕ → ℕ → Entries → Entries

@@ -12,8 +12,8 @@ abbrev pub Map : Type 0
 Map = List (ℕ × ℕ)
 
 -- "Keys and values are any unsigned 64-bit numbers": keys are below this
-unfoldable pub H : ℕ
-H = 2 ^ 64
+unfoldable pub two-to-64 : ℕ
+two-to-64 = 2 ^ 64
 
 -- "op 1 insert, 2 lookup, 3 delete, 4 next key above, 5 previous key below, 6 migrate (key is the node name)"
 pub data Op : Type 0 where
@@ -29,14 +29,14 @@ look k [] = none
 look k (e ∷ m) = ifd (ℕ-discrete (e .0) k) (some (e .1)) (look k m)
 
 -- "Insert sets the key's value"
-abbrev pub put : ℕ → ℕ → Map → Map
-put k v [] = (k, v) ∷ []
-put k v (e ∷ m) = ifd (decLt (e .0) k) (e ∷ put k v m) (ifd (ℕ-discrete (e .0) k) ((k, v) ∷ m) ((k, v) ∷ e ∷ m))
+abbrev pub set-key : ℕ → ℕ → Map → Map
+set-key k v [] = (k, v) ∷ []
+set-key k v (e ∷ m) = ifd (decLt (e .0) k) (e ∷ set-key k v m) (ifd (ℕ-discrete (e .0) k) ((k, v) ∷ m) ((k, v) ∷ e ∷ m))
 
 -- "Delete removes the key"
-abbrev pub del : ℕ → Map → Map
-del k [] = []
-del k (e ∷ m) = ifd (ℕ-discrete (e .0) k) m (e ∷ del k m)
+abbrev pub remove-key : ℕ → Map → Map
+remove-key k [] = []
+remove-key k (e ∷ m) = ifd (ℕ-discrete (e .0) k) m (e ∷ remove-key k m)
 
 -- "the nearest key strictly above or below, if any"
 abbrev pub above : ℕ → Map → Option ℕ
@@ -80,9 +80,9 @@ compared (migrate n s) = false
 
 -- the map after the operation
 abbrev pub map-after : Op → Map → Map
-map-after (insert k v) m = put k v m
+map-after (insert k v) m = set-key k v m
 map-after (lookup k) m = m
-map-after (delete k) m = del k m
+map-after (delete k) m = remove-key k m
 map-after (next k) m = m
 map-after (previous k) m = m
 map-after (migrate n s) m = m

@@ -101,14 +101,14 @@ hit (flag n) (node x) = false
 hit (flag n) (flag x) = yes? (ℕ-discrete x n)
 
 -- the snapshot U with the value v at o
-abbrev pub wr : Obj → Val → (Obj → Val) → Obj → Val
-wr o v U x = cond (hit o x) v (U x)
+abbrev pub with-value : Obj → Val → (Obj → Val) → Obj → Val
+with-value o v U x = cond (hit o x) v (U x)
 
 -- the snapshot with the writes
 abbrev pub over : Writes → (Obj → Val) → Obj → Val
 over [] M = M
-over (e ∷ w) M = wr (e .0) (e .1) (over w M)
+over (e ∷ w) M = with-value (e .0) (e .1) (over w M)
 
-abbrev pub value : Writes → Obj → Val
-value [] o = root 0
-value (e ∷ w) o = cond (hit (e .0) o) (e .1) (value w o)
+abbrev pub written-value : Writes → Obj → Val
+written-value [] o = root 0
+written-value (e ∷ w) o = cond (hit (e .0) o) (e .1) (written-value w o)

@@ -5,10 +5,10 @@ use Prim.Native.Nat.{_<_}
 use native.Mathlib.Decide.{decLe}
 use Rattle.base.specs.Test.{yes?}
 use Rattle.nodes.specs.Find.{rises}
-use Rattle.operations.specs.Object.{Val, keys-of, level-of, no-tree, Ans, Writes, value}
-use Rattle.operations.specs.Map.{H, Op, insert, lookup, delete, next, previous, migrate}
+use Rattle.operations.specs.Object.{Val, keys-of, level-of, no-tree, Ans, Writes, written-value}
+use Rattle.operations.specs.Map.{two-to-64, Op, insert, lookup, delete, next, previous, migrate}
 use Rattle.operations.specs.Path.{Plan}
-use Rattle.operations.specs.Slot.{Sizes}
+use Rattle.operations.specs.Slot.{TreeSizes}
 use Rattle.operations.specs.Look.{lookup-plan, next-plan, previous-plan}
 use Rattle.operations.specs.Change.{insert-plan, delete-plan}
 use Rattle.operations.specs.Migrate.{migrate-plan}
@@ -21,7 +21,7 @@ fits? v = rises (keys-of v) && yes? (decLe (level-of v) 4)
 -- of the objects of w, what all the writes together leave there
 abbrev pub all-fit? : Writes → Writes → Bool
 all-fit? all [] = true
-all-fit? all (e ∷ w) = fits? (value all (e .0)) && all-fit? all w
+all-fit? all (e ∷ w) = fits? (written-value all (e .0)) && all-fit? all w
 
 -- once all is read, what would be written is looked at
 abbrev pub check : Ans × Writes → Plan
@@ -31,7 +31,7 @@ abbrev pub checked : Plan → Plan
 checked p = P.bind p check
 
 -- what an operation reads and would write
-abbrev pub reading : Sizes → Op → Plan
+abbrev pub reading : TreeSizes → Op → Plan
 reading sz (insert k v) = insert-plan sz k v
 reading sz (lookup k) = lookup-plan k
 reading sz (delete k) = delete-plan sz k
@@ -39,14 +39,14 @@ reading sz (next k) = next-plan k
 reading sz (previous k) = previous-plan k
 reading sz (migrate n s) = migrate-plan sz n s
 
-abbrev pub plan : Sizes → Op → Plan
+abbrev pub plan : TreeSizes → Op → Plan
 plan sz op = checked (reading sz op)
 
 -- what a step with this operation is not refused for: the key is a 64-bit number, the server is in the store
-abbrev pub Legal : Sizes → Op → Type 0
-Legal sz (insert k v) = k < H
-Legal sz (lookup k) = k < H
-Legal sz (delete k) = k < H
-Legal sz (next k) = k < H
-Legal sz (previous k) = k < H
+abbrev pub Legal : TreeSizes → Op → Type 0
+Legal sz (insert k v) = k < two-to-64
+Legal sz (lookup k) = k < two-to-64
+Legal sz (delete k) = k < two-to-64
+Legal sz (next k) = k < two-to-64
+Legal sz (previous k) = k < two-to-64
 Legal sz (migrate n s) = s < sz .servers

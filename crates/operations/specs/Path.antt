@@ -6,7 +6,7 @@ use native.Mathlib.Decide.{ℕ-discrete, decLe}
 use lib.ListN.{length}
 use Rattle.base.specs.Test.{ifd}
 use Rattle.operations.specs.Object.{Obj, meta, node, Ask, object, Val, root, body, taken, flags, Why, no-tree, Ans, Writes, hit}
-use Rattle.operations.specs.Entry.{Entries, zip, mn, cut}
+use Rattle.operations.specs.Entry.{Entries, zip, fewest-entries, cut}
 use Rattle.plans.specs.Plan as P
 
 -- an operation's plan ends with its answer and its writes
@@ -39,7 +39,7 @@ open-node lo (body (suc (suc (suc j))) l ks vs) k = P.fail no-tree
 -- "a child is free or not exactly one level lower, a node used below the root has under 7 keys"
 abbrev pub kid : Writes → ℕ → ℕ → ℕ → (Entries → Plan) → Plan
 kid w l lo n k = see w (node n) (λ v. open-node lo v (λ j es.
-    ifd (ℕ-discrete j l) (ifd (decLe (mn l) (length es)) (k es) (P.fail no-tree)) (P.fail no-tree)))
+    ifd (ℕ-discrete j l) (ifd (decLe (fewest-entries l) (length es)) (k es) (P.fail no-tree)) (P.fail no-tree)))
 
 -- an inner node on the path: its name, the key of the entry that was followed, the entries before and after it
 pub record Branch : Type 0 where

@@ -6,14 +6,14 @@ use Rattle.operations.specs.Object.{Obj, meta, node, Val, keys-of, level
 use Rattle.operations.specs.Map.{Map}
 use Rattle.operations.specs.Entry.{zip}
 
-abbrev pub each : (ℕ → Map) → List ℕ → Map
-each f [] = []
-each f (v ∷ vs) = f v ++ each f vs
+abbrev pub all-pairs : (ℕ → Map) → List ℕ → Map
+all-pairs f [] = []
+all-pairs f (v ∷ vs) = f v ++ all-pairs f vs
 
 -- the pairs below the node n of level l
 abbrev pub pairs-below : ℕ → (ℕ → Val) → ℕ → Map
 pairs-below zero N n = zip (keys-of (N n)) (slots-of (N n))
-pairs-below (suc l) N n = each (pairs-below l N) (slots-of (N n))
+pairs-below (suc l) N n = all-pairs (pairs-below l N) (slots-of (N n))
 
 abbrev pub map-of : (Obj → Val) → Map
 map-of M = pairs-below (level-of (M (node (root-of (M meta))))) (λ n. M (node n)) (root-of (M meta))

@@ -14,12 +14,12 @@ use Rattle.operations.specs.Path.{Plan, see}
 use Rattle.plans.specs.Plan as P
 
 -- a store's sizes: servers, and slots on each
-pub record Sizes : Type 0 where
+pub record TreeSizes : Type 0 where
   pub servers : ℕ
   pub slots : ℕ
 
 -- "Servers 1 to 8, slots on each 1 to 1,024"
-abbrev pub Allowed : Sizes → Type 0
+abbrev pub Allowed : TreeSizes → Type 0
 Allowed sz = (sz .servers ≤ 8) × (sz .slots ≤ 1024)
 
 -- "own frees and takes counted": a vector of the server s with what the operation has written
@@ -33,7 +33,7 @@ counted [] s fs = fs
 counted (e ∷ w) s fs = count-one (e .0) (e .1) s (counted w s fs)
 
 -- "On a server it takes the first free slot above the split node's slot number, going round."
-abbrev pub free-slot : Sizes → Writes → ℕ → ℕ → Val → Option ℕ
+abbrev pub free-slot : TreeSizes → Writes → ℕ → ℕ → Val → Option ℕ
 free-slot sz w slot s v = first-free slot (take (sz .slots) (counted w s (flags-of v)))
 
 abbrev pub chosen : ℕ → Option ℕ → (ℕ → Plan) → Plan → Plan
@@ -42,7 +42,7 @@ chosen s (some i) k p = k (name s i)
 
 -- "vectors in placement order": the first free slot on these servers; "a server is passed over only by a vector that this
 -- transaction fetched". Of all passed over: "no slot is free".
-abbrev pub search : Sizes → Writes → ℕ → List ℕ → (ℕ → Plan) → Plan
+abbrev pub search : TreeSizes → Writes → ℕ → List ℕ → (ℕ → Plan) → Plan
 search sz w slot [] k = P.fail no-slot
 search sz w slot (s ∷ ss) k =
     P.ask (vector s) (λ v. chosen s (free-slot sz w slot s v) k
@@ -66,11 +66,11 @@ abbrev pub take-flag : Writes → ℕ → (Writes → Plan) → Plan
 take-flag w d k = see w (flag d) (λ v. when-free-flag v (k ((flag d, taken true) ∷ w)))
 
 -- a slot on one of these servers, above a slot number: chosen, and its flag taken
-abbrev pub take-on : Sizes → List ℕ → ℕ → Writes → (ℕ → Writes → Plan) → Plan
+abbrev pub take-on : TreeSizes → List ℕ → ℕ → Writes → (ℕ → Writes → Plan) → Plan
 take-on sz ss slot w k = search sz w slot ss (λ d. take-flag w d (λ w′. k d w′))
 
 -- "a new node looks on servers in the order s xor 0, s xor 1, .. s xor 7, where s is the home of the node being split"
-abbrev pub take-for : Sizes → ℕ → Writes → (ℕ → Writes → Plan) → Plan
+abbrev pub take-for : TreeSizes → ℕ → Writes → (ℕ → Writes → Plan) → Plan
 take-for sz n w k = take-on sz (present (sz .servers) (row (server-of n))) (slot-of n) w k
 
 -- "A taken slot's node is read too, and must be free."

@@ -3,11 +3,11 @@
 -- operation answers or finds no free slot.
 use Prim.Native.Nat.{ℕ}
 use Rattle.operations.specs.Object.{Ask, vector, fetched, Val, flags-of}
-use Rattle.operations.specs.Slot.{Sizes, Allowed}
+use Rattle.operations.specs.Slot.{TreeSizes, Allowed}
 use Rattle.operations.specs.Ensures.{objects}
 use Rattle.operations.specs.Slots.{True-of}
 
-module _ (sz : Sizes) (al : Allowed sz) where
+module _ (sz : TreeSizes) (al : Allowed sz) where
   -- the vectors show the flags of the snapshot
   abbrev pub Current : (Ask → Val) → Type 0
   Current S = (s : ℕ) → True-of (objects S) s (flags-of (S (vector s))) × True-of (objects S) s (flags-of (S (fetched s)))

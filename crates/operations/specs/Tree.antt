@@ -6,8 +6,8 @@ use mathlib.Core.Logic.{_⊎_}
 use Prim.Native.Nat.{ℕ, zero, suc, _+_, _<_, _≤_}
 use lib.ListN.{length}
 use Rattle.operations.specs.Object.{Obj, meta, node, flag, Val, root, taken, free}
-use Rattle.operations.specs.Map.{Map, H}
-use Rattle.operations.specs.Entry.{mk, mn, mx, nxt}
+use Rattle.operations.specs.Map.{Map, two-to-64}
+use Rattle.operations.specs.Entry.{node-value, fewest-entries, most-entries, first-key-or}
 use Rattle.operations.specs.Chain.{one, Chain, tally, gather, ren}
 
 -- names are below this: 8 servers with 1,024 slots
@@ -42,12 +42,12 @@ Starts (suc l) k x = x ≡ k
 -- A node other than the root, of level l, that holds keys from k up to, not including, b. P says the same of its children.
 pub record Kid (N : ℕ → Val) (l : ℕ) (P : ℕ → ℕ → Slot l → Type 0) (k b : ℕ) (s : Slot (suc l)) : Type 0 where
   -- it is stored: its level is one lower than its parent's
-  pub at : N (s .0) ≡ mk l (ren (word l) (s .1))
+  pub at : N (s .0) ≡ node-value l (ren (word l) (s .1))
   -- "A node other than the root has at least 7 keys", "at most 14 keys"
-  pub least : mn l ≤ length (s .1)
-  pub most : length (s .1) ≤ mx l
+  pub least : fewest-entries l ≤ length (s .1)
+  pub most : length (s .1) ≤ most-entries l
   -- "in strictly rising order"; "Child i holds the keys from key i up to, not including, key i+1"
-  pub from : Starts l k (nxt (s .1) b)
+  pub from : Starts l k (first-key-or (s .1) b)
   pub rise : k < b
   pub segs : Chain P b (s .1)
 
@@ -66,7 +66,7 @@ abbrev pub Mark : Val → Val → ℕ → Type 0
 Mark f v n = ((n ≡ 1) × (f ≡ taken true)) ⊎ ((n ≡ 0) × (f ≡ taken false) × (v ≡ free))
 
 -- THE SNAPSHOT HOLDS A B-TREE OF THE MAP m
-pub record Holds (M : Obj → Val) (m : Map) : Type 0 where
+pub record Holds-tree (M : Obj → Val) (m : Map) : Type 0 where
   pub level : ℕ
   pub name : ℕ
   pub ents : List (ℕ × Slot level)
@@ -74,12 +74,12 @@ pub record Holds (M : Obj → Val) (m : Map) : Type 0 where
   pub root-is : M meta ≡ root name
   pub low : level ≤ 4
   -- the root is stored, with at most 14 keys, and at least 1 if it is inner
-  pub stored : M (node name) ≡ mk level (ren (word level) ents)
+  pub stored : M (node name) ≡ node-value level (ren (word level) ents)
   pub least : bottom level ≤ length ents
-  pub most : length ents ≤ mx level
+  pub most : length ents ≤ most-entries level
   -- it holds the keys from 0 up to 2^64, and so on down
-  pub from : Starts level 0 (nxt ents H)
-  pub segs : Chain (Entry (λ n. M (node n)) level) H ents
+  pub from : Starts level 0 (first-key-or ents two-to-64)
+  pub segs : Chain (Entry (λ n. M (node n)) level) two-to-64 ents
   -- flags are taken exactly for the tree's nodes, which are different ones; all other nodes are free; names are below 8,192
   pub marks : (x : ℕ) → Mark (M (flag x)) (M (node x)) (one name x + tally (cnt level) ents x)
   pub inside : (x : ℕ) → room ≤ x → M (flag x) ≡ taken false

@@ -12,9 +12,9 @@ use Rattle.steps.specs.Run.{opened, outcomes}
 use Rattle.demand.specs.Demand.{All-words}
 
 -- an outcome other than a refusal by 10
-abbrev pub Accepted : Outcome → Type 0
-Accepted o = ¬ (o ≡ Refused 10)
+abbrev pub Not-refused-by-10 : Outcome → Type 0
+Not-refused-by-10 o = ¬ (o ≡ Refused 10)
 
 -- for all allowed sizes and all lists of steps, those refused by another number included
 abbrev pub Never-refused-by-10 : Type 0
-Never-refused-by-10 = (z : Sizes) → Allowed z → (ks : List Step) → All-words ks → Every Accepted (outcomes z (opened z) ks)
+Never-refused-by-10 = (z : Sizes) → Allowed z → (ks : List Step) → All-words ks → Every Not-refused-by-10 (outcomes z (opened z) ks)

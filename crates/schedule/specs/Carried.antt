@@ -11,7 +11,7 @@ use Rattle.steps.specs.Run.{opened, outcomes}
 use Rattle.kinds.specs.Parts.{stored-in}
 use Rattle.engine.specs.Open.{words-opened}
 use Rattle.demand.specs.Demand.{Demand, course-of}
-use Rattle.ranges.specs.Claim.{Accepted}
+use Rattle.ranges.specs.Claim.{Not-refused-by-10}
 use Rattle.schedule.specs.Listed.{outcomes-run}
 
 -- memory of n bytes with the words that `open` leaves for the sizes z; `before` are the words that it was lent
@@ -26,7 +26,7 @@ pub record Carried (z : Sizes) (n : ℕ) (w : List ℕ) (ks : List Step) (w′ :
   pub demand : Demand z ks
   pub memory : stored-in z w′ ≡ course-of z ks .memory
   pub answers : outcomes-run n w ks ≡ outcomes z (opened z) ks
-  pub accepted : Every Accepted (outcomes-run n w ks)
+  pub accepted : Every Not-refused-by-10 (outcomes-run n w ks)
 
 unfoldable pub Demanded : ℕ → List ℕ → List Step → List ℕ → Type 0
 Demanded n w ks w′ = (z : Sizes) → Newly z n w → Carried z n w ks w′

@@ -21,10 +21,10 @@ module _ (n : ℕ) where
   outcomes-run w (k ∷ ks) = outcome-of n w k ∷ outcomes-run (words-after n w k) ks
 
 -- the three numbers of an outcome as those of step i; without room for them they are left out
-unfoldable pub noted : List ℕ → ℕ → Line → List ℕ
-noted out i l = cond (ltb i (length out / 3)) (set (set (set out (3 * i) (l .outcome)) (3 * i + 1) (l .a)) (3 * i + 2) (l .b)) out
+unfoldable pub written-down : List ℕ → ℕ → Line → List ℕ
+written-down out i l = cond (ltb i (length out / 3)) (set (set (set out (3 * i) (l .outcome)) (3 * i + 1) (l .a)) (3 * i + 2) (l .b)) out
 
 -- those of a list of outcomes, from step i on
 unfoldable pub lines : List ℕ → ℕ → List Outcome → List ℕ
 lines out i [] = out
-lines out i (o ∷ os) = lines (noted out i (line o)) (suc i) os
+lines out i (o ∷ os) = lines (written-down out i (line o)) (suc i) os

@@ -4,7 +4,7 @@ ghost use lib.ListN.{length};
 ghost use Rattle.memory.specs.Word.{view};
 ghost use Rattle.steps.specs.Outcome.{line};
 ghost use Rattle.engine.specs.Step.{outcome-of, words-after};
-ghost use Rattle.schedule.specs.Listed.{words-run, outcomes-run, noted, lines};
+ghost use Rattle.schedule.specs.Listed.{words-run, outcomes-run, written-down, lines};
 ghost use Rattle.schedule.specs.Carried.{Demanded};
 use engine::step::step;
 use steps::outcome::Line;
@@ -12,7 +12,7 @@ use steps::step::Step;
 
 // The three numbers of an outcome, as those of step i; without room for them they are left out.
 fn note(out: &mut [u64], i: usize, l: Line)
-    ensures { λ _. ⌜ now (out .exit) ≡ noted (now (out .entry)) i l ⌝ }
+    ensures { λ _. ⌜ now (out .exit) ≡ written-down (now (out .entry)) i l ⌝ }
 {
     if i < out.len() / 3 {
         out[3 * i] = l.outcome;
@@ -23,7 +23,7 @@ fn note(out: &mut [u64], i: usize, l: Line)
 
 // One step, by value, the i-th of a list. Its outcome is written down, and its number returned.
 pub fn turn(mem: &mut [u8], out: &mut [u64], i: usize, k: Step) -> u64
-    ensures { λ r. ⌜ (r ≡ line (outcome-of (length (now (mem .entry))) (view (now (mem .entry))) k) .outcome) × (view (now (mem .exit)) ≡ words-after (length (now (mem .entry))) (view (now (mem .entry))) k) × (now (out .exit) ≡ noted (now (out .entry)) i (line (outcome-of (length (now (mem .entry))) (view (now (mem .entry))) k))) ⌝ }
+    ensures { λ r. ⌜ (r ≡ line (outcome-of (length (now (mem .entry))) (view (now (mem .entry))) k) .outcome) × (view (now (mem .exit)) ≡ words-after (length (now (mem .entry))) (view (now (mem .entry))) k) × (now (out .exit) ≡ written-down (now (out .entry)) i (line (outcome-of (length (now (mem .entry))) (view (now (mem .entry))) k))) ⌝ }
 {
     let o = step(mem, k);
     let l = Line::of(o);

@@ -16,9 +16,9 @@ use Rattle.server.specs.declared.object.Object.{Object}
 use Rattle.server.specs.declared.object.Object.the-variants as object
 use Rattle.server.specs.declared.place.Place.{Place}
 use Rattle.server.specs.declared.place.Place.the-variants as place
-use Rattle.server.specs.Layout.{places, block}
+use Rattle.server.specs.Layout.{places, server-block}
 use Rattle.server.specs.Object.{lock-of, Has}
-use Rattle.server.specs.Lock.{busy, in-range}
+use Rattle.server.specs.Lock.{busy, lock-in-range}
 use Rattle.server.specs.Check.{can-check, mark-place, mark-in, standing, held, checked, sound}
 
 module _ (s : ℕ) (o : Object) (inner : Bool) where
@@ -74,14 +74,14 @@ module _ (o : Object) (w : ℕ) where
   marks-free x k b e q h t = sym (rw (e, mark-in, ← q, ← h, t))
 
 -- the mark of an object of the store lies in the part
-mark-there : (n : ℕ) (inner : Bool) (o : Object) → Has n o → Valid places (block n) (mark-place o inner)
+mark-there : (n : ℕ) (inner : Bool) (o : Object) → Has n o → Valid places (server-block n) (mark-place o inner)
 unfolding mark-place lock-of Valid In
 mark-there n inner object.Metadata h = omega arith
 mark-there n true (object.Node x) h = h
 mark-there n false (object.Node x) h = (h .0, omega arith)
 mark-there n inner (object.Flag x) h = omega arith
 
-pub mark-valid : (n : ℕ) (o : Object) (inner : Bool) (a : Place) → Has n o → a ≡ mark-place o inner → Valid places (block n) a
+pub mark-valid : (n : ℕ) (o : Object) (inner : Bool) (a : Place) → Has n o → a ≡ mark-place o inner → Valid places (server-block n) a
 mark-valid n o inner a h e = rw e (mark-there n inner o h)
 
 module _ (o : Object) (m : Place → ℕ) where
@@ -106,7 +106,7 @@ module _ (o : Object) (m : Place → ℕ) where
     unfolding checked
     found-differs r t q h = sym (rw (← e, t, ← q, ne-eqb r mark h))
 
-  module _ (inner : Bool) (clients w : ℕ) (a : Place) (b : Bool) (e : a ≡ lock-of o) (q : w ≡ m a) (h : b ≡ in-range clients w) where
+  module _ (inner : Bool) (clients w : ℕ) (a : Place) (b : Bool) (e : a ≡ lock-of o) (q : w ≡ m a) (h : b ≡ lock-in-range clients w) where
     pub sound-mark : (r : ℕ) → b ≡ true → r ≡ standing o inner m → leb r 4294967295 ≡ sound clients o inner m
     unfolding sound
     sound-mark r t k = sym (rw (← e, ← q, ← h, t, ← k))

@@ -15,8 +15,8 @@ use Rattle.nodes.specs.Stored.{node-of, node-at}
 use Rattle.nodes.specs.declared.node.Node as node
 use Rattle.server.specs.declared.place.Place.{Place}
 use Rattle.server.specs.declared.place.Place.the-variants.{Root, Version, Vector, Node}
-use Rattle.server.specs.Range.{in-store}
-use Rattle.server.specs.Layout.{places, block, partWords, Lies}
+use Rattle.server.specs.Range.{name-in-store}
+use Rattle.server.specs.Layout.{places, server-block, partWords, Lies}
 use Rattle.server.specs.Laws.Layout.{node-run, node-room, node-valid, root-valid, version-valid}
 use Rattle.server.specs.HandOut.{metadata-at, metadata-sound, vector-at, node-here}
 
@@ -25,7 +25,7 @@ module _ (m : Place → ℕ) where
   unfolding metadata-at
   metadata-got x v p q = rw (p, q)
 
-  module _ (servers slots x : ℕ) (b : Bool) (p : x ≡ m Root) (e : b ≡ in-store servers slots x) where
+  module _ (servers slots x : ℕ) (b : Bool) (p : x ≡ m Root) (e : b ≡ name-in-store servers slots x) where
     pub sound-version : (v : ℕ) → b ≡ true → v ≡ m Version → leb v 4294967295 ≡ metadata-sound servers slots m
     unfolding metadata-sound
     sound-version v t q = sym (rw (← p, ← e, t, q))
@@ -34,21 +34,21 @@ module _ (m : Place → ℕ) where
     unfolding metadata-sound
     no-root t = sym (rw (← p, ← e, t))
 
-vector-run : (n : ℕ) → Run places (block n) Vector 3 16
+vector-run : (n : ℕ) → Run places (server-block n) Vector 3 16
 unfolding at Valid In offset size
 vector-run n = record { good = λ i l. l; spot = λ i l. refl }
 
-pub vector-got : (n : ℕ) (s ws : List ℕ) → partWords n ≤ length s / 8 → ws ≡ take 16 (drop 3 (view s)) → ws ≡ vector-at (mem places (block n) (view s))
+pub vector-got : (n : ℕ) (s ws : List ℕ) → partWords n ≤ length s / 8 → ws ≡ take 16 (drop 3 (view s)) → ws ≡ vector-at (mem places (server-block n) (view s))
 unfolding vector-at partWords size
-vector-got n s ws l e = e ∙ mem-run places (block n) 16 (view s) Vector 3 (vector-run n) (omega (arith, view-length s))
+vector-got n s ws l e = e ∙ mem-run places (server-block n) 16 (view s) Vector 3 (vector-run n) (omega (arith, view-length s))
 
 pub node-got : (n k i : ℕ) (s : List ℕ) (r : node.Node) → k < n → partWords n ≤ length s / 8 → Lies n (Node k 0) i → r ≡ node-at (view s) i
-    → r ≡ node-here k (mem places (block n) (view s))
+    → r ≡ node-here k (mem places (server-block n) (view s))
 unfolding node-here node-at
 node-got n k i s r h l e q =
-    let f : at places (block n) (Node k 0) + 33 ≤ length (view s) =
-    omega (arith, view-length s, node-room n k (at places (block n) (Node k 0)) (length s / 8) h (record { spot = refl; within = rw (← e .spot) (e .within) }) l) in
-    q ∙ rw (e .spot) (ap node-of (mem-run places (block n) 33 (view s) (Node k) (at places (block n) (Node k 0)) (node-run n k h) f))
+    let f : at places (server-block n) (Node k 0) + 33 ≤ length (view s) =
+    omega (arith, view-length s, node-room n k (at places (server-block n) (Node k 0)) (length s / 8) h (record { spot = refl; within = rw (← e .spot) (e .within) }) l) in
+    q ∙ rw (e .spot) (ap node-of (mem-run places (server-block n) 33 (view s) (Node k) (at places (server-block n) (Node k 0)) (node-run n k h) f))
 
 pub vector-room : (n l : ℕ) → partWords n ≤ l → 3 + 16 ≤ l
 unfolding partWords size

@@ -10,39 +10,39 @@ use Rattle.layout.specs.Laws.Space.{mem-at, at-below}
 use Rattle.layout.specs.Step.{Does, silent, stepped}
 use Rattle.server.specs.declared.place.Place.{Place}
 use Rattle.server.specs.declared.place.Place.the-variants.{Root, Version, MetadataLock, Vector, Node, FlagLock, Table, NodeLock}
-use Rattle.server.specs.Layout.{row, block, places, partWords, putStep, Lies}
+use Rattle.server.specs.Layout.{slot-row, server-block, places, partWords, putStep, Lies}
 
 -- the bounds of a place that lies in the part
 pub record Cell (k n j m : ℕ) : Type 0 where
   pub row : k < n
   pub word : j < m
 
-module _ (n : ℕ) (a : Place) (ok : Valid places (block n) a) where
+module _ (n : ℕ) (a : Place) (ok : Valid places (server-block n) a) where
   pub in-vector : (i : ℕ) → a ≡ Vector i → i < 16
   unfolding Valid In
-  in-vector i e = subst (Valid places (block n)) e ok
+  in-vector i e = subst (Valid places (server-block n)) e ok
 
   pub in-node : (k j : ℕ) → a ≡ Node k j → Cell k n j 33
   unfolding Valid In
-  in-node k j e = let h = subst (Valid places (block n)) e ok in record { row = h .0; word = h .1 }
+  in-node k j e = let h = subst (Valid places (server-block n)) e ok in record { row = h .0; word = h .1 }
 
   pub in-flag : (k : ℕ) → a ≡ FlagLock k → k < n
   unfolding Valid In
-  in-flag k e = subst (Valid places (block n)) e ok .0
+  in-flag k e = subst (Valid places (server-block n)) e ok .0
 
   pub in-table : (s k : ℕ) → a ≡ Table s k → Cell k n s 8
   unfolding Valid In
-  in-table s k e = let h = subst (Valid places (block n)) e ok in record { row = h .0; word = h .1 }
+  in-table s k e = let h = subst (Valid places (server-block n)) e ok in record { row = h .0; word = h .1 }
 
   pub in-locks : (s k : ℕ) → a ≡ NodeLock s k → Cell k n s 8
   unfolding Valid In
-  in-locks s k e = let h = subst (Valid places (block n)) e ok in record { row = h .0; word = h .1 }
+  in-locks s k e = let h = subst (Valid places (server-block n)) e ok in record { row = h .0; word = h .1 }
 
-  placed : (b : Place) (i : ℕ) → a ≡ b → i ≡ at places (block n) b → Lies n a i
+  placed : (b : Place) (i : ℕ) → a ≡ b → i ≡ at places (server-block n) b → Lies n a i
   unfolding partWords
   placed b i e q =
-      let p : i ≡ at places (block n) a = q ∙ ap (at places (block n)) (sym e) in
-      record { spot = p; within = rw p (at-below places (block n) a ok) }
+      let p : i ≡ at places (server-block n) a = q ∙ ap (at places (server-block n)) (sym e) in
+      record { spot = p; within = rw p (at-below places (server-block n) a ok) }
 
   pub at-root : a ≡ Root → Lies n a 0
   unfolding at offset
@@ -78,9 +78,9 @@ module _ (n : ℕ) (a : Place) (ok : Valid places (block n) a) where
 
 pub ruleset indices = (at-root, at-version, at-metadata, at-vector, at-node, at-flag, at-table, at-lock)
 
-pub got : (n i r : ℕ) (a : Place) (w : List ℕ) → Valid places (block n) a → i ≡ at places (block n) a → r ≡ getD w i 0 → r ≡ mem places (block n) w a
-got n i r a w h e q = q ∙ rw e (sym (mem-at places (block n) w a h))
+pub got : (n i r : ℕ) (a : Place) (w : List ℕ) → Valid places (server-block n) a → i ≡ at places (server-block n) a → r ≡ getD w i 0 → r ≡ mem places (server-block n) w a
+got n i r a w h e q = q ∙ rw e (sym (mem-at places (server-block n) w a h))
 
-pub was-put : (n i v : ℕ) (a : Place) (w w′ : List ℕ) → i ≡ at places (block n) a → w′ ≡ set w i v → Does places (block n) (putStep a v) silent w 0 w′
+pub was-put : (n i v : ℕ) (a : Place) (w w′ : List ℕ) → i ≡ at places (server-block n) a → w′ ≡ set w i v → Does places (server-block n) (putStep a v) silent w 0 w′
 unfolding stepped stored putStep
 was-put n i v a w w′ e q = record { answer = refl; words = q ∙ rw e }

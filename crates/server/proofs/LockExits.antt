@@ -9,7 +9,7 @@ use Rattle.memory.specs.Bit.{putBit}
 use Rattle.memory.specs.Laws.Bit.{one-shifted}
 use Rattle.server.specs.declared.lock.Use.{Use}
 use Rattle.server.specs.declared.lock.Use.the-variants.{Fetch, Read, Write}
-use Rattle.server.specs.Lock.{busy, locked, unlocked, in-range}
+use Rattle.server.specs.Lock.{busy, locked, unlocked, lock-in-range}
 
 module _ (c w : ℕ) where
   pub busy-writer : (u : Use) → 65536 ≤ w → not (eqb w (65536 + c)) ≡ busy u c w
@@ -52,12 +52,12 @@ module _ (c w : ℕ) where
   unfolding unlocked
   unlock-other h e = sym (rw (le-ltb w 65536 h, ne-eqb w (65536 + c) e))
 
-  pub range-writer : 65536 ≤ w → ltb w (65536 + c) ≡ in-range c w
-  unfolding in-range
+  pub range-writer : 65536 ≤ w → ltb w (65536 + c) ≡ lock-in-range c w
+  unfolding lock-in-range
   range-writer h = sym (rw (le-ltb w 65536 h))
 
-  pub range-readers : c ≤ 16 → w < 65536 → ltb w (1 * 2 ^ c % 18446744073709551616) ≡ in-range c w
-  unfolding in-range
+  pub range-readers : c ≤ 16 → w < 65536 → ltb w (1 * 2 ^ c % 18446744073709551616) ≡ lock-in-range c w
+  unfolding lock-in-range
   range-readers l h = sym (rw (lt-ltb w 65536 h, one-shifted c (omega arith)))
 
 pub ruleset lock-exits =

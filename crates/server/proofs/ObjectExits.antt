@@ -8,7 +8,7 @@ use Rattle.server.specs.declared.object.Object.{Object}
 use Rattle.server.specs.declared.object.Object.the-variants.{Metadata, Node, Flag}
 use Rattle.server.specs.declared.place.Place.{Place}
 use Rattle.server.specs.declared.place.Place.the-variants.{MetadataLock, FlagLock, NodeLock}
-use Rattle.server.specs.Layout.{places, block}
+use Rattle.server.specs.Layout.{places, server-block}
 use Rattle.server.specs.Object.{lock-of, Has}
 use Rattle.server.specs.Laws.Object.{is-metadata, is-node, is-flag}
 
@@ -25,7 +25,7 @@ module _ (o : Object) where
   unfolding lock-of
   lock-flag x k e q = rw q (sym (rw e))
 
-  pub lock-valid : (n : ℕ) (a : Place) → Has n o → a ≡ lock-of o → Valid places (block n) a
+  pub lock-valid : (n : ℕ) (a : Place) → Has n o → a ≡ lock-of o → Valid places (server-block n) a
   lock-valid n a h e = rw e h
 
 pub ruleset object-exits = (is-metadata, is-node, is-flag, lock-metadata, lock-node, lock-flag, lock-valid)

@@ -5,15 +5,15 @@ use Prim.Native.Nat.{ℕ, _≤_, _<_}
 use borrow.Author.Tests.{lt-ltb, le-ltb}
 use lib.Dec.{ltb}
 use Rattle.nodes.specs.Name.{server-of, slot-of}
-use Rattle.server.specs.Range.{in-store}
+use Rattle.server.specs.Range.{name-in-store}
 
 module _ (servers slots : ℕ) where
-  pub no-server : (x r : ℕ) → r ≡ server-of x → servers ≤ r → false ≡ in-store servers slots x
-  unfolding in-store
+  pub no-server : (x r : ℕ) → r ≡ server-of x → servers ≤ r → false ≡ name-in-store servers slots x
+  unfolding name-in-store
   no-server x r e h = sym (rw (← e, le-ltb r servers h))
 
-  pub by-slot : (x r k : ℕ) → r ≡ server-of x → r < servers → k ≡ slot-of x → ltb k slots ≡ in-store servers slots x
-  unfolding in-store
+  pub by-slot : (x r k : ℕ) → r ≡ server-of x → r < servers → k ≡ slot-of x → ltb k slots ≡ name-in-store servers slots x
+  unfolding name-in-store
   by-slot x r k e h f = sym (rw (← e, lt-ltb r servers h, ← f))
 
 pub ruleset range-exits = (no-server, by-slot)

@@ -21,7 +21,7 @@ use Rattle.server.specs.declared.object.Object.{Object}
 use Rattle.server.specs.declared.object.Object.the-variants as object
 use Rattle.server.specs.declared.place.Place.{Place}
 use Rattle.server.specs.declared.place.Place.the-variants.{Root, Version, Vector, Table, Node}
-use Rattle.server.specs.Layout.{places, block, partWords, putStep, Lies}
+use Rattle.server.specs.Layout.{places, server-block, partWords, putStep, Lies}
 use Rattle.server.specs.Laws.Layout.{node-run, node-room, node-valid, root-valid, version-valid, vector-valid}
 use Rattle.server.specs.Object.{lock-of, Has}
 use Rattle.server.proofs.ObjectExits.{lock-valid}
@@ -30,27 +30,27 @@ use Rattle.server.specs.Store.{lock-step, unlock-step, metadata-step, fl
 use Rattle.server.specs.Laws.Store.{slot-there, table-there}
 
 module _ (n : ℕ) (w w′ : List ℕ) where
-  pub now-locked : (o : Object) (b : Bool) (c word v : ℕ) (a : Place) → a ≡ lock-of o → word ≡ mem places (block n) w a → v ≡ locked b c word
-      → Does places (block n) (putStep a v) silent w 0 w′ → Does places (block n) (lock-step o b c) silent w 0 w′
+  pub now-locked : (o : Object) (b : Bool) (c word v : ℕ) (a : Place) → a ≡ lock-of o → word ≡ mem places (server-block n) w a → v ≡ locked b c word
+      → Does places (server-block n) (putStep a v) silent w 0 w′ → Does places (server-block n) (lock-step o b c) silent w 0 w′
   unfolding putStep lock-step
-  now-locked o b c word v a e q h d = does-as places (block n) (putStep a v) (lock-step o b c) silent w 0 w′ (rw (h, q, e)) d
+  now-locked o b c word v a e q h d = does-as places (server-block n) (putStep a v) (lock-step o b c) silent w 0 w′ (rw (h, q, e)) d
 
-  pub now-unlocked : (o : Object) (c word v : ℕ) (a : Place) → a ≡ lock-of o → word ≡ mem places (block n) w a → v ≡ unlocked c word
-      → Does places (block n) (putStep a v) silent w 0 w′ → Does places (block n) (unlock-step o c) silent w 0 w′
+  pub now-unlocked : (o : Object) (c word v : ℕ) (a : Place) → a ≡ lock-of o → word ≡ mem places (server-block n) w a → v ≡ unlocked c word
+      → Does places (server-block n) (putStep a v) silent w 0 w′ → Does places (server-block n) (unlock-step o c) silent w 0 w′
   unfolding putStep unlock-step
-  now-unlocked o c word v a e q h d = does-as places (block n) (putStep a v) (unlock-step o c) silent w 0 w′ (rw (h, q, e)) d
+  now-unlocked o c word v a e q h d = does-as places (server-block n) (putStep a v) (unlock-step o c) silent w 0 w′ (rw (h, q, e)) d
 
-  pub metadata-stored : (u : List ℕ) (root version : ℕ) → Does places (block n) (putStep Root root) silent w 0 u
-      → Does places (block n) (putStep Version version) silent u 0 w′ → Does places (block n) (metadata-step root version) silent w 0 w′
+  pub metadata-stored : (u : List ℕ) (root version : ℕ) → Does places (server-block n) (putStep Root root) silent w 0 u
+      → Does places (server-block n) (putStep Version version) silent u 0 w′ → Does places (server-block n) (metadata-step root version) silent w 0 w′
   unfolding putStep metadata-step
-  metadata-stored u root version p q = does-both places (block n) (put Root root ∷ []) (put Version version ∷ []) w u w′ p q
+  metadata-stored u root version p q = does-both places (server-block n) (put Root root ∷ []) (put Version version ∷ []) w u w′ p q
 
   pub flag-stored : (x : Name) (b t : Bool) (k word v : ℕ) → b ≡ t → k ≡ slot-of (x .number)
-      → word ≡ mem places (block n) w (Vector (k / 64)) → v ≡ putBit t word (k % 64)
-      → Does places (block n) (putStep (Vector (k / 64)) v) silent w 0 w′ → Does places (block n) (flag-step x b) silent w 0 w′
+      → word ≡ mem places (server-block n) w (Vector (k / 64)) → v ≡ putBit t word (k % 64)
+      → Does places (server-block n) (putStep (Vector (k / 64)) v) silent w 0 w′ → Does places (server-block n) (flag-step x b) silent w 0 w′
   unfolding putStep flag-step
   flag-stored x b t k word v i e q h d =
-      does-as places (block n) (putStep (Vector (k / 64)) v) (flag-step x b) silent w 0 w′ (rw (h, q, i, e)) d
+      does-as places (server-block n) (putStep (Vector (k / 64)) v) (flag-step x b) silent w 0 w′ (rw (h, q, i, e)) d
 
 pub kept-free : (n r : node.Node) (v : ℕ) → n .kind ≡ 0 → r ≡ free-node v → r ≡ kept-of n v
 unfolding kept-of
@@ -62,50 +62,50 @@ unfolding kept-of
 kept-same n v h = sym (rw (ne-eqb (n .kind) 0 h))
 
 module _ (n : ℕ) (x : Name) (ok : Has n (object.Node x)) where
-  pub home-valid : (k : ℕ) → k ≡ slot-of (x .number) → Valid places (block n) (Node k 0)
+  pub home-valid : (k : ℕ) → k ≡ slot-of (x .number) → Valid places (server-block n) (Node k 0)
   home-valid k e = node-valid n k (slot-there n k x ok e)
 
   pub home-room : (k i l : ℕ) → k ≡ slot-of (x .number) → Lies n (Node k 0) i → partWords n ≤ l → i + 33 ≤ l
   home-room k i l e h g = node-room n k i l (slot-there n k x ok e) h g
 
-  pub table-valid : (s k : ℕ) → s ≡ server-of (x .number) → k ≡ slot-of (x .number) → Valid places (block n) (Table s k)
+  pub table-valid : (s k : ℕ) → s ≡ server-of (x .number) → k ≡ slot-of (x .number) → Valid places (server-block n) (Table s k)
   table-valid s k p q = rw (p, q) (table-there n x ok)
 
   pub at-home : (s r k i : ℕ) (y : node.Node) (w w′ : List ℕ) → length (y .keys) ≡ 14 → length (y .slots) ≡ 15 → r ≡ server-of (x .number) → r ≡ s
-      → k ≡ slot-of (x .number) → Lies n (Node k 0) i → w′ ≡ put-node w i y → Does places (block n) (home-step s x y) silent w 0 w′
+      → k ≡ slot-of (x .number) → Lies n (Node k 0) i → w′ ≡ put-node w i y → Does places (server-block n) (home-step s x y) silent w 0 w′
   unfolding stepped home-step put-node
   at-home s r k i y w w′ lk ls p h e lies q =
-      let b = at places (block n) (Node k 0) in
+      let b = at places (server-block n) (Node k 0) in
       let l : length (words-of y) ≡ 33 = length-words y (record { keys = lk; slots = ls }) in
       let stores : List (Put Place) = puts places (Node k) (words-of y) in
-      let run : stored places (block n) w stores ≡ sets w b (words-of y) =
-      stored-run places (block n) (words-of y) w (Node k) b (rw l (node-run n k (slot-there n k x ok e))) in
-      let same : stores ≡ home-step s x y (mem places (block n) w) = sym (rw (← p, eq-eqb r s h, ← e)) in
+      let run : stored places (server-block n) w stores ≡ sets w b (words-of y) =
+      stored-run places (server-block n) (words-of y) w (Node k) b (rw l (node-run n k (slot-there n k x ok e))) in
+      let same : stores ≡ home-step s x y (mem places (server-block n) w) = sym (rw (← p, eq-eqb r s h, ← e)) in
       record {
         answer = refl;
-        words = q ∙ ap (λ (j : ℕ). sets w j (words-of y)) (lies .spot) ∙ sym run ∙ ap (stored places (block n) w) same;
+        words = q ∙ ap (λ (j : ℕ). sets w j (words-of y)) (lies .spot) ∙ sym run ∙ ap (stored places (server-block n) w) same;
       }
 
-pub not-home : (n s r : ℕ) (x : Name) (y : node.Node) (w : List ℕ) → r ≡ server-of (x .number) → ¬ (r ≡ s) → Does places (block n) (home-step s x y) silent w 0 w
+pub not-home : (n s r : ℕ) (x : Name) (y : node.Node) (w : List ℕ) → r ≡ server-of (x .number) → ¬ (r ≡ s) → Does places (server-block n) (home-step s x y) silent w 0 w
 unfolding stepped home-step stored
 not-home n s r x y w p h = record { answer = refl; words = rw (← p, ne-eqb r s h) }
 
 pub in-table : (n s k v : ℕ) (x : Name) (b : Bool) (w w′ : List ℕ) → b ≡ true → s ≡ server-of (x .number) → k ≡ slot-of (x .number)
-    → Does places (block n) (putStep (Table s k) v) silent w 0 w′ → Does places (block n) (table-step x v b) silent w 0 w′
+    → Does places (server-block n) (putStep (Table s k) v) silent w 0 w′ → Does places (server-block n) (table-step x v b) silent w 0 w′
 unfolding putStep table-step
-in-table n s k v x b w w′ h p q d = does-as places (block n) (putStep (Table s k) v) (table-step x v b) silent w 0 w′ (rw (h, p, q)) d
+in-table n s k v x b w w′ h p q d = does-as places (server-block n) (putStep (Table s k) v) (table-step x v b) silent w 0 w′ (rw (h, p, q)) d
 
-pub not-in-table : (n v : ℕ) (x : Name) (b : Bool) (w : List ℕ) → b ≡ false → Does places (block n) (table-step x v b) silent w 0 w
+pub not-in-table : (n v : ℕ) (x : Name) (b : Bool) (w : List ℕ) → b ≡ false → Does places (server-block n) (table-step x v b) silent w 0 w
 unfolding stepped table-step stored
 not-in-table n v x b w h = record { answer = refl; words = rw h }
 
 pub node-stored : (n s v : ℕ) (x : Name) (y z : node.Node) (b : Bool) (w u w′ : List ℕ) → z ≡ kept-of y v
-    → Does places (block n) (home-step s x z) silent w 0 u → Does places (block n) (table-step x v b) silent u 0 w′
-    → Does places (block n) (node-step s x y v b) silent w 0 w′
+    → Does places (server-block n) (home-step s x z) silent w 0 u → Does places (server-block n) (table-step x v b) silent u 0 w′
+    → Does places (server-block n) (node-step s x y v b) silent w 0 w′
 unfolding home-step table-step node-step
 node-stored n s v x y z b w u w′ e p q =
-    does-both places (block n) (home-step s x (kept-of y v) (λ a. 0)) (table-step x v b (λ a. 0)) w u w′
-    (subst (λ (t : node.Node). Does places (block n) (home-step s x t) silent w 0 u) e p) q
+    does-both places (server-block n) (home-step s x (kept-of y v) (λ a. 0)) (table-step x v b (λ a. 0)) w u w′
+    (subst (λ (t : node.Node). Does places (server-block n) (home-step s x t) silent w 0 u) e p) q
 
 pub ruleset store-exits = (
   now-locked,

@@ -11,7 +11,7 @@ use Rattle.server.specs.declared.lock.Use.{Use}
 use Rattle.server.specs.declared.object.Object.{Object}
 use Rattle.server.specs.declared.place.Place.{Place}
 use Rattle.server.specs.Object.{lock-of}
-use Rattle.server.specs.Lock.{busy, in-range}
+use Rattle.server.specs.Lock.{busy, lock-in-range}
 use Rattle.server.specs.declared.object.Object.the-variants as object
 use Rattle.server.specs.declared.place.Place.the-variants as place
 
@@ -44,11 +44,11 @@ unfoldable pub checked : Object → Bool → ℕ → ℕ → Use → (Place → 
 checked o inner mark c u m = cond (held o c u m) Busy (cond (eqb (standing o inner m) mark) Same Differs)
 
 -- "1 a checked object differs .. 2 it is locked against this use by another client"; 0 is no reason
-abbrev pub reason : Finding → ℕ
-reason Same = 0
-reason Differs = 1
-reason Busy = 2
+abbrev pub finding-reason : Finding → ℕ
+finding-reason Same = 0
+finding-reason Differs = 1
+finding-reason Busy = 2
 
 -- refusal 10: what a check reads is in range
 unfoldable pub sound : ℕ → Object → Bool → (Place → ℕ) → Bool
-sound clients o inner m = cond (in-range clients (m (lock-of o))) (leb (standing o inner m) 4294967295) false
+sound clients o inner m = cond (lock-in-range clients (m (lock-of o))) (leb (standing o inner m) 4294967295) false

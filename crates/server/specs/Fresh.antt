@@ -6,7 +6,7 @@ use lib.Dec.{eqb}
 use Rattle.layout.specs.Space.{Put, put, clear}
 use Rattle.server.specs.declared.place.Place.{Place}
 use Rattle.server.specs.declared.place.Place.the-variants.{Vector, Node}
-use Rattle.server.specs.Layout.{places, block}
+use Rattle.server.specs.Layout.{places, server-block}
 
 -- the stores of the first leaf, at server 0: its kind, and its flag
 unfoldable pub first-leaf : ℕ → List (Put Place)
@@ -14,4 +14,4 @@ first-leaf s = cond (eqb s 0) (put (Node 0 0) 1 ∷ put (Vector 0) 1 ∷ []) []
 
 -- opening server s: zeros at every place of its part, and then the first leaf
 unfoldable pub open-step : ℕ → ℕ → (Place → ℕ) → List (Put Place)
-open-step s n m = clear places (block n) ++ first-leaf s
+open-step s n m = clear places (server-block n) ++ first-leaf s

@@ -8,7 +8,7 @@ use Rattle.nodes.specs.Stored.{node-of}
 use Rattle.server.specs.declared.hand_out.Metadata.{Metadata}
 use Rattle.server.specs.declared.place.Place.{Place}
 use Rattle.server.specs.declared.place.Place.the-variants.{Root, Version, Vector, Node}
-use Rattle.server.specs.Range.{in-store}
+use Rattle.server.specs.Range.{name-in-store}
 use Rattle.nodes.specs.declared.node.Node as node
 
 unfoldable pub metadata-at : (Place → ℕ) → Metadata
@@ -16,7 +16,7 @@ metadata-at m = record { root = m Root; version = m Version }
 
 -- refusal 10: the root's name is one of the store, the version one of 32 bits
 unfoldable pub metadata-sound : ℕ → ℕ → (Place → ℕ) → Bool
-metadata-sound servers slots m = in-store servers slots (m Root) && leb (m Version) 4294967295
+metadata-sound servers slots m = name-in-store servers slots (m Root) && leb (m Version) 4294967295
 
 unfoldable pub vector-at : (Place → ℕ) → List ℕ
 vector-at m = tab 16 (λ i. m (Vector i))

@@ -5,29 +5,29 @@ use mathlib.Core.Path.{_≡_, refl}
 use mathlib.Core.List.{List, [], _∷_}
 use Prim.Native.Nat.{ℕ, _<_}
 use lib.ListN.{getD}
-use Rattle.layout.specs.Block.{Block, words, times, next, end, size}
+use Rattle.layout.specs.Block.{Block, words, times, followed-by, end, size}
 use Rattle.layout.specs.Space.{Coding, Put, put, at}
 use Rattle.server.specs.declared.place.Place.{Place}
 use Rattle.server.specs.declared.place.Place.the-variants.{Root, Version, MetadataLock, Vector, Node, FlagLock, Table, NodeLock}
 
-abbrev pub row : Block
-row = next (words 33) (next (words 1) (next (words 8) (next (words 8) end)))
+abbrev pub slot-row : Block
+slot-row = followed-by (words 33) (followed-by (words 1) (followed-by (words 8) (followed-by (words 8) end)))
 
-abbrev pub block : ℕ → Block
-block n = next (words 3) (next (words 16) (next (times n row) end))
+abbrev pub server-block : ℕ → Block
+server-block n = followed-by (words 3) (followed-by (words 16) (followed-by (times n slot-row) end))
 
-abbrev pub code : Place → List ℕ
-code Root = 0 ∷ 0 ∷ []
-code Version = 0 ∷ 1 ∷ []
-code MetadataLock = 0 ∷ 2 ∷ []
-code (Vector i) = 1 ∷ i ∷ []
-code (Node k j) = 2 ∷ k ∷ 0 ∷ j ∷ []
-code (FlagLock k) = 2 ∷ k ∷ 1 ∷ 0 ∷ []
-code (Table s k) = 2 ∷ k ∷ 2 ∷ s ∷ []
-code (NodeLock s k) = 2 ∷ k ∷ 3 ∷ s ∷ []
+abbrev pub place-code : Place → List ℕ
+place-code Root = 0 ∷ 0 ∷ []
+place-code Version = 0 ∷ 1 ∷ []
+place-code MetadataLock = 0 ∷ 2 ∷ []
+place-code (Vector i) = 1 ∷ i ∷ []
+place-code (Node k j) = 2 ∷ k ∷ 0 ∷ j ∷ []
+place-code (FlagLock k) = 2 ∷ k ∷ 1 ∷ 0 ∷ []
+place-code (Table s k) = 2 ∷ k ∷ 2 ∷ s ∷ []
+place-code (NodeLock s k) = 2 ∷ k ∷ 3 ∷ s ∷ []
 
-abbrev pub back : List ℕ → Place
-back p =
+abbrev pub place-back : List ℕ → Place
+place-back p =
     let x = getD p 1 0 in
     let y = getD p 3 0 in
     getD
@@ -38,22 +38,22 @@ back p =
     (getD p 0 0)
     Root
 
-pub again : (a : Place) → back (code a) ≡ a
-again Root = refl
-again Version = refl
-again MetadataLock = refl
-again (Vector i) = refl
-again (Node k j) = refl
-again (FlagLock k) = refl
-again (Table s k) = refl
-again (NodeLock s k) = refl
+pub place-again : (a : Place) → place-back (place-code a) ≡ a
+place-again Root = refl
+place-again Version = refl
+place-again MetadataLock = refl
+place-again (Vector i) = refl
+place-again (Node k j) = refl
+place-again (FlagLock k) = refl
+place-again (Table s k) = refl
+place-again (NodeLock s k) = refl
 
 abbrev pub places : Coding Place
-places = record { code = code; back = back; again = again }
+places = record { code = place-code; back = place-back; again = place-again }
 
 -- how many words a server's part has
 unfoldable pub partWords : ℕ → ℕ
-partWords n = size (block n)
+partWords n = size (server-block n)
 
 -- the store of one word
 unfoldable pub putStep : Place → ℕ → (Place → ℕ) → List (Put Place)
@@ -61,5 +61,5 @@ putStep a v m = put a v ∷ []
 
 -- a place lies at word i, in the part
 pub record Lies (n : ℕ) (a : Place) (i : ℕ) : Type 0 where
-  pub spot : i ≡ at places (block n) a
+  pub spot : i ≡ at places (server-block n) a
   pub within : i < partWords n

@@ -27,5 +27,5 @@ unfoldable pub unlocked : ℕ → ℕ → ℕ
 unlocked c w = cond (ltb w 65536) (putBit false w c) (cond (eqb w (65536 + c)) 0 w)
 
 -- refusal 10: the clients that it names are below n
-unfoldable pub in-range : ℕ → ℕ → Bool
-in-range n w = cond (ltb w 65536) (ltb w (2 ^ n)) (ltb w (65536 + n))
+unfoldable pub lock-in-range : ℕ → ℕ → Bool
+lock-in-range n w = cond (ltb w 65536) (ltb w (2 ^ n)) (ltb w (65536 + n))

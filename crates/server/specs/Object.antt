@@ -9,7 +9,7 @@ use Rattle.server.specs.declared.object.Object.{Object}
 use Rattle.server.specs.declared.object.Object.the-variants.{Metadata, Node, Flag}
 use Rattle.server.specs.declared.place.Place.{Place}
 use Rattle.server.specs.declared.place.Place.the-variants.{MetadataLock, FlagLock, NodeLock}
-use Rattle.server.specs.Layout.{places, block}
+use Rattle.server.specs.Layout.{places, server-block}
 
 abbrev pub named : ℕ → Name
 named x = record { number = x }
@@ -25,4 +25,4 @@ lock-of (Flag x) = FlagLock (slot-of (x .number))
 
 -- the object is one of a store with n slots
 abbrev pub Has : ℕ → Object → Type 0
-Has n o = Valid places (block n) (lock-of o)
+Has n o = Valid places (server-block n) (lock-of o)

@@ -5,5 +5,5 @@ use lib.Dec.{ltb}
 use Rattle.nodes.specs.Name.{server-of, slot-of}
 
 -- a name of a store with so many servers and slots
-unfoldable pub in-store : ℕ → ℕ → ℕ → Bool
-in-store servers slots x = ltb (server-of x) servers && ltb (slot-of x) slots
+unfoldable pub name-in-store : ℕ → ℕ → ℕ → Bool
+name-in-store servers slots x = ltb (server-of x) servers && ltb (slot-of x) slots

@@ -4,7 +4,7 @@ ghost use Prim.Native.Nat.{_/_, _<_, _≤_};
 ghost use lib.ListN.{length};
 ghost use Rattle.memory.specs.Word.{view};
 ghost use Rattle.layout.specs.Space.{mem};
-ghost use Rattle.server.specs.Layout.{places, block, partWords};
+ghost use Rattle.server.specs.Layout.{places, server-block, partWords};
 ghost use Rattle.server.specs.Object.{Has};
 ghost use Rattle.server.specs.Check.{can-check, mark-place, mark-in, standing, held, checked, sound};
 use crate::lock;
@@ -71,7 +71,7 @@ fn mark_in(object: Object, word: u64) -> u64
 // The mark that stands here of an object.
 pub fn stands(part: &[u8], slots: usize, object: Object, inner: bool) -> u64
     requires { ⌜ (slots ≤ 1024) × Has slots object × (partWords slots ≤ length (now part) / 8) ⌝ }
-    ensures { λ r. ⌜ r ≡ standing object inner (mem places (block slots) (view (now (part .entry)))) ⌝ }
+    ensures { λ r. ⌜ r ≡ standing object inner (mem places (server-block slots) (view (now (part .entry)))) ⌝ }
 {
     let word = get(part, slots, mark_place(object, inner));
     mark_in(object, word)
@@ -80,7 +80,7 @@ pub fn stands(part: &[u8], slots: usize, object: Object, inner: bool) -> u64
 // Is an object locked here against a client's use?
 pub fn is_busy(part: &[u8], slots: usize, object: Object, client: u32, wanted: Use) -> bool
     requires { ⌜ (slots ≤ 1024) × Has slots object × (client < 16) × (partWords slots ≤ length (now part) / 8) ⌝ }
-    ensures { λ r. ⌜ r ≡ held object client wanted (mem places (block slots) (view (now (part .entry)))) ⌝ }
+    ensures { λ r. ⌜ r ≡ held object client wanted (mem places (server-block slots) (view (now (part .entry)))) ⌝ }
 {
     let word = get(part, slots, lock_place(object));
     lock::is_busy(word, client, wanted)
@@ -97,7 +97,7 @@ pub fn check(
     wanted: Use,
 ) -> Finding
     requires { ⌜ (slots ≤ 1024) × Has slots object × (client < 16) × (partWords slots ≤ length (now part) / 8) ⌝ }
-    ensures { λ r. ⌜ r ≡ checked object inner mark client wanted (mem places (block slots) (view (now (part .entry)))) ⌝ }
+    ensures { λ r. ⌜ r ≡ checked object inner mark client wanted (mem places (server-block slots) (view (now (part .entry)))) ⌝ }
 {
     if is_busy(part, slots, object, client, wanted) {
         return Finding::Busy;
@@ -111,7 +111,7 @@ pub fn check(
 // Refusal 10: is all that a check of the object reads in range, in a store with so many clients?
 pub fn is_sound(part: &[u8], slots: usize, clients: u32, object: Object, inner: bool) -> bool
     requires { ⌜ (slots ≤ 1024) × Has slots object × (clients ≤ 16) × (partWords slots ≤ length (now part) / 8) ⌝ }
-    ensures { λ r. ⌜ r ≡ sound clients object inner (mem places (block slots) (view (now (part .entry)))) ⌝ }
+    ensures { λ r. ⌜ r ≡ sound clients object inner (mem places (server-block slots) (view (now (part .entry)))) ⌝ }
 {
     let word = get(part, slots, lock_place(object));
     if lock::is_lock(word, clients) {

@@ -1,7 +1,7 @@
 // The word of a lock, and what client c may do with it.
 ghost use mathlib.Core.Path.{_≡_};
 ghost use Prim.Native.Nat.{_<_, _≤_};
-ghost use Rattle.server.specs.Lock.{busy, locked, unlocked, in-range};
+ghost use Rattle.server.specs.Lock.{busy, locked, unlocked, lock-in-range};
 use memory::bits;
 
 // What an object is asked for.
@@ -57,7 +57,7 @@ pub fn without_lock(word: u64, client: u32) -> u64
 // Are those that the word names clients of a store with so many?
 pub fn is_lock(word: u64, clients: u32) -> bool
     requires { ⌜ clients ≤ 16 ⌝ }
-    ensures { λ r. ⌜ r ≡ in-range clients word ⌝ }
+    ensures { λ r. ⌜ r ≡ lock-in-range clients word ⌝ }
 {
     if word >= 65536 {
         return word < 65536 + clients as u64;

@@ -5,7 +5,7 @@ ghost use lib.ListN.{length};
 ghost use Rattle.memory.specs.Word.{view};
 ghost use Rattle.layout.specs.Space.{Valid, mem};
 ghost use Rattle.layout.specs.Step.{Does, silent};
-ghost use Rattle.server.specs.Layout.{places, block, partWords, Lies, putStep};
+ghost use Rattle.server.specs.Layout.{places, server-block, partWords, Lies, putStep};
 
 // "The metadata (root name and its version) is on every server. Every server also has a table of versions for all slots
 // .. a node's own version is at its home server. Each slot has a taken flag; a server's flags are its vector." And a lock
@@ -37,7 +37,7 @@ pub fn part_words(slots: usize) -> usize
 
 // The word at which a place lies.
 pub fn index(slots: usize, place: Place) -> usize
-    requires { ⌜ (slots ≤ 1024) × Valid places (block slots) place ⌝ }
+    requires { ⌜ (slots ≤ 1024) × Valid places (server-block slots) place ⌝ }
     ensures { λ r. ⌜ Lies slots place r ⌝ }
 {
     match place {
@@ -54,16 +54,16 @@ pub fn index(slots: usize, place: Place) -> usize
 
 // The word at a place.
 pub fn get(part: &[u8], slots: usize, place: Place) -> u64
-    requires { ⌜ (slots ≤ 1024) × Valid places (block slots) place × (partWords slots ≤ length (now part) / 8) ⌝ }
-    ensures { λ r. ⌜ r ≡ mem places (block slots) (view (now (part .entry))) place ⌝ }
+    requires { ⌜ (slots ≤ 1024) × Valid places (server-block slots) place × (partWords slots ≤ length (now part) / 8) ⌝ }
+    ensures { λ r. ⌜ r ≡ mem places (server-block slots) (view (now (part .entry))) place ⌝ }
 {
     memory::read_word(part, index(slots, place))
 }
 
 // The word at a place becomes v.
 pub fn put(part: &mut [u8], slots: usize, place: Place, v: u64)
-    requires { ⌜ (slots ≤ 1024) × Valid places (block slots) place × (partWords slots ≤ length (now part) / 8) ⌝ }
-    ensures { λ _. ⌜ Does places (block slots) (putStep place v) silent (view (now (part .entry))) 0 (view (now (part .exit))) ⌝ }
+    requires { ⌜ (slots ≤ 1024) × Valid places (server-block slots) place × (partWords slots ≤ length (now part) / 8) ⌝ }
+    ensures { λ _. ⌜ Does places (server-block slots) (putStep place v) silent (view (now (part .entry))) 0 (view (now (part .exit))) ⌝ }
 {
     memory::write_word(part, index(slots, place), v);
 }

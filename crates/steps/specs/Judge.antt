@@ -5,7 +5,7 @@ use Prim.Native.Nat.{ℕ, _-_}
 use lib.Dec.{leb, ltb}
 use Rattle.memory.specs.Bit.{bit}
 use Rattle.server.specs.Object.{lock-of}
-use Rattle.server.specs.Lock.{in-range}
+use Rattle.server.specs.Lock.{lock-in-range}
 use Rattle.server.specs.Check.{sound}
 use Rattle.client.specs.declared.part.Set.the-variants.{Reads, Writes}
 use Rattle.client.specs.Layout.{ClientWord, phase, participants, prepared, writes-count}
@@ -17,7 +17,7 @@ use Rattle.client.specs.Drops.{version-of}
 use Rattle.steps.specs.declared.sizes.Sizes.{Sizes}
 use Rattle.steps.specs.Whole.{Address, server, client}
 use Rattle.steps.specs.Refusal.{between}
-use Rattle.steps.specs.Uses.{Item, object, read-item, checked-at, locked-at}
+use Rattle.steps.specs.Uses.{Item, item-object, read-item, checked-at, locked-at}
 
 module _ (z : Sizes) (m : Address → ℕ) where
   -- "a lock's transaction": the client's, after its commit
@@ -38,29 +38,29 @@ module _ (z : Sizes) (m : Address → ℕ) where
   -- the lock of an object at the server s; and what is checked beside it
   unfoldable pub lock-fits : ℕ → Item → Bool
   lock-fits s i =
-      let w = m (server s (lock-of (object i))) in
-      in-range (z .clients) w && holders-fit (i .number) w
+      let w = m (server s (lock-of (item-object i))) in
+      lock-in-range (z .clients) w && holders-fit (i .number) w
 
   unfoldable pub check-fits : ℕ → Item → Bool
-  check-fits s i = sound (z .clients) (object i) (i .inner-read) (λ a. m (server s a)) && lock-fits s i
+  check-fits s i = sound (z .clients) (item-object i) (i .inner-read) (λ a. m (server s a)) && lock-fits s i
 
 module _ (z : Sizes) (m : Address → ℕ) (c : ℕ) where
   abbrev mine : ClientWord → ℕ
   mine a = m (client c a)
 
   -- where metadata and inner nodes are checked
-  abbrev pub lowest : ℕ
-  lowest = lowest-of (z .servers) (mine participants)
+  abbrev pub lowest-participant : ℕ
+  lowest-participant = lowest-of (z .servers) (mine participants)
 
   -- what a prepare at s reads there
   unfoldable pub prepare-fits : ℕ → Bool
   prepare-fits s =
       all-below (count mine Reads)
-      (λ n. let i = read-item mine n in not (locked-at lowest s i) || cond (checked-at lowest s i) (check-fits z m s i) (lock-fits z m s i))
+      (λ n. let i = read-item mine n in not (locked-at lowest-participant s i) || cond (checked-at lowest-participant s i) (check-fits z m s i) (lock-fits z m s i))
 
   -- what is unlocked at s, and at every server at which the transaction is prepared
   unfoldable pub unlock-fits : ℕ → Bool
-  unlock-fits s = all-below (count mine Reads) (λ n. let i = read-item mine n in not (locked-at lowest s i) || lock-fits z m s i)
+  unlock-fits s = all-below (count mine Reads) (λ n. let i = read-item mine n in not (locked-at lowest-participant s i) || lock-fits z m s i)
 
   unfoldable pub abort-fits : Bool
   abort-fits = all-below (z .servers) (λ s. not (bit (mine prepared) s) || unlock-fits s)

@@ -6,7 +6,7 @@ use Rattle.client.specs.Record.{in-store}
 use Rattle.steps.specs.declared.sizes.Sizes.{Sizes}
 use Rattle.steps.specs.declared.step.Step.{Step}
 use Rattle.steps.specs.Whole.{Address, client, tree-sizes}
-use Rattle.steps.specs.Refusal.{kind-of, fits}
+use Rattle.steps.specs.Refusal.{kind-of, state-fits}
 
 pub record Passed (z : Sizes) (k : Step) (m : Address → ℕ) : Type 0 where
   pub known-kind : k .kind ≤ 7
@@ -16,4 +16,4 @@ pub record Passed (z : Sizes) (k : Step) (m : Address → ℕ) : Type 0 where
   pub known-server : k .kind ≡ 1 → k .op ≡ 6 → k .server < z .servers
   pub known-participant : 4 ≤ k .kind → k .kind ≤ 5 → k .server < z .servers
   pub known-node : k .kind ≡ 1 → k .op ≡ 6 → in-store (tree-sizes z) (k .key) ≡ true
-  pub fitting : fits (λ a. m (client (k .client) a)) (k .server) (kind-of (k .kind)) ≡ true
+  pub fitting : state-fits (λ a. m (client (k .client) a)) (k .server) (kind-of (k .kind)) ≡ true

@@ -19,8 +19,8 @@ pub record Row : Type 0 where
   pub number : ℕ
   pub holds : Bool
 
-abbrev pub row : ℕ → Bool → Row
-row n b = record { number = n; holds = b }
+abbrev pub refused-if : ℕ → Bool → Row
+refused-if n b = record { number = n; holds = b }
 
 -- the first number that holds; 0 if none does
 unfoldable pub first : List Row → ℕ
@@ -42,11 +42,11 @@ allowed? z = between 1 8 (z .servers) && between 1 1024 (z .slots) && between 1 
 abbrev pub of-memory : ℕ → Sizes → List Row
 of-memory bytes z =
     -- "1. The lent memory is shorter than 64 bytes."
-    row 1 (ltb bytes 64)
+    refused-if 1 (ltb bytes 64)
     -- "2. A size, given or in the head, is outside its range."
-    ∷ row 2 (not (allowed? z))
+    ∷ refused-if 2 (not (allowed? z))
     -- "3. The memory is shorter than the sizes call for."
-    ∷ row 3 (ltb bytes (length-for z))
+    ∷ refused-if 3 (ltb bytes (length-for z))
     ∷ []
 
 -- "begin needs no transaction; give and commit need one not yet committing with no operation waiting; work a waiting one; prepare,
@@ -56,16 +56,16 @@ module _ (m : ClientWord → ℕ) (s : ℕ) where
   abbrev pub unfinished : ClientWord → Bool
   unfinished done = bit (m participants) s && not (bit (m done) s)
 
-  unfoldable pub fits : Kind → Bool
-  fits Begin = eqb (m phase) 0
-  fits Give = eqb (m phase) 1 && eqb (m op-number) 0
-  fits Work = eqb (m phase) 1 && not (eqb (m op-number) 0)
-  fits Commit = eqb (m phase) 1 && eqb (m op-number) 0
-  fits Prepare = eqb (m phase) 2 && unfinished prepared
-  fits Apply = eqb (m phase) 3 && unfinished applied
-  fits GiveUp = between 1 2 (m phase)
-  fits Lost = true
-  fits Unknown = true
+  unfoldable pub state-fits : Kind → Bool
+  state-fits Begin = eqb (m phase) 0
+  state-fits Give = eqb (m phase) 1 && eqb (m op-number) 0
+  state-fits Work = eqb (m phase) 1 && not (eqb (m op-number) 0)
+  state-fits Commit = eqb (m phase) 1 && eqb (m op-number) 0
+  state-fits Prepare = eqb (m phase) 2 && unfinished prepared
+  state-fits Apply = eqb (m phase) 3 && unfinished applied
+  state-fits GiveUp = between 1 2 (m phase)
+  state-fits Lost = true
+  state-fits Unknown = true
 
 -- the step, where m holds the memory
 abbrev pub of-step : Sizes → Step → (Address → ℕ) → List Row
@@ -73,17 +73,17 @@ of-step z k m =
     let gives = eqb (k .kind) 1 in
     let migrates = gives && eqb (k .op) 6 in
     -- "4. The kind is above 7."
-    row 4 (ltb 7 (k .kind))
+    refused-if 4 (ltb 7 (k .kind))
     -- "5. The client is not in the store."
-    ∷ row 5 (leb (z .clients) (k .client))
+    ∷ refused-if 5 (leb (z .clients) (k .client))
     -- "6. A given op is not 1 to 6."
-    ∷ row 6 (gives && not (between 1 6 (k .op)))
+    ∷ refused-if 6 (gives && not (between 1 6 (k .op)))
     -- "7. The server of a migrate, prepare or apply is not in the store."
-    ∷ row 7 ((migrates || between 4 5 (k .kind)) && leb (z .servers) (k .server))
+    ∷ refused-if 7 ((migrates || between 4 5 (k .kind)) && leb (z .servers) (k .server))
     -- "8. A migrated node's name is not in the store."
-    ∷ row 8 (migrates && not (in-store (tree-sizes z) (k .key)))
+    ∷ refused-if 8 (migrates && not (in-store (tree-sizes z) (k .key)))
     -- "9. The client's state doesn't fit"
-    ∷ row 9 (not (fits (λ a. m (client (k .client) a)) (k .server) (kind-of (k .kind))))
+    ∷ refused-if 9 (not (state-fits (λ a. m (client (k .client) a)) (k .server) (kind-of (k .kind))))
     ∷ []
 
 -- what opening refuses, and of a step all but 10

@@ -16,14 +16,14 @@ use Rattle.server.specs.declared.place.Place.{Place}
 use Rattle.server.specs.declared.lock.Use.the-variants.{Fetch}
 use Rattle.server.specs.Layout.{places}
 use Rattle.server.specs.Object.{object-of, named}
-use Rattle.server.specs.Check.{can-check, held, checked, reason}
+use Rattle.server.specs.Check.{can-check, held, checked, finding-reason}
 use Rattle.server.specs.Store.{lock-step, unlock-step, metadata-step, flag-step, node-step}
 use Rattle.server.specs.HandOut.{metadata-at, metadata-sound, vector-at}
 use Rattle.client.specs.declared.part.Set.the-variants.{Reads, Writes}
 use Rattle.client.specs.Layout.{ClientWord, client-words, phase, participants, prepared, applied, reads-count}
 use Rattle.nodes.specs.Stored.{node-of}
 use Rattle.client.specs.Record.{by-number, first-slot}
-use Rattle.nodes.specs.Range.{in-range}
+use Rattle.nodes.specs.Range.{node-in-range}
 use Rattle.client.specs.Sets.{count, record-at, number-at}
 use Rattle.client.specs.Items.{all-below, inner-before-after}
 use Rattle.client.specs.Fits.{client-fits}
@@ -43,8 +43,8 @@ use Rattle.steps.specs.declared.outcome.Outcome.{Outcome}
 use Rattle.steps.specs.declared.outcome.Outcome.the-variants.{Refused, Done, Fetched, Answered, Prepared, Decided, Applied, Committed, Aborted}
 use Rattle.steps.specs.Whole.{Address, server, client, whole, tree-sizes}
 use Rattle.steps.specs.Refusal.{kind-of, refusal}
-use Rattle.steps.specs.Uses.{Item, those, all, read-item, read-items, used-items, object, checked-at, locked-at, use-of, deciding}
-use Rattle.steps.specs.Judge.{lock-fits, check-fits, lowest, prepare-fits, unlock-fits, abort-fits, versions-fit}
+use Rattle.steps.specs.Uses.{Item, those, all, read-item, read-items, used-items, item-object, checked-at, locked-at, use-of, deciding}
+use Rattle.steps.specs.Judge.{lock-fits, check-fits, lowest-participant, prepare-fits, unlock-fits, abort-fits, versions-fit}
 use Rattle.operations.specs.Object as O
 use Rattle.server.specs.declared.place.Place.the-variants as place
 use Rattle.client.specs.Life as Life
@@ -67,12 +67,12 @@ if-fit ok d = cond ok d (refuse 10)
 
 -- at the server s, the objects read that are locked there, in the order of the read set: locked, unlocked
 abbrev pub lock-each : (ClientWord → ℕ) → ℕ → ℕ → ℕ → (Place → ℕ) → List (Put Place)
-lock-each m c lowest s =
-    sweep places (λ n p. let i = read-item m n in cond (locked-at lowest s i) (lock-step (object i) (i .written) c p) []) (count m Reads)
+lock-each m c lowest-participant s =
+    sweep places (λ n p. let i = read-item m n in cond (locked-at lowest-participant s i) (lock-step (item-object i) (i .written) c p) []) (count m Reads)
 
 abbrev pub unlock-each : (ClientWord → ℕ) → ℕ → ℕ → ℕ → (Place → ℕ) → List (Put Place)
-unlock-each m c lowest s =
-    sweep places (λ n p. let i = read-item m n in cond (locked-at lowest s i) (unlock-step (object i) c p) []) (count m Reads)
+unlock-each m c lowest-participant s =
+    sweep places (λ n p. let i = read-item m n in cond (locked-at lowest-participant s i) (unlock-step (item-object i) c p) []) (count m Reads)
 
 -- stores at every server below n
 unfoldable pub at-servers : ℕ → (ℕ → List (Put Address)) → List (Put Address)
@@ -130,10 +130,10 @@ module _ (z : Sizes) (m : Address → ℕ) (c : ℕ) where
   -- ---- ABORT: "An abort unlocks everywhere and drops copies of all objects read"; us came into use in this step
   abbrev pub unlocked-everywhere : List (Put Address)
   unlocked-everywhere =
-      at-servers (z .servers) (λ s. cond (bit (mine prepared) s) (in-server s (unlock-each mine c (lowest z m c) s)) [])
+      at-servers (z .servers) (λ s. cond (bit (mine prepared) s) (in-server s (unlock-each mine c (lowest-participant z m c) s)) [])
 
   abbrev pub aborting : List ℕ → List (Put Address)
-  aborting us = unlocked-everywhere ++ in-client (Life.abort us)
+  aborting us = unlocked-everywhere ++ in-client (Life.abort-part us)
 
   unfoldable pub abort : ℕ → List ℕ → Did
   abort y us = if-fit (abort-fits z m c) (did (Aborted y) (aborting us))
@@ -143,16 +143,16 @@ module _ (z : Sizes) (m : Address → ℕ) (c : ℕ) where
   begin = did Done (in-client (Life.reset 1))
 
   unfoldable pub give : Step → Did
-  give k = did Done (in-client (Life.give (k .op) (k .key) (k .value) (k .server)))
+  give k = did Done (in-client (Life.give-part (k .op) (k .key) (k .value) (k .server)))
 
   -- ---- WORK: what a fetch hands over, and whether it is in range
   module _ (us : List ℕ) where
     -- "A fetch checks at that server what the transaction has read": the objects read that the server can check
     abbrev pub fetch-items : ℕ → List Item
-    fetch-items s = those (λ i. can-check s (object i) (i .inner-read)) (read-items mine ++ used-items mine us)
+    fetch-items s = those (λ i. can-check s (item-object i) (i .inner-read)) (read-items mine ++ used-items mine us)
 
     abbrev pub fetch-finding : ℕ → Item → ℕ × ℕ
-    fetch-finding s i = (i .number, reason (checked (object i) (i .inner-read) (i .mark) c Fetch (theirs s)))
+    fetch-finding s i = (i .number, finding-reason (checked (item-object i) (i .inner-read) (i .mark) c Fetch (theirs s)))
 
     -- the stores, once the copies in use have become read items
     abbrev pub handed : ((ClientWord → ℕ) → List (Put ClientWord)) → List (Put Address)
@@ -172,7 +172,7 @@ module _ (z : Sizes) (m : Address → ℕ) (c : ℕ) where
         fetch-object s 0 out (metadata-sound (z .servers) (z .slots) (theirs s))
         (fetched-meta (metadata-at (theirs s) .root) (metadata-at (theirs s) .version))
     hand-over (O.object (O.node n)) s out =
-        fetch-object s (1 + n) out (in-range (node-at (theirs s) n)) (fetched-node n (node-at (theirs s) n))
+        fetch-object s (1 + n) out (node-in-range (node-at (theirs s) n)) (fetched-node n (node-at (theirs s) n))
     hand-over (O.object (O.flag n)) s out = did out (handed (fetched-vector s (vector-at (theirs s))))
     hand-over (O.vector s′) s out = did out (handed (fetched-vector s (vector-at (theirs s))))
     hand-over (O.fetched s′) s out = did out (handed (fetched-vector s (vector-at (theirs s))))
@@ -202,7 +202,7 @@ module _ (z : Sizes) (m : Address → ℕ) (c : ℕ) where
 
   -- ---- APPLY at the server s
   abbrev pub applying : ℕ → List (Put Address)
-  applying s = in-server s (andThen places (store-all mine s) (unlock-each mine c (lowest z m c) s))
+  applying s = in-server s (andThen places (store-all mine s) (unlock-each mine c (lowest-participant z m c) s))
 
   abbrev pub all-applied : ℕ → Bool
   all-applied s = covers (z .servers) (mine participants) (putBit true (mine applied) s)
@@ -224,15 +224,15 @@ module _ (z : Sizes) (m : Address → ℕ) (c : ℕ) where
   -- of an object that is locked there: what is checked, else the lock alone
   abbrev pub prepare-reason : ℕ → Item → ℕ
   prepare-reason s i =
-      cond (checked-at (lowest z m c) s i) (reason (checked (object i) (i .inner-read) (i .mark) c (use-of i) (theirs s)))
-      (cond (held (object i) c (use-of i) (theirs s)) 2 0)
+      cond (checked-at (lowest-participant z m c) s i) (finding-reason (checked (item-object i) (i .inner-read) (i .mark) c (use-of i) (theirs s)))
+      (cond (held (item-object i) c (use-of i) (theirs s)) 2 0)
 
   abbrev pub prepare-finding : ℕ → Item → ℕ × ℕ
-  prepare-finding s i = (i .number, cond (locked-at (lowest z m c) s i) (prepare-reason s i) 0)
+  prepare-finding s i = (i .number, cond (locked-at (lowest-participant z m c) s i) (prepare-reason s i) 0)
 
   -- the locks, and the note that this server has prepared
   abbrev pub preparing : ℕ → List (Put Address)
-  preparing s = in-server s (lock-each mine c (lowest z m c) s) ++ in-client (noted prepared s)
+  preparing s = in-server s (lock-each mine c (lowest-participant z m c) s) ++ in-client (noted prepared s)
 
   abbrev pub all-prepared : ℕ → Bool
   all-prepared s = covers (z .servers) (mine participants) (putBit true (mine prepared) s)
@@ -271,7 +271,7 @@ module _ (z : Sizes) (m : Address → ℕ) (c : ℕ) where
   unfoldable pub lose : Did
   lose =
       cond (eqb (m (client c phase)) 0) (forgetting m)
-      (cond (eqb (m (client c phase)) 3) (did Done (in-client z m c Life.lose))
+      (cond (eqb (m (client c phase)) 3) (did Done (in-client z m c Life.lose-part))
       (if-fit (abort-fits z m c) (lose-undecided (abort z m c 7 []))))
 
   -- ---- by kind

@@ -59,8 +59,8 @@ module _ (m : ClientWord → ℕ) where
   unfoldable pub used-items : List ℕ → List Item
   used-items us = map (λ x. item-of x (copied m x .node)) us
 
-abbrev pub object : Item → Object
-object i = object-of (i .number)
+abbrev pub item-object : Item → Object
+item-object i = object-of (i .number)
 
 -- "Metadata and inner nodes are checked at the lowest participant, and at every one if written"; other nodes and flags at home
 unfoldable pub checked-at : ℕ → ℕ → Item → Bool

@@ -3,7 +3,7 @@ use mathlib.Core.Path.{_≡_, refl}
 use mathlib.Core.List.{List, [], _∷_}
 use Prim.Native.Nat.{ℕ, _+_, _*_, _≤_}
 use lib.ListN.{getD, drop}
-use Rattle.layout.specs.Block.{Block, words, times, next, end, size}
+use Rattle.layout.specs.Block.{Block, words, times, followed-by, end, size}
 use Rattle.layout.specs.Space.{Coding}
 use Rattle.server.specs.declared.place.Place.{Place}
 use Rattle.client.specs.Layout.{ClientWord, client-code, client-back, client-again, client-block}
@@ -18,7 +18,7 @@ pub record Allowed (z : Sizes) : Type 0 where
   pub clients : (1 ≤ z .clients) × (z .clients ≤ 16)
 
 -- what the tree's rules know of the sizes
-abbrev pub tree-sizes : Sizes → S.Sizes
+abbrev pub tree-sizes : Sizes → S.TreeSizes
 tree-sizes z = record { servers = z .servers; slots = z .slots }
 
 -- a word of the memory: of the head, of a server's part, of a client's part
@@ -28,19 +28,19 @@ pub data Address : Type 0 where
   client : ℕ → ClientWord → Address
 
 abbrev pub block : Sizes → Block
-block z = next (words 8) (next (times (z .servers) (Srv.block (z .slots))) (next (times (z .clients) client-block) end))
+block z = followed-by (words 8) (followed-by (times (z .servers) (Srv.server-block (z .slots))) (followed-by (times (z .clients) client-block) end))
 
 abbrev pub code : Address → List ℕ
 code (head i) = 0 ∷ i ∷ []
-code (server s a) = 1 ∷ s ∷ Srv.code a
+code (server s a) = 1 ∷ s ∷ Srv.place-code a
 code (client c a) = 2 ∷ c ∷ client-code a
 
 abbrev pub back : List ℕ → Address
-back p = let x = getD p 1 0 in getD (head x ∷ server x (Srv.back (drop 2 p)) ∷ client x (client-back (drop 2 p)) ∷ []) (getD p 0 0) (head x)
+back p = let x = getD p 1 0 in getD (head x ∷ server x (Srv.place-back (drop 2 p)) ∷ client x (client-back (drop 2 p)) ∷ []) (getD p 0 0) (head x)
 
 pub again : (a : Address) → back (code a) ≡ a
 again (head i) = refl
-again (server s a) = rw (Srv.again a)
+again (server s a) = rw (Srv.place-again a)
 again (client c a) = rw (client-again a)
 
 abbrev pub whole : Coding Address
@@ -55,7 +55,7 @@ length-for z = 8 * words-for z
 
 -- the word at which a server's part begins, and a client's
 unfoldable pub server-at : Sizes → ℕ → ℕ
-server-at z s = 8 + s * size (Srv.block (z .slots))
+server-at z s = 8 + s * size (Srv.server-block (z .slots))
 
 unfoldable pub client-at : Sizes → ℕ → ℕ
-client-at z c = 8 + z .servers * size (Srv.block (z .slots)) + c * size client-block
+client-at z c = 8 + z .servers * size (Srv.server-block (z .slots)) + c * size client-block

@@ -10,7 +10,7 @@ use Rattle.nodes.specs.declared.found.Found.{Found}
 use Rattle.nodes.specs.declared.found.Found.the-variants.{At, Absent}
 use Rattle.nodes.specs.Node.{free-node}
 use Rattle.operations.specs.Object.{Obj, meta, node, flag, object, Val, Writes, hit}
-use Rattle.operations.specs.Slot.{Sizes}
+use Rattle.operations.specs.Slot.{TreeSizes}
 use Rattle.operations.specs.Path.{Plan, see}
 use Rattle.client.specs.declared.answer.How.{How}
 use Rattle.walk.specs.declared.walk.Asked.{Asked}
@@ -61,7 +61,7 @@ pub record OwnGood (x : List ℕ) : Type 0 where
   pub small : (o : Obj) (i : ℕ) → own-find x (number o) ≡ At i → Small o (own-record x i)
 
 -- it holds the writes w: by object, and entry for entry
-pub record Holds (z : Sizes) (x : List ℕ) (w : Writes) : Type 0 where
+pub record Holds-writes (z : TreeSizes) (x : List ℕ) (w : Writes) : Type 0 where
   pub entries : own-list x ≡ entered w
   pub same : (o : Obj) → object-in-store z o ≡ true → own-value x o (own-find x (number o)) ≡ write-of w o
   pub out : (o : Obj) → object-in-store z o ≡ false → write-of w o ≡ none
@@ -78,27 +78,27 @@ pub record Noted (m : ClientWord → ℕ) (u : List ℕ) : Type 0 where
 
 -- ---- what a question comes to
 -- for every way on, the walk of the plan is what was told, or goes on with the record's value
-pub record Asks (z : Sizes) (m : ClientWord → ℕ) (w : Writes) (o : Obj) (u : List ℕ) (s : Stop) (r : Node) (u′ : List ℕ) : Type 0 where
+pub record Asks (z : TreeSizes) (m : ClientWord → ℕ) (w : Writes) (o : Obj) (u : List ℕ) (s : Stop) (r : Node) (u′ : List ℕ) : Type 0 where
   pub same : (k : Val → Plan) → walked z m (see w o k) (used-in u) ≡ carry s (used-in u′) (λ us. walked z m (k (value-of o r)) us)
 
 -- an object that is in the store, by its number; l says what is lacking
-pub record Numbered (z : Sizes) (m : ClientWord → ℕ) (x u : List ℕ) (n : ℕ) (l s : Stop) (r : Node) (u′ : List ℕ) : Type 0 where
-  pub asks : (o : Obj) → number o ≡ n → object-in-store z o ≡ true → lack (object o) ≡ l → (w : Writes) → Holds z x w → Asks z m w o u s r u′
+pub record Numbered (z : TreeSizes) (m : ClientWord → ℕ) (x u : List ℕ) (n : ℕ) (l s : Stop) (r : Node) (u′ : List ℕ) : Type 0 where
+  pub asks : (o : Obj) → number o ≡ n → object-in-store z o ≡ true → lack (object o) ≡ l → (w : Writes) → Holds-writes z x w → Asks z m w o u s r u′
   pub noted : Noted m u′
   pub long : length u′ ≡ length u
   pub small : (o : Obj) → number o ≡ n → object-in-store z o ≡ true → Small o r
 
 -- an object that is not in the store
 pub record Outside (m : ClientWord → ℕ) (u : List ℕ) (s : Stop) (r : Node) (u′ : List ℕ) : Type 0 where
-  pub asks : (z : Sizes) (x : List ℕ) (o : Obj) → object-in-store z o ≡ false → (w : Writes) → Holds z x w → Asks z m w o u s r u′
+  pub asks : (z : TreeSizes) (x : List ℕ) (o : Obj) → object-in-store z o ≡ false → (w : Writes) → Holds-writes z x w → Asks z m w o u s r u′
   pub noted : Noted m u′
   pub long : length u′ ≡ length u
   pub stops : goes s ≡ false
   pub small : (o : Obj) → Small o r
 
 -- any object, over whatever writes the lent list holds
-pub record Answer (z : Sizes) (m : ClientWord → ℕ) (x u : List ℕ) (o : Obj) (s : Stop) (r : Node) (u′ : List ℕ) : Type 0 where
-  pub asks : (w : Writes) → Holds z x w → Asks z m w o u s r u′
+pub record Answer (z : TreeSizes) (m : ClientWord → ℕ) (x u : List ℕ) (o : Obj) (s : Stop) (r : Node) (u′ : List ℕ) : Type 0 where
+  pub asks : (w : Writes) → Holds-writes z x w → Asks z m w o u s r u′
   pub noted : Noted m u′
   pub long : length u′ ≡ length u
   pub inside : goes s ≡ true → object-in-store z o ≡ true

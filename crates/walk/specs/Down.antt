@@ -9,7 +9,7 @@ use Rattle.nodes.specs.Node.{free-node}
 use Rattle.nodes.specs.Entries.{entriesOf}
 use Rattle.nodes.specs.Kept.{Whole}
 use Rattle.operations.specs.Object.{meta, node, object, Writes}
-use Rattle.operations.specs.Slot.{Sizes}
+use Rattle.operations.specs.Slot.{TreeSizes}
 use Rattle.operations.specs.Entry.{Entries}
 use Rattle.operations.specs.Path.{Plan, kid, when-root, at-root, Branch, Cont, down, from-root}
 use Rattle.walk.specs.declared.down.Turn.{Turn}
@@ -23,12 +23,12 @@ use Rattle.client.specs.Record.{in-store}
 use Rattle.client.specs.Lent.{used-in}
 use Rattle.walk.specs.Entries.{opens, below, Inner, branch-of, Below}
 use Rattle.walk.specs.Walk.{goes, walked, carry}
-use Rattle.walk.specs.Ask.{SmallNode, Holds, Noted, Answer}
+use Rattle.walk.specs.Ask.{SmallNode, Holds-writes, Noted, Answer}
 use Rattle.plans.specs.Plan as P
 
 -- a node of level l below the root, for any key lo from which it holds keys
-pub record Kid (z : Sizes) (m : ClientWord → ℕ) (x u : List ℕ) (l n : ℕ) (s : Stop) (r : Node) (u′ : List ℕ) : Type 0 where
-  pub asks : (w : Writes) → Holds z x w → (lo : ℕ) (k : Entries → Plan)
+pub record Kid (z : TreeSizes) (m : ClientWord → ℕ) (x u : List ℕ) (l n : ℕ) (s : Stop) (r : Node) (u′ : List ℕ) : Type 0 where
+  pub asks : (w : Writes) → Holds-writes z x w → (lo : ℕ) (k : Entries → Plan)
       → walked z m (kid w l lo n k) (used-in u) ≡ carry s (used-in u′) (λ us. walked z m (k (entriesOf r lo)) us)
   pub noted : Noted m u′
   pub small : SmallNode r
@@ -38,7 +38,7 @@ pub record Kid (z : Sizes) (m : ClientWord → ℕ) (x u : List ℕ) (l n : ℕ)
   pub inside : goes s ≡ true → in-store z n ≡ true
 
 -- the root of that name
-pub record RootMet (z : Sizes) (m : ClientWord → ℕ) (u : List ℕ) (n : ℕ) (s : Stop) (r : Node) (u′ : List ℕ) : Type 0 where
+pub record RootMet (z : TreeSizes) (m : ClientWord → ℕ) (u : List ℕ) (n : ℕ) (s : Stop) (r : Node) (u′ : List ℕ) : Type 0 where
   pub asks : (k : ℕ → Entries → Plan)
       → walked z m (at-root n k) (used-in u) ≡ carry s (used-in u′) (λ us. walked z m (k (r .level) (entriesOf r 0)) us)
   pub noted : Noted m u′
@@ -50,7 +50,7 @@ pub record RootMet (z : Sizes) (m : ClientWord → ℕ) (u : List ℕ) (n : ℕ)
 
 -- whatever node was asked for, it has been judged as a child
 pub record Checked (l : ℕ) (a r : Asked) : Type 0 where
-  pub met : (z : Sizes) (m : ClientWord → ℕ) (x u : List ℕ) (n : ℕ) (u′ : List ℕ) → Answer z m x u (node n) (a .stop) (a .node) u′ → Kid z m x u l n (r .stop) (r .node) u′
+  pub met : (z : TreeSizes) (m : ClientWord → ℕ) (x u : List ℕ) (n : ℕ) (u′ : List ℕ) → Answer z m x u (node n) (a .stop) (a .node) u′ → Kid z m x u l n (r .stop) (r .node) u′
 
 -- a place of the path that is not passed
 abbrev pub blank : Turn
@@ -83,13 +83,13 @@ All [] = Unit {0}
 All (b ∷ bs) = Followed b × All bs
 
 -- a branch as it is linked to the node below it, of the level l and the name n: "exactly one level lower", at the child that was followed
-pub record Link (z : Sizes) (l n : ℕ) (b : Turn) : Type 0 where
+pub record Link (z : TreeSizes) (l n : ℕ) (b : Turn) : Type 0 where
   pub level : b .node .level ≡ suc l
   pub child : n ≡ getD (b .node .slots) (b .at) 0
   pub there : in-store z n ≡ true
 
 -- all the names of a path are in the store, and each branch is linked to the next
-unfoldable pub Linked : Sizes → ℕ → ℕ → List Turn → Type 0
+unfoldable pub Linked : TreeSizes → ℕ → ℕ → List Turn → Type 0
 Linked z l n [] = in-store z n ≡ true
 Linked z l n (b ∷ bs) = Link z l n b × Linked z (suc l) (b .name) bs
 
@@ -114,7 +114,7 @@ pub record Above (n : Node) (level : ℕ) : Type 0 where
   pub inner : 0 < level
 
 -- a step down from it
-pub record Lowered (z : Sizes) (m : ClientWord → ℕ) (u : List ℕ) (key level : ℕ) (n : Node) (r : Lower) (u′ : List ℕ) : Type 0 where
+pub record Lowered (z : TreeSizes) (m : ClientWord → ℕ) (u : List ℕ) (key level : ℕ) (n : Node) (r : Lower) (u′ : List ℕ) : Type 0 where
   pub asks : (stop : ℕ → Bool) → stop level ≡ false → (k : Cont) (fs : List Branch) (nm lo : ℕ)
       → walked z m (down stop key k level fs nm (entriesOf n lo)) (used-in u)
       ≡ carry (r .stop) (used-in u′) (λ us. walked z m
@@ -140,7 +140,7 @@ pub record Reached (target : ℕ) (d : Descent) : Type 0 where
   pub good : All (trail (d .path) target (d .top - target))
 
 -- the way down from a root to a level
-pub record Led (z : Sizes) (m : ClientWord → ℕ) (u : List ℕ) (key target root : ℕ) (first : Node) (d : Descent) (u′ : List ℕ) : Type 0 where
+pub record Led (z : TreeSizes) (m : ClientWord → ℕ) (u : List ℕ) (key target root : ℕ) (first : Node) (d : Descent) (u′ : List ℕ) : Type 0 where
   pub asks : (stop : ℕ → Bool) → Stops stop target → (k : Cont)
       → walked z m (down stop key k (first .level) [] root (entriesOf first 0)) (used-in u)
       ≡ carry (d .stop) (used-in u′) (λ us. walked z m
@@ -151,7 +151,7 @@ pub record Led (z : Sizes) (m : ClientWord → ℕ) (u : List ℕ) (key target r
   pub linked : in-store z root ≡ true → goes (d .stop) ≡ true → Linked z target (d .name) (trail (d .path) target (d .top - target))
 
 -- ---- from the metadata on
-pub record AtRoot (z : Sizes) (m : ClientWord → ℕ) (u : List ℕ) (r : Rooted) (u′ : List ℕ) : Type 0 where
+pub record AtRoot (z : TreeSizes) (m : ClientWord → ℕ) (u : List ℕ) (r : Rooted) (u′ : List ℕ) : Type 0 where
   pub asks : (k : ℕ → ℕ → Entries → Plan)
       → walked z m (P.ask (object meta) (λ v. when-root v (λ q. at-root q (k q)))) (used-in u)
       ≡ carry (r .stop) (used-in u′) (λ us. walked z m (k (r .name) (r .node .level) (entriesOf (r .node) 0)) us)
@@ -160,7 +160,7 @@ pub record AtRoot (z : Sizes) (m : ClientWord → ℕ) (u : List ℕ) (r : Roote
   pub inside : goes (r .stop) ≡ true → in-store z (r .name) ≡ true
 
 -- down to the leaf for a key
-pub record Descends (z : Sizes) (m : ClientWord → ℕ) (u : List ℕ) (key : ℕ) (d : Descent) (u′ : List ℕ) : Type 0 where
+pub record Descends (z : TreeSizes) (m : ClientWord → ℕ) (u : List ℕ) (key : ℕ) (d : Descent) (u′ : List ℕ) : Type 0 where
   pub asks : (k : List Branch → ℕ → Entries → Plan)
       → walked z m (from-root key k) (used-in u)
       ≡ carry (d .stop) (used-in u′) (λ us. walked z m (k (branches (trail (d .path) 0 (d .top - 0))) (d .name) (entriesOf (d .node) (low (trail (d .path) 0 (d .top - 0))))) us)

@@ -4,7 +4,7 @@ use mathlib.Core.Bool.{Bool, true, false}
 use mathlib.Core.List.{List, []}
 use Prim.Native.Nat.{ℕ, zero, suc}
 use Rattle.operations.specs.Object.{Ans, Writes}
-use Rattle.operations.specs.Slot.{Sizes}
+use Rattle.operations.specs.Slot.{TreeSizes}
 use Rattle.walk.specs.declared.walk.Stop.{Stop}
 use Rattle.client.specs.Layout.{ClientWord}
 use Rattle.client.specs.Work.{answers, worked}
@@ -21,6 +21,6 @@ only-reads (suc (suc (suc (suc (suc zero))))) = true
 only-reads (suc (suc (suc (suc (suc (suc n)))))) = false
 
 -- the walk of such an operation has ended as its work step does, and nothing is written
-pub record Looks (z : Sizes) (m : ClientWord → ℕ) (s : Stop) (u : List ℕ) : Type 0 where
+pub record Looks (z : TreeSizes) (m : ClientWord → ℕ) (s : Stop) (u : List ℕ) : Type 0 where
   pub stopped : Stopped z m s u
   pub none : (a : Ans) (w : Writes) → worked z m ≡ answers a w → w ≡ []

@@ -5,10 +5,10 @@ use mathlib.Core.Option.{Option, none, some}
 use Prim.Native.Nat.{ℕ, _-_}
 use lib.ListN.{getD}
 use Rattle.nodes.specs.declared.node.Node.{Node}
-use Rattle.nodes.specs.Find.{find}
+use Rattle.nodes.specs.Find.{key-index}
 use Rattle.nodes.specs.Node.{keysOf}
 use Rattle.operations.specs.Object.{Writes}
-use Rattle.operations.specs.Slot.{Sizes}
+use Rattle.operations.specs.Slot.{TreeSizes}
 use Rattle.operations.specs.Path.{Plan}
 use Rattle.walk.specs.declared.lookup.Pair.{Pair}
 use Rattle.walk.specs.declared.walk.Stop.{Stop}
@@ -34,11 +34,11 @@ ended s us w = record { stop = s; used = us; writes = kept s w }
 
 -- the plan that ends here with an answer
 pub record Ends (m : ClientWord → ℕ) (u : List ℕ) (a b : ℕ) (s : Stop) (u′ : List ℕ) : Type 0 where
-  pub same : (z : Sizes) (w : Writes) → walked z m (P.done ((a, b), w)) (used-in u) ≡ ended s (used-in u′) w
+  pub same : (z : TreeSizes) (w : Writes) → walked z m (P.done ((a, b), w)) (used-in u) ≡ ended s (used-in u′) w
   pub noted : Noted m u′
 
 -- a plan that writes nothing, walked to its end
-pub record Walks (z : Sizes) (m : ClientWord → ℕ) (u : List ℕ) (p : Plan) (s : Stop) (u′ : List ℕ) : Type 0 where
+pub record Walks (z : TreeSizes) (m : ClientWord → ℕ) (u : List ℕ) (p : Plan) (s : Stop) (u′ : List ℕ) : Type 0 where
   pub same : walked z m p (used-in u) ≡ told s (used-in u′)
   pub noted : Noted m u′
 
@@ -48,4 +48,4 @@ pair-at n (some i) = record { a = 1; b = getD (n .slots) i 0 }
 pair-at n none = record { a = 0; b = 0 }
 
 unfoldable pub look-in : Node → ℕ → Pair
-look-in n key = pair-at n (find (keysOf n) key)
+look-in n key = pair-at n (key-index (keysOf n) key)

@@ -9,7 +9,7 @@ use Rattle.nodes.specs.Found.{Inside}
 use Rattle.nodes.specs.Name.{name, server-of, slot-of}
 use Rattle.nodes.specs.Placement.{row}
 use Rattle.operations.specs.Object.{flag, taken, Writes}
-use Rattle.operations.specs.Slot.{Sizes, chosen, search, present, take-on}
+use Rattle.operations.specs.Slot.{TreeSizes, chosen, search, present, take-on}
 use Rattle.operations.specs.Path.{Plan}
 use Rattle.walk.specs.declared.search.Taken.{Taken}
 use Rattle.walk.specs.declared.walk.Stop.{Stop}
@@ -17,13 +17,13 @@ use Rattle.client.specs.Layout.{ClientWord}
 use Rattle.client.specs.Record.{in-store}
 use Rattle.client.specs.Lent.{used-in}
 use Rattle.walk.specs.Walk.{goes, walked, carry}
-use Rattle.walk.specs.Ask.{OwnGood, Holds, Noted}
+use Rattle.walk.specs.Ask.{OwnGood, Holds-writes, Noted}
 use Rattle.walk.specs.Vector.{slot-in}
 
 -- ---- the statements
 -- a look at the next server of a row, where "absent servers are skipped"
-pub record LookedInRow (z : Sizes) (m : ClientWord → ℕ) (x u : List ℕ) (s slot : ℕ) (t : Stop) (f : Found) (u′ : List ℕ) : Type 0 where
-  pub asks : (w : Writes) → Holds z x w → (ss : List ℕ) (k : ℕ → Plan)
+pub record LookedInRow (z : TreeSizes) (m : ClientWord → ℕ) (x u : List ℕ) (s slot : ℕ) (t : Stop) (f : Found) (u′ : List ℕ) : Type 0 where
+  pub asks : (w : Writes) → Holds-writes z x w → (ss : List ℕ) (k : ℕ → Plan)
       → walked z m (search z w slot (present (z .servers) (s ∷ ss)) k) (used-in u)
       ≡ carry t (used-in u′) (λ us. walked z m (chosen s (slot-in f) k (search z w slot (present (z .servers) ss) k)) us)
   pub near : Inside f 1024
@@ -31,16 +31,16 @@ pub record LookedInRow (z : Sizes) (m : ClientWord → ℕ) (x u : List ℕ) (s 
   pub long : length u′ ≡ length u
 
 -- the slot above a slot number that is found on the servers ss
-pub record Sought (z : Sizes) (m : ClientWord → ℕ) (x u ss : List ℕ) (slot : ℕ) (r : Taken) (u′ : List ℕ) : Type 0 where
-  pub asks : (w : Writes) → Holds z x w → (k : ℕ → Plan) → walked z m (search z w slot ss k) (used-in u) ≡ carry (r .stop) (used-in u′) (λ us. walked z m (k (r .name)) us)
+pub record Sought (z : TreeSizes) (m : ClientWord → ℕ) (x u ss : List ℕ) (slot : ℕ) (r : Taken) (u′ : List ℕ) : Type 0 where
+  pub asks : (w : Writes) → Holds-writes z x w → (k : ℕ → Plan) → walked z m (search z w slot ss k) (used-in u) ≡ carry (r .stop) (used-in u′) (λ us. walked z m (k (r .name)) us)
   pub noted : Noted m u′
   pub long : length u′ ≡ length u
 
 -- and its flag is taken
-pub record TakenOn (z : Sizes) (m : ClientWord → ℕ) (x u ss : List ℕ) (slot : ℕ) (r : Taken) (x′ u′ : List ℕ) : Type 0 where
-  pub asks : (w : Writes) → Holds z x w → (k : ℕ → Writes → Plan)
+pub record TakenOn (z : TreeSizes) (m : ClientWord → ℕ) (x u ss : List ℕ) (slot : ℕ) (r : Taken) (x′ u′ : List ℕ) : Type 0 where
+  pub asks : (w : Writes) → Holds-writes z x w → (k : ℕ → Writes → Plan)
       → walked z m (take-on z ss slot w k) (used-in u) ≡ carry (r .stop) (used-in u′) (λ us. walked z m (k (r .name) ((flag (r .name), taken true) ∷ w)) us)
-  pub holds : goes (r .stop) ≡ true → (w : Writes) → Holds z x w → Holds z x′ ((flag (r .name), taken true) ∷ w)
+  pub holds : goes (r .stop) ≡ true → (w : Writes) → Holds-writes z x w → Holds-writes z x′ ((flag (r .name), taken true) ∷ w)
   pub good : goes (r .stop) ≡ true → OwnGood x′
   pub noted : Noted m u′
   pub long : length u′ ≡ length u
@@ -48,5 +48,5 @@ pub record TakenOn (z : Sizes) (m : ClientWord → ℕ) (x u ss : List ℕ) (slo
   pub inside : goes (r .stop) ≡ true → in-store z (r .name) ≡ true
 
 -- for the node n that is split: on the servers of its home's row
-abbrev pub TakenFor : Sizes → (ClientWord → ℕ) → List ℕ → List ℕ → ℕ → Taken → List ℕ → List ℕ → Type 0
+abbrev pub TakenFor : TreeSizes → (ClientWord → ℕ) → List ℕ → List ℕ → ℕ → Taken → List ℕ → List ℕ → Type 0
 TakenFor z m x u n r x′ u′ = TakenOn z m x u (present (z .servers) (row (server-of n))) (slot-of n) r x′ u′

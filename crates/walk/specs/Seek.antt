@@ -11,7 +11,7 @@ use Rattle.nodes.specs.Place.{place}
 use Rattle.nodes.specs.Node.{keysOf}
 use Rattle.nodes.specs.Entries.{entriesOf}
 use Rattle.nodes.specs.Kept.{Whole}
-use Rattle.operations.specs.Slot.{Sizes}
+use Rattle.operations.specs.Slot.{TreeSizes}
 use Rattle.operations.specs.Entry.{Entries, next-in, previous-in, under, before}
 use Rattle.operations.specs.Path.{Plan, Branch}
 use Rattle.operations.specs.Look.{told, Visit, rightward, leftward, seek, nearest}
@@ -162,7 +162,7 @@ abbrev pub afterwards : Bool → ℕ → ℕ → List Turn → ℕ → Node → 
 afterwards right key top path level n j f =
     read-on (nearest-in right key) right level (entriesOf n j) (climb (nearest-in right key) right level (rests right (trail path level (top - level)) f))
 
-pub record ReadOn (z : Sizes) (m : ClientWord → ℕ) (u : List ℕ) (right : Bool) (key top : ℕ) (path : List Turn) (level name : ℕ) (r : Reading) (u′ : List ℕ) : Type 0 where
+pub record ReadOn (z : TreeSizes) (m : ClientWord → ℕ) (u : List ℕ) (right : Bool) (key top : ℕ) (path : List Turn) (level name : ℕ) (r : Reading) (u′ : List ℕ) : Type 0 where
   pub node : Node
   pub asks : (j : ℕ) (f : ℕ → ℕ) → walked z m (onto (nearest-in right key) right top path level name j f) (used-in u)
       ≡ carry (r .stop) (used-in u′) (λ us. walked z m (afterwards right key top path level node j f) us)
@@ -171,6 +171,6 @@ pub record ReadOn (z : Sizes) (m : ClientWord → ℕ) (u : List ℕ) (right : B
   pub leads : goes (r .stop) ≡ true → Advanced right key top path level node (r .ahead)
 
 -- ---- the leaves on that side, from a child on
-pub record Seeks (z : Sizes) (m : ClientWord → ℕ) (u : List ℕ) (right : Bool) (key top : ℕ) (path : List Turn) (level name : ℕ) (s : Stop) (u′ : List ℕ) : Type 0 where
+pub record Seeks (z : TreeSizes) (m : ClientWord → ℕ) (u : List ℕ) (right : Bool) (key top : ℕ) (path : List Turn) (level name : ℕ) (s : Stop) (u′ : List ℕ) : Type 0 where
   pub same : (j : ℕ) (f : ℕ → ℕ) → walked z m (onto (nearest-in right key) right top path level name j f) (used-in u) ≡ W.told s (used-in u′)
   pub noted : Noted m u′

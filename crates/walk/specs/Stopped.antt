@@ -2,7 +2,7 @@
 use mathlib.Core.Path.{_≡_}
 use mathlib.Core.List.{List}
 use Prim.Native.Nat.{ℕ, _-_, _≤_}
-use Rattle.operations.specs.Slot.{Sizes}
+use Rattle.operations.specs.Slot.{TreeSizes}
 use Rattle.walk.specs.declared.walk.Stop.{Stop}
 use Rattle.walk.specs.declared.walk.Stop.the-variants.{Refused, Aborts, Answers}
 use Rattle.client.specs.Layout.{ClientWord, op-number, reads-count, writes-count}
@@ -26,7 +26,7 @@ stop-of (aborted y) = Aborts y
 stop-of (answers a w) = Answers (a .0) (a .1)
 
 -- the walk has ended as the work step does, with the copies that it used
-pub record Stopped (z : Sizes) (m : ClientWord → ℕ) (s : Stop) (u : List ℕ) : Type 0 where
+pub record Stopped (z : TreeSizes) (m : ClientWord → ℕ) (s : Stop) (u : List ℕ) : Type 0 where
   pub stop : s ≡ stop-of (worked z m)
   pub used : used-in u ≡ C.walked z m .used
   pub in-use : InUse u

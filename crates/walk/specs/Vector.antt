@@ -9,7 +9,7 @@ use Rattle.nodes.specs.declared.found.Found.{Found}
 use Rattle.nodes.specs.declared.found.Found.the-variants.{At, Absent}
 use Rattle.nodes.specs.Found.{Inside}
 use Rattle.operations.specs.Object.{vector, fetched, Val, flags, Writes}
-use Rattle.operations.specs.Slot.{Sizes, chosen, search}
+use Rattle.operations.specs.Slot.{TreeSizes, chosen, search}
 use Rattle.operations.specs.Path.{Plan}
 use Rattle.walk.specs.declared.walk.Stop.{Stop}
 use Rattle.walk.specs.declared.walk.Stop.the-variants.{Going, LacksVector}
@@ -18,14 +18,14 @@ use Rattle.client.specs.Record.{sizes}
 use Rattle.client.specs.Vectors.{seen-words, is-fetched}
 use Rattle.client.specs.Lent.{used-in}
 use Rattle.walk.specs.Walk.{told, goes, walked, carry}
-use Rattle.walk.specs.Ask.{Holds, Noted}
+use Rattle.walk.specs.Ask.{Holds-writes, Noted}
 use Rattle.plans.specs.Plan as P
 use Rattle.nodes.specs.Flags as N
 
 -- ---- the statements
 -- the vector that the client has of the server s
-abbrev pub seen-vector : Sizes → (ClientWord → ℕ) → ℕ → Val
-seen-vector z m s = flags (N.flags (z .slots) (seen-words m s))
+abbrev pub seen-vector : TreeSizes → (ClientWord → ℕ) → ℕ → Val
+seen-vector z m s = flags (N.flags-in (z .slots) (seen-words m s))
 
 -- the question for it, and once it is there the one for a vector that this transaction fetched; n servers
 pub record VectorAsked (m : ClientWord → ℕ) (n : ℕ) (u : List ℕ) (s : ℕ) (t : Stop) (u′ : List ℕ) : Type 0 where
@@ -47,8 +47,8 @@ slot-in (At i) = some i
 slot-in Absent = none
 
 -- a look at the server s, the next of those that are looked at: the search goes on with the slot, or with the others
-pub record Looked (z : Sizes) (m : ClientWord → ℕ) (x u : List ℕ) (s slot : ℕ) (t : Stop) (f : Found) (u′ : List ℕ) : Type 0 where
-  pub asks : (w : Writes) → Holds z x w → (ss : List ℕ) (k : ℕ → Plan)
+pub record Looked (z : TreeSizes) (m : ClientWord → ℕ) (x u : List ℕ) (s slot : ℕ) (t : Stop) (f : Found) (u′ : List ℕ) : Type 0 where
+  pub asks : (w : Writes) → Holds-writes z x w → (ss : List ℕ) (k : ℕ → Plan)
       → walked z m (search z w slot (s ∷ ss) k) (used-in u) ≡ carry t (used-in u′) (λ us. walked z m (chosen s (slot-in f) k (search z w slot ss k)) us)
   pub there : goes t ≡ true → s < z .servers
   pub near : Inside f 1024

@@ -6,7 +6,7 @@ use lib.Dec.{ltb}
 use lib.ListN.{length, take}
 use Rattle.nodes.specs.Name.{server-of}
 use Rattle.operations.specs.Object.{meta, node, flag, Ask, object, vector, fetched, reason, Writes}
-use Rattle.operations.specs.Slot.{Sizes}
+use Rattle.operations.specs.Slot.{TreeSizes}
 use Rattle.operations.specs.Path.{Plan}
 use Rattle.walk.specs.declared.walk.Stop.{Stop}
 use Rattle.walk.specs.declared.walk.Stop.the-variants.{Going, LacksMeta, LacksNode, LacksVector, Refused, Aborts, Answers}
@@ -72,7 +72,7 @@ module _ (m : ClientWord → ℕ) where
   unfoldable pub over : List ℕ → Bool
   over us = ltb 96 (count m Reads + length us)
 
-module _ (z : Sizes) (m : ClientWord → ℕ) where
+module _ (z : TreeSizes) (m : ClientWord → ℕ) where
   unfoldable pub worked : Plan → List ℕ → Ran
   worked p us = cond (over m us) (over-run p us) (run (have z m) (fresh m) (room m) p us)
 

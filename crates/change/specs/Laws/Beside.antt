@@ -12,7 +12,7 @@ use lib.ListN.{length, take, drop, getD, set}
 use lib.Seq.{drop-cons, drop-length}
 use borrow.Author.Tests.{lt-ltb, le-ltb, eqb-true, eqb-false}
 use Rattle.base.specs.Laws.Test.{ifd-yes, ifd-no}
-use Rattle.nodes.specs.Lists.{remove}
+use Rattle.nodes.specs.Lists.{remove-at}
 use Rattle.nodes.specs.Node.{pair-at}
 use Rattle.operations.specs.Object.{no-tree, Ans, Writes}
 use Rattle.operations.specs.Entry.{Entries}
@@ -93,8 +93,8 @@ module _ (nm j : ℕ) (E : Entries) (h : suc j < length E) where
       go zero (e ∷ f ∷ E) h = refl
       go (suc j) (e ∷ f ∷ E) h = ap (λ (l : Entries). e ∷ l) (go j (f ∷ E) (omega arith))
 
-  pub right-out : (left : ℕ) → left ≡ getD E j (0, 0) .1 → with-one (pair-of nm j E) left ≡ remove (suc j) E
-  unfolding pair-of remove
+  pub right-out : (left : ℕ) → left ≡ getD E j (0, 0) .1 → with-one (pair-of nm j E) left ≡ remove-at (suc j) E
+  unfolding pair-of remove-at
   right-out left pl = rw (pl, add-one (suc j)) (go j E h)
     where
       go : (j : ℕ) (E : Entries) → suc j < length E → take j E ++ (getD E j (0, 0) .0, getD E j (0, 0) .1) ∷ drop (suc (suc j)) E ≡ take (suc j) E ++ drop (suc (suc j)) E

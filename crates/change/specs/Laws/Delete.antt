@@ -12,14 +12,14 @@ use Rattle.nodes.specs.declared.found.Found.{Found}
 use Rattle.nodes.specs.declared.found.Found.the-variants.{At, Absent}
 use Rattle.nodes.specs.Found.{found, Inside}
 use Rattle.nodes.specs.Laws.Found.{found-some, found-none}
-use Rattle.nodes.specs.Lists.{remove}
+use Rattle.nodes.specs.Lists.{remove-at}
 use Rattle.nodes.specs.Laws.Lists.{length-remove}
-use Rattle.nodes.specs.Find.{find}
+use Rattle.nodes.specs.Find.{key-index}
 use Rattle.nodes.specs.Node.{keysOf, made}
 use Rattle.nodes.specs.Entries.{entriesOf, wide-entries}
 use Rattle.nodes.specs.Change.{take-out}
 use Rattle.nodes.specs.Laws.Kept.{take-out-entries}
-use Rattle.operations.specs.Slot.{Sizes}
+use Rattle.operations.specs.Slot.{TreeSizes}
 use Rattle.operations.specs.Entry.{index}
 use Rattle.operations.specs.Change.{delete-at, delete-plan}
 use Rattle.walk.specs.declared.down.Descent.{Descent}
@@ -42,12 +42,12 @@ use Rattle.change.specs.Delete.{delete-in}
 module _ (n : Node) (f : AtLeaf n) (i : ℕ) (h : i < n .count) where
   out-few : take-out n i .count ≤ 14
   unfolding take-out made
-  out-few = let e : length (remove i (keysOf n)) ≡ length (keysOf n) - 1 = length-remove i (keysOf n) (omega (arith, f .whole .keys)) in omega (arith, f .whole .keys, f .small)
+  out-few = let e : length (remove-at i (keysOf n)) ≡ length (keysOf n) - 1 = length-remove i (keysOf n) (omega (arith, f .whole .keys)) in omega (arith, f .whole .keys, f .small)
 
   out-content : Content 0 (widened (take-out n i))
   out-content = widened-content 0 (take-out n i) (out-level 0 n (leaf-level n f) i h) out-few
 
-  out-entries : (lo : ℕ) → wide-entries (widened (take-out n i)) lo ≡ remove i (entriesOf n lo)
+  out-entries : (lo : ℕ) → wide-entries (widened (take-out n i)) lo ≡ remove-at i (entriesOf n lo)
   out-entries lo =
       let z : i + 0 ≡ i = omega arith in
       widened-entries 0 (take-out n i) (out-level 0 n (leaf-level n f) i h) lo ∙ take-out-entries n lo (f .whole) i h ∙ rw (extra-leaf n (f .leaf), z)
@@ -61,20 +61,20 @@ without-few n d e h = omega arith
 pub ruleset without-exits = (without-is, without-few)
 
 -- ---- at the leaf
-module _ (z : Sizes) (m : ClientWord → ℕ) (x u : List ℕ) (d : Descent) (key : ℕ) (t : Ended z d) (f : Found) (p : f ≡ found (find (keysOf (d .node)) key)) where
+module _ (z : TreeSizes) (m : ClientWord → ℕ) (x u : List ℕ) (d : Descent) (key : ℕ) (t : Ended z d) (f : Found) (p : f ≡ found (key-index (keysOf (d .node)) key)) where
   abbrev lo : ℕ
   lo = low (way d)
 
   leaf : AtLeaf (d .node)
   leaf = ended-leaf z d t
 
-  there : (o : Option ℕ) → find (keysOf (d .node)) key ≡ o → index key (entriesOf (d .node) lo) ≡ o
+  there : (o : Option ℕ) → key-index (keysOf (d .node)) key ≡ o → index key (entriesOf (d .node) lo) ≡ o
   there o e = leaf-index (d .node) lo key (leaf .whole) (leaf .leaf) ∙ e
 
   pub delete-nothing : f ≡ Absent → OwnGood x → (s : Stop) (u′ : List ℕ) → Ends m u 0 0 s u′ → Operated z m x u (delete-in z d key) s x u′
   unfolding delete-in
   delete-nothing e g s u′ q =
-      let i = there none (found-none (find (keysOf (d .node)) key) (sym p ∙ e)) in
+      let i = there none (found-none (key-index (keysOf (d .node)) key) (sym p ∙ e)) in
       record {
         writes = [];
         same = λ hold. rw i (q .same z []);
@@ -94,8 +94,8 @@ module _ (z : Sizes) (m : ClientWord → ℕ) (x u : List ℕ) (d : Descent) (ke
         → Operated z m x u (delete-in z d key) s x′ u′
     unfolding delete-in rise-plan
     delete-goes n s x′ u′ pn q =
-        let j = there (some i) (found-some (find (keysOf (d .node)) key) i (sym p ∙ e)) in
-        let w : wide-entries n lo ≡ remove i (entriesOf (d .node) lo) = rw pn (out-entries (d .node) leaf i delete-inside lo) in
+        let j = there (some i) (found-some (key-index (keysOf (d .node)) key) i (sym p ∙ e)) in
+        let w : wide-entries n lo ≡ remove-at i (entriesOf (d .node) lo) = rw pn (out-entries (d .node) leaf i delete-inside lo) in
         record {
           writes = q .writes;
           same = λ hold. rw (j, ← w) (q .same hold);
@@ -107,7 +107,7 @@ module _ (z : Sizes) (m : ClientWord → ℕ) (x u : List ℕ) (d : Descent) (ke
 pub ruleset delete-exits = (ended-few, delete-nothing, delete-inside, delete-ready, delete-goes)
 
 -- ---- from the root on
-pub deleted : (z : Sizes) (m : ClientWord → ℕ) (x u : List ℕ) (key : ℕ) (d : Descent) (u₁ : List ℕ) → Descends z m u key d u₁ → (on : Bool) → on ≡ goes (d .stop) → not on ≡ false
+pub deleted : (z : TreeSizes) (m : ClientWord → ℕ) (x u : List ℕ) (key : ℕ) (d : Descent) (u₁ : List ℕ) → Descends z m u key d u₁ → (on : Bool) → on ≡ goes (d .stop) → not on ≡ false
     → (s : Stop) (x′ u′ : List ℕ) → Operated z m x u₁ (delete-in z d key) s x′ u′ → Operated z m x u (delete-plan z key) s x′ u′
 unfolding delete-in
 deleted z m x u key d u₁ h on po nb s x′ u′ q = change-on z m x u key d u₁ h on po nb (λ fs n es. delete-at z fs n es (index key es)) s x′ u′ q

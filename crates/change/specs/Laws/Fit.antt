@@ -12,12 +12,12 @@ use Rattle.base.specs.Test.{yes?, and-both}
 use Rattle.base.specs.Laws.Test.{of-yes, of-no}
 use Rattle.nodes.specs.declared.node.Node.{Node}
 use Rattle.nodes.specs.Find.{rises}
-use Rattle.nodes.specs.Place.{bit}
+use Rattle.nodes.specs.Place.{one-if}
 use Rattle.nodes.specs.Node.{made}
 use Rattle.nodes.specs.Laws.Node.{keys-made}
-use Rattle.operations.specs.Object.{Obj, meta, node, flag, Val, root, body, taken, flags, Writes, hit, value}
+use Rattle.operations.specs.Object.{Obj, meta, node, flag, Val, root, body, taken, flags, Writes, hit, written-value}
 use Rattle.operations.specs.Operation.{fits?, all-fit?}
-use Rattle.operations.specs.Slot.{Sizes}
+use Rattle.operations.specs.Slot.{TreeSizes}
 use Rattle.client.specs.Record.{number, object-in-store, record-of, single}
 use Rattle.client.specs.Lent.{Entry}
 use Rattle.client.specs.Answered.{put-entry, entered}
@@ -53,7 +53,7 @@ value-fits : (v : Val) → record-fits (record-of 0 v) ≡ fits? v
 unfolding record-of single
 value-fits (root r) = made-fits 0 0 [] (r ∷ [])
 value-fits (body k l ks vs) = made-fits k l ks vs
-value-fits (taken b) = made-fits 0 0 [] (bit b ∷ [])
+value-fits (taken b) = made-fits 0 0 [] (one-if b ∷ [])
 value-fits (flags fs) = made-fits 0 0 [] []
 
 -- ---- the record of a number
@@ -119,7 +119,7 @@ all-fits (f ∷ l) o h = rw (h (f .0) (f .1) (rw (eq-eqb (f .0) (f .0) refl)), a
 
 -- ---- the writes by object
 -- all written objects are in the store
-abbrev Stored : Sizes → Writes → Type 0
+abbrev Stored : TreeSizes → Writes → Type 0
 Stored z w = (o : Obj) → object-in-store z o ≡ false → write-of w o ≡ none
 
 hit-self : (o : Obj) → hit o o ≡ true
@@ -133,42 +133,42 @@ none-some v e = let z : _≡_ {A = ℕ} 0 1 = cc in absurd (omega arith)
 newest : (e : Obj × Val) (w : Writes) → write-of (e ∷ w) (e .0) ≡ some (e .1)
 newest e w = rw (hit-self (e .0))
 
-stored-head : (z : Sizes) (e : Obj × Val) (w : Writes) → Stored z (e ∷ w) → object-in-store z (e .0) ≡ true
+stored-head : (z : TreeSizes) (e : Obj × Val) (w : Writes) → Stored z (e ∷ w) → object-in-store z (e .0) ≡ true
 stored-head z e w h = go (object-in-store z (e .0)) refl
   where
     go : (b : Bool) → object-in-store z (e .0) ≡ b → object-in-store z (e .0) ≡ true
     go true p = p
     go false p = none-some (e .1) (sym (h (e .0) p) ∙ newest e w)
 
-stored-tail : (z : Sizes) (e : Obj × Val) (w : Writes) → Stored z (e ∷ w) → Stored z w
+stored-tail : (z : TreeSizes) (e : Obj × Val) (w : Writes) → Stored z (e ∷ w) → Stored z w
 stored-tail z e w h o p = go (hit (e .0) o) refl
   where
     go : (b : Bool) → hit (e .0) o ≡ b → write-of w o ≡ none
     go true q = none-some (e .1) (sym (h o p) ∙ rw q)
     go false q = rw q at (h o p)
 
-value-is : (w : Writes) (o : Obj) (v : Val) → write-of w o ≡ some v → value w o ≡ v
+value-is : (w : Writes) (o : Obj) (v : Val) → write-of w o ≡ some v → written-value w o ≡ v
 value-is [] o v h = none-some v h
 value-is (e ∷ w) o v h = go (hit (e .0) o) refl (value-is w o v)
   where
-    go : (b : Bool) → hit (e .0) o ≡ b → (write-of w o ≡ some v → value w o ≡ v) → value (e ∷ w) o ≡ v
+    go : (b : Bool) → hit (e .0) o ≡ b → (write-of w o ≡ some v → written-value w o ≡ v) → written-value (e ∷ w) o ≡ v
     go true p ih = let q : some (e .1) ≡ some v = rw p at h in let r : e .1 ≡ v = cc in rw p r
     go false p ih = rw p (ih (rw p at h))
 
-each-written : (all w : Writes) → all-fit? all w ≡ true → (o : Obj) (v : Val) → write-of w o ≡ some v → fits? (value all o) ≡ true
+each-written : (all w : Writes) → all-fit? all w ≡ true → (o : Obj) (v : Val) → write-of w o ≡ some v → fits? (written-value all o) ≡ true
 each-written all [] h o v p = none-some v p
-each-written all (e ∷ w) h o v p = go (hit (e .0) o) refl (and-both (fits? (value all (e .0))) (all-fit? all w) h) (each-written all w)
+each-written all (e ∷ w) h o v p = go (hit (e .0) o) refl (and-both (fits? (written-value all (e .0))) (all-fit? all w) h) (each-written all w)
   where
-    go : (b : Bool) → hit (e .0) o ≡ b → (fits? (value all (e .0)) ≡ true) × (all-fit? all w ≡ true)
-        → (all-fit? all w ≡ true → (o : Obj) (v : Val) → write-of w o ≡ some v → fits? (value all o) ≡ true) → fits? (value all o) ≡ true
+    go : (b : Bool) → hit (e .0) o ≡ b → (fits? (written-value all (e .0)) ≡ true) × (all-fit? all w ≡ true)
+        → (all-fit? all w ≡ true → (o : Obj) (v : Val) → write-of w o ≡ some v → fits? (written-value all o) ≡ true) → fits? (written-value all o) ≡ true
     go true q t ih = rw (← hit-same (e .0) o q) (t .0)
     go false q t ih = ih (t .1) o v (rw q at p)
 
-all-written : (all w : Writes) → ((o : Obj) (v : Val) → write-of w o ≡ some v → fits? (value all o) ≡ true) → all-fit? all w ≡ true
+all-written : (all w : Writes) → ((o : Obj) (v : Val) → write-of w o ≡ some v → fits? (written-value all o) ≡ true) → all-fit? all w ≡ true
 all-written all [] h = refl
 all-written all (e ∷ w) h = rw (h (e .0) (e .1) (newest e w), all-written all w (λ o v p. later o v p (hit (e .0) o) refl))
   where
-    later : (o : Obj) (v : Val) → write-of w o ≡ some v → (b : Bool) → hit (e .0) o ≡ b → fits? (value all o) ≡ true
+    later : (o : Obj) (v : Val) → write-of w o ≡ some v → (b : Bool) → hit (e .0) o ≡ b → fits? (written-value all o) ≡ true
     later o v p true q = h o (e .1) (rw q)
     later o v p false q = h o v (rw q p)
 
@@ -177,7 +177,7 @@ abbrev as-record : Option Val → Option Node
 as-record none = none
 as-record (some v) = some (record-of 0 v)
 
-module _ (z : Sizes) (eight : z .servers ≤ 8) where
+module _ (z : TreeSizes) (eight : z .servers ≤ 8) where
   entry-is : (w : Writes) → Stored z w → (o : Obj) → object-in-store z o ≡ true → entry-of (entered w) (number o) ≡ as-record (write-of w o)
   unfolding entered
   entry-is [] s o t = refl
@@ -207,7 +207,7 @@ module _ (z : Sizes) (eight : z .servers ≤ 8) where
   pub all-fit-entries : (w : Writes) → Stored z w → all-fit? w w ≡ entries-fit (entered w)
   all-fit-entries w s = go (entries-fit (entered w)) refl (all-fit? w w) refl
     where
-      fit-value : entries-fit (entered w) ≡ true → (o : Obj) (v : Val) → write-of w o ≡ some v → (b : Bool) → object-in-store z o ≡ b → fits? (value w o) ≡ true
+      fit-value : entries-fit (entered w) ≡ true → (o : Obj) (v : Val) → write-of w o ≡ some v → (b : Bool) → object-in-store z o ≡ b → fits? (written-value w o) ≡ true
       fit-value h o v p true t =
           rw (value-is w o v p) (sym (value-fits v) ∙ each-fits (entered w) (number o) (record-of 0 v) h (entry-is w s o t ∙ rw p))
       fit-value h o v p false t = none-some v (sym (s o t) ∙ p)

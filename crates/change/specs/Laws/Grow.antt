@@ -12,8 +12,8 @@ use Rattle.nodes.specs.Node.{extra, made, parent-of}
 use Rattle.nodes.specs.Laws.Node.{keys-made, slots-made}
 use Rattle.nodes.specs.Entries.{wide-entries}
 use Rattle.operations.specs.Object.{node, flag, taken, Writes}
-use Rattle.operations.specs.Slot.{Sizes, take-for, take-node}
-use Rattle.operations.specs.Entry.{Entries, mk, mn}
+use Rattle.operations.specs.Slot.{TreeSizes, take-for, take-node}
+use Rattle.operations.specs.Entry.{Entries, node-value, fewest-entries}
 use Rattle.operations.specs.Path.{Plan, Branch}
 use Rattle.operations.specs.Change.{with-two, parted}
 use Rattle.change.specs.declared.grow.Two.{Two}
@@ -23,7 +23,7 @@ use Rattle.client.specs.Layout.{ClientWord}
 use Rattle.client.specs.Record.{in-store, value-of}
 use Rattle.client.specs.Lent.{used-in}
 use Rattle.walk.specs.Walk.{goes, walked, carry}
-use Rattle.walk.specs.Ask.{OwnGood, Holds, Noted}
+use Rattle.walk.specs.Ask.{OwnGood, Holds-writes, Noted}
 use Rattle.walk.specs.Lookup.{Ends}
 use Rattle.walk.specs.Laws.Down.{stops-not}
 use Rattle.walk.specs.Laws.Write.{name-below}
@@ -37,7 +37,7 @@ use Rattle.change.specs.Grow.{two-flags, TwoTaken, BothFree, HalvesTaken
 use Rattle.nodes.specs.Change as N
 use Rattle.plans.specs.Plan as P
 
-module _ (z : Sizes) (m : ClientWord → ℕ) (x u : List ℕ) (n : ℕ) (t : Taken) (x₁ u₁ : List ℕ) (q : TakenFor z m x u n t x₁ u₁) (on : Bool) (po : on ≡ goes (t .stop)) where
+module _ (z : TreeSizes) (m : ClientWord → ℕ) (x u : List ℕ) (n : ℕ) (t : Taken) (x₁ u₁ : List ℕ) (q : TakenFor z m x u n t x₁ u₁) (on : Bool) (po : on ≡ goes (t .stop)) where
   pub two-lacks : not on ≡ true → TwoTaken z m x u n (record { stop = t .stop; left = t .name; right = t .name }) x₁ u₁
   two-lacks nb =
       let halts : goes (t .stop) ≡ false = sym po ∙ not-true on nb in
@@ -83,7 +83,7 @@ two-begins x h = omega arith
 
 pub ruleset two-exits = (two-begins, two-lacks, two-good, two-noted, two-room, two-taken)
 
-module _ (z : Sizes) (m : ClientWord → ℕ) (x u : List ℕ) (c d : ℕ) (s : Stop) (u₁ : List ℕ) (q : NodeTaken z m x u c s u₁) (on : Bool) (po : on ≡ goes s) where
+module _ (z : TreeSizes) (m : ClientWord → ℕ) (x u : List ℕ) (c d : ℕ) (s : Stop) (u₁ : List ℕ) (q : NodeTaken z m x u c s u₁) (on : Bool) (po : on ≡ goes s) where
   pub free-lacks : not on ≡ true → BothFree z m x u c d s u₁
   free-lacks nb =
       let halts : goes s ≡ false = sym po ∙ not-true on nb in
@@ -99,8 +99,8 @@ module _ (z : Sizes) (m : ClientWord → ℕ) (x u : List ℕ) (c d : ℕ) (s : 
 
 pub ruleset free-exits = (free-lacks, both-free, free-noted)
 
-module _ (z : Sizes) (m : ClientWord → ℕ) (x u : List ℕ) (n : ℕ) (t : Two) (x₁ u₁ : List ℕ) (q : TwoTaken z m x u n t x₁ u₁) (on : Bool) (po : on ≡ goes (t .stop)) where
-  asked : (w : Writes) → Holds z x w → (k : ℕ → ℕ → Writes → Plan)
+module _ (z : TreeSizes) (m : ClientWord → ℕ) (x u : List ℕ) (n : ℕ) (t : Two) (x₁ u₁ : List ℕ) (q : TwoTaken z m x u n t x₁ u₁) (on : Bool) (po : on ≡ goes (t .stop)) where
+  asked : (w : Writes) → Holds-writes z x w → (k : ℕ → ℕ → Writes → Plan)
       → walked z m (take-for z n w (λ c w₁. take-for z n w₁ (λ d w₂. take-node w₂ c (take-node w₂ d (k c d w₂))))) (used-in u)
       ≡ carry (t .stop) (used-in u₁) (λ us. walked z m (take-node (two-flags t w) (t .left) (take-node (two-flags t w) (t .right) (k (t .left) (t .right) (two-flags t w)))) us)
   asked w hold k = q .asks w hold (λ c d w₂. take-node w₂ c (take-node w₂ d (k c d w₂)))
@@ -172,13 +172,13 @@ grow-level n o = o .level
 pub ruleset grow-exits = (grow-good, grow-room, grown, over-few, grow-begins, grow-level)
 
 -- the root as it is written
-root-value : (l r c sep d : ℕ) → mk (suc l) (with-two (record { nm = r; key = 0; pre = []; post = [] }) c sep d) ≡ value-of (node r) (parent-of (suc l) 0 c sep d)
+root-value : (l r c sep d : ℕ) → node-value (suc l) (with-two (record { nm = r; key = 0; pre = []; post = [] }) c sep d) ≡ value-of (node r) (parent-of (suc l) 0 c sep d)
 unfolding parent-of made extra
 root-value l r c sep d =
     let e : length (c ∷ d ∷ []) ≡ length (sep ∷ []) + extra 2 = refl in
     rw (keys-made 2 (suc l) 0 (sep ∷ []) (c ∷ d ∷ []), slots-made 2 (suc l) 0 (sep ∷ []) (c ∷ d ∷ []) e)
 
-module _ (z : Sizes) (m : ClientWord → ℕ) (x u : List ℕ) (l r : ℕ) (n : Wide) (a b : ℕ) (t : Two) (x₁ u₁ : List ℕ) (q : HalvesTaken z m x u r t x₁ u₁) (on : Bool) (po : on ≡ goes (t .stop)) where
+module _ (z : TreeSizes) (m : ClientWord → ℕ) (x u : List ℕ) (l r : ℕ) (n : Wide) (a b : ℕ) (t : Two) (x₁ u₁ : List ℕ) (q : HalvesTaken z m x u r t x₁ u₁) (on : Bool) (po : on ≡ goes (t .stop)) where
   abbrev plan : Writes → Plan
   plan = root-split z (a, b) l r (wide-entries n 0)
 
@@ -187,13 +187,13 @@ module _ (z : Sizes) (m : ClientWord → ℕ) (x u : List ℕ) (l r : ℕ) (n : 
   alone = record { nm = r; key = 0; pre = []; post = [] }
 
   abbrev answer : Writes → Entries → Plan
-  answer w es = P.done ((a, b), (node r, mk (suc l) es) ∷ w)
+  answer w es = P.done ((a, b), (node r, node-value (suc l) es) ∷ w)
 
-  asked-root : (w : Writes) → Holds z x w → walked z m (plan w) (used-in u)
+  asked-root : (w : Writes) → Holds-writes z x w → walked z m (plan w) (used-in u)
       ≡ carry (t .stop) (used-in u₁) (λ us. walked z m
-      (parted answer l (two-flags t w) alone (t .left) (take (mn l) (wide-entries n 0)) (t .right) (drop (mn l) (wide-entries n 0))) us)
+      (parted answer l (two-flags t w) alone (t .left) (take (fewest-entries l) (wide-entries n 0)) (t .right) (drop (fewest-entries l) (wide-entries n 0))) us)
   unfolding root-split
-  asked-root w hold = q .asks w hold (λ c d w₂. parted answer l w₂ alone c (take (mn l) (wide-entries n 0)) d (drop (mn l) (wide-entries n 0)))
+  asked-root w hold = q .asks w hold (λ c d w₂. parted answer l w₂ alone c (take (fewest-entries l) (wide-entries n 0)) d (drop (fewest-entries l) (wide-entries n 0)))
 
   pub root-lacks : not on ≡ true → Closed z m x u plan (t .stop) x₁ u₁
   root-lacks nb =

@@ -14,17 +14,17 @@ use Rattle.nodes.specs.declared.found.Found.{Found}
 use Rattle.nodes.specs.declared.found.Found.the-variants.{At, Absent}
 use Rattle.nodes.specs.Found.{found, Inside}
 use Rattle.nodes.specs.Laws.Found.{found-some, found-none}
-use Rattle.nodes.specs.Lists.{insert}
+use Rattle.nodes.specs.Lists.{insert-at}
 use Rattle.nodes.specs.Laws.Lists.{length-insert}
 use Rattle.nodes.specs.Place.{place}
-use Rattle.nodes.specs.Find.{find, find-at}
+use Rattle.nodes.specs.Find.{key-index, find-at}
 use Rattle.nodes.specs.Node.{extra, keysOf, slotsOf, made}
 use Rattle.nodes.specs.Entries.{entriesOf, wide-entries}
 use Rattle.nodes.specs.Change.{wide, put-in, with-slot}
 use Rattle.nodes.specs.Kept.{Whole}
 use Rattle.nodes.specs.Laws.Kept.{made-whole, put-in-whole, put-in-entries, slot-entries}
 use Rattle.operations.specs.Map.{fresh}
-use Rattle.operations.specs.Slot.{Sizes}
+use Rattle.operations.specs.Slot.{TreeSizes}
 use Rattle.operations.specs.Entry.{Entries, keys, index, value-in, with-pair}
 use Rattle.operations.specs.Path.{Plan, Branch, from-root}
 use Rattle.operations.specs.Change.{up, insert-plan}
@@ -44,17 +44,17 @@ use Rattle.change.specs.Laws.Parts.{widened-entries, widened-content}
 use Rattle.change.specs.Up.{Ready, rise-plan}
 use Rattle.change.specs.Insert.{paired-at, paired, Ended, way, insert-in}
 
-find-key : (ks : List ℕ) (key i : ℕ) → find ks key ≡ some i → getD ks i 0 ≡ key
-unfolding find find-at
+find-key : (ks : List ℕ) (key i : ℕ) → key-index ks key ≡ some i → getD ks i 0 ≡ key
+unfolding key-index find-at
 find-key ks key i e = go (eqb (place ks key) 0) (eqb (getD ks (place ks key - 1) 0) key) refl refl
   where
     go : (a b : Bool) → eqb (place ks key) 0 ≡ a → eqb (getD ks (place ks key - 1) 0) key ≡ b → getD ks i 0 ≡ key
-    go true b p q = let r : none ≡ some i = rw (find, find-at, p) at e in let z : _≡_ {A = ℕ} 0 1 = cc in absurd (omega arith)
+    go true b p q = let r : none ≡ some i = rw (key-index, find-at, p) at e in let z : _≡_ {A = ℕ} 0 1 = cc in absurd (omega arith)
     go false true p q =
-        let r : some (place ks key - 1) ≡ some i = rw (find, find-at, p, q) at e in
+        let r : some (place ks key - 1) ≡ some i = rw (key-index, find-at, p, q) at e in
         let t : place ks key - 1 ≡ i = cc in
         rw (← t) (eqb-true (getD ks (place ks key - 1) 0) key q)
-    go false false p q = let r : none ≡ some i = rw (find, find-at, p, q) at e in let z : _≡_ {A = ℕ} 0 1 = cc in absurd (omega arith)
+    go false false p q = let r : none ≡ some i = rw (key-index, find-at, p, q) at e in let z : _≡_ {A = ℕ} 0 1 = cc in absurd (omega arith)
 
 -- a leaf at hand
 pub record AtLeaf (n : Node) : Type 0 where
@@ -89,15 +89,15 @@ module _ (n : Node) (f : AtLeaf n) where
       kind = f .leaf .kind;
       level = f .leaf .level;
       whole = put-in-whole n 0 (f .whole) (place (keysOf n) key) key v place-inside;
-      few = let g : length (insert (place (keysOf n) key) key (keysOf n)) ≡ length (keysOf n) + 1 = length-insert (place (keysOf n) key) key (keysOf n) (omega (arith, f .whole .keys, place-inside)) in
+      few = let g : length (insert-at (place (keysOf n) key) key (keysOf n)) ≡ length (keysOf n) + 1 = length-insert (place (keysOf n) key) key (keysOf n) (omega (arith, f .whole .keys, place-inside)) in
           omega (arith, f .whole .keys, f .small);
     }
 
     pub paired-content : Content 0 (paired n key v .content)
     unfolding paired
-    paired-content = go (find (keysOf n) key) refl
+    paired-content = go (key-index (keysOf n) key) refl
       where
-        go : (o : Option ℕ) → find (keysOf n) key ≡ o → Content 0 (paired-at n key v (find (keysOf n) key) .content)
+        go : (o : Option ℕ) → key-index (keysOf n) key ≡ o → Content 0 (paired-at n key v (key-index (keysOf n) key) .content)
         go none e = rw e put-content
         go (some i) e = rw e (widened-content 0 (with-slot n i v) (slot-level i v) (slot-few i v))
 
@@ -105,12 +105,12 @@ module _ (n : Node) (f : AtLeaf n) where
     module _ (lo : ℕ) where
       pub paired-entries : wide-entries (paired n key v .content) lo ≡ with-pair key v (entriesOf n lo)
       unfolding paired
-      paired-entries = go (find (keysOf n) key) refl
+      paired-entries = go (key-index (keysOf n) key) refl
         where
-          ix : index key (entriesOf n lo) ≡ find (keysOf n) key
+          ix : index key (entriesOf n lo) ≡ key-index (keysOf n) key
           ix = leaf-index n lo key (f .whole) (f .leaf)
 
-          go : (o : Option ℕ) → find (keysOf n) key ≡ o → wide-entries (paired-at n key v (find (keysOf n) key) .content) lo ≡ with-pair key v (entriesOf n lo)
+          go : (o : Option ℕ) → key-index (keysOf n) key ≡ o → wide-entries (paired-at n key v (key-index (keysOf n) key) .content) lo ≡ with-pair key v (entriesOf n lo)
           go none e =
               let z : place (keysOf n) key + 0 ≡ place (keysOf n) key = omega arith in
               rw (ix, e, leaf-keys n lo key (f .whole) (f .leaf)) (put-in-entries n lo (f .whole) (place (keysOf n) key) key v place-inside ∙ rw (none-more, z))
@@ -119,23 +119,23 @@ module _ (n : Node) (f : AtLeaf n) where
 
       pub paired-answer : fresh (value-in key (entriesOf n lo)) ≡ (paired n key v .a, 0)
       unfolding paired
-      paired-answer = go (find (keysOf n) key) refl
+      paired-answer = go (key-index (keysOf n) key) refl
         where
-          go : (o : Option ℕ) → find (keysOf n) key ≡ o → fresh (value-in key (entriesOf n lo)) ≡ (paired-at n key v (find (keysOf n) key) .a, 0)
+          go : (o : Option ℕ) → key-index (keysOf n) key ≡ o → fresh (value-in key (entriesOf n lo)) ≡ (paired-at n key v (key-index (keysOf n) key) .a, 0)
           go none e = rw (leaf-absent n lo key (f .whole) (f .leaf) e, e)
           go (some i) e =
               let h : i < n .count = omega (arith, find-inside (keysOf n) key i e, f .whole .keys) in
               rw (leaf-value n lo key (f .whole) (f .leaf) i e h, e)
 
 -- ---- ways out of the code that makes it
-module _ (n : Node) (key v : ℕ) (f : Found) (p : f ≡ found (find (keysOf n) key)) where
+module _ (n : Node) (key v : ℕ) (f : Found) (p : f ≡ found (key-index (keysOf n) key)) where
   pub pair-replaced : (i : ℕ) (d : Node) (w : Wide) → f ≡ At i → d ≡ with-slot n i v → w ≡ widened d → _≡_ {A = Paired} (record { content = w; a = 0 }) (paired n key v)
   unfolding paired
-  pair-replaced i d w e q r = let t : find (keysOf n) key ≡ some i = found-some (find (keysOf n) key) i (sym p ∙ e) in rw (t, r, q)
+  pair-replaced i d w e q r = let t : key-index (keysOf n) key ≡ some i = found-some (key-index (keysOf n) key) i (sym p ∙ e) in rw (t, r, q)
 
   pub pair-new : (w : Wide) (i : ℕ) → f ≡ Absent → i ≡ place (keysOf n) key → w ≡ put-in n i key v → _≡_ {A = Paired} (record { content = w; a = 1 }) (paired n key v)
   unfolding paired
-  pair-new w i e q r = let t : find (keysOf n) key ≡ none = found-none (find (keysOf n) key) (sym p ∙ e) in rw (t, r, q)
+  pair-new w i e q r = let t : key-index (keysOf n) key ≡ none = found-none (key-index (keysOf n) key) (sym p ∙ e) in rw (t, r, q)
 
 pub pair-inside : (n : Node) (f : Found) (i : ℕ) → Inside f (n .count) → f ≡ At i → i < n .count + extra (n .kind)
 pair-inside n f i h e = omega (arith, h .inside i e)
@@ -145,7 +145,7 @@ pair-few n d e h = omega arith
 
 pub ruleset pair-exits = (pair-replaced, pair-new, pair-inside, pair-few)
 
-module _ (z : Sizes) (d : Descent) (t : Ended z d) where
+module _ (z : TreeSizes) (d : Descent) (t : Ended z d) where
   pub ended-leaf : AtLeaf (d .node)
   ended-leaf = record { whole = t .reached .whole; leaf = open-leaf (d .node) (t .reached .opened) (t .reached .level); small = t .reached .small .keys }
 
@@ -155,7 +155,7 @@ module _ (z : Sizes) (d : Descent) (t : Ended z d) where
   pub ended-ready : (n : Wide) → Content 0 n → Ready z (d .top) (d .path) (d .name) n
   ended-ready n c = record { high = t .high; size = t .reached .size; good = t .reached .good; linked = t .linked; content = c }
 
-module _ (z : Sizes) (m : ClientWord → ℕ) (x u : List ℕ) (key : ℕ) (d : Descent) (u₁ : List ℕ) (h : Descends z m u key d u₁) (on : Bool) (po : on ≡ goes (d .stop)) where
+module _ (z : TreeSizes) (m : ClientWord → ℕ) (x u : List ℕ) (key : ℕ) (d : Descent) (u₁ : List ℕ) (h : Descends z m u key d u₁) (on : Bool) (po : on ≡ goes (d .stop)) where
   -- an operation that stops on the way has written nothing
   pub change-stops : (k : List Branch → ℕ → Entries → Plan) → OwnGood x → not on ≡ true → Operated z m x u (from-root key k) (d .stop) x u₁
   change-stops k g nb =
@@ -189,7 +189,7 @@ module _ (z : Sizes) (m : ClientWord → ℕ) (x u : List ℕ) (key : ℕ) (d : 
       noted = q .noted;
     }
 
-module _ (z : Sizes) (m : ClientWord → ℕ) (x u : List ℕ) (d : Descent) (key v : ℕ) (t : Ended z d) (p : Paired) (pp : p ≡ paired (d .node) key v) where
+module _ (z : TreeSizes) (m : ClientWord → ℕ) (x u : List ℕ) (d : Descent) (key v : ℕ) (t : Ended z d) (p : Paired) (pp : p ≡ paired (d .node) key v) where
   pub insert-ready : Ready z (d .top) (d .path) (d .name) (p .content)
   insert-ready = ended-ready z d t (p .content) (rw pp (paired-content (d .node) (ended-leaf z d t) key v))
 
@@ -208,7 +208,7 @@ module _ (z : Sizes) (m : ClientWord → ℕ) (x u : List ℕ) (d : Descent) (ke
 
 pub ruleset insert-exits = (ended-few, insert-ready, insert-goes)
 
-pub inserted : (z : Sizes) (m : ClientWord → ℕ) (x u : List ℕ) (key v : ℕ) (d : Descent) (u₁ : List ℕ) → Descends z m u key d u₁ → (on : Bool) → on ≡ goes (d .stop) → not on ≡ false
+pub inserted : (z : TreeSizes) (m : ClientWord → ℕ) (x u : List ℕ) (key v : ℕ) (d : Descent) (u₁ : List ℕ) → Descends z m u key d u₁ → (on : Bool) → on ≡ goes (d .stop) → not on ≡ false
     → (s : Stop) (x′ u′ : List ℕ) → Operated z m x u₁ (insert-in z d key v) s x′ u′ → Operated z m x u (insert-plan z key v) s x′ u′
 unfolding insert-in
 inserted z m x u key v d u₁ h on po nb s x′ u′ q = change-on z m x u key d u₁ h on po nb (λ fs n es. up z (fresh (value-in key es)) zero fs [] n (with-pair key v es)) s x′ u′ q

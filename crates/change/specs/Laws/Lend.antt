@@ -22,7 +22,7 @@ use Rattle.nodes.specs.Kept.{Whole}
 use Rattle.nodes.specs.Laws.Kept.{length-entriesOf, merged-entries, from-right-left, from-right-right, from-right-sep, from-left-left, from-left-right, from-left-sep}
 use Rattle.operations.specs.Object.{Ans, Writes}
 use Rattle.operations.specs.Slot.{release}
-use Rattle.operations.specs.Entry.{Entries, mn, nxt}
+use Rattle.operations.specs.Entry.{Entries, fewest-entries, first-key-or}
 use Rattle.operations.specs.Arrays.{kind}
 use Rattle.operations.specs.Path.{Plan, Branch}
 use Rattle.operations.specs.Change.{Go, parted}
@@ -65,22 +65,22 @@ pub ruleset lend-exits = (lent-by-left, lent-by-right, joined-to-left, joined-to
 pub record Halved (l : ℕ) (h : Halves) : Type 0 where
   pub left : OfLevel l (h .left)
   pub right : OfLevel l (h .right)
-  pub next : nxt (entriesOf (h .right) (h .sep)) 0 ≡ h .sep
+  pub next : first-key-or (entriesOf (h .right) (h .sep)) 0 ≡ h .sep
 
-nxt-first : (es : Entries) → nxt es 0 ≡ first es
+nxt-first : (es : Entries) → first-key-or es 0 ≡ first es
 nxt-first [] = refl
 nxt-first (e ∷ es) = refl
 
 -- "from 8 or more keys"
-plenty : (l : ℕ) (m : Node) (lo : ℕ) → OfLevel l m → (p q : Plan) → ifd (decLt (mn l) (length (entriesOf m lo))) p q ≡ cond (ltb 7 (m .count)) p q
+plenty : (l : ℕ) (m : Node) (lo : ℕ) → OfLevel l m → (p q : Plan) → ifd (decLt (fewest-entries l) (length (entriesOf m lo))) p q ≡ cond (ltb 7 (m .count)) p q
 plenty l m lo f p q = go (ltb 7 (m .count)) refl
   where
-    len : length (entriesOf m lo) + 7 ≡ m .count + mn l
+    len : length (entriesOf m lo) + 7 ≡ m .count + fewest-entries l
     len = let e : extra (m .kind) ≡ extra (kind l) = ap extra (f .kind) in omega (arith, length-entriesOf m lo (f .whole), extra-level l)
 
-    go : (b : Bool) → ltb 7 (m .count) ≡ b → ifd (decLt (mn l) (length (entriesOf m lo))) p q ≡ cond (ltb 7 (m .count)) p q
-    go true e = let h : 7 < m .count = ltb-true 7 (m .count) e in rw e (ifd-yes (decLt (mn l) (length (entriesOf m lo))) p q (omega (arith, len)))
-    go false e = let h : m .count ≤ 7 = ltb-false 7 (m .count) e in rw e (ifd-no (decLt (mn l) (length (entriesOf m lo))) p q (λ d. omega (arith, len, d)))
+    go : (b : Bool) → ltb 7 (m .count) ≡ b → ifd (decLt (fewest-entries l) (length (entriesOf m lo))) p q ≡ cond (ltb 7 (m .count)) p q
+    go true e = let h : 7 < m .count = ltb-true 7 (m .count) e in rw e (ifd-yes (decLt (fewest-entries l) (length (entriesOf m lo))) p q (omega (arith, len)))
+    go false e = let h : m .count ≤ 7 = ltb-false 7 (m .count) e in rw e (ifd-no (decLt (fewest-entries l) (length (entriesOf m lo))) p q (λ d. omega (arith, len, d)))
 
 module _ (l : ℕ) (n m : Node) (sep : ℕ) (fn : OfLevel l n) (fm : OfLevel l m) (enough : 1 < m .count) where
   to-right : n .kind ≡ m .kind

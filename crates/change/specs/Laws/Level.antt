@@ -16,8 +16,8 @@ use Rattle.nodes.specs.Laws.Entries.{length-entries}
 use Rattle.nodes.specs.Change.{narrow, wide-keys, wide-slots}
 use Rattle.nodes.specs.Laws.Kept.{narrow-entries}
 use Rattle.operations.specs.Object.{node, Ans, Writes}
-use Rattle.operations.specs.Slot.{Sizes}
-use Rattle.operations.specs.Entry.{Entries, mk, mn, mx}
+use Rattle.operations.specs.Slot.{TreeSizes}
+use Rattle.operations.specs.Entry.{Entries, node-value, fewest-entries, most-entries}
 use Rattle.operations.specs.Arrays.{kind}
 use Rattle.operations.specs.Path.{Plan, Branch}
 use Rattle.operations.specs.Change.{Go, split-root, up}
@@ -41,7 +41,7 @@ use Rattle.change.specs.Grow.{root-split}
 use Rattle.change.specs.Level.{level-plan, top-plan, Settled}
 use Rattle.plans.specs.Plan as P
 
-pub up-level : (z : Sizes) (a : Ans) (l : ℕ) (b : Turn) (c : ℕ) (es : ℕ → Entries) (lo : ℕ) (fs : List Branch) (w : Writes)
+pub up-level : (z : TreeSizes) (a : Ans) (l : ℕ) (b : Turn) (c : ℕ) (es : ℕ → Entries) (lo : ℕ) (fs : List Branch) (w : Writes)
     → up z a l (in-parent b lo ∷ fs) w c (es (in-parent b lo .key)) ≡ level-plan z a l b c es lo fs w (λ w′ es′. up z a (suc l) fs w′ (b .name) es′)
 unfolding level-plan branch-of
 up-level z a l b c es lo fs w = refl
@@ -55,22 +55,22 @@ module _ (l : ℕ) (n : Wide) (k : Content l n) (lo : ℕ) where
   unfolding wide-entries
   entries-many = length-entries (extra (n .kind)) lo (extra-le (n .kind)) (wide-keys n) (wide-slots n) fits ∙ k .whole .slots
 
-  least : mn l ≡ 7 + extra (n .kind)
+  least : fewest-entries l ≡ 7 + extra (n .kind)
   least = sym (ap (λ (j : ℕ). 7 + extra j) (k .kind) ∙ extra-level l)
 
-  most : mx l ≡ 14 + extra (n .kind)
+  most : most-entries l ≡ 14 + extra (n .kind)
   unfolding extra
   most = by l ∙ sym (ap (λ (j : ℕ). 14 + extra j) (k .kind))
     where
-      by : (l : ℕ) → mx l ≡ 14 + extra (kind l)
+      by : (l : ℕ) → most-entries l ≡ 14 + extra (kind l)
       by zero = refl
       by (suc l) = refl
 
   narrow-of-level : OfLevel l (narrow n)
   narrow-of-level = narrow-level l n (record { kind = k .kind; level = k .level; whole = k .whole })
 
-  narrow-value : (c : ℕ) → mk l (wide-entries n lo) ≡ value-of (node c) (narrow n)
-  narrow-value c = ap (mk l) (sym (narrow-entries n lo (k .whole))) ∙ of-level-value l (narrow n) lo c narrow-of-level
+  narrow-value : (c : ℕ) → node-value l (wide-entries n lo) ≡ value-of (node c) (narrow n)
+  narrow-value c = ap (node-value l) (sym (narrow-entries n lo (k .whole))) ∙ of-level-value l (narrow n) lo c narrow-of-level
 
 module _ (n : Wide) (d : Node) (pd : d ≡ narrow n) where
   pub settled : (m : ClientWord → ℕ) (x u : List ℕ) (c a b : ℕ) (s : Stop) (x′ u′ : List ℕ) → NodeWritten x c d x′ → Ends m u a b s u′ → Settled m x u c n a b s x′ u′
@@ -82,7 +82,7 @@ settled-few n d e h = omega arith
 pub ruleset settle-exits = (settled, settled-few)
 
 -- an answer does not go on
-ended-not : (z : Sizes) (m : ClientWord → ℕ) (r : Ans × Writes) (us us′ : List ℕ) (s : Stop) (w : Writes) → walked z m (P.done r) us ≡ ended s us′ w → goes s ≡ false
+ended-not : (z : TreeSizes) (m : ClientWord → ℕ) (r : Ans × Writes) (us us′ : List ℕ) (s : Stop) (w : Writes) → walked z m (P.done r) us ≡ ended s us′ w → goes s ≡ false
 unfolding walked worked run
 ended-not z m r us us′ s w e = go (over m us) refl
   where
@@ -91,7 +91,7 @@ ended-not z m r us us′ s w e = go (over m us) refl
     go false h = sym (ap (λ (t : Told). goes (t .stop)) (rw (walked, worked, h) at e))
 
 -- ---- below the root
-raised-as : (z : Sizes) (m : ClientWord → ℕ) (x u : List ℕ) (l : ℕ) (root : Bool) (p q : ℕ → List Branch → Writes → Go → Plan) (r : Risen) (x′ u′ : List ℕ)
+raised-as : (z : TreeSizes) (m : ClientWord → ℕ) (x u : List ℕ) (l : ℕ) (root : Bool) (p q : ℕ → List Branch → Writes → Go → Plan) (r : Risen) (x′ u′ : List ℕ)
     → ((lo : ℕ) (fs : List Branch) (w : Writes) (go : Go) → p lo fs w go ≡ q lo fs w go) → Raised z m x u l root q r x′ u′ → Raised z m x u l root p r x′ u′
 raised-as z m x u l root p q r x′ u′ e h = record {
   more = h .more;
@@ -104,7 +104,7 @@ raised-as z m x u l root p q r x′ u′ e h = record {
   noted = h .noted;
 }
 
-module _ (z : Sizes) (m : ClientWord → ℕ) (x u : List ℕ) (l : ℕ) (root : Bool) (t : Turn) (c : ℕ) (n : Wide) (a b : ℕ) (k : Content l n) where
+module _ (z : TreeSizes) (m : ClientWord → ℕ) (x u : List ℕ) (l : ℕ) (root : Bool) (t : Turn) (c : ℕ) (n : Wide) (a b : ℕ) (k : Content l n) where
   abbrev whole-plan : ℕ → List Branch → Writes → Go → Plan
   whole-plan = level-plan z (a, b) l t c (wide-entries n)
 
@@ -113,24 +113,24 @@ module _ (z : Sizes) (m : ClientWord → ℕ) (x u : List ℕ) (l : ℕ) (root :
   unfolding level-plan split-plan
   is-split e lo fs w go =
       let i : ℕ = in-parent t lo .key in
-      let p : mn l ≤ length (wide-entries n (in-parent t lo .key)) = omega (arith, least l n k i, entries-many l n k (in-parent t lo .key)) in
-      let q : length (wide-entries n (in-parent t lo .key)) ≤ mx l → ⊥ = λ q. omega (arith, most l n k i, entries-many l n k (in-parent t lo .key), q) in
-      ifd-yes (decLe (mn l) (length (wide-entries n (in-parent t lo .key)))) _ _ p ∙ ifd-no (decLe (length (wide-entries n (in-parent t lo .key))) (mx l)) _ _ q
+      let p : fewest-entries l ≤ length (wide-entries n (in-parent t lo .key)) = omega (arith, least l n k i, entries-many l n k (in-parent t lo .key)) in
+      let q : length (wide-entries n (in-parent t lo .key)) ≤ most-entries l → ⊥ = λ q. omega (arith, most l n k i, entries-many l n k (in-parent t lo .key), q) in
+      ifd-yes (decLe (fewest-entries l) (length (wide-entries n (in-parent t lo .key)))) _ _ p ∙ ifd-no (decLe (length (wide-entries n (in-parent t lo .key))) (most-entries l)) _ _ q
 
   is-neighbour : n .count < 7 → (lo : ℕ) (fs : List Branch) (w : Writes) (go : Go) → whole-plan lo fs w go ≡ neighbour-plan (a, b) l t c (entriesOf (narrow n)) lo fs w go
   unfolding level-plan neighbour-plan
   is-neighbour e lo fs w go =
       let i : ℕ = in-parent t lo .key in
-      let p : mn l ≤ length (wide-entries n (in-parent t lo .key)) → ⊥ = λ p. omega (arith, least l n k i, entries-many l n k (in-parent t lo .key), p) in
-      rw (narrow-entries n (in-parent t lo .key) (k .whole)) (ifd-no (decLe (mn l) (length (wide-entries n (in-parent t lo .key)))) _ _ p)
+      let p : fewest-entries l ≤ length (wide-entries n (in-parent t lo .key)) → ⊥ = λ p. omega (arith, least l n k i, entries-many l n k (in-parent t lo .key), p) in
+      rw (narrow-entries n (in-parent t lo .key) (k .whole)) (ifd-no (decLe (fewest-entries l) (length (wide-entries n (in-parent t lo .key)))) _ _ p)
 
   is-written : 7 ≤ n .count → n .count ≤ 14 → (lo : ℕ) (fs : List Branch) (w : Writes) (go : Go) → whole-plan lo fs w go ≡ P.done ((a, b), (node c, value-of (node c) (narrow n)) ∷ w)
   unfolding level-plan
   is-written e f lo fs w go =
       let i : ℕ = in-parent t lo .key in
-      let p : mn l ≤ length (wide-entries n (in-parent t lo .key)) = omega (arith, least l n k i, entries-many l n k (in-parent t lo .key)) in
-      let q : length (wide-entries n (in-parent t lo .key)) ≤ mx l = omega (arith, most l n k i, entries-many l n k (in-parent t lo .key)) in
-      ifd-yes (decLe (mn l) (length (wide-entries n (in-parent t lo .key)))) _ _ p ∙ ifd-yes (decLe (length (wide-entries n (in-parent t lo .key))) (mx l)) _ _ q
+      let p : fewest-entries l ≤ length (wide-entries n (in-parent t lo .key)) = omega (arith, least l n k i, entries-many l n k (in-parent t lo .key)) in
+      let q : length (wide-entries n (in-parent t lo .key)) ≤ most-entries l = omega (arith, most l n k i, entries-many l n k (in-parent t lo .key)) in
+      ifd-yes (decLe (fewest-entries l) (length (wide-entries n (in-parent t lo .key)))) _ _ p ∙ ifd-yes (decLe (length (wide-entries n (in-parent t lo .key))) (most-entries l)) _ _ q
       ∙ rw (narrow-value l n k (in-parent t lo .key) c)
 
   pub raise-splits : n .count ≡ 15 → (r : Risen) (x′ u′ : List ℕ) → Splits z m x u l t c n r x′ u′ → Raised z m x u l root (level-plan z (a, b) l t c (wide-entries n)) r x′ u′
@@ -178,15 +178,15 @@ raise-turn-room x h = omega arith
 pub ruleset raise-exits = (raise-splits, raise-turns, raise-of-level, raise-writes, raise-full, raise-narrow, raise-few, raise-turn-few, level-room, raise-turn-room, under-name)
 
 -- ---- the root
-module _ (z : Sizes) (m : ClientWord → ℕ) (x u : List ℕ) (l c : ℕ) (n : Wide) (a b : ℕ) (k : Content l n) where
+module _ (z : TreeSizes) (m : ClientWord → ℕ) (x u : List ℕ) (l c : ℕ) (n : Wide) (a b : ℕ) (k : Content l n) where
   pub top-splits : n .count ≡ 15 → (s : Stop) (x′ u′ : List ℕ) → Closed z m x u (root-split z (a, b) l c (wide-entries n 0)) s x′ u′
       → Closed z m x u (top-plan z (a, b) l c (wide-entries n 0)) s x′ u′
   unfolding top-plan root-split
   top-splits e s x′ u′ h =
-      let q : length (wide-entries n 0) ≤ mx l → ⊥ = λ q. omega (arith, most l n k 0, entries-many l n k 0, q) in
+      let q : length (wide-entries n 0) ≤ most-entries l → ⊥ = λ q. omega (arith, most l n k 0, entries-many l n k 0, q) in
       record {
         more = h .more;
-        same = λ w hold. rw (ifd-no (decLe (length (wide-entries n 0)) (mx l)) (P.done ((a, b), (node c, mk l (wide-entries n 0)) ∷ w)) (split-root z (a, b) l w c (wide-entries n 0)) q) (h .same w hold);
+        same = λ w hold. rw (ifd-no (decLe (length (wide-entries n 0)) (most-entries l)) (P.done ((a, b), (node c, node-value l (wide-entries n 0)) ∷ w)) (split-root z (a, b) l w c (wide-entries n 0)) q) (h .same w hold);
         holds = h .holds;
         kept = h .kept;
         noted = h .noted;
@@ -196,10 +196,10 @@ module _ (z : Sizes) (m : ClientWord → ℕ) (x u : List ℕ) (l c : ℕ) (n : 
       → Closed z m x u (top-plan z (a, b) l c (wide-entries n 0)) s x′ u′
   unfolding top-plan
   top-writes ne eight there s x′ u′ h =
-      let q : length (wide-entries n 0) ≤ mx l = omega (arith, most l n k 0, entries-many l n k 0, k .few, ne) in
+      let q : length (wide-entries n 0) ≤ most-entries l = omega (arith, most l n k 0, entries-many l n k 0, k .few, ne) in
       record {
         more = (node c, value-of (node c) (narrow n)) ∷ [];
-        same = λ w hold. rw (ifd-yes (decLe (length (wide-entries n 0)) (mx l)) (P.done ((a, b), (node c, mk l (wide-entries n 0)) ∷ w)) (split-root z (a, b) l w c (wide-entries n 0)) q, narrow-value l n k 0 c) (h .ends z w);
+        same = λ w hold. rw (ifd-yes (decLe (length (wide-entries n 0)) (most-entries l)) (P.done ((a, b), (node c, node-value l (wide-entries n 0)) ∷ w)) (split-root z (a, b) l w c (wide-entries n 0)) q, narrow-value l n k 0 c) (h .ends z w);
         holds = λ _ w hold. h .written .holds z w eight there hold;
         kept = λ _ w hold. h .written .kept;
         noted = h .noted;

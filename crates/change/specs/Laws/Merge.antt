@@ -13,14 +13,14 @@ use borrow.Author.Tests.{not-true, not-false, eqb-true, eqb-false}
 use Rattle.base.specs.Laws.Test.{ifd-yes, ifd-no}
 use Rattle.nodes.specs.declared.node.Node.{Node}
 use Rattle.nodes.specs.declared.change.Wide.{Wide}
-use Rattle.nodes.specs.Lists.{remove}
+use Rattle.nodes.specs.Lists.{remove-at}
 use Rattle.nodes.specs.Laws.Lists.{length-remove}
 use Rattle.nodes.specs.Node.{extra, keysOf, pair-at, made, free-node}
 use Rattle.nodes.specs.Entries.{entriesOf, wide-entries}
 use Rattle.nodes.specs.Change.{take-out}
 use Rattle.nodes.specs.Laws.Kept.{length-entriesOf, take-out-entries}
 use Rattle.operations.specs.Object.{node, flag, taken, free, no-tree, Ans, Writes}
-use Rattle.operations.specs.Slot.{Sizes, release}
+use Rattle.operations.specs.Slot.{TreeSizes, release}
 use Rattle.operations.specs.Entry.{Entries, keys}
 use Rattle.operations.specs.Path.{Branch}
 use Rattle.operations.specs.Change.{Go, with-one, collapsed, onward, merged}
@@ -35,7 +35,7 @@ use Rattle.client.specs.Lent.{used-in}
 use Rattle.walk.specs.Laws.Entries.{extra-inner, entry-slot, entry-keys}
 use Rattle.walk.specs.Walk.{Told, told, goes, over, walked}
 use Rattle.walk.specs.Laws.Walk.{walked-done, full-done}
-use Rattle.walk.specs.Ask.{SmallNode, OwnGood, Holds}
+use Rattle.walk.specs.Ask.{SmallNode, OwnGood, Holds-writes}
 use Rattle.walk.specs.Down.{Followed}
 use Rattle.walk.specs.Laws.Down.{stops-not}
 use Rattle.walk.specs.Lookup.{Ends}
@@ -90,7 +90,7 @@ unfolding free-node made
 blank-few n e = rw e (omega arith)
 
 -- an answer, or one object too many
-ends-halts : (z : Sizes) (m : ClientWord → ℕ) (u : List ℕ) (a b : ℕ) (s : Stop) (u′ : List ℕ) → Ends m u a b s u′ → goes s ≡ false
+ends-halts : (z : TreeSizes) (m : ClientWord → ℕ) (u : List ℕ) (a b : ℕ) (s : Stop) (u′ : List ℕ) → Ends m u a b s u′ → goes s ≡ false
 ends-halts z m u a b s u′ h = go (over m (used-in u)) refl
   where
     is : walked z m (P.done ((a, b), [])) (used-in u) .stop ≡ s
@@ -101,7 +101,7 @@ ends-halts z m u a b s u′ h = go (over m (used-in u)) refl
     go false e = ap goes (sym (sym (ap (λ (t : Told). t .stop) (walked-done z m (used-in u) ((a, b), []) e)) ∙ is))
 
 -- a node is freed, or its flag stops the walk
-module _ (z : Sizes) (m : ClientWord → ℕ) (x u : List ℕ) (c : ℕ) (s : Stop) (x′ u′ : List ℕ) (h : Released z m x u c s x′ u′) where
+module _ (z : TreeSizes) (m : ClientWord → ℕ) (x u : List ℕ) (c : ℕ) (s : Stop) (x′ u′ : List ℕ) (h : Released z m x u c s x′ u′) where
   pub freed-good : (on : Bool) → on ≡ goes s → not on ≡ false → OwnGood x′
   freed-good on po q = h .good (sym po ∙ not-false on q)
 
@@ -114,13 +114,13 @@ module _ (z : Sizes) (m : ClientWord → ℕ) (x u : List ℕ) (c : ℕ) (s : St
   pub freed-more : getD x 0 0 ≤ 12 → getD x′ 0 0 < 20
   freed-more q = omega (arith, h .few)
 
-  release-stands : goes s ≡ false → (w : Writes) → Holds z x w → stands s ≡ false
+  release-stands : goes s ≡ false → (w : Writes) → Holds-writes z x w → stands s ≡ false
   unfolding Mute
   release-stands no-more w hold =
       let e : walked z m (release w c (λ _. P.fail no-tree)) (used-in u) ≡ told s (used-in u′) = rw (h .asks w hold (λ _. P.fail no-tree), no-more) in
       rw (ap (λ (t : Told). t .stop) e) at (walked-mute z m (release w c (λ _. P.fail no-tree)) (release-mute w c (λ _. P.fail no-tree) (λ _. tt)) (used-in u))
 
-module _ (z : Sizes) (m : ClientWord → ℕ) (x u : List ℕ) (a b root c : ℕ) (one : Node) (s : Stop) (x₁ u₁ : List ℕ) (h : Released z m x u c s x₁ u₁) (on : Bool) (po : on ≡ goes s) where
+module _ (z : TreeSizes) (m : ClientWord → ℕ) (x u : List ℕ) (a b root c : ℕ) (one : Node) (s : Stop) (x₁ u₁ : List ℕ) (h : Released z m x u c s x₁ u₁) (on : Bool) (po : on ≡ goes s) where
   pub collapse-stops : (r : Risen) → not on ≡ true → r .stop ≡ s → Collapses z m x u (a, b) root c one r x₁ u₁
   unfolding collapse-plan
   collapse-stops r q e =
@@ -177,9 +177,9 @@ merged-is a l [] go root count w f c es e n = rw (← e, ← n) (by (eqb (length
     by false t = rw t (ifd-no (ℕ-discrete (length (with-one f c)) 1) _ _ (eqb-false (length (with-one f c)) 1 t))
 merged-is a l (g ∷ fs) go root count w f c es e n = rw (← e)
 
-module _ (z : Sizes) (b : Turn) (s : Sides) (h : Neighbours z b s) where
+module _ (z : TreeSizes) (b : Turn) (s : Sides) (h : Neighbours z b s) where
   -- the parent's entries without the right one
-  pub one-less : (lo : ℕ) → with-one (pair-in b s lo) (s .left) ≡ remove (suc (s .at)) (entriesOf (b .node) lo)
+  pub one-less : (lo : ℕ) → with-one (pair-in b s lo) (s .left) ≡ remove-at (suc (s .at)) (entriesOf (b .node) lo)
   one-less lo =
       right-out (b .name) (s .at) (entriesOf (b .node) lo) (both-inside b s (h .followed) (h .between) lo) (s .left) (left-entry b s (h .followed) (h .between) lo)
 
@@ -195,10 +195,10 @@ module _ (z : Sizes) (b : Turn) (s : Sides) (h : Neighbours z b s) where
   goes-up l lo e =
       let i : s .at < b .node .count = h .between .paired .inside in
       let x : s .at + extra (b .node .kind) ≡ suc (s .at) = let y = extra-inner (b .node) (h .followed .inner) in omega arith in
-      one-less lo ∙ ap (λ (k : ℕ). remove k (entriesOf (b .node) lo)) (sym x) ∙ sym (take-out-entries (b .node) lo (h .followed .whole) (s .at) i)
+      one-less lo ∙ ap (λ (k : ℕ). remove-at k (entriesOf (b .node) lo)) (sym x) ∙ sym (take-out-entries (b .node) lo (h .followed .whole) (s .at) i)
       ∙ sym (widened-entries (suc l) (take-out (b .node) (s .at)) (out-level (suc l) (b .node) (parent-level l e) (s .at) i) lo)
 
-module _ (z : Sizes) (m : ClientWord → ℕ) (x u : List ℕ) (root : Bool) (a c : ℕ) (b : Turn) (s : Sides) (one : Node) (h : Neighbours z b s) (stop : Stop) (x₁ u₁ : List ℕ) (freed : Released z m x u (s .right) stop x₁ u₁) (on : Bool) (po : on ≡ goes stop) where
+module _ (z : TreeSizes) (m : ClientWord → ℕ) (x u : List ℕ) (root : Bool) (a c : ℕ) (b : Turn) (s : Sides) (one : Node) (h : Neighbours z b s) (stop : Stop) (x₁ u₁ : List ℕ) (freed : Released z m x u (s .right) stop x₁ u₁) (on : Bool) (po : on ≡ goes stop) where
   abbrev let-go : Writes
   let-go = (node (s .right), free) ∷ (flag (s .right), taken false) ∷ []
 
@@ -267,13 +267,13 @@ module _ (z : Sizes) (m : ClientWord → ℕ) (x u : List ℕ) (root : Bool) (a 
           };
         }
 
-pub left-named : (z : Sizes) (b : Turn) (s : Sides) → Neighbours z b s → z .servers ≤ 8 → s .left < 8192
+pub left-named : (z : TreeSizes) (b : Turn) (s : Sides) → Neighbours z b s → z .servers ≤ 8 → s .left < 8192
 left-named z b s h eight = name-below z (s .left) eight (h .left)
 
-pub right-named : (z : Sizes) (b : Turn) (s : Sides) → Neighbours z b s → z .servers ≤ 8 → s .right < 8192
+pub right-named : (z : TreeSizes) (b : Turn) (s : Sides) → Neighbours z b s → z .servers ≤ 8 → s .right < 8192
 right-named z b s h eight = name-below z (s .right) eight (h .right)
 
-pub parent-fewer : (z : Sizes) (b : Turn) (s : Sides) → Neighbours z b s → (p : Node) → p .count < b .node .count → p .count ≤ 14
+pub parent-fewer : (z : TreeSizes) (b : Turn) (s : Sides) → Neighbours z b s → (p : Node) → p .count < b .node .count → p .count ≤ 14
 parent-fewer z b s h p q = omega (arith, h .followed .small .keys)
 
 pub ruleset merge-exits = (merge-stops, freed-good, freed-some, freed-more, left-named, parent-fewer, merge-collapses, merge-goes)

@@ -16,7 +16,7 @@ use Rattle.nodes.specs.Node.{keysOf, slotsOf}
 use Rattle.nodes.specs.Kept.{Whole}
 use Rattle.nodes.specs.Laws.Kept.{whole}
 use Rattle.operations.specs.Object.{meta, node, Val, body, no-tree}
-use Rattle.operations.specs.Slot.{Sizes}
+use Rattle.operations.specs.Slot.{TreeSizes}
 use Rattle.operations.specs.Path.{Plan}
 use Rattle.operations.specs.Migrate.{move-root, move-at, first-key, move-below, move-node, move-if, migrate-plan}
 use Rattle.walk.specs.declared.down.Descent.{Descent}
@@ -28,7 +28,7 @@ use Rattle.client.specs.Record.{value-of}
 use Rattle.client.specs.Lent.{used-in}
 use Rattle.walk.specs.Walk.{goes, walked}
 use Rattle.walk.specs.Laws.Walk.{walked-fails}
-use Rattle.walk.specs.Ask.{SmallNode, OwnGood, Holds, Noted, Answer, nothing}
+use Rattle.walk.specs.Ask.{SmallNode, OwnGood, Holds-writes, Noted, Answer, nothing}
 use Rattle.walk.specs.Laws.Ask.{none-held}
 use Rattle.walk.specs.Down.{branches, trail, low}
 use Rattle.change.specs.Mute.{stands}
@@ -43,7 +43,7 @@ use Rattle.change.specs.Migrate.{named-plan}
 use Rattle.plans.specs.Plan as P
 
 -- a plan whose walk comes to that of another
-follows : (z : Sizes) (m : ClientWord → ℕ) (x u u₁ : List ℕ) (p q : Plan) (s : Stop) (x′ u′ : List ℕ) → (Holds z x [] → walked z m p (used-in u) ≡ walked z m q (used-in u₁))
+follows : (z : TreeSizes) (m : ClientWord → ℕ) (x u u₁ : List ℕ) (p q : Plan) (s : Stop) (x′ u′ : List ℕ) → (Holds-writes z x [] → walked z m p (used-in u) ≡ walked z m q (used-in u₁))
     → Operated z m x u₁ q s x′ u′ → Operated z m x u p s x′ u′
 follows z m x u u₁ p q s x′ u′ e h = record { writes = h .writes; same = λ hold. e hold ∙ h .same hold; holds = h .holds; kept = h .kept; noted = h .noted }
 
@@ -51,7 +51,7 @@ never : {A : Type 0} (s : Stop) → stands s ≡ false → stands s ≡ true →
 never s p q = let e : false ≡ true = sym p ∙ q in let z : _≡_ {A = ℕ} 0 1 = cc in absurd (omega arith)
 
 -- ---- the root
-module _ (z : Sizes) (m : ClientWord → ℕ) (x u : List ℕ) (nm s : ℕ) (n : Node) (t : Taken) (x₁ u₁ : List ℕ) (h : Moved z m x u nm s n true t x₁ u₁) (b : Bool) (pb : b ≡ goes (t .stop)) where
+module _ (z : TreeSizes) (m : ClientWord → ℕ) (x u : List ℕ) (nm s : ℕ) (n : Node) (t : Taken) (x₁ u₁ : List ℕ) (h : Moved z m x u nm s n true t x₁ u₁) (b : Bool) (pb : b ≡ goes (t .stop)) where
   abbrev v : Val
   v = value-of (node nm) n
 
@@ -80,7 +80,7 @@ module _ (z : Sizes) (m : ClientWord → ℕ) (x u : List ℕ) (nm s : ℕ) (n :
 pub ruleset root-moves = (root-stays, root-moved)
 
 -- ---- a node below the root
-module _ (z : Sizes) (m : ClientWord → ℕ) (x u : List ℕ) (top nm s key : ℕ) (n : Node) (d : Descent) (u₁ : List ℕ) (h : ToParent z m u key top (n .level) d u₁) (b : Bool) (pb : b ≡ goes (d .stop)) where
+module _ (z : TreeSizes) (m : ClientWord → ℕ) (x u : List ℕ) (top nm s key : ℕ) (n : Node) (d : Descent) (u₁ : List ℕ) (h : ToParent z m u key top (n .level) d u₁) (b : Bool) (pb : b ≡ goes (d .stop)) where
   abbrev w : Val
   w = value-of (node nm) n
 
@@ -96,26 +96,26 @@ module _ (z : Sizes) (m : ClientWord → ℕ) (x u : List ℕ) (top nm s key : �
       follows z m x u u₁ (move-below z top nm s w (n .level) key) _ st x′ u′ (λ hold. rw (h .asks (move-at z nm s w key), on, ← e))
       (c .operated (branches (trail (d .path) (suc (n .level)) (d .top - suc (n .level)))) (low (trail (d .path) (suc (n .level)) (d .top - suc (n .level)))))
 
-pub below-parent : (z : Sizes) (m : ClientWord → ℕ) (u : List ℕ) (key top l : ℕ) (d : Descent) (u′ : List ℕ) (b : Bool) → ToParent z m u key top l d u′ → b ≡ goes (d .stop) → not b ≡ false
+pub below-parent : (z : TreeSizes) (m : ClientWord → ℕ) (u : List ℕ) (key top l : ℕ) (d : Descent) (u′ : List ℕ) (b : Bool) → ToParent z m u key top l d u′ → b ≡ goes (d .stop) → not b ≡ false
     → Parent z l (d .name) (d .node)
 below-parent z m u key top l d u′ b h pb nb = h .parent (sym pb ∙ not-false b nb)
 
 pub ruleset below-exits = (below-stops, below-parent, below-moves)
 
 -- ---- which it is
-move-used : (z : Sizes) (top nm s kind level : ℕ) (ks vs : List ℕ) → (kind ≡ 0 → ⊥)
+move-used : (z : TreeSizes) (top nm s kind level : ℕ) (ks vs : List ℕ) → (kind ≡ 0 → ⊥)
     → move-if z top nm s (body kind level ks vs) ≡ ifd (ℕ-discrete (server-of nm) s) (P.done ((0, 1), [])) (move-node z top nm s (body kind level ks vs) level ks)
 move-used z top nm s zero level ks vs h = absurd (h refl)
 move-used z top nm s (suc kind) level ks vs h = refl
 
-move-free : (z : Sizes) (top nm s kind level : ℕ) (ks vs : List ℕ) → kind ≡ 0 → move-if z top nm s (body kind level ks vs) ≡ P.done ((0, 0), [])
+move-free : (z : TreeSizes) (top nm s kind level : ℕ) (ks vs : List ℕ) → kind ≡ 0 → move-if z top nm s (body kind level ks vs) ≡ P.done ((0, 0), [])
 move-free z top nm s kind level ks vs h = rw h
 
 first-is : (ks : List ℕ) (k : ℕ → Plan) → 0 < length ks → first-key ks k ≡ k (getD ks 0 0)
 first-is [] k h = absurd (omega arith)
 first-is (a ∷ ks) k h = refl
 
-module _ (z : Sizes) (m : ClientWord → ℕ) (x u : List ℕ) (g : OwnGood x) (top nm s : ℕ) (n : Node) where
+module _ (z : TreeSizes) (m : ClientWord → ℕ) (x u : List ℕ) (g : OwnGood x) (top nm s : ℕ) (n : Node) where
   abbrev y : Val
   y = value-of (node nm) n
 
@@ -161,7 +161,7 @@ module _ (z : Sizes) (m : ClientWord → ℕ) (x u : List ℕ) (g : OwnGood x) (
 
 pub ruleset if-exits = (if-free, if-there, if-root, if-few, if-below)
 
-module _ (z : Sizes) (m : ClientWord → ℕ) (x u : List ℕ) (g : OwnGood x) (top nm s : ℕ) (s₁ : Stop) (n : Node) (u₁ : List ℕ) (a : Answer z m nothing u (node nm) s₁ n u₁) (b : Bool) (pb : b ≡ goes s₁) where
+module _ (z : TreeSizes) (m : ClientWord → ℕ) (x u : List ℕ) (g : OwnGood x) (top nm s : ℕ) (s₁ : Stop) (n : Node) (u₁ : List ℕ) (a : Answer z m nothing u (node nm) s₁ n u₁) (b : Bool) (pb : b ≡ goes s₁) where
   pub named-stops : not b ≡ true → Operated z m x u (named-plan z top nm s) s₁ x u₁
   unfolding named-plan
   named-stops nb =
@@ -174,15 +174,15 @@ module _ (z : Sizes) (m : ClientWord → ℕ) (x u : List ℕ) (g : OwnGood x) (
       let on : goes s₁ ≡ true = sym pb ∙ not-false b nb in
       follows z m x u u₁ (named-plan z top nm s) (move-if z top nm s (value-of (node nm) n)) st x′ u′ (λ hold. rw (a .asks [] (none-held z) .same, on)) h
 
-pub named-small : (z : Sizes) (m : ClientWord → ℕ) (u : List ℕ) (nm : ℕ) (s : Stop) (n : Node) (u′ : List ℕ) → Answer z m nothing u (node nm) s n u′ → SmallNode n
+pub named-small : (z : TreeSizes) (m : ClientWord → ℕ) (u : List ℕ) (nm : ℕ) (s : Stop) (n : Node) (u′ : List ℕ) → Answer z m nothing u (node nm) s n u′ → SmallNode n
 named-small z m u nm s n u′ c = c .small
 
-pub named-whole : (z : Sizes) (m : ClientWord → ℕ) (u : List ℕ) (nm : ℕ) (s : Stop) (n : Node) (u′ : List ℕ) → Answer z m nothing u (node nm) s n u′ → length (n .keys) ≡ 14 → length (n .slots) ≡ 15 → Whole n
+pub named-whole : (z : TreeSizes) (m : ClientWord → ℕ) (u : List ℕ) (nm : ℕ) (s : Stop) (n : Node) (u′ : List ℕ) → Answer z m nothing u (node nm) s n u′ → length (n .keys) ≡ 14 → length (n .slots) ≡ 15 → Whole n
 named-whole z m u nm s n u′ c lk ls = whole n lk ls (c .small .keys)
 
 pub ruleset named-exits = (named-stops, named-goes-on, named-small, named-whole)
 
-module _ (z : Sizes) (m : ClientWord → ℕ) (x u : List ℕ) (nm s : ℕ) (s₁ : Stop) (r : Node) (u₁ : List ℕ) (a : Answer z m nothing u meta s₁ r u₁) (b : Bool) (pb : b ≡ goes s₁) where
+module _ (z : TreeSizes) (m : ClientWord → ℕ) (x u : List ℕ) (nm s : ℕ) (s₁ : Stop) (r : Node) (u₁ : List ℕ) (a : Answer z m nothing u meta s₁ r u₁) (b : Bool) (pb : b ≡ goes s₁) where
   pub migrate-stops : OwnGood x → not b ≡ true → Operated z m x u (migrate-plan z nm s) s₁ x u₁
   migrate-stops g nb =
       let q : goes s₁ ≡ false = sym pb ∙ not-true b nb in

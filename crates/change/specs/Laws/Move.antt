@@ -11,7 +11,7 @@ use Rattle.nodes.specs.Lists.{pad}
 use Rattle.nodes.specs.Name.{slot-of}
 use Rattle.nodes.specs.Node.{made}
 use Rattle.operations.specs.Object.{meta, node, flag, Val, root, taken, free, no-tree, Writes}
-use Rattle.operations.specs.Slot.{Sizes, take-node, release}
+use Rattle.operations.specs.Slot.{TreeSizes, take-node, release}
 use Rattle.operations.specs.Path.{Plan}
 use Rattle.operations.specs.Migrate.{moved}
 use Rattle.walk.specs.declared.search.Taken.{Taken}
@@ -20,7 +20,7 @@ use Rattle.client.specs.Layout.{ClientWord}
 use Rattle.client.specs.Record.{sizes, in-store, value-of, single, record-of}
 use Rattle.client.specs.Lent.{OwnFits, own-put, used-in}
 use Rattle.walk.specs.Walk.{told, goes, walked, carry}
-use Rattle.walk.specs.Ask.{SmallNode, OwnGood, Holds}
+use Rattle.walk.specs.Ask.{SmallNode, OwnGood, Holds-writes}
 use Rattle.walk.specs.Laws.Down.{stops-not}
 use Rattle.walk.specs.Laws.Write.{name-below}
 use Rattle.walk.specs.Take.{NodeTaken, Released, Wrote}
@@ -33,14 +33,14 @@ use Rattle.change.specs.Move.{beside, Beside, Placed, Left, Moved}
 use Rattle.plans.specs.Plan as P
 
 -- a stop is no answer
-moved-mute : (z : Sizes) (nm s : ℕ) (v : Val) (b : Bool) → Mute (moved z nm s v (beside b) (λ d w. P.fail no-tree))
+moved-mute : (z : TreeSizes) (nm s : ℕ) (v : Val) (b : Bool) → Mute (moved z nm s v (beside b) (λ d w. P.fail no-tree))
 unfolding Mute
 moved-mute z nm s v b =
     take-on-mute z (s ∷ []) (slot-of nm) [] (λ d w. take-node w d (release (beside b d w) nm (λ w′. P.fail no-tree)))
     (λ d w. take-node-mute w d (release (beside b d w) nm (λ w′. P.fail no-tree)) (release-mute (beside b d w) nm (λ w′. P.fail no-tree) (λ w′. tt)))
 
-pub moved-stops : (z : Sizes) (m : ClientWord → ℕ) (x u : List ℕ) (nm s : ℕ) (n : Node) (b : Bool) (r : Taken) (x′ u′ : List ℕ) → Moved z m x u nm s n b r x′ u′
-    → Holds z x [] → goes (r .stop) ≡ false → stands (r .stop) ≡ false
+pub moved-stops : (z : TreeSizes) (m : ClientWord → ℕ) (x u : List ℕ) (nm s : ℕ) (n : Node) (b : Bool) (r : Taken) (x′ u′ : List ℕ) → Moved z m x u nm s n b r x′ u′
+    → Holds-writes z x [] → goes (r .stop) ≡ false → stands (r .stop) ≡ false
 moved-stops z m x u nm s n b r x′ u′ h hold q =
     let e : walked z m (moved z nm s (value-of (node nm) n) (beside b) (λ d w. P.fail no-tree)) (used-in u) ≡ told (r .stop) (used-in u′) = rw (h .asks hold (λ d w. P.fail no-tree), q) in
     rw e at (walked-mute z m (moved z nm s (value-of (node nm) n) (beside b) (λ d w. P.fail no-tree)) (moved-mute z nm s (value-of (node nm) n) b) (used-in u))
@@ -67,7 +67,7 @@ module _ (x : List ℕ) (b : Bool) (d : ℕ) (g : OwnGood x) where
 pub ruleset beside-exits = (nothing-beside, root-beside)
 
 -- ---- a slot of the server
-module _ (z : Sizes) (m : ClientWord → ℕ) (x u : List ℕ) (s slot : ℕ) (t : Taken) (x₁ u₁ : List ℕ) (a : TakenOn z m x u (s ∷ []) slot t x₁ u₁) (c : Bool) (pc : c ≡ goes (t .stop)) where
+module _ (z : TreeSizes) (m : ClientWord → ℕ) (x u : List ℕ) (s slot : ℕ) (t : Taken) (x₁ u₁ : List ℕ) (a : TakenOn z m x u (s ∷ []) slot t x₁ u₁) (c : Bool) (pc : c ≡ goes (t .stop)) where
   pub place-none : not c ≡ true → Placed z m x u s slot t x₁ u₁
   place-none nc =
       let no : goes (t .stop) ≡ false = sym pc ∙ not-true c nc in
@@ -113,12 +113,12 @@ module _ (x : List ℕ) (b : Bool) (d : ℕ) (x₁ : List ℕ) (f : Beside x b d
     pub leave-room : getD x₁ 0 0 < 19
     leave-room = omega (arith, f .few)
 
-    pub leave-last-room : (z : Sizes) (m : ClientWord → ℕ) (u : List ℕ) (nm : ℕ) (s : Stop) (x₂ u₂ : List ℕ) → Released z m x₁ u nm s x₂ u₂ → getD x₂ 0 0 < 20
+    pub leave-last-room : (z : TreeSizes) (m : ClientWord → ℕ) (u : List ℕ) (nm : ℕ) (s : Stop) (x₂ u₂ : List ℕ) → Released z m x₁ u nm s x₂ u₂ → getD x₂ 0 0 < 20
     leave-last-room z m u nm s x₂ u₂ h = omega (arith, f .few, h .few)
 
-module _ (z : Sizes) (m : ClientWord → ℕ) (x u : List ℕ) (nm d : ℕ) (n : Node) (b : Bool) (few : getD x 0 0 < 16) (x₁ : List ℕ) (f : Beside x b d x₁) where
+module _ (z : TreeSizes) (m : ClientWord → ℕ) (x u : List ℕ) (nm d : ℕ) (n : Node) (b : Bool) (few : getD x 0 0 < 16) (x₁ : List ℕ) (f : Beside x b d x₁) where
   module _ (eight : z .servers ≤ 8) (s : Stop) (x₂ u₂ : List ℕ) (h : Released z m x₁ u nm s x₂ u₂) (c : Bool) (pc : c ≡ goes s) where
-    freed : (w : Writes) → Holds z x w → (k : Writes → Plan)
+    freed : (w : Writes) → Holds-writes z x w → (k : Writes → Plan)
         → walked z m (release (beside b d w) nm (λ w′. k ((node d, value-of (node nm) n) ∷ w′))) (used-in u)
         ≡ carry s (used-in u₂) (λ us. walked z m (k ((node d, value-of (node nm) n) ∷ (node nm, free) ∷ (flag nm, taken false) ∷ beside b d w)) us)
     freed w hold k = h .asks (beside b d w) (f .holds z w eight hold) (λ w′. k ((node d, value-of (node nm) n) ∷ w′))
@@ -140,7 +140,7 @@ module _ (z : Sizes) (m : ClientWord → ℕ) (x u : List ℕ) (nm d : ℕ) (n :
           noted = h .noted;
         }
 
-pub leave-last-good : (z : Sizes) (m : ClientWord → ℕ) (x u : List ℕ) (nm : ℕ) (s : Stop) (x′ u′ : List ℕ) (c : Bool) → Released z m x u nm s x′ u′ → c ≡ goes s → not c ≡ false → OwnGood x′
+pub leave-last-good : (z : TreeSizes) (m : ClientWord → ℕ) (x u : List ℕ) (nm : ℕ) (s : Stop) (x′ u′ : List ℕ) (c : Bool) → Released z m x u nm s x′ u′ → c ≡ goes s → not c ≡ false → OwnGood x′
 leave-last-good z m x u nm s x′ u′ c h pc nc = h .good (sym pc ∙ not-false c nc)
 
 pub leave-name : (servers slots d : ℕ) → servers ≤ 8 → in-store (sizes servers slots) d ≡ true → d < 8192
@@ -149,7 +149,7 @@ leave-name servers slots d eight t = name-below (sizes servers slots) d eight t
 pub ruleset leave-exits = (leave-room, leave-good, leave-stops, leave-last-room, leave-last-good, leave-done, leave-name)
 
 -- ---- the whole move
-module _ (z : Sizes) (m : ClientWord → ℕ) (x u : List ℕ) (s slot : ℕ) (t : Taken) (x₁ u₁ : List ℕ) (a : Placed z m x u s slot t x₁ u₁) where
+module _ (z : TreeSizes) (m : ClientWord → ℕ) (x u : List ℕ) (s slot : ℕ) (t : Taken) (x₁ u₁ : List ℕ) (a : Placed z m x u s slot t x₁ u₁) where
   pub move-room : getD x 0 0 ≡ 0 → getD x₁ 0 0 < 16
   move-room empty = omega (arith, a .few)
 
@@ -160,7 +160,7 @@ module _ (z : Sizes) (m : ClientWord → ℕ) (x u : List ℕ) (s slot : ℕ) (t
     pub move-there : in-store z (t .name) ≡ true
     move-there = a .inside (sym pc ∙ not-false c nc)
 
-module _ (z : Sizes) (m : ClientWord → ℕ) (x u : List ℕ) (nm s : ℕ) (n : Node) (b : Bool) (empty : getD x 0 0 ≡ 0) (t : Taken) (x₁ u₁ : List ℕ) (a : Placed z m x u s (nm % 1024) t x₁ u₁) (c : Bool) (pc : c ≡ goes (t .stop)) where
+module _ (z : TreeSizes) (m : ClientWord → ℕ) (x u : List ℕ) (nm s : ℕ) (n : Node) (b : Bool) (empty : getD x 0 0 ≡ 0) (t : Taken) (x₁ u₁ : List ℕ) (a : Placed z m x u s (nm % 1024) t x₁ u₁) (c : Bool) (pc : c ≡ goes (t .stop)) where
   abbrev v : Val
   v = value-of (node nm) n
 

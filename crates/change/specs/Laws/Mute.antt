@@ -11,8 +11,8 @@ use Rattle.base.specs.Test.{ifd}
 use Rattle.nodes.specs.Name.{server-of, slot-of}
 use Rattle.nodes.specs.Placement.{row}
 use Rattle.operations.specs.Object.{Obj, meta, node, flag, Ask, object, vector, fetched, Val, root, body, taken, flags, Writes, hit}
-use Rattle.operations.specs.Slot.{Sizes, present, chosen, free-slot, search, when-free-flag, take-flag, take-on, take-for, when-free-node, take-node, release}
-use Rattle.operations.specs.Entry.{Entries, mn}
+use Rattle.operations.specs.Slot.{TreeSizes, present, chosen, free-slot, search, when-free-flag, take-flag, take-on, take-for, when-free-node, take-node, release}
+use Rattle.operations.specs.Entry.{Entries, fewest-entries}
 use Rattle.operations.specs.Path.{Plan, see, open-node, kid}
 use Rattle.client.specs.Layout.{ClientWord}
 use Rattle.client.specs.Record.{number}
@@ -76,7 +76,7 @@ lack-not (object (flag n)) = refl
 lack-not (vector s) = refl
 lack-not (fetched s) = refl
 
-module _ (z : Sizes) (m : ClientWord → ℕ) where
+module _ (z : TreeSizes) (m : ClientWord → ℕ) where
   tell-mute : (e : End) (us : List ℕ) → given e ≡ false → stands (tell z m e us .stop) ≡ false
   tell-mute (lacks a) us h = go (broken z m a) refl
     where
@@ -119,16 +119,16 @@ chosen-mute : (s : ℕ) (o : Option ℕ) (k : ℕ → Plan) (p : Plan) → ((d :
 chosen-mute s none k p h g = g
 chosen-mute s (some i) k p h g = h _
 
-search-mute : (z : Sizes) (w : Writes) (slot : ℕ) (ss : List ℕ) (k : ℕ → Plan) → ((d : ℕ) → Mute (k d)) → Mute (search z w slot ss k)
+search-mute : (z : TreeSizes) (w : Writes) (slot : ℕ) (ss : List ℕ) (k : ℕ → Plan) → ((d : ℕ) → Mute (k d)) → Mute (search z w slot ss k)
 unfolding Mute
 search-mute z w slot [] k h = tt
 search-mute z w slot (s ∷ ss) k h =
     λ v. chosen-mute s (free-slot z w slot s v) k _ h (λ u. chosen-mute s (free-slot z w slot s u) k _ h (search-mute z w slot ss k h))
 
-pub take-on-mute : (z : Sizes) (ss : List ℕ) (slot : ℕ) (w : Writes) (k : ℕ → Writes → Plan) → ((d : ℕ) (w : Writes) → Mute (k d w)) → Mute (take-on z ss slot w k)
+pub take-on-mute : (z : TreeSizes) (ss : List ℕ) (slot : ℕ) (w : Writes) (k : ℕ → Writes → Plan) → ((d : ℕ) (w : Writes) → Mute (k d w)) → Mute (take-on z ss slot w k)
 take-on-mute z ss slot w k h = search-mute z w slot ss _ (λ d. take-flag-mute w d (λ w′. k d w′) (h d))
 
-pub take-for-mute : (z : Sizes) (n : ℕ) (w : Writes) (k : ℕ → Writes → Plan) → ((d : ℕ) (w : Writes) → Mute (k d w)) → Mute (take-for z n w k)
+pub take-for-mute : (z : TreeSizes) (n : ℕ) (w : Writes) (k : ℕ → Writes → Plan) → ((d : ℕ) (w : Writes) → Mute (k d w)) → Mute (take-for z n w k)
 take-for-mute z n w k h = take-on-mute z (present (z .servers) (row (server-of n))) (slot-of n) w k h
 
 node-mute : (v : Val) (k : Plan) → Mute k → Mute (when-free-node v k)
@@ -164,4 +164,4 @@ ifd-mute (no a) p q f g = g
 pub kid-mute : (w : Writes) (l lo n : ℕ) (k : Entries → Plan) → ((es : Entries) → Mute (k es)) → Mute (kid w l lo n k)
 unfolding Mute
 kid-mute w l lo n k h =
-    see-mute w (node n) _ (λ v. open-mute lo v _ (λ j es. ifd-mute (ℕ-discrete j l) _ _ (ifd-mute (decLe (mn l) (length es)) _ _ (h es) tt) tt))
+    see-mute w (node n) _ (λ v. open-mute lo v _ (λ j es. ifd-mute (ℕ-discrete j l) _ _ (ifd-mute (decLe (fewest-entries l) (length es)) _ _ (h es) tt) tt))

@@ -17,7 +17,7 @@ use Rattle.nodes.specs.Change.{wide, join, narrow, cut-at, merged, from-left, f
 use Rattle.nodes.specs.Kept.{Whole}
 use Rattle.nodes.specs.Laws.Kept.{length-entriesOf, key-entries}
 use Rattle.operations.specs.Object.{node, no-tree, Writes}
-use Rattle.operations.specs.Slot.{Sizes}
+use Rattle.operations.specs.Slot.{TreeSizes}
 use Rattle.operations.specs.Arrays.{kind}
 use Rattle.operations.specs.Path.{Plan, Branch, kid}
 use Rattle.operations.specs.Change.{Go, with-two, parted}
@@ -33,7 +33,7 @@ use Rattle.walk.specs.Entries.{branch-of, Below}
 use Rattle.walk.specs.Laws.Entries.{extra-inner, below-true, open-leaf, open-inner}
 use Rattle.walk.specs.Walk.{Told, told, goes, walked}
 use Rattle.walk.specs.Laws.Walk.{walked-fails}
-use Rattle.walk.specs.Ask.{SmallNode, Holds, Noted}
+use Rattle.walk.specs.Ask.{SmallNode, Holds-writes, Noted}
 use Rattle.walk.specs.Down.{Kid}
 use Rattle.change.specs.Laws.Mute.{Mute, walked-mute, kid-mute}
 use Rattle.change.specs.Rise.{OfLevel, Raised, Under, Fitting, BothWritten, widened, neighbour-plan}
@@ -50,8 +50,8 @@ use Rattle.plans.specs.Plan as P
 use Rattle.operations.specs.Change as C
 
 -- a plan that is walked as another is
-raised-as : (z : Sizes) (m : ClientWord → ℕ) (x u u₁ : List ℕ) (l : ℕ) (root : Bool) (p q : ℕ → List Branch → Writes → Go → Plan) (r : Risen) (x′ u′ : List ℕ)
-    → ((w : Writes) → Holds z x w → (lo : ℕ) (fs : List Branch) (go : Go) → walked z m (p lo fs w go) (used-in u) ≡ walked z m (q lo fs w go) (used-in u₁))
+raised-as : (z : TreeSizes) (m : ClientWord → ℕ) (x u u₁ : List ℕ) (l : ℕ) (root : Bool) (p q : ℕ → List Branch → Writes → Go → Plan) (r : Risen) (x′ u′ : List ℕ)
+    → ((w : Writes) → Holds-writes z x w → (lo : ℕ) (fs : List Branch) (go : Go) → walked z m (p lo fs w go) (used-in u) ≡ walked z m (q lo fs w go) (used-in u₁))
     → Raised z m x u₁ l root q r x′ u′ → Raised z m x u l root p r x′ u′
 raised-as z m x u u₁ l root p q r x′ u′ e d = record {
   more = d .more;
@@ -87,7 +87,7 @@ module _ (last : Bool) (n k : Node) (sep : ℕ) (small-n : SmallNode n) (small-k
       go true p = let a : one .level ≡ k .level = rw (e, p) in record { keys = g; level = omega (arith, small-k .level) }
       go false p = let a : one .level ≡ n .level = rw (e, p) in record { keys = g; level = omega (arith, small-n .level) }
 
-module _ (z : Sizes) (m : ClientWord → ℕ) (x u : List ℕ) (root : Bool) (a c : ℕ) (b : Turn) (s : Sides) (n k : Node) (h : Neighbours z b s) (sep : ℕ) (ps : sep ≡ getD (b .node .keys) (s .at) 0) where
+module _ (z : TreeSizes) (m : ClientWord → ℕ) (x u : List ℕ) (root : Bool) (a c : ℕ) (b : Turn) (s : Sides) (n k : Node) (h : Neighbours z b s) (sep : ℕ) (ps : sep ≡ getD (b .node .keys) (s .at) 0) where
   -- the plan by the nodes that the code makes
   even-is : (l lo : ℕ) → OfLevel l n → OfLevel l k → 7 ≤ k .count → (fs : List Branch) (w : Writes) (go : Go)
       → even-plan (a, c) l b s n k lo fs w go
@@ -146,10 +146,10 @@ module _ (z : Sizes) (m : ClientWord → ℕ) (x u : List ℕ) (root : Bool) (a 
       };
     }
 
-pub separator-inside : (z : Sizes) (b : Turn) (s : Sides) → Neighbours z b s → s .at < 14
+pub separator-inside : (z : TreeSizes) (b : Turn) (s : Sides) → Neighbours z b s → s .at < 14
 separator-inside z b s h = omega (arith, h .between .paired .inside, h .followed .small .keys)
 
-pub parent-few : (z : Sizes) (b : Turn) (s : Sides) → Neighbours z b s → (p : Node) → p .count ≡ b .node .count → p .count ≤ 14
+pub parent-few : (z : TreeSizes) (b : Turn) (s : Sides) → Neighbours z b s → (p : Node) → p .count ≡ b .node .count → p .count ≤ 14
 parent-few z b s h p q = omega (arith, h .followed .small .keys)
 
 pub ruleset even-exits = (even-shares, even-merges, lent-fits, joined-small, left-named, right-named, separator-inside, parent-few)
@@ -181,21 +181,21 @@ below-level zero n h f = record { kind = open-leaf n (h .opened) (h .level) .kin
 below-level (suc l) n h f = record { kind = open-inner n (h .opened) (omega (arith, h .level)) .kind; level = h .level; whole = f }
 
 -- a plan that fails
-fails-raised : (z : Sizes) (m : ClientWord → ℕ) (x u : List ℕ) (l : ℕ) (root : Bool) (p : ℕ → List Branch → Writes → Go → Plan) (r : Risen)
+fails-raised : (z : TreeSizes) (m : ClientWord → ℕ) (x u : List ℕ) (l : ℕ) (root : Bool) (p : ℕ → List Branch → Writes → Go → Plan) (r : Risen)
     → ((lo : ℕ) (fs : List Branch) (w : Writes) (go : Go) → p lo fs w go ≡ P.fail no-tree) → r .stop ≡ Aborts 3 → Noted m u → Raised z m x u l root p r x u
 fails-raised z m x u l root p r h e noted =
     stopped-raised z m x u l root p r x u (rw e) (λ w hold. rw e) (λ w hold lo fs f go. rw (h lo fs w go, e) (walked-fails z m (used-in u) no-tree)) noted
 
-pub turning-small : (z : Sizes) (l : ℕ) (b : Turn) (name : ℕ) (n : Node) → Under z l name b → OfLevel l n → n .count ≤ 6 → SmallNode n
+pub turning-small : (z : TreeSizes) (l : ℕ) (b : Turn) (name : ℕ) (n : Node) → Under z l name b → OfLevel l n → n .count ≤ 6 → SmallNode n
 turning-small z l b name n d f six = record { keys = omega arith; level = omega (arith, f .level, d .link .level, d .followed .small .level) }
 
 -- the name of the node that turns
-side-name : (z : Sizes) (l : ℕ) (b : Turn) (name : ℕ) (s : Sides) → Under z l name b → Between b s → name ≡ own-side (s .last) (s .left) (s .right)
+side-name : (z : TreeSizes) (l : ℕ) (b : Turn) (name : ℕ) (s : Sides) → Under z l name b → Between b s → name ≡ own-side (s .last) (s .left) (s .right)
 side-name z l b name s d h =
     d .link .child ∙ ap (λ (i : ℕ). getD (b .node .slots) i 0) (h .paired .here) ∙ side-of (s .last) (λ i. getD (b .node .slots) i 0) (s .at) (suc (s .at))
     ∙ ap (λ (q : ℕ). own-side (s .last) q (getD (b .node .slots) (suc (s .at)) 0)) (sym (h .left)) ∙ ap (λ (q : ℕ). own-side (s .last) (s .left) q) (sym (h .right))
 
-pub met : (z : Sizes) (m : ClientWord → ℕ) (x u : List ℕ) (l : ℕ) (b : Turn) (name : ℕ) (s : Sides) (other : ℕ) (stop : Stop) (k : Node) (u₁ : List ℕ) (on : Bool)
+pub met : (z : TreeSizes) (m : ClientWord → ℕ) (x u : List ℕ) (l : ℕ) (b : Turn) (name : ℕ) (s : Sides) (other : ℕ) (stop : Stop) (k : Node) (u₁ : List ℕ) (on : Bool)
     → Under z l name b → Between b s → other ≡ far-side (s .last) (s .left) (s .right) → Kid z m x u l other stop k u₁ → on ≡ goes stop → not on ≡ false → Neighbours z b s
 met z m x u l b name s other stop k u₁ on d h po kid pg q =
     let mine : in-store z (own-side (s .last) (s .left) (s .right)) ≡ true = rw (side-name z l b name s d h) at (d .link .there) in
@@ -203,7 +203,7 @@ met z m x u l b name s other stop k u₁ on d h po kid pg q =
     let both = both-of (λ q. in-store z q ≡ true) (s .last) (s .left) (s .right) mine far in
     record { followed = d .followed; there = d .there; between = h; left = both .0; right = both .1 }
 
-module _ (z : Sizes) (l a c : ℕ) (b : Turn) (name : ℕ) (n : Node) (d : Under z l name b) where
+module _ (z : TreeSizes) (l a c : ℕ) (b : Turn) (name : ℕ) (n : Node) (d : Under z l name b) where
   abbrev whole-plan : ℕ → List Branch → Writes → Go → Plan
   whole-plan = neighbour-plan (a, c) l b name (entriesOf n)
 

@@ -19,8 +19,8 @@ use Rattle.nodes.specs.Entries.{entriesOf}
 use Rattle.nodes.specs.Kept.{Whole}
 use Rattle.nodes.specs.Laws.Kept.{made-whole, length-entriesOf, slot-entries}
 use Rattle.operations.specs.Object.{node, Val, no-tree, Writes}
-use Rattle.operations.specs.Slot.{Sizes}
-use Rattle.operations.specs.Entry.{Entries, keys, mk}
+use Rattle.operations.specs.Slot.{TreeSizes}
+use Rattle.operations.specs.Entry.{Entries, keys, node-value}
 use Rattle.operations.specs.Path.{Plan, Branch, Cont, down}
 use Rattle.operations.specs.Migrate.{move-at, to-level}
 use Rattle.walk.specs.declared.down.Turn.{Turn}
@@ -66,7 +66,7 @@ module _ (p : Node) (f : Whole p) (o : opens p ≡ true) (i d : ℕ) (q : Node) 
   with-whole = let l : length (set (slotsOf p) i d) ≡ length (keysOf p) + extra (p .kind) = rw length-set (omega (arith, f .keys, f .slots)) in
       rw e (made-whole (p .kind) (p .level) (p .version) 0 (keysOf p) (set (slotsOf p) i d) l)
 
-  child-value : (lo up : ℕ) → i < p .count + extra (p .kind) → mk (p .level) (with-child (entriesOf p lo) i d) ≡ value-of (node up) q
+  child-value : (lo up : ℕ) → i < p .count + extra (p .kind) → node-value (p .level) (with-child (entriesOf p lo) i d) ≡ value-of (node up) q
   child-value lo up h =
       let es : Entries = entriesOf p lo in
       let k : getD es i (0, 0) .0 ≡ getD (N.headed (extra (p .kind)) lo (keysOf p)) i 0 = sym (List·getD-map (λ (e : ℕ × ℕ). e .0) es i (0, 0)) ∙ rw (entry-keys p lo f) in
@@ -75,12 +75,12 @@ module _ (p : Node) (f : Whole p) (o : opens p ≡ true) (i d : ℕ) (q : Node) 
       rw (a, ← b, ← with-level) (stored-node q lo up with-whole with-opens)
 
 -- ---- the child moved, and the parent written
-module _ (z : Sizes) (m : ClientWord → ℕ) (x u : List ℕ) (nm s : ℕ) (n : Node) (up : ℕ) (p : Node) (at : ℕ) (t : Taken) (x₁ u₁ : List ℕ) (h : Moved z m x u nm s n false t x₁ u₁) (b : Bool) (pb : b ≡ goes (t .stop)) where
+module _ (z : TreeSizes) (m : ClientWord → ℕ) (x u : List ℕ) (nm s : ℕ) (n : Node) (up : ℕ) (p : Node) (at : ℕ) (t : Taken) (x₁ u₁ : List ℕ) (h : Moved z m x u nm s n false t x₁ u₁) (b : Bool) (pb : b ≡ goes (t .stop)) where
   abbrev v : Val
   v = value-of (node nm) n
 
   abbrev after : ℕ → ℕ → Writes → Plan
-  after lo d w = P.done ((1, d), (node up, mk (p .level) (with-child (entriesOf p lo) at d)) ∷ w)
+  after lo d w = P.done ((1, d), (node up, node-value (p .level) (with-child (entriesOf p lo) at d)) ∷ w)
 
   pub child-stops : not b ≡ true → ChildMoved z m x u nm s n up p at (t .stop) x₁ u₁
   child-stops nb =
@@ -104,7 +104,7 @@ module _ (z : Sizes) (m : ClientWord → ℕ) (x u : List ℕ) (nm s : ℕ) (n :
       let on : goes (t .stop) ≡ true = sym pb ∙ not-false b nb in
       let i : Inner p = open-inner p (f .opened) (omega (arith, f .level)) in
       let y : Wrote x₁ (node up) (value-of (node up) q) x₂ = w .wrote (omega (arith, with-level p (f .whole) (f .opened) at (t .name) q e, f .small .level)) in
-      let k : (lo : ℕ) → mk (p .level) (with-child (entriesOf p lo) at (t .name)) ≡ value-of (node up) q =
+      let k : (lo : ℕ) → node-value (p .level) (with-child (entriesOf p lo) at (t .name)) ≡ value-of (node up) q =
       λ lo. child-value p (f .whole) (f .opened) at (t .name) q e lo up (omega (arith, extra-inner p i)) in
       record {
         operated = λ lo. record {
@@ -116,33 +116,33 @@ module _ (z : Sizes) (m : ClientWord → ℕ) (x u : List ℕ) (nm s : ℕ) (n :
         };
       }
 
-pub child-inside : (z : Sizes) (l up : ℕ) (p : Node) (at : ℕ) → Parent z l up p → at ≤ p .count → at < p .count + extra (p .kind)
+pub child-inside : (z : TreeSizes) (l up : ℕ) (p : Node) (at : ℕ) → Parent z l up p → at ≤ p .count → at < p .count + extra (p .kind)
 child-inside z l up p at f h = let i : Inner p = open-inner p (f .opened) (omega (arith, f .level)) in omega (arith, extra-inner p i)
 
-pub child-room : (z : Sizes) (m : ClientWord → ℕ) (x u : List ℕ) (nm s : ℕ) (n : Node) (b : Bool) (t : Taken) (x′ u′ : List ℕ) (c : Bool) → Moved z m x u nm s n b t x′ u′
+pub child-room : (z : TreeSizes) (m : ClientWord → ℕ) (x u : List ℕ) (nm s : ℕ) (n : Node) (b : Bool) (t : Taken) (x′ u′ : List ℕ) (c : Bool) → Moved z m x u nm s n b t x′ u′
     → c ≡ goes (t .stop) → not c ≡ false → getD x′ 0 0 < 20
 child-room z m x u nm s n b t x′ u′ c h pc nc = omega (arith, h .few (sym pc ∙ not-false c nc))
 
-pub child-good : (z : Sizes) (m : ClientWord → ℕ) (x u : List ℕ) (nm s : ℕ) (n : Node) (b : Bool) (t : Taken) (x′ u′ : List ℕ) (c : Bool) → Moved z m x u nm s n b t x′ u′
+pub child-good : (z : TreeSizes) (m : ClientWord → ℕ) (x u : List ℕ) (nm s : ℕ) (n : Node) (b : Bool) (t : Taken) (x′ u′ : List ℕ) (c : Bool) → Moved z m x u nm s n b t x′ u′
     → c ≡ goes (t .stop) → not c ≡ false → OwnGood x′
 child-good z m x u nm s n b t x′ u′ c h pc nc = h .good (sym pc ∙ not-false c nc)
 
 pub child-name : (servers slots l up : ℕ) (p : Node) → servers ≤ 8 → Parent (sizes servers slots) l up p → up < 8192
 child-name servers slots l up p eight f = name-below (sizes servers slots) up eight (f .there)
 
-pub child-count : (z : Sizes) (l up : ℕ) (p q : Node) → Parent z l up p → q .count ≡ p .count → q .count ≤ 14
+pub child-count : (z : TreeSizes) (l up : ℕ) (p q : Node) → Parent z l up p → q .count ≡ p .count → q .count ≤ 14
 child-count z l up p q f e = omega (arith, f .small .keys)
 
 pub ruleset child-exits = (child-stops, child-done, child-inside, child-count, child-room, child-good, child-name)
 
 -- ---- at the parent
-move-at-list : (z : Sizes) (nm s : ℕ) (v : Val) (key : ℕ) (fs : List Branch) (up l at : ℕ) (es : Entries) → 0 < l → at ≡ place (keys (drop 1 es)) key → suc at ≤ length es
+move-at-list : (z : TreeSizes) (nm s : ℕ) (v : Val) (key : ℕ) (fs : List Branch) (up l at : ℕ) (es : Entries) → 0 < l → at ≡ place (keys (drop 1 es)) key → suc at ≤ length es
     → move-at z nm s v key l fs up es ≡ ifd (ℕ-discrete (getD es at (0, 0) .1) nm) (child-plan z nm s v up l at es) (P.fail no-tree)
 move-at-list z nm s v key fs up zero at es g e h = absurd (omega arith)
 move-at-list z nm s v key fs up (suc l) at [] g e h = absurd (omega arith)
 move-at-list z nm s v key fs up (suc l) at (a ∷ es) g e h = rw (← e, cut-at-is at a es (omega arith))
 
-module _ (z : Sizes) (m : ClientWord → ℕ) (x u : List ℕ) (key nm s : ℕ) (n : Node) (l up : ℕ) (p : Node) (f : Parent z l up p) (at : ℕ) (pa : at ≡ place (keysOf p) key) (ha : at ≤ p .count) where
+module _ (z : TreeSizes) (m : ClientWord → ℕ) (x u : List ℕ) (key nm s : ℕ) (n : Node) (l up : ℕ) (p : Node) (f : Parent z l up p) (at : ℕ) (pa : at ≡ place (keysOf p) key) (ha : at ≤ p .count) where
   at-is : (fs : List Branch) (lo : ℕ)
       → move-at z nm s (value-of (node nm) n) key (p .level) fs up (entriesOf p lo)
       ≡ ifd (ℕ-discrete (getD (p .slots) at 0) nm) (child-plan z nm s (value-of (node nm) n) up (p .level) at (entriesOf p lo)) (P.fail no-tree)
@@ -167,13 +167,13 @@ module _ (z : Sizes) (m : ClientWord → ℕ) (x u : List ℕ) (key nm s : ℕ) 
         rw (at-is fs lo, ifd-yes (ℕ-discrete (getD (p .slots) at 0) nm) (child-plan z nm s (value-of (node nm) n) up (p .level) at (entriesOf p lo)) (P.fail no-tree) e) (c .operated lo);
   }
 
-pub parent-slot : (z : Sizes) (l up : ℕ) (p : Node) (at : ℕ) → Parent z l up p → at ≤ p .count → at < 15
+pub parent-slot : (z : TreeSizes) (l up : ℕ) (p : Node) (at : ℕ) → Parent z l up p → at ≤ p .count → at < 15
 parent-slot z l up p at f h = omega (arith, f .small .keys)
 
 pub ruleset at-exits = (at-elsewhere, at-child, parent-slot)
 
 -- ---- the way to the parent
-linked-there : (z : Sizes) (l nm : ℕ) (bs : List Turn) → Linked z l nm bs → in-store z nm ≡ true
+linked-there : (z : TreeSizes) (l nm : ℕ) (bs : List Turn) → Linked z l nm bs → in-store z nm ≡ true
 unfolding Linked
 linked-there z l nm [] h = h
 linked-there z l nm (b ∷ bs) h = h .0 .there
@@ -181,7 +181,7 @@ linked-there z l nm (b ∷ bs) h = h .0 .there
 level-stops : (t : ℕ) → Stops (to-level t) t
 level-stops t = record { before = λ l h. of-no (ℕ-discrete l t) (λ e. absurd (omega arith)); there = λ h. of-yes (ℕ-discrete t t) refl }
 
-module _ (z : Sizes) (m : ClientWord → ℕ) (u : List ℕ) (key top l : ℕ) (st : Stop) (r : Node) (u₁ : List ℕ) (h : RootMet z m u top st r u₁) (b : Bool) (pb : b ≡ goes st) where
+module _ (z : TreeSizes) (m : ClientWord → ℕ) (u : List ℕ) (key top l : ℕ) (st : Stop) (r : Node) (u₁ : List ℕ) (h : RootMet z m u top st r u₁) (b : Bool) (pb : b ≡ goes st) where
   abbrev below : Cont → ℕ → Entries → Plan
   below k j es = ifd (decLt l j) (down (to-level (suc l)) key k j [] top es) (P.fail no-tree)
 

@@ -6,7 +6,7 @@ use lib.ListN.{length, take, drop, set, length-drop, length-set}
 use lib.Seq.{length-take-le}
 use Rattle.nodes.specs.declared.node.Node.{Node}
 use Rattle.nodes.specs.declared.change.Wide.{Wide}
-use Rattle.nodes.specs.Lists.{remove}
+use Rattle.nodes.specs.Lists.{remove-at}
 use Rattle.nodes.specs.Laws.Lists.{length-remove}
 use Rattle.nodes.specs.Node.{extra, keysOf, slotsOf, made}
 use Rattle.nodes.specs.Laws.Node.{extra-le}
@@ -14,12 +14,12 @@ use Rattle.nodes.specs.Entries.{entriesOf, wide-entries}
 use Rattle.nodes.specs.Change.{wide, wide-keys, wide-slots, take-out, with-key, narrow, cut-at, join}
 use Rattle.nodes.specs.Kept.{WholeWide}
 use Rattle.nodes.specs.Laws.Kept.{made-whole, wide-whole, entries-wide, join-whole}
-use Rattle.operations.specs.Entry.{mn}
+use Rattle.operations.specs.Entry.{fewest-entries}
 use Rattle.operations.specs.Arrays.{kind}
 use Rattle.change.specs.Rise.{OfLevel, Content, widened}
 
 -- as many slots more than keys as a node of that level has
-pub extra-level : (l : ℕ) → 7 + extra (kind l) ≡ mn l
+pub extra-level : (l : ℕ) → 7 + extra (kind l) ≡ fewest-entries l
 unfolding extra
 extra-level zero = refl
 extra-level (suc l) = refl
@@ -84,12 +84,12 @@ module _ (l : ℕ) (n : Node) (f : OfLevel l n) where
   pub out-level : (i : ℕ) → i < n .count → OfLevel l (take-out n i)
   unfolding take-out made
   out-level i h =
-      let a : length (remove i (keysOf n)) ≡ length (keysOf n) - 1 = length-remove i (keysOf n) (omega (arith, f .whole .keys)) in
-      let b : length (remove (i + extra (n .kind)) (slotsOf n)) ≡ length (slotsOf n) - 1 = length-remove (i + extra (n .kind)) (slotsOf n) (omega (arith, f .whole .slots)) in
+      let a : length (remove-at i (keysOf n)) ≡ length (keysOf n) - 1 = length-remove i (keysOf n) (omega (arith, f .whole .keys)) in
+      let b : length (remove-at (i + extra (n .kind)) (slotsOf n)) ≡ length (slotsOf n) - 1 = length-remove (i + extra (n .kind)) (slotsOf n) (omega (arith, f .whole .slots)) in
       record {
         kind = f .kind;
         level = f .level;
-        whole = made-whole (n .kind) (n .level) (n .version) 0 (remove i (keysOf n)) (remove (i + extra (n .kind)) (slotsOf n)) (omega (arith, longer, f .whole .keys));
+        whole = made-whole (n .kind) (n .level) (n .version) 0 (remove-at i (keysOf n)) (remove-at (i + extra (n .kind)) (slotsOf n)) (omega (arith, longer, f .whole .keys));
       }
 
   -- and as the content that goes up

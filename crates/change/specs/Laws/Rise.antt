@@ -19,8 +19,8 @@ use Rattle.nodes.specs.Kept.{Whole}
 use Rattle.nodes.specs.Laws.Kept.{whole}
 use Rattle.nodes.specs.Laws.Stored.{Sized}
 use Rattle.operations.specs.Object.{node, Writes}
-use Rattle.operations.specs.Slot.{Sizes}
-use Rattle.operations.specs.Entry.{mk}
+use Rattle.operations.specs.Slot.{TreeSizes}
+use Rattle.operations.specs.Entry.{node-value}
 use Rattle.operations.specs.Arrays.{kind}
 use Rattle.operations.specs.Path.{Plan, Branch}
 use Rattle.operations.specs.Change.{Go}
@@ -34,7 +34,7 @@ use Rattle.client.specs.Lent.{OwnFits, own-put, used-in}
 use Rattle.walk.specs.Walk.{told, goes, walked}
 use Rattle.walk.specs.Lookup.{ended}
 use Rattle.change.specs.Mute.{stands}
-use Rattle.walk.specs.Ask.{OwnGood, Holds, Noted}
+use Rattle.walk.specs.Ask.{OwnGood, Holds-writes, Noted}
 use Rattle.walk.specs.Laws.Write.{name-below, few-more, holds-more}
 use Rattle.walk.specs.Take.{Wrote}
 use Rattle.walk.specs.Laws.Take.{wrote}
@@ -43,7 +43,7 @@ use Rattle.walk.specs.Laws.Entries.{stored-node}
 use Rattle.walk.specs.Laws.Down.{stops-not}
 use Rattle.change.specs.Rise.{NodeWritten, is-root, Raised, Closed, Under, OfLevel, Fitting, BothWritten, widened}
 
-pub under-name : (z : Sizes) (l c : ℕ) (b : Turn) → z .servers ≤ 8 → Under z l c b → c < 8192
+pub under-name : (z : TreeSizes) (l c : ℕ) (b : Turn) → z .servers ≤ 8 → Under z l c b → c < 8192
 under-name z l c b eight un = name-below z c eight (un .link .there)
 
 -- room for the writes of one level
@@ -133,8 +133,8 @@ unfolding opens
 of-level-open zero n h = rw (h .kind, h .level)
 of-level-open (suc l) n h = let p : 0 < suc l = omega arith in rw (h .kind, h .level, lt-ltb 0 (suc l) p)
 
-pub of-level-value : (l : ℕ) (n : Node) (lo x : ℕ) → OfLevel l n → mk l (entriesOf n lo) ≡ value-of (node x) n
-of-level-value l n lo x h = ap (λ (j : ℕ). mk j (entriesOf n lo)) (sym (h .level)) ∙ stored-node n lo x (h .whole) (of-level-open l n h)
+pub of-level-value : (l : ℕ) (n : Node) (lo x : ℕ) → OfLevel l n → node-value l (entriesOf n lo) ≡ value-of (node x) n
+of-level-value l n lo x h = ap (λ (j : ℕ). node-value j (entriesOf n lo)) (sym (h .level)) ∙ stored-node n lo x (h .whole) (of-level-open l n h)
 
 -- ---- a level that a question stops
 stopped-told : (s : Stop) (us : List ℕ) (w : Writes) → stands s ≡ false → ended s us w ≡ told s us
@@ -150,9 +150,9 @@ stands-not : (s : Stop) {A : Type 0} → stands s ≡ false → stands s ≡ tru
 stands-not s p q = let e : false ≡ true = sym p ∙ q in let z : _≡_ {A = ℕ} 0 1 = cc in absurd (omega arith)
 
 -- some plan that never answers ends as the level does
-pub stopped-raised : (z : Sizes) (m : ClientWord → ℕ) (x u : List ℕ) (l : ℕ) (root : Bool) (plan : ℕ → List Branch → Writes → Go → Plan) (r : Risen) (x′ u′ : List ℕ) → goes (r .stop) ≡ false
-    → ((w : Writes) → Holds z x w → stands (r .stop) ≡ false)
-    → ((w : Writes) → Holds z x w → (lo : ℕ) (fs : List Branch) → is-root fs ≡ root → (go : Go) → walked z m (plan lo fs w go) (used-in u) ≡ told (r .stop) (used-in u′))
+pub stopped-raised : (z : TreeSizes) (m : ClientWord → ℕ) (x u : List ℕ) (l : ℕ) (root : Bool) (plan : ℕ → List Branch → Writes → Go → Plan) (r : Risen) (x′ u′ : List ℕ) → goes (r .stop) ≡ false
+    → ((w : Writes) → Holds-writes z x w → stands (r .stop) ≡ false)
+    → ((w : Writes) → Holds-writes z x w → (lo : ℕ) (fs : List Branch) → is-root fs ≡ root → (go : Go) → walked z m (plan lo fs w go) (used-in u) ≡ told (r .stop) (used-in u′))
     → Noted m u′ → Raised z m x u l root plan r x′ u′
 stopped-raised z m x u l root plan r x′ u′ halts mute same noted = record {
   more = [];
@@ -165,8 +165,8 @@ stopped-raised z m x u l root plan r x′ u′ halts mute same noted = record {
   noted = noted;
 }
 
-pub stopped-closed : (z : Sizes) (m : ClientWord → ℕ) (x u : List ℕ) (plan : Writes → Plan) (s : Stop) (x′ u′ : List ℕ) → ((w : Writes) → Holds z x w → stands s ≡ false)
-    → ((w : Writes) → Holds z x w → walked z m (plan w) (used-in u) ≡ told s (used-in u′)) → Noted m u′ → Closed z m x u plan s x′ u′
+pub stopped-closed : (z : TreeSizes) (m : ClientWord → ℕ) (x u : List ℕ) (plan : Writes → Plan) (s : Stop) (x′ u′ : List ℕ) → ((w : Writes) → Holds-writes z x w → stands s ≡ false)
+    → ((w : Writes) → Holds-writes z x w → walked z m (plan w) (used-in u) ≡ told s (used-in u′)) → Noted m u′ → Closed z m x u plan s x′ u′
 stopped-closed z m x u plan s x′ u′ mute same noted = record {
   more = [];
   same = λ w hold. same w hold ∙ sym (stopped-told s (used-in u′) w (mute w hold));

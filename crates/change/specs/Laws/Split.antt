@@ -9,7 +9,7 @@ use lib.ListN.{length, take, drop, getD}
 use borrow.Author.Tests.{not-true, not-false}
 use Rattle.nodes.specs.declared.change.Wide.{Wide}
 use Rattle.nodes.specs.declared.change.Halves.{Halves}
-use Rattle.nodes.specs.Lists.{insert}
+use Rattle.nodes.specs.Lists.{insert-at}
 use Rattle.nodes.specs.Laws.Lists.{length-insert}
 use Rattle.nodes.specs.Node.{extra, keysOf, made}
 use Rattle.nodes.specs.Entries.{entriesOf, wide-entries}
@@ -17,8 +17,8 @@ use Rattle.nodes.specs.Laws.Entries.{first}
 use Rattle.nodes.specs.Change.{wide, put-in, cut-at}
 use Rattle.nodes.specs.Laws.Kept.{length-entriesOf, put-in-whole, put-in-entries, split-left, split-right, split-sep}
 use Rattle.operations.specs.Object.{node, flag, taken, no-tree, Writes}
-use Rattle.operations.specs.Slot.{Sizes, take-for, take-node}
-use Rattle.operations.specs.Entry.{Entries, mn, nxt}
+use Rattle.operations.specs.Slot.{TreeSizes, take-for, take-node}
+use Rattle.operations.specs.Entry.{Entries, fewest-entries, first-key-or}
 use Rattle.operations.specs.Arrays.{kind}
 use Rattle.operations.specs.Path.{Plan, Branch}
 use Rattle.operations.specs.Change.{Go, with-two, parted, split}
@@ -32,7 +32,7 @@ use Rattle.client.specs.Lent.{used-in}
 use Rattle.walk.specs.Laws.Entries.{extra-inner, entry-slot}
 use Rattle.walk.specs.Entries.{branch-of}
 use Rattle.walk.specs.Walk.{Told, told, goes, walked, carry}
-use Rattle.walk.specs.Ask.{OwnGood, Holds, Noted}
+use Rattle.walk.specs.Ask.{OwnGood, Holds-writes, Noted}
 use Rattle.walk.specs.Down.{Followed}
 use Rattle.walk.specs.Laws.Write.{name-below}
 use Rattle.walk.specs.Take.{NodeTaken}
@@ -54,7 +54,7 @@ module _ (l : ℕ) (n : Wide) (k : Full l n) where
   leveled : Leveled l n
   leveled = record { kind = k .content .kind; level = k .content .level; whole = k .content .whole }
 
-  seven : 7 + extra (n .kind) ≡ mn l
+  seven : 7 + extra (n .kind) ≡ fewest-entries l
   seven = ap (λ (j : ℕ). 7 + extra j) (k .content .kind) ∙ extra-level l
 
   inside : 7 < n .count
@@ -68,23 +68,23 @@ module _ (l : ℕ) (n : Wide) (k : Full l n) where
   unfolding N.split
   right-of-level = right-level l n leveled 7 0 inside
 
-  first-nxt : (es : Entries) → nxt es 0 ≡ first es
+  first-nxt : (es : Entries) → first-key-or es 0 ≡ first es
   first-nxt [] = refl
   first-nxt (e ∷ es) = refl
 
   -- what a plan makes of the two parts
   pub halves-parted : (go : Go) (w : Writes) (f : Branch) (c d lo : ℕ)
-      → parted go l w f c (take (mn l) (wide-entries n lo)) d (drop (mn l) (wide-entries n lo))
+      → parted go l w f c (take (fewest-entries l) (wide-entries n lo)) d (drop (fewest-entries l) (wide-entries n lo))
       ≡ go ((node d, value-of (node d) (halves .right)) ∷ (node c, value-of (node c) (halves .left)) ∷ w) (with-two f c (halves .sep) d)
   halves-parted go w f c d lo =
-      let a : take (mn l) (wide-entries n lo) ≡ entriesOf (halves .left) lo = rw (← seven) (sym (split-left n lo (k .content .whole) 0 (k .full))) in
-      let b : drop (mn l) (wide-entries n lo) ≡ entriesOf (halves .right) (halves .sep) = rw (← seven) (sym (split-right n lo (k .content .whole) 0 (k .full))) in
-      let e : nxt (drop (mn l) (wide-entries n lo)) 0 ≡ halves .sep = rw (first-nxt (drop (mn l) (wide-entries n lo)), ← seven) (sym (split-sep n lo (k .content .whole) 0 (k .full))) in
+      let a : take (fewest-entries l) (wide-entries n lo) ≡ entriesOf (halves .left) lo = rw (← seven) (sym (split-left n lo (k .content .whole) 0 (k .full))) in
+      let b : drop (fewest-entries l) (wide-entries n lo) ≡ entriesOf (halves .right) (halves .sep) = rw (← seven) (sym (split-right n lo (k .content .whole) 0 (k .full))) in
+      let e : first-key-or (drop (fewest-entries l) (wide-entries n lo)) 0 ≡ halves .sep = rw (first-nxt (drop (fewest-entries l) (wide-entries n lo)), ← seven) (sym (split-sep n lo (k .content .whole) 0 (k .full))) in
       rw (e, a, b, of-level-value l (halves .left) lo c left-of-level, of-level-value l (halves .right) (halves .sep) d right-of-level)
 
 -- ---- the parent with one more child
-two-at : (E : Entries) (i : ℕ) (e : ℕ × ℕ) → i < length E → take i E ++ getD E i (0, 0) ∷ e ∷ drop (suc i) E ≡ insert (suc i) e E
-unfolding insert
+two-at : (E : Entries) (i : ℕ) (e : ℕ × ℕ) → i < length E → take i E ++ getD E i (0, 0) ∷ e ∷ drop (suc i) E ≡ insert-at (suc i) e E
+unfolding insert-at
 two-at [] i e h = absurd (omega arith)
 two-at (x ∷ E) zero e h = refl
 two-at (x ∷ E) (suc i) e h = ap (λ (l : Entries). x ∷ l) (two-at E i e (omega arith))
@@ -108,12 +108,12 @@ module _ (b : Turn) (f : Followed b) (c : ℕ) (pc : c ≡ getD (b .node .slots)
     kind = f .inner .kind;
     level = e;
     whole = put-in-whole (b .node) 0 (f .whole) (b .at) sep d (f .within);
-    few = let g : length (insert (b .at) sep (keysOf (b .node))) ≡ length (keysOf (b .node)) + 1 = length-insert (b .at) sep (keysOf (b .node)) (omega (arith, f .whole .keys, f .within)) in
+    few = let g : length (insert-at (b .at) sep (keysOf (b .node))) ≡ length (keysOf (b .node)) + 1 = length-insert (b .at) sep (keysOf (b .node)) (omega (arith, f .whole .keys, f .within)) in
         omega (arith, f .whole .keys, f .small .keys);
   }
 
 -- a slot or its node that is lacking is no answer
-module _ (z : Sizes) (m : ClientWord → ℕ) (x u : List ℕ) (w : Writes) (hold : Holds z x w) where
+module _ (z : TreeSizes) (m : ClientWord → ℕ) (x u : List ℕ) (w : Writes) (hold : Holds-writes z x w) where
   pub slot-lacking : (c : ℕ) (t : Taken) (x₁ u₁ : List ℕ) → TakenFor z m x u c t x₁ u₁ → goes (t .stop) ≡ false → stands (t .stop) ≡ false
   unfolding Mute
   slot-lacking c t x₁ u₁ q halts =
@@ -126,7 +126,7 @@ module _ (z : Sizes) (m : ClientWord → ℕ) (x u : List ℕ) (w : Writes) (hol
       let e : walked z m (take-node w c (P.fail no-tree)) (used-in u) ≡ told s (used-in u₁) = q .asks w hold (P.fail no-tree) ∙ rw halts in
       sym (ap (λ (r : Told). stands (r .stop)) e) ∙ walked-mute z m (take-node w c (P.fail no-tree)) (take-node-mute w c (P.fail no-tree) tt) (used-in u)
 
-module _ (z : Sizes) (m : ClientWord → ℕ) (x u : List ℕ) (c : ℕ) (t : Taken) (x₁ u₁ : List ℕ) (q : TakenFor z m x u c t x₁ u₁) (on : Bool) (po : on ≡ goes (t .stop)) where
+module _ (z : TreeSizes) (m : ClientWord → ℕ) (x u : List ℕ) (c : ℕ) (t : Taken) (x₁ u₁ : List ℕ) (q : TakenFor z m x u c t x₁ u₁) (on : Bool) (po : on ≡ goes (t .stop)) where
   pub half-lacks : not on ≡ true → HalfTaken z m x u c t x₁ u₁
   half-lacks nb =
       let halts : goes (t .stop) ≡ false = sym po ∙ not-true on nb in
@@ -183,7 +183,7 @@ pub ruleset halve-exits = (halves-fit, halved, overfull-count)
 pub divided : (x : List ℕ) (b : Turn) (c d : ℕ) (n up : Wide) (sep : ℕ) (x′ : List ℕ) → Halved x c d n sep x′ → up ≡ put-in (b .node) (b .at) sep d → Divided x b c d n up x′
 divided x b c d n up sep x′ h e = record { up-is = rw (h .sep-is) at e; written = h .written }
 
-module _ (z : Sizes) (l c : ℕ) (b : Turn) (un : Under z l c b) where
+module _ (z : TreeSizes) (l c : ℕ) (b : Turn) (un : Under z l c b) where
   pub parent-few : b .node .count ≤ 14
   parent-few = un .followed .small .keys
 
@@ -193,20 +193,20 @@ module _ (z : Sizes) (l c : ℕ) (b : Turn) (un : Under z l c b) where
   pub split-overfull : (n : Wide) → Full l n → Overfull n
   split-overfull n k = record { full = k .full; level = omega (arith, k .content .level, un .followed .small .level, un .link .level) }
 
-module _ (z : Sizes) (m : ClientWord → ℕ) (x u : List ℕ) (l : ℕ) (b : Turn) (c : ℕ) (n : Wide) (t : Taken) (x₁ u₁ : List ℕ) (q : HalfTaken z m x u c t x₁ u₁) (on : Bool) (po : on ≡ goes (t .stop)) where
+module _ (z : TreeSizes) (m : ClientWord → ℕ) (x u : List ℕ) (l : ℕ) (b : Turn) (c : ℕ) (n : Wide) (t : Taken) (x₁ u₁ : List ℕ) (q : HalfTaken z m x u c t x₁ u₁) (on : Bool) (po : on ≡ goes (t .stop)) where
   abbrev plan : ℕ → List Branch → Writes → Go → Plan
   plan = split-plan z l b c (wide-entries n)
 
   abbrev d : ℕ
   d = t .name
 
-  asked : (w : Writes) → Holds z x w → (lo : ℕ) (fs : List Branch) (go : Go) → walked z m (plan lo fs w go) (used-in u)
+  asked : (w : Writes) → Holds-writes z x w → (lo : ℕ) (fs : List Branch) (go : Go) → walked z m (plan lo fs w go) (used-in u)
       ≡ carry (t .stop) (used-in u₁) (λ us. walked z m
-      (parted go l ((flag d, taken true) ∷ w) (in-parent b lo) c (take (mn l) (wide-entries n (in-parent b lo .key))) d (drop (mn l) (wide-entries n (in-parent b lo .key)))) us)
+      (parted go l ((flag d, taken true) ∷ w) (in-parent b lo) c (take (fewest-entries l) (wide-entries n (in-parent b lo .key))) d (drop (fewest-entries l) (wide-entries n (in-parent b lo .key)))) us)
   unfolding split-plan
   asked w hold lo fs go =
       let es : Entries = wide-entries n (in-parent b lo .key) in
-      q .asks w hold (λ d w₁. parted go l w₁ (in-parent b lo) c (take (mn l) es) d (drop (mn l) es))
+      q .asks w hold (λ d w₁. parted go l w₁ (in-parent b lo) c (take (fewest-entries l) es) d (drop (fewest-entries l) es))
 
   pub split-lacks : not on ≡ true → Splits z m x u l b c n (record { stop = t .stop; up = n }) x₁ u₁
   split-lacks nb =

@@ -11,7 +11,7 @@ use borrow.Author.Tests.{not-true, not-false, eq-eqb, ne-eqb}
 use Rattle.nodes.specs.declared.change.Wide.{Wide}
 use Rattle.nodes.specs.Entries.{wide-entries}
 use Rattle.operations.specs.Object.{Ans, Writes}
-use Rattle.operations.specs.Slot.{Sizes}
+use Rattle.operations.specs.Slot.{TreeSizes}
 use Rattle.operations.specs.Path.{Plan}
 use Rattle.operations.specs.Change.{Go, up}
 use Rattle.walk.specs.declared.down.Turn.{Turn}
@@ -24,7 +24,7 @@ use Rattle.client.specs.Lent.{used-in}
 use Rattle.walk.specs.Entries.{branch-of}
 use Rattle.walk.specs.Walk.{goes, walked}
 use Rattle.change.specs.Mute.{stands}
-use Rattle.walk.specs.Ask.{OwnGood, Holds, Noted}
+use Rattle.walk.specs.Ask.{OwnGood, Holds-writes, Noted}
 use Rattle.walk.specs.Down.{low, branches, trail, blank, Followed, All, Link, Linked}
 use Rattle.walk.specs.Laws.Seek.{getD-any}
 use Rattle.change.specs.Operated.{Operated}
@@ -34,7 +34,7 @@ use Rattle.change.specs.Laws.Level.{up-level}
 use Rattle.change.specs.Up.{from-level, rise-plan, Ready}
 
 -- how far it has come: at most three writes a level
-pub record Rising (z : Sizes) (m : ClientWord → ℕ) (x₀ u₀ : List ℕ) (a : Ans) (top : ℕ) (path : List Turn) (c₀ : ℕ) (n₀ : Wide) (c : ℕ) (n : Wide) (l : ℕ) (x u : List ℕ) : Type 0 where
+pub record Rising (z : TreeSizes) (m : ClientWord → ℕ) (x₀ u₀ : List ℕ) (a : Ans) (top : ℕ) (path : List Turn) (c₀ : ℕ) (n₀ : Wide) (c : ℕ) (n : Wide) (l : ℕ) (x u : List ℕ) : Type 0 where
   pub high : top ≤ 4
   pub upper : l ≤ top
   pub size : length path ≡ 5
@@ -47,10 +47,10 @@ pub record Rising (z : Sizes) (m : ClientWord → ℕ) (x₀ u₀ : List ℕ) (a
   pub own-good : OwnGood x
   pub noted : Noted m u
   pub writes : Writes
-  pub holds : Holds z x₀ [] → Holds z x writes
-  pub same : Holds z x₀ [] → walked z m (rise-plan z a top path c₀ n₀) (used-in u₀) ≡ walked z m (from-level z a top path l writes c n) (used-in u)
+  pub holds : Holds-writes z x₀ [] → Holds-writes z x writes
+  pub same : Holds-writes z x₀ [] → walked z m (rise-plan z a top path c₀ n₀) (used-in u₀) ≡ walked z m (from-level z a top path l writes c n) (used-in u)
 
-pub rise-start : (z : Sizes) (m : ClientWord → ℕ) (x u : List ℕ) (a : Ans) (top : ℕ) (path : List Turn) (c : ℕ) (n : Wide) → OwnGood x → getD x 0 0 ≡ 0 → Noted m u → Ready z top path c n
+pub rise-start : (z : TreeSizes) (m : ClientWord → ℕ) (x u : List ℕ) (a : Ans) (top : ℕ) (path : List Turn) (c : ℕ) (n : Wide) → OwnGood x → getD x 0 0 ≡ 0 → Noted m u → Ready z top path c n
     → Rising z m x u a top path c n c n 0 x u
 unfolding rise-plan
 rise-start z m x u a top path c n g e h r = record {
@@ -79,7 +79,7 @@ stands-on Refused e = e
 stands-on (Aborts r) e = e
 stands-on (Answers a b) e = refl
 
-linked-there : (z : Sizes) (l n : ℕ) (bs : List Turn) → Linked z l n bs → in-store z n ≡ true
+linked-there : (z : TreeSizes) (l n : ℕ) (bs : List Turn) → Linked z l n bs → in-store z n ≡ true
 unfolding Linked
 linked-there z l n [] h = h
 linked-there z l n (b ∷ bs) h = h .0 .there
@@ -93,7 +93,7 @@ root-is path l top h = go (top - suc l) refl
     go zero e = let f : l + 1 ≡ top = omega arith in rw (e, eq-eqb (l + 1) top f)
     go (suc k) e = let f : l + 1 ≡ top → ⊥ = λ q. omega arith in rw (e, ne-eqb (l + 1) top f)
 
-module _ (z : Sizes) (m : ClientWord → ℕ) (x₀ u₀ : List ℕ) (a : Ans) (top : ℕ) (path : List Turn) (c₀ : ℕ) (n₀ : Wide) (c : ℕ) (n : Wide) (l : ℕ) (x u : List ℕ) (g : Rising z m x₀ u₀ a top path c₀ n₀ c n l x u) where
+module _ (z : TreeSizes) (m : ClientWord → ℕ) (x₀ u₀ : List ℕ) (a : Ans) (top : ℕ) (path : List Turn) (c₀ : ℕ) (n₀ : Wide) (c : ℕ) (n : Wide) (l : ℕ) (x u : List ℕ) (g : Rising z m x₀ u₀ a top path c₀ n₀ c n l x u) where
   pub rise-content : Content l n
   rise-content = g .content
 
@@ -159,7 +159,7 @@ module _ (z : Sizes) (m : ClientWord → ℕ) (x₀ u₀ : List ℕ) (a : Ans) (
       abbrev go : Go
       go w es = up z a (suc l) (branches bs) w (b .name) es
 
-      walks : Holds z x₀ [] → walked z m (rise-plan z a top path c₀ n₀) (used-in u₀)
+      walks : Holds-writes z x₀ [] → walked z m (rise-plan z a top path c₀ n₀) (used-in u₀)
           ≡ rose (r .stop) (used-in u′) (q .more ++ g .writes) (λ us w. walked z m (go w (wide-entries (r .up) (low bs))) us)
       unfolding branch-of
       walks hold =

@@ -7,7 +7,7 @@ use native.Mathlib.Omega.{arith}
 use lib.Dec.{eqb, ltb}
 use borrow.Author.Tests.{not-true, not-false, eq-eqb, ne-eqb}
 use Rattle.operations.specs.Object.{Ans, Writes}
-use Rattle.operations.specs.Slot.{Sizes}
+use Rattle.operations.specs.Slot.{TreeSizes}
 use Rattle.operations.specs.Path.{Plan}
 use Rattle.operations.specs.Change.{insert-plan, delete-plan}
 use Rattle.operations.specs.Migrate.{migrate-plan}
@@ -19,7 +19,7 @@ use Rattle.client.specs.Work.{aborted, answers, waiting, count-new, any-at-last
 use Rattle.walk.specs.declared.walk.Stop.{Stop}
 use Rattle.walk.specs.declared.walk.Stop.the-variants.{Going, LacksMeta, LacksNode, LacksVector, Refused, Aborts, Answers}
 use Rattle.walk.specs.Walk.{Told, is-answer, tell, walked}
-use Rattle.walk.specs.Ask.{OwnKept, OwnGood, Holds, Noted}
+use Rattle.walk.specs.Ask.{OwnKept, OwnGood, Holds-writes, Noted}
 use Rattle.walk.specs.Laws.Ask.{nothing-good, nothing-held}
 use Rattle.walk.specs.Laws.Begin.{nothing-used, nothing-noted}
 use Rattle.walk.specs.Lookup.{ended}
@@ -35,7 +35,7 @@ use Rattle.change.specs.Work.{Ready, Works}
 use Rattle.client.specs.Work as C
 
 -- ---- the last questions, by their reason
-pub last-is : (z : Sizes) (m : ClientWord → ℕ) (a : Ans) (w : Writes) → all-fit? w w ≡ entries-fit (entered w)
+pub last-is : (z : TreeSizes) (m : ClientWord → ℕ) (a : Ans) (w : Writes) → all-fit? w w ≡ entries-fit (entered w)
     → last-questions z m a w ≡ cond (eqb (last-reason m (entered w)) 0) (answers a w) (aborted (last-reason m (entered w)))
 unfolding last-reason
 last-is z m a w e = go (entries-fit (entered w)) refl (ltb 48 (m writes-count + count-new m (entered w))) refl (any-at-last m (entered w)) refl
@@ -48,8 +48,8 @@ last-is z m a w e = go (entries-fit (entered w)) refl (ltb 48 (m writes-count + 
     go true p false q false r = rw (e, last-reason, p, q, r)
 
 -- ---- the ways out of the work step
-module _ (z : Sizes) (m : ClientWord → ℕ) (eight : z .servers ≤ 8) (wait : Waiting m) (x u : List ℕ) (ready : Ready x u) (s : Stop) (x′ u′ : List ℕ) (o : Operated z m x u (reading z (waiting m)) s x′ u′) (b : Bool) (pb : b ≡ is-answer s) where
-  empty : Holds z x []
+module _ (z : TreeSizes) (m : ClientWord → ℕ) (eight : z .servers ≤ 8) (wait : Waiting m) (x u : List ℕ) (ready : Ready x u) (s : Stop) (x′ u′ : List ℕ) (o : Operated z m x u (reading z (waiting m)) s x′ u′) (b : Bool) (pb : b ≡ is-answer s) where
+  empty : Holds-writes z x []
   empty = nothing-held x (ready .own-none) z
 
   tells : tell z m (R z m (wait .reads) .how) (R z m (wait .reads) .used) ≡ ended s (used-in u′) (o .writes)
@@ -85,7 +85,7 @@ module _ (z : Sizes) (m : ClientWord → ℕ) (eight : z .servers ≤ 8) (wait :
     stand (Aborts r) n = n
     stand (Answers c d) n = refl
 
-    held : Holds z x′ (o .writes)
+    held : Holds-writes z x′ (o .writes)
     held = o .holds (stand s yes-answer) empty
 
     pub own-kept : OwnKept x′
@@ -129,7 +129,7 @@ only-six (suc (suc (suc (suc zero)))) n₀ h r n₁ n₃ = cc
 only-six (suc (suc (suc (suc (suc zero))))) n₀ h r n₁ n₃ = cc
 only-six (suc (suc (suc (suc (suc (suc n)))))) n₀ h r n₁ n₃ = omega arith
 
-module _ (z : Sizes) (m : ClientWord → ℕ) (x u : List ℕ) (s : Stop) (x′ u′ : List ℕ) (op key : ℕ) (po : op ≡ m op-number) (pk : key ≡ m op-key) where
+module _ (z : TreeSizes) (m : ClientWord → ℕ) (x u : List ℕ) (s : Stop) (x′ u′ : List ℕ) (op key : ℕ) (po : op ≡ m op-number) (pk : key ≡ m op-key) where
   abbrev By : Plan → Type 0
   By p = Operated z m x u p s x′ u′
 

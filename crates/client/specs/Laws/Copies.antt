@@ -23,13 +23,13 @@ use Rattle.client.specs.Record.{single}
 use Rattle.client.specs.Sets.{held, count, number-at, find}
 use Rattle.client.specs.Lent.{InUse, used-in}
 use Rattle.client.specs.Drops.{drop-each, drop-used}
-use Rattle.client.specs.Part.{Step, Did, _then_, nothing, put-field, put-fields, put-item, put-number, drop-vector}
+use Rattle.client.specs.Part.{PartStep, Did, _then_, nothing, put-field, put-fields, put-item, put-number, drop-vector}
 use Rattle.client.specs.Laws.Steps.{Good, AllGood, EachGood, did-as, did-nothing, good-nothing, good-field, good-item, good-number, good-drop, good-cond, good-by, good-sweep, good-loop, good-then, did-then, did-three, find-limit, swept-all}
 use Rattle.client.specs.Enter.{enter-read}
 use Rattle.client.specs.Laws.Enter.{good-read}
 use Rattle.client.specs.Copies.{to-empty, to-place, copy-node, drop-at, drop-node, drop-object, drop-read, drop-reads, empty-place, drop-all}
 use Rattle.client.specs.Fetched.{copy-inner, mark-fetched, fetched-meta}
-use Rattle.client.specs.Life.{reset, abort, lose}
+use Rattle.client.specs.Life.{reset, abort-part, lose-part}
 
 -- ---- put
 module _ (s : List ℕ) (x : ℕ) (n : Node) (g : Found) (f : g ≡ find (held s) Copies x) where
@@ -134,7 +134,7 @@ good-each [] = good-nothing
 good-each (x ∷ us) = good-then (drop-object x) (drop-each us) (good-object x) (good-each us)
 
 -- the first i of them
-unfoldable pub drop-first : List ℕ → ℕ → Step
+unfoldable pub drop-first : List ℕ → ℕ → PartStep
 drop-first u i = drop-each (take i (drop 1 u))
 
 module _ (u : List ℕ) where
@@ -208,9 +208,9 @@ unfolding reset
 was-reset s t u v phase l p q r =
     did-three (put-field 0 phase) (put-field 1 0) (put-fields 5 (replicate 7 0)) s t u v l (good-field 0 phase (omega arith)) (good-field 1 0 (omega arith)) p q r
 
-pub was-aborted : (us s t u : List ℕ) → 7223 ≤ length s / 8 → Did (drop-used us) s t → Did (reset 0) t u → Did (abort us) s u
+pub was-aborted : (us s t u : List ℕ) → 7223 ≤ length s / 8 → Did (drop-used us) s t → Did (reset 0) t u → Did (abort-part us) s u
 was-aborted us s t u l p q = did-then (drop-used us) (reset 0) s t u l (good-drop-used us) p q
 
-pub was-lost : (s t u : List ℕ) → 7223 ≤ length s / 8 → Did (put-field 9 1) s t → Did drop-all t u → Did lose s u
-unfolding lose
+pub was-lost : (s t u : List ℕ) → 7223 ≤ length s / 8 → Did (put-field 9 1) s t → Did drop-all t u → Did lose-part s u
+unfolding lose-part
 was-lost s t u l p q = did-then (put-field 9 1) drop-all s t u l (good-field 9 1 (omega arith)) p q

@@ -20,7 +20,7 @@ use Rattle.client.specs.declared.answer.Look.{Look}
 use Rattle.client.specs.declared.part.Set.the-variants.{Reads, Writes}
 use Rattle.client.specs.Layout.{ClientWord, client-words}
 use Rattle.client.specs.Sets.{held, count, find}
-use Rattle.client.specs.Part.{Step, Did, _then_, nothing, put-field, put-item}
+use Rattle.client.specs.Part.{PartStep, Did, _then_, nothing, put-field, put-item}
 use Rattle.client.specs.Laws.Steps.{Good, EachGood, did-then, did-as, did-nothing, good-then, good-nothing, good-field, good-item, good-cond, good-by, find-limit, swept-all}
 use Rattle.client.specs.Have.{copied}
 use Rattle.client.specs.Lent.{Entry, InUse, used-in, own-count, own-number, own-record, own-first, own-list}
@@ -60,7 +60,7 @@ unfolding enter-nth
 nth-entered u s t i p = p
 
 -- the numbers in the lent list, one after another
-sweep-same : (g h : ℕ → Step) (n : ℕ) (m : ClientWord → ℕ) → ((i : ℕ) → i < n → g i ≡ h i) → sweep client-words g n m ≡ sweep client-words h n m
+sweep-same : (g h : ℕ → PartStep) (n : ℕ) (m : ClientWord → ℕ) → ((i : ℕ) → i < n → g i ≡ h i) → sweep client-words g n m ≡ sweep client-words h n m
 unfolding sweep andThen
 sweep-same g h zero m e = refl
 sweep-same g h (suc n) m e = rw (sweep-same g h n m (λ i l. e i (omega arith)), e n (omega arith))

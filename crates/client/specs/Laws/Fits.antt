@@ -11,11 +11,11 @@ use lib.Pow.{pow-lt}
 use Rattle.base.specs.Test.{and-both}
 use Rattle.nodes.specs.declared.node.Node.{Node}
 use Rattle.nodes.specs.declared.found.Found.{Found}
-use Rattle.operations.specs.Slot.{Sizes}
+use Rattle.operations.specs.Slot.{TreeSizes}
 use Rattle.client.specs.declared.part.Set.{Set}
 use Rattle.client.specs.declared.part.Set.the-variants.{Reads, Writes, Copies}
 use Rattle.client.specs.Layout.{ClientWord, field, vector-word}
-use Rattle.client.specs.Record.{sizes, in-store, number-in-store, fits}
+use Rattle.client.specs.Record.{sizes, in-store, number-in-store, record-in-range}
 use Rattle.client.specs.Sets.{count, number-at, record-at, find}
 use Rattle.client.specs.Commit.{all-of, is-at}
 use Rattle.client.specs.Fits.{bounds, field-fits, op-fits, has-read, item-fits, vector-fits, client-fits}
@@ -28,7 +28,7 @@ pub vector-asked : (m : ClientWord → ℕ) (s q : ℕ) → q ≡ m (vector-word
 unfolding vector-fits
 vector-asked m s q e = rw e
 
-module _ (z : Sizes) (x : ℕ) where
+module _ (z : TreeSizes) (x : ℕ) where
   pub number-meta : x ≡ 0 → true ≡ number-in-store z x
   unfolding number-in-store
   number-meta e = rw (eq-eqb _ _ e)
@@ -68,24 +68,24 @@ module _ (k l : ℕ) (m : ClientWord → ℕ) (q : ℕ) (e : q ≡ m (field 1)) 
     unfolding op-fits
     op-there v t f = let y : in-store (sizes k l) key ≡ true = sym p ∙ not-false b t in rw (← e, eq-eqb _ _ d, ← a, y, ← f)
 
-module _ (z : Sizes) (m : ClientWord → ℕ) (s : Set) (i x : ℕ) (b : Bool) (e : x ≡ number-at m s i) (p : b ≡ number-in-store z x) where
+module _ (z : TreeSizes) (m : ClientWord → ℕ) (s : Set) (i x : ℕ) (b : Bool) (e : x ≡ number-at m s i) (p : b ≡ number-in-store z x) where
   pub item-astray : not b ≡ true → false ≡ item-fits z m s i
   unfolding item-fits
   item-astray t = let y : number-in-store z x ≡ false = sym p ∙ not-true b t in rw (← e, y)
 
-  module _ (n : Node) (c : Bool) (t : not b ≡ false) (q : n ≡ record-at m s i) (f : c ≡ fits z x n) where
+  module _ (n : Node) (c : Bool) (t : not b ≡ false) (q : n ≡ record-at m s i) (f : c ≡ record-in-range z x n) where
     pub item-unfit : not c ≡ true → false ≡ item-fits z m s i
     unfolding item-fits
     item-unfit u =
         let y : number-in-store z x ≡ true = sym p ∙ not-false b t in
-        let v : fits z x n ≡ false = sym f ∙ not-true c u in
+        let v : record-in-range z x n ≡ false = sym f ∙ not-true c u in
         rw (← e, y, ← q, v)
 
     pub item-there : (r : Bool) → not c ≡ false → r ≡ has-read m s x → r ≡ item-fits z m s i
     unfolding item-fits
     item-there r u w =
         let y : number-in-store z x ≡ true = sym p ∙ not-false b t in
-        let v : fits z x n ≡ true = sym f ∙ not-false c u in
+        let v : record-in-range z x n ≡ true = sym f ∙ not-false c u in
         rw (← e, y, ← q, v) w
 
 -- ---- the whole
@@ -129,7 +129,7 @@ all-at f (suc n) i h l = go (and-both (all-of f n) (f n) h) (ℕ-discrete i n) (
     go p (yes e) ih = rw e (p .1)
     go p (no d) ih = ih (p .0) (omega arith)
 
-module _ (z : Sizes) (m : ClientWord → ℕ) (h : client-fits z m ≡ true) where
+module _ (z : TreeSizes) (m : ClientWord → ℕ) (h : client-fits z m ≡ true) where
   parts : (all-of (field-fits m (2 ^ z .servers - 1)) 13 ≡ true)
       × (op-fits z m && (all-of (item-fits z m Reads) (count m Reads) && (all-of (item-fits z m Writes) (count m Writes) && all-of (vector-fits m) 8)) ≡ true)
   unfolding client-fits

@@ -19,7 +19,7 @@ use Rattle.client.specs.Copies.{copy-node, empty-place, drop-all}
 use Rattle.client.specs.Drops.{drop-used}
 use Rattle.client.specs.Laws.Copies.{good-copy, good-empty, good-vectors, good-drop-used}
 use Rattle.client.specs.Fetched.{fetched-meta, copy-inner, fetched-node, mark-fetched, fetched-vector}
-use Rattle.client.specs.Life.{reset, give, abort, lose}
+use Rattle.client.specs.Life.{reset, give-part, abort-part, lose-part}
 use Rattle.client.specs.Renew.{renew-kept, finish}
 use Rattle.client.specs.Laws.Renew.{good-kept}
 
@@ -65,15 +65,15 @@ good-reset phase =
     good-then (put-field 0 phase) (put-field 1 0 then put-fields 5 (replicate 7 0)) (good-field 0 phase (omega arith))
     (good-then (put-field 1 0) (put-fields 5 (replicate 7 0)) (good-field 1 0 (omega arith)) (good-fields 5 (replicate 7 0) (omega arith)))
 
-pub good-give : (op key value server : ℕ) → Good (give op key value server)
-unfolding give
+pub good-give : (op key value server : ℕ) → Good (give-part op key value server)
+unfolding give-part
 good-give op key value server = good-fields 1 (op ∷ key ∷ value ∷ server ∷ []) (omega arith)
 
-pub good-abort : (us : List ℕ) → Good (abort us)
+pub good-abort : (us : List ℕ) → Good (abort-part us)
 good-abort us = good-then (drop-used us) (reset 0) (good-drop-used us) (good-reset 0)
 
-pub good-lose : Good lose
-unfolding lose
+pub good-lose : Good lose-part
+unfolding lose-part
 good-lose = good-then (put-field 9 1) drop-all (good-field 9 1 (omega arith)) good-drop-all
 
 pub good-finish : Good finish

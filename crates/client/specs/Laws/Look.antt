@@ -9,12 +9,12 @@ use borrow.Author.Tests.{eq-eqb, ne-eqb, le-leb, lt-leb}
 use Rattle.nodes.specs.declared.node.Node.{Node}
 use Rattle.nodes.specs.declared.found.Found.{Found}
 use Rattle.nodes.specs.declared.found.Found.the-variants.{At, Absent}
-use Rattle.operations.specs.Slot.{Sizes}
+use Rattle.operations.specs.Slot.{TreeSizes}
 use Rattle.client.specs.declared.answer.Look.{Look}
 use Rattle.client.specs.Layout.{ClientWord, field, vector-word}
 use Rattle.client.specs.declared.part.Set.the-variants.{Reads, Writes, Copies}
 use Rattle.client.specs.Sets.{count, record-at, find}
-use Rattle.client.specs.Record.{fits, single}
+use Rattle.client.specs.Record.{record-in-range, single}
 use Rattle.client.specs.Have.{here, copy, lacking, is-found, is-copied, source, copied-meta, copied-node, copied-flag, copied}
 use Rattle.client.specs.Laws.Have.{full, unfit}
 use Rattle.client.specs.Run.{among}
@@ -25,9 +25,9 @@ use Rattle.memory.specs.Bit.{bit}
 unfoldable pub taken-up : (ClientWord → ℕ) → List ℕ → ℕ → Node → Look
 taken-up m u x r = cond (among x (used-in u)) (here r) (cond (ltb (count m Reads + length (used-in u)) 96) (copy r) (full r))
 
-module _ (z : Sizes) (m : ClientWord → ℕ) (w u : List ℕ) where
+module _ (z : TreeSizes) (m : ClientWord → ℕ) (w u : List ℕ) where
   abbrev pub in-part : ℕ → Look → Look
-  in-part x l = cond (is-found (l .how)) (cond (fits z x (l .node)) (cond (is-copied (l .how)) (taken-up m u x (l .node)) (here (l .node))) unfit) lacking
+  in-part x l = cond (is-found (l .how)) (cond (record-in-range z x (l .node)) (cond (is-copied (l .how)) (taken-up m u x (l .node)) (here (l .node))) unfit) lacking
 
   abbrev pub or-in-part : ℕ → Found → Look
   or-in-part x (At i) = here (own-record w i)

@@ -20,7 +20,7 @@ use Rattle.client.specs.Sets.{held, count, number-at, record-at, find}
 use Rattle.client.specs.Vectors.{has-vector, vector-copy}
 use Rattle.client.specs.Commit.{inner-at}
 use Rattle.client.specs.Laws.Find.{Searched, none-searched, not-here, found-here, all-searched}
-use Rattle.client.specs.Part.{Step, Did, _then_, nothing, put-fields, put-vector}
+use Rattle.client.specs.Part.{PartStep, Did, _then_, nothing, put-fields, put-vector}
 use Rattle.client.specs.Laws.Steps.{Good, EachGood, did-as, did-nothing, did-then, did-three, good-then, good-nothing, good-fields, good-vector, good-cond, good-by, good-loop, swept-all}
 use Rattle.client.specs.Copies.{copy-node, drop-node}
 use Rattle.client.specs.Laws.Copies.{good-copy, good-drop-node}
@@ -217,11 +217,11 @@ good-renew-flag =
     }
 
 -- ---- all write items, and all in order
-pub all-writes : (g : ℕ → Step) (s t : List ℕ) (n i : ℕ) → n ≡ count (held s) Writes → i ≤ n → n ≤ i → Did (sweep client-words g i) s t → Did (for-writes g) s t
+pub all-writes : (g : ℕ → PartStep) (s t : List ℕ) (n i : ℕ) → n ≡ count (held s) Writes → i ≤ n → n ≤ i → Did (sweep client-words g i) s t → Did (for-writes g) s t
 unfolding for-writes
 all-writes g s t n i e a b p = did-as (sweep client-words g n) (for-writes g) s t (rw e) (swept-all g n i s t a b p)
 
-good-for : (g : ℕ → Step) → EachGood g → Good (for-writes g)
+good-for : (g : ℕ → PartStep) → EachGood g → Good (for-writes g)
 unfolding for-writes
 good-for g ok = good-by (λ m. sweep client-words g (count m Writes)) (λ m. good-loop g (count m Writes) ok)
 

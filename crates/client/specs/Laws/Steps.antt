@@ -27,10 +27,10 @@ use Rattle.client.specs.declared.part.Set.{Set}
 use Rattle.client.specs.Layout.{ClientWord, client-words, client-block, field, item, vector-word, limit}
 use Rattle.client.specs.Sets.{held, or-found, first-of, count, number-at, find}
 use Rattle.client.specs.Laws.Part.{item-run, vector-run, count-limit}
-use Rattle.client.specs.Part.{Step, Did, _then_, nothing, put-field, put-fields, put-item, put-number, put-vector, drop-vector}
+use Rattle.client.specs.Part.{PartStep, Did, _then_, nothing, put-field, put-fields, put-item, put-number, put-vector, drop-vector}
 
 -- the stores lie in the part, whatever it holds
-pub record Good (g : Step) : Type 0 where
+pub record Good (g : PartStep) : Type 0 where
   pub all : (m : ClientWord → ℕ) → AllValid client-words client-block (g m)
 
 words-fit : (s : List ℕ) → 7223 ≤ length s / 8 → size client-block ≤ length (view s)
@@ -38,7 +38,7 @@ unfolding size
 words-fit s h = omega (arith, view-length s)
 
 -- ---- one after another
-module _ (g h : Step) where
+module _ (g h : PartStep) where
   pub did-then : (s t u : List ℕ) → 7223 ≤ length s / 8 → Good g → Did g s t → Did h t u → Did (g then h) s u
   did-then s t u l ok p q = does-then client-words client-block g h silent silent (view s) (view t) (view u) 0 0 (words-fit s l) (ok .all (mem client-words client-block (view s))) p q
 
@@ -51,22 +51,22 @@ module _ (g h : Step) where
   unfolding held stepped
   did-as s t e p = record { answer = refl; words = p .words ∙ ap (stored client-words client-block (view s)) (sym e) }
 
-fits-after : (g : Step) (s t : List ℕ) → Did g s t → size client-block ≤ length (view s) → size client-block ≤ length (view t)
+fits-after : (g : PartStep) (s t : List ℕ) → Did g s t → size client-block ≤ length (view s) → size client-block ≤ length (view t)
 unfolding stepped
 fits-after g s t p h = rw (p .words, length-stored client-words client-block (g (mem client-words client-block (view s))) (view s)) h
 
-pub did-three : (g h k : Step) (s t u v : List ℕ) → 7223 ≤ length s / 8 → Good g → Good h → Did g s t → Did h t u → Did k u v → Did (g then h then k) s v
+pub did-three : (g h k : PartStep) (s t u v : List ℕ) → 7223 ≤ length s / 8 → Good g → Good h → Did g s t → Did h t u → Did k u v → Did (g then h then k) s v
 did-three g h k s t u v l ok good p q r =
     let f : size client-block ≤ length (view s) = words-fit s l in
     let m : Did (h then k) t v =
     does-then client-words client-block h k silent silent (view t) (view u) (view v) 0 0 (fits-after g s t p f) (good .all (mem client-words client-block (view t))) q r in
     did-then g (h then k) s t v l ok p m
 
-pub did-nothing : (g : Step) (s : List ℕ) → g (held s) ≡ [] → Did g s s
+pub did-nothing : (g : PartStep) (s : List ℕ) → g (held s) ≡ [] → Did g s s
 unfolding held stepped stored
 did-nothing g s e = record { answer = refl; words = rw e }
 
-pub held-after : (g : Step) (s t : List ℕ) → 7223 ≤ length s / 8 → Good g → Did g s t → held t ≡ changed client-words (held s) (g (held s))
+pub held-after : (g : PartStep) (s t : List ℕ) → 7223 ≤ length s / 8 → Good g → Did g s t → held t ≡ changed client-words (held s) (g (held s))
 unfolding held
 held-after g s t l ok p = does-mem client-words client-block g silent (view s) 0 (view t) p (words-fit s l) (ok .all (mem client-words client-block (view s)))
 
@@ -154,13 +154,13 @@ unfolding find
 find-limit m s x i e = omega (arith, first-inside (number-at m s) (count m s) x .inside i e, count-limit m s)
 
 -- ---- loops
-pub record AllGood (g : ℕ → Step) (n : ℕ) : Type 0 where
+pub record AllGood (g : ℕ → PartStep) (n : ℕ) : Type 0 where
   pub each : (j : ℕ) → j < n → Good (g j)
 
-pub record EachGood (g : ℕ → Step) : Type 0 where
+pub record EachGood (g : ℕ → PartStep) : Type 0 where
   pub each : (j : ℕ) → Good (g j)
 
-module _ (g : ℕ → Step) where
+module _ (g : ℕ → PartStep) where
   pub good-loop : (n : ℕ) → EachGood g → Good (sweep client-words g n)
   good-loop n ok = record { all = λ m. sweep-valid client-words client-block g n m (λ j u l. ok .each j .all u) }
 
@@ -182,10 +182,10 @@ module _ (g : ℕ → Step) where
   swept-all n i s t a b p = let e : i ≡ n = omega arith in subst (λ (k : ℕ). Did (sweep client-words g k) s t) e p
 
 -- a step chosen by a test
-pub good-cond : (g h : Step) (b : Bool) → (b ≡ true → Good g) → (b ≡ false → Good h) → Good (cond b g h)
+pub good-cond : (g h : PartStep) (b : Bool) → (b ≡ true → Good g) → (b ≡ false → Good h) → Good (cond b g h)
 good-cond g h true p q = p refl
 good-cond g h false p q = q refl
 
 -- a step chosen by what the part holds
-pub good-by : (f : (ClientWord → ℕ) → Step) → ((m : ClientWord → ℕ) → Good (f m)) → Good (λ m. f m m)
+pub good-by : (f : (ClientWord → ℕ) → PartStep) → ((m : ClientWord → ℕ) → Good (f m)) → Good (λ m. f m m)
 good-by f p = record { all = λ m. p m .all m }

@@ -12,7 +12,7 @@ use Rattle.nodes.specs.Flags.{with-flag}
 use Rattle.client.specs.declared.part.Set.the-variants.{Writes}
 use Rattle.client.specs.Layout.{ClientWord, field, item, vector-word}
 use Rattle.client.specs.Sets.{count, number-at}
-use Rattle.client.specs.Vectors.{has-vector, is-fetched, vector-copy, counted-one, counted, seen-words}
+use Rattle.client.specs.Vectors.{has-vector, is-fetched, vector-copy, counted-one, counted-words, seen-words}
 
 pub asked-vector : (m : ClientWord → ℕ) (s q : ℕ) → q ≡ m (vector-word s 0) → eqb q 1 ≡ has-vector m s
 unfolding has-vector
@@ -41,16 +41,16 @@ pub record Counting (m : ClientWord → ℕ) (s n : ℕ) (ws : List ℕ) (i : �
   pub within : i ≤ n
   pub is : n ≡ count m Writes
   pub most : n ≤ 48
-  pub so-far : ws ≡ counted m s i (vector-copy m s)
+  pub so-far : ws ≡ counted-words m s i (vector-copy m s)
 
 module _ (m : ClientWord → ℕ) (s n : ℕ) where
   pub counting-none : (ws : List ℕ) → n ≡ count m Writes → n ≤ 48 → ws ≡ vector-copy m s → Counting m s n ws 0
-  unfolding counted
+  unfolding counted-words
   counting-none ws c l e = record { within = omega arith; is = c; most = l; so-far = e }
 
   pub counting-next : (ws ws′ : List ℕ) (i : ℕ) → i < n → ws′ ≡ counted-one m s i ws → Counting m s n ws i → Counting m s n ws′ (i + 1)
-  unfolding counted
-  counting-next ws ws′ i h e c = record { within = omega arith; is = c .is; most = c .most; so-far = rw (add-one, counted, ← c .so-far) e }
+  unfolding counted-words
+  counting-next ws ws′ i h e c = record { within = omega arith; is = c .is; most = c .most; so-far = rw (add-one, counted-words, ← c .so-far) e }
 
   pub counting-all : (ws : List ℕ) (i : ℕ) → n ≤ i → Counting m s n ws i → ws ≡ seen-words m s
   unfolding seen-words

@@ -24,10 +24,10 @@ use Rattle.client.specs.Layout.{ClientWord, client-words, phase, prepared}
 use Rattle.client.specs.Record.{number}
 use Rattle.client.specs.Fits.{client-fits}
 use Rattle.client.specs.Drops.{drop-used}
-use Rattle.client.specs.Life.{reset, abort}
+use Rattle.client.specs.Life.{reset, abort-part}
 use Rattle.steps.specs.declared.sizes.Sizes.{Sizes}
 use Rattle.steps.specs.Whole.{Address, server, client, whole}
-use Rattle.steps.specs.Judge.{lowest}
+use Rattle.steps.specs.Judge.{lowest-participant}
 use Rattle.steps.specs.Steps.{unlock-each, at-servers, unlocked-everywhere, aborting}
 use Rattle.demand.specs.Ledger.{Ledger, starts}
 use Rattle.demand.specs.Laws.Store.{sizes}
@@ -84,7 +84,7 @@ module _ (k j slots : ℕ) (m : Address → ℕ) (c : ℕ) (us : List ℕ) where
   u₀ = client-of m c
 
   abbrev unlocks : ℕ → List (Put Place)
-  unlocks t = unlock-each u₀ c (lowest z₀ m c) t (server-of m t)
+  unlocks t = unlock-each u₀ c (lowest-participant z₀ m c) t (server-of m t)
 
   -- what is unlocked at a server
   abbrev pub given-back : ℕ → List (Put Place)
@@ -105,7 +105,7 @@ module _ (k j slots : ℕ) (m : Address → ℕ) (c : ℕ) (us : List ℕ) where
   n₀ = changed whole m (unlocked-everywhere z₀ m c)
 
   abbrev ends : List (Put ClientWord)
-  ends = abort us u₀
+  ends = abort-part us u₀
 
   abbrev pub aborted : Address → ℕ
   aborted = changed whole m (aborting z₀ m c us)
@@ -116,7 +116,7 @@ module _ (k j slots : ℕ) (m : Address → ℕ) (c : ℕ) (us : List ℕ) where
   clients-stay : (d : ℕ) → client-of n₀ d ≡ client-of m d
   clients-stay d = every-client m f₀ given-back same-stores (suc k) d
 
-  pub aborted-client : client-of aborted c ≡ changed client-words u₀ (abort us u₀)
+  pub aborted-client : client-of aborted c ≡ changed client-words u₀ (abort-part us u₀)
   aborted-client =
       ap (λ (g : Address → ℕ). client-of g c) aborted-is ∙ client-changed n₀ c ends ∙ ap (λ (v : ClientWord → ℕ). changed client-words v ends) (clients-stay c)
 
@@ -148,7 +148,7 @@ module _ (k j slots : ℕ) (al : Allowed (sizes k j slots)) (few : suc j ≤ 16)
   shown = R .clients c .slot
 
   abbrev low : ℕ
-  low = lowest z m (c .0)
+  low = lowest-participant z m (c .0)
 
   abbrev locks : Fin (suc k) → Obj → P.Lock (T k j slots)
   locks s o = Mv.drop (T k j slots) c (M .lock s o)

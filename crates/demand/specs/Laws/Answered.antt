@@ -15,7 +15,7 @@ use Rattle.operations.specs.Object.{Obj, Ask, object, vector, fetched, Val, roo
 use Rattle.operations.specs.Laws.Object.{written}
 use Rattle.operations.specs.Path.{Plan}
 use Rattle.operations.specs.Operation.{all-fit?, check, reading, plan}
-use Rattle.operations.specs.Slot.{Sizes, Allowed}
+use Rattle.operations.specs.Slot.{TreeSizes, Allowed}
 use Rattle.operations.specs.Laws.Seen.{Hint, hint-of, plan-with}
 use Rattle.operations.specs.Laws.Asked.{written-asked}
 use Rattle.operations.specs.Laws.Storable.{All-storable}
@@ -60,7 +60,7 @@ the-answer (Work.fetches a) = none
 the-answer (Work.aborted y) = none
 the-answer (Work.answers a w) = some (a, w)
 
-module _ (z : Sizes) (u : ClientWord → ℕ) (a : Ans) (w : Writes) where
+module _ (z : TreeSizes) (u : ClientWord → ℕ) (a : Ans) (w : Writes) where
   pub record Answers : Type 0 where
     pub how : walked z u .how ≡ Run.gives a w
     pub fitting : all-fit? w w ≡ true
@@ -115,7 +115,7 @@ snapshot-shows have (q ∷ l) g =
 
 -- ---- the walk of the whole plan, and of the machine's
 module _ (k j slots : ℕ) (al : Allowed (sizes k j slots)) (u : ClientWord → ℕ) (fit : client-fits (sizes k j slots) u ≡ true) (y : P.Slot (T k j slots)) (shown : Slot-shown k j slots u y) (f : Obj → Option (P.Copy (T k j slots))) (copies : Copies-shown k j slots u f) (a : Ans) (w : Writes) (A : Answers (sizes k j slots) u a w) where
-  abbrev pub z : Sizes
+  abbrev pub z : TreeSizes
   z = sizes k j slots
 
   abbrev pub us : List ℕ

@@ -4,7 +4,7 @@ use mathlib.Core.Path.{_≡_, refl, ap, sym, _∙_, subst}
 use mathlib.Core.List.{List, [], _∷_, map}
 use Prim.Native.Nat.{ℕ}
 use Rattle.operations.specs.Slot.{Allowed}
-use Rattle.operations.specs.Tree.{Holds}
+use Rattle.operations.specs.Tree.{Holds-tree}
 use Rattle.protocol.specs.Claim.{due-in}
 use Rattle.protocol.specs.Laws.Claim.{claim}
 use Rattle.steps.specs.Whole.{Address}
@@ -47,7 +47,7 @@ module _ (k j slots : ℕ) (al : Allowed (sizes k j slots)) where
     answers-right = subst Ledger.Right-all (sym (R .log-as)) (right-all-same (N .log) (claim (T k j slots) Z (R .reached) .answered))
 
     -- "the memory as all applies still due would leave it"
-    pub tree-holds : Holds (λ o. due-in (T k j slots) N (home k j slots o) o) (Ledger.map-all (L .decided))
+    pub tree-holds : Holds-tree (λ o. due-in (T k j slots) N (home k j slots o) o) (Ledger.map-all (L .decided))
     tree-holds =
-        subst (Holds (λ o. due-in (T k j slots) N (home k j slots o) o)) (map-all-same (N .log) ∙ ap Ledger.map-all (sym (R .log-as)))
+        subst (Holds-tree (λ o. due-in (T k j slots) N (home k j slots o) o)) (map-all-same (N .log) ∙ ap Ledger.map-all (sym (R .log-as)))
         (claim (T k j slots) Z (R .reached) .holds)

@@ -30,7 +30,7 @@ use Rattle.client.specs.Drops.{version-of, next-version}
 use Rattle.client.specs.Course.{noted}
 use Rattle.steps.specs.declared.sizes.Sizes.{Sizes}
 use Rattle.steps.specs.Whole.{Address}
-use Rattle.steps.specs.Judge.{lowest}
+use Rattle.steps.specs.Judge.{lowest-participant}
 use Rattle.steps.specs.Steps.{unlock-each, store-all}
 use Rattle.demand.specs.Ledger.{Ledger}
 use Rattle.demand.specs.Laws.Store.{sizes, keeps, by-value}
@@ -68,7 +68,7 @@ module _ (k j slots : ℕ) (al : Allowed (sizes k j slots)) (few : suc j ≤ 16)
   S = R .servers s
 
   abbrev low : ℕ
-  low = lowest z m (c .0)
+  low = lowest-participant z m (c .0)
 
   el : y .lowest .0 ≡ low
   el = shown .lowest-as (omega (arith, now))

@@ -17,7 +17,7 @@ use Rattle.operations.specs.Slot.{Allowed}
 use Rattle.client.specs.declared.answer.Look.{Look}
 use Rattle.client.specs.declared.part.Set.the-variants.{Reads, Writes, Copies}
 use Rattle.client.specs.Layout.{ClientWord, vector-word, meta-copied, meta-root, meta-version}
-use Rattle.client.specs.Record.{number, value-of, single, object-in-store, fits}
+use Rattle.client.specs.Record.{number, value-of, single, object-in-store, record-in-range}
 use Rattle.client.specs.Sets.{record-at, number-at, count, find}
 use Rattle.client.specs.Commit.{is-at}
 use Rattle.client.specs.Items.{has}
@@ -144,7 +144,7 @@ module _ (k j slots : ℕ) (al : Allowed (sizes k j slots)) (u : ClientWord → 
     pub record Had (o : Obj) (v : Val) : Type 0 where
       pub in-store : In-store k j slots o
       pub found : Is-there (source u (number o))
-      pub fitting : fits (sizes k j slots) (number o) (source u (number o) .node) ≡ true
+      pub fitting : record-in-range (sizes k j slots) (number o) (source u (number o) .node) ≡ true
       pub value-as : v ≡ value-of o (source u (number o) .node)
 
     pub had : (o : Obj) (v : Val) → have (sizes k j slots) u (object o) ≡ some v → Had o v
@@ -159,7 +159,7 @@ module _ (k j slots : ℕ) (al : Allowed (sizes k j slots)) (u : ClientWord → 
         go false p b q e = absurd (Option·none-ne-some v e)
         go true p false q e = absurd (Option·none-ne-some v e)
         go true p true q e =
-            let h = and-both (is-found (l .how)) (fits (sizes k j slots) (number o) (l .node)) q in
+            let h = and-both (is-found (l .how)) (record-in-range (sizes k j slots) (number o) (l .node)) q in
             record { in-store = p; found = h .0; fitting = h .1; value-as = sym (Option·some-injective (value-of o (l .node)) v e) }
 
     -- AT HAND

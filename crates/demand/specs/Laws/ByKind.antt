@@ -13,13 +13,13 @@ use Rattle.memory.specs.Bit.{bit, putBit}
 use Rattle.layout.specs.Space.{changed}
 use Rattle.layout.specs.Laws.Step.{changed-append}
 use Rattle.layout.specs.Part.{over}
-use Rattle.operations.specs.Map.{H}
+use Rattle.operations.specs.Map.{two-to-64}
 use Rattle.operations.specs.Slot.{Allowed}
 use Rattle.client.specs.Layout.{ClientWord, phase, op-number, participants, prepared}
 use Rattle.client.specs.Fits.{client-fits}
 use Rattle.client.specs.Laws.Fits.{fits-field}
 use Rattle.client.specs.Participants.{participants-of}
-use Rattle.client.specs.Life.{lose}
+use Rattle.client.specs.Life.{lose-part}
 use Rattle.client.specs.Work.{Worked, refused, fetches, aborted, answers, walked, worked, op-of}
 use Rattle.steps.specs.declared.sizes.Sizes.{Sizes}
 use Rattle.steps.specs.declared.step.Step.{Step}
@@ -27,7 +27,7 @@ use Rattle.steps.specs.declared.step.Kind.the-variants.{Begin, Give, Work, Comm
 use Rattle.steps.specs.declared.outcome.Outcome.the-variants.{Decided, Applied, Committed, Aborted}
 use Rattle.steps.specs.Whole.{Address, client, whole}
 use Rattle.steps.specs.Laws.Stores.{client-of, client-changed, client-else}
-use Rattle.steps.specs.Refusal.{kind-of, fits, refusal}
+use Rattle.steps.specs.Refusal.{kind-of, state-fits, refusal}
 use Rattle.steps.specs.Passed.{Passed}
 use Rattle.steps.specs.Laws.Passed.{passed}
 use Rattle.steps.specs.Judge.{abort-fits, unlock-fits, versions-fit, prepare-fits}
@@ -92,20 +92,20 @@ module _ (k j slots : ℕ) (al : Allowed (sizes k j slots)) (few : suc j ≤ 16)
     decided-is x e = ap (λ (y : ℕ). cond (eqb y 3 || eqb y 4) (decides L (n .client)) L) e
 
     -- ---- 0 begin, 1 give
-    begin-after : n .kind ≡ 0 → fits u (n .server) Begin ≡ true → After (S.begin z m (n .client))
-    unfolding S.begin fits
+    begin-after : n .kind ≡ 0 → state-fits u (n .server) Begin ≡ true → After (S.begin z m (n .client))
+    unfolding S.begin state-fits
     begin-after e f = subst (Explained k j slots _) (sym (done-is 0 e)) (turned (begin-turns k j slots al few m L M c R (eqb-true (u phase) 0 f)))
 
-    give-after : n .kind ≡ 1 → n .key < H → (1 ≤ n .op) × (n .op ≤ 6) → (n .op ≡ 6 → n .server < suc k) → fits u (n .server) Give ≡ true → After (S.give z m (n .client) n)
-    unfolding S.give fits
+    give-after : n .kind ≡ 1 → n .key < two-to-64 → (1 ≤ n .op) × (n .op ≤ 6) → (n .op ≡ 6 → n .server < suc k) → state-fits u (n .server) Give ≡ true → After (S.give z m (n .client) n)
+    unfolding S.give state-fits
     give-after e w o q f =
         let open-now = eqb-true (u phase) 1 (and-both (eqb (u phase) 1) (eqb (u op-number) 0) f .0) in
         subst (Explained k j slots _) (sym (done-is 1 e))
         (turned (give-turns k j slots al few m L M c R (n .op) (n .key) (n .value) (n .server) open-now (given-legal k j slots (n .op) (n .key) (n .value) (n .server) w (o .0) (o .1) q)))
 
     -- ---- 2 work
-    work-after : fits u (n .server) Work ≡ true → After (S.work z m (n .client))
-    unfolding S.work fits
+    work-after : state-fits u (n .server) Work ≡ true → After (S.work z m (n .client))
+    unfolding S.work state-fits
     work-after f = go (worked (sizes k j slots) u) refl
       where
         us : List ℕ
@@ -127,8 +127,8 @@ module _ (k j slots : ℕ) (al : Allowed (sizes k j slots)) (few : suc j ≤ 16)
         go (answers a w) e = turned (answer-turns k j slots al m L M c R fit open-now waits a w e)
 
     -- ---- 3 commit
-    commit-after : n .kind ≡ 3 → fits u (n .server) Commit ≡ true → After (S.commit z m (n .client))
-    unfolding S.commit fits
+    commit-after : n .kind ≡ 3 → state-fits u (n .server) Commit ≡ true → After (S.commit z m (n .client))
+    unfolding S.commit state-fits
     commit-after e f =
         let open-now = eqb-true (u phase) 1 (and-both (eqb (u phase) 1) (eqb (u op-number) 0) f .0) in
         one-of After (eqb (participants-of u (suc k)) 0) _ _
@@ -136,21 +136,21 @@ module _ (k j slots : ℕ) (al : Allowed (sizes k j slots)) (few : suc j ≤ 16)
         (λ q. subst (Explained k j slots _) (sym (done-is 3 e)) (turned (commit-turns k j slots al few m L M c R fit open-now (eqb-false (participants-of u (suc k)) 0 q))))
 
     -- ---- 6 give up, 7 lost
-    give-up-after : fits u (n .server) GiveUp ≡ true → After (S.abort z m (n .client) 6 [])
-    unfolding fits
+    give-up-after : state-fits u (n .server) GiveUp ≡ true → After (S.abort z m (n .client) 6 [])
+    unfolding state-fits
     give-up-after f =
         let b = and-both (leb 1 (u phase)) (leb (u phase) 2) f in
         abort-after 6 [] (either (u phase) (leb-true 1 (u phase) (b .0)) (leb-true (u phase) 2 (b .1)))
 
     -- a decided transaction of a lost client
-    lost-later : Explained k j slots (changed whole m (over (client (n .client)) (lose u))) L
+    lost-later : Explained k j slots (changed whole m (over (client (n .client)) (lose-part u))) L
     lost-later = record {
       machine = M;
       good = record {
         shown = lost-kept k j slots m L M c R;
-        decided-fits = still-fits k j slots m (changed whole m (over (client (n .client)) (lose u))) L L M c G
-            (λ _. subst (λ (v : ClientWord → ℕ). client-fits (sizes k j slots) v ≡ true) (sym (client-changed m (n .client) (lose u))) (loss-fits (sizes k j slots) u fit))
-            (λ d q. client-else m (n .client) (lose u) (d .0) (away k j slots c d q));
+        decided-fits = still-fits k j slots m (changed whole m (over (client (n .client)) (lose-part u))) L L M c G
+            (λ _. subst (λ (v : ClientWord → ℕ). client-fits (sizes k j slots) v ≡ true) (sym (client-changed m (n .client) (lose-part u))) (loss-fits (sizes k j slots) u fit))
+            (λ d q. client-else m (n .client) (lose-part u) (d .0) (away k j slots c d q));
         outside = G .outside;
       };
     }
@@ -215,7 +215,7 @@ module _ (k j slots : ℕ) (al : Allowed (sizes k j slots)) (few : suc j ≤ 16)
             (λ _. one-of After (eqb found 0) _ _ (λ q. prepared-after (eqb-true found 0 q)) (λ _. abort-after found [] (inr now)))
 
       -- ---- 5 apply
-      apply-after : n .kind ≡ 5 → fits u (n .server) Apply ≡ true → After (S.apply z m (n .client) (n .server))
+      apply-after : n .kind ≡ 5 → state-fits u (n .server) Apply ≡ true → After (S.apply z m (n .client) (n .server))
       unfolding S.apply
       apply-after e f =
           let d = due-now u (n .server) f in
@@ -231,11 +231,11 @@ module _ (k j slots : ℕ) (al : Allowed (sizes k j slots)) (few : suc j ≤ 16)
               go false = refl
 
     -- ---- whatever the kind
-    kind-after : Passed z n m → n .key < H → After (S.by-kind z m (n .client) n (kind-of (n .kind)))
-    unfolding kind-of fits
+    kind-after : Passed z n m → n .key < two-to-64 → After (S.by-kind z m (n .client) n (kind-of (n .kind)))
+    unfolding kind-of state-fits
     kind-after p w = go (n .kind) refl (p .known-kind) (p .fitting)
       where
-        go : (x : ℕ) → n .kind ≡ x → x ≤ 7 → fits u (n .server) (kind-of x) ≡ true → After (S.by-kind z m (n .client) n (kind-of x))
+        go : (x : ℕ) → n .kind ≡ x → x ≤ 7 → state-fits u (n .server) (kind-of x) ≡ true → After (S.by-kind z m (n .client) n (kind-of x))
         go zero e l f = begin-after e f
         go (suc zero) e l f = give-after e w (p .known-op e) (p .known-server e) f
         go (suc (suc zero)) e l f = work-after f
@@ -248,7 +248,7 @@ module _ (k j slots : ℕ) (al : Allowed (sizes k j slots)) (few : suc j ≤ 16)
         go (suc (suc (suc (suc (suc (suc (suc (suc x)))))))) e l f = absurd (omega arith)
 
   -- THE STEP
-  pub step-after : n .key < H → After (S.step z n m)
+  pub step-after : n .key < two-to-64 → After (S.step z n m)
   unfolding S.step
   step-after w =
       one-of After (eqb (refusal z n m) 0) _ _

@@ -111,12 +111,12 @@ pub all-found : (g : U.Item → ℕ × ℕ) (n : ℕ) (f : ℕ → U.Item) → U
 all-found g n f h i l = none-all (map g (U.each n f)) (least-none (map g (U.each n f)) h) (g (f i)) (among-image g (U.each n f) (f i) (among-each n f i l))
 
 -- ---- one finding
-pub found-same : (o : Object) (b : Bool) (mark c : ℕ) (u : Use) (p : Place → ℕ) → Chk.reason (Chk.checked o b mark c u p) ≡ 0
+pub found-same : (o : Object) (b : Bool) (mark c : ℕ) (u : Use) (p : Place → ℕ) → Chk.finding-reason (Chk.checked o b mark c u p) ≡ 0
     → (Chk.held o c u p ≡ false) × (Chk.standing o b p ≡ mark)
 unfolding Chk.checked
 found-same o b mark c u p h = go (Chk.held o c u p) refl (eqb (Chk.standing o b p) mark) refl h
   where
-    go : (x : Bool) → Chk.held o c u p ≡ x → (y : Bool) → eqb (Chk.standing o b p) mark ≡ y → Chk.reason (cond x Busy (cond y Same Differs)) ≡ 0
+    go : (x : Bool) → Chk.held o c u p ≡ x → (y : Bool) → eqb (Chk.standing o b p) mark ≡ y → Chk.finding-reason (cond x Busy (cond y Same Differs)) ≡ 0
         → (Chk.held o c u p ≡ false) × (Chk.standing o b p ≡ mark)
     go true e y q h = absurd (omega (arith, h))
     go false e true q h = (e, eqb-true (Chk.standing o b p) mark q)

@@ -15,7 +15,7 @@ use lib.ListN.{length}
 use Rattle.layout.specs.Space.{Put, changed}
 use Rattle.layout.specs.Step.{andThen}
 use Rattle.layout.specs.Laws.Step.{changed-append}
-use Rattle.nodes.specs.Range.{in-range}
+use Rattle.nodes.specs.Range.{node-in-range}
 use Rattle.operations.specs.Object.{Obj, meta, node, flag, Ask, object, vector, fetched}
 use Rattle.operations.specs.Laws.Seen.{Hint, hint-of}
 use Rattle.operations.specs.Slot.{Allowed}
@@ -222,7 +222,7 @@ module _ (k j slots : ℕ) (al : Allowed (sizes k j slots)) (few : suc j ≤ 16)
       node-good : (x : ℕ) → a ≡ object (node x) → Good (hand-over z m (c .0) us (object (node x)) (N.server-of x) (Fetched 1 x))
       unfolding at-home
       node-good x is-o =
-          object-good (N.server-of x) (1 + x) 1 x (in-range (node-at (server-of m (N.server-of x)) x)) (fetched-node x (node-at (server-of m (N.server-of x)) x))
+          object-good (N.server-of x) (1 + x) 1 x (node-in-range (node-at (server-of m (N.server-of x)) x)) (fetched-node x (node-at (server-of m (N.server-of x)) x))
           (λ r. node-handed k j slots al m L M c R s x (lacked (node x) is-o) kept v stage (unread s (node x) is-o r))
         where
           s : Fin (suc k)

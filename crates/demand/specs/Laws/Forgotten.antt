@@ -13,7 +13,7 @@ use Rattle.client.specs.declared.part.Set.the-variants.{Reads, Writes, Copies}
 use Rattle.client.specs.Layout.{ClientWord, client-words, field, lost, phase, op-number, item, vector-word, reads-count, writes-count, meta-copied, meta-root, meta-version}
 use Rattle.client.specs.Copies.{drop-all}
 use Rattle.client.specs.Part.{put-field}
-use Rattle.client.specs.Life.{lose}
+use Rattle.client.specs.Life.{lose-part}
 use Rattle.client.specs.Work.{op-of, waiting}
 use Rattle.steps.specs.Whole.{Address, client, whole}
 use Rattle.demand.specs.Ledger.{Ledger}
@@ -115,10 +115,10 @@ module _ (k j slots : ℕ) (m : Address → ℕ) (L : Ledger) (M : P.Machine (T 
   loss-kept = forget-kept (drop-all (client-of m (c .0))) (client-of m (c .0)) (fewer (drop-all (client-of m (c .0))) (client-of m (c .0)) (only-all (client-of m (c .0)))) (λ a n. refl)
 
   -- a decided transaction stays, and notes that its client is lost
-  pub lost-kept : Related k j slots (changed whole m (over (client (c .0)) (lose (client-of m (c .0))))) L M
-  unfolding andThen lose
+  pub lost-kept : Related k j slots (changed whole m (over (client (c .0)) (lose-part (client-of m (c .0))))) L M
+  unfolding andThen lose-part
   lost-kept =
-      forget-kept (lose u₀) v₀
+      forget-kept (lose-part u₀) v₀
       (subst (Fewer v₀) (sym (changed-append client-words (put-field 9 1 u₀) (drop-all v₀) u₀)) (fewer (drop-all v₀) v₀ (only-all v₀))) other
     where
       u₀ : ClientWord → ℕ

@@ -14,14 +14,14 @@ use Rattle.base.specs.Laws.Test.{or-left, or-right, or-cases}
 use Rattle.nodes.specs.declared.found.Found.{Found}
 use Rattle.nodes.specs.declared.found.Found.the-variants.{At, Absent}
 use Rattle.operations.specs.Object.{Obj}
-use Rattle.operations.specs.Slot.{Sizes, Allowed}
+use Rattle.operations.specs.Slot.{TreeSizes, Allowed}
 use Rattle.protocol.specs.Lists.{Among, all, any}
 use Rattle.protocol.specs.Laws.Lists.{any-among}
 use Rattle.protocol.specs.Laws.Items.{find-item}
 use Rattle.client.specs.declared.part.Set.{Set}
 use Rattle.client.specs.declared.part.Set.the-variants.{Reads, Writes}
 use Rattle.client.specs.Layout.{ClientWord}
-use Rattle.client.specs.Record.{number, value-of, number-in-store, fits}
+use Rattle.client.specs.Record.{number, value-of, number-in-store, record-in-range}
 use Rattle.client.specs.Sets.{or-found, count, record-at, number-at, first-of, find}
 use Rattle.client.specs.Commit.{is-at}
 use Rattle.client.specs.Items.{all-below, any-below, has}
@@ -143,17 +143,17 @@ module _ (u : ClientWord → ℕ) where
 
 -- ---- items
 module _ (k j slots : ℕ) (al : Allowed (sizes k j slots)) (u : ClientWord → ℕ) (fit : client-fits (sizes k j slots) u ≡ true) where
-  abbrev z : Sizes
+  abbrev z : TreeSizes
   z = sizes k j slots
 
   -- what an item in range is known by
   judged : (s : Set) (i : ℕ) → item-fits z u s i ≡ true
-      → In-store k j slots (obj-of (number-at u s i)) × (fits z (number-at u s i) (record-at u s i) ≡ true) × (has-read u s (number-at u s i) ≡ true)
+      → In-store k j slots (obj-of (number-at u s i)) × (record-in-range z (number-at u s i) (record-at u s i) ≡ true) × (has-read u s (number-at u s i) ≡ true)
   unfolding item-fits
   judged s i h =
       let x = number-at u s i in
-      let f = and-both (number-in-store z x) (fits z x (record-at u s i) && has-read u s x) h in
-      let g = and-both (fits z x (record-at u s i)) (has-read u s x) (f .1) in
+      let f = and-both (number-in-store z x) (record-in-range z x (record-at u s i) && has-read u s x) h in
+      let g = and-both (record-in-range z x (record-at u s i)) (has-read u s x) (f .1) in
       (sym (store-obj z x) ∙ f .0, g .0, g .1)
 
   pub read-in : (i : ℕ) → i < count u Reads → In-store k j slots (obj-of (number-at u Reads i))
@@ -163,7 +163,7 @@ module _ (k j slots : ℕ) (al : Allowed (sizes k j slots)) (u : ClientWord → 
   unfolding has has-read
   written-in i l = let f = judged Writes i (fits-write z u fit i l) in (f .0, f .2)
 
-  pub written-fits : (i : ℕ) → i < count u Writes → fits z (number-at u Writes i) (record-at u Writes i) ≡ true
+  pub written-fits : (i : ℕ) → i < count u Writes → record-in-range z (number-at u Writes i) (record-at u Writes i) ≡ true
   written-fits i l = judged Writes i (fits-write z u fit i l) .1
 
   -- the item at place i of the read set, for the object o

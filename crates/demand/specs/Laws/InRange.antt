@@ -11,18 +11,18 @@ use Rattle.base.specs.Test.{and-both}
 use Rattle.base.specs.Update.{upd}
 use Rattle.base.specs.Laws.Update.{upd-same, upd-other}
 use Rattle.layout.specs.Space.{Put, decide, changed}
-use Rattle.operations.specs.Slot.{Sizes}
+use Rattle.operations.specs.Slot.{TreeSizes}
 use Rattle.client.specs.declared.part.Set.{Set}
 use Rattle.client.specs.declared.part.Set.the-variants.{Reads, Writes, Copies}
 use Rattle.client.specs.Layout.{ClientWord, client-words, field, item, vector-word, op-number, op-key, op-server, prepared, applied, reads-count, writes-count}
-use Rattle.client.specs.Record.{in-store, number-in-store, fits}
+use Rattle.client.specs.Record.{in-store, number-in-store, record-in-range}
 use Rattle.client.specs.Sets.{count, number-at}
 use Rattle.client.specs.Commit.{all-of, is-at}
 use Rattle.client.specs.Fits.{bounds, field-fits, has-read, vector-fits, op-fits, item-fits, client-fits}
 use Rattle.client.specs.Laws.Fits.{all-at, fits-field}
 use Rattle.client.specs.Part.{put-field}
 use Rattle.client.specs.Copies.{drop-all}
-use Rattle.client.specs.Life.{lose}
+use Rattle.client.specs.Life.{lose-part}
 use Rattle.client.specs.Course.{noted, decided}
 use Rattle.demand.specs.Laws.Frame.{Only, only-then, only-mono, only-keeps}
 use Rattle.demand.specs.Laws.Dropped.{Mark, Drop, only-all}
@@ -60,7 +60,7 @@ harmless-within every (item Writes i n) w h = tt
 harmless-within every (item Copies i n) w h = tt
 harmless-within every (vector-word s n) w h = λ e l. h
 
-module _ (z : Sizes) (u : ClientWord → ℕ) (fit : client-fits z u ≡ true) where
+module _ (z : TreeSizes) (u : ClientWord → ℕ) (fit : client-fits z u ≡ true) where
   abbrev every : ℕ
   every = 2 ^ z .servers - 1
 
@@ -119,7 +119,7 @@ module _ (z : Sizes) (u : ClientWord → ℕ) (fit : client-fits z u ≡ true) w
     unfolding item-fits number-at
     item-same s i e r =
         let c = record-frame u g s i e in
-        λ t. number-in-store z (e 0 t) && (fits z (e 0 t) (c t) && r t (e 0 t))
+        λ t. number-in-store z (e 0 t) && (record-in-range z (e 0 t) (c t) && r t (e 0 t))
 
     read-same : (s : Set) → has-read g s ≡ has-read u s
     unfolding has-read
@@ -150,13 +150,13 @@ module _ (z : Sizes) (u : ClientWord → ℕ) (fit : client-fits z u ≡ true) w
         rw (fields, op, reads, writes, vectors)
 
 -- a list of such stores
-pub stores-fit : (z : Sizes) (ps : List (Put ClientWord)) (u : ClientWord → ℕ) → Only client-words (Harmless (2 ^ z .servers - 1)) ps
+pub stores-fit : (z : TreeSizes) (ps : List (Put ClientWord)) (u : ClientWord → ℕ) → Only client-words (Harmless (2 ^ z .servers - 1)) ps
     → client-fits z u ≡ true → client-fits z (changed client-words u ps) ≡ true
 stores-fit z ps u h fit =
     only-keeps client-words (Harmless (2 ^ z .servers - 1)) (λ m. client-fits z m ≡ true) (λ m a v q f. store-fits z m f a v q) ps u h fit
 
 -- ---- the steps of a decided transaction
-module _ (z : Sizes) (u : ClientWord → ℕ) (fit : client-fits z u ≡ true) where
+module _ (z : TreeSizes) (u : ClientWord → ℕ) (fit : client-fits z u ≡ true) where
   module _ (s : ℕ) (l : s < z .servers) where
     pub prepared-fits : client-fits z (changed client-words u (noted prepared s u)) ≡ true
     unfolding noted Only Harmless
@@ -170,10 +170,10 @@ module _ (z : Sizes) (u : ClientWord → ℕ) (fit : client-fits z u ≡ true) w
   unfolding decided Only Harmless
   decision-fits = stores-fit z (decided u) u ((refl, omega arith), tt) fit
 
-  pub loss-fits : client-fits z (changed client-words u (lose u)) ≡ true
-  unfolding lose put-field Only Harmless Mark
+  pub loss-fits : client-fits z (changed client-words u (lose-part u)) ≡ true
+  unfolding lose-part put-field Only Harmless Mark
   loss-fits =
-      stores-fit z (lose u) u
+      stores-fit z (lose-part u) u
       (only-then client-words (Harmless (2 ^ z .servers - 1)) (put-field 9 1) drop-all u ((refl, omega arith), tt)
       (λ m. only-mono client-words Drop (Harmless (2 ^ z .servers - 1)) drop-harmless (drop-all m) (only-all m))) fit
     where

@@ -17,7 +17,7 @@ use Rattle.layout.specs.Laws.Step.{changed-append, valid-append}
 use Rattle.layout.specs.Part.{over}
 use Rattle.layout.specs.Laws.Part.{good-all}
 use Rattle.layout.specs.Laws.Sweep.{sweep-valid}
-use Rattle.nodes.specs.Range.{in-range}
+use Rattle.nodes.specs.Range.{node-in-range}
 use Rattle.server.specs.declared.place.Place.{Place}
 use Rattle.server.specs.declared.lock.Use.the-variants.{Fetch}
 use Rattle.server.specs.Check.{held}
@@ -27,12 +27,12 @@ use Rattle.server.specs.Store.{lock-step, unlock-step}
 use Rattle.server.specs.Laws.Leaves.{lock-inside, unlock-inside}
 use Rattle.client.specs.declared.part.Set.the-variants.{Reads, Writes}
 use Rattle.client.specs.Layout.{ClientWord, client-words, client-block, field, phase, prepared, applied}
-use Rattle.client.specs.Record.{in-store, number-in-store, fits}
+use Rattle.client.specs.Record.{in-store, number-in-store, record-in-range}
 use Rattle.client.specs.Sets.{count, number-at, record-at}
 use Rattle.client.specs.Fits.{item-fits, has-read, client-fits}
 use Rattle.client.specs.Laws.Fits.{fits-read, fits-write}
 use Rattle.client.specs.Have.{source, unusable, broken}
-use Rattle.client.specs.Part.{Step, put-field}
+use Rattle.client.specs.Part.{PartStep, put-field}
 use Rattle.client.specs.Laws.Steps.{Good, good-then, good-field}
 use Rattle.client.specs.Answered.{used-enter, entered, enter-writes, answered}
 use Rattle.client.specs.Fetched.{fetched-meta, fetched-node, fetched-vector}
@@ -48,7 +48,7 @@ use Rattle.steps.specs.Laws.Whole.{server-part, client-part}
 use Rattle.steps.specs.Laws.Stores.{client-of, server-of, part-other, client-changed}
 use Rattle.steps.specs.Laws.Writes.{write-inside}
 use Rattle.steps.specs.Laws.There.{named-in, in-store-has}
-use Rattle.steps.specs.Judge.{lock-fits, check-fits, abort-fits, versions-fit, prepare-fits, lowest}
+use Rattle.steps.specs.Judge.{lock-fits, check-fits, abort-fits, versions-fit, prepare-fits, lowest-participant}
 use Rattle.steps.specs.declared.outcome.Outcome.{Outcome}
 use Rattle.steps.specs.declared.outcome.Outcome.the-variants.{Fetched}
 use Rattle.steps.specs.Refusal.{kind-of, refusal}
@@ -118,10 +118,10 @@ module _ (z : Sizes) where
     headless = λ m i. part-other client-words whole (client c) (head i) (λ a q. true≢false (ap in-head q)) ps m;
   }
 
-  pub lies-server : (s : ℕ) → s < z .servers → (ps : List (Put Place)) → AllValid Srv.places (Srv.block (z .slots)) ps → Lies (over (server s) ps)
+  pub lies-server : (s : ℕ) → s < z .servers → (ps : List (Put Place)) → AllValid Srv.places (Srv.server-block (z .slots)) ps → Lies (over (server s) ps)
   unfolding in-head
   lies-server s l ps ok = record {
-    valid = good-all Srv.places (Srv.block (z .slots)) whole (block z) (server s) (server-at z s) (server-part z s l) ps ok;
+    valid = good-all Srv.places (Srv.server-block (z .slots)) whole (block z) (server s) (server-at z s) (server-part z s l) ps ok;
     headless = λ m i. part-other Srv.places whole (server s) (head i) (λ a q. true≢false (ap in-head q)) ps m;
   }
 
@@ -139,24 +139,24 @@ module _ (z : Sizes) where
     abbrev u : ClientWord → ℕ
     u = client-of m c
 
-    pub lies-part : (g : Step) → Good g → Lies (S.in-client z m c g)
+    pub lies-part : (g : PartStep) → Good g → Lies (S.in-client z m c g)
     lies-part g ok = lies-client c l (g u) (ok .all u)
 
     read-has : (i : ℕ) → i < count u Reads → Has (z .slots) (object-of (number-at u Reads i))
     unfolding item-fits
     read-has i h = in-store-has z (number-at u Reads i) al
-        (and-both (number-in-store (tree-sizes z) (number-at u Reads i)) (fits (tree-sizes z) (number-at u Reads i) (record-at u Reads i) && has-read u Reads (number-at u Reads i))
+        (and-both (number-in-store (tree-sizes z) (number-at u Reads i)) (record-in-range (tree-sizes z) (number-at u Reads i) (record-at u Reads i) && has-read u Reads (number-at u Reads i))
         (fits-read (tree-sizes z) u fit i h) .0)
 
     written-has : (i : ℕ) → i < count u Writes → Has (z .slots) (object-of (number-at u Writes i))
     unfolding item-fits
     written-has i h = in-store-has z (number-at u Writes i) al
-        (and-both (number-in-store (tree-sizes z) (number-at u Writes i)) (fits (tree-sizes z) (number-at u Writes i) (record-at u Writes i) && has-read u Writes (number-at u Writes i))
+        (and-both (number-in-store (tree-sizes z) (number-at u Writes i)) (record-in-range (tree-sizes z) (number-at u Writes i) (record-at u Writes i) && has-read u Writes (number-at u Writes i))
         (fits-write (tree-sizes z) u fit i h) .0)
 
     -- locks and unlocks of what is read, and the writes
     abbrev Inside : List (Put Place) → Type 0
-    Inside ps = AllValid Srv.places (Srv.block (z .slots)) ps
+    Inside ps = AllValid Srv.places (Srv.server-block (z .slots)) ps
 
     inside-if : (b : Bool) (ps : List (Put Place)) → Inside ps → Inside (cond b ps [])
     unfolding AllValid
@@ -166,26 +166,26 @@ module _ (z : Sizes) where
     unlock-valid : (low s : ℕ) (p : Place → ℕ) → Inside (S.unlock-each u c low s p)
     unfolding U.item-of
     unlock-valid low s p =
-        sweep-valid Srv.places (Srv.block (z .slots)) _ (count u Reads) p
+        sweep-valid Srv.places (Srv.server-block (z .slots)) _ (count u Reads) p
         (λ i q h. inside-if (U.locked-at low s (U.read-item u i)) (unlock-step (object-of (number-at u Reads i)) c q) (unlock-inside (z .slots) q (object-of (number-at u Reads i)) c (read-has i h)))
 
     lock-valid : (low s : ℕ) (p : Place → ℕ) → Inside (S.lock-each u c low s p)
     unfolding U.item-of
     lock-valid low s p =
-        sweep-valid Srv.places (Srv.block (z .slots)) _ (count u Reads) p
+        sweep-valid Srv.places (Srv.server-block (z .slots)) _ (count u Reads) p
         (λ i q h. inside-if (U.locked-at low s (U.read-item u i)) (lock-step (object-of (number-at u Reads i)) (U.read-item u i .written) c q)
         (lock-inside (z .slots) q (object-of (number-at u Reads i)) (U.read-item u i .written) c (read-has i h)))
 
     writes-valid : (s : ℕ) (p : Place → ℕ) → Inside (S.store-all u s p)
-    writes-valid s p = sweep-valid Srv.places (Srv.block (z .slots)) (S.store-write u s) (count u Writes) p (λ i q h. write-inside (z .slots) u s i q (written-has i h))
+    writes-valid s p = sweep-valid Srv.places (Srv.server-block (z .slots)) (S.store-write u s) (count u Writes) p (λ i q h. write-inside (z .slots) u s i q (written-has i h))
 
     -- ---- ABORT
     pub aborting-lies : (us : List ℕ) → Lies (S.aborting z m c us)
     aborting-lies us =
-        lies-append (S.unlocked-everywhere z m c) (S.in-client z m c (Life.abort us))
+        lies-append (S.unlocked-everywhere z m c) (S.in-client z m c (Life.abort-part us))
         (lies-servers (z .servers) _
-        (λ s h. lies-either (bit (u prepared) s) _ [] (lies-server s h (S.unlock-each u c (lowest z m c) s (server-of m s)) (unlock-valid (lowest z m c) s (server-of m s))) lies-none))
-        (lies-part (Life.abort us) (good-abort us))
+        (λ s h. lies-either (bit (u prepared) s) _ [] (lies-server s h (S.unlock-each u c (lowest-participant z m c) s (server-of m s)) (unlock-valid (lowest-participant z m c) s (server-of m s))) lies-none))
+        (lies-part (Life.abort-part us) (good-abort us))
 
     -- ---- a step that is refused where something is out of range, and one of two
     lies-if : (b : Bool) (d : S.Did) → Lies (d .stores) → Lies (S.if-fit b d .stores)
@@ -201,10 +201,10 @@ module _ (z : Sizes) where
     abort-lies y us = lies-if (abort-fits z m c) _ (aborting-lies us)
 
     -- ---- WORK
-    handed-lies : (us : List ℕ) (g : Step) → Good g → Lies (S.handed z m c us g)
+    handed-lies : (us : List ℕ) (g : PartStep) → Good g → Lies (S.handed z m c us g)
     handed-lies us g ok = lies-part (andThen client-words (used-enter us) g) (good-then (used-enter us) g (good-entering us) ok)
 
-    object-lies : (us : List ℕ) (s x : ℕ) (out : Outcome) (ok : Bool) (g : Step) → Good g → Lies (S.fetch-object z m c us s x out ok g .stores)
+    object-lies : (us : List ℕ) (s x : ℕ) (out : Outcome) (ok : Bool) (g : PartStep) → Good g → Lies (S.fetch-object z m c us s x out ok g .stores)
     object-lies us s x out ok g h =
         lies-if (ok && lock-fits z m s _) _
         (lies-one (held (object-of x) c Fetch (server-of m s)) _ _ (abort-lies 2 us) (lies-one (S.full z m c us) _ _ (abort-lies 4 us) (handed-lies us g h)))
@@ -227,7 +227,7 @@ module _ (z : Sizes) where
         (good-fetched-meta (metadata-at p .root) (metadata-at p .version))
     hand-over-lies us (O.object (O.node n)) out h =
         let r = S.node-at (server-of m (N.server-of n)) n in
-        object-lies us (N.server-of n) (1 + n) out (in-range r) (fetched-node n r) (good-fetched-node n r)
+        object-lies us (N.server-of n) (1 + n) out (node-in-range r) (fetched-node n r) (good-fetched-node n r)
     hand-over-lies us (O.object (O.flag n)) out h = vector-lies us (N.server-of n) h
     hand-over-lies us (O.vector s) out h = vector-lies us s h
     hand-over-lies us (O.fetched s) out h = vector-lies us s h
@@ -279,9 +279,9 @@ module _ (z : Sizes) where
       unfolding andThen
       applying-lies =
           let p = server-of m s in
-          lies-server s h (andThen Srv.places (S.store-all u s) (S.unlock-each u c (lowest z m c) s) p)
-          (valid-append Srv.places (Srv.block (z .slots)) (S.store-all u s p) (S.unlock-each u c (lowest z m c) s (changed Srv.places p (S.store-all u s p)))
-          (writes-valid s p) (unlock-valid (lowest z m c) s (changed Srv.places p (S.store-all u s p))))
+          lies-server s h (andThen Srv.places (S.store-all u s) (S.unlock-each u c (lowest-participant z m c) s) p)
+          (valid-append Srv.places (Srv.server-block (z .slots)) (S.store-all u s p) (S.unlock-each u c (lowest-participant z m c) s (changed Srv.places p (S.store-all u s p)))
+          (writes-valid s p) (unlock-valid (lowest-participant z m c) s (changed Srv.places p (S.store-all u s p))))
 
       pub applied-lies : Lies (S.applied-at z m c s .stores)
       unfolding S.applied-at
@@ -292,8 +292,8 @@ module _ (z : Sizes) where
 
       preparing-lies : Lies (S.preparing z m c s)
       preparing-lies =
-          lies-append (S.in-server z m c s (S.lock-each u c (lowest z m c) s)) _
-          (lies-server s h (S.lock-each u c (lowest z m c) s (server-of m s)) (lock-valid (lowest z m c) s (server-of m s))) (lies-part (noted prepared s) (good-noted 6 s (omega arith)))
+          lies-append (S.in-server z m c s (S.lock-each u c (lowest-participant z m c) s)) _
+          (lies-server s h (S.lock-each u c (lowest-participant z m c) s (server-of m s)) (lock-valid (lowest-participant z m c) s (server-of m s))) (lies-part (noted prepared s) (good-noted 6 s (omega arith)))
 
       deciding-lies : Lies (S.deciding-stores z m c s)
       deciding-lies = lies-append (S.preparing z m c s) _ preparing-lies (lies-part decided good-decided)
@@ -303,7 +303,7 @@ module _ (z : Sizes) where
     unfolding S.lose
     lose-lies =
         lies-one (eqb (u phase) 0) _ _ (lies-part drop-all good-drop-all)
-        (lies-one (eqb (u phase) 3) _ _ (lies-part Life.lose good-lose)
+        (lies-one (eqb (u phase) 3) _ _ (lies-part Life.lose-part good-lose)
         (lies-if (abort-fits z m c) _
         (lies-append (S.abort z m c 7 [] .stores) _ (abort-lies 7 []) (lies-client c l _ (good-drop-all .all (client-of (changed whole m (S.abort z m c 7 [] .stores)) c))))))
 
@@ -353,7 +353,7 @@ module _ (z : Sizes) (al : Allowed z) (k : Step.Step) (m : Address → ℕ) wher
 
       go : (x : ℕ) → k .kind ≡ x → x ≤ 7 → Lies z (S.by-kind z m (k .client) k (kind-of x) .stores)
       go zero e r = lies-part z al m c l fit (Life.reset 1) (good-reset 1)
-      go (suc zero) e r = lies-part z al m c l fit (Life.give (k .op) (k .key) (k .value) (k .server)) (good-give (k .op) (k .key) (k .value) (k .server))
+      go (suc zero) e r = lies-part z al m c l fit (Life.give-part (k .op) (k .key) (k .value) (k .server)) (good-give (k .op) (k .key) (k .value) (k .server))
       go (suc (suc zero)) e r = work-lies z al m c l fit
       go (suc (suc (suc zero))) e r = commit-lies z al m c l fit
       go (suc (suc (suc (suc zero)))) e r = prepare-lies z al m c l fit (k .server) (p .known-participant (omega (arith, e)) (omega (arith, e)))

@@ -14,7 +14,7 @@ use Rattle.operations.specs.Operation.{Legal}
 use Rattle.protocol.specs.State.{Phase, opened}
 use Rattle.client.specs.Layout.{ClientWord, client-words, phase, op-number, op-key, op-value, op-server, participants, prepared, applied, reads-count, writes-count, item, vector-word, meta-copied, meta-root, meta-version}
 use Rattle.client.specs.declared.part.Set.the-variants.{Reads, Writes, Copies}
-use Rattle.client.specs.Life.{reset, give}
+use Rattle.client.specs.Life.{reset, give-part}
 use Rattle.client.specs.Part.{put-field, put-fields}
 use Rattle.layout.specs.Step.{andThen}
 use Rattle.client.specs.Work.{op-of, waiting}
@@ -180,7 +180,7 @@ module _ (k j slots : ℕ) where
     -- ---- GIVE: no move
     module _ (op key value server : ℕ) where
       abbrev ps : List (Put ClientWord)
-      ps = give op key value server u
+      ps = give-part op key value server u
 
       abbrev v : ClientWord → ℕ
       v = changed client-words u ps
@@ -189,12 +189,12 @@ module _ (k j slots : ℕ) where
       at a = read-after client-words ps u a
 
       now-waits : waiting v ≡ op-of op key value server
-      unfolding give put-fields puts
+      unfolding give-part put-fields puts
       now-waits t = op-of (at op-number t) (at op-key t) (at op-value t) (at op-server t)
 
       pub give-kept : Legal (sizes k j slots) (op-of op key value server)
           → Related k j slots (changed whole m (over (client (c .0)) ps)) (gives L (c .0) (op-of op key value server)) M
-      unfolding give put-fields puts
+      unfolding give-part put-fields puts
       give-kept legal =
           let L′ = gives L (c .0) (op-of op key value server) in
           client-related m L L′ M M c ps R (R .reached)

@@ -13,11 +13,11 @@ use Rattle.nodes.specs.declared.found.Found.the-variants.{At, Absent}
 use Rattle.operations.specs.Object.{Obj, Ask, object, vector, fetched, Val, Ans}
 use Rattle.operations.specs.Operation.{reading, all-fit?}
 use Rattle.operations.specs.Path.{Plan}
-use Rattle.operations.specs.Slot.{Sizes, Allowed}
+use Rattle.operations.specs.Slot.{TreeSizes, Allowed}
 use Rattle.client.specs.declared.answer.Look.{Look}
 use Rattle.client.specs.declared.part.Set.the-variants.{Reads, Writes}
 use Rattle.client.specs.Layout.{ClientWord, reads-count}
-use Rattle.client.specs.Record.{number, value-of, object-in-store, fits}
+use Rattle.client.specs.Record.{number, value-of, object-in-store, record-in-range}
 use Rattle.client.specs.Sets.{find}
 use Rattle.client.specs.Fits.{client-fits}
 use Rattle.client.specs.Run.{among}
@@ -44,7 +44,7 @@ fetched-ask (Work.fetches a) = some a
 fetched-ask (Work.aborted y) = none
 fetched-ask (Work.answers a w) = none
 
-module _ (z : Sizes) (u : ClientWord → ℕ) where
+module _ (z : TreeSizes) (u : ClientWord → ℕ) where
   -- the last questions fetch nothing
   no-fetch : (a : Ans) (w : O.Writes) → fetched-ask (Work.last-questions z u a w) ≡ none
   no-fetch a w = go (not (all-fit? w w)) (ltb 48 (Work.writes-after u w)) (Work.any-at-last u (entered w))
@@ -85,12 +85,12 @@ module _ (z : Sizes) (u : ClientWord → ℕ) where
       (W-laws.lacks-none plan (have z u) a (g .0), g .1, g .2 (omega arith))
 
 -- ---- an object that is lacking
-pub record Lacks (z : Sizes) (u : ClientWord → ℕ) (o : Obj) : Type 0 where
+pub record Lacks (z : TreeSizes) (u : ClientWord → ℕ) (o : Obj) : Type 0 where
   pub inside : object-in-store z o ≡ true
   pub unwritten : find u Writes (number o) ≡ Absent
   pub unread : find u Reads (number o) ≡ Absent
 
-pub lacks-object : (z : Sizes) (u : ClientWord → ℕ) (o : Obj) → have z u (object o) ≡ none → broken z u (object o) ≡ false → Lacks z u o
+pub lacks-object : (z : TreeSizes) (u : ClientWord → ℕ) (o : Obj) → have z u (object o) ≡ none → broken z u (object o) ≡ false → Lacks z u o
 unfolding have broken source
 lacks-object z u o h b = in-store? (object-in-store z o) refl h b
   where
@@ -111,7 +111,7 @@ lacks-object z u o h b = in-store? (object-in-store z o) refl h b
     in-store? : (s : Bool) → object-in-store z o ≡ s → cond s (valued z u o l) none ≡ none → cond s (unusable z u (number o) l) true ≡ false → Lacks z u o
     in-store? false e h b = absurd (true≢false b)
     in-store? true e h b =
-        let p = sets (find u Writes (number o)) refl (find u Reads (number o)) refl (not-found (is-found (l .how)) (fits z (number o) (l .node)) h b) in
+        let p = sets (find u Writes (number o)) refl (find u Reads (number o)) refl (not-found (is-found (l .how)) (record-in-range z (number o) (l .node)) h b) in
         record { inside = e; unwritten = p .0; unread = p .1 }
 
 module _ (k j slots : ℕ) (al : Allowed (sizes k j slots)) (u : ClientWord → ℕ) (fit : client-fits (sizes k j slots) u ≡ true) (y : P.Slot (T k j slots)) (shown : Slot-shown k j slots u y) (f : Obj → Option (P.Copy (T k j slots))) (copies : Copies-shown k j slots u f) (o : Obj) (hi : In-store k j slots o) (lack : have (sizes k j slots) u (object o) ≡ none) where

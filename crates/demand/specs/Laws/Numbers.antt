@@ -10,7 +10,7 @@ use Rattle.nodes.specs.Name.{name, server-of, slot-of}
 use Rattle.nodes.specs.declared.node.Node.{Node}
 use Rattle.operations.specs.Object.{Obj, meta, node, flag}
 use Rattle.operations.specs.Laws.Object.{inner}
-use Rattle.operations.specs.Slot.{Sizes, Allowed}
+use Rattle.operations.specs.Slot.{TreeSizes, Allowed}
 use Rattle.server.specs.declared.object.Object.{Object}
 use Rattle.server.specs.Object.{object-of, named}
 use Rattle.client.specs.Record.{number, by-number, value-of, in-store, object-in-store, number-in-store}
@@ -52,7 +52,7 @@ number-obj x = go (eqb x 0) refl (leb x 8192) refl
     go false e true q = let z = eqb-false x 0 e in omega arith
     go false e false q = let l = leb-false x 8192 q in omega arith
 
-pub store-obj : (z : Sizes) (x : ℕ) → number-in-store z x ≡ object-in-store z (obj-of x)
+pub store-obj : (z : TreeSizes) (x : ℕ) → number-in-store z x ≡ object-in-store z (obj-of x)
 unfolding obj-of number-in-store
 store-obj z x = go (eqb x 0) (leb x 8192)
   where
@@ -62,11 +62,11 @@ store-obj z x = go (eqb x 0) (leb x 8192)
     go false false = refl
 
 -- node 0, which holds the first root
-pub zeroth-there : (z : Sizes) → 0 < z .servers → 0 < z .slots → in-store z 0 ≡ true
+pub zeroth-there : (z : TreeSizes) → 0 < z .servers → 0 < z .slots → in-store z 0 ≡ true
 unfolding in-store
 zeroth-there z h g = rw (lt-ltb 0 (z .servers) h, lt-ltb 0 (z .slots) g)
 
-module _ (z : Sizes) (al : Allowed z) where
+module _ (z : TreeSizes) (al : Allowed z) where
   pub name-lt : (n : ℕ) → in-store z n ≡ true → n < 8192
   unfolding in-store
   name-lt n h =
@@ -113,7 +113,7 @@ server-object meta = object.Metadata
 server-object (node n) = object.Node (named n)
 server-object (flag n) = object.Flag (named n)
 
-module _ (z : Sizes) (al : Allowed z) where
+module _ (z : TreeSizes) (al : Allowed z) where
   pub object-number : (o : Obj) → object-in-store z o ≡ true → object-of (number o) ≡ server-object o
   unfolding object-of
   object-number meta h = refl

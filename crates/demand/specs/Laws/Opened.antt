@@ -19,7 +19,7 @@ use Rattle.operations.specs.Object.{Obj, meta, node, flag, root, taken}
 use Rattle.operations.specs.Laws.Sound.{new-store}
 use Rattle.server.specs.declared.place.Place.{Place}
 use Rattle.server.specs.declared.place.Place.the-variants.{Root, Version, MetadataLock, Vector, Node, FlagLock, Table, NodeLock}
-use Rattle.server.specs.Layout.{code, places}
+use Rattle.server.specs.Layout.{place-code, places}
 use Rattle.server.specs.HandOut.{node-here}
 use Rattle.server.specs.Fresh.{first-leaf}
 use Rattle.server.specs.Laws.Fresh.{fresh, fresh-other, fresh-root, fresh-zero}
@@ -47,10 +47,10 @@ one-bit (suc i) n = zero-bit i
 
 -- what a place is: 1 a word of flags, 2 one of a slot; and which of them, or of which slot
 abbrev kind-in : Place → ℕ
-kind-in a = getD (code a) 0 0
+kind-in a = getD (place-code a) 0 0
 
 abbrev slot-in : Place → ℕ
-slot-in a = getD (code a) 1 0
+slot-in a = getD (place-code a) 1 0
 
 -- nodes and flags apart, everything is 0
 abbrev pub of-node : Place → Bool

@@ -31,7 +31,7 @@ use Rattle.client.specs.Participants.{lowest-of}
 use Rattle.client.specs.Course.{noted}
 use Rattle.steps.specs.declared.sizes.Sizes.{Sizes}
 use Rattle.steps.specs.Whole.{Address}
-use Rattle.steps.specs.Judge.{lowest}
+use Rattle.steps.specs.Judge.{lowest-participant}
 use Rattle.steps.specs.Steps.{lock-each, prepare-reason, prepare-finding}
 use Rattle.demand.specs.Ledger.{Ledger}
 use Rattle.demand.specs.Laws.Store.{sizes}
@@ -53,30 +53,30 @@ use Rattle.client.specs.Items as I
 use Rattle.steps.specs.Uses as U
 
 -- ---- a finding without a reason
-module _ (z : Sizes) (m : Address → ℕ) (c s : ℕ) (x : U.Item) (h : prepare-finding z m c s x .1 ≡ 0) (b : U.locked-at (lowest z m c) s x ≡ true) where
+module _ (z : Sizes) (m : Address → ℕ) (c s : ℕ) (x : U.Item) (h : prepare-finding z m c s x .1 ≡ 0) (b : U.locked-at (lowest-participant z m c) s x ≡ true) where
   reason-none : prepare-reason z m c s x ≡ 0
   reason-none = subst (λ (t : Bool). cond t (prepare-reason z m c s x) 0 ≡ 0) b h
 
   abbrev whole-check : ℕ
-  whole-check = Chk.reason (Chk.checked (U.object x) (x .inner-read) (x .mark) c (U.use-of x) (server-of m s))
+  whole-check = Chk.finding-reason (Chk.checked (U.item-object x) (x .inner-read) (x .mark) c (U.use-of x) (server-of m s))
 
   abbrev lock-check : ℕ
-  lock-check = cond (Chk.held (U.object x) c (U.use-of x) (server-of m s)) 2 0
+  lock-check = cond (Chk.held (U.item-object x) c (U.use-of x) (server-of m s)) 2 0
 
-  pub free-of-others : Chk.held (U.object x) c (U.use-of x) (server-of m s) ≡ false
-  free-of-others = go (U.checked-at (lowest z m c) s x) reason-none
+  pub free-of-others : Chk.held (U.item-object x) c (U.use-of x) (server-of m s) ≡ false
+  free-of-others = go (U.checked-at (lowest-participant z m c) s x) reason-none
     where
       none : (t : Bool) → _≡_ {A = ℕ} (cond t 2 0) 0 → t ≡ false
       none true e = absurd (omega (arith, e))
       none false e = refl
 
-      go : (t : Bool) → cond t whole-check lock-check ≡ 0 → Chk.held (U.object x) c (U.use-of x) (server-of m s) ≡ false
-      go true e = found-same (U.object x) (x .inner-read) (x .mark) c (U.use-of x) (server-of m s) e .0
-      go false e = none (Chk.held (U.object x) c (U.use-of x) (server-of m s)) e
+      go : (t : Bool) → cond t whole-check lock-check ≡ 0 → Chk.held (U.item-object x) c (U.use-of x) (server-of m s) ≡ false
+      go true e = found-same (U.item-object x) (x .inner-read) (x .mark) c (U.use-of x) (server-of m s) e .0
+      go false e = none (Chk.held (U.item-object x) c (U.use-of x) (server-of m s)) e
 
-  pub as-it-stands : U.checked-at (lowest z m c) s x ≡ true → Chk.standing (U.object x) (x .inner-read) (server-of m s) ≡ x .mark
+  pub as-it-stands : U.checked-at (lowest-participant z m c) s x ≡ true → Chk.standing (U.item-object x) (x .inner-read) (server-of m s) ≡ x .mark
   as-it-stands q =
-      found-same (U.object x) (x .inner-read) (x .mark) c (U.use-of x) (server-of m s)
+      found-same (U.item-object x) (x .inner-read) (x .mark) c (U.use-of x) (server-of m s)
       (subst (λ (t : Bool). cond t whole-check lock-check ≡ 0) q reason-none) .1
 
 -- ---- the step
@@ -100,7 +100,7 @@ module _ (k j slots : ℕ) (al : Allowed (sizes k j slots)) (few : suc j ≤ 16)
   S = R .servers s
 
   abbrev low : ℕ
-  low = lowest z m (c .0)
+  low = lowest-participant z m (c .0)
 
   pub el : y .lowest .0 ≡ low
   el = shown .lowest-as (omega (arith, now))
@@ -131,7 +131,7 @@ module _ (k j slots : ℕ) (al : Allowed (sizes k j slots)) (few : suc j ≤ 16)
           → busy (U.use-of (asked k j slots al u y s low el o i hi)) (c .0) (p (lock-of (object-of (number o)))) ≡ false
       unfolding Chk.held o U.item-of
       free-of b =
-          subst (λ (x : U.Item). Chk.held (U.object x) (c .0) (U.use-of x) p ≡ false) item-is
+          subst (λ (x : U.Item). Chk.held (U.item-object x) (c .0) (U.use-of x) p ≡ false) item-is
           (free-of-others z m (c .0) (s .0) (U.read-item u i) no-reason (subst (λ (x : U.Item). U.locked-at low (s .0) x ≡ true) (sym item-is) b))
 
       stands : U.checked-at low (s .0) (asked k j slots al u y s low el o i hi) ≡ true
@@ -140,7 +140,7 @@ module _ (k j slots : ℕ) (al : Allowed (sizes k j slots)) (few : suc j ≤ 16)
       stands b =
           let q = subst (λ (x : U.Item). U.checked-at low (s .0) x ≡ true) (sym item-is) b in
           let here = or-left (U.checked-at low (s .0) (U.read-item u i)) (U.read-item u i .written && U.read-item u i .becomes) q in
-          let f = subst (λ (x : U.Item). Chk.standing (U.object x) (x .inner-read) p ≡ x .mark) item-is (as-it-stands z m (c .0) (s .0) (U.read-item u i) no-reason here q) in
+          let f = subst (λ (x : U.Item). Chk.standing (U.item-object x) (x .inner-read) p ≡ x .mark) item-is (as-it-stands z m (c .0) (s .0) (U.read-item u i) no-reason here q) in
           sym (ap₂ (λ (a : _) (b : Bool). Chk.standing a b p) (object-number (sizes k j slots) al o hi) (inner-of (sizes k j slots) al o hi (record-at u Reads i)))
           ∙ f ∙ mark-is k j slots al u y M s low el p S o i hi
 
@@ -278,7 +278,7 @@ module _ (k j slots : ℕ) (al : Allowed (sizes k j slots)) (few : suc j ≤ 16)
                 unheld : U.locked-at low (s .0) a ≡ true → busy (U.use-of a) (c .0) w₀ ≡ false
                 unheld b =
                     subst (λ (x : _). busy (U.use-of a) (c .0) (p (lock-of x)) ≡ false) (object-number (sizes k j slots) al o hi)
-                    (subst (λ (x : U.Item). Chk.held (U.object x) (c .0) (U.use-of x) p ≡ false) item-is′
+                    (subst (λ (x : U.Item). Chk.held (U.item-object x) (c .0) (U.use-of x) p ≡ false) item-is′
                     (free-of-others z m (c .0) (s .0) (U.read-item u i) (no-reason i at-i) (here-is ∙ b)))
 
                 locked-now : U.locked-at low (s .0) a ≡ true → (w : Bool) → I.has u Writes (number o) ≡ w → W ≡ locked w (c .0) w₀

@@ -17,17 +17,17 @@ use Rattle.nodes.specs.declared.found.Found.the-variants.{At, Absent}
 use Rattle.nodes.specs.Lists.{pad}
 use Rattle.nodes.specs.Node.{keysOf, slotsOf, made}
 use Rattle.nodes.specs.Laws.Node.{length-keysOf, length-slotsOf, keys-made, slots-made, extra-le}
-use Rattle.nodes.specs.Place.{bit}
-use Rattle.nodes.specs.Range.{in-range}
+use Rattle.nodes.specs.Place.{one-if}
+use Rattle.nodes.specs.Range.{node-in-range}
 use Rattle.nodes.specs.Laws.Range.{range-count, range-cases}
 use Rattle.nodes.specs.Laws.Stored.{Sized, made-sized}
 use Rattle.operations.specs.Object.{Obj, meta, node, flag, object, Val, root, body, taken, flags}
-use Rattle.operations.specs.Slot.{Sizes, Allowed}
+use Rattle.operations.specs.Slot.{TreeSizes, Allowed}
 use Rattle.operations.specs.Laws.Storable.{Shape, Storable, every-any}
 use Rattle.operations.specs.Laws.Storing.{Names}
 use Rattle.client.specs.declared.part.Set.the-variants.{Reads, Writes}
 use Rattle.client.specs.Layout.{ClientWord, op-number, op-key, op-value, op-server}
-use Rattle.client.specs.Record.{number, first-slot, value-of, single, record-of, in-store, last-version, fits}
+use Rattle.client.specs.Record.{number, first-slot, value-of, single, record-of, in-store, last-version, record-in-range}
 use Rattle.client.specs.Sets.{find}
 use Rattle.client.specs.Fits.{op-fits, client-fits}
 use Rattle.client.specs.Laws.Fits.{fits-field}
@@ -43,7 +43,7 @@ use Rattle.demand.specs.Laws.InRange.{judged}
 use Rattle.protocol.specs.Machine as P
 
 -- ---- stored and read back
-bit-back : (b : Bool) → value-of (flag 0) (single 0 (bit b)) ≡ taken b
+bit-back : (b : Bool) → value-of (flag 0) (single 0 (one-if b)) ≡ taken b
 unfolding single made pad
 bit-back true = refl
 bit-back false = refl
@@ -66,7 +66,7 @@ read-back N (flag n) (flags fs) h = absurd h
 pub record-whole : (N : ℕ → Type 0) (o : Obj) (v : Val) → Storable N o v → Sized (record-of 0 v)
 unfolding record-of single
 record-whole N o (root r) h = made-sized 0 0 0 [] (r ∷ []) (omega arith) (omega arith)
-record-whole N o (taken b) h = made-sized 0 0 0 [] (bit b ∷ []) (omega arith) (omega arith)
+record-whole N o (taken b) h = made-sized 0 0 0 [] (one-if b ∷ []) (omega arith) (omega arith)
 record-whole N o (flags fs) h = made-sized 0 0 0 [] [] (omega arith) (omega arith)
 record-whole N (node n) (body k l ks vs) h = made-sized k l 0 ks vs (h .few) (omega (arith, h .few, h .beside, extra-le k))
 record-whole N meta (body k l ks vs) h = absurd h
@@ -98,7 +98,7 @@ points-any (node n) r = λ _. every-any Any (λ _. tt) (slotsOf r)
 points-any (flag n) r = tt
 
 -- a record in range
-pub record-storable : (N : ℕ → Type 0) (o : Obj) (r : Node) → Sized r → by-object o true (λ n. in-range r) (λ n. true) ≡ true → Points N o r → Storable N o (value-of o r)
+pub record-storable : (N : ℕ → Type 0) (o : Obj) (r : Node) → Sized r → by-object o true (λ n. node-in-range r) (λ n. true) ≡ true → Points N o r → Storable N o (value-of o r)
 unfolding keysOf
 record-storable N meta r s h p = p
 record-storable N (flag n) r s h p = tt
@@ -116,7 +116,7 @@ record-storable N (node n) r s h p =
     shaped k (inr (inr q)) = rw (q .0) (q .1)
 
 -- what the waiting operation names
-pub op-names : (N : ℕ → Type 0) (z : Sizes) → ((n : ℕ) → in-store z n ≡ true → N n) → (u : ClientWord → ℕ) → client-fits z u ≡ true → Names N z (waiting u)
+pub op-names : (N : ℕ → Type 0) (z : TreeSizes) → ((n : ℕ) → in-store z n ≡ true → N n) → (u : ClientWord → ℕ) → client-fits z u ≡ true → Names N z (waiting u)
 unfolding op-fits
 op-names N z there u fit = go (u op-number) (fits-field z u fit 1 (omega arith)) (judged z u fit .0)
   where
@@ -135,17 +135,17 @@ op-names N z there u fit = go (u op-number) (fits-field z u fit 1 (omega arith))
 module _ (k j slots : ℕ) (al : Allowed (sizes k j slots)) (u : ClientWord → ℕ) (f : Obj → Option (P.Copy (T k j slots))) (copies : Copies-shown k j slots u f) (fit : client-fits (sizes k j slots) u ≡ true) (y : P.Slot (T k j slots)) (shown : Slot-shown k j slots u y) where
   pub have-storable : (N : ℕ → Type 0) → ((o : Obj) (v : Val) → Had k j slots al u f copies fit y shown o v → Points N o (source u (number o) .node))
       → (o : Obj) (v : Val) → have (sizes k j slots) u (object o) ≡ some v → Storable N o v
-  unfolding fits
+  unfolding record-in-range
   have-storable N points o v e =
       let h = had k j slots al u f copies fit y shown o v e in
       let r = source u (number o) .node in
       subst (Storable N o) (sym (h .value-as)) (record-storable N o r (source-whole u (number o)) (ranged o r (h .in-store) (h .fitting)) (points o v h))
     where
-      ranged : (o : Obj) (r : Node) → In-store k j slots o → fits (sizes k j slots) (number o) r ≡ true → by-object o true (λ n. in-range r) (λ n. true) ≡ true
-      ranged o r i q = by o (sym (by-number-of (sizes k j slots) al o i (in-store (sizes k j slots) (first-slot r) && leb (r .version) last-version) (λ n. in-range r) (λ n. leb (first-slot r) 1)) ∙ q)
+      ranged : (o : Obj) (r : Node) → In-store k j slots o → record-in-range (sizes k j slots) (number o) r ≡ true → by-object o true (λ n. node-in-range r) (λ n. true) ≡ true
+      ranged o r i q = by o (sym (by-number-of (sizes k j slots) al o i (in-store (sizes k j slots) (first-slot r) && leb (r .version) last-version) (λ n. node-in-range r) (λ n. leb (first-slot r) 1)) ∙ q)
         where
-          by : (o : Obj) → by-object o (in-store (sizes k j slots) (first-slot r) && leb (r .version) last-version) (λ n. in-range r) (λ n. leb (first-slot r) 1) ≡ true
-              → by-object o true (λ n. in-range r) (λ n. true) ≡ true
+          by : (o : Obj) → by-object o (in-store (sizes k j slots) (first-slot r) && leb (r .version) last-version) (λ n. node-in-range r) (λ n. leb (first-slot r) 1) ≡ true
+              → by-object o true (λ n. node-in-range r) (λ n. true) ≡ true
           by meta h = refl
           by (node n) h = h
           by (flag n) h = refl

@@ -38,7 +38,7 @@ use Rattle.client.specs.Commit.{is-at, inner-at}
 use Rattle.client.specs.Fits.{client-fits}
 use Rattle.client.specs.Drops.{version-of}
 use Rattle.client.specs.Copies.{copy-node}
-use Rattle.client.specs.Part.{Step, nothing, put-fields, put-vector}
+use Rattle.client.specs.Part.{PartStep, nothing, put-fields, put-vector}
 use Rattle.demand.specs.Laws.Store.{sizes, by-value}
 use Rattle.demand.specs.Laws.Frame.{then-keeps, sweep-keeps}
 use Rattle.demand.specs.Laws.Numbers.{by-object, obj-of, number-obj, name-lt}
@@ -117,7 +117,7 @@ module _ (R : (ClientWord → ℕ) → Type 0) (K : Renews R) where
       n : ℕ
       n = number-at w Writes i - 8193
 
-      put : Step
+      put : PartStep
       put = put-vector (N.server-of n) (with-flag (vector-copy w (N.server-of n)) (N.slot-of n) (eqb (w (item Writes i 19)) 1))
 
       go : (a : Bool) → ltb (number-at w Writes i) 8193 ≡ a → (b : Bool) → (ltb (N.server-of n) 8 && has-vector w (N.server-of n)) ≡ b

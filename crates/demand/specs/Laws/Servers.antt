@@ -101,11 +101,11 @@ module _ (u : ClientWord → ℕ) (low t : ℕ) (p : Place → ℕ) (a : Place) 
 
   pub lock-stays : (c : ℕ) → changed places p (lock-each u c low t p) a ≡ p a
   unfolding lock-step Only
-  lock-stays c = stays (λ i q. lock-step (U.object i) (i .written) c q) (λ i q. (a-lock (U.object i), tt))
+  lock-stays c = stays (λ i q. lock-step (U.item-object i) (i .written) c q) (λ i q. (a-lock (U.item-object i), tt))
 
   pub unlock-stays : (c : ℕ) → changed places p (unlock-each u c low t p) a ≡ p a
   unfolding unlock-step Only
-  unlock-stays c = stays (λ i q. unlock-step (U.object i) c q) (λ i q. (a-lock (U.object i), tt))
+  unlock-stays c = stays (λ i q. unlock-step (U.item-object i) c q) (λ i q. (a-lock (U.item-object i), tt))
 
 -- what a server stores but its locks
 module _ (k j slots : ℕ) (p q : Place → ℕ) (h : (a : Place) → is-lock a ≡ false → q a ≡ p a) where

@@ -12,8 +12,8 @@ use Rattle.base.specs.Laws.Test.{yes-of, of-yes}
 use Rattle.nodes.specs.Name.{server-of}
 use Rattle.operations.specs.Object.{Obj, meta, node, flag, Val, Why, Ans, Writes, hit, over}
 use Rattle.operations.specs.Laws.Object.{Obj-discrete, Val-discrete, inner, written}
-use Rattle.operations.specs.Slot.{Sizes, Allowed}
-use Rattle.operations.specs.Tree.{Holds}
+use Rattle.operations.specs.Slot.{TreeSizes, Allowed}
+use Rattle.operations.specs.Tree.{Holds-tree}
 use Rattle.operations.specs.Laws.Sound.{new-store, new-holds}
 use Rattle.operations.specs.Laws.Seen.{Given, plan-with, sound-with, written-asked-with, asks-outer-with, uncompared-after}
 use Rattle.protocol.specs.Setting.{Setting}
@@ -90,7 +90,7 @@ fins-all (suc n) (suc q, h) =
 
 -- a store of k + 1 servers and j + 1 clients
 module _ (k j slots : ℕ) where
-  abbrev pub sizes : Sizes
+  abbrev pub sizes : TreeSizes
   sizes = record { servers = suc k; slots = slots }
 
   unfoldable pub server : ℕ → Fin (suc k)
@@ -175,12 +175,12 @@ module _ (k j slots : ℕ) where
     writes-asked = writes-asked;
   }
 
-  pub sound : Allowed sizes → (p : Given sizes) (S : Obj → Val) (m : M.Map) (r : Ans × Writes) → Holds S m
+  pub sound : Allowed sizes → (p : Given sizes) (S : Obj → Val) (m : M.Map) (r : Ans × Writes) → Holds-tree S m
       → P.exec (plan-with sizes (p .hint) (p .op)) S ≡ P.gives r
-      → (M.compared (p .op) ≡ true → r .0 ≡ M.answer (p .op) m) × Holds (λ o. latest Obj-discrete (r .1) o (S o)) (M.map-after (p .op) m)
+      → (M.compared (p .op) ≡ true → r .0 ≡ M.answer (p .op) m) × Holds-tree (λ o. latest Obj-discrete (r .1) o (S o)) (M.map-after (p .op) m)
   sound al p S m r h e =
       let q = sound-with sizes (p .hint) (p .op) S al (p .legal) m (r .0) (r .1) h e in
-      (q .0, subst (λ U. Holds U (M.map-after (p .op) m)) (sym (fun-ext (λ o. latest-over (r .1) S o))) (q .1))
+      (q .0, subst (λ U. Holds-tree U (M.map-after (p .op) m)) (sym (fun-ext (λ o. latest-over (r .1) S o))) (q .1))
 
   abbrev pub meaning : Allowed sizes → Meaning setting
   meaning al = record {
@@ -188,7 +188,7 @@ module _ (k j slots : ℕ) where
     map-answer = M.answer;
     map-after = M.map-after;
     uncompared-after = uncompared-after;
-    Holds-map = Holds;
+    Holds-map = Holds-tree;
     first-map = [];
     first-holds = new-holds;
     sound = sound al;

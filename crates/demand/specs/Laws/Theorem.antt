@@ -8,7 +8,7 @@ use native.Mathlib.Omega.{arith}
 use Rattle.base.specs.Test.{not-both}
 use Rattle.operations.specs.Object.{Obj, meta, node, flag, Val, root-of, taken, is-taken}
 use Rattle.operations.specs.Slot.{Allowed}
-use Rattle.operations.specs.Tree.{Holds}
+use Rattle.operations.specs.Tree.{Holds-tree}
 use Rattle.operations.specs.Laws.Sound.{new-store}
 use Rattle.operations.specs.Laws.Reading.{read-is}
 use Rattle.protocol.specs.State.{is-decided}
@@ -46,8 +46,8 @@ module _ (k j slots : ℕ) (al : Allowed (sizes k j slots)) (few : suc j ≤ 16)
     stored-is : (λ o. due-in (T k j slots) M (home k j slots o) o) ≡ Stored
     stored-is = fun-ext (λ o. none-due (T k j slots) (meaning k j slots al) (G .shown .reached) done (home k j slots o) o (keeps-home k j slots o))
 
-    holds : Holds Stored (map-all (L .decided))
-    holds = subst (λ S. Holds S (map-all (L .decided))) stored-is (tree-holds k j slots al m L M (G .shown))
+    holds : Holds-tree Stored (map-all (L .decided))
+    holds = subst (λ S. Holds-tree S (map-all (L .decided))) stored-is (tree-holds k j slots al m L M (G .shown))
 
     -- "the root that all servers' metadata then name"
     abbrev pub the-root : ℕ
@@ -84,7 +84,7 @@ module _ (k j slots : ℕ) (al : Allowed (sizes k j slots)) (few : suc j ≤ 16)
   unfolding D.course D.All-words
   course-good [] w x e = e
   course-good (n ∷ ks) w x e =
-      course-good ks (w .1) (D.next (store k j slots) x n) (step-after k j slots al few (x .memory) (x .ledger) (e .machine) (e .good) n (w .0 .key))
+      course-good ks (w .1) (D.next-course (store k j slots) x n) (step-after k j slots al few (x .memory) (x .ledger) (e .machine) (e .good) n (w .0 .key))
 
   -- from a newly opened store
   first-good : Good k j slots (opened (store k j slots)) blank (P.first-machine (T k j slots))

@@ -12,14 +12,14 @@ use Rattle.base.specs.Laws.Update.{upd-same}
 use Rattle.layout.specs.Space.{Put, changed}
 use Rattle.layout.specs.Laws.Step.{changed-append}
 use Rattle.layout.specs.Part.{over}
-use Rattle.operations.specs.Map.{H}
+use Rattle.operations.specs.Map.{two-to-64}
 use Rattle.operations.specs.Operation.{Legal}
 use Rattle.operations.specs.Slot.{Allowed}
 use Rattle.protocol.specs.State.{Phase, idle, opened, is-decided}
 use Rattle.client.specs.Layout.{ClientWord, phase}
 use Rattle.client.specs.Fits.{client-fits}
 use Rattle.client.specs.Copies.{drop-all}
-use Rattle.client.specs.Life.{reset, give}
+use Rattle.client.specs.Life.{reset, give-part}
 use Rattle.client.specs.Work.{op-of}
 use Rattle.steps.specs.Whole.{Address, client, whole}
 use Rattle.steps.specs.Laws.Stores.{client-of, client-else}
@@ -53,7 +53,7 @@ pub undecided-word : (x : ℕ) → eqb x 0 ≡ false → eqb x 3 ≡ false → x
 undecided-word x p q l = let a = eqb-false x 0 p in let b = eqb-false x 3 q in either x (omega arith) (omega arith)
 
 -- "op 1 insert .. 6 migrate": what was given is an operation that the store can do
-pub given-legal : (k j slots op key value server : ℕ) → key < H → 1 ≤ op → op ≤ 6 → (op ≡ 6 → server < suc k) → Legal (sizes k j slots) (op-of op key value server)
+pub given-legal : (k j slots op key value server : ℕ) → key < two-to-64 → 1 ≤ op → op ≤ 6 → (op ≡ 6 → server < suc k) → Legal (sizes k j slots) (op-of op key value server)
 given-legal k j slots zero key value server h l r s = h
 given-legal k j slots (suc zero) key value server h l r s = h
 given-legal k j slots (suc (suc zero)) key value server h l r s = h
@@ -86,13 +86,13 @@ module _ (k j slots : ℕ) (al : Allowed (sizes k j slots)) (few : suc j ≤ 16)
   }
 
   pub give-turns : (op key value server : ℕ) → u phase ≡ 1 → Legal (sizes k j slots) (op-of op key value server)
-      → Turns k j slots m (changed whole m (over (client (c .0)) (give op key value server u))) (gives L (c .0) (op-of op key value server)) M c
+      → Turns k j slots m (changed whole m (over (client (c .0)) (give-part op key value server u))) (gives L (c .0) (op-of op key value server)) M c
   give-turns op key value server e legal = record {
     machine = M;
     shows = give-kept k j slots m L M c R op key value server legal;
     values-same = refl;
     undecided = early (omega (arith, e));
-    others = others (give op key value server u);
+    others = others (give-part op key value server u);
   }
 
   -- loss without a transaction

@@ -15,7 +15,7 @@ use Rattle.layout.specs.Sweep.{sweep}
 use Rattle.nodes.specs.declared.node.Node.{Node}
 use Rattle.nodes.specs.declared.found.Found.the-variants.{At, Absent}
 use Rattle.nodes.specs.Node.{extra, keysOf, slotsOf, made, free-node}
-use Rattle.nodes.specs.Range.{in-range}
+use Rattle.nodes.specs.Range.{node-in-range}
 use Rattle.nodes.specs.Laws.Range.{range-cases}
 use Rattle.operations.specs.Object.{Obj, meta, node, flag}
 use Rattle.operations.specs.Slot.{Allowed}
@@ -26,7 +26,7 @@ use Rattle.server.specs.Store.{metadata-step, flag-step, kept-of, home-step, ta
 use Rattle.client.specs.declared.part.Set.the-variants.{Writes}
 use Rattle.client.specs.Layout.{ClientWord}
 use Rattle.nodes.specs.Laws.Stored.{Sized}
-use Rattle.client.specs.Record.{number, by-number, first-slot, value-of, in-store, fits, last-version}
+use Rattle.client.specs.Record.{number, by-number, first-slot, value-of, in-store, record-in-range, last-version}
 use Rattle.client.specs.Sets.{count, record-at, number-at, find}
 use Rattle.client.specs.Participants.{at-home}
 use Rattle.client.specs.Drops.{next-version}
@@ -94,7 +94,7 @@ kept-version r v = go (eqb (r .kind) 0)
     go true = refl
     go false = refl
 
-kept-value : (r : Node) (v n : ℕ) → in-range r ≡ true → value-of (node n) (kept-of r v) ≡ value-of (node n) r
+kept-value : (r : Node) (v n : ℕ) → node-in-range r ≡ true → value-of (node n) (kept-of r v) ≡ value-of (node n) r
 unfolding kept-of free-node made keysOf slotsOf extra
 kept-value r v n h = go (range-cases r h)
   where
@@ -208,8 +208,8 @@ module _ (k j slots : ℕ) (al : Allowed (sizes k j slots)) (u : ClientWord → 
         home-here : at-home (s .0) (x w) ≡ true
         home-here = ap (at-home (s .0)) (number-is w e) ∙ sym (kept-home k j slots al s q hi) ∙ kept
 
-        pub value-one : fits (sizes k j slots) (x w) (r w) ≡ true → value-at k j slots (p₁ p) q ≡ value-of q (r w)
-        unfolding fits
+        pub value-one : record-in-range (sizes k j slots) (x w) (r w) ≡ true → value-at k j slots (p₁ p) q ≡ value-of q (r w)
+        unfolding record-in-range
         value-one ok =
             seen-one (λ f. value-at k j slots f q) (store-write u (s .0)) p (λ _. value-of q (r w)) (count u Writes) w (within w e)
             (λ i l d. other-of (λ f. value-at k j slots f q) i (λ f. W.other-value k j slots (H i) (B i) (F i) (Next i) (A i) (stored-node u i) (record-whole u i) f (s .0) q (o i) (kept-here q hi kept) (others-of w e i l d) (homed i)))
@@ -217,7 +217,7 @@ module _ (k j slots : ℕ) (al : Allowed (sizes k j slots)) (u : ClientWord → 
             ∙ subst (λ (z : Obj). value-at k j slots (changed places f (write w f)) z ≡ value-of z (r w)) (it-is w e)
             (W.own-value k j slots (H w) (B w) (F w) (Next w) (A w) (stored-node u w) (record-whole u w) f (o w) home-here ∙ same (o w) (sym (by-obj (x w) _ _ _) ∙ ok)))
           where
-            same : (z : Obj) → by-object z (in-store (sizes k j slots) (A w) && leb (r w .version) last-version) (λ n. in-range (r w)) (λ n. leb (A w) 1) ≡ true
+            same : (z : Obj) → by-object z (in-store (sizes k j slots) (A w) && leb (r w .version) last-version) (λ n. node-in-range (r w)) (λ n. leb (A w) 1) ≡ true
                 → W.given-value k j slots (H w) (B w) (F w) (Next w) (A w) (stored-node u w) (record-whole u w) p z ≡ value-of z (r w)
             same meta e = refl
             same (node n) e = kept-value (r w) (Next w) n e

@@ -19,11 +19,11 @@ use Rattle.steps.specs.declared.step.Kind.the-variants.{Begin, Give, Work, Comm
 use Rattle.steps.specs.declared.outcome.Outcome.{Outcome}
 use Rattle.steps.specs.declared.outcome.Outcome.the-variants.{Refused}
 use Rattle.steps.specs.Whole.{Address, tree-sizes}
-use Rattle.steps.specs.Refusal.{kind-of, fits, open-refusal, refusal}
+use Rattle.steps.specs.Refusal.{kind-of, state-fits, open-refusal, refusal}
 use Rattle.steps.specs.Passed.{Passed}
 use Rattle.steps.specs.Laws.Passed.{passed}
 use Rattle.steps.specs.Steps.{begin, give, work, commit, prepare, apply, abort, lose, by-kind, step}
-use Rattle.kinds.specs.Parts.{Holds, head-sizes, stored-in}
+use Rattle.kinds.specs.Parts.{Store-in, head-sizes, stored-in}
 use Rattle.kinds.specs.Judge.{of-client}
 use Rattle.kinds.specs.Laws.Refusal.{too-short}
 use Rattle.kinds.specs.Fits.{Known}
@@ -66,7 +66,7 @@ module _ (z : Sizes) (c : ℕ) (k : Step) (x : Kind) (w : List ℕ) (o : Outcome
   is-none q p r = of-kind Unknown q (record { answer = p; words = r })
 
 -- a client's state in range
-pub known-by : (z : Sizes) (n : ℕ) (w : List ℕ) (c : ℕ) → Holds z n → client-fits (tree-sizes z) (of-client z w c) ≡ true → Known z w c
+pub known-by : (z : Sizes) (n : ℕ) (w : List ℕ) (c : ℕ) → Store-in z n → client-fits (tree-sizes z) (of-client z w c) ≡ true → Known z w c
 known-by z n w c h f = fits-known z w c true (h .allowed) (sym f) refl
 
 pub ruleset kinds = (is-begin, is-give, is-work, is-commit, is-prepare, is-apply, is-give-up, is-lost, is-none)
@@ -110,10 +110,10 @@ module _ (z : Sizes) (c : ℕ) (k : Step) (m : Address → ℕ) (e : c ≡ k .cl
 -- a work step has an operation that waits
 pub at-work : (z : Sizes) (c : ℕ) (k : Step) (w : List ℕ) (x : Kind) → x ≡ Work → c ≡ k .client → x ≡ kind-of (k .kind) → Passed z k (stored-in z w)
     → client-fits (tree-sizes z) (of-client z w c) ≡ true → Waiting (of-client z w c)
-unfolding fits
+unfolding state-fits
 at-work z c k w x q e ek h f =
     let m = of-client z w (k .client) in
-    let g : fits m (k .server) Work ≡ true = subst (λ (y : Kind). fits m (k .server) y ≡ true) (sym ek ∙ q) (h .fitting) in
+    let g : state-fits m (k .server) Work ≡ true = subst (λ (y : Kind). state-fits m (k .server) y ≡ true) (sym ek ∙ q) (h .fitting) in
     let n : not (eqb (m op-number) 0) ≡ true = and-both (eqb (m phase) 1) (not (eqb (m op-number) 0)) g .1 in
     fits-waiting z (of-client z w c) f (λ p. eqb-false (m op-number) 0 (not-true (eqb (m op-number) 0) n) (subst (λ (d : ℕ). of-client z w d op-number ≡ 0) e p))
 

@@ -9,7 +9,7 @@ use lib.Dec.{ltb}
 use lib.ListN.{length, getD}
 use borrow.Author.Tests.{ne-eqb, le-leb, lt-leb}
 use Rattle.operations.specs.Object.{Obj, meta, node, flag, object, vector, fetched, Val}
-use Rattle.operations.specs.Slot.{Sizes}
+use Rattle.operations.specs.Slot.{TreeSizes}
 use Rattle.operations.specs.Path.{Plan}
 use Rattle.client.specs.Layout.{ClientWord}
 use Rattle.client.specs.Record.{number, object-in-store, number-in-store}
@@ -19,7 +19,7 @@ use Rattle.client.specs.Work.{walked}
 use Rattle.walk.specs.Laws.Write.{name-below}
 use Rattle.plans.specs.Plan as P
 
-module _ (z : Sizes) where
+module _ (z : TreeSizes) where
   -- all of these numbers are of objects of the store
   unfoldable pub Stored : List ℕ → Type 0
   Stored [] = Unit {0}

@@ -44,7 +44,7 @@ use Rattle.steps.specs.Whole.{Allowed, Address, client, whole, block, tree-size
 use Rattle.steps.specs.Uses.{item-of}
 use Rattle.steps.specs.Steps.{did, abort, fetch, after-walk, work}
 use Rattle.steps.specs.Laws.There.{in-store-has}
-use Rattle.kinds.specs.Parts.{Holds, stored-in}
+use Rattle.kinds.specs.Parts.{Store-in, stored-in}
 use Rattle.kinds.specs.Laws.Parts.{client-lent}
 use Rattle.kinds.specs.Items.{read-item}
 use Rattle.kinds.specs.Judge.{of-client}
@@ -76,23 +76,23 @@ unfolding entering answered enter-writes put-field
 entering-is us l w e = rw e
 
 -- ---- the walk of the part that is lent on
-pub works-lent : (z : Sizes) (b : List ℕ) (c k : ℕ) (s : Stop) (x u : List ℕ) → Holds z (length b) → c < z .clients → k ≡ client-at z c
+pub works-lent : (z : Sizes) (b : List ℕ) (c k : ℕ) (s : Stop) (x u : List ℕ) → Store-in z (length b) → c < z .clients → k ≡ client-at z c
     → Works (tree-sizes z) (sets.held (midOf (8 * k) (length b - 8 * k) b)) s x u → Works (tree-sizes z) (of-client z (view b) c) s x u
 unfolding sets.held
 works-lent z b c k s x u l h e d = subst (λ (m : ClientWord → ℕ). Works (tree-sizes z) m s x u) (client-lent z c k b h e (l .room)) d
 
-pub waiting-lent : (z : Sizes) (b : List ℕ) (c k : ℕ) → Holds z (length b) → c < z .clients → k ≡ client-at z c → Waiting (of-client z (view b) c)
+pub waiting-lent : (z : Sizes) (b : List ℕ) (c k : ℕ) → Store-in z (length b) → c < z .clients → k ≡ client-at z c → Waiting (of-client z (view b) c)
     → Waiting (sets.held (midOf (8 * k) (length b - 8 * k) b))
 unfolding sets.held
 waiting-lent z b c k l h e d = subst Waiting (sym (client-lent z c k b h e (l .room))) d
 
-pub looks-lent : (z : Sizes) (b : List ℕ) (c k : ℕ) (s : Stop) (u : List ℕ) → Holds z (length b) → c < z .clients → k ≡ client-at z c
+pub looks-lent : (z : Sizes) (b : List ℕ) (c k : ℕ) (s : Stop) (u : List ℕ) → Store-in z (length b) → c < z .clients → k ≡ client-at z c
     → Looks (tree-sizes z) (sets.held (midOf (8 * k) (length b - 8 * k) b)) s u → Looks (tree-sizes z) (of-client z (view b) c) s u
 unfolding sets.held
 looks-lent z b c k s u l h e d = subst (λ (m : ClientWord → ℕ). Looks (tree-sizes z) m s u) (client-lent z c k b h e (l .room)) d
 
 -- which of the two it is
-module _ (z : Sizes) (b : List ℕ) (c k : ℕ) (l : Holds z (length b)) (h : c < z .clients) (e : k ≡ client-at z c) (r : Bool) where
+module _ (z : Sizes) (b : List ℕ) (c k : ℕ) (l : Store-in z (length b)) (h : c < z .clients) (e : k ≡ client-at z c) (r : Bool) where
   pub reads-lent : r ≡ only-reads (sets.held (midOf (8 * k) (length b - 8 * k) b) op-number) → r ≡ only-reads (of-client z (view b) c op-number)
   unfolding sets.held
   reads-lent d = subst (λ (m : ClientWord → ℕ). r ≡ only-reads (m op-number)) (client-lent z c k b h e (l .room)) d
@@ -276,7 +276,7 @@ all-known z w c al k = record { known = λ i l. go i l (decLt i (count (of-clien
         (in-store-has z (getD us (i - count (of-client z w c) Reads) 0) al
         (stored-at (tree-sizes z) us (i - count (of-client z w c) Reads) (used-stored (tree-sizes z) (al .servers .1) (of-client z w c)) (omega arith)))
 
-module _ (z : Sizes) (b : List ℕ) (c : ℕ) (hold : Holds z (length b)) (h : c < z .clients) (known : Known z (view b) c) (wait : Waiting (of-client z (view b) c)) (s : Stop) (u : List ℕ) (k : Stopped (tree-sizes z) (of-client z (view b) c) s u) where
+module _ (z : Sizes) (b : List ℕ) (c : ℕ) (hold : Store-in z (length b)) (h : c < z .clients) (known : Known z (view b) c) (wait : Waiting (of-client z (view b) c)) (s : Stop) (u : List ℕ) (k : Stopped (tree-sizes z) (of-client z (view b) c) s u) where
   abbrev W : Worked
   W = worked (tree-sizes z) (of-client z (view b) c)
 
@@ -366,7 +366,7 @@ module _ (z : Sizes) (b : List ℕ) (c : ℕ) (hold : Holds z (length b)) (h : c
         (meets-as z (view b) o w′ (λ m. did o (inPart (client c) (entering (used-in u) l) m)) (λ m. work z m c)
         (sym (work-is ∙ rw (q, ← r))) (meets-did z (view b) o w′ (inPart (client c) (entering (used-in u) l)) p))
 
-module _ (z : Sizes) (b : List ℕ) (c : ℕ) (hold : Holds z (length b)) (h : c < z .clients) (known : Known z (view b) c) (wait : Waiting (of-client z (view b) c)) (s : Stop) where
+module _ (z : Sizes) (b : List ℕ) (c : ℕ) (hold : Store-in z (length b)) (h : c < z .clients) (known : Known z (view b) c) (wait : Waiting (of-client z (view b) c)) (s : Stop) where
   -- an operation that only reads
   module _ (u : List ℕ) (k : Looks (tree-sizes z) (of-client z (view b) c) s u) where
     pub look-answers : (o : Outcome) (w′ : List ℕ) → is-answer s ≡ true → o ≡ answer-of s → Does whole (block z) (inPart (client c) (entering (used-in u) [])) silent (view b) 0 w′

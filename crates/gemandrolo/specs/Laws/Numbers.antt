@@ -13,7 +13,7 @@ use Rattle.engine.specs.declared.open.Opening.{Opening}
 use Rattle.engine.specs.declared.open.Opening.the-variants.{Accepted, Refused as Shut}
 use Rattle.engine.specs.Open.{opening}
 use Rattle.engine.specs.Step.{outcome-of, words-after}
-use Rattle.schedule.specs.Listed.{noted, words-run, outcomes-run, lines}
+use Rattle.schedule.specs.Listed.{written-down, words-run, outcomes-run, lines}
 use Rattle.gemandrolo.specs.Numbers.{bytes-of, step-at, listed}
 
 -- ---- laws
@@ -76,7 +76,7 @@ module _ (bytes : ℕ) (ws : List ℕ) (n : ℕ) (w₀ out₀ : List ℕ) where
     left-is l = let q : n - i ≡ suc (n - suc i) = omega arith in rw q
 
     pub ran-next : (b : ℕ) (k : Step) (w′ out′ : List ℕ) → i < n → b ≡ bytes → k ≡ step-at ws i → w′ ≡ words-after b w k
-        → out′ ≡ noted out i (line (outcome-of b w k)) → Ran bytes ws n w₀ out₀ (i + 1) w′ out′
+        → out′ ≡ written-down out i (line (outcome-of b w k)) → Ran bytes ws n w₀ out₀ (i + 1) w′ out′
     unfolding words-run outcomes-run lines
     ran-next b k w′ out′ l eb ek p q =
         let e = left-is l in

@@ -26,12 +26,12 @@ use Rattle.kinds.specs.declared.locks.Change.the-variants.{Unlock}
 use Rattle.steps.specs.Whole.{Address, server, client, whole, block, words-for}
 use Rattle.steps.specs.Laws.Stores.{client-of, server-of, server-clients, server-else}
 use Rattle.steps.specs.Uses.{item-of, locked-at}
-use Rattle.steps.specs.Judge.{lowest, abort-fits}
+use Rattle.steps.specs.Judge.{lowest-participant, abort-fits}
 use Rattle.client.specs.Participants.{lowest-of}
 use Rattle.client.specs.Lent.{InUse, used-in}
 use Rattle.client.specs.Laws.GoodSteps.{good-abort}
 use Rattle.steps.specs.Steps.{at-servers, did, abort}
-use Rattle.kinds.specs.Parts.{Holds, stored-in}
+use Rattle.kinds.specs.Parts.{Store-in, stored-in}
 use Rattle.kinds.specs.Items.{read-item}
 use Rattle.kinds.specs.Judge.{of-client}
 use Rattle.kinds.specs.Fits.{Known}
@@ -80,8 +80,8 @@ module _ (z : Sizes) (c : ℕ) where
   pub changes-inside : (s : ℕ) (k : Change) (w : List ℕ) → s < z .servers → Known z w c → AllValid whole (block z) (changes z c s k (stored-in z w))
   unfolding changes inPart read-item item-of
   changes-inside s k w h known =
-      in-whole z s h (upto (rule k c) (locked-at (lowest z (stored-in z w) c) s) (read-item (of-client z w c)) (count (of-client z w c) Reads)) (stored-in z w)
-      (upto-inside z (rule k c) (locked-at (lowest z (stored-in z w) c) s) (read-item (of-client z w c)) (count (of-client z w c) Reads)
+      in-whole z s h (upto (rule k c) (locked-at (lowest-participant z (stored-in z w) c) s) (read-item (of-client z w c)) (count (of-client z w c) Reads)) (stored-in z w)
+      (upto-inside z (rule k c) (locked-at (lowest-participant z (stored-in z w) c) s) (read-item (of-client z w c)) (count (of-client z w c) Reads)
       (λ j l. rule-inside z c k (read-item (of-client z w c) j) (known .known j l)))
 
   pub changes-apart : (s : ℕ) (k : Change) (w : List ℕ) → s < z .servers → Known z w c → Apart z c (changes z c s k) (stored-in z w)
@@ -97,7 +97,7 @@ module _ (z : Sizes) (c p : ℕ) (w : List ℕ) (known : Known z w c) where
   abbrev here : ℕ → List (Put Place)
   here s =
       let m = stored-in z w in
-      upto (rule Unlock c) (locked-at (lowest z m c) s) (read-item (of-client z w c)) (count (of-client z w c) Reads) (server-of m s)
+      upto (rule Unlock c) (locked-at (lowest-participant z m c) s) (read-item (of-client z w c)) (count (of-client z w c) Reads) (server-of m s)
 
   stores-inside : (k : ℕ) → k ≤ z .servers → AllValid whole (block z) (at-servers k (λ s. unlocking z c p s (stored-in z w)))
   unfolding at-servers unlocking AllValid
@@ -133,7 +133,7 @@ module _ (z : Sizes) (c p : ℕ) where
   freed-none w = record { answer = refl; words = refl }
 
   -- after those below i: the client's part and the part of server i are as before
-  module _ (b₀ b : List ℕ) (n i : ℕ) (hold : Holds z (length b₀)) (known : Known z (view b₀) c) (en : n ≡ z .servers) (l : i < n) (so : FreedUpto z c p i (view b₀) (view b)) where
+  module _ (b₀ b : List ℕ) (n i : ℕ) (hold : Store-in z (length b₀)) (known : Known z (view b₀) c) (en : n ≡ z .servers) (l : i < n) (so : FreedUpto z c p i (view b₀) (view b)) where
     abbrev before : Address → ℕ
     before = stored-in z (view b₀)
 
@@ -176,17 +176,17 @@ module _ (z : Sizes) (c p : ℕ) where
       let e : i ≡ z .servers = omega arith in
       does-as whole (block z) (λ m. at-servers i (λ s. unlocking z c p s m)) (freeing z c) silent w 0 w′ (rw (e, ep)) d
 
-pub is-aborted : (z : Sizes) (c : ℕ) (us b₀ b b′ : List ℕ) → Holds z (length b₀) → Known z (view b₀) c
-    → Does whole (block z) (freeing z c) silent (view b₀) 0 (view b) → Does whole (block z) (inPart (client c) (L.abort us)) silent (view b) 0 (view b′)
+pub is-aborted : (z : Sizes) (c : ℕ) (us b₀ b b′ : List ℕ) → Store-in z (length b₀) → Known z (view b₀) c
+    → Does whole (block z) (freeing z c) silent (view b₀) 0 (view b) → Does whole (block z) (inPart (client c) (L.abort-part us)) silent (view b) 0 (view b′)
     → Does whole (block z) (aborts z c us) silent (view b₀) 0 (view b′)
 unfolding aborts freeing inPart
-is-aborted z c us b₀ b b′ hold known p q = then-client z c (freeing z c) (L.abort us) b₀ b b′ hold (freeing-apart z c (view b₀) known) p q
+is-aborted z c us b₀ b b′ hold known p q = then-client z c (freeing z c) (L.abort-part us) b₀ b b′ hold (freeing-apart z c (view b₀) known) p q
 
 pub aborts-inside : (z : Sizes) (c : ℕ) (us w : List ℕ) → c < z .clients → Known z w c → AllValid whole (block z) (aborts z c us (stored-in z w))
 unfolding aborts freeing inPart
 aborts-inside z c us w h known =
     let m = stored-in z w in
-    valid-append whole (block z) (freeing z c m) (inPart (client c) (L.abort us) m) (freeing-apart z c w known .valid) (client-inside z c (L.abort us) m h (good-abort us))
+    valid-append whole (block z) (freeing z c m) (inPart (client c) (L.abort-part us) m) (freeing-apart z c w known .valid) (client-inside z c (L.abort-part us) m h (good-abort us))
 
 module _ (z : Sizes) (c y : ℕ) (us w : List ℕ) (b : Bool) (e : b ≡ abort-fits z (stored-in z w) c) where
   pub abort-done : (w′ : List ℕ) → b ≡ true → Does whole (block z) (aborts z c us) silent w 0 w′ → Meets z (λ m. abort z m c y us) w (Aborted y) w′

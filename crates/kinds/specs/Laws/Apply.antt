@@ -31,7 +31,7 @@ use Rattle.steps.specs.Laws.Stores.{server-clients}
 use Rattle.steps.specs.Uses.{item-of, locked-at}
 use Rattle.steps.specs.Judge.{unlock-fits, versions-fit}
 use Rattle.steps.specs.Steps.{did, covers, store-all, applied-at, apply}
-use Rattle.kinds.specs.Parts.{Holds, stored-in}
+use Rattle.kinds.specs.Parts.{Store-in, stored-in}
 use Rattle.kinds.specs.Items.{read-item}
 use Rattle.kinds.specs.Judge.{of-client}
 use Rattle.kinds.specs.Fits.{Known}
@@ -50,7 +50,7 @@ Rule = (Place → ℕ) → List (Put Place)
 
 inside-then : (z : Sizes) (f g : Rule) → Inside z f → Inside z g → Inside z (andThen Srv.places f g)
 unfolding andThen
-inside-then z f g p q = record { all = λ u. valid-append Srv.places (Srv.block (z .slots)) (f u) (g (changed Srv.places u (f u))) (p .all u) (q .all (changed Srv.places u (f u))) }
+inside-then z f g p q = record { all = λ u. valid-append Srv.places (Srv.server-block (z .slots)) (f u) (g (changed Srv.places u (f u))) (p .all u) (q .all (changed Srv.places u (f u))) }
 
 module _ (z : Sizes) (c s : ℕ) (w : List ℕ) (known : Known z w c) where
   -- the writes, and the locks, as rules of the server
@@ -79,7 +79,7 @@ applies-apart z c s w h known =
     }
 
 -- the client's part stays while its writes are stored
-module _ (z : Sizes) (c s : ℕ) (b₀ b : List ℕ) (hold : Holds z (length b₀)) (known : Known z (view b₀) c) (h : s < z .servers) (p : Does whole (block z) (stores z c s) silent (view b₀) 0 (view b)) where
+module _ (z : Sizes) (c s : ℕ) (b₀ b : List ℕ) (hold : Store-in z (length b₀)) (known : Known z (view b₀) c) (h : s < z .servers) (p : Does whole (block z) (stores z c s) silent (view b₀) 0 (view b)) where
   room : words-for z ≤ length (view b₀)
   room = omega (arith, hold .room, view-length b₀)
 
@@ -109,7 +109,7 @@ pub good-noted : (i s : ℕ) → i < 15 → Good (noted (field i) s)
 unfolding noted put-field
 good-noted i s h = record { all = λ m. good-field i (putBit true (m (field i)) s) h .all m }
 
-module _ (z : Sizes) (c s : ℕ) (b₀ b b₁ : List ℕ) (hold : Holds z (length b₀)) (known : Known z (view b₀) c) (h : s < z .servers) (last : Bool) (e : last ≡ covers (z .servers) (of-client z (view b₀) c (field 5)) (putBit true (of-client z (view b₀) c (field 7)) s)) (p : Does whole (block z) (applies z c s) silent (view b₀) 0 (view b)) (q : Does whole (block z) (inPart (client c) (noted (field 7) s)) silent (view b) 0 (view b₁)) where
+module _ (z : Sizes) (c s : ℕ) (b₀ b b₁ : List ℕ) (hold : Store-in z (length b₀)) (known : Known z (view b₀) c) (h : s < z .servers) (last : Bool) (e : last ≡ covers (z .servers) (of-client z (view b₀) c (field 5)) (putBit true (of-client z (view b₀) c (field 7)) s)) (p : Does whole (block z) (applies z c s) silent (view b₀) 0 (view b)) (q : Does whole (block z) (inPart (client c) (noted (field 7) s)) silent (view b) 0 (view b₁)) where
   pub applied-one : last ≡ false → Meets z (λ m. applied-at z m c s) (view b₀) (Applied s) (view b₁)
   unfolding applied-at applies inPart
   applied-one t =

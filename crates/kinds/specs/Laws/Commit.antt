@@ -17,7 +17,7 @@ use Rattle.steps.specs.declared.sizes.Sizes.{Sizes}
 use Rattle.steps.specs.declared.outcome.Outcome.the-variants.{Done, Committed}
 use Rattle.steps.specs.Whole.{client, whole, block, client-at}
 use Rattle.steps.specs.Steps.{did, commit}
-use Rattle.kinds.specs.Parts.{Holds}
+use Rattle.kinds.specs.Parts.{Store-in}
 use Rattle.kinds.specs.Laws.Parts.{client-lent}
 use Rattle.kinds.specs.Judge.{of-client}
 use Rattle.kinds.specs.Course.{mark}
@@ -25,7 +25,7 @@ use Rattle.kinds.specs.Kinds.{Meets}
 use Rattle.kinds.specs.Laws.Kinds.{meets-did, meets-as}
 use Rattle.client.specs.Life as L
 
-pub participants-lent : (z : Sizes) (b : List ℕ) (c k r : ℕ) → Holds z (length b) → c < z .clients → k ≡ client-at z c
+pub participants-lent : (z : Sizes) (b : List ℕ) (c k r : ℕ) → Store-in z (length b) → c < z .clients → k ≡ client-at z c
     → r ≡ participants-of (held (midOf (8 * k) (length b - 8 * k) b)) (z .servers) → r ≡ participants-of (of-client z (view b) c) (z .servers)
 unfolding held
 participants-lent z b c k r l h e q = q ∙ ap (λ (m : ClientWord → ℕ). participants-of m (z .servers)) (client-lent z c k b h e (l .room))

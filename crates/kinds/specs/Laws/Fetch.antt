@@ -14,7 +14,7 @@ use Rattle.memory.specs.Word.{view}
 use Rattle.server.specs.declared.object.Object.{Object}
 use Rattle.server.specs.declared.lock.Use.the-variants.{Fetch}
 use Rattle.server.specs.Object.{object-of, Has}
-use Rattle.server.specs.Check.{can-check, checked, held, reason}
+use Rattle.server.specs.Check.{can-check, checked, held, finding-reason}
 use Rattle.client.specs.declared.answer.Look.{Look}
 use Rattle.client.specs.declared.part.Set.the-variants.{Reads}
 use Rattle.client.specs.Layout.{ClientWord, reads-count}
@@ -26,9 +26,9 @@ use Rattle.client.specs.Laws.Lent.{length-used}
 use Rattle.steps.specs.declared.sizes.Sizes.{Sizes}
 use Rattle.kinds.specs.declared.fetch.Verdict.the-variants.{Unfit, Fault, Clear}
 use Rattle.steps.specs.Whole.{client-at}
-use Rattle.steps.specs.Uses.{Item, each, those, all, item-of, read-items, used-items, object, least, reason-of, deciding}
+use Rattle.steps.specs.Uses.{Item, each, those, all, item-of, read-items, used-items, item-object, least, reason-of, deciding}
 use Rattle.steps.specs.Judge.{check-fits}
-use Rattle.kinds.specs.Parts.{Holds, stored-in}
+use Rattle.kinds.specs.Parts.{Store-in, stored-in}
 use Rattle.kinds.specs.Laws.Parts.{client-lent}
 use Rattle.kinds.specs.Items.{as-item, read-item}
 use Rattle.kinds.specs.Judge.{of-client, of-server, lock-at}
@@ -125,7 +125,7 @@ module _ (g : Item → Bool) where
       go false h = h
 
 -- ---- the parts of the code
-pub used-lent : (z : Sizes) (b : List ℕ) (c k x : ℕ) (r : Item) → Holds z (length b) → c < z .clients → k ≡ client-at z c
+pub used-lent : (z : Sizes) (b : List ℕ) (c k x : ℕ) (r : Item) → Store-in z (length b) → c < z .clients → k ≡ client-at z c
     → r ≡ used-item (sets.held (midOf (8 * k) (length b - 8 * k) b)) x → r ≡ used-item (of-client z (view b) c) x
 unfolding sets.held
 used-lent z b c k x r l h e q = q ∙ ap (λ (m : ClientWord → ℕ). used-item m x) (client-lent z c k b h e (l .room))
@@ -159,7 +159,7 @@ module _ (z : Sizes) (w : List ℕ) (c s : ℕ) (i : code.Item) (o : Object) (po
   unfolding check-item
   item-elsewhere t = sym (rw (← po, ← pb, t))
 
-  pub fault-checked : (r : ℕ) → b ≡ true → r ≡ reason (checked (object-of (i .number)) (i .inner) (i .mark) c Fetch (of-server z w s)) → r ≡ fetch-fault z w c s (as-item i)
+  pub fault-checked : (r : ℕ) → b ≡ true → r ≡ finding-reason (checked (object-of (i .number)) (i .inner) (i .mark) c Fetch (of-server z w s)) → r ≡ fetch-fault z w c s (as-item i)
   unfolding fetch-fault
   fault-checked r t q = let e : can-check s (object-of (i .number)) (i .inner) ≡ true = ap (λ (x : Object). can-check s x (i .inner)) (sym po) ∙ sym pb ∙ t in q ∙ sym (rw e)
 
@@ -229,7 +229,7 @@ module _ (z : Sizes) (w : List ℕ) (c s : ℕ) (u : List ℕ) where
   unfolding known-found items-found deciding fetch-fault
   known-found-all i n f used a b e h =
       let q : i ≡ N = omega (arith, whole-count n used e) in
-      let R : Item → ℕ = λ v. reason (checked (object v) (v .inner-read) (v .mark) c Fetch (of-server z w s)) in
+      let R : Item → ℕ = λ v. finding-reason (checked (item-object v) (v .inner-read) (v .mark) c Fetch (of-server z w s)) in
       let l : List Item = each N (known-at (of-client z w c) (used-in u)) in
       sym (reason-again (f .number) (f .reason)) ∙ ap reason-of h ∙ rw q (sym (ap reason-of (
       ap (λ (k : List Item). least (map (λ v. (v .number, R v)) (those (checks s) k))) (known-items (of-client z w c) (used-in u)) ∙ least-those (checks s) R l)))

@@ -17,15 +17,15 @@ use Rattle.server.specs.declared.lock.Use.{Use}
 use Rattle.server.specs.declared.object.Object.{Object}
 use Rattle.server.specs.declared.place.Place.{Place}
 use Rattle.server.specs.Object.{object-of}
-use Rattle.server.specs.Check.{checked, held, reason}
+use Rattle.server.specs.Check.{checked, held, finding-reason}
 use Rattle.client.specs.declared.part.Set.the-variants.{Reads}
 use Rattle.client.specs.Sets.{count}
 use Rattle.steps.specs.declared.sizes.Sizes.{Sizes}
 use Rattle.kinds.specs.declared.findings.Fault.{Fault}
 use Rattle.steps.specs.Whole.{server-at}
 use Rattle.steps.specs.Uses.{Item, each, read-items, use-of, checked-at, locked-at, lesser, least, reason-of, deciding}
-use Rattle.steps.specs.Judge.{lowest}
-use Rattle.kinds.specs.Parts.{Holds, stored-in}
+use Rattle.steps.specs.Judge.{lowest-participant}
+use Rattle.kinds.specs.Parts.{Store-in, stored-in}
 use Rattle.kinds.specs.Laws.Parts.{server-lent}
 use Rattle.kinds.specs.Items.{as-item, read-item}
 use Rattle.kinds.specs.Judge.{of-client, of-server}
@@ -86,21 +86,21 @@ module _ (f g : Fault) where
       second-least h = rw (ne-eqb (g .reason) 0 d, ne-eqb (f .reason) 0 c, lt-leb (f .number) (g .number) h)
 
 -- ---- parts lent to be read
-module _ (z : Sizes) (b : List ℕ) (l : Holds z (length b)) (s k : ℕ) (h : s < z .servers) (e : k ≡ server-at z s) (o : Object) (c : ℕ) (u : Use) where
+module _ (z : Sizes) (b : List ℕ) (l : Store-in z (length b)) (s k : ℕ) (h : s < z .servers) (e : k ≡ server-at z s) (o : Object) (c : ℕ) (u : Use) where
   pub check-lent : (i : code.Item) (f : Finding) (r : ℕ) → o ≡ object-of (i .number)
-      → f ≡ checked o (i .inner) (i .mark) c u (mem Srv.places (Srv.block (z .slots)) (view (midOf (8 * k) (length b - 8 * k) b))) → r ≡ reason f
-      → r ≡ reason (checked (object-of (i .number)) (i .inner) (i .mark) c u (of-server z (view b) s))
+      → f ≡ checked o (i .inner) (i .mark) c u (mem Srv.places (Srv.server-block (z .slots)) (view (midOf (8 * k) (length b - 8 * k) b))) → r ≡ finding-reason f
+      → r ≡ finding-reason (checked (object-of (i .number)) (i .inner) (i .mark) c u (of-server z (view b) s))
   check-lent i f r p q t =
-      t ∙ ap reason (q ∙ ap (λ (m : Place → ℕ). checked o (i .inner) (i .mark) c u m) (server-lent z s k b h e (l .room))) ∙ rw p
+      t ∙ ap finding-reason (q ∙ ap (λ (m : Place → ℕ). checked o (i .inner) (i .mark) c u m) (server-lent z s k b h e (l .room))) ∙ rw p
 
-  pub held-lent : (x : ℕ) (r : Bool) → o ≡ object-of x → r ≡ held o c u (mem Srv.places (Srv.block (z .slots)) (view (midOf (8 * k) (length b - 8 * k) b)))
+  pub held-lent : (x : ℕ) (r : Bool) → o ≡ object-of x → r ≡ held o c u (mem Srv.places (Srv.server-block (z .slots)) (view (midOf (8 * k) (length b - 8 * k) b)))
       → r ≡ held (object-of x) c u (of-server z (view b) s)
   held-lent x r p q = q ∙ ap (λ (m : Place → ℕ). held o c u m) (server-lent z s k b h e (l .room)) ∙ rw p
 
 -- ---- the reason of an item
 module _ (z : Sizes) (w : List ℕ) (c s low : ℕ) (i : code.Item) where
   module _ (b : Bool) (u : Use) (e : b ≡ checked-at low s (as-item i)) (q : u ≡ use-of (as-item i)) where
-    pub reason-checked : (r : ℕ) → b ≡ true → r ≡ reason (checked (object-of (i .number)) (i .inner) (i .mark) c u (of-server z w s)) → r ≡ prepare-reason z w c s low (as-item i)
+    pub reason-checked : (r : ℕ) → b ≡ true → r ≡ finding-reason (checked (object-of (i .number)) (i .inner) (i .mark) c u (of-server z w s)) → r ≡ prepare-reason z w c s low (as-item i)
     unfolding prepare-reason
     reason-checked r t h = h ∙ rw q (sym (rw (← e, t)))
 
@@ -176,7 +176,7 @@ module _ (z : Sizes) (w : List ℕ) (c s low : ℕ) where
       let m : found-upto (i + 1) ≡ later (found-upto i) (u .number) (prepare-fault z w c s low u) = rw (add-one i) (found-more i) in
       p ∙ k ∙ sym m
 
-  pub found-all : (i n : ℕ) (f : Fault) → i ≤ n → n ≤ i → n ≡ count (of-client z w c) Reads → low ≡ lowest z (stored-in z w) c → as-fault f ≡ found-upto i
+  pub found-all : (i n : ℕ) (f : Fault) → i ≤ n → n ≤ i → n ≡ count (of-client z w c) Reads → low ≡ lowest-participant z (stored-in z w) c → as-fault f ≡ found-upto i
       → f .reason ≡ prepare-found z w c s
   unfolding found-upto prepare-found deciding read-items read-item prepare-fault prepare-reason
   found-all i n f a b en el h =

@@ -18,8 +18,8 @@ use Rattle.client.specs.Participants.{lowest-of}
 use Rattle.steps.specs.declared.sizes.Sizes.{Sizes}
 use Rattle.steps.specs.Whole.{client-at}
 use Rattle.steps.specs.Uses.{Item, item-of, checked-at, locked-at}
-use Rattle.steps.specs.Judge.{check-fits, lowest, prepare-fits, unlock-fits, abort-fits}
-use Rattle.kinds.specs.Parts.{Holds, stored-in}
+use Rattle.steps.specs.Judge.{check-fits, lowest-participant, prepare-fits, unlock-fits, abort-fits}
+use Rattle.kinds.specs.Parts.{Store-in, stored-in}
 use Rattle.kinds.specs.Laws.Parts.{client-lent}
 use Rattle.kinds.specs.Items.{as-item, read-item}
 use Rattle.kinds.specs.Judge.{of-client, lock-at}
@@ -36,7 +36,7 @@ unfolding read-item item-of
 known-item z w c n i t k e h q =
     subst (λ (x : ℕ). Has (z .slots) (object-of x)) (sym (ap (λ (u : Item). u .number) q)) (k .known i (rw (← e) h))
 
-pub count-lent : (z : Sizes) (b : List ℕ) (c k r : ℕ) → Holds z (length b) → c < z .clients → k ≡ client-at z c
+pub count-lent : (z : Sizes) (b : List ℕ) (c k r : ℕ) → Store-in z (length b) → c < z .clients → k ≡ client-at z c
     → r ≡ count (held (midOf (8 * k) (length b - 8 * k) b)) Reads → r ≡ count (of-client z (view b) c) Reads
 unfolding held
 count-lent z b c k r l h e q = q ∙ ap (λ (m : ClientWord → ℕ). count m Reads) (client-lent z c k b h e (l .room))
@@ -64,7 +64,7 @@ module _ (w : ℕ) where
   pub lowest-absent : (i n : ℕ) → i ≤ n → n ≤ i → lowest-of i w ≡ i → i ≡ lowest-of n w
   lowest-absent i n l g h = let q : n ≡ i = omega arith in sym (rw q h)
 
-pub lowest-by : (z : Sizes) (w : List ℕ) (c p r : ℕ) → p ≡ of-client z w c (field 5) → r ≡ lowest-of (z .servers) p → r ≡ lowest z (stored-in z w) c
+pub lowest-by : (z : Sizes) (w : List ℕ) (c p r : ℕ) → p ≡ of-client z w c (field 5) → r ≡ lowest-of (z .servers) p → r ≡ lowest-participant z (stored-in z w) c
 lowest-by z w c p r e q = q ∙ rw e
 
 module _ (z : Sizes) (w : List ℕ) (low s : ℕ) (i : code.Item) (b : Bool) (e : b ≡ locked-at low s (as-item i)) where
@@ -106,7 +106,7 @@ module _ (z : Sizes) (w : List ℕ) (c : ℕ) (f : Item → Bool) (t : code.Item
   item-fails n h u = one-fails (each-fits z w c f) i n b h (e ∙ ap f q) u
 
 -- the names that the definitions give to these tests
-module _ (z : Sizes) (w : List ℕ) (c s n low : ℕ) (r : Bool) (en : n ≡ count (of-client z w c) Reads) (el : low ≡ lowest z (stored-in z w) c) where
+module _ (z : Sizes) (w : List ℕ) (c s n low : ℕ) (r : Bool) (en : n ≡ count (of-client z w c) Reads) (el : low ≡ lowest-participant z (stored-in z w) c) where
   pub prepare-all : r ≡ all-below n (each-fits z w c (prepare-item z w low s)) → r ≡ prepare-fits z (stored-in z w) c s
   unfolding prepare-fits read-item prepare-item
   prepare-all h = h ∙ rw (en, el)

@@ -17,7 +17,7 @@ use Rattle.layout.specs.Space.{Valid, mem}
 use Rattle.server.specs.declared.object.Object.{Object}
 use Rattle.server.specs.declared.place.Place.{Place}
 use Rattle.server.specs.Object.{object-of, lock-of, Has}
-use Rattle.server.specs.Lock.{in-range}
+use Rattle.server.specs.Lock.{lock-in-range}
 use Rattle.server.specs.Check.{sound}
 use Rattle.client.specs.declared.part.Set.{Set}
 use Rattle.client.specs.declared.part.Set.the-variants.{Writes}
@@ -29,7 +29,7 @@ use Rattle.steps.specs.Whole.{server, client-at, server-at}
 use Rattle.steps.specs.Refusal.{between}
 use Rattle.steps.specs.Uses.{Item}
 use Rattle.steps.specs.Judge.{commits, writes, holders-fit, lock-fits, check-fits}
-use Rattle.kinds.specs.Parts.{Holds, stored-in}
+use Rattle.kinds.specs.Parts.{Store-in, stored-in}
 use Rattle.kinds.specs.Laws.Parts.{client-lent, server-lent}
 use Rattle.kinds.specs.Items.{as-item, read-item}
 use Rattle.kinds.specs.Judge.{of-client, reader-fits, lock-at, sound-at}
@@ -40,11 +40,11 @@ use Rattle.kinds.specs.declared.items.Item as code
 pub has-as : (n x : ℕ) (o : Object) → o ≡ object-of x → Has n (object-of x) → Has n o
 has-as n x o e h = subst (Has n) (sym e) h
 
-pub lies-as : (n x : ℕ) (o : Object) (a : Place) → o ≡ object-of x → a ≡ lock-of o → Has n (object-of x) → Valid Srv.places (Srv.block n) a
-lies-as n x o a e q h = subst (Valid Srv.places (Srv.block n)) (sym (q ∙ ap lock-of e)) h
+pub lies-as : (n x : ℕ) (o : Object) (a : Place) → o ≡ object-of x → a ≡ lock-of o → Has n (object-of x) → Valid Srv.places (Srv.server-block n) a
+lies-as n x o a e q h = subst (Valid Srv.places (Srv.server-block n)) (sym (q ∙ ap lock-of e)) h
 
 -- ---- parts lent to be read
-module _ (z : Sizes) (b : List ℕ) (l : Holds z (length b)) where
+module _ (z : Sizes) (b : List ℕ) (l : Store-in z (length b)) where
   module _ (c k : ℕ) (h : c < z .clients) (e : k ≡ client-at z c) where
     part-held : held (midOf (8 * k) (length b - 8 * k) b) ≡ of-client z (view b) c
     unfolding held
@@ -61,12 +61,12 @@ module _ (z : Sizes) (b : List ℕ) (l : Holds z (length b)) where
 
   module _ (s k : ℕ) (h : s < z .servers) (e : k ≡ server-at z s) where
     pub word-lent : (x r : ℕ) (o : Object) (a : Place) → o ≡ object-of x → a ≡ lock-of o
-        → r ≡ mem Srv.places (Srv.block (z .slots)) (view (midOf (8 * k) (length b - 8 * k) b)) a → r ≡ stored-in z (view b) (server s (lock-of (object-of x)))
+        → r ≡ mem Srv.places (Srv.server-block (z .slots)) (view (midOf (8 * k) (length b - 8 * k) b)) a → r ≡ stored-in z (view b) (server s (lock-of (object-of x)))
     word-lent x r o a p q f =
         f ∙ ap (λ (m : Place → ℕ). m a) (server-lent z s k b h e (l .room)) ∙ rw (q, p)
 
     pub sound-lent : (i : code.Item) (r : Bool) (o : Object) → o ≡ object-of (i .number)
-        → r ≡ sound (z .clients) o (i .inner) (mem Srv.places (Srv.block (z .slots)) (view (midOf (8 * k) (length b - 8 * k) b))) → r ≡ sound-at z (view b) s (as-item i)
+        → r ≡ sound (z .clients) o (i .inner) (mem Srv.places (Srv.server-block (z .slots)) (view (midOf (8 * k) (length b - 8 * k) b))) → r ≡ sound-at z (view b) s (as-item i)
     unfolding sound-at
     sound-lent i r o p f =
         f ∙ ap (λ (m : Place → ℕ). sound (z .clients) o (i .inner) m) (server-lent z s k b h e (l .room)) ∙ rw p
@@ -139,17 +139,17 @@ module _ (z : Sizes) (w : List ℕ) where
       unfolding holders-fit
       by-writer r t q = q ∙ sym (rw (le-ltb v 65536 h, ← e, t))
 
-  pub a-client : (n v : ℕ) → in-range n v ≡ true → 65536 ≤ v → v - 65536 < n
-  unfolding in-range
+  pub a-client : (n v : ℕ) → lock-in-range n v ≡ true → 65536 ≤ v → v - 65536 < n
+  unfolding lock-in-range
   a-client n v h g =
       let q : ltb v (65536 + n) ≡ true = sym (rw (le-ltb v 65536 g)) ∙ h in
       omega (arith, ltb-true v (65536 + n) q)
 
-  pub is-range : (n v : ℕ) (b : Bool) → b ≡ in-range n v → b ≡ true → in-range n v ≡ true
+  pub is-range : (n v : ℕ) (b : Bool) → b ≡ lock-in-range n v → b ≡ true → lock-in-range n v ≡ true
   is-range n v b e t = sym e ∙ t
 
   -- ---- locks
-  module _ (s x v : ℕ) (b : Bool) (e : v ≡ stored-in z w (server s (lock-of (object-of x)))) (q : b ≡ in-range (z .clients) v) where
+  module _ (s x v : ℕ) (b : Bool) (e : v ≡ stored-in z w (server s (lock-of (object-of x)))) (q : b ≡ lock-in-range (z .clients) v) where
     pub lock-out : b ≡ false → false ≡ lock-at z w s x
     unfolding lock-at
     lock-out t = sym (rw (← e, ← q, t))

@@ -23,7 +23,7 @@ use Rattle.steps.specs.Whole.{Address, client, whole, block, words-for, client-
 use Rattle.steps.specs.Laws.Whole.{client-part}
 use Rattle.steps.specs.Laws.Stores.{client-of, client-changed}
 use Rattle.steps.specs.Steps.{Did, did, refuse, begin, give}
-use Rattle.kinds.specs.Parts.{Holds, stored-in}
+use Rattle.kinds.specs.Parts.{Store-in, stored-in}
 use Rattle.kinds.specs.Laws.Parts.{client-back}
 use Rattle.kinds.specs.Kinds.{Meets}
 use Rattle.client.specs.Life as L
@@ -70,7 +70,7 @@ module _ (z : Sizes) (c : ℕ) where
     pub stays : client-of (changed whole m (f m)) c ≡ client-of m c
 
   -- and then stores in the client's part
-  pub then-client : (f : (Address → ℕ) → List (Put Address)) (g : Rule) (b₀ b b′ : List ℕ) → Holds z (length b₀) → Apart f (stored-in z (view b₀))
+  pub then-client : (f : (Address → ℕ) → List (Put Address)) (g : Rule) (b₀ b b′ : List ℕ) → Store-in z (length b₀) → Apart f (stored-in z (view b₀))
       → Does whole (block z) f silent (view b₀) 0 (view b) → Does whole (block z) (inPart (client c) g) silent (view b) 0 (view b′)
       → Does whole (block z) (λ m. f m ++ inPart (client c) g m) silent (view b₀) 0 (view b′)
   unfolding stepped inPart words-for
@@ -99,7 +99,7 @@ module _ (z : Sizes) (c : ℕ) where
   client-inside g m h ok =
       good-all client-words client-block whole (block z) (client c) (client-at z c) (client-part z c h) (g (client-of m c)) (ok .all (client-of m c))
 
-  pub client-both : (f g : Rule) (b₀ b b′ : List ℕ) → Holds z (length b₀) → c < z .clients → Good f
+  pub client-both : (f g : Rule) (b₀ b b′ : List ℕ) → Store-in z (length b₀) → c < z .clients → Good f
       → Does whole (block z) (inPart (client c) f) silent (view b₀) 0 (view b) → Does whole (block z) (inPart (client c) g) silent (view b) 0 (view b′)
       → Does whole (block z) (inPart (client c) (andThen client-words f g)) silent (view b₀) 0 (view b′)
   unfolding words-for
@@ -116,7 +116,7 @@ module _ (z : Sizes) (c : ℕ) (w w′ : List ℕ) where
   unfolding begin inPart
   begun d = record { answer = refl; words = d .words }
 
-  pub was-given : (k : Step) → Does whole (block z) (inPart (client c) (L.give (k .op) (k .key) (k .value) (k .server))) silent w 0 w′
+  pub was-given : (k : Step) → Does whole (block z) (inPart (client c) (L.give-part (k .op) (k .key) (k .value) (k .server))) silent w 0 w′
       → Meets z (λ m. give z m c k) w Done w′
   unfolding give inPart
   was-given k d = record { answer = refl; words = d .words }

@@ -12,14 +12,14 @@ use Rattle.memory.specs.Word.{view}
 use Rattle.client.specs.declared.part.Set.{Set}
 use Rattle.client.specs.declared.part.Set.the-variants.{Reads, Writes}
 use Rattle.client.specs.Layout.{ClientWord}
-use Rattle.client.specs.Record.{number-in-store, fits}
+use Rattle.client.specs.Record.{number-in-store, record-in-range}
 use Rattle.client.specs.Sets.{held, count, number-at, record-at}
 use Rattle.client.specs.Commit.{all-of}
 use Rattle.client.specs.Fits.{field-fits, op-fits, item-fits, has-read, vector-fits, client-fits}
 use Rattle.steps.specs.declared.sizes.Sizes.{Sizes}
 use Rattle.steps.specs.Whole.{Allowed, tree-sizes, client-at}
 use Rattle.steps.specs.Laws.There.{in-store-has}
-use Rattle.kinds.specs.Parts.{Holds}
+use Rattle.kinds.specs.Parts.{Store-in}
 use Rattle.kinds.specs.Laws.Parts.{client-lent}
 use Rattle.kinds.specs.Judge.{of-client}
 use Rattle.kinds.specs.Fits.{Known}
@@ -35,7 +35,7 @@ all-at f (suc n) i h l = go (ℕ-discrete i n) (and-both (all-of f n) (f n) h) (
     go (no d) p k = k (omega arith)
 
 -- every object read or written is one of the store
-module _ (z : S.Sizes) (m : ClientWord → ℕ) where
+module _ (z : S.TreeSizes) (m : ClientWord → ℕ) where
   pub fits-sets : client-fits z m ≡ true → (all-of (item-fits z m Reads) (count m Reads) ≡ true) × (all-of (item-fits z m Writes) (count m Writes) ≡ true)
   unfolding client-fits
   fits-sets h =
@@ -49,7 +49,7 @@ module _ (z : S.Sizes) (m : ClientWord → ℕ) where
   pub fits-item : (s : Set) (i : ℕ) → all-of (item-fits z m s) (count m s) ≡ true → i < count m s → number-in-store z (number-at m s i) ≡ true
   unfolding item-fits
   fits-item s i h l =
-      and-both (number-in-store z (number-at m s i)) (fits z (number-at m s i) (record-at m s i) && has-read m s (number-at m s i))
+      and-both (number-in-store z (number-at m s i)) (record-in-range z (number-at m s i) (record-at m s i) && has-read m s (number-at m s i))
       (all-at (item-fits z m s) (count m s) i h l) .0
 
 pub fits-known : (z : Sizes) (w : List ℕ) (c : ℕ) (b : Bool) → Allowed z → b ≡ client-fits (tree-sizes z) (of-client z w c) → b ≡ true → Known z w c
@@ -61,7 +61,7 @@ fits-known z w c b f e t =
       written = λ i l. in-store-has z (number-at m Writes i) f (fits-item (tree-sizes z) m Writes i (h .1) l);
     }
 
-pub fits-lent : (z : Sizes) (b : List ℕ) (c k : ℕ) (r : Bool) → Holds z (length b) → c < z .clients → k ≡ client-at z c
+pub fits-lent : (z : Sizes) (b : List ℕ) (c k : ℕ) (r : Bool) → Store-in z (length b) → c < z .clients → k ≡ client-at z c
     → r ≡ client-fits (tree-sizes z) (held (midOf (8 * k) (length b - 8 * k) b)) → r ≡ client-fits (tree-sizes z) (of-client z (view b) c)
 unfolding held
 fits-lent z b c k r l h e q = q ∙ ap (λ (m : ClientWord → ℕ). client-fits (tree-sizes z) m) (client-lent z c k b h e (l .room))

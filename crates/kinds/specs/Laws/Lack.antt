@@ -13,7 +13,7 @@ use Rattle.layout.specs.Space.{Put, mem}
 use Rattle.layout.specs.Step.{Does, silent}
 use Rattle.layout.specs.Part.{inPart}
 use Rattle.nodes.specs.declared.node.Node.{Node}
-use Rattle.nodes.specs.Range.{in-range}
+use Rattle.nodes.specs.Range.{node-in-range}
 use Rattle.server.specs.declared.hand_out.Metadata.{Metadata}
 use Rattle.server.specs.declared.place.Place.{Place}
 use Rattle.server.specs.declared.lock.Use.the-variants.{Fetch}
@@ -33,7 +33,7 @@ use Rattle.kinds.specs.declared.fetch.Verdict.the-variants.{Unfit, Fault
 use Rattle.steps.specs.Whole.{Address, server, client, whole, block, server-at}
 use Rattle.steps.specs.Steps.{Did, did, refuse, abort, wanted, node-at, handed, fetch-object, hand-over, fetch}
 use Rattle.steps.specs.Judge.{lock-fits}
-use Rattle.kinds.specs.Parts.{Holds, stored-in}
+use Rattle.kinds.specs.Parts.{Store-in, stored-in}
 use Rattle.kinds.specs.Laws.Parts.{server-lent}
 use Rattle.kinds.specs.Judge.{of-client, of-server, lock-at}
 use Rattle.steps.specs.Laws.There.{in-store-has}
@@ -128,9 +128,9 @@ module _ (z : Sizes) (w : List ℕ) (c : ℕ) (us : List ℕ) (s x : ℕ) (out :
         (meets-did z w out w′ (inPart (client c) (used-enter us then g (stored-in z w))) d)
 
 -- ---- what a server hands out, read of its part
-module _ (z : Sizes) (b : List ℕ) (l : Holds z (length b)) (s k : ℕ) (h : s < z .servers) (e : k ≡ server-at z s) where
+module _ (z : Sizes) (b : List ℕ) (l : Store-in z (length b)) (s k : ℕ) (h : s < z .servers) (e : k ≡ server-at z s) where
   abbrev there : Place → ℕ
-  there = mem Srv.places (Srv.block (z .slots)) (view (midOf (8 * k) (length b - 8 * k) b))
+  there = mem Srv.places (Srv.server-block (z .slots)) (view (midOf (8 * k) (length b - 8 * k) b))
 
   is-there : there ≡ of-server z (view b) s
   is-there = server-lent z s k b h e (l .room)
@@ -189,9 +189,9 @@ node-has z b c s n x u h t e =
     let k : 1 + n - 1 ≡ n = omega arith in
     rw e (in-store-has z (1 + n) (h .holds .allowed) (rw (ne-eqb (1 + n) 0 d, le-leb (1 + n) 8192 l, k) (t .named)))
 
-module _ (z : Sizes) (w : List ℕ) (c : ℕ) (us : List ℕ) (s n : ℕ) (out : Outcome) (r : Node) (pr : r ≡ node-at (of-server z w s) n) (b : Bool) (pb : b ≡ in-range r) where
+module _ (z : Sizes) (w : List ℕ) (c : ℕ) (us : List ℕ) (s n : ℕ) (out : Outcome) (r : Node) (pr : r ≡ node-at (of-server z w s) n) (b : Bool) (pb : b ≡ node-in-range r) where
   abbrev ranged? : (Address → ℕ) → Bool
-  ranged? m = in-range (node-at (λ a. m (server s a)) n)
+  ranged? m = node-in-range (node-at (λ a. m (server s a)) n)
 
   abbrev copied : (Address → ℕ) → (ClientWord → ℕ) → List (Put ClientWord)
   copied m = fetched-node n (node-at (λ a. m (server s a)) n)
@@ -200,7 +200,7 @@ module _ (z : Sizes) (w : List ℕ) (c : ℕ) (us : List ℕ) (s n : ℕ) (out :
   HandNode o w′ = Meets z (λ m. hand-over z m c us (O.object (O.node n)) s out) w o w′
 
   in-order : b ≡ ranged? (stored-in z w)
-  in-order = pb ∙ ap in-range pr
+  in-order = pb ∙ ap node-in-range pr
 
   pub node-unsound : not b ≡ true → HandNode (Refused 10) w
   node-unsound t = object-unsound z w c us s (1 + n) out copied ranged? b in-order t

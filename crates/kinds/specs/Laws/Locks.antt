@@ -30,9 +30,9 @@ use Rattle.kinds.specs.declared.locks.Change.the-variants.{Lock, Unlock}
 use Rattle.steps.specs.Whole.{Address, server, client, whole, block, words-for, server-at}
 use Rattle.steps.specs.Laws.Whole.{server-part}
 use Rattle.steps.specs.Laws.Stores.{server-changed, server-clients}
-use Rattle.steps.specs.Uses.{Item, object, item-of, locked-at}
-use Rattle.steps.specs.Judge.{lowest}
-use Rattle.kinds.specs.Parts.{Holds, stored-in}
+use Rattle.steps.specs.Uses.{Item, item-object, item-of, locked-at}
+use Rattle.steps.specs.Judge.{lowest-participant}
+use Rattle.kinds.specs.Parts.{Store-in, stored-in}
 use Rattle.kinds.specs.Laws.Parts.{server-back}
 use Rattle.kinds.specs.Items.{as-item, read-item}
 use Rattle.kinds.specs.Judge.{of-client}
@@ -57,13 +57,13 @@ done-as z s f g w w′ e d =
 
 -- stores that lie in the part, whatever it holds
 pub record Inside (z : Sizes) (f : Rule) : Type 0 where
-  pub all : (u : Place → ℕ) → AllValid Srv.places (Srv.block (z .slots)) (f u)
+  pub all : (u : Place → ℕ) → AllValid Srv.places (Srv.server-block (z .slots)) (f u)
 
 module _ (z : Sizes) (s : ℕ) (h : s < z .servers) where
   pub in-whole : (f : Rule) (m : Address → ℕ) → Inside z f → AllValid whole (block z) (inPart (server s) f m)
   unfolding inPart
   in-whole f m ok =
-      good-all Srv.places (Srv.block (z .slots)) whole (block z) (server s) (server-at z s) (server-part z s h) (f (λ a. m (server s a))) (ok .all (λ a. m (server s a)))
+      good-all Srv.places (Srv.server-block (z .slots)) whole (block z) (server s) (server-at z s) (server-part z s h) (f (λ a. m (server s a))) (ok .all (λ a. m (server s a)))
 
   pub done-then : (f g : Rule) (w w₁ w₂ : List ℕ) → words-for z ≤ length w → Inside z f → Done z s f w w₁ → Done z s g w₁ w₂ → Done z s (andThen Srv.places f g) w w₂
   unfolding words-for
@@ -83,7 +83,7 @@ module _ (z : Sizes) (s : ℕ) (h : s < z .servers) where
 
 -- ---- one object; the part was lent and came back
 pub rule-back : (z : Sizes) (s k x : ℕ) (o : Object) (f : Object → Rule) (b t : List ℕ) → s < z .servers → k ≡ server-at z s → words-for z ≤ length b / 8 → o ≡ object-of x
-    → Does Srv.places (Srv.block (z .slots)) (f o) silent (view (midOf (8 * k) (length b - 8 * k) b)) 0 (view t)
+    → Does Srv.places (Srv.server-block (z .slots)) (f o) silent (view (midOf (8 * k) (length b - 8 * k) b)) 0 (view t)
     → Done z s (f (object-of x)) (view b) (view (putMid (8 * k) (length b - 8 * k) b t))
 rule-back z s k x o f b t h e l p d =
     subst (λ (y : Object). Done z s (f y) (view b) (view (putMid (8 * k) (length b - 8 * k) b t))) p (server-back z s k (f o) b t h e l d)
@@ -121,7 +121,7 @@ pub nth-turn : (z : Sizes) (c s low i : ℕ) (k : Change) (w w′ : List ℕ) (t
 unfolding Turn
 nth-turn z c s low i k w w′ t q d = subst (λ (u : Item). Done z s (passing (locked-at low s) (rule k c) u) w w′) q d
 
-pub rule-inside : (z : Sizes) (c : ℕ) (k : Change) (i : Item) → Has (z .slots) (object i) → Inside z (rule k c i)
+pub rule-inside : (z : Sizes) (c : ℕ) (k : Change) (i : Item) → Has (z .slots) (item-object i) → Inside z (rule k c i)
 unfolding rule lock-step unlock-step AllValid
 rule-inside z c Lock i h = record { all = λ u. (h, tt) }
 rule-inside z c Unlock i h = record { all = λ u. (h, tt) }
@@ -131,21 +131,21 @@ module _ (z : Sizes) (g : Item → Rule) (t : Item → Bool) where
   unfolding passing AllValid
   passing-inside i ok = record { all = λ u. go (t i) u }
     where
-      go : (b : Bool) (u : Place → ℕ) → AllValid Srv.places (Srv.block (z .slots)) (cond b (g i u) [])
+      go : (b : Bool) (u : Place → ℕ) → AllValid Srv.places (Srv.server-block (z .slots)) (cond b (g i u) [])
       go true u = ok .all u
       go false u = tt
 
   pub upto-inside : (h : ℕ → Item) (n : ℕ) → ((j : ℕ) → j < n → Inside z (g (h j))) → Inside z (upto g t h n)
   unfolding upto
   upto-inside h n ok =
-      record { all = λ u. sweep-valid Srv.places (Srv.block (z .slots)) (λ i. passing t g (h i)) n u (λ j v l. passing-inside (h j) (ok j l) .all v) }
+      record { all = λ u. sweep-valid Srv.places (Srv.server-block (z .slots)) (λ i. passing t g (h i)) n u (λ j v l. passing-inside (h j) (ok j l) .all v) }
 
 module _ (z : Sizes) (c s low : ℕ) (k : Change) where
   pub changed-none : (w : List ℕ) → Changed z c s k low w 0 w
   unfolding Changed stepped stored inPart over upto sweep
   changed-none w = record { answer = refl; words = refl }
 
-  module _ (b₀ b : List ℕ) (n i : ℕ) (hold : Holds z (length b₀)) (known : Known z (view b₀) c) (en : n ≡ count (of-client z (view b₀) c) Reads) (ok : s < z .servers) (l : i < n) (so : Changed z c s k low (view b₀) i (view b)) where
+  module _ (b₀ b : List ℕ) (n i : ℕ) (hold : Store-in z (length b₀)) (known : Known z (view b₀) c) (en : n ≡ count (of-client z (view b₀) c) Reads) (ok : s < z .servers) (l : i < n) (so : Changed z c s k low (view b₀) i (view b)) where
     room : words-for z ≤ length (view b₀)
     room = omega (arith, hold .room, view-length b₀)
 
@@ -173,7 +173,7 @@ module _ (z : Sizes) (c s low : ℕ) (k : Change) where
         (done-as z s (andThen Srv.places f g) (upto (rule k c) (locked-at low s) (read-item (of-client z (view b₀) c)) (suc i)) (view b₀) (view b′)
         (λ m. refl) (done-then z s ok f g (view b₀) (view b) (view b′) room inside so d′))
 
-  pub changed-all : (n i : ℕ) (w w′ : List ℕ) → i ≤ n → n ≤ i → n ≡ count (of-client z w c) Reads → low ≡ lowest z (stored-in z w) c → Changed z c s k low w i w′
+  pub changed-all : (n i : ℕ) (w w′ : List ℕ) → i ≤ n → n ≤ i → n ≡ count (of-client z w c) Reads → low ≡ lowest-participant z (stored-in z w) c → Changed z c s k low w i w′
       → Does whole (block z) (changes z c s k) silent w 0 w′
   unfolding Changed changes inPart
   changed-all n i w w′ a b en el d =

@@ -20,7 +20,7 @@ use Rattle.steps.specs.declared.outcome.Outcome.the-variants.{Refused, Done, Ab
 use Rattle.steps.specs.Whole.{Address, client, whole, block, words-for}
 use Rattle.steps.specs.Judge.{abort-fits}
 use Rattle.steps.specs.Steps.{did, abort, lose}
-use Rattle.kinds.specs.Parts.{Holds, stored-in}
+use Rattle.kinds.specs.Parts.{Store-in, stored-in}
 use Rattle.kinds.specs.Judge.{of-client}
 use Rattle.kinds.specs.Fits.{Known}
 use Rattle.kinds.specs.Kinds.{Meets}
@@ -30,7 +30,7 @@ use Rattle.kinds.specs.Laws.Abort.{aborts-inside}
 use Rattle.kinds.specs.Loss.{losing, loses-undecided}
 use Rattle.client.specs.Life as L
 
-pub is-lost : (z : Sizes) (c : ℕ) (b₀ b b′ : List ℕ) → Holds z (length b₀) → c < z .clients → Known z (view b₀) c
+pub is-lost : (z : Sizes) (c : ℕ) (b₀ b b′ : List ℕ) → Store-in z (length b₀) → c < z .clients → Known z (view b₀) c
     → Does whole (block z) (aborts z c (used-in (replicate 98 0))) silent (view b₀) 0 (view b) → Does whole (block z) (inPart (client c) drop-all) silent (view b) 0 (view b′)
     → Does whole (block z) (losing z c) silent (view b₀) 0 (view b′)
 unfolding losing used-in words-for
@@ -63,11 +63,11 @@ module _ (z : Sizes) (c p : ℕ) (w w′ : List ℕ) (e : p ≡ of-client z w c 
       meets-as z w Done w′ (λ m. did Done (inPart (client c) drop-all m)) (λ m. lose z m c) (sym (rw (← e, eq-eqb p 0 q)))
       (meets-did z w Done w′ (inPart (client c) drop-all) d)
 
-  pub lost-decided : (p ≡ 0 → ⊥) → p ≡ 3 → Does whole (block z) (inPart (client c) L.lose) silent w 0 w′ → Meets z (λ m. lose z m c) w Done w′
+  pub lost-decided : (p ≡ 0 → ⊥) → p ≡ 3 → Does whole (block z) (inPart (client c) L.lose-part) silent w 0 w′ → Meets z (λ m. lose z m c) w Done w′
   unfolding lose inPart
   lost-decided n q d =
-      meets-as z w Done w′ (λ m. did Done (inPart (client c) L.lose m)) (λ m. lose z m c) (sym (rw (← e, ne-eqb p 0 n, eq-eqb p 3 q)))
-      (meets-did z w Done w′ (inPart (client c) L.lose) d)
+      meets-as z w Done w′ (λ m. did Done (inPart (client c) L.lose-part m)) (λ m. lose z m c) (sym (rw (← e, ne-eqb p 0 n, eq-eqb p 3 q)))
+      (meets-did z w Done w′ (inPart (client c) L.lose-part) d)
 
   pub lost-undecided : (o : Outcome) → (p ≡ 0 → ⊥) → (p ≡ 3 → ⊥) → Meets z (loses-undecided z c) w o w′ → Meets z (λ m. lose z m c) w o w′
   lost-undecided o n q d =

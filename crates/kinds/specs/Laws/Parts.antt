@@ -23,11 +23,11 @@ use Rattle.kinds.specs.declared.whole.Length.the-variants.{Bytes, Refuse
 use Rattle.steps.specs.Whole.{Allowed, server, client, whole, block, words-for, length-for, server-at, client-at}
 use Rattle.steps.specs.Laws.Whole.{server-part, client-part}
 use Rattle.steps.specs.Refusal.{between, allowed?}
-use Rattle.kinds.specs.Parts.{head-sizes, length-answer, Holds}
+use Rattle.kinds.specs.Parts.{head-sizes, length-answer, Store-in}
 use Rattle.server.specs.Layout as Srv
 
-pub holds-as : (z : Sizes) (n k : ℕ) → n ≡ k → Holds z k → Holds z n
-holds-as z n k e h = subst (Holds z) (sym e) h
+pub holds-as : (z : Sizes) (n k : ℕ) → n ≡ k → Store-in z k → Store-in z n
+holds-as z n k e h = subst (Store-in z) (sym e) h
 
 -- ---- sizes
 pub head-read : (w : List ℕ) (s n c : ℕ) → s ≡ getD w 0 0 → n ≡ getD w 1 0 → c ≡ getD w 2 0
@@ -96,7 +96,7 @@ client-few z p c f g h = omega (arith, f .clients, few-rows (z .servers) p (f .s
 module _ (z : Sizes) (p : ℕ) (e : p ≡ Srv.partWords (z .slots)) where
   pub words-sum : 8 + z .servers * p + 7223 * z .clients ≡ words-for z
   unfolding words-for size Srv.partWords
-  words-sum = let q : z .servers * p ≡ z .servers * size (Srv.block (z .slots)) = rw e in omega arith
+  words-sum = let q : z .servers * p ≡ z .servers * size (Srv.server-block (z .slots)) = rw e in omega arith
 
   pub server-sum : (s : ℕ) → 8 + s * p ≡ server-at z s
   unfolding server-at Srv.partWords
@@ -104,7 +104,7 @@ module _ (z : Sizes) (p : ℕ) (e : p ≡ Srv.partWords (z .slots)) where
 
   pub client-sum : (c : ℕ) → 8 + z .servers * p + 7223 * c ≡ client-at z c
   unfolding client-at size Srv.partWords
-  client-sum c = let q : z .servers * p ≡ z .servers * size (Srv.block (z .slots)) = rw e in omega arith
+  client-sum c = let q : z .servers * p ≡ z .servers * size (Srv.server-block (z .slots)) = rw e in omega arith
 
 module _ (z : Sizes) where
   pub server-room : (s k : ℕ) → s < z .servers → k ≡ server-at z s → k + Srv.partWords (z .slots) ≤ words-for z
@@ -117,16 +117,16 @@ module _ (z : Sizes) where
 
 -- ---- a part that is lent on as `mem[8 * k..]`: what is read of it is read of the whole; what is done in it is done in the whole
 module _ (z : Sizes) where
-  server-here : (s k : ℕ) → s < z .servers → k ≡ server-at z s → Part Srv.places (Srv.block (z .slots)) whole (block z) (server s) k
-  server-here s k h e = subst (Part Srv.places (Srv.block (z .slots)) whole (block z) (server s)) (sym e) (server-part z s h)
+  server-here : (s k : ℕ) → s < z .servers → k ≡ server-at z s → Part Srv.places (Srv.server-block (z .slots)) whole (block z) (server s) k
+  server-here s k h e = subst (Part Srv.places (Srv.server-block (z .slots)) whole (block z) (server s)) (sym e) (server-part z s h)
 
   client-here : (c k : ℕ) → c < z .clients → k ≡ client-at z c → Part client-words client-block whole (block z) (client c) k
   client-here c k h e = subst (Part client-words client-block whole (block z) (client c)) (sym e) (client-part z c h)
 
   pub server-lent : (s k : ℕ) (b : List ℕ) → s < z .servers → k ≡ server-at z s → words-for z ≤ length b / 8
-      → mem Srv.places (Srv.block (z .slots)) (view (midOf (8 * k) (length b - 8 * k) b)) ≡ (λ a. mem whole (block z) (view b) (server s a))
+      → mem Srv.places (Srv.server-block (z .slots)) (view (midOf (8 * k) (length b - 8 * k) b)) ≡ (λ a. mem whole (block z) (view b) (server s a))
   unfolding words-for
-  server-lent s k b h e l = lent-mem Srv.places (Srv.block (z .slots)) whole (block z) (server s) k (server-here s k h e) b l
+  server-lent s k b h e l = lent-mem Srv.places (Srv.server-block (z .slots)) whole (block z) (server s) k (server-here s k h e) b l
 
   pub client-lent : (c k : ℕ) (b : List ℕ) → c < z .clients → k ≡ client-at z c → words-for z ≤ length b / 8
       → mem client-words client-block (view (midOf (8 * k) (length b - 8 * k) b)) ≡ (λ a. mem whole (block z) (view b) (client c a))
@@ -135,10 +135,10 @@ module _ (z : Sizes) where
 
   pub server-back : (s k : ℕ) (g : (Place → ℕ) → List (Put Place)) (b t : List ℕ)
       → s < z .servers → k ≡ server-at z s → words-for z ≤ length b / 8
-      → Does Srv.places (Srv.block (z .slots)) g silent (view (midOf (8 * k) (length b - 8 * k) b)) 0 (view t)
+      → Does Srv.places (Srv.server-block (z .slots)) g silent (view (midOf (8 * k) (length b - 8 * k) b)) 0 (view t)
       → Does whole (block z) (inPart (server s) g) silent (view b) 0 (view (putMid (8 * k) (length b - 8 * k) b t))
   unfolding words-for ofPart
-  server-back s k g b t h e l did = back-does Srv.places (Srv.block (z .slots)) whole (block z) (server s) k (server-here s k h e) g silent b t 0 l did
+  server-back s k g b t h e l did = back-does Srv.places (Srv.server-block (z .slots)) whole (block z) (server s) k (server-here s k h e) g silent b t 0 l did
 
   pub client-back : (c k : ℕ) (g : (ClientWord → ℕ) → List (Put ClientWord)) (b t : List ℕ)
       → c < z .clients → k ≡ client-at z c → words-for z ≤ length b / 8

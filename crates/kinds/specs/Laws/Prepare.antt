@@ -35,7 +35,7 @@ use Rattle.steps.specs.Whole.{Address, client, whole, block, words-for}
 use Rattle.steps.specs.Laws.Stores.{client-of, client-changed}
 use Rattle.steps.specs.Judge.{prepare-fits, versions-fit}
 use Rattle.steps.specs.Steps.{Did, did, then, covers, abort, applied-at, prepared-at, prepare}
-use Rattle.kinds.specs.Parts.{Holds, stored-in}
+use Rattle.kinds.specs.Parts.{Store-in, stored-in}
 use Rattle.kinds.specs.Items.{read-item}
 use Rattle.kinds.specs.Judge.{of-client}
 use Rattle.kinds.specs.Fits.{In-set, Known}
@@ -49,7 +49,7 @@ use Rattle.kinds.specs.Versions.{version-fits}
 use Rattle.kinds.specs.Laws.Apply.{good-noted}
 use Rattle.kinds.specs.Prepare.{prepares, decides, applies-too}
 
-pub is-prepared : (z : Sizes) (c s : ℕ) (b₀ b b′ : List ℕ) → Holds z (length b₀) → Known z (view b₀) c → s < z .servers
+pub is-prepared : (z : Sizes) (c s : ℕ) (b₀ b b′ : List ℕ) → Store-in z (length b₀) → Known z (view b₀) c → s < z .servers
     → Does whole (block z) (changes z c s Lock) silent (view b₀) 0 (view b) → Does whole (block z) (inPart (client c) (noted (field 6) s)) silent (view b) 0 (view b′)
     → Does whole (block z) (prepares z c s) silent (view b₀) 0 (view b′)
 unfolding prepares changes rule passing upto read-item inPart
@@ -125,7 +125,7 @@ module _ (u : ClientWord → ℕ) (v : ℕ) where
   kept-phase = kept-stays 0 (upd-apart client-words u (field 0) v (field 10) refl) (upd-apart client-words u (field 0) v (field 11) refl)
 
 -- ---- after a decision
-module _ (z : Sizes) (c s : ℕ) (b₀ b : List ℕ) (hold : Holds z (length b₀)) (k : c < z .clients) (known : Known z (view b₀) c) (h : s < z .servers) (p : Does whole (block z) (decides z c s) silent (view b₀) 0 (view b)) where
+module _ (z : Sizes) (c s : ℕ) (b₀ b : List ℕ) (hold : Store-in z (length b₀)) (k : c < z .clients) (known : Known z (view b₀) c) (h : s < z .servers) (p : Does whole (block z) (decides z c s) silent (view b₀) 0 (view b)) where
   abbrev before : Address → ℕ
   before = stored-in z (view b₀)
 
@@ -189,11 +189,11 @@ module _ (z : Sizes) (c s : ℕ) (d : Bool) where
   unfolding applies-too
   too-refused w e t = meets-refused z w 10 (applies-too z c s) (sym (rw (← e, not-true d t)))
 
-  pub too-fresh : (b₀ b : List ℕ) → Holds z (length b₀) → c < z .clients → Known z (view b₀) c → s < z .servers → d ≡ versions-fit z (stored-in z (view b₀)) c → not d ≡ false
+  pub too-fresh : (b₀ b : List ℕ) → Store-in z (length b₀) → c < z .clients → Known z (view b₀) c → s < z .servers → d ≡ versions-fit z (stored-in z (view b₀)) c → not d ≡ false
       → Does whole (block z) (decides z c s) silent (view b₀) 0 (view b) → versions-fit z (stored-in z (view b)) c ≡ true
   too-fresh b₀ b hold k known h e t p = decided-fresh z c s b₀ b hold k known h p (sym e ∙ not-false d t)
 
-  pub too-applied : (b₀ b b′ : List ℕ) (o : Outcome) → Holds z (length b₀) → c < z .clients → Known z (view b₀) c → s < z .servers → d ≡ versions-fit z (stored-in z (view b₀)) c → not d ≡ false
+  pub too-applied : (b₀ b b′ : List ℕ) (o : Outcome) → Store-in z (length b₀) → c < z .clients → Known z (view b₀) c → s < z .servers → d ≡ versions-fit z (stored-in z (view b₀)) c → not d ≡ false
       → Does whole (block z) (decides z c s) silent (view b₀) 0 (view b) → Meets z (λ m. applied-at z m c s) (view b) o (view b′) → Meets z (applies-too z c s) (view b₀) o (view b′)
   unfolding applies-too andThen words-for
   too-applied b₀ b b′ o hold k known h e t p q =

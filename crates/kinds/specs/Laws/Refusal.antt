@@ -18,8 +18,8 @@ use Rattle.steps.specs.declared.step.Step.{Step}
 use Rattle.steps.specs.declared.step.Kind.{Kind}
 use Rattle.steps.specs.declared.step.Kind.the-variants.{Begin, Give, Work, Commit, Prepare, Apply, GiveUp, Lost, Unknown}
 use Rattle.steps.specs.Whole.{Allowed, client, tree-sizes, words-for, length-for, client-at}
-use Rattle.steps.specs.Refusal.{between, allowed?, first, kind-of, open-refusal, refusal, fits}
-use Rattle.kinds.specs.Parts.{Holds, stored-in}
+use Rattle.steps.specs.Refusal.{between, allowed?, first, kind-of, open-refusal, refusal, state-fits}
+use Rattle.kinds.specs.Parts.{Store-in, stored-in}
 use Rattle.kinds.specs.Laws.Parts.{are-allowed, client-lent}
 use Rattle.kinds.specs.Refusal.{unknown-op, unknown-server, unknown-node, left, due, fitting, unfit, Sited}
 
@@ -50,11 +50,11 @@ module _ (bytes : ℕ) (z : Sizes) where
       long-enough h = sym (rw (le-ltb bytes 64 l, ← e, t, ← q, le-ltb bytes (8 * n) h))
 
 -- where none holds, there is a store
-pub none-holds : (bytes : ℕ) (z : Sizes) (r : ℕ) → r ≡ open-refusal bytes z → r ≡ 0 → Holds z bytes
+pub none-holds : (bytes : ℕ) (z : Sizes) (r : ℕ) → r ≡ open-refusal bytes z → r ≡ 0 → Store-in z bytes
 unfolding open-refusal first
 none-holds bytes z r e q = go (ltb bytes 64) (allowed? z) (ltb bytes (length-for z)) refl refl (sym e ∙ q)
   where
-    go : (a b c : Bool) → b ≡ allowed? z → c ≡ ltb bytes (length-for z) → _≡_ {A = ℕ} (cond a 1 (cond (not b) 2 (cond c 3 0))) 0 → Holds z bytes
+    go : (a b c : Bool) → b ≡ allowed? z → c ≡ ltb bytes (length-for z) → _≡_ {A = ℕ} (cond a 1 (cond (not b) 2 (cond c 3 0))) 0 → Store-in z bytes
     go true b c p t h = absurd (omega arith)
     go false false c p t h = absurd (omega arith)
     go false true true p t h = absurd (omega arith)
@@ -80,8 +80,8 @@ of-none (suc (suc (suc (suc (suc (suc zero)))))) a b c d e f g h = absurd (g ref
 of-none (suc (suc (suc (suc (suc (suc (suc zero))))))) a b c d e f g h = absurd (h refl)
 of-none (suc (suc (suc (suc (suc (suc (suc (suc n)))))))) a b c d e f g h = refl
 
-fits-fitting : (m : ClientWord → ℕ) (s : ℕ) (k : Kind) → fitting k (m phase) (m op-number) (due m s k) ≡ fits m s k
-unfolding fits fitting due left
+fits-fitting : (m : ClientWord → ℕ) (s : ℕ) (k : Kind) → fitting k (m phase) (m op-number) (due m s k) ≡ state-fits m s k
+unfolding state-fits fitting due left
 fits-fitting m s Begin = refl
 fits-fitting m s Give = refl
 fits-fitting m s Work = refl
@@ -92,7 +92,7 @@ fits-fitting m s GiveUp = refl
 fits-fitting m s Lost = refl
 fits-fitting m s Unknown = refl
 
-pub fits-by : (m : ClientWord → ℕ) (s p o : ℕ) (k : Kind) (d r : Bool) → p ≡ m phase → o ≡ m op-number → d ≡ due m s k → r ≡ fitting k p o d → r ≡ fits m s k
+pub fits-by : (m : ClientWord → ℕ) (s p o : ℕ) (k : Kind) (d r : Bool) → p ≡ m phase → o ≡ m op-number → d ≡ due m s k → r ≡ fitting k p o d → r ≡ state-fits m s k
 fits-by m s p o k d r ep eo ed h = h ∙ rw (ep, eo, ed) (fits-fitting m s k)
 
 pub kind-fitting : (k k′ : Kind) (p o : ℕ) (d r : Bool) → k ≡ k′ → r ≡ fitting k′ p o d → r ≡ fitting k p o d
@@ -120,12 +120,12 @@ module _ (k : Kind) (s : ℕ) (h : Sited k s) where
   apply-sited e = subst (λ (x : Kind). Sited x s) e h
 
 -- the client's part is lent to be read
-pub client-unfit : (z : Sizes) (k : Step) (b : List ℕ) (j : ℕ) (i : Kind) (t : Bool) → Holds z (length b) → k .client < z .clients → j ≡ client-at z (k .client)
-    → i ≡ kind-of (k .kind) → t ≡ fits (held (midOf (8 * j) (length b - 8 * j) b)) (k .server) i → not t ≡ unfit z k (view b)
+pub client-unfit : (z : Sizes) (k : Step) (b : List ℕ) (j : ℕ) (i : Kind) (t : Bool) → Store-in z (length b) → k .client < z .clients → j ≡ client-at z (k .client)
+    → i ≡ kind-of (k .kind) → t ≡ state-fits (held (midOf (8 * j) (length b - 8 * j) b)) (k .server) i → not t ≡ unfit z k (view b)
 unfolding held unfit
 client-unfit z k b j i t l h e p q =
-    ap not (q ∙ ap (λ (x : Kind). fits (held (midOf (8 * j) (length b - 8 * j) b)) (k .server) x) p
-    ∙ ap (λ (m : ClientWord → ℕ). fits m (k .server) (kind-of (k .kind))) (client-lent z (k .client) j b h e (l .room)))
+    ap not (q ∙ ap (λ (x : Kind). state-fits (held (midOf (8 * j) (length b - 8 * j) b)) (k .server) x) p
+    ∙ ap (λ (m : ClientWord → ℕ). state-fits m (k .server) (kind-of (k .kind))) (client-lent z (k .client) j b h e (l .room)))
 
 pub sited-as : (n s : ℕ) (i : Kind) → i ≡ kind-of n → Sited (kind-of n) s → Sited i s
 sited-as n s i e h = rw e h

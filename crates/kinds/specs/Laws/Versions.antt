@@ -16,7 +16,7 @@ use Rattle.client.specs.Drops.{version-of}
 use Rattle.steps.specs.declared.sizes.Sizes.{Sizes}
 use Rattle.steps.specs.Whole.{client-at}
 use Rattle.steps.specs.Judge.{versions-fit}
-use Rattle.kinds.specs.Parts.{Holds, stored-in}
+use Rattle.kinds.specs.Parts.{Store-in, stored-in}
 use Rattle.kinds.specs.Laws.Parts.{client-lent}
 use Rattle.kinds.specs.Versions.{version-fits}
 
@@ -32,7 +32,7 @@ module _ (m : ClientWord → ℕ) (i x : ℕ) (e : x ≡ number-at m Writes i) w
 pub versions-all : (m : ClientWord → ℕ) (n : ℕ) (r : Bool) → n ≡ count m Writes → r ≡ all-below n (version-fits m) → r ≡ all-below (count m Writes) (version-fits m)
 versions-all m n r e h = h ∙ rw e
 
-pub versions-lent : (z : Sizes) (b : List ℕ) (c k : ℕ) (r : Bool) → Holds z (length b) → c < z .clients → k ≡ client-at z c
+pub versions-lent : (z : Sizes) (b : List ℕ) (c k : ℕ) (r : Bool) → Store-in z (length b) → c < z .clients → k ≡ client-at z c
     → r ≡ all-below (count (held (midOf (8 * k) (length b - 8 * k) b)) Writes) (version-fits (held (midOf (8 * k) (length b - 8 * k) b))) → r ≡ versions-fit z (stored-in z (view b)) c
 unfolding held versions-fit version-fits
 versions-lent z b c k r l h e q = q ∙ ap (λ (m : ClientWord → ℕ). all-below (count m Writes) (version-fits m)) (client-lent z c k b h e (l .room))

@@ -33,7 +33,7 @@ use Rattle.steps.specs.Whole.{server, whole, block, words-for, client-at}
 use Rattle.steps.specs.Judge.{versions-fit}
 use Rattle.steps.specs.Steps.{store-write}
 use Rattle.steps.specs.Laws.Writes.{write-inside}
-use Rattle.kinds.specs.Parts.{Holds, stored-in}
+use Rattle.kinds.specs.Parts.{Store-in, stored-in}
 use Rattle.kinds.specs.Laws.Parts.{client-lent}
 use Rattle.kinds.specs.Judge.{of-client}
 use Rattle.kinds.specs.Laws.Judge.{below-at}
@@ -61,7 +61,7 @@ pub write-made : (m : ClientWord → ℕ) (i x v : ℕ) (n : Node) (b : Bool) �
 unfolding write-nth
 write-made m i x v n b e p q r = rw (q, r, p, e)
 
-module _ (z : Sizes) (b : List ℕ) (c k : ℕ) (l : Holds z (length b)) (h : c < z .clients) (e : k ≡ client-at z c) where
+module _ (z : Sizes) (b : List ℕ) (c k : ℕ) (l : Store-in z (length b)) (h : c < z .clients) (e : k ≡ client-at z c) where
   pub write-lent : (i : ℕ) (r : code.Write) → r ≡ write-nth (held (midOf (8 * k) (length b - 8 * k) b)) i → r ≡ write-nth (of-client z (view b) c) i
   unfolding held
   write-lent i r q = q ∙ ap (λ (m : ClientWord → ℕ). write-nth m i) (client-lent z c k b h e (l .room))
@@ -72,27 +72,27 @@ module _ (z : Sizes) (b : List ℕ) (c k : ℕ) (l : Holds z (length b)) (h : c 
 
 -- ---- stored in the server's part
 module _ (n s : ℕ) (w : code.Write) (k : ℕ) (f : k ≡ first-slot (w .node)) (p p′ : List ℕ) where
-  pub meta-written : w .number ≡ 0 → Does Srv.places (Srv.block n) (metadata-step k (w .read + 1)) silent p 0 p′ → Does Srv.places (Srv.block n) (write-step s w) silent p 0 p′
+  pub meta-written : w .number ≡ 0 → Does Srv.places (Srv.server-block n) (metadata-step k (w .read + 1)) silent p 0 p′ → Does Srv.places (Srv.server-block n) (write-step s w) silent p 0 p′
   unfolding write-step
-  meta-written e d = does-as Srv.places (Srv.block n) (metadata-step k (w .read + 1)) (write-step s w) silent p 0 p′ (sym (rw (eq-eqb (w .number) 0 e, ← f))) d
+  meta-written e d = does-as Srv.places (Srv.server-block n) (metadata-step k (w .read + 1)) (write-step s w) silent p 0 p′ (sym (rw (eq-eqb (w .number) 0 e, ← f))) d
 
   pub flag-written : (b : Bool) → (w .number ≡ 0 → ⊥) → 8192 < w .number → b ≡ at-home s (w .number) → b ≡ true
-      → Does Srv.places (Srv.block n) (flag-step (named (w .number - 8193)) (eqb k 1)) silent p 0 p′ → Does Srv.places (Srv.block n) (write-step s w) silent p 0 p′
+      → Does Srv.places (Srv.server-block n) (flag-step (named (w .number - 8193)) (eqb k 1)) silent p 0 p′ → Does Srv.places (Srv.server-block n) (write-step s w) silent p 0 p′
   unfolding write-step
   flag-written b e h q t d =
-      does-as Srv.places (Srv.block n) (flag-step (named (w .number - 8193)) (eqb k 1)) (write-step s w) silent p 0 p′
+      does-as Srv.places (Srv.server-block n) (flag-step (named (w .number - 8193)) (eqb k 1)) (write-step s w) silent p 0 p′
       (sym (rw (ne-eqb (w .number) 0 e, lt-leb (w .number) 8192 h, ← q, t, ← f))) d
 
 module _ (n s : ℕ) (w : code.Write) (p p′ : List ℕ) where
-  pub node-written : (w .number ≡ 0 → ⊥) → w .number ≤ 8192 → Does Srv.places (Srv.block n) (node-step s (named (w .number - 1)) (w .node) (w .read + 1) (w .inner)) silent p 0 p′
-      → Does Srv.places (Srv.block n) (write-step s w) silent p 0 p′
+  pub node-written : (w .number ≡ 0 → ⊥) → w .number ≤ 8192 → Does Srv.places (Srv.server-block n) (node-step s (named (w .number - 1)) (w .node) (w .read + 1) (w .inner)) silent p 0 p′
+      → Does Srv.places (Srv.server-block n) (write-step s w) silent p 0 p′
   unfolding write-step
   node-written e h d =
-      does-as Srv.places (Srv.block n) (node-step s (named (w .number - 1)) (w .node) (w .read + 1) (w .inner)) (write-step s w) silent p 0 p′
+      does-as Srv.places (Srv.server-block n) (node-step s (named (w .number - 1)) (w .node) (w .read + 1) (w .inner)) (write-step s w) silent p 0 p′
       (sym (rw (ne-eqb (w .number) 0 e, le-leb (w .number) 8192 h))) d
 
 pub flag-elsewhere : (n s : ℕ) (w : code.Write) (p : List ℕ) (b : Bool) → (w .number ≡ 0 → ⊥) → 8192 < w .number → b ≡ at-home s (w .number) → b ≡ false
-    → Does Srv.places (Srv.block n) (write-step s w) silent p 0 p
+    → Does Srv.places (Srv.server-block n) (write-step s w) silent p 0 p
 unfolding write-step stepped stored
 flag-elsewhere n s w p b e h q t = record { answer = refl; words = rw (ne-eqb (w .number) 0 e, lt-leb (w .number) 8192 h, ← q, t) }
 
@@ -121,14 +121,14 @@ StoredUpto z c s w i w′ = Done z s (sweep Srv.places (store-write (of-client z
 
 pub writes-inside : (z : Sizes) (c s : ℕ) (w : List ℕ) (i : ℕ) → Known z w c → i ≤ count (of-client z w c) Writes → Inside z (sweep Srv.places (store-write (of-client z w c) s) i)
 writes-inside z c s w i known h =
-    record { all = λ u. sweep-valid Srv.places (Srv.block (z .slots)) (store-write (of-client z w c) s) i u (λ j v l. write-inside (z .slots) (of-client z w c) s j v (known .written j (omega arith))) }
+    record { all = λ u. sweep-valid Srv.places (Srv.server-block (z .slots)) (store-write (of-client z w c) s) i u (λ j v l. write-inside (z .slots) (of-client z w c) s j v (known .written j (omega arith))) }
 
 module _ (z : Sizes) (c s : ℕ) where
   pub stored-none : (w : List ℕ) → StoredUpto z c s w 0 w
   unfolding StoredUpto stepped stored inPart over sweep
   stored-none w = record { answer = refl; words = refl }
 
-  module _ (b₀ b : List ℕ) (n i : ℕ) (hold : Holds z (length b₀)) (known : Known z (view b₀) c) (en : n ≡ count (of-client z (view b₀) c) Writes) (ok : s < z .servers) (l : i < n) (so : StoredUpto z c s (view b₀) i (view b)) where
+  module _ (b₀ b : List ℕ) (n i : ℕ) (hold : Store-in z (length b₀)) (known : Known z (view b₀) c) (en : n ≡ count (of-client z (view b₀) c) Writes) (ok : s < z .servers) (l : i < n) (so : StoredUpto z c s (view b₀) i (view b)) where
     room : words-for z ≤ length (view b₀)
     room = omega (arith, hold .room, view-length b₀)
 

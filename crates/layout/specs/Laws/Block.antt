@@ -6,10 +6,10 @@ use native.Mathlib.Nat.{suc-mul, mul-le-mul-right, mul-zero, mul-comm, mod-lt, d
 use native.Mathlib.Omega.{arith}
 use native.Mathlib.Decide.{decLt}
 use borrow.Author.Tests.{lt-ltb, le-ltb}
-use Rattle.layout.specs.Block.{Block, words, times, next, end, size, In, offset, step, locate}
+use Rattle.layout.specs.Block.{Block, words, times, followed-by, end, size, In, offset, step, locate}
 
 -- three words, then two rows of four: the last word of the second row is the eleventh, at 10
-pub offset-sample : let b = next (words 3) (next (times 2 (words 4)) end) in (size b ≡ 11) × (offset b (1 ∷ 1 ∷ 3 ∷ []) ≡ 10)
+pub offset-sample : let b = followed-by (words 3) (followed-by (times 2 (words 4)) end) in (size b ≡ 11) × (offset b (1 ∷ 1 ∷ 3 ∷ []) ≡ 10)
 unfolding size offset
 offset-sample = (refl, refl)
 
@@ -33,9 +33,9 @@ below (words n) (i ∷ []) h = h
 below (words n) (i ∷ j ∷ p) h = absurd h
 below (times n b) [] h = absurd h
 below (times n b) (i ∷ p) h = omega (arith, row-fits i n (size b) (h .0), below b p (h .1))
-below (next a b) [] h = absurd h
-below (next a b) (zero ∷ p) h = omega (arith, below a p h)
-below (next a b) (suc i ∷ p) h = omega (arith, below b (i ∷ p) h)
+below (followed-by a b) [] h = absurd h
+below (followed-by a b) (zero ∷ p) h = omega (arith, below a p h)
+below (followed-by a b) (suc i ∷ p) h = omega (arith, below b (i ∷ p) h)
 below end p h = absurd h
 
 cons : {x y : ℕ} {p q : List ℕ} → x ≡ y → p ≡ q → _≡_ {A = List ℕ} (x ∷ p) (y ∷ q)
@@ -55,13 +55,13 @@ apart (times n b) (i ∷ p) (j ∷ q) h g e =
     let s : i ≡ j = row-same i j (size b) (offset b p) (offset b q) (below b p (h .1)) (below b q (g .1)) e in
     let t : i * size b ≡ j * size b = rw s in
     cons s (apart b p q (h .1) (g .1) (omega arith))
-apart (next a b) [] q h g e = absurd h
-apart (next a b) (zero ∷ p) [] h g e = absurd g
-apart (next a b) (zero ∷ p) (zero ∷ q) h g e = cons refl (apart a p q h g e)
-apart (next a b) (zero ∷ p) (suc j ∷ q) h g e = absurd (omega (arith, below a p h))
-apart (next a b) (suc i ∷ p) [] h g e = absurd g
-apart (next a b) (suc i ∷ p) (zero ∷ q) h g e = absurd (omega (arith, below a q g))
-apart (next a b) (suc i ∷ p) (suc j ∷ q) h g e = ap step (apart b (i ∷ p) (j ∷ q) h g (omega arith))
+apart (followed-by a b) [] q h g e = absurd h
+apart (followed-by a b) (zero ∷ p) [] h g e = absurd g
+apart (followed-by a b) (zero ∷ p) (zero ∷ q) h g e = cons refl (apart a p q h g e)
+apart (followed-by a b) (zero ∷ p) (suc j ∷ q) h g e = absurd (omega (arith, below a p h))
+apart (followed-by a b) (suc i ∷ p) [] h g e = absurd g
+apart (followed-by a b) (suc i ∷ p) (zero ∷ q) h g e = absurd (omega (arith, below a q g))
+apart (followed-by a b) (suc i ∷ p) (suc j ∷ q) h g e = ap step (apart b (i ∷ p) (j ∷ q) h g (omega arith))
 apart end p q h g e = absurd h
 
 -- every word of a block has a place
@@ -69,10 +69,10 @@ none : (b : Block) → In b [] → ⊥
 unfolding In
 none (words n) h = h
 none (times n b) h = h
-none (next a b) h = h
+none (followed-by a b) h = h
 none end h = h
 
-in-next : (a b : Block) (p : List ℕ) (i : ℕ) → In b p → offset b p ≡ i → In (next a b) (step p) × (offset (next a b) (step p) ≡ size a + i)
+in-next : (a b : Block) (p : List ℕ) (i : ℕ) → In b p → offset b p ≡ i → In (followed-by a b) (step p) × (offset (followed-by a b) (step p) ≡ size a + i)
 unfolding In offset
 in-next a b [] i h e = absurd (none b h)
 in-next a b (j ∷ p) i h e = (h, rw e)
@@ -87,14 +87,14 @@ filled n t i h = go (decLt 0 t)
         let e : n * t ≡ 0 = rw (z, mul-zero) in
         absurd (omega arith)
 
-next-located : (a b : Block) (i : ℕ) → i < size (next a b)
+next-located : (a b : Block) (i : ℕ) → i < size (followed-by a b)
     → (i < size a → In a (locate a i) × (offset a (locate a i) ≡ i))
     → (i - size a < size b → In b (locate b (i - size a)) × (offset b (locate b (i - size a)) ≡ i - size a))
-    → In (next a b) (locate (next a b) i) × (offset (next a b) (locate (next a b) i) ≡ i)
+    → In (followed-by a b) (locate (followed-by a b) i) × (offset (followed-by a b) (locate (followed-by a b) i) ≡ i)
 unfolding size In offset locate
 next-located a b i h first rest = go (decLt i (size a))
   where
-    go : Dec (i < size a) → In (next a b) (locate (next a b) i) × (offset (next a b) (locate (next a b) i) ≡ i)
+    go : Dec (i < size a) → In (followed-by a b) (locate (followed-by a b) i) × (offset (followed-by a b) (locate (followed-by a b) i) ≡ i)
     go (yes l) = rw (lt-ltb i (size a) l) (first l)
     go (no l) =
         let g : size a ≤ i = omega arith in
@@ -111,5 +111,5 @@ located (times n b) i h =
     let r = located b (i % t) (mod-lt i pos) in
     let e : t * (i / t) + i % t ≡ i = div-add-mod i t in
     ((div-lt-iff-lt-mul pos .1 h, r .0), rw (r .1, mul-comm (i / t) t) e)
-located (next a b) i h = next-located a b i h (λ l. located a i l) (λ l. located b (i - size a) l)
+located (followed-by a b) i h = next-located a b i h (λ l. located a i l) (λ l. located b (i - size a) l)
 located end i h = absurd (omega arith)

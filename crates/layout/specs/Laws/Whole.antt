@@ -6,7 +6,7 @@ use native.Mathlib.Omega.{arith}
 use lib.ListN.{length, getD, drop}
 use borrow.Rule.Slice.PartMut.{putMid, midOf}
 use Rattle.memory.specs.Word.{view}
-use Rattle.layout.specs.Block.{Block, words, times, next, end, size, In, offset}
+use Rattle.layout.specs.Block.{Block, words, times, followed-by, end, size, In, offset}
 use Rattle.layout.specs.Laws.Block.{row-fits}
 use Rattle.layout.specs.Space.{Coding, Put, at, Valid, mem}
 use Rattle.layout.specs.Laws.Part.{Part, ofPart, back-does, lent-mem}
@@ -41,7 +41,7 @@ module _ {S K : Type 0} (C : Coding S) (D : Coding K) where
   -- h words of head, n servers with parts like b, m clients with parts like d
   module _ (h n m : ℕ) (b d : Block) where
     abbrev pub whole-block : Block
-    whole-block = next (words h) (next (times n b) (next (times m d) end))
+    whole-block = followed-by (words h) (followed-by (times n b) (followed-by (times m d) end))
 
     -- each server's part lies in the whole, and so does each client's
     pub server-part : (s : ℕ) → s < n → Part C b whole whole-block (server s) (h + s * size b)

@@ -9,7 +9,7 @@ use mathlib.Core.Logic.{_≢_}
 use native.Mathlib.Omega.{arith}
 use native.Mathlib.Numerals.{add-one}
 use lib.Dec.{lit<}
-use Rattle.memory.specs.Word.{value, viewN, view}
+use Rattle.memory.specs.Word.{bytes-value, viewN, view}
 
 -- the n lowest bytes of a number, lowest first
 abbrev pub digits : ℕ → ℕ → List ℕ
@@ -24,7 +24,7 @@ eight s a =
 
 -- the word at index i
 unfoldable pub wordAt : List ℕ → ℕ → ℕ
-wordAt s i = value (eight s (8 * i))
+wordAt s i = bytes-value (eight s (8 * i))
 
 -- the bytes with the word at index i replaced by v
 unfoldable pub putWord : List ℕ → ℕ → ℕ → List ℕ
@@ -44,7 +44,7 @@ digits-length zero v = refl
 digits-length (suc n) v = ap suc (digits-length n (v / 256))
 
 -- the digits of a number that fits stand for it
-pub value-digits : (n v : ℕ) → v < 256 ^ n → value (digits n v) ≡ v
+pub value-digits : (n v : ℕ) → v < 256 ^ n → bytes-value (digits n v) ≡ v
 value-digits zero v h = omega arith
 value-digits (suc n) v h =
     let p : v < 256 ^ n * 256 = rw pow-suc at h in
@@ -88,7 +88,7 @@ pub view-whole : (k : ℕ) (x : List ℕ) → length x ≡ 8 * k → length (vie
 view-whole k x e = omega (arith, view-length x)
 
 -- a word and what follows it
-pub view-word : (y t : List ℕ) → length y ≡ 8 → view (y ++ t) ≡ value y ∷ view t
+pub view-word : (y t : List ℕ) → length y ≡ 8 → view (y ++ t) ≡ bytes-value y ∷ view t
 unfolding view viewN
 view-word y t e =
     view-append 1 y t e
@@ -147,7 +147,7 @@ module _ (s : List ℕ) (i : ℕ) (h : i < length s / 8) where
       ∙ view-append i front rest (length-take-le (8 * i) s low)
       ∙ ap (λ (r : List ℕ). view front ++ r)
       (ap view (sym (take-append-drop 8 rest)) ∙ view-word (take 8 rest) (drop 8 rest) (length-take-le 8 rest more)
-      ∙ ap (λ (y : List ℕ). value y ∷ view (drop 8 rest)) at-word)
+      ∙ ap (λ (y : List ℕ). bytes-value y ∷ view (drop 8 rest)) at-word)
 
   front-words : length (view front) ≡ i
   front-words = view-whole i front (length-take-le (8 * i) s low)
@@ -187,7 +187,7 @@ bytes-drop n s b k h =
 bytes-tail : (a : ℕ) (s : List ℕ) → Bytes (a ∷ s) → Bytes s
 bytes-tail a s b k h = b (suc k) (omega arith)
 
-value-inj : (x y : List ℕ) → length x ≡ length y → Bytes x → Bytes y → value x ≡ value y → x ≡ y
+value-inj : (x y : List ℕ) → length x ≡ length y → Bytes x → Bytes y → bytes-value x ≡ bytes-value y → x ≡ y
 value-inj [] [] l p q e = refl
 value-inj [] (b ∷ y) l p q e = absurd (omega arith)
 value-inj (a ∷ x) [] l p q e = absurd (omega arith)
@@ -204,7 +204,7 @@ viewN-inj (suc n) s t l h p q e =
     let m : 8 * suc n ≡ 8 * n + 8 = mul-suc 8 n in
     let ds : length (drop 8 s) ≡ length s - 8 = length-drop 8 s in
     let dt : length (drop 8 t) ≡ length t - 8 = length-drop 8 t in
-    let v : value (take 8 s) ≡ value (take 8 t) = cc in
+    let v : bytes-value (take 8 s) ≡ bytes-value (take 8 t) = cc in
     let w : viewN n (drop 8 s) ≡ viewN n (drop 8 t) = cc in
     let a : take 8 s ≡ take 8 t =
     value-inj (take 8 s) (take 8 t) (length-take 8 s ∙ rw l (sym (length-take 8 t))) (bytes-take 8 s p) (bytes-take 8 t q) v in
@@ -217,7 +217,7 @@ pub view-inj : (s t : List ℕ) → length s ≡ length t → Bytes s → Bytes 
 unfolding view
 view-inj s t l p q e = viewN-inj (length s / 8) s t l (omega arith) p q (e ∙ rw l)
 
-value-lt : (n : ℕ) (x : List ℕ) → length x ≡ n → Bytes x → value x < 256 ^ n
+value-lt : (n : ℕ) (x : List ℕ) → length x ≡ n → Bytes x → bytes-value x < 256 ^ n
 value-lt zero [] l b = lit< tt
 value-lt zero (a ∷ x) l b = absurd (omega arith)
 value-lt (suc n) [] l b = absurd (omega arith)
@@ -230,7 +230,7 @@ pub view-lt : (s : List ℕ) (i : ℕ) → i < length s / 8 → Bytes s → getD
 unfolding wordAt
 view-lt s i h b =
     rw (← view-get s i h)
-    (subst (λ (y : List ℕ). value y < 2 ^ 64) (at-word s i h)
+    (subst (λ (y : List ℕ). bytes-value y < 2 ^ 64) (at-word s i h)
     (value-lt 8 (take 8 (rest s i h)) (length-take-le 8 (rest s i h) (more s i h)) (bytes-take 8 (rest s i h) (bytes-drop (8 * i) s b))))
 
 -- the laws of single words: the one written is the one read, and others stay

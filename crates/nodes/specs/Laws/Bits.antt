@@ -15,8 +15,8 @@ use lib.ListN.{length, take, drop, getD, set, replicate, length-append, length-t
 use lib.Pow.{pow-pos}
 use lib.Seq.{drop-append-le, drop-append-add, drop-at, set-append-left, getD-append-add, take-set-lt, take-set-le, set-out, getD-take, length-take-le}
 use Rattle.memory.specs.Bit.{bit, digit, putBit}
-use Rattle.nodes.specs.Vector.{lowest, shifted}
-use Rattle.nodes.specs.Flags.{bits, all-flags, flags, otherwise, with-flag}
+use Rattle.nodes.specs.Vector.{lowest-free, shifted}
+use Rattle.nodes.specs.Flags.{bits, all-flags, flags-in, otherwise, with-flag}
 
 pub length-bits : (n x : ℕ) → length (bits n x) ≡ n
 unfolding bits
@@ -30,15 +30,15 @@ zeros-step zero k (some i) h = sym (one-add i)
 zeros-step (suc zero) k x h = refl
 zeros-step (suc (suc d)) k x h = absurd (omega arith)
 
-lowest-cons : (b : Bool) (l : List Bool) → lowest (b ∷ l) ≡ elim b [ true ↦ shifted 1 (lowest l) | false ↦ some 0 ]
+lowest-cons : (b : Bool) (l : List Bool) → lowest-free (b ∷ l) ≡ elim b [ true ↦ shifted 1 (lowest-free l) | false ↦ some 0 ]
 lowest-cons true l = refl
 lowest-cons false l = refl
 
-pub zeros-are : (k y : ℕ) → trailingZeros k y ≡ otherwise k (lowest (map not (bits k y)))
+pub zeros-are : (k y : ℕ) → trailingZeros k y ≡ otherwise k (lowest-free (map not (bits k y)))
 unfolding trailingZeros bits
 zeros-are zero y = refl
 zeros-are (suc k) y =
-    rw (zeros-are k (y / 2), lowest-cons (not (eqb (y % 2) 1)) (map not (bits k (y / 2)))) (zeros-step (y % 2) k (lowest (map not (bits k (y / 2)))) (omega arith))
+    rw (zeros-are k (y / 2), lowest-cons (not (eqb (y % 2) 1)) (map not (bits k (y / 2)))) (zeros-step (y % 2) k (lowest-free (map not (bits k (y / 2)))) (omega arith))
 
 -- ---- the bits from p on of a word's complement
 not-digit : (d : ℕ) → d < 2 → not (eqb (bitAnd (1 - d) 1) 1) ≡ eqb d 1
@@ -155,8 +155,8 @@ take-set n i l a h = go (decLt i n)
     go (no q) = let e : length (take n l) ≤ i = omega (arith, length-take n l) in take-set-le n l i a (omega arith) ∙ sym (set-out (take n l) i a e)
 
 -- the flags after one was replaced
-pub flags-with : (slots : ℕ) (ws : List ℕ) (i : ℕ) (b : Bool) → i < 64 * length ws → flags slots (with-flag ws i b) ≡ set (flags slots ws) i b
-unfolding flags with-flag
+pub flags-with : (slots : ℕ) (ws : List ℕ) (i : ℕ) (b : Bool) → i < 64 * length ws → flags-in slots (with-flag ws i b) ≡ set (flags-in slots ws) i b
+unfolding flags-in with-flag
 flags-with slots ws i b h =
     let z : 64 * (i / 64) + i % 64 ≡ i = omega arith in
     let e : all-flags (set ws (i / 64) (putBit b (getD ws (i / 64) 0) (i % 64))) ≡ set (all-flags ws) i b =
@@ -174,10 +174,10 @@ unfolding with-flag
 flag-written ws i y b c e q = rw (e, q)
 
 -- ---- the flags of so many slots
-pub flags-at : (slots : ℕ) (ws : List ℕ) (i : ℕ) (d : Bool) → i < slots → getD (flags slots ws) i d ≡ getD (all-flags ws) i d
-unfolding flags
+pub flags-at : (slots : ℕ) (ws : List ℕ) (i : ℕ) (d : Bool) → i < slots → getD (flags-in slots ws) i d ≡ getD (all-flags ws) i d
+unfolding flags-in
 flags-at slots ws i d h = getD-take slots (all-flags ws) i d h
 
-pub length-slots : (slots : ℕ) (ws : List ℕ) → slots ≤ 64 * length ws → length (flags slots ws) ≡ slots
-unfolding flags
+pub length-slots : (slots : ℕ) (ws : List ℕ) → slots ≤ 64 * length ws → length (flags-in slots ws) ≡ slots
+unfolding flags-in
 length-slots slots ws h = length-take-le slots (all-flags ws) (omega (arith, length-flags ws))

@@ -8,7 +8,7 @@ use lib.Seq.{length-take-le, take-take, getD-take}
 use Rattle.nodes.specs.declared.node.Node.{Node}
 use Rattle.nodes.specs.declared.change.Wide.{Wide}
 use Rattle.nodes.specs.declared.change.Halves.{Halves}
-use Rattle.nodes.specs.Lists.{pad, insert, remove}
+use Rattle.nodes.specs.Lists.{pad, insert-at, remove-at}
 use Rattle.nodes.specs.Laws.Lists.{drop-take, take-pad, set-pad, length-insert, length-remove}
 use Rattle.nodes.specs.Node.{extra, keysOf, slotsOf, made}
 use Rattle.nodes.specs.Laws.Node.{extra-le, length-keysOf, length-slotsOf, node-eq}
@@ -29,22 +29,22 @@ module _ (n : Node) (lk : length (n .keys) ≡ 14) (ls : length (n .slots) ≡ 1
 
   module _ (e : ℕ) (pe : e ≡ extra (n .kind)) where
     pub put-built : (at k s : ℕ) (ks ss : List ℕ) → at ≤ n .count
-        → ks ≡ pad 32 (insert at k (take (n .count) (n .keys)))
-        → ss ≡ pad 32 (insert (at + e) s (take (n .count + e) (n .slots)))
+        → ks ≡ pad 32 (insert-at at k (take (n .count) (n .keys)))
+        → ss ≡ pad 32 (insert-at (at + e) s (take (n .count + e) (n .slots)))
         → _≡_ {A = Wide} (record { kind = n .kind; level = n .level; version = n .version; count = n .count + 1; keys = ks; slots = ss }) (put-in n at k s)
     unfolding put-in wide keysOf slotsOf
     put-built at k s ks ss g pk ps =
-        let c : n .count + 1 ≡ length (insert at k (take (n .count) (n .keys))) =
+        let c : n .count + 1 ≡ length (insert-at at k (take (n .count) (n .keys))) =
         sym (length-insert at k (take (n .count) (n .keys)) (omega (arith, long)) ∙ ap (λ (m : ℕ). m + 1) long) in
         wide-eq (n .kind) (n .level) (n .version) c pk (rw (← pe) ps)
 
     pub without-built : (at : ℕ) (ks ss : List ℕ) → at < n .count
-        → ks ≡ pad 32 (remove at (take (n .count) (n .keys)))
-        → ss ≡ pad 32 (remove (at + e) (take (n .count + e) (n .slots)))
+        → ks ≡ pad 32 (remove-at at (take (n .count) (n .keys)))
+        → ss ≡ pad 32 (remove-at (at + e) (take (n .count + e) (n .slots)))
         → _≡_ {A = Wide} (record { kind = n .kind; level = n .level; version = n .version; count = n .count - 1; keys = ks; slots = ss }) (without n at)
     unfolding without wide keysOf slotsOf
     without-built at ks ss g pk ps =
-        let c : n .count - 1 ≡ length (remove at (take (n .count) (n .keys))) =
+        let c : n .count - 1 ≡ length (remove-at at (take (n .count) (n .keys))) =
         sym (length-remove at (take (n .count) (n .keys)) (omega (arith, long)) ∙ ap (λ (m : ℕ). m - 1) long) in
         wide-eq (n .kind) (n .level) (n .version) c pk (rw (← pe) ps)
 
@@ -141,12 +141,12 @@ pub take-out-is : (n r : Node) (w : Wide) (at : ℕ) → length (n .keys) ≡ 14
     → r ≡ take-out n at
 unfolding take-out without
 take-out-is n r w at lk ls pre p q =
-    let a : length (remove at (keysOf n)) ≡ length (keysOf n) - 1 = length-remove at (keysOf n) (omega (arith, length-keysOf n lk (pre .0))) in
-    let b : length (remove (at + extra (n .kind)) (slotsOf n)) ≡ length (slotsOf n) - 1 =
+    let a : length (remove-at at (keysOf n)) ≡ length (keysOf n) - 1 = length-remove at (keysOf n) (omega (arith, length-keysOf n lk (pre .0))) in
+    let b : length (remove-at (at + extra (n .kind)) (slotsOf n)) ≡ length (slotsOf n) - 1 =
     length-remove (at + extra (n .kind)) (slotsOf n) (omega (arith, length-slotsOf n ls (pre .0))) in
-    let e : length (remove (at + extra (n .kind)) (slotsOf n)) ≡ length (remove at (keysOf n)) + extra (n .kind) =
+    let e : length (remove-at (at + extra (n .kind)) (slotsOf n)) ≡ length (remove-at at (keysOf n)) + extra (n .kind) =
     omega (arith, length-keysOf n lk (pre .0), length-slotsOf n ls (pre .0)) in
-    rw (q, p) (narrow-wide (n .kind) (n .level) (n .version) (remove at (keysOf n)) (remove (at + extra (n .kind)) (slotsOf n)) e)
+    rw (q, p) (narrow-wide (n .kind) (n .level) (n .version) (remove-at at (keysOf n)) (remove-at (at + extra (n .kind)) (slotsOf n)) e)
 
 module _ (a b : Node) (w : Wide) (sep : ℕ) (p : w ≡ join a sep b) where
   pub merged-is : (r : Node) → r ≡ narrow w → r ≡ merged a sep b

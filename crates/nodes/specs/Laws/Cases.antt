@@ -4,17 +4,17 @@ use mathlib.Core.Option.{Option, none, some}
 use mathlib.Core.List.{List, [], _∷_, _++_, map}
 use Prim.Native.Nat.{ℕ, suc, _+_}
 use Rattle.nodes.specs.declared.node.Node.{Node}
-use Rattle.nodes.specs.Lists.{insert, remove, pad}
+use Rattle.nodes.specs.Lists.{insert-at, remove-at, pad}
 use Rattle.nodes.specs.Place.{place}
 use Rattle.nodes.specs.Vector.{first-free}
-use Rattle.nodes.specs.Flags.{bits, all-flags, flags}
+use Rattle.nodes.specs.Flags.{bits, all-flags, flags-in}
 use Rattle.nodes.specs.Node.{extra, keysOf, slotsOf, made}
-use Rattle.nodes.specs.Find.{find, find-at}
+use Rattle.nodes.specs.Find.{key-index, find-at}
 use Rattle.nodes.specs.Change.{wide, wide-keys, wide-slots, put-in, take-out, with-slot, narrow, cut-at, split, joined-keys, join, merged, from-right, from-left}
 use Rattle.nodes.specs.Cases.{from, shown, cases}
 
 pub tried : map (λ c. c .0) cases ≡ map (λ c. c .1) cases
-unfolding made keysOf slotsOf extra wide wide-keys wide-slots put-in take-out with-slot narrow cut-at split joined-keys join merged from-right from-left find find-at place insert remove pad
+unfolding made keysOf slotsOf extra wide wide-keys wide-slots put-in take-out with-slot narrow cut-at split joined-keys join merged from-right from-left key-index find-at place insert-at remove-at pad
 tried = refl
 
 -- ---- inner nodes and free slots
@@ -37,9 +37,9 @@ further =
     -- merged with the separator between
     ∷ (keysOf (merged (inner 10 6 0) 70 (inner 80 7 20)) ∷ [], from 10 10 14 ∷ [])
     -- the first free slot above 1, going round; of 4 slots, of which 0, 2 and 3, or all, are taken
-    ∷ (slot (first-free 1 (flags 4 (13 ∷ []))) ∷ slot (first-free 1 (flags 4 (15 ∷ []))) ∷ slot (first-free 0 (flags 4 (13 ∷ []))) ∷ [], (1 ∷ []) ∷ [] ∷ (1 ∷ []) ∷ [])
+    ∷ (slot (first-free 1 (flags-in 4 (13 ∷ []))) ∷ slot (first-free 1 (flags-in 4 (15 ∷ []))) ∷ slot (first-free 0 (flags-in 4 (13 ∷ []))) ∷ [], (1 ∷ []) ∷ [] ∷ (1 ∷ []) ∷ [])
     ∷ []
 
 pub tried-further : map (λ c. c .0) further ≡ map (λ c. c .1) further
-unfolding made keysOf slotsOf extra wide wide-keys wide-slots narrow cut-at joined-keys join merged from-right from-left pad first-free flags all-flags bits
+unfolding made keysOf slotsOf extra wide wide-keys wide-slots narrow cut-at joined-keys join merged from-right from-left pad first-free flags-in all-flags bits
 tried-further = refl

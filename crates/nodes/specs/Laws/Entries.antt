@@ -7,7 +7,7 @@ use native.Mathlib.Nat.{add-zero}
 use native.Mathlib.Numerals.{add-one}
 use lib.ListN.{length, take, drop, getD, set}
 use lib.Seq.{length-take-le, drop-cons, set-getD}
-use Rattle.nodes.specs.Lists.{insert, remove}
+use Rattle.nodes.specs.Lists.{insert-at, remove-at}
 use Rattle.nodes.specs.Entries.{zip, headed, entries}
 
 -- ---- keys beside slots
@@ -58,14 +58,14 @@ zip-slots [] (s ∷ ss) h = absurd (omega arith)
 zip-slots (k ∷ ks) [] h = absurd (omega arith)
 zip-slots (k ∷ ks) (s ∷ ss) h = ap (λ (l : List ℕ). s ∷ l) (zip-slots ks ss (omega arith))
 
-zip-insert : (j k s : ℕ) (ks ss : List ℕ) → j ≤ length ks → length ks ≡ length ss → zip (insert j k ks) (insert j s ss) ≡ insert j (k, s) (zip ks ss)
-unfolding insert
+zip-insert : (j k s : ℕ) (ks ss : List ℕ) → j ≤ length ks → length ks ≡ length ss → zip (insert-at j k ks) (insert-at j s ss) ≡ insert-at j (k, s) (zip ks ss)
+unfolding insert-at
 zip-insert j k s ks ss h e =
     let a : length (take j ks) ≡ length (take j ss) = length-take-le j ks h ∙ sym (length-take-le j ss (omega arith)) in
     rw (zip-append (take j ks) (k ∷ drop j ks) (take j ss) (s ∷ drop j ss) a, zip-take j ks ss, zip-drop j ks ss)
 
-zip-remove : (j : ℕ) (ks ss : List ℕ) → j ≤ length ks → length ks ≡ length ss → zip (remove j ks) (remove j ss) ≡ remove j (zip ks ss)
-unfolding remove
+zip-remove : (j : ℕ) (ks ss : List ℕ) → j ≤ length ks → length ks ≡ length ss → zip (remove-at j ks) (remove-at j ss) ≡ remove-at j (zip ks ss)
+unfolding remove-at
 zip-remove j ks ss h e =
     let a : length (take j ks) ≡ length (take j ss) = length-take-le j ks h ∙ sym (length-take-le j ss (omega arith)) in
     rw (zip-append (take j ks) (drop (j + 1) ks) (take j ss) (drop (j + 1) ss) a, zip-take j ks ss, zip-drop (j + 1) ks ss)
@@ -87,15 +87,15 @@ module _ (lo : ℕ) where
   headed-drop e i ks h g =
       by-extra (λ e. headed e (getD ks i 0) (drop (i + e) ks) ≡ drop (i + e) (headed e lo ks)) (rw (add-zero i)) (rw (add-one i) (sym (drop-cons ks i 0 g))) e h
 
-  headed-insert : (e i k : ℕ) (ks : List ℕ) → e ≤ 1 → headed e lo (insert i k ks) ≡ insert (i + e) k (headed e lo ks)
-  unfolding insert
-  headed-insert e i k ks h = by-extra (λ e. headed e lo (insert i k ks) ≡ insert (i + e) k (headed e lo ks)) (rw (add-zero i)) (rw (add-one i)) e h
+  headed-insert : (e i k : ℕ) (ks : List ℕ) → e ≤ 1 → headed e lo (insert-at i k ks) ≡ insert-at (i + e) k (headed e lo ks)
+  unfolding insert-at
+  headed-insert e i k ks h = by-extra (λ e. headed e lo (insert-at i k ks) ≡ insert-at (i + e) k (headed e lo ks)) (rw (add-zero i)) (rw (add-one i)) e h
 
-  headed-remove : (e i : ℕ) (ks : List ℕ) → e ≤ 1 → headed e lo (remove i ks) ≡ remove (i + e) (headed e lo ks)
-  unfolding remove
+  headed-remove : (e i : ℕ) (ks : List ℕ) → e ≤ 1 → headed e lo (remove-at i ks) ≡ remove-at (i + e) (headed e lo ks)
+  unfolding remove-at
   headed-remove e i ks h =
       let z : i + 1 + 1 ≡ suc (i + 1) = add-one (i + 1) in
-      by-extra (λ e. headed e lo (remove i ks) ≡ remove (i + e) (headed e lo ks)) (rw (add-zero i)) (rw (z, add-one i)) e h
+      by-extra (λ e. headed e lo (remove-at i ks) ≡ remove-at (i + e) (headed e lo ks)) (rw (add-zero i)) (rw (z, add-one i)) e h
 
   headed-set : (e i k : ℕ) (ks : List ℕ) → e ≤ 1 → headed e lo (set ks i k) ≡ set (headed e lo ks) (i + e) k
   headed-set e i k ks h = by-extra (λ e. headed e lo (set ks i k) ≡ set (headed e lo ks) (i + e) k) (rw (add-zero i)) (rw (add-one i)) e h
@@ -131,12 +131,12 @@ module _ (e lo : ℕ) (b : e ≤ 1) (ks ss : List ℕ) (l : length ss ≡ length
   entries-join sep ks′ ss′ =
       rw (← append-assoc (take e (lo ∷ [])) ks (headed e sep ks′)) (zip-append (headed e lo ks) (headed e sep ks′) ss ss′ fit)
 
-  pub entries-insert : (i k s : ℕ) → i ≤ length ks → entries e lo (insert i k ks) (insert (i + e) s ss) ≡ insert (i + e) (k, s) (entries e lo ks ss)
+  pub entries-insert : (i k s : ℕ) → i ≤ length ks → entries e lo (insert-at i k ks) (insert-at (i + e) s ss) ≡ insert-at (i + e) (k, s) (entries e lo ks ss)
   unfolding entries
   entries-insert i k s h =
       rw (headed-insert lo e i k ks b) (zip-insert (i + e) k s (headed e lo ks) ss (omega (arith, length-headed lo e ks b)) fit)
 
-  pub entries-remove : (i : ℕ) → i ≤ length ks → entries e lo (remove i ks) (remove (i + e) ss) ≡ remove (i + e) (entries e lo ks ss)
+  pub entries-remove : (i : ℕ) → i ≤ length ks → entries e lo (remove-at i ks) (remove-at (i + e) ss) ≡ remove-at (i + e) (entries e lo ks ss)
   unfolding entries
   entries-remove i h = rw (headed-remove lo e i ks b) (zip-remove (i + e) (headed e lo ks) ss (omega (arith, length-headed lo e ks b)) fit)
 

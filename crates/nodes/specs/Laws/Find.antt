@@ -13,9 +13,9 @@ use Rattle.nodes.specs.declared.node.Node.{Node}
 use Rattle.nodes.specs.declared.found.Found.the-variants.{At, Absent}
 use Rattle.nodes.specs.Found.{found, Inside}
 use Rattle.nodes.specs.Laws.Found.{at-inside}
-use Rattle.nodes.specs.Place.{bit, place}
+use Rattle.nodes.specs.Place.{one-if, place}
 use Rattle.nodes.specs.Node.{keysOf}
-use Rattle.nodes.specs.Find.{find-at, find, rises}
+use Rattle.nodes.specs.Find.{find-at, key-index, rises}
 
 -- ---- laws of the place
 pub place-append : (l m : List ℕ) (k : ℕ) → place (l ++ m) k ≡ place l k + place m k
@@ -23,7 +23,7 @@ unfolding place
 place-append [] m k = omega arith
 place-append (x ∷ l) m k = let ih : place (l ++ m) k ≡ place l k + place m k = place-append l m k in omega arith
 
-place-step : (l : List ℕ) (i k : ℕ) → i < length l → place (take (i + 1) l) k ≡ place (take i l) k + bit (leb (getD l i 0) k)
+place-step : (l : List ℕ) (i k : ℕ) → i < length l → place (take (i + 1) l) k ≡ place (take i l) k + one-if (leb (getD l i 0) k)
 unfolding place
 place-step l i k h = rw (add-one, take-suc l i 0 h, place-append) (omega arith)
 
@@ -41,8 +41,8 @@ place-all l i n k p h g e = let z : i ≡ n = omega arith in rw (← z) e
 pub key-inside : (n p : ℕ) → p ≤ n → (p ≡ 0 → ⊥) → Inside (At (p - 1)) n
 key-inside n p h g = at-inside n (p - 1) (omega arith)
 
-pub no-place : (n : Node) (k p : ℕ) → p ≡ place (keysOf n) k → p ≡ 0 → Absent ≡ found (find (keysOf n) k)
-unfolding found find find-at
+pub no-place : (n : Node) (k p : ℕ) → p ≡ place (keysOf n) k → p ≡ 0 → Absent ≡ found (key-index (keysOf n) k)
+unfolding found key-index find-at
 no-place n k p e z = rw (← e, z)
 
 module _ (n : Node) (k p : ℕ) (e : p ≡ place (keysOf n) k) (h : p ≤ n .count) (z : p ≡ 0 → ⊥) where
@@ -50,12 +50,12 @@ module _ (n : Node) (k p : ℕ) (e : p ≡ place (keysOf n) k) (h : p ≤ n .cou
   unfolding keysOf
   last-key = getD-take (n .count) (n .keys) (p - 1) 0 (omega arith)
 
-  pub other-key : (getD (n .keys) (p - 1) 0 ≡ k → ⊥) → Absent ≡ found (find (keysOf n) k)
-  unfolding found find find-at
+  pub other-key : (getD (n .keys) (p - 1) 0 ≡ k → ⊥) → Absent ≡ found (key-index (keysOf n) k)
+  unfolding found key-index find-at
   other-key q = rw (← e, ne-eqb _ _ z, last-key, ne-eqb _ _ q)
 
-  pub this-key : getD (n .keys) (p - 1) 0 ≡ k → At (p - 1) ≡ found (find (keysOf n) k)
-  unfolding found find find-at
+  pub this-key : getD (n .keys) (p - 1) 0 ≡ k → At (p - 1) ≡ found (key-index (keysOf n) k)
+  unfolding found key-index find-at
   this-key q = rw (← e, ne-eqb _ _ z, last-key, eq-eqb _ _ q)
 
 -- ---- the test that keys rise

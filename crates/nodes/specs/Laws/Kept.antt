@@ -9,7 +9,7 @@ use lib.Seq.{length-take-le, take-append-add, drop-append-add, take-append-le, d
 use Rattle.nodes.specs.declared.node.Node.{Node}
 use Rattle.nodes.specs.declared.change.Wide.{Wide}
 use Rattle.nodes.specs.declared.change.Halves.{Halves}
-use Rattle.nodes.specs.Lists.{insert, remove}
+use Rattle.nodes.specs.Lists.{insert-at, remove-at}
 use Rattle.nodes.specs.Laws.Lists.{length-insert, length-remove}
 use Rattle.nodes.specs.Node.{extra, keysOf, slotsOf, made}
 use Rattle.nodes.specs.Laws.Node.{extra-le, length-keysOf, length-slotsOf, keys-made, slots-made}
@@ -17,7 +17,7 @@ use Rattle.nodes.specs.Change.{wide, wide-keys, wide-slots, put-in, take
 use Rattle.nodes.specs.Laws.Built.{wide-keys-made, wide-slots-made, length-joined}
 use Rattle.nodes.specs.Stored.{node-of}
 use Rattle.nodes.specs.Laws.Stored.{node-sized}
-use Rattle.nodes.specs.Range.{in-range}
+use Rattle.nodes.specs.Range.{node-in-range}
 use Rattle.nodes.specs.Laws.Range.{range-count}
 use Rattle.nodes.specs.Entries.{headed, entries, entriesOf, wide-entries}
 use Rattle.nodes.specs.Laws.Entries.{length-entries, entries-take, entries-drop, entries-join, entries-insert, entries-remove, entries-key, entries-slot, first, entries-first}
@@ -26,7 +26,7 @@ use Rattle.nodes.specs.Kept.{Whole, WholeWide}
 pub whole : (n : Node) → length (n .keys) ≡ 14 → length (n .slots) ≡ 15 → n .count ≤ 14 → Whole n
 whole n lk ls h = record { keys = length-keysOf n lk h; slots = length-slotsOf n ls h }
 
-pub stored-whole : (ws : List ℕ) → length ws ≡ 33 → in-range (node-of ws) ≡ true → Whole (node-of ws)
+pub stored-whole : (ws : List ℕ) → length ws ≡ 33 → node-in-range (node-of ws) ≡ true → Whole (node-of ws)
 stored-whole ws l r = let s = node-sized ws l in whole (node-of ws) (s .keys) (s .slots) (range-count (node-of ws) r)
 
 pub whole-wide : (w : Wide) → length (w .keys) ≡ 32 → length (w .slots) ≡ 32 → w .count ≤ 31 → WholeWide w
@@ -78,30 +78,30 @@ module _ (n : Node) (lo : ℕ) (f : Whole n) where
   length-entriesOf = length-entries (extra (n .kind)) lo (extra-le (n .kind)) (keysOf n) (slotsOf n) longer ∙ f .slots
 
   module _ (i k s : ℕ) (h : i ≤ n .count) where
-    put-in-longer : length (insert (i + extra (n .kind)) s (slotsOf n)) ≡ length (insert i k (keysOf n)) + extra (n .kind)
+    put-in-longer : length (insert-at (i + extra (n .kind)) s (slotsOf n)) ≡ length (insert-at i k (keysOf n)) + extra (n .kind)
     put-in-longer =
-        let a : length (insert i k (keysOf n)) ≡ length (keysOf n) + 1 = length-insert i k (keysOf n) (omega (arith, f .keys)) in
-        let b : length (insert (i + extra (n .kind)) s (slotsOf n)) ≡ length (slotsOf n) + 1 =
+        let a : length (insert-at i k (keysOf n)) ≡ length (keysOf n) + 1 = length-insert i k (keysOf n) (omega (arith, f .keys)) in
+        let b : length (insert-at (i + extra (n .kind)) s (slotsOf n)) ≡ length (slotsOf n) + 1 =
         length-insert (i + extra (n .kind)) s (slotsOf n) (omega (arith, f .slots)) in
         omega (arith, longer)
 
     pub put-in-whole : WholeWide (put-in n i k s)
     unfolding put-in
-    put-in-whole = wide-whole (n .kind) (n .level) (n .version) lo (insert i k (keysOf n)) (insert (i + extra (n .kind)) s (slotsOf n)) put-in-longer
+    put-in-whole = wide-whole (n .kind) (n .level) (n .version) lo (insert-at i k (keysOf n)) (insert-at (i + extra (n .kind)) s (slotsOf n)) put-in-longer
 
-    pub put-in-entries : wide-entries (put-in n i k s) lo ≡ insert (i + extra (n .kind)) (k, s) (entriesOf n lo)
+    pub put-in-entries : wide-entries (put-in n i k s) lo ≡ insert-at (i + extra (n .kind)) (k, s) (entriesOf n lo)
     unfolding put-in entriesOf
     put-in-entries =
-        entries-wide (n .kind) (n .level) (n .version) lo (insert i k (keysOf n)) (insert (i + extra (n .kind)) s (slotsOf n)) put-in-longer
+        entries-wide (n .kind) (n .level) (n .version) lo (insert-at i k (keysOf n)) (insert-at (i + extra (n .kind)) s (slotsOf n)) put-in-longer
         ∙ entries-insert (extra (n .kind)) lo (extra-le (n .kind)) (keysOf n) (slotsOf n) longer i k s (omega (arith, f .keys))
 
-  pub take-out-entries : (i : ℕ) → i < n .count → entriesOf (take-out n i) lo ≡ remove (i + extra (n .kind)) (entriesOf n lo)
+  pub take-out-entries : (i : ℕ) → i < n .count → entriesOf (take-out n i) lo ≡ remove-at (i + extra (n .kind)) (entriesOf n lo)
   unfolding take-out entriesOf
   take-out-entries i h =
-      let a : length (remove i (keysOf n)) ≡ length (keysOf n) - 1 = length-remove i (keysOf n) (omega (arith, f .keys)) in
-      let b : length (remove (i + extra (n .kind)) (slotsOf n)) ≡ length (slotsOf n) - 1 =
+      let a : length (remove-at i (keysOf n)) ≡ length (keysOf n) - 1 = length-remove i (keysOf n) (omega (arith, f .keys)) in
+      let b : length (remove-at (i + extra (n .kind)) (slotsOf n)) ≡ length (slotsOf n) - 1 =
       length-remove (i + extra (n .kind)) (slotsOf n) (omega (arith, f .slots)) in
-      entries-made (n .kind) (n .level) (n .version) lo (remove i (keysOf n)) (remove (i + extra (n .kind)) (slotsOf n)) (omega (arith, longer, f .keys))
+      entries-made (n .kind) (n .level) (n .version) lo (remove-at i (keysOf n)) (remove-at (i + extra (n .kind)) (slotsOf n)) (omega (arith, longer, f .keys))
       ∙ entries-remove (extra (n .kind)) lo (extra-le (n .kind)) (keysOf n) (slotsOf n) longer i (omega (arith, f .keys))
 
   pub version-entries : (v : ℕ) → entriesOf (with-version n v) lo ≡ entriesOf n lo

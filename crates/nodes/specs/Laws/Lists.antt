@@ -7,15 +7,15 @@ use native.Mathlib.Numerals.{add-one}
 use native.Mathlib.Nat.{sub-zero}
 use lib.ListN.{length, take, drop, getD, set, replicate, length-append, length-drop, length-replicate, length-set}
 use lib.Seq.{paste, paste-zero, paste-suc, take-at, drop-append-add, length-take-le, take-take, take-nil, append-snoc, getD-drop, set-append-left}
-use Rattle.nodes.specs.Lists.{insert, remove, pad}
+use Rattle.nodes.specs.Lists.{insert-at, remove-at, pad}
 
 -- ---- laws
-pub length-insert : {A : Type 0} (i : ℕ) (v : A) (l : List A) → i ≤ length l → length (insert i v l) ≡ length l + 1
-unfolding insert
+pub length-insert : {A : Type 0} (i : ℕ) (v : A) (l : List A) → i ≤ length l → length (insert-at i v l) ≡ length l + 1
+unfolding insert-at
 length-insert i v l h = simp (length-append, length-take-le i l h, length-drop) (omega arith)
 
-pub length-remove : {A : Type 0} (i : ℕ) (l : List A) → i < length l → length (remove i l) ≡ length l - 1
-unfolding remove
+pub length-remove : {A : Type 0} (i : ℕ) (l : List A) → i < length l → length (remove-at i l) ≡ length l - 1
+unfolding remove-at
 length-remove i l h = let le : i ≤ length l = omega arith in simp (length-append, length-take-le i l le, length-drop) (omega arith)
 
 pub drop-take : {A : Type 0} (k n : ℕ) (l : List A) → drop k (take n l) ≡ take (n - k) (drop k l)
@@ -101,16 +101,16 @@ joined-is w a b z t r n from m h p q s =
     rw (s, part-is w a z t 0 n (omega arith, omega arith) p q) (paste-pad w (take n a) (drop from b) n m e (omega arith) hm)
 
 pub inserted-is : (a t r : List ℕ) (n at v : ℕ) → (at ≤ n) × (n < 32) × (n ≤ length a)
-    → t ≡ pad 32 (take at a ++ (v ∷ [])) → r ≡ pad 32 (take (at + 1) t ++ take (n - at) (drop at a)) → r ≡ pad 32 (insert at v (take n a))
-unfolding insert
+    → t ≡ pad 32 (take at a ++ (v ∷ [])) → r ≡ pad 32 (take (at + 1) t ++ take (n - at) (drop at a)) → r ≡ pad 32 (insert-at at v (take n a))
+unfolding insert-at
 inserted-is a t r n at v h p q =
     let e : length (take at a) ≡ at = length-take-le at a (omega arith) in
     let e₂ : length (take at a ++ (v ∷ [])) ≡ at + 1 = simp length-append (omega arith) in
     rw (q, p, take-pad 32 (take at a ++ (v ∷ [])) (at + 1) e₂, append-snoc, ← take-take at n a (h .0), ← drop-take at n a)
 
 pub removed-is : (a r : List ℕ) (n at : ℕ) → (at < n) × (n ≤ 32) × (n ≤ length a)
-    → r ≡ pad 32 (take at a ++ take (n - at - 1) (drop (at + 1) a)) → r ≡ pad 32 (remove at (take n a))
-unfolding remove
+    → r ≡ pad 32 (take at a ++ take (n - at - 1) (drop (at + 1) a)) → r ≡ pad 32 (remove-at at (take n a))
+unfolding remove-at
 removed-is a r n at h p =
     let e : n - at - 1 ≡ n - (at + 1) = omega arith in
     let le : at ≤ n = omega arith in

@@ -9,11 +9,11 @@ use lib.Seq.{length-take-le}
 use lib.Dec.{eqb}
 use Rattle.nodes.specs.declared.node.Node.{Node}
 use Rattle.nodes.specs.Laws.Lists.{take-pad}
-use Rattle.nodes.specs.Place.{bit}
+use Rattle.nodes.specs.Place.{one-if}
 use Rattle.nodes.specs.Node.{extra, keysOf, slotsOf, made}
 
 -- ---- laws
-bit-le : (b : Bool) → bit b ≤ 1
+bit-le : (b : Bool) → one-if b ≤ 1
 bit-le true = omega arith
 bit-le false = omega arith
 

@@ -8,20 +8,20 @@ use borrow.Author.Tests.{eqb-true, leb-true, le-leb}
 use lib.Dec.{eqb, leb}
 use Rattle.base.specs.Test.{and-both}
 use Rattle.nodes.specs.declared.node.Node.{Node}
-use Rattle.nodes.specs.Range.{level-fits, count-fits, in-range}
+use Rattle.nodes.specs.Range.{level-fits, count-fits, node-in-range}
 
 -- ---- laws
 module _ (n : Node) where
   abbrev fits-kind : Bool
   fits-kind = level-fits (n .kind) (n .level) && count-fits (n .kind) (n .count)
 
-  pub range-of : n .kind ≤ 2 → n .version ≤ 4294967295 → level-fits (n .kind) (n .level) ≡ true → count-fits (n .kind) (n .count) ≡ true → in-range n ≡ true
-  unfolding in-range
+  pub range-of : n .kind ≤ 2 → n .version ≤ 4294967295 → level-fits (n .kind) (n .level) ≡ true → count-fits (n .kind) (n .count) ≡ true → node-in-range n ≡ true
+  unfolding node-in-range
   range-of k v l c = rw (le-leb (n .kind) 2 k, le-leb (n .version) 4294967295 v, l, c)
 
-  module _ (h : in-range n ≡ true) where
+  module _ (h : node-in-range n ≡ true) where
     after-kind : (leb (n .kind) 2 ≡ true) × ((leb (n .version) 4294967295 && fits-kind) ≡ true)
-    unfolding in-range
+    unfolding node-in-range
     after-kind = and-both (leb (n .kind) 2) (leb (n .version) 4294967295 && fits-kind) h
 
     after-version : (leb (n .version) 4294967295 ≡ true) × (fits-kind ≡ true)
@@ -52,6 +52,6 @@ module _ (n : Node) where
         go (suc (suc (suc k))) l c g p q = absurd (omega arith)
 
 -- where the code has asked all but the count of an inner node
-pub inner-range : (n : Node) → n .kind ≡ 2 → n .version ≤ 4294967295 → 1 ≤ n .level → n .level ≤ 4 → leb (n .count) 14 ≡ in-range n
-unfolding in-range
+pub inner-range : (n : Node) → n .kind ≡ 2 → n .version ≤ 4294967295 → 1 ≤ n .level → n .level ≤ 4 → leb (n .count) 14 ≡ node-in-range n
+unfolding node-in-range
 inner-range n k v l m = rw (k, le-leb (n .version) 4294967295 v, le-leb 1 (n .level) l, le-leb (n .level) 4 m)

@@ -9,9 +9,9 @@ use borrow.Author.Tests.{lt-leb, leb-true, leb-false, lt-ltb, ltb-true}
 use lib.ListN.{length, take, drop, getD, set}
 use lib.Dec.{leb, ltb}
 use Rattle.base.specs.Test.{and-both}
-use Rattle.nodes.specs.Lists.{insert, remove}
-use Rattle.nodes.specs.Place.{bit, place}
-use Rattle.nodes.specs.Find.{above, rises}
+use Rattle.nodes.specs.Lists.{insert-at, remove-at}
+use Rattle.nodes.specs.Place.{one-if, place}
+use Rattle.nodes.specs.Find.{first-above, rises}
 
 -- each key is above the one before, the first not below lo, the last below hi
 unfoldable pub Rising : ℕ → ℕ → List ℕ → Type 0
@@ -74,8 +74,8 @@ rising-join (suc zero) lo sep hi ks ks′ b r s = rising-append lo sep hi ks (se
 rising-join (suc (suc e)) lo sep hi ks ks′ b r s = absurd (omega arith)
 
 -- a key taken out, or replaced by one between its neighbours
-pub rising-remove : (lo hi i : ℕ) (ks : List ℕ) → i < length ks → Rising lo hi ks → Rising lo hi (remove i ks)
-unfolding remove
+pub rising-remove : (lo hi i : ℕ) (ks : List ℕ) → i < length ks → Rising lo hi ks → Rising lo hi (remove-at i ks)
+unfolding remove-at
 rising-remove lo hi i ks h r =
     rw (add-one i) (rising-append lo (getD ks i 0) hi (take i ks) (drop (suc i) ks) (rising-take lo hi i ks h r)
     (rising-from hi (getD ks i 0) (suc (getD ks i 0)) (drop (suc i) ks) (omega arith) (rising-rest lo hi i ks h r)))
@@ -93,14 +93,14 @@ place-none k lo hi [] h r = refl
 place-none k lo hi (x ∷ ks) h r = rw (lt-leb x k (omega (arith, r .0)), place-none k (suc x) hi ks (omega (arith, r .0)) (r .1))
 
 pub rising-insert : (k lo hi : ℕ) (ks : List ℕ) → lo ≤ k → k < hi → Rising lo hi ks → ((i : ℕ) → i < length ks → getD ks i 0 ≡ k → ⊥)
-    → Rising lo hi (insert (place ks k) k ks)
-unfolding place Rising insert
+    → Rising lo hi (insert-at (place ks k) k ks)
+unfolding place Rising insert-at
 rising-insert k lo hi [] h g r a = (h, omega arith)
 rising-insert k lo hi (x ∷ ks) h g r a = go (leb x k) refl (rising-insert k (suc x) hi ks)
   where
     go : (b : Bool) → leb x k ≡ b
-        → (suc x ≤ k → k < hi → Rising (suc x) hi ks → ((i : ℕ) → i < length ks → getD ks i 0 ≡ k → ⊥) → Rising (suc x) hi (insert (place ks k) k ks))
-        → Rising lo hi (insert (bit (leb x k) + place ks k) k (x ∷ ks))
+        → (suc x ≤ k → k < hi → Rising (suc x) hi ks → ((i : ℕ) → i < length ks → getD ks i 0 ≡ k → ⊥) → Rising (suc x) hi (insert-at (place ks k) k ks))
+        → Rising lo hi (insert-at (one-if (leb x k) + place ks k) k (x ∷ ks))
     go true e ih =
         let le : x ≤ k = leb-true x k e in
         let ne : x ≡ k → ⊥ = a 0 (omega arith) in
@@ -111,11 +111,11 @@ rising-insert k lo hi (x ∷ ks) h g r a = go (leb x k) refl (rising-insert k (s
         rw (e, place-none k (suc x) hi ks (omega arith) (r .1)) (h, (lt, r .1))
 
 -- the test on a node's keys
-above-rising : (lo hi x : ℕ) (ks : List ℕ) → above x ks ≡ true → lo ≤ x → ((i : ℕ) → i < length (x ∷ ks) → getD (x ∷ ks) i 0 < hi) → Rising lo hi (x ∷ ks)
+above-rising : (lo hi x : ℕ) (ks : List ℕ) → first-above x ks ≡ true → lo ≤ x → ((i : ℕ) → i < length (x ∷ ks) → getD (x ∷ ks) i 0 < hi) → Rising lo hi (x ∷ ks)
 unfolding Rising
 above-rising lo hi x [] t h a = (h, a 0 (omega arith))
 above-rising lo hi x (y ∷ ks) t h a =
-    let p = and-both (ltb x y) (above y ks) t in
+    let p = and-both (ltb x y) (first-above y ks) t in
     (h, above-rising (suc x) hi y ks (p .1) (ltb-true x y (p .0)) (λ i g. a (suc i) (omega arith)))
 
 pub rising-of : (hi : ℕ) (ks : List ℕ) → rises ks ≡ true → ((i : ℕ) → i < length ks → getD ks i 0 < hi) → Rising 0 hi ks
@@ -123,7 +123,7 @@ unfolding rises Rising
 rising-of hi [] t a = omega arith
 rising-of hi (x ∷ ks) t a = above-rising 0 hi x ks t (omega arith) a
 
-rising-above : (hi x : ℕ) (ks : List ℕ) → Rising (suc x) hi ks → above x ks ≡ true
+rising-above : (hi x : ℕ) (ks : List ℕ) → Rising (suc x) hi ks → first-above x ks ≡ true
 unfolding Rising
 rising-above hi x [] r = refl
 rising-above hi x (y ∷ ks) r = rw (lt-ltb x y (r .0), rising-above hi y ks (r .1))

@@ -19,8 +19,8 @@ use Rattle.nodes.specs.declared.found.Found.the-variants.{At, Absent}
 use Rattle.nodes.specs.Laws.Lists.{drop-take}
 use Rattle.nodes.specs.Found.{found}
 use Rattle.nodes.specs.Laws.Found.{found-some, found-none}
-use Rattle.nodes.specs.Vector.{shifted, lowest, or-else, free-from, first-free}
-use Rattle.nodes.specs.Flags.{bits, all-flags, flags, otherwise}
+use Rattle.nodes.specs.Vector.{shifted, lowest-free, or-else, free-from, first-free}
+use Rattle.nodes.specs.Flags.{bits, all-flags, flags-in, otherwise}
 use Rattle.nodes.specs.Laws.Bits.{length-bits, zeros-are, masked-bits, word-flags, length-flags}
 
 -- ---- the lowest free slot
@@ -36,14 +36,14 @@ shifted-or : (a : ℕ) (x y : Option ℕ) → shifted a (or-else x y) ≡ or-els
 shifted-or a none y = refl
 shifted-or a (some i) y = refl
 
-lowest-append : (l m : List Bool) → lowest (l ++ m) ≡ or-else (lowest l) (shifted (length l) (lowest m))
-lowest-append [] m = sym (shifted-zero (lowest m))
+lowest-append : (l m : List Bool) → lowest-free (l ++ m) ≡ or-else (lowest-free l) (shifted (length l) (lowest-free m))
+lowest-append [] m = sym (shifted-zero (lowest-free m))
 lowest-append (false ∷ l) m = refl
 lowest-append (true ∷ l) m =
     let e : 1 + length l ≡ suc (length l) = omega arith in
-    rw (lowest-append l m, shifted-or 1 (lowest l) (shifted (length l) (lowest m)), shifted-twice 1 (length l) (lowest m), e)
+    rw (lowest-append l m, shifted-or 1 (lowest-free l) (shifted (length l) (lowest-free m)), shifted-twice 1 (length l) (lowest-free m), e)
 
-lowest-taken : (p : ℕ) → lowest (replicate p true) ≡ none
+lowest-taken : (p : ℕ) → lowest-free (replicate p true) ≡ none
 lowest-taken zero = refl
 lowest-taken (suc p) = rw (lowest-taken p)
 
@@ -56,13 +56,13 @@ unfolding below
 below-shifted a n none h = tt
 below-shifted a n (some i) h = omega arith
 
-lowest-below : (l : List Bool) → below (length l) (lowest l)
+lowest-below : (l : List Bool) → below (length l) (lowest-free l)
 unfolding below
 lowest-below [] = tt
 lowest-below (false ∷ l) = omega arith
 lowest-below (true ∷ l) =
     let e : 1 + length l ≡ suc (length l) = omega arith in
-    subst (λ (n : ℕ). below n (shifted 1 (lowest l))) e (below-shifted 1 (length l) (lowest l) (lowest-below l))
+    subst (λ (n : ℕ). below n (shifted 1 (lowest-free l))) e (below-shifted 1 (length l) (lowest-free l) (lowest-below l))
 
 -- only what is below n
 abbrev limited : ℕ → Option ℕ → Option ℕ
@@ -81,18 +81,18 @@ limited-zero : (x : Option ℕ) → none ≡ limited 0 x
 limited-zero none = refl
 limited-zero (some i) = rw (le-ltb i 0 (omega arith))
 
-lowest-take : (n : ℕ) (l : List Bool) → lowest (take n l) ≡ limited n (lowest l)
-lowest-take zero l = limited-zero (lowest l)
+lowest-take : (n : ℕ) (l : List Bool) → lowest-free (take n l) ≡ limited n (lowest-free l)
+lowest-take zero l = limited-zero (lowest-free l)
 lowest-take (suc n) [] = refl
 lowest-take (suc n) (false ∷ l) = rw (lt-ltb 0 (suc n) (omega arith))
 lowest-take (suc n) (true ∷ l) =
     let e : suc n - 1 ≡ n = omega arith in
-    ap (shifted 1) (lowest-take n l) ∙ subst (λ (m : ℕ). shifted 1 (limited m (lowest l)) ≡ limited (suc n) (shifted 1 (lowest l))) e (shifted-limited 1 (suc n) (lowest l))
+    ap (shifted 1) (lowest-take n l) ∙ subst (λ (m : ℕ). shifted 1 (limited m (lowest-free l)) ≡ limited (suc n) (shifted 1 (lowest-free l))) e (shifted-limited 1 (suc n) (lowest-free l))
 
-free-flags : (a slots : ℕ) (ws : List ℕ) → free-from a (flags slots ws) ≡ limited slots (free-from a (all-flags ws))
-unfolding flags
+free-flags : (a slots : ℕ) (ws : List ℕ) → free-from a (flags-in slots ws) ≡ limited slots (free-from a (all-flags ws))
+unfolding flags-in
 free-flags a slots ws =
-    rw (drop-take a slots (all-flags ws), lowest-take (slots - a) (drop a (all-flags ws))) (shifted-limited a slots (lowest (drop a (all-flags ws))))
+    rw (drop-take a slots (all-flags ws), lowest-take (slots - a) (drop a (all-flags ws))) (shifted-limited a slots (lowest-free (drop a (all-flags ws))))
 
 -- ---- one word: the trailing zeros of its complement without the p lowest bits
 mask-is : (p : ℕ) → p < 64 → 18446744073709551615 - (1 * 2 ^ p % 18446744073709551616 - 1) ≡ 2 ^ 64 - 2 ^ p
@@ -105,8 +105,8 @@ pub zero-found : (x p : ℕ) → p < 64 → x < 2 ^ 64
     → trailingZeros 64 (bitAnd (18446744073709551615 - x) (18446744073709551615 - (1 * 2 ^ p % 18446744073709551616 - 1))) ≡ otherwise 64 (free-from p (bits 64 x))
 zero-found x p h g =
     let y : ℕ = bitAnd (2 ^ 64 - 1 - x) (2 ^ 64 - 2 ^ p) in
-    let e : lowest (map not (bits 64 y)) ≡ free-from p (bits 64 x) =
-    ap lowest (masked-bits 64 p x (omega arith) g) ∙ lowest-append (replicate p true) (drop p (bits 64 x)) ∙ rw (lowest-taken p, length-replicate p true) in
+    let e : lowest-free (map not (bits 64 y)) ≡ free-from p (bits 64 x) =
+    ap lowest-free (masked-bits 64 p x (omega arith) g) ∙ lowest-append (replicate p true) (drop p (bits 64 x)) ∙ rw (lowest-taken p, length-replicate p true) in
     rw (mask-is p h, zeros-are 64 y, e)
 
 -- ---- all words: from the bit p of word w on
@@ -120,11 +120,11 @@ free-word ws w p h g =
     rw (
       word-flags ws w p h g,
       lowest-append l m,
-      shifted-or (64 * w + p) (lowest l) (shifted (length l) (lowest m)),
+      shifted-or (64 * w + p) (lowest-free l) (shifted (length l) (lowest-free m)),
       n,
-      shifted-twice (64 * w + p) (64 - p) (lowest m),
+      shifted-twice (64 * w + p) (64 - p) (lowest-free m),
       e,
-      shifted-twice (64 * w) p (lowest l),
+      shifted-twice (64 * w) p (lowest-free l),
     )
 
 -- what the search has left: all before is taken
@@ -140,7 +140,7 @@ looked-none words from =
 -- in a word with no free slot from p on, and in one with
 none-left : (p x t : ℕ) → t ≡ otherwise 64 (free-from p (bits 64 x)) → p < 64 → 64 ≤ t → free-from p (bits 64 x) ≡ none
 unfolding below
-none-left p x t e g h = go (free-from p (bits 64 x)) refl (below-shifted p (length l) (lowest l) (lowest-below l))
+none-left p x t e g h = go (free-from p (bits 64 x)) refl (below-shifted p (length l) (lowest-free l) (lowest-below l))
   where
     l : List Bool
     l = drop p (bits 64 x)
@@ -166,33 +166,33 @@ module _ (words : List ℕ) (from w p t : ℕ) (l : length words ≡ 16) (h : w 
       record { inside = omega arith; same = rw (here, none-left p (getD words w 0) t e (k .inside) g, z) }
 
   module _ (slots : ℕ) (g : t < 64) where
-    slot-is : free-from from (flags slots words) ≡ limited slots (some (64 * w + t))
+    slot-is : free-from from (flags-in slots words) ≡ limited slots (some (64 * w + t))
     slot-is = rw (free-flags from slots words, here, one-left p (getD words w 0) t e g)
 
-    pub slot-found : 64 * w + t < slots → At (64 * w + t) ≡ found (free-from from (flags slots words))
+    pub slot-found : 64 * w + t < slots → At (64 * w + t) ≡ found (free-from from (flags-in slots words))
     unfolding found
     slot-found q = rw (slot-is, lt-ltb (64 * w + t) slots q)
 
-    pub slot-beyond : slots ≤ 64 * w + t → Absent ≡ found (free-from from (flags slots words))
+    pub slot-beyond : slots ≤ 64 * w + t → Absent ≡ found (free-from from (flags-in slots words))
     unfolding found
     slot-beyond q = rw (slot-is, le-ltb (64 * w + t) slots q)
 
-pub looked-all : (words : List ℕ) (from w p slots : ℕ) → length words ≡ 16 → 16 ≤ w → Looked words from w p → Absent ≡ found (free-from from (flags slots words))
+pub looked-all : (words : List ℕ) (from w p slots : ℕ) → length words ≡ 16 → 16 ≤ w → Looked words from w p → Absent ≡ found (free-from from (flags-in slots words))
 unfolding found
 looked-all words from w p slots l h k =
     let e : drop (64 * w + p) (all-flags words) ≡ [] = drop-of-length-le (all-flags words) {i = 64 * w + p} (omega (arith, length-flags words)) in
     rw (free-flags from slots words, k .same, e)
 
 -- ---- above a slot, and going round
-module _ (words : List ℕ) (slots slot : ℕ) (f : Found) (e : f ≡ found (free-from (slot + 1) (flags slots words))) where
-  pub above-found : (i : ℕ) → f ≡ At i → f ≡ found (first-free slot (flags slots words))
+module _ (words : List ℕ) (slots slot : ℕ) (f : Found) (e : f ≡ found (free-from (slot + 1) (flags-in slots words))) where
+  pub above-found : (i : ℕ) → f ≡ At i → f ≡ found (first-free slot (flags-in slots words))
   unfolding found first-free
   above-found i p =
-      let q : free-from (suc slot) (flags slots words) ≡ some i = rw (← add-one slot) (found-some (free-from (slot + 1) (flags slots words)) i (sym e ∙ p)) in
+      let q : free-from (suc slot) (flags-in slots words) ≡ some i = rw (← add-one slot) (found-some (free-from (slot + 1) (flags-in slots words)) i (sym e ∙ p)) in
       rw (p, q)
 
-  pub above-none : (r : Found) → f ≡ Absent → r ≡ found (free-from 0 (flags slots words)) → r ≡ found (first-free slot (flags slots words))
+  pub above-none : (r : Found) → f ≡ Absent → r ≡ found (free-from 0 (flags-in slots words)) → r ≡ found (first-free slot (flags-in slots words))
   unfolding first-free
   above-none r p s =
-      let q : free-from (suc slot) (flags slots words) ≡ none = rw (← add-one slot) (found-none (free-from (slot + 1) (flags slots words)) (sym e ∙ p)) in
-      rw (q, s, shifted-zero (lowest (flags slots words)))
+      let q : free-from (suc slot) (flags-in slots words) ≡ none = rw (← add-one slot) (found-none (free-from (slot + 1) (flags-in slots words)) (sym e ∙ p)) in
+      rw (q, s, shifted-zero (lowest-free (flags-in slots words)))

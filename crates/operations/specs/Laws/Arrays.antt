@@ -6,11 +6,11 @@ use native.Mathlib.Omega.{arith}
 use lib.ListN.{length, take, drop, getD, set, length-append, length-map}
 use lib.Seq.{length-take-le, append-snoc, take-at, drop-at, set-at, set-append-seam}
 use Rattle.nodes.specs.Node.{extra}
-use Rattle.nodes.specs.Lists.{insert, remove}
+use Rattle.nodes.specs.Lists.{insert-at, remove-at}
 use Rattle.nodes.specs.Place.{place}
-use Rattle.nodes.specs.Find.{find}
+use Rattle.nodes.specs.Find.{key-index}
 use Rattle.operations.specs.Object.{body}
-use Rattle.operations.specs.Entry.{Entries, keys, vals, zip, mk, mn, mx, nxt, cut-at, cut, index}
+use Rattle.operations.specs.Entry.{Entries, keys, vals, zip, node-value, fewest-entries, most-entries, first-key-or, cut-at, cut, index}
 use Rattle.operations.specs.Arrays.{kind}
 
 -- the entries of a node of level l that holds keys from lo on
@@ -95,7 +95,7 @@ zip-out i j ks vs h n =
     ∙ sym (zip-append (take i ks) (drop j ks) (take i vs) (drop j vs) (same-take i ks vs h n))
 
 -- A NODE and its entries: there and back
-pub stored-back : (l lo : ℕ) (ks vs : List ℕ) → Sized l ks vs → mk l (entries l lo ks vs) ≡ body (kind l) l ks vs
+pub stored-back : (l lo : ℕ) (ks vs : List ℕ) → Sized l ks vs → node-value l (entries l lo ks vs) ≡ body (kind l) l ks vs
 stored-back zero lo ks vs h = ap (λ z. body 1 0 z (vals (zip ks vs))) (zip-keys-of ks vs h) ∙ ap (body 1 0 ks) (zip-vals-of ks vs h)
 stored-back (suc l) lo ks [] h = absurd (omega (arith, h))
 stored-back (suc l) lo ks (v ∷ vs) h =
@@ -103,11 +103,11 @@ stored-back (suc l) lo ks (v ∷ vs) h =
     ap (λ z. body 2 (suc l) z (v ∷ vals (zip ks vs))) (zip-keys-of ks vs n) ∙ ap (λ z. body 2 (suc l) ks (v ∷ z)) (zip-vals-of ks vs n)
 
 -- as many entries as 7 keys, as 14 keys have
-pub fewest-is : (l : ℕ) → mn l ≡ at l 7
+pub fewest-is : (l : ℕ) → fewest-entries l ≡ at l 7
 fewest-is zero = refl
 fewest-is (suc l) = refl
 
-pub most-is : (l : ℕ) → mx l ≡ at l 14
+pub most-is : (l : ℕ) → most-entries l ≡ at l 14
 most-is zero = refl
 most-is (suc l) = refl
 
@@ -116,8 +116,8 @@ entries-length zero lo ks vs h = zip-length ks vs h
 entries-length (suc l) lo ks vs h = zip-length (lo ∷ ks) vs h
 
 -- a key is searched among the stored ones
-pub index-is : (key lo : ℕ) (ks vs : List ℕ) → Sized zero ks vs → index key (entries zero lo ks vs) ≡ find ks key
-index-is key lo ks vs h = ap (λ z. find z key) (zip-keys-of ks vs h)
+pub index-is : (key lo : ℕ) (ks vs : List ℕ) → Sized zero ks vs → index key (entries zero lo ks vs) ≡ key-index ks key
+index-is key lo ks vs h = ap (λ z. key-index z key) (zip-keys-of ks vs h)
 
 -- SPLIT before key number i: the left half, and the right half with that key
 pub left-half : (l lo i : ℕ) (ks vs : List ℕ) → take (at l i) (entries l lo ks vs) ≡ entries l lo (take i ks) (take (at l i) vs)
@@ -133,18 +133,18 @@ pub right-half : (l lo i : ℕ) (ks vs : List ℕ) → i < length ks → drop (a
 right-half zero lo i ks vs h = zip-drop i ks vs
 right-half (suc l) lo i ks vs h = zip-drop (suc i) (lo ∷ ks) vs ∙ ap (λ z. zip z (drop (suc i) vs)) (drop-next i ks h)
 
-zip-first : (ks vs : List ℕ) → 0 < length ks → 0 < length vs → nxt (zip ks vs) 0 ≡ getD ks 0 0
+zip-first : (ks vs : List ℕ) → 0 < length ks → 0 < length vs → first-key-or (zip ks vs) 0 ≡ getD ks 0 0
 zip-first [] vs h g = absurd (omega (arith, h))
 zip-first (k ∷ ks) [] h g = absurd (omega (arith, g))
 zip-first (k ∷ ks) (v ∷ vs) h g = refl
 
-zip-nth : (i : ℕ) (ks vs : List ℕ) → i < length ks → i < length vs → nxt (drop i (zip ks vs)) 0 ≡ getD ks i 0
+zip-nth : (i : ℕ) (ks vs : List ℕ) → i < length ks → i < length vs → first-key-or (drop i (zip ks vs)) 0 ≡ getD ks i 0
 zip-nth zero ks vs h g = zip-first ks vs h g
 zip-nth (suc i) [] vs h g = absurd (omega (arith, h))
 zip-nth (suc i) (k ∷ ks) [] h g = absurd (omega (arith, g))
 zip-nth (suc i) (k ∷ ks) (v ∷ vs) h g = zip-nth i ks vs (omega (arith, h)) (omega (arith, g))
 
-pub separator : (l lo i : ℕ) (ks vs : List ℕ) → Sized l ks vs → i < length ks → nxt (drop (at l i) (entries l lo ks vs)) 0 ≡ getD ks i 0
+pub separator : (l lo i : ℕ) (ks vs : List ℕ) → Sized l ks vs → i < length ks → first-key-or (drop (at l i) (entries l lo ks vs)) 0 ≡ getD ks i 0
 separator zero lo i ks vs h g = zip-nth i ks vs g (omega (arith, h, g))
 separator (suc l) lo i ks vs h g = zip-nth (suc i) (lo ∷ ks) vs (omega (arith, g)) (omega (arith, h, g))
 
@@ -160,14 +160,14 @@ joined (suc l) lo sep ks vs js us h = sym (zip-append (lo ∷ ks) (sep ∷ js) v
 
 -- ONE MORE before key number i, ONE LESS at it, ANOTHER in its place
 pub put-in : (l lo i k s : ℕ) (ks vs : List ℕ) → Sized l ks vs → i ≤ length ks
-    → insert (at l i) (k, s) (entries l lo ks vs) ≡ entries l lo (insert i k ks) (insert (at l i) s vs)
-unfolding insert
+    → insert-at (at l i) (k, s) (entries l lo ks vs) ≡ entries l lo (insert-at i k ks) (insert-at (at l i) s vs)
+unfolding insert-at
 put-in zero lo i k s ks vs h j = zip-put i k s ks vs h j
 put-in (suc l) lo i k s ks vs h j = zip-put (suc i) k s (lo ∷ ks) vs h (omega (arith, j))
 
 pub taken-out : (l lo i : ℕ) (ks vs : List ℕ) → Sized l ks vs → i ≤ length ks
-    → remove (at l i) (entries l lo ks vs) ≡ entries l lo (remove i ks) (remove (at l i) vs)
-unfolding remove
+    → remove-at (at l i) (entries l lo ks vs) ≡ entries l lo (remove-at i ks) (remove-at (at l i) vs)
+unfolding remove-at
 taken-out zero lo i ks vs h j = zip-out i (i + 1) ks vs h j
 taken-out (suc l) lo i ks vs h j =
     let e : suc i + 1 ≡ suc (i + 1) = omega arith in
@@ -218,8 +218,8 @@ module _ (l lo : ℕ) (ks vs : List ℕ) (h : Sized (suc l) ks vs) (pre post : E
   pre-short = omega (arith, entries-length (suc l) lo ks vs h, ap length e ∙ length-append pre ((k, c) ∷ post))
 
   -- a new child right of c, with the separator between them
-  pub child-added : (sep d : ℕ) → pre ++ (k, c) ∷ (sep, d) ∷ post ≡ entries (suc l) lo (insert (length pre) sep ks) (insert (suc (length pre)) d vs)
-  unfolding insert
+  pub child-added : (sep d : ℕ) → pre ++ (k, c) ∷ (sep, d) ∷ post ≡ entries (suc l) lo (insert-at (length pre) sep ks) (insert-at (suc (length pre)) d vs)
+  unfolding insert-at
   child-added sep d =
       sym (append-snoc pre (k, c) ((sep, d) ∷ post))
       ∙ ap (λ z. z ++ (sep, d) ∷ post) (sym up-to) ∙ ap (λ z. take (suc (length pre)) (entries (suc l) lo ks vs) ++ (sep, d) ∷ z) (sym beyond)
@@ -241,8 +241,8 @@ module _ (l lo : ℕ) (ks vs : List ℕ) (h : Sized (suc l) ks vs) (pre post : E
 -- the same with the next child beside it
 module _ (l lo : ℕ) (ks vs : List ℕ) (h : Sized (suc l) ks vs) (pre post : Entries) (k c k2 c2 : ℕ) (e : entries (suc l) lo ks vs ≡ pre ++ (k, c) ∷ (k2, c2) ∷ post) where
   -- the right one of two goes, and the separator left of it
-  pub child-dropped : pre ++ (k, c) ∷ post ≡ entries (suc l) lo (remove (length pre) ks) (remove (suc (length pre)) vs)
-  unfolding remove
+  pub child-dropped : pre ++ (k, c) ∷ post ≡ entries (suc l) lo (remove-at (length pre) ks) (remove-at (suc (length pre)) vs)
+  unfolding remove-at
   child-dropped =
       sym (append-snoc pre (k, c) post)
       ∙ ap (λ z. z ++ post) (sym (up-to l lo ks vs h pre ((k2, c2) ∷ post) k c e))

@@ -5,7 +5,7 @@ use mathlib.Core.List.{[], _∷_}
 use Rattle.operations.specs.Object.{Obj, Ask, object, vector, fetched, Val, Ans, Writes, hit}
 use Rattle.operations.specs.Laws.Object.{written}
 use Rattle.operations.specs.Map.{Op}
-use Rattle.operations.specs.Slot.{Sizes}
+use Rattle.operations.specs.Slot.{TreeSizes}
 use Rattle.operations.specs.Operation.{reading, plan}
 use Rattle.operations.specs.Laws.Hit.{hit-eq}
 use Rattle.operations.specs.Laws.Storable.{Scope, Asks, Read, All-well, Comes}
@@ -23,7 +23,7 @@ well-written T (x ∷ w) h o e = go (hit (x .0) o) refl (well-written T w (h .1)
     go false q r z = r z
 
 -- EVERYTHING WRITTEN WAS ASKED FOR
-pub written-asked : (sz : Sizes) (op : Op) (rd : Ask → Bool) (S : Ask → Val) (a : Ans) (w : Writes)
+pub written-asked : (sz : TreeSizes) (op : Op) (rd : Ask → Bool) (S : Ask → Val) (a : Ans) (w : Writes)
     → P.Asked (plan sz op) rd S → P.exec (plan sz op) S ≡ P.gives (a, w) → (o : Obj) → written w o ≡ true → rd (object o) ≡ true
 written-asked sz op rd S a w g e =
     let Q : Ans → Writes → Type 0 = λ a w. All-well T w in

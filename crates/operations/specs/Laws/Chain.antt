@@ -6,7 +6,7 @@ use native.Mathlib.Decide.{ℕ-discrete}
 use native.Mathlib.Omega.{arith}
 use lib.ListN.{length, take, drop, length-map}
 use Rattle.base.specs.Laws.Test.{ifd-yes, ifd-no}
-use Rattle.operations.specs.Entry.{keys, nxt}
+use Rattle.operations.specs.Entry.{keys, first-key-or}
 use Rattle.operations.specs.Chain.{one, Chain, tally, gather, ren}
 
 pub one-same : (n : ℕ) → one n n ≡ 1
@@ -33,15 +33,15 @@ rising-upto a b z [] i h = omega (arith, i, h)
 rising-upto a b z (k ∷ ks) i h = (h .0, rising-upto (suc k) b z ks i (h .1))
 
 module _ {A : Type 0} where
-  pub nxt-app : (xs ys : List (ℕ × A)) (b : ℕ) → nxt (xs ++ ys) b ≡ nxt xs (nxt ys b)
+  pub nxt-app : (xs ys : List (ℕ × A)) (b : ℕ) → first-key-or (xs ++ ys) b ≡ first-key-or xs (first-key-or ys b)
   nxt-app [] ys b = refl
   nxt-app (x ∷ xs) ys b = refl
 
-  pub chain-app : (P : ℕ → ℕ → A → Type 0) (b : ℕ) (xs ys : List (ℕ × A)) → Chain P (nxt ys b) xs → Chain P b ys → Chain P b (xs ++ ys)
+  pub chain-app : (P : ℕ → ℕ → A → Type 0) (b : ℕ) (xs ys : List (ℕ × A)) → Chain P (first-key-or ys b) xs → Chain P b ys → Chain P b (xs ++ ys)
   chain-app P b [] ys h k = k
   chain-app P b (x ∷ xs) ys h k = (subst (λ c. P (x .0) c (x .1)) (sym (nxt-app xs ys b)) (h .0), chain-app P b xs ys (h .1) k)
 
-  pub chain-left : (P : ℕ → ℕ → A → Type 0) (b : ℕ) (xs ys : List (ℕ × A)) → Chain P b (xs ++ ys) → Chain P (nxt ys b) xs
+  pub chain-left : (P : ℕ → ℕ → A → Type 0) (b : ℕ) (xs ys : List (ℕ × A)) → Chain P b (xs ++ ys) → Chain P (first-key-or ys b) xs
   chain-left P b [] ys h = tt
   chain-left P b (x ∷ xs) ys h = (subst (λ c. P (x .0) c (x .1)) (nxt-app xs ys b) (h .0), chain-left P b xs ys (h .1))
 
@@ -50,13 +50,13 @@ module _ {A : Type 0} where
   chain-right P b (x ∷ xs) ys h = chain-right P b xs ys (h .1)
 
   -- where every entry rises, so does the chain
-  pub chain-le : (P : ℕ → ℕ → A → Type 0) → ((k b : ℕ) (s : A) → P k b s → k < b) → (b : ℕ) (xs : List (ℕ × A)) → Chain P b xs → nxt xs b ≤ b
+  pub chain-le : (P : ℕ → ℕ → A → Type 0) → ((k b : ℕ) (s : A) → P k b s → k < b) → (b : ℕ) (xs : List (ℕ × A)) → Chain P b xs → first-key-or xs b ≤ b
   chain-le P r b [] h = omega arith
-  chain-le P r b (x ∷ xs) h = omega (arith, r (x .0) (nxt xs b) (x .1) (h .0), chain-le P r b xs (h .1))
+  chain-le P r b (x ∷ xs) h = omega (arith, r (x .0) (first-key-or xs b) (x .1) (h .0), chain-le P r b xs (h .1))
 
-  pub chain-lt : (P : ℕ → ℕ → A → Type 0) → ((k b : ℕ) (s : A) → P k b s → k < b) → (b : ℕ) (xs : List (ℕ × A)) → Chain P b xs → 0 < length xs → nxt xs b < b
+  pub chain-lt : (P : ℕ → ℕ → A → Type 0) → ((k b : ℕ) (s : A) → P k b s → k < b) → (b : ℕ) (xs : List (ℕ × A)) → Chain P b xs → 0 < length xs → first-key-or xs b < b
   chain-lt P r b [] h n = omega arith
-  chain-lt P r b (x ∷ xs) h n = omega (arith, r (x .0) (nxt xs b) (x .1) (h .0), chain-le P r b xs (h .1))
+  chain-lt P r b (x ∷ xs) h n = omega (arith, r (x .0) (first-key-or xs b) (x .1) (h .0), chain-le P r b xs (h .1))
 
   pub tally-app : (c : A → ℕ → ℕ) (xs ys : List (ℕ × A)) (x : ℕ) → tally c (xs ++ ys) x ≡ tally c xs x + tally c ys x
   tally-app c [] ys x = omega arith
@@ -72,13 +72,13 @@ module _ {A : Type 0} where
       → (b : ℕ) (es : List (ℕ × A)) → ((x : ℕ) → 1 ≤ tally c es x → N x ≡ O x) → Chain P b es → Chain R b es
   chain-frame P R c N O f b [] g h = tt
   chain-frame P R c N O f b (e ∷ es) g h =
-      (f (e .0) (nxt es b) (e .1) (λ x i. g x (omega arith)) (h .0), chain-frame P R c N O f b es (λ x i. g x (omega arith)) (h .1))
+      (f (e .0) (first-key-or es b) (e .1) (λ x i. g x (omega arith)) (h .0), chain-frame P R c N O f b es (λ x i. g x (omega arith)) (h .1))
 
   -- the keys of a chain rise
-  pub chain-rising : (P : ℕ → ℕ → A → Type 0) → ((k b : ℕ) (s : A) → P k b s → k < b) → (b : ℕ) (xs : List (ℕ × A)) → Chain P b xs → Rising (nxt xs b) b (keys xs)
+  pub chain-rising : (P : ℕ → ℕ → A → Type 0) → ((k b : ℕ) (s : A) → P k b s → k < b) → (b : ℕ) (xs : List (ℕ × A)) → Chain P b xs → Rising (first-key-or xs b) b (keys xs)
   chain-rising P r b [] h = omega arith
   chain-rising P r b (x ∷ xs) h =
-      (omega arith, rising-from (suc (x .0)) (nxt xs b) b (keys xs) (r (x .0) (nxt xs b) (x .1) (h .0)) (chain-rising P r b xs (h .1)))
+      (omega arith, rising-from (suc (x .0)) (first-key-or xs b) b (keys xs) (r (x .0) (first-key-or xs b) (x .1) (h .0)) (chain-rising P r b xs (h .1)))
 
 module _ {A B : Type 0} (w : A → B) where
   pub ren-app : (xs ys : List (ℕ × A)) → ren w (xs ++ ys) ≡ ren w xs ++ ren w ys
@@ -100,6 +100,6 @@ module _ {A B : Type 0} (w : A → B) where
   ren-drop (suc n) [] = refl
   ren-drop (suc n) (x ∷ xs) = ren-drop n xs
 
-  pub ren-nxt : (xs : List (ℕ × A)) (b : ℕ) → nxt (ren w xs) b ≡ nxt xs b
+  pub ren-nxt : (xs : List (ℕ × A)) (b : ℕ) → first-key-or (ren w xs) b ≡ first-key-or xs b
   ren-nxt [] b = refl
   ren-nxt (x ∷ xs) b = refl

@@ -8,10 +8,10 @@ use native.Mathlib.Decide.{decLe}
 use borrow.Author.Tests.{lt-ltb}
 use Rattle.base.specs.Laws.Test.{of-yes}
 use Rattle.base.specs.Test.{yes?}
-use Rattle.nodes.specs.Find.{above, rises}
-use Rattle.operations.specs.Object.{Obj, meta, node, flag, object, vector, fetched, Val, keys-of, level-of, no-tree, Ans, Writes, hit, over, value}
+use Rattle.nodes.specs.Find.{first-above, rises}
+use Rattle.operations.specs.Object.{Obj, meta, node, flag, object, vector, fetched, Val, keys-of, level-of, no-tree, Ans, Writes, hit, over, written-value}
 use Rattle.operations.specs.Laws.Object.{written}
-use Rattle.operations.specs.Map.{Map, H}
+use Rattle.operations.specs.Map.{Map, two-to-64}
 use Rattle.operations.specs.Path.{Plan}
 use Rattle.operations.specs.Operation.{fits?, all-fit?, checked}
 use Rattle.operations.specs.Laws.Chain.{Rising}
@@ -33,9 +33,9 @@ checked-ok F Q M f (P.ask (fetched s) k) h = λ v t. checked-ok F Q M f (k v) (h
 checked-ok F Q M f (P.done r) h = subst (λ b. Ok F Q M (cond b (P.done r) (P.fail no-tree))) (sym (f (r .0) (r .1) h)) h
 checked-ok F Q M f (P.fail y) h = h
 
-above-of : (k z : ℕ) (ks : List ℕ) → Rising (suc k) z ks → above k ks ≡ true
+above-of : (k z : ℕ) (ks : List ℕ) → Rising (suc k) z ks → first-above k ks ≡ true
 above-of k z [] h = refl
-above-of k z (j ∷ ks) h = ap (λ b. b && above j ks) (lt-ltb k j (h .0)) ∙ above-of j z ks (h .1)
+above-of k z (j ∷ ks) h = ap (λ b. b && first-above j ks) (lt-ltb k j (h .0)) ∙ above-of j z ks (h .1)
 
 rise-of : (a z : ℕ) (ks : List ℕ) → Rising a z ks → rises ks ≡ true
 unfolding rises
@@ -64,7 +64,7 @@ fits-rep : (U : Obj → Val) (m : Map) → Rep U m → (o : Obj) → fits? (U o)
 unfolding decLe rises
 fits-rep U m R meta = ap fits? (R .tree .top-is)
 fits-rep U m R (node n) =
-    ap (λ b. b && yes? (decLe (level-of (U (node n))) 4)) (rise-of 0 H (keys-of (U (node n))) (all-rising U m R n))
+    ap (λ b. b && yes? (decLe (level-of (U (node n))) 4)) (rise-of 0 two-to-64 (keys-of (U (node n))) (all-rising U m R n))
     ∙ of-yes (decLe (level-of (U (node n))) 4) (all-levels U m R n)
 fits-rep U m R (flag n) = go (R .tree .marks n)
   where
@@ -79,5 +79,5 @@ all-fit-rep M m all R = go all (among-self all)
     go [] h = refl
     go (e ∷ w) h =
         let o = e .0 in
-        ap (λ b. b && all-fit? all w) (ap fits? (sym (over-is all M o ∙ ap (λ b. cond b (value all o) (M o)) (h .0))) ∙ fits-rep (over all M) m R o)
+        ap (λ b. b && all-fit? all w) (ap fits? (sym (over-is all M o ∙ ap (λ b. cond b (written-value all o) (M o)) (h .0))) ∙ fits-rep (over all M) m R o)
         ∙ go w (h .1)

@@ -6,7 +6,7 @@ use native.Mathlib.Decide.{ℕ-discrete, decLt}
 use native.Mathlib.Omega.{arith}
 use lib.ListN.{length}
 use Rattle.operations.specs.Object.{Val}
-use Rattle.operations.specs.Entry.{mn, nxt}
+use Rattle.operations.specs.Entry.{fewest-entries, first-key-or}
 use Rattle.operations.specs.Chain.{one, Chain, tally}
 use Rattle.operations.specs.Laws.Chain.{one-same}
 use Rattle.operations.specs.Tree.{Slot, cnt, Entry}
@@ -47,7 +47,7 @@ times-mono (suc a) (suc b) k h = omega (arith, times-mono a b k (omega (arith, h
 -- nodes of an entry of level l
 abbrev pub fewest : ℕ → ℕ
 fewest zero = 0
-fewest (suc l) = suc (times (mn l) (fewest l))
+fewest (suc l) = suc (times (fewest-entries l) (fewest l))
 
 chain-sum : {A : Type 0} (P : ℕ → ℕ → A → Type 0) (c : A → ℕ → ℕ) (cap k : ℕ)
     → ((a b : ℕ) (s : A) → P a b s → ((x : ℕ) → cap ≤ x → c s x ≡ 0) → k ≤ sum cap (c s))
@@ -56,7 +56,7 @@ chain-sum P c cap k f b [] h g = omega arith
 chain-sum P c cap k f b (e ∷ es) h g =
     omega (
       arith,
-      f (e .0) (nxt es b) (e .1) (h .0) (λ x i. omega (arith, g x i)),
+      f (e .0) (first-key-or es b) (e .1) (h .0) (λ x i. omega (arith, g x i)),
       chain-sum P c cap k f b es (h .1) (λ x i. omega (arith, g x i)),
       sum-add cap (c (e .1)) (tally c es),
     )
@@ -67,7 +67,7 @@ entry-sum N cap (suc l) a b s h g =
     omega (
       arith,
       chain-sum (Entry N l) (cnt l) cap (fewest l) (λ a b t. entry-sum N cap l a b t) b (s .1) (h .segs) (λ x i. omega (arith, g x i)),
-      times-mono (mn l) (length (s .1)) (fewest l) (h .least),
+      times-mono (fewest-entries l) (length (s .1)) (fewest l) (h .least),
       sum-one cap (s .0) (here (decLt (s .0) cap)),
       sum-add cap (one (s .0)) (tally (cnt l) (s .1)),
     )

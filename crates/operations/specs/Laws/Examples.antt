@@ -4,15 +4,15 @@ use Prim.Native.Nat.{_-_}
 use native.Mathlib.Decide.{ℕ-discrete, decLt, decLe}
 use Rattle.plans.specs.Plan.{exec, bind}
 use Rattle.plans.specs.Walk.{used}
-use Rattle.nodes.specs.Lists.{insert as put-in, remove}
+use Rattle.nodes.specs.Lists.{insert-at as put-in, remove-at}
 use Rattle.nodes.specs.Place.{place}
-use Rattle.nodes.specs.Find.{find, find-at, rises}
+use Rattle.nodes.specs.Find.{key-index, find-at, rises}
 use Rattle.nodes.specs.Vector.{first-free}
 use Rattle.operations.specs.Entry.{under}
 use Rattle.operations.specs.Examples.{run, asked, Tried}
 
 tried : Tried
-unfolding run asked exec used bind place under find find-at rises put-in remove first-free ℕ-discrete decLt decLe
+unfolding run asked exec used bind place under key-index find-at rises put-in remove-at first-free ℕ-discrete decLt decLe
 tried = record {
   root-split = refl;
   root-split-asks = refl;

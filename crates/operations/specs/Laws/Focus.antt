@@ -6,14 +6,14 @@ use mathlib.Core.Logic.{inl, inr}
 use Prim.Native.Nat.{ℕ, zero, suc, _+_, _<_, _≤_}
 use native.Mathlib.Omega.{arith}
 use lib.ListN.{length}
-use Rattle.operations.specs.Object.{Obj, meta, node, flag, Val, root, taken, is-taken, free, Ans, Writes, wr, over}
-use Rattle.operations.specs.Map.{Map, H}
+use Rattle.operations.specs.Object.{Obj, meta, node, flag, Val, root, taken, is-taken, free, Ans, Writes, with-value, over}
+use Rattle.operations.specs.Map.{Map, two-to-64}
 use Rattle.operations.specs.Laws.Map.{H-pos}
-use Rattle.operations.specs.Entry.{mk, mn, mx, nxt}
+use Rattle.operations.specs.Entry.{node-value, fewest-entries, most-entries, first-key-or}
 use Rattle.operations.specs.Chain.{one, Chain, tally, gather, ren}
 use Rattle.operations.specs.Laws.Chain.{one-same, chain-frame}
 use Rattle.operations.specs.Laws.Ensures.{sel-other}
-use Rattle.operations.specs.Tree.{room, Slot, word, cnt, pairs, Starts, Entry, bottom, Mark, Holds}
+use Rattle.operations.specs.Tree.{room, Slot, word, cnt, pairs, Starts, Entry, bottom, Mark, Holds-tree}
 
 pub entry-rise : (N : ℕ → Val) (l k b : ℕ) (s : Slot l) → Entry N l k b s → k < b
 entry-rise N zero k b s h = h
@@ -46,8 +46,8 @@ lo l (top r) = 0
 lo l (frame k c pre post p) = k
 
 abbrev pub hi : (l : ℕ) → Path l → ℕ
-hi l (top r) = H
-hi l (frame k c pre post p) = nxt post (hi (suc l) p)
+hi l (top r) = two-to-64
+hi l (frame k c pre post p) = first-key-or post (hi (suc l) p)
 
 abbrev pub root-lev : (l : ℕ) → Path l → ℕ
 root-lev l (top r) = l
@@ -72,18 +72,18 @@ right l (frame k c pre post p) = gather (pairs (suc l)) post ++ right (suc l) p
 
 abbrev pub floor : (l : ℕ) → Path l → ℕ
 floor l (top r) = bottom l
-floor l (frame k c pre post p) = mn l
+floor l (frame k c pre post p) = fewest-entries l
 
 abbrev pub Ctx : (ℕ → Val) → (l : ℕ) → Path l → Type 0
 Ctx N l (top r) = Unit {0}
-Ctx N l (frame k c pre post p) = Chain (Entry N (suc l)) k pre × Chain (Entry N (suc l)) (hi (suc l) p) post × (nxt pre k ≡ lo (suc l) p)
+Ctx N l (frame k c pre post p) = Chain (Entry N (suc l)) k pre × Chain (Entry N (suc l)) (hi (suc l) p) post × (first-key-or pre k ≡ lo (suc l) p)
     × (lo (suc l) p < hi (suc l) p) × Ctx N (suc l) p
 
 -- the inner nodes of the path are in the memory, with allowed sizes
 abbrev pub Stored : (ℕ → Val) → (l : ℕ) → Path l → Type 0
 Stored N l (top r) = Unit {0}
-Stored N l (frame k c pre post p) = (N (nm (suc l) p) ≡ mk (suc l) (ren (word (suc l)) pre ++ ((k, c) ∷ ren (word (suc l)) post)))
-    × (floor (suc l) p ≤ suc (length pre + length post)) × (suc (length pre + length post) ≤ mx (suc l)) × Stored N (suc l) p
+Stored N l (frame k c pre post p) = (N (nm (suc l) p) ≡ node-value (suc l) (ren (word (suc l)) pre ++ ((k, c) ∷ ren (word (suc l)) post)))
+    × (floor (suc l) p ≤ suc (length pre + length post)) × (suc (length pre + length post) ≤ most-entries (suc l)) × Stored N (suc l) p
 
 -- those but the lowest
 abbrev pub Above : (ℕ → Val) → (l : ℕ) → Path l → Type 0
@@ -99,7 +99,7 @@ pub record Focus (U : Obj → Val) (l : ℕ) (p : Path l) (es : List (ℕ × Slo
   pub ctx : Ctx (λ n. U (node n)) l p
   pub above : Above (λ n. U (node n)) l p
   pub segs : Chain (Entry (λ n. U (node n)) l) (hi l p) es
-  pub from : Starts l (lo l p) (nxt es (hi l p))
+  pub from : Starts l (lo l p) (first-key-or es (hi l p))
   pub rise : lo l p < hi l p
   pub marks : (x : ℕ) → Mark (U (flag x)) (U (node x)) (around l p x + one (nm l p) x + tally (cnt l) es x + sp x)
   pub holds : left l p ++ (gather (pairs l) es ++ right l p) ≡ m
@@ -113,11 +113,11 @@ pub record Rep (U : Obj → Val) (m : Map) : Type 0 where
   pub name : ℕ
   pub ents : List (ℕ × Slot level)
   pub tree : Focus U level (top name) ents nil m
-  pub stored : U (node name) ≡ mk level (ren (word level) ents)
+  pub stored : U (node name) ≡ node-value level (ren (word level) ents)
   pub least : bottom level ≤ length ents
-  pub most : length ents ≤ mx level
+  pub most : length ents ≤ most-entries level
 
-pub rep-of : (M : Obj → Val) (m : Map) → Holds M m → Rep M m
+pub rep-of : (M : Obj → Val) (m : Map) → Holds-tree M m → Rep M m
 rep-of M m h = record {
   level = h .level;
   name = h .name;
@@ -139,7 +139,7 @@ rep-of M m h = record {
   most = h .most;
 }
 
-pub holds-of : (M : Obj → Val) (m : Map) → Rep M m → Holds M m
+pub holds-of : (M : Obj → Val) (m : Map) → Rep M m → Holds-tree M m
 holds-of M m R = record {
   level = R .level;
   name = R .name;
@@ -200,5 +200,5 @@ mark-free f v n e (inl h) = absurd (true≢false (sym (ap is-taken (h .1)) ∙ a
 mark-free f v n e (inr h) = (h .0, h .2)
 
 -- memories that differ at one node agree elsewhere
-pub apart : (U : Obj → Val) (n : ℕ) (v : Val) (f : ℕ → ℕ) → f n ≡ 0 → (x : ℕ) → 1 ≤ f x → U (node x) ≡ wr (node n) v U (node x)
+pub apart : (U : Obj → Val) (n : ℕ) (v : Val) (f : ℕ → ℕ) → f n ≡ 0 → (x : ℕ) → 1 ≤ f x → U (node x) ≡ with-value (node n) v U (node x)
 apart U n v f z x i = sym (sel-other n x v (U (node x)) (λ e. absurd (omega (arith, subst (λ y. 1 ≤ f y) e i, z))))

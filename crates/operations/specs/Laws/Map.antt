@@ -2,14 +2,14 @@
 use mathlib.Core.Path.{_≡_, refl}
 use Prim.Native.Nat.{ℕ, _^_, _<_}
 use native.Mathlib.Omega.{arith}
-use Rattle.operations.specs.Map.{H, Op, insert, lookup, delete, next, previous, migrate}
+use Rattle.operations.specs.Map.{two-to-64, Op, insert, lookup, delete, next, previous, migrate}
 
-pub H-is : H ≡ 2 ^ 64
-unfolding H
+pub H-is : two-to-64 ≡ 2 ^ 64
+unfolding two-to-64
 H-is = refl
 
-pub H-pos : 0 < H
-unfolding H
+pub H-pos : 0 < two-to-64
+unfolding two-to-64
 H-pos = omega arith
 
 abbrev pub number : Op → ℕ

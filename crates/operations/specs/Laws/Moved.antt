@@ -12,10 +12,10 @@ use Rattle.base.specs.Laws.Test.{yes-of, of-yes}
 use Rattle.nodes.specs.Name.{server-of, slot-of}
 use Rattle.operations.specs.Object.{Obj, meta, node, flag, object, Val, root, body, taken, flags, free, keys-of, level-of, no-tree, Ans, Writes, over}
 use Rattle.operations.specs.Laws.Object.{kind-of}
-use Rattle.operations.specs.Map.{Map, H}
-use Rattle.operations.specs.Entry.{Entries, mk, Cut, cut}
+use Rattle.operations.specs.Map.{Map, two-to-64}
+use Rattle.operations.specs.Entry.{Entries, node-value, Cut, cut}
 use Rattle.operations.specs.Path.{Plan, kid, when-root, open-node, down}
-use Rattle.operations.specs.Slot.{Sizes, Allowed, take-node, release}
+use Rattle.operations.specs.Slot.{TreeSizes, Allowed, take-node, release}
 use Rattle.operations.specs.Migrate.{moved, move-root, move-at, to-level, first-key, move-below, move-if, migrate-plan}
 use Rattle.operations.specs.Chain.{one, tally, ren}
 use Rattle.operations.specs.Laws.Chain.{one-same, one-other, tally-app, ren-app, ren-length}
@@ -30,7 +30,7 @@ use Rattle.operations.specs.Laws.Rise.{write-ok}
 use Rattle.operations.specs.Laws.Found.{leaf-tally, locate, level-mk, node-like, all-nodes, Met, met, stored-length}
 use Rattle.plans.specs.Plan as P
 
-module _ (F : Terms) (sz : Sizes) (al : Allowed sz) (M : Obj → Val) (supply : Supply F M sz) (m : Map) (R : Rep M m) (s : ℕ) (server : s < sz .servers) where
+module _ (F : Terms) (sz : TreeSizes) (al : Allowed sz) (M : Obj → Val) (supply : Supply F M sz) (m : Map) (R : Rep M m) (s : ℕ) (server : s < sz .servers) where
   -- the snapshot with the writes holds the same map
   abbrev pub Kept : Ans → Writes → Type 0
   Kept b w = Rep (over w M) m
@@ -63,18 +63,18 @@ module _ (F : Terms) (sz : Sizes) (al : Allowed sz) (M : Obj → Val) (supply : 
   -- a node below the root moves
   move-kid-ok : (key l k n : ℕ) (pre post : List (ℕ × Slot (suc l))) (p : Path (suc l)) (es : List (ℕ × Slot l)) (v : Val) → M (node n) ≡ v
       → Site M m key l (frame k n pre post p) es
-      → Ok F Kept M (moved sz n s v (λ d w. w) (λ d w. P.done ((1, d), (node (nm (suc l) p), mk (suc l) (ren (word (suc l)) pre ++ (k, d) ∷ ren (word (suc l)) post)) ∷ w)))
+      → Ok F Kept M (moved sz n s v (λ d w. w) (λ d w. P.done ((1, d), (node (nm (suc l) p), node-value (suc l) (ren (word (suc l)) pre ++ (k, d) ∷ ren (word (suc l)) post)) ∷ w)))
   move-kid-ok key l k n pre post p es v e g =
       let f = g .focus in
       let W = word (suc l) in
       let hole = frame k n pre post p in
       let t : ℕ → ℕ = λ d. around l hole d + one n d + tally (cnt l) es d + 0 in
-      let end : ℕ → Writes → Plan = λ d w. P.done ((1, d), (node (nm (suc l) p), mk (suc l) (ren W pre ++ (k, d) ∷ ren W post)) ∷ (node d, v) ∷ w) in
+      let end : ℕ → Writes → Plan = λ d w. P.done ((1, d), (node (nm (suc l) p), node-value (suc l) (ren W pre ++ (k, d) ∷ ren W post)) ∷ (node d, v) ∷ w) in
       take-at-ok F Kept M sz al supply s (slot-of n) [] (λ d w. take-node w d (release w n (end d))) t server (f .marks)
       (λ d sm z.
       let w1 : Writes = (flag d, taken true) ∷ [] in
       let w2 : Writes = (node n, free) ∷ (flag n, taken false) ∷ w1 in
-      let u = mk l (ren (word l) es) in
+      let u = node-value l (ren (word l) es) in
       let mid : List (ℕ × Slot (suc l)) = (k, (d, es)) ∷ post in
       let y = length-append pre mid in
       let f1 = slot-freed (over w1 M) m l (frame k d pre post p) es (one n) nil n (λ x. omega arith)
@@ -83,8 +83,8 @@ module _ (F : Terms) (sz : Sizes) (al : Allowed sz) (M : Obj → Val) (supply : 
       let f3 = lift (over ((node d, u) ∷ w2) M) m l k d pre post p es nil (sel-same d u (over w2 M (node d))) (g .least) (g .most) f2 in
       take-node-ok F Kept M w1 d (release w1 n (end d)) (mark-free (M (flag d)) (M (node d)) (t d) z (f .marks d) .1)
       (release-ok F Kept M w1 n (end d)
-      (subst (λ x. Rep (over ((node (nm (suc l) p), mk (suc l) (ren W pre ++ (k, d) ∷ ren W post)) ∷ (node d, x) ∷ w2) M) m) (sym (g .at) ∙ e)
-      (subst (λ x. Rep (over ((node (nm (suc l) p), mk (suc l) x) ∷ (node d, u) ∷ w2) M) m) (ren-app W pre mid)
+      (subst (λ x. Rep (over ((node (nm (suc l) p), node-value (suc l) (ren W pre ++ (k, d) ∷ ren W post)) ∷ (node d, x) ∷ w2) M) m) (sym (g .at) ∙ e)
+      (subst (λ x. Rep (over ((node (nm (suc l) p), node-value (suc l) x) ∷ (node d, u) ∷ w2) M) m) (ren-app W pre mid)
       (write-ok M m (suc l) p ((node d, u) ∷ w2) (pre ++ mid) f3 (f2 .above) (omega (arith, y, g .stored .1)) (omega (arith, y, g .stored .2)))))))
 
   -- the way down to the parent of a node of the tree, by the node's first key
@@ -135,7 +135,7 @@ module _ (F : Terms) (sz : Sizes) (al : Allowed sz) (M : Obj → Val) (supply : 
         let D = site-down M m key l p y es g in
         let hole = frame (c .1 .0) (c .1 .1 .0) (c .0) (c .2) p in
         let i = in-cut l p y es g h in
-        let there : Cut ℕ → Plan = λ c. moved sz n s v (λ d w. w) (λ d w. P.done ((1, d), (node (nm (suc l) p), mk (suc l) (c .0 ++ (c .1 .0, d) ∷ c .2)) ∷ w)) in
+        let there : Cut ℕ → Plan = λ c. moved sz n s v (λ d w. w) (λ d w. P.done ((1, d), (node (nm (suc l) p), node-value (suc l) (c .0 ++ (c .1 .0, d) ∷ c .2)) ∷ w)) in
         let met-here : Cut ℕ → Plan = λ c. ifd (ℕ-discrete (c .1 .1) n) (there c) (P.fail no-tree) in
         let on : Cut ℕ → Plan = λ c. kid [] l (c .1 .0) (c .1 .1)
         (λ es′. down (to-level (suc lv)) key (move-at sz n s v key) l (record { nm = nm (suc l) p; key = c .1 .0; pre = c .0; post = c .2 } ∷ branches (suc l) p) (c .1 .1) es′) in
@@ -170,8 +170,8 @@ module _ (F : Terms) (sz : Sizes) (al : Allowed sz) (M : Obj → Val) (supply : 
       → Ok F Kept M (ifd (decLe 7 (length ks)) (first-key ks (move-below sz (R .name) n s (body (suc j) l ks vs) l)) (P.fail no-tree))
   below-ok n j l ks vs e ne =
       let h = occurs n j l ks vs e ne in
-      let G = locate N (R .level) n H (R .ents) (R .tree .segs) h in
-      let v : mk (G .lv) (ren (word (G .lv)) (G .es)) ≡ body (suc j) l ks vs = sym (G .kid .at) ∙ e in
+      let G = locate N (R .level) n two-to-64 (R .ents) (R .tree .segs) h in
+      let v : node-value (G .lv) (ren (word (G .lv)) (G .es)) ≡ body (suc j) l ks vs = sym (G .kid .at) ∙ e in
       let k7 : 7 ≤ length ks = subst (λ z. 7 ≤ length (keys-of z)) v
       (stored-length (G .lv) (ren (word (G .lv)) (G .es)) (omega (arith, G .kid .least, ren-length (word (G .lv)) (G .es)))) in
       let lt : l < R .level = omega (arith, G .under, sym (level-mk (G .lv) (ren (word (G .lv)) (G .es))) ∙ ap level-of v) in
@@ -187,7 +187,7 @@ module _ (F : Terms) (sz : Sizes) (al : Allowed sz) (M : Obj → Val) (supply : 
           let go : ℕ → Entries → Plan = λ i es. down (to-level (suc l)) key (move-at sz n s v key) i [] r es in
           let on : ℕ → Entries → Plan = λ i es. ifd (decLt l i) (go i es) (P.fail no-tree) in
           subst (λ u. Ok F Kept M (open-node 0 u on)) (sym (R .stored))
-          (open-ok F Kept M (R .level) 0 H (R .ents) on (R .tree .from) (R .least)
+          (open-ok F Kept M (R .level) 0 two-to-64 (R .ents) on (R .tree .from) (R .least)
           (if-ok F Kept M (decLt l (R .level)) _ (P.fail no-tree)
           (λ _. find-ok n (suc j) l key ks vs e (R .level) (top r) (R .ents) (site-root M m key R) h)
           (λ q. absurd (q lt))))

@@ -8,10 +8,10 @@ use native.Mathlib.Decide.{ℕ-discrete}
 use native.Mathlib.Omega.{arith}
 use lib.ListN.{length, length-append}
 use Rattle.base.specs.Test.{yes?}
-use Rattle.operations.specs.Object.{Obj, meta, node, flag, Val, root, taken, free, wr}
-use Rattle.operations.specs.Map.{Map, H}
+use Rattle.operations.specs.Object.{Obj, meta, node, flag, Val, root, taken, free, with-value}
+use Rattle.operations.specs.Map.{Map, two-to-64}
 use Rattle.operations.specs.Laws.Map.{H-pos}
-use Rattle.operations.specs.Entry.{mk, mn, mx, nxt}
+use Rattle.operations.specs.Entry.{node-value, fewest-entries, most-entries, first-key-or}
 use Rattle.operations.specs.Chain.{one, Chain, tally, gather, ren}
 use Rattle.operations.specs.Laws.Chain.{one-same, one-other, nxt-app, chain-app, chain-left, chain-right, chain-lt, chain-frame, tally-app, gather-app, ren-app}
 use Rattle.operations.specs.Laws.Ensures.{sel-all, sel-other}
@@ -19,7 +19,7 @@ use Rattle.operations.specs.Tree.{room, Slot, word, cnt, pairs, Starts, 
 use Rattle.operations.specs.Laws.Focus.{entry-rise, entry-frame, Path, top, frame, nm, hi, around, left, right, floor, Stored, Focus, nil, Rep, ctx-frame, above-frame, stored-above, mark-le, mark-num, mark-node, mark-free, apart}
 
 -- lists and bounds
-pub nxt-any : {A : Type 0} (es : List (ℕ × A)) (a b : ℕ) → 0 < length es → nxt es a ≡ nxt es b
+pub nxt-any : {A : Type 0} (es : List (ℕ × A)) (a b : ℕ) → 0 < length es → first-key-or es a ≡ first-key-or es b
 nxt-any [] a b h = absurd (omega arith)
 nxt-any (e ∷ es) a b h = refl
 
@@ -31,7 +31,7 @@ pub starts-refl : (l k : ℕ) → Starts l k k
 starts-refl zero k = omega arith
 starts-refl (suc l) k = refl
 
-pub starts-app : {A : Type 0} (l k b y : ℕ) (es : List (ℕ × A)) → Starts l k (nxt es b) → Starts l b y → Starts l k (nxt es y)
+pub starts-app : {A : Type 0} (l k b y : ℕ) (es : List (ℕ × A)) → Starts l k (first-key-or es b) → Starts l b y → Starts l k (first-key-or es y)
 starts-app zero k b y [] h g = omega arith
 starts-app (suc l) k b y [] h g = g ∙ h
 starts-app zero k b y (e ∷ es) h g = h
@@ -53,7 +53,7 @@ module _ (U : Obj → Val) (m : Map) where
 
   -- a node that is the hole or spare is written
   pub set-node : (l : ℕ) (p : Path l) (es : List (ℕ × Slot l)) (sp : ℕ → ℕ) (n : ℕ) (v : Val) → 1 ≤ one (nm l p) n + sp n
-      → Focus U l p es sp m → Focus (wr (node n) v U) l p es sp m
+      → Focus U l p es sp m → Focus (with-value (node n) v U) l p es sp m
   set-node l p es sp n v i f =
       let t = mark-le (U (flag n)) (U (node n)) (around l p n + one (nm l p) n + tally (cnt l) es n + sp n) (f .marks n) in
       let out : around l p n ≡ 0 = omega (arith, t, i) in
@@ -63,10 +63,10 @@ module _ (U : Obj → Val) (m : Map) where
         lev = f .lev;
         top-is = f .top-is;
         inside = f .inside;
-        ctx = ctx-frame N (λ x. wr (node n) v U (node x)) l p g (f .ctx);
-        above = above-frame N (λ x. wr (node n) v U (node x)) l p g (f .above);
-        segs = chain-frame (Entry N l) (Entry (λ x. wr (node n) v U (node x)) l) (cnt l) N (λ x. wr (node n) v U (node x))
-            (λ k b s. entry-frame N (λ x. wr (node n) v U (node x)) l k b s) (hi l p) es (apart U n v (tally (cnt l) es) off) (f .segs);
+        ctx = ctx-frame N (λ x. with-value (node n) v U (node x)) l p g (f .ctx);
+        above = above-frame N (λ x. with-value (node n) v U (node x)) l p g (f .above);
+        segs = chain-frame (Entry N l) (Entry (λ x. with-value (node n) v U (node x)) l) (cnt l) N (λ x. with-value (node n) v U (node x))
+            (λ k b s. entry-frame N (λ x. with-value (node n) v U (node x)) l k b s) (hi l p) es (apart U n v (tally (cnt l) es) off) (f .segs);
         from = f .from;
         rise = f .rise;
         marks = λ x. sel-all n x v (U (node x)) (λ u. Mark (U (flag x)) u (around l p x + one (nm l p) x + tally (cnt l) es x + sp x))
@@ -78,7 +78,7 @@ module _ (U : Obj → Val) (m : Map) where
 
   -- a free slot becomes spare
   pub take-slot : (l : ℕ) (p : Path l) (es : List (ℕ × Slot l)) (sp sq : ℕ → ℕ) (d : ℕ) → U (flag d) ≡ taken false → d < room → ((x : ℕ) → sq x ≡ sp x + one d x)
-      → Focus U l p es sp m → Focus (wr (flag d) (taken true) U) l p es sq m
+      → Focus U l p es sp m → Focus (with-value (flag d) (taken true) U) l p es sq m
   take-slot l p es sp sq d z sm q f = record {
     lev = f .lev;
     top-is = f .top-is;
@@ -106,7 +106,7 @@ module _ (U : Obj → Val) (m : Map) where
 
   -- a spare slot is freed
   pub release : (l : ℕ) (p : Path l) (es : List (ℕ × Slot l)) (sp sq : ℕ → ℕ) (d : ℕ) → ((x : ℕ) → sp x ≡ sq x + one d x)
-      → Focus U l p es sp m → Focus (wr (node d) free (wr (flag d) (taken false) U)) l p es sq m
+      → Focus U l p es sp m → Focus (with-value (node d) free (with-value (flag d) (taken false) U)) l p es sq m
   release l p es sp sq d q f =
       let t = mark-le (U (flag d)) (U (node d)) (around l p d + one (nm l p) d + tally (cnt l) es d + sp d) (f .marks d) in
       let z : around l p d + one (nm l p) d + tally (cnt l) es d + sq d ≡ 0 = omega (arith, t, q d, one-same d) in
@@ -117,10 +117,10 @@ module _ (U : Obj → Val) (m : Map) where
         lev = f .lev;
         top-is = f .top-is;
         inside = λ x h. sel-all d x (taken false) (U (flag x)) (λ g. g ≡ taken false) (λ _. refl) (λ _. f .inside x h);
-        ctx = ctx-frame N (λ x. wr (node d) free U (node x)) l p g (f .ctx);
-        above = above-frame N (λ x. wr (node d) free U (node x)) l p g (f .above);
-        segs = chain-frame (Entry N l) (Entry (λ x. wr (node d) free U (node x)) l) (cnt l) N (λ x. wr (node d) free U (node x))
-            (λ k b s. entry-frame N (λ x. wr (node d) free U (node x)) l k b s) (hi l p) es (apart U d free (tally (cnt l) es) off) (f .segs);
+        ctx = ctx-frame N (λ x. with-value (node d) free U (node x)) l p g (f .ctx);
+        above = above-frame N (λ x. with-value (node d) free U (node x)) l p g (f .above);
+        segs = chain-frame (Entry N l) (Entry (λ x. with-value (node d) free U (node x)) l) (cnt l) N (λ x. with-value (node d) free U (node x))
+            (λ k b s. entry-frame N (λ x. with-value (node d) free U (node x)) l k b s) (hi l p) es (apart U d free (tally (cnt l) es) off) (f .segs);
         from = f .from;
         rise = f .rise;
         marks = λ x. go x (ℕ-discrete x d) z;
@@ -135,12 +135,12 @@ module _ (U : Obj → Val) (m : Map) where
 
   -- up by one level: the hole's entry is replaced by other entries
   pub refocus : (l k c : ℕ) (pre post mid : List (ℕ × Slot (suc l))) (p : Path (suc l)) (es : List (ℕ × Slot l)) (sp sq : ℕ → ℕ)
-      → Chain (Entry N (suc l)) (nxt post (hi (suc l) p)) mid → nxt mid (nxt post (hi (suc l) p)) ≡ k
+      → Chain (Entry N (suc l)) (first-key-or post (hi (suc l) p)) mid → first-key-or mid (first-key-or post (hi (suc l) p)) ≡ k
       → ((x : ℕ) → tally (cnt (suc l)) mid x + sq x ≡ one c x + tally (cnt l) es x + sp x)
       → gather (pairs (suc l)) mid ≡ gather (pairs l) es
       → Focus U l (frame k c pre post p) es sp m → Focus U (suc l) p (pre ++ (mid ++ post)) sq m
   refocus l k c pre post mid p es sp sq cm km q gm f =
-      let kn : nxt (mid ++ post) (hi (suc l) p) ≡ k = nxt-app mid post (hi (suc l) p) ∙ km in
+      let kn : first-key-or (mid ++ post) (hi (suc l) p) ≡ k = nxt-app mid post (hi (suc l) p) ∙ km in
       let P = pairs (suc l) in
       record {
         lev = f .lev;
@@ -151,7 +151,7 @@ module _ (U : Obj → Val) (m : Map) where
         segs = chain-app (Entry N (suc l)) (hi (suc l) p) pre (mid ++ post)
             (subst (λ z. Chain (Entry N (suc l)) z pre) (sym kn) (f .ctx .0))
             (chain-app (Entry N (suc l)) (hi (suc l) p) mid post cm (f .ctx .1));
-        from = nxt-app pre (mid ++ post) (hi (suc l) p) ∙ ap (λ z. nxt pre z) kn ∙ f .ctx .2;
+        from = nxt-app pre (mid ++ post) (hi (suc l) p) ∙ ap (λ z. first-key-or pre z) kn ∙ f .ctx .2;
         rise = f .ctx .3;
         marks = λ x. mark-num (U (flag x)) (U (node x)) (around l (frame k c pre post p) x + one c x + tally (cnt l) es x + sp x)
             (around (suc l) p x + one (nm (suc l) p) x + tally (cnt (suc l)) (pre ++ (mid ++ post)) x + sq x)
@@ -165,7 +165,7 @@ module _ (U : Obj → Val) (m : Map) where
 
   -- the hole's node is stored: one entry
   pub lift : (l k c : ℕ) (pre post : List (ℕ × Slot (suc l))) (p : Path (suc l)) (es : List (ℕ × Slot l)) (sp : ℕ → ℕ)
-      → U (node c) ≡ mk l (ren (word l) es) → mn l ≤ length es → length es ≤ mx l
+      → U (node c) ≡ node-value l (ren (word l) es) → fewest-entries l ≤ length es → length es ≤ most-entries l
       → Focus U l (frame k c pre post p) es sp m → Focus U (suc l) p (pre ++ ((k, (c, es)) ∷ post)) sp m
   lift l k c pre post p es sp a i j f =
       refocus l k c pre post ((k, (c, es)) ∷ []) p es sp sp
@@ -175,24 +175,24 @@ module _ (U : Obj → Val) (m : Map) where
   -- the hole's entries are parted: two entries, of which the second takes a spare node
   pub recut : (l k c d : ℕ) (pre post : List (ℕ × Slot (suc l))) (p : Path (suc l)) (es es1 es2 : List (ℕ × Slot l)) (sp sq : ℕ → ℕ)
       → es ≡ es1 ++ es2 → ((x : ℕ) → sp x ≡ sq x + one d x)
-      → U (node c) ≡ mk l (ren (word l) es1) → U (node d) ≡ mk l (ren (word l) es2)
-      → mn l ≤ length es1 → length es1 ≤ mx l → mn l ≤ length es2 → length es2 ≤ mx l → 1 ≤ mn l
-      → Focus U l (frame k c pre post p) es sp m → Focus U (suc l) p (pre ++ ((k, (c, es1)) ∷ (nxt es2 0, (d, es2)) ∷ post)) sq m
+      → U (node c) ≡ node-value l (ren (word l) es1) → U (node d) ≡ node-value l (ren (word l) es2)
+      → fewest-entries l ≤ length es1 → length es1 ≤ most-entries l → fewest-entries l ≤ length es2 → length es2 ≤ most-entries l → 1 ≤ fewest-entries l
+      → Focus U l (frame k c pre post p) es sp m → Focus U (suc l) p (pre ++ ((k, (c, es1)) ∷ (first-key-or es2 0, (d, es2)) ∷ post)) sq m
   recut l k c d pre post p es es1 es2 sp sq ee q a1 a2 i1 j1 i2 j2 pos f =
-      let b = nxt post (hi (suc l) p) in
-      let n2 : nxt es2 b ≡ nxt es2 0 = nxt-any es2 b 0 (omega arith) in
+      let b = first-key-or post (hi (suc l) p) in
+      let n2 : first-key-or es2 b ≡ first-key-or es2 0 = nxt-any es2 b 0 (omega arith) in
       let s0 : Chain (Entry N l) b (es1 ++ es2) = subst (λ z. Chain (Entry N l) b z) ee (f .segs) in
-      let s1 : Chain (Entry N l) (nxt es2 0) es1 = subst (λ z. Chain (Entry N l) z es1) n2 (chain-left (Entry N l) b es1 es2 s0) in
+      let s1 : Chain (Entry N l) (first-key-or es2 0) es1 = subst (λ z. Chain (Entry N l) z es1) n2 (chain-left (Entry N l) b es1 es2 s0) in
       let s2 : Chain (Entry N l) b es2 = chain-right (Entry N l) b es1 es2 s0 in
-      let branches : Starts l k (nxt es1 (nxt es2 0)) = subst (λ z. Starts l k z) (ap (λ z. nxt z b) ee ∙ nxt-app es1 es2 b ∙ ap (λ z. nxt es1 z) n2) (f .from) in
-      refocus l k c pre post ((k, (c, es1)) ∷ (nxt es2 0, (d, es2)) ∷ []) p es sp sq (
-        record { at = a1; least = i1; most = j1; from = branches; rise = omega (arith, starts-le l k (nxt es1 (nxt es2 0)) branches, chain-lt (Entry N l) (entry-rise N l) (nxt es2 0) es1 s1 (omega arith)); segs = s1 },
+      let branches : Starts l k (first-key-or es1 (first-key-or es2 0)) = subst (λ z. Starts l k z) (ap (λ z. first-key-or z b) ee ∙ nxt-app es1 es2 b ∙ ap (λ z. first-key-or es1 z) n2) (f .from) in
+      refocus l k c pre post ((k, (c, es1)) ∷ (first-key-or es2 0, (d, es2)) ∷ []) p es sp sq (
+        record { at = a1; least = i1; most = j1; from = branches; rise = omega (arith, starts-le l k (first-key-or es1 (first-key-or es2 0)) branches, chain-lt (Entry N l) (entry-rise N l) (first-key-or es2 0) es1 s1 (omega arith)); segs = s1 },
         (
           record {
             at = a2;
             least = i2;
             most = j2;
-            from = subst (λ z. Starts l (nxt es2 0) z) (sym n2) (starts-refl l (nxt es2 0));
+            from = subst (λ z. Starts l (first-key-or es2 0) z) (sym n2) (starts-refl l (first-key-or es2 0));
             rise = subst (λ z. z < b) n2 (chain-lt (Entry N l) (entry-rise N l) b es2 s2 (omega arith));
             segs = s2;
           },
@@ -208,7 +208,7 @@ module _ (U : Obj → Val) (m : Map) where
       → ((x : ℕ) → sq x ≡ sp x + one c2 x)
       → Focus U l (frame k c pre ((k2, (c2, es2)) ∷ post) p) es sp m → Focus U l (frame k c pre post p) (es ++ es2) sq m
   widen-right l k c k2 c2 es2 pre post p es sp sq q f =
-      let b = nxt post (hi (suc l) p) in
+      let b = first-key-or post (hi (suc l) p) in
       let K = f .ctx .1 .0 in
       let P = pairs (suc l) in
       record {
@@ -217,8 +217,8 @@ module _ (U : Obj → Val) (m : Map) where
         inside = f .inside;
         ctx = (f .ctx .0, f .ctx .1 .1, f .ctx .2, f .ctx .3, f .ctx .4);
         above = f .above;
-        segs = chain-app (Entry N l) b es es2 (chain-up N l k2 (nxt es2 b) (K .from) es (f .segs)) (K .segs);
-        from = subst (λ z. Starts l k z) (sym (nxt-app es es2 b)) (starts-app l k k2 (nxt es2 b) es (f .from) (K .from));
+        segs = chain-app (Entry N l) b es es2 (chain-up N l k2 (first-key-or es2 b) (K .from) es (f .segs)) (K .segs);
+        from = subst (λ z. Starts l k z) (sym (nxt-app es es2 b)) (starts-app l k k2 (first-key-or es2 b) es (f .from) (K .from));
         rise = omega (arith, f .rise, K .rise);
         marks = λ x. mark-num (U (flag x)) (U (node x)) (around l (frame k c pre ((k2, (c2, es2)) ∷ post) p) x + one c x + tally (cnt l) es x + sp x)
             (around l (frame k c pre post p) x + one c x + tally (cnt l) (es ++ es2) x + sq x)
@@ -234,7 +234,7 @@ module _ (U : Obj → Val) (m : Map) where
       → ((x : ℕ) → sq x ≡ sp x + one c x)
       → Focus U l (frame k c (pre ++ ((k1, (c1, es1)) ∷ [])) post p) es sp m → Focus U l (frame k1 c1 pre post p) (es1 ++ es) sq m
   widen-left l k c k1 c1 es1 pre post p es sp sq q f =
-      let b = nxt post (hi (suc l) p) in
+      let b = first-key-or post (hi (suc l) p) in
       let P = pairs (suc l) in
       let mid : List (ℕ × Slot (suc l)) = (k1, (c1, es1)) ∷ [] in
       let K : Kid N l (Entry N l) k1 k (c1, es1) = chain-right (Entry N (suc l)) k pre mid (f .ctx .0) .0 in
@@ -244,8 +244,8 @@ module _ (U : Obj → Val) (m : Map) where
         inside = f .inside;
         ctx = (chain-left (Entry N (suc l)) k pre mid (f .ctx .0), f .ctx .1, sym (nxt-app pre mid k) ∙ f .ctx .2, f .ctx .3, f .ctx .4);
         above = f .above;
-        segs = chain-app (Entry N l) b es1 es (chain-up N l k (nxt es b) (f .from) es1 (K .segs)) (f .segs);
-        from = subst (λ z. Starts l k1 z) (sym (nxt-app es1 es b)) (starts-app l k1 k (nxt es b) es1 (K .from) (f .from));
+        segs = chain-app (Entry N l) b es1 es (chain-up N l k (first-key-or es b) (f .from) es1 (K .segs)) (f .segs);
+        from = subst (λ z. Starts l k1 z) (sym (nxt-app es1 es b)) (starts-app l k1 k (first-key-or es b) es1 (K .from) (f .from));
         rise = omega (arith, f .rise, K .rise);
         marks = λ x. mark-num (U (flag x)) (U (node x)) (around l (frame k c (pre ++ mid) post p) x + one c x + tally (cnt l) es x + sp x)
             (around l (frame k1 c1 pre post p) x + one c1 x + tally (cnt l) (es1 ++ es) x + sq x)
@@ -286,7 +286,7 @@ module _ (U : Obj → Val) (m : Map) where
     ctx = tt;
     above = tt;
     segs = f .segs;
-    from = subst (λ z. Starts l z (nxt es H)) (f .ctx .2) (f .from);
+    from = subst (λ z. Starts l z (first-key-or es two-to-64)) (f .ctx .2) (f .from);
     rise = H-pos;
     marks = λ x. mark-num (U (flag x)) (U (node x)) (around l (frame k c [] [] (top r)) x + one c x + tally (cnt l) es x + sp x) (0 + one r x + tally (cnt l) es x + sq x)
         (omega (arith, q x)) (f .marks x);
@@ -312,7 +312,7 @@ module _ (U : Obj → Val) (m : Map) where
   }
 
   pub rename-root : (l r d : ℕ) (es : List (ℕ × Slot l)) (sp sq : ℕ → ℕ) → ((x : ℕ) → sq x + one d x ≡ sp x + one r x)
-      → Focus U l (top r) es sp m → Focus (wr meta (root d) U) l (top d) es sq m
+      → Focus U l (top r) es sp m → Focus (with-value meta (root d) U) l (top d) es sq m
   rename-root l r d es sp sq q f = record {
     lev = f .lev;
     top-is = refl;
@@ -328,7 +328,7 @@ module _ (U : Obj → Val) (m : Map) where
 
   -- down by one level
   pub lower : (l k c : ℕ) (es : List (ℕ × Slot l)) (pre post : List (ℕ × Slot (suc l))) (p : Path (suc l)) (sp : ℕ → ℕ)
-      → Stored N (suc l) p → Focus U (suc l) p (pre ++ ((k, (c, es)) ∷ post)) sp m → Focus U l (frame k c pre post p) es sp m × Kid N l (Entry N l) k (nxt post (hi (suc l) p)) (c, es)
+      → Stored N (suc l) p → Focus U (suc l) p (pre ++ ((k, (c, es)) ∷ post)) sp m → Focus U l (frame k c pre post p) es sp m × Kid N l (Entry N l) k (first-key-or post (hi (suc l) p)) (c, es)
   lower l k c es pre post p sp st f =
       let b = hi (suc l) p in
       let P = pairs (suc l) in
@@ -357,11 +357,11 @@ module _ (U : Obj → Val) (m : Map) where
 
   -- nothing spare, and the hole's node stored: the snapshot holds the tree
   pub close : (l : ℕ) (p : Path l) (es : List (ℕ × Slot l)) → Focus U l p es nil m → Stored N l p
-      → U (node (nm l p)) ≡ mk l (ren (word l) es) → floor l p ≤ length es → length es ≤ mx l → Rep U m
+      → U (node (nm l p)) ≡ node-value l (ren (word l) es) → floor l p ≤ length es → length es ≤ most-entries l → Rep U m
   close l (top r) es f st a i j = record { level = l; name = r; ents = es; tree = f; stored = a; least = i; most = j }
   close l (frame k c pre post p) es f st a i j =
       let mid : List (ℕ × Slot (suc l)) = (k, (c, es)) ∷ post in
       let n = length-append pre mid in
       close (suc l) p (pre ++ mid) (lift l k c pre post p es nil a i j f) (st .3)
-      (st .0 ∙ ap (mk (suc l)) (sym (ren-app (word (suc l)) pre mid)))
+      (st .0 ∙ ap (node-value (suc l)) (sym (ren-app (word (suc l)) pre mid)))
       (omega (arith, st .1, n)) (omega (arith, st .2, n))

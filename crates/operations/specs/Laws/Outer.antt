@@ -11,9 +11,9 @@ use Rattle.base.specs.Laws.Test.{ifd-all}
 use Rattle.operations.specs.Object.{node, Ask, object, Val, root, body, taken, flags, no-tree, Ans, Writes}
 use Rattle.operations.specs.Laws.Object.{inner, inner-node}
 use Rattle.operations.specs.Map.{Op, insert, lookup, delete, next, previous, migrate, compared}
-use Rattle.operations.specs.Entry.{Entries, mn, cut}
+use Rattle.operations.specs.Entry.{Entries, fewest-entries, cut}
 use Rattle.operations.specs.Path.{Plan, open-node, kid, when-root, Branch, Cont, to-leaf, down, at-root, from-root}
-use Rattle.operations.specs.Slot.{Sizes}
+use Rattle.operations.specs.Slot.{TreeSizes}
 use Rattle.operations.specs.Operation.{reading, plan}
 use Rattle.operations.specs.Laws.Along.{Along, Ended, along-exec, along-any, along-checked}
 use Rattle.plans.specs.Plan as P
@@ -41,11 +41,11 @@ module _ (G : Type 0) (A : Ask → Val → Type 0) (out : (n : ℕ) (v : Val) �
 
   kid-outer : (l from n : ℕ) (k : Entries → Plan) → ((es : Entries) → Seen l → Outer (k es)) → Outer (kid [] l from n k)
   kid-outer l from n k h =
-      let size : Entries → Plan = λ es. ifd (decLe (mn l) (length es)) (k es) (P.fail no-tree) in (
+      let size : Entries → Plan = λ es. ifd (decLe (fewest-entries l) (length es)) (k es) (P.fail no-tree) in (
         tt,
         λ v a. open-outer from n v (λ j es. ifd (ℕ-discrete j l) (size es) (P.fail no-tree)) a (λ j es s.
             ifd-all (ℕ-discrete j l) (size es) (P.fail no-tree) Outer
-            (λ q. ifd-all (decLe (mn l) (length es)) (k es) (P.fail no-tree) Outer (λ _. h es (λ z. s (q ∙ z))) (λ _. tt)) (λ _. tt)),
+            (λ q. ifd-all (decLe (fewest-entries l) (length es)) (k es) (P.fail no-tree) Outer (λ _. h es (λ z. s (q ∙ z))) (λ _. tt)) (λ _. tt)),
       )
 
   down-outer : (key : ℕ) (k : Cont) (l : ℕ) (fs : List Branch) (n : ℕ) (es : Entries) → Seen l → Outer (down to-leaf key k l fs n es)
@@ -68,7 +68,7 @@ module _ (G : Type 0) (A : Ask → Val → Type 0) (out : (n : ℕ) (v : Val) �
       go (taken b) = tt
       go (flags fs) = tt
 
-  reading-outer : (sz : Sizes) (op : Op) → compared op ≡ true → Outer (reading sz op)
+  reading-outer : (sz : TreeSizes) (op : Op) → compared op ≡ true → Outer (reading sz op)
   reading-outer sz (insert k v) c = root-outer k _
   reading-outer sz (lookup k) c = root-outer k _
   reading-outer sz (delete k) c = root-outer k _
@@ -76,7 +76,7 @@ module _ (G : Type 0) (A : Ask → Val → Type 0) (out : (n : ℕ) (v : Val) �
   reading-outer sz (previous k) c = root-outer k _
   reading-outer sz (migrate n s) c = absurd (false≢true c)
 
-pub asks-outer : (sz : Sizes) (op : Op) (rd : Ask → Bool) (S : Ask → Val) (a : Ans) (w : Writes) → compared op ≡ true
+pub asks-outer : (sz : TreeSizes) (op : Op) (rd : Ask → Bool) (S : Ask → Val) (a : Ans) (w : Writes) → compared op ≡ true
     → P.Asked (plan sz op) rd S → P.exec (plan sz op) S ≡ P.gives (a, w)
     → (n : ℕ) × (rd (object (node n)) ≡ true) × (inner (node n) (S (object (node n))) ≡ false)
 asks-outer sz op rd S a w c g e =

@@ -13,21 +13,21 @@ use borrow.Author.Tests.{eq-eqb, ne-eqb}
 use lib.ListN.{length, take, drop, getD, getElem?}
 use Rattle.base.specs.Test.{ifd}
 use Rattle.base.specs.Laws.Test.{ifd-yes, ifd-no}
-use Rattle.nodes.specs.Lists.{insert, remove}
-use Rattle.nodes.specs.Place.{place, bit}
-use Rattle.nodes.specs.Find.{find, find-at}
+use Rattle.nodes.specs.Lists.{insert-at, remove-at}
+use Rattle.nodes.specs.Place.{place, one-if}
+use Rattle.nodes.specs.Find.{key-index, find-at}
 use Rattle.nodes.specs.Vector.{or-else}
-use Rattle.operations.specs.Map.{look, put, del, above, below}
-use Rattle.operations.specs.Entry.{Entries, keys, nxt, Cut, cut-at, cut, index, value-at, value-in, with-at, with-pair, next-in, under, before, previous-in}
+use Rattle.operations.specs.Map.{look, set-key, remove-key, above, below}
+use Rattle.operations.specs.Entry.{Entries, keys, first-key-or, Cut, cut-at, cut, index, value-at, value-in, with-at, with-pair, next-in, under, before, previous-in}
 use Rattle.operations.specs.Laws.Chain.{Rising, ren-keys}
 use Rattle.operations.specs.Chain.{ren}
 
 -- COUNTS of keys
-counts : (b : Bool) (n : ℕ) → T b → bit b + n ≡ suc n
+counts : (b : Bool) (n : ℕ) → T b → one-if b + n ≡ suc n
 counts true n t = omega arith
 counts false n t = absurd t
 
-counts-not : (b : Bool) (n : ℕ) → T (not b) → bit b + n ≡ n
+counts-not : (b : Bool) (n : ℕ) → T (not b) → one-if b + n ≡ n
 counts-not true n t = absurd t
 counts-not false n t = omega arith
 
@@ -64,7 +64,7 @@ module _ (key : ℕ) where
   under-length [] = omega arith
   under-length (x ∷ ks) = go (leb (suc x) key) (under-length ks)
     where
-      go : (b : Bool) → under ks key ≤ length ks → bit b + under ks key ≤ suc (length ks)
+      go : (b : Bool) → under ks key ≤ length ks → one-if b + under ks key ≤ suc (length ks)
       go true h = omega (arith, h)
       go false h = omega (arith, h)
 
@@ -94,14 +94,14 @@ module _ {A : Type 0} where
       go (yes p) rec = subst (λ c. c .1 .0 ≤ key) (sym (cut-on key e f es p)) (rec p)
       go (no q) rec = subst (λ c. c .1 .0 ≤ key) (sym (cut-here key (f .0) z e (f ∷ es) (omega (arith, q)) (omega arith, r .1))) h
 
-  pub cut-gt : (key a z b : ℕ) (e : ℕ × A) (es : List (ℕ × A)) → Rising a z (keys es) → key < b → key < nxt (cut key e es .2) b
+  pub cut-gt : (key a z b : ℕ) (e : ℕ × A) (es : List (ℕ × A)) → Rising a z (keys es) → key < b → key < first-key-or (cut key e es .2) b
   unfolding place
   cut-gt key a z b e [] r h = h
   cut-gt key a z b e (f ∷ es) r h = go (decLe (f .0) key) (cut-gt key (suc (f .0)) z b f es (r .1) h)
     where
-      go : Dec (f .0 ≤ key) → key < nxt (cut key f es .2) b → key < nxt (cut key e (f ∷ es) .2) b
-      go (yes p) rec = subst (λ c. key < nxt (c .2) b) (sym (cut-on key e f es p)) rec
-      go (no q) rec = subst (λ c. key < nxt (c .2) b) (sym (cut-here key (f .0) z e (f ∷ es) (omega (arith, q)) (omega arith, r .1))) (omega (arith, q))
+      go : Dec (f .0 ≤ key) → key < first-key-or (cut key f es .2) b → key < first-key-or (cut key e (f ∷ es) .2) b
+      go (yes p) rec = subst (λ c. key < first-key-or (c .2) b) (sym (cut-on key e f es p)) rec
+      go (no q) rec = subst (λ c. key < first-key-or (c .2) b) (sym (cut-here key (f .0) z e (f ∷ es) (omega (arith, q)) (omega arith, r .1))) (omega (arith, q))
 
 module _ {A B : Type 0} (w : A → B) where
   abbrev pub ren-of : Cut A → Cut B
@@ -125,8 +125,8 @@ abbrev index-at : ℕ → List ℕ → ℕ → Option ℕ
 index-at key ks zero = none
 index-at key ks (suc i) = ifd (ℕ-discrete (getD ks i 0) key) (some i) none
 
-find-is : (key : ℕ) (ks : List ℕ) → find ks key ≡ index-at key ks (place ks key)
-unfolding find find-at
+find-is : (key : ℕ) (ks : List ℕ) → key-index ks key ≡ index-at key ks (place ks key)
+unfolding key-index find-at
 find-is key ks = go (place ks key)
   where
     go : (p : ℕ) → find-at ks key p ≡ index-at key ks p
@@ -175,7 +175,7 @@ module _ (key : ℕ) where
       go (no p) (no q) = inr (inr (omega (arith, p, q)))
 
   pub look-is : (a z : ℕ) (es : Entries) → Rising a z (keys es) → value-in key es ≡ look key es
-  unfolding place find find-at
+  unfolding place key-index find-at
   look-is a z [] r = refl
   look-is a z (e ∷ es) r = go (side (e .0)) (look-is (suc (e .0)) z es (r .1))
     where
@@ -191,8 +191,8 @@ module _ (key : ℕ) where
           ∙ sym (ap (value-at es) (index-gt (suc (e .0)) z es (omega (arith, h)) (r .1))) ∙ rec
           ∙ sym (ifd-no (ℕ-discrete (e .0) key) (some (e .1)) (look key es) (λ q. absurd (omega (arith, q, h))))
 
-  pub put-is : (v a z : ℕ) (es : Entries) → Rising a z (keys es) → with-pair key v es ≡ put key v es
-  unfolding place find find-at insert
+  pub put-is : (v a z : ℕ) (es : Entries) → Rising a z (keys es) → with-pair key v es ≡ set-key key v es
+  unfolding place key-index find-at insert-at
   put-is v a z [] r = refl
   put-is v a z (e ∷ es) r = go (side (e .0)) (put-is v (suc (e .0)) z es (r .1))
     where
@@ -200,27 +200,27 @@ module _ (key : ℕ) where
       new = (key, v) ∷ e ∷ es
 
       shift : e .0 < key → (o : Option ℕ) → with-at key v (e ∷ es) (later o) ≡ e ∷ with-at key v es o
-      shift h none = ap (λ p. insert p (key, v) (e ∷ es)) (place-le key (e .0) (keys es) (omega (arith, h)))
+      shift h none = ap (λ p. insert-at p (key, v) (e ∷ es)) (place-le key (e .0) (keys es) (omega (arith, h)))
       shift h (some i) = refl
 
-      go : Side (e .0) → with-pair key v es ≡ put key v es → with-pair key v (e ∷ es) ≡ put key v (e ∷ es)
+      go : Side (e .0) → with-pair key v es ≡ set-key key v es → with-pair key v (e ∷ es) ≡ set-key key v (e ∷ es)
       go (inl h) rec = ap (with-at key v (e ∷ es)) (index-lt e es h) ∙ shift h (index key es) ∙ ap (λ q. e ∷ q) rec
-          ∙ sym (ifd-yes (decLt (e .0) key) (e ∷ put key v es) (ifd (ℕ-discrete (e .0) key) ((key, v) ∷ es) new) h)
+          ∙ sym (ifd-yes (decLt (e .0) key) (e ∷ set-key key v es) (ifd (ℕ-discrete (e .0) key) ((key, v) ∷ es) new) h)
       go (inr (inl h)) rec = ap (with-at key v (e ∷ es)) (index-eq z e es h (r .1))
-          ∙ sym (ifd-no (decLt (e .0) key) (e ∷ put key v es) (ifd (ℕ-discrete (e .0) key) ((key, v) ∷ es) new) (λ q. absurd (omega (arith, q, h)))
+          ∙ sym (ifd-no (decLt (e .0) key) (e ∷ set-key key v es) (ifd (ℕ-discrete (e .0) key) ((key, v) ∷ es) new) (λ q. absurd (omega (arith, q, h)))
           ∙ ifd-yes (ℕ-discrete (e .0) key) ((key, v) ∷ es) new h)
       go (inr (inr h)) rec = ap (with-at key v (e ∷ es)) (index-gt (e .0) z (e ∷ es) h (omega arith, r .1))
-          ∙ ap (λ p. insert p (key, v) (e ∷ es)) (place-none key (e .0) z (keys (e ∷ es)) h (omega arith, r .1))
-          ∙ sym (ifd-no (decLt (e .0) key) (e ∷ put key v es) (ifd (ℕ-discrete (e .0) key) ((key, v) ∷ es) new) (λ q. absurd (omega (arith, q, h)))
+          ∙ ap (λ p. insert-at p (key, v) (e ∷ es)) (place-none key (e .0) z (keys (e ∷ es)) h (omega arith, r .1))
+          ∙ sym (ifd-no (decLt (e .0) key) (e ∷ set-key key v es) (ifd (ℕ-discrete (e .0) key) ((key, v) ∷ es) new) (λ q. absurd (omega (arith, q, h)))
           ∙ ifd-no (ℕ-discrete (e .0) key) ((key, v) ∷ es) new (λ q. absurd (omega (arith, q, h))))
 
   -- the entries without the one at an index, if there is one
   abbrev pub removed : Entries → Option ℕ → Entries
   removed es none = es
-  removed es (some i) = remove i es
+  removed es (some i) = remove-at i es
 
-  pub del-is : (a z : ℕ) (es : Entries) → Rising a z (keys es) → removed es (index key es) ≡ del key es
-  unfolding place find find-at remove
+  pub del-is : (a z : ℕ) (es : Entries) → Rising a z (keys es) → removed es (index key es) ≡ remove-key key es
+  unfolding place key-index find-at remove-at
   del-is a z [] r = refl
   del-is a z (e ∷ es) r = go (side (e .0)) (del-is (suc (e .0)) z es (r .1))
     where
@@ -228,12 +228,12 @@ module _ (key : ℕ) where
       shift none = refl
       shift (some i) = let n : suc i + 1 ≡ suc (i + 1) = omega arith in ap (λ n. take (suc i) (e ∷ es) ++ drop n (e ∷ es)) n
 
-      kept : ¬ (e .0 ≡ key) → e ∷ del key es ≡ del key (e ∷ es)
-      kept q = sym (ifd-no (ℕ-discrete (e .0) key) es (e ∷ del key es) q)
+      kept : ¬ (e .0 ≡ key) → e ∷ remove-key key es ≡ remove-key key (e ∷ es)
+      kept q = sym (ifd-no (ℕ-discrete (e .0) key) es (e ∷ remove-key key es) q)
 
-      go : Side (e .0) → removed es (index key es) ≡ del key es → removed (e ∷ es) (index key (e ∷ es)) ≡ del key (e ∷ es)
+      go : Side (e .0) → removed es (index key es) ≡ remove-key key es → removed (e ∷ es) (index key (e ∷ es)) ≡ remove-key key (e ∷ es)
       go (inl h) rec = ap (removed (e ∷ es)) (index-lt e es h) ∙ shift (index key es) ∙ ap (λ q. e ∷ q) rec ∙ kept (λ q. absurd (omega (arith, q, h)))
-      go (inr (inl h)) rec = ap (removed (e ∷ es)) (index-eq z e es h (r .1)) ∙ sym (ifd-yes (ℕ-discrete (e .0) key) es (e ∷ del key es) h)
+      go (inr (inl h)) rec = ap (removed (e ∷ es)) (index-eq z e es h (r .1)) ∙ sym (ifd-yes (ℕ-discrete (e .0) key) es (e ∷ remove-key key es) h)
       go (inr (inr h)) rec = ap (removed (e ∷ es)) (index-gt (e .0) z (e ∷ es) h (omega arith, r .1))
           ∙ ap (λ q. e ∷ q) (sym (ap (removed es) (index-gt (suc (e .0)) z es (omega (arith, h)) (r .1))) ∙ rec) ∙ kept (λ q. absurd (omega (arith, q, h)))
 

@@ -5,8 +5,8 @@ use mathlib.Core.Option.{Option, none, some}
 use Prim.Native.Nat.{ℕ, zero, suc, _<_}
 use Rattle.nodes.specs.Vector.{or-else}
 use Rattle.operations.specs.Object.{Obj, node, Val, Ans, Writes}
-use Rattle.operations.specs.Map.{Map, look, above, below, said, H}
-use Rattle.operations.specs.Entry.{Entries, keys, nxt, value-in, next-in, previous-in}
+use Rattle.operations.specs.Map.{Map, look, above, below, said, two-to-64}
+use Rattle.operations.specs.Entry.{Entries, keys, first-key-or, value-in, next-in, previous-in}
 use Rattle.operations.specs.Path.{Plan}
 use Rattle.operations.specs.Look.{lookup-plan, told, Visit, rightward, leftward, seek, seek-up, next-plan, previous-plan}
 use Rattle.operations.specs.Laws.Chain.{Rising, chain-rising}
@@ -18,7 +18,7 @@ use Rattle.operations.specs.Laws.Focus.{entry-rise, Path, top, frame, hi
 use Rattle.operations.specs.Laws.Maps.{leaf-pairs, leaf-words, look-mid, above-app, above-none, below-app, below-none, or-assoc}
 use Rattle.operations.specs.Laws.Down.{branches, kid-ok, Site, site-rising, site-left, site-right, site-map, root-ok}
 
-module _ (F : Terms) (M : Obj → Val) (m : Map) (key : ℕ) (small : key < H) (R : Rep M m) where
+module _ (F : Terms) (M : Obj → Val) (m : Map) (key : ℕ) (small : key < two-to-64) (R : Rep M m) where
   abbrev N : ℕ → Val
   N n = M (node n)
 
@@ -27,7 +27,7 @@ module _ (F : Terms) (M : Obj → Val) (m : Map) (key : ℕ) (small : key < H) (
     where
       at : (p : Path zero) (es : Entries) → Site M m key zero p es → Ends M m (said (look key m)) (said (value-in key es)) []
       at p es s = (
-        ap said (look-is key (nxt es (hi zero p)) (hi zero p) es (site-rising M m key zero p es s)
+        ap said (look-is key (first-key-or es (hi zero p)) (hi zero p) es (site-rising M m key zero p es s)
             ∙ sym (look-mid key (left zero p) es (right zero p) (site-left M m key zero p es small s) (site-right M m key zero p es small s))
             ∙ ap (look key) (site-map M m key p es s)),
         R,
@@ -52,7 +52,7 @@ module _ (F : Terms) (M : Obj → Val) (m : Map) (key : ℕ) (small : key < H) (
         → or-else (g (gather (pairs (suc l)) es)) y ≡ T → (y ≡ T → Ok F Q M p) → Ok F Q M (t v (ren (word (suc l)) es) p)
 
     leaf-same : (b : ℕ) (es : Entries) → Chain (Entry N zero) b es → f (ren (word zero) es) ≡ g (gather (pairs zero) es)
-    leaf-same b es c = ap f (leaf-words es) ∙ same (nxt es b) b es (chain-rising (Entry N zero) (entry-rise N zero) b es c) ∙ ap g (sym (leaf-pairs es))
+    leaf-same b es c = ap f (leaf-words es) ∙ same (first-key-or es b) b es (chain-rising (Entry N zero) (entry-rise N zero) b es c) ∙ ap g (sym (leaf-pairs es))
 
     seek-ok : (t : Visit) → Visits t → (l : ℕ) → Each (seek f t l) l
     seek-ok t tr zero k b s y p e h c =
@@ -66,7 +66,7 @@ module _ (F : Terms) (M : Obj → Val) (m : Map) (key : ℕ) (small : key < H) (
     right-visits : Visits (next-in key) (above key) (above-is key) T rightward
     right-visits v l b [] y p e c h k = k h
     right-visits v l b (s ∷ es) y p e c h k =
-        e (s .0) (nxt es b) (s .1) (or-else (above key (gather (pairs (suc l)) es)) y) (rightward v (ren (word (suc l)) es) p) (c .0)
+        e (s .0) (first-key-or es b) (s .1) (or-else (above key (gather (pairs (suc l)) es)) y) (rightward v (ren (word (suc l)) es) p) (c .0)
         (sym (or-assoc (above key (pairs (suc l) (s .0) (s .1))) (above key (gather (pairs (suc l)) es)) y)
         ∙ ap (λ z. or-else z y) (sym (above-app key (pairs (suc l) (s .0) (s .1)) (gather (pairs (suc l)) es))) ∙ h)
         (λ q. right-visits v l b es y p e (c .1) q k)
@@ -77,7 +77,7 @@ module _ (F : Terms) (M : Obj → Val) (m : Map) (key : ℕ) (small : key < H) (
         left-visits v l b es (or-else (below key (pairs (suc l) (s .0) (s .1))) y) (v (s .0) (word (suc l) (s .1)) p) e (c .1)
         (sym (or-assoc (below key (gather (pairs (suc l)) es)) (below key (pairs (suc l) (s .0) (s .1))) y)
         ∙ ap (λ z. or-else z y) (sym (below-app key (pairs (suc l) (s .0) (s .1)) (gather (pairs (suc l)) es))) ∙ h)
-        (λ q. e (s .0) (nxt es b) (s .1) y p (c .0) q k)
+        (λ q. e (s .0) (first-key-or es b) (s .1) y p (c .0) q k)
 
     next-up-ok : (l : ℕ) (p : Path l) → Ctx N l p → above key (right l p) ≡ T → Ok F (Ends M m (said T)) M (seek-up (next-in key) rightward (λ f. f .post) l (branches l p))
     next-up-ok l (top r) c h = (ap said h, R)
@@ -103,7 +103,7 @@ module _ (F : Terms) (M : Obj → Val) (m : Map) (key : ℕ) (small : key < H) (
           → Ok F (Ends M m (said T)) M (told (next-in key es) (seek-up (next-in key) rightward (λ f. f .post) zero (branches zero p)))
       at p es s =
           told-ok (next-in key) (above key) (above-is key) T (next-in key es) (above key (right zero p)) (seek-up (next-in key) rightward (λ f. f .post) zero (branches zero p))
-          (ap (λ z. or-else z (above key (right zero p))) (above-is key (nxt es (hi zero p)) (hi zero p) es (site-rising M m key zero p es s))
+          (ap (λ z. or-else z (above key (right zero p))) (above-is key (first-key-or es (hi zero p)) (hi zero p) es (site-rising M m key zero p es s))
           ∙ sym (above-app key es (right zero p))
           ∙ ap (λ z. or-else z (above key (es ++ right zero p))) (sym (above-none key (left zero p) (site-left M m key zero p es small s)))
           ∙ sym (above-app key (left zero p) (es ++ right zero p)) ∙ ap (above key) (site-map M m key p es s))
@@ -119,7 +119,7 @@ module _ (F : Terms) (M : Obj → Val) (m : Map) (key : ℕ) (small : key < H) (
           → Ok F (Ends M m (said T)) M (told (previous-in key es) (seek-up (previous-in key) leftward (λ f. f .pre) zero (branches zero p)))
       at p es s =
           told-ok (previous-in key) (below key) (below-is key) T (previous-in key es) (below key (left zero p)) (seek-up (previous-in key) leftward (λ f. f .pre) zero (branches zero p))
-          (ap (λ z. or-else z (below key (left zero p))) (below-is key (nxt es (hi zero p)) (hi zero p) es (site-rising M m key zero p es s))
+          (ap (λ z. or-else z (below key (left zero p))) (below-is key (first-key-or es (hi zero p)) (hi zero p) es (site-rising M m key zero p es s))
           ∙ ap (λ z. or-else (or-else z (below key es)) (below key (left zero p))) (sym (below-none key (right zero p) (site-right M m key zero p es small s)))
           ∙ ap (λ z. or-else z (below key (left zero p))) (sym (below-app key es (right zero p)))
           ∙ sym (below-app key (left zero p) (es ++ right zero p)) ∙ ap (below key) (site-map M m key p es s))

@@ -9,9 +9,9 @@ use native.Mathlib.Decide.{ℕ-discrete, decLt}
 use native.Mathlib.Omega.{arith}
 use lib.ListN.{length, take, drop, length-append, take-append-drop}
 use lib.Seq.{length-take-le}
-use Rattle.operations.specs.Object.{Obj, node, flag, Val, taken, free, no-tree, Ans, Writes, wr, over}
+use Rattle.operations.specs.Object.{Obj, node, flag, Val, taken, free, no-tree, Ans, Writes, with-value, over}
 use Rattle.operations.specs.Map.{Map}
-use Rattle.operations.specs.Entry.{mk, mn, mx, nxt}
+use Rattle.operations.specs.Entry.{node-value, fewest-entries, most-entries, first-key-or}
 use Rattle.operations.specs.Slot.{release}
 use Rattle.operations.specs.Change.{Go, parted, merged, with-right, with-left, unsnoc-step, unsnoc, left-of, neighbour}
 use Rattle.operations.specs.Chain.{one, tally, ren}
@@ -27,7 +27,7 @@ use Rattle.plans.specs.Plan as P
 -- how few entries new contents may have: for the root none too few, else one
 abbrev pub Near : (l : ℕ) → Path l → ℕ → Type 0
 Near l (top r) n = bottom l ≤ n
-Near l (frame k c pre post p) n = mn l ≤ suc n
+Near l (frame k c pre post p) n = fewest-entries l ≤ suc n
 
 pub near-of : (l : ℕ) (p : Path l) (n : ℕ) → floor l p ≤ n → Near l p n
 near-of l (top r) n h = h
@@ -36,7 +36,7 @@ near-of l (frame k c pre post p) n h = omega (arith, h)
 pub ne-of : (c d : ℕ) → one c d ≡ 0 → ¬ (d ≡ c)
 ne-of c d z e = absurd (omega (arith, one-same c, subst (λ y. one c y ≡ 0) e z))
 
-pub mn-mx : (l : ℕ) → (1 ≤ mn l) × (mn l ≤ mx l) × (mx l ≤ mn l + mn l) × (mn l + mn l ≤ suc (mx l)) × (suc (mx l) ≤ mn l + mx l)
+pub mn-mx : (l : ℕ) → (1 ≤ fewest-entries l) × (fewest-entries l ≤ most-entries l) × (most-entries l ≤ fewest-entries l + fewest-entries l) × (fewest-entries l + fewest-entries l ≤ suc (most-entries l)) × (suc (most-entries l) ≤ fewest-entries l + most-entries l)
 mn-mx zero = omega arith
 mn-mx (suc l) = omega arith
 
@@ -54,16 +54,16 @@ unsnoc-app [] x = refl
 unsnoc-app (y ∷ i) x = ap (unsnoc-step y) (unsnoc-app i x)
 
 -- the node is written and all is done
-pub write-ok : (M : Obj → Val) (m : Map) (l : ℕ) (p : Path l) (w : Writes) (es : List (ℕ × Slot l)) → Focus (over w M) l p es nil m → Stored (λ n. over w M (node n)) l p → floor l p ≤ length es → length es ≤ mx l
-    → Rep (over ((node (nm l p), mk l (ren (word l) es)) ∷ w) M) m
+pub write-ok : (M : Obj → Val) (m : Map) (l : ℕ) (p : Path l) (w : Writes) (es : List (ℕ × Slot l)) → Focus (over w M) l p es nil m → Stored (λ n. over w M (node n)) l p → floor l p ≤ length es → length es ≤ most-entries l
+    → Rep (over ((node (nm l p), node-value l (ren (word l) es)) ∷ w) M) m
 write-ok M m l p w es f st i j =
     let U = over w M in
     let c = nm l p in
-    let v = mk l (ren (word l) es) in
+    let v = node-value l (ren (word l) es) in
     let t = mark-le (U (flag c)) (U (node c)) (around l p c + one c c + tally (cnt l) es c + 0) (f .marks c) in
     let out : around l p c ≡ 0 = omega (arith, t, one-same c) in
-    close (wr (node c) v U) m l p es (set-node U m l p es nil c v (omega (arith, one-same c)) f)
-    (stored-frame (λ n. over w M (node n)) (λ x. wr (node c) v U (node x)) l p (apart U c v (around l p) out) st) (sel-same c v (U (node c))) i j
+    close (with-value (node c) v U) m l p es (set-node U m l p es nil c v (omega (arith, one-same c)) f)
+    (stored-frame (λ n. over w M (node n)) (λ x. with-value (node c) v U (node x)) l p (apart U c v (around l p) out) st) (sel-same c v (U (node c))) i j
 
 module _ (F : Terms) (M : Obj → Val) (m : Map) (a : Ans) where
   abbrev E : Ans → Writes → Type 0
@@ -74,17 +74,17 @@ module _ (F : Terms) (M : Obj → Val) (m : Map) (a : Ans) where
 
   -- the plan goes on well with new entries at level l
   abbrev pub Next : (l : ℕ) → Path l → Go → Type 0
-  Next l p go = (w : Writes) (es : List (ℕ × Slot l)) → Focus (over w M) l p es nil m → Stored (N w) l p → Near l p (length es) → length es ≤ suc (mx l)
+  Next l p go = (w : Writes) (es : List (ℕ × Slot l)) → Focus (over w M) l p es nil m → Stored (N w) l p → Near l p (length es) → length es ≤ suc (most-entries l)
       → Ok F E M (go w (ren (word l) es))
 
   -- one entry for the hole's node, and on
   pub back-ok : (l k c : ℕ) (pre post : List (ℕ × Slot (suc l))) (p : Path (suc l)) (w : Writes) (es : List (ℕ × Slot l)) (go : Go)
-      → mn l ≤ length es → length es ≤ mx l → Near (suc l) p (length pre + suc (length post)) → length pre + suc (length post) ≤ mx (suc l) → Next (suc l) p go
+      → fewest-entries l ≤ length es → length es ≤ most-entries l → Near (suc l) p (length pre + suc (length post)) → length pre + suc (length post) ≤ most-entries (suc l) → Next (suc l) p go
       → Focus (over w M) l (frame k c pre post p) es nil m
-      → Ok F E M (go ((node c, mk l (ren (word l) es)) ∷ w) (ren (word (suc l)) pre ++ ((k, c) ∷ ren (word (suc l)) post)))
+      → Ok F E M (go ((node c, node-value l (ren (word l) es)) ∷ w) (ren (word (suc l)) pre ++ ((k, c) ∷ ren (word (suc l)) post)))
   back-ok l k c pre post p w es go i j n s next f =
       let U = over w M in
-      let v = mk l (ren (word l) es) in
+      let v = node-value l (ren (word l) es) in
       let w′ : Writes = (node c, v) ∷ w in
       let mid : List (ℕ × Slot (suc l)) = (k, (c, es)) ∷ post in
       let g = set-node U m l (frame k c pre post p) es nil c v (omega (arith, one-same c)) f in
@@ -95,18 +95,18 @@ module _ (F : Terms) (M : Obj → Val) (m : Map) (a : Ans) where
 
   -- two entries for the hole's, and on
   pub parted-ok : (l k c d : ℕ) (pre post : List (ℕ × Slot (suc l))) (p : Path (suc l)) (w : Writes) (es L R : List (ℕ × Slot l)) (go : Go) → es ≡ L ++ R
-      → mn l ≤ length L → length L ≤ mx l → mn l ≤ length R → length R ≤ mx l
-      → Near (suc l) p (length pre + suc (suc (length post))) → length pre + suc (suc (length post)) ≤ suc (mx (suc l)) → Next (suc l) p go
+      → fewest-entries l ≤ length L → length L ≤ most-entries l → fewest-entries l ≤ length R → length R ≤ most-entries l
+      → Near (suc l) p (length pre + suc (suc (length post))) → length pre + suc (suc (length post)) ≤ suc (most-entries (suc l)) → Next (suc l) p go
       → Focus (over w M) l (frame k c pre post p) es (one d) m
       → Ok F E M (parted go l w (branch l k pre post p) c (ren (word l) L) d (ren (word l) R))
   parted-ok l k c d pre post p w es L R go e i1 j1 i2 j2 n s next f =
       let U = over w M in
       let P = frame k c pre post p in
-      let v1 = mk l (ren (word l) L) in
-      let v2 = mk l (ren (word l) R) in
-      let U1 = wr (node c) v1 U in
+      let v1 = node-value l (ren (word l) L) in
+      let v2 = node-value l (ren (word l) R) in
+      let U1 = with-value (node c) v1 U in
       let w′ : Writes = (node d, v2) ∷ (node c, v1) ∷ w in
-      let mid : List (ℕ × Slot (suc l)) = (k, (c, L)) ∷ (nxt R 0, (d, R)) ∷ post in
+      let mid : List (ℕ × Slot (suc l)) = (k, (c, L)) ∷ (first-key-or R 0, (d, R)) ∷ post in
       let f1 = set-node U m l P es (one d) c v1 (omega (arith, one-same c)) f in
       let f2 = set-node U1 m l P es (one d) d v2 (omega (arith, one-same d)) f1 in
       let t = mark-le (U (flag c)) (U (node c)) (around l P c + one c c + tally (cnt l) es c + one d c) (f .marks c) in
@@ -119,18 +119,18 @@ module _ (F : Terms) (M : Obj → Val) (m : Map) (a : Ans) where
       (next w′ (pre ++ mid) f3 (f2 .above) (subst (λ q. Near (suc l) p q) (sym y) n) (omega (arith, s, y)))
 
   -- a root with one child takes over its contents
-  collapse-ok : (l k c r : ℕ) (pre post : List (ℕ × Slot (suc l))) (w : Writes) (es : List (ℕ × Slot l)) → mn l ≤ length es → length es ≤ mx l → length pre + length post ≡ 0
-      → Focus (over w M) l (frame k c pre post (top r)) es nil m → Ok F E M (release w c (λ w′. P.done (a, (node r, mk l (ren (word l) es)) ∷ w′)))
+  collapse-ok : (l k c r : ℕ) (pre post : List (ℕ × Slot (suc l))) (w : Writes) (es : List (ℕ × Slot l)) → fewest-entries l ≤ length es → length es ≤ most-entries l → length pre + length post ≡ 0
+      → Focus (over w M) l (frame k c pre post (top r)) es nil m → Ok F E M (release w c (λ w′. P.done (a, (node r, node-value l (ren (word l) es)) ∷ w′)))
   collapse-ok l k c r (e ∷ pre) post w es i j z f = absurd (omega (arith, z))
   collapse-ok l k c r [] (e ∷ post) w es i j z f = absurd (omega (arith, z))
   collapse-ok l k c r [] [] w es i j z f =
       let U = over w M in
       let g = slot-freed U m l (top r) es (one c) nil c (λ x. omega arith) (shrink U m l r k c es nil (one c) (λ x. omega arith) f) in
-      release-ok F E M w c (λ w′. P.done (a, (node r, mk l (ren (word l) es)) ∷ w′))
+      release-ok F E M w c (λ w′. P.done (a, (node r, node-value l (ren (word l) es)) ∷ w′))
       (refl, write-ok M m l (top r) ((node c, free) ∷ (flag c, taken false) ∷ w) es g tt (omega (arith, bottom-mn l, i)) j)
 
   merged-ok : (l k c : ℕ) (pre post : List (ℕ × Slot (suc l))) (p : Path (suc l)) (w : Writes) (es : List (ℕ × Slot l)) (go : Go)
-      → mn l ≤ length es → length es ≤ mx l → floor (suc l) p ≤ suc (suc (length pre + length post)) → suc (length pre + length post) ≤ mx (suc l) → Next (suc l) p go
+      → fewest-entries l ≤ length es → length es ≤ most-entries l → floor (suc l) p ≤ suc (suc (length pre + length post)) → suc (length pre + length post) ≤ most-entries (suc l) → Next (suc l) p go
       → Focus (over w M) l (frame k c pre post p) es nil m
       → Ok F E M (merged a l (branches (suc l) p) go w (branch l k pre post p) c (ren (word l) es))
   merged-ok l k c pre post (frame k′ c′ pre′ post′ p) w es go i j n s next f =
@@ -144,7 +144,7 @@ module _ (F : Terms) (M : Obj → Val) (m : Map) (a : Ans) where
 
   -- too few entries: the right neighbour
   right-ok : (l k c k2 c2 : ℕ) (es2 : List (ℕ × Slot l)) (pre post : List (ℕ × Slot (suc l))) (p : Path (suc l)) (w : Writes) (es : List (ℕ × Slot l)) (go : Go)
-      → suc (length es) ≡ mn l → floor (suc l) p ≤ suc (suc (length pre + length post)) → suc (suc (length pre + length post)) ≤ mx (suc l) → Next (suc l) p go
+      → suc (length es) ≡ fewest-entries l → floor (suc l) p ≤ suc (suc (length pre + length post)) → suc (suc (length pre + length post)) ≤ most-entries (suc l) → Next (suc l) p go
       → Focus (over w M) l (frame k c pre ((k2, (c2, es2)) ∷ post) p) es nil m
       → Ok F E M (with-right a l (branches (suc l) p) go w (branch l k pre post p) c (ren (word l) es) k2 c2)
   right-ok l k c k2 c2 es2 pre post p w es go n fl s next f =
@@ -153,7 +153,7 @@ module _ (F : Terms) (M : Obj → Val) (m : Map) (a : Ans) where
       let W′ = word (suc l) in
       let r = nm (suc l) p in
       let K = f .ctx .1 .0 in
-      let b = nxt post (hi (suc l) p) in
+      let b = first-key-or post (hi (suc l) p) in
       let t = mark-le (U (flag c)) (U (node c)) (around l (frame k c pre ((k2, (c2, es2)) ∷ post) p) c + one c c + tally (cnt l) es c + 0) (f .marks c) in
       let g = widen-right U m l k c k2 c2 es2 pre post p es nil (one c2) (λ x. omega arith) f in
       let x = mn-mx l in
@@ -161,7 +161,7 @@ module _ (F : Terms) (M : Obj → Val) (m : Map) (a : Ans) where
       if-ok F E M (ℕ-discrete c2 c) (P.fail no-tree) _
       (λ q. absurd (omega (arith, t, one-same c, subst (λ d. one d c ≡ 1) (sym q) (one-same c))))
       (λ _. kid-ok F E M w l k2 b c2 es2 _ (K .at) (K .from) (K .least)
-      (if-ok F E M (decLt (mn l) (length (ren W es2))) _ _
+      (if-ok F E M (decLt (fewest-entries l) (length (ren W es2))) _ _
       (λ q.
       let tk = length-take-le 1 es2 (omega (arith, q, y)) in
       let td = length-append (take 1 es2) (drop 1 es2) in
@@ -184,7 +184,7 @@ module _ (F : Terms) (M : Obj → Val) (m : Map) (a : Ans) where
 
   -- too few entries in the last child: the left neighbour
   left-ok : (l k c k1 c1 : ℕ) (es1 : List (ℕ × Slot l)) (pre : List (ℕ × Slot (suc l))) (p : Path (suc l)) (w : Writes) (es : List (ℕ × Slot l)) (go : Go)
-      → suc (length es) ≡ mn l → floor (suc l) p ≤ suc (suc (length pre)) → suc (suc (length pre)) ≤ mx (suc l) → Next (suc l) p go
+      → suc (length es) ≡ fewest-entries l → floor (suc l) p ≤ suc (suc (length pre)) → suc (suc (length pre)) ≤ most-entries (suc l) → Next (suc l) p go
       → Focus (over w M) l (frame k c (pre ++ ((k1, (c1, es1)) ∷ [])) [] p) es nil m
       → Ok F E M (with-left a l (branches (suc l) p) go w (branch l k1 pre [] p) c (ren (word l) es) c1)
   left-ok l k c k1 c1 es1 pre p w es go n fl s next f =
@@ -202,7 +202,7 @@ module _ (F : Terms) (M : Obj → Val) (m : Map) (a : Ans) where
       if-ok F E M (ℕ-discrete c1 c) (P.fail no-tree) _
       (λ q. absurd (omega (arith, t, one-same c, tally-app (cnt (suc l)) pre mid c, subst (λ d. one d c ≡ 1) (sym q) (one-same c))))
       (λ _. kid-ok F E M w l k1 k c1 es1 _ (K .at) (K .from) (K .least)
-      (if-ok F E M (decLt (mn l) (length (ren W es1))) _ _
+      (if-ok F E M (decLt (fewest-entries l) (length (ren W es1))) _ _
       (λ q.
       let tk = length-take-le j es1 (omega (arith, q, y)) in
       let td = length-append (take j es1) (drop j es1) in
@@ -224,7 +224,7 @@ module _ (F : Terms) (M : Obj → Val) (m : Map) (a : Ans) where
       (slot-freed U m l (frame k1 c1 pre [] p) (es1 ++ es) (one c) nil c (λ x. omega arith) g))))))
 
   pub neighbour-ok : (l k c : ℕ) (pre post : List (ℕ × Slot (suc l))) (p : Path (suc l)) (w : Writes) (es : List (ℕ × Slot l)) (go : Go)
-      → suc (length es) ≡ mn l → floor (suc l) p ≤ suc (length pre + length post) → suc (length pre + length post) ≤ mx (suc l) → Next (suc l) p go
+      → suc (length es) ≡ fewest-entries l → floor (suc l) p ≤ suc (length pre + length post) → suc (length pre + length post) ≤ most-entries (suc l) → Next (suc l) p go
       → Focus (over w M) l (frame k c pre post p) es nil m
       → Ok F E M (neighbour a l (branches (suc l) p) go w (branch l k pre post p) c (ren (word l) es) (ren (word (suc l)) post))
   neighbour-ok l k c pre (e ∷ post) p w es go n fl s next f =

@@ -7,9 +7,9 @@ use Rattle.operations.specs.Object.{Obj, node, Ask, object, vector, fetc
 use Rattle.operations.specs.Laws.Object.{inner, written}
 use Rattle.operations.specs.Map.{Map, Op, insert, lookup, delete, next, previous, migrate, answer, compared, map-after}
 use Rattle.operations.specs.Path.{Plan}
-use Rattle.operations.specs.Slot.{Sizes, Allowed}
+use Rattle.operations.specs.Slot.{TreeSizes, Allowed}
 use Rattle.operations.specs.Operation.{plan, Legal}
-use Rattle.operations.specs.Tree.{Holds}
+use Rattle.operations.specs.Tree.{Holds-tree}
 use Rattle.operations.specs.Laws.Sound.{sound, no-reason-3}
 use Rattle.operations.specs.Laws.Asked.{written-asked}
 use Rattle.operations.specs.Laws.Outer.{asks-outer}
@@ -22,7 +22,7 @@ pub record Hint : Type 0 where
   pub fetched-one : ℕ → Val
 
 -- an operation as a transaction has it: given by a step that was not refused, and with its hint
-pub record Given (sz : Sizes) : Type 0 where
+pub record Given (sz : TreeSizes) : Type 0 where
   pub op : Op
   pub legal : Legal sz op
   pub hint : Hint
@@ -32,7 +32,7 @@ hint-of h (object o) = inr o
 hint-of h (vector s) = inl (h .copied s)
 hint-of h (fetched s) = inl (h .fetched-one s)
 
-abbrev pub plan-with : Sizes → Hint → Op → P.Plan Obj Val (Ans × Writes) Why
+abbrev pub plan-with : TreeSizes → Hint → Op → P.Plan Obj Val (Ans × Writes) Why
 plan-with sz h op = P-laws.hinted (hint-of h) (plan sz op)
 
 -- asked for, where every vector counts as asked for
@@ -49,16 +49,16 @@ asked-with h rd M (P.ask (fetched s) k) g = (refl, asked-with h rd M (k (h .fetc
 asked-with h rd M (P.done r) g = tt
 asked-with h rd M (P.fail y) g = tt
 
-module _ (sz : Sizes) (h : Hint) (op : Op) (M : Obj → Val) where
+module _ (sz : TreeSizes) (h : Hint) (op : Op) (M : Obj → Val) where
   abbrev p : P.Plan Obj Val (Ans × Writes) Why
   p = plan-with sz h op
 
-  pub sound-with : Allowed sz → Legal sz op → (m : Map) (a : Ans) (w : Writes) → Holds M m → P.exec p M ≡ P.gives (a, w)
-      → (compared op ≡ true → a ≡ answer op m) × Holds (over w M) (map-after op m)
+  pub sound-with : Allowed sz → Legal sz op → (m : Map) (a : Ans) (w : Writes) → Holds-tree M m → P.exec p M ≡ P.gives (a, w)
+      → (compared op ≡ true → a ≡ answer op m) × Holds-tree (over w M) (map-after op m)
   unfolding P-laws.with-hint
   sound-with al i m a w t e = sound sz al op i (P-laws.with-hint (hint-of h) M) m a w t (sym (P-laws.exec-hinted (hint-of h) (plan sz op) M) ∙ e)
 
-  pub no-reason-3-with : Allowed sz → Legal sz op → (m : Map) → Holds M m → P.exec p M ≡ P.fails no-tree → ⊥
+  pub no-reason-3-with : Allowed sz → Legal sz op → (m : Map) → Holds-tree M m → P.exec p M ≡ P.fails no-tree → ⊥
   unfolding P-laws.with-hint
   no-reason-3-with al i m t e = no-reason-3 sz al op i (P-laws.with-hint (hint-of h) M) m t (sym (P-laws.exec-hinted (hint-of h) (plan sz op) M) ∙ e)
 

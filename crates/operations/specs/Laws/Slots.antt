@@ -15,10 +15,10 @@ use Rattle.base.specs.Laws.Test.{ifd-all}
 use Rattle.plans.specs.Walk.{Every}
 use Rattle.nodes.specs.Name.{name, server-of, slot-of}
 use Rattle.nodes.specs.Placement.{row}
-use Rattle.nodes.specs.Vector.{shifted, lowest, or-else, first-free}
-use Rattle.operations.specs.Object.{Obj, meta, node, flag, Val, taken, free, is-taken, flags-of, not-free, no-slot, Ans, Writes, wr, over}
+use Rattle.nodes.specs.Vector.{shifted, lowest-free, or-else, first-free}
+use Rattle.operations.specs.Object.{Obj, meta, node, flag, Val, taken, free, is-taken, flags-of, not-free, no-slot, Ans, Writes, with-value, over}
 use Rattle.operations.specs.Path.{Plan}
-use Rattle.operations.specs.Slot.{Sizes, Allowed, count-one, counted, free-slot, chosen, search, present, when-free-flag, take-flag, take-on, take-for, when-free-node, take-node, release}
+use Rattle.operations.specs.Slot.{TreeSizes, Allowed, count-one, counted, free-slot, chosen, search, present, when-free-flag, take-flag, take-on, take-for, when-free-node, take-node, release}
 use Rattle.operations.specs.Laws.Ensures.{Terms, Ok, see-ok}
 use Rattle.operations.specs.Tree.{room, Mark}
 use Rattle.operations.specs.Laws.Tree.{room-is}
@@ -45,18 +45,18 @@ each-else P (some x) y h g = h
 abbrev pub Open : List Bool → ℕ → Type 0
 Open fs i = (i < length fs) × (getD fs i true ≡ false)
 
-open-lowest : (fs : List Bool) → Each (Open fs) (lowest fs)
+open-lowest : (fs : List Bool) → Each (Open fs) (lowest-free fs)
 open-lowest [] = tt
 open-lowest (false ∷ fs) = (omega arith, refl)
 open-lowest (true ∷ fs) = each-shifted (Open fs) (Open (true ∷ fs)) 1
-    (λ i h. let e : 1 + i ≡ suc i = omega arith in (omega (arith, h .0), ap (λ n. getD (true ∷ fs) n true) e ∙ h .1)) (lowest fs) (open-lowest fs)
+    (λ i h. let e : 1 + i ≡ suc i = omega arith in (omega (arith, h .0), ap (λ n. getD (true ∷ fs) n true) e ∙ h .1)) (lowest-free fs) (open-lowest fs)
 
 open-first : (slot : ℕ) (fs : List Bool) → Each (Open fs) (first-free slot fs)
 unfolding first-free
 open-first slot fs =
-    each-else (Open fs) (shifted (suc slot) (lowest (drop (suc slot) fs))) (lowest fs)
+    each-else (Open fs) (shifted (suc slot) (lowest-free (drop (suc slot) fs))) (lowest-free fs)
     (each-shifted (Open (drop (suc slot) fs)) (Open fs) (suc slot)
-    (λ i h. (omega (arith, h .0, length-drop (suc slot) fs), sym (getD-drop (suc slot) fs i true) ∙ h .1)) (lowest (drop (suc slot) fs)) (open-lowest (drop (suc slot) fs)))
+    (λ i h. (omega (arith, h .0, length-drop (suc slot) fs), sym (getD-drop (suc slot) fs i true) ∙ h .1)) (lowest-free (drop (suc slot) fs)) (open-lowest (drop (suc slot) fs)))
     (open-lowest fs)
 
 take-short : {A : Type 0} (n : ℕ) (l : List A) → length (take n l) ≤ n
@@ -69,7 +69,7 @@ take-longer zero l = omega arith
 take-longer (suc n) [] = omega arith
 take-longer (suc n) (x ∷ l) = omega (arith, take-longer n l)
 
-pub open-slot : (sz : Sizes) (w : Writes) (slot s : ℕ) (v : Val) → Each (λ i. (i < sz .slots) × Open (counted w s (flags-of v)) i) (free-slot sz w slot s v)
+pub open-slot : (sz : TreeSizes) (w : Writes) (slot s : ℕ) (v : Val) → Each (λ i. (i < sz .slots) × Open (counted w s (flags-of v)) i) (free-slot sz w slot s v)
 open-slot sz w slot s v =
     let n = sz .slots in
     let fs = counted w s (flags-of v) in
@@ -109,7 +109,7 @@ counted-true M (e ∷ w) s fs h = go (e .0) (counted-true M w s fs h)
     by n i small t (no p) (yes q) j = absurd (p (omega (arith, q, small)))
     by n i small t (no p) (no q) j = t i small j
 
-    go : (o : Obj) → True-of (over w M) s (counted w s fs) → True-of (wr o (e .1) (over w M)) s (count-one o (e .1) s (counted w s fs))
+    go : (o : Obj) → True-of (over w M) s (counted w s fs) → True-of (with-value o (e .1) (over w M)) s (count-one o (e .1) s (counted w s fs))
     go meta t = t
     go (node n) t = t
     go (flag n) t = λ i small. by n i small t (ℕ-discrete (server-of n) s) (ℕ-discrete (name s i) n)
@@ -128,12 +128,12 @@ module _ (F : Terms) (Q : Ans → Writes → Type 0) (M : Obj → Val) where
   release-ok w n k h = see-ok F Q M w (flag n) (λ _. k ((node n, free) ∷ (flag n, taken false) ∷ w)) h
 
 -- THE SUPPLY OF SLOTS: a slot that is chosen is free, or to fail for it is allowed; to find none is allowed
-pub record Supply (F : Terms) (M : Obj → Val) (sz : Sizes) : Type 0 where
+pub record Supply (F : Terms) (M : Obj → Val) (sz : TreeSizes) : Type 0 where
   pub chosen-free : (w : Writes) (s i : ℕ) (v : Val) → F .shows s v → i < 1024 → Open (counted w s (flags-of v)) i
       → F .fails not-free ⊎ (is-taken (over w M (flag (name s i))) ≡ false)
   pub none-left : F .fails no-slot
 
-module _ (F : Terms) (Q : Ans → Writes → Type 0) (M : Obj → Val) (sz : Sizes) (al : Allowed sz) (supply : Supply F M sz) where
+module _ (F : Terms) (Q : Ans → Writes → Type 0) (M : Obj → Val) (sz : TreeSizes) (al : Allowed sz) (supply : Supply F M sz) where
   abbrev Free-or : Writes → ℕ → Type 0
   Free-or w d = F .fails not-free ⊎ (is-taken (over w M (flag d)) ≡ false)
 

@@ -8,14 +8,14 @@ use native.Mathlib.Omega.{arith}
 use Rattle.plans.specs.Plan.{gives, fails, exec}
 use Rattle.operations.specs.Object.{Obj, meta, node, flag, Ask, Val, flags-of, root, taken, free, Why, not-free, no-tree, no-slot, Ans, Writes, over}
 use Rattle.operations.specs.Map.{Map, Op, insert, lookup, delete, next, previous, migrate, answer, compared, map-after}
-use Rattle.operations.specs.Entry.{mk}
-use Rattle.operations.specs.Slot.{Sizes, Allowed}
+use Rattle.operations.specs.Entry.{node-value}
+use Rattle.operations.specs.Slot.{TreeSizes, Allowed}
 use Rattle.operations.specs.Operation.{reading, plan, Legal}
 use Rattle.operations.specs.Chain.{one}
 use Rattle.operations.specs.Laws.Chain.{one-same, one-other}
 use Rattle.operations.specs.Laws.Ensures.{Terms, Ok, Says, Shown, ok-says, ok-mono}
 use Rattle.operations.specs.Ensures.{objects}
-use Rattle.operations.specs.Tree.{room, Mark, Holds}
+use Rattle.operations.specs.Tree.{room, Mark, Holds-tree}
 use Rattle.operations.specs.Laws.Tree.{room-is}
 use Rattle.operations.specs.Laws.Focus.{Rep, rep-of, holds-of}
 use Rattle.operations.specs.Slots.{True-of}
@@ -26,7 +26,7 @@ use Rattle.operations.specs.Laws.Moved.{migrate-ok}
 use Rattle.operations.specs.Laws.Checked.{checked-ok, all-fit-rep}
 use Rattle.operations.specs.Sound.{Current}
 
-module _ (sz : Sizes) (al : Allowed sz) where
+module _ (sz : TreeSizes) (al : Allowed sz) where
   -- what an answer with its writes has to be
   abbrev Right : Op → (Obj → Val) → Map → Ans → Writes → Type 0
   Right op M m a w = (compared op ≡ true → a ≡ answer op m) × Rep (over w M) (map-after op m)
@@ -45,7 +45,7 @@ module _ (sz : Sizes) (al : Allowed sz) where
     plan-ok op i = checked-ok F (Right op M m) M (λ a w q. all-fit-rep M (map-after op m) w (q .1)) (reading sz op) (reading-ok op i)
 
   -- the outcome over a whole snapshot
-  outcome : (F : Terms) (op : Op) → Legal sz op → (S : Ask → Val) (m : Map) → Supply F (objects S) sz → Shown F S → Holds (objects S) m
+  outcome : (F : Terms) (op : Op) → Legal sz op → (S : Ask → Val) (m : Map) → Supply F (objects S) sz → Shown F S → Holds-tree (objects S) m
       → Says F (Right op (objects S) m) (exec (plan sz op) S)
   outcome F op i S m supply t h =
       let M = objects S in
@@ -60,16 +60,16 @@ module _ (sz : Sizes) (al : Allowed sz) where
   abbrev any : Terms
   any = record { fails = no-3; shows = λ s v. Unit {0} }
 
-  any-outcome : (op : Op) → Legal sz op → (S : Ask → Val) (m : Map) → Holds (objects S) m → Says any (Right op (objects S) m) (exec (plan sz op) S)
+  any-outcome : (op : Op) → Legal sz op → (S : Ask → Val) (m : Map) → Holds-tree (objects S) m → Says any (Right op (objects S) m) (exec (plan sz op) S)
   any-outcome op i S m h = outcome any op i S m (record { chosen-free = λ w s i v t j o. inl tt; none-left = tt }) (λ s. (tt, tt)) h
 
-  pub sound : (op : Op) → Legal sz op → (S : Ask → Val) (m : Map) (a : Ans) (w : Writes) → Holds (objects S) m → exec (plan sz op) S ≡ gives (a, w)
-      → (compared op ≡ true → a ≡ answer op m) × Holds (over w (objects S)) (map-after op m)
+  pub sound : (op : Op) → Legal sz op → (S : Ask → Val) (m : Map) (a : Ans) (w : Writes) → Holds-tree (objects S) m → exec (plan sz op) S ≡ gives (a, w)
+      → (compared op ≡ true → a ≡ answer op m) × Holds-tree (over w (objects S)) (map-after op m)
   sound op i S m a w h e =
       let r : Right op (objects S) m a w = subst (Says any (Right op (objects S) m)) e (any-outcome op i S m h) in
       (r .0, holds-of (over w (objects S)) (map-after op m) (r .1))
 
-  pub no-reason-3 : (op : Op) → Legal sz op → (S : Ask → Val) (m : Map) → Holds (objects S) m → exec (plan sz op) S ≡ fails no-tree → ⊥
+  pub no-reason-3 : (op : Op) → Legal sz op → (S : Ask → Val) (m : Map) → Holds-tree (objects S) m → exec (plan sz op) S ≡ fails no-tree → ⊥
   no-reason-3 op i S m h e = subst (Says any (Right op (objects S) m)) e (any-outcome op i S m h)
 
   abbrev only-5 : Why → Type 0
@@ -78,7 +78,7 @@ module _ (sz : Sizes) (al : Allowed sz) where
   only-5 no-slot = Unit {0}
 
   -- so an operation on a tree, with vectors that show its flags, answers or finds no slot
-  pub only-reason-5 : (op : Op) → Legal sz op → (S : Ask → Val) (m : Map) → Holds (objects S) m → Current sz al S → (y : Why) → exec (plan sz op) S ≡ fails y → y ≡ no-slot
+  pub only-reason-5 : (op : Op) → Legal sz op → (S : Ask → Val) (m : Map) → Holds-tree (objects S) m → Current sz al S → (y : Why) → exec (plan sz op) S ≡ fails y → y ≡ no-slot
   only-reason-5 op i S m h t y e =
       let M = objects S in
       let F : Terms = record { fails = only-5; shows = λ s v. True-of M s (flags-of v) } in
@@ -93,12 +93,12 @@ module _ (sz : Sizes) (al : Allowed sz) where
 -- "A new store has the root, an empty leaf, in node 0": it holds the empty map
 abbrev pub new-store : Obj → Val
 new-store meta = root 0
-new-store (node zero) = mk 0 []
+new-store (node zero) = node-value 0 []
 new-store (node (suc n)) = free
 new-store (flag zero) = taken true
 new-store (flag (suc n)) = taken false
 
-pub new-holds : Holds new-store []
+pub new-holds : Holds-tree new-store []
 unfolding room
 new-holds = record {
   level = 0;

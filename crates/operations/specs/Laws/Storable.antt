@@ -16,9 +16,9 @@ use Rattle.nodes.specs.Node.{extra}
 use Rattle.nodes.specs.Name.{name}
 use Rattle.nodes.specs.Place.{place}
 use Rattle.operations.specs.Object.{Obj, meta, node, flag, Ask, object, vector, fetched, Val, root, body, taken, flags, free, flags-of, Why, no-tree, Ans, Writes, hit}
-use Rattle.operations.specs.Entry.{Entries, keys, vals, zip, mk, mn, mx, cut-at, cut}
+use Rattle.operations.specs.Entry.{Entries, keys, vals, zip, node-value, fewest-entries, most-entries, cut-at, cut}
 use Rattle.operations.specs.Path.{Plan, see, when-root, open-node, kid, Branch, Cont, to-leaf, down, at-root, from-root}
-use Rattle.operations.specs.Slot.{Sizes, counted, free-slot, chosen, search, when-free-flag, take-flag, take-on, when-free-node, take-node, release}
+use Rattle.operations.specs.Slot.{TreeSizes, counted, free-slot, chosen, search, when-free-flag, take-flag, take-on, when-free-node, take-node, release}
 use Rattle.operations.specs.Laws.Arrays.{entries-length}
 use Rattle.operations.specs.Laws.Slots.{Each, Open, open-slot}
 use Rattle.operations.specs.Laws.Along.{Along, Ended}
@@ -67,7 +67,7 @@ module _ (N : ℕ → Type 0) where
   All-storable (e ∷ w) = Named (e .0) × Storable (e .0) (e .1) × All-storable w
 
   -- a question about something of the store
-  abbrev pub Inside : Sizes → Ask → Type 0
+  abbrev pub Inside : TreeSizes → Ask → Type 0
   Inside sz (object o) = Named o
   Inside sz (vector s) = s < sz .servers
   Inside sz (fetched s) = s < sz .servers
@@ -110,7 +110,7 @@ every-vals P (e ∷ es) h = (h .0, every-vals P es (h .1))
 -- ---- what is supposed of a plan
 pub record Scope : Type 1 where
   -- the sizes and the names of the store; every slot has one
-  pub sz : Sizes
+  pub sz : TreeSizes
   pub N : ℕ → Type 0
   pub new : (s i : ℕ) → s < sz .servers → i < sz .slots → N (name s i)
   -- holds of every object asked for
@@ -144,9 +144,9 @@ module _ (T : Scope) where
 
   -- no more than a node holds
   abbrev pub Sized : ℕ → Entries → Type 0
-  Sized l es = Within (mx l) l es
+  Sized l es = Within (most-entries l) l es
 
-  pub mk-storable : (l n : ℕ) (es : Entries) → Sized l es → Storable N (node n) (mk l es)
+  pub mk-storable : (l n : ℕ) (es : Entries) → Sized l es → Storable N (node n) (node-value l es)
   unfolding extra Every
   mk-storable zero n es h =
       let a = length-map es (λ e. e .0) in
@@ -202,7 +202,7 @@ module _ (T : Scope) where
   abbrev pub Met : ℕ → Type 0
   Met n = T .R (node n) × (Z → N n)
 
-  pub mk-well : (l n : ℕ) (es : Entries) → Met n → (Z → Sized l es) → Well (node n) (mk l es)
+  pub mk-well : (l n : ℕ) (es : Entries) → Met n → (Z → Sized l es) → Well (node n) (node-value l es)
   mk-well l n es m s = (m .0, λ z. (m .1 z, mk-storable l n es (s z)))
 
   pub see-ok : (w : Writes) (o : Obj) (k : Val → Plan) → All-well w → (Z → Named N o) → ((v : Val) → Well o v → Ok (k v)) → Ok (see w o k)
@@ -228,11 +228,11 @@ module _ (T : Scope) where
   open-ok lo n (body (suc (suc (suc j))) l ks vs) k s h = tt
 
   pub kid-ok : (w : Writes) (l lo n : ℕ) (k : Entries → Plan) → All-well w → (Z → N n)
-      → ((es : Entries) → Met n → (Z → Sized l es) → mn l ≤ length es → Ok (k es)) → Ok (kid w l lo n k)
+      → ((es : Entries) → Met n → (Z → Sized l es) → fewest-entries l ≤ length es → Ok (k es)) → Ok (kid w l lo n k)
   kid-ok w l lo n k h i g =
       see-ok w (node n) _ h i (λ v s. open-ok lo n v _ s (λ j es m f.
       if-ok (ℕ-discrete j l) _ (P.fail no-tree)
-      (λ e. if-ok (decLe (mn l) (length es)) (k es) (P.fail no-tree) (g es m (λ z. subst (λ l. Sized l es) e (f z))) (λ _. tt)) (λ _. tt)))
+      (λ e. if-ok (decLe (fewest-entries l) (length es)) (k es) (P.fail no-tree) (g es m (λ z. subst (λ l. Sized l es) e (f z))) (λ _. tt)) (λ _. tt)))
 
   -- THE WAY DOWN: a branch is an inner node; the entries beside the one followed
   pub record Beside (pre post : Entries) : Type 0 where

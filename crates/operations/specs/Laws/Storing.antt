@@ -9,15 +9,15 @@ use lib.ListN.{length, take, drop, length-append, length-take, length-drop, leng
 use lib.Seq.{length-take-le}
 use Rattle.base.specs.Test.{ifd}
 use Rattle.plans.specs.Walk.{Every}
-use Rattle.nodes.specs.Lists.{remove}
+use Rattle.nodes.specs.Lists.{remove-at}
 use Rattle.nodes.specs.Name.{name, server-of, slot-of}
 use Rattle.nodes.specs.Place.{place}
 use Rattle.nodes.specs.Placement.{row}
 use Rattle.operations.specs.Object.{Obj, meta, node, Ask, object, vector, fetched, Val, root, body, taken, flags, no-tree, Ans, Writes}
 use Rattle.operations.specs.Map.{Op, insert, lookup, delete, next, previous, migrate, fresh}
-use Rattle.operations.specs.Entry.{Entries, keys, mk, mn, mx, nxt, cut, index, value-in, with-at, with-pair}
+use Rattle.operations.specs.Entry.{Entries, keys, node-value, fewest-entries, most-entries, first-key-or, cut, index, value-in, with-at, with-pair}
 use Rattle.operations.specs.Path.{Plan, when-root, Branch}
-use Rattle.operations.specs.Slot.{Sizes, present, take-for, take-node, release}
+use Rattle.operations.specs.Slot.{TreeSizes, present, take-for, take-node, release}
 use Rattle.operations.specs.Laws.Slots.{present-below}
 use Rattle.operations.specs.Change.{Go, with-one, with-two, parted, at-top, onward, collapsed, merged, with-right, with-left, unsnoc-step, unsnoc, left-of, neighbour, split-root, split, up, delete-at}
 use Rattle.operations.specs.Migrate.{moved, move-at, to-level, first-key, move-below, move-node, move-if}
@@ -32,16 +32,16 @@ use Rattle.nodes.specs.Lists as L
 -- two nodes of the fewest keys are at most one entry too many
 pub record Bounds (l : ℕ) : Type 0 where
   pub one : least l ≤ 1
-  pub fewest : 1 < mn l
-  pub between : mn l ≤ mx l
-  pub twice : mn l + mn l ≤ suc (mx l)
+  pub fewest : 1 < fewest-entries l
+  pub between : fewest-entries l ≤ most-entries l
+  pub twice : fewest-entries l + fewest-entries l ≤ suc (most-entries l)
 
 bounds : (l : ℕ) → Bounds l
 bounds zero = record { one = omega arith; fewest = omega arith; between = omega arith; twice = omega arith }
 bounds (suc l) = record { one = omega arith; fewest = omega arith; between = omega arith; twice = omega arith }
 
 -- what an operation names is of the store
-abbrev pub Names : (ℕ → Type 0) → Sizes → Op → Type 0
+abbrev pub Names : (ℕ → Type 0) → TreeSizes → Op → Type 0
 Names N sz (insert k v) = Unit {0}
 Names N sz (lookup k) = Unit {0}
 Names N sz (delete k) = Unit {0}
@@ -51,7 +51,7 @@ Names N sz (migrate n s) = N n × (s < sz .servers)
 
 -- a pair put into a leaf, or taken out
 with-few : (key v : ℕ) (es : Entries) → length (with-pair key v es) ≤ suc (length es)
-unfolding L.insert
+unfolding L.insert-at
 with-few key v es = go (index key es)
   where
     go : (o : Option ℕ) → length (with-at key v es o) ≤ suc (length es)
@@ -59,8 +59,8 @@ with-few key v es = go (index key es)
         let i = place (keys es) key in omega (arith, length-append (take i es) ((key, v) ∷ drop i es), length-take i es, length-drop i es)
     go (some i) = omega (arith, length-set es i (key, v))
 
-remove-few : (i : ℕ) (es : Entries) → length (remove i es) ≤ length es
-unfolding remove
+remove-few : (i : ℕ) (es : Entries) → length (remove-at i es) ≤ length es
+unfolding remove-at
 remove-few i es = omega (arith, length-append (take i es) (drop (i + 1) es), length-take i es, length-drop (i + 1) es)
 
 module _ (T : Scope) where
@@ -70,21 +70,21 @@ module _ (T : Scope) where
   abbrev Z : Type 0
   Z = T .Z
 
-  abbrev sz : Sizes
+  abbrev sz : TreeSizes
   sz = T .sz
 
   -- ---- THE WAY UP: entries that may be one too many
   abbrev Risen : ℕ → Entries → Type 0
-  Risen l es = Within T (suc (mx l)) l es
+  Risen l es = Within T (suc (most-entries l)) l es
 
-  sized : (l n : ℕ) (es : Entries) → length es ≡ n → 1 ≤ n → n ≤ mx l → Children T l es → Sized T l es
+  sized : (l n : ℕ) (es : Entries) → length es ≡ n → 1 ≤ n → n ≤ most-entries l → Children T l es → Sized T l es
   sized l n es e a b c = record { some-child = omega (arith, bounds l .one); few = omega arith; children = c }
 
-  joined : (l : ℕ) (xs ys : Entries) → 1 ≤ length xs + length ys → length xs + length ys ≤ mx l → Children T l xs → Children T l ys → Sized T l (xs ++ ys)
+  joined : (l : ℕ) (xs ys : Entries) → 1 ≤ length xs + length ys → length xs + length ys ≤ most-entries l → Children T l xs → Children T l ys → Sized T l (xs ++ ys)
   joined l xs ys a b p q = sized l (length xs + length ys) (xs ++ ys) (length-append xs ys) a b (every-append _ xs ys p q)
 
   -- a node with more than the fewest entries, without one
-  lender : (l : ℕ) (es xs : Entries) → Sized T l es → mn l < length es → length xs ≡ length es - 1 → Children T l xs → Sized T l xs
+  lender : (l : ℕ) (es xs : Entries) → Sized T l es → fewest-entries l < length es → length xs ≡ length es - 1 → Children T l xs → Sized T l xs
   lender l es xs s q e c = sized l (length es - 1) xs e (omega (arith, bounds l .fewest)) (omega (arith, s .few)) c
 
   abbrev Goes : ℕ → Go → Type 0
@@ -110,12 +110,12 @@ module _ (T : Scope) where
       g _ _ (mk-well T l d es′ m′ s′, (mk-well T l c es m s, h)) (λ z. risen-two l f c _ d (b .1 z) (m .1 z) (m′ .1 z))
 
   -- the two halves of a node with an entry too many
-  halves : (l : ℕ) (es : Entries) → Risen l es → mx l < length es → Sized T l (take (mn l) es) × Sized T l (drop (mn l) es)
+  halves : (l : ℕ) (es : Entries) → Risen l es → most-entries l < length es → Sized T l (take (fewest-entries l) es) × Sized T l (drop (fewest-entries l) es)
   halves l es s m = (
-    sized l (mn l) (take (mn l) es) (length-take-le (mn l) es (omega (arith, bounds l .between))) (omega (arith, bounds l .fewest)) (bounds l .between)
-        (every-take _ (mn l) es (s .children)),
-    sized l (length es - mn l) (drop (mn l) es) (length-drop (mn l) es) (omega (arith, bounds l .between)) (omega (arith, bounds l .fewest, s .few))
-        (every-drop _ (mn l) es (s .children)),
+    sized l (fewest-entries l) (take (fewest-entries l) es) (length-take-le (fewest-entries l) es (omega (arith, bounds l .between))) (omega (arith, bounds l .fewest)) (bounds l .between)
+        (every-take _ (fewest-entries l) es (s .children)),
+    sized l (length es - fewest-entries l) (drop (fewest-entries l) es) (length-drop (fewest-entries l) es) (omega (arith, bounds l .between)) (omega (arith, bounds l .fewest, s .few))
+        (every-drop _ (fewest-entries l) es (s .children)),
   )
 
   -- the entries but the last are one fewer
@@ -137,19 +137,19 @@ module _ (T : Scope) where
     merged-ok w f c es h b m s = by fs
       where
         one : Ok T (onward a l fs go w f c es)
-        one = g ((node c, mk l es) ∷ w) (with-one f c) (mk-well T l c es m s, h) (λ z. one-within 16 l f c (omega arith) (b .1 z) (m .1 z))
+        one = g ((node c, node-value l es) ∷ w) (with-one f c) (mk-well T l c es m s, h) (λ z. one-within 16 l f c (omega arith) (b .1 z) (m .1 z))
 
         by : (gs : List Branch) → let p = onward a l fs go w f c es in Ok T (at-top gs (ifd (ℕ-discrete (length (with-one f c)) 1) (collapsed a l fs go w f c es) p) p)
         by [] = if-ok T (ℕ-discrete (length (with-one f c)) 1) _ _
-            (λ _. release-ok T w c (λ w′. P.done (a, (node (f .nm), mk l es) ∷ w′)) h m (λ u n. (mk-well T l (f .nm) es (b .0) s, n))) (λ _. one)
+            (λ _. release-ok T w c (λ w′. P.done (a, (node (f .nm), node-value l es) ∷ w′)) h m (λ u n. (mk-well T l (f .nm) es (b .0) s, n))) (λ _. one)
         by (x ∷ gs) = one
 
     -- the entries es of c, too few, and a neighbour; f: the branch without the neighbour
-    module _ (w : Writes) (f : Branch) (c : ℕ) (es : Entries) (h : All-well T w) (b : Branched T f) (m : Met T c) (i : Z → Children T l es) (n : length es < mn l) where
+    module _ (w : Writes) (f : Branch) (c : ℕ) (es : Entries) (h : All-well T w) (b : Branched T f) (m : Met T c) (i : Z → Children T l es) (n : length es < fewest-entries l) where
       with-right-ok : (k2 c2 : ℕ) → (Z → N c2) → Ok T (with-right a l fs go w f c es k2 c2)
       with-right-ok k2 c2 j =
           if-ok T (ℕ-discrete c2 c) (P.fail no-tree) _ (λ _. tt) (λ _.
-          kid-ok T w l k2 c2 _ h j (λ es2 m2 s t. if-ok T (decLt (mn l) (length es2)) _ _
+          kid-ok T w l k2 c2 _ h j (λ es2 m2 s t. if-ok T (decLt (fewest-entries l) (length es2)) _ _
           (λ q. let e = length-take-le 1 es2 (omega (arith, q)) in parted-ok go l g w f c (es ++ take 1 es2) c2 (drop 1 es2) h b
           m (λ z. joined l es (take 1 es2) (omega (arith, e)) (omega (arith, e, bounds l .between)) (i z) (every-take _ 1 es2 (s z .children)))
           m2 (λ z. lender l es2 (drop 1 es2) (s z) q (length-drop 1 es2) (every-drop _ 1 es2 (s z .children))))
@@ -159,7 +159,7 @@ module _ (T : Scope) where
       with-left-ok : (c1 : ℕ) → (Z → N c1) → Ok T (with-left a l fs go w f c es c1)
       with-left-ok c1 j =
           if-ok T (ℕ-discrete c1 c) (P.fail no-tree) _ (λ _. tt) (λ _.
-          kid-ok T w l (f .key) c1 _ h j (λ es1 m1 s t. let x = length es1 - 1 in if-ok T (decLt (mn l) (length es1)) _ _
+          kid-ok T w l (f .key) c1 _ h j (λ es1 m1 s t. let x = length es1 - 1 in if-ok T (decLt (fewest-entries l) (length es1)) _ _
           (λ q. let e = length-drop x es1 in parted-ok go l g w f c1 (take x es1) c (drop x es1 ++ es) h b
           m1 (λ z. lender l es1 (take x es1) (s z) q (length-take-le x es1 (omega arith)) (every-take _ x es1 (s z .children)))
           m (λ z. joined l (drop x es1) es (omega (arith, e, q)) (omega (arith, e, q, bounds l .between)) (every-drop _ x es1 (s z .children)) (i z)))
@@ -167,7 +167,7 @@ module _ (T : Scope) where
           m1 (λ z. joined l es1 es (omega (arith, t, bounds l .fewest)) (omega (arith, q, bounds l .twice)) (s z .children) (i z))))))
 
     neighbour-ok : (w : Writes) (f : Branch) (c : ℕ) (es post : Entries) → All-well T w → Met T (f .nm) → (Z → Beside T (f .pre) post) → Met T c → (Z → Children T l es)
-        → length es < mn l → Ok T (neighbour a l fs go w f c es post)
+        → length es < fewest-entries l → Ok T (neighbour a l fs go w f c es post)
     unfolding Every
     neighbour-ok w f c es (e ∷ post) h x b m i n =
         with-right-ok w (record { nm = f .nm; key = f .key; pre = f .pre; post = post }) c es h
@@ -184,38 +184,38 @@ module _ (T : Scope) where
   in-order : (n : ℕ) → Z → Servers T (present (sz .servers) (row (server-of n)))
   in-order n z = present-below (sz .servers) (row (server-of n))
 
-  split-root-ok : (a : Ans) (l : ℕ) (w : Writes) (r : ℕ) (es : Entries) → All-well T w → Met T r → (Z → Risen l es) → mx l < length es → Ok T (split-root sz a l w r es)
+  split-root-ok : (a : Ans) (l : ℕ) (w : Writes) (r : ℕ) (es : Entries) → All-well T w → Met T r → (Z → Risen l es) → most-entries l < length es → Ok T (split-root sz a l w r es)
   unfolding Every
   split-root-ok a l w r es h m s q =
       let ss = present (sz .servers) (row (server-of r)) in
       let f : Branch = record { nm = r; key = 0; pre = []; post = [] } in
-      let top : Go = λ w′ es′. P.done (a, (node r, mk (suc l) es′) ∷ w′) in
-      let both : ℕ → ℕ → Writes → Plan = λ c d w2. take-node w2 c (take-node w2 d (parted top l w2 f c (take (mn l) es) d (drop (mn l) es))) in
+      let top : Go = λ w′ es′. P.done (a, (node r, node-value (suc l) es′) ∷ w′) in
+      let both : ℕ → ℕ → Writes → Plan = λ c d w2. take-node w2 c (take-node w2 d (parted top l w2 f c (take (fewest-entries l) es) d (drop (fewest-entries l) es))) in
       take-ok T ss (slot-of r) w (λ c w1. take-for sz r w1 (both c)) h (in-order r) (λ c w1 i n1.
       take-ok T ss (slot-of r) w1 (both c) n1 (in-order r) (λ d w2 j n2. node-ok T w2 c _ n2 i (λ mc. node-ok T w2 d _ n2 j (λ md. (
-        mk-well T (suc l) r (with-two f c (nxt (drop (mn l) es) 0) d) m (λ z. record { some-child = omega arith; few = omega arith; children = (i z, (j z, tt)) }),
+        mk-well T (suc l) r (with-two f c (first-key-or (drop (fewest-entries l) es) 0) d) m (λ z. record { some-child = omega arith; few = omega arith; children = (i z, (j z, tt)) }),
         (mk-well T l d _ md (λ z. halves l es (s z) q .1), (mk-well T l c _ mc (λ z. halves l es (s z) q .0), n2)),
       )))))
 
-  split-ok : (go : Go) (l : ℕ) (w : Writes) (f : Branch) (c : ℕ) (es : Entries) → All-well T w → Branched T f → Met T c → (Z → Risen l es) → mx l < length es → Goes l go
+  split-ok : (go : Go) (l : ℕ) (w : Writes) (f : Branch) (c : ℕ) (es : Entries) → All-well T w → Branched T f → Met T c → (Z → Risen l es) → most-entries l < length es → Goes l go
       → Ok T (split sz go l w f c es)
   split-ok go l w f c es h b m s q g =
       take-ok T (present (sz .servers) (row (server-of c))) (slot-of c) w
-      (λ d w1. take-node w1 d (parted go l w1 f c (take (mn l) es) d (drop (mn l) es))) h (in-order c) (λ d w1 i n. node-ok T w1 d _ n i (λ md.
-      parted-ok go l g w1 f c (take (mn l) es) d (drop (mn l) es) n b m (λ z. halves l es (s z) q .0) md (λ z. halves l es (s z) q .1)))
+      (λ d w1. take-node w1 d (parted go l w1 f c (take (fewest-entries l) es) d (drop (fewest-entries l) es))) h (in-order c) (λ d w1 i n. node-ok T w1 d _ n i (λ md.
+      parted-ok go l g w1 f c (take (fewest-entries l) es) d (drop (fewest-entries l) es) n b m (λ z. halves l es (s z) q .0) md (λ z. halves l es (s z) q .1)))
 
   -- not one too many after all
-  fits-well : (l c : ℕ) (es : Entries) → Met T c → (Z → Risen l es) → length es ≤ mx l → Well T (node c) (mk l es)
+  fits-well : (l c : ℕ) (es : Entries) → Met T c → (Z → Risen l es) → length es ≤ most-entries l → Well T (node c) (node-value l es)
   fits-well l c es m s q = mk-well T l c es m (λ z. record { some-child = s z .some-child; few = q; children = s z .children })
 
   up-ok : (a : Ans) (fs : List Branch) (l : ℕ) (w : Writes) (c : ℕ) (es : Entries) → All-well T w → Path T fs → Met T c → (Z → Risen l es) → Ok T (up sz a l fs w c es)
   up-ok a [] l w c es h p m s =
-      if-ok T (decLe (length es) (mx l)) _ _ (λ q. (fits-well l c es m s q, h)) (λ q. split-root-ok a l w c es h m s (omega (arith, q)))
+      if-ok T (decLe (length es) (most-entries l)) _ _ (λ q. (fits-well l c es m s q, h)) (λ q. split-root-ok a l w c es h m s (omega (arith, q)))
   up-ok a (f ∷ fs) l w c es h p m s =
       let go : Go = λ w′ es′. up sz a (suc l) fs w′ (f .nm) es′ in
       let on : Goes l go = λ w′ es′ n r. up-ok a fs (suc l) w′ (f .nm) es′ n (p .1) (p .0 .0) r in
-      if-ok T (decLe (mn l) (length es)) _ _
-      (λ _. if-ok T (decLe (length es) (mx l)) _ _ (λ q. (fits-well l c es m s q, h)) (λ q. split-ok go l w f c es h (p .0) m s (omega (arith, q)) on))
+      if-ok T (decLe (fewest-entries l) (length es)) _ _
+      (λ _. if-ok T (decLe (length es) (most-entries l)) _ _ (λ q. (fits-well l c es m s q, h)) (λ q. split-ok go l w f c es h (p .0) m s (omega (arith, q)) on))
       (λ q. neighbour-ok a l fs go on w f c es (f .post) h (p .0 .0) (p .0 .1) m (λ z. s z .children) (omega (arith, q)))
 
   -- a leaf has no children
@@ -224,7 +224,7 @@ module _ (T : Scope) where
 
   delete-ok : (fs : List Branch) (n : ℕ) (es : Entries) (o : Option ℕ) → Path T fs → Met T n → (Z → Sized T 0 es) → Ok T (delete-at sz fs n es o)
   delete-ok fs n es none p m s = tt
-  delete-ok fs n es (some i) p m s = up-ok (1, 0) fs zero [] n (remove i es) tt p m (λ z. leaf-risen (remove i es) (omega (arith, remove-few i es, s z .few)))
+  delete-ok fs n es (some i) p m s = up-ok (1, 0) fs zero [] n (remove-at i es) tt p m (λ z. leaf-risen (remove-at i es) (omega (arith, remove-few i es, s z .few)))
 
   -- ---- MIGRATE
   module _ (n s : ℕ) (server : Z → s < sz .servers) (m : Met T n) (v : Val) (kept : Z → Storable N (node n) v) where
@@ -249,7 +249,7 @@ module _ (T : Scope) where
     move-at-ok key (suc l) fs p (e ∷ es) o h =
         let c = cut key e es in
         let f : Branch = record { nm = p; key = c .1 .0; pre = c .0; post = c .2 } in
-        let end : ℕ → Writes → Plan = λ d w. P.done ((1, d), (node p, mk (suc l) (with-one f d)) ∷ w) in
+        let end : ℕ → Writes → Plan = λ d w. P.done ((1, d), (node p, node-value (suc l) (with-one f d)) ∷ w) in
         if-ok T (ℕ-discrete (c .1 .1) n) _ (P.fail no-tree)
         (λ _. moved-ok (λ d w. w) end (λ d w i g. g)
         (λ d w i g. (mk-well T (suc l) p (with-one f d) o (λ z. one-within 15 l f d (omega arith) (cut-ok T key l e es (h z) .0) (i z)), g))) (λ _. tt)
@@ -286,7 +286,7 @@ module _ (T : Scope) where
       see-ok T [] (node n) (λ u. move-if sz r n s u) tt (λ z. h z .0) (λ u t. move-if-ok r n s u (λ z. h z .1) (b .0) i t)))
 
 -- THE THEOREMS, where everything at hand can be stored in a store of the names N
-module _ (N : ℕ → Type 0) (sz : Sizes) (new : (s i : ℕ) → s < sz .servers → i < sz .slots → N (name s i)) (op : Op) (names : Names N sz op) (have : Ask → Option Val) (kept : (o : Obj) (v : Val) → have (object o) ≡ some v → Storable N o v) where
+module _ (N : ℕ → Type 0) (sz : TreeSizes) (new : (s i : ℕ) → s < sz .servers → i < sz .slots → N (name s i)) (op : Op) (names : Names N sz op) (have : Ask → Option Val) (kept : (o : Obj) (v : Val) → have (object o) ≡ some v → Storable N o v) where
   abbrev T : Scope
   T = record { sz = sz; N = N; new = new; R = λ o. Unit {0}; Z = Unit {0} }
 

@@ -23,7 +23,7 @@ use Rattle.client.specs.Renew.{finish}
 use Rattle.steps.specs.declared.sizes.Sizes.{Sizes}
 use Rattle.steps.specs.declared.outcome.Outcome.the-variants.{Applied, Committed}
 use Rattle.steps.specs.Whole.{Address}
-use Rattle.steps.specs.Judge.{lowest, versions-fit}
+use Rattle.steps.specs.Judge.{lowest-participant, versions-fit}
 use Rattle.steps.specs.Laws.Stores.{client-of, server-of}
 use Rattle.steps.specs.Steps.{unlock-each, store-all}
 use Rattle.demand.specs.Laws.Held.{every-below}
@@ -70,8 +70,8 @@ module _ (k j slots : ℕ) where
     v = changed client-words u (noted applied (s .0) u)
 
     here : Server-sound (sizes k j slots) (s .0)
-        (changed places (server-of m (s .0)) (andThen places (store-all u (s .0)) (unlock-each u (c .0) (lowest z m (c .0)) (s .0)) (server-of m (s .0))))
-    here = apply-sound (sizes k j slots) (s .0) u (S .parts c .sets) (server-of m (s .0)) (S .servers s) (c .0) (lowest z m (c .0))
+        (changed places (server-of m (s .0)) (andThen places (store-all u (s .0)) (unlock-each u (c .0) (lowest-participant z m (c .0)) (s .0)) (server-of m (s .0))))
+    here = apply-sound (sizes k j slots) (s .0) u (S .parts c .sets) (server-of m (s .0)) (S .servers s) (c .0) (lowest-participant z m (c .0))
 
     noted-part : Part-sound (sizes k j slots) v
     noted-part = applied-part (sizes k j slots) u (S .parts c) (s .0) (s .1)

@@ -32,10 +32,10 @@ use Rattle.server.specs.Range as Range
 use Rattle.server.specs.Lock as L
 use Rattle.steps.specs.Uses as U
 
-module _ (z : S.Sizes) (s : ℕ) (p : Place → ℕ) (good : Server-sound z s p) where
+module _ (z : S.TreeSizes) (s : ℕ) (p : Place → ℕ) (good : Server-sound z s p) where
   -- ---- a fetch of the metadata
   pub metadata-judged : metadata-sound (z .servers) (z .slots) p ≡ true
-  unfolding metadata-sound Range.in-store in-store
+  unfolding metadata-sound Range.name-in-store in-store
   metadata-judged = let q = metadata-parts z (p Version) (p Root) (good .metadata) in rw (q .0, le-leb (p Version) last-version (q .1))
 
   -- ---- the mark that stands here: of what is checked by the table, or at home here
@@ -64,13 +64,13 @@ module _ (z : Sizes) (m : Address → ℕ) (s : ℕ) (good : Server-sound (tree-
   check-judged : (i .inner-read || at-home s (i .number)) ≡ true → check-fits z m s i ≡ true
   unfolding check-fits sound lock-fits
   check-judged h =
-      let w = m (server s (lock-of (U.object i))) in
-      let f = and-both (L.in-range (z .clients) w) (holders-fit z m (i .number) w) lock in
+      let w = m (server s (lock-of (U.item-object i))) in
+      let f = and-both (L.lock-in-range (z .clients) w) (holders-fit z m (i .number) w) lock in
       let v = standing-judged (tree-sizes z) s (server-of m s) good (i .number) (i .inner-read) there h in
       rw (f .0, v) (f .1)
 
   -- at a fetch
-  pub fetch-judged : can-check s (U.object i) (i .inner-read) ≡ true → check-fits z m s i ≡ true
+  pub fetch-judged : can-check s (U.item-object i) (i .inner-read) ≡ true → check-fits z m s i ≡ true
   unfolding can-check at-home object-of
   fetch-judged h = check-judged (go (i .number) (i .inner-read) h)
     where

@@ -23,7 +23,7 @@ use Rattle.client.specs.Part.{nothing, put-field, put-fields, put-vector}
 use Rattle.client.specs.Participants.{committing}
 use Rattle.client.specs.Course.{noted, decided}
 use Rattle.client.specs.Copies.{to-place, copy-node}
-use Rattle.client.specs.Life.{reset, give}
+use Rattle.client.specs.Life.{reset, give-part}
 use Rattle.client.specs.Fetched.{mark-fetched}
 use Rattle.demand.specs.Laws.Frame.{last, read-after}
 use Rattle.demand.specs.Laws.Slots.{Same-sets, record-frame, record-later}
@@ -35,7 +35,7 @@ use Rattle.operations.specs.Slot as S
 use Rattle.demand.specs.Laws.Frame as Frame
 
 -- ---- copies that stay, one by one and all
-module _ (z : S.Sizes) (u v : ClientWord → ℕ) (h : Copies-sound z u) where
+module _ (z : S.TreeSizes) (u v : ClientWord → ℕ) (h : Copies-sound z u) where
   meta-stays : v meta-copied ≡ u meta-copied → v meta-root ≡ u meta-root → v meta-version ≡ u meta-version
       → v meta-copied ≡ 1 → Sound z 0 (single (v meta-version) (v meta-root))
   meta-stays a b c q = coe 1 0 (t. Sound z 0 (single (c t) (b t))) (h .meta-copy (sym a ∙ q))
@@ -79,7 +79,7 @@ module _ (z : S.Sizes) (u v : ClientWord → ℕ) (h : Copies-sound z u) where
       of-vector s l (yes e) = omega (arith, e)
       of-vector s l (no n) = vector-stays s (still-there u v w (vector-word s 0) n) l
 
-module _ (z : S.Sizes) (u : ClientWord → ℕ) (h : Copies-sound z u) where
+module _ (z : S.TreeSizes) (u : ClientWord → ℕ) (h : Copies-sound z u) where
   pub dropped-copies : (ps : List (Put ClientWord)) → Frame.Only client-words Drop ps → Copies-sound z (changed client-words u ps)
   dropped-copies ps o = fewer-sound z u (changed client-words u ps) h (fewer ps u o)
 
@@ -177,7 +177,7 @@ module _ (u : ClientWord → ℕ) (ps : List (Put ClientWord)) (o : Only client-
   same : (a : ClientWord) → before-counts a ≡ false → v a ≡ u a
   same a e = changed-only client-words before-counts ps u a o e
 
-  pub fields-copies : (z : S.Sizes) → Copies-sound z u → Copies-sound z (changed client-words u ps)
+  pub fields-copies : (z : S.TreeSizes) → Copies-sound z u → Copies-sound z (changed client-words u ps)
   fields-copies z h =
       copies-frame z u v h (same meta-copied refl) (same meta-root refl) (same meta-version refl) (λ i n. same (item Copies i n) refl) (λ s. same (vector-word s 0) refl)
 
@@ -194,8 +194,8 @@ unfolding Only
 only-answered = (refl, tt)
 
 module _ (u : ClientWord → ℕ) where
-  pub only-give : (op key value server : ℕ) → Only client-words before-counts (give op key value server u)
-  unfolding give put-fields puts Only
+  pub only-give : (op key value server : ℕ) → Only client-words before-counts (give-part op key value server u)
+  unfolding give-part put-fields puts Only
   only-give op key value server = (refl, (refl, (refl, (refl, tt))))
 
   pub only-committing : (servers : ℕ) → Only client-words before-counts (committing servers u)

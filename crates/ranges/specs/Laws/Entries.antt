@@ -22,19 +22,19 @@ use Rattle.nodes.specs.Find.{rises}
 use Rattle.nodes.specs.Lists.{pad}
 use Rattle.nodes.specs.Node.{slotsOf, made}
 use Rattle.nodes.specs.Laws.Node.{slots-made}
-use Rattle.nodes.specs.Place.{bit}
-use Rattle.nodes.specs.Range.{in-range}
+use Rattle.nodes.specs.Place.{one-if}
+use Rattle.nodes.specs.Range.{node-in-range}
 use Rattle.nodes.specs.Laws.Range.{range-of}
 use Rattle.nodes.specs.Laws.Stored.{Sized}
-use Rattle.operations.specs.Object.{Obj, meta, node, flag, Val, root, body, taken, flags, keys-of, level-of, Writes, hit, value}
+use Rattle.operations.specs.Object.{Obj, meta, node, flag, Val, root, body, taken, flags, keys-of, level-of, Writes, hit, written-value}
 use Rattle.operations.specs.Laws.Object.{written}
 use Rattle.operations.specs.Operation.{fits?, all-fit?}
 use Rattle.operations.specs.Laws.Storable.{Shape, Kept, Named, Storable, All-storable, every-any}
-use Rattle.operations.specs.Slot.{Sizes, Allowed}
+use Rattle.operations.specs.Slot.{TreeSizes, Allowed}
 use Rattle.operations.specs.Laws.Hit.{hit-eq, hit-self}
 use Rattle.client.specs.declared.answer.Look.{Look}
 use Rattle.client.specs.Layout.{ClientWord, client-words, item, reads-count, writes-count}
-use Rattle.client.specs.Record.{number, first-slot, single, record-of, in-store, object-in-store, last-version, fits}
+use Rattle.client.specs.Record.{number, first-slot, single, record-of, in-store, object-in-store, last-version, record-in-range}
 use Rattle.client.specs.Sets.{or-found, at-most, count, record-at, number-at, find}
 use Rattle.client.specs.Items.{has}
 use Rattle.client.specs.Part.{nothing}
@@ -59,29 +59,29 @@ use Rattle.client.specs.declared.part.Set.the-variants as set
 
 -- ---- ONE WRITE of an operation
 -- a name of the store
-abbrev pub There : Sizes → ℕ → Type 0
+abbrev pub There : TreeSizes → ℕ → Type 0
 There z n = in-store z n ≡ true
 
-module _ (z : Sizes) (al : Allowed z) where
+module _ (z : TreeSizes) (al : Allowed z) where
   -- an object's record, by the object
   pub object-sound : (o : Obj) (r : Node) → object-in-store z o ≡ true
-      → by-object o (in-store z (first-slot r) && leb (r .version) last-version) (λ n. in-range r) (λ n. leb (first-slot r) 1) ≡ true
+      → by-object o (in-store z (first-slot r) && leb (r .version) last-version) (λ n. node-in-range r) (λ n. leb (first-slot r) 1) ≡ true
       → by-object o true (λ n. children-there z r) (λ n. true) ≡ true → Item-sound z (number o) r
-  unfolding fits
+  unfolding record-in-range
   object-sound o r h f c = record {
     inside = number-inside z al o h;
     sound = record {
-      fitting = by-number-of z al o h (in-store z (first-slot r) && leb (r .version) last-version) (λ n. in-range r) (λ n. leb (first-slot r) 1) ∙ f;
+      fitting = by-number-of z al o h (in-store z (first-slot r) && leb (r .version) last-version) (λ n. node-in-range r) (λ n. leb (first-slot r) 1) ∙ f;
       children = by-number-of z al o h true (λ n. children-there z r) (λ n. true) ∙ c;
     };
   }
 
   -- a node's record
-  kept-range : (k l : ℕ) (ks vs : List ℕ) → Kept (There z) k l ks vs → l ≤ 4 → in-range (made k l 0 ks vs) ≡ true
+  kept-range : (k l : ℕ) (ks vs : List ℕ) → Kept (There z) k l ks vs → l ≤ 4 → node-in-range (made k l 0 ks vs) ≡ true
   unfolding made
   kept-range k l ks vs h m = go k (h .shape)
     where
-      go : (k : ℕ) → Shape k l ks → in-range (made k l 0 ks vs) ≡ true
+      go : (k : ℕ) → Shape k l ks → node-in-range (made k l 0 ks vs) ≡ true
       go zero s = range-of (made 0 l 0 ks vs) (omega arith) (omega arith) (eq-eqb l 0 (s .0)) (eq-eqb (length ks) 0 (s .1))
       go (suc zero) s = range-of (made 1 l 0 ks vs) (omega arith) (omega arith) (eq-eqb l 0 s) (le-leb (length ks) 14 (h .few))
       go (suc (suc zero)) s = range-of (made 2 l 0 ks vs) (omega arith) (omega arith) (rw (le-leb 1 l s, le-leb l 4 m)) (le-leb (length ks) 14 (h .few))
@@ -102,7 +102,7 @@ module _ (z : Sizes) (al : Allowed z) where
       object-sound (node n) (record-of 0 (body k j ks vs)) h (kept-range k j ks vs s l) (kept-children k j ks vs s)
   entry-sound (flag n) (taken b) h s l = object-sound (flag n) (record-of 0 (taken b)) h (small b) refl
     where
-      small : (b : Bool) → leb (first-slot (single 0 (bit b))) 1 ≡ true
+      small : (b : Bool) → leb (first-slot (single 0 (one-if b))) 1 ≡ true
       small true = refl
       small false = refl
   entry-sound meta (body k j ks vs) n s l = absurd s
@@ -125,7 +125,7 @@ module _ (N : ℕ → Type 0) where
     named : Named N obj
     storable : Storable N obj val
     is-written : written w obj ≡ true
-    is-value : value w obj ≡ val
+    is-value : written-value w obj ≡ val
 
   latest-entries : (w : Writes) → All-storable N w → Every (Latest w) (entered w)
   unfolding Every entered
@@ -146,19 +146,19 @@ module _ (N : ℕ → Type 0) where
           miss (inr t) = t
 
 -- what the last check before the answer says of each object
-fit-at : (all w : Writes) (o : Obj) → all-fit? all w ≡ true → written w o ≡ true → fits? (value all o) ≡ true
+fit-at : (all w : Writes) (o : Obj) → all-fit? all w ≡ true → written w o ≡ true → fits? (written-value all o) ≡ true
 fit-at all [] o f h = absurd (false≢true h)
-fit-at all (e ∷ w) o f h = go (hit (e .0) o) refl h (and-both (fits? (value all (e .0))) (all-fit? all w) f) (fit-at all w o)
+fit-at all (e ∷ w) o f h = go (hit (e .0) o) refl h (and-both (fits? (written-value all (e .0))) (all-fit? all w) f) (fit-at all w o)
   where
-    go : (b : Bool) → hit (e .0) o ≡ b → cond b true (written w o) ≡ true → (fits? (value all (e .0)) ≡ true) × (all-fit? all w ≡ true)
-        → (all-fit? all w ≡ true → written w o ≡ true → fits? (value all o) ≡ true) → fits? (value all o) ≡ true
-    go true t h f rec = subst (λ (o : Obj). fits? (value all o) ≡ true) (hit-eq (e .0) o t) (f .0)
+    go : (b : Bool) → hit (e .0) o ≡ b → cond b true (written w o) ≡ true → (fits? (written-value all (e .0)) ≡ true) × (all-fit? all w ≡ true)
+        → (all-fit? all w ≡ true → written w o ≡ true → fits? (written-value all o) ≡ true) → fits? (written-value all o) ≡ true
+    go true t h f rec = subst (λ (o : Obj). fits? (written-value all o) ≡ true) (hit-eq (e .0) o t) (f .0)
     go false t h f rec = rec (f .1) h
 
 level-low : (v : Val) → fits? v ≡ true → level-of v ≤ 4
 level-low v h = yes-of (decLe (level-of v) 4) (and-both (rises (keys-of v)) (yes? (decLe (level-of v) 4)) h .1)
 
-module _ (z : Sizes) (al : Allowed z) where
+module _ (z : TreeSizes) (al : Allowed z) where
   pub entries-sound : (w : Writes) → All-storable (There z) w → all-fit? w w ≡ true → Every (λ (e : Entry). Item-sound z (e .0) (e .1)) (entered w)
   entries-sound w s f = every-weaker (Latest (There z) w) (λ (e : Entry). Item-sound z (e .0) (e .1)) one (entered w) (latest-entries (There z) w s)
     where
@@ -188,7 +188,7 @@ module _ (u v : ClientWord → ℕ) (other : Elsewhere set.Writes 11 u v) where
   unwritten-stay : Reads-stay u v
   unwritten-stay = reads-stay u v same-count same-words
 
-  one-sound : (z : Sizes) (x : ℕ) (r : Node) → One-written u v x r → Item-sound z x r → May-write u x → Sets-sound z u → Sets-sound z v
+  one-sound : (z : TreeSizes) (x : ℕ) (r : Node) → One-written u v x r → Item-sound z x r → May-write u x → Sets-sound z u → Sets-sound z v
   unfolding number-at
   one-sound z x r one new may S =
       sets-from z v (all-stay z u v set.Reads same-count same-words (S .read)) (λ i l. sound i (one i l))
@@ -203,7 +203,7 @@ module _ (u v : ClientWord → ℕ) (other : Elsewhere set.Writes 11 u v) where
       allowed i (inr h) = subst (May-write u) (sym (h .1 0)) (written-may z u S i (h .0))
 
 -- in its object's place, or behind the others
-module _ (z : Sizes) (u : ClientWord → ℕ) (x : ℕ) (r : Node) (w : Sized r) (new : Item-sound z x r) (may : May-write u x) (S : Sets-sound z u) where
+module _ (z : TreeSizes) (u : ClientWord → ℕ) (x : ℕ) (r : Node) (w : Sized r) (new : Item-sound z x r) (may : May-write u x) (S : Sets-sound z u) where
   abbrev Sound-else : (ClientWord → ℕ) → Type 0
   Sound-else v = Sets-sound z v × Elsewhere set.Writes 11 u v
 
@@ -253,7 +253,7 @@ module _ (z : Sizes) (u : ClientWord → ℕ) (x : ℕ) (r : Node) (w : Sized r)
               let b = lt-ltb (u writes-count) 48 l in
               rw (c, b) (behind-sound _ (put-behind set.Writes 11 x r w u c (λ v q. writes-within v (omega (arith, q, l)) ∙ q)))
 
-module _ (z : Sizes) where
+module _ (z : TreeSizes) where
   pub written-sound : (l : List Entry) → Every (λ (e : Entry). Item-sound z (e .0) (e .1)) l → All-whole l
       → (u : ClientWord → ℕ) → Every (λ (e : Entry). May-write u (e .0)) l → Sets-sound z u
       → Sets-sound z (changed client-words u (enter-entries l u)) × Elsewhere set.Writes 11 u (changed client-words u (enter-entries l u))
@@ -301,7 +301,7 @@ used-last u us (e ∷ l) =
     λ t. (leb (e .0) 8192 && eqb (v t) last-version) || r t
 
 -- "8 a written version is 4,294,967,295": where none is, what was read may be written
-pub not-last : (z : Sizes) (u : ClientWord → ℕ) → Sets-sound z u → (l : List Entry) → any-at-last u l ≡ false → Every (λ (e : Entry). has u set.Reads (e .0) ≡ true) l
+pub not-last : (z : TreeSizes) (u : ClientWord → ℕ) → Sets-sound z u → (l : List Entry) → any-at-last u l ≡ false → Every (λ (e : Entry). has u set.Reads (e .0) ≡ true) l
     → Every (λ (e : Entry). May-write u (e .0)) l
 unfolding Every any-at-last
 not-last z u S [] a h = tt

@@ -13,7 +13,7 @@ use lib.ListN.{length}
 use Rattle.layout.specs.Space.{Put, changed, tab}
 use Rattle.layout.specs.Step.{andThen}
 use Rattle.layout.specs.Laws.Step.{changed-append}
-use Rattle.nodes.specs.Range.{in-range}
+use Rattle.nodes.specs.Range.{node-in-range}
 use Rattle.nodes.specs.Stored.{node-of}
 use Rattle.operations.specs.Object.{Obj, meta, node, flag, Ask, object, vector, fetched}
 use Rattle.operations.specs.Slot.{Allowed}
@@ -116,7 +116,7 @@ module _ (k j slots : ℕ) (al : Allowed (sizes k j slots)) (few : suc j ≤ 16)
           ∙ subst (λ o. can-check (s .0) o b ≡ true) (object-number (sizes k j slots) al (flag n) hi) h
 
       at-server : (i : Item) → number-in-store (sizes k j slots) (i .number) ≡ true
-          → can-check (s .0) (U.object i) (i .inner-read) ≡ true → check-fits z m (s .0) i ≡ true
+          → can-check (s .0) (U.item-object i) (i .inner-read) ≡ true → check-fits z m (s .0) i ≡ true
       at-server i h b = fetch-judged z m (s .0) (S .servers s) i h (number-judged k j slots few m S s (i .number) h (kept (obj-of (i .number)) refl) i refl) b
         where
           kept : (o : Obj) → obj-of (i .number) ≡ o → lock-kept k j slots (server-of m (s .0)) s o ≡ true
@@ -129,7 +129,7 @@ module _ (k j slots : ℕ) (al : Allowed (sizes k j slots)) (few : suc j ≤ 16)
       fetch-fits : all (check-fits z m (s .0)) (fetch-items z m (c .0) us (s .0)) ≡ true
       unfolding read-items used-items item-of number-at
       fetch-fits =
-          all-those (check-fits z m (s .0)) (λ i. can-check (s .0) (U.object i) (i .inner-read)) (read-items u ++ used-items u us)
+          all-those (check-fits z m (s .0)) (λ i. can-check (s .0) (U.item-object i) (i .inner-read)) (read-items u ++ used-items u us)
           (every-append _ (read-items u) (used-items u us)
           (every-each _ (count u Reads) (read-item u) (λ i l. at-server (read-item u i) (part .sets .read i l .inside)))
           (every-map _ _ (λ x. item-of u x (copied u x .node)) (λ x h. at-server (item-of u x (copied u x .node)) (h .0)) us all-copied))
@@ -185,7 +185,7 @@ module _ (k j slots : ℕ) (al : Allowed (sizes k j slots)) (few : suc j ≤ 16)
     unfolding node-at node-of tab
     node-kept x hi s home =
         let N = S .servers s .nodes x hi home in
-        object-kept s (1 + x) 1 x (in-range (node-at (server-of m (s .0)) x)) (fetched-node x (node-at (server-of m (s .0)) x))
+        object-kept s (1 + x) 1 x (node-in-range (node-at (server-of m (s .0)) x)) (fetched-node x (node-at (server-of m (s .0)) x))
         (number-inside (sizes k j slots) al (node x) hi)
         (omega (arith, name-lt (sizes k j slots) al x hi)) (N .range)
         (node-part (sizes k j slots) v used x (node-at (server-of m (s .0)) x) (record { keys = refl; slots = refl })

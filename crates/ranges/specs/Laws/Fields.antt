@@ -16,7 +16,7 @@ use Rattle.layout.specs.Step.{andThen}
 use Rattle.nodes.specs.declared.node.Node.{Node}
 use Rattle.nodes.specs.declared.found.Found.{Found}
 use Rattle.nodes.specs.declared.found.Found.the-variants.{At, Absent}
-use Rattle.operations.specs.Map.{H}
+use Rattle.operations.specs.Map.{two-to-64}
 use Rattle.operations.specs.Laws.Map.{H-is}
 use Rattle.client.specs.declared.part.Set.{Set}
 use Rattle.client.specs.declared.part.Set.the-variants.{Copies}
@@ -28,7 +28,7 @@ use Rattle.client.specs.Part.{nothing, put-field, put-fields, put-item, put-vec
 use Rattle.client.specs.Participants.{takes-part, participants-of, committing}
 use Rattle.client.specs.Course.{noted, decided}
 use Rattle.client.specs.Copies.{to-place, copy-node}
-use Rattle.client.specs.Life.{reset, give}
+use Rattle.client.specs.Life.{reset, give-part}
 use Rattle.client.specs.Fetched.{mark-fetched}
 use Rattle.demand.specs.Laws.Frame.{Only, only-mono, only-keeps, last, read-after}
 use Rattle.demand.specs.Laws.Members.{mask-lt, one-more}
@@ -38,7 +38,7 @@ use Rattle.ranges.specs.Laws.Sound.{Fields-sound}
 use Rattle.operations.specs.Slot as S
 
 -- the greatest value of a field
-abbrev bound : S.Sizes → ℕ → ℕ
+abbrev bound : S.TreeSizes → ℕ → ℕ
 bound z i = getD (bounds (2 ^ z .servers - 1)) i 0
 
 -- a store leaves the operation that waits as it is, or takes it away
@@ -46,13 +46,13 @@ abbrev calm : ℕ → ℕ → Bool
 calm i v = getD (true ∷ eqb v 0 ∷ false ∷ true ∷ false ∷ []) i true
 
 -- a store in range
-unfoldable pub Within-store : S.Sizes → ClientWord → ℕ → Type 0
+unfoldable pub Within-store : S.TreeSizes → ClientWord → ℕ → Type 0
 Within-store z (field i) v = (calm i v ≡ true) × (i < 13 → v ≤ bound z i)
 Within-store z (item s i n) v = Unit {0}
 Within-store z (vector-word s n) v = Unit {0}
 
 -- ---- one store, and a list of them
-module _ (z : S.Sizes) (u : ClientWord → ℕ) (a : ClientWord) (v : ℕ) (h : Within-store z a v) (F : Fields-sound z u) where
+module _ (z : S.TreeSizes) (u : ClientWord → ℕ) (a : ClientWord) (v : ℕ) (h : Within-store z a v) (F : Fields-sound z u) where
   abbrev g : ClientWord → ℕ
   g = upd (decide client-words) u a v
 
@@ -89,13 +89,13 @@ module _ (z : S.Sizes) (u : ClientWord → ℕ) (a : ClientWord) (v : ℕ) (h : 
   store-within : Fields-sound z (upd (decide client-words) u a v)
   store-within = record { within = within-now; op = op-now }
 
-pub stores-within : (z : S.Sizes) (u : ClientWord → ℕ) (ps : List (Put ClientWord)) → Only client-words (Within-store z) ps
+pub stores-within : (z : S.TreeSizes) (u : ClientWord → ℕ) (ps : List (Put ClientWord)) → Only client-words (Within-store z) ps
     → Fields-sound z u → Fields-sound z (changed client-words u ps)
 stores-within z u ps h F =
     only-keeps client-words (Within-store z) (Fields-sound z) (λ m a v q f. store-within z m a v q f) ps u h F
 
 -- what is dropped is in range
-drop-within : (z : S.Sizes) (a : ClientWord) (v : ℕ) → Drop a v → Within-store z a v
+drop-within : (z : S.TreeSizes) (a : ClientWord) (v : ℕ) → Drop a v → Within-store z a v
 unfolding Within-store Mark
 drop-within z (field i) v h =
     subst (λ (j : ℕ). (calm j v ≡ true) × (j < 13 → v ≤ bound z j)) (sym (h .0)) (refl, λ l. omega (arith, h .1))
@@ -103,7 +103,7 @@ drop-within z (item s i n) v h = tt
 drop-within z (vector-word s n) v h = tt
 
 -- ---- one field changes, and none of the operation's: a count
-module _ (z : S.Sizes) (u v : ClientWord → ℕ) where
+module _ (z : S.TreeSizes) (u v : ClientWord → ℕ) where
   field-sound : (f : ℕ) → 4 < f → ((i : ℕ) → i < 13 → ¬ (i ≡ f) → v (field i) ≡ u (field i)) → v (field f) ≤ bound z f
       → Fields-sound z u → Fields-sound z v
   unfolding op-fits
@@ -125,7 +125,7 @@ module _ (z : S.Sizes) (u v : ClientWord → ℕ) where
   count-sound s f l h = field-sound f l (λ i q n. field-same s f u v h i n)
 
 -- ---- THE STEPS
-module _ (z : S.Sizes) (u : ClientWord → ℕ) where
+module _ (z : S.TreeSizes) (u : ClientWord → ℕ) where
   abbrev Stays : List (Put ClientWord) → Type 0
   Stays ps = Fields-sound z u → Fields-sound z (changed client-words u ps)
 
@@ -152,13 +152,13 @@ module _ (z : S.Sizes) (u : ClientWord → ℕ) where
   reset-fields p l = stores-within z u (reset p u) (reset-within p l)
 
   -- an operation that waits
-  pub give-fields : (op key value server : ℕ) → op ≤ 6 → key < H → value < H → server < H
-      → (op ≡ 6 → (in-store z key ≡ true) × (server < z .servers)) → Stays (give op key value server u)
-  unfolding give put-fields puts op-fits
+  pub give-fields : (op key value server : ℕ) → op ≤ 6 → key < two-to-64 → value < two-to-64 → server < two-to-64
+      → (op ≡ 6 → (in-store z key ≡ true) × (server < z .servers)) → Stays (give-part op key value server u)
+  unfolding give-part put-fields puts op-fits
   give-fields op key value server o k v s m F = record { within = go; op = fits (ℕ-discrete op 6) }
     where
       ps : List (Put ClientWord)
-      ps = give op key value server u
+      ps = give-part op key value server u
 
       at : (a : ClientWord) → changed client-words u ps a ≡ last client-words ps a (u a)
       at a = read-after client-words ps u a
@@ -217,7 +217,7 @@ module _ (z : S.Sizes) (u : ClientWord → ℕ) where
   dropped-fields ps h = stores-within z u ps (only-mono client-words Drop (Within-store z) (drop-within z) ps h)
 
 -- ---- words of copies
-module _ (z : S.Sizes) where
+module _ (z : S.TreeSizes) where
   abbrev Fine : List (Put ClientWord) → Type 0
   Fine = Only client-words (Within-store z)
 

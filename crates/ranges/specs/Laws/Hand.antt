@@ -15,12 +15,12 @@ use Rattle.nodes.specs.declared.found.Found.the-variants.{At, Absent}
 use Rattle.nodes.specs.Node.{slotsOf}
 use Rattle.operations.specs.Object.{Obj, meta, node, flag, Ask, object, vector, fetched, Val, Ans, Writes}
 use Rattle.operations.specs.Operation.{all-fit?}
-use Rattle.operations.specs.Slot.{Sizes, Allowed}
+use Rattle.operations.specs.Slot.{TreeSizes, Allowed}
 use Rattle.operations.specs.Laws.Storable.{Storable, Named, All-storable, Inside}
 use Rattle.operations.specs.Laws.Storing.{writes-storable, asked-inside}
 use Rattle.client.specs.Layout.{ClientWord, reads-count}
 use Rattle.client.specs.Answered.{entered}
-use Rattle.client.specs.Record.{number, in-store, object-in-store, fits}
+use Rattle.client.specs.Record.{number, in-store, object-in-store, record-in-range}
 use Rattle.client.specs.Sets.{record-at, find}
 use Rattle.client.specs.Have.{is-found, copied, or-copied, or-read, source, have, broken}
 use Rattle.client.specs.Items.{has}
@@ -54,12 +54,12 @@ is-refused (Work.aborted y) = false
 is-refused (Work.answers a w) = false
 
 -- an object of the store
-named-there : (z : Sizes) (o : Obj) → Named (There z) o → object-in-store z o ≡ true
+named-there : (z : TreeSizes) (o : Obj) → Named (There z) o → object-in-store z o ≡ true
 named-there z meta h = refl
 named-there z (node n) h = h
 named-there z (flag n) h = h
 
-module _ (z : Sizes) (u : ClientWord → ℕ) (P : Part-sound z u) where
+module _ (z : TreeSizes) (u : ClientWord → ℕ) (P : Part-sound z u) where
   -- "An object is read from the write set, else the read set, else the client's copies"
   source-sound : (x : ℕ) → is-found (source u x .how) ≡ true → Sound z x (source u x .node)
   unfolding source
@@ -79,7 +79,7 @@ module _ (z : Sizes) (u : ClientWord → ℕ) (P : Part-sound z u) where
   unfolding broken
   unbroken (object o) h = rw (named-there z o h) (go (is-found (source u (number o) .how)) refl)
     where
-      go : (b : Bool) → is-found (source u (number o) .how) ≡ b → (b && not (fits z (number o) (source u (number o) .node))) ≡ false
+      go : (b : Bool) → is-found (source u (number o) .how) ≡ b → (b && not (record-in-range z (number o) (source u (number o) .node))) ≡ false
       go true e = ap not (source-sound (number o) e .fitting)
       go false e = refl
   unbroken (vector s) h = ap not (lt-ltb s (z .servers) h)
@@ -98,7 +98,7 @@ module _ (z : Sizes) (u : ClientWord → ℕ) (P : Part-sound z u) where
 
 -- ---- A CLIENT THAT WORKS: what it has at hand, as the machine has it too
 module _ (k j slots : ℕ) (al : Allowed (sizes k j slots)) (u : ClientWord → ℕ) (P : Part-sound (sizes k j slots) u) (f : Obj → Option (M.Copy (T k j slots))) (copies : Copies-shown k j slots u f) (y : M.Slot (T k j slots)) (shown : Slot-shown k j slots u y) where
-  abbrev z : Sizes
+  abbrev z : TreeSizes
   z = sizes k j slots
 
   fit : client-fits z u ≡ true

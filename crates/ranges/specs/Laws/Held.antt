@@ -90,18 +90,18 @@ module _ (k j slots : ℕ) (few : suc j ≤ 16) (m : Address → ℕ) (W : Sound
     u = client-of m (c .0)
 
     -- an item of the read set that is locked at s
-    pub item-judged : 2 ≤ u phase → (s : Fin (suc k)) (n : ℕ) → n < count u Reads → locked-at (J.lowest z m (c .0)) (s .0) (read-item u n) ≡ true
+    pub item-judged : 2 ≤ u phase → (s : Fin (suc k)) (n : ℕ) → n < count u Reads → locked-at (J.lowest-participant z m (c .0)) (s .0) (read-item u n) ≡ true
         → J.lock-fits z m (s .0) (read-item u n) ≡ true
     unfolding item-of
     item-judged late s n l b =
         lock-judged s (obj-of (number-at u Reads n)) (read-in k j slots al u fit n l)
-        (here-kept k j slots al u fit y shown s (J.lowest z m (c .0)) (shown .lowest-as late) (server-of m (s .0)) n l b) (read-item u n)
+        (here-kept k j slots al u fit y shown s (J.lowest-participant z m (c .0)) (shown .lowest-as late) (server-of m (s .0)) n l b) (read-item u n)
         (sym (number-obj (number-at u Reads n)))
 
     pub unlock-judged : 2 ≤ u phase → (s : Fin (suc k)) → J.unlock-fits z m (c .0) (s .0) ≡ true
     unfolding J.unlock-fits
     unlock-judged late s =
-        every-below (count u Reads) (λ n. not (locked-at (J.lowest z m (c .0)) (s .0) (read-item u n)) || J.lock-fits z m (s .0) (read-item u n))
+        every-below (count u Reads) (λ n. not (locked-at (J.lowest-participant z m (c .0)) (s .0) (read-item u n)) || J.lock-fits z m (s .0) (read-item u n))
         (λ n l. unless _ _ (item-judged late s n l))
 
     pub abort-judged : (u phase ≡ 1) ⊎ (u phase ≡ 2) → J.abort-fits z m (c .0) ≡ true

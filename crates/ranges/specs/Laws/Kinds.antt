@@ -18,7 +18,7 @@ use Rattle.steps.specs.declared.sizes.Sizes.{Sizes}
 use Rattle.steps.specs.declared.step.Step.{Step}
 use Rattle.steps.specs.declared.step.Kind.the-variants.{Work}
 use Rattle.steps.specs.Whole.{Address}
-use Rattle.steps.specs.Refusal.{Row, first, kind-of, fits, of-step, refusal}
+use Rattle.steps.specs.Refusal.{Row, first, kind-of, state-fits, of-step, refusal}
 use Rattle.steps.specs.Passed.{Passed}
 use Rattle.steps.specs.Laws.Passed.{passed}
 use Rattle.steps.specs.Laws.Stores.{client-of}
@@ -75,8 +75,8 @@ module _ (k j slots : ℕ) (al : Allowed (sizes k j slots)) (few : suc j ≤ 16)
     abbrev u : ClientWord → ℕ
     u = client-of m (n .client)
 
-    work-kept : fits u (n .server) Work ≡ true → Fine (Steps.work z m (n .client))
-    unfolding Steps.work fits
+    work-kept : state-fits u (n .server) Work ≡ true → Fine (Steps.work z m (n .client))
+    unfolding Steps.work state-fits
     work-kept f = go (worked (sizes k j slots) u) refl
       where
         now : u phase ≡ 1
@@ -89,10 +89,10 @@ module _ (k j slots : ℕ) (al : Allowed (sizes k j slots)) (few : suc j ≤ 16)
         go (Work.answers a w) e = answer-kept k j slots al few m S L M (G .shown) c now a w e
 
     kind-kept : Passed z n m → Fine (Steps.by-kind z m (n .client) n (kind-of (n .kind)))
-    unfolding kind-of fits
+    unfolding kind-of state-fits
     kind-kept p = go (n .kind) refl (p .known-kind) (p .fitting)
       where
-        go : (x : ℕ) → n .kind ≡ x → x ≤ 7 → fits u (n .server) (kind-of x) ≡ true → Fine (Steps.by-kind z m (n .client) n (kind-of x))
+        go : (x : ℕ) → n .kind ≡ x → x ≤ 7 → state-fits u (n .server) (kind-of x) ≡ true → Fine (Steps.by-kind z m (n .client) n (kind-of x))
         go zero e l f = begin-kept k j slots m S c (eqb-true (u phase) 0 f)
         go (suc zero) e l f =
             give-kept k j slots m S c n (eqb-true (u phase) 1 (and-both (eqb (u phase) 1) (eqb (u op-number) 0) f .0)) (p .known-op e)

@@ -19,7 +19,7 @@ use Rattle.operations.specs.Object.{Obj}
 use Rattle.operations.specs.Slot.{Allowed}
 use Rattle.server.specs.declared.place.Place.{Place}
 use Rattle.server.specs.Object.{object-of, lock-of}
-use Rattle.server.specs.Lock.{locked, in-range}
+use Rattle.server.specs.Lock.{locked, lock-in-range}
 use Rattle.server.specs.Laws.Lock.{locked-range}
 use Rattle.client.specs.declared.part.Set.the-variants.{Reads, Writes, Copies}
 use Rattle.client.specs.Layout.{ClientWord, client-words, field, item, vector-word, phase, participants, prepared, applied, reads-count, writes-count}
@@ -30,13 +30,13 @@ use Rattle.client.specs.Items.{inner, has, of-record}
 use Rattle.client.specs.Participants.{lowest-of}
 use Rattle.client.specs.Part.{put-field}
 use Rattle.client.specs.Copies.{drop-all}
-use Rattle.client.specs.Life.{lose}
+use Rattle.client.specs.Life.{lose-part}
 use Rattle.client.specs.Fits.{client-fits}
 use Rattle.client.specs.Course.{noted, decided}
 use Rattle.steps.specs.declared.sizes.Sizes.{Sizes}
 use Rattle.steps.specs.Whole.{Address, server, client, whole}
 use Rattle.steps.specs.Laws.Stores.{client-of, server-of, client-changed, client-else, client-servers}
-use Rattle.steps.specs.Judge.{lowest}
+use Rattle.steps.specs.Judge.{lowest-participant}
 use Rattle.steps.specs.Steps.{lock-each, preparing}
 use Rattle.demand.specs.Laws.Store.{sizes}
 use Rattle.demand.specs.Laws.Frame.{last, read-after, Only, only-then, only-mono, only-other}
@@ -103,10 +103,10 @@ goes-on-silent s u ps h = record {
     at a e = only-other client-words Silent a (λ x v c q. not-both e (ap telling q ∙ c)) ps u h
 
 -- "A decided transaction of a lost client is still applied"
-goes-on-lost : (s : ℕ) (u : ClientWord → ℕ) → Goes-on s u (changed client-words u (lose u))
-unfolding lose put-field Only Mark
+goes-on-lost : (s : ℕ) (u : ClientWord → ℕ) → Goes-on s u (changed client-words u (lose-part u))
+unfolding lose-part put-field Only Mark
 goes-on-lost s u =
-    goes-on-silent s u (lose u)
+    goes-on-silent s u (lose-part u)
     (only-then client-words Silent (put-field 9 1) drop-all u (refl, tt)
     (λ m. only-mono client-words Drop Silent drop-silent (drop-all m) (only-all m)))
   where
@@ -141,7 +141,7 @@ module _ (z : Sizes) (s : ℕ) where
   held-by m x w h true d l e = let q = h .writer d l e in (q .0, λ _. q .1)
   held-by m x w h false d l e = (h .readers d l e, λ q. absurd (true≢false (sym q)))
 
-  pub lock-from : (m : Address → ℕ) (x w : ℕ) → in-range (z .clients) w ≡ true
+  pub lock-from : (m : Address → ℕ) (x w : ℕ) → lock-in-range (z .clients) w ≡ true
       → ((role : Bool) (d : ℕ) → d < z .clients → names role d w ≡ true → Held m role d x) → Lock-sound z m s x w
   lock-from m x w r h = record {
     range = r;
@@ -179,7 +179,7 @@ module _ (z : Sizes) (s : ℕ) where
         item-as (number-at v₀ Reads i) (record-at v₀ Reads i)
         ∙ ap₂ (U.item-of u₀) (number-frame 0 0 0 u₀ v₀ (G .sets) Reads i (G .sets .items-read i 0)) (record-frame u₀ v₀ Reads i (G .sets .items-read i))
 
-    locked-same : (i : ℕ) → U.locked-at (lowest z m′ d) s (U.read-item v₀ i) ≡ U.locked-at (lowest z m d) s (U.read-item u₀ i)
+    locked-same : (i : ℕ) → U.locked-at (lowest-participant z m′ d) s (U.read-item v₀ i) ≡ U.locked-at (lowest-participant z m d) s (U.read-item u₀ i)
     locked-same i = ap₂ (λ (w : ℕ) (i : U.Item). U.locked-at (lowest-of (z .servers) w) s i) (G .same-participants) (item-same i)
 
     goes-on-held : (role : Bool) (x : ℕ) → Held m role d x → Held m′ role d x
@@ -225,7 +225,7 @@ module _ (k j slots : ℕ) (m m′ : Address → ℕ) (c : ℕ) (others : (d : �
     pub unstored : server-of m′ (s .0) ≡ server-of m (s .0) → Locks-sound k j slots m s → Locks-sound k j slots m′ s
     unstored e S o hi kept =
         let same : word m′ o ≡ word m o = ap (λ (p : Place → ℕ). p (lock-of (object-of (number o)))) e in
-        lock-from zz (s .0) m′ (number o) (word m′ o) (subst (λ (w : ℕ). in-range (suc j) w ≡ true) (sym same) (S o hi kept .range))
+        lock-from zz (s .0) m′ (number o) (word m′ o) (subst (λ (w : ℕ). lock-in-range (suc j) w ≡ true) (sym same) (S o hi kept .range))
         (λ role d l q. each-held role d (number o)
         (held-by zz (s .0) m (number o) (word m o) (S o hi kept) role d l (subst (λ (w : ℕ). names role d w ≡ true) same q)))
 
@@ -246,8 +246,8 @@ module _ (k j slots : ℕ) (m : Address → ℕ) (c : ℕ) (ps : List (Put Clien
 
 -- a lost client's mark; the decision
 module _ (k j slots : ℕ) (m : Address → ℕ) (c : ℕ) (S : (s : Fin (suc k)) → Locks-sound k j slots m s) where
-  pub lost-locks : (s : Fin (suc k)) → Locks-sound k j slots (changed whole m (over (client c) (lose (client-of m c)))) s
-  lost-locks = part-stored k j slots m c (lose (client-of m c)) S (λ s x h. goes-on-lost (s .0) (client-of m c))
+  pub lost-locks : (s : Fin (suc k)) → Locks-sound k j slots (changed whole m (over (client c) (lose-part (client-of m c)))) s
+  lost-locks = part-stored k j slots m c (lose-part (client-of m c)) S (λ s x h. goes-on-lost (s .0) (client-of m c))
 
   pub decided-locks : (s : Fin (suc k)) → Locks-sound k j slots (changed whole m (over (client c) (decided (client-of m c)))) s
   decided-locks = part-stored k j slots m c (decided (client-of m c)) S (λ s x h. goes-on-decided (s .0) (client-of m c))
@@ -270,7 +270,7 @@ module _ (k j slots : ℕ) (al : Allowed (sizes k j slots)) (few : suc j ≤ 16)
   shown = R .clients c .slot
 
   abbrev low : ℕ
-  low = lowest z m (c .0)
+  low = lowest-participant z m (c .0)
 
   el : y .lowest .0 ≡ low
   el = shown .lowest-as (omega (arith, now))
@@ -357,10 +357,10 @@ module _ (k j slots : ℕ) (al : Allowed (sizes k j slots)) (few : suc j ≤ 16)
           (sym (ap (λ (f : Place → ℕ). f (lock-of (object-of (number o)))) (both-server m (s .0) (c .0) ps qs)))
           (locked-swept k j slots al u fit y shown s low el p (c .0) o hi kept)
 
-      in-range-now : Now → in-range (suc j) w′ ≡ true
+      in-range-now : Now → lock-in-range (suc j) w′ ≡ true
       in-range-now (inl q) =
-          subst (λ (x : ℕ). in-range (suc j) x ≡ true) (sym (q .2)) (locked-range (suc j) w few (S s o hi kept .range) (c .0) (c .1) (U.read-item u (q .0) .written))
-      in-range-now (inr q) = subst (λ (x : ℕ). in-range (suc j) x ≡ true) (sym (q .1)) (S s o hi kept .range)
+          subst (λ (x : ℕ). lock-in-range (suc j) x ≡ true) (sym (q .2)) (locked-range (suc j) w few (S s o hi kept .range) (c .0) (c .1) (U.read-item u (q .0) .written))
+      in-range-now (inr q) = subst (λ (x : ℕ). lock-in-range (suc j) x ≡ true) (sym (q .1)) (S s o hi kept .range)
 
       named : Now → (role : Bool) (d : ℕ) → d < suc j → names role d w′ ≡ true → Held z (s .0) m′ role d (number o)
       named (inr q) role d l e = before o hi kept role d l (subst (λ (x : ℕ). names role d x ≡ true) (q .1) e)

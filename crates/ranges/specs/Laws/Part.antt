@@ -15,7 +15,7 @@ use Rattle.nodes.specs.declared.found.Found.{Found}
 use Rattle.nodes.specs.declared.found.Found.the-variants.{At, Absent}
 use Rattle.nodes.specs.Laws.Stored.{Sized, made-sized}
 use Rattle.operations.specs.Object.{Writes}
-use Rattle.operations.specs.Map.{H}
+use Rattle.operations.specs.Map.{two-to-64}
 use Rattle.client.specs.Layout.{ClientWord, client-words, item, op-number, prepared, applied, reads-count, writes-count}
 use Rattle.client.specs.Record.{number-in-store, in-store, single}
 use Rattle.client.specs.Laws.Part.{count-limit}
@@ -30,7 +30,7 @@ use Rattle.client.specs.Drops.{drop-used}
 use Rattle.client.specs.Enter.{enter-read, written-behind, enter-at, enter-write, enter-entries}
 use Rattle.client.specs.Fetched.{fetched-meta, copy-inner, mark-fetched, fetched-node, fetched-vector}
 use Rattle.client.specs.Answered.{used-enter, entered, enter-writes, answered}
-use Rattle.client.specs.Life.{reset, give, lose, abort}
+use Rattle.client.specs.Life.{reset, give-part, lose-part, abort-part}
 use Rattle.demand.specs.Laws.Frame.{Only, only-then, then-keeps, read-after}
 use Rattle.demand.specs.Laws.CopyWords.{sets-stay, only-copy, only-fields, only-vector}
 use Rattle.demand.specs.Laws.Dropped.{Drop, fewer, fewer-sets, only-used, only-outer, only-all}
@@ -50,7 +50,7 @@ use Rattle.ranges.specs.Laws.Fields as F
 use Rattle.ranges.specs.Laws.Copies as C
 
 -- an object that enters the read set
-entered-part : (z : S.Sizes) (u v : ClientWord → ℕ) (x : ℕ) (r : Node) → Read-entered u v x r → Item-sound z x r → Part-sound z u → Part-sound z v
+entered-part : (z : S.TreeSizes) (u v : ClientWord → ℕ) (x : ℕ) (r : Node) → Read-entered u v x r → Item-sound z x r → Part-sound z u → Part-sound z v
 unfolding count
 entered-part z u v x r E I P = record {
   fields = F.count-sound z u v set.Reads 10 (omega arith) (E .other) (omega (arith, E .counted, E .after, count-limit v set.Reads)) (P .fields);
@@ -58,17 +58,17 @@ entered-part z u v x r E I P = record {
   copies = C.copies-read z u v (P .copies) (E .other);
 }
 
-module _ (z : S.Sizes) (u : ClientWord → ℕ) (P : Part-sound z u) where
+module _ (z : S.TreeSizes) (u : ClientWord → ℕ) (P : Part-sound z u) where
   -- stores in the fields before the counts
   few-fields : (ps : List (Put ClientWord)) → Space.Only client-words C.before-counts ps → Fields-sound z (changed client-words u ps)
       → Part-sound z (changed client-words u ps)
   few-fields ps h f =
       record { fields = f; sets = sets-frame z u (changed client-words u ps) (C.fields-sets u ps h) (P .sets); copies = C.fields-copies u ps h z (P .copies) }
 
-  pub give-part : (op key value server : ℕ) → op ≤ 6 → key < H → value < H → server < H → (op ≡ 6 → (in-store z key ≡ true) × (server < z .servers))
-      → Part-sound z (changed client-words u (give op key value server u))
-  give-part op key value server l k v s there =
-      few-fields (give op key value server u) (C.only-give u op key value server) (F.give-fields z u op key value server l k v s there (P .fields))
+  pub give-part-sound : (op key value server : ℕ) → op ≤ 6 → key < two-to-64 → value < two-to-64 → server < two-to-64 → (op ≡ 6 → (in-store z key ≡ true) × (server < z .servers))
+      → Part-sound z (changed client-words u (give-part op key value server u))
+  give-part-sound op key value server l k v s there =
+      few-fields (give-part op key value server u) (C.only-give u op key value server) (F.give-fields z u op key value server l k v s there (P .fields))
 
   pub commit-part : Part-sound z (changed client-words u (committing (z .servers) u))
   commit-part = few-fields (committing (z .servers) u) (C.only-committing u (z .servers)) (F.committing-fields z u (P .fields))
@@ -137,7 +137,7 @@ module _ (z : S.Sizes) (u : ClientWord → ℕ) (P : Part-sound z u) where
   }
 
 -- copies are renewed
-renews : (z : S.Sizes) → Renews (Part-sound z)
+renews : (z : S.TreeSizes) → Renews (Part-sound z)
 renews z = record {
   outer-drops = λ i w Q. dropped-part z w Q (Rn.drop-outer i w) (only-outer i w);
   node-renews = λ i w Q l h. let n = renewed-node z w (Q .sets) i l h in node-copied z w Q (number-at w set.Writes i) (Rn.renewed w i) (n .0) (n .1);
@@ -146,7 +146,7 @@ renews z = record {
 }
 
 -- the writes of an operation keep their count within its limit
-module _ (z : S.Sizes) where
+module _ (z : S.TreeSizes) where
   abbrev Fine : List (Put ClientWord) → Type 0
   Fine = Only client-words (F.Within-store z)
 
@@ -173,10 +173,10 @@ module _ (z : S.Sizes) where
       one (At i) = item-within i (e .0) (e .1) u
       one Absent = behind (ltb n 48) refl
 
-module _ (z : S.Sizes) (u : ClientWord → ℕ) (P : Part-sound z u) where
+module _ (z : S.TreeSizes) (u : ClientWord → ℕ) (P : Part-sound z u) where
   -- a transaction ends: "An abort .. drops copies of all objects read"; "The last apply ends the transaction and renews its copies"
-  pub abort-part : (us : List ℕ) → Part-sound z (changed client-words u (abort us u))
-  abort-part us =
+  pub abort-part-sound : (us : List ℕ) → Part-sound z (changed client-words u (abort-part us u))
+  abort-part-sound us =
       then-keeps client-words (Part-sound z) (drop-used us) (reset 0) u (dropped-part z u P (drop-used us u) (only-used us u)) (λ w Q. reset-part z w Q 0 (omega arith))
 
   pub finish-part : Part-sound z (changed client-words u (Rn.finish u))
@@ -187,9 +187,9 @@ module _ (z : S.Sizes) (u : ClientWord → ℕ) (P : Part-sound z u) where
   pub forget-part : Part-sound z (changed client-words u (drop-all u))
   forget-part = dropped-part z u P (drop-all u) (only-all u)
 
-  pub lose-part : Part-sound z (changed client-words u (lose u))
-  unfolding lose
-  lose-part = then-keeps client-words (Part-sound z) (put-field 9 1) drop-all u (lost-part z u P) (λ w Q. dropped-part z w Q (drop-all w) (only-all w))
+  pub lose-part-sound : Part-sound z (changed client-words u (lose-part u))
+  unfolding lose-part
+  lose-part-sound = then-keeps client-words (Part-sound z) (put-field 9 1) drop-all u (lost-part z u P) (λ w Q. dropped-part z w Q (drop-all w) (only-all w))
 
   -- ---- what is handed over
   pub meta-part : (root version : ℕ) → Sound z 0 (single version root) → Part-sound z (changed client-words u (fetched-meta root version u))
@@ -225,7 +225,7 @@ module _ (z : S.Sizes) (u : ClientWord → ℕ) (P : Part-sound z u) where
         copies = C.copies-written z u _ (P .copies) (W .1);
       }
 
-module _ (z : S.Sizes) (u : ClientWord → ℕ) (P : Part-sound z u) where
+module _ (z : S.TreeSizes) (u : ClientWord → ℕ) (P : Part-sound z u) where
   pub answer-part : (us : List ℕ) (w : Writes) → All-copied z u us → Every (λ e. Item-sound z (e .0) (e .1)) (entered w) → All-whole (entered w)
       → Every (λ e. May-write (after-used u us) (e .0)) (entered w) → Part-sound z (changed client-words u (answered us w u))
   unfolding answered enter-writes andThen

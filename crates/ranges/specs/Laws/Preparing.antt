@@ -20,7 +20,7 @@ use Rattle.client.specs.Fits.{client-fits}
 use Rattle.steps.specs.declared.sizes.Sizes.{Sizes}
 use Rattle.steps.specs.declared.outcome.Outcome.the-variants.{Prepared, Decided}
 use Rattle.steps.specs.Whole.{Address, client, whole}
-use Rattle.steps.specs.Judge.{lock-fits, check-fits, lowest, versions-fit, prepare-fits}
+use Rattle.steps.specs.Judge.{lock-fits, check-fits, lowest-participant, versions-fit, prepare-fits}
 use Rattle.steps.specs.Laws.Stores.{client-of, server-of}
 use Rattle.steps.specs.Steps.{lock-each}
 use Rattle.steps.specs.Uses.{read-item, checked-at, locked-at}
@@ -54,7 +54,7 @@ module _ (k j slots : ℕ) (al : Allowed (sizes k j slots)) (few : suc j ≤ 16)
     u = client-of m (c .0)
 
     abbrev low : ℕ
-    low = lowest z m (c .0)
+    low = lowest-participant z m (c .0)
 
     fit : client-fits (sizes k j slots) u ≡ true
     fit = part-fits (sizes k j slots) u (S .parts c)

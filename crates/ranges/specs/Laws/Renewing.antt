@@ -9,12 +9,12 @@ use Rattle.layout.specs.Space.{tab}
 use Rattle.nodes.specs.declared.node.Node.{Node}
 use Rattle.nodes.specs.declared.found.Found.{Found}
 use Rattle.nodes.specs.declared.found.Found.the-variants.{At, Absent}
-use Rattle.nodes.specs.Range.{in-range}
+use Rattle.nodes.specs.Range.{node-in-range}
 use Rattle.nodes.specs.Stored.{node-of}
 use Rattle.nodes.specs.Laws.Stored.{Sized}
 use Rattle.client.specs.declared.part.Set.the-variants.{Reads, Writes}
 use Rattle.client.specs.Layout.{ClientWord, item}
-use Rattle.client.specs.Record.{single, by-number, first-slot, in-store, last-version, fits}
+use Rattle.client.specs.Record.{single, by-number, first-slot, in-store, last-version, record-in-range}
 use Rattle.client.specs.Sets.{count, record-at, number-at, find}
 use Rattle.client.specs.Commit.{inner-at}
 use Rattle.demand.specs.Laws.Held.{found-at}
@@ -25,12 +25,12 @@ use Rattle.operations.specs.Slot as S
 use Rattle.client.specs.Renew as Rn
 
 -- the record of an object whose number names a node
-node-record : (z : S.Sizes) (x : ℕ) (r : Node) (b : Bool) → by-number x false (λ n. b) (λ n. false) ≡ true → Sound z x r → Node-sound z r
-unfolding fits
+node-record : (z : S.TreeSizes) (x : ℕ) (r : Node) (b : Bool) → by-number x false (λ n. b) (λ n. false) ≡ true → Sound z x r → Node-sound z r
+unfolding record-in-range
 node-record z x r b h s = go (eqb x 0) (leb x 8192) h (s .fitting) (s .children)
   where
     go : (c d : Bool) → cond c false (cond d b false) ≡ true
-        → cond c (in-store z (first-slot r) && leb (r .version) last-version) (cond d (in-range r) (leb (first-slot r) 1)) ≡ true
+        → cond c (in-store z (first-slot r) && leb (r .version) last-version) (cond d (node-in-range r) (leb (first-slot r) 1)) ≡ true
         → cond c true (cond d (children-there z r) true) ≡ true → Node-sound z r
     go true d h f g = absurd (false≢true h)
     go false true h f g = record { range = f; children = g }
@@ -49,7 +49,7 @@ new-within w x = go (find w Reads x)
     go (At j) = next (w (item Reads j 3)) (ltb (w (item Reads j 3)) 4294967295) refl
     go Absent = omega arith
 
-module _ (z : S.Sizes) (w : ClientWord → ℕ) (S : Sets-sound z w) where
+module _ (z : S.TreeSizes) (w : ClientWord → ℕ) (S : Sets-sound z w) where
   -- "then written inner nodes by name"
   pub renewed-node : (i : ℕ) → i < count w Writes → inner-at w Writes i ≡ true → Sized (Rn.renewed w i) × Node-sound z (Rn.renewed w i)
   unfolding Rn.renewed Rn.versioned inner-at

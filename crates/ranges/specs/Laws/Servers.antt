@@ -9,7 +9,7 @@ use Rattle.memory.specs.Laws.Bit.{zero-bit}
 use Rattle.layout.specs.Space.{changed, tab}
 use Rattle.nodes.specs.Lists.{pad}
 use Rattle.nodes.specs.Node.{made}
-use Rattle.nodes.specs.Range.{in-range}
+use Rattle.nodes.specs.Range.{node-in-range}
 use Rattle.nodes.specs.Stored.{node-of}
 use Rattle.server.specs.declared.object.Object.{Object}
 use Rattle.server.specs.declared.place.Place.{Place}
@@ -19,13 +19,13 @@ use Rattle.server.specs.Object.{object-of, lock-of}
 use Rattle.server.specs.Laws.Lock.{reads, writes, free-range}
 use Rattle.server.specs.Laws.Fresh.{fresh}
 use Rattle.client.specs.Layout.{ClientWord}
-use Rattle.client.specs.Record.{number, single, in-store, fits, last-version}
+use Rattle.client.specs.Record.{number, single, in-store, record-in-range, last-version}
 use Rattle.client.specs.Sets.{count}
 use Rattle.client.specs.Fits.{op-fits}
 use Rattle.steps.specs.Whole.{Address}
 use Rattle.steps.specs.Laws.Stores.{client-of, server-of}
 use Rattle.steps.specs.Steps.{lock-each, unlock-each, node-at}
-use Rattle.steps.specs.Uses.{object}
+use Rattle.steps.specs.Uses.{item-object}
 use Rattle.steps.specs.Run.{opened}
 use Rattle.demand.specs.Laws.Store.{sizes}
 use Rattle.demand.specs.Laws.Servers.{is-lock, lock-stays, unlock-stays, node-frame}
@@ -38,7 +38,7 @@ use Rattle.operations.specs.Slot as S
 use Rattle.server.specs.declared.object.Object.the-variants as object
 
 -- ---- locks are no part of it
-module _ (z : S.Sizes) (s : ℕ) where
+module _ (z : S.TreeSizes) (s : ℕ) where
   server-frame : (p q : Place → ℕ) → ((a : Place) → is-lock a ≡ false → q a ≡ p a) → Server-sound z s p → Server-sound z s q
   server-frame p q h sound = record {
     metadata = subst (Sound z 0) (sym (ap₂ single (h Version refl) (h Root refl))) (sound .metadata);
@@ -60,13 +60,13 @@ lock-zero s object.Metadata = zero-at s MetadataLock refl
 lock-zero s (object.Node x) = zero-at s (NodeLock (N.server-of (x .number)) (N.slot-of (x .number))) refl
 lock-zero s (object.Flag x) = zero-at s (FlagLock (N.slot-of (x .number))) refl
 
-new-node : (z : S.Sizes) (s n : ℕ) → N.server-of n ≡ s → Node-sound z (node-at (fresh s) n)
-unfolding made pad node-of tab in-range children-there
+new-node : (z : S.TreeSizes) (s n : ℕ) → N.server-of n ≡ s → Node-sound z (node-at (fresh s) n)
+unfolding made pad node-of tab node-in-range children-there
 new-node z s zero e = subst (λ (t : ℕ). Node-sound z (node-at (fresh t) 0)) e (subst (Node-sound z) (sym root-node) (record { range = refl; children = refl }))
 new-node z s (suc n) e = subst (Node-sound z) (sym (empty-node s (suc n) e (λ q. absurd (omega arith)))) (record { range = refl; children = refl })
 
-new-server : (z : S.Sizes) → in-store z 0 ≡ true → (s : ℕ) → Server-sound z s (fresh s)
-unfolding single made pad fits
+new-server : (z : S.TreeSizes) → in-store z 0 ≡ true → (s : ℕ) → Server-sound z s (fresh s)
+unfolding single made pad record-in-range
 new-server z there s = record {
   metadata = subst (Sound z 0) (sym (ap₂ single (zero-at s Version refl) (zero-at s Root refl))) (record { fitting = rw there; children = refl });
   nodes = λ n i e. new-node z s n e;
@@ -74,7 +74,7 @@ new-server z there s = record {
 }
 
 -- ---- A NEW CLIENT'S PART
-new-part : (z : S.Sizes) → Part-sound z (λ a. 0)
+new-part : (z : S.TreeSizes) → Part-sound z (λ a. 0)
 unfolding op-fits count
 new-part z = record {
   fields = record { within = λ i l. omega arith; op = refl };

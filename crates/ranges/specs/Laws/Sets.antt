@@ -17,15 +17,15 @@ use Rattle.nodes.specs.declared.found.Found.{Found}
 use Rattle.nodes.specs.declared.found.Found.the-variants.{At, Absent}
 use Rattle.nodes.specs.Lists.{pad}
 use Rattle.nodes.specs.Node.{made}
-use Rattle.nodes.specs.Range.{in-range}
+use Rattle.nodes.specs.Range.{node-in-range}
 use Rattle.nodes.specs.Laws.Range.{range-version}
 use Rattle.nodes.specs.Laws.Stored.{Sized}
-use Rattle.operations.specs.Slot.{Sizes}
+use Rattle.operations.specs.Slot.{TreeSizes}
 use Rattle.client.specs.declared.answer.Look.{Look}
 use Rattle.client.specs.declared.part.Set.{Set}
 use Rattle.client.specs.declared.part.Set.the-variants.{Reads, Writes, Copies}
 use Rattle.client.specs.Layout.{ClientWord, client-words, field, item, vector-word, reads-count, writes-count, meta-copied, meta-root, meta-version}
-use Rattle.client.specs.Record.{first-slot, single, number-in-store, in-store, last-version, fits}
+use Rattle.client.specs.Record.{first-slot, single, number-in-store, in-store, last-version, record-in-range}
 use Rattle.client.specs.Sets.{or-found, at-most, count, record-at, number-at, find}
 use Rattle.client.specs.Items.{has}
 use Rattle.client.specs.Part.{nothing}
@@ -46,7 +46,7 @@ use Rattle.ranges.specs.Laws.Sound.{Sound, Item-sound, Sets-sound, Copie
 use Rattle.nodes.specs.Name as N
 
 -- ---- A SOUND PART IS IN RANGE
-pub part-fits : (z : Sizes) (u : ClientWord → ℕ) → Part-sound z u → client-fits z u ≡ true
+pub part-fits : (z : TreeSizes) (u : ClientWord → ℕ) → Part-sound z u → client-fits z u ≡ true
 unfolding client-fits field-fits item-fits has-read vector-fits has
 part-fits z u P =
     let every = 2 ^ z .servers - 1 in
@@ -58,22 +58,22 @@ part-fits z u P =
     rw (fields, P .fields .op, reads, writes, vectors)
 
 -- the version of metadata, or of a node
-pub sound-version : (z : Sizes) (x : ℕ) (r : Node) → Sound z x r → x ≤ 8192 → r .version ≤ last-version
-unfolding fits
+pub sound-version : (z : TreeSizes) (x : ℕ) (r : Node) → Sound z x r → x ≤ 8192 → r .version ≤ last-version
+unfolding record-in-range
 sound-version z x r h l = go (eqb x 0) (leb x 8192) (le-leb x 8192 l) (h .fitting)
   where
     go : (a b : Bool) → b ≡ true
-        → cond a (in-store z (first-slot r) && leb (r .version) last-version) (cond b (in-range r) (leb (first-slot r) 1)) ≡ true → r .version ≤ last-version
+        → cond a (in-store z (first-slot r) && leb (r .version) last-version) (cond b (node-in-range r) (leb (first-slot r) 1)) ≡ true → r .version ≤ last-version
     go true b t q = leb-true (r .version) last-version (and-both (in-store z (first-slot r)) (leb (r .version) last-version) q .1)
     go false true t q = range-version r q
     go false false t q = absurd (false≢true t)
 
 -- ---- all items of a set
-module _ (z : Sizes) (u : ClientWord → ℕ) where
+module _ (z : TreeSizes) (u : ClientWord → ℕ) where
   abbrev All-sound : Set → Type 0
   All-sound s = (i : ℕ) → i < count u s → Item-sound z (number-at u s i) (record-at u s i)
 
-module _ (z : Sizes) (u v : ClientWord → ℕ) (s : Set) where
+module _ (z : TreeSizes) (u v : ClientWord → ℕ) (s : Set) where
   -- an item whose words are the same
   pub item-stays : (i : ℕ) → ((n : ℕ) → v (item s i n) ≡ u (item s i n))
       → Item-sound z (number-at u s i) (record-at u s i) → Item-sound z (number-at v s i) (record-at v s i)
@@ -99,11 +99,11 @@ pub record May-write (u : ClientWord → ℕ) (x : ℕ) : Type 0 where
   pub read : has u Reads x ≡ true
   pub young : x ≤ 8192 → version-of u (find u Reads x) < last-version
 
-pub written-may : (z : Sizes) (u : ClientWord → ℕ) → Sets-sound z u → (i : ℕ) → i < count u Writes → May-write u (number-at u Writes i)
+pub written-may : (z : TreeSizes) (u : ClientWord → ℕ) → Sets-sound z u → (i : ℕ) → i < count u Writes → May-write u (number-at u Writes i)
 written-may z u S i l = record { read = S .written-read i l; young = S .young i l }
 
 -- the two sets together
-pub sets-from : (z : Sizes) (u : ClientWord → ℕ) → All-sound z u Reads → All-sound z u Writes
+pub sets-from : (z : TreeSizes) (u : ClientWord → ℕ) → All-sound z u Reads → All-sound z u Writes
     → ((i : ℕ) → i < count u Writes → May-write u (number-at u Writes i)) → Sets-sound z u
 sets-from z u r w may = record { read = r; written = w; written-read = λ i l. may i l .read; young = λ i l. may i l .young }
 
@@ -129,7 +129,7 @@ module _ (u v : ClientWord → ℕ) where
       = ap (version-of v) (g .0) ∙ ap (λ (r : Node). r .version) (g .1) ∙ sym (ap (version-of u) (f .1)) in
       record { read = at-has v Reads x (f .0) (g .0); young = λ l. subst (λ (n : ℕ). n < last-version) (sym same) (m .young l) }
 
-  module _ (z : Sizes) (stay : Reads-stay) (c : count v Writes ≡ count u Writes) (e : (i n : ℕ) → v (item Writes i n) ≡ u (item Writes i n)) where
+  module _ (z : TreeSizes) (stay : Reads-stay) (c : count v Writes ≡ count u Writes) (e : (i n : ℕ) → v (item Writes i n) ≡ u (item Writes i n)) where
     -- the write set's words are the same, the read set has what it had
     sets-stay : All-sound z v Reads → Sets-sound z u → Sets-sound z v
     unfolding number-at
@@ -138,7 +138,7 @@ module _ (u v : ClientWord → ℕ) where
         (λ i l. subst (May-write v) (sym (e i 0)) (may-stay stay (number-at u Writes i) (written-may z u S i (subst (λ (n : ℕ). i < n) c l))))
 
 -- ---- BOTH SETS: their words stay, they are empty, and an object enters the read set
-module _ (z : Sizes) (u : ClientWord → ℕ) where
+module _ (z : TreeSizes) (u : ClientWord → ℕ) where
   pub sets-frame : (v : ClientWord → ℕ) → Same-sets u v → Sets-sound z u → Sets-sound z v
   sets-frame v E S =
       let r = count-frame u v Reads (E .reads) (E .writes) in
@@ -189,10 +189,10 @@ unfolding single made pad
 flag-fits true = refl
 flag-fits false = refl
 
-module _ (z : Sizes) (u : ClientWord → ℕ) where
+module _ (z : TreeSizes) (u : ClientWord → ℕ) where
   -- a copy that is found is sound
   pub copied-sound : Copies-sound z u → (x : ℕ) → is-found (copied u x .how) ≡ true → Sound z x (copied u x .node)
-  unfolding copied copied-meta copied-node copied-flag count number-at fits
+  unfolding copied copied-meta copied-node copied-flag count number-at record-in-range
   copied-sound C x h = go (eqb x 0) refl (leb x 8192) refl h
     where
       of-meta : x ≡ 0 → (c : Bool) → eqb (u meta-copied) 1 ≡ c → is-found (cond c (copy (single (u meta-version) (u meta-root))) lacking .how) ≡ true

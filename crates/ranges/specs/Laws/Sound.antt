@@ -10,7 +10,7 @@ use Rattle.nodes.specs.declared.node.Node.{Node}
 use Rattle.nodes.specs.declared.found.Found.the-variants.{At}
 use Rattle.nodes.specs.Lists.{pad}
 use Rattle.nodes.specs.Node.{extra, slotsOf, made}
-use Rattle.nodes.specs.Range.{in-range}
+use Rattle.nodes.specs.Range.{node-in-range}
 use Rattle.operations.specs.Object.{Obj}
 use Rattle.server.specs.declared.place.Place.{Place}
 use Rattle.server.specs.declared.place.Place.the-variants.{Root, Version, Table}
@@ -18,7 +18,7 @@ use Rattle.server.specs.Object.{object-of, lock-of}
 use Rattle.server.specs.Laws.Lock.{reads, writes}
 use Rattle.client.specs.declared.part.Set.the-variants.{Reads, Writes, Copies}
 use Rattle.client.specs.Layout.{ClientWord, field, item, vector-word, phase, participants, prepared, applied, meta-copied, meta-root, meta-version}
-use Rattle.client.specs.Record.{number, by-number, single, in-store, number-in-store, last-version, fits}
+use Rattle.client.specs.Record.{number, by-number, single, in-store, number-in-store, last-version, record-in-range}
 use Rattle.client.specs.Sets.{count, record-at, number-at, find}
 use Rattle.client.specs.Items.{has}
 use Rattle.client.specs.Drops.{version-of}
@@ -27,7 +27,7 @@ use Rattle.steps.specs.declared.sizes.Sizes.{Sizes}
 use Rattle.steps.specs.Whole.{Address, server}
 use Rattle.steps.specs.Laws.Stores.{client-of, server-of}
 use Rattle.steps.specs.Uses.{all, read-item, locked-at}
-use Rattle.steps.specs.Judge.{lowest}
+use Rattle.steps.specs.Judge.{lowest-participant}
 use Rattle.steps.specs.Steps.{node-at}
 use Rattle.demand.specs.Laws.Store.{sizes}
 use Rattle.demand.specs.Laws.Shows.{In-store, lock-kept}
@@ -37,37 +37,37 @@ use Rattle.operations.specs.Slot as S
 use Rattle.server.specs.Lock as L
 
 -- an inner node's children are names of the store
-unfoldable pub children-there : S.Sizes → Node → Bool
+unfoldable pub children-there : S.TreeSizes → Node → Bool
 children-there z r = not (eqb (r .kind) 2) || all (in-store z) (slotsOf r)
 
 -- with one server of two slots: inner nodes over 0 and 1, over 0 and 2; a leaf's values are no names
-children-sample : let z : S.Sizes = record { servers = 1; slots = 2 } in
+children-sample : let z : S.TreeSizes = record { servers = 1; slots = 2 } in
     (children-there z (made 2 1 0 (5 ∷ []) (0 ∷ 1 ∷ [])) ≡ true) × (children-there z (made 2 1 0 (5 ∷ []) (0 ∷ 2 ∷ [])) ≡ false)
     × (children-there z (made 1 0 0 (5 ∷ []) (2 ∷ [])) ≡ true)
 unfolding children-there made pad slotsOf extra all in-store
 children-sample = (refl, refl, refl)
 
 -- a node's record
-pub record Node-sound (z : S.Sizes) (r : Node) : Type 0 where
-  pub range : in-range r ≡ true
+pub record Node-sound (z : S.TreeSizes) (r : Node) : Type 0 where
+  pub range : node-in-range r ≡ true
   pub children : children-there z r ≡ true
 
 -- the record of the object with number x
-pub record Sound (z : S.Sizes) (x : ℕ) (r : Node) : Type 0 where
-  pub fitting : fits z x r ≡ true
+pub record Sound (z : S.TreeSizes) (x : ℕ) (r : Node) : Type 0 where
+  pub fitting : record-in-range z x r ≡ true
   pub children : by-number x true (λ n. children-there z r) (λ n. true) ≡ true
 
 -- an item of the read set or the write set
-pub record Item-sound (z : S.Sizes) (x : ℕ) (r : Node) : Type 0 where
+pub record Item-sound (z : S.TreeSizes) (x : ℕ) (r : Node) : Type 0 where
   pub inside : number-in-store z x ≡ true
   pub sound : Sound z x r
 
 -- ---- a client's part: the fields, the read set and the write set, the copies
-pub record Fields-sound (z : S.Sizes) (u : ClientWord → ℕ) : Type 0 where
+pub record Fields-sound (z : S.TreeSizes) (u : ClientWord → ℕ) : Type 0 where
   pub within : (i : ℕ) → i < 13 → u (field i) ≤ getD (bounds (2 ^ z .servers - 1)) i 0
   pub op : op-fits z u ≡ true
 
-pub record Sets-sound (z : S.Sizes) (u : ClientWord → ℕ) : Type 0 where
+pub record Sets-sound (z : S.TreeSizes) (u : ClientWord → ℕ) : Type 0 where
   pub read : (i : ℕ) → i < count u Reads → Item-sound z (number-at u Reads i) (record-at u Reads i)
   pub written : (i : ℕ) → i < count u Writes → Item-sound z (number-at u Writes i) (record-at u Writes i)
   -- "a written object's read"
@@ -75,18 +75,18 @@ pub record Sets-sound (z : S.Sizes) (u : ClientWord → ℕ) : Type 0 where
   -- "8 a written version is 4,294,967,295": of metadata and nodes none is
   pub young : (i : ℕ) → i < count u Writes → number-at u Writes i ≤ 8192 → version-of u (find u Reads (number-at u Writes i)) < last-version
 
-pub record Copies-sound (z : S.Sizes) (u : ClientWord → ℕ) : Type 0 where
+pub record Copies-sound (z : S.TreeSizes) (u : ClientWord → ℕ) : Type 0 where
   pub meta-copy : u meta-copied ≡ 1 → Sound z 0 (single (u meta-version) (u meta-root))
   pub copies : (i : ℕ) → i < 64 → ¬ (u (item Copies i 0) ≡ 0) → Node-sound z (record-at u Copies i)
   pub vectors : (s : ℕ) → s < 8 → u (vector-word s 0) ≤ 1
 
-pub record Part-sound (z : S.Sizes) (u : ClientWord → ℕ) : Type 0 where
+pub record Part-sound (z : S.TreeSizes) (u : ClientWord → ℕ) : Type 0 where
   pub fields : Fields-sound z u
   pub sets : Sets-sound z u
   pub copies : Copies-sound z u
 
 -- ---- the part of server s
-pub record Server-sound (z : S.Sizes) (s : ℕ) (p : Place → ℕ) : Type 0 where
+pub record Server-sound (z : S.TreeSizes) (s : ℕ) (p : Place → ℕ) : Type 0 where
   pub metadata : Sound z 0 (single (p Version) (p Root))
   pub nodes : (n : ℕ) → in-store z n ≡ true → N.server-of n ≡ s → Node-sound z (node-at p n)
   pub tables : (n : ℕ) → in-store z n ≡ true → p (Table (N.server-of n) (N.slot-of n)) ≤ last-version
@@ -101,11 +101,11 @@ module _ (z : Sizes) (m : Address → ℕ) (s : ℕ) where
     pub not-applied : bit (client-of m d applied) s ≡ false
     pub place : ℕ
     pub found : find (client-of m d) Reads x ≡ At place
-    pub locks : locked-at (lowest z m d) s (read-item (client-of m d) place) ≡ true
+    pub locks : locked-at (lowest-participant z m d) s (read-item (client-of m d) place) ≡ true
 
   -- the lock's word w names clients of the store, and each of them holds it; "or its write"
   pub record Lock-sound (x w : ℕ) : Type 0 where
-    pub range : L.in-range (z .clients) w ≡ true
+    pub range : L.lock-in-range (z .clients) w ≡ true
     pub readers : (d : ℕ) → d < z .clients → reads d w ≡ true → Holds d x
     pub writer : (d : ℕ) → d < z .clients → writes d w ≡ true → Holds d x × (has (client-of m d) Writes x ≡ true)
 

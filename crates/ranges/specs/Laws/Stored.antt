@@ -17,17 +17,17 @@ use Rattle.layout.specs.Step.{andThen}
 use Rattle.layout.specs.Laws.Step.{changed-append}
 use Rattle.nodes.specs.Lists.{pad}
 use Rattle.nodes.specs.Node.{made, free-node, slotsOf}
-use Rattle.nodes.specs.Range.{level-fits, count-fits, in-range}
+use Rattle.nodes.specs.Range.{level-fits, count-fits, node-in-range}
 use Rattle.nodes.specs.Stored.{node-of, words-of}
 use Rattle.nodes.specs.Laws.Stored.{Sized, length-words, node-words}
 use Rattle.server.specs.declared.place.Place.{Place}
 use Rattle.server.specs.declared.place.Place.the-variants.{Root, Version, MetadataLock, Vector, Node, FlagLock, Table, NodeLock}
-use Rattle.server.specs.Layout.{code, places}
+use Rattle.server.specs.Layout.{place-code, places}
 use Rattle.server.specs.Object.{named}
 use Rattle.server.specs.Store.{kept-of, metadata-step, flag-step, home-step, table-step, node-step}
 use Rattle.client.specs.declared.part.Set.the-variants.{Writes}
 use Rattle.client.specs.Layout.{ClientWord}
-use Rattle.client.specs.Record.{first-slot, single, in-store, fits, last-version}
+use Rattle.client.specs.Record.{first-slot, single, in-store, record-in-range, last-version}
 use Rattle.client.specs.Sets.{count, record-at, number-at}
 use Rattle.client.specs.Items.{inner-before-after}
 use Rattle.client.specs.Participants.{at-home}
@@ -43,23 +43,23 @@ use Rattle.nodes.specs.declared.node.Node as Record
 use Rattle.nodes.specs.Name as N
 use Rattle.operations.specs.Slot as S
 
-module _ (z : S.Sizes) where
+module _ (z : S.TreeSizes) where
   -- ---- the metadata: its root is there; and by its two words
   pub root-there : (r : Record.Node) → Sound z 0 r → in-store z (first-slot r) ≡ true
-  unfolding fits
+  unfolding record-in-range
   root-there r h = and-both (in-store z (first-slot r)) (leb (r .version) last-version) (h .fitting) .0
 
   pub metadata-of : (v r : ℕ) → v ≤ last-version → in-store z r ≡ true → Sound z 0 (single v r)
-  unfolding fits single made pad
+  unfolding record-in-range single made pad
   metadata-of v r h there = record { fitting = rw (there, le-leb v last-version h); children = refl }
 
   pub metadata-parts : (v r : ℕ) → Sound z 0 (single v r) → (in-store z r ≡ true) × (v ≤ last-version)
-  unfolding fits single made pad
+  unfolding record-in-range single made pad
   metadata-parts v r h = let q = and-both (in-store z r) (leb v last-version) (h .fitting) in (q .0, leb-true v last-version (q .1))
 
   -- ---- a node with another version
   pub versioned-sound : (r : Record.Node) (v : ℕ) → v ≤ last-version → Node-sound z r → Node-sound z (versioned r v)
-  unfolding versioned in-range children-there slotsOf
+  unfolding versioned node-in-range children-there slotsOf
   versioned-sound r v l h =
       let rest = level-fits (r .kind) (r .level) && count-fits (r .kind) (r .count) in
       let a = and-both (leb (r .kind) 2) (leb (r .version) last-version && rest) (h .range) in
@@ -68,7 +68,7 @@ module _ (z : S.Sizes) where
 
   -- as it is kept: freed, nothing else
   kept-sound : (r : Record.Node) (v : ℕ) → Node-sound z r → v ≤ last-version → Node-sound z (kept-of r v)
-  unfolding kept-of versioned free-node made pad in-range children-there
+  unfolding kept-of versioned free-node made pad node-in-range children-there
   kept-sound r v h l = go (eqb (r .kind) 0)
     where
       go : (b : Bool) → Node-sound z (cond b (free-node v) (versioned r v))
@@ -121,7 +121,7 @@ module _ (z : S.Sizes) where
       p′ = changed places p (puts places (Node k) (words-of r))
 
       stored : node-of (tab 33 (λ i. p′ (Node k i))) ≡ r
-      stored = ap node-of (tab-puts-same places 33 (words-of r) p (Node k) (length-words r whole) (λ i j e. ap (λ (a : Place). getD (code a) 3 0) e)) ∙ node-words r whole
+      stored = ap node-of (tab-puts-same places 33 (words-of r) p (Node k) (length-words r whole) (λ i j e. ap (λ (a : Place). getD (place-code a) 3 0) e)) ∙ node-words r whole
 
       node-sound : (n : ℕ) → in-store z n ≡ true → N.server-of n ≡ s → Node-sound z (node-at p′ n)
       unfolding node-at
@@ -131,7 +131,7 @@ module _ (z : S.Sizes) where
           go (yes h) = subst (λ (t : ℕ). Node-sound z (node-of (tab 33 (λ i. p′ (Node t i))))) (sym h) (subst (Node-sound z) (sym stored) good)
           go (no d) =
               subst (λ (f : ℕ → ℕ). Node-sound z (node-of (tab 33 f)))
-              (sym (fun-ext (λ i. puts-other places (words-of r) p (Node k) (Node (N.slot-of n) i) (λ j l q. d (ap (λ (a : Place). getD (code a) 1 0) q)))))
+              (sym (fun-ext (λ i. puts-other places (words-of r) p (Node k) (Node (N.slot-of n) i) (λ j l q. d (ap (λ (a : Place). getD (place-code a) 1 0) q)))))
               (sound .nodes n i e)
 
       words-sound : Server-sound z s p′
@@ -174,7 +174,7 @@ module _ (z : S.Sizes) where
     -- ---- THE APPLY: the writes, and then the locks
     module _ (u : ClientWord → ℕ) (sets : Sets-sound z u) where
       write-sound : (i : ℕ) → i < count u Writes → (p : Place → ℕ) → Server-sound z s p → Server-sound z s (changed places p (store-write u s i p))
-      unfolding fits next-version
+      unfolding record-in-range next-version
       write-sound i l p sound = go (eqb x 0) refl (leb x 8192) refl (sets .written i l .sound .fitting) (sets .written i l .sound .children)
         where
           x : ℕ
@@ -188,7 +188,7 @@ module _ (z : S.Sizes) where
           version h = sets .young i l h
 
           go : (a : Bool) → eqb x 0 ≡ a → (b : Bool) → leb x 8192 ≡ b
-              → cond a (in-store z (first-slot r) && leb (r .version) last-version) (cond b (in-range r) (leb (first-slot r) 1)) ≡ true
+              → cond a (in-store z (first-slot r) && leb (r .version) last-version) (cond b (node-in-range r) (leb (first-slot r) 1)) ≡ true
               → cond a true (cond b (children-there z r) true) ≡ true
               → Server-sound z s (changed places p (cond a (metadata-step (first-slot r) (next-version u x) p)
               (cond b (node-step s (named (x - 1)) r (next-version u x) (inner-before-after u x) p)

@@ -11,7 +11,7 @@ use Rattle.memory.specs.Bit.{bit}
 use Rattle.layout.specs.Space.{Put, changed}
 use Rattle.layout.specs.Part.{over}
 use Rattle.layout.specs.Laws.Step.{changed-append}
-use Rattle.operations.specs.Map.{H}
+use Rattle.operations.specs.Map.{two-to-64}
 use Rattle.operations.specs.Slot.{Allowed}
 use Rattle.server.specs.declared.place.Place.{Place}
 use Rattle.server.specs.Layout.{places}
@@ -24,7 +24,7 @@ use Rattle.steps.specs.declared.step.Step.{Step}
 use Rattle.steps.specs.declared.outcome.Outcome.{Outcome}
 use Rattle.steps.specs.declared.outcome.Outcome.the-variants.{Done, Committed, Aborted}
 use Rattle.steps.specs.Whole.{Address, client, whole}
-use Rattle.steps.specs.Judge.{lowest, abort-fits}
+use Rattle.steps.specs.Judge.{lowest-participant, abort-fits}
 use Rattle.steps.specs.Steps.{Did, did, if-fit, unlock-each, aborting}
 use Rattle.steps.specs.Laws.Stores.{client-of, server-of}
 use Rattle.demand.specs.Laws.Aborted.{given-back, aborted, aborted-client, aborted-others, aborted-server}
@@ -35,7 +35,7 @@ use Rattle.demand.specs.Laws.Store.{sizes}
 use Rattle.demand.specs.Laws.Turns.{one-of, store}
 use Rattle.demand.specs.Laws.Undecided.{undecided-word}
 use Rattle.ranges.specs.Laws.Sound.{Part-sound, Server-sound, Sound-store}
-use Rattle.ranges.specs.Laws.Part.{reset-part, give-part, commit-part, lose-part, forget-part, abort-part}
+use Rattle.ranges.specs.Laws.Part.{reset-part, give-part-sound, commit-part, lose-part-sound, forget-part, abort-part-sound}
 use Rattle.ranges.specs.Laws.Servers.{unlock-each-sound}
 use Rattle.ranges.specs.Laws.Sets.{part-fits}
 use Rattle.ranges.specs.Laws.Locks.{early-stored, lost-locks}
@@ -68,12 +68,12 @@ module _ (k j slots : ℕ) (m : Address → ℕ) (S : Sound-store k j slots m) (
   unfolding Steps.begin
   begin-kept e = early Done refl (Life.reset 1 u) (omega (arith, e)) (reset-part (sizes k j slots) u part 1 (omega arith))
 
-  pub give-kept : (n : Step) → u phase ≡ 1 → (1 ≤ n .op) × (n .op ≤ 6) → n .key < H → n .value < H → n .server < H
+  pub give-kept : (n : Step) → u phase ≡ 1 → (1 ≤ n .op) × (n .op ≤ 6) → n .key < two-to-64 → n .value < two-to-64 → n .server < two-to-64
       → (n .op ≡ 6 → (in-store (sizes k j slots) (n .key) ≡ true) × (n .server < suc k)) → Fine (Steps.give z m (c .0) n)
   unfolding Steps.give
   give-kept n e o key value home there =
-      early Done refl (Life.give (n .op) (n .key) (n .value) (n .server) u) (omega (arith, e))
-      (give-part (sizes k j slots) u part (n .op) (n .key) (n .value) (n .server) (o .1) key value home there)
+      early Done refl (Life.give-part (n .op) (n .key) (n .value) (n .server) u) (omega (arith, e))
+      (give-part-sound (sizes k j slots) u part (n .op) (n .key) (n .value) (n .server) (o .1) key value home there)
 
   pub commit-kept : u phase ≡ 1 → Fine (Steps.commit z m (c .0))
   unfolding Steps.commit
@@ -86,10 +86,10 @@ module _ (k j slots : ℕ) (m : Address → ℕ) (S : Sound-store k j slots m) (
   forget-kept : u phase ≡ 0 → Fine (Steps.forgetting z m (c .0) m)
   forget-kept e = early Done refl (drop-all u) (omega (arith, e)) (forget-part (sizes k j slots) u part)
 
-  lose-kept : Fine (did Done (over (client (c .0)) (Life.lose u)))
+  lose-kept : Fine (did Done (over (client (c .0)) (Life.lose-part u)))
   lose-kept = record {
     passes = accepted Done refl;
-    sound = client-sound k j slots m S c (Life.lose u) (lose-part (sizes k j slots) u part) (lost-locks k j slots m (c .0) (S .locks));
+    sound = client-sound k j slots m S c (Life.lose-part u) (lose-part-sound (sizes k j slots) u part) (lost-locks k j slots m (c .0) (S .locks));
   }
 
   -- ---- ABORT, of an undecided transaction
@@ -106,14 +106,14 @@ module _ (k j slots : ℕ) (m : Address → ℕ) (S : Sound-store k j slots m) (
           p = server-of m (s .0)
 
           go : (b : Bool)
-              → Server-sound (sizes k j slots) (s .0) (changed places p (cond b (unlock-each u (c .0) (lowest z m (c .0)) (s .0) p) []))
-          go true = unlock-each-sound (sizes k j slots) (s .0) u (c .0) (lowest z m (c .0)) (s .0) p (S .servers s)
+              → Server-sound (sizes k j slots) (s .0) (changed places p (cond b (unlock-each u (c .0) (lowest-participant z m (c .0)) (s .0) p) []))
+          go true = unlock-each-sound (sizes k j slots) (s .0) u (c .0) (lowest-participant z m (c .0)) (s .0) p (S .servers s)
           go false = S .servers s
 
       abort-sound : Sound-store k j slots m′
       abort-sound = record {
         parts = parts-sound k j slots m S m′ c
-            (subst (Part-sound (sizes k j slots)) (sym (aborted-client k j slots m (c .0) us)) (abort-part (sizes k j slots) u part us))
+            (subst (Part-sound (sizes k j slots)) (sym (aborted-client k j slots m (c .0) us)) (abort-part-sound (sizes k j slots) u part us))
             (λ d n. aborted-others k j slots m (c .0) us (d .0) (away k j slots c d n));
         servers = λ s. subst (Server-sound (sizes k j slots) (s .0)) (sym (aborted-server k j slots m (c .0) us (s .0) (s .1))) (still s);
         locks = abort-locks k j slots al few m L M c R (part-fits (sizes k j slots) u part) (S .locks) us open-still;

@@ -17,7 +17,7 @@ use Rattle.operations.specs.Slot.{Allowed}
 use Rattle.server.specs.declared.place.Place.{Place}
 use Rattle.server.specs.Layout.{places}
 use Rattle.server.specs.Object.{object-of, lock-of}
-use Rattle.server.specs.Lock.{unlocked, in-range}
+use Rattle.server.specs.Lock.{unlocked, lock-in-range}
 use Rattle.server.specs.Laws.Lock.{unlocked-range}
 use Rattle.client.specs.Layout.{ClientWord, client-words, phase, participants, prepared, applied}
 use Rattle.client.specs.Record.{number}
@@ -29,7 +29,7 @@ use Rattle.client.specs.Course.{noted}
 use Rattle.steps.specs.declared.sizes.Sizes.{Sizes}
 use Rattle.steps.specs.Whole.{Address, server, whole}
 use Rattle.steps.specs.Laws.Stores.{client-of, server-of}
-use Rattle.steps.specs.Judge.{lowest}
+use Rattle.steps.specs.Judge.{lowest-participant}
 use Rattle.steps.specs.Steps.{in-client, covers, unlock-each, store-all, applying, all-applied}
 use Rattle.demand.specs.Laws.Store.{sizes}
 use Rattle.demand.specs.Laws.Frame.{last, read-after, Only}
@@ -51,7 +51,7 @@ use Rattle.protocol.specs.Machine as P
 
 -- ---- a lock that c gives back, or hasn't: whom the word w′ names w named, and c isn't among them
 record Given-back (n c w w′ : ℕ) : Type 0 where
-  pub range : in-range n w′ ≡ true
+  pub range : lock-in-range n w′ ≡ true
   pub others : (role : Bool) (d : ℕ) → names role d w′ ≡ true → (¬ (d ≡ c)) × (names role d w ≡ true)
 
 -- so at every lock of a server: its locks are sound, whatever c's part becomes
@@ -79,7 +79,7 @@ module _ (k j slots : ℕ) (al : Allowed (sizes k j slots)) (few : suc j ≤ 16)
   shown = R .clients c .slot
 
   abbrev low : ℕ
-  low = lowest z m (c .0)
+  low = lowest-participant z m (c .0)
 
   -- a lock that c doesn't hold
   not-held : (s : Fin (suc k)) (o : Obj) → In-store k j slots o → lock-kept k j slots (server-of m (s .0)) s o ≡ true → ¬ (Holds z m (s .0) (c .0) (number o))

@@ -18,7 +18,7 @@ use Rattle.steps.specs.Laws.Stores.{client-of, server-of, client-changed, clien
 use Rattle.demand.specs.Laws.Store.{sizes}
 use Rattle.demand.specs.Laws.Kept.{away}
 use Rattle.demand.specs.Laws.Servers.{both, both-client, both-other, both-server, both-else}
-use Rattle.ranges.specs.Claim.{Accepted}
+use Rattle.ranges.specs.Claim.{Not-refused-by-10}
 use Rattle.ranges.specs.Laws.Sound.{Part-sound, Server-sound, Locks-sound, Sound-store}
 
 -- every outcome but one is accepted
@@ -33,12 +33,12 @@ by-10 (Applied s) = false
 by-10 Committed = false
 by-10 (Aborted y) = false
 
-pub accepted : (o : Outcome) → by-10 o ≡ false → Accepted o
+pub accepted : (o : Outcome) → by-10 o ≡ false → Not-refused-by-10 o
 accepted o h e = absurd (true≢false (sym (ap by-10 e) ∙ h))
 
 -- A STEP THAT DID d to m is not refused by 10, and leaves a sound store
 pub record Kept (k j slots : ℕ) (m : Address → ℕ) (d : Did) : Type 0 where
-  pub passes : Accepted (d .outcome)
+  pub passes : Not-refused-by-10 (d .outcome)
   pub sound : Sound-store k j slots (changed whole m (d .stores))
 
 -- what it reads is in range

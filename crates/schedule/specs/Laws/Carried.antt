@@ -15,17 +15,17 @@ use Rattle.steps.specs.Whole.{Address, head, whole, block, words-for}
 use Rattle.steps.specs.Refusal.{open-refusal}
 use Rattle.steps.specs.Steps.{step}
 use Rattle.steps.specs.Run.{opened, after, outcomes}
-use Rattle.kinds.specs.Parts.{Holds, head-sizes, stored-in}
+use Rattle.kinds.specs.Parts.{Store-in, head-sizes, stored-in}
 use Rattle.kinds.specs.Laws.Refusal.{none-holds}
 use Rattle.engine.specs.Open.{first-stores, new-words, words-opened}
 use Rattle.engine.specs.Laws.Open.{new-store}
 use Rattle.engine.specs.Step.{outcome-of, words-after}
 use Rattle.demand.specs.Ledger.{blank}
-use Rattle.demand.specs.Demand.{All-words, Course, course, next}
+use Rattle.demand.specs.Demand.{All-words, Course, course, next-course}
 use Rattle.demand.specs.Laws.Inside.{step-lies}
 use Rattle.demand.specs.Laws.Opened.{opened-head}
 use Rattle.demand.specs.Laws.Theorem.{demand-3}
-use Rattle.ranges.specs.Claim.{Accepted}
+use Rattle.ranges.specs.Claim.{Not-refused-by-10}
 use Rattle.ranges.specs.Laws.Theorem.{never-refused-by-10}
 use Rattle.schedule.specs.Listed.{words-run, outcomes-run}
 use Rattle.schedule.specs.Carried.{Newly, Demanded}
@@ -37,7 +37,7 @@ new-length z w = length-stored whole (block z) (first-stores z) (sets w 0 (repli
 
 -- ---- the sizes in the head are those that the memory shows
 module _ (z : Sizes) (n : ℕ) (ok : open-refusal n z ≡ 0) where
-  holds : Holds z n
+  holds : Store-in z n
   holds = none-holds n z 0 (sym ok) refl
 
   -- what the words show, where they are a store of these sizes
@@ -98,7 +98,7 @@ module _ (z : Sizes) (n : ℕ) (ok : open-refusal n z ≡ 0) where
   pub shown-run : (ks : List Step) (w : List ℕ) (x : Course) → Shown w (x .memory) → Shown (words-run n w ks) (course z x ks .memory)
   unfolding words-run course
   shown-run [] w x S = S
-  shown-run (k ∷ ks) w x S = shown-run ks (words-after n w k) (next z x k) (shown-next w (x .memory) S k)
+  shown-run (k ∷ ks) w x S = shown-run ks (words-after n w k) (next-course z x k) (shown-next w (x .memory) S k)
 
   pub outcomes-are : (ks : List Step) (w : List ℕ) (m : Address → ℕ) → Shown w m → outcomes-run n w ks ≡ outcomes z m ks
   unfolding outcomes-run outcomes
@@ -135,5 +135,5 @@ carried n w w′ ks words e z N =
       demand = demand-3 z allowed ks words;
       memory = ap (stored-in z) e ∙ shown-run z n (N .accepted) ks w (record { memory = opened z; ledger = blank }) S .memory-as;
       answers = same;
-      accepted = subst (Every Accepted) (sym same) (never-refused-by-10 z allowed ks words);
+      accepted = subst (Every Not-refused-by-10) (sym same) (never-refused-by-10 z allowed ks words);
     }

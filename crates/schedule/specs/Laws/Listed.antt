@@ -6,7 +6,7 @@ use native.Mathlib.Decide.{ℕ-discrete}
 use native.Mathlib.Omega.{arith}
 use borrow.Author.Tests.{lt-ltb, le-ltb}
 use lib.ListN.{length, getD, set, length-set}
-use Rattle.operations.specs.Map.{H}
+use Rattle.operations.specs.Map.{two-to-64}
 use Rattle.operations.specs.Laws.Map.{H-is}
 use Rattle.steps.specs.declared.step.Step.{Step}
 use Rattle.steps.specs.declared.outcome.Outcome.{Outcome}
@@ -14,7 +14,7 @@ use Rattle.steps.specs.declared.outcome.Line.{Line}
 use Rattle.steps.specs.Outcome.{line}
 use Rattle.engine.specs.Step.{outcome-of}
 use Rattle.demand.specs.Demand.{Words, All-words}
-use Rattle.schedule.specs.Listed.{noted}
+use Rattle.schedule.specs.Listed.{written-down}
 
 -- what stands past the end of a list of steps
 abbrev pub no-step : Step
@@ -31,18 +31,18 @@ module _ (out : List ℕ) (i : ℕ) where
   pub room-third : (v u : ℕ) → i < length out / 3 → 3 * i + 2 < length (set (set out (3 * i) v) (3 * i + 1) u)
   room-third v u h = simp length-set (omega arith)
 
-  pub noted-there : (l : Line) → i < length out / 3 → set (set (set out (3 * i) (l .outcome)) (3 * i + 1) (l .a)) (3 * i + 2) (l .b) ≡ noted out i l
-  unfolding noted
+  pub noted-there : (l : Line) → i < length out / 3 → set (set (set out (3 * i) (l .outcome)) (3 * i + 1) (l .a)) (3 * i + 2) (l .b) ≡ written-down out i l
+  unfolding written-down
   noted-there l h = sym (rw (lt-ltb i (length out / 3) h))
 
-  pub left-out : (l : Line) → length out / 3 ≤ i → out ≡ noted out i l
-  unfolding noted
+  pub left-out : (l : Line) → length out / 3 ≤ i → out ≡ written-down out i l
+  unfolding written-down
   left-out l h = sym (rw (le-ltb i (length out / 3) h))
 
 pub ruleset note-exits = (room-first, room-second, room-third, noted-there, left-out)
 
 module _ (n : ℕ) (w : List ℕ) (k : Step) (o : Outcome) (l : Line) (p : o ≡ outcome-of n w k) (q : l ≡ line o) where
-  pub turned : (i : ℕ) (out out′ : List ℕ) → out′ ≡ noted out i l → out′ ≡ noted out i (line (outcome-of n w k))
+  pub turned : (i : ℕ) (out out′ : List ℕ) → out′ ≡ written-down out i l → out′ ≡ written-down out i (line (outcome-of n w k))
   turned i out out′ r = rw (q, p) at r
 
   pub turned-number : l .outcome ≡ line (outcome-of n w k) .outcome
@@ -65,5 +65,5 @@ words-next ks i h w j l = go (ℕ-discrete j i)
     go (no d) = h j (omega arith)
 
 -- a machine's word
-pub word-below : (n : ℕ) → n < 2 ^ 64 → n < H
+pub word-below : (n : ℕ) → n < 2 ^ 64 → n < two-to-64
 word-below n h = subst (λ (b : ℕ). n < b) (sym H-is) h

@@ -15,7 +15,7 @@ use Rattle.layout.specs.Step.{stepped}
 use Rattle.layout.specs.Laws.Step.{stored-append, valid-append}
 use Rattle.server.specs.declared.place.Place.{Place}
 use Rattle.server.specs.declared.place.Place.the-variants.{Vector, Node}
-use Rattle.server.specs.Layout.{places, block, partWords, code}
+use Rattle.server.specs.Layout.{places, server-block, partWords, place-code}
 use Rattle.server.specs.Laws.Layout.{places-onto}
 use Rattle.server.specs.HandOut.{vector-at, node-here}
 use Rattle.nodes.specs.Node.{made}
@@ -34,30 +34,30 @@ unfolding fresh first-leaf changed upd decide
 fresh-sample = (refl, refl, refl, refl)
 
 -- the words after opening hold that
-pub first-node-valid : (n : ℕ) → 0 < n → Valid places (block n) (Node 0 0)
+pub first-node-valid : (n : ℕ) → 0 < n → Valid places (server-block n) (Node 0 0)
 unfolding Valid In
 first-node-valid n h = (h, omega arith)
 
-pub first-flag-valid : (n : ℕ) → Valid places (block n) (Vector 0)
+pub first-flag-valid : (n : ℕ) → Valid places (server-block n) (Vector 0)
 unfolding Valid In
 first-flag-valid n = omega arith
 
-first-valid : (n : ℕ) → 0 < n → (b : Bool) → AllValid places (block n) (cond b (put (Node 0 0) 1 ∷ put (Vector 0) 1 ∷ []) [])
+first-valid : (n : ℕ) → 0 < n → (b : Bool) → AllValid places (server-block n) (cond b (put (Node 0 0) 1 ∷ put (Vector 0) 1 ∷ []) [])
 unfolding AllValid Valid In
 first-valid n h true = (first-node-valid n h, (first-flag-valid n, tt))
 first-valid n h false = tt
 
-pub open-inside : (s n : ℕ) (m : Place → ℕ) → 0 < n → AllValid places (block n) (open-step s n m)
+pub open-inside : (s n : ℕ) (m : Place → ℕ) → 0 < n → AllValid places (server-block n) (open-step s n m)
 unfolding open-step first-leaf
 open-inside s n m h =
-    valid-append places (block n) (clear places (block n)) (first-leaf s) (clear-valid places (block n) (places-onto n)) (first-valid n h (eqb s 0))
+    valid-append places (server-block n) (clear places (server-block n)) (first-leaf s) (clear-valid places (server-block n) (places-onto n)) (first-valid n h (eqb s 0))
 
-pub mem-opened : (s n : ℕ) (w : List ℕ) → 0 < n → partWords n ≤ length w → mem places (block n) (stepped places (block n) (open-step s n) w) ≡ fresh s
+pub mem-opened : (s n : ℕ) (w : List ℕ) → 0 < n → partWords n ≤ length w → mem places (server-block n) (stepped places (server-block n) (open-step s n) w) ≡ fresh s
 unfolding stepped open-step fresh first-leaf partWords
 mem-opened s n w h l =
-    ap (mem places (block n)) (stored-append places (block n) (clear places (block n)) (first-leaf s) w)
-    ∙ mem-stored places (block n) (first-leaf s) (stored places (block n) w (clear places (block n))) (rw length-stored l) (first-valid n h (eqb s 0))
-    ∙ ap (λ (m : Place → ℕ). changed places m (first-leaf s)) (mem-clear places (block n) (places-onto n) w l)
+    ap (mem places (server-block n)) (stored-append places (server-block n) (clear places (server-block n)) (first-leaf s) w)
+    ∙ mem-stored places (server-block n) (first-leaf s) (stored places (server-block n) w (clear places (server-block n))) (rw length-stored l) (first-valid n h (eqb s 0))
+    ∙ ap (λ (m : Place → ℕ). changed places m (first-leaf s)) (mem-clear places (server-block n) (places-onto n) w l)
 
 -- ---- the same, as it is handed out
 pub fresh-other : (s : ℕ) (a : Place) → ¬ (s ≡ 0) → fresh s a ≡ 0
@@ -75,13 +75,13 @@ fresh-root =
     ap node-of
     (tab-eq 33 (λ j. fresh 0 (Node 0 j)) (λ j. upd (decide places) (λ b. 0) (Node 0 0) 1 (Node 0 j))
     (λ j l. at-first (Node 0 j) ∙ upd-apart places (upd (decide places) (λ b. 0) (Node 0 0) 1) (Vector 0) 1 (Node 0 j) refl)
-    ∙ tab-upd places 33 (λ b. 0) (Node 0) (λ i j e. ap (λ (a : Place). getD (code a) 3 0) e) 0 1 (omega arith))
+    ∙ tab-upd places 33 (λ b. 0) (Node 0) (λ i j e. ap (λ (a : Place). getD (place-code a) 3 0) e) 0 1 (omega arith))
 
 pub fresh-vector : vector-at (fresh 0) ≡ 1 ∷ replicate 15 0
 unfolding vector-at tab
 fresh-vector =
     tab-eq 16 (λ i. fresh 0 (Vector i)) (λ i. upd (decide places) (upd (decide places) (λ b. 0) (Node 0 0) 1) (Vector 0) 1 (Vector i)) (λ i l. at-first (Vector i))
-    ∙ tab-upd places 16 (upd (decide places) (λ b. 0) (Node 0 0) 1) Vector (λ i j e. ap (λ (a : Place). getD (code a) 1 0) e) 0 1 (omega arith)
+    ∙ tab-upd places 16 (upd (decide places) (λ b. 0) (Node 0 0) 1) Vector (λ i j e. ap (λ (a : Place). getD (place-code a) 1 0) e) 0 1 (omega arith)
     ∙ ap (λ (l : List ℕ). set l 0 1) (tab-eq 16 (λ i. upd (decide places) (λ b. 0) (Node 0 0) 1 (Vector i)) (λ i. 0) (λ i l. upd-apart places (λ b. 0) (Node 0 0) 1 (Vector i) refl))
 
 -- everything else is 0

@@ -6,15 +6,15 @@ use native.Mathlib.Omega.{arith}
 use Rattle.layout.specs.Block.{size, offset, words, In}
 use Rattle.layout.specs.Space.{at, Valid}
 use Rattle.server.specs.declared.place.Place.the-variants.{NodeLock, Root, Version, Vector, Node}
-use Rattle.server.specs.Layout.{block, places, partWords, row, code, back, Lies}
+use Rattle.server.specs.Layout.{server-block, places, partWords, slot-row, place-code, place-back, Lies}
 use Rattle.layout.specs.Laws.Space.{Run, Onto}
 
 -- with four slots, 219 words; the lock of node 2 × 1,024 + 1 is the third of the locks in row 1
-pub layout-sample : (partWords 4 ≡ 219) × (at places (block 4) (NodeLock 2 1) ≡ 113)
+pub layout-sample : (partWords 4 ≡ 219) × (at places (server-block 4) (NodeLock 2 1) ≡ 113)
 unfolding partWords size at offset
 layout-sample = (refl, refl)
 
-metadata-onto : (q : List ℕ) → In (words 3) q → code (back (0 ∷ q)) ≡ 0 ∷ q
+metadata-onto : (q : List ℕ) → In (words 3) q → place-code (place-back (0 ∷ q)) ≡ 0 ∷ q
 unfolding In
 metadata-onto [] h = absurd h
 metadata-onto (zero ∷ []) h = refl
@@ -26,7 +26,7 @@ metadata-onto (suc zero ∷ j ∷ q) h = absurd h
 metadata-onto (suc (suc zero) ∷ j ∷ q) h = absurd h
 metadata-onto (suc (suc (suc i)) ∷ j ∷ q) h = absurd h
 
-row-onto : (k : ℕ) (r : List ℕ) → In row r → code (back (2 ∷ k ∷ r)) ≡ 2 ∷ k ∷ r
+row-onto : (k : ℕ) (r : List ℕ) → In slot-row r → place-code (place-back (2 ∷ k ∷ r)) ≡ 2 ∷ k ∷ r
 unfolding In
 row-onto k [] h = absurd h
 row-onto k (zero ∷ []) h = absurd h
@@ -45,7 +45,7 @@ row-onto k (suc (suc (suc zero)) ∷ j ∷ []) h = refl
 row-onto k (suc (suc (suc zero)) ∷ j ∷ i ∷ q) h = absurd h
 row-onto k (suc (suc (suc (suc f))) ∷ q) h = absurd h
 
-pub places-onto : (n : ℕ) → Onto places (block n)
+pub places-onto : (n : ℕ) → Onto places (server-block n)
 unfolding In
 places-onto n [] h = absurd h
 places-onto n (zero ∷ q) h = metadata-onto q h
@@ -57,24 +57,24 @@ places-onto n (suc (suc zero) ∷ k ∷ r) h = row-onto k r (h .1)
 places-onto n (suc (suc (suc f)) ∷ q) h = absurd h
 
 -- places that every part has
-pub root-valid : (n : ℕ) → Valid places (block n) Root
+pub root-valid : (n : ℕ) → Valid places (server-block n) Root
 unfolding Valid In
 root-valid n = omega arith
 
-pub version-valid : (n : ℕ) → Valid places (block n) Version
+pub version-valid : (n : ℕ) → Valid places (server-block n) Version
 unfolding Valid In
 version-valid n = omega arith
 
-pub vector-valid : (n k : ℕ) → k < 1024 → Valid places (block n) (Vector (k / 64))
+pub vector-valid : (n k : ℕ) → k < 1024 → Valid places (server-block n) (Vector (k / 64))
 unfolding Valid In
 vector-valid n k h = omega arith
 
-pub node-valid : (n k : ℕ) → k < n → Valid places (block n) (Node k 0)
+pub node-valid : (n k : ℕ) → k < n → Valid places (server-block n) (Node k 0)
 unfolding Valid In
 node-valid n k h = (h, omega arith)
 
 -- the words of a node lie one after another
-pub node-run : (n k : ℕ) → k < n → Run places (block n) (Node k) (at places (block n) (Node k 0)) 33
+pub node-run : (n k : ℕ) → k < n → Run places (server-block n) (Node k) (at places (server-block n) (Node k 0)) 33
 unfolding at Valid In offset size
 node-run n k h = record { good = λ j l. (h, l); spot = λ j l. omega arith }
 

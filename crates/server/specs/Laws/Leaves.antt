@@ -24,7 +24,7 @@ use Rattle.server.specs.declared.place.Place.{Place}
 use Rattle.server.specs.declared.place.Place.the-variants.{Root, Version, MetadataLock, Vector, Node, FlagLock, Table, NodeLock}
 use Rattle.nodes.specs.Laws.Bits.{flag-read}
 use Rattle.server.specs.Check.{standing, mark-in, mark-place}
-use Rattle.server.specs.Layout.{places, code, block}
+use Rattle.server.specs.Layout.{places, place-code, server-block}
 use Rattle.server.specs.Laws.Layout.{node-run, root-valid, version-valid, vector-valid}
 use Rattle.server.specs.Object.{lock-of, Has}
 use Rattle.server.specs.Lock.{locked, unlocked}
@@ -124,7 +124,7 @@ module _ (m : Place → ℕ) where
   flag-same x b =
       let i = slot-of (x .number) / 64 in
       let v = putBit b (m (Vector i)) (slot-of (x .number) % 64) in
-      tab-upd places 16 m Vector (λ i j e. ap (λ (a : Place). getD (code a) 1 0) e) i v (omega arith)
+      tab-upd places 16 m Vector (λ i j e. ap (λ (a : Place). getD (place-code a) 1 0) e) i v (omega arith)
       ∙ ap (λ (w : ℕ). set (tab 16 (λ j. m (Vector j))) i (putBit b w (slot-of (x .number) % 64))) (sym (getD-tab 16 (λ j. m (Vector j)) i (omega arith)))
 
   -- ---- nodes
@@ -132,7 +132,7 @@ module _ (m : Place → ℕ) where
   unfolding node-here home-step
   home-same x n h =
       rw (eq-eqb (server-of (x .number)) (server-of (x .number)) refl)
-      (ap node-of (tab-puts-same places 33 (words-of n) m (Node (slot-of (x .number))) (length-words n h) (λ i j e. ap (λ (a : Place). getD (code a) 3 0) e))
+      (ap node-of (tab-puts-same places 33 (words-of n) m (Node (slot-of (x .number))) (length-words n h) (λ i j e. ap (λ (a : Place). getD (place-code a) 3 0) e))
       ∙ node-words n h)
 
   pub home-other : (s : ℕ) (x : Name) (n : node.Node) (k : ℕ) → ¬ (k ≡ slot-of (x .number)) → node-here k (after m (home-step s x n)) ≡ node-here k m
@@ -141,7 +141,7 @@ module _ (m : Place → ℕ) where
     where
       go : (t : Bool) → node-of (tab 33 (λ j. changed places m (cond t (puts places (Node (slot-of (x .number))) (words-of n)) []) (Node k j))) ≡ node-of (tab 33 (λ j. m (Node k j)))
       go true =
-          ap node-of (tab-puts-other places 33 (words-of n) m (Node (slot-of (x .number))) (Node k) (λ i j e. d (ap (λ (a : Place). getD (code a) 1 0) e)))
+          ap node-of (tab-puts-other places 33 (words-of n) m (Node (slot-of (x .number))) (Node k) (λ i j e. d (ap (λ (a : Place). getD (place-code a) 1 0) e)))
       go false = refl
 
   pub home-elsewhere : (s : ℕ) (x : Name) (n : node.Node) → ¬ (server-of (x .number) ≡ s) → after m (home-step s x n) ≡ m
@@ -175,45 +175,45 @@ module _ (m u : Place → ℕ) where
 
 -- ---- every store of a step lies in the part
 module _ (n : ℕ) (m : Place → ℕ) where
-  pub lock-inside : (o : Object) (b : Bool) (c : ℕ) → Has n o → AllValid places (block n) (lock-step o b c m)
+  pub lock-inside : (o : Object) (b : Bool) (c : ℕ) → Has n o → AllValid places (server-block n) (lock-step o b c m)
   unfolding lock-step AllValid
   lock-inside o b c h = (h, tt)
 
-  pub unlock-inside : (o : Object) (c : ℕ) → Has n o → AllValid places (block n) (unlock-step o c m)
+  pub unlock-inside : (o : Object) (c : ℕ) → Has n o → AllValid places (server-block n) (unlock-step o c m)
   unfolding unlock-step AllValid
   unlock-inside o c h = (h, tt)
 
-  pub metadata-inside : (r v : ℕ) → AllValid places (block n) (metadata-step r v m)
+  pub metadata-inside : (r v : ℕ) → AllValid places (server-block n) (metadata-step r v m)
   unfolding metadata-step AllValid
   metadata-inside r v = (root-valid n, (version-valid n, tt))
 
-  pub flag-inside : (x : Name) (b : Bool) → AllValid places (block n) (flag-step x b m)
+  pub flag-inside : (x : Name) (b : Bool) → AllValid places (server-block n) (flag-step x b m)
   unfolding flag-step AllValid
   flag-inside x b = (vector-valid n (slot-of (x .number)) (omega arith), tt)
 
-  pub home-inside : (s : ℕ) (x : Name) (y : node.Node) → Sized y → Has n (object.Node x) → AllValid places (block n) (home-step s x y m)
+  pub home-inside : (s : ℕ) (x : Name) (y : node.Node) → Sized y → Has n (object.Node x) → AllValid places (server-block n) (home-step s x y m)
   unfolding home-step AllValid
   home-inside s x y h ok = go (eqb (server-of (x .number)) s)
     where
       k : ℕ
       k = slot-of (x .number)
 
-      go : (t : Bool) → AllValid places (block n) (cond t (puts places (Node k) (words-of y)) [])
+      go : (t : Bool) → AllValid places (server-block n) (cond t (puts places (Node k) (words-of y)) [])
       go true =
-          valid-run places (block n) (words-of y) (Node k) (at places (block n) (Node k 0))
+          valid-run places (server-block n) (words-of y) (Node k) (at places (server-block n) (Node k 0))
           (rw (length-words y h) (node-run n k (slot-there n k x ok refl)))
       go false = tt
 
-  pub table-inside : (x : Name) (v : ℕ) (b : Bool) → Has n (object.Node x) → AllValid places (block n) (table-step x v b m)
+  pub table-inside : (x : Name) (v : ℕ) (b : Bool) → Has n (object.Node x) → AllValid places (server-block n) (table-step x v b m)
   unfolding table-step AllValid
   table-inside x v true ok = (table-there n x ok, tt)
   table-inside x v false ok = tt
 
   pub node-inside : (s : ℕ) (x : Name) (y : node.Node) (v : ℕ) (b : Bool) → Sized (kept-of y v) → Has n (object.Node x)
-      → AllValid places (block n) (node-step s x y v b m)
+      → AllValid places (server-block n) (node-step s x y v b m)
   unfolding node-step
   node-inside s x y v b h ok =
-      valid-append places (block n) (home-step s x (kept-of y v) m) (table-step x v b m) (home-inside s x (kept-of y v) h ok) (table-inside x v b ok)
+      valid-append places (server-block n) (home-step s x (kept-of y v) m) (table-step x v b m) (home-inside s x (kept-of y v) h ok) (table-inside x v b ok)
 
 -- ---- the marks of a check are what is handed out
 module _ (m : Place → ℕ) (x : Name) where

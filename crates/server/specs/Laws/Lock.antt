@@ -9,7 +9,7 @@ use lib.Dec.{eqb, ltb}
 use lib.Pow.{pow-mono, pow-pos}
 use Rattle.memory.specs.Bit.{putBit, bit}
 use Rattle.server.specs.declared.lock.Use.the-variants.{Fetch, Write}
-use Rattle.server.specs.Lock.{busy, locked, unlocked, in-range}
+use Rattle.server.specs.Lock.{busy, locked, unlocked, lock-in-range}
 use Rattle.base.specs.Test.{not-both}
 use Rattle.memory.specs.Laws.Bit.{bit-put-same, bit-put-other, put-lt, zero-bit, bit-below}
 use Rattle.server.specs.declared.lock.Use.{Use}
@@ -148,8 +148,8 @@ module _ (c w : ℕ) (l : c < 16) where
       go (other h k) = rw (of-other h k)
 
 -- a free lock is in range
-pub free-range : (n : ℕ) → in-range n 0 ≡ true
-unfolding in-range
+pub free-range : (n : ℕ) → lock-in-range n 0 ≡ true
+unfolding lock-in-range
 free-range n = lt-ltb 0 (2 ^ n) (pow-pos n)
 
 -- ---- in range: the clients that a word names are below n, and stay so
@@ -157,15 +157,15 @@ module _ (n w : ℕ) (few : n ≤ 16) where
   small : 2 ^ n ≤ 65536
   small = pow-mono {i = n} {j = 16} few
 
-  range-set : w < 65536 → in-range n w ≡ ltb w (2 ^ n)
-  unfolding in-range
+  range-set : w < 65536 → lock-in-range n w ≡ ltb w (2 ^ n)
+  unfolding lock-in-range
   range-set h = rw (lt-ltb w 65536 h)
 
-  range-writer : 65536 ≤ w → in-range n w ≡ ltb w (65536 + n)
-  unfolding in-range
+  range-writer : 65536 ≤ w → lock-in-range n w ≡ ltb w (65536 + n)
+  unfolding lock-in-range
   range-writer h = rw (le-ltb w 65536 h)
 
-  module _ (ok : in-range n w ≡ true) where
+  module _ (ok : lock-in-range n w ≡ true) where
     pub range-reads : (d : ℕ) → reads d w ≡ true → d < n
     range-reads d r = go (decLt w 65536)
       where
@@ -183,29 +183,29 @@ module _ (n w : ℕ) (few : n ≤ 16) where
     readers h = ltb-true w (2 ^ n) (sym (range-set h) ∙ ok)
 
     module _ (c : ℕ) (l : c < n) where
-      set-range : (b : Bool) → w < 65536 → in-range n (putBit b w c) ≡ true
-      unfolding in-range
+      set-range : (b : Bool) → w < 65536 → lock-in-range n (putBit b w c) ≡ true
+      unfolding lock-in-range
       set-range b h =
           let p : putBit b w c < 2 ^ n = put-lt b n w c l (readers h) in
           let q : putBit b w c < 65536 = omega (arith, small) in
           rw (lt-ltb (putBit b w c) 65536 q) (lt-ltb (putBit b w c) (2 ^ n) p)
 
-      pub locked-range : (b : Bool) → in-range n (locked b c w) ≡ true
-      unfolding locked in-range
+      pub locked-range : (b : Bool) → lock-in-range n (locked b c w) ≡ true
+      unfolding locked lock-in-range
       locked-range true =
           let h : 65536 ≤ 65536 + c = omega arith in
           let g : 65536 + c < 65536 + n = omega arith in
           rw (le-ltb (65536 + c) 65536 h) (lt-ltb (65536 + c) (65536 + n) g)
       locked-range false = go (decLt w 65536)
         where
-          go : Dec (w < 65536) → in-range n (locked false c w) ≡ true
+          go : Dec (w < 65536) → lock-in-range n (locked false c w) ≡ true
           go (yes h) = rw (lt-ltb w 65536 h) (set-range true h)
           go (no h) = let k : 65536 ≤ w = omega arith in rw (le-ltb w 65536 k) ok
 
-      pub unlocked-range : in-range n (unlocked c w) ≡ true
+      pub unlocked-range : lock-in-range n (unlocked c w) ≡ true
       unlocked-range = go (way c w)
         where
-          go : Way c w → in-range n (unlocked c w) ≡ true
+          go : Way c w → lock-in-range n (unlocked c w) ≡ true
           go (set h) = rw (of-set c w (omega arith) h) (set-range false h)
           go (mine e) = rw (of-mine c w (omega arith) e) (free-range n)
           go (other h k) = rw (of-other c w (omega arith) h k) ok

@@ -10,7 +10,7 @@ use Rattle.client.specs.Record.{in-store}
 use Rattle.steps.specs.declared.sizes.Sizes.{Sizes}
 use Rattle.steps.specs.declared.step.Step.{Step}
 use Rattle.steps.specs.Whole.{Address, client, tree-sizes}
-use Rattle.steps.specs.Refusal.{first, kind-of, between, fits, refusal}
+use Rattle.steps.specs.Refusal.{first, kind-of, between, state-fits, refusal}
 use Rattle.steps.specs.Passed.{Passed}
 
 -- a row that does not hold, and those behind it
@@ -33,7 +33,7 @@ passed z k m e =
     let gives = eqb (k .kind) 1 in
     let migrates = gives && eqb (k .op) 6 in
     let sited = migrates || between 4 5 (k .kind) in
-    let unfit = not (fits (λ a. m (client (k .client) a)) (k .server) (kind-of (k .kind))) in
+    let unfit = not (state-fits (λ a. m (client (k .client) a)) (k .server) (kind-of (k .kind))) in
     let p4 = peel 4 (ltb 7 (k .kind)) _ (omega arith) e in
     let p5 = peel 5 (leb (z .clients) (k .client)) _ (omega arith) (p4 .1) in
     let p6 = peel 6 (gives && not (between 1 6 (k .op))) _ (omega arith) (p5 .1) in
@@ -49,7 +49,7 @@ passed z k m e =
       known-server = λ h o. leb-false (z .servers) (k .server) (given-half sited (leb (z .servers) (k .server)) (p7 .0) (rw (eq-eqb (k .kind) 1 h, eq-eqb (k .op) 6 o)));
       known-participant = λ l h. leb-false (z .servers) (k .server) (given-half sited (leb (z .servers) (k .server)) (p7 .0) (either migrates (between 4 5 (k .kind)) (rw (le-leb 4 (k .kind) l, le-leb (k .kind) 5 h))));
       known-node = λ h o. not-so (in-store (tree-sizes z) (k .key)) (given-half migrates (not (in-store (tree-sizes z) (k .key))) (p8 .0) (rw (eq-eqb (k .kind) 1 h, eq-eqb (k .op) 6 o)));
-      fitting = not-so (fits (λ a. m (client (k .client) a)) (k .server) (kind-of (k .kind))) (p9 .0);
+      fitting = not-so (state-fits (λ a. m (client (k .client) a)) (k .server) (kind-of (k .kind))) (p9 .0);
     }
   where
     either : (a b : Bool) → b ≡ true → (a || b) ≡ true

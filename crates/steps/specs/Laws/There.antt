@@ -16,7 +16,7 @@ use Rattle.steps.specs.declared.sizes.Sizes.{Sizes}
 use Rattle.steps.specs.Whole.{Allowed, tree-sizes}
 use Rattle.operations.specs.Slot as S
 
-pub named-in : (z : S.Sizes) (n : ℕ) → in-store z n ≡ true → (server-of n < z .servers) × (slot-of n < z .slots)
+pub named-in : (z : S.TreeSizes) (n : ℕ) → in-store z n ≡ true → (server-of n < z .servers) × (slot-of n < z .slots)
 unfolding in-store
 named-in z n h =
     let p = and-both (ltb (server-of n) (z .servers)) (ltb (slot-of n) (z .slots)) h in

@@ -15,13 +15,13 @@ use Rattle.server.specs.Layout as Srv
 -- ---- laws
 module _ (z : Sizes) where
   -- the parts lie in the whole
-  pub server-part : (s : ℕ) → s < z .servers → Part Srv.places (Srv.block (z .slots)) whole (block z) (server s) (server-at z s)
+  pub server-part : (s : ℕ) → s < z .servers → Part Srv.places (Srv.server-block (z .slots)) whole (block z) (server s) (server-at z s)
   unfolding at Valid In offset size server-at
   server-part s h = record {
     good = λ a ok. (h, ok);
     only = λ a ok. ok .1;
     spot = λ a. omega arith;
-    room = omega (arith, row-fits s (z .servers) (size (Srv.block (z .slots))) h);
+    room = omega (arith, row-fits s (z .servers) (size (Srv.server-block (z .slots))) h);
   }
 
   pub client-part : (c : ℕ) → c < z .clients → Part client-words client-block whole (block z) (client c) (client-at z c)
@@ -37,7 +37,7 @@ module _ (z : Sizes) where
   pub words-within : Allowed z → words-for z ≤ 525328
   unfolding words-for size
   words-within f =
-      omega (arith, f .servers, f .slots, f .clients, mul-le-mul-right (size (Srv.block (z .slots))) (f .servers .1))
+      omega (arith, f .servers, f .slots, f .clients, mul-le-mul-right (size (Srv.server-block (z .slots))) (f .servers .1))
 
 -- the smallest store, and the largest
 abbrev sized : ℕ → ℕ → ℕ → Sizes

@@ -15,7 +15,7 @@ use Rattle.nodes.specs.Lists.{pad}
 use Rattle.nodes.specs.Stored.{node-of}
 use Rattle.nodes.specs.Laws.Stored.{Sized}
 use Rattle.server.specs.declared.place.Place.{Place}
-use Rattle.server.specs.Layout.{places, block}
+use Rattle.server.specs.Layout.{places, server-block}
 use Rattle.server.specs.Object.{object-of, named, Has}
 use Rattle.server.specs.Laws.Object.{is-node}
 use Rattle.server.specs.Store.{kept-of, flag-step}
@@ -47,7 +47,7 @@ kept-sized r v h = go (eqb (r .kind) 0)
 pub node-has : (n x : ℕ) → ¬ (x ≡ 0) → x ≤ 8192 → Has n (object-of x) → Has n (object.Node (named (x - 1)))
 node-has n x d l h = subst (Has n) (sym (is-node x d l)) h
 
-pub write-inside : (n : ℕ) (m : ClientWord → ℕ) (s i : ℕ) (p : Place → ℕ) → Has n (object-of (number-at m Writes i)) → AllValid places (block n) (store-write m s i p)
+pub write-inside : (n : ℕ) (m : ClientWord → ℕ) (s i : ℕ) (p : Place → ℕ) → Has n (object-of (number-at m Writes i)) → AllValid places (server-block n) (store-write m s i p)
 unfolding AllValid
 write-inside n m s i p h = go (ℕ-discrete x 0) (decLe x 8192)
   where
@@ -57,11 +57,11 @@ write-inside n m s i p h = go (ℕ-discrete x 0) (decLe x 8192)
     r : Node
     r = record-at m Writes i
 
-    flag-there : (b : Bool) → AllValid places (block n) (cond b (flag-step (named (x - 8193)) (eqb (first-slot r) 1) p) [])
+    flag-there : (b : Bool) → AllValid places (server-block n) (cond b (flag-step (named (x - 8193)) (eqb (first-slot r) 1) p) [])
     flag-there true = flag-inside n p (named (x - 8193)) (eqb (first-slot r) 1)
     flag-there false = tt
 
-    go : Dec (x ≡ 0) → Dec (x ≤ 8192) → AllValid places (block n) (store-write m s i p)
+    go : Dec (x ≡ 0) → Dec (x ≤ 8192) → AllValid places (server-block n) (store-write m s i p)
     go (yes e) d = rw (eq-eqb x 0 e) (metadata-inside n p (first-slot r) (next-version m x))
     go (no e) (yes l) =
         rw (ne-eqb x 0 e, le-leb x 8192 l)

@@ -17,11 +17,11 @@ use Rattle.nodes.specs.declared.found.Found.{Found}
 use Rattle.nodes.specs.declared.found.Found.the-variants.{At, Absent}
 use Rattle.nodes.specs.Name.{server-of}
 use Rattle.nodes.specs.Node.{free-node, made}
-use Rattle.nodes.specs.Range.{level-fits, count-fits, in-range}
+use Rattle.nodes.specs.Range.{level-fits, count-fits, node-in-range}
 use Rattle.nodes.specs.Laws.Range.{range-count}
 use Rattle.nodes.specs.Found.{Inside}
 use Rattle.operations.specs.Object.{Obj, meta, node, flag, Ask, object, vector, fetched, Val, Writes, hit}
-use Rattle.operations.specs.Slot.{Sizes}
+use Rattle.operations.specs.Slot.{TreeSizes}
 use Rattle.operations.specs.Path.{Plan, see}
 use Rattle.client.specs.declared.answer.How.{How}
 use Rattle.client.specs.declared.answer.How.the-variants.{Here, Copied, Full, Lacking, Broken}
@@ -31,7 +31,7 @@ use Rattle.walk.specs.declared.walk.Stop.{Stop}
 use Rattle.walk.specs.declared.walk.Stop.the-variants.{Going, LacksMeta, LacksNode, LacksVector, Refused, Aborts}
 use Rattle.client.specs.declared.part.Set.the-variants.{Reads, Copies}
 use Rattle.client.specs.Layout.{ClientWord, reads-count, meta-copied, vector-word}
-use Rattle.client.specs.Record.{number, sizes, object-in-store, in-store, value-of, fits}
+use Rattle.client.specs.Record.{number, sizes, object-in-store, in-store, value-of, record-in-range}
 use Rattle.client.specs.Sets.{count, find, first-of}
 use Rattle.client.specs.Have.{here, copy, lacking, is-copied, is-found, copied, copied-meta, copied-item, copied-node, copied-flag, source, have, broken}
 use Rattle.client.specs.Laws.Have.{full, unfit}
@@ -41,7 +41,7 @@ use Rattle.client.specs.Answered.{entered}
 use Rattle.client.specs.Laws.Look.{taken-up, looked, at-hand, used-after}
 use Rattle.walk.specs.Walk.{goes, lack, fresh, room, over, worked, walked}
 use Rattle.walk.specs.Laws.Walk.{full-ask, judged-over}
-use Rattle.walk.specs.Ask.{Small, write-of, OwnGood, Holds, nothing, Noted, Asks, Numbered, Outside, Answer, popped, stopped, noted-copy}
+use Rattle.walk.specs.Ask.{Small, write-of, OwnGood, Holds-writes, nothing, Noted, Asks, Numbered, Outside, Answer, popped, stopped, noted-copy}
 use Rattle.plans.specs.Plan as P
 use Rattle.client.specs.declared.part.Set.the-variants as set
 
@@ -70,11 +70,11 @@ module _ (x : List ℕ) (e : getD x 0 0 ≡ 0) where
   nothing-good l =
       record { fit = record { long = l; few = omega arith }; few = λ i h. absurd (omega arith); small = λ o i f. absent-at i (sym (none-own x (number o) e) ∙ f) }
 
-  pub nothing-held : (z : Sizes) → Holds z x []
+  pub nothing-held : (z : TreeSizes) → Holds-writes z x []
   unfolding own-list own-first entered
   nothing-held z = record { entries = rw e; same = λ o t. rw (none-own x (number o) e); out = λ o t. refl }
 
-pub none-held : (z : Sizes) → Holds z nothing []
+pub none-held : (z : TreeSizes) → Holds-writes z nothing []
 none-held z = nothing-held nothing refl z
 
 module _ (m : ClientWord → ℕ) (u : List ℕ) (h : Noted m u) where
@@ -143,7 +143,7 @@ module _ (m : ClientWord → ℕ) where
       go Absent (At i) p q = rw (source, p, q)
       go Absent Absent p q = rw (source, p, q) (sym (rw (source, p, q) at h) ∙ copied-found x)
 
-module _ (z : Sizes) (m : ClientWord → ℕ) (o : Obj) (k : Val → Plan) (us : List ℕ) where
+module _ (z : TreeSizes) (m : ClientWord → ℕ) (o : Obj) (k : Val → Plan) (us : List ℕ) where
   abbrev pub met : How → Node → Ran
   met Here n = worked z m (k (value-of o n)) us
   met Copied n = worked z m (k (value-of o n)) (us ++ (number o ∷ []))
@@ -151,7 +151,7 @@ module _ (z : Sizes) (m : ClientWord → ℕ) (o : Obj) (k : Val → Plan) (us :
   met Lacking n = ran (lacks (object o)) us
   met Broken n = ran (lacks (object o)) us
 
-module _ (z : Sizes) (m : ClientWord → ℕ) (x u : List ℕ) (w : Writes) (o : Obj) (t : object-in-store z o ≡ true) (v : over m (used-in u) ≡ false) (k : Val → Plan) where
+module _ (z : TreeSizes) (m : ClientWord → ℕ) (x u : List ℕ) (w : Writes) (o : Obj) (t : object-in-store z o ≡ true) (v : over m (used-in u) ≡ false) (k : Val → Plan) where
   abbrev asked-run : Ran
   asked-run = run (have z m) (fresh m) (room m) (P.ask (object o) k) (used-in u)
 
@@ -177,9 +177,9 @@ module _ (z : Sizes) (m : ClientWord → ℕ) (x u : List ℕ) (w : Writes) (o :
 
   part-run : own-find x (number o) ≡ Absent → asked-run ≡ met z m o k (used-in u) (looked z m x u (number o) .how) (looked z m x u (number o) .node)
   unfolding run have looked worked
-  part-run a = go (is-found (source m (number o) .how)) (fits z (number o) (source m (number o) .node)) (is-copied (source m (number o) .how)) refl refl refl
+  part-run a = go (is-found (source m (number o) .how)) (record-in-range z (number o) (source m (number o) .node)) (is-copied (source m (number o) .how)) refl refl refl
     where
-      go : (b c d : Bool) → is-found (source m (number o) .how) ≡ b → fits z (number o) (source m (number o) .node) ≡ c → is-copied (source m (number o) .how) ≡ d
+      go : (b c d : Bool) → is-found (source m (number o) .how) ≡ b → record-in-range z (number o) (source m (number o) .node) ≡ c → is-copied (source m (number o) .how) ≡ d
           → asked-run ≡ met z m o k (used-in u) (looked z m x u (number o) .how) (looked z m x u (number o) .node)
       go true true true p q r =
           let h : have z m (object o) ≡ some (value-of o (source m (number o) .node)) = rw (have, t, p, q) in
@@ -188,7 +188,7 @@ module _ (z : Sizes) (m : ClientWord → ℕ) (x u : List ℕ) (w : Writes) (o :
       go true false d p q r = rw (run, have, looked, a, t, p, q)
       go false c d p q r = rw (run, have, looked, a, t, p)
 
-  looked-run : Holds z x w → worked z m (see w o k) (used-in u) ≡ met z m o k (used-in u) (looked z m x u (number o) .how) (looked z m x u (number o) .node)
+  looked-run : Holds-writes z x w → worked z m (see w o k) (used-in u) ≡ met z m o k (used-in u) (looked z m x u (number o) .how) (looked z m x u (number o) .node)
   unfolding looked worked
   looked-run h = go (own-find x (number o)) refl
     where
@@ -212,7 +212,7 @@ fetched? Full = true
 fetched? Lacking = false
 fetched? Broken = false
 
-module _ (z : Sizes) (m : ClientWord → ℕ) (x u : List ℕ) (o : Obj) (t : object-in-store z o ≡ true) where
+module _ (z : TreeSizes) (m : ClientWord → ℕ) (x u : List ℕ) (o : Obj) (t : object-in-store z o ≡ true) where
   taken-fetched : (r : Node) → fetched? (taken-up m u (number o) r .how) ≡ true
   unfolding taken-up
   taken-fetched r = go (among (number o) (used-in u)) (ltb (count m Reads + length (used-in u)) 96) refl refl
@@ -226,7 +226,7 @@ module _ (z : Sizes) (m : ClientWord → ℕ) (x u : List ℕ) (o : Obj) (t : ob
   unfolding looked broken
   looked-broken h = own (own-find x (number o)) refl
     where
-      go : own-find x (number o) ≡ Absent → (b c d : Bool) → is-found (source m (number o) .how) ≡ b → fits z (number o) (source m (number o) .node) ≡ c → is-copied (source m (number o) .how) ≡ d
+      go : own-find x (number o) ≡ Absent → (b c d : Bool) → is-found (source m (number o) .how) ≡ b → record-in-range z (number o) (source m (number o) .node) ≡ c → is-copied (source m (number o) .how) ≡ d
           → broken z m (object o) ≡ unfit? (looked z m x u (number o) .how)
       go a true true true p q r =
           let f : fetched? (looked z m x u (number o) .how) ≡ true = rw (looked, a, p, q, r) (taken-fetched (source m (number o) .node)) in
@@ -237,7 +237,7 @@ module _ (z : Sizes) (m : ClientWord → ℕ) (x u : List ℕ) (o : Obj) (t : ob
 
       own : (f : Found) → own-find x (number o) ≡ f → broken z m (object o) ≡ unfit? (looked z m x u (number o) .how)
       own (At i) e = let f : fetched? (looked z m x u (number o) .how) ≡ true = rw (looked, e) in let g : true ≡ false = sym f ∙ h in cc
-      own Absent e = go e (is-found (source m (number o) .how)) (fits z (number o) (source m (number o) .node)) (is-copied (source m (number o) .how)) refl refl refl
+      own Absent e = go e (is-found (source m (number o) .how)) (record-in-range z (number o) (source m (number o) .node)) (is-copied (source m (number o) .how)) refl refl refl
 
 free-small : (o : Obj) → Small o (free-node 0)
 unfolding free-node made
@@ -245,8 +245,8 @@ free-small meta = tt
 free-small (node n) = record { keys = omega arith; level = omega arith }
 free-small (flag n) = tt
 
-range-level : (n : Node) → in-range n ≡ true → n .level ≤ 4
-unfolding in-range
+range-level : (n : Node) → node-in-range n ≡ true → n .level ≤ 4
+unfolding node-in-range
 range-level n h = go (eqb (n .kind) 2) refl
   where
     rest : Bool
@@ -261,18 +261,18 @@ range-level n h = go (eqb (n .kind) 2) refl
     go true e = leb-true (n .level) 4 (and-both (leb 1 (n .level)) (leb (n .level) 4) (rw e at fit) .1)
     go false e = let z : n .level ≡ 0 = eqb-true (n .level) 0 (rw e at fit) in omega arith
 
-fits-small : (z : Sizes) (o : Obj) (r : Node) → z .servers ≤ 8 → object-in-store z o ≡ true → fits z (number o) r ≡ true → Small o r
-unfolding fits in-store
+fits-small : (z : TreeSizes) (o : Obj) (r : Node) → z .servers ≤ 8 → object-in-store z o ≡ true → record-in-range z (number o) r ≡ true → Small o r
+unfolding record-in-range in-store
 fits-small z meta r s t h = tt
 fits-small z (node n) r s t h =
     let a : n / 1024 < z .servers = ltb-true _ _ (and-both _ _ t .0) in
     let b : 1 + n ≤ 8192 = omega arith in
     let c : 1 + n ≡ 0 → ⊥ = λ e. omega arith in
-    let g : in-range r ≡ true = rw (ne-eqb _ _ c, le-leb _ _ b) at h in
+    let g : node-in-range r ≡ true = rw (ne-eqb _ _ c, le-leb _ _ b) at h in
     record { keys = range-count r g; level = range-level r g }
 fits-small z (flag n) r s t h = tt
 
-module _ (z : Sizes) (m : ClientWord → ℕ) (x u : List ℕ) (o : Obj) (s : z .servers ≤ 8) (t : object-in-store z o ≡ true) (own : (i : ℕ) → own-find x (number o) ≡ At i → Small o (own-record x i)) where
+module _ (z : TreeSizes) (m : ClientWord → ℕ) (x u : List ℕ) (o : Obj) (s : z .servers ≤ 8) (t : object-in-store z o ≡ true) (own : (i : ℕ) → own-find x (number o) ≡ At i → Small o (own-record x i)) where
   looked-small : Small o (looked z m x u (number o) .node)
   unfolding looked taken-up
   looked-small = go (own-find x (number o)) refl
@@ -282,7 +282,7 @@ module _ (z : Sizes) (m : ClientWord → ℕ) (x u : List ℕ) (o : Obj) (s : z 
       taken r h false true p q = rw (taken-up, p, q) h
       taken r h false false p q = rw (taken-up, p, q) h
 
-      part : own-find x (number o) ≡ Absent → (b c d : Bool) → is-found (source m (number o) .how) ≡ b → fits z (number o) (source m (number o) .node) ≡ c
+      part : own-find x (number o) ≡ Absent → (b c d : Bool) → is-found (source m (number o) .how) ≡ b → record-in-range z (number o) (source m (number o) .node) ≡ c
           → is-copied (source m (number o) .how) ≡ d → Small o (looked z m x u (number o) .node)
       part a true true true p q r = rw (looked, a, p, q, r) (taken (source m (number o) .node) (fits-small z o (source m (number o) .node) s t q) (among (number o) (used-in u)) (ltb (count m Reads + length (used-in u)) 96) refl refl)
       part a true true false p q r = rw (looked, a, p, q, r) (fits-small z o (source m (number o) .node) s t q)
@@ -291,7 +291,7 @@ module _ (z : Sizes) (m : ClientWord → ℕ) (x u : List ℕ) (o : Obj) (s : z 
 
       go : (f : Found) → own-find x (number o) ≡ f → Small o (looked z m x u (number o) .node)
       go (At i) e = rw (looked, e) (own i e)
-      go Absent e = part e (is-found (source m (number o) .how)) (fits z (number o) (source m (number o) .node)) (is-copied (source m (number o) .how)) refl refl refl
+      go Absent e = part e (is-found (source m (number o) .how)) (record-in-range z (number o) (source m (number o) .node)) (is-copied (source m (number o) .how)) refl refl refl
 
 never : {A : Type 0} {b : Bool} → b ≡ false → b ≡ true → A
 never p q = let e : false ≡ true = sym p ∙ q in let z : _≡_ {A = ℕ} 0 1 = cc in absurd (omega arith)
@@ -351,7 +351,7 @@ pushed-noted m u x b f h =
     go i (yes e) l = rw (e, getD-set-same u (c + 1) x 0 (omega (arith, f .long, f .few, h))) b
     go i (no d) l = rw (getD-set-other u (c + 1) (i + 1) x 0 (λ e. d (omega arith))) (f .each i (omega arith))
 
-module _ (z : Sizes) (m : ClientWord → ℕ) (u : List ℕ) (n : ℕ) (l : Stop) (eight : z .servers ≤ 8) (near : n < 16385) (h : Noted m u) where
+module _ (z : TreeSizes) (m : ClientWord → ℕ) (u : List ℕ) (n : ℕ) (l : Stop) (eight : z .servers ≤ 8) (near : n < 16385) (h : Noted m u) where
   pub asked-over : (c : Bool) (r : Asked) (u′ : List ℕ) → c ≡ over m (used-in u) → c ≡ true → r ≡ stopped (Aborts 4) → u′ ≡ popped u → Numbered z m nothing u n l (r .stop) (r .node) u′
   asked-over c r u′ vc ct pr pu =
       let b : getD u 0 0 ≤ 97 = omega arith in
@@ -395,7 +395,7 @@ module _ (z : Sizes) (m : ClientWord → ℕ) (u : List ℕ) (n : ℕ) (l : Stop
         go true e = rw (at-hand, e)
         go false e = rw (at-hand, e)
 
-    module _ (o : Obj) (t : object-in-store z o ≡ true) (b : lack (object o) ≡ l) (w : Writes) (hold : Holds z nothing w) where
+    module _ (o : Obj) (t : object-in-store z o ≡ true) (b : lack (object o) ≡ l) (w : Writes) (hold : Holds-writes z nothing w) where
       abbrev L : Look
       L = looked z m nothing u (number o)
 
@@ -434,21 +434,21 @@ module _ (z : Sizes) (m : ClientWord → ℕ) (u : List ℕ) (n : ℕ) (l : Stop
         let k : is-found (source m n .how) ≡ false = rw pa at (sym pf ∙ not-true f nf) in
         rw pr (looked-found under lacking (rw (looked, none-own nothing n refl, k)))
 
-    module _ (nf : not f ≡ false) (g : Bool) (pg : g ≡ fits z n (a .node)) where
+    module _ (nf : not f ≡ false) (g : Bool) (pg : g ≡ record-in-range z n (a .node)) where
       k : is-found (source m n .how) ≡ true
       k = rw pa at (sym pf ∙ not-false f nf)
 
       pub asked-broken : (r : Asked) → not g ≡ true → r ≡ stopped Refused → Numbered z m nothing u n l (r .stop) (r .node) u
       unfolding looked at-hand used-after
       asked-broken r ng pr =
-          let q : fits z n (source m n .node) ≡ false = rw pa at (sym pg ∙ not-true g ng) in
+          let q : record-in-range z n (source m n .node) ≡ false = rw pa at (sym pg ∙ not-true g ng) in
           rw pr (looked-found under unfit (rw (looked, none-own nothing n refl, k, q)))
 
       pub asked-going : (u′ : List ℕ) → not g ≡ false → u′ ≡ noted-copy (a .how) u n → Numbered z m nothing u n l Going (a .node) u′
       unfolding looked taken-up at-hand used-after noted-copy
       asked-going u′ ng pu = rw (pu, pa) (go (is-copied (source m n .how)) refl (among n (used-in u)) refl (ltb (count m Reads + length (used-in u)) 96) refl)
         where
-          q : fits z n (source m n .node) ≡ true
+          q : record-in-range z n (source m n .node) ≡ true
           q = rw pa at (sym pg ∙ not-false g ng)
 
           go : (b : Bool) → is-copied (source m n .how) ≡ b → (d : Bool) → among n (used-in u) ≡ d → (e : Bool) → ltb (count m Reads + length (used-in u)) 96 ≡ e
@@ -459,7 +459,7 @@ module _ (z : Sizes) (m : ClientWord → ℕ) (u : List ℕ) (n : ℕ) (l : Stop
           go true pb false pd false pe = rw (noted-copy, pb, pd) (looked-found under (full (source m n .node)) (rw (looked, none-own nothing n refl, k, q, pb, taken-up, pd, pe)))
 
 -- ---- an object seen: an own write, else what was asked for
-module _ (z : Sizes) (m : ClientWord → ℕ) (x u : List ℕ) (n : ℕ) (l : Stop) (h : Noted m u) (g : OwnGood x) (f : Found) (pf : f ≡ own-find x n) where
+module _ (z : TreeSizes) (m : ClientWord → ℕ) (x u : List ℕ) (n : ℕ) (l : Stop) (h : Noted m u) (g : OwnGood x) (f : Found) (pf : f ≡ own-find x n) where
   pub seen-own : (i : ℕ) (r : Node) → f ≡ At i → r ≡ own-record x i → Numbered z m x u n l Going r u
   seen-own i r e q =
       let a : own-find x n ≡ At i = sym pf ∙ e in
@@ -561,7 +561,7 @@ module _ (m : ClientWord → ℕ) (u : List ℕ) (b : Bool) (e : b ≡ over m (u
 
 pub ruleset outside-exits = (over-some, over-long, out-over, out-refused)
 
-module _ (z : Sizes) (m : ClientWord → ℕ) (x u : List ℕ) (n : ℕ) (s : Stop) (r : Node) (u′ : List ℕ) (b : Bool) (e : b ≡ in-store z n) where
+module _ (z : TreeSizes) (m : ClientWord → ℕ) (x u : List ℕ) (n : ℕ) (s : Stop) (r : Node) (u′ : List ℕ) (b : Bool) (e : b ≡ in-store z n) where
   pub node-out : not b ≡ true → Outside m u s r u′ → Answer z m x u (node n) s r u′
   node-out t h = record { asks = λ w hold. h .asks z x (node n) (sym e ∙ not-true b t) w hold; noted = h .noted; long = h .long; inside = λ g. never (h .stops) g; small = h .small (node n) }
 
@@ -576,7 +576,7 @@ module _ (z : Sizes) (m : ClientWord → ℕ) (x u : List ℕ) (n : ℕ) (s : St
   flag-found k t p h =
       record { asks = λ w hold. h .asks (flag n) (sym p) (sym e ∙ not-false b t) refl w hold; noted = h .noted; long = h .long; inside = λ g. sym e ∙ not-false b t; small = h .small (flag n) (sym p) (sym e ∙ not-false b t) }
 
-pub meta-found : (z : Sizes) (m : ClientWord → ℕ) (x u : List ℕ) (s : Stop) (r : Node) (u′ : List ℕ) → Numbered z m x u 0 LacksMeta s r u′ → Answer z m x u meta s r u′
+pub meta-found : (z : TreeSizes) (m : ClientWord → ℕ) (x u : List ℕ) (s : Stop) (r : Node) (u′ : List ℕ) → Numbered z m x u 0 LacksMeta s r u′ → Answer z m x u meta s r u′
 meta-found z m x u s r u′ h = record { asks = λ w hold. h .asks meta refl refl refl w hold; noted = h .noted; long = h .long; inside = λ g. refl; small = h .small meta refl refl }
 
 pub name-small : (servers slots n : ℕ) (b : Bool) → b ≡ in-store (sizes servers slots) n → servers ≤ 8 → not b ≡ false → n < 8192

@@ -18,11 +18,11 @@ use Rattle.nodes.specs.Name.{name, server-of, slot-of}
 use Rattle.nodes.specs.Flags.{with-flag}
 use Rattle.nodes.specs.Laws.Bits.{length-flags, flags-with}
 use Rattle.operations.specs.Object.{meta, node, flag, Val, is-taken, Writes}
-use Rattle.operations.specs.Slot.{Sizes, counted}
+use Rattle.operations.specs.Slot.{TreeSizes, counted}
 use Rattle.client.specs.Record.{first-slot, in-store}
 use Rattle.client.specs.Sets.{or-found, first-of}
 use Rattle.client.specs.Lent.{OwnFits, own-count, own-number, own-record, own-find}
-use Rattle.walk.specs.Ask.{write-of, own-value, Holds}
+use Rattle.walk.specs.Ask.{write-of, own-value, Holds-writes}
 use Rattle.walk.specs.Counted.{counts-one, counts}
 use Rattle.nodes.specs.Flags as N
 
@@ -41,8 +41,8 @@ unfolding counts
 length-counts x s zero ws = refl
 length-counts x s (suc n) ws = length-counts x s n (counts-one x s n ws) ∙ length-one x s n ws
 
-length-of : (slots : ℕ) (ws vs : List ℕ) → length ws ≡ length vs → length (N.flags slots ws) ≡ length (N.flags slots vs)
-unfolding N.flags
+length-of : (slots : ℕ) (ws vs : List ℕ) → length ws ≡ length vs → length (N.flags-in slots ws) ≡ length (N.flags-in slots vs)
+unfolding N.flags-in
 length-of slots ws vs e =
     let h : length (N.all-flags ws) ≡ length (N.all-flags vs) = rw (length-flags ws, length-flags vs, e) in
     simp length-take (rw h)
@@ -54,8 +54,8 @@ own-or x (At j) b = eqb (first-slot (own-record x j)) 1
 own-or x Absent b = b
 
 module _ (x : List ℕ) (s slots i : ℕ) (small : i < 1024) where
-  at-one : (n : ℕ) (ws : List ℕ) → length ws ≡ 16 → i < length (N.flags slots ws)
-      → getD (N.flags slots (counts-one x s n ws)) i false ≡ own-or x (cond (eqb (own-number x n) (8193 + name s i)) (At n) Absent) (getD (N.flags slots ws) i false)
+  at-one : (n : ℕ) (ws : List ℕ) → length ws ≡ 16 → i < length (N.flags-in slots ws)
+      → getD (N.flags-in slots (counts-one x s n ws)) i false ≡ own-or x (cond (eqb (own-number x n) (8193 + name s i)) (At n) Absent) (getD (N.flags-in slots ws) i false)
   unfolding counts-one
   at-one n ws l h = go (ltb k 8193) (eqb (server-of (k - 8193)) s) refl refl (ℕ-discrete i (slot-of (k - 8193)))
     where
@@ -66,9 +66,9 @@ module _ (x : List ℕ) (s slots i : ℕ) (small : i < 1024) where
       b = eqb (first-slot (own-record x n)) 1
 
       goal : Type 0
-      goal = getD (N.flags slots (counts-one x s n ws)) i false ≡ own-or x (cond (eqb k (8193 + name s i)) (At n) Absent) (getD (N.flags slots ws) i false)
+      goal = getD (N.flags-in slots (counts-one x s n ws)) i false ≡ own-or x (cond (eqb k (8193 + name s i)) (At n) Absent) (getD (N.flags-in slots ws) i false)
 
-      with-b : N.flags slots (with-flag ws (slot-of (k - 8193)) b) ≡ set (N.flags slots ws) (slot-of (k - 8193)) b
+      with-b : N.flags-in slots (with-flag ws (slot-of (k - 8193)) b) ≡ set (N.flags-in slots ws) (slot-of (k - 8193)) b
       with-b = flags-with slots ws (slot-of (k - 8193)) b (omega arith)
 
       go : (a c : Bool) → ltb k 8193 ≡ a → eqb (server-of (k - 8193)) s ≡ c → Dec (i ≡ slot-of (k - 8193)) → goal
@@ -84,13 +84,13 @@ module _ (x : List ℕ) (s slots i : ℕ) (small : i < 1024) where
           let g : 8193 ≤ k = ltb-false k 8193 p in
           let r : server-of (k - 8193) ≡ s = eqb-true (server-of (k - 8193)) s q in
           let e : k ≡ 8193 + name s i = omega arith in
-          rw (counts-one, p, q, with-b, eq-eqb k (8193 + name s i) e, ← d) (getD-set-same (N.flags slots ws) i b false h)
+          rw (counts-one, p, q, with-b, eq-eqb k (8193 + name s i) e, ← d) (getD-set-same (N.flags-in slots ws) i b false h)
       go false true p q (no d) =
           let e : k ≡ 8193 + name s i → ⊥ = λ t. d (omega arith) in
-          rw (counts-one, p, q, with-b, ne-eqb k (8193 + name s i) e) (getD-set-other (N.flags slots ws) (slot-of (k - 8193)) i b false d)
+          rw (counts-one, p, q, with-b, ne-eqb k (8193 + name s i) e) (getD-set-other (N.flags-in slots ws) (slot-of (k - 8193)) i b false d)
 
-  own-at : (n : ℕ) (ws : List ℕ) → length ws ≡ 16 → i < length (N.flags slots ws)
-      → getD (N.flags slots (counts x s n ws)) i false ≡ own-or x (first-of (own-number x) n (8193 + name s i)) (getD (N.flags slots ws) i false)
+  own-at : (n : ℕ) (ws : List ℕ) → length ws ≡ 16 → i < length (N.flags-in slots ws)
+      → getD (N.flags-in slots (counts x s n ws)) i false ≡ own-or x (first-of (own-number x) n (8193 + name s i)) (getD (N.flags-in slots ws) i false)
   unfolding counts first-of
   own-at zero ws l h = refl
   own-at (suc n) ws l h =
@@ -98,8 +98,8 @@ module _ (x : List ℕ) (s slots i : ℕ) (small : i < 1024) where
       ∙ go (first-of (own-number x) n (8193 + name s i)) refl
     where
       go : (f : Found) → first-of (own-number x) n (8193 + name s i) ≡ f
-          → own-or x (first-of (own-number x) n (8193 + name s i)) (getD (N.flags slots (counts-one x s n ws)) i false)
-          ≡ own-or x (or-found (first-of (own-number x) n (8193 + name s i)) (cond (eqb (own-number x n) (8193 + name s i)) (At n) Absent)) (getD (N.flags slots ws) i false)
+          → own-or x (first-of (own-number x) n (8193 + name s i)) (getD (N.flags-in slots (counts-one x s n ws)) i false)
+          ≡ own-or x (or-found (first-of (own-number x) n (8193 + name s i)) (cond (eqb (own-number x n) (8193 + name s i)) (At n) Absent)) (getD (N.flags-in slots ws) i false)
       go (At j) e = rw e
       go Absent e = rw e (at-one n ws l h)
 
@@ -138,7 +138,7 @@ counted-at ((flag n, v) ∷ w) s i fs small h = go (counted-at w s i fs small h)
     go ih (no d) (no e) f = ih
 
 -- ---- both are one
-module _ (z : Sizes) (x : List ℕ) (w : Writes) (hold : Holds z x w) (s : ℕ) (there : s < z .servers) where
+module _ (z : TreeSizes) (x : List ℕ) (w : Writes) (hold : Holds-writes z x w) (s : ℕ) (there : s < z .servers) where
   same-or : (i : ℕ) (b : Bool) → i < 1024 → i < z .slots → own-or x (own-find x (8193 + name s i)) b ≡ written-or (write-of w (flag (name s i))) b
   unfolding in-store
   same-or i b small h =
@@ -151,21 +151,21 @@ module _ (z : Sizes) (x : List ℕ) (w : Writes) (hold : Holds z x w) (s : ℕ) 
       go (At j) = refl
       go Absent = refl
 
-  pub counted-is : (ws : List ℕ) → length ws ≡ 16 → N.flags (z .slots) (counts x s (own-count x) ws) ≡ take (z .slots) (counted w s (N.flags (z .slots) ws))
-  unfolding own-find N.flags
+  pub counted-is : (ws : List ℕ) → length ws ≡ 16 → N.flags-in (z .slots) (counts x s (own-count x) ws) ≡ take (z .slots) (counted w s (N.flags-in (z .slots) ws))
+  unfolding own-find N.flags-in
   counted-is ws l =
       let few : length fs ≤ z .slots = omega (arith, length-take (z .slots) (N.all-flags ws)) in
       let most : length fs ≤ 1024 = omega (arith, length-take (z .slots) (N.all-flags ws), length-flags ws) in
-      let e : length (N.flags (z .slots) (counts x s (own-count x) ws)) ≡ length fs = length-of (z .slots) (counts x s (own-count x) ws) ws (length-counts x s (own-count x) ws) in
+      let e : length (N.flags-in (z .slots) (counts x s (own-count x) ws)) ≡ length fs = length-of (z .slots) (counts x s (own-count x) ws) ws (length-counts x s (own-count x) ws) in
       let f : length (counted w s fs) ≡ length fs = length-counted w s fs in
       rw (take-all (z .slots) (counted w s fs) (omega arith))
-      (ext-getD false (N.flags (z .slots) (counts x s (own-count x) ws)) (counted w s fs) (e ∙ sym f) (λ i h.
+      (ext-getD false (N.flags-in (z .slots) (counts x s (own-count x) ws)) (counted w s fs) (e ∙ sym f) (λ i h.
       let a : i < length fs = omega arith in
       let b : i < 1024 = omega arith in
       own-at x s (z .slots) i b (own-count x) ws l a ∙ same-or i (getD fs i false) b (omega arith) ∙ sym (counted-at w s i fs b a)))
     where
       fs : List Bool
-      fs = N.flags (z .slots) ws
+      fs = N.flags-in (z .slots) ws
 
 -- ---- ways out of the code that counts
 module _ (x : List ℕ) (s i : ℕ) (ws : List ℕ) where

@@ -14,7 +14,7 @@ use Rattle.nodes.specs.Entries.{entriesOf}
 use Rattle.nodes.specs.Kept.{Whole}
 use Rattle.nodes.specs.Laws.Kept.{whole, length-entriesOf}
 use Rattle.operations.specs.Object.{meta, node, no-tree}
-use Rattle.operations.specs.Slot.{Sizes}
+use Rattle.operations.specs.Slot.{TreeSizes}
 use Rattle.operations.specs.Path.{Cont, down, to-leaf}
 use Rattle.walk.specs.declared.down.Turn.{Turn}
 use Rattle.walk.specs.declared.down.Descent.{Descent}
@@ -37,7 +37,7 @@ use Rattle.walk.specs.Down.{Kid, RootMet, Checked, blank, low, branches,
 pub stops-not : (s : Stop) {A : Type 0} → goes s ≡ false → goes s ≡ true → A
 stops-not s p q = let e : false ≡ true = sym p ∙ q in let z : _≡_ {A = ℕ} 0 1 = cc in absurd (omega arith)
 
-module _ (z : Sizes) (m : ClientWord → ℕ) (x u : List ℕ) (n : ℕ) (s : Stop) (r : Node) (u′ : List ℕ) (h : Answer z m x u (node n) s r u′) (b : Bool) (pb : b ≡ goes s) (lk : length (r .keys) ≡ 14) (ls : length (r .slots) ≡ 15) where
+module _ (z : TreeSizes) (m : ClientWord → ℕ) (x u : List ℕ) (n : ℕ) (s : Stop) (r : Node) (u′ : List ℕ) (h : Answer z m x u (node n) s r u′) (b : Bool) (pb : b ≡ goes s) (lk : length (r .keys) ≡ 14) (ls : length (r .slots) ≡ 15) where
   f : Whole r
   f = whole r lk ls (h .small .keys)
 
@@ -91,12 +91,12 @@ module _ (l : ℕ) (a : Asked) (b : Bool) (pb : b ≡ goes (a .stop)) (lk : leng
 
 pub ruleset check-exits = (check-stops, check-bad, check-good)
 
-pub kid-is : (z : Sizes) (m : ClientWord → ℕ) (x u : List ℕ) (l n : ℕ) (a r : Asked) (u′ : List ℕ) → Answer z m x u (node n) (a .stop) (a .node) u′ → Checked l a r
+pub kid-is : (z : TreeSizes) (m : ClientWord → ℕ) (x u : List ℕ) (l n : ℕ) (a r : Asked) (u′ : List ℕ) → Answer z m x u (node n) (a .stop) (a .node) u′ → Checked l a r
     → Kid z m x u l n (r .stop) (r .node) u′
 kid-is z m x u l n a r u′ h c = c .met z m x u n u′ h
 
 -- the root
-module _ (z : Sizes) (m : ClientWord → ℕ) (u : List ℕ) (n : ℕ) (s : Stop) (r : Node) (u′ : List ℕ) (h : Answer z m nothing u (node n) s r u′) (b : Bool) (pb : b ≡ goes s) (lk : length (r .keys) ≡ 14) (ls : length (r .slots) ≡ 15) where
+module _ (z : TreeSizes) (m : ClientWord → ℕ) (u : List ℕ) (n : ℕ) (s : Stop) (r : Node) (u′ : List ℕ) (h : Answer z m nothing u (node n) s r u′) (b : Bool) (pb : b ≡ goes s) (lk : length (r .keys) ≡ 14) (ls : length (r .slots) ≡ 15) where
   g : Whole r
   g = whole r lk ls (h .small .keys)
 
@@ -137,7 +137,7 @@ module _ (z : Sizes) (m : ClientWord → ℕ) (u : List ℕ) (n : ℕ) (s : Stop
 pub ruleset root-ways = (root-stops, root-bad, root-good)
 
 -- how far a way down has come
-pub record Downward (z : Sizes) (m : ClientWord → ℕ) (u₀ : List ℕ) (key target root : ℕ) (first : Node) (top : ℕ) (path : List Turn) (name : ℕ) (n : Node) (level : ℕ) (u : List ℕ) : Type 0 where
+pub record Downward (z : TreeSizes) (m : ClientWord → ℕ) (u₀ : List ℕ) (key target root : ℕ) (first : Node) (top : ℕ) (path : List Turn) (name : ℕ) (n : Node) (level : ℕ) (u : List ℕ) : Type 0 where
   pub whole-way : top ≡ first .level
   pub long : length u ≡ length u₀
   pub lower : target ≤ level
@@ -176,7 +176,7 @@ unfolding trail
 trail-none p l = let e : l - l ≡ 0 = omega arith in rw e
 
 -- ---- the turns of the loop, and its ends
-pub down-start : (z : Sizes) (m : ClientWord → ℕ) (u : List ℕ) (key target root : ℕ) (first : Node) (path : List Turn) → From first target → Noted m u → length path ≡ 5
+pub down-start : (z : TreeSizes) (m : ClientWord → ℕ) (u : List ℕ) (key target root : ℕ) (first : Node) (path : List Turn) → From first target → Noted m u → length path ≡ 5
     → Downward z m u key target root first (first .level) path root first (first .level) u
 unfolding All Linked
 down-start z m u key target root first path f h l = record {
@@ -196,7 +196,7 @@ down-start z m u key target root first path f h l = record {
   same = λ stop st k. rw (trail-none path (first .level));
 }
 
-module _ (z : Sizes) (m : ClientWord → ℕ) (u₀ : List ℕ) (key target root : ℕ) (first : Node) (top : ℕ) (path : List Turn) (name : ℕ) (n : Node) (level : ℕ) (u : List ℕ) (d : Downward z m u₀ key target root first top path name n level u) where
+module _ (z : TreeSizes) (m : ClientWord → ℕ) (u₀ : List ℕ) (key target root : ℕ) (first : Node) (top : ℕ) (path : List Turn) (name : ℕ) (n : Node) (level : ℕ) (u : List ℕ) (d : Downward z m u₀ key target root first top path name n level u) where
   module _ (lt : target < level) (r : Lower) (u′ : List ℕ) (c : Lowered z m u key level n r u′) (b : Bool) (pb : b ≡ goes (r .stop)) where
     abbrev above : List Turn
     above = trail path level (top - level)
@@ -264,7 +264,7 @@ module _ (z : Sizes) (m : ClientWord → ℕ) (u₀ : List ℕ) (key target root
 
 pub ruleset down-exits = (down-start, down-stops, down-more, down-done, down-above)
 
-module _ (z : Sizes) (m : ClientWord → ℕ) (u : List ℕ) (key level : ℕ) (n : Node) (g : Above n level) (at next : ℕ) (pa : at ≡ place (keysOf n) key) (ha : at ≤ n .count) (pn : next ≡ getD (n .slots) at 0) where
+module _ (z : TreeSizes) (m : ClientWord → ℕ) (u : List ℕ) (key level : ℕ) (n : Node) (g : Above n level) (at next : ℕ) (pa : at ≡ place (keysOf n) key) (ha : at ≤ n .count) (pn : next ≡ getD (n .slots) at 0) where
   pub lowered : (s : Stop) (r : Node) (u′ : List ℕ) → Kid z m nothing u (level - 1) next s r u′
       → Lowered z m u key level n (record { stop = s; at = at; name = next; node = r }) u′
   lowered s r u′ c =
@@ -288,7 +288,7 @@ module _ (z : Sizes) (m : ClientWord → ℕ) (u : List ℕ) (key level : ℕ) (
 
 pub ruleset lower-exits = (lowered, child-inside)
 
-module _ (z : Sizes) (m : ClientWord → ℕ) (u : List ℕ) (s : Stop) (n : Node) (u₁ : List ℕ) (a : Answer z m nothing u meta s n u₁) (b : Bool) (pb : b ≡ goes s) where
+module _ (z : TreeSizes) (m : ClientWord → ℕ) (u : List ℕ) (s : Stop) (n : Node) (u₁ : List ℕ) (a : Answer z m nothing u meta s n u₁) (b : Bool) (pb : b ≡ goes s) where
   pub no-root : not b ≡ true → AtRoot z m u (record { stop = s; name = getD (n .slots) 0 0; node = n }) u₁
   no-root nb = let no : goes s ≡ false = sym pb ∙ not-true b nb in
       record { asks = λ k. rw (a .asks [] (none-held z) .same, no); noted = a .noted; begins = λ t. stops-not s no t; inside = λ t. stops-not s no t }
@@ -311,7 +311,7 @@ leaf-stops = record { before = λ l h. go l h; there = λ h. absurd (omega arith
     go zero h = absurd (omega arith)
     go (suc l) h = refl
 
-module _ (z : Sizes) (m : ClientWord → ℕ) (u : List ℕ) (key : ℕ) (r : Rooted) (u₁ : List ℕ) (a : AtRoot z m u r u₁) (b : Bool) (pb : b ≡ goes (r .stop)) where
+module _ (z : TreeSizes) (m : ClientWord → ℕ) (u : List ℕ) (key : ℕ) (r : Rooted) (u₁ : List ℕ) (a : AtRoot z m u r u₁) (b : Bool) (pb : b ≡ goes (r .stop)) where
   pub no-way : (d : Descent) → not b ≡ true → d .stop ≡ r .stop → d .top ≤ 4 → Descends z m u key d u₁
   no-way d nb e t4 = let no : goes (r .stop) ≡ false = sym pb ∙ not-true b nb in
       record { asks = λ k. rw (a .asks (λ q l es. down to-leaf key (λ _ fs n es. k fs n es) l [] q es), e, no); noted = a .noted; high = t4; reached = λ t. stops-not (r .stop) no (rw e at t); linked = λ t. stops-not (r .stop) no (rw e at t) }

@@ -14,7 +14,7 @@ use Rattle.base.specs.Test.{ifd}
 use Rattle.base.specs.Laws.Test.{ifd-yes, ifd-no}
 use Rattle.nodes.specs.declared.node.Node.{Node}
 use Rattle.nodes.specs.Place.{place}
-use Rattle.nodes.specs.Find.{find}
+use Rattle.nodes.specs.Find.{key-index}
 use Rattle.nodes.specs.Node.{extra, keysOf, slotsOf}
 use Rattle.nodes.specs.Laws.Node.{extra-le}
 use Rattle.nodes.specs.Entries.{entries, entriesOf}
@@ -22,7 +22,7 @@ use Rattle.nodes.specs.Laws.Entries.{entries-keys, entries-slots}
 use Rattle.nodes.specs.Kept.{Whole}
 use Rattle.nodes.specs.Laws.Kept.{length-entriesOf}
 use Rattle.operations.specs.Object.{node, body, no-tree}
-use Rattle.operations.specs.Entry.{Entries, zip, keys, vals, mk, mn, cut-at, index, value-in}
+use Rattle.operations.specs.Entry.{Entries, zip, keys, vals, node-value, fewest-entries, cut-at, index, value-in}
 use Rattle.operations.specs.Path.{Plan, open-node, kid, Branch, Cont, down}
 use Rattle.client.specs.Record.{value-of}
 use Rattle.walk.specs.Entries.{opens, below, Inner, branch-of, Below}
@@ -87,17 +87,17 @@ unfolding extra
 extra-inner n h = rw (h .kind)
 
 -- enough entries: 7 keys
-enough-by : (l c len : ℕ) (a b : Plan) → (l ≡ 0 → len ≡ c) → (0 < l → len ≡ c + 1) → ifd (decLe (mn l) len) a b ≡ cond (leb 7 c) a b
+enough-by : (l c len : ℕ) (a b : Plan) → (l ≡ 0 → len ≡ c) → (0 < l → len ≡ c + 1) → ifd (decLe (fewest-entries l) len) a b ≡ cond (leb 7 c) a b
 enough-by l c len a b z s = go l refl (leb 7 c) refl
   where
-    go : (j : ℕ) → l ≡ j → (t : Bool) → leb 7 c ≡ t → ifd (decLe (mn l) len) a b ≡ cond (leb 7 c) a b
-    go zero e true p = let g : 7 ≤ c = leb-true 7 c p in let d : mn l ≤ len = rw e (omega (arith, z e)) in rw p (ifd-yes (decLe (mn l) len) a b d)
-    go zero e false p = let g : c < 7 = leb-false 7 c p in let d : mn l ≤ len → ⊥ = rw e (λ q. omega (arith, z e, q)) in rw p (ifd-no (decLe (mn l) len) a b d)
-    go (suc j) e true p = let g : 7 ≤ c = leb-true 7 c p in let d : mn l ≤ len = rw e (omega (arith, s (omega arith))) in rw p (ifd-yes (decLe (mn l) len) a b d)
-    go (suc j) e false p = let g : c < 7 = leb-false 7 c p in let y = s (omega arith) in let d : mn l ≤ len → ⊥ = rw e (λ q. omega (arith, y, q)) in rw p (ifd-no (decLe (mn l) len) a b d)
+    go : (j : ℕ) → l ≡ j → (t : Bool) → leb 7 c ≡ t → ifd (decLe (fewest-entries l) len) a b ≡ cond (leb 7 c) a b
+    go zero e true p = let g : 7 ≤ c = leb-true 7 c p in let d : fewest-entries l ≤ len = rw e (omega (arith, z e)) in rw p (ifd-yes (decLe (fewest-entries l) len) a b d)
+    go zero e false p = let g : c < 7 = leb-false 7 c p in let d : fewest-entries l ≤ len → ⊥ = rw e (λ q. omega (arith, z e, q)) in rw p (ifd-no (decLe (fewest-entries l) len) a b d)
+    go (suc j) e true p = let g : 7 ≤ c = leb-true 7 c p in let d : fewest-entries l ≤ len = rw e (omega (arith, s (omega arith))) in rw p (ifd-yes (decLe (fewest-entries l) len) a b d)
+    go (suc j) e false p = let g : c < 7 = leb-false 7 c p in let y = s (omega arith) in let d : fewest-entries l ≤ len → ⊥ = rw e (λ q. omega (arith, y, q)) in rw p (ifd-no (decLe (fewest-entries l) len) a b d)
 
 enough : (n : Node) (lo : ℕ) → Whole n → opens n ≡ true → (a b : Plan)
-    → ifd (decLe (mn (n .level)) (length (entriesOf n lo))) a b ≡ cond (leb 7 (n .count)) a b
+    → ifd (decLe (fewest-entries (n .level)) (length (entriesOf n lo))) a b ≡ cond (leb 7 (n .count)) a b
 enough n lo f h a b =
     enough-by (n .level) (n .count) (length (entriesOf n lo)) a b
     (λ z. let x = extra-leaf n (open-leaf n h z) in omega (arith, length-entriesOf n lo f))
@@ -105,13 +105,13 @@ enough n lo f h a b =
 
 -- what a plan makes of a node below the root
 pub child-is : (l lo x : ℕ) (n : Node) → Whole n → (k : Entries → Plan)
-    → open-node lo (value-of (node x) n) (λ j es. ifd (ℕ-discrete j l) (ifd (decLe (mn l) (length es)) (k es) (P.fail no-tree)) (P.fail no-tree))
+    → open-node lo (value-of (node x) n) (λ j es. ifd (ℕ-discrete j l) (ifd (decLe (fewest-entries l) (length es)) (k es) (P.fail no-tree)) (P.fail no-tree))
     ≡ cond (below l n) (k (entriesOf n lo)) (P.fail no-tree)
 unfolding below
 child-is l lo x n f k = open-is lo x n _ ∙ go (opens n) (eqb (n .level) l) refl refl
   where
     go : (a b : Bool) → opens n ≡ a → eqb (n .level) l ≡ b
-        → cond (opens n) (ifd (ℕ-discrete (n .level) l) (ifd (decLe (mn l) (length (entriesOf n lo))) (k (entriesOf n lo)) (P.fail no-tree)) (P.fail no-tree)) (P.fail no-tree)
+        → cond (opens n) (ifd (ℕ-discrete (n .level) l) (ifd (decLe (fewest-entries l) (length (entriesOf n lo))) (k (entriesOf n lo)) (P.fail no-tree)) (P.fail no-tree)) (P.fail no-tree)
         ≡ cond (below l n) (k (entriesOf n lo)) (P.fail no-tree)
     go true true p q =
         let e : n .level ≡ l = eqb-true (n .level) l q in
@@ -172,10 +172,10 @@ keys-later [] = refl
 keys-later (e ∷ es) = refl
 
 -- a node as it is written
-mk-leaf : (kind level : ℕ) (E : Entries) (ks vs : List ℕ) → kind ≡ 1 → level ≡ 0 → keys E ≡ ks → vals E ≡ vs → mk level E ≡ body kind level ks vs
+mk-leaf : (kind level : ℕ) (E : Entries) (ks vs : List ℕ) → kind ≡ 1 → level ≡ 0 → keys E ≡ ks → vals E ≡ vs → node-value level E ≡ body kind level ks vs
 mk-leaf kind level E ks vs k e p q = rw (k, e, p, q)
 
-mk-inner : (kind level : ℕ) (E : Entries) (ks vs : List ℕ) → kind ≡ 2 → 0 < level → drop 1 (keys E) ≡ ks → vals E ≡ vs → mk level E ≡ body kind level ks vs
+mk-inner : (kind level : ℕ) (E : Entries) (ks vs : List ℕ) → kind ≡ 2 → 0 < level → drop 1 (keys E) ≡ ks → vals E ≡ vs → node-value level E ≡ body kind level ks vs
 mk-inner kind zero E ks vs k e p q = absurd (omega arith)
 mk-inner kind (suc l) E ks vs k e p q = rw (k, later E, p, q)
   where
@@ -183,10 +183,10 @@ mk-inner kind (suc l) E ks vs k e p q = rw (k, later E, p, q)
     later [] = refl
     later (e ∷ es) = refl
 
-pub stored-node : (n : Node) (lo x : ℕ) → Whole n → opens n ≡ true → mk (n .level) (entriesOf n lo) ≡ value-of (node x) n
+pub stored-node : (n : Node) (lo x : ℕ) → Whole n → opens n ≡ true → node-value (n .level) (entriesOf n lo) ≡ value-of (node x) n
 stored-node n lo x f h = go (n .level) refl
   where
-    go : (l : ℕ) → n .level ≡ l → mk (n .level) (entriesOf n lo) ≡ value-of (node x) n
+    go : (l : ℕ) → n .level ≡ l → node-value (n .level) (entriesOf n lo) ≡ value-of (node x) n
     go zero e =
         let k : Leaf n = open-leaf n h e in
         mk-leaf (n .kind) (n .level) (entriesOf n lo) (keysOf n) (slotsOf n) (k .kind) e (rw (entry-keys n lo f, extra-leaf n k)) (entry-slots n lo f)
@@ -229,13 +229,13 @@ module _ (n : Node) (lo key : ℕ) (f : Whole n) (l : Leaf n) where
   pub leaf-keys : keys (entriesOf n lo) ≡ keysOf n
   leaf-keys = rw (entry-keys n lo f, extra-leaf n l)
 
-  pub leaf-index : index key (entriesOf n lo) ≡ find (keysOf n) key
+  pub leaf-index : index key (entriesOf n lo) ≡ key-index (keysOf n) key
   leaf-index = rw leaf-keys
 
-  pub leaf-value : (i : ℕ) → find (keysOf n) key ≡ some i → i < n .count → value-in key (entriesOf n lo) ≡ some (getD (n .slots) i 0)
+  pub leaf-value : (i : ℕ) → key-index (keysOf n) key ≡ some i → i < n .count → value-in key (entriesOf n lo) ≡ some (getD (n .slots) i 0)
   leaf-value i e h =
       let a : getD (vals (entriesOf n lo)) i 0 ≡ getD (entriesOf n lo) i (0, 0) .1 = List·getD-map (λ (e : ℕ × ℕ). e .1) (entriesOf n lo) i (0, 0) in
       rw (leaf-index, e, a, entry-slot n lo f i (omega arith))
 
-  pub leaf-absent : find (keysOf n) key ≡ none → value-in key (entriesOf n lo) ≡ none
+  pub leaf-absent : key-index (keysOf n) key ≡ none → value-in key (entriesOf n lo) ≡ none
   leaf-absent e = rw (leaf-index, e)

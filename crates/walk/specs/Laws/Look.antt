@@ -8,7 +8,7 @@ use lib.Dec.{ltb}
 use lib.ListN.{getD}
 use borrow.Author.Tests.{le-ltb}
 use Rattle.operations.specs.Object.{Ans}
-use Rattle.operations.specs.Slot.{Sizes}
+use Rattle.operations.specs.Slot.{TreeSizes}
 use Rattle.operations.specs.Path.{Plan}
 use Rattle.operations.specs.Look.{lookup-plan}
 use Rattle.operations.specs.Operation.{reading}
@@ -53,11 +53,11 @@ module _ (n op : ℕ) (po : op ≡ n) where
 
 pub ruleset reads-exits = (reads-two, reads-four, reads-five, reads-no)
 
-last-none : (z : Sizes) (m : ClientWord → ℕ) (a : Ans) → m writes-count ≤ 48 → last-questions z m a [] ≡ answers a []
+last-none : (z : TreeSizes) (m : ClientWord → ℕ) (a : Ans) → m writes-count ≤ 48 → last-questions z m a [] ≡ answers a []
 unfolding entered count-new any-at-last
 last-none z m a h = let l : m writes-count + 0 ≤ 48 = omega arith in let e : ltb 48 (m writes-count + 0) ≡ false = le-ltb 48 (m writes-count + 0) l in rw e
 
-module _ (z : Sizes) (m : ClientWord → ℕ) (wait : Waiting m) (u : List ℕ) (empty : getD u 0 0 ≡ 0) (s : Stop) (u′ : List ℕ) where
+module _ (z : TreeSizes) (m : ClientWord → ℕ) (wait : Waiting m) (u : List ℕ) (empty : getD u 0 0 ≡ 0) (s : Stop) (u′ : List ℕ) where
   module _ (p : Plan) (e : reading z (waiting m) ≡ p) (h : Walks z m u p s u′) where
     tells : tell z m (R z m (wait .reads) .how) (R z m (wait .reads) .used) ≡ ended s (used-in u′) []
     tells =

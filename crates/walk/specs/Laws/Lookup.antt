@@ -13,13 +13,13 @@ use Rattle.nodes.specs.declared.found.Found.{Found}
 use Rattle.nodes.specs.declared.found.Found.the-variants.{At, Absent}
 use Rattle.nodes.specs.Found.{found, Inside}
 use Rattle.nodes.specs.Laws.Found.{found-some, found-none}
-use Rattle.nodes.specs.Place.{place, bit}
-use Rattle.nodes.specs.Find.{find, find-at}
+use Rattle.nodes.specs.Place.{place, one-if}
+use Rattle.nodes.specs.Find.{key-index, find-at}
 use Rattle.nodes.specs.Node.{keysOf}
 use Rattle.nodes.specs.Entries.{entriesOf}
 use Rattle.nodes.specs.Kept.{Whole}
 use Rattle.operations.specs.Map.{said}
-use Rattle.operations.specs.Slot.{Sizes}
+use Rattle.operations.specs.Slot.{TreeSizes}
 use Rattle.operations.specs.Entry.{Entries, value-in}
 use Rattle.operations.specs.Path.{Plan, Branch, from-root}
 use Rattle.operations.specs.Look.{lookup-plan}
@@ -58,21 +58,21 @@ ended-nothing Refused us = refl
 ended-nothing (Aborts r) us = refl
 ended-nothing (Answers a b) us = refl
 
-module _ (n : Node) (key : ℕ) (f : Found) (pf : f ≡ found (find (keysOf n) key)) where
+module _ (n : Node) (key : ℕ) (f : Found) (pf : f ≡ found (key-index (keysOf n) key)) where
   pub look-there : (i v : ℕ) → f ≡ At i → v ≡ getD (n .slots) i 0 → _≡_ {A = Pair} (record { a = 1; b = v }) (look-in n key)
   unfolding look-in
-  look-there i v e q = rw (found-some (find (keysOf n) key) i (sym pf ∙ e), q)
+  look-there i v e q = rw (found-some (key-index (keysOf n) key) i (sym pf ∙ e), q)
 
   pub look-not-there : f ≡ Absent → _≡_ {A = Pair} (record { a = 0; b = 0 }) (look-in n key)
   unfolding look-in
-  look-not-there e = rw (found-none (find (keysOf n) key) (sym pf ∙ e))
+  look-not-there e = rw (found-none (key-index (keysOf n) key) (sym pf ∙ e))
 
 pub slot-inside : (f : Found) (i n : ℕ) → Inside f n → f ≡ At i → n ≤ 14 → i < 15
 slot-inside f i n h e l = omega (arith, h .inside i e)
 
 pub ruleset look-in-exits = (look-there, look-not-there, slot-inside)
 
-bit-small : (b : Bool) → bit b ≤ 1
+bit-small : (b : Bool) → one-if b ≤ 1
 bit-small true = omega arith
 bit-small false = omega arith
 
@@ -81,28 +81,28 @@ unfolding place
 place-within [] key = omega arith
 place-within (k ∷ ks) key = omega (arith, bit-small (leb k key), place-within ks key)
 
-pub find-inside : (ks : List ℕ) (key i : ℕ) → find ks key ≡ some i → i < length ks
-unfolding find find-at
+pub find-inside : (ks : List ℕ) (key i : ℕ) → key-index ks key ≡ some i → i < length ks
+unfolding key-index find-at
 find-inside ks key i e = go (eqb (place ks key) 0) (eqb (getD ks (place ks key - 1) 0) key) refl refl
   where
     go : (a b : Bool) → eqb (place ks key) 0 ≡ a → eqb (getD ks (place ks key - 1) 0) key ≡ b → i < length ks
-    go true b p q = let r : none ≡ some i = rw (find, find-at, p) at e in let z : _≡_ {A = ℕ} 0 1 = cc in absurd (omega arith)
+    go true b p q = let r : none ≡ some i = rw (key-index, find-at, p) at e in let z : _≡_ {A = ℕ} 0 1 = cc in absurd (omega arith)
     go false true p q =
-        let r : some (place ks key - 1) ≡ some i = rw (find, find-at, p, q) at e in
+        let r : some (place ks key - 1) ≡ some i = rw (key-index, find-at, p, q) at e in
         let t : place ks key - 1 ≡ i = cc in
         let n : place ks key ≡ 0 → ⊥ = eqb-false (place ks key) 0 p in
         omega (arith, place-within ks key)
-    go false false p q = let r : none ≡ some i = rw (find, find-at, p, q) at e in let z : _≡_ {A = ℕ} 0 1 = cc in absurd (omega arith)
+    go false false p q = let r : none ≡ some i = rw (key-index, find-at, p, q) at e in let z : _≡_ {A = ℕ} 0 1 = cc in absurd (omega arith)
 
 leaf-said : (n : Node) (lo key : ℕ) → Whole n → Leaf n → said (value-in key (entriesOf n lo)) ≡ (look-in n key .a, look-in n key .b)
 unfolding look-in
-leaf-said n lo key f l = go (find (keysOf n) key) refl
+leaf-said n lo key f l = go (key-index (keysOf n) key) refl
   where
-    go : (o : Option ℕ) → find (keysOf n) key ≡ o → said (value-in key (entriesOf n lo)) ≡ (look-in n key .a, look-in n key .b)
+    go : (o : Option ℕ) → key-index (keysOf n) key ≡ o → said (value-in key (entriesOf n lo)) ≡ (look-in n key .a, look-in n key .b)
     go none e = rw (leaf-absent n lo key f l e, look-in, e)
     go (some i) e = let h : i < n .count = omega (arith, find-inside (keysOf n) key i e, f .keys) in rw (leaf-value n lo key f l i e h, look-in, e)
 
-module _ (z : Sizes) (m : ClientWord → ℕ) (u : List ℕ) (key : ℕ) (d : Descent) (u₁ : List ℕ) (h : Descends z m u key d u₁) (b : Bool) (pb : b ≡ goes (d .stop)) where
+module _ (z : TreeSizes) (m : ClientWord → ℕ) (u : List ℕ) (key : ℕ) (d : Descent) (u₁ : List ℕ) (h : Descends z m u key d u₁) (b : Bool) (pb : b ≡ goes (d .stop)) where
   pub look-stops : (k : List Branch → ℕ → Entries → Plan) → not b ≡ true → Walks z m u (from-root key k) (d .stop) u₁
   look-stops k nb = let no : goes (d .stop) ≡ false = sym pb ∙ not-true b nb in
       record { same = rw (h .asks k, no); noted = h .noted }

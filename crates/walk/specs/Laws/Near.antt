@@ -7,7 +7,7 @@ use Prim.Native.Nat.{ℕ, zero, suc, _-_, _≤_, _<_}
 use lib.ListN.{drop}
 use borrow.Author.Tests.{not-true, not-false}
 use Rattle.nodes.specs.Entries.{entriesOf}
-use Rattle.operations.specs.Slot.{Sizes}
+use Rattle.operations.specs.Slot.{TreeSizes}
 use Rattle.operations.specs.Look.{told, seek-up}
 use Rattle.walk.specs.declared.down.Turn.{Turn}
 use Rattle.walk.specs.declared.down.Descent.{Descent}
@@ -28,7 +28,7 @@ use Rattle.walk.specs.Seek.{visit, side, nearest-in, near-plan, key-of, 
 use Rattle.walk.specs.Laws.Seek.{is-key, no-key, near-of, seek-climb}
 use Rattle.walk.specs.Near.{Beyond}
 
-module _ (z : Sizes) (m : ClientWord → ℕ) (u : List ℕ) (right : Bool) (key top : ℕ) (path : List Turn) (a : Ahead) (h : Climbed right top path 0 a) (s : Stop) (u′ : List ℕ) where
+module _ (z : TreeSizes) (m : ClientWord → ℕ) (u : List ℕ) (right : Bool) (key top : ℕ) (path : List Turn) (a : Ahead) (h : Climbed right top path 0 a) (s : Stop) (u′ : List ℕ) where
   pub beyond-found : (y : ℕ) → a .state ≡ Found y → Beyond z m u right key top path s u′
   beyond-found y e = absurd (h .found y e)
 
@@ -57,7 +57,7 @@ sides-are false [] = refl
 sides-are true (b ∷ bs) = rw (sides-are true bs)
 sides-are false (b ∷ bs) = rw (sides-are false bs)
 
-module _ (z : Sizes) (m : ClientWord → ℕ) (u : List ℕ) (right : Bool) (key : ℕ) (d : Descent) (u₁ : List ℕ) (h : Descends z m u key d u₁) (b : Bool) (pb : b ≡ goes (d .stop)) where
+module _ (z : TreeSizes) (m : ClientWord → ℕ) (u : List ℕ) (right : Bool) (key : ℕ) (d : Descent) (u₁ : List ℕ) (h : Descends z m u key d u₁) (b : Bool) (pb : b ≡ goes (d .stop)) where
   pub near-stops : not b ≡ true → Walks z m u (near-plan right key) (d .stop) u₁
   near-stops nb = let no : goes (d .stop) ≡ false = sym pb ∙ not-true b nb in
       record { same = rw (h .asks (λ fs n es. told (nearest-in right key es) (seek-up (nearest-in right key) (visit right) (side right) zero fs)), no); noted = h .noted }

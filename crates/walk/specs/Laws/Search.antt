@@ -16,7 +16,7 @@ use Rattle.nodes.specs.Laws.Found.{absent-inside}
 use Rattle.nodes.specs.Name.{name}
 use Rattle.nodes.specs.Placement.{row}
 use Rattle.operations.specs.Object.{no-slot, Writes}
-use Rattle.operations.specs.Slot.{Sizes, search, present, take-flag}
+use Rattle.operations.specs.Slot.{TreeSizes, search, present, take-flag}
 use Rattle.operations.specs.Path.{Plan}
 use Rattle.walk.specs.declared.search.Taken.{Taken}
 use Rattle.walk.specs.declared.walk.Stop.{Stop}
@@ -26,7 +26,7 @@ use Rattle.client.specs.Record.{sizes}
 use Rattle.client.specs.Lent.{used-in}
 use Rattle.walk.specs.Walk.{goes, walked}
 use Rattle.walk.specs.Laws.Walk.{walked-fails}
-use Rattle.walk.specs.Ask.{Holds, Noted}
+use Rattle.walk.specs.Ask.{Holds-writes, Noted}
 use Rattle.walk.specs.Laws.Down.{stops-not}
 use Rattle.walk.specs.Take.{FlagTaken}
 use Rattle.walk.specs.Vector.{Looked}
@@ -64,14 +64,14 @@ length-row (suc (suc (suc (suc (suc (suc (suc zero))))))) h = refl
 length-row (suc (suc (suc (suc (suc (suc (suc (suc s)))))))) h = absurd (omega arith)
 
 -- i servers of the row are passed over
-pub record Seeking (z : Sizes) (m : ClientWord → ℕ) (x u₀ : List ℕ) (home slot i : ℕ) (u : List ℕ) : Type 0 where
+pub record Seeking (z : TreeSizes) (m : ClientWord → ℕ) (x u₀ : List ℕ) (home slot i : ℕ) (u : List ℕ) : Type 0 where
   pub within : i ≤ 8
   pub noted : Noted m u
   pub long : length u ≡ length u₀
-  pub same : (w : Writes) → Holds z x w → (k : ℕ → Plan)
+  pub same : (w : Writes) → Holds-writes z x w → (k : ℕ → Plan)
       → walked z m (search z w slot (present (z .servers) (row home)) k) (used-in u₀) ≡ walked z m (search z w slot (present (z .servers) (drop i (row home))) k) (used-in u)
 
-module _ (z : Sizes) (m : ClientWord → ℕ) (x u₀ : List ℕ) (home slot : ℕ) where
+module _ (z : TreeSizes) (m : ClientWord → ℕ) (x u₀ : List ℕ) (home slot : ℕ) where
   pub seek-starts : Noted m u₀ → Seeking z m x u₀ home slot 0 u₀
   seek-starts h = record { within = omega arith; noted = h; long = refl; same = λ w hold k. refl }
 
@@ -111,7 +111,7 @@ module _ (z : Sizes) (m : ClientWord → ℕ) (x u₀ : List ℕ) (home slot : �
 pub ruleset seek-exits = (seek-starts, seek-stops, seek-finds, seek-goes-on, seek-near, seek-ends)
 
 -- ---- one server
-module _ (z : Sizes) (m : ClientWord → ℕ) (x u : List ℕ) (s slot : ℕ) (t : Stop) (f : Found) (u′ : List ℕ) (h : Looked z m x u s slot t f u′) (b : Bool) (pb : b ≡ goes t) where
+module _ (z : TreeSizes) (m : ClientWord → ℕ) (x u : List ℕ) (s slot : ℕ) (t : Stop) (f : Found) (u′ : List ℕ) (h : Looked z m x u s slot t f u′) (b : Bool) (pb : b ≡ goes t) where
   pub only-stops : not b ≡ true → Sought z m x u (s ∷ []) slot (record { stop = t; name = 0 }) u′
   only-stops nb =
       let no : goes t ≡ false = sym pb ∙ not-true b nb in
@@ -136,7 +136,7 @@ module _ (z : Sizes) (m : ClientWord → ℕ) (x u : List ℕ) (s slot : ℕ) (t
 pub ruleset only-exits = (only-stops, only-finds, only-none, only-there, only-near)
 
 -- ---- its flag
-module _ (z : Sizes) (m : ClientWord → ℕ) (x u ss : List ℕ) (slot : ℕ) (r : Taken) (u₁ : List ℕ) (h : Sought z m x u ss slot r u₁) (b : Bool) (pb : b ≡ goes (r .stop)) where
+module _ (z : TreeSizes) (m : ClientWord → ℕ) (x u ss : List ℕ) (slot : ℕ) (r : Taken) (u₁ : List ℕ) (h : Sought z m x u ss slot r u₁) (b : Bool) (pb : b ≡ goes (r .stop)) where
   pub take-stops : not b ≡ true → TakenOn z m x u ss slot r x u₁
   take-stops nb =
       let no : goes (r .stop) ≡ false = sym pb ∙ not-true b nb in

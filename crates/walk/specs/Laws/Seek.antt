@@ -17,7 +17,7 @@ use Rattle.nodes.specs.Laws.Node.{length-keysOf}
 use Rattle.nodes.specs.Entries.{entriesOf}
 use Rattle.nodes.specs.Kept.{Whole}
 use Rattle.nodes.specs.Laws.Kept.{length-entriesOf}
-use Rattle.operations.specs.Slot.{Sizes}
+use Rattle.operations.specs.Slot.{TreeSizes}
 use Rattle.operations.specs.Entry.{Entries, keys, under, before}
 use Rattle.operations.specs.Path.{Plan, kid, Branch}
 use Rattle.operations.specs.Look.{rightward, leftward, seek, seek-up}
@@ -436,7 +436,7 @@ module _ (right : Bool) (key top : ℕ) (path : List Turn) (n : Node) (level : �
 
 pub ruleset advance-exits = (leaf-found, leaf-passed, first-inside, down-first)
 
-module _ (z : Sizes) (m : ClientWord → ℕ) (u : List ℕ) (right : Bool) (key top : ℕ) (path : List Turn) (level name : ℕ) (s : Stop) (n : Node) (u′ : List ℕ) (h : Kid z m nothing u level name s n u′) (b : Bool) (pb : b ≡ goes s) where
+module _ (z : TreeSizes) (m : ClientWord → ℕ) (u : List ℕ) (right : Bool) (key top : ℕ) (path : List Turn) (level name : ℕ) (s : Stop) (n : Node) (u′ : List ℕ) (h : Kid z m nothing u level name s n u′) (b : Bool) (pb : b ≡ goes s) where
   asked : (j : ℕ) (f : ℕ → ℕ) → walked z m (onto (nearest-in right key) right top path level name j f) (used-in u)
       ≡ carry s (used-in u′) (λ us. walked z m (afterwards right key top path level n j f) us)
   asked j f =
@@ -457,7 +457,7 @@ module _ (z : Sizes) (m : ClientWord → ℕ) (u : List ℕ) (right : Bool) (key
 pub ruleset read-exits = (read-stops, read-leads, read-standing)
 
 -- how far the search has come
-pub record Seeking (z : Sizes) (m : ClientWord → ℕ) (u₀ : List ℕ) (right : Bool) (key top : ℕ) (path₀ : List Turn) (level₀ name₀ : ℕ) (path : List Turn) (level name : ℕ) (u : List ℕ) : Type 0 where
+pub record Seeking (z : TreeSizes) (m : ClientWord → ℕ) (u₀ : List ℕ) (right : Bool) (key top : ℕ) (path₀ : List Turn) (level₀ name₀ : ℕ) (path : List Turn) (level name : ℕ) (u : List ℕ) : Type 0 where
   pub lo : ℕ → (ℕ → ℕ) → ℕ
   pub lows : ℕ → (ℕ → ℕ) → ℕ → ℕ
   pub same : (j : ℕ) (f : ℕ → ℕ)
@@ -468,12 +468,12 @@ pub record Seeking (z : Sizes) (m : ClientWord → ℕ) (u₀ : List ℕ) (right
   pub noted : Noted m u
   pub long : length u ≡ length u₀
 
-pub seek-start : (z : Sizes) (m : ClientWord → ℕ) (u : List ℕ) (right : Bool) (key top : ℕ) (path : List Turn) (level name : ℕ) → Stacked top path level × (level < top) → Noted m u
+pub seek-start : (z : TreeSizes) (m : ClientWord → ℕ) (u : List ℕ) (right : Bool) (key top : ℕ) (path : List Turn) (level name : ℕ) → Stacked top path level × (level < top) → Noted m u
     → Seeking z m u right key top path level name path level name u
 seek-start z m u right key top path level name k n =
     record { lo = λ j f. j; lows = λ j f. f; same = λ j f. refl; stacked = k .0; below = k .1; noted = n; long = refl }
 
-module _ (z : Sizes) (m : ClientWord → ℕ) (u₀ : List ℕ) (right : Bool) (key top : ℕ) (path₀ : List Turn) (level₀ name₀ : ℕ) (path : List Turn) (level name : ℕ) (u : List ℕ) (d : Seeking z m u₀ right key top path₀ level₀ name₀ path level name u) (r : Reading) (u₁ : List ℕ) (h : ReadOn z m u right key top path level name r u₁) (b : Bool) (pb : b ≡ goes (r .stop)) where
+module _ (z : TreeSizes) (m : ClientWord → ℕ) (u₀ : List ℕ) (right : Bool) (key top : ℕ) (path₀ : List Turn) (level₀ name₀ : ℕ) (path : List Turn) (level name : ℕ) (u : List ℕ) (d : Seeking z m u₀ right key top path₀ level₀ name₀ path level name u) (r : Reading) (u₁ : List ℕ) (h : ReadOn z m u right key top path level name r u₁) (b : Bool) (pb : b ≡ goes (r .stop)) where
   pub seek-stops : not b ≡ true → Seeks z m u₀ right key top path₀ level₀ name₀ (r .stop) u₁
   seek-stops nb = let no : goes (r .stop) ≡ false = sym pb ∙ not-true b nb in
       record { same = λ j f. rw (d .same j f, h .asks (d .lo j f) (d .lows j f), no); noted = h .noted }

@@ -6,7 +6,7 @@ use Prim.Native.Nat.{ℕ, _-_, _≤_}
 use native.Mathlib.Omega.{arith}
 use borrow.Author.Tests.{le-leb}
 use Rattle.operations.specs.Object.{meta, node, flag, Ask, object, vector, fetched, Ans, Writes}
-use Rattle.operations.specs.Slot.{Sizes}
+use Rattle.operations.specs.Slot.{TreeSizes}
 use Rattle.operations.specs.Operation.{reading}
 use Rattle.walk.specs.declared.walk.Stop.{Stop}
 use Rattle.walk.specs.declared.walk.Stop.the-variants.{Refused, Aborts, Answers}
@@ -33,7 +33,7 @@ reads-are : (m : ClientWord → ℕ) → m reads-count ≤ 96 → count m Reads 
 unfolding count
 reads-are m h = rw (le-leb (m reads-count) 96 h)
 
-module _ (z : Sizes) (m : ClientWord → ℕ) (h : m reads-count ≤ 96) where
+module _ (z : TreeSizes) (m : ClientWord → ℕ) (h : m reads-count ≤ 96) where
   abbrev pub R : Ran
   R = C.walked z m
 
@@ -52,7 +52,7 @@ lack-waits (object (flag n)) = refl
 lack-waits (vector s) = refl
 lack-waits (fetched s) = refl
 
-module _ (z : Sizes) (m : ClientWord → ℕ) where
+module _ (z : TreeSizes) (m : ClientWord → ℕ) where
   pub told-used : (e : End) (us : List ℕ) → tell z m e us .used ≡ us
   told-used (lacks a) us = refl
   told-used (aborts y) us = refl

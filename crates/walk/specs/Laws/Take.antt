@@ -9,11 +9,11 @@ use lib.ListN.{length, getD}
 use borrow.Author.Tests.{not-true, not-false, eq-eqb, ne-eqb}
 use Rattle.nodes.specs.declared.node.Node.{Node}
 use Rattle.nodes.specs.Lists.{pad}
-use Rattle.nodes.specs.Place.{bit}
+use Rattle.nodes.specs.Place.{one-if}
 use Rattle.nodes.specs.Node.{extra, keysOf, slotsOf, made, free-node}
 use Rattle.nodes.specs.Laws.Stored.{Sized}
 use Rattle.operations.specs.Object.{Obj, node, flag, Val, body, taken, free, not-free}
-use Rattle.operations.specs.Slot.{Sizes, when-free-flag, when-free-node}
+use Rattle.operations.specs.Slot.{TreeSizes, when-free-flag, when-free-node}
 use Rattle.operations.specs.Path.{Plan}
 use Rattle.walk.specs.declared.walk.Stop.{Stop}
 use Rattle.walk.specs.declared.walk.Stop.the-variants.{Going, Aborts}
@@ -32,7 +32,7 @@ free-node-is : (kind level : ℕ) (ks vs : List ℕ) (k : Plan) → when-free-no
 free-node-is zero level ks vs k = refl
 free-node-is (suc j) level ks vs k = let e : suc j ≡ 0 → ⊥ = λ q. omega arith in rw (ne-eqb (suc j) 0 e)
 
-module _ (z : Sizes) (m : ClientWord → ℕ) (x u : List ℕ) (n : ℕ) (s : Stop) (r : Node) (u′ : List ℕ) (h : Answer z m x u (node n) s r u′) (b : Bool) (pb : b ≡ goes s) where
+module _ (z : TreeSizes) (m : ClientWord → ℕ) (x u : List ℕ) (n : ℕ) (s : Stop) (r : Node) (u′ : List ℕ) (h : Answer z m x u (node n) s r u′) (b : Bool) (pb : b ≡ goes s) where
   pub node-lacks : not b ≡ true → NodeTaken z m x u n s u′
   node-lacks nb = let no : goes s ≡ false = sym pb ∙ not-true b nb in
       record { asks = λ w hold k. rw (h .asks w hold .same, no); noted = h .noted; long = h .long; inside = h .inside }
@@ -69,11 +69,11 @@ taken-value : (n : ℕ) → value-of (flag n) (single 0 1) ≡ taken true
 unfolding single made pad
 taken-value n = refl
 
-flag-record : (b : Bool) → single 0 (bit b) ≡ record-of 0 (taken b)
+flag-record : (b : Bool) → single 0 (one-if b) ≡ record-of 0 (taken b)
 unfolding record-of
 flag-record b = refl
 
-module _ (z : Sizes) (m : ClientWord → ℕ) (x u : List ℕ) (n : ℕ) (s : Stop) (r : Node) (u′ : List ℕ) (h : Answer z m x u (flag n) s r u′) (b : Bool) (pb : b ≡ goes s) where
+module _ (z : TreeSizes) (m : ClientWord → ℕ) (x u : List ℕ) (n : ℕ) (s : Stop) (r : Node) (u′ : List ℕ) (h : Answer z m x u (flag n) s r u′) (b : Bool) (pb : b ≡ goes s) where
   pub flag-lacks : not b ≡ true → FlagTaken z m x u n s x u′
   flag-lacks nb = let no : goes s ≡ false = sym pb ∙ not-true b nb in
       record { asks = λ w hold k. rw (h .asks w hold .same, no); holds = λ t. stops-not s no t; good = λ t. stops-not s no t; noted = h .noted; long = h .long; few = omega arith; inside = h .inside }
@@ -148,7 +148,7 @@ module _ (x : List ℕ) (g : OwnGood x) (few : getD x 0 0 < 20) (k : ℕ) (q : N
 
 pub ruleset freed-exits = (flag-freed, node-freed)
 
-module _ (z : Sizes) (m : ClientWord → ℕ) (x u : List ℕ) (n : ℕ) (s : Stop) (r : Node) (u′ : List ℕ) (h : Answer z m x u (flag n) s r u′) (b : Bool) (pb : b ≡ goes s) where
+module _ (z : TreeSizes) (m : ClientWord → ℕ) (x u : List ℕ) (n : ℕ) (s : Stop) (r : Node) (u′ : List ℕ) (h : Answer z m x u (flag n) s r u′) (b : Bool) (pb : b ≡ goes s) where
   pub release-lacks : not b ≡ true → Released z m x u n s x u′
   release-lacks nb = let no : goes s ≡ false = sym pb ∙ not-true b nb in
       record { asks = λ w hold k. rw (h .asks w hold .same, no); holds = λ t. stops-not s no t; good = λ t. stops-not s no t; noted = h .noted; long = h .long; few = omega arith; inside = h .inside }

@@ -11,10 +11,10 @@ use Rattle.nodes.specs.declared.found.Found.{Found}
 use Rattle.nodes.specs.declared.found.Found.the-variants.{At, Absent}
 use Rattle.nodes.specs.Found.{found, Inside}
 use Rattle.nodes.specs.Laws.Found.{found-some, absent-inside}
-use Rattle.nodes.specs.Vector.{shifted, lowest, or-else, free-from, first-free}
+use Rattle.nodes.specs.Vector.{shifted, lowest-free, or-else, free-from, first-free}
 use Rattle.nodes.specs.Laws.Bits.{length-flags}
 use Rattle.operations.specs.Object.{vector, fetched, Val, flags, Writes}
-use Rattle.operations.specs.Slot.{Sizes, free-slot, search}
+use Rattle.operations.specs.Slot.{TreeSizes, free-slot, search}
 use Rattle.operations.specs.Path.{Plan}
 use Rattle.walk.specs.declared.walk.Stop.{Stop}
 use Rattle.walk.specs.declared.walk.Stop.the-variants.{Going, LacksVector, Refused, Aborts}
@@ -26,7 +26,7 @@ use Rattle.client.specs.Run.{run}
 use Rattle.client.specs.Lent.{own-count, used-in}
 use Rattle.walk.specs.Walk.{told, goes, over, worked, walked, carry}
 use Rattle.walk.specs.Laws.Walk.{full-ask}
-use Rattle.walk.specs.Ask.{Holds, Noted, popped}
+use Rattle.walk.specs.Ask.{Holds-writes, Noted, popped}
 use Rattle.walk.specs.Laws.Ask.{popped-used, popped-noted, over-some, over-long}
 use Rattle.walk.specs.Laws.Down.{stops-not}
 use Rattle.walk.specs.Counted.{counts}
@@ -97,19 +97,19 @@ pub ruleset vector-exits = (over-some, over-long, vector-over, vector-out, vecto
 
 -- ---- a look at a server
 -- a slot that is found is one of the words' flags
-lowest-near : (l : List Bool) (i : ℕ) → lowest l ≡ some i → i < length l
+lowest-near : (l : List Bool) (i : ℕ) → lowest-free l ≡ some i → i < length l
 lowest-near [] i e = let z : _≡_ {A = ℕ} 0 1 = cc in absurd (omega arith)
 lowest-near (false ∷ l) i e = let z : 0 ≡ i = cc in omega arith
-lowest-near (true ∷ l) i e = go (lowest l) refl (lowest-near l) e
+lowest-near (true ∷ l) i e = go (lowest-free l) refl (lowest-near l) e
   where
-    go : (o : Option ℕ) → lowest l ≡ o → ((j : ℕ) → lowest l ≡ some j → j < length l) → shifted 1 o ≡ some i → i < suc (length l)
+    go : (o : Option ℕ) → lowest-free l ≡ o → ((j : ℕ) → lowest-free l ≡ some j → j < length l) → shifted 1 o ≡ some i → i < suc (length l)
     go none p ih q = let z : _≡_ {A = ℕ} 0 1 = cc in absurd (omega arith)
     go (some j) p ih q = let z : 1 + j ≡ i = cc in omega (arith, ih j p)
 
 free-near : (a : ℕ) (l : List Bool) (i : ℕ) → free-from a l ≡ some i → i < length l
-free-near a l i e = go (lowest (drop a l)) refl e
+free-near a l i e = go (lowest-free (drop a l)) refl e
   where
-    go : (o : Option ℕ) → lowest (drop a l) ≡ o → shifted a o ≡ some i → i < length l
+    go : (o : Option ℕ) → lowest-free (drop a l) ≡ o → shifted a o ≡ some i → i < length l
     go none p q = let z : _≡_ {A = ℕ} 0 1 = cc in absurd (omega arith)
     go (some j) p q = let z : a + j ≡ i = cc in omega (arith, lowest-near (drop a l) j p, length-drop a l)
 
@@ -117,15 +117,15 @@ first-near : (slot : ℕ) (l : List Bool) (i : ℕ) → first-free slot l ≡ so
 unfolding first-free
 first-near slot l i e = go (free-from (suc slot) l) refl e
   where
-    go : (o : Option ℕ) → free-from (suc slot) l ≡ o → or-else o (lowest l) ≡ some i → i < length l
+    go : (o : Option ℕ) → free-from (suc slot) l ≡ o → or-else o (lowest-free l) ≡ some i → i < length l
     go none p q = lowest-near l i q
     go (some j) p q = free-near (suc slot) l i (p ∙ q)
 
-pub slots-near : (slots slot : ℕ) (ws : List ℕ) (f : Found) → length ws ≡ 16 → f ≡ found (first-free slot (N.flags slots ws)) → Inside f 1024
-unfolding N.flags
+pub slots-near : (slots slot : ℕ) (ws : List ℕ) (f : Found) → length ws ≡ 16 → f ≡ found (first-free slot (N.flags-in slots ws)) → Inside f 1024
+unfolding N.flags-in
 slots-near slots slot ws f l e = record {
   inside = λ i p.
-      let a : i < length (N.flags slots ws) = first-near slot (N.flags slots ws) i (found-some (first-free slot (N.flags slots ws)) i (sym e ∙ p)) in
+      let a : i < length (N.flags-in slots ws) = first-near slot (N.flags-in slots ws) i (found-some (first-free slot (N.flags-in slots ws)) i (sym e ∙ p)) in
       omega (arith, length-take slots (N.all-flags ws), length-flags ws);
 }
 
@@ -135,7 +135,7 @@ slot-found none f e = rw e
 slot-found (some i) f e = rw e
 
 module _ (servers slots : ℕ) (m : ClientWord → ℕ) (x u : List ℕ) (s slot : ℕ) (t : Stop) (u′ : List ℕ) (h : VectorAsked m servers u s t u′) (b : Bool) (pb : b ≡ goes t) where
-  abbrev z : Sizes
+  abbrev z : TreeSizes
   z = sizes servers slots
 
   pub look-stops : not b ≡ true → Looked z m x u s slot t Absent u′
@@ -143,16 +143,16 @@ module _ (servers slots : ℕ) (m : ClientWord → ℕ) (x u : List ℕ) (s slot
       let no : goes t ≡ false = sym pb ∙ not-true b nb in
       record { asks = λ w hold ss k. rw (h .asks slots, no); there = λ g. stops-not t no g; near = absent-inside 1024; noted = h .noted; long = h .long }
 
-  module _ (nb : not b ≡ false) (seen ws : List ℕ) (ls : length seen ≡ 16) (ps : seen ≡ seen-words m s) (pw : ws ≡ counts x s (getD x 0 0) seen) (f : Found) (pf : f ≡ found (first-free slot (N.flags slots ws))) where
+  module _ (nb : not b ≡ false) (seen ws : List ℕ) (ls : length seen ≡ 16) (ps : seen ≡ seen-words m s) (pw : ws ≡ counts x s (getD x 0 0) seen) (f : Found) (pf : f ≡ found (first-free slot (N.flags-in slots ws))) where
     on : goes t ≡ true
     on = sym pb ∙ not-false b nb
 
     sixteen : length ws ≡ 16
     sixteen = rw pw (length-counts x s (own-count x) seen ∙ ls)
 
-    found-free : (w : Writes) → Holds z x w → free-slot z w slot s (seen-vector z m s) ≡ slot-in f
+    found-free : (w : Writes) → Holds-writes z x w → free-slot z w slot s (seen-vector z m s) ≡ slot-in f
     found-free w hold =
-        rw (← ps, ← counted-is z x w hold s (h .there on) seen ls, ← pw) (sym (slot-found (first-free slot (N.flags slots ws)) f pf))
+        rw (← ps, ← counted-is z x w hold s (h .there on) seen ls, ← pw) (sym (slot-found (first-free slot (N.flags-in slots ws)) f pf))
 
     pub look-chooses : (i : ℕ) → f ≡ At i → Looked z m x u s slot t f u′
     look-chooses i pi = record {

@@ -7,7 +7,7 @@ use native.Mathlib.Omega.{arith}
 use lib.ListN.{length, take, length-append}
 use lib.Seq.{take-append-seam}
 use Rattle.operations.specs.Object.{Ask, Val, Why, reason, Ans, Writes}
-use Rattle.operations.specs.Slot.{Sizes}
+use Rattle.operations.specs.Slot.{TreeSizes}
 use Rattle.operations.specs.Path.{Plan}
 use Rattle.walk.specs.declared.walk.Stop.the-variants.{Aborts, Answers}
 use Rattle.client.specs.Layout.{ClientWord}
@@ -16,7 +16,7 @@ use Rattle.walk.specs.Walk.{told, over-run, over, worked, walked}
 use Rattle.plans.specs.Plan as P
 
 -- ---- the ends of a walk
-module _ (z : Sizes) (m : ClientWord → ℕ) (us : List ℕ) where
+module _ (z : TreeSizes) (m : ClientWord → ℕ) (us : List ℕ) where
   pub walked-fails : (y : Why) → walked z m (P.fail y) us ≡ told (Aborts (reason y)) us
   unfolding walked worked run
   walked-fails y = go (over m us) refl

@@ -21,20 +21,20 @@ use Rattle.nodes.specs.declared.found.Found.the-variants.{At, Absent}
 use Rattle.nodes.specs.Stored.{words-of, node-of, node-at, put-node}
 use Rattle.nodes.specs.Laws.Stored.{Sized, length-words, node-same}
 use Rattle.operations.specs.Object.{Obj, meta, node, flag, Val, Writes, hit}
-use Rattle.operations.specs.Slot.{Sizes}
+use Rattle.operations.specs.Slot.{TreeSizes}
 use Rattle.client.specs.Record.{number, in-store, object-in-store, value-of, record-of}
 use Rattle.client.specs.Sets.{or-found, first-of}
 use Rattle.client.specs.Lent.{OwnFits, own-count, own-number, own-record, own-find, own-at, own-put, own-first, own-list}
 use Rattle.client.specs.Answered.{put-entry, entered}
 use Rattle.walk.specs.Laws.Own.{first-same, first-at, own-entry, first-equal, entry-behind, entry-there}
-use Rattle.walk.specs.Ask.{SmallNode, Small, Few, OwnGood, write-of, own-value, Holds}
+use Rattle.walk.specs.Ask.{SmallNode, Small, Few, OwnGood, write-of, own-value, Holds-writes}
 
 -- ---- an object of the store and its number
-pub name-below : (z : Sizes) (n : ℕ) → z .servers ≤ 8 → in-store z n ≡ true → n < 8192
+pub name-below : (z : TreeSizes) (n : ℕ) → z .servers ≤ 8 → in-store z n ≡ true → n < 8192
 unfolding in-store
 name-below z n h t = let a : n / 1024 < z .servers = ltb-true _ _ (and-both _ _ t .0) in omega arith
 
-pub hit-is : (z : Sizes) → z .servers ≤ 8 → (o p : Obj) → object-in-store z o ≡ true → object-in-store z p ≡ true → hit o p ≡ eqb (number o) (number p)
+pub hit-is : (z : TreeSizes) → z .servers ≤ 8 → (o p : Obj) → object-in-store z o ≡ true → object-in-store z p ≡ true → hit o p ≡ eqb (number o) (number p)
 hit-is z h meta meta s t = refl
 hit-is z h meta (node n) s t = let e : 0 ≡ 1 + n → ⊥ = λ q. omega arith in sym (ne-eqb 0 (1 + n) e)
 hit-is z h meta (flag n) s t = let e : 0 ≡ 8193 + n → ⊥ = λ q. omega arith in sym (ne-eqb 0 (8193 + n) e)
@@ -274,7 +274,7 @@ module _ (x : List ℕ) (o : Obj) (r : Node) (good : OwnGood x) (few : own-count
           rw (← j, p .is) (small-any r small q)
       go q i e (no d) = let k : own-find x (number q) ≡ At i = sym (p .others (number q) d) ∙ e in rw (p .kept (number q) i d k) (good .small q i k)
 
-module _ (z : Sizes) (x : List ℕ) (w : Writes) (o : Obj) (v : Val) (r : Node) (eight : z .servers ≤ 8) (good : OwnGood x) (hold : Holds z x w) (few : own-count x < 20) (t : object-in-store z o ≡ true) (sized : Sized r) (is-v : value-of o r ≡ v) (is-r : r ≡ record-of 0 v) where
+module _ (z : TreeSizes) (x : List ℕ) (w : Writes) (o : Obj) (v : Val) (r : Node) (eight : z .servers ≤ 8) (good : OwnGood x) (hold : Holds-writes z x w) (few : own-count x < 20) (t : object-in-store z o ≡ true) (sized : Sized r) (is-v : value-of o r ≡ v) (is-r : r ≡ record-of 0 v) where
   value-after : (q : Obj) → object-in-store z q ≡ true → own-value (own-put x (number o) r) q (own-find (own-put x (number o) r) (number q)) ≡ write-of ((o, v) ∷ w) q
   value-after q s = go (hit o q) refl
     where
@@ -291,7 +291,7 @@ module _ (z : Sizes) (x : List ℕ) (w : Writes) (o : Obj) (v : Val) (r : Node) 
           differ : hit o q ≡ false → number q ≡ number o → ⊥
           differ e f = eqb-false (number o) (number q) (sym (hit-is z eight o q t s) ∙ e) (sym f)
 
-  pub holds-more : Holds z (own-put x (number o) r) ((o, v) ∷ w)
+  pub holds-more : Holds-writes z (own-put x (number o) r) ((o, v) ∷ w)
   unfolding entered
   holds-more = record { entries = rw ((p x o r good few sized) .list, hold .entries, is-r); same = value-after; out = λ q s. go q s (hit o q) refl }
     where

@@ -1,4 +1,4 @@
-use Rattle.client.specs.Life.{give}
+use Rattle.client.specs.Life.{give-part}
 use borrow.Author.Needs.{needs}
 use Rattle.client.proofs.life.give.Statement.{statement}
 use Rattle.client.proofs.life.give.Tie as tie
@@ -20,7 +20,7 @@ same-length c = search needs
 
 -- src/life.rt:23:1
 returns : tie.Need-returns
-unfolding give
+unfolding give-part
 returns c = search needs
 
 pub give-spec : {M : Type 1} → statement M

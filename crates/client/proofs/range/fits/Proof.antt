@@ -1,5 +1,5 @@
 use borrow.Author.Tests.{eq-eqb, ne-eqb, lt-ltb, le-ltb, le-leb, lt-leb}
-use Rattle.client.specs.Record.{fits}
+use Rattle.client.specs.Record.{record-in-range}
 use Rattle.client.specs.Laws.Record.{root-astray, root-there}
 use borrow.Author.Needs.{needs}
 use Rattle.client.proofs.range.fits.Statement.{statement}
@@ -31,12 +31,12 @@ in-range-requires c κs = search needs
 
 -- src/range.rt:44:9
 returns-3 : tie.Need-returns-3
-unfolding fits
+unfolding record-in-range
 returns-3 c = search (eq-eqb, ne-eqb, lt-ltb, le-ltb, le-leb, lt-leb, needs)
 
 -- src/range.rt:33:1
 returns-4 : tie.Need-returns-4
-unfolding fits
+unfolding record-in-range
 returns-4 c = search (eq-eqb, ne-eqb, lt-ltb, le-ltb, le-leb, lt-leb, needs)
 
 pub fits-spec : {M : Type 1} → statement M

@@ -4,7 +4,7 @@ use Prim.Native.Nat.{_-_, _≤_}
 use Rattle.memory.specs.Word.{view}
 use Rattle.client.specs.Sets.{count}
 use Rattle.client.specs.declared.part.Set.the-variants.{Reads}
-use Rattle.steps.specs.Judge.{lowest}
+use Rattle.steps.specs.Judge.{lowest-participant}
 use Rattle.kinds.specs.Parts.{stored-in}
 use Rattle.kinds.specs.Judge.{of-client}
 use Rattle.kinds.specs.Laws.Fits.{fit-exits}
@@ -14,7 +14,7 @@ use Rattle.kinds.proofs.findings.prepare_finds.Statement.{statement}
 use Rattle.kinds.proofs.findings.prepare_finds.Tie as tie
 
 abbrev Inv-loop : tie.InvT-loop
-Inv-loop mem sizes client server low n best₀ i₀ best i = (i ≤ n) × (n ≤ 96) × (n ≡ count (of-client sizes (view mem) client) Reads) × (low ≡ lowest sizes (stored-in sizes (view mem)) client) × (as-fault best ≡ found-upto sizes (view mem) client server low i)
+Inv-loop mem sizes client server low n best₀ i₀ best i = (i ≤ n) × (n ≤ 96) × (n ≡ count (of-client sizes (view mem) client) Reads) × (low ≡ lowest-participant sizes (stored-in sizes (view mem)) client) × (as-fault best ≡ found-upto sizes (view mem) client server low i)
 
 abbrev μ-loop : tie.MeasureT-loop
 μ-loop mem sizes client server low n best₀ i₀ best i = n - i

@@ -6,7 +6,7 @@ use Rattle.memory.specs.Word.{view}
 use Rattle.client.specs.Items.{all-below}
 use Rattle.client.specs.Sets.{count}
 use Rattle.client.specs.declared.part.Set.the-variants.{Reads}
-use Rattle.steps.specs.Judge.{lowest}
+use Rattle.steps.specs.Judge.{lowest-participant}
 use Rattle.kinds.specs.Parts.{stored-in}
 use Rattle.kinds.specs.Judge.{of-client}
 use Rattle.kinds.specs.Laws.Fits.{fit-exits, passing-items, each-fits}
@@ -15,7 +15,7 @@ use Rattle.kinds.proofs.fits.unlock_fits.Statement.{statement}
 use Rattle.kinds.proofs.fits.unlock_fits.Tie as tie
 
 abbrev Inv-loop : tie.InvT-loop
-Inv-loop mem sizes client server low n i₀ i = (i ≤ n) × (n ≤ 96) × (n ≡ count (of-client sizes (view mem) client) Reads) × (low ≡ lowest sizes (stored-in sizes (view mem)) client) × (all-below i (each-fits sizes (view mem) client (unlock-item sizes (view mem) low server)) ≡ true)
+Inv-loop mem sizes client server low n i₀ i = (i ≤ n) × (n ≤ 96) × (n ≡ count (of-client sizes (view mem) client) Reads) × (low ≡ lowest-participant sizes (stored-in sizes (view mem)) client) × (all-below i (each-fits sizes (view mem) client (unlock-item sizes (view mem) low server)) ≡ true)
 
 abbrev μ-loop : tie.MeasureT-loop
 μ-loop mem sizes client server low n i₀ i = n - i

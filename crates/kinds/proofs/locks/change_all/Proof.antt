@@ -5,7 +5,7 @@ use lib.ListN.{length}
 use Rattle.memory.specs.Word.{view}
 use Rattle.client.specs.Sets.{count}
 use Rattle.client.specs.declared.part.Set.the-variants.{Reads}
-use Rattle.steps.specs.Judge.{lowest}
+use Rattle.steps.specs.Judge.{lowest-participant}
 use Rattle.kinds.specs.Parts.{stored-in}
 use Rattle.kinds.specs.Laws.Parts.{holds-as}
 use Rattle.kinds.specs.Judge.{of-client}
@@ -14,7 +14,7 @@ use Rattle.kinds.proofs.locks.change_all.Statement.{statement}
 use Rattle.kinds.proofs.locks.change_all.Tie as tie
 
 abbrev Inv-loop : tie.InvT-loop
-Inv-loop mem₀ sizes client server change low n i₀ mem i = (i ≤ n) × (length mem ≡ length mem₀) × (n ≤ 96) × (n ≡ count (of-client sizes (view mem₀) client) Reads) × (low ≡ lowest sizes (stored-in sizes (view mem₀)) client) × Changed sizes client server change low (view mem₀) i (view mem)
+Inv-loop mem₀ sizes client server change low n i₀ mem i = (i ≤ n) × (length mem ≡ length mem₀) × (n ≤ 96) × (n ≡ count (of-client sizes (view mem₀) client) Reads) × (low ≡ lowest-participant sizes (stored-in sizes (view mem₀)) client) × Changed sizes client server change low (view mem₀) i (view mem)
 
 abbrev μ-loop : tie.MeasureT-loop
 μ-loop mem₀ sizes client server change low n i₀ mem i = n - i

@@ -57,7 +57,7 @@ use Rattle.steps.specs.Outcome.{line}
 use Rattle.engine.specs.Step.{outcome-of, words-after}
 use Rattle.demand.specs.Demand.{Words, All-words}
 use Rattle.schedule.specs.Laws.Listed.{no-step, all-words, words-next, word-below}
-use Rattle.schedule.specs.Listed.{words-run, outcomes-run, noted, lines}
+use Rattle.schedule.specs.Listed.{words-run, outcomes-run, written-down, lines}
 use Rattle.schedule.specs.Carried.{Demanded}
 use Rattle.schedule.specs.Laws.Carried.{carried}
 use Rattle.steps.proofs.step.Step as T
@@ -148,7 +148,7 @@ module _ (n : ℕ) (ys : List Step) where
   ran-end v = rw (drop-length ys)
 
   lines-next : (w v : List ℕ) (i : ℕ) → i < length ys
-      → lines w i (outcomes-run n v (drop-list i ys)) ≡ lines (noted w i (line (outcome-of n v (getD ys i no-step)))) (suc i) (outcomes-run n (words-after n v (getD ys i no-step)) (drop-list (suc i) ys))
+      → lines w i (outcomes-run n v (drop-list i ys)) ≡ lines (written-down w i (line (outcome-of n v (getD ys i no-step)))) (suc i) (outcomes-run n (words-after n v (getD ys i no-step)) (drop-list (suc i) ys))
   unfolding lines outcomes-run
   lines-next w v i l = rw (drop-cons ys i no-step l)
 
@@ -253,7 +253,7 @@ module _ {M : Type 1} (𝓤 : URA M) (H : Heap 𝓤) (A : Atoms 𝓤) (W : Given
     -- a turn that does one step
     more : (i : ℕ) (m w : List ℕ) (X : SProp 𝓤) → i < k → length m ≡ n → length w ≡ no
         → ((m′ w′ : List ℕ) → length m′ ≡ n → length w′ ≡ no → view m′ ≡ words-after (length m) (view m) (getD ys i no-step)
-        → w′ ≡ noted w i (line (outcome-of (length m) (view m) (getD ys i no-step))) → Words (getD ys i no-step) → ent 𝓤 (⋆ 𝓤 H A (At (suc i) m′ w′)) X)
+        → w′ ≡ written-down w i (line (outcome-of (length m) (view m) (getD ys i no-step))) → Words (getD ys i no-step) → ent 𝓤 (⋆ 𝓤 H A (At (suc i) m′ w′)) X)
         → ent 𝓤 (⋆ 𝓤 H A (At i m w)) (Wp 𝓤 H C Λ En mirs.turn-1 (afterTurn 𝓤 H X Left))
     unfolding afterTurn
     more i m w X small e e′ goes-on =
@@ -289,8 +289,8 @@ module _ {M : Type 1} (𝓤 : URA M) (H : Heap 𝓤) (A : Atoms 𝓤) (W : Given
         use1 W (raw (Turn 𝓤 H A mem run .pre (to-turn ν ν′ δ δ′ m w i st))) (goes ν ν′ δ δ′ m w i st (omega (arith, g₂ .0)) g) $
         calls-at ! fm (Turn 𝓤 H A mem run) known (to-turn ν ν′ δ δ′ m w i st) (and-then ! (load ! (from ! (stop !)) (look ! 10 refl)) (and-then ! (load ! (from ! (stop !)) (look ! 12 refl)) (and-then ! (load ! (from ! (stop !)) (look ! 5 refl)) (and-then ! (load ! (from ! (stop !)) (look ! 14 refl)) (no-more !))))) (λ v.
         use1 W (later (some (λ (r : ℕ). ((‵ (flft (ν ∷ []) fullShare) ⊛ ‵ (flft (ν′ ∷ []) fullShare) ⊛ ‵ ftrue) ⊛ ‵ (u64 .own r (v ∷ []))) ⊛ raw (ensured 𝓤 H A turn.ended (turn.clauses 𝓤 H A mem run) (ν ∷ [], (ν′ ∷ [], tt)) (x δ m, (z δ′ w, (i, (st, tt)))) tt r)))) (id⊢ 𝓤 _) $ await ! tt $ pick ! (λ r.
-        split ! $ move ! (1 ∷ []) $ use1 W (some (λ (zs : List ℕ × (List ℕ × (Unit {0} × (Unit {0} × Unit {0})))). ‵ (lasts turn.ended (ν ∷ [], (ν′ ∷ [], tt)) (x δ m, (z δ′ w, (i, (st, tt)))) zs) ⊛ raw (fact 𝓤 ((r ≡ line (outcome-of (length m) (view m) st) .outcome) × (view (zs .0) ≡ words-after (length m) (view m) st) × (zs .1 .0 ≡ noted w i (line (outcome-of (length m) (view m) st))))))) (id⊢ 𝓤 _) $ pick ! (λ zs.
-        split ! $ move ! (1 ∷ []) $ heard ! ((r ≡ line (outcome-of (length m) (view m) st) .outcome) × (view (zs .0) ≡ words-after (length m) (view m) st) × (zs .1 .0 ≡ noted w i (line (outcome-of (length m) (view m) st)))) (λ s. fsplit ! $ fsplit ! $ move ! (1 ∷ []) $ feqL ! (λ l. move ! (1 ∷ []) $ fsplit ! $ fsplit ! $ move ! (1 ∷ []) $ feqL ! (λ l′.
+        split ! $ move ! (1 ∷ []) $ use1 W (some (λ (zs : List ℕ × (List ℕ × (Unit {0} × (Unit {0} × Unit {0})))). ‵ (lasts turn.ended (ν ∷ [], (ν′ ∷ [], tt)) (x δ m, (z δ′ w, (i, (st, tt)))) zs) ⊛ raw (fact 𝓤 ((r ≡ line (outcome-of (length m) (view m) st) .outcome) × (view (zs .0) ≡ words-after (length m) (view m) st) × (zs .1 .0 ≡ written-down w i (line (outcome-of (length m) (view m) st))))))) (id⊢ 𝓤 _) $ pick ! (λ zs.
+        split ! $ move ! (1 ∷ []) $ heard ! ((r ≡ line (outcome-of (length m) (view m) st) .outcome) × (view (zs .0) ≡ words-after (length m) (view m) st) × (zs .1 .0 ≡ written-down w i (line (outcome-of (length m) (view m) st)))) (λ s. fsplit ! $ fsplit ! $ move ! (1 ∷ []) $ feqL ! (λ l. move ! (1 ∷ []) $ fsplit ! $ fsplit ! $ move ! (1 ∷ []) $ feqL ! (λ l′.
         move ! (3 ∷ []) $ split ! $ move ! (1 ∷ []) $ peeks ! u64 (Is u64) (shows 𝓤 H A u64) r (v ∷ []) (λ is.
         land ! (from ! (stop !)) (init ! 12 refl (uint-lawful 𝓤 H A W w64 .typed r _ is .0)) $
         -- the lifetimes are ended, and both come back
@@ -360,8 +360,8 @@ module _ {M : Type 1} (𝓤 : URA M) (H : Heap 𝓤) (A : Atoms 𝓤) (W : Given
         at-n : words-after (length m) (view m) (getD ys i no-step) ≡ words-after n (view m) (getD ys i no-step)
         at-n = ap (λ (j : ℕ). words-after j (view m) (getD ys i no-step)) (fs .1)
 
-        noted-n : noted w i (line (outcome-of (length m) (view m) (getD ys i no-step))) ≡ noted w i (line (outcome-of n (view m) (getD ys i no-step)))
-        noted-n = ap (λ (j : ℕ). noted w i (line (outcome-of j (view m) (getD ys i no-step)))) (fs .1)
+        noted-n : written-down w i (line (outcome-of (length m) (view m) (getD ys i no-step))) ≡ written-down w i (line (outcome-of n (view m) (getD ys i no-step)))
+        noted-n = ap (λ (j : ℕ). written-down w i (line (outcome-of j (view m) (getD ys i no-step)))) (fs .1)
 
     turns : (t : ℕ) → ent 𝓤 (Inv t) (Wp 𝓤 H C Λ En mirs.turn-1 (afterTurn 𝓤 H (Below t) Left))
     turns t = exE 𝓤 (λ (i : ℕ). ex 𝓤 (λ (m : List ℕ). ex 𝓤 (λ (w : List ℕ). guard 𝓤 (Facts t i m w) (⋆ 𝓤 H A (At i m w))))) (λ i.
