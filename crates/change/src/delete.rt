@@ -10,13 +10,12 @@ use walk::lookup::answers;
 use walk::walk::Stop;
 use walk::walk::going;
 ghost use mathlib.Core.Path.{_≡_};
-ghost use Prim.Native.Nat.{_/_, _<_, _≤_};
-ghost use lib.ListN.{length, getD};
+ghost use Prim.Native.Nat.{_<_, _≤_};
 ghost use Rattle.nodes.specs.Change.{take-out};
 ghost use Rattle.operations.specs.Change.{delete-plan};
 ghost use Rattle.client.specs.Record.{sizes};
 ghost use Rattle.client.specs.Sets.{held};
-ghost use Rattle.walk.specs.Ask.{OwnGood, Noted};
+ghost use Rattle.walk.specs.Ask.{Beginning};
 ghost use Rattle.change.specs.Rise.{widened};
 ghost use Rattle.change.specs.Operated.{Operated};
 ghost use Rattle.change.specs.Insert.{Ended};
@@ -41,7 +40,7 @@ fn delete_at(
     d: Descent,
     key: u64,
 ) -> Stop
-    requires { ⌜ (servers ≤ 8) × OwnGood (now own) × (getD (now own) 0 0 ≡ 0) × Noted (held (now part)) (now used) × (7223 ≤ length (now part) / 8) ⌝ }
+    requires { ⌜ Beginning servers (now part) (now own) (now used) ⌝ }
     requires ended { ⌜ Ended (sizes servers slots) d ⌝ }
     ensures { λ r. ⌜ Operated (sizes servers slots) (held (now (part .entry))) (now (own .entry)) (now (used .entry))
         (delete-in (sizes servers slots) d key) r (now (own .exit)) (now (used .exit)) ⌝ }
@@ -65,8 +64,9 @@ pub fn delete(
     used: &mut [u64],
     key: u64,
 ) -> Stop
-    requires { ⌜ (servers ≤ 8) × OwnGood (now own) × (getD (now own) 0 0 ≡ 0) × Noted (held (now part)) (now used) × (7223 ≤ length (now part) / 8) ⌝ }
-    ensures { λ r. ⌜ Operated (sizes servers slots) (held (now (part .entry))) (now (own .entry)) (now (used .entry)) (delete-plan (sizes servers slots) key) r (now (own .exit)) (now (used .exit)) ⌝ }
+    requires { ⌜ Beginning servers (now part) (now own) (now used) ⌝ }
+    ensures { λ r. ⌜ Operated (sizes servers slots) (held (now (part .entry))) (now (own .entry)) (now (used .entry))
+        (delete-plan (sizes servers slots) key) r (now (own .exit)) (now (used .exit)) ⌝ }
 {
     let d = descend(part, servers, slots, used, key);
     let stop = d.stop;

@@ -10,12 +10,12 @@ use walk::walk::Stop;
 use walk::walk::going;
 ghost use mathlib.Core.Path.{_≡_};
 ghost use mathlib.Core.Bool.{true};
-ghost use Prim.Native.Nat.{_+_, _/_, _<_, _≤_};
-ghost use lib.ListN.{length, getD};
+ghost use Prim.Native.Nat.{_+_, _<_, _≤_};
+ghost use lib.ListN.{getD};
 ghost use Rattle.nodes.specs.Entries.{wide-entries};
 ghost use Rattle.client.specs.Record.{sizes, in-store};
 ghost use Rattle.client.specs.Sets.{held};
-ghost use Rattle.walk.specs.Ask.{OwnGood, Noted};
+ghost use Rattle.walk.specs.Ask.{OwnGood, Writing, WalkingOwn};
 ghost use Rattle.change.specs.Rise.{Full, Closed};
 ghost use Rattle.change.specs.Split.{Overfull};
 ghost use Rattle.change.specs.Grow.{TwoTaken, BothFree, HalvesTaken, Grown, root-split};
@@ -36,9 +36,10 @@ fn take_two(
     used: &mut [u64],
     name: u64,
 ) -> Two
-    requires { ⌜ (servers ≤ 8) × OwnGood (now own) × (getD (now own) 0 0 < 19) × Noted (held (now part)) (now used) × (7223 ≤ length (now part) / 8) ⌝ }
+    requires { ⌜ Writing servers (now part) (now own) (now used) 19 ⌝ }
     requires there { ⌜ name < 8192 ⌝ }
-    ensures { λ r. ⌜ TwoTaken (sizes servers slots) (held (now (part .entry))) (now (own .entry)) (now (used .entry)) name r (now (own .exit)) (now (used .exit)) ⌝ }
+    ensures { λ r. ⌜ TwoTaken (sizes servers slots) (held (now (part .entry))) (now (own .entry)) (now (used .entry)) name r
+        (now (own .exit)) (now (used .exit)) ⌝ }
 {
     let t = take_for(part, servers, slots, own, used, name);
     let stop = t.stop;
@@ -67,8 +68,9 @@ fn both_free(
     left: u64,
     right: u64,
 ) -> Stop
-    requires { ⌜ (servers ≤ 8) × OwnGood (now own) × Noted (held (now part)) (now used) × (7223 ≤ length (now part) / 8) ⌝ }
-    ensures { λ r. ⌜ BothFree (sizes servers slots) (held (now (part .entry))) (now (own .entry)) (now (used .entry)) left right r (now (used .exit)) ⌝ }
+    requires { ⌜ WalkingOwn servers (now part) (now own) (now used) ⌝ }
+    ensures { λ r. ⌜ BothFree (sizes servers slots) (held (now (part .entry))) (now (own .entry)) (now (used .entry)) left right r
+        (now (used .exit)) ⌝ }
 {
     let stop = take_node(part, servers, slots, own, used, left);
     let on = going(stop);
@@ -87,9 +89,10 @@ fn take_halves(
     used: &mut [u64],
     name: u64,
 ) -> Two
-    requires { ⌜ (servers ≤ 8) × OwnGood (now own) × (getD (now own) 0 0 < 19) × Noted (held (now part)) (now used) × (7223 ≤ length (now part) / 8) ⌝ }
+    requires { ⌜ Writing servers (now part) (now own) (now used) 19 ⌝ }
     requires there { ⌜ name < 8192 ⌝ }
-    ensures { λ r. ⌜ HalvesTaken (sizes servers slots) (held (now (part .entry))) (now (own .entry)) (now (used .entry)) name r (now (own .exit)) (now (used .exit)) ⌝ }
+    ensures { λ r. ⌜ HalvesTaken (sizes servers slots) (held (now (part .entry))) (now (own .entry)) (now (used .entry)) name r
+        (now (own .exit)) (now (used .exit)) ⌝ }
 {
     let t = take_two(part, servers, slots, own, used, name);
     let stop = t.stop;
@@ -130,11 +133,12 @@ pub fn split_root(
     a: u64,
     b: u64,
 ) -> Stop
-    requires { ⌜ (servers ≤ 8) × OwnGood (now own) × (getD (now own) 0 0 ≤ 12) × Noted (held (now part)) (now used) × (7223 ≤ length (now part) / 8) ⌝ }
+    requires { ⌜ Writing servers (now part) (now own) (now used) 13 ⌝ }
     requires there { ⌜ in-store (sizes servers slots) name ≡ true ⌝ }
     requires full { ⌜ Full level n ⌝ }
     requires low { ⌜ level ≤ 4 ⌝ }
-    ensures { λ r. ⌜ Closed (sizes servers slots) (held (now (part .entry))) (now (own .entry)) (now (used .entry)) (root-split (sizes servers slots) (a, b) level name (wide-entries n 0)) r (now (own .exit)) (now (used .exit)) ⌝ }
+    ensures { λ r. ⌜ Closed (sizes servers slots) (held (now (part .entry))) (now (own .entry)) (now (used .entry))
+        (root-split (sizes servers slots) (a, b) level name (wide-entries n 0)) r (now (own .exit)) (now (used .exit)) ⌝ }
 {
     let t = take_halves(part, servers, slots, own, used, name);
     let stop = t.stop;

@@ -9,12 +9,11 @@ use walk::down::descend;
 use walk::walk::Stop;
 use walk::walk::going;
 ghost use mathlib.Core.Path.{_≡_};
-ghost use Prim.Native.Nat.{_/_, _≤_};
-ghost use lib.ListN.{length, getD};
+ghost use Prim.Native.Nat.{_≤_};
 ghost use Rattle.operations.specs.Change.{insert-plan};
 ghost use Rattle.client.specs.Record.{sizes};
 ghost use Rattle.client.specs.Sets.{held};
-ghost use Rattle.walk.specs.Ask.{OwnGood, Noted};
+ghost use Rattle.walk.specs.Ask.{Beginning};
 ghost use Rattle.change.specs.Operated.{Operated};
 ghost use Rattle.change.specs.Insert.{Ended, paired, insert-in};
 
@@ -55,9 +54,10 @@ fn insert_at(
     key: u64,
     value: u64,
 ) -> Stop
-    requires { ⌜ (servers ≤ 8) × OwnGood (now own) × (getD (now own) 0 0 ≡ 0) × Noted (held (now part)) (now used) × (7223 ≤ length (now part) / 8) ⌝ }
+    requires { ⌜ Beginning servers (now part) (now own) (now used) ⌝ }
     requires ended { ⌜ Ended (sizes servers slots) d ⌝ }
-    ensures { λ r. ⌜ Operated (sizes servers slots) (held (now (part .entry))) (now (own .entry)) (now (used .entry)) (insert-in (sizes servers slots) d key value) r (now (own .exit)) (now (used .exit)) ⌝ }
+    ensures { λ r. ⌜ Operated (sizes servers slots) (held (now (part .entry))) (now (own .entry)) (now (used .entry))
+        (insert-in (sizes servers slots) d key value) r (now (own .exit)) (now (used .exit)) ⌝ }
 {
     let leaf = d.node;
     let p = with_pair(leaf, key, value);
@@ -75,8 +75,9 @@ pub fn insert(
     key: u64,
     value: u64,
 ) -> Stop
-    requires { ⌜ (servers ≤ 8) × OwnGood (now own) × (getD (now own) 0 0 ≡ 0) × Noted (held (now part)) (now used) × (7223 ≤ length (now part) / 8) ⌝ }
-    ensures { λ r. ⌜ Operated (sizes servers slots) (held (now (part .entry))) (now (own .entry)) (now (used .entry)) (insert-plan (sizes servers slots) key value) r (now (own .exit)) (now (used .exit)) ⌝ }
+    requires { ⌜ Beginning servers (now part) (now own) (now used) ⌝ }
+    ensures { λ r. ⌜ Operated (sizes servers slots) (held (now (part .entry))) (now (own .entry)) (now (used .entry))
+        (insert-plan (sizes servers slots) key value) r (now (own .exit)) (now (used .exit)) ⌝ }
 {
     let d = descend(part, servers, slots, used, key);
     let stop = d.stop;

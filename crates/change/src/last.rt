@@ -2,19 +2,20 @@
 use client::lookup::copied;
 use client::own::own_record;
 use client::part::Set;
+use client::part::WRITES_COUNT;
 use client::part::find;
 use client::part::get_field;
 use client::part::record_at;
 use nodes::found::Found;
 ghost use mathlib.Core.Path.{_≡_};
 ghost use mathlib.Core.Bool.{not};
-ghost use Prim.Native.Nat.{_/_, _<_, _≤_};
-ghost use lib.ListN.{length, getD};
+ghost use Prim.Native.Nat.{_<_, _≤_};
+ghost use lib.ListN.{getD};
 ghost use Rattle.client.specs.declared.part.Set.the-variants.{Reads};
-ghost use Rattle.client.specs.Layout.{writes-count};
+ghost use Rattle.client.specs.Layout.{writes-count, ClientPart};
 ghost use Rattle.client.specs.Sets.{held, find};
 ghost use Rattle.client.specs.Lent.{OwnFits, own-list};
-ghost use Rattle.client.specs.Work.{version-in, at-last-version, count-new, any-at-last};
+ghost use Rattle.client.specs.Work.{version-in, count-new, any-at-last};
 ghost use Rattle.walk.specs.Ask.{OwnKept};
 ghost use Rattle.change.specs.Fit.{entries-fit};
 ghost use Rattle.change.specs.Last.{own-fits, new-at, stays-below, last-reason};
@@ -48,7 +49,7 @@ fn all_fit(own: &[u64]) -> bool
 
 // 1 for an own write of an object that the write set lacks.
 fn new_at(part: &[u8], own: &[u64], i: usize) -> usize
-    requires { ⌜ (i < getD (now own) 0 0) × OwnFits (now own) × (7223 ≤ length (now part) / 8) ⌝ }
+    requires { ⌜ (i < getD (now own) 0 0) × OwnFits (now own) × ClientPart (now part) ⌝ }
     ensures { λ r. ⌜ r ≡ new-at (held (now (part .entry))) (now (own .entry)) i ⌝ }
     ensures within { λ r. ⌜ r ≤ 1 ⌝ }
 {
@@ -60,7 +61,7 @@ fn new_at(part: &[u8], own: &[u64], i: usize) -> usize
 }
 
 fn count_new(part: &[u8], own: &[u64]) -> usize
-    requires { ⌜ OwnFits (now own) × (7223 ≤ length (now part) / 8) ⌝ }
+    requires { ⌜ OwnFits (now own) × ClientPart (now part) ⌝ }
     ensures { λ r. ⌜ r ≡ count-new (held (now (part .entry))) (own-list (now (own .entry))) ⌝ }
     ensures within { λ r. ⌜ r ≤ 20 ⌝ }
 {
@@ -76,7 +77,7 @@ fn count_new(part: &[u8], own: &[u64]) -> usize
 
 // The version of an object that was read, or that came into use.
 fn version_in(part: &[u8], number: u64) -> u64
-    requires { ⌜ (number < 16385) × (7223 ≤ length (now part) / 8) ⌝ }
+    requires { ⌜ (number < 16385) × ClientPart (now part) ⌝ }
     ensures { λ r. ⌜ r ≡ version-in (held (now (part .entry))) number (find (held (now (part .entry))) Reads number) ⌝ }
 {
     let at = find(part, Set::Reads, number);
@@ -95,7 +96,7 @@ fn version_in(part: &[u8], number: u64) -> u64
 
 // "8 a written version is 4,294,967,295": of metadata and nodes.
 fn stays_below(part: &[u8], own: &[u64], i: usize) -> bool
-    requires { ⌜ (i < getD (now own) 0 0) × OwnFits (now own) × (7223 ≤ length (now part) / 8) ⌝ }
+    requires { ⌜ (i < getD (now own) 0 0) × OwnFits (now own) × ClientPart (now part) ⌝ }
     ensures { λ r. ⌜ r ≡ stays-below (held (now (part .entry))) (now (own .entry)) i ⌝ }
 {
     let number = own[34 * i + 1];
@@ -107,7 +108,7 @@ fn stays_below(part: &[u8], own: &[u64], i: usize) -> bool
 }
 
 fn all_below(part: &[u8], own: &[u64]) -> bool
-    requires { ⌜ OwnFits (now own) × (7223 ≤ length (now part) / 8) ⌝ }
+    requires { ⌜ OwnFits (now own) × ClientPart (now part) ⌝ }
     ensures { λ r. ⌜ r ≡ not (any-at-last (held (now (part .entry))) (own-list (now (own .entry)))) ⌝ }
 {
     let n = own[0] as usize;
@@ -123,13 +124,13 @@ fn all_below(part: &[u8], own: &[u64]) -> bool
 
 // The reason to abort, 0 if there is none: 3, then 4, then 8.
 pub fn last_reason(part: &[u8], own: &[u64]) -> u64
-    requires { ⌜ OwnKept (now own) × (held (now part) writes-count ≤ 48) × (7223 ≤ length (now part) / 8) ⌝ }
+    requires { ⌜ OwnKept (now own) × (held (now part) writes-count ≤ 48) × ClientPart (now part) ⌝ }
     ensures { λ r. ⌜ r ≡ last-reason (held (now (part .entry))) (own-list (now (own .entry))) ⌝ }
 {
     if !all_fit(own) {
         return 3;
     }
-    let written = get_field(part, 11) as usize;
+    let written = get_field(part, WRITES_COUNT) as usize;
     let new = count_new(part, own);
     if 48 < written + new {
         return 4;

@@ -10,14 +10,15 @@ use walk::lookup::answers;
 use walk::walk::Stop;
 ghost use mathlib.Core.Path.{_≡_};
 ghost use mathlib.Core.Bool.{true};
-ghost use Prim.Native.Nat.{_/_, _<_, _≤_};
-ghost use lib.ListN.{length, getD};
+ghost use Prim.Native.Nat.{_<_, _≤_};
+ghost use lib.ListN.{getD};
 ghost use Rattle.nodes.specs.Entries.{wide-entries};
 ghost use Rattle.client.specs.Record.{sizes, in-store};
 ghost use Rattle.client.specs.Sets.{held};
-ghost use Rattle.walk.specs.Ask.{OwnGood, Noted};
+ghost use Rattle.walk.specs.Ask.{OwnGood, Noted, Writing};
 ghost use Rattle.change.specs.Rise.{Content, Under, Raised, Closed};
 ghost use Rattle.change.specs.Level.{Settled, level-plan, top-plan};
+ghost use Rattle.client.specs.Layout.{ClientPart};
 
 // A node is written, and the operation answered.
 fn settle(
@@ -30,8 +31,9 @@ fn settle(
     b: u64,
 ) -> Stop
     requires { ⌜ (name < 8192) × OwnGood (now own) × (getD (now own) 0 0 < 20) × (n .count ≤ 14) ⌝ }
-    requires noted { ⌜ Noted (held (now part)) (now used) × (7223 ≤ length (now part) / 8) ⌝ }
-    ensures { λ r. ⌜ Settled (held (now (part .entry))) (now (own .entry)) (now (used .entry)) name n a b r (now (own .exit)) (now (used .exit)) ⌝ }
+    requires noted { ⌜ Noted (held (now part)) (now used) × ClientPart (now part) ⌝ }
+    ensures { λ r. ⌜ Settled (held (now (part .entry))) (now (own .entry)) (now (used .entry)) name n a b r (now (own .exit))
+        (now (used .exit)) ⌝ }
 {
     let node = n.node();
     write_node(own, name, node);
@@ -53,10 +55,11 @@ pub fn raise(
     a: u64,
     b: u64,
 ) -> Risen
-    requires { ⌜ (servers ≤ 8) × OwnGood (now own) × (getD (now own) 0 0 ≤ 12) × Noted (held (now part)) (now used) × (7223 ≤ length (now part) / 8) ⌝ }
+    requires { ⌜ Writing servers (now part) (now own) (now used) 13 ⌝ }
     requires under { ⌜ Under (sizes servers slots) level name above ⌝ }
     requires content { ⌜ Content level n ⌝ }
-    ensures { λ r. ⌜ Raised (sizes servers slots) (held (now (part .entry))) (now (own .entry)) (now (used .entry)) level root (level-plan (sizes servers slots) (a, b) level above name (wide-entries n)) r (now (own .exit)) (now (used .exit)) ⌝ }
+    ensures { λ r. ⌜ Raised (sizes servers slots) (held (now (part .entry))) (now (own .entry)) (now (used .entry)) level root
+        (level-plan (sizes servers slots) (a, b) level above name (wide-entries n)) r (now (own .exit)) (now (used .exit)) ⌝ }
 {
     if n.count == 15 {
         return split(part, servers, slots, own, used, level, above, name, n);
@@ -95,11 +98,12 @@ pub fn at_top(
     a: u64,
     b: u64,
 ) -> Stop
-    requires { ⌜ (servers ≤ 8) × OwnGood (now own) × (getD (now own) 0 0 ≤ 12) × Noted (held (now part)) (now used) × (7223 ≤ length (now part) / 8) ⌝ }
+    requires { ⌜ Writing servers (now part) (now own) (now used) 13 ⌝ }
     requires there { ⌜ in-store (sizes servers slots) name ≡ true ⌝ }
     requires content { ⌜ Content level n ⌝ }
     requires low { ⌜ level ≤ 4 ⌝ }
-    ensures { λ r. ⌜ Closed (sizes servers slots) (held (now (part .entry))) (now (own .entry)) (now (used .entry)) (top-plan (sizes servers slots) (a, b) level name (wide-entries n 0)) r (now (own .exit)) (now (used .exit)) ⌝ }
+    ensures { λ r. ⌜ Closed (sizes servers slots) (held (now (part .entry))) (now (own .entry)) (now (used .entry))
+        (top-plan (sizes servers slots) (a, b) level name (wide-entries n 0)) r (now (own .exit)) (now (used .exit)) ⌝ }
 {
     if n.count == 15 {
         return split_root(part, servers, slots, own, used, level, name, n, a, b);

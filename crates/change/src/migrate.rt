@@ -19,13 +19,13 @@ use walk::walk::going;
 ghost use mathlib.Core.Path.{_≡_};
 ghost use mathlib.Core.Bool.{true};
 ghost use Prim.Native.Nat.{_+_, _/_, _<_, _≤_};
-ghost use lib.ListN.{length, getD};
+ghost use lib.ListN.{getD};
 ghost use Rattle.nodes.specs.Kept.{Whole};
 ghost use Rattle.operations.specs.Object.{node};
 ghost use Rattle.operations.specs.Migrate.{move-root, move-below, move-if, migrate-plan};
 ghost use Rattle.client.specs.Record.{sizes, in-store, value-of};
 ghost use Rattle.client.specs.Sets.{held};
-ghost use Rattle.walk.specs.Ask.{SmallNode, OwnGood, Noted};
+ghost use Rattle.walk.specs.Ask.{SmallNode, OwnGood, Writing, Beginning, Walking};
 ghost use Rattle.change.specs.Operated.{Operated};
 ghost use Rattle.change.specs.Move.{Beside, Placed, Left, Moved};
 ghost use Rattle.change.specs.Migrate.{named-plan};
@@ -53,9 +53,10 @@ fn take_place(
     server: usize,
     slot: usize,
 ) -> Taken
-    requires { ⌜ (servers ≤ 8) × OwnGood (now own) × (getD (now own) 0 0 < 20) × Noted (held (now part)) (now used) × (7223 ≤ length (now part) / 8) ⌝ }
+    requires { ⌜ Writing servers (now part) (now own) (now used) 20 ⌝ }
     requires above { ⌜ slot < 1024 ⌝ }
-    ensures { λ r. ⌜ Placed (sizes servers slots) (held (now (part .entry))) (now (own .entry)) (now (used .entry)) server slot r (now (own .exit)) (now (used .exit)) ⌝ }
+    ensures { λ r. ⌜ Placed (sizes servers slots) (held (now (part .entry))) (now (own .entry)) (now (used .entry)) server slot r
+        (now (own .exit)) (now (used .exit)) ⌝ }
 {
     let t = take_on(part, servers, slots, own, used, server, slot);
     let stop = t.stop;
@@ -80,10 +81,11 @@ fn leave(
     n: Node,
     is_root: bool,
 ) -> Stop
-    requires { ⌜ (servers ≤ 8) × OwnGood (now own) × (getD (now own) 0 0 < 16) × Noted (held (now part)) (now used) × (7223 ≤ length (now part) / 8) ⌝ }
+    requires { ⌜ Writing servers (now part) (now own) (now used) 16 ⌝ }
     requires there { ⌜ in-store (sizes servers slots) to ≡ true ⌝ }
     requires small { ⌜ SmallNode n ⌝ }
-    ensures { λ r. ⌜ Left (sizes servers slots) (held (now (part .entry))) (now (own .entry)) (now (used .entry)) name to n «is_root» r (now (own .exit)) (now (used .exit)) ⌝ }
+    ensures { λ r. ⌜ Left (sizes servers slots) (held (now (part .entry))) (now (own .entry)) (now (used .entry)) name to n «is_root» r
+        (now (own .exit)) (now (used .exit)) ⌝ }
 {
     write_root(own, is_root, to);
     let stop = release(part, servers, slots, own, used, name);
@@ -107,9 +109,10 @@ fn move_to(
     n: Node,
     is_root: bool,
 ) -> Taken
-    requires { ⌜ (servers ≤ 8) × OwnGood (now own) × (getD (now own) 0 0 ≡ 0) × Noted (held (now part)) (now used) × (7223 ≤ length (now part) / 8) ⌝ }
+    requires { ⌜ Beginning servers (now part) (now own) (now used) ⌝ }
     requires small { ⌜ SmallNode n ⌝ }
-    ensures { λ r. ⌜ Moved (sizes servers slots) (held (now (part .entry))) (now (own .entry)) (now (used .entry)) name server n «is_root» r (now (own .exit)) (now (used .exit)) ⌝ }
+    ensures { λ r. ⌜ Moved (sizes servers slots) (held (now (part .entry))) (now (own .entry)) (now (used .entry)) name server n
+        «is_root» r (now (own .exit)) (now (used .exit)) ⌝ }
 {
     let slot = (name % 1024) as usize;
     let t = take_place(part, servers, slots, own, used, server as usize, slot);
@@ -134,9 +137,10 @@ fn move_root(
     server: u64,
     n: Node,
 ) -> Stop
-    requires { ⌜ (servers ≤ 8) × OwnGood (now own) × (getD (now own) 0 0 ≡ 0) × Noted (held (now part)) (now used) × (7223 ≤ length (now part) / 8) ⌝ }
+    requires { ⌜ Beginning servers (now part) (now own) (now used) ⌝ }
     requires small { ⌜ SmallNode n ⌝ }
-    ensures { λ r. ⌜ Operated (sizes servers slots) (held (now (part .entry))) (now (own .entry)) (now (used .entry)) (move-root (sizes servers slots) name server (value-of (node name) n)) r (now (own .exit)) (now (used .exit)) ⌝ }
+    ensures { λ r. ⌜ Operated (sizes servers slots) (held (now (part .entry))) (now (own .entry)) (now (used .entry))
+        (move-root (sizes servers slots) name server (value-of (node name) n)) r (now (own .exit)) (now (used .exit)) ⌝ }
 {
     let t = move_to(part, servers, slots, own, used, name, server, n, true);
     let stop = t.stop;
@@ -162,11 +166,12 @@ fn move_child(
     p: Node,
     at: usize,
 ) -> Stop
-    requires { ⌜ (servers ≤ 8) × OwnGood (now own) × (getD (now own) 0 0 ≡ 0) × Noted (held (now part)) (now used) × (7223 ≤ length (now part) / 8) ⌝ }
+    requires { ⌜ Beginning servers (now part) (now own) (now used) ⌝ }
     requires small { ⌜ SmallNode n ⌝ }
     requires parent { ⌜ Parent (sizes servers slots) (n .level) above p ⌝ }
     requires child { ⌜ at ≤ p .count ⌝ }
-    ensures { λ r. ⌜ ChildMoved (sizes servers slots) (held (now (part .entry))) (now (own .entry)) (now (used .entry)) name server n above p at r (now (own .exit)) (now (used .exit)) ⌝ }
+    ensures { λ r. ⌜ ChildMoved (sizes servers slots) (held (now (part .entry))) (now (own .entry)) (now (used .entry)) name server n
+        above p at r (now (own .exit)) (now (used .exit)) ⌝ }
 {
     let t = move_to(part, servers, slots, own, used, name, server, n, false);
     let stop = t.stop;
@@ -194,10 +199,11 @@ fn move_at(
     above: u64,
     p: Node,
 ) -> Stop
-    requires { ⌜ (servers ≤ 8) × OwnGood (now own) × (getD (now own) 0 0 ≡ 0) × Noted (held (now part)) (now used) × (7223 ≤ length (now part) / 8) ⌝ }
+    requires { ⌜ Beginning servers (now part) (now own) (now used) ⌝ }
     requires small { ⌜ SmallNode n ⌝ }
     requires parent { ⌜ Parent (sizes servers slots) (n .level) above p ⌝ }
-    ensures { λ r. ⌜ MovedAt (sizes servers slots) (held (now (part .entry))) (now (own .entry)) (now (used .entry)) key name server n above p r (now (own .exit)) (now (used .exit)) ⌝ }
+    ensures { λ r. ⌜ MovedAt (sizes servers slots) (held (now (part .entry))) (now (own .entry)) (now (used .entry)) key name server n
+        above p r (now (own .exit)) (now (used .exit)) ⌝ }
 {
     let at = p.place(key);
     let children = p.slots;
@@ -229,7 +235,7 @@ fn to_parent(
     top: u64,
     level: usize,
 ) -> Descent
-    requires { ⌜ (servers ≤ 8) × Noted (held (now part)) (now used) × (7223 ≤ length (now part) / 8) ⌝ }
+    requires { ⌜ Walking servers (now part) (now used) ⌝ }
     requires low { ⌜ level ≤ 4 ⌝ }
     ensures { λ r. ⌜ ToParent (sizes servers slots) (held (now (part .entry))) (now (used .entry)) key top level r (now (used .exit)) ⌝ }
 {
@@ -258,9 +264,11 @@ fn move_below(
     server: u64,
     n: Node,
 ) -> Stop
-    requires { ⌜ (servers ≤ 8) × OwnGood (now own) × (getD (now own) 0 0 ≡ 0) × Noted (held (now part)) (now used) × (7223 ≤ length (now part) / 8) ⌝ }
+    requires { ⌜ Beginning servers (now part) (now own) (now used) ⌝ }
     requires small { ⌜ SmallNode n ⌝ }
-    ensures { λ r. ⌜ Operated (sizes servers slots) (held (now (part .entry))) (now (own .entry)) (now (used .entry)) (move-below (sizes servers slots) top name server (value-of (node name) n) (n .level) (getD (n .keys) 0 0)) r (now (own .exit)) (now (used .exit)) ⌝ }
+    ensures { λ r. ⌜ Operated (sizes servers slots) (held (now (part .entry))) (now (own .entry)) (now (used .entry))
+        (move-below (sizes servers slots) top name server (value-of (node name) n) (n .level) (getD (n .keys) 0 0)) r (now (own .exit))
+        (now (used .exit)) ⌝ }
 {
     let keys = n.keys;
     let key = keys[0];
@@ -300,10 +308,11 @@ fn move_if(
     server: u64,
     n: Node,
 ) -> Stop
-    requires { ⌜ (servers ≤ 8) × OwnGood (now own) × (getD (now own) 0 0 ≡ 0) × Noted (held (now part)) (now used) × (7223 ≤ length (now part) / 8) ⌝ }
+    requires { ⌜ Beginning servers (now part) (now own) (now used) ⌝ }
     requires small { ⌜ SmallNode n ⌝ }
     requires whole { ⌜ Whole n ⌝ }
-    ensures { λ r. ⌜ Operated (sizes servers slots) (held (now (part .entry))) (now (own .entry)) (now (used .entry)) (move-if (sizes servers slots) top name server (value-of (node name) n)) r (now (own .exit)) (now (used .exit)) ⌝ }
+    ensures { λ r. ⌜ Operated (sizes servers slots) (held (now (part .entry))) (now (own .entry)) (now (used .entry))
+        (move-if (sizes servers slots) top name server (value-of (node name) n)) r (now (own .exit)) (now (used .exit)) ⌝ }
 {
     if n.kind == 0 {
         return answers(part, used, 0, 0);
@@ -331,8 +340,9 @@ fn move_named(
     name: u64,
     server: u64,
 ) -> Stop
-    requires { ⌜ (servers ≤ 8) × OwnGood (now own) × (getD (now own) 0 0 ≡ 0) × Noted (held (now part)) (now used) × (7223 ≤ length (now part) / 8) ⌝ }
-    ensures { λ r. ⌜ Operated (sizes servers slots) (held (now (part .entry))) (now (own .entry)) (now (used .entry)) (named-plan (sizes servers slots) top name server) r (now (own .exit)) (now (used .exit)) ⌝ }
+    requires { ⌜ Beginning servers (now part) (now own) (now used) ⌝ }
+    ensures { λ r. ⌜ Operated (sizes servers slots) (held (now (part .entry))) (now (own .entry)) (now (used .entry))
+        (named-plan (sizes servers slots) top name server) r (now (own .exit)) (now (used .exit)) ⌝ }
 {
     let a = ask_node(part, servers, slots, used, name);
     let stop = a.stop;
@@ -354,8 +364,9 @@ pub fn migrate(
     name: u64,
     server: u64,
 ) -> Stop
-    requires { ⌜ (servers ≤ 8) × OwnGood (now own) × (getD (now own) 0 0 ≡ 0) × Noted (held (now part)) (now used) × (7223 ≤ length (now part) / 8) ⌝ }
-    ensures { λ r. ⌜ Operated (sizes servers slots) (held (now (part .entry))) (now (own .entry)) (now (used .entry)) (migrate-plan (sizes servers slots) name server) r (now (own .exit)) (now (used .exit)) ⌝ }
+    requires { ⌜ Beginning servers (now part) (now own) (now used) ⌝ }
+    ensures { λ r. ⌜ Operated (sizes servers slots) (held (now (part .entry))) (now (own .entry)) (now (used .entry))
+        (migrate-plan (sizes servers slots) name server) r (now (own .exit)) (now (used .exit)) ⌝ }
 {
     let a = ask_meta(part, servers, slots, used);
     let stop = a.stop;

@@ -13,12 +13,11 @@ use walk::walk::Stop;
 use walk::walk::going;
 ghost use mathlib.Core.Path.{_≡_};
 ghost use mathlib.Core.Bool.{true};
-ghost use Prim.Native.Nat.{_+_, _/_, _<_, _≤_};
-ghost use lib.ListN.{length, getD};
+ghost use Prim.Native.Nat.{_+_, _<_, _≤_};
 ghost use Rattle.nodes.specs.Entries.{entriesOf};
 ghost use Rattle.client.specs.Record.{sizes, in-store};
 ghost use Rattle.client.specs.Sets.{held};
-ghost use Rattle.walk.specs.Ask.{SmallNode, OwnGood, Noted};
+ghost use Rattle.walk.specs.Ask.{SmallNode, Writing};
 ghost use Rattle.change.specs.Rise.{Raised, Under, OfLevel, neighbour-plan};
 ghost use Rattle.change.specs.Beside.{far-side};
 ghost use Rattle.change.specs.Lend.{lent, joined};
@@ -107,10 +106,11 @@ fn collapse(
     a: u64,
     b: u64,
 ) -> Risen
-    requires { ⌜ (servers ≤ 8) × OwnGood (now own) × (getD (now own) 0 0 ≤ 14) × Noted (held (now part)) (now used) × (7223 ≤ length (now part) / 8) ⌝ }
+    requires { ⌜ Writing servers (now part) (now own) (now used) 15 ⌝ }
     requires there { ⌜ in-store (sizes servers slots) root ≡ true ⌝ }
     requires few { ⌜ one .count ≤ 14 ⌝ }
-    ensures { λ r. ⌜ Collapses (sizes servers slots) (held (now (part .entry))) (now (own .entry)) (now (used .entry)) (a, b) root child one r (now (own .exit)) (now (used .exit)) ⌝ }
+    ensures { λ r. ⌜ Collapses (sizes servers slots) (held (now (part .entry))) (now (own .entry)) (now (used .entry)) (a, b) root child
+        one r (now (own .exit)) (now (used .exit)) ⌝ }
 {
     let stop = release(part, servers, slots, own, used, child);
     let on = going(stop);
@@ -146,10 +146,11 @@ fn merge(
     a: u64,
     b: u64,
 ) -> Risen
-    requires { ⌜ (servers ≤ 8) × OwnGood (now own) × (getD (now own) 0 0 ≤ 12) × Noted (held (now part)) (now used) × (7223 ≤ length (now part) / 8) ⌝ }
+    requires { ⌜ Writing servers (now part) (now own) (now used) 13 ⌝ }
     requires beside { ⌜ Neighbours (sizes servers slots) above s ⌝ }
     requires few { ⌜ SmallNode one ⌝ }
-    ensures { λ r. ⌜ Merges (sizes servers slots) (held (now (part .entry))) (now (own .entry)) (now (used .entry)) root (a, b) above s one r (now (own .exit)) (now (used .exit)) ⌝ }
+    ensures { λ r. ⌜ Merges (sizes servers slots) (held (now (part .entry))) (now (own .entry)) (now (used .entry)) root (a, b) above s
+        one r (now (own .exit)) (now (used .exit)) ⌝ }
 {
     let left = s.left;
     let stop = release(part, servers, slots, own, used, s.right);
@@ -185,12 +186,13 @@ fn even_out(
     a: u64,
     b: u64,
 ) -> Risen
-    requires { ⌜ (servers ≤ 8) × OwnGood (now own) × (getD (now own) 0 0 ≤ 12) × Noted (held (now part)) (now used) × (7223 ≤ length (now part) / 8) ⌝ }
+    requires { ⌜ Writing servers (now part) (now own) (now used) 13 ⌝ }
     requires beside { ⌜ Neighbours (sizes servers slots) above s ⌝ }
     requires turning { ⌜ SmallNode n ⌝ }
     requires far { ⌜ SmallNode m ⌝ }
     requires lacks { ⌜ n .count ≤ 6 ⌝ }
-    ensures { λ r. ⌜ Evens (sizes servers slots) (held (now (part .entry))) (now (own .entry)) (now (used .entry)) root (a, b) above s n m r (now (own .exit)) (now (used .exit)) ⌝ }
+    ensures { λ r. ⌜ Evens (sizes servers slots) (held (now (part .entry))) (now (own .entry)) (now (used .entry)) root (a, b) above s n
+        m r (now (own .exit)) (now (used .exit)) ⌝ }
 {
     let parent = above.node;
     let at = s.at;
@@ -226,11 +228,12 @@ pub fn neighbour(
     a: u64,
     b: u64,
 ) -> Risen
-    requires { ⌜ (servers ≤ 8) × OwnGood (now own) × (getD (now own) 0 0 ≤ 12) × Noted (held (now part)) (now used) × (7223 ≤ length (now part) / 8) ⌝ }
+    requires { ⌜ Writing servers (now part) (now own) (now used) 13 ⌝ }
     requires under { ⌜ Under (sizes servers slots) level name above ⌝ }
     requires of { ⌜ OfLevel level n ⌝ }
     requires lacks { ⌜ n .count ≤ 6 ⌝ }
-    ensures { λ r. ⌜ Raised (sizes servers slots) (held (now (part .entry))) (now (own .entry)) (now (used .entry)) level root (neighbour-plan (a, b) level above name (entriesOf n)) r (now (own .exit)) (now (used .exit)) ⌝ }
+    ensures { λ r. ⌜ Raised (sizes servers slots) (held (now (part .entry))) (now (own .entry)) (now (used .entry)) level root
+        (neighbour-plan (a, b) level above name (entriesOf n)) r (now (own .exit)) (now (used .exit)) ⌝ }
 {
     let parent = above.node;
     if parent.count == 0 {

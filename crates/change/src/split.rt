@@ -8,11 +8,11 @@ use walk::search::take_for;
 use walk::take::take_node;
 use walk::walk::Stop;
 use walk::walk::going;
-ghost use Prim.Native.Nat.{_/_, _<_, _≤_};
-ghost use lib.ListN.{length, getD};
+ghost use Prim.Native.Nat.{_<_, _≤_};
+ghost use lib.ListN.{getD};
 ghost use Rattle.client.specs.Record.{sizes};
 ghost use Rattle.client.specs.Sets.{held};
-ghost use Rattle.walk.specs.Ask.{OwnGood, Noted};
+ghost use Rattle.walk.specs.Ask.{OwnGood, Writing};
 ghost use Rattle.change.specs.Rise.{Under, Full};
 ghost use Rattle.change.specs.Split.{HalfTaken, Overfull, Halved, Divided, Splits};
 
@@ -25,9 +25,10 @@ fn take_half(
     used: &mut [u64],
     name: u64,
 ) -> Taken
-    requires { ⌜ (servers ≤ 8) × OwnGood (now own) × (getD (now own) 0 0 < 20) × Noted (held (now part)) (now used) × (7223 ≤ length (now part) / 8) ⌝ }
+    requires { ⌜ Writing servers (now part) (now own) (now used) 20 ⌝ }
     requires there { ⌜ name < 8192 ⌝ }
-    ensures { λ r. ⌜ HalfTaken (sizes servers slots) (held (now (part .entry))) (now (own .entry)) (now (used .entry)) name r (now (own .exit)) (now (used .exit)) ⌝ }
+    ensures { λ r. ⌜ HalfTaken (sizes servers slots) (held (now (part .entry))) (now (own .entry)) (now (used .entry)) name r
+        (now (own .exit)) (now (used .exit)) ⌝ }
 {
     let t = take_for(part, servers, slots, own, used, name);
     let stop = t.stop;
@@ -75,10 +76,11 @@ pub fn split(
     name: u64,
     n: Wide,
 ) -> Risen
-    requires { ⌜ (servers ≤ 8) × OwnGood (now own) × (getD (now own) 0 0 ≤ 12) × Noted (held (now part)) (now used) × (7223 ≤ length (now part) / 8) ⌝ }
+    requires { ⌜ Writing servers (now part) (now own) (now used) 13 ⌝ }
     requires under { ⌜ Under (sizes servers slots) level name above ⌝ }
     requires full { ⌜ Full level n ⌝ }
-    ensures { λ r. ⌜ Splits (sizes servers slots) (held (now (part .entry))) (now (own .entry)) (now (used .entry)) level above name n r (now (own .exit)) (now (used .exit)) ⌝ }
+    ensures { λ r. ⌜ Splits (sizes servers slots) (held (now (part .entry))) (now (own .entry)) (now (used .entry)) level above name n r
+        (now (own .exit)) (now (used .exit)) ⌝ }
 {
     let t = take_half(part, servers, slots, own, used, name);
     let stop = t.stop;

@@ -6,12 +6,9 @@ use walk::down::Descent;
 use walk::down::Turn;
 use walk::walk::Stop;
 use walk::walk::going;
-ghost use mathlib.Core.Path.{_≡_};
-ghost use Prim.Native.Nat.{_/_, _≤_};
-ghost use lib.ListN.{length, getD};
 ghost use Rattle.client.specs.Record.{sizes};
 ghost use Rattle.client.specs.Sets.{held};
-ghost use Rattle.walk.specs.Ask.{OwnGood, Noted};
+ghost use Rattle.walk.specs.Ask.{Beginning};
 ghost use Rattle.change.specs.Operated.{Operated};
 ghost use Rattle.change.specs.Up.{Ready, rise-plan};
 
@@ -28,9 +25,10 @@ pub fn rise(
     a: u64,
     b: u64,
 ) -> Stop
-    requires { ⌜ (servers ≤ 8) × OwnGood (now own) × (getD (now own) 0 0 ≡ 0) × Noted (held (now part)) (now used) × (7223 ≤ length (now part) / 8) ⌝ }
+    requires { ⌜ Beginning servers (now part) (now own) (now used) ⌝ }
     requires ready { ⌜ Ready (sizes servers slots) top path leaf content ⌝ }
-    ensures { λ r. ⌜ Operated (sizes servers slots) (held (now (part .entry))) (now (own .entry)) (now (used .entry)) (rise-plan (sizes servers slots) (a, b) top path leaf content) r (now (own .exit)) (now (used .exit)) ⌝ }
+    ensures { λ r. ⌜ Operated (sizes servers slots) (held (now (part .entry))) (now (own .entry)) (now (used .entry))
+        (rise-plan (sizes servers slots) (a, b) top path leaf content) r (now (own .exit)) (now (used .exit)) ⌝ }
 {
     let mut name = leaf;
     let mut n = content;
@@ -75,9 +73,10 @@ pub fn carry_up(
     content: Wide,
     a: u64,
 ) -> Stop
-    requires { ⌜ (servers ≤ 8) × OwnGood (now own) × (getD (now own) 0 0 ≡ 0) × Noted (held (now part)) (now used) × (7223 ≤ length (now part) / 8) ⌝ }
+    requires { ⌜ Beginning servers (now part) (now own) (now used) ⌝ }
     requires ready { ⌜ Ready (sizes servers slots) (d .top) (d .path) (d .name) content ⌝ }
-    ensures { λ r. ⌜ Operated (sizes servers slots) (held (now (part .entry))) (now (own .entry)) (now (used .entry)) (rise-plan (sizes servers slots) (a, 0) (d .top) (d .path) (d .name) content) r (now (own .exit)) (now (used .exit)) ⌝ }
+    ensures { λ r. ⌜ Operated (sizes servers slots) (held (now (part .entry))) (now (own .entry)) (now (used .entry))
+        (rise-plan (sizes servers slots) (a, 0) (d .top) (d .path) (d .name) content) r (now (own .exit)) (now (used .exit)) ⌝ }
 {
     let top = d.top;
     let path = d.path;

@@ -6,10 +6,10 @@ use Rattle.nodes.specs.declared.found.Found.{Found}
 use Rattle.nodes.specs.declared.found.Found.the-variants.{At, Absent}
 use Rattle.nodes.specs.Name.{server-of}
 use Rattle.client.specs.declared.part.Set.the-variants.{Reads, Copies}
-use Rattle.client.specs.Layout.{client-words}
+use Rattle.client.specs.Layout.{client-words, meta-copied}
 use Rattle.client.specs.Record.{by-number}
 use Rattle.client.specs.Sets.{count, number-at, find}
-use Rattle.client.specs.Part.{PartStep, _then_, nothing, put-field, put-item, put-number, drop-vector}
+use Rattle.client.specs.Part.{PartStep, _then_, nothing, put-item, put-number, drop-vector, put-word}
 
 -- a node's copy goes to its own place, else to the first empty one (its number is 0), else nowhere
 abbrev pub to-empty : ℕ → Node → Found → PartStep
@@ -33,7 +33,7 @@ drop-node x m = drop-at (find m Copies x) m
 
 -- the copy of an object, by its number; "for a flag, its vector"
 unfoldable pub drop-object : ℕ → PartStep
-drop-object x = by-number x (put-field 12 0) (λ n. drop-node x) (λ n. drop-vector (server-of n))
+drop-object x = by-number x (put-word meta-copied 0) (λ n. drop-node x) (λ n. drop-vector (server-of n))
 
 unfoldable pub drop-read : ℕ → PartStep
 drop-read i m = drop-object (number-at m Reads i) m
@@ -47,4 +47,4 @@ unfoldable pub empty-place : ℕ → PartStep
 empty-place i = put-number Copies i 0
 
 unfoldable pub drop-all : PartStep
-drop-all = put-field 12 0 then sweep client-words empty-place 64 then sweep client-words drop-vector 8
+drop-all = put-word meta-copied 0 then sweep client-words empty-place 64 then sweep client-words drop-vector 8

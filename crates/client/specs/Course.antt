@@ -4,11 +4,11 @@ use mathlib.Core.List.{List, [], _∷_}
 use Prim.Native.Nat.{ℕ}
 use Rattle.memory.specs.Bit.{putBit}
 use Rattle.layout.specs.Space.{Put, put}
-use Rattle.client.specs.Layout.{ClientWord, phase}
+use Rattle.client.specs.Layout.{ClientWord, phase, decided-phase}
 
 -- a server has prepared or applied; the last one has prepared
 unfoldable pub noted : ClientWord → ℕ → (ClientWord → ℕ) → List (Put ClientWord)
 noted a s m = put a (putBit true (m a) s) ∷ []
 
 unfoldable pub decided : (ClientWord → ℕ) → List (Put ClientWord)
-decided m = put phase 3 ∷ []
+decided m = put phase decided-phase ∷ []

@@ -9,15 +9,15 @@ use Rattle.nodes.specs.declared.node.Node.{Node}
 use Rattle.nodes.specs.declared.found.Found.{Found}
 use Rattle.nodes.specs.declared.found.Found.the-variants.{At, Absent}
 use Rattle.client.specs.declared.part.Set.the-variants.{Reads, Writes}
-use Rattle.client.specs.Layout.{client-words}
+use Rattle.client.specs.Layout.{client-words, reads-count, writes-count}
 use Rattle.client.specs.Sets.{count, find}
-use Rattle.client.specs.Part.{PartStep, _then_, nothing, put-field, put-item}
+use Rattle.client.specs.Part.{PartStep, _then_, nothing, put-item, put-word}
 use Rattle.client.specs.Have.{copied}
 use Rattle.client.specs.Lent.{Entry, own-number, own-record}
 
 -- behind the items that are there, which are c; object 97 is not read
 abbrev pub read-behind : ℕ → ℕ → Node → PartStep
-read-behind c x r = put-item Reads c x r then put-field 10 (c + 1)
+read-behind c x r = put-item Reads c x r then put-word reads-count (c + 1)
 
 unfoldable pub enter-read : ℕ → Node → PartStep
 enter-read x r m = cond (ltb (count m Reads) 96) (read-behind (count m Reads) x r) nothing m
@@ -35,7 +35,7 @@ enter-used u = sweep client-words (enter-nth u) (getD u 0 0)
 
 -- a write replaces an earlier one of the same object, or comes behind the others; object 49 is not written
 abbrev pub written-behind : ℕ → ℕ → Node → PartStep
-written-behind c x r = put-item Writes c x r then put-field 11 (c + 1)
+written-behind c x r = put-item Writes c x r then put-word writes-count (c + 1)
 
 abbrev pub enter-at : ℕ → Node → ℕ → Found → PartStep
 enter-at x r c (At i) = put-item Writes i x r

@@ -5,14 +5,14 @@ use Prim.Native.Nat.{ℕ, _+_}
 use lib.Dec.{eqb}
 use Rattle.memory.specs.Bit.{putBit}
 use Rattle.nodes.specs.declared.node.Node.{Node}
-use Rattle.client.specs.Layout.{fetched-vectors}
+use Rattle.client.specs.Layout.{fetched-vectors, meta-fields}
 use Rattle.client.specs.Record.{single}
-use Rattle.client.specs.Part.{PartStep, _then_, nothing, put-field, put-fields, put-vector}
+use Rattle.client.specs.Part.{PartStep, _then_, nothing, put-fields, put-vector, put-word}
 use Rattle.client.specs.Enter.{enter-read}
 use Rattle.client.specs.Copies.{copy-node}
 
 unfoldable pub fetched-meta : ℕ → ℕ → PartStep
-fetched-meta root version = enter-read 0 (single version root) then put-fields 12 (1 ∷ root ∷ version ∷ [])
+fetched-meta root version = enter-read 0 (single version root) then put-fields meta-fields (1 ∷ root ∷ version ∷ [])
 
 -- an inner node is copied too
 unfoldable pub copy-inner : ℕ → Node → PartStep
@@ -23,7 +23,7 @@ fetched-node name r = enter-read (1 + name) r then copy-inner (1 + name) r
 
 -- a vector is no object: it enters no set
 unfoldable pub mark-fetched : ℕ → PartStep
-mark-fetched s m = put-field 8 (putBit true (m fetched-vectors) s) m
+mark-fetched s m = put-word fetched-vectors (putBit true (m fetched-vectors) s) m
 
 unfoldable pub fetched-vector : ℕ → List ℕ → PartStep
 fetched-vector s ws = put-vector s ws then mark-fetched s

@@ -1,8 +1,8 @@
 -- The layout of a client's part, in words.
 use mathlib.Core.Path.{_≡_, refl}
 use mathlib.Core.List.{List, [], _∷_}
-use Prim.Native.Nat.{ℕ}
-use lib.ListN.{getD}
+use Prim.Native.Nat.{ℕ, _≤_, _/_}
+use lib.ListN.{length, getD}
 use Rattle.layout.specs.Block.{Block, words, times, followed-by, end}
 use Rattle.layout.specs.Space.{Coding}
 use Rattle.client.specs.declared.part.Set.{Set}
@@ -67,6 +67,29 @@ meta-root = field 13
 abbrev pub meta-version : ClientWord
 meta-version = field 14
 
+-- where runs of fields begin: the waiting operation's; those that are 0 for a new transaction; those of the metadata's copy
+abbrev pub op-fields : ℕ
+op-fields = 1
+
+abbrev pub course-fields : ℕ
+course-fields = 5
+
+abbrev pub meta-fields : ℕ
+meta-fields = 12
+
+-- the phases
+abbrev pub no-transaction : ℕ
+no-transaction = 0
+
+abbrev pub open-phase : ℕ
+open-phase = 1
+
+abbrev pub commit-phase : ℕ
+commit-phase = 2
+
+abbrev pub decided-phase : ℕ
+decided-phase = 3
+
 -- "4 object 97 would be read or 49 written"; "64 inner nodes"
 abbrev pub limit : Set → ℕ
 limit Reads = 96
@@ -105,3 +128,11 @@ client-again (vector-word s j) = refl
 
 abbrev pub client-words : Coding ClientWord
 client-words = record { code = client-code; back = client-back; again = client-again }
+
+-- how many words it has, for all sizes
+abbrev pub client-length : ℕ
+client-length = 7223
+
+-- bytes with room for a client's part
+abbrev pub ClientPart : List ℕ → Type 0
+ClientPart b = client-length ≤ length b / 8

@@ -28,9 +28,12 @@ g then h = andThen client-words g h
 unfoldable pub nothing : PartStep
 nothing m = []
 
--- field i becomes v
-unfoldable pub put-field : ℕ → ℕ → PartStep
-put-field i v m = put (field i) v ∷ []
+-- a word becomes v; field i becomes v
+unfoldable pub put-word : ClientWord → ℕ → PartStep
+put-word a v m = put a v ∷ []
+
+abbrev pub put-field : ℕ → ℕ → PartStep
+put-field i v = put-word (field i) v
 
 -- the fields from i on become vs
 unfoldable pub put-fields : ℕ → List ℕ → PartStep

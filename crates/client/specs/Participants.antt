@@ -8,7 +8,7 @@ use Rattle.memory.specs.Bit.{bit, putBit}
 use Rattle.layout.specs.Space.{Put, put}
 use Rattle.nodes.specs.Name.{server-of}
 use Rattle.client.specs.declared.part.Set.the-variants.{Reads, Writes}
-use Rattle.client.specs.Layout.{ClientWord, phase, participants}
+use Rattle.client.specs.Layout.{ClientWord, phase, participants, commit-phase}
 use Rattle.client.specs.Record.{by-number}
 use Rattle.client.specs.Sets.{record-at, count, number-at}
 use Rattle.client.specs.Items.{any-below, inner, inner-before-after}
@@ -43,4 +43,4 @@ module _ (m : ClientWord → ℕ) where
 
 -- the commit step with a participant
 unfoldable pub committing : ℕ → (ClientWord → ℕ) → List (Put ClientWord)
-committing servers m = put phase 2 ∷ put participants (participants-of m servers) ∷ []
+committing servers m = put phase commit-phase ∷ put participants (participants-of m servers) ∷ []

@@ -11,7 +11,7 @@ use Rattle.nodes.specs.declared.found.Found.the-variants.{At, Absent}
 use Rattle.nodes.specs.Name.{server-of, slot-of}
 use Rattle.nodes.specs.Flags.{with-flag}
 use Rattle.client.specs.declared.part.Set.the-variants.{Reads, Writes}
-use Rattle.client.specs.Layout.{ClientWord, client-words, item, lost}
+use Rattle.client.specs.Layout.{ClientWord, client-words, item, lost, meta-fields, no-transaction}
 use Rattle.client.specs.Record.{by-number}
 use Rattle.client.specs.Sets.{first-of, count, number-at, record-at, find}
 use Rattle.client.specs.Vectors.{has-vector, vector-copy}
@@ -68,7 +68,7 @@ unfoldable pub renew-nth : ℕ → PartStep
 renew-nth k m = renew-found m (ranked m (k + 1)) m
 
 abbrev pub meta-found : (ClientWord → ℕ) → Found → PartStep
-meta-found m (At i) = put-fields 12 (1 ∷ m (item Writes i 19) ∷ new-version m 0 ∷ [])
+meta-found m (At i) = put-fields meta-fields (1 ∷ m (item Writes i 19) ∷ new-version m 0 ∷ [])
 meta-found m Absent = nothing
 
 unfoldable pub renew-meta : PartStep
@@ -96,4 +96,4 @@ renew-kept m = cond (eqb (m lost) 1) nothing renew m
 
 -- the transaction has ended
 unfoldable pub finish : PartStep
-finish = renew-kept then reset 0
+finish = renew-kept then reset no-transaction

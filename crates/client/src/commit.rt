@@ -12,10 +12,9 @@ use memory::bits::without;
 use nodes::found::Found;
 ghost use mathlib.Core.Path.{_≡_};
 ghost use mathlib.Core.Bool.{_||_};
-ghost use Prim.Native.Nat.{_/_, _<_, _≤_};
-ghost use lib.ListN.{length};
+ghost use Prim.Native.Nat.{_<_, _≤_};
 ghost use Rattle.memory.specs.Bit.{putBit};
-ghost use Rattle.client.specs.Layout.{limit};
+ghost use Rattle.client.specs.Layout.{limit, ClientPart};
 ghost use Rattle.client.specs.declared.part.Set.the-variants.{Reads, Writes};
 ghost use Rattle.client.specs.Sets.{held, count};
 ghost use Rattle.client.specs.Commit.{is-at, inner-at};
@@ -33,7 +32,7 @@ pub fn is_at(at: Found) -> bool
 
 // Is item i of a set an inner node?
 pub fn inner_at(part: &[u8], set: Set, i: usize) -> bool
-    requires { ⌜ (i < limit set) × (7223 ≤ length (now part) / 8) ⌝ }
+    requires { ⌜ (i < limit set) × ClientPart (now part) ⌝ }
     ensures { λ r. ⌜ r ≡ inner-at (held (now (part .entry))) set i ⌝ }
 {
     let number = number_at(part, set, i);
@@ -48,7 +47,7 @@ pub fn inner_at(part: &[u8], set: Set, i: usize) -> bool
 
 // Does write item i make all servers take part?
 fn calls_all(part: &[u8], i: usize) -> bool
-    requires { ⌜ (i < 48) × (7223 ≤ length (now part) / 8) ⌝ }
+    requires { ⌜ (i < 48) × ClientPart (now part) ⌝ }
     ensures { λ r. ⌜ r ≡ calls-all (held (now (part .entry))) i ⌝ }
 {
     let number = number_at(part, Set::Writes, i);
@@ -56,7 +55,7 @@ fn calls_all(part: &[u8], i: usize) -> bool
 }
 
 fn one_calls_all(part: &[u8]) -> bool
-    requires { ⌜ 7223 ≤ length (now part) / 8 ⌝ }
+    requires { ⌜ ClientPart (now part) ⌝ }
     ensures { λ r. ⌜ r ≡ any-below (count (held (now (part .entry))) Writes) (calls-all (held (now (part .entry)))) ⌝ }
 {
     let n = count(part, Set::Writes);
@@ -72,7 +71,7 @@ fn one_calls_all(part: &[u8]) -> bool
 
 // Does read item i make the server, its home, take part?
 fn calls_home(part: &[u8], server: u64, i: usize) -> bool
-    requires { ⌜ (i < 96) × (7223 ≤ length (now part) / 8) ⌝ }
+    requires { ⌜ (i < 96) × ClientPart (now part) ⌝ }
     ensures { λ r. ⌜ r ≡ calls-home (held (now (part .entry))) server i ⌝ }
 {
     let number = number_at(part, Set::Reads, i);
@@ -83,7 +82,7 @@ fn calls_home(part: &[u8], server: u64, i: usize) -> bool
 }
 
 fn one_calls_home(part: &[u8], server: u64) -> bool
-    requires { ⌜ 7223 ≤ length (now part) / 8 ⌝ }
+    requires { ⌜ ClientPart (now part) ⌝ }
     ensures { λ r. ⌜ r ≡ any-below (count (held (now (part .entry))) Reads) (calls-home (held (now (part .entry))) server) ⌝ }
 {
     let n = count(part, Set::Reads);
@@ -99,7 +98,7 @@ fn one_calls_home(part: &[u8], server: u64) -> bool
 
 // Does the server take part, where all of them do or its own items call it?
 fn takes_part(part: &[u8], all: bool, server: u64) -> bool
-    requires { ⌜ 7223 ≤ length (now part) / 8 ⌝ }
+    requires { ⌜ ClientPart (now part) ⌝ }
     ensures { λ r. ⌜ r ≡ (all || any-below (count (held (now (part .entry))) Reads) (calls-home (held (now (part .entry))) server)) ⌝ }
 {
     if all {
@@ -121,7 +120,7 @@ fn marked(set: u64, server: usize, there: bool) -> u64
 
 // The set of the servers that take part.
 pub fn participants(part: &[u8], servers: usize) -> u64
-    requires { ⌜ (servers ≤ 8) × (7223 ≤ length (now part) / 8) ⌝ }
+    requires { ⌜ (servers ≤ 8) × ClientPart (now part) ⌝ }
     ensures { λ r. ⌜ r ≡ participants-of (held (now (part .entry))) servers ⌝ }
 {
     let all = one_calls_all(part);

@@ -1,4 +1,5 @@
 // Copies of objects: put, and dropped.
+use crate::part::META_COPIED;
 use crate::part::Set;
 use crate::part::count;
 use crate::part::drop_vector;
@@ -9,10 +10,9 @@ use crate::part::set_item;
 use crate::part::set_number;
 use nodes::found::Found;
 use nodes::node::Node;
-ghost use Prim.Native.Nat.{_/_, _<_, _≤_};
-ghost use lib.ListN.{length};
+ghost use Prim.Native.Nat.{_/_, _<_};
 ghost use Rattle.layout.specs.Sweep.{sweep};
-ghost use Rattle.client.specs.Layout.{client-words};
+ghost use Rattle.client.specs.Layout.{client-words, ClientPart};
 ghost use Rattle.client.specs.Part.{Did, drop-vector};
 ghost use Rattle.client.specs.Lent.{InUse, used-in};
 ghost use Rattle.client.specs.Drops.{drop-each, drop-used};
@@ -20,7 +20,7 @@ ghost use Rattle.client.specs.Copies.{copy-node, drop-node, drop-object,
 
 // A node's copy, where it has a place or one is empty.
 pub fn copy_node(part: &mut [u8], number: u64, n: Node)
-    requires { ⌜ 7223 ≤ length (now part) / 8 ⌝ }
+    requires { ⌜ ClientPart (now part) ⌝ }
     ensures { λ _. ⌜ Did (copy-node number n) (now (part .entry)) (now (part .exit)) ⌝ }
 {
     let own = find(part, Set::Copies, number);
@@ -39,7 +39,7 @@ pub fn copy_node(part: &mut [u8], number: u64, n: Node)
 }
 
 pub fn drop_node(part: &mut [u8], number: u64)
-    requires { ⌜ 7223 ≤ length (now part) / 8 ⌝ }
+    requires { ⌜ ClientPart (now part) ⌝ }
     ensures { λ _. ⌜ Did (drop-node number) (now (part .entry)) (now (part .exit)) ⌝ }
 {
     let at = find(part, Set::Copies, number);
@@ -51,11 +51,11 @@ pub fn drop_node(part: &mut [u8], number: u64)
 
 // The copy of the object with that number; of a flag, its server's vector.
 fn drop_object(part: &mut [u8], number: u64)
-    requires { ⌜ 7223 ≤ length (now part) / 8 ⌝ }
+    requires { ⌜ ClientPart (now part) ⌝ }
     ensures { λ _. ⌜ Did (drop-object number) (now (part .entry)) (now (part .exit)) ⌝ }
 {
     if number == 0 {
-        set_field(part, 12, 0);
+        set_field(part, META_COPIED, 0);
         return;
     }
     if number <= 8192 {
@@ -69,7 +69,7 @@ fn drop_object(part: &mut [u8], number: u64)
 }
 
 fn drop_read(part: &mut [u8], i: usize)
-    requires { ⌜ (i < 96) × (7223 ≤ length (now part) / 8) ⌝ }
+    requires { ⌜ (i < 96) × ClientPart (now part) ⌝ }
     ensures { λ _. ⌜ Did (drop-read i) (now (part .entry)) (now (part .exit)) ⌝ }
 {
     let number = number_at(part, Set::Reads, i);
@@ -78,7 +78,7 @@ fn drop_read(part: &mut [u8], i: usize)
 
 // The copies of all objects read.
 fn drop_reads(part: &mut [u8])
-    requires { ⌜ 7223 ≤ length (now part) / 8 ⌝ }
+    requires { ⌜ ClientPart (now part) ⌝ }
     ensures { λ _. ⌜ Did drop-reads (now (part .entry)) (now (part .exit)) ⌝ }
 {
     let n = count(part, Set::Reads);
@@ -91,7 +91,7 @@ fn drop_reads(part: &mut [u8])
 
 // The copies of the objects in use.
 fn drop_each(part: &mut [u8], used: &[u64])
-    requires { ⌜ InUse (now used) × (7223 ≤ length (now part) / 8) ⌝ }
+    requires { ⌜ InUse (now used) × ClientPart (now part) ⌝ }
     ensures { λ _. ⌜ Did (drop-each (used-in (now (used .entry)))) (now (part .entry)) (now (part .exit)) ⌝ }
 {
     let n = used[0] as usize;
@@ -104,7 +104,7 @@ fn drop_each(part: &mut [u8], used: &[u64])
 
 // The copies of all objects read, those in use included.
 pub fn drop_used(part: &mut [u8], used: &[u64])
-    requires { ⌜ InUse (now used) × (7223 ≤ length (now part) / 8) ⌝ }
+    requires { ⌜ InUse (now used) × ClientPart (now part) ⌝ }
     ensures { λ _. ⌜ Did (drop-used (used-in (now (used .entry)))) (now (part .entry)) (now (part .exit)) ⌝ }
 {
     drop_reads(part);
@@ -112,7 +112,7 @@ pub fn drop_used(part: &mut [u8], used: &[u64])
 }
 
 fn drop_nodes(part: &mut [u8])
-    requires { ⌜ 7223 ≤ length (now part) / 8 ⌝ }
+    requires { ⌜ ClientPart (now part) ⌝ }
     ensures { λ _. ⌜ Did (sweep client-words empty-place 64) (now (part .entry)) (now (part .exit)) ⌝ }
 {
     let mut i: usize = 0;
@@ -123,7 +123,7 @@ fn drop_nodes(part: &mut [u8])
 }
 
 fn drop_vectors(part: &mut [u8])
-    requires { ⌜ 7223 ≤ length (now part) / 8 ⌝ }
+    requires { ⌜ ClientPart (now part) ⌝ }
     ensures { λ _. ⌜ Did (sweep client-words drop-vector 8) (now (part .entry)) (now (part .exit)) ⌝ }
 {
     let mut s: usize = 0;
@@ -135,10 +135,10 @@ fn drop_vectors(part: &mut [u8])
 
 // All copies.
 pub fn drop_all(part: &mut [u8])
-    requires { ⌜ 7223 ≤ length (now part) / 8 ⌝ }
+    requires { ⌜ ClientPart (now part) ⌝ }
     ensures { λ _. ⌜ Did drop-all (now (part .entry)) (now (part .exit)) ⌝ }
 {
-    set_field(part, 12, 0);
+    set_field(part, META_COPIED, 0);
     drop_nodes(part);
     drop_vectors(part);
 }

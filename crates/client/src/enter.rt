@@ -1,23 +1,25 @@
 // Objects enter the read set and the write set.
 use crate::lookup::copied;
 use crate::own::own_record;
+use crate::part::READS_COUNT;
 use crate::part::Set;
+use crate::part::WRITES_COUNT;
 use crate::part::count;
 use crate::part::find;
 use crate::part::set_field;
 use crate::part::set_item;
 use nodes::found::Found;
 use nodes::node::Node;
-ghost use Prim.Native.Nat.{_/_, _<_, _≤_};
-ghost use lib.ListN.{length};
+ghost use Prim.Native.Nat.{_<_};
 ghost use Rattle.client.specs.Part.{Did};
 ghost use Rattle.client.specs.Lent.{InUse, used-in, OwnFits, own-list};
 ghost use Rattle.client.specs.Enter.{enter-read, enter-copy, enter-write, write-nth, enter-entries};
 ghost use Rattle.client.specs.Answered.{used-enter};
+ghost use Rattle.client.specs.Layout.{ClientPart};
 
 // An object with its record as read. Nothing is done where there are 96.
 pub fn enter_read(part: &mut [u8], number: u64, n: Node)
-    requires { ⌜ 7223 ≤ length (now part) / 8 ⌝ }
+    requires { ⌜ ClientPart (now part) ⌝ }
     ensures { λ _. ⌜ Did (enter-read number n) (now (part .entry)) (now (part .exit)) ⌝ }
 {
     let c = count(part, Set::Reads);
@@ -25,12 +27,12 @@ pub fn enter_read(part: &mut [u8], number: u64, n: Node)
         return;
     }
     set_item(part, Set::Reads, c, number, n);
-    set_field(part, 10, c as u64 + 1);
+    set_field(part, READS_COUNT, c as u64 + 1);
 }
 
 // A copy that came into use.
 fn enter_copy(part: &mut [u8], number: u64)
-    requires { ⌜ (number < 16385) × (7223 ≤ length (now part) / 8) ⌝ }
+    requires { ⌜ (number < 16385) × ClientPart (now part) ⌝ }
     ensures { λ _. ⌜ Did (enter-copy number) (now (part .entry)) (now (part .exit)) ⌝ }
 {
     let l = copied(part, number);
@@ -39,7 +41,7 @@ fn enter_copy(part: &mut [u8], number: u64)
 
 // All copies that came into use.
 pub fn enter_used(part: &mut [u8], used: &[u64])
-    requires { ⌜ InUse (now used) × (7223 ≤ length (now part) / 8) ⌝ }
+    requires { ⌜ InUse (now used) × ClientPart (now part) ⌝ }
     ensures { λ _. ⌜ Did (used-enter (used-in (now (used .entry)))) (now (part .entry)) (now (part .exit)) ⌝ }
 {
     let n = used[0] as usize;
@@ -52,7 +54,7 @@ pub fn enter_used(part: &mut [u8], used: &[u64])
 
 // A written object: in its place, else behind the others. Nothing is done where there are 48.
 fn enter_write(part: &mut [u8], number: u64, n: Node)
-    requires { ⌜ 7223 ≤ length (now part) / 8 ⌝ }
+    requires { ⌜ ClientPart (now part) ⌝ }
     ensures { λ _. ⌜ Did (enter-write number n) (now (part .entry)) (now (part .exit)) ⌝ }
 {
     let at = find(part, Set::Writes, number);
@@ -68,12 +70,12 @@ fn enter_write(part: &mut [u8], number: u64, n: Node)
         return;
     }
     set_item(part, Set::Writes, c, number, n);
-    set_field(part, 11, c as u64 + 1);
+    set_field(part, WRITES_COUNT, c as u64 + 1);
 }
 
 // The operation's own write i.
 fn write_nth(part: &mut [u8], own: &[u64], i: usize)
-    requires { ⌜ (i < 20) × OwnFits (now own) × (7223 ≤ length (now part) / 8) ⌝ }
+    requires { ⌜ (i < 20) × OwnFits (now own) × ClientPart (now part) ⌝ }
     ensures { λ _. ⌜ Did (write-nth (now (own .entry)) i) (now (part .entry)) (now (part .exit)) ⌝ }
 {
     let n = own_record(own, i);
@@ -82,7 +84,7 @@ fn write_nth(part: &mut [u8], own: &[u64], i: usize)
 
 // The operation's own writes.
 pub fn enter_writes(part: &mut [u8], own: &[u64])
-    requires { ⌜ OwnFits (now own) × (7223 ≤ length (now part) / 8) ⌝ }
+    requires { ⌜ OwnFits (now own) × ClientPart (now part) ⌝ }
     ensures { λ _. ⌜ Did (enter-entries (own-list (now (own .entry)))) (now (part .entry)) (now (part .exit)) ⌝ }
 {
     let n = own[0] as usize;

@@ -1,6 +1,8 @@
 // What a fetched object does to the read set and the copies.
 use crate::copies::copy_node;
 use crate::enter::enter_read;
+use crate::part::FETCHED_VECTORS;
+use crate::part::META_COPIED;
 use crate::part::get_field;
 use crate::part::set_field;
 use crate::part::set_fields;
@@ -8,24 +10,24 @@ use crate::part::set_vector;
 use crate::range::single;
 use memory::bits::with;
 use nodes::node::Node;
-ghost use Prim.Native.Nat.{_/_, _<_, _≤_};
-ghost use lib.ListN.{length};
+ghost use Prim.Native.Nat.{_<_};
 ghost use Rattle.client.specs.Part.{Did};
 ghost use Rattle.client.specs.Fetched.{fetched-meta, fetched-node, fetched-vector, copy-inner, mark-fetched};
+ghost use Rattle.client.specs.Layout.{ClientPart};
 
 pub fn fetched_meta(part: &mut [u8], root: u64, version: u64)
-    requires { ⌜ 7223 ≤ length (now part) / 8 ⌝ }
+    requires { ⌜ ClientPart (now part) ⌝ }
     ensures { λ _. ⌜ Did (fetched-meta root version) (now (part .entry)) (now (part .exit)) ⌝ }
 {
     let n = single(version, root);
     enter_read(part, 0, n);
     let fields = [1, root, version];
-    set_fields(part, 12, &fields);
+    set_fields(part, META_COPIED, &fields);
 }
 
 // An inner node is copied.
 fn copy_inner(part: &mut [u8], number: u64, n: Node)
-    requires { ⌜ 7223 ≤ length (now part) / 8 ⌝ }
+    requires { ⌜ ClientPart (now part) ⌝ }
     ensures { λ _. ⌜ Did (copy-inner number n) (now (part .entry)) (now (part .exit)) ⌝ }
 {
     if n.kind == 2 {
@@ -34,7 +36,7 @@ fn copy_inner(part: &mut [u8], number: u64, n: Node)
 }
 
 pub fn fetched_node(part: &mut [u8], name: u64, n: Node)
-    requires { ⌜ (name < 8192) × (7223 ≤ length (now part) / 8) ⌝ }
+    requires { ⌜ (name < 8192) × ClientPart (now part) ⌝ }
     ensures { λ _. ⌜ Did (fetched-node name n) (now (part .entry)) (now (part .exit)) ⌝ }
 {
     enter_read(part, 1 + name, n);
@@ -42,15 +44,15 @@ pub fn fetched_node(part: &mut [u8], name: u64, n: Node)
 }
 
 fn mark_fetched(part: &mut [u8], s: usize)
-    requires { ⌜ (s < 8) × (7223 ≤ length (now part) / 8) ⌝ }
+    requires { ⌜ (s < 8) × ClientPart (now part) ⌝ }
     ensures { λ _. ⌜ Did (mark-fetched s) (now (part .entry)) (now (part .exit)) ⌝ }
 {
-    let marks = with(get_field(part, 8), s as u32);
-    set_field(part, 8, marks);
+    let marks = with(get_field(part, FETCHED_VECTORS), s as u32);
+    set_field(part, FETCHED_VECTORS, marks);
 }
 
 pub fn fetched_vector(part: &mut [u8], s: usize, words: [u64; 16])
-    requires { ⌜ (s < 8) × (7223 ≤ length (now part) / 8) ⌝ }
+    requires { ⌜ (s < 8) × ClientPart (now part) ⌝ }
     ensures { λ _. ⌜ Did (fetched-vector s words) (now (part .entry)) (now (part .exit)) ⌝ }
 {
     set_vector(part, s, words);

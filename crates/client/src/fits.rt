@@ -1,5 +1,8 @@
 // Is the client's own state in range? Every step of the client asks it first.
 use crate::commit::is_at;
+use crate::part::OP_KEY;
+use crate::part::OP_NUMBER;
+use crate::part::OP_SERVER;
 use crate::part::Set;
 use crate::part::count;
 use crate::part::find;
@@ -10,9 +13,8 @@ use crate::part::vector_word;
 use crate::range::fits;
 use crate::range::in_store;
 ghost use mathlib.Core.Path.{_≡_};
-ghost use Prim.Native.Nat.{_/_, _<_, _≤_};
-ghost use lib.ListN.{length};
-ghost use Rattle.client.specs.Layout.{limit};
+ghost use Prim.Native.Nat.{_<_, _≤_};
+ghost use Rattle.client.specs.Layout.{limit, ClientPart};
 ghost use Rattle.client.specs.Record.{sizes, number-in-store};
 ghost use Rattle.client.specs.Sets.{held, count};
 ghost use Rattle.client.specs.Commit.{all-of};
@@ -20,7 +22,7 @@ ghost use Rattle.client.specs.Fits.{field-fits, op-fits, has-read, item-
 
 // Field i is within its bound; every is the set of all servers.
 fn field_fits(part: &[u8], every: u64, i: usize) -> bool
-    requires { ⌜ (i < 13) × (7223 ≤ length (now part) / 8) ⌝ }
+    requires { ⌜ (i < 13) × ClientPart (now part) ⌝ }
     ensures { λ r. ⌜ r ≡ field-fits (held (now (part .entry))) every i ⌝ }
 {
     let bounds = [
@@ -42,7 +44,7 @@ fn field_fits(part: &[u8], every: u64, i: usize) -> bool
 }
 
 fn fields_fit(part: &[u8], every: u64) -> bool
-    requires { ⌜ 7223 ≤ length (now part) / 8 ⌝ }
+    requires { ⌜ ClientPart (now part) ⌝ }
     ensures { λ r. ⌜ r ≡ all-of (field-fits (held (now (part .entry))) every) 13 ⌝ }
 {
     let n: usize = 13;
@@ -58,12 +60,12 @@ fn fields_fit(part: &[u8], every: u64) -> bool
 
 // A migrate's node and server are in the store.
 fn op_fits(part: &[u8], servers: usize, slots: usize) -> bool
-    requires { ⌜ 7223 ≤ length (now part) / 8 ⌝ }
+    requires { ⌜ ClientPart (now part) ⌝ }
     ensures { λ r. ⌜ r ≡ op-fits (sizes servers slots) (held (now (part .entry))) ⌝ }
 {
-    let op = get_field(part, 1);
-    let key = get_field(part, 2);
-    let server = get_field(part, 4);
+    let op = get_field(part, OP_NUMBER);
+    let key = get_field(part, OP_KEY);
+    let server = get_field(part, OP_SERVER);
     if op != 6 {
         return true;
     }
@@ -88,7 +90,7 @@ fn number_in_store(servers: usize, slots: usize, number: u64) -> bool
 
 // A written object has been read.
 fn has_read(part: &[u8], set: Set, number: u64) -> bool
-    requires { ⌜ 7223 ≤ length (now part) / 8 ⌝ }
+    requires { ⌜ ClientPart (now part) ⌝ }
     ensures { λ r. ⌜ r ≡ has-read (held (now (part .entry))) set number ⌝ }
 {
     match set {
@@ -99,7 +101,7 @@ fn has_read(part: &[u8], set: Set, number: u64) -> bool
 }
 
 fn item_fits(part: &[u8], servers: usize, slots: usize, set: Set, i: usize) -> bool
-    requires { ⌜ (i < limit set) × (7223 ≤ length (now part) / 8) ⌝ }
+    requires { ⌜ (i < limit set) × ClientPart (now part) ⌝ }
     ensures { λ r. ⌜ r ≡ item-fits (sizes servers slots) (held (now (part .entry))) set i ⌝ }
 {
     let number = number_at(part, set, i);
@@ -113,7 +115,7 @@ fn item_fits(part: &[u8], servers: usize, slots: usize, set: Set, i: usize) -> b
 }
 
 fn items_fit(part: &[u8], servers: usize, slots: usize, set: Set) -> bool
-    requires { ⌜ 7223 ≤ length (now part) / 8 ⌝ }
+    requires { ⌜ ClientPart (now part) ⌝ }
     ensures { λ r. ⌜ r ≡ all-of (item-fits (sizes servers slots) (held (now (part .entry))) set) (count (held (now (part .entry))) set) ⌝ }
 {
     let n = count(part, set);
@@ -128,14 +130,14 @@ fn items_fit(part: &[u8], servers: usize, slots: usize, set: Set) -> bool
 }
 
 fn vector_fits(part: &[u8], s: usize) -> bool
-    requires { ⌜ (s < 8) × (7223 ≤ length (now part) / 8) ⌝ }
+    requires { ⌜ (s < 8) × ClientPart (now part) ⌝ }
     ensures { λ r. ⌜ r ≡ vector-fits (held (now (part .entry))) s ⌝ }
 {
     vector_word(part, s, 0) <= 1
 }
 
 fn vectors_fit(part: &[u8]) -> bool
-    requires { ⌜ 7223 ≤ length (now part) / 8 ⌝ }
+    requires { ⌜ ClientPart (now part) ⌝ }
     ensures { λ r. ⌜ r ≡ all-of (vector-fits (held (now (part .entry)))) 8 ⌝ }
 {
     let n: usize = 8;
@@ -151,7 +153,7 @@ fn vectors_fit(part: &[u8]) -> bool
 
 // Is the client's own state in range?
 pub fn client_fits(part: &[u8], servers: usize, slots: usize) -> bool
-    requires { ⌜ (servers ≤ 8) × (7223 ≤ length (now part) / 8) ⌝ }
+    requires { ⌜ (servers ≤ 8) × ClientPart (now part) ⌝ }
     ensures { λ r. ⌜ r ≡ client-fits (sizes servers slots) (held (now (part .entry))) ⌝ }
 {
     let one: u64 = 1;

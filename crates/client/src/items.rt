@@ -5,13 +5,13 @@ use crate::part::record_at;
 use nodes::found::Found;
 use nodes::node::Node;
 ghost use mathlib.Core.Path.{_≡_};
-ghost use Prim.Native.Nat.{_/_, _≤_};
-ghost use lib.ListN.{length};
+ghost use Prim.Native.Nat.{_/_};
 ghost use Rattle.client.specs.declared.part.Set.the-variants.{Reads};
 ghost use Rattle.client.specs.Sets.{held, find};
 ghost use Rattle.client.specs.Drops.{version-of};
 ghost use Rattle.client.specs.Items.{inner, has, inner-in, inner-before-after};
 ghost use Rattle.client.specs.Participants.{at-home};
+ghost use Rattle.client.specs.Layout.{ClientPart};
 
 // "metadata and inner nodes": is the object of that number one of them, with that record?
 pub fn is_inner(number: u64, node: Node) -> bool
@@ -28,7 +28,7 @@ pub fn is_inner(number: u64, node: Node) -> bool
 
 // Is there an item of the object in the set?
 pub fn has(part: &[u8], set: Set, number: u64) -> bool
-    requires { ⌜ 7223 ≤ length (now part) / 8 ⌝ }
+    requires { ⌜ ClientPart (now part) ⌝ }
     ensures { λ r. ⌜ r ≡ has (held (now (part .entry))) set number ⌝ }
 {
     let at = find(part, set, number);
@@ -40,7 +40,7 @@ pub fn has(part: &[u8], set: Set, number: u64) -> bool
 
 // Is there one, and is the object inner in it?
 pub fn inner_in(part: &[u8], set: Set, number: u64) -> bool
-    requires { ⌜ 7223 ≤ length (now part) / 8 ⌝ }
+    requires { ⌜ ClientPart (now part) ⌝ }
     ensures { λ r. ⌜ r ≡ inner-in (held (now (part .entry))) set number ⌝ }
 {
     let at = find(part, set, number);
@@ -52,7 +52,7 @@ pub fn inner_in(part: &[u8], set: Set, number: u64) -> bool
 
 // "inner before or after": as read or as written.
 pub fn inner_before_after(part: &[u8], number: u64) -> bool
-    requires { ⌜ 7223 ≤ length (now part) / 8 ⌝ }
+    requires { ⌜ ClientPart (now part) ⌝ }
     ensures { λ r. ⌜ r ≡ inner-before-after (held (now (part .entry))) number ⌝ }
 {
     if inner_in(part, Set::Reads, number) {
@@ -76,7 +76,7 @@ pub fn is_home(server: u64, number: u64) -> bool
 
 // The version of an object as it was read.
 pub fn version_read(part: &[u8], number: u64) -> u64
-    requires { ⌜ 7223 ≤ length (now part) / 8 ⌝ }
+    requires { ⌜ ClientPart (now part) ⌝ }
     ensures { λ r. ⌜ r ≡ version-of (held (now (part .entry))) (find (held (now (part .entry))) Reads number) ⌝ }
 {
     let at = find(part, Set::Reads, number);

@@ -3,6 +3,9 @@ use crate::answer::Look;
 use crate::answer::copy;
 use crate::answer::here;
 use crate::answer::lacking;
+use crate::part::META_COPIED;
+use crate::part::META_ROOT;
+use crate::part::META_VERSION;
 use crate::part::Set;
 use crate::part::find;
 use crate::part::get_field;
@@ -12,23 +15,23 @@ use crate::range::single;
 use memory::bits::has;
 use nodes::found::Found;
 ghost use mathlib.Core.Path.{_≡_};
-ghost use Prim.Native.Nat.{_/_, _<_, _≤_};
-ghost use lib.ListN.{length};
+ghost use Prim.Native.Nat.{_/_, _<_};
 ghost use Rattle.client.specs.Sets.{held};
 ghost use Rattle.client.specs.Have.{copied, copied-meta, copied-node, copied-flag, source};
+ghost use Rattle.client.specs.Layout.{ClientPart};
 
 fn copied_meta(part: &[u8]) -> Look
-    requires { ⌜ 7223 ≤ length (now part) / 8 ⌝ }
+    requires { ⌜ ClientPart (now part) ⌝ }
     ensures { λ r. ⌜ r ≡ copied-meta (held (now (part .entry))) ⌝ }
 {
-    if get_field(part, 12) != 1 {
+    if get_field(part, META_COPIED) != 1 {
         return lacking();
     }
-    copy(single(get_field(part, 14), get_field(part, 13)))
+    copy(single(get_field(part, META_VERSION), get_field(part, META_ROOT)))
 }
 
 fn copied_node(part: &[u8], number: u64) -> Look
-    requires { ⌜ (7223 ≤ length (now part) / 8) ⌝ }
+    requires { ⌜ ClientPart (now part) ⌝ }
     ensures { λ r. ⌜ r ≡ copied-node (held (now (part .entry))) number ⌝ }
 {
     match find(part, Set::Copies, number) {
@@ -38,7 +41,7 @@ fn copied_node(part: &[u8], number: u64) -> Look
 }
 
 fn copied_flag(part: &[u8], name: u64) -> Look
-    requires { ⌜ (name < 8192) × (7223 ≤ length (now part) / 8) ⌝ }
+    requires { ⌜ (name < 8192) × ClientPart (now part) ⌝ }
     ensures { λ r. ⌜ r ≡ copied-flag (held (now (part .entry))) name ⌝ }
 {
     let s = (name / 1024) as usize;
@@ -55,7 +58,7 @@ fn copied_flag(part: &[u8], name: u64) -> Look
 
 // The copy of the object with that number.
 pub fn copied(part: &[u8], number: u64) -> Look
-    requires { ⌜ (number < 16385) × (7223 ≤ length (now part) / 8) ⌝ }
+    requires { ⌜ (number < 16385) × ClientPart (now part) ⌝ }
     ensures { λ r. ⌜ r ≡ copied (held (now (part .entry))) number ⌝ }
 {
     if number == 0 {
@@ -69,7 +72,7 @@ pub fn copied(part: &[u8], number: u64) -> Look
 
 // The object with that number in the write set, else the read set, else the copies.
 pub fn source(part: &[u8], number: u64) -> Look
-    requires { ⌜ (number < 16385) × (7223 ≤ length (now part) / 8) ⌝ }
+    requires { ⌜ (number < 16385) × ClientPart (now part) ⌝ }
     ensures { λ r. ⌜ r ≡ source (held (now (part .entry))) number ⌝ }
 {
     match find(part, Set::Writes, number) {

@@ -8,16 +8,56 @@ use nodes::found::Found;
 use nodes::node::Node;
 use nodes::stored::read_node;
 ghost use mathlib.Core.Path.{_≡_};
-ghost use Prim.Native.Nat.{_+_, _*_, _/_, _<_, _≤_};
+ghost use Prim.Native.Nat.{_+_, _*_, _<_, _≤_};
 ghost use lib.ListN.{length};
 ghost use Rattle.layout.specs.Space.{at};
-ghost use Rattle.client.specs.Layout.{client-words, client-block, field, item, vector-word, limit, base};
+ghost use Rattle.client.specs.Layout.{client-words, client-block, field, item, vector-word, limit, base, client-length, ClientPart};
 ghost use Rattle.client.specs.Sets.{held, at-most, count, number-at, record-at, find};
 ghost use Rattle.nodes.specs.Found.{Inside};
 ghost use Rattle.client.specs.Part.{Did, put-field, put-fields, put-item, put-number, put-vector, drop-vector};
 
 // The words of a client's part: "the length that given sizes call for" has this for each client.
 pub const CLIENT_WORDS: usize = 7223;
+
+// The fields of a client's part.
+pub const PHASE: usize = 0;
+
+pub const OP_NUMBER: usize = 1;
+
+pub const OP_KEY: usize = 2;
+
+pub const OP_VALUE: usize = 3;
+
+pub const OP_SERVER: usize = 4;
+
+pub const PARTICIPANTS: usize = 5;
+
+pub const PREPARED: usize = 6;
+
+pub const APPLIED: usize = 7;
+
+pub const FETCHED_VECTORS: usize = 8;
+
+pub const LOST: usize = 9;
+
+pub const READS_COUNT: usize = 10;
+
+pub const WRITES_COUNT: usize = 11;
+
+pub const META_COPIED: usize = 12;
+
+pub const META_ROOT: usize = 13;
+
+pub const META_VERSION: usize = 14;
+
+// The phases of a transaction.
+pub const NO_TRANSACTION: u64 = 0;
+
+pub const OPEN: u64 = 1;
+
+pub const COMMITTING: u64 = 2;
+
+pub const DECIDED: u64 = 3;
 
 // The read set, the write set, and the copies of inner nodes.
 pub enum Set {
@@ -29,7 +69,7 @@ pub enum Set {
 // Where a set begins.
 fn base(set: Set) -> usize
     ensures { λ r. ⌜ r ≡ base set ⌝ }
-    ensures within { λ r. ⌜ (limit set ≤ 96) × (r + 34 * limit set ≤ 7223) ⌝ }
+    ensures within { λ r. ⌜ (limit set ≤ 96) × (r + 34 * limit set ≤ client-length) ⌝ }
 {
     match set {
         Set::Reads => 15,
@@ -42,7 +82,7 @@ fn base(set: Set) -> usize
 pub fn item_at(set: Set, i: usize) -> usize
     requires { ⌜ i < limit set ⌝ }
     ensures { λ r. ⌜ r ≡ at client-words client-block (item set i 0) ⌝ }
-    ensures within { λ r. ⌜ r + 34 ≤ 7223 ⌝ }
+    ensures within { λ r. ⌜ r + 34 ≤ client-length ⌝ }
 {
     let first = base(set);
     first + 34 * i
@@ -52,20 +92,20 @@ pub fn item_at(set: Set, i: usize) -> usize
 pub fn vector_at(s: usize) -> usize
     requires { ⌜ s < 8 ⌝ }
     ensures { λ r. ⌜ r ≡ at client-words client-block (vector-word s 0) ⌝ }
-    ensures within { λ r. ⌜ r + 17 ≤ 7223 ⌝ }
+    ensures within { λ r. ⌜ r + 17 ≤ client-length ⌝ }
 {
     7087 + 17 * s
 }
 
 pub fn get_field(part: &[u8], i: usize) -> u64
-    requires { ⌜ (i < 15) × (7223 ≤ length (now part) / 8) ⌝ }
+    requires { ⌜ (i < 15) × ClientPart (now part) ⌝ }
     ensures { λ r. ⌜ r ≡ held (now (part .entry)) (field i) ⌝ }
 {
     read_word(part, i)
 }
 
 pub fn set_field(part: &mut [u8], i: usize, v: u64)
-    requires { ⌜ (i < 15) × (7223 ≤ length (now part) / 8) ⌝ }
+    requires { ⌜ (i < 15) × ClientPart (now part) ⌝ }
     ensures { λ _. ⌜ Did (put-field i v) (now (part .entry)) (now (part .exit)) ⌝ }
 {
     write_word(part, i, v);
@@ -73,7 +113,7 @@ pub fn set_field(part: &mut [u8], i: usize, v: u64)
 
 // The fields from i on become those given.
 pub fn set_fields(part: &mut [u8], i: usize, values: &[u64])
-    requires { ⌜ (i + length (now values) ≤ 15) × (7223 ≤ length (now part) / 8) ⌝ }
+    requires { ⌜ (i + length (now values) ≤ 15) × ClientPart (now part) ⌝ }
     ensures { λ _. ⌜ Did (put-fields i (now (values .entry))) (now (part .entry)) (now (part .exit)) ⌝ }
 {
     write_words(part, i, values);
@@ -81,7 +121,7 @@ pub fn set_fields(part: &mut [u8], i: usize, values: &[u64])
 
 // The copy of a server's vector becomes the words given.
 pub fn set_vector(part: &mut [u8], s: usize, words: [u64; 16])
-    requires { ⌜ (s < 8) × (7223 ≤ length (now part) / 8) ⌝ }
+    requires { ⌜ (s < 8) × ClientPart (now part) ⌝ }
     ensures { λ _. ⌜ Did (put-vector s words) (now (part .entry)) (now (part .exit)) ⌝ }
 {
     let copy = vector_words(words);
@@ -89,7 +129,7 @@ pub fn set_vector(part: &mut [u8], s: usize, words: [u64; 16])
 }
 
 pub fn drop_vector(part: &mut [u8], s: usize)
-    requires { ⌜ (s < 8) × (7223 ≤ length (now part) / 8) ⌝ }
+    requires { ⌜ (s < 8) × ClientPart (now part) ⌝ }
     ensures { λ _. ⌜ Did (drop-vector s) (now (part .entry)) (now (part .exit)) ⌝ }
 {
     write_word(part, vector_at(s), 0);
@@ -97,7 +137,7 @@ pub fn drop_vector(part: &mut [u8], s: usize)
 
 // A word of the copy of a server's vector.
 pub fn vector_word(part: &[u8], s: usize, j: usize) -> u64
-    requires { ⌜ (s < 8) × (j < 17) × (7223 ≤ length (now part) / 8) ⌝ }
+    requires { ⌜ (s < 8) × (j < 17) × ClientPart (now part) ⌝ }
     ensures { λ r. ⌜ r ≡ held (now (part .entry)) (vector-word s j) ⌝ }
 {
     read_word(part, vector_at(s) + j)
@@ -105,7 +145,7 @@ pub fn vector_word(part: &[u8], s: usize, j: usize) -> u64
 
 // A word of an item.
 pub fn item_word(part: &[u8], set: Set, i: usize, j: usize) -> u64
-    requires { ⌜ (i < limit set) × (j < 34) × (7223 ≤ length (now part) / 8) ⌝ }
+    requires { ⌜ (i < limit set) × (j < 34) × ClientPart (now part) ⌝ }
     ensures { λ r. ⌜ r ≡ held (now (part .entry)) (item set i j) ⌝ }
 {
     read_word(part, item_at(set, i) + j)
@@ -113,14 +153,14 @@ pub fn item_word(part: &[u8], set: Set, i: usize, j: usize) -> u64
 
 // The number of an item's object.
 pub fn number_at(part: &[u8], set: Set, i: usize) -> u64
-    requires { ⌜ (i < limit set) × (7223 ≤ length (now part) / 8) ⌝ }
+    requires { ⌜ (i < limit set) × ClientPart (now part) ⌝ }
     ensures { λ r. ⌜ r ≡ number-at (held (now (part .entry))) set i ⌝ }
 {
     read_word(part, item_at(set, i))
 }
 
 pub fn record_at(part: &[u8], set: Set, i: usize) -> Node
-    requires { ⌜ (i < limit set) × (7223 ≤ length (now part) / 8) ⌝ }
+    requires { ⌜ (i < limit set) × ClientPart (now part) ⌝ }
     ensures { λ r. ⌜ r ≡ record-at (held (now (part .entry))) set i ⌝ }
 {
     read_node(part, item_at(set, i) + 1)
@@ -128,7 +168,7 @@ pub fn record_at(part: &[u8], set: Set, i: usize) -> Node
 
 // Item i of a set becomes the object of that number with that record.
 pub fn set_item(part: &mut [u8], set: Set, i: usize, number: u64, node: Node)
-    requires { ⌜ (i < limit set) × (7223 ≤ length (now part) / 8) ⌝ }
+    requires { ⌜ (i < limit set) × ClientPart (now part) ⌝ }
     ensures { λ _. ⌜ Did (put-item set i number node) (now (part .entry)) (now (part .exit)) ⌝ }
 {
     let words = item_words(number, node);
@@ -144,7 +184,7 @@ fn at_most(limit: usize, n: u64) -> usize
 }
 
 pub fn set_number(part: &mut [u8], set: Set, i: usize, number: u64)
-    requires { ⌜ (i < limit set) × (7223 ≤ length (now part) / 8) ⌝ }
+    requires { ⌜ (i < limit set) × ClientPart (now part) ⌝ }
     ensures { λ _. ⌜ Did (put-number set i number) (now (part .entry)) (now (part .exit)) ⌝ }
 {
     write_word(part, item_at(set, i), number);
@@ -152,20 +192,20 @@ pub fn set_number(part: &mut [u8], set: Set, i: usize, number: u64)
 
 // How many items a set has, at most its limit.
 pub fn count(part: &[u8], set: Set) -> usize
-    requires { ⌜ 7223 ≤ length (now part) / 8 ⌝ }
+    requires { ⌜ ClientPart (now part) ⌝ }
     ensures { λ r. ⌜ r ≡ count (held (now (part .entry))) set ⌝ }
     ensures within { λ r. ⌜ r ≤ limit set ⌝ }
 {
     match set {
-        Set::Reads => at_most(96, get_field(part, 10)),
-        Set::Writes => at_most(48, get_field(part, 11)),
+        Set::Reads => at_most(96, get_field(part, READS_COUNT)),
+        Set::Writes => at_most(48, get_field(part, WRITES_COUNT)),
         Set::Copies => 64,
     }
 }
 
 // The first item of a set with that number.
 pub fn find(part: &[u8], set: Set, number: u64) -> Found
-    requires { ⌜ (7223 ≤ length (now part) / 8) ⌝ }
+    requires { ⌜ ClientPart (now part) ⌝ }
     ensures { λ r. ⌜ r ≡ find (held (now (part .entry))) set number ⌝ }
     ensures within { λ r. ⌜ Inside r (limit set) ⌝ }
 {

@@ -3,6 +3,9 @@ use crate::commit::inner_at;
 use crate::copies::copy_node;
 use crate::copies::drop_node;
 use crate::life::reset;
+use crate::part::LOST;
+use crate::part::META_COPIED;
+use crate::part::NO_TRANSACTION;
 use crate::part::Set;
 use crate::part::count;
 use crate::part::find;
@@ -19,16 +22,16 @@ use nodes::node::Node;
 use nodes::vector::with_taken;
 ghost use mathlib.Core.Path.{_≡_};
 ghost use Prim.Native.Nat.{_+_, _/_, _<_, _≤_};
-ghost use lib.ListN.{length};
 ghost use Rattle.nodes.specs.Found.{Inside};
 ghost use Rattle.client.specs.declared.part.Set.the-variants.{Writes};
 ghost use Rattle.client.specs.Sets.{held, count};
 ghost use Rattle.client.specs.Part.{Did};
 ghost use Rattle.client.specs.Renew.{drop-outer, versioned, new-version, with-inner, inner-below, rank, ranked, renewed, renew-nth, renew-meta, renew-in, renew-flag, for-writes, renew-written, renew, renew-kept, finish};
+ghost use Rattle.client.specs.Layout.{ClientPart};
 
 // A node that is written and not inner loses its copy.
 fn drop_outer(part: &mut [u8], i: usize)
-    requires { ⌜ (i < 48) × (7223 ≤ length (now part) / 8) ⌝ }
+    requires { ⌜ (i < 48) × ClientPart (now part) ⌝ }
     ensures { λ _. ⌜ Did (drop-outer i) (now (part .entry)) (now (part .exit)) ⌝ }
 {
     let number = number_at(part, Set::Writes, i);
@@ -61,7 +64,7 @@ fn versioned(n: Node, version: u64) -> Node
 
 // The version read plus 1.
 pub fn new_version(part: &[u8], number: u64) -> u64
-    requires { ⌜ 7223 ≤ length (now part) / 8 ⌝ }
+    requires { ⌜ ClientPart (now part) ⌝ }
     ensures { λ r. ⌜ r ≡ new-version (held (now (part .entry))) number ⌝ }
 {
     let at = find(part, Set::Reads, number);
@@ -79,7 +82,7 @@ pub fn new_version(part: &[u8], number: u64) -> u64
 
 // One more, where write item i is an inner node with a number below this one.
 fn with_inner(part: &[u8], number: u64, i: usize, below: usize) -> usize
-    requires { ⌜ (i < 48) × (below ≤ i) × (7223 ≤ length (now part) / 8) ⌝ }
+    requires { ⌜ (i < 48) × (below ≤ i) × ClientPart (now part) ⌝ }
     ensures { λ r. ⌜ r ≡ with-inner (held (now (part .entry))) number i below ⌝ }
     ensures within { λ r. ⌜ r ≤ i + 1 ⌝ }
 {
@@ -94,7 +97,7 @@ fn with_inner(part: &[u8], number: u64, i: usize, below: usize) -> usize
 
 // How many written inner nodes have a number below this one.
 fn inner_below(part: &[u8], number: u64) -> usize
-    requires { ⌜ 7223 ≤ length (now part) / 8 ⌝ }
+    requires { ⌜ ClientPart (now part) ⌝ }
     ensures { λ r. ⌜ r ≡ inner-below (held (now (part .entry))) number (count (held (now (part .entry))) Writes) ⌝ }
     ensures within { λ r. ⌜ r ≤ 48 ⌝ }
 {
@@ -110,7 +113,7 @@ fn inner_below(part: &[u8], number: u64) -> usize
 
 // 1 + the place of write item i among the written inner nodes by name; 0 for another object.
 fn rank(part: &[u8], i: usize) -> usize
-    requires { ⌜ (i < 48) × (7223 ≤ length (now part) / 8) ⌝ }
+    requires { ⌜ (i < 48) × ClientPart (now part) ⌝ }
     ensures { λ r. ⌜ r ≡ rank (held (now (part .entry))) i ⌝ }
 {
     if !inner_at(part, Set::Writes, i) {
@@ -122,7 +125,7 @@ fn rank(part: &[u8], i: usize) -> usize
 
 // The write item of a rank.
 fn ranked(part: &[u8], k: usize) -> Found
-    requires { ⌜ 7223 ≤ length (now part) / 8 ⌝ }
+    requires { ⌜ ClientPart (now part) ⌝ }
     ensures { λ r. ⌜ r ≡ ranked (held (now (part .entry))) k ⌝ }
     ensures within { λ r. ⌜ Inside r 48 ⌝ }
 {
@@ -139,7 +142,7 @@ fn ranked(part: &[u8], k: usize) -> Found
 
 // The copy of write item i.
 fn renewed(part: &[u8], i: usize) -> Node
-    requires { ⌜ (i < 48) × (7223 ≤ length (now part) / 8) ⌝ }
+    requires { ⌜ (i < 48) × ClientPart (now part) ⌝ }
     ensures { λ r. ⌜ r ≡ renewed (held (now (part .entry))) i ⌝ }
 {
     let n = record_at(part, Set::Writes, i);
@@ -149,7 +152,7 @@ fn renewed(part: &[u8], i: usize) -> Node
 }
 
 fn renew_nth(part: &mut [u8], k: usize)
-    requires { ⌜ (k < 48) × (7223 ≤ length (now part) / 8) ⌝ }
+    requires { ⌜ (k < 48) × ClientPart (now part) ⌝ }
     ensures { λ _. ⌜ Did (renew-nth k) (now (part .entry)) (now (part .exit)) ⌝ }
 {
     let at = ranked(part, k + 1);
@@ -164,7 +167,7 @@ fn renew_nth(part: &mut [u8], k: usize)
 }
 
 fn renew_meta(part: &mut [u8])
-    requires { ⌜ 7223 ≤ length (now part) / 8 ⌝ }
+    requires { ⌜ ClientPart (now part) ⌝ }
     ensures { λ _. ⌜ Did renew-meta (now (part .entry)) (now (part .exit)) ⌝ }
 {
     let at = find(part, Set::Writes, 0);
@@ -173,7 +176,7 @@ fn renew_meta(part: &mut [u8])
             let root = item_word(part, Set::Writes, i, 19);
             let version = new_version(part, 0);
             let fields = [1, root, version];
-            set_fields(part, 12, &fields);
+            set_fields(part, META_COPIED, &fields);
         }
         Found::Absent => {}
     }
@@ -181,7 +184,7 @@ fn renew_meta(part: &mut [u8])
 
 // A flag is renewed in its server's vector, if there is a copy of that.
 fn renew_in(part: &mut [u8], name: u64, value: u64)
-    requires { ⌜ 7223 ≤ length (now part) / 8 ⌝ }
+    requires { ⌜ ClientPart (now part) ⌝ }
     ensures { λ _. ⌜ Did (renew-in (held (now (part .entry))) name value) (now (part .entry)) (now (part .exit)) ⌝ }
 {
     let s = name / 1024;
@@ -198,7 +201,7 @@ fn renew_in(part: &mut [u8], name: u64, value: u64)
 }
 
 fn renew_flag(part: &mut [u8], i: usize)
-    requires { ⌜ (i < 48) × (7223 ≤ length (now part) / 8) ⌝ }
+    requires { ⌜ (i < 48) × ClientPart (now part) ⌝ }
     ensures { λ _. ⌜ Did (renew-flag i) (now (part .entry)) (now (part .exit)) ⌝ }
 {
     let number = number_at(part, Set::Writes, i);
@@ -210,7 +213,7 @@ fn renew_flag(part: &mut [u8], i: usize)
 }
 
 fn drop_outers(part: &mut [u8])
-    requires { ⌜ 7223 ≤ length (now part) / 8 ⌝ }
+    requires { ⌜ ClientPart (now part) ⌝ }
     ensures { λ _. ⌜ Did (for-writes drop-outer) (now (part .entry)) (now (part .exit)) ⌝ }
 {
     let n = count(part, Set::Writes);
@@ -222,7 +225,7 @@ fn drop_outers(part: &mut [u8])
 }
 
 fn renew_inner(part: &mut [u8])
-    requires { ⌜ 7223 ≤ length (now part) / 8 ⌝ }
+    requires { ⌜ ClientPart (now part) ⌝ }
     ensures { λ _. ⌜ Did (for-writes renew-nth) (now (part .entry)) (now (part .exit)) ⌝ }
 {
     let n = count(part, Set::Writes);
@@ -234,7 +237,7 @@ fn renew_inner(part: &mut [u8])
 }
 
 fn renew_flags(part: &mut [u8])
-    requires { ⌜ 7223 ≤ length (now part) / 8 ⌝ }
+    requires { ⌜ ClientPart (now part) ⌝ }
     ensures { λ _. ⌜ Did (for-writes renew-flag) (now (part .entry)) (now (part .exit)) ⌝ }
 {
     let n = count(part, Set::Writes);
@@ -247,7 +250,7 @@ fn renew_flags(part: &mut [u8])
 
 // The copies of what was written: inner nodes, metadata, flags.
 fn renew_written(part: &mut [u8])
-    requires { ⌜ 7223 ≤ length (now part) / 8 ⌝ }
+    requires { ⌜ ClientPart (now part) ⌝ }
     ensures { λ _. ⌜ Did renew-written (now (part .entry)) (now (part .exit)) ⌝ }
 {
     renew_inner(part);
@@ -256,7 +259,7 @@ fn renew_written(part: &mut [u8])
 }
 
 fn renew(part: &mut [u8])
-    requires { ⌜ 7223 ≤ length (now part) / 8 ⌝ }
+    requires { ⌜ ClientPart (now part) ⌝ }
     ensures { λ _. ⌜ Did renew (now (part .entry)) (now (part .exit)) ⌝ }
 {
     drop_outers(part);
@@ -264,10 +267,10 @@ fn renew(part: &mut [u8])
 }
 
 fn renew_kept(part: &mut [u8])
-    requires { ⌜ 7223 ≤ length (now part) / 8 ⌝ }
+    requires { ⌜ ClientPart (now part) ⌝ }
     ensures { λ _. ⌜ Did renew-kept (now (part .entry)) (now (part .exit)) ⌝ }
 {
-    if get_field(part, 9) == 1 {
+    if get_field(part, LOST) == 1 {
         return;
     }
     renew(part);
@@ -275,9 +278,9 @@ fn renew_kept(part: &mut [u8])
 
 // The transaction has ended: its copies are renewed, but not those of a lost client.
 pub fn finish(part: &mut [u8])
-    requires { ⌜ 7223 ≤ length (now part) / 8 ⌝ }
+    requires { ⌜ ClientPart (now part) ⌝ }
     ensures { λ _. ⌜ Did finish (now (part .entry)) (now (part .exit)) ⌝ }
 {
     renew_kept(part);
-    reset(part, 0);
+    reset(part, NO_TRANSACTION);
 }

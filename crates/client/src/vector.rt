@@ -1,4 +1,5 @@
 // A server's vector as a client sees it: its copy, with the transaction's frees and takes.
+use crate::part::FETCHED_VECTORS;
 use crate::part::Set;
 use crate::part::count;
 use crate::part::get_field;
@@ -10,21 +11,21 @@ use memory::bits::has;
 use memory::read_words;
 use nodes::vector::with_taken;
 ghost use mathlib.Core.Path.{_≡_};
-ghost use Prim.Native.Nat.{_/_, _<_, _≤_};
-ghost use lib.ListN.{length};
+ghost use Prim.Native.Nat.{_/_, _<_};
 ghost use Rattle.client.specs.Sets.{held};
 ghost use Rattle.client.specs.Vectors.{has-vector, vector-copy, counted-one, seen-words, is-fetched};
+ghost use Rattle.client.specs.Layout.{ClientPart};
 
 // Is there a copy?
 pub fn has_vector(part: &[u8], s: usize) -> bool
-    requires { ⌜ (s < 8) × (7223 ≤ length (now part) / 8) ⌝ }
+    requires { ⌜ (s < 8) × ClientPart (now part) ⌝ }
     ensures { λ r. ⌜ r ≡ has-vector (held (now (part .entry))) s ⌝ }
 {
     vector_word(part, s, 0) == 1
 }
 
 pub fn vector_copy(part: &[u8], s: usize) -> [u64; 16]
-    requires { ⌜ (s < 8) × (7223 ≤ length (now part) / 8) ⌝ }
+    requires { ⌜ (s < 8) × ClientPart (now part) ⌝ }
     ensures { λ r. ⌜ r ≡ vector-copy (held (now (part .entry))) s ⌝ }
 {
     let mut words = [0u64; 16];
@@ -34,7 +35,7 @@ pub fn vector_copy(part: &[u8], s: usize) -> [u64; 16]
 
 // The vector with write item i counted.
 fn counted_one(part: &[u8], s: usize, i: usize, words: [u64; 16]) -> [u64; 16]
-    requires { ⌜ (i < 48) × (7223 ≤ length (now part) / 8) ⌝ }
+    requires { ⌜ (i < 48) × ClientPart (now part) ⌝ }
     ensures { λ r. ⌜ r ≡ counted-one (held (now (part .entry))) s i words ⌝ }
 {
     let number = number_at(part, Set::Writes, i);
@@ -51,7 +52,7 @@ fn counted_one(part: &[u8], s: usize, i: usize, words: [u64; 16]) -> [u64; 16]
 
 // The vector with the transaction's frees and takes.
 pub fn seen_words(part: &[u8], s: usize) -> [u64; 16]
-    requires { ⌜ (s < 8) × (7223 ≤ length (now part) / 8) ⌝ }
+    requires { ⌜ (s < 8) × ClientPart (now part) ⌝ }
     ensures { λ r. ⌜ r ≡ seen-words (held (now (part .entry))) s ⌝ }
 {
     let n = count(part, Set::Writes);
@@ -68,8 +69,8 @@ pub fn seen_words(part: &[u8], s: usize) -> [u64; 16]
 
 // Has this transaction fetched it?
 pub fn is_fetched(part: &[u8], s: usize) -> bool
-    requires { ⌜ (s < 8) × (7223 ≤ length (now part) / 8) ⌝ }
+    requires { ⌜ (s < 8) × ClientPart (now part) ⌝ }
     ensures { λ r. ⌜ r ≡ is-fetched (held (now (part .entry))) s ⌝ }
 {
-    has(get_field(part, 8), s as u32)
+    has(get_field(part, FETCHED_VECTORS), s as u32)
 }

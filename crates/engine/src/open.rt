@@ -4,12 +4,11 @@ ghost use Prim.Native.Nat.{_/_, _≤_};
 ghost use lib.ListN.{length};
 ghost use Rattle.memory.specs.Word.{view};
 ghost use Rattle.layout.specs.Space.{Valid};
-ghost use Rattle.layout.specs.Step.{Does, silent};
 ghost use Rattle.layout.specs.Part.{inPart};
 ghost use Rattle.server.specs.Layout as Srv;
-ghost use Rattle.steps.specs.Whole.{server, whole, block};
+ghost use Rattle.steps.specs.Whole.{server};
 ghost use Rattle.steps.specs.Refusal.{open-refusal};
-ghost use Rattle.kinds.specs.Parts.{Store-in};
+ghost use Rattle.kinds.specs.Parts.{Store-in, InWhole};
 ghost use Rattle.engine.specs.Open.{opening, with-head, new-words, words-opened};
 use kinds::refusal::memory_refusal;
 use kinds::whole::server_at;
@@ -29,7 +28,7 @@ pub enum Opening {
 // A word of server 0 becomes v.
 fn put_first(mem: &mut [u8], sizes: Sizes, place: Place, v: u64)
     requires { ⌜ Store-in sizes (length (now mem)) × Valid Srv.places (Srv.server-block (sizes .slots)) place ⌝ }
-    ensures { λ _. ⌜ Does whole (block sizes) (inPart (server 0) (Srv.putStep place v)) silent (view (now (mem .entry))) 0 (view (now (mem .exit))) ⌝ }
+    ensures { λ _. ⌜ InWhole sizes (inPart (server 0) (Srv.putStep place v)) (now (mem .entry)) (now (mem .exit)) ⌝ }
 {
     let at = 8 * server_at(sizes, 0);
     put(&mut mem[at..], sizes.slots, place, v);

@@ -2,29 +2,26 @@
 ghost use mathlib.Core.Path.{_≡_};
 ghost use mathlib.Core.Bool.{true, false};
 ghost use mathlib.Core.List.{[]};
-ghost use Prim.Native.Nat.{_/_, _≤_, _<_};
 ghost use lib.ListN.{length};
 ghost use Rattle.memory.specs.Word.{view};
-ghost use Rattle.layout.specs.Step.{Does, silent};
-ghost use Rattle.layout.specs.Part.{inPart};
-ghost use Rattle.client.specs.Layout.{op-number};
+ghost use Rattle.client.specs.Layout.{op-number, ClientPart};
 ghost use Rattle.client.specs.Part.{Did};
 ghost use Rattle.client.specs.Lent.{InUse, used-in, OwnFits, own-list};
 ghost use Rattle.walk.specs.Walk.{is-answer};
-ghost use Rattle.walk.specs.Stopped.{Waiting, Stopped};
+ghost use Rattle.walk.specs.Stopped.{Stopped};
 ghost use Rattle.walk.specs.Look.{only-reads};
-ghost use Rattle.steps.specs.Whole.{client as at-client, whole, block, tree-sizes};
+ghost use Rattle.steps.specs.Whole.{tree-sizes};
 ghost use Rattle.steps.specs.Steps.{work};
-ghost use Rattle.kinds.specs.Parts.{Store-in};
+ghost use Rattle.kinds.specs.Parts.{InClient, AtClient};
 ghost use Rattle.kinds.specs.Judge.{of-client};
-ghost use Rattle.kinds.specs.Fits.{Known};
-ghost use Rattle.kinds.specs.Kinds.{Meets};
-ghost use Rattle.engine.specs.Work.{entering, answer-of};
+ghost use Rattle.kinds.specs.Kinds.{Comes};
+ghost use Rattle.engine.specs.Work.{entering, answer-of, WaitingClient};
 use crate::walking::look_at;
 use crate::walking::only_reads_at;
 use crate::walking::walk_at;
 use client::enter::enter_used;
 use client::enter::enter_writes;
+use client::part::OP_NUMBER;
 use client::part::set_field;
 use kinds::abort::abort;
 use kinds::lack::fetch_meta;
@@ -38,17 +35,18 @@ use walk::walk::is_answer;
 
 // "otherwise it answers the operation, and only then do its writes enter the write set": no operation waits any more.
 fn enter_answer(part: &mut [u8], own: &[u64], used: &[u64])
-    requires { ⌜ InUse (now used) × OwnFits (now own) × (7223 ≤ length (now part) / 8) ⌝ }
+    requires { ⌜ InUse (now used) × OwnFits (now own) × ClientPart (now part) ⌝ }
     ensures { λ _. ⌜ Did (entering (used-in (now (used .entry))) (own-list (now (own .entry)))) (now (part .entry)) (now (part .exit)) ⌝ }
 {
     enter_used(part, used);
     enter_writes(part, own);
-    set_field(part, 1, 0);
+    set_field(part, OP_NUMBER, 0);
 }
 
 fn store_answer(mem: &mut [u8], sizes: Sizes, client: usize, own: &[u64], used: &[u64])
-    requires { ⌜ Store-in sizes (length (now mem)) × (client < sizes .clients) × InUse (now used) × OwnFits (now own) ⌝ }
-    ensures { λ _. ⌜ Does whole (block sizes) (inPart (at-client client) (entering (used-in (now (used .entry))) (own-list (now (own .entry))))) silent (view (now (mem .entry))) 0 (view (now (mem .exit))) ⌝ }
+    requires { ⌜ AtClient sizes (length (now mem)) client × InUse (now used) × OwnFits (now own) ⌝ }
+    ensures { λ _. ⌜ InClient sizes client (entering (used-in (now (used .entry))) (own-list (now (own .entry)))) (now (mem .entry))
+        (now (mem .exit)) ⌝ }
 {
     let at = 8 * client_at(sizes, client);
     enter_answer(&mut mem[at..], own, used);
@@ -56,16 +54,16 @@ fn store_answer(mem: &mut [u8], sizes: Sizes, client: usize, own: &[u64], used: 
 
 // The same of an operation that only reads: nothing enters the write set.
 fn enter_seen(part: &mut [u8], used: &[u64])
-    requires { ⌜ InUse (now used) × (7223 ≤ length (now part) / 8) ⌝ }
+    requires { ⌜ InUse (now used) × ClientPart (now part) ⌝ }
     ensures { λ _. ⌜ Did (entering (used-in (now (used .entry))) []) (now (part .entry)) (now (part .exit)) ⌝ }
 {
     enter_used(part, used);
-    set_field(part, 1, 0);
+    set_field(part, OP_NUMBER, 0);
 }
 
 fn store_seen(mem: &mut [u8], sizes: Sizes, client: usize, used: &[u64])
-    requires { ⌜ Store-in sizes (length (now mem)) × (client < sizes .clients) × InUse (now used) ⌝ }
-    ensures { λ _. ⌜ Does whole (block sizes) (inPart (at-client client) (entering (used-in (now (used .entry))) [])) silent (view (now (mem .entry))) 0 (view (now (mem .exit))) ⌝ }
+    requires { ⌜ AtClient sizes (length (now mem)) client × InUse (now used) ⌝ }
+    ensures { λ _. ⌜ InClient sizes client (entering (used-in (now (used .entry))) []) (now (mem .entry)) (now (mem .exit)) ⌝ }
 {
     let at = 8 * client_at(sizes, client);
     enter_seen(&mut mem[at..], used);
@@ -73,9 +71,9 @@ fn store_seen(mem: &mut [u8], sizes: Sizes, client: usize, used: &[u64])
 
 // A walk that stopped without an answer.
 fn unanswered(mem: &mut [u8], sizes: Sizes, client: usize, stop: Stop, used: &[u64]) -> Outcome
-    requires { ⌜ Store-in sizes (length (now mem)) × (client < sizes .clients) × Known sizes (view (now mem)) client × Waiting (of-client sizes (view (now mem)) client) ⌝ }
+    requires { ⌜ WaitingClient sizes (now mem) client ⌝ }
     requires stopped { ⌜ Stopped (tree-sizes sizes) (of-client sizes (view (now mem)) client) stop (now used) × (is-answer stop ≡ false) ⌝ }
-    ensures { λ r. ⌜ Meets sizes (λ m. work sizes m client) (view (now (mem .entry))) r (view (now (mem .exit))) ⌝ }
+    ensures { λ r. ⌜ Comes sizes (λ m. work sizes m client) (now (mem .entry)) r (now (mem .exit)) ⌝ }
 {
     match stop {
         Stop::Going => Outcome::Refused(10),
@@ -105,9 +103,9 @@ fn answered(stop: Stop) -> Outcome
 
 // Lookup, next and previous.
 fn look(mem: &mut [u8], sizes: Sizes, client: usize) -> Outcome
-    requires { ⌜ Store-in sizes (length (now mem)) × (client < sizes .clients) × Known sizes (view (now mem)) client × Waiting (of-client sizes (view (now mem)) client) ⌝ }
+    requires { ⌜ WaitingClient sizes (now mem) client ⌝ }
     requires reads { ⌜ only-reads (of-client sizes (view (now mem)) client op-number) ≡ true ⌝ }
-    ensures { λ r. ⌜ Meets sizes (λ m. work sizes m client) (view (now (mem .entry))) r (view (now (mem .exit))) ⌝ }
+    ensures { λ r. ⌜ Comes sizes (λ m. work sizes m client) (now (mem .entry)) r (now (mem .exit)) ⌝ }
 {
     let mut used = [0u64; 98];
     let stop = look_at(mem, sizes, client, &mut used);
@@ -121,9 +119,9 @@ fn look(mem: &mut [u8], sizes: Sizes, client: usize) -> Outcome
 
 // Insert, delete and migrate.
 fn change(mem: &mut [u8], sizes: Sizes, client: usize) -> Outcome
-    requires { ⌜ Store-in sizes (length (now mem)) × (client < sizes .clients) × Known sizes (view (now mem)) client × Waiting (of-client sizes (view (now mem)) client) ⌝ }
+    requires { ⌜ WaitingClient sizes (now mem) client ⌝ }
     requires writes { ⌜ only-reads (of-client sizes (view (now mem)) client op-number) ≡ false ⌝ }
-    ensures { λ r. ⌜ Meets sizes (λ m. work sizes m client) (view (now (mem .entry))) r (view (now (mem .exit))) ⌝ }
+    ensures { λ r. ⌜ Comes sizes (λ m. work sizes m client) (now (mem .entry)) r (now (mem .exit)) ⌝ }
 {
     let mut own = [0u64; 681];
     let mut used = [0u64; 98];
@@ -137,8 +135,8 @@ fn change(mem: &mut [u8], sizes: Sizes, client: usize) -> Outcome
 }
 
 pub fn work(mem: &mut [u8], sizes: Sizes, client: usize) -> Outcome
-    requires { ⌜ Store-in sizes (length (now mem)) × (client < sizes .clients) × Known sizes (view (now mem)) client × Waiting (of-client sizes (view (now mem)) client) ⌝ }
-    ensures { λ r. ⌜ Meets sizes (λ m. work sizes m client) (view (now (mem .entry))) r (view (now (mem .exit))) ⌝ }
+    requires { ⌜ WaitingClient sizes (now mem) client ⌝ }
+    ensures { λ r. ⌜ Comes sizes (λ m. work sizes m client) (now (mem .entry)) r (now (mem .exit)) ⌝ }
 {
     let reads = only_reads_at(mem, sizes, client);
     if reads {

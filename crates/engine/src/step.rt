@@ -11,7 +11,7 @@ ghost use Rattle.steps.specs.Passed.{Passed};
 ghost use Rattle.steps.specs.Steps.{step as rule};
 ghost use Rattle.kinds.specs.Parts.{Store-in, stored-in};
 ghost use Rattle.kinds.specs.Judge.{of-client};
-ghost use Rattle.kinds.specs.Kinds.{Meets};
+ghost use Rattle.kinds.specs.Kinds.{Comes};
 ghost use Rattle.engine.specs.Step.{rule-of, outcome-of, words-after};
 use crate::operate::work;
 use kinds::abort::give_up;
@@ -33,8 +33,9 @@ use steps::step::Step;
 
 // The rule of a step's kind.
 fn by_kind(mem: &mut [u8], sizes: Sizes, client: usize, step: Step, kind: Kind) -> Outcome
-    requires { ⌜ Store-in sizes (length (now mem)) × (client ≡ step .client) × (kind ≡ kind-of (step .kind)) × Passed sizes step (stored-in sizes (view (now mem))) × (client-fits (tree-sizes sizes) (of-client sizes (view (now mem)) client) ≡ true) ⌝ }
-    ensures { λ r. ⌜ Meets sizes (rule-of sizes client step kind) (view (now (mem .entry))) r (view (now (mem .exit))) ⌝ }
+    requires { ⌜ Store-in sizes (length (now mem)) × (client ≡ step .client) × (kind ≡ kind-of (step .kind)) × Passed sizes step
+        (stored-in sizes (view (now mem))) × (client-fits (tree-sizes sizes) (of-client sizes (view (now mem)) client) ≡ true) ⌝ }
+    ensures { λ r. ⌜ Comes sizes (rule-of sizes client step kind) (now (mem .entry)) r (now (mem .exit)) ⌝ }
 {
     match kind {
         Kind::Begin => begin(mem, sizes, client),
@@ -52,7 +53,7 @@ fn by_kind(mem: &mut [u8], sizes: Sizes, client: usize, step: Step, kind: Kind) 
 // Refusals 4 to 9, then 10 for the client's own state, then the rule.
 fn in_store(mem: &mut [u8], sizes: Sizes, step: Step) -> Outcome
     requires { ⌜ Store-in sizes (length (now mem)) ⌝ }
-    ensures { λ r. ⌜ Meets sizes (rule sizes step) (view (now (mem .entry))) r (view (now (mem .exit))) ⌝ }
+    ensures { λ r. ⌜ Comes sizes (rule sizes step) (now (mem .entry)) r (now (mem .exit)) ⌝ }
 {
     let number = refusal(mem, sizes, step);
     if number != 0 {

@@ -1,7 +1,7 @@
 // The walk of a client's waiting operation, over its part of the memory.
 ghost use mathlib.Core.Path.{_≡_};
 ghost use mathlib.Core.Bool.{true, false};
-ghost use Prim.Native.Nat.{_<_, _≤_};
+ghost use Prim.Native.Nat.{_≤_};
 ghost use lib.ListN.{length, getD};
 ghost use Rattle.memory.specs.Word.{view};
 ghost use Rattle.client.specs.Layout.{op-number};
@@ -9,7 +9,7 @@ ghost use Rattle.walk.specs.Stopped.{Waiting};
 ghost use Rattle.walk.specs.Look.{only-reads, Looks};
 ghost use Rattle.change.specs.Work.{Ready, Works};
 ghost use Rattle.steps.specs.Whole.{tree-sizes};
-ghost use Rattle.kinds.specs.Parts.{Store-in};
+ghost use Rattle.kinds.specs.Parts.{AtClient};
 ghost use Rattle.kinds.specs.Judge.{of-client};
 use change::work::work;
 use kinds::whole::client_at;
@@ -19,7 +19,7 @@ use walk::look::only_reads;
 use walk::walk::Stop;
 
 pub fn only_reads_at(mem: &[u8], sizes: Sizes, client: usize) -> bool
-    requires { ⌜ Store-in sizes (length (now mem)) × (client < sizes .clients) ⌝ }
+    requires { ⌜ AtClient sizes (length (now mem)) client ⌝ }
     ensures { λ r. ⌜ r ≡ only-reads (of-client sizes (view (now (mem .entry))) client op-number) ⌝ }
 {
     let at = 8 * client_at(sizes, client);
@@ -28,8 +28,9 @@ pub fn only_reads_at(mem: &[u8], sizes: Sizes, client: usize) -> bool
 
 // An operation that only reads: no list of own writes is lent, and the other one is empty.
 pub fn look_at(mem: &[u8], sizes: Sizes, client: usize, used: &mut [u64]) -> Stop
-    requires { ⌜ Store-in sizes (length (now mem)) × (client < sizes .clients) × (98 ≤ length (now used)) × (getD (now used) 0 0 ≡ 0) ⌝ }
-    requires waits { ⌜ Waiting (of-client sizes (view (now mem)) client) × (only-reads (of-client sizes (view (now mem)) client op-number) ≡ true) ⌝ }
+    requires { ⌜ AtClient sizes (length (now mem)) client × (98 ≤ length (now used)) × (getD (now used) 0 0 ≡ 0) ⌝ }
+    requires waits { ⌜ Waiting (of-client sizes (view (now mem)) client)
+        × (only-reads (of-client sizes (view (now mem)) client op-number) ≡ true) ⌝ }
     ensures { λ r. ⌜ Looks (tree-sizes sizes) (of-client sizes (view (now (mem .entry))) client) r (now (used .exit)) ⌝ }
 {
     let at = 8 * client_at(sizes, client);
@@ -38,8 +39,9 @@ pub fn look_at(mem: &[u8], sizes: Sizes, client: usize, used: &mut [u64]) -> Sto
 
 // One that writes: both lists are lent empty.
 pub fn walk_at(mem: &[u8], sizes: Sizes, client: usize, own: &mut [u64], used: &mut [u64]) -> Stop
-    requires { ⌜ Store-in sizes (length (now mem)) × (client < sizes .clients) × Ready (now own) (now used) ⌝ }
-    requires waits { ⌜ Waiting (of-client sizes (view (now mem)) client) × (only-reads (of-client sizes (view (now mem)) client op-number) ≡ false) ⌝ }
+    requires { ⌜ AtClient sizes (length (now mem)) client × Ready (now own) (now used) ⌝ }
+    requires waits { ⌜ Waiting (of-client sizes (view (now mem)) client)
+        × (only-reads (of-client sizes (view (now mem)) client op-number) ≡ false) ⌝ }
     ensures { λ r. ⌜ Works (tree-sizes sizes) (of-client sizes (view (now (mem .entry))) client) r (now (own .exit)) (now (used .exit)) ⌝ }
 {
     let at = 8 * client_at(sizes, client);

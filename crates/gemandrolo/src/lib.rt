@@ -46,7 +46,8 @@ pub extern "C" fn gemandrolo_open(
     clients: usize,
 ) -> u64
     ensures { λ r. ⌜ r ≡ open-refusal (length (now (mem .entry))) (sizes-of servers slots clients) ⌝ }
-    ensures words { λ _. ⌜ view (now (mem .exit)) ≡ words-opened (length (now (mem .entry))) (sizes-of servers slots clients) (view (now (mem .entry))) ⌝ }
+    ensures words { λ _. ⌜ view (now (mem .exit)) ≡ words-opened (length (now (mem .entry))) (sizes-of servers slots clients)
+        (view (now (mem .entry))) ⌝ }
 {
     let opening = open(
         mem,
@@ -75,10 +76,14 @@ pub extern "C" fn gemandrolo_step(
     a: &mut u64,
     b: &mut u64,
 ) -> u64
-    ensures { λ r. ⌜ r ≡ line (outcome-of (length (now (mem .entry))) (view (now (mem .entry))) (step-of kind client op key value server)) .outcome ⌝ }
-    ensures a { λ _. ⌜ now (a .exit) ≡ line (outcome-of (length (now (mem .entry))) (view (now (mem .entry))) (step-of kind client op key value server)) .a ⌝ }
-    ensures b { λ _. ⌜ now (b .exit) ≡ line (outcome-of (length (now (mem .entry))) (view (now (mem .entry))) (step-of kind client op key value server)) .b ⌝ }
-    ensures words { λ _. ⌜ view (now (mem .exit)) ≡ words-after (length (now (mem .entry))) (view (now (mem .entry))) (step-of kind client op key value server) ⌝ }
+    ensures { λ r. ⌜ r ≡ line
+        (outcome-of (length (now (mem .entry))) (view (now (mem .entry))) (step-of kind client op key value server)) .outcome ⌝ }
+    ensures a { λ _. ⌜ now (a .exit) ≡ line
+        (outcome-of (length (now (mem .entry))) (view (now (mem .entry))) (step-of kind client op key value server)) .a ⌝ }
+    ensures b { λ _. ⌜ now (b .exit) ≡ line
+        (outcome-of (length (now (mem .entry))) (view (now (mem .entry))) (step-of kind client op key value server)) .b ⌝ }
+    ensures words { λ _. ⌜ view (now (mem .exit)) ≡ words-after (length (now (mem .entry))) (view (now (mem .entry)))
+        (step-of kind client op key value server) ⌝ }
 {
     let outcome = step(
         mem,
@@ -102,8 +107,10 @@ pub extern "C" fn gemandrolo_step(
 #[no_mangle]
 pub extern "C" fn gemandrolo_run(mem: &mut [u8], steps: &[u64], out: &mut [u64]) -> usize
     ensures { λ r. ⌜ r ≡ length (now (steps .entry)) / 6 ⌝ }
-    ensures words { λ _. ⌜ view (now (mem .exit)) ≡ words-run (length (now (mem .entry))) (view (now (mem .entry))) (listed (now (steps .entry)) 0 (length (now (steps .entry)) / 6)) ⌝ }
-    ensures lines { λ _. ⌜ now (out .exit) ≡ lines (now (out .entry)) 0 (outcomes-run (length (now (mem .entry))) (view (now (mem .entry))) (listed (now (steps .entry)) 0 (length (now (steps .entry)) / 6))) ⌝ }
+    ensures words { λ _. ⌜ view (now (mem .exit)) ≡ words-run (length (now (mem .entry))) (view (now (mem .entry)))
+        (listed (now (steps .entry)) 0 (length (now (steps .entry)) / 6)) ⌝ }
+    ensures lines { λ _. ⌜ now (out .exit) ≡ lines (now (out .entry)) 0
+        (outcomes-run (length (now (mem .entry))) (view (now (mem .entry))) (listed (now (steps .entry)) 0 (length (now (steps .entry)) / 6))) ⌝ }
 {
     let n = steps.len() / 6;
     let mut i: usize = 0;

@@ -4,7 +4,7 @@ use mathlib.Core.List.{List}
 use Prim.Native.Nat.{ℕ, _-_, _<_}
 use lib.Dec.{eqb, leb}
 use Rattle.memory.specs.Bit.{bit}
-use Rattle.client.specs.Layout.{ClientWord, field, participants}
+use Rattle.client.specs.Layout.{ClientWord, participants, prepared, applied}
 use Rattle.client.specs.Record.{in-store}
 use Rattle.steps.specs.declared.sizes.Sizes.{Sizes}
 use Rattle.steps.specs.declared.step.Step.{Step}
@@ -25,8 +25,8 @@ unfoldable pub unknown-node : Sizes → Step → Bool
 unknown-node z k = (eqb (k .kind) 1 && eqb (k .op) 6) && not (in-store (tree-sizes z) (k .key))
 
 -- a participant that is not yet in the set of servers that the field has
-unfoldable pub left : (ClientWord → ℕ) → ℕ → ℕ → Bool
-left m done s = bit (m participants) s && not (bit (m (field done)) s)
+unfoldable pub left : (ClientWord → ℕ) → ClientWord → ℕ → Bool
+left m done s = bit (m participants) s && not (bit (m done) s)
 
 -- what a kind needs: the phase, the operation that waits, the server's turn
 unfoldable pub due : (ClientWord → ℕ) → ℕ → Kind → Bool
@@ -34,8 +34,8 @@ due m s Begin = false
 due m s Give = false
 due m s Work = false
 due m s Commit = false
-due m s Prepare = left m 6 s
-due m s Apply = left m 7 s
+due m s Prepare = left m prepared s
+due m s Apply = left m applied s
 due m s GiveUp = false
 due m s Lost = false
 due m s Unknown = false

@@ -3,29 +3,27 @@ ghost use Prim.Native.Nat.{_<_};
 ghost use lib.ListN.{length};
 ghost use Rattle.memory.specs.Word.{view};
 ghost use mathlib.Core.List.{[]};
-ghost use Rattle.layout.specs.Step.{Does, silent};
-ghost use Rattle.layout.specs.Part.{inPart};
 ghost use Rattle.client.specs.Lent.{InUse, used-in};
 ghost use Rattle.client.specs.Life as Life;
-ghost use Rattle.steps.specs.Whole.{client as at-client, whole, block};
 ghost use Rattle.steps.specs.Steps.{abort};
-ghost use Rattle.kinds.specs.Parts.{Store-in};
-ghost use Rattle.kinds.specs.Fits.{Known};
+ghost use Rattle.kinds.specs.Parts.{InWhole, InClient, AtClient};
+ghost use Rattle.kinds.specs.Fits.{KnownAt, KnownClient};
 ghost use Rattle.kinds.specs.Abort.{Freed, freeing, aborts};
-ghost use Rattle.kinds.specs.Kinds.{Meets};
+ghost use Rattle.kinds.specs.Kinds.{Comes};
 use crate::fits::abort_fits;
 use crate::judge::field_of;
 use crate::locks::Change;
 use crate::locks::change_all;
 use crate::whole::client_at;
 use client::life;
+use client::part::PREPARED;
 use memory::bits;
 use steps::outcome::Outcome;
 use steps::sizes::Sizes;
 
 // The locks at a server go, if the transaction is prepared there.
 fn unlock_at(mem: &mut [u8], sizes: Sizes, client: usize, prepared: u64, server: usize)
-    requires { ⌜ Store-in sizes (length (now mem)) × (client < sizes .clients) × (server < sizes .servers) × Known sizes (view (now mem)) client ⌝ }
+    requires { ⌜ KnownAt sizes (now mem) client server ⌝ }
     ensures { λ _. ⌜ Freed sizes client prepared server (view (now (mem .entry))) (view (now (mem .exit))) ⌝ }
 {
     if bits::has(prepared, server as u32) {
@@ -35,10 +33,10 @@ fn unlock_at(mem: &mut [u8], sizes: Sizes, client: usize, prepared: u64, server:
 
 // The locks at all servers at which the transaction is prepared.
 pub fn unlock_everywhere(mem: &mut [u8], sizes: Sizes, client: usize)
-    requires { ⌜ Store-in sizes (length (now mem)) × (client < sizes .clients) × Known sizes (view (now mem)) client ⌝ }
-    ensures { λ _. ⌜ Does whole (block sizes) (freeing sizes client) silent (view (now (mem .entry))) 0 (view (now (mem .exit))) ⌝ }
+    requires { ⌜ KnownClient sizes (now mem) client ⌝ }
+    ensures { λ _. ⌜ InWhole sizes (freeing sizes client) (now (mem .entry)) (now (mem .exit)) ⌝ }
 {
-    let prepared = field_of(mem, sizes, client, 6);
+    let prepared = field_of(mem, sizes, client, PREPARED);
     let n = sizes.servers;
     let mut s: usize = 0;
     while s < n {
@@ -49,8 +47,8 @@ pub fn unlock_everywhere(mem: &mut [u8], sizes: Sizes, client: usize)
 
 // Copies go and the transaction has ended.
 fn end_at(mem: &mut [u8], sizes: Sizes, client: usize, used: &[u64])
-    requires { ⌜ Store-in sizes (length (now mem)) × (client < sizes .clients) × InUse (now used) ⌝ }
-    ensures { λ _. ⌜ Does whole (block sizes) (inPart (at-client client) (Life.abort-part (used-in (now (used .entry))))) silent (view (now (mem .entry))) 0 (view (now (mem .exit))) ⌝ }
+    requires { ⌜ AtClient sizes (length (now mem)) client × InUse (now used) ⌝ }
+    ensures { λ _. ⌜ InClient sizes client (Life.abort-part (used-in (now (used .entry)))) (now (mem .entry)) (now (mem .exit)) ⌝ }
 {
     let at = 8 * client_at(sizes, client);
     life::abort(&mut mem[at..], used);
@@ -58,8 +56,8 @@ fn end_at(mem: &mut [u8], sizes: Sizes, client: usize, used: &[u64])
 
 // What an abort stores.
 pub fn store_abort(mem: &mut [u8], sizes: Sizes, client: usize, used: &[u64])
-    requires { ⌜ Store-in sizes (length (now mem)) × (client < sizes .clients) × Known sizes (view (now mem)) client × InUse (now used) ⌝ }
-    ensures { λ _. ⌜ Does whole (block sizes) (aborts sizes client (used-in (now (used .entry)))) silent (view (now (mem .entry))) 0 (view (now (mem .exit))) ⌝ }
+    requires { ⌜ KnownClient sizes (now mem) client × InUse (now used) ⌝ }
+    ensures { λ _. ⌜ InWhole sizes (aborts sizes client (used-in (now (used .entry)))) (now (mem .entry)) (now (mem .exit)) ⌝ }
 {
     unlock_everywhere(mem, sizes, client);
     end_at(mem, sizes, client, used);
@@ -67,8 +65,8 @@ pub fn store_abort(mem: &mut [u8], sizes: Sizes, client: usize, used: &[u64])
 
 // The transaction aborts for a reason; the copies in use are those of this step.
 pub fn abort(mem: &mut [u8], sizes: Sizes, client: usize, reason: u64, used: &[u64]) -> Outcome
-    requires { ⌜ Store-in sizes (length (now mem)) × (client < sizes .clients) × Known sizes (view (now mem)) client × InUse (now used) ⌝ }
-    ensures { λ r. ⌜ Meets sizes (λ m. abort sizes m client reason (used-in (now (used .entry)))) (view (now (mem .entry))) r (view (now (mem .exit))) ⌝ }
+    requires { ⌜ KnownClient sizes (now mem) client × InUse (now used) ⌝ }
+    ensures { λ r. ⌜ Comes sizes (λ m. abort sizes m client reason (used-in (now (used .entry)))) (now (mem .entry)) r (now (mem .exit)) ⌝ }
 {
     if abort_fits(mem, sizes, client) {
         store_abort(mem, sizes, client, used);
@@ -79,8 +77,8 @@ pub fn abort(mem: &mut [u8], sizes: Sizes, client: usize, reason: u64, used: &[u
 
 // And where a step uses no copies.
 pub fn abort_unused(mem: &mut [u8], sizes: Sizes, client: usize, reason: u64) -> Outcome
-    requires { ⌜ Store-in sizes (length (now mem)) × (client < sizes .clients) × Known sizes (view (now mem)) client ⌝ }
-    ensures { λ r. ⌜ Meets sizes (λ m. abort sizes m client reason []) (view (now (mem .entry))) r (view (now (mem .exit))) ⌝ }
+    requires { ⌜ KnownClient sizes (now mem) client ⌝ }
+    ensures { λ r. ⌜ Comes sizes (λ m. abort sizes m client reason []) (now (mem .entry)) r (now (mem .exit)) ⌝ }
 {
     let none = [0u64; 98];
     abort(mem, sizes, client, reason, &none)
@@ -88,8 +86,8 @@ pub fn abort_unused(mem: &mut [u8], sizes: Sizes, client: usize, reason: u64) ->
 
 // 6 give up
 pub fn give_up(mem: &mut [u8], sizes: Sizes, client: usize) -> Outcome
-    requires { ⌜ Store-in sizes (length (now mem)) × (client < sizes .clients) × Known sizes (view (now mem)) client ⌝ }
-    ensures { λ r. ⌜ Meets sizes (λ m. abort sizes m client 6 []) (view (now (mem .entry))) r (view (now (mem .exit))) ⌝ }
+    requires { ⌜ KnownClient sizes (now mem) client ⌝ }
+    ensures { λ r. ⌜ Comes sizes (λ m. abort sizes m client 6 []) (now (mem .entry)) r (now (mem .exit)) ⌝ }
 {
     abort_unused(mem, sizes, client, 6)
 }

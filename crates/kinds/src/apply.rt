@@ -1,18 +1,14 @@
 // 5 apply: "Apply writes and unlocks"; "The last apply ends the transaction and renews its copies".
 ghost use mathlib.Core.Path.{_≡_};
 ghost use mathlib.Core.Bool.{true};
-ghost use Prim.Native.Nat.{_<_};
 ghost use lib.ListN.{length};
 ghost use Rattle.memory.specs.Word.{view};
-ghost use Rattle.layout.specs.Step.{Does, silent};
-ghost use Rattle.layout.specs.Part.{inPart};
 ghost use Rattle.client.specs.Renew.{finish};
-ghost use Rattle.steps.specs.Whole.{client as at-client, whole, block};
 ghost use Rattle.steps.specs.Judge.{versions-fit};
 ghost use Rattle.steps.specs.Steps.{applied-at, apply};
-ghost use Rattle.kinds.specs.Parts.{AtClient, Store-in, stored-in};
-ghost use Rattle.kinds.specs.Fits.{Known};
-ghost use Rattle.kinds.specs.Kinds.{Meets};
+ghost use Rattle.kinds.specs.Parts.{AtClient, stored-in, InWhole, InClient};
+ghost use Rattle.kinds.specs.Fits.{KnownAt};
+ghost use Rattle.kinds.specs.Kinds.{Comes};
 ghost use Rattle.kinds.specs.Apply.{applies};
 use crate::course::is_last;
 use crate::course::note;
@@ -22,15 +18,16 @@ use crate::locks::change_all;
 use crate::versions::versions_fit;
 use crate::whole::client_at;
 use crate::writes::store_all;
+use client::part::APPLIED;
 use client::renew::finish;
 use steps::outcome::Outcome;
 use steps::sizes::Sizes;
 
 // What a server stores.
 fn store_server(mem: &mut [u8], sizes: Sizes, client: usize, server: usize)
-    requires { ⌜ Store-in sizes (length (now mem)) × (client < sizes .clients) × (server < sizes .servers) × Known sizes (view (now mem)) client ⌝ }
+    requires { ⌜ KnownAt sizes (now mem) client server ⌝ }
     requires fresh { ⌜ versions-fit sizes (stored-in sizes (view (now mem))) client ≡ true ⌝ }
-    ensures { λ _. ⌜ Does whole (block sizes) (applies sizes client server) silent (view (now (mem .entry))) 0 (view (now (mem .exit))) ⌝ }
+    ensures { λ _. ⌜ InWhole sizes (applies sizes client server) (now (mem .entry)) (now (mem .exit)) ⌝ }
 {
     store_all(mem, sizes, client, server);
     change_all(mem, sizes, client, server, Change::Unlock);
@@ -39,7 +36,7 @@ fn store_server(mem: &mut [u8], sizes: Sizes, client: usize, server: usize)
 // The transaction has ended.
 fn finish_at(mem: &mut [u8], sizes: Sizes, client: usize)
     requires { ⌜ AtClient sizes (length (now mem)) client ⌝ }
-    ensures { λ _. ⌜ Does whole (block sizes) (inPart (at-client client) finish) silent (view (now (mem .entry))) 0 (view (now (mem .exit))) ⌝ }
+    ensures { λ _. ⌜ InClient sizes client finish (now (mem .entry)) (now (mem .exit)) ⌝ }
 {
     let at = 8 * client_at(sizes, client);
     finish(&mut mem[at..]);
@@ -47,13 +44,13 @@ fn finish_at(mem: &mut [u8], sizes: Sizes, client: usize)
 
 // An apply where all that it reads is in range.
 pub fn apply_at(mem: &mut [u8], sizes: Sizes, client: usize, server: usize) -> Outcome
-    requires { ⌜ Store-in sizes (length (now mem)) × (client < sizes .clients) × (server < sizes .servers) × Known sizes (view (now mem)) client ⌝ }
+    requires { ⌜ KnownAt sizes (now mem) client server ⌝ }
     requires fresh { ⌜ versions-fit sizes (stored-in sizes (view (now mem))) client ≡ true ⌝ }
-    ensures { λ r. ⌜ Meets sizes (λ m. applied-at sizes m client server) (view (now (mem .entry))) r (view (now (mem .exit))) ⌝ }
+    ensures { λ r. ⌜ Comes sizes (λ m. applied-at sizes m client server) (now (mem .entry)) r (now (mem .exit)) ⌝ }
 {
-    let last = is_last(mem, sizes, client, 7, server);
+    let last = is_last(mem, sizes, client, APPLIED, server);
     store_server(mem, sizes, client, server);
-    note(mem, sizes, client, 7, server);
+    note(mem, sizes, client, APPLIED, server);
     if last {
         finish_at(mem, sizes, client);
         return Outcome::Committed;
@@ -62,8 +59,8 @@ pub fn apply_at(mem: &mut [u8], sizes: Sizes, client: usize, server: usize) -> O
 }
 
 pub fn apply(mem: &mut [u8], sizes: Sizes, client: usize, server: usize) -> Outcome
-    requires { ⌜ Store-in sizes (length (now mem)) × (client < sizes .clients) × (server < sizes .servers) × Known sizes (view (now mem)) client ⌝ }
-    ensures { λ r. ⌜ Meets sizes (λ m. apply sizes m client server) (view (now (mem .entry))) r (view (now (mem .exit))) ⌝ }
+    requires { ⌜ KnownAt sizes (now mem) client server ⌝ }
+    ensures { λ r. ⌜ Comes sizes (λ m. apply sizes m client server) (now (mem .entry)) r (now (mem .exit)) ⌝ }
 {
     if !unlock_fits(mem, sizes, client, server) {
         return Outcome::Refused(10);

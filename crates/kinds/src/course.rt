@@ -5,25 +5,23 @@ ghost use Prim.Native.Nat.{_≤_, _<_};
 ghost use lib.ListN.{length};
 ghost use Rattle.memory.specs.Bit.{putBit};
 ghost use Rattle.memory.specs.Word.{view};
-ghost use Rattle.layout.specs.Step.{Does, silent};
-ghost use Rattle.layout.specs.Part.{inPart};
-ghost use Rattle.client.specs.Layout.{field};
+ghost use Rattle.client.specs.Layout.{field, participants};
 ghost use Rattle.client.specs.Course.{noted};
-ghost use Rattle.steps.specs.Whole.{client as at-client, whole, block};
 ghost use Rattle.steps.specs.Steps.{covers};
-ghost use Rattle.kinds.specs.Parts.{Store-in};
+ghost use Rattle.kinds.specs.Parts.{InClient, AtClient, ClientAt};
 ghost use Rattle.kinds.specs.Judge.{of-client};
 ghost use Rattle.kinds.specs.Course.{covered, mark};
 use crate::judge::field_of;
 use crate::whole::client_at;
+use client::part::PARTICIPANTS;
 use client::part::set_field;
 use memory::bits;
 use steps::sizes::Sizes;
 
 // A field of a client becomes v.
 pub fn put_field(mem: &mut [u8], sizes: Sizes, client: usize, i: usize, v: u64)
-    requires { ⌜ Store-in sizes (length (now mem)) × (client < sizes .clients) × (i < 15) ⌝ }
-    ensures { λ _. ⌜ Does whole (block sizes) (inPart (at-client client) (mark i v)) silent (view (now (mem .entry))) 0 (view (now (mem .exit))) ⌝ }
+    requires { ⌜ AtClient sizes (length (now mem)) client × (i < 15) ⌝ }
+    ensures { λ _. ⌜ InClient sizes client (mark i v) (now (mem .entry)) (now (mem .exit)) ⌝ }
 {
     let at = 8 * client_at(sizes, client);
     set_field(&mut mem[at..], i, v);
@@ -31,8 +29,8 @@ pub fn put_field(mem: &mut [u8], sizes: Sizes, client: usize, i: usize, v: u64)
 
 // A server enters the set of servers that a client's field has.
 pub fn note(mem: &mut [u8], sizes: Sizes, client: usize, i: usize, server: usize)
-    requires { ⌜ Store-in sizes (length (now mem)) × (client < sizes .clients) × (server < sizes .servers) × (i < 15) ⌝ }
-    ensures { λ _. ⌜ Does whole (block sizes) (inPart (at-client client) (noted (field i) server)) silent (view (now (mem .entry))) 0 (view (now (mem .exit))) ⌝ }
+    requires { ⌜ ClientAt sizes (length (now mem)) client server × (i < 15) ⌝ }
+    ensures { λ _. ⌜ InClient sizes client (noted (field i) server) (now (mem .entry)) (now (mem .exit)) ⌝ }
 {
     let set = field_of(mem, sizes, client, i);
     put_field(mem, sizes, client, i, bits::with(set, server as u32));
@@ -67,10 +65,11 @@ fn covers(n: usize, set: u64, done: u64) -> bool
 
 // Are all participants in the field's set, once the server is?
 pub fn is_last(mem: &[u8], sizes: Sizes, client: usize, i: usize, server: usize) -> bool
-    requires { ⌜ Store-in sizes (length (now mem)) × (client < sizes .clients) × (server < sizes .servers) × (i < 15) ⌝ }
-    ensures { λ r. ⌜ r ≡ covers (sizes .servers) (of-client sizes (view (now (mem .entry))) client (field 5)) (putBit true (of-client sizes (view (now (mem .entry))) client (field i)) server) ⌝ }
+    requires { ⌜ ClientAt sizes (length (now mem)) client server × (i < 15) ⌝ }
+    ensures { λ r. ⌜ r ≡ covers (sizes .servers) (of-client sizes (view (now (mem .entry))) client participants)
+        (putBit true (of-client sizes (view (now (mem .entry))) client (field i)) server) ⌝ }
 {
-    let set = field_of(mem, sizes, client, 5);
+    let set = field_of(mem, sizes, client, PARTICIPANTS);
     let done = field_of(mem, sizes, client, i);
     covers(sizes.servers, set, bits::with(done, server as u32))
 }

@@ -1,16 +1,17 @@
 // "A fetch checks at that server what the transaction has read": the read set and the copies that came into use in the step.
 ghost use mathlib.Core.Path.{_≡_};
-ghost use Prim.Native.Nat.{_+_, _/_, _≤_, _<_};
+ghost use Prim.Native.Nat.{_+_, _<_};
 ghost use lib.ListN.{length, getD};
 ghost use Rattle.memory.specs.Word.{view};
 ghost use Rattle.server.specs.Object.{object-of, Has};
 ghost use Rattle.client.specs.declared.part.Set.the-variants.{Reads};
 ghost use Rattle.client.specs.Sets.{held, count};
 ghost use Rattle.client.specs.Lent.{InUse, used-in};
-ghost use Rattle.kinds.specs.Parts.{Store-in};
+ghost use Rattle.kinds.specs.Parts.{AtClient, ObjectAt, ObjectFor};
 ghost use Rattle.kinds.specs.Items.{as-item};
 ghost use Rattle.kinds.specs.Judge.{of-client};
 ghost use Rattle.kinds.specs.Fetch.{used-item, known-at, check-item, fetch-fault, items-fit, items-found, Checking, verdict-of, gate-of};
+ghost use Rattle.client.specs.Layout.{ClientPart};
 use crate::findings::Fault;
 use crate::findings::checked_at;
 use crate::findings::held_at;
@@ -24,6 +25,7 @@ use crate::judge::item_at;
 use crate::judge::lock_fits;
 use crate::whole::client_at;
 use client::lookup::copied;
+use client::part::READS_COUNT;
 use server::check::can_check;
 use server::lock::Use;
 use server::object::numbered;
@@ -31,7 +33,7 @@ use steps::sizes::Sizes;
 
 // A copy in use, as an object read.
 fn used_item(part: &[u8], number: u64) -> Item
-    requires { ⌜ (number < 16385) × (7223 ≤ length (now part) / 8) ⌝ }
+    requires { ⌜ (number < 16385) × ClientPart (now part) ⌝ }
     ensures { λ r. ⌜ as-item r ≡ used-item (held (now (part .entry))) number ⌝ }
 {
     let l = copied(part, number);
@@ -40,7 +42,7 @@ fn used_item(part: &[u8], number: u64) -> Item
 }
 
 fn used_at(mem: &[u8], sizes: Sizes, client: usize, number: u64) -> Item
-    requires { ⌜ Store-in sizes (length (now mem)) × (client < sizes .clients) × (number < 16385) ⌝ }
+    requires { ⌜ AtClient sizes (length (now mem)) client × (number < 16385) ⌝ }
     ensures { λ r. ⌜ as-item r ≡ used-item (of-client sizes (view (now (mem .entry))) client) number ⌝ }
 {
     let at = 8 * client_at(sizes, client);
@@ -49,7 +51,8 @@ fn used_at(mem: &[u8], sizes: Sizes, client: usize, number: u64) -> Item
 
 // Object i of those read: the read set's, then the copies in use.
 fn known_at(mem: &[u8], sizes: Sizes, client: usize, used: &[u64], i: usize) -> Item
-    requires { ⌜ Store-in sizes (length (now mem)) × (client < sizes .clients) × InUse (now used) × (i < count (of-client sizes (view (now mem)) client) Reads + getD (now used) 0 0) ⌝ }
+    requires { ⌜ AtClient sizes (length (now mem)) client × InUse (now used)
+        × (i < count (of-client sizes (view (now mem)) client) Reads + getD (now used) 0 0) ⌝ }
     ensures { λ r. ⌜ as-item r ≡ known-at (of-client sizes (view (now (mem .entry))) client) (used-in (now (used .entry))) i ⌝ }
 {
     let n = reads_of(mem, sizes, client);
@@ -62,7 +65,7 @@ fn known_at(mem: &[u8], sizes: Sizes, client: usize, used: &[u64], i: usize) -> 
 
 // What a check of the item reads at the server is in range, if the server can check it.
 fn item_checks(mem: &[u8], sizes: Sizes, server: usize, item: Item) -> bool
-    requires { ⌜ Store-in sizes (length (now mem)) × (server < sizes .servers) × Has (sizes .slots) (object-of (item .number)) ⌝ }
+    requires { ⌜ ObjectAt sizes (length (now mem)) server (item .number) ⌝ }
     ensures { λ r. ⌜ r ≡ check-item sizes (view (now (mem .entry))) server (as-item item) ⌝ }
 {
     let object = numbered(item.number);
@@ -74,7 +77,7 @@ fn item_checks(mem: &[u8], sizes: Sizes, server: usize, item: Item) -> bool
 
 // The reason that the check of an item finds; 0 if there is none, or the server can't check it.
 fn fetch_fault(mem: &[u8], sizes: Sizes, client: usize, server: usize, item: Item) -> u64
-    requires { ⌜ Store-in sizes (length (now mem)) × (server < sizes .servers) × (client < sizes .clients) × Has (sizes .slots) (object-of (item .number)) ⌝ }
+    requires { ⌜ ObjectFor sizes (length (now mem)) client server (item .number) ⌝ }
     ensures { λ r. ⌜ r ≡ fetch-fault sizes (view (now (mem .entry))) client server (as-item item) ⌝ }
 {
     let object = numbered(item.number);
@@ -132,7 +135,8 @@ pub enum Verdict {
 // "in the order metadata, nodes by name, flags by name"
 pub fn check_all(mem: &[u8], sizes: Sizes, client: usize, server: usize, used: &[u64]) -> Verdict
     requires { ⌜ Checking sizes (now mem) client server (now used) ⌝ }
-    ensures { λ r. ⌜ r ≡ verdict-of (items-fit sizes (view (now (mem .entry))) client server (used-in (now (used .entry)))) (items-found sizes (view (now (mem .entry))) client server (used-in (now (used .entry)))) ⌝ }
+    ensures { λ r. ⌜ r ≡ verdict-of (items-fit sizes (view (now (mem .entry))) client server (used-in (now (used .entry))))
+        (items-found sizes (view (now (mem .entry))) client server (used-in (now (used .entry)))) ⌝ }
 {
     if items_fit(mem, sizes, client, server, used) {
         let found = items_found(mem, sizes, client, server, used);
@@ -160,7 +164,7 @@ pub fn gate(
         if held_at(mem, sizes, server, number, client, Use::Fetch) {
             return Verdict::Fault(2);
         }
-        let read = field_of(mem, sizes, client, 10) as usize;
+        let read = field_of(mem, sizes, client, READS_COUNT) as usize;
         if 96 <= read + used[0] as usize {
             return Verdict::Fault(4);
         }

@@ -6,10 +6,10 @@ ghost use Rattle.memory.specs.Word.{view};
 ghost use Rattle.server.specs.Check.{checked, held, finding-reason};
 ghost use Rattle.server.specs.Object.{object-of, Has};
 ghost use Rattle.steps.specs.Uses.{use-of};
-ghost use Rattle.kinds.specs.Parts.{Store-in};
+ghost use Rattle.kinds.specs.Parts.{ObjectFor, ClientAt};
 ghost use Rattle.kinds.specs.Items.{as-item};
 ghost use Rattle.kinds.specs.Judge.{of-server};
-ghost use Rattle.kinds.specs.Fits.{Known};
+ghost use Rattle.kinds.specs.Fits.{KnownAt};
 ghost use Rattle.kinds.specs.Findings.{as-fault, later, prepare-reason, prepare-fault, prepare-found};
 use crate::fits::lowest;
 use crate::fits::reads_of;
@@ -77,8 +77,9 @@ pub fn checked_at(
     client: usize,
     wanted: Use,
 ) -> u64
-    requires { ⌜ Store-in sizes (length (now mem)) × (server < sizes .servers) × (client < sizes .clients) × Has (sizes .slots) (object-of (item .number)) ⌝ }
-    ensures { λ r. ⌜ r ≡ finding-reason (checked (object-of (item .number)) (item .inner) (item .mark) client wanted (of-server sizes (view (now (mem .entry))) server)) ⌝ }
+    requires { ⌜ ObjectFor sizes (length (now mem)) client server (item .number) ⌝ }
+    ensures { λ r. ⌜ r ≡ finding-reason
+        (checked (object-of (item .number)) (item .inner) (item .mark) client wanted (of-server sizes (view (now (mem .entry))) server)) ⌝ }
 {
     let at = 8 * server_at(sizes, server);
     let object = numbered(item.number);
@@ -104,7 +105,7 @@ pub fn held_at(
     client: usize,
     wanted: Use,
 ) -> bool
-    requires { ⌜ Store-in sizes (length (now mem)) × (server < sizes .servers) × (client < sizes .clients) × Has (sizes .slots) (object-of number) ⌝ }
+    requires { ⌜ ClientAt sizes (length (now mem)) client server × Has (sizes .slots) (object-of number) ⌝ }
     ensures { λ r. ⌜ r ≡ held (object-of number) client wanted (of-server sizes (view (now (mem .entry))) server) ⌝ }
 {
     let at = 8 * server_at(sizes, server);
@@ -121,7 +122,7 @@ fn prepare_reason(
     low: u64,
     item: Item,
 ) -> u64
-    requires { ⌜ Store-in sizes (length (now mem)) × (server < sizes .servers) × (client < sizes .clients) × Has (sizes .slots) (object-of (item .number)) ⌝ }
+    requires { ⌜ ObjectFor sizes (length (now mem)) client server (item .number) ⌝ }
     ensures { λ r. ⌜ r ≡ prepare-reason sizes (view (now (mem .entry))) client server low (as-item item) ⌝ }
 {
     if is_checked_at(item, low, server as u64) {
@@ -142,7 +143,7 @@ fn prepare_fault(
     low: u64,
     item: Item,
 ) -> u64
-    requires { ⌜ Store-in sizes (length (now mem)) × (server < sizes .servers) × (client < sizes .clients) × Has (sizes .slots) (object-of (item .number)) ⌝ }
+    requires { ⌜ ObjectFor sizes (length (now mem)) client server (item .number) ⌝ }
     ensures { λ r. ⌜ r ≡ prepare-fault sizes (view (now (mem .entry))) client server low (as-item item) ⌝ }
 {
     if is_locked_at(item, low, server as u64) {
@@ -153,7 +154,7 @@ fn prepare_fault(
 
 // The reason for which a prepare at a server aborts; 0 if there is none.
 pub fn prepare_finds(mem: &[u8], sizes: Sizes, client: usize, server: usize) -> u64
-    requires { ⌜ Store-in sizes (length (now mem)) × (client < sizes .clients) × (server < sizes .servers) × Known sizes (view (now mem)) client ⌝ }
+    requires { ⌜ KnownAt sizes (now mem) client server ⌝ }
     ensures { λ r. ⌜ r ≡ prepare-found sizes (view (now (mem .entry))) client server ⌝ }
 {
     let low = lowest(mem, sizes, client);

@@ -1,17 +1,16 @@
 // Refusal 10 for what a prepare, an apply and an abort read at servers, item by item.
 ghost use mathlib.Core.Path.{_≡_};
-ghost use Prim.Native.Nat.{_/_, _≤_, _<_};
+ghost use Prim.Native.Nat.{_≤_, _<_};
 ghost use lib.ListN.{length};
 ghost use Rattle.memory.specs.Word.{view};
-ghost use Rattle.server.specs.Object.{object-of, Has};
 ghost use Rattle.client.specs.declared.part.Set.the-variants.{Reads};
 ghost use Rattle.client.specs.Sets.{count};
 ghost use Rattle.client.specs.Participants.{lowest-of};
 ghost use Rattle.steps.specs.Judge.{lowest-participant, prepare-fits, unlock-fits, abort-fits};
-ghost use Rattle.kinds.specs.Parts.{AtClient, Store-in, stored-in};
+ghost use Rattle.kinds.specs.Parts.{AtClient, stored-in, ObjectAt};
 ghost use Rattle.kinds.specs.Items.{as-item};
 ghost use Rattle.kinds.specs.Judge.{of-client};
-ghost use Rattle.kinds.specs.Fits.{Known, prepare-item, unlock-item, unlocks-at};
+ghost use Rattle.kinds.specs.Fits.{prepare-item, unlock-item, unlocks-at, KnownAt, KnownClient};
 use crate::items::Item;
 use crate::items::is_checked_at;
 use crate::items::is_locked_at;
@@ -20,6 +19,8 @@ use crate::judge::field_of;
 use crate::judge::item_at;
 use crate::judge::lock_fits;
 use crate::whole::client_at;
+use client::part::PARTICIPANTS;
+use client::part::PREPARED;
 use client::part::Set;
 use client::part::count;
 use memory::bits;
@@ -55,13 +56,13 @@ pub fn lowest(mem: &[u8], sizes: Sizes, client: usize) -> u64
     requires { ⌜ AtClient sizes (length (now mem)) client ⌝ }
     ensures { λ r. ⌜ r ≡ lowest-participant sizes (stored-in sizes (view (now (mem .entry)))) client ⌝ }
 {
-    let set = field_of(mem, sizes, client, 5);
+    let set = field_of(mem, sizes, client, PARTICIPANTS);
     lowest_in(sizes.servers, set) as u64
 }
 
 // What a prepare at a server reads of an item there.
 fn item_prepares(mem: &[u8], sizes: Sizes, server: usize, lowest: u64, item: Item) -> bool
-    requires { ⌜ Store-in sizes (length (now mem)) × (server < sizes .servers) × Has (sizes .slots) (object-of (item .number)) ⌝ }
+    requires { ⌜ ObjectAt sizes (length (now mem)) server (item .number) ⌝ }
     ensures { λ r. ⌜ r ≡ prepare-item sizes (view (now (mem .entry))) lowest server (as-item item) ⌝ }
 {
     if is_locked_at(item, lowest, server as u64) {
@@ -75,7 +76,7 @@ fn item_prepares(mem: &[u8], sizes: Sizes, server: usize, lowest: u64, item: Ite
 
 // What is unlocked of an item at a server.
 fn item_unlocks(mem: &[u8], sizes: Sizes, server: usize, lowest: u64, item: Item) -> bool
-    requires { ⌜ Store-in sizes (length (now mem)) × (server < sizes .servers) × Has (sizes .slots) (object-of (item .number)) ⌝ }
+    requires { ⌜ ObjectAt sizes (length (now mem)) server (item .number) ⌝ }
     ensures { λ r. ⌜ r ≡ unlock-item sizes (view (now (mem .entry))) lowest server (as-item item) ⌝ }
 {
     if is_locked_at(item, lowest, server as u64) {
@@ -86,7 +87,7 @@ fn item_unlocks(mem: &[u8], sizes: Sizes, server: usize, lowest: u64, item: Item
 
 // Is what a prepare at a server reads there in range?
 pub fn prepare_fits(mem: &[u8], sizes: Sizes, client: usize, server: usize) -> bool
-    requires { ⌜ Store-in sizes (length (now mem)) × (client < sizes .clients) × (server < sizes .servers) × Known sizes (view (now mem)) client ⌝ }
+    requires { ⌜ KnownAt sizes (now mem) client server ⌝ }
     ensures { λ r. ⌜ r ≡ prepare-fits sizes (stored-in sizes (view (now (mem .entry)))) client server ⌝ }
 {
     let low = lowest(mem, sizes, client);
@@ -104,7 +105,7 @@ pub fn prepare_fits(mem: &[u8], sizes: Sizes, client: usize, server: usize) -> b
 
 // Are the locks that are given back at a server in range?
 pub fn unlock_fits(mem: &[u8], sizes: Sizes, client: usize, server: usize) -> bool
-    requires { ⌜ Store-in sizes (length (now mem)) × (client < sizes .clients) × (server < sizes .servers) × Known sizes (view (now mem)) client ⌝ }
+    requires { ⌜ KnownAt sizes (now mem) client server ⌝ }
     ensures { λ r. ⌜ r ≡ unlock-fits sizes (stored-in sizes (view (now (mem .entry)))) client server ⌝ }
 {
     let low = lowest(mem, sizes, client);
@@ -122,7 +123,7 @@ pub fn unlock_fits(mem: &[u8], sizes: Sizes, client: usize, server: usize) -> bo
 
 // And at a server, if the transaction is prepared there?
 fn server_unlocks(mem: &[u8], sizes: Sizes, client: usize, prepared: u64, server: usize) -> bool
-    requires { ⌜ Store-in sizes (length (now mem)) × (client < sizes .clients) × (server < sizes .servers) × Known sizes (view (now mem)) client ⌝ }
+    requires { ⌜ KnownAt sizes (now mem) client server ⌝ }
     ensures { λ r. ⌜ r ≡ unlocks-at sizes (view (now (mem .entry))) client prepared server ⌝ }
 {
     if bits::has(prepared, server as u32) {
@@ -133,10 +134,10 @@ fn server_unlocks(mem: &[u8], sizes: Sizes, client: usize, prepared: u64, server
 
 // And at every server at which the transaction is prepared?
 pub fn abort_fits(mem: &[u8], sizes: Sizes, client: usize) -> bool
-    requires { ⌜ Store-in sizes (length (now mem)) × (client < sizes .clients) × Known sizes (view (now mem)) client ⌝ }
+    requires { ⌜ KnownClient sizes (now mem) client ⌝ }
     ensures { λ r. ⌜ r ≡ abort-fits sizes (stored-in sizes (view (now (mem .entry)))) client ⌝ }
 {
-    let prepared = field_of(mem, sizes, client, 6);
+    let prepared = field_of(mem, sizes, client, PREPARED);
     let n = sizes.servers;
     let mut s: usize = 0;
     while s < n {

@@ -1,15 +1,12 @@
 // What a fetch hands over: the copies in use become read items, and then the object fetched.
-ghost use Prim.Native.Nat.{_/_, _≤_, _<_};
+ghost use Prim.Native.Nat.{_<_};
 ghost use lib.ListN.{length};
-ghost use Rattle.memory.specs.Word.{view};
-ghost use Rattle.layout.specs.Step.{Does, silent};
-ghost use Rattle.layout.specs.Part.{inPart};
 ghost use Rattle.client.specs.Part.{Did, _then_};
 ghost use Rattle.client.specs.Lent.{InUse, used-in};
 ghost use Rattle.client.specs.Answered.{used-enter};
 ghost use Rattle.client.specs.Fetched.{fetched-meta, fetched-node, fetched-vector};
-ghost use Rattle.steps.specs.Whole.{client as at-client, whole, block};
-ghost use Rattle.kinds.specs.Parts.{Store-in};
+ghost use Rattle.kinds.specs.Parts.{InClient, AtClient};
+ghost use Rattle.client.specs.Layout.{ClientPart};
 use crate::whole::client_at;
 use client::enter::enter_used;
 use client::fetched::fetched_meta;
@@ -19,15 +16,16 @@ use nodes::node::Node;
 use steps::sizes::Sizes;
 
 fn enter_meta(part: &mut [u8], used: &[u64], root: u64, version: u64)
-    requires { ⌜ InUse (now used) × (7223 ≤ length (now part) / 8) ⌝ }
-    ensures { λ _. ⌜ Did (used-enter (used-in (now (used .entry))) then fetched-meta root version) (now (part .entry)) (now (part .exit)) ⌝ }
+    requires { ⌜ InUse (now used) × ClientPart (now part) ⌝ }
+    ensures { λ _. ⌜ Did (used-enter (used-in (now (used .entry))) then fetched-meta root version) (now (part .entry))
+        (now (part .exit)) ⌝ }
 {
     enter_used(part, used);
     fetched_meta(part, root, version);
 }
 
 fn enter_node(part: &mut [u8], used: &[u64], name: u64, n: Node)
-    requires { ⌜ InUse (now used) × (name < 8192) × (7223 ≤ length (now part) / 8) ⌝ }
+    requires { ⌜ InUse (now used) × (name < 8192) × ClientPart (now part) ⌝ }
     ensures { λ _. ⌜ Did (used-enter (used-in (now (used .entry))) then fetched-node name n) (now (part .entry)) (now (part .exit)) ⌝ }
 {
     enter_used(part, used);
@@ -35,7 +33,7 @@ fn enter_node(part: &mut [u8], used: &[u64], name: u64, n: Node)
 }
 
 fn enter_vector(part: &mut [u8], used: &[u64], s: usize, words: [u64; 16])
-    requires { ⌜ InUse (now used) × (s < 8) × (7223 ≤ length (now part) / 8) ⌝ }
+    requires { ⌜ InUse (now used) × (s < 8) × ClientPart (now part) ⌝ }
     ensures { λ _. ⌜ Did (used-enter (used-in (now (used .entry))) then fetched-vector s words) (now (part .entry)) (now (part .exit)) ⌝ }
 {
     enter_used(part, used);
@@ -50,16 +48,18 @@ pub fn store_meta(
     root: u64,
     version: u64,
 )
-    requires { ⌜ Store-in sizes (length (now mem)) × (client < sizes .clients) × InUse (now used) ⌝ }
-    ensures { λ _. ⌜ Does whole (block sizes) (inPart (at-client client) (used-enter (used-in (now (used .entry))) then fetched-meta root version)) silent (view (now (mem .entry))) 0 (view (now (mem .exit))) ⌝ }
+    requires { ⌜ AtClient sizes (length (now mem)) client × InUse (now used) ⌝ }
+    ensures { λ _. ⌜ InClient sizes client (used-enter (used-in (now (used .entry))) then fetched-meta root version) (now (mem .entry))
+        (now (mem .exit)) ⌝ }
 {
     let at = 8 * client_at(sizes, client);
     enter_meta(&mut mem[at..], used, root, version);
 }
 
 pub fn store_node(mem: &mut [u8], sizes: Sizes, client: usize, used: &[u64], name: u64, n: Node)
-    requires { ⌜ Store-in sizes (length (now mem)) × (client < sizes .clients) × InUse (now used) × (name < 8192) ⌝ }
-    ensures { λ _. ⌜ Does whole (block sizes) (inPart (at-client client) (used-enter (used-in (now (used .entry))) then fetched-node name n)) silent (view (now (mem .entry))) 0 (view (now (mem .exit))) ⌝ }
+    requires { ⌜ AtClient sizes (length (now mem)) client × InUse (now used) × (name < 8192) ⌝ }
+    ensures { λ _. ⌜ InClient sizes client (used-enter (used-in (now (used .entry))) then fetched-node name n) (now (mem .entry))
+        (now (mem .exit)) ⌝ }
 {
     let at = 8 * client_at(sizes, client);
     enter_node(&mut mem[at..], used, name, n);
@@ -73,8 +73,9 @@ pub fn store_vector(
     s: usize,
     words: [u64; 16],
 )
-    requires { ⌜ Store-in sizes (length (now mem)) × (client < sizes .clients) × InUse (now used) × (s < 8) ⌝ }
-    ensures { λ _. ⌜ Does whole (block sizes) (inPart (at-client client) (used-enter (used-in (now (used .entry))) then fetched-vector s words)) silent (view (now (mem .entry))) 0 (view (now (mem .exit))) ⌝ }
+    requires { ⌜ AtClient sizes (length (now mem)) client × InUse (now used) × (s < 8) ⌝ }
+    ensures { λ _. ⌜ InClient sizes client (used-enter (used-in (now (used .entry))) then fetched-vector s words) (now (mem .entry))
+        (now (mem .exit)) ⌝ }
 {
     let at = 8 * client_at(sizes, client);
     enter_vector(&mut mem[at..], used, s, words);

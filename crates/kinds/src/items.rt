@@ -1,11 +1,11 @@
 // What a transaction has read, as servers are asked about it: which object is checked where, and which is locked.
 ghost use mathlib.Core.Path.{_≡_};
-ghost use Prim.Native.Nat.{_/_, _<_, _≤_};
-ghost use lib.ListN.{length};
+ghost use Prim.Native.Nat.{_<_};
 ghost use Rattle.client.specs.Record.{first-slot};
 ghost use Rattle.client.specs.Sets.{held};
 ghost use Rattle.steps.specs.Uses.{item-of, checked-at, locked-at};
 ghost use Rattle.kinds.specs.Items.{as-item, mark-of, read-item};
+ghost use Rattle.client.specs.Layout.{ClientPart};
 use client::items::has;
 use client::items::inner_in;
 use client::items::is_home;
@@ -43,7 +43,7 @@ fn mark_of(number: u64, node: Node) -> u64
 }
 
 pub fn item_of(part: &[u8], number: u64, node: Node) -> Item
-    requires { ⌜ 7223 ≤ length (now part) / 8 ⌝ }
+    requires { ⌜ ClientPart (now part) ⌝ }
     ensures { λ r. ⌜ as-item r ≡ item-of (held (now (part .entry))) number node ⌝ }
 {
     let inner = is_inner(number, node);
@@ -61,7 +61,7 @@ pub fn item_of(part: &[u8], number: u64, node: Node) -> Item
 
 // Item i of the read set.
 pub fn read_item(part: &[u8], i: usize) -> Item
-    requires { ⌜ (i < 96) × (7223 ≤ length (now part) / 8) ⌝ }
+    requires { ⌜ (i < 96) × ClientPart (now part) ⌝ }
     ensures { λ r. ⌜ as-item r ≡ read-item (held (now (part .entry))) i ⌝ }
 {
     let number = number_at(part, Set::Reads, i);

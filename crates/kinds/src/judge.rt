@@ -5,12 +5,12 @@ ghost use Prim.Native.Nat.{_<_};
 ghost use lib.ListN.{length};
 ghost use Rattle.memory.specs.Word.{view};
 ghost use Rattle.server.specs.Lock.{lock-in-range};
-ghost use Rattle.server.specs.Object.{object-of, lock-of, Has};
+ghost use Rattle.server.specs.Object.{object-of, lock-of};
 ghost use Rattle.client.specs.Items.{has, all-below};
 ghost use Rattle.client.specs.Layout.{field};
 ghost use Rattle.steps.specs.Whole.{server as at-server};
 ghost use Rattle.steps.specs.Judge.{commits, writes, holders-fit, check-fits};
-ghost use Rattle.kinds.specs.Parts.{AtClient, Store-in, stored-in};
+ghost use Rattle.kinds.specs.Parts.{AtClient, Store-in, stored-in, ObjectAt};
 ghost use Rattle.kinds.specs.Items.{as-item, read-item};
 ghost use Rattle.kinds.specs.Judge.{of-client, reader-fits, lock-at, sound-at};
 use crate::items::Item;
@@ -19,7 +19,11 @@ use crate::sizes::between;
 use crate::whole::client_at;
 use crate::whole::server_at;
 use client::items::has;
+use client::part::COMMITTING;
+use client::part::DECIDED;
+use client::part::PHASE;
 use client::part::Set;
+use client::part::WRITES_COUNT;
 use client::part::get_field;
 use memory::bits;
 use server::check::is_sound;
@@ -31,7 +35,7 @@ use steps::sizes::Sizes;
 
 // A field of a client.
 pub fn field_of(mem: &[u8], sizes: Sizes, client: usize, i: usize) -> u64
-    requires { ⌜ Store-in sizes (length (now mem)) × (client < sizes .clients) × (i < 15) ⌝ }
+    requires { ⌜ AtClient sizes (length (now mem)) client × (i < 15) ⌝ }
     ensures { λ r. ⌜ r ≡ of-client sizes (view (now (mem .entry))) client (field i) ⌝ }
 {
     let at = 8 * client_at(sizes, client);
@@ -49,7 +53,7 @@ pub fn has_item(mem: &[u8], sizes: Sizes, client: usize, set: Set, number: u64) 
 
 // Item i of a client's read set.
 pub fn item_at(mem: &[u8], sizes: Sizes, client: usize, i: usize) -> Item
-    requires { ⌜ Store-in sizes (length (now mem)) × (client < sizes .clients) × (i < 96) ⌝ }
+    requires { ⌜ AtClient sizes (length (now mem)) client × (i < 96) ⌝ }
     ensures { λ r. ⌜ as-item r ≡ read-item (of-client sizes (view (now (mem .entry))) client) i ⌝ }
 {
     let at = 8 * client_at(sizes, client);
@@ -61,8 +65,8 @@ fn commits(mem: &[u8], sizes: Sizes, client: usize) -> bool
     requires { ⌜ AtClient sizes (length (now mem)) client ⌝ }
     ensures { λ r. ⌜ r ≡ commits sizes (stored-in sizes (view (now (mem .entry)))) client ⌝ }
 {
-    let phase = field_of(mem, sizes, client, 0);
-    between(2, 3, phase)
+    let phase = field_of(mem, sizes, client, PHASE);
+    between(COMMITTING, DECIDED, phase)
 }
 
 // "or its write": is the object in the client's write set?
@@ -70,7 +74,7 @@ fn writes(mem: &[u8], sizes: Sizes, client: usize, number: u64) -> bool
     requires { ⌜ AtClient sizes (length (now mem)) client ⌝ }
     ensures { λ r. ⌜ r ≡ writes sizes (stored-in sizes (view (now (mem .entry)))) client number ⌝ }
 {
-    if field_of(mem, sizes, client, 11) <= 48 {
+    if field_of(mem, sizes, client, WRITES_COUNT) <= 48 {
         return has_item(mem, sizes, client, Set::Writes, number);
     }
     false
@@ -121,7 +125,7 @@ fn holders_fit(mem: &[u8], sizes: Sizes, number: u64, word: u64) -> bool
 
 // The word of an object's lock at a server.
 pub fn lock_word(mem: &[u8], sizes: Sizes, server: usize, number: u64) -> u64
-    requires { ⌜ Store-in sizes (length (now mem)) × (server < sizes .servers) × Has (sizes .slots) (object-of number) ⌝ }
+    requires { ⌜ ObjectAt sizes (length (now mem)) server number ⌝ }
     ensures { λ r. ⌜ r ≡ stored-in sizes (view (now (mem .entry))) (at-server server (lock-of (object-of number))) ⌝ }
 {
     let at = 8 * server_at(sizes, server);
@@ -131,7 +135,7 @@ pub fn lock_word(mem: &[u8], sizes: Sizes, server: usize, number: u64) -> u64
 
 // Is an object's lock at a server in range, and are its holders there?
 pub fn lock_fits(mem: &[u8], sizes: Sizes, server: usize, number: u64) -> bool
-    requires { ⌜ Store-in sizes (length (now mem)) × (server < sizes .servers) × Has (sizes .slots) (object-of number) ⌝ }
+    requires { ⌜ ObjectAt sizes (length (now mem)) server number ⌝ }
     ensures { λ r. ⌜ r ≡ lock-at sizes (view (now (mem .entry))) server number ⌝ }
 {
     let word = lock_word(mem, sizes, server, number);
@@ -143,7 +147,7 @@ pub fn lock_fits(mem: &[u8], sizes: Sizes, server: usize, number: u64) -> bool
 
 // Is what a check of the item reads at a server in range?
 fn is_sound_at(mem: &[u8], sizes: Sizes, server: usize, item: Item) -> bool
-    requires { ⌜ Store-in sizes (length (now mem)) × (server < sizes .servers) × Has (sizes .slots) (object-of (item .number)) ⌝ }
+    requires { ⌜ ObjectAt sizes (length (now mem)) server (item .number) ⌝ }
     ensures { λ r. ⌜ r ≡ sound-at sizes (view (now (mem .entry))) server (as-item item) ⌝ }
 {
     let at = 8 * server_at(sizes, server);
@@ -159,7 +163,7 @@ fn is_sound_at(mem: &[u8], sizes: Sizes, server: usize, item: Item) -> bool
 
 // What a check at a server reads, and its lock.
 pub fn check_fits(mem: &[u8], sizes: Sizes, server: usize, item: Item) -> bool
-    requires { ⌜ Store-in sizes (length (now mem)) × (server < sizes .servers) × Has (sizes .slots) (object-of (item .number)) ⌝ }
+    requires { ⌜ ObjectAt sizes (length (now mem)) server (item .number) ⌝ }
     ensures { λ r. ⌜ r ≡ check-fits sizes (stored-in sizes (view (now (mem .entry)))) server (as-item item) ⌝ }
 {
     if is_sound_at(mem, sizes, server, item) {

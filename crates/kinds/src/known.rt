@@ -1,11 +1,10 @@
 // Refusal 10 for the client's own state, read by every step of the client.
 ghost use mathlib.Core.Path.{_≡_};
-ghost use Prim.Native.Nat.{_<_};
 ghost use lib.ListN.{length};
 ghost use Rattle.memory.specs.Word.{view};
 ghost use Rattle.client.specs.Fits.{client-fits};
 ghost use Rattle.steps.specs.Whole.{tree-sizes};
-ghost use Rattle.kinds.specs.Parts.{AtClient, Store-in};
+ghost use Rattle.kinds.specs.Parts.{AtClient};
 ghost use Rattle.kinds.specs.Judge.{of-client};
 use crate::whole::client_at;
 use client::fits::client_fits;

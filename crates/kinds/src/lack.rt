@@ -10,11 +10,11 @@ ghost use Rattle.server.specs.HandOut.{metadata-at, metadata-sound, vector-at};
 ghost use Rattle.client.specs.Lent.{used-in};
 ghost use Rattle.steps.specs.declared.outcome.Outcome.the-variants.{Fetched};
 ghost use Rattle.steps.specs.Steps.{node-at, hand-over, fetch};
-ghost use Rattle.kinds.specs.Parts.{Store-in};
+ghost use Rattle.kinds.specs.Parts.{AtServer};
 ghost use Rattle.kinds.specs.Judge.{of-server};
 ghost use Rattle.kinds.specs.Fits.{Known};
 ghost use Rattle.kinds.specs.Fetch.{Checking};
-ghost use Rattle.kinds.specs.Kinds.{Meets};
+ghost use Rattle.kinds.specs.Kinds.{Comes};
 ghost use Rattle.kinds.specs.Lack.{There};
 use crate::abort::abort;
 use crate::fetch::Verdict;
@@ -34,7 +34,7 @@ use steps::outcome::Outcome;
 use steps::sizes::Sizes;
 
 fn meta_fits(mem: &[u8], sizes: Sizes, server: usize) -> bool
-    requires { ⌜ Store-in sizes (length (now mem)) × (server < sizes .servers) ⌝ }
+    requires { ⌜ AtServer sizes (length (now mem)) server ⌝ }
     ensures { λ r. ⌜ r ≡ metadata-sound (sizes .servers) (sizes .slots) (of-server sizes (view (now (mem .entry))) server) ⌝ }
 {
     let at = 8 * server_at(sizes, server);
@@ -42,7 +42,7 @@ fn meta_fits(mem: &[u8], sizes: Sizes, server: usize) -> bool
 }
 
 fn meta_of(mem: &[u8], sizes: Sizes, server: usize) -> Metadata
-    requires { ⌜ Store-in sizes (length (now mem)) × (server < sizes .servers) ⌝ }
+    requires { ⌜ AtServer sizes (length (now mem)) server ⌝ }
     ensures { λ r. ⌜ r ≡ metadata-at (of-server sizes (view (now (mem .entry))) server) ⌝ }
 {
     let at = 8 * server_at(sizes, server);
@@ -51,7 +51,8 @@ fn meta_of(mem: &[u8], sizes: Sizes, server: usize) -> Metadata
 
 fn hand_meta(mem: &mut [u8], sizes: Sizes, client: usize, server: usize, used: &[u64]) -> Outcome
     requires { ⌜ Checking sizes (now mem) client server (now used) × Known sizes (view (now mem)) client ⌝ }
-    ensures { λ r. ⌜ Meets sizes (λ m. hand-over sizes m client (used-in (now (used .entry))) (object meta) server (Fetched 0 0)) (view (now (mem .entry))) r (view (now (mem .exit))) ⌝ }
+    ensures { λ r. ⌜ Comes sizes (λ m. hand-over sizes m client (used-in (now (used .entry))) (object meta) server (Fetched 0 0))
+        (now (mem .entry)) r (now (mem .exit)) ⌝ }
 {
     if !meta_fits(mem, sizes, server) {
         return Outcome::Refused(10);
@@ -71,7 +72,8 @@ fn hand_meta(mem: &mut [u8], sizes: Sizes, client: usize, server: usize, used: &
 // The metadata is lacking.
 pub fn fetch_meta(mem: &mut [u8], sizes: Sizes, client: usize, used: &[u64]) -> Outcome
     requires { ⌜ Checking sizes (now mem) client (client % sizes .servers) (now used) × Known sizes (view (now mem)) client ⌝ }
-    ensures { λ r. ⌜ Meets sizes (λ m. fetch sizes m client (used-in (now (used .entry))) (object meta)) (view (now (mem .entry))) r (view (now (mem .exit))) ⌝ }
+    ensures { λ r. ⌜ Comes sizes (λ m. fetch sizes m client (used-in (now (used .entry))) (object meta)) (now (mem .entry)) r
+        (now (mem .exit)) ⌝ }
 {
     let server = client % sizes.servers;
     let v = check_all(mem, sizes, client, server, used);
@@ -84,7 +86,7 @@ pub fn fetch_meta(mem: &mut [u8], sizes: Sizes, client: usize, used: &[u64]) -> 
 
 // The node of that name, as its home has it.
 fn node_of(mem: &[u8], sizes: Sizes, server: usize, name: u64) -> Node
-    requires { ⌜ Store-in sizes (length (now mem)) × (server < sizes .servers) × (slot-of name < sizes .slots) ⌝ }
+    requires { ⌜ AtServer sizes (length (now mem)) server × (slot-of name < sizes .slots) ⌝ }
     ensures { λ r. ⌜ r ≡ node-at (of-server sizes (view (now (mem .entry))) server) name ⌝ }
 {
     let at = 8 * server_at(sizes, server);
@@ -101,7 +103,9 @@ fn hand_node(
     used: &[u64],
 ) -> Outcome
     requires { ⌜ Checking sizes (now mem) client server (now used) × Known sizes (view (now mem)) client × There sizes name ⌝ }
-    ensures { λ r. ⌜ Meets sizes (λ m. hand-over sizes m client (used-in (now (used .entry))) (object (node name)) server (Fetched 1 name)) (view (now (mem .entry))) r (view (now (mem .exit))) ⌝ }
+    ensures { λ r. ⌜ Comes sizes
+        (λ m. hand-over sizes m client (used-in (now (used .entry))) (object (node name)) server (Fetched 1 name)) (now (mem .entry)) r
+        (now (mem .exit)) ⌝ }
 {
     let n = node_of(mem, sizes, server, name);
     if !n.in_range() {
@@ -122,7 +126,8 @@ fn hand_node(
 // A node is lacking.
 pub fn fetch_node(mem: &mut [u8], sizes: Sizes, client: usize, name: u64, used: &[u64]) -> Outcome
     requires { ⌜ Checking sizes (now mem) client (server-of name) (now used) × Known sizes (view (now mem)) client × There sizes name ⌝ }
-    ensures { λ r. ⌜ Meets sizes (λ m. fetch sizes m client (used-in (now (used .entry))) (object (node name))) (view (now (mem .entry))) r (view (now (mem .exit))) ⌝ }
+    ensures { λ r. ⌜ Comes sizes (λ m. fetch sizes m client (used-in (now (used .entry))) (object (node name))) (now (mem .entry)) r
+        (now (mem .exit)) ⌝ }
 {
     let server = (name / 1024) as usize;
     let v = check_all(mem, sizes, client, server, used);
@@ -134,7 +139,7 @@ pub fn fetch_node(mem: &mut [u8], sizes: Sizes, client: usize, name: u64, used: 
 }
 
 fn vector_of(mem: &[u8], sizes: Sizes, server: usize) -> [u64; 16]
-    requires { ⌜ Store-in sizes (length (now mem)) × (server < sizes .servers) ⌝ }
+    requires { ⌜ AtServer sizes (length (now mem)) server ⌝ }
     ensures { λ r. ⌜ r ≡ vector-at (of-server sizes (view (now (mem .entry))) server) ⌝ }
 {
     let at = 8 * server_at(sizes, server);
@@ -150,7 +155,8 @@ pub fn fetch_vector(
     used: &[u64],
 ) -> Outcome
     requires { ⌜ Checking sizes (now mem) client server (now used) × Known sizes (view (now mem)) client ⌝ }
-    ensures { λ r. ⌜ Meets sizes (λ m. fetch sizes m client (used-in (now (used .entry))) (vector server)) (view (now (mem .entry))) r (view (now (mem .exit))) ⌝ }
+    ensures { λ r. ⌜ Comes sizes (λ m. fetch sizes m client (used-in (now (used .entry))) (vector server)) (now (mem .entry)) r
+        (now (mem .exit)) ⌝ }
 {
     let v = check_all(mem, sizes, client, server, used);
     match v {

@@ -2,15 +2,12 @@
 ghost use Prim.Native.Nat.{_<_};
 ghost use lib.ListN.{length};
 ghost use Rattle.memory.specs.Word.{view};
-ghost use Rattle.layout.specs.Step.{Does, silent};
-ghost use Rattle.layout.specs.Part.{inPart};
-ghost use Rattle.server.specs.Object.{object-of, Has};
+ghost use Rattle.server.specs.Object.{object-of};
 ghost use Rattle.server.specs.Store.{lock-step, unlock-step};
-ghost use Rattle.steps.specs.Whole.{server as at-server, whole, block};
 ghost use Rattle.steps.specs.Uses.{locked-at};
-ghost use Rattle.kinds.specs.Parts.{Store-in};
+ghost use Rattle.kinds.specs.Parts.{InServer, InWhole, ObjectFor, ClientAt};
 ghost use Rattle.kinds.specs.Items.{as-item};
-ghost use Rattle.kinds.specs.Fits.{Known};
+ghost use Rattle.kinds.specs.Fits.{KnownAt};
 ghost use Rattle.kinds.specs.Locks.{rule, passing, changes, Knows, Turn};
 use crate::fits::lowest;
 use crate::fits::reads_of;
@@ -30,8 +27,8 @@ pub enum Change {
 
 // A client locks the object of that number at a server.
 fn lock_at(mem: &mut [u8], sizes: Sizes, client: usize, server: usize, number: u64, writing: bool)
-    requires { ⌜ Store-in sizes (length (now mem)) × (client < sizes .clients) × (server < sizes .servers) × Has (sizes .slots) (object-of number) ⌝ }
-    ensures { λ _. ⌜ Does whole (block sizes) (inPart (at-server server) (lock-step (object-of number) writing client)) silent (view (now (mem .entry))) 0 (view (now (mem .exit))) ⌝ }
+    requires { ⌜ ObjectFor sizes (length (now mem)) client server number ⌝ }
+    ensures { λ _. ⌜ InServer sizes server (lock-step (object-of number) writing client) (now (mem .entry)) (now (mem .exit)) ⌝ }
 {
     let at = 8 * server_at(sizes, server);
     let object = numbered(number);
@@ -40,8 +37,8 @@ fn lock_at(mem: &mut [u8], sizes: Sizes, client: usize, server: usize, number: u
 
 // Its lock goes.
 fn unlock_at(mem: &mut [u8], sizes: Sizes, client: usize, server: usize, number: u64)
-    requires { ⌜ Store-in sizes (length (now mem)) × (client < sizes .clients) × (server < sizes .servers) × Has (sizes .slots) (object-of number) ⌝ }
-    ensures { λ _. ⌜ Does whole (block sizes) (inPart (at-server server) (unlock-step (object-of number) client)) silent (view (now (mem .entry))) 0 (view (now (mem .exit))) ⌝ }
+    requires { ⌜ ObjectFor sizes (length (now mem)) client server number ⌝ }
+    ensures { λ _. ⌜ InServer sizes server (unlock-step (object-of number) client) (now (mem .entry)) (now (mem .exit)) ⌝ }
 {
     let at = 8 * server_at(sizes, server);
     let object = numbered(number);
@@ -49,8 +46,8 @@ fn unlock_at(mem: &mut [u8], sizes: Sizes, client: usize, server: usize, number:
 }
 
 fn change_at(mem: &mut [u8], sizes: Sizes, client: usize, server: usize, change: Change, item: Item)
-    requires { ⌜ Store-in sizes (length (now mem)) × (client < sizes .clients) × (server < sizes .servers) × Has (sizes .slots) (object-of (item .number)) ⌝ }
-    ensures { λ _. ⌜ Does whole (block sizes) (inPart (at-server server) (rule change client (as-item item))) silent (view (now (mem .entry))) 0 (view (now (mem .exit))) ⌝ }
+    requires { ⌜ ObjectFor sizes (length (now mem)) client server (item .number) ⌝ }
+    ensures { λ _. ⌜ InServer sizes server (rule change client (as-item item)) (now (mem .entry)) (now (mem .exit)) ⌝ }
 {
     match change {
         Change::Lock => lock_at(mem, sizes, client, server, item.number, item.written),
@@ -68,8 +65,9 @@ fn change_item(
     change: Change,
     item: Item,
 )
-    requires { ⌜ Store-in sizes (length (now mem)) × (client < sizes .clients) × (server < sizes .servers) × Has (sizes .slots) (object-of (item .number)) ⌝ }
-    ensures { λ _. ⌜ Does whole (block sizes) (inPart (at-server server) (passing (locked-at low server) (rule change client) (as-item item))) silent (view (now (mem .entry))) 0 (view (now (mem .exit))) ⌝ }
+    requires { ⌜ ObjectFor sizes (length (now mem)) client server (item .number) ⌝ }
+    ensures { λ _. ⌜ InServer sizes server (passing (locked-at low server) (rule change client) (as-item item)) (now (mem .entry))
+        (now (mem .exit)) ⌝ }
 {
     if is_locked_at(item, low, server as u64) {
         change_at(mem, sizes, client, server, change, item);
@@ -86,7 +84,7 @@ fn change_nth(
     change: Change,
     i: usize,
 )
-    requires { ⌜ Store-in sizes (length (now mem)) × (client < sizes .clients) × (server < sizes .servers) × (i < 96) × Knows sizes (view (now mem)) client i ⌝ }
+    requires { ⌜ ClientAt sizes (length (now mem)) client server × (i < 96) × Knows sizes (view (now mem)) client i ⌝ }
     ensures { λ _. ⌜ Turn sizes client server change low i (view (now (mem .entry))) (view (now (mem .exit))) ⌝ }
 {
     let item = item_at(mem, sizes, client, i);
@@ -95,8 +93,8 @@ fn change_nth(
 
 // The locks of all objects that are locked at the server.
 pub fn change_all(mem: &mut [u8], sizes: Sizes, client: usize, server: usize, change: Change)
-    requires { ⌜ Store-in sizes (length (now mem)) × (client < sizes .clients) × (server < sizes .servers) × Known sizes (view (now mem)) client ⌝ }
-    ensures { λ _. ⌜ Does whole (block sizes) (changes sizes client server change) silent (view (now (mem .entry))) 0 (view (now (mem .exit))) ⌝ }
+    requires { ⌜ KnownAt sizes (now mem) client server ⌝ }
+    ensures { λ _. ⌜ InWhole sizes (changes sizes client server change) (now (mem .entry)) (now (mem .exit)) ⌝ }
 {
     let low = lowest(mem, sizes, client);
     let n = reads_of(mem, sizes, client);

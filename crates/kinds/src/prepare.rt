@@ -1,19 +1,16 @@
 // 4 prepare: "Prepare checks and locks"; "The last prepare is the decision"; "With one participant the prepare also applies".
 ghost use mathlib.Core.Path.{_≡_};
 ghost use mathlib.Core.Bool.{true};
-ghost use Prim.Native.Nat.{_<_};
 ghost use lib.Dec.{eqb};
 ghost use lib.ListN.{length};
 ghost use Rattle.memory.specs.Bit.{putBit};
 ghost use Rattle.memory.specs.Word.{view};
-ghost use Rattle.layout.specs.Step.{Does, silent};
-ghost use Rattle.client.specs.Layout.{field};
-ghost use Rattle.steps.specs.Whole.{whole, block};
+ghost use Rattle.client.specs.Layout.{participants};
 ghost use Rattle.steps.specs.Steps.{prepared-at, prepare};
-ghost use Rattle.kinds.specs.Parts.{Store-in};
+ghost use Rattle.kinds.specs.Parts.{InWhole, ClientAt};
 ghost use Rattle.kinds.specs.Judge.{of-client};
-ghost use Rattle.kinds.specs.Fits.{Known};
-ghost use Rattle.kinds.specs.Kinds.{Meets};
+ghost use Rattle.kinds.specs.Fits.{KnownAt};
+ghost use Rattle.kinds.specs.Kinds.{Comes};
 ghost use Rattle.kinds.specs.Prepare.{prepares, decides, applies-too};
 use crate::abort::abort_unused;
 use crate::apply::apply_at;
@@ -26,41 +23,45 @@ use crate::judge::field_of;
 use crate::locks::Change;
 use crate::locks::change_all;
 use crate::versions::versions_fit;
+use client::part::DECIDED;
+use client::part::PARTICIPANTS;
+use client::part::PHASE;
+use client::part::PREPARED;
 use memory::bits;
 use steps::outcome::Outcome;
 use steps::sizes::Sizes;
 
 // The locks, and the note that this server has prepared.
 fn lock_server(mem: &mut [u8], sizes: Sizes, client: usize, server: usize)
-    requires { ⌜ Store-in sizes (length (now mem)) × (client < sizes .clients) × (server < sizes .servers) × Known sizes (view (now mem)) client ⌝ }
-    ensures { λ _. ⌜ Does whole (block sizes) (prepares sizes client server) silent (view (now (mem .entry))) 0 (view (now (mem .exit))) ⌝ }
+    requires { ⌜ KnownAt sizes (now mem) client server ⌝ }
+    ensures { λ _. ⌜ InWhole sizes (prepares sizes client server) (now (mem .entry)) (now (mem .exit)) ⌝ }
 {
     change_all(mem, sizes, client, server, Change::Lock);
-    note(mem, sizes, client, 6, server);
+    note(mem, sizes, client, PREPARED, server);
 }
 
 // And the decision.
 fn decide(mem: &mut [u8], sizes: Sizes, client: usize, server: usize)
-    requires { ⌜ Store-in sizes (length (now mem)) × (client < sizes .clients) × (server < sizes .servers) × Known sizes (view (now mem)) client ⌝ }
-    ensures { λ _. ⌜ Does whole (block sizes) (decides sizes client server) silent (view (now (mem .entry))) 0 (view (now (mem .exit))) ⌝ }
+    requires { ⌜ KnownAt sizes (now mem) client server ⌝ }
+    ensures { λ _. ⌜ InWhole sizes (decides sizes client server) (now (mem .entry)) (now (mem .exit)) ⌝ }
 {
     lock_server(mem, sizes, client, server);
-    put_field(mem, sizes, client, 0, 3);
+    put_field(mem, sizes, client, PHASE, DECIDED);
 }
 
 // Is the server the only participant?
 fn is_only(mem: &[u8], sizes: Sizes, client: usize, server: usize) -> bool
-    requires { ⌜ Store-in sizes (length (now mem)) × (client < sizes .clients) × (server < sizes .servers) ⌝ }
-    ensures { λ r. ⌜ r ≡ eqb (of-client sizes (view (now (mem .entry))) client (field 5)) (putBit true 0 server) ⌝ }
+    requires { ⌜ ClientAt sizes (length (now mem)) client server ⌝ }
+    ensures { λ r. ⌜ r ≡ eqb (of-client sizes (view (now (mem .entry))) client participants) (putBit true 0 server) ⌝ }
 {
-    let servers = field_of(mem, sizes, client, 5);
+    let servers = field_of(mem, sizes, client, PARTICIPANTS);
     servers == bits::with(0, server as u32)
 }
 
 // The prepare of the only participant decides and applies.
 fn apply_too(mem: &mut [u8], sizes: Sizes, client: usize, server: usize) -> Outcome
-    requires { ⌜ Store-in sizes (length (now mem)) × (client < sizes .clients) × (server < sizes .servers) × Known sizes (view (now mem)) client ⌝ }
-    ensures { λ r. ⌜ Meets sizes (applies-too sizes client server) (view (now (mem .entry))) r (view (now (mem .exit))) ⌝ }
+    requires { ⌜ KnownAt sizes (now mem) client server ⌝ }
+    ensures { λ r. ⌜ Comes sizes (applies-too sizes client server) (now (mem .entry)) r (now (mem .exit)) ⌝ }
 {
     if !versions_fit(mem, sizes, client) {
         return Outcome::Refused(10);
@@ -71,10 +72,10 @@ fn apply_too(mem: &mut [u8], sizes: Sizes, client: usize, server: usize) -> Outc
 
 // A prepare that finds no fault.
 fn prepare_at(mem: &mut [u8], sizes: Sizes, client: usize, server: usize) -> Outcome
-    requires { ⌜ Store-in sizes (length (now mem)) × (client < sizes .clients) × (server < sizes .servers) × Known sizes (view (now mem)) client ⌝ }
-    ensures { λ r. ⌜ Meets sizes (λ m. prepared-at sizes m client server) (view (now (mem .entry))) r (view (now (mem .exit))) ⌝ }
+    requires { ⌜ KnownAt sizes (now mem) client server ⌝ }
+    ensures { λ r. ⌜ Comes sizes (λ m. prepared-at sizes m client server) (now (mem .entry)) r (now (mem .exit)) ⌝ }
 {
-    if !is_last(mem, sizes, client, 6, server) {
+    if !is_last(mem, sizes, client, PREPARED, server) {
         lock_server(mem, sizes, client, server);
         return Outcome::Prepared(server as u64);
     }
@@ -86,8 +87,8 @@ fn prepare_at(mem: &mut [u8], sizes: Sizes, client: usize, server: usize) -> Out
 }
 
 pub fn prepare(mem: &mut [u8], sizes: Sizes, client: usize, server: usize) -> Outcome
-    requires { ⌜ Store-in sizes (length (now mem)) × (client < sizes .clients) × (server < sizes .servers) × Known sizes (view (now mem)) client ⌝ }
-    ensures { λ r. ⌜ Meets sizes (λ m. prepare sizes m client server) (view (now (mem .entry))) r (view (now (mem .exit))) ⌝ }
+    requires { ⌜ KnownAt sizes (now mem) client server ⌝ }
+    ensures { λ r. ⌜ Comes sizes (λ m. prepare sizes m client server) (now (mem .entry)) r (now (mem .exit)) ⌝ }
 {
     if !prepare_fits(mem, sizes, client, server) {
         return Outcome::Refused(10);

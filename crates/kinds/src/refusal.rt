@@ -1,16 +1,26 @@
 // "Steps refused": 1 to 9. "A refused step returns the first number that holds and changes no byte".
 ghost use mathlib.Core.Path.{_≡_};
-ghost use Prim.Native.Nat.{_/_, _<_, _≤_};
+ghost use Prim.Native.Nat.{_<_};
 ghost use lib.ListN.{length};
 ghost use Rattle.memory.specs.Word.{view};
 ghost use Rattle.client.specs.Sets.{held};
 ghost use Rattle.steps.specs.Refusal.{kind-of, open-refusal, refusal, state-fits};
 ghost use Rattle.kinds.specs.Parts.{Store-in, stored-in};
 ghost use Rattle.kinds.specs.Refusal.{unknown-op, unknown-server, unknown-node, left, due, fitting, unfit, Sited};
+ghost use Rattle.client.specs.Layout.{ClientPart, field};
 use crate::sizes::allowed;
 use crate::sizes::between;
 use crate::whole::client_at;
 use crate::whole::words_for;
+use client::part::APPLIED;
+use client::part::COMMITTING;
+use client::part::DECIDED;
+use client::part::NO_TRANSACTION;
+use client::part::OP_NUMBER;
+use client::part::OPEN;
+use client::part::PARTICIPANTS;
+use client::part::PHASE;
+use client::part::PREPARED;
 use client::part::get_field;
 use client::range::in_store;
 use memory::bits;
@@ -97,11 +107,11 @@ fn has_unknown_node(sizes: Sizes, step: Step) -> bool
 
 // Is a server a participant that is not in the set of the field `done` yet?
 fn is_unfinished(part: &[u8], done: usize, server: u64) -> bool
-    requires { ⌜ (server < 8) × (done < 15) × (7223 ≤ length (now part) / 8) ⌝ }
-    ensures { λ r. ⌜ r ≡ left (held (now (part .entry))) done server ⌝ }
+    requires { ⌜ (server < 8) × (done < 15) × ClientPart (now part) ⌝ }
+    ensures { λ r. ⌜ r ≡ left (held (now (part .entry))) (field done) server ⌝ }
 {
     let s = server as u32;
-    if bits::has(get_field(part, 5), s) {
+    if bits::has(get_field(part, PARTICIPANTS), s) {
         return !bits::has(get_field(part, done), s);
     }
     false
@@ -109,7 +119,7 @@ fn is_unfinished(part: &[u8], done: usize, server: u64) -> bool
 
 // Is a prepare or an apply still to come at the server?
 fn is_due(part: &[u8], kind: Kind, server: u64) -> bool
-    requires { ⌜ Sited kind server × (7223 ≤ length (now part) / 8) ⌝ }
+    requires { ⌜ Sited kind server × ClientPart (now part) ⌝ }
     ensures { λ r. ⌜ r ≡ due (held (now (part .entry))) server kind ⌝ }
 {
     match kind {
@@ -117,27 +127,26 @@ fn is_due(part: &[u8], kind: Kind, server: u64) -> bool
         Kind::Give => false,
         Kind::Work => false,
         Kind::Commit => false,
-        Kind::Prepare => is_unfinished(part, 6, server),
-        Kind::Apply => is_unfinished(part, 7, server),
+        Kind::Prepare => is_unfinished(part, PREPARED, server),
+        Kind::Apply => is_unfinished(part, APPLIED, server),
         Kind::GiveUp => false,
         Kind::Lost => false,
         Kind::Unknown => false,
     }
 }
 
-// 9: does the state fit? Phase 0 is no transaction, 1 an open one, 2 one after its commit, 3 one after its decision; op is the
-// number of the operation that waits.
+// 9: does the state fit? op is the number of the operation that waits.
 fn is_fitting(kind: Kind, phase: u64, op: u64, due: bool) -> bool
     ensures { λ r. ⌜ r ≡ fitting kind phase op due ⌝ }
 {
     match kind {
-        Kind::Begin => phase == 0,
-        Kind::Give => phase == 1 && op == 0,
-        Kind::Work => phase == 1 && op != 0,
-        Kind::Commit => phase == 1 && op == 0,
-        Kind::Prepare => phase == 2 && due,
-        Kind::Apply => phase == 3 && due,
-        Kind::GiveUp => between(1, 2, phase),
+        Kind::Begin => phase == NO_TRANSACTION,
+        Kind::Give => phase == OPEN && op == 0,
+        Kind::Work => phase == OPEN && op != 0,
+        Kind::Commit => phase == OPEN && op == 0,
+        Kind::Prepare => phase == COMMITTING && due,
+        Kind::Apply => phase == DECIDED && due,
+        Kind::GiveUp => between(OPEN, COMMITTING, phase),
         Kind::Lost => true,
         Kind::Unknown => true,
     }
@@ -145,11 +154,11 @@ fn is_fitting(kind: Kind, phase: u64, op: u64, due: bool) -> bool
 
 // 9 in the client's part.
 fn state_fits(part: &[u8], kind: Kind, server: u64) -> bool
-    requires { ⌜ Sited kind server × (7223 ≤ length (now part) / 8) ⌝ }
+    requires { ⌜ Sited kind server × ClientPart (now part) ⌝ }
     ensures { λ r. ⌜ r ≡ state-fits (held (now (part .entry))) server kind ⌝ }
 {
-    let phase = get_field(part, 0);
-    let op = get_field(part, 1);
+    let phase = get_field(part, PHASE);
+    let op = get_field(part, OP_NUMBER);
     let due = is_due(part, kind, server);
     is_fitting(kind, phase, op, due)
 }

@@ -1,14 +1,15 @@
 // Refusal 10 for versions: "a decided transaction's written version of 4,294,967,295" has none behind it.
 ghost use mathlib.Core.Path.{_≡_};
-ghost use Prim.Native.Nat.{_/_, _≤_, _<_};
+ghost use Prim.Native.Nat.{_<_};
 ghost use lib.ListN.{length};
 ghost use Rattle.memory.specs.Word.{view};
 ghost use Rattle.client.specs.declared.part.Set.the-variants.{Writes};
 ghost use Rattle.client.specs.Sets.{held, count};
 ghost use Rattle.client.specs.Items.{all-below};
 ghost use Rattle.steps.specs.Judge.{versions-fit};
-ghost use Rattle.kinds.specs.Parts.{AtClient, Store-in, stored-in};
+ghost use Rattle.kinds.specs.Parts.{AtClient, stored-in};
 ghost use Rattle.kinds.specs.Versions.{version-fits};
+ghost use Rattle.client.specs.Layout.{ClientPart};
 use crate::whole::client_at;
 use client::items::version_read;
 use client::part::Set;
@@ -18,7 +19,7 @@ use steps::sizes::Sizes;
 
 // Is the version read of write item i not the last one? Of flags none is kept.
 fn version_fits(part: &[u8], i: usize) -> bool
-    requires { ⌜ (i < 48) × (7223 ≤ length (now part) / 8) ⌝ }
+    requires { ⌜ (i < 48) × ClientPart (now part) ⌝ }
     ensures { λ r. ⌜ r ≡ version-fits (held (now (part .entry))) i ⌝ }
 {
     let number = number_at(part, Set::Writes, i);
@@ -29,7 +30,7 @@ fn version_fits(part: &[u8], i: usize) -> bool
 }
 
 fn all_fit(part: &[u8]) -> bool
-    requires { ⌜ 7223 ≤ length (now part) / 8 ⌝ }
+    requires { ⌜ ClientPart (now part) ⌝ }
     ensures { λ r. ⌜ r ≡ all-below (count (held (now (part .entry))) Writes) (version-fits (held (now (part .entry)))) ⌝ }
 {
     let n = count(part, Set::Writes);

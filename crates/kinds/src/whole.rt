@@ -4,6 +4,7 @@ ghost use Prim.Native.Nat.{_+_, _<_, _≤_};
 ghost use Rattle.server.specs.Layout.{partWords};
 ghost use Rattle.steps.specs.Whole.{Allowed, words-for, server-at, client-at};
 ghost use Rattle.kinds.specs.Parts.{length-answer};
+ghost use Rattle.client.specs.Layout.{client-length};
 use crate::sizes::allowed;
 use client::part::CLIENT_WORDS;
 use server::place::part_words;
@@ -37,7 +38,7 @@ pub fn server_at(sizes: Sizes, server: usize) -> usize
 pub fn client_at(sizes: Sizes, client: usize) -> usize
     requires { ⌜ Allowed sizes × (client < sizes .clients) ⌝ }
     ensures { λ r. ⌜ r ≡ client-at sizes client ⌝ }
-    ensures within { λ r. ⌜ (r ≤ 525328) × (r + 7223 ≤ words-for sizes) ⌝ }
+    ensures within { λ r. ⌜ (r ≤ 525328) × (r + client-length ≤ words-for sizes) ⌝ }
 {
     8 + sizes.servers * part_words(sizes.slots) + CLIENT_WORDS * client
 }

@@ -5,18 +5,17 @@ ghost use mathlib.Core.Bool.{true};
 ghost use Prim.Native.Nat.{_/_, _≤_, _<_};
 ghost use lib.ListN.{length};
 ghost use Rattle.memory.specs.Word.{view};
-ghost use Rattle.layout.specs.Step.{Does, silent};
-ghost use Rattle.layout.specs.Part.{inPart};
 ghost use Rattle.server.specs.Layout as Srv;
 ghost use Rattle.server.specs.Object.{object-of, Has};
 ghost use Rattle.client.specs.declared.part.Set.the-variants.{Writes};
 ghost use Rattle.client.specs.Sets.{held, count};
-ghost use Rattle.steps.specs.Whole.{server as at-server, whole, block};
 ghost use Rattle.steps.specs.Judge.{versions-fit};
-ghost use Rattle.kinds.specs.Parts.{AtClient, Store-in, stored-in};
+ghost use Rattle.kinds.specs.Parts.{AtClient, stored-in, InServer, InWhole, AtServer, ClientAt};
 ghost use Rattle.kinds.specs.Judge.{of-client};
-ghost use Rattle.kinds.specs.Fits.{Known};
+ghost use Rattle.kinds.specs.Fits.{KnownAt};
 ghost use Rattle.kinds.specs.Writes.{write-nth, write-step, Storable, Writable, StoredNth, stores};
+ghost use Rattle.client.specs.Layout.{ClientPart};
+ghost use Rattle.server.specs.Layout.{ServerDone};
 use crate::items::first_slot;
 use crate::whole::client_at;
 use crate::whole::server_at;
@@ -44,7 +43,7 @@ pub struct Write {
 
 // Item i of the write set.
 fn write_in(part: &[u8], i: usize) -> Write
-    requires { ⌜ (i < 48) × (7223 ≤ length (now part) / 8) ⌝ }
+    requires { ⌜ (i < 48) × ClientPart (now part) ⌝ }
     ensures { λ r. ⌜ r ≡ write-nth (held (now (part .entry))) i ⌝ }
 {
     let number = number_at(part, Set::Writes, i);
@@ -60,7 +59,7 @@ fn write_in(part: &[u8], i: usize) -> Write
 }
 
 fn write_at(mem: &[u8], sizes: Sizes, client: usize, i: usize) -> Write
-    requires { ⌜ Store-in sizes (length (now mem)) × (client < sizes .clients) × (i < 48) ⌝ }
+    requires { ⌜ AtClient sizes (length (now mem)) client × (i < 48) ⌝ }
     ensures { λ r. ⌜ r ≡ write-nth (of-client sizes (view (now (mem .entry))) client) i ⌝ }
 {
     let at = 8 * client_at(sizes, client);
@@ -80,7 +79,7 @@ fn writes_of(mem: &[u8], sizes: Sizes, client: usize) -> usize
 // What a server stores of a write.
 fn store_write(part: &mut [u8], slots: usize, server: u64, write: Write)
     requires { ⌜ (slots ≤ 1024) × Has slots (object-of (write .number)) × Storable write × (Srv.partWords slots ≤ length (now part) / 8) ⌝ }
-    ensures { λ _. ⌜ Does Srv.places (Srv.server-block slots) (write-step server write) silent (view (now (part .entry))) 0 (view (now (part .exit))) ⌝ }
+    ensures { λ _. ⌜ ServerDone slots (write-step server write) (now (part .entry)) (now (part .exit)) ⌝ }
 {
     let number = write.number;
     let first = first_slot(write.node);
@@ -110,15 +109,15 @@ fn store_write(part: &mut [u8], slots: usize, server: u64, write: Write)
 }
 
 fn store_at(mem: &mut [u8], sizes: Sizes, server: usize, write: Write)
-    requires { ⌜ Store-in sizes (length (now mem)) × (server < sizes .servers) × Has (sizes .slots) (object-of (write .number)) × Storable write ⌝ }
-    ensures { λ _. ⌜ Does whole (block sizes) (inPart (at-server server) (write-step server write)) silent (view (now (mem .entry))) 0 (view (now (mem .exit))) ⌝ }
+    requires { ⌜ AtServer sizes (length (now mem)) server × Has (sizes .slots) (object-of (write .number)) × Storable write ⌝ }
+    ensures { λ _. ⌜ InServer sizes server (write-step server write) (now (mem .entry)) (now (mem .exit)) ⌝ }
 {
     let at = 8 * server_at(sizes, server);
     store_write(&mut mem[at..], sizes.slots, server as u64, write);
 }
 
 fn store_nth(mem: &mut [u8], sizes: Sizes, client: usize, server: usize, i: usize)
-    requires { ⌜ Store-in sizes (length (now mem)) × (client < sizes .clients) × (server < sizes .servers) × (i < 48) × Writable sizes (of-client sizes (view (now mem)) client) i ⌝ }
+    requires { ⌜ ClientAt sizes (length (now mem)) client server × (i < 48) × Writable sizes (of-client sizes (view (now mem)) client) i ⌝ }
     ensures { λ _. ⌜ StoredNth sizes client server i (view (now (mem .entry))) (view (now (mem .exit))) ⌝ }
 {
     let write = write_at(mem, sizes, client, i);
@@ -127,9 +126,9 @@ fn store_nth(mem: &mut [u8], sizes: Sizes, client: usize, server: usize, i: usiz
 
 // The write set's objects in order, at a server.
 pub fn store_all(mem: &mut [u8], sizes: Sizes, client: usize, server: usize)
-    requires { ⌜ Store-in sizes (length (now mem)) × (client < sizes .clients) × (server < sizes .servers) × Known sizes (view (now mem)) client ⌝ }
+    requires { ⌜ KnownAt sizes (now mem) client server ⌝ }
     requires fresh { ⌜ versions-fit sizes (stored-in sizes (view (now mem))) client ≡ true ⌝ }
-    ensures { λ _. ⌜ Does whole (block sizes) (stores sizes client server) silent (view (now (mem .entry))) 0 (view (now (mem .exit))) ⌝ }
+    ensures { λ _. ⌜ InWhole sizes (stores sizes client server) (now (mem .entry)) (now (mem .exit)) ⌝ }
 {
     let n = writes_of(mem, sizes, client);
     let mut i: usize = 0;

@@ -165,7 +165,8 @@ impl Node {
     fn join(self, sep: u64, right: Node) -> Wide
         requires { ⌜ (self .count ≤ 14) × (right .count ≤ 14) ⌝ }
         ensures { λ r. ⌜ r ≡ join self sep right ⌝ }
-        ensures size { λ r. ⌜ (r .count ≡ self .count + extra (r .kind) + right .count) × (extra (r .kind) ≤ 1) × (extra (r .kind) ≡ extra (self .kind)) ⌝ }
+        ensures size { λ r. ⌜ (r .count ≡ self .count + extra (r .kind) + right .count) × (extra (r .kind) ≤ 1)
+            × (extra (r .kind) ≡ extra (self .kind)) ⌝ }
     {
         let n = self.count;
         let m = right.count;

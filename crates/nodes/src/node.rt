@@ -1,7 +1,7 @@
 // A node by value, and what is asked of it.
 use crate::found::Found;
 ghost use mathlib.Core.Path.{_≡_};
-ghost use Prim.Native.Nat.{_+_, _≤_, _<_};
+ghost use Prim.Native.Nat.{_≤_, _<_};
 ghost use lib.ListN.{length};
 ghost use Rattle.nodes.specs.Place.{place};
 ghost use Rattle.nodes.specs.Node.{extra, keysOf, free-node, parent-of, pair-at};

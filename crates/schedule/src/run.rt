@@ -23,7 +23,9 @@ fn note(out: &mut [u64], i: usize, l: Line)
 
 // One step, by value, the i-th of a list. Its outcome is written down, and its number returned.
 pub fn turn(mem: &mut [u8], out: &mut [u64], i: usize, k: Step) -> u64
-    ensures { λ r. ⌜ (r ≡ line (outcome-of (length (now (mem .entry))) (view (now (mem .entry))) k) .outcome) × (view (now (mem .exit)) ≡ words-after (length (now (mem .entry))) (view (now (mem .entry))) k) × (now (out .exit) ≡ written-down (now (out .entry)) i (line (outcome-of (length (now (mem .entry))) (view (now (mem .entry))) k))) ⌝ }
+    ensures { λ r. ⌜ (r ≡ line (outcome-of (length (now (mem .entry))) (view (now (mem .entry))) k) .outcome)
+        × (view (now (mem .exit)) ≡ words-after (length (now (mem .entry))) (view (now (mem .entry))) k)
+        × (now (out .exit) ≡ written-down (now (out .entry)) i (line (outcome-of (length (now (mem .entry))) (view (now (mem .entry))) k))) ⌝ }
 {
     let o = step(mem, k);
     let l = Line::of(o);
@@ -33,7 +35,9 @@ pub fn turn(mem: &mut [u8], out: &mut [u64], i: usize, k: Step) -> u64
 
 // All steps, front to back, and their outcomes, three numbers a step. On memory as `open` left it they are as demand 3 says.
 pub fn run(mem: &mut [u8], out: &mut [u64], steps: &[Step])
-    ensures { λ _. ⌜ (view (now (mem .exit)) ≡ words-run (length (now (mem .entry))) (view (now (mem .entry))) (now (steps .entry))) × (now (out .exit) ≡ lines (now (out .entry)) 0 (outcomes-run (length (now (mem .entry))) (view (now (mem .entry))) (now (steps .entry)))) × Demanded (length (now (mem .entry))) (view (now (mem .entry))) (now (steps .entry)) (view (now (mem .exit))) ⌝ }
+    ensures { λ _. ⌜ (view (now (mem .exit)) ≡ words-run (length (now (mem .entry))) (view (now (mem .entry))) (now (steps .entry)))
+        × (now (out .exit) ≡ lines (now (out .entry)) 0 (outcomes-run (length (now (mem .entry))) (view (now (mem .entry))) (now (steps .entry))))
+        × Demanded (length (now (mem .entry))) (view (now (mem .entry))) (now (steps .entry)) (view (now (mem .exit))) ⌝ }
 {
     let mut i: usize = 0;
     while i < steps.len() {

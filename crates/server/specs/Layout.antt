@@ -9,6 +9,8 @@ use Rattle.layout.specs.Block.{Block, words, times, followed-by, end, size}
 use Rattle.layout.specs.Space.{Coding, Put, put, at}
 use Rattle.server.specs.declared.place.Place.{Place}
 use Rattle.server.specs.declared.place.Place.the-variants.{Root, Version, MetadataLock, Vector, Node, FlagLock, Table, NodeLock}
+use Rattle.memory.specs.Word.{view}
+use Rattle.layout.specs.Step.{Does, silent}
 
 abbrev pub slot-row : Block
 slot-row = followed-by (words 33) (followed-by (words 1) (followed-by (words 8) (followed-by (words 8) end)))
@@ -63,3 +65,7 @@ putStep a v m = put a v ∷ []
 pub record Lies (n : ℕ) (a : Place) (i : ℕ) : Type 0 where
   pub spot : i ≡ at places (server-block n) a
   pub within : i < partWords n
+
+-- code with the bytes b of a part before and b′ after has made these stores
+abbrev pub ServerDone : ℕ → ((Place → ℕ) → List (Put Place)) → List ℕ → List ℕ → Type 0
+ServerDone n g b b′ = Does places (server-block n) g silent (view b) 0 (view b′)

@@ -1,10 +1,7 @@
 // A newly opened server.
-ghost use mathlib.Core.Path.{_≡_};
 ghost use Prim.Native.Nat.{_/_, _<_, _≤_};
 ghost use lib.ListN.{length};
-ghost use Rattle.memory.specs.Word.{view};
-ghost use Rattle.layout.specs.Step.{Does, silent};
-ghost use Rattle.server.specs.Layout.{places, server-block, partWords};
+ghost use Rattle.server.specs.Layout.{partWords, ServerDone};
 ghost use Rattle.server.specs.Fresh.{open-step};
 use crate::place::Place;
 use crate::place::part_words;
@@ -14,7 +11,7 @@ use crate::place::put;
 // kind of the node in slot 0 and its flag.
 pub fn open(part: &mut [u8], slots: usize, server: u64)
     requires { ⌜ (0 < slots) × (slots ≤ 1024) × (partWords slots ≤ length (now part) / 8) ⌝ }
-    ensures { λ _. ⌜ Does places (server-block slots) (open-step server slots) silent (view (now (part .entry))) 0 (view (now (part .exit))) ⌝ }
+    ensures { λ _. ⌜ ServerDone slots (open-step server slots) (now (part .entry)) (now (part .exit)) ⌝ }
 {
     memory::fill_words(part, 0, part_words(slots), 0);
     if server == 0 {

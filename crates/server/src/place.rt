@@ -4,8 +4,7 @@ ghost use Prim.Native.Nat.{_+_, _*_, _/_, _≤_};
 ghost use lib.ListN.{length};
 ghost use Rattle.memory.specs.Word.{view};
 ghost use Rattle.layout.specs.Space.{Valid, mem};
-ghost use Rattle.layout.specs.Step.{Does, silent};
-ghost use Rattle.server.specs.Layout.{places, server-block, partWords, Lies, putStep};
+ghost use Rattle.server.specs.Layout.{places, server-block, partWords, Lies, putStep, ServerDone};
 
 // "The metadata (root name and its version) is on every server. Every server also has a table of versions for all slots
 // .. a node's own version is at its home server. Each slot has a taken flag; a server's flags are its vector." And a lock
@@ -63,7 +62,7 @@ pub fn get(part: &[u8], slots: usize, place: Place) -> u64
 // The word at a place becomes v.
 pub fn put(part: &mut [u8], slots: usize, place: Place, v: u64)
     requires { ⌜ (slots ≤ 1024) × Valid places (server-block slots) place × (partWords slots ≤ length (now part) / 8) ⌝ }
-    ensures { λ _. ⌜ Does places (server-block slots) (putStep place v) silent (view (now (part .entry))) 0 (view (now (part .exit))) ⌝ }
+    ensures { λ _. ⌜ ServerDone slots (putStep place v) (now (part .entry)) (now (part .exit)) ⌝ }
 {
     memory::write_word(part, index(slots, place), v);
 }

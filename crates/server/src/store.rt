@@ -2,9 +2,7 @@
 ghost use mathlib.Core.Path.{_≡_};
 ghost use Prim.Native.Nat.{_+_, _/_, _<_, _≤_};
 ghost use lib.ListN.{length};
-ghost use Rattle.memory.specs.Word.{view};
-ghost use Rattle.layout.specs.Step.{Does, silent};
-ghost use Rattle.server.specs.Layout.{places, server-block, partWords};
+ghost use Rattle.server.specs.Layout.{partWords, ServerDone};
 ghost use Rattle.server.specs.Object.{Has};
 ghost use Rattle.server.specs.Store.{lock-step, unlock-step, metadata-step, flag-step, kept-of, home-step, table-step, node-step};
 use crate::lock::with_lock;
@@ -23,7 +21,7 @@ use nodes::stored;
 // A client locks an object, for writing or for reading.
 pub fn lock(part: &mut [u8], slots: usize, object: Object, client: u32, writing: bool)
     requires { ⌜ (slots ≤ 1024) × Has slots object × (client < 16) × (partWords slots ≤ length (now part) / 8) ⌝ }
-    ensures { λ _. ⌜ Does places (server-block slots) (lock-step object writing client) silent (view (now (part .entry))) 0 (view (now (part .exit))) ⌝ }
+    ensures { λ _. ⌜ ServerDone slots (lock-step object writing client) (now (part .entry)) (now (part .exit)) ⌝ }
 {
     let at = lock_place(object);
     let word = get(part, slots, at);
@@ -33,7 +31,7 @@ pub fn lock(part: &mut [u8], slots: usize, object: Object, client: u32, writing:
 // A client's lock on an object goes.
 pub fn unlock(part: &mut [u8], slots: usize, object: Object, client: u32)
     requires { ⌜ (slots ≤ 1024) × Has slots object × (client < 16) × (partWords slots ≤ length (now part) / 8) ⌝ }
-    ensures { λ _. ⌜ Does places (server-block slots) (unlock-step object client) silent (view (now (part .entry))) 0 (view (now (part .exit))) ⌝ }
+    ensures { λ _. ⌜ ServerDone slots (unlock-step object client) (now (part .entry)) (now (part .exit)) ⌝ }
 {
     let at = lock_place(object);
     let word = get(part, slots, at);
@@ -43,7 +41,7 @@ pub fn unlock(part: &mut [u8], slots: usize, object: Object, client: u32)
 // The metadata, read with a version, names another root: "a written version becomes the one read plus 1".
 pub fn store_metadata(part: &mut [u8], slots: usize, root: u64, read: u64)
     requires { ⌜ (slots ≤ 1024) × (read < 4294967295) × (partWords slots ≤ length (now part) / 8) ⌝ }
-    ensures { λ _. ⌜ Does places (server-block slots) (metadata-step root (read + 1)) silent (view (now (part .entry))) 0 (view (now (part .exit))) ⌝ }
+    ensures { λ _. ⌜ ServerDone slots (metadata-step root (read + 1)) (now (part .entry)) (now (part .exit)) ⌝ }
 {
     put(part, slots, Place::Root, root);
     put(part, slots, Place::Version, read + 1);
@@ -52,7 +50,7 @@ pub fn store_metadata(part: &mut [u8], slots: usize, root: u64, read: u64)
 // The flag of a slot here becomes taken or free.
 pub fn store_flag(part: &mut [u8], slots: usize, name: Name, taken: bool)
     requires { ⌜ (slots ≤ 1024) × (partWords slots ≤ length (now part) / 8) ⌝ }
-    ensures { λ _. ⌜ Does places (server-block slots) (flag-step name taken) silent (view (now (part .entry))) 0 (view (now (part .exit))) ⌝ }
+    ensures { λ _. ⌜ ServerDone slots (flag-step name taken) (now (part .entry)) (now (part .exit)) ⌝ }
 {
     let slot = name.slot();
     let at = Place::Vector(slot as usize / 64);
@@ -79,7 +77,7 @@ fn kept(mut node: Node, version: u64) -> Node
 // A node is written at its home.
 fn store_at_home(part: &mut [u8], slots: usize, server: u64, name: Name, node: Node)
     requires { ⌜ (slots ≤ 1024) × Has slots (Object.Node name) × (partWords slots ≤ length (now part) / 8) ⌝ }
-    ensures { λ _. ⌜ Does places (server-block slots) (home-step server name node) silent (view (now (part .entry))) 0 (view (now (part .exit))) ⌝ }
+    ensures { λ _. ⌜ ServerDone slots (home-step server name node) (now (part .entry)) (now (part .exit)) ⌝ }
 {
     if name.server() == server {
         stored::write_node(
@@ -93,7 +91,7 @@ fn store_at_home(part: &mut [u8], slots: usize, server: u64, name: Name, node: N
 // The table has a version for a node that is inner before or after.
 fn store_in_table(part: &mut [u8], slots: usize, name: Name, version: u64, inner: bool)
     requires { ⌜ (slots ≤ 1024) × Has slots (Object.Node name) × (partWords slots ≤ length (now part) / 8) ⌝ }
-    ensures { λ _. ⌜ Does places (server-block slots) (table-step name version inner) silent (view (now (part .entry))) 0 (view (now (part .exit))) ⌝ }
+    ensures { λ _. ⌜ ServerDone slots (table-step name version inner) (now (part .entry)) (now (part .exit)) ⌝ }
 {
     if inner {
         put(
@@ -117,7 +115,7 @@ pub fn store_node(
     inner: bool,
 )
     requires { ⌜ (slots ≤ 1024) × Has slots (Object.Node name) × (read < 4294967295) × (partWords slots ≤ length (now part) / 8) ⌝ }
-    ensures { λ _. ⌜ Does places (server-block slots) (node-step server name node (read + 1) inner) silent (view (now (part .entry))) 0 (view (now (part .exit))) ⌝ }
+    ensures { λ _. ⌜ ServerDone slots (node-step server name node (read + 1) inner) (now (part .entry)) (now (part .exit)) ⌝ }
 {
     let version = read + 1;
     store_at_home(part, slots, server, name, kept(node, version));

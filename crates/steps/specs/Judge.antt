@@ -8,7 +8,7 @@ use Rattle.server.specs.Object.{lock-of}
 use Rattle.server.specs.Lock.{lock-in-range}
 use Rattle.server.specs.Check.{sound}
 use Rattle.client.specs.declared.part.Set.the-variants.{Reads, Writes}
-use Rattle.client.specs.Layout.{ClientWord, phase, participants, prepared, writes-count}
+use Rattle.client.specs.Layout.{ClientWord, phase, participants, prepared, writes-count, commit-phase, decided-phase}
 use Rattle.client.specs.Record.{last-version}
 use Rattle.client.specs.Sets.{find, count, number-at}
 use Rattle.client.specs.Items.{all-below, has}
@@ -22,7 +22,7 @@ use Rattle.steps.specs.Uses.{Item, item-object, read-item, checked-at, l
 module _ (z : Sizes) (m : Address → ℕ) where
   -- "a lock's transaction": the client's, after its commit
   abbrev pub commits : ℕ → Bool
-  commits d = between 2 3 (m (client d phase))
+  commits d = between commit-phase decided-phase (m (client d phase))
 
   -- "or its write": the object is in the write set
   abbrev pub writes : ℕ → ℕ → Bool

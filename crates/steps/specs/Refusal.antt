@@ -6,7 +6,7 @@ use Prim.Native.Nat.{ℕ}
 use lib.Dec.{eqb, leb, ltb}
 use lib.ListN.{getD}
 use Rattle.memory.specs.Bit.{bit}
-use Rattle.client.specs.Layout.{ClientWord, phase, op-number, participants, prepared, applied}
+use Rattle.client.specs.Layout.{ClientWord, phase, op-number, participants, prepared, applied, no-transaction, open-phase, commit-phase, decided-phase}
 use Rattle.client.specs.Record.{in-store}
 use Rattle.steps.specs.declared.sizes.Sizes.{Sizes}
 use Rattle.steps.specs.declared.step.Step.{Step}
@@ -51,19 +51,19 @@ of-memory bytes z =
 
 -- "begin needs no transaction; give and commit need one not yet committing with no operation waiting; work a waiting one; prepare,
 -- after commit, a participant not yet prepared; apply, after the decision, one not yet applied; give up an undecided transaction;
--- lost fits always": phase 0 is no transaction, 1 an open one, 2 one after its commit, 3 one after its decision
+-- lost fits always"
 module _ (m : ClientWord → ℕ) (s : ℕ) where
   abbrev pub unfinished : ClientWord → Bool
   unfinished done = bit (m participants) s && not (bit (m done) s)
 
   unfoldable pub state-fits : Kind → Bool
-  state-fits Begin = eqb (m phase) 0
-  state-fits Give = eqb (m phase) 1 && eqb (m op-number) 0
-  state-fits Work = eqb (m phase) 1 && not (eqb (m op-number) 0)
-  state-fits Commit = eqb (m phase) 1 && eqb (m op-number) 0
-  state-fits Prepare = eqb (m phase) 2 && unfinished prepared
-  state-fits Apply = eqb (m phase) 3 && unfinished applied
-  state-fits GiveUp = between 1 2 (m phase)
+  state-fits Begin = eqb (m phase) no-transaction
+  state-fits Give = eqb (m phase) open-phase && eqb (m op-number) 0
+  state-fits Work = eqb (m phase) open-phase && not (eqb (m op-number) 0)
+  state-fits Commit = eqb (m phase) open-phase && eqb (m op-number) 0
+  state-fits Prepare = eqb (m phase) commit-phase && unfinished prepared
+  state-fits Apply = eqb (m phase) decided-phase && unfinished applied
+  state-fits GiveUp = between open-phase commit-phase (m phase)
   state-fits Lost = true
   state-fits Unknown = true
 

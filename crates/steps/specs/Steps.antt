@@ -20,7 +20,7 @@ use Rattle.server.specs.Check.{can-check, held, checked, finding-reason}
 use Rattle.server.specs.Store.{lock-step, unlock-step, metadata-step, flag-step, node-step}
 use Rattle.server.specs.HandOut.{metadata-at, metadata-sound, vector-at}
 use Rattle.client.specs.declared.part.Set.the-variants.{Reads, Writes}
-use Rattle.client.specs.Layout.{ClientWord, client-words, phase, participants, prepared, applied, reads-count}
+use Rattle.client.specs.Layout.{ClientWord, client-words, phase, participants, prepared, applied, reads-count, no-transaction, decided-phase}
 use Rattle.nodes.specs.Stored.{node-of}
 use Rattle.client.specs.Record.{by-number, first-slot}
 use Rattle.nodes.specs.Range.{node-in-range}
@@ -270,8 +270,8 @@ module _ (z : Sizes) (m : Address → ℕ) (c : ℕ) where
 
   unfoldable pub lose : Did
   lose =
-      cond (eqb (m (client c phase)) 0) (forgetting m)
-      (cond (eqb (m (client c phase)) 3) (did Done (in-client z m c Life.lose-part))
+      cond (eqb (m (client c phase)) no-transaction) (forgetting m)
+      (cond (eqb (m (client c phase)) decided-phase) (did Done (in-client z m c Life.lose-part))
       (if-fit (abort-fits z m c) (lose-undecided (abort z m c 7 []))))
 
   -- ---- by kind

@@ -16,9 +16,9 @@ use Rattle.client.specs.declared.answer.How.{How}
 use Rattle.walk.specs.declared.walk.Asked.{Asked}
 use Rattle.walk.specs.declared.walk.Stop.{Stop}
 use Rattle.client.specs.declared.part.Set.the-variants.{Reads}
-use Rattle.client.specs.Layout.{ClientWord}
+use Rattle.client.specs.Layout.{ClientWord, ClientPart}
 use Rattle.client.specs.Record.{number, object-in-store, value-of}
-use Rattle.client.specs.Sets.{count}
+use Rattle.client.specs.Sets.{count, held}
 use Rattle.client.specs.Have.{is-copied}
 use Rattle.client.specs.Run.{among}
 use Rattle.client.specs.Lent.{OwnFits, own-find, own-record, own-count, own-list, used-in, pushed}
@@ -114,3 +114,32 @@ stopped s = record { stop = s; node = free-node 0 }
 -- a copy that is not in use yet comes into use
 unfoldable pub noted-copy : How → List ℕ → ℕ → List ℕ
 noted-copy d u n = cond (is-copied d) (cond (among n (used-in u)) u (pushed u n)) u
+
+-- ---- what a walk is lent: a client's part, the copies in use, and the operation's own writes
+-- to one that only reads
+pub record Walking (servers : ℕ) (part used : List ℕ) : Type 0 where
+  pub few-servers : servers ≤ 8
+  pub noted : Noted (held part) used
+  pub room : ClientPart part
+
+-- to one that reads its own writes too
+pub record WalkingOwn (servers : ℕ) (part own used : List ℕ) : Type 0 where
+  pub few-servers : servers ≤ 8
+  pub writes : OwnGood own
+  pub noted : Noted (held part) used
+  pub room : ClientPart part
+
+-- to one that writes, before its first write, and with less than n of them
+pub record Beginning (servers : ℕ) (part own used : List ℕ) : Type 0 where
+  pub few-servers : servers ≤ 8
+  pub writes : OwnGood own
+  pub none : getD own 0 0 ≡ 0
+  pub noted : Noted (held part) used
+  pub room : ClientPart part
+
+pub record Writing (servers : ℕ) (part own used : List ℕ) (n : ℕ) : Type 0 where
+  pub few-servers : servers ≤ 8
+  pub writes : OwnGood own
+  pub few : getD own 0 0 < n
+  pub noted : Noted (held part) used
+  pub room : ClientPart part

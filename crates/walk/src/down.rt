@@ -7,12 +7,11 @@ use crate::walk::going;
 use crate::walk::see_node;
 use nodes::node::Node;
 ghost use mathlib.Core.Path.{_≡_};
-ghost use Prim.Native.Nat.{_/_, _<_, _≤_};
-ghost use lib.ListN.{length};
+ghost use Prim.Native.Nat.{_<_, _≤_};
 ghost use Rattle.client.specs.Record.{sizes};
 ghost use Rattle.client.specs.Sets.{held};
 ghost use Rattle.walk.specs.Entries.{opens, below};
-ghost use Rattle.walk.specs.Ask.{OwnGood, Noted, nothing};
+ghost use Rattle.walk.specs.Ask.{nothing, Walking, WalkingOwn};
 ghost use Rattle.walk.specs.Down.{Kid, Checked, RootMet, Above, Lowered, From, Led, AtRoot, Descends};
 
 // Is the node a leaf or an inner node?
@@ -70,8 +69,9 @@ pub fn child(
     level: u64,
     name: u64,
 ) -> Asked
-    requires { ⌜ (servers ≤ 8) × Noted (held (now part)) (now used) × (7223 ≤ length (now part) / 8) ⌝ }
-    ensures { λ r. ⌜ Kid (sizes servers slots) (held (now (part .entry))) nothing (now (used .entry)) level name (r .stop) (r .node) (now (used .exit)) ⌝ }
+    requires { ⌜ Walking servers (now part) (now used) ⌝ }
+    ensures { λ r. ⌜ Kid (sizes servers slots) (held (now (part .entry))) nothing (now (used .entry)) level name (r .stop) (r .node)
+        (now (used .exit)) ⌝ }
 {
     let a = ask_node(part, servers, slots, used, name);
     as_child(a, level)
@@ -87,8 +87,9 @@ pub fn see_child(
     level: u64,
     name: u64,
 ) -> Asked
-    requires { ⌜ (servers ≤ 8) × OwnGood (now own) × Noted (held (now part)) (now used) × (7223 ≤ length (now part) / 8) ⌝ }
-    ensures { λ r. ⌜ Kid (sizes servers slots) (held (now (part .entry))) (now (own .entry)) (now (used .entry)) level name (r .stop) (r .node) (now (used .exit)) ⌝ }
+    requires { ⌜ WalkingOwn servers (now part) (now own) (now used) ⌝ }
+    ensures { λ r. ⌜ Kid (sizes servers slots) (held (now (part .entry))) (now (own .entry)) (now (used .entry)) level name (r .stop)
+        (r .node) (now (used .exit)) ⌝ }
 {
     let a = see_node(part, servers, slots, own, used, name);
     as_child(a, level)
@@ -96,8 +97,9 @@ pub fn see_child(
 
 // The root, by its name.
 pub fn root(part: &[u8], servers: usize, slots: usize, used: &mut [u64], name: u64) -> Asked
-    requires { ⌜ (servers ≤ 8) × Noted (held (now part)) (now used) × (7223 ≤ length (now part) / 8) ⌝ }
-    ensures { λ r. ⌜ RootMet (sizes servers slots) (held (now (part .entry))) (now (used .entry)) name (r .stop) (r .node) (now (used .exit)) ⌝ }
+    requires { ⌜ Walking servers (now part) (now used) ⌝ }
+    ensures { λ r. ⌜ RootMet (sizes servers slots) (held (now (part .entry))) (now (used .entry)) name (r .stop) (r .node)
+        (now (used .exit)) ⌝ }
 {
     let a = ask_node(part, servers, slots, used, name);
     let stop = a.stop;
@@ -150,7 +152,7 @@ fn go_lower(
     level: usize,
     n: Node,
 ) -> Lower
-    requires { ⌜ (servers ≤ 8) × Noted (held (now part)) (now used) × (7223 ≤ length (now part) / 8) ⌝ }
+    requires { ⌜ Walking servers (now part) (now used) ⌝ }
     requires from { ⌜ Above n level ⌝ }
     ensures { λ r. ⌜ Lowered (sizes servers slots) (held (now (part .entry))) (now (used .entry)) key level n r (now (used .exit)) ⌝ }
 {
@@ -179,7 +181,7 @@ pub fn go_down(
     root: u64,
     first: Node,
 ) -> Descent
-    requires { ⌜ (servers ≤ 8) × Noted (held (now part)) (now used) × (7223 ≤ length (now part) / 8) ⌝ }
+    requires { ⌜ Walking servers (now part) (now used) ⌝ }
     requires from { ⌜ From first target ⌝ }
     ensures { λ r. ⌜ Led (sizes servers slots) (held (now (part .entry))) (now (used .entry)) key target root first r (now (used .exit)) ⌝ }
 {
@@ -233,7 +235,7 @@ pub struct Rooted {
 
 // The metadata, and the root that it names.
 pub fn at_root(part: &[u8], servers: usize, slots: usize, used: &mut [u64]) -> Rooted
-    requires { ⌜ (servers ≤ 8) × Noted (held (now part)) (now used) × (7223 ≤ length (now part) / 8) ⌝ }
+    requires { ⌜ Walking servers (now part) (now used) ⌝ }
     ensures { λ r. ⌜ AtRoot (sizes servers slots) (held (now (part .entry))) (now (used .entry)) r (now (used .exit)) ⌝ }
 {
     let a = ask_meta(part, servers, slots, used);
@@ -272,7 +274,7 @@ pub fn no_descent(stop: Stop) -> Descent
 
 // From the metadata down to the leaf for a key.
 pub fn descend(part: &[u8], servers: usize, slots: usize, used: &mut [u64], key: u64) -> Descent
-    requires { ⌜ (servers ≤ 8) × Noted (held (now part)) (now used) × (7223 ≤ length (now part) / 8) ⌝ }
+    requires { ⌜ Walking servers (now part) (now used) ⌝ }
     ensures { λ r. ⌜ Descends (sizes servers slots) (held (now (part .entry))) (now (used .entry)) key r (now (used .exit)) ⌝ }
 {
     let r = at_root(part, servers, slots, used);

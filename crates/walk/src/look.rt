@@ -2,12 +2,14 @@
 use crate::lookup::lookup;
 use crate::seek::near;
 use crate::walk::Stop;
+use client::part::OP_KEY;
+use client::part::OP_NUMBER;
 use client::part::get_field;
 ghost use mathlib.Core.Path.{_≡_};
 ghost use mathlib.Core.Bool.{true};
-ghost use Prim.Native.Nat.{_/_, _≤_};
+ghost use Prim.Native.Nat.{_≤_};
 ghost use lib.ListN.{length, getD};
-ghost use Rattle.client.specs.Layout.{op-number};
+ghost use Rattle.client.specs.Layout.{op-number, ClientPart};
 ghost use Rattle.client.specs.Record.{sizes};
 ghost use Rattle.client.specs.Sets.{held};
 ghost use Rattle.walk.specs.Stopped.{Waiting};
@@ -15,10 +17,10 @@ ghost use Rattle.walk.specs.Look.{only-reads, Looks};
 
 // Does the operation that waits only read?
 pub fn only_reads(part: &[u8]) -> bool
-    requires { ⌜ 7223 ≤ length (now part) / 8 ⌝ }
+    requires { ⌜ ClientPart (now part) ⌝ }
     ensures { λ r. ⌜ r ≡ only-reads (held (now (part .entry)) op-number) ⌝ }
 {
-    let op = get_field(part, 1);
+    let op = get_field(part, OP_NUMBER);
     match op {
         2 => true,
         4 => true,
@@ -29,12 +31,12 @@ pub fn only_reads(part: &[u8]) -> bool
 
 // `used` is lent empty; it has the copies in use afterwards.
 pub fn look(part: &[u8], servers: usize, slots: usize, used: &mut [u64]) -> Stop
-    requires { ⌜ (servers ≤ 8) × (98 ≤ length (now used)) × (getD (now used) 0 0 ≡ 0) × (7223 ≤ length (now part) / 8) ⌝ }
+    requires { ⌜ (servers ≤ 8) × (98 ≤ length (now used)) × (getD (now used) 0 0 ≡ 0) × ClientPart (now part) ⌝ }
     requires waits { ⌜ Waiting (held (now part)) × (only-reads (held (now part) op-number) ≡ true) ⌝ }
     ensures { λ r. ⌜ Looks (sizes servers slots) (held (now (part .entry))) r (now (used .exit)) ⌝ }
 {
-    let op = get_field(part, 1);
-    let key = get_field(part, 2);
+    let op = get_field(part, OP_NUMBER);
+    let key = get_field(part, OP_KEY);
     match op {
         2 => lookup(part, servers, slots, used, key),
         4 => near(part, servers, slots, used, true, key),

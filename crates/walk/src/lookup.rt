@@ -7,17 +7,18 @@ use crate::walk::pop_used;
 use nodes::found::Found;
 use nodes::node::Node;
 ghost use mathlib.Core.Path.{_≡_};
-ghost use Prim.Native.Nat.{_/_, _<_, _≤_};
-ghost use lib.ListN.{length, getD};
+ghost use Prim.Native.Nat.{_<_, _≤_};
+ghost use lib.ListN.{getD};
 ghost use Rattle.operations.specs.Look.{lookup-plan};
 ghost use Rattle.client.specs.Record.{sizes};
 ghost use Rattle.client.specs.Sets.{held};
-ghost use Rattle.walk.specs.Ask.{Noted};
+ghost use Rattle.walk.specs.Ask.{Noted, Walking};
 ghost use Rattle.walk.specs.Lookup.{Ends, Walks, look-in};
+ghost use Rattle.client.specs.Layout.{ClientPart};
 
 // The answer, unless object 97 has been read.
 pub fn answers(part: &[u8], used: &mut [u64], a: u64, b: u64) -> Stop
-    requires { ⌜ Noted (held (now part)) (now used) × (7223 ≤ length (now part) / 8) ⌝ }
+    requires { ⌜ Noted (held (now part)) (now used) × ClientPart (now part) ⌝ }
     ensures { λ r. ⌜ Ends (held (now (part .entry))) (now (used .entry)) a b r (now (used .exit)) ⌝ }
 {
     if over(part, used) {
@@ -57,7 +58,7 @@ fn look_in(n: Node, key: u64) -> Pair
 }
 
 pub fn lookup(part: &[u8], servers: usize, slots: usize, used: &mut [u64], key: u64) -> Stop
-    requires { ⌜ (servers ≤ 8) × Noted (held (now part)) (now used) × (7223 ≤ length (now part) / 8) ⌝ }
+    requires { ⌜ Walking servers (now part) (now used) ⌝ }
     ensures { λ r. ⌜ Walks (sizes servers slots) (held (now (part .entry))) (now (used .entry)) (lookup-plan key) r (now (used .exit)) ⌝ }
 {
     let d = descend(part, servers, slots, used, key);

@@ -15,18 +15,19 @@ use nodes::vector::first_free;
 use nodes::vector::with_taken;
 ghost use mathlib.Core.Path.{_≡_};
 ghost use mathlib.Core.List.{[], _∷_};
-ghost use Prim.Native.Nat.{_+_, _/_, _<_, _≤_};
-ghost use lib.ListN.{length, getD};
+ghost use Prim.Native.Nat.{_+_, _/_, _<_};
+ghost use lib.ListN.{getD};
 ghost use Rattle.nodes.specs.Name.{name};
 ghost use Rattle.nodes.specs.Placement.{row};
 ghost use Rattle.operations.specs.Slot.{present};
 ghost use Rattle.client.specs.Record.{sizes};
 ghost use Rattle.client.specs.Sets.{held};
 ghost use Rattle.client.specs.Lent.{OwnFits};
-ghost use Rattle.walk.specs.Ask.{OwnGood, Noted};
+ghost use Rattle.walk.specs.Ask.{Walking, WalkingOwn, Writing};
 ghost use Rattle.walk.specs.Counted.{counts-one, counts};
 ghost use Rattle.walk.specs.Vector.{VectorAsked, passes, Looked};
 ghost use Rattle.walk.specs.Search.{LookedInRow, Sought, TakenOn, TakenFor};
+ghost use Rattle.client.specs.Layout.{ClientPart};
 
 // A server's vector with own write i counted.
 fn count_one(own: &[u64], s: usize, i: usize, words: [u64; 16]) -> [u64; 16]
@@ -64,7 +65,7 @@ fn count_own(own: &[u64], s: usize, seen: [u64; 16]) -> [u64; 16]
 
 // The question for a server's vector.
 fn ask_vector(part: &[u8], servers: usize, used: &mut [u64], s: usize) -> Stop
-    requires { ⌜ (servers ≤ 8) × Noted (held (now part)) (now used) × (7223 ≤ length (now part) / 8) ⌝ }
+    requires { ⌜ Walking servers (now part) (now used) ⌝ }
     ensures { λ r. ⌜ VectorAsked (held (now (part .entry))) servers (now (used .entry)) s r (now (used .exit)) ⌝ }
 {
     if over(part, used) {
@@ -83,7 +84,7 @@ fn ask_vector(part: &[u8], servers: usize, used: &mut [u64], s: usize) -> Stop
 
 // "a server is passed over only by a vector that this transaction fetched"
 fn passed(part: &[u8], s: usize) -> Stop
-    requires { ⌜ (s < 8) × (7223 ≤ length (now part) / 8) ⌝ }
+    requires { ⌜ (s < 8) × ClientPart (now part) ⌝ }
     ensures { λ r. ⌜ r ≡ passes (held (now (part .entry))) s ⌝ }
 {
     let fetched = is_fetched(part, s);
@@ -108,9 +109,10 @@ fn look_on(
     s: usize,
     slot: usize,
 ) -> Chosen
-    requires { ⌜ (servers ≤ 8) × OwnGood (now own) × Noted (held (now part)) (now used) × (7223 ≤ length (now part) / 8) ⌝ }
+    requires { ⌜ WalkingOwn servers (now part) (now own) (now used) ⌝ }
     requires above { ⌜ slot < 1024 ⌝ }
-    ensures { λ r. ⌜ Looked (sizes servers slots) (held (now (part .entry))) (now (own .entry)) (now (used .entry)) s slot (r .stop) (r .found) (now (used .exit)) ⌝ }
+    ensures { λ r. ⌜ Looked (sizes servers slots) (held (now (part .entry))) (now (own .entry)) (now (used .entry)) s slot (r .stop)
+        (r .found) (now (used .exit)) ⌝ }
 {
     let stop = ask_vector(part, servers, used, s);
     let on = going(stop);
@@ -142,9 +144,10 @@ fn look_next(
     s: usize,
     slot: usize,
 ) -> Chosen
-    requires { ⌜ (servers ≤ 8) × OwnGood (now own) × Noted (held (now part)) (now used) × (7223 ≤ length (now part) / 8) ⌝ }
+    requires { ⌜ WalkingOwn servers (now part) (now own) (now used) ⌝ }
     requires above { ⌜ slot < 1024 ⌝ }
-    ensures { λ r. ⌜ LookedInRow (sizes servers slots) (held (now (part .entry))) (now (own .entry)) (now (used .entry)) s slot (r .stop) (r .found) (now (used .exit)) ⌝ }
+    ensures { λ r. ⌜ LookedInRow (sizes servers slots) (held (now (part .entry))) (now (own .entry)) (now (used .entry)) s slot
+        (r .stop) (r .found) (now (used .exit)) ⌝ }
 {
     if servers <= s {
         return Chosen {
@@ -179,10 +182,11 @@ fn search(
     home: usize,
     slot: usize,
 ) -> Taken
-    requires { ⌜ (servers ≤ 8) × OwnGood (now own) × Noted (held (now part)) (now used) × (7223 ≤ length (now part) / 8) ⌝ }
+    requires { ⌜ WalkingOwn servers (now part) (now own) (now used) ⌝ }
     requires from { ⌜ home < 8 ⌝ }
     requires above { ⌜ slot < 1024 ⌝ }
-    ensures { λ r. ⌜ Sought (sizes servers slots) (held (now (part .entry))) (now (own .entry)) (now (used .entry)) (present servers (row home)) slot r (now (used .exit)) ⌝ }
+    ensures { λ r. ⌜ Sought (sizes servers slots) (held (now (part .entry))) (now (own .entry)) (now (used .entry))
+        (present servers (row home)) slot r (now (used .exit)) ⌝ }
 {
     let mut i: usize = 0;
     while i < 8 {
@@ -222,9 +226,10 @@ fn search_one(
     s: usize,
     slot: usize,
 ) -> Taken
-    requires { ⌜ (servers ≤ 8) × OwnGood (now own) × Noted (held (now part)) (now used) × (7223 ≤ length (now part) / 8) ⌝ }
+    requires { ⌜ WalkingOwn servers (now part) (now own) (now used) ⌝ }
     requires above { ⌜ slot < 1024 ⌝ }
-    ensures { λ r. ⌜ Sought (sizes servers slots) (held (now (part .entry))) (now (own .entry)) (now (used .entry)) (s ∷ []) slot r (now (used .exit)) ⌝ }
+    ensures { λ r. ⌜ Sought (sizes servers slots) (held (now (part .entry))) (now (own .entry)) (now (used .entry)) (s ∷ []) slot r
+        (now (used .exit)) ⌝ }
 {
     let c = look_on(part, servers, slots, own, used, s, slot);
     let stop = c.stop;
@@ -254,9 +259,10 @@ pub fn take_for(
     used: &mut [u64],
     name: u64,
 ) -> Taken
-    requires { ⌜ (servers ≤ 8) × OwnGood (now own) × (getD (now own) 0 0 < 20) × Noted (held (now part)) (now used) × (7223 ≤ length (now part) / 8) ⌝ }
+    requires { ⌜ Writing servers (now part) (now own) (now used) 20 ⌝ }
     requires there { ⌜ name < 8192 ⌝ }
-    ensures { λ r. ⌜ TakenFor (sizes servers slots) (held (now (part .entry))) (now (own .entry)) (now (used .entry)) name r (now (own .exit)) (now (used .exit)) ⌝ }
+    ensures { λ r. ⌜ TakenFor (sizes servers slots) (held (now (part .entry))) (now (own .entry)) (now (used .entry)) name r
+        (now (own .exit)) (now (used .exit)) ⌝ }
 {
     let home = (name / 1024) as usize;
     let slot = (name % 1024) as usize;
@@ -281,9 +287,10 @@ pub fn take_on(
     s: usize,
     slot: usize,
 ) -> Taken
-    requires { ⌜ (servers ≤ 8) × OwnGood (now own) × (getD (now own) 0 0 < 20) × Noted (held (now part)) (now used) × (7223 ≤ length (now part) / 8) ⌝ }
+    requires { ⌜ Writing servers (now part) (now own) (now used) 20 ⌝ }
     requires above { ⌜ slot < 1024 ⌝ }
-    ensures { λ r. ⌜ TakenOn (sizes servers slots) (held (now (part .entry))) (now (own .entry)) (now (used .entry)) (s ∷ []) slot r (now (own .exit)) (now (used .exit)) ⌝ }
+    ensures { λ r. ⌜ TakenOn (sizes servers slots) (held (now (part .entry))) (now (own .entry)) (now (used .entry)) (s ∷ []) slot r
+        (now (own .exit)) (now (used .exit)) ⌝ }
 {
     let t = search_one(part, servers, slots, own, used, s, slot);
     let stop = t.stop;

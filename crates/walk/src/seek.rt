@@ -8,12 +8,11 @@ use crate::walk::Stop;
 use crate::walk::going;
 use nodes::node::Node;
 ghost use mathlib.Core.Path.{_≡_};
-ghost use mathlib.Core.Bool.{true, false};
-ghost use Prim.Native.Nat.{_+_, _/_, _<_, _≤_};
-ghost use lib.ListN.{length, getD};
+ghost use Prim.Native.Nat.{_+_, _<_, _≤_};
+ghost use lib.ListN.{getD};
 ghost use Rattle.client.specs.Record.{sizes};
 ghost use Rattle.client.specs.Sets.{held};
-ghost use Rattle.walk.specs.Ask.{Noted};
+ghost use Rattle.walk.specs.Ask.{Walking};
 ghost use Rattle.walk.specs.Lookup.{Walks};
 ghost use Rattle.walk.specs.Near.{Beyond};
 ghost use Rattle.walk.specs.Seek.{in-leaf, more, onward, first-at, Stacked, Climbed, Standing, Advanced, ReadOn, Seeks, near-plan};
@@ -200,9 +199,10 @@ fn read_on(
     level: usize,
     name: u64,
 ) -> Reading
-    requires { ⌜ (servers ≤ 8) × Noted (held (now part)) (now used) × (7223 ≤ length (now part) / 8) ⌝ }
+    requires { ⌜ Walking servers (now part) (now used) ⌝ }
     requires at { ⌜ Stacked top path level × (level < top) ⌝ }
-    ensures { λ r. ⌜ ReadOn (sizes servers slots) (held (now (part .entry))) (now (used .entry)) right key top path level name r (now (used .exit)) ⌝ }
+    ensures { λ r. ⌜ ReadOn (sizes servers slots) (held (now (part .entry))) (now (used .entry)) right key top path level name r
+        (now (used .exit)) ⌝ }
 {
     let c = child(part, servers, slots, used, level as u64, name);
     let stop = c.stop;
@@ -236,9 +236,10 @@ fn seek(
     from: usize,
     child: u64,
 ) -> Stop
-    requires { ⌜ (servers ≤ 8) × Noted (held (now part)) (now used) × (7223 ≤ length (now part) / 8) ⌝ }
+    requires { ⌜ Walking servers (now part) (now used) ⌝ }
     requires at { ⌜ Stacked top first from × (from < top) ⌝ }
-    ensures { λ r. ⌜ Seeks (sizes servers slots) (held (now (part .entry))) (now (used .entry)) right key top first from child r (now (used .exit)) ⌝ }
+    ensures { λ r. ⌜ Seeks (sizes servers slots) (held (now (part .entry))) (now (used .entry)) right key top first from child r
+        (now (used .exit)) ⌝ }
 {
     let mut path = first;
     let mut level = from;
@@ -289,7 +290,7 @@ fn beyond(
     top: usize,
     path: [Turn; 5],
 ) -> Stop
-    requires { ⌜ (servers ≤ 8) × Noted (held (now part)) (now used) × (7223 ≤ length (now part) / 8) ⌝ }
+    requires { ⌜ Walking servers (now part) (now used) ⌝ }
     requires at { ⌜ Stacked top path 0 ⌝ }
     ensures { λ r. ⌜ Beyond (sizes servers slots) (held (now (part .entry))) (now (used .entry)) right key top path r (now (used .exit)) ⌝ }
 {
@@ -327,8 +328,9 @@ pub fn near(
     right: bool,
     key: u64,
 ) -> Stop
-    requires { ⌜ (servers ≤ 8) × Noted (held (now part)) (now used) × (7223 ≤ length (now part) / 8) ⌝ }
-    ensures { λ r. ⌜ Walks (sizes servers slots) (held (now (part .entry))) (now (used .entry)) (near-plan right key) r (now (used .exit)) ⌝ }
+    requires { ⌜ Walking servers (now part) (now used) ⌝ }
+    ensures { λ r. ⌜ Walks (sizes servers slots) (held (now (part .entry))) (now (used .entry)) (near-plan right key) r
+        (now (used .exit)) ⌝ }
 {
     let d = descend(part, servers, slots, used, key);
     let stop = d.stop;

@@ -8,14 +8,13 @@ use crate::walk::see_node;
 use client::own::put_own;
 use client::range::single;
 use nodes::node::Node;
-ghost use mathlib.Core.Path.{_≡_};
-ghost use Prim.Native.Nat.{_+_, _/_, _<_, _≤_};
-ghost use lib.ListN.{length, getD};
+ghost use Prim.Native.Nat.{_<_};
+ghost use lib.ListN.{getD};
 ghost use mathlib.Core.Bool.{false};
 ghost use Rattle.operations.specs.Object.{node, flag, taken, free};
 ghost use Rattle.client.specs.Record.{sizes};
 ghost use Rattle.client.specs.Sets.{held};
-ghost use Rattle.walk.specs.Ask.{OwnGood, Noted};
+ghost use Rattle.walk.specs.Ask.{OwnGood, WalkingOwn, Writing};
 ghost use Rattle.walk.specs.Take.{NodeTaken, FlagTaken, Wrote, Released};
 
 // "A taken slot's node is read too, and must be free."
@@ -27,8 +26,9 @@ pub fn take_node(
     used: &mut [u64],
     name: u64,
 ) -> Stop
-    requires { ⌜ (servers ≤ 8) × OwnGood (now own) × Noted (held (now part)) (now used) × (7223 ≤ length (now part) / 8) ⌝ }
-    ensures { λ r. ⌜ NodeTaken (sizes servers slots) (held (now (part .entry))) (now (own .entry)) (now (used .entry)) name r (now (used .exit)) ⌝ }
+    requires { ⌜ WalkingOwn servers (now part) (now own) (now used) ⌝ }
+    ensures { λ r. ⌜ NodeTaken (sizes servers slots) (held (now (part .entry))) (now (own .entry)) (now (used .entry)) name r
+        (now (used .exit)) ⌝ }
 {
     let a = see_node(part, servers, slots, own, used, name);
     let stop = a.stop;
@@ -52,8 +52,9 @@ pub fn take_flag(
     used: &mut [u64],
     name: u64,
 ) -> Stop
-    requires { ⌜ (servers ≤ 8) × OwnGood (now own) × (getD (now own) 0 0 < 20) × Noted (held (now part)) (now used) × (7223 ≤ length (now part) / 8) ⌝ }
-    ensures { λ r. ⌜ FlagTaken (sizes servers slots) (held (now (part .entry))) (now (own .entry)) (now (used .entry)) name r (now (own .exit)) (now (used .exit)) ⌝ }
+    requires { ⌜ Writing servers (now part) (now own) (now used) 20 ⌝ }
+    ensures { λ r. ⌜ FlagTaken (sizes servers slots) (held (now (part .entry))) (now (own .entry)) (now (used .entry)) name r
+        (now (own .exit)) (now (used .exit)) ⌝ }
 {
     let a = see_flag(part, servers, slots, own, used, name);
     let stop = a.stop;
@@ -99,8 +100,9 @@ pub fn release(
     used: &mut [u64],
     name: u64,
 ) -> Stop
-    requires { ⌜ (servers ≤ 8) × OwnGood (now own) × (getD (now own) 0 0 < 19) × Noted (held (now part)) (now used) × (7223 ≤ length (now part) / 8) ⌝ }
-    ensures { λ r. ⌜ Released (sizes servers slots) (held (now (part .entry))) (now (own .entry)) (now (used .entry)) name r (now (own .exit)) (now (used .exit)) ⌝ }
+    requires { ⌜ Writing servers (now part) (now own) (now used) 19 ⌝ }
+    ensures { λ r. ⌜ Released (sizes servers slots) (held (now (part .entry))) (now (own .entry)) (now (used .entry)) name r
+        (now (own .exit)) (now (used .exit)) ⌝ }
 {
     let a = see_flag(part, servers, slots, own, used, name);
     let stop = a.stop;

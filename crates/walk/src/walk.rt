@@ -22,7 +22,8 @@ ghost use Rattle.client.specs.Record.{sizes};
 ghost use Rattle.client.specs.Sets.{held};
 ghost use Rattle.client.specs.Lent.{Lent, used-in};
 ghost use Rattle.walk.specs.Walk.{goes, is-answer, over};
-ghost use Rattle.walk.specs.Ask.{OwnGood, Noted, Numbered, Outside, Answer, nothing, popped, noted-copy, stopped};
+ghost use Rattle.walk.specs.Ask.{Noted, Numbered, Outside, Answer, nothing, popped, noted-copy, stopped, Walking, WalkingOwn};
+ghost use Rattle.client.specs.Layout.{ClientPart};
 
 // How the walk of a plan goes on or ends: a lack is to be fetched, Refused is refusal 10.
 pub enum Stop {
@@ -71,7 +72,7 @@ pub fn is_answer(stop: Stop) -> bool
 
 // Is object 97 among the copies in use?
 pub fn over(part: &[u8], used: &[u64]) -> bool
-    requires { ⌜ Noted (held (now part)) (now used) × (7223 ≤ length (now part) / 8) ⌝ }
+    requires { ⌜ Noted (held (now part)) (now used) × ClientPart (now part) ⌝ }
     ensures { λ r. ⌜ r ≡ over (held (now (part .entry))) (used-in (now (used .entry))) ⌝ }
 {
     let read = count(part, Set::Reads);
@@ -122,8 +123,9 @@ fn ask_number(
     number: u64,
     lacks: Stop,
 ) -> Asked
-    requires { ⌜ (number < 16385) × (servers ≤ 8) × Noted (held (now part)) (now used) × (7223 ≤ length (now part) / 8) ⌝ }
-    ensures { λ r. ⌜ Numbered (sizes servers slots) (held (now (part .entry))) nothing (now (used .entry)) number lacks (r .stop) (r .node) (now (used .exit)) ⌝ }
+    requires { ⌜ (number < 16385) × Walking servers (now part) (now used) ⌝ }
+    ensures { λ r. ⌜ Numbered (sizes servers slots) (held (now (part .entry))) nothing (now (used .entry)) number lacks (r .stop)
+        (r .node) (now (used .exit)) ⌝ }
 {
     if over(part, used) {
         pop_used(used);
@@ -149,7 +151,7 @@ fn ask_number(
 
 // An object that is not in the store.
 fn ask_outside(part: &[u8], used: &mut [u64]) -> Asked
-    requires { ⌜ Noted (held (now part)) (now used) × (7223 ≤ length (now part) / 8) ⌝ }
+    requires { ⌜ Noted (held (now part)) (now used) × ClientPart (now part) ⌝ }
     ensures { λ r. ⌜ Outside (held (now (part .entry))) (now (used .entry)) (r .stop) (r .node) (now (used .exit)) ⌝ }
 {
     if over(part, used) {
@@ -176,15 +178,17 @@ pub fn flag_number(name: u64) -> u64
 }
 
 pub fn ask_meta(part: &[u8], servers: usize, slots: usize, used: &mut [u64]) -> Asked
-    requires { ⌜ (servers ≤ 8) × Noted (held (now part)) (now used) × (7223 ≤ length (now part) / 8) ⌝ }
-    ensures { λ r. ⌜ Answer (sizes servers slots) (held (now (part .entry))) nothing (now (used .entry)) meta (r .stop) (r .node) (now (used .exit)) ⌝ }
+    requires { ⌜ Walking servers (now part) (now used) ⌝ }
+    ensures { λ r. ⌜ Answer (sizes servers slots) (held (now (part .entry))) nothing (now (used .entry)) meta (r .stop) (r .node)
+        (now (used .exit)) ⌝ }
 {
     ask_number(part, servers, slots, used, 0, Stop::LacksMeta)
 }
 
 pub fn ask_node(part: &[u8], servers: usize, slots: usize, used: &mut [u64], name: u64) -> Asked
-    requires { ⌜ (servers ≤ 8) × Noted (held (now part)) (now used) × (7223 ≤ length (now part) / 8) ⌝ }
-    ensures { λ r. ⌜ Answer (sizes servers slots) (held (now (part .entry))) nothing (now (used .entry)) (node name) (r .stop) (r .node) (now (used .exit)) ⌝ }
+    requires { ⌜ Walking servers (now part) (now used) ⌝ }
+    ensures { λ r. ⌜ Answer (sizes servers slots) (held (now (part .entry))) nothing (now (used .entry)) (node name) (r .stop) (r .node)
+        (now (used .exit)) ⌝ }
 {
     let there = in_store(servers, slots, name);
     if !there {
@@ -204,8 +208,9 @@ fn see_number(
     number: u64,
     lacks: Stop,
 ) -> Asked
-    requires { ⌜ (number < 16385) × (servers ≤ 8) × OwnGood (now own) × Noted (held (now part)) (now used) × (7223 ≤ length (now part) / 8) ⌝ }
-    ensures { λ r. ⌜ Numbered (sizes servers slots) (held (now (part .entry))) (now (own .entry)) (now (used .entry)) number lacks (r .stop) (r .node) (now (used .exit)) ⌝ }
+    requires { ⌜ (number < 16385) × WalkingOwn servers (now part) (now own) (now used) ⌝ }
+    ensures { λ r. ⌜ Numbered (sizes servers slots) (held (now (part .entry))) (now (own .entry)) (now (used .entry)) number lacks
+        (r .stop) (r .node) (now (used .exit)) ⌝ }
 {
     let f = find_own(own, number);
     match f {
@@ -225,8 +230,9 @@ pub fn see_node(
     used: &mut [u64],
     name: u64,
 ) -> Asked
-    requires { ⌜ (servers ≤ 8) × OwnGood (now own) × Noted (held (now part)) (now used) × (7223 ≤ length (now part) / 8) ⌝ }
-    ensures { λ r. ⌜ Answer (sizes servers slots) (held (now (part .entry))) (now (own .entry)) (now (used .entry)) (node name) (r .stop) (r .node) (now (used .exit)) ⌝ }
+    requires { ⌜ WalkingOwn servers (now part) (now own) (now used) ⌝ }
+    ensures { λ r. ⌜ Answer (sizes servers slots) (held (now (part .entry))) (now (own .entry)) (now (used .entry)) (node name)
+        (r .stop) (r .node) (now (used .exit)) ⌝ }
 {
     let there = in_store(servers, slots, name);
     if !there {
@@ -253,8 +259,9 @@ pub fn see_flag(
     used: &mut [u64],
     name: u64,
 ) -> Asked
-    requires { ⌜ (servers ≤ 8) × OwnGood (now own) × Noted (held (now part)) (now used) × (7223 ≤ length (now part) / 8) ⌝ }
-    ensures { λ r. ⌜ Answer (sizes servers slots) (held (now (part .entry))) (now (own .entry)) (now (used .entry)) (flag name) (r .stop) (r .node) (now (used .exit)) ⌝ }
+    requires { ⌜ WalkingOwn servers (now part) (now own) (now used) ⌝ }
+    ensures { λ r. ⌜ Answer (sizes servers slots) (held (now (part .entry))) (now (own .entry)) (now (used .entry)) (flag name)
+        (r .stop) (r .node) (now (used .exit)) ⌝ }
 {
     let there = in_store(servers, slots, name);
     if !there {

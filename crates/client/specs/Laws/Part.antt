@@ -22,7 +22,7 @@ use Rattle.client.specs.Layout.{ClientWord, client-words, client-block, 
 use Rattle.nodes.specs.Stored.{node-of, node-at, words-of}
 use Rattle.client.specs.Sets.{held, at-most, count, number-at, record-at}
 use Rattle.client.specs.Vectors.{vector-copy}
-use Rattle.client.specs.Part.{put-field, put-item}
+use Rattle.client.specs.Part.{put-field, put-item, put-word}
 
 pub item-place : (s : Set) (i b : ℕ) → b ≡ base s → b + 34 * i ≡ at client-words client-block (item s i 0)
 unfolding at offset size base
@@ -105,7 +105,7 @@ got-record s k i a r h p l b e =
 
 -- ---- writing
 pub field-done : (i v : ℕ) (w w′ : List ℕ) → w′ ≡ set w i v → Does client-words client-block (put-field i v) silent w 0 w′
-unfolding stepped stored put-field at offset
+unfolding stepped stored put-word at offset
 field-done i v w w′ e = record { answer = refl; words = e }
 
 pub item-done : (s : Set) (i a x : ℕ) (r : Node) (ws w w′ : List ℕ) → i < limit s → length ws ≡ 34 → ws ≡ x ∷ words-of r

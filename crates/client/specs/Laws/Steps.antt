@@ -27,7 +27,7 @@ use Rattle.client.specs.declared.part.Set.{Set}
 use Rattle.client.specs.Layout.{ClientWord, client-words, client-block, field, item, vector-word, limit}
 use Rattle.client.specs.Sets.{held, or-found, first-of, count, number-at, find}
 use Rattle.client.specs.Laws.Part.{item-run, vector-run, count-limit}
-use Rattle.client.specs.Part.{PartStep, Did, _then_, nothing, put-field, put-fields, put-item, put-number, put-vector, drop-vector}
+use Rattle.client.specs.Part.{PartStep, Did, _then_, nothing, put-field, put-fields, put-item, put-number, put-vector, drop-vector, put-word}
 
 -- the stores lie in the part, whatever it holds
 pub record Good (g : PartStep) : Type 0 where
@@ -85,7 +85,7 @@ unfolding nothing AllValid
 good-nothing = record { all = λ m. tt }
 
 pub good-field : (i v : ℕ) → i < 15 → Good (put-field i v)
-unfolding put-field AllValid Valid In
+unfolding put-word AllValid Valid In
 good-field i v h = record { all = λ m. (h, tt) }
 
 pub good-fields : (i : ℕ) (vs : List ℕ) → i + length vs ≤ 15 → Good (put-fields i vs)

@@ -21,7 +21,7 @@ use Rattle.client.specs.Layout.{ClientWord, client-words, field, item, vector-w
 use Rattle.client.specs.Sets.{or-found, count, record-at, number-at, first-of, find}
 use Rattle.client.specs.Commit.{is-at}
 use Rattle.client.specs.Items.{has}
-use Rattle.client.specs.Part.{put-field, put-item}
+use Rattle.client.specs.Part.{put-field, put-item, put-word}
 use Rattle.demand.specs.Laws.Slots.{record-frame}
 use Rattle.demand.specs.Laws.Held.{absent≢at}
 use Rattle.demand.specs.Laws.Placed.{family, placed, placed-number, placed-record, placed-beside, placed-else}
@@ -154,7 +154,7 @@ module _ (s : Set) (f : ℕ) (u v : ClientWord → ℕ) (x : ℕ) (r : Node) whe
 pub put-behind : (s : Set) (f x : ℕ) (r : Node) → Sized r → (u : ClientWord → ℕ) → count u s ≡ u (field f)
     → ((v : ClientWord → ℕ) → v (field f) ≡ suc (u (field f)) → count v s ≡ suc (u (field f)))
     → Behind s f u (changed client-words u (andThen client-words (put-item s (u (field f)) x r) (put-field f (u (field f) + 1)) u)) x r
-unfolding put-field andThen changed number-at
+unfolding put-word andThen changed number-at
 put-behind s f x r h u before after =
     subst (λ (v : ClientWord → ℕ). Behind s f u v x r) (sym (changed-append client-words (put-item s n x r u) (put (field f) (n + 1) ∷ []) u))
     (record {

@@ -21,7 +21,7 @@ use Rattle.client.specs.declared.part.Set.the-variants.{Reads, Writes, Copies}
 use Rattle.client.specs.Layout.{ClientWord, client-words, field, item, vector-word, reads-count, writes-count, meta-copied, meta-root, meta-version}
 use Rattle.client.specs.Record.{value-of}
 use Rattle.client.specs.Sets.{count, record-at, number-at, find}
-use Rattle.client.specs.Part.{nothing, put-field, put-number, drop-vector}
+use Rattle.client.specs.Part.{nothing, put-field, put-number, drop-vector, put-word}
 use Rattle.client.specs.Copies.{drop-at, drop-node, drop-object, drop-read, drop-reads, empty-place, drop-all}
 use Rattle.client.specs.Commit.{inner-at}
 use Rattle.client.specs.Drops.{drop-each, drop-used}
@@ -121,7 +121,7 @@ dropped-vector s u = go (ltb s 8)
     go false = tt
 
 pub only-object : (x : ℕ) (f : ClientWord → ℕ) → Only client-words Drop (drop-object x f)
-unfolding drop-object drop-node put-field Only Mark
+unfolding drop-object drop-node put-word Only Mark
 only-object x f = go (eqb x 0) (leb x 8192)
   where
     go : (a b : Bool) → Only client-words Drop (cond a (put-field 12 0) (cond b (drop-node x) (drop-vector (N.server-of (x - 8193)))) f)
@@ -155,7 +155,7 @@ only-used xs f =
     (only-sweep client-words Drop drop-read (count f Reads) f (λ i u. only-object (number-at u Reads i) u)) (only-each xs)
 
 pub only-all : (f : ClientWord → ℕ) → Only client-words Drop (drop-all f)
-unfolding drop-all put-field empty-place put-number Only Mark
+unfolding drop-all put-word empty-place put-number Only Mark
 only-all f =
     only-then client-words Drop (put-field 12 0) (andThen client-words (sweep client-words empty-place 64) (sweep client-words drop-vector 8)) f ((refl, refl), tt)
     (λ g. only-then client-words Drop (sweep client-words empty-place 64) (sweep client-words drop-vector 8) g

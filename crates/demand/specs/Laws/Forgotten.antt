@@ -12,7 +12,7 @@ use Rattle.operations.specs.Operation.{Legal}
 use Rattle.client.specs.declared.part.Set.the-variants.{Reads, Writes, Copies}
 use Rattle.client.specs.Layout.{ClientWord, client-words, field, lost, phase, op-number, item, vector-word, reads-count, writes-count, meta-copied, meta-root, meta-version}
 use Rattle.client.specs.Copies.{drop-all}
-use Rattle.client.specs.Part.{put-field}
+use Rattle.client.specs.Part.{put-field, put-word}
 use Rattle.client.specs.Life.{lose-part}
 use Rattle.client.specs.Work.{op-of, waiting}
 use Rattle.steps.specs.Whole.{Address, client, whole}
@@ -27,7 +27,7 @@ use Rattle.protocol.specs.Machine as P
 
 -- one store, at the word that says that a client is lost
 lost-only : (u : ClientWord → ℕ) (a : ClientWord) → ¬ (a ≡ lost) → changed client-words u (put-field 9 1 u) a ≡ u a
-unfolding changed put-field
+unfolding changed put-word
 lost-only u a n = upd-other (decide client-words) u lost 1 a n
 
 -- ---- copies forgotten: no move

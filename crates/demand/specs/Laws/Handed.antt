@@ -28,7 +28,7 @@ use Rattle.client.specs.Layout.{ClientWord, client-words, item, vector-word, re
 use Rattle.client.specs.Record.{number, value-of, single, object-in-store}
 use Rattle.client.specs.Sets.{find}
 use Rattle.client.specs.Participants.{at-home}
-use Rattle.client.specs.Part.{nothing, put-field, put-fields, put-vector}
+use Rattle.client.specs.Part.{nothing, put-field, put-fields, put-vector, put-word}
 use Rattle.client.specs.Copies.{copy-node}
 use Rattle.client.specs.Enter.{enter-read}
 use Rattle.client.specs.Fetched.{fetched-meta, copy-inner, fetched-node, mark-fetched, fetched-vector}
@@ -168,7 +168,7 @@ module _ (k j slots : ℕ) (al : Allowed (sizes k j slots)) (m : Address → ℕ
 
     -- the note that this transaction has fetched it says nothing of copies
     mark-copies : (v : ClientWord → ℕ) (x : ℕ) (f : Obj → Option (P.Copy (T k j slots))) → Copies-shown k j slots v f → Copies-shown k j slots (changed client-words v (put-field 8 x v)) f
-    unfolding put-field
+    unfolding put-word
     mark-copies v x f h =
         copies-frame k j slots v (changed client-words v (put-field 8 x v)) f (at meta-copied) (at meta-root) (at meta-version) (λ i n. at (item Copies i n)) (λ q n. at (vector-word q n)) h
       where
@@ -176,7 +176,7 @@ module _ (k j slots : ℕ) (al : Allowed (sizes k j slots)) (m : Address → ℕ
         at a = read-after client-words (put-field 8 x v) v a
 
     pub vector-handed : At (changed client-words w (fetched-vector (s .0) (vector-at p) w))
-    unfolding fetched-vector mark-fetched put-field Only
+    unfolding fetched-vector mark-fetched put-word Only
     vector-handed =
         then-keeps client-words At (put-vector (s .0) (vector-at p)) (mark-fetched (s .0)) w
         (copies-stored k j slots m L M c R w (put-vector (s .0) (vector-at p) w) (only-vector (s .0) (vector-at p) w) H g

@@ -20,7 +20,7 @@ use Rattle.client.specs.Sets.{count, number-at}
 use Rattle.client.specs.Commit.{all-of, is-at}
 use Rattle.client.specs.Fits.{bounds, field-fits, has-read, vector-fits, op-fits, item-fits, client-fits}
 use Rattle.client.specs.Laws.Fits.{all-at, fits-field}
-use Rattle.client.specs.Part.{put-field}
+use Rattle.client.specs.Part.{put-field, put-word}
 use Rattle.client.specs.Copies.{drop-all}
 use Rattle.client.specs.Life.{lose-part}
 use Rattle.client.specs.Course.{noted, decided}
@@ -171,7 +171,7 @@ module _ (z : TreeSizes) (u : ClientWord → ℕ) (fit : client-fits z u ≡ tru
   decision-fits = stores-fit z (decided u) u ((refl, omega arith), tt) fit
 
   pub loss-fits : client-fits z (changed client-words u (lose-part u)) ≡ true
-  unfolding lose-part put-field Only Harmless Mark
+  unfolding lose-part put-word Only Harmless Mark
   loss-fits =
       stores-fit z (lose-part u) u
       (only-then client-words (Harmless (2 ^ z .servers - 1)) (put-field 9 1) drop-all u ((refl, omega arith), tt)

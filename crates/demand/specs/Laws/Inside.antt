@@ -32,7 +32,7 @@ use Rattle.client.specs.Sets.{count, number-at, record-at}
 use Rattle.client.specs.Fits.{item-fits, has-read, client-fits}
 use Rattle.client.specs.Laws.Fits.{fits-read, fits-write}
 use Rattle.client.specs.Have.{source, unusable, broken}
-use Rattle.client.specs.Part.{PartStep, put-field}
+use Rattle.client.specs.Part.{PartStep, put-field, put-word}
 use Rattle.client.specs.Laws.Steps.{Good, good-then, good-field}
 use Rattle.client.specs.Answered.{used-enter, entered, enter-writes, answered}
 use Rattle.client.specs.Fetched.{fetched-meta, fetched-node, fetched-vector}
@@ -71,7 +71,7 @@ unfolding used-enter
 good-entering us = good-used (length us ∷ us)
 
 good-answered : (us : List ℕ) (w : O.Writes) → Good (answered us w)
-unfolding answered enter-writes put-field
+unfolding answered enter-writes put-word
 good-answered us w =
     good-then (used-enter us) (andThen client-words (enter-writes w) (put-field 1 0)) (good-entering us)
     (good-then (enter-writes w) (put-field 1 0) (good-entries (entered w)) (good-field 1 0 (omega arith)))

@@ -15,7 +15,7 @@ use Rattle.protocol.specs.State.{Phase, opened}
 use Rattle.client.specs.Layout.{ClientWord, client-words, phase, op-number, op-key, op-value, op-server, participants, prepared, applied, reads-count, writes-count, item, vector-word, meta-copied, meta-root, meta-version}
 use Rattle.client.specs.declared.part.Set.the-variants.{Reads, Writes, Copies}
 use Rattle.client.specs.Life.{reset, give-part}
-use Rattle.client.specs.Part.{put-field, put-fields}
+use Rattle.client.specs.Part.{put-field, put-fields, put-word}
 use Rattle.layout.specs.Step.{andThen}
 use Rattle.client.specs.Work.{op-of, waiting}
 use Rattle.steps.specs.Whole.{Address, client, whole}
@@ -68,7 +68,7 @@ module _ (k j slots : ℕ) where
     cleared = changed client-words u (reset p u)
 
     pub reset-slot : p < 2 → Slot-shown k j slots cleared (P.blank (T k j slots) (phase-of p))
-    unfolding reset put-field put-fields puts andThen
+    unfolding reset put-word put-fields puts andThen
     reset-slot l =
         subst (λ (q : ℕ). Slot-shown k j slots cleared (P.blank (T k j slots) (phase-of q))) (read-after client-words (reset p u) u phase)
         (blank-shown k j slots cleared (subst (λ (q : ℕ). q < 2) (sym (read-after client-words (reset p u) u phase)) l)
@@ -76,7 +76,7 @@ module _ (k j slots : ℕ) where
         (read-after client-words (reset p u) u prepared) (read-after client-words (reset p u) u applied))
 
     pub reset-copies : (f : Obj → Option (P.Copy (T k j slots))) → Copies-shown k j slots u f → Copies-shown k j slots cleared f
-    unfolding reset put-field put-fields puts andThen
+    unfolding reset put-word put-fields puts andThen
     reset-copies f h =
         copies-frame k j slots u cleared f (at meta-copied) (at meta-root) (at meta-version) (λ i n. at (item Copies i n)) (λ s n. at (vector-word s n)) h
       where
@@ -84,11 +84,11 @@ module _ (k j slots : ℕ) where
         at a = read-after client-words (reset p u) u a
 
     pub reset-waits : cleared op-number ≡ 0
-    unfolding reset put-field put-fields puts andThen
+    unfolding reset put-word put-fields puts andThen
     reset-waits = read-after client-words (reset p u) u op-number
 
     pub reset-phase : cleared phase ≡ p
-    unfolding reset put-field put-fields puts andThen
+    unfolding reset put-word put-fields puts andThen
     reset-phase = read-after client-words (reset p u) u phase
 
   -- ---- a step whose stores are all in one client's part

@@ -23,7 +23,7 @@ use Rattle.client.specs.Record.{in-store, object-in-store}
 use Rattle.client.specs.Sets.{count}
 use Rattle.client.specs.Commit.{all-of}
 use Rattle.client.specs.Fits.{field-fits, op-fits, item-fits, vector-fits, client-fits}
-use Rattle.client.specs.Part.{Did, nothing, put-field}
+use Rattle.client.specs.Part.{Did, nothing, put-field, put-word}
 use Rattle.client.specs.Laws.Steps.{did-three, did-nothing}
 use Rattle.client.specs.Laws.GoodSteps.{good-entries}
 use Rattle.client.specs.Have.{broken}
@@ -72,7 +72,7 @@ unfolding enter-entries nothing
 seen-entered us s t x h p r = answer-entered us [] s t t x h p (did-nothing (enter-entries []) t refl) r
 
 entering-is : (us : List ℕ) (l : List Entry) (w : O.Writes) → l ≡ entered w → entering us l ≡ answered us w
-unfolding entering answered enter-writes put-field
+unfolding entering answered enter-writes put-word
 entering-is us l w e = rw e
 
 -- ---- the walk of the part that is lent on

@@ -21,7 +21,7 @@ use Rattle.client.specs.Participants.{lowest-of}
 use Rattle.client.specs.Course.{noted}
 use Rattle.client.specs.Renew.{finish}
 use Rattle.client.specs.Laws.Steps.{Good, good-field}
-use Rattle.client.specs.Part.{put-field}
+use Rattle.client.specs.Part.{put-field, put-word}
 use Rattle.steps.specs.declared.sizes.Sizes.{Sizes}
 use Rattle.steps.specs.declared.outcome.Outcome.{Outcome}
 use Rattle.steps.specs.declared.outcome.Outcome.the-variants.{Refused, Applied, Committed}
@@ -106,7 +106,7 @@ module _ (z : Sizes) (c s : ℕ) (b₀ b : List ℕ) (hold : Store-in z (length 
 
 -- ---- the note, and the end
 pub good-noted : (i s : ℕ) → i < 15 → Good (noted (field i) s)
-unfolding noted put-field
+unfolding noted put-word
 good-noted i s h = record { all = λ m. good-field i (putBit true (m (field i)) s) h .all m }
 
 module _ (z : Sizes) (c s : ℕ) (b₀ b b₁ : List ℕ) (hold : Store-in z (length b₀)) (known : Known z (view b₀) c) (h : s < z .servers) (last : Bool) (e : last ≡ covers (z .servers) (of-client z (view b₀) c (field 5)) (putBit true (of-client z (view b₀) c (field 7)) s)) (p : Does whole (block z) (applies z c s) silent (view b₀) 0 (view b)) (q : Does whole (block z) (inPart (client c) (noted (field 7) s)) silent (view b) 0 (view b₁)) where

@@ -9,7 +9,7 @@ use Rattle.layout.specs.Laws.Step.{does-as}
 use Rattle.layout.specs.Part.{inPart}
 use Rattle.client.specs.Items.{all-below}
 use Rattle.client.specs.Layout.{ClientWord, field}
-use Rattle.client.specs.Part.{put-field}
+use Rattle.client.specs.Part.{put-field, put-word}
 use Rattle.client.specs.Course.{noted}
 use Rattle.steps.specs.declared.sizes.Sizes.{Sizes}
 use Rattle.steps.specs.Whole.{client, whole, block}
@@ -35,7 +35,7 @@ pub last-by : (z : Sizes) (w : List ℕ) (c n s i p q v : ℕ) (r : Bool) → p 
 last-by z w c n s i p q v r e f g h = h ∙ rw (g, f, e)
 
 pub mark-same : (i v : ℕ) (m : ClientWord → ℕ) → put-field i v m ≡ mark i v m
-unfolding put-field mark
+unfolding put-word mark
 mark-same i v m = refl
 
 pub is-noted : (z : Sizes) (c i s x v : ℕ) (w w′ : List ℕ) → x ≡ of-client z w c (field i) → v ≡ putBit true x s

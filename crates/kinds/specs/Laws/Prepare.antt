@@ -25,7 +25,7 @@ use Rattle.client.specs.Items.{all-below}
 use Rattle.client.specs.Record.{last-version}
 use Rattle.client.specs.Drops.{version-of}
 use Rattle.client.specs.Course.{noted, decided}
-use Rattle.client.specs.Part.{put-field}
+use Rattle.client.specs.Part.{put-field, put-word}
 use Rattle.client.specs.Laws.Steps.{Good, good-field}
 use Rattle.steps.specs.declared.sizes.Sizes.{Sizes}
 use Rattle.steps.specs.declared.outcome.Outcome.{Outcome}
@@ -136,7 +136,7 @@ module _ (z : Sizes) (c s : ℕ) (b₀ b : List ℕ) (hold : Store-in z (length 
   room = omega (arith, hold .room, view-length b₀)
 
   good-decided : Good decided
-  unfolding decided put-field
+  unfolding decided put-word
   good-decided = record { all = λ m. good-field 0 3 (omega arith) .all m }
 
   decides-inside : AllValid whole (block z) (decides z c s before)

@@ -102,11 +102,11 @@ pub kind-due : (m : ClientWord → ℕ) (s : ℕ) (k k′ : Kind) (r : Bool) →
 kind-due m s k k′ r e h = rw e h
 
 module _ (m : ClientWord → ℕ) (f s p : ℕ) (b : Bool) (ep : p ≡ m participants) (eb : b ≡ bit p s) where
-  pub no-participant : b ≡ false → false ≡ left m f s
+  pub no-participant : b ≡ false → false ≡ left m (field f) s
   unfolding left
   no-participant t = sym (rw (← ep, ← eb, t))
 
-  pub by-done : (d : ℕ) (c : Bool) → b ≡ true → d ≡ m (field f) → c ≡ bit d s → not c ≡ left m f s
+  pub by-done : (d : ℕ) (c : Bool) → b ≡ true → d ≡ m (field f) → c ≡ bit d s → not c ≡ left m (field f) s
   unfolding left
   by-done d c t ed ec = sym (rw (← ep, ← eb, t, ← ed, ← ec))
 

@@ -19,7 +19,7 @@ use Rattle.client.specs.declared.part.Set.the-variants.{Reads, Writes, Copies}
 use Rattle.client.specs.Layout.{ClientWord, client-words, field, item, vector-word, op-number, reads-count, writes-count, meta-copied, meta-root, meta-version}
 use Rattle.client.specs.Record.{single}
 use Rattle.client.specs.Sets.{record-at, find}
-use Rattle.client.specs.Part.{nothing, put-field, put-fields, put-vector}
+use Rattle.client.specs.Part.{nothing, put-field, put-fields, put-vector, put-word}
 use Rattle.client.specs.Participants.{committing}
 use Rattle.client.specs.Course.{noted, decided}
 use Rattle.client.specs.Copies.{to-place, copy-node}
@@ -84,7 +84,7 @@ module _ (z : S.TreeSizes) (u : ClientWord → ℕ) (h : Copies-sound z u) where
   dropped-copies ps o = fewer-sound z u (changed client-words u ps) h (fewer ps u o)
 
   pub reset-copies : (p : ℕ) → Copies-sound z (changed client-words u (reset p u))
-  unfolding reset put-field put-fields puts andThen
+  unfolding reset put-word put-fields puts andThen
   reset-copies p =
       copies-frame z u (changed client-words u (reset p u)) h (at meta-copied) (at meta-root) (at meta-version)
       (λ i n. at (item Copies i n)) (λ s. at (vector-word s 0))
@@ -212,9 +212,9 @@ module _ (u : ClientWord → ℕ) where
   only-decided = (refl, tt)
 
   pub only-lost : Only client-words before-counts (put-field 9 1 u)
-  unfolding put-field Only
+  unfolding put-word Only
   only-lost = (refl, tt)
 
   pub only-marked : (s : ℕ) → Only client-words before-counts (mark-fetched s u)
-  unfolding mark-fetched put-field Only
+  unfolding mark-fetched put-word Only
   only-marked s = (refl, tt)

@@ -24,7 +24,7 @@ use Rattle.client.specs.Layout.{ClientWord, client-code, client-words, field, i
 use Rattle.client.specs.Record.{in-store}
 use Rattle.client.specs.Sets.{find}
 use Rattle.client.specs.Fits.{bounds, op-fits}
-use Rattle.client.specs.Part.{nothing, put-field, put-fields, put-item, put-vector}
+use Rattle.client.specs.Part.{nothing, put-field, put-fields, put-item, put-vector, put-word}
 use Rattle.client.specs.Participants.{takes-part, participants-of, committing}
 use Rattle.client.specs.Course.{noted, decided}
 use Rattle.client.specs.Copies.{to-place, copy-node}
@@ -130,7 +130,7 @@ module _ (z : S.TreeSizes) (u : ClientWord → ℕ) where
   Stays ps = Fields-sound z u → Fields-sound z (changed client-words u ps)
 
   reset-within : (p : ℕ) → p ≤ 1 → Only client-words (Within-store z) (reset p u)
-  unfolding reset put-field put-fields puts andThen Only Within-store
+  unfolding reset put-word put-fields puts andThen Only Within-store
   reset-within p l = (
     (refl, λ q. omega arith),
     (
@@ -196,7 +196,7 @@ module _ (z : S.TreeSizes) (u : ClientWord → ℕ) where
     prepared-fields = stores-within z u (noted prepared s u) ((refl, λ q. one-more (z .servers) s l (u prepared) (F .within 6 (omega arith))), tt) F
 
     pub marked-fields : Fields-sound z (changed client-words u (mark-fetched s u))
-    unfolding mark-fetched put-field Only Within-store
+    unfolding mark-fetched put-word Only Within-store
     marked-fields = stores-within z u (mark-fetched s u) ((refl, λ q. one-more (z .servers) s l (u fetched-vectors) (F .within 8 (omega arith))), tt) F
 
     pub applied-fields : Fields-sound z (changed client-words u (noted applied s u))
@@ -209,7 +209,7 @@ module _ (z : S.TreeSizes) (u : ClientWord → ℕ) where
 
   -- a lost client's mark
   pub lost-fields : Stays (put-field 9 1 u)
-  unfolding put-field Only Within-store
+  unfolding put-word Only Within-store
   lost-fields = stores-within z u (put-field 9 1 u) ((refl, λ l. omega arith), tt)
 
   -- copies are dropped

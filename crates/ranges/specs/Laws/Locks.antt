@@ -28,7 +28,7 @@ use Rattle.client.specs.Commit.{is-at}
 use Rattle.client.specs.Sets.{record-at, number-at, find}
 use Rattle.client.specs.Items.{inner, has, of-record}
 use Rattle.client.specs.Participants.{lowest-of}
-use Rattle.client.specs.Part.{put-field}
+use Rattle.client.specs.Part.{put-field, put-word}
 use Rattle.client.specs.Copies.{drop-all}
 use Rattle.client.specs.Life.{lose-part}
 use Rattle.client.specs.Fits.{client-fits}
@@ -104,7 +104,7 @@ goes-on-silent s u ps h = record {
 
 -- "A decided transaction of a lost client is still applied"
 goes-on-lost : (s : ℕ) (u : ClientWord → ℕ) → Goes-on s u (changed client-words u (lose-part u))
-unfolding lose-part put-field Only Mark
+unfolding lose-part put-word Only Mark
 goes-on-lost s u =
     goes-on-silent s u (lose-part u)
     (only-then client-words Silent (put-field 9 1) drop-all u (refl, tt)

@@ -22,7 +22,7 @@ use Rattle.client.specs.Laws.Part.{count-limit}
 use Rattle.client.specs.Sets.{count, number-at, find}
 use Rattle.client.specs.Have.{copied}
 use Rattle.client.specs.Lent.{Entry}
-use Rattle.client.specs.Part.{nothing, put-field, put-fields, put-item, put-vector}
+use Rattle.client.specs.Part.{nothing, put-field, put-fields, put-item, put-vector, put-word}
 use Rattle.client.specs.Participants.{committing}
 use Rattle.client.specs.Course.{noted, decided}
 use Rattle.client.specs.Copies.{copy-node, drop-all}
@@ -87,7 +87,7 @@ module _ (z : S.TreeSizes) (u : ClientWord → ℕ) (P : Part-sound z u) where
 
   -- ---- a transaction begins anew, or ends: both sets are empty
   pub reset-part : (p : ℕ) → p ≤ 1 → Part-sound z (changed client-words u (reset p u))
-  unfolding reset put-field put-fields puts andThen
+  unfolding reset put-word put-fields puts andThen
   reset-part p l = record {
     fields = F.reset-fields z u p l (P .fields);
     sets = no-sets z (changed client-words u (reset p u)) (read-after client-words (reset p u) u reads-count) (read-after client-words (reset p u) u writes-count);
@@ -155,7 +155,7 @@ module _ (z : S.TreeSizes) where
   item-within i x r u = F.words-within z (item set.Writes i) _ (λ q v. tt)
 
   entries-within : (l : List Entry) (u : ClientWord → ℕ) → Fine (enter-entries l u)
-  unfolding enter-entries enter-write nothing put-field Only F.Within-store
+  unfolding enter-entries enter-write nothing put-word Only F.Within-store
   entries-within [] u = tt
   entries-within (e ∷ l) u =
       only-then client-words (F.Within-store z) (enter-write (e .0) (e .1)) (enter-entries l) u (one (find u set.Writes (e .0))) (entries-within l)

@@ -10,6 +10,6 @@ is-unfinished-spec = tie.close (tie.spec
     (λ c κs. search needs)  -- has-requires
     (λ c κs. search needs)  -- get-field-requires-2
     (λ c κs. search needs)  -- has-requires-2
-    (λ c. search (no-participant, by-done, needs))  -- returns
-    (λ c. search (no-participant, by-done, needs))  -- returns-2
+    (λ c. search (by-done, needs))  -- returns
+    (λ c. search (no-participant, needs))  -- returns-2
     )
