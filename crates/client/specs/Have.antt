@@ -25,7 +25,7 @@ use Rattle.nodes.specs.Flags as N
 abbrev pub here : Node → Look
 here r = record { how = Here; node = r }
 
--- it is a copy that is not in use yet, with its record
+-- it is a copy, and in neither set, with its record
 abbrev pub copy : Node → Look
 copy r = record { how = Copied; node = r }
 
