@@ -26,6 +26,7 @@ unfoldable pub entered : Writes → List Entry
 entered [] = []
 entered (e ∷ w) = put-entry (number (e .0), record-of 0 (e .1)) (entered w)
 
+-- an operation's writes enter the write set
 unfoldable pub enter-writes : Writes → (ClientWord → ℕ) → List (Put ClientWord)
 enter-writes w = enter-entries (entered w)
 

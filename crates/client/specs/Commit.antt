@@ -14,6 +14,7 @@ unfoldable pub all-of : (ℕ → Bool) → ℕ → Bool
 all-of f zero = true
 all-of f (suc n) = all-of f n && f n
 
+-- was it found
 abbrev pub is-at : Found → Bool
 is-at (At i) = true
 is-at Absent = false

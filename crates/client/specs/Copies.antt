@@ -11,23 +11,26 @@ use Rattle.client.specs.Record.{by-number}
 use Rattle.client.specs.Sets.{count, number-at, find}
 use Rattle.client.specs.Part.{PartStep, _then_, nothing, put-item, put-number, drop-vector, put-word}
 
--- a node's copy goes to its own place, else to the first empty one (its number is 0), else nowhere
+-- to an empty place; "when full, a node isn't copied"
 abbrev pub to-empty : ℕ → Node → Found → PartStep
 to-empty x r (At i) = put-item Copies i x r
 to-empty x r Absent = nothing
 
+-- to the node's own place, else to an empty one
 abbrev pub to-place : ℕ → Node → Found → Found → PartStep
 to-place x r (At i) e = put-item Copies i x r
 to-place x r Absent e = to-empty x r e
 
+-- a node's copy goes to its own place, else to the first empty one (its number is 0), else nowhere
 unfoldable pub copy-node : ℕ → Node → PartStep
 copy-node x r m = to-place x r (find m Copies x) (find m Copies 0) m
 
--- ---- dropped
+-- ---- dropped: what stands at a place, if it was found
 abbrev pub drop-at : Found → PartStep
 drop-at (At i) = put-number Copies i 0
 drop-at Absent = nothing
 
+-- the copy of the inner node with the number x
 unfoldable pub drop-node : ℕ → PartStep
 drop-node x m = drop-at (find m Copies x) m
 
@@ -35,6 +38,7 @@ drop-node x m = drop-at (find m Copies x) m
 unfoldable pub drop-object : ℕ → PartStep
 drop-object x = by-number x (put-word meta-copied 0) (λ n. drop-node x) (λ n. drop-vector (server-of n))
 
+-- the copy of the object of read item i
 unfoldable pub drop-read : ℕ → PartStep
 drop-read i m = drop-object (number-at m Reads i) m
 
@@ -42,9 +46,10 @@ drop-read i m = drop-object (number-at m Reads i) m
 unfoldable pub drop-reads : PartStep
 drop-reads m = sweep client-words drop-read (count m Reads) m
 
--- "loss drops all copies"
+-- place i of the copies of inner nodes is empty
 unfoldable pub empty-place : ℕ → PartStep
 empty-place i = put-number Copies i 0
 
+-- "loss drops all copies": the metadata, 64 inner nodes, 8 vectors
 unfoldable pub drop-all : PartStep
 drop-all = put-word meta-copied 0 then sweep client-words empty-place 64 then sweep client-words drop-vector 8

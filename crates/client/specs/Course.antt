@@ -6,9 +6,10 @@ use Rattle.memory.specs.Bit.{putBit}
 use Rattle.layout.specs.Space.{Put, put}
 use Rattle.client.specs.Layout.{ClientWord, phase, decided-phase}
 
--- a server has prepared or applied; the last one has prepared
+-- server s is put into the set a: it has prepared, or applied
 unfoldable pub noted : ClientWord → ℕ → (ClientWord → ℕ) → List (Put ClientWord)
 noted a s m = put a (putBit true (m a) s) ∷ []
 
+-- "The last prepare is the decision."
 unfoldable pub decided : (ClientWord → ℕ) → List (Put ClientWord)
 decided m = put phase decided-phase ∷ []

@@ -15,10 +15,11 @@ use Rattle.client.specs.Part.{PartStep, _then_, nothing, put-item, put-w
 use Rattle.client.specs.Have.{copied}
 use Rattle.client.specs.Lent.{Entry, own-number, own-record}
 
--- behind the items that are there, which are c; object 97 is not read
+-- the object x with the record r behind the c items that are there
 abbrev pub read-behind : ℕ → ℕ → Node → PartStep
 read-behind c x r = put-item Reads c x r then put-word reads-count (c + 1)
 
+-- x enters the read set. There is always room: object 97 has ended the step by reason 4 (`judged`, `Steps.full`)
 unfoldable pub enter-read : ℕ → Node → PartStep
 enter-read x r m = cond (ltb (count m Reads) 96) (read-behind (count m Reads) x r) nothing m
 
@@ -26,21 +27,25 @@ enter-read x r m = cond (ltb (count m Reads) 96) (read-behind (count m Reads) x 
 unfoldable pub enter-copy : ℕ → PartStep
 enter-copy x m = enter-read x (copied m x .node) m
 
--- the copies in use, in the order of use
+-- copy i of a list that begins with its count
 unfoldable pub enter-nth : List ℕ → ℕ → PartStep
 enter-nth u i = enter-copy (getD u (i + 1) 0)
 
+-- the copies in use enter, in the order of use; the list u begins with its count
 unfoldable pub enter-used : List ℕ → PartStep
 enter-used u = sweep client-words (enter-nth u) (getD u 0 0)
 
--- a write replaces an earlier one of the same object, or comes behind the others; object 49 is not written
+-- the object x with the record r behind the c items that are there
 abbrev pub written-behind : ℕ → ℕ → Node → PartStep
 written-behind c x r = put-item Writes c x r then put-word writes-count (c + 1)
 
+-- a write replaces an earlier one of the same object, or comes behind the others. There is always room: object 49 has ended the step
+-- by reason 4 (`last-questions`)
 abbrev pub enter-at : ℕ → Node → ℕ → Found → PartStep
 enter-at x r c (At i) = put-item Writes i x r
 enter-at x r c Absent = cond (ltb c 48) (written-behind c x r) nothing
 
+-- x enters the write set with the record r
 unfoldable pub enter-write : ℕ → Node → PartStep
 enter-write x r m = enter-at x r (count m Writes) (find m Writes x) m
 

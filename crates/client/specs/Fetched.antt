@@ -11,6 +11,7 @@ use Rattle.client.specs.Part.{PartStep, _then_, nothing, put-fields, put
 use Rattle.client.specs.Enter.{enter-read}
 use Rattle.client.specs.Copies.{copy-node}
 
+-- the metadata is fetched: it enters the read set and is copied
 unfoldable pub fetched-meta : ℕ → ℕ → PartStep
 fetched-meta root version = enter-read 0 (single version root) then put-fields meta-fields (1 ∷ root ∷ version ∷ [])
 
@@ -18,12 +19,14 @@ fetched-meta root version = enter-read 0 (single version root) then put-fields m
 unfoldable pub copy-inner : ℕ → Node → PartStep
 copy-inner x r = cond (eqb (r .kind) 2) (copy-node x r) nothing
 
+-- a node is fetched: it enters the read set and is copied if it is inner
 unfoldable pub fetched-node : ℕ → Node → PartStep
 fetched-node name r = enter-read (1 + name) r then copy-inner (1 + name) r
 
--- a vector is no object: it enters no set
+-- this transaction has fetched the vector of server s
 unfoldable pub mark-fetched : ℕ → PartStep
 mark-fetched s m = put-word fetched-vectors (putBit true (m fetched-vectors) s) m
 
+-- a vector is fetched: it is copied, and enters no set, since it is no object
 unfoldable pub fetched-vector : ℕ → List ℕ → PartStep
 fetched-vector s ws = put-vector s ws then mark-fetched s

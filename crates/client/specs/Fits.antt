@@ -23,12 +23,13 @@ module _ (m : ClientWord → ℕ) where
   unfoldable pub field-fits : ℕ → ℕ → Bool
   field-fits every i = leb (m (field i)) (getD (bounds every) i 0)
 
-  -- "a written object's read"
+  -- "a written object's read"; asked of read and written items only
   unfoldable pub has-read : Set → ℕ → Bool
   has-read Reads x = true
   has-read Writes x = is-at (find m Reads x)
   has-read Copies x = true
 
+  -- the word that says whether the vector of server s is copied is 0 or 1
   unfoldable pub vector-fits : ℕ → Bool
   vector-fits s = leb (m (vector-word s 0)) 1
 
@@ -37,9 +38,11 @@ module _ (z : TreeSizes) (m : ClientWord → ℕ) where
   unfoldable pub op-fits : Bool
   op-fits = cond (eqb (m op-number) 6) (in-store z (m op-key) && ltb (m op-server) (z .servers)) true
 
+  -- item i of a set: its object is one of the store, its record in range, and what is written was read
   unfoldable pub item-fits : Set → ℕ → Bool
   item-fits s i = number-in-store z (number-at m s i) && (record-in-range z (number-at m s i) (record-at m s i) && has-read m s (number-at m s i))
 
+  -- the client's own state is in range: fields, the waiting operation, read set, write set, marks of the vectors' copies
   unfoldable pub client-fits : Bool
   client-fits =
       all-of (field-fits m (2 ^ z .servers - 1)) 13

@@ -21,16 +21,19 @@ use Rattle.client.specs.Sets.{record-at, find}
 use Rattle.client.specs.Vectors.{has-vector, seen-words, is-fetched}
 use Rattle.nodes.specs.Flags as N
 
--- what a lookup says: in a set; a copy; a copy for which there is no room in the read set; to be fetched; out of range
+-- what a lookup says: the object is in a set, with its record
 abbrev pub here : Node → Look
 here r = record { how = Here; node = r }
 
+-- it is a copy, and in neither set, with its record
 abbrev pub copy : Node → Look
 copy r = record { how = Copied; node = r }
 
+-- there is neither: it is to be fetched, and the record is not looked at
 abbrev pub lacking : Look
 lacking = record { how = Lacking; node = free-node 0 }
 
+-- is there a record; Full and Broken are never said of an object here
 abbrev pub is-found : How → Bool
 is-found Here = true
 is-found Copied = true
@@ -50,10 +53,12 @@ module _ (m : ClientWord → ℕ) where
   unfoldable pub copied-meta : Look
   copied-meta = cond (eqb (m meta-copied) 1) (copy (single (m meta-version) (m meta-root))) lacking
 
+  -- the copy of an inner node at its place, if it has one
   abbrev pub copied-item : Found → Look
   copied-item (At i) = copy (record-at m Copies i)
   copied-item Absent = lacking
 
+  -- the copy of the inner node with the number x
   unfoldable pub copied-node : ℕ → Look
   copied-node x = copied-item (find m Copies x)
 
@@ -64,13 +69,16 @@ module _ (m : ClientWord → ℕ) where
       cond (eqb (m (vector-word (server-of n) 0)) 1)
       (copy (single 0 (digit (bit (m (vector-word (server-of n) (1 + i / 64))) (i % 64))))) lacking
 
+  -- the copy of the object with the number x
   unfoldable pub copied : ℕ → Look
   copied x = by-number x copied-meta (λ n. copied-node x) copied-flag
 
+  -- "else the read set, else the client's copies": x was looked for in the read set
   abbrev pub or-copied : ℕ → Found → Look
   or-copied x (At i) = here (record-at m Reads i)
   or-copied x Absent = copied x
 
+  -- "An object is read from the write set, else the read set": x was looked for in the write set
   abbrev pub or-read : ℕ → Found → Look
   or-read x (At i) = here (record-at m Writes i)
   or-read x Absent = or-copied x (find m Reads x)
@@ -80,12 +88,15 @@ module _ (m : ClientWord → ℕ) where
   source x = or-read x (find m Writes x)
 
 module _ (z : TreeSizes) (m : ClientWord → ℕ) where
+  -- there is a record, and it is in range
   abbrev pub usable : ℕ → Look → Bool
   usable x l = is-found (l .how) && record-in-range z x (l .node)
 
+  -- the object's value, if its record can be used
   abbrev pub valued : Obj → Look → Option Val
   valued o l = cond (usable (number o) l) (some (value-of o (l .node))) none
 
+  -- the vector of server s, if there is a copy, "own frees and takes counted"
   abbrev pub have-vector : ℕ → Option Val
   have-vector s = cond (ltb s (z .servers) && has-vector m s) (some (flags (N.flags-in (z .slots) (seen-words m s)))) none
 
@@ -95,10 +106,11 @@ module _ (z : TreeSizes) (m : ClientWord → ℕ) where
   have (vector s) = have-vector s
   have (fetched s) = cond (is-fetched m s) (have-vector s) none
 
+  -- there is a record, and it is out of range
   abbrev pub unusable : ℕ → Look → Bool
   unusable x l = is-found (l .how) && not (record-in-range z x (l .node))
 
-  -- what is not at hand can't be fetched either: refusal 10
+  -- what is not at hand can't be fetched either: refusal 10. Vectors are only asked of servers of the store, so none is broken
   unfoldable pub broken : Ask → Bool
   broken (object o) = cond (object-in-store z o) (unusable (number o) (source m (number o))) true
   broken (vector s) = not (ltb s (z .servers))

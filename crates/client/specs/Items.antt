@@ -12,11 +12,12 @@ use Rattle.client.specs.Record.{by-number}
 use Rattle.client.specs.Commit.{is-at}
 use Rattle.client.specs.Sets.{record-at, find}
 
--- a test of all numbers below n, of any
+-- does f hold of all numbers below n
 unfoldable pub all-below : ℕ → (ℕ → Bool) → Bool
 all-below zero f = true
 all-below (suc n) f = all-below n f && f n
 
+-- does f hold of any of them
 unfoldable pub any-below : ℕ → (ℕ → Bool) → Bool
 any-below zero f = false
 any-below (suc n) f = any-below n f || f n

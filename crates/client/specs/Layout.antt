@@ -24,12 +24,15 @@ phase = field 0
 abbrev pub op-number : ClientWord
 op-number = field 1
 
+-- its key; of a migrate the node's name
 abbrev pub op-key : ClientWord
 op-key = field 2
 
+-- its value
 abbrev pub op-value : ClientWord
 op-value = field 3
 
+-- its server
 abbrev pub op-server : ClientWord
 op-server = field 4
 
@@ -37,12 +40,15 @@ op-server = field 4
 abbrev pub participants : ClientWord
 participants = field 5
 
+-- the servers that have prepared
 abbrev pub prepared : ClientWord
 prepared = field 6
 
+-- the servers that have applied
 abbrev pub applied : ClientWord
 applied = field 7
 
+-- the servers whose vector this transaction has fetched
 abbrev pub fetched-vectors : ClientWord
 fetched-vectors = field 8
 
@@ -54,6 +60,7 @@ lost = field 9
 abbrev pub reads-count : ClientWord
 reads-count = field 10
 
+-- how many objects are written
 abbrev pub writes-count : ClientWord
 writes-count = field 11
 
@@ -61,9 +68,11 @@ writes-count = field 11
 abbrev pub meta-copied : ClientWord
 meta-copied = field 12
 
+-- the root's name in it
 abbrev pub meta-root : ClientWord
 meta-root = field 13
 
+-- the version in it
 abbrev pub meta-version : ClientWord
 meta-version = field 14
 
@@ -102,10 +111,12 @@ base Reads = 15
 base Writes = 3279
 base Copies = 4911
 
+-- 15 fields; 96 read, 48 written and 64 copied items of 34 words; the copies of 8 vectors, of 17 words
 abbrev pub client-block : Block
 client-block =
     followed-by (words 15) (followed-by (times 96 (words 34)) (followed-by (times 48 (words 34)) (followed-by (times 64 (words 34)) (followed-by (times 8 (words 17)) end))))
 
+-- where in the block each word of the part stands
 abbrev pub client-code : ClientWord → List ℕ
 client-code (field i) = 0 ∷ i ∷ []
 client-code (item Reads i j) = 1 ∷ i ∷ j ∷ []
@@ -113,12 +124,14 @@ client-code (item Writes i j) = 2 ∷ i ∷ j ∷ []
 client-code (item Copies i j) = 3 ∷ i ∷ j ∷ []
 client-code (vector-word s j) = 4 ∷ s ∷ j ∷ []
 
+-- which word stands there; of a list that is none of these it is not asked
 abbrev pub client-back : List ℕ → ClientWord
 client-back p =
     let i = getD p 1 0 in
     let j = getD p 2 0 in
     getD (field i ∷ item Reads i j ∷ item Writes i j ∷ item Copies i j ∷ vector-word i j ∷ []) (getD p 0 0) (field i)
 
+-- each word is had back
 pub client-again : (a : ClientWord) → client-back (client-code a) ≡ a
 client-again (field i) = refl
 client-again (item Reads i j) = refl
@@ -126,6 +139,7 @@ client-again (item Writes i j) = refl
 client-again (item Copies i j) = refl
 client-again (vector-word s j) = refl
 
+-- the words of a client's part as addresses
 abbrev pub client-words : Coding ClientWord
 client-words = record { code = client-code; back = client-back; again = client-again }
 

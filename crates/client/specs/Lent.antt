@@ -23,14 +23,16 @@ own-number w i = getD w (34 * i + 1) 0
 unfoldable pub own-record : List ℕ → ℕ → Node
 own-record w i = node-at w (34 * i + 2)
 
--- the first n of them, and all, as entries: an object's number with its record
+-- an object's number with its record
 abbrev pub Entry : Type 0
 Entry = ℕ × Node
 
+-- the first n of them as entries
 unfoldable pub own-first : List ℕ → ℕ → List Entry
 own-first w zero = []
 own-first w (suc n) = own-first w n ++ ((own-number w n, own-record w n) ∷ [])
 
+-- all of them as entries
 unfoldable pub own-list : List ℕ → List Entry
 own-list w = own-first w (own-count w)
 

@@ -25,6 +25,7 @@ infixr 20 _then_
 abbrev pub _then_ : PartStep → PartStep → PartStep
 g then h = andThen client-words g h
 
+-- nothing is stored
 unfoldable pub nothing : PartStep
 nothing m = []
 
@@ -47,9 +48,10 @@ put-item s i x r m = puts client-words (item s i) (tab 34 (λ j. getD (x ∷ wor
 unfoldable pub put-number : Set → ℕ → ℕ → PartStep
 put-number s i x m = put (item s i 0) x ∷ []
 
--- the copy of a server's vector (sixteen words) becomes ws; and there is none
+-- the copy of a server's vector (sixteen words) becomes ws
 unfoldable pub put-vector : ℕ → List ℕ → PartStep
 put-vector s ws m = puts client-words (vector-word s) (1 ∷ tab 16 (λ j. getD ws j 0))
 
+-- there is no copy of the vector of server s; s is a server's number, so always below 8
 unfoldable pub drop-vector : ℕ → PartStep
 drop-vector s m = cond (ltb s 8) (put (vector-word s 0) 0 ∷ []) []

@@ -18,7 +18,7 @@ unfoldable pub mask : ℕ → (ℕ → Bool) → ℕ
 mask zero f = 0
 mask (suc n) f = putBit (f n) (mask n f) n
 
--- the lowest server below n in the set; n if there is none
+-- the lowest server below n in the set; n if there is none: without participants nothing is locked
 unfoldable pub lowest-of : ℕ → ℕ → ℕ
 lowest-of zero w = 0
 lowest-of (suc n) w = cond (bit w (lowest-of n w)) (lowest-of n w) (cond (bit w n) n (suc n))
@@ -28,16 +28,19 @@ unfoldable pub at-home : ℕ → ℕ → Bool
 at-home s x = by-number x true (λ n. eqb (server-of n) s) (λ n. eqb (server-of n) s)
 
 module _ (m : ClientWord → ℕ) where
-  -- does an object read make its home take part; does an object written make all take part
+  -- does read item i make server s take part: "the homes of leaves, free nodes and flags read"
   abbrev pub calls-home : ℕ → ℕ → Bool
   calls-home s i = not (inner (number-at m Reads i) (record-at m Reads i)) && at-home s (number-at m Reads i)
 
+  -- does write item i make all servers take part: "the metadata or a node inner before or after is written"
   abbrev pub calls-all : ℕ → Bool
   calls-all i = inner-before-after m (number-at m Writes i)
 
+  -- does server s take part
   abbrev pub takes-part : ℕ → Bool
   takes-part s = any-below (count m Writes) calls-all || any-below (count m Reads) (calls-home s)
 
+  -- the set of the participants
   unfoldable pub participants-of : ℕ → ℕ
   participants-of servers = mask servers takes-part
 

@@ -36,7 +36,7 @@ value-of (flag n) r = taken (eqb (first-slot r) 1)
 unfoldable pub single : ℕ → ℕ → Node
 single v x = made 0 0 v [] (x ∷ [])
 
--- the record that holds a value, with a version; vectors are never kept so
+-- the record that holds a value, with a version; no operation writes a vector
 unfoldable pub record-of : ℕ → Val → Node
 record-of v (root r) = single v r
 record-of v (body k l ks vs) = made k l v ks vs
@@ -51,11 +51,13 @@ sizes servers slots = record { servers = servers; slots = slots }
 unfoldable pub in-store : TreeSizes → ℕ → Bool
 in-store z n = ltb (server-of n) (z .servers) && ltb (slot-of n) (z .slots)
 
+-- an object that the store has
 abbrev pub object-in-store : TreeSizes → Obj → Bool
 object-in-store z meta = true
 object-in-store z (node n) = in-store z n
 object-in-store z (flag n) = in-store z n
 
+-- the number of such an object
 unfoldable pub number-in-store : TreeSizes → ℕ → Bool
 number-in-store z x = by-number x true (in-store z) (in-store z)
 

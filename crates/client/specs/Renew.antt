@@ -24,25 +24,29 @@ use Rattle.client.specs.Life.{reset}
 unfoldable pub drop-outer : ℕ → PartStep
 drop-outer i m = by-number (number-at m Writes i) nothing (λ n. cond (inner-at m Writes i) nothing (drop-node (number-at m Writes i))) (λ n. nothing) m
 
--- "a written version becomes the one read plus 1"; a version out of range is refused before
+-- "a written version becomes the one read plus 1"; the last version is refused before (`versions-fit`), so 0 is not reached
 abbrev pub next-version : ℕ → ℕ
 next-version v = cond (ltb v 4294967295) (v + 1) 0
 
+-- the node with the version v
 unfoldable pub versioned : Node → ℕ → Node
 versioned n v = record { kind = n .kind; level = n .level; version = v; count = n .count; keys = n .keys; slots = n .slots }
 
 module _ (m : ClientWord → ℕ) where
+  -- the next version of what was found in the read set; what is written was read (`client-fits`), so 0 is not reached
   abbrev pub version-found : Found → ℕ
   version-found (At j) = next-version (m (item Reads j 3))
   version-found Absent = 0
 
+  -- the version that the written object x gets
   unfoldable pub new-version : ℕ → ℕ
   new-version x = version-found (find m Reads x)
 
-  -- how many of the first n write items are inner nodes with a number below x
+  -- c, and 1 more if write item i is an inner node with a number below x
   unfoldable pub with-inner : ℕ → ℕ → ℕ → ℕ
   with-inner x i c = cond (inner-at m Writes i && ltb (number-at m Writes i) x) (c + 1) c
 
+  -- how many of the first n write items are inner nodes with a number below x
   unfoldable pub inner-below : ℕ → ℕ → ℕ
   inner-below x zero = 0
   inner-below x (suc n) = with-inner x n (inner-below x n)
@@ -59,25 +63,29 @@ module _ (m : ClientWord → ℕ) where
   unfoldable pub renewed : ℕ → Node
   renewed i = versioned (record-at m Writes i) (new-version (number-at m Writes i))
 
--- "then written inner nodes by name": the one of rank k + 1
+-- the copy of a written inner node, if there is one of that rank
 abbrev pub renew-found : (ClientWord → ℕ) → Found → PartStep
 renew-found m (At i) = copy-node (number-at m Writes i) (renewed m i)
 renew-found m Absent = nothing
 
+-- "then written inner nodes by name": the one of rank k + 1
 unfoldable pub renew-nth : ℕ → PartStep
 renew-nth k m = renew-found m (ranked m (k + 1)) m
 
+-- the copy of the metadata as write item i has it, if it is written; word 19 is the root's name
 abbrev pub meta-found : (ClientWord → ℕ) → Found → PartStep
 meta-found m (At i) = put-fields meta-fields (1 ∷ m (item Writes i 19) ∷ new-version m 0 ∷ [])
 meta-found m Absent = nothing
 
+-- the metadata, if it is written
 unfoldable pub renew-meta : PartStep
 renew-meta m = meta-found m (find m Writes 0) m
 
--- a flag is renewed in its server's vector, if there is a copy of that
+-- a flag is renewed in its server's vector, if there is a copy of that; the server is one of the store, so it is below 8
 unfoldable pub renew-in : (ClientWord → ℕ) → ℕ → ℕ → PartStep
 renew-in m n v = cond (ltb (server-of n) 8 && has-vector m (server-of n)) (put-vector (server-of n) (with-flag (vector-copy m (server-of n)) (slot-of n) (eqb v 1))) nothing
 
+-- write item i, if it is a flag (numbers from 8,193 on); word 19 says whether it is taken
 unfoldable pub renew-flag : ℕ → PartStep
 renew-flag i m = cond (ltb (number-at m Writes i) 8193) nothing (renew-in m (number-at m Writes i - 8193) (m (item Writes i 19))) m
 
@@ -85,12 +93,15 @@ renew-flag i m = cond (ltb (number-at m Writes i) 8193) nothing (renew-in m (num
 unfoldable pub for-writes : (ℕ → PartStep) → PartStep
 for-writes g m = sweep client-words g (count m Writes) m
 
+-- "then written inner nodes by name, metadata, flags"
 unfoldable pub renew-written : PartStep
 renew-written = for-writes renew-nth then renew-meta then for-writes renew-flag
 
+-- "nodes no longer inner go first"
 unfoldable pub renew : PartStep
 renew = for-writes drop-outer then renew-written
 
+-- "a lost client gets none"
 unfoldable pub renew-kept : PartStep
 renew-kept m = cond (eqb (m lost) 1) nothing renew m
 

@@ -21,6 +21,7 @@ pub record Ran : Type 0 where
   pub how : End
   pub used : List ℕ
 
+-- how it ended, and what came into use
 abbrev pub ran : End → List ℕ → Ran
 ran e us = record { how = e; used = us }
 
@@ -38,6 +39,7 @@ judged (P.fail y) x us = ran (aborts (reason y)) (us ++ (x ∷ []))
 
 -- `have`: what is at hand; `new`: an object's number that neither set has; `room`: how many more may be read
 module _ (have : Ask → Option Val) (new : ℕ → Bool) (room : ℕ) where
+  -- the plan walked over what the client has; us came into use before
   unfoldable pub run : Plan → List ℕ → Ran
   run (P.ask (object o) k) us = elim (have (object o)) [
     | none ↦ ran (lacks (object o)) us

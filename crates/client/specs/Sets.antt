@@ -17,10 +17,12 @@ use Rattle.nodes.specs.Stored.{node-of}
 unfoldable pub held : List ℕ → ClientWord → ℕ
 held s = mem client-words client-block (view s)
 
--- a count above its limit is out of range; here it is the limit
+-- the count c of a set whose limit is l. A count above it is never used: it is refused by 10 before (`client-fits`, and for another
+-- client `Judge.writes`)
 abbrev pub at-most : ℕ → ℕ → ℕ
 at-most l c = cond (leb c l) c l
 
+-- the first if it is found, else the second
 abbrev pub or-found : Found → Found → Found
 or-found (At i) y = At i
 or-found Absent y = y

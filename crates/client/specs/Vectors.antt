@@ -20,10 +20,11 @@ module _ (m : ClientWord → ℕ) (s : ℕ) where
   unfoldable pub vector-copy : List ℕ
   vector-copy = tab 16 (λ j. m (vector-word s (suc j)))
 
-  -- write item i: of a flag of this server, word 19 (the record's first slot) says whether it is taken
+  -- the words with the flag of the name n, if it is of this server: taken where v is 1
   abbrev pub counted-flag : ℕ → ℕ → List ℕ → List ℕ
   counted-flag n v ws = cond (eqb (server-of n) s) (with-flag ws (slot-of n) (eqb v 1)) ws
 
+  -- write item i counted: numbers from 8,193 on are flags, and word 19 (the record's first slot) says whether one is taken
   unfoldable pub counted-one : ℕ → List ℕ → List ℕ
   counted-one i ws = cond (ltb (number-at m Writes i) 8193) ws (counted-flag (number-at m Writes i - 8193) (m (item Writes i 19)) ws)
 
@@ -32,6 +33,7 @@ module _ (m : ClientWord → ℕ) (s : ℕ) where
   counted-words zero ws = ws
   counted-words (suc n) ws = counted-one n (counted-words n ws)
 
+  -- the vector as the client sees it: "own frees and takes counted"
   unfoldable pub seen-words : List ℕ
   seen-words = counted-words (count m Writes) vector-copy
 

@@ -26,7 +26,8 @@ pub data Worked : Type 0 where
   aborted : ℕ → Worked
   answers : Ans → Writes → Worked
 
--- "op 1 insert, 2 lookup, 3 delete, 4 next key above, 5 previous key below, 6 migrate (key is the node name)"
+-- "op 1 insert, 2 lookup, 3 delete, 4 next key above, 5 previous key below, 6 migrate (key is the node name)". No other number comes here:
+-- 0 means that none waits, and work is then refused by 9; a given one outside 1 to 6 is refused by 6, a stored one above 6 by 10
 abbrev pub op-of : ℕ → ℕ → ℕ → ℕ → Op
 op-of zero key value server = lookup key
 op-of (suc zero) key value server = insert key value
@@ -45,16 +46,17 @@ module _ (m : ClientWord → ℕ) where
   abbrev pub new : ℕ → Bool
   new x = not (has m set.Writes x) && not (has m set.Reads x)
 
-  -- the version of an object that is read, or comes into use in this step
+  -- the version of an object that is read, or comes into use in this step; what is written is one of these
   abbrev pub version-in : ℕ → Found → ℕ
   version-in x (At i) = record-at m set.Reads i .version
   version-in x Absent = copied m x .node .version
 
-  -- how many objects the write set would have
+  -- how many of these objects are not in the write set yet
   unfoldable pub count-new : List Entry → ℕ
   count-new [] = 0
   count-new (e ∷ l) = cond (has m set.Writes (e .0)) (count-new l) (suc (count-new l))
 
+  -- how many objects the write set would have
   abbrev pub writes-after : Writes → ℕ
   writes-after w = m writes-count + count-new (entered w)
 
@@ -62,6 +64,7 @@ module _ (m : ClientWord → ℕ) where
   abbrev pub at-last-version : ℕ → Bool
   at-last-version x = leb x 8192 && eqb (version-in x (find m set.Reads x)) last-version
 
+  -- is one of these objects at the last version
   unfoldable pub any-at-last : List Entry → Bool
   any-at-last [] = false
   any-at-last (e ∷ l) = at-last-version (e .0) || any-at-last l
@@ -74,14 +77,16 @@ module _ (z : TreeSizes) (m : ClientWord → ℕ) where
       (cond (ltb 48 (writes-after m w)) (aborted 4)
       (cond (any-at-last m (entered w)) (aborted 8) (answers a w)))
 
+  -- how the step ends by the walk's end; what is lacking and can't be fetched is refused
   abbrev pub judge : End → Worked
   judge (lacks a) = cond (broken z m a) refused (fetches a)
   judge (aborts y) = aborted y
   judge (gives a w) = last-questions a w
 
-  -- the walk of the plan, with room for 96 objects in the read set
+  -- the walk of the plan, with room for 96 objects in the read set, which has at most 96 (`client-fits`)
   unfoldable pub walked : Ran
   walked = run (have z m) (new m) (96 - m reads-count) (reading z (waiting m)) []
 
+  -- how the work step ends
   unfoldable pub worked : Worked
   worked = judge (walked .how)

@@ -21,10 +21,11 @@ use Rattle.steps.specs.Steps.{step, node-at, in-client, applying}
 use Rattle.steps.specs.Run.{opened, after}
 use Rattle.demand.specs.Ledger.{Ledger, blank, note, map-all, Right-all}
 
--- "Keys and values are any unsigned 64-bit numbers": so are all six fields; H is 2^64
+-- "Keys and values are any unsigned 64-bit numbers": so are all six fields
 abbrev pub Word : ℕ → Type 0
 Word n = n < two-to-64
 
+-- the six fields of a step
 pub record Words (k : Step) : Type 0 where
   pub kind : Word (k .kind)
   pub client : Word (k .client)
@@ -33,6 +34,7 @@ pub record Words (k : Step) : Type 0 where
   pub value : Word (k .value)
   pub server : Word (k .server)
 
+-- the fields of all steps of a list
 unfoldable pub All-words : List Step → Type 0
 All-words [] = Unit {0}
 All-words (k ∷ ks) = Words k × All-words ks
@@ -60,15 +62,17 @@ course-of z ks = course z (record { memory = opened z; ledger = blank }) ks
 abbrev pub due : Sizes → (Address → ℕ) → ℕ → ℕ → List (Put Address)
 due z m c s = cond (state-fits (λ a. m (client c a)) s Apply) (applying z m c s ++ in-client z m c (noted applied s)) []
 
--- at the servers below n, one after another; of the clients below n
+-- after the applies of client c that are due at the servers below n, one after another
 unfoldable pub settle-client : Sizes → ℕ → ℕ → (Address → ℕ) → Address → ℕ
 settle-client z c zero m = m
 settle-client z c (suc n) m = let u = settle-client z c n m in changed whole u (due z u c n)
 
+-- after those of all clients below n
 unfoldable pub settle : Sizes → ℕ → (Address → ℕ) → Address → ℕ
 settle z zero m = m
 settle z (suc n) m = settle-client z n (z .servers) (settle z n m)
 
+-- the memory "as all applies still due would leave it"
 abbrev pub settled : Sizes → (Address → ℕ) → Address → ℕ
 settled z m = settle z (z .clients) m
 
@@ -80,6 +84,7 @@ node-in m n = value-of (node n) (node-at (λ a. m (server (server-of n) a)) n)
 abbrev pub pairs-under : (Address → ℕ) → ℕ → Map
 pairs-under m r = pairs-below (level-of (node-in m r)) (node-in m) r
 
+-- demand 3 of a list of steps on a store of sizes z
 pub record Demand (z : Sizes) (ks : List Step) : Type 0 where
   -- the decided transactions, run one after another in order of decision on one sorted map, "give exactly the answers"
   pub answers : Right-all (course-of z ks .ledger .decided)

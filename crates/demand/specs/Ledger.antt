@@ -25,18 +25,23 @@ pub record Ledger : Type 0 where
   pub undecided : ℕ → List Told
   pub decided : List (List Told)
 
+-- nothing seen. Before a client's first give nothing is answered, so its lookup 0 enters no transaction
 abbrev pub blank : Ledger
 blank = record { given = λ c. lookup 0; undecided = λ c. []; decided = [] }
 
+-- client c has a transaction with no operation answered
 abbrev pub starts : Ledger → ℕ → Ledger
 starts L c = record { given = L .given; undecided = upd ℕ-discrete (L .undecided) c []; decided = L .decided }
 
+-- client c is given the operation p
 abbrev pub gives : Ledger → ℕ → Op → Ledger
 gives L c p = record { given = upd ℕ-discrete (L .given) c p; undecided = L .undecided; decided = L .decided }
 
+-- the operation given to client c last is answered by a
 abbrev pub adds : Ledger → ℕ → Ans → Ledger
 adds L c a = record { given = L .given; undecided = upd ℕ-discrete (L .undecided) c (record { op = L .given c; ans = a } ∷ L .undecided c); decided = L .decided }
 
+-- client c's transaction is decided; its operations stay noted until its next begin
 abbrev pub decides : Ledger → ℕ → Ledger
 decides L c = record { given = L .given; undecided = L .undecided; decided = L .undecided c ∷ L .decided }
 
@@ -62,11 +67,12 @@ note L k (Applied s) = L
 note L k Committed = note-decided L k
 note L k (Aborted y) = starts L (k .client)
 
--- "run one after another in order of decision on one sorted map": the map after a transaction, and after all that were decided
+-- "run one after another in order of decision on one sorted map": the map after a transaction
 abbrev pub map-of : List Told → Map → Map
 map-of [] m = m
 map-of (t ∷ ts) m = map-after (t .op) (map-of ts m)
 
+-- the map after all that were decided, empty at first
 abbrev pub map-all : List (List Told) → Map
 map-all [] = []
 map-all (ts ∷ l) = map-of ts (map-all l)
@@ -76,6 +82,7 @@ abbrev pub Right : List Told → Map → Type 0
 Right [] m = Unit {0}
 Right (t ∷ ts) m = Right ts m × (compared (t .op) ≡ true → t .ans ≡ answer (t .op) (map-of ts m))
 
+-- all decided transactions got the map's answers
 abbrev pub Right-all : List (List Told) → Type 0
 Right-all [] = Unit {0}
 Right-all (ts ∷ l) = Right-all l × Right ts (map-all l)

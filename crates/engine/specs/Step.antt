@@ -23,5 +23,6 @@ module _ (bytes : ℕ) (w : List ℕ) (k : Step) where
   unfoldable pub outcome-of : Outcome
   outcome-of = cond (eqb (open-refusal bytes (head-sizes w)) 0) (step (head-sizes w) k (stored-in (head-sizes w) w) .outcome) (Refused (open-refusal bytes (head-sizes w)))
 
+  -- every word afterwards; a refused step leaves all as they were
   unfoldable pub words-after : List ℕ
   words-after = cond (eqb (open-refusal bytes (head-sizes w)) 0) (stored whole (block (head-sizes w)) w (step (head-sizes w) k (stored-in (head-sizes w) w) .stores)) w

@@ -6,6 +6,7 @@ use Prim.Native.Nat.{ℕ, zero, suc, _+_, _-_, _*_, _/_, _%_, _<_}
 use native.Mathlib.Decide.{decLt}
 use lib.Dec.{ltb}
 
+-- words in nested blocks, which cannot overlap
 pub data Block : Type 0 where
   -- n words; a place is k ∷ []
   words : ℕ → Block
@@ -34,7 +35,8 @@ In (followed-by a b) (zero ∷ p) = In a p
 In (followed-by a b) (suc i ∷ p) = In b (i ∷ p)
 In end p = ⊥
 
--- the word at which a place lies, counted from the start of the block
+-- the word at which a place lies, counted from the start of the block. Of what is no place it says nothing, and it is not asked:
+-- what is read is tested first (`mem`), and stores go to places only
 unfoldable pub offset : Block → List ℕ → ℕ
 offset (words n) [] = 0
 offset (words n) (i ∷ p) = i
@@ -45,17 +47,19 @@ offset (followed-by a b) (zero ∷ p) = offset a p
 offset (followed-by a b) (suc i ∷ p) = size a + offset b (i ∷ p)
 offset end p = 0
 
--- the place that lies at word i
+-- one block further on
 abbrev pub step : List ℕ → List ℕ
 step [] = []
 step (i ∷ p) = suc i ∷ p
 
+-- the place that lies at word i
 unfoldable pub locate : Block → ℕ → List ℕ
 locate (words n) i = i ∷ []
 locate (times n b) i = i / size b ∷ locate b (i % size b)
 locate (followed-by a b) i = cond (ltb i (size a)) (0 ∷ locate a i) (step (locate b (i - size a)))
 locate end i = []
 
+-- whether a list is a place of the block can be decided
 pub decIn : (b : Block) (p : List ℕ) → Dec (In b p)
 unfolding In
 decIn (words n) [] = no (λ h. h)

@@ -18,10 +18,12 @@ same [] (j ∷ q) = false
 same (i ∷ p) [] = false
 same (i ∷ p) (j ∷ q) = eqb i j && same p q
 
+-- a place is the same as itself
 same-self : (p : List ℕ) → same p p ≡ true
 same-self [] = refl
 same-self (i ∷ p) = rw (eq-eqb i i refl) (same-self p)
 
+-- places that are the same are equal
 pub same-is : (p q : List ℕ) → same p q ≡ true → p ≡ q
 same-is [] [] e = refl
 same-is [] (j ∷ q) e = absurd (true≢false (sym e))
@@ -46,13 +48,15 @@ pub data Put (A : Type 0) : Type 0 where
   put : A → ℕ → Put A
 
 module _ {A : Type 0} (C : Coding A) where
+  -- addresses with one place are one
   pub code-inj : (a x : A) → C .code a ≡ C .code x → a ≡ x
   code-inj a x e = sym (C .again a) ∙ ap (C .back) e ∙ C .again x
 
+  -- addresses whose places differ are two
   pub differ : (a x : A) → same (C .code a) (C .code x) ≡ false → ¬ (a ≡ x)
   differ a x e s = not-both (same-self (C .code a)) (ap (λ (y : A). same (C .code a) (C .code y)) s ∙ e)
 
-  -- it computes where the places do: closed examples are decided by `refl`
+  -- are two addresses one; it computes where the places do, so that closed examples are decided by `refl`
   unfoldable pub decide : Discrete A
   decide a x = go (same (C .code a) (C .code x)) refl
     where
@@ -75,14 +79,17 @@ module _ {A : Type 0} (C : Coding A) where
     unfoldable pub at : A → ℕ
     at a = offset b (C .code a)
 
+    -- the address has a place in the block
     unfoldable pub Valid : A → Type 0
     Valid a = In b (C .code a)
 
+    -- whether it has one can be decided
     pub valid? : (a : A) → Dec (Valid a)
     unfolding Valid
     valid? a = decIn b (C .code a)
 
-    -- the words as a function of addresses; 0 where an address is not valid
+    -- the words as a function of addresses. 0 where an address is not valid: no step comes to that, since sizes, client, server and
+    -- names are tested before anything there is read
     unfoldable pub mem : List ℕ → A → ℕ
     mem w a = ifd (valid? a) (getD w (at a) 0) 0
 

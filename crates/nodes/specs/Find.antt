@@ -11,6 +11,7 @@ use Rattle.nodes.specs.Place.{place}
 unfoldable pub find-at : List ℕ → ℕ → ℕ → Option ℕ
 find-at ks key p = cond (eqb p 0) none (cond (eqb (getD ks (p - 1) 0) key) (some (p - 1)) none)
 
+-- the index of a key among a node's keys, if it is there
 unfoldable pub key-index : List ℕ → ℕ → Option ℕ
 key-index ks key = find-at ks key (place ks key)
 

@@ -12,6 +12,7 @@ unfoldable pub bits : ℕ → ℕ → List Bool
 bits zero x = []
 bits (suc n) x = eqb (x % 2) 1 ∷ bits n (x / 2)
 
+-- the flags that words hold, 64 in each
 unfoldable pub all-flags : List ℕ → List Bool
 all-flags [] = []
 all-flags (w ∷ ws) = bits 64 w ++ all-flags ws

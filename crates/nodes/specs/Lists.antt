@@ -11,6 +11,6 @@ insert-at i v l = take i l ++ v ∷ drop i l
 unfoldable pub remove-at : {A : Type 0} → ℕ → List A → List A
 remove-at i l = take i l ++ drop (i + 1) l
 
--- the array of w places that holds l at its front, and 0 after it
+-- the array of w places that holds l at its front, and 0 after it; l has at most w (a node that is written has up to 14 keys)
 unfoldable pub pad : ℕ → List ℕ → List ℕ
 pad w l = l ++ replicate (w - length l) 0

@@ -12,6 +12,7 @@ use Rattle.nodes.specs.Place.{one-if}
 unfoldable pub extra : ℕ → ℕ
 extra kind = one-if (eqb kind 2)
 
+-- the node's keys: the first ones of the array, as many as its count
 unfoldable pub keysOf : Node → List ℕ
 keysOf n = take (n .count) (n .keys)
 

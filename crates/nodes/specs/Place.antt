@@ -9,6 +9,7 @@ abbrev pub one-if : Bool → ℕ
 one-if true = 1
 one-if false = 0
 
+-- how many keys of the list are not above k
 unfoldable pub place : List ℕ → ℕ → ℕ
 place [] k = 0
 place (x ∷ l) k = one-if (leb x k) + place l k

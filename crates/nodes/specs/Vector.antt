@@ -16,6 +16,7 @@ lowest-free [] = none
 lowest-free (false ∷ fs) = some 0
 lowest-free (true ∷ fs) = shifted 1 (lowest-free fs)
 
+-- the first if there is one, else the second
 abbrev pub or-else : Option ℕ → Option ℕ → Option ℕ
 or-else none y = y
 or-else (some x) y = some x

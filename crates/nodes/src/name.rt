@@ -3,6 +3,7 @@ ghost use mathlib.Core.Path.{_≡_};
 ghost use Prim.Native.Nat.{_<_};
 ghost use Rattle.nodes.specs.Name.{name, server-of, slot-of};
 
+// "A node name is server times 1,024 plus slot."
 pub struct Name {
     pub number: u64,
 }

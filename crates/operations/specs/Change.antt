@@ -21,19 +21,21 @@ Go = Writes → Entries → Plan
 abbrev pub with-one : Branch → ℕ → Entries
 with-one f c = f .pre ++ (f .key, c) ∷ f .post
 
+-- with two: the child c, and d from the key k on
 abbrev pub with-two : Branch → ℕ → ℕ → ℕ → Entries
 with-two f c k d = f .pre ++ (f .key, c) ∷ (k, d) ∷ f .post
 
--- two parts of one node's entries, or of two neighbours': es in c and es′ in d. "the first key of the right one goes up"; an inner node does not
--- store that key, so of its keys it is "the eighth going up"
+-- two parts of one node's entries, or of two neighbours': es in c and es′ in d, which is never empty. "the first key of the right one goes
+-- up"; an inner node does not store that key, so of its keys it is "the eighth going up"
 abbrev pub parted : Go → ℕ → Writes → Branch → ℕ → Entries → ℕ → Entries → Plan
 parted go l w f c es d es′ = go ((node d, node-value l es′) ∷ (node c, node-value l es) ∷ w) (with-two f c (first-key-or es′ 0) d)
 
--- the entries but the last, and the last
+-- x in front of entries that are parted so
 abbrev pub unsnoc-step : {A : Type 0} → A → Option (List A × A) → Option (List A × A)
 unsnoc-step x none = some ([], x)
 unsnoc-step x (some r) = some (x ∷ r .0, r .1)
 
+-- the entries but the last, and the last, if there is one
 abbrev pub unsnoc : {A : Type 0} → List A → Option (List A × A)
 unsnoc [] = none
 unsnoc (x ∷ xs) = unsnoc-step x (unsnoc xs)
@@ -45,10 +47,11 @@ at-top (f ∷ fs) p q = q
 
 -- NEIGHBOURS of a node c of level l with the entries es: f is the branch in the parent, fs the path above
 module _ (a : Ans) (l : ℕ) (fs : List Branch) (go : Go) where
-  -- on with the parent's entries, or as a root that is left with one child
+  -- on with the parent's entries, of which c is one
   abbrev pub onward : Writes → Branch → ℕ → Entries → Plan
   onward w f c es = go ((node c, node-value l es) ∷ w) (with-one f c)
 
+  -- a root that is left with the child c alone takes over its contents, and c is freed
   abbrev pub collapsed : Writes → Branch → ℕ → Entries → Plan
   collapsed w f c es = release w c (λ w′. P.done (a, (node (f .nm), node-value l es) ∷ w′))
 
@@ -78,6 +81,7 @@ module _ (a : Ans) (l : ℕ) (fs : List Branch) (go : Go) where
   left-of w r c es none = P.fail no-tree
   left-of w r c es (some q) = with-left w (record { nm = r; key = q .1 .0; pre = q .0; post = [] }) c es (q .1 .1)
 
+  -- "its right neighbour under the same parent, or to the left one if it is the last child": last comes what follows c there
   abbrev pub neighbour : Writes → Branch → ℕ → Entries → Entries → Plan
   neighbour w f c es (e ∷ post) = with-right w (record { nm = f .nm; key = f .key; pre = f .pre; post = post }) c es (e .0) (e .1)
   neighbour w f c es [] = left-of w (f .nm) c es (unsnoc (f .pre))
@@ -111,5 +115,6 @@ abbrev pub delete-at : TreeSizes → List Branch → ℕ → Entries → Option 
 delete-at sz fs n es none = P.done ((0, 0), [])
 delete-at sz fs n es (some i) = up sz (1, 0) zero fs [] n (remove-at i es)
 
+-- "Delete removes the key; a is 1 if it was there."
 abbrev pub delete-plan : TreeSizes → ℕ → Plan
 delete-plan sz key = from-root key (λ fs n es. delete-at sz fs n es (index key es))

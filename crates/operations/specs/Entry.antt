@@ -10,16 +10,19 @@ use Rattle.nodes.specs.Place.{place, one-if}
 use Rattle.nodes.specs.Find.{key-index}
 use Rattle.operations.specs.Object.{Val, body}
 
+-- keys, each with its value or child
 abbrev pub Entries : Type 0
 Entries = List (ℕ × ℕ)
 
+-- the keys of entries
 abbrev pub keys : {A : Type 0} → List (ℕ × A) → List ℕ
 keys es = map (λ e. e .0) es
 
+-- the values or children of entries
 abbrev pub vals : Entries → List ℕ
 vals es = map (λ e. e .1) es
 
--- keys beside values or children
+-- keys beside values or children; a node in range has as many of the one as of the other, so none is left out
 abbrev pub zip : List ℕ → List ℕ → Entries
 zip [] vs = []
 zip (k ∷ ks) [] = []
@@ -35,6 +38,7 @@ abbrev pub fewest-entries : ℕ → ℕ
 fewest-entries zero = 7
 fewest-entries (suc l) = 8
 
+-- the most: 14 keys, and in an inner node one child more
 abbrev pub most-entries : ℕ → ℕ
 most-entries zero = 14
 most-entries (suc l) = 15
@@ -54,6 +58,7 @@ abbrev pub Cut : Type 0 → Type 0
 Cut A = List (ℕ × A) × (ℕ × A) × List (ℕ × A)
 
 module _ {A : Type 0} where
+  -- e and es cut at index i, which is a place, so at most the number of es: the second clause is not reached
   abbrev pub cut-at : ℕ → (ℕ × A) → List (ℕ × A) → Cut A
   cut-at zero e es = ([], e, es)
   cut-at (suc i) e [] = ([], e, [])
@@ -69,10 +74,12 @@ module _ {A : Type 0} where
 abbrev pub index : ℕ → Entries → Option ℕ
 index key es = key-index (keys es) key
 
+-- the value at an index, if there is one
 abbrev pub value-at : Entries → Option ℕ → Option ℕ
 value-at es none = none
 value-at es (some i) = some (getD (vals es) i 0)
 
+-- the value of a key in a leaf, if it is there
 abbrev pub value-in : ℕ → Entries → Option ℕ
 value-in key es = value-at es (index key es)
 
@@ -81,6 +88,7 @@ abbrev pub with-at : ℕ → ℕ → Entries → Option ℕ → Entries
 with-at key v es none = insert-at (place (keys es) key) (key, v) es
 with-at key v es (some i) = set es i (key, v)
 
+-- a leaf's entries with the key's value set
 abbrev pub with-pair : ℕ → ℕ → Entries → Entries
 with-pair key v es = with-at key v es (index key es)
 
@@ -88,10 +96,11 @@ with-pair key v es = with-at key v es (index key es)
 abbrev pub next-in : ℕ → Entries → Option ℕ
 next-in key es = getElem? (keys es) (place (keys es) key)
 
--- the nearest key strictly below: the last of those below
+-- the last of the first i keys, if i is not 0
 abbrev pub before : List ℕ → ℕ → Option ℕ
 before ks zero = none
 before ks (suc i) = getElem? ks i
 
+-- the nearest key strictly below: the last of those below
 abbrev pub previous-in : ℕ → Entries → Option ℕ
 previous-in key es = before (keys es) (under (keys es) key)

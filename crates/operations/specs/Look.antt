@@ -20,10 +20,12 @@ told (some x) p = P.done ((1, x), [])
 abbrev pub Visit : Type 0
 Visit = (ℕ → ℕ → Plan → Plan) → Entries → Plan → Plan
 
+-- the children from the left
 abbrev pub rightward : Visit
 rightward f [] p = p
 rightward f (e ∷ es) p = f (e .0) (e .1) (rightward f es p)
 
+-- the children from the right
 abbrev pub leftward : Visit
 leftward f [] p = p
 leftward f (e ∷ es) p = leftward f es (f (e .0) (e .1) p)
@@ -38,6 +40,7 @@ abbrev pub seek-up : (Entries → Option ℕ) → Visit → (Branch → Entries)
 seek-up g t side l [] = P.done ((0, 0), [])
 seek-up g t side l (f ∷ fs) = t (seek g t l) (side f) (seek-up g t side (suc l) fs)
 
+-- the nearest key on one side: what g finds in the leaf of the key, else in the leaves that t visits on that side of the path
 abbrev pub nearest : (ℕ → Entries → Option ℕ) → Visit → (Branch → Entries) → ℕ → Plan
 nearest g t side key = from-root key (λ fs n es. told (g key es) (seek-up (g key) t side zero fs))
 
@@ -45,5 +48,6 @@ nearest g t side key = from-root key (λ fs n es. told (g key es) (seek-up (g ke
 abbrev pub next-plan : ℕ → Plan
 next-plan key = nearest next-in rightward (λ f. f .post) key
 
+-- the nearest key strictly below
 abbrev pub previous-plan : ℕ → Plan
 previous-plan key = nearest previous-in leftward (λ f. f .pre) key

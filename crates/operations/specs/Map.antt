@@ -8,6 +8,7 @@ use Rattle.base.specs.Test.{ifd}
 use Rattle.nodes.specs.Vector.{or-else}
 use Rattle.operations.specs.Object.{Ans}
 
+-- "The map is pairs by rising key."
 abbrev pub Map : Type 0
 Map = List (ℕ × ℕ)
 
@@ -24,6 +25,7 @@ pub data Op : Type 0 where
   previous : (key : ℕ) → Op
   migrate : (name server : ℕ) → Op
 
+-- the value of a key, if it is there
 abbrev pub look : ℕ → Map → Option ℕ
 look k [] = none
 look k (e ∷ m) = ifd (ℕ-discrete (e .0) k) (some (e .1)) (look k m)
@@ -43,19 +45,22 @@ abbrev pub above : ℕ → Map → Option ℕ
 above k [] = none
 above k (e ∷ m) = ifd (decLt k (e .0)) (some (e .0)) (above k m)
 
+-- the nearest key strictly below, if any
 abbrev pub below : ℕ → Map → Option ℕ
 below k [] = none
 below k (e ∷ m) = or-else (below k m) (ifd (decLt (e .0) k) (some (e .0)) none)
 
--- a is 1 and b what there is; a is 1 if there was none; a is 1 if there was one. "Each a or b not given here is 0."
+-- of lookup, next and previous: a is 1 and b what there is, if any. "Each a or b not given here is 0."
 abbrev pub said : Option ℕ → Ans
 said none = (0, 0)
 said (some v) = (1, v)
 
+-- of insert: "a is 1 if it was absent"
 abbrev pub fresh : Option ℕ → Ans
 fresh none = (1, 0)
 fresh (some v) = (0, 0)
 
+-- of delete: "a is 1 if it was there"
 abbrev pub gone : Option ℕ → Ans
 gone none = (0, 0)
 gone (some v) = (1, 0)

@@ -18,10 +18,12 @@ use Rattle.plans.specs.Plan as P
 abbrev pub moved : TreeSizes → ℕ → ℕ → Val → (ℕ → Writes → Writes) → (ℕ → Writes → Plan) → Plan
 moved sz n s v x k = take-on sz (s ∷ []) (slot-of n) [] (λ d w. take-node w d (release (x d w) n (λ w′. k d ((node d, v) ∷ w′))))
 
+-- the root moves: the metadata names its new slot d, which is the answer's b
 abbrev pub move-root : TreeSizes → ℕ → ℕ → Val → Plan
 move-root sz n s v = moved sz n s v (λ d w. (meta, root d) ∷ w) (λ d w. P.done ((1, d), w))
 
--- "a migrated node other than the root isn't met at its level going down from the root by its first key": at the level above
+-- "a migrated node other than the root isn't met at its level going down from the root by its first key": at the level above. Level 0 and
+-- [] are not reached: the path stops above the node, and an inner node has a child
 abbrev pub move-at : TreeSizes → ℕ → ℕ → Val → ℕ → Cont
 move-at sz n s v key zero fs m es = P.fail no-tree
 move-at sz n s v key (suc l) fs m [] = P.fail no-tree
@@ -31,9 +33,11 @@ move-at sz n s v key (suc l) fs m (e ∷ es) =
     (moved sz n s v (λ d w. w) (λ d w. P.done ((1, d), (node m, node-value (suc l) (c .0 ++ (c .1 .0, d) ∷ c .2)) ∷ w)))
     (P.fail no-tree)
 
+-- the path stops at the level s
 abbrev pub to-level : ℕ → ℕ → Bool
 to-level s l = yes? (ℕ-discrete l s)
 
+-- on with the first key; 7 keys were asked for before (`move-node`), so [] is not reached
 abbrev pub first-key : List ℕ → (ℕ → Plan) → Plan
 first-key [] k = P.fail no-tree
 first-key (x ∷ xs) k = k x
@@ -48,7 +52,7 @@ move-node sz r n s v l ks =
     ifd (ℕ-discrete n r) (move-root sz n s v)
     (ifd (decLe 7 (length ks)) (first-key ks (move-below sz r n s v l)) (P.fail no-tree))
 
--- "for an unmoved node 0 if free, 1 if there already"
+-- "for an unmoved node 0 if free, 1 if there already"; a node has no other value than the last two
 abbrev pub move-if : TreeSizes → ℕ → ℕ → ℕ → Val → Plan
 move-if sz r n s (root q) = P.fail no-tree
 move-if sz r n s (taken b) = P.fail no-tree

@@ -32,36 +32,42 @@ pub data Val : Type 0 where
 abbrev pub free : Val
 free = body 0 0 [] []
 
+-- a node's keys; metadata and flags have none, so they rise where all that is written is looked at (`fits?`)
 abbrev pub keys-of : Val → List ℕ
 keys-of (root r) = []
 keys-of (body k l ks vs) = ks
 keys-of (taken b) = []
 keys-of (flags fs) = []
 
+-- a node's level; metadata and flags have 0, which `fits?` lets pass
 abbrev pub level-of : Val → ℕ
 level-of (root r) = 0
 level-of (body k l ks vs) = l
 level-of (taken b) = 0
 level-of (flags fs) = 0
 
+-- a node's values or children; asked of nodes only
 abbrev pub slots-of : Val → List ℕ
 slots-of (root r) = []
 slots-of (body k l ks vs) = vs
 slots-of (taken b) = []
 slots-of (flags fs) = []
 
+-- the metadata's root; asked of the metadata only
 abbrev pub root-of : Val → ℕ
 root-of (root r) = r
 root-of (body k l ks vs) = 0
 root-of (taken b) = 0
 root-of (flags fs) = 0
 
+-- is a flag taken; asked of flags only
 abbrev pub is-taken : Val → Bool
 is-taken (root r) = false
 is-taken (body k l ks vs) = false
 is-taken (taken b) = b
 is-taken (flags fs) = false
 
+-- a vector's flags; asked of vectors only
 abbrev pub flags-of : Val → List Bool
 flags-of (root r) = []
 flags-of (body k l ks vs) = []
@@ -109,6 +115,7 @@ abbrev pub over : Writes → (Obj → Val) → Obj → Val
 over [] M = M
 over (e ∷ w) M = with-value (e .0) (e .1) (over w M)
 
+-- what the writes leave at the object o; asked of objects that they write (`all-fit?`), so root 0 is not reached
 abbrev pub written-value : Writes → Obj → Val
 written-value [] o = root 0
 written-value (e ∷ w) o = cond (hit (e .0) o) (e .1) (written-value w o)

@@ -18,13 +18,15 @@ abbrev pub see : Writes → Obj → (Val → Plan) → Plan
 see [] o k = P.ask (object o) k
 see (e ∷ w) o k = cond (hit (e .0) o) (k (e .1)) (see w o k)
 
+-- on with the root's name; the metadata has no other value, so the failures are not reached
 abbrev pub when-root : Val → (ℕ → Plan) → Plan
 when-root (root r) k = k r
 when-root (body j l ks vs) k = P.fail no-tree
 when-root (taken b) k = P.fail no-tree
 when-root (flags fs) k = P.fail no-tree
 
--- "the root is free, a child is free": of any other node its level and its entries, from the key lo
+-- "the root is free, a child is free": of any other node its level and its entries, from the key lo. A value that is no node's is not
+-- reached, nor a kind above 2 or a level that does not fit its kind: they are out of range (refusal 10)
 abbrev pub open-node : ℕ → Val → (ℕ → Entries → Plan) → Plan
 open-node lo (root r) k = P.fail no-tree
 open-node lo (taken b) k = P.fail no-tree
@@ -52,7 +54,7 @@ pub record Branch : Type 0 where
 abbrev pub Cont : Type 0
 Cont = ℕ → List Branch → ℕ → Entries → Plan
 
--- "the path downward", by a key, to the level where stop says so
+-- "the path downward", by a key, to the level where stop says so; an inner node has a child, so [] is not reached
 abbrev pub down : (ℕ → Bool) → ℕ → Cont → (l : ℕ) → List Branch → ℕ → Entries → Plan
 down stop key k zero fs n es = k zero fs n es
 down stop key k (suc l) fs n [] = P.fail no-tree
@@ -65,6 +67,7 @@ down stop key k (suc l) fs n (e ∷ es) =
 abbrev pub at-root : ℕ → (ℕ → Entries → Plan) → Plan
 at-root r k = P.ask (object (node r)) (λ u. open-node 0 u k)
 
+-- at no inner level does the path stop
 abbrev pub to-leaf : ℕ → Bool
 to-leaf zero = true
 to-leaf (suc l) = false

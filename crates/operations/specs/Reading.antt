@@ -6,6 +6,7 @@ use Rattle.operations.specs.Object.{Obj, meta, node, Val, keys-of, level
 use Rattle.operations.specs.Map.{Map}
 use Rattle.operations.specs.Entry.{zip}
 
+-- the pairs f of each child, left to right
 abbrev pub all-pairs : (ℕ → Map) → List ℕ → Map
 all-pairs f [] = []
 all-pairs f (v ∷ vs) = f v ++ all-pairs f vs

@@ -22,12 +22,13 @@ pub record TreeSizes : Type 0 where
 abbrev pub Allowed : TreeSizes → Type 0
 Allowed sz = (sz .servers ≤ 8) × (sz .slots ≤ 1024)
 
--- "own frees and takes counted": a vector of the server s with what the operation has written
+-- one write counted in a vector of the server s: a flag of that server is set
 abbrev pub count-one : Obj → Val → ℕ → List Bool → List Bool
 count-one meta v s fs = fs
 count-one (node n) v s fs = fs
 count-one (flag n) v s fs = ifd (ℕ-discrete (server-of n) s) (set fs (slot-of n) (is-taken v)) fs
 
+-- "own frees and takes counted": a vector of the server s with what the operation has written
 abbrev pub counted : Writes → ℕ → List Bool → List Bool
 counted [] s fs = fs
 counted (e ∷ w) s fs = count-one (e .0) (e .1) s (counted w s fs)
@@ -36,6 +37,7 @@ counted (e ∷ w) s fs = count-one (e .0) (e .1) s (counted w s fs)
 abbrev pub free-slot : TreeSizes → Writes → ℕ → ℕ → Val → Option ℕ
 free-slot sz w slot s v = first-free slot (take (sz .slots) (counted w s (flags-of v)))
 
+-- on with the name of the slot found on server s, else with the plan p
 abbrev pub chosen : ℕ → Option ℕ → (ℕ → Plan) → Plan → Plan
 chosen s none k p = p
 chosen s (some i) k p = k (name s i)
@@ -54,7 +56,7 @@ abbrev pub present : ℕ → List ℕ → List ℕ
 present n [] = []
 present n (s ∷ ss) = ifd (decLt s n) (s ∷ present n ss) (present n ss)
 
--- the flag of a slot to be taken; it must be free
+-- the flag of a slot to be taken must be free; a flag has no other value than the first two
 abbrev pub when-free-flag : Val → Plan → Plan
 when-free-flag (taken false) k = k
 when-free-flag (taken true) k = P.fail not-free
@@ -62,6 +64,7 @@ when-free-flag (root r) k = P.fail not-free
 when-free-flag (body j l ks vs) k = P.fail not-free
 when-free-flag (flags fs) k = P.fail not-free
 
+-- the flag of slot d is read, must be free, and is written as taken
 abbrev pub take-flag : Writes → ℕ → (Writes → Plan) → Plan
 take-flag w d k = see w (flag d) (λ v. when-free-flag v (k ((flag d, taken true) ∷ w)))
 
@@ -73,7 +76,7 @@ take-on sz ss slot w k = search sz w slot ss (λ d. take-flag w d (λ w′. k d 
 abbrev pub take-for : TreeSizes → ℕ → Writes → (ℕ → Writes → Plan) → Plan
 take-for sz n w k = take-on sz (present (sz .servers) (row (server-of n))) (slot-of n) w k
 
--- "A taken slot's node is read too, and must be free."
+-- "A taken slot's node is read too, and must be free." A node has no other value than the first two
 abbrev pub when-free-node : Val → Plan → Plan
 when-free-node (body zero l ks vs) k = k
 when-free-node (body (suc j) l ks vs) k = P.fail not-free
@@ -81,6 +84,7 @@ when-free-node (root r) k = P.fail not-free
 when-free-node (taken b) k = P.fail not-free
 when-free-node (flags fs) k = P.fail not-free
 
+-- the node of the taken slot d is read, and must be free
 abbrev pub take-node : Writes → ℕ → Plan → Plan
 take-node w d k = see w (node d) (λ v. when-free-node v k)
 

@@ -28,5 +28,6 @@ pub record Carried (z : Sizes) (n : ℕ) (w : List ℕ) (ks : List Step) (w′ :
   pub answers : outcomes-run n w ks ≡ outcomes z (opened z) ks
   pub accepted : Every Not-refused-by-10 (outcomes-run n w ks)
 
+-- if the words w are those of a newly opened store, of whatever sizes, demand 3 holds of the steps and of the words w′ after them
 unfoldable pub Demanded : ℕ → List ℕ → List Step → List ℕ → Type 0
 Demanded n w ks w′ = (z : Sizes) → Newly z n w → Carried z n w ks w′

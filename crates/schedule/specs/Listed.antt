@@ -16,6 +16,7 @@ module _ (n : ℕ) where
   words-run w [] = w
   words-run w (k ∷ ks) = words-run (words-after n w k) ks
 
+  -- the outcomes of a list of steps
   unfoldable pub outcomes-run : List ℕ → List Step → List Outcome
   outcomes-run w [] = []
   outcomes-run w (k ∷ ks) = outcome-of n w k ∷ outcomes-run (words-after n w k) ks

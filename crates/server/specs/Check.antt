@@ -15,17 +15,20 @@ use Rattle.server.specs.Lock.{busy, lock-in-range}
 use Rattle.server.specs.declared.object.Object.the-variants as object
 use Rattle.server.specs.declared.place.Place.the-variants as place
 
+-- "A server can check metadata, inner nodes by its table, and its own other nodes and flags": s is the server
 unfoldable pub can-check : ℕ → Object → Bool → Bool
 can-check s object.Metadata inner = true
 can-check s (object.Node x) inner = inner || eqb (server-of (x .number)) s
 can-check s (object.Flag x) inner = eqb (server-of (x .number)) s
 
--- where the mark lies: the metadata's version, a table's entry, a node's own version (its third word), the vector
+-- where the mark lies: the metadata's version, a table's entry, a node's own version (its third word), the vector. A node not read as
+-- inner and a flag are checked at home only, so their slot says enough
 unfoldable pub mark-place : Object → Bool → Place
 mark-place object.Metadata inner = place.Version
 mark-place (object.Node x) inner = cond inner (place.Table (server-of (x .number)) (slot-of (x .number))) (place.Node (slot-of (x .number)) 2)
 mark-place (object.Flag x) inner = place.Vector (slot-of (x .number) / 64)
 
+-- the mark in that word: the version that it is; of the vector's word the slot's flag, 0 or 1
 unfoldable pub mark-in : Object → ℕ → ℕ
 mark-in object.Metadata w = w
 mark-in (object.Node x) w = w

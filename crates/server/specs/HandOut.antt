@@ -11,6 +11,7 @@ use Rattle.server.specs.declared.place.Place.the-variants.{Root, Version
 use Rattle.server.specs.Range.{name-in-store}
 use Rattle.nodes.specs.declared.node.Node as node
 
+-- the metadata that a server has
 unfoldable pub metadata-at : (Place → ℕ) → Metadata
 metadata-at m = record { root = m Root; version = m Version }
 
@@ -18,6 +19,7 @@ metadata-at m = record { root = m Root; version = m Version }
 unfoldable pub metadata-sound : ℕ → ℕ → (Place → ℕ) → Bool
 metadata-sound servers slots m = name-in-store servers slots (m Root) && leb (m Version) 4294967295
 
+-- the sixteen words of its vector
 unfoldable pub vector-at : (Place → ℕ) → List ℕ
 vector-at m = tab 16 (λ i. m (Vector i))
 

@@ -12,12 +12,15 @@ use Rattle.server.specs.declared.place.Place.the-variants.{Root, Version
 use Rattle.memory.specs.Word.{view}
 use Rattle.layout.specs.Step.{Does, silent}
 
+-- the row of a slot number: the node in this slot, the lock of its flag, and for each of 8 servers a table version and a node lock
 abbrev pub slot-row : Block
 slot-row = followed-by (words 33) (followed-by (words 1) (followed-by (words 8) (followed-by (words 8) end)))
 
+-- a server's part for n slots: root, version and lock of the metadata; the vector; a row for each slot number
 abbrev pub server-block : ℕ → Block
 server-block n = followed-by (words 3) (followed-by (words 16) (followed-by (times n slot-row) end))
 
+-- where in the block each word of the part stands
 abbrev pub place-code : Place → List ℕ
 place-code Root = 0 ∷ 0 ∷ []
 place-code Version = 0 ∷ 1 ∷ []
@@ -28,6 +31,7 @@ place-code (FlagLock k) = 2 ∷ k ∷ 1 ∷ 0 ∷ []
 place-code (Table s k) = 2 ∷ k ∷ 2 ∷ s ∷ []
 place-code (NodeLock s k) = 2 ∷ k ∷ 3 ∷ s ∷ []
 
+-- which word stands there; of a list that is none of these it is not asked
 abbrev pub place-back : List ℕ → Place
 place-back p =
     let x = getD p 1 0 in
@@ -40,6 +44,7 @@ place-back p =
     (getD p 0 0)
     Root
 
+-- each word is had back
 pub place-again : (a : Place) → place-back (place-code a) ≡ a
 place-again Root = refl
 place-again Version = refl
@@ -50,6 +55,7 @@ place-again (FlagLock k) = refl
 place-again (Table s k) = refl
 place-again (NodeLock s k) = refl
 
+-- the words of a server's part as addresses
 abbrev pub places : Coding Place
 places = record { code = place-code; back = place-back; again = place-again }
 

@@ -17,12 +17,13 @@ shared Write c w = not (eqb (putBit false w c) 0)
 unfoldable pub busy : Use → ℕ → ℕ → Bool
 busy u c w = cond (ltb w 65536) (shared u c w) (not (eqb w (65536 + c)))
 
--- the word once client c has locked it, for writing or for reading
+-- the word once client c has locked it, for writing or for reading. For reading no writer's word is met: another client's is busy,
+-- and an object that client c itself writes it locks for writing
 unfoldable pub locked : Bool → ℕ → ℕ → ℕ
 locked true c w = 65536 + c
 locked false c w = cond (ltb w 65536) (putBit true w c) w
 
--- the word once client c has unlocked it
+-- the word once client c has unlocked it; another writer's word stays (from a new store on, a client unlocks only what it holds)
 unfoldable pub unlocked : ℕ → ℕ → ℕ
 unlocked c w = cond (ltb w 65536) (putBit false w c) (cond (eqb w (65536 + c)) 0 w)
 

@@ -11,9 +11,11 @@ use Rattle.server.specs.declared.place.Place.{Place}
 use Rattle.server.specs.declared.place.Place.the-variants.{MetadataLock, FlagLock, NodeLock}
 use Rattle.server.specs.Layout.{places, server-block}
 
+-- the name with the number x
 abbrev pub named : ℕ → Name
 named x = record { number = x }
 
+-- the object with the number n: 0 the metadata, from 1 on nodes by name, from 8,193 on flags by name
 unfoldable pub object-of : ℕ → Object
 object-of n = cond (eqb n 0) Metadata (cond (leb n 8192) (Node (named (n - 1))) (Flag (named (n - 1 - 8192))))
 

@@ -25,9 +25,11 @@ lock-step o writing c m = put (lock-of o) (locked writing c (m (lock-of o))) ∷
 unfoldable pub unlock-step : Object → ℕ → (Place → ℕ) → List (Put Place)
 unlock-step o c m = put (lock-of o) (unlocked c (m (lock-of o))) ∷ []
 
+-- the metadata is written: "root name and its version"
 unfoldable pub metadata-step : ℕ → ℕ → (Place → ℕ) → List (Put Place)
 metadata-step root version m = put Root root ∷ put Version version ∷ []
 
+-- the flag of a slot of this server is written, taken or free
 unfoldable pub flag-step : Name → Bool → (Place → ℕ) → List (Put Place)
 flag-step x taken m =
     let a = Vector (slot-of (x .number) / 64) in
@@ -39,12 +41,14 @@ kept-of n v =
     cond (eqb (n .kind) 0) (free-node v)
     (record { kind = n .kind; level = n .level; version = v; count = n .count; keys = n .keys; slots = n .slots })
 
--- "at home and, for a node inner before or after, in every table"
+-- the 33 words of node x at its home, nothing at another server
 unfoldable pub home-step : ℕ → Name → node.Node → (Place → ℕ) → List (Put Place)
 home-step s x n m = cond (eqb (server-of (x .number)) s) (puts places (Node (slot-of (x .number))) (words-of n)) []
 
+-- version v of node x in this server's table, if it is inner before or after
 unfoldable pub table-step : Name → ℕ → Bool → (Place → ℕ) → List (Put Place)
 table-step x v inner m = cond inner (put (Table (server-of (x .number)) (slot-of (x .number))) v ∷ []) []
 
+-- what server s stores of node x written with version v: "at home and, for a node inner before or after, in every table"
 unfoldable pub node-step : ℕ → Name → node.Node → ℕ → Bool → (Place → ℕ) → List (Put Place)
 node-step s x n v inner m = home-step s x (kept-of n v) m ++ table-step x v inner m

@@ -24,7 +24,7 @@ module _ (z : Sizes) (m : Address → ℕ) where
   abbrev pub commits : ℕ → Bool
   commits d = between commit-phase decided-phase (m (client d phase))
 
-  -- "or its write": the object is in the write set
+  -- "or its write": the object x is in the write set of client d, whose count is in range
   abbrev pub writes : ℕ → ℕ → Bool
   writes d x = leb (m (client d writes-count)) 48 && has (λ a. m (client d a)) Writes x
 
@@ -35,16 +35,18 @@ module _ (z : Sizes) (m : Address → ℕ) where
       (all-below (z .clients) (λ d. not (bit w d) || commits d))
       (commits (w - 65536) && writes (w - 65536) x)
 
-  -- the lock of an object at the server s; and what is checked beside it
+  -- the lock of an object at the server s
   unfoldable pub lock-fits : ℕ → Item → Bool
   lock-fits s i =
       let w = m (server s (lock-of (item-object i))) in
       lock-in-range (z .clients) w && holders-fit (i .number) w
 
+  -- what is checked of an object at the server s, and its lock
   unfoldable pub check-fits : ℕ → Item → Bool
   check-fits s i = sound (z .clients) (item-object i) (i .inner-read) (λ a. m (server s a)) && lock-fits s i
 
 module _ (z : Sizes) (m : Address → ℕ) (c : ℕ) where
+  -- what stands in the part of client c
   abbrev mine : ClientWord → ℕ
   mine a = m (client c a)
 
@@ -58,10 +60,11 @@ module _ (z : Sizes) (m : Address → ℕ) (c : ℕ) where
       all-below (count mine Reads)
       (λ n. let i = read-item mine n in not (locked-at lowest-participant s i) || cond (checked-at lowest-participant s i) (check-fits z m s i) (lock-fits z m s i))
 
-  -- what is unlocked at s, and at every server at which the transaction is prepared
+  -- what is unlocked at s
   unfoldable pub unlock-fits : ℕ → Bool
   unlock-fits s = all-below (count mine Reads) (λ n. let i = read-item mine n in not (locked-at lowest-participant s i) || lock-fits z m s i)
 
+  -- what an abort unlocks: at every server at which the transaction is prepared
   unfoldable pub abort-fits : Bool
   abort-fits = all-below (z .servers) (λ s. not (bit (mine prepared) s) || unlock-fits s)
 

@@ -5,9 +5,11 @@ use Rattle.steps.specs.declared.outcome.Outcome.{Outcome}
 use Rattle.steps.specs.declared.outcome.Outcome.the-variants.{Refused, Done, Fetched, Answered, Prepared, Decided, Applied, Committed, Aborted}
 use Rattle.steps.specs.declared.outcome.Line.{Line}
 
+-- an outcome's number, a and b
 abbrev pub three : ℕ → ℕ → ℕ → Line
 three n a b = record { outcome = n; a = a; b = b }
 
+-- the number and values of each outcome; "Unused are 0."
 unfoldable pub line : Outcome → Line
 line (Refused n) = three 0 n 0
 line Done = three 1 0 0

@@ -19,6 +19,7 @@ pub record Row : Type 0 where
   pub number : ℕ
   pub holds : Bool
 
+-- the row of the number n, which holds if b does
 abbrev pub refused-if : ℕ → Bool → Row
 refused-if n b = record { number = n; holds = b }
 
@@ -27,10 +28,11 @@ unfoldable pub first : List Row → ℕ
 first [] = 0
 first (r ∷ rs) = cond (r .holds) (r .number) (first rs)
 
--- "Kinds: 0 begin. 1 give an operation .. 7 client lost."
+-- "Kinds: 0 begin. 1 give an operation .. 7 client lost."; above 7 Unknown
 unfoldable pub kind-of : ℕ → Kind
 kind-of n = getD (Begin ∷ Give ∷ Work ∷ Commit ∷ Prepare ∷ Apply ∷ GiveUp ∷ Lost ∷ []) n Unknown
 
+-- is n from a to b
 abbrev pub between : ℕ → ℕ → ℕ → Bool
 between a b n = leb a n && leb n b
 
@@ -53,9 +55,11 @@ of-memory bytes z =
 -- after commit, a participant not yet prepared; apply, after the decision, one not yet applied; give up an undecided transaction;
 -- lost fits always"
 module _ (m : ClientWord → ℕ) (s : ℕ) where
+  -- server s takes part and is not yet in the set of those done: prepared, or applied
   abbrev pub unfinished : ClientWord → Bool
   unfinished done = bit (m participants) s && not (bit (m done) s)
 
+  -- does the client's state fit a step of that kind at server s; a kind above 7 is refused by 4 before
   unfoldable pub state-fits : Kind → Bool
   state-fits Begin = eqb (m phase) no-transaction
   state-fits Give = eqb (m phase) open-phase && eqb (m op-number) 0
@@ -86,9 +90,10 @@ of-step z k m =
     ∷ refused-if 9 (not (state-fits (λ a. m (client (k .client) a)) (k .server) (kind-of (k .kind))))
     ∷ []
 
--- what opening refuses, and of a step all but 10
+-- by which of 1 to 3 an opening or a step is refused; 0 if by none
 unfoldable pub open-refusal : ℕ → Sizes → ℕ
 open-refusal bytes z = first (of-memory bytes z)
 
+-- by which of 4 to 9 a step is refused; 0 if by none
 unfoldable pub refusal : Sizes → Step → (Address → ℕ) → ℕ
 refusal z k m = first (of-step z k m)

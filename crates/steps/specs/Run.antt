@@ -16,9 +16,11 @@ opened z =
     changed whole (λ a. 0)
     (put (head 0) (z .servers) ∷ put (head 1) (z .slots) ∷ put (head 2) (z .clients) ∷ over (server 0) (first-leaf 0))
 
+-- what stands at the addresses after a step
 abbrev pub after : Sizes → (Address → ℕ) → Step → Address → ℕ
 after z m k = changed whole m (step z k m .stores)
 
+-- the outcomes of a list of steps, front to back
 unfoldable pub outcomes : Sizes → (Address → ℕ) → List Step → List Outcome
 outcomes z m [] = []
 outcomes z m (k ∷ ks) = step z k m .outcome ∷ outcomes z (after z m k) ks

@@ -54,6 +54,7 @@ pub record Did : Type 0 where
   pub outcome : Outcome
   pub stores : List (Put Address)
 
+-- an outcome with its stores
 abbrev pub did : Outcome → List (Put Address) → Did
 did o ps = record { outcome = o; stores = ps }
 
@@ -65,11 +66,12 @@ refuse n = did (Refused n) []
 abbrev pub if-fit : Bool → Did → Did
 if-fit ok d = cond ok d (refuse 10)
 
--- at the server s, the objects read that are locked there, in the order of the read set: locked, unlocked
+-- at the server s, the objects read that are locked there, in the order of the read set: locked by client c
 abbrev pub lock-each : (ClientWord → ℕ) → ℕ → ℕ → ℕ → (Place → ℕ) → List (Put Place)
 lock-each m c lowest-participant s =
     sweep places (λ n p. let i = read-item m n in cond (locked-at lowest-participant s i) (lock-step (item-object i) (i .written) c p) []) (count m Reads)
 
+-- the same objects, unlocked by client c
 abbrev pub unlock-each : (ClientWord → ℕ) → ℕ → ℕ → ℕ → (Place → ℕ) → List (Put Place)
 unlock-each m c lowest-participant s =
     sweep places (λ n p. let i = read-item m n in cond (locked-at lowest-participant s i) (unlock-step (item-object i) c p) []) (count m Reads)
@@ -115,15 +117,19 @@ unfoldable pub node-at : (Place → ℕ) → ℕ → Node
 node-at p n = node-of (tab 33 (λ j. p (place.Node (slot-of n) j)))
 
 module _ (z : Sizes) (m : Address → ℕ) (c : ℕ) where
+  -- what stands in the part of client c
   abbrev mine : ClientWord → ℕ
   mine a = m (client c a)
 
+  -- what stands in the part of server s
   abbrev theirs : ℕ → Place → ℕ
   theirs s a = m (server s a)
 
+  -- what is done in the client's part, as stores in the whole
   abbrev pub in-client : ((ClientWord → ℕ) → List (Put ClientWord)) → List (Put Address)
   in-client g = over (client c) (g mine)
 
+  -- what is done in the part of server s, as stores in the whole
   abbrev pub in-server : ℕ → ((Place → ℕ) → List (Put Place)) → List (Put Address)
   in-server s g = over (server s) (g (theirs s))
 
@@ -132,16 +138,19 @@ module _ (z : Sizes) (m : Address → ℕ) (c : ℕ) where
   unlocked-everywhere =
       at-servers (z .servers) (λ s. cond (bit (mine prepared) s) (in-server s (unlock-each mine c (lowest-participant z m c) s)) [])
 
+  -- the stores of an abort: locks, copies, and the transaction's end
   abbrev pub aborting : List ℕ → List (Put Address)
   aborting us = unlocked-everywhere ++ in-client (Life.abort-part us)
 
+  -- an abort for the reason y
   unfoldable pub abort : ℕ → List ℕ → Did
   abort y us = if-fit (abort-fits z m c) (did (Aborted y) (aborting us))
 
-  -- ---- BEGIN AND GIVE
+  -- ---- BEGIN AND GIVE: "Begin, give .. are done"
   unfoldable pub begin : Did
   begin = did Done (in-client (Life.reset 1))
 
+  -- the operation waits in the client's part
   unfoldable pub give : Step → Did
   give k = did Done (in-client (Life.give-part (k .op) (k .key) (k .value) (k .server)))
 
@@ -151,6 +160,7 @@ module _ (z : Sizes) (m : Address → ℕ) (c : ℕ) where
     abbrev pub fetch-items : ℕ → List Item
     fetch-items s = those (λ i. can-check s (item-object i) (i .inner-read)) (read-items mine ++ used-items mine us)
 
+    -- what is found of one of them at server s: reason 2 before 1, 0 if none
     abbrev pub fetch-finding : ℕ → Item → ℕ × ℕ
     fetch-finding s i = (i .number, finding-reason (checked (item-object i) (i .inner-read) (i .mark) c Fetch (theirs s)))
 
@@ -158,15 +168,17 @@ module _ (z : Sizes) (m : Address → ℕ) (c : ℕ) where
     abbrev pub handed : ((ClientWord → ℕ) → List (Put ClientWord)) → List (Put Address)
     handed g = in-client (andThen client-words (used-enter us) g)
 
+    -- "object 97 would be read": 96 are read or came into use
     abbrev pub full : Bool
     full = leb 96 (mine reads-count + length us)
 
-    -- "then the object fetched; a vector fetched is never busy"; then the limit of 96
+    -- "then the object fetched; a vector fetched is never busy"; then the limit of 96. Of the item made here only the number is looked at
     abbrev pub fetch-object : ℕ → ℕ → Outcome → Bool → ((ClientWord → ℕ) → List (Put ClientWord)) → Did
     fetch-object s x out ok g =
         if-fit (ok && lock-fits z m s (record { number = x; inner-read = false; mark = 0; written = false; becomes = false }))
         (cond (held (object-of x) c Fetch (theirs s)) (abort 2 us) (cond full (abort 4 us) (did out (handed g))))
 
+    -- what server s hands over for what is lacking; for a flag its vector
     abbrev pub hand-over : O.Ask → ℕ → Outcome → Did
     hand-over (O.object O.meta) s out =
         fetch-object s 0 out (metadata-sound (z .servers) (z .slots) (theirs s))
@@ -177,21 +189,25 @@ module _ (z : Sizes) (m : Address → ℕ) (c : ℕ) where
     hand-over (O.vector s′) s out = did out (handed (fetched-vector s (vector-at (theirs s))))
     hand-over (O.fetched s′) s out = did out (handed (fetched-vector s (vector-at (theirs s))))
 
+    -- "A fetch checks at that server what the transaction has read, .. then the object fetched"
     abbrev pub checked-fetch : O.Ask → Wanted → Did
     checked-fetch a w =
         let found = deciding (map (fetch-finding (w .from)) (fetch-items (w .from))) in
         if-fit (all (check-fits z m (w .from)) (fetch-items (w .from)))
         (cond (eqb found 0) (hand-over a (w .from) (Fetched (w .what) (w .which))) (abort found us))
 
+    -- "A work step that lacks an object fetches the first one lacking and does no more"
     unfoldable pub fetch : O.Ask → Did
     fetch a = checked-fetch a (wanted (z .servers) c a)
 
+  -- how the walk ends the step; us came into use in it
   abbrev pub after-walk : List ℕ → Worked → Did
   after-walk us refused = refuse 10
   after-walk us (fetches a) = fetch us a
   after-walk us (aborted y) = abort y us
   after-walk us (answers a w) = did (Answered (a .0) (a .1)) (in-client (answered us w))
 
+  -- "otherwise it answers the operation": the waiting operation is walked over what the client has
   unfoldable pub work : Did
   work = after-walk (walked (tree-sizes z) mine .used) (worked (tree-sizes z) mine)
 
@@ -200,10 +216,11 @@ module _ (z : Sizes) (m : Address → ℕ) (c : ℕ) where
   commit =
       cond (eqb (participants-of mine (z .servers)) 0) (did Committed (in-client (Life.reset 0))) (did Done (in-client (committing (z .servers))))
 
-  -- ---- APPLY at the server s
+  -- ---- APPLY at the server s: "Apply writes and unlocks"
   abbrev pub applying : ℕ → List (Put Address)
   applying s = in-server s (andThen places (store-all mine s) (unlock-each mine c (lowest-participant z m c) s))
 
+  -- is s the last participant to apply
   abbrev pub all-applied : ℕ → Bool
   all-applied s = covers (z .servers) (mine participants) (putBit true (mine applied) s)
 
@@ -214,9 +231,11 @@ module _ (z : Sizes) (m : Address → ℕ) (c : ℕ) where
       (did Committed (applying s ++ in-client (andThen client-words (noted applied s) finish)))
       (did (Applied s) (applying s ++ in-client (noted applied s)))
 
+  -- is what an apply at s reads in range: the locks given back, and the versions read of all that is written
   abbrev pub apply-fits : ℕ → Bool
   apply-fits s = unlock-fits z m c s && versions-fit z m c
 
+  -- the apply at s
   unfoldable pub apply : ℕ → Did
   apply s = if-fit (apply-fits s) (applied-at s)
 
@@ -227,6 +246,7 @@ module _ (z : Sizes) (m : Address → ℕ) (c : ℕ) where
       cond (checked-at (lowest-participant z m c) s i) (finding-reason (checked (item-object i) (i .inner-read) (i .mark) c (use-of i) (theirs s)))
       (cond (held (item-object i) c (use-of i) (theirs s)) 2 0)
 
+  -- what is found of an object read: nothing if it is not locked at s
   abbrev pub prepare-finding : ℕ → Item → ℕ × ℕ
   prepare-finding s i = (i .number, cond (locked-at (lowest-participant z m c) s i) (prepare-reason s i) 0)
 
@@ -234,9 +254,11 @@ module _ (z : Sizes) (m : Address → ℕ) (c : ℕ) where
   abbrev pub preparing : ℕ → List (Put Address)
   preparing s = in-server s (lock-each mine c (lowest-participant z m c) s) ++ in-client (noted prepared s)
 
+  -- is s the last participant to prepare
   abbrev pub all-prepared : ℕ → Bool
   all-prepared s = covers (z .servers) (mine participants) (putBit true (mine prepared) s)
 
+  -- is s the only participant
   abbrev pub only : ℕ → Bool
   only s = eqb (mine participants) (putBit true 0 s)
 
@@ -249,6 +271,7 @@ module _ (z : Sizes) (m : Address → ℕ) (c : ℕ) where
   abbrev pub deciding-stores : ℕ → List (Put Address)
   deciding-stores s = preparing z m c s ++ in-client z m c decided
 
+  -- nothing was found: prepared, or with the last one decided, or with the only one applied too
   unfoldable pub prepared-at : ℕ → Did
   prepared-at s =
       cond (not (all-prepared z m c s)) (did (Prepared s) (preparing z m c s))
@@ -256,6 +279,7 @@ module _ (z : Sizes) (m : Address → ℕ) (c : ℕ) where
       (if-fit (versions-fit z m c) (then m (deciding-stores s) (λ u. applied-at z u c s)))
       (did Decided (deciding-stores s)))
 
+  -- "Prepare checks and locks": the prepare at s, or the abort by what was found
   unfoldable pub prepare : ℕ → Did
   prepare s =
       let found = deciding (map (prepare-finding z m c s) (read-items (λ a. m (client c a)))) in
@@ -265,16 +289,18 @@ module _ (z : Sizes) (m : Address → ℕ) (c : ℕ) where
   abbrev pub forgetting : (Address → ℕ) → Did
   forgetting u = did Done (in-client z u c drop-all)
 
+  -- the abort of an undecided transaction, after which all copies go too
   abbrev pub lose-undecided : Did → Did
   lose-undecided d = did (d .outcome) (then m (d .stores) forgetting .stores)
 
+  -- "a loss that aborts nothing": without a transaction or with a decided one; else "7 lost, and undecided"
   unfoldable pub lose : Did
   lose =
       cond (eqb (m (client c phase)) no-transaction) (forgetting m)
       (cond (eqb (m (client c phase)) decided-phase) (did Done (in-client z m c Life.lose-part))
       (if-fit (abort-fits z m c) (lose-undecided (abort z m c 7 []))))
 
-  -- ---- by kind
+  -- ---- by kind; one above 7 is refused by 4 before
   abbrev pub by-kind : Step → Kind → Did
   by-kind k Begin = begin z m c
   by-kind k Give = give z m c k

@@ -35,11 +35,13 @@ unfoldable pub those : {A : Type 0} → (A → Bool) → List A → List A
 those f [] = []
 those f (a ∷ l) = cond (f a) (a ∷ those f l) (those f l)
 
+-- do all pass a test
 unfoldable pub all : {A : Type 0} → (A → Bool) → List A → Bool
 all f [] = true
 all f (a ∷ l) = f a && all f l
 
 module _ (m : ClientWord → ℕ) where
+  -- the object with the number x, read as the record r
   unfoldable pub item-of : ℕ → Node → Item
   item-of x r = record {
     number = x;
@@ -49,16 +51,19 @@ module _ (m : ClientWord → ℕ) where
     becomes = of-record m Writes (inner x) (find m Writes x);
   }
 
-  -- the read set, and the copies that came into use in this step
+  -- item i of the read set
   abbrev pub read-item : ℕ → Item
   read-item i = item-of (number-at m Reads i) (record-at m Reads i)
 
+  -- the read set
   unfoldable pub read-items : List Item
   read-items = each (count m Reads) read-item
 
+  -- the copies that came into use in this step, by their numbers
   unfoldable pub used-items : List ℕ → List Item
   used-items us = map (λ x. item-of x (copied m x .node)) us
 
+-- the object itself
 abbrev pub item-object : Item → Object
 item-object i = object-of (i .number)
 
@@ -70,22 +75,25 @@ checked-at lowest s i = cond (i .inner-read) (eqb s lowest || i .written) (at-ho
 unfoldable pub locked-at : ℕ → ℕ → Item → Bool
 locked-at lowest s i = checked-at lowest s i || (i .written && i .becomes)
 
+-- what a prepare asks it for
 abbrev pub use-of : Item → Use
 use-of i = cond (i .written) Write Read
 
--- "in the order metadata, nodes by name, flags by name": the least object with a reason decides. A finding is an object's number and
--- a reason, 0 if there is none.
+-- of two findings that of the lesser object. A finding is an object's number and a reason, 0 if there is none.
 abbrev pub lesser : ℕ × ℕ → Option (ℕ × ℕ) → Option (ℕ × ℕ)
 lesser f none = some f
 lesser f (some g) = cond (leb (f .0) (g .0)) (some f) (some g)
 
+-- "in the order metadata, nodes by name, flags by name": of the findings with a reason that of the least object
 unfoldable pub least : List (ℕ × ℕ) → Option (ℕ × ℕ)
 least [] = none
 least (f ∷ fs) = cond (eqb (f .1) 0) (least fs) (lesser f (least fs))
 
+-- its reason; 0 if there is none
 abbrev pub reason-of : Option (ℕ × ℕ) → ℕ
 reason-of none = 0
 reason-of (some f) = f .1
 
+-- the reason that decides; 0 if no finding has one
 unfoldable pub deciding : List (ℕ × ℕ) → ℕ
 deciding fs = reason-of (least fs)

@@ -27,29 +27,35 @@ pub data Address : Type 0 where
   server : ℕ → Place → Address
   client : ℕ → ClientWord → Address
 
+-- a head of 8 words, the servers' parts, the clients' parts
 abbrev pub block : Sizes → Block
 block z = followed-by (words 8) (followed-by (times (z .servers) (Srv.server-block (z .slots))) (followed-by (times (z .clients) client-block) end))
 
+-- where in the block each word of the memory stands
 abbrev pub code : Address → List ℕ
 code (head i) = 0 ∷ i ∷ []
 code (server s a) = 1 ∷ s ∷ Srv.place-code a
 code (client c a) = 2 ∷ c ∷ client-code a
 
+-- which word stands there; of a list that is none of these it is not asked
 abbrev pub back : List ℕ → Address
 back p = let x = getD p 1 0 in getD (head x ∷ server x (Srv.place-back (drop 2 p)) ∷ client x (client-back (drop 2 p)) ∷ []) (getD p 0 0) (head x)
 
+-- each word is had back
 pub again : (a : Address) → back (code a) ≡ a
 again (head i) = refl
 again (server s a) = rw (Srv.place-again a)
 again (client c a) = rw (client-again a)
 
+-- the words of the memory as addresses
 abbrev pub whole : Coding Address
 whole = record { code = code; back = back; again = again }
 
--- "the length that given sizes call for", in words and in bytes
+-- "the length that given sizes call for", in words
 unfoldable pub words-for : Sizes → ℕ
 words-for z = size (block z)
 
+-- the same in bytes
 unfoldable pub length-for : Sizes → ℕ
 length-for z = 8 * words-for z
 

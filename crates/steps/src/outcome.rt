@@ -2,6 +2,8 @@
 ghost use mathlib.Core.Path.{_≡_};
 ghost use Rattle.steps.specs.Outcome.{line};
 
+// "Outcomes: 0 refused (a number); 1 done; 2 fetched (a 0 metadata, 1 node, 2 vector; b name or server); 3 answered; 4 prepared (a server);
+// 5 decided; 6 applied (a server); 7 committed; 8 aborted (a reason)."
 pub enum Outcome {
     Refused(u64),
     Done,
