@@ -15,7 +15,7 @@ ghost use lib.ListN.{getD};
 ghost use Rattle.nodes.specs.Entries.{wide-entries};
 ghost use Rattle.client.specs.Record.{sizes, in-store};
 ghost use Rattle.client.specs.Sets.{held};
-ghost use Rattle.walk.specs.Ask.{OwnGood, Writing, WalkingOwn};
+ghost use Rattle.walk.specs.Ask.{OwnGood, Writing, WalkingOwn, Rising};
 ghost use Rattle.change.specs.Rise.{Full, Closed};
 ghost use Rattle.change.specs.Split.{Overfull};
 ghost use Rattle.change.specs.Grow.{TwoTaken, BothFree, HalvesTaken, Grown, root-split};
@@ -133,7 +133,7 @@ pub fn split_root(
     a: u64,
     b: u64,
 ) -> Stop
-    requires { ⌜ Writing servers (now part) (now own) (now used) 13 ⌝ }
+    requires { ⌜ Rising servers (now part) (now own) (now used) 12 ⌝ }
     requires there { ⌜ in-store (sizes servers slots) name ≡ true ⌝ }
     requires full { ⌜ Full level n ⌝ }
     requires low { ⌜ level ≤ 4 ⌝ }

@@ -15,7 +15,7 @@ ghost use lib.ListN.{getD};
 ghost use Rattle.nodes.specs.Entries.{wide-entries};
 ghost use Rattle.client.specs.Record.{sizes, in-store};
 ghost use Rattle.client.specs.Sets.{held};
-ghost use Rattle.walk.specs.Ask.{OwnGood, Noted, Writing};
+ghost use Rattle.walk.specs.Ask.{OwnGood, Noted, Rising};
 ghost use Rattle.change.specs.Rise.{Content, Under, Raised, Closed};
 ghost use Rattle.change.specs.Level.{Settled, level-plan, top-plan};
 ghost use Rattle.client.specs.Layout.{ClientPart};
@@ -55,7 +55,7 @@ pub fn raise(
     a: u64,
     b: u64,
 ) -> Risen
-    requires { ⌜ Writing servers (now part) (now own) (now used) 13 ⌝ }
+    requires { ⌜ Rising servers (now part) (now own) (now used) 12 ⌝ }
     requires under { ⌜ Under (sizes servers slots) level name above ⌝ }
     requires content { ⌜ Content level n ⌝ }
     ensures { λ r. ⌜ Raised (sizes servers slots) (held (now (part .entry))) (now (own .entry)) (now (used .entry)) level root
@@ -98,7 +98,7 @@ pub fn at_top(
     a: u64,
     b: u64,
 ) -> Stop
-    requires { ⌜ Writing servers (now part) (now own) (now used) 13 ⌝ }
+    requires { ⌜ Rising servers (now part) (now own) (now used) 12 ⌝ }
     requires there { ⌜ in-store (sizes servers slots) name ≡ true ⌝ }
     requires content { ⌜ Content level n ⌝ }
     requires low { ⌜ level ≤ 4 ⌝ }

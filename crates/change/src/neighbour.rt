@@ -17,7 +17,7 @@ ghost use Prim.Native.Nat.{_+_, _<_, _≤_};
 ghost use Rattle.nodes.specs.Entries.{entriesOf};
 ghost use Rattle.client.specs.Record.{sizes, in-store};
 ghost use Rattle.client.specs.Sets.{held};
-ghost use Rattle.walk.specs.Ask.{SmallNode, Writing};
+ghost use Rattle.walk.specs.Ask.{SmallNode, Rising};
 ghost use Rattle.change.specs.Rise.{Raised, Under, OfLevel, neighbour-plan};
 ghost use Rattle.change.specs.Beside.{far-side};
 ghost use Rattle.change.specs.Lend.{lent, joined};
@@ -106,7 +106,7 @@ fn collapse(
     a: u64,
     b: u64,
 ) -> Risen
-    requires { ⌜ Writing servers (now part) (now own) (now used) 15 ⌝ }
+    requires { ⌜ Rising servers (now part) (now own) (now used) 14 ⌝ }
     requires there { ⌜ in-store (sizes servers slots) root ≡ true ⌝ }
     requires few { ⌜ one .count ≤ 14 ⌝ }
     ensures { λ r. ⌜ Collapses (sizes servers slots) (held (now (part .entry))) (now (own .entry)) (now (used .entry)) (a, b) root child
@@ -146,7 +146,7 @@ fn merge(
     a: u64,
     b: u64,
 ) -> Risen
-    requires { ⌜ Writing servers (now part) (now own) (now used) 13 ⌝ }
+    requires { ⌜ Rising servers (now part) (now own) (now used) 12 ⌝ }
     requires beside { ⌜ Neighbours (sizes servers slots) above s ⌝ }
     requires few { ⌜ SmallNode one ⌝ }
     ensures { λ r. ⌜ Merges (sizes servers slots) (held (now (part .entry))) (now (own .entry)) (now (used .entry)) root (a, b) above s
@@ -186,7 +186,7 @@ fn even_out(
     a: u64,
     b: u64,
 ) -> Risen
-    requires { ⌜ Writing servers (now part) (now own) (now used) 13 ⌝ }
+    requires { ⌜ Rising servers (now part) (now own) (now used) 12 ⌝ }
     requires beside { ⌜ Neighbours (sizes servers slots) above s ⌝ }
     requires turning { ⌜ SmallNode n ⌝ }
     requires far { ⌜ SmallNode m ⌝ }
@@ -228,7 +228,7 @@ pub fn neighbour(
     a: u64,
     b: u64,
 ) -> Risen
-    requires { ⌜ Writing servers (now part) (now own) (now used) 13 ⌝ }
+    requires { ⌜ Rising servers (now part) (now own) (now used) 12 ⌝ }
     requires under { ⌜ Under (sizes servers slots) level name above ⌝ }
     requires of { ⌜ OfLevel level n ⌝ }
     requires lacks { ⌜ n .count ≤ 6 ⌝ }

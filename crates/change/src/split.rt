@@ -12,7 +12,7 @@ ghost use Prim.Native.Nat.{_<_, _≤_};
 ghost use lib.ListN.{getD};
 ghost use Rattle.client.specs.Record.{sizes};
 ghost use Rattle.client.specs.Sets.{held};
-ghost use Rattle.walk.specs.Ask.{OwnGood, Writing};
+ghost use Rattle.walk.specs.Ask.{OwnGood, Writing, Rising};
 ghost use Rattle.change.specs.Rise.{Under, Full};
 ghost use Rattle.change.specs.Split.{HalfTaken, Overfull, Halved, Divided, Splits};
 
@@ -76,7 +76,7 @@ pub fn split(
     name: u64,
     n: Wide,
 ) -> Risen
-    requires { ⌜ Writing servers (now part) (now own) (now used) 13 ⌝ }
+    requires { ⌜ Rising servers (now part) (now own) (now used) 12 ⌝ }
     requires under { ⌜ Under (sizes servers slots) level name above ⌝ }
     requires full { ⌜ Full level n ⌝ }
     ensures { λ r. ⌜ Splits (sizes servers slots) (held (now (part .entry))) (now (own .entry)) (now (used .entry)) level above name n r

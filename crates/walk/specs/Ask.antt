@@ -115,31 +115,23 @@ stopped s = record { stop = s; node = free-node 0 }
 unfoldable pub noted-copy : How → List ℕ → ℕ → List ℕ
 noted-copy d u n = cond (is-copied d) (cond (among n (used-in u)) u (pushed u n)) u
 
--- ---- what a walk is lent: a client's part, the copies in use, and the operation's own writes
+-- ---- what a walk is lent: up to eight servers, a client's part, the copies in use, and the operation's own writes
 -- to one that only reads
-pub record Walking (servers : ℕ) (part used : List ℕ) : Type 0 where
-  pub few-servers : servers ≤ 8
-  pub noted : Noted (held part) used
-  pub room : ClientPart part
+abbrev pub Walking : ℕ → List ℕ → List ℕ → Type 0
+Walking servers part used = (servers ≤ 8) × Noted (held part) used × ClientPart part
 
 -- to one that reads its own writes too
-pub record WalkingOwn (servers : ℕ) (part own used : List ℕ) : Type 0 where
-  pub few-servers : servers ≤ 8
-  pub writes : OwnGood own
-  pub noted : Noted (held part) used
-  pub room : ClientPart part
+abbrev pub WalkingOwn : ℕ → List ℕ → List ℕ → List ℕ → Type 0
+WalkingOwn servers part own used = (servers ≤ 8) × OwnGood own × Noted (held part) used × ClientPart part
 
--- to one that writes, before its first write, and with less than n of them
-pub record Beginning (servers : ℕ) (part own used : List ℕ) : Type 0 where
-  pub few-servers : servers ≤ 8
-  pub writes : OwnGood own
-  pub none : getD own 0 0 ≡ 0
-  pub noted : Noted (held part) used
-  pub room : ClientPart part
+-- to one that writes, before its first write
+abbrev pub Beginning : ℕ → List ℕ → List ℕ → List ℕ → Type 0
+Beginning servers part own used = (servers ≤ 8) × OwnGood own × (getD own 0 0 ≡ 0) × Noted (held part) used × ClientPart part
 
-pub record Writing (servers : ℕ) (part own used : List ℕ) (n : ℕ) : Type 0 where
-  pub few-servers : servers ≤ 8
-  pub writes : OwnGood own
-  pub few : getD own 0 0 < n
-  pub noted : Noted (held part) used
-  pub room : ClientPart part
+-- to one that writes, with less than n own writes
+abbrev pub Writing : ℕ → List ℕ → List ℕ → List ℕ → ℕ → Type 0
+Writing servers part own used n = (servers ≤ 8) × OwnGood own × (getD own 0 0 < n) × Noted (held part) used × ClientPart part
+
+-- to one that carries a change up, with at most n own writes
+abbrev pub Rising : ℕ → List ℕ → List ℕ → List ℕ → ℕ → Type 0
+Rising servers part own used n = (servers ≤ 8) × OwnGood own × (getD own 0 0 ≤ n) × Noted (held part) used × ClientPart part
