@@ -1,6 +1,6 @@
--- Tests of a client's sets: of all numbers below one, of what was found, of an item.
-use mathlib.Core.Bool.{Bool, true, false, _&&_}
-use Prim.Native.Nat.{ℕ, zero, suc}
+-- Tests of a client's sets: of what was found, of an item.
+use mathlib.Core.Bool.{Bool, true, false}
+use Prim.Native.Nat.{ℕ}
 use lib.Dec.{eqb}
 use Rattle.nodes.specs.declared.found.Found.{Found}
 use Rattle.nodes.specs.declared.found.Found.the-variants.{At, Absent}
@@ -8,11 +8,6 @@ use Rattle.client.specs.declared.part.Set.{Set}
 use Rattle.client.specs.Layout.{ClientWord, item}
 use Rattle.client.specs.Record.{by-number}
 use Rattle.client.specs.Sets.{number-at}
-
--- f holds of all below n
-unfoldable pub all-of : (ℕ → Bool) → ℕ → Bool
-all-of f zero = true
-all-of f (suc n) = all-of f n && f n
 
 -- was it found
 abbrev pub is-at : Found → Bool

@@ -11,7 +11,8 @@ use Rattle.client.specs.declared.part.Set.the-variants.{Reads, Writes, C
 use Rattle.client.specs.Layout.{ClientWord, field, vector-word, op-number, op-key, op-server}
 use Rattle.client.specs.Record.{in-store, number-in-store, record-in-range}
 use Rattle.client.specs.Sets.{count, number-at, record-at, find}
-use Rattle.client.specs.Commit.{all-of, is-at}
+use Rattle.client.specs.Commit.{is-at}
+use Rattle.client.specs.Items.{all-below}
 
 -- the greatest value of each field: phase; operation's number, key, value, server; four sets of servers; lost; counts; metadata copied
 abbrev pub bounds : ℕ → List ℕ
@@ -45,5 +46,5 @@ module _ (z : TreeSizes) (m : ClientWord → ℕ) where
   -- the client's own state is in range: fields, the waiting operation, read set, write set, marks of the vectors' copies
   unfoldable pub client-fits : Bool
   client-fits =
-      all-of (field-fits m (2 ^ z .servers - 1)) 13
-      && (op-fits && (all-of (item-fits Reads) (count m Reads) && (all-of (item-fits Writes) (count m Writes) && all-of (vector-fits m) 8)))
+      all-below 13 (field-fits m (2 ^ z .servers - 1))
+      && (op-fits && (all-below (count m Reads) (item-fits Reads) && (all-below (count m Writes) (item-fits Writes) && all-below 8 (vector-fits m))))

@@ -12,35 +12,27 @@ use Rattle.nodes.specs.Name.{server-of, slot-of}
 use Rattle.nodes.specs.Flags.{with-flag}
 use Rattle.client.specs.declared.part.Set.the-variants.{Reads, Writes}
 use Rattle.client.specs.Layout.{ClientWord, client-words, item, lost, meta-fields, no-transaction}
-use Rattle.client.specs.Record.{by-number}
+use Rattle.client.specs.Record.{by-number, last-version}
 use Rattle.client.specs.Sets.{first-of, count, number-at, record-at, find}
 use Rattle.client.specs.Vectors.{has-vector, vector-copy}
 use Rattle.client.specs.Commit.{inner-at}
 use Rattle.client.specs.Part.{PartStep, _then_, nothing, put-fields, put-vector}
 use Rattle.client.specs.Copies.{copy-node, drop-node}
 use Rattle.client.specs.Life.{reset}
+use Rattle.client.specs.Drops.{version-of, next-version}
 
 -- a node that is written and not inner loses its copy
 unfoldable pub drop-outer : ℕ → PartStep
 drop-outer i m = by-number (number-at m Writes i) nothing (λ n. cond (inner-at m Writes i) nothing (drop-node (number-at m Writes i))) (λ n. nothing) m
-
--- "a written version becomes the one read plus 1"; the last version is refused before (`versions-fit`), so 0 is not reached
-abbrev pub next-version : ℕ → ℕ
-next-version v = cond (ltb v 4294967295) (v + 1) 0
 
 -- the node with the version v
 unfoldable pub versioned : Node → ℕ → Node
 versioned n v = record { kind = n .kind; level = n .level; version = v; count = n .count; keys = n .keys; slots = n .slots }
 
 module _ (m : ClientWord → ℕ) where
-  -- the next version of what was found in the read set; what is written was read (`client-fits`), so 0 is not reached
-  abbrev pub version-found : Found → ℕ
-  version-found (At j) = next-version (m (item Reads j 3))
-  version-found Absent = 0
-
-  -- the version that the written object x gets
+  -- the version of a renewed copy: the one written; the last has no next, and an apply that would need it is refused before
   unfoldable pub new-version : ℕ → ℕ
-  new-version x = version-found (find m Reads x)
+  new-version x = cond (ltb (version-of m (find m Reads x)) last-version) (next-version m x) 0
 
   -- c, and 1 more if write item i is an inner node with a number below x
   unfoldable pub with-inner : ℕ → ℕ → ℕ → ℕ

@@ -17,7 +17,7 @@ ghost use Prim.Native.Nat.{_<_, _≤_};
 ghost use Rattle.client.specs.Layout.{limit, ClientPart};
 ghost use Rattle.client.specs.Record.{sizes, number-in-store};
 ghost use Rattle.client.specs.Sets.{held, count};
-ghost use Rattle.client.specs.Commit.{all-of};
+ghost use Rattle.client.specs.Items.{all-below};
 ghost use Rattle.client.specs.Fits.{field-fits, op-fits, has-read, item-fits, vector-fits, client-fits};
 
 // Field i is within its bound; every is the set of all servers.
@@ -45,7 +45,7 @@ fn field_fits(part: &[u8], every: u64, i: usize) -> bool
 
 fn fields_fit(part: &[u8], every: u64) -> bool
     requires { ⌜ ClientPart (now part) ⌝ }
-    ensures { λ r. ⌜ r ≡ all-of (field-fits (held (now (part .entry))) every) 13 ⌝ }
+    ensures { λ r. ⌜ r ≡ all-below 13 (field-fits (held (now (part .entry))) every) ⌝ }
 {
     let n: usize = 13;
     let mut i: usize = 0;
@@ -116,7 +116,7 @@ fn item_fits(part: &[u8], servers: usize, slots: usize, set: Set, i: usize) -> b
 
 fn items_fit(part: &[u8], servers: usize, slots: usize, set: Set) -> bool
     requires { ⌜ ClientPart (now part) ⌝ }
-    ensures { λ r. ⌜ r ≡ all-of (item-fits (sizes servers slots) (held (now (part .entry))) set) (count (held (now (part .entry))) set) ⌝ }
+    ensures { λ r. ⌜ r ≡ all-below (count (held (now (part .entry))) set) (item-fits (sizes servers slots) (held (now (part .entry))) set) ⌝ }
 {
     let n = count(part, set);
     let mut i: usize = 0;
@@ -138,7 +138,7 @@ fn vector_fits(part: &[u8], s: usize) -> bool
 
 fn vectors_fit(part: &[u8]) -> bool
     requires { ⌜ ClientPart (now part) ⌝ }
-    ensures { λ r. ⌜ r ≡ all-of (vector-fits (held (now (part .entry)))) 8 ⌝ }
+    ensures { λ r. ⌜ r ≡ all-below 8 (vector-fits (held (now (part .entry)))) ⌝ }
 {
     let n: usize = 8;
     let mut s: usize = 0;

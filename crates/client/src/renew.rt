@@ -2,6 +2,7 @@
 use crate::commit::inner_at;
 use crate::copies::copy_node;
 use crate::copies::drop_node;
+use crate::items::version_read;
 use crate::life::reset;
 use crate::part::LOST;
 use crate::part::META_COPIED;
@@ -67,17 +68,11 @@ pub fn new_version(part: &[u8], number: u64) -> u64
     requires { ⌜ ClientPart (now part) ⌝ }
     ensures { λ r. ⌜ r ≡ new-version (held (now (part .entry))) number ⌝ }
 {
-    let at = find(part, Set::Reads, number);
-    match at {
-        Found::At(j) => {
-            let read = item_word(part, Set::Reads, j, 3);
-            if read < 4294967295 {
-                return read + 1;
-            }
-            0
-        }
-        Found::Absent => 0,
+    let read = version_read(part, number);
+    if read < 4294967295 {
+        return read + 1;
     }
+    0
 }
 
 // One more, where write item i is an inner node with a number below this one.

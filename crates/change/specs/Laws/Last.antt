@@ -15,9 +15,8 @@ use Rattle.nodes.specs.Find.{rises}
 use Rattle.nodes.specs.Node.{keysOf}
 use Rattle.client.specs.declared.answer.Look.{Look}
 use Rattle.client.specs.Layout.{ClientWord, writes-count}
-use Rattle.client.specs.Commit.{all-of}
+use Rattle.client.specs.Items.{all-below, has}
 use Rattle.client.specs.Sets.{find, record-at}
-use Rattle.client.specs.Items.{has}
 use Rattle.client.specs.Have.{copied}
 use Rattle.client.specs.Lent.{Entry, OwnFits, own-count, own-number, own-record, own-first, own-list}
 use Rattle.client.specs.Work.{version-in, at-last-version, count-new, any-at-last}
@@ -49,8 +48,8 @@ and-true : (b : Bool) → (b && true) ≡ b
 and-true true = refl
 and-true false = refl
 
-list-fits : (x : List ℕ) (n : ℕ) → all-of (own-fits x) n ≡ entries-fit (own-first x n)
-unfolding all-of own-fits entries-fit own-first
+list-fits : (x : List ℕ) (n : ℕ) → all-below n (own-fits x) ≡ entries-fit (own-first x n)
+unfolding all-below own-fits entries-fit own-first
 list-fits x zero = refl
 list-fits x (suc n) = rw (list-fits x n, fit-append (own-first x n) (own-entry x n ∷ [])) (rw (and-true (record-fits (own-record x n))))
 
@@ -142,8 +141,8 @@ module _ (m : ClientWord → ℕ) (x : List ℕ) where
       go true h = refl
       go false h = h
 
-  list-below : (n : ℕ) → all-of (stays-below m x) n ≡ not (any-at-last m (own-first x n))
-  unfolding all-of stays-below any-at-last own-first
+  list-below : (n : ℕ) → all-below n (stays-below m x) ≡ not (any-at-last m (own-first x n))
+  unfolding all-below stays-below any-at-last own-first
   list-below zero = refl
   list-below (suc n) = rw (list-below n, any-append (own-first x n) (own-entry x n ∷ [])) (go (any-at-last m (own-first x n)) (at-last-version m (own-number x n)))
     where

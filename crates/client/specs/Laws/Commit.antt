@@ -12,37 +12,37 @@ use Rattle.client.specs.declared.part.Set.{Set}
 use Rattle.client.specs.declared.part.Set.the-variants.{Reads, Writes}
 use Rattle.client.specs.Layout.{ClientWord, item}
 use Rattle.client.specs.Sets.{count, number-at, record-at}
-use Rattle.client.specs.Commit.{all-of, inner-at}
-use Rattle.client.specs.Items.{any-below, inner, inner-before-after}
+use Rattle.client.specs.Commit.{inner-at}
+use Rattle.client.specs.Items.{all-below, any-below, inner, inner-before-after}
 use Rattle.client.specs.Participants.{mask, at-home, calls-home, calls-all, takes-part, participants-of}
 
 -- ---- all below a number
 pub record Sofar (f : ℕ → Bool) (n i : ℕ) : Type 0 where
   pub within : i ≤ n
-  pub true-yet : all-of f i ≡ true
+  pub true-yet : all-below i f ≡ true
 
 module _ (f : ℕ → Bool) where
   pub so-none : (n : ℕ) → Sofar f n 0
-  unfolding all-of
+  unfolding all-below
   so-none n = record { within = omega arith; true-yet = refl }
 
   pub so-next : (n i : ℕ) (b : Bool) → i < n → b ≡ f i → not b ≡ false → Sofar f n i → Sofar f n (i + 1)
-  unfolding all-of
-  so-next n i b h e t s = let z : f i ≡ true = sym e ∙ not-false b t in record { within = omega arith; true-yet = rw (add-one, all-of, s .true-yet, z) }
+  unfolding all-below
+  so-next n i b h e t s = let z : f i ≡ true = sym e ∙ not-false b t in record { within = omega arith; true-yet = rw (add-one, all-below, s .true-yet, z) }
 
-  pub so-all : (n k i : ℕ) → n ≡ k → n ≤ i → Sofar f n i → true ≡ all-of f k
+  pub so-all : (n k i : ℕ) → n ≡ k → n ≤ i → Sofar f n i → true ≡ all-below k f
   so-all n k i e h s = let z : i ≡ k = omega (arith, s .within) in rw (← z) (sym (s .true-yet))
 
-  stays-false : (i k : ℕ) → all-of f i ≡ false → all-of f (i + k) ≡ false
-  unfolding all-of
+  stays-false : (i k : ℕ) → all-below i f ≡ false → all-below (i + k) f ≡ false
+  unfolding all-below
   stays-false i zero e = let z : i + 0 ≡ i = omega arith in rw z e
-  stays-false i (suc k) e = let z : i + suc k ≡ suc (i + k) = omega arith in rw (z, all-of, stays-false i k e)
+  stays-false i (suc k) e = let z : i + suc k ≡ suc (i + k) = omega arith in rw (z, all-below, stays-false i k e)
 
-  pub so-fails : (n k i : ℕ) (b : Bool) → n ≡ k → i < n → b ≡ f i → not b ≡ true → Sofar f n i → false ≡ all-of f k
-  unfolding all-of
+  pub so-fails : (n k i : ℕ) (b : Bool) → n ≡ k → i < n → b ≡ f i → not b ≡ true → Sofar f n i → false ≡ all-below k f
+  unfolding all-below
   so-fails n k i b c h e t s =
       let y : f i ≡ false = sym e ∙ not-true b t in
-      let a : all-of f (suc i) ≡ false = rw (all-of, s .true-yet, y) in
+      let a : all-below (suc i) f ≡ false = rw (all-below, s .true-yet, y) in
       let z : k ≡ suc i + (k - suc i) = omega arith in
       sym (rw z (stays-false (suc i) (k - suc i) a))
 

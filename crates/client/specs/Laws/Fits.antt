@@ -17,7 +17,8 @@ use Rattle.client.specs.declared.part.Set.the-variants.{Reads, Writes, C
 use Rattle.client.specs.Layout.{ClientWord, field, vector-word}
 use Rattle.client.specs.Record.{sizes, in-store, number-in-store, record-in-range}
 use Rattle.client.specs.Sets.{count, number-at, record-at, find}
-use Rattle.client.specs.Commit.{all-of, is-at}
+use Rattle.client.specs.Commit.{is-at}
+use Rattle.client.specs.Items.{all-below}
 use Rattle.client.specs.Fits.{bounds, field-fits, op-fits, has-read, item-fits, vector-fits, client-fits}
 
 pub field-asked : (m : ClientWord → ℕ) (every i q : ℕ) → q ≡ m (field i) → leb q (getD (bounds every) i 0) ≡ field-fits m every i
@@ -92,8 +93,8 @@ module _ (z : TreeSizes) (m : ClientWord → ℕ) (s : Set) (i x : ℕ) (b : Boo
 every-is : (k : ℕ) → k ≤ 8 → 1 * 2 ^ k % 18446744073709551616 - 1 ≡ 2 ^ k - 1
 every-is k h = let g : 2 ^ k < 2 ^ 64 = pow-lt {j = 64} (omega arith) in omega arith
 
-module _ (k l : ℕ) (m : ClientWord → ℕ) (b : Bool) (h : k ≤ 8) (p : b ≡ all-of (field-fits m (1 * 2 ^ k % 18446744073709551616 - 1)) 13) where
-  all-fields : b ≡ all-of (field-fits m (2 ^ k - 1)) 13
+module _ (k l : ℕ) (m : ClientWord → ℕ) (b : Bool) (h : k ≤ 8) (p : b ≡ all-below 13 (field-fits m (1 * 2 ^ k % 18446744073709551616 - 1))) where
+  all-fields : b ≡ all-below 13 (field-fits m (2 ^ k - 1))
   all-fields = p ∙ rw (every-is k h)
 
   pub fields-unfit : not b ≡ true → false ≡ client-fits (sizes k l) m
@@ -105,42 +106,42 @@ module _ (k l : ℕ) (m : ClientWord → ℕ) (b : Bool) (h : k ≤ 8) (p : b �
     unfolding client-fits
     op-unfit u = rw (← all-fields, not-false b t, ← q, not-true c u)
 
-    module _ (d : Bool) (u : not c ≡ false) (r : d ≡ all-of (item-fits (sizes k l) m Reads) (count m Reads)) where
+    module _ (d : Bool) (u : not c ≡ false) (r : d ≡ all-below (count m Reads) (item-fits (sizes k l) m Reads)) where
       pub reads-unfit : not d ≡ true → false ≡ client-fits (sizes k l) m
       unfolding client-fits
       reads-unfit v = rw (← all-fields, not-false b t, ← q, not-false c u, ← r, not-true d v)
 
-      module _ (f : Bool) (v : not d ≡ false) (s : f ≡ all-of (item-fits (sizes k l) m Writes) (count m Writes)) where
+      module _ (f : Bool) (v : not d ≡ false) (s : f ≡ all-below (count m Writes) (item-fits (sizes k l) m Writes)) where
         pub writes-unfit : not f ≡ true → false ≡ client-fits (sizes k l) m
         unfolding client-fits
         writes-unfit w = rw (← all-fields, not-false b t, ← q, not-false c u, ← r, not-false d v, ← s, not-true f w)
 
-        pub vectors-asked : (g : Bool) → not f ≡ false → g ≡ all-of (vector-fits m) 8 → g ≡ client-fits (sizes k l) m
+        pub vectors-asked : (g : Bool) → not f ≡ false → g ≡ all-below 8 (vector-fits m) → g ≡ client-fits (sizes k l) m
         unfolding client-fits
         vectors-asked g w o = rw (← all-fields, not-false b t, ← q, not-false c u, ← r, not-false d v, ← s, not-false f w) o
 
 -- ---- what a state in range is known by
-pub all-at : (f : ℕ → Bool) (n i : ℕ) → all-of f n ≡ true → i < n → f i ≡ true
-unfolding all-of
+pub all-at : (f : ℕ → Bool) (n i : ℕ) → all-below n f ≡ true → i < n → f i ≡ true
+unfolding all-below
 all-at f zero i h l = absurd (omega arith)
-all-at f (suc n) i h l = go (and-both (all-of f n) (f n) h) (ℕ-discrete i n) (all-at f n i)
+all-at f (suc n) i h l = go (and-both (all-below n f) (f n) h) (ℕ-discrete i n) (all-at f n i)
   where
-    go : (all-of f n ≡ true) × (f n ≡ true) → Dec (i ≡ n) → (all-of f n ≡ true → i < n → f i ≡ true) → f i ≡ true
+    go : (all-below n f ≡ true) × (f n ≡ true) → Dec (i ≡ n) → (all-below n f ≡ true → i < n → f i ≡ true) → f i ≡ true
     go p (yes e) ih = rw e (p .1)
     go p (no d) ih = ih (p .0) (omega arith)
 
 module _ (z : TreeSizes) (m : ClientWord → ℕ) (h : client-fits z m ≡ true) where
-  parts : (all-of (field-fits m (2 ^ z .servers - 1)) 13 ≡ true)
-      × (op-fits z m && (all-of (item-fits z m Reads) (count m Reads) && (all-of (item-fits z m Writes) (count m Writes) && all-of (vector-fits m) 8)) ≡ true)
+  parts : (all-below 13 (field-fits m (2 ^ z .servers - 1)) ≡ true)
+      × (op-fits z m && (all-below (count m Reads) (item-fits z m Reads) && (all-below (count m Writes) (item-fits z m Writes) && all-below 8 (vector-fits m))) ≡ true)
   unfolding client-fits
   parts =
-      and-both (all-of (field-fits m (2 ^ z .servers - 1)) 13)
-      (op-fits z m && (all-of (item-fits z m Reads) (count m Reads) && (all-of (item-fits z m Writes) (count m Writes) && all-of (vector-fits m) 8))) h
+      and-both (all-below 13 (field-fits m (2 ^ z .servers - 1)))
+      (op-fits z m && (all-below (count m Reads) (item-fits z m Reads) && (all-below (count m Writes) (item-fits z m Writes) && all-below 8 (vector-fits m)))) h
 
-  sets : (all-of (item-fits z m Reads) (count m Reads) ≡ true) × (all-of (item-fits z m Writes) (count m Writes) && all-of (vector-fits m) 8 ≡ true)
+  sets : (all-below (count m Reads) (item-fits z m Reads) ≡ true) × (all-below (count m Writes) (item-fits z m Writes) && all-below 8 (vector-fits m) ≡ true)
   sets =
-      and-both (all-of (item-fits z m Reads) (count m Reads)) (all-of (item-fits z m Writes) (count m Writes) && all-of (vector-fits m) 8)
-      (and-both (op-fits z m) (all-of (item-fits z m Reads) (count m Reads) && (all-of (item-fits z m Writes) (count m Writes) && all-of (vector-fits m) 8)) (parts .1) .1)
+      and-both (all-below (count m Reads) (item-fits z m Reads)) (all-below (count m Writes) (item-fits z m Writes) && all-below 8 (vector-fits m))
+      (and-both (op-fits z m) (all-below (count m Reads) (item-fits z m Reads) && (all-below (count m Writes) (item-fits z m Writes) && all-below 8 (vector-fits m))) (parts .1) .1)
 
   -- each field is within its bound, each item of both sets is in range
   pub fits-field : (i : ℕ) → i < 13 → m (field i) ≤ getD (bounds (2 ^ z .servers - 1)) i 0
@@ -152,7 +153,7 @@ module _ (z : TreeSizes) (m : ClientWord → ℕ) (h : client-fits z m ≡ true)
 
   pub fits-write : (i : ℕ) → i < count m Writes → item-fits z m Writes i ≡ true
   fits-write i l =
-      all-at (item-fits z m Writes) (count m Writes) i (and-both (all-of (item-fits z m Writes) (count m Writes)) (all-of (vector-fits m) 8) (sets .1) .0) l
+      all-at (item-fits z m Writes) (count m Writes) i (and-both (all-below (count m Writes) (item-fits z m Writes)) (all-below 8 (vector-fits m)) (sets .1) .0) l
 
   -- so the counts are what the fields say
   pub exact-reads : count m Reads ≡ m (field 10)

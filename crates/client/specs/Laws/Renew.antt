@@ -26,6 +26,7 @@ use Rattle.client.specs.Copies.{copy-node, drop-node}
 use Rattle.client.specs.Laws.Copies.{good-copy, good-drop-node}
 use Rattle.client.specs.Life.{reset}
 use Rattle.client.specs.Renew.{drop-outer, versioned, new-version, with-inner, inner-below, rank, ranked, renewed, renew-found, renew-nth, meta-found, renew-meta, renew-in, renew-flag, for-writes, renew-written, renew, renew-kept, finish}
+use Rattle.client.specs.Drops.{version-of, next-version}
 
 -- ---- nodes no longer inner
 module _ (s : List ℕ) (i x : ℕ) (e : x ≡ number-at (held s) Writes i) where
@@ -60,19 +61,14 @@ good-outer =
     }
 
 -- ---- versions and ranks
-module _ (m : ClientWord → ℕ) (x : ℕ) (g : Found) (f : g ≡ find m Reads x) where
-  module _ (j v : ℕ) (e : g ≡ At j) (p : v ≡ m (item Reads j 3)) where
-    pub version-next : v < 4294967295 → v + 1 ≡ new-version m x
-    unfolding new-version
-    version-next h = rw (← f, e, ← p, lt-ltb _ _ h)
+module _ (m : ClientWord → ℕ) (x v : ℕ) (p : v ≡ version-of m (find m Reads x)) where
+  pub version-next : v < 4294967295 → v + 1 ≡ new-version m x
+  unfolding new-version next-version
+  version-next h = rw (← p, lt-ltb _ _ h, add-one)
 
-    pub version-last : 4294967295 ≤ v → 0 ≡ new-version m x
-    unfolding new-version
-    version-last h = rw (← f, e, ← p, le-ltb _ _ h)
-
-  pub version-none : g ≡ Absent → 0 ≡ new-version m x
+  pub version-last : 4294967295 ≤ v → 0 ≡ new-version m x
   unfolding new-version
-  version-none e = rw (← f, e)
+  version-last h = rw (← p, le-ltb _ _ h)
 
 module _ (m : ClientWord → ℕ) (x i c : ℕ) (b : Bool) (p : b ≡ inner-at m Writes i) where
   pub inner-other : not b ≡ true → c ≡ with-inner m x i c

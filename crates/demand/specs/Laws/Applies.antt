@@ -38,6 +38,7 @@ use Rattle.demand.specs.Laws.Turns.{store, Good, Explained, turns-good}
 use Rattle.demand.specs.Laws.Ended.{finish-turns}
 use Rattle.demand.specs.Laws.Due.{m₁, M₁, apply-good}
 use Rattle.protocol.specs.Machine as P
+use Rattle.layout.specs.Laws.Part.{over-append}
 
 -- ---- versions of what is written, as the sets have them
 module _ (u v : ClientWord → ℕ) (S : Same-sets u v) where
@@ -67,12 +68,6 @@ applied-outcome z m c s = go (all-applied z m c s) _ _
     go : (b : Bool) (ps qs : List (Put Address)) → cond b (did Committed ps) (did (Applied s) qs) .outcome ≡ cond b Committed (Applied s)
     go true ps qs = refl
     go false ps qs = refl
-
--- stores of a part, one list after another
-over-append : {A B : Type 0} (e : A → B) (ps qs : List (Put A)) → over e (ps ++ qs) ≡ over e ps ++ over e qs
-unfolding over
-over-append e [] qs = refl
-over-append e (put a v ∷ ps) qs = ap (λ (t : List (Put _)). put (e a) v ∷ t) (over-append e ps qs)
 
 module _ (k j slots : ℕ) where
   -- the stores of the end, after those of the last apply

@@ -17,7 +17,8 @@ use Rattle.client.specs.declared.part.Set.the-variants.{Reads, Writes, Copies}
 use Rattle.client.specs.Layout.{ClientWord, client-words, field, item, vector-word, op-number, op-key, op-server, prepared, applied, reads-count, writes-count}
 use Rattle.client.specs.Record.{in-store, number-in-store, record-in-range}
 use Rattle.client.specs.Sets.{count, number-at}
-use Rattle.client.specs.Commit.{all-of, is-at}
+use Rattle.client.specs.Commit.{is-at}
+use Rattle.client.specs.Items.{all-below}
 use Rattle.client.specs.Fits.{bounds, field-fits, has-read, vector-fits, op-fits, item-fits, client-fits}
 use Rattle.client.specs.Laws.Fits.{all-at, fits-field}
 use Rattle.client.specs.Part.{put-field, put-word}
@@ -29,8 +30,8 @@ use Rattle.demand.specs.Laws.Dropped.{Mark, Drop, only-all}
 use Rattle.demand.specs.Laws.Members.{one-more}
 use Rattle.demand.specs.Laws.Slots.{Same-sets, count-frame, same-read, record-frame}
 
-pub all-from : (f : ℕ → Bool) (n : ℕ) → ((i : ℕ) → i < n → f i ≡ true) → all-of f n ≡ true
-unfolding all-of
+pub all-from : (f : ℕ → Bool) (n : ℕ) → ((i : ℕ) → i < n → f i ≡ true) → all-below n f ≡ true
+unfolding all-below
 all-from f zero h = refl
 all-from f (suc n) h = rw (all-from f n (λ i l. h i (omega arith)), h n (omega arith))
 
@@ -65,14 +66,14 @@ module _ (z : TreeSizes) (u : ClientWord → ℕ) (fit : client-fits z u ≡ tru
   every = 2 ^ z .servers - 1
 
   abbrev items : (ClientWord → ℕ) → Set → Bool
-  items m s = all-of (item-fits z m s) (count m s)
+  items m s = all-below (count m s) (item-fits z m s)
 
   -- what is judged
-  pub judged : (op-fits z u ≡ true) × (items u Reads ≡ true) × (items u Writes ≡ true) × (all-of (vector-fits u) 8 ≡ true)
+  pub judged : (op-fits z u ≡ true) × (items u Reads ≡ true) × (items u Writes ≡ true) × (all-below 8 (vector-fits u) ≡ true)
   unfolding client-fits
   judged =
-      let vectors = all-of (vector-fits u) 8 in
-      let all = and-both (all-of (field-fits u every) 13) (op-fits z u && (items u Reads && (items u Writes && vectors))) fit in
+      let vectors = all-below 8 (vector-fits u) in
+      let all = and-both (all-below 13 (field-fits u every)) (op-fits z u && (items u Reads && (items u Writes && vectors))) fit in
       let op = and-both (op-fits z u) (items u Reads && (items u Writes && vectors)) (all .1) in
       let reads = and-both (items u Reads) (items u Writes && vectors) (op .1) in
       let writes = and-both (items u Writes) vectors (reads .1) in
@@ -129,7 +130,7 @@ module _ (z : TreeSizes) (u : ClientWord → ℕ) (fit : client-fits z u ≡ tru
 
     items-same : (s : Set) → ((i n : ℕ) → g (item s i n) ≡ u (item s i n)) → items g s ≡ items u s
     items-same s e =
-        ap₂ all-of (fun-ext (λ i. item-same s i (e i) (read-same s))) (count-frame u g s (same-sets .reads) (same-sets .writes))
+        ap₂ all-below (count-frame u g s (same-sets .reads) (same-sets .writes)) (fun-ext (λ i. item-same s i (e i) (read-same s)))
 
     op-same : op-fits z g ≡ op-fits z u
     unfolding op-fits Harmless

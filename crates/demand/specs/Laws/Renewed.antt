@@ -36,7 +36,7 @@ use Rattle.client.specs.Sets.{count, record-at, number-at, find}
 use Rattle.client.specs.Vectors.{has-vector, vector-copy}
 use Rattle.client.specs.Commit.{is-at, inner-at}
 use Rattle.client.specs.Fits.{client-fits}
-use Rattle.client.specs.Drops.{version-of}
+use Rattle.client.specs.Drops.{version-of, next-version}
 use Rattle.client.specs.Copies.{copy-node}
 use Rattle.client.specs.Part.{PartStep, nothing, put-fields, put-vector}
 use Rattle.demand.specs.Laws.Store.{sizes, by-value}
@@ -233,10 +233,9 @@ module _ (k j slots : ℕ) (al : Allowed (sizes k j slots)) (M : P.Machine (T k 
   -- "a written version becomes the one read plus 1": of the metadata and of nodes
   next-is : (w : ClientWord → ℕ) → Same-sets u w → (i : ℕ) → i < count u Writes → (o : Obj) (W : Written i o) → number-at u Writes i ≤ 8192
       → Rn.new-version w (number-at u Writes i) ≡ suc (record-at u Reads (W .read-at) .version)
-  unfolding Rn.new-version record-at node-of tab
+  unfolding Rn.new-version next-version record-at node-of tab
   next-is w S i l o W small =
-      ap (Rn.version-found w) (same-read u w k j slots S x ∙ W .found) ∙ ap Rn.next-version (S .items-read (W .read-at) 3)
-      ∙ rw below (add-one (record-at u Reads (W .read-at) .version))
+      ap (λ (v : ℕ). cond (ltb v last-version) (suc v) 0) (ap (version-of w) (same-read u w k j slots S x ∙ W .found) ∙ S .items-read (W .read-at) 3) ∙ rw below
     where
       x : ℕ
       x = number-at u Writes i

@@ -21,7 +21,7 @@ use Rattle.client.specs.declared.part.Set.the-variants.{Reads, Writes}
 use Rattle.client.specs.Layout.{ClientWord, op-number, reads-count, writes-count}
 use Rattle.client.specs.Record.{in-store, object-in-store}
 use Rattle.client.specs.Sets.{count}
-use Rattle.client.specs.Commit.{all-of}
+use Rattle.client.specs.Items.{all-below}
 use Rattle.client.specs.Fits.{field-fits, op-fits, item-fits, vector-fits, client-fits}
 use Rattle.client.specs.Part.{Did, nothing, put-field, put-word}
 use Rattle.client.specs.Laws.Steps.{did-three, did-nothing}
@@ -388,8 +388,8 @@ pub fits-waiting : (z : Sizes) (m : ClientWord → ℕ) → client-fits (tree-si
 unfolding client-fits field-fits
 fits-waiting z m h n =
     let every : ℕ = 2 ^ z .servers - 1 in
-    let a = and-both (all-of (field-fits m every) 13)
-    (op-fits (tree-sizes z) m && (all-of (item-fits (tree-sizes z) m Reads) (count m Reads) && (all-of (item-fits (tree-sizes z) m Writes) (count m Writes) && all-of (vector-fits m) 8))) h in
+    let a = and-both (all-below 13 (field-fits m every))
+    (op-fits (tree-sizes z) m && (all-below (count m Reads) (item-fits (tree-sizes z) m Reads) && (all-below (count m Writes) (item-fits (tree-sizes z) m Writes) && all-below 8 (vector-fits m)))) h in
     record {
       some = n;
       known = leb-true (m op-number) 6 (all-at (field-fits m every) 13 1 (a .0) (omega arith));

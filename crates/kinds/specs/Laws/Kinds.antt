@@ -12,7 +12,7 @@ use Rattle.layout.specs.Laws.Space.{AllValid}
 use Rattle.layout.specs.Step.{Does, silent, stepped, andThen}
 use Rattle.layout.specs.Laws.Step.{stored-append, does-then, does-as, does-mem}
 use Rattle.layout.specs.Part.{inPart, over}
-use Rattle.layout.specs.Laws.Part.{good-all}
+use Rattle.layout.specs.Laws.Part.{good-all, over-append}
 use Rattle.client.specs.Layout.{ClientWord, client-words, client-block}
 use Rattle.client.specs.Laws.Steps.{Good}
 use Rattle.steps.specs.declared.sizes.Sizes.{Sizes}
@@ -56,12 +56,6 @@ module _ (z : Sizes) (w : List ℕ) (o : Outcome) (w′ : List ℕ) where
 pub meets-refused : (z : Sizes) (w : List ℕ) (n : ℕ) (g : (Address → ℕ) → Did) → refuse n ≡ g (stored-in z w) → Meets z g w (Refused n) w
 unfolding stepped stored
 meets-refused z w n g e = meets-as z w (Refused n) w (λ m. refuse n) g e (record { answer = refl; words = refl })
-
--- ---- one after another
-pub over-append : {A B : Type 0} (e : A → B) (ps qs : List (Put A)) → over e (ps ++ qs) ≡ over e ps ++ over e qs
-unfolding over
-over-append e [] qs = refl
-over-append e (put a v ∷ ps) qs = ap (λ (t : List (Put _)). put (e a) v ∷ t) (over-append e ps qs)
 
 module _ (z : Sizes) (c : ℕ) where
   -- stores that lie in the whole and leave the client's part alone

@@ -14,7 +14,7 @@ use Rattle.client.specs.declared.part.Set.the-variants.{Reads, Writes}
 use Rattle.client.specs.Layout.{ClientWord}
 use Rattle.client.specs.Record.{number-in-store, record-in-range}
 use Rattle.client.specs.Sets.{held, count, number-at, record-at}
-use Rattle.client.specs.Commit.{all-of}
+use Rattle.client.specs.Items.{all-below}
 use Rattle.client.specs.Fits.{field-fits, op-fits, item-fits, has-read, vector-fits, client-fits}
 use Rattle.steps.specs.declared.sizes.Sizes.{Sizes}
 use Rattle.steps.specs.Whole.{Allowed, tree-sizes, client-at}
@@ -25,28 +25,28 @@ use Rattle.kinds.specs.Judge.{of-client}
 use Rattle.kinds.specs.Fits.{Known}
 use Rattle.operations.specs.Slot as S
 
-pub all-at : (f : ℕ → Bool) (n i : ℕ) → all-of f n ≡ true → i < n → f i ≡ true
-unfolding all-of
+pub all-at : (f : ℕ → Bool) (n i : ℕ) → all-below n f ≡ true → i < n → f i ≡ true
+unfolding all-below
 all-at f zero i h l = absurd (omega arith)
-all-at f (suc n) i h l = go (ℕ-discrete i n) (and-both (all-of f n) (f n) h) (λ k. all-at f n i (and-both (all-of f n) (f n) h .0) k)
+all-at f (suc n) i h l = go (ℕ-discrete i n) (and-both (all-below n f) (f n) h) (λ k. all-at f n i (and-both (all-below n f) (f n) h .0) k)
   where
-    go : Dec (i ≡ n) → (all-of f n ≡ true) × (f n ≡ true) → (i < n → f i ≡ true) → f i ≡ true
+    go : Dec (i ≡ n) → (all-below n f ≡ true) × (f n ≡ true) → (i < n → f i ≡ true) → f i ≡ true
     go (yes e) p k = rw e (p .1)
     go (no d) p k = k (omega arith)
 
 -- every object read or written is one of the store
 module _ (z : S.TreeSizes) (m : ClientWord → ℕ) where
-  pub fits-sets : client-fits z m ≡ true → (all-of (item-fits z m Reads) (count m Reads) ≡ true) × (all-of (item-fits z m Writes) (count m Writes) ≡ true)
+  pub fits-sets : client-fits z m ≡ true → (all-below (count m Reads) (item-fits z m Reads) ≡ true) × (all-below (count m Writes) (item-fits z m Writes) ≡ true)
   unfolding client-fits
   fits-sets h =
-      let reads = all-of (item-fits z m Reads) (count m Reads) in
-      let writes = all-of (item-fits z m Writes) (count m Writes) in
-      let vectors = all-of (vector-fits m) 8 in
-      let a = and-both (all-of (field-fits m (2 ^ z .servers - 1)) 13) (op-fits z m && (reads && (writes && vectors))) h in
+      let reads = all-below (count m Reads) (item-fits z m Reads) in
+      let writes = all-below (count m Writes) (item-fits z m Writes) in
+      let vectors = all-below 8 (vector-fits m) in
+      let a = and-both (all-below 13 (field-fits m (2 ^ z .servers - 1))) (op-fits z m && (reads && (writes && vectors))) h in
       let b = and-both reads (writes && vectors) (and-both (op-fits z m) (reads && (writes && vectors)) (a .1) .1) in
       (b .0, and-both writes vectors (b .1) .0)
 
-  pub fits-item : (s : Set) (i : ℕ) → all-of (item-fits z m s) (count m s) ≡ true → i < count m s → number-in-store z (number-at m s i) ≡ true
+  pub fits-item : (s : Set) (i : ℕ) → all-below (count m s) (item-fits z m s) ≡ true → i < count m s → number-in-store z (number-at m s i) ≡ true
   unfolding item-fits
   fits-item s i h l =
       and-both (number-in-store z (number-at m s i)) (record-in-range z (number-at m s i) (record-at m s i) && has-read m s (number-at m s i))

@@ -14,7 +14,7 @@ use Rattle.layout.specs.Laws.Space.{AllValid}
 use Rattle.layout.specs.Step.{Does, silent, stepped, andThen}
 use Rattle.layout.specs.Laws.Step.{does-then, does-as, does-mem}
 use Rattle.layout.specs.Part.{over, inPart}
-use Rattle.layout.specs.Laws.Part.{good-all}
+use Rattle.layout.specs.Laws.Part.{good-all, over-append}
 use Rattle.layout.specs.Sweep.{sweep}
 use Rattle.layout.specs.Laws.Sweep.{sweep-valid}
 use Rattle.server.specs.declared.place.Place.{Place}
@@ -37,7 +37,6 @@ use Rattle.kinds.specs.Laws.Parts.{server-back}
 use Rattle.kinds.specs.Items.{as-item, read-item}
 use Rattle.kinds.specs.Judge.{of-client}
 use Rattle.kinds.specs.Fits.{Known}
-use Rattle.kinds.specs.Laws.Kinds.{over-append}
 use Rattle.kinds.specs.Locks.{Rule, rule, passing, upto, changes, Done, Knows, Turn}
 use Rattle.server.specs.Layout as Srv
 use Rattle.kinds.specs.declared.items.Item as code

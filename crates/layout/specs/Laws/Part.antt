@@ -105,3 +105,9 @@ module _ {A B : Type 0} (C : Coding A) (b : Block) (D : Coding B) (d : Block) (e
         part-does (view s) r (view t) (view (putMid (8 * k) (length s - 8 * k) s t)) (omega (arith, view-length s))
         (subst (λ (p : List ℕ). Does C b g ans p r (view t)) q did)
         (back-from k s (stepped C b g) (length s - 8 * k) t f refl (did .words))
+
+-- stores one after another, as stores of the whole
+pub over-append : {A B : Type 0} (e : A → B) (ps qs : List (Put A)) → over e (ps ++ qs) ≡ over e ps ++ over e qs
+unfolding over
+over-append e [] qs = refl
+over-append e (put a v ∷ ps) qs = ap (λ (t : List (Put _)). put (e a) v ∷ t) (over-append e ps qs)

@@ -1,7 +1,7 @@
 -- "The last apply ends the transaction and renews its copies": what is copied then comes from the write set, and is sound as its items are.
 use mathlib.Core.Path.{_≡_, refl, subst}
 use mathlib.Core.Bool.{Bool, true, false, cond, false≢true, _&&_}
-use Prim.Native.Nat.{ℕ, _+_, _≤_, _<_}
+use Prim.Native.Nat.{ℕ, _+_, _≤_, _<_, suc}
 use native.Mathlib.Omega.{arith}
 use borrow.Author.Tests.{ltb-true}
 use lib.Dec.{eqb, leb, ltb}
@@ -23,6 +23,7 @@ use Rattle.ranges.specs.Laws.Sound.{children-there, Node-sound, Sound, S
 use Rattle.ranges.specs.Laws.Stored.{root-there, metadata-of, versioned-sound}
 use Rattle.operations.specs.Slot as S
 use Rattle.client.specs.Renew as Rn
+use Rattle.client.specs.Drops.{version-of, next-version}
 
 -- the record of an object whose number names a node
 node-record : (z : S.TreeSizes) (x : ℕ) (r : Node) (b : Bool) → by-number x false (λ n. b) (λ n. false) ≡ true → Sound z x r → Node-sound z r
@@ -38,16 +39,12 @@ node-record z x r b h s = go (eqb x 0) (leb x 8192) h (s .fitting) (s .children)
 
 -- "a 32-bit version"
 new-within : (w : ClientWord → ℕ) (x : ℕ) → Rn.new-version w x ≤ last-version
-unfolding Rn.new-version
-new-within w x = go (find w Reads x)
+unfolding Rn.new-version next-version
+new-within w x = next (version-of w (find w Reads x)) (ltb (version-of w (find w Reads x)) last-version) refl
   where
-    next : (v : ℕ) (b : Bool) → ltb v 4294967295 ≡ b → cond b (v + 1) 0 ≤ last-version
-    next v true e = omega (arith, ltb-true v 4294967295 e)
+    next : (v : ℕ) (b : Bool) → ltb v last-version ≡ b → cond b (suc v) 0 ≤ last-version
+    next v true e = omega (arith, ltb-true v last-version e)
     next v false e = omega arith
-
-    go : (f : Found) → Rn.version-found w f ≤ last-version
-    go (At j) = next (w (item Reads j 3)) (ltb (w (item Reads j 3)) 4294967295) refl
-    go Absent = omega arith
 
 module _ (z : S.TreeSizes) (w : ClientWord → ℕ) (S : Sets-sound z w) where
   -- "then written inner nodes by name"
