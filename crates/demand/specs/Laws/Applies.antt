@@ -1,12 +1,12 @@
 -- APPLY as a step: what it stores is applied, and the last one ends the transaction.
 use mathlib.Core.Path.{_≡_, refl, ap, ap₂, sym, _∙_, subst, fun-ext}
 use mathlib.Core.Bool.{Bool, true, false, cond, _||_}
-use mathlib.Core.List.{List, [], _∷_, _++_, append-assoc}
+use mathlib.Core.List.{List, _++_, append-assoc}
 use Prim.Native.Nat.{ℕ, suc, _≤_, Fin}
 use native.Mathlib.Omega.{arith}
 use lib.Dec.{ltb}
 use Rattle.memory.specs.Bit.{bit}
-use Rattle.layout.specs.Space.{Put, put, changed}
+use Rattle.layout.specs.Space.{Put, changed}
 use Rattle.layout.specs.Step.{andThen}
 use Rattle.layout.specs.Laws.Step.{changed-append}
 use Rattle.layout.specs.Part.{over}

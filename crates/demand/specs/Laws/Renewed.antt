@@ -6,7 +6,6 @@ use mathlib.Core.Logic.{_⊎_, inl, inr}
 use mathlib.Core.Option.{Option, some}
 use Prim.Native.Nat.{ℕ, suc, _+_, _-_, _/_, _%_, _≤_, _<_, Fin}
 use native.Mathlib.Omega.{arith}
-use native.Mathlib.Numerals.{add-one}
 use native.Mathlib.Decide.{ℕ-discrete, Fin-discrete}
 use borrow.Author.Tests.{ltb-true, ltb-false, lt-leb, ne-eqb, eqb-true}
 use lib.Dec.{eqb, ltb}

@@ -1,13 +1,13 @@
 -- Laws of the steps' code: a client's part that is lent on, and what a kind of step comes to.
 use mathlib.Core.Path.{_≡_, refl, sym, ap, _∙_}
-use mathlib.Core.List.{List, [], _∷_, _++_}
+use mathlib.Core.List.{List, _++_}
 use Prim.Native.Nat.{ℕ, _-_, _*_, _/_, _≤_, _<_}
 use native.Mathlib.Omega.{arith}
 use borrow.Rule.Slice.PartMut.{putMid, midOf}
 use lib.ListN.{length}
 use Rattle.memory.specs.Word.{view}
 use Rattle.memory.specs.Laws.Word.{view-length}
-use Rattle.layout.specs.Space.{Put, put, changed, stored}
+use Rattle.layout.specs.Space.{Put, changed, stored}
 use Rattle.layout.specs.Laws.Space.{AllValid}
 use Rattle.layout.specs.Step.{Does, silent, stepped, andThen}
 use Rattle.layout.specs.Laws.Step.{stored-append, does-then, does-as, does-mem}

@@ -1,14 +1,13 @@
 -- "The last apply ends the transaction and renews its copies": what is copied then comes from the write set, and is sound as its items are.
 use mathlib.Core.Path.{_≡_, refl, subst}
 use mathlib.Core.Bool.{Bool, true, false, cond, false≢true, _&&_}
-use Prim.Native.Nat.{ℕ, _+_, _≤_, _<_, suc}
+use Prim.Native.Nat.{ℕ, _≤_, _<_, suc}
 use native.Mathlib.Omega.{arith}
 use borrow.Author.Tests.{ltb-true}
 use lib.Dec.{eqb, leb, ltb}
 use Rattle.layout.specs.Space.{tab}
 use Rattle.nodes.specs.declared.node.Node.{Node}
-use Rattle.nodes.specs.declared.found.Found.{Found}
-use Rattle.nodes.specs.declared.found.Found.the-variants.{At, Absent}
+use Rattle.nodes.specs.declared.found.Found.the-variants.{At}
 use Rattle.nodes.specs.Range.{node-in-range}
 use Rattle.nodes.specs.Stored.{node-of}
 use Rattle.nodes.specs.Laws.Stored.{Sized}
