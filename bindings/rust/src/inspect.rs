@@ -334,6 +334,11 @@ impl Vector {
     pub fn is_taken(&self, slot: usize) -> bool {
         self.0.get(slot) == Some(&true)
     }
+
+    /// The slots that are taken, rising.
+    pub fn taken(&self) -> impl Iterator<Item = usize> + '_ {
+        (0..self.0.len()).filter(|slot| self.is_taken(*slot))
+    }
 }
 
 /// An object with its value. In a write set no version counts: the one written is the one read plus 1.
