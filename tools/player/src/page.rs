@@ -90,8 +90,8 @@ fn step_line(number: i64, mark: &str, words: &str, caption: Option<&str>) -> Str
     )
 }
 
-/// What one jumps to.
-fn mark(moment: &Moment) -> &'static str {
+/// What one jumps to, or "".
+pub fn mark(moment: &Moment) -> &'static str {
     match (moment.step[0], moment.outcome) {
         (3 | 4, Outcome::Decided | Outcome::Committed) => "decision",
         (_, Outcome::Aborted(_)) => "abort",
@@ -100,7 +100,8 @@ fn mark(moment: &Moment) -> &'static str {
     }
 }
 
-fn data(story: &Story) -> String {
+/// The story as JSON, for the script.
+pub fn data(story: &Story) -> String {
     let Sizes {
         servers,
         slots,
