@@ -100,26 +100,31 @@ fn locks_have_holders(view: &View, seen: &mut Seen) {
     }
 }
 
-/// A copy is marked old exactly when its version is behind the server's, by the words of the memory themselves.
+/// A copy or a thing read is marked old exactly when its version is behind the server's, or its flag another, by the words of the memory
+/// themselves.
 fn old_is_behind(memory: &[u8], seen: &mut Seen) {
     let view = view(memory);
+    let sizes = view.sizes();
     let word = |at: usize| layout::word(memory, at);
     for client in view.clients() {
-        for copy in copies(&client) {
-            let (version, there) = match &copy {
+        for item in copies(&client).into_iter().chain(items(client.reads())) {
+            let due = match &item {
                 Item::Metadata(m) => {
-                    let source = client.number() % view.sizes().servers;
-                    (m.version, word(layout::server_at(view.sizes(), source) + 1))
+                    let source = layout::server_at(sizes, client.number() % sizes.servers);
+                    u64::from(sound(m.version)) < word(source + 1)
                 }
                 Item::Node(name, n) => {
-                    let at = layout::node_at(view.sizes(), name.number());
-                    (n.version, word(at + 2))
+                    let home = layout::node_at(sizes, name.number());
+                    u64::from(sound(n.version)) < word(home + 2)
                 }
-                Item::Flag(..) => unreachable!("flags are copied in vectors"),
+                Item::Flag(name, taken) => {
+                    let vector = layout::server_at(sizes, name.server()) + 3;
+                    let flag = word(vector + name.slot() / 64) >> (name.slot() % 64) & 1;
+                    u64::from(sound(*taken)) != flag
+                }
             };
-            let old = sound(client.is_old(&copy));
-            assert_eq!(old, u64::from(sound(version)) < there);
-            match old {
+            assert_eq!(sound(client.is_old(&item)), due);
+            match due {
                 true => seen.old += 1,
                 false => seen.current += 1,
             }
@@ -441,6 +446,29 @@ fn no_tree() {
     assert_eq!(pairs([4, 4]), Err(NoTree::Name(OutOfRange(4))));
     let free = view(&memory).names().nth(1).expect("a second slot");
     assert_eq!(pairs([1, 1]), Err(NoTree::Node(free)));
+}
+
+/// An inner root above a leaf: a tree only if it is one level higher.
+#[test]
+fn no_tree_by_levels() {
+    let sizes = Sizes {
+        servers: 1,
+        slots: 2,
+        clients: 1,
+    };
+    let root = layout::node_at(sizes, 0);
+    let leaf = layout::node_at(sizes, 1);
+    let pairs = |level: u64| {
+        let mut memory = Store::new(sizes).expect("allowed sizes").into_memory();
+        let words = [(root, 2), (root + 1, level), (root + 18, 1), (leaf, 1)];
+        for (at, word) in words {
+            layout::set_word(&mut memory, at, word);
+        }
+        view(&memory).pairs()
+    };
+    assert_eq!(pairs(1), Ok(vec![]));
+    assert!(matches!(pairs(2), Err(NoTree::Node(name)) if name.number() == 1));
+    assert!(matches!(pairs(5), Err(NoTree::Node(name)) if name.number() == 0));
 }
 
 /// The middle of one transaction, by hand: what it has read and would write, and what it has copied.
