@@ -4,12 +4,19 @@ const slider = byId("slider");
 const chosenTablet = () => byId("filter").value;
 const isChosen = (step) => chosenTablet() === "" || story.steps[step].tablet === chosenTablet();
 
-// The nearest step in that direction which the filter lets through and which is marked so, or null.
-function nearest(from, by, marked) {
+// What one can jump to.
+const JUMPS = {
+  decision: (step) => story.steps[step].mark === "decision",
+  abort: (step) => story.steps[step].mark === "abort",
+  caption: (step) => lineOf(step).querySelector(".caption") !== null,
+};
+
+// The nearest step in that direction which the filter lets through and, where a jump is named, which fits it; or null.
+function nearest(from, by, jump) {
   for (let step = from + by; step >= 0 && step <= LAST; step += by) {
-    if (isChosen(step) && (!marked || story.steps[step].mark === marked)) return step;
+    if (isChosen(step) && (!jump || JUMPS[jump](step))) return step;
   }
-  return by < 0 && !marked ? START : null;
+  return by < 0 && !jump ? START : null;
 }
 
 function goTo(step) {
@@ -18,16 +25,24 @@ function goTo(step) {
   slider.value = at;
   slider.setAttribute("aria-valuetext", at === START ? "start" : `step ${at}: ${wordsOf(at)}`);
   byId("cursor")?.setAttribute("x", at);
-  history.replaceState(null, "", at === START ? "#start" : `#${at}`);
+  noteAddress();
+}
+
+// The step in the address, once walking rests: browsers allow few changes of it a second.
+let noting = null;
+
+function noteAddress() {
+  clearTimeout(noting);
+  noting = setTimeout(() => history.replaceState(null, "", at === START ? "#start" : `#${at}`), 400);
 }
 
 // That step, or the last one before it that the filter lets through.
 const goNear = (step) => goTo(step < 0 || isChosen(step) ? step : nearest(step, -1));
 
-function goNearest(by, marked) {
-  const step = nearest(at, by, marked);
+function goNearest(by, jump) {
+  const step = nearest(at, by, jump);
   if (step !== null) goTo(step);
-  else byId("now-words").textContent = marked ? `There is no ${marked} ${by > 0 ? "after" : "before"} this step.` : `${wordsOf(at)}. This is the last step.`;
+  else byId("now-words").textContent = jump ? `There is no ${jump} ${by > 0 ? "after" : "before"} this step.` : `${wordsOf(at)}. This is the last step.`;
   return step !== null;
 }
 
@@ -67,6 +82,7 @@ const DEEDS = {
   end: byHand(() => goNear(LAST)),
   "next-decision": byHand(() => goNearest(1, "decision")),
   "next-abort": byHand(() => goNearest(1, "abort")),
+  "next-caption": byHand(() => goNearest(1, "caption")),
 };
 
 const KEYS = {
@@ -77,8 +93,10 @@ const KEYS = {
   " ": DEEDS.play,
   d: DEEDS["next-decision"],
   a: DEEDS["next-abort"],
+  c: DEEDS["next-caption"],
   D: byHand(() => goNearest(-1, "decision")),
   A: byHand(() => goNearest(-1, "abort")),
+  C: byHand(() => goNearest(-1, "caption")),
 };
 
 // Keys that a focused control uses itself stay with it.
@@ -134,6 +152,7 @@ function begin() {
   byId("filter").addEventListener("change", onFilter);
   document.addEventListener("keydown", onKey);
   addEventListener("hashchange", byHand(() => goTo(stepInAddress())));
+  byId("next-caption").hidden = nearest(START, 1, "caption") === null;
   byId("now-more").open = !matchMedia("(max-width: 40rem)").matches;
   byId("controls").hidden = byId("picture").hidden = false;
   drawTimeline();

@@ -103,13 +103,14 @@ const PHASES = { idle: "no transaction", open: "open", committing: "committing",
 function tabletCard(tablet) {
   const standing = things.get(`c/${tablet}`);
   const phase = PHASES[standing.phase] ?? shown(standing.phase);
+  const old = thingBefore(`c/${tablet}`);
   const acts = at > START && story.steps[at].tablet === String(tablet);
   return html(
     "article",
     { class: acts ? "card tablet acts" : "card tablet", "data-tablet": tablet },
-    html("h3", {}, `Tablet ${tablet} `, badge(phase, `phase ${standing.phase}`), standing.lost === true ? badge("lost", "old") : null, acts ? badge("takes this step", "acting") : null),
+    html("h3", {}, `Tablet ${tablet} `, badge(phase, `${standing.phase}${old.phase === standing.phase ? "" : " changed"}`), standing.lost === true ? badge("lost", "old") : null, acts ? badge("takes this step", "acting") : null),
     transaction(tablet, standing),
-    participants(standing),
+    participants(standing, old),
     objects("Has read", tablet, "r"),
     objects(standing.phase === "decided" ? "Will write" : "Would write", tablet, "w"),
     objects("Copies", tablet, "p"),
@@ -136,16 +137,16 @@ function transaction(tablet, standing) {
   );
 }
 
-function participants(standing) {
+// The servers that take part, and how far each is.
+function participants(standing, old) {
   if (!Array.isArray(standing.participants) || standing.participants.length === 0) return null;
   const has = (set, server) => Array.isArray(set) && set.includes(server);
-  const word = (server) => (has(standing.applied, server) ? "applied" : has(standing.prepared, server) ? "prepared" : "due");
-  return html(
-    "div",
-    {},
-    html("h4", {}, "Takes part"),
-    html("ul", { class: "chips" }, ...standing.participants.map((server) => html("li", { class: `s${server} server` }, `server ${server}: `, html("b", {}, word(server))))),
-  );
+  const word = (then, server) => (has(then.applied, server) ? "applied" : has(then.prepared, server) ? "prepared" : has(then.participants, server) ? "due" : "");
+  const chip = (server) => {
+    const changed = word(standing, server) === word(old, server) ? "" : " changed";
+    return html("li", { class: `s${server} server${changed}` }, `server ${server}: `, html("b", {}, word(standing, server)));
+  };
+  return html("div", {}, html("h4", {}, "Takes part"), html("ul", { class: "chips" }, ...standing.participants.map(chip)));
 }
 
 function objects(title, tablet, letter) {
