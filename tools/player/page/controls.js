@@ -39,10 +39,12 @@ function noteAddress() {
 // That step, or the last one before it that the filter lets through.
 const goNear = (step) => goTo(step < 0 || isChosen(step) ? step : nearest(step, -1));
 
+// Whether there was a step to go to; if not, that is said.
 function goNearest(by, jump) {
   const step = nearest(at, by, jump);
-  if (step !== null) goTo(step);
-  else byId("now-words").textContent = jump ? `There is no ${jump} ${by > 0 ? "after" : "before"} this step.` : `${wordsOf(at)}. This is the last step.`;
+  const none = jump ? `There is no ${jump} ${by > 0 ? "after" : "before"} this step.` : `${wordsOf(at)}. This is the last step.`;
+  if (step === null) byId("now-words").textContent = none;
+  else goTo(step);
   return step !== null;
 }
 
@@ -113,20 +115,22 @@ function onKey(event) {
   deed();
 }
 
-// A lane for each tablet, a mark for each step.
+// A lane for each tablet, a mark for each step; above them signs for decisions and aborts.
 function drawTimeline() {
   const count = story.steps.length;
   const lanes = story.tablets;
-  const steps = story.steps.flatMap((step, i) => {
-    const lane = Number(step.tablet);
-    return lane < lanes ? [svg("rect", { x: i, y: lane + 0.2, width: 0.8, height: 0.6, class: `mark ${step.mark}`, "data-step": i })] : [];
-  });
   const cursor = svg("rect", { id: "cursor", x: START, y: 0, width: 1, height: lanes });
-  const signs = story.steps.flatMap((step, i) => {
-    const sign = { decision: "◆", abort: "✕" }[step.mark];
-    return sign ? [html("span", { class: `sign ${step.mark}`, "data-step": i, style: `left: ${(100 * (i + 1.4)) / (count + 1)}%` }, sign)] : [];
+  const marks = story.steps.map((step, i) => {
+    const lane = Number(step.tablet);
+    return lane < lanes ? svg("rect", { x: i, y: lane + 0.2, width: 0.8, height: 0.6, class: `mark ${step.mark}`, "data-step": i }) : null;
   });
-  const drawing = svg("svg", { viewBox: `-1 0 ${count + 1} ${lanes}`, preserveAspectRatio: "none", style: `height: ${Math.min(lanes, 8) * 11}px` }, cursor, ...steps);
+  const signs = story.steps.map((step, i) => {
+    const sign = { decision: "◆", abort: "✕" }[step.mark];
+    const style = `left: ${(100 * (i + 1.4)) / (count + 1)}%`;
+    return sign ? html("span", { class: `sign ${step.mark}`, style, "data-step": i }, sign) : null;
+  });
+  const frame = { viewBox: `-1 0 ${count + 1} ${lanes}`, preserveAspectRatio: "none", style: `height: ${11 * Math.min(lanes, 8)}px` };
+  const drawing = svg("svg", frame, cursor, ...marks);
   byId("timeline").append(html("div", { class: "signs" }, ...signs), drawing);
   byId("timeline").addEventListener("click", (event) => {
     const { left, width } = drawing.getBoundingClientRect();
@@ -138,7 +142,7 @@ function drawTimeline() {
 function onFilter() {
   pause();
   transcript.slice(1).forEach((line, step) => (line.hidden = !isChosen(step)));
-  for (const sign of byId("timeline").querySelectorAll("[data-step]")) sign.classList.toggle("dim", !isChosen(Number(sign.dataset.step)));
+  for (const sign of byId("timeline").querySelectorAll("[data-step]")) sign.classList.toggle("dim", !isChosen(sign.dataset.step));
   goNear(at);
 }
 

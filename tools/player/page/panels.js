@@ -6,19 +6,22 @@ const wordsOf = (step) => lineOf(step).querySelector("span").textContent;
 
 function showNow() {
   const step = story.steps[at];
-  const [, outcome, a] = step ? step.prints.split(" ") : [];
-  byId("now-step").textContent = at === START ? "Start" : `Step ${at}`;
-  const mark = { decision: "◆ decision", abort: `✕ abort, reason ${a}`, refused: `refused by ${a}` }[step?.mark] ?? "";
-  byId("now-mark").textContent = mark;
+  const [, outcome, a] = step?.prints.split(" ") ?? [];
+  const marks = { decision: "◆ decision", abort: `✕ abort, reason ${a}`, refused: `refused by ${a}` };
   byId("now").className = step?.mark ?? "";
   byId("now").dataset.outcome = outcome ?? "";
+  byId("now-step").textContent = step ? `Step ${at}` : "Start";
+  byId("now-mark").textContent = marks[step?.mark] ?? "";
   byId("now-words").textContent = `${wordsOf(at)}.`;
   showCaption();
-  const nothing = step?.mark === "refused" ? "Nothing." : "Nothing but where the tablet stands.";
-  const changes = step?.changes.length ? step.changes : [nothing];
-  byId("now-more").hidden = at === START;
-  byId("now-changes").replaceChildren(...changes.map((words) => html("li", {}, words)));
+  byId("now-more").hidden = !step;
+  byId("now-changes").replaceChildren(...changesOf(step).map((words) => html("li", {}, words)));
   byId("now-numbers").textContent = step ? `Line ${step.line} of the schedule: ${step.reads}. Printed by stepshow: ${step.prints}.` : "";
+}
+
+function changesOf(step) {
+  if (!step || step.changes.length) return step?.changes ?? [];
+  return [step.mark === "refused" ? "Nothing." : "Nothing but where the tablet stands."];
 }
 
 // The step's caption, or the last one before it.
@@ -60,25 +63,27 @@ function serverCard(server) {
 
 // The slots, up to the last one that has anything to show.
 function slots(server) {
-  const name = (slot) => 1024 * server + slot;
-  const taken = thingsAt("f/").map(([node]) => Number(node)).filter((node) => serverOf(node) === server);
-  const locked = thingsAt(`l/${server}/f`).map(([node]) => Number(node));
-  const highest = Math.max(15, ...[...taken, ...locked].map(slotOf));
-  const count = Math.min(story.slots, highest + 1);
-  const cell = (slot) => {
-    const is = taken.includes(name(slot));
-    const lock = things.get(`l/${server}/f${name(slot)}`);
-    const changed = isChanged(`f/${name(slot)}`) || isChanged(`l/${server}/f${name(slot)}`);
-    const words = `slot ${slot}: ${is ? "taken" : "free"}${lock ? `, its flag locked: ${holders(lock)}` : ""}`;
-    return html("span", { class: `slot${is ? " taken" : ""}${lock ? " locked" : ""}${changed ? " changed" : ""}`, title: words }, String(slot));
-  };
+  const taken = thingsAt("f/").map(([name]) => Number(name)).filter((name) => serverOf(name) === server);
+  const locked = thingsAt(`l/${server}/f`).map(([name]) => Number(name));
+  const count = Math.min(story.slots, 1 + Math.max(15, ...[...taken, ...locked].map(slotOf)));
   const more = story.slots > count ? ` and ${story.slots - count} more, all free` : "";
+  const words = taken.length ? `taken: ${taken.map(slotOf).join(", ")}` : "none taken";
+  const cells = Array.from({ length: count }, (_, slot) => slotCell(server, slot));
   return html(
     "div",
     {},
     html("p", {}, `Slots: ${taken.length} of ${story.slots} taken`),
-    html("div", { class: "slots", role: "img", "aria-label": taken.length ? `taken: ${taken.map(slotOf).join(", ")}` : "none taken" }, ...Array.from({ length: count }, (_, slot) => cell(slot)), more),
+    html("div", { class: "slots", role: "img", "aria-label": words }, ...cells, more),
   );
+}
+
+function slotCell(server, slot) {
+  const name = 1024 * server + slot;
+  const taken = things.has(`f/${name}`);
+  const lock = things.get(`l/${server}/f${name}`);
+  const changed = isChanged(`f/${name}`) || isChanged(`l/${server}/f${name}`);
+  const title = `slot ${slot}: ${taken ? "taken" : "free"}${lock ? `, its flag locked: ${holders(lock)}` : ""}`;
+  return html("span", { class: `slot${taken ? " taken" : ""}${lock ? " locked" : ""}${changed ? " changed" : ""}`, title }, String(slot));
 }
 
 function table(server) {
@@ -102,13 +107,20 @@ const PHASES = { idle: "no transaction", open: "open", committing: "committing",
 
 function tabletCard(tablet) {
   const standing = things.get(`c/${tablet}`);
-  const phase = PHASES[standing.phase] ?? shown(standing.phase);
   const old = thingBefore(`c/${tablet}`);
   const acts = at > START && story.steps[at].tablet === String(tablet);
+  const phase = `${standing.phase}${old.phase === standing.phase ? "" : " changed"}`;
   return html(
     "article",
     { class: acts ? "card tablet acts" : "card tablet", "data-tablet": tablet },
-    html("h3", {}, `Tablet ${tablet} `, badge(phase, `${standing.phase}${old.phase === standing.phase ? "" : " changed"}`), standing.lost === true ? badge("lost", "old") : null, acts ? badge("takes this step", "acting") : null),
+    html(
+      "h3",
+      {},
+      `Tablet ${tablet} `,
+      badge(PHASES[standing.phase] ?? shown(standing.phase), phase),
+      standing.lost === true ? badge("lost", "old") : null,
+      acts ? badge("takes this step", "acting") : null,
+    ),
     transaction(tablet, standing),
     participants(standing, old),
     objects("Has read", tablet, "r"),
@@ -123,30 +135,37 @@ function transaction(tablet, standing) {
   const asked = [...thingsAt(`o/${tablet}/`), ...dropped(`o/${tablet}/`)];
   if (asked.length === 0) return null;
   const hidden = Math.max(0, asked.length - SHOWN_OPERATIONS);
+  const unanswered = standing.waits === true ? "waits" : "no answer";
   const line = ([turn, it]) => {
     const place = `o/${tablet}/${turn}`;
-    const words = things.has(place) ? "" : "gone";
-    return html("li", { class: `${mark(place) || ""} ${words}` }, `${it.asked}: `, html("b", {}, it.answer ?? (standing.waits === true ? "waits" : "no answer")));
+    const looks = `${mark(place) || ""}${things.has(place) ? "" : " gone"}`;
+    return html("li", { class: looks }, `${it.asked}: `, html("b", {}, it.answer ?? unanswered));
   };
   return html(
     "div",
     {},
     html("h4", {}, "Its transaction"),
     hidden ? html("p", { class: "note" }, `${plural(hidden, "operation")} before these`) : null,
-    html("ul", { class: "asked" }, ...asked.map(line).slice(hidden)),
+    html("ul", { class: "asked" }, ...asked.slice(hidden).map(line)),
   );
 }
 
-// The servers that take part, and how far each is.
+// How far a server is that takes part.
+function progress(standing, server) {
+  const has = (set) => Array.isArray(set) && set.includes(server);
+  if (has(standing.applied)) return "applied";
+  if (has(standing.prepared)) return "prepared";
+  return has(standing.participants) ? "due" : "";
+}
+
 function participants(standing, old) {
   if (!Array.isArray(standing.participants) || standing.participants.length === 0) return null;
-  const has = (set, server) => Array.isArray(set) && set.includes(server);
-  const word = (then, server) => (has(then.applied, server) ? "applied" : has(then.prepared, server) ? "prepared" : has(then.participants, server) ? "due" : "");
-  const chip = (server) => {
-    const changed = word(standing, server) === word(old, server) ? "" : " changed";
-    return html("li", { class: `s${server} server${changed}` }, `server ${server}: `, html("b", {}, word(standing, server)));
+  const line = (server) => {
+    const words = progress(standing, server);
+    const looks = `s${server} server${words === progress(old, server) ? "" : " changed"}`;
+    return html("li", { class: looks }, `server ${server}: `, html("b", {}, words));
   };
-  return html("div", {}, html("h4", {}, "Takes part"), html("ul", { class: "chips" }, ...standing.participants.map(chip)));
+  return html("div", {}, html("h4", {}, "Takes part"), html("ul", { class: "chips" }, ...standing.participants.map(line)));
 }
 
 function objects(title, tablet, letter) {
@@ -165,39 +184,42 @@ function dropped(start) {
   return step.gone.filter((place) => place.startsWith(start)).map((place) => [place.slice(start.length), thingBefore(place)]);
 }
 
+// An object's name and what is said of it, by its letter.
+const OBJECTS = {
+  m: (_, it, version) => ["metadata", `version ${version}, root is node ${shown(it.root)}`],
+  n: (name, it, version) => [`node ${name}`, `version ${version}, ${bodyWords(it)}`],
+  f: (name, it) => [`flag ${name}`, it.taken === true ? "taken" : it.taken === false ? "free" : shown(it.taken)],
+  v: (server, it) => [`server ${server}'s vector`, `${plural(it.taken.length, "slot")} taken`],
+};
+
 // One object as read, written or copied. A written one has the version that it was read at plus 1.
 function objectLine(place, object, it, read) {
-  const number = Number(object.slice(1) || 0);
-  const version = it.version === undefined ? "" : `version ${read ? Number(read.version) + 1 : shown(it.version)}`;
-  const lines = {
-    m: () => ["metadata", ` ${version}, root is node ${shown(it.root)}`],
-    n: () => [`node ${number}`, ` ${version}, ${bodyWords(it)}`],
-    f: () => [`flag ${number}`, ` ${it.taken === true ? "taken" : it.taken === false ? "free" : shown(it.taken)}`],
-    v: () => [`server ${number}'s vector`, ` ${plural(it.taken.length, "slot")} taken`],
-  };
-  const [name, words] = lines[object[0]]();
-  const server = object[0] === "m" ? "" : object[0] === "v" ? `s${number}` : `s${serverOf(number)}`;
+  const letter = object[0];
+  const number = Number(object.slice(1));
+  const server = { n: serverOf(number), f: serverOf(number), v: number }[letter];
+  const [name, words] = OBJECTS[letter](number, it, read ? Number(read.version) + 1 : shown(it.version));
   return html(
     "li",
     { class: `${mark(place) || ""}${it.old ? " is-old" : ""}${things.has(place) ? "" : " gone"}` },
-    html("b", { class: `object ${server}` }, name),
-    words,
-    it.old ? badge(newer(object, number), "old") : null,
+    html("b", { class: server === undefined ? "object" : `object s${server}` }, name),
+    ` ${words}`,
+    it.old ? badge(oldWords(letter, number), "old") : null,
     things.has(place) ? null : badge("dropped", "old"),
     read && it.kind === "leaf" ? writtenPairs(it, read) : null,
   );
 }
 
 function bodyWords(node) {
+  const way = (child, i) => (i === 0 ? shown(child) : `${node.keys[i - 1]} → ${shown(child)}`);
   if (node.kind === "leaf") return `leaf of ${plural(node.pairs.length, "pair")}`;
-  if (node.kind === "inner") return `inner: ${node.children.map((child, i) => (i ? `${node.keys[i - 1]} → ` : "") + shown(child)).join(", ")}`;
-  return node.kind === "free" ? "free" : shown(node);
+  return node.kind === "inner" ? `inner: ${node.children.map(way).join(", ")}` : KINDS[node.kind];
 }
 
-// What an old copy is behind.
-function newer(object, number) {
-  const versions = object === "m" ? thingsAt("m/").map(([, metadata]) => metadata.version) : object[0] === "n" ? [things.get(`n/${number}`)?.version] : [];
-  return versions.length ? `old, the server has ${Math.max(...versions)}` : "old";
+// What an old thing is behind. Of a flag or vector it is only said that it is old.
+function oldWords(letter, number) {
+  const metadata = () => Math.max(...thingsAt("m/").map(([, it]) => Number(it.version)));
+  const newer = { m: metadata, n: () => shown(things.get(`n/${number}`)?.version) }[letter];
+  return newer ? `old, the server has ${newer()}` : "old";
 }
 
 // The pairs that would be written; those that were not read so stand out.
@@ -208,29 +230,26 @@ function writtenPairs(written, read) {
 }
 
 function showMap() {
-  const keys = thingsAt("k/");
-  const gone = at > START ? story.steps[at].gone.filter((place) => place.startsWith("k/")).map((place) => place.slice(2)) : [];
-  const entry = ([key, value]) => html("li", { class: mark(`k/${key}`), "data-key": key }, html("b", {}, key), " is ", html("span", { class: "value" }, value));
-  byId("map").replaceChildren(...keys.map(entry), ...gone.map((key) => html("li", { class: "gone changed" }, html("b", {}, key), " is gone")));
-  if (keys.length + gone.length === 0) byId("map").append(html("li", { class: "none" }, "Empty."));
+  const entry = ([key, value]) =>
+    html("li", { class: mark(`k/${key}`), "data-key": key }, html("b", {}, key), " is ", html("span", { class: "value" }, value));
+  const taken = (place) => html("li", { class: "gone changed" }, html("b", {}, place.slice(2)), " is gone");
+  const gone = (story.steps[at]?.gone ?? []).filter((place) => place.startsWith("k/"));
+  const entries = [...thingsAt("k/").map(entry), ...gone.map(taken)];
+  byId("map").replaceChildren(...(entries.length ? entries : [html("li", { class: "none" }, "Empty.")]));
 }
 
 const decisions = story.steps.flatMap((step, i) => (step.mark === "decision" ? [i] : []));
 
+// The newest one is open; the others can be opened.
 function showDecided() {
   const decided = thingsAt("d/");
-  byId("decided").replaceChildren(
-    ...decided.map(([turn, { tablet, asked }], i) => {
-      const step = decisions[Number(turn)];
-      const operations = asked.map((it) => html("li", {}, `${it.asked}: `, html("b", {}, it.answer ?? "no answer")));
-      return html(
-        "li",
-        { class: mark(`d/${turn}`) },
-        html("details", { open: i === decided.length - 1 ? "" : false }, html("summary", {}, `Tablet ${tablet}, step ${step}, ${plural(asked.length, "operation")}`), html("ul", {}, ...operations)),
-      );
-    }),
-  );
-  if (decided.length === 0) byId("decided").append(html("li", { class: "none" }, "None yet."));
+  const entry = ([turn, { tablet, asked }], i) => {
+    const title = `Tablet ${tablet}, step ${decisions[turn]}, ${plural(asked.length, "operation")}`;
+    const operations = asked.map((it) => html("li", {}, `${it.asked}: `, html("b", {}, it.answer ?? "no answer")));
+    const open = i === decided.length - 1 ? "" : false;
+    return html("li", { class: mark(`d/${turn}`) }, html("details", { open }, html("summary", {}, title), html("ul", {}, ...operations)));
+  };
+  byId("decided").replaceChildren(...(decided.length ? decided.map(entry) : [html("li", { class: "none" }, "None yet.")]));
 }
 
 function showLine() {

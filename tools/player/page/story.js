@@ -57,6 +57,7 @@ function inOrder(x, y) {
 const shown = (field) => (field !== null && typeof field === "object" ? `out of range (${field.bad})` : String(field));
 const serverOf = (name) => Math.floor(name / 1024);
 const slotOf = (name) => name % 1024;
+const sum = (numbers) => numbers.reduce((all, number) => all + number, 0);
 const plural = (count, noun) => `${count} ${noun}${count === 1 ? "" : "s"}`;
 
 // An element with attributes and children; a text is a child like any other, and is never read as markup.

@@ -9,10 +9,10 @@ const BELOW = 44;
 const LEAST_WIDTH = 104;
 const widthOf = (text, size = 13) => String(text).length * size * 0.62;
 
-function holders(lock) {
-  if (lock.bad !== undefined) return shown(lock);
-  if (lock.writer !== undefined) return `tablet ${lock.writer} writes`;
-  return `${lock.readers.length === 1 ? "tablet" : "tablets"} ${lock.readers.join(", ")} read${lock.readers.length === 1 ? "s" : ""}`;
+function holders({ bad, writer, readers }) {
+  if (bad !== undefined) return shown({ bad });
+  if (writer !== undefined) return `tablet ${writer} writes`;
+  return readers.length === 1 ? `tablet ${readers[0]} reads` : `tablets ${readers.join(", ")} read`;
 }
 
 // The locks on a node, a line for each way of holding it. Where not its home but others have it locked, they are named.
@@ -29,28 +29,32 @@ function locksOn(name) {
 
 const isLockChanged = (name) => [...Array(story.servers).keys()].some((server) => isChanged(`l/${server}/n${name}`));
 
+const KINDS = { free: "free", leaf: "leaf", inner: "inner node", bad: "out of range" };
+
 // A node as a box: where it stands is settled later.
 function box(name) {
   const node = things.get(`n/${name}`) ?? { kind: "free", version: 0 };
   const locks = locksOn(name);
-  const lines = [`server ${serverOf(name)} · ${node.kind === "inner" ? "inner node" : node.kind === "bad" ? "out of range" : node.kind}`];
+  const lines = [`server ${serverOf(name)} · ${KINDS[node.kind]}`];
   const rows = node.kind === "leaf" ? node.pairs : [];
   const keys = node.kind === "inner" ? node.keys : [];
-  const longest = (i) => Math.max(3, ...rows.map((row) => row[i].length));
+  const [longestKey, longestValue] = [0, 1].map((i) => Math.max(3, ...rows.map((row) => row[i].length)));
   const cells = keys.map((key) => widthOf(key) + 16);
   const width = Math.max(
     LEAST_WIDTH,
     widthOf(`node ${name}  v${shown(node.version)}`) + 2 * PAD + 8,
     ...lines.map((line) => widthOf(line, 11) + 2 * PAD),
     ...locks.map((lock) => widthOf(lock, 11) + 2 * PAD + 14),
-    widthOf(" ".repeat(longest(0) + longest(1))) + 4 * PAD,
-    cells.reduce((sum, cell) => sum + cell, 0) + 2 * PAD,
+    widthOf(" ".repeat(longestKey + longestValue)) + 4 * PAD,
+    sum(cells) + 2 * PAD,
   );
   const body = node.kind === "inner" ? ROW + 10 : Math.max(1, rows.length) * ROW + 6;
   const height = HEAD + LINE * (lines.length + locks.length) + 6 + body;
-  return { name, node, lines, locks, rows, keys, cells, width, height, split: longest(0) / (longest(0) + longest(1)), children: [] };
+  const split = longestKey / (longestKey + longestValue);
+  return { name, node, lines, locks, rows, keys, cells, width, height, split, children: [] };
 }
 
+// The box with one line more.
 function noted(here, note) {
   here.lines.push(note);
   here.height += LINE;
@@ -70,7 +74,7 @@ function boxesUnder(name, level, met) {
   return here;
 }
 
-// The roots that servers name, the boxes under each, and what is taken, or was until this step, but under none of them.
+// The roots that servers name, the boxes under each, and what is taken or locked, or was until this step, but under none of them.
 function forest() {
   const servers = new Map();
   for (const [server, { root }] of thingsAt("m/")) servers.set(root, [...(servers.get(root) ?? []), server]);
@@ -79,11 +83,20 @@ function forest() {
     const here = boxesUnder(root, null, met);
     return servers.size > 1 ? noted(here, `root by server ${by.join(", ")}`) : here;
   });
+  const others = namesToShow().filter((name) => !met.has(name));
+  return [...roots, ...others.map(apart)];
+}
+
+function namesToShow() {
   const isShown = ([name, node]) => node.kind !== "free" || isChanged(`n/${name}`);
-  const nodes = [...thingsAt("n/").filter(isShown), ...thingsAt("f/")].map(([name]) => Number(name));
-  const apart = [...new Set(nodes)].filter((name) => !met.has(name));
-  const alone = (name) => (things.get(`n/${name}`)?.kind === "free" ? box(name) : noted(box(name), "not under the root"));
-  return { roots, apart: apart.map(alone) };
+  const names = [...thingsAt("n/").filter(isShown), ...thingsAt("f/")].map(([name]) => Number(name));
+  for (let server = 0; server < story.servers; server++) names.push(...thingsAt(`l/${server}/n`).map(([name]) => Number(name)));
+  return [...new Set(names)].sort((x, y) => x - y);
+}
+
+function apart(name) {
+  const kind = things.get(`n/${name}`)?.kind ?? "free";
+  return kind === "free" ? box(name) : noted(box(name), "not under the root");
 }
 
 // Settles where boxes stand: children side by side, their parent above their middle. The width that was used.
@@ -108,30 +121,35 @@ function moved(here, by) {
 const everyBox = (boxes) => boxes.flatMap((here) => [here, ...everyBox(here.children)]);
 
 function drawTree() {
-  const { roots, apart } = forest();
+  const tops = forest();
   const depths = [];
   let width = 2;
-  for (const here of [...roots, ...apart]) width += settle(here, width, 0, depths) + 2 * BETWEEN;
-  const tops = depths.map((_, depth) => 4 + depths.slice(0, depth).reduce((sum, height) => sum + height + BELOW, 0));
-  const boxes = everyBox([...roots, ...apart]);
-  boxes.forEach((here) => (here.y = tops[here.depth]));
-  const height = Math.max(...boxes.map((here) => here.y + here.height)) + 14;
+  for (const here of tops) width += settle(here, width, 0, depths) + 2 * BETWEEN;
   width -= 2 * BETWEEN - 2;
-  const drawing = svg("svg", { width, height, viewBox: `0 0 ${width} ${height}`, role: "img", "aria-label": "The tree; the same follows in words" });
+  const boxes = everyBox(tops);
+  for (const here of boxes) here.y = 4 + sum(depths.slice(0, here.depth).map((height) => height + BELOW));
+  const height = Math.max(...boxes.map((here) => here.y + here.height)) + 18;
+  const label = "The tree; the same follows in words";
+  const drawing = svg("svg", { width, height, viewBox: `0 0 ${width} ${height}`, role: "img", "aria-label": label });
   boxes.forEach((here) => here.children.forEach((child, i) => drawing.append(...edge(here, child, i))));
   boxes.forEach((here) => drawing.append(drawnBox(here)));
   return { drawing, boxes };
 }
 
+// Which keys a child holds.
+function rangeOf(keys, child) {
+  if (keys.length === 0) return "";
+  if (child === 0) return `below ${keys[0]}`;
+  return child === keys.length ? `${keys[child - 1]} and up` : `${keys[child - 1]} to below ${keys[child]}`;
+}
+
 // The line from a parent to its child, and which keys are below it.
 function edge(parent, child, i) {
-  const cells = parent.cells.reduce((sum, cell) => sum + cell, 0);
-  const x1 = parent.x + (parent.width - cells) / 2 + parent.cells.slice(0, i).reduce((sum, cell) => sum + cell, 0);
+  const x1 = parent.x + (parent.width - sum(parent.cells)) / 2 + sum(parent.cells.slice(0, i));
   const y1 = parent.y + parent.height;
   const x2 = child.x + child.width / 2;
   const middle = (y1 + child.y) / 2;
-  const { keys } = parent;
-  const range = keys.length === 0 ? "" : i === 0 ? `below ${keys[0]}` : i === keys.length ? `${keys[i - 1]} and up` : `${keys[i - 1]} to below ${keys[i]}`;
+  const range = rangeOf(parent.keys, i);
   const line = svg("path", { d: `M${x1} ${y1} C${x1} ${middle} ${x2} ${middle} ${x2} ${child.y}`, class: "edge" });
   if (widthOf(range, 11) > child.width + BETWEEN) return [line];
   return [line, svg("text", { x: x2, y: child.y - 7, class: "range", "text-anchor": "middle" }, range)];
@@ -140,7 +158,8 @@ function edge(parent, child, i) {
 function drawnBox(here) {
   const { name, node, x, y, width, height } = here;
   const changed = isChanged(`n/${name}`);
-  const group = svg("g", { class: `node s${serverOf(name)} ${node.kind}${changed ? " changed" : ""}`, transform: `translate(${x} ${y})`, "data-node": name });
+  const looks = `node s${serverOf(name)} ${node.kind}${changed ? " changed" : ""}`;
+  const group = svg("g", { class: looks, transform: `translate(${x} ${y})`, "data-node": name });
   group.append(
     svg("rect", { class: "paper", width, height, rx: 6 }),
     svg("path", { class: "band", d: `M0 ${HEAD} V6 Q0 0 6 0 H${width - 6} Q${width} 0 ${width} 6 V${HEAD} Z` }),
@@ -158,7 +177,7 @@ function drawnBox(here) {
   }
   group.append(...(node.kind === "inner" ? drawnKeys(here, top - 6) : drawnRows(here, top - 6)));
   group.append(svg("rect", { class: "frame", width, height, rx: 6 }));
-  if (changed) group.append(svg("text", { class: "changed-mark", x: width / 2, y: height + 11, "text-anchor": "middle" }, "▲ changed"));
+  if (changed) group.append(svg("text", { class: "changed-mark", x: width / 2, y: height + 13, "text-anchor": "middle" }, "▲ changed"));
   return group;
 }
 
@@ -175,7 +194,8 @@ function drawnLock(lock, top, width, changed) {
 // The pairs of a leaf, a row each; rows that this step changed are marked.
 function drawnRows(here, top) {
   const { name, rows, width, split, node } = here;
-  if (rows.length === 0) return [svg("text", { class: "none", x: width / 2, y: top + 17, "text-anchor": "middle" }, node.kind === "leaf" ? "empty" : "–")];
+  const none = node.kind === "leaf" ? "empty" : "–";
+  if (rows.length === 0) return [svg("text", { class: "none", x: width / 2, y: top + 17, "text-anchor": "middle" }, none)];
   const old = new Map(thingBefore(`n/${name}`)?.pairs ?? []);
   const middle = PAD + split * (width - 2 * PAD);
   return rows.flatMap(([key, value], i) => {
@@ -192,7 +212,7 @@ function drawnRows(here, top) {
 function drawnKeys(here, top) {
   const { name, keys, cells, width } = here;
   const old = new Set(thingBefore(`n/${name}`)?.keys ?? []);
-  let x = (width - cells.reduce((sum, cell) => sum + cell, 0)) / 2;
+  let x = (width - sum(cells)) / 2;
   return keys.flatMap((key, i) => {
     const changed = isChanged(`n/${name}`) && !old.has(key);
     const cell = [
@@ -205,23 +225,23 @@ function drawnKeys(here, top) {
 }
 
 // The tree in words, for whoever doesn't see the drawing: a list within a list.
-function treeInWords(boxes) {
-  const item = (here) => {
-    const { name, node } = here;
-    const holds = node.kind === "leaf" ? node.pairs.map(([key, value]) => `${key} is ${value}`).join(", ") || "nothing" : (node.keys ?? []).join(", ");
-    const locks = here.locks.map((lock) => `, locked: ${lock}`).join("");
-    const changed = isChanged(`n/${name}`) ? ", changed" : "";
-    const words = `Node ${name}, version ${shown(node.version)}, ${here.lines.join(", ")}${locks}${changed}. ${node.kind === "leaf" ? "Pairs" : "Keys"}: ${holds}.`;
-    return html("li", {}, words, here.children.length ? html("ul", {}, ...here.children.map(item)) : null);
-  };
-  return html("ul", {}, ...boxes.filter((here) => here.depth === 0).map(item));
+function treeInWords(tops) {
+  return html("ul", {}, ...tops.map((here) => html("li", {}, boxInWords(here), here.children.length ? treeInWords(here.children) : null)));
+}
+
+function boxInWords({ name, node, lines, locks }) {
+  const pairs = (node.pairs ?? []).map(([key, value]) => `${key} is ${value}`);
+  const holds = { leaf: `Pairs: ${pairs.join(", ") || "none"}.`, inner: `Keys: ${(node.keys ?? []).join(", ")}.` }[node.kind] ?? "";
+  const locked = locks.map((lock) => `, locked: ${lock}`).join("");
+  const changed = isChanged(`n/${name}`) ? ", changed" : "";
+  return `Node ${name}, version ${shown(node.version)}, ${lines.join(", ")}${locked}${changed}. ${holds}`;
 }
 
 function showTree() {
   const { drawing, boxes } = drawTree();
   const part = byId("tree");
   part.replaceChildren(drawing);
-  byId("tree-words").replaceChildren(treeInWords(boxes));
+  byId("tree-words").replaceChildren(treeInWords(boxes.filter((here) => here.depth === 0)));
   const changed = boxes.find((here) => isChanged(`n/${here.name}`));
   if (changed && part.scrollWidth > part.clientWidth) part.scrollLeft = changed.x + changed.width / 2 - part.clientWidth / 2;
 }
