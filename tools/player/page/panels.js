@@ -253,7 +253,8 @@ function showDecided() {
 }
 
 function showLine() {
-  transcript.forEach((line, i) => (i === at + 1 ? line.setAttribute("aria-current", "step") : line.removeAttribute("aria-current")));
+  byId("steps").querySelector("[aria-current]")?.removeAttribute("aria-current");
+  lineOf(at).setAttribute("aria-current", "step");
   const part = byId("steps-part");
   if (part.scrollHeight > part.clientHeight) part.scrollTop = lineOf(at).offsetTop - part.clientHeight / 2;
 }
