@@ -1,8 +1,8 @@
 //! What can be seen of an abort's cause: what the tablet used though it was old, or what others had locked.
 
-use crate::changes::{named, shown};
+use crate::changes::named;
 use crate::difference::Change;
-use crate::state::{Content, Place, State};
+use crate::state::{Content, Copied, Place, State};
 use crate::words::listed;
 use gemandrolo::inspect::{Item, Lock, Object};
 use gemandrolo::{Outcome, Reason};
@@ -29,40 +29,53 @@ pub fn words(
 
 /// The old things that the abort took from the tablet: an abort drops the copies of all that was read.
 fn grown_old(before: &State, difference: &[Change]) -> Vec<String> {
-    let mut old: Vec<&Item> = Vec::new();
-    for change in difference {
-        if let (Some(Content::Held { item, old: true }), None) = (&change.before, &change.after) {
-            if old.iter().all(|other| other.object() != item.object()) {
-                old.push(item);
+    let mut old: Vec<String> = Vec::new();
+    for change in difference.iter().filter(|change| change.after.is_none()) {
+        let said = match (&change.before, change.place) {
+            (Some(Content::Held { item, .. }), _) => behind(before, item),
+            (Some(Content::Vector { old: true, .. }), Place::Copy(_, Copied::Vector(server))) => {
+                Some(format!("its copy of server {server}'s vector"))
             }
-        }
+            _ => None,
+        };
+        old.extend(said.filter(|words| !old.contains(words)));
     }
-    old.into_iter().map(|item| behind(before, item)).collect()
+    old
 }
 
-/// What was used, and what the server has.
-fn behind(before: &State, item: &Item) -> String {
-    let thing = named(item.object());
-    let versions = |read, there: String| {
-        format!(
-            "{thing} at version {}, where the server has {there}",
-            shown(read)
-        )
-    };
-    match item {
-        Item::Metadata(read) => {
-            let newest = before.values().filter_map(|content| match content {
-                Content::Metadata(metadata) => metadata.version.ok(),
-                _ => None,
-            });
-            versions(read.version, newest.max().unwrap_or(0).to_string())
+/// What was used, where a server has a newer one. Between two applies that may be another server than the object's home.
+fn behind(before: &State, item: &Item) -> Option<String> {
+    let read = match item {
+        Item::Metadata(read) => read.version.ok()?,
+        Item::Node(_, read) => read.version.ok()?,
+        Item::Flag(name, read) => {
+            let taken = before.contains_key(&Place::Taken(*name));
+            return (*read != Ok(taken)).then(|| named(item.object()));
         }
-        Item::Node(name, read) => match before.get(&Place::Node(*name)) {
-            Some(Content::Node(node)) => versions(read.version, shown(node.version)),
-            _ => thing,
-        },
-        Item::Flag(..) => thing,
-    }
+    };
+    let (server, version) = newest(before, item.object())?;
+    let thing = named(item.object());
+    (version > read)
+        .then(|| format!("{thing} at version {read}, where server {server} has {version}"))
+}
+
+/// The newest version that a server has of the metadata or a node, and the first such server.
+fn newest(before: &State, object: Object) -> Option<(usize, u32)> {
+    let versions = before
+        .iter()
+        .filter_map(|(place, content)| match (place, content) {
+            (Place::Metadata(server), Content::Metadata(it)) if object == Object::Metadata => {
+                Some((*server, it.version.ok()?))
+            }
+            (Place::Node(name), Content::Node(it)) if object == Object::Node(*name) => {
+                Some((name.server(), it.version.ok()?))
+            }
+            (Place::Table(server, name), Content::Version(it)) if object == Object::Node(*name) => {
+                Some((*server, (*it).ok()?))
+            }
+            _ => None,
+        });
+    versions.reduce(|best, other| if other.1 > best.1 { other } else { best })
 }
 
 /// The locks of others that a prepare meets; or, for a fetch, all that others have locked to write.

@@ -198,7 +198,7 @@ pub fn named(object: Object) -> String {
     }
 }
 
-pub fn shown<T: Display>(field: Field<T>) -> String {
+fn shown<T: Display>(field: Field<T>) -> String {
     match field {
         Ok(value) => value.to_string(),
         Err(OutOfRange(word)) => format!("out of range ({word})"),

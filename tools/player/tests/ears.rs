@@ -51,7 +51,7 @@ fn the_abort() {
     );
     assert_eq!(
         moment.causes,
-        ["It used what is old: node 0 at version 2, where the server has 3."]
+        ["It used what is old: node 0 at version 2, where server 0 has 3."]
     );
     assert_eq!(
         story.moments[76].changes.last().map(String::as_str),

@@ -7,7 +7,7 @@ mod json;
 use common::player::{Player, Taste};
 use common::{inputs, Random};
 use gemandrolo::inspect::View;
-use gemandrolo::{Sizes, Store};
+use gemandrolo::{Outcome, Reason, Sizes, Store};
 use json::Json;
 use player::ledger::Ledger;
 use player::state::{state, Content, Place, State};
@@ -95,6 +95,40 @@ fn data_ends_where_the_store_does() {
         decided += player.ledger.decided;
     }
     assert!(decided > 0);
+}
+
+/// Whatever aborts because something differs or is locked, the page names what is old or locked.
+#[test]
+fn aborts_have_causes() {
+    let mut aborts = [0; 2];
+    for seed in 0..inputs(200) as u64 {
+        let mut random = Random(seed);
+        let sizes = Sizes {
+            servers: random.pick(&[2, 3, 5]),
+            slots: random.pick(&[3, 12]),
+            clients: random.pick(&[3, 6]),
+        };
+        let taste = Taste {
+            keys: 40,
+            inserts: 60,
+            deletes: 25,
+            migrates: 8,
+            noise: 2,
+            length: random.pick(&[1, 2]),
+        };
+        let (schedule, ..) = played(&mut random, sizes, taste);
+        for (number, moment) in story::tell(&schedule).moments.iter().enumerate() {
+            let kind = match moment.outcome {
+                Outcome::Aborted(Reason::Differs) => 0,
+                Outcome::Aborted(Reason::Busy) => 1,
+                _ => continue,
+            };
+            aborts[kind] += 1;
+            assert!(!moment.causes.is_empty(), "seed {seed}, step {number}");
+        }
+    }
+    println!("aborted by 1 and 2: {aborts:?}");
+    assert!(aborts.iter().all(|n| *n > 0));
 }
 
 /// The largest store, keys and values of twenty digits, long transactions: a page of 300 steps stays below 2 MB.
