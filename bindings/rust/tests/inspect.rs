@@ -132,6 +132,19 @@ fn old_is_behind(memory: &[u8], seen: &mut Seen) {
     }
 }
 
+/// The operation that a step gives.
+fn given([_, _, op, key, value, server]: [u64; 6]) -> Option<Operation> {
+    match op {
+        1 => Some(Operation::Insert { key, value }),
+        2 => Some(Operation::Lookup { key }),
+        3 => Some(Operation::Delete { key }),
+        4 => Some(Operation::Next { key }),
+        5 => Some(Operation::Previous { key }),
+        6 => Some(Operation::Migrate { node: key, server }),
+        _ => None,
+    }
+}
+
 /// What the client's part shows after a step of it, by the outcome alone.
 fn follows(view: &View, step: [u64; 6], outcome: Outcome) {
     let Some(client) = view.client(step[1] as usize) else {
@@ -140,19 +153,7 @@ fn follows(view: &View, step: [u64; 6], outcome: Outcome) {
     let phase = sound(client.phase());
     match (step[0], outcome) {
         (0, Outcome::Done) => assert_eq!(phase, Phase::Open),
-        (1, Outcome::Done) => {
-            let given = sound(client.waiting()).map(|operation| {
-                let client = step[1];
-                Step::Give { client, operation }.words()
-            });
-            let [op, key, value, server] = [2, 3, 4, 5].map(|i| step[i]);
-            let used = match op {
-                1 => [1, step[1], 1, key, value, 0],
-                6 => [1, step[1], 6, key, 0, server],
-                _ => [1, step[1], op, key, 0, 0],
-            };
-            assert_eq!(given, Some(used));
-        }
+        (1, Outcome::Done) => assert_eq!(sound(client.waiting()), given(step)),
         (_, Outcome::Fetched(_)) => assert!(sound(client.waiting()).is_some()),
         (_, Outcome::Answered(_)) => assert_eq!(sound(client.waiting()), None),
         (3, Outcome::Done) => {
@@ -480,16 +481,11 @@ fn a_transaction() {
         clients: 2,
     };
     let mut store = Store::new(sizes).expect("allowed sizes");
-    let operation = Operation::Insert { key: 40, value: 55 };
     store.step(Step::Begin { client: 1 });
     store.step(Step::Give {
         client: 1,
-        operation,
+        operation: Operation::Insert { key: 40, value: 55 },
     });
-    assert_eq!(
-        view(store.memory()).client(1).map(|c| c.waiting()),
-        Some(Ok(Some(operation)))
-    );
     while let Outcome::Fetched(_) = store.step(Step::Work { client: 1 }) {}
     let view = view(store.memory());
     let client = view.client(1).expect("a client");
