@@ -18,8 +18,9 @@
 //! ```
 //!
 //! [`Store::transaction`] runs one transaction to its end. Whoever drives the steps itself, as a server that gets them from many tablets does,
-//! calls [`Store::step`] or [`Store::run`], and looks at each [`Outcome`].
+//! calls [`Store::step`] or [`Store::run`], and looks at each [`Outcome`]. What stands in the memory is shown by [`inspect`].
 
+pub mod inspect;
 mod library;
 mod outcome;
 mod sizes;

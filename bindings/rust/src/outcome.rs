@@ -160,6 +160,23 @@ impl Outcome {
             _ => unreachable!("the library has outcomes 0 to 8"),
         }
     }
+
+    /// The three numbers: the outcome's own, a and b.
+    pub fn numbers(self) -> [u64; 3] {
+        match self {
+            Outcome::Refused(refusal) => [0, refusal.number(), 0],
+            Outcome::Done => [1, 0, 0],
+            Outcome::Fetched(Fetched::Metadata) => [2, 0, 0],
+            Outcome::Fetched(Fetched::Node(name)) => [2, 1, name],
+            Outcome::Fetched(Fetched::Vector(server)) => [2, 2, server],
+            Outcome::Answered(Answer { a, b }) => [3, a, b],
+            Outcome::Prepared(server) => [4, server, 0],
+            Outcome::Decided => [5, 0, 0],
+            Outcome::Applied(server) => [6, server, 0],
+            Outcome::Committed => [7, 0, 0],
+            Outcome::Aborted(reason) => [8, reason.number(), 0],
+        }
+    }
 }
 
 impl Fetched {

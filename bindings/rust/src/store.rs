@@ -1,4 +1,4 @@
-use crate::{library, Outcome, Refusal, Sizes, Step};
+use crate::{inspect, library, Outcome, Refusal, Sizes, Step};
 
 /// A store in memory that the caller lends: a `Vec<u8>`, a `&mut [u8]`, a mapped file.
 ///
@@ -34,7 +34,7 @@ impl<B: AsMut<[u8]>> Store<B> {
         let asked = library::step(memory.as_mut(), [u64::MAX, 0, 0, 0, 0, 0]);
         match Outcome::of(asked) {
             Outcome::Refused(Refusal::UnknownKind) => {
-                let sizes = head(memory.as_mut());
+                let sizes = inspect::sizes_in_head(memory.as_mut());
                 Ok(Store { memory, sizes })
             }
             Outcome::Refused(refusal) => Err(refusal),
@@ -77,18 +77,5 @@ impl<B: AsMut<[u8]>> Store<B> {
     pub fn run_words(&mut self, steps: &[[u64; 6]]) -> Vec<Outcome> {
         let lines = library::run(self.memory.as_mut(), steps);
         lines.into_iter().map(Outcome::of).collect()
-    }
-}
-
-/// The sizes in the head: three words of eight bytes, lowest byte first.
-fn head(memory: &[u8]) -> Sizes {
-    let word = |i: usize| {
-        let bytes = memory[8 * i..8 * i + 8].try_into();
-        u64::from_le_bytes(bytes.expect("eight bytes")) as usize
-    };
-    Sizes {
-        servers: word(0),
-        slots: word(1),
-        clients: word(2),
     }
 }

@@ -20,15 +20,15 @@ fn server_words(sizes: Sizes) -> usize {
     19 + 50 * sizes.slots
 }
 
-fn server_at(sizes: Sizes, server: usize) -> usize {
+pub fn server_at(sizes: Sizes, server: usize) -> usize {
     HEAD_WORDS + server * server_words(sizes)
 }
 
-fn client_at(sizes: Sizes, client: usize) -> usize {
+pub fn client_at(sizes: Sizes, client: usize) -> usize {
     server_at(sizes, sizes.servers) + CLIENT_WORDS * client
 }
 
-fn node_at(sizes: Sizes, name: u64) -> usize {
+pub fn node_at(sizes: Sizes, name: u64) -> usize {
     let (server, slot) = ((name / 1024) as usize, (name % 1024) as usize);
     server_at(sizes, server) + 19 + 50 * slot
 }

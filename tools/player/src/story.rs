@@ -1,0 +1,66 @@
+//! A schedule, run on the proved library.
+
+use crate::causes;
+use crate::changes;
+use crate::difference::{difference, Change};
+use crate::ledger::Ledger;
+use crate::schedule::Schedule;
+use crate::state::{state, State};
+use crate::words;
+use gemandrolo::inspect::View;
+use gemandrolo::{Outcome, Sizes, Store};
+
+#[derive(Clone, Debug)]
+pub struct Story {
+    pub sizes: Sizes,
+    /// The newly opened store.
+    pub start: State,
+    pub moments: Vec<Moment>,
+}
+
+/// A step with what came of it.
+#[derive(Clone, Debug)]
+pub struct Moment {
+    pub step: [u64; 6],
+    pub outcome: Outcome,
+    pub words: String,
+    /// What can be seen of an abort's cause.
+    pub causes: Vec<String>,
+    pub difference: Vec<Change>,
+    /// The changes in words.
+    pub changes: Vec<String>,
+}
+
+pub fn tell(schedule: &Schedule) -> Story {
+    let mut store = Store::new(schedule.sizes).expect("sizes that the schedule's reader accepted");
+    let mut ledger = Ledger::default();
+    let start = seen(&mut store, &ledger);
+    let mut before = start.clone();
+    let mut moments = Vec::new();
+    for step in &schedule.steps {
+        let given = ledger.last_given(step[1]);
+        let outcome = store.step_words(*step);
+        ledger.note(*step, outcome);
+        let after = seen(&mut store, &ledger);
+        let difference = difference(&before, &after);
+        moments.push(Moment {
+            step: *step,
+            outcome,
+            words: words::sentence(schedule.sizes, *step, outcome, given, &after),
+            causes: causes::words(*step, outcome, &before, &difference),
+            changes: changes::words(step[1], &difference),
+            difference,
+        });
+        before = after;
+    }
+    Story {
+        sizes: schedule.sizes,
+        start,
+        moments,
+    }
+}
+
+fn seen(store: &mut Store<Vec<u8>>, ledger: &Ledger) -> State {
+    let view = View::of(store.memory()).expect("a store that was opened");
+    state(&view, ledger)
+}
