@@ -9,7 +9,7 @@ use Rattle.base.specs.Test.{ifd}
 use Rattle.operations.specs.Object.{Ans, Writes}
 use Rattle.operations.specs.Slot.{release}
 use Rattle.operations.specs.Entry.{Entries, fewest-entries}
-use Rattle.operations.specs.Path.{Plan, Branch}
+use Rattle.operations.specs.Path.{TreePlan, Branch}
 use Rattle.operations.specs.Change.{Go, parted, merged}
 
 -- the branch to two neighbours, the left one of which is entry number j
@@ -32,7 +32,7 @@ pub record Paired (count i j : ℕ) (last : Bool) : Type 0 where
 module _ (a : Ans) (l : ℕ) (fs : List Branch) (go : Go) where
   -- the two are c1 and c2; the one that turns has the entries es, its neighbour es2. "From 8 or more keys one moves over, in inner nodes
   -- through the parent; from 7 the two merge into the left one and the right is freed."
-  abbrev pub evened : Bool → Writes → Branch → ℕ → ℕ → Entries → Entries → Plan
+  abbrev pub evened : Bool → Writes → Branch → ℕ → ℕ → Entries → Entries → TreePlan
   evened true w f c1 c2 es es2 = let n = length es2 - 1 in
       ifd (decLt (fewest-entries l) (length es2)) (parted go l w f c1 (take n es2) c2 (drop n es2 ++ es)) (release w c2 (λ w′. merged a l fs go w′ f c1 (es2 ++ es)))
   evened false w f c1 c2 es es2 =

@@ -9,7 +9,7 @@ use Rattle.nodes.specs.Node.{parent-of}
 use Rattle.operations.specs.Object.{node, flag, taken, Ans, Writes}
 use Rattle.operations.specs.Slot.{TreeSizes, take-for, take-node}
 use Rattle.operations.specs.Entry.{Entries}
-use Rattle.operations.specs.Path.{Plan}
+use Rattle.operations.specs.Path.{TreePlan}
 use Rattle.operations.specs.Change.{split-root}
 use Rattle.change.specs.declared.grow.Two.{Two}
 use Rattle.walk.specs.declared.walk.Stop.{Stop}
@@ -26,7 +26,7 @@ abbrev pub two-flags : Two → Writes → Writes
 two-flags r w = (flag (r .right), taken true) ∷ (flag (r .left), taken true) ∷ w
 
 pub record TwoTaken (z : TreeSizes) (m : ClientWord → ℕ) (x u : List ℕ) (n : ℕ) (r : Two) (x′ u′ : List ℕ) : Type 0 where
-  pub asks : (w : Writes) → Holds-writes z x w → (k : ℕ → ℕ → Writes → Plan)
+  pub asks : (w : Writes) → Holds-writes z x w → (k : ℕ → ℕ → Writes → TreePlan)
       → walked z m (take-for z n w (λ c w₁. take-for z n w₁ (λ d w₂. k c d w₂))) (used-in u) ≡ carry (r .stop) (used-in u′) (λ us. walked z m (k (r .left) (r .right) (two-flags r w)) us)
   pub mute : (w : Writes) → Holds-writes z x w → goes (r .stop) ≡ false → stands (r .stop) ≡ false
   pub holds : goes (r .stop) ≡ true → (w : Writes) → Holds-writes z x w → Holds-writes z x′ (two-flags r w)
@@ -38,13 +38,13 @@ pub record TwoTaken (z : TreeSizes) (m : ClientWord → ℕ) (x u : List ℕ) (n
 
 -- ---- their nodes
 pub record BothFree (z : TreeSizes) (m : ClientWord → ℕ) (x u : List ℕ) (c d : ℕ) (s : Stop) (u′ : List ℕ) : Type 0 where
-  pub asks : (w : Writes) → Holds-writes z x w → (k : Plan) → walked z m (take-node w c (take-node w d k)) (used-in u) ≡ carry s (used-in u′) (λ us. walked z m k us)
+  pub asks : (w : Writes) → Holds-writes z x w → (k : TreePlan) → walked z m (take-node w c (take-node w d k)) (used-in u) ≡ carry s (used-in u′) (λ us. walked z m k us)
   pub mute : (w : Writes) → Holds-writes z x w → goes s ≡ false → stands s ≡ false
   pub noted : Noted m u′
 
 -- ---- both
 pub record HalvesTaken (z : TreeSizes) (m : ClientWord → ℕ) (x u : List ℕ) (n : ℕ) (r : Two) (x′ u′ : List ℕ) : Type 0 where
-  pub asks : (w : Writes) → Holds-writes z x w → (k : ℕ → ℕ → Writes → Plan)
+  pub asks : (w : Writes) → Holds-writes z x w → (k : ℕ → ℕ → Writes → TreePlan)
       → walked z m (take-for z n w (λ c w₁. take-for z n w₁ (λ d w₂. take-node w₂ c (take-node w₂ d (k c d w₂))))) (used-in u)
       ≡ carry (r .stop) (used-in u′) (λ us. walked z m (k (r .left) (r .right) (two-flags r w)) us)
   pub mute : (w : Writes) → Holds-writes z x w → goes (r .stop) ≡ false → stands (r .stop) ≡ false
@@ -63,5 +63,5 @@ pub record Grown (x : List ℕ) (r c d : ℕ) (n : Wide) (x′ : List ℕ) : Typ
   pub kept : OwnKept x′
 
 -- ---- the root
-unfoldable pub root-split : TreeSizes → Ans → ℕ → ℕ → Entries → Writes → Plan
+unfoldable pub root-split : TreeSizes → Ans → ℕ → ℕ → Entries → Writes → TreePlan
 root-split z a l r es w = split-root z a l w r es

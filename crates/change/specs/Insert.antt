@@ -11,7 +11,7 @@ use Rattle.nodes.specs.Change.{put-in, with-slot}
 use Rattle.operations.specs.Map.{fresh}
 use Rattle.operations.specs.Slot.{TreeSizes}
 use Rattle.operations.specs.Entry.{value-in, with-pair}
-use Rattle.operations.specs.Path.{Plan}
+use Rattle.operations.specs.Path.{TreePlan}
 use Rattle.operations.specs.Change.{up}
 use Rattle.walk.specs.declared.down.Turn.{Turn}
 use Rattle.walk.specs.declared.down.Descent.{Descent}
@@ -38,5 +38,5 @@ way d = trail (d .path) 0 (d .top - 0)
 
 -- ---- insert
 -- the plan from the leaf on
-unfoldable pub insert-in : TreeSizes → Descent → ℕ → ℕ → Plan
+unfoldable pub insert-in : TreeSizes → Descent → ℕ → ℕ → TreePlan
 insert-in z d key v = let es = entriesOf (d .node) (low (way d)) in up z (fresh (value-in key es)) zero (branches (way d)) [] (d .name) (with-pair key v es)

@@ -10,7 +10,7 @@ use Rattle.nodes.specs.Change.{narrow}
 use Rattle.operations.specs.Object.{node, Ans, Writes}
 use Rattle.operations.specs.Slot.{TreeSizes}
 use Rattle.operations.specs.Entry.{Entries, node-value, fewest-entries, most-entries}
-use Rattle.operations.specs.Path.{Plan, Branch}
+use Rattle.operations.specs.Path.{TreePlan, Branch}
 use Rattle.operations.specs.Change.{Go, split, neighbour, up}
 use Rattle.walk.specs.declared.down.Turn.{Turn}
 use Rattle.walk.specs.declared.walk.Stop.{Stop}
@@ -25,7 +25,7 @@ use Rattle.plans.specs.Plan as P
 
 -- ---- the plans
 -- below the root: "a non-root node" of 7 to 14 keys, of 15, of 6
-unfoldable pub level-plan : TreeSizes → Ans → ℕ → Turn → ℕ → (ℕ → Entries) → ℕ → List Branch → Writes → Go → Plan
+unfoldable pub level-plan : TreeSizes → Ans → ℕ → Turn → ℕ → (ℕ → Entries) → ℕ → List Branch → Writes → Go → TreePlan
 level-plan z a l b c es lo fs w go =
     let f = in-parent b lo in
     let E = es (f .key) in
@@ -33,7 +33,7 @@ level-plan z a l b c es lo fs w go =
     (ifd (decLe (length E) (most-entries l)) (P.done (a, (node c, node-value l E) ∷ w)) (split z go l w f c E))
     (neighbour a l fs go w f c E (f .post))
 
-unfoldable pub top-plan : TreeSizes → Ans → ℕ → ℕ → Entries → Writes → Plan
+unfoldable pub top-plan : TreeSizes → Ans → ℕ → ℕ → Entries → Writes → TreePlan
 top-plan z a l c es w = up z a l [] w c es
 
 -- ---- a node written, and the answer

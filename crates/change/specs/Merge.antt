@@ -9,7 +9,7 @@ use Rattle.nodes.specs.declared.node.Node.{Node}
 use Rattle.nodes.specs.Entries.{entriesOf}
 use Rattle.operations.specs.Object.{node, Ans, Writes}
 use Rattle.operations.specs.Slot.{TreeSizes, release}
-use Rattle.operations.specs.Path.{Plan, Branch}
+use Rattle.operations.specs.Path.{TreePlan, Branch}
 use Rattle.operations.specs.Change.{Go, merged}
 use Rattle.walk.specs.declared.down.Turn.{Turn}
 use Rattle.change.specs.declared.neighbour.Sides.{Sides}
@@ -41,7 +41,7 @@ abbrev pub pair-in : Turn → Sides → ℕ → Branch
 pair-in b s lo = pair-of (b .name) (s .at) (entriesOf (b .node) lo)
 
 -- ---- a root that takes over its only child's contents
-unfoldable pub collapse-plan : Ans → ℕ → ℕ → Node → ℕ → List Branch → Writes → Go → Plan
+unfoldable pub collapse-plan : Ans → ℕ → ℕ → Node → ℕ → List Branch → Writes → Go → TreePlan
 collapse-plan a root c one lo fs w go = release w c (λ w′. P.done (a, (node root, value-of (node root) one) ∷ w′))
 
 pub record Collapses (z : TreeSizes) (m : ClientWord → ℕ) (x u : List ℕ) (a : Ans) (root c : ℕ) (one : Node) (r : Risen) (x′ u′ : List ℕ) : Type 0 where
@@ -53,7 +53,7 @@ pub record Collapses (z : TreeSizes) (m : ClientWord → ℕ) (x u : List ℕ) (
 unfoldable pub collapses : Bool → ℕ → Bool
 collapses root count = root && eqb count 1
 
-unfoldable pub merge-plan : Ans → ℕ → Turn → Sides → Node → ℕ → List Branch → Writes → Go → Plan
+unfoldable pub merge-plan : Ans → ℕ → Turn → Sides → Node → ℕ → List Branch → Writes → Go → TreePlan
 merge-plan a l b s one lo fs w go =
     let f = pair-in b s lo in
     release w (s .right) (λ w′. merged a l fs go w′ f (s .left) (entriesOf one (f .key)))

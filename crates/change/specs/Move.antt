@@ -7,7 +7,7 @@ use lib.ListN.{getD}
 use Rattle.nodes.specs.declared.node.Node.{Node}
 use Rattle.operations.specs.Object.{meta, node, flag, Val, root, taken, free, Writes}
 use Rattle.operations.specs.Slot.{TreeSizes, take-on, take-node, release}
-use Rattle.operations.specs.Path.{Plan}
+use Rattle.operations.specs.Path.{TreePlan}
 use Rattle.operations.specs.Migrate.{moved}
 use Rattle.walk.specs.declared.search.Taken.{Taken}
 use Rattle.walk.specs.declared.walk.Stop.{Stop}
@@ -29,7 +29,7 @@ pub record Beside (x : List ℕ) (b : Bool) (d : ℕ) (x′ : List ℕ) : Type 0
 
 -- a slot of the server s, above a slot number: taken, and its node is free
 pub record Placed (z : TreeSizes) (m : ClientWord → ℕ) (x u : List ℕ) (s slot : ℕ) (r : Taken) (x′ u′ : List ℕ) : Type 0 where
-  pub asks : (w : Writes) → Holds-writes z x w → (k : ℕ → Writes → Plan)
+  pub asks : (w : Writes) → Holds-writes z x w → (k : ℕ → Writes → TreePlan)
       → walked z m (take-on z (s ∷ []) slot w (λ d w′. take-node w′ d (k d w′))) (used-in u)
       ≡ carry (r .stop) (used-in u′) (λ us. walked z m (k (r .name) ((flag (r .name), taken true) ∷ w)) us)
   pub holds : goes (r .stop) ≡ true → (w : Writes) → Holds-writes z x w → Holds-writes z x′ ((flag (r .name), taken true) ∷ w)
@@ -40,7 +40,7 @@ pub record Placed (z : TreeSizes) (m : ClientWord → ℕ) (x u : List ℕ) (s s
 
 -- the node n of the name nm gets the name d: its old slot is freed
 pub record Left (z : TreeSizes) (m : ClientWord → ℕ) (x u : List ℕ) (nm d : ℕ) (n : Node) (b : Bool) (s : Stop) (x′ u′ : List ℕ) : Type 0 where
-  pub asks : (w : Writes) → Holds-writes z x w → (k : Writes → Plan)
+  pub asks : (w : Writes) → Holds-writes z x w → (k : Writes → TreePlan)
       → walked z m (release (beside b d w) nm (λ w′. k ((node d, value-of (node nm) n) ∷ w′))) (used-in u)
       ≡ carry s (used-in u′) (λ us. walked z m (k ((node d, value-of (node nm) n) ∷ (node nm, free) ∷ (flag nm, taken false) ∷ beside b d w)) us)
   pub holds : goes s ≡ true → (w : Writes) → Holds-writes z x w → Holds-writes z x′ ((node d, value-of (node nm) n) ∷ (node nm, free) ∷ (flag nm, taken false) ∷ beside b d w)
@@ -54,7 +54,7 @@ moves n v b d = (node d, v) ∷ (node n, free) ∷ (flag n, taken false) ∷ bes
 
 -- the node n of the name nm goes to the server s; b: it is the root
 pub record Moved (z : TreeSizes) (m : ClientWord → ℕ) (x u : List ℕ) (nm s : ℕ) (n : Node) (b : Bool) (r : Taken) (x′ u′ : List ℕ) : Type 0 where
-  pub asks : Holds-writes z x [] → (k : ℕ → Writes → Plan)
+  pub asks : Holds-writes z x [] → (k : ℕ → Writes → TreePlan)
       → walked z m (moved z nm s (value-of (node nm) n) (beside b) k) (used-in u)
       ≡ carry (r .stop) (used-in u′) (λ us. walked z m (k (r .name) (moves nm (value-of (node nm) n) b (r .name))) us)
   pub holds : goes (r .stop) ≡ true → Holds-writes z x [] → Holds-writes z x′ (moves nm (value-of (node nm) n) b (r .name))

@@ -8,7 +8,7 @@ use Rattle.nodes.specs.declared.node.Node.{Node}
 use Rattle.nodes.specs.Entries.{entriesOf}
 use Rattle.operations.specs.Object.{node, Ans, Writes}
 use Rattle.operations.specs.Slot.{TreeSizes}
-use Rattle.operations.specs.Path.{Plan, Branch}
+use Rattle.operations.specs.Path.{TreePlan, Branch}
 use Rattle.operations.specs.Change.{Go}
 use Rattle.walk.specs.declared.down.Turn.{Turn}
 use Rattle.change.specs.declared.neighbour.Sides.{Sides}
@@ -19,7 +19,7 @@ use Rattle.change.specs.Beside.{own-side, far-side, evened}
 use Rattle.change.specs.Merge.{pair-in}
 
 -- ---- with both at hand: n turns to k
-unfoldable pub even-plan : Ans → ℕ → Turn → Sides → Node → Node → ℕ → List Branch → Writes → Go → Plan
+unfoldable pub even-plan : Ans → ℕ → Turn → Sides → Node → Node → ℕ → List Branch → Writes → Go → TreePlan
 even-plan a l b s n k lo fs w go =
     let f = pair-in b s lo in
     let sep = getD (b .node .keys) (s .at) 0 in

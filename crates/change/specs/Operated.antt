@@ -5,7 +5,7 @@ use mathlib.Core.List.{List, []}
 use Prim.Native.Nat.{ℕ}
 use Rattle.operations.specs.Object.{Writes}
 use Rattle.operations.specs.Slot.{TreeSizes}
-use Rattle.operations.specs.Path.{Plan}
+use Rattle.operations.specs.Path.{TreePlan}
 use Rattle.walk.specs.declared.walk.Stop.{Stop}
 use Rattle.client.specs.Layout.{ClientWord}
 use Rattle.client.specs.Lent.{used-in}
@@ -15,7 +15,7 @@ use Rattle.change.specs.Mute.{stands}
 use Rattle.walk.specs.Lookup.{ended}
 
 -- from an empty lent list; with an answer the list holds the operation's writes
-pub record Operated (z : TreeSizes) (m : ClientWord → ℕ) (x u : List ℕ) (p : Plan) (s : Stop) (x′ u′ : List ℕ) : Type 0 where
+pub record Operated (z : TreeSizes) (m : ClientWord → ℕ) (x u : List ℕ) (p : TreePlan) (s : Stop) (x′ u′ : List ℕ) : Type 0 where
   pub writes : Writes
   pub same : Holds-writes z x [] → walked z m p (used-in u) ≡ ended s (used-in u′) writes
   pub holds : stands s ≡ true → Holds-writes z x [] → Holds-writes z x′ writes

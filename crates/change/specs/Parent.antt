@@ -12,7 +12,7 @@ use Rattle.nodes.specs.Kept.{Whole}
 use Rattle.operations.specs.Object.{node, Val, no-tree}
 use Rattle.operations.specs.Slot.{TreeSizes}
 use Rattle.operations.specs.Entry.{Entries, node-value}
-use Rattle.operations.specs.Path.{Plan, Branch, Cont, down, at-root}
+use Rattle.operations.specs.Path.{TreePlan, Branch, Cont, down, at-root}
 use Rattle.operations.specs.Migrate.{moved, move-at, to-level}
 use Rattle.walk.specs.declared.down.Descent.{Descent}
 use Rattle.walk.specs.declared.walk.Stop.{Stop}
@@ -49,7 +49,7 @@ abbrev pub with-child : Entries → ℕ → ℕ → Entries
 with-child es i d = take i es ++ (getD es i (0, 0) .0, d) ∷ drop (suc i) es
 
 -- the plan of a move with that write
-abbrev pub child-plan : TreeSizes → ℕ → ℕ → Val → ℕ → ℕ → ℕ → Entries → Plan
+abbrev pub child-plan : TreeSizes → ℕ → ℕ → Val → ℕ → ℕ → ℕ → Entries → TreePlan
 child-plan z nm s v up l at es = moved z nm s v (λ d w. w) (λ d w. P.done ((1, d), (node up, node-value l (with-child es at d)) ∷ w))
 
 -- "Migrate moves a node .. and changes the parent": the node n of the name nm, child number at of p

@@ -13,9 +13,8 @@ use Rattle.nodes.specs.Change.{wide}
 use Rattle.nodes.specs.Kept.{Whole, WholeWide}
 use Rattle.operations.specs.Object.{node, Ans, Writes}
 use Rattle.operations.specs.Slot.{TreeSizes}
-use Rattle.operations.specs.Entry.{Entries}
-use Rattle.operations.specs.Arrays.{kind}
-use Rattle.operations.specs.Path.{Plan, Branch}
+use Rattle.operations.specs.Entry.{Entries, kind}
+use Rattle.operations.specs.Path.{TreePlan, Branch}
 use Rattle.operations.specs.Change.{Go, split, neighbour}
 use Rattle.change.specs.declared.rise.Risen.{Risen}
 use Rattle.walk.specs.declared.down.Turn.{Turn}
@@ -55,7 +54,7 @@ is-root (f ∷ fs) = false
 
 -- One level below the root. `plan` is what it does, where the parent holds keys from lo on and has the path fs above it, before go;
 -- `more` are its writes, the latest first. With Going the parent's new content goes up.
-pub record Raised (z : TreeSizes) (m : ClientWord → ℕ) (x u : List ℕ) (l : ℕ) (root : Bool) (plan : ℕ → List Branch → Writes → Go → Plan) (r : Risen) (x′ u′ : List ℕ) : Type 0 where
+pub record Raised (z : TreeSizes) (m : ClientWord → ℕ) (x u : List ℕ) (l : ℕ) (root : Bool) (plan : ℕ → List Branch → Writes → Go → TreePlan) (r : Risen) (x′ u′ : List ℕ) : Type 0 where
   pub more : Writes
   pub same : (w : Writes) → Holds-writes z x w → (lo : ℕ) (fs : List Branch) → is-root fs ≡ root → (go : Go)
       → walked z m (plan lo fs w go) (used-in u) ≡ rose (r .stop) (used-in u′) (more ++ w) (λ us w′. walked z m (go w′ (wide-entries (r .up) lo)) us)
@@ -67,7 +66,7 @@ pub record Raised (z : TreeSizes) (m : ClientWord → ℕ) (x u : List ℕ) (l :
   pub noted : Noted m u′
 
 -- The last level. `plan` is what it does after the writes w.
-pub record Closed (z : TreeSizes) (m : ClientWord → ℕ) (x u : List ℕ) (plan : Writes → Plan) (s : Stop) (x′ u′ : List ℕ) : Type 0 where
+pub record Closed (z : TreeSizes) (m : ClientWord → ℕ) (x u : List ℕ) (plan : Writes → TreePlan) (s : Stop) (x′ u′ : List ℕ) : Type 0 where
   pub more : Writes
   pub same : (w : Writes) → Holds-writes z x w → walked z m (plan w) (used-in u) ≡ ended s (used-in u′) (more ++ w)
   pub holds : stands s ≡ true → (w : Writes) → Holds-writes z x w → Holds-writes z x′ (more ++ w)
@@ -96,11 +95,11 @@ pub record Full (l : ℕ) (n : Wide) : Type 0 where
   pub full : n .count ≡ 15
 
 -- "a non-root node of 15 keys"
-unfoldable pub split-plan : TreeSizes → ℕ → Turn → ℕ → (ℕ → Entries) → ℕ → List Branch → Writes → Go → Plan
+unfoldable pub split-plan : TreeSizes → ℕ → Turn → ℕ → (ℕ → Entries) → ℕ → List Branch → Writes → Go → TreePlan
 split-plan z l b c es lo fs w go = let f = in-parent b lo in split z go l w f c (es (f .key))
 
 -- "left with 6 keys"
-unfoldable pub neighbour-plan : Ans → ℕ → Turn → ℕ → (ℕ → Entries) → ℕ → List Branch → Writes → Go → Plan
+unfoldable pub neighbour-plan : Ans → ℕ → Turn → ℕ → (ℕ → Entries) → ℕ → List Branch → Writes → Go → TreePlan
 neighbour-plan a l b c es lo fs w go = let f = in-parent b lo in neighbour a l fs go w f c (es (f .key)) (f .post)
 
 -- ---- two nodes are written

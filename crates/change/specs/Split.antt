@@ -9,7 +9,7 @@ use Rattle.nodes.specs.Entries.{wide-entries}
 use Rattle.nodes.specs.Change.{put-in}
 use Rattle.operations.specs.Object.{node, flag, taken, Writes}
 use Rattle.operations.specs.Slot.{TreeSizes, take-for, take-node}
-use Rattle.operations.specs.Path.{Plan}
+use Rattle.operations.specs.Path.{TreePlan}
 use Rattle.operations.specs.Change.{split}
 use Rattle.walk.specs.declared.down.Turn.{Turn}
 use Rattle.change.specs.declared.rise.Risen.{Risen}
@@ -25,7 +25,7 @@ use Rattle.nodes.specs.Change as N
 
 -- ---- a slot for a half
 pub record HalfTaken (z : TreeSizes) (m : ClientWord → ℕ) (x u : List ℕ) (n : ℕ) (r : Taken) (x′ u′ : List ℕ) : Type 0 where
-  pub asks : (w : Writes) → Holds-writes z x w → (k : ℕ → Writes → Plan)
+  pub asks : (w : Writes) → Holds-writes z x w → (k : ℕ → Writes → TreePlan)
       → walked z m (take-for z n w (λ d w′. take-node w′ d (k d w′))) (used-in u) ≡ carry (r .stop) (used-in u′) (λ us. walked z m (k (r .name) ((flag (r .name), taken true) ∷ w)) us)
   pub mute : (w : Writes) → Holds-writes z x w → goes (r .stop) ≡ false → stands (r .stop) ≡ false
   pub holds : goes (r .stop) ≡ true → (w : Writes) → Holds-writes z x w → Holds-writes z x′ ((flag (r .name), taken true) ∷ w)

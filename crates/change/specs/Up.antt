@@ -7,17 +7,17 @@ use Rattle.nodes.specs.declared.change.Wide.{Wide}
 use Rattle.nodes.specs.Entries.{wide-entries}
 use Rattle.operations.specs.Object.{Ans, Writes}
 use Rattle.operations.specs.Slot.{TreeSizes}
-use Rattle.operations.specs.Path.{Plan}
+use Rattle.operations.specs.Path.{TreePlan}
 use Rattle.operations.specs.Change.{up}
 use Rattle.walk.specs.declared.down.Turn.{Turn}
 use Rattle.walk.specs.Down.{low, branches, trail, All, Linked}
 use Rattle.change.specs.Rise.{Content}
 
 -- the plan from the level l on: the inner nodes of the path above it, and the new content of the node of that level
-abbrev pub from-level : TreeSizes → Ans → ℕ → List Turn → ℕ → Writes → ℕ → Wide → Plan
+abbrev pub from-level : TreeSizes → Ans → ℕ → List Turn → ℕ → Writes → ℕ → Wide → TreePlan
 from-level z a top path l w c n = let bs = trail path l (top - l) in up z a l (branches bs) w c (wide-entries n (low bs))
 
-unfoldable pub rise-plan : TreeSizes → Ans → ℕ → List Turn → ℕ → Wide → Plan
+unfoldable pub rise-plan : TreeSizes → Ans → ℕ → List Turn → ℕ → Wide → TreePlan
 rise-plan z a top path c n = from-level z a top path 0 [] c n
 
 -- a leaf's new content, and the path to it

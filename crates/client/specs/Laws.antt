@@ -1,30 +1,26 @@
 -- Laws and proofs, in reading order.
 
--- DEFINITIONS
--- the part's layout; nodes in words; objects as numbers and their records
+-- the part's layout; where its words lie; nodes in words; records of objects
 pub mod Layout
 pub mod Words
 pub mod Record
--- the read set, the write set, the copies; a step of the part as a list of stores
 pub mod Part
--- vectors as this client sees them; what it has of an object; a plan worked on, with the limit of 96
+-- items found by their number; steps of the part, one after another
+pub mod Find
+pub mod Steps
+-- vectors; what is at hand of an object; the lent lists, and a lookup over them
 pub mod Vectors
 pub mod Have
--- the lists that a walk is lent: own writes, copies in use; a lookup over them
 pub mod Lent
 pub mod Look
--- objects enter the sets; copies kept and dropped; what is fetched
+-- the ways out of the code: objects enter the sets, copies, items, a commit, refusal 10, renewal
 pub mod Enter
 pub mod Copies
--- a transaction's life; tests of its sets; refusal 10; renewal of copies
+pub mod Items
 pub mod Commit
 pub mod Fits
 pub mod Renew
--- what a transaction has read and written, tests of all items; participants; the course of a commit
-pub mod Items
+-- every step stores within the part
+pub mod GoodSteps
 -- the definitions tried on closed examples
 pub mod Samples
--- LAWS, a file for each subject
-pub mod Find
-pub mod Steps
-pub mod GoodSteps

@@ -76,26 +76,31 @@ meta-root = field 13
 abbrev pub meta-version : ClientWord
 meta-version = field 14
 
--- where runs of fields begin: the waiting operation's; those that are 0 for a new transaction; those of the metadata's copy
+-- where runs of fields begin: the waiting operation's
 abbrev pub op-fields : ℕ
 op-fields = 1
 
+-- those that are 0 for a new transaction
 abbrev pub course-fields : ℕ
 course-fields = 5
 
+-- those of the metadata's copy
 abbrev pub meta-fields : ℕ
 meta-fields = 12
 
--- the phases
+-- the phases: "begin needs no transaction"
 abbrev pub no-transaction : ℕ
 no-transaction = 0
 
+-- begun, and not yet committing
 abbrev pub open-phase : ℕ
 open-phase = 1
 
+-- "after commit"
 abbrev pub commit-phase : ℕ
 commit-phase = 2
 
+-- "after the decision"
 abbrev pub decided-phase : ℕ
 decided-phase = 3
 

@@ -1,6 +1,5 @@
 -- One client's part of the memory, and what a client does between two messages, in reading order.
 
--- DEFINITIONS
 -- the part's layout; nodes in words; objects as numbers and their records
 pub mod Layout
 pub mod Record
@@ -11,7 +10,7 @@ pub mod Part
 pub mod Vectors
 pub mod Have
 pub mod Run
--- the lists that a walk is lent: own writes, copies in use; a lookup over them
+-- the lists that a walk is lent: own writes, copies in use
 pub mod Lent
 -- objects enter the sets; copies kept and dropped; what is fetched
 pub mod Enter

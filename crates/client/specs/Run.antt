@@ -6,7 +6,7 @@ use Prim.Native.Nat.{ℕ}
 use lib.Dec.{eqb, ltb}
 use lib.ListN.{length}
 use Rattle.operations.specs.Object.{Ask, object, vector, fetched, Val, reason, Ans, Writes}
-use Rattle.operations.specs.Path.{Plan}
+use Rattle.operations.specs.Path.{TreePlan}
 use Rattle.client.specs.Record.{number}
 use Rattle.plans.specs.Plan as P
 
@@ -32,7 +32,7 @@ among x (y ∷ l) = eqb y x || among x l
 
 -- Object 97 from the copies: "at one object .. the lower first". What speaks against its use at once comes before reason 4, and
 -- then the object counts as read; else it is not read.
-abbrev pub judged : Plan → ℕ → List ℕ → Ran
+abbrev pub judged : TreePlan → ℕ → List ℕ → Ran
 judged (P.ask a k) x us = ran (aborts 4) us
 judged (P.done r) x us = ran (aborts 4) us
 judged (P.fail y) x us = ran (aborts (reason y)) (us ++ (x ∷ []))
@@ -40,7 +40,7 @@ judged (P.fail y) x us = ran (aborts (reason y)) (us ++ (x ∷ []))
 -- `have`: what is at hand; `new`: an object's number that neither set has; `room`: how many more may be read
 module _ (have : Ask → Option Val) (new : ℕ → Bool) (room : ℕ) where
   -- the plan walked over what the client has; us came into use before
-  unfoldable pub run : Plan → List ℕ → Ran
+  unfoldable pub run : TreePlan → List ℕ → Ran
   run (P.ask (object o) k) us = elim (have (object o)) [
     | none ↦ ran (lacks (object o)) us
     | some v ↦ cond (new (number o))

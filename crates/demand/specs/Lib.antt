@@ -1,6 +1,5 @@
 -- Demand 3: a list of steps, what it shows of transactions, and that one sorted map explains it.
 
--- WHAT IS SAID
 -- what steps and outcomes show of transactions, and the map
 pub mod Ledger
 -- DEMAND 3, the statement

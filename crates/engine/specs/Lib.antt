@@ -1,8 +1,8 @@
--- Opening a store, its work step, and one step on any memory lent: definitions and laws of the code.
+-- Opening a store, its work step, and one step on any memory lent.
 
 -- a new store
 pub mod Open
--- the work step: copies in use are of objects of the store; how it ends
+-- how the work step ends
 pub mod Work
 -- one step on any memory lent
 pub mod Step

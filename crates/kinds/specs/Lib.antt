@@ -1,4 +1,4 @@
--- Laws for the code's ways out, a file for each file of src.
+-- What the code of the kinds is held to, a file for each file of src: the rules of `steps`, as they are worked out item by item.
 
 -- the whole memory and its parts lent on; refusals 1 to 9
 pub mod Parts

@@ -1,6 +1,5 @@
 -- Laws and proofs, in reading order.
 
--- What every layout of words needs once, in reading order.
 -- nested blocks of words that cannot overlap
 pub mod Block
 -- addresses with places in a block; memory as a function of addresses; records
@@ -9,7 +8,5 @@ pub mod Space
 pub mod Step
 -- a part within the whole
 pub mod Part
--- the whole: a head, and the parts of servers and clients
-pub mod Whole
 -- a loop of steps
 pub mod Sweep

@@ -1,19 +1,23 @@
 -- Laws and proofs, in reading order.
 
--- Nodes, their names and places, and the vectors of taken flags.
+-- lists and arrays; a place that was found
 pub mod Lists
 pub mod Found
+-- the bits of words, and the search for a free slot
 pub mod Bits
 pub mod Search
+-- a node's lists, the place of a key, what the functions build, nodes as words, ranges
 pub mod Node
 pub mod Find
 pub mod Built
 pub mod Stored
 pub mod Range
+-- what each change leaves of the entries, and of the order of keys
 pub mod Entries
 pub mod Kept
 pub mod Rising
 pub mod Ordered
+-- the placement table, by one test that is computed; the starred cases
 pub mod Small
 pub mod Placed
 pub mod Cases

@@ -1,19 +1,28 @@
--- Nodes, their names and places, and the vectors of taken flags.
+-- Nodes, their names and places, and the vectors of taken flags, in reading order.
+
+-- lists with an element put in or taken out; a place that was found
 pub mod Lists
 pub mod Found
+-- "A node name is server times 1,024 plus slot"; the table of rows by which new nodes are placed
 pub mod Name
 pub mod Placement
+pub mod Placed
+-- vectors of taken flags as words, and as lists of flags
 pub mod Vector
 pub mod Flags
+-- the place of a key; a node and its lists; where a key is
 pub mod Place
 pub mod Node
 pub mod Find
+-- put in, take out, split, move over, merge
 pub mod Change
+-- a node as 33 words; its ranges
 pub mod Stored
 pub mod Range
+-- a node's entries; nodes that are whole
 pub mod Entries
 pub mod Kept
-pub mod Placed
+-- the starred cases
 pub mod Cases
 -- laws and proofs
 pub mod Laws

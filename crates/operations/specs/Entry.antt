@@ -33,6 +33,10 @@ abbrev pub node-value : ℕ → Entries → Val
 node-value zero es = body 1 0 (keys es) (vals es)
 node-value (suc l) es = body 2 (suc l) (keys (tail es)) (vals es)
 
+abbrev pub kind : ℕ → ℕ
+kind zero = 1
+kind (suc l) = 2
+
 -- the fewest and the most entries of a node other than the root: 7 to 14 keys, and in an inner node one child more
 abbrev pub fewest-entries : ℕ → ℕ
 fewest-entries zero = 7

@@ -1,6 +1,5 @@
 -- Laws and proofs, in reading order.
 
--- DEFINITIONS, in this order
 -- objects, what a plan asks for, values, reasons, writes
 pub mod Object
 -- the sorted map, the six operations on it, their answers

@@ -1,6 +1,5 @@
 -- Operations as plans, and what they do on a snapshot that holds a B-tree of a map.
 
--- DEFINITIONS, in this order
 -- objects, what a plan asks for, values, reasons, writes
 pub mod Object
 -- the sorted map, the six operations on it, their answers
@@ -25,16 +24,9 @@ pub mod Examples
 pub mod Chain
 -- what it means that a snapshot holds a B-tree of a map
 pub mod Tree
--- THEOREMS
--- the map's answer and a tree of the next map; no reason 3; a new store
-pub mod Sound
--- the map is a function of the snapshot
+-- the tree's pairs, read off a snapshot
 pub mod Reading
--- the plans' steps on entries are these on keys and slots
-pub mod Arrays
--- what a plan ensures on a snapshot, whatever the vectors say
-pub mod Ensures
--- the way down on a held tree
-pub mod Slots
+-- THE THEOREMS, stated: the map's answer and a tree of the next map; no reason 3; a new store
+pub mod Sound
 -- laws and proofs
 pub mod Laws

@@ -119,3 +119,7 @@ over (e ∷ w) M = with-value (e .0) (e .1) (over w M)
 abbrev pub written-value : Writes → Obj → Val
 written-value [] o = root 0
 written-value (e ∷ w) o = cond (hit (e .0) o) (e .1) (written-value w o)
+
+-- a snapshot's objects
+abbrev pub objects : (Ask → Val) → Obj → Val
+objects S o = S (object o)

@@ -7,7 +7,7 @@ use Rattle.base.specs.Test.{yes?}
 use Rattle.nodes.specs.Find.{rises}
 use Rattle.operations.specs.Object.{Val, keys-of, level-of, no-tree, Ans, Writes, written-value}
 use Rattle.operations.specs.Map.{two-to-64, Op, insert, lookup, delete, next, previous, migrate}
-use Rattle.operations.specs.Path.{Plan}
+use Rattle.operations.specs.Path.{TreePlan}
 use Rattle.operations.specs.Slot.{TreeSizes}
 use Rattle.operations.specs.Look.{lookup-plan, next-plan, previous-plan}
 use Rattle.operations.specs.Change.{insert-plan, delete-plan}
@@ -24,14 +24,14 @@ all-fit? all [] = true
 all-fit? all (e ∷ w) = fits? (written-value all (e .0)) && all-fit? all w
 
 -- once all is read, what would be written is looked at
-abbrev pub check : Ans × Writes → Plan
+abbrev pub check : Ans × Writes → TreePlan
 check r = cond (all-fit? (r .1) (r .1)) (P.done r) (P.fail no-tree)
 
-abbrev pub checked : Plan → Plan
+abbrev pub checked : TreePlan → TreePlan
 checked p = P.bind p check
 
 -- what an operation reads and would write
-abbrev pub reading : TreeSizes → Op → Plan
+abbrev pub reading : TreeSizes → Op → TreePlan
 reading sz (insert k v) = insert-plan sz k v
 reading sz (lookup k) = lookup-plan k
 reading sz (delete k) = delete-plan sz k
@@ -39,7 +39,7 @@ reading sz (next k) = next-plan k
 reading sz (previous k) = previous-plan k
 reading sz (migrate n s) = migrate-plan sz n s
 
-abbrev pub plan : TreeSizes → Op → Plan
+abbrev pub plan : TreeSizes → Op → TreePlan
 plan sz op = checked (reading sz op)
 
 -- what a step with this operation is not refused for: the key is a 64-bit number, the server is in the store

@@ -1,14 +1,15 @@
 -- What it means that a snapshot holds a B-tree of a map.
 use mathlib.Core.Path.{_≡_}
-use mathlib.Core.Bool.{true, false}
+use mathlib.Core.Bool.{true, false, Bool}
 use mathlib.Core.List.{List, [], _∷_}
 use mathlib.Core.Logic.{_⊎_}
 use Prim.Native.Nat.{ℕ, zero, suc, _+_, _<_, _≤_}
-use lib.ListN.{length}
-use Rattle.operations.specs.Object.{Obj, meta, node, flag, Val, root, taken, free}
+use lib.ListN.{length, getD}
+use Rattle.operations.specs.Object.{Obj, meta, node, flag, Val, root, taken, free, is-taken}
 use Rattle.operations.specs.Map.{Map, two-to-64}
 use Rattle.operations.specs.Entry.{node-value, fewest-entries, most-entries, first-key-or}
 use Rattle.operations.specs.Chain.{one, Chain, tally, gather, ren}
+use Rattle.nodes.specs.Name.{name}
 
 -- names are below this: 8 servers with 1,024 slots
 unfoldable pub room : ℕ
@@ -85,3 +86,7 @@ pub record Holds-tree (M : Obj → Val) (m : Map) : Type 0 where
   pub inside : (x : ℕ) → room ≤ x → M (flag x) ≡ taken false
   -- the map is the leaves' pairs, left to right
   pub pairs-are : gather (pairs level) ents ≡ m
+
+-- VECTORS THAT SHOW THE FLAGS of a snapshot
+abbrev pub True-of : (Obj → Val) → ℕ → List Bool → Type 0
+True-of U s fs = (i : ℕ) → i < 1024 → i < length fs → getD fs i true ≡ is-taken (U (flag (name s i)))

@@ -1,9 +1,8 @@
 -- Laws and proofs, in reading order.
 
--- WHAT IS SAID
 -- a store in which everything is in range and what is pointed to is there
 pub mod Sound
--- WHY IT HOLDS
+-- tests of all elements of a list
 pub mod Lists
 -- what servers store, and a new store; what is written at an apply; what checks read
 pub mod Servers

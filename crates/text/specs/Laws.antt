@@ -1,10 +1,10 @@
 -- Laws and proofs, in reading order.
 
--- Lines of text. Definitions: what a line says, how it is read byte by byte, and what is printed.
+-- lines read and printed, tried on closed examples
 pub mod Line
 pub mod Print
--- The theorem that a line read byte by byte is read as it says (`reads`).
+-- the theorem that a line read byte by byte is read as it says (`reads`)
 pub mod Reads
--- Laws that the code's proofs cite.
+-- the ways out of the code
 pub mod Exits
 pub mod Printing

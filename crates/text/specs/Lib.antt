@@ -1,4 +1,4 @@
--- Lines of text. Definitions: what a line says, how it is read byte by byte, and what is printed.
+-- Lines of text: what a line says, how it is read byte by byte, and what is printed.
 pub mod Line
 pub mod Reader
 pub mod Print

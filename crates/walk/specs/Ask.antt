@@ -11,7 +11,7 @@ use Rattle.nodes.specs.declared.found.Found.the-variants.{At, Absent}
 use Rattle.nodes.specs.Node.{free-node}
 use Rattle.operations.specs.Object.{Obj, meta, node, flag, object, Val, Writes, hit}
 use Rattle.operations.specs.Slot.{TreeSizes}
-use Rattle.operations.specs.Path.{Plan, see}
+use Rattle.operations.specs.Path.{TreePlan, see}
 use Rattle.client.specs.declared.answer.How.{How}
 use Rattle.walk.specs.declared.walk.Asked.{Asked}
 use Rattle.walk.specs.declared.walk.Stop.{Stop}
@@ -79,7 +79,7 @@ pub record Noted (m : ClientWord → ℕ) (u : List ℕ) : Type 0 where
 -- ---- what a question comes to
 -- for every way on, the walk of the plan is what was told, or goes on with the record's value
 pub record Asks (z : TreeSizes) (m : ClientWord → ℕ) (w : Writes) (o : Obj) (u : List ℕ) (s : Stop) (r : Node) (u′ : List ℕ) : Type 0 where
-  pub same : (k : Val → Plan) → walked z m (see w o k) (used-in u) ≡ carry s (used-in u′) (λ us. walked z m (k (value-of o r)) us)
+  pub same : (k : Val → TreePlan) → walked z m (see w o k) (used-in u) ≡ carry s (used-in u′) (λ us. walked z m (k (value-of o r)) us)
 
 -- an object that is in the store, by its number; l says what is lacking
 pub record Numbered (z : TreeSizes) (m : ClientWord → ℕ) (x u : List ℕ) (n : ℕ) (l s : Stop) (r : Node) (u′ : List ℕ) : Type 0 where

@@ -11,7 +11,7 @@ use Rattle.nodes.specs.Kept.{Whole}
 use Rattle.operations.specs.Object.{meta, node, object, Writes}
 use Rattle.operations.specs.Slot.{TreeSizes}
 use Rattle.operations.specs.Entry.{Entries}
-use Rattle.operations.specs.Path.{Plan, kid, when-root, at-root, Branch, Cont, down, from-root}
+use Rattle.operations.specs.Path.{TreePlan, kid, when-root, at-root, Branch, Cont, down, from-root}
 use Rattle.walk.specs.declared.down.Turn.{Turn}
 use Rattle.walk.specs.declared.down.Descent.{Descent}
 use Rattle.walk.specs.declared.down.Lower.{Lower}
@@ -28,7 +28,7 @@ use Rattle.plans.specs.Plan as P
 
 -- a node of level l below the root, for any key lo from which it holds keys
 pub record Kid (z : TreeSizes) (m : ClientWord → ℕ) (x u : List ℕ) (l n : ℕ) (s : Stop) (r : Node) (u′ : List ℕ) : Type 0 where
-  pub asks : (w : Writes) → Holds-writes z x w → (lo : ℕ) (k : Entries → Plan)
+  pub asks : (w : Writes) → Holds-writes z x w → (lo : ℕ) (k : Entries → TreePlan)
       → walked z m (kid w l lo n k) (used-in u) ≡ carry s (used-in u′) (λ us. walked z m (k (entriesOf r lo)) us)
   pub noted : Noted m u′
   pub small : SmallNode r
@@ -39,7 +39,7 @@ pub record Kid (z : TreeSizes) (m : ClientWord → ℕ) (x u : List ℕ) (l n : 
 
 -- the root of that name
 pub record RootMet (z : TreeSizes) (m : ClientWord → ℕ) (u : List ℕ) (n : ℕ) (s : Stop) (r : Node) (u′ : List ℕ) : Type 0 where
-  pub asks : (k : ℕ → Entries → Plan)
+  pub asks : (k : ℕ → Entries → TreePlan)
       → walked z m (at-root n k) (used-in u) ≡ carry s (used-in u′) (λ us. walked z m (k (r .level) (entriesOf r 0)) us)
   pub noted : Noted m u′
   pub small : SmallNode r
@@ -152,7 +152,7 @@ pub record Led (z : TreeSizes) (m : ClientWord → ℕ) (u : List ℕ) (key targ
 
 -- ---- from the metadata on
 pub record AtRoot (z : TreeSizes) (m : ClientWord → ℕ) (u : List ℕ) (r : Rooted) (u′ : List ℕ) : Type 0 where
-  pub asks : (k : ℕ → ℕ → Entries → Plan)
+  pub asks : (k : ℕ → ℕ → Entries → TreePlan)
       → walked z m (P.ask (object meta) (λ v. when-root v (λ q. at-root q (k q)))) (used-in u)
       ≡ carry (r .stop) (used-in u′) (λ us. walked z m (k (r .name) (r .node .level) (entriesOf (r .node) 0)) us)
   pub noted : Noted m u′
@@ -161,7 +161,7 @@ pub record AtRoot (z : TreeSizes) (m : ClientWord → ℕ) (u : List ℕ) (r : R
 
 -- down to the leaf for a key
 pub record Descends (z : TreeSizes) (m : ClientWord → ℕ) (u : List ℕ) (key : ℕ) (d : Descent) (u′ : List ℕ) : Type 0 where
-  pub asks : (k : List Branch → ℕ → Entries → Plan)
+  pub asks : (k : List Branch → ℕ → Entries → TreePlan)
       → walked z m (from-root key k) (used-in u)
       ≡ carry (d .stop) (used-in u′) (λ us. walked z m (k (branches (trail (d .path) 0 (d .top - 0))) (d .name) (entriesOf (d .node) (low (trail (d .path) 0 (d .top - 0))))) us)
   pub noted : Noted m u′

@@ -9,7 +9,7 @@ use Rattle.nodes.specs.Find.{key-index}
 use Rattle.nodes.specs.Node.{keysOf}
 use Rattle.operations.specs.Object.{Writes}
 use Rattle.operations.specs.Slot.{TreeSizes}
-use Rattle.operations.specs.Path.{Plan}
+use Rattle.operations.specs.Path.{TreePlan}
 use Rattle.walk.specs.declared.lookup.Pair.{Pair}
 use Rattle.walk.specs.declared.walk.Stop.{Stop}
 use Rattle.walk.specs.declared.walk.Stop.the-variants.{Going, LacksMeta, LacksNode, LacksVector, Refused, Aborts, Answers}
@@ -38,7 +38,7 @@ pub record Ends (m : ClientWord → ℕ) (u : List ℕ) (a b : ℕ) (s : Stop) (
   pub noted : Noted m u′
 
 -- a plan that writes nothing, walked to its end
-pub record Walks (z : TreeSizes) (m : ClientWord → ℕ) (u : List ℕ) (p : Plan) (s : Stop) (u′ : List ℕ) : Type 0 where
+pub record Walks (z : TreeSizes) (m : ClientWord → ℕ) (u : List ℕ) (p : TreePlan) (s : Stop) (u′ : List ℕ) : Type 0 where
   pub same : walked z m p (used-in u) ≡ told s (used-in u′)
   pub noted : Noted m u′
 

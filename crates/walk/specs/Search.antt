@@ -10,7 +10,7 @@ use Rattle.nodes.specs.Name.{name, server-of, slot-of}
 use Rattle.nodes.specs.Placement.{row}
 use Rattle.operations.specs.Object.{flag, taken, Writes}
 use Rattle.operations.specs.Slot.{TreeSizes, chosen, search, present, take-on}
-use Rattle.operations.specs.Path.{Plan}
+use Rattle.operations.specs.Path.{TreePlan}
 use Rattle.walk.specs.declared.search.Taken.{Taken}
 use Rattle.walk.specs.declared.walk.Stop.{Stop}
 use Rattle.client.specs.Layout.{ClientWord}
@@ -23,7 +23,7 @@ use Rattle.walk.specs.Vector.{slot-in}
 -- ---- the statements
 -- a look at the next server of a row, where "absent servers are skipped"
 pub record LookedInRow (z : TreeSizes) (m : ClientWord → ℕ) (x u : List ℕ) (s slot : ℕ) (t : Stop) (f : Found) (u′ : List ℕ) : Type 0 where
-  pub asks : (w : Writes) → Holds-writes z x w → (ss : List ℕ) (k : ℕ → Plan)
+  pub asks : (w : Writes) → Holds-writes z x w → (ss : List ℕ) (k : ℕ → TreePlan)
       → walked z m (search z w slot (present (z .servers) (s ∷ ss)) k) (used-in u)
       ≡ carry t (used-in u′) (λ us. walked z m (chosen s (slot-in f) k (search z w slot (present (z .servers) ss) k)) us)
   pub near : Inside f 1024
@@ -32,13 +32,13 @@ pub record LookedInRow (z : TreeSizes) (m : ClientWord → ℕ) (x u : List ℕ)
 
 -- the slot above a slot number that is found on the servers ss
 pub record Sought (z : TreeSizes) (m : ClientWord → ℕ) (x u ss : List ℕ) (slot : ℕ) (r : Taken) (u′ : List ℕ) : Type 0 where
-  pub asks : (w : Writes) → Holds-writes z x w → (k : ℕ → Plan) → walked z m (search z w slot ss k) (used-in u) ≡ carry (r .stop) (used-in u′) (λ us. walked z m (k (r .name)) us)
+  pub asks : (w : Writes) → Holds-writes z x w → (k : ℕ → TreePlan) → walked z m (search z w slot ss k) (used-in u) ≡ carry (r .stop) (used-in u′) (λ us. walked z m (k (r .name)) us)
   pub noted : Noted m u′
   pub long : length u′ ≡ length u
 
 -- and its flag is taken
 pub record TakenOn (z : TreeSizes) (m : ClientWord → ℕ) (x u ss : List ℕ) (slot : ℕ) (r : Taken) (x′ u′ : List ℕ) : Type 0 where
-  pub asks : (w : Writes) → Holds-writes z x w → (k : ℕ → Writes → Plan)
+  pub asks : (w : Writes) → Holds-writes z x w → (k : ℕ → Writes → TreePlan)
       → walked z m (take-on z ss slot w k) (used-in u) ≡ carry (r .stop) (used-in u′) (λ us. walked z m (k (r .name) ((flag (r .name), taken true) ∷ w)) us)
   pub holds : goes (r .stop) ≡ true → (w : Writes) → Holds-writes z x w → Holds-writes z x′ ((flag (r .name), taken true) ∷ w)
   pub good : goes (r .stop) ≡ true → OwnGood x′

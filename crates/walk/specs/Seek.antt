@@ -13,7 +13,7 @@ use Rattle.nodes.specs.Entries.{entriesOf}
 use Rattle.nodes.specs.Kept.{Whole}
 use Rattle.operations.specs.Slot.{TreeSizes}
 use Rattle.operations.specs.Entry.{Entries, next-in, previous-in, under, before}
-use Rattle.operations.specs.Path.{Plan, Branch}
+use Rattle.operations.specs.Path.{TreePlan, Branch}
 use Rattle.operations.specs.Look.{told, Visit, rightward, leftward, seek, nearest}
 use Rattle.walk.specs.declared.down.Turn.{Turn}
 use Rattle.walk.specs.declared.walk.Stop.{Stop}
@@ -45,7 +45,7 @@ nearest-in true = next-in
 nearest-in false = previous-in
 
 -- the plan of next or previous
-abbrev pub near-plan : Bool → ℕ → Plan
+abbrev pub near-plan : Bool → ℕ → TreePlan
 near-plan right key = nearest (nearest-in right) (visit right) (side right) key
 
 -- the leaf's key, by the code
@@ -79,7 +79,7 @@ rest true i es = drop (suc i) es
 rest false i es = take i es
 
 -- up from a level: the leaves below the entries left there, then those left further up
-unfoldable pub climb : (Entries → Option ℕ) → Bool → ℕ → List Entries → Plan
+unfoldable pub climb : (Entries → Option ℕ) → Bool → ℕ → List Entries → TreePlan
 climb g right l [] = P.done ((0, 0), [])
 climb g right l (es ∷ ess) = visit right (seek g (visit right) l) es (climb g right (suc l) ess)
 
@@ -95,7 +95,7 @@ pub record Stacked (top : ℕ) (path : List Turn) (level : ℕ) : Type 0 where
   pub good : All (trail path level (top - level))
 
 -- the plan that goes on at a child of that level
-abbrev pub onto : (Entries → Option ℕ) → Bool → ℕ → List Turn → ℕ → ℕ → ℕ → (ℕ → ℕ) → Plan
+abbrev pub onto : (Entries → Option ℕ) → Bool → ℕ → List Turn → ℕ → ℕ → ℕ → (ℕ → ℕ) → TreePlan
 onto g right top path level name lo lows = seek g (visit right) level lo name (climb g right level (rests right (trail path level (top - level)) lows))
 
 -- ---- how much is left to read: 16 to the level for each node of a level
@@ -139,7 +139,7 @@ pub record Standing (n : Node) (level top : ℕ) : Type 0 where
   pub below : level < top
 
 -- what a plan does with its entries
-unfoldable pub read-on : (Entries → Option ℕ) → Bool → ℕ → Entries → Plan → Plan
+unfoldable pub read-on : (Entries → Option ℕ) → Bool → ℕ → Entries → TreePlan → TreePlan
 read-on g right zero es p = told (g es) p
 read-on g right (suc l) es p = visit right (seek g (visit right) l) es p
 
@@ -158,7 +158,7 @@ pub record Advanced (right : Bool) (key top : ℕ) (path : List Turn) (level : �
   pub lighter : a .state ≡ Next → weight right top (a .path) (a .level) < weight right top path level
 
 -- ---- a child read, and where it leads
-abbrev pub afterwards : Bool → ℕ → ℕ → List Turn → ℕ → Node → ℕ → (ℕ → ℕ) → Plan
+abbrev pub afterwards : Bool → ℕ → ℕ → List Turn → ℕ → Node → ℕ → (ℕ → ℕ) → TreePlan
 afterwards right key top path level n j f =
     read-on (nearest-in right key) right level (entriesOf n j) (climb (nearest-in right key) right level (rests right (trail path level (top - level)) f))
 

@@ -10,7 +10,7 @@ use Rattle.nodes.specs.declared.found.Found.the-variants.{At, Absent}
 use Rattle.nodes.specs.Found.{Inside}
 use Rattle.operations.specs.Object.{vector, fetched, Val, flags, Writes}
 use Rattle.operations.specs.Slot.{TreeSizes, chosen, search}
-use Rattle.operations.specs.Path.{Plan}
+use Rattle.operations.specs.Path.{TreePlan}
 use Rattle.walk.specs.declared.walk.Stop.{Stop}
 use Rattle.walk.specs.declared.walk.Stop.the-variants.{Going, LacksVector}
 use Rattle.client.specs.Layout.{ClientWord}
@@ -29,9 +29,9 @@ seen-vector z m s = flags (N.flags-in (z .slots) (seen-words m s))
 
 -- the question for it, and once it is there the one for a vector that this transaction fetched; n servers
 pub record VectorAsked (m : ClientWord → ℕ) (n : ℕ) (u : List ℕ) (s : ℕ) (t : Stop) (u′ : List ℕ) : Type 0 where
-  pub asks : (slots : ℕ) (k : Val → Plan)
+  pub asks : (slots : ℕ) (k : Val → TreePlan)
       → walked (sizes n slots) m (P.ask (vector s) k) (used-in u) ≡ carry t (used-in u′) (λ us. walked (sizes n slots) m (k (seen-vector (sizes n slots) m s)) us)
-  pub again : goes t ≡ true → (slots : ℕ) (k : Val → Plan)
+  pub again : goes t ≡ true → (slots : ℕ) (k : Val → TreePlan)
       → walked (sizes n slots) m (P.ask (fetched s) k) (used-in u′)
       ≡ cond (is-fetched m s) (walked (sizes n slots) m (k (seen-vector (sizes n slots) m s)) (used-in u′)) (told (LacksVector s) (used-in u′))
   pub there : goes t ≡ true → s < n
@@ -48,7 +48,7 @@ slot-in Absent = none
 
 -- a look at the server s, the next of those that are looked at: the search goes on with the slot, or with the others
 pub record Looked (z : TreeSizes) (m : ClientWord → ℕ) (x u : List ℕ) (s slot : ℕ) (t : Stop) (f : Found) (u′ : List ℕ) : Type 0 where
-  pub asks : (w : Writes) → Holds-writes z x w → (ss : List ℕ) (k : ℕ → Plan)
+  pub asks : (w : Writes) → Holds-writes z x w → (ss : List ℕ) (k : ℕ → TreePlan)
       → walked z m (search z w slot (s ∷ ss) k) (used-in u) ≡ carry t (used-in u′) (λ us. walked z m (chosen s (slot-in f) k (search z w slot ss k)) us)
   pub there : goes t ≡ true → s < z .servers
   pub near : Inside f 1024

@@ -7,7 +7,7 @@ use lib.ListN.{length, take}
 use Rattle.nodes.specs.Name.{server-of}
 use Rattle.operations.specs.Object.{meta, node, flag, Ask, object, vector, fetched, reason, Writes}
 use Rattle.operations.specs.Slot.{TreeSizes}
-use Rattle.operations.specs.Path.{Plan}
+use Rattle.operations.specs.Path.{TreePlan}
 use Rattle.walk.specs.declared.walk.Stop.{Stop}
 use Rattle.walk.specs.declared.walk.Stop.the-variants.{Going, LacksMeta, LacksNode, LacksVector, Refused, Aborts, Answers}
 use Rattle.client.specs.declared.part.Set.the-variants.{Reads}
@@ -56,7 +56,7 @@ lack (fetched s) = LacksVector s
 
 -- Object 97 from the copies is entered as the others are. The next question, or the answer, finds that it is one too many; a
 -- failure at once leaves it among what was read.
-abbrev pub over-run : Plan → List ℕ → Ran
+abbrev pub over-run : TreePlan → List ℕ → Ran
 over-run (P.ask a k) us = ran (aborts 4) (take (length us - 1) us)
 over-run (P.done r) us = ran (aborts 4) (take (length us - 1) us)
 over-run (P.fail y) us = ran (aborts (reason y)) us
@@ -73,7 +73,7 @@ module _ (m : ClientWord → ℕ) where
   over us = ltb 96 (count m Reads + length us)
 
 module _ (z : TreeSizes) (m : ClientWord → ℕ) where
-  unfoldable pub worked : Plan → List ℕ → Ran
+  unfoldable pub worked : TreePlan → List ℕ → Ran
   worked p us = cond (over m us) (over-run p us) (run (have z m) (fresh m) (room m) p us)
 
   abbrev pub tell : End → List ℕ → Told
@@ -81,7 +81,7 @@ module _ (z : TreeSizes) (m : ClientWord → ℕ) where
   tell (aborts r) us = told (Aborts r) us
   tell (gives a w) us = record { stop = Answers (a .0) (a .1); used = us; writes = w }
 
-  unfoldable pub walked : Plan → List ℕ → Told
+  unfoldable pub walked : TreePlan → List ℕ → Told
   walked p us = tell (worked p us .how) (worked p us .used)
 
 -- with the copies us the walk has stopped, or goes on

@@ -16,7 +16,7 @@ use Rattle.nodes.specs.Lists.{remove-at}
 use Rattle.nodes.specs.Node.{pair-at}
 use Rattle.operations.specs.Object.{no-tree, Ans, Writes}
 use Rattle.operations.specs.Entry.{Entries}
-use Rattle.operations.specs.Path.{Plan, kid, Branch}
+use Rattle.operations.specs.Path.{TreePlan, kid, Branch}
 use Rattle.operations.specs.Change.{Go, with-one, with-two, unsnoc, with-right, with-left, neighbour}
 use Rattle.walk.specs.Entries.{branch-of}
 use Rattle.change.specs.Beside.{pair-of, own-side, far-side, Paired, evened}
@@ -50,7 +50,7 @@ drop-all n E e = rw (← e) (drop-length E)
 
 module _ (a : Ans) (l : ℕ) (fs : List Branch) (go : Go) where
   module _ (w : Writes) (nm : ℕ) (E : Entries) (es : Entries) where
-    abbrev turning : ℕ → ℕ → Plan
+    abbrev turning : ℕ → ℕ → TreePlan
     turning i c = neighbour a l fs go w (branch-of nm i E) c es (branch-of nm i E .post)
 
     -- "a node is its own neighbour": an only child

@@ -14,7 +14,7 @@ use Rattle.nodes.specs.Entries.{wide-entries}
 use Rattle.operations.specs.Object.{node, flag, taken, Writes}
 use Rattle.operations.specs.Slot.{TreeSizes, take-for, take-node}
 use Rattle.operations.specs.Entry.{Entries, node-value, fewest-entries}
-use Rattle.operations.specs.Path.{Plan, Branch}
+use Rattle.operations.specs.Path.{TreePlan, Branch}
 use Rattle.operations.specs.Change.{with-two, parted}
 use Rattle.change.specs.declared.grow.Two.{Two}
 use Rattle.walk.specs.declared.search.Taken.{Taken}
@@ -100,7 +100,7 @@ module _ (z : TreeSizes) (m : ClientWord → ℕ) (x u : List ℕ) (c d : ℕ) (
 pub ruleset free-exits = (free-lacks, both-free, free-noted)
 
 module _ (z : TreeSizes) (m : ClientWord → ℕ) (x u : List ℕ) (n : ℕ) (t : Two) (x₁ u₁ : List ℕ) (q : TwoTaken z m x u n t x₁ u₁) (on : Bool) (po : on ≡ goes (t .stop)) where
-  asked : (w : Writes) → Holds-writes z x w → (k : ℕ → ℕ → Writes → Plan)
+  asked : (w : Writes) → Holds-writes z x w → (k : ℕ → ℕ → Writes → TreePlan)
       → walked z m (take-for z n w (λ c w₁. take-for z n w₁ (λ d w₂. take-node w₂ c (take-node w₂ d (k c d w₂))))) (used-in u)
       ≡ carry (t .stop) (used-in u₁) (λ us. walked z m (take-node (two-flags t w) (t .left) (take-node (two-flags t w) (t .right) (k (t .left) (t .right) (two-flags t w)))) us)
   asked w hold k = q .asks w hold (λ c d w₂. take-node w₂ c (take-node w₂ d (k c d w₂)))
@@ -179,14 +179,14 @@ root-value l r c sep d =
     rw (keys-made 2 (suc l) 0 (sep ∷ []) (c ∷ d ∷ []), slots-made 2 (suc l) 0 (sep ∷ []) (c ∷ d ∷ []) e)
 
 module _ (z : TreeSizes) (m : ClientWord → ℕ) (x u : List ℕ) (l r : ℕ) (n : Wide) (a b : ℕ) (t : Two) (x₁ u₁ : List ℕ) (q : HalvesTaken z m x u r t x₁ u₁) (on : Bool) (po : on ≡ goes (t .stop)) where
-  abbrev plan : Writes → Plan
+  abbrev plan : Writes → TreePlan
   plan = root-split z (a, b) l r (wide-entries n 0)
 
   -- the root is its own branch, with nothing round it
   abbrev alone : Branch
   alone = record { nm = r; key = 0; pre = []; post = [] }
 
-  abbrev answer : Writes → Entries → Plan
+  abbrev answer : Writes → Entries → TreePlan
   answer w es = P.done ((a, b), (node r, node-value (suc l) es) ∷ w)
 
   asked-root : (w : Writes) → Holds-writes z x w → walked z m (plan w) (used-in u)

@@ -26,7 +26,7 @@ use Rattle.nodes.specs.Laws.Kept.{made-whole, put-in-whole, put-in-entries, slo
 use Rattle.operations.specs.Map.{fresh}
 use Rattle.operations.specs.Slot.{TreeSizes}
 use Rattle.operations.specs.Entry.{Entries, keys, index, value-in, with-pair}
-use Rattle.operations.specs.Path.{Plan, Branch, from-root}
+use Rattle.operations.specs.Path.{TreePlan, Branch, from-root}
 use Rattle.operations.specs.Change.{up, insert-plan}
 use Rattle.walk.specs.declared.down.Descent.{Descent}
 use Rattle.change.specs.declared.insert.Paired.{Paired}
@@ -157,7 +157,7 @@ module _ (z : TreeSizes) (d : Descent) (t : Ended z d) where
 
 module _ (z : TreeSizes) (m : ClientWord → ℕ) (x u : List ℕ) (key : ℕ) (d : Descent) (u₁ : List ℕ) (h : Descends z m u key d u₁) (on : Bool) (po : on ≡ goes (d .stop)) where
   -- an operation that stops on the way has written nothing
-  pub change-stops : (k : List Branch → ℕ → Entries → Plan) → OwnGood x → not on ≡ true → Operated z m x u (from-root key k) (d .stop) x u₁
+  pub change-stops : (k : List Branch → ℕ → Entries → TreePlan) → OwnGood x → not on ≡ true → Operated z m x u (from-root key k) (d .stop) x u₁
   change-stops k g nb =
       let halts : goes (d .stop) ≡ false = sym po ∙ not-true on nb in
       record {
@@ -179,7 +179,7 @@ module _ (z : TreeSizes) (m : ClientWord → ℕ) (x u : List ℕ) (key : ℕ) (
     change-ended = record { high = h .high; reached = h .reached going; linked = h .linked going }
 
     -- what follows at the leaf
-    pub change-on : (k : List Branch → ℕ → Entries → Plan) (s : Stop) (x′ u′ : List ℕ)
+    pub change-on : (k : List Branch → ℕ → Entries → TreePlan) (s : Stop) (x′ u′ : List ℕ)
         → Operated z m x u₁ (k (branches (way d)) (d .name) (entriesOf (d .node) (low (way d)))) s x′ u′ → Operated z m x u (from-root key k) s x′ u′
     change-on k s x′ u′ q = record {
       writes = q .writes;

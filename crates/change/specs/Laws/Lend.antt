@@ -22,9 +22,8 @@ use Rattle.nodes.specs.Kept.{Whole}
 use Rattle.nodes.specs.Laws.Kept.{length-entriesOf, merged-entries, from-right-left, from-right-right, from-right-sep, from-left-left, from-left-right, from-left-sep}
 use Rattle.operations.specs.Object.{Ans, Writes}
 use Rattle.operations.specs.Slot.{release}
-use Rattle.operations.specs.Entry.{Entries, fewest-entries, first-key-or}
-use Rattle.operations.specs.Arrays.{kind}
-use Rattle.operations.specs.Path.{Plan, Branch}
+use Rattle.operations.specs.Entry.{Entries, fewest-entries, first-key-or, kind}
+use Rattle.operations.specs.Path.{TreePlan, Branch}
 use Rattle.operations.specs.Change.{Go, parted}
 use Rattle.change.specs.Rise.{OfLevel}
 use Rattle.change.specs.Laws.Parts.{extra-level, join-level, narrow-level, left-level, right-level}
@@ -72,7 +71,7 @@ nxt-first [] = refl
 nxt-first (e ∷ es) = refl
 
 -- "from 8 or more keys"
-plenty : (l : ℕ) (m : Node) (lo : ℕ) → OfLevel l m → (p q : Plan) → ifd (decLt (fewest-entries l) (length (entriesOf m lo))) p q ≡ cond (ltb 7 (m .count)) p q
+plenty : (l : ℕ) (m : Node) (lo : ℕ) → OfLevel l m → (p q : TreePlan) → ifd (decLt (fewest-entries l) (length (entriesOf m lo))) p q ≡ cond (ltb 7 (m .count)) p q
 plenty l m lo f p q = go (ltb 7 (m .count)) refl
   where
     len : length (entriesOf m lo) + 7 ≡ m .count + fewest-entries l

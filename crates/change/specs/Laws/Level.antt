@@ -17,9 +17,8 @@ use Rattle.nodes.specs.Change.{narrow, wide-keys, wide-slots}
 use Rattle.nodes.specs.Laws.Kept.{narrow-entries}
 use Rattle.operations.specs.Object.{node, Ans, Writes}
 use Rattle.operations.specs.Slot.{TreeSizes}
-use Rattle.operations.specs.Entry.{Entries, node-value, fewest-entries, most-entries}
-use Rattle.operations.specs.Arrays.{kind}
-use Rattle.operations.specs.Path.{Plan, Branch}
+use Rattle.operations.specs.Entry.{Entries, node-value, fewest-entries, most-entries, kind}
+use Rattle.operations.specs.Path.{TreePlan, Branch}
 use Rattle.operations.specs.Change.{Go, split-root, up}
 use Rattle.walk.specs.declared.down.Turn.{Turn}
 use Rattle.change.specs.declared.rise.Risen.{Risen}
@@ -91,7 +90,7 @@ ended-not z m r us us′ s w e = go (over m us) refl
     go false h = sym (ap (λ (t : Told). goes (t .stop)) (rw (walked, worked, h) at e))
 
 -- ---- below the root
-raised-as : (z : TreeSizes) (m : ClientWord → ℕ) (x u : List ℕ) (l : ℕ) (root : Bool) (p q : ℕ → List Branch → Writes → Go → Plan) (r : Risen) (x′ u′ : List ℕ)
+raised-as : (z : TreeSizes) (m : ClientWord → ℕ) (x u : List ℕ) (l : ℕ) (root : Bool) (p q : ℕ → List Branch → Writes → Go → TreePlan) (r : Risen) (x′ u′ : List ℕ)
     → ((lo : ℕ) (fs : List Branch) (w : Writes) (go : Go) → p lo fs w go ≡ q lo fs w go) → Raised z m x u l root q r x′ u′ → Raised z m x u l root p r x′ u′
 raised-as z m x u l root p q r x′ u′ e h = record {
   more = h .more;
@@ -105,7 +104,7 @@ raised-as z m x u l root p q r x′ u′ e h = record {
 }
 
 module _ (z : TreeSizes) (m : ClientWord → ℕ) (x u : List ℕ) (l : ℕ) (root : Bool) (t : Turn) (c : ℕ) (n : Wide) (a b : ℕ) (k : Content l n) where
-  abbrev whole-plan : ℕ → List Branch → Writes → Go → Plan
+  abbrev whole-plan : ℕ → List Branch → Writes → Go → TreePlan
   whole-plan = level-plan z (a, b) l t c (wide-entries n)
 
   -- which of the three plans it is

@@ -17,7 +17,7 @@ use Rattle.nodes.specs.Kept.{Whole}
 use Rattle.nodes.specs.Laws.Kept.{whole}
 use Rattle.operations.specs.Object.{meta, node, Val, body, no-tree}
 use Rattle.operations.specs.Slot.{TreeSizes}
-use Rattle.operations.specs.Path.{Plan}
+use Rattle.operations.specs.Path.{TreePlan}
 use Rattle.operations.specs.Migrate.{move-root, move-at, first-key, move-below, move-node, move-if, migrate-plan}
 use Rattle.walk.specs.declared.down.Descent.{Descent}
 use Rattle.walk.specs.declared.search.Taken.{Taken}
@@ -43,7 +43,7 @@ use Rattle.change.specs.Migrate.{named-plan}
 use Rattle.plans.specs.Plan as P
 
 -- a plan whose walk comes to that of another
-follows : (z : TreeSizes) (m : ClientWord → ℕ) (x u u₁ : List ℕ) (p q : Plan) (s : Stop) (x′ u′ : List ℕ) → (Holds-writes z x [] → walked z m p (used-in u) ≡ walked z m q (used-in u₁))
+follows : (z : TreeSizes) (m : ClientWord → ℕ) (x u u₁ : List ℕ) (p q : TreePlan) (s : Stop) (x′ u′ : List ℕ) → (Holds-writes z x [] → walked z m p (used-in u) ≡ walked z m q (used-in u₁))
     → Operated z m x u₁ q s x′ u′ → Operated z m x u p s x′ u′
 follows z m x u u₁ p q s x′ u′ e h = record { writes = h .writes; same = λ hold. e hold ∙ h .same hold; holds = h .holds; kept = h .kept; noted = h .noted }
 
@@ -111,7 +111,7 @@ move-used z top nm s (suc kind) level ks vs h = refl
 move-free : (z : TreeSizes) (top nm s kind level : ℕ) (ks vs : List ℕ) → kind ≡ 0 → move-if z top nm s (body kind level ks vs) ≡ P.done ((0, 0), [])
 move-free z top nm s kind level ks vs h = rw h
 
-first-is : (ks : List ℕ) (k : ℕ → Plan) → 0 < length ks → first-key ks k ≡ k (getD ks 0 0)
+first-is : (ks : List ℕ) (k : ℕ → TreePlan) → 0 < length ks → first-key ks k ≡ k (getD ks 0 0)
 first-is [] k h = absurd (omega arith)
 first-is (a ∷ ks) k h = refl
 

@@ -12,7 +12,7 @@ use Rattle.nodes.specs.Name.{slot-of}
 use Rattle.nodes.specs.Node.{made}
 use Rattle.operations.specs.Object.{meta, node, flag, Val, root, taken, free, no-tree, Writes}
 use Rattle.operations.specs.Slot.{TreeSizes, take-node, release}
-use Rattle.operations.specs.Path.{Plan}
+use Rattle.operations.specs.Path.{TreePlan}
 use Rattle.operations.specs.Migrate.{moved}
 use Rattle.walk.specs.declared.search.Taken.{Taken}
 use Rattle.walk.specs.declared.walk.Stop.{Stop}
@@ -118,7 +118,7 @@ module _ (x : List ℕ) (b : Bool) (d : ℕ) (x₁ : List ℕ) (f : Beside x b d
 
 module _ (z : TreeSizes) (m : ClientWord → ℕ) (x u : List ℕ) (nm d : ℕ) (n : Node) (b : Bool) (few : getD x 0 0 < 16) (x₁ : List ℕ) (f : Beside x b d x₁) where
   module _ (eight : z .servers ≤ 8) (s : Stop) (x₂ u₂ : List ℕ) (h : Released z m x₁ u nm s x₂ u₂) (c : Bool) (pc : c ≡ goes s) where
-    freed : (w : Writes) → Holds-writes z x w → (k : Writes → Plan)
+    freed : (w : Writes) → Holds-writes z x w → (k : Writes → TreePlan)
         → walked z m (release (beside b d w) nm (λ w′. k ((node d, value-of (node nm) n) ∷ w′))) (used-in u)
         ≡ carry s (used-in u₂) (λ us. walked z m (k ((node d, value-of (node nm) n) ∷ (node nm, free) ∷ (flag nm, taken false) ∷ beside b d w)) us)
     freed w hold k = h .asks (beside b d w) (f .holds z w eight hold) (λ w′. k ((node d, value-of (node nm) n) ∷ w′))

@@ -13,7 +13,7 @@ use Rattle.nodes.specs.Placement.{row}
 use Rattle.operations.specs.Object.{Obj, meta, node, flag, Ask, object, vector, fetched, Val, root, body, taken, flags, Writes, hit}
 use Rattle.operations.specs.Slot.{TreeSizes, present, chosen, free-slot, search, when-free-flag, take-flag, take-on, take-for, when-free-node, take-node, release}
 use Rattle.operations.specs.Entry.{Entries, fewest-entries}
-use Rattle.operations.specs.Path.{Plan, see, open-node, kid}
+use Rattle.operations.specs.Path.{TreePlan, see, open-node, kid}
 use Rattle.client.specs.Layout.{ClientWord}
 use Rattle.client.specs.Record.{number}
 use Rattle.client.specs.Have.{have, broken}
@@ -22,7 +22,7 @@ use Rattle.walk.specs.Walk.{lack, over-run, fresh, room, over, worked, tell, wa
 use Rattle.change.specs.Mute.{stands}
 use Rattle.plans.specs.Plan as P
 
-unfoldable pub Mute : Plan → Type 0
+unfoldable pub Mute : TreePlan → Type 0
 Mute (P.ask a k) = (v : Val) → Mute (k v)
 Mute (P.done r) = ⊥
 Mute (P.fail y) = Unit {0}
@@ -32,20 +32,20 @@ given (lacks a) = false
 given (aborts r) = false
 given (gives a w) = true
 
-judged-mute : (p : Plan) → Mute p → (x : ℕ) (us : List ℕ) → given (judged p x us .how) ≡ false
+judged-mute : (p : TreePlan) → Mute p → (x : ℕ) (us : List ℕ) → given (judged p x us .how) ≡ false
 unfolding Mute
 judged-mute (P.ask a k) q x us = refl
 judged-mute (P.done r) q x us = absurd q
 judged-mute (P.fail y) q x us = refl
 
-over-mute : (p : Plan) → Mute p → (us : List ℕ) → given (over-run p us .how) ≡ false
+over-mute : (p : TreePlan) → Mute p → (us : List ℕ) → given (over-run p us .how) ≡ false
 unfolding Mute
 over-mute (P.ask a k) q us = refl
 over-mute (P.done r) q us = absurd q
 over-mute (P.fail y) q us = refl
 
 module _ (H : Ask → Option Val) (f : ℕ → Bool) (r : ℕ) where
-  run-mute : (p : Plan) → Mute p → (us : List ℕ) → given (run H f r p us .how) ≡ false
+  run-mute : (p : TreePlan) → Mute p → (us : List ℕ) → given (run H f r p us .how) ≡ false
   unfolding run Mute
   run-mute (P.done a) q us = absurd q
   run-mute (P.fail y) q us = refl
@@ -86,7 +86,7 @@ module _ (z : TreeSizes) (m : ClientWord → ℕ) where
   tell-mute (aborts r) us h = refl
   tell-mute (gives a w) us h = h
 
-  pub walked-mute : (p : Plan) → Mute p → (us : List ℕ) → stands (walked z m p us .stop) ≡ false
+  pub walked-mute : (p : TreePlan) → Mute p → (us : List ℕ) → stands (walked z m p us .stop) ≡ false
   unfolding walked worked
   walked-mute p q us = tell-mute (worked z m p us .how) (worked z m p us .used) (go (over m us) refl)
     where
@@ -95,16 +95,16 @@ module _ (z : TreeSizes) (m : ClientWord → ℕ) where
       go false e = rw (worked, e) (run-mute (have z m) (fresh m) (room m) p q us)
 
 -- ---- questions, with what follows them
-cond-mute : (b : Bool) (p q : Plan) → Mute p → Mute q → Mute (cond b p q)
+cond-mute : (b : Bool) (p q : TreePlan) → Mute p → Mute q → Mute (cond b p q)
 cond-mute true p q f g = f
 cond-mute false p q f g = g
 
-pub see-mute : (w : Writes) (o : Obj) (k : Val → Plan) → ((v : Val) → Mute (k v)) → Mute (see w o k)
+pub see-mute : (w : Writes) (o : Obj) (k : Val → TreePlan) → ((v : Val) → Mute (k v)) → Mute (see w o k)
 unfolding Mute
 see-mute [] o k h = h
 see-mute (e ∷ w) o k h = cond-mute (hit (e .0) o) (k (e .1)) (see w o k) (h (e .1)) (see-mute w o k h)
 
-flag-mute : (v : Val) (k : Plan) → Mute k → Mute (when-free-flag v k)
+flag-mute : (v : Val) (k : TreePlan) → Mute k → Mute (when-free-flag v k)
 unfolding Mute
 flag-mute (root r) k h = tt
 flag-mute (body j l ks vs) k h = tt
@@ -112,26 +112,26 @@ flag-mute (taken true) k h = tt
 flag-mute (taken false) k h = h
 flag-mute (flags fs) k h = tt
 
-pub take-flag-mute : (w : Writes) (d : ℕ) (k : Writes → Plan) → ((w : Writes) → Mute (k w)) → Mute (take-flag w d k)
+pub take-flag-mute : (w : Writes) (d : ℕ) (k : Writes → TreePlan) → ((w : Writes) → Mute (k w)) → Mute (take-flag w d k)
 take-flag-mute w d k h = see-mute w (flag d) (λ v. when-free-flag v (k ((flag d, taken true) ∷ w))) (λ v. flag-mute v (k ((flag d, taken true) ∷ w)) (h ((flag d, taken true) ∷ w)))
 
-chosen-mute : (s : ℕ) (o : Option ℕ) (k : ℕ → Plan) (p : Plan) → ((d : ℕ) → Mute (k d)) → Mute p → Mute (chosen s o k p)
+chosen-mute : (s : ℕ) (o : Option ℕ) (k : ℕ → TreePlan) (p : TreePlan) → ((d : ℕ) → Mute (k d)) → Mute p → Mute (chosen s o k p)
 chosen-mute s none k p h g = g
 chosen-mute s (some i) k p h g = h _
 
-search-mute : (z : TreeSizes) (w : Writes) (slot : ℕ) (ss : List ℕ) (k : ℕ → Plan) → ((d : ℕ) → Mute (k d)) → Mute (search z w slot ss k)
+search-mute : (z : TreeSizes) (w : Writes) (slot : ℕ) (ss : List ℕ) (k : ℕ → TreePlan) → ((d : ℕ) → Mute (k d)) → Mute (search z w slot ss k)
 unfolding Mute
 search-mute z w slot [] k h = tt
 search-mute z w slot (s ∷ ss) k h =
     λ v. chosen-mute s (free-slot z w slot s v) k _ h (λ u. chosen-mute s (free-slot z w slot s u) k _ h (search-mute z w slot ss k h))
 
-pub take-on-mute : (z : TreeSizes) (ss : List ℕ) (slot : ℕ) (w : Writes) (k : ℕ → Writes → Plan) → ((d : ℕ) (w : Writes) → Mute (k d w)) → Mute (take-on z ss slot w k)
+pub take-on-mute : (z : TreeSizes) (ss : List ℕ) (slot : ℕ) (w : Writes) (k : ℕ → Writes → TreePlan) → ((d : ℕ) (w : Writes) → Mute (k d w)) → Mute (take-on z ss slot w k)
 take-on-mute z ss slot w k h = search-mute z w slot ss _ (λ d. take-flag-mute w d (λ w′. k d w′) (h d))
 
-pub take-for-mute : (z : TreeSizes) (n : ℕ) (w : Writes) (k : ℕ → Writes → Plan) → ((d : ℕ) (w : Writes) → Mute (k d w)) → Mute (take-for z n w k)
+pub take-for-mute : (z : TreeSizes) (n : ℕ) (w : Writes) (k : ℕ → Writes → TreePlan) → ((d : ℕ) (w : Writes) → Mute (k d w)) → Mute (take-for z n w k)
 take-for-mute z n w k h = take-on-mute z (present (z .servers) (row (server-of n))) (slot-of n) w k h
 
-node-mute : (v : Val) (k : Plan) → Mute k → Mute (when-free-node v k)
+node-mute : (v : Val) (k : TreePlan) → Mute k → Mute (when-free-node v k)
 unfolding Mute
 node-mute (root r) k h = tt
 node-mute (body zero l ks vs) k h = h
@@ -139,13 +139,13 @@ node-mute (body (suc j) l ks vs) k h = tt
 node-mute (taken b) k h = tt
 node-mute (flags fs) k h = tt
 
-pub take-node-mute : (w : Writes) (d : ℕ) (k : Plan) → Mute k → Mute (take-node w d k)
+pub take-node-mute : (w : Writes) (d : ℕ) (k : TreePlan) → Mute k → Mute (take-node w d k)
 take-node-mute w d k h = see-mute w (node d) (λ v. when-free-node v k) (λ v. node-mute v k h)
 
-pub release-mute : (w : Writes) (n : ℕ) (k : Writes → Plan) → ((w : Writes) → Mute (k w)) → Mute (release w n k)
+pub release-mute : (w : Writes) (n : ℕ) (k : Writes → TreePlan) → ((w : Writes) → Mute (k w)) → Mute (release w n k)
 release-mute w n k h = see-mute w (flag n) _ (λ v. h _)
 
-open-mute : (lo : ℕ) (v : Val) (k : ℕ → Entries → Plan) → ((l : ℕ) (es : Entries) → Mute (k l es)) → Mute (open-node lo v k)
+open-mute : (lo : ℕ) (v : Val) (k : ℕ → Entries → TreePlan) → ((l : ℕ) (es : Entries) → Mute (k l es)) → Mute (open-node lo v k)
 unfolding Mute
 open-mute lo (root r) k h = tt
 open-mute lo (taken b) k h = tt
@@ -157,11 +157,11 @@ open-mute lo (body (suc (suc zero)) zero ks vs) k h = tt
 open-mute lo (body (suc (suc zero)) (suc l) ks vs) k h = h _ _
 open-mute lo (body (suc (suc (suc j))) l ks vs) k h = tt
 
-ifd-mute : {A : Type 0} (d : Dec A) (p q : Plan) → Mute p → Mute q → Mute (ifd d p q)
+ifd-mute : {A : Type 0} (d : Dec A) (p q : TreePlan) → Mute p → Mute q → Mute (ifd d p q)
 ifd-mute (yes a) p q f g = f
 ifd-mute (no a) p q f g = g
 
-pub kid-mute : (w : Writes) (l lo n : ℕ) (k : Entries → Plan) → ((es : Entries) → Mute (k es)) → Mute (kid w l lo n k)
+pub kid-mute : (w : Writes) (l lo n : ℕ) (k : Entries → TreePlan) → ((es : Entries) → Mute (k es)) → Mute (kid w l lo n k)
 unfolding Mute
 kid-mute w l lo n k h =
     see-mute w (node n) _ (λ v. open-mute lo v _ (λ j es. ifd-mute (ℕ-discrete j l) _ _ (ifd-mute (decLe (fewest-entries l) (length es)) _ _ (h es) tt) tt))

@@ -18,8 +18,8 @@ use Rattle.nodes.specs.Kept.{Whole}
 use Rattle.nodes.specs.Laws.Kept.{length-entriesOf, key-entries}
 use Rattle.operations.specs.Object.{node, no-tree, Writes}
 use Rattle.operations.specs.Slot.{TreeSizes}
-use Rattle.operations.specs.Arrays.{kind}
-use Rattle.operations.specs.Path.{Plan, Branch, kid}
+use Rattle.operations.specs.Entry.{kind}
+use Rattle.operations.specs.Path.{TreePlan, Branch, kid}
 use Rattle.operations.specs.Change.{Go, with-two, parted}
 use Rattle.walk.specs.declared.down.Turn.{Turn}
 use Rattle.change.specs.declared.neighbour.Sides.{Sides}
@@ -50,7 +50,7 @@ use Rattle.plans.specs.Plan as P
 use Rattle.operations.specs.Change as C
 
 -- a plan that is walked as another is
-raised-as : (z : TreeSizes) (m : ClientWord → ℕ) (x u u₁ : List ℕ) (l : ℕ) (root : Bool) (p q : ℕ → List Branch → Writes → Go → Plan) (r : Risen) (x′ u′ : List ℕ)
+raised-as : (z : TreeSizes) (m : ClientWord → ℕ) (x u u₁ : List ℕ) (l : ℕ) (root : Bool) (p q : ℕ → List Branch → Writes → Go → TreePlan) (r : Risen) (x′ u′ : List ℕ)
     → ((w : Writes) → Holds-writes z x w → (lo : ℕ) (fs : List Branch) (go : Go) → walked z m (p lo fs w go) (used-in u) ≡ walked z m (q lo fs w go) (used-in u₁))
     → Raised z m x u₁ l root q r x′ u′ → Raised z m x u l root p r x′ u′
 raised-as z m x u u₁ l root p q r x′ u′ e d = record {
@@ -181,7 +181,7 @@ below-level zero n h f = record { kind = open-leaf n (h .opened) (h .level) .kin
 below-level (suc l) n h f = record { kind = open-inner n (h .opened) (omega (arith, h .level)) .kind; level = h .level; whole = f }
 
 -- a plan that fails
-fails-raised : (z : TreeSizes) (m : ClientWord → ℕ) (x u : List ℕ) (l : ℕ) (root : Bool) (p : ℕ → List Branch → Writes → Go → Plan) (r : Risen)
+fails-raised : (z : TreeSizes) (m : ClientWord → ℕ) (x u : List ℕ) (l : ℕ) (root : Bool) (p : ℕ → List Branch → Writes → Go → TreePlan) (r : Risen)
     → ((lo : ℕ) (fs : List Branch) (w : Writes) (go : Go) → p lo fs w go ≡ P.fail no-tree) → r .stop ≡ Aborts 3 → Noted m u → Raised z m x u l root p r x u
 fails-raised z m x u l root p r h e noted =
     stopped-raised z m x u l root p r x u (rw e) (λ w hold. rw e) (λ w hold lo fs f go. rw (h lo fs w go, e) (walked-fails z m (used-in u) no-tree)) noted
@@ -204,7 +204,7 @@ met z m x u l b name s other stop k u₁ on d h po kid pg q =
     record { followed = d .followed; there = d .there; between = h; left = both .0; right = both .1 }
 
 module _ (z : TreeSizes) (l a c : ℕ) (b : Turn) (name : ℕ) (n : Node) (d : Under z l name b) where
-  abbrev whole-plan : ℕ → List Branch → Writes → Go → Plan
+  abbrev whole-plan : ℕ → List Branch → Writes → Go → TreePlan
   whole-plan = neighbour-plan (a, c) l b name (entriesOf n)
 
   pub alone : (m : ClientWord → ℕ) (x u : List ℕ) (root : Bool) (r : Risen) → b .node .count ≡ 0 → r .stop ≡ Aborts 3 → Noted m u → Raised z m x u l root whole-plan r x u
@@ -237,7 +237,7 @@ module _ (z : TreeSizes) (l a c : ℕ) (b : Turn) (name : ℕ) (n : Node) (d : U
     ends : (lo : ℕ) → s .last ≡ true → length (entriesOf (b .node) lo) ≡ suc (suc (s .at))
     ends lo t = omega (arith, long b s (d .followed) h lo, h .paired .ends t)
 
-    abbrev turned-at : ℕ → List Branch → Writes → Go → ℕ → ℕ → ℕ → Plan
+    abbrev turned-at : ℕ → List Branch → Writes → Go → ℕ → ℕ → ℕ → TreePlan
     turned-at lo fs w go i e q =
         C.neighbour (a, c) l fs go w (branch-of (b .name) i (entriesOf (b .node) lo)) e (entriesOf n q) (branch-of (b .name) i (entriesOf (b .node) lo) .post)
 

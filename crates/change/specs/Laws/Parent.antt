@@ -21,7 +21,7 @@ use Rattle.nodes.specs.Laws.Kept.{made-whole, length-entriesOf, slot-entries}
 use Rattle.operations.specs.Object.{node, Val, no-tree, Writes}
 use Rattle.operations.specs.Slot.{TreeSizes}
 use Rattle.operations.specs.Entry.{Entries, keys, node-value}
-use Rattle.operations.specs.Path.{Plan, Branch, Cont, down}
+use Rattle.operations.specs.Path.{TreePlan, Branch, Cont, down}
 use Rattle.operations.specs.Migrate.{move-at, to-level}
 use Rattle.walk.specs.declared.down.Turn.{Turn}
 use Rattle.walk.specs.declared.down.Descent.{Descent}
@@ -79,7 +79,7 @@ module _ (z : TreeSizes) (m : ClientWord → ℕ) (x u : List ℕ) (nm s : ℕ) 
   abbrev v : Val
   v = value-of (node nm) n
 
-  abbrev after : ℕ → ℕ → Writes → Plan
+  abbrev after : ℕ → ℕ → Writes → TreePlan
   after lo d w = P.done ((1, d), (node up, node-value (p .level) (with-child (entriesOf p lo) at d)) ∷ w)
 
   pub child-stops : not b ≡ true → ChildMoved z m x u nm s n up p at (t .stop) x₁ u₁
@@ -182,7 +182,7 @@ level-stops : (t : ℕ) → Stops (to-level t) t
 level-stops t = record { before = λ l h. of-no (ℕ-discrete l t) (λ e. absurd (omega arith)); there = λ h. of-yes (ℕ-discrete t t) refl }
 
 module _ (z : TreeSizes) (m : ClientWord → ℕ) (u : List ℕ) (key top l : ℕ) (st : Stop) (r : Node) (u₁ : List ℕ) (h : RootMet z m u top st r u₁) (b : Bool) (pb : b ≡ goes st) where
-  abbrev below : Cont → ℕ → Entries → Plan
+  abbrev below : Cont → ℕ → Entries → TreePlan
   below k j es = ifd (decLt l j) (down (to-level (suc l)) key k j [] top es) (P.fail no-tree)
 
   pub parent-no-root : (d : Descent) → not b ≡ true → d .stop ≡ st → ToParent z m u key top l d u₁

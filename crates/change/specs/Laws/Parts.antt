@@ -14,8 +14,7 @@ use Rattle.nodes.specs.Entries.{entriesOf, wide-entries}
 use Rattle.nodes.specs.Change.{wide, wide-keys, wide-slots, take-out, with-key, narrow, cut-at, join}
 use Rattle.nodes.specs.Kept.{WholeWide}
 use Rattle.nodes.specs.Laws.Kept.{made-whole, wide-whole, entries-wide, join-whole}
-use Rattle.operations.specs.Entry.{fewest-entries}
-use Rattle.operations.specs.Arrays.{kind}
+use Rattle.operations.specs.Entry.{fewest-entries, kind}
 use Rattle.change.specs.Rise.{OfLevel, Content, widened}
 
 -- as many slots more than keys as a node of that level has

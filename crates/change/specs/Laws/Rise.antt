@@ -20,9 +20,8 @@ use Rattle.nodes.specs.Laws.Kept.{whole}
 use Rattle.nodes.specs.Laws.Stored.{Sized}
 use Rattle.operations.specs.Object.{node, Writes}
 use Rattle.operations.specs.Slot.{TreeSizes}
-use Rattle.operations.specs.Entry.{node-value}
-use Rattle.operations.specs.Arrays.{kind}
-use Rattle.operations.specs.Path.{Plan, Branch}
+use Rattle.operations.specs.Entry.{node-value, kind}
+use Rattle.operations.specs.Path.{TreePlan, Branch}
 use Rattle.operations.specs.Change.{Go}
 use Rattle.change.specs.declared.rise.Risen.{Risen}
 use Rattle.walk.specs.declared.down.Turn.{Turn}
@@ -150,7 +149,7 @@ stands-not : (s : Stop) {A : Type 0} → stands s ≡ false → stands s ≡ tru
 stands-not s p q = let e : false ≡ true = sym p ∙ q in let z : _≡_ {A = ℕ} 0 1 = cc in absurd (omega arith)
 
 -- some plan that never answers ends as the level does
-pub stopped-raised : (z : TreeSizes) (m : ClientWord → ℕ) (x u : List ℕ) (l : ℕ) (root : Bool) (plan : ℕ → List Branch → Writes → Go → Plan) (r : Risen) (x′ u′ : List ℕ) → goes (r .stop) ≡ false
+pub stopped-raised : (z : TreeSizes) (m : ClientWord → ℕ) (x u : List ℕ) (l : ℕ) (root : Bool) (plan : ℕ → List Branch → Writes → Go → TreePlan) (r : Risen) (x′ u′ : List ℕ) → goes (r .stop) ≡ false
     → ((w : Writes) → Holds-writes z x w → stands (r .stop) ≡ false)
     → ((w : Writes) → Holds-writes z x w → (lo : ℕ) (fs : List Branch) → is-root fs ≡ root → (go : Go) → walked z m (plan lo fs w go) (used-in u) ≡ told (r .stop) (used-in u′))
     → Noted m u′ → Raised z m x u l root plan r x′ u′
@@ -165,7 +164,7 @@ stopped-raised z m x u l root plan r x′ u′ halts mute same noted = record {
   noted = noted;
 }
 
-pub stopped-closed : (z : TreeSizes) (m : ClientWord → ℕ) (x u : List ℕ) (plan : Writes → Plan) (s : Stop) (x′ u′ : List ℕ) → ((w : Writes) → Holds-writes z x w → stands s ≡ false)
+pub stopped-closed : (z : TreeSizes) (m : ClientWord → ℕ) (x u : List ℕ) (plan : Writes → TreePlan) (s : Stop) (x′ u′ : List ℕ) → ((w : Writes) → Holds-writes z x w → stands s ≡ false)
     → ((w : Writes) → Holds-writes z x w → walked z m (plan w) (used-in u) ≡ told s (used-in u′)) → Noted m u′ → Closed z m x u plan s x′ u′
 stopped-closed z m x u plan s x′ u′ mute same noted = record {
   more = [];

@@ -18,9 +18,8 @@ use Rattle.nodes.specs.Change.{wide, put-in, cut-at}
 use Rattle.nodes.specs.Laws.Kept.{length-entriesOf, put-in-whole, put-in-entries, split-left, split-right, split-sep}
 use Rattle.operations.specs.Object.{node, flag, taken, no-tree, Writes}
 use Rattle.operations.specs.Slot.{TreeSizes, take-for, take-node}
-use Rattle.operations.specs.Entry.{Entries, fewest-entries, first-key-or}
-use Rattle.operations.specs.Arrays.{kind}
-use Rattle.operations.specs.Path.{Plan, Branch}
+use Rattle.operations.specs.Entry.{Entries, fewest-entries, first-key-or, kind}
+use Rattle.operations.specs.Path.{TreePlan, Branch}
 use Rattle.operations.specs.Change.{Go, with-two, parted, split}
 use Rattle.walk.specs.declared.down.Turn.{Turn}
 use Rattle.walk.specs.declared.search.Taken.{Taken}
@@ -194,7 +193,7 @@ module _ (z : TreeSizes) (l c : ℕ) (b : Turn) (un : Under z l c b) where
   split-overfull n k = record { full = k .full; level = omega (arith, k .content .level, un .followed .small .level, un .link .level) }
 
 module _ (z : TreeSizes) (m : ClientWord → ℕ) (x u : List ℕ) (l : ℕ) (b : Turn) (c : ℕ) (n : Wide) (t : Taken) (x₁ u₁ : List ℕ) (q : HalfTaken z m x u c t x₁ u₁) (on : Bool) (po : on ≡ goes (t .stop)) where
-  abbrev plan : ℕ → List Branch → Writes → Go → Plan
+  abbrev plan : ℕ → List Branch → Writes → Go → TreePlan
   plan = split-plan z l b c (wide-entries n)
 
   abbrev d : ℕ

@@ -12,7 +12,7 @@ use Rattle.nodes.specs.declared.change.Wide.{Wide}
 use Rattle.nodes.specs.Entries.{wide-entries}
 use Rattle.operations.specs.Object.{Ans, Writes}
 use Rattle.operations.specs.Slot.{TreeSizes}
-use Rattle.operations.specs.Path.{Plan}
+use Rattle.operations.specs.Path.{TreePlan}
 use Rattle.operations.specs.Change.{Go, up}
 use Rattle.walk.specs.declared.down.Turn.{Turn}
 use Rattle.change.specs.declared.rise.Risen.{Risen}
@@ -165,7 +165,7 @@ module _ (z : TreeSizes) (m : ClientWord → ℕ) (x₀ u₀ : List ℕ) (a : An
       walks hold =
           g .same hold
           ∙ ap (λ (ts : List Turn). walked z m (up z a l (branches ts) (g .writes) c (wide-entries n (low ts))) (used-in u)) opened
-          ∙ ap (λ (p : Plan). walked z m p (used-in u)) (up-level z a l b c (wide-entries n) (low bs) (branches bs) (g .writes))
+          ∙ ap (λ (p : TreePlan). walked z m p (used-in u)) (up-level z a l b c (wide-entries n) (low bs) (branches bs) (g .writes))
           ∙ q .same (g .writes) (g .holds hold) (low bs) (branches bs) (root-is path l top h) go
 
       pub rise-stops : not on ≡ true → Operated z m x₀ u₀ (rise-plan z a top path c₀ n₀) (r .stop) x′ u′

@@ -8,7 +8,7 @@ use lib.Dec.{eqb, ltb}
 use borrow.Author.Tests.{not-true, not-false, eq-eqb, ne-eqb}
 use Rattle.operations.specs.Object.{Ans, Writes}
 use Rattle.operations.specs.Slot.{TreeSizes}
-use Rattle.operations.specs.Path.{Plan}
+use Rattle.operations.specs.Path.{TreePlan}
 use Rattle.operations.specs.Change.{insert-plan, delete-plan}
 use Rattle.operations.specs.Migrate.{migrate-plan}
 use Rattle.operations.specs.Operation.{reading, all-fit?}
@@ -130,10 +130,10 @@ only-six (suc (suc (suc (suc (suc zero))))) n₀ h r n₁ n₃ = cc
 only-six (suc (suc (suc (suc (suc (suc n)))))) n₀ h r n₁ n₃ = omega arith
 
 module _ (z : TreeSizes) (m : ClientWord → ℕ) (x u : List ℕ) (s : Stop) (x′ u′ : List ℕ) (op key : ℕ) (po : op ≡ m op-number) (pk : key ≡ m op-key) where
-  abbrev By : Plan → Type 0
+  abbrev By : TreePlan → Type 0
   By p = Operated z m x u p s x′ u′
 
-  by-plan : (p : Plan) → reading z (waiting m) ≡ p → By p → By (reading z (waiting m))
+  by-plan : (p : TreePlan) → reading z (waiting m) ≡ p → By p → By (reading z (waiting m))
   by-plan p e h = rw e h
 
   pub by-insert : (value : ℕ) → op ≡ 1 → value ≡ m op-value → By (insert-plan z key value) → By (reading z (waiting m))

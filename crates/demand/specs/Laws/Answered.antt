@@ -13,7 +13,7 @@ use Rattle.layout.specs.Step.{andThen}
 use Rattle.layout.specs.Laws.Step.{changed-append}
 use Rattle.operations.specs.Object.{Obj, Ask, object, vector, fetched, Val, root, no-tree, Ans, Writes}
 use Rattle.operations.specs.Laws.Object.{written}
-use Rattle.operations.specs.Path.{Plan}
+use Rattle.operations.specs.Path.{TreePlan}
 use Rattle.operations.specs.Operation.{all-fit?, check, reading, plan}
 use Rattle.operations.specs.Slot.{TreeSizes, Allowed}
 use Rattle.operations.specs.Laws.Seen.{Hint, hint-of, plan-with}
@@ -180,7 +180,7 @@ module _ (k j slots : ℕ) (al : Allowed (sizes k j slots)) (u : ClientWord → 
       (Wk-laws.walk-asked p (have z u) (snapshot (have z u)) holds (Pl.gives (a, w)) checks shows every)
       (Wk-laws.walk-exec p (have z u) (snapshot (have z u)) (Pl.gives (a, w)) shows checks)
     where
-      p : Plan
+      p : TreePlan
       p = plan z (waiting u)
 
       shows : Wk-laws.Shows (have z u) (snapshot (have z u)) (Wk.used p (have z u))

@@ -12,7 +12,7 @@ use Rattle.memory.specs.Bit.{bit}
 use Rattle.layout.specs.Space.{changed}
 use Rattle.operations.specs.Object.{Obj, Val}
 use Rattle.operations.specs.Slot.{Allowed}
-use Rattle.operations.specs.Laws.Sound.{new-store}
+use Rattle.operations.specs.Sound.{new-store}
 use Rattle.protocol.specs.Lists.{Among}
 use Rattle.protocol.specs.Laws.Items.{find-item}
 use Rattle.client.specs.Layout.{client-words, phase, applied}

@@ -12,7 +12,7 @@ use Rattle.nodes.specs.declared.found.Found.{Found}
 use Rattle.nodes.specs.declared.found.Found.the-variants.{At, Absent}
 use Rattle.operations.specs.Object.{Obj, Ask, object, vector, fetched, Val, Ans}
 use Rattle.operations.specs.Operation.{reading, all-fit?}
-use Rattle.operations.specs.Path.{Plan}
+use Rattle.operations.specs.Path.{TreePlan}
 use Rattle.operations.specs.Slot.{TreeSizes, Allowed}
 use Rattle.client.specs.declared.answer.Look.{Look}
 use Rattle.client.specs.declared.part.Set.the-variants.{Reads, Writes}
@@ -69,7 +69,7 @@ module _ (z : TreeSizes) (u : ClientWord → ℕ) where
           by false r q = let s = Option·some-injective b a q in (p ∙ ap Run.lacks s, subst (λ (x : Ask). broken z u x ≡ false) s r)
 
   -- the plan that is walked, and what it used
-  abbrev pub plan : Plan
+  abbrev pub plan : TreePlan
   plan = reading z (Work.waiting u)
 
   abbrev pub asked : List Ask

@@ -16,7 +16,7 @@ use Rattle.nodes.specs.Lists.{pad}
 use Rattle.nodes.specs.Node.{made, keysOf, slotsOf, extra}
 use Rattle.nodes.specs.Stored.{node-of}
 use Rattle.operations.specs.Object.{Obj, meta, node, flag, root, taken}
-use Rattle.operations.specs.Laws.Sound.{new-store}
+use Rattle.operations.specs.Sound.{new-store}
 use Rattle.server.specs.declared.place.Place.{Place}
 use Rattle.server.specs.declared.place.Place.the-variants.{Root, Version, MetadataLock, Vector, Node, FlagLock, Table, NodeLock}
 use Rattle.server.specs.Layout.{place-code, places}

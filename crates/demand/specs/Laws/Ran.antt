@@ -10,7 +10,7 @@ use borrow.Author.Tests.{ltb-true}
 use lib.Dec.{ltb}
 use lib.ListN.{length, length-append}
 use Rattle.operations.specs.Object.{Obj, Ask, object, vector, fetched, Val, Why, Ans, Writes}
-use Rattle.operations.specs.Path.{Plan}
+use Rattle.operations.specs.Path.{TreePlan}
 use Rattle.client.specs.Record.{number}
 use Rattle.client.specs.Run.{End, lacks, aborts, gives, Ran, ran, among, judged, run}
 use Rattle.plans.specs.Plan as P
@@ -64,22 +64,22 @@ weaker m l us vs room (lacks a) used h f = (f .0, f .1, λ q. f .2 (h q))
 weaker m l us vs room (gives a w) used h f = (f .0, f .1, λ q. f .2 (h q))
 
 module _ (have : Ask → Option Val) (new : ℕ → Bool) (room : ℕ) where
-  abbrev Follows-from : Plan → List ℕ → Ran → Type 0
+  abbrev Follows-from : TreePlan → List ℕ → Ran → Type 0
   Follows-from p us r = Follows (W-laws.walk p have) (all-used new (W.used p have) us) us room (r .how) (r .used)
 
   -- object 97 aborts
-  over-limit : (p q : Plan) (x : ℕ) (us vs : List ℕ) → Follows (W-laws.walk q have) vs us room (judged p x us .how) (judged p x us .used)
+  over-limit : (p q : TreePlan) (x : ℕ) (us vs : List ℕ) → Follows (W-laws.walk q have) vs us room (judged p x us .how) (judged p x us .used)
   over-limit (P.ask a k) q x us vs = tt
   over-limit (P.done r) q x us vs = tt
   over-limit (P.fail y) q x us vs = tt
 
   -- nothing at hand
-  lacking : (a : Ask) (k : Val → Plan) (us : List ℕ) → have a ≡ none → Follows-from (P.ask a k) us (ran (lacks a) us)
+  lacking : (a : Ask) (k : Val → TreePlan) (us : List ℕ) → have a ≡ none → Follows-from (P.ask a k) us (ran (lacks a) us)
   unfolding W.used all-used
   lacking a k us e = (W-laws.walk-lacks a k have e, rw (e, W.used, all-used) refl, λ q. q)
 
   -- a question that was answered
-  asked : (a : Ask) (k : Val → Plan) (v : Val) (us : List ℕ) (r : Ran) → have a ≡ some v
+  asked : (a : Ask) (k : Val → TreePlan) (v : Val) (us : List ℕ) (r : Ran) → have a ≡ some v
       → Follows (W-laws.walk (k v) have) (all-used new (W.used (k v) have) (with-used new us a)) us room (r .how) (r .used) → Follows-from (P.ask a k) us r
   unfolding all-used
   asked a k v us r e f =
@@ -87,7 +87,7 @@ module _ (have : Ask → Option Val) (new : ℕ → Bool) (room : ℕ) where
       (subst (λ l. Follows (W-laws.walk (k v) have) (all-used new l us) us room (r .how) (r .used)) (sym (W-laws.used-has a k have v e)) f)
 
   -- a vector is no object
-  no-object : (a : Ask) (k : Val → Plan) (us : List ℕ)
+  no-object : (a : Ask) (k : Val → TreePlan) (us : List ℕ)
       → run have new room (P.ask a k) us ≡ elim (have a) [ none ↦ ran (lacks a) us | some v ↦ run have new room (k v) us ] → with-used new us a ≡ us
       → ((v : Val) → Follows-from (k v) us (run have new room (k v) us)) → Follows-from (P.ask a k) us (run have new room (P.ask a k) us)
   no-object a k us is stays rec = subst (Follows-from (P.ask a k) us) (sym is) (go (have a) refl)
@@ -99,7 +99,7 @@ module _ (have : Ask → Option Val) (new : ℕ → Bool) (room : ℕ) where
           asked a k v us r e (subst (λ l. Follows (W-laws.walk (k v) have) (all-used new (W.used (k v) have) l) us room (r .how) (r .used)) (sym stays) (rec v))
 
   -- an object that is at hand
-  one-object : (o : Obj) (k : Val → Plan) (v : Val) (us : List ℕ) → have (object o) ≡ some v
+  one-object : (o : Obj) (k : Val → TreePlan) (v : Val) (us : List ℕ) → have (object o) ≡ some v
       → ((us : List ℕ) → Follows-from (k v) us (run have new room (k v) us)) → Follows-from (P.ask (object o) k) us (run have new room (P.ask (object o) k) us)
   unfolding run with-used
   one-object o k v us e rec = rw (e, run) (go (new (number o)) refl (among (number o) us) refl (ltb (length us) room) refl)
@@ -127,7 +127,7 @@ module _ (have : Ask → Option Val) (new : ℕ → Bool) (room : ℕ) where
               (λ _. omega (arith, ltb-true (length us) room l, one-more us (number o))) (rec more)
           by true false false l = over-limit (k v) (k v) (number o) us (all-used new (W.used (k v) have) more)
 
-  pub run-follows : (p : Plan) (us : List ℕ) → Follows-from p us (run have new room p us)
+  pub run-follows : (p : TreePlan) (us : List ℕ) → Follows-from p us (run have new room p us)
   unfolding run W-laws.walk W.used with-used all-used
   run-follows (P.done r) us = (refl, refl, λ q. q)
   run-follows (P.fail y) us = tt

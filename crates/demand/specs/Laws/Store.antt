@@ -14,7 +14,8 @@ use Rattle.operations.specs.Object.{Obj, meta, node, flag, Val, Why, Ans, Write
 use Rattle.operations.specs.Laws.Object.{Obj-discrete, Val-discrete, inner, written}
 use Rattle.operations.specs.Slot.{TreeSizes, Allowed}
 use Rattle.operations.specs.Tree.{Holds-tree}
-use Rattle.operations.specs.Laws.Sound.{new-store, new-holds}
+use Rattle.operations.specs.Laws.Sound.{new-holds}
+use Rattle.operations.specs.Sound.{new-store}
 use Rattle.operations.specs.Laws.Seen.{Given, plan-with, sound-with, written-asked-with, asks-outer-with, uncompared-after}
 use Rattle.protocol.specs.Setting.{Setting}
 use Rattle.protocol.specs.Lists.{Among}

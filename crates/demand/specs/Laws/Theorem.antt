@@ -9,7 +9,7 @@ use Rattle.base.specs.Test.{not-both}
 use Rattle.operations.specs.Object.{Obj, meta, node, flag, Val, root-of, taken, is-taken}
 use Rattle.operations.specs.Slot.{Allowed}
 use Rattle.operations.specs.Tree.{Holds-tree}
-use Rattle.operations.specs.Laws.Sound.{new-store}
+use Rattle.operations.specs.Sound.{new-store}
 use Rattle.operations.specs.Laws.Reading.{read-is}
 use Rattle.protocol.specs.State.{is-decided}
 use Rattle.protocol.specs.Laws.Claim.{Applied, claim, none-due}

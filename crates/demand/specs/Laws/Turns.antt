@@ -12,7 +12,7 @@ use Rattle.base.specs.Laws.Update.{upd-same}
 use Rattle.layout.specs.Space.{changed}
 use Rattle.operations.specs.Object.{Obj}
 use Rattle.operations.specs.Slot.{Allowed}
-use Rattle.operations.specs.Laws.Sound.{new-store}
+use Rattle.operations.specs.Sound.{new-store}
 use Rattle.protocol.specs.State.{idle, is-decided}
 use Rattle.client.specs.Layout.{phase}
 use Rattle.client.specs.Record.{object-in-store}

@@ -10,7 +10,7 @@ use lib.ListN.{length, getD}
 use borrow.Author.Tests.{ne-eqb, le-leb, lt-leb}
 use Rattle.operations.specs.Object.{Obj, meta, node, flag, object, vector, fetched, Val}
 use Rattle.operations.specs.Slot.{TreeSizes}
-use Rattle.operations.specs.Path.{Plan}
+use Rattle.operations.specs.Path.{TreePlan}
 use Rattle.client.specs.Layout.{ClientWord}
 use Rattle.client.specs.Record.{number, object-in-store, number-in-store}
 use Rattle.client.specs.Have.{have}
@@ -60,13 +60,13 @@ module _ (z : TreeSizes) where
         go true p = number-there o p
         go false p = let q : none ≡ some v = rw (have, p) at e in let c : _≡_ {A = ℕ} 0 1 = cc in absurd (omega arith)
 
-    judged-stored : (p : Plan) (x : ℕ) (us : List ℕ) → Stored us → number-in-store z x ≡ true → Stored (judged p x us .used)
+    judged-stored : (p : TreePlan) (x : ℕ) (us : List ℕ) → Stored us → number-in-store z x ≡ true → Stored (judged p x us .used)
     judged-stored (P.ask a k) x us h t = h
     judged-stored (P.done r) x us h t = h
     judged-stored (P.fail y) x us h t = stored-more us x h t
 
     module _ (m : ClientWord → ℕ) (new : ℕ → Bool) (room : ℕ) where
-      run-stored : (p : Plan) (us : List ℕ) → Stored us → Stored (run (have z m) new room p us .used)
+      run-stored : (p : TreePlan) (us : List ℕ) → Stored us → Stored (run (have z m) new room p us .used)
       unfolding run
       run-stored (P.ask (object o) k) us h =
           go (have z m (object o)) refl (new (number o)) refl (among (number o) us) refl (ltb (length us) room) refl (λ v. run-stored (k v))

@@ -10,8 +10,7 @@ use Rattle.nodes.specs.Lists.{insert-at, remove-at}
 use Rattle.nodes.specs.Place.{place}
 use Rattle.nodes.specs.Find.{key-index}
 use Rattle.operations.specs.Object.{body}
-use Rattle.operations.specs.Entry.{Entries, keys, vals, zip, node-value, fewest-entries, most-entries, first-key-or, cut-at, cut, index}
-use Rattle.operations.specs.Arrays.{kind}
+use Rattle.operations.specs.Entry.{Entries, keys, vals, zip, node-value, fewest-entries, most-entries, first-key-or, cut-at, cut, index, kind}
 
 -- the entries of a node of level l that holds keys from lo on
 abbrev pub entries : ℕ → ℕ → List ℕ → List ℕ → Entries

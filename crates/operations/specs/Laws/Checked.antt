@@ -12,7 +12,7 @@ use Rattle.nodes.specs.Find.{first-above, rises}
 use Rattle.operations.specs.Object.{Obj, meta, node, flag, object, vector, fetched, Val, keys-of, level-of, no-tree, Ans, Writes, hit, over, written-value}
 use Rattle.operations.specs.Laws.Object.{written}
 use Rattle.operations.specs.Map.{Map, two-to-64}
-use Rattle.operations.specs.Path.{Plan}
+use Rattle.operations.specs.Path.{TreePlan}
 use Rattle.operations.specs.Operation.{fits?, all-fit?, checked}
 use Rattle.operations.specs.Laws.Chain.{Rising}
 use Rattle.operations.specs.Chain.{one, tally}
@@ -25,7 +25,7 @@ use Rattle.operations.specs.Laws.Found.{all-rising, all-levels}
 use Rattle.plans.specs.Plan as P
 
 pub checked-ok : (F : Terms) (Q : Ans → Writes → Type 0) (M : Obj → Val) → ((a : Ans) (w : Writes) → Q a w → all-fit? w w ≡ true)
-    → (p : Plan) → Ok F Q M p → Ok F Q M (checked p)
+    → (p : TreePlan) → Ok F Q M p → Ok F Q M (checked p)
 unfolding P.bind
 checked-ok F Q M f (P.ask (object o) k) h = checked-ok F Q M f (k (M o)) h
 checked-ok F Q M f (P.ask (vector s) k) h = λ v t. checked-ok F Q M f (k v) (h v t)

@@ -9,7 +9,7 @@ use Rattle.base.specs.Test.{ifd}
 use Rattle.operations.specs.Object.{Obj, node, Val, no-tree, Ans, Writes, over}
 use Rattle.operations.specs.Map.{Map, two-to-64}
 use Rattle.operations.specs.Entry.{Entries, keys, vals, zip, node-value, fewest-entries, most-entries, first-key-or, Cut, cut}
-use Rattle.operations.specs.Path.{Plan, open-node, kid, when-root, Branch, to-leaf, down, at-root, from-root}
+use Rattle.operations.specs.Path.{TreePlan, open-node, kid, when-root, Branch, to-leaf, down, at-root, from-root}
 use Rattle.operations.specs.Laws.Chain.{Rising, chain-rising, ren-app, ren-length}
 use Rattle.operations.specs.Chain.{ren}
 use Rattle.operations.specs.Laws.Places.{cut-app, cut-le, cut-gt, ren-cut}
@@ -45,18 +45,18 @@ bottom-floor l (top r) = omega arith
 bottom-floor l (frame k c pre post p) = bottom-mn l
 
 module _ (F : Terms) (Q : Ans → Writes → Type 0) (M : Obj → Val) where
-  pub open-ok : (l from b : ℕ) (es : List (ℕ × Slot l)) (k : ℕ → Entries → Plan) → Starts l from (first-key-or es b) → bottom l ≤ length es
+  pub open-ok : (l from b : ℕ) (es : List (ℕ × Slot l)) (k : ℕ → Entries → TreePlan) → Starts l from (first-key-or es b) → bottom l ≤ length es
       → Ok F Q M (k l (ren (word l) es)) → Ok F Q M (open-node from (node-value l (ren (word l) es)) k)
   open-ok zero from b es k st i h = subst (λ z. Ok F Q M (k 0 z)) (sym (zip-keys (ren (word zero) es))) h
   open-ok (suc l) from b [] k st i h = absurd (omega arith)
   open-ok (suc l) from b (e ∷ es) k st i h =
       subst (λ z. Ok F Q M (k (suc l) z)) (sym (zip-from from (ren (word (suc l)) (e ∷ es)) (omega arith) st)) h
 
-  pub kid-ok : (w : Writes) (l from b n : ℕ) (es : List (ℕ × Slot l)) (k : Entries → Plan) → over w M (node n) ≡ node-value l (ren (word l) es)
+  pub kid-ok : (w : Writes) (l from b n : ℕ) (es : List (ℕ × Slot l)) (k : Entries → TreePlan) → over w M (node n) ≡ node-value l (ren (word l) es)
       → Starts l from (first-key-or es b) → fewest-entries l ≤ length es → Ok F Q M (k (ren (word l) es)) → Ok F Q M (kid w l from n k)
   kid-ok w l from b n es k a st i h =
-      let size : Entries → Plan = λ fs. ifd (decLe (fewest-entries l) (length fs)) (k fs) (P.fail no-tree) in
-      let tests : ℕ → Entries → Plan = λ j fs. ifd (ℕ-discrete j l) (size fs) (P.fail no-tree) in
+      let size : Entries → TreePlan = λ fs. ifd (decLe (fewest-entries l) (length fs)) (k fs) (P.fail no-tree) in
+      let tests : ℕ → Entries → TreePlan = λ j fs. ifd (ℕ-discrete j l) (size fs) (P.fail no-tree) in
       see-ok F Q M w (node n) (λ v. open-node from v tests)
       (subst (λ v. Ok F Q M (open-node from v tests)) (sym a)
       (open-ok l from b es tests st (omega (arith, bottom-mn l, i))
@@ -121,7 +121,7 @@ module _ (M : Obj → Val) (m : Map) (key : ℕ) where
   pub site-map : (p : Path zero) (es : Entries) → Site zero p es → left zero p ++ (es ++ right zero p) ≡ m
   site-map p es s = ap (λ z. left zero p ++ (z ++ right zero p)) (sym (leaf-pairs es)) ∙ s .focus .holds
 
-  module _ (F : Terms) (Q : Ans → Writes → Type 0) (k : List Branch → ℕ → Entries → Plan) (hk : (p : Path zero) (es : Entries) → Site zero p es → Ok F Q M (k (branches zero p) (nm zero p) es)) where
+  module _ (F : Terms) (Q : Ans → Writes → Type 0) (k : List Branch → ℕ → Entries → TreePlan) (hk : (p : Path zero) (es : Entries) → Site zero p es → Ok F Q M (k (branches zero p) (nm zero p) es)) where
     down-ok : (l : ℕ) (p : Path l) (es : List (ℕ × Slot l)) → Site l p es
         → Ok F Q M (down to-leaf key (λ _ fs n es. k fs n es) l (branches l p) (nm l p) (ren (word l) es))
     down-ok zero p es s = subst (λ z. Ok F Q M (k (branches zero p) (nm zero p) z)) (sym (leaf-words es)) (hk p es s)
@@ -130,7 +130,7 @@ module _ (M : Obj → Val) (m : Map) (key : ℕ) where
         let c = cut key e es in
         let D = site-down l p e es s in
         let P = frame (c .1 .0) (c .1 .1 .0) (c .0) (c .2) p in
-        let on : Cut ℕ → Plan = λ c. kid [] l (c .1 .0) (c .1 .1) (λ es′. down to-leaf key (λ _ fs n es. k fs n es) l
+        let on : Cut ℕ → TreePlan = λ c. kid [] l (c .1 .0) (c .1 .1) (λ es′. down to-leaf key (λ _ fs n es. k fs n es) l
         (record { nm = nm (suc l) p; key = c .1 .0; pre = c .0; post = c .2 } ∷ branches (suc l) p) (c .1 .1) es′) in
         subst (λ z. Ok F Q M (on z)) (sym (ren-cut (word (suc l)) key e es))
         (kid-ok F Q M [] l (c .1 .0) (first-key-or (c .2) (hi (suc l) p)) (c .1 .1 .0) (c .1 .1 .1)
@@ -140,7 +140,7 @@ module _ (M : Obj → Val) (m : Map) (key : ℕ) where
     pub root-ok : Rep M m → Ok F Q M (from-root key k)
     root-ok R =
         let r = R .name in
-        let on : ℕ → ℕ → Entries → Plan = λ r l es. down to-leaf key (λ _ fs n es. k fs n es) l [] r es in
+        let on : ℕ → ℕ → Entries → TreePlan = λ r l es. down to-leaf key (λ _ fs n es. k fs n es) l [] r es in
         subst (λ v. Ok F Q M (when-root v (λ r. at-root r (on r)))) (sym (R .tree .top-is))
         (subst (λ u. Ok F Q M (open-node 0 u (on r))) (sym (R .stored))
         (open-ok F Q M (R .level) 0 two-to-64 (R .ents) (on r) (R .tree .from) (R .least) (down-ok (R .level) (top r) (R .ents) (site-root R))))

@@ -10,7 +10,7 @@ use lib.Seq.{length-take-le}
 use Rattle.operations.specs.Object.{Obj, node, flag, Val, taken, Ans, Writes, with-value, over}
 use Rattle.operations.specs.Map.{Map, two-to-64}
 use Rattle.operations.specs.Entry.{Entries, node-value, fewest-entries, most-entries, first-key-or}
-use Rattle.operations.specs.Path.{Plan}
+use Rattle.operations.specs.Path.{TreePlan}
 use Rattle.operations.specs.Slot.{TreeSizes, Allowed, take-for, take-node}
 use Rattle.operations.specs.Change.{Go, parted, split-root, split, up}
 use Rattle.operations.specs.Chain.{one, tally, ren}
@@ -45,7 +45,7 @@ module _ (F : Terms) (sz : TreeSizes) (al : Allowed sz) (M : Obj → Val) (suppl
       let tk = length-take-le j es (omega (arith, n, x)) in
       let td = length-append (take j es) (drop j es) in
       let tt′ = ap length (take-append-drop j es) in
-      let on : Entries → Entries → ℕ → Writes → Plan = λ L R d w1. parted go l w1 (branch l k pre post p) c L d R in
+      let on : Entries → Entries → ℕ → Writes → TreePlan = λ L R d w1. parted go l w1 (branch l k pre post p) c L d R in
       take-for-ok F E M sz al supply c w (λ d w1. take-node w1 d (on (take j (ren W es)) (drop j (ren W es)) d w1)) t (f .marks)
       (λ d sm z.
       let w1 : Writes = (flag d, taken true) ∷ w in
@@ -92,7 +92,7 @@ module _ (F : Terms) (sz : TreeSizes) (al : Allowed sz) (M : Obj → Val) (suppl
       let td = length-append (take j es) (drop j es) in
       let tt′ = ap length (take-append-drop j es) in
       let end : ℕ → ℕ → Entries → Entries → Writes → Writes = λ c d L R w2. (node r, node-value (suc l) ((0, c) ∷ (first-key-or R 0, d) ∷ [])) ∷ (node d, node-value l R) ∷ (node c, node-value l L) ∷ w2 in
-      let last : ℕ → ℕ → Writes → Plan = λ c d w2. take-node w2 c (take-node w2 d (P.done (a, end c d A B w2))) in
+      let last : ℕ → ℕ → Writes → TreePlan = λ c d w2. take-node w2 c (take-node w2 d (P.done (a, end c d A B w2))) in
       let t1 : ℕ → ℕ = λ x. 0 + one r x + tally (cnt l) es x + 0 in
       take-for-ok F E M sz al supply r w (λ c w1. take-for sz r w1 (λ d w2. last c d w2)) t1 (f .marks)
       (λ c sm1 z1.

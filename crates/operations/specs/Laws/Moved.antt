@@ -14,7 +14,7 @@ use Rattle.operations.specs.Object.{Obj, meta, node, flag, object, Val, 
 use Rattle.operations.specs.Laws.Object.{kind-of}
 use Rattle.operations.specs.Map.{Map, two-to-64}
 use Rattle.operations.specs.Entry.{Entries, node-value, Cut, cut}
-use Rattle.operations.specs.Path.{Plan, kid, when-root, open-node, down}
+use Rattle.operations.specs.Path.{TreePlan, kid, when-root, open-node, down}
 use Rattle.operations.specs.Slot.{TreeSizes, Allowed, take-node, release}
 use Rattle.operations.specs.Migrate.{moved, move-root, move-at, to-level, first-key, move-below, move-if, migrate-plan}
 use Rattle.operations.specs.Chain.{one, tally, ren}
@@ -46,7 +46,7 @@ module _ (F : Terms) (sz : TreeSizes) (al : Allowed sz) (M : Obj → Val) (suppl
       let es = R .ents in
       let f = R .tree in
       let t : ℕ → ℕ = λ d. 0 + one r d + tally (cnt l) es d + 0 in
-      let end : ℕ → Writes → Plan = λ d w. P.done ((1, d), (node d, v) ∷ w) in
+      let end : ℕ → Writes → TreePlan = λ d w. P.done ((1, d), (node d, v) ∷ w) in
       take-at-ok F Kept M sz al supply s (slot-of r) [] (λ d w. take-node w d (release ((meta, root d) ∷ w) r (end d))) t server (f .marks)
       (λ d sm z.
       let w1 : Writes = (flag d, taken true) ∷ [] in
@@ -69,7 +69,7 @@ module _ (F : Terms) (sz : TreeSizes) (al : Allowed sz) (M : Obj → Val) (suppl
       let W = word (suc l) in
       let hole = frame k n pre post p in
       let t : ℕ → ℕ = λ d. around l hole d + one n d + tally (cnt l) es d + 0 in
-      let end : ℕ → Writes → Plan = λ d w. P.done ((1, d), (node (nm (suc l) p), node-value (suc l) (ren W pre ++ (k, d) ∷ ren W post)) ∷ (node d, v) ∷ w) in
+      let end : ℕ → Writes → TreePlan = λ d w. P.done ((1, d), (node (nm (suc l) p), node-value (suc l) (ren W pre ++ (k, d) ∷ ren W post)) ∷ (node d, v) ∷ w) in
       take-at-ok F Kept M sz al supply s (slot-of n) [] (λ d w. take-node w d (release w n (end d))) t server (f .marks)
       (λ d sm z.
       let w1 : Writes = (flag d, taken true) ∷ [] in
@@ -135,9 +135,9 @@ module _ (F : Terms) (sz : TreeSizes) (al : Allowed sz) (M : Obj → Val) (suppl
         let D = site-down M m key l p y es g in
         let hole = frame (c .1 .0) (c .1 .1 .0) (c .0) (c .2) p in
         let i = in-cut l p y es g h in
-        let there : Cut ℕ → Plan = λ c. moved sz n s v (λ d w. w) (λ d w. P.done ((1, d), (node (nm (suc l) p), node-value (suc l) (c .0 ++ (c .1 .0, d) ∷ c .2)) ∷ w)) in
-        let met-here : Cut ℕ → Plan = λ c. ifd (ℕ-discrete (c .1 .1) n) (there c) (P.fail no-tree) in
-        let on : Cut ℕ → Plan = λ c. kid [] l (c .1 .0) (c .1 .1)
+        let there : Cut ℕ → TreePlan = λ c. moved sz n s v (λ d w. w) (λ d w. P.done ((1, d), (node (nm (suc l) p), node-value (suc l) (c .0 ++ (c .1 .0, d) ∷ c .2)) ∷ w)) in
+        let met-here : Cut ℕ → TreePlan = λ c. ifd (ℕ-discrete (c .1 .1) n) (there c) (P.fail no-tree) in
+        let on : Cut ℕ → TreePlan = λ c. kid [] l (c .1 .0) (c .1 .1)
         (λ es′. down (to-level (suc lv)) key (move-at sz n s v key) l (record { nm = nm (suc l) p; key = c .1 .0; pre = c .0; post = c .2 } ∷ branches (suc l) p) (c .1 .1) es′) in
         cond-ok F Kept M (to-level (suc lv) (suc l)) (met-here (cut key (y .0, w (y .1)) (ren w es))) (on (cut key (y .0, w (y .1)) (ren w es)))
         (λ q. subst (λ z. Ok F Kept M (met-here z)) (sym (ren-cut w key y es))
@@ -184,8 +184,8 @@ module _ (F : Terms) (sz : TreeSizes) (al : Allowed sz) (M : Obj → Val) (suppl
       by (key ∷ ks) e i lt h =
           let r = R .name in
           let v = body (suc j) l (key ∷ ks) vs in
-          let go : ℕ → Entries → Plan = λ i es. down (to-level (suc l)) key (move-at sz n s v key) i [] r es in
-          let on : ℕ → Entries → Plan = λ i es. ifd (decLt l i) (go i es) (P.fail no-tree) in
+          let go : ℕ → Entries → TreePlan = λ i es. down (to-level (suc l)) key (move-at sz n s v key) i [] r es in
+          let on : ℕ → Entries → TreePlan = λ i es. ifd (decLt l i) (go i es) (P.fail no-tree) in
           subst (λ u. Ok F Kept M (open-node 0 u on)) (sym (R .stored))
           (open-ok F Kept M (R .level) 0 two-to-64 (R .ents) on (R .tree .from) (R .least)
           (if-ok F Kept M (decLt l (R .level)) _ (P.fail no-tree)

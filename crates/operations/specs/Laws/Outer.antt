@@ -12,7 +12,7 @@ use Rattle.operations.specs.Object.{node, Ask, object, Val, root, body, 
 use Rattle.operations.specs.Laws.Object.{inner, inner-node}
 use Rattle.operations.specs.Map.{Op, insert, lookup, delete, next, previous, migrate, compared}
 use Rattle.operations.specs.Entry.{Entries, fewest-entries, cut}
-use Rattle.operations.specs.Path.{Plan, open-node, kid, when-root, Branch, Cont, to-leaf, down, at-root, from-root}
+use Rattle.operations.specs.Path.{TreePlan, open-node, kid, when-root, Branch, Cont, to-leaf, down, at-root, from-root}
 use Rattle.operations.specs.Slot.{TreeSizes}
 use Rattle.operations.specs.Operation.{reading, plan}
 use Rattle.operations.specs.Laws.Along.{Along, Ended, along-exec, along-any, along-checked}
@@ -21,14 +21,14 @@ use Rattle.plans.specs.Laws.Walk as W
 
 -- G follows from a node read that is not inner
 module _ (G : Type 0) (A : Ask → Val → Type 0) (out : (n : ℕ) (v : Val) → A (object (node n)) v → inner-node v ≡ false → G) where
-  abbrev Outer : Plan → Type 0
+  abbrev Outer : TreePlan → Type 0
   Outer p = Along (λ q. Unit {0}) A (λ a w. G) p
 
   -- at level 0 it has been read
   abbrev Seen : ℕ → Type 0
   Seen l = l ≡ 0 → G
 
-  open-outer : (from n : ℕ) (v : Val) (k : ℕ → Entries → Plan) → A (object (node n)) v → ((l : ℕ) (es : Entries) → Seen l → Outer (k l es)) → Outer (open-node from v k)
+  open-outer : (from n : ℕ) (v : Val) (k : ℕ → Entries → TreePlan) → A (object (node n)) v → ((l : ℕ) (es : Entries) → Seen l → Outer (k l es)) → Outer (open-node from v k)
   open-outer from n (root r) k a h = tt
   open-outer from n (taken b) k a h = tt
   open-outer from n (flags fs) k a h = tt
@@ -39,9 +39,9 @@ module _ (G : Type 0) (A : Ask → Val → Type 0) (out : (n : ℕ) (v : Val) �
   open-outer from n (body (suc (suc zero)) (suc l) ks vs) k a h = h (suc l) _ (λ e. absurd (omega (arith, e)))
   open-outer from n (body (suc (suc (suc j))) l ks vs) k a h = tt
 
-  kid-outer : (l from n : ℕ) (k : Entries → Plan) → ((es : Entries) → Seen l → Outer (k es)) → Outer (kid [] l from n k)
+  kid-outer : (l from n : ℕ) (k : Entries → TreePlan) → ((es : Entries) → Seen l → Outer (k es)) → Outer (kid [] l from n k)
   kid-outer l from n k h =
-      let size : Entries → Plan = λ es. ifd (decLe (fewest-entries l) (length es)) (k es) (P.fail no-tree) in (
+      let size : Entries → TreePlan = λ es. ifd (decLe (fewest-entries l) (length es)) (k es) (P.fail no-tree) in (
         tt,
         λ v a. open-outer from n v (λ j es. ifd (ℕ-discrete j l) (size es) (P.fail no-tree)) a (λ j es s.
             ifd-all (ℕ-discrete j l) (size es) (P.fail no-tree) Outer
@@ -56,10 +56,10 @@ module _ (G : Type 0) (A : Ask → Val → Type 0) (out : (n : ℕ) (v : Val) �
       let f : Branch = record { nm = n; key = c .1 .0; pre = c .0; post = c .2 } in
       kid-outer l (c .1 .0) (c .1 .1) (λ gs. down to-leaf key k l (f ∷ fs) (c .1 .1) gs) (λ gs s. down-outer key k l (f ∷ fs) (c .1 .1) gs s)
 
-  root-outer : (key : ℕ) (k : List Branch → ℕ → Entries → Plan) → Outer (from-root key k)
+  root-outer : (key : ℕ) (k : List Branch → ℕ → Entries → TreePlan) → Outer (from-root key k)
   root-outer key k = (tt, λ v _. go v)
     where
-      on : ℕ → ℕ → Entries → Plan
+      on : ℕ → ℕ → Entries → TreePlan
       on r l es = down to-leaf key (λ _ fs n es. k fs n es) l [] r es
 
       go : (v : Val) → Outer (when-root v (λ r. at-root r (on r)))

@@ -5,22 +5,22 @@ use Prim.Native.Nat.{ℕ, zero, suc}
 use Rattle.plans.specs.Walk.{Every}
 use Rattle.operations.specs.Map.{said}
 use Rattle.operations.specs.Entry.{Entries, value-in, next-in, previous-in}
-use Rattle.operations.specs.Path.{Plan, Branch}
+use Rattle.operations.specs.Path.{TreePlan, Branch}
 use Rattle.operations.specs.Look.{told, Visit, rightward, leftward, seek, seek-up, nearest, lookup-plan, next-plan, previous-plan}
 use Rattle.operations.specs.Laws.Storable.{Scope, Children, Ok, kid-ok, Branched, Path, leaf-ok}
 use Rattle.plans.specs.Plan as P
 
 module _ (T : Scope) where
-  told-ok : (o : Option ℕ) (p : Plan) → Ok T p → Ok T (told o p)
+  told-ok : (o : Option ℕ) (p : TreePlan) → Ok T p → Ok T (told o p)
   told-ok none p h = h
   told-ok (some x) p h = tt
 
   -- what is done at children of the store
-  abbrev At-child : (ℕ → ℕ → Plan → Plan) → Type 0
-  At-child f = (k n : ℕ) (p : Plan) → (T .Z → T .N n) → Ok T p → Ok T (f k n p)
+  abbrev At-child : (ℕ → ℕ → TreePlan → TreePlan) → Type 0
+  At-child f = (k n : ℕ) (p : TreePlan) → (T .Z → T .N n) → Ok T p → Ok T (f k n p)
 
   abbrev Visits : Visit → Type 0
-  Visits t = (f : ℕ → ℕ → Plan → Plan) → At-child f → (es : Entries) (p : Plan) → (T .Z → Children T 1 es) → Ok T p → Ok T (t f es p)
+  Visits t = (f : ℕ → ℕ → TreePlan → TreePlan) → At-child f → (es : Entries) (p : TreePlan) → (T .Z → Children T 1 es) → Ok T p → Ok T (t f es p)
 
   right-ok : Visits rightward
   unfolding Every

@@ -7,7 +7,7 @@ use Rattle.nodes.specs.Vector.{or-else}
 use Rattle.operations.specs.Object.{Obj, node, Val, Ans, Writes}
 use Rattle.operations.specs.Map.{Map, look, above, below, said, two-to-64}
 use Rattle.operations.specs.Entry.{Entries, keys, first-key-or, value-in, next-in, previous-in}
-use Rattle.operations.specs.Path.{Plan}
+use Rattle.operations.specs.Path.{TreePlan}
 use Rattle.operations.specs.Look.{lookup-plan, told, Visit, rightward, leftward, seek, seek-up, next-plan, previous-plan}
 use Rattle.operations.specs.Laws.Chain.{Rising, chain-rising}
 use Rattle.operations.specs.Chain.{Chain, gather, ren}
@@ -38,17 +38,17 @@ module _ (F : Terms) (M : Obj → Val) (m : Map) (key : ℕ) (small : key < two-
     abbrev Q : Ans → Writes → Type 0
     Q = Ends M m (said T)
 
-    told-ok : (x y : Option ℕ) (p : Plan) → or-else x y ≡ T → (y ≡ T → Ok F Q M p) → Ok F Q M (told x p)
+    told-ok : (x y : Option ℕ) (p : TreePlan) → or-else x y ≡ T → (y ≡ T → Ok F Q M p) → Ok F Q M (told x p)
     told-ok none y p h k = k h
     told-ok (some v) y p h k = (ap said h, R)
 
     -- what is asked of one subtree, and of the way in which several are visited
-    abbrev Each : (ℕ → ℕ → Plan → Plan) → ℕ → Type 0
-    Each v l = (k b : ℕ) (s : Slot (suc l)) (y : Option ℕ) (p : Plan) → Entry N (suc l) k b s → or-else (g (pairs (suc l) k s)) y ≡ T → (y ≡ T → Ok F Q M p)
+    abbrev Each : (ℕ → ℕ → TreePlan → TreePlan) → ℕ → Type 0
+    Each v l = (k b : ℕ) (s : Slot (suc l)) (y : Option ℕ) (p : TreePlan) → Entry N (suc l) k b s → or-else (g (pairs (suc l) k s)) y ≡ T → (y ≡ T → Ok F Q M p)
         → Ok F Q M (v k (s .0) p)
 
     abbrev Visits : Visit → Type 0
-    Visits t = (v : ℕ → ℕ → Plan → Plan) (l b : ℕ) (es : List (ℕ × Slot (suc l))) (y : Option ℕ) (p : Plan) → Each v l → Chain (Entry N (suc l)) b es
+    Visits t = (v : ℕ → ℕ → TreePlan → TreePlan) (l b : ℕ) (es : List (ℕ × Slot (suc l))) (y : Option ℕ) (p : TreePlan) → Each v l → Chain (Entry N (suc l)) b es
         → or-else (g (gather (pairs (suc l)) es)) y ≡ T → (y ≡ T → Ok F Q M p) → Ok F Q M (t v (ren (word (suc l)) es) p)
 
     leaf-same : (b : ℕ) (es : Entries) → Chain (Entry N zero) b es → f (ren (word zero) es) ≡ g (gather (pairs zero) es)

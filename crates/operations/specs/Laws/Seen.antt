@@ -6,7 +6,7 @@ use Prim.Native.Nat.{ℕ}
 use Rattle.operations.specs.Object.{Obj, node, Ask, object, vector, fetched, Val, Why, no-tree, Ans, Writes, over}
 use Rattle.operations.specs.Laws.Object.{inner, written}
 use Rattle.operations.specs.Map.{Map, Op, insert, lookup, delete, next, previous, migrate, answer, compared, map-after}
-use Rattle.operations.specs.Path.{Plan}
+use Rattle.operations.specs.Path.{TreePlan}
 use Rattle.operations.specs.Slot.{TreeSizes, Allowed}
 use Rattle.operations.specs.Operation.{plan, Legal}
 use Rattle.operations.specs.Tree.{Holds-tree}
@@ -41,7 +41,7 @@ also rd (object o) = rd o
 also rd (vector s) = true
 also rd (fetched s) = true
 
-asked-with : (h : Hint) (rd : Obj → Bool) (M : Obj → Val) (p : Plan) → P.Asked (P-laws.hinted (hint-of h) p) rd M → P.Asked p (also rd) (P-laws.with-hint (hint-of h) M)
+asked-with : (h : Hint) (rd : Obj → Bool) (M : Obj → Val) (p : TreePlan) → P.Asked (P-laws.hinted (hint-of h) p) rd M → P.Asked p (also rd) (P-laws.with-hint (hint-of h) M)
 unfolding P-laws.hinted P.Asked P-laws.with-hint
 asked-with h rd M (P.ask (object o) k) g = (g .0, asked-with h rd M (k (M o)) (g .1))
 asked-with h rd M (P.ask (vector s) k) g = (refl, asked-with h rd M (k (h .copied s)) g)

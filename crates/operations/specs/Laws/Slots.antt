@@ -17,12 +17,11 @@ use Rattle.nodes.specs.Name.{name, server-of, slot-of}
 use Rattle.nodes.specs.Placement.{row}
 use Rattle.nodes.specs.Vector.{shifted, lowest-free, or-else, first-free}
 use Rattle.operations.specs.Object.{Obj, meta, node, flag, Val, taken, free, is-taken, flags-of, not-free, no-slot, Ans, Writes, with-value, over}
-use Rattle.operations.specs.Path.{Plan}
+use Rattle.operations.specs.Path.{TreePlan}
 use Rattle.operations.specs.Slot.{TreeSizes, Allowed, count-one, counted, free-slot, chosen, search, present, when-free-flag, take-flag, take-on, take-for, when-free-node, take-node, release}
 use Rattle.operations.specs.Laws.Ensures.{Terms, Ok, see-ok}
-use Rattle.operations.specs.Tree.{room, Mark}
+use Rattle.operations.specs.Tree.{room, Mark, True-of}
 use Rattle.operations.specs.Laws.Tree.{room-is}
-use Rattle.operations.specs.Slots.{True-of}
 
 -- P holds of the index, if there is one
 abbrev pub Each : (ℕ → Type 0) → Option ℕ → Type 0
@@ -121,10 +120,10 @@ present-below n [] = tt
 present-below n (s ∷ ss) = ifd-all (decLt s n) (s ∷ present n ss) (present n ss) (Every (λ s. s < n)) (λ i. (i, present-below n ss)) (λ _. present-below n ss)
 
 module _ (F : Terms) (Q : Ans → Writes → Type 0) (M : Obj → Val) where
-  pub take-node-ok : (w : Writes) (d : ℕ) (k : Plan) → over w M (node d) ≡ free → Ok F Q M k → Ok F Q M (take-node w d k)
+  pub take-node-ok : (w : Writes) (d : ℕ) (k : TreePlan) → over w M (node d) ≡ free → Ok F Q M k → Ok F Q M (take-node w d k)
   take-node-ok w d k e h = see-ok F Q M w (node d) (λ v. when-free-node v k) (subst (λ v. Ok F Q M (when-free-node v k)) (sym e) h)
 
-  pub release-ok : (w : Writes) (n : ℕ) (k : Writes → Plan) → Ok F Q M (k ((node n, free) ∷ (flag n, taken false) ∷ w)) → Ok F Q M (release w n k)
+  pub release-ok : (w : Writes) (n : ℕ) (k : Writes → TreePlan) → Ok F Q M (k ((node n, free) ∷ (flag n, taken false) ∷ w)) → Ok F Q M (release w n k)
   release-ok w n k h = see-ok F Q M w (flag n) (λ _. k ((node n, free) ∷ (flag n, taken false) ∷ w)) h
 
 -- THE SUPPLY OF SLOTS: a slot that is chosen is free, or to fail for it is allowed; to find none is allowed
@@ -138,7 +137,7 @@ module _ (F : Terms) (Q : Ans → Writes → Type 0) (M : Obj → Val) (sz : Tre
   Free-or w d = F .fails not-free ⊎ (is-taken (over w M (flag d)) ≡ false)
 
   -- a slot is taken only if its flag is free
-  take-flag-ok : (w : Writes) (d n : ℕ) (k : Writes → Plan) → Mark (over w M (flag d)) (over w M (node d)) n → Free-or w d
+  take-flag-ok : (w : Writes) (d n : ℕ) (k : Writes → TreePlan) → Mark (over w M (flag d)) (over w M (node d)) n → Free-or w d
       → (over w M (flag d) ≡ taken false → Ok F Q M (k ((flag d, taken true) ∷ w))) → Ok F Q M (take-flag w d k)
   take-flag-ok w d n k t u h = see-ok F Q M w (flag d) (λ v. when-free-flag v (k ((flag d, taken true) ∷ w))) (go t u)
     where
@@ -151,10 +150,10 @@ module _ (F : Terms) (Q : Ans → Writes → Type 0) (M : Obj → Val) (sz : Tre
       go (inr q) u = subst at (sym (q .1)) (h (q .1))
 
   -- what may follow a search
-  abbrev Follows : Writes → (ℕ → Plan) → Type 0
+  abbrev Follows : Writes → (ℕ → TreePlan) → Type 0
   Follows w k = (d : ℕ) → d < room → Free-or w d → Ok F Q M (k d)
 
-  chosen-ok : (w : Writes) (slot s : ℕ) (v : Val) (k : ℕ → Plan) (p : Plan) → s < sz .servers → F .shows s v → Follows w k → Ok F Q M p
+  chosen-ok : (w : Writes) (slot s : ℕ) (v : Val) (k : ℕ → TreePlan) (p : TreePlan) → s < sz .servers → F .shows s v → Follows w k → Ok F Q M p
       → Ok F Q M (chosen s (free-slot sz w slot s v) k p)
   chosen-ok w slot s v k p i t h g = go (free-slot sz w slot s v) (open-slot sz w slot s v)
     where
@@ -163,29 +162,29 @@ module _ (F : Terms) (Q : Ans → Writes → Type 0) (M : Obj → Val) (sz : Tre
       go (some j) u =
           let small : j < 1024 = omega (arith, u .0, al .1) in h (name s j) (omega (arith, i, al .0, small, room-is)) (supply .chosen-free w s j v t small (u .1))
 
-  search-ok : (w : Writes) (slot : ℕ) (ss : List ℕ) (k : ℕ → Plan) → Every (λ s. s < sz .servers) ss → Follows w k → Ok F Q M (search sz w slot ss k)
+  search-ok : (w : Writes) (slot : ℕ) (ss : List ℕ) (k : ℕ → TreePlan) → Every (λ s. s < sz .servers) ss → Follows w k → Ok F Q M (search sz w slot ss k)
   unfolding Every
   search-ok w slot [] k i h = supply .none-left
   search-ok w slot (s ∷ ss) k i h = λ v t. chosen-ok w slot s v k _ (i .0) t h (λ u t. chosen-ok w slot s u k _ (i .0) t h (search-ok w slot ss k (i .1) h))
 
   -- whichever slot is chosen, what follows is well where that slot is free
-  abbrev Takes : Writes → (ℕ → Writes → Plan) → Type 0
+  abbrev Takes : Writes → (ℕ → Writes → TreePlan) → Type 0
   Takes w k = (d : ℕ) → d < room → over w M (flag d) ≡ taken false → Ok F Q M (k d ((flag d, taken true) ∷ w))
 
   abbrev Marked : Writes → (ℕ → ℕ) → Type 0
   Marked w t = (x : ℕ) → Mark (over w M (flag x)) (over w M (node x)) (t x)
 
-  take-on-ok : (ss : List ℕ) (slot : ℕ) (w : Writes) (k : ℕ → Writes → Plan) (t : ℕ → ℕ) → Every (λ s. s < sz .servers) ss → Marked w t → Takes w k
+  take-on-ok : (ss : List ℕ) (slot : ℕ) (w : Writes) (k : ℕ → Writes → TreePlan) (t : ℕ → ℕ) → Every (λ s. s < sz .servers) ss → Marked w t → Takes w k
       → Ok F Q M (take-on sz ss slot w k)
   take-on-ok ss slot w k t i g h =
       search-ok w slot ss (λ d. take-flag w d (λ w′. k d w′)) i (λ d sm u. take-flag-ok w d (t d) (λ w′. k d w′) (g d) u (h d sm))
 
   -- on one server
-  pub take-at-ok : (s slot : ℕ) (w : Writes) (k : ℕ → Writes → Plan) (t : ℕ → ℕ) → s < sz .servers → Marked w t → Takes w k → Ok F Q M (take-on sz (s ∷ []) slot w k)
+  pub take-at-ok : (s slot : ℕ) (w : Writes) (k : ℕ → Writes → TreePlan) (t : ℕ → ℕ) → s < sz .servers → Marked w t → Takes w k → Ok F Q M (take-on sz (s ∷ []) slot w k)
   unfolding Every
   take-at-ok s slot w k t i g h = take-on-ok (s ∷ []) slot w k t (i, tt) g h
 
-  pub take-for-ok : (n : ℕ) (w : Writes) (k : ℕ → Writes → Plan) (t : ℕ → ℕ) → Marked w t → Takes w k → Ok F Q M (take-for sz n w k)
+  pub take-for-ok : (n : ℕ) (w : Writes) (k : ℕ → Writes → TreePlan) (t : ℕ → ℕ) → Marked w t → Takes w k → Ok F Q M (take-for sz n w k)
   take-for-ok n w k t g h =
       let ss = row (server-of n) in
       take-on-ok (present (sz .servers) ss) (slot-of n) w k t (present-below (sz .servers) ss) g h

@@ -5,26 +5,23 @@ use mathlib.Core.List.{[]}
 use mathlib.Core.Logic.{inl, inr}
 use Prim.Native.Nat.{ℕ, zero, suc, _+_, _≤_}
 use native.Mathlib.Omega.{arith}
-use Rattle.plans.specs.Plan.{gives, fails, exec}
-use Rattle.operations.specs.Object.{Obj, meta, node, flag, Ask, Val, flags-of, root, taken, free, Why, not-free, no-tree, no-slot, Ans, Writes, over}
+use Rattle.plans.specs.Plan.{fails, exec}
+use Rattle.operations.specs.Object.{Obj, node, flag, Ask, Val, flags-of, taken, Why, not-free, no-tree, no-slot, Ans, Writes, over, objects}
 use Rattle.operations.specs.Map.{Map, Op, insert, lookup, delete, next, previous, migrate, answer, compared, map-after}
-use Rattle.operations.specs.Entry.{node-value}
 use Rattle.operations.specs.Slot.{TreeSizes, Allowed}
 use Rattle.operations.specs.Operation.{reading, plan, Legal}
 use Rattle.operations.specs.Chain.{one}
 use Rattle.operations.specs.Laws.Chain.{one-same, one-other}
 use Rattle.operations.specs.Laws.Ensures.{Terms, Ok, Says, Shown, ok-says, ok-mono}
-use Rattle.operations.specs.Ensures.{objects}
-use Rattle.operations.specs.Tree.{room, Mark, Holds-tree}
+use Rattle.operations.specs.Tree.{room, Mark, Holds-tree, True-of}
 use Rattle.operations.specs.Laws.Tree.{room-is}
 use Rattle.operations.specs.Laws.Focus.{Rep, rep-of, holds-of}
-use Rattle.operations.specs.Slots.{True-of}
 use Rattle.operations.specs.Laws.Slots.{counted-true, Supply}
 use Rattle.operations.specs.Laws.Reads.{lookup-ok, next-ok, previous-ok}
 use Rattle.operations.specs.Laws.Changes.{insert-ok, delete-ok}
 use Rattle.operations.specs.Laws.Moved.{migrate-ok}
 use Rattle.operations.specs.Laws.Checked.{checked-ok, all-fit-rep}
-use Rattle.operations.specs.Sound.{Current}
+use Rattle.operations.specs.Sound.{Sound, No-reason-3, New-holds, new-store, Only-reason-5}
 
 module _ (sz : TreeSizes) (al : Allowed sz) where
   -- what an answer with its writes has to be
@@ -63,13 +60,12 @@ module _ (sz : TreeSizes) (al : Allowed sz) where
   any-outcome : (op : Op) → Legal sz op → (S : Ask → Val) (m : Map) → Holds-tree (objects S) m → Says any (Right op (objects S) m) (exec (plan sz op) S)
   any-outcome op i S m h = outcome any op i S m (record { chosen-free = λ w s i v t j o. inl tt; none-left = tt }) (λ s. (tt, tt)) h
 
-  pub sound : (op : Op) → Legal sz op → (S : Ask → Val) (m : Map) (a : Ans) (w : Writes) → Holds-tree (objects S) m → exec (plan sz op) S ≡ gives (a, w)
-      → (compared op ≡ true → a ≡ answer op m) × Holds-tree (over w (objects S)) (map-after op m)
+  pub sound : (op : Op) → Legal sz op → Sound sz op
   sound op i S m a w h e =
       let r : Right op (objects S) m a w = subst (Says any (Right op (objects S) m)) e (any-outcome op i S m h) in
       (r .0, holds-of (over w (objects S)) (map-after op m) (r .1))
 
-  pub no-reason-3 : (op : Op) → Legal sz op → (S : Ask → Val) (m : Map) → Holds-tree (objects S) m → exec (plan sz op) S ≡ fails no-tree → ⊥
+  pub no-reason-3 : (op : Op) → Legal sz op → No-reason-3 sz op
   no-reason-3 op i S m h e = subst (Says any (Right op (objects S) m)) e (any-outcome op i S m h)
 
   abbrev only-5 : Why → Type 0
@@ -78,7 +74,7 @@ module _ (sz : TreeSizes) (al : Allowed sz) where
   only-5 no-slot = Unit {0}
 
   -- so an operation on a tree, with vectors that show its flags, answers or finds no slot
-  pub only-reason-5 : (op : Op) → Legal sz op → (S : Ask → Val) (m : Map) → Holds-tree (objects S) m → Current sz al S → (y : Why) → exec (plan sz op) S ≡ fails y → y ≡ no-slot
+  pub only-reason-5 : (op : Op) → Legal sz op → Only-reason-5 sz op
   only-reason-5 op i S m h t y e =
       let M = objects S in
       let F : Terms = record { fails = only-5; shows = λ s v. True-of M s (flags-of v) } in
@@ -90,15 +86,7 @@ module _ (sz : TreeSizes) (al : Allowed sz) where
       by no-tree x = absurd x
       by no-slot x = refl
 
--- "A new store has the root, an empty leaf, in node 0": it holds the empty map
-abbrev pub new-store : Obj → Val
-new-store meta = root 0
-new-store (node zero) = node-value 0 []
-new-store (node (suc n)) = free
-new-store (flag zero) = taken true
-new-store (flag (suc n)) = taken false
-
-pub new-holds : Holds-tree new-store []
+pub new-holds : New-holds
 unfolding room
 new-holds = record {
   level = 0;

@@ -17,7 +17,7 @@ use Rattle.nodes.specs.Name.{name}
 use Rattle.nodes.specs.Place.{place}
 use Rattle.operations.specs.Object.{Obj, meta, node, flag, Ask, object, vector, fetched, Val, root, body, taken, flags, free, flags-of, Why, no-tree, Ans, Writes, hit}
 use Rattle.operations.specs.Entry.{Entries, keys, vals, zip, node-value, fewest-entries, most-entries, cut-at, cut}
-use Rattle.operations.specs.Path.{Plan, see, when-root, open-node, kid, Branch, Cont, to-leaf, down, at-root, from-root}
+use Rattle.operations.specs.Path.{TreePlan, see, when-root, open-node, kid, Branch, Cont, to-leaf, down, at-root, from-root}
 use Rattle.operations.specs.Slot.{TreeSizes, counted, free-slot, chosen, search, when-free-flag, take-flag, take-on, when-free-node, take-node, release}
 use Rattle.operations.specs.Laws.Arrays.{entries-length}
 use Rattle.operations.specs.Laws.Slots.{Each, Open, open-slot}
@@ -191,7 +191,7 @@ module _ (T : Scope) where
   All-well [] = Unit {0}
   All-well (e ∷ w) = Well (e .0) (e .1) × All-well w
 
-  abbrev pub Ok : Plan → Type 0
+  abbrev pub Ok : TreePlan → Type 0
   Ok p = Along Asks Read (λ a w. All-well w) p
 
   -- and what it comes to
@@ -205,7 +205,7 @@ module _ (T : Scope) where
   pub mk-well : (l n : ℕ) (es : Entries) → Met n → (Z → Sized l es) → Well (node n) (node-value l es)
   mk-well l n es m s = (m .0, λ z. (m .1 z, mk-storable l n es (s z)))
 
-  pub see-ok : (w : Writes) (o : Obj) (k : Val → Plan) → All-well w → (Z → Named N o) → ((v : Val) → Well o v → Ok (k v)) → Ok (see w o k)
+  pub see-ok : (w : Writes) (o : Obj) (k : Val → TreePlan) → All-well w → (Z → Named N o) → ((v : Val) → Well o v → Ok (k v)) → Ok (see w o k)
   see-ok [] o k h n g = (n, λ v a. g v (a .0, λ z. (n z, a .1 z)))
   see-ok (e ∷ w) o k h n g = go (hit (e .0) o) refl (see-ok w o k (h .1) n g)
     where
@@ -213,10 +213,10 @@ module _ (T : Scope) where
       go true q r = g (e .1) (subst (λ o. Well o (e .1)) (hit-eq (e .0) o q) (h .0))
       go false q r = r
 
-  pub if-ok : {P : Type 0} (d : Dec P) (p q : Plan) → (P → Ok p) → ((P → ⊥) → Ok q) → Ok (ifd d p q)
+  pub if-ok : {P : Type 0} (d : Dec P) (p q : TreePlan) → (P → Ok p) → ((P → ⊥) → Ok q) → Ok (ifd d p q)
   if-ok d p q h g = ifd-all d p q Ok h g
 
-  open-ok : (lo n : ℕ) (v : Val) (k : ℕ → Entries → Plan) → Well (node n) v → ((l : ℕ) (es : Entries) → Met n → (Z → Sized l es) → Ok (k l es)) → Ok (open-node lo v k)
+  open-ok : (lo n : ℕ) (v : Val) (k : ℕ → Entries → TreePlan) → Well (node n) v → ((l : ℕ) (es : Entries) → Met n → (Z → Sized l es) → Ok (k l es)) → Ok (open-node lo v k)
   open-ok lo n (root r) k s h = tt
   open-ok lo n (taken t) k s h = tt
   open-ok lo n (flags fs) k s h = tt
@@ -227,7 +227,7 @@ module _ (T : Scope) where
   open-ok lo n (body (suc (suc zero)) (suc l) ks vs) k s h = h (suc l) (zip (lo ∷ ks) vs) (s .0, λ z. s .1 z .0) (λ z. inner-sized lo l ks vs (s .1 z .1))
   open-ok lo n (body (suc (suc (suc j))) l ks vs) k s h = tt
 
-  pub kid-ok : (w : Writes) (l lo n : ℕ) (k : Entries → Plan) → All-well w → (Z → N n)
+  pub kid-ok : (w : Writes) (l lo n : ℕ) (k : Entries → TreePlan) → All-well w → (Z → N n)
       → ((es : Entries) → Met n → (Z → Sized l es) → fewest-entries l ≤ length es → Ok (k es)) → Ok (kid w l lo n k)
   kid-ok w l lo n k h i g =
       see-ok w (node n) _ h i (λ v s. open-ok lo n v _ s (λ j es m f.
@@ -277,27 +277,27 @@ module _ (T : Scope) where
       (kid-ok [] l (c .1 .0) (c .1 .1) (λ es′. down stop key k l (f ∷ fs) (c .1 .1) es′) tt (λ z. cut-ok key l e es (s z) .1)
       (λ es′ m′ g _. down-ok stop key k hk l (f ∷ fs) (c .1 .1) es′ ((m, λ z. cut-ok key l e es (s z) .0), h) m′ g))
     where
-      either : (b : Bool) → stop (suc l) ≡ b → (p q : Plan) → (stop (suc l) ≡ true → Ok p) → Ok q → Ok (cond b p q)
+      either : (b : Bool) → stop (suc l) ≡ b → (p q : TreePlan) → (stop (suc l) ≡ true → Ok p) → Ok q → Ok (cond b p q)
       either true e p q h g = h e
       either false e p q h g = g
 
-  pub root-ok : (v : Val) (k : ℕ → Plan) → Well meta v → ((r : ℕ) → (Z → N r) → Ok (k r)) → Ok (when-root v k)
+  pub root-ok : (v : Val) (k : ℕ → TreePlan) → Well meta v → ((r : ℕ) → (Z → N r) → Ok (k r)) → Ok (when-root v k)
   root-ok (root r) k s h = h r (λ z. s .1 z .1)
   root-ok (body j l ks vs) k s h = tt
   root-ok (taken b) k s h = tt
   root-ok (flags fs) k s h = tt
 
-  pub at-root-ok : (r : ℕ) (k : ℕ → Entries → Plan) → (Z → N r) → ((l : ℕ) (es : Entries) → Met r → (Z → Sized l es) → Ok (k l es)) → Ok (at-root r k)
+  pub at-root-ok : (r : ℕ) (k : ℕ → Entries → TreePlan) → (Z → N r) → ((l : ℕ) (es : Entries) → Met r → (Z → Sized l es) → Ok (k l es)) → Ok (at-root r k)
   at-root-ok r k i h = see-ok [] (node r) (λ u. open-node 0 u k) tt i (λ u s. open-ok 0 r u k s h)
 
   -- to a leaf
-  pub leaf-ok : (key : ℕ) (k : List Branch → ℕ → Entries → Plan)
+  pub leaf-ok : (key : ℕ) (k : List Branch → ℕ → Entries → TreePlan)
       → ((fs : List Branch) (n : ℕ) (es : Entries) → Path fs → Met n → (Z → Sized 0 es) → Ok (k fs n es)) → Ok (from-root key k)
   leaf-ok key k hk =
       see-ok [] meta (λ v. when-root v (λ r. at-root r (on r))) tt (λ _. tt) (λ v s. root-ok v (λ r. at-root r (on r)) s (λ r i.
       at-root-ok r (on r) i (λ l es m s. down-ok to-leaf key (λ _ fs n es. k fs n es) end l [] r es tt m s)))
     where
-      on : ℕ → ℕ → Entries → Plan
+      on : ℕ → ℕ → Entries → TreePlan
       on r l es = down to-leaf key (λ _ fs n es. k fs n es) l [] r es
 
       end : (l : ℕ) (fs : List Branch) (n : ℕ) (es : Entries) → Path fs → Met n → (Z → Sized l es) → Stops to-leaf l → Ok (k fs n es)
@@ -306,7 +306,7 @@ module _ (T : Scope) where
       end (suc l) fs n es p m s (inr e) = absurd (false≢true e)
 
   -- SLOTS
-  flag-ok : (w : Writes) (d : ℕ) (k : Writes → Plan) → All-well w → (Z → N d) → ((u : Writes) → All-well u → Ok (k u)) → Ok (take-flag w d k)
+  flag-ok : (w : Writes) (d : ℕ) (k : Writes → TreePlan) → All-well w → (Z → N d) → ((u : Writes) → All-well u → Ok (k u)) → Ok (take-flag w d k)
   flag-ok w d k h i g =
       see-ok w (flag d) (λ v. when-free-flag v (k ((flag d, taken true) ∷ w))) h i (λ v s. go v (g ((flag d, taken true) ∷ w) ((s .0, λ z. (i z, tt)), h)))
     where
@@ -317,7 +317,7 @@ module _ (T : Scope) where
       go (taken false) q = q
       go (flags fs) q = tt
 
-  pub node-ok : (w : Writes) (d : ℕ) (k : Plan) → All-well w → (Z → N d) → (Met d → Ok k) → Ok (take-node w d k)
+  pub node-ok : (w : Writes) (d : ℕ) (k : TreePlan) → All-well w → (Z → N d) → (Met d → Ok k) → Ok (take-node w d k)
   node-ok w d k h i g = see-ok w (node d) (λ v. when-free-node v k) h i (λ v s. go v (g (s .0, i)))
     where
       go : (v : Val) → Ok k → Ok (when-free-node v k)
@@ -327,7 +327,7 @@ module _ (T : Scope) where
       go (taken b) q = tt
       go (flags fs) q = tt
 
-  pub release-ok : (w : Writes) (n : ℕ) (k : Writes → Plan) → All-well w → Met n → ((u : Writes) → All-well u → Ok (k u)) → Ok (release w n k)
+  pub release-ok : (w : Writes) (n : ℕ) (k : Writes → TreePlan) → All-well w → Met n → ((u : Writes) → All-well u → Ok (k u)) → Ok (release w n k)
   release-ok w n k h m g =
       see-ok w (flag n) (λ _. k ((node n, free) ∷ (flag n, taken false) ∷ w)) h (m .1)
       (λ v s. g ((node n, free) ∷ (flag n, taken false) ∷ w) ((m .0, λ z. (m .1 z, free-storable n)), ((s .0, λ z. (m .1 z, tt)), h)))
@@ -336,19 +336,19 @@ module _ (T : Scope) where
   abbrev pub Servers : List ℕ → Type 0
   Servers ss = Every (λ s. s < T .sz .servers) ss
 
-  search-ok : (w : Writes) (slot : ℕ) (ss : List ℕ) (k : ℕ → Plan) → (Z → Servers ss) → ((d : ℕ) → (Z → N d) → Ok (k d)) → Ok (search (T .sz) w slot ss k)
+  search-ok : (w : Writes) (slot : ℕ) (ss : List ℕ) (k : ℕ → TreePlan) → (Z → Servers ss) → ((d : ℕ) → (Z → N d) → Ok (k d)) → Ok (search (T .sz) w slot ss k)
   unfolding Every
   search-ok w slot [] k i h = tt
   search-ok w slot (s ∷ ss) k i h =
       (λ z. i z .0, λ v _. go v _ (λ z. i z .0, λ u _. go u (search (T .sz) w slot ss k) (search-ok w slot ss k (λ z. i z .1) h)))
     where
-      go : (v : Val) (p : Plan) → Ok p → Ok (chosen s (free-slot (T .sz) w slot s v) k p)
+      go : (v : Val) (p : TreePlan) → Ok p → Ok (chosen s (free-slot (T .sz) w slot s v) k p)
       go v p q = by (free-slot (T .sz) w slot s v) (open-slot (T .sz) w slot s v)
         where
           by : (o : Option ℕ) → Each (λ j. (j < T .sz .slots) × Open (counted w s (flags-of v)) j) o → Ok (chosen s o k p)
           by none u = q
           by (some j) u = h (name s j) (λ z. T .new s j (i z .0) (u .0))
 
-  pub take-ok : (ss : List ℕ) (slot : ℕ) (w : Writes) (k : ℕ → Writes → Plan) → All-well w → (Z → Servers ss)
+  pub take-ok : (ss : List ℕ) (slot : ℕ) (w : Writes) (k : ℕ → Writes → TreePlan) → All-well w → (Z → Servers ss)
       → ((d : ℕ) (u : Writes) → (Z → N d) → All-well u → Ok (k d u)) → Ok (take-on (T .sz) ss slot w k)
   take-ok ss slot w k h i g = search-ok w slot ss (λ d. take-flag w d (λ u. k d u)) i (λ d n. flag-ok w d (λ u. k d u) h n (λ u a. g d u n a))

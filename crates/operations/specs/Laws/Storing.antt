@@ -16,7 +16,7 @@ use Rattle.nodes.specs.Placement.{row}
 use Rattle.operations.specs.Object.{Obj, meta, node, Ask, object, vector, fetched, Val, root, body, taken, flags, no-tree, Ans, Writes}
 use Rattle.operations.specs.Map.{Op, insert, lookup, delete, next, previous, migrate, fresh}
 use Rattle.operations.specs.Entry.{Entries, keys, node-value, fewest-entries, most-entries, first-key-or, cut, index, value-in, with-at, with-pair}
-use Rattle.operations.specs.Path.{Plan, when-root, Branch}
+use Rattle.operations.specs.Path.{TreePlan, when-root, Branch}
 use Rattle.operations.specs.Slot.{TreeSizes, present, take-for, take-node, release}
 use Rattle.operations.specs.Laws.Slots.{present-below}
 use Rattle.operations.specs.Change.{Go, with-one, with-two, parted, at-top, onward, collapsed, merged, with-right, with-left, unsnoc-step, unsnoc, left-of, neighbour, split-root, split, up, delete-at}
@@ -190,7 +190,7 @@ module _ (T : Scope) where
       let ss = present (sz .servers) (row (server-of r)) in
       let f : Branch = record { nm = r; key = 0; pre = []; post = [] } in
       let top : Go = λ w′ es′. P.done (a, (node r, node-value (suc l) es′) ∷ w′) in
-      let both : ℕ → ℕ → Writes → Plan = λ c d w2. take-node w2 c (take-node w2 d (parted top l w2 f c (take (fewest-entries l) es) d (drop (fewest-entries l) es))) in
+      let both : ℕ → ℕ → Writes → TreePlan = λ c d w2. take-node w2 c (take-node w2 d (parted top l w2 f c (take (fewest-entries l) es) d (drop (fewest-entries l) es))) in
       take-ok T ss (slot-of r) w (λ c w1. take-for sz r w1 (both c)) h (in-order r) (λ c w1 i n1.
       take-ok T ss (slot-of r) w1 (both c) n1 (in-order r) (λ d w2 j n2. node-ok T w2 c _ n2 i (λ mc. node-ok T w2 d _ n2 j (λ md. (
         mk-well T (suc l) r (with-two f c (first-key-or (drop (fewest-entries l) es) 0) d) m (λ z. record { some-child = omega arith; few = omega arith; children = (i z, (j z, tt)) }),
@@ -228,11 +228,11 @@ module _ (T : Scope) where
 
   -- ---- MIGRATE
   module _ (n s : ℕ) (server : Z → s < sz .servers) (m : Met T n) (v : Val) (kept : Z → Storable N (node n) v) where
-    moved-ok : (x : ℕ → Writes → Writes) (k : ℕ → Writes → Plan) → ((d : ℕ) (w : Writes) → (Z → N d) → All-well T w → All-well T (x d w))
+    moved-ok : (x : ℕ → Writes → Writes) (k : ℕ → Writes → TreePlan) → ((d : ℕ) (w : Writes) → (Z → N d) → All-well T w → All-well T (x d w))
         → ((d : ℕ) (w : Writes) → (Z → N d) → All-well T w → Ok T (k d w)) → Ok T (moved sz n s v x k)
     unfolding Every
     moved-ok x k hx hk =
-        let on : ℕ → Writes → Plan = λ d w. k d ((node d, v) ∷ w) in
+        let on : ℕ → Writes → TreePlan = λ d w. k d ((node d, v) ∷ w) in
         take-ok T (s ∷ []) (slot-of n) [] (λ d w. take-node w d (release (x d w) n (on d))) tt (λ z. (server z, tt)) (λ d w i h.
         node-ok T w d _ h i (λ md. release-ok T (x d w) n (on d) (hx d w i h) m (λ u g. hk d ((node d, v) ∷ u) i ((md .0, λ z. (i z, elsewhere d v (kept z))), g))))
       where
@@ -249,7 +249,7 @@ module _ (T : Scope) where
     move-at-ok key (suc l) fs p (e ∷ es) o h =
         let c = cut key e es in
         let f : Branch = record { nm = p; key = c .1 .0; pre = c .0; post = c .2 } in
-        let end : ℕ → Writes → Plan = λ d w. P.done ((1, d), (node p, node-value (suc l) (with-one f d)) ∷ w) in
+        let end : ℕ → Writes → TreePlan = λ d w. P.done ((1, d), (node p, node-value (suc l) (with-one f d)) ∷ w) in
         if-ok T (ℕ-discrete (c .1 .1) n) _ (P.fail no-tree)
         (λ _. moved-ok (λ d w. w) end (λ d w i g. g)
         (λ d w i g. (mk-well T (suc l) p (with-one f d) o (λ z. one-within 15 l f d (omega arith) (cut-ok T key l e es (h z) .0) (i z)), g))) (λ _. tt)

@@ -4,7 +4,7 @@ use mathlib.Core.Bool.{Bool, true, false, cond}
 use mathlib.Core.List.{[], _∷_}
 use Rattle.operations.specs.Object.{Obj, object, Val, Writes, hit, over, written-value}
 use Rattle.operations.specs.Laws.Object.{written}
-use Rattle.operations.specs.Path.{Plan, see}
+use Rattle.operations.specs.Path.{TreePlan, see}
 use Rattle.plans.specs.Plan as P
 
 pub over-is : (w : Writes) (M : Obj → Val) (o : Obj) → over w M o ≡ cond (written w o) (written-value w o) (M o)
@@ -17,7 +17,7 @@ over-is (e ∷ w) M o = go (hit (e .0) o) (over-is w M o)
     go false r = r
 
 -- own writes are read, everything else is asked for
-pub see-is : (w : Writes) (o : Obj) (k : Val → Plan) → see w o k ≡ cond (written w o) (k (written-value w o)) (P.ask (object o) k)
+pub see-is : (w : Writes) (o : Obj) (k : Val → TreePlan) → see w o k ≡ cond (written w o) (k (written-value w o)) (P.ask (object o) k)
 see-is [] o k = refl
 see-is (e ∷ w) o k = go (hit (e .0) o) (see-is w o k)
   where

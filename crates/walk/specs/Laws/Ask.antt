@@ -22,7 +22,7 @@ use Rattle.nodes.specs.Laws.Range.{range-count}
 use Rattle.nodes.specs.Found.{Inside}
 use Rattle.operations.specs.Object.{Obj, meta, node, flag, Ask, object, vector, fetched, Val, Writes, hit}
 use Rattle.operations.specs.Slot.{TreeSizes}
-use Rattle.operations.specs.Path.{Plan, see}
+use Rattle.operations.specs.Path.{TreePlan, see}
 use Rattle.client.specs.declared.answer.How.{How}
 use Rattle.client.specs.declared.answer.How.the-variants.{Here, Copied, Full, Lacking, Broken}
 use Rattle.client.specs.declared.answer.Look.{Look}
@@ -45,11 +45,11 @@ use Rattle.walk.specs.Ask.{Small, write-of, OwnGood, Holds-writes, nothi
 use Rattle.plans.specs.Plan as P
 use Rattle.client.specs.declared.part.Set.the-variants as set
 
-abbrev pub or-ask : Obj → (Val → Plan) → Option Val → Plan
+abbrev pub or-ask : Obj → (Val → TreePlan) → Option Val → TreePlan
 or-ask o k none = P.ask (object o) k
 or-ask o k (some v) = k v
 
-pub see-is : (w : Writes) (o : Obj) (k : Val → Plan) → see w o k ≡ or-ask o k (write-of w o)
+pub see-is : (w : Writes) (o : Obj) (k : Val → TreePlan) → see w o k ≡ or-ask o k (write-of w o)
 see-is [] o k = refl
 see-is (e ∷ w) o k = go (hit (e .0) o) refl (see-is w o k)
   where
@@ -143,7 +143,7 @@ module _ (m : ClientWord → ℕ) where
       go Absent (At i) p q = rw (source, p, q)
       go Absent Absent p q = rw (source, p, q) (sym (rw (source, p, q) at h) ∙ copied-found x)
 
-module _ (z : TreeSizes) (m : ClientWord → ℕ) (o : Obj) (k : Val → Plan) (us : List ℕ) where
+module _ (z : TreeSizes) (m : ClientWord → ℕ) (o : Obj) (k : Val → TreePlan) (us : List ℕ) where
   abbrev pub met : How → Node → Ran
   met Here n = worked z m (k (value-of o n)) us
   met Copied n = worked z m (k (value-of o n)) (us ++ (number o ∷ []))
@@ -151,7 +151,7 @@ module _ (z : TreeSizes) (m : ClientWord → ℕ) (o : Obj) (k : Val → Plan) (
   met Lacking n = ran (lacks (object o)) us
   met Broken n = ran (lacks (object o)) us
 
-module _ (z : TreeSizes) (m : ClientWord → ℕ) (x u : List ℕ) (w : Writes) (o : Obj) (t : object-in-store z o ≡ true) (v : over m (used-in u) ≡ false) (k : Val → Plan) where
+module _ (z : TreeSizes) (m : ClientWord → ℕ) (x u : List ℕ) (w : Writes) (o : Obj) (t : object-in-store z o ≡ true) (v : over m (used-in u) ≡ false) (k : Val → TreePlan) where
   abbrev asked-run : Ran
   asked-run = run (have z m) (fresh m) (room m) (P.ask (object o) k) (used-in u)
 

@@ -8,7 +8,7 @@ use lib.Dec.{ltb}
 use lib.ListN.{length, getD}
 use borrow.Author.Tests.{le-ltb}
 use Rattle.operations.specs.Slot.{TreeSizes}
-use Rattle.operations.specs.Path.{Plan}
+use Rattle.operations.specs.Path.{TreePlan}
 use Rattle.client.specs.declared.part.Set.the-variants.{Reads}
 use Rattle.client.specs.Layout.{ClientWord}
 use Rattle.client.specs.Sets.{count}
@@ -20,7 +20,7 @@ use Rattle.walk.specs.Ask.{Noted}
 use Rattle.walk.specs.Laws.Ask.{reads-few}
 
 -- a walk from the start is the run of the plan, told
-pub walk-begins : (z : TreeSizes) (m : ClientWord → ℕ) (p : Plan)
+pub walk-begins : (z : TreeSizes) (m : ClientWord → ℕ) (p : TreePlan)
     → walked z m p [] ≡ tell z m (run (have z m) (fresh m) (room m) p [] .how) (run (have z m) (fresh m) (room m) p [] .used)
 unfolding walked worked over
 walk-begins z m p =

@@ -23,7 +23,7 @@ use Rattle.nodes.specs.Kept.{Whole}
 use Rattle.nodes.specs.Laws.Kept.{length-entriesOf}
 use Rattle.operations.specs.Object.{node, body, no-tree}
 use Rattle.operations.specs.Entry.{Entries, zip, keys, vals, node-value, fewest-entries, cut-at, index, value-in}
-use Rattle.operations.specs.Path.{Plan, open-node, kid, Branch, Cont, down}
+use Rattle.operations.specs.Path.{TreePlan, open-node, kid, Branch, Cont, down}
 use Rattle.client.specs.Record.{value-of}
 use Rattle.walk.specs.Entries.{opens, below, Inner, branch-of, Below}
 use Rattle.plans.specs.Plan as P
@@ -34,7 +34,7 @@ zip-same [] vs = refl
 zip-same (k ∷ ks) [] = refl
 zip-same (k ∷ ks) (v ∷ vs) = ap (λ (l : Entries). (k, v) ∷ l) (zip-same ks vs)
 
-open-body : (lo k l : ℕ) (ks vs : List ℕ) (c : ℕ → Entries → Plan)
+open-body : (lo k l : ℕ) (ks vs : List ℕ) (c : ℕ → Entries → TreePlan)
     → open-node lo (body k l ks vs) c ≡ cond (cond (eqb k 1) (eqb l 0) (cond (eqb k 2) (ltb 0 l) false)) (c l (entries (extra k) lo ks vs)) (P.fail no-tree)
 unfolding entries extra
 open-body lo zero l ks vs c = refl
@@ -47,7 +47,7 @@ open-body lo (suc (suc (suc k))) l ks vs c =
     let b : suc (suc (suc k)) ≡ 2 → ⊥ = λ e. omega arith in
     rw (ne-eqb (suc (suc (suc k))) 1 a, ne-eqb (suc (suc (suc k))) 2 b)
 
-pub open-is : (lo x : ℕ) (n : Node) (c : ℕ → Entries → Plan)
+pub open-is : (lo x : ℕ) (n : Node) (c : ℕ → Entries → TreePlan)
     → open-node lo (value-of (node x) n) c ≡ cond (opens n) (c (n .level) (entriesOf n lo)) (P.fail no-tree)
 unfolding opens entriesOf
 open-is lo x n c = open-body lo (n .kind) (n .level) (keysOf n) (slotsOf n) c
@@ -87,7 +87,7 @@ unfolding extra
 extra-inner n h = rw (h .kind)
 
 -- enough entries: 7 keys
-enough-by : (l c len : ℕ) (a b : Plan) → (l ≡ 0 → len ≡ c) → (0 < l → len ≡ c + 1) → ifd (decLe (fewest-entries l) len) a b ≡ cond (leb 7 c) a b
+enough-by : (l c len : ℕ) (a b : TreePlan) → (l ≡ 0 → len ≡ c) → (0 < l → len ≡ c + 1) → ifd (decLe (fewest-entries l) len) a b ≡ cond (leb 7 c) a b
 enough-by l c len a b z s = go l refl (leb 7 c) refl
   where
     go : (j : ℕ) → l ≡ j → (t : Bool) → leb 7 c ≡ t → ifd (decLe (fewest-entries l) len) a b ≡ cond (leb 7 c) a b
@@ -96,7 +96,7 @@ enough-by l c len a b z s = go l refl (leb 7 c) refl
     go (suc j) e true p = let g : 7 ≤ c = leb-true 7 c p in let d : fewest-entries l ≤ len = rw e (omega (arith, s (omega arith))) in rw p (ifd-yes (decLe (fewest-entries l) len) a b d)
     go (suc j) e false p = let g : c < 7 = leb-false 7 c p in let y = s (omega arith) in let d : fewest-entries l ≤ len → ⊥ = rw e (λ q. omega (arith, y, q)) in rw p (ifd-no (decLe (fewest-entries l) len) a b d)
 
-enough : (n : Node) (lo : ℕ) → Whole n → opens n ≡ true → (a b : Plan)
+enough : (n : Node) (lo : ℕ) → Whole n → opens n ≡ true → (a b : TreePlan)
     → ifd (decLe (fewest-entries (n .level)) (length (entriesOf n lo))) a b ≡ cond (leb 7 (n .count)) a b
 enough n lo f h a b =
     enough-by (n .level) (n .count) (length (entriesOf n lo)) a b
@@ -104,7 +104,7 @@ enough n lo f h a b =
     (λ z. let x = extra-inner n (open-inner n h z) in omega (arith, length-entriesOf n lo f))
 
 -- what a plan makes of a node below the root
-pub child-is : (l lo x : ℕ) (n : Node) → Whole n → (k : Entries → Plan)
+pub child-is : (l lo x : ℕ) (n : Node) → Whole n → (k : Entries → TreePlan)
     → open-node lo (value-of (node x) n) (λ j es. ifd (ℕ-discrete j l) (ifd (decLe (fewest-entries l) (length es)) (k es) (P.fail no-tree)) (P.fail no-tree))
     ≡ cond (below l n) (k (entriesOf n lo)) (P.fail no-tree)
 unfolding below

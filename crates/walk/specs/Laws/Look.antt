@@ -9,7 +9,7 @@ use lib.ListN.{getD}
 use borrow.Author.Tests.{le-ltb}
 use Rattle.operations.specs.Object.{Ans}
 use Rattle.operations.specs.Slot.{TreeSizes}
-use Rattle.operations.specs.Path.{Plan}
+use Rattle.operations.specs.Path.{TreePlan}
 use Rattle.operations.specs.Look.{lookup-plan}
 use Rattle.operations.specs.Operation.{reading}
 use Rattle.walk.specs.declared.walk.Stop.{Stop}
@@ -58,10 +58,10 @@ unfolding entered count-new any-at-last
 last-none z m a h = let l : m writes-count + 0 ≤ 48 = omega arith in let e : ltb 48 (m writes-count + 0) ≡ false = le-ltb 48 (m writes-count + 0) l in rw e
 
 module _ (z : TreeSizes) (m : ClientWord → ℕ) (wait : Waiting m) (u : List ℕ) (empty : getD u 0 0 ≡ 0) (s : Stop) (u′ : List ℕ) where
-  module _ (p : Plan) (e : reading z (waiting m) ≡ p) (h : Walks z m u p s u′) where
+  module _ (p : TreePlan) (e : reading z (waiting m) ≡ p) (h : Walks z m u p s u′) where
     tells : tell z m (R z m (wait .reads) .how) (R z m (wait .reads) .used) ≡ ended s (used-in u′) []
     tells =
-        sym (run-is z m (wait .reads)) ∙ ap (walked z m (reading z (waiting m))) (sym (nothing-used m u empty)) ∙ ap (λ (q : Plan). walked z m q (used-in u)) e ∙ h .same
+        sym (run-is z m (wait .reads)) ∙ ap (walked z m (reading z (waiting m))) (sym (nothing-used m u empty)) ∙ ap (λ (q : TreePlan). walked z m q (used-in u)) e ∙ h .same
         ∙ sym (ended-nothing s (used-in u′))
 
     used-are : used-in u′ ≡ C.walked z m .used

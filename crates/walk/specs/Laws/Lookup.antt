@@ -21,7 +21,7 @@ use Rattle.nodes.specs.Kept.{Whole}
 use Rattle.operations.specs.Map.{said}
 use Rattle.operations.specs.Slot.{TreeSizes}
 use Rattle.operations.specs.Entry.{Entries, value-in}
-use Rattle.operations.specs.Path.{Plan, Branch, from-root}
+use Rattle.operations.specs.Path.{TreePlan, Branch, from-root}
 use Rattle.operations.specs.Look.{lookup-plan}
 use Rattle.walk.specs.declared.down.Descent.{Descent}
 use Rattle.walk.specs.declared.lookup.Pair.{Pair}
@@ -103,7 +103,7 @@ leaf-said n lo key f l = go (key-index (keysOf n) key) refl
     go (some i) e = let h : i < n .count = omega (arith, find-inside (keysOf n) key i e, f .keys) in rw (leaf-value n lo key f l i e h, look-in, e)
 
 module _ (z : TreeSizes) (m : ClientWord → ℕ) (u : List ℕ) (key : ℕ) (d : Descent) (u₁ : List ℕ) (h : Descends z m u key d u₁) (b : Bool) (pb : b ≡ goes (d .stop)) where
-  pub look-stops : (k : List Branch → ℕ → Entries → Plan) → not b ≡ true → Walks z m u (from-root key k) (d .stop) u₁
+  pub look-stops : (k : List Branch → ℕ → Entries → TreePlan) → not b ≡ true → Walks z m u (from-root key k) (d .stop) u₁
   look-stops k nb = let no : goes (d .stop) ≡ false = sym pb ∙ not-true b nb in
       record { same = rw (h .asks k, no); noted = h .noted }
 

@@ -17,7 +17,7 @@ use Rattle.nodes.specs.Name.{name}
 use Rattle.nodes.specs.Placement.{row}
 use Rattle.operations.specs.Object.{no-slot, Writes}
 use Rattle.operations.specs.Slot.{TreeSizes, search, present, take-flag}
-use Rattle.operations.specs.Path.{Plan}
+use Rattle.operations.specs.Path.{TreePlan}
 use Rattle.walk.specs.declared.search.Taken.{Taken}
 use Rattle.walk.specs.declared.walk.Stop.{Stop}
 use Rattle.walk.specs.declared.walk.Stop.the-variants.{Going, Aborts}
@@ -68,7 +68,7 @@ pub record Seeking (z : TreeSizes) (m : ClientWord → ℕ) (x u₀ : List ℕ) 
   pub within : i ≤ 8
   pub noted : Noted m u
   pub long : length u ≡ length u₀
-  pub same : (w : Writes) → Holds-writes z x w → (k : ℕ → Plan)
+  pub same : (w : Writes) → Holds-writes z x w → (k : ℕ → TreePlan)
       → walked z m (search z w slot (present (z .servers) (row home)) k) (used-in u₀) ≡ walked z m (search z w slot (present (z .servers) (drop i (row home))) k) (used-in u)
 
 module _ (z : TreeSizes) (m : ClientWord → ℕ) (x u₀ : List ℕ) (home slot : ℕ) where

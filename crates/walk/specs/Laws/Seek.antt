@@ -19,7 +19,7 @@ use Rattle.nodes.specs.Kept.{Whole}
 use Rattle.nodes.specs.Laws.Kept.{length-entriesOf}
 use Rattle.operations.specs.Slot.{TreeSizes}
 use Rattle.operations.specs.Entry.{Entries, keys, under, before}
-use Rattle.operations.specs.Path.{Plan, kid, Branch}
+use Rattle.operations.specs.Path.{TreePlan, kid, Branch}
 use Rattle.operations.specs.Look.{rightward, leftward, seek, seek-up}
 use Rattle.walk.specs.declared.down.Turn.{Turn}
 use Rattle.walk.specs.declared.walk.Stop.{Stop}
@@ -128,26 +128,26 @@ seek-climb g right l [] = refl
 seek-climb g right l (f ∷ fs) = rw (seek-climb g right (suc l) fs)
 
 -- a child of an inner node, and those left after it
-leftward-last : (f : ℕ → ℕ → Plan → Plan) (es : Entries) (e : ℕ × ℕ) (p : Plan) → leftward f (es ++ (e ∷ [])) p ≡ f (e .0) (e .1) (leftward f es p)
+leftward-last : (f : ℕ → ℕ → TreePlan → TreePlan) (es : Entries) (e : ℕ × ℕ) (p : TreePlan) → leftward f (es ++ (e ∷ [])) p ≡ f (e .0) (e .1) (leftward f es p)
 leftward-last f [] e p = refl
 leftward-last f (x ∷ es) e p = leftward-last f es e (f (x .0) (x .1) p)
 
-visit-right : (f : ℕ → ℕ → Plan → Plan) (es : Entries) (i : ℕ) (p : Plan) → i < length es
+visit-right : (f : ℕ → ℕ → TreePlan → TreePlan) (es : Entries) (i : ℕ) (p : TreePlan) → i < length es
     → rightward f (drop i es) p ≡ f (getD es i (0, 0) .0) (getD es i (0, 0) .1) (rightward f (drop (suc i) es) p)
 visit-right f es i p h = rw (drop-cons es i (0, 0) h)
 
-visit-left : (f : ℕ → ℕ → Plan → Plan) (es : Entries) (i : ℕ) (p : Plan) → i < length es
+visit-left : (f : ℕ → ℕ → TreePlan → TreePlan) (es : Entries) (i : ℕ) (p : TreePlan) → i < length es
     → leftward f (take (suc i) es) p ≡ f (getD es i (0, 0) .0) (getD es i (0, 0) .1) (leftward f (take i es) p)
 visit-left f es i p h = rw (take-suc es i (0, 0) h) (leftward-last f (take i es) (getD es i (0, 0)) p)
 
 -- the children of a node all left to visit: the first from that side
-visit-first : (right : Bool) (f : ℕ → ℕ → Plan → Plan) (es : Entries) (n : ℕ) (p : Plan) → length es ≡ suc n
+visit-first : (right : Bool) (f : ℕ → ℕ → TreePlan → TreePlan) (es : Entries) (n : ℕ) (p : TreePlan) → length es ≡ suc n
     → visit right f es p ≡ f (getD es (cond right 0 n) (0, 0) .0) (getD es (cond right 0 n) (0, 0) .1) (visit right f (rest right (cond right 0 n) es) p)
 visit-first true f es n p h = visit-right f es 0 p (omega arith)
 visit-first false f es n p h = let e : take (suc n) es ≡ es = take-all (suc n) es (omega arith) in rw e at (visit-left f es n p (omega arith))
 
 -- the next of those left, after child number i of n + 1
-visit-next : (right : Bool) (f : ℕ → ℕ → Plan → Plan) (es : Entries) (n i : ℕ) (p : Plan) → length es ≡ suc n → i ≤ n → cond right (ltb i n) (ltb 0 i) ≡ true
+visit-next : (right : Bool) (f : ℕ → ℕ → TreePlan → TreePlan) (es : Entries) (n i : ℕ) (p : TreePlan) → length es ≡ suc n → i ≤ n → cond right (ltb i n) (ltb 0 i) ≡ true
     → visit right f (rest right i es) p
     ≡ f (getD es (onward right i) (0, 0) .0) (getD es (onward right i) (0, 0) .1) (visit right f (rest right (onward right i) es) p)
 visit-next true f es n i p h g t = let a : i < n = ltb-true i n t in rw add-one (visit-right f es (suc i) p (omega arith))
@@ -155,7 +155,7 @@ visit-next false f es n zero p h g t = let a : 0 < 0 = ltb-true 0 0 t in absurd 
 visit-next false f es n (suc i) p h g t = let e : suc i - 1 ≡ i = omega arith in rw e (visit-left f es i p (omega arith))
 
 -- none is left
-visit-none : (right : Bool) (f : ℕ → ℕ → Plan → Plan) (es : Entries) (n i : ℕ) (p : Plan) → length es ≡ suc n → i ≤ n → cond right (ltb i n) (ltb 0 i) ≡ false
+visit-none : (right : Bool) (f : ℕ → ℕ → TreePlan → TreePlan) (es : Entries) (n i : ℕ) (p : TreePlan) → length es ≡ suc n → i ≤ n → cond right (ltb i n) (ltb 0 i) ≡ false
     → visit right f (rest right i es) p ≡ p
 visit-none true f es n i p h g t =
     let a : n ≤ i = ltb-false i n t in
@@ -306,7 +306,7 @@ module _ (right : Bool) (top : ℕ) (path : List Turn) (level l : ℕ) (c : Clim
 
 pub ruleset climb-exits = (climb-start, climb-ends, climb-at, climb-more, climb-slot, climb-next)
 
-pub seek-reads : (g : Entries → Option ℕ) (right : Bool) (l lo n : ℕ) (p : Plan) → seek g (visit right) l lo n p ≡ kid [] l lo n (λ es. read-on g right l es p)
+pub seek-reads : (g : Entries → Option ℕ) (right : Bool) (l lo n : ℕ) (p : TreePlan) → seek g (visit right) l lo n p ≡ kid [] l lo n (λ es. read-on g right l es p)
 unfolding read-on
 seek-reads g right zero lo n p = refl
 seek-reads g right (suc l) lo n p = refl
@@ -375,7 +375,7 @@ pow-more : (l c : ℕ) → c ≤ 14 → pow l + times c (pow l) < pow (suc l)
 unfolding pow times
 pow-more l c h = omega (arith, times-mono (suc c) 15 (pow l) (omega arith), pow-some l)
 
-read-inner : (g : Entries → Option ℕ) (right : Bool) (l : ℕ) (es : Entries) (p : Plan) → (l ≡ 0 → ⊥) → read-on g right l es p ≡ visit right (seek g (visit right) (l - 1)) es p
+read-inner : (g : Entries → Option ℕ) (right : Bool) (l : ℕ) (es : Entries) (p : TreePlan) → (l ≡ 0 → ⊥) → read-on g right l es p ≡ visit right (seek g (visit right) (l - 1)) es p
 unfolding read-on
 read-inner g right zero es p z = absurd (z refl)
 read-inner g right (suc l) es p z = let e : suc l - 1 ≡ l = omega arith in rw e

@@ -14,7 +14,7 @@ use Rattle.nodes.specs.Node.{extra, keysOf, slotsOf, made, free-node}
 use Rattle.nodes.specs.Laws.Stored.{Sized}
 use Rattle.operations.specs.Object.{Obj, node, flag, Val, body, taken, free, not-free}
 use Rattle.operations.specs.Slot.{TreeSizes, when-free-flag, when-free-node}
-use Rattle.operations.specs.Path.{Plan}
+use Rattle.operations.specs.Path.{TreePlan}
 use Rattle.walk.specs.declared.walk.Stop.{Stop}
 use Rattle.walk.specs.declared.walk.Stop.the-variants.{Going, Aborts}
 use Rattle.client.specs.Layout.{ClientWord}
@@ -28,7 +28,7 @@ use Rattle.walk.specs.Laws.Write.{holds-more, good-more, count-more, nam
 use Rattle.walk.specs.Take.{NodeTaken, FlagTaken, Released, Wrote}
 use Rattle.plans.specs.Plan as P
 
-free-node-is : (kind level : ℕ) (ks vs : List ℕ) (k : Plan) → when-free-node (body kind level ks vs) k ≡ cond (eqb kind 0) k (P.fail not-free)
+free-node-is : (kind level : ℕ) (ks vs : List ℕ) (k : TreePlan) → when-free-node (body kind level ks vs) k ≡ cond (eqb kind 0) k (P.fail not-free)
 free-node-is zero level ks vs k = refl
 free-node-is (suc j) level ks vs k = let e : suc j ≡ 0 → ⊥ = λ q. omega arith in rw (ne-eqb (suc j) 0 e)
 
@@ -57,7 +57,7 @@ module _ (z : TreeSizes) (m : ClientWord → ℕ) (x u : List ℕ) (n : ℕ) (s 
 
 pub ruleset taken-node-exits = (node-lacks, node-in-use, node-free)
 
-free-flag-is : (b : Bool) (k : Plan) → when-free-flag (taken b) k ≡ cond b (P.fail not-free) k
+free-flag-is : (b : Bool) (k : TreePlan) → when-free-flag (taken b) k ≡ cond b (P.fail not-free) k
 free-flag-is true k = refl
 free-flag-is false k = refl
 

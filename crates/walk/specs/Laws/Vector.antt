@@ -15,7 +15,7 @@ use Rattle.nodes.specs.Vector.{shifted, lowest-free, or-else, free-from, first-
 use Rattle.nodes.specs.Laws.Bits.{length-flags}
 use Rattle.operations.specs.Object.{vector, fetched, Val, flags, Writes}
 use Rattle.operations.specs.Slot.{TreeSizes, free-slot, search}
-use Rattle.operations.specs.Path.{Plan}
+use Rattle.operations.specs.Path.{TreePlan}
 use Rattle.walk.specs.declared.walk.Stop.{Stop}
 use Rattle.walk.specs.declared.walk.Stop.the-variants.{Going, LacksVector, Refused, Aborts}
 use Rattle.client.specs.Layout.{ClientWord}
@@ -87,7 +87,7 @@ module _ (m : ClientWord → ℕ) (n : ℕ) (u : List ℕ) (s : ℕ) (b : Bool) 
             long = refl;
           }
         where
-          go : (slots : ℕ) (k : Val → Plan) (f : Bool) → is-fetched m s ≡ f → has-vector m s ≡ true
+          go : (slots : ℕ) (k : Val → TreePlan) (f : Bool) → is-fetched m s ≡ f → has-vector m s ≡ true
               → walked (sizes n slots) m (P.ask (fetched s) k) (used-in u)
               ≡ cond (is-fetched m s) (walked (sizes n slots) m (k (seen-vector (sizes n slots) m s)) (used-in u)) (told (LacksVector s) (used-in u))
           go slots k true p q = rw (walked, worked, under, run, have, p, lt-ltb s n l, q)
@@ -173,7 +173,7 @@ module _ (servers slots : ℕ) (m : ClientWord → ℕ) (x u : List ℕ) (s slot
       long = h .long;
     }
       where
-        go : (c : Bool) (ss : List ℕ) (k : ℕ → Plan) (w : Writes)
+        go : (c : Bool) (ss : List ℕ) (k : ℕ → TreePlan) (w : Writes)
             → cond c (walked z m (search z w slot ss k) (used-in u′)) (told (LacksVector s) (used-in u′))
             ≡ carry (cond c Going (LacksVector s)) (used-in u′) (λ us. walked z m (search z w slot ss k) us)
         go true ss k w = refl

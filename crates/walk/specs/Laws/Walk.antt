@@ -8,7 +8,7 @@ use lib.ListN.{length, take, length-append}
 use lib.Seq.{take-append-seam}
 use Rattle.operations.specs.Object.{Ask, Val, Why, reason, Ans, Writes}
 use Rattle.operations.specs.Slot.{TreeSizes}
-use Rattle.operations.specs.Path.{Plan}
+use Rattle.operations.specs.Path.{TreePlan}
 use Rattle.walk.specs.declared.walk.Stop.the-variants.{Aborts, Answers}
 use Rattle.client.specs.Layout.{ClientWord}
 use Rattle.client.specs.Run.{judged, run}
@@ -34,12 +34,12 @@ module _ (z : TreeSizes) (m : ClientWord → ℕ) (us : List ℕ) where
   unfolding walked worked
   full-done r h = rw h
 
-  pub full-ask : (a : Ask) (k : Val → Plan) → over m us ≡ true → walked z m (P.ask a k) us ≡ told (Aborts 4) (take (length us - 1) us)
+  pub full-ask : (a : Ask) (k : Val → TreePlan) → over m us ≡ true → walked z m (P.ask a k) us ≡ told (Aborts 4) (take (length us - 1) us)
   unfolding walked worked
   full-ask a k h = rw h
 
 -- the object 97 that is entered
-pub judged-over : (p : Plan) (x : ℕ) (us : List ℕ) → judged p x us ≡ over-run p (us ++ (x ∷ []))
+pub judged-over : (p : TreePlan) (x : ℕ) (us : List ℕ) → judged p x us ≡ over-run p (us ++ (x ∷ []))
 judged-over (P.ask a k) x us = let e : length (us ++ (x ∷ [])) - 1 ≡ length us = simp length-append (omega arith) in rw (e, take-append-seam us (x ∷ []))
 judged-over (P.done r) x us = let e : length (us ++ (x ∷ [])) - 1 ≡ length us = simp length-append (omega arith) in rw (e, take-append-seam us (x ∷ []))
 judged-over (P.fail y) x us = refl
