@@ -8,6 +8,6 @@ has-spec = tie.close (tie.spec
     (λ c κs. search needs)  -- find-requires
     (λ c. search needs)  -- enum-told
     (λ c. search needs)  -- enum-told-2
-    (λ c. search (has-one, has-none, needs))  -- returns
-    (λ c. search (has-one, has-none, needs))  -- returns-2
+    (λ c. search (has-one, needs))  -- returns
+    (λ c. search (has-none, needs))  -- returns-2
     )

@@ -37,7 +37,7 @@ returns-3 c = search (eq-eqb, ne-eqb, lt-ltb, le-ltb, le-leb, lt-leb, needs)
 -- src/range.rt:33:1
 returns-4 : tie.Need-returns-4
 unfolding record-in-range
-returns-4 c = search (eq-eqb, ne-eqb, lt-ltb, le-ltb, le-leb, lt-leb, needs)
+returns-4 c = search (eq-eqb, ne-eqb, lt-ltb, le-ltb, lt-leb, needs)
 
 pub fits-spec : {M : Type 1} → statement M
 fits-spec =

@@ -9,6 +9,6 @@ unlock-at-spec = tie.close (tie.spec
     (λ c κs. search needs)  -- has-requires
     (λ c κs. search needs)  -- change-all-requires
     (λ c. search needs)  -- same-length
-    (λ c. search (freed-here, freed-not, needs))  -- returns
+    (λ c. search (freed-here, needs))  -- returns
     (λ c. search (freed-here, freed-not, needs))  -- returns-2
     )

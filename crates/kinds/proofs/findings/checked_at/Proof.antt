@@ -15,5 +15,5 @@ checked-at-spec = tie.close (tie.spec
     (λ c. search needs)  -- cast-check
     (λ c κs. search (finding-exits, has-as, needs))  -- check-requires
     (λ c κs. search needs)  -- reason-of-requires
-    (λ c. search (finding-exits, has-as, needs))  -- returns
+    (λ c. search (finding-exits, needs))  -- returns
     )

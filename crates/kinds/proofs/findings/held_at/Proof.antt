@@ -14,5 +14,5 @@ held-at-spec = tie.close (tie.spec
     (λ c. search needs)  -- part-is-busy-end
     (λ c. search needs)  -- cast-is-busy
     (λ c κs. search (finding-exits, has-as, needs))  -- is-busy-requires
-    (λ c. search (finding-exits, has-as, needs))  -- returns
+    (λ c. search (finding-exits, needs))  -- returns
     )

@@ -8,6 +8,6 @@ server-unlocks-spec = tie.close (tie.spec
     (λ c. search needs)  -- cast-has
     (λ c κs. search needs)  -- has-requires
     (λ c κs. search needs)  -- unlock-fits-requires
-    (λ c. search (not-there, there, needs))  -- returns
+    (λ c. search (there, needs))  -- returns
     (λ c. search (not-there, there, needs))  -- returns-2
     )

@@ -6,7 +6,7 @@ use Rattle.kinds.proofs.locks.change_nth.Tie as tie
 pub change-nth-spec : {M : Type 1} → statement M
 change-nth-spec = tie.close (tie.spec
     (λ c κs. search needs)  -- item-at-requires
-    (λ c κs. search (nth-known, nth-turn, needs))  -- change-item-requires
+    (λ c κs. search (nth-known, needs))  -- change-item-requires
     (λ c. search needs)  -- same-length
-    (λ c. search (nth-known, nth-turn, needs))  -- returns
+    (λ c. search (nth-turn, needs))  -- returns
     )

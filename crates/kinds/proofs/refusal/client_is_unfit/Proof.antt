@@ -12,5 +12,5 @@ client-is-unfit-spec = tie.close (tie.spec
     (λ c. search needs)  -- part-state-fits-end
     (λ c κs. search needs)  -- kind-of-requires
     (λ c κs. search (sited-as, client-unfit, needs))  -- state-fits-requires
-    (λ c. search (sited-as, client-unfit, needs))  -- returns
+    (λ c. search (client-unfit, needs))  -- returns
     )

@@ -19,12 +19,12 @@ returns c = search (by-name, tests, needs)
 -- src/refusal.rt:87:1
 returns-2 : tie.Need-returns-2
 unfolding unknown-node
-returns-2 c = search (by-name, tests, needs)
+returns-2 c = search (tests, needs)
 
 -- src/refusal.rt:87:1
 returns-3 : tie.Need-returns-3
 unfolding unknown-node
-returns-3 c = search (by-name, tests, needs)
+returns-3 c = search (tests, needs)
 
 pub has-unknown-node-spec : {M : Type 1} → statement M
 has-unknown-node-spec = tie.close (tie.spec in-store-requires returns returns-2 returns-3)

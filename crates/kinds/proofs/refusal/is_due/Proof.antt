@@ -29,7 +29,7 @@ enum-told-5 c = search needs
 
 -- src/refusal.rt:120:26
 is-unfinished-requires : tie.Need-is-unfinished-requires
-is-unfinished-requires c κs = search (prepare-sited, apply-sited, needs)
+is-unfinished-requires c κs = search (prepare-sited, needs)
 
 -- src/refusal.rt:121:24
 enum-told-6 : tie.Need-enum-told-6

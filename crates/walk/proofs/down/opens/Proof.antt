@@ -6,7 +6,7 @@ use Rattle.walk.proofs.down.opens.Tie as tie
 -- src/walk_down.rt:23:9
 returns : tie.Need-returns
 unfolding opens
-returns c = search (eq-eqb, ne-eqb, lt-ltb)
+returns c = search (eq-eqb, lt-ltb)
 
 -- src/walk_down.rt:26:9
 returns-2 : tie.Need-returns-2
