@@ -1,18 +1,12 @@
 // One step of a store, on any memory lent.
 ghost use mathlib.Core.Path.{_≡_};
-ghost use mathlib.Core.Bool.{true};
 ghost use Prim.Native.Nat.{_<_};
 ghost use lib.ListN.{length};
 ghost use Rattle.memory.specs.Word.{view};
-ghost use Rattle.client.specs.Fits.{client-fits};
-ghost use Rattle.steps.specs.Whole.{tree-sizes};
-ghost use Rattle.steps.specs.Refusal.{kind-of};
-ghost use Rattle.steps.specs.Passed.{Passed};
 ghost use Rattle.steps.specs.Steps.{step as rule};
-ghost use Rattle.kinds.specs.Parts.{Store-in, stored-in};
-ghost use Rattle.kinds.specs.Judge.{of-client};
+ghost use Rattle.kinds.specs.Parts.{Store-in};
 ghost use Rattle.kinds.specs.Kinds.{Comes};
-ghost use Rattle.engine.specs.Step.{rule-of, outcome-of, words-after};
+ghost use Rattle.engine.specs.Step.{rule-of, outcome-of, words-after, Ruled};
 use crate::operate::work;
 use kinds::abort::give_up;
 use kinds::apply::apply;
@@ -33,8 +27,7 @@ use steps::step::Step;
 
 // The rule of a step's kind.
 fn by_kind(mem: &mut [u8], sizes: Sizes, client: usize, step: Step, kind: Kind) -> Outcome
-    requires { ⌜ Store-in sizes (length (now mem)) × (client ≡ step .client) × (kind ≡ kind-of (step .kind)) × Passed sizes step
-        (stored-in sizes (view (now mem))) × (client-fits (tree-sizes sizes) (of-client sizes (view (now mem)) client) ≡ true) ⌝ }
+    requires { ⌜ Ruled sizes (now mem) client step kind ⌝ }
     ensures { λ r. ⌜ Comes sizes (rule-of sizes client step kind) (now (mem .entry)) r (now (mem .exit)) ⌝ }
 {
     match kind {

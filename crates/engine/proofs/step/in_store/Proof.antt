@@ -10,7 +10,7 @@ in-store-spec = tie.close (tie.spec
     (λ c. search (rule-exits, needs))  -- returns
     (λ c κs. search (rule-exits, needs))  -- is-fit-requires
     (λ c κs. search needs)  -- kind-of-requires
-    (λ c κs. (search needs, search needs, search needs, search (passes, needs), search (is-fit, needs)))  -- by-kind-requires
+    (λ c κs. record { store = search needs; client = search needs; kind = search needs; passed = search (passes, needs); fits = search (is-fit, needs) })  -- by-kind-requires
     (λ c. search needs)  -- same-length-2
     (λ c. search (rule-exits, needs))  -- returns-2
     (λ c. search needs)  -- same-length-3
