@@ -99,9 +99,13 @@ uint64_t gemandrolo_open(uint8_t *mem, size_t bytes, size_t servers, size_t slot
 uint64_t gemandrolo_step(uint8_t *mem, size_t bytes, uint64_t kind, uint64_t client, uint64_t op, uint64_t key, uint64_t value, uint64_t server,
                          uint64_t *a, uint64_t *b);
 
-/* Steps of six words each (kind, client, op, key, value, server), run front to back; outcome, a and b of each go into `out`, three words each,
- * as far as it has room. Words behind the last whole step are not looked at. The number of steps run, step_words / 6. */
-size_t gemandrolo_run(uint8_t *mem, size_t bytes, const uint64_t *steps, size_t step_words, uint64_t *out, size_t out_words);
+/* A step as one record, for lists of them. */
+struct gemandrolo_record {
+    uint64_t kind, client, op, key, value, server;
+};
+
+/* A list of steps, run front to back; outcome, a and b of each go into `out`, three words each, as far as it has room. */
+void gemandrolo_run(uint8_t *mem, size_t bytes, const struct gemandrolo_record *steps, size_t count, uint64_t *out, size_t out_words);
 
 #ifdef __cplusplus
 }

@@ -26,11 +26,11 @@ mod exported {
         pub fn gemandrolo_run(
             mem: *mut u8,
             bytes: usize,
-            steps: *const u64,
-            step_words: usize,
+            steps: *const [u64; 6],
+            count: usize,
             out: *mut u64,
             out_words: usize,
-        ) -> usize;
+        );
     }
 }
 
@@ -63,14 +63,14 @@ pub fn step(memory: &mut [u8], words: [u64; 6]) -> [u64; 3] {
 /// Steps front to back; the three numbers of each outcome.
 pub fn run(memory: &mut [u8], steps: &[[u64; 6]]) -> Vec<[u64; 3]> {
     let mut lines = vec![[0; 3]; steps.len()];
-    let (words, out) = (steps.as_flattened(), lines.as_flattened_mut());
+    let out = lines.as_flattened_mut();
     // SAFETY: three slices, each there for the call, the two written ones lent to be written.
     unsafe {
         exported::gemandrolo_run(
             memory.as_mut_ptr(),
             memory.len(),
-            words.as_ptr(),
-            words.len(),
+            steps.as_ptr(),
+            steps.len(),
             out.as_mut_ptr(),
             out.len(),
         )

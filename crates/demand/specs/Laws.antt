@@ -79,11 +79,15 @@ pub mod Due
 pub mod Applies
 -- the last prepare, and the decision
 pub mod Decides
--- all that are due
+-- where no apply is due
 pub mod Settled
 -- every kind of step
 pub mod ByKind
--- DEMAND 3, proved
+-- what holds in a good state; `ranges` puts the steps together
 pub mod Theorem
 -- every store of a step lies in the memory
 pub mod Inside
+-- applies one after another
+pub mod Done
+-- both ears
+pub mod Ears

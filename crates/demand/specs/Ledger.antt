@@ -12,6 +12,7 @@ use Rattle.client.specs.Work.{op-of}
 use Rattle.steps.specs.declared.step.Step.{Step}
 use Rattle.steps.specs.declared.outcome.Outcome.{Outcome}
 use Rattle.steps.specs.declared.outcome.Outcome.the-variants.{Refused, Done, Fetched, Answered, Prepared, Decided, Applied, Committed, Aborted}
+use Rattle.steps.specs.Taken.{Taken}
 
 -- an operation with its answer
 pub record Told : Type 0 where
@@ -66,6 +67,15 @@ note L k Decided = note-decided L k
 note L k (Applied s) = L
 note L k Committed = note-decided L k
 note L k (Aborted y) = starts L (k .client)
+
+-- of steps that were taken, front to back
+unfoldable pub ledger-from : Ledger → List Taken → Ledger
+ledger-from L [] = L
+ledger-from L (t ∷ h) = ledger-from (note L (t .step) (t .outcome)) h
+
+-- the transactions decided by them, the last first
+abbrev pub decided-in : List Taken → List (List Told)
+decided-in h = ledger-from blank h .decided
 
 -- "run one after another in order of decision on one sorted map": the map after a transaction
 abbrev pub map-of : List Told → Map → Map

@@ -4,5 +4,7 @@
 pub mod Ledger
 -- DEMAND 3, the statement
 pub mod Demand
+-- BOTH EARS, the statement: two keys that are always written together
+pub mod Ears
 -- laws and proofs
 pub mod Laws

@@ -7,3 +7,5 @@ pub mod Used
 pub mod Work
 -- one step on any memory lent
 pub mod Step
+-- a store that was reached
+pub mod Reached

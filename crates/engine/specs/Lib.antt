@@ -6,5 +6,7 @@ pub mod Open
 pub mod Work
 -- one step on any memory lent
 pub mod Step
+-- a store as the calls of a program have left it
+pub mod Reached
 -- laws and proofs
 pub mod Laws

@@ -1,5 +1,6 @@
 // Opening a store in lent memory.
 ghost use mathlib.Core.Path.{_≡_};
+ghost use mathlib.Core.List.{[]};
 ghost use Prim.Native.Nat.{_/_, _≤_};
 ghost use lib.ListN.{length};
 ghost use Rattle.memory.specs.Word.{view};
@@ -10,6 +11,7 @@ ghost use Rattle.steps.specs.Whole.{server};
 ghost use Rattle.steps.specs.Refusal.{open-refusal};
 ghost use Rattle.kinds.specs.Parts.{Store-in, InWhole};
 ghost use Rattle.engine.specs.Open.{opening, with-head, new-words, words-opened};
+ghost use Rattle.engine.specs.Reached.{Reached};
 use kinds::refusal::memory_refusal;
 use kinds::whole::server_at;
 use kinds::whole::words_for;
@@ -59,6 +61,7 @@ fn make_new(mem: &mut [u8], sizes: Sizes)
 pub fn open(mem: &mut [u8], sizes: Sizes) -> Opening
     ensures { λ r. ⌜ r ≡ opening (open-refusal (length (now (mem .entry))) sizes) ⌝ }
     ensures words { λ _. ⌜ view (now (mem .exit)) ≡ words-opened (length (now (mem .entry))) sizes (view (now (mem .entry))) ⌝ }
+    ensures reached { λ r. ⌜ (r ≡ Opening.Accepted → Reached sizes [] (now (mem .exit))) ⌝ }
 {
     let number = memory_refusal(mem.len(), sizes);
     if number != 0 {

@@ -1,12 +1,15 @@
 // One step of a store, on any memory lent.
 ghost use mathlib.Core.Path.{_≡_};
+ghost use mathlib.Core.List.{[], _∷_};
 ghost use Prim.Native.Nat.{_<_};
 ghost use lib.ListN.{length};
 ghost use Rattle.memory.specs.Word.{view};
 ghost use Rattle.steps.specs.Steps.{step as rule};
+ghost use Rattle.steps.specs.Taken.{came-to};
 ghost use Rattle.kinds.specs.Parts.{Store-in};
 ghost use Rattle.kinds.specs.Kinds.{Comes};
 ghost use Rattle.engine.specs.Step.{rule-of, outcome-of, words-after, Ruled};
+ghost use Rattle.engine.specs.Reached.{Goes-on};
 use crate::operate::work;
 use kinds::abort::give_up;
 use kinds::apply::apply;
@@ -60,10 +63,12 @@ fn in_store(mem: &mut [u8], sizes: Sizes, step: Step) -> Outcome
     Outcome::Refused(10)
 }
 
-// "A refused step returns the first number that holds and changes no byte".
+// "A refused step returns the first number that holds and changes no byte". Whatever steps had reached the store, this one with its outcome goes on
+// from there.
 pub fn step(mem: &mut [u8], step: Step) -> Outcome
     ensures { λ r. ⌜ r ≡ outcome-of (length (now (mem .entry))) (view (now (mem .entry))) step ⌝ }
     ensures words { λ _. ⌜ view (now (mem .exit)) ≡ words-after (length (now (mem .entry))) (view (now (mem .entry))) step ⌝ }
+    ensures reached { λ r. ⌜ Goes-on (now (mem .entry)) (came-to step r ∷ []) (now (mem .exit)) ⌝ }
 {
     let bytes = mem.len();
     if bytes < 64 {

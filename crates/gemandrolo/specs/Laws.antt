@@ -1,4 +1,6 @@
 -- Laws and proofs, in reading order.
 
--- sizes, steps and lengths as numbers; a list of steps as words
+-- numbers, and the ways out of the code
 pub mod Numbers
+-- what is reached, by the numbers that a program gets
+pub mod Told

@@ -1,4 +1,4 @@
--- sizes, steps and lengths as numbers; a list of steps as words
+-- The store for programs in C and Rust: sizes, steps and outcomes as numbers.
 pub mod Numbers
 -- laws and proofs
 pub mod Laws

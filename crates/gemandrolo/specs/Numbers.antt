@@ -1,30 +1,30 @@
--- What programs in C and Rust pass and get: sizes, steps and lengths as numbers, a list of steps as words.
+-- What programs in C and Rust pass and get: sizes, steps, lengths and outcomes as numbers.
 use mathlib.Core.List.{List, [], _∷_}
-use Prim.Native.Nat.{ℕ, zero, suc, _+_, _-_, _*_}
+use Prim.Native.Nat.{ℕ}
 use lib.ListN.{getD}
 use Rattle.steps.specs.declared.sizes.Sizes.{Sizes}
 use Rattle.steps.specs.declared.step.Step.{Step}
+use Rattle.steps.specs.declared.outcome.Outcome.{Outcome}
+use Rattle.steps.specs.declared.outcome.Outcome.the-variants.{Refused, Done, Fetched, Answered, Prepared, Decided, Applied, Committed, Aborted}
+use Rattle.steps.specs.Taken.{Taken, came-to}
 use Rattle.kinds.specs.declared.whole.Length.{Length}
-use Rattle.kinds.specs.declared.whole.Length.the-variants.{Bytes, Refused}
+use Rattle.kinds.specs.declared.whole.Length.the-variants.{Bytes, Refused as None}
 
--- the sizes with these numbers
 abbrev pub sizes-of : ℕ → ℕ → ℕ → Sizes
 sizes-of servers slots clients = record { servers = servers; slots = slots; clients = clients }
 
--- the step with these fields
 abbrev pub step-of : ℕ → ℕ → ℕ → ℕ → ℕ → ℕ → Step
 step-of kind client op key value server = record { kind = kind; client = client; op = op; key = key; value = value; server = server }
 
 -- a length in bytes, or 0
 unfoldable pub bytes-of : Length → ℕ
 bytes-of (Bytes n) = n
-bytes-of (Refused _) = 0
+bytes-of (None _) = 0
 
--- "A step has six fields: kind, client, op, key, value, server": step i of a list of words; only whole steps are asked for
-abbrev pub step-at : List ℕ → ℕ → Step
-step-at ws i = step-of (getD ws (6 * i) 0) (getD ws (6 * i + 1) 0) (getD ws (6 * i + 2) 0) (getD ws (6 * i + 3) 0) (getD ws (6 * i + 4) 0) (getD ws (6 * i + 5) 0)
+-- "Outcomes: 0 refused (a number); 1 done; 2 fetched .. 8 aborted (a reason)": the outcome that three numbers stand for; none is above 8
+unfoldable pub outcome-from : ℕ → ℕ → ℕ → Outcome
+outcome-from n a b = getD (Refused a ∷ Done ∷ Fetched a b ∷ Answered a b ∷ Prepared a ∷ Decided ∷ Applied a ∷ Committed ∷ Aborted a ∷ []) n Done
 
--- n steps of it, from step i on
-unfoldable pub listed : List ℕ → ℕ → ℕ → List Step
-listed ws i zero = []
-listed ws i (suc n) = step-at ws i ∷ listed ws (suc i) n
+-- one step that was taken, with the three numbers of its outcome
+abbrev pub one-taken : Step → ℕ → ℕ → ℕ → List Taken
+one-taken k n a b = came-to k (outcome-from n a b) ∷ []

@@ -1,7 +1,7 @@
 // The store for programs in C and Rust: functions on numbers and lent slices. A slice is passed as a pointer and a length, so that no
 // function asks anything of its caller but that the memory is there.
 ghost use mathlib.Core.Path.{_≡_};
-ghost use Prim.Native.Nat.{_/_, _<_};
+ghost use mathlib.Core.List.{[]};
 ghost use lib.ListN.{length};
 ghost use Rattle.memory.specs.Word.{view};
 ghost use Rattle.steps.specs.Outcome.{line};
@@ -9,14 +9,15 @@ ghost use Rattle.steps.specs.Refusal.{open-refusal};
 ghost use Rattle.kinds.specs.Parts.{length-answer};
 ghost use Rattle.engine.specs.Open.{words-opened};
 ghost use Rattle.engine.specs.Step.{outcome-of, words-after};
-ghost use Rattle.schedule.specs.Listed.{words-run, outcomes-run, lines};
-ghost use Rattle.gemandrolo.specs.Numbers.{sizes-of, step-of, bytes-of, step-at, listed};
+ghost use Rattle.engine.specs.Reached.{Reached, Goes-on};
+ghost use Rattle.schedule.specs.Listed.{All-taken};
+ghost use Rattle.gemandrolo.specs.Numbers.{sizes-of, step-of, bytes-of, one-taken};
 use engine::open::Opening;
 use engine::open::open;
 use engine::step::step;
 use kinds::whole::Length;
 use kinds::whole::length_for;
-use schedule::run::turn;
+use schedule::run::run;
 use steps::outcome::Line;
 use steps::sizes::Sizes;
 use steps::step::Step;
@@ -37,7 +38,7 @@ pub extern "C" fn gemandrolo_length(servers: usize, slots: usize, clients: usize
     }
 }
 
-// A new store in the memory lent: 0, or the number by which it is refused.
+// A new store in the memory lent: 0, or the number by which it is refused. No step has been taken in it.
 #[no_mangle]
 pub extern "C" fn gemandrolo_open(
     mem: &mut [u8],
@@ -46,8 +47,8 @@ pub extern "C" fn gemandrolo_open(
     clients: usize,
 ) -> u64
     ensures { λ r. ⌜ r ≡ open-refusal (length (now (mem .entry))) (sizes-of servers slots clients) ⌝ }
-    ensures words { λ _. ⌜ view (now (mem .exit)) ≡ words-opened (length (now (mem .entry))) (sizes-of servers slots clients)
-        (view (now (mem .entry))) ⌝ }
+    ensures words { λ _. ⌜ view (now (mem .exit)) ≡ words-opened (length (now (mem .entry))) (sizes-of servers slots clients) (view (now (mem .entry))) ⌝ }
+    ensures reached { λ r. ⌜ (r ≡ 0 → Reached (sizes-of servers slots clients) [] (now (mem .exit))) ⌝ }
 {
     let opening = open(
         mem,
@@ -63,7 +64,8 @@ pub extern "C" fn gemandrolo_open(
     }
 }
 
-// One step: the number of its outcome; its a and b behind the references.
+// One step: the number of its outcome; its a and b behind the references. Whatever steps had reached the store, this one with its outcome goes on
+// from there.
 #[no_mangle]
 pub extern "C" fn gemandrolo_step(
     mem: &mut [u8],
@@ -76,14 +78,12 @@ pub extern "C" fn gemandrolo_step(
     a: &mut u64,
     b: &mut u64,
 ) -> u64
-    ensures { λ r. ⌜ r ≡ line
-        (outcome-of (length (now (mem .entry))) (view (now (mem .entry))) (step-of kind client op key value server)) .outcome ⌝ }
-    ensures a { λ _. ⌜ now (a .exit) ≡ line
-        (outcome-of (length (now (mem .entry))) (view (now (mem .entry))) (step-of kind client op key value server)) .a ⌝ }
-    ensures b { λ _. ⌜ now (b .exit) ≡ line
-        (outcome-of (length (now (mem .entry))) (view (now (mem .entry))) (step-of kind client op key value server)) .b ⌝ }
-    ensures words { λ _. ⌜ view (now (mem .exit)) ≡ words-after (length (now (mem .entry))) (view (now (mem .entry)))
-        (step-of kind client op key value server) ⌝ }
+    ensures { λ r. ⌜ r ≡ line (outcome-of (length (now (mem .entry))) (view (now (mem .entry))) (step-of kind client op key value server)) .outcome ⌝ }
+    ensures a { λ _. ⌜ now (a .exit) ≡ line (outcome-of (length (now (mem .entry))) (view (now (mem .entry))) (step-of kind client op key value server)) .a ⌝ }
+    ensures b { λ _. ⌜ now (b .exit) ≡ line (outcome-of (length (now (mem .entry))) (view (now (mem .entry))) (step-of kind client op key value server)) .b ⌝ }
+    ensures words { λ _. ⌜ view (now (mem .exit)) ≡ words-after (length (now (mem .entry))) (view (now (mem .entry))) (step-of kind client op key value server) ⌝ }
+    ensures reached { λ r. ⌜ Goes-on (now (mem .entry))
+        (one-taken (step-of kind client op key value server) r (now (a .exit)) (now (b .exit))) (now (mem .exit)) ⌝ }
 {
     let outcome = step(
         mem,
@@ -102,38 +102,10 @@ pub extern "C" fn gemandrolo_step(
     l.outcome
 }
 
-// Steps of six words each, run front to back; the three numbers of each outcome stand in `out`, as far as it has room. Words behind the last
-// whole step are not looked at. The number of steps run.
+// A list of steps, run front to back; the three numbers of each outcome stand in `out`, as far as it has room.
 #[no_mangle]
-pub extern "C" fn gemandrolo_run(mem: &mut [u8], steps: &[u64], out: &mut [u64]) -> usize
-    ensures { λ r. ⌜ r ≡ length (now (steps .entry)) / 6 ⌝ }
-    ensures words { λ _. ⌜ view (now (mem .exit)) ≡ words-run (length (now (mem .entry))) (view (now (mem .entry)))
-        (listed (now (steps .entry)) 0 (length (now (steps .entry)) / 6)) ⌝ }
-    ensures lines { λ _. ⌜ now (out .exit) ≡ lines (now (out .entry)) 0
-        (outcomes-run (length (now (mem .entry))) (view (now (mem .entry))) (listed (now (steps .entry)) 0 (length (now (steps .entry)) / 6))) ⌝ }
+pub extern "C" fn gemandrolo_run(mem: &mut [u8], steps: &[Step], out: &mut [u64])
+    ensures { λ _. ⌜ All-taken (now (mem .entry)) (now (out .entry)) (now (steps .entry)) (now (mem .exit)) (now (out .exit)) ⌝ }
 {
-    let n = steps.len() / 6;
-    let mut i: usize = 0;
-    while i < n {
-        let k = step_at(steps, i);
-        turn(mem, out, i, k);
-        i += 1;
-    }
-    n
-}
-
-// Step i of a list of words.
-fn step_at(steps: &[u64], i: usize) -> Step
-    requires { ⌜ i < length (now steps) / 6 ⌝ }
-    ensures { λ r. ⌜ r ≡ step-at (now (steps .entry)) i ⌝ }
-{
-    let at = 6 * i;
-    Step {
-        kind: steps[at],
-        client: steps[at + 1],
-        op: steps[at + 2],
-        key: steps[at + 3],
-        value: steps[at + 4],
-        server: steps[at + 5],
-    }
+    run(mem, out, steps);
 }

@@ -1,5 +1,6 @@
 -- Laws and proofs, in reading order.
 
--- A list of steps as code runs it: its words and outcomes, and what is proved of them.
+-- the walk over a list of steps
 pub mod Listed
-pub mod Carried
+-- what is promised, proved
+pub mod Promise

@@ -1,5 +1,8 @@
--- A list of steps as code runs it: its words and outcomes, and what is proved of them.
+-- A list of steps as code runs it, and what is promised of every store that was reached.
+
+-- words, outcomes and output of a list of steps
 pub mod Listed
-pub mod Carried
+-- WHAT IS PROMISED
+pub mod Promise
 -- laws and proofs
 pub mod Laws

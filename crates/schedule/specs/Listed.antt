@@ -1,31 +1,40 @@
--- "A schedule is a lent list of step records, run front to back": the words after it, and the outcomes written to a lent output.
+-- "A schedule is a lent list of step records, run front to back": the words after it, the steps with their outcomes, and the outcomes written to a
+-- lent output.
+use mathlib.Core.Path.{_≡_}
 use mathlib.Core.Bool.{cond}
 use mathlib.Core.List.{List, [], _∷_}
 use Prim.Native.Nat.{ℕ, suc, _+_, _*_, _/_}
 use lib.Dec.{ltb}
 use lib.ListN.{length, set}
+use Rattle.memory.specs.Word.{view}
 use Rattle.steps.specs.declared.step.Step.{Step}
-use Rattle.steps.specs.declared.outcome.Outcome.{Outcome}
 use Rattle.steps.specs.declared.outcome.Line.{Line}
 use Rattle.steps.specs.Outcome.{line}
+use Rattle.steps.specs.Taken.{Taken, came-to}
 use Rattle.engine.specs.Step.{outcome-of, words-after}
+use Rattle.engine.specs.Reached.{Goes-on}
 
--- on memory of n bytes with these words: the words after a list of steps, and the steps' outcomes
+-- on memory of n bytes with these words: the words after a list of steps, and the steps with their outcomes
 module _ (n : ℕ) where
   unfoldable pub words-run : List ℕ → List Step → List ℕ
   words-run w [] = w
   words-run w (k ∷ ks) = words-run (words-after n w k) ks
 
-  -- the outcomes of a list of steps
-  unfoldable pub outcomes-run : List ℕ → List Step → List Outcome
-  outcomes-run w [] = []
-  outcomes-run w (k ∷ ks) = outcome-of n w k ∷ outcomes-run (words-after n w k) ks
+  unfoldable pub taken-run : List ℕ → List Step → List Taken
+  taken-run w [] = []
+  taken-run w (k ∷ ks) = came-to k (outcome-of n w k) ∷ taken-run (words-after n w k) ks
 
 -- the three numbers of an outcome as those of step i; without room for them they are left out
 unfoldable pub written-down : List ℕ → ℕ → Line → List ℕ
 written-down out i l = cond (ltb i (length out / 3)) (set (set (set out (3 * i) (l .outcome)) (3 * i + 1) (l .a)) (3 * i + 2) (l .b)) out
 
--- those of a list of outcomes, from step i on
-unfoldable pub lines : List ℕ → ℕ → List Outcome → List ℕ
+-- those of a list of steps, from step i on
+unfoldable pub lines : List ℕ → ℕ → List Taken → List ℕ
 lines out i [] = out
-lines out i (o ∷ os) = lines (written-down out i (line o)) (suc i) os
+lines out i (t ∷ ts) = lines (written-down out i (line (t .outcome))) (suc i) ts
+
+-- What a list of steps ks leaves of memory with the bytes b and of the output `out`. Whatever steps had reached b, these go on from there.
+pub record All-taken (b out : List ℕ) (ks : List Step) (b′ out′ : List ℕ) : Type 0 where
+  pub words : view b′ ≡ words-run (length b) (view b) ks
+  pub outcomes : out′ ≡ lines out 0 (taken-run (length b) (view b) ks)
+  pub reached : Goes-on b (taken-run (length b) (view b) ks) b′

@@ -4,8 +4,7 @@ ghost use lib.ListN.{length};
 ghost use Rattle.memory.specs.Word.{view};
 ghost use Rattle.steps.specs.Outcome.{line};
 ghost use Rattle.engine.specs.Step.{outcome-of, words-after};
-ghost use Rattle.schedule.specs.Listed.{words-run, outcomes-run, written-down, lines};
-ghost use Rattle.schedule.specs.Carried.{Demanded};
+ghost use Rattle.schedule.specs.Listed.{written-down, All-taken};
 use engine::step::step;
 use steps::outcome::Line;
 use steps::step::Step;
@@ -33,11 +32,9 @@ pub fn turn(mem: &mut [u8], out: &mut [u64], i: usize, k: Step) -> u64
     l.outcome
 }
 
-// All steps, front to back, and their outcomes, three numbers a step. On memory as `open` left it they are as demand 3 says.
+// All steps, front to back, and their outcomes, three numbers a step. Whatever steps had reached the store, these go on from there.
 pub fn run(mem: &mut [u8], out: &mut [u64], steps: &[Step])
-    ensures { λ _. ⌜ (view (now (mem .exit)) ≡ words-run (length (now (mem .entry))) (view (now (mem .entry))) (now (steps .entry)))
-        × (now (out .exit) ≡ lines (now (out .entry)) 0 (outcomes-run (length (now (mem .entry))) (view (now (mem .entry))) (now (steps .entry))))
-        × Demanded (length (now (mem .entry))) (view (now (mem .entry))) (now (steps .entry)) (view (now (mem .exit))) ⌝ }
+    ensures { λ _. ⌜ All-taken (now (mem .entry)) (now (out .entry)) (now (steps .entry)) (now (mem .exit)) (now (out .exit)) ⌝ }
 {
     let mut i: usize = 0;
     while i < steps.len() {

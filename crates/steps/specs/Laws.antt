@@ -14,3 +14,5 @@ pub mod Uses
 pub mod There
 -- the stores of an apply lie in the server's part
 pub mod Writes
+-- where steps lead, one list after another
+pub mod Taken

@@ -13,7 +13,9 @@ pub mod Uses
 pub mod Judge
 -- the eight kinds of steps: outcome and stores
 pub mod Steps
--- a list of steps, on a newly opened store
+-- a newly opened store, and the memory after a step
 pub mod Run
+-- steps that were taken, with their outcomes, and where they lead
+pub mod Taken
 -- laws and proofs
 pub mod Laws

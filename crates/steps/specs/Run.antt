@@ -1,12 +1,11 @@
--- "A schedule is a lent list of step records, run front to back": the memory after it, and the outcomes.
-use mathlib.Core.List.{List, [], _∷_}
+-- A newly opened store, and the memory after a step.
+use mathlib.Core.List.{_∷_}
 use Prim.Native.Nat.{ℕ}
 use Rattle.layout.specs.Space.{put, changed}
 use Rattle.layout.specs.Part.{over}
 use Rattle.server.specs.Fresh.{first-leaf}
 use Rattle.steps.specs.declared.sizes.Sizes.{Sizes}
 use Rattle.steps.specs.declared.step.Step.{Step}
-use Rattle.steps.specs.declared.outcome.Outcome.{Outcome}
 use Rattle.steps.specs.Whole.{Address, head, server, whole}
 use Rattle.steps.specs.Steps.{step}
 
@@ -19,8 +18,3 @@ opened z =
 -- what stands at the addresses after a step
 abbrev pub after : Sizes → (Address → ℕ) → Step → Address → ℕ
 after z m k = changed whole m (step z k m .stores)
-
--- the outcomes of a list of steps, front to back
-unfoldable pub outcomes : Sizes → (Address → ℕ) → List Step → List Outcome
-outcomes z m [] = []
-outcomes z m (k ∷ ks) = step z k m .outcome ∷ outcomes z (after z m k) ks

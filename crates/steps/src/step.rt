@@ -1,4 +1,5 @@
-// "A step has six fields: kind, client, op, key, value, server."
+// "A step has six fields: kind, client, op, key, value, server." Six words in a row, so that programs in C can pass a list of them.
+#[repr(C)]
 pub struct Step {
     pub kind: u64,
     pub client: u64,

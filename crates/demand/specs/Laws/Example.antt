@@ -1,14 +1,19 @@
 -- Document 01's example of a schedule, run by the definitions: sizes 1 4 1; a transaction that inserts key 5 with value 70.
 use mathlib.Core.Path.{_≡_, refl}
-use mathlib.Core.List.{List, [], _∷_}
-use Prim.Native.Nat.{ℕ}
+use mathlib.Core.List.{List, [], _∷_, _++_}
+use mathlib.Core.Logic.{inl}
+use Prim.Native.Nat.{ℕ, _<_}
 use native.Mathlib.Decide.{decLe, ℕ-discrete}
+use native.Mathlib.Omega.{arith}
 use Rattle.operations.specs.Map.{insert}
 use Rattle.steps.specs.declared.sizes.Sizes.{Sizes}
 use Rattle.steps.specs.declared.step.Step.{Step}
-use Rattle.steps.specs.declared.outcome.Outcome.the-variants.{Done, Fetched, Answered, Committed}
-use Rattle.demand.specs.Ledger.{Told}
-use Rattle.demand.specs.Demand.{course, course-of, settle, settle-client, settled, node-in, pairs-under}
+use Rattle.steps.specs.declared.outcome.Outcome.the-variants.{Refused, Done, Fetched, Answered, Committed}
+use Rattle.plans.specs.Walk.{Every}
+use Rattle.steps.specs.Taken.{Words, Taken, came-to, Leads}
+use Rattle.steps.specs.Laws.Taken.{fields-are-words}
+use Rattle.demand.specs.Ledger.{Told, ledger-from, decided-in}
+use Rattle.demand.specs.Demand.{Some, Applies, node-in, pairs-under}
 use Rattle.base.specs.Update as Update
 use Rattle.memory.specs.Bit as Bit
 use Rattle.layout.specs.Part as LayoutPart
@@ -52,6 +57,7 @@ use Rattle.steps.specs.Refusal as Refusal
 use Rattle.steps.specs.Run as Run
 use Rattle.steps.specs.Steps as Steps
 use Rattle.steps.specs.Uses as Uses
+use Rattle.steps.specs.Whole.{Address}
 
 abbrev sizes : Sizes
 sizes = record { servers = 1; slots = 4; clients = 1 }
@@ -59,17 +65,36 @@ sizes = record { servers = 1; slots = 4; clients = 1 }
 abbrev line : ℕ → ℕ → ℕ → ℕ → Step
 line kind op key value = record { kind = kind; client = 0; op = op; key = key; value = value; server = 0 }
 
--- begin, give, work three times, commit, prepare
-abbrev steps : List Step
-steps = line 0 0 0 0 ∷ line 1 1 5 70 ∷ line 2 0 0 0 ∷ line 2 0 0 0 ∷ line 2 0 0 0 ∷ line 3 0 0 0 ∷ line 4 0 0 0 ∷ []
+-- begin, give, work three times, commit, prepare, with the outcomes that stepshow prints
+abbrev story : List Taken
+story =
+    came-to (line 0 0 0 0) Done ∷ came-to (line 1 1 5 70) Done ∷ came-to (line 2 0 0 0) (Fetched 0 0) ∷ came-to (line 2 0 0 0) (Fetched 1 0)
+    ∷ came-to (line 2 0 0 0) (Answered 1 0) ∷ came-to (line 3 0 0 0) Done ∷ came-to (line 4 0 0 0) Committed ∷ []
+
+-- with one participant the prepare has also applied: no apply is due
+abbrev applies : List Taken
+applies = came-to (line 5 0 0 0) (Refused 9) ∷ []
+
+-- the memory after steps
+abbrev memory-after : (Address → ℕ) → List Taken → Address → ℕ
+memory-after m [] = m
+memory-after m (t ∷ h) = memory-after (Run.after sizes m (t .step)) h
 
 abbrev inserted : Told
 inserted = record { op = insert 5 70; ans = (1, 0) }
 
--- The outcomes that stepshow prints; one decided transaction, with its answer; and the tree holds its pair. All that the run computes with is
--- named below, so that it computes.
-pub example : (Run.outcomes sizes (Run.opened sizes) steps ≡ Done ∷ Done ∷ Fetched 0 0 ∷ Fetched 1 0 ∷ Answered 1 0 ∷ Done ∷ Committed ∷ [])
-    × (course-of sizes steps .ledger .decided ≡ (inserted ∷ []) ∷ [])
-    × (pairs-under (settled sizes (course-of sizes steps .memory)) 0 ≡ (5, 70) ∷ [])
-unfolding Update.upd Bit.bit Bit.putBit LayoutPart.over Space.changed Space.decide Space.puts Space.tab LayoutStep.andThen Sweep.sweep Find.key-index Find.find-at Find.rises Lists.insert-at Lists.pad Node.extra Node.free-node Node.keysOf Node.made Node.slotsOf Place.place NodesRange.node-in-range Stored.node-of Stored.words-of Entry.under Check.can-check Check.checked Check.held Check.mark-in Check.mark-place Check.sound Check.standing Fresh.first-leaf HandOut.metadata-at HandOut.metadata-sound Lock.busy Lock.lock-in-range Lock.locked Lock.unlocked Object.lock-of Object.object-of ServerRange.name-in-store Store.home-step Store.kept-of Store.lock-step Store.node-step Store.table-step Store.unlock-step Answered.answered Answered.enter-writes Answered.entered Answered.put-entry Answered.used-enter Commit.inner-at Copies.drop-node Course.decided Course.noted Drops.next-version Enter.enter-entries Enter.enter-read Enter.enter-used Enter.enter-write Fetched.copy-inner Fetched.fetched-meta Fetched.fetched-node Fits.client-fits Fits.field-fits Fits.has-read Fits.item-fits Fits.op-fits Fits.vector-fits Have.broken Have.copied Have.copied-meta Have.copied-node Have.have Have.source Items.all-below Items.any-below Items.has Items.inner Items.inner-before-after Items.inner-in Life.give-part Life.reset ClientPart.nothing ClientPart.put-word ClientPart.put-fields ClientPart.put-item Participants.at-home Participants.committing Participants.lowest-of Participants.mask Participants.participants-of Record.record-in-range Record.in-store Record.number-in-store Record.record-of Record.single Renew.drop-outer Renew.finish Renew.for-writes Renew.rank Renew.ranked Renew.renew Renew.renew-flag Renew.renew-kept Renew.renew-meta Renew.renew-nth Renew.renew-written ClientRun.among ClientRun.run Sets.count Sets.find Sets.first-of Sets.number-at Sets.record-at Work.any-at-last Work.count-new Work.walked Work.worked Judge.check-fits Judge.holders-fit Judge.lock-fits Judge.prepare-fits Judge.versions-fit Refusal.first Refusal.state-fits Refusal.kind-of Refusal.refusal Run.opened Run.outcomes Steps.applied-at Steps.begin Steps.commit Steps.covers Steps.fetch Steps.give Steps.node-at Steps.prepare Steps.prepared-at Steps.step Steps.work Uses.all Uses.checked-at Uses.deciding Uses.each Uses.item-of Uses.least Uses.locked-at Uses.read-items Uses.those Uses.used-items course node-in settle settle-client decLe ℕ-discrete
-example = (refl, refl, refl)
+words : (kind op key value : ℕ) → kind < 100 → op < 100 → key < 100 → value < 100 → Words (line kind op key value)
+words kind op key value a b c d = fields-are-words (line kind op key value) (omega arith) (omega arith) (omega arith) (omega arith) (omega arith) (omega arith)
+
+-- The steps come to these outcomes; one transaction is decided, with its answer; and the tree then holds its pair. All that the run computes with
+-- is named below, so that it computes.
+pub example : Leads sizes (Run.opened sizes) (story ++ applies) (memory-after (Run.opened sizes) (story ++ applies))
+    × (decided-in story ≡ (inserted ∷ []) ∷ []) × Applies sizes applies
+    × (pairs-under (memory-after (Run.opened sizes) (story ++ applies)) 0 ≡ (5, 70) ∷ [])
+unfolding Update.upd Bit.bit Bit.putBit LayoutPart.over Space.changed Space.decide Space.puts Space.tab LayoutStep.andThen Sweep.sweep Find.key-index Find.find-at Find.rises Lists.insert-at Lists.pad Node.extra Node.free-node Node.keysOf Node.made Node.slotsOf Place.place NodesRange.node-in-range Stored.node-of Stored.words-of Entry.under Check.can-check Check.checked Check.held Check.mark-in Check.mark-place Check.sound Check.standing Fresh.first-leaf HandOut.metadata-at HandOut.metadata-sound Lock.busy Lock.lock-in-range Lock.locked Lock.unlocked Object.lock-of Object.object-of ServerRange.name-in-store Store.home-step Store.kept-of Store.lock-step Store.node-step Store.table-step Store.unlock-step Answered.answered Answered.enter-writes Answered.entered Answered.put-entry Answered.used-enter Commit.inner-at Copies.drop-node Course.decided Course.noted Drops.next-version Enter.enter-entries Enter.enter-read Enter.enter-used Enter.enter-write Fetched.copy-inner Fetched.fetched-meta Fetched.fetched-node Fits.client-fits Fits.field-fits Fits.has-read Fits.item-fits Fits.op-fits Fits.vector-fits Have.broken Have.copied Have.copied-meta Have.copied-node Have.have Have.source Items.all-below Items.any-below Items.has Items.inner Items.inner-before-after Items.inner-in Life.give-part Life.reset ClientPart.nothing ClientPart.put-word ClientPart.put-fields ClientPart.put-item Participants.at-home Participants.committing Participants.lowest-of Participants.mask Participants.participants-of Record.record-in-range Record.in-store Record.number-in-store Record.record-of Record.single Renew.drop-outer Renew.finish Renew.for-writes Renew.rank Renew.ranked Renew.renew Renew.renew-flag Renew.renew-kept Renew.renew-meta Renew.renew-nth Renew.renew-written ClientRun.among ClientRun.run Sets.count Sets.find Sets.first-of Sets.number-at Sets.record-at Work.any-at-last Work.count-new Work.walked Work.worked Judge.check-fits Judge.holders-fit Judge.lock-fits Judge.prepare-fits Judge.versions-fit Refusal.first Refusal.state-fits Refusal.kind-of Refusal.refusal Run.opened Steps.applied-at Steps.begin Steps.commit Steps.covers Steps.fetch Steps.give Steps.node-at Steps.prepare Steps.prepared-at Steps.step Steps.work Uses.all Uses.checked-at Uses.deciding Uses.each Uses.item-of Uses.least Uses.locked-at Uses.read-items Uses.those Uses.used-items Leads ledger-from Every Some node-in decLe ℕ-discrete
+example = (
+  (words 0 0 0 0 (omega arith) (omega arith) (omega arith) (omega arith), refl, (words 1 1 5 70 (omega arith) (omega arith) (omega arith) (omega arith), refl, (words 2 0 0 0 (omega arith) (omega arith) (omega arith) (omega arith), refl, (words 2 0 0 0 (omega arith) (omega arith) (omega arith) (omega arith), refl, (words 2 0 0 0 (omega arith) (omega arith) (omega arith) (omega arith), refl, (words 3 0 0 0 (omega arith) (omega arith) (omega arith) (omega arith), refl, (words 4 0 0 0 (omega arith) (omega arith) (omega arith) (omega arith), refl, (words 5 0 0 0 (omega arith) (omega arith) (omega arith) (omega arith), refl, refl)))))))),
+  refl,
+  record { only = (refl, tt); each = λ c s l r. inl (omega arith, omega arith) },
+  refl,
+)

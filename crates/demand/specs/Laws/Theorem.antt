@@ -1,27 +1,28 @@
--- DEMAND 3, proved. Every list of steps leads to a good state: the answers of its decided transactions are the map's; and where all applies
--- still due have been done, the tree is read from what the servers store.
+-- What holds in a good state: the answers of the decided transactions are the map's, and where no apply is due the tree that the servers store
+-- holds it. A newly opened store is in one; that every step leads to one (`ByKind.step-after`) is put together in `ranges`.
 use mathlib.Core.Path.{_≡_, refl, ap, sym, _∙_, subst, fun-ext}
 use mathlib.Core.Bool.{Bool, true, false, false≢true}
-use mathlib.Core.List.{List, [], _∷_}
 use Prim.Native.Nat.{ℕ, zero, suc, _≤_, _<_, Fin}
 use native.Mathlib.Omega.{arith}
 use Rattle.base.specs.Test.{not-both}
+use Rattle.nodes.specs.Name as N
 use Rattle.operations.specs.Object.{Obj, meta, node, flag, Val, root-of, taken, is-taken}
 use Rattle.operations.specs.Slot.{Allowed}
 use Rattle.operations.specs.Tree.{Holds-tree}
 use Rattle.operations.specs.Sound.{new-store}
 use Rattle.operations.specs.Laws.Reading.{read-is}
 use Rattle.protocol.specs.State.{is-decided}
+use Rattle.protocol.specs.Machine as P
 use Rattle.protocol.specs.Laws.Claim.{Applied, claim, none-due}
 use Rattle.protocol.specs.Claim.{due-in}
 use Rattle.server.specs.declared.place.Place.the-variants.{Root}
 use Rattle.client.specs.Record.{in-store, value-of}
-use Rattle.steps.specs.declared.step.Step.{Step}
 use Rattle.steps.specs.Whole.{Address, server}
 use Rattle.steps.specs.Laws.Stores.{server-of}
 use Rattle.steps.specs.Steps.{node-at}
 use Rattle.steps.specs.Run.{opened}
-use Rattle.demand.specs.Ledger.{Ledger, blank, map-all}
+use Rattle.demand.specs.Ledger.{Ledger, blank, map-all, Right-all}
+use Rattle.demand.specs.Demand as D
 use Rattle.demand.specs.Laws.Store.{sizes, home, keeps-home, meaning}
 use Rattle.demand.specs.Laws.Members.{server-is, name-server}
 use Rattle.demand.specs.Laws.Numbers.{zeroth-there}
@@ -29,12 +30,7 @@ use Rattle.demand.specs.Laws.Shows.{T}
 use Rattle.demand.specs.Laws.Answers.{answers-right, tree-holds}
 use Rattle.demand.specs.Laws.Opened.{opened-related}
 use Rattle.demand.specs.Laws.Turns.{decided-word, store, Good, Explained}
-use Rattle.demand.specs.Laws.Settled.{all-settled, settled-applied}
-use Rattle.demand.specs.Laws.ByKind.{step-after}
-use Rattle.nodes.specs.Name as N
-use Rattle.protocol.specs.Machine as P
-use Rattle.steps.specs.Whole as W
-use Rattle.demand.specs.Demand as D
+use Rattle.demand.specs.Laws.Settled.{None-due, settled-applied}
 
 module _ (k j slots : ℕ) (al : Allowed (sizes k j slots)) (few : suc j ≤ 16) where
   -- ---- where no apply is due, the tree
@@ -78,15 +74,7 @@ module _ (k j slots : ℕ) (al : Allowed (sizes k j slots)) (few : suc j ≤ 16)
     pub pairs-read : D.pairs-under m the-root ≡ map-all (L .decided)
     pairs-read = read-is Stored (map-all (L .decided)) holds (D.node-in m) node-read
 
-  -- ---- a list of steps
-  course-good : (ks : List Step) → D.All-words ks → (x : D.Course) → Explained k j slots (x .memory) (x .ledger)
-      → Explained k j slots (D.course (store k j slots) x ks .memory) (D.course (store k j slots) x ks .ledger)
-  unfolding D.course D.All-words
-  course-good [] w x e = e
-  course-good (n ∷ ks) w x e =
-      course-good ks (w .1) (D.next-course (store k j slots) x n) (step-after k j slots al few (x .memory) (x .ledger) (e .machine) (e .good) n (w .0 .key))
-
-  -- from a newly opened store
+  -- ---- a newly opened store
   first-good : Good k j slots (opened (store k j slots)) blank (P.first-machine (T k j slots))
   first-good = record {
     shown = opened-related k j slots;
@@ -97,33 +85,16 @@ module _ (k j slots : ℕ) (al : Allowed (sizes k j slots)) (few : suc j ≤ 16)
   pub opened-explained : Explained k j slots (opened (store k j slots)) blank
   opened-explained = record { machine = P.first-machine (T k j slots); good = first-good }
 
-  run-good : (ks : List Step) → D.All-words ks → Explained k j slots (D.course-of (store k j slots) ks .memory) (D.course-of (store k j slots) ks .ledger)
-  run-good ks w = course-good ks w (record { memory = opened (store k j slots); ledger = blank }) opened-explained
+  -- ---- WHAT IS CLAIMED: the answers, and where no apply is due the tree
+  module _ (m : Address → ℕ) (L : Ledger) (e : Explained k j slots m L) where
+    pub answers : Right-all (L .decided)
+    answers = answers-right k j slots al m L (e .machine) (e .good .shown)
 
-  -- THE DEMAND
-  pub demanded : 1 ≤ slots → (ks : List Step) → D.All-words ks → D.Demand (store k j slots) ks
-  demanded some-slot ks w =
-      let x = D.course-of (store k j slots) ks in
-      let e = run-good ks w in
-      let f = all-settled k j slots al few (x .ledger) (x .memory) e in
-      let n = f .explained in
-      let done = settled-applied k j slots al few (x .ledger) (D.settled (store k j slots) (x .memory)) (n .machine) (n .good) (λ c t l. f .done c (c .1) t l) in
-      record {
-        answers = answers-right k j slots al (x .memory) (x .ledger) (e .machine) (e .good .shown);
-        root = the-root some-slot (D.settled (store k j slots) (x .memory)) (x .ledger) (n .machine) (n .good) done;
-        named = root-named some-slot (D.settled (store k j slots) (x .memory)) (x .ledger) (n .machine) (n .good) done;
-        pairs = pairs-read some-slot (D.settled (store k j slots) (x .memory)) (x .ledger) (n .machine) (n .good) done;
-      }
-
--- whatever the sizes
-with-sizes : (servers slots clients : ℕ) → W.Allowed (record { servers = servers; slots = slots; clients = clients })
-    → (ks : List Step) → D.All-words ks → D.Demand (record { servers = servers; slots = slots; clients = clients }) ks
-with-sizes zero slots clients a ks w = absurd (omega (arith, a .servers .0))
-with-sizes (suc k) slots zero a ks w = absurd (omega (arith, a .clients .0))
-with-sizes (suc k) slots (suc j) a ks w =
-    let al : Allowed (sizes k j slots) = (a .servers .1, a .slots .1) in
-    demanded k j slots al (a .clients .1) (a .slots .0) ks w
-
--- THE THEOREM
-pub demand-3 : D.Demand-3
-demand-3 z a ks w = with-sizes (z .servers) (z .slots) (z .clients) a ks w
+    pub tree : 1 ≤ slots → None-due (store k j slots) m → D.Tree (store k j slots) m (map-all (L .decided))
+    tree some-slot none =
+        let done = settled-applied k j slots al L m (e .machine) (e .good) none in
+        record {
+          root = the-root some-slot m L (e .machine) (e .good) done;
+          named = root-named some-slot m L (e .machine) (e .good) done;
+          holds = pairs-read some-slot m L (e .machine) (e .good) done;
+        }

@@ -1,4 +1,5 @@
 use borrow.Author.Needs.{needs}
+use Rattle.gemandrolo.specs.Laws.Told.{opens}
 use Rattle.gemandrolo.specs.Laws.Numbers.{numbers}
 use Rattle.gemandrolo.proofs.gemandrolo_open.Statement.{statement}
 use Rattle.gemandrolo.proofs.gemandrolo_open.Tie as tie
@@ -9,7 +10,7 @@ gemandrolo-open-spec = tie.close (tie.spec
     (λ c. search needs)  -- enum-told
     (λ c. search needs)  -- enum-known-opening
     (λ c. search needs)  -- same-length
-    (λ c. (search (numbers, needs), search needs))  -- returns
+    (λ c. opens (c .before .before .before .before .before .before .before .args .mem .now) _ _ _ (search needs) (search (numbers, needs)) (search needs))  -- returns
     (λ c. search needs)  -- same-length-2
-    (λ c. (search (numbers, needs), search needs))  -- returns-2
+    (λ c. opens (c .before .before .before .before .before .before .before .before .args .mem .now) _ _ _ (search needs) (search (numbers, needs)) (search needs))  -- returns-2
     )

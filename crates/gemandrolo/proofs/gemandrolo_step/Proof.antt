@@ -1,4 +1,5 @@
 use borrow.Author.Needs.{needs}
+use Rattle.gemandrolo.specs.Laws.Told.{tells}
 use Rattle.gemandrolo.specs.Laws.Numbers.{line-numbers}
 use Rattle.gemandrolo.proofs.gemandrolo_step.Statement.{statement}
 use Rattle.gemandrolo.proofs.gemandrolo_step.Tie as tie
@@ -8,5 +9,5 @@ gemandrolo-step-spec = tie.close (tie.spec
     (λ c κs. search needs)  -- step-requires
     (λ c κs. search needs)  -- of-requires
     (λ c. search needs)  -- same-length
-    (λ c. (search (line-numbers, needs), (search (line-numbers, needs), (search (line-numbers, needs), search needs))))  -- returns
+    (λ c. (search (line-numbers, needs), (search (line-numbers, needs), (search (line-numbers, needs), (search needs, search (tells, line-numbers, needs))))))  -- returns
     )

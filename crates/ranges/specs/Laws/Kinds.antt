@@ -11,8 +11,10 @@ use Rattle.base.specs.Test.{and-both}
 use Rattle.layout.specs.Space.{changed}
 use Rattle.plans.specs.Walk.{Every}
 use Rattle.operations.specs.Slot.{Allowed}
+use Rattle.protocol.specs.Machine as P
 use Rattle.client.specs.Layout.{ClientWord, phase, op-number, prepared, applied}
 use Rattle.client.specs.Fits.{client-fits}
+use Rattle.client.specs.Work as Work
 use Rattle.client.specs.Work.{Worked, walked, worked}
 use Rattle.steps.specs.declared.sizes.Sizes.{Sizes}
 use Rattle.steps.specs.declared.step.Step.{Step}
@@ -21,8 +23,9 @@ use Rattle.steps.specs.Whole.{Address}
 use Rattle.steps.specs.Refusal.{Row, first, kind-of, state-fits, of-step, refusal}
 use Rattle.steps.specs.Passed.{Passed}
 use Rattle.steps.specs.Laws.Passed.{passed}
+use Rattle.steps.specs.Steps as Steps
 use Rattle.steps.specs.Laws.Stores.{client-of}
-use Rattle.demand.specs.Demand.{Words}
+use Rattle.steps.specs.Taken.{Words}
 use Rattle.demand.specs.Ledger.{Ledger}
 use Rattle.demand.specs.Laws.Settled.{unfinished}
 use Rattle.demand.specs.Laws.Shows.{T}
@@ -38,9 +41,6 @@ use Rattle.ranges.specs.Laws.Preparing.{prepare-kept}
 use Rattle.ranges.specs.Laws.Hand.{never-refused}
 use Rattle.ranges.specs.Laws.Fetching.{fetch-kept}
 use Rattle.ranges.specs.Laws.Answering.{answer-kept}
-use Rattle.protocol.specs.Machine as P
-use Rattle.client.specs.Work as Work
-use Rattle.steps.specs.Steps as Steps
 
 -- the numbers of the table are below 10
 first-low : (rs : List Row) → Every (λ (r : Row). r .number ≤ 9) rs → first rs ≤ 9
@@ -56,7 +56,8 @@ refusal-low : (z : Sizes) (n : Step) (m : Address → ℕ) → refusal z n m ≤
 unfolding refusal Every
 refusal-low z n m = first-low (of-step z n m) (omega arith, (omega arith, (omega arith, (omega arith, (omega arith, (omega arith, tt))))))
 
-module _ (k j slots : ℕ) (al : Allowed (sizes k j slots)) (few : suc j ≤ 16) (m : Address → ℕ) (S : Sound-store k j slots m) (L : Ledger) (M : P.Machine (T k j slots)) (G : Good k j slots m L M) (n : Step) (words : Words n) where
+module _ (k j slots : ℕ) (al : Allowed (sizes k j slots)) (few : suc j ≤ 16) (m : Address → ℕ) (S : Sound-store k j slots m) (L : Ledger) (M : P.Machine (T k j slots))
+    (G : Good k j slots m L M) (n : Step) (words : Words n) where
   abbrev z : Sizes
   z = store k j slots
 

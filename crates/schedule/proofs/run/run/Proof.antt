@@ -55,11 +55,10 @@ use Rattle.memory.specs.Word.{view}
 use Rattle.steps.specs.declared.step.Step.{Step}
 use Rattle.steps.specs.Outcome.{line}
 use Rattle.engine.specs.Step.{outcome-of, words-after}
-use Rattle.demand.specs.Demand.{Words, All-words}
-use Rattle.schedule.specs.Laws.Listed.{no-step, all-words, words-next, word-below}
-use Rattle.schedule.specs.Listed.{words-run, outcomes-run, written-down, lines}
-use Rattle.schedule.specs.Carried.{Demanded}
-use Rattle.schedule.specs.Laws.Carried.{carried}
+use Rattle.steps.specs.Taken.{Words}
+use Rattle.steps.specs.Laws.Taken.{word-below}
+use Rattle.schedule.specs.Laws.Listed.{no-step, all-words, words-next, run-goes-on}
+use Rattle.schedule.specs.Listed.{words-run, taken-run, written-down, lines, All-taken}
 use Rattle.steps.proofs.step.Step as T
 use Rattle.steps.proofs.step.Step.Laws as T′
 use Rattle.schedule.proofs.Again.{LentAgain, lends-again, comes-back}
@@ -148,12 +147,12 @@ module _ (n : ℕ) (ys : List Step) where
   ran-end v = rw (drop-length ys)
 
   lines-next : (w v : List ℕ) (i : ℕ) → i < length ys
-      → lines w i (outcomes-run n v (drop-list i ys)) ≡ lines (written-down w i (line (outcome-of n v (getD ys i no-step)))) (suc i) (outcomes-run n (words-after n v (getD ys i no-step)) (drop-list (suc i) ys))
-  unfolding lines outcomes-run
+      → lines w i (taken-run n v (drop-list i ys)) ≡ lines (written-down w i (line (outcome-of n v (getD ys i no-step)))) (suc i) (taken-run n (words-after n v (getD ys i no-step)) (drop-list (suc i) ys))
+  unfolding lines taken-run
   lines-next w v i l = rw (drop-cons ys i no-step l)
 
-  lines-end : (w v : List ℕ) (j : ℕ) → lines w j (outcomes-run n v (drop-list (length ys) ys)) ≡ w
-  unfolding lines outcomes-run
+  lines-end : (w v : List ℕ) (j : ℕ) → lines w j (taken-run n v (drop-list (length ys) ys)) ≡ w
+  unfolding lines taken-run
   lines-end w v j = rw (drop-length ys)
 
 module _ {M : Type 1} (𝓤 : URA M) (H : Heap 𝓤) (A : Atoms 𝓤) (W : Given 𝓤 H A) (mem : Memory → SProp 𝓤) (run : Routine → Fun 𝓤) (κ κ′ κ₂ : Lft) (q q₁ q₂ : Share) (b o : ℕ) (γ : GName) (xs : List ℕ) (b′ o′ : ℕ) (γ′ : GName) (ws : List ℕ) (c p : ℕ) (γ₂ : GName) (ys : List Step) where
@@ -199,7 +198,7 @@ module _ {M : Type 1} (𝓤 : URA M) (H : Heap 𝓤) (A : Atoms 𝓤) (W : Given
   abbrev Sched : Fml
   Sched = ShrSlice (named 2) κ₂ R .own y (tv ∷ [])
 
-  exits : (m w : List ℕ) → length m ≡ n → length w ≡ no → (view m ≡ words-run n (view xs) ys) × (w ≡ lines ws 0 (outcomes-run n (view xs) ys)) × Demanded n (view xs) ys (view m)
+  exits : (m w : List ℕ) → length m ≡ n → length w ≡ no → All-taken xs ws ys m w
       → ent 𝓤 (⋆ 𝓤 H A (‵ (flft κ q) ∷ ‵ (flft κ′ q₁) ∷ ‵ (flft κ₂ q₂) ∷ ‵ (Mem m) ∷ ‵ (Out′ w) ∷ ‵ Sched ∷ [])) (Post vunit)
   exits m w e e′ r =
       qed W (‵ (flft κ q) ∷ ‵ (flft κ′ q₁) ∷ ‵ (flft κ₂ q₂) ∷ ‵ (Mem m) ∷ ‵ (Out′ w) ∷ ‵ Sched ∷ []) ∵
@@ -239,7 +238,7 @@ module _ {M : Type 1} (𝓤 : URA M) (H : Heap 𝓤) (A : Atoms 𝓤) (W : Given
         ∷ ‵ (fat fullShare slice₁ l₁ 0 sv) ∷ ‵ (fat fullShare slice₂ l₂ 0 ov) ∷ ‵ (fat fullShare slice₃ l₃ 0 tv) ∷ ‵ (froom tyUnit l₀ 0) ∷ Dies
 
     abbrev Facts : ℕ → ℕ → List ℕ → List ℕ → Type 0
-    Facts t i m w = (i + t ≡ k) × (length m ≡ n) × (length w ≡ no) × (words-run n (view m) (drop-list i ys) ≡ words-run n (view xs) ys) × (lines w i (outcomes-run n (view m) (drop-list i ys)) ≡ lines ws 0 (outcomes-run n (view xs) ys)) × ((j : ℕ) → j < i → Words (getD ys j no-step))
+    Facts t i m w = (i + t ≡ k) × (length m ≡ n) × (length w ≡ no) × (words-run n (view m) (drop-list i ys) ≡ words-run n (view xs) ys) × (lines w i (taken-run n (view m) (drop-list i ys)) ≡ lines ws 0 (taken-run n (view xs) ys)) × ((j : ℕ) → j < i → Words (getD ys j no-step))
 
     abbrev Inv : ℕ → SProp 𝓤
     Inv t = ex 𝓤 (λ (i : ℕ). ex 𝓤 (λ (m : List ℕ). ex 𝓤 (λ (w : List ℕ). guard 𝓤 (Facts t i m w) (⋆ 𝓤 H A (At i m w)))))
@@ -315,7 +314,7 @@ module _ {M : Type 1} (𝓤 : URA M) (H : Heap 𝓤) (A : Atoms 𝓤) (W : Given
         next-fits = omega (arith, g₂ .0)
 
     -- the turn that leaves the loop, and the rest of the body
-    ends : (m w : List ℕ) (X : SProp 𝓤) → length m ≡ n → length w ≡ no → (view m ≡ words-run n (view xs) ys) × (w ≡ lines ws 0 (outcomes-run n (view xs) ys)) × Demanded n (view xs) ys (view m) → ent 𝓤 (⋆ 𝓤 H A (At k m w)) (Wp 𝓤 H C Λ En mirs.turn-1 (afterTurn 𝓤 H X Left))
+    ends : (m w : List ℕ) (X : SProp 𝓤) → length m ≡ n → length w ≡ no → All-taken xs ws ys m w → ent 𝓤 (⋆ 𝓤 H A (At k m w)) (Wp 𝓤 H C Λ En mirs.turn-1 (afterTurn 𝓤 H X Left))
     unfolding afterTurn
     ends m w X e e′ r =
         qed W (At k m w) ∵ exec ! C Λ En mirs.turn-1 (anyQ (afterTurn 𝓤 H X Left)) $
@@ -345,7 +344,10 @@ module _ {M : Type 1} (𝓤 : URA M) (H : Heap 𝓤) (A : Atoms 𝓤) (W : Given
         let e : k ≡ i = omega arith in
         subst (λ (j : ℕ). ent 𝓤 (⋆ 𝓤 H A (At j m w)) (Wp 𝓤 H C Λ En mirs.turn-1 (afterTurn 𝓤 H (Below zero) Left))) e
         (ends m w (Below zero) (fs .1) (fs .2)
-        (sym (ran-end n ys (view m)) ∙ ap (λ (j : ℕ). words-run n (view m) (drop-list j ys)) e ∙ fs .3, sym (lines-end n ys w (view m) i) ∙ ap (λ (j : ℕ). lines w i (outcomes-run n (view m) (drop-list j ys))) e ∙ fs .4, carried n (view xs) (view m) ys (all-words ys (λ j l. fs .5 j (omega arith))) (sym (ran-end n ys (view m)) ∙ ap (λ (j : ℕ). words-run n (view m) (drop-list j ys)) e ∙ fs .3)))
+        (record { words = ran e; outcomes = sym (lines-end n ys w (view m) i) ∙ ap (λ (j : ℕ). lines w i (taken-run n (view m) (drop-list j ys))) e ∙ fs .4; reached = run-goes-on xs m ys (all-words ys (λ j l. fs .5 j (omega arith))) (fs .1) (ran e) }))
+      where
+        ran : k ≡ i → view m ≡ words-run n (view xs) ys
+        ran e = sym (ran-end n ys (view m)) ∙ ap (λ (j : ℕ). words-run n (view m) (drop-list j ys)) e ∙ fs .3
     turn-at (suc t) i m w fs =
         let l : i < k = omega arith in
         more i m w (Below (suc t)) l (fs .1) (fs .2) (λ m′ w′ e e′ p q wd. below (suc t) t (suc i) m′ w′ (lt-suc-self t) (
@@ -353,7 +355,7 @@ module _ {M : Type 1} (𝓤 : URA M) (H : Heap 𝓤) (A : Atoms 𝓤) (W : Given
           e,
           e′,
           ap (λ (v : List ℕ). words-run n v (drop-list (suc i) ys)) (p ∙ at-n) ∙ sym (ran-next n ys (view m) i l) ∙ fs .3,
-          ap₂ (λ (o v : List ℕ). lines o (suc i) (outcomes-run n v (drop-list (suc i) ys))) (q ∙ noted-n) (p ∙ at-n) ∙ sym (lines-next n ys w (view m) i l) ∙ fs .4,
+          ap₂ (λ (o v : List ℕ). lines o (suc i) (taken-run n v (drop-list (suc i) ys))) (q ∙ noted-n) (p ∙ at-n) ∙ sym (lines-next n ys w (view m) i l) ∙ fs .4,
           words-next ys i (fs .5) wd,
         ))
       where

@@ -1,0 +1,201 @@
+-- APPLIES ONE AFTER ANOTHER: each is refused or applied; they note nothing; and what is not due any more stays so.
+use mathlib.Core.Path.{_≡_, refl, ap, sym, _∙_, subst}
+use mathlib.Core.Bool.{Bool, true, false, cond, _&&_, _||_, not}
+use mathlib.Core.List.{List, [], _∷_, _++_}
+use mathlib.Core.Logic.{_⊎_, inl, inr}
+use Prim.Native.Nat.{ℕ, _<_}
+use native.Mathlib.Decide.{ℕ-discrete}
+use native.Mathlib.Omega.{arith}
+use borrow.Author.Tests.{eqb-true, eqb-false, eq-eqb, lt-leb}
+use lib.Dec.{eqb, leb}
+use Rattle.base.specs.Laws.Test.{bool-cases}
+use Rattle.memory.specs.Bit.{bit}
+use Rattle.layout.specs.Space.{changed}
+use Rattle.layout.specs.Step.{andThen}
+use Rattle.layout.specs.Laws.Step.{changed-append}
+use Rattle.plans.specs.Walk.{Every}
+use Rattle.client.specs.Layout.{ClientWord, client-words, phase, participants, applied}
+use Rattle.client.specs.Fits.{client-fits}
+use Rattle.client.specs.Course.{noted}
+use Rattle.client.specs.Life.{reset}
+use Rattle.client.specs.Renew.{finish, renew-kept}
+use Rattle.steps.specs.declared.sizes.Sizes.{Sizes}
+use Rattle.steps.specs.declared.step.Step.{Step}
+use Rattle.steps.specs.declared.step.Kind.{Kind}
+use Rattle.steps.specs.declared.step.Kind.the-variants.{Apply}
+use Rattle.steps.specs.declared.outcome.Outcome.{Outcome}
+use Rattle.steps.specs.declared.outcome.Outcome.the-variants.{Refused, Applied, Committed}
+use Rattle.steps.specs.Whole.{Address, whole, tree-sizes}
+use Rattle.steps.specs.Laws.Stores.{client-of}
+use Rattle.steps.specs.Refusal.{first, state-fits, kind-of, refusal}
+use Rattle.steps.specs.Passed.{Passed}
+use Rattle.steps.specs.Laws.Passed.{passed}
+use Rattle.steps.specs.Steps.{Did, did, refuse, if-fit, in-client, applying, all-applied, applied-at, apply-fits, apply, by-kind, step}
+use Rattle.steps.specs.Run.{after}
+use Rattle.steps.specs.Taken.{Taken, Leads}
+use Rattle.demand.specs.Ledger.{Ledger, decides, note, ledger-from}
+use Rattle.demand.specs.Demand.{Some}
+use Rattle.demand.specs.Laws.Kept.{reset-phase}
+use Rattle.demand.specs.Laws.Servers.{both-client, both-other}
+use Rattle.demand.specs.Laws.Settled.{noted-done, noted-else}
+use Rattle.demand.specs.Laws.Applies.{applied-outcome}
+use Rattle.demand.specs.Laws.Turns.{one-of}
+
+-- ---- a client's part after an apply at s
+module _ (u : ClientWord → ℕ) (s : ℕ) where
+  -- after the last one the transaction has ended
+  ended-phase : changed client-words u (andThen client-words (noted applied s) finish u) phase ≡ 0
+  unfolding andThen finish
+  ended-phase =
+      let v = changed client-words u (noted applied s u) in
+      let w = changed client-words v (renew-kept v) in
+      ap (λ (f : ClientWord → ℕ). f phase) (changed-append client-words (noted applied s u) (renew-kept v ++ reset 0 w) u ∙ changed-append client-words (renew-kept v) (reset 0 w) v)
+      ∙ reset-phase 0 0 0 w 0
+
+  ended-done : (t : ℕ) → state-fits (changed client-words u (andThen client-words (noted applied s) finish u)) t Apply ≡ false
+  unfolding state-fits
+  ended-done t =
+      let v = changed client-words u (andThen client-words (noted applied s) finish u) in
+      ap (λ (p : ℕ). eqb p 3 && (bit (v participants) t && not (bit (v applied) t))) ended-phase
+
+  once-noted : (t : ℕ) → (state-fits u t Apply ≡ false) ⊎ (t ≡ s) → state-fits (changed client-words u (noted applied s u)) t Apply ≡ false
+  once-noted t (inr e) = subst (λ (x : ℕ). state-fits (changed client-words u (noted applied s u)) x Apply ≡ false) (sym e) (noted-done u s)
+  once-noted t (inl h) = go (ℕ-discrete t s)
+    where
+      go : Dec (t ≡ s) → state-fits (changed client-words u (noted applied s u)) t Apply ≡ false
+      go (yes e) = subst (λ (x : ℕ). state-fits (changed client-words u (noted applied s u)) x Apply ≡ false) (sym e) (noted-done u s)
+      go (no n) = noted-else u s t n ∙ h
+
+-- ---- what an apply of client c at server s leaves
+module _ (z : Sizes) (m : Address → ℕ) (c s : ℕ) where
+  last-one : Did
+  last-one = did Committed (applying z m c s ++ in-client z m c (andThen client-words (noted applied s) finish))
+
+  one-more : Did
+  one-more = did (Applied s) (applying z m c s ++ in-client z m c (noted applied s))
+
+  abbrev left-of : Did → ℕ → ClientWord → ℕ
+  left-of d = client-of (changed whole m (d .stores))
+
+  applied-own : (t : ℕ) → (state-fits (client-of m c) t Apply ≡ false) ⊎ (t ≡ s) → state-fits (left-of (applied-at z m c s) c) t Apply ≡ false
+  unfolding applied-at last-one one-more
+  applied-own t h =
+      one-of (λ (d : Did). state-fits (left-of d c) t Apply ≡ false) (all-applied z m c s) last-one one-more
+      (λ _. ap (λ (w : ClientWord → ℕ). state-fits w t Apply) (both-client m s c _ _) ∙ ended-done (client-of m c) s t)
+      (λ _. ap (λ (w : ClientWord → ℕ). state-fits w t Apply) (both-client m s c _ _) ∙ once-noted (client-of m c) s t h)
+
+  applied-else : (d : ℕ) → ¬ (d ≡ c) → left-of (applied-at z m c s) d ≡ client-of m d
+  unfolding applied-at last-one one-more
+  applied-else d n =
+      one-of (λ (x : Did). left-of x d ≡ client-of m d) (all-applied z m c s) last-one one-more (λ _. both-other m s c _ _ d n) (λ _. both-other m s c _ _ d n)
+
+  applied-stays : (d t : ℕ) → state-fits (client-of m d) t Apply ≡ false → state-fits (left-of (applied-at z m c s) d) t Apply ≡ false
+  applied-stays d t h = go (ℕ-discrete d c)
+    where
+      go : Dec (d ≡ c) → state-fits (left-of (applied-at z m c s) d) t Apply ≡ false
+      go (yes e) =
+          subst (λ (x : ℕ). state-fits (left-of (applied-at z m c s) x) t Apply ≡ false) (sym e)
+          (applied-own t (inl (subst (λ (x : ℕ). state-fits (client-of m x) t Apply ≡ false) e h)))
+      go (no n) = ap (λ (w : ClientWord → ℕ). state-fits w t Apply) (applied-else d n) ∙ h
+
+-- ---- an apply as a step
+module _ (z : Sizes) (m : Address → ℕ) (n : Step) (five : n .kind ≡ 5) where
+  abbrev u : ClientWord → ℕ
+  u = client-of m (n .client)
+
+  abbrev done : Did
+  done = applied-at z m (n .client) (n .server)
+
+  kind-is : kind-of (n .kind) ≡ Apply
+  unfolding kind-of
+  kind-is = rw five
+
+  -- what comes of it where refusals 4 to 9 don't hold
+  abbrev judged : Did
+  judged = if-fit (client-fits (tree-sizes z) u) (if-fit (apply-fits z m (n .client) (n .server)) done)
+
+  judged-is : if-fit (client-fits (tree-sizes z) u) (by-kind z m (n .client) n (kind-of (n .kind))) ≡ judged
+  unfolding apply
+  judged-is = ap (λ (x : Kind). if-fit (client-fits (tree-sizes z) u) (by-kind z m (n .client) n x)) kind-is
+
+  refused-or : (P : Did → Type 0) → ((x : ℕ) → P (refuse x)) → P done → P (step z n m)
+  unfolding step
+  refused-or P no-step yes-step =
+      one-of P (eqb (refusal z n m) 0) _ _
+      (λ _. subst P (sym judged-is) (one-of P (client-fits (tree-sizes z) u) _ _
+      (λ _. one-of P (apply-fits z m (n .client) (n .server)) _ _ (λ _. yes-step) (λ _. no-step 10)) (λ _. no-step 10)))
+      (λ _. no-step (refusal z n m))
+
+  -- it notes nothing
+  pub apply-notes : (L : Ledger) → note L n (step z n m .outcome) ≡ L
+  apply-notes L = refused-or (λ (d : Did). note L n (d .outcome) ≡ L) (λ x. refl)
+      (ap (note L n) (applied-outcome z m (n .client) (n .server)) ∙ go (all-applied z m (n .client) (n .server)))
+    where
+      go : (b : Bool) → note L n (cond b Committed (Applied (n .server))) ≡ L
+      go true = ap (λ (y : ℕ). cond (eqb y 3 || eqb y 4) (decides L (n .client)) L) five
+      go false = refl
+
+  pub apply-stays : (d t : ℕ) → state-fits (client-of m d) t Apply ≡ false → state-fits (client-of (after z m n) d) t Apply ≡ false
+  unfolding changed
+  apply-stays d t h =
+      refused-or (λ (x : Did). state-fits (client-of (changed whole m (x .stores)) d) t Apply ≡ false) (λ x. h) (applied-stays z m (n .client) (n .server) d t h)
+
+  -- one that is due is applied, if what it reads is in range
+  module _ (c : n .client < z .clients) (s : n .server < z .servers) (fit : state-fits u (n .server) Apply ≡ true) where
+    pub due-passes : refusal z n m ≡ 0
+    unfolding refusal first
+    due-passes = rw (kind-is, fit, five, lt-leb (z .clients) (n .client) c, lt-leb (z .servers) (n .server) s)
+
+    step-is : step z n m ≡ judged
+    unfolding step
+    step-is =
+        ap (λ (b : Bool). cond b (if-fit (client-fits (tree-sizes z) u) (by-kind z m (n .client) n (kind-of (n .kind)))) (refuse (refusal z n m))) (eq-eqb (refusal z n m) 0 due-passes)
+        ∙ judged-is
+
+    pub due-applied : ¬ (step z n m .outcome ≡ Refused 10) → step z n m ≡ done
+    due-applied fine = step-is ∙ go (client-fits (tree-sizes z) u) (apply-fits z m (n .client) (n .server)) (λ e. fine (ap (λ (d : Did). d .outcome) step-is ∙ e))
+      where
+        go : (a b : Bool) → ¬ (if-fit a (if-fit b done) .outcome ≡ Refused 10) → if-fit a (if-fit b done) ≡ done
+        go true true f = refl
+        go true false f = absurd (f refl)
+        go false b f = absurd (f refl)
+
+  pub apply-done : n .client < z .clients → n .server < z .servers → ¬ (step z n m .outcome ≡ Refused 10) → state-fits (client-of (after z m n) (n .client)) (n .server) Apply ≡ false
+  apply-done c s fine = go (bool-cases (state-fits u (n .server) Apply))
+    where
+      go : (state-fits u (n .server) Apply ≡ true) ⊎ (state-fits u (n .server) Apply ≡ false) → state-fits (client-of (after z m n) (n .client)) (n .server) Apply ≡ false
+      go (inl f) =
+          subst (λ (d : Did). state-fits (client-of (changed whole m (d .stores)) (n .client)) (n .server) Apply ≡ false) (sym (due-applied c s f fine))
+          (applied-own z m (n .client) (n .server) (n .server) (inr refl))
+      go (inr f) = apply-stays (n .client) (n .server) f
+
+-- ---- a list of applies
+abbrev pub Kind-5 : Taken → Type 0
+Kind-5 t = t .step .kind ≡ 5
+
+module _ (z : Sizes) where
+  pub applies-note : (ts : List Taken) (m m′ : Address → ℕ) (L : Ledger) → Leads z m ts m′ → Every Kind-5 ts → ledger-from L ts ≡ L
+  unfolding Leads Every ledger-from
+  applies-note [] m m′ L p five = refl
+  applies-note (t ∷ ts) m m′ L p five =
+      ap (λ (x : Ledger). ledger-from x ts) (ap (note L (t .step)) (p .1) ∙ apply-notes z m (t .step) (five .0) L)
+      ∙ applies-note ts (after z m (t .step)) m′ L (p .2) (five .1)
+
+  applies-stay : (ts : List Taken) (m m′ : Address → ℕ) → Leads z m ts m′ → Every Kind-5 ts → (c s : ℕ) → state-fits (client-of m c) s Apply ≡ false → state-fits (client-of m′ c) s Apply ≡ false
+  unfolding Leads Every
+  applies-stay [] m m′ p five c s h = subst (λ (u : Address → ℕ). state-fits (client-of u c) s Apply ≡ false) (sym p) h
+  applies-stay (t ∷ ts) m m′ p five c s h =
+      applies-stay ts (after z m (t .step)) m′ (p .2) (five .1) c s (apply-stays z m (t .step) (five .0) c s h)
+
+  -- what was taken is not due
+  pub applies-done : (ts : List Taken) (m m′ : Address → ℕ) → Leads z m ts m′ → Every Kind-5 ts → Every (λ (t : Taken). ¬ (t .outcome ≡ Refused 10)) ts → (c s : ℕ) → c < z .clients → s < z .servers
+      → Some (λ (t : Taken). (t .step .client ≡ c) × (t .step .server ≡ s)) ts → state-fits (client-of m′ c) s Apply ≡ false
+  unfolding Leads Every Some
+  applies-done [] m m′ p five fine c s l r e = absurd e
+  applies-done (t ∷ ts) m m′ p five fine c s l r (inl e) =
+      applies-stay ts (after z m (t .step)) m′ (p .2) (five .1) c s
+      (subst (λ (d : ℕ). state-fits (client-of (after z m (t .step)) d) s Apply ≡ false) (e .0)
+      (subst (λ (x : ℕ). state-fits (client-of (after z m (t .step)) (t .step .client)) x Apply ≡ false) (e .1)
+      (apply-done z m (t .step) (five .0) (omega (arith, e .0)) (omega (arith, e .1)) (λ q. fine .0 (p .1 ∙ q)))))
+  applies-done (t ∷ ts) m m′ p five fine c s l r (inr e) =
+      applies-done ts (after z m (t .step)) m′ (p .2) (five .1) (fine .1) c s l r e

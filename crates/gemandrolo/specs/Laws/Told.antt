@@ -1,0 +1,44 @@
+-- What is reached, by the numbers that a program gets: the last clause of a contract follows from the others.
+use mathlib.Core.Path.{_≡_, refl, sym, ap, _∙_, subst}
+use mathlib.Core.List.{List, [], _∷_}
+use Prim.Native.Nat.{ℕ}
+use lib.ListN.{length}
+use Rattle.memory.specs.Word.{view}
+use Rattle.steps.specs.declared.sizes.Sizes.{Sizes}
+use Rattle.steps.specs.declared.step.Step.{Step}
+use Rattle.steps.specs.declared.outcome.Outcome.{Outcome}
+use Rattle.steps.specs.declared.outcome.Outcome.the-variants.{Refused, Done, Fetched, Answered, Prepared, Decided, Applied, Committed, Aborted}
+use Rattle.steps.specs.Outcome.{line}
+use Rattle.steps.specs.Refusal.{open-refusal}
+use Rattle.steps.specs.Taken.{came-to}
+use Rattle.engine.specs.Open.{words-opened}
+use Rattle.engine.specs.Step.{outcome-of, words-after}
+use Rattle.engine.specs.Reached.{Reached, Goes-on}
+use Rattle.engine.specs.Laws.Reached.{new-reached}
+use Rattle.gemandrolo.specs.Numbers.{outcome-from, one-taken}
+
+-- the numbers of an outcome stand for it
+same-outcome : (o : Outcome) → outcome-from (line o .outcome) (line o .a) (line o .b) ≡ o
+unfolding outcome-from line
+same-outcome (Refused n) = refl
+same-outcome Done = refl
+same-outcome (Fetched a b) = refl
+same-outcome (Answered a b) = refl
+same-outcome (Prepared s) = refl
+same-outcome Decided = refl
+same-outcome (Applied s) = refl
+same-outcome Committed = refl
+same-outcome (Aborted y) = refl
+
+module _ (b b′ : List ℕ) where
+  pub opens : (z : Sizes) (r : ℕ) → length b′ ≡ length b → r ≡ open-refusal (length b) z → view b′ ≡ words-opened (length b) z (view b)
+      → (r ≡ open-refusal (length b) z) × ((view b′ ≡ words-opened (length b) z (view b)) × (r ≡ 0 → Reached z [] b′))
+  opens z r e p q = (p, (q, λ n. new-reached z b b′ (sym p ∙ n) e q))
+
+  -- o is what `step` returned, and r, a and c are its numbers
+  pub tells : (k : Step) (o : Outcome) (r a c : ℕ) → o ≡ outcome-of (length b) (view b) k → Goes-on b (came-to k o ∷ []) b′
+      → r ≡ line (outcome-of (length b) (view b) k) .outcome → a ≡ line (outcome-of (length b) (view b) k) .a → c ≡ line (outcome-of (length b) (view b) k) .b
+      → Goes-on b (one-taken k r a c) b′
+  tells k o r a c p g x y w =
+      subst (λ (u : Outcome). Goes-on b (came-to k u ∷ []) b′)
+      (p ∙ sym (rw (x, y, w) (same-outcome (outcome-of (length b) (view b) k)))) g

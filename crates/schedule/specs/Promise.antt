@@ -1,0 +1,29 @@
+-- WHAT IS PROMISED of every store that was reached: opened new, and then left so by calls of `step` and `run`, however many (`engine`, `Reached`).
+use mathlib.Core.Path.{_≡_}
+use mathlib.Core.List.{List, _∷_, _++_}
+use Prim.Native.Nat.{ℕ}
+use Rattle.memory.specs.Word.{view}
+use Rattle.plans.specs.Walk.{Every}
+use Rattle.operations.specs.Object.{Ans}
+use Rattle.steps.specs.declared.sizes.Sizes.{Sizes}
+use Rattle.steps.specs.Taken.{Taken}
+use Rattle.kinds.specs.Parts.{stored-in}
+use Rattle.demand.specs.Ledger.{Told, decided-in}
+use Rattle.demand.specs.Demand.{Demand}
+use Rattle.demand.specs.Ears.{Together, Looks-up, Of-one}
+use Rattle.engine.specs.Reached.{Reached}
+use Rattle.ranges.specs.Claim.{Not-refused-by-10}
+
+-- of a store of sizes z in which the steps of h were taken, with these outcomes; b are its bytes now
+pub record Promised (z : Sizes) (h : List Taken) (b : List ℕ) : Type 0 where
+  -- demand 3: the decided transactions explain every answer, and the tree as the applies leave it
+  pub demand-3 : Demand z h (stored-in z (view b))
+  -- no step was refused by 10
+  pub never-refused-by-10 : Every (λ (t : Taken). Not-refused-by-10 (t .outcome)) h
+  -- both ears: ts is a decided transaction, decided after those of `before`
+  pub both-ears : (left right : ℕ) (a c : Ans) (after before : List (List Told)) (ts : List Told) → decided-in h ≡ after ++ ts ∷ before
+      → Together left right before → Looks-up left a ts → Looks-up right c ts → Of-one left right a c before
+
+-- whatever was reached
+abbrev pub Promise : Type 0
+Promise = (z : Sizes) (h : List Taken) (b : List ℕ) → Reached z h b → Promised z h b

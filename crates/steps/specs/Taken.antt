@@ -1,0 +1,38 @@
+-- Steps that were taken, with what came of each, and where they lead by the rules.
+use mathlib.Core.Path.{_≡_}
+use mathlib.Core.List.{List, [], _∷_}
+use Prim.Native.Nat.{ℕ, _<_}
+use Rattle.operations.specs.Map.{two-to-64}
+use Rattle.steps.specs.declared.sizes.Sizes.{Sizes}
+use Rattle.steps.specs.declared.step.Step.{Step}
+use Rattle.steps.specs.declared.outcome.Outcome.{Outcome}
+use Rattle.steps.specs.Whole.{Address}
+use Rattle.steps.specs.Steps.{step}
+use Rattle.steps.specs.Run.{after}
+
+-- a number of 64 bits; H is 2^64
+abbrev pub Word : ℕ → Type 0
+Word n = n < two-to-64
+
+-- "Keys and values are any unsigned 64-bit numbers": so are all six fields
+pub record Words (k : Step) : Type 0 where
+  pub kind : Word (k .kind)
+  pub client : Word (k .client)
+  pub op : Word (k .op)
+  pub key : Word (k .key)
+  pub value : Word (k .value)
+  pub server : Word (k .server)
+
+-- a step that was taken, and its outcome
+pub record Taken : Type 0 where
+  pub step : Step
+  pub outcome : Outcome
+
+-- the step k came to the outcome o
+abbrev pub came-to : Step → Outcome → Taken
+came-to k o = record { step = k; outcome = o }
+
+-- "run front to back": by the rules the steps of h come to these outcomes, and lead from the memory m to the memory m′
+unfoldable pub Leads : Sizes → (Address → ℕ) → List Taken → (Address → ℕ) → Type 0
+Leads z m [] m′ = m′ ≡ m
+Leads z m (t ∷ h) m′ = Words (t .step) × (t .outcome ≡ step z (t .step) m .outcome) × Leads z (after z m (t .step)) h m′
