@@ -45,6 +45,7 @@ pub record Applies (z : Sizes) (ts : List Taken) : Type 0 where
   pub only : Every (λ (t : Taken). t .step .kind ≡ 5) ts
   pub each : (c s : ℕ) → c < z .clients → s < z .servers → Some (λ (t : Taken). (t .step .client ≡ c) × (t .step .server ≡ s)) ts
 
+-- what is claimed of steps that were taken, and of where they led
 pub record Demand (z : Sizes) (h : List Taken) (m : Address → ℕ) : Type 0 where
   -- the decided transactions, run one after another in order of decision on one sorted map, "give exactly the answers"
   pub answers : Right-all (decided-in h)

@@ -30,43 +30,43 @@ pub record Ledger : Type 0 where
 abbrev pub blank : Ledger
 blank = record { given = λ c. lookup 0; undecided = λ c. []; decided = [] }
 
--- client c has a transaction with no operation answered
-abbrev pub starts : Ledger → ℕ → Ledger
-starts L c = record { given = L .given; undecided = upd ℕ-discrete (L .undecided) c []; decided = L .decided }
+-- client c has no operation answered: its transaction begins, or has been dropped
+abbrev pub clears : Ledger → ℕ → Ledger
+clears L c = record { given = L .given; undecided = upd ℕ-discrete (L .undecided) c []; decided = L .decided }
 
 -- client c is given the operation p
-abbrev pub gives : Ledger → ℕ → Op → Ledger
-gives L c p = record { given = upd ℕ-discrete (L .given) c p; undecided = L .undecided; decided = L .decided }
+abbrev pub notes-op : Ledger → ℕ → Op → Ledger
+notes-op L c p = record { given = upd ℕ-discrete (L .given) c p; undecided = L .undecided; decided = L .decided }
 
 -- the operation given to client c last is answered by a
-abbrev pub adds : Ledger → ℕ → Ans → Ledger
-adds L c a = record { given = L .given; undecided = upd ℕ-discrete (L .undecided) c (record { op = L .given c; ans = a } ∷ L .undecided c); decided = L .decided }
+abbrev pub notes-answer : Ledger → ℕ → Ans → Ledger
+notes-answer L c a = record { given = L .given; undecided = upd ℕ-discrete (L .undecided) c (record { op = L .given c; ans = a } ∷ L .undecided c); decided = L .decided }
 
 -- client c's transaction is decided; its operations stay noted until its next begin
-abbrev pub decides : Ledger → ℕ → Ledger
-decides L c = record { given = L .given; undecided = L .undecided; decided = L .undecided c ∷ L .decided }
+abbrev pub notes-decision : Ledger → ℕ → Ledger
+notes-decision L c = record { given = L .given; undecided = L .undecided; decided = L .undecided c ∷ L .decided }
 
 -- "a begin starts its client's transaction, a give adds an op, key and value"
 abbrev pub note-done : Ledger → Step → Ledger
 note-done L k =
-    cond (eqb (k .kind) 0) (starts L (k .client))
-    (cond (eqb (k .kind) 1) (gives L (k .client) (op-of (k .op) (k .key) (k .value) (k .server))) L)
+    cond (eqb (k .kind) 0) (clears L (k .client))
+    (cond (eqb (k .kind) 1) (notes-op L (k .client) (op-of (k .op) (k .key) (k .value) (k .server))) L)
 
 -- "a commit or prepare with outcome 5 or 7 decides it"
 abbrev pub note-decided : Ledger → Step → Ledger
-note-decided L k = cond (eqb (k .kind) 3 || eqb (k .kind) 4) (decides L (k .client)) L
+note-decided L k = cond (eqb (k .kind) 3 || eqb (k .kind) 4) (notes-decision L (k .client)) L
 
 -- "outcome 3 adds that operation's answer, a and b, outcome 8 drops the transaction .. ; refused steps do nothing"
 abbrev pub note : Ledger → Step → Outcome → Ledger
 note L k (Refused n) = L
 note L k Done = note-done L k
 note L k (Fetched a b) = L
-note L k (Answered a b) = adds L (k .client) (a, b)
+note L k (Answered a b) = notes-answer L (k .client) (a, b)
 note L k (Prepared s) = L
 note L k Decided = note-decided L k
 note L k (Applied s) = L
 note L k Committed = note-decided L k
-note L k (Aborted y) = starts L (k .client)
+note L k (Aborted y) = clears L (k .client)
 
 -- of steps that were taken, front to back
 unfoldable pub ledger-from : Ledger → List Taken → Ledger

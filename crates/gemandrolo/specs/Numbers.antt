@@ -10,9 +10,11 @@ use Rattle.steps.specs.Taken.{Taken, came-to}
 use Rattle.kinds.specs.declared.whole.Length.{Length}
 use Rattle.kinds.specs.declared.whole.Length.the-variants.{Bytes, Refused as None}
 
+-- the three sizes as a program passes them
 abbrev pub sizes-of : ℕ → ℕ → ℕ → Sizes
 sizes-of servers slots clients = record { servers = servers; slots = slots; clients = clients }
 
+-- "A step has six fields: kind, client, op, key, value, server."
 abbrev pub step-of : ℕ → ℕ → ℕ → ℕ → ℕ → ℕ → Step
 step-of kind client op key value server = record { kind = kind; client = client; op = op; key = key; value = value; server = server }
 

@@ -18,12 +18,12 @@ use Rattle.steps.specs.Run.{opened}
 use Rattle.steps.specs.Taken.{Words, Taken, Leads}
 
 -- an outcome other than a refusal by 10
-abbrev pub Accepted : Outcome → Type 0
-Accepted o = ¬ (o ≡ Refused 10)
+abbrev pub Not-refused-by-10 : Outcome → Type 0
+Not-refused-by-10 o = ¬ (o ≡ Refused 10)
 
 -- for all allowed sizes and all steps that can be taken from a newly opened store, those refused by another number included
 abbrev pub Never-refused-by-10 : Type 0
-Never-refused-by-10 = (z : Sizes) → Allowed z → (h : List Taken) (m : Address → ℕ) → Leads z (opened z) h m → Every (λ (t : Taken). Accepted (t .outcome)) h
+Never-refused-by-10 = (z : Sizes) → Allowed z → (h : List Taken) (m : Address → ℕ) → Leads z (opened z) h m → Every (λ (t : Taken). Not-refused-by-10 (t .outcome)) h
 
 -- an apply fits "after the decision, one not yet applied"
 abbrev pub Due-is-applied : Type 0

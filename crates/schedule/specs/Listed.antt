@@ -14,12 +14,13 @@ use Rattle.steps.specs.Taken.{Taken, came-to}
 use Rattle.engine.specs.Step.{outcome-of, words-after}
 use Rattle.engine.specs.Reached.{Goes-on}
 
--- on memory of n bytes with these words: the words after a list of steps, and the steps with their outcomes
+-- on memory of n bytes with these words: the words after a list of steps
 module _ (n : ℕ) where
   unfoldable pub words-run : List ℕ → List Step → List ℕ
   words-run w [] = w
   words-run w (k ∷ ks) = words-run (words-after n w k) ks
 
+  -- the steps with their outcomes
   unfoldable pub taken-run : List ℕ → List Step → List Taken
   taken-run w [] = []
   taken-run w (k ∷ ks) = came-to k (outcome-of n w k) ∷ taken-run (words-after n w k) ks

@@ -29,7 +29,7 @@ use Rattle.steps.specs.declared.sizes.Sizes.{Sizes}
 use Rattle.steps.specs.Whole.{Address, server, client, whole}
 use Rattle.steps.specs.Judge.{lowest-participant}
 use Rattle.steps.specs.Steps.{unlock-each, at-servers, unlocked-everywhere, aborting}
-use Rattle.demand.specs.Ledger.{Ledger, starts}
+use Rattle.demand.specs.Ledger.{Ledger, clears}
 use Rattle.demand.specs.Laws.Store.{sizes}
 use Rattle.steps.specs.Laws.Stores.{client-of, server-of, client-changed, client-else, client-servers, server-changed, server-else, server-clients}
 use Rattle.demand.specs.Laws.Shows.{phase-of, T, Slot-shown, Server-shown, Client-shown, Related}
@@ -220,10 +220,10 @@ module _ (k j slots : ℕ) (al : Allowed (sizes k j slots)) (few : suc j ≤ 16)
     pub abort-others : (d : Fin (suc j)) → ¬ (d ≡ c) → client-of m′ (d .0) ≡ client-of m (d .0)
     abort-others d n = aborted-others k j slots m (c .0) us (d .0) (away k j slots c d n)
 
-    pub abort-kept : Related k j slots m′ (starts L (c .0)) M₁
+    pub abort-kept : Related k j slots m′ (clears L (c .0)) M₁
     unfolding phase-of
     abort-kept =
-        related k j slots m m′ L (starts L (c .0)) M M₁ c R reached₁
+        related k j slots m m′ L (clears L (c .0)) M M₁ c R reached₁
         (record {
           part = abort-others;
           given = λ d n. refl;
@@ -232,8 +232,8 @@ module _ (k j slots : ℕ) (al : Allowed (sizes k j slots)) (few : suc j ≤ 16)
           copy-same = λ d n. refl;
           said-same = λ d n. upd-other (Fin-discrete (suc j)) (M .said) c [] d n;
         })
-        (subst (λ (v : ClientWord → ℕ). Client-shown k j slots v (L .given (c .0)) (starts L (c .0) .undecided (c .0)) (M₁ .slots c) (M .copy c) (M₁ .said c)) (sym own-words)
-        (cleared-shown k j slots M c 0 (omega arith) (L .given (c .0)) (starts L (c .0) .undecided (c .0)) dropped
+        (subst (λ (v : ClientWord → ℕ). Client-shown k j slots v (L .given (c .0)) (clears L (c .0) .undecided (c .0)) (M₁ .slots c) (M .copy c) (M₁ .said c)) (sym own-words)
+        (cleared-shown k j slots M c 0 (omega arith) (L .given (c .0)) (clears L (c .0) .undecided (c .0)) dropped
         (fewer-copies k j slots u dropped (M .copy c) (fewer (drop-used us u) u (only-used us u)) (R .clients c .copies)) (λ n. absurd (n refl))))
         server-shown
         (R .log-as)

@@ -21,7 +21,7 @@ use Rattle.client.specs.Work.{waiting, walked, worked}
 use Rattle.client.specs.Answered.{answered}
 use Rattle.steps.specs.Whole.{Address, client, whole}
 use Rattle.steps.specs.Laws.Stores.{client-of, client-else}
-use Rattle.demand.specs.Ledger.{Told, Ledger, adds}
+use Rattle.demand.specs.Ledger.{Told, Ledger, notes-answer}
 use Rattle.demand.specs.Laws.Store.{sizes}
 use Rattle.demand.specs.Laws.Shows.{phase-of, T, told, Client-shown, Related}
 use Rattle.demand.specs.Laws.Kept.{away, client-related}
@@ -80,7 +80,7 @@ module _ (k j slots : ℕ) (al : Allowed (sizes k j slots)) (m : Address → ℕ
   abbrev v : ClientWord → ℕ
   v = v₃ k j slots al u fit y (own .slot) (M .copy c) (own .copies) a w A
 
-  shows : Client-shown k j slots v (adds L (c .0) a .given (c .0)) (adds L (c .0) a .undecided (c .0)) (after os) (M .copy c) (shown ∷ M .said c)
+  shows : Client-shown k j slots v (notes-answer L (c .0) a .given (c .0)) (notes-answer L (c .0) a .undecided (c .0)) (after os) (M .copy c) (shown ∷ M .said c)
   shows = record {
     slot = slot-now k j slots al u fit y (own .slot) (M .copy c) (own .copies) a w A;
     copies = copies-now k j slots al u fit y (own .slot) (M .copy c) (own .copies) a w A;
@@ -97,10 +97,10 @@ module _ (k j slots : ℕ) (al : Allowed (sizes k j slots)) (m : Address → ℕ
           let l = own .says .said-as (λ z. absurd (omega (arith, now, z))) in
           λ t. record { op = g t; ans = a } ∷ l t
 
-  pub answer-turns : Turns k j slots m (changed whole m (over (client (c .0)) ps)) (adds L (c .0) a) M c
+  pub answer-turns : Turns k j slots m (changed whole m (over (client (c .0)) ps)) (notes-answer L (c .0) a) M c
   answer-turns = record {
     machine = machine os;
-    shows = client-related k j slots m L (adds L (c .0) a) M (machine os) c ps R reached
+    shows = client-related k j slots m L (notes-answer L (c .0) a) M (machine os) c ps R reached
         (record {
           value-same = refl;
           version-same = refl;
@@ -112,7 +112,7 @@ module _ (k j slots : ℕ) (al : Allowed (sizes k j slots)) (m : Address → ℕ
           copy-same = λ d n. refl;
           said-same = λ d n. upd-other (Fin-discrete (suc j)) (M .said) c (shown ∷ M .said c) d n;
         })
-        (coe 1 0 (t. Client-shown k j slots (stored k j slots al u fit y (own .slot) (M .copy c) (own .copies) a w A t) (adds L (c .0) a .given (c .0)) (adds L (c .0) a .undecided (c .0))
+        (coe 1 0 (t. Client-shown k j slots (stored k j slots al u fit y (own .slot) (M .copy c) (own .copies) a w A t) (notes-answer L (c .0) a .given (c .0)) (notes-answer L (c .0) a .undecided (c .0))
         (upd-same (Fin-discrete (suc j)) (M .slots) c (after os) t) (M .copy c) (upd-same (Fin-discrete (suc j)) (M .said) c (shown ∷ M .said c) t)) shows)
         (R .log-as);
     values-same = refl;

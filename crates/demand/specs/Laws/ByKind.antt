@@ -32,7 +32,7 @@ use Rattle.steps.specs.Passed.{Passed}
 use Rattle.steps.specs.Laws.Passed.{passed}
 use Rattle.steps.specs.Judge.{abort-fits, unlock-fits, versions-fit, prepare-fits}
 use Rattle.steps.specs.Steps.{Did, did, refuse, if-fit}
-use Rattle.demand.specs.Ledger.{Ledger, starts, gives, decides, note, note-done, note-decided}
+use Rattle.demand.specs.Ledger.{Ledger, clears, notes-op, notes-decision, note, note-done, note-decided}
 use Rattle.demand.specs.Laws.Store.{sizes}
 use Rattle.demand.specs.Laws.Shows.{T, Related}
 use Rattle.demand.specs.Laws.Kept.{away}
@@ -85,11 +85,11 @@ module _ (k j slots : ℕ) (al : Allowed (sizes k j slots)) (few : suc j ≤ 16)
 
     -- what an outcome without a number notes, by the kind
     done-is : (x : ℕ) → n .kind ≡ x
-        → note-done L n ≡ cond (eqb x 0) (starts L (n .client)) (cond (eqb x 1) (gives L (n .client) (op-of (n .op) (n .key) (n .value) (n .server))) L)
-    done-is x e = ap (λ (y : ℕ). cond (eqb y 0) (starts L (n .client)) (cond (eqb y 1) (gives L (n .client) (op-of (n .op) (n .key) (n .value) (n .server))) L)) e
+        → note-done L n ≡ cond (eqb x 0) (clears L (n .client)) (cond (eqb x 1) (notes-op L (n .client) (op-of (n .op) (n .key) (n .value) (n .server))) L)
+    done-is x e = ap (λ (y : ℕ). cond (eqb y 0) (clears L (n .client)) (cond (eqb y 1) (notes-op L (n .client) (op-of (n .op) (n .key) (n .value) (n .server))) L)) e
 
-    decided-is : (x : ℕ) → n .kind ≡ x → note-decided L n ≡ cond (eqb x 3 || eqb x 4) (decides L (n .client)) L
-    decided-is x e = ap (λ (y : ℕ). cond (eqb y 3 || eqb y 4) (decides L (n .client)) L) e
+    decided-is : (x : ℕ) → n .kind ≡ x → note-decided L n ≡ cond (eqb x 3 || eqb x 4) (notes-decision L (n .client)) L
+    decided-is x e = ap (λ (y : ℕ). cond (eqb y 3 || eqb y 4) (notes-decision L (n .client)) L) e
 
     -- ---- 0 begin, 1 give
     begin-after : n .kind ≡ 0 → state-fits u (n .server) Begin ≡ true → After (S.begin z m (n .client))
@@ -191,10 +191,10 @@ module _ (k j slots : ℕ) (al : Allowed (sizes k j slots)) (few : suc j ≤ 16)
             let ps = S.deciding-stores z m (n .client) (n .server) in
             let m₂ = changed whole m ps in
             let done = D.only-applied k j slots al few m L M c G fit s now new fine all (eqb-true (u participants) (putBit true 0 (n .server)) one) in
-            let ends : note L n (S.applied-at z m₂ (n .client) (n .server) .outcome) ≡ decides L (n .client)
+            let ends : note L n (S.applied-at z m₂ (n .client) (n .server) .outcome) ≡ notes-decision L (n .client)
             = ap (note L n) (applied-outcome z m₂ (n .client) (n .server) ∙ cond-true Committed (Applied (n .server)) done) ∙ decided-is 4 e in
             coe 1 0 (t. Explained k j slots (changed-append whole ps (S.applied-at z m₂ (n .client) (n .server) .stores) m t) (ends t))
-            (apply-explained k j slots al few m₂ (decides L (n .client)) (D.M₂ k j slots al few m L M c G fit s now new fine all) c
+            (apply-explained k j slots al few m₂ (notes-decision L (n .client)) (D.M₂ k j slots al few m L M c G fit s now new fine all) c
             (D.decide-good k j slots al few m L M c G fit s now new fine all) s
             (D.now₂ k j slots al few m L M c G fit s now new fine all) (D.new₂ k j slots al few m L M c G fit s now new fine all)
             (versions-kept k j slots m m₂ (n .client) (D.same-sets₂ k j slots al few m L M c G fit s now new fine all) versions))

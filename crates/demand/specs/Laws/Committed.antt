@@ -28,7 +28,7 @@ use Rattle.client.specs.Life.{reset}
 use Rattle.client.specs.Work.{op-of, waiting}
 use Rattle.operations.specs.Operation.{Legal}
 use Rattle.steps.specs.Whole.{Address, client, whole}
-use Rattle.demand.specs.Ledger.{Told, Ledger, decides}
+use Rattle.demand.specs.Ledger.{Told, Ledger, notes-decision}
 use Rattle.demand.specs.Laws.Store.{sizes, fins}
 use Rattle.steps.specs.Laws.Stores.{client-of}
 use Rattle.demand.specs.Laws.Frame.{last, read-after}
@@ -225,10 +225,10 @@ module _ (k j slots : ℕ) (al : Allowed (sizes k j slots)) (m : Address → ℕ
         (Mv.ends c (ap (λ (z : P.Slot (T k j slots)). z .phase) slot₂)
         (ap (λ (z : P.Slot (T k j slots)). Mv.all-parts (T k j slots) (z .participant) (z .applied)) slot₂ ∙ no-parts (M₁ .slots c .applied)))
 
-    pub commit-ends : Related k j slots (changed whole m (over (client (c .0)) (reset 0 u))) (decides L (c .0)) M₃
+    pub commit-ends : Related k j slots (changed whole m (over (client (c .0)) (reset 0 u))) (notes-decision L (c .0)) M₃
     unfolding phase-of
     commit-ends =
-        client-related k j slots m L (decides L (c .0)) M M₃ c (reset 0 u) R reached₃
+        client-related k j slots m L (notes-decision L (c .0)) M M₃ c (reset 0 u) R reached₃
         (record {
           value-same = refl;
           version-same = refl;

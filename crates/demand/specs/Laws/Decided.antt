@@ -15,7 +15,7 @@ use Rattle.client.specs.Layout.{ClientWord, client-words, phase, participants, 
 use Rattle.client.specs.Participants.{lowest-of}
 use Rattle.steps.specs.Whole.{Address, client, whole}
 use Rattle.steps.specs.Steps.{covers}
-use Rattle.demand.specs.Ledger.{Told, Ledger, decides}
+use Rattle.demand.specs.Ledger.{Told, Ledger, notes-decision}
 use Rattle.demand.specs.Laws.Store.{fins}
 use Rattle.steps.specs.Laws.Stores.{client-of}
 use Rattle.demand.specs.Laws.Frame.{last, read-after, Only}
@@ -57,10 +57,10 @@ module _ (k j slots : ℕ) (m : Address → ℕ) (L : Ledger) (M : P.Machine (T 
   abbrev pub M₁ : P.Machine (T k j slots)
   M₁ = P.turned (T k j slots) M (upd (Fin-discrete (suc j)) (M .slots) c (Mv.decided-slot (T k j slots) y)) (M .lock) (M .said) (M .said c ∷ M .log)
 
-  pub decide-kept : Related k j slots (changed whole m (over (client (c .0)) ps)) (decides L (c .0)) M₁
+  pub decide-kept : Related k j slots (changed whole m (over (client (c .0)) ps)) (notes-decision L (c .0)) M₁
   unfolding Life.decided phase-of Only
   decide-kept =
-      client-related k j slots m L (decides L (c .0)) M M₁ c ps R
+      client-related k j slots m L (notes-decision L (c .0)) M M₁ c ps R
       (Mv.moved (R .reached) (Mv.decides c (sym (shown .phase-as) ∙ ap phase-of now)
       (parts-covered k j slots (y .participant) (y .prepared) (u participants) (u prepared) (shown .participant-as) (shown .prepared-as) ready)))
       (record {

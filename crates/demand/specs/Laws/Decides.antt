@@ -21,7 +21,7 @@ use Rattle.steps.specs.declared.sizes.Sizes.{Sizes}
 use Rattle.steps.specs.Whole.{Address, client, whole}
 use Rattle.steps.specs.Laws.Stores.{client-of, client-changed, client-else}
 use Rattle.steps.specs.Steps.{covers, preparing, deciding-stores, prepare-finding, all-prepared, all-applied}
-use Rattle.demand.specs.Ledger.{Ledger, decides}
+use Rattle.demand.specs.Ledger.{Ledger, notes-decision}
 use Rattle.demand.specs.Laws.Store.{sizes, meaning}
 use Rattle.demand.specs.Laws.Frame.{last, read-after}
 use Rattle.demand.specs.Laws.Shows.{phase-of, T, Related}
@@ -112,10 +112,10 @@ module _ (k j slots : ℕ) (al : Allowed (sizes k j slots)) (few : suc j ≤ 16)
     others₂ d n =
         ap (λ (f : Address → ℕ). client-of f (d .0)) m₂-is ∙ client-else m₁ (c .0) (decided (client-of m₁ (c .0))) (d .0) (away k j slots c d n) ∙ others₁ d n
 
-    pub decide-good : Good k j slots m₂ (decides L (c .0)) M₂
+    pub decide-good : Good k j slots m₂ (notes-decision L (c .0)) M₂
     decide-good = record {
-      shown = subst (λ (f : Address → ℕ). Related k j slots f (decides L (c .0)) M₂) (sym m₂-is) (D.decide-kept k j slots m₁ L M₁ c shown₁ now₁ ready₁);
-      decided-fits = still-fits k j slots m m₂ L (decides L (c .0)) M c G
+      shown = subst (λ (f : Address → ℕ). Related k j slots f (notes-decision L (c .0)) M₂) (sym m₂-is) (D.decide-kept k j slots m₁ L M₁ c shown₁ now₁ ready₁);
+      decided-fits = still-fits k j slots m m₂ L (notes-decision L (c .0)) M c G
           (λ _. subst (λ (w : ClientWord → ℕ). client-fits (sizes k j slots) w ≡ true) (sym own₂)
           (decision-fits (sizes k j slots) v (prepared-fits (sizes k j slots) u fit (s .0) (s .1)))) others₂;
       outside = G .outside;

@@ -33,7 +33,7 @@ use Rattle.steps.specs.Laws.Passed.{passed}
 use Rattle.steps.specs.Steps.{Did, did, refuse, if-fit, in-client, applying, all-applied, applied-at, apply-fits, apply, by-kind, step}
 use Rattle.steps.specs.Run.{after}
 use Rattle.steps.specs.Taken.{Taken, Leads}
-use Rattle.demand.specs.Ledger.{Ledger, decides, note, ledger-from}
+use Rattle.demand.specs.Ledger.{Ledger, notes-decision, note, ledger-from}
 use Rattle.demand.specs.Demand.{Some}
 use Rattle.demand.specs.Laws.Kept.{reset-phase}
 use Rattle.demand.specs.Laws.Servers.{both-client, both-other}
@@ -132,7 +132,7 @@ module _ (z : Sizes) (m : Address → ℕ) (n : Step) (five : n .kind ≡ 5) whe
       (ap (note L n) (applied-outcome z m (n .client) (n .server)) ∙ go (all-applied z m (n .client) (n .server)))
     where
       go : (b : Bool) → note L n (cond b Committed (Applied (n .server))) ≡ L
-      go true = ap (λ (y : ℕ). cond (eqb y 3 || eqb y 4) (decides L (n .client)) L) five
+      go true = ap (λ (y : ℕ). cond (eqb y 3 || eqb y 4) (notes-decision L (n .client)) L) five
       go false = refl
 
   pub apply-stays : (d t : ℕ) → state-fits (client-of m d) t Apply ≡ false → state-fits (client-of (after z m n) d) t Apply ≡ false

@@ -45,7 +45,7 @@ use Rattle.steps.specs.Judge.{lock-fits, check-fits, abort-fits}
 use Rattle.steps.specs.Uses.{all, deciding}
 use Rattle.steps.specs.Steps.{Did, did, refuse, if-fit, abort, aborting, handed, full, fetch-object, hand-over, fetch-items, fetch-finding, Wanted, wanted, node-at, checked-fetch, fetch}
 use Rattle.steps.specs.Laws.Stores.{client-of, server-of}
-use Rattle.demand.specs.Ledger.{Ledger, starts, note}
+use Rattle.demand.specs.Ledger.{Ledger, clears, note}
 use Rattle.demand.specs.Laws.Store.{positive, sizes, keeps}
 use Rattle.demand.specs.Laws.Numbers.{as-node, name-lt}
 use Rattle.demand.specs.Laws.Shows.{phase-of, T, In-store, Slot-shown, Copies-shown, Related}
@@ -105,7 +105,7 @@ module _ (k j slots : ℕ) (al : Allowed (sizes k j slots)) (few : suc j ≤ 16)
       where
         go : (b : Bool) → Good (if-fit b (did (Aborted x) (aborting z m (c .0) us)))
         go true =
-            subst (λ (d : ℕ). Turns k j slots m (changed whole m (aborting z m (c .0) us)) (starts L d) M c) (sym mine)
+            subst (λ (d : ℕ). Turns k j slots m (changed whole m (aborting z m (c .0) us)) (clears L d) M c) (sym mine)
             (abort-turns k j slots al few m L M c R fit us (inl now))
         go false = refused
 

@@ -19,7 +19,7 @@ use Rattle.client.specs.Part.{put-field, put-fields, put-word}
 use Rattle.layout.specs.Step.{andThen}
 use Rattle.client.specs.Work.{op-of, waiting}
 use Rattle.steps.specs.Whole.{Address, client, whole}
-use Rattle.demand.specs.Ledger.{Told, Ledger, starts, gives}
+use Rattle.demand.specs.Ledger.{Told, Ledger, clears, notes-op}
 use Rattle.demand.specs.Laws.Store.{sizes}
 use Rattle.steps.specs.Laws.Stores.{client-of, server-of, client-changed, client-else, client-servers}
 use Rattle.demand.specs.Laws.Frame.{last, read-after}
@@ -153,7 +153,7 @@ module _ (k j slots : ℕ) where
 
     -- nothing but one client's slot and what it said is cleared
     pub cleared-stays : (p : Phase) (ps : List (Put ClientWord))
-        → Stays m L (starts L (c .0)) M (Mv.cleared (T k j slots) M c p) c ps R
+        → Stays m L (clears L (c .0)) M (Mv.cleared (T k j slots) M c p) c ps R
     cleared-stays p ps = record {
       value-same = refl;
       version-same = refl;
@@ -167,13 +167,13 @@ module _ (k j slots : ℕ) where
     }
 
     pub begin-kept : u phase ≡ 0
-        → Related k j slots (changed whole m (over (client (c .0)) (reset 1 u))) (starts L (c .0)) (Mv.cleared (T k j slots) M c opened)
+        → Related k j slots (changed whole m (over (client (c .0)) (reset 1 u))) (clears L (c .0)) (Mv.cleared (T k j slots) M c opened)
     unfolding phase-of
     begin-kept e =
         let idle-at = sym (R .clients c .slot .phase-as) ∙ ap phase-of e in
-        client-related m L (starts L (c .0)) M (Mv.cleared (T k j slots) M c opened) c (reset 1 u) R
+        client-related m L (clears L (c .0)) M (Mv.cleared (T k j slots) M c opened) c (reset 1 u) R
         (Mv.moved (R .reached) (Mv.begins c idle-at)) (cleared-stays opened (reset 1 u))
-        (cleared-shown M c 1 (omega arith) (L .given (c .0)) (starts L (c .0) .undecided (c .0)) u (R .clients c .copies)
+        (cleared-shown M c 1 (omega arith) (L .given (c .0)) (clears L (c .0) .undecided (c .0)) u (R .clients c .copies)
         (λ _. upd-same ℕ-discrete (L .undecided) (c .0) []))
         (R .log-as)
 
@@ -193,10 +193,10 @@ module _ (k j slots : ℕ) where
       now-waits t = op-of (at op-number t) (at op-key t) (at op-value t) (at op-server t)
 
       pub give-kept : Legal (sizes k j slots) (op-of op key value server)
-          → Related k j slots (changed whole m (over (client (c .0)) ps)) (gives L (c .0) (op-of op key value server)) M
+          → Related k j slots (changed whole m (over (client (c .0)) ps)) (notes-op L (c .0) (op-of op key value server)) M
       unfolding give-part put-fields puts
       give-kept legal =
-          let L′ = gives L (c .0) (op-of op key value server) in
+          let L′ = notes-op L (c .0) (op-of op key value server) in
           client-related m L L′ M M c ps R (R .reached)
           (record {
             value-same = refl;

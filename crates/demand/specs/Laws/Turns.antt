@@ -21,7 +21,7 @@ use Rattle.steps.specs.declared.sizes.Sizes.{Sizes}
 use Rattle.steps.specs.Whole.{Address, whole}
 use Rattle.steps.specs.Laws.Stores.{client-of}
 use Rattle.steps.specs.Steps.{aborting}
-use Rattle.demand.specs.Ledger.{Ledger, starts}
+use Rattle.demand.specs.Ledger.{Ledger, clears}
 use Rattle.demand.specs.Laws.Store.{sizes}
 use Rattle.demand.specs.Laws.Shows.{phase-of, T, Related}
 use Rattle.protocol.specs.Machine as P
@@ -100,7 +100,7 @@ module _ (k j slots : ℕ) where
 
   -- ---- ABORT, for whatever reason; us came into use in the step
   module _ (al : Allowed (sizes k j slots)) (few : suc j ≤ 16) (m : Address → ℕ) (L : Ledger) (M : P.Machine (T k j slots)) (c : Client) (R : Related k j slots m L M) (fit : client-fits (sizes k j slots) (client-of m (c .0)) ≡ true) (us : List ℕ) (open-still : (client-of m (c .0) phase ≡ 1) ⊎ (client-of m (c .0) phase ≡ 2)) where
-    pub abort-turns : Turns m (changed whole m (aborting store m (c .0) us)) (starts L (c .0)) M c
+    pub abort-turns : Turns m (changed whole m (aborting store m (c .0) us)) (clears L (c .0)) M c
     abort-turns = record {
       machine = A.M₁ k j slots al few m L M c R fit;
       shows = A.abort-kept k j slots al few m L M c R fit us open-still;

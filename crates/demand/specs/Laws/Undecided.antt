@@ -24,7 +24,7 @@ use Rattle.client.specs.Work.{op-of}
 use Rattle.steps.specs.Whole.{Address, client, whole}
 use Rattle.steps.specs.Laws.Stores.{client-of, client-else}
 use Rattle.steps.specs.Steps.{aborting}
-use Rattle.demand.specs.Ledger.{Ledger, starts, gives, decides}
+use Rattle.demand.specs.Ledger.{Ledger, clears, notes-op, notes-decision}
 use Rattle.demand.specs.Laws.Store.{sizes}
 use Rattle.demand.specs.Laws.Shows.{phase-of, T, Related}
 use Rattle.demand.specs.Laws.Kept.{away, begin-kept, give-kept}
@@ -76,7 +76,7 @@ module _ (k j slots : ℕ) (al : Allowed (sizes k j slots)) (few : suc j ≤ 16)
   blank-now : (p : Phase) → is-decided p ≡ false → is-decided (Mv.cleared (T k j slots) M c p .slots c .phase) ≡ false
   blank-now p h = ap (λ (y : P.Slot (T k j slots)). is-decided (y .phase)) (upd-same (Fin-discrete (suc j)) (M .slots) c (P.blank (T k j slots) p)) ∙ h
 
-  pub begin-turns : u phase ≡ 0 → Turns k j slots m (changed whole m (over (client (c .0)) (reset 1 u))) (starts L (c .0)) M c
+  pub begin-turns : u phase ≡ 0 → Turns k j slots m (changed whole m (over (client (c .0)) (reset 1 u))) (clears L (c .0)) M c
   begin-turns e = record {
     machine = Mv.cleared (T k j slots) M c opened;
     shows = begin-kept k j slots m L M c R e;
@@ -86,7 +86,7 @@ module _ (k j slots : ℕ) (al : Allowed (sizes k j slots)) (few : suc j ≤ 16)
   }
 
   pub give-turns : (op key value server : ℕ) → u phase ≡ 1 → Legal (sizes k j slots) (op-of op key value server)
-      → Turns k j slots m (changed whole m (over (client (c .0)) (give-part op key value server u))) (gives L (c .0) (op-of op key value server)) M c
+      → Turns k j slots m (changed whole m (over (client (c .0)) (give-part op key value server u))) (notes-op L (c .0) (op-of op key value server)) M c
   give-turns op key value server e legal = record {
     machine = M;
     shows = give-kept k j slots m L M c R op key value server legal;
@@ -116,7 +116,7 @@ module _ (k j slots : ℕ) (al : Allowed (sizes k j slots)) (few : suc j ≤ 16)
       others = others (K.committing (suc k) u);
     }
 
-    pub end-turns : u phase ≡ 1 → K.participants-of u (suc k) ≡ 0 → Turns k j slots m (changed whole m (over (client (c .0)) (reset 0 u))) (decides L (c .0)) M c
+    pub end-turns : u phase ≡ 1 → K.participants-of u (suc k) ≡ 0 → Turns k j slots m (changed whole m (over (client (c .0)) (reset 0 u))) (notes-decision L (c .0)) M c
     end-turns e nobody = record {
       machine = C.M₃ k j slots al m L M c R fit e nobody;
       shows = C.commit-ends k j slots al m L M c R fit e nobody;
@@ -128,15 +128,15 @@ module _ (k j slots : ℕ) (al : Allowed (sizes k j slots)) (few : suc j ≤ 16)
     -- loss before the decision: the abort, and then all copies
     pub lost-turns : (u phase ≡ 1) ⊎ (u phase ≡ 2)
         → let m₁ = changed whole m (aborting (store k j slots) m (c .0) []) in
-        Turns k j slots m (changed whole m (aborting (store k j slots) m (c .0) [] ++ over (client (c .0)) (drop-all (client-of m₁ (c .0))))) (starts L (c .0)) M c
+        Turns k j slots m (changed whole m (aborting (store k j slots) m (c .0) [] ++ over (client (c .0)) (drop-all (client-of m₁ (c .0))))) (clears L (c .0)) M c
     lost-turns e =
         let m₁ = changed whole m (aborting (store k j slots) m (c .0) []) in
         let t = abort-turns k j slots al few m L M c R fit [] e in
         let ps = drop-all (client-of m₁ (c .0)) in
-        subst (λ (f : Address → ℕ). Turns k j slots m f (starts L (c .0)) M c) (sym (changed-append whole (aborting (store k j slots) m (c .0) []) (over (client (c .0)) ps) m))
+        subst (λ (f : Address → ℕ). Turns k j slots m f (clears L (c .0)) M c) (sym (changed-append whole (aborting (store k j slots) m (c .0) []) (over (client (c .0)) ps) m))
         (record {
           machine = t .machine;
-          shows = loss-kept k j slots m₁ (starts L (c .0)) (t .machine) c (t .shows);
+          shows = loss-kept k j slots m₁ (clears L (c .0)) (t .machine) c (t .shows);
           values-same = t .values-same;
           undecided = t .undecided;
           others = λ d n. client-else m₁ (c .0) ps (d .0) (away k j slots c d n) ∙ t .others d n;

@@ -25,7 +25,7 @@ use Rattle.steps.specs.Laws.Stores.{client-of, server-of}
 use Rattle.steps.specs.Steps.{lock-each}
 use Rattle.steps.specs.Uses.{read-item, checked-at, locked-at}
 use Rattle.demand.specs.Laws.Held.{every-below}
-use Rattle.demand.specs.Ledger.{Ledger, decides}
+use Rattle.demand.specs.Ledger.{Ledger, notes-decision}
 use Rattle.demand.specs.Laws.Shows.{T}
 use Rattle.demand.specs.Laws.Store.{sizes}
 use Rattle.demand.specs.Laws.Turns.{one-of, store, Good}
@@ -103,7 +103,7 @@ module _ (k j slots : ℕ) (al : Allowed (sizes k j slots)) (few : suc j ≤ 16)
       -- with one participant it also applies
       alone : Kept k j slots m (Steps.then m (Steps.deciding-stores z m (c .0) (s .0)) (λ m₃. Steps.applied-at z m₃ (c .0) (s .0)))
       alone =
-          let K = applied-kept k j slots al few m₂ decided-sound (decides L (c .0)) (D.M₂ k j slots al few m L M c G fit s now new fine all)
+          let K = applied-kept k j slots al few m₂ decided-sound (notes-decision L (c .0)) (D.M₂ k j slots al few m L M c G fit s now new fine all)
           (D.decide-good k j slots al few m L M c G fit s now new fine all .shown) c s (D.now₂ k j slots al few m L M c G fit s now new fine all) in
           record {
             passes = K .passes;
