@@ -42,9 +42,9 @@ notes-op L c p = record { given = upd ℕ-discrete (L .given) c p; undecided = L
 abbrev pub notes-answer : Ledger → ℕ → Ans → Ledger
 notes-answer L c a = record { given = L .given; undecided = upd ℕ-discrete (L .undecided) c (record { op = L .given c; ans = a } ∷ L .undecided c); decided = L .decided }
 
--- client c's transaction is decided; its operations stay noted until its next begin
+-- client c's transaction is decided: it leaves the undecided ones
 abbrev pub notes-decision : Ledger → ℕ → Ledger
-notes-decision L c = record { given = L .given; undecided = L .undecided; decided = L .undecided c ∷ L .decided }
+notes-decision L c = record { given = L .given; undecided = upd ℕ-discrete (L .undecided) c []; decided = L .undecided c ∷ L .decided }
 
 -- "a begin starts its client's transaction, a give adds an op, key and value"
 abbrev pub note-done : Ledger → Step → Ledger

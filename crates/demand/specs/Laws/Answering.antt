@@ -94,7 +94,7 @@ module _ (k j slots : ℕ) (al : Allowed (sizes k j slots)) (m : Address → ℕ
       added : _≡_ {A = List Told} (record { op = L .given (c .0); ans = a } ∷ L .undecided (c .0)) (map (told k j slots) (shown ∷ M .said c))
       added =
           let g = own .says .given-as waits in
-          let l = own .says .said-as (λ z. absurd (omega (arith, now, z))) in
+          let l = own .says .said-as (omega (arith, now), omega (arith, now)) in
           λ t. record { op = g t; ans = a } ∷ l t
 
   pub answer-turns : Turns k j slots m (changed whole m (over (client (c .0)) ps)) (notes-answer L (c .0) a) M c

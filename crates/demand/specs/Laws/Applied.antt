@@ -243,8 +243,8 @@ module _ (k j slots : ℕ) (al : Allowed (sizes k j slots)) (few : suc j ≤ 16)
   unfolding noted Only
   own-shown =
       course-shown k j slots u v (else-same qs u (refl, tt))
-      (L .given (c .0)) (L .undecided (c .0)) y (M .copy c) (M .said c) (y .phase) (y .participant) (y .lowest) (y .prepared) (upd (Fin-discrete (suc k)) (y .applied) s true)
-      (λ e. absurd (omega (arith, now, e))) (ap phase-of (at phase) ∙ shown .phase-as)
+      (L .given (c .0)) (L .undecided (c .0)) (L .undecided (c .0)) y (M .copy c) (M .said c) (y .phase) (y .participant) (y .lowest) (y .prepared) (upd (Fin-discrete (suc k)) (y .applied) s true)
+      (λ n. absurd (omega (arith, now, at phase, n .1))) (ap phase-of (at phase) ∙ shown .phase-as)
       (λ t. shown .participant-as t ∙ ap (λ (w : ℕ). bit w (t .0)) (sym (at participants)))
       (λ t. shown .prepared-as t ∙ ap (λ (w : ℕ). bit w (t .0)) (sym (at prepared)))
       (λ t. noted-bit (y .applied) (u applied) s t (shown .applied-as) ∙ ap (λ (w : ℕ). bit w (t .0)) (sym (at applied)))

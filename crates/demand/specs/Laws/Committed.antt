@@ -4,7 +4,7 @@ use mathlib.Core.Bool.{Bool, true, false, _&&_, _||_, not}
 use mathlib.Core.List.{List, [], _∷_}
 use Prim.Native.Nat.{ℕ, zero, suc, _<_, Fin}
 use native.Mathlib.Omega.{arith}
-use native.Mathlib.Decide.{Fin-discrete}
+use native.Mathlib.Decide.{Fin-discrete, ℕ-discrete}
 use Rattle.base.specs.Test.{and-both}
 use Rattle.base.specs.Update.{upd}
 use Rattle.base.specs.Laws.Update.{upd-same, upd-other}
@@ -37,7 +37,7 @@ use Rattle.demand.specs.Laws.Shows.{phase-of, T, In-store, new-value, Sl
 use Rattle.demand.specs.Laws.Slots.{Same-sets, item-frame, read-frame, write-frame, copies-frame}
 use Rattle.demand.specs.Laws.Held.{any-at, any-one, same-test, all-in, found-at, has-at, at-has, read-in, written-in, item-at, any-items}
 use Rattle.demand.specs.Laws.Members.{mask-bit, member, lowest-same, kept-home, outer-home}
-use Rattle.demand.specs.Laws.Kept.{cleared-shown, client-related}
+use Rattle.demand.specs.Laws.Kept.{cleared-shown, client-related, away}
 use Rattle.protocol.specs.Machine as P
 use Rattle.protocol.specs.Moves as Mv
 use Rattle.client.specs.Items as I
@@ -187,7 +187,7 @@ module _ (k j slots : ℕ) (al : Allowed (sizes k j slots)) (m : Address → ℕ
         copies = copies-frame k j slots u v (M .copy c) (at meta-copied) (at meta-root) (at meta-version) (λ i n. at (item Copies i n)) (λ s n. at (vector-word s n))
             (R .clients c .copies);
         says = record {
-          said-as = λ _. R .clients c .says .said-as (λ e. absurd (omega (arith, open-now, e)));
+          said-as = λ _. R .clients c .says .said-as (omega (arith, open-now), omega (arith, open-now));
           given-as = λ n. R .clients c .says .given-as (λ e. n (at op-number ∙ e)) ∙ sym waits;
           legal = λ n. subst (Legal (sizes k j slots)) (sym waits) (R .clients c .says .legal (λ e. n (at op-number ∙ e)));
         };
@@ -235,12 +235,12 @@ module _ (k j slots : ℕ) (al : Allowed (sizes k j slots)) (m : Address → ℕ
           table-same = refl;
           lock-same = refl;
           given = λ d n. refl;
-          undecided = λ d n. refl;
+          undecided = λ d n. upd-other ℕ-discrete (L .undecided) (c .0) [] (d .0) (away k j slots c d n);
           slots-same = λ d n. upd-other (Fin-discrete (suc j)) (M₂ .slots) c (P.blank (T k j slots) idle) d n
               ∙ upd-other (Fin-discrete (suc j)) (M₁ .slots) c (Mv.decided-slot (T k j slots) (M₁ .slots c)) d n
               ∙ upd-other (Fin-discrete (suc j)) (M .slots) c (Mv.committed-slot (T k j slots) y) d n;
           copy-same = λ d n. refl;
           said-same = λ d n. upd-other (Fin-discrete (suc j)) (M .said) c [] d n;
         })
-        (cleared-shown k j slots M₂ c 0 (omega arith) (L .given (c .0)) (L .undecided (c .0)) u (R .clients c .copies) (λ n. absurd (n refl)))
-        (ap₂ (λ (t : List Told) (l : List (List Told)). t ∷ l) (R .clients c .says .said-as (λ e. absurd (omega (arith, open-now, e)))) (R .log-as))
+        (cleared-shown k j slots M₂ c 0 (omega arith) (L .given (c .0)) (notes-decision L (c .0) .undecided (c .0)) u (R .clients c .copies) (λ n. absurd (n refl)))
+        (ap₂ (λ (t : List Told) (l : List (List Told)). t ∷ l) (R .clients c .says .said-as (omega (arith, open-now), omega (arith, open-now))) (R .log-as))

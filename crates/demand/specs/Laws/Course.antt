@@ -1,7 +1,7 @@
 -- A client's part in which only the course of the commit changes: phase, participants, prepared, applied.
 use mathlib.Core.Path.{_≡_, refl, ap, sym, _∙_, subst}
 use mathlib.Core.Bool.{Bool, true, false, _||_}
-use mathlib.Core.List.{List}
+use mathlib.Core.List.{List, map}
 use mathlib.Core.Option.{Option}
 use Prim.Native.Nat.{ℕ, suc, _≤_, Fin}
 use native.Mathlib.Omega.{arith}
@@ -21,7 +21,7 @@ use Rattle.client.specs.Work.{op-of, waiting}
 use Rattle.demand.specs.Ledger.{Told}
 use Rattle.demand.specs.Laws.Store.{sizes}
 use Rattle.demand.specs.Laws.Frame.{Only, only-other}
-use Rattle.demand.specs.Laws.Shows.{phase-of, T, Client-shown}
+use Rattle.demand.specs.Laws.Shows.{phase-of, T, Client-shown, Running, told}
 use Rattle.demand.specs.Laws.Slots.{Same-sets, item-frame, read-frame, write-frame, copies-frame}
 use Rattle.protocol.specs.Machine as P
 
@@ -75,12 +75,12 @@ module _ (k j slots : ℕ) (u v : ClientWord → ℕ) (E : Else u v) where
   waits t = op-of (E .op-number-same t) (E .op-key-same t) (E .op-value-same t) (E .op-server-same t)
 
   -- the machine's slot with another course
-  pub course-shown : (given : Op) (undecided : List Told) (y : P.Slot (T k j slots)) (f : Obj → Option (P.Copy (T k j slots))) (said : List (Shown (T k j slots)))
+  pub course-shown : (given : Op) (undecided undecided′ : List Told) (y : P.Slot (T k j slots)) (f : Obj → Option (P.Copy (T k j slots))) (said : List (Shown (T k j slots)))
       → (p : Phase) (q : Fin (suc k) → Bool) (l : Fin (suc k)) (r a : Fin (suc k) → Bool)
-      → ¬ (u phase ≡ 0) → phase-of (v phase) ≡ p → ((s : Fin (suc k)) → q s ≡ bit (v participants) (s .0)) → ((s : Fin (suc k)) → r s ≡ bit (v prepared) (s .0))
+      → (Running (v phase) → undecided′ ≡ map (told k j slots) said) → phase-of (v phase) ≡ p → ((s : Fin (suc k)) → q s ≡ bit (v participants) (s .0)) → ((s : Fin (suc k)) → r s ≡ bit (v prepared) (s .0))
       → ((s : Fin (suc k)) → a s ≡ bit (v applied) (s .0)) → 2 ≤ v phase → l .0 ≡ lowest-of (suc k) (v participants)
-      → Client-shown k j slots u given undecided y f said → Client-shown k j slots v given undecided (P.with-course (T k j slots) y p q l r a) f said
-  course-shown given undecided y f said p q l r a busy hp hq hr ha late hl h = record {
+      → Client-shown k j slots u given undecided y f said → Client-shown k j slots v given undecided′ (P.with-course (T k j slots) y p q l r a) f said
+  course-shown given undecided undecided′ y f said p q l r a said-now hp hq hr ha late hl h = record {
     slot = record {
       phase-as = hp;
       item-as = λ o i. h .slot .item-as o i ∙ sym (item-frame u v k j slots (E .sets) o);
@@ -96,7 +96,7 @@ module _ (k j slots : ℕ) (u v : ClientWord → ℕ) (E : Else u v) where
     };
     copies = copies-frame k j slots u v f (E .copied-same) (E .root-same) (E .version-same) (E .copies-same) (E .vectors-same) (h .copies);
     says = record {
-      said-as = λ _. h .says .said-as busy;
+      said-as = said-now;
       given-as = λ n. h .says .given-as (λ e. n (E .op-number-same ∙ e)) ∙ sym waits;
       legal = λ n. subst (Legal (sizes k j slots)) (sym waits) (h .says .legal (λ e. n (E .op-number-same ∙ e)));
     };

@@ -1,10 +1,10 @@
 -- The DECISION, and what an apply and a prepare leave behind them.
 use mathlib.Core.Path.{_≡_, refl, ap, ap₂, sym, _∙_, subst}
 use mathlib.Core.Bool.{Bool, true, _||_, not}
-use mathlib.Core.List.{List, _∷_}
+use mathlib.Core.List.{List, _∷_, []}
 use Prim.Native.Nat.{ℕ, suc, Fin}
 use native.Mathlib.Omega.{arith}
-use native.Mathlib.Decide.{Fin-discrete}
+use native.Mathlib.Decide.{Fin-discrete, ℕ-discrete}
 use Rattle.base.specs.Update.{upd}
 use Rattle.base.specs.Laws.Update.{upd-same, upd-other}
 use Rattle.memory.specs.Bit.{bit}
@@ -22,7 +22,7 @@ use Rattle.demand.specs.Laws.Frame.{last, read-after, Only}
 use Rattle.demand.specs.Laws.Shows.{phase-of, T, Slot-shown, Client-shown, Related}
 use Rattle.demand.specs.Laws.Course.{else-same, course-shown}
 use Rattle.demand.specs.Laws.Held.{all-at, all-in}
-use Rattle.demand.specs.Laws.Kept.{client-related}
+use Rattle.demand.specs.Laws.Kept.{client-related, away}
 use Rattle.protocol.specs.Machine as P
 use Rattle.protocol.specs.Moves as Mv
 use Rattle.client.specs.Course as Life
@@ -69,18 +69,18 @@ module _ (k j slots : ℕ) (m : Address → ℕ) (L : Ledger) (M : P.Machine (T 
         table-same = refl;
         lock-same = refl;
         given = λ d n. refl;
-        undecided = λ d n. refl;
+        undecided = λ d n. upd-other ℕ-discrete (L .undecided) (c .0) [] (d .0) (away k j slots c d n);
         slots-same = λ d n. upd-other (Fin-discrete (suc j)) (M .slots) c (Mv.decided-slot (T k j slots) y) d n;
         copy-same = λ d n. refl;
         said-same = λ d n. refl;
       })
-      (subst (λ (w : P.Slot (T k j slots)). Client-shown k j slots v (L .given (c .0)) (L .undecided (c .0)) w (M .copy c) (M .said c))
+      (subst (λ (w : P.Slot (T k j slots)). Client-shown k j slots v (L .given (c .0)) (notes-decision L (c .0) .undecided (c .0)) w (M .copy c) (M .said c))
       (sym (upd-same (Fin-discrete (suc j)) (M .slots) c (Mv.decided-slot (T k j slots) y)))
       (course-shown k j slots u v (else-same ps u (refl, tt))
-      (L .given (c .0)) (L .undecided (c .0)) y (M .copy c) (M .said c) decided (y .participant) (y .lowest) (y .prepared) (y .applied)
-      (λ e. absurd (omega (arith, now, e))) (ap phase-of (at phase))
+      (L .given (c .0)) (L .undecided (c .0)) (notes-decision L (c .0) .undecided (c .0)) y (M .copy c) (M .said c) decided (y .participant) (y .lowest) (y .prepared) (y .applied)
+      (λ n. absurd (omega (arith, at phase, n .1))) (ap phase-of (at phase))
       (λ t. shown .participant-as t ∙ ap (λ (w : ℕ). bit w (t .0)) (sym (at participants)))
       (λ t. shown .prepared-as t ∙ ap (λ (w : ℕ). bit w (t .0)) (sym (at prepared)))
       (λ t. shown .applied-as t ∙ ap (λ (w : ℕ). bit w (t .0)) (sym (at applied)))
       (omega (arith, at phase)) (shown .lowest-as (omega (arith, now)) ∙ ap (lowest-of (suc k)) (sym (at participants))) (R .clients c)))
-      (ap₂ (λ (t : List Told) (l : List (List Told)). t ∷ l) (R .clients c .says .said-as (λ e. absurd (omega (arith, now, e)))) (R .log-as))
+      (ap₂ (λ (t : List Told) (l : List (List Told)). t ∷ l) (R .clients c .says .said-as (omega (arith, now), omega (arith, now))) (R .log-as))

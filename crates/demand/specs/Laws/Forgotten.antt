@@ -19,7 +19,7 @@ use Rattle.steps.specs.Whole.{Address, client, whole}
 use Rattle.demand.specs.Ledger.{Ledger}
 use Rattle.demand.specs.Laws.Store.{sizes}
 use Rattle.steps.specs.Laws.Stores.{client-of}
-use Rattle.demand.specs.Laws.Shows.{T, Copies-shown, Related}
+use Rattle.demand.specs.Laws.Shows.{T, Copies-shown, Related, Running}
 use Rattle.demand.specs.Laws.Slots.{Same-sets, slot-frame, copies-frame}
 use Rattle.demand.specs.Laws.Dropped.{Mark, Fewer, fewer, kept-word, fewer-copies, only-all}
 use Rattle.demand.specs.Laws.Kept.{client-related}
@@ -103,7 +103,7 @@ module _ (k j slots : ℕ) (m : Address → ℕ) (L : Ledger) (M : P.Machine (T 
               (field-at 6 (λ z. absurd (omega (arith, z))) (λ z. absurd (omega (arith, z)))) (field-at 7 (λ z. absurd (omega (arith, z))) (λ z. absurd (omega (arith, z)))) (R .clients c .slot);
           copies = fewer-copies k j slots v g (M .copy c) w before;
           says = record {
-            said-as = λ n. R .clients c .says .said-as (λ q. n (phase-at ∙ q));
+            said-as = λ n. R .clients c .says .said-as (subst Running phase-at n);
             given-as = λ n. R .clients c .says .given-as (λ q. n (op-at ∙ q)) ∙ sym waits;
             legal = λ n. subst (Legal (sizes k j slots)) (sym waits) (R .clients c .says .legal (λ q. n (op-at ∙ q)));
           };

@@ -23,7 +23,7 @@ use Rattle.demand.specs.Ledger.{Told, Ledger, clears, notes-op}
 use Rattle.demand.specs.Laws.Store.{sizes}
 use Rattle.steps.specs.Laws.Stores.{client-of, server-of, client-changed, client-else, client-servers}
 use Rattle.demand.specs.Laws.Frame.{last, read-after}
-use Rattle.demand.specs.Laws.Shows.{phase-of, T, told, Slot-shown, Copies-shown, Server-shown, Client-shown, Related}
+use Rattle.demand.specs.Laws.Shows.{phase-of, T, told, Slot-shown, Copies-shown, Server-shown, Client-shown, Related, Running}
 use Rattle.demand.specs.Laws.Slots.{slot-frame, copies-frame, blank-shown}
 use Rattle.protocol.specs.Machine as P
 use Rattle.protocol.specs.Moves as Mv
@@ -140,7 +140,7 @@ module _ (k j slots : ℕ) where
         slot = reset-slot v p l;
         copies = reset-copies v p (M .copy c) h;
         says = record {
-          said-as = λ n. e (λ z. n (reset-phase v p ∙ z));
+          said-as = λ n. e (λ z. absurd (omega (arith, n .0, reset-phase v p, z)));
           given-as = λ n. absurd (n (reset-waits v p));
           legal = λ n. absurd (n (reset-waits v p));
         };
@@ -216,7 +216,7 @@ module _ (k j slots : ℕ) where
             copies = copies-frame k j slots u v (M .copy c) (at meta-copied) (at meta-root) (at meta-version) (λ i n. at (item Copies i n)) (λ s n. at (vector-word s n))
                 (R .clients c .copies);
             says = record {
-              said-as = λ n. R .clients c .says .said-as (λ e. n (at phase ∙ e));
+              said-as = λ n. R .clients c .says .said-as (subst Running (at phase) n);
               given-as = λ n. upd-same ℕ-discrete (L .given) (c .0) (op-of op key value server) ∙ sym now-waits;
               legal = λ n. subst (Legal (sizes k j slots)) (sym now-waits) legal;
             };

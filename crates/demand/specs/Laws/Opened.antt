@@ -2,7 +2,7 @@
 use mathlib.Core.Path.{_≡_, refl, ap, ap₂, sym, _∙_, subst, fun-ext}
 use mathlib.Core.Bool.{Bool, true, false, false≢true}
 use mathlib.Core.List.{List, [], _∷_}
-use Prim.Native.Nat.{ℕ, zero, suc, _/_, _%_, Fin}
+use Prim.Native.Nat.{ℕ, zero, suc, _/_, _%_, Fin, _<_}
 use native.Mathlib.Omega.{arith}
 use lib.ListN.{getD}
 use native.Mathlib.Decide.{ℕ-discrete}
@@ -121,7 +121,7 @@ module _ (k j slots : ℕ) where
           apart = λ i n l r e d. absurd (d refl);
         };
         says = record {
-          said-as = λ n. absurd (n refl);
+          said-as = λ n. let z : 0 < 0 = n .0 in absurd (omega (arith, z));
           given-as = λ n. absurd (n refl);
           legal = λ n. absurd (n refl);
         };

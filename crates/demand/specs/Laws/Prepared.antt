@@ -325,8 +325,8 @@ module _ (k j slots : ℕ) (al : Allowed (sizes k j slots)) (few : suc j ≤ 16)
     unfolding noted Only
     own-shown =
         course-shown k j slots u v (else-same qs u (refl, tt))
-        (L .given (c .0)) (L .undecided (c .0)) y (M .copy c) (M .said c) (y .phase) (y .participant) (y .lowest) (upd (Fin-discrete (suc k)) (y .prepared) s true) (y .applied)
-        (λ e. absurd (omega (arith, now, e))) (ap phase-of (at phase) ∙ shown .phase-as)
+        (L .given (c .0)) (L .undecided (c .0)) (L .undecided (c .0)) y (M .copy c) (M .said c) (y .phase) (y .participant) (y .lowest) (upd (Fin-discrete (suc k)) (y .prepared) s true) (y .applied)
+        (λ _. R .clients c .says .said-as (omega (arith, now), omega (arith, now))) (ap phase-of (at phase) ∙ shown .phase-as)
         (λ t. shown .participant-as t ∙ ap (λ (w : ℕ). bit w (t .0)) (sym (at participants)))
         (λ t. noted-bit (y .prepared) (u prepared) s t (shown .prepared-as) ∙ ap (λ (w : ℕ). bit w (t .0)) (sym (at prepared)))
         (λ t. shown .applied-as t ∙ ap (λ (w : ℕ). bit w (t .0)) (sym (at applied)))

@@ -36,6 +36,10 @@ use Rattle.protocol.specs.Machine as P
 use Rattle.protocol.specs.Moves as Mv
 use Rattle.server.specs.declared.place.Place.the-variants as place
 
+-- the phase of a transaction that is begun and not decided
+abbrev pub Running : ℕ → Type 0
+Running p = (0 < p) × (p < 3)
+
 unfoldable pub phase-of : ℕ → Phase
 phase-of n = getD (idle ∷ opened ∷ committing ∷ []) n decided
 
@@ -97,9 +101,9 @@ module _ (k j slots : ℕ) where
           → f (flag n) ≡ copy (taken (bit (u (vector-word (N.server-of n) (suc (N.slot-of n / 64)))) (N.slot-of n % 64))) 0
       pub apart : (i n : ℕ) → i < 64 → n < 64 → u (item Copies i 0) ≡ u (item Copies n 0) → ¬ (u (item Copies i 0) ≡ 0) → i ≡ n
 
-    -- what was given and answered
+    -- what was given, and what is answered of a transaction that is begun and not decided
     pub record Said-shown (given : Op) (undecided : List Told) (said : List (Shown T)) : Type 0 where
-      pub said-as : ¬ (u phase ≡ 0) → undecided ≡ map told said
+      pub said-as : Running (u phase) → undecided ≡ map told said
       pub given-as : ¬ (u op-number ≡ 0) → given ≡ waiting u
       pub legal : ¬ (u op-number ≡ 0) → Legal (sizes k j slots) (waiting u)
 

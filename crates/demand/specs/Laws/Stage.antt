@@ -32,7 +32,7 @@ use Rattle.steps.specs.Whole.{Address, client, whole}
 use Rattle.steps.specs.Laws.Stores.{client-of, client-else}
 use Rattle.demand.specs.Ledger.{Told, Ledger}
 use Rattle.demand.specs.Laws.Store.{sizes}
-use Rattle.demand.specs.Laws.Shows.{T, In-store, item-from, item-of, Copies-shown, Said-shown, Client-shown, Related}
+use Rattle.demand.specs.Laws.Shows.{T, In-store, item-from, item-of, Copies-shown, Said-shown, Client-shown, Related, Running}
 use Rattle.demand.specs.Laws.Slots.{slot-frame}
 use Rattle.demand.specs.Laws.Kept.{away, client-related}
 use Rattle.demand.specs.Laws.CopyWords.{of-copies, sets-stay}
@@ -52,7 +52,7 @@ pub said-frame : (k j slots : ℕ) (u v : ClientWord → ℕ) (given : Op) (unde
 said-frame k j slots u v given undecided said p a b d e h =
     let same : waiting v ≡ waiting u = λ t. op-of (a t) (b t) (d t) (e t) in
     record {
-      said-as = λ n. h .said-as (λ z. n (p ∙ z));
+      said-as = λ n. h .said-as (subst Running p n);
       given-as = λ n. h .given-as (λ z. n (a ∙ z)) ∙ sym same;
       legal = λ n. subst (Legal (sizes k j slots)) (sym same) (h .legal (λ z. n (a ∙ z)));
     }
