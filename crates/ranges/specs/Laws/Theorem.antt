@@ -28,7 +28,6 @@ use Rattle.demand.specs.Laws.Turns.{store, Explained}
 use Rattle.demand.specs.Laws.Applies.{applied-outcome}
 use Rattle.demand.specs.Laws.ByKind.{step-after}
 use Rattle.demand.specs.Laws.Theorem as Th
-use Rattle.demand.specs.Laws.Theorem as Th-laws
 use Rattle.demand.specs.Laws.Done.{due-applied, applies-note, applies-done}
 use Rattle.ranges.specs.Claim as C
 use Rattle.ranges.specs.Laws.Sound.{Sound-store}
@@ -64,7 +63,7 @@ module _ (k j slots : ℕ) (al : Allowed (sizes k j slots)) (few : suc j ≤ 16)
     New h m = Leads (store k j slots) (opened (store k j slots)) h m
 
     from-new : (h : List Taken) (m : Address → ℕ) → New h m → Led h m (ledger-from blank h)
-    from-new h m p = led h (opened (store k j slots)) m blank p (record { explained = Th-laws.opened-explained k j slots al few; sound = first-sound k j slots some-slot })
+    from-new h m p = led h (opened (store k j slots)) m blank p (record { explained = Th.opened-explained k j slots al few; sound = first-sound k j slots some-slot })
 
     -- where all applies were taken after the steps `before`
     settled : (before ts : List Taken) (m : Address → ℕ) → New (before ++ ts) m → D.Applies (store k j slots) ts → D.Tree (store k j slots) m (map-all (decided-in before))
