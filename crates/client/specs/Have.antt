@@ -12,7 +12,7 @@ use Rattle.nodes.specs.Name.{server-of, slot-of}
 use Rattle.operations.specs.Object.{Obj, node, Ask, object, vector, fetched, Val, flags}
 use Rattle.operations.specs.Slot.{TreeSizes}
 use Rattle.client.specs.declared.answer.How.{How}
-use Rattle.client.specs.declared.answer.How.the-variants.{Here, Copied, Full, Lacking, Broken}
+use Rattle.client.specs.declared.answer.How.the-variants.{Here, Copied, Lacking}
 use Rattle.client.specs.declared.answer.Look.{Look}
 use Rattle.client.specs.declared.part.Set.the-variants.{Reads, Writes, Copies}
 use Rattle.client.specs.Layout.{ClientWord, vector-word, meta-copied, meta-root, meta-version}
@@ -33,20 +33,16 @@ copy r = record { how = Copied; node = r }
 abbrev pub lacking : Look
 lacking = record { how = Lacking; node = free-node 0 }
 
--- is there a record; Full and Broken are never said of an object here
+-- is there a record
 abbrev pub is-found : How → Bool
 is-found Here = true
 is-found Copied = true
-is-found Full = true
 is-found Lacking = false
-is-found Broken = false
 
 abbrev pub is-copied : How → Bool
 is-copied Here = false
 is-copied Copied = true
-is-copied Full = false
 is-copied Lacking = false
-is-copied Broken = false
 
 module _ (m : ClientWord → ℕ) where
   -- "Copies: metadata, one vector a server, 64 inner nodes"

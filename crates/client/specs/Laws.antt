@@ -8,9 +8,8 @@ pub mod Part
 -- items found by their number; steps of the part, one after another
 pub mod Find
 pub mod Steps
--- vectors; what is at hand of an object; the lent lists, and a lookup over them
+-- vectors; the lent lists; a lookup in the part
 pub mod Vectors
-pub mod Have
 pub mod Lent
 pub mod Look
 -- the ways out of the code: objects enter the sets, copies, items, a commit, refusal 10, renewal

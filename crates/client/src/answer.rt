@@ -3,17 +3,14 @@ use nodes::node::Node;
 ghost use mathlib.Core.Path.{_≡_};
 ghost use Rattle.client.specs.Have.{here, copy, lacking, is-found, is-copied};
 
-// Here: in a set, or a copy already in use. Copied: a copy that is not in use yet. Full: a copy that would be object 97.
-// Lacking: to be fetched. Broken: out of range, or not in the store.
+// Here: in a set. Copied: a copy. Lacking: to be fetched.
 pub enum How {
     Here,
     Copied,
-    Full,
     Lacking,
-    Broken,
 }
 
-// With Here, Copied and Full comes the object's record.
+// With Here and Copied comes the object's record.
 pub struct Look {
     pub how: How,
     pub node: Node,
@@ -26,22 +23,18 @@ pub fn is_found(how: How) -> bool
     match how {
         How::Here => true,
         How::Copied => true,
-        How::Full => true,
         How::Lacking => false,
-        How::Broken => false,
     }
 }
 
-// Is it a copy that is not in use yet?
+// Is it a copy?
 pub fn is_copied(how: How) -> bool
     ensures { λ r. ⌜ r ≡ is-copied how ⌝ }
 {
     match how {
         How::Here => false,
         How::Copied => true,
-        How::Full => false,
         How::Lacking => false,
-        How::Broken => false,
     }
 }
 

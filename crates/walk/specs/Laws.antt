@@ -4,6 +4,7 @@
 pub mod Entries
 pub mod Walk
 -- a question: own writes, else the part
+pub mod Met
 pub mod Ask
 -- the way down from the root
 pub mod Down

@@ -1,50 +1,20 @@
--- The answer of a lookup over the lent lists, and how it comes to it.
-use mathlib.Core.Bool.{cond, Bool, true, false}
-use mathlib.Core.List.{List}
+-- How a lookup in a client's part comes to its answer.
+use mathlib.Core.Bool.{Bool, true, false}
 use Prim.Native.Nat.{ℕ, _+_, _-_, _/_, _%_, _≤_, _<_}
-use lib.Dec.{ltb}
-use lib.ListN.{length}
 use mathlib.Core.Path.{_≡_, sym, _∙_}
 use borrow.Author.Tests.{eq-eqb, ne-eqb, le-leb, lt-leb}
 use Rattle.nodes.specs.declared.node.Node.{Node}
 use Rattle.nodes.specs.declared.found.Found.{Found}
 use Rattle.nodes.specs.declared.found.Found.the-variants.{At, Absent}
-use Rattle.operations.specs.Slot.{TreeSizes}
 use Rattle.client.specs.declared.answer.Look.{Look}
 use Rattle.client.specs.Layout.{ClientWord, field, vector-word}
 use Rattle.client.specs.declared.part.Set.the-variants.{Reads, Writes, Copies}
-use Rattle.client.specs.Sets.{count, record-at, find}
-use Rattle.client.specs.Record.{record-in-range, single}
-use Rattle.client.specs.Have.{here, copy, lacking, is-found, is-copied, source, copied-meta, copied-node, copied-flag, copied}
-use Rattle.client.specs.Laws.Have.{full, unfit}
-use Rattle.client.specs.Run.{among}
-use Rattle.client.specs.Lent.{own-find, own-record, used-in, pushed}
+use Rattle.client.specs.Sets.{record-at, find}
+use Rattle.client.specs.Record.{single}
+use Rattle.client.specs.Have.{here, copy, lacking, source, copied-meta, copied-node, copied-flag, copied}
 use Rattle.memory.specs.Bit.{bit}
 
--- a copy that is in use already is at hand; "object 97 would be read"
-unfoldable pub taken-up : (ClientWord → ℕ) → List ℕ → ℕ → Node → Look
-taken-up m u x r = cond (among x (used-in u)) (here r) (cond (ltb (count m Reads + length (used-in u)) 96) (copy r) (full r))
-
-module _ (z : TreeSizes) (m : ClientWord → ℕ) (w u : List ℕ) where
-  abbrev pub in-part : ℕ → Look → Look
-  in-part x l = cond (is-found (l .how)) (cond (record-in-range z x (l .node)) (cond (is-copied (l .how)) (taken-up m u x (l .node)) (here (l .node))) unfit) lacking
-
-  abbrev pub or-in-part : ℕ → Found → Look
-  or-in-part x (At i) = here (own-record w i)
-  or-in-part x Absent = in-part x (source m x)
-
-  -- the object with the number x: w are the own writes, u the copies in use
-  unfoldable pub looked : ℕ → Look
-  looked x = or-in-part x (own-find w x)
-
--- a copy that comes into use is at hand, and is one of those used
-unfoldable pub at-hand : Look → Look
-at-hand l = cond (is-copied (l .how)) (here (l .node)) l
-
-unfoldable pub used-after : Look → List ℕ → ℕ → List ℕ
-used-after l u x = cond (is-copied (l .how)) (pushed u x) u
-
--- ---- copies
+-- copies
 module _ (m : ClientWord → ℕ) (r : Look) where
   pub meta-lacking : (q : ℕ) → q ≡ m (field 12) → (q ≡ 1 → ⊥) → r ≡ lacking → r ≡ copied-meta m
   unfolding copied-meta

@@ -23,8 +23,6 @@ use Rattle.nodes.specs.Found.{Inside}
 use Rattle.operations.specs.Object.{Obj, meta, node, flag, Ask, object, vector, fetched, Val, Writes, hit}
 use Rattle.operations.specs.Slot.{TreeSizes}
 use Rattle.operations.specs.Path.{TreePlan, see}
-use Rattle.client.specs.declared.answer.How.{How}
-use Rattle.client.specs.declared.answer.How.the-variants.{Here, Copied, Full, Lacking, Broken}
 use Rattle.client.specs.declared.answer.Look.{Look}
 use Rattle.walk.specs.declared.walk.Asked.{Asked}
 use Rattle.walk.specs.declared.walk.Stop.{Stop}
@@ -33,17 +31,17 @@ use Rattle.client.specs.declared.part.Set.the-variants.{Reads, Copies}
 use Rattle.client.specs.Layout.{ClientWord, reads-count, meta-copied, vector-word}
 use Rattle.client.specs.Record.{number, sizes, object-in-store, in-store, value-of, record-in-range}
 use Rattle.client.specs.Sets.{count, find, first-of}
-use Rattle.client.specs.Have.{here, copy, lacking, is-copied, is-found, copied, copied-meta, copied-item, copied-node, copied-flag, source, have, broken}
-use Rattle.client.specs.Laws.Have.{full, unfit}
+use Rattle.client.specs.Have.{is-copied, is-found, copied, copied-meta, copied-item, copied-node, copied-flag, source, have, broken}
 use Rattle.client.specs.Run.{lacks, Ran, ran, among, run}
 use Rattle.client.specs.Lent.{own-find, own-first, own-record, own-list, Lent, used-in, pushed}
 use Rattle.client.specs.Answered.{entered}
-use Rattle.client.specs.Laws.Look.{taken-up, looked, at-hand, used-after}
+use Rattle.walk.specs.Laws.Met.{Way, Here, Copied, Full, Lacking, Broken, Met, here, copy, full, lacking, unfit, is-new, taken-up, looked, at-hand, used-after}
 use Rattle.walk.specs.Walk.{goes, lack, fresh, room, over, worked, walked}
 use Rattle.walk.specs.Laws.Walk.{full-ask, judged-over}
 use Rattle.walk.specs.Ask.{Small, write-of, OwnGood, Holds-writes, nothing, Noted, Asks, Numbered, Outside, Answer, popped, stopped, noted-copy}
 use Rattle.plans.specs.Plan as P
 use Rattle.client.specs.declared.part.Set.the-variants as set
+use Rattle.client.specs.declared.answer.How.{How}
 
 abbrev pub or-ask : Obj → (Val → TreePlan) → Option Val → TreePlan
 or-ask o k none = P.ask (object o) k
@@ -144,7 +142,7 @@ module _ (m : ClientWord → ℕ) where
       go Absent Absent p q = rw (source, p, q) (sym (rw (source, p, q) at h) ∙ copied-found x)
 
 module _ (z : TreeSizes) (m : ClientWord → ℕ) (o : Obj) (k : Val → TreePlan) (us : List ℕ) where
-  abbrev pub met : How → Node → Ran
+  abbrev pub met : Way → Node → Ran
   met Here n = worked z m (k (value-of o n)) us
   met Copied n = worked z m (k (value-of o n)) (us ++ (number o ∷ []))
   met Full n = worked z m (k (value-of o n)) (us ++ (number o ∷ []))
@@ -198,14 +196,14 @@ module _ (z : TreeSizes) (m : ClientWord → ℕ) (x u : List ℕ) (w : Writes) 
       go Absent e = let y : write-of w o ≡ none = sym (h .same o t) ∙ rw e in rw (see-is w o k, y, worked, v) (part-run e)
 
 -- whether what is lacking may be fetched
-abbrev unfit? : How → Bool
+abbrev unfit? : Way → Bool
 unfit? Here = false
 unfit? Copied = false
 unfit? Full = false
 unfit? Lacking = false
 unfit? Broken = true
 
-abbrev fetched? : How → Bool
+abbrev fetched? : Way → Bool
 fetched? Here = true
 fetched? Copied = true
 fetched? Full = true
@@ -303,14 +301,14 @@ lack-stops (object (flag n)) = refl
 lack-stops (vector s) = refl
 lack-stops (fetched s) = refl
 
-abbrev entered-stop : How → Stop → Stop
+abbrev entered-stop : Way → Stop → Stop
 entered-stop Here l = Going
 entered-stop Copied l = Going
 entered-stop Full l = Going
 entered-stop Lacking l = l
 entered-stop Broken l = Refused
 
-abbrev entered-used : How → List ℕ → ℕ → List ℕ
+abbrev entered-used : Way → List ℕ → ℕ → List ℕ
 entered-used Here u n = u
 entered-used Copied u n = u
 entered-used Full u n = pushed u n
@@ -371,7 +369,7 @@ module _ (z : TreeSizes) (m : ClientWord → ℕ) (u : List ℕ) (n : ℕ) (l : 
     more : Noted m (pushed u n)
     more = pushed-noted m u n near h few
 
-    looked-noted : (d : How) → looked z m nothing u n .how ≡ d → Noted m (entered-used (at-hand (looked z m nothing u n) .how) (used-after (looked z m nothing u n) u n) n)
+    looked-noted : (d : Way) → looked z m nothing u n .how ≡ d → Noted m (entered-used (at-hand (looked z m nothing u n) .how) (used-after (looked z m nothing u n) u n) n)
     unfolding at-hand used-after
     looked-noted Here e = rw (at-hand, used-after, e) h
     looked-noted Copied e = rw (at-hand, used-after, e) more
@@ -379,7 +377,7 @@ module _ (z : TreeSizes) (m : ClientWord → ℕ) (u : List ℕ) (n : ℕ) (l : 
     looked-noted Lacking e = rw (at-hand, used-after, e) h
     looked-noted Broken e = rw (at-hand, used-after, e) h
 
-    looked-long : (d : How) → looked z m nothing u n .how ≡ d → length (entered-used (at-hand (looked z m nothing u n) .how) (used-after (looked z m nothing u n) u n) n) ≡ length u
+    looked-long : (d : Way) → looked z m nothing u n .how ≡ d → length (entered-used (at-hand (looked z m nothing u n) .how) (used-after (looked z m nothing u n) u n) n) ≡ length u
     unfolding at-hand used-after pushed
     looked-long Here e = rw (at-hand, used-after, e)
     looked-long Copied e = rw (at-hand, used-after, e) (simp length-set)
@@ -387,22 +385,22 @@ module _ (z : TreeSizes) (m : ClientWord → ℕ) (u : List ℕ) (n : ℕ) (l : 
     looked-long Lacking e = rw (at-hand, used-after, e)
     looked-long Broken e = rw (at-hand, used-after, e)
 
-    hand-node : (L : Look) → at-hand L .node ≡ L .node
+    hand-node : (L : Met) → at-hand L .node ≡ L .node
     unfolding at-hand
-    hand-node L = go (is-copied (L .how)) refl
+    hand-node L = go (is-new (L .how)) refl
       where
-        go : (b : Bool) → is-copied (L .how) ≡ b → at-hand L .node ≡ L .node
+        go : (b : Bool) → is-new (L .how) ≡ b → at-hand L .node ≡ L .node
         go true e = rw (at-hand, e)
         go false e = rw (at-hand, e)
 
     module _ (o : Obj) (t : object-in-store z o ≡ true) (b : lack (object o) ≡ l) (w : Writes) (hold : Holds-writes z nothing w) where
-      abbrev L : Look
+      abbrev L : Met
       L = looked z m nothing u (number o)
 
       pushed-in : used-in (pushed u (number o)) ≡ used-in u ++ (number o ∷ [])
       pushed-in = used-pushed u (number o) (h .long) (omega (arith, few))
 
-      looked-asks : (d : How) → L .how ≡ d → Asks z m w o u (entered-stop (at-hand L .how) l) (at-hand L .node) (entered-used (at-hand L .how) (used-after L u (number o)) (number o))
+      looked-asks : (d : Way) → L .how ≡ d → Asks z m w o u (entered-stop (at-hand L .how) l) (at-hand L .node) (entered-used (at-hand L .how) (used-after L u (number o)) (number o))
       unfolding at-hand used-after walked
       looked-asks Here e = rw (at-hand, used-after, e) (record { same = λ k. rw (walked, looked-run z m nothing u w o t v k hold, e) })
       looked-asks Copied e = rw (at-hand, used-after, e) (record { same = λ k. rw (pushed-in, walked, looked-run z m nothing u w o t v k hold, e) })
@@ -415,7 +413,7 @@ module _ (z : TreeSizes) (m : ClientWord → ℕ) (u : List ℕ) (n : ℕ) (l : 
           rw (at-hand, used-after, e) (record { same = λ k. rw (walked, looked-run z m nothing u w o t v k hold, e, f) })
 
   -- what the part has of the object, as it is looked up
-  looked-found : over m (used-in u) ≡ false → (L : Look) → looked z m nothing u n ≡ L
+  looked-found : over m (used-in u) ≡ false → (L : Met) → looked z m nothing u n ≡ L
       → Numbered z m nothing u n l (entered-stop (at-hand L .how) l) (at-hand L .node) (entered-used (at-hand L .how) (used-after L u n) n)
   looked-found v L e = rw (← e) (record {
     asks = λ o p t b w hold. rw (← p) (looked-asks v o t b w hold (looked z m nothing u (number o) .how) refl);
