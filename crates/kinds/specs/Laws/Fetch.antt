@@ -1,11 +1,10 @@
 -- Laws of a fetch's check: "A fetch checks at that server what the transaction has read".
 use mathlib.Core.Path.{_≡_, refl, sym, ap, ap₂, _∙_, subst}
 use mathlib.Core.Bool.{Bool, true, false, cond, _&&_, _||_, not}
-use mathlib.Core.List.{List, [], _∷_, _++_, map, map-append, append-assoc, append-nil}
+use mathlib.Core.List.{List, [], _∷_, _++_, map, append-assoc, append-nil}
 use mathlib.Core.Option.{Option}
 use Prim.Native.Nat.{ℕ, zero, suc, _+_, _-_, _*_, _≤_, _<_}
 use native.Mathlib.Omega.{arith}
-use native.Mathlib.Numerals.{add-one}
 use borrow.Author.Tests.{eq-eqb, ne-eqb, lt-ltb, le-ltb, le-leb, lt-leb}
 use borrow.Rule.Slice.PartMut.{midOf}
 use lib.ListN.{length, getD, take, drop}
@@ -34,7 +33,7 @@ use Rattle.kinds.specs.Items.{as-item, read-item}
 use Rattle.kinds.specs.Judge.{of-client, of-server, lock-at}
 use Rattle.kinds.specs.Laws.Judge.{none-passed, one-passed, one-fails, all-passed}
 use Rattle.kinds.specs.Findings.{fault, as-fault, later}
-use Rattle.kinds.specs.Laws.Findings.{least-later, reason-again}
+use Rattle.kinds.specs.Laws.Findings.{reason-again, least-upto, least-first, least-next}
 use Rattle.kinds.specs.Fetch.{used-item, known-at, AllKnown, checks, check-item, fetch-fault, items-fit, items-found, verdict-of, gate-of}
 use Rattle.client.specs.Sets as sets
 use Rattle.kinds.specs.declared.items.Item as code
@@ -207,26 +206,20 @@ module _ (z : Sizes) (w : List ℕ) (c s : ℕ) (u : List ℕ) where
 
   -- ---- the fault of the least object
   unfoldable pub known-found : ℕ → Option (ℕ × ℕ)
-  known-found n = least (map (λ i. (i .number, fetch-fault z w c s i)) (each n (known-at (of-client z w c) (used-in u))))
+  known-found n = least-upto (fetch-fault z w c s) (known-at (of-client z w c) (used-in u)) n
 
   pub known-found-none : fault 0 0 ≡ known-found 0
-  unfolding known-found each least
-  known-found-none = refl
+  unfolding known-found
+  known-found-none = least-first (fetch-fault z w c s) (known-at (of-client z w c) (used-in u))
 
   pub known-found-next : (i y : ℕ) (t : code.Item) (f g : code-fault.Fault) → as-fault f ≡ known-found i → as-item t ≡ known-at (of-client z w c) (used-in u) i
       → y ≡ fetch-fault z w c s (as-item t) → as-fault g ≡ later (as-fault f) (t .number) y → as-fault g ≡ known-found (i + 1)
-  unfolding known-found each
-  known-found-next i y t f g h q e p =
-      let F : Item → ℕ × ℕ = λ v. (v .number, fetch-fault z w c s v) in
-      let l : List Item = each i (known-at (of-client z w c) (used-in u)) in
-      let v : Item = known-at (of-client z w c) (used-in u) i in
-      let k : later (as-fault f) (t .number) y ≡ later (least (map F l)) (v .number) (fetch-fault z w c s v) =
-      rw (e, h) (ap (λ (x : Item). later (least (map F l)) (x .number) (fetch-fault z w c s x)) q) in
-      p ∙ k ∙ rw (add-one i) (sym (ap least (map-append F l (v ∷ [])) ∙ least-later (map F l) (F v)))
+  unfolding known-found
+  known-found-next = least-next (fetch-fault z w c s) (known-at (of-client z w c) (used-in u))
 
   pub known-found-all : (i n : ℕ) (f : code-fault.Fault) → InUse u → i ≤ n → n ≤ i → n ≡ count (of-client z w c) Reads + getD u 0 0 → as-fault f ≡ known-found i
       → f .reason ≡ items-found z w c s (used-in u)
-  unfolding known-found items-found deciding fetch-fault
+  unfolding known-found least-upto items-found deciding fetch-fault
   known-found-all i n f used a b e h =
       let q : i ≡ N = omega (arith, whole-count n used e) in
       let R : Item → ℕ = λ v. finding-reason (checked (item-object v) (v .inner-read) (v .mark) c Fetch (of-server z w s)) in

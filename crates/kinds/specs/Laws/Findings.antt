@@ -3,7 +3,7 @@ use mathlib.Core.Path.{_≡_, refl, sym, ap, _∙_}
 use mathlib.Core.Bool.{Bool, true, false, cond}
 use mathlib.Core.List.{List, [], _∷_, _++_, map}
 use mathlib.Core.Option.{Option, none, some}
-use Prim.Native.Nat.{ℕ, suc, _+_, _-_, _*_, _≤_, _<_}
+use Prim.Native.Nat.{ℕ, _+_, _-_, _*_, _≤_, _<_}
 use native.Mathlib.Omega.{arith}
 use native.Mathlib.Numerals.{add-one}
 use borrow.Author.Tests.{eq-eqb, ne-eqb, le-leb, lt-leb, leb-true, leb-false, eqb-true}
@@ -148,37 +148,44 @@ reason-again x y = go (eqb y 0) refl
     go true e = sym (eqb-true y 0 e)
     go false e = refl
 
-module _ (z : Sizes) (w : List ℕ) (c s low : ℕ) where
+-- the fault of the least of the first n items, worked out item by item
+module _ (fault-of : Item → ℕ) (at : ℕ → Item) where
   abbrev finding : Item → ℕ × ℕ
-  finding i = (i .number, prepare-fault z w c s low i)
+  finding i = (i .number, fault-of i)
 
+  unfoldable pub least-upto : ℕ → Option (ℕ × ℕ)
+  least-upto n = least (map finding (each n at))
+
+  pub least-first : fault 0 0 ≡ least-upto 0
+  unfolding least-upto each least
+  least-first = refl
+
+  pub least-next : (i y : ℕ) (t : code.Item) (f g : Fault) → as-fault f ≡ least-upto i → as-item t ≡ at i → y ≡ fault-of (as-item t)
+      → as-fault g ≡ later (as-fault f) (t .number) y → as-fault g ≡ least-upto (i + 1)
+  unfolding least-upto each
+  least-next i y t f g h q e p =
+      let l = each i at in
+      let k : later (as-fault f) (t .number) y ≡ later (least (map finding l)) (at i .number) (fault-of (at i)) =
+      rw (e, h) (ap (λ (v : Item). later (least (map finding l)) (v .number) (fault-of v)) q) in
+      p ∙ k ∙ rw (add-one i) (sym (ap least (map-append finding l (at i ∷ [])) ∙ least-later (map finding l) (finding (at i))))
+
+module _ (z : Sizes) (w : List ℕ) (c s low : ℕ) where
   -- of the first n objects read
   unfoldable pub found-upto : ℕ → Option (ℕ × ℕ)
-  found-upto n = least (map finding (each n (read-item (of-client z w c))))
+  found-upto n = least-upto (prepare-fault z w c s low) (read-item (of-client z w c)) n
 
   pub found-first : fault 0 0 ≡ found-upto 0
-  unfolding found-upto each least
-  found-first = refl
-
-  found-more : (i : ℕ) → found-upto (suc i) ≡ later (found-upto i) (read-item (of-client z w c) i .number) (prepare-fault z w c s low (read-item (of-client z w c) i))
-  unfolding found-upto each
-  found-more i =
-      let l = each i (read-item (of-client z w c)) in
-      let u = read-item (of-client z w c) i in
-      ap least (map-append finding l (u ∷ [])) ∙ least-later (map finding l) (finding u)
+  unfolding found-upto
+  found-first = least-first (prepare-fault z w c s low) (read-item (of-client z w c))
 
   pub found-next : (i y : ℕ) (t : code.Item) (f g : Fault) → as-fault f ≡ found-upto i → as-item t ≡ read-item (of-client z w c) i
       → y ≡ prepare-fault z w c s low (as-item t) → as-fault g ≡ later (as-fault f) (t .number) y → as-fault g ≡ found-upto (i + 1)
-  found-next i y t f g h q e p =
-      let u = read-item (of-client z w c) i in
-      let k : later (as-fault f) (t .number) y ≡ later (found-upto i) (u .number) (prepare-fault z w c s low u) =
-      rw (e, h) (ap (λ (v : Item). later (found-upto i) (v .number) (prepare-fault z w c s low v)) q) in
-      let m : found-upto (i + 1) ≡ later (found-upto i) (u .number) (prepare-fault z w c s low u) = rw (add-one i) (found-more i) in
-      p ∙ k ∙ sym m
+  unfolding found-upto
+  found-next = least-next (prepare-fault z w c s low) (read-item (of-client z w c))
 
   pub found-all : (i n : ℕ) (f : Fault) → i ≤ n → n ≤ i → n ≡ count (of-client z w c) Reads → low ≡ lowest-participant z (stored-in z w) c → as-fault f ≡ found-upto i
       → f .reason ≡ prepare-found z w c s
-  unfolding found-upto prepare-found deciding read-items read-item prepare-fault prepare-reason
+  unfolding found-upto least-upto prepare-found deciding read-items read-item prepare-fault prepare-reason
   found-all i n f a b en el h =
       let q : i ≡ count (of-client z w c) Reads = omega arith in
       sym (reason-again (f .number) (f .reason)) ∙ ap reason-of h ∙ rw (q, el)
