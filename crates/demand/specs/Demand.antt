@@ -12,10 +12,11 @@ use Rattle.operations.specs.Reading.{pairs-below}
 use Rattle.server.specs.declared.place.Place.the-variants.{Root}
 use Rattle.client.specs.Record.{value-of}
 use Rattle.steps.specs.declared.sizes.Sizes.{Sizes}
+use Rattle.steps.specs.declared.step.Step.{Step}
 use Rattle.steps.specs.Whole.{Address, server, Allowed}
 use Rattle.steps.specs.Steps.{node-at}
 use Rattle.steps.specs.Run.{opened}
-use Rattle.steps.specs.Taken.{Taken, Leads}
+use Rattle.steps.specs.Taken.{Taken, steps-of, Leads}
 use Rattle.demand.specs.Ledger.{decided-in, map-all, Right-all}
 
 -- ---- the tree
@@ -34,23 +35,23 @@ pub record Tree (z : Sizes) (m : Address → ℕ) (pairs : Map) : Type 0 where
   pub named : (s : ℕ) → s < z .servers → m (server s Root) ≡ root
   pub holds : pairs-under m root ≡ pairs
 
--- ---- "The tree is read from the memory as all applies still due would leave it": as steps have left it, of which these are the last
+-- ---- "The tree is read from the memory as all applies still due would leave it": as steps have left it, of which these were the last
 -- P holds of some element
 unfoldable pub Some : {A : Type 0} → (A → Type 0) → List A → Type 0
 Some P [] = ⊥
 Some P (a ∷ l) = P a ⊎ Some P l
 
 -- applies (kind 5) of every client at every server, in any order; one that isn't due is refused, and does nothing
-pub record Applies (z : Sizes) (ts : List Taken) : Type 0 where
-  pub only : Every (λ (t : Taken). t .step .kind ≡ 5) ts
-  pub each : (c s : ℕ) → c < z .clients → s < z .servers → Some (λ (t : Taken). (t .step .client ≡ c) × (t .step .server ≡ s)) ts
+pub record Applies (z : Sizes) (ks : List Step) : Type 0 where
+  pub only : Every (λ (k : Step). k .kind ≡ 5) ks
+  pub each : (c s : ℕ) → c < z .clients → s < z .servers → Some (λ (k : Step). (k .client ≡ c) × (k .server ≡ s)) ks
 
--- what is claimed of steps that were taken, and of where they led
+-- DEMAND 3 of the steps h and the memory m
 pub record Demand (z : Sizes) (h : List Taken) (m : Address → ℕ) : Type 0 where
   -- the decided transactions, run one after another in order of decision on one sorted map, "give exactly the answers"
   pub answers : Right-all (decided-in h)
   -- and the tree holds that map: aborted and undecided transactions have changed none of it
-  pub tree : (before ts : List Taken) → h ≡ before ++ ts → Applies z ts → Tree z m (map-all (decided-in before))
+  pub tree : (before ts : List Taken) → h ≡ before ++ ts → Applies z (steps-of ts) → Tree z m (map-all (decided-in before))
 
 -- the claim: for all allowed sizes and all steps that can be taken from a newly opened store, refused ones included
 abbrev pub Demand-3 : Type 0

@@ -1,14 +1,12 @@
 -- What programs in C and Rust pass and get: sizes, steps, lengths and outcomes as numbers.
 use mathlib.Core.List.{List, [], _∷_}
 use Prim.Native.Nat.{ℕ}
-use lib.ListN.{getD}
 use Rattle.steps.specs.declared.sizes.Sizes.{Sizes}
 use Rattle.steps.specs.declared.step.Step.{Step}
-use Rattle.steps.specs.declared.outcome.Outcome.{Outcome}
-use Rattle.steps.specs.declared.outcome.Outcome.the-variants.{Refused, Done, Fetched, Answered, Prepared, Decided, Applied, Committed, Aborted}
-use Rattle.steps.specs.Taken.{Taken, came-to}
+use Rattle.steps.specs.declared.outcome.Outcome.the-variants.{Refused}
+use Rattle.steps.specs.Taken.{Taken, came-to, outcome-from}
 use Rattle.kinds.specs.declared.whole.Length.{Length}
-use Rattle.kinds.specs.declared.whole.Length.the-variants.{Bytes, Refused as None}
+use Rattle.kinds.specs.declared.whole.Length.the-variants.{Bytes}
 
 -- the three sizes as a program passes them
 abbrev pub sizes-of : ℕ → ℕ → ℕ → Sizes
@@ -21,11 +19,7 @@ step-of kind client op key value server = record { kind = kind; client = client;
 -- a length in bytes, or 0
 unfoldable pub bytes-of : Length → ℕ
 bytes-of (Bytes n) = n
-bytes-of (None _) = 0
-
--- "Outcomes: 0 refused (a number); 1 done; 2 fetched .. 8 aborted (a reason)": the outcome that three numbers stand for; none is above 8
-unfoldable pub outcome-from : ℕ → ℕ → ℕ → Outcome
-outcome-from n a b = getD (Refused a ∷ Done ∷ Fetched a b ∷ Answered a b ∷ Prepared a ∷ Decided ∷ Applied a ∷ Committed ∷ Aborted a ∷ []) n Done
+bytes-of (Refused _) = 0
 
 -- one step that was taken, with the three numbers of its outcome
 abbrev pub one-taken : Step → ℕ → ℕ → ℕ → List Taken

@@ -5,12 +5,12 @@ use mathlib.Core.Bool.{cond}
 use mathlib.Core.List.{List, [], _∷_}
 use Prim.Native.Nat.{ℕ, suc, _+_, _*_, _/_}
 use lib.Dec.{ltb}
-use lib.ListN.{length, set}
+use lib.ListN.{length, set, getD}
 use Rattle.memory.specs.Word.{view}
 use Rattle.steps.specs.declared.step.Step.{Step}
 use Rattle.steps.specs.declared.outcome.Line.{Line}
 use Rattle.steps.specs.Outcome.{line}
-use Rattle.steps.specs.Taken.{Taken, came-to}
+use Rattle.steps.specs.Taken.{Taken, came-to, outcome-from}
 use Rattle.engine.specs.Step.{outcome-of, words-after}
 use Rattle.engine.specs.Reached.{Goes-on}
 
@@ -33,6 +33,11 @@ written-down out i l = cond (ltb i (length out / 3)) (set (set (set out (3 * i) 
 unfoldable pub lines : List ℕ → ℕ → List Taken → List ℕ
 lines out i [] = out
 lines out i (t ∷ ts) = lines (written-down out i (line (t .outcome))) (suc i) ts
+
+-- the steps with the outcomes that stand in the output, from step i on
+unfoldable pub taken-in : List ℕ → ℕ → List Step → List Taken
+taken-in out i [] = []
+taken-in out i (k ∷ ks) = came-to k (outcome-from (getD out (3 * i) 0) (getD out (3 * i + 1) 0) (getD out (3 * i + 2) 0)) ∷ taken-in out (suc i) ks
 
 -- What a list of steps ks leaves of memory with the bytes b and of the output `out`. Whatever steps had reached b, these go on from there.
 pub record All-taken (b out : List ℕ) (ks : List Step) (b′ out′ : List ℕ) : Type 0 where

@@ -2,10 +2,12 @@
 use mathlib.Core.Path.{_≡_}
 use mathlib.Core.List.{List, [], _∷_}
 use Prim.Native.Nat.{ℕ, _<_}
+use lib.ListN.{getD}
 use Rattle.operations.specs.Map.{two-to-64}
 use Rattle.steps.specs.declared.sizes.Sizes.{Sizes}
 use Rattle.steps.specs.declared.step.Step.{Step}
 use Rattle.steps.specs.declared.outcome.Outcome.{Outcome}
+use Rattle.steps.specs.declared.outcome.Outcome.the-variants.{Refused, Done, Fetched, Answered, Prepared, Decided, Applied, Committed, Aborted}
 use Rattle.steps.specs.Whole.{Address}
 use Rattle.steps.specs.Steps.{step}
 use Rattle.steps.specs.Run.{after}
@@ -28,9 +30,18 @@ pub record Taken : Type 0 where
   pub step : Step
   pub outcome : Outcome
 
+-- the steps alone
+abbrev pub steps-of : List Taken → List Step
+steps-of [] = []
+steps-of (t ∷ h) = t .step ∷ steps-of h
+
 -- the step k came to the outcome o
 abbrev pub came-to : Step → Outcome → Taken
 came-to k o = record { step = k; outcome = o }
+
+-- "Outcomes: 0 refused (a number); 1 done; 2 fetched .. 8 aborted (a reason)": the outcome that three numbers stand for; none is above 8
+unfoldable pub outcome-from : ℕ → ℕ → ℕ → Outcome
+outcome-from n a b = getD (Refused a ∷ Done ∷ Fetched a b ∷ Answered a b ∷ Prepared a ∷ Decided ∷ Applied a ∷ Committed ∷ Aborted a ∷ []) n Done
 
 -- "run front to back": by the rules the steps of h come to these outcomes, and lead from the memory m to the memory m′
 unfoldable pub Leads : Sizes → (Address → ℕ) → List Taken → (Address → ℕ) → Type 0

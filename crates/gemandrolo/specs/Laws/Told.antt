@@ -7,28 +7,15 @@ use Rattle.memory.specs.Word.{view}
 use Rattle.steps.specs.declared.sizes.Sizes.{Sizes}
 use Rattle.steps.specs.declared.step.Step.{Step}
 use Rattle.steps.specs.declared.outcome.Outcome.{Outcome}
-use Rattle.steps.specs.declared.outcome.Outcome.the-variants.{Refused, Done, Fetched, Answered, Prepared, Decided, Applied, Committed, Aborted}
 use Rattle.steps.specs.Outcome.{line}
 use Rattle.steps.specs.Refusal.{open-refusal}
-use Rattle.steps.specs.Taken.{came-to}
+use Rattle.steps.specs.Taken.{came-to, outcome-from}
+use Rattle.steps.specs.Laws.Taken.{same-outcome}
 use Rattle.engine.specs.Open.{words-opened}
 use Rattle.engine.specs.Step.{outcome-of, words-after}
 use Rattle.engine.specs.Reached.{Reached, Goes-on}
 use Rattle.engine.specs.Laws.Reached.{new-reached}
-use Rattle.gemandrolo.specs.Numbers.{outcome-from, one-taken}
-
--- the numbers of an outcome stand for it
-same-outcome : (o : Outcome) → outcome-from (line o .outcome) (line o .a) (line o .b) ≡ o
-unfolding outcome-from line
-same-outcome (Refused n) = refl
-same-outcome Done = refl
-same-outcome (Fetched a b) = refl
-same-outcome (Answered a b) = refl
-same-outcome (Prepared s) = refl
-same-outcome Decided = refl
-same-outcome (Applied s) = refl
-same-outcome Committed = refl
-same-outcome (Aborted y) = refl
+use Rattle.gemandrolo.specs.Numbers.{one-taken}
 
 module _ (b b′ : List ℕ) where
   pub opens : (z : Sizes) (r : ℕ) → length b′ ≡ length b → r ≡ open-refusal (length b) z → view b′ ≡ words-opened (length b) z (view b)

@@ -19,7 +19,7 @@ use Rattle.steps.specs.Refusal.{state-fits}
 use Rattle.steps.specs.Laws.Stores.{client-of}
 use Rattle.steps.specs.Steps.{Did, all-applied, step}
 use Rattle.steps.specs.Run.{opened, after}
-use Rattle.steps.specs.Taken.{Words, Taken, Leads}
+use Rattle.steps.specs.Taken.{Words, Taken, steps-of, Leads}
 use Rattle.steps.specs.Laws.Taken.{parted}
 use Rattle.demand.specs.Ledger.{Ledger, blank, note, ledger-from, decided-in, map-all}
 use Rattle.demand.specs.Demand as D
@@ -66,7 +66,7 @@ module _ (k j slots : ℕ) (al : Allowed (sizes k j slots)) (few : suc j ≤ 16)
     from-new h m p = led h (opened (store k j slots)) m blank p (record { explained = Th.opened-explained k j slots al few; sound = first-sound k j slots some-slot })
 
     -- where all applies were taken after the steps `before`
-    settled : (before ts : List Taken) (m : Address → ℕ) → New (before ++ ts) m → D.Applies (store k j slots) ts → D.Tree (store k j slots) m (map-all (decided-in before))
+    settled : (before ts : List Taken) (m : Address → ℕ) → New (before ++ ts) m → D.Applies (store k j slots) (steps-of ts) → D.Tree (store k j slots) m (map-all (decided-in before))
     settled before ts m p applies =
         let q = parted (store k j slots) before ts (opened (store k j slots)) m p in
         let L = ledger-from blank before in

@@ -1,4 +1,4 @@
--- Where steps lead: one list after another, and the fields of machine words.
+-- Where steps lead: one list after another; the fields of machine words; and an outcome's numbers stand for it.
 use mathlib.Core.Path.{_≡_, refl, sym, subst}
 use mathlib.Core.List.{List, [], _∷_, _++_}
 use Prim.Native.Nat.{ℕ, _^_, _<_}
@@ -6,9 +6,12 @@ use Rattle.operations.specs.Map.{two-to-64}
 use Rattle.operations.specs.Laws.Map.{H-is}
 use Rattle.steps.specs.declared.sizes.Sizes.{Sizes}
 use Rattle.steps.specs.declared.step.Step.{Step}
+use Rattle.steps.specs.declared.outcome.Outcome.{Outcome}
+use Rattle.steps.specs.declared.outcome.Outcome.the-variants.{Refused, Done, Fetched, Answered, Prepared, Decided, Applied, Committed, Aborted}
+use Rattle.steps.specs.Outcome.{line}
 use Rattle.steps.specs.Whole.{Address}
 use Rattle.steps.specs.Run.{after}
-use Rattle.steps.specs.Taken.{Word, Words, Taken, Leads}
+use Rattle.steps.specs.Taken.{Word, Words, Taken, outcome-from, Leads}
 
 -- a machine's word
 pub word-below : (n : ℕ) → n < 2 ^ 64 → Word n
@@ -24,6 +27,18 @@ fields-are-words k a b c d e f = record {
   value = word-below (k .value) e;
   server = word-below (k .server) f;
 }
+
+pub same-outcome : (o : Outcome) → outcome-from (line o .outcome) (line o .a) (line o .b) ≡ o
+unfolding outcome-from line
+same-outcome (Refused n) = refl
+same-outcome Done = refl
+same-outcome (Fetched a b) = refl
+same-outcome (Answered a b) = refl
+same-outcome (Prepared s) = refl
+same-outcome Decided = refl
+same-outcome (Applied s) = refl
+same-outcome Committed = refl
+same-outcome (Aborted y) = refl
 
 module _ (z : Sizes) where
   pub leads-on : (h ts : List Taken) (m m′ m″ : Address → ℕ) → Leads z m h m′ → Leads z m′ ts m″ → Leads z m (h ++ ts) m″

@@ -57,8 +57,9 @@ use Rattle.steps.specs.Outcome.{line}
 use Rattle.engine.specs.Step.{outcome-of, words-after}
 use Rattle.steps.specs.Taken.{Words}
 use Rattle.steps.specs.Laws.Taken.{word-below}
-use Rattle.schedule.specs.Laws.Listed.{no-step, all-words, words-next, run-goes-on}
+use Rattle.schedule.specs.Laws.Listed.{no-step, all-words, words-next}
 use Rattle.schedule.specs.Listed.{words-run, taken-run, written-down, lines, All-taken}
+use Rattle.schedule.specs.Laws.Reached.{run-goes-on}
 use Rattle.steps.proofs.step.Step as T
 use Rattle.steps.proofs.step.Step.Laws as T′
 use Rattle.schedule.proofs.Again.{LentAgain, lends-again, comes-back}
