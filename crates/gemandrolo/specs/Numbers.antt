@@ -3,10 +3,9 @@ use mathlib.Core.List.{List, [], _∷_}
 use Prim.Native.Nat.{ℕ}
 use Rattle.steps.specs.declared.sizes.Sizes.{Sizes}
 use Rattle.steps.specs.declared.step.Step.{Step}
-use Rattle.steps.specs.declared.outcome.Outcome.the-variants.{Refused}
 use Rattle.steps.specs.Taken.{Taken, came-to, outcome-from}
 use Rattle.kinds.specs.declared.whole.Length.{Length}
-use Rattle.kinds.specs.declared.whole.Length.the-variants.{Bytes}
+use Rattle.kinds.specs.declared.whole.Length.the-variants.{Bytes, Refused}
 
 -- the three sizes as a program passes them
 abbrev pub sizes-of : ℕ → ℕ → ℕ → Sizes
