@@ -20,7 +20,7 @@ new-at m x i = cond (has m set.Writes (own-number x i)) 0 1
 unfoldable pub stays-below : (ClientWord → ℕ) → List ℕ → ℕ → Bool
 stays-below m x i = not (at-last-version m (own-number x i))
 
--- "reason 3, then 4, then 8", 0 if there is none
+-- reason 3, then 4, then 8; 0 if there is none
 unfoldable pub last-reason : (ClientWord → ℕ) → List Entry → ℕ
 last-reason m l =
     cond (not (entries-fit l)) 3 (cond (ltb 48 (m writes-count + count-new m l)) 4 (cond (any-at-last m l) 8 0))

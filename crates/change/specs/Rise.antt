@@ -94,7 +94,7 @@ pub record Full (l : ℕ) (n : Wide) : Type 0 where
   pub content : Content l n
   pub full : n .count ≡ 15
 
--- "a non-root node of 15 keys"
+-- a node of 15 keys below the root
 unfoldable pub split-plan : TreeSizes → ℕ → Turn → ℕ → (ℕ → Entries) → ℕ → List Branch → Writes → Go → TreePlan
 split-plan z l b c es lo fs w go = let f = in-parent b lo in split z go l w f c (es (f .key))
 

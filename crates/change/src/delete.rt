@@ -1,4 +1,4 @@
-// Delete: the key goes from the leaf for it; "a key that is not there changes nothing".
+// Delete: the key goes from the leaf for it; one that is not there changes nothing.
 use crate::rise::widen;
 use crate::up::carry_up;
 use nodes::change::Wide;

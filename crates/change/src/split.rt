@@ -1,4 +1,4 @@
-// A node of 15 keys splits: "The left half keeps the name; a split root keeps its name as parent and both halves get new ones."
+// A node of 15 keys splits: "The left half keeps the name; but a split root keeps its name as parent and both halves get new ones."
 use crate::rise::Risen;
 use crate::rise::write_halves;
 use nodes::change::Wide;

@@ -48,7 +48,7 @@ pub record Applies (z : Sizes) (ks : List Step) : Type 0 where
 
 -- DEMAND 3 of the steps h and the memory m
 pub record Demand (z : Sizes) (h : List Taken) (m : Address → ℕ) : Type 0 where
-  -- the decided transactions, run one after another in order of decision on one sorted map, "give exactly the answers"
+  -- the decided transactions, run one after another in order of decision on one sorted map, give the answers that the tablets got
   pub answers : Right-all (decided-in h)
   -- and the tree holds that map: aborted and undecided transactions have changed none of it
   pub tree : (before ts : List Taken) → h ≡ before ++ ts → Applies z (steps-of ts) → Tree z m (map-all (decided-in before))

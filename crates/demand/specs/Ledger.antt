@@ -77,7 +77,7 @@ ledger-from L (t ∷ h) = ledger-from (note L (t .step) (t .outcome)) h
 abbrev pub decided-in : List Taken → List (List Told)
 decided-in h = ledger-from blank h .decided
 
--- "run one after another in order of decision on one sorted map": the map after a transaction
+-- "The map is pairs by rising key." The map after a transaction
 abbrev pub map-of : List Told → Map → Map
 map-of [] m = m
 map-of (t ∷ ts) m = map-after (t .op) (map-of ts m)
@@ -87,7 +87,7 @@ abbrev pub map-all : List (List Told) → Map
 map-all [] = []
 map-all (ts ∷ l) = map-of ts (map-all l)
 
--- "give exactly the answers the tablets got"; migrate's "answer isn't compared"
+-- each answer is the map's; migrate's "answer isn't compared"
 abbrev pub Right : List Told → Map → Type 0
 Right [] m = Unit {0}
 Right (t ∷ ts) m = Right ts m × (compared (t .op) ≡ true → t .ans ≡ answer (t .op) (map-of ts m))

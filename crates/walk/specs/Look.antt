@@ -10,7 +10,7 @@ use Rattle.client.specs.Layout.{ClientWord}
 use Rattle.client.specs.Work.{answers, worked}
 use Rattle.walk.specs.Stopped.{Stopped}
 
--- "2 lookup, 4 next key above, 5 previous key below"
+-- "2 lookup", "4 next key above, 5 previous key below"
 abbrev pub only-reads : ℕ → Bool
 only-reads zero = false
 only-reads (suc zero) = false
