@@ -38,7 +38,7 @@ rest-of r (p ∷ ps) =
 
 -- nothing makes a bad line good
 spoilt : (bs : List ℕ) (r : Reader) → r .good ≡ false → finish (after r bs) ≡ Bad
-unfolding finish after next spoiled ended with-digit
+unfolding finish after next ended with-digit
 spoilt [] r g = rw g
 spoilt (b ∷ bs) r g = spoilt bs (next r b) (kept (eqb b 32) (digit? b) (ltb (10 * r .value + (b - 48)) (2 ^ 64)) (r .begun && ltb (r .count) 5))
   where
@@ -145,7 +145,7 @@ module _ (r : Reader) (f : Fine r) (b : ℕ) (ps : List (List ℕ)) (s : First p
   Leads x qs = ((x .good ≡ false) × (rest-of r qs ≡ Bad)) ⊎ (Fine x × (rest-of r qs ≡ rest-of x ps))
 
   by-space : Leads (ended r) ([] ∷ ps)
-  unfolding ended rest-of value-from digits? spoiled number? numbers?
+  unfolding ended rest-of value-from digits? number? numbers?
   by-space = go (r .begun) refl (bool-cases (ltb (r .count) 5))
     where
       go : (t : Bool) → r .begun ≡ t → (ltb (r .count) 5 ≡ true) ⊎ (ltb (r .count) 5 ≡ false) → Leads (ended r) ([] ∷ ps)
@@ -168,7 +168,7 @@ module _ (r : Reader) (f : Fine r) (b : ℕ) (ps : List (List ℕ)) (s : First p
               (omega (arith, length-take-le (r .count) (r .numbers) (omega arith), ltb-false (r .count) 5 h))
 
   by-digit : digit? b ≡ true → Leads (with-digit r (b - 48)) (onto-first b ps)
-  unfolding with-digit rest-of value-from digits? spoiled
+  unfolding with-digit rest-of value-from digits?
   by-digit d = go (bool-cases (ltb (10 * r .value + (b - 48)) (2 ^ 64)))
     where
       go : (ltb (10 * r .value + (b - 48)) (2 ^ 64) ≡ true) ⊎ (ltb (10 * r .value + (b - 48)) (2 ^ 64) ≡ false) → Leads (with-digit r (b - 48)) (onto-first b ps)
@@ -188,7 +188,7 @@ module _ (r : Reader) (f : Fine r) (b : ℕ) (ps : List (List ℕ)) (s : First p
           large = omega (arith, value-rises (10 * r .value + (b - 48)) (s .first), ltb-false (10 * r .value + (b - 48)) (2 ^ 64) h)
 
   by-other : digit? b ≡ false → Leads (spoiled r) (onto-first b ps)
-  unfolding rest-of digits? spoiled
+  unfolding rest-of digits?
   by-other d = inl (refl, rw (s .split, d, and-false (r .begun || true)))
 
 -- after all bytes that follow, the reader says what they make of the line
@@ -215,7 +215,7 @@ goes-on (b ∷ bs) r f = go (goes-on bs) (bool-cases (eqb b 32)) (bool-cases (di
 
 -- the reader, after the bytes of a line, says what the line says
 pub reads : (bs : List ℕ) → finish (after start bs) ≡ line-of bs
-unfolding start line-of rest-of numbers? number?
+unfolding line-of rest-of numbers? number?
 reads bs =
     let s : First (pieces bs) = first-piece bs in
     goes-on bs start (record { good = refl; five = refl; within = omega arith; small = omega arith }) ∙ rw (s .split)
