@@ -1,50 +1,118 @@
--- "10. Something stored that this step's rule reads has a field out of range, or points to something that isn't there": the
--- client's own state, read by every step of the client. Copies are judged where they are used.
-use mathlib.Core.Bool.{Bool, true, cond, _&&_}
-use mathlib.Core.List.{List, [], _∷_}
+-- "10. Something stored that this step's rule reads has a field out of range, or points to something that isn't there": what each rule reads of
+-- its client's own part, and in which form. Begin and give read the phase and the waiting operation, which refusal 9 has judged; a loss that
+-- aborts nothing reads the phase. Copies, and what an operation asks for, are judged where they are used (`Have`); what is checked or locked at
+-- servers in the order of checking (`steps`, `Judge`).
+use mathlib.Core.Bool.{Bool, true, cond, _&&_, _||_, not}
 use Prim.Native.Nat.{ℕ, _-_, _^_}
 use lib.Dec.{eqb, leb, ltb}
-use lib.ListN.{getD}
+use Rattle.nodes.specs.Name.{server-of}
 use Rattle.operations.specs.Slot.{TreeSizes}
 use Rattle.client.specs.declared.part.Set.{Set}
 use Rattle.client.specs.declared.part.Set.the-variants.{Reads, Writes, Copies}
-use Rattle.client.specs.Layout.{ClientWord, field, vector-word, op-number, op-key, op-server}
-use Rattle.client.specs.Record.{in-store, number-in-store, record-in-range}
+use Rattle.client.specs.Layout.{ClientWord, vector-word, op-number, op-key, op-server, participants, prepared, applied, lost, reads-count, writes-count, limit}
+use Rattle.client.specs.Record.{in-store, number-in-store, whole-in-range, kind-in-range, last-version}
 use Rattle.client.specs.Sets.{count, number-at, record-at, find}
-use Rattle.client.specs.Commit.{is-at}
-use Rattle.client.specs.Items.{all-below}
-
--- the greatest value of each field: phase; operation's number, key, value, server; four sets of servers; lost; counts; metadata copied
-abbrev pub bounds : ℕ → List ℕ
-bounds every =
-    3 ∷ 6 ∷ 18446744073709551615 ∷ 18446744073709551615 ∷ 18446744073709551615 ∷ every ∷ every ∷ every ∷ every ∷ 1 ∷ 96 ∷ 48 ∷ 1 ∷ []
+use Rattle.client.specs.Items.{all-below, has, inner, inner-before-after}
+use Rattle.client.specs.Participants.{at-home}
+use Rattle.client.specs.Drops.{version-of}
 
 module _ (m : ClientWord → ℕ) where
-  -- every: the set of all servers
-  unfoldable pub field-fits : ℕ → ℕ → Bool
-  field-fits every i = leb (m (field i)) (getD (bounds every) i 0)
+  -- how many items a set says that it has
+  abbrev pub said-count : Set → ℕ
+  said-count Reads = m reads-count
+  said-count Writes = m writes-count
+  said-count Copies = 64
 
-  -- "a written object's read"; asked of read and written items only
-  unfoldable pub has-read : Set → ℕ → Bool
-  has-read Reads x = true
-  has-read Writes x = is-at (find m Reads x)
-  has-read Copies x = true
+  -- is the kind of item i of a set in range
+  unfoldable pub kind-fits : Set → ℕ → Bool
+  kind-fits s i = kind-in-range (number-at m s i) (record-at m s i)
 
-  -- the word that says whether the vector of server s is copied is 0 or 1
-  unfoldable pub vector-fits : ℕ → Bool
-  vector-fits s = leb (m (vector-word s 0)) 1
+  -- "a written object's read" is there: that of write item i
+  unfoldable pub is-read : ℕ → Bool
+  is-read i = has m Reads (number-at m Writes i)
+
+  -- the version read of an object has a next one; of flags none is kept
+  unfoldable pub young : ℕ → Bool
+  young x = ltb 8192 x || ltb (version-of m (find m Reads x)) last-version
+
+  -- does a server store something of the object: "at home and, for a node inner before or after, in every table"
+  abbrev pub stored-at : ℕ → ℕ → Bool
+  stored-at s x = at-home s x || inner-before-after m x
+
+  -- the read of write item i is there, if it is metadata or a node: their version is the one read plus 1
+  unfoldable pub read-fits : ℕ → Bool
+  read-fits i = ltb 8192 (number-at m Writes i) || is-read i
+
+  -- the version read of write item i, if server s stores it
+  unfoldable pub version-fits : ℕ → ℕ → Bool
+  version-fits s i = not (stored-at s (number-at m Writes i)) || young (number-at m Writes i)
+
+  -- a set of servers has servers of the store only, which has n
+  unfoldable pub servers-fit : ℕ → ClientWord → Bool
+  servers-fit n a = leb (m a) (2 ^ n - 1)
 
 module _ (z : TreeSizes) (m : ClientWord → ℕ) where
-  -- a migrate's node and server are in the store
+  -- a set has no more items than it may, and their objects are objects of the store
+  unfoldable pub numbers-fit : Set → Bool
+  numbers-fit s = leb (said-count m s) (limit s) && all-below (count m s) (λ i. number-in-store z (number-at m s i))
+
+  -- the operation that waits is one of six; a migrate's node and server are in the store
   unfoldable pub op-fits : Bool
-  op-fits = cond (eqb (m op-number) 6) (in-store z (m op-key) && ltb (m op-server) (z .servers)) true
+  op-fits = leb (m op-number) 6 && cond (eqb (m op-number) 6) (in-store z (m op-key) && ltb (m op-server) (z .servers)) true
 
-  -- item i of a set: its object is one of the store, its record in range, and what is written was read
-  unfoldable pub item-fits : Set → ℕ → Bool
-  item-fits s i = number-in-store z (number-at m s i) && (record-in-range z (number-at m s i) (record-at m s i) && has-read m s (number-at m s i))
+  -- WORK: the operation, and which objects are read and written
+  unfoldable pub fit-to-work : Bool
+  fit-to-work = op-fits && (numbers-fit Reads && numbers-fit Writes)
 
-  -- the client's own state is in range: fields, the waiting operation, read set, write set, marks of the vectors' copies
-  unfoldable pub client-fits : Bool
-  client-fits =
-      all-below 13 (field-fits m (2 ^ z .servers - 1))
-      && (op-fits && (all-below (count m Reads) (item-fits Reads) && (all-below (count m Writes) (item-fits Writes) && all-below 8 (vector-fits m))))
+  -- COMMIT: which objects are read and written, their kinds, and the reads of what is written: they say who takes part
+  unfoldable pub fit-to-commit : Bool
+  fit-to-commit =
+      (numbers-fit Reads && numbers-fit Writes)
+      && (all-below (count m Reads) (kind-fits m Reads) && (all-below (count m Writes) (kind-fits m Writes) && all-below (count m Writes) (is-read m)))
+
+  -- PREPARE: who takes part and who has prepared, which objects are read and written
+  unfoldable pub fit-to-prepare : Bool
+  fit-to-prepare = (servers-fit m (z .servers) participants && servers-fit m (z .servers) prepared) && (numbers-fit Reads && numbers-fit Writes)
+
+  -- ABORT: who has prepared, and which objects are read
+  unfoldable pub fit-to-abort : Bool
+  fit-to-abort = servers-fit m (z .servers) prepared && numbers-fit Reads
+
+  -- and where a server has prepared, what says what is locked there: who takes part, and which objects are written
+  unfoldable pub fit-to-unlock : Bool
+  fit-to-unlock = servers-fit m (z .servers) participants && numbers-fit Writes
+
+  -- write item i as server s stores it: the read of a written node; at home its record; wherever it is stored the version read
+  unfoldable pub record-fits : ℕ → ℕ → Bool
+  record-fits s i = not (at-home s (number-at m Writes i)) || whole-in-range z (number-at m Writes i) (record-at m Writes i)
+
+  unfoldable pub write-fits : ℕ → ℕ → Bool
+  write-fits s i = read-fits m i && (record-fits s i && version-fits m s i)
+
+  -- all that server s stores
+  unfoldable pub writes-fit : ℕ → Bool
+  writes-fit s = all-below (count m Writes) (write-fits s)
+
+  -- write item i as copies are renewed by it: a flag and whether there is a copy of its vector; metadata and inner nodes whole
+  unfoldable pub flag-renewal-fits : ℕ → Bool
+  flag-renewal-fits i =
+      let x = number-at m Writes i in
+      let s = server-of (x - 8193) in
+      (ltb s 8 && leb (m (vector-word s 0)) 1) && whole-in-range z x (record-at m Writes i)
+
+  unfoldable pub inner-renewal-fits : ℕ → Bool
+  inner-renewal-fits i =
+      let x = number-at m Writes i in
+      not (inner x (record-at m Writes i)) || (whole-in-range z x (record-at m Writes i) && young m x)
+
+  unfoldable pub renewal-fits : ℕ → Bool
+  renewal-fits i = cond (ltb 8192 (number-at m Writes i)) (flag-renewal-fits i) (inner-renewal-fits i)
+
+  -- the renewal of copies; "a lost client gets none"
+  unfoldable pub fit-to-renew : Bool
+  fit-to-renew = leb (m lost) 1 && (eqb (m lost) 1 || all-below (count m Writes) renewal-fits)
+
+  -- APPLY at server s: who has applied, which objects are read, and the writes that s stores; what it unlocks; with the last one the renewal
+  unfoldable pub fit-to-apply : ℕ → Bool → Bool
+  fit-to-apply s last =
+      (servers-fit m (z .servers) applied && numbers-fit Reads) && (fit-to-unlock && (writes-fit s && (not last || fit-to-renew)))

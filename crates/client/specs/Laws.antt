@@ -19,6 +19,8 @@ pub mod Items
 pub mod Commit
 pub mod Fits
 pub mod Renew
+-- a client's whole part in range
+pub mod Ranges
 -- every step stores within the part
 pub mod GoodSteps
 -- the definitions tried on closed examples

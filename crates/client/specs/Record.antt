@@ -1,6 +1,6 @@
 -- Objects as numbers, and their values as records of a node's form.
-use mathlib.Core.Bool.{Bool, true, cond, _&&_}
-use mathlib.Core.List.{[], _∷_}
+use mathlib.Core.Bool.{Bool, true, cond, _&&_, _||_, not}
+use mathlib.Core.List.{List, [], _∷_}
 use Prim.Native.Nat.{ℕ, _+_, _-_}
 use lib.Dec.{eqb, leb, ltb}
 use lib.ListN.{getD}
@@ -65,7 +65,29 @@ number-in-store z x = by-number x true (in-store z) (in-store z)
 abbrev pub last-version : ℕ
 last-version = 4294967295
 
--- "has a field out of range, or points to something that isn't there": may the record of the object with that number be used
+-- "has a field out of range, or points to something that isn't there": may the record of the object with that number be used. The children of a
+-- node are names that are judged where one is gone to
 unfoldable pub record-in-range : TreeSizes → ℕ → Node → Bool
 record-in-range z x r =
     by-number x (in-store z (first-slot r) && leb (r .version) last-version) (λ n. node-in-range r) (λ n. leb (first-slot r) 1)
+
+-- do all pass a test
+unfoldable pub all : {A : Type 0} → (A → Bool) → List A → Bool
+all f [] = true
+all f (a ∷ l) = f a && all f l
+
+-- an inner node's children are names of the store
+unfoldable pub children-there : TreeSizes → Node → Bool
+children-there z r = not (eqb (r .kind) 2) || all (in-store z) (slotsOf r)
+
+-- a node that is handed out or stored whole: its children are read too
+unfoldable pub node-fits : TreeSizes → Node → Bool
+node-fits z r = node-in-range r && children-there z r
+
+-- the record of any object that is stored whole
+unfoldable pub whole-in-range : TreeSizes → ℕ → Node → Bool
+whole-in-range z x r = by-number x (record-in-range z x r) (λ n. node-fits z r) (λ n. record-in-range z x r)
+
+-- the kind of a node, which says where it is checked and who takes part
+unfoldable pub kind-in-range : ℕ → Node → Bool
+kind-in-range x r = by-number x true (λ n. leb (r .kind) 2) (λ n. true)

@@ -1,78 +1,46 @@
-// Is the client's own state in range? Every step of the client asks it first.
-use crate::commit::is_at;
+// Refusal 10, "Something stored that this step's rule reads has a field out of range": what each rule reads of its client's own part.
+ghost use mathlib.Core.Path.{_≡_};
+ghost use mathlib.Core.Bool.{_&&_};
+ghost use Prim.Native.Nat.{_≤_, _<_};
+ghost use lib.Dec.{leb};
+ghost use Rattle.client.specs.declared.part.Set.the-variants.{Reads, Writes};
+ghost use Rattle.client.specs.Layout.{ClientPart, field, limit};
+ghost use Rattle.client.specs.Record.{sizes, number-in-store};
+ghost use Rattle.client.specs.Sets.{held, count, number-at};
+ghost use Rattle.client.specs.Items.{all-below};
+ghost use Rattle.client.specs.Fits.{said-count, kind-fits, is-read, young, stored-at, read-fits, version-fits, servers-fit, numbers-fit, op-fits, fit-to-work, fit-to-commit, fit-to-prepare, fit-to-abort, fit-to-unlock, record-fits, write-fits, writes-fit, flag-renewal-fits, inner-renewal-fits, renewal-fits, fit-to-renew, fit-to-apply};
+use crate::items::has;
+use crate::items::inner_before_after;
+use crate::items::is_home;
+use crate::items::is_inner;
+use crate::items::version_read;
+use crate::part::APPLIED;
+use crate::part::LOST;
 use crate::part::OP_KEY;
 use crate::part::OP_NUMBER;
 use crate::part::OP_SERVER;
+use crate::part::PARTICIPANTS;
+use crate::part::PREPARED;
+use crate::part::READS_COUNT;
 use crate::part::Set;
+use crate::part::WRITES_COUNT;
 use crate::part::count;
-use crate::part::find;
 use crate::part::get_field;
+use crate::part::item_word;
 use crate::part::number_at;
 use crate::part::record_at;
 use crate::part::vector_word;
-use crate::range::fits;
 use crate::range::in_store;
-ghost use mathlib.Core.Path.{_≡_};
-ghost use Prim.Native.Nat.{_<_, _≤_};
-ghost use Rattle.client.specs.Layout.{limit, ClientPart};
-ghost use Rattle.client.specs.Record.{sizes, number-in-store};
-ghost use Rattle.client.specs.Sets.{held, count};
-ghost use Rattle.client.specs.Items.{all-below};
-ghost use Rattle.client.specs.Fits.{field-fits, op-fits, has-read, item-fits, vector-fits, client-fits};
+use crate::range::whole_fits;
+use nodes::name::Name;
 
-// Field i is within its bound; every is the set of all servers.
-fn field_fits(part: &[u8], every: u64, i: usize) -> bool
-    requires { ⌜ (i < 13) × ClientPart (now part) ⌝ }
-    ensures { λ r. ⌜ r ≡ field-fits (held (now (part .entry))) every i ⌝ }
+// The set of servers in a field has servers of the store only.
+fn servers_fit(part: &[u8], servers: usize, i: usize) -> bool
+    requires { ⌜ (servers ≤ 8) × (i < 15) × ClientPart (now part) ⌝ }
+    ensures { λ r. ⌜ r ≡ servers-fit (held (now (part .entry))) servers (field i) ⌝ }
 {
-    let bounds = [
-        3,
-        6,
-        18446744073709551615,
-        18446744073709551615,
-        18446744073709551615,
-        every,
-        every,
-        every,
-        every,
-        1,
-        96,
-        48,
-        1,
-    ];
-    get_field(part, i) <= bounds[i]
-}
-
-fn fields_fit(part: &[u8], every: u64) -> bool
-    requires { ⌜ ClientPart (now part) ⌝ }
-    ensures { λ r. ⌜ r ≡ all-below 13 (field-fits (held (now (part .entry))) every) ⌝ }
-{
-    let n: usize = 13;
-    let mut i: usize = 0;
-    while i < n {
-        if !field_fits(part, every, i) {
-            return false;
-        }
-        i += 1;
-    }
-    true
-}
-
-// A migrate's node and server are in the store.
-fn op_fits(part: &[u8], servers: usize, slots: usize) -> bool
-    requires { ⌜ ClientPart (now part) ⌝ }
-    ensures { λ r. ⌜ r ≡ op-fits (sizes servers slots) (held (now (part .entry))) ⌝ }
-{
-    let op = get_field(part, OP_NUMBER);
-    let key = get_field(part, OP_KEY);
-    let server = get_field(part, OP_SERVER);
-    if op != 6 {
-        return true;
-    }
-    if !in_store(servers, slots, key) {
-        return false;
-    }
-    (server as usize) < servers
+    let one: u64 = 1;
+    get_field(part, i) <= (one << servers) - 1
 }
 
 // Is the object with that number in the store?
@@ -88,40 +56,30 @@ fn number_in_store(servers: usize, slots: usize, number: u64) -> bool
     in_store(servers, slots, number - 8193)
 }
 
-// A written object has been read.
-fn has_read(part: &[u8], set: Set, number: u64) -> bool
+// A set has no more items than it may.
+fn count_fits(part: &[u8], set: Set) -> bool
     requires { ⌜ ClientPart (now part) ⌝ }
-    ensures { λ r. ⌜ r ≡ has-read (held (now (part .entry))) set number ⌝ }
+    ensures { λ r. ⌜ r ≡ leb (said-count (held (now (part .entry))) set) (limit set) ⌝ }
 {
     match set {
-        Set::Reads => true,
-        Set::Writes => is_at(find(part, Set::Reads, number)),
+        Set::Reads => get_field(part, READS_COUNT) <= 96,
+        Set::Writes => get_field(part, WRITES_COUNT) <= 48,
         Set::Copies => true,
     }
 }
 
-fn item_fits(part: &[u8], servers: usize, slots: usize, set: Set, i: usize) -> bool
-    requires { ⌜ (i < limit set) × ClientPart (now part) ⌝ }
-    ensures { λ r. ⌜ r ≡ item-fits (sizes servers slots) (held (now (part .entry))) set i ⌝ }
-{
-    let number = number_at(part, set, i);
-    if !number_in_store(servers, slots, number) {
-        return false;
-    }
-    if !fits(servers, slots, number, record_at(part, set, i)) {
-        return false;
-    }
-    has_read(part, set, number)
-}
-
-fn items_fit(part: &[u8], servers: usize, slots: usize, set: Set) -> bool
+// And their objects are objects of the store.
+pub fn numbers_fit(part: &[u8], servers: usize, slots: usize, set: Set) -> bool
     requires { ⌜ ClientPart (now part) ⌝ }
-    ensures { λ r. ⌜ r ≡ all-below (count (held (now (part .entry))) set) (item-fits (sizes servers slots) (held (now (part .entry))) set) ⌝ }
+    ensures { λ r. ⌜ r ≡ numbers-fit (sizes servers slots) (held (now (part .entry))) set ⌝ }
 {
+    if !count_fits(part, set) {
+        return false;
+    }
     let n = count(part, set);
     let mut i: usize = 0;
     while i < n {
-        if !item_fits(part, servers, slots, set, i) {
+        if !number_in_store(servers, slots, number_at(part, set, i)) {
             return false;
         }
         i += 1;
@@ -129,45 +87,334 @@ fn items_fit(part: &[u8], servers: usize, slots: usize, set: Set) -> bool
     true
 }
 
-fn vector_fits(part: &[u8], s: usize) -> bool
-    requires { ⌜ (s < 8) × ClientPart (now part) ⌝ }
-    ensures { λ r. ⌜ r ≡ vector-fits (held (now (part .entry))) s ⌝ }
+// Both the read set and the write set.
+fn sets_fit(part: &[u8], servers: usize, slots: usize) -> bool
+    requires { ⌜ ClientPart (now part) ⌝ }
+    ensures { λ r. ⌜ r ≡ (numbers-fit (sizes servers slots) (held (now (part .entry))) Reads
+        && numbers-fit (sizes servers slots) (held (now (part .entry))) Writes) ⌝ }
 {
-    vector_word(part, s, 0) <= 1
+    if !numbers_fit(part, servers, slots, Set::Reads) {
+        return false;
+    }
+    numbers_fit(part, servers, slots, Set::Writes)
 }
 
-fn vectors_fit(part: &[u8]) -> bool
+// The operation that waits is one of six; a migrate's node and server are in the store.
+fn op_fits(part: &[u8], servers: usize, slots: usize) -> bool
     requires { ⌜ ClientPart (now part) ⌝ }
-    ensures { λ r. ⌜ r ≡ all-below 8 (vector-fits (held (now (part .entry)))) ⌝ }
+    ensures { λ r. ⌜ r ≡ op-fits (sizes servers slots) (held (now (part .entry))) ⌝ }
 {
-    let n: usize = 8;
-    let mut s: usize = 0;
-    while s < n {
-        if !vector_fits(part, s) {
+    let op = get_field(part, OP_NUMBER);
+    match op {
+        0..=5 => true,
+        6 => {
+            if !in_store(servers, slots, get_field(part, OP_KEY)) {
+                return false;
+            }
+            let server = get_field(part, OP_SERVER);
+            (server as usize) < servers
+        }
+        _ => false,
+    }
+}
+
+// What a work step reads before its walk.
+pub fn fit_to_work(part: &[u8], servers: usize, slots: usize) -> bool
+    requires { ⌜ ClientPart (now part) ⌝ }
+    ensures { λ r. ⌜ r ≡ fit-to-work (sizes servers slots) (held (now (part .entry))) ⌝ }
+{
+    if !op_fits(part, servers, slots) {
+        return false;
+    }
+    sets_fit(part, servers, slots)
+}
+
+// The kind of an item of a set.
+fn kind_fits(part: &[u8], set: Set, i: usize) -> bool
+    requires { ⌜ (i < limit set) × ClientPart (now part) ⌝ }
+    ensures { λ r. ⌜ r ≡ kind-fits (held (now (part .entry))) set i ⌝ }
+{
+    let number = number_at(part, set, i);
+    match number {
+        0 => true,
+        1..=8192 => item_word(part, set, i, 1) <= 2,
+        _ => true,
+    }
+}
+
+// The kinds of all items of a set.
+fn kinds_fit(part: &[u8], set: Set) -> bool
+    requires { ⌜ ClientPart (now part) ⌝ }
+    ensures { λ r. ⌜ r ≡ all-below (count (held (now (part .entry))) set) (kind-fits (held (now (part .entry))) set) ⌝ }
+{
+    let n = count(part, set);
+    let mut i: usize = 0;
+    while i < n {
+        if !kind_fits(part, set, i) {
             return false;
         }
-        s += 1;
+        i += 1;
     }
     true
 }
 
-// Is the client's own state in range?
-pub fn client_fits(part: &[u8], servers: usize, slots: usize) -> bool
-    requires { ⌜ (servers ≤ 8) × ClientPart (now part) ⌝ }
-    ensures { λ r. ⌜ r ≡ client-fits (sizes servers slots) (held (now (part .entry))) ⌝ }
+// "a written object's read": that of a write item.
+fn is_read(part: &[u8], i: usize) -> bool
+    requires { ⌜ (i < 48) × ClientPart (now part) ⌝ }
+    ensures { λ r. ⌜ r ≡ is-read (held (now (part .entry))) i ⌝ }
 {
-    let one: u64 = 1;
-    if !fields_fit(part, (one << servers) - 1) {
+    has(part, Set::Reads, number_at(part, Set::Writes, i))
+}
+
+// Those of all write items.
+fn all_read(part: &[u8]) -> bool
+    requires { ⌜ ClientPart (now part) ⌝ }
+    ensures { λ r. ⌜ r ≡ all-below (count (held (now (part .entry))) Writes) (is-read (held (now (part .entry)))) ⌝ }
+{
+    let n = count(part, Set::Writes);
+    let mut i: usize = 0;
+    while i < n {
+        if !is_read(part, i) {
+            return false;
+        }
+        i += 1;
+    }
+    true
+}
+
+// What a commit reads.
+pub fn fit_to_commit(part: &[u8], servers: usize, slots: usize) -> bool
+    requires { ⌜ ClientPart (now part) ⌝ }
+    ensures { λ r. ⌜ r ≡ fit-to-commit (sizes servers slots) (held (now (part .entry))) ⌝ }
+{
+    if !sets_fit(part, servers, slots) {
         return false;
     }
-    if !op_fits(part, servers, slots) {
+    if !kinds_fit(part, Set::Reads) {
         return false;
     }
-    if !items_fit(part, servers, slots, Set::Reads) {
+    if !kinds_fit(part, Set::Writes) {
         return false;
     }
-    if !items_fit(part, servers, slots, Set::Writes) {
+    all_read(part)
+}
+
+// What a prepare reads before it checks.
+pub fn fit_to_prepare(part: &[u8], servers: usize, slots: usize) -> bool
+    requires { ⌜ (servers ≤ 8) × ClientPart (now part) ⌝ }
+    ensures { λ r. ⌜ r ≡ fit-to-prepare (sizes servers slots) (held (now (part .entry))) ⌝ }
+{
+    if !servers_fit(part, servers, PARTICIPANTS) {
         return false;
     }
-    vectors_fit(part)
+    if !servers_fit(part, servers, PREPARED) {
+        return false;
+    }
+    sets_fit(part, servers, slots)
+}
+
+// What an abort reads.
+pub fn fit_to_abort(part: &[u8], servers: usize, slots: usize) -> bool
+    requires { ⌜ (servers ≤ 8) × ClientPart (now part) ⌝ }
+    ensures { λ r. ⌜ r ≡ fit-to-abort (sizes servers slots) (held (now (part .entry))) ⌝ }
+{
+    if !servers_fit(part, servers, PREPARED) {
+        return false;
+    }
+    numbers_fit(part, servers, slots, Set::Reads)
+}
+
+// And where a server has prepared, what says what is locked there.
+pub fn fit_to_unlock(part: &[u8], servers: usize, slots: usize) -> bool
+    requires { ⌜ (servers ≤ 8) × ClientPart (now part) ⌝ }
+    ensures { λ r. ⌜ r ≡ fit-to-unlock (sizes servers slots) (held (now (part .entry))) ⌝ }
+{
+    if !servers_fit(part, servers, PARTICIPANTS) {
+        return false;
+    }
+    numbers_fit(part, servers, slots, Set::Writes)
+}
+
+// The version read of an object has a next one; of flags none is kept.
+fn young(part: &[u8], number: u64) -> bool
+    requires { ⌜ ClientPart (now part) ⌝ }
+    ensures { λ r. ⌜ r ≡ young (held (now (part .entry))) number ⌝ }
+{
+    if number > 8192 {
+        return true;
+    }
+    version_read(part, number) < 4294967295
+}
+
+// Does a server store something of the object?
+fn is_stored(part: &[u8], server: u64, number: u64) -> bool
+    requires { ⌜ ClientPart (now part) ⌝ }
+    ensures { λ r. ⌜ r ≡ stored-at (held (now (part .entry))) server number ⌝ }
+{
+    if is_home(server, number) {
+        return true;
+    }
+    inner_before_after(part, number)
+}
+
+// The record of a write item, if the server is its home.
+fn record_fits(part: &[u8], servers: usize, slots: usize, server: u64, i: usize) -> bool
+    requires { ⌜ (i < 48) × ClientPart (now part) ⌝ }
+    ensures { λ r. ⌜ r ≡ record-fits (sizes servers slots) (held (now (part .entry))) server i ⌝ }
+{
+    let number = number_at(part, Set::Writes, i);
+    if is_home(server, number) {
+        return whole_fits(servers, slots, number, record_at(part, Set::Writes, i));
+    }
+    true
+}
+
+// The version read of a write item, if the server stores it.
+fn version_fits(part: &[u8], server: u64, i: usize) -> bool
+    requires { ⌜ (i < 48) × ClientPart (now part) ⌝ }
+    ensures { λ r. ⌜ r ≡ version-fits (held (now (part .entry))) server i ⌝ }
+{
+    let number = number_at(part, Set::Writes, i);
+    if is_stored(part, server, number) {
+        return young(part, number);
+    }
+    true
+}
+
+// A written node has its read; of a flag it is not looked at.
+fn read_fits(part: &[u8], i: usize) -> bool
+    requires { ⌜ (i < 48) × ClientPart (now part) ⌝ }
+    ensures { λ r. ⌜ r ≡ read-fits (held (now (part .entry))) i ⌝ }
+{
+    if number_at(part, Set::Writes, i) > 8192 {
+        return true;
+    }
+    is_read(part, i)
+}
+
+// A write item as a server stores it.
+fn write_fits(part: &[u8], servers: usize, slots: usize, server: u64, i: usize) -> bool
+    requires { ⌜ (i < 48) × ClientPart (now part) ⌝ }
+    ensures { λ r. ⌜ r ≡ write-fits (sizes servers slots) (held (now (part .entry))) server i ⌝ }
+{
+    if !read_fits(part, i) {
+        return false;
+    }
+    if !record_fits(part, servers, slots, server, i) {
+        return false;
+    }
+    version_fits(part, server, i)
+}
+
+// All that a server stores.
+pub fn writes_fit(part: &[u8], servers: usize, slots: usize, server: u64) -> bool
+    requires { ⌜ ClientPart (now part) ⌝ }
+    ensures { λ r. ⌜ r ≡ writes-fit (sizes servers slots) (held (now (part .entry))) server ⌝ }
+{
+    let n = count(part, Set::Writes);
+    let mut i: usize = 0;
+    while i < n {
+        if !write_fits(part, servers, slots, server, i) {
+            return false;
+        }
+        i += 1;
+    }
+    true
+}
+
+// A written flag, and whether there is a copy of its vector.
+fn flag_renewal_fits(part: &[u8], servers: usize, slots: usize, i: usize) -> bool
+    requires { ⌜ (i < 48) × (8192 < number-at (held (now part)) Writes i) × ClientPart (now part) ⌝ }
+    ensures { λ r. ⌜ r ≡ flag-renewal-fits (sizes servers slots) (held (now (part .entry))) i ⌝ }
+{
+    let number = number_at(part, Set::Writes, i);
+    let name = Name {
+        number: number - 8193,
+    };
+    let s = name.server();
+    if s >= 8 {
+        return false;
+    }
+    if vector_word(part, s as usize, 0) > 1 {
+        return false;
+    }
+    whole_fits(servers, slots, number, record_at(part, Set::Writes, i))
+}
+
+// Written metadata, or a node that is inner.
+fn inner_renewal_fits(part: &[u8], servers: usize, slots: usize, i: usize) -> bool
+    requires { ⌜ (i < 48) × ClientPart (now part) ⌝ }
+    ensures { λ r. ⌜ r ≡ inner-renewal-fits (sizes servers slots) (held (now (part .entry))) i ⌝ }
+{
+    let number = number_at(part, Set::Writes, i);
+    let node = record_at(part, Set::Writes, i);
+    if !is_inner(number, node) {
+        return true;
+    }
+    if !whole_fits(servers, slots, number, node) {
+        return false;
+    }
+    young(part, number)
+}
+
+// A write item as copies are renewed by it.
+fn renewal_fits(part: &[u8], servers: usize, slots: usize, i: usize) -> bool
+    requires { ⌜ (i < 48) × ClientPart (now part) ⌝ }
+    ensures { λ r. ⌜ r ≡ renewal-fits (sizes servers slots) (held (now (part .entry))) i ⌝ }
+{
+    if number_at(part, Set::Writes, i) > 8192 {
+        return flag_renewal_fits(part, servers, slots, i);
+    }
+    inner_renewal_fits(part, servers, slots, i)
+}
+
+fn renewals_fit(part: &[u8], servers: usize, slots: usize) -> bool
+    requires { ⌜ ClientPart (now part) ⌝ }
+    ensures { λ r. ⌜ r ≡ all-below (count (held (now (part .entry))) Writes) (renewal-fits (sizes servers slots) (held (now (part .entry)))) ⌝ }
+{
+    let n = count(part, Set::Writes);
+    let mut i: usize = 0;
+    while i < n {
+        if !renewal_fits(part, servers, slots, i) {
+            return false;
+        }
+        i += 1;
+    }
+    true
+}
+
+// The renewal of copies; "a lost client gets none".
+pub fn fit_to_renew(part: &[u8], servers: usize, slots: usize) -> bool
+    requires { ⌜ ClientPart (now part) ⌝ }
+    ensures { λ r. ⌜ r ≡ fit-to-renew (sizes servers slots) (held (now (part .entry))) ⌝ }
+{
+    let lost = get_field(part, LOST);
+    match lost {
+        0 => renewals_fit(part, servers, slots),
+        1 => true,
+        _ => false,
+    }
+}
+
+// What an apply at a server reads; the last one renews the copies.
+pub fn fit_to_apply(part: &[u8], servers: usize, slots: usize, server: u64, last: bool) -> bool
+    requires { ⌜ (servers ≤ 8) × ClientPart (now part) ⌝ }
+    ensures { λ r. ⌜ r ≡ fit-to-apply (sizes servers slots) (held (now (part .entry))) server last ⌝ }
+{
+    if !servers_fit(part, servers, APPLIED) {
+        return false;
+    }
+    if !numbers_fit(part, servers, slots, Set::Reads) {
+        return false;
+    }
+    if !fit_to_unlock(part, servers, slots) {
+        return false;
+    }
+    if !writes_fit(part, servers, slots, server) {
+        return false;
+    }
+    if last {
+        return fit_to_renew(part, servers, slots);
+    }
+    true
 }

@@ -45,3 +45,44 @@ pub fn fits(servers: usize, slots: usize, number: u64, n: Node) -> bool
     }
     first <= 1
 }
+
+// Are an inner node's children names of the store?
+fn children_there(servers: usize, slots: usize, n: Node) -> bool
+    requires { ⌜ n .count ≤ 14 ⌝ }
+    ensures { λ r. ⌜ r ≡ children-there (sizes servers slots) n ⌝ }
+{
+    if n.kind != 2 {
+        return true;
+    }
+    let children = n.slots;
+    let count = n.count as usize + 1;
+    let mut i: usize = 0;
+    while i < count {
+        if !in_store(servers, slots, children[i]) {
+            return false;
+        }
+        i += 1;
+    }
+    true
+}
+
+// May a node be handed out or stored whole?
+pub fn node_fits(servers: usize, slots: usize, n: Node) -> bool
+    ensures { λ r. ⌜ r ≡ node-fits (sizes servers slots) n ⌝ }
+{
+    if !n.in_range() {
+        return false;
+    }
+    children_there(servers, slots, n)
+}
+
+// May the record of the object with that number be stored whole?
+pub fn whole_fits(servers: usize, slots: usize, number: u64, n: Node) -> bool
+    ensures { λ r. ⌜ r ≡ whole-in-range (sizes servers slots) number n ⌝ }
+{
+    match number {
+        0 => fits(servers, slots, number, n),
+        1..=8192 => node_fits(servers, slots, n),
+        _ => fits(servers, slots, number, n),
+    }
+}

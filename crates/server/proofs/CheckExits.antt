@@ -1,16 +1,17 @@
 -- Ways out of the code for checks: from the facts at hand there to what the contract says.
 use mathlib.Core.Path.{_≡_, sym, _∙_}
-use mathlib.Core.Bool.{Bool, true, false}
+use mathlib.Core.Bool.{Bool, true, false, not}
 use Prim.Native.Nat.{ℕ, _/_, _%_}
 use native.Mathlib.Omega.{arith}
-use borrow.Author.Tests.{eq-eqb, ne-eqb}
+use borrow.Author.Tests.{eq-eqb, ne-eqb, not-true, not-false}
 use lib.Dec.{eqb, leb}
 use Rattle.memory.specs.Bit.{bit}
 use Rattle.layout.specs.Block.{In}
 use Rattle.layout.specs.Space.{Valid}
 use Rattle.nodes.specs.Name.{server-of, slot-of}
 use Rattle.nodes.specs.declared.name.Name.{Name}
-use Rattle.server.specs.declared.check.Finding.the-variants.{Same, Differs, Busy}
+use Rattle.server.specs.declared.check.Finding.{Finding}
+use Rattle.server.specs.declared.check.Finding.the-variants.{Same, Differs, Busy, Unfit}
 use Rattle.server.specs.declared.lock.Use.{Use}
 use Rattle.server.specs.declared.object.Object.{Object}
 use Rattle.server.specs.declared.object.Object.the-variants as object
@@ -18,8 +19,8 @@ use Rattle.server.specs.declared.place.Place.{Place}
 use Rattle.server.specs.declared.place.Place.the-variants as place
 use Rattle.server.specs.Layout.{places, server-block}
 use Rattle.server.specs.Object.{lock-of, Has}
-use Rattle.server.specs.Lock.{busy, lock-in-range}
-use Rattle.server.specs.Check.{can-check, mark-place, mark-in, standing, held, checked, sound}
+use Rattle.server.specs.Lock.{busy}
+use Rattle.server.specs.Check.{can-check, mark-place, mark-in, standing, held, mark-fits, compared, checked}
 
 module _ (s : ℕ) (o : Object) (inner : Bool) where
   pub can-metadata : o ≡ object.Metadata → true ≡ can-check s o inner
@@ -98,22 +99,41 @@ module _ (o : Object) (m : Place → ℕ) where
     unfolding checked
     found-busy t = sym (rw (← e, t))
 
-    pub found-same : (r : ℕ) → b ≡ false → r ≡ standing o inner m → r ≡ mark → Same ≡ checked o inner mark c u m
+    pub found-compared : (r : ℕ) (f : Finding) → b ≡ false → r ≡ standing o inner m → f ≡ compared o r mark → f ≡ checked o inner mark c u m
     unfolding checked
-    found-same r t q h = sym (rw (← e, t, ← q, eq-eqb r mark h))
+    found-compared r f t q h = h ∙ sym (rw (← e, t, ← q))
 
-    pub found-differs : (r : ℕ) → b ≡ false → r ≡ standing o inner m → ¬ (r ≡ mark) → Differs ≡ checked o inner mark c u m
-    unfolding checked
-    found-differs r t q h = sym (rw (← e, t, ← q, ne-eqb r mark h))
+-- ---- the two marks
+module _ (o : Object) (x : ℕ) where
+  pub fits-metadata : o ≡ object.Metadata → leb x 4294967295 ≡ mark-fits o x
+  unfolding mark-fits
+  fits-metadata e = sym (rw e)
 
-  module _ (inner : Bool) (clients w : ℕ) (a : Place) (b : Bool) (e : a ≡ lock-of o) (q : w ≡ m a) (h : b ≡ lock-in-range clients w) where
-    pub sound-mark : (r : ℕ) → b ≡ true → r ≡ standing o inner m → leb r 4294967295 ≡ sound clients o inner m
-    unfolding sound
-    sound-mark r t k = sym (rw (← e, ← q, ← h, t, ← k))
+  pub fits-node : (n : Name) → o ≡ object.Node n → leb x 4294967295 ≡ mark-fits o x
+  unfolding mark-fits
+  fits-node n e = sym (rw e)
 
-    pub unsound-lock : b ≡ false → false ≡ sound clients o inner m
-    unfolding sound
-    unsound-lock t = sym (rw (← e, ← q, ← h, t))
+  pub fits-flag : (n : Name) → o ≡ object.Flag n → leb x 1 ≡ mark-fits o x
+  unfolding mark-fits
+  fits-flag n e = sym (rw e)
+
+module _ (o : Object) (here read : ℕ) (a : Bool) (p : a ≡ mark-fits o here) where
+  pub here-unfit : not a ≡ true → Unfit ≡ compared o here read
+  unfolding compared
+  here-unfit t = sym (rw (← p, not-true a t))
+
+  module _ (b : Bool) (t : not a ≡ false) (q : b ≡ mark-fits o read) where
+    pub read-unfit : not b ≡ true → Unfit ≡ compared o here read
+    unfolding compared
+    read-unfit u = sym (rw (← p, not-false a t, ← q, not-true b u))
+
+    pub marks-same : not b ≡ false → here ≡ read → Same ≡ compared o here read
+    unfolding compared
+    marks-same u e = sym (rw (← p, not-false a t, ← q, not-false b u, eq-eqb here read e))
+
+    pub marks-differ : not b ≡ false → ¬ (here ≡ read) → Differs ≡ compared o here read
+    unfolding compared
+    marks-differ u d = sym (rw (← p, not-false a t, ← q, not-false b u, ne-eqb here read d))
 
 pub ruleset check-exits = (
   can-metadata,
@@ -132,8 +152,12 @@ pub ruleset check-exits = (
   it-stands,
   it-is-held,
   found-busy,
-  found-same,
-  found-differs,
-  sound-mark,
-  unsound-lock,
+  found-compared,
+  fits-metadata,
+  fits-node,
+  fits-flag,
+  here-unfit,
+  read-unfit,
+  marks-same,
+  marks-differ,
 )

@@ -1,17 +1,17 @@
 -- Checking an object at a server: "A server can check metadata, inner nodes by its table, and its own other nodes and flags
 -- (flags by value)." `inner` says that the object was read as an inner node; its mark is the version read, or a flag's value.
-use mathlib.Core.Bool.{Bool, true, false, cond, _||_}
+use mathlib.Core.Bool.{Bool, true, cond, _&&_, _||_}
 use Prim.Native.Nat.{ℕ, _/_, _%_}
 use lib.Dec.{eqb, leb}
 use Rattle.memory.specs.Bit.{bit, digit}
 use Rattle.nodes.specs.Name.{server-of, slot-of}
 use Rattle.server.specs.declared.check.Finding.{Finding}
-use Rattle.server.specs.declared.check.Finding.the-variants.{Same, Differs, Busy}
+use Rattle.server.specs.declared.check.Finding.the-variants.{Same, Differs, Busy, Unfit}
 use Rattle.server.specs.declared.lock.Use.{Use}
 use Rattle.server.specs.declared.object.Object.{Object}
 use Rattle.server.specs.declared.place.Place.{Place}
 use Rattle.server.specs.Object.{lock-of}
-use Rattle.server.specs.Lock.{busy, lock-in-range}
+use Rattle.server.specs.Lock.{busy}
 use Rattle.server.specs.declared.object.Object.the-variants as object
 use Rattle.server.specs.declared.place.Place.the-variants as place
 
@@ -42,16 +42,23 @@ standing o inner m = mark-in o (m (mark-place o inner))
 unfoldable pub held : Object → ℕ → Use → (Place → ℕ) → Bool
 held o c u m = busy u c (m (lock-of o))
 
--- "at one object 2 before 1"
+-- may a mark be this number: a version of 32 bits, a flag's 0 or 1
+unfoldable pub mark-fits : Object → ℕ → Bool
+mark-fits object.Metadata x = leb x 4294967295
+mark-fits (object.Node x) y = leb y 4294967295
+mark-fits (object.Flag x) y = leb y 1
+
+-- the two marks, the one that stands here and the one that was read: are both in range, and are they the same
+unfoldable pub compared : Object → ℕ → ℕ → Finding
+compared o here read = cond (mark-fits o here && mark-fits o read) (cond (eqb here read) Same Differs) Unfit
+
+-- "at one object 2 before 1": of a busy object no mark is read
 unfoldable pub checked : Object → Bool → ℕ → ℕ → Use → (Place → ℕ) → Finding
-checked o inner mark c u m = cond (held o c u m) Busy (cond (eqb (standing o inner m) mark) Same Differs)
+checked o inner mark c u m = cond (held o c u m) Busy (compared o (standing o inner m) mark)
 
--- "1 a checked object differs .. 2 it is locked against this use by another client"; 0 is no reason
-abbrev pub finding-reason : Finding → ℕ
-finding-reason Same = 0
-finding-reason Differs = 1
-finding-reason Busy = 2
-
--- refusal 10: what a check reads is in range
-unfoldable pub sound : ℕ → Object → Bool → (Place → ℕ) → Bool
-sound clients o inner m = cond (lock-in-range clients (m (lock-of o))) (leb (standing o inner m) 4294967295) false
+-- "1 a checked object differs .. 2 it is locked against this use by another client"; 0 is no reason, and 10 the refusal
+abbrev pub finding-number : Finding → ℕ
+finding-number Same = 0
+finding-number Differs = 1
+finding-number Busy = 2
+finding-number Unfit = 10

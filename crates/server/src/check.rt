@@ -6,7 +6,7 @@ ghost use Rattle.memory.specs.Word.{view};
 ghost use Rattle.layout.specs.Space.{mem};
 ghost use Rattle.server.specs.Layout.{places, server-block, partWords};
 ghost use Rattle.server.specs.Object.{Has};
-ghost use Rattle.server.specs.Check.{can-check, mark-place, mark-in, standing, held, checked, sound};
+ghost use Rattle.server.specs.Check.{can-check, mark-place, mark-in, standing, held, mark-fits, compared, checked};
 use crate::lock;
 use crate::lock::Use;
 use crate::object::Object;
@@ -15,11 +15,13 @@ use crate::place::Place;
 use crate::place::get;
 use memory::bits;
 
-// The answer of a check, 2 before 1: the object is as it was read; it differs (reason 1); it is locked against the use (reason 2).
+// The answer of a check, 2 before 1: the object is as it was read; it differs (reason 1); it is locked against the use (reason 2); or a
+// mark is out of range (refusal 10).
 pub enum Finding {
     Same,
     Differs,
     Busy,
+    Unfit,
 }
 
 // Can this server check the object? `inner`: it was read as an inner node.
@@ -86,6 +88,33 @@ pub fn is_busy(part: &[u8], slots: usize, object: Object, client: u32, wanted: U
     lock::is_busy(word, client, wanted)
 }
 
+// May a mark of the object be this number?
+fn mark_fits(object: Object, mark: u64) -> bool
+    ensures { λ r. ⌜ r ≡ mark-fits object mark ⌝ }
+{
+    match object {
+        Object::Metadata => mark <= 4294967295,
+        Object::Node(_) => mark <= 4294967295,
+        Object::Flag(_) => mark <= 1,
+    }
+}
+
+// The mark that stands here, and the one that was read.
+fn compared(object: Object, here: u64, read: u64) -> Finding
+    ensures { λ r. ⌜ r ≡ compared object here read ⌝ }
+{
+    if !mark_fits(object, here) {
+        return Finding::Unfit;
+    }
+    if !mark_fits(object, read) {
+        return Finding::Unfit;
+    }
+    if here == read {
+        return Finding::Same;
+    }
+    Finding::Differs
+}
+
 // Is an object still as it was read, with this mark, and open to this use?
 pub fn check(
     part: &[u8],
@@ -102,20 +131,5 @@ pub fn check(
     if is_busy(part, slots, object, client, wanted) {
         return Finding::Busy;
     }
-    if stands(part, slots, object, inner) == mark {
-        return Finding::Same;
-    }
-    Finding::Differs
-}
-
-// Refusal 10: is all that a check of the object reads in range, in a store with so many clients?
-pub fn is_sound(part: &[u8], slots: usize, clients: u32, object: Object, inner: bool) -> bool
-    requires { ⌜ (slots ≤ 1024) × Has slots object × (clients ≤ 16) × (partWords slots ≤ length (now part) / 8) ⌝ }
-    ensures { λ r. ⌜ r ≡ sound clients object inner (mem places (server-block slots) (view (now (part .entry)))) ⌝ }
-{
-    let word = get(part, slots, lock_place(object));
-    if lock::is_lock(word, clients) {
-        return stands(part, slots, object, inner) <= 4294967295;
-    }
-    false
+    compared(object, stands(part, slots, object, inner), mark)
 }
