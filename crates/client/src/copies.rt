@@ -9,8 +9,9 @@ use crate::part::set_field;
 use crate::part::set_item;
 use crate::part::set_number;
 use nodes::found::Found;
+use nodes::name::Name;
 use nodes::node::Node;
-ghost use Prim.Native.Nat.{_/_, _<_};
+ghost use Prim.Native.Nat.{_<_};
 ghost use Rattle.layout.specs.Sweep.{sweep};
 ghost use Rattle.client.specs.Layout.{client-words, ClientPart};
 ghost use Rattle.client.specs.Part.{Did, drop-vector};
@@ -62,8 +63,11 @@ fn drop_object(part: &mut [u8], number: u64)
         drop_node(part, number);
         return;
     }
-    let s = (number - 8193) / 1024;
-    if s < 8 {
+    let flag = Name {
+        number: number - 8193,
+    };
+    let s = flag.server();
+    if s < Name::SERVERS {
         drop_vector(part, s as usize);
     }
 }

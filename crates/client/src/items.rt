@@ -3,9 +3,9 @@ use crate::part::Set;
 use crate::part::find;
 use crate::part::record_at;
 use nodes::found::Found;
+use nodes::name::Name;
 use nodes::node::Node;
 ghost use mathlib.Core.Path.{_≡_};
-ghost use Prim.Native.Nat.{_/_};
 ghost use Rattle.client.specs.declared.part.Set.the-variants.{Reads};
 ghost use Rattle.client.specs.Sets.{held, find};
 ghost use Rattle.client.specs.Drops.{version-of};
@@ -69,9 +69,13 @@ pub fn is_home(server: u64, number: u64) -> bool
         return true;
     }
     if number <= 8192 {
-        return (number - 1) / 1024 == server;
+        let node = Name { number: number - 1 };
+        return node.server() == server;
     }
-    (number - 8193) / 1024 == server
+    let flag = Name {
+        number: number - 8193,
+    };
+    flag.server() == server
 }
 
 // The version of an object as it was read.

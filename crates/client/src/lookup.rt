@@ -14,8 +14,9 @@ use crate::part::vector_word;
 use crate::range::single;
 use memory::bits::has;
 use nodes::found::Found;
+use nodes::name::Name;
 ghost use mathlib.Core.Path.{_≡_};
-ghost use Prim.Native.Nat.{_/_, _<_};
+ghost use Prim.Native.Nat.{_<_};
 ghost use Rattle.client.specs.Sets.{held};
 ghost use Rattle.client.specs.Have.{copied, copied-meta, copied-node, copied-flag, source};
 ghost use Rattle.client.specs.Layout.{ClientPart};
@@ -44,8 +45,9 @@ fn copied_flag(part: &[u8], name: u64) -> Look
     requires { ⌜ (name < 8192) × ClientPart (now part) ⌝ }
     ensures { λ r. ⌜ r ≡ copied-flag (held (now (part .entry))) name ⌝ }
 {
-    let s = (name / 1024) as usize;
-    let slot = name % 1024;
+    let flag = Name { number: name };
+    let s = flag.server() as usize;
+    let slot = flag.slot();
     if vector_word(part, s, 0) != 1 {
         return lacking();
     }

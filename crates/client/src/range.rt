@@ -1,4 +1,5 @@
 // Records of objects, and which of them are out of range.
+use nodes::name::Name;
 use nodes::node::Node;
 ghost use mathlib.Core.Path.{_≡_};
 ghost use Rattle.client.specs.Record.{single, in-store, record-in-range, sizes};
@@ -23,10 +24,11 @@ pub fn single(version: u64, value: u64) -> Node
 pub fn in_store(servers: usize, slots: usize, name: u64) -> bool
     ensures { λ r. ⌜ r ≡ in-store (sizes servers slots) name ⌝ }
 {
-    if (name / 1024) as usize >= servers {
+    let node = Name { number: name };
+    if node.server() as usize >= servers {
         return false;
     }
-    ((name % 1024) as usize) < slots
+    (node.slot() as usize) < slots
 }
 
 // May the record of the object with that number be used?

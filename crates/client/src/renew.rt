@@ -19,10 +19,11 @@ use crate::part::set_vector;
 use crate::vector::has_vector;
 use crate::vector::vector_copy;
 use nodes::found::Found;
+use nodes::name::Name;
 use nodes::node::Node;
 use nodes::vector::with_taken;
 ghost use mathlib.Core.Path.{_≡_};
-ghost use Prim.Native.Nat.{_+_, _/_, _<_, _≤_};
+ghost use Prim.Native.Nat.{_+_, _<_, _≤_};
 ghost use Rattle.nodes.specs.Found.{Inside};
 ghost use Rattle.client.specs.declared.part.Set.the-variants.{Writes};
 ghost use Rattle.client.specs.Sets.{held, count};
@@ -182,8 +183,9 @@ fn renew_in(part: &mut [u8], name: u64, value: u64)
     requires { ⌜ ClientPart (now part) ⌝ }
     ensures { λ _. ⌜ Did (renew-in (held (now (part .entry))) name value) (now (part .entry)) (now (part .exit)) ⌝ }
 {
-    let s = name / 1024;
-    if s >= 8 {
+    let flag = Name { number: name };
+    let s = flag.server();
+    if s >= Name::SERVERS {
         return;
     }
     let s = s as usize;
@@ -191,7 +193,7 @@ fn renew_in(part: &mut [u8], name: u64, value: u64)
         return;
     }
     let copy = vector_copy(part, s);
-    let words = with_taken(copy, (name % 1024) as usize, value == 1);
+    let words = with_taken(copy, flag.slot() as usize, value == 1);
     set_vector(part, s, words);
 }
 

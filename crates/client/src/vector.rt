@@ -9,9 +9,10 @@ use crate::part::vector_at;
 use crate::part::vector_word;
 use memory::bits::has;
 use memory::read_words;
+use nodes::name::Name;
 use nodes::vector::with_taken;
 ghost use mathlib.Core.Path.{_≡_};
-ghost use Prim.Native.Nat.{_/_, _<_};
+ghost use Prim.Native.Nat.{_<_};
 ghost use Rattle.client.specs.Sets.{held};
 ghost use Rattle.client.specs.Vectors.{has-vector, vector-copy, counted-one, seen-words, is-fetched};
 ghost use Rattle.client.specs.Layout.{ClientPart};
@@ -42,12 +43,14 @@ fn counted_one(part: &[u8], s: usize, i: usize, words: [u64; 16]) -> [u64; 16]
     if number < 8193 {
         return words;
     }
-    let name = number - 8193;
-    if (name / 1024) as usize != s {
+    let flag = Name {
+        number: number - 8193,
+    };
+    if flag.server() as usize != s {
         return words;
     }
     let taken = item_word(part, Set::Writes, i, 19) == 1;
-    with_taken(words, (name % 1024) as usize, taken)
+    with_taken(words, flag.slot() as usize, taken)
 }
 
 // The vector with the transaction's frees and takes.

@@ -14,6 +14,7 @@ use Rattle.layout.specs.Space.{Put, changed}
 use Rattle.layout.specs.Step.{andThen}
 use Rattle.layout.specs.Laws.Step.{changed-append}
 use Rattle.layout.specs.Sweep.{sweep}
+use Rattle.nodes.specs.Name.{server-of}
 use Rattle.nodes.specs.declared.node.Node.{Node}
 use Rattle.nodes.specs.declared.found.Found.{Found}
 use Rattle.nodes.specs.declared.found.Found.the-variants.{At, Absent}
@@ -86,14 +87,14 @@ module _ (s : List ℕ) (x : ℕ) where
     unfolding drop-object
     object-node t h p = did-as (drop-node x) (drop-object x) s t (rw (ne-eqb _ _ d, le-leb _ _ h)) p
 
-    module _ (h : 8192 < x) where
-      pub object-flag : (t : List ℕ) → Did (drop-vector ((x - 8193) / 1024)) s t → Did (drop-object x) s t
+    module _ (h : 8192 < x) (k : ℕ) (o : k ≡ server-of (x - 8193)) where
+      pub object-flag : (t : List ℕ) → Did (drop-vector k) s t → Did (drop-object x) s t
       unfolding drop-object
-      object-flag t p = did-as (drop-vector ((x - 8193) / 1024)) (drop-object x) s t (rw (ne-eqb _ _ d, lt-leb _ _ h)) p
+      object-flag t p = did-as (drop-vector k) (drop-object x) s t (rw (ne-eqb _ _ d, lt-leb _ _ h, ← o)) p
 
-      pub object-none : 8 ≤ (x - 8193) / 1024 → Did (drop-object x) s s
+      pub object-none : 8 ≤ k → Did (drop-object x) s s
       unfolding drop-object drop-vector
-      object-none l = did-nothing (drop-object x) s (rw (ne-eqb _ _ d, lt-leb _ _ h, le-ltb _ _ l))
+      object-none l = did-nothing (drop-object x) s (rw (ne-eqb _ _ d, lt-leb _ _ h, ← o, le-ltb _ _ l))
 
 good-object : (x : ℕ) → Good (drop-object x)
 unfolding drop-object

@@ -3,6 +3,7 @@ use mathlib.Core.Bool.{Bool, true, false}
 use Prim.Native.Nat.{ℕ, _+_, _-_, _/_, _%_, _≤_, _<_}
 use mathlib.Core.Path.{_≡_, sym, _∙_}
 use borrow.Author.Tests.{eq-eqb, ne-eqb, le-leb, lt-leb}
+use Rattle.nodes.specs.Name.{server-of, slot-of}
 use Rattle.nodes.specs.declared.node.Node.{Node}
 use Rattle.nodes.specs.declared.found.Found.{Found}
 use Rattle.nodes.specs.declared.found.Found.the-variants.{At, Absent}
@@ -33,19 +34,19 @@ module _ (m : ClientWord → ℕ) (r : Look) where
     unfolding copied-node
     node-there i n d q p = rw (← e, d, ← q) p
 
-  module _ (n q : ℕ) (e : q ≡ m (vector-word (n / 1024) 0)) where
+  module _ (n s q : ℕ) (o : s ≡ server-of n) (e : q ≡ m (vector-word s 0)) where
     pub flag-lacking : (q ≡ 1 → ⊥) → r ≡ lacking → r ≡ copied-flag m n
     unfolding copied-flag
-    flag-lacking d p = rw (← e, ne-eqb _ _ d) p
+    flag-lacking d p = rw (← o, ← e, ne-eqb _ _ d) p
 
-    module _ (w : ℕ) (b : Bool) (y : Node) (d : q ≡ 1) (a : w ≡ m (vector-word (n / 1024) (1 + n % 1024 / 64))) (f : b ≡ bit w (n % 1024 % 64)) where
+    module _ (k w : ℕ) (b : Bool) (y : Node) (d : q ≡ 1) (l : k ≡ slot-of n) (a : w ≡ m (vector-word s (1 + k / 64))) (f : b ≡ bit w (k % 64)) where
       pub flag-set : b ≡ true → y ≡ single 0 1 → r ≡ copy y → r ≡ copied-flag m n
       unfolding copied-flag
-      flag-set t s p = let z : bit w (n % 1024 % 64) ≡ true = sym f ∙ t in rw (← e, eq-eqb _ _ d, ← a, z, ← s) p
+      flag-set t u p = let z : bit w (k % 64) ≡ true = sym f ∙ t in rw (← o, ← e, eq-eqb _ _ d, ← l, ← a, z, ← u) p
 
       pub flag-clear : b ≡ false → y ≡ single 0 0 → r ≡ copy y → r ≡ copied-flag m n
       unfolding copied-flag
-      flag-clear t s p = let z : bit w (n % 1024 % 64) ≡ false = sym f ∙ t in rw (← e, eq-eqb _ _ d, ← a, z, ← s) p
+      flag-clear t u p = let z : bit w (k % 64) ≡ false = sym f ∙ t in rw (← o, ← e, eq-eqb _ _ d, ← l, ← a, z, ← u) p
 
   module _ (x : ℕ) where
     pub copied-0 : x ≡ 0 → r ≡ copied-meta m → r ≡ copied m x

@@ -14,6 +14,7 @@ use Rattle.nodes.specs.declared.node.Node.{Node}
 use Rattle.nodes.specs.declared.found.Found.{Found}
 use Rattle.nodes.specs.declared.found.Found.the-variants.{At, Absent}
 use Rattle.nodes.specs.Flags.{with-flag}
+use Rattle.nodes.specs.Name.{server-of, slot-of}
 use Rattle.client.specs.declared.part.Set.the-variants.{Reads, Writes}
 use Rattle.client.specs.Layout.{ClientWord, client-words, field, item}
 use Rattle.client.specs.Sets.{held, count, number-at, record-at, find}
@@ -171,22 +172,22 @@ good-renew-meta : Good renew-meta
 unfolding renew-meta
 good-renew-meta = good-by (λ m. meta-found m (find m Writes 0)) (λ m. good-meta-found m (find m Writes 0))
 
-module _ (s : List ℕ) (n v : ℕ) where
-  pub flag-beyond : 8 ≤ n / 1024 → Did (renew-in (held s) n v) s s
+module _ (s : List ℕ) (n v k : ℕ) (o : k ≡ server-of n) where
+  pub flag-beyond : 8 ≤ k → Did (renew-in (held s) n v) s s
   unfolding renew-in nothing
-  flag-beyond h = did-nothing (renew-in (held s) n v) s (rw (le-ltb _ _ h))
+  flag-beyond h = did-nothing (renew-in (held s) n v) s (rw (← o, le-ltb _ _ h))
 
-  module _ (b : Bool) (h : n / 1024 < 8) (p : b ≡ has-vector (held s) (n / 1024)) where
+  module _ (b : Bool) (h : k < 8) (p : b ≡ has-vector (held s) k) where
     pub flag-uncopied : not b ≡ true → Did (renew-in (held s) n v) s s
     unfolding renew-in nothing
-    flag-uncopied t = let z : has-vector (held s) (n / 1024) ≡ false = sym p ∙ not-true b t in did-nothing (renew-in (held s) n v) s (rw (lt-ltb _ _ h, z))
+    flag-uncopied t = let z : has-vector (held s) k ≡ false = sym p ∙ not-true b t in did-nothing (renew-in (held s) n v) s (rw (← o, lt-ltb _ _ h, z))
 
-    pub flag-renewed : (t ws us : List ℕ) → not b ≡ false → ws ≡ vector-copy (held s) (n / 1024) → us ≡ with-flag ws (n % 1024) (eqb v 1)
-        → Did (put-vector (n / 1024) us) s t → Did (renew-in (held s) n v) s t
+    pub flag-renewed : (t ws us : List ℕ) (l : ℕ) → not b ≡ false → ws ≡ vector-copy (held s) k → l ≡ slot-of n → us ≡ with-flag ws l (eqb v 1)
+        → Did (put-vector k us) s t → Did (renew-in (held s) n v) s t
     unfolding renew-in
-    flag-renewed t ws us q e f r =
-        let z : has-vector (held s) (n / 1024) ≡ true = sym p ∙ not-false b q in
-        did-as (put-vector (n / 1024) us) (renew-in (held s) n v) s t (rw (lt-ltb _ _ h, z, ← e, ← f)) r
+    flag-renewed t ws us l q e a f r =
+        let z : has-vector (held s) k ≡ true = sym p ∙ not-false b q in
+        did-as (put-vector k us) (renew-in (held s) n v) s t (rw (← o, lt-ltb _ _ h, z, ← e, ← a, ← f)) r
 
 good-in : (m : ClientWord → ℕ) (n v : ℕ) → Good (renew-in m n v)
 unfolding renew-in

@@ -2,13 +2,14 @@
 use mathlib.Core.Path.{_≡_}
 use mathlib.Core.Bool.{Bool}
 use mathlib.Core.List.{List}
-use Prim.Native.Nat.{ℕ, _+_, _-_, _/_, _%_, _≤_, _<_}
+use Prim.Native.Nat.{ℕ, _+_, _-_, _≤_, _<_}
 use native.Mathlib.Omega.{arith}
 use native.Mathlib.Numerals.{add-one}
 use borrow.Author.Tests.{eq-eqb, ne-eqb, lt-ltb, le-ltb}
 use lib.Dec.{eqb}
 use Rattle.memory.specs.Bit.{bit}
 use Rattle.nodes.specs.Flags.{with-flag}
+use Rattle.nodes.specs.Name.{server-of, slot-of}
 use Rattle.client.specs.declared.part.Set.the-variants.{Writes}
 use Rattle.client.specs.Layout.{ClientWord, field, item, vector-word}
 use Rattle.client.specs.Sets.{count, number-at}
@@ -27,14 +28,14 @@ module _ (m : ClientWord → ℕ) (s i x : ℕ) (ws : List ℕ) (e : x ≡ numbe
   unfolding counted-one
   no-flag h = rw (← e, lt-ltb _ _ h)
 
-  module _ (h : 8193 ≤ x) where
-    pub elsewhere : ((x - 8193) / 1024 ≡ s → ⊥) → ws ≡ counted-one m s i ws
+  module _ (h : 8193 ≤ x) (t : ℕ) (o : t ≡ server-of (x - 8193)) where
+    pub elsewhere : (t ≡ s → ⊥) → ws ≡ counted-one m s i ws
     unfolding counted-one
-    elsewhere d = rw (← e, le-ltb _ _ h, ne-eqb _ _ d)
+    elsewhere d = rw (← e, le-ltb _ _ h, ← o, ne-eqb _ _ d)
 
-    pub flag-counted : (v : ℕ) (r : List ℕ) → (x - 8193) / 1024 ≡ s → v ≡ m (item Writes i 19) → r ≡ with-flag ws ((x - 8193) % 1024) (eqb v 1) → r ≡ counted-one m s i ws
+    pub flag-counted : (v k : ℕ) (r : List ℕ) → t ≡ s → v ≡ m (item Writes i 19) → k ≡ slot-of (x - 8193) → r ≡ with-flag ws k (eqb v 1) → r ≡ counted-one m s i ws
     unfolding counted-one
-    flag-counted v r d a p = rw (← e, le-ltb _ _ h, eq-eqb _ _ d, ← a) p
+    flag-counted v k r d a l p = rw (← e, le-ltb _ _ h, ← o, eq-eqb _ _ d, ← a, ← l) p
 
 -- i of the n write items are counted
 pub record Counting (m : ClientWord → ℕ) (s n : ℕ) (ws : List ℕ) (i : ℕ) : Type 0 where

@@ -11,7 +11,8 @@ drop-object-spec = tie.close (tie.spec
     (λ c κs. search needs)  -- drop-node-requires
     (λ c. search needs)  -- same-length-2
     (λ c. search (object-node, needs))  -- returns-2
-    (λ c. search needs)  -- sub-s
+    (λ c. search needs)  -- sub-flag
+    (λ c κs. search needs)  -- server-requires
     (λ c κs. search needs)  -- drop-vector-requires
     (λ c. search needs)  -- same-length-3
     (λ c. search (object-flag, needs))  -- returns-3

@@ -5,6 +5,8 @@ use Rattle.client.proofs.lookup.copied_flag.Tie as tie
 
 pub copied-flag-spec : {M : Type 1} → statement M
 copied-flag-spec = tie.close (tie.spec
+    (λ c κs. search needs)  -- server-requires
+    (λ c κs. search needs)  -- slot-requires
     (λ c κs. search needs)  -- vector-word-requires
     (λ c κs. search needs)  -- lacking-requires
     (λ c. search (flag-lacking, needs))  -- returns
