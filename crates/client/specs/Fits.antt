@@ -52,9 +52,13 @@ module _ (m : ClientWord → ℕ) where
   servers-fit n a = leb (m a) (2 ^ n - 1)
 
 module _ (z : TreeSizes) (m : ClientWord → ℕ) where
+  -- is the object of item i of a set one of the store
+  unfoldable pub number-fits : Set → ℕ → Bool
+  number-fits s i = number-in-store z (number-at m s i)
+
   -- a set has no more items than it may, and their objects are objects of the store
   unfoldable pub numbers-fit : Set → Bool
-  numbers-fit s = leb (said-count m s) (limit s) && all-below (count m s) (λ i. number-in-store z (number-at m s i))
+  numbers-fit s = leb (said-count m s) (limit s) && all-below (count m s) (number-fits s)
 
   -- the operation that waits is one of six; a migrate's node and server are in the store
   unfoldable pub op-fits : Bool

@@ -1,5 +1,5 @@
 -- "An object is read from the write set, else the read set, else the client's copies"
-use mathlib.Core.Bool.{Bool, true, false, cond, _&&_, not}
+use mathlib.Core.Bool.{Bool, true, false, cond, _&&_, _||_, not}
 use mathlib.Core.Option.{Option, none, some}
 use Prim.Native.Nat.{ℕ, _+_, _/_, _%_}
 use lib.Dec.{eqb, ltb}
@@ -18,20 +18,24 @@ use Rattle.client.specs.declared.part.Set.the-variants.{Reads, Writes, C
 use Rattle.client.specs.Layout.{ClientWord, vector-word, meta-copied, meta-root, meta-version}
 use Rattle.client.specs.Record.{number, by-number, value-of, single, object-in-store, record-in-range}
 use Rattle.client.specs.Sets.{record-at, find}
-use Rattle.client.specs.Vectors.{has-vector, seen-words, is-fetched}
+use Rattle.client.specs.Vectors.{has-vector, seen-words, vector-fits, is-fetched}
 use Rattle.nodes.specs.Flags as N
+
+-- what is known of an object: how, and its record
+abbrev pub looked : How → Node → Look
+looked h r = record { how = h; node = r }
 
 -- what a lookup says: the object is in a set, with its record
 abbrev pub here : Node → Look
-here r = record { how = Here; node = r }
+here r = looked Here r
 
 -- it is a copy, and in neither set, with its record
 abbrev pub copy : Node → Look
-copy r = record { how = Copied; node = r }
+copy r = looked Copied r
 
 -- there is neither: it is to be fetched, and the record is not looked at
 abbrev pub lacking : Look
-lacking = record { how = Lacking; node = free-node 0 }
+lacking = looked Lacking (free-node 0)
 
 -- is there a record
 abbrev pub is-found : How → Bool
@@ -45,9 +49,9 @@ is-copied Copied = true
 is-copied Lacking = false
 
 module _ (m : ClientWord → ℕ) where
-  -- "Copies: metadata, one vector a server, 64 inner nodes"
+  -- "Copies: metadata, one vector a server, 64 inner nodes": there is one of the metadata unless the word that says so is 0
   unfoldable pub copied-meta : Look
-  copied-meta = cond (eqb (m meta-copied) 1) (copy (single (m meta-version) (m meta-root))) lacking
+  copied-meta = cond (eqb (m meta-copied) 0) lacking (copy (single (m meta-version) (m meta-root)))
 
   -- the copy of an inner node at its place, if it has one
   abbrev pub copied-item : Found → Look
@@ -62,12 +66,16 @@ module _ (m : ClientWord → ℕ) where
   unfoldable pub copied-flag : ℕ → Look
   copied-flag n =
       let i = slot-of n in
-      cond (eqb (m (vector-word (server-of n) 0)) 1)
-      (copy (single 0 (digit (bit (m (vector-word (server-of n) (1 + i / 64))) (i % 64))))) lacking
+      cond (eqb (m (vector-word (server-of n) 0)) 0) lacking
+      (copy (single 0 (digit (bit (m (vector-word (server-of n) (1 + i / 64))) (i % 64)))))
 
   -- the copy of the object with the number x
   unfoldable pub copied : ℕ → Look
   copied x = by-number x copied-meta (λ n. copied-node x) copied-flag
+
+  -- refusal 10 for a copy that is used: the word that says that there is one is 1, and what is copied of nodes is an inner one
+  unfoldable pub copy-fits : ℕ → Node → Bool
+  copy-fits x r = by-number x (eqb (m meta-copied) 1) (λ n. eqb (r .kind) 2) (λ n. eqb (m (vector-word (server-of n) 0)) 1)
 
   -- "else the read set, else the client's copies": x was looked for in the read set
   abbrev pub or-copied : ℕ → Found → Look
@@ -84,9 +92,13 @@ module _ (m : ClientWord → ℕ) where
   source x = or-read x (find m Writes x)
 
 module _ (z : TreeSizes) (m : ClientWord → ℕ) where
+  -- the record is in range, and where it is a copy, so is that
+  unfoldable pub look-fits : ℕ → Look → Bool
+  look-fits x l = record-in-range z x (l .node) && (not (is-copied (l .how)) || copy-fits m x (l .node))
+
   -- there is a record, and it is in range
   abbrev pub usable : ℕ → Look → Bool
-  usable x l = is-found (l .how) && record-in-range z x (l .node)
+  usable x l = is-found (l .how) && look-fits x l
 
   -- the object's value, if its record can be used
   abbrev pub valued : Obj → Look → Option Val
@@ -94,7 +106,8 @@ module _ (z : TreeSizes) (m : ClientWord → ℕ) where
 
   -- the vector of server s, if there is a copy, "own frees and takes counted"
   abbrev pub have-vector : ℕ → Option Val
-  have-vector s = cond (ltb s (z .servers) && has-vector m s) (some (flags (N.flags-in (z .slots) (seen-words m s)))) none
+  have-vector s =
+      cond (ltb s (z .servers) && (vector-fits m s && has-vector m s)) (some (flags (N.flags-in (z .slots) (seen-words m s)))) none
 
   -- what is at hand for a plan. "a server is passed over only by a vector that this transaction fetched"
   unfoldable pub have : Ask → Option Val
@@ -104,10 +117,14 @@ module _ (z : TreeSizes) (m : ClientWord → ℕ) where
 
   -- there is a record, and it is out of range
   abbrev pub unusable : ℕ → Look → Bool
-  unusable x l = is-found (l .how) && not (record-in-range z x (l .node))
+  unusable x l = is-found (l .how) && not (look-fits x l)
 
-  -- what is not at hand can't be fetched either: refusal 10. Vectors are only asked of servers of the store, so none is broken
+  -- there is no such vector, or it is out of range
+  abbrev pub bad-vector : ℕ → Bool
+  bad-vector s = not (ltb s (z .servers) && vector-fits m s)
+
+  -- what is not at hand can't be fetched either: refusal 10. Vectors are only asked of servers of the store
   unfoldable pub broken : Ask → Bool
   broken (object o) = cond (object-in-store z o) (unusable (number o) (source m (number o))) true
-  broken (vector s) = not (ltb s (z .servers))
-  broken (fetched s) = not (ltb s (z .servers))
+  broken (vector s) = bad-vector s
+  broken (fetched s) = bad-vector s

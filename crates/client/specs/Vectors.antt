@@ -1,8 +1,8 @@
 -- A server's vector as a client sees it: its copy, "own frees and takes counted".
-use mathlib.Core.Bool.{Bool, cond}
+use mathlib.Core.Bool.{Bool, cond, _&&_, _||_, not}
 use mathlib.Core.List.{List}
 use Prim.Native.Nat.{ℕ, zero, suc, _-_}
-use lib.Dec.{eqb, ltb}
+use lib.Dec.{eqb, leb, ltb}
 use Rattle.memory.specs.Bit.{bit}
 use Rattle.layout.specs.Space.{tab}
 use Rattle.nodes.specs.Name.{server-of, slot-of}
@@ -10,6 +10,7 @@ use Rattle.nodes.specs.Flags.{with-flag}
 use Rattle.client.specs.declared.part.Set.the-variants.{Writes}
 use Rattle.client.specs.Layout.{ClientWord, item, vector-word, fetched-vectors}
 use Rattle.client.specs.Sets.{count, number-at}
+use Rattle.client.specs.Items.{all-below}
 
 module _ (m : ClientWord → ℕ) (s : ℕ) where
   -- is there a copy
@@ -36,6 +37,20 @@ module _ (m : ClientWord → ℕ) (s : ℕ) where
   -- the vector as the client sees it: "own frees and takes counted"
   unfoldable pub seen-words : List ℕ
   seen-words = counted-words (count m Writes) vector-copy
+
+  -- refusal 10 for what is counted: write item i is no flag of this server, or 0 or 1
+  unfoldable pub flag-fits : ℕ → Bool
+  flag-fits i =
+      let x = number-at m Writes i in
+      (ltb x 8193 || not (eqb (server-of (x - 8193)) s)) || leb (m (item Writes i 19)) 1
+
+  -- all of them
+  unfoldable pub flags-fit : Bool
+  flags-fit = all-below (count m Writes) flag-fits
+
+  -- there is no copy or one, and what is counted is in range
+  unfoldable pub vector-fits : Bool
+  vector-fits = leb (m (vector-word s 0)) 1 && flags-fit
 
   -- has this transaction fetched it
   unfoldable pub is-fetched : Bool

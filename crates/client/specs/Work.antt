@@ -1,5 +1,5 @@
 -- The work step: the waiting operation's plan over what the client has, and the last questions before the answer.
-use mathlib.Core.Bool.{Bool, false, cond, _&&_, _||_, not}
+use mathlib.Core.Bool.{Bool, true, false, cond, _&&_, _||_, not}
 use mathlib.Core.List.{List, [], _∷_}
 use Prim.Native.Nat.{ℕ, zero, suc, _+_, _-_}
 use lib.Dec.{eqb, leb, ltb}
@@ -51,6 +51,11 @@ module _ (m : ClientWord → ℕ) where
   version-in x (At i) = record-at m set.Reads i .version
   version-in x Absent = copied m x .node .version
 
+  -- refusal 10 for that version: it is one of 32 bits; "a written object's read" is there, or the object comes into use in this step
+  abbrev pub version-there : ℕ → Found → Bool
+  version-there x (At i) = leb (record-at m set.Reads i .version) last-version
+  version-there x Absent = not (has m set.Writes x)
+
   -- how many of these objects are not in the write set yet
   unfoldable pub count-new : List Entry → ℕ
   count-new [] = 0
@@ -69,13 +74,19 @@ module _ (m : ClientWord → ℕ) where
   any-at-last [] = false
   any-at-last (e ∷ l) = at-last-version (e .0) || any-at-last l
 
+  -- the versions of all of these objects are there, of metadata and nodes
+  unfoldable pub versions-there : List Entry → Bool
+  versions-there [] = true
+  versions-there (e ∷ l) = (ltb 8192 (e .0) || version-there (e .0) (find m set.Reads (e .0))) && versions-there l
+
 module _ (z : TreeSizes) (m : ClientWord → ℕ) where
-  -- what would be written is looked at once all is read: reason 3, then 4, then 8
+  -- what would be written is looked at once all is read: reason 3, then 4, then 8, for which the versions are read
   abbrev pub last-questions : Ans → Writes → Worked
   last-questions a w =
       cond (not (all-fit? w w)) (aborted 3)
       (cond (ltb 48 (writes-after m w)) (aborted 4)
-      (cond (any-at-last m (entered w)) (aborted 8) (answers a w)))
+      (cond (not (versions-there m (entered w))) refused
+      (cond (any-at-last m (entered w)) (aborted 8) (answers a w))))
 
   -- how the step ends by the walk's end; what is lacking and can't be fetched is refused
   abbrev pub judge : End → Worked

@@ -105,17 +105,17 @@ fn op_fits(part: &[u8], servers: usize, slots: usize) -> bool
     ensures { λ r. ⌜ r ≡ op-fits (sizes servers slots) (held (now (part .entry))) ⌝ }
 {
     let op = get_field(part, OP_NUMBER);
-    match op {
-        0..=5 => true,
-        6 => {
-            if !in_store(servers, slots, get_field(part, OP_KEY)) {
-                return false;
-            }
-            let server = get_field(part, OP_SERVER);
-            (server as usize) < servers
-        }
-        _ => false,
+    if op > 6 {
+        return false;
     }
+    if op != 6 {
+        return true;
+    }
+    if !in_store(servers, slots, get_field(part, OP_KEY)) {
+        return false;
+    }
+    let server = get_field(part, OP_SERVER);
+    (server as usize) < servers
 }
 
 // What a work step reads before its walk.
@@ -135,11 +135,13 @@ fn kind_fits(part: &[u8], set: Set, i: usize) -> bool
     ensures { λ r. ⌜ r ≡ kind-fits (held (now (part .entry))) set i ⌝ }
 {
     let number = number_at(part, set, i);
-    match number {
-        0 => true,
-        1..=8192 => item_word(part, set, i, 1) <= 2,
-        _ => true,
+    if number == 0 {
+        return true;
     }
+    if number > 8192 {
+        return true;
+    }
+    item_word(part, set, i, 1) <= 2
 }
 
 // The kinds of all items of a set.
@@ -389,11 +391,13 @@ pub fn fit_to_renew(part: &[u8], servers: usize, slots: usize) -> bool
     ensures { λ r. ⌜ r ≡ fit-to-renew (sizes servers slots) (held (now (part .entry))) ⌝ }
 {
     let lost = get_field(part, LOST);
-    match lost {
-        0 => renewals_fit(part, servers, slots),
-        1 => true,
-        _ => false,
+    if lost > 1 {
+        return false;
     }
+    if lost == 1 {
+        return true;
+    }
+    renewals_fit(part, servers, slots)
 }
 
 // What an apply at a server reads; the last one renews the copies.

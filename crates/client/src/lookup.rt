@@ -1,7 +1,9 @@
 // What a client has of an object: in the write set, else the read set, else the copies.
+use crate::answer::How;
 use crate::answer::Look;
 use crate::answer::copy;
 use crate::answer::here;
+use crate::answer::is_copied;
 use crate::answer::lacking;
 use crate::part::META_COPIED;
 use crate::part::META_ROOT;
@@ -11,21 +13,24 @@ use crate::part::find;
 use crate::part::get_field;
 use crate::part::record_at;
 use crate::part::vector_word;
+use crate::range::fits;
 use crate::range::single;
 use memory::bits::has;
 use nodes::found::Found;
 use nodes::name::Name;
+use nodes::node::Node;
 ghost use mathlib.Core.Path.{_≡_};
 ghost use Prim.Native.Nat.{_<_};
 ghost use Rattle.client.specs.Sets.{held};
-ghost use Rattle.client.specs.Have.{copied, copied-meta, copied-node, copied-flag, source};
+ghost use Rattle.client.specs.Have.{copied, copied-meta, copied-node, copied-flag, copy-fits, source, looked, look-fits};
+ghost use Rattle.client.specs.Record.{sizes};
 ghost use Rattle.client.specs.Layout.{ClientPart};
 
 fn copied_meta(part: &[u8]) -> Look
     requires { ⌜ ClientPart (now part) ⌝ }
     ensures { λ r. ⌜ r ≡ copied-meta (held (now (part .entry))) ⌝ }
 {
-    if get_field(part, META_COPIED) != 1 {
+    if get_field(part, META_COPIED) == 0 {
         return lacking();
     }
     copy(single(get_field(part, META_VERSION), get_field(part, META_ROOT)))
@@ -48,7 +53,7 @@ fn copied_flag(part: &[u8], name: u64) -> Look
     let flag = Name { number: name };
     let s = flag.server() as usize;
     let slot = flag.slot();
-    if vector_word(part, s, 0) != 1 {
+    if vector_word(part, s, 0) == 0 {
         return lacking();
     }
     let word = vector_word(part, s, 1 + (slot / 64) as usize);
@@ -86,4 +91,35 @@ pub fn source(part: &[u8], number: u64) -> Look
         Found::Absent => {}
     }
     copied(part, number)
+}
+
+// Refusal 10 for a copy that is used: there is one, and of nodes an inner one.
+fn copy_fits(part: &[u8], number: u64, n: Node) -> bool
+    requires { ⌜ (number < 16385) × ClientPart (now part) ⌝ }
+    ensures { λ r. ⌜ r ≡ copy-fits (held (now (part .entry))) number n ⌝ }
+{
+    if number == 0 {
+        return get_field(part, META_COPIED) == 1;
+    }
+    if number <= 8192 {
+        return n.kind == 2;
+    }
+    let name = Name {
+        number: number - 8193,
+    };
+    vector_word(part, name.server() as usize, 0) == 1
+}
+
+// May what was found of the object be used?
+pub fn look_fits(part: &[u8], servers: usize, slots: usize, number: u64, how: How, n: Node) -> bool
+    requires { ⌜ (number < 16385) × ClientPart (now part) ⌝ }
+    ensures { λ r. ⌜ r ≡ look-fits (sizes servers slots) (held (now (part .entry))) number (looked how n) ⌝ }
+{
+    if !fits(servers, slots, number, n) {
+        return false;
+    }
+    if is_copied(how) {
+        return copy_fits(part, number, n);
+    }
+    true
 }

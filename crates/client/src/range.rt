@@ -2,7 +2,8 @@
 use nodes::name::Name;
 use nodes::node::Node;
 ghost use mathlib.Core.Path.{_≡_};
-ghost use Rattle.client.specs.Record.{single, in-store, record-in-range, sizes};
+ghost use Prim.Native.Nat.{_≤_};
+ghost use Rattle.client.specs.Record.{single, in-store, record-in-range, children-there, node-fits, whole-in-range, sizes};
 
 // A record of the metadata or a flag: its value stands in the first slot.
 pub fn single(version: u64, value: u64) -> Node
@@ -82,9 +83,11 @@ pub fn node_fits(servers: usize, slots: usize, n: Node) -> bool
 pub fn whole_fits(servers: usize, slots: usize, number: u64, n: Node) -> bool
     ensures { λ r. ⌜ r ≡ whole-in-range (sizes servers slots) number n ⌝ }
 {
-    match number {
-        0 => fits(servers, slots, number, n),
-        1..=8192 => node_fits(servers, slots, n),
-        _ => fits(servers, slots, number, n),
+    if number == 0 {
+        return fits(servers, slots, number, n);
     }
+    if number > 8192 {
+        return fits(servers, slots, number, n);
+    }
+    node_fits(servers, slots, n)
 }

@@ -14,7 +14,7 @@ use nodes::vector::with_taken;
 ghost use mathlib.Core.Path.{_≡_};
 ghost use Prim.Native.Nat.{_<_};
 ghost use Rattle.client.specs.Sets.{held};
-ghost use Rattle.client.specs.Vectors.{has-vector, vector-copy, counted-one, seen-words, is-fetched};
+ghost use Rattle.client.specs.Vectors.{has-vector, vector-copy, counted-one, seen-words, flag-fits, flags-fit, vector-fits, is-fetched};
 ghost use Rattle.client.specs.Layout.{ClientPart};
 
 // Is there a copy?
@@ -68,6 +68,51 @@ pub fn seen_words(part: &[u8], s: usize) -> [u64; 16]
         i += 1;
     }
     words
+}
+
+// Refusal 10 for what is counted: write item i is no flag of the server, or 0 or 1.
+fn flag_fits(part: &[u8], s: usize, i: usize) -> bool
+    requires { ⌜ (i < 48) × ClientPart (now part) ⌝ }
+    ensures { λ r. ⌜ r ≡ flag-fits (held (now (part .entry))) s i ⌝ }
+{
+    let number = number_at(part, Set::Writes, i);
+    if number < 8193 {
+        return true;
+    }
+    let name = Name {
+        number: number - 8193,
+    };
+    if name.server() as usize != s {
+        return true;
+    }
+    item_word(part, Set::Writes, i, 19) <= 1
+}
+
+// All write items.
+fn flags_fit(part: &[u8], s: usize) -> bool
+    requires { ⌜ ClientPart (now part) ⌝ }
+    ensures { λ r. ⌜ r ≡ flags-fit (held (now (part .entry))) s ⌝ }
+{
+    let n = count(part, Set::Writes);
+    let mut i: usize = 0;
+    while i < n {
+        if !flag_fits(part, s, i) {
+            return false;
+        }
+        i += 1;
+    }
+    true
+}
+
+// Are the copy of the vector and the flags written there in range?
+pub fn vector_fits(part: &[u8], s: usize) -> bool
+    requires { ⌜ (s < 8) × ClientPart (now part) ⌝ }
+    ensures { λ r. ⌜ r ≡ vector-fits (held (now (part .entry))) s ⌝ }
+{
+    if vector_word(part, s, 0) > 1 {
+        return false;
+    }
+    flags_fit(part, s)
 }
 
 // Has this transaction fetched it?

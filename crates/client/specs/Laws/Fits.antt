@@ -10,11 +10,16 @@ use Rattle.operations.specs.Slot.{TreeSizes}
 use Rattle.nodes.specs.declared.node.Node.{Node}
 use Rattle.client.specs.declared.part.Set.{Set}
 use Rattle.client.specs.declared.part.Set.the-variants.{Reads, Writes, Copies}
-use Rattle.client.specs.Layout.{ClientWord, field, limit}
-use Rattle.client.specs.Record.{sizes, in-store, number-in-store, kind-in-range}
+use Rattle.nodes.specs.Name.{server-of}
+use Rattle.nodes.specs.Stored.{node-of}
+use Rattle.layout.specs.Space.{tab}
+use Rattle.client.specs.Layout.{ClientWord, field, item, vector-word, limit}
+use Rattle.client.specs.Record.{sizes, in-store, number-in-store, whole-in-range, kind-in-range}
 use Rattle.client.specs.Sets.{count, number-at, record-at, find}
-use Rattle.client.specs.Items.{all-below, has}
-use Rattle.client.specs.Fits.{said-count, kind-fits, is-read, young, servers-fit, numbers-fit, op-fits}
+use Rattle.client.specs.Items.{all-below, has, inner, inner-before-after}
+use Rattle.client.specs.Participants.{at-home}
+use Rattle.client.specs.Drops.{version-of}
+use Rattle.client.specs.Fits.{said-count, kind-fits, is-read, young, stored-at, read-fits, version-fits, servers-fit, number-fits, numbers-fit, op-fits, fit-to-work, fit-to-commit, fit-to-prepare, fit-to-abort, fit-to-unlock, record-fits, write-fits, writes-fit, flag-renewal-fits, inner-renewal-fits, renewal-fits, fit-to-renew, fit-to-apply}
 
 -- ---- one test, and then another
 module _ (a b c : Bool) (p : c ≡ a) where
@@ -37,3 +42,348 @@ module _ (z : TreeSizes) (x : ℕ) where
   unfolding number-in-store
   number-flag r d h p = rw (ne-eqb _ _ d, lt-leb _ _ h) p
 
+-- ---- sets of servers, counts, kinds
+module _ (m : ClientWord → ℕ) where
+  pub servers-asked : (n i q : ℕ) → n ≤ 8 → q ≡ m (field i) → leb q (1 * 2 ^ n % 18446744073709551616 - 1) ≡ servers-fit m n (field i)
+  unfolding servers-fit
+  servers-asked n i q h e =
+      let g : 2 ^ n < 2 ^ 64 = pow-lt {j = 64} (omega arith) in
+      let k : 1 * 2 ^ n % 18446744073709551616 - 1 ≡ 2 ^ n - 1 = omega arith in
+      rw (k, e)
+
+  module _ (s : Set) where
+    pub reads-counted : (q : ℕ) → s ≡ Reads → q ≡ m (field 10) → leb q 96 ≡ leb (said-count m s) (limit s)
+    reads-counted q e p = rw (e, p)
+
+    pub writes-counted : (q : ℕ) → s ≡ Writes → q ≡ m (field 11) → leb q 48 ≡ leb (said-count m s) (limit s)
+    writes-counted q e p = rw (e, p)
+
+    pub copies-counted : s ≡ Copies → true ≡ leb (said-count m s) (limit s)
+    copies-counted e = rw e
+
+    module _ (i x : ℕ) (e : x ≡ number-at m s i) where
+      pub kind-of-meta : x ≡ 0 → true ≡ kind-fits m s i
+      unfolding kind-fits kind-in-range
+      kind-of-meta d = rw (← e, eq-eqb _ _ d)
+
+      pub kind-of-node : (k : ℕ) → (x ≡ 0 → ⊥) → x ≤ 8192 → k ≡ m (item s i 1) → leb k 2 ≡ kind-fits m s i
+      unfolding kind-fits kind-in-range record-at node-of tab
+      kind-of-node k d h p = rw (← e, ne-eqb _ _ d, le-leb _ _ h, p)
+
+      pub kind-of-flag : 8192 < x → true ≡ kind-fits m s i
+      unfolding kind-fits kind-in-range
+      kind-of-flag h = rw (← e, ne-eqb x 0 (λ q. absurd (omega (arith, q))), lt-leb _ _ h)
+
+  pub read-there : (i x : ℕ) (b : Bool) → x ≡ number-at m Writes i → b ≡ has m Reads x → b ≡ is-read m i
+  unfolding is-read
+  read-there i x b e p = p ∙ rw e
+
+  -- ---- versions
+  pub young-flag : (x : ℕ) → 8192 < x → true ≡ young m x
+  unfolding young
+  young-flag x h = rw (lt-ltb _ _ h)
+
+  pub young-version : (x v : ℕ) → x ≤ 8192 → v ≡ version-of m (find m Reads x) → ltb v 4294967295 ≡ young m x
+  unfolding young
+  young-version x v h e = rw (le-ltb _ _ h, e)
+
+  module _ (s x : ℕ) (a : Bool) (p : a ≡ at-home s x) where
+    pub stored-home : a ≡ true → true ≡ stored-at m s x
+    stored-home t = rw (← p, t)
+
+    pub stored-inner : (b : Bool) → a ≡ false → b ≡ inner-before-after m x → b ≡ stored-at m s x
+    stored-inner b t q = q ∙ rw (← p, t)
+
+  -- ---- a write item
+  module _ (i x : ℕ) (e : x ≡ number-at m Writes i) where
+    pub flag-unread : 8192 < x → true ≡ read-fits m i
+    unfolding read-fits
+    flag-unread h = rw (← e, lt-ltb _ _ h)
+
+    pub node-read : (b : Bool) → x ≤ 8192 → b ≡ is-read m i → b ≡ read-fits m i
+    unfolding read-fits
+    node-read b h p = p ∙ rw (← e, le-ltb _ _ h)
+
+    module _ (s : ℕ) (a : Bool) (p : a ≡ stored-at m s x) where
+      pub version-used : (b : Bool) → a ≡ true → b ≡ young m x → b ≡ version-fits m s i
+      unfolding version-fits
+      version-used b t q = q ∙ rw (← e, ← p, t)
+
+      pub version-unused : a ≡ false → true ≡ version-fits m s i
+      unfolding version-fits
+      version-unused t = rw (← e, ← p, t)
+
+    module _ (z : TreeSizes) where
+      module _ (s : ℕ) (a : Bool) (p : a ≡ at-home s x) where
+        pub record-used : (r : Node) (b : Bool) → a ≡ true → r ≡ record-at m Writes i → b ≡ whole-in-range z x r → b ≡ record-fits z m s i
+        unfolding record-fits
+        record-used r b t q f = f ∙ rw (← e, ← p, t, q)
+
+        pub record-unused : a ≡ false → true ≡ record-fits z m s i
+        unfolding record-fits
+        record-unused t = rw (← e, ← p, t)
+
+      -- ---- renewal
+      module _ (s : ℕ) (o : s ≡ server-of (x - 8193)) where
+        pub flag-outside : 8 ≤ s → false ≡ flag-renewal-fits z m i
+        unfolding flag-renewal-fits
+        flag-outside h = rw (← e, ← o, le-ltb _ _ h)
+
+        module _ (w : ℕ) (h : s < 8) (q : w ≡ m (vector-word s 0)) where
+          pub flag-unmarked : 1 < w → false ≡ flag-renewal-fits z m i
+          unfolding flag-renewal-fits
+          flag-unmarked l = rw (← e, ← o, lt-ltb _ _ h, ← q, lt-leb _ _ l)
+
+          pub flag-renewed : (r : Node) (b : Bool) → w ≤ 1 → r ≡ record-at m Writes i → b ≡ whole-in-range z x r → b ≡ flag-renewal-fits z m i
+          unfolding flag-renewal-fits
+          flag-renewed r b l p f = f ∙ rw (← e, ← o, lt-ltb _ _ h, ← q, le-leb _ _ l, p)
+
+      module _ (r : Node) (a : Bool) (p : r ≡ record-at m Writes i) (q : a ≡ inner x r) where
+        pub not-renewed : not a ≡ true → true ≡ inner-renewal-fits z m i
+        unfolding inner-renewal-fits
+        not-renewed t = rw (← e, ← p, ← q, not-true a t)
+
+        module _ (b : Bool) (t : not a ≡ false) (f : b ≡ whole-in-range z x r) where
+          pub inner-unfit : not b ≡ true → false ≡ inner-renewal-fits z m i
+          unfolding inner-renewal-fits
+          inner-unfit u = rw (← e, ← p, ← q, not-false a t, ← f, not-true b u)
+
+          pub inner-renewed : (d : Bool) → not b ≡ false → d ≡ young m x → d ≡ inner-renewal-fits z m i
+          unfolding inner-renewal-fits
+          inner-renewed d u g = g ∙ rw (← e, ← p, ← q, not-false a t, ← f, not-false b u)
+
+      pub renewal-of-flag : (b : Bool) → 8192 < x → b ≡ flag-renewal-fits z m i → b ≡ renewal-fits z m i
+      unfolding renewal-fits
+      renewal-of-flag b h p = p ∙ rw (← e, lt-ltb _ _ h)
+
+      pub renewal-of-inner : (b : Bool) → x ≤ 8192 → b ≡ inner-renewal-fits z m i → b ≡ renewal-fits z m i
+      unfolding renewal-fits
+      renewal-of-inner b h p = p ∙ rw (← e, le-ltb _ _ h)
+
+-- ---- what a rule reads, one test after another
+pub op-there : (k l : ℕ) (m : ClientWord → ℕ) (q key v : ℕ) (b : Bool) → q ≡ m (field 1) → q ≡ 6 → key ≡ m (field 2) → b ≡ in-store (sizes k l) key → not b ≡ false
+    → v ≡ m (field 4) → ltb v k ≡ op-fits (sizes k l) m
+unfolding op-fits
+op-there k l m q key v b e d a p t f = rw (← e, d, ← a, ← p, not-false b t, ← f)
+
+module _ (z : TreeSizes) (m : ClientWord → ℕ) where
+  module _ (q : ℕ) (e : q ≡ m (field 1)) where
+    pub op-other : q ≤ 6 → (q ≡ 6 → ⊥) → true ≡ op-fits z m
+    unfolding op-fits
+    op-other l d = rw (← e, le-leb _ _ l, ne-eqb _ _ d)
+
+    pub op-unknown : 6 < q → false ≡ op-fits z m
+    unfolding op-fits
+    op-unknown l = rw (← e, lt-leb _ _ l)
+
+    module _ (key : ℕ) (b : Bool) (d : q ≡ 6) (a : key ≡ m (field 2)) (p : b ≡ in-store z key) where
+      pub op-astray : not b ≡ true → false ≡ op-fits z m
+      unfolding op-fits
+      op-astray t = rw (← e, d, ← a, ← p, not-true b t)
+
+
+  pub number-asked : (s : Set) (i x : ℕ) (b : Bool) → x ≡ number-at m s i → b ≡ number-in-store z x → b ≡ number-fits z m s i
+  unfolding number-fits
+  number-asked s i x b e p = p ∙ rw e
+
+  module _ (s : Set) (b : Bool) (p : b ≡ leb (said-count m s) (limit s)) where
+    pub too-many : not b ≡ true → false ≡ numbers-fit z m s
+    unfolding numbers-fit
+    too-many t = rw (← p, not-true b t)
+
+    pub numbers-asked : (r : Bool) → not b ≡ false → r ≡ all-below (count m s) (number-fits z m s) → r ≡ numbers-fit z m s
+    unfolding numbers-fit
+    numbers-asked r t q = q ∙ rw (← p, not-false b t)
+
+  -- work
+  module _ (b : Bool) (p : b ≡ op-fits z m) where
+    pub work-no-op : not b ≡ true → false ≡ fit-to-work z m
+    unfolding fit-to-work
+    work-no-op t = rw (← p, not-true b t)
+
+    pub work-by-sets : (r : Bool) → not b ≡ false → r ≡ (numbers-fit z m Reads && numbers-fit z m Writes) → r ≡ fit-to-work z m
+    unfolding fit-to-work
+    work-by-sets r t q = q ∙ rw (← p, not-false b t)
+
+  -- commit
+  module _ (b : Bool) (p : b ≡ (numbers-fit z m Reads && numbers-fit z m Writes)) where
+    pub commit-no-sets : not b ≡ true → false ≡ fit-to-commit z m
+    unfolding fit-to-commit
+    commit-no-sets t = rw (← p, not-true b t)
+
+    module _ (c : Bool) (t : not b ≡ false) (q : c ≡ all-below (count m Reads) (kind-fits m Reads)) where
+      pub commit-no-kinds : not c ≡ true → false ≡ fit-to-commit z m
+      unfolding fit-to-commit
+      commit-no-kinds u = rw (← p, not-false b t, ← q, not-true c u)
+
+      module _ (d : Bool) (u : not c ≡ false) (f : d ≡ all-below (count m Writes) (kind-fits m Writes)) where
+        pub commit-unkind : not d ≡ true → false ≡ fit-to-commit z m
+        unfolding fit-to-commit
+        commit-unkind v = rw (← p, not-false b t, ← q, not-false c u, ← f, not-true d v)
+
+        pub commit-by-reads : (r : Bool) → not d ≡ false → r ≡ all-below (count m Writes) (is-read m) → r ≡ fit-to-commit z m
+        unfolding fit-to-commit
+        commit-by-reads r v g = g ∙ rw (← p, not-false b t, ← q, not-false c u, ← f, not-false d v)
+
+  -- prepare, and unlock
+  module _ (b : Bool) (p : b ≡ servers-fit m (z .servers) (field 5)) where
+    pub prepare-astray : not b ≡ true → false ≡ fit-to-prepare z m
+    unfolding fit-to-prepare
+    prepare-astray t = rw (← p, not-true b t)
+
+    pub unlock-astray : not b ≡ true → false ≡ fit-to-unlock z m
+    unfolding fit-to-unlock
+    unlock-astray t = rw (← p, not-true b t)
+
+    module _ (t : not b ≡ false) where
+      pub unlock-by-writes : (r : Bool) → r ≡ numbers-fit z m Writes → r ≡ fit-to-unlock z m
+      unfolding fit-to-unlock
+      unlock-by-writes r q = q ∙ rw (← p, not-false b t)
+
+      module _ (c : Bool) (q : c ≡ servers-fit m (z .servers) (field 6)) where
+        pub prepared-astray : not c ≡ true → false ≡ fit-to-prepare z m
+        unfolding fit-to-prepare
+        prepared-astray u = rw (← p, not-false b t, ← q, not-true c u)
+
+        pub prepare-by-sets : (r : Bool) → not c ≡ false → r ≡ (numbers-fit z m Reads && numbers-fit z m Writes) → r ≡ fit-to-prepare z m
+        unfolding fit-to-prepare
+        prepare-by-sets r u f = f ∙ rw (← p, not-false b t, ← q, not-false c u)
+
+  -- abort
+  module _ (b : Bool) (p : b ≡ servers-fit m (z .servers) (field 6)) where
+    pub abort-astray : not b ≡ true → false ≡ fit-to-abort z m
+    unfolding fit-to-abort
+    abort-astray t = rw (← p, not-true b t)
+
+    pub abort-by-reads : (r : Bool) → not b ≡ false → r ≡ numbers-fit z m Reads → r ≡ fit-to-abort z m
+    unfolding fit-to-abort
+    abort-by-reads r t q = q ∙ rw (← p, not-false b t)
+
+  -- what a server stores
+  module _ (s i : ℕ) (b : Bool) (p : b ≡ read-fits m i) where
+    pub write-unread : not b ≡ true → false ≡ write-fits z m s i
+    unfolding write-fits
+    write-unread t = rw (← p, not-true b t)
+
+    module _ (c : Bool) (t : not b ≡ false) (q : c ≡ record-fits z m s i) where
+      pub write-unfit : not c ≡ true → false ≡ write-fits z m s i
+      unfolding write-fits
+      write-unfit u = rw (← p, not-false b t, ← q, not-true c u)
+
+      pub write-by-version : (r : Bool) → not c ≡ false → r ≡ version-fits m s i → r ≡ write-fits z m s i
+      unfolding write-fits
+      write-by-version r u f = f ∙ rw (← p, not-false b t, ← q, not-false c u)
+
+  pub writes-all : (s : ℕ) (r : Bool) → r ≡ all-below (count m Writes) (write-fits z m s) → r ≡ writes-fit z m s
+  unfolding writes-fit
+  writes-all s r q = q
+
+  -- renewal
+  module _ (q : ℕ) (e : q ≡ m (field 9)) where
+    pub renew-kept : (r : Bool) → q ≤ 1 → (q ≡ 1 → ⊥) → r ≡ all-below (count m Writes) (renewal-fits z m) → r ≡ fit-to-renew z m
+    unfolding fit-to-renew
+    renew-kept r l d f = f ∙ rw (← e, le-leb _ _ l, ne-eqb _ _ d)
+
+    pub renew-lost : q ≡ 1 → true ≡ fit-to-renew z m
+    unfolding fit-to-renew
+    renew-lost d = rw (← e, d)
+
+    pub renew-astray : 1 < q → false ≡ fit-to-renew z m
+    unfolding fit-to-renew
+    renew-astray l = rw (← e, lt-leb _ _ l)
+
+  -- apply
+  module _ (s : ℕ) (last b : Bool) (p : b ≡ servers-fit m (z .servers) (field 7)) where
+    pub apply-astray : not b ≡ true → false ≡ fit-to-apply z m s last
+    unfolding fit-to-apply
+    apply-astray t = rw (← p, not-true b t)
+
+    module _ (c : Bool) (t : not b ≡ false) (q : c ≡ numbers-fit z m Reads) where
+      pub apply-no-reads : not c ≡ true → false ≡ fit-to-apply z m s last
+      unfolding fit-to-apply
+      apply-no-reads u = rw (← p, not-false b t, ← q, not-true c u)
+
+      module _ (d : Bool) (u : not c ≡ false) (f : d ≡ fit-to-unlock z m) where
+        pub apply-no-unlock : not d ≡ true → false ≡ fit-to-apply z m s last
+        unfolding fit-to-apply
+        apply-no-unlock v = rw (← p, not-false b t, ← q, not-false c u, ← f, not-true d v)
+
+        module _ (g : Bool) (v : not d ≡ false) (h : g ≡ writes-fit z m s) where
+          pub apply-no-writes : not g ≡ true → false ≡ fit-to-apply z m s last
+          unfolding fit-to-apply
+          apply-no-writes w = rw (← p, not-false b t, ← q, not-false c u, ← f, not-false d v, ← h, not-true g w)
+
+          module _ (w : not g ≡ false) where
+            pub apply-last : (r : Bool) → last ≡ true → r ≡ fit-to-renew z m → r ≡ fit-to-apply z m s last
+            unfolding fit-to-apply
+            apply-last r a k = k ∙ rw (← p, not-false b t, ← q, not-false c u, ← f, not-false d v, ← h, not-false g w, a)
+
+            pub apply-first : last ≡ false → true ≡ fit-to-apply z m s last
+            unfolding fit-to-apply
+            apply-first a = rw (← p, not-false b t, ← q, not-false c u, ← f, not-false d v, ← h, not-false g w, a)
+
+pub ruleset rule-exits = (
+  first-fails,
+  second-says,
+  work-no-op,
+  work-by-sets,
+  commit-no-sets,
+  commit-no-kinds,
+  commit-unkind,
+  commit-by-reads,
+  prepare-astray,
+  unlock-astray,
+  unlock-by-writes,
+  prepared-astray,
+  prepare-by-sets,
+  abort-astray,
+  abort-by-reads,
+  write-unread,
+  write-unfit,
+  write-by-version,
+  writes-all,
+  renew-kept,
+  renew-lost,
+  renew-astray,
+  apply-astray,
+  apply-no-reads,
+  apply-no-unlock,
+  apply-no-writes,
+  apply-last,
+  apply-first,
+)
+
+pub ruleset fit-exits = (
+  servers-asked,
+  reads-counted,
+  writes-counted,
+  copies-counted,
+  kind-of-meta,
+  kind-of-node,
+  kind-of-flag,
+  read-there,
+  young-flag,
+  young-version,
+  stored-home,
+  stored-inner,
+  flag-unread,
+  node-read,
+  version-used,
+  version-unused,
+  record-used,
+  record-unused,
+  flag-outside,
+  flag-unmarked,
+  flag-renewed,
+  not-renewed,
+  inner-unfit,
+  inner-renewed,
+  renewal-of-flag,
+  renewal-of-inner,
+  op-other,
+  op-unknown,
+  op-astray,
+  op-there,
+  too-many,
+  numbers-asked,
+)

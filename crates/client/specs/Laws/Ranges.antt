@@ -48,7 +48,7 @@ module _ (z : TreeSizes) (m : ClientWord → ℕ) where
   unfoldable pub client-fits : Bool
   client-fits =
       all-below 13 (field-fits m (2 ^ z .servers - 1))
-      && (op-fits && (all-below (count m Reads) (item-fits Reads) && (all-below (count m Writes) (item-fits Writes) && all-below 8 (vector-fits m))))
+      && (op-fits z m && (all-below (count m Reads) (item-fits Reads) && (all-below (count m Writes) (item-fits Writes) && all-below 8 (vector-fits m))))
 
 -- ---- what a state in range is known by
 pub all-at : (f : ℕ → Bool) (n i : ℕ) → all-below n f ≡ true → i < n → f i ≡ true

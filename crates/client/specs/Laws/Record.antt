@@ -1,13 +1,20 @@
--- Whether a name is one of the store, a root's too.
-use mathlib.Core.Path.{_≡_, sym, _∙_}
-use mathlib.Core.Bool.{Bool, true, false, not}
-use Prim.Native.Nat.{ℕ, _-_, _≤_, _<_}
-use borrow.Author.Tests.{lt-ltb, le-ltb, not-true, not-false}
+-- Whether a name is one of the store, a root's and a child's too.
+use mathlib.Core.Path.{_≡_, refl, sym, _∙_}
+use mathlib.Core.Bool.{Bool, true, false, _&&_, not, true≢false}
+use mathlib.Core.List.{List, [], _∷_}
+use Prim.Native.Nat.{ℕ, zero, suc, _+_, _-_, _≤_, _<_}
+use native.Mathlib.Omega.{arith}
+use native.Mathlib.Numerals.{add-one}
+use borrow.Author.Tests.{eq-eqb, ne-eqb, lt-ltb, le-ltb, le-leb, lt-leb, not-true, not-false}
 use lib.Dec.{leb, ltb}
+use lib.ListN.{length, getD, take}
 use Rattle.nodes.specs.Name.{server-of, slot-of}
 use Rattle.nodes.specs.declared.node.Node.{Node}
+use Rattle.nodes.specs.Node.{extra, slotsOf}
+use Rattle.nodes.specs.Range.{node-in-range}
+use Rattle.nodes.specs.Laws.Range.{range-count}
 use Rattle.operations.specs.Slot.{TreeSizes}
-use Rattle.client.specs.Record.{sizes, first-slot, in-store, record-in-range}
+use Rattle.client.specs.Record.{sizes, first-slot, in-store, record-in-range, all, children-there, node-fits, whole-in-range}
 
 -- the server r of a name is looked at first, then its slot
 module _ (servers slots x r : ℕ) (o : r ≡ server-of x) where
@@ -27,3 +34,93 @@ module _ (z : TreeSizes) (x : ℕ) (n : Node) (b : Bool) (e : x ≡ 0) (p : b �
   pub root-there : not b ≡ false → leb (n .version) 4294967295 ≡ record-in-range z x n
   unfolding record-in-range
   root-there t = let q : in-store z (first-slot n) ≡ true = sym p ∙ not-false b t in rw (e, q)
+
+-- ---- an inner node's children, one after another
+module _ (f : ℕ → Bool) where
+  -- the first i of them
+  all-next : (l : List ℕ) (i : ℕ) → i < length l → all f (take (suc i) l) ≡ (all f (take i l) && f (getD l i 0))
+  unfolding all
+  all-next [] i h = absurd (omega arith)
+  all-next (a ∷ l) zero h = go (f a)
+    where
+      go : (b : Bool) → (b && true) ≡ b
+      go true = refl
+      go false = refl
+  all-next (a ∷ l) (suc i) h = go (f a) (all-next l i (omega arith))
+    where
+      go : (b : Bool) → all f (take (suc i) l) ≡ (all f (take i l) && f (getD l i 0)) → (b && all f (take (suc i) l)) ≡ ((b && all f (take i l)) && f (getD l i 0))
+      go true e = e
+      go false e = refl
+
+  all-short : (l : List ℕ) (n : ℕ) → all f (take n l) ≡ false → (k : ℕ) → n ≤ k → all f (take k l) ≡ false
+  unfolding all
+  all-short [] zero e k h = absurd (true≢false e)
+  all-short [] (suc n) e k h = absurd (true≢false e)
+  all-short (a ∷ l) zero e k h = absurd (true≢false e)
+  all-short (a ∷ l) (suc n) e zero h = absurd (omega arith)
+  all-short (a ∷ l) (suc n) e (suc k) h = go (f a) e (λ q. all-short l n q k (omega arith))
+    where
+      go : (b : Bool) → (b && all f (take n l)) ≡ false → (all f (take n l) ≡ false → all f (take k l) ≡ false) → (b && all f (take k l)) ≡ false
+      go true e g = g e
+      go false e g = refl
+
+module _ (z : TreeSizes) (n : Node) where
+  pub not-inner : (n .kind ≡ 2 → ⊥) → true ≡ children-there z n
+  unfolding children-there
+  not-inner d = rw (ne-eqb _ _ d)
+
+-- the first i of k children are names of the store
+pub record ThereYet (z : TreeSizes) (l : List ℕ) (k i : ℕ) : Type 0 where
+  pub within : i ≤ k
+  pub so-far : all (in-store z) (take i l) ≡ true
+
+module _ (z : TreeSizes) (l : List ℕ) (k : ℕ) where
+  pub none-yet : ThereYet z l k 0
+  unfolding all
+  none-yet = record { within = omega arith; so-far = refl }
+
+  module _ (i : ℕ) (b : Bool) (long : length l ≡ 15) (few : k ≤ 15) (h : i < k) (e : b ≡ in-store z (getD l i 0)) (y : ThereYet z l k i) where
+    next-is : all (in-store z) (take (suc i) l) ≡ b
+    next-is = all-next (in-store z) l i (omega (arith, long)) ∙ rw (y .so-far, e)
+
+    pub one-more : not b ≡ false → ThereYet z l k (i + 1)
+    one-more t = record { within = omega arith; so-far = rw (add-one i) (next-is ∙ not-false b t) }
+
+module _ (z : TreeSizes) (n : Node) (inner : n .kind ≡ 2) (i : ℕ) where
+  pub one-astray : (b : Bool) → length (n .slots) ≡ 15 → n .count + 1 ≤ 15 → i < n .count + 1 → b ≡ in-store z (getD (n .slots) i 0) → ThereYet z (n .slots) (n .count + 1) i → not b ≡ true
+      → false ≡ children-there z n
+  unfolding children-there slotsOf extra
+  one-astray b long few h e y t =
+      sym (rw (eq-eqb _ _ inner) (all-short (in-store z) (n .slots) (suc i) (next-is z (n .slots) (n .count + 1) i b long few h e y ∙ not-true b t) (n .count + 1) (omega arith)))
+
+  pub all-children : n .count + 1 ≤ i → ThereYet z (n .slots) (n .count + 1) i → true ≡ children-there z n
+  unfolding children-there slotsOf extra
+  all-children h y = let q : i ≡ n .count + 1 = omega (arith, y .within) in sym (rw (eq-eqb _ _ inner, ← q) (y .so-far))
+
+-- ---- nodes and objects stored whole
+module _ (z : TreeSizes) (n : Node) (b : Bool) (p : b ≡ node-in-range n) where
+  pub node-unfit : not b ≡ true → false ≡ node-fits z n
+  unfolding node-fits
+  node-unfit t = rw (← p, not-true b t)
+
+  pub node-whole : (r : Bool) → not b ≡ false → r ≡ children-there z n → r ≡ node-fits z n
+  unfolding node-fits
+  node-whole r t q = q ∙ rw (← p, not-false b t)
+
+  pub few-keys : not b ≡ false → n .count ≤ 14
+  few-keys t = range-count n (sym p ∙ not-false b t)
+
+module _ (z : TreeSizes) (x : ℕ) (n : Node) (r : Bool) where
+  pub whole-meta : x ≡ 0 → r ≡ record-in-range z x n → r ≡ whole-in-range z x n
+  unfolding whole-in-range
+  whole-meta e q = q ∙ rw (eq-eqb _ _ e)
+
+  pub whole-node : (x ≡ 0 → ⊥) → x ≤ 8192 → r ≡ node-fits z n → r ≡ whole-in-range z x n
+  unfolding whole-in-range
+  whole-node d h q = q ∙ rw (ne-eqb _ _ d, le-leb _ _ h)
+
+  pub whole-flag : 8192 < x → r ≡ record-in-range z x n → r ≡ whole-in-range z x n
+  unfolding whole-in-range
+  whole-flag h q = q ∙ rw (ne-eqb x 0 (λ e. absurd (omega (arith, e))), lt-leb _ _ h)
+
+pub ruleset whole-exits = (not-inner, none-yet, one-more, one-astray, all-children, node-unfit, node-whole, few-keys, whole-meta, whole-node, whole-flag)

@@ -1,19 +1,20 @@
 -- The ways out of the functions on vectors.
-use mathlib.Core.Path.{_≡_}
-use mathlib.Core.Bool.{Bool}
+use mathlib.Core.Path.{_≡_, _∙_}
+use mathlib.Core.Bool.{Bool, true, false}
 use mathlib.Core.List.{List}
 use Prim.Native.Nat.{ℕ, _+_, _-_, _≤_, _<_}
 use native.Mathlib.Omega.{arith}
 use native.Mathlib.Numerals.{add-one}
-use borrow.Author.Tests.{eq-eqb, ne-eqb, lt-ltb, le-ltb}
-use lib.Dec.{eqb}
+use borrow.Author.Tests.{eq-eqb, ne-eqb, lt-ltb, le-ltb, le-leb, lt-leb}
+use lib.Dec.{eqb, leb}
 use Rattle.memory.specs.Bit.{bit}
 use Rattle.nodes.specs.Flags.{with-flag}
 use Rattle.nodes.specs.Name.{server-of, slot-of}
 use Rattle.client.specs.declared.part.Set.the-variants.{Writes}
 use Rattle.client.specs.Layout.{ClientWord, field, item, vector-word}
 use Rattle.client.specs.Sets.{count, number-at}
-use Rattle.client.specs.Vectors.{has-vector, is-fetched, vector-copy, counted-one, counted-words, seen-words}
+use Rattle.client.specs.Items.{all-below}
+use Rattle.client.specs.Vectors.{has-vector, is-fetched, vector-copy, counted-one, counted-words, seen-words, flag-fits, flags-fit, vector-fits}
 
 pub asked-vector : (m : ClientWord → ℕ) (s q : ℕ) → q ≡ m (vector-word s 0) → eqb q 1 ≡ has-vector m s
 unfolding has-vector
@@ -36,6 +37,36 @@ module _ (m : ClientWord → ℕ) (s i x : ℕ) (ws : List ℕ) (e : x ≡ numbe
     pub flag-counted : (v k : ℕ) (r : List ℕ) → t ≡ s → v ≡ m (item Writes i 19) → k ≡ slot-of (x - 8193) → r ≡ with-flag ws k (eqb v 1) → r ≡ counted-one m s i ws
     unfolding counted-one
     flag-counted v k r d a l p = rw (← e, le-ltb _ _ h, ← o, eq-eqb _ _ d, ← a, ← l) p
+
+-- ---- refusal 10
+module _ (m : ClientWord → ℕ) (s i x : ℕ) (e : x ≡ number-at m Writes i) where
+  pub flag-none : x < 8193 → true ≡ flag-fits m s i
+  unfolding flag-fits
+  flag-none h = rw (← e, lt-ltb _ _ h)
+
+  module _ (h : 8193 ≤ x) (t : ℕ) (o : t ≡ server-of (x - 8193)) where
+    pub flag-elsewhere : (t ≡ s → ⊥) → true ≡ flag-fits m s i
+    unfolding flag-fits
+    flag-elsewhere d = rw (← e, le-ltb _ _ h, ← o, ne-eqb _ _ d)
+
+    pub flag-here : (v : ℕ) → t ≡ s → v ≡ m (item Writes i 19) → leb v 1 ≡ flag-fits m s i
+    unfolding flag-fits
+    flag-here v d a = rw (← e, le-ltb _ _ h, ← o, eq-eqb _ _ d, ← a)
+
+pub flags-all : (m : ClientWord → ℕ) (s : ℕ) (b : Bool) → b ≡ all-below (count m Writes) (flag-fits m s) → b ≡ flags-fit m s
+unfolding flags-fit
+flags-all m s b e = e
+
+module _ (m : ClientWord → ℕ) (s q : ℕ) (e : q ≡ m (vector-word s 0)) where
+  pub vector-unmarked : 1 < q → false ≡ vector-fits m s
+  unfolding vector-fits
+  vector-unmarked l = rw (← e, lt-leb _ _ l)
+
+  pub vector-marked : (b : Bool) → q ≤ 1 → b ≡ flags-fit m s → b ≡ vector-fits m s
+  unfolding vector-fits
+  vector-marked b l p = p ∙ rw (← e, le-leb _ _ l)
+
+pub ruleset vector-exits = (flag-none, flag-elsewhere, flag-here, flags-all, vector-unmarked, vector-marked)
 
 -- i of the n write items are counted
 pub record Counting (m : ClientWord → ℕ) (s n : ℕ) (ws : List ℕ) (i : ℕ) : Type 0 where
