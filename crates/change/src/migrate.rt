@@ -2,6 +2,7 @@
 use crate::rise::write_node;
 use client::own::put_own;
 use client::range::single;
+use nodes::name::Name;
 use nodes::node::Node;
 use walk::down::Descent;
 use walk::down::go_down;
@@ -18,7 +19,7 @@ use walk::walk::ask_node;
 use walk::walk::going;
 ghost use mathlib.Core.Path.{_≡_};
 ghost use mathlib.Core.Bool.{true};
-ghost use Prim.Native.Nat.{_+_, _/_, _<_, _≤_};
+ghost use Prim.Native.Nat.{_+_, _<_, _≤_};
 ghost use lib.ListN.{getD};
 ghost use Rattle.nodes.specs.Kept.{Whole};
 ghost use Rattle.operations.specs.Object.{node};
@@ -114,7 +115,8 @@ fn move_to(
     ensures { λ r. ⌜ Moved (sizes servers slots) (held (now (part .entry))) (now (own .entry)) (now (used .entry)) name server n
         «is_root» r (now (own .exit)) (now (used .exit)) ⌝ }
 {
-    let slot = (name % 1024) as usize;
+    let from = Name { number: name };
+    let slot = from.slot() as usize;
     let t = take_place(part, servers, slots, own, used, server as usize, slot);
     let stop = t.stop;
     let on = going(stop);
@@ -317,7 +319,8 @@ fn move_if(
     if n.kind == 0 {
         return answers(part, used, 0, 0);
     }
-    if name / 1024 == server {
+    let from = Name { number: name };
+    if from.server() == server {
         return answers(part, used, 0, 1);
     }
     if name == top {

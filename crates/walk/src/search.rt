@@ -15,7 +15,7 @@ use nodes::vector::first_free;
 use nodes::vector::with_taken;
 ghost use mathlib.Core.Path.{_≡_};
 ghost use mathlib.Core.List.{[], _∷_};
-ghost use Prim.Native.Nat.{_+_, _/_, _<_};
+ghost use Prim.Native.Nat.{_+_, _<_};
 ghost use lib.ListN.{getD};
 ghost use Rattle.nodes.specs.Name.{name};
 ghost use Rattle.nodes.specs.Placement.{row};
@@ -38,14 +38,16 @@ fn count_one(own: &[u64], s: usize, i: usize, words: [u64; 16]) -> [u64; 16]
     if number < 8193 {
         return words;
     }
-    let name = number - 8193;
-    if (name / 1024) as usize != s {
+    let flag = Name {
+        number: number - 8193,
+    };
+    if flag.server() as usize != s {
         return words;
     }
     let r = own_record(own, i);
     let values = r.slots;
     let taken = values[0] == 1;
-    with_taken(words, (name % 1024) as usize, taken)
+    with_taken(words, flag.slot() as usize, taken)
 }
 
 // "own frees and takes counted": the operation's own, the first item of the list last.
@@ -264,8 +266,9 @@ pub fn take_for(
     ensures { λ r. ⌜ TakenFor (sizes servers slots) (held (now (part .entry))) (now (own .entry)) (now (used .entry)) name r
         (now (own .exit)) (now (used .exit)) ⌝ }
 {
-    let home = (name / 1024) as usize;
-    let slot = (name % 1024) as usize;
+    let split = Name { number: name };
+    let home = split.server() as usize;
+    let slot = split.slot() as usize;
     let t = search(part, servers, slots, own, used, home, slot);
     let stop = t.stop;
     let on = going(stop);

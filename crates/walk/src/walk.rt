@@ -12,10 +12,11 @@ use client::range::in_store;
 use client::used::is_used;
 use client::used::push_used;
 use nodes::found::Found;
+use nodes::name::Name;
 use nodes::node::Node;
 ghost use mathlib.Core.Path.{_≡_};
 ghost use mathlib.Core.Bool.{true};
-ghost use Prim.Native.Nat.{_+_, _/_, _<_, _≤_};
+ghost use Prim.Native.Nat.{_+_, _<_, _≤_};
 ghost use lib.ListN.{length, getD};
 ghost use Rattle.operations.specs.Object.{meta, node, flag};
 ghost use Rattle.client.specs.Record.{sizes};
@@ -268,7 +269,8 @@ pub fn see_flag(
         return ask_outside(part, used);
     }
     let number = flag_number(name);
-    let server = name / 1024;
+    let flag = Name { number: name };
+    let server = flag.server();
     see_number(
         part,
         servers,

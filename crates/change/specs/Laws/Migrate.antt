@@ -2,7 +2,7 @@
 use mathlib.Core.Path.{_≡_, refl, sym, _∙_}
 use mathlib.Core.Bool.{Bool, true, false, not}
 use mathlib.Core.List.{List, [], _∷_}
-use Prim.Native.Nat.{ℕ, zero, suc, _-_, _/_, _≤_, _<_}
+use Prim.Native.Nat.{ℕ, zero, suc, _-_, _≤_, _<_}
 use native.Mathlib.Omega.{arith}
 use native.Mathlib.Decide.{ℕ-discrete, decLe}
 use lib.ListN.{length, getD}
@@ -129,15 +129,15 @@ module _ (z : TreeSizes) (m : ClientWord → ℕ) (x u : List ℕ) (g : OwnGood 
     used-is : move-if z top nm s y ≡ ifd (ℕ-discrete (server-of nm) s) (P.done ((0, 1), [])) (move-node z top nm s y (n .level) (keysOf n))
     used-is = move-used z top nm s (n .kind) (n .level) (keysOf n) (slotsOf n) k
 
-    pub if-there : (st : Stop) (u′ : List ℕ) → nm / 1024 ≡ s → Ends m u 0 1 st u′ → Operated z m x u (move-if z top nm s y) st x u′
-    if-there st u′ e a = walks-operated z m x u (move-if z top nm s y) st u′ g (record {
-      same = rw (used-is, ifd-yes (ℕ-discrete (server-of nm) s) (P.done ((0, 1), [])) (move-node z top nm s y (n .level) (keysOf n)) e) (a .same z [] ∙ ended-nothing st (used-in u′));
+    pub if-there : (home : ℕ) (st : Stop) (u′ : List ℕ) → home ≡ server-of nm → home ≡ s → Ends m u 0 1 st u′ → Operated z m x u (move-if z top nm s y) st x u′
+    if-there home st u′ o e a = walks-operated z m x u (move-if z top nm s y) st u′ g (record {
+      same = rw (used-is, ifd-yes (ℕ-discrete (server-of nm) s) (P.done ((0, 1), [])) (move-node z top nm s y (n .level) (keysOf n)) (sym o ∙ e)) (a .same z [] ∙ ended-nothing st (used-in u′));
       noted = a .noted;
     })
 
-    module _ (e : nm / 1024 ≡ s → ⊥) where
+    module _ (home : ℕ) (o : home ≡ server-of nm) (e : home ≡ s → ⊥) where
       node-is : move-if z top nm s y ≡ move-node z top nm s y (n .level) (keysOf n)
-      node-is = used-is ∙ ifd-no (ℕ-discrete (server-of nm) s) (P.done ((0, 1), [])) (move-node z top nm s y (n .level) (keysOf n)) e
+      node-is = used-is ∙ ifd-no (ℕ-discrete (server-of nm) s) (P.done ((0, 1), [])) (move-node z top nm s y (n .level) (keysOf n)) (λ t. e (o ∙ t))
 
       pub if-root : (st : Stop) (x′ u′ : List ℕ) → nm ≡ top → Operated z m x u (move-root z nm s y) st x′ u′ → Operated z m x u (move-if z top nm s y) st x′ u′
       if-root st x′ u′ f a = rw (node-is, ifd-yes (ℕ-discrete nm top) (move-root z nm s y) (ifd (decLe 7 (length (keysOf n))) (first-key (keysOf n) (move-below z top nm s y (n .level))) (P.fail no-tree)) f) a

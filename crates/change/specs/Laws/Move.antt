@@ -2,7 +2,7 @@
 use mathlib.Core.Path.{_≡_, refl, sym, _∙_}
 use mathlib.Core.Bool.{Bool, true, false, not}
 use mathlib.Core.List.{List, [], _∷_}
-use Prim.Native.Nat.{ℕ, _%_, _≤_, _<_}
+use Prim.Native.Nat.{ℕ, _≤_, _<_}
 use native.Mathlib.Omega.{arith}
 use lib.ListN.{length, getD}
 use borrow.Author.Tests.{not-true, not-false}
@@ -160,9 +160,12 @@ module _ (z : TreeSizes) (m : ClientWord → ℕ) (x u : List ℕ) (s slot : ℕ
     pub move-there : in-store z (t .name) ≡ true
     move-there = a .inside (sym pc ∙ not-false c nc)
 
-module _ (z : TreeSizes) (m : ClientWord → ℕ) (x u : List ℕ) (nm s : ℕ) (n : Node) (b : Bool) (empty : getD x 0 0 ≡ 0) (t : Taken) (x₁ u₁ : List ℕ) (a : Placed z m x u s (nm % 1024) t x₁ u₁) (c : Bool) (pc : c ≡ goes (t .stop)) where
+module _ (z : TreeSizes) (m : ClientWord → ℕ) (x u : List ℕ) (nm s : ℕ) (n : Node) (b : Bool) (empty : getD x 0 0 ≡ 0) (k : ℕ) (l : k ≡ slot-of nm) (t : Taken) (x₁ u₁ : List ℕ) (placed : Placed z m x u s k t x₁ u₁) (c : Bool) (pc : c ≡ goes (t .stop)) where
   abbrev v : Val
   v = value-of (node nm) n
+
+  a : Placed z m x u s (slot-of nm) t x₁ u₁
+  a = rw (← l) placed
 
   pub move-no-place : not c ≡ true → Moved z m x u nm s n b t x₁ u₁
   move-no-place nc =

@@ -1,5 +1,5 @@
 -- Laws of a question: own writes, then what the part has.
-use mathlib.Core.Path.{_≡_, refl, sym, _∙_}
+use mathlib.Core.Path.{_≡_, refl, sym, ap, _∙_}
 use mathlib.Core.Bool.{Bool, true, false, _&&_, not}
 use mathlib.Core.List.{List, [], _∷_, _++_}
 use mathlib.Core.Option.{Option, none, some}
@@ -570,9 +570,9 @@ module _ (z : TreeSizes) (m : ClientWord → ℕ) (x u : List ℕ) (n : ℕ) (s 
   node-found k t p h =
       record { asks = λ w hold. h .asks (node n) (sym p) (sym e ∙ not-false b t) refl w hold; noted = h .noted; long = h .long; inside = λ g. sym e ∙ not-false b t; small = h .small (node n) (sym p) (sym e ∙ not-false b t) }
 
-  pub flag-found : (k : ℕ) → not b ≡ false → k ≡ 8193 + n → Numbered z m x u k (LacksVector (n / 1024)) s r u′ → Answer z m x u (flag n) s r u′
-  flag-found k t p h =
-      record { asks = λ w hold. h .asks (flag n) (sym p) (sym e ∙ not-false b t) refl w hold; noted = h .noted; long = h .long; inside = λ g. sym e ∙ not-false b t; small = h .small (flag n) (sym p) (sym e ∙ not-false b t) }
+  pub flag-found : (k q : ℕ) → not b ≡ false → k ≡ 8193 + n → q ≡ server-of n → Numbered z m x u k (LacksVector q) s r u′ → Answer z m x u (flag n) s r u′
+  flag-found k q t p o h =
+      record { asks = λ w hold. h .asks (flag n) (sym p) (sym e ∙ not-false b t) (ap LacksVector (sym o)) w hold; noted = h .noted; long = h .long; inside = λ g. sym e ∙ not-false b t; small = h .small (flag n) (sym p) (sym e ∙ not-false b t) }
 
 pub meta-found : (z : TreeSizes) (m : ClientWord → ℕ) (x u : List ℕ) (s : Stop) (r : Node) (u′ : List ℕ) → Numbered z m x u 0 LacksMeta s r u′ → Answer z m x u meta s r u′
 meta-found z m x u s r u′ h = record { asks = λ w hold. h .asks meta refl refl refl w hold; noted = h .noted; long = h .long; inside = λ g. refl; small = h .small meta refl refl }

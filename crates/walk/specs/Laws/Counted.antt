@@ -3,7 +3,7 @@ use mathlib.Core.Path.{_≡_, refl, sym, _∙_}
 use mathlib.Core.Bool.{Bool, true, false, cond}
 use mathlib.Core.List.{List, [], _∷_}
 use mathlib.Core.Option.{Option, none, some}
-use Prim.Native.Nat.{ℕ, zero, suc, _+_, _-_, _*_, _/_, _%_, _≤_, _<_}
+use Prim.Native.Nat.{ℕ, zero, suc, _+_, _-_, _*_, _≤_, _<_}
 use native.Mathlib.Omega.{arith}
 use native.Mathlib.Decide.{ℕ-discrete}
 use lib.Dec.{eqb, ltb}
@@ -176,14 +176,15 @@ module _ (x : List ℕ) (s i : ℕ) (ws : List ℕ) where
   unfolding counts-one own-number
   count-no-flag h = rw (counts-one, own-number, lt-ltb k 8193 h)
 
-  pub count-elsewhere : 8193 ≤ k → ((k - 8193) / 1024 ≡ s → ⊥) → ws ≡ counts-one x s i ws
-  unfolding counts-one own-number
-  count-elsewhere h d = rw (counts-one, own-number, le-ltb k 8193 h, ne-eqb ((k - 8193) / 1024) s d)
+  module _ (t : ℕ) (o : t ≡ server-of (k - 8193)) (h : 8193 ≤ k) where
+    pub count-elsewhere : (t ≡ s → ⊥) → ws ≡ counts-one x s i ws
+    unfolding counts-one own-number
+    count-elsewhere d = rw (counts-one, own-number, le-ltb k 8193 h, ← o, ne-eqb t s d)
 
-  pub count-flag : (q : Node) (r : List ℕ) → 8193 ≤ k → (k - 8193) / 1024 ≡ s → q ≡ own-record x i → r ≡ with-flag ws ((k - 8193) % 1024) (eqb (getD (q .slots) 0 0) 1)
-      → r ≡ counts-one x s i ws
-  unfolding counts-one own-number
-  count-flag q r h d p e = rw (counts-one, own-number, le-ltb k 8193 h, eq-eqb ((k - 8193) / 1024) s d, ← p) e
+    pub count-flag : (q : Node) (l : ℕ) (r : List ℕ) → t ≡ s → q ≡ own-record x i → l ≡ slot-of (k - 8193) → r ≡ with-flag ws l (eqb (getD (q .slots) 0 0) 1)
+        → r ≡ counts-one x s i ws
+    unfolding counts-one own-number
+    count-flag q l r d p a e = rw (counts-one, own-number, le-ltb k 8193 h, ← o, eq-eqb t s d, ← p, ← a) e
 
 pub ruleset count-exits = (count-no-flag, count-elsewhere, count-flag)
 

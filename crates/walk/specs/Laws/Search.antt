@@ -13,7 +13,7 @@ use Rattle.base.specs.Laws.Test.{ifd-yes, ifd-no}
 use Rattle.nodes.specs.declared.found.Found.{Found}
 use Rattle.nodes.specs.declared.found.Found.the-variants.{At, Absent}
 use Rattle.nodes.specs.Laws.Found.{absent-inside}
-use Rattle.nodes.specs.Name.{name}
+use Rattle.nodes.specs.Name.{name, server-of, slot-of}
 use Rattle.nodes.specs.Placement.{row}
 use Rattle.operations.specs.Object.{no-slot, Writes}
 use Rattle.operations.specs.Slot.{TreeSizes, search, present, take-flag}
@@ -30,7 +30,7 @@ use Rattle.walk.specs.Ask.{Holds-writes, Noted}
 use Rattle.walk.specs.Laws.Down.{stops-not}
 use Rattle.walk.specs.Take.{FlagTaken}
 use Rattle.walk.specs.Vector.{Looked}
-use Rattle.walk.specs.Search.{LookedInRow, Sought, TakenOn}
+use Rattle.walk.specs.Search.{LookedInRow, Sought, TakenOn, TakenFor}
 
 -- ---- a row
 module _ (servers slots : ℕ) (m : ClientWord → ℕ) (x u : List ℕ) (s slot : ℕ) where
@@ -162,5 +162,10 @@ module _ (z : TreeSizes) (m : ClientWord → ℕ) (x u ss : List ℕ) (slot : �
         few = f .few;
         inside = f .inside;
       }
+
+-- from the home and the slot that a name is taken apart into
+pub for-name : (z : TreeSizes) (m : ClientWord → ℕ) (x u : List ℕ) (n home slot : ℕ) (r : Taken) (x′ u′ : List ℕ) → home ≡ server-of n → slot ≡ slot-of n
+    → TakenOn z m x u (present (z .servers) (row home)) slot r x′ u′ → TakenFor z m x u n r x′ u′
+for-name z m x u n home slot r x′ u′ o l h = rw (← o, ← l) h
 
 pub ruleset take-exits = (take-stops, take-done)

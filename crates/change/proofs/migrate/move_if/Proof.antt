@@ -8,6 +8,7 @@ move-if-spec = tie.close (tie.spec
     (λ c κs. search needs)  -- answers-requires
     (λ c. search needs)  -- same-length
     (λ c. search (if-exits, needs))  -- returns
+    (λ c κs. search needs)  -- server-requires
     (λ c κs. search needs)  -- answers-requires-2
     (λ c. search needs)  -- same-length-2
     (λ c. search (if-exits, needs))  -- returns-2

@@ -5,6 +5,7 @@ use Rattle.change.proofs.migrate.move_to.Tie as tie
 
 pub move-to-spec : {M : Type 1} → statement M
 move-to-spec = tie.close (tie.spec
+    (λ c κs. search needs)  -- slot-requires
     (λ c κs. ((search needs, search needs, search needs, search needs, search needs), search needs))  -- take-place-requires
     (λ c κs. search needs)  -- going-requires
     (λ c. search needs)  -- same-length

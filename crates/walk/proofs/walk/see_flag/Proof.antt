@@ -10,6 +10,7 @@ see-flag-spec = tie.close (tie.spec
     (λ c. search needs)  -- same-length
     (λ c. search (answer-exits, needs))  -- returns
     (λ c κs. search (answer-exits, needs))  -- flag-number-requires
+    (λ c κs. search needs)  -- server-requires
     (λ c κs. search needs)  -- see-number-requires
     (λ c. search needs)  -- same-length-2
     (λ c. search (answer-exits, needs))  -- returns-2
