@@ -1,4 +1,5 @@
 // The last questions before the answer: what would be written is looked at once all is read.
+use client::items::has;
 use client::lookup::copied;
 use client::own::own_record;
 use client::part::Set;
@@ -15,10 +16,10 @@ ghost use Rattle.client.specs.declared.part.Set.the-variants.{Reads};
 ghost use Rattle.client.specs.Layout.{writes-count, ClientPart};
 ghost use Rattle.client.specs.Sets.{held, find};
 ghost use Rattle.client.specs.Lent.{OwnFits, own-list};
-ghost use Rattle.client.specs.Work.{version-in, count-new, any-at-last};
+ghost use Rattle.client.specs.Work.{version-in, version-there, count-new, versions-there, any-at-last};
 ghost use Rattle.walk.specs.Ask.{OwnKept};
 ghost use Rattle.change.specs.Fit.{entries-fit};
-ghost use Rattle.change.specs.Last.{own-fits, new-at, stays-below, last-reason};
+ghost use Rattle.change.specs.Last.{own-fits, new-at, stays-below, last-reason, there-at};
 
 // "a node with keys that don't rise or a level above 4 would be written"
 fn own_fits(own: &[u64], i: usize) -> bool
@@ -94,6 +95,48 @@ fn version_in(part: &[u8], number: u64) -> u64
     }
 }
 
+// Is the version of an object that was read one of 32 bits, or did the object come into use in this step?
+fn version_there(part: &[u8], number: u64) -> bool
+    requires { ⌜ ClientPart (now part) ⌝ }
+    ensures { λ r. ⌜ r ≡ version-there (held (now (part .entry))) number (find (held (now (part .entry))) Reads number) ⌝ }
+{
+    let at = find(part, Set::Reads, number);
+    match at {
+        Found::At(i) => {
+            let n = record_at(part, Set::Reads, i);
+            n.version <= 4294967295
+        }
+        Found::Absent => !has(part, Set::Writes, number),
+    }
+}
+
+// Refusal 10 for the version of an own write; of flags none is kept.
+fn there_at(part: &[u8], own: &[u64], i: usize) -> bool
+    requires { ⌜ (i < getD (now own) 0 0) × OwnFits (now own) × ClientPart (now part) ⌝ }
+    ensures { λ r. ⌜ r ≡ there-at (held (now (part .entry))) (now (own .entry)) i ⌝ }
+{
+    let number = own[34 * i + 1];
+    if number > 8192 {
+        return true;
+    }
+    version_there(part, number)
+}
+
+fn all_there(part: &[u8], own: &[u64]) -> bool
+    requires { ⌜ OwnFits (now own) × ClientPart (now part) ⌝ }
+    ensures { λ r. ⌜ r ≡ versions-there (held (now (part .entry))) (own-list (now (own .entry))) ⌝ }
+{
+    let n = own[0] as usize;
+    let mut i: usize = 0;
+    while i < n {
+        if !there_at(part, own, i) {
+            return false;
+        }
+        i += 1;
+    }
+    true
+}
+
 // "8 a written version is 4,294,967,295": of metadata and nodes.
 fn stays_below(part: &[u8], own: &[u64], i: usize) -> bool
     requires { ⌜ (i < getD (now own) 0 0) × OwnFits (now own) × ClientPart (now part) ⌝ }
@@ -122,7 +165,7 @@ fn all_below(part: &[u8], own: &[u64]) -> bool
     true
 }
 
-// The reason to abort, 0 if there is none: 3, then 4, then 8.
+// The reason to abort, 0 if there is none: 3, then 4, then 8; 10 is the refusal.
 pub fn last_reason(part: &[u8], own: &[u64]) -> u64
     requires { ⌜ OwnKept (now own) × (held (now part) writes-count ≤ 48) × ClientPart (now part) ⌝ }
     ensures { λ r. ⌜ r ≡ last-reason (held (now (part .entry))) (own-list (now (own .entry))) ⌝ }
@@ -134,6 +177,9 @@ pub fn last_reason(part: &[u8], own: &[u64]) -> u64
     let new = count_new(part, own);
     if 48 < written + new {
         return 4;
+    }
+    if !all_there(part, own) {
+        return 10;
     }
     if !all_below(part, own) {
         return 8;

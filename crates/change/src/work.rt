@@ -58,8 +58,11 @@ pub fn work(part: &[u8], servers: usize, slots: usize, own: &mut [u64], used: &m
         return stop;
     }
     let reason = last_reason(part, own);
-    if reason != 0 {
-        return Stop::Aborts(reason);
+    if reason == 0 {
+        return stop;
     }
-    stop
+    if reason == 10 {
+        return Stop::Refused;
+    }
+    Stop::Aborts(reason)
 }

@@ -87,11 +87,11 @@ module _ (z : TreeSizes) (m : ClientWord → ℕ) where
   fit-to-unlock = servers-fit m (z .servers) participants && numbers-fit Writes
 
   -- write item i as server s stores it: the read of a written node; at home its record; wherever it is stored the version read
-  unfoldable pub record-fits : ℕ → ℕ → Bool
-  record-fits s i = not (at-home s (number-at m Writes i)) || whole-in-range z (number-at m Writes i) (record-at m Writes i)
+  unfoldable pub stored-record-fits : ℕ → ℕ → Bool
+  stored-record-fits s i = not (at-home s (number-at m Writes i)) || whole-in-range z (number-at m Writes i) (record-at m Writes i)
 
   unfoldable pub write-fits : ℕ → ℕ → Bool
-  write-fits s i = read-fits m i && (record-fits s i && version-fits m s i)
+  write-fits s i = read-fits m i && (stored-record-fits s i && version-fits m s i)
 
   -- all that server s stores
   unfoldable pub writes-fit : ℕ → Bool

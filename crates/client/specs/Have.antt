@@ -22,20 +22,20 @@ use Rattle.client.specs.Vectors.{has-vector, seen-words, vector-fits, is
 use Rattle.nodes.specs.Flags as N
 
 -- what is known of an object: how, and its record
-abbrev pub looked : How → Node → Look
-looked h r = record { how = h; node = r }
+abbrev pub look : How → Node → Look
+look h r = record { how = h; node = r }
 
 -- what a lookup says: the object is in a set, with its record
 abbrev pub here : Node → Look
-here r = looked Here r
+here r = look Here r
 
 -- it is a copy, and in neither set, with its record
 abbrev pub copy : Node → Look
-copy r = looked Copied r
+copy r = look Copied r
 
 -- there is neither: it is to be fetched, and the record is not looked at
 abbrev pub lacking : Look
-lacking = looked Lacking (free-node 0)
+lacking = look Lacking (free-node 0)
 
 -- is there a record
 abbrev pub is-found : How → Bool

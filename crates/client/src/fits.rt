@@ -8,7 +8,7 @@ ghost use Rattle.client.specs.Layout.{ClientPart, field, limit};
 ghost use Rattle.client.specs.Record.{sizes, number-in-store};
 ghost use Rattle.client.specs.Sets.{held, count, number-at};
 ghost use Rattle.client.specs.Items.{all-below};
-ghost use Rattle.client.specs.Fits.{said-count, kind-fits, is-read, young, stored-at, read-fits, version-fits, servers-fit, numbers-fit, op-fits, fit-to-work, fit-to-commit, fit-to-prepare, fit-to-abort, fit-to-unlock, record-fits, write-fits, writes-fit, flag-renewal-fits, inner-renewal-fits, renewal-fits, fit-to-renew, fit-to-apply};
+ghost use Rattle.client.specs.Fits.{said-count, kind-fits, is-read, young, stored-at, read-fits, version-fits, servers-fit, numbers-fit, op-fits, fit-to-work, fit-to-commit, fit-to-prepare, fit-to-abort, fit-to-unlock, stored-record-fits, write-fits, writes-fit, flag-renewal-fits, inner-renewal-fits, renewal-fits, fit-to-renew, fit-to-apply};
 use crate::items::has;
 use crate::items::inner_before_after;
 use crate::items::is_home;
@@ -260,9 +260,9 @@ fn is_stored(part: &[u8], server: u64, number: u64) -> bool
 }
 
 // The record of a write item, if the server is its home.
-fn record_fits(part: &[u8], servers: usize, slots: usize, server: u64, i: usize) -> bool
+fn stored_record_fits(part: &[u8], servers: usize, slots: usize, server: u64, i: usize) -> bool
     requires { ⌜ (i < 48) × ClientPart (now part) ⌝ }
-    ensures { λ r. ⌜ r ≡ record-fits (sizes servers slots) (held (now (part .entry))) server i ⌝ }
+    ensures { λ r. ⌜ r ≡ stored-record-fits (sizes servers slots) (held (now (part .entry))) server i ⌝ }
 {
     let number = number_at(part, Set::Writes, i);
     if is_home(server, number) {
@@ -302,7 +302,7 @@ fn write_fits(part: &[u8], servers: usize, slots: usize, server: u64, i: usize) 
     if !read_fits(part, i) {
         return false;
     }
-    if !record_fits(part, servers, slots, server, i) {
+    if !stored_record_fits(part, servers, slots, server, i) {
         return false;
     }
     version_fits(part, server, i)

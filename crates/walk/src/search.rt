@@ -8,6 +8,7 @@ use client::own::own_record;
 use client::vector::has_vector;
 use client::vector::is_fetched;
 use client::vector::seen_words;
+use client::vector::vector_fits;
 use nodes::found::Found;
 use nodes::name::Name;
 use nodes::placement::server_at;
@@ -75,6 +76,10 @@ fn ask_vector(part: &[u8], servers: usize, used: &mut [u64], s: usize) -> Stop
         return Stop::Aborts(4);
     }
     if servers <= s {
+        return Stop::Refused;
+    }
+    let right = vector_fits(part, s);
+    if !right {
         return Stop::Refused;
     }
     let has = has_vector(part, s);

@@ -2,12 +2,12 @@
 use client::answer::How;
 use client::answer::is_copied;
 use client::answer::is_found;
+use client::lookup::look_fits;
 use client::lookup::source;
 use client::own::find_own;
 use client::own::own_record;
 use client::part::Set;
 use client::part::count;
-use client::range::fits;
 use client::range::in_store;
 use client::used::is_used;
 use client::used::push_used;
@@ -139,7 +139,7 @@ fn ask_number(
     if !found {
         return stopped(lacks);
     }
-    let right = fits(servers, slots, number, node);
+    let right = look_fits(part, servers, slots, number, how, node);
     if !right {
         return stopped(Stop::Refused);
     }

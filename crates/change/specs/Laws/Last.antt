@@ -5,7 +5,7 @@ use mathlib.Core.List.{List, [], _∷_, _++_}
 use Prim.Native.Nat.{ℕ, zero, suc, _+_, _*_, _≤_, _<_}
 use native.Mathlib.Omega.{arith}
 use native.Mathlib.Numerals.{add-one}
-use lib.Dec.{eqb, leb}
+use lib.Dec.{eqb, leb, ltb}
 use lib.ListN.{getD}
 use borrow.Author.Tests.{not-true, not-false, lt-ltb, le-ltb, le-leb, lt-leb}
 use Rattle.nodes.specs.declared.node.Node.{Node}
@@ -19,13 +19,13 @@ use Rattle.client.specs.Items.{all-below, has}
 use Rattle.client.specs.Sets.{find, record-at}
 use Rattle.client.specs.Have.{copied}
 use Rattle.client.specs.Lent.{Entry, OwnFits, own-count, own-number, own-record, own-first, own-list}
-use Rattle.client.specs.Work.{version-in, at-last-version, count-new, any-at-last}
+use Rattle.client.specs.Work.{version-in, version-there, at-last-version, count-new, versions-there, any-at-last}
 use Rattle.client.specs.Laws.Commit.{Sofar, so-all, so-fails}
 use Rattle.walk.specs.Ask.{OwnKept}
 use Rattle.walk.specs.Laws.Own.{own-entry}
 use Rattle.change.specs.Fit.{record-fits, entries-fit}
 use Rattle.change.specs.Laws.Fit.{fit-append}
-use Rattle.change.specs.Last.{own-fits, new-at, stays-below, last-reason}
+use Rattle.change.specs.Last.{own-fits, new-at, stays-below, last-reason, there-at}
 use Rattle.client.specs.declared.part.Set.the-variants as set
 
 -- ---- reason 3
@@ -164,7 +164,55 @@ pub ruleset below-exits = (flag-below, version-below)
 
 pub ruleset staying = (all-staying, one-at-last)
 
--- ---- all three
+-- ---- refusal 10
+module _ (m : ClientWord → ℕ) (y : ℕ) (f : Found) (p : f ≡ find m set.Reads y) where
+  pub read-there : (j : ℕ) (r : Node) → f ≡ At j → r ≡ record-at m set.Reads j → leb (r .version) 4294967295 ≡ version-there m y (find m set.Reads y)
+  read-there j r e q = rw (← p, e, q)
+
+  pub used-there : (b : Bool) → f ≡ Absent → b ≡ has m set.Writes y → not b ≡ version-there m y (find m set.Reads y)
+  used-there b e q = rw (← p, e, q)
+
+module _ (m : ClientWord → ℕ) (x : List ℕ) where
+  module _ (i : ℕ) where
+    pub flag-there : 8192 < getD x (34 * i + 1) 0 → true ≡ there-at m x i
+    unfolding there-at own-number
+    flag-there h = rw (lt-ltb _ _ h)
+
+    pub node-there : (b : Bool) → getD x (34 * i + 1) 0 ≤ 8192 → b ≡ version-there m (getD x (34 * i + 1) 0) (find m set.Reads (getD x (34 * i + 1) 0)) → b ≡ there-at m x i
+    unfolding there-at own-number
+    node-there b h e = e ∙ rw (le-ltb _ _ h)
+
+  there-append : (l k : List Entry) → versions-there m (l ++ k) ≡ (versions-there m l && versions-there m k)
+  unfolding versions-there
+  there-append [] k = refl
+  there-append (e ∷ l) k = go (ltb 8192 (e .0) || version-there m (e .0) (find m set.Reads (e .0))) (there-append l k)
+    where
+      go : (b : Bool) → versions-there m (l ++ k) ≡ (versions-there m l && versions-there m k) → (b && versions-there m (l ++ k)) ≡ ((b && versions-there m l) && versions-there m k)
+      go true h = h
+      go false h = refl
+
+  list-there : (n : ℕ) → all-below n (there-at m x) ≡ versions-there m (own-first x n)
+  unfolding all-below there-at versions-there own-first
+  list-there zero = refl
+  list-there (suc n) = rw (list-there n, there-append (own-first x n) (own-entry x n ∷ [])) (go (versions-there m (own-first x n)) (there-at m x n))
+    where
+      go : (a b : Bool) → (a && b) ≡ (a && (b && true))
+      go true true = refl
+      go true false = refl
+      go false b = refl
+
+  module _ (n i : ℕ) (c : n ≡ getD x 0 0) (s : Sofar (there-at m x) n i) where
+    pub all-are-there : n ≤ i → true ≡ versions-there m (own-list x)
+    unfolding own-list
+    all-are-there h = so-all (there-at m x) n (own-count x) i c h s ∙ list-there (own-count x)
+
+    pub one-is-not : (b : Bool) → i < n → b ≡ there-at m x i → not b ≡ true → false ≡ versions-there m (own-list x)
+    unfolding own-list
+    one-is-not b h e t = so-fails (there-at m x) n (own-count x) i b c h e t s ∙ list-there (own-count x)
+
+pub ruleset there-exits = (read-there, used-there, flag-there, node-there, all-are-there, one-is-not)
+
+-- ---- all of them
 module _ (m : ClientWord → ℕ) (l : List Entry) (a : Bool) (pa : a ≡ entries-fit l) where
   pub reason-3 : not a ≡ true → 3 ≡ last-reason m l
   unfolding last-reason
@@ -175,21 +223,26 @@ module _ (m : ClientWord → ℕ) (l : List Entry) (a : Bool) (pa : a ≡ entrie
     unfolding last-reason
     reason-4 h = rw (← pa, t, ← pw, ← pc, lt-ltb _ _ h)
 
-    module _ (h : w + c ≤ 48) (b : Bool) (pb : b ≡ not (any-at-last m l)) where
-      pub reason-8 : not b ≡ true → 8 ≡ last-reason m l
+    module _ (h : w + c ≤ 48) (d : Bool) (pd : d ≡ versions-there m l) where
+      pub reason-10 : not d ≡ true → 10 ≡ last-reason m l
       unfolding last-reason
-      reason-8 u = rw (← pa, t, ← pw, ← pc, le-ltb _ _ h) (go (any-at-last m l) (sym pb ∙ not-true b u))
-        where
-          go : (y : Bool) → not y ≡ false → _≡_ {A = ℕ} 8 (cond y 8 0)
-          go true q = refl
-          go false q = let z : _≡_ {A = ℕ} 0 1 = cc in absurd (omega arith)
+      reason-10 u = rw (← pa, t, ← pw, ← pc, le-ltb _ _ h, ← pd, u)
 
-      pub no-reason : not b ≡ false → 0 ≡ last-reason m l
-      unfolding last-reason
-      no-reason u = rw (← pa, t, ← pw, ← pc, le-ltb _ _ h) (go (any-at-last m l) (sym pb ∙ not-false b u))
-        where
-          go : (y : Bool) → not y ≡ true → _≡_ {A = ℕ} 0 (cond y 8 0)
-          go false q = refl
-          go true q = let z : _≡_ {A = ℕ} 0 1 = cc in absurd (omega arith)
+      module _ (v : not d ≡ false) (b : Bool) (pb : b ≡ not (any-at-last m l)) where
+        pub reason-8 : not b ≡ true → 8 ≡ last-reason m l
+        unfolding last-reason
+        reason-8 u = rw (← pa, t, ← pw, ← pc, le-ltb _ _ h, ← pd, v) (go (any-at-last m l) (sym pb ∙ not-true b u))
+          where
+            go : (y : Bool) → not y ≡ false → _≡_ {A = ℕ} 8 (cond y 8 0)
+            go true q = refl
+            go false q = let z : _≡_ {A = ℕ} 0 1 = cc in absurd (omega arith)
 
-pub ruleset reason-exits = (reason-3, reason-4, reason-8, no-reason)
+        pub no-reason : not b ≡ false → 0 ≡ last-reason m l
+        unfolding last-reason
+        no-reason u = rw (← pa, t, ← pw, ← pc, le-ltb _ _ h, ← pd, v) (go (any-at-last m l) (sym pb ∙ not-false b u))
+          where
+            go : (y : Bool) → not y ≡ true → _≡_ {A = ℕ} 0 (cond y 8 0)
+            go false q = refl
+            go true q = let z : _≡_ {A = ℕ} 0 1 = cc in absurd (omega arith)
+
+pub ruleset reason-exits = (reason-3, reason-4, reason-10, reason-8, no-reason)

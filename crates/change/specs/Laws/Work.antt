@@ -15,7 +15,7 @@ use Rattle.operations.specs.Operation.{reading, all-fit?}
 use Rattle.client.specs.Layout.{ClientWord, op-number, op-key, op-value, op-server, writes-count}
 use Rattle.client.specs.Lent.{own-list, used-in}
 use Rattle.client.specs.Answered.{entered}
-use Rattle.client.specs.Work.{aborted, answers, waiting, count-new, any-at-last, last-questions, worked}
+use Rattle.client.specs.Work.{Worked, refused, aborted, answers, waiting, count-new, versions-there, any-at-last, last-questions, worked}
 use Rattle.walk.specs.declared.walk.Stop.{Stop}
 use Rattle.walk.specs.declared.walk.Stop.the-variants.{Going, LacksMeta, LacksNode, LacksVector, Refused, Aborts, Answers}
 use Rattle.walk.specs.Walk.{Told, is-answer, tell, walked}
@@ -34,18 +34,23 @@ use Rattle.change.specs.Last.{last-reason}
 use Rattle.change.specs.Work.{Ready, Works}
 use Rattle.client.specs.Work as C
 
--- ---- the last questions, by their reason
+-- ---- the last questions, by their reason; 10 is the refusal
+abbrev by-reason : ℕ → Ans → Writes → Worked
+by-reason r a w = cond (eqb r 0) (answers a w) (cond (eqb r 10) refused (aborted r))
+
 pub last-is : (z : TreeSizes) (m : ClientWord → ℕ) (a : Ans) (w : Writes) → all-fit? w w ≡ entries-fit (entered w)
-    → last-questions z m a w ≡ cond (eqb (last-reason m (entered w)) 0) (answers a w) (aborted (last-reason m (entered w)))
+    → last-questions z m a w ≡ by-reason (last-reason m (entered w)) a w
 unfolding last-reason
-last-is z m a w e = go (entries-fit (entered w)) refl (ltb 48 (m writes-count + count-new m (entered w))) refl (any-at-last m (entered w)) refl
+last-is z m a w e =
+    go (entries-fit (entered w)) refl (ltb 48 (m writes-count + count-new m (entered w))) refl (versions-there m (entered w)) refl (any-at-last m (entered w)) refl
   where
-    go : (b : Bool) → entries-fit (entered w) ≡ b → (c : Bool) → ltb 48 (m writes-count + count-new m (entered w)) ≡ c → (d : Bool) → any-at-last m (entered w) ≡ d
-        → last-questions z m a w ≡ cond (eqb (last-reason m (entered w)) 0) (answers a w) (aborted (last-reason m (entered w)))
-    go false p c q d r = rw (e, last-reason, p)
-    go true p true q d r = rw (e, last-reason, p, q)
-    go true p false q true r = rw (e, last-reason, p, q, r)
-    go true p false q false r = rw (e, last-reason, p, q, r)
+    go : (b : Bool) → entries-fit (entered w) ≡ b → (c : Bool) → ltb 48 (m writes-count + count-new m (entered w)) ≡ c → (f : Bool) → versions-there m (entered w) ≡ f
+        → (d : Bool) → any-at-last m (entered w) ≡ d → last-questions z m a w ≡ by-reason (last-reason m (entered w)) a w
+    go false p c q f t d r = rw (e, last-reason, p)
+    go true p true q f t d r = rw (e, last-reason, p, q)
+    go true p false q false t d r = rw (e, last-reason, p, q, t)
+    go true p false q true t true r = rw (e, last-reason, p, q, t, r)
+    go true p false q true t false r = rw (e, last-reason, p, q, t, r)
 
 -- ---- the ways out of the work step
 module _ (z : TreeSizes) (m : ClientWord → ℕ) (eight : z .servers ≤ 8) (wait : Waiting m) (x u : List ℕ) (ready : Ready x u) (s : Stop) (x′ u′ : List ℕ) (o : Operated z m x u (reading z (waiting m)) s x′ u′) (b : Bool) (pb : b ≡ is-answer s) where
@@ -94,19 +99,24 @@ module _ (z : TreeSizes) (m : ClientWord → ℕ) (eight : z .servers ≤ 8) (wa
     given-is : Given z m (R z m (wait .reads) .how) s (o .writes)
     given-is = given z m s (R z m (wait .reads) .used) (used-in u′) (o .writes) (R z m (wait .reads) .how) tells yes-answer
 
-    worked-is : worked z m ≡ cond (eqb (last-reason m (own-list x′)) 0) (answers (given-is .answer) (o .writes)) (aborted (last-reason m (own-list x′)))
+    worked-is : worked z m ≡ by-reason (last-reason m (own-list x′)) (given-is .answer) (o .writes)
     unfolding worked
     worked-is = rw (given-is .is, held .entries) (last-is z m (given-is .answer) (o .writes) (all-fit-entries z eight (o .writes) (held .out)))
 
     module _ (r : ℕ) (pr : r ≡ last-reason m (own-list x′)) where
-      pub work-aborts : (r ≡ 0 → ⊥) → Works z m (Aborts r) x′ u′
-      work-aborts d =
-          let e : worked z m ≡ aborted r = rw (worked-is, ← pr, ne-eqb r 0 d) in
-          record {
-            stopped = stopped-as (Aborts r) (rw e);
-            own = λ a w p. never (Aborts r) (Answers (a .0) (a .1)) (ap stop-of (sym e ∙ p)) refl refl;
-            fits = λ a w p. own-kept .fit;
-          }
+      -- without an answer
+      ends : (t : Stop) (v : Worked) → worked z m ≡ v → t ≡ stop-of v → is-answer t ≡ false → Works z m t x′ u′
+      ends t v e p n = record {
+        stopped = stopped-as t (p ∙ sym (ap stop-of e));
+        own = λ a w q. never t (Answers (a .0) (a .1)) (p ∙ ap stop-of (sym e ∙ q)) n refl;
+        fits = λ a w q. own-kept .fit;
+      }
+
+      pub work-refused : (r ≡ 0 → ⊥) → r ≡ 10 → Works z m Refused x′ u′
+      work-refused d t = ends Refused refused (rw (worked-is, ← pr, ne-eqb r 0 d, eq-eqb r 10 t)) refl refl
+
+      pub work-aborts : (r ≡ 0 → ⊥) → (r ≡ 10 → ⊥) → Works z m (Aborts r) x′ u′
+      work-aborts d t = ends (Aborts r) (aborted r) (rw (worked-is, ← pr, ne-eqb r 0 d, ne-eqb r 10 t)) refl refl
 
       pub work-answers : r ≡ 0 → Works z m s x′ u′
       work-answers d =
@@ -117,7 +127,7 @@ module _ (z : TreeSizes) (m : ClientWord → ℕ) (eight : z .servers ≤ 8) (wa
             fits = λ a w p. own-kept .fit;
           }
 
-pub ruleset work-exits = (work-stops, own-kept, work-aborts, work-answers)
+pub ruleset work-exits = (work-stops, own-kept, work-refused, work-aborts, work-answers)
 
 -- ---- by the operation's number
 only-six : (n : ℕ) → (n ≡ 0 → ⊥) → n ≤ 6 → only-reads n ≡ false → (n ≡ 1 → ⊥) → (n ≡ 3 → ⊥) → n ≡ 6

@@ -19,7 +19,7 @@ use Rattle.client.specs.Sets.{count, number-at, record-at, find}
 use Rattle.client.specs.Items.{all-below, has, inner, inner-before-after}
 use Rattle.client.specs.Participants.{at-home}
 use Rattle.client.specs.Drops.{version-of}
-use Rattle.client.specs.Fits.{said-count, kind-fits, is-read, young, stored-at, read-fits, version-fits, servers-fit, number-fits, numbers-fit, op-fits, fit-to-work, fit-to-commit, fit-to-prepare, fit-to-abort, fit-to-unlock, record-fits, write-fits, writes-fit, flag-renewal-fits, inner-renewal-fits, renewal-fits, fit-to-renew, fit-to-apply}
+use Rattle.client.specs.Fits.{said-count, kind-fits, is-read, young, stored-at, read-fits, version-fits, servers-fit, number-fits, numbers-fit, op-fits, fit-to-work, fit-to-commit, fit-to-prepare, fit-to-abort, fit-to-unlock, stored-record-fits, write-fits, writes-fit, flag-renewal-fits, inner-renewal-fits, renewal-fits, fit-to-renew, fit-to-apply}
 
 -- ---- one test, and then another
 module _ (a b c : Bool) (p : c ≡ a) where
@@ -115,12 +115,12 @@ module _ (m : ClientWord → ℕ) where
 
     module _ (z : TreeSizes) where
       module _ (s : ℕ) (a : Bool) (p : a ≡ at-home s x) where
-        pub record-used : (r : Node) (b : Bool) → a ≡ true → r ≡ record-at m Writes i → b ≡ whole-in-range z x r → b ≡ record-fits z m s i
-        unfolding record-fits
+        pub record-used : (r : Node) (b : Bool) → a ≡ true → r ≡ record-at m Writes i → b ≡ whole-in-range z x r → b ≡ stored-record-fits z m s i
+        unfolding stored-record-fits
         record-used r b t q f = f ∙ rw (← e, ← p, t, q)
 
-        pub record-unused : a ≡ false → true ≡ record-fits z m s i
-        unfolding record-fits
+        pub record-unused : a ≡ false → true ≡ stored-record-fits z m s i
+        unfolding stored-record-fits
         record-unused t = rw (← e, ← p, t)
 
       -- ---- renewal
@@ -265,7 +265,7 @@ module _ (z : TreeSizes) (m : ClientWord → ℕ) where
     unfolding write-fits
     write-unread t = rw (← p, not-true b t)
 
-    module _ (c : Bool) (t : not b ≡ false) (q : c ≡ record-fits z m s i) where
+    module _ (c : Bool) (t : not b ≡ false) (q : c ≡ stored-record-fits z m s i) where
       pub write-unfit : not c ≡ true → false ≡ write-fits z m s i
       unfolding write-fits
       write-unfit u = rw (← p, not-false b t, ← q, not-true c u)

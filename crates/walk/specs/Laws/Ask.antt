@@ -1,6 +1,6 @@
 -- Laws of a question: own writes, then what the part has.
 use mathlib.Core.Path.{_≡_, refl, sym, ap, _∙_}
-use mathlib.Core.Bool.{Bool, true, false, _&&_, not}
+use mathlib.Core.Bool.{Bool, true, false, _&&_, _||_, not}
 use mathlib.Core.List.{List, [], _∷_, _++_}
 use mathlib.Core.Option.{Option, none, some}
 use Prim.Native.Nat.{ℕ, _+_, _-_, _/_, _≤_, _<_}
@@ -31,7 +31,7 @@ use Rattle.client.specs.declared.part.Set.the-variants.{Reads, Copies}
 use Rattle.client.specs.Layout.{ClientWord, reads-count, meta-copied, vector-word}
 use Rattle.client.specs.Record.{number, sizes, object-in-store, in-store, value-of, record-in-range}
 use Rattle.client.specs.Sets.{count, find, first-of}
-use Rattle.client.specs.Have.{is-copied, is-found, copied, copied-meta, copied-item, copied-node, copied-flag, source, have, broken}
+use Rattle.client.specs.Have.{is-copied, is-found, copied, copied-meta, copied-item, copied-node, copied-flag, copy-fits, source, look-fits, have, broken}
 use Rattle.client.specs.Run.{lacks, Ran, ran, among, run}
 use Rattle.client.specs.Lent.{own-find, own-first, own-record, own-list, Lent, used-in, pushed}
 use Rattle.client.specs.Answered.{entered}
@@ -109,17 +109,17 @@ module _ (m : ClientWord → ℕ) where
 
   meta-found-is : is-found (copied-meta m .how) ≡ is-copied (copied-meta m .how)
   unfolding copied-meta
-  meta-found-is = go (eqb (m meta-copied) 1) refl
+  meta-found-is = go (eqb (m meta-copied) 0) refl
     where
-      go : (b : Bool) → eqb (m meta-copied) 1 ≡ b → is-found (copied-meta m .how) ≡ is-copied (copied-meta m .how)
+      go : (b : Bool) → eqb (m meta-copied) 0 ≡ b → is-found (copied-meta m .how) ≡ is-copied (copied-meta m .how)
       go true e = rw (copied-meta, e)
       go false e = rw (copied-meta, e)
 
   flag-found-is : (n : ℕ) → is-found (copied-flag m n .how) ≡ is-copied (copied-flag m n .how)
   unfolding copied-flag
-  flag-found-is n = go (eqb (m (vector-word (server-of n) 0)) 1) refl
+  flag-found-is n = go (eqb (m (vector-word (server-of n) 0)) 0) refl
     where
-      go : (b : Bool) → eqb (m (vector-word (server-of n) 0)) 1 ≡ b → is-found (copied-flag m n .how) ≡ is-copied (copied-flag m n .how)
+      go : (b : Bool) → eqb (m (vector-word (server-of n) 0)) 0 ≡ b → is-found (copied-flag m n .how) ≡ is-copied (copied-flag m n .how)
       go true e = rw (copied-flag, e)
       go false e = rw (copied-flag, e)
 
@@ -175,9 +175,9 @@ module _ (z : TreeSizes) (m : ClientWord → ℕ) (x u : List ℕ) (w : Writes) 
 
   part-run : own-find x (number o) ≡ Absent → asked-run ≡ met z m o k (used-in u) (looked z m x u (number o) .how) (looked z m x u (number o) .node)
   unfolding run have looked worked
-  part-run a = go (is-found (source m (number o) .how)) (record-in-range z (number o) (source m (number o) .node)) (is-copied (source m (number o) .how)) refl refl refl
+  part-run a = go (is-found (source m (number o) .how)) (look-fits z m (number o) (source m (number o))) (is-copied (source m (number o) .how)) refl refl refl
     where
-      go : (b c d : Bool) → is-found (source m (number o) .how) ≡ b → record-in-range z (number o) (source m (number o) .node) ≡ c → is-copied (source m (number o) .how) ≡ d
+      go : (b c d : Bool) → is-found (source m (number o) .how) ≡ b → look-fits z m (number o) (source m (number o)) ≡ c → is-copied (source m (number o) .how) ≡ d
           → asked-run ≡ met z m o k (used-in u) (looked z m x u (number o) .how) (looked z m x u (number o) .node)
       go true true true p q r =
           let h : have z m (object o) ≡ some (value-of o (source m (number o) .node)) = rw (have, t, p, q) in
@@ -224,7 +224,7 @@ module _ (z : TreeSizes) (m : ClientWord → ℕ) (x u : List ℕ) (o : Obj) (t 
   unfolding looked broken
   looked-broken h = own (own-find x (number o)) refl
     where
-      go : own-find x (number o) ≡ Absent → (b c d : Bool) → is-found (source m (number o) .how) ≡ b → record-in-range z (number o) (source m (number o) .node) ≡ c → is-copied (source m (number o) .how) ≡ d
+      go : own-find x (number o) ≡ Absent → (b c d : Bool) → is-found (source m (number o) .how) ≡ b → look-fits z m (number o) (source m (number o)) ≡ c → is-copied (source m (number o) .how) ≡ d
           → broken z m (object o) ≡ unfit? (looked z m x u (number o) .how)
       go a true true true p q r =
           let f : fetched? (looked z m x u (number o) .how) ≡ true = rw (looked, a, p, q, r) (taken-fetched (source m (number o) .node)) in
@@ -235,7 +235,7 @@ module _ (z : TreeSizes) (m : ClientWord → ℕ) (x u : List ℕ) (o : Obj) (t 
 
       own : (f : Found) → own-find x (number o) ≡ f → broken z m (object o) ≡ unfit? (looked z m x u (number o) .how)
       own (At i) e = let f : fetched? (looked z m x u (number o) .how) ≡ true = rw (looked, e) in let g : true ≡ false = sym f ∙ h in cc
-      own Absent e = go e (is-found (source m (number o) .how)) (record-in-range z (number o) (source m (number o) .node)) (is-copied (source m (number o) .how)) refl refl refl
+      own Absent e = go e (is-found (source m (number o) .how)) (look-fits z m (number o) (source m (number o))) (is-copied (source m (number o) .how)) refl refl refl
 
 free-small : (o : Obj) → Small o (free-node 0)
 unfolding free-node made
@@ -259,16 +259,21 @@ range-level n h = go (eqb (n .kind) 2) refl
     go true e = leb-true (n .level) 4 (and-both (leb 1 (n .level)) (leb (n .level) 4) (rw e at fit) .1)
     go false e = let z : n .level ≡ 0 = eqb-true (n .level) 0 (rw e at fit) in omega arith
 
-fits-small : (z : TreeSizes) (o : Obj) (r : Node) → z .servers ≤ 8 → object-in-store z o ≡ true → record-in-range z (number o) r ≡ true → Small o r
+range-small : (z : TreeSizes) (o : Obj) (r : Node) → z .servers ≤ 8 → object-in-store z o ≡ true → record-in-range z (number o) r ≡ true → Small o r
 unfolding record-in-range in-store
-fits-small z meta r s t h = tt
-fits-small z (node n) r s t h =
+range-small z meta r s t h = tt
+range-small z (node n) r s t h =
     let a : n / 1024 < z .servers = ltb-true _ _ (and-both _ _ t .0) in
     let b : 1 + n ≤ 8192 = omega arith in
     let c : 1 + n ≡ 0 → ⊥ = λ e. omega arith in
     let g : node-in-range r ≡ true = rw (ne-eqb _ _ c, le-leb _ _ b) at h in
     record { keys = range-count r g; level = range-level r g }
-fits-small z (flag n) r s t h = tt
+range-small z (flag n) r s t h = tt
+
+fits-small : (z : TreeSizes) (m : ClientWord → ℕ) (o : Obj) (l : Look) → z .servers ≤ 8 → object-in-store z o ≡ true → look-fits z m (number o) l ≡ true → Small o (l .node)
+unfolding look-fits
+fits-small z m o l s t h =
+    range-small z o (l .node) s t (and-both (record-in-range z (number o) (l .node)) (not (is-copied (l .how)) || copy-fits m (number o) (l .node)) h .0)
 
 module _ (z : TreeSizes) (m : ClientWord → ℕ) (x u : List ℕ) (o : Obj) (s : z .servers ≤ 8) (t : object-in-store z o ≡ true) (own : (i : ℕ) → own-find x (number o) ≡ At i → Small o (own-record x i)) where
   looked-small : Small o (looked z m x u (number o) .node)
@@ -280,16 +285,16 @@ module _ (z : TreeSizes) (m : ClientWord → ℕ) (x u : List ℕ) (o : Obj) (s 
       taken r h false true p q = rw (taken-up, p, q) h
       taken r h false false p q = rw (taken-up, p, q) h
 
-      part : own-find x (number o) ≡ Absent → (b c d : Bool) → is-found (source m (number o) .how) ≡ b → record-in-range z (number o) (source m (number o) .node) ≡ c
+      part : own-find x (number o) ≡ Absent → (b c d : Bool) → is-found (source m (number o) .how) ≡ b → look-fits z m (number o) (source m (number o)) ≡ c
           → is-copied (source m (number o) .how) ≡ d → Small o (looked z m x u (number o) .node)
-      part a true true true p q r = rw (looked, a, p, q, r) (taken (source m (number o) .node) (fits-small z o (source m (number o) .node) s t q) (among (number o) (used-in u)) (ltb (count m Reads + length (used-in u)) 96) refl refl)
-      part a true true false p q r = rw (looked, a, p, q, r) (fits-small z o (source m (number o) .node) s t q)
+      part a true true true p q r = rw (looked, a, p, q, r) (taken (source m (number o) .node) (fits-small z m o (source m (number o)) s t q) (among (number o) (used-in u)) (ltb (count m Reads + length (used-in u)) 96) refl refl)
+      part a true true false p q r = rw (looked, a, p, q, r) (fits-small z m o (source m (number o)) s t q)
       part a true false d p q r = rw (looked, a, p, q) (free-small o)
       part a false c d p q r = rw (looked, a, p) (free-small o)
 
       go : (f : Found) → own-find x (number o) ≡ f → Small o (looked z m x u (number o) .node)
       go (At i) e = rw (looked, e) (own i e)
-      go Absent e = part e (is-found (source m (number o) .how)) (record-in-range z (number o) (source m (number o) .node)) (is-copied (source m (number o) .how)) refl refl refl
+      go Absent e = part e (is-found (source m (number o) .how)) (look-fits z m (number o) (source m (number o))) (is-copied (source m (number o) .how)) refl refl refl
 
 never : {A : Type 0} {b : Bool} → b ≡ false → b ≡ true → A
 never p q = let e : false ≡ true = sym p ∙ q in let z : _≡_ {A = ℕ} 0 1 = cc in absurd (omega arith)
@@ -432,21 +437,21 @@ module _ (z : TreeSizes) (m : ClientWord → ℕ) (u : List ℕ) (n : ℕ) (l : 
         let k : is-found (source m n .how) ≡ false = rw pa at (sym pf ∙ not-true f nf) in
         rw pr (looked-found under lacking (rw (looked, none-own nothing n refl, k)))
 
-    module _ (nf : not f ≡ false) (g : Bool) (pg : g ≡ record-in-range z n (a .node)) where
+    module _ (nf : not f ≡ false) (g : Bool) (pg : g ≡ look-fits z m n a) where
       k : is-found (source m n .how) ≡ true
       k = rw pa at (sym pf ∙ not-false f nf)
 
       pub asked-broken : (r : Asked) → not g ≡ true → r ≡ stopped Refused → Numbered z m nothing u n l (r .stop) (r .node) u
       unfolding looked at-hand used-after
       asked-broken r ng pr =
-          let q : record-in-range z n (source m n .node) ≡ false = rw pa at (sym pg ∙ not-true g ng) in
+          let q : look-fits z m n (source m n) ≡ false = rw pa at (sym pg ∙ not-true g ng) in
           rw pr (looked-found under unfit (rw (looked, none-own nothing n refl, k, q)))
 
       pub asked-going : (u′ : List ℕ) → not g ≡ false → u′ ≡ noted-copy (a .how) u n → Numbered z m nothing u n l Going (a .node) u′
       unfolding looked taken-up at-hand used-after noted-copy
       asked-going u′ ng pu = rw (pu, pa) (go (is-copied (source m n .how)) refl (among n (used-in u)) refl (ltb (count m Reads + length (used-in u)) 96) refl)
         where
-          q : record-in-range z n (source m n .node) ≡ true
+          q : look-fits z m n (source m n) ≡ true
           q = rw pa at (sym pg ∙ not-false g ng)
 
           go : (b : Bool) → is-copied (source m n .how) ≡ b → (d : Bool) → among n (used-in u) ≡ d → (e : Bool) → ltb (count m Reads + length (used-in u)) 96 ≡ e

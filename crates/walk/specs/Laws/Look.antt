@@ -18,7 +18,7 @@ use Rattle.client.specs.Layout.{ClientWord, op-number, op-key, writes-count}
 use Rattle.client.specs.Run.{End}
 use Rattle.client.specs.Lent.{used-in}
 use Rattle.client.specs.Answered.{entered}
-use Rattle.client.specs.Work.{answers, waiting, count-new, any-at-last, last-questions, worked}
+use Rattle.client.specs.Work.{answers, waiting, count-new, any-at-last, versions-there, last-questions, worked}
 use Rattle.walk.specs.Walk.{Told, is-answer, tell, walked}
 use Rattle.walk.specs.Laws.Begin.{nothing-used}
 use Rattle.walk.specs.Lookup.{ended, Walks}
@@ -54,7 +54,7 @@ module _ (n op : ℕ) (po : op ≡ n) where
 pub ruleset reads-exits = (reads-two, reads-four, reads-five, reads-no)
 
 last-none : (z : TreeSizes) (m : ClientWord → ℕ) (a : Ans) → m writes-count ≤ 48 → last-questions z m a [] ≡ answers a []
-unfolding entered count-new any-at-last
+unfolding entered count-new versions-there any-at-last
 last-none z m a h = let l : m writes-count + 0 ≤ 48 = omega arith in let e : ltb 48 (m writes-count + 0) ≡ false = le-ltb 48 (m writes-count + 0) l in rw e
 
 module _ (z : TreeSizes) (m : ClientWord → ℕ) (wait : Waiting m) (u : List ℕ) (empty : getD u 0 0 ≡ 0) (s : Stop) (u′ : List ℕ) where

@@ -13,8 +13,7 @@ use Rattle.client.specs.declared.answer.Look.{Look}
 use Rattle.client.specs.declared.part.Set.the-variants.{Reads}
 use Rattle.client.specs.Layout.{ClientWord}
 use Rattle.client.specs.Sets.{count}
-use Rattle.client.specs.Record.{record-in-range}
-use Rattle.client.specs.Have.{is-found, is-copied, source}
+use Rattle.client.specs.Have.{is-found, is-copied, source, look-fits}
 use Rattle.client.specs.Run.{among}
 use Rattle.client.specs.Lent.{own-find, own-record, used-in, pushed}
 
@@ -61,7 +60,7 @@ taken-up m u x r = cond (among x (used-in u)) (here r) (cond (ltb (count m Reads
 
 module _ (z : TreeSizes) (m : ClientWord → ℕ) (w u : List ℕ) where
   abbrev pub in-part : ℕ → Look → Met
-  in-part x l = cond (is-found (l .how)) (cond (record-in-range z x (l .node)) (cond (is-copied (l .how)) (taken-up m u x (l .node)) (here (l .node))) unfit) lacking
+  in-part x l = cond (is-found (l .how)) (cond (look-fits z m x l) (cond (is-copied (l .how)) (taken-up m u x (l .node)) (here (l .node))) unfit) lacking
 
   abbrev pub or-in-part : ℕ → Found → Met
   or-in-part x (At i) = here (own-record w i)

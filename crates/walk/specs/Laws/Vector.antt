@@ -20,7 +20,7 @@ use Rattle.walk.specs.declared.walk.Stop.{Stop}
 use Rattle.walk.specs.declared.walk.Stop.the-variants.{Going, LacksVector, Refused, Aborts}
 use Rattle.client.specs.Layout.{ClientWord}
 use Rattle.client.specs.Record.{sizes}
-use Rattle.client.specs.Vectors.{has-vector, seen-words, is-fetched}
+use Rattle.client.specs.Vectors.{has-vector, seen-words, is-fetched, vector-fits}
 use Rattle.client.specs.Have.{have, broken}
 use Rattle.client.specs.Run.{run}
 use Rattle.client.specs.Lent.{own-count, used-in}
@@ -62,13 +62,29 @@ module _ (m : ClientWord → ℕ) (n : ℕ) (u : List ℕ) (s : ℕ) (b : Bool) 
       long = refl;
     }
 
-    module _ (l : s < n) (c : Bool) (pc : c ≡ has-vector m s) where
+    module _ (l : s < n) (r : Bool) (pr : r ≡ vector-fits m s) where
+      pub vector-unfit : not r ≡ true → VectorAsked m n u s Refused u
+      unfolding walked worked run have broken
+      vector-unfit nr =
+          let f : vector-fits m s ≡ false = sym pr ∙ not-true r nr in
+          record {
+            asks = λ slots k. rw (walked, worked, under, run, have, lt-ltb s n l, f, broken, lt-ltb s n l, f);
+            again = λ g. stops-not Refused refl g;
+            there = λ g. stops-not Refused refl g;
+            noted = h;
+            long = refl;
+          }
+
+    module _ (l : s < n) (r : Bool) (pr : r ≡ vector-fits m s) (nr : not r ≡ false) (c : Bool) (pc : c ≡ has-vector m s) where
+      f : vector-fits m s ≡ true
+      f = sym pr ∙ not-false r nr
+
       pub vector-lacks : not c ≡ true → VectorAsked m n u s (LacksVector s) u
       unfolding walked worked run have broken
       vector-lacks nc =
           let q : has-vector m s ≡ false = sym pc ∙ not-true c nc in
           record {
-            asks = λ slots k. rw (walked, worked, under, run, have, lt-ltb s n l, q, broken, lt-ltb s n l);
+            asks = λ slots k. rw (walked, worked, under, run, have, lt-ltb s n l, f, q, broken, lt-ltb s n l, f);
             again = λ g. stops-not (LacksVector s) refl g;
             there = λ g. stops-not (LacksVector s) refl g;
             noted = h;
@@ -80,7 +96,7 @@ module _ (m : ClientWord → ℕ) (n : ℕ) (u : List ℕ) (s : ℕ) (b : Bool) 
       vector-there nc =
           let q : has-vector m s ≡ true = sym pc ∙ not-false c nc in
           record {
-            asks = λ slots k. rw (walked, worked, under, run, have, lt-ltb s n l, q);
+            asks = λ slots k. rw (walked, worked, under, run, have, lt-ltb s n l, f, q);
             again = λ _ slots k. go slots k (is-fetched m s) refl q;
             there = λ _. l;
             noted = h;
@@ -90,10 +106,10 @@ module _ (m : ClientWord → ℕ) (n : ℕ) (u : List ℕ) (s : ℕ) (b : Bool) 
           go : (slots : ℕ) (k : Val → TreePlan) (f : Bool) → is-fetched m s ≡ f → has-vector m s ≡ true
               → walked (sizes n slots) m (P.ask (fetched s) k) (used-in u)
               ≡ cond (is-fetched m s) (walked (sizes n slots) m (k (seen-vector (sizes n slots) m s)) (used-in u)) (told (LacksVector s) (used-in u))
-          go slots k true p q = rw (walked, worked, under, run, have, p, lt-ltb s n l, q)
-          go slots k false p q = rw (walked, worked, under, run, have, p, broken, lt-ltb s n l)
+          go slots k true p q = rw (walked, worked, under, run, have, p, lt-ltb s n l, f, q)
+          go slots k false p q = rw (walked, worked, under, run, have, p, broken, lt-ltb s n l, f)
 
-pub ruleset vector-exits = (over-some, over-long, vector-over, vector-out, vector-lacks, vector-there)
+pub ruleset vector-exits = (over-some, over-long, vector-over, vector-out, vector-unfit, vector-lacks, vector-there)
 
 -- ---- a look at a server
 -- a slot that is found is one of the words' flags

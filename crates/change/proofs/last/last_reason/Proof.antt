@@ -11,7 +11,9 @@ last-reason-spec = tie.close (tie.spec
     (λ c κs. search needs)  -- count-new-requires
     (λ c. search needs)  -- add-if2
     (λ c. search (reason-exits, needs))  -- returns-2
-    (λ c κs. search needs)  -- all-below-requires
+    (λ c κs. search needs)  -- all-there-requires
     (λ c. search (reason-exits, needs))  -- returns-3
+    (λ c κs. search needs)  -- all-below-requires
     (λ c. search (reason-exits, needs))  -- returns-4
+    (λ c. search (reason-exits, needs))  -- returns-5
     )

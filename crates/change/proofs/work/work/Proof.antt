@@ -17,4 +17,7 @@ work-spec = tie.close (tie.spec
     (λ c. search needs)  -- same-length-5
     (λ c. search needs)  -- same-length-6
     (λ c. search (work-exits, needs))  -- returns-3
+    (λ c. search needs)  -- same-length-7
+    (λ c. search needs)  -- same-length-8
+    (λ c. search (work-exits, needs))  -- returns-4
     )

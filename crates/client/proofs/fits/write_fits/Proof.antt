@@ -8,7 +8,7 @@ pub write-fits-spec : {M : Type 1} → statement M
 write-fits-spec = tie.close (tie.spec
     (λ c κs. search needs)  -- read-fits-requires
     (λ c. search (rule-exits, needs))  -- returns
-    (λ c κs. search needs)  -- record-fits-requires
+    (λ c κs. search needs)  -- stored-record-fits-requires
     (λ c. search (rule-exits, needs))  -- returns-2
     (λ c κs. search needs)  -- version-fits-requires
     (λ c. search (rule-exits, needs))  -- returns-3
