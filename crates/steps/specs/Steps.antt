@@ -1,6 +1,6 @@
--- The eight kinds of steps: what each comes to, and what it stores. Everything that a rule reads is judged (refusal 10) before
--- anything is stored.
-use mathlib.Core.Bool.{Bool, true, false, cond, _&&_, _||_, not}
+-- The eight kinds of steps: what each comes to, and what it stores. What a rule reads is judged (refusal 10) where it reads it, in document 01's
+-- order, and before anything is stored; a rule that has ended has read no further.
+use mathlib.Core.Bool.{Bool, true, cond, _&&_, _||_, not}
 use mathlib.Core.List.{List, [], _++_, map}
 use Prim.Native.Nat.{ℕ, zero, suc, _+_, _-_, _%_}
 use lib.Dec.{eqb, leb}
@@ -16,17 +16,16 @@ use Rattle.server.specs.declared.place.Place.{Place}
 use Rattle.server.specs.declared.lock.Use.the-variants.{Fetch}
 use Rattle.server.specs.Layout.{places}
 use Rattle.server.specs.Object.{object-of, named}
-use Rattle.server.specs.Check.{can-check, held, checked, finding-reason}
+use Rattle.server.specs.Check.{can-check, held, checked, finding-number}
 use Rattle.server.specs.Store.{lock-step, unlock-step, metadata-step, flag-step, node-step}
 use Rattle.server.specs.HandOut.{metadata-at, metadata-sound, vector-at}
 use Rattle.client.specs.declared.part.Set.the-variants.{Reads, Writes}
 use Rattle.client.specs.Layout.{ClientWord, client-words, phase, participants, prepared, applied, reads-count, no-transaction, decided-phase}
 use Rattle.nodes.specs.Stored.{node-of}
-use Rattle.client.specs.Record.{by-number, first-slot}
-use Rattle.nodes.specs.Range.{node-in-range}
+use Rattle.client.specs.Record.{by-number, first-slot, node-fits}
 use Rattle.client.specs.Sets.{count, record-at, number-at}
 use Rattle.client.specs.Items.{all-below, inner-before-after}
-use Rattle.client.specs.Fits.{client-fits}
+use Rattle.client.specs.Fits.{fit-to-work, fit-to-commit, fit-to-prepare, fit-to-apply}
 use Rattle.client.specs.Answered.{used-enter, answered}
 use Rattle.client.specs.Fetched.{fetched-meta, fetched-node, fetched-vector}
 use Rattle.client.specs.Participants.{participants-of, committing, at-home}
@@ -43,8 +42,8 @@ use Rattle.steps.specs.declared.outcome.Outcome.{Outcome}
 use Rattle.steps.specs.declared.outcome.Outcome.the-variants.{Refused, Done, Fetched, Answered, Prepared, Decided, Applied, Committed, Aborted}
 use Rattle.steps.specs.Whole.{Address, server, client, whole, tree-sizes}
 use Rattle.steps.specs.Refusal.{kind-of, refusal}
-use Rattle.steps.specs.Uses.{Item, those, all, read-item, read-items, used-items, item-object, checked-at, locked-at, use-of, deciding}
-use Rattle.steps.specs.Judge.{lock-fits, check-fits, lowest-participant, prepare-fits, unlock-fits, abort-fits, versions-fit}
+use Rattle.steps.specs.Uses.{Item, read-item, read-items, used-items, item-object, checked-at, locked-at, use-of, deciding}
+use Rattle.steps.specs.Judge.{lock-fits, lowest-participant, unlock-fits, abort-fits}
 use Rattle.operations.specs.Object as O
 use Rattle.server.specs.declared.place.Place.the-variants as place
 use Rattle.client.specs.Life as Life
@@ -65,6 +64,10 @@ refuse n = did (Refused n) []
 -- where what the rule reads is in range
 abbrev pub if-fit : Bool → Did → Did
 if-fit ok d = cond ok d (refuse 10)
+
+-- by what a check has found: nothing, and the step goes on; refusal 10; or a reason to abort
+abbrev pub by-finding : ℕ → Did → (ℕ → Did) → Did
+by-finding y on aborts = cond (eqb y 0) on (cond (eqb y 10) (refuse 10) (aborts y))
 
 -- at the server s, the objects read that are locked there, in the order of the read set: locked by client c
 abbrev pub lock-each : (ClientWord → ℕ) → ℕ → ℕ → ℕ → (Place → ℕ) → List (Put Place)
@@ -156,13 +159,20 @@ module _ (z : Sizes) (m : Address → ℕ) (c : ℕ) where
 
   -- ---- WORK: what a fetch hands over, and whether it is in range
   module _ (us : List ℕ) where
-    -- "A fetch checks at that server what the transaction has read": the objects read that the server can check
-    abbrev pub fetch-items : ℕ → List Item
-    fetch-items s = those (λ i. can-check s (item-object i) (i .inner-read)) (read-items mine ++ used-items mine us)
+    -- "A fetch checks at that server what the transaction has read": the read set and the copies in use
+    abbrev pub fetch-items : List Item
+    fetch-items = read-items mine ++ used-items mine us
 
-    -- what is found of one of them at server s: reason 2 before 1, 0 if none
+    -- of one of them at server s, in the order of reading: its kind, which says whether s can check it; its lock; 2 before 1
+    abbrev pub fetch-reason : ℕ → Item → ℕ
+    fetch-reason s i =
+        cond (i .read-fits)
+        (cond (can-check s (item-object i) (i .inner-read))
+        (cond (lock-fits z m s (i .number)) (finding-number (checked (item-object i) (i .inner-read) (i .mark) c Fetch (theirs s))) 10) 0) 10
+
+    -- what is found of it
     abbrev pub fetch-finding : ℕ → Item → ℕ × ℕ
-    fetch-finding s i = (i .number, finding-reason (checked (item-object i) (i .inner-read) (i .mark) c Fetch (theirs s)))
+    fetch-finding s i = (i .number, fetch-reason s i)
 
     -- the stores, once the copies in use have become read items
     abbrev pub handed : ((ClientWord → ℕ) → List (Put ClientWord)) → List (Put Address)
@@ -172,19 +182,19 @@ module _ (z : Sizes) (m : Address → ℕ) (c : ℕ) where
     abbrev pub full : Bool
     full = leb 96 (mine reads-count + length us)
 
-    -- "then the object fetched; a vector fetched is never busy"; then the limit of 96. Of the item made here only the number is looked at
+    -- "then the object fetched; a vector fetched is never busy"; then the limit of 96, and only then the object itself
     abbrev pub fetch-object : ℕ → ℕ → Outcome → Bool → ((ClientWord → ℕ) → List (Put ClientWord)) → Did
     fetch-object s x out ok g =
-        if-fit (ok && lock-fits z m s (record { number = x; inner-read = false; mark = 0; written = false; becomes = false }))
-        (cond (held (object-of x) c Fetch (theirs s)) (abort 2 us) (cond full (abort 4 us) (did out (handed g))))
+        if-fit (lock-fits z m s x)
+        (cond (held (object-of x) c Fetch (theirs s)) (abort 2 us) (cond full (abort 4 us) (if-fit ok (did out (handed g)))))
 
-    -- what server s hands over for what is lacking; for a flag its vector
+    -- what server s hands over for what is lacking, judged whole; for a flag its vector
     abbrev pub hand-over : O.Ask → ℕ → Outcome → Did
     hand-over (O.object O.meta) s out =
         fetch-object s 0 out (metadata-sound (z .servers) (z .slots) (theirs s))
         (fetched-meta (metadata-at (theirs s) .root) (metadata-at (theirs s) .version))
     hand-over (O.object (O.node n)) s out =
-        fetch-object s (1 + n) out (node-in-range (node-at (theirs s) n)) (fetched-node n (node-at (theirs s) n))
+        fetch-object s (1 + n) out (node-fits (tree-sizes z) (node-at (theirs s) n)) (fetched-node n (node-at (theirs s) n))
     hand-over (O.object (O.flag n)) s out = did out (handed (fetched-vector s (vector-at (theirs s))))
     hand-over (O.vector s′) s out = did out (handed (fetched-vector s (vector-at (theirs s))))
     hand-over (O.fetched s′) s out = did out (handed (fetched-vector s (vector-at (theirs s))))
@@ -192,9 +202,7 @@ module _ (z : Sizes) (m : Address → ℕ) (c : ℕ) where
     -- "A fetch checks at that server what the transaction has read, .. then the object fetched"
     abbrev pub checked-fetch : O.Ask → Wanted → Did
     checked-fetch a w =
-        let found = deciding (map (fetch-finding (w .from)) (fetch-items (w .from))) in
-        if-fit (all (check-fits z m (w .from)) (fetch-items (w .from)))
-        (cond (eqb found 0) (hand-over a (w .from) (Fetched (w .what) (w .which))) (abort found us))
+        by-finding (deciding (map (fetch-finding (w .from)) fetch-items)) (hand-over a (w .from) (Fetched (w .what) (w .which))) (λ y. abort y us)
 
     -- "A work step that lacks an object fetches the first one lacking and does no more"
     unfoldable pub fetch : O.Ask → Did
@@ -209,12 +217,13 @@ module _ (z : Sizes) (m : Address → ℕ) (c : ℕ) where
 
   -- "otherwise it answers the operation": the waiting operation is walked over what the client has
   unfoldable pub work : Did
-  work = after-walk (walked (tree-sizes z) mine .used) (worked (tree-sizes z) mine)
+  work = if-fit (fit-to-work (tree-sizes z) mine) (after-walk (walked (tree-sizes z) mine .used) (worked (tree-sizes z) mine))
 
   -- ---- COMMIT: "commit with a participant .. done"; "with none the commit step decides and ends"
   unfoldable pub commit : Did
   commit =
-      cond (eqb (participants-of mine (z .servers)) 0) (did Committed (in-client (Life.reset 0))) (did Done (in-client (committing (z .servers))))
+      if-fit (fit-to-commit (tree-sizes z) mine)
+      (cond (eqb (participants-of mine (z .servers)) 0) (did Committed (in-client (Life.reset 0))) (did Done (in-client (committing (z .servers)))))
 
   -- ---- APPLY at the server s: "Apply writes and unlocks"
   abbrev pub applying : ℕ → List (Put Address)
@@ -231,24 +240,26 @@ module _ (z : Sizes) (m : Address → ℕ) (c : ℕ) where
       (did Committed (applying s ++ in-client (andThen client-words (noted applied s) finish)))
       (did (Applied s) (applying s ++ in-client (noted applied s)))
 
-  -- is what an apply at s reads in range: the locks given back, and the versions read of all that is written
+  -- is what an apply at s reads in range: in the client's part, and the locks given back
   abbrev pub apply-fits : ℕ → Bool
-  apply-fits s = unlock-fits z m c s && versions-fit z m c
+  apply-fits s = fit-to-apply (tree-sizes z) mine s (all-applied s) && unlock-fits z m c s
 
   -- the apply at s
   unfoldable pub apply : ℕ → Did
   apply s = if-fit (apply-fits s) (applied-at s)
 
   -- ---- PREPARE at the server s
-  -- of an object that is locked there: what is checked, else the lock alone
+  -- of an object that is locked there: its lock, then what is checked, else who holds it
   abbrev pub prepare-reason : ℕ → Item → ℕ
   prepare-reason s i =
-      cond (checked-at (lowest-participant z m c) s i) (finding-reason (checked (item-object i) (i .inner-read) (i .mark) c (use-of i) (theirs s)))
-      (cond (held (item-object i) c (use-of i) (theirs s)) 2 0)
+      cond (lock-fits z m s (i .number))
+      (cond (checked-at (lowest-participant z m c) s i) (finding-number (checked (item-object i) (i .inner-read) (i .mark) c (use-of i) (theirs s)))
+      (cond (held (item-object i) c (use-of i) (theirs s)) 2 0)) 10
 
-  -- what is found of an object read: nothing if it is not locked at s
+  -- what is found of an object read, in the order of reading: its kinds, which say whether it is locked at s; then the rest
   abbrev pub prepare-finding : ℕ → Item → ℕ × ℕ
-  prepare-finding s i = (i .number, cond (locked-at (lowest-participant z m c) s i) (prepare-reason s i) 0)
+  prepare-finding s i =
+      (i .number, cond (i .read-fits && i .written-fits) (cond (locked-at (lowest-participant z m c) s i) (prepare-reason s i) 0) 10)
 
   -- the locks, and the note that this server has prepared
   abbrev pub preparing : ℕ → List (Put Address)
@@ -276,29 +287,29 @@ module _ (z : Sizes) (m : Address → ℕ) (c : ℕ) where
   prepared-at s =
       cond (not (all-prepared z m c s)) (did (Prepared s) (preparing z m c s))
       (cond (only z m c s)
-      (if-fit (versions-fit z m c) (then m (deciding-stores s) (λ u. applied-at z u c s)))
+      (if-fit (fit-to-apply (tree-sizes z) (λ a. m (client c a)) s true) (then m (deciding-stores s) (λ u. applied-at z u c s)))
       (did Decided (deciding-stores s)))
 
   -- "Prepare checks and locks": the prepare at s, or the abort by what was found
   unfoldable pub prepare : ℕ → Did
   prepare s =
-      let found = deciding (map (prepare-finding z m c s) (read-items (λ a. m (client c a)))) in
-      if-fit (prepare-fits z m c s) (cond (eqb found 0) (prepared-at s) (abort z m c found []))
+      if-fit (fit-to-prepare (tree-sizes z) (λ a. m (client c a)))
+      (by-finding (deciding (map (prepare-finding z m c s) (read-items (λ a. m (client c a))))) (prepared-at s) (λ y. abort z m c y []))
 
   -- ---- LOSS: "A decided transaction of a lost client is still applied"; "loss drops all copies"
   abbrev pub forgetting : (Address → ℕ) → Did
   forgetting u = did Done (in-client z u c drop-all)
 
   -- the abort of an undecided transaction, after which all copies go too
-  abbrev pub lose-undecided : Did → Did
-  lose-undecided d = did (d .outcome) (then m (d .stores) forgetting .stores)
+  abbrev pub lose-undecided : Did
+  lose-undecided = did (Aborted 7) (then m (aborting z m c []) forgetting .stores)
 
-  -- "a loss that aborts nothing": without a transaction or with a decided one; else "7 lost, and undecided"
+  -- "a loss that aborts nothing": without a transaction or with a decided one; else "7 lost, and undecided". A phase above is none of these
   unfoldable pub lose : Did
   lose =
       cond (eqb (m (client c phase)) no-transaction) (forgetting m)
       (cond (eqb (m (client c phase)) decided-phase) (did Done (in-client z m c Life.lose-part))
-      (if-fit (abort-fits z m c) (lose-undecided (abort z m c 7 []))))
+      (if-fit (leb (m (client c phase)) decided-phase && abort-fits z m c) lose-undecided))
 
   -- ---- by kind; one above 7 is refused by 4 before
   abbrev pub by-kind : Step → Kind → Did
@@ -312,10 +323,6 @@ module _ (z : Sizes) (m : Address → ℕ) (c : ℕ) where
   by-kind k Lost = lose
   by-kind k Unknown = refuse 4
 
--- THE STEP: refusals 4 to 9, then 10 for the client's own state, then the rule of its kind
+-- THE STEP: refusals 4 to 9, then the rule of its kind, with refusal 10 where it reads
 unfoldable pub step : Sizes → Step → (Address → ℕ) → Did
-step z k m =
-    let c = k .client in
-    cond (eqb (refusal z k m) 0)
-    (if-fit (client-fits (tree-sizes z) (λ a. m (client c a))) (by-kind z m c k (kind-of (k .kind))))
-    (refuse (refusal z k m))
+step z k m = cond (eqb (refusal z k m) 0) (by-kind z m (k .client) k (kind-of (k .kind))) (refuse (refusal z k m))
