@@ -3,7 +3,7 @@ use nodes::name::Name;
 use nodes::node::Node;
 ghost use mathlib.Core.Path.{_≡_};
 ghost use Prim.Native.Nat.{_≤_};
-ghost use Rattle.client.specs.Record.{single, in-store, record-in-range, children-there, node-fits, whole-in-range, sizes};
+ghost use Rattle.client.specs.Record.{single, in-store, record-in-range, children-there, node-fits, whole-in-range, kind-in-range, sizes};
 
 // A record of the metadata or a flag: its value stands in the first slot.
 pub fn single(version: u64, value: u64) -> Node
@@ -90,4 +90,17 @@ pub fn whole_fits(servers: usize, slots: usize, number: u64, n: Node) -> bool
         return fits(servers, slots, number, n);
     }
     node_fits(servers, slots, n)
+}
+
+// Is the kind of the object with that number in range? Only a node has one.
+pub fn kind_fits(number: u64, n: Node) -> bool
+    ensures { λ r. ⌜ r ≡ kind-in-range number n ⌝ }
+{
+    if number == 0 {
+        return true;
+    }
+    if number > 8192 {
+        return true;
+    }
+    n.kind <= 2
 }

@@ -1,5 +1,5 @@
 -- A fetch's check, as code makes it: "A fetch checks at that server what the transaction has read".
-use mathlib.Core.Bool.{Bool, cond, _||_, not}
+use mathlib.Core.Bool.{Bool, cond}
 use mathlib.Core.List.{List, map}
 use Prim.Native.Nat.{ℕ, _+_, _-_, _≤_, _<_}
 use lib.Dec.{eqb, leb, ltb}
@@ -7,7 +7,7 @@ use lib.ListN.{length, getD}
 use Rattle.memory.specs.Word.{view}
 use Rattle.server.specs.declared.lock.Use.the-variants.{Fetch}
 use Rattle.server.specs.Object.{object-of, Has}
-use Rattle.server.specs.Check.{can-check, checked, held, finding-reason}
+use Rattle.server.specs.Check.{can-check, checked, held, finding-number}
 use Rattle.client.specs.declared.part.Set.the-variants.{Reads}
 use Rattle.client.specs.Layout.{ClientWord, reads-count}
 use Rattle.client.specs.Sets.{count}
@@ -16,12 +16,12 @@ use Rattle.client.specs.Lent.{InUse, used-in}
 use Rattle.steps.specs.declared.sizes.Sizes.{Sizes}
 use Rattle.kinds.specs.declared.fetch.Verdict.{Verdict}
 use Rattle.kinds.specs.declared.fetch.Verdict.the-variants.{Unfit, Fault, Clear}
-use Rattle.steps.specs.Uses.{Item, all, item-of, item-object, deciding}
-use Rattle.steps.specs.Judge.{check-fits}
+use Rattle.steps.specs.Uses.{Item, item-of, item-object, deciding}
+use Rattle.steps.specs.Judge.{lock-fits}
 use Rattle.steps.specs.Steps.{fetch-items, fetch-finding}
 use Rattle.kinds.specs.Parts.{Store-in, stored-in}
 use Rattle.kinds.specs.Items.{read-item}
-use Rattle.kinds.specs.Judge.{of-client, of-server, lock-at}
+use Rattle.kinds.specs.Judge.{of-client, of-server}
 
 -- a copy in use, as an object read
 unfoldable pub used-item : (ClientWord → ℕ) → ℕ → Item
@@ -48,28 +48,22 @@ pub record Checking (z : Sizes) (b : List ℕ) (c s : ℕ) (u : List ℕ) : Type
 abbrev pub checks : ℕ → Item → Bool
 checks s i = can-check s (item-object i) (i .inner-read)
 
-unfoldable pub check-item : Sizes → List ℕ → ℕ → Item → Bool
-check-item z w s i = not (checks s i) || check-fits z (stored-in z w) s i
-
 unfoldable pub fetch-fault : Sizes → List ℕ → ℕ → ℕ → Item → ℕ
-fetch-fault z w c s i = cond (checks s i) (finding-reason (checked (item-object i) (i .inner-read) (i .mark) c Fetch (of-server z w s))) 0
+fetch-fault z w c s i =
+    cond (i .read-fits)
+    (cond (checks s i)
+    (cond (lock-fits z (stored-in z w) s (i .number)) (finding-number (checked (item-object i) (i .inner-read) (i .mark) c Fetch (of-server z w s))) 10) 0) 10
 
--- what Steps.checked-fetch asks
-unfoldable pub items-fit : Sizes → List ℕ → ℕ → ℕ → List ℕ → Bool
-items-fit z w c s us = all (check-fits z (stored-in z w) s) (fetch-items z (stored-in z w) c us s)
-
+-- what Steps.checked-fetch finds
 unfoldable pub items-found : Sizes → List ℕ → ℕ → ℕ → List ℕ → ℕ
-items-found z w c s us = deciding (map (fetch-finding z (stored-in z w) c us s) (fetch-items z (stored-in z w) c us s))
+items-found z w c s us = deciding (map (fetch-finding z (stored-in z w) c us s) (fetch-items z (stored-in z w) c us))
 
--- ---- what comes of it: refusal 10, a reason, or on
-abbrev pub faulty : ℕ → Verdict
-faulty y = cond (eqb y 0) Clear (Fault y)
-
-abbrev pub verdict-of : Bool → ℕ → Verdict
-verdict-of ok y = cond ok (faulty y) Unfit
+-- ---- what comes of it: on, refusal 10, or a reason
+abbrev pub verdict-of : ℕ → Verdict
+verdict-of y = cond (eqb y 0) Clear (cond (eqb y 10) Unfit (Fault y))
 
 -- the object fetched, of the number x: busy by a writer, or one too many
 unfoldable pub gate-of : Sizes → List ℕ → ℕ → ℕ → ℕ → List ℕ → Verdict
 gate-of z w c s x us =
-    cond (lock-at z w s x)
+    cond (lock-fits z (stored-in z w) s x)
     (cond (held (object-of x) c Fetch (of-server z w s)) (Fault 2) (cond (leb 96 (of-client z w c reads-count + length us)) (Fault 4) Clear)) Unfit

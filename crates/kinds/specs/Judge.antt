@@ -1,17 +1,13 @@
 -- Refusal 10 at a server, of one item: a lock and those that hold it.
-use mathlib.Core.Bool.{Bool, _&&_, _||_, not}
+use mathlib.Core.Bool.{Bool, _||_, not}
 use mathlib.Core.List.{List}
 use Prim.Native.Nat.{ℕ, _-_}
 use Rattle.memory.specs.Bit.{bit}
 use Rattle.server.specs.declared.place.Place.{Place}
-use Rattle.server.specs.Object.{object-of, lock-of}
-use Rattle.server.specs.Lock.{lock-in-range}
-use Rattle.server.specs.Check.{sound}
 use Rattle.client.specs.Layout.{ClientWord}
 use Rattle.steps.specs.declared.sizes.Sizes.{Sizes}
 use Rattle.steps.specs.Whole.{server, client}
-use Rattle.steps.specs.Uses.{Item, item-object}
-use Rattle.steps.specs.Judge.{commits, holders-fit}
+use Rattle.steps.specs.Judge.{has-transaction}
 use Rattle.kinds.specs.Parts.{stored-in}
 
 -- what a client's part holds, and a server's
@@ -23,13 +19,4 @@ of-server z w s = λ a. stored-in z w (server s a)
 
 -- a reader that the word names
 unfoldable pub reader-fits : Sizes → List ℕ → ℕ → ℕ → Bool
-reader-fits z w x d = not (bit x d) || commits z (stored-in z w) d
-
--- the lock of the object with the number x at the server s
-unfoldable pub lock-at : Sizes → List ℕ → ℕ → ℕ → Bool
-lock-at z w s x =
-    let v = stored-in z w (server s (lock-of (object-of x))) in
-    lock-in-range (z .clients) v && holders-fit z (stored-in z w) x v
-
-unfoldable pub sound-at : Sizes → List ℕ → ℕ → Item → Bool
-sound-at z w s i = sound (z .clients) (item-object i) (i .inner-read) (of-server z w s)
+reader-fits z w x d = not (bit x d) || has-transaction z (stored-in z w) d

@@ -17,8 +17,7 @@ pub mod Abort
 pub mod Loss
 -- the course of a commit at its client; the commit step
 pub mod Course
--- versions that are written; the write set at a server; apply, prepare
-pub mod Versions
+-- the write set at a server; apply, prepare
 pub mod Writes
 pub mod Apply
 pub mod Prepare

@@ -1,6 +1,6 @@
 -- A write by value, and what a server stores of it.
 use mathlib.Core.Path.{_≡_}
-use mathlib.Core.Bool.{true, cond}
+use mathlib.Core.Bool.{Bool, true, cond, _||_}
 use mathlib.Core.List.{List, []}
 use Prim.Native.Nat.{ℕ, _+_, _-_, _≤_, _<_}
 use lib.Dec.{eqb}
@@ -16,10 +16,11 @@ use Rattle.client.specs.Items.{inner-before-after}
 use Rattle.client.specs.Participants.{at-home}
 use Rattle.client.specs.Drops.{version-of}
 use Rattle.steps.specs.declared.sizes.Sizes.{Sizes}
-use Rattle.steps.specs.Whole.{Address, client}
+use Rattle.steps.specs.Whole.{Address, client, tree-sizes}
 use Rattle.steps.specs.Steps.{in-server, store-write, store-all}
 use Rattle.kinds.specs.Judge.{of-client}
-use Rattle.kinds.specs.Versions.{version-fits}
+use Rattle.client.specs.Fits.{version-fits, writes-fit}
+use Rattle.kinds.specs.Fits.{In-set}
 use Rattle.kinds.specs.Locks.{Done}
 use Rattle.kinds.specs.declared.writes.Write as code
 
@@ -39,14 +40,23 @@ write-step s w p =
     (λ n. node-step s (named n) (w .node) (w .read + 1) (w .inner) p)
     (λ n. cond (at-home s (w .number)) (flag-step (named n) (eqb (first-slot (w .node)) 1) p) [])
 
--- the version read has a next one; of a flag none is kept
-pub record Storable (w : code.Write) : Type 0 where
-  pub low : w .number ≤ 8192 → w .read < 4294967295
+-- does the server s store something of it: "at home and, for a node inner before or after, in every table"
+abbrev pub stores-some : ℕ → code.Write → Bool
+stores-some s w = at-home s (w .number) || w .inner
+
+-- where it is stored, the version read has a next one; of a flag none is kept
+pub record Storable (s : ℕ) (w : code.Write) : Type 0 where
+  pub low : w .number ≤ 8192 → stores-some s w ≡ true → w .read < 4294967295
 
 -- ---- one write of a client
-pub record Writable (z : Sizes) (m : ClientWord → ℕ) (i : ℕ) : Type 0 where
+pub record Writable (z : Sizes) (m : ClientWord → ℕ) (s i : ℕ) : Type 0 where
   pub has : Has (z .slots) (object-of (number-at m Writes i))
-  pub fits : version-fits m i ≡ true
+  pub fits : version-fits m s i ≡ true
+
+-- what is known of all writes that the server s stores
+pub record Storing (z : Sizes) (w : List ℕ) (c s : ℕ) : Type 0 where
+  pub written : In-set z Writes (of-client z w c)
+  pub fits : writes-fit (tree-sizes z) (of-client z w c) s ≡ true
 
 unfoldable pub StoredNth : Sizes → ℕ → ℕ → ℕ → List ℕ → List ℕ → Type 0
 StoredNth z c s i w w′ = Done z s (store-write (of-client z w c) s i) w w′

@@ -65,7 +65,7 @@ pub fn store_abort(mem: &mut [u8], sizes: Sizes, client: usize, used: &[u64])
 
 // The transaction aborts for a reason; the copies in use are those of this step.
 pub fn abort(mem: &mut [u8], sizes: Sizes, client: usize, reason: u64, used: &[u64]) -> Outcome
-    requires { ⌜ KnownClient sizes (now mem) client × InUse (now used) ⌝ }
+    requires { ⌜ AtClient sizes (length (now mem)) client × InUse (now used) ⌝ }
     ensures { λ r. ⌜ Comes sizes (λ m. abort sizes m client reason (used-in (now (used .entry)))) (now (mem .entry)) r (now (mem .exit)) ⌝ }
 {
     if abort_fits(mem, sizes, client) {
@@ -77,7 +77,7 @@ pub fn abort(mem: &mut [u8], sizes: Sizes, client: usize, reason: u64, used: &[u
 
 // And where a step uses no copies.
 pub fn abort_unused(mem: &mut [u8], sizes: Sizes, client: usize, reason: u64) -> Outcome
-    requires { ⌜ KnownClient sizes (now mem) client ⌝ }
+    requires { ⌜ AtClient sizes (length (now mem)) client ⌝ }
     ensures { λ r. ⌜ Comes sizes (λ m. abort sizes m client reason []) (now (mem .entry)) r (now (mem .exit)) ⌝ }
 {
     let none = [0u64; 98];
@@ -86,7 +86,7 @@ pub fn abort_unused(mem: &mut [u8], sizes: Sizes, client: usize, reason: u64) ->
 
 // 6 give up
 pub fn give_up(mem: &mut [u8], sizes: Sizes, client: usize) -> Outcome
-    requires { ⌜ KnownClient sizes (now mem) client ⌝ }
+    requires { ⌜ AtClient sizes (length (now mem)) client ⌝ }
     ensures { λ r. ⌜ Comes sizes (λ m. abort sizes m client 6 []) (now (mem .entry)) r (now (mem .exit)) ⌝ }
 {
     abort_unused(mem, sizes, client, 6)

@@ -1,21 +1,19 @@
 // 5 apply: "Apply writes and unlocks"; "The last apply ends the transaction and renews its copies".
-ghost use mathlib.Core.Path.{_≡_};
-ghost use mathlib.Core.Bool.{true};
 ghost use lib.ListN.{length};
 ghost use Rattle.memory.specs.Word.{view};
 ghost use Rattle.client.specs.Renew.{finish};
-ghost use Rattle.steps.specs.Judge.{versions-fit};
 ghost use Rattle.steps.specs.Steps.{applied-at, apply};
-ghost use Rattle.kinds.specs.Parts.{AtClient, stored-in, InWhole, InClient};
+ghost use Rattle.kinds.specs.Parts.{AtClient, ClientAt, InWhole, InClient};
 ghost use Rattle.kinds.specs.Fits.{KnownAt};
 ghost use Rattle.kinds.specs.Kinds.{Comes};
+ghost use Rattle.kinds.specs.Writes.{Storing};
 ghost use Rattle.kinds.specs.Apply.{applies};
 use crate::course::is_last;
 use crate::course::note;
 use crate::fits::unlock_fits;
+use crate::known::fit_to_apply;
 use crate::locks::Change;
 use crate::locks::change_all;
-use crate::versions::versions_fit;
 use crate::whole::client_at;
 use crate::writes::store_all;
 use client::part::APPLIED;
@@ -26,7 +24,7 @@ use steps::sizes::Sizes;
 // What a server stores.
 fn store_server(mem: &mut [u8], sizes: Sizes, client: usize, server: usize)
     requires { ⌜ KnownAt sizes (now mem) client server ⌝ }
-    requires fresh { ⌜ versions-fit sizes (stored-in sizes (view (now mem))) client ≡ true ⌝ }
+    requires storing { ⌜ Storing sizes (view (now mem)) client server ⌝ }
     ensures { λ _. ⌜ InWhole sizes (applies sizes client server) (now (mem .entry)) (now (mem .exit)) ⌝ }
 {
     store_all(mem, sizes, client, server);
@@ -45,7 +43,7 @@ fn finish_at(mem: &mut [u8], sizes: Sizes, client: usize)
 // An apply where all that it reads is in range.
 pub fn apply_at(mem: &mut [u8], sizes: Sizes, client: usize, server: usize) -> Outcome
     requires { ⌜ KnownAt sizes (now mem) client server ⌝ }
-    requires fresh { ⌜ versions-fit sizes (stored-in sizes (view (now mem))) client ≡ true ⌝ }
+    requires storing { ⌜ Storing sizes (view (now mem)) client server ⌝ }
     ensures { λ r. ⌜ Comes sizes (λ m. applied-at sizes m client server) (now (mem .entry)) r (now (mem .exit)) ⌝ }
 {
     let last = is_last(mem, sizes, client, APPLIED, server);
@@ -59,13 +57,14 @@ pub fn apply_at(mem: &mut [u8], sizes: Sizes, client: usize, server: usize) -> O
 }
 
 pub fn apply(mem: &mut [u8], sizes: Sizes, client: usize, server: usize) -> Outcome
-    requires { ⌜ KnownAt sizes (now mem) client server ⌝ }
+    requires { ⌜ ClientAt sizes (length (now mem)) client server ⌝ }
     ensures { λ r. ⌜ Comes sizes (λ m. apply sizes m client server) (now (mem .entry)) r (now (mem .exit)) ⌝ }
 {
-    if !unlock_fits(mem, sizes, client, server) {
+    let last = is_last(mem, sizes, client, APPLIED, server);
+    if !fit_to_apply(mem, sizes, client, server, last) {
         return Outcome::Refused(10);
     }
-    if !versions_fit(mem, sizes, client) {
+    if !unlock_fits(mem, sizes, client, server) {
         return Outcome::Refused(10);
     }
     apply_at(mem, sizes, client, server)

@@ -8,6 +8,7 @@ ghost use Rattle.kinds.specs.Parts.{AtClient, InClient};
 ghost use Rattle.kinds.specs.Judge.{of-client};
 ghost use Rattle.kinds.specs.Kinds.{Comes};
 use crate::course::put_field;
+use crate::known::fit_to_commit;
 use crate::life::reset_at;
 use crate::whole::client_at;
 use client::commit::participants;
@@ -41,6 +42,9 @@ pub fn commit(mem: &mut [u8], sizes: Sizes, client: usize) -> Outcome
     requires { ⌜ AtClient sizes (length (now mem)) client ⌝ }
     ensures { λ r. ⌜ Comes sizes (λ m. commit sizes m client) (now (mem .entry)) r (now (mem .exit)) ⌝ }
 {
+    if !fit_to_commit(mem, sizes, client) {
+        return Outcome::Refused(10);
+    }
     let servers = participants_of(mem, sizes, client);
     if servers == 0 {
         reset_at(mem, sizes, client, NO_TRANSACTION);

@@ -10,7 +10,7 @@ ghost use Rattle.client.specs.Lent.{InUse, used-in};
 ghost use Rattle.kinds.specs.Parts.{AtClient, ObjectAt, ObjectFor};
 ghost use Rattle.kinds.specs.Items.{as-item};
 ghost use Rattle.kinds.specs.Judge.{of-client};
-ghost use Rattle.kinds.specs.Fetch.{used-item, known-at, check-item, fetch-fault, items-fit, items-found, Checking, verdict-of, gate-of};
+ghost use Rattle.kinds.specs.Fetch.{used-item, known-at, fetch-fault, items-found, Checking, verdict-of, gate-of};
 ghost use Rattle.client.specs.Layout.{ClientPart};
 use crate::findings::Fault;
 use crate::findings::checked_at;
@@ -19,7 +19,6 @@ use crate::findings::lesser;
 use crate::fits::reads_of;
 use crate::items::Item;
 use crate::items::item_of;
-use crate::judge::check_fits;
 use crate::judge::field_of;
 use crate::judge::item_at;
 use crate::judge::lock_fits;
@@ -63,48 +62,25 @@ fn known_at(mem: &[u8], sizes: Sizes, client: usize, used: &[u64], i: usize) -> 
     used_at(mem, sizes, client, number)
 }
 
-// What a check of the item reads at the server is in range, if the server can check it.
-fn item_checks(mem: &[u8], sizes: Sizes, server: usize, item: Item) -> bool
-    requires { ⌜ ObjectAt sizes (length (now mem)) server (item .number) ⌝ }
-    ensures { λ r. ⌜ r ≡ check-item sizes (view (now (mem .entry))) server (as-item item) ⌝ }
-{
-    let object = numbered(item.number);
-    if can_check(server as u64, object, item.inner) {
-        return check_fits(mem, sizes, server, item);
-    }
-    true
-}
-
-// The reason that the check of an item finds; 0 if there is none, or the server can't check it.
+// What the check of an item finds: its kind says whether the server can check it; then its lock; 0 if there is nothing.
 fn fetch_fault(mem: &[u8], sizes: Sizes, client: usize, server: usize, item: Item) -> u64
     requires { ⌜ ObjectFor sizes (length (now mem)) client server (item .number) ⌝ }
     ensures { λ r. ⌜ r ≡ fetch-fault sizes (view (now (mem .entry))) client server (as-item item) ⌝ }
 {
+    if !item.read_fits {
+        return 10;
+    }
     let object = numbered(item.number);
-    if can_check(server as u64, object, item.inner) {
-        return checked_at(mem, sizes, server, item, client, Use::Fetch);
+    if !can_check(server as u64, object, item.inner) {
+        return 0;
     }
-    0
+    if !lock_fits(mem, sizes, server, item.number) {
+        return 10;
+    }
+    checked_at(mem, sizes, server, item, client, Use::Fetch)
 }
 
-fn items_fit(mem: &[u8], sizes: Sizes, client: usize, server: usize, used: &[u64]) -> bool
-    requires { ⌜ Checking sizes (now mem) client server (now used) ⌝ }
-    ensures { λ r. ⌜ r ≡ items-fit sizes (view (now (mem .entry))) client server (used-in (now (used .entry))) ⌝ }
-{
-    let n = reads_of(mem, sizes, client) + used[0] as usize;
-    let mut i: usize = 0;
-    while i < n {
-        let item = known_at(mem, sizes, client, used, i);
-        if item_checks(mem, sizes, server, item) {
-            i += 1;
-        } else {
-            return false;
-        }
-    }
-    true
-}
-
-// The reason for which the fetch aborts, that of the least object; 0 if there is none.
+// What the check finds, of the least object: a reason to abort, or 10 for the refusal; 0 if there is nothing.
 fn items_found(mem: &[u8], sizes: Sizes, client: usize, server: usize, used: &[u64]) -> u64
     requires { ⌜ Checking sizes (now mem) client server (now used) ⌝ }
     ensures { λ r. ⌜ r ≡ items-found sizes (view (now (mem .entry))) client server (used-in (now (used .entry))) ⌝ }
@@ -135,17 +111,16 @@ pub enum Verdict {
 // "in the order metadata, nodes by name, flags by name"
 pub fn check_all(mem: &[u8], sizes: Sizes, client: usize, server: usize, used: &[u64]) -> Verdict
     requires { ⌜ Checking sizes (now mem) client server (now used) ⌝ }
-    ensures { λ r. ⌜ r ≡ verdict-of (items-fit sizes (view (now (mem .entry))) client server (used-in (now (used .entry))))
-        (items-found sizes (view (now (mem .entry))) client server (used-in (now (used .entry)))) ⌝ }
+    ensures { λ r. ⌜ r ≡ verdict-of (items-found sizes (view (now (mem .entry))) client server (used-in (now (used .entry)))) ⌝ }
 {
-    if items_fit(mem, sizes, client, server, used) {
-        let found = items_found(mem, sizes, client, server, used);
-        if found == 0 {
-            return Verdict::Clear;
-        }
-        return Verdict::Fault(found);
+    let found = items_found(mem, sizes, client, server, used);
+    if found == 0 {
+        return Verdict::Clear;
     }
-    Verdict::Unfit
+    if found == 10 {
+        return Verdict::Unfit;
+    }
+    Verdict::Fault(found)
 }
 
 // "then the object fetched"; then the limit of 96.

@@ -3,7 +3,7 @@ ghost use mathlib.Core.Path.{_≡_};
 ghost use Prim.Native.Nat.{_<_};
 ghost use lib.ListN.{length};
 ghost use Rattle.memory.specs.Word.{view};
-ghost use Rattle.server.specs.Check.{checked, held, finding-reason};
+ghost use Rattle.server.specs.Check.{checked, held, finding-number};
 ghost use Rattle.server.specs.Object.{object-of, Has};
 ghost use Rattle.steps.specs.Uses.{use-of};
 ghost use Rattle.kinds.specs.Parts.{ObjectFor, ClientAt};
@@ -17,6 +17,7 @@ use crate::items::Item;
 use crate::items::is_checked_at;
 use crate::items::is_locked_at;
 use crate::judge::item_at;
+use crate::judge::lock_fits;
 use crate::whole::server_at;
 use server::check::Finding;
 use server::check::check;
@@ -25,7 +26,7 @@ use server::lock::Use;
 use server::object::numbered;
 use steps::sizes::Sizes;
 
-// An object's number with a reason to abort; reason 0 is none.
+// An object's number with a reason to abort, or 10 for the refusal; 0 is none.
 pub struct Fault {
     pub number: u64,
     pub reason: u64,
@@ -47,14 +48,15 @@ pub fn lesser(first: Fault, second: Fault) -> Fault
     second
 }
 
-// "1 a checked object differs .. 2 it is locked against this use by another client"
-fn reason_of(finding: Finding) -> u64
-    ensures { λ r. ⌜ r ≡ finding-reason finding ⌝ }
+// "1 a checked object differs .. 2 it is locked against this use by another client"; 10 is the refusal.
+fn number_of(finding: Finding) -> u64
+    ensures { λ r. ⌜ r ≡ finding-number finding ⌝ }
 {
     match finding {
         Finding::Same => 0,
         Finding::Differs => 1,
         Finding::Busy => 2,
+        Finding::Unfit => 10,
     }
 }
 
@@ -78,7 +80,7 @@ pub fn checked_at(
     wanted: Use,
 ) -> u64
     requires { ⌜ ObjectFor sizes (length (now mem)) client server (item .number) ⌝ }
-    ensures { λ r. ⌜ r ≡ finding-reason
+    ensures { λ r. ⌜ r ≡ finding-number
         (checked (object-of (item .number)) (item .inner) (item .mark) client wanted (of-server sizes (view (now (mem .entry))) server)) ⌝ }
 {
     let at = 8 * server_at(sizes, server);
@@ -93,7 +95,7 @@ pub fn checked_at(
         client as u32,
         wanted,
     );
-    reason_of(finding)
+    number_of(finding)
 }
 
 // Is the object locked there against the client's use?
@@ -113,7 +115,7 @@ pub fn held_at(
     is_busy(&mem[at..], sizes.slots, object, client as u32, wanted)
 }
 
-// What a prepare at a server finds of an item: it is checked, or only locked.
+// What a prepare at a server finds of an item that is locked there: its lock, then what is checked, else who holds it.
 fn prepare_reason(
     mem: &[u8],
     sizes: Sizes,
@@ -125,6 +127,9 @@ fn prepare_reason(
     requires { ⌜ ObjectFor sizes (length (now mem)) client server (item .number) ⌝ }
     ensures { λ r. ⌜ r ≡ prepare-reason sizes (view (now (mem .entry))) client server low (as-item item) ⌝ }
 {
+    if !lock_fits(mem, sizes, server, item.number) {
+        return 10;
+    }
     if is_checked_at(item, low, server as u64) {
         return checked_at(mem, sizes, server, item, client, use_of(item));
     }
@@ -134,7 +139,7 @@ fn prepare_reason(
     0
 }
 
-// The fault of an item at a prepare: none if it is not locked there.
+// The fault of an item at a prepare: its kinds say whether it is locked there, and if not there is none.
 fn prepare_fault(
     mem: &[u8],
     sizes: Sizes,
@@ -146,13 +151,19 @@ fn prepare_fault(
     requires { ⌜ ObjectFor sizes (length (now mem)) client server (item .number) ⌝ }
     ensures { λ r. ⌜ r ≡ prepare-fault sizes (view (now (mem .entry))) client server low (as-item item) ⌝ }
 {
+    if !item.read_fits {
+        return 10;
+    }
+    if !item.written_fits {
+        return 10;
+    }
     if is_locked_at(item, low, server as u64) {
         return prepare_reason(mem, sizes, client, server, low, item);
     }
     0
 }
 
-// The reason for which a prepare at a server aborts; 0 if there is none.
+// The reason for which a prepare at a server aborts, or 10 for the refusal; 0 if there is none.
 pub fn prepare_finds(mem: &[u8], sizes: Sizes, client: usize, server: usize) -> u64
     requires { ⌜ KnownAt sizes (now mem) client server ⌝ }
     ensures { λ r. ⌜ r ≡ prepare-found sizes (view (now (mem .entry))) client server ⌝ }

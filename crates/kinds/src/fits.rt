@@ -1,4 +1,4 @@
-// Refusal 10 for what a prepare, an apply and an abort read at servers, item by item.
+// Refusal 10 for what an apply and an abort read at servers, item by item.
 ghost use mathlib.Core.Path.{_≡_};
 ghost use Prim.Native.Nat.{_≤_, _<_};
 ghost use lib.ListN.{length};
@@ -6,18 +6,18 @@ ghost use Rattle.memory.specs.Word.{view};
 ghost use Rattle.client.specs.declared.part.Set.the-variants.{Reads};
 ghost use Rattle.client.specs.Sets.{count};
 ghost use Rattle.client.specs.Participants.{lowest-of};
-ghost use Rattle.steps.specs.Judge.{lowest-participant, prepare-fits, unlock-fits, abort-fits};
+ghost use Rattle.steps.specs.Judge.{lowest-participant, unlock-fits, abort-fits};
 ghost use Rattle.kinds.specs.Parts.{AtClient, stored-in, ObjectAt};
 ghost use Rattle.kinds.specs.Items.{as-item};
 ghost use Rattle.kinds.specs.Judge.{of-client};
-ghost use Rattle.kinds.specs.Fits.{prepare-item, unlock-item, unlocks-at, KnownAt, KnownClient};
+ghost use Rattle.kinds.specs.Fits.{unlock-item, unlocks-at, unlocks-all, KnownAt, KnownClient};
 use crate::items::Item;
-use crate::items::is_checked_at;
 use crate::items::is_locked_at;
-use crate::judge::check_fits;
 use crate::judge::field_of;
 use crate::judge::item_at;
 use crate::judge::lock_fits;
+use crate::known::fit_to_abort;
+use crate::known::fit_to_unlock;
 use crate::whole::client_at;
 use client::part::PARTICIPANTS;
 use client::part::PREPARED;
@@ -60,45 +60,19 @@ pub fn lowest(mem: &[u8], sizes: Sizes, client: usize) -> u64
     lowest_in(sizes.servers, set) as u64
 }
 
-// What a prepare at a server reads of an item there.
-fn item_prepares(mem: &[u8], sizes: Sizes, server: usize, lowest: u64, item: Item) -> bool
-    requires { ⌜ ObjectAt sizes (length (now mem)) server (item .number) ⌝ }
-    ensures { λ r. ⌜ r ≡ prepare-item sizes (view (now (mem .entry))) lowest server (as-item item) ⌝ }
-{
-    if is_locked_at(item, lowest, server as u64) {
-        if is_checked_at(item, lowest, server as u64) {
-            return check_fits(mem, sizes, server, item);
-        }
-        return lock_fits(mem, sizes, server, item.number);
-    }
-    true
-}
-
-// What is unlocked of an item at a server.
+// What is unlocked of an item at a server: its kinds, which say whether it is locked there, and then its lock.
 fn item_unlocks(mem: &[u8], sizes: Sizes, server: usize, lowest: u64, item: Item) -> bool
     requires { ⌜ ObjectAt sizes (length (now mem)) server (item .number) ⌝ }
     ensures { λ r. ⌜ r ≡ unlock-item sizes (view (now (mem .entry))) lowest server (as-item item) ⌝ }
 {
+    if !item.read_fits {
+        return false;
+    }
+    if !item.written_fits {
+        return false;
+    }
     if is_locked_at(item, lowest, server as u64) {
         return lock_fits(mem, sizes, server, item.number);
-    }
-    true
-}
-
-// Is what a prepare at a server reads there in range?
-pub fn prepare_fits(mem: &[u8], sizes: Sizes, client: usize, server: usize) -> bool
-    requires { ⌜ KnownAt sizes (now mem) client server ⌝ }
-    ensures { λ r. ⌜ r ≡ prepare-fits sizes (stored-in sizes (view (now (mem .entry)))) client server ⌝ }
-{
-    let low = lowest(mem, sizes, client);
-    let n = reads_of(mem, sizes, client);
-    let mut i: usize = 0;
-    while i < n {
-        if item_prepares(mem, sizes, server, low, item_at(mem, sizes, client, i)) {
-            i += 1;
-        } else {
-            return false;
-        }
     }
     true
 }
@@ -126,16 +100,19 @@ fn server_unlocks(mem: &[u8], sizes: Sizes, client: usize, prepared: u64, server
     requires { ⌜ KnownAt sizes (now mem) client server ⌝ }
     ensures { λ r. ⌜ r ≡ unlocks-at sizes (view (now (mem .entry))) client prepared server ⌝ }
 {
-    if bits::has(prepared, server as u32) {
-        return unlock_fits(mem, sizes, client, server);
+    if !bits::has(prepared, server as u32) {
+        return true;
     }
-    true
+    if !fit_to_unlock(mem, sizes, client) {
+        return false;
+    }
+    unlock_fits(mem, sizes, client, server)
 }
 
 // And at every server at which the transaction is prepared?
-pub fn abort_fits(mem: &[u8], sizes: Sizes, client: usize) -> bool
+fn servers_unlock(mem: &[u8], sizes: Sizes, client: usize) -> bool
     requires { ⌜ KnownClient sizes (now mem) client ⌝ }
-    ensures { λ r. ⌜ r ≡ abort-fits sizes (stored-in sizes (view (now (mem .entry)))) client ⌝ }
+    ensures { λ r. ⌜ r ≡ unlocks-all sizes (view (now (mem .entry))) client ⌝ }
 {
     let prepared = field_of(mem, sizes, client, PREPARED);
     let n = sizes.servers;
@@ -148,4 +125,15 @@ pub fn abort_fits(mem: &[u8], sizes: Sizes, client: usize) -> bool
         }
     }
     true
+}
+
+// Is what an abort reads in range?
+pub fn abort_fits(mem: &[u8], sizes: Sizes, client: usize) -> bool
+    requires { ⌜ AtClient sizes (length (now mem)) client ⌝ }
+    ensures { λ r. ⌜ r ≡ abort-fits sizes (stored-in sizes (view (now (mem .entry)))) client ⌝ }
+{
+    if !fit_to_abort(mem, sizes, client) {
+        return false;
+    }
+    servers_unlock(mem, sizes, client)
 }

@@ -4,24 +4,35 @@ ghost use Prim.Native.Nat.{_<_};
 ghost use Rattle.client.specs.Record.{first-slot};
 ghost use Rattle.client.specs.Sets.{held};
 ghost use Rattle.steps.specs.Uses.{item-of, checked-at, locked-at};
-ghost use Rattle.kinds.specs.Items.{as-item, mark-of, read-item};
+ghost use Rattle.kinds.specs.Items.{as-item, as-written, mark-of, read-item};
 ghost use Rattle.client.specs.Layout.{ClientPart};
-use client::items::has;
-use client::items::inner_in;
 use client::items::is_home;
 use client::items::is_inner;
 use client::part::Set;
+use client::part::find;
 use client::part::number_at;
 use client::part::record_at;
+use client::range::kind_fits;
+use nodes::found::Found;
 use nodes::node::Node;
 
-// An object read: metadata, or a node read as inner; its version, or a flag's value; is it written, and as an inner node?
+// An object read: metadata, or a node read as inner; its version, or a flag's value; is it written, and as an inner node; is its kind in
+// range, as read and as written?
 pub struct Item {
     pub number: u64,
     pub inner: bool,
     pub mark: u64,
     pub written: bool,
     pub becomes: bool,
+    pub read_fits: bool,
+    pub written_fits: bool,
+}
+
+// What the write set says of an object: is it there, as an inner node, with a kind in range?
+struct Written {
+    there: bool,
+    inner: bool,
+    fits: bool,
 }
 
 // The root's name, or a flag.
@@ -42,20 +53,44 @@ fn mark_of(number: u64, node: Node) -> u64
     first_slot(node)
 }
 
+fn as_written(part: &[u8], number: u64) -> Written
+    requires { ⌜ ClientPart (now part) ⌝ }
+    ensures { λ r. ⌜ r ≡ as-written (held (now (part .entry))) number ⌝ }
+{
+    let at = find(part, Set::Writes, number);
+    match at {
+        Found::At(i) => {
+            let node = record_at(part, Set::Writes, i);
+            Written {
+                there: true,
+                inner: is_inner(number, node),
+                fits: kind_fits(number, node),
+            }
+        }
+        Found::Absent => Written {
+            there: false,
+            inner: false,
+            fits: true,
+        },
+    }
+}
+
 pub fn item_of(part: &[u8], number: u64, node: Node) -> Item
     requires { ⌜ ClientPart (now part) ⌝ }
     ensures { λ r. ⌜ as-item r ≡ item-of (held (now (part .entry))) number node ⌝ }
 {
     let inner = is_inner(number, node);
     let mark = mark_of(number, node);
-    let written = has(part, Set::Writes, number);
-    let becomes = inner_in(part, Set::Writes, number);
+    let read_fits = kind_fits(number, node);
+    let w = as_written(part, number);
     Item {
         number,
         inner,
         mark,
-        written,
-        becomes,
+        written: w.there,
+        becomes: w.inner,
+        read_fits,
+        written_fits: w.fits,
     }
 }
 

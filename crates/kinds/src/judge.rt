@@ -9,24 +9,23 @@ ghost use Rattle.server.specs.Object.{object-of, lock-of};
 ghost use Rattle.client.specs.Items.{has, all-below};
 ghost use Rattle.client.specs.Layout.{field};
 ghost use Rattle.steps.specs.Whole.{server as at-server};
-ghost use Rattle.steps.specs.Judge.{commits, writes, holders-fit, check-fits};
+ghost use Rattle.steps.specs.Judge.{has-transaction, writes, holders-fit, lock-fits};
 ghost use Rattle.kinds.specs.Parts.{AtClient, Store-in, stored-in, ObjectAt};
 ghost use Rattle.kinds.specs.Items.{as-item, read-item};
-ghost use Rattle.kinds.specs.Judge.{of-client, reader-fits, lock-at, sound-at};
+ghost use Rattle.kinds.specs.Judge.{of-client, reader-fits};
 use crate::items::Item;
 use crate::items::read_item;
 use crate::sizes::between;
 use crate::whole::client_at;
 use crate::whole::server_at;
 use client::items::has;
-use client::part::COMMITTING;
 use client::part::DECIDED;
+use client::part::OPEN;
 use client::part::PHASE;
 use client::part::Set;
 use client::part::WRITES_COUNT;
 use client::part::get_field;
 use memory::bits;
-use server::check::is_sound;
 use server::lock::is_lock;
 use server::object::lock_place;
 use server::object::numbered;
@@ -60,13 +59,13 @@ pub fn item_at(mem: &[u8], sizes: Sizes, client: usize, i: usize) -> Item
     read_item(&mem[at..], i)
 }
 
-// "a lock's transaction": is the client's one after its commit?
-fn commits(mem: &[u8], sizes: Sizes, client: usize) -> bool
+// "a lock's transaction": has the client one?
+fn has_transaction(mem: &[u8], sizes: Sizes, client: usize) -> bool
     requires { ⌜ AtClient sizes (length (now mem)) client ⌝ }
-    ensures { λ r. ⌜ r ≡ commits sizes (stored-in sizes (view (now (mem .entry)))) client ⌝ }
+    ensures { λ r. ⌜ r ≡ has-transaction sizes (stored-in sizes (view (now (mem .entry)))) client ⌝ }
 {
     let phase = field_of(mem, sizes, client, PHASE);
-    between(COMMITTING, DECIDED, phase)
+    between(OPEN, DECIDED, phase)
 }
 
 // "or its write": is the object in the client's write set?
@@ -80,13 +79,13 @@ fn writes(mem: &[u8], sizes: Sizes, client: usize, number: u64) -> bool
     false
 }
 
-// Does the word not name the client, or has it a transaction after its commit?
+// Does the word not name the client, or has it a transaction?
 fn reader_fits(mem: &[u8], sizes: Sizes, word: u64, client: usize) -> bool
     requires { ⌜ AtClient sizes (length (now mem)) client ⌝ }
     ensures { λ r. ⌜ r ≡ reader-fits sizes (view (now (mem .entry))) word client ⌝ }
 {
     if bits::has(word, client as u32) {
-        return commits(mem, sizes, client);
+        return has_transaction(mem, sizes, client);
     }
     true
 }
@@ -117,7 +116,7 @@ fn holders_fit(mem: &[u8], sizes: Sizes, number: u64, word: u64) -> bool
         return readers_fit(mem, sizes, word);
     }
     let writer = (word - 65536) as usize;
-    if commits(mem, sizes, writer) {
+    if has_transaction(mem, sizes, writer) {
         return writes(mem, sizes, writer, number);
     }
     false
@@ -136,38 +135,11 @@ pub fn lock_word(mem: &[u8], sizes: Sizes, server: usize, number: u64) -> u64
 // Is an object's lock at a server in range, and are its holders there?
 pub fn lock_fits(mem: &[u8], sizes: Sizes, server: usize, number: u64) -> bool
     requires { ⌜ ObjectAt sizes (length (now mem)) server number ⌝ }
-    ensures { λ r. ⌜ r ≡ lock-at sizes (view (now (mem .entry))) server number ⌝ }
+    ensures { λ r. ⌜ r ≡ lock-fits sizes (stored-in sizes (view (now (mem .entry)))) server number ⌝ }
 {
     let word = lock_word(mem, sizes, server, number);
     if is_lock(word, sizes.clients as u32) {
         return holders_fit(mem, sizes, number, word);
-    }
-    false
-}
-
-// Is what a check of the item reads at a server in range?
-fn is_sound_at(mem: &[u8], sizes: Sizes, server: usize, item: Item) -> bool
-    requires { ⌜ ObjectAt sizes (length (now mem)) server (item .number) ⌝ }
-    ensures { λ r. ⌜ r ≡ sound-at sizes (view (now (mem .entry))) server (as-item item) ⌝ }
-{
-    let at = 8 * server_at(sizes, server);
-    let object = numbered(item.number);
-    is_sound(
-        &mem[at..],
-        sizes.slots,
-        sizes.clients as u32,
-        object,
-        item.inner,
-    )
-}
-
-// What a check at a server reads, and its lock.
-pub fn check_fits(mem: &[u8], sizes: Sizes, server: usize, item: Item) -> bool
-    requires { ⌜ ObjectAt sizes (length (now mem)) server (item .number) ⌝ }
-    ensures { λ r. ⌜ r ≡ check-fits sizes (stored-in sizes (view (now (mem .entry)))) server (as-item item) ⌝ }
-{
-    if is_sound_at(mem, sizes, server, item) {
-        return lock_fits(mem, sizes, server, item.number);
     }
     false
 }

@@ -1,20 +1,65 @@
-// Refusal 10 for the client's own state, read by every step of the client.
+// Refusal 10 for what each rule reads of its client's own part.
 ghost use mathlib.Core.Path.{_≡_};
 ghost use lib.ListN.{length};
 ghost use Rattle.memory.specs.Word.{view};
-ghost use Rattle.client.specs.Fits.{client-fits};
+ghost use Rattle.client.specs.Fits.{fit-to-work, fit-to-commit, fit-to-prepare, fit-to-abort, fit-to-unlock, fit-to-apply};
 ghost use Rattle.steps.specs.Whole.{tree-sizes};
 ghost use Rattle.kinds.specs.Parts.{AtClient};
 ghost use Rattle.kinds.specs.Judge.{of-client};
 use crate::whole::client_at;
-use client::fits::client_fits;
+use client::fits;
 use steps::sizes::Sizes;
 
-// Is the state of a client in range?
-pub fn is_fit(mem: &[u8], sizes: Sizes, client: usize) -> bool
+// A work step, before its walk.
+pub fn fit_to_work(mem: &[u8], sizes: Sizes, client: usize) -> bool
     requires { ⌜ AtClient sizes (length (now mem)) client ⌝ }
-    ensures { λ r. ⌜ r ≡ client-fits (tree-sizes sizes) (of-client sizes (view (now (mem .entry))) client) ⌝ }
+    ensures { λ r. ⌜ r ≡ fit-to-work (tree-sizes sizes) (of-client sizes (view (now (mem .entry))) client) ⌝ }
 {
     let at = 8 * client_at(sizes, client);
-    client_fits(&mem[at..], sizes.servers, sizes.slots)
+    fits::fit_to_work(&mem[at..], sizes.servers, sizes.slots)
+}
+
+// A commit.
+pub fn fit_to_commit(mem: &[u8], sizes: Sizes, client: usize) -> bool
+    requires { ⌜ AtClient sizes (length (now mem)) client ⌝ }
+    ensures { λ r. ⌜ r ≡ fit-to-commit (tree-sizes sizes) (of-client sizes (view (now (mem .entry))) client) ⌝ }
+{
+    let at = 8 * client_at(sizes, client);
+    fits::fit_to_commit(&mem[at..], sizes.servers, sizes.slots)
+}
+
+// A prepare, before it checks.
+pub fn fit_to_prepare(mem: &[u8], sizes: Sizes, client: usize) -> bool
+    requires { ⌜ AtClient sizes (length (now mem)) client ⌝ }
+    ensures { λ r. ⌜ r ≡ fit-to-prepare (tree-sizes sizes) (of-client sizes (view (now (mem .entry))) client) ⌝ }
+{
+    let at = 8 * client_at(sizes, client);
+    fits::fit_to_prepare(&mem[at..], sizes.servers, sizes.slots)
+}
+
+// An abort.
+pub fn fit_to_abort(mem: &[u8], sizes: Sizes, client: usize) -> bool
+    requires { ⌜ AtClient sizes (length (now mem)) client ⌝ }
+    ensures { λ r. ⌜ r ≡ fit-to-abort (tree-sizes sizes) (of-client sizes (view (now (mem .entry))) client) ⌝ }
+{
+    let at = 8 * client_at(sizes, client);
+    fits::fit_to_abort(&mem[at..], sizes.servers, sizes.slots)
+}
+
+// And where a server has prepared, what says what is locked there.
+pub fn fit_to_unlock(mem: &[u8], sizes: Sizes, client: usize) -> bool
+    requires { ⌜ AtClient sizes (length (now mem)) client ⌝ }
+    ensures { λ r. ⌜ r ≡ fit-to-unlock (tree-sizes sizes) (of-client sizes (view (now (mem .entry))) client) ⌝ }
+{
+    let at = 8 * client_at(sizes, client);
+    fits::fit_to_unlock(&mem[at..], sizes.servers, sizes.slots)
+}
+
+// An apply at a server; the last one renews the copies.
+pub fn fit_to_apply(mem: &[u8], sizes: Sizes, client: usize, server: usize, last: bool) -> bool
+    requires { ⌜ AtClient sizes (length (now mem)) client ⌝ }
+    ensures { λ r. ⌜ r ≡ fit-to-apply (tree-sizes sizes) (of-client sizes (view (now (mem .entry))) client) server last ⌝ }
+{
+    let at = 8 * client_at(sizes, client);
+    fits::fit_to_apply(&mem[at..], sizes.servers, sizes.slots, server as u64, last)
 }

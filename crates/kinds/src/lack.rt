@@ -12,7 +12,6 @@ ghost use Rattle.steps.specs.declared.outcome.Outcome.the-variants.{Fetched};
 ghost use Rattle.steps.specs.Steps.{node-at, hand-over, fetch};
 ghost use Rattle.kinds.specs.Parts.{AtServer};
 ghost use Rattle.kinds.specs.Judge.{of-server};
-ghost use Rattle.kinds.specs.Fits.{Known};
 ghost use Rattle.kinds.specs.Fetch.{Checking};
 ghost use Rattle.kinds.specs.Kinds.{Comes};
 ghost use Rattle.kinds.specs.Lack.{There};
@@ -24,6 +23,8 @@ use crate::hand::store_meta;
 use crate::hand::store_node;
 use crate::hand::store_vector;
 use crate::whole::server_at;
+use client::range::node_fits;
+use nodes::name::Name;
 use nodes::node::Node;
 use server::hand_out::Metadata;
 use server::hand_out::metadata_is_sound;
@@ -50,18 +51,18 @@ fn meta_of(mem: &[u8], sizes: Sizes, server: usize) -> Metadata
 }
 
 fn hand_meta(mem: &mut [u8], sizes: Sizes, client: usize, server: usize, used: &[u64]) -> Outcome
-    requires { ⌜ Checking sizes (now mem) client server (now used) × Known sizes (view (now mem)) client ⌝ }
+    requires { ⌜ Checking sizes (now mem) client server (now used) ⌝ }
     ensures { λ r. ⌜ Comes sizes (λ m. hand-over sizes m client (used-in (now (used .entry))) (object meta) server (Fetched 0 0))
         (now (mem .entry)) r (now (mem .exit)) ⌝ }
 {
-    if !meta_fits(mem, sizes, server) {
-        return Outcome::Refused(10);
-    }
     let g = gate(mem, sizes, client, server, 0, used);
     match g {
         Verdict::Unfit => Outcome::Refused(10),
         Verdict::Fault(reason) => abort(mem, sizes, client, reason, used),
         Verdict::Clear => {
+            if !meta_fits(mem, sizes, server) {
+                return Outcome::Refused(10);
+            }
             let m = meta_of(mem, sizes, server);
             store_meta(mem, sizes, client, used, m.root, m.version);
             Outcome::Fetched(0, 0)
@@ -71,7 +72,7 @@ fn hand_meta(mem: &mut [u8], sizes: Sizes, client: usize, server: usize, used: &
 
 // The metadata is lacking.
 pub fn fetch_meta(mem: &mut [u8], sizes: Sizes, client: usize, used: &[u64]) -> Outcome
-    requires { ⌜ Checking sizes (now mem) client (client % sizes .servers) (now used) × Known sizes (view (now mem)) client ⌝ }
+    requires { ⌜ Checking sizes (now mem) client (client % sizes .servers) (now used) ⌝ }
     ensures { λ r. ⌜ Comes sizes (λ m. fetch sizes m client (used-in (now (used .entry))) (object meta)) (now (mem .entry)) r
         (now (mem .exit)) ⌝ }
 {
@@ -90,8 +91,8 @@ fn node_of(mem: &[u8], sizes: Sizes, server: usize, name: u64) -> Node
     ensures { λ r. ⌜ r ≡ node-at (of-server sizes (view (now (mem .entry))) server) name ⌝ }
 {
     let at = 8 * server_at(sizes, server);
-    let slot = (name % 1024) as usize;
-    read_node(&mem[at..], sizes.slots, slot)
+    let name = Name { number: name };
+    read_node(&mem[at..], sizes.slots, name.slot() as usize)
 }
 
 fn hand_node(
@@ -102,21 +103,21 @@ fn hand_node(
     name: u64,
     used: &[u64],
 ) -> Outcome
-    requires { ⌜ Checking sizes (now mem) client server (now used) × Known sizes (view (now mem)) client × There sizes name ⌝ }
+    requires { ⌜ Checking sizes (now mem) client server (now used) × There sizes name ⌝ }
     ensures { λ r. ⌜ Comes sizes
         (λ m. hand-over sizes m client (used-in (now (used .entry))) (object (node name)) server (Fetched 1 name)) (now (mem .entry)) r
         (now (mem .exit)) ⌝ }
 {
-    let n = node_of(mem, sizes, server, name);
-    if !n.in_range() {
-        return Outcome::Refused(10);
-    }
     let number = 1 + name;
     let g = gate(mem, sizes, client, server, number, used);
     match g {
         Verdict::Unfit => Outcome::Refused(10),
         Verdict::Fault(reason) => abort(mem, sizes, client, reason, used),
         Verdict::Clear => {
+            let n = node_of(mem, sizes, server, name);
+            if !node_fits(sizes.servers, sizes.slots, n) {
+                return Outcome::Refused(10);
+            }
             store_node(mem, sizes, client, used, name, n);
             Outcome::Fetched(1, name)
         }
@@ -125,11 +126,12 @@ fn hand_node(
 
 // A node is lacking.
 pub fn fetch_node(mem: &mut [u8], sizes: Sizes, client: usize, name: u64, used: &[u64]) -> Outcome
-    requires { ⌜ Checking sizes (now mem) client (server-of name) (now used) × Known sizes (view (now mem)) client × There sizes name ⌝ }
+    requires { ⌜ Checking sizes (now mem) client (server-of name) (now used) × There sizes name ⌝ }
     ensures { λ r. ⌜ Comes sizes (λ m. fetch sizes m client (used-in (now (used .entry))) (object (node name))) (now (mem .entry)) r
         (now (mem .exit)) ⌝ }
 {
-    let server = (name / 1024) as usize;
+    let home = Name { number: name };
+    let server = home.server() as usize;
     let v = check_all(mem, sizes, client, server, used);
     match v {
         Verdict::Unfit => Outcome::Refused(10),
@@ -154,7 +156,7 @@ pub fn fetch_vector(
     server: usize,
     used: &[u64],
 ) -> Outcome
-    requires { ⌜ Checking sizes (now mem) client server (now used) × Known sizes (view (now mem)) client ⌝ }
+    requires { ⌜ Checking sizes (now mem) client server (now used) ⌝ }
     ensures { λ r. ⌜ Comes sizes (λ m. fetch sizes m client (used-in (now (used .entry))) (vector server)) (now (mem .entry)) r
         (now (mem .exit)) ⌝ }
 {

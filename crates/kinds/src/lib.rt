@@ -17,6 +17,5 @@ pub mod loss;
 pub mod prepare;
 pub mod refusal;
 pub mod sizes;
-pub mod versions;
 pub mod whole;
 pub mod writes;

@@ -49,7 +49,7 @@ fn store_loss(mem: &mut [u8], sizes: Sizes, client: usize)
 
 // "7 lost, and undecided"
 fn lose_undecided(mem: &mut [u8], sizes: Sizes, client: usize) -> Outcome
-    requires { ⌜ KnownClient sizes (now mem) client ⌝ }
+    requires { ⌜ AtClient sizes (length (now mem)) client ⌝ }
     ensures { λ r. ⌜ Comes sizes (loses-undecided sizes client) (now (mem .entry)) r (now (mem .exit)) ⌝ }
 {
     if abort_fits(mem, sizes, client) {
@@ -60,7 +60,7 @@ fn lose_undecided(mem: &mut [u8], sizes: Sizes, client: usize) -> Outcome
 }
 
 pub fn lose(mem: &mut [u8], sizes: Sizes, client: usize) -> Outcome
-    requires { ⌜ KnownClient sizes (now mem) client ⌝ }
+    requires { ⌜ AtClient sizes (length (now mem)) client ⌝ }
     ensures { λ r. ⌜ Comes sizes (λ m. lose sizes m client) (now (mem .entry)) r (now (mem .exit)) ⌝ }
 {
     let phase = field_of(mem, sizes, client, PHASE);
@@ -71,6 +71,9 @@ pub fn lose(mem: &mut [u8], sizes: Sizes, client: usize) -> Outcome
     if phase == DECIDED {
         mark_lost(mem, sizes, client);
         return Outcome::Done;
+    }
+    if phase > DECIDED {
+        return Outcome::Refused(10);
     }
     lose_undecided(mem, sizes, client)
 }

@@ -18,11 +18,11 @@ use crate::course::is_last;
 use crate::course::note;
 use crate::course::put_field;
 use crate::findings::prepare_finds;
-use crate::fits::prepare_fits;
+use crate::known::fit_to_apply;
+use crate::known::fit_to_prepare;
 use crate::judge::field_of;
 use crate::locks::Change;
 use crate::locks::change_all;
-use crate::versions::versions_fit;
 use client::part::DECIDED;
 use client::part::PARTICIPANTS;
 use client::part::PHASE;
@@ -63,7 +63,7 @@ fn apply_too(mem: &mut [u8], sizes: Sizes, client: usize, server: usize) -> Outc
     requires { ⌜ KnownAt sizes (now mem) client server ⌝ }
     ensures { λ r. ⌜ Comes sizes (applies-too sizes client server) (now (mem .entry)) r (now (mem .exit)) ⌝ }
 {
-    if !versions_fit(mem, sizes, client) {
+    if !fit_to_apply(mem, sizes, client, server, true) {
         return Outcome::Refused(10);
     }
     decide(mem, sizes, client, server);
@@ -87,15 +87,18 @@ fn prepare_at(mem: &mut [u8], sizes: Sizes, client: usize, server: usize) -> Out
 }
 
 pub fn prepare(mem: &mut [u8], sizes: Sizes, client: usize, server: usize) -> Outcome
-    requires { ⌜ KnownAt sizes (now mem) client server ⌝ }
+    requires { ⌜ ClientAt sizes (length (now mem)) client server ⌝ }
     ensures { λ r. ⌜ Comes sizes (λ m. prepare sizes m client server) (now (mem .entry)) r (now (mem .exit)) ⌝ }
 {
-    if !prepare_fits(mem, sizes, client, server) {
+    if !fit_to_prepare(mem, sizes, client) {
         return Outcome::Refused(10);
     }
     let reason = prepare_finds(mem, sizes, client, server);
     if reason == 0 {
         return prepare_at(mem, sizes, client, server);
+    }
+    if reason == 10 {
+        return Outcome::Refused(10);
     }
     abort_unused(mem, sizes, client, reason)
 }

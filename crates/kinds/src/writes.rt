@@ -1,7 +1,6 @@
 // The write set stored at one server: "a written version becomes the one read plus 1, at home and, for a node inner before or
 // after, in every table".
 ghost use mathlib.Core.Path.{_≡_};
-ghost use mathlib.Core.Bool.{true};
 ghost use Prim.Native.Nat.{_/_, _≤_, _<_};
 ghost use lib.ListN.{length};
 ghost use Rattle.memory.specs.Word.{view};
@@ -9,11 +8,10 @@ ghost use Rattle.server.specs.Layout as Srv;
 ghost use Rattle.server.specs.Object.{object-of, Has};
 ghost use Rattle.client.specs.declared.part.Set.the-variants.{Writes};
 ghost use Rattle.client.specs.Sets.{held, count};
-ghost use Rattle.steps.specs.Judge.{versions-fit};
-ghost use Rattle.kinds.specs.Parts.{AtClient, stored-in, InServer, InWhole, AtServer, ClientAt};
+ghost use Rattle.kinds.specs.Parts.{AtClient, InServer, InWhole, AtServer, ClientAt};
 ghost use Rattle.kinds.specs.Judge.{of-client};
 ghost use Rattle.kinds.specs.Fits.{KnownAt};
-ghost use Rattle.kinds.specs.Writes.{write-nth, write-step, Storable, Writable, StoredNth, stores};
+ghost use Rattle.kinds.specs.Writes.{write-nth, write-step, stores-some, Storable, Writable, Storing, StoredNth, stores};
 ghost use Rattle.client.specs.Layout.{ClientPart};
 ghost use Rattle.server.specs.Layout.{ServerDone};
 use crate::items::first_slot;
@@ -76,9 +74,19 @@ fn writes_of(mem: &[u8], sizes: Sizes, client: usize) -> usize
     count(&mem[at..], Set::Writes)
 }
 
+// Does a server store something of a write?
+fn stores_some(server: u64, write: Write) -> bool
+    ensures { λ r. ⌜ r ≡ stores-some server write ⌝ }
+{
+    if is_home(server, write.number) {
+        return true;
+    }
+    write.inner
+}
+
 // What a server stores of a write.
 fn store_write(part: &mut [u8], slots: usize, server: u64, write: Write)
-    requires { ⌜ (slots ≤ 1024) × Has slots (object-of (write .number)) × Storable write × (Srv.partWords slots ≤ length (now part) / 8) ⌝ }
+    requires { ⌜ (slots ≤ 1024) × Has slots (object-of (write .number)) × Storable server write × (Srv.partWords slots ≤ length (now part) / 8) ⌝ }
     ensures { λ _. ⌜ ServerDone slots (write-step server write) (now (part .entry)) (now (part .exit)) ⌝ }
 {
     let number = write.number;
@@ -88,16 +96,18 @@ fn store_write(part: &mut [u8], slots: usize, server: u64, write: Write)
         return;
     }
     if number <= 8192 {
-        let name = Name { number: number - 1 };
-        store_node(
-            part,
-            slots,
-            server,
-            name,
-            write.node,
-            write.read,
-            write.inner,
-        );
+        if stores_some(server, write) {
+            let name = Name { number: number - 1 };
+            store_node(
+                part,
+                slots,
+                server,
+                name,
+                write.node,
+                write.read,
+                write.inner,
+            );
+        }
         return;
     }
     if is_home(server, number) {
@@ -109,7 +119,7 @@ fn store_write(part: &mut [u8], slots: usize, server: u64, write: Write)
 }
 
 fn store_at(mem: &mut [u8], sizes: Sizes, server: usize, write: Write)
-    requires { ⌜ AtServer sizes (length (now mem)) server × Has (sizes .slots) (object-of (write .number)) × Storable write ⌝ }
+    requires { ⌜ AtServer sizes (length (now mem)) server × Has (sizes .slots) (object-of (write .number)) × Storable server write ⌝ }
     ensures { λ _. ⌜ InServer sizes server (write-step server write) (now (mem .entry)) (now (mem .exit)) ⌝ }
 {
     let at = 8 * server_at(sizes, server);
@@ -117,7 +127,7 @@ fn store_at(mem: &mut [u8], sizes: Sizes, server: usize, write: Write)
 }
 
 fn store_nth(mem: &mut [u8], sizes: Sizes, client: usize, server: usize, i: usize)
-    requires { ⌜ ClientAt sizes (length (now mem)) client server × (i < 48) × Writable sizes (of-client sizes (view (now mem)) client) i ⌝ }
+    requires { ⌜ ClientAt sizes (length (now mem)) client server × (i < 48) × Writable sizes (of-client sizes (view (now mem)) client) server i ⌝ }
     ensures { λ _. ⌜ StoredNth sizes client server i (view (now (mem .entry))) (view (now (mem .exit))) ⌝ }
 {
     let write = write_at(mem, sizes, client, i);
@@ -127,7 +137,7 @@ fn store_nth(mem: &mut [u8], sizes: Sizes, client: usize, server: usize, i: usiz
 // The write set's objects in order, at a server.
 pub fn store_all(mem: &mut [u8], sizes: Sizes, client: usize, server: usize)
     requires { ⌜ KnownAt sizes (now mem) client server ⌝ }
-    requires fresh { ⌜ versions-fit sizes (stored-in sizes (view (now mem))) client ≡ true ⌝ }
+    requires storing { ⌜ Storing sizes (view (now mem)) client server ⌝ }
     ensures { λ _. ⌜ InWhole sizes (stores sizes client server) (now (mem .entry)) (now (mem .exit)) ⌝ }
 {
     let n = writes_of(mem, sizes, client);

@@ -14,7 +14,7 @@ use Rattle.nodes.specs.Node.{extra, slotsOf}
 use Rattle.nodes.specs.Range.{node-in-range}
 use Rattle.nodes.specs.Laws.Range.{range-count}
 use Rattle.operations.specs.Slot.{TreeSizes}
-use Rattle.client.specs.Record.{sizes, first-slot, in-store, record-in-range, all, children-there, node-fits, whole-in-range}
+use Rattle.client.specs.Record.{sizes, first-slot, in-store, record-in-range, all, children-there, node-fits, whole-in-range, kind-in-range}
 
 -- the server r of a name is looked at first, then its slot
 module _ (servers slots x r : ℕ) (o : r ≡ server-of x) where
@@ -122,5 +122,21 @@ module _ (z : TreeSizes) (x : ℕ) (n : Node) (r : Bool) where
   pub whole-flag : 8192 < x → r ≡ record-in-range z x n → r ≡ whole-in-range z x n
   unfolding whole-in-range
   whole-flag h q = q ∙ rw (ne-eqb x 0 (λ e. absurd (omega (arith, e))), lt-leb _ _ h)
+
+-- ---- kinds
+module _ (x : ℕ) (n : Node) where
+  pub meta-kind : x ≡ 0 → true ≡ kind-in-range x n
+  unfolding kind-in-range
+  meta-kind e = rw (eq-eqb _ _ e)
+
+  pub flag-kind : (x ≡ 0 → ⊥) → 8192 < x → true ≡ kind-in-range x n
+  unfolding kind-in-range
+  flag-kind d h = rw (ne-eqb _ _ d, lt-leb _ _ h)
+
+  pub node-kind : (x ≡ 0 → ⊥) → x ≤ 8192 → leb (n .kind) 2 ≡ kind-in-range x n
+  unfolding kind-in-range
+  node-kind d h = rw (ne-eqb _ _ d, le-leb _ _ h)
+
+pub ruleset kind-exits = (meta-kind, flag-kind, node-kind)
 
 pub ruleset whole-exits = (not-inner, none-yet, one-more, one-astray, all-children, node-unfit, node-whole, few-keys, whole-meta, whole-node, whole-flag)

@@ -20,17 +20,18 @@ use Rattle.client.specs.Sets.{count}
 use Rattle.client.specs.Participants.{lowest-of}
 use Rattle.client.specs.Course.{noted}
 use Rattle.client.specs.Renew.{finish}
+use Rattle.client.specs.Fits.{fit-to-apply}
 use Rattle.client.specs.Laws.Steps.{Good, good-field}
 use Rattle.client.specs.Part.{put-field, put-word}
 use Rattle.steps.specs.declared.sizes.Sizes.{Sizes}
 use Rattle.steps.specs.declared.outcome.Outcome.{Outcome}
 use Rattle.steps.specs.declared.outcome.Outcome.the-variants.{Refused, Applied, Committed}
 use Rattle.kinds.specs.declared.locks.Change.the-variants.{Unlock}
-use Rattle.steps.specs.Whole.{server, client, whole, block, words-for}
+use Rattle.steps.specs.Whole.{server, client, whole, block, words-for, tree-sizes}
 use Rattle.steps.specs.Laws.Stores.{server-clients}
 use Rattle.steps.specs.Uses.{item-of, locked-at}
-use Rattle.steps.specs.Judge.{unlock-fits, versions-fit}
-use Rattle.steps.specs.Steps.{did, covers, store-all, applied-at, apply}
+use Rattle.steps.specs.Judge.{unlock-fits}
+use Rattle.steps.specs.Steps.{did, covers, store-all, all-applied, applied-at, apply}
 use Rattle.kinds.specs.Parts.{Store-in, stored-in}
 use Rattle.kinds.specs.Items.{read-item}
 use Rattle.kinds.specs.Judge.{of-client}
@@ -40,7 +41,7 @@ use Rattle.kinds.specs.Kinds.{Meets}
 use Rattle.kinds.specs.Laws.Kinds.{meets-did, meets-as, meets-refused, Apart, then-client, client-both}
 use Rattle.kinds.specs.Locks.{rule, passing, upto, changes, Done}
 use Rattle.kinds.specs.Laws.Locks.{Inside, in-whole, done-then, clients-stay, upto-inside, rule-inside}
-use Rattle.kinds.specs.Writes.{stores}
+use Rattle.kinds.specs.Writes.{Storing, stores}
 use Rattle.kinds.specs.Laws.Writes.{writes-inside}
 use Rattle.kinds.specs.Apply.{applies}
 use Rattle.server.specs.Layout as Srv
@@ -52,7 +53,7 @@ inside-then : (z : Sizes) (f g : Rule) → Inside z f → Inside z g → Inside 
 unfolding andThen
 inside-then z f g p q = record { all = λ u. valid-append Srv.places (Srv.server-block (z .slots)) (f u) (g (changed Srv.places u (f u))) (p .all u) (q .all (changed Srv.places u (f u))) }
 
-module _ (z : Sizes) (c s : ℕ) (w : List ℕ) (known : Known z w c) where
+module _ (z : Sizes) (c s : ℕ) (w : List ℕ) (known : Known z w c) (storing : Storing z w c s) where
   -- the writes, and the locks, as rules of the server
   abbrev writing : Rule
   writing = store-all (of-client z w c) s
@@ -61,7 +62,7 @@ module _ (z : Sizes) (c s : ℕ) (w : List ℕ) (known : Known z w c) where
   unlocking m = upto (rule Unlock c) (locked-at (lowest-of (z .servers) (m (field 5))) s) (read-item m) (count m Reads)
 
   writing-inside : Inside z writing
-  writing-inside = writes-inside z c s w (count (of-client z w c) Writes) known (omega arith)
+  writing-inside = writes-inside z c s w (count (of-client z w c) Writes) (storing .written) (omega arith)
 
   unlocking-inside : Inside z (unlocking (of-client z w c))
   unfolding read-item item-of
@@ -69,26 +70,26 @@ module _ (z : Sizes) (c s : ℕ) (w : List ℕ) (known : Known z w c) where
       let m = of-client z w c in
       upto-inside z (rule Unlock c) (locked-at (lowest-of (z .servers) (m (field 5))) s) (read-item m) (count m Reads) (λ j l. rule-inside z c Unlock (read-item m j) (known .known j l))
 
-pub applies-apart : (z : Sizes) (c s : ℕ) (w : List ℕ) → s < z .servers → Known z w c → Apart z c (applies z c s) (stored-in z w)
+pub applies-apart : (z : Sizes) (c s : ℕ) (w : List ℕ) → s < z .servers → Known z w c → Storing z w c s → Apart z c (applies z c s) (stored-in z w)
 unfolding applies rule passing upto read-item inPart
-applies-apart z c s w h known =
-    let f : Rule = andThen Srv.places (writing z c s w known) (unlocking z c s w known (of-client z w c)) in
+applies-apart z c s w h known storing =
+    let f : Rule = andThen Srv.places (writing z c s w known storing) (unlocking z c s w known storing (of-client z w c)) in
     record {
-      valid = in-whole z s h f (stored-in z w) (inside-then z (writing z c s w known) (unlocking z c s w known (of-client z w c)) (writing-inside z c s w known) (unlocking-inside z c s w known));
+      valid = in-whole z s h f (stored-in z w) (inside-then z (writing z c s w known storing) (unlocking z c s w known storing (of-client z w c)) (writing-inside z c s w known storing) (unlocking-inside z c s w known storing));
       stays = server-clients (stored-in z w) s (f (λ a. stored-in z w (server s a))) c;
     }
 
 -- the client's part stays while its writes are stored
-module _ (z : Sizes) (c s : ℕ) (b₀ b : List ℕ) (hold : Store-in z (length b₀)) (known : Known z (view b₀) c) (h : s < z .servers) (p : Does whole (block z) (stores z c s) silent (view b₀) 0 (view b)) where
+module _ (z : Sizes) (c s : ℕ) (b₀ b : List ℕ) (hold : Store-in z (length b₀)) (known : Known z (view b₀) c) (storing : Storing z (view b₀) c s) (h : s < z .servers) (p : Does whole (block z) (stores z c s) silent (view b₀) 0 (view b)) where
   room : words-for z ≤ length (view b₀)
   room = omega (arith, hold .room, view-length b₀)
 
-  done : Done z s (writing z c s (view b₀) known) (view b₀) (view b)
+  done : Done z s (writing z c s (view b₀) known storing) (view b₀) (view b)
   unfolding stores inPart
-  done = does-as whole (block z) (stores z c s) (inPart (server s) (writing z c s (view b₀) known)) silent (view b₀) 0 (view b) refl p
+  done = does-as whole (block z) (stores z c s) (inPart (server s) (writing z c s (view b₀) known storing)) silent (view b₀) 0 (view b) refl p
 
   stay : of-client z (view b) c ≡ of-client z (view b₀) c
-  stay = clients-stay z s h (writing z c s (view b₀) known) (view b₀) (view b) c room (writing-inside z c s (view b₀) known) done
+  stay = clients-stay z s h (writing z c s (view b₀) known storing) (view b₀) (view b) c room (writing-inside z c s (view b₀) known storing) done
 
   pub still-known : Known z (view b) c
   still-known = known-same z c (view b₀) (view b) stay known
@@ -96,26 +97,26 @@ module _ (z : Sizes) (c s : ℕ) (b₀ b : List ℕ) (hold : Store-in z (length 
   pub is-applied : (b′ : List ℕ) → Does whole (block z) (changes z c s Unlock) silent (view b) 0 (view b′) → Does whole (block z) (applies z c s) silent (view b₀) 0 (view b′)
   unfolding applies changes inPart rule passing upto read-item
   is-applied b′ q =
-      let f = writing z c s (view b₀) known in
-      let g = unlocking z c s (view b₀) known in
+      let f = writing z c s (view b₀) known storing in
+      let g = unlocking z c s (view b₀) known storing in
       let q′ : Done z s (g (of-client z (view b₀) c)) (view b) (view b′) =
       does-as whole (block z) (changes z c s Unlock) (inPart (server s) (g (of-client z (view b₀) c))) silent (view b) 0 (view b′)
       (ap (λ (m : ClientWord → ℕ). over (server s) (g m (λ a. stored-in z (view b) (server s a)))) stay) q in
       does-as whole (block z) (inPart (server s) (andThen Srv.places f (g (of-client z (view b₀) c)))) (applies z c s) silent (view b₀) 0 (view b′) refl
-      (done-then z s h f (g (of-client z (view b₀) c)) (view b₀) (view b) (view b′) room (writing-inside z c s (view b₀) known) done q′)
+      (done-then z s h f (g (of-client z (view b₀) c)) (view b₀) (view b) (view b′) room (writing-inside z c s (view b₀) known storing) done q′)
 
 -- ---- the note, and the end
 pub good-noted : (i s : ℕ) → i < 15 → Good (noted (field i) s)
 unfolding noted put-word
 good-noted i s h = record { all = λ m. good-field i (putBit true (m (field i)) s) h .all m }
 
-module _ (z : Sizes) (c s : ℕ) (b₀ b b₁ : List ℕ) (hold : Store-in z (length b₀)) (known : Known z (view b₀) c) (h : s < z .servers) (last : Bool) (e : last ≡ covers (z .servers) (of-client z (view b₀) c (field 5)) (putBit true (of-client z (view b₀) c (field 7)) s)) (p : Does whole (block z) (applies z c s) silent (view b₀) 0 (view b)) (q : Does whole (block z) (inPart (client c) (noted (field 7) s)) silent (view b) 0 (view b₁)) where
+module _ (z : Sizes) (c s : ℕ) (b₀ b b₁ : List ℕ) (hold : Store-in z (length b₀)) (known : Known z (view b₀) c) (storing : Storing z (view b₀) c s) (h : s < z .servers) (last : Bool) (e : last ≡ covers (z .servers) (of-client z (view b₀) c (field 5)) (putBit true (of-client z (view b₀) c (field 7)) s)) (p : Does whole (block z) (applies z c s) silent (view b₀) 0 (view b)) (q : Does whole (block z) (inPart (client c) (noted (field 7) s)) silent (view b) 0 (view b₁)) where
   pub applied-one : last ≡ false → Meets z (λ m. applied-at z m c s) (view b₀) (Applied s) (view b₁)
   unfolding applied-at applies inPart
   applied-one t =
       meets-as z (view b₀) (Applied s) (view b₁) (λ m. did (Applied s) (applies z c s m ++ inPart (client c) (noted (field 7) s) m)) (λ m. applied-at z m c s) (sym (rw (← e, t)))
       (meets-did z (view b₀) (Applied s) (view b₁) (λ m. applies z c s m ++ inPart (client c) (noted (field 7) s) m)
-      (then-client z c (applies z c s) (noted (field 7) s) b₀ b b₁ hold (applies-apart z c s (view b₀) h known) p q))
+      (then-client z c (applies z c s) (noted (field 7) s) b₀ b b₁ hold (applies-apart z c s (view b₀) h known storing) p q))
 
   pub applied-last : (b₂ : List ℕ) → c < z .clients → length b ≡ length b₀ → last ≡ true → Does whole (block z) (inPart (client c) finish) silent (view b₁) 0 (view b₂)
       → Meets z (λ m. applied-at z m c s) (view b₀) Committed (view b₂)
@@ -124,23 +125,27 @@ module _ (z : Sizes) (c s : ℕ) (b₀ b b₁ : List ℕ) (hold : Store-in z (le
       let g = andThen client-words (noted (field 7) s) finish in
       meets-as z (view b₀) Committed (view b₂) (λ m. did Committed (applies z c s m ++ inPart (client c) g m)) (λ m. applied-at z m c s) (sym (rw (← e, t)))
       (meets-did z (view b₀) Committed (view b₂) (λ m. applies z c s m ++ inPart (client c) g m)
-      (then-client z c (applies z c s) g b₀ b b₂ hold (applies-apart z c s (view b₀) h known) p
+      (then-client z c (applies z c s) g b₀ b b₂ hold (applies-apart z c s (view b₀) h known storing) p
       (client-both z c (noted (field 7) s) finish b b₁ b₂ (record { allowed = hold .allowed; room = rw l (hold .room) }) k (good-noted 7 s (omega arith)) q r)))
 
 -- ---- judged first
-module _ (z : Sizes) (c s : ℕ) (w : List ℕ) (b : Bool) (e : b ≡ unlock-fits z (stored-in z w) c s) where
-  pub apply-locked : not b ≡ true → Meets z (λ m. apply z m c s) w (Refused 10) w
-  unfolding apply
-  apply-locked t = meets-refused z w 10 (λ m. apply z m c s) (sym (rw (← e, not-true b t)))
+pub last-is : (z : Sizes) (c s : ℕ) (w : List ℕ) (last : Bool) → last ≡ covers (z .servers) (of-client z w c (field 5)) (putBit true (of-client z w c (field 7)) s)
+    → last ≡ all-applied z (stored-in z w) c s
+last-is z c s w last e = e
 
-  module _ (d : Bool) (f : d ≡ versions-fit z (stored-in z w) c) (t : not b ≡ false) where
-    pub apply-last-version : not d ≡ true → Meets z (λ m. apply z m c s) w (Refused 10) w
+module _ (z : Sizes) (c s : ℕ) (w : List ℕ) (last b : Bool) (l : last ≡ all-applied z (stored-in z w) c s) (e : b ≡ fit-to-apply (tree-sizes z) (of-client z w c) s last) where
+  judged : b ≡ fit-to-apply (tree-sizes z) (of-client z w c) s (all-applied z (stored-in z w) c s)
+  judged = e ∙ ap (fit-to-apply (tree-sizes z) (of-client z w c) s) l
+
+  pub apply-unfit : not b ≡ true → Meets z (λ m. apply z m c s) w (Refused 10) w
+  unfolding apply
+  apply-unfit t = meets-refused z w 10 (λ m. apply z m c s) (sym (rw (← judged, not-true b t)))
+
+  module _ (d : Bool) (f : d ≡ unlock-fits z (stored-in z w) c s) (t : not b ≡ false) where
+    pub apply-locked : not d ≡ true → Meets z (λ m. apply z m c s) w (Refused 10) w
     unfolding apply
-    apply-last-version u = meets-refused z w 10 (λ m. apply z m c s) (sym (rw (← e, not-false b t, ← f, not-true d u)))
+    apply-locked u = meets-refused z w 10 (λ m. apply z m c s) (sym (rw (← judged, not-false b t, ← f, not-true d u)))
 
     pub apply-fits : (o : Outcome) (w′ : List ℕ) → not d ≡ false → Meets z (λ m. applied-at z m c s) w o w′ → Meets z (λ m. apply z m c s) w o w′
     unfolding apply
-    apply-fits o w′ u r = meets-as z w o w′ (λ m. applied-at z m c s) (λ m. apply z m c s) (sym (rw (← e, not-false b t, ← f, not-false d u))) r
-
-pub fresh-by : (z : Sizes) (c : ℕ) (w : List ℕ) (d : Bool) → d ≡ versions-fit z (stored-in z w) c → not d ≡ false → versions-fit z (stored-in z w) c ≡ true
-fresh-by z c w d e u = sym e ∙ not-false d u
+    apply-fits o w′ u r = meets-as z w o w′ (λ m. applied-at z m c s) (λ m. apply z m c s) (sym (rw (← judged, not-false b t, ← f, not-false d u))) r

@@ -1,11 +1,11 @@
 -- Laws of a fetch's check: "A fetch checks at that server what the transaction has read".
 use mathlib.Core.Path.{_≡_, refl, sym, ap, ap₂, _∙_, subst}
-use mathlib.Core.Bool.{Bool, true, false, cond, _&&_, _||_, not}
+use mathlib.Core.Bool.{Bool, true, false, not}
 use mathlib.Core.List.{List, [], _∷_, _++_, map, append-assoc, append-nil}
 use mathlib.Core.Option.{Option}
 use Prim.Native.Nat.{ℕ, zero, suc, _+_, _-_, _*_, _≤_, _<_}
 use native.Mathlib.Omega.{arith}
-use borrow.Author.Tests.{eq-eqb, ne-eqb, lt-ltb, le-ltb, le-leb, lt-leb}
+use borrow.Author.Tests.{eq-eqb, ne-eqb, lt-ltb, le-ltb, le-leb, lt-leb, not-true, not-false}
 use borrow.Rule.Slice.PartMut.{midOf}
 use lib.ListN.{length, getD, take, drop}
 use lib.Seq.{getD-take, getD-drop}
@@ -13,28 +13,26 @@ use Rattle.memory.specs.Word.{view}
 use Rattle.server.specs.declared.object.Object.{Object}
 use Rattle.server.specs.declared.lock.Use.the-variants.{Fetch}
 use Rattle.server.specs.Object.{object-of, Has}
-use Rattle.server.specs.Check.{can-check, checked, held, finding-reason}
+use Rattle.server.specs.Check.{can-check, checked, held, finding-number}
 use Rattle.client.specs.declared.answer.Look.{Look}
 use Rattle.client.specs.declared.part.Set.the-variants.{Reads}
 use Rattle.client.specs.Layout.{ClientWord, reads-count}
 use Rattle.client.specs.Sets.{count}
-use Rattle.client.specs.Items.{all-below}
 use Rattle.client.specs.Have.{copied}
 use Rattle.client.specs.Lent.{InUse, used-in}
 use Rattle.client.specs.Laws.Lent.{length-used}
 use Rattle.steps.specs.declared.sizes.Sizes.{Sizes}
 use Rattle.kinds.specs.declared.fetch.Verdict.the-variants.{Unfit, Fault, Clear}
 use Rattle.steps.specs.Whole.{client-at}
-use Rattle.steps.specs.Uses.{Item, each, those, all, item-of, read-items, used-items, item-object, least, reason-of, deciding}
-use Rattle.steps.specs.Judge.{check-fits}
+use Rattle.steps.specs.Uses.{Item, each, item-of, read-items, used-items, least, reason-of, deciding}
+use Rattle.steps.specs.Judge.{lock-fits}
 use Rattle.kinds.specs.Parts.{Store-in, stored-in}
 use Rattle.kinds.specs.Laws.Parts.{client-lent}
 use Rattle.kinds.specs.Items.{as-item, read-item}
-use Rattle.kinds.specs.Judge.{of-client, of-server, lock-at}
-use Rattle.kinds.specs.Laws.Judge.{none-passed, one-passed, one-fails, all-passed}
+use Rattle.kinds.specs.Judge.{of-client, of-server}
 use Rattle.kinds.specs.Findings.{fault, as-fault, later}
 use Rattle.kinds.specs.Laws.Findings.{reason-again, least-upto, least-first, least-next}
-use Rattle.kinds.specs.Fetch.{used-item, known-at, AllKnown, checks, check-item, fetch-fault, items-fit, items-found, verdict-of, gate-of}
+use Rattle.kinds.specs.Fetch.{used-item, known-at, AllKnown, fetch-fault, items-found, verdict-of, gate-of}
 use Rattle.client.specs.Sets as sets
 use Rattle.kinds.specs.declared.items.Item as code
 use Rattle.kinds.specs.declared.findings.Fault as code-fault
@@ -83,46 +81,6 @@ module _ (m : ClientWord → ℕ) (us : List ℕ) where
       (map-each (λ x. used-item m x) us ∙ each-same (length us) (λ i. used-item m (getD us i 0)) (λ i. known-at m us (count m Reads + i)) (λ i l. known-used i))
       ∙ each-more (count m Reads) (length us) (known-at m us)
 
-and-true : (b : Bool) → (b && true) ≡ b
-and-true true = refl
-and-true false = refl
-
-and-more : (a b c d : Bool) → b ≡ (c && d) → (a && b) ≡ ((a && c) && d)
-and-more true b c d h = h
-and-more false b c d h = refl
-
--- ---- a test, and a reason, of those that the server can check
-module _ (g : Item → Bool) where
-  all-snoc : (f : Item → Bool) (l : List Item) (a : Item) → all f (those g (l ++ (a ∷ []))) ≡ (all f (those g l) && (not (g a) || f a))
-  unfolding all those
-  all-snoc f [] a = go (g a) (f a)
-    where
-      go : (b d : Bool) → all f (cond b (a ∷ []) []) ≡ (not b || f a)
-      go true d = and-true (f a)
-      go false d = refl
-  all-snoc f (e ∷ l) a = go (g e) (f e) (all-snoc f l a)
-    where
-      go : (b d : Bool) → all f (those g (l ++ (a ∷ []))) ≡ (all f (those g l) && (not (g a) || f a))
-          → all f (cond b (e ∷ those g (l ++ (a ∷ []))) (those g (l ++ (a ∷ [])))) ≡ (all f (cond b (e ∷ those g l) (those g l)) && (not (g a) || f a))
-      go true d h = and-more (f e) (all f (those g (l ++ (a ∷ [])))) (all f (those g l)) (not (g a) || f a) h
-      go false d h = h
-
-  all-each : (f : Item → Bool) (h : ℕ → Item) (n : ℕ) → all f (those g (each n h)) ≡ all-below n (λ i. not (g (h i)) || f (h i))
-  unfolding all those each all-below
-  all-each f h zero = refl
-  all-each f h (suc n) = all-snoc f (each n h) (h n) ∙ rw (all-each f h n)
-
-  least-those : (f : Item → ℕ) (l : List Item) → least (map (λ i. (i .number, f i)) (those g l)) ≡ least (map (λ i. (i .number, cond (g i) (f i) 0)) l)
-  unfolding least those
-  least-those f [] = refl
-  least-those f (a ∷ l) = go (g a) (least-those f l)
-    where
-      go : (b : Bool) → least (map (λ i. (i .number, f i)) (those g l)) ≡ least (map (λ i. (i .number, cond (g i) (f i) 0)) l)
-          → least (map (λ i. (i .number, f i)) (cond b (a ∷ those g l) (those g l)))
-          ≡ least ((a .number, cond b (f a) 0) ∷ map (λ i. (i .number, cond (g i) (f i) 0)) l)
-      go true h = rw h
-      go false h = h
-
 -- ---- the parts of the code
 pub used-lent : (z : Sizes) (b : List ℕ) (c k x : ℕ) (r : Item) → Store-in z (length b) → c < z .clients → k ≡ client-at z c
     → r ≡ used-item (sets.held (midOf (8 * k) (length b - 8 * k) b)) x → r ≡ used-item (of-client z (view b) c) x
@@ -149,32 +107,34 @@ module _ (m : ClientWord → ℕ) (u : List ℕ) (n i : ℕ) (en : n ≡ count m
 pub copy-small : (m : ClientWord → ℕ) (u : List ℕ) (n i : ℕ) → n ≡ count m Reads → InUse u → n ≤ i → i < count m Reads + getD u 0 0 → getD u (i - n + 1) 0 < 16385
 copy-small m u n i en f h l = f .small (i - n) (omega arith)
 
-module _ (z : Sizes) (w : List ℕ) (c s : ℕ) (i : code.Item) (o : Object) (po : o ≡ object-of (i .number)) (b : Bool) (pb : b ≡ can-check s o (i .inner)) where
-  pub item-checked : (r : Bool) → b ≡ true → r ≡ check-fits z (stored-in z w) s (as-item i) → r ≡ check-item z w s (as-item i)
-  unfolding check-item
-  item-checked r t q = q ∙ sym (rw (← po, ← pb, t))
-
-  pub item-elsewhere : b ≡ false → true ≡ check-item z w s (as-item i)
-  unfolding check-item
-  item-elsewhere t = sym (rw (← po, ← pb, t))
-
-  pub fault-checked : (r : ℕ) → b ≡ true → r ≡ finding-reason (checked (object-of (i .number)) (i .inner) (i .mark) c Fetch (of-server z w s)) → r ≡ fetch-fault z w c s (as-item i)
+module _ (z : Sizes) (w : List ℕ) (c s : ℕ) (i : code.Item) where
+  pub fault-unkind : not (i .read_fits) ≡ true → 10 ≡ fetch-fault z w c s (as-item i)
   unfolding fetch-fault
-  fault-checked r t q = let e : can-check s (object-of (i .number)) (i .inner) ≡ true = ap (λ (x : Object). can-check s x (i .inner)) (sym po) ∙ sym pb ∙ t in q ∙ sym (rw e)
+  fault-unkind t = sym (rw (not-true (i .read_fits) t))
 
-  pub fault-elsewhere : b ≡ false → 0 ≡ fetch-fault z w c s (as-item i)
-  unfolding fetch-fault
-  fault-elsewhere t = sym (rw (← po, ← pb, t))
+  module _ (r : not (i .read_fits) ≡ false) (o : Object) (po : o ≡ object-of (i .number)) (b : Bool) (pb : b ≡ can-check s o (i .inner)) where
+    pub fault-elsewhere : not b ≡ true → 0 ≡ fetch-fault z w c s (as-item i)
+    unfolding fetch-fault
+    fault-elsewhere t = sym (rw (not-false (i .read_fits) r, ← po, ← pb, not-true b t))
 
-pub ruleset fetch-items-exits = (used-lent, used-by, known-there, known-copy, copy-small, item-checked, item-elsewhere, fault-checked, fault-elsewhere)
+    module _ (t : not b ≡ false) (a : Bool) (pa : a ≡ lock-fits z (stored-in z w) s (i .number)) where
+      can : can-check s (object-of (i .number)) (i .inner) ≡ true
+      can = ap (λ (x : Object). can-check s x (i .inner)) (sym po) ∙ sym pb ∙ not-false b t
+
+      pub fault-unlocked : not a ≡ true → 10 ≡ fetch-fault z w c s (as-item i)
+      unfolding fetch-fault
+      fault-unlocked u = sym (rw (not-false (i .read_fits) r, can, ← pa, not-true a u))
+
+      pub fault-checked : (y : ℕ) → not a ≡ false → y ≡ finding-number (checked (object-of (i .number)) (i .inner) (i .mark) c Fetch (of-server z w s)) → y ≡ fetch-fault z w c s (as-item i)
+      unfolding fetch-fault
+      fault-checked y u q = q ∙ sym (rw (not-false (i .read_fits) r, can, ← pa, not-false a u))
+
+pub ruleset fetch-items-exits = (used-lent, used-by, known-there, known-copy, copy-small, fault-unkind, fault-elsewhere, fault-unlocked, fault-checked)
 
 -- ---- over all objects read, one after another
 module _ (z : Sizes) (w : List ℕ) (c s : ℕ) (u : List ℕ) where
   abbrev N : ℕ
   N = count (of-client z w c) Reads + length (used-in u)
-
-  abbrev pub each-checks : ℕ → Bool
-  each-checks i = check-item z w s (known-at (of-client z w c) (used-in u) i)
 
   whole-count : (n : ℕ) → InUse u → n ≡ count (of-client z w c) Reads + getD u 0 0 → n ≡ N
   whole-count n f e = e ∙ ap (λ (k : ℕ). count (of-client z w c) Reads + k) (sym (length-used u f))
@@ -183,26 +143,6 @@ module _ (z : Sizes) (w : List ℕ) (c s : ℕ) (u : List ℕ) where
       → as-item t ≡ known-at (of-client z w c) (used-in u) i → Has (z .slots) (object-of (t .number))
   known-has n i t f k e h q =
       subst (λ (x : ℕ). Has (z .slots) (object-of x)) (sym (ap (λ (v : Item). v .number) q)) (k .known i (rw (← whole-count n f e) h))
-
-  module _ (t : code.Item) (i : ℕ) (q : as-item t ≡ known-at (of-client z w c) (used-in u) i) where
-    module _ (b : Bool) (e : b ≡ check-item z w s (as-item t)) where
-      pub known-passed : all-below i each-checks ≡ true → b ≡ true → all-below (i + 1) each-checks ≡ true
-      known-passed h v = one-passed each-checks i b h (e ∙ ap (check-item z w s) q) v
-
-      pub known-fails : (n : ℕ) → i < n → b ≡ false → false ≡ all-below n each-checks
-      known-fails n h v = one-fails each-checks i n b h (e ∙ ap (check-item z w s) q) v
-
-  pub none-checked : all-below 0 each-checks ≡ true
-  none-checked = none-passed each-checks
-
-  pub all-checked : (i n : ℕ) → i ≤ n → n ≤ i → all-below i each-checks ≡ true → true ≡ all-below n each-checks
-  all-checked i n h g p = all-passed each-checks i n h g p
-
-  pub checks-all : (n : ℕ) (r : Bool) → InUse u → n ≡ count (of-client z w c) Reads + getD u 0 0 → r ≡ all-below n each-checks → r ≡ items-fit z w c s (used-in u)
-  unfolding items-fit check-item
-  checks-all n r f e q =
-      q ∙ rw (whole-count n f e) (sym (ap (λ (l : List Item). all (check-fits z (stored-in z w) s) (those (checks s) l)) (known-items (of-client z w c) (used-in u))
-      ∙ all-each (checks s) (check-fits z (stored-in z w) s) (known-at (of-client z w c) (used-in u)) N))
 
   -- ---- the fault of the least object
   unfoldable pub known-found : ℕ → Option (ℕ × ℕ)
@@ -222,27 +162,23 @@ module _ (z : Sizes) (w : List ℕ) (c s : ℕ) (u : List ℕ) where
   unfolding known-found least-upto items-found deciding fetch-fault
   known-found-all i n f used a b e h =
       let q : i ≡ N = omega (arith, whole-count n used e) in
-      let R : Item → ℕ = λ v. finding-reason (checked (item-object v) (v .inner-read) (v .mark) c Fetch (of-server z w s)) in
-      let l : List Item = each N (known-at (of-client z w c) (used-in u)) in
-      sym (reason-again (f .number) (f .reason)) ∙ ap reason-of h ∙ rw q (sym (ap reason-of (
-      ap (λ (k : List Item). least (map (λ v. (v .number, R v)) (those (checks s) k))) (known-items (of-client z w c) (used-in u)) ∙ least-those (checks s) R l)))
-
-pub ruleset checking = (known-has, known-passed, known-fails, none-checked, all-checked, checks-all)
+      sym (reason-again (f .number) (f .reason)) ∙ ap reason-of h
+      ∙ rw q (sym (ap (λ (l : List Item). reason-of (least (map (λ v. (v .number, fetch-fault z w c s v)) l))) (known-items (of-client z w c) (used-in u))))
 
 pub ruleset finding-all = (known-has, known-found-none, known-found-next, known-found-all)
 
-module _ (b : Bool) (fit : Bool) (e : b ≡ fit) where
-  pub verdict-unfit : (y : ℕ) → b ≡ false → Unfit ≡ verdict-of fit y
-  verdict-unfit y t = rw (← e, t)
+module _ (x y : ℕ) (q : x ≡ y) where
+  pub verdict-clear : x ≡ 0 → Clear ≡ verdict-of y
+  verdict-clear h = rw (← q, eq-eqb x 0 h)
 
-  module _ (x y : ℕ) (q : x ≡ y) (t : b ≡ true) where
-    pub verdict-clear : x ≡ 0 → Clear ≡ verdict-of fit y
-    verdict-clear h = rw (← e, t, ← q, eq-eqb x 0 h)
+  module _ (d : x ≡ 0 → ⊥) where
+    pub verdict-unfit : x ≡ 10 → Unfit ≡ verdict-of y
+    verdict-unfit h = rw (← q, ne-eqb x 0 d, eq-eqb x 10 h)
 
-    pub verdict-fault : (x ≡ 0 → ⊥) → Fault x ≡ verdict-of fit y
-    verdict-fault d = rw (← e, t, ← q, ne-eqb x 0 d)
+    pub verdict-fault : (x ≡ 10 → ⊥) → Fault x ≡ verdict-of y
+    verdict-fault h = rw (← q, ne-eqb x 0 d, ne-eqb x 10 h)
 
-module _ (z : Sizes) (w : List ℕ) (c s x : ℕ) (u : List ℕ) (b : Bool) (e : b ≡ lock-at z w s x) where
+module _ (z : Sizes) (w : List ℕ) (c s x : ℕ) (u : List ℕ) (b : Bool) (e : b ≡ lock-fits z (stored-in z w) s x) where
   pub gate-unfit : b ≡ false → Unfit ≡ gate-of z w c s x (used-in u)
   unfolding gate-of
   gate-unfit t = rw (← e, t)

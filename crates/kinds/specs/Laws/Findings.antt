@@ -1,12 +1,12 @@
 -- Laws of the findings' code: "in the order metadata, nodes by name, flags by name".
 use mathlib.Core.Path.{_≡_, refl, sym, ap, _∙_}
-use mathlib.Core.Bool.{Bool, true, false, cond}
+use mathlib.Core.Bool.{Bool, true, false, cond, not}
 use mathlib.Core.List.{List, [], _∷_, _++_, map}
 use mathlib.Core.Option.{Option, none, some}
 use Prim.Native.Nat.{ℕ, _+_, _-_, _*_, _≤_, _<_}
 use native.Mathlib.Omega.{arith}
 use native.Mathlib.Numerals.{add-one}
-use borrow.Author.Tests.{eq-eqb, ne-eqb, le-leb, lt-leb, leb-true, leb-false, eqb-true}
+use borrow.Author.Tests.{eq-eqb, ne-eqb, le-leb, lt-leb, leb-true, leb-false, eqb-true, not-true, not-false}
 use borrow.Rule.Slice.PartMut.{midOf}
 use lib.Dec.{eqb, leb}
 use lib.ListN.{length}
@@ -17,14 +17,14 @@ use Rattle.server.specs.declared.lock.Use.{Use}
 use Rattle.server.specs.declared.object.Object.{Object}
 use Rattle.server.specs.declared.place.Place.{Place}
 use Rattle.server.specs.Object.{object-of}
-use Rattle.server.specs.Check.{checked, held, finding-reason}
+use Rattle.server.specs.Check.{checked, held, finding-number}
 use Rattle.client.specs.declared.part.Set.the-variants.{Reads}
 use Rattle.client.specs.Sets.{count}
 use Rattle.steps.specs.declared.sizes.Sizes.{Sizes}
 use Rattle.kinds.specs.declared.findings.Fault.{Fault}
 use Rattle.steps.specs.Whole.{server-at}
 use Rattle.steps.specs.Uses.{Item, each, read-items, use-of, checked-at, locked-at, lesser, least, reason-of, deciding}
-use Rattle.steps.specs.Judge.{lowest-participant}
+use Rattle.steps.specs.Judge.{lock-fits, lowest-participant}
 use Rattle.kinds.specs.Parts.{Store-in, stored-in}
 use Rattle.kinds.specs.Laws.Parts.{server-lent}
 use Rattle.kinds.specs.Items.{as-item, read-item}
@@ -88,10 +88,10 @@ module _ (f g : Fault) where
 -- ---- parts lent to be read
 module _ (z : Sizes) (b : List ℕ) (l : Store-in z (length b)) (s k : ℕ) (h : s < z .servers) (e : k ≡ server-at z s) (o : Object) (c : ℕ) (u : Use) where
   pub check-lent : (i : code.Item) (f : Finding) (r : ℕ) → o ≡ object-of (i .number)
-      → f ≡ checked o (i .inner) (i .mark) c u (mem Srv.places (Srv.server-block (z .slots)) (view (midOf (8 * k) (length b - 8 * k) b))) → r ≡ finding-reason f
-      → r ≡ finding-reason (checked (object-of (i .number)) (i .inner) (i .mark) c u (of-server z (view b) s))
+      → f ≡ checked o (i .inner) (i .mark) c u (mem Srv.places (Srv.server-block (z .slots)) (view (midOf (8 * k) (length b - 8 * k) b))) → r ≡ finding-number f
+      → r ≡ finding-number (checked (object-of (i .number)) (i .inner) (i .mark) c u (of-server z (view b) s))
   check-lent i f r p q t =
-      t ∙ ap finding-reason (q ∙ ap (λ (m : Place → ℕ). checked o (i .inner) (i .mark) c u m) (server-lent z s k b h e (l .room))) ∙ rw p
+      t ∙ ap finding-number (q ∙ ap (λ (m : Place → ℕ). checked o (i .inner) (i .mark) c u m) (server-lent z s k b h e (l .room))) ∙ rw p
 
   pub held-lent : (x : ℕ) (r : Bool) → o ≡ object-of x → r ≡ held o c u (mem Srv.places (Srv.server-block (z .slots)) (view (midOf (8 * k) (length b - 8 * k) b)))
       → r ≡ held (object-of x) c u (of-server z (view b) s)
@@ -99,28 +99,42 @@ module _ (z : Sizes) (b : List ℕ) (l : Store-in z (length b)) (s k : ℕ) (h :
 
 -- ---- the reason of an item
 module _ (z : Sizes) (w : List ℕ) (c s low : ℕ) (i : code.Item) where
-  module _ (b : Bool) (u : Use) (e : b ≡ checked-at low s (as-item i)) (q : u ≡ use-of (as-item i)) where
-    pub reason-checked : (r : ℕ) → b ≡ true → r ≡ finding-reason (checked (object-of (i .number)) (i .inner) (i .mark) c u (of-server z w s)) → r ≡ prepare-reason z w c s low (as-item i)
+  module _ (a : Bool) (pa : a ≡ lock-fits z (stored-in z w) s (i .number)) where
+    pub reason-unfit : not a ≡ true → 10 ≡ prepare-reason z w c s low (as-item i)
     unfolding prepare-reason
-    reason-checked r t h = h ∙ rw q (sym (rw (← e, t)))
+    reason-unfit n = sym (rw (← pa, not-true a n))
 
-    module _ (d : Bool) (t : b ≡ false) (p : d ≡ held (object-of (i .number)) c u (of-server z w s)) where
-      pub reason-held : d ≡ true → 2 ≡ prepare-reason z w c s low (as-item i)
+    module _ (n : not a ≡ false) (b : Bool) (u : Use) (e : b ≡ checked-at low s (as-item i)) (q : u ≡ use-of (as-item i)) where
+      pub reason-checked : (r : ℕ) → b ≡ true → r ≡ finding-number (checked (object-of (i .number)) (i .inner) (i .mark) c u (of-server z w s)) → r ≡ prepare-reason z w c s low (as-item i)
       unfolding prepare-reason
-      reason-held h = sym (rw (← e, t, ← q, ← p, h))
+      reason-checked r t h = h ∙ rw q (sym (rw (← pa, not-false a n, ← e, t)))
 
-      pub reason-none : d ≡ false → 0 ≡ prepare-reason z w c s low (as-item i)
-      unfolding prepare-reason
-      reason-none h = sym (rw (← e, t, ← q, ← p, h))
+      module _ (d : Bool) (t : b ≡ false) (p : d ≡ held (object-of (i .number)) c u (of-server z w s)) where
+        pub reason-held : d ≡ true → 2 ≡ prepare-reason z w c s low (as-item i)
+        unfolding prepare-reason
+        reason-held h = sym (rw (← pa, not-false a n, ← e, t, ← q, ← p, h))
 
-  module _ (b : Bool) (e : b ≡ locked-at low s (as-item i)) where
-    pub fault-locked : (r : ℕ) → b ≡ true → r ≡ prepare-reason z w c s low (as-item i) → r ≡ prepare-fault z w c s low (as-item i)
+        pub reason-none : d ≡ false → 0 ≡ prepare-reason z w c s low (as-item i)
+        unfolding prepare-reason
+        reason-none h = sym (rw (← pa, not-false a n, ← e, t, ← q, ← p, h))
+
+  pub fault-read : not (i .read_fits) ≡ true → 10 ≡ prepare-fault z w c s low (as-item i)
+  unfolding prepare-fault
+  fault-read t = sym (rw (not-true (i .read_fits) t))
+
+  module _ (r : not (i .read_fits) ≡ false) where
+    pub fault-written : not (i .written_fits) ≡ true → 10 ≡ prepare-fault z w c s low (as-item i)
     unfolding prepare-fault
-    fault-locked r t h = h ∙ sym (rw (← e, t))
+    fault-written t = sym (rw (not-false (i .read_fits) r, not-true (i .written_fits) t))
 
-    pub fault-none : b ≡ false → 0 ≡ prepare-fault z w c s low (as-item i)
-    unfolding prepare-fault
-    fault-none t = sym (rw (← e, t))
+    module _ (n : not (i .written_fits) ≡ false) (b : Bool) (e : b ≡ locked-at low s (as-item i)) where
+      pub fault-locked : (y : ℕ) → b ≡ true → y ≡ prepare-reason z w c s low (as-item i) → y ≡ prepare-fault z w c s low (as-item i)
+      unfolding prepare-fault
+      fault-locked y t h = h ∙ sym (rw (not-false (i .read_fits) r, not-false (i .written_fits) n, ← e, t))
+
+      pub fault-none : b ≡ false → 0 ≡ prepare-fault z w c s low (as-item i)
+      unfolding prepare-fault
+      fault-none t = sym (rw (not-false (i .read_fits) r, not-false (i .written_fits) n, ← e, t))
 
 pub ruleset finding-exits = (
   no-second,
@@ -129,9 +143,12 @@ pub ruleset finding-exits = (
   second-least,
   check-lent,
   held-lent,
+  reason-unfit,
   reason-checked,
   reason-held,
   reason-none,
+  fault-read,
+  fault-written,
   fault-locked,
   fault-none,
 )

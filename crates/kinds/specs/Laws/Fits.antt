@@ -1,34 +1,36 @@
 -- Laws of refusal 10's code over all objects read.
 use mathlib.Core.Path.{_≡_, refl, sym, ap, _∙_, subst}
-use mathlib.Core.Bool.{Bool, true, false}
+use mathlib.Core.Bool.{Bool, true, false, not}
 use mathlib.Core.List.{List}
 use Prim.Native.Nat.{ℕ, zero, suc, _+_, _-_, _*_, _≤_, _<_}
 use native.Mathlib.Omega.{arith}
 use native.Mathlib.Numerals.{add-one}
+use borrow.Author.Tests.{not-true, not-false}
 use borrow.Rule.Slice.PartMut.{midOf}
 use lib.ListN.{length}
 use Rattle.memory.specs.Word.{view}
 use Rattle.memory.specs.Bit.{bit}
 use Rattle.server.specs.Object.{object-of, Has}
-use Rattle.client.specs.declared.part.Set.the-variants.{Reads, Writes}
+use Rattle.client.specs.declared.part.Set.the-variants.{Reads}
 use Rattle.client.specs.Layout.{ClientWord, field}
 use Rattle.client.specs.Sets.{held, count}
 use Rattle.client.specs.Items.{all-below}
 use Rattle.client.specs.Participants.{lowest-of}
+use Rattle.client.specs.Fits.{fit-to-abort, fit-to-unlock}
 use Rattle.steps.specs.declared.sizes.Sizes.{Sizes}
-use Rattle.steps.specs.Whole.{client-at}
-use Rattle.steps.specs.Uses.{Item, item-of, checked-at, locked-at}
-use Rattle.steps.specs.Judge.{check-fits, lowest-participant, prepare-fits, unlock-fits, abort-fits}
+use Rattle.steps.specs.Whole.{tree-sizes, client-at}
+use Rattle.steps.specs.Uses.{Item, item-of, locked-at}
+use Rattle.steps.specs.Judge.{lock-fits, lowest-participant, unlock-fits, abort-fits}
 use Rattle.kinds.specs.Parts.{Store-in, stored-in}
 use Rattle.kinds.specs.Laws.Parts.{client-lent}
 use Rattle.kinds.specs.Items.{as-item, read-item}
-use Rattle.kinds.specs.Judge.{of-client, lock-at}
-use Rattle.kinds.specs.Laws.Judge.{lock-fits-at, none-passed, one-passed, one-fails, all-passed}
-use Rattle.kinds.specs.Fits.{In-set, Known, prepare-item, unlock-item, unlocks-at}
+use Rattle.kinds.specs.Judge.{of-client}
+use Rattle.kinds.specs.Laws.Judge.{none-passed, one-passed, one-fails, all-passed}
+use Rattle.kinds.specs.Fits.{In-set, Known, unlock-item, unlocks-at, unlocks-all}
 use Rattle.kinds.specs.declared.items.Item as code
 
 pub known-same : (z : Sizes) (c : ℕ) (w w′ : List ℕ) → of-client z w′ c ≡ of-client z w c → Known z w c → Known z w′ c
-known-same z c w w′ e k = record { known = subst (In-set z Reads) (sym e) (k .known); written = subst (In-set z Writes) (sym e) (k .written) }
+known-same z c w w′ e k = record { known = subst (In-set z Reads) (sym e) (k .known) }
 
 pub known-item : (z : Sizes) (w : List ℕ) (c n i : ℕ) (t : code.Item) → Known z w c → n ≡ count (of-client z w c) Reads → i < n
     → as-item t ≡ read-item (of-client z w c) i → Has (z .slots) (object-of (t .number))
@@ -67,30 +69,26 @@ module _ (w : ℕ) where
 pub lowest-by : (z : Sizes) (w : List ℕ) (c p r : ℕ) → p ≡ of-client z w c (field 5) → r ≡ lowest-of (z .servers) p → r ≡ lowest-participant z (stored-in z w) c
 lowest-by z w c p r e q = q ∙ rw e
 
-module _ (z : Sizes) (w : List ℕ) (low s : ℕ) (i : code.Item) (b : Bool) (e : b ≡ locked-at low s (as-item i)) where
-  pub not-prepared : b ≡ false → true ≡ prepare-item z w low s (as-item i)
-  unfolding prepare-item
-  not-prepared t = sym (rw (← e, t))
-
-  pub prepare-checks : (d r : Bool) → b ≡ true → d ≡ checked-at low s (as-item i) → d ≡ true → r ≡ check-fits z (stored-in z w) s (as-item i)
-      → r ≡ prepare-item z w low s (as-item i)
-  unfolding prepare-item
-  prepare-checks d r t q u h = h ∙ sym (rw (← e, t, ← q, u))
-
-  pub prepare-locks : (d r : Bool) → b ≡ true → d ≡ checked-at low s (as-item i) → d ≡ false → r ≡ lock-at z w s (i .number)
-      → r ≡ prepare-item z w low s (as-item i)
-  unfolding prepare-item
-  prepare-locks d r t q u h = h ∙ lock-fits-at z w s (as-item i) ∙ sym (rw (← e, t, ← q, u))
-
-  pub not-unlocked : b ≡ false → true ≡ unlock-item z w low s (as-item i)
+module _ (z : Sizes) (w : List ℕ) (low s : ℕ) (i : code.Item) where
+  pub read-unfit : not (i .read_fits) ≡ true → false ≡ unlock-item z w low s (as-item i)
   unfolding unlock-item
-  not-unlocked t = sym (rw (← e, t))
+  read-unfit t = sym (rw (not-true (i .read_fits) t))
 
-  pub unlocks : (r : Bool) → b ≡ true → r ≡ lock-at z w s (i .number) → r ≡ unlock-item z w low s (as-item i)
-  unfolding unlock-item
-  unlocks r t h = h ∙ lock-fits-at z w s (as-item i) ∙ sym (rw (← e, t))
+  module _ (r : not (i .read_fits) ≡ false) where
+    pub written-unfit : not (i .written_fits) ≡ true → false ≡ unlock-item z w low s (as-item i)
+    unfolding unlock-item
+    written-unfit t = sym (rw (not-false (i .read_fits) r, not-true (i .written_fits) t))
 
-pub ruleset fit-exits = (known-item, count-lent, lowest-by, not-prepared, prepare-checks, prepare-locks, not-unlocked, unlocks)
+    module _ (t : not (i .written_fits) ≡ false) (b : Bool) (e : b ≡ locked-at low s (as-item i)) where
+      pub not-unlocked : b ≡ false → true ≡ unlock-item z w low s (as-item i)
+      unfolding unlock-item
+      not-unlocked u = sym (rw (not-false (i .read_fits) r, not-false (i .written_fits) t, ← e, u))
+
+      pub unlocks : (d : Bool) → b ≡ true → d ≡ lock-fits z (stored-in z w) s (i .number) → d ≡ unlock-item z w low s (as-item i)
+      unfolding unlock-item
+      unlocks d u h = h ∙ sym (rw (not-false (i .read_fits) r, not-false (i .written_fits) t, ← e, u))
+
+pub ruleset fit-exits = (known-item, count-lent, lowest-by, read-unfit, written-unfit, not-unlocked, unlocks)
 
 pub ruleset lowest-exits = (lowest-none, lowest-next, lowest-here, lowest-absent)
 
@@ -107,25 +105,38 @@ module _ (z : Sizes) (w : List ℕ) (c : ℕ) (f : Item → Bool) (t : code.Item
 
 -- the names that the definitions give to these tests
 module _ (z : Sizes) (w : List ℕ) (c s n low : ℕ) (r : Bool) (en : n ≡ count (of-client z w c) Reads) (el : low ≡ lowest-participant z (stored-in z w) c) where
-  pub prepare-all : r ≡ all-below n (each-fits z w c (prepare-item z w low s)) → r ≡ prepare-fits z (stored-in z w) c s
-  unfolding prepare-fits read-item prepare-item
-  prepare-all h = h ∙ rw (en, el)
-
   pub unlock-all : r ≡ all-below n (each-fits z w c (unlock-item z w low s)) → r ≡ unlock-fits z (stored-in z w) c s
   unfolding unlock-fits read-item unlock-item
   unlock-all h = h ∙ rw (en, el)
 
-module _ (z : Sizes) (w : List ℕ) (c p : ℕ) where
-  pub not-there : (s : ℕ) (b : Bool) → b ≡ bit p s → b ≡ false → true ≡ unlocks-at z w c p s
+module _ (z : Sizes) (w : List ℕ) (c p s : ℕ) (b : Bool) (e : b ≡ bit p s) where
+  pub not-there : not b ≡ true → true ≡ unlocks-at z w c p s
   unfolding unlocks-at
-  not-there s b e t = sym (rw (← e, t))
+  not-there t = sym (rw (← e, not-true b t))
 
-  pub there : (s : ℕ) (b r : Bool) → b ≡ bit p s → b ≡ true → r ≡ unlock-fits z (stored-in z w) c s → r ≡ unlocks-at z w c p s
-  unfolding unlocks-at
-  there s b r e t h = h ∙ sym (rw (← e, t))
+  module _ (t : not b ≡ false) (f : Bool) (q : f ≡ fit-to-unlock (tree-sizes z) (of-client z w c)) where
+    pub there-unfit : not f ≡ true → false ≡ unlocks-at z w c p s
+    unfolding unlocks-at
+    there-unfit u = sym (rw (← e, not-false b t, ← q, not-true f u))
 
-  pub abort-all : (n : ℕ) (r : Bool) → n ≡ z .servers → p ≡ of-client z w c (field 6) → r ≡ all-below n (unlocks-at z w c p) → r ≡ abort-fits z (stored-in z w) c
-  unfolding abort-fits unlocks-at
-  abort-all n r en ep h = h ∙ rw (en, ep)
+    pub there : (r : Bool) → not f ≡ false → r ≡ unlock-fits z (stored-in z w) c s → r ≡ unlocks-at z w c p s
+    unfolding unlocks-at
+    there r u h = h ∙ sym (rw (← e, not-false b t, ← q, not-false f u))
 
-pub ruleset passing-items = (none-passed, item-passed, item-fails, all-passed, prepare-all, unlock-all)
+module _ (z : Sizes) (w : List ℕ) (c : ℕ) where
+  pub unlocked-all : (n p : ℕ) (r : Bool) → n ≡ z .servers → p ≡ of-client z w c (field 6) → r ≡ all-below n (unlocks-at z w c p) → r ≡ unlocks-all z w c
+  unfolding unlocks-all
+  unlocked-all n p r en ep h = h ∙ rw (en, ep)
+
+  module _ (b : Bool) (e : b ≡ fit-to-abort (tree-sizes z) (of-client z w c)) where
+    pub abort-unfit : not b ≡ true → false ≡ abort-fits z (stored-in z w) c
+    unfolding abort-fits
+    abort-unfit t = sym (rw (← e, not-true b t))
+
+    pub abort-all : (r : Bool) → not b ≡ false → r ≡ unlocks-all z w c → r ≡ abort-fits z (stored-in z w) c
+    unfolding abort-fits unlocks-all unlocks-at
+    abort-all r t h = h ∙ sym (rw (← e, not-false b t))
+
+pub ruleset server-exits = (not-there, there-unfit, there, unlocked-all, abort-unfit, abort-all)
+
+pub ruleset passing-items = (none-passed, item-passed, item-fails, all-passed, unlock-all)

@@ -8,12 +8,15 @@ use lib.Dec.{eqb}
 use Rattle.nodes.specs.declared.node.Node.{Node}
 use Rattle.client.specs.declared.part.Set.the-variants.{Reads, Writes}
 use Rattle.client.specs.Layout.{ClientWord}
-use Rattle.client.specs.Record.{first-slot}
-use Rattle.client.specs.Sets.{number-at, record-at}
-use Rattle.client.specs.Items.{inner, has, inner-in}
+use Rattle.nodes.specs.declared.found.Found.{Found}
+use Rattle.nodes.specs.declared.found.Found.the-variants.{At, Absent}
+use Rattle.client.specs.Record.{first-slot, kind-in-range}
+use Rattle.client.specs.Sets.{number-at, record-at, find}
+use Rattle.client.specs.Items.{inner, has}
 use Rattle.client.specs.Participants.{at-home}
 use Rattle.steps.specs.Uses.{Item, item-of, checked-at, locked-at}
-use Rattle.kinds.specs.Items.{as-item, mark-of, read-item}
+use Rattle.kinds.specs.Items.{as-item, as-written, mark-of, read-item}
+use Rattle.kinds.specs.declared.items.Written.{Written}
 use Rattle.kinds.specs.declared.items.Item as code
 
 -- ---- marks
@@ -30,10 +33,20 @@ unfolding mark-of
 mark-flag x k r h q = q ∙ sym (rw (ne-eqb x 0 (λ e. omega arith), lt-leb x 8192 h))
 
 -- ---- items
-pub item-made : (m : ClientWord → ℕ) (x k : ℕ) (n : Node) (a w b : Bool) → a ≡ inner x n → k ≡ mark-of x n → w ≡ has m Writes x → b ≡ inner-in m Writes x
-    → _≡_ {A = Item} (record { number = x; inner-read = a; mark = k; written = w; becomes = b }) (item-of m x n)
-unfolding item-of mark-of inner-in
-item-made m x k n a w b ea ek ew eb = rw (ea, ek, ew, eb)
+module _ (m : ClientWord → ℕ) (x : ℕ) (f : Found) (p : f ≡ find m Writes x) where
+  pub written-there : (i : ℕ) (n : Node) (a b : Bool) → f ≡ At i → n ≡ record-at m Writes i → a ≡ inner x n → b ≡ kind-in-range x n
+      → _≡_ {A = Written} (record { there = true; inner = a; fits = b }) (as-written m x)
+  unfolding as-written has
+  written-there i n a b e q ea eb = sym (rw (← p, e, ← q, ← ea, ← eb))
+
+  pub written-not : f ≡ Absent → _≡_ {A = Written} (record { there = false; inner = false; fits = true }) (as-written m x)
+  unfolding as-written has
+  written-not e = sym (rw (← p, e))
+
+pub item-made : (m : ClientWord → ℕ) (x k : ℕ) (n : Node) (a r : Bool) (w : Written) → a ≡ inner x n → k ≡ mark-of x n → r ≡ kind-in-range x n → w ≡ as-written m x
+    → _≡_ {A = Item} (record { number = x; inner-read = a; mark = k; written = w .there; becomes = w .inner; read-fits = r; written-fits = w .fits }) (item-of m x n)
+unfolding item-of mark-of as-written
+item-made m x k n a r w ea ek er ew = rw (ea, ek, er, ew)
 
 pub item-read : (m : ClientWord → ℕ) (i x : ℕ) (n : Node) (r : Item) → x ≡ number-at m Reads i → n ≡ record-at m Reads i → r ≡ item-of m x n → r ≡ read-item m i
 unfolding read-item
@@ -67,6 +80,8 @@ module _ (i : code.Item) (low s : ℕ) where
     locked-not t w = sym (rw (← q, t, w))
 
 pub ruleset item-exits = (
+  written-there,
+  written-not,
   mark-version,
   mark-flag,
   item-made,

@@ -18,7 +18,6 @@ use Rattle.server.specs.declared.object.Object.{Object}
 use Rattle.server.specs.declared.place.Place.{Place}
 use Rattle.server.specs.Object.{object-of, lock-of, Has}
 use Rattle.server.specs.Lock.{lock-in-range}
-use Rattle.server.specs.Check.{sound}
 use Rattle.client.specs.declared.part.Set.{Set}
 use Rattle.client.specs.declared.part.Set.the-variants.{Writes}
 use Rattle.client.specs.Layout.{ClientWord, field}
@@ -28,13 +27,12 @@ use Rattle.steps.specs.declared.sizes.Sizes.{Sizes}
 use Rattle.steps.specs.Whole.{server, client-at, server-at}
 use Rattle.steps.specs.Refusal.{between}
 use Rattle.steps.specs.Uses.{Item}
-use Rattle.steps.specs.Judge.{commits, writes, holders-fit, lock-fits, check-fits}
+use Rattle.steps.specs.Judge.{has-transaction, writes, holders-fit, lock-fits}
 use Rattle.kinds.specs.Parts.{Store-in, stored-in}
 use Rattle.kinds.specs.Laws.Parts.{client-lent, server-lent}
-use Rattle.kinds.specs.Items.{as-item, read-item}
-use Rattle.kinds.specs.Judge.{of-client, reader-fits, lock-at, sound-at}
+use Rattle.kinds.specs.Items.{read-item}
+use Rattle.kinds.specs.Judge.{of-client, reader-fits}
 use Rattle.server.specs.Layout as Srv
-use Rattle.kinds.specs.declared.items.Item as code
 
 -- ---- objects of the store
 pub has-as : (n x : ℕ) (o : Object) → o ≡ object-of x → Has n (object-of x) → Has n o
@@ -64,12 +62,6 @@ module _ (z : Sizes) (b : List ℕ) (l : Store-in z (length b)) where
         → r ≡ mem Srv.places (Srv.server-block (z .slots)) (view (midOf (8 * k) (length b - 8 * k) b)) a → r ≡ stored-in z (view b) (server s (lock-of (object-of x)))
     word-lent x r o a p q f =
         f ∙ ap (λ (m : Place → ℕ). m a) (server-lent z s k b h e (l .room)) ∙ rw (q, p)
-
-    pub sound-lent : (i : code.Item) (r : Bool) (o : Object) → o ≡ object-of (i .number)
-        → r ≡ sound (z .clients) o (i .inner) (mem Srv.places (Srv.server-block (z .slots)) (view (midOf (8 * k) (length b - 8 * k) b))) → r ≡ sound-at z (view b) s (as-item i)
-    unfolding sound-at
-    sound-lent i r o p f =
-        f ∙ ap (λ (m : Place → ℕ). sound (z .clients) o (i .inner) m) (server-lent z s k b h e (l .room)) ∙ rw p
 
 -- ---- a test of all numbers, one after another
 module _ (f : ℕ → Bool) where
@@ -107,8 +99,8 @@ module _ (f : ℕ → Bool) where
 
 -- ---- holders of locks
 module _ (z : Sizes) (w : List ℕ) where
-  pub commits-by : (d p : ℕ) (b : Bool) → p ≡ of-client z w d (field 0) → b ≡ between 2 3 p → b ≡ commits z (stored-in z w) d
-  commits-by d p b e q = q ∙ rw e
+  pub has-by : (d p : ℕ) (b : Bool) → p ≡ of-client z w d (field 0) → b ≡ between 1 3 p → b ≡ has-transaction z (stored-in z w) d
+  has-by d p b e q = q ∙ rw e
 
   pub writes-many : (d x n : ℕ) → n ≡ of-client z w d (field 11) → 48 < n → false ≡ writes z (stored-in z w) d x
   writes-many d x n e h = sym (rw (← e, lt-leb n 48 h))
@@ -121,7 +113,7 @@ module _ (z : Sizes) (w : List ℕ) where
     unfolding reader-fits
     reader-free t = sym (rw (← e, t))
 
-    pub reader-in : (c : Bool) → b ≡ true → c ≡ commits z (stored-in z w) d → c ≡ reader-fits z w x d
+    pub reader-in : (c : Bool) → b ≡ true → c ≡ has-transaction z (stored-in z w) d → c ≡ reader-fits z w x d
     unfolding reader-fits
     reader-in c t q = q ∙ sym (rw (← e, t))
 
@@ -130,7 +122,7 @@ module _ (z : Sizes) (w : List ℕ) where
     unfolding holders-fit reader-fits
     by-readers b h q = q ∙ sym (rw (lt-ltb v 65536 h))
 
-    module _ (b : Bool) (h : 65536 ≤ v) (e : b ≡ commits z (stored-in z w) (v - 65536)) where
+    module _ (b : Bool) (h : 65536 ≤ v) (e : b ≡ has-transaction z (stored-in z w) (v - 65536)) where
       pub writer-out : b ≡ false → false ≡ holders-fit z (stored-in z w) x v
       unfolding holders-fit
       writer-out t = sym (rw (le-ltb v 65536 h, ← e, t))
@@ -150,26 +142,13 @@ module _ (z : Sizes) (w : List ℕ) where
 
   -- ---- locks
   module _ (s x v : ℕ) (b : Bool) (e : v ≡ stored-in z w (server s (lock-of (object-of x)))) (q : b ≡ lock-in-range (z .clients) v) where
-    pub lock-out : b ≡ false → false ≡ lock-at z w s x
-    unfolding lock-at
+    pub lock-out : b ≡ false → false ≡ lock-fits z (stored-in z w) s x
+    unfolding lock-fits
     lock-out t = sym (rw (← e, ← q, t))
 
-    pub lock-by : (r : Bool) → b ≡ true → r ≡ holders-fit z (stored-in z w) x v → r ≡ lock-at z w s x
-    unfolding lock-at
+    pub lock-by : (r : Bool) → b ≡ true → r ≡ holders-fit z (stored-in z w) x v → r ≡ lock-fits z (stored-in z w) s x
+    unfolding lock-fits
     lock-by r t p = p ∙ sym (rw (← e, ← q, t))
-
-  pub lock-fits-at : (s : ℕ) (i : Item) → lock-at z w s (i .number) ≡ lock-fits z (stored-in z w) s i
-  unfolding lock-at lock-fits
-  lock-fits-at s i = refl
-
-  module _ (s : ℕ) (i : code.Item) (b : Bool) (e : b ≡ sound-at z w s (as-item i)) where
-    pub check-out : b ≡ false → false ≡ check-fits z (stored-in z w) s (as-item i)
-    unfolding check-fits sound-at
-    check-out t = sym (rw (← e, t))
-
-    pub check-by : (r : Bool) → b ≡ true → r ≡ lock-at z w s (i .number) → r ≡ check-fits z (stored-in z w) s (as-item i)
-    unfolding check-fits sound-at
-    check-by r t p = p ∙ lock-fits-at s (as-item i) ∙ sym (rw (← e, t))
 
 pub ruleset judge-exits = (
   has-as,
@@ -178,8 +157,7 @@ pub ruleset judge-exits = (
   has-lent,
   item-lent,
   word-lent,
-  sound-lent,
-  commits-by,
+  has-by,
   writes-many,
   writes-by,
   reader-free,
@@ -191,8 +169,6 @@ pub ruleset judge-exits = (
   is-range,
   lock-out,
   lock-by,
-  check-out,
-  check-by,
 )
 
 pub ruleset passing = (none-passed, one-passed, one-fails, all-passed)

@@ -1,67 +1,119 @@
--- A client whose own state is in range knows only objects of the store.
+-- What a rule's test of its client's own part says: the objects of its sets are objects of the store.
 use mathlib.Core.Path.{_≡_, sym, ap, _∙_}
-use mathlib.Core.Bool.{Bool, true, _&&_}
+use mathlib.Core.Bool.{Bool, true, false, _&&_, not}
 use mathlib.Core.List.{List}
-use Prim.Native.Nat.{ℕ, zero, suc, _-_, _*_, _^_, _<_}
-use native.Mathlib.Omega.{arith}
-use native.Mathlib.Decide.{ℕ-discrete}
+use Prim.Native.Nat.{ℕ, _-_, _*_, _<_}
+use borrow.Author.Tests.{not-false}
 use borrow.Rule.Slice.PartMut.{midOf}
+use lib.Dec.{leb}
 use lib.ListN.{length}
 use Rattle.base.specs.Test.{and-both}
 use Rattle.memory.specs.Word.{view}
 use Rattle.client.specs.declared.part.Set.{Set}
 use Rattle.client.specs.declared.part.Set.the-variants.{Reads, Writes}
-use Rattle.client.specs.Layout.{ClientWord}
-use Rattle.client.specs.Record.{number-in-store, record-in-range}
-use Rattle.client.specs.Sets.{held, count, number-at, record-at}
+use Rattle.client.specs.Layout.{ClientWord, limit, participants, prepared, applied}
+use Rattle.client.specs.Sets.{held, count, number-at}
 use Rattle.client.specs.Items.{all-below}
-use Rattle.client.specs.Fits.{field-fits, op-fits, item-fits, has-read, vector-fits, client-fits}
+use Rattle.client.specs.Fits.{said-count, servers-fit, number-fits, numbers-fit, op-fits, fit-to-work, fit-to-commit, fit-to-prepare, fit-to-abort, fit-to-unlock, writes-fit, fit-to-renew, fit-to-apply}
+use Rattle.client.specs.Laws.Ranges.{all-at}
 use Rattle.steps.specs.declared.sizes.Sizes.{Sizes}
 use Rattle.steps.specs.Whole.{Allowed, tree-sizes, client-at}
+use Rattle.steps.specs.Judge.{abort-fits}
 use Rattle.steps.specs.Laws.There.{in-store-has}
-use Rattle.kinds.specs.Parts.{Store-in}
+use Rattle.kinds.specs.Parts.{Store-in, stored-in}
 use Rattle.kinds.specs.Laws.Parts.{client-lent}
 use Rattle.kinds.specs.Judge.{of-client}
-use Rattle.kinds.specs.Fits.{Known}
-use Rattle.operations.specs.Slot as S
+use Rattle.kinds.specs.Fits.{In-set, Known}
+use Rattle.kinds.specs.Writes.{Storing}
 
-pub all-at : (f : ℕ → Bool) (n i : ℕ) → all-below n f ≡ true → i < n → f i ≡ true
-unfolding all-below
-all-at f zero i h l = absurd (omega arith)
-all-at f (suc n) i h l = go (ℕ-discrete i n) (and-both (all-below n f) (f n) h) (λ k. all-at f n i (and-both (all-below n f) (f n) h .0) k)
-  where
-    go : Dec (i ≡ n) → (all-below n f ≡ true) × (f n ≡ true) → (i < n → f i ≡ true) → f i ≡ true
-    go (yes e) p k = rw e (p .1)
-    go (no d) p k = k (omega arith)
+-- ---- a client's part lent to be read
+module _ (z : Sizes) (b : List ℕ) (c k : ℕ) (r : Bool) (l : Store-in z (length b)) (h : c < z .clients) (e : k ≡ client-at z c) where
+  abbrev lent : ClientWord → ℕ
+  lent = held (midOf (8 * k) (length b - 8 * k) b)
 
--- every object read or written is one of the store
-module _ (z : S.TreeSizes) (m : ClientWord → ℕ) where
-  pub fits-sets : client-fits z m ≡ true → (all-below (count m Reads) (item-fits z m Reads) ≡ true) × (all-below (count m Writes) (item-fits z m Writes) ≡ true)
-  unfolding client-fits
-  fits-sets h =
-      let reads = all-below (count m Reads) (item-fits z m Reads) in
-      let writes = all-below (count m Writes) (item-fits z m Writes) in
-      let vectors = all-below 8 (vector-fits m) in
-      let a = and-both (all-below 13 (field-fits m (2 ^ z .servers - 1))) (op-fits z m && (reads && (writes && vectors))) h in
-      let b = and-both reads (writes && vectors) (and-both (op-fits z m) (reads && (writes && vectors)) (a .1) .1) in
-      (b .0, and-both writes vectors (b .1) .0)
+  same-part : lent ≡ of-client z (view b) c
+  unfolding held
+  same-part = client-lent z c k b h e (l .room)
 
-  pub fits-item : (s : Set) (i : ℕ) → all-below (count m s) (item-fits z m s) ≡ true → i < count m s → number-in-store z (number-at m s i) ≡ true
-  unfolding item-fits
-  fits-item s i h l =
-      and-both (number-in-store z (number-at m s i)) (record-in-range z (number-at m s i) (record-at m s i) && has-read m s (number-at m s i))
-      (all-at (item-fits z m s) (count m s) i h l) .0
+  abbrev Asks : ((ClientWord → ℕ) → Bool) → Type 0
+  Asks f = r ≡ f lent → r ≡ f (of-client z (view b) c)
 
-pub fits-known : (z : Sizes) (w : List ℕ) (c : ℕ) (b : Bool) → Allowed z → b ≡ client-fits (tree-sizes z) (of-client z w c) → b ≡ true → Known z w c
-fits-known z w c b f e t =
-    let m = of-client z w c in
-    let h = fits-sets (tree-sizes z) m (sym e ∙ t) in
-    record {
-      known = λ i l. in-store-has z (number-at m Reads i) f (fits-item (tree-sizes z) m Reads i (h .0) l);
-      written = λ i l. in-store-has z (number-at m Writes i) f (fits-item (tree-sizes z) m Writes i (h .1) l);
-    }
+  pub work-lent : Asks (fit-to-work (tree-sizes z))
+  work-lent q = q ∙ ap (fit-to-work (tree-sizes z)) same-part
 
-pub fits-lent : (z : Sizes) (b : List ℕ) (c k : ℕ) (r : Bool) → Store-in z (length b) → c < z .clients → k ≡ client-at z c
-    → r ≡ client-fits (tree-sizes z) (held (midOf (8 * k) (length b - 8 * k) b)) → r ≡ client-fits (tree-sizes z) (of-client z (view b) c)
-unfolding held
-fits-lent z b c k r l h e q = q ∙ ap (λ (m : ClientWord → ℕ). client-fits (tree-sizes z) m) (client-lent z c k b h e (l .room))
+  pub commit-lent : Asks (fit-to-commit (tree-sizes z))
+  commit-lent q = q ∙ ap (fit-to-commit (tree-sizes z)) same-part
+
+  pub prepare-lent : Asks (fit-to-prepare (tree-sizes z))
+  prepare-lent q = q ∙ ap (fit-to-prepare (tree-sizes z)) same-part
+
+  pub abort-lent : Asks (fit-to-abort (tree-sizes z))
+  abort-lent q = q ∙ ap (fit-to-abort (tree-sizes z)) same-part
+
+  pub unlock-lent : Asks (fit-to-unlock (tree-sizes z))
+  unlock-lent q = q ∙ ap (fit-to-unlock (tree-sizes z)) same-part
+
+  pub apply-lent : (s : ℕ) (last : Bool) → Asks (λ m. fit-to-apply (tree-sizes z) m s last)
+  apply-lent s last q = q ∙ ap (λ (m : ClientWord → ℕ). fit-to-apply (tree-sizes z) m s last) same-part
+
+pub ruleset own-lent = (work-lent, commit-lent, prepare-lent, abort-lent, unlock-lent, apply-lent)
+
+-- ---- the objects of a set
+module _ (z : Sizes) (a : Allowed z) (m : ClientWord → ℕ) where
+  pub in-set : (s : Set) → numbers-fit (tree-sizes z) m s ≡ true → In-set z s m
+  unfolding numbers-fit number-fits
+  in-set s h i l =
+      in-store-has z (number-at m s i) a
+      (all-at (number-fits (tree-sizes z) m s) (count m s) i (and-both (leb (said-count m s) (limit s)) (all-below (count m s) (number-fits (tree-sizes z) m s)) h .1) l)
+
+module _ (z : Sizes) (w : List ℕ) (c : ℕ) (a : Allowed z) where
+  abbrev t : _
+  t = tree-sizes z
+
+  abbrev m : ClientWord → ℕ
+  m = of-client z w c
+
+  known-by : numbers-fit t m Reads ≡ true → Known z w c
+  known-by h = record { known = in-set z a m Reads h }
+
+  sets : (numbers-fit t m Reads && numbers-fit t m Writes) ≡ true → (numbers-fit t m Reads ≡ true) × (numbers-fit t m Writes ≡ true)
+  sets h = and-both (numbers-fit t m Reads) (numbers-fit t m Writes) h
+
+  pub work-known : fit-to-work t m ≡ true → Known z w c
+  unfolding fit-to-work
+  work-known h = known-by (sets (and-both (op-fits t m) (numbers-fit t m Reads && numbers-fit t m Writes) h .1) .0)
+
+  module _ (b : Bool) (n : not b ≡ false) where
+    pub prepare-known : b ≡ fit-to-prepare t m → Known z w c
+    unfolding fit-to-prepare
+    prepare-known e =
+        known-by (sets (and-both (servers-fit m (z .servers) participants && servers-fit m (z .servers) prepared) (numbers-fit t m Reads && numbers-fit t m Writes) (sym e ∙ not-false b n) .1) .0)
+
+    pub abort-known : b ≡ fit-to-abort t m → Known z w c
+    unfolding fit-to-abort
+    abort-known e = known-by (and-both (servers-fit m (z .servers) prepared) (numbers-fit t m Reads) (sym e ∙ not-false b n) .1)
+
+    module _ (s : ℕ) (last : Bool) (e : b ≡ fit-to-apply t m s last) where
+      parts : ((servers-fit m (z .servers) applied && numbers-fit t m Reads) ≡ true) × ((fit-to-unlock t m && (writes-fit t m s && (not last || fit-to-renew t m))) ≡ true)
+      unfolding fit-to-apply
+      parts =
+          and-both (servers-fit m (z .servers) applied && numbers-fit t m Reads) (fit-to-unlock t m && (writes-fit t m s && (not last || fit-to-renew t m))) (sym e ∙ not-false b n)
+
+      behind : (fit-to-unlock t m ≡ true) × ((writes-fit t m s && (not last || fit-to-renew t m)) ≡ true)
+      behind = and-both (fit-to-unlock t m) (writes-fit t m s && (not last || fit-to-renew t m)) (parts .1)
+
+      pub apply-known : Known z w c
+      apply-known = known-by (and-both (servers-fit m (z .servers) applied) (numbers-fit t m Reads) (parts .0) .1)
+
+      pub apply-storing : Storing z w c s
+      unfolding fit-to-unlock
+      apply-storing = record {
+        written = in-set z a m Writes (and-both (servers-fit m (z .servers) participants) (numbers-fit t m Writes) (behind .0) .1);
+        fits = and-both (writes-fit t m s) (not last || fit-to-renew t m) (behind .1) .0;
+      }
+
+  pub abort-judged : (b : Bool) → b ≡ true → b ≡ abort-fits z (stored-in z w) c → Known z w c
+  unfolding abort-fits fit-to-abort
+  abort-judged b t e = known-by (and-both (servers-fit m (z .servers) prepared) (numbers-fit _ m Reads) (and-both (fit-to-abort _ m) _ (sym e ∙ t) .0) .1)
+
+pub ruleset knows = (prepare-known, abort-known, apply-known, apply-storing, abort-judged)

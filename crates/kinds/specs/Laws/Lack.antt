@@ -1,8 +1,8 @@
 -- Laws of a fetch: what is lacking comes from its server, once what was read is checked there.
 use mathlib.Core.Path.{_≡_, refl, sym, ap, _∙_}
-use mathlib.Core.Bool.{Bool, true, false, cond, _&&_, not}
+use mathlib.Core.Bool.{Bool, true, false, cond, not}
 use mathlib.Core.List.{List}
-use Prim.Native.Nat.{ℕ, _+_, _-_, _*_, _%_, _≤_, _<_}
+use Prim.Native.Nat.{ℕ, _+_, _-_, _*_, _≤_, _<_}
 use native.Mathlib.Omega.{arith}
 use borrow.Author.Tests.{not-true, not-false, ne-eqb, le-leb}
 use borrow.Rule.Slice.PartMut.{midOf}
@@ -13,7 +13,7 @@ use Rattle.layout.specs.Space.{Put, mem}
 use Rattle.layout.specs.Step.{Does, silent}
 use Rattle.layout.specs.Part.{inPart}
 use Rattle.nodes.specs.declared.node.Node.{Node}
-use Rattle.nodes.specs.Range.{node-in-range}
+use Rattle.nodes.specs.Name.{slot-of}
 use Rattle.server.specs.declared.hand_out.Metadata.{Metadata}
 use Rattle.server.specs.declared.place.Place.{Place}
 use Rattle.server.specs.declared.lock.Use.the-variants.{Fetch}
@@ -21,7 +21,7 @@ use Rattle.server.specs.Object.{object-of, Has}
 use Rattle.server.specs.Check.{held}
 use Rattle.server.specs.HandOut.{metadata-at, metadata-sound, vector-at, node-here}
 use Rattle.client.specs.Layout.{ClientWord, reads-count}
-use Rattle.client.specs.Record.{number-in-store}
+use Rattle.client.specs.Record.{number-in-store, node-fits}
 use Rattle.client.specs.Part.{_then_}
 use Rattle.client.specs.Answered.{used-enter}
 use Rattle.client.specs.Fetched.{fetched-meta, fetched-node, fetched-vector}
@@ -30,16 +30,16 @@ use Rattle.steps.specs.declared.outcome.Outcome.{Outcome}
 use Rattle.steps.specs.declared.outcome.Outcome.the-variants.{Refused, Fetched}
 use Rattle.kinds.specs.declared.fetch.Verdict.{Verdict}
 use Rattle.kinds.specs.declared.fetch.Verdict.the-variants.{Unfit, Fault, Clear}
-use Rattle.steps.specs.Whole.{Address, server, client, whole, block, server-at}
-use Rattle.steps.specs.Steps.{Did, did, refuse, abort, wanted, node-at, handed, fetch-object, hand-over, fetch}
+use Rattle.steps.specs.Whole.{Address, server, client, whole, block, tree-sizes, server-at}
+use Rattle.steps.specs.Steps.{Did, did, refuse, if-fit, by-finding, abort, wanted, node-at, handed, fetch-object, hand-over, fetch}
 use Rattle.steps.specs.Judge.{lock-fits}
 use Rattle.kinds.specs.Parts.{Store-in, stored-in}
 use Rattle.kinds.specs.Laws.Parts.{server-lent}
-use Rattle.kinds.specs.Judge.{of-client, of-server, lock-at}
+use Rattle.kinds.specs.Judge.{of-client, of-server}
 use Rattle.steps.specs.Laws.There.{in-store-has}
 use Rattle.kinds.specs.Kinds.{Meets}
 use Rattle.kinds.specs.Laws.Kinds.{meets-did, meets-as, meets-refused}
-use Rattle.kinds.specs.Fetch.{Checking, items-fit, items-found, verdict-of, gate-of}
+use Rattle.kinds.specs.Fetch.{Checking, items-found, verdict-of, gate-of}
 use Rattle.kinds.specs.Lack.{There}
 use Rattle.operations.specs.Object as O
 use Rattle.server.specs.Layout as Srv
@@ -56,34 +56,36 @@ module _ (z : Sizes) (w : List ℕ) (c : ℕ) (us : List ℕ) where
 
   -- the check of what was read, and then the object
   fetch-is : (a : O.Ask) → let t = wanted (z .servers) c a in
-      fetch z m c us a ≡ by-verdict z m c us (verdict-of (items-fit z w c (t .from) us) (items-found z w c (t .from) us)) (hand-over z m c us a (t .from) (Fetched (t .what) (t .which)))
-  unfolding fetch items-fit items-found
-  fetch-is a = go (items-fit z w c (wanted (z .servers) c a .from) us) (eqb (items-found z w c (wanted (z .servers) c a .from) us) 0)
+      fetch z m c us a ≡ by-verdict z m c us (verdict-of (items-found z w c (t .from) us)) (hand-over z m c us a (t .from) (Fetched (t .what) (t .which)))
+  unfolding fetch items-found
+  fetch-is a = go (items-found z w c (wanted (z .servers) c a .from) us)
     where
-      go : (b d : Bool) → cond b (cond d (hand-over z m c us a (wanted (z .servers) c a .from) (Fetched (wanted (z .servers) c a .what) (wanted (z .servers) c a .which)))
-          (abort z m c (items-found z w c (wanted (z .servers) c a .from) us) us)) (refuse 10)
-          ≡ by-verdict z m c us (cond b (cond d Clear (Fault (items-found z w c (wanted (z .servers) c a .from) us))) Unfit)
-          (hand-over z m c us a (wanted (z .servers) c a .from) (Fetched (wanted (z .servers) c a .what) (wanted (z .servers) c a .which)))
-      go true true = refl
-      go true false = refl
-      go false d = refl
+      on : Did
+      on = hand-over z m c us a (wanted (z .servers) c a .from) (Fetched (wanted (z .servers) c a .what) (wanted (z .servers) c a .which))
 
-  -- the object: what the server has of it is in range, it is not busy, and there is room for it
+      go : (y : ℕ) → by-finding y on (λ y. abort z m c y us) ≡ by-verdict z m c us (verdict-of y) on
+      go y = by (eqb y 0) (eqb y 10)
+        where
+          by : (b d : Bool) → cond b on (cond d (refuse 10) (abort z m c y us)) ≡ by-verdict z m c us (cond b Clear (cond d Unfit (Fault y))) on
+          by true d = refl
+          by false true = refl
+          by false false = refl
+
+  -- the object: it is not busy, there is room for it, and what the server has of it is in range
   object-is : (s x : ℕ) (out : Outcome) (ok : Bool) (g : (ClientWord → ℕ) → List (Put ClientWord))
-      → fetch-object z m c us s x out ok g ≡ cond ok (by-verdict z m c us (gate-of z w c s x us) (did out (handed z m c us g))) (refuse 10)
-  unfolding gate-of lock-at lock-fits
-  object-is s x out ok g = go ok (lock-at z w s x) (held (object-of x) c Fetch (of-server z w s)) (leb 96 (of-client z w c reads-count + length us))
+      → fetch-object z m c us s x out ok g ≡ by-verdict z m c us (gate-of z w c s x us) (if-fit ok (did out (handed z m c us g)))
+  unfolding gate-of
+  object-is s x out ok g = go (lock-fits z m s x) (held (object-of x) c Fetch (of-server z w s)) (leb 96 (of-client z w c reads-count + length us))
     where
-      go : (a b d e : Bool) → cond (a && b) (cond d (abort z m c 2 us) (cond e (abort z m c 4 us) (did out (handed z m c us g)))) (refuse 10)
-          ≡ cond a (by-verdict z m c us (cond b (cond d (Fault 2) (cond e (Fault 4) Clear)) Unfit) (did out (handed z m c us g))) (refuse 10)
-      go false b d e = refl
-      go true false d e = refl
-      go true true true e = refl
-      go true true false true = refl
-      go true true false false = refl
+      go : (b d e : Bool) → cond b (cond d (abort z m c 2 us) (cond e (abort z m c 4 us) (if-fit ok (did out (handed z m c us g))))) (refuse 10)
+          ≡ by-verdict z m c us (cond b (cond d (Fault 2) (cond e (Fault 4) Clear)) Unfit) (if-fit ok (did out (handed z m c us g)))
+      go false d e = refl
+      go true true e = refl
+      go true false true = refl
+      go true false false = refl
 
 -- ---- what the code comes to
-module _ (z : Sizes) (w : List ℕ) (c : ℕ) (us : List ℕ) (a : O.Ask) (v : Verdict) (e : v ≡ verdict-of (items-fit z w c (wanted (z .servers) c a .from) us) (items-found z w c (wanted (z .servers) c a .from) us)) where
+module _ (z : Sizes) (w : List ℕ) (c : ℕ) (us : List ℕ) (a : O.Ask) (v : Verdict) (e : v ≡ verdict-of (items-found z w c (wanted (z .servers) c a .from) us)) where
   pub fetch-unfit : v ≡ Unfit → Meets z (λ m. fetch z m c us a) w (Refused 10) w
   fetch-unfit p = meets-refused z w 10 (λ m. fetch z m c us a) (sym (fetch-is z w c us a ∙ rw (← e, p)))
 
@@ -100,31 +102,29 @@ module _ (z : Sizes) (w : List ℕ) (c : ℕ) (us : List ℕ) (a : O.Ask) (v : V
 pub ruleset fetch-exits = (fetch-unfit, fetch-aborts, fetch-hands)
 
 -- ---- the object handed over
-module _ (z : Sizes) (w : List ℕ) (c : ℕ) (us : List ℕ) (s x : ℕ) (out : Outcome) (g : (Address → ℕ) → (ClientWord → ℕ) → List (Put ClientWord)) (ok : (Address → ℕ) → Bool) (b : Bool) (pb : b ≡ ok (stored-in z w)) where
+module _ (z : Sizes) (w : List ℕ) (c : ℕ) (us : List ℕ) (s x : ℕ) (out : Outcome) (g : (Address → ℕ) → (ClientWord → ℕ) → List (Put ClientWord)) (ok : (Address → ℕ) → Bool) (v : Verdict) (e : v ≡ gate-of z w c s x us) where
   abbrev D : (Address → ℕ) → Did
   D m = fetch-object z m c us s x out (ok m) (g m)
 
-  object-unsound : not b ≡ true → Meets z D w (Refused 10) w
-  object-unsound nb =
-      let t : b ≡ false = not-true b nb in
-      meets-refused z w 10 D (sym (object-is z w c us s x out (ok (stored-in z w)) (g (stored-in z w)) ∙ rw (← pb, t)))
+  object-unfit : v ≡ Unfit → Meets z D w (Refused 10) w
+  object-unfit p = meets-refused z w 10 D (sym (object-is z w c us s x out (ok (stored-in z w)) (g (stored-in z w)) ∙ rw (← e, p)))
 
-  module _ (nb : not b ≡ false) (v : Verdict) (e : v ≡ gate-of z w c s x us) where
-    t : b ≡ true
-    t = not-false b nb
+  object-aborts : (y : ℕ) (o : Outcome) (w′ : List ℕ) → v ≡ Fault y → Meets z (λ m. abort z m c y us) w o w′ → Meets z D w o w′
+  object-aborts y o w′ p d =
+      meets-as z w o w′ (λ m. abort z m c y us) D (sym (object-is z w c us s x out (ok (stored-in z w)) (g (stored-in z w)) ∙ rw (← e, p))) d
 
-    object-unfit : v ≡ Unfit → Meets z D w (Refused 10) w
-    object-unfit p = meets-refused z w 10 D (sym (object-is z w c us s x out (ok (stored-in z w)) (g (stored-in z w)) ∙ rw (← pb, t, ← e, p)))
+  module _ (p : v ≡ Clear) (b : Bool) (pb : b ≡ ok (stored-in z w)) where
+    object-unsound : not b ≡ true → Meets z D w (Refused 10) w
+    object-unsound nb =
+        let t : b ≡ false = not-true b nb in
+        meets-refused z w 10 D (sym (object-is z w c us s x out (ok (stored-in z w)) (g (stored-in z w)) ∙ rw (← e, p, ← pb, t)))
 
-    object-aborts : (y : ℕ) (o : Outcome) (w′ : List ℕ) → v ≡ Fault y → Meets z (λ m. abort z m c y us) w o w′ → Meets z D w o w′
-    object-aborts y o w′ p d =
-        meets-as z w o w′ (λ m. abort z m c y us) D (sym (object-is z w c us s x out (ok (stored-in z w)) (g (stored-in z w)) ∙ rw (← pb, t, ← e, p))) d
-
-    object-handed : (w′ : List ℕ) → v ≡ Clear → Does whole (block z) (inPart (client c) (used-enter us then g (stored-in z w))) silent w 0 w′ → Meets z D w out w′
+    object-handed : (w′ : List ℕ) → not b ≡ false → Does whole (block z) (inPart (client c) (used-enter us then g (stored-in z w))) silent w 0 w′ → Meets z D w out w′
     unfolding inPart
-    object-handed w′ p d =
+    object-handed w′ nb d =
+        let t : b ≡ true = not-false b nb in
         meets-as z w out w′ (λ m. did out (inPart (client c) (used-enter us then g (stored-in z w)) m)) D
-        (sym (object-is z w c us s x out (ok (stored-in z w)) (g (stored-in z w)) ∙ rw (← pb, t, ← e, p)))
+        (sym (object-is z w c us s x out (ok (stored-in z w)) (g (stored-in z w)) ∙ rw (← e, p, ← pb, t)))
         (meets-did z w out w′ (inPart (client c) (used-enter us then g (stored-in z w))) d)
 
 -- ---- what a server hands out, read of its part
@@ -141,7 +141,7 @@ module _ (z : Sizes) (b : List ℕ) (l : Store-in z (length b)) (s k : ℕ) (h :
   pub meta-there : (r : Metadata) → r ≡ metadata-at there → r ≡ metadata-at (of-server z (view b) s)
   meta-there r q = q ∙ ap metadata-at is-there
 
-  pub node-there : (n k : ℕ) (r : Node) → k ≡ n % 1024 → r ≡ node-here k there → r ≡ node-at (of-server z (view b) s) n
+  pub node-there : (n k : ℕ) (r : Node) → k ≡ slot-of n → r ≡ node-here k there → r ≡ node-at (of-server z (view b) s) n
   unfolding node-here node-at
   node-there n k r p q = q ∙ rw (p, is-there)
 
@@ -155,7 +155,7 @@ pub meta-has : (z : Sizes) (b : List ℕ) (c s : ℕ) (u : List ℕ) → Checkin
 unfolding number-in-store
 meta-has z b c s u h = in-store-has z 0 (h .holds .allowed) refl
 
-module _ (z : Sizes) (w : List ℕ) (c : ℕ) (us : List ℕ) (s : ℕ) (out : Outcome) (b : Bool) (pb : b ≡ metadata-sound (z .servers) (z .slots) (of-server z w s)) where
+module _ (z : Sizes) (w : List ℕ) (c : ℕ) (us : List ℕ) (s : ℕ) (out : Outcome) (v : Verdict) (e : v ≡ gate-of z w c s 0 us) where
   abbrev sound? : (Address → ℕ) → Bool
   sound? m = metadata-sound (z .servers) (z .slots) (λ a. m (server s a))
 
@@ -165,19 +165,19 @@ module _ (z : Sizes) (w : List ℕ) (c : ℕ) (us : List ℕ) (s : ℕ) (out : O
   abbrev HandMeta : Outcome → List ℕ → Type 0
   HandMeta o w′ = Meets z (λ m. hand-over z m c us (O.object O.meta) s out) w o w′
 
-  pub meta-unsound : not b ≡ true → HandMeta (Refused 10) w
-  meta-unsound t = object-unsound z w c us s 0 out taken sound? b pb t
+  pub meta-unfit : v ≡ Unfit → HandMeta (Refused 10) w
+  meta-unfit p = object-unfit z w c us s 0 out taken sound? v e p
 
-  module _ (t : not b ≡ false) (v : Verdict) (e : v ≡ gate-of z w c s 0 us) where
-    pub meta-unfit : v ≡ Unfit → HandMeta (Refused 10) w
-    meta-unfit p = object-unfit z w c us s 0 out taken sound? b pb t v e p
+  pub meta-aborts : (y : ℕ) (o : Outcome) (w′ : List ℕ) → v ≡ Fault y → Meets z (λ m. abort z m c y us) w o w′ → HandMeta o w′
+  meta-aborts y o w′ p d = object-aborts z w c us s 0 out taken sound? v e y o w′ p d
 
-    pub meta-aborts : (y : ℕ) (o : Outcome) (w′ : List ℕ) → v ≡ Fault y → Meets z (λ m. abort z m c y us) w o w′ → HandMeta o w′
-    meta-aborts y o w′ p d = object-aborts z w c us s 0 out taken sound? b pb t v e y o w′ p d
+  module _ (p : v ≡ Clear) (b : Bool) (pb : b ≡ metadata-sound (z .servers) (z .slots) (of-server z w s)) where
+    pub meta-unsound : not b ≡ true → HandMeta (Refused 10) w
+    meta-unsound t = object-unsound z w c us s 0 out taken sound? v e p b pb t
 
-    pub meta-handed : (w′ : List ℕ) (x : Metadata) → v ≡ Clear → x ≡ metadata-at (of-server z w s)
+    pub meta-handed : (w′ : List ℕ) (x : Metadata) → not b ≡ false → x ≡ metadata-at (of-server z w s)
         → Does whole (block z) (inPart (client c) (used-enter us then fetched-meta (x .root) (x .version))) silent w 0 w′ → HandMeta out w′
-    meta-handed w′ x p q d = object-handed z w c us s 0 out taken sound? b pb t v e w′ p (rw (← q) d)
+    meta-handed w′ x t q d = object-handed z w c us s 0 out taken sound? v e p b pb w′ t (rw (← q) d)
 
 pub ruleset meta-exits = (meta-has, meta-unsound, meta-unfit, meta-aborts, meta-handed)
 
@@ -189,9 +189,9 @@ node-has z b c s n x u h t e =
     let k : 1 + n - 1 ≡ n = omega arith in
     rw e (in-store-has z (1 + n) (h .holds .allowed) (rw (ne-eqb (1 + n) 0 d, le-leb (1 + n) 8192 l, k) (t .named)))
 
-module _ (z : Sizes) (w : List ℕ) (c : ℕ) (us : List ℕ) (s n : ℕ) (out : Outcome) (r : Node) (pr : r ≡ node-at (of-server z w s) n) (b : Bool) (pb : b ≡ node-in-range r) where
-  abbrev ranged? : (Address → ℕ) → Bool
-  ranged? m = node-in-range (node-at (λ a. m (server s a)) n)
+module _ (z : Sizes) (w : List ℕ) (c : ℕ) (us : List ℕ) (s n : ℕ) (out : Outcome) (x : ℕ) (px : x ≡ 1 + n) (v : Verdict) (e : v ≡ gate-of z w c s x us) where
+  abbrev fits? : (Address → ℕ) → Bool
+  fits? m = node-fits (tree-sizes z) (node-at (λ a. m (server s a)) n)
 
   abbrev copied : (Address → ℕ) → (ClientWord → ℕ) → List (Put ClientWord)
   copied m = fetched-node n (node-at (λ a. m (server s a)) n)
@@ -199,29 +199,29 @@ module _ (z : Sizes) (w : List ℕ) (c : ℕ) (us : List ℕ) (s n : ℕ) (out :
   abbrev HandNode : Outcome → List ℕ → Type 0
   HandNode o w′ = Meets z (λ m. hand-over z m c us (O.object (O.node n)) s out) w o w′
 
-  in-order : b ≡ ranged? (stored-in z w)
-  in-order = pb ∙ ap node-in-range pr
+  gate-is : v ≡ gate-of z w c s (1 + n) us
+  gate-is = e ∙ rw px
 
-  pub node-unsound : not b ≡ true → HandNode (Refused 10) w
-  node-unsound t = object-unsound z w c us s (1 + n) out copied ranged? b in-order t
+  pub node-unfit : v ≡ Unfit → HandNode (Refused 10) w
+  node-unfit p = object-unfit z w c us s (1 + n) out copied fits? v gate-is p
 
-  module _ (t : not b ≡ false) (x : ℕ) (px : x ≡ 1 + n) (v : Verdict) (e : v ≡ gate-of z w c s x us) where
-    gate-is : v ≡ gate-of z w c s (1 + n) us
-    gate-is = e ∙ rw px
+  pub node-aborts : (y : ℕ) (o : Outcome) (w′ : List ℕ) → v ≡ Fault y → Meets z (λ m. abort z m c y us) w o w′ → HandNode o w′
+  node-aborts y o w′ p d = object-aborts z w c us s (1 + n) out copied fits? v gate-is y o w′ p d
 
-    pub node-unfit : v ≡ Unfit → HandNode (Refused 10) w
-    node-unfit p = object-unfit z w c us s (1 + n) out copied ranged? b in-order t v gate-is p
+  module _ (p : v ≡ Clear) (r : Node) (pr : r ≡ node-at (of-server z w s) n) (b : Bool) (pb : b ≡ node-fits (tree-sizes z) r) where
+    in-order : b ≡ fits? (stored-in z w)
+    in-order = pb ∙ ap (node-fits (tree-sizes z)) pr
 
-    pub node-aborts : (y : ℕ) (o : Outcome) (w′ : List ℕ) → v ≡ Fault y → Meets z (λ m. abort z m c y us) w o w′ → HandNode o w′
-    node-aborts y o w′ p d = object-aborts z w c us s (1 + n) out copied ranged? b in-order t v gate-is y o w′ p d
+    pub node-unsound : not b ≡ true → HandNode (Refused 10) w
+    node-unsound t = object-unsound z w c us s (1 + n) out copied fits? v gate-is p b in-order t
 
-    pub node-handed : (w′ : List ℕ) → v ≡ Clear → Does whole (block z) (inPart (client c) (used-enter us then fetched-node n r)) silent w 0 w′ → HandNode out w′
-    node-handed w′ p d = object-handed z w c us s (1 + n) out copied ranged? b in-order t v gate-is w′ p (rw (← pr) d)
+    pub node-handed : (w′ : List ℕ) → not b ≡ false → Does whole (block z) (inPart (client c) (used-enter us then fetched-node n r)) silent w 0 w′ → HandNode out w′
+    node-handed w′ t d = object-handed z w c us s (1 + n) out copied fits? v gate-is p b in-order w′ t (rw (← pr) d)
 
 pub ruleset node-exits = (node-has, node-unsound, node-unfit, node-aborts, node-handed)
 
 -- ---- a vector
-pub vector-handed : (z : Sizes) (w : List ℕ) (c : ℕ) (us : List ℕ) (s : ℕ) (v : Verdict) (ws w′ : List ℕ) → v ≡ verdict-of (items-fit z w c s us) (items-found z w c s us) → v ≡ Clear
+pub vector-handed : (z : Sizes) (w : List ℕ) (c : ℕ) (us : List ℕ) (s : ℕ) (v : Verdict) (ws w′ : List ℕ) → v ≡ verdict-of (items-found z w c s us) → v ≡ Clear
     → ws ≡ vector-at (of-server z w s) → Does whole (block z) (inPart (client c) (used-enter us then fetched-vector s ws)) silent w 0 w′
     → Meets z (λ m. fetch z m c us (O.vector s)) w (Fetched 2 s) w′
 unfolding inPart

@@ -1,10 +1,10 @@
 -- Laws of a loss's code.
-use mathlib.Core.Path.{_≡_, refl, sym, _∙_}
+use mathlib.Core.Path.{_≡_, sym, _∙_, subst}
 use mathlib.Core.Bool.{Bool, true, false}
 use mathlib.Core.List.{List, []}
-use Prim.Native.Nat.{ℕ, _<_}
+use Prim.Native.Nat.{ℕ, _≤_, _<_}
 use native.Mathlib.Omega.{arith}
-use borrow.Author.Tests.{eq-eqb, ne-eqb}
+use borrow.Author.Tests.{eq-eqb, ne-eqb, le-leb, lt-leb}
 use lib.ListN.{length, replicate}
 use Rattle.memory.specs.Word.{view}
 use Rattle.memory.specs.Laws.Word.{view-length}
@@ -19,7 +19,7 @@ use Rattle.steps.specs.declared.outcome.Outcome.{Outcome}
 use Rattle.steps.specs.declared.outcome.Outcome.the-variants.{Refused, Done, Aborted}
 use Rattle.steps.specs.Whole.{Address, client, whole, block, words-for}
 use Rattle.steps.specs.Judge.{abort-fits}
-use Rattle.steps.specs.Steps.{did, abort, lose}
+use Rattle.steps.specs.Steps.{did, lose}
 use Rattle.kinds.specs.Parts.{Store-in, stored-in}
 use Rattle.kinds.specs.Judge.{of-client}
 use Rattle.kinds.specs.Fits.{Known}
@@ -50,11 +50,9 @@ module _ (z : Sizes) (c : ℕ) (w : List ℕ) (b : Bool) (e : b ≡ abort-fits z
   loss-refused t = meets-refused z w 10 (loses-undecided z c) (sym (rw (← e, t)))
 
 -- the undecided one's rule is that of the step
-same-loss : (z : Sizes) (c : ℕ) (m : Address → ℕ) (b : Bool) → abort-fits z m c ≡ b → (m (client c (field 0)) ≡ 0 → ⊥) → (m (client c (field 0)) ≡ 3 → ⊥)
-    → loses-undecided z c m ≡ lose z m c
-unfolding loses-undecided losing lose abort aborts andThen inPart
-same-loss z c m true e p q = rw (e, ne-eqb (m (client c (field 0))) 0 p, ne-eqb (m (client c (field 0))) 3 q)
-same-loss z c m false e p q = rw (e, ne-eqb (m (client c (field 0))) 0 p, ne-eqb (m (client c (field 0))) 3 q)
+same-loss : (z : Sizes) (c : ℕ) (m : Address → ℕ) → (m (client c (field 0)) ≡ 0 → ⊥) → (m (client c (field 0)) ≡ 3 → ⊥) → m (client c (field 0)) ≤ 3 → loses-undecided z c m ≡ lose z m c
+unfolding loses-undecided losing lose aborts andThen inPart
+same-loss z c m p q l = rw (ne-eqb (m (client c (field 0))) 0 p, ne-eqb (m (client c (field 0))) 3 q, le-leb (m (client c (field 0))) 3 l)
 
 module _ (z : Sizes) (c p : ℕ) (w w′ : List ℕ) (e : p ≡ of-client z w c (field 0)) where
   pub lost-idle : p ≡ 0 → Does whole (block z) (inPart (client c) drop-all) silent w 0 w′ → Meets z (λ m. lose z m c) w Done w′
@@ -69,9 +67,14 @@ module _ (z : Sizes) (c p : ℕ) (w w′ : List ℕ) (e : p ≡ of-client z w c 
       meets-as z w Done w′ (λ m. did Done (inPart (client c) L.lose-part m)) (λ m. lose z m c) (sym (rw (← e, ne-eqb p 0 n, eq-eqb p 3 q)))
       (meets-did z w Done w′ (inPart (client c) L.lose-part) d)
 
-  pub lost-undecided : (o : Outcome) → (p ≡ 0 → ⊥) → (p ≡ 3 → ⊥) → Meets z (loses-undecided z c) w o w′ → Meets z (λ m. lose z m c) w o w′
-  lost-undecided o n q d =
-      let m = stored-in z w in
-      meets-as z w o w′ (loses-undecided z c) (λ m. lose z m c) (same-loss z c m (abort-fits z m c) refl (λ h. n (e ∙ h)) (λ h. q (e ∙ h))) d
+  module _ (n : p ≡ 0 → ⊥) (q : p ≡ 3 → ⊥) where
+    pub lost-astray : 3 < p → Meets z (λ m. lose z m c) w (Refused 10) w
+    unfolding lose
+    lost-astray l = meets-refused z w 10 (λ m. lose z m c) (sym (rw (← e, ne-eqb p 0 n, ne-eqb p 3 q, lt-leb p 3 l)))
 
-pub ruleset loss-exits = (is-lost, loss-aborts, loss-refused, lost-idle, lost-decided, lost-undecided)
+    pub lost-undecided : (o : Outcome) → p ≤ 3 → Meets z (loses-undecided z c) w o w′ → Meets z (λ m. lose z m c) w o w′
+    lost-undecided o l d =
+        let m = stored-in z w in
+        meets-as z w o w′ (loses-undecided z c) (λ m. lose z m c) (same-loss z c m (λ h. n (e ∙ h)) (λ h. q (e ∙ h)) (subst (λ (x : ℕ). x ≤ 3) e l)) d
+
+pub ruleset loss-exits = (is-lost, loss-aborts, loss-refused, lost-idle, lost-decided, lost-astray, lost-undecided)

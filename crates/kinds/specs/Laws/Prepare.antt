@@ -1,6 +1,6 @@
 -- Laws of a prepare's code.
 use mathlib.Core.Path.{_≡_, refl, sym, ap, ap₂, _∙_, subst, fun-ext}
-use mathlib.Core.Bool.{Bool, true, false, cond, _||_, not}
+use mathlib.Core.Bool.{Bool, true, false, cond, _&&_, _||_, not}
 use mathlib.Core.List.{List, [], _∷_}
 use Prim.Native.Nat.{ℕ, _≤_, _<_}
 use native.Mathlib.Omega.{arith}
@@ -15,13 +15,16 @@ use Rattle.layout.specs.Laws.Space.{upd-apart, AllValid}
 use Rattle.layout.specs.Step.{Does, silent, stepped, andThen}
 use Rattle.layout.specs.Laws.Step.{stored-append, changed-append, does-then, does-mem, valid-append}
 use Rattle.layout.specs.Part.{over, inPart}
+use Rattle.nodes.specs.declared.node.Node.{Node}
 use Rattle.nodes.specs.declared.found.Found.{Found}
 use Rattle.nodes.specs.declared.found.Found.the-variants.{At, Absent}
 use Rattle.client.specs.declared.part.Set.{Set}
 use Rattle.client.specs.declared.part.Set.the-variants.{Reads, Writes, Copies}
 use Rattle.client.specs.Layout.{ClientWord, client-words, field, item, vector-word, reads-count, writes-count}
 use Rattle.client.specs.Sets.{count, number-at, record-at, find}
-use Rattle.client.specs.Items.{all-below}
+use Rattle.client.specs.Items.{all-below, has, of-record, inner, inner-in, inner-before-after}
+use Rattle.client.specs.Participants.{at-home}
+use Rattle.client.specs.Fits.{is-read, young, read-fits, version-fits, stored-record-fits, write-fits, writes-fit, fit-to-prepare, fit-to-apply}
 use Rattle.client.specs.Record.{last-version}
 use Rattle.client.specs.Drops.{version-of}
 use Rattle.client.specs.Course.{noted, decided}
@@ -31,9 +34,9 @@ use Rattle.steps.specs.declared.sizes.Sizes.{Sizes}
 use Rattle.steps.specs.declared.outcome.Outcome.{Outcome}
 use Rattle.steps.specs.declared.outcome.Outcome.the-variants.{Refused, Prepared, Decided}
 use Rattle.kinds.specs.declared.locks.Change.the-variants.{Lock}
-use Rattle.steps.specs.Whole.{Address, client, whole, block, words-for}
+use Rattle.operations.specs.Slot.{TreeSizes}
+use Rattle.steps.specs.Whole.{Address, client, whole, block, words-for, tree-sizes}
 use Rattle.steps.specs.Laws.Stores.{client-of, client-changed}
-use Rattle.steps.specs.Judge.{prepare-fits, versions-fit}
 use Rattle.steps.specs.Steps.{Did, did, then, covers, abort, applied-at, prepared-at, prepare}
 use Rattle.kinds.specs.Parts.{Store-in, stored-in}
 use Rattle.kinds.specs.Items.{read-item}
@@ -45,7 +48,8 @@ use Rattle.kinds.specs.Kinds.{Meets}
 use Rattle.kinds.specs.Laws.Kinds.{meets-did, meets-as, meets-refused, then-client, client-inside}
 use Rattle.kinds.specs.Laws.Abort.{changes-apart}
 use Rattle.kinds.specs.Course.{mark}
-use Rattle.kinds.specs.Versions.{version-fits}
+use Rattle.kinds.specs.Writes.{Storing}
+use Rattle.kinds.specs.Laws.Known.{apply-storing}
 use Rattle.kinds.specs.Laws.Apply.{good-noted}
 use Rattle.kinds.specs.Prepare.{prepares, decides, applies-too}
 
@@ -75,19 +79,25 @@ kept-words h a b (vector-word s j) = 0
 abbrev kept : (ClientWord → ℕ) → ClientWord → ℕ
 kept u = kept-words (λ s i j. u (item s i j)) (u reads-count) (u writes-count)
 
-abbrev all-fresh : (ClientWord → ℕ) → Bool
-all-fresh u = all-below (count u Writes) (version-fits u)
+record-kept : (u : ClientWord → ℕ) (s : Set) (g : Node → Bool) (f : Found) → of-record u s g f ≡ of-record (kept u) s g f
+unfolding kept-words record-at
+record-kept u s g (At i) = refl
+record-kept u s g Absent = refl
 
 version-kept : (u : ClientWord → ℕ) (f : Found) → version-of u f ≡ version-of (kept u) f
 unfolding kept-words record-at
 version-kept u (At i) = refl
 version-kept u Absent = refl
 
-fresh-kept : (u : ClientWord → ℕ) → all-fresh u ≡ all-fresh (kept u)
-unfolding kept-words version-fits count number-at find
-fresh-kept u =
-    ap (all-below (count u Writes))
-    (fun-ext (λ i. ap (λ (v : ℕ). ltb 8192 (number-at u Writes i) || ltb v last-version) (version-kept u (find u Reads (number-at u Writes i)))))
+stores-kept : (t : TreeSizes) (u : ClientWord → ℕ) (s : ℕ) → writes-fit t u s ≡ writes-fit t (kept u) s
+unfolding writes-fit write-fits read-fits is-read stored-record-fits version-fits young inner-before-after inner-in kept-words count number-at record-at find has
+stores-kept t u s = ap (all-below (count u Writes)) (fun-ext (λ i. ap (λ (b : Bool). read-fits u i && (stored-record-fits t u s i && b)) (one (number-at u Writes i))))
+  where
+    one : (x : ℕ) → (not (at-home s x || (of-record u Reads (inner x) (find u Reads x) || of-record u Writes (inner x) (find u Writes x)))
+        || (ltb 8192 x || ltb (version-of u (find u Reads x)) last-version))
+        ≡ (not (at-home s x || (of-record (kept u) Reads (inner x) (find u Reads x) || of-record (kept u) Writes (inner x) (find u Writes x)))
+        || (ltb 8192 x || ltb (version-of (kept u) (find u Reads x)) last-version))
+    one x = rw (record-kept u Reads (inner x) (find u Reads x), record-kept u Writes (inner x) (find u Writes x), version-kept u (find u Reads x))
 
 reads-kept : (z : Sizes) (u : ClientWord → ℕ) → In-set z Reads u ≡ In-set z Reads (kept u)
 unfolding kept-words count number-at
@@ -173,27 +183,29 @@ module _ (z : Sizes) (c s : ℕ) (b₀ b : List ℕ) (hold : Store-in z (length 
       let v = putBit true (mine (field 6)) s in
       ap kept decided-words ∙ kept-phase (changed client-words mine (put (field 6) v ∷ [])) 3 ∙ kept-prepared mine v
 
+  as-kept : (F : (ClientWord → ℕ) → Type 0) → ((u : ClientWord → ℕ) → F u ≡ F (kept u)) → F (of-client z (view b₀) c) → F (of-client z (view b) c)
+  as-kept F e h = subst (λ (t : Type 0). t) (sym (e (of-client z (view b) c) ∙ ap F kept-same ∙ sym (e (of-client z (view b₀) c)))) h
+
   pub decided-known : Known z (view b) c
-  decided-known = record {
-    known = subst (λ (t : Type 0). t) (sym (reads-kept z (of-client z (view b) c) ∙ ap (In-set z Reads) kept-same ∙ sym (reads-kept z (of-client z (view b₀) c)))) (known .known);
-    written = subst (λ (t : Type 0). t) (sym (writes-kept z (of-client z (view b) c) ∙ ap (In-set z Writes) kept-same ∙ sym (writes-kept z (of-client z (view b₀) c)))) (known .written);
+  decided-known = record { known = as-kept (In-set z Reads) (reads-kept z) (known .known) }
+
+  pub decided-storing : Storing z (view b₀) c s → Storing z (view b) c s
+  decided-storing f = record {
+    written = as-kept (In-set z Writes) (writes-kept z) (f .written);
+    fits = as-kept (λ u. writes-fit (tree-sizes z) u s ≡ true) (λ u. ap (λ (x : Bool). x ≡ true) (stores-kept (tree-sizes z) u s)) (f .fits);
   }
 
-  pub decided-fresh : versions-fit z before c ≡ true → versions-fit z (stored-in z (view b)) c ≡ true
-  unfolding versions-fit version-fits
-  decided-fresh f =
-      fresh-kept (of-client z (view b) c) ∙ ap all-fresh kept-same ∙ sym (fresh-kept (of-client z (view b₀) c)) ∙ f
-
 module _ (z : Sizes) (c s : ℕ) (d : Bool) where
-  pub too-refused : (w : List ℕ) → d ≡ versions-fit z (stored-in z w) c → not d ≡ true → Meets z (applies-too z c s) w (Refused 10) w
+  pub too-refused : (w : List ℕ) → d ≡ fit-to-apply (tree-sizes z) (of-client z w c) s true → not d ≡ true → Meets z (applies-too z c s) w (Refused 10) w
   unfolding applies-too
   too-refused w e t = meets-refused z w 10 (applies-too z c s) (sym (rw (← e, not-true d t)))
 
-  pub too-fresh : (b₀ b : List ℕ) → Store-in z (length b₀) → c < z .clients → Known z (view b₀) c → s < z .servers → d ≡ versions-fit z (stored-in z (view b₀)) c → not d ≡ false
-      → Does whole (block z) (decides z c s) silent (view b₀) 0 (view b) → versions-fit z (stored-in z (view b)) c ≡ true
-  too-fresh b₀ b hold k known h e t p = decided-fresh z c s b₀ b hold k known h p (sym e ∙ not-false d t)
+  pub too-storing : (b₀ b : List ℕ) → Store-in z (length b₀) → c < z .clients → Known z (view b₀) c → s < z .servers → d ≡ fit-to-apply (tree-sizes z) (of-client z (view b₀) c) s true → not d ≡ false
+      → Does whole (block z) (decides z c s) silent (view b₀) 0 (view b) → Storing z (view b) c s
+  too-storing b₀ b hold k known h e t p = decided-storing z c s b₀ b hold k known h p (apply-storing z (view b₀) c (hold .allowed) d t s true e)
 
-  pub too-applied : (b₀ b b′ : List ℕ) (o : Outcome) → Store-in z (length b₀) → c < z .clients → Known z (view b₀) c → s < z .servers → d ≡ versions-fit z (stored-in z (view b₀)) c → not d ≡ false
+  pub too-applied : (b₀ b b′ : List ℕ) (o : Outcome) → Store-in z (length b₀) → c < z .clients → Known z (view b₀) c → s < z .servers
+      → d ≡ fit-to-apply (tree-sizes z) (of-client z (view b₀) c) s true → not d ≡ false
       → Does whole (block z) (decides z c s) silent (view b₀) 0 (view b) → Meets z (λ m. applied-at z m c s) (view b) o (view b′) → Meets z (applies-too z c s) (view b₀) o (view b′)
   unfolding applies-too andThen words-for
   too-applied b₀ b b′ o hold k known h e t p q =
@@ -222,19 +234,24 @@ module _ (z : Sizes) (c s : ℕ) (w w′ : List ℕ) (last : Bool) (e : last ≡
         (meets-did z w Decided w′ (decides z c s) d)
 
 -- ---- the whole
-module _ (z : Sizes) (c s : ℕ) (w : List ℕ) (b : Bool) (e : b ≡ prepare-fits z (stored-in z w) c s) where
+module _ (z : Sizes) (c s : ℕ) (w : List ℕ) (b : Bool) (e : b ≡ fit-to-prepare (tree-sizes z) (of-client z w c)) where
   pub prepare-unfit : not b ≡ true → Meets z (λ m. prepare z m c s) w (Refused 10) w
   unfolding prepare
   prepare-unfit t = meets-refused z w 10 (λ m. prepare z m c s) (sym (rw (← e, not-true b t)))
 
-  module _ (y : ℕ) (f : y ≡ prepare-found z w c s) (t : not b ≡ false) (o : Outcome) (w′ : List ℕ) where
-    pub prepare-goes : y ≡ 0 → Meets z (λ m. prepared-at z m c s) w o w′ → Meets z (λ m. prepare z m c s) w o w′
+  module _ (y : ℕ) (f : y ≡ prepare-found z w c s) (t : not b ≡ false) where
+    pub prepare-goes : (o : Outcome) (w′ : List ℕ) → y ≡ 0 → Meets z (λ m. prepared-at z m c s) w o w′ → Meets z (λ m. prepare z m c s) w o w′
     unfolding prepare prepare-found
-    prepare-goes u d = meets-as z w o w′ (λ m. prepared-at z m c s) (λ m. prepare z m c s) (sym (rw (← e, not-false b t, ← f, eq-eqb y 0 u))) d
+    prepare-goes o w′ u d = meets-as z w o w′ (λ m. prepared-at z m c s) (λ m. prepare z m c s) (sym (rw (← e, not-false b t, ← f, eq-eqb y 0 u))) d
 
-    pub prepare-aborts : (y ≡ 0 → ⊥) → Meets z (λ m. abort z m c y []) w o w′ → Meets z (λ m. prepare z m c s) w o w′
-    unfolding prepare prepare-found
-    prepare-aborts u d = meets-as z w o w′ (λ m. abort z m c y []) (λ m. prepare z m c s) (sym (rw (← e, not-false b t, ← f, ne-eqb y 0 u))) d
+    module _ (n : y ≡ 0 → ⊥) where
+      pub prepare-refused : y ≡ 10 → Meets z (λ m. prepare z m c s) w (Refused 10) w
+      unfolding prepare prepare-found
+      prepare-refused u = meets-refused z w 10 (λ m. prepare z m c s) (sym (rw (← e, not-false b t, ← f, ne-eqb y 0 n, eq-eqb y 10 u)))
+
+      pub prepare-aborts : (o : Outcome) (w′ : List ℕ) → (y ≡ 10 → ⊥) → Meets z (λ m. abort z m c y []) w o w′ → Meets z (λ m. prepare z m c s) w o w′
+      unfolding prepare prepare-found
+      prepare-aborts o w′ u d = meets-as z w o w′ (λ m. abort z m c y []) (λ m. prepare z m c s) (sym (rw (← e, not-false b t, ← f, ne-eqb y 0 n, ne-eqb y 10 u))) d
 
 pub only-by : (n s q v : ℕ) → q ≡ n → v ≡ putBit true 0 s → eqb q v ≡ eqb n (putBit true 0 s)
 only-by n s q v e f = rw (e, f)
