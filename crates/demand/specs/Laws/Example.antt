@@ -132,7 +132,7 @@ applies = came-to (line 5 0 0 0) (Refused 9) ∷ []
 abbrev after-all : Address → ℕ
 after-all = memory-by Steps.step sizes (Run.opened sizes) (steps-of (story ++ applies))
 
-abbrev inserted : Told
+abbrev pub inserted : Told
 inserted = record { op = insert 5 70; ans = (1, 0) }
 
 -- The steps come to these outcomes; one transaction is decided, with its answer; and the tree then holds its pair.

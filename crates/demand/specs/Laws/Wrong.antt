@@ -14,19 +14,15 @@ use Rattle.steps.specs.Outcome as Outcome
 use Rattle.steps.specs.Whole.{Address, server, Allowed}
 use Rattle.steps.specs.Run.{opened}
 use Rattle.steps.specs.Taken.{Engine, Taken}
-use Rattle.demand.specs.Ledger.{Told, decided-in, map-all, Right-all}
+use Rattle.demand.specs.Ledger.{decided-in, map-all, Right-all}
 use Rattle.demand.specs.Demand.{pairs-under, Demand, Meets-demand-3}
 use Rattle.demand.specs.Wrong.{finds-none, feigns-later, Shut-out}
-use Rattle.demand.specs.Laws.Example.{taken-by, memory-by, all-small?, leads-there, computes, sizes, line, every-apply, all-apply}
+use Rattle.demand.specs.Laws.Example.{taken-by, memory-by, all-small?, leads-there, computes, sizes, line, every-apply, all-apply, inserted}
 
 -- begin; insert 5 with value 70, for which metadata and root are fetched; another operation; commit, prepare
 abbrev steps : ℕ → ℕ → ℕ → List Step
 steps op key value =
     line 0 0 0 0 ∷ line 1 1 5 70 ∷ line 2 0 0 0 ∷ line 2 0 0 0 ∷ line 2 0 0 0 ∷ line 1 op key value ∷ line 2 0 0 0 ∷ line 3 0 0 0 ∷ line 4 0 0 0 ∷ []
-
--- the first of the two is answered so
-abbrev inserted : Told
-inserted = record { op = insert 5 70; ans = (1, 0) }
 
 allowed : Allowed sizes
 allowed = record { servers = (omega arith, omega arith); slots = (omega arith, omega arith); clients = (omega arith, omega arith) }
