@@ -57,6 +57,6 @@ pub record Demand (z : Sizes) (h : List Taken) (m : Address → ℕ) : Type 0 wh
 abbrev pub Meets-demand-3 : Engine → Type 0
 Meets-demand-3 f = (z : Sizes) → Allowed z → (h : List Taken) (m : Address → ℕ) → Leads-by f z (opened z) h m → Demand z h m
 
--- the claim: this engine does, by whose definition of a step code is held (`engine`, `step`)
+-- the claim: this engine does, whose steps are `Steps.step`
 abbrev pub Demand-3 : Type 0
 Demand-3 = Meets-demand-3 step

@@ -43,7 +43,7 @@ came-to k o = record { step = k; outcome = o }
 unfoldable pub outcome-from : ℕ → ℕ → ℕ → Outcome
 outcome-from n a b = getD (Refused a ∷ Done ∷ Fetched a b ∷ Answered a b ∷ Prepared a ∷ Decided ∷ Applied a ∷ Committed ∷ Aborted a ∷ []) n Done
 
--- an engine: what comes of a step on the memory of a store. `Steps.step` is the one of these rules
+-- an engine: what comes of each step on the memory of a store of these sizes. This one is `Steps.step`
 abbrev pub Engine : Type 0
 Engine = Sizes → Step → (Address → ℕ) → Did
 
@@ -52,6 +52,6 @@ unfoldable pub Leads-by : Engine → Sizes → (Address → ℕ) → List Taken 
 Leads-by f z m [] m′ = m′ ≡ m
 Leads-by f z m (t ∷ h) m′ = Words (t .step) × (t .outcome ≡ f z (t .step) m .outcome) × Leads-by f z (changed whole m (f z (t .step) m .stores)) h m′
 
--- the same by the rules
+-- the same by this engine, so by the rules
 abbrev pub Leads : Sizes → (Address → ℕ) → List Taken → (Address → ℕ) → Type 0
 Leads = Leads-by step
