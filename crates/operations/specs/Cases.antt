@@ -15,13 +15,15 @@ use Rattle.operations.specs.Entry.{Entries, node-value}
 use Rattle.operations.specs.Slot.{TreeSizes}
 use Rattle.operations.specs.Operation.{plan}
 
--- ---- small snapshots: two servers of 16 slots; a vector with the first n taken
+-- ---- small snapshots: two servers of 16 slots
 abbrev pub two : TreeSizes
 two = record { servers = 2; slots = 16 }
 
-abbrev pub first : ℕ → List Bool
-first n = replicate n true ++ replicate (16 - n) false
+-- a vector with the first n slots taken
+abbrev pub first-taken : ℕ → List Bool
+first-taken n = replicate n true ++ replicate (16 - n) false
 
+-- an empty memory: node 0 is named as the root, all nodes are free
 abbrev pub none-there : Obj → Val
 none-there meta = root 0
 none-there (node n) = free
@@ -35,13 +37,14 @@ store vs w (fetched s) = flags (getD vs s [])
 
 -- on server 0 the slots 0 to 9 are taken, on server 1 none
 abbrev pub small : Writes → Ask → Val
-small = store (first 10 ∷ first 0 ∷ [])
+small = store (first-taken 10 ∷ first-taken 0 ∷ [])
 
--- a leaf with the keys k, k + 1, .. (n of them), each its own value; the separators and children of an inner node
+-- n keys k, k + 1, .. of a leaf, each its own value
 abbrev pub leaf : ℕ → ℕ → Entries
 leaf k zero = []
 leaf k (suc n) = (k, k) ∷ leaf (suc k) n
 
+-- n children c, c + 1, .. of an inner node, from the keys k, k + 10, .. on
 abbrev pub tens : ℕ → ℕ → ℕ → Entries
 tens k c zero = []
 tens k c (suc n) = (k, c) ∷ tens (k + 10) (suc c) n
@@ -58,10 +61,11 @@ full-root = small ((node 0, node-value 0 (leaf 1 14)) ∷ [])
 abbrev inner-root : Ask → Val
 inner-root = small ((node 0, node-value 1 (tens 0 20 15)) ∷ (node 34, node-value 0 (leaf 143 14)) ∷ [])
 
--- the map with keys 5 and 9, and a tree of it
+-- the map with keys 5 and 9
 abbrev five-nine : Map
 five-nine = (5, 50) ∷ (9, 90) ∷ []
 
+-- a tree of it: one leaf
 abbrev five-nine-tree : Ask → Val
 five-nine-tree = small ((node 0, node-value 0 five-nine) ∷ [])
 
@@ -72,21 +76,23 @@ tree-keys S =
     keys-of top ∷ cond (eqb (level-of top) 0) [] (map (λ n. keys-of (S (node n))) (slots-of top))
 
 -- what comes of an operation's plan
-unfoldable pub run : Op → (Ask → Val) → Out (Ans × Writes) Why
-run op M = exec (plan two op) M
+unfoldable pub comes-to : Op → (Ask → Val) → Out (Ans × Writes) Why
+comes-to op M = exec (plan two op) M
 
 -- the tree that a plan has left; none where it failed
-abbrev left-of : (Ask → Val) → Out (Ans × Writes) Why → List (List ℕ)
-left-of M (gives r) = tree-keys (over (r .1) (objects M))
-left-of M (fails y) = []
+abbrev tree-left : (Ask → Val) → Out (Ans × Writes) Why → List (List ℕ)
+tree-left M (gives r) = tree-keys (over (r .1) (objects M))
+tree-left M (fails y) = []
 
+-- the tree after an operation on M
 abbrev tree-after : Op → (Ask → Val) → List (List ℕ)
-tree-after op M = left-of M (run op M)
+tree-after op M = tree-left M (comes-to op M)
 
 -- a and b of an answer
 abbrev a-and-b : Ans → List ℕ
 a-and-b a = a .0 ∷ a .1 ∷ []
 
+-- those that a plan has given
 abbrev answer-of : Out (Ans × Writes) Why → List ℕ
 answer-of (gives r) = a-and-b (r .0)
 answer-of (fails y) = []
@@ -118,7 +124,7 @@ cases =
     -- "Map with keys 5, 9: next of 9 and previous of 5 none." By the map, and by the plans on a tree of it
     ∷ (
       a-and-b (answer (next 9) five-nine) ∷ a-and-b (answer (previous 5) five-nine)
-          ∷ answer-of (run (next 9) five-nine-tree) ∷ answer-of (run (previous 5) five-nine-tree) ∷ [],
+          ∷ answer-of (comes-to (next 9) five-nine-tree) ∷ answer-of (comes-to (previous 5) five-nine-tree) ∷ [],
       (0 ∷ 0 ∷ []) ∷ (0 ∷ 0 ∷ []) ∷ (0 ∷ 0 ∷ []) ∷ (0 ∷ 0 ∷ []) ∷ [],
     )
     ∷ []

@@ -7,11 +7,11 @@ use Rattle.nodes.specs.Place.{place}
 use Rattle.nodes.specs.Find.{key-index, find-at, rises}
 use Rattle.nodes.specs.Vector.{first-free}
 use Rattle.operations.specs.Entry.{under}
-use Rattle.operations.specs.Cases.{run, Tried}
+use Rattle.operations.specs.Cases.{comes-to, Tried}
 
 -- what the plans compute with on a small snapshot; `Examples` computes with it too
 unfoldable pub computes : Type 0
-unfolding run exec bind place under key-index find-at rises insert-at remove-at first-free ℕ-discrete decLt decLe
+unfolding comes-to exec bind place under key-index find-at rises insert-at remove-at first-free ℕ-discrete decLt decLe
 computes = Unit {0}
 
 pub tried : Tried
