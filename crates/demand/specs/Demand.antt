@@ -14,9 +14,9 @@ use Rattle.client.specs.Record.{value-of}
 use Rattle.steps.specs.declared.sizes.Sizes.{Sizes}
 use Rattle.steps.specs.declared.step.Step.{Step}
 use Rattle.steps.specs.Whole.{Address, server, Allowed}
-use Rattle.steps.specs.Steps.{node-at}
+use Rattle.steps.specs.Steps.{node-at, step}
 use Rattle.steps.specs.Run.{opened}
-use Rattle.steps.specs.Taken.{Taken, steps-of, Leads}
+use Rattle.steps.specs.Taken.{Taken, steps-of, Engine, Leads-by}
 use Rattle.demand.specs.Ledger.{decided-in, map-all, Right-all}
 
 -- ---- the tree
@@ -53,6 +53,10 @@ pub record Demand (z : Sizes) (h : List Taken) (m : Address → ℕ) : Type 0 wh
   -- and the tree holds that map: aborted and undecided transactions have changed none of it
   pub tree : (before ts : List Taken) → h ≡ before ++ ts → Applies z (steps-of ts) → Tree z m (map-all (decided-in before))
 
--- the claim: for all allowed sizes and all steps that can be taken from a newly opened store, refused ones included
+-- an engine meets demand 3: for all allowed sizes and all steps that can be taken by it from a newly opened store, refused ones included
+abbrev pub Meets-demand-3 : Engine → Type 0
+Meets-demand-3 f = (z : Sizes) → Allowed z → (h : List Taken) (m : Address → ℕ) → Leads-by f z (opened z) h m → Demand z h m
+
+-- the claim: this engine does, whose steps are `Steps.step`
 abbrev pub Demand-3 : Type 0
-Demand-3 = (z : Sizes) → Allowed z → (h : List Taken) (m : Address → ℕ) → Leads z (opened z) h m → Demand z h m
+Demand-3 = Meets-demand-3 step

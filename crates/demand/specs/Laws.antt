@@ -1,7 +1,8 @@
 -- Laws and proofs, in reading order.
 
--- document 01's example by these definitions
+-- document 01's example by these definitions; two wrong engines
 pub mod Example
+pub mod Wrong
 -- WHY IT HOLDS
 -- the protocol at this store, with the operations' meaning
 pub mod Store

@@ -4,6 +4,8 @@
 pub mod Ledger
 -- DEMAND 3, the statement
 pub mod Demand
+-- WRONG ENGINES that it shuts out
+pub mod Wrong
 -- BOTH EARS, the statement: two keys that are always written together
 pub mod Ears
 -- laws and proofs

@@ -12,12 +12,9 @@ pub mod Find
 pub mod Built
 pub mod Stored
 pub mod Range
--- what each change leaves of the entries, and of the order of keys
+-- what each change leaves of the entries
 pub mod Entries
 pub mod Kept
-pub mod Rising
-pub mod Ordered
--- the placement table, by one test that is computed; the starred cases
+-- the placement table, by one test that is computed
 pub mod Small
 pub mod Placed
-pub mod Cases

@@ -22,7 +22,5 @@ pub mod Range
 -- a node's entries; nodes that are whole
 pub mod Entries
 pub mod Kept
--- the starred cases
-pub mod Cases
 -- laws and proofs
 pub mod Laws

@@ -4,7 +4,8 @@
 pub mod Object
 -- the sorted map, the six operations on it, their answers
 pub mod Map
--- the plans run on small snapshots
+-- the starred cases, and further runs on small snapshots
+pub mod Cases
 pub mod Examples
 -- chains of entries, counts of names, gathered pairs
 pub mod Chain

@@ -18,7 +18,8 @@ pub mod Change
 pub mod Migrate
 -- the six plans, with the last check before the answer
 pub mod Operation
--- the plans run on small snapshots
+-- THE STARRED CASES, one table; and further runs on small snapshots
+pub mod Cases
 pub mod Examples
 -- chains of entries, counts of names, gathered pairs
 pub mod Chain

@@ -27,6 +27,7 @@ all-fit? all (e ∷ w) = fits? (written-value all (e .0)) && all-fit? all w
 abbrev pub check : Ans × Writes → TreePlan
 check r = cond (all-fit? (r .1) (r .1)) (P.done r) (P.fail no-tree)
 
+-- a plan with this last check
 abbrev pub checked : TreePlan → TreePlan
 checked p = P.bind p check
 
@@ -39,6 +40,7 @@ reading sz (next k) = next-plan k
 reading sz (previous k) = previous-plan k
 reading sz (migrate n s) = migrate-plan sz n s
 
+-- the plan of an operation
 abbrev pub plan : TreeSizes → Op → TreePlan
 plan sz op = checked (reading sz op)
 

@@ -3,14 +3,14 @@ use mathlib.Core.Path.{_≡_}
 use mathlib.Core.List.{List, [], _∷_}
 use Prim.Native.Nat.{ℕ, _<_}
 use lib.ListN.{getD}
+use Rattle.layout.specs.Space.{changed}
 use Rattle.operations.specs.Map.{two-to-64}
 use Rattle.steps.specs.declared.sizes.Sizes.{Sizes}
 use Rattle.steps.specs.declared.step.Step.{Step}
 use Rattle.steps.specs.declared.outcome.Outcome.{Outcome}
 use Rattle.steps.specs.declared.outcome.Outcome.the-variants.{Refused, Done, Fetched, Answered, Prepared, Decided, Applied, Committed, Aborted}
-use Rattle.steps.specs.Whole.{Address}
-use Rattle.steps.specs.Steps.{step}
-use Rattle.steps.specs.Run.{after}
+use Rattle.steps.specs.Whole.{Address, whole}
+use Rattle.steps.specs.Steps.{Did, step}
 
 -- a number of 64 bits; H is 2^64
 abbrev pub Word : ℕ → Type 0
@@ -43,7 +43,15 @@ came-to k o = record { step = k; outcome = o }
 unfoldable pub outcome-from : ℕ → ℕ → ℕ → Outcome
 outcome-from n a b = getD (Refused a ∷ Done ∷ Fetched a b ∷ Answered a b ∷ Prepared a ∷ Decided ∷ Applied a ∷ Committed ∷ Aborted a ∷ []) n Done
 
--- "run front to back": by the rules the steps of h come to these outcomes, and lead from the memory m to the memory m′
-unfoldable pub Leads : Sizes → (Address → ℕ) → List Taken → (Address → ℕ) → Type 0
-Leads z m [] m′ = m′ ≡ m
-Leads z m (t ∷ h) m′ = Words (t .step) × (t .outcome ≡ step z (t .step) m .outcome) × Leads z (after z m (t .step)) h m′
+-- an engine: what comes of each step on the memory of a store of these sizes. This one is `Steps.step`
+abbrev pub Engine : Type 0
+Engine = Sizes → Step → (Address → ℕ) → Did
+
+-- "run front to back": by the engine f the steps of h come to these outcomes, and lead from the memory m to the memory m′
+unfoldable pub Leads-by : Engine → Sizes → (Address → ℕ) → List Taken → (Address → ℕ) → Type 0
+Leads-by f z m [] m′ = m′ ≡ m
+Leads-by f z m (t ∷ h) m′ = Words (t .step) × (t .outcome ≡ f z (t .step) m .outcome) × Leads-by f z (changed whole m (f z (t .step) m .stores)) h m′
+
+-- the same by this engine, so by the rules
+abbrev pub Leads : Sizes → (Address → ℕ) → List Taken → (Address → ℕ) → Type 0
+Leads = Leads-by step

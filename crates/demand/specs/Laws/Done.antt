@@ -32,7 +32,7 @@ use Rattle.steps.specs.Passed.{Passed}
 use Rattle.steps.specs.Laws.Passed.{passed}
 use Rattle.steps.specs.Steps.{Did, did, refuse, if-fit, in-client, applying, all-applied, applied-at, apply-fits, apply, by-kind, step}
 use Rattle.steps.specs.Run.{after}
-use Rattle.steps.specs.Taken.{Taken, steps-of, Leads}
+use Rattle.steps.specs.Taken.{Taken, steps-of, Leads-by, Leads}
 use Rattle.demand.specs.Ledger.{Ledger, notes-decision, note, ledger-from}
 use Rattle.demand.specs.Demand.{Some}
 use Rattle.demand.specs.Laws.Kept.{reset-phase}
@@ -175,14 +175,14 @@ Kind-5 k = k .kind ≡ 5
 
 module _ (z : Sizes) where
   pub applies-note : (ts : List Taken) (m m′ : Address → ℕ) (L : Ledger) → Leads z m ts m′ → Every Kind-5 (steps-of ts) → ledger-from L ts ≡ L
-  unfolding Leads Every ledger-from
+  unfolding Leads-by Every ledger-from
   applies-note [] m m′ L p five = refl
   applies-note (t ∷ ts) m m′ L p five =
       ap (λ (x : Ledger). ledger-from x ts) (ap (note L (t .step)) (p .1) ∙ apply-notes z m (t .step) (five .0) L)
       ∙ applies-note ts (after z m (t .step)) m′ L (p .2) (five .1)
 
   applies-stay : (ts : List Taken) (m m′ : Address → ℕ) → Leads z m ts m′ → Every Kind-5 (steps-of ts) → (c s : ℕ) → state-fits (client-of m c) s Apply ≡ false → state-fits (client-of m′ c) s Apply ≡ false
-  unfolding Leads Every
+  unfolding Leads-by Every
   applies-stay [] m m′ p five c s h = subst (λ (u : Address → ℕ). state-fits (client-of u c) s Apply ≡ false) (sym p) h
   applies-stay (t ∷ ts) m m′ p five c s h =
       applies-stay ts (after z m (t .step)) m′ (p .2) (five .1) c s (apply-stays z m (t .step) (five .0) c s h)
@@ -190,7 +190,7 @@ module _ (z : Sizes) where
   -- what was taken is not due
   pub applies-done : (ts : List Taken) (m m′ : Address → ℕ) → Leads z m ts m′ → Every Kind-5 (steps-of ts) → Every (λ (t : Taken). ¬ (t .outcome ≡ Refused 10)) ts → (c s : ℕ) → c < z .clients → s < z .servers
       → Some (λ (k : Step). (k .client ≡ c) × (k .server ≡ s)) (steps-of ts) → state-fits (client-of m′ c) s Apply ≡ false
-  unfolding Leads Every Some
+  unfolding Leads-by Every Some
   applies-done [] m m′ p five fine c s l r e = absurd e
   applies-done (t ∷ ts) m m′ p five fine c s l r (inl e) =
       applies-stay ts (after z m (t .step)) m′ (p .2) (five .1) c s

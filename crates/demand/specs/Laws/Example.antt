@@ -1,16 +1,20 @@
 -- Document 01's example of a schedule, run by the definitions: sizes 1 4 1; a transaction that inserts key 5 with value 70.
 use mathlib.Core.Path.{_≡_, refl}
+use mathlib.Core.Bool.{Bool, true, _&&_}
 use mathlib.Core.List.{List, [], _∷_, _++_}
 use mathlib.Core.Logic.{inl}
 use Prim.Native.Nat.{ℕ, _<_}
 use native.Mathlib.Decide.{decLe, ℕ-discrete}
 use native.Mathlib.Omega.{arith}
+use borrow.Author.Tests.{ltb-true}
+use lib.Dec.{ltb}
+use Rattle.base.specs.Test.{and-both}
 use Rattle.operations.specs.Map.{insert}
 use Rattle.steps.specs.declared.sizes.Sizes.{Sizes}
 use Rattle.steps.specs.declared.step.Step.{Step}
 use Rattle.steps.specs.declared.outcome.Outcome.the-variants.{Refused, Done, Fetched, Answered, Committed}
 use Rattle.plans.specs.Walk.{Every}
-use Rattle.steps.specs.Taken.{Words, Taken, steps-of, came-to, Leads}
+use Rattle.steps.specs.Taken.{Words, Taken, steps-of, came-to, Engine, Leads-by, Leads}
 use Rattle.steps.specs.Laws.Taken.{fields-are-words}
 use Rattle.demand.specs.Ledger.{Told, ledger-from, decided-in}
 use Rattle.demand.specs.Demand.{Some, Applies, node-in, pairs-under}
@@ -57,14 +61,64 @@ use Rattle.steps.specs.Refusal as Refusal
 use Rattle.steps.specs.Run as Run
 use Rattle.steps.specs.Steps as Steps
 use Rattle.steps.specs.Uses as Uses
-use Rattle.steps.specs.Whole.{Address}
+use Rattle.steps.specs.Whole.{Address, whole}
 
-abbrev sizes : Sizes
+-- ---- SCHEDULES THAT COMPUTE
+-- the steps with the outcomes to which an engine brings them, and the memory after them
+abbrev pub taken-by : Engine → Sizes → (Address → ℕ) → List Step → List Taken
+taken-by f z m [] = []
+taken-by f z m (k ∷ ks) = came-to k (f z k m .outcome) ∷ taken-by f z (Space.changed whole m (f z k m .stores)) ks
+
+abbrev pub memory-by : Engine → Sizes → (Address → ℕ) → List Step → Address → ℕ
+memory-by f z m [] = m
+memory-by f z m (k ∷ ks) = memory-by f z (Space.changed whole m (f z k m .stores)) ks
+
+-- small numbers, so machine words
+abbrev small? : Step → Bool
+small? k = ltb (k .kind) 100 && (ltb (k .client) 100 && (ltb (k .op) 100 && (ltb (k .key) 100 && (ltb (k .value) 100 && ltb (k .server) 100))))
+
+abbrev pub all-small? : List Step → Bool
+all-small? [] = true
+all-small? (k ∷ ks) = small? k && all-small? ks
+
+small-words : (k : Step) → small? k ≡ true → Words k
+small-words k t =
+    let a = and-both (ltb (k .kind) 100) _ t in
+    let b = and-both (ltb (k .client) 100) _ (a .1) in
+    let c = and-both (ltb (k .op) 100) _ (b .1) in
+    let d = and-both (ltb (k .key) 100) _ (c .1) in
+    let e = and-both (ltb (k .value) 100) (ltb (k .server) 100) (d .1) in
+    let below : (n : ℕ) → ltb n 100 ≡ true → n < 18446744073709551616 = λ n h. omega (arith, ltb-true n 100 h) in
+    fields-are-words k (below (k .kind) (a .0)) (below (k .client) (b .0)) (below (k .op) (c .0)) (below (k .key) (d .0)) (below (k .value) (e .0)) (below (k .server) (e .1))
+
+pub leads-there : (f : Engine) (z : Sizes) (m : Address → ℕ) (ks : List Step) → all-small? ks ≡ true → Leads-by f z m (taken-by f z m ks) (memory-by f z m ks)
+unfolding Leads-by
+leads-there f z m [] t = refl
+leads-there f z m (k ∷ ks) t =
+    let p = and-both (small? k) (all-small? ks) t in
+    (small-words k (p .0), refl, leads-there f z (Space.changed whole m (f z k m .stores)) ks (p .1))
+
+-- all that steps compute with on a small store
+unfoldable pub computes : Type 0
+unfolding Update.upd Bit.bit Bit.putBit LayoutPart.over Space.changed Space.decide Space.puts Space.tab LayoutStep.andThen Sweep.sweep Find.key-index Find.find-at Find.rises Lists.insert-at Lists.pad Node.extra Node.free-node Node.keysOf Node.made Node.slotsOf Place.place NodesRange.node-in-range Stored.node-of Stored.words-of Entry.under Check.can-check Check.checked Check.held Check.mark-in Check.mark-place Check.sound Check.standing Fresh.first-leaf HandOut.metadata-at HandOut.metadata-sound Lock.busy Lock.lock-in-range Lock.locked Lock.unlocked Object.lock-of Object.object-of ServerRange.name-in-store Store.home-step Store.kept-of Store.lock-step Store.node-step Store.table-step Store.unlock-step Answered.answered Answered.enter-writes Answered.entered Answered.put-entry Answered.used-enter Commit.inner-at Copies.drop-node Course.decided Course.noted Drops.next-version Enter.enter-entries Enter.enter-read Enter.enter-used Enter.enter-write Fetched.copy-inner Fetched.fetched-meta Fetched.fetched-node Fits.client-fits Fits.field-fits Fits.has-read Fits.item-fits Fits.op-fits Fits.vector-fits Have.broken Have.copied Have.copied-meta Have.copied-node Have.have Have.source Items.all-below Items.any-below Items.has Items.inner Items.inner-before-after Items.inner-in Life.give-part Life.reset ClientPart.nothing ClientPart.put-word ClientPart.put-fields ClientPart.put-item Participants.at-home Participants.committing Participants.lowest-of Participants.mask Participants.participants-of Record.record-in-range Record.in-store Record.number-in-store Record.record-of Record.single Renew.drop-outer Renew.finish Renew.for-writes Renew.rank Renew.ranked Renew.renew Renew.renew-flag Renew.renew-kept Renew.renew-meta Renew.renew-nth Renew.renew-written ClientRun.among ClientRun.run Sets.count Sets.find Sets.first-of Sets.number-at Sets.record-at Work.any-at-last Work.count-new Work.walked Work.worked Judge.check-fits Judge.holders-fit Judge.lock-fits Judge.prepare-fits Judge.versions-fit Refusal.first Refusal.state-fits Refusal.kind-of Refusal.refusal Run.opened Steps.applied-at Steps.begin Steps.commit Steps.covers Steps.fetch Steps.give Steps.node-at Steps.prepare Steps.prepared-at Steps.step Steps.work Uses.all Uses.checked-at Uses.deciding Uses.each Uses.item-of Uses.least Uses.locked-at Uses.read-items Uses.those Uses.used-items ledger-from Every Some node-in decLe ℕ-discrete
+computes = Unit {0}
+
+-- one server of 4 slots, one client
+abbrev pub sizes : Sizes
 sizes = record { servers = 1; slots = 4; clients = 1 }
 
-abbrev line : ℕ → ℕ → ℕ → ℕ → Step
+abbrev pub line : ℕ → ℕ → ℕ → ℕ → Step
 line kind op key value = record { kind = kind; client = 0; op = op; key = key; value = value; server = 0 }
 
+-- the apply of the one client at the one server
+abbrev pub every-apply : List Step
+every-apply = line 5 0 0 0 ∷ []
+
+pub all-apply : Applies sizes every-apply
+unfolding Every Some
+all-apply = record { only = (refl, tt); each = λ c s l r. inl (omega arith, omega arith) }
+
+-- ---- THE EXAMPLE
 -- begin, give, work three times, commit, prepare, with the outcomes that stepshow prints
 abbrev story : List Taken
 story =
@@ -75,26 +129,14 @@ story =
 abbrev applies : List Taken
 applies = came-to (line 5 0 0 0) (Refused 9) ∷ []
 
--- the memory after steps
-abbrev memory-after : (Address → ℕ) → List Taken → Address → ℕ
-memory-after m [] = m
-memory-after m (t ∷ h) = memory-after (Run.after sizes m (t .step)) h
+abbrev after-all : Address → ℕ
+after-all = memory-by Steps.step sizes (Run.opened sizes) (steps-of (story ++ applies))
 
-abbrev inserted : Told
+abbrev pub inserted : Told
 inserted = record { op = insert 5 70; ans = (1, 0) }
 
-words : (kind op key value : ℕ) → kind < 100 → op < 100 → key < 100 → value < 100 → Words (line kind op key value)
-words kind op key value a b c d = fields-are-words (line kind op key value) (omega arith) (omega arith) (omega arith) (omega arith) (omega arith) (omega arith)
-
--- The steps come to these outcomes; one transaction is decided, with its answer; and the tree then holds its pair. All that the run computes with
--- is named below, so that it computes.
-pub example : Leads sizes (Run.opened sizes) (story ++ applies) (memory-after (Run.opened sizes) (story ++ applies))
-    × (decided-in story ≡ (inserted ∷ []) ∷ []) × Applies sizes (steps-of applies)
-    × (pairs-under (memory-after (Run.opened sizes) (story ++ applies)) 0 ≡ (5, 70) ∷ [])
-unfolding Update.upd Bit.bit Bit.putBit LayoutPart.over Space.changed Space.decide Space.puts Space.tab LayoutStep.andThen Sweep.sweep Find.key-index Find.find-at Find.rises Lists.insert-at Lists.pad Node.extra Node.free-node Node.keysOf Node.made Node.slotsOf Place.place NodesRange.node-in-range Stored.node-of Stored.words-of Entry.under Check.can-check Check.checked Check.held Check.mark-in Check.mark-place Check.sound Check.standing Fresh.first-leaf HandOut.metadata-at HandOut.metadata-sound Lock.busy Lock.lock-in-range Lock.locked Lock.unlocked Object.lock-of Object.object-of ServerRange.name-in-store Store.home-step Store.kept-of Store.lock-step Store.node-step Store.table-step Store.unlock-step Answered.answered Answered.enter-writes Answered.entered Answered.put-entry Answered.used-enter Commit.inner-at Copies.drop-node Course.decided Course.noted Drops.next-version Enter.enter-entries Enter.enter-read Enter.enter-used Enter.enter-write Fetched.copy-inner Fetched.fetched-meta Fetched.fetched-node Fits.client-fits Fits.field-fits Fits.has-read Fits.item-fits Fits.op-fits Fits.vector-fits Have.broken Have.copied Have.copied-meta Have.copied-node Have.have Have.source Items.all-below Items.any-below Items.has Items.inner Items.inner-before-after Items.inner-in Life.give-part Life.reset ClientPart.nothing ClientPart.put-word ClientPart.put-fields ClientPart.put-item Participants.at-home Participants.committing Participants.lowest-of Participants.mask Participants.participants-of Record.record-in-range Record.in-store Record.number-in-store Record.record-of Record.single Renew.drop-outer Renew.finish Renew.for-writes Renew.rank Renew.ranked Renew.renew Renew.renew-flag Renew.renew-kept Renew.renew-meta Renew.renew-nth Renew.renew-written ClientRun.among ClientRun.run Sets.count Sets.find Sets.first-of Sets.number-at Sets.record-at Work.any-at-last Work.count-new Work.walked Work.worked Judge.check-fits Judge.holders-fit Judge.lock-fits Judge.prepare-fits Judge.versions-fit Refusal.first Refusal.state-fits Refusal.kind-of Refusal.refusal Run.opened Steps.applied-at Steps.begin Steps.commit Steps.covers Steps.fetch Steps.give Steps.node-at Steps.prepare Steps.prepared-at Steps.step Steps.work Uses.all Uses.checked-at Uses.deciding Uses.each Uses.item-of Uses.least Uses.locked-at Uses.read-items Uses.those Uses.used-items Leads ledger-from Every Some node-in decLe ℕ-discrete
-example = (
-  (words 0 0 0 0 (omega arith) (omega arith) (omega arith) (omega arith), refl, (words 1 1 5 70 (omega arith) (omega arith) (omega arith) (omega arith), refl, (words 2 0 0 0 (omega arith) (omega arith) (omega arith) (omega arith), refl, (words 2 0 0 0 (omega arith) (omega arith) (omega arith) (omega arith), refl, (words 2 0 0 0 (omega arith) (omega arith) (omega arith) (omega arith), refl, (words 3 0 0 0 (omega arith) (omega arith) (omega arith) (omega arith), refl, (words 4 0 0 0 (omega arith) (omega arith) (omega arith) (omega arith), refl, (words 5 0 0 0 (omega arith) (omega arith) (omega arith) (omega arith), refl, refl)))))))),
-  refl,
-  record { only = (refl, tt); each = λ c s l r. inl (omega arith, omega arith) },
-  refl,
-)
+-- The steps come to these outcomes; one transaction is decided, with its answer; and the tree then holds its pair.
+pub example : Leads sizes (Run.opened sizes) (story ++ applies) after-all
+    × (decided-in story ≡ (inserted ∷ []) ∷ []) × Applies sizes (steps-of applies) × (pairs-under after-all 0 ≡ (5, 70) ∷ [])
+unfolding computes
+example = (leads-there Steps.step sizes (Run.opened sizes) (steps-of (story ++ applies)) refl, refl, all-apply, refl)

@@ -17,7 +17,7 @@ use Rattle.steps.specs.Whole.{Address, head, whole, block, words-for}
 use Rattle.steps.specs.Refusal.{open-refusal}
 use Rattle.steps.specs.Steps.{step}
 use Rattle.steps.specs.Run.{opened, after}
-use Rattle.steps.specs.Taken.{Words, Taken, came-to, Leads}
+use Rattle.steps.specs.Taken.{Words, Taken, came-to, Leads-by, Leads}
 use Rattle.steps.specs.Laws.Taken.{leads-on}
 use Rattle.kinds.specs.Parts.{Store-in, head-sizes, stored-in}
 use Rattle.kinds.specs.Laws.Refusal.{none-holds}
@@ -41,7 +41,7 @@ module _ (z : Sizes) (n : ℕ) (ok : open-refusal n z ≡ 0) where
 
   -- ---- the sizes in the head
   led-head : (h : List Taken) (m m′ : Address → ℕ) → Leads z m h m′ → (i : ℕ) → m′ (head i) ≡ m (head i)
-  unfolding Leads
+  unfolding Leads-by
   led-head [] m m′ p i = ap (λ (u : Address → ℕ). u (head i)) p
   led-head (t ∷ h) m m′ p i = led-head h (after z m (t .step)) m′ (p .2) i ∙ step-lies z (holds .allowed) (t .step) m .headless m i
 
@@ -70,7 +70,7 @@ module _ (z : Sizes) (n : ℕ) (ok : open-refusal n z ≡ 0) where
   new-length w = length-stored whole (block z) (first-stores z) (sets w 0 (replicate (words-for z) 0)) ∙ length-sets w 0 (replicate (words-for z) 0)
 
   pub new-at : (w : List ℕ) → n / 8 ≤ length w → At [] (words-opened n z w)
-  unfolding Leads words-for words-opened
+  unfolding Leads-by words-for words-opened
   new-at w l = rw ok (record { long = rw (new-length w) l; way = new-store z w (holds .allowed) (omega (arith, holds .room)) })
 
   -- ---- one step
@@ -91,7 +91,7 @@ module _ (z : Sizes) (n : ℕ) (ok : open-refusal n z ≡ 0) where
     memory = ap (stored-in z) words-are ∙ mem-stored whole (block z) (step z k (stored-in z w) .stores) w room (step-lies z (holds .allowed) k (stored-in z w) .valid)
 
     pub next-at : Words k → At (h ++ came-to k (outcome-of n w k) ∷ []) (words-after n w k)
-    unfolding Leads
+    unfolding Leads-by
     next-at words = record {
       long = subst (λ (u : List ℕ). n / 8 ≤ length u) (sym words-are) (rw (length-stored whole (block z) (step z k (stored-in z w) .stores) w) (a .long));
       way = leads-on z h (came-to k (outcome-of n w k) ∷ []) (opened z) (stored-in z w) (stored-in z (words-after n w k)) (a .way) (words, outcome-is, memory);

@@ -1,10 +1,9 @@
 -- What each function on nodes keeps of the entries: nothing is lost by a split, a merge, or a move to a neighbour.
 use Prim.Native.Nat.{ℕ, _+_, _-_, _≤_, _<_}
 use mathlib.Core.Path.{_≡_, refl, sym, _∙_, ap}
-use mathlib.Core.Bool.{true}
 use mathlib.Core.List.{List, _++_}
 use native.Mathlib.Omega.{arith}
-use lib.ListN.{length, take, drop, getD, set, length-append, length-drop, length-set, take-append-drop}
+use lib.ListN.{length, take, drop, getD, set, length-append, length-drop, length-set}
 use lib.Seq.{length-take-le, take-append-add, drop-append-add, take-append-le, drop-append-le}
 use Rattle.nodes.specs.declared.node.Node.{Node}
 use Rattle.nodes.specs.declared.change.Wide.{Wide}
@@ -13,28 +12,14 @@ use Rattle.nodes.specs.Lists.{insert-at, remove-at}
 use Rattle.nodes.specs.Laws.Lists.{length-insert, length-remove}
 use Rattle.nodes.specs.Node.{extra, keysOf, slotsOf, made}
 use Rattle.nodes.specs.Laws.Node.{extra-le, length-keysOf, length-slotsOf, keys-made, slots-made}
-use Rattle.nodes.specs.Change.{wide, wide-keys, wide-slots, put-in, take-out, with-version, with-key, with-slot, narrow, cut-at, split, joined-keys, join, merged, from-right, from-left}
+use Rattle.nodes.specs.Change.{wide, wide-keys, wide-slots, put-in, take-out, with-key, with-slot, narrow, cut-at, split, joined-keys, join, merged, from-right, from-left}
 use Rattle.nodes.specs.Laws.Built.{wide-keys-made, wide-slots-made, length-joined}
-use Rattle.nodes.specs.Stored.{node-of}
-use Rattle.nodes.specs.Laws.Stored.{node-sized}
-use Rattle.nodes.specs.Range.{node-in-range}
-use Rattle.nodes.specs.Laws.Range.{range-count}
 use Rattle.nodes.specs.Entries.{headed, entries, entriesOf, wide-entries}
 use Rattle.nodes.specs.Laws.Entries.{length-entries, entries-take, entries-drop, entries-join, entries-insert, entries-remove, entries-key, entries-slot, first, entries-first}
 use Rattle.nodes.specs.Kept.{Whole, WholeWide}
 
 pub whole : (n : Node) → length (n .keys) ≡ 14 → length (n .slots) ≡ 15 → n .count ≤ 14 → Whole n
 whole n lk ls h = record { keys = length-keysOf n lk h; slots = length-slotsOf n ls h }
-
-pub stored-whole : (ws : List ℕ) → length ws ≡ 33 → node-in-range (node-of ws) ≡ true → Whole (node-of ws)
-stored-whole ws l r = let s = node-sized ws l in whole (node-of ws) (s .keys) (s .slots) (range-count (node-of ws) r)
-
-pub whole-wide : (w : Wide) → length (w .keys) ≡ 32 → length (w .slots) ≡ 32 → w .count ≤ 31 → WholeWide w
-unfolding wide-keys wide-slots
-whole-wide w lk ls h = record {
-  keys = length-take-le (w .count) (w .keys) (omega arith);
-  slots = length-take-le (w .count + extra (w .kind)) (w .slots) (omega (arith, extra-le (w .kind)));
-}
 
 -- ---- what was made has the entries of its lists
 module _ (k l v lo : ℕ) (ks ss : List ℕ) (e : length ss ≡ length ks + extra k) where
@@ -104,10 +89,6 @@ module _ (n : Node) (lo : ℕ) (f : Whole n) where
       entries-made (n .kind) (n .level) (n .version) lo (remove-at i (keysOf n)) (remove-at (i + extra (n .kind)) (slotsOf n)) (omega (arith, longer, f .keys))
       ∙ entries-remove (extra (n .kind)) lo (extra-le (n .kind)) (keysOf n) (slotsOf n) longer i (omega (arith, f .keys))
 
-  pub version-entries : (v : ℕ) → entriesOf (with-version n v) lo ≡ entriesOf n lo
-  unfolding with-version entriesOf
-  version-entries v = entries-made (n .kind) (n .level) v lo (keysOf n) (slotsOf n) longer
-
   pub key-entries : (i k : ℕ) → entriesOf (with-key n i k) lo ≡ set (entriesOf n lo) (i + extra (n .kind)) (k, getD (slotsOf n) (i + extra (n .kind)) 0)
   unfolding with-key entriesOf
   key-entries i k =
@@ -152,10 +133,6 @@ module _ (w : Wide) (lo : ℕ) (f : WholeWide w) where
     pub sep-first : cut-at w i v .sep ≡ first (drop (i + extra (w .kind)) (wide-entries w lo))
     unfolding cut-at wide-entries
     sep-first = sym (entries-first (extra (w .kind)) lo i (wide-keys w) (wide-slots w) (extra-le (w .kind)) wide-longer (omega (arith, f .keys)))
-
-    -- one half after the other
-    pub cut-entries : entriesOf (cut-at w i v .left) lo ++ entriesOf (cut-at w i v .right) (cut-at w i v .sep) ≡ wide-entries w lo
-    cut-entries = rw (left-entries, right-entries) (take-append-drop (i + extra (w .kind)) (wide-entries w lo))
 
   -- an overfull node split: 7 entries of a leaf in the left half, 8 of an inner node
   module _ (v : ℕ) (h : w .count ≡ 15) where

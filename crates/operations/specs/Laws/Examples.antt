@@ -1,29 +1,17 @@
--- The rows of the table hold, by computation.
+-- The further runs come out so, by computation.
 use mathlib.Core.Path.{refl}
-use Prim.Native.Nat.{_-_}
-use native.Mathlib.Decide.{ℕ-discrete, decLt, decLe}
-use Rattle.plans.specs.Plan.{exec, bind}
 use Rattle.plans.specs.Walk.{used}
-use Rattle.nodes.specs.Lists.{insert-at as put-in, remove-at}
-use Rattle.nodes.specs.Place.{place}
-use Rattle.nodes.specs.Find.{key-index, find-at, rises}
-use Rattle.nodes.specs.Vector.{first-free}
-use Rattle.operations.specs.Entry.{under}
-use Rattle.operations.specs.Examples.{run, asked, Tried}
+use Rattle.operations.specs.Laws.Cases.{computes}
+use Rattle.operations.specs.Examples.{asked, Examples}
 
-tried : Tried
-unfolding run asked exec used bind place under key-index find-at rises put-in remove-at first-free ℕ-discrete decLt decLe
-tried = record {
+pub examples : Examples
+unfolding computes asked used
+examples = record {
   root-split = refl;
   root-split-asks = refl;
-  replaced = refl;
   leaf-split = refl;
   inner-split = refl;
-  inner-split-keys = refl;
-  moved-left = refl;
-  collapse = refl;
   collapse-asks = refl;
-  moved-right = refl;
   merged-left = refl;
   inner-moved-left = refl;
   inner-moved-right = refl;
@@ -31,12 +19,12 @@ tried = record {
   found = refl;
   next-leaf = refl;
   previous-leaf = refl;
-  ends = (refl, refl, refl, refl);
   leaf-moves = refl;
   leaf-moves-asks = refl;
   inner-moves = refl;
   root-moves = refl;
   unmoved = (refl, refl);
+  goes-round = refl;
   passed-over = refl;
   nowhere = refl;
   taken-meanwhile = refl;

@@ -19,7 +19,7 @@ use Rattle.steps.specs.Refusal.{state-fits}
 use Rattle.steps.specs.Laws.Stores.{client-of}
 use Rattle.steps.specs.Steps.{Did, all-applied, step}
 use Rattle.steps.specs.Run.{opened, after}
-use Rattle.steps.specs.Taken.{Words, Taken, steps-of, Leads}
+use Rattle.steps.specs.Taken.{Words, Taken, steps-of, Leads-by, Leads}
 use Rattle.steps.specs.Laws.Taken.{parted}
 use Rattle.demand.specs.Ledger.{Ledger, blank, note, ledger-from, decided-in, map-all}
 use Rattle.demand.specs.Demand as D
@@ -45,7 +45,7 @@ module _ (k j slots : ℕ) (al : Allowed (sizes k j slots)) (few : suc j ≤ 16)
     pub accepted : Every (λ (t : Taken). C.Not-refused-by-10 (t .outcome)) h
 
   led : (h : List Taken) (m m′ : Address → ℕ) (L : Ledger) → Leads (store k j slots) m h m′ → State m L → Led h m′ (ledger-from L h)
-  unfolding Leads Every ledger-from
+  unfolding Leads-by Every ledger-from
   led [] m m′ L p e = record { state = subst (λ (u : Address → ℕ). State u L) (sym p) e; accepted = tt }
   led (t ∷ h) m m′ L p e =
       let x = e .explained in

@@ -11,7 +11,7 @@ use Rattle.steps.specs.declared.outcome.Outcome.the-variants.{Refused, D
 use Rattle.steps.specs.Outcome.{line}
 use Rattle.steps.specs.Whole.{Address}
 use Rattle.steps.specs.Run.{after}
-use Rattle.steps.specs.Taken.{Word, Words, Taken, outcome-from, Leads}
+use Rattle.steps.specs.Taken.{Word, Words, Taken, outcome-from, Leads-by, Leads}
 
 -- a machine's word
 pub word-below : (n : ℕ) → n < 2 ^ 64 → Word n
@@ -42,7 +42,7 @@ same-outcome (Aborted y) = refl
 
 module _ (z : Sizes) where
   pub leads-on : (h ts : List Taken) (m m′ m″ : Address → ℕ) → Leads z m h m′ → Leads z m′ ts m″ → Leads z m (h ++ ts) m″
-  unfolding Leads
+  unfolding Leads-by
   leads-on [] ts m m′ m″ p q = subst (λ (u : Address → ℕ). Leads z u ts m″) p q
   leads-on (t ∷ h) ts m m′ m″ p q = (p .0, p .1, leads-on h ts (after z m (t .step)) m′ m″ (p .2) q)
 
@@ -53,7 +53,7 @@ module _ (z : Sizes) where
     pub then : Leads z between ts m″
 
   pub parted : (h ts : List Taken) (m m″ : Address → ℕ) → Leads z m (h ++ ts) m″ → Parted m h ts m″
-  unfolding Leads
+  unfolding Leads-by
   parted [] ts m m″ p = record { between = m; first = refl; then = p }
   parted (t ∷ h) ts m m″ p =
       let q = parted h ts (after z m (t .step)) m″ (p .2) in

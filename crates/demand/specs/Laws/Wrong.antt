@@ -1,0 +1,75 @@
+-- Two wrong engines don't meet demand 3: a short schedule, run by each, breaks what is claimed.
+use mathlib.Core.Path.{_≡_, refl, ap, sym, _∙_, subst}
+use mathlib.Core.Bool.{true}
+use mathlib.Core.List.{List, [], _∷_, _++_}
+use Prim.Native.Nat.{ℕ}
+use native.Mathlib.Decide.{ℕ-discrete, decLt}
+use native.Mathlib.Omega.{arith}
+use lib.ListN.{length}
+use Rattle.operations.specs.Object.{Ans}
+use Rattle.operations.specs.Map.{insert, lookup}
+use Rattle.server.specs.declared.place.Place.the-variants.{Root}
+use Rattle.steps.specs.declared.step.Step.{Step}
+use Rattle.steps.specs.Outcome as Outcome
+use Rattle.steps.specs.Whole.{Address, server, Allowed}
+use Rattle.steps.specs.Run.{opened}
+use Rattle.steps.specs.Taken.{Engine, Taken}
+use Rattle.demand.specs.Ledger.{decided-in, map-all, Right-all}
+use Rattle.demand.specs.Demand.{pairs-under, Demand, Meets-demand-3}
+use Rattle.demand.specs.Wrong.{finds-none, feigns-later, Shut-out}
+use Rattle.demand.specs.Laws.Example.{taken-by, memory-by, all-small?, leads-there, computes, sizes, line, every-apply, all-apply, inserted}
+
+-- begin; insert 5 with value 70, for which metadata and root are fetched; another operation; commit, prepare
+abbrev steps : ℕ → ℕ → ℕ → List Step
+steps op key value =
+    line 0 0 0 0 ∷ line 1 1 5 70 ∷ line 2 0 0 0 ∷ line 2 0 0 0 ∷ line 2 0 0 0 ∷ line 1 op key value ∷ line 2 0 0 0 ∷ line 3 0 0 0 ∷ line 4 0 0 0 ∷ []
+
+allowed : Allowed sizes
+allowed = record { servers = (omega arith, omega arith); slots = (omega arith, omega arith); clients = (omega arith, omega arith) }
+
+-- what is claimed of such steps
+met : (f : Engine) → Meets-demand-3 f → (ks : List Step) → all-small? ks ≡ true
+    → Demand sizes (taken-by f sizes (opened sizes) ks) (memory-by f sizes (opened sizes) ks)
+met f claim ks t = claim sizes allowed (taken-by f sizes (opened sizes) ks) (memory-by f sizes (opened sizes) ks) (leads-there f sizes (opened sizes) ks t)
+
+-- key 5 is looked up and not found
+not-found : decided-in (taken-by finds-none sizes (opened sizes) (steps 2 5 0)) ≡ (record { op = lookup 5; ans = (0, 0) } ∷ inserted ∷ []) ∷ []
+unfolding computes Outcome.line
+not-found = refl
+
+finding-none : ¬ Meets-demand-3 finds-none
+unfolding ℕ-discrete
+finding-none claim =
+    let wrong : _≡_ {A = Ans} (0, 0) (1, 70) = subst Right-all not-found (met finds-none claim (steps 2 5 0) refl .answers) .1 .1 refl in
+    let a : _≡_ {A = ℕ} 0 1 = ap (λ (p : Ans). p .0) wrong in
+    omega arith
+
+-- key 6 is inserted too, by the answer; no apply is due, and the tree has only key 5
+abbrev before-applies : List Taken
+before-applies = taken-by feigns-later sizes (opened sizes) (steps 1 6 60)
+
+abbrev between : Address → ℕ
+between = memory-by feigns-later sizes (opened sizes) (steps 1 6 60)
+
+abbrev after-all : Address → ℕ
+after-all = memory-by feigns-later sizes between every-apply
+
+both-answered : decided-in before-applies ≡ (record { op = insert 6 60; ans = (1, 0) } ∷ inserted ∷ []) ∷ []
+unfolding computes Outcome.line
+both-answered = refl
+
+one-there : (after-all (server 0 Root) ≡ 0) × (pairs-under after-all 0 ≡ (5, 70) ∷ [])
+unfolding computes Outcome.line
+one-there = (refl, refl)
+
+feigning-later : ¬ Meets-demand-3 feigns-later
+unfolding ℕ-discrete decLt
+feigning-later claim =
+    let tree = met feigns-later claim (steps 1 6 60 ++ every-apply) refl .tree before-applies (taken-by feigns-later sizes between every-apply) refl all-apply in
+    let root : tree .root ≡ 0 = sym (tree .named 0 (omega arith)) ∙ one-there .0 in
+    let two : (5, 70) ∷ [] ≡ map-all (decided-in before-applies) = sym (one-there .1) ∙ ap (pairs-under after-all) (sym root) ∙ tree .holds in
+    let n : _≡_ {A = ℕ} 1 2 = ap length (two ∙ ap map-all both-answered) in
+    omega arith
+
+pub shut-out : Shut-out
+shut-out = record { finding-none = finding-none; feigning-later = feigning-later }
