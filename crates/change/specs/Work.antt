@@ -10,7 +10,8 @@ use Rattle.client.specs.Lent.{OwnFits, own-list}
 use Rattle.client.specs.Answered.{entered}
 use Rattle.client.specs.Work.{answers, worked}
 use Rattle.walk.specs.declared.walk.Stop.{Stop}
-use Rattle.walk.specs.Stopped.{Stopped}
+use Rattle.walk.specs.Stopped.{Stopped, Filled}
+use Rattle.client.specs.Work as C
 
 -- both lists are empty
 pub record Ready (x u : List ℕ) : Type 0 where
@@ -19,8 +20,12 @@ pub record Ready (x u : List ℕ) : Type 0 where
   pub used-long : 98 ≤ length u
   pub used-none : getD u 0 0 ≡ 0
 
--- the walk has stopped as the work step ends; with an answer the lent list has the writes that enter
-pub record Works (z : TreeSizes) (m : ClientWord → ℕ) (s : Stop) (x u : List ℕ) : Type 0 where
+-- the walk has stopped as the work step ends: one lent list has the copies that it used, and with an answer the other one has the
+-- writes that enter. What lies behind those, and without an answer all of that list, is free: anything may stand there, and nobody
+-- reads it. It keeps its length
+pub record Works (z : TreeSizes) (m : ClientWord → ℕ) (s : Stop) (x₀ u₀ x u : List ℕ) : Type 0 where
   pub stopped : Stopped z m s u
+  pub filled : Filled u₀ (C.walked z m .used) u
   pub own : (a : Ans) (w : Writes) → worked z m ≡ answers a w → own-list x ≡ entered w
   pub fits : (a : Ans) (w : Writes) → worked z m ≡ answers a w → OwnFits x
+  pub own-same-length : length x ≡ length x₀

@@ -50,7 +50,8 @@ fn walk(part: &[u8], servers: usize, slots: usize, own: &mut [u64], used: &mut [
 pub fn work(part: &[u8], servers: usize, slots: usize, own: &mut [u64], used: &mut [u64]) -> Stop
     requires { ⌜ (servers ≤ 8) × Ready (now own) (now used) × ClientPart (now part) ⌝ }
     requires waits { ⌜ Waiting (held (now part)) × (only-reads (held (now part) op-number) ≡ false) ⌝ }
-    ensures { λ r. ⌜ Works (sizes servers slots) (held (now (part .entry))) r (now (own .exit)) (now (used .exit)) ⌝ }
+    ensures { λ r. ⌜ Works (sizes servers slots) (held (now (part .entry))) r (now (own .entry)) (now (used .entry))
+        (now (own .exit)) (now (used .exit)) ⌝ }
 {
     let stop = walk(part, servers, slots, own, used);
     let answered = is_answer(stop);

@@ -31,7 +31,8 @@ pub fn look_at(mem: &[u8], sizes: Sizes, client: usize, used: &mut [u64]) -> Sto
     requires { ⌜ AtClient sizes (length (now mem)) client × (98 ≤ length (now used)) × (getD (now used) 0 0 ≡ 0) ⌝ }
     requires waits { ⌜ Waiting (of-client sizes (view (now mem)) client)
         × (only-reads (of-client sizes (view (now mem)) client op-number) ≡ true) ⌝ }
-    ensures { λ r. ⌜ Looks (tree-sizes sizes) (of-client sizes (view (now (mem .entry))) client) r (now (used .exit)) ⌝ }
+    ensures { λ r. ⌜ Looks (tree-sizes sizes) (of-client sizes (view (now (mem .entry))) client) r (now (used .entry))
+        (now (used .exit)) ⌝ }
 {
     let at = 8 * client_at(sizes, client);
     look(&mem[at..], sizes.servers, sizes.slots, used)
@@ -42,7 +43,8 @@ pub fn walk_at(mem: &[u8], sizes: Sizes, client: usize, own: &mut [u64], used: &
     requires { ⌜ AtClient sizes (length (now mem)) client × Ready (now own) (now used) ⌝ }
     requires waits { ⌜ Waiting (of-client sizes (view (now mem)) client)
         × (only-reads (of-client sizes (view (now mem)) client op-number) ≡ false) ⌝ }
-    ensures { λ r. ⌜ Works (tree-sizes sizes) (of-client sizes (view (now (mem .entry))) client) r (now (own .exit)) (now (used .exit)) ⌝ }
+    ensures { λ r. ⌜ Works (tree-sizes sizes) (of-client sizes (view (now (mem .entry))) client) r (now (own .entry))
+        (now (used .entry)) (now (own .exit)) (now (used .exit)) ⌝ }
 {
     let at = 8 * client_at(sizes, client);
     work(&mem[at..], sizes.servers, sizes.slots, own, used)

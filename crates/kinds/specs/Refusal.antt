@@ -1,5 +1,5 @@
--- Refusals 4 to 9, a row of the table at a time.
-use mathlib.Core.Bool.{Bool, true, false, _&&_, _||_, not}
+-- Refusals 5 to 9 as the code asks for them: which of 6 to 8, by the kind.
+use mathlib.Core.Bool.{Bool, true, false, cond, _&&_, not}
 use mathlib.Core.List.{List}
 use Prim.Native.Nat.{ℕ, _-_, _<_}
 use lib.Dec.{eqb, leb}
@@ -11,18 +11,24 @@ use Rattle.steps.specs.declared.step.Step.{Step}
 use Rattle.steps.specs.declared.step.Kind.{Kind}
 use Rattle.steps.specs.declared.step.Kind.the-variants.{Begin, Give, Work, Commit, Prepare, Apply, GiveUp, Lost, Unknown}
 use Rattle.steps.specs.Whole.{client, tree-sizes}
-use Rattle.steps.specs.Refusal.{between, kind-of, state-fits}
+use Rattle.steps.specs.Refusal.{between, state-fits}
 use Rattle.kinds.specs.Parts.{stored-in}
 
--- ---- 4 to 9: the tests of the table's rows
-unfoldable pub unknown-op : Step → Bool
-unknown-op k = eqb (k .kind) 1 && not (between 1 6 (k .op))
+-- the first of two refusals, where 0 is none
+abbrev pub or-else : ℕ → ℕ → ℕ
+or-else a b = cond (eqb a 0) b a
 
-unfoldable pub unknown-server : Sizes → Step → Bool
-unknown-server z k = ((eqb (k .kind) 1 && eqb (k .op) 6) || between 4 5 (k .kind)) && leb (z .servers) (k .server)
+-- 7 of a migrate, a prepare or an apply
+unfoldable pub server-refusal : Sizes → ℕ → ℕ
+server-refusal z s = cond (leb (z .servers) s) 7 0
 
-unfoldable pub unknown-node : Sizes → Step → Bool
-unknown-node z k = (eqb (k .kind) 1 && eqb (k .op) 6) && not (in-store (tree-sizes z) (k .key))
+-- 8 of a migrate
+unfoldable pub node-refusal : Sizes → ℕ → ℕ
+node-refusal z n = cond (in-store (tree-sizes z) n) 0 8
+
+-- 6 of a give, and 7 and 8 where it gives a migrate
+unfoldable pub give-refusal : Sizes → Step → ℕ
+give-refusal z k = cond (between 1 5 (k .op)) 0 (cond (eqb (k .op) 6) (or-else (server-refusal z (k .server)) (node-refusal z (k .key))) 6)
 
 -- a participant that is not yet in the set of servers that the field has
 unfoldable pub left : (ClientWord → ℕ) → ClientWord → ℕ → Bool
@@ -51,8 +57,25 @@ fitting GiveUp p o d = between 1 2 p
 fitting Lost p o d = true
 fitting Unknown p o d = true
 
-unfoldable pub unfit : Sizes → Step → List ℕ → Bool
-unfit z k w = not (state-fits (λ a. stored-in z w (client (k .client) a)) (k .server) (kind-of (k .kind)))
+-- 9: the state does not fit a step of that kind, where the memory has these words
+unfoldable pub unfit : Sizes → Step → Kind → List ℕ → Bool
+unfit z k i w = not (state-fits (λ a. stored-in z w (client (k .client) a)) (k .server) i)
+
+-- 6 to 8: what a kind asks of the step's fields
+unfoldable pub field-refusal : Sizes → Step → Kind → ℕ
+field-refusal z k Begin = 0
+field-refusal z k Give = give-refusal z k
+field-refusal z k Work = 0
+field-refusal z k Commit = 0
+field-refusal z k Prepare = server-refusal z (k .server)
+field-refusal z k Apply = server-refusal z (k .server)
+field-refusal z k GiveUp = 0
+field-refusal z k Lost = 0
+field-refusal z k Unknown = 0
+
+-- 5 to 9: a step of that kind, from 0 to 7, where the memory has these words
+unfoldable pub known-refusal : Sizes → Step → Kind → List ℕ → ℕ
+known-refusal z k i w = cond (leb (z .clients) (k .client)) 5 (or-else (field-refusal z k i) (cond (unfit z k i w) 9 0))
 
 -- the server of a prepare or an apply is one of eight
 unfoldable pub Sited : Kind → ℕ → Type 0

@@ -6,7 +6,8 @@ ghost use Rattle.memory.specs.Word.{view};
 ghost use Rattle.client.specs.Sets.{held};
 ghost use Rattle.steps.specs.Refusal.{kind-of, open-refusal, refusal, state-fits};
 ghost use Rattle.kinds.specs.Parts.{Store-in, stored-in};
-ghost use Rattle.kinds.specs.Refusal.{unknown-op, unknown-server, unknown-node, left, due, fitting, unfit, Sited};
+ghost use Rattle.kinds.specs.Refusal.{server-refusal, node-refusal, or-else, give-refusal, field-refusal, known-refusal};
+ghost use Rattle.kinds.specs.Refusal.{left, due, fitting, unfit, Sited};
 ghost use Rattle.client.specs.Layout.{ClientPart, field};
 use crate::sizes::allowed;
 use crate::sizes::between;
@@ -57,52 +58,54 @@ pub fn kind_of(number: u64) -> Kind
         5 => Kind::Apply,
         6 => Kind::GiveUp,
         7 => Kind::Lost,
-        _ => Kind::Unknown,
+        8..=u64::MAX => Kind::Unknown,
     }
-}
-
-// 6: "A given op is not 1 to 6."
-fn has_unknown_op(step: Step) -> bool
-    ensures { λ r. ⌜ r ≡ unknown-op step ⌝ }
-{
-    let op = step.op;
-    if step.kind == 1 {
-        return match op {
-            1..=6 => false,
-            _ => true,
-        };
-    }
-    false
 }
 
 // 7: "The server of a migrate, prepare or apply is not in the store."
-fn has_unknown_server(sizes: Sizes, step: Step) -> bool
-    ensures { λ r. ⌜ r ≡ unknown-server sizes step ⌝ }
+fn server_refusal(sizes: Sizes, server: u64) -> u64
+    ensures { λ r. ⌜ r ≡ server-refusal sizes server ⌝ }
 {
-    let kind = step.kind;
-    let beyond = step.server >= sizes.servers as u64;
-    match kind {
-        1 => {
-            if step.op == 6 {
-                return beyond;
-            }
-            false
-        }
-        4..=5 => beyond,
-        _ => false,
+    if server >= sizes.servers as u64 {
+        return 7;
     }
+    0
 }
 
 // 8: "A migrated node's name is not in the store."
-fn has_unknown_node(sizes: Sizes, step: Step) -> bool
-    ensures { λ r. ⌜ r ≡ unknown-node sizes step ⌝ }
+fn node_refusal(sizes: Sizes, name: u64) -> u64
+    ensures { λ r. ⌜ r ≡ node-refusal sizes name ⌝ }
 {
-    if step.kind == 1 {
-        if step.op == 6 {
-            return !in_store(sizes.servers, sizes.slots, step.key);
-        }
+    if in_store(sizes.servers, sizes.slots, name) {
+        return 0;
     }
-    false
+    8
+}
+
+// The first of two that holds.
+fn first_of(a: u64, b: u64) -> u64
+    ensures { λ r. ⌜ r ≡ or-else a b ⌝ }
+{
+    match a {
+        0 => b,
+        1..=u64::MAX => a,
+    }
+}
+
+// 6: "A given op is not 1 to 6."; of a migrate 7 and 8.
+fn give_refusal(sizes: Sizes, step: Step) -> u64
+    ensures { λ r. ⌜ r ≡ give-refusal sizes step ⌝ }
+{
+    let op = step.op;
+    match op {
+        0 => 6,
+        1..=5 => 0,
+        6 => first_of(
+            server_refusal(sizes, step.server),
+            node_refusal(sizes, step.key),
+        ),
+        7..=u64::MAX => 6,
+    }
 }
 
 // Is a server a participant that is not in the set of the field `done` yet?
@@ -164,36 +167,57 @@ fn state_fits(part: &[u8], kind: Kind, server: u64) -> bool
 }
 
 // 9 for the client's part of the whole memory.
-fn client_is_unfit(mem: &[u8], sizes: Sizes, step: Step) -> bool
-    requires { ⌜ Store-in sizes (length (now mem)) × (step .client < sizes .clients) × Sited (kind-of (step .kind)) (step .server) ⌝ }
-    ensures { λ r. ⌜ r ≡ unfit sizes step (view (now (mem .entry))) ⌝ }
+fn client_is_unfit(mem: &[u8], sizes: Sizes, step: Step, kind: Kind) -> bool
+    requires { ⌜ Store-in sizes (length (now mem)) × (step .client < sizes .clients) × Sited kind (step .server) ⌝ }
+    ensures { λ r. ⌜ r ≡ unfit sizes step kind (view (now (mem .entry))) ⌝ }
 {
     let at = 8 * client_at(sizes, step.client as usize);
-    !state_fits(&mem[at..], kind_of(step.kind), step.server)
+    !state_fits(&mem[at..], kind, step.server)
 }
 
-// 4 to 9: 0 if none holds.
+// 6 to 8: what the kind asks of the step's fields.
+fn field_refusal(sizes: Sizes, step: Step, kind: Kind) -> u64
+    ensures { λ r. ⌜ r ≡ field-refusal sizes step kind ⌝ }
+{
+    match kind {
+        Kind::Begin => 0,
+        Kind::Give => give_refusal(sizes, step),
+        Kind::Work => 0,
+        Kind::Commit => 0,
+        Kind::Prepare => server_refusal(sizes, step.server),
+        Kind::Apply => server_refusal(sizes, step.server),
+        Kind::GiveUp => 0,
+        Kind::Lost => 0,
+        Kind::Unknown => 0,
+    }
+}
+
+// 5 to 9, of a kind from 0 to 7.
+fn known_refusal(mem: &[u8], sizes: Sizes, step: Step, kind: Kind) -> u64
+    requires { ⌜ Store-in sizes (length (now mem)) ⌝ }
+    ensures { λ r. ⌜ r ≡ known-refusal sizes step kind (view (now (mem .entry))) ⌝ }
+{
+    if step.client >= sizes.clients as u64 {
+        return 5;
+    }
+    let asked = field_refusal(sizes, step, kind);
+    if asked != 0 {
+        return asked;
+    }
+    if client_is_unfit(mem, sizes, step, kind) {
+        return 9;
+    }
+    0
+}
+
+// 4: "The kind is above 7.", and 5 to 9; 0 if none holds.
 pub fn refusal(mem: &[u8], sizes: Sizes, step: Step) -> u64
     requires { ⌜ Store-in sizes (length (now mem)) ⌝ }
     ensures { λ r. ⌜ r ≡ refusal sizes step (stored-in sizes (view (now (mem .entry)))) ⌝ }
 {
-    if step.kind > 7 {
-        return 4;
+    let number = step.kind;
+    match number {
+        0..=7 => known_refusal(mem, sizes, step, kind_of(number)),
+        8..=u64::MAX => 4,
     }
-    if step.client >= sizes.clients as u64 {
-        return 5;
-    }
-    if has_unknown_op(step) {
-        return 6;
-    }
-    if has_unknown_server(sizes, step) {
-        return 7;
-    }
-    if has_unknown_node(sizes, step) {
-        return 8;
-    }
-    if client_is_unfit(mem, sizes, step) {
-        return 9;
-    }
-    0
 }

@@ -8,7 +8,8 @@ use Rattle.operations.specs.Slot.{TreeSizes}
 use Rattle.walk.specs.declared.walk.Stop.{Stop}
 use Rattle.client.specs.Layout.{ClientWord}
 use Rattle.client.specs.Work.{answers, worked}
-use Rattle.walk.specs.Stopped.{Stopped}
+use Rattle.walk.specs.Stopped.{Stopped, Filled}
+use Rattle.client.specs.Work as C
 
 -- "2 lookup", "4 next key above, 5 previous key below"
 abbrev pub only-reads : ℕ → Bool
@@ -20,7 +21,8 @@ only-reads (suc (suc (suc (suc zero)))) = true
 only-reads (suc (suc (suc (suc (suc zero))))) = true
 only-reads (suc (suc (suc (suc (suc (suc n)))))) = false
 
--- the walk of such an operation has ended as its work step does, and nothing is written
-pub record Looks (z : TreeSizes) (m : ClientWord → ℕ) (s : Stop) (u : List ℕ) : Type 0 where
+-- the walk of such an operation has ended as its work step does, and nothing is written; the lent list has the copies that it used
+pub record Looks (z : TreeSizes) (m : ClientWord → ℕ) (s : Stop) (u₀ u : List ℕ) : Type 0 where
   pub stopped : Stopped z m s u
+  pub filled : Filled u₀ (C.walked z m .used) u
   pub none : (a : Ans) (w : Writes) → worked z m ≡ answers a w → w ≡ []

@@ -1,7 +1,8 @@
 -- How a walk stops is how its work step ends.
 use mathlib.Core.Path.{_≡_}
-use mathlib.Core.List.{List}
+use mathlib.Core.List.{List, _∷_, _++_}
 use Prim.Native.Nat.{ℕ, _-_, _≤_}
+use lib.ListN.{length}
 use Rattle.operations.specs.Slot.{TreeSizes}
 use Rattle.walk.specs.declared.walk.Stop.{Stop}
 use Rattle.walk.specs.declared.walk.Stop.the-variants.{Refused, Aborts, Answers}
@@ -30,3 +31,10 @@ pub record Stopped (z : TreeSizes) (m : ClientWord → ℕ) (s : Stop) (u : List
   pub stop : s ≡ stop-of (worked z m)
   pub used : used-in u ≡ C.walked z m .used
   pub in-use : InUse u
+
+-- the lent list u₀ as it is left: the count of the items, the items, and a rest that is free: anything may stand there, and nobody
+-- reads it. The list keeps its length
+pub record Filled (u₀ items u : List ℕ) : Type 0 where
+  pub rest : List ℕ
+  pub is : u ≡ length items ∷ items ++ rest
+  pub kept : length u ≡ length u₀

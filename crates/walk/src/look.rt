@@ -33,7 +33,7 @@ pub fn only_reads(part: &[u8]) -> bool
 pub fn look(part: &[u8], servers: usize, slots: usize, used: &mut [u64]) -> Stop
     requires { ⌜ (servers ≤ 8) × (98 ≤ length (now used)) × (getD (now used) 0 0 ≡ 0) × ClientPart (now part) ⌝ }
     requires waits { ⌜ Waiting (held (now part)) × (only-reads (held (now part) op-number) ≡ true) ⌝ }
-    ensures { λ r. ⌜ Looks (sizes servers slots) (held (now (part .entry))) r (now (used .exit)) ⌝ }
+    ensures { λ r. ⌜ Looks (sizes servers slots) (held (now (part .entry))) r (now (used .entry)) (now (used .exit)) ⌝ }
 {
     let op = get_field(part, OP_NUMBER);
     let key = get_field(part, OP_KEY);

@@ -5,6 +5,7 @@ use mathlib.Core.List.{List, []}
 use Prim.Native.Nat.{ℕ, zero, suc, _+_, _≤_}
 use native.Mathlib.Omega.{arith}
 use lib.Dec.{eqb, ltb}
+use lib.ListN.{length}
 use borrow.Author.Tests.{not-true, not-false, eq-eqb, ne-eqb}
 use Rattle.operations.specs.Object.{Ans, Writes}
 use Rattle.operations.specs.Slot.{TreeSizes}
@@ -13,7 +14,7 @@ use Rattle.operations.specs.Change.{insert-plan, delete-plan}
 use Rattle.operations.specs.Migrate.{migrate-plan}
 use Rattle.operations.specs.Operation.{reading, all-fit?}
 use Rattle.client.specs.Layout.{ClientWord, op-number, op-key, op-value, op-server, writes-count}
-use Rattle.client.specs.Lent.{own-list, used-in}
+use Rattle.client.specs.Lent.{InUse, own-list, used-in}
 use Rattle.client.specs.Answered.{entered}
 use Rattle.client.specs.Work.{Worked, refused, aborted, answers, waiting, count-new, versions-there, any-at-last, last-questions, worked}
 use Rattle.walk.specs.declared.walk.Stop.{Stop}
@@ -23,8 +24,8 @@ use Rattle.walk.specs.Ask.{OwnKept, OwnGood, Holds-writes, Noted}
 use Rattle.walk.specs.Laws.Ask.{nothing-good, nothing-held}
 use Rattle.walk.specs.Laws.Begin.{nothing-used, nothing-noted}
 use Rattle.walk.specs.Lookup.{ended}
-use Rattle.walk.specs.Stopped.{Waiting, stop-of, Stopped}
-use Rattle.walk.specs.Laws.Stopped.{noted-in-use, R, run-is, never, told-used, Given, stops, given}
+use Rattle.walk.specs.Stopped.{Waiting, stop-of, Stopped, Filled}
+use Rattle.walk.specs.Laws.Stopped.{noted-in-use, is-filled, R, run-is, never, told-used, Given, stops, given}
 use Rattle.walk.specs.Look.{only-reads}
 use Rattle.change.specs.Mute.{stands}
 use Rattle.change.specs.Operated.{Operated}
@@ -53,7 +54,7 @@ last-is z m a w e =
     go true p false q true t false r = rw (e, last-reason, p, q, t, r)
 
 -- ---- the ways out of the work step
-module _ (z : TreeSizes) (m : ClientWord → ℕ) (eight : z .servers ≤ 8) (wait : Waiting m) (x u : List ℕ) (ready : Ready x u) (s : Stop) (x′ u′ : List ℕ) (o : Operated z m x u (reading z (waiting m)) s x′ u′) (b : Bool) (pb : b ≡ is-answer s) where
+module _ (z : TreeSizes) (m : ClientWord → ℕ) (eight : z .servers ≤ 8) (wait : Waiting m) (x u : List ℕ) (ready : Ready x u) (s : Stop) (x′ u′ : List ℕ) (kx : length x′ ≡ length x) (ku : length u′ ≡ length u) (o : Operated z m x u (reading z (waiting m)) s x′ u′) (b : Bool) (pb : b ≡ is-answer s) where
   empty : Holds-writes z x []
   empty = nothing-held x (ready .own-none) z
 
@@ -63,18 +64,26 @@ module _ (z : TreeSizes) (m : ClientWord → ℕ) (eight : z .servers ≤ 8) (wa
   used-are : used-in u′ ≡ C.walked z m .used
   used-are = sym (ap (λ (k : Told). k .used) tells) ∙ told-used z m (R z m (wait .reads) .how) (R z m (wait .reads) .used)
 
-  stopped-as : (t : Stop) → t ≡ stop-of (worked z m) → Stopped z m t u′
-  stopped-as t e = record { stop = e; used = used-are; in-use = noted-in-use m u′ (o .noted) }
+  in-use : InUse u′
+  in-use = noted-in-use m u′ (o .noted)
 
-  pub work-stops : not b ≡ true → Works z m s x′ u′
+  stopped-as : (t : Stop) → t ≡ stop-of (worked z m) → Stopped z m t u′
+  stopped-as t e = record { stop = e; used = used-are; in-use = in-use }
+
+  fills : Filled u (C.walked z m .used) u′
+  fills = is-filled u (C.walked z m .used) u′ in-use used-are ku
+
+  pub work-stops : not b ≡ true → Works z m s x u x′ u′
   unfolding worked
   work-stops nb =
       let no : is-answer s ≡ false = sym pb ∙ not-true b nb in
       let e : s ≡ stop-of (worked z m) = stops z m s (R z m (wait .reads) .used) (used-in u′) (o .writes) (R z m (wait .reads) .how) tells no in
       record {
         stopped = stopped-as s (e);
+        filled = fills;
         own = λ a w p. never s (Answers (a .0) (a .1)) (e ∙ rw p) no refl;
         fits = λ a w p. never s (Answers (a .0) (a .1)) (e ∙ rw p) no refl;
+        own-same-length = kx;
       }
 
   module _ (nb : not b ≡ false) where
@@ -105,26 +114,30 @@ module _ (z : TreeSizes) (m : ClientWord → ℕ) (eight : z .servers ≤ 8) (wa
 
     module _ (r : ℕ) (pr : r ≡ last-reason m (own-list x′)) where
       -- without an answer
-      ends : (t : Stop) (v : Worked) → worked z m ≡ v → t ≡ stop-of v → is-answer t ≡ false → Works z m t x′ u′
+      ends : (t : Stop) (v : Worked) → worked z m ≡ v → t ≡ stop-of v → is-answer t ≡ false → Works z m t x u x′ u′
       ends t v e p n = record {
         stopped = stopped-as t (p ∙ sym (ap stop-of e));
+        filled = fills;
         own = λ a w q. never t (Answers (a .0) (a .1)) (p ∙ ap stop-of (sym e ∙ q)) n refl;
         fits = λ a w q. own-kept .fit;
+        own-same-length = kx;
       }
 
-      pub work-refused : (r ≡ 0 → ⊥) → r ≡ 10 → Works z m Refused x′ u′
+      pub work-refused : (r ≡ 0 → ⊥) → r ≡ 10 → Works z m Refused x u x′ u′
       work-refused d t = ends Refused refused (rw (worked-is, ← pr, ne-eqb r 0 d, eq-eqb r 10 t)) refl refl
 
-      pub work-aborts : (r ≡ 0 → ⊥) → (r ≡ 10 → ⊥) → Works z m (Aborts r) x′ u′
+      pub work-aborts : (r ≡ 0 → ⊥) → (r ≡ 10 → ⊥) → Works z m (Aborts r) x u x′ u′
       work-aborts d t = ends (Aborts r) (aborted r) (rw (worked-is, ← pr, ne-eqb r 0 d, ne-eqb r 10 t)) refl refl
 
-      pub work-answers : r ≡ 0 → Works z m s x′ u′
+      pub work-answers : r ≡ 0 → Works z m s x u x′ u′
       work-answers d =
           let e : worked z m ≡ answers (given-is .answer) (o .writes) = rw (worked-is, ← pr, eq-eqb r 0 d) in
           record {
             stopped = stopped-as s (given-is .stop ∙ rw e);
+            filled = fills;
             own = λ a w p. let q : answers (given-is .answer) (o .writes) ≡ answers a w = sym e ∙ p in let v : o .writes ≡ w = cc in held .entries ∙ rw v;
             fits = λ a w p. own-kept .fit;
+            own-same-length = kx;
           }
 
 pub ruleset work-exits = (work-stops, own-kept, work-refused, work-aborts, work-answers)

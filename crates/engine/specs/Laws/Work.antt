@@ -76,20 +76,20 @@ unfolding entering answered enter-writes put-word
 entering-is us l w e = rw e
 
 -- ---- the walk of the part that is lent on
-pub works-lent : (z : Sizes) (b : List ℕ) (c k : ℕ) (s : Stop) (x u : List ℕ) → Store-in z (length b) → c < z .clients → k ≡ client-at z c
-    → Works (tree-sizes z) (sets.held (midOf (8 * k) (length b - 8 * k) b)) s x u → Works (tree-sizes z) (of-client z (view b) c) s x u
+pub works-lent : (z : Sizes) (b : List ℕ) (c k : ℕ) (s : Stop) (x₀ u₀ x u : List ℕ) → Store-in z (length b) → c < z .clients → k ≡ client-at z c
+    → Works (tree-sizes z) (sets.held (midOf (8 * k) (length b - 8 * k) b)) s x₀ u₀ x u → Works (tree-sizes z) (of-client z (view b) c) s x₀ u₀ x u
 unfolding sets.held
-works-lent z b c k s x u l h e d = subst (λ (m : ClientWord → ℕ). Works (tree-sizes z) m s x u) (client-lent z c k b h e (l .room)) d
+works-lent z b c k s x₀ u₀ x u l h e d = subst (λ (m : ClientWord → ℕ). Works (tree-sizes z) m s x₀ u₀ x u) (client-lent z c k b h e (l .room)) d
 
 pub waiting-lent : (z : Sizes) (b : List ℕ) (c k : ℕ) → Store-in z (length b) → c < z .clients → k ≡ client-at z c → Waiting (of-client z (view b) c)
     → Waiting (sets.held (midOf (8 * k) (length b - 8 * k) b))
 unfolding sets.held
 waiting-lent z b c k l h e d = subst Waiting (sym (client-lent z c k b h e (l .room))) d
 
-pub looks-lent : (z : Sizes) (b : List ℕ) (c k : ℕ) (s : Stop) (u : List ℕ) → Store-in z (length b) → c < z .clients → k ≡ client-at z c
-    → Looks (tree-sizes z) (sets.held (midOf (8 * k) (length b - 8 * k) b)) s u → Looks (tree-sizes z) (of-client z (view b) c) s u
+pub looks-lent : (z : Sizes) (b : List ℕ) (c k : ℕ) (s : Stop) (u₀ u : List ℕ) → Store-in z (length b) → c < z .clients → k ≡ client-at z c
+    → Looks (tree-sizes z) (sets.held (midOf (8 * k) (length b - 8 * k) b)) s u₀ u → Looks (tree-sizes z) (of-client z (view b) c) s u₀ u
 unfolding sets.held
-looks-lent z b c k s u l h e d = subst (λ (m : ClientWord → ℕ). Looks (tree-sizes z) m s u) (client-lent z c k b h e (l .room)) d
+looks-lent z b c k s u₀ u l h e d = subst (λ (m : ClientWord → ℕ). Looks (tree-sizes z) m s u₀ u) (client-lent z c k b h e (l .room)) d
 
 -- which of the two it is
 module _ (z : Sizes) (b : List ℕ) (c k : ℕ) (l : Store-in z (length b)) (h : c < z .clients) (e : k ≡ client-at z c) (r : Bool) where
@@ -368,14 +368,14 @@ module _ (z : Sizes) (b : List ℕ) (c : ℕ) (hold : Store-in z (length b)) (h 
 
 module _ (z : Sizes) (b : List ℕ) (c : ℕ) (hold : Store-in z (length b)) (h : c < z .clients) (known : Known z (view b) c) (wait : Waiting (of-client z (view b) c)) (s : Stop) where
   -- an operation that only reads
-  module _ (u : List ℕ) (k : Looks (tree-sizes z) (of-client z (view b) c) s u) where
+  module _ (u₀ u : List ℕ) (k : Looks (tree-sizes z) (of-client z (view b) c) s u₀ u) where
     pub look-answers : (o : Outcome) (w′ : List ℕ) → is-answer s ≡ true → o ≡ answer-of s → Does whole (block z) (inPart (client c) (entering (used-in u) [])) silent (view b) 0 w′
         → Meets z (λ m. work z m c) (view b) o w′
     unfolding entered
     look-answers o w′ n e p = rw e (work-answers z b c hold h known wait s u (k .stopped) n [] w′ (λ a w q. rw (k .none a w q)) p)
 
   -- one that writes
-  module _ (x u : List ℕ) (k : Works (tree-sizes z) (of-client z (view b) c) s x u) where
+  module _ (x₀ u₀ x u : List ℕ) (k : Works (tree-sizes z) (of-client z (view b) c) s x₀ u₀ x u) where
     pub change-fits : is-answer s ≡ true → OwnFits x
     change-fits n = let v = answering z b c hold h known wait s u (k .stopped) n in k .fits _ (v .writes) (v .is)
 

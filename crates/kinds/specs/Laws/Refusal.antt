@@ -21,7 +21,7 @@ use Rattle.steps.specs.Whole.{Allowed, client, tree-sizes, words-for, length-fo
 use Rattle.steps.specs.Refusal.{between, allowed?, first, kind-of, open-refusal, refusal, state-fits}
 use Rattle.kinds.specs.Parts.{Store-in, stored-in}
 use Rattle.kinds.specs.Laws.Parts.{are-allowed, client-lent}
-use Rattle.kinds.specs.Refusal.{unknown-op, unknown-server, unknown-node, left, due, fitting, unfit, Sited}
+use Rattle.kinds.specs.Refusal.{or-else, server-refusal, node-refusal, give-refusal, field-refusal, known-refusal, left, due, fitting, unfit, Sited}
 
 pub ruleset tests = (eq-eqb, ne-eqb, lt-ltb, le-ltb, le-leb, lt-leb)
 
@@ -121,73 +121,143 @@ module _ (k : Kind) (s : ℕ) (h : Sited k s) where
 
 -- the client's part is lent to be read
 pub client-unfit : (z : Sizes) (k : Step) (b : List ℕ) (j : ℕ) (i : Kind) (t : Bool) → Store-in z (length b) → k .client < z .clients → j ≡ client-at z (k .client)
-    → i ≡ kind-of (k .kind) → t ≡ state-fits (held (midOf (8 * j) (length b - 8 * j) b)) (k .server) i → not t ≡ unfit z k (view b)
+    → t ≡ state-fits (held (midOf (8 * j) (length b - 8 * j) b)) (k .server) i → not t ≡ unfit z k i (view b)
 unfolding held unfit
-client-unfit z k b j i t l h e p q =
-    ap not (q ∙ ap (λ (x : Kind). state-fits (held (midOf (8 * j) (length b - 8 * j) b)) (k .server) x) p
-    ∙ ap (λ (m : ClientWord → ℕ). state-fits m (k .server) (kind-of (k .kind))) (client-lent z (k .client) j b h e (l .room)))
+client-unfit z k b j i t l h e q = ap not (q ∙ ap (λ (m : ClientWord → ℕ). state-fits m (k .server) i) (client-lent z (k .client) j b h e (l .room)))
 
-pub sited-as : (n s : ℕ) (i : Kind) → i ≡ kind-of n → Sited (kind-of n) s → Sited i s
-sited-as n s i e h = rw e h
+-- ---- 6 to 8
+pub some-first : (a b : ℕ) → (a ≡ 0 → ⊥) → a ≡ or-else a b
+some-first a b h = sym (rw (ne-eqb a 0 h))
 
--- where row 7 doesn't hold
-site : (n o s l : ℕ) → (((eqb n 1 && eqb o 6) || between 4 5 n) && leb l s) ≡ false → l ≤ 8 → Sited (kind-of n) s
-unfolding Sited kind-of
-site zero o s l h g = tt
-site (suc zero) o s l h g = tt
-site (suc (suc zero)) o s l h g = tt
-site (suc (suc (suc zero))) o s l h g = tt
-site (suc (suc (suc (suc zero)))) o s l h g = let f : s < l = leb-false l s h in omega arith
-site (suc (suc (suc (suc (suc zero))))) o s l h g = let f : s < l = leb-false l s h in omega arith
-site (suc (suc (suc (suc (suc (suc zero)))))) o s l h g = tt
-site (suc (suc (suc (suc (suc (suc (suc zero))))))) o s l h g = tt
-site (suc (suc (suc (suc (suc (suc (suc (suc n)))))))) o s l h g = tt
+within-servers : (z : Sizes) (s : ℕ) → z .servers ≤ 8 → server-refusal z s ≡ 0 → s < 8
+unfolding server-refusal
+within-servers z s l h = go (leb (z .servers) s) refl h
+  where
+    go : (b : Bool) → leb (z .servers) s ≡ b → _≡_ {A = ℕ} (cond b 7 0) 0 → s < 8
+    go true p h = absurd (omega arith)
+    go false p h = let f : s < z .servers = leb-false (z .servers) s p in omega arith
 
-pub is-sited : (z : Sizes) (k : Step) (b : Bool) → Allowed z → b ≡ unknown-server z k → b ≡ false → Sited (kind-of (k .kind)) (k .server)
-unfolding unknown-server
-is-sited z k b f e t = site (k .kind) (k .op) (k .server) (z .servers) (sym e ∙ t) (f .servers .1)
+module _ (z : Sizes) (n : ℕ) where
+  pub server-out : z .servers ≤ n → 7 ≡ server-refusal z n
+  unfolding server-refusal
+  server-out h = sym (rw (le-leb _ _ h))
 
-pub given-here : (z : Sizes) (k : Step) → k .kind ≡ 1 → (k .op ≡ 6 → ⊥) → false ≡ unknown-server z k
-unfolding unknown-server
-given-here z k e o = sym (rw (e, ne-eqb (k .op) 6 o))
+  pub server-in : n < z .servers → 0 ≡ server-refusal z n
+  unfolding server-refusal
+  server-in h = sym (rw (lt-leb _ _ h))
 
-pub by-name : (z : Sizes) (k : Step) (b : Bool) → k .kind ≡ 1 → k .op ≡ 6 → b ≡ in-store (tree-sizes z) (k .key) → not b ≡ unknown-node z k
-unfolding unknown-node
-by-name z k b e o q = sym (rw (eq-eqb (k .kind) 1 e, eq-eqb (k .op) 6 o, ← q))
+  module _ (b : Bool) (e : b ≡ in-store (tree-sizes z) n) where
+    pub node-in : b ≡ true → 0 ≡ node-refusal z n
+    unfolding node-refusal
+    node-in t = sym (rw (← e, t))
 
--- ---- 4 to 9: a row at a time
+    pub node-out : b ≡ false → 8 ≡ node-refusal z n
+    unfolding node-refusal
+    node-out t = sym (rw (← e, t))
+
+module _ (z : Sizes) (k : Step) where
+  pub op-none : k .op ≡ 0 → 6 ≡ give-refusal z k
+  unfolding give-refusal
+  op-none e = sym (rw e)
+
+  pub op-other : (k .op ≡ 0 → ⊥) → k .op < 6 → 0 ≡ give-refusal z k
+  unfolding give-refusal
+  op-other d h = sym (rw (le-leb 1 (k .op) (omega arith), le-leb (k .op) 5 (omega arith)))
+
+  pub op-above : (k .op ≡ 6 → ⊥) → 6 ≤ k .op → 6 ≡ give-refusal z k
+  unfolding give-refusal
+  op-above d h = sym (rw (le-leb 1 (k .op) (omega arith), lt-leb (k .op) 5 (omega arith), ne-eqb (k .op) 6 d))
+
+  pub op-migrate : (a b r : ℕ) → k .op ≡ 6 → a ≡ server-refusal z (k .server) → b ≡ node-refusal z (k .key) → r ≡ or-else a b → r ≡ give-refusal z k
+  unfolding give-refusal
+  op-migrate a b r e p q h = rw (e, ← p, ← q) h
+
+pub ruleset field-exits = (some-first, server-out, server-in, node-in, node-out, op-none, op-other, op-above, op-migrate)
+
+pub kind-fields : (z : Sizes) (k : Step) (i j : Kind) (r : ℕ) → i ≡ j → r ≡ field-refusal z k j → r ≡ field-refusal z k i
+kind-fields z k i j r e h = rw e h
+
+-- where 7 doesn't hold
+pub is-sited : (z : Sizes) (k : Step) (i : Kind) (a : ℕ) → Allowed z → a ≡ field-refusal z k i → a ≡ 0 → Sited i (k .server)
+unfolding field-refusal Sited server-refusal
+is-sited z k Begin a f e t = tt
+is-sited z k Give a f e t = tt
+is-sited z k Work a f e t = tt
+is-sited z k Commit a f e t = tt
+is-sited z k Prepare a f e t = within-servers z (k .server) (f .servers .1) (sym e ∙ t)
+is-sited z k Apply a f e t = within-servers z (k .server) (f .servers .1) (sym e ∙ t)
+is-sited z k GiveUp a f e t = tt
+is-sited z k Lost a f e t = tt
+is-sited z k Unknown a f e t = tt
+
+-- ---- 5 to 9, of a kind that is known
+module _ (z : Sizes) (k : Step) (i : Kind) (w : List ℕ) where
+  pub no-client : z .clients ≤ k .client → 5 ≡ known-refusal z k i w
+  unfolding known-refusal
+  no-client h = sym (rw (le-leb _ _ h))
+
+  module _ (a : ℕ) (h : k .client < z .clients) (e : a ≡ field-refusal z k i) where
+    pub asked-first : (a ≡ 0 → ⊥) → a ≡ known-refusal z k i w
+    unfolding known-refusal
+    asked-first d = sym (rw (lt-leb _ _ h, ← e, ne-eqb _ _ d))
+
+    module _ (b : Bool) (t : a ≡ 0) (p : b ≡ unfit z k i w) where
+      pub state-unfit : b ≡ true → 9 ≡ known-refusal z k i w
+      unfolding known-refusal
+      state-unfit u = sym (rw (lt-leb _ _ h, ← e, eq-eqb _ _ t, ← p, u))
+
+      pub state-fit : b ≡ false → 0 ≡ known-refusal z k i w
+      unfolding known-refusal
+      state-fit u = sym (rw (lt-leb _ _ h, ← e, eq-eqb _ _ t, ← p, u))
+
+pub ruleset known-exits = (is-sited, no-client, asked-first, state-unfit, state-fit)
+
+-- ---- 4 to 9: the table is what its kinds ask
+-- the table's rows 6 to 8 of a give, then x
+above-6 : (o : ℕ) (s d : Bool) (x y : ℕ) → 6 < o → or-else (cond (between 1 5 o) 0 (cond (eqb o 6) y 6)) x ≡ cond (not (between 1 6 o)) 6 (cond ((eqb o 6 || false) && s) 7 (cond (eqb o 6 && not d) 8 x))
+above-6 o s d x y h = rw (le-leb 1 o (omega arith), lt-leb o 5 (omega arith), lt-leb o 6 h, ne-eqb o 6 (λ e. absurd (omega arith)))
+
+by-op : (o : ℕ) (s d : Bool) (x : ℕ)
+    → or-else (cond (between 1 5 o) 0 (cond (eqb o 6) (or-else (cond s 7 0) (cond d 0 8)) 6)) x ≡ cond (not (between 1 6 o)) 6 (cond ((eqb o 6 || false) && s) 7 (cond (eqb o 6 && not d) 8 x))
+by-op zero s d x = refl
+by-op (suc zero) s d x = refl
+by-op (suc (suc zero)) s d x = refl
+by-op (suc (suc (suc zero))) s d x = refl
+by-op (suc (suc (suc (suc zero)))) s d x = refl
+by-op (suc (suc (suc (suc (suc zero))))) s d x = refl
+by-op (suc (suc (suc (suc (suc (suc zero)))))) true d x = refl
+by-op (suc (suc (suc (suc (suc (suc zero)))))) false true x = refl
+by-op (suc (suc (suc (suc (suc (suc zero)))))) false false x = refl
+by-op (suc (suc (suc (suc (suc (suc (suc o))))))) s d x = above-6 (suc (suc (suc (suc (suc (suc (suc o))))))) s d x (or-else (cond s 7 0) (cond d 0 8)) (omega arith)
+
+-- its row 7 of a prepare or an apply, then x
+by-site : (s : Bool) (x : ℕ) → or-else (cond s 7 0) x ≡ cond s 7 x
+by-site true x = refl
+by-site false x = refl
+
 module _ (z : Sizes) (k : Step) (w : List ℕ) where
-  pub row-4 : 7 < k .kind → 4 ≡ refusal z k (stored-in z w)
+  -- the same step with a kind's number
+  abbrev kinded : ℕ → Step
+  kinded n = record { kind = n; client = k .client; op = k .op; key = k .key; value = k .value; server = k .server }
+
+  abbrev nine : Kind → ℕ
+  nine i = cond (unfit z k i w) 9 0
+
+  by-kind : (n : ℕ) → n < 8 → known-refusal z (kinded n) (kind-of n) w ≡ refusal z (kinded n) (stored-in z w)
+  unfolding refusal first known-refusal field-refusal unfit give-refusal server-refusal node-refusal kind-of
+  by-kind zero h = refl
+  by-kind (suc zero) h = rw (by-op (k .op) (leb (z .servers) (k .server)) (in-store (tree-sizes z) (k .key)) (nine Give))
+  by-kind (suc (suc zero)) h = refl
+  by-kind (suc (suc (suc zero))) h = refl
+  by-kind (suc (suc (suc (suc zero)))) h = rw (by-site (leb (z .servers) (k .server)) (nine Prepare))
+  by-kind (suc (suc (suc (suc (suc zero))))) h = rw (by-site (leb (z .servers) (k .server)) (nine Apply))
+  by-kind (suc (suc (suc (suc (suc (suc zero)))))) h = refl
+  by-kind (suc (suc (suc (suc (suc (suc (suc zero))))))) h = refl
+  by-kind (suc (suc (suc (suc (suc (suc (suc (suc n)))))))) h = absurd (omega arith)
+
+  pub kind-above : 7 < k .kind → 4 ≡ refusal z k (stored-in z w)
   unfolding refusal first
-  row-4 h = sym (rw (lt-ltb 7 (k .kind) h))
+  kind-above h = sym (rw (lt-ltb 7 (k .kind) h))
 
-  module _ (h : k .kind ≤ 7) where
-    pub row-5 : z .clients ≤ k .client → 5 ≡ refusal z k (stored-in z w)
-    unfolding refusal first
-    row-5 g = sym (rw (le-ltb 7 (k .kind) h, le-leb (z .clients) (k .client) g))
-
-    module _ (b : Bool) (g : k .client < z .clients) (e : b ≡ unknown-op k) where
-      pub row-6 : b ≡ true → 6 ≡ refusal z k (stored-in z w)
-      unfolding refusal first unknown-op
-      row-6 t = sym (rw (le-ltb 7 (k .kind) h, lt-leb (z .clients) (k .client) g, ← e, t))
-
-      module _ (c : Bool) (t : b ≡ false) (f : c ≡ unknown-server z k) where
-        pub row-7 : c ≡ true → 7 ≡ refusal z k (stored-in z w)
-        unfolding refusal first unknown-op unknown-server
-        row-7 u = sym (rw (le-ltb 7 (k .kind) h, lt-leb (z .clients) (k .client) g, ← e, t, ← f, u))
-
-        module _ (d : Bool) (u : c ≡ false) (o : d ≡ unknown-node z k) where
-          pub row-8 : d ≡ true → 8 ≡ refusal z k (stored-in z w)
-          unfolding refusal first unknown-op unknown-server unknown-node
-          row-8 v = sym (rw (le-ltb 7 (k .kind) h, lt-leb (z .clients) (k .client) g, ← e, t, ← f, u, ← o, v))
-
-          module _ (n : Bool) (v : d ≡ false) (q : n ≡ unfit z k w) where
-            pub row-9 : n ≡ true → 9 ≡ refusal z k (stored-in z w)
-            unfolding refusal first unknown-op unknown-server unknown-node unfit
-            row-9 x = sym (rw (le-ltb 7 (k .kind) h, lt-leb (z .clients) (k .client) g, ← e, t, ← f, u, ← o, v, ← q, x))
-
-            pub no-row : n ≡ false → 0 ≡ refusal z k (stored-in z w)
-            unfolding refusal first unknown-op unknown-server unknown-node unfit
-            no-row x = sym (rw (le-ltb 7 (k .kind) h, lt-leb (z .clients) (k .client) g, ← e, t, ← f, u, ← o, v, ← q, x))
-
-pub ruleset rows = (row-4, row-5, row-6, row-7, row-8, row-9, no-row)
+  pub kind-known : (i : Kind) (r : ℕ) → k .kind < 8 → i ≡ kind-of (k .kind) → r ≡ known-refusal z k i w → r ≡ refusal z k (stored-in z w)
+  kind-known i r h e p = p ∙ rw e (by-kind (k .kind) h)

@@ -5,7 +5,7 @@ use mathlib.Core.List.{List, []}
 use Prim.Native.Nat.{ℕ, zero, suc, _+_, _≤_}
 use native.Mathlib.Omega.{arith}
 use lib.Dec.{ltb}
-use lib.ListN.{getD}
+use lib.ListN.{length, getD}
 use borrow.Author.Tests.{le-ltb}
 use Rattle.operations.specs.Object.{Ans}
 use Rattle.operations.specs.Slot.{TreeSizes}
@@ -16,7 +16,7 @@ use Rattle.walk.specs.declared.walk.Stop.{Stop}
 use Rattle.walk.specs.declared.walk.Stop.the-variants.{Answers}
 use Rattle.client.specs.Layout.{ClientWord, op-number, op-key, writes-count}
 use Rattle.client.specs.Run.{End}
-use Rattle.client.specs.Lent.{used-in}
+use Rattle.client.specs.Lent.{InUse, used-in}
 use Rattle.client.specs.Answered.{entered}
 use Rattle.client.specs.Work.{answers, waiting, count-new, any-at-last, versions-there, last-questions, worked}
 use Rattle.walk.specs.Walk.{Told, is-answer, tell, walked}
@@ -24,8 +24,8 @@ use Rattle.walk.specs.Laws.Begin.{nothing-used}
 use Rattle.walk.specs.Lookup.{ended, Walks}
 use Rattle.walk.specs.Laws.Lookup.{ended-nothing}
 use Rattle.walk.specs.Seek.{near-plan}
-use Rattle.walk.specs.Stopped.{Waiting, stop-of}
-use Rattle.walk.specs.Laws.Stopped.{noted-in-use, R, run-is, never, told-used, Given, stops, given}
+use Rattle.walk.specs.Stopped.{Waiting, stop-of, Filled}
+use Rattle.walk.specs.Laws.Stopped.{noted-in-use, is-filled, R, run-is, never, told-used, Given, stops, given}
 use Rattle.walk.specs.Look.{only-reads, Looks}
 use Rattle.client.specs.Work as C
 
@@ -57,7 +57,7 @@ last-none : (z : TreeSizes) (m : ClientWord → ℕ) (a : Ans) → m writes-coun
 unfolding entered count-new versions-there any-at-last
 last-none z m a h = let l : m writes-count + 0 ≤ 48 = omega arith in let e : ltb 48 (m writes-count + 0) ≡ false = le-ltb 48 (m writes-count + 0) l in rw e
 
-module _ (z : TreeSizes) (m : ClientWord → ℕ) (wait : Waiting m) (u : List ℕ) (empty : getD u 0 0 ≡ 0) (s : Stop) (u′ : List ℕ) where
+module _ (z : TreeSizes) (m : ClientWord → ℕ) (wait : Waiting m) (u : List ℕ) (empty : getD u 0 0 ≡ 0) (s : Stop) (u′ : List ℕ) (kept : length u′ ≡ length u) where
   module _ (p : TreePlan) (e : reading z (waiting m) ≡ p) (h : Walks z m u p s u′) where
     tells : tell z m (R z m (wait .reads) .how) (R z m (wait .reads) .used) ≡ ended s (used-in u′) []
     tells =
@@ -67,33 +67,41 @@ module _ (z : TreeSizes) (m : ClientWord → ℕ) (wait : Waiting m) (u : List �
     used-are : used-in u′ ≡ C.walked z m .used
     used-are = sym (ap (λ (k : Told). k .used) tells) ∙ told-used z m (R z m (wait .reads) .how) (R z m (wait .reads) .used)
 
-    looks : Looks z m s u′
+    in-use : InUse u′
+    in-use = noted-in-use m u′ (h .noted)
+
+    fills : Filled u (C.walked z m .used) u′
+    fills = is-filled u (C.walked z m .used) u′ in-use used-are kept
+
+    looks : Looks z m s u u′
     unfolding worked
     looks = go (is-answer s) refl
       where
-        go : (b : Bool) → is-answer s ≡ b → Looks z m s u′
+        go : (b : Bool) → is-answer s ≡ b → Looks z m s u u′
         go false f =
             let q : s ≡ stop-of (worked z m) = stops z m s (R z m (wait .reads) .used) (used-in u′) [] (R z m (wait .reads) .how) tells f in
             record {
-              stopped = record { stop = q; used = used-are; in-use = noted-in-use m u′ (h .noted) };
+              stopped = record { stop = q; used = used-are; in-use = in-use };
+              filled = fills;
               none = λ a w k. never s (Answers (a .0) (a .1)) (q ∙ rw k) f refl;
             }
         go true f =
             let g : Given z m (R z m (wait .reads) .how) s [] = given z m s (R z m (wait .reads) .used) (used-in u′) [] (R z m (wait .reads) .how) tells f in
             let q : worked z m ≡ answers (g .answer) [] = ap (λ (e : End). C.judge z m e) (g .is) ∙ last-none z m (g .answer) (wait .writes) in
             record {
-              stopped = record { stop = g .stop ∙ rw q; used = used-are; in-use = noted-in-use m u′ (h .noted) };
+              stopped = record { stop = g .stop ∙ rw q; used = used-are; in-use = in-use };
+              filled = fills;
               none = λ a w k. let y : answers (g .answer) [] ≡ answers a w = sym q ∙ k in let v : [] ≡ w = cc in sym v;
             }
 
   module _ (op key : ℕ) (po : op ≡ m op-number) (pk : key ≡ m op-key) where
-    pub look-lookup : op ≡ 2 → Walks z m u (lookup-plan key) s u′ → Looks z m s u′
+    pub look-lookup : op ≡ 2 → Walks z m u (lookup-plan key) s u′ → Looks z m s u u′
     look-lookup e h = let q : m op-number ≡ 2 = sym po ∙ e in looks (lookup-plan key) (rw (q, pk)) h
 
-    pub look-next : op ≡ 4 → Walks z m u (near-plan true key) s u′ → Looks z m s u′
+    pub look-next : op ≡ 4 → Walks z m u (near-plan true key) s u′ → Looks z m s u u′
     look-next e h = let q : m op-number ≡ 4 = sym po ∙ e in looks (near-plan true key) (rw (q, pk)) h
 
-    pub look-previous : only-reads (m op-number) ≡ true → (op ≡ 2 → ⊥) → (op ≡ 4 → ⊥) → Walks z m u (near-plan false key) s u′ → Looks z m s u′
+    pub look-previous : only-reads (m op-number) ≡ true → (op ≡ 2 → ⊥) → (op ≡ 4 → ⊥) → Walks z m u (near-plan false key) s u′ → Looks z m s u u′
     look-previous r n₂ n₄ h = looks (near-plan false key) (rw (five (m op-number) r (λ q. n₂ (po ∙ q)) (λ q. n₄ (po ∙ q)), pk)) h
       where
         five : (n : ℕ) → only-reads n ≡ true → (n ≡ 2 → ⊥) → (n ≡ 4 → ⊥) → n ≡ 5

@@ -1,9 +1,10 @@
 -- How a walk stopped is how the run of its plan ends.
 use mathlib.Core.Path.{_≡_, refl, sym, _∙_, ap}
 use mathlib.Core.Bool.{Bool, true, false}
-use mathlib.Core.List.{List, []}
+use mathlib.Core.List.{List, [], _∷_, _++_}
 use Prim.Native.Nat.{ℕ, _-_, _≤_}
 use native.Mathlib.Omega.{arith}
+use lib.ListN.{length, take, drop, length-take, take-append-drop}
 use borrow.Author.Tests.{le-leb}
 use Rattle.operations.specs.Object.{meta, node, flag, Ask, object, vector, fetched, Ans, Writes}
 use Rattle.operations.specs.Slot.{TreeSizes}
@@ -16,17 +17,25 @@ use Rattle.client.specs.Sets.{count}
 use Rattle.client.specs.Items.{has}
 use Rattle.client.specs.Have.{broken}
 use Rattle.client.specs.Run.{End, lacks, aborts, gives, Ran}
-use Rattle.client.specs.Lent.{InUse}
+use Rattle.client.specs.Lent.{InUse, used-in}
 use Rattle.client.specs.Work.{waiting}
 use Rattle.walk.specs.Walk.{Told, is-answer, lack, room, tell, walked}
 use Rattle.walk.specs.Ask.{Noted}
 use Rattle.walk.specs.Laws.Begin.{walk-begins}
 use Rattle.walk.specs.Lookup.{ended}
-use Rattle.walk.specs.Stopped.{stop-of}
+use Rattle.walk.specs.Stopped.{stop-of, Filled}
 use Rattle.client.specs.Work as C
 
 pub noted-in-use : (m : ClientWord → ℕ) (u : List ℕ) → Noted m u → InUse u
 noted-in-use m u n = record { long = n .long; few = omega (arith, n .few); small = n .each }
+
+-- a list behind whose count enough is left
+pub is-filled : (u₀ items u : List ℕ) → InUse u → used-in u ≡ items → length u ≡ length u₀ → Filled u₀ items u
+unfolding used-in
+is-filled u₀ items [] f e k = absurd (omega (arith, f .long))
+is-filled u₀ items (c ∷ v) f e k =
+    let l : length items ≡ c = omega (arith, ap length e, length-take c v, f .long, f .few) in
+    record { rest = drop c v; is = rw (l, ← e) (ap (λ (r : List ℕ). c ∷ r) (sym (take-append-drop c v))); kept = k }
 
 -- ---- the walk is the client's run of the plan
 reads-are : (m : ClientWord → ℕ) → m reads-count ≤ 96 → count m Reads ≡ m reads-count

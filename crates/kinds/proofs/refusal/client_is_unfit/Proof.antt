@@ -1,4 +1,4 @@
-use Rattle.kinds.specs.Laws.Refusal.{sited-as, client-unfit}
+use Rattle.kinds.specs.Laws.Refusal.{client-unfit}
 use borrow.Author.Needs.{needs}
 use Rattle.kinds.proofs.refusal.client_is_unfit.Statement.{statement}
 use Rattle.kinds.proofs.refusal.client_is_unfit.Tie as tie
@@ -10,7 +10,6 @@ client-is-unfit-spec = tie.close (tie.spec
     (λ c. search needs)  -- sub-state-fits
     (λ c. search needs)  -- part-state-fits-start
     (λ c. search needs)  -- part-state-fits-end
-    (λ c κs. search needs)  -- kind-of-requires
-    (λ c κs. search (sited-as, client-unfit, needs))  -- state-fits-requires
+    (λ c κs. search (client-unfit, needs))  -- state-fits-requires
     (λ c. search (client-unfit, needs))  -- returns
     )

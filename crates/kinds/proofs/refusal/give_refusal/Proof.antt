@@ -1,0 +1,15 @@
+use Rattle.kinds.specs.Laws.Refusal.{field-exits}
+use borrow.Author.Needs.{needs}
+use Rattle.kinds.proofs.refusal.give_refusal.Statement.{statement}
+use Rattle.kinds.proofs.refusal.give_refusal.Tie as tie
+
+pub give-refusal-spec : {M : Type 1} → statement M
+give-refusal-spec = tie.close (tie.spec
+    (λ c κs. search needs)  -- server-refusal-requires
+    (λ c κs. search needs)  -- node-refusal-requires
+    (λ c κs. search needs)  -- first-of-requires
+    (λ c. search (field-exits, needs))  -- returns
+    (λ c. search (field-exits, needs))  -- returns-2
+    (λ c. search (field-exits, needs))  -- returns-3
+    (λ c. search (field-exits, needs))  -- returns-4
+    )
