@@ -19,8 +19,8 @@ as-item i = record {
   mark = i .mark;
   written = i .written;
   becomes = i .becomes;
-  read-fits = i .read-fits;
-  written-fits = i .written-fits;
+  read-fits = i .known;
+  written-fits = i .settled;
 }
 
 -- that by which an object is checked: its version, or a flag's value

@@ -67,7 +67,7 @@ fn fetch_fault(mem: &[u8], sizes: Sizes, client: usize, server: usize, item: Ite
     requires { ⌜ ObjectFor sizes (length (now mem)) client server (item .number) ⌝ }
     ensures { λ r. ⌜ r ≡ fetch-fault sizes (view (now (mem .entry))) client server (as-item item) ⌝ }
 {
-    if !item.read_fits {
+    if !item.known {
         return 10;
     }
     let object = numbered(item.number);

@@ -151,10 +151,10 @@ fn prepare_fault(
     requires { ⌜ ObjectFor sizes (length (now mem)) client server (item .number) ⌝ }
     ensures { λ r. ⌜ r ≡ prepare-fault sizes (view (now (mem .entry))) client server low (as-item item) ⌝ }
 {
-    if !item.read_fits {
+    if !item.known {
         return 10;
     }
-    if !item.written_fits {
+    if !item.settled {
         return 10;
     }
     if is_locked_at(item, low, server as u64) {

@@ -65,10 +65,10 @@ fn item_unlocks(mem: &[u8], sizes: Sizes, server: usize, lowest: u64, item: Item
     requires { ⌜ ObjectAt sizes (length (now mem)) server (item .number) ⌝ }
     ensures { λ r. ⌜ r ≡ unlock-item sizes (view (now (mem .entry))) lowest server (as-item item) ⌝ }
 {
-    if !item.read_fits {
+    if !item.known {
         return false;
     }
-    if !item.written_fits {
+    if !item.settled {
         return false;
     }
     if is_locked_at(item, lowest, server as u64) {

@@ -24,8 +24,8 @@ pub struct Item {
     pub mark: u64,
     pub written: bool,
     pub becomes: bool,
-    pub read_fits: bool,
-    pub written_fits: bool,
+    pub known: bool,
+    pub settled: bool,
 }
 
 // What the write set says of an object: is it there, as an inner node, with a kind in range?
@@ -81,7 +81,7 @@ pub fn item_of(part: &[u8], number: u64, node: Node) -> Item
 {
     let inner = is_inner(number, node);
     let mark = mark_of(number, node);
-    let read_fits = kind_fits(number, node);
+    let known = kind_fits(number, node);
     let w = as_written(part, number);
     Item {
         number,
@@ -89,8 +89,8 @@ pub fn item_of(part: &[u8], number: u64, node: Node) -> Item
         mark,
         written: w.there,
         becomes: w.inner,
-        read_fits,
-        written_fits: w.fits,
+        known,
+        settled: w.fits,
     }
 }
 

@@ -108,14 +108,14 @@ pub copy-small : (m : ClientWord → ℕ) (u : List ℕ) (n i : ℕ) → n ≡ c
 copy-small m u n i en f h l = f .small (i - n) (omega arith)
 
 module _ (z : Sizes) (w : List ℕ) (c s : ℕ) (i : code.Item) where
-  pub fault-unkind : not (i .read-fits) ≡ true → 10 ≡ fetch-fault z w c s (as-item i)
+  pub fault-unkind : not (i .known) ≡ true → 10 ≡ fetch-fault z w c s (as-item i)
   unfolding fetch-fault
-  fault-unkind t = sym (rw (not-true (i .read-fits) t))
+  fault-unkind t = sym (rw (not-true (i .known) t))
 
-  module _ (r : not (i .read-fits) ≡ false) (o : Object) (po : o ≡ object-of (i .number)) (b : Bool) (pb : b ≡ can-check s o (i .inner)) where
+  module _ (r : not (i .known) ≡ false) (o : Object) (po : o ≡ object-of (i .number)) (b : Bool) (pb : b ≡ can-check s o (i .inner)) where
     pub fault-elsewhere : not b ≡ true → 0 ≡ fetch-fault z w c s (as-item i)
     unfolding fetch-fault
-    fault-elsewhere t = sym (rw (not-false (i .read-fits) r, ← po, ← pb, not-true b t))
+    fault-elsewhere t = sym (rw (not-false (i .known) r, ← po, ← pb, not-true b t))
 
     module _ (t : not b ≡ false) (a : Bool) (pa : a ≡ lock-fits z (stored-in z w) s (i .number)) where
       can : can-check s (object-of (i .number)) (i .inner) ≡ true
@@ -123,11 +123,11 @@ module _ (z : Sizes) (w : List ℕ) (c s : ℕ) (i : code.Item) where
 
       pub fault-unlocked : not a ≡ true → 10 ≡ fetch-fault z w c s (as-item i)
       unfolding fetch-fault
-      fault-unlocked u = sym (rw (not-false (i .read-fits) r, can, ← pa, not-true a u))
+      fault-unlocked u = sym (rw (not-false (i .known) r, can, ← pa, not-true a u))
 
       pub fault-checked : (y : ℕ) → not a ≡ false → y ≡ finding-number (checked (object-of (i .number)) (i .inner) (i .mark) c Fetch (of-server z w s)) → y ≡ fetch-fault z w c s (as-item i)
       unfolding fetch-fault
-      fault-checked y u q = q ∙ sym (rw (not-false (i .read-fits) r, can, ← pa, not-false a u))
+      fault-checked y u q = q ∙ sym (rw (not-false (i .known) r, can, ← pa, not-false a u))
 
 pub ruleset fetch-items-exits = (used-lent, used-by, known-there, known-copy, copy-small, fault-unkind, fault-elsewhere, fault-unlocked, fault-checked)
 

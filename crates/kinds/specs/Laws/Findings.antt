@@ -118,23 +118,23 @@ module _ (z : Sizes) (w : List ℕ) (c s low : ℕ) (i : code.Item) where
         unfolding prepare-reason
         reason-none h = sym (rw (← pa, not-false a n, ← e, t, ← q, ← p, h))
 
-  pub fault-read : not (i .read-fits) ≡ true → 10 ≡ prepare-fault z w c s low (as-item i)
+  pub fault-read : not (i .known) ≡ true → 10 ≡ prepare-fault z w c s low (as-item i)
   unfolding prepare-fault
-  fault-read t = sym (rw (not-true (i .read-fits) t))
+  fault-read t = sym (rw (not-true (i .known) t))
 
-  module _ (r : not (i .read-fits) ≡ false) where
-    pub fault-written : not (i .written-fits) ≡ true → 10 ≡ prepare-fault z w c s low (as-item i)
+  module _ (r : not (i .known) ≡ false) where
+    pub fault-written : not (i .settled) ≡ true → 10 ≡ prepare-fault z w c s low (as-item i)
     unfolding prepare-fault
-    fault-written t = sym (rw (not-false (i .read-fits) r, not-true (i .written-fits) t))
+    fault-written t = sym (rw (not-false (i .known) r, not-true (i .settled) t))
 
-    module _ (n : not (i .written-fits) ≡ false) (b : Bool) (e : b ≡ locked-at low s (as-item i)) where
+    module _ (n : not (i .settled) ≡ false) (b : Bool) (e : b ≡ locked-at low s (as-item i)) where
       pub fault-locked : (y : ℕ) → b ≡ true → y ≡ prepare-reason z w c s low (as-item i) → y ≡ prepare-fault z w c s low (as-item i)
       unfolding prepare-fault
-      fault-locked y t h = h ∙ sym (rw (not-false (i .read-fits) r, not-false (i .written-fits) n, ← e, t))
+      fault-locked y t h = h ∙ sym (rw (← e, t, not-false (i .known) r, not-false (i .settled) n))
 
       pub fault-none : b ≡ false → 0 ≡ prepare-fault z w c s low (as-item i)
       unfolding prepare-fault
-      fault-none t = sym (rw (not-false (i .read-fits) r, not-false (i .written-fits) n, ← e, t))
+      fault-none t = sym (rw (← e, t, not-false (i .known) r, not-false (i .settled) n))
 
 pub ruleset finding-exits = (
   no-second,

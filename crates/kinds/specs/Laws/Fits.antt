@@ -70,23 +70,23 @@ pub lowest-by : (z : Sizes) (w : List ℕ) (c p r : ℕ) → p ≡ of-client z w
 lowest-by z w c p r e q = q ∙ rw e
 
 module _ (z : Sizes) (w : List ℕ) (low s : ℕ) (i : code.Item) where
-  pub read-unfit : not (i .read-fits) ≡ true → false ≡ unlock-item z w low s (as-item i)
+  pub read-unfit : not (i .known) ≡ true → false ≡ unlock-item z w low s (as-item i)
   unfolding unlock-item
-  read-unfit t = sym (rw (not-true (i .read-fits) t))
+  read-unfit t = sym (rw (not-true (i .known) t))
 
-  module _ (r : not (i .read-fits) ≡ false) where
-    pub written-unfit : not (i .written-fits) ≡ true → false ≡ unlock-item z w low s (as-item i)
+  module _ (r : not (i .known) ≡ false) where
+    pub written-unfit : not (i .settled) ≡ true → false ≡ unlock-item z w low s (as-item i)
     unfolding unlock-item
-    written-unfit t = sym (rw (not-false (i .read-fits) r, not-true (i .written-fits) t))
+    written-unfit t = sym (rw (not-false (i .known) r, not-true (i .settled) t))
 
-    module _ (t : not (i .written-fits) ≡ false) (b : Bool) (e : b ≡ locked-at low s (as-item i)) where
+    module _ (t : not (i .settled) ≡ false) (b : Bool) (e : b ≡ locked-at low s (as-item i)) where
       pub not-unlocked : b ≡ false → true ≡ unlock-item z w low s (as-item i)
       unfolding unlock-item
-      not-unlocked u = sym (rw (not-false (i .read-fits) r, not-false (i .written-fits) t, ← e, u))
+      not-unlocked u = sym (rw (← e, u, not-false (i .known) r, not-false (i .settled) t))
 
       pub unlocks : (d : Bool) → b ≡ true → d ≡ lock-fits z (stored-in z w) s (i .number) → d ≡ unlock-item z w low s (as-item i)
       unfolding unlock-item
-      unlocks d u h = h ∙ sym (rw (not-false (i .read-fits) r, not-false (i .written-fits) t, ← e, u))
+      unlocks d u h = h ∙ sym (rw (← e, u, not-false (i .known) r, not-false (i .settled) t))
 
 pub ruleset fit-exits = (known-item, count-lent, lowest-by, read-unfit, written-unfit, not-unlocked, unlocks)
 

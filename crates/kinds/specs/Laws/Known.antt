@@ -1,6 +1,6 @@
 -- What a rule's test of its client's own part says: the objects of its sets are objects of the store.
 use mathlib.Core.Path.{_≡_, sym, ap, _∙_}
-use mathlib.Core.Bool.{Bool, true, false, _&&_, not}
+use mathlib.Core.Bool.{Bool, true, false, _&&_, _||_, not}
 use mathlib.Core.List.{List}
 use Prim.Native.Nat.{ℕ, _-_, _*_, _<_}
 use borrow.Author.Tests.{not-false}
@@ -16,6 +16,7 @@ use Rattle.client.specs.Sets.{held, count, number-at}
 use Rattle.client.specs.Items.{all-below}
 use Rattle.client.specs.Fits.{said-count, servers-fit, number-fits, numbers-fit, op-fits, fit-to-work, fit-to-commit, fit-to-prepare, fit-to-abort, fit-to-unlock, writes-fit, fit-to-renew, fit-to-apply}
 use Rattle.client.specs.Laws.Ranges.{all-at}
+use Rattle.operations.specs.Slot.{TreeSizes}
 use Rattle.steps.specs.declared.sizes.Sizes.{Sizes}
 use Rattle.steps.specs.Whole.{Allowed, tree-sizes, client-at}
 use Rattle.steps.specs.Judge.{abort-fits}
@@ -67,7 +68,7 @@ module _ (z : Sizes) (a : Allowed z) (m : ClientWord → ℕ) where
       (all-at (number-fits (tree-sizes z) m s) (count m s) i (and-both (leb (said-count m s) (limit s)) (all-below (count m s) (number-fits (tree-sizes z) m s)) h .1) l)
 
 module _ (z : Sizes) (w : List ℕ) (c : ℕ) (a : Allowed z) where
-  abbrev t : _
+  abbrev t : TreeSizes
   t = tree-sizes z
 
   abbrev m : ClientWord → ℕ
@@ -114,6 +115,6 @@ module _ (z : Sizes) (w : List ℕ) (c : ℕ) (a : Allowed z) where
 
   pub abort-judged : (b : Bool) → b ≡ true → b ≡ abort-fits z (stored-in z w) c → Known z w c
   unfolding abort-fits fit-to-abort
-  abort-judged b t e = known-by (and-both (servers-fit m (z .servers) prepared) (numbers-fit _ m Reads) (and-both (fit-to-abort _ m) _ (sym e ∙ t) .0) .1)
+  abort-judged b q e = known-by (and-both (servers-fit m (z .servers) prepared) (numbers-fit t m Reads) (and-both (fit-to-abort t m) _ (sym e ∙ q) .0) .1)
 
 pub ruleset knows = (prepare-known, abort-known, apply-known, apply-storing, abort-judged)

@@ -1,5 +1,5 @@
 -- Laws of a fetch: what is lacking comes from its server, once what was read is checked there.
-use mathlib.Core.Path.{_≡_, refl, sym, ap, _∙_}
+use mathlib.Core.Path.{_≡_, refl, sym, ap, _∙_, subst}
 use mathlib.Core.Bool.{Bool, true, false, cond, not}
 use mathlib.Core.List.{List}
 use Prim.Native.Nat.{ℕ, _+_, _-_, _*_, _≤_, _<_}
@@ -83,6 +83,10 @@ module _ (z : Sizes) (w : List ℕ) (c : ℕ) (us : List ℕ) where
       go true true e = refl
       go true false true = refl
       go true false false = refl
+
+-- the server by its number
+pub checking-as : (z : Sizes) (b : List ℕ) (c s t : ℕ) (u : List ℕ) → s ≡ t → Checking z b c t u → Checking z b c s u
+checking-as z b c s t u e h = subst (λ (x : ℕ). Checking z b c x u) (sym e) h
 
 -- ---- what the code comes to
 module _ (z : Sizes) (w : List ℕ) (c : ℕ) (us : List ℕ) (a : O.Ask) (v : Verdict) (e : v ≡ verdict-of (items-found z w c (wanted (z .servers) c a .from) us)) where

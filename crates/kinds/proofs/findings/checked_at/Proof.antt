@@ -14,6 +14,6 @@ checked-at-spec = tie.close (tie.spec
     (λ c. search needs)  -- part-check-end
     (λ c. search needs)  -- cast-check
     (λ c κs. search (finding-exits, has-as, needs))  -- check-requires
-    (λ c κs. search needs)  -- reason-of-requires
+    (λ c κs. search needs)  -- number-of-requires
     (λ c. search (finding-exits, needs))  -- returns
     )

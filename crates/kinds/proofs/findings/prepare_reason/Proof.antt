@@ -3,14 +3,17 @@ use borrow.Author.Needs.{needs}
 use Rattle.kinds.proofs.findings.prepare_reason.Statement.{statement}
 use Rattle.kinds.proofs.findings.prepare_reason.Tie as tie
 
+
 pub prepare-reason-spec : {M : Type 1} → statement M
 prepare-reason-spec = tie.close (tie.spec
+    (λ c κs. search needs)  -- lock-fits-requires
+    (λ c. search (finding-exits, needs))  -- returns
     (λ c κs. search needs)  -- is-checked-at-requires
     (λ c κs. search needs)  -- use-of-requires
     (λ c κs. search needs)  -- checked-at-requires
-    (λ c. search (finding-exits, needs))  -- returns
+    (λ c. search (finding-exits, needs))  -- returns-2
     (λ c κs. search needs)  -- use-of-requires-2
     (λ c κs. search needs)  -- held-at-requires
-    (λ c. search (finding-exits, needs))  -- returns-2
     (λ c. search (finding-exits, needs))  -- returns-3
+    (λ c. search (finding-exits, needs))  -- returns-4
     )

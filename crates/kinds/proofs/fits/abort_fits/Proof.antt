@@ -1,33 +1,14 @@
+use Rattle.kinds.specs.Laws.Known.{knows}
+use Rattle.kinds.specs.Laws.Fits.{server-exits}
 use borrow.Author.Needs.{needs}
-use mathlib.Core.Bool.{true}
-use mathlib.Core.Path.{_≡_}
-use Prim.Native.Nat.{_-_, _≤_}
-use Rattle.memory.specs.Word.{view}
-use Rattle.client.specs.Items.{all-below}
-use Rattle.client.specs.Layout.{field}
-use Rattle.kinds.specs.Judge.{of-client}
-use Rattle.kinds.specs.Laws.Judge.{passing}
-use Rattle.kinds.specs.Fits.{unlocks-at}
-use Rattle.kinds.specs.Laws.Fits.{abort-all}
 use Rattle.kinds.proofs.fits.abort_fits.Statement.{statement}
 use Rattle.kinds.proofs.fits.abort_fits.Tie as tie
 
-abbrev Inv-loop : tie.InvT-loop
-Inv-loop mem sizes client prepared n s₀ s = (s ≤ n) × (n ≡ sizes .servers) × (prepared ≡ of-client sizes (view mem) client (field 6)) × (all-below s (unlocks-at sizes (view mem) client prepared) ≡ true)
-
-abbrev μ-loop : tie.MeasureT-loop
-μ-loop mem sizes client prepared n s₀ s = n - s
 
 pub abort-fits-spec : {M : Type 1} → statement M
 abort-fits-spec = tie.close (tie.spec
-    Inv-loop
-    μ-loop
-    (λ c κs. search needs)  -- field-of-requires
-    (λ c. (search needs, search needs, search needs, search (passing, needs)))  -- loop-holds
-    (λ c κs. search needs)  -- server-unlocks-requires
-    (λ c. search needs)  -- add-s
-    (λ c. search needs)  -- loop-less
-    (λ c. (search needs, search needs, search needs, search (passing, needs)))  -- loop-again
-    (λ c. search (abort-all, passing, needs))  -- returns
-    (λ c. search (abort-all, passing, needs))  -- returns-2
+    (λ c κs. search needs)  -- fit-to-abort-requires
+    (λ c. search (server-exits, needs))  -- returns
+    (λ c κs. search (knows, needs))  -- servers-unlock-requires
+    (λ c. search (server-exits, needs))  -- returns-2
     )

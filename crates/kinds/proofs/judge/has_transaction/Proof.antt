@@ -1,10 +1,10 @@
 use Rattle.kinds.specs.Laws.Judge.{judge-exits}
 use borrow.Author.Needs.{needs}
-use Rattle.kinds.proofs.judge.commits.Statement.{statement}
-use Rattle.kinds.proofs.judge.commits.Tie as tie
+use Rattle.kinds.proofs.judge.has_transaction.Statement.{statement}
+use Rattle.kinds.proofs.judge.has_transaction.Tie as tie
 
-pub commits-spec : {M : Type 1} → statement M
-commits-spec = tie.close (tie.spec
+pub has-transaction-spec : {M : Type 1} → statement M
+has-transaction-spec = tie.close (tie.spec
     (λ c κs. search needs)  -- field-of-requires
     (λ c κs. search needs)  -- between-requires
     (λ c. search (judge-exits, needs))  -- returns
