@@ -6,8 +6,8 @@ use mathlib.Core.Logic.{_⊎_, inl, inr}
 use Prim.Native.Nat.{ℕ, _<_}
 use native.Mathlib.Decide.{ℕ-discrete}
 use native.Mathlib.Omega.{arith}
-use borrow.Author.Tests.{eqb-true, eqb-false, eq-eqb, lt-leb}
-use lib.Dec.{eqb, leb}
+use borrow.Author.Tests.{eq-eqb, lt-leb}
+use lib.Dec.{eqb}
 use Rattle.base.specs.Laws.Test.{bool-cases}
 use Rattle.memory.specs.Bit.{bit}
 use Rattle.layout.specs.Space.{changed}
@@ -22,13 +22,10 @@ use Rattle.steps.specs.declared.sizes.Sizes.{Sizes}
 use Rattle.steps.specs.declared.step.Step.{Step}
 use Rattle.steps.specs.declared.step.Kind.{Kind}
 use Rattle.steps.specs.declared.step.Kind.the-variants.{Apply}
-use Rattle.steps.specs.declared.outcome.Outcome.{Outcome}
 use Rattle.steps.specs.declared.outcome.Outcome.the-variants.{Refused, Applied, Committed}
 use Rattle.steps.specs.Whole.{Address, whole}
 use Rattle.steps.specs.Laws.Stores.{client-of}
 use Rattle.steps.specs.Refusal.{first, state-fits, kind-of, refusal}
-use Rattle.steps.specs.Passed.{Passed}
-use Rattle.steps.specs.Laws.Passed.{passed}
 use Rattle.steps.specs.Steps.{Did, did, refuse, if-fit, in-client, applying, all-applied, applied-at, apply-fits, apply, by-kind, step}
 use Rattle.steps.specs.Run.{after}
 use Rattle.steps.specs.Taken.{Taken, steps-of, Leads}
