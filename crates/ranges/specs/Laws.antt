@@ -8,8 +8,10 @@ pub mod Lists
 pub mod Servers
 pub mod Stored
 pub mod Checks
--- a client's part: the sets, and what an operation writes to them; the fields; the copies, and their renewal; all of them, by the step
+-- a client's part: the sets, and what is judged of them; what an operation writes to them; the fields; the copies, and their renewal; all of them, by
+-- the step
 pub mod Sets
+pub mod Judged
 pub mod Entries
 pub mod Fields
 pub mod Copies

@@ -22,7 +22,7 @@ use Rattle.server.specs.Layout.{places}
 use Rattle.server.specs.Object.{object-of, lock-of}
 use Rattle.client.specs.Layout.{ClientWord, client-words, phase, prepared}
 use Rattle.client.specs.Record.{number}
-use Rattle.client.specs.Fits.{client-fits}
+use Rattle.client.specs.Laws.Ranges.{client-fits}
 use Rattle.client.specs.Drops.{drop-used}
 use Rattle.client.specs.Life.{reset, abort-part}
 use Rattle.steps.specs.declared.sizes.Sizes.{Sizes}

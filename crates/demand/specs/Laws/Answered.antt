@@ -24,8 +24,7 @@ use Rattle.protocol.specs.Laws.Hints.{Fits, objects, walk-hinted}
 use Rattle.client.specs.Layout.{ClientWord, client-words, item, vector-word, phase, op-number, participants, prepared, applied, reads-count, writes-count, meta-copied, meta-root, meta-version}
 use Rattle.client.specs.Commit.{is-at}
 use Rattle.client.specs.Items.{has}
-use Rattle.client.specs.Fits.{client-fits}
-use Rattle.client.specs.Laws.Fits.{fits-field}
+use Rattle.client.specs.Laws.Ranges.{client-fits, fits-field}
 use Rattle.client.specs.Record.{number}
 use Rattle.client.specs.Have.{source, have, broken}
 use Rattle.client.specs.Work.{new, waiting, walked, worked}
@@ -71,12 +70,14 @@ module _ (z : TreeSizes) (u : ClientWord → ℕ) (a : Ans) (w : Writes) where
   unfolding worked the-answer
   answered-as e = go (walked z u .how) refl (ap the-answer e)
     where
-      last : (b : Ans) (v : Writes) → walked z u .how ≡ Run.gives b v → (f m l : Bool) → all-fit? v v ≡ f → ltb 48 (Work.writes-after u v) ≡ m
-          → Work.any-at-last u (entered v) ≡ l → the-answer (cond (not f) (Work.aborted 3) (cond m (Work.aborted 4) (cond l (Work.aborted 8) (Work.answers b v)))) ≡ some (a, w) → Answers
-      last b v p false m l f n r q = absurd (Option·none-ne-some (a, w) q)
-      last b v p true true l f n r q = absurd (Option·none-ne-some (a, w) q)
-      last b v p true false true f n r q = absurd (Option·none-ne-some (a, w) q)
-      last b v p true false false f n r q =
+      last : (b : Ans) (v : Writes) → walked z u .how ≡ Run.gives b v → (f m t l : Bool) → all-fit? v v ≡ f → ltb 48 (Work.writes-after u v) ≡ m
+          → Work.any-at-last u (entered v) ≡ l
+          → the-answer (cond (not f) (Work.aborted 3) (cond m (Work.aborted 4) (cond t Work.refused (cond l (Work.aborted 8) (Work.answers b v))))) ≡ some (a, w) → Answers
+      last b v p false m t l f n r q = absurd (Option·none-ne-some (a, w) q)
+      last b v p true true t l f n r q = absurd (Option·none-ne-some (a, w) q)
+      last b v p true false true l f n r q = absurd (Option·none-ne-some (a, w) q)
+      last b v p true false false true f n r q = absurd (Option·none-ne-some (a, w) q)
+      last b v p true false false false f n r q =
           let same = Option·some-injective {A = Ans × Writes} (b, v) (a, w) q in
           let ws : v ≡ w = ap (λ (r : Ans × Writes). r .1) same in
           record {
@@ -94,7 +95,7 @@ module _ (z : TreeSizes) (u : ClientWord → ℕ) (a : Ans) (w : Writes) where
           lacks true = refl
           lacks false = refl
       go (Run.gives b v) p q =
-          last b v p (all-fit? v v) (ltb 48 (Work.writes-after u v)) (Work.any-at-last u (entered v)) refl refl refl q
+          last b v p (all-fit? v v) (ltb 48 (Work.writes-after u v)) (not (Work.versions-there u (entered v))) (Work.any-at-last u (entered v)) refl refl refl q
 
 -- ---- a snapshot of what is at hand
 is-had : Option Val → Bool

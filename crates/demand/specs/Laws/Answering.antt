@@ -16,7 +16,7 @@ use Rattle.protocol.specs.State.{opened, is-decided}
 use Rattle.protocol.specs.Laws.Hints.{objects}
 use Rattle.protocol.specs.Meaning.{Shown, shown-of}
 use Rattle.client.specs.Layout.{ClientWord, phase, op-number}
-use Rattle.client.specs.Fits.{client-fits}
+use Rattle.client.specs.Laws.Ranges.{client-fits}
 use Rattle.client.specs.Work.{waiting, walked, worked}
 use Rattle.client.specs.Answered.{answered}
 use Rattle.steps.specs.Whole.{Address, client, whole}

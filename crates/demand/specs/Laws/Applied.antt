@@ -24,7 +24,7 @@ use Rattle.client.specs.Layout.{ClientWord, client-words, phase, participants, 
 use Rattle.client.specs.Record.{number, value-of}
 use Rattle.client.specs.Commit.{is-at}
 use Rattle.client.specs.Sets.{count, record-at, number-at, find}
-use Rattle.client.specs.Fits.{client-fits}
+use Rattle.client.specs.Laws.Ranges.{client-fits}
 use Rattle.client.specs.Participants.{lowest-of}
 use Rattle.client.specs.Drops.{version-of, next-version}
 use Rattle.client.specs.Course.{noted}

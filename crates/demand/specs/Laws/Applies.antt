@@ -1,10 +1,11 @@
 -- APPLY as a step: what it stores is applied, and the last one ends the transaction.
 use mathlib.Core.Path.{_≡_, refl, ap, ap₂, sym, _∙_, subst, fun-ext}
-use mathlib.Core.Bool.{Bool, true, false, cond, _||_}
+use mathlib.Core.Bool.{Bool, true, false, cond, _&&_, _||_, not, false≢true}
 use mathlib.Core.List.{List, _++_, append-assoc}
 use Prim.Native.Nat.{ℕ, suc, _≤_, Fin}
 use native.Mathlib.Omega.{arith}
-use lib.Dec.{ltb}
+use lib.Dec.{eqb, leb, ltb}
+use Rattle.base.specs.Test.{and-both}
 use Rattle.memory.specs.Bit.{bit}
 use Rattle.layout.specs.Space.{Put, changed}
 use Rattle.layout.specs.Step.{andThen}
@@ -12,19 +13,19 @@ use Rattle.layout.specs.Laws.Step.{changed-append}
 use Rattle.layout.specs.Part.{over}
 use Rattle.nodes.specs.declared.found.Found.{Found}
 use Rattle.nodes.specs.declared.found.Found.the-variants.{At, Absent}
-use Rattle.operations.specs.Slot.{Allowed}
+use Rattle.operations.specs.Slot.{TreeSizes, Allowed}
 use Rattle.client.specs.declared.part.Set.the-variants.{Reads, Writes}
-use Rattle.client.specs.Layout.{ClientWord, client-words, phase, participants, applied}
-use Rattle.client.specs.Record.{last-version}
-use Rattle.client.specs.Sets.{number-at, find}
-use Rattle.client.specs.Items.{all-below}
+use Rattle.client.specs.Layout.{ClientWord, client-words, phase, participants, applied, lost}
+use Rattle.client.specs.Record.{last-version, whole-in-range}
+use Rattle.client.specs.Sets.{count, record-at, number-at, find}
+use Rattle.client.specs.Items.{all-below, inner}
+use Rattle.client.specs.Fits.{young, servers-fit, numbers-fit, fit-to-unlock, writes-fit, inner-renewal-fits, renewal-fits, fit-to-renew, fit-to-apply}
 use Rattle.client.specs.Drops.{version-of}
 use Rattle.client.specs.Renew.{finish}
 use Rattle.client.specs.Course.{noted}
 use Rattle.steps.specs.declared.sizes.Sizes.{Sizes}
 use Rattle.steps.specs.Whole.{Address, client, whole}
 use Rattle.steps.specs.Laws.Stores.{client-of}
-use Rattle.steps.specs.Judge.{versions-fit}
 use Rattle.steps.specs.Steps.{Did, did, in-client, covers, applying, all-applied, applied-at}
 use Rattle.steps.specs.declared.outcome.Outcome.the-variants.{Applied, Committed}
 use Rattle.demand.specs.Ledger.{Ledger}
@@ -33,8 +34,10 @@ use Rattle.demand.specs.Laws.Frame.{last, read-after, Only}
 use Rattle.demand.specs.Laws.Shows.{T}
 use Rattle.demand.specs.Laws.Slots.{Same-sets, count-frame, number-frame, same-read, record-frame}
 use Rattle.demand.specs.Laws.Course.{else-same}
+use Rattle.demand.specs.Laws.Held.{all-at, every-below}
 use Rattle.demand.specs.Laws.Servers.{both-client}
 use Rattle.demand.specs.Laws.Turns.{store, Good, Explained, turns-good}
+use Rattle.demand.specs.Laws.Renewed.{renews-young}
 use Rattle.demand.specs.Laws.Ended.{finish-turns}
 use Rattle.demand.specs.Laws.Due.{m₁, M₁, apply-good}
 use Rattle.protocol.specs.Machine as P
@@ -49,16 +52,45 @@ module _ (u v : ClientWord → ℕ) (S : Same-sets u v) where
   version-same : (x : ℕ) → version-of v (find v Reads x) ≡ version-of u (find u Reads x)
   version-same x = ap (version-of v) (same-read u v 0 0 0 S x) ∙ version-frame (find u Reads x)
 
-pub versions-kept : (k j slots : ℕ) (m m′ : Address → ℕ) (c : ℕ) → Same-sets (client-of m c) (client-of m′ c)
-    → versions-fit (store k j slots) m c ≡ true → versions-fit (store k j slots) m′ c ≡ true
-unfolding versions-fit
-versions-kept k j slots m m′ c S h =
-    let u = client-of m c in
-    let v = client-of m′ c in
-    ap₂ all-below (count-frame u v Writes (S .reads) (S .writes))
-    (fun-ext (λ i. ap₂ (λ (x n : ℕ). ltb 8192 x || ltb n last-version) (number-frame 0 0 0 u v S Writes i (S .items-written i 0))
-    (ap (λ (x : ℕ). version-of v (find v Reads x)) (number-frame 0 0 0 u v S Writes i (S .items-written i 0)) ∙ version-same u v S (number-at u Writes i))))
-    ∙ h
+  pub young-kept : v lost ≡ u lost → renews-young u ≡ true → renews-young v ≡ true
+  unfolding renews-young young
+  young-kept l h =
+      ap₂ (λ (x : ℕ) (b : Bool). eqb x 1 || b) l (ap₂ all-below (count-frame u v Writes (S .reads) (S .writes)) (fun-ext same)) ∙ h
+    where
+      one : (ClientWord → ℕ) → ℕ → Bool
+      one m i = not (inner (number-at m Writes i) (record-at m Writes i)) || young m (number-at m Writes i)
+
+      same : (i : ℕ) → one v i ≡ one u i
+      same i =
+          let n = number-frame 0 0 0 u v S Writes i (S .items-written i 0) in
+          let r = record-frame u v Writes i (S .items-written i) in
+          let old = ap (λ (x : ℕ). version-of v (find v Reads x)) n ∙ version-same (number-at u Writes i) in
+          λ t. not (inner (n t) (r t)) || (ltb 8192 (n t) || ltb (old t) last-version)
+
+-- what an apply that ends the transaction reads of them is in range
+pub fit-young : (z : TreeSizes) (u : ClientWord → ℕ) (s : ℕ) → fit-to-apply z u s true ≡ true → renews-young u ≡ true
+unfolding fit-to-apply fit-to-renew renews-young renewal-fits inner-renewal-fits young
+fit-young z u s h = go (eqb (u lost) 1) renews
+  where
+    renews : (eqb (u lost) 1 || all-below (count u Writes) (renewal-fits z u)) ≡ true
+    renews =
+        and-both (leb (u lost) 1) (eqb (u lost) 1 || all-below (count u Writes) (renewal-fits z u))
+        (and-both (writes-fit z u s) (fit-to-renew z u) (and-both (fit-to-unlock z u) (writes-fit z u s && fit-to-renew z u)
+        (and-both (servers-fit u (z .servers) applied && numbers-fit z u Reads) (fit-to-unlock z u && (writes-fit z u s && fit-to-renew z u)) h .1) .1) .1) .1
+
+    one : (i : ℕ) → renewal-fits z u i ≡ true → (not (inner (number-at u Writes i) (record-at u Writes i)) || young u (number-at u Writes i)) ≡ true
+    one i = by (ltb 8192 (number-at u Writes i)) (inner (number-at u Writes i) (record-at u Writes i)) (whole-in-range z (number-at u Writes i) (record-at u Writes i)) _ _
+      where
+        by : (f b w y g : Bool) → cond f g (not b || (w && (f || y))) ≡ true → (not b || (f || y)) ≡ true
+        by f false w y g h = refl
+        by true true w y g h = refl
+        by false true true y g h = h
+        by false true false y g h = absurd (false≢true h)
+
+    go : (b : Bool) → (b || all-below (count u Writes) (renewal-fits z u)) ≡ true
+        → (b || all-below (count u Writes) (λ i. not (inner (number-at u Writes i) (record-at u Writes i)) || young u (number-at u Writes i))) ≡ true
+    go true h = refl
+    go false h = every-below (count u Writes) _ (λ i l. one i (all-at (count u Writes) (renewal-fits z u) h i l))
 
 -- what comes of an apply
 pub applied-outcome : (z : Sizes) (m : Address → ℕ) (c s : ℕ) → applied-at z m c s .outcome ≡ cond (all-applied z m c s) Committed (Applied s)
@@ -85,7 +117,7 @@ module _ (k j slots : ℕ) where
       ap (λ (l : List (Put Address)). changed whole m (ps ++ l)) (over-append (client c) (noted applied s u) (finish v))
       ∙ ap (changed whole m) (sym (append-assoc ps qs (over (client c) (finish v)))) ∙ changed-append whole (ps ++ qs) (over (client c) (finish v)) m
 
-  module _ (al : Allowed (sizes k j slots)) (few : suc j ≤ 16) (m : Address → ℕ) (L : Ledger) (M : P.Machine (T k j slots)) (c : Fin (suc j)) (G : Good k j slots m L M) (s : Fin (suc k)) (now : client-of m (c .0) phase ≡ 3) (new : bit (client-of m (c .0) applied) (s .0) ≡ false) (versions : versions-fit (store k j slots) m (c .0) ≡ true) where
+  module _ (al : Allowed (sizes k j slots)) (few : suc j ≤ 16) (m : Address → ℕ) (L : Ledger) (M : P.Machine (T k j slots)) (c : Fin (suc j)) (G : Good k j slots m L M) (s : Fin (suc k)) (now : client-of m (c .0) phase ≡ 3) (new : bit (client-of m (c .0) applied) (s .0) ≡ false) (early : all-applied (store k j slots) m (c .0) (s .0) ≡ true → renews-young (client-of m (c .0)) ≡ true) where
     abbrev u : ClientWord → ℕ
     u = client-of m (c .0)
 
@@ -116,7 +148,7 @@ module _ (k j slots : ℕ) where
         turns-good k j slots n₁ _ L L _ c good₁
         (finish-turns k j slots al n₁ L _ c (good₁ .shown) (good₁ .decided-fits c (omega (arith, g))) g
         (ap₂ (covers (suc k)) (word participants) (word applied) ∙ all)
-        (versions-kept k j slots m n₁ (c .0) same-sets versions))
+        (young-kept u (client-of n₁ (c .0)) same-sets (word lost) (early all)))
 
     stores-end : changed whole m (applying (store k j slots) m (c .0) (s .0) ++ in-client (store k j slots) m (c .0) (andThen client-words (noted applied (s .0)) finish))
         ≡ changed whole n₁ (over (client (c .0)) (finish (client-of n₁ (c .0))))

@@ -2,9 +2,9 @@
 use mathlib.Core.Path.{_≡_, refl, ap, sym, _∙_, subst}
 use mathlib.Core.Bool.{Bool, true, false, cond, false≢true}
 use mathlib.Core.Option.{Option, none, some, Option·none-ne-some, Option·some-injective}
-use Prim.Native.Nat.{ℕ, suc, _+_, _/_, _%_}
+use Prim.Native.Nat.{ℕ, suc, _+_, _/_, _%_, _≤_, _<_}
 use native.Mathlib.Omega.{arith}
-use borrow.Author.Tests.{eqb-true}
+use borrow.Author.Tests.{eqb-false}
 use lib.Dec.{eqb}
 use Rattle.base.specs.Test.{and-both}
 use Rattle.memory.specs.Bit.{bit, digit}
@@ -21,12 +21,14 @@ use Rattle.client.specs.Record.{number, value-of, single, object-in-store, reco
 use Rattle.client.specs.Sets.{record-at, number-at, count, find}
 use Rattle.client.specs.Commit.{is-at}
 use Rattle.client.specs.Items.{has}
-use Rattle.client.specs.Fits.{client-fits}
-use Rattle.client.specs.Have.{here, copy, lacking, is-found, copied-meta, copied-item, copied-node, copied-flag, copied, or-copied, or-read, source, usable, have}
+use Rattle.client.specs.Laws.Ranges.{client-fits, fits-field}
+use Rattle.client.specs.Have.{here, copy, lacking, is-found, copied-meta, copied-item, copied-node, copied-flag, copied, or-copied, or-read, source, look-fits, usable, have}
 use Rattle.demand.specs.Laws.Store.{sizes}
 use Rattle.demand.specs.Laws.Numbers.{by-object, by-number-of}
 use Rattle.demand.specs.Laws.Shows.{T, In-store, item-from, item-of, Slot-shown, Copies-shown}
 use Rattle.demand.specs.Laws.Held.{found-at, has-at, at-has, written-in}
+use Rattle.demand.specs.Laws.Members.{name-server}
+use Rattle.demand.specs.Laws.InRange.{fits-vector}
 use Rattle.nodes.specs.Name as N
 use Rattle.protocol.specs.Machine as P
 use Rattle.protocol.specs.Laws.Work as W
@@ -40,20 +42,24 @@ flag-back : (b : Bool) → eqb (digit b) 1 ≡ b
 flag-back true = refl
 flag-back false = refl
 
+-- a word in range that says whether there is a copy: it is 1 where it is not 0
+there-is-one : (w : ℕ) → eqb w 0 ≡ false → w ≤ 1 → w ≡ 1
+there-is-one w e l = omega (arith, eqb-false w 0 e, l)
+
 -- ---- copies: one that is stored is the machine's
-module _ (k j slots : ℕ) (al : Allowed (sizes k j slots)) (u : ClientWord → ℕ) (f : Obj → Option (P.Copy (T k j slots))) (copies : Copies-shown k j slots u f) where
+module _ (k j slots : ℕ) (al : Allowed (sizes k j slots)) (u : ClientWord → ℕ) (f : Obj → Option (P.Copy (T k j slots))) (copies : Copies-shown k j slots u f) (fit : client-fits (sizes k j slots) u ≡ true) where
   -- the machine has what a lookup among the copies says
   abbrev Same-copy : Obj → Look → Type 0
   Same-copy o l = f o ≡ S.copy k j slots u (value-of o (l .node)) (l .node .version)
 
   meta-there : Is-there (copied-meta u) → Same-copy meta (copied-meta u)
   unfolding copied-meta single made pad
-  meta-there b = go (eqb (u meta-copied) 1) refl b
+  meta-there b = go (eqb (u meta-copied) 0) refl b
     where
-      go : (t : Bool) → eqb (u meta-copied) 1 ≡ t → Is-there (cond t (copy (single (u meta-version) (u meta-root))) lacking)
-          → Same-copy meta (cond t (copy (single (u meta-version) (u meta-root))) lacking)
-      go true e b = copies .meta-as (eqb-true (u meta-copied) 1 e)
-      go false e b = absurd (false≢true b)
+      go : (t : Bool) → eqb (u meta-copied) 0 ≡ t → Is-there (cond t lacking (copy (single (u meta-version) (u meta-root))))
+          → Same-copy meta (cond t lacking (copy (single (u meta-version) (u meta-root))))
+      go true e b = absurd (false≢true b)
+      go false e b = copies .meta-as (there-is-one (u meta-copied) e (fits-field (sizes k j slots) u fit 12 (omega arith)))
 
   node-there : (n : ℕ) → Is-there (copied-node u (number (node n))) → Same-copy (node n) (copied-node u (number (node n)))
   unfolding copied-node count number-at
@@ -65,20 +71,23 @@ module _ (k j slots : ℕ) (al : Allowed (sizes k j slots)) (u : ClientWord → 
 
   flag-there : (n : ℕ) → In-store k j slots (flag n) → Is-there (copied-flag u n) → Same-copy (flag n) (copied-flag u n)
   unfolding copied-flag single made pad
-  flag-there n h b = go (eqb (u (vector-word (N.server-of n) 0)) 1) refl b
+  flag-there n h b = go (eqb (u (vector-word (N.server-of n) 0)) 0) refl b
     where
       w : ℕ
       w = u (vector-word (N.server-of n) (1 + N.slot-of n / 64))
 
-      go : (t : Bool) → eqb (u (vector-word (N.server-of n) 0)) 1 ≡ t
-          → Is-there (cond t (copy (single 0 (digit (bit w (N.slot-of n % 64))))) lacking)
-          → Same-copy (flag n) (cond t (copy (single 0 (digit (bit w (N.slot-of n % 64))))) lacking)
-      go true e b =
+      near : N.server-of n < 8
+      near = omega (arith, name-server k j slots n h, al .0)
+
+      go : (t : Bool) → eqb (u (vector-word (N.server-of n) 0)) 0 ≡ t
+          → Is-there (cond t lacking (copy (single 0 (digit (bit w (N.slot-of n % 64))))))
+          → Same-copy (flag n) (cond t lacking (copy (single 0 (digit (bit w (N.slot-of n % 64))))))
+      go true e b = absurd (false≢true b)
+      go false e b =
           let next : suc (N.slot-of n / 64) ≡ 1 + N.slot-of n / 64 = omega arith in
-          copies .flag-as n h (eqb-true (u (vector-word (N.server-of n) 0)) 1 e)
+          copies .flag-as n h (there-is-one (u (vector-word (N.server-of n) 0)) e (fits-vector (sizes k j slots) u fit (N.server-of n) near))
           ∙ ap (λ (i : ℕ). S.copy k j slots u (taken (bit (u (vector-word (N.server-of n) i)) (N.slot-of n % 64))) 0) next
           ∙ ap (λ (t : Bool). S.copy k j slots u (taken t) 0) (sym (flag-back (bit w (N.slot-of n % 64))))
-      go false e b = absurd (false≢true b)
 
   pub copy-there : (o : Obj) → In-store k j slots o → Is-there (copied u (number o)) → Same-copy o (copied u (number o))
   unfolding copied
@@ -93,7 +102,7 @@ module _ (k j slots : ℕ) (al : Allowed (sizes k j slots)) (u : ClientWord → 
       by (flag n) h b = flag-there n h b
 
   -- ---- "An object is read from the write set, else the read set, else the client's copies"
-  module _ (fit : client-fits (sizes k j slots) u ≡ true) (y : P.Slot (T k j slots)) (shown : Slot-shown k j slots u y) where
+  module _ (y : P.Slot (T k j slots)) (shown : Slot-shown k j slots u y) where
     -- what is written has been read
     pub written-read : (o : Obj) → has u Writes (number o) ≡ true → has u Reads (number o) ≡ true
     written-read o h =
@@ -148,7 +157,7 @@ module _ (k j slots : ℕ) (al : Allowed (sizes k j slots)) (u : ClientWord → 
       pub value-as : v ≡ value-of o (source u (number o) .node)
 
     pub had : (o : Obj) (v : Val) → have (sizes k j slots) u (object o) ≡ some v → Had o v
-    unfolding have
+    unfolding have look-fits
     had o v e = go (object-in-store (sizes k j slots) o) refl (usable (sizes k j slots) u (number o) (source u (number o))) refl e
       where
         l : Look
@@ -159,8 +168,8 @@ module _ (k j slots : ℕ) (al : Allowed (sizes k j slots)) (u : ClientWord → 
         go false p b q e = absurd (Option·none-ne-some v e)
         go true p false q e = absurd (Option·none-ne-some v e)
         go true p true q e =
-            let h = and-both (is-found (l .how)) (record-in-range (sizes k j slots) (number o) (l .node)) q in
-            record { in-store = p; found = h .0; fitting = h .1; value-as = sym (Option·some-injective (value-of o (l .node)) v e) }
+            let h = and-both (is-found (l .how)) (look-fits (sizes k j slots) u (number o) l) q in
+            record { in-store = p; found = h .0; fitting = and-both (record-in-range (sizes k j slots) (number o) (l .node)) _ (h .1) .0; value-as = sym (Option·some-injective (value-of o (l .node)) v e) }
 
     -- AT HAND
     pub have-there : (o : Obj) (v : Val) → have (sizes k j slots) u (object o) ≡ some v → W.have (T k j slots) f (y .items) o ≡ some v

@@ -1,6 +1,6 @@
 -- EVERY STEP, of whatever kind, refused ones included, leads from a good state to a good one.
 use mathlib.Core.Path.{_≡_, refl, ap, sym, _∙_, subst}
-use mathlib.Core.Bool.{Bool, true, false, cond, _||_, not, false≢true}
+use mathlib.Core.Bool.{Bool, true, false, cond, _&&_, _||_, not, false≢true}
 use mathlib.Core.List.{List, [], map}
 use mathlib.Core.Logic.{_⊎_, inl, inr}
 use Prim.Native.Nat.{ℕ, zero, suc, _≤_, _<_, Fin}
@@ -16,8 +16,8 @@ use Rattle.layout.specs.Part.{over}
 use Rattle.operations.specs.Map.{two-to-64}
 use Rattle.operations.specs.Slot.{Allowed}
 use Rattle.client.specs.Layout.{ClientWord, phase, op-number, participants, prepared}
-use Rattle.client.specs.Fits.{client-fits}
-use Rattle.client.specs.Laws.Fits.{fits-field}
+use Rattle.client.specs.Fits.{fit-to-work, fit-to-commit, fit-to-prepare, fit-to-apply}
+use Rattle.client.specs.Laws.Ranges.{client-fits, fits-field}
 use Rattle.client.specs.Participants.{participants-of}
 use Rattle.client.specs.Life.{lose-part}
 use Rattle.client.specs.Work.{Worked, refused, fetches, aborted, answers, walked, worked, op-of}
@@ -30,8 +30,8 @@ use Rattle.steps.specs.Laws.Stores.{client-of, client-changed, client-else}
 use Rattle.steps.specs.Refusal.{kind-of, state-fits, refusal}
 use Rattle.steps.specs.Passed.{Passed}
 use Rattle.steps.specs.Laws.Passed.{passed}
-use Rattle.steps.specs.Judge.{abort-fits, unlock-fits, versions-fit, prepare-fits}
-use Rattle.steps.specs.Steps.{Did, did, refuse, if-fit}
+use Rattle.steps.specs.Judge.{abort-fits, unlock-fits}
+use Rattle.steps.specs.Steps.{Did, did, refuse, if-fit, by-finding}
 use Rattle.demand.specs.Ledger.{Ledger, clears, notes-op, notes-decision, note, note-done, note-decided}
 use Rattle.demand.specs.Laws.Store.{sizes}
 use Rattle.demand.specs.Laws.Shows.{T, Related}
@@ -43,7 +43,7 @@ use Rattle.demand.specs.Laws.Answering.{answer-turns}
 use Rattle.demand.specs.Laws.Fetches.{fetch-turns}
 use Rattle.demand.specs.Laws.Undecided.{either, undecided-word, given-legal, begin-turns, give-turns, forget-turns, commit-turns, end-turns, lost-turns}
 use Rattle.demand.specs.Laws.Settled.{unfinished, due-now}
-use Rattle.demand.specs.Laws.Applies.{versions-kept, applied-outcome, apply-explained}
+use Rattle.demand.specs.Laws.Applies.{young-kept, fit-young, applied-outcome, apply-explained}
 use Rattle.protocol.specs.Machine as P
 use Rattle.steps.specs.Uses as U
 use Rattle.steps.specs.Steps as S
@@ -65,6 +65,10 @@ module _ (k j slots : ℕ) (al : Allowed (sizes k j slots)) (few : suc j ≤ 16)
   if-after : (b : Bool) (d : Did) → (b ≡ true → After d) → After (if-fit b d)
   if-after true d f = f refl
   if-after false d f = refused-after 10
+
+  finding-after : (y : ℕ) (d : Did) (aborts : ℕ → Did) → (y ≡ 0 → After d) → After (aborts y) → After (by-finding y d aborts)
+  finding-after y d aborts on off =
+      one-of After (eqb y 0) _ _ (λ q. on (eqb-true y 0 q)) (λ _. one-of After (eqb y 10) _ _ (λ _. refused-after 10) (λ _. off))
 
   module _ (h : n .client < suc j) (fit : client-fits (sizes k j slots) (client-of m (n .client)) ≡ true) where
     abbrev c : Fin (suc j)
@@ -106,7 +110,7 @@ module _ (k j slots : ℕ) (al : Allowed (sizes k j slots)) (few : suc j ≤ 16)
     -- ---- 2 work
     work-after : state-fits u (n .server) Work ≡ true → After (S.work z m (n .client))
     unfolding S.work state-fits
-    work-after f = go (worked (sizes k j slots) u) refl
+    work-after f = if-after (fit-to-work (sizes k j slots) u) _ (λ _. go (worked (sizes k j slots) u) refl)
       where
         us : List ℕ
         us = walked (sizes k j slots) u .used
@@ -131,9 +135,10 @@ module _ (k j slots : ℕ) (al : Allowed (sizes k j slots)) (few : suc j ≤ 16)
     unfolding S.commit state-fits
     commit-after e f =
         let open-now = eqb-true (u phase) 1 (and-both (eqb (u phase) 1) (eqb (u op-number) 0) f .0) in
-        one-of After (eqb (participants-of u (suc k)) 0) _ _
+        if-after (fit-to-commit (sizes k j slots) u) _
+        (λ _. one-of After (eqb (participants-of u (suc k)) 0) _ _
         (λ q. subst (Explained k j slots _) (sym (decided-is 3 e)) (turned (end-turns k j slots al few m L M c R fit open-now (eqb-true (participants-of u (suc k)) 0 q))))
-        (λ q. subst (Explained k j slots _) (sym (done-is 3 e)) (turned (commit-turns k j slots al few m L M c R fit open-now (eqb-false (participants-of u (suc k)) 0 q))))
+        (λ q. subst (Explained k j slots _) (sym (done-is 3 e)) (turned (commit-turns k j slots al few m L M c R fit open-now (eqb-false (participants-of u (suc k)) 0 q)))))
 
     -- ---- 6 give up, 7 lost
     give-up-after : state-fits u (n .server) GiveUp ≡ true → After (S.abort z m (n .client) 6 [])
@@ -155,20 +160,14 @@ module _ (k j slots : ℕ) (al : Allowed (sizes k j slots)) (few : suc j ≤ 16)
       };
     }
 
-    -- an undecided one
-    lost-now : (u phase ≡ 1) ⊎ (u phase ≡ 2) → abort-fits z m (n .client) ≡ true → After (S.lose-undecided z m (n .client) (S.abort z m (n .client) 7 []))
-    unfolding S.abort
-    lost-now e b =
-        subst (λ (t : Bool). After (S.lose-undecided z m (n .client) (if-fit t (did (Aborted 7) (S.aborting z m (n .client) []))))) (sym b)
-        (turned (lost-turns k j slots al few m L M c R fit e))
-
     lose-after : n .kind ≡ 7 → After (S.lose z m (n .client))
     unfolding S.lose
     lose-after e =
         one-of After (eqb (u phase) 0) _ _
         (λ q. subst (Explained k j slots _) (sym (done-is 7 e)) (turned (forget-turns k j slots al few m L M c R (eqb-true (u phase) 0 q))))
         (λ q. one-of After (eqb (u phase) 3) _ _ (λ _. subst (Explained k j slots _) (sym (done-is 7 e)) lost-later)
-        (λ r. if-after (abort-fits z m (n .client)) _ (lost-now (undecided-word (u phase) q r (fits-field (sizes k j slots) u fit 0 (omega arith))))))
+        (λ r. if-after (leb (u phase) 3 && abort-fits z m (n .client)) _
+        (λ _. turned (lost-turns k j slots al few m L M c R fit (undecided-word (u phase) q r (fits-field (sizes k j slots) u fit 0 (omega arith)))))))
 
     -- ---- 4 prepare, at the server s
     module _ (l : n .server < suc k) where
@@ -185,9 +184,9 @@ module _ (k j slots : ℕ) (al : Allowed (sizes k j slots)) (few : suc j ≤ 16)
             subst (Explained k j slots _) (sym (decided-is 4 e))
             (record { machine = D.M₂ k j slots al few m L M c G fit s now new fine all; good = D.decide-good k j slots al few m L M c G fit s now new fine all })
 
-        alone-after : Fine → S.all-prepared z m (n .client) (n .server) ≡ true → S.only z m (n .client) (n .server) ≡ true → versions-fit z m (n .client) ≡ true
+        alone-after : Fine → S.all-prepared z m (n .client) (n .server) ≡ true → S.only z m (n .client) (n .server) ≡ true → fit-to-apply (sizes k j slots) u (n .server) true ≡ true
             → After (S.then m (S.deciding-stores z m (n .client) (n .server)) (λ m₂. S.applied-at z m₂ (n .client) (n .server)))
-        alone-after fine all one versions =
+        alone-after fine all one fits =
             let ps = S.deciding-stores z m (n .client) (n .server) in
             let m₂ = changed whole m ps in
             let done = D.only-applied k j slots al few m L M c G fit s now new fine all (eqb-true (u participants) (putBit true 0 (n .server)) one) in
@@ -197,22 +196,23 @@ module _ (k j slots : ℕ) (al : Allowed (sizes k j slots)) (few : suc j ≤ 16)
             (apply-explained k j slots al few m₂ (notes-decision L (n .client)) (D.M₂ k j slots al few m L M c G fit s now new fine all) c
             (D.decide-good k j slots al few m L M c G fit s now new fine all) s
             (D.now₂ k j slots al few m L M c G fit s now new fine all) (D.new₂ k j slots al few m L M c G fit s now new fine all)
-            (versions-kept k j slots m m₂ (n .client) (D.same-sets₂ k j slots al few m L M c G fit s now new fine all) versions))
+            (λ _. young-kept u (client-of m₂ (n .client)) (D.same-sets₂ k j slots al few m L M c G fit s now new fine all)
+            (D.lost₂ k j slots al few m L M c G fit s now new fine all) (fit-young (sizes k j slots) u (n .server) fits)))
 
         prepared-after : Fine → After (S.prepared-at z m (n .client) (n .server))
         unfolding S.prepared-at
         prepared-after fine =
             one-of After (not (S.all-prepared z m (n .client) (n .server))) _ _ (λ _. turned (D.prepare-turns k j slots al few m L M c G fit s now new fine))
             (λ q. one-of After (S.only z m (n .client) (n .server)) _ _
-            (λ one. if-after (versions-fit z m (n .client)) _ (alone-after fine (not-false (S.all-prepared z m (n .client) (n .server)) q) one))
+            (λ one. if-after (fit-to-apply (sizes k j slots) u (n .server) true) _ (alone-after fine (not-false (S.all-prepared z m (n .client) (n .server)) q) one))
             (λ _. decided-after fine (not-false (S.all-prepared z m (n .client) (n .server)) q)))
 
         prepare-after : After (S.prepare z m (n .client) (n .server))
         unfolding S.prepare
         prepare-after =
             let found = U.deciding (map (S.prepare-finding z m (n .client) (n .server)) (U.read-items u)) in
-            if-after (prepare-fits z m (n .client) (n .server)) _
-            (λ _. one-of After (eqb found 0) _ _ (λ q. prepared-after (eqb-true found 0 q)) (λ _. abort-after found [] (inr now)))
+            if-after (fit-to-prepare (sizes k j slots) u) _
+            (λ _. finding-after found (S.prepared-at z m (n .client) (n .server)) (λ y. S.abort z m (n .client) y []) prepared-after (abort-after found [] (inr now)))
 
       -- ---- 5 apply
       apply-after : n .kind ≡ 5 → state-fits u (n .server) Apply ≡ true → After (S.apply z m (n .client) (n .server))
@@ -221,7 +221,10 @@ module _ (k j slots : ℕ) (al : Allowed (sizes k j slots)) (few : suc j ≤ 16)
           let d = due-now u (n .server) f in
           if-after (S.apply-fits z m (n .client) (n .server)) _
           (λ q. subst (Explained k j slots _) (sym (applied-is e))
-          (apply-explained k j slots al few m L M c G s (d .0) (d .2) (and-both (unlock-fits z m (n .client) (n .server)) (versions-fit z m (n .client)) q .1)))
+          (apply-explained k j slots al few m L M c G s (d .0) (d .2)
+          (λ all. fit-young (sizes k j slots) u (n .server)
+          (subst (λ (b : Bool). fit-to-apply (sizes k j slots) u (n .server) b ≡ true) all
+          (and-both (fit-to-apply (sizes k j slots) u (n .server) (S.all-applied z m (n .client) (n .server))) (unlock-fits z m (n .client) (n .server)) q .0)))))
         where
           applied-is : n .kind ≡ 5 → note L n (S.applied-at z m (n .client) (n .server) .outcome) ≡ L
           applied-is e = ap (note L n) (applied-outcome z m (n .client) (n .server)) ∙ go (S.all-applied z m (n .client) (n .server))
@@ -247,11 +250,10 @@ module _ (k j slots : ℕ) (al : Allowed (sizes k j slots)) (few : suc j ≤ 16)
         go (suc (suc (suc (suc (suc (suc (suc zero))))))) e l f = lose-after e
         go (suc (suc (suc (suc (suc (suc (suc (suc x)))))))) e l f = absurd (omega arith)
 
-  -- THE STEP
-  pub step-after : n .key < two-to-64 → After (S.step z n m)
+  -- THE STEP of a client whose part is in range, as of every client that steps lead to (`ranges`)
+  pub step-after : n .key < two-to-64 → (n .client < suc j → client-fits (sizes k j slots) (client-of m (n .client)) ≡ true) → After (S.step z n m)
   unfolding S.step
-  step-after w =
+  step-after w fit =
       one-of After (eqb (refusal z n m) 0) _ _
-      (λ q. let p = passed z n m (eqb-true (refusal z n m) 0 q) in
-      if-after (client-fits (sizes k j slots) (client-of m (n .client))) _ (λ fit. kind-after (p .known-client) fit p w))
+      (λ q. let p = passed z n m (eqb-true (refusal z n m) 0 q) in kind-after (p .known-client) (fit (p .known-client)) p w)
       (λ _. refused-after (refusal z n m))

@@ -1,6 +1,6 @@
 -- What a prepare finds in order the machine's checks find in order.
 use mathlib.Core.Path.{_≡_, refl, ap, sym, _∙_, subst}
-use mathlib.Core.Bool.{Bool, true, false, cond, _||_, not}
+use mathlib.Core.Bool.{Bool, true, false, cond, _&&_, _||_, not}
 use mathlib.Core.List.{List, [], _∷_, _++_, map}
 use mathlib.Core.Logic.{_⊎_, inl, inr}
 use mathlib.Core.Option.{Option, none, some, Option·none-ne-some, Option·some-ne-none, Option·some-injective}
@@ -18,7 +18,7 @@ use Rattle.operations.specs.Object.{Obj, meta, node, flag, taken}
 use Rattle.operations.specs.Laws.Object.{Val-discrete, inner}
 use Rattle.operations.specs.Slot.{Allowed}
 use Rattle.protocol.specs.Lists.{Among}
-use Rattle.server.specs.declared.check.Finding.the-variants.{Same, Differs, Busy}
+use Rattle.server.specs.declared.check.Finding.the-variants.{Same, Differs, Busy, Unfit}
 use Rattle.server.specs.declared.lock.Use.{Use}
 use Rattle.server.specs.declared.object.Object.{Object}
 use Rattle.server.specs.declared.place.Place.{Place}
@@ -111,16 +111,18 @@ pub all-found : (g : U.Item → ℕ × ℕ) (n : ℕ) (f : ℕ → U.Item) → U
 all-found g n f h i l = none-all (map g (U.each n f)) (least-none (map g (U.each n f)) h) (g (f i)) (among-image g (U.each n f) (f i) (among-each n f i l))
 
 -- ---- one finding
-pub found-same : (o : Object) (b : Bool) (mark c : ℕ) (u : Use) (p : Place → ℕ) → Chk.finding-reason (Chk.checked o b mark c u p) ≡ 0
+pub found-same : (o : Object) (b : Bool) (mark c : ℕ) (u : Use) (p : Place → ℕ) → Chk.finding-number (Chk.checked o b mark c u p) ≡ 0
     → (Chk.held o c u p ≡ false) × (Chk.standing o b p ≡ mark)
-unfolding Chk.checked
-found-same o b mark c u p h = go (Chk.held o c u p) refl (eqb (Chk.standing o b p) mark) refl h
+unfolding Chk.checked Chk.compared
+found-same o b mark c u p h =
+    go (Chk.held o c u p) refl (Chk.mark-fits o (Chk.standing o b p) && Chk.mark-fits o mark) (eqb (Chk.standing o b p) mark) refl h
   where
-    go : (x : Bool) → Chk.held o c u p ≡ x → (y : Bool) → eqb (Chk.standing o b p) mark ≡ y → Chk.finding-reason (cond x Busy (cond y Same Differs)) ≡ 0
+    go : (x : Bool) → Chk.held o c u p ≡ x → (f y : Bool) → eqb (Chk.standing o b p) mark ≡ y → Chk.finding-number (cond x Busy (cond f (cond y Same Differs) Unfit)) ≡ 0
         → (Chk.held o c u p ≡ false) × (Chk.standing o b p ≡ mark)
-    go true e y q h = absurd (omega (arith, h))
-    go false e true q h = (e, eqb-true (Chk.standing o b p) mark q)
-    go false e false q h = absurd (omega (arith, h))
+    go true e f y q h = absurd (omega (arith, h))
+    go false e false y q h = absurd (omega (arith, h))
+    go false e true true q h = (e, eqb-true (Chk.standing o b p) mark q)
+    go false e true false q h = absurd (omega (arith, h))
 
 -- ---- the machine's check
 guarded : (b x : Bool) → (b ≡ true → x ≡ true) → (not b || x) ≡ true

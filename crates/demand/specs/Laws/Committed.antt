@@ -23,7 +23,7 @@ use Rattle.client.specs.declared.part.Set.the-variants.{Reads, Writes, Copies}
 use Rattle.client.specs.Layout.{ClientWord, client-words, phase, op-number, op-key, op-value, op-server, participants, prepared, applied, item, vector-word, reads-count, writes-count, meta-copied, meta-root, meta-version}
 use Rattle.client.specs.Record.{number, value-of}
 use Rattle.client.specs.Sets.{count, record-at, number-at, find}
-use Rattle.client.specs.Fits.{client-fits}
+use Rattle.client.specs.Laws.Ranges.{client-fits}
 use Rattle.client.specs.Life.{reset}
 use Rattle.client.specs.Work.{op-of, waiting}
 use Rattle.operations.specs.Operation.{Legal}

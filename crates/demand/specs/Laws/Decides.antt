@@ -14,8 +14,8 @@ use Rattle.layout.specs.Part.{over}
 use Rattle.operations.specs.Slot.{Allowed}
 use Rattle.protocol.specs.State.{is-decided}
 use Rattle.protocol.specs.Laws.Claim.{unapplied}
-use Rattle.client.specs.Layout.{ClientWord, client-words, phase, participants, prepared, applied}
-use Rattle.client.specs.Fits.{client-fits}
+use Rattle.client.specs.Layout.{ClientWord, client-words, phase, participants, prepared, applied, lost}
+use Rattle.client.specs.Laws.Ranges.{client-fits}
 use Rattle.client.specs.Course.{noted, decided}
 use Rattle.steps.specs.declared.sizes.Sizes.{Sizes}
 use Rattle.steps.specs.Whole.{Address, client, whole}
@@ -143,6 +143,10 @@ module _ (k j slots : ℕ) (al : Allowed (sizes k j slots)) (few : suc j ≤ 16)
       items-read = λ i n. word₂ _;
       items-written = λ i n. word₂ _;
     }
+
+    pub lost₂ : client-of m₂ (c .0) lost ≡ u lost
+    unfolding decided noted
+    lost₂ = word₂ lost
 
     -- with one participant that is all
     pub only-applied : u participants ≡ putBit true 0 (s .0) → all-applied z m₂ (c .0) (s .0) ≡ true

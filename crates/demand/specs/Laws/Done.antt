@@ -6,8 +6,8 @@ use mathlib.Core.Logic.{_⊎_, inl, inr}
 use Prim.Native.Nat.{ℕ, _<_}
 use native.Mathlib.Decide.{ℕ-discrete}
 use native.Mathlib.Omega.{arith}
-use borrow.Author.Tests.{eqb-true, eqb-false, eq-eqb, lt-leb}
-use lib.Dec.{eqb, leb}
+use borrow.Author.Tests.{eq-eqb, lt-leb}
+use lib.Dec.{eqb}
 use Rattle.base.specs.Laws.Test.{bool-cases}
 use Rattle.memory.specs.Bit.{bit}
 use Rattle.layout.specs.Space.{changed}
@@ -15,7 +15,6 @@ use Rattle.layout.specs.Step.{andThen}
 use Rattle.layout.specs.Laws.Step.{changed-append}
 use Rattle.plans.specs.Walk.{Every}
 use Rattle.client.specs.Layout.{ClientWord, client-words, phase, participants, applied}
-use Rattle.client.specs.Fits.{client-fits}
 use Rattle.client.specs.Course.{noted}
 use Rattle.client.specs.Life.{reset}
 use Rattle.client.specs.Renew.{finish, renew-kept}
@@ -23,13 +22,10 @@ use Rattle.steps.specs.declared.sizes.Sizes.{Sizes}
 use Rattle.steps.specs.declared.step.Step.{Step}
 use Rattle.steps.specs.declared.step.Kind.{Kind}
 use Rattle.steps.specs.declared.step.Kind.the-variants.{Apply}
-use Rattle.steps.specs.declared.outcome.Outcome.{Outcome}
 use Rattle.steps.specs.declared.outcome.Outcome.the-variants.{Refused, Applied, Committed}
-use Rattle.steps.specs.Whole.{Address, whole, tree-sizes}
+use Rattle.steps.specs.Whole.{Address, whole}
 use Rattle.steps.specs.Laws.Stores.{client-of}
 use Rattle.steps.specs.Refusal.{first, state-fits, kind-of, refusal}
-use Rattle.steps.specs.Passed.{Passed}
-use Rattle.steps.specs.Laws.Passed.{passed}
 use Rattle.steps.specs.Steps.{Did, did, refuse, if-fit, in-client, applying, all-applied, applied-at, apply-fits, apply, by-kind, step}
 use Rattle.steps.specs.Run.{after}
 use Rattle.steps.specs.Taken.{Taken, steps-of, Leads-by, Leads}
@@ -112,18 +108,17 @@ module _ (z : Sizes) (m : Address → ℕ) (n : Step) (five : n .kind ≡ 5) whe
 
   -- what comes of it where refusals 4 to 9 don't hold
   abbrev judged : Did
-  judged = if-fit (client-fits (tree-sizes z) u) (if-fit (apply-fits z m (n .client) (n .server)) done)
+  judged = if-fit (apply-fits z m (n .client) (n .server)) done
 
-  judged-is : if-fit (client-fits (tree-sizes z) u) (by-kind z m (n .client) n (kind-of (n .kind))) ≡ judged
+  judged-is : by-kind z m (n .client) n (kind-of (n .kind)) ≡ judged
   unfolding apply
-  judged-is = ap (λ (x : Kind). if-fit (client-fits (tree-sizes z) u) (by-kind z m (n .client) n x)) kind-is
+  judged-is = ap (λ (x : Kind). by-kind z m (n .client) n x) kind-is
 
   refused-or : (P : Did → Type 0) → ((x : ℕ) → P (refuse x)) → P done → P (step z n m)
   unfolding step
   refused-or P no-step yes-step =
       one-of P (eqb (refusal z n m) 0) _ _
-      (λ _. subst P (sym judged-is) (one-of P (client-fits (tree-sizes z) u) _ _
-      (λ _. one-of P (apply-fits z m (n .client) (n .server)) _ _ (λ _. yes-step) (λ _. no-step 10)) (λ _. no-step 10)))
+      (λ _. subst P (sym judged-is) (one-of P (apply-fits z m (n .client) (n .server)) _ _ (λ _. yes-step) (λ _. no-step 10)))
       (λ _. no-step (refusal z n m))
 
   -- it notes nothing
@@ -149,16 +144,15 @@ module _ (z : Sizes) (m : Address → ℕ) (n : Step) (five : n .kind ≡ 5) whe
     step-is : step z n m ≡ judged
     unfolding step
     step-is =
-        ap (λ (b : Bool). cond b (if-fit (client-fits (tree-sizes z) u) (by-kind z m (n .client) n (kind-of (n .kind)))) (refuse (refusal z n m))) (eq-eqb (refusal z n m) 0 due-passes)
+        ap (λ (b : Bool). cond b (by-kind z m (n .client) n (kind-of (n .kind))) (refuse (refusal z n m))) (eq-eqb (refusal z n m) 0 due-passes)
         ∙ judged-is
 
     pub due-applied : ¬ (step z n m .outcome ≡ Refused 10) → step z n m ≡ done
-    due-applied fine = step-is ∙ go (client-fits (tree-sizes z) u) (apply-fits z m (n .client) (n .server)) (λ e. fine (ap (λ (d : Did). d .outcome) step-is ∙ e))
+    due-applied fine = step-is ∙ go (apply-fits z m (n .client) (n .server)) (λ e. fine (ap (λ (d : Did). d .outcome) step-is ∙ e))
       where
-        go : (a b : Bool) → ¬ (if-fit a (if-fit b done) .outcome ≡ Refused 10) → if-fit a (if-fit b done) ≡ done
-        go true true f = refl
-        go true false f = absurd (f refl)
-        go false b f = absurd (f refl)
+        go : (b : Bool) → ¬ (if-fit b done .outcome ≡ Refused 10) → if-fit b done ≡ done
+        go true f = refl
+        go false f = absurd (f refl)
 
   pub apply-done : n .client < z .clients → n .server < z .servers → ¬ (step z n m .outcome ≡ Refused 10) → state-fits (client-of (after z m n) (n .client)) (n .server) Apply ≡ false
   apply-done c s fine = go (bool-cases (state-fits u (n .server) Apply))

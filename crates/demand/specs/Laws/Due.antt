@@ -17,7 +17,7 @@ use Rattle.protocol.specs.Lists.{Among}
 use Rattle.protocol.specs.Laws.Items.{find-item}
 use Rattle.client.specs.Layout.{client-words, phase, applied}
 use Rattle.client.specs.Record.{object-in-store}
-use Rattle.client.specs.Fits.{client-fits}
+use Rattle.client.specs.Laws.Ranges.{client-fits}
 use Rattle.client.specs.Course.{noted}
 use Rattle.steps.specs.Whole.{Address, whole}
 use Rattle.steps.specs.Laws.Stores.{client-of}

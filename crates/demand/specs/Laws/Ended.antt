@@ -1,11 +1,10 @@
 -- THE END: "The last apply ends the transaction and renews its copies", once it has applied.
 use mathlib.Core.Path.{_≡_, refl, ap, sym, _∙_, subst}
-use mathlib.Core.Bool.{true, _||_}
+use mathlib.Core.Bool.{true}
 use mathlib.Core.List.{[]}
-use Prim.Native.Nat.{ℕ, suc, _<_, Fin}
+use Prim.Native.Nat.{ℕ, suc, Fin}
 use native.Mathlib.Omega.{arith}
 use native.Mathlib.Decide.{Fin-discrete}
-use lib.Dec.{ltb}
 use Rattle.base.specs.Laws.Update.{upd-same, upd-other}
 use Rattle.layout.specs.Space.{changed}
 use Rattle.layout.specs.Step.{andThen}
@@ -13,31 +12,25 @@ use Rattle.layout.specs.Laws.Step.{changed-append}
 use Rattle.layout.specs.Part.{over}
 use Rattle.operations.specs.Slot.{Allowed}
 use Rattle.protocol.specs.State.{idle, decided, is-decided}
-use Rattle.client.specs.declared.part.Set.the-variants.{Reads, Writes}
 use Rattle.client.specs.Layout.{ClientWord, client-words, phase, participants, applied}
-use Rattle.client.specs.Record.{last-version}
-use Rattle.client.specs.Sets.{count, number-at, find}
-use Rattle.client.specs.Fits.{client-fits}
-use Rattle.client.specs.Drops.{version-of}
+use Rattle.client.specs.Laws.Ranges.{client-fits}
 use Rattle.client.specs.Life.{reset}
 use Rattle.steps.specs.Whole.{Address, client, whole}
-use Rattle.steps.specs.Judge.{versions-fit}
 use Rattle.steps.specs.Steps.{covers}
 use Rattle.steps.specs.Laws.Stores.{client-of, client-else}
 use Rattle.demand.specs.Ledger.{Ledger}
 use Rattle.demand.specs.Laws.Store.{sizes}
 use Rattle.demand.specs.Laws.Shows.{phase-of, T, Slot-shown, Client-shown, Related}
-use Rattle.demand.specs.Laws.Held.{all-at}
 use Rattle.demand.specs.Laws.Decided.{parts-covered}
 use Rattle.demand.specs.Laws.Kept.{away, cleared, client-related, cleared-shown}
 use Rattle.demand.specs.Laws.CopyWords.{sets-refl}
-use Rattle.demand.specs.Laws.Renewed.{Renewing, renew-kept}
-use Rattle.demand.specs.Laws.Turns.{store, Turns}
+use Rattle.demand.specs.Laws.Renewed.{renews-young, Renewing, renew-kept}
+use Rattle.demand.specs.Laws.Turns.{Turns}
 use Rattle.protocol.specs.Machine as P
 use Rattle.protocol.specs.Moves as Mv
 use Rattle.client.specs.Renew as Rn
 
-module _ (k j slots : ℕ) (al : Allowed (sizes k j slots)) (m : Address → ℕ) (L : Ledger) (M : P.Machine (T k j slots)) (c : Fin (suc j)) (R : Related k j slots m L M) (fit : client-fits (sizes k j slots) (client-of m (c .0)) ≡ true) (now : client-of m (c .0) phase ≡ 3) (all : covers (suc k) (client-of m (c .0) participants) (client-of m (c .0) applied) ≡ true) (fits : versions-fit (store k j slots) m (c .0) ≡ true) where
+module _ (k j slots : ℕ) (al : Allowed (sizes k j slots)) (m : Address → ℕ) (L : Ledger) (M : P.Machine (T k j slots)) (c : Fin (suc j)) (R : Related k j slots m L M) (fit : client-fits (sizes k j slots) (client-of m (c .0)) ≡ true) (now : client-of m (c .0) phase ≡ 3) (all : covers (suc k) (client-of m (c .0) participants) (client-of m (c .0) applied) ≡ true) (early : renews-young (client-of m (c .0)) ≡ true) where
   abbrev u : ClientWord → ℕ
   u = client-of m (c .0)
 
@@ -47,10 +40,6 @@ module _ (k j slots : ℕ) (al : Allowed (sizes k j slots)) (m : Address → ℕ
   decided-now : M .slots c .phase ≡ decided
   unfolding phase-of
   decided-now = sym (shown .phase-as) ∙ ap phase-of now
-
-  early : (i : ℕ) → i < count u Writes → (ltb 8192 (number-at u Writes i) || ltb (version-of u (find u Reads (number-at u Writes i))) last-version) ≡ true
-  unfolding versions-fit
-  early = all-at (count u Writes) (λ i. ltb 8192 (number-at u Writes i) || ltb (version-of u (find u Reads (number-at u Writes i))) last-version) fits
 
   abbrev w : ClientWord → ℕ
   w = changed client-words u (Rn.renew-kept u)

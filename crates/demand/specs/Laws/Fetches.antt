@@ -1,7 +1,7 @@
 -- WORK THAT FETCHES: "A work step that lacks an object fetches the first one lacking and does no more". The copies in use become items, and then
 -- the object is one, or a vector's flags are copies; else the step is refused or aborts.
 use mathlib.Core.Path.{_≡_, refl, ap, sym, _∙_, subst, fun-ext}
-use mathlib.Core.Bool.{Bool, true, false, cond, _&&_, not}
+use mathlib.Core.Bool.{Bool, true, false, cond, _&&_}
 use mathlib.Core.List.{List, [], map}
 use mathlib.Core.Logic.{inl}
 use mathlib.Core.Option.{none}
@@ -11,11 +11,11 @@ use native.Mathlib.Omega.{arith}
 use native.Mathlib.Decide.{Fin-discrete}
 use borrow.Author.Tests.{eq-eqb, leb-false, ltb-true, not-false}
 use lib.Dec.{eqb, ltb}
+use Rattle.base.specs.Test.{and-both}
 use lib.ListN.{length}
 use Rattle.layout.specs.Space.{Put, changed}
 use Rattle.layout.specs.Step.{andThen}
 use Rattle.layout.specs.Laws.Step.{changed-append}
-use Rattle.nodes.specs.Range.{node-in-range}
 use Rattle.operations.specs.Object.{Obj, meta, node, flag, Ask, object, vector, fetched}
 use Rattle.operations.specs.Laws.Seen.{Hint, hint-of}
 use Rattle.operations.specs.Slot.{Allowed}
@@ -28,10 +28,10 @@ use Rattle.server.specs.Check.{held}
 use Rattle.server.specs.HandOut.{metadata-at, metadata-sound, vector-at}
 use Rattle.client.specs.declared.part.Set.the-variants.{Reads}
 use Rattle.client.specs.Layout.{ClientWord, client-words, phase, reads-count}
-use Rattle.client.specs.Record.{number}
-use Rattle.client.specs.Fits.{client-fits}
-use Rattle.client.specs.Laws.Fits.{fits-field}
-use Rattle.client.specs.Have.{have, broken}
+use Rattle.client.specs.Record.{number, node-fits}
+use Rattle.client.specs.Vectors.{vector-fits}
+use Rattle.client.specs.Laws.Ranges.{client-fits, fits-field}
+use Rattle.client.specs.Have.{have, bad-vector, broken}
 use Rattle.client.specs.Participants.{at-home}
 use Rattle.client.specs.Run.{among}
 use Rattle.client.specs.Work.{walked, worked}
@@ -41,9 +41,9 @@ use Rattle.steps.specs.declared.sizes.Sizes.{Sizes}
 use Rattle.steps.specs.declared.step.Step.{Step}
 use Rattle.steps.specs.declared.outcome.Outcome.the-variants.{Fetched, Aborted}
 use Rattle.steps.specs.Whole.{Address, whole}
-use Rattle.steps.specs.Judge.{lock-fits, check-fits, abort-fits}
-use Rattle.steps.specs.Uses.{all, deciding}
-use Rattle.steps.specs.Steps.{Did, did, refuse, if-fit, abort, aborting, handed, full, fetch-object, hand-over, fetch-items, fetch-finding, Wanted, wanted, node-at, checked-fetch, fetch}
+use Rattle.steps.specs.Judge.{lock-fits, abort-fits}
+use Rattle.steps.specs.Uses.{deciding}
+use Rattle.steps.specs.Steps.{Did, did, refuse, if-fit, by-finding, abort, aborting, handed, full, fetch-object, hand-over, fetch-items, fetch-finding, Wanted, wanted, node-at, checked-fetch, fetch}
 use Rattle.steps.specs.Laws.Stores.{client-of, server-of}
 use Rattle.demand.specs.Ledger.{Ledger, clears, note}
 use Rattle.demand.specs.Laws.Store.{positive, sizes, keeps}
@@ -185,26 +185,26 @@ module _ (k j slots : ℕ) (al : Allowed (sizes k j slots)) (few : suc j ≤ 16)
       object-good : (s x p q : ℕ) (ok : Bool) (g : (ClientWord → ℕ) → List (Put ClientWord))
           → (full z m (c .0) us ≡ false → Stage k j slots m L M c R (changed client-words v (g v))) → Good (fetch-object z m (c .0) us s x (Fetched p q) ok g)
       object-good s x p q ok g h =
-          go (ok && lock-fits z m s (record { number = x; inner-read = false; mark = 0; written = false; becomes = false }))
-          (held (object-of x) (c .0) Fetch (server-of m s)) (full z m (c .0) us) h
+          go (lock-fits z m s x) (held (object-of x) (c .0) Fetch (server-of m s)) (full z m (c .0) us) ok h
         where
-          go : (a b f : Bool) → (f ≡ false → Stage k j slots m L M c R (changed client-words v (g v)))
-              → Good (if-fit a (cond b (abort z m (c .0) 2 us) (cond f (abort z m (c .0) 4 us) (did (Fetched p q) (handed z m (c .0) us g)))))
-          go false b f h = refused
-          go true true f h = aborted 2
-          go true false true h = aborted 4
-          go true false false h = handed-turns g (h refl)
+          go : (a b f ok : Bool) → (f ≡ false → Stage k j slots m L M c R (changed client-words v (g v)))
+              → Good (if-fit a (cond b (abort z m (c .0) 2 us) (cond f (abort z m (c .0) 4 us) (if-fit ok (did (Fetched p q) (handed z m (c .0) us g))))))
+          go false b f ok h = refused
+          go true true f ok h = aborted 2
+          go true false true ok h = aborted 4
+          go true false false false h = refused
+          go true false false true h = handed-turns g (h refl)
 
       checked : (w : Wanted) → Good (hand-over z m (c .0) us a (w .from) (Fetched (w .what) (w .which))) → Good (checked-fetch z m (c .0) us a w)
-      checked w h = go (all (check-fits z m (w .from)) (fetch-items z m (c .0) us (w .from))) (deciding (map (fetch-finding z m (c .0) us (w .from)) (fetch-items z m (c .0) us (w .from))))
+      checked w h = go (deciding (map (fetch-finding z m (c .0) us (w .from)) (fetch-items z m (c .0) us)))
         where
-          go : (b : Bool) (x : ℕ) → Good (if-fit b (cond (eqb x 0) (hand-over z m (c .0) us a (w .from) (Fetched (w .what) (w .which))) (abort z m (c .0) x us)))
-          go false x = refused
-          go true x = by (eqb x 0)
+          go : (x : ℕ) → Good (by-finding x (hand-over z m (c .0) us a (w .from) (Fetched (w .what) (w .which))) (λ y. abort z m (c .0) y us))
+          go x = by (eqb x 0) (eqb x 10)
             where
-              by : (t : Bool) → Good (cond t (hand-over z m (c .0) us a (w .from) (Fetched (w .what) (w .which))) (abort z m (c .0) x us))
-              by true = h
-              by false = aborted x
+              by : (t r : Bool) → Good (cond t (hand-over z m (c .0) us a (w .from) (Fetched (w .what) (w .which))) (cond r (refuse 10) (abort z m (c .0) x us)))
+              by true r = h
+              by false true = refused
+              by false false = aborted x
 
       -- a name at hand or lacking is one of the store
       lacked : (o : Obj) → a ≡ object o → In-store k j slots o
@@ -222,7 +222,7 @@ module _ (k j slots : ℕ) (al : Allowed (sizes k j slots)) (few : suc j ≤ 16)
       node-good : (x : ℕ) → a ≡ object (node x) → Good (hand-over z m (c .0) us (object (node x)) (N.server-of x) (Fetched 1 x))
       unfolding at-home
       node-good x is-o =
-          object-good (N.server-of x) (1 + x) 1 x (node-in-range (node-at (server-of m (N.server-of x)) x)) (fetched-node x (node-at (server-of m (N.server-of x)) x))
+          object-good (N.server-of x) (1 + x) 1 x (node-fits (sizes k j slots) (node-at (server-of m (N.server-of x)) x)) (fetched-node x (node-at (server-of m (N.server-of x)) x))
           (λ r. node-handed k j slots al m L M c R s x (lacked (node x) is-o) kept v stage (unread s (node x) is-o r))
         where
           s : Fin (suc k)
@@ -237,8 +237,8 @@ module _ (k j slots : ℕ) (al : Allowed (sizes k j slots)) (few : suc j ≤ 16)
       vector-turns : (s : ℕ) → s < suc k → Turns k j slots m (changed whole m (handed z m (c .0) us (fetched-vector s (vector-at (server-of m s))))) L M c
       vector-turns s l = handed-turns (fetched-vector s (vector-at (server-of m s))) (vector-handed k j slots al m L M c R (s, l) v stage)
 
-      server-there : (s : ℕ) → (not (ltb s (suc k)) ≡ false) → s < suc k
-      server-there s h = ltb-true s (suc k) (not-false (ltb s (suc k)) h)
+      server-there : (s : ℕ) → bad-vector (sizes k j slots) u s ≡ false → s < suc k
+      server-there s h = ltb-true s (suc k) (and-both (ltb s (suc k)) (vector-fits u s) (not-false (ltb s (suc k) && vector-fits u s) h) .0)
 
     -- THE FETCH
     pub fetch-turns : (a : Ask) → worked (sizes k j slots) u ≡ Work.fetches a → Turns k j slots m (changed whole m (fetch z m (c .0) us a .stores)) (note L n (fetch z m (c .0) us a .outcome)) M c

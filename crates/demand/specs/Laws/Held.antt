@@ -25,8 +25,7 @@ use Rattle.client.specs.Record.{number, value-of, number-in-store, record-in-ra
 use Rattle.client.specs.Sets.{or-found, count, record-at, number-at, first-of, find}
 use Rattle.client.specs.Commit.{is-at}
 use Rattle.client.specs.Items.{all-below, any-below, has}
-use Rattle.client.specs.Laws.Fits.{fits-read, fits-write}
-use Rattle.client.specs.Fits.{has-read, item-fits, client-fits}
+use Rattle.client.specs.Laws.Ranges.{has-read, item-fits, client-fits, fits-read, fits-write}
 use Rattle.demand.specs.Laws.Store.{sizes}
 use Rattle.demand.specs.Laws.Numbers.{obj-of, number-obj, store-obj, obj-number}
 use Rattle.demand.specs.Laws.Shows.{T, In-store, new-value, item-from, item-of, Slot-shown}

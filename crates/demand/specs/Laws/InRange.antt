@@ -5,7 +5,7 @@ use mathlib.Core.List.{List, [], _∷_}
 use Prim.Native.Nat.{ℕ, zero, suc, _-_, _^_, _≤_, _<_}
 use native.Mathlib.Omega.{arith}
 use borrow.Author.Tests.{le-leb, leb-true}
-use lib.Dec.{eqb, ltb}
+use lib.Dec.{eqb, leb, ltb}
 use lib.ListN.{getD}
 use Rattle.base.specs.Test.{and-both}
 use Rattle.base.specs.Update.{upd}
@@ -19,8 +19,8 @@ use Rattle.client.specs.Record.{in-store, number-in-store, record-in-range}
 use Rattle.client.specs.Sets.{count, number-at}
 use Rattle.client.specs.Commit.{is-at}
 use Rattle.client.specs.Items.{all-below}
-use Rattle.client.specs.Fits.{bounds, field-fits, has-read, vector-fits, op-fits, item-fits, client-fits}
-use Rattle.client.specs.Laws.Fits.{all-at, fits-field}
+use Rattle.client.specs.Fits.{op-fits}
+use Rattle.client.specs.Laws.Ranges.{bounds, field-fits, has-read, vector-fits, item-fits, client-fits, all-at, fits-field}
 use Rattle.client.specs.Part.{put-field, put-word}
 use Rattle.client.specs.Copies.{drop-all}
 use Rattle.client.specs.Life.{lose-part}
@@ -79,12 +79,16 @@ module _ (z : TreeSizes) (u : ClientWord → ℕ) (fit : client-fits z u ≡ tru
       let writes = and-both (items u Writes) vectors (reads .1) in
       (op .0, reads .0, writes .0, writes .1)
 
+  -- the word that says whether there is a copy of a vector
+  pub fits-vector : (s : ℕ) → s < 8 → u (vector-word s 0) ≤ 1
+  unfolding vector-fits
+  fits-vector s l = leb-true (u (vector-word s 0)) 1 (all-at (vector-fits u) 8 s (judged .3) l)
+
   was-within : (x : ClientWord) → Within every x (u x)
-  unfolding Within vector-fits
+  unfolding Within
   was-within (field i) = λ l. fits-field z u fit i l
   was-within (item s i n) = tt
-  was-within (vector-word s n) =
-      λ e l. subst (λ (i : ℕ). u (vector-word s i) ≤ 1) (sym e) (leb-true (u (vector-word s 0)) 1 (all-at (vector-fits u) 8 s (judged .3) l))
+  was-within (vector-word s n) = λ e l. subst (λ (i : ℕ). u (vector-word s i) ≤ 1) (sym e) (fits-vector s l)
 
   -- one store
   module _ (a : ClientWord) (v : ℕ) (h : Harmless every a v) where
@@ -138,7 +142,7 @@ module _ (z : TreeSizes) (u : ClientWord → ℕ) (fit : client-fits z u ≡ tru
         let n = kept op-number (λ w q. true≢false (sym (q .0))) in
         let k = kept op-key (λ w q. true≢false (sym (q .0))) in
         let s = kept op-server (λ w q. true≢false (sym (q .0))) in
-        λ t. cond (eqb (n t) 6) (in-store z (k t) && ltb (s t) (z .servers)) true
+        λ t. leb (n t) 6 && cond (eqb (n t) 6) (in-store z (k t) && ltb (s t) (z .servers)) true
 
     pub store-fits : client-fits z (upd (decide client-words) u a v) ≡ true
     unfolding client-fits field-fits vector-fits Within g

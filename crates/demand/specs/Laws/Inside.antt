@@ -1,11 +1,11 @@
 -- Every store of a step lies in the memory, and none in the head: whatever the memory holds.
 use mathlib.Core.Path.{_≡_, refl, ap, sym, _∙_, subst}
-use mathlib.Core.Bool.{Bool, true, false, cond, _&&_, not, true≢false}
+use mathlib.Core.Bool.{Bool, true, false, cond, _&&_, _||_, not, true≢false}
 use mathlib.Core.List.{List, [], _∷_, _++_, map}
 use Prim.Native.Nat.{ℕ, zero, suc, _+_, _%_, _≤_, _<_}
 use native.Mathlib.Omega.{arith}
 use borrow.Author.Tests.{eqb-true, ltb-true, not-false}
-use lib.Dec.{eqb, ltb}
+use lib.Dec.{eqb, leb, ltb}
 use lib.ListN.{length}
 use Rattle.base.specs.Test.{and-both}
 use Rattle.memory.specs.Bit.{bit}
@@ -17,7 +17,6 @@ use Rattle.layout.specs.Laws.Step.{changed-append, valid-append}
 use Rattle.layout.specs.Part.{over}
 use Rattle.layout.specs.Laws.Part.{good-all}
 use Rattle.layout.specs.Laws.Sweep.{sweep-valid}
-use Rattle.nodes.specs.Range.{node-in-range}
 use Rattle.server.specs.declared.place.Place.{Place}
 use Rattle.server.specs.declared.lock.Use.the-variants.{Fetch}
 use Rattle.server.specs.Check.{held}
@@ -25,13 +24,17 @@ use Rattle.server.specs.HandOut.{metadata-at, metadata-sound, vector-at}
 use Rattle.server.specs.Object.{object-of, Has}
 use Rattle.server.specs.Store.{lock-step, unlock-step}
 use Rattle.server.specs.Laws.Leaves.{lock-inside, unlock-inside}
+use Rattle.operations.specs.Slot.{TreeSizes}
+use Rattle.client.specs.declared.part.Set.{Set}
 use Rattle.client.specs.declared.part.Set.the-variants.{Reads, Writes}
-use Rattle.client.specs.Layout.{ClientWord, client-words, client-block, field, phase, prepared, applied}
-use Rattle.client.specs.Record.{in-store, number-in-store, record-in-range}
-use Rattle.client.specs.Sets.{count, number-at, record-at}
-use Rattle.client.specs.Fits.{item-fits, has-read, client-fits}
-use Rattle.client.specs.Laws.Fits.{fits-read, fits-write}
-use Rattle.client.specs.Have.{source, unusable, broken}
+use Rattle.client.specs.Layout.{ClientWord, client-words, client-block, field, item, phase, participants, prepared, applied, limit}
+use Rattle.client.specs.Record.{in-store, number-in-store, node-fits}
+use Rattle.client.specs.Sets.{count, number-at}
+use Rattle.client.specs.Items.{all-below}
+use Rattle.client.specs.Fits.{said-count, servers-fit, number-fits, numbers-fit, fit-to-work, fit-to-commit, fit-to-prepare, fit-to-abort, fit-to-unlock, writes-fit, fit-to-renew, fit-to-apply}
+use Rattle.client.specs.Laws.Ranges.{all-at}
+use Rattle.client.specs.Vectors.{vector-fits}
+use Rattle.client.specs.Have.{source, unusable, bad-vector, broken}
 use Rattle.client.specs.Part.{PartStep, put-field, put-word}
 use Rattle.client.specs.Laws.Steps.{Good, good-then, good-field}
 use Rattle.client.specs.Answered.{used-enter, entered, enter-writes, answered}
@@ -48,7 +51,7 @@ use Rattle.steps.specs.Laws.Whole.{server-part, client-part}
 use Rattle.steps.specs.Laws.Stores.{client-of, server-of, part-other, client-changed}
 use Rattle.steps.specs.Laws.Writes.{write-inside}
 use Rattle.steps.specs.Laws.There.{named-in, in-store-has}
-use Rattle.steps.specs.Judge.{lock-fits, check-fits, abort-fits, versions-fit, prepare-fits, lowest-participant}
+use Rattle.steps.specs.Judge.{lock-fits, unlock-fits, abort-fits, lowest-participant}
 use Rattle.steps.specs.declared.outcome.Outcome.{Outcome}
 use Rattle.steps.specs.declared.outcome.Outcome.the-variants.{Fetched}
 use Rattle.steps.specs.Refusal.{kind-of, refusal}
@@ -56,7 +59,10 @@ use Rattle.steps.specs.Passed.{Passed}
 use Rattle.steps.specs.Laws.Passed.{passed}
 use Rattle.demand.specs.Laws.Lacking.{fetch-lacks}
 use Rattle.demand.specs.Laws.Servers.{both-client}
-use Rattle.demand.specs.Laws.InRange.{prepared-fits, decision-fits}
+use Rattle.demand.specs.Laws.Frame.{Only}
+use Rattle.demand.specs.Laws.Slots.{Same-sets, count-frame, number-frame}
+use Rattle.demand.specs.Laws.Course.{else-same}
+use Rattle.demand.specs.Laws.CopyWords.{sets-then}
 use Rattle.nodes.specs.Name as N
 use Rattle.operations.specs.Object as O
 use Rattle.server.specs.Layout as Srv
@@ -134,25 +140,23 @@ module _ (z : Sizes) where
   lies-servers zero f h = lies-none
   lies-servers (suc n) f h = lies-append (S.at-servers n f) (f n) (lies-servers n f (λ s l. h s (omega arith))) (h n (omega arith))
 
-  -- ---- of a client whose own state is in range
-  module _ (al : Allowed z) (m : Address → ℕ) (c : ℕ) (l : c < z .clients) (fit : client-fits (tree-sizes z) (client-of m c) ≡ true) where
+  -- ---- of a client
+  module _ (al : Allowed z) (m : Address → ℕ) (c : ℕ) (l : c < z .clients) where
     abbrev u : ClientWord → ℕ
     u = client-of m c
 
     pub lies-part : (g : PartStep) → Good g → Lies (S.in-client z m c g)
     lies-part g ok = lies-client c l (g u) (ok .all u)
 
-    read-has : (i : ℕ) → i < count u Reads → Has (z .slots) (object-of (number-at u Reads i))
-    unfolding item-fits
-    read-has i h = in-store-has z (number-at u Reads i) al
-        (and-both (number-in-store (tree-sizes z) (number-at u Reads i)) (record-in-range (tree-sizes z) (number-at u Reads i) (record-at u Reads i) && has-read u Reads (number-at u Reads i))
-        (fits-read (tree-sizes z) u fit i h) .0)
+    -- a set whose objects are objects of the store
+    abbrev There : Set → Type 0
+    There s = numbers-fit (tree-sizes z) u s ≡ true
 
-    written-has : (i : ℕ) → i < count u Writes → Has (z .slots) (object-of (number-at u Writes i))
-    unfolding item-fits
-    written-has i h = in-store-has z (number-at u Writes i) al
-        (and-both (number-in-store (tree-sizes z) (number-at u Writes i)) (record-in-range (tree-sizes z) (number-at u Writes i) (record-at u Writes i) && has-read u Writes (number-at u Writes i))
-        (fits-write (tree-sizes z) u fit i h) .0)
+    set-has : (s : Set) → There s → (i : ℕ) → i < count u s → Has (z .slots) (object-of (number-at u s i))
+    unfolding numbers-fit number-fits
+    set-has s fit i h = in-store-has z (number-at u s i) al
+        (all-at (number-fits (tree-sizes z) u s) (count u s) i
+        (and-both (leb (said-count u s) (limit s)) (all-below (count u s) (number-fits (tree-sizes z) u s)) fit .1) h)
 
     -- locks and unlocks of what is read, and the writes
     abbrev Inside : List (Put Place) → Type 0
@@ -163,33 +167,39 @@ module _ (z : Sizes) where
     inside-if true ps h = h
     inside-if false ps h = tt
 
-    unlock-valid : (low s : ℕ) (p : Place → ℕ) → Inside (S.unlock-each u c low s p)
+    unlock-valid : There Reads → (low s : ℕ) (p : Place → ℕ) → Inside (S.unlock-each u c low s p)
     unfolding U.item-of
-    unlock-valid low s p =
+    unlock-valid fit low s p =
         sweep-valid Srv.places (Srv.server-block (z .slots)) _ (count u Reads) p
-        (λ i q h. inside-if (U.locked-at low s (U.read-item u i)) (unlock-step (object-of (number-at u Reads i)) c q) (unlock-inside (z .slots) q (object-of (number-at u Reads i)) c (read-has i h)))
+        (λ i q h. inside-if (U.locked-at low s (U.read-item u i)) (unlock-step (object-of (number-at u Reads i)) c q) (unlock-inside (z .slots) q (object-of (number-at u Reads i)) c (set-has Reads fit i h)))
 
-    lock-valid : (low s : ℕ) (p : Place → ℕ) → Inside (S.lock-each u c low s p)
+    lock-valid : There Reads → (low s : ℕ) (p : Place → ℕ) → Inside (S.lock-each u c low s p)
     unfolding U.item-of
-    lock-valid low s p =
+    lock-valid fit low s p =
         sweep-valid Srv.places (Srv.server-block (z .slots)) _ (count u Reads) p
         (λ i q h. inside-if (U.locked-at low s (U.read-item u i)) (lock-step (object-of (number-at u Reads i)) (U.read-item u i .written) c q)
-        (lock-inside (z .slots) q (object-of (number-at u Reads i)) (U.read-item u i .written) c (read-has i h)))
+        (lock-inside (z .slots) q (object-of (number-at u Reads i)) (U.read-item u i .written) c (set-has Reads fit i h)))
 
-    writes-valid : (s : ℕ) (p : Place → ℕ) → Inside (S.store-all u s p)
-    writes-valid s p = sweep-valid Srv.places (Srv.server-block (z .slots)) (S.store-write u s) (count u Writes) p (λ i q h. write-inside (z .slots) u s i q (written-has i h))
+    writes-valid : There Writes → (s : ℕ) (p : Place → ℕ) → Inside (S.store-all u s p)
+    writes-valid fit s p = sweep-valid Srv.places (Srv.server-block (z .slots)) (S.store-write u s) (count u Writes) p (λ i q h. write-inside (z .slots) u s i q (set-has Writes fit i h))
 
     -- ---- ABORT
-    pub aborting-lies : (us : List ℕ) → Lies (S.aborting z m c us)
-    aborting-lies us =
+    aborting-lies : abort-fits z m c ≡ true → (us : List ℕ) → Lies (S.aborting z m c us)
+    unfolding abort-fits fit-to-abort
+    aborting-lies fits us =
         lies-append (S.unlocked-everywhere z m c) (S.in-client z m c (Life.abort-part us))
         (lies-servers (z .servers) _
-        (λ s h. lies-either (bit (u prepared) s) _ [] (lies-server s h (S.unlock-each u c (lowest-participant z m c) s (server-of m s)) (unlock-valid (lowest-participant z m c) s (server-of m s))) lies-none))
+        (λ s h. lies-either (bit (u prepared) s) _ [] (lies-server s h (S.unlock-each u c (lowest-participant z m c) s (server-of m s)) (unlock-valid reads (lowest-participant z m c) s (server-of m s))) lies-none))
         (lies-part (Life.abort-part us) (good-abort us))
+      where
+        reads : There Reads
+        reads =
+            and-both (servers-fit u (z .servers) prepared) (numbers-fit (tree-sizes z) u Reads)
+            (and-both (fit-to-abort (tree-sizes z) u) (all-below (z .servers) (λ s. not (bit (u prepared) s) || (fit-to-unlock (tree-sizes z) u && unlock-fits z m c s))) fits .0) .1
 
     -- ---- a step that is refused where something is out of range, and one of two
-    lies-if : (b : Bool) (d : S.Did) → Lies (d .stores) → Lies (S.if-fit b d .stores)
-    lies-if true d h = h
+    lies-if : (b : Bool) (d : S.Did) → (b ≡ true → Lies (d .stores)) → Lies (S.if-fit b d .stores)
+    lies-if true d h = h refl
     lies-if false d h = lies-none
 
     lies-one : (b : Bool) (d e : S.Did) → Lies (d .stores) → Lies (e .stores) → Lies (cond b d e .stores)
@@ -198,7 +208,11 @@ module _ (z : Sizes) where
 
     abort-lies : (y : ℕ) (us : List ℕ) → Lies (S.abort z m c y us .stores)
     unfolding S.abort
-    abort-lies y us = lies-if (abort-fits z m c) _ (aborting-lies us)
+    abort-lies y us = lies-if (abort-fits z m c) _ (λ fits. aborting-lies fits us)
+
+    -- by what is found
+    lies-found : (y : ℕ) (d : S.Did) (us : List ℕ) → Lies (d .stores) → Lies (S.by-finding y d (λ x. S.abort z m c x us) .stores)
+    lies-found y d us h = lies-one (eqb y 0) _ _ h (lies-one (eqb y 10) _ _ lies-none (abort-lies y us))
 
     -- ---- WORK
     handed-lies : (us : List ℕ) (g : PartStep) → Good g → Lies (S.handed z m c us g)
@@ -206,8 +220,9 @@ module _ (z : Sizes) where
 
     object-lies : (us : List ℕ) (s x : ℕ) (out : Outcome) (ok : Bool) (g : PartStep) → Good g → Lies (S.fetch-object z m c us s x out ok g .stores)
     object-lies us s x out ok g h =
-        lies-if (ok && lock-fits z m s _) _
-        (lies-one (held (object-of x) c Fetch (server-of m s)) _ _ (abort-lies 2 us) (lies-one (S.full z m c us) _ _ (abort-lies 4 us) (handed-lies us g h)))
+        lies-if (lock-fits z m s x) _
+        (λ _. lies-one (held (object-of x) c Fetch (server-of m s)) _ _ (abort-lies 2 us)
+        (lies-one (S.full z m c us) _ _ (abort-lies 4 us) (lies-if ok _ (λ _. handed-lies us g h))))
 
     vector-lies : (us : List ℕ) (s : ℕ) → s < 8 → Lies (S.handed z m c us (fetched-vector s (vector-at (server-of m s))))
     vector-lies us s h = handed-lies us (fetched-vector s (vector-at (server-of m s))) (good-fetched-vector s (vector-at (server-of m s)) h)
@@ -227,7 +242,7 @@ module _ (z : Sizes) where
         (good-fetched-meta (metadata-at p .root) (metadata-at p .version))
     hand-over-lies us (O.object (O.node n)) out h =
         let r = S.node-at (server-of m (N.server-of n)) n in
-        object-lies us (N.server-of n) (1 + n) out (node-in-range r) (fetched-node n r) (good-fetched-node n r)
+        object-lies us (N.server-of n) (1 + n) out (node-fits (tree-sizes z) r) (fetched-node n r) (good-fetched-node n r)
     hand-over-lies us (O.object (O.flag n)) out h = vector-lies us (N.server-of n) h
     hand-over-lies us (O.vector s) out h = vector-lies us s h
     hand-over-lies us (O.fetched s) out h = vector-lies us s h
@@ -236,13 +251,14 @@ module _ (z : Sizes) where
     unfolding S.fetch
     fetch-lies us a h =
         let w = S.wanted (z .servers) c a in
-        let items = S.fetch-items z m c us (w .from) in
-        let found = U.deciding (map (S.fetch-finding z m c us (w .from)) items) in
-        let over = S.hand-over z m c us a (w .from) (Fetched (w .what) (w .which)) in
-        lies-if (U.all (check-fits z m (w .from)) items) (cond (eqb found 0) over (S.abort z m c found us))
-        (lies-one (eqb found 0) over (S.abort z m c found us) (hand-over-lies us a (Fetched (w .what) (w .which)) h) (abort-lies found us))
+        lies-found (U.deciding (map (S.fetch-finding z m c us (w .from)) (S.fetch-items z m c us))) (S.hand-over z m c us a (w .from) (Fetched (w .what) (w .which))) us
+        (hand-over-lies us a (Fetched (w .what) (w .which)) h)
 
     -- what is fetched is one of the store's
+    near-server : (s : ℕ) → bad-vector (tree-sizes z) u s ≡ false → s < 8
+    near-server s e =
+        omega (arith, ltb-true s (z .servers) (and-both (ltb s (z .servers)) (vector-fits u s) (not-false (ltb s (z .servers) && vector-fits u s) e) .0), al .servers)
+
     near : (a : O.Ask) → broken (tree-sizes z) u a ≡ false → Near a
     unfolding broken
     near (O.object O.meta) e = tt
@@ -252,12 +268,12 @@ module _ (z : Sizes) where
         go : (b : Bool) → in-store (tree-sizes z) n ≡ b → cond b (unusable (tree-sizes z) u (8193 + n) (source u (8193 + n))) true ≡ false → N.server-of n < 8
         go true i q = omega (arith, named-in (tree-sizes z) n i .0, al .servers)
         go false i q = absurd (true≢false q)
-    near (O.vector s) e = omega (arith, ltb-true s (z .servers) (not-false (ltb s (z .servers)) e), al .servers)
-    near (O.fetched s) e = omega (arith, ltb-true s (z .servers) (not-false (ltb s (z .servers)) e), al .servers)
+    near (O.vector s) e = near-server s e
+    near (O.fetched s) e = near-server s e
 
     work-lies : Lies (S.work z m c .stores)
     unfolding S.work
-    work-lies = go (worked (tree-sizes z) u) refl
+    work-lies = lies-if (fit-to-work (tree-sizes z) u) _ (λ _. go (worked (tree-sizes z) u) refl)
       where
         us : List ℕ
         us = walked (tree-sizes z) u .used
@@ -271,29 +287,31 @@ module _ (z : Sizes) where
     -- ---- COMMIT
     commit-lies : Lies (S.commit z m c .stores)
     unfolding S.commit
-    commit-lies = lies-one (eqb (participants-of u (z .servers)) 0) _ _ (lies-part (Life.reset 0) (good-reset 0)) (lies-part (committing (z .servers)) (good-committing (z .servers)))
+    commit-lies =
+        lies-if (fit-to-commit (tree-sizes z) u) _
+        (λ _. lies-one (eqb (participants-of u (z .servers)) 0) _ _ (lies-part (Life.reset 0) (good-reset 0)) (lies-part (committing (z .servers)) (good-committing (z .servers))))
 
     -- ---- APPLY and PREPARE at a server
-    module _ (s : ℕ) (h : s < z .servers) where
-      applying-lies : Lies (S.applying z m c s)
+    module _ (s : ℕ) (h : s < z .servers) (reads : There Reads) where
+      applying-lies : There Writes → Lies (S.applying z m c s)
       unfolding andThen
-      applying-lies =
+      applying-lies writes =
           let p = server-of m s in
           lies-server s h (andThen Srv.places (S.store-all u s) (S.unlock-each u c (lowest-participant z m c) s) p)
           (valid-append Srv.places (Srv.server-block (z .slots)) (S.store-all u s p) (S.unlock-each u c (lowest-participant z m c) s (changed Srv.places p (S.store-all u s p)))
-          (writes-valid s p) (unlock-valid (lowest-participant z m c) s (changed Srv.places p (S.store-all u s p))))
+          (writes-valid writes s p) (unlock-valid reads (lowest-participant z m c) s (changed Srv.places p (S.store-all u s p))))
 
-      pub applied-lies : Lies (S.applied-at z m c s .stores)
+      applied-lies : There Writes → Lies (S.applied-at z m c s .stores)
       unfolding S.applied-at
-      applied-lies =
+      applied-lies writes =
           lies-one (S.all-applied z m c s) _ _
-          (lies-append (S.applying z m c s) _ applying-lies (lies-part _ (good-then (noted applied s) finish (good-noted 7 s (omega arith)) good-finish)))
-          (lies-append (S.applying z m c s) _ applying-lies (lies-part (noted applied s) (good-noted 7 s (omega arith))))
+          (lies-append (S.applying z m c s) _ (applying-lies writes) (lies-part _ (good-then (noted applied s) finish (good-noted 7 s (omega arith)) good-finish)))
+          (lies-append (S.applying z m c s) _ (applying-lies writes) (lies-part (noted applied s) (good-noted 7 s (omega arith))))
 
       preparing-lies : Lies (S.preparing z m c s)
       preparing-lies =
           lies-append (S.in-server z m c s (S.lock-each u c (lowest-participant z m c) s)) _
-          (lies-server s h (S.lock-each u c (lowest-participant z m c) s (server-of m s)) (lock-valid (lowest-participant z m c) s (server-of m s))) (lies-part (noted prepared s) (good-noted 6 s (omega arith)))
+          (lies-server s h (S.lock-each u c (lowest-participant z m c) s (server-of m s)) (lock-valid reads (lowest-participant z m c) s (server-of m s))) (lies-part (noted prepared s) (good-noted 6 s (omega arith)))
 
       deciding-lies : Lies (S.deciding-stores z m c s)
       deciding-lies = lies-append (S.preparing z m c s) _ preparing-lies (lies-part decided good-decided)
@@ -304,46 +322,73 @@ module _ (z : Sizes) where
     lose-lies =
         lies-one (eqb (u phase) 0) _ _ (lies-part drop-all good-drop-all)
         (lies-one (eqb (u phase) 3) _ _ (lies-part Life.lose-part good-lose)
-        (lies-if (abort-fits z m c) _
-        (lies-append (S.abort z m c 7 [] .stores) _ (abort-lies 7 []) (lies-client c l _ (good-drop-all .all (client-of (changed whole m (S.abort z m c 7 [] .stores)) c))))))
+        (lies-if (leb (u phase) 3 && abort-fits z m c) _
+        (λ fits. lies-append (S.aborting z m c []) _ (aborting-lies (and-both (leb (u phase) 3) (abort-fits z m c) fits .1) [])
+        (lies-client c l _ (good-drop-all .all (client-of (changed whole m (S.aborting z m c [])) c))))))
 
--- ---- PREPARE: its own part is in range still where it also applies
-module _ (z : Sizes) (al : Allowed z) (m : Address → ℕ) (c : ℕ) (l : c < z .clients) (fit : client-fits (tree-sizes z) (client-of m c) ≡ true) (s : ℕ) (h : s < z .servers) where
+-- what an apply reads: the objects of both sets are there
+apply-numbers : (z : TreeSizes) (u : ClientWord → ℕ) (s : ℕ) (last : Bool) → fit-to-apply z u s last ≡ true → (numbers-fit z u Reads ≡ true) × (numbers-fit z u Writes ≡ true)
+unfolding fit-to-apply fit-to-unlock
+apply-numbers z u s last h =
+    let rest = writes-fit z u s && (not last || fit-to-renew z u) in
+    let p = and-both (servers-fit u (z .servers) applied && numbers-fit z u Reads) (fit-to-unlock z u && rest) h in (
+      and-both (servers-fit u (z .servers) applied) (numbers-fit z u Reads) (p .0) .1,
+      and-both (servers-fit u (z .servers) participants) (numbers-fit z u Writes) (and-both (fit-to-unlock z u) rest (p .1) .0) .1,
+    )
+
+-- they stay where the sets do
+numbers-same : (z : TreeSizes) (u v : ClientWord → ℕ) → Same-sets u v → (s : Set) → said-count v s ≡ said-count u s → ((i : ℕ) → v (item s i 0) ≡ u (item s i 0))
+    → numbers-fit z v s ≡ numbers-fit z u s
+unfolding numbers-fit number-fits
+numbers-same z u v S s c e =
+    λ t. leb (c t) (limit s) && all-below (count-frame u v s (S .reads) (S .writes) t) (λ i. number-in-store z (number-frame 0 0 0 u v S s i (e i) t))
+
+-- ---- PREPARE: the sets are the same still where it also applies
+module _ (z : Sizes) (al : Allowed z) (m : Address → ℕ) (c : ℕ) (l : c < z .clients) (s : ℕ) (h : s < z .servers) where
+  abbrev mine : ClientWord → ℕ
+  mine = client-of m c
+
   abbrev m₂ : Address → ℕ
   m₂ = changed whole m (S.deciding-stores z m c s)
 
-  fit₂ : client-fits (tree-sizes z) (client-of m₂ c) ≡ true
-  unfolding decided
-  fit₂ =
-      let u = client-of m c in
-      let v = changed client-words u (noted prepared s u) in
+  sets₂ : Same-sets mine (client-of m₂ c)
+  unfolding decided noted Only
+  sets₂ =
+      let v = changed client-words mine (noted prepared s mine) in
       let m₁ = changed whole m (S.preparing z m c s) in
-      subst (λ (w : ClientWord → ℕ). client-fits (tree-sizes z) w ≡ true)
-      (sym (ap (λ (f : Address → ℕ). client-of f c) (changed-append whole (S.preparing z m c s) (over (client c) (decided u)) m)
-      ∙ client-changed m₁ c (decided u) ∙ ap (λ (w : ClientWord → ℕ). changed client-words w (decided u)) (both-client m s c _ _)))
-      (decision-fits (tree-sizes z) v (prepared-fits (tree-sizes z) u fit s h))
+      subst (Same-sets mine)
+      (sym (ap (λ (f : Address → ℕ). client-of f c) (changed-append whole (S.preparing z m c s) (over (client c) (decided mine)) m)
+      ∙ client-changed m₁ c (decided mine) ∙ ap (λ (w : ClientWord → ℕ). changed client-words w (decided mine)) (both-client m s c _ _)))
+      (sets-then mine v (changed client-words v (decided v)) (else-same (noted prepared s mine) mine (refl, tt) .sets) (else-same (decided v) v (refl, tt) .sets))
 
-  prepared-lies : Lies z (S.prepared-at z m c s .stores)
+  alone-lies : fit-to-apply (tree-sizes z) mine s true ≡ true → Lies z (S.applied-at z m₂ c s .stores)
+  alone-lies fits =
+      let both = apply-numbers (tree-sizes z) mine s true fits in
+      applied-lies z al m₂ c l s h (numbers-same (tree-sizes z) mine (client-of m₂ c) sets₂ Reads (sets₂ .reads) (λ i. sets₂ .items-read i 0) ∙ both .0)
+      (numbers-same (tree-sizes z) mine (client-of m₂ c) sets₂ Writes (sets₂ .writes) (λ i. sets₂ .items-written i 0) ∙ both .1)
+
+  prepared-lies : numbers-fit (tree-sizes z) mine Reads ≡ true → Lies z (S.prepared-at z m c s .stores)
   unfolding S.prepared-at
-  prepared-lies =
+  prepared-lies reads =
       let ps = S.deciding-stores z m c s in
-      lies-one z al m c l fit (not (S.all-prepared z m c s)) _ _ (preparing-lies z al m c l fit s h)
-      (lies-one z al m c l fit (S.only z m c s) _ _
-      (lies-if z al m c l fit (versions-fit z m c) _ (lies-append z ps (S.applied-at z m₂ c s .stores) (deciding-lies z al m c l fit s h) (applied-lies z al m₂ c l fit₂ s h)))
-      (deciding-lies z al m c l fit s h))
+      lies-one z al m c l (not (S.all-prepared z m c s)) _ _ (preparing-lies z al m c l s h reads)
+      (lies-one z al m c l (S.only z m c s) _ _
+      (lies-if z al m c l (fit-to-apply (tree-sizes z) mine s true) _ (λ fits. lies-append z ps (S.applied-at z m₂ c s .stores) (deciding-lies z al m c l s h reads) (alone-lies fits)))
+      (deciding-lies z al m c l s h reads))
 
   prepare-lies : Lies z (S.prepare z m c s .stores)
-  unfolding S.prepare
+  unfolding S.prepare fit-to-prepare
   prepare-lies =
-      let found = U.deciding (map (S.prepare-finding z m c s) (U.read-items (client-of m c))) in
-      lies-if z al m c l fit (prepare-fits z m c s) (cond (eqb found 0) (S.prepared-at z m c s) (S.abort z m c found []))
-      (lies-one z al m c l fit (eqb found 0) (S.prepared-at z m c s) (S.abort z m c found []) prepared-lies (abort-lies z al m c l fit found []))
+      lies-if z al m c l (fit-to-prepare (tree-sizes z) mine) _
+      (λ fits. lies-found z al m c l (U.deciding (map (S.prepare-finding z m c s) (U.read-items mine))) (S.prepared-at z m c s) []
+      (prepared-lies (and-both (numbers-fit (tree-sizes z) mine Reads) (numbers-fit (tree-sizes z) mine Writes)
+      (and-both (servers-fit mine (z .servers) participants && servers-fit mine (z .servers) prepared) (numbers-fit (tree-sizes z) mine Reads && numbers-fit (tree-sizes z) mine Writes) fits .1) .0)))
 
 -- ---- THE STEP
 module _ (z : Sizes) (al : Allowed z) (k : Step.Step) (m : Address → ℕ) where
-  kind-lies : Passed z k m → client-fits (tree-sizes z) (client-of m (k .client)) ≡ true → Lies z (S.by-kind z m (k .client) k (kind-of (k .kind)) .stores)
+  kind-lies : Passed z k m → Lies z (S.by-kind z m (k .client) k (kind-of (k .kind)) .stores)
   unfolding kind-of S.begin S.give S.apply
-  kind-lies p fit = go (k .kind) refl (p .known-kind)
+  kind-lies p = go (k .kind) refl (p .known-kind)
     where
       c : ℕ
       c = k .client
@@ -352,24 +397,25 @@ module _ (z : Sizes) (al : Allowed z) (k : Step.Step) (m : Address → ℕ) wher
       l = p .known-client
 
       go : (x : ℕ) → k .kind ≡ x → x ≤ 7 → Lies z (S.by-kind z m (k .client) k (kind-of x) .stores)
-      go zero e r = lies-part z al m c l fit (Life.reset 1) (good-reset 1)
-      go (suc zero) e r = lies-part z al m c l fit (Life.give-part (k .op) (k .key) (k .value) (k .server)) (good-give (k .op) (k .key) (k .value) (k .server))
-      go (suc (suc zero)) e r = work-lies z al m c l fit
-      go (suc (suc (suc zero))) e r = commit-lies z al m c l fit
-      go (suc (suc (suc (suc zero)))) e r = prepare-lies z al m c l fit (k .server) (p .known-participant (omega (arith, e)) (omega (arith, e)))
+      go zero e r = lies-part z al m c l (Life.reset 1) (good-reset 1)
+      go (suc zero) e r = lies-part z al m c l (Life.give-part (k .op) (k .key) (k .value) (k .server)) (good-give (k .op) (k .key) (k .value) (k .server))
+      go (suc (suc zero)) e r = work-lies z al m c l
+      go (suc (suc (suc zero))) e r = commit-lies z al m c l
+      go (suc (suc (suc (suc zero)))) e r = prepare-lies z al m c l (k .server) (p .known-participant (omega (arith, e)) (omega (arith, e)))
       go (suc (suc (suc (suc (suc zero))))) e r =
-          lies-if z al m c l fit (S.apply-fits z m c (k .server)) (S.applied-at z m c (k .server))
-          (applied-lies z al m c l fit (k .server) (p .known-participant (omega (arith, e)) (omega (arith, e))))
-      go (suc (suc (suc (suc (suc (suc zero)))))) e r = abort-lies z al m c l fit 6 []
-      go (suc (suc (suc (suc (suc (suc (suc zero))))))) e r = lose-lies z al m c l fit
+          let last = S.all-applied z m c (k .server) in
+          lies-if z al m c l (S.apply-fits z m c (k .server)) (S.applied-at z m c (k .server))
+          (λ fits. let both = apply-numbers (tree-sizes z) (client-of m c) (k .server) last
+          (and-both (fit-to-apply (tree-sizes z) (client-of m c) (k .server) last) (unlock-fits z m c (k .server)) fits .0) in
+          applied-lies z al m c l (k .server) (p .known-participant (omega (arith, e)) (omega (arith, e))) (both .0) (both .1))
+      go (suc (suc (suc (suc (suc (suc zero)))))) e r = abort-lies z al m c l 6 []
+      go (suc (suc (suc (suc (suc (suc (suc zero))))))) e r = lose-lies z al m c l
       go (suc (suc (suc (suc (suc (suc (suc (suc x)))))))) e r = absurd (omega arith)
 
   pub step-lies : Lies z (S.step z k m .stores)
   unfolding S.step
-  step-lies = go (eqb (refusal z k m) 0) refl (client-fits (tree-sizes z) (client-of m (k .client))) refl
+  step-lies = go (eqb (refusal z k m) 0) refl
     where
-      go : (a : Bool) → eqb (refusal z k m) 0 ≡ a → (b : Bool) → client-fits (tree-sizes z) (client-of m (k .client)) ≡ b
-          → Lies z (cond a (S.if-fit b (S.by-kind z m (k .client) k (kind-of (k .kind)))) (S.refuse (refusal z k m)) .stores)
-      go true e true f = kind-lies (passed z k m (eqb-true (refusal z k m) 0 e)) f
-      go true e false f = lies-none z
-      go false e b f = lies-none z
+      go : (a : Bool) → eqb (refusal z k m) 0 ≡ a → Lies z (cond a (S.by-kind z m (k .client) k (kind-of (k .kind))) (S.refuse (refusal z k m)) .stores)
+      go true e = kind-lies (passed z k m (eqb-true (refusal z k m) 0 e))
+      go false e = lies-none z

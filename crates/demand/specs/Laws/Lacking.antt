@@ -17,11 +17,11 @@ use Rattle.operations.specs.Slot.{TreeSizes, Allowed}
 use Rattle.client.specs.declared.answer.Look.{Look}
 use Rattle.client.specs.declared.part.Set.the-variants.{Reads, Writes}
 use Rattle.client.specs.Layout.{ClientWord, reads-count}
-use Rattle.client.specs.Record.{number, value-of, object-in-store, record-in-range}
+use Rattle.client.specs.Record.{number, value-of, object-in-store}
 use Rattle.client.specs.Sets.{find}
-use Rattle.client.specs.Fits.{client-fits}
+use Rattle.client.specs.Laws.Ranges.{client-fits}
 use Rattle.client.specs.Run.{among}
-use Rattle.client.specs.Have.{is-found, or-copied, or-read, source, valued, have, unusable, broken}
+use Rattle.client.specs.Have.{is-found, or-copied, or-read, source, look-fits, valued, have, unusable, broken}
 use Rattle.client.specs.Answered.{entered}
 use Rattle.client.specs.Work.{Worked, walked, worked}
 use Rattle.demand.specs.Laws.Store.{sizes}
@@ -47,13 +47,14 @@ fetched-ask (Work.answers a w) = none
 module _ (z : TreeSizes) (u : ClientWord → ℕ) where
   -- the last questions fetch nothing
   no-fetch : (a : Ans) (w : O.Writes) → fetched-ask (Work.last-questions z u a w) ≡ none
-  no-fetch a w = go (not (all-fit? w w)) (ltb 48 (Work.writes-after u w)) (Work.any-at-last u (entered w))
+  no-fetch a w = go (not (all-fit? w w)) (ltb 48 (Work.writes-after u w)) (not (Work.versions-there u (entered w))) (Work.any-at-last u (entered w))
     where
-      go : (p q r : Bool) → fetched-ask (cond p (Work.aborted 3) (cond q (Work.aborted 4) (cond r (Work.aborted 8) (Work.answers a w)))) ≡ none
-      go true q r = refl
-      go false true r = refl
-      go false false true = refl
-      go false false false = refl
+      go : (p q r s : Bool) → fetched-ask (cond p (Work.aborted 3) (cond q (Work.aborted 4) (cond r Work.refused (cond s (Work.aborted 8) (Work.answers a w))))) ≡ none
+      go true q r s = refl
+      go false true r s = refl
+      go false false true s = refl
+      go false false false true = refl
+      go false false false false = refl
 
   pub fetch-lacks : (a : Ask) → worked z u ≡ Work.fetches a → (walked z u .how ≡ Run.lacks a) × (broken z u a ≡ false)
   unfolding worked
@@ -111,7 +112,7 @@ lacks-object z u o h b = in-store? (object-in-store z o) refl h b
     in-store? : (s : Bool) → object-in-store z o ≡ s → cond s (valued z u o l) none ≡ none → cond s (unusable z u (number o) l) true ≡ false → Lacks z u o
     in-store? false e h b = absurd (true≢false b)
     in-store? true e h b =
-        let p = sets (find u Writes (number o)) refl (find u Reads (number o)) refl (not-found (is-found (l .how)) (record-in-range z (number o) (l .node)) h b) in
+        let p = sets (find u Writes (number o)) refl (find u Reads (number o)) refl (not-found (is-found (l .how)) (look-fits z u (number o) l) h b) in
         record { inside = e; unwritten = p .0; unread = p .1 }
 
 module _ (k j slots : ℕ) (al : Allowed (sizes k j slots)) (u : ClientWord → ℕ) (fit : client-fits (sizes k j slots) u ≡ true) (y : P.Slot (T k j slots)) (shown : Slot-shown k j slots u y) (f : Obj → Option (P.Copy (T k j slots))) (copies : Copies-shown k j slots u f) (o : Obj) (hi : In-store k j slots o) (lack : have (sizes k j slots) u (object o) ≡ none) where

@@ -31,7 +31,7 @@ use Rattle.client.specs.Layout.{ClientWord}
 use Rattle.client.specs.Record.{number, value-of}
 use Rattle.client.specs.Commit.{is-at}
 use Rattle.client.specs.Sets.{count, record-at, number-at, find}
-use Rattle.client.specs.Fits.{client-fits}
+use Rattle.client.specs.Laws.Ranges.{client-fits}
 use Rattle.client.specs.Participants.{at-home}
 use Rattle.steps.specs.Steps.{lock-each, unlock-each}
 use Rattle.demand.specs.Laws.Store.{sizes, home, keeps}

@@ -26,12 +26,12 @@ use Rattle.client.specs.declared.part.Set.the-variants.{Reads, Writes}
 use Rattle.client.specs.Layout.{ClientWord, client-words, phase, participants, prepared, applied}
 use Rattle.client.specs.Record.{number, value-of}
 use Rattle.client.specs.Sets.{count, record-at, number-at, find}
-use Rattle.client.specs.Fits.{client-fits}
+use Rattle.client.specs.Laws.Ranges.{client-fits}
 use Rattle.client.specs.Participants.{lowest-of}
 use Rattle.client.specs.Course.{noted}
 use Rattle.steps.specs.declared.sizes.Sizes.{Sizes}
 use Rattle.steps.specs.Whole.{Address}
-use Rattle.steps.specs.Judge.{lowest-participant}
+use Rattle.steps.specs.Judge.{lowest-participant, lock-fits}
 use Rattle.steps.specs.Steps.{lock-each, prepare-reason, prepare-finding}
 use Rattle.demand.specs.Ledger.{Ledger}
 use Rattle.demand.specs.Laws.Store.{sizes}
@@ -54,14 +54,19 @@ use Rattle.steps.specs.Uses as U
 
 -- ---- a finding without a reason
 module _ (z : Sizes) (m : Address → ℕ) (c s : ℕ) (x : U.Item) (h : prepare-finding z m c s x .1 ≡ 0) (b : U.locked-at (lowest-participant z m c) s x ≡ true) where
-  reason-none : prepare-reason z m c s x ≡ 0
-  reason-none = subst (λ (t : Bool). cond t (prepare-reason z m c s x) 0 ≡ 0) b h
-
   abbrev whole-check : ℕ
-  whole-check = Chk.finding-reason (Chk.checked (U.item-object x) (x .inner-read) (x .mark) c (U.use-of x) (server-of m s))
+  whole-check = Chk.finding-number (Chk.checked (U.item-object x) (x .inner-read) (x .mark) c (U.use-of x) (server-of m s))
 
   abbrev lock-check : ℕ
   lock-check = cond (Chk.held (U.item-object x) c (U.use-of x) (server-of m s)) 2 0
+
+  -- its kinds and its lock fit, so it is the check of the object that found nothing
+  reason-none : cond (U.checked-at (lowest-participant z m c) s x) whole-check lock-check ≡ 0
+  reason-none = past (lock-fits z m s (x .number)) _ (subst (λ (t : Bool). cond t (prepare-reason z m c s x) 0 ≡ 0) b (past (x .read-fits && x .written-fits) _ h))
+    where
+      past : (t : Bool) (y : ℕ) → cond t y 10 ≡ 0 → y ≡ 0
+      past true y e = e
+      past false y e = absurd (omega (arith, e))
 
   pub free-of-others : Chk.held (U.item-object x) c (U.use-of x) (server-of m s) ≡ false
   free-of-others = go (U.checked-at (lowest-participant z m c) s x) reason-none

@@ -23,7 +23,7 @@ use Rattle.server.specs.Lock.{busy, locked, unlocked}
 use Rattle.server.specs.Laws.Lock.{reads, writes, no-other-writer, no-other-reader, write-locked, read-locked, read-locked-other, unlocked-reads-other, unlocked-writes-other}
 use Rattle.client.specs.Layout.{ClientWord}
 use Rattle.client.specs.Record.{number}
-use Rattle.client.specs.Fits.{client-fits}
+use Rattle.client.specs.Laws.Ranges.{client-fits}
 use Rattle.steps.specs.Steps.{unlock-each}
 use Rattle.demand.specs.Laws.Store.{sizes, fins}
 use Rattle.demand.specs.Laws.Held.{any-in}

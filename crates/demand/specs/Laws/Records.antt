@@ -29,8 +29,8 @@ use Rattle.client.specs.declared.part.Set.the-variants.{Reads, Writes}
 use Rattle.client.specs.Layout.{ClientWord, op-number, op-key, op-value, op-server}
 use Rattle.client.specs.Record.{number, first-slot, value-of, single, record-of, in-store, last-version, record-in-range}
 use Rattle.client.specs.Sets.{find}
-use Rattle.client.specs.Fits.{op-fits, client-fits}
-use Rattle.client.specs.Laws.Fits.{fits-field}
+use Rattle.client.specs.Fits.{op-fits}
+use Rattle.client.specs.Laws.Ranges.{client-fits, fits-field}
 use Rattle.client.specs.Have.{or-copied, or-read, source, have}
 use Rattle.client.specs.Work.{op-of, waiting}
 use Rattle.demand.specs.Laws.Store.{sizes}
@@ -118,7 +118,9 @@ record-storable N (node n) r s h p =
 -- what the waiting operation names
 pub op-names : (N : ℕ → Type 0) (z : TreeSizes) → ((n : ℕ) → in-store z n ≡ true → N n) → (u : ClientWord → ℕ) → client-fits z u ≡ true → Names N z (waiting u)
 unfolding op-fits
-op-names N z there u fit = go (u op-number) (fits-field z u fit 1 (omega arith)) (judged z u fit .0)
+op-names N z there u fit =
+    go (u op-number) (fits-field z u fit 1 (omega arith))
+    (and-both (leb (u op-number) 6) (cond (eqb (u op-number) 6) (in-store z (u op-key) && ltb (u op-server) (z .servers)) true) (judged z u fit .0) .1)
   where
     go : (q : ℕ) → q ≤ 6 → cond (eqb q 6) (in-store z (u op-key) && ltb (u op-server) (z .servers)) true ≡ true
         → Names N z (op-of q (u op-key) (u op-value) (u op-server))

@@ -1,6 +1,6 @@
 -- "The last apply .. renews its copies": each renewal is a move of the machine's copies.
-use mathlib.Core.Path.{_≡_, refl, ap, sym, _∙_, subst}
-use mathlib.Core.Bool.{Bool, true, false, cond, _&&_, _||_, false≢true}
+use mathlib.Core.Path.{_≡_, refl, ap, ap₂, sym, _∙_, subst}
+use mathlib.Core.Bool.{Bool, true, false, cond, _&&_, _||_, not, false≢true}
 use mathlib.Core.List.{List, [], _∷_}
 use mathlib.Core.Logic.{_⊎_, inl, inr}
 use mathlib.Core.Option.{Option, some}
@@ -8,7 +8,7 @@ use Prim.Native.Nat.{ℕ, suc, _+_, _-_, _/_, _%_, _≤_, _<_, Fin}
 use native.Mathlib.Omega.{arith}
 use native.Mathlib.Decide.{ℕ-discrete, Fin-discrete}
 use borrow.Author.Tests.{ltb-true, ltb-false, lt-leb, ne-eqb, eqb-true}
-use lib.Dec.{eqb, ltb}
+use lib.Dec.{eqb, leb, ltb}
 use lib.ListN.{length, getD}
 use Rattle.base.specs.Laws.Test.{bool-cases, or-cases}
 use Rattle.base.specs.Test.{and-both}
@@ -34,7 +34,9 @@ use Rattle.client.specs.Record.{number, by-number, value-of, first-slot, last-v
 use Rattle.client.specs.Sets.{count, record-at, number-at, find}
 use Rattle.client.specs.Vectors.{has-vector, vector-copy}
 use Rattle.client.specs.Commit.{is-at, inner-at}
-use Rattle.client.specs.Fits.{client-fits}
+use Rattle.client.specs.Items.{all-below}
+use Rattle.client.specs.Fits.{young}
+use Rattle.client.specs.Laws.Ranges.{client-fits}
 use Rattle.client.specs.Drops.{version-of, next-version}
 use Rattle.client.specs.Copies.{copy-node}
 use Rattle.client.specs.Part.{PartStep, nothing, put-fields, put-vector}
@@ -44,7 +46,7 @@ use Rattle.demand.specs.Laws.Numbers.{by-object, obj-of, number-obj, nam
 use Rattle.demand.specs.Laws.Shows.{T, In-store, copy, new-value, item-from, item-of, Slot-shown, Copies-shown}
 use Rattle.demand.specs.Laws.Slots.{Same-sets, count-frame, number-frame, same-read, record-frame}
 use Rattle.demand.specs.Laws.Dropped.{fewer, fewer-copies, only-outer, fewer-sets}
-use Rattle.demand.specs.Laws.Held.{first-at, found-at, has-at, written-in}
+use Rattle.demand.specs.Laws.Held.{all-at, first-at, found-at, has-at, written-in}
 use Rattle.demand.specs.Laws.Written.{by-obj}
 use Rattle.demand.specs.Laws.Placed.{record-sized}
 use Rattle.demand.specs.Laws.CopyWords.{sets-stay, sets-then, only-copy, only-fields, only-vector, flag-same, flag-other}
@@ -67,6 +69,15 @@ node-number x f h = go (obj-of x) refl (sym (by-obj x false f (λ n. false)) ∙
 flag-number : (x : ℕ) → 8193 ≤ x → obj-of x ≡ flag (x - 8193)
 unfolding obj-of
 flag-number x h = rw (ne-eqb x 0 (λ e. absurd (omega arith)), lt-leb x 8192 (omega arith))
+
+-- an inner node's item has an inner record
+inner-is : (w : ClientWord → ℕ) (i : ℕ) → inner-at w Writes i ≡ true → I.inner (number-at w Writes i) (record-at w Writes i) ≡ true
+unfolding inner-at I.inner record-at node-of tab
+inner-is w i h = go (eqb (number-at w Writes i) 0) (leb (number-at w Writes i) 8192) h
+  where
+    go : (a b : Bool) → cond a false (cond b (eqb (w (item Writes i 1)) 2) false) ≡ true → cond a true (cond b (eqb (w (item Writes i 1)) 2) false) ≡ true
+    go true b h = refl
+    go false b h = h
 
 -- ---- copies are renewed one after another: what each of these steps leaves as it is said, they leave all together
 pub record Renews (R : (ClientWord → ℕ) → Type 0) : Type 0 where
@@ -125,20 +136,29 @@ module _ (R : (ClientWord → ℕ) → Type 0) (K : Renews R) where
       go false e false d = r
       go false e true d = K .flag-renews i w x r s l (ltb-false (number-at w Writes i) 8193 e) (and-both (ltb (N.server-of n) 8) (has-vector w (N.server-of n)) d .1)
 
-  pub renew-keeps : (u : ClientWord → ℕ) → R u → R (changed client-words u (Rn.renew-kept u))
-  unfolding Rn.renew-kept Rn.renew Rn.renew-written Rn.for-writes nothing changed
-  renew-keeps u r = go (eqb (u lost) 1)
-    where
-      go : (b : Bool) → R (changed client-words u (cond b nothing Rn.renew u))
-      go true = r
-      go false =
-          then-keeps client-words R (Rn.for-writes Rn.drop-outer) Rn.renew-written u
-          (sweep-keeps client-words R Rn.drop-outer (count u Writes) (λ i w l. K .outer-drops i w) u r)
-          (λ w q. then-keeps client-words R (Rn.for-writes Rn.renew-nth) _ w (sweep-keeps client-words R Rn.renew-nth (count w Writes) (λ i v l. nth-renews i v) w q)
-          (λ v p. then-keeps client-words R Rn.renew-meta (Rn.for-writes Rn.renew-flag) v (metadata-renews v p)
-          (λ x s. sweep-keeps client-words R Rn.renew-flag (count x Writes) (λ i y l t. in-vector i y x t s l) x s)))
+  all-renews : (u : ClientWord → ℕ) → R u → R (changed client-words u (Rn.renew u))
+  unfolding Rn.renew Rn.renew-written Rn.for-writes
+  all-renews u r =
+      then-keeps client-words R (Rn.for-writes Rn.drop-outer) Rn.renew-written u
+      (sweep-keeps client-words R Rn.drop-outer (count u Writes) (λ i w l. K .outer-drops i w) u r)
+      (λ w q. then-keeps client-words R (Rn.for-writes Rn.renew-nth) _ w (sweep-keeps client-words R Rn.renew-nth (count w Writes) (λ i v l. nth-renews i v) w q)
+      (λ v p. then-keeps client-words R Rn.renew-meta (Rn.for-writes Rn.renew-flag) v (metadata-renews v p)
+      (λ x s. sweep-keeps client-words R Rn.renew-flag (count x Writes) (λ i y l t. in-vector i y x t s l) x s)))
 
-module _ (k j slots : ℕ) (al : Allowed (sizes k j slots)) (M : P.Machine (T k j slots)) (c : Fin (suc j)) (u : ClientWord → ℕ) (fit : client-fits (sizes k j slots) u ≡ true) (shown : Slot-shown k j slots u (M .slots c)) (now : M .slots c .phase ≡ decided) (early : (i : ℕ) → i < count u Writes → (ltb 8192 (number-at u Writes i) || ltb (version-of u (find u Reads (number-at u Writes i))) last-version) ≡ true) where
+-- "a lost client gets none"
+pub renew-keeps : (R : (ClientWord → ℕ) → Type 0) (u : ClientWord → ℕ) → (eqb (u lost) 1 ≡ false → Renews R) → R u → R (changed client-words u (Rn.renew-kept u))
+unfolding Rn.renew-kept nothing changed
+renew-keeps R u K r = go (eqb (u lost) 1) refl
+  where
+    go : (b : Bool) → eqb (u lost) 1 ≡ b → R (changed client-words u (cond b nothing Rn.renew u))
+    go true e = r
+    go false e = all-renews R (K e) u r
+
+-- the versions read of metadata and inner nodes that are renewed have a next one
+unfoldable pub renews-young : (ClientWord → ℕ) → Bool
+renews-young u = eqb (u lost) 1 || all-below (count u Writes) (λ i. not (I.inner (number-at u Writes i) (record-at u Writes i)) || young u (number-at u Writes i))
+
+module _ (k j slots : ℕ) (al : Allowed (sizes k j slots)) (M : P.Machine (T k j slots)) (c : Fin (suc j)) (u : ClientWord → ℕ) (fit : client-fits (sizes k j slots) u ≡ true) (shown : Slot-shown k j slots u (M .slots c)) (now : M .slots c .phase ≡ decided) (early : renews-young u ≡ true) where
   abbrev Copy : Type 0
   Copy = Option (P.Copy (T k j slots))
 
@@ -229,19 +249,28 @@ module _ (k j slots : ℕ) (al : Allowed (sizes k j slots)) (M : P.Machine (T k 
       ((ap (λ (x : ℕ). cond (by-value k j slots o) 0 (suc x)) (W .version) ∙ sym q) t)))
       (Mv.renewed (W .item) now (W .has) (W .written))
 
-  -- "a written version becomes the one read plus 1": of the metadata and of nodes
-  next-is : (w : ClientWord → ℕ) → Same-sets u w → (i : ℕ) → i < count u Writes → (o : Obj) (W : Written i o) → number-at u Writes i ≤ 8192
+  -- "a written version becomes the one read plus 1": of the metadata and of inner nodes, where the client is not lost
+  next-is : eqb (u lost) 1 ≡ false → (w : ClientWord → ℕ) → Same-sets u w → (i : ℕ) → i < count u Writes → (o : Obj) (W : Written i o) → number-at u Writes i ≤ 8192
+      → I.inner (number-at u Writes i) (record-at u Writes i) ≡ true
       → Rn.new-version w (number-at u Writes i) ≡ suc (record-at u Reads (W .read-at) .version)
-  unfolding Rn.new-version next-version record-at node-of tab
-  next-is w S i l o W small =
+  unfolding Rn.new-version next-version record-at node-of tab renews-young young
+  next-is kept w S i l o W small inside =
       ap (λ (v : ℕ). cond (ltb v last-version) (suc v) 0) (ap (version-of w) (same-read u w k j slots S x ∙ W .found) ∙ S .items-read (W .read-at) 3) ∙ rw below
     where
       x : ℕ
       x = number-at u Writes i
 
       below : ltb (u (item Reads (W .read-at) 3)) last-version ≡ true
-      below = go (or-cases (ltb 8192 x) (ltb (version-of u (find u Reads x)) last-version) (early i l))
+      below = go (or-cases (ltb 8192 x) (ltb (version-of u (find u Reads x)) last-version) next)
         where
+          each : ℕ → Bool
+          each i = not (I.inner (number-at u Writes i) (record-at u Writes i)) || young u (number-at u Writes i)
+
+          next : (ltb 8192 x || ltb (version-of u (find u Reads x)) last-version) ≡ true
+          next =
+              subst (λ (b : Bool). (not b || young u x) ≡ true) inside
+              (all-at (count u Writes) each (subst (λ (b : Bool). (b || all-below (count u Writes) each) ≡ true) kept early) i l)
+
           go : (ltb 8192 x ≡ true) ⊎ (ltb (version-of u (find u Reads x)) last-version ≡ true) → ltb (u (item Reads (W .read-at) 3)) last-version ≡ true
           go (inl h) = absurd (omega (arith, ltb-true 8192 x h))
           go (inr h) = sym (ap (λ (f : Found). ltb (version-of u f) last-version) (W .found)) ∙ h
@@ -270,10 +299,10 @@ module _ (k j slots : ℕ) (al : Allowed (sizes k j slots)) (M : P.Machine (T k 
     unfolding record-at node-of tab
     first-is i = K .sets .items-written i 19
 
-    node-renewed : (i n : ℕ) → i < count w Writes → obj-of (number-at w Writes i) ≡ node n → number-at w Writes i ≡ 1 + n
+    node-renewed : eqb (u lost) 1 ≡ false → (i n : ℕ) → i < count w Writes → inner-at w Writes i ≡ true → obj-of (number-at w Writes i) ≡ node n → number-at w Writes i ≡ 1 + n
         → Renewing (changed client-words w (copy-node (number-at w Writes i) (Rn.renewed w i) w))
     unfolding Rn.renewed Rn.versioned keysOf slotsOf
-    node-renewed i n l e q =
+    node-renewed kept i n l h e q =
         subst (λ (x : ℕ). Renewing (changed client-words w (copy-node x r w))) (sym q)
         (go (copied-node k j slots w (K .copies c) (K .shows) n r sized))
       where
@@ -293,7 +322,10 @@ module _ (k j slots : ℕ) (al : Allowed (sizes k j slots)) (M : P.Machine (T k 
         W = subst (Written i) (ap obj-of (sym (number-is i)) ∙ e) (write-item i inside)
 
         new : r .version ≡ suc (record-at u Reads (W .read-at) .version)
-        new = ap (Rn.new-version w) (number-is i) ∙ next-is w (K .sets) i inside (node n) W (omega (arith, q, number-is i, name-lt (sizes k j slots) al n (W .stored)))
+        new =
+            ap (Rn.new-version w) (number-is i)
+            ∙ next-is kept w (K .sets) i inside (node n) W (omega (arith, q, number-is i, name-lt (sizes k j slots) al n (W .stored)))
+            (ap₂ I.inner (sym (number-is i)) (sym (record-is i)) ∙ inner-is w i h)
 
         go : Copies-shown k j slots v (K .copies c) ⊎ Copies-shown k j slots v (given k j slots w (K .copies c) (K .shows) n r sized) → Renewing v
         go (inl h) = unrenewed w v K (sets-stay (copy-node (1 + n) r w) w (only-copy (1 + n) r w)) h
@@ -302,14 +334,14 @@ module _ (k j slots : ℕ) (al : Allowed (sizes k j slots)) (M : P.Machine (T k 
             (renewed-legal (K .copies) i (node n) W (value-of (node n) r) (r .version) (ap (value-of (node n)) (record-is i)) new) h
 
     -- ---- "metadata"
-    meta-renewed : (i : ℕ) → find w Writes 0 ≡ At i → Renewing (changed client-words w (put-fields 12 (1 ∷ w (item Writes i 19) ∷ Rn.new-version w 0 ∷ []) w))
-    unfolding obj-of
-    meta-renewed i e =
+    meta-renewed : eqb (u lost) 1 ≡ false → (i : ℕ) → find w Writes 0 ≡ At i → Renewing (changed client-words w (put-fields 12 (1 ∷ w (item Writes i 19) ∷ Rn.new-version w 0 ∷ []) w))
+    unfolding obj-of I.inner
+    meta-renewed kept i e =
         renewal w (changed client-words w (put-fields 12 (1 ∷ w (item Writes i 19) ∷ Rn.new-version w 0 ∷ []) w)) K
         (sets-stay (put-fields 12 (1 ∷ w (item Writes i 19) ∷ Rn.new-version w 0 ∷ []) w) w (only-fields 1 (w (item Writes i 19)) (Rn.new-version w 0) w))
         meta (copy k j slots u (root (w (item Writes i 19))) (Rn.new-version w 0))
         (renewed-legal (K .copies) i meta W (root (w (item Writes i 19))) (Rn.new-version w 0) (ap root (first-is i))
-        (ap (Rn.new-version w) (sym zero-at) ∙ next-is w (K .sets) i inside meta W (omega (arith, zero-at))))
+        (ap (Rn.new-version w) (sym zero-at) ∙ next-is kept w (K .sets) i inside meta W (omega (arith, zero-at)) (ap (λ (x : ℕ). I.inner x (record-at u Writes i)) zero-at)))
         (meta-put k j slots w (K .copies c) (K .shows) (w (item Writes i 19)) (Rn.new-version w 0))
       where
         at : (i < count w Writes) × (number-at w Writes i ≡ 0)
@@ -376,15 +408,15 @@ module _ (k j slots : ℕ) (al : Allowed (sizes k j slots)) (M : P.Machine (T k 
   pub renew-kept : Renewing u → Renewing (changed client-words u (Rn.renew-kept u))
   unfolding inner-at
   renew-kept =
-      renew-keeps Renewing
-      (record {
+      renew-keeps Renewing u
+      (λ kept. record {
         outer-drops = outer-dropped;
         node-renews = λ i w K l h.
-            let a = node-number (number-at w Writes i) (λ n. eqb (w (item Writes i 1)) 2) h in node-renewed w K i (a .0) l (a .1) (a .2);
-        meta-renews = λ i w K e. meta-renewed w K i e;
+            let a = node-number (number-at w Writes i) (λ n. eqb (w (item Writes i 1)) 2) h in node-renewed w K kept i (a .0) l h (a .1) (a .2);
+        meta-renews = λ i w K e. meta-renewed w K kept i e;
         flag-renews = λ i w x K Kx l big there.
             let n = number-at w Writes i - 8193 in
             let W = subst (Written i) (ap obj-of (sym (number-is w K i)) ∙ flag-number (number-at w Writes i) big)
             (write-item i (subst (λ (a : ℕ). i < a) (count-is x Kx) l)) in
             flag-put w K i n W (eqb (w (item Writes i 19)) 1) (ap (λ (x : ℕ). taken (eqb x 1)) (first-is w K i)) there;
-      }) u
+      })

@@ -14,7 +14,7 @@ use Rattle.protocol.specs.State.{is-decided}
 use Rattle.protocol.specs.Machine as P
 use Rattle.protocol.specs.Laws.Claim.{Applied}
 use Rattle.client.specs.Layout.{ClientWord, client-words, phase, participants, applied}
-use Rattle.client.specs.Laws.Fits.{fits-field}
+use Rattle.client.specs.Laws.Ranges.{fits-field}
 use Rattle.client.specs.Course.{noted}
 use Rattle.steps.specs.declared.sizes.Sizes.{Sizes}
 use Rattle.steps.specs.declared.step.Kind.the-variants.{Apply}

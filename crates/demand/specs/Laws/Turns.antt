@@ -16,7 +16,7 @@ use Rattle.operations.specs.Sound.{new-store}
 use Rattle.protocol.specs.State.{idle, is-decided}
 use Rattle.client.specs.Layout.{phase}
 use Rattle.client.specs.Record.{object-in-store}
-use Rattle.client.specs.Fits.{client-fits}
+use Rattle.client.specs.Laws.Ranges.{client-fits}
 use Rattle.steps.specs.declared.sizes.Sizes.{Sizes}
 use Rattle.steps.specs.Whole.{Address, whole}
 use Rattle.steps.specs.Laws.Stores.{client-of}

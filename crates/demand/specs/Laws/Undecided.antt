@@ -17,7 +17,7 @@ use Rattle.operations.specs.Operation.{Legal}
 use Rattle.operations.specs.Slot.{Allowed}
 use Rattle.protocol.specs.State.{Phase, idle, opened, is-decided}
 use Rattle.client.specs.Layout.{ClientWord, phase}
-use Rattle.client.specs.Fits.{client-fits}
+use Rattle.client.specs.Laws.Ranges.{client-fits}
 use Rattle.client.specs.Copies.{drop-all}
 use Rattle.client.specs.Life.{reset, give-part}
 use Rattle.client.specs.Work.{op-of}

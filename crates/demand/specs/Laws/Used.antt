@@ -33,7 +33,7 @@ use Rattle.client.specs.Layout.{ClientWord, client-words, item, vector-word, re
 use Rattle.client.specs.Record.{number, single, value-of}
 use Rattle.client.specs.Sets.{count, find}
 use Rattle.client.specs.Items.{has}
-use Rattle.client.specs.Fits.{client-fits}
+use Rattle.client.specs.Laws.Ranges.{client-fits}
 use Rattle.client.specs.Have.{copy, lacking, copied-meta, copied-item, copied-node, copied-flag, copied, or-copied, or-read, source, have}
 use Rattle.client.specs.Run.{among}
 use Rattle.client.specs.Work.{new}
@@ -63,7 +63,7 @@ module _ (u v : ClientWord → ℕ) (h : Else-same u v) where
           let a = field-same Reads 10 u v h 12 (λ e. absurd (omega arith)) in
           let b = field-same Reads 10 u v h 13 (λ e. absurd (omega arith)) in
           let c = field-same Reads 10 u v h 14 (λ e. absurd (omega arith)) in
-          λ t. cond (eqb (a t) 1) (copy (single (c t) (b t))) lacking
+          λ t. cond (eqb (a t) 0) lacking (copy (single (c t) (b t)))
 
       of-item : (z : Found) → copied-item v z ≡ copied-item u z
       of-item (At i) = ap copy (record-frame u v Copies i (set-same Reads 10 u v h Copies (λ e. absurd (omega arith)) i))
@@ -76,7 +76,7 @@ module _ (u v : ClientWord → ℕ) (h : Else-same u v) where
       of-flag n =
           let a = vector-same Reads 10 u v h (N.server-of n) 0 in
           let b = vector-same Reads 10 u v h (N.server-of n) (1 + N.slot-of n / 64) in
-          λ t. cond (eqb (a t) 1) (copy (single 0 (digit (bit (b t) (N.slot-of n % 64))))) lacking
+          λ t. cond (eqb (a t) 0) lacking (copy (single 0 (digit (bit (b t) (N.slot-of n % 64)))))
 
 -- and stay, where only a set and its count change
 pub copies-stay : (s : Set) (f : ℕ) (u v : ClientWord → ℕ) → Elsewhere s f u v → ¬ (family (item Copies 0 0) ≡ family (item s 0 0)) → f < 12
@@ -96,18 +96,18 @@ copied-sized u x = go (eqb x 0) (leb x 8192)
     one : (v r : ℕ) → Sized (single v r)
     one v r = made-sized 0 0 v [] (r ∷ []) (omega arith) (omega arith)
 
-    may : (b : Bool) (v r : ℕ) → Sized (cond b (copy (single v r)) lacking .node)
-    may true v r = one v r
-    may false v r = free
+    may : (b : Bool) (v r : ℕ) → Sized (cond b lacking (copy (single v r)) .node)
+    may true v r = free
+    may false v r = one v r
 
     of-item : (z : Found) → Sized (copied-item u z .node)
     of-item (At i) = record-sized u Copies i
     of-item Absent = free
 
     go : (a b : Bool) → Sized (cond a (copied-meta u) (cond b (copied-node u x) (copied-flag u (x - 8193))) .node)
-    go true b = may (eqb (u meta-copied) 1) (u meta-version) (u meta-root)
+    go true b = may (eqb (u meta-copied) 0) (u meta-version) (u meta-root)
     go false true = of-item (find u Copies x)
-    go false false = may (eqb (u (vector-word (N.server-of (x - 8193)) 0)) 1) 0 _
+    go false false = may (eqb (u (vector-word (N.server-of (x - 8193)) 0)) 0) 0 _
 
 -- ---- one copy more
 sweep-same : (f g : ℕ → (ClientWord → ℕ) → List (Put ClientWord)) (n : ℕ) (u : ClientWord → ℕ) → ((i : ℕ) → i < n → g i ≡ f i)
@@ -250,7 +250,7 @@ module _ (k j slots : ℕ) (al : Allowed (sizes k j slots)) (u : ClientWord → 
         let c = or-neither (has u Reads (number o)) (among (number o) us) (sym (E .has-now (number o)) ∙ absent-has v Reads (number o) e) .1 in
         let there = subst (λ z. Is-there (or-copied u (number o) z)) (before .1) (subst (λ z. Is-there (or-read u (number o) z)) (before .0) h) in (
           rw (a, b, c) refl,
-          ap₂ (λ z g. W.enter (T k j slots) is o z g) (E .slot .item-as o hi ∙ ap (item-from k j slots v o) e) (copy-there k j slots al u f copies o hi there),
+          ap₂ (λ z g. W.enter (T k j slots) is o z g) (E .slot .item-as o hi ∙ ap (item-from k j slots v o) e) (copy-there k j slots al u f copies fit o hi there),
         )
 
   -- what is at hand of each question

@@ -88,20 +88,23 @@ module _ (z : Sizes) (w : List ℕ) (c : ℕ) (us : List ℕ) where
 pub checking-as : (z : Sizes) (b : List ℕ) (c s t : ℕ) (u : List ℕ) → s ≡ t → Checking z b c t u → Checking z b c s u
 checking-as z b c s t u e h = subst (λ (x : ℕ). Checking z b c x u) (sym e) h
 
--- ---- what the code comes to
-module _ (z : Sizes) (w : List ℕ) (c : ℕ) (us : List ℕ) (a : O.Ask) (v : Verdict) (e : v ≡ verdict-of (items-found z w c (wanted (z .servers) c a .from) us)) where
+-- ---- what the code comes to; s is the server asked
+module _ (z : Sizes) (w : List ℕ) (c : ℕ) (us : List ℕ) (a : O.Ask) (s : ℕ) (es : s ≡ wanted (z .servers) c a .from) (v : Verdict) (e : v ≡ verdict-of (items-found z w c s us)) where
+  from-there : v ≡ verdict-of (items-found z w c (wanted (z .servers) c a .from) us)
+  from-there = e ∙ ap (λ (t : ℕ). verdict-of (items-found z w c t us)) es
+
   pub fetch-unfit : v ≡ Unfit → Meets z (λ m. fetch z m c us a) w (Refused 10) w
-  fetch-unfit p = meets-refused z w 10 (λ m. fetch z m c us a) (sym (fetch-is z w c us a ∙ rw (← e, p)))
+  fetch-unfit p = meets-refused z w 10 (λ m. fetch z m c us a) (sym (fetch-is z w c us a ∙ rw (← from-there, p)))
 
   module _ (o : Outcome) (w′ : List ℕ) where
     pub fetch-aborts : (y : ℕ) → v ≡ Fault y → Meets z (λ m. abort z m c y us) w o w′ → Meets z (λ m. fetch z m c us a) w o w′
-    fetch-aborts y p d = meets-as z w o w′ (λ m. abort z m c y us) (λ m. fetch z m c us a) (sym (fetch-is z w c us a ∙ rw (← e, p))) d
+    fetch-aborts y p d = meets-as z w o w′ (λ m. abort z m c y us) (λ m. fetch z m c us a) (sym (fetch-is z w c us a ∙ rw (← from-there, p))) d
 
-    pub fetch-hands : v ≡ Clear → Meets z (λ m. hand-over z m c us a (wanted (z .servers) c a .from) (Fetched (wanted (z .servers) c a .what) (wanted (z .servers) c a .which))) w o w′
+    pub fetch-hands : v ≡ Clear → Meets z (λ m. hand-over z m c us a s (Fetched (wanted (z .servers) c a .what) (wanted (z .servers) c a .which))) w o w′
         → Meets z (λ m. fetch z m c us a) w o w′
     fetch-hands p d =
-        meets-as z w o w′ (λ m. hand-over z m c us a (wanted (z .servers) c a .from) (Fetched (wanted (z .servers) c a .what) (wanted (z .servers) c a .which))) (λ m. fetch z m c us a)
-        (sym (fetch-is z w c us a ∙ rw (← e, p))) d
+        meets-as z w o w′ (λ m. hand-over z m c us a s (Fetched (wanted (z .servers) c a .what) (wanted (z .servers) c a .which))) (λ m. fetch z m c us a)
+        (sym (fetch-is z w c us a ∙ rw (← from-there, p, es))) d
 
 pub ruleset fetch-exits = (fetch-unfit, fetch-aborts, fetch-hands)
 
@@ -230,6 +233,6 @@ pub vector-handed : (z : Sizes) (w : List ℕ) (c : ℕ) (us : List ℕ) (s : �
     → Meets z (λ m. fetch z m c us (O.vector s)) w (Fetched 2 s) w′
 unfolding inPart
 vector-handed z w c us s v ws w′ e p q d =
-    fetch-hands z w c us (O.vector s) v e (Fetched 2 s) w′ p
+    fetch-hands z w c us (O.vector s) s refl v e (Fetched 2 s) w′ p
     (meets-as z w (Fetched 2 s) w′ (λ m. did (Fetched 2 s) (inPart (client c) (used-enter us then fetched-vector s ws) m)) (λ m. hand-over z m c us (O.vector s) s (Fetched 2 s)) (rw q)
     (meets-did z w (Fetched 2 s) w′ (inPart (client c) (used-enter us then fetched-vector s ws)) d))

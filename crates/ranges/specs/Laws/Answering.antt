@@ -19,7 +19,7 @@ use Rattle.client.specs.Layout.{ClientWord, client-words, phase, reads-count}
 use Rattle.client.specs.Record.{number}
 use Rattle.client.specs.Have.{have}
 use Rattle.client.specs.Items.{has}
-use Rattle.client.specs.Fits.{client-fits}
+use Rattle.client.specs.Laws.Ranges.{client-fits}
 use Rattle.client.specs.Lent.{Entry}
 use Rattle.client.specs.Run.{among}
 use Rattle.client.specs.Work.{waiting, walked, worked, new}

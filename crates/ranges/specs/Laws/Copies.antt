@@ -30,18 +30,18 @@ use Rattle.demand.specs.Laws.Slots.{Same-sets, record-frame, record-later}
 use Rattle.demand.specs.Laws.Placed.{family, which, word-in, placed, placed-record, placed-beside, placed-else}
 use Rattle.demand.specs.Laws.Dropped.{Mark, Drop, Fewer, fewer, kept-word, still-there}
 use Rattle.demand.specs.Laws.Behind.{Elsewhere, field-same, set-same, vector-same}
-use Rattle.ranges.specs.Laws.Sound.{Sound, Node-sound, Copies-sound}
+use Rattle.ranges.specs.Laws.Sound.{Sound, Inner-sound, Copies-sound}
 use Rattle.operations.specs.Slot as S
 use Rattle.demand.specs.Laws.Frame as Frame
 
 -- ---- copies that stay, one by one and all
 module _ (z : S.TreeSizes) (u v : ClientWord → ℕ) (h : Copies-sound z u) where
   meta-stays : v meta-copied ≡ u meta-copied → v meta-root ≡ u meta-root → v meta-version ≡ u meta-version
-      → v meta-copied ≡ 1 → Sound z 0 (single (v meta-version) (v meta-root))
-  meta-stays a b c q = coe 1 0 (t. Sound z 0 (single (c t) (b t))) (h .meta-copy (sym a ∙ q))
+      → ¬ (v meta-copied ≡ 0) → Sound z 0 (single (v meta-version) (v meta-root))
+  meta-stays a b c n = coe 1 0 (t. Sound z 0 (single (c t) (b t))) (h .meta-copy (λ q. n (a ∙ q)))
 
-  node-stays : (i : ℕ) → ((n : ℕ) → v (item Copies i n) ≡ u (item Copies i n)) → i < 64 → ¬ (v (item Copies i 0) ≡ 0) → Node-sound z (record-at v Copies i)
-  node-stays i e l n = subst (Node-sound z) (sym (record-frame u v Copies i e)) (h .copies i l (λ q. n (e 0 ∙ q)))
+  node-stays : (i : ℕ) → ((n : ℕ) → v (item Copies i n) ≡ u (item Copies i n)) → i < 64 → ¬ (v (item Copies i 0) ≡ 0) → Inner-sound z (record-at v Copies i)
+  node-stays i e l n = subst (Inner-sound z) (sym (record-frame u v Copies i e)) (h .copies i l (λ q. n (e 0 ∙ q)))
 
   vector-stays : (s : ℕ) → v (vector-word s 0) ≡ u (vector-word s 0) → s < 8 → v (vector-word s 0) ≤ 1
   vector-stays s e l = subst (λ (x : ℕ). x ≤ 1) (sym e) (h .vectors s l)
@@ -66,9 +66,9 @@ module _ (z : S.TreeSizes) (u v : ClientWord → ℕ) (h : Copies-sound z u) whe
   fewer-sound : Fewer u v → Copies-sound z v
   unfolding Mark
   fewer-sound w = record {
-    meta-copy = λ q. meta-stays (still-there u v w meta-copied (λ e. absurd (omega (arith, e, q)))) (kept-word u v w meta-root (λ e. absurd (omega (arith, e))))
-        (kept-word u v w meta-version (λ e. absurd (omega (arith, e)))) q;
-    copies = λ i l n. subst (Node-sound z) (sym (words i)) (h .copies i l (λ q. n (still-there u v w (item Copies i 0) n ∙ q)));
+    meta-copy = λ n. meta-stays (still-there u v w meta-copied n) (kept-word u v w meta-root (λ e. absurd (omega (arith, e))))
+        (kept-word u v w meta-version (λ e. absurd (omega (arith, e)))) n;
+    copies = λ i l n. subst (Inner-sound z) (sym (words i)) (h .copies i l (λ q. n (still-there u v w (item Copies i 0) n ∙ q)));
     vectors = λ s l. of-vector s l (ℕ-discrete (v (vector-word s 0)) 0);
   }
     where
@@ -93,7 +93,7 @@ module _ (z : S.TreeSizes) (u : ClientWord → ℕ) (h : Copies-sound z u) where
       at a = read-after client-words (reset p u) u a
 
   -- ---- a node's copy
-  module _ (x : ℕ) (r : Node) (w : Sized r) (n : Node-sound z r) where
+  module _ (x : ℕ) (r : Node) (w : Sized r) (n : Inner-sound z r) where
     -- at place p
     placed-sound : (p : ℕ) → Copies-sound z (placed Copies p x r w u)
     placed-sound p = record {
@@ -108,8 +108,8 @@ module _ (z : S.TreeSizes) (u : ClientWord → ℕ) (h : Copies-sound z u) where
         at-field : (i : ℕ) → v (field i) ≡ u (field i)
         at-field i = placed-else Copies p x r w u (field i) (λ e. absurd (omega (arith, e)))
 
-        by-place : (i : ℕ) → Dec (i ≡ p) → i < 64 → ¬ (v (item Copies i 0) ≡ 0) → Node-sound z (record-at v Copies i)
-        by-place i (yes e) l q = subst (Node-sound z) (sym (ap (record-at v Copies) e ∙ placed-record Copies p x r w u)) n
+        by-place : (i : ℕ) → Dec (i ≡ p) → i < 64 → ¬ (v (item Copies i 0) ≡ 0) → Inner-sound z (record-at v Copies i)
+        by-place i (yes e) l q = subst (Inner-sound z) (sym (ap (record-at v Copies) e ∙ placed-record Copies p x r w u)) n
         by-place i (no d) l q = node-stays z u v h i (λ j. placed-beside Copies p x r w u i j d) l q
 
     pub copy-node-sound : Copies-sound z (changed client-words u (copy-node x r u))
@@ -125,7 +125,7 @@ module _ (z : S.TreeSizes) (u : ClientWord → ℕ) (h : Copies-sound z u) where
   pub meta-sound : (root version : ℕ) → Sound z 0 (single version root) → Copies-sound z (changed client-words u (put-fields 12 (1 ∷ root ∷ version ∷ []) u))
   unfolding put-fields puts
   meta-sound root version s = record {
-    meta-copy = λ q. coe 1 0 (t. Sound z 0 (single (at meta-version t) (at meta-root t))) s;
+    meta-copy = λ n. coe 1 0 (t. Sound z 0 (single (at meta-version t) (at meta-root t))) s;
     copies = λ i. node-stays z u v h i (λ n. at (item Copies i n));
     vectors = λ t. vector-stays z u v h t (at (vector-word t 0));
   }

@@ -34,7 +34,7 @@ use Rattle.operations.specs.Slot.{TreeSizes, Allowed}
 use Rattle.operations.specs.Laws.Hit.{hit-eq, hit-self}
 use Rattle.client.specs.declared.answer.Look.{Look}
 use Rattle.client.specs.Layout.{ClientWord, client-words, item, reads-count, writes-count}
-use Rattle.client.specs.Record.{number, first-slot, single, record-of, in-store, object-in-store, last-version, record-in-range}
+use Rattle.client.specs.Record.{number, first-slot, single, record-of, in-store, object-in-store, last-version, record-in-range, all, children-there}
 use Rattle.client.specs.Sets.{or-found, at-most, count, record-at, number-at, find}
 use Rattle.client.specs.Items.{has}
 use Rattle.client.specs.Part.{nothing}
@@ -44,7 +44,6 @@ use Rattle.client.specs.Enter.{enter-at, enter-write, enter-entries}
 use Rattle.client.specs.Answered.{entered}
 use Rattle.client.specs.Drops.{version-of}
 use Rattle.client.specs.Work.{version-in, at-last-version, any-at-last}
-use Rattle.steps.specs.Uses.{all}
 use Rattle.demand.specs.Laws.Numbers.{by-object, by-number-of, number-inside}
 use Rattle.demand.specs.Laws.Held.{found-at, has-at}
 use Rattle.demand.specs.Laws.Placed.{placed, placed-number, placed-record, placed-beside, placed-else}
@@ -52,7 +51,7 @@ use Rattle.demand.specs.Laws.Behind.{writes-within, Elsewhere, field-same, set-
 use Rattle.demand.specs.Laws.Entered.{Else-same, Read-entered}
 use Rattle.demand.specs.Laws.Used.{copied-same, after-used}
 use Rattle.demand.specs.Laws.Latest.{entry-of, entered-apart, put-every, All-whole}
-use Rattle.ranges.specs.Laws.Sound.{children-there, Item-sound, Sets-sound}
+use Rattle.ranges.specs.Laws.Sound.{Item-sound, Sets-sound}
 use Rattle.ranges.specs.Laws.Lists.{every-weaker, every-all}
 use Rattle.ranges.specs.Laws.Sets.{sound-version, item-stays, all-stay, May-write, written-may, sets-from, Reads-stay, reads-stay, entered-stay, may-stay, room, used-keeps}
 use Rattle.client.specs.declared.part.Set.the-variants as set

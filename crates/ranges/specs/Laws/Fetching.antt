@@ -1,7 +1,7 @@
 -- WORK THAT FETCHES: what is checked at the server is in range, and what is handed over is sound.
 use mathlib.Core.Path.{_≡_, refl, ap, sym, _∙_, subst}
-use mathlib.Core.Bool.{Bool, true, false, cond, _&&_, not, false≢true}
-use mathlib.Core.List.{List, [], _++_, map}
+use mathlib.Core.Bool.{Bool, true, false, cond, _&&_, false≢true}
+use mathlib.Core.List.{List, [], map}
 use mathlib.Core.Logic.{inl}
 use mathlib.Core.Option.{none}
 use Prim.Native.Nat.{ℕ, suc, _+_, _-_, _%_, _≤_, _<_, Fin}
@@ -10,24 +10,27 @@ use native.Mathlib.Omega.{arith}
 use borrow.Author.Tests.{le-leb, ltb-true, not-false}
 use lib.Dec.{eqb, leb, ltb}
 use lib.ListN.{length}
+use Rattle.base.specs.Test.{and-both}
 use Rattle.layout.specs.Space.{Put, changed, tab}
 use Rattle.layout.specs.Step.{andThen}
 use Rattle.layout.specs.Laws.Step.{changed-append}
-use Rattle.nodes.specs.Range.{node-in-range}
+use Rattle.nodes.specs.declared.node.Node.{Node}
 use Rattle.nodes.specs.Stored.{node-of}
 use Rattle.operations.specs.Object.{Obj, meta, node, flag, Ask, object, vector, fetched}
 use Rattle.operations.specs.Slot.{Allowed}
 use Rattle.operations.specs.Laws.Storable.{every-append}
 use Rattle.server.specs.declared.lock.Use.the-variants.{Fetch}
 use Rattle.server.specs.Object.{object-of}
-use Rattle.server.specs.Check.{can-check, held}
+use Rattle.server.specs.Check.{can-check, held, checked, finding-number}
 use Rattle.server.specs.HandOut.{metadata-at, metadata-sound, vector-at}
 use Rattle.client.specs.declared.part.Set.the-variants.{Reads}
 use Rattle.client.specs.Layout.{ClientWord, client-words, phase, reads-count}
-use Rattle.client.specs.Record.{number, object-in-store, number-in-store}
-use Rattle.client.specs.Sets.{count, number-at}
-use Rattle.client.specs.Fits.{client-fits}
-use Rattle.client.specs.Have.{copied, have, broken}
+use Rattle.client.specs.Record.{number, object-in-store, number-in-store, node-fits}
+use Rattle.client.specs.Sets.{count, record-at, number-at}
+use Rattle.client.specs.Items.{inner}
+use Rattle.client.specs.Vectors.{vector-fits}
+use Rattle.client.specs.Laws.Ranges.{client-fits}
+use Rattle.client.specs.Have.{copied, have, bad-vector, broken}
 use Rattle.client.specs.Participants.{at-home}
 use Rattle.client.specs.Work.{walked, worked, new}
 use Rattle.client.specs.Answered.{used-enter}
@@ -37,9 +40,9 @@ use Rattle.steps.specs.declared.step.Step.{Step}
 use Rattle.steps.specs.declared.outcome.Outcome.{Outcome}
 use Rattle.steps.specs.declared.outcome.Outcome.the-variants.{Fetched}
 use Rattle.steps.specs.Whole.{Address}
-use Rattle.steps.specs.Judge.{lock-fits, check-fits}
-use Rattle.steps.specs.Uses.{Item, all, item-of, read-item, read-items, used-items, deciding}
-use Rattle.steps.specs.Steps.{Did, did, handed, full, fetch-object, hand-over, fetch-items, fetch-finding, Wanted, node-at, checked-fetch}
+use Rattle.steps.specs.Judge.{lock-fits}
+use Rattle.steps.specs.Uses.{Item, item-of, read-item, read-items, used-items, deciding}
+use Rattle.steps.specs.Steps.{Did, did, handed, full, fetch-object, hand-over, fetch-items, fetch-reason, fetch-finding, Wanted, node-at, checked-fetch}
 use Rattle.steps.specs.Laws.Stores.{client-of, server-of}
 use Rattle.demand.specs.Laws.Lacking.{asked, lacks-object}
 use Rattle.demand.specs.Ledger.{Ledger}
@@ -50,22 +53,22 @@ use Rattle.demand.specs.Laws.Shows.{T, In-store, lock-kept, Related}
 use Rattle.demand.specs.Laws.Store.{positive, sizes, keeps}
 use Rattle.demand.specs.Laws.Turns.{one-of, store}
 use Rattle.demand.specs.Laws.Used.{after-used}
-use Rattle.ranges.specs.Laws.Sound.{Part-sound, Sound-store}
-use Rattle.ranges.specs.Laws.Checks.{metadata-judged, fetch-judged}
-use Rattle.ranges.specs.Laws.Lists.{every-map, every-each, all-those}
-use Rattle.ranges.specs.Laws.Sets.{part-fits, All-copied}
+use Rattle.ranges.specs.Laws.Sound.{Sound, Part-sound, Sound-store}
+use Rattle.ranges.specs.Laws.Checks.{metadata-judged, fetch-judged, mark-judged, deciding-judged}
+use Rattle.ranges.specs.Laws.Lists.{every-map, every-each}
+use Rattle.ranges.specs.Laws.Sets.{part-fits, copied-sound, All-copied}
+use Rattle.ranges.specs.Laws.Judged.{kind-judged}
 use Rattle.ranges.specs.Laws.Hand.{used-copied}
 use Rattle.ranges.specs.Laws.Entries.{object-sound}
 use Rattle.ranges.specs.Laws.Part.{used-part, meta-part, node-part, vector-part}
 use Rattle.ranges.specs.Laws.Locks.{early-stored}
 use Rattle.ranges.specs.Laws.Held.{number-judged}
-use Rattle.ranges.specs.Laws.Whole.{by-10, accepted, Kept, if-kept, client-sound}
+use Rattle.ranges.specs.Laws.Whole.{by-10, accepted, Kept, if-kept, finding-kept, client-sound}
 use Rattle.ranges.specs.Laws.Undecided.{abort-kept}
 use Rattle.nodes.specs.Name as N
 use Rattle.protocol.specs.Machine as P
 use Rattle.client.specs.Run as Run
 use Rattle.client.specs.Work as Work
-use Rattle.steps.specs.Uses as U
 use Rattle.steps.specs.Steps as Steps
 use Rattle.demand.specs.Laws.Fetches as F
 
@@ -115,24 +118,40 @@ module _ (k j slots : ℕ) (al : Allowed (sizes k j slots)) (few : suc j ≤ 16)
           kept-home k j slots al s (flag n) hi ∙ as-flag true (λ i. eqb (N.server-of i) (s .0)) (λ i. eqb (N.server-of i) (s .0)) n
           ∙ subst (λ o. can-check (s .0) o b ≡ true) (object-number (sizes k j slots) al (flag n) hi) h
 
-      at-server : (i : Item) → number-in-store (sizes k j slots) (i .number) ≡ true
-          → can-check (s .0) (U.item-object i) (i .inner-read) ≡ true → check-fits z m (s .0) i ≡ true
-      at-server i h b = fetch-judged z m (s .0) (S .servers s) i h (number-judged k j slots few m S s (i .number) h (kept (obj-of (i .number)) refl) i refl) b
-        where
-          kept : (o : Obj) → obj-of (i .number) ≡ o → lock-kept k j slots (server-of m (s .0)) s o ≡ true
-          kept meta q = refl
-          kept (node n) q = refl
-          kept (flag n) q =
-              flag-home n (sym (ap (object-in-store (sizes k j slots)) q) ∙ sym (store-obj (sizes k j slots) (i .number)) ∙ h) (i .inner-read)
-              (subst (λ (x : ℕ). can-check (s .0) (object-of x) (i .inner-read) ≡ true) (sym (number-obj (i .number)) ∙ ap number q) b)
+      -- what is found of an object that was read, or is in use, is no refusal
+      abbrev Passes : Item → Type 0
+      Passes i = eqb (fetch-reason z m (c .0) us (s .0) i) 10 ≡ false
 
-      fetch-fits : all (check-fits z m (s .0)) (fetch-items z m (c .0) us (s .0)) ≡ true
-      unfolding read-items used-items item-of number-at
-      fetch-fits =
-          all-those (check-fits z m (s .0)) (λ i. can-check (s .0) (U.item-object i) (i .inner-read)) (read-items u ++ used-items u us)
-          (every-append _ (read-items u) (used-items u us)
-          (every-each _ (count u Reads) (read-item u) (λ i l. at-server (read-item u i) (part .sets .read i l .inside)))
-          (every-map _ _ (λ x. item-of u x (copied u x .node)) (λ x h. at-server (item-of u x (copied u x .node)) (h .0)) us all-copied))
+      at-server : (x : ℕ) (r : Node) → number-in-store (sizes k j slots) x ≡ true → Sound (sizes k j slots) x r → Passes (item-of u x r)
+      unfolding item-of
+      at-server x r h sound = rw (kind-judged (sizes k j slots) x r sound) (go (can-check (s .0) (object-of x) (inner x r)) refl)
+        where
+          found : ℕ
+          found = finding-number (checked (object-of x) (inner x r) (item-of u x r .mark) (c .0) Fetch (server-of m (s .0)))
+
+          kept : can-check (s .0) (object-of x) (inner x r) ≡ true → (o : Obj) → obj-of x ≡ o → lock-kept k j slots (server-of m (s .0)) s o ≡ true
+          kept b meta q = refl
+          kept b (node n) q = refl
+          kept b (flag n) q =
+              flag-home n (sym (ap (object-in-store (sizes k j slots)) q) ∙ sym (store-obj (sizes k j slots) x) ∙ h) (inner x r)
+              (subst (λ (y : ℕ). can-check (s .0) (object-of y) (inner x r) ≡ true) (sym (number-obj x) ∙ ap number q) b)
+
+          go : (b : Bool) → can-check (s .0) (object-of x) (inner x r) ≡ b → eqb (cond b (cond (lock-fits z m (s .0) x) found 10) 0) 10 ≡ false
+          go false e = refl
+          go true e =
+              rw (number-judged k j slots few m S s x h (kept e (obj-of x) refl))
+              (fetch-judged (sizes k j slots) (s .0) (server-of m (s .0)) (S .servers s) x (inner x r) (item-of u x r .mark) (c .0) Fetch h
+              (mark-judged (sizes k j slots) u x r sound) e)
+
+      found-judged : eqb (deciding (map (fetch-finding z m (c .0) us (s .0)) (fetch-items z m (c .0) us))) 10 ≡ false
+      unfolding read-items used-items number-at
+      found-judged =
+          deciding-judged (map (fetch-finding z m (c .0) us (s .0)) (fetch-items z m (c .0) us))
+          (every-map Passes (λ f. eqb (f .1) 10 ≡ false) (fetch-finding z m (c .0) us (s .0)) (λ i h. h) (fetch-items z m (c .0) us)
+          (every-append Passes (read-items u) (used-items u us)
+          (every-each Passes (count u Reads) (read-item u) (λ i l. let I = part .sets .read i l in at-server (number-at u Reads i) (record-at u Reads i) (I .inside) (I .sound)))
+          (every-map _ Passes (λ x. item-of u x (copied u x .node))
+          (λ x h. at-server x (copied u x .node) (h .0) (copied-sound (sizes k j slots) u (part .copies) x (h .1))) us all-copied)))
 
       -- what is handed over, once the copies in use have become items
       handed-kept : (o : Outcome) → by-10 o ≡ false → (g : (ClientWord → ℕ) → List (Put ClientWord))
@@ -152,10 +171,9 @@ module _ (k j slots : ℕ) (al : Allowed (sizes k j slots)) (few : suc j ≤ 16)
           → Part-sound (sizes k j slots) (changed client-words v (g v)) → Fine (fetch-object z m (c .0) us (s .0) x (Fetched p q) ok g)
       unfolding obj-of
       object-kept x p q ok g hi l fine Q =
-          let i : Item = record { number = x; inner-read = false; mark = 0; written = false; becomes = false } in
-          if-kept k j slots m (ok && lock-fits z m (s .0) i) _ (rw (fine, number-judged k j slots few m S s x hi (lock-there x l) i refl) refl)
+          if-kept k j slots m (lock-fits z m (s .0) x) _ (number-judged k j slots few m S s x hi (lock-there x l))
           (one-of Fine (held (object-of x) (c .0) Fetch (server-of m (s .0))) _ _ (λ _. aborts 2)
-          (λ _. one-of Fine (full z m (c .0) us) _ _ (λ _. aborts 4) (λ _. handed-kept (Fetched p q) refl g Q)))
+          (λ _. one-of Fine (full z m (c .0) us) _ _ (λ _. aborts 4) (λ _. if-kept k j slots m ok _ fine (handed-kept (Fetched p q) refl g Q))))
         where
           lock-there : (x : ℕ) → x ≤ 8192 → lock-kept k j slots (server-of m (s .0)) s (obj-of x) ≡ true
           lock-there x l = go (eqb x 0) (leb x 8192) (le-leb x 8192 l)
@@ -168,10 +186,10 @@ module _ (k j slots : ℕ) (al : Allowed (sizes k j slots)) (few : suc j ≤ 16)
       checked-kept : (w : Wanted) → w .from ≡ s .0 → Fine (hand-over z m (c .0) us a (w .from) (Fetched (w .what) (w .which)))
           → Fine (checked-fetch z m (c .0) us a w)
       checked-kept w h K =
-          let found = deciding (map (fetch-finding z m (c .0) us (w .from)) (fetch-items z m (c .0) us (w .from))) in
-          if-kept k j slots m (all (check-fits z m (w .from)) (fetch-items z m (c .0) us (w .from))) _
-          (subst (λ (t : ℕ). all (check-fits z m t) (fetch-items z m (c .0) us t) ≡ true) (sym h) fetch-fits)
-          (one-of Fine (eqb found 0) _ _ (λ _. K) (λ _. aborts found))
+          let found = deciding (map (fetch-finding z m (c .0) us (w .from)) (fetch-items z m (c .0) us)) in
+          finding-kept k j slots m found (hand-over z m (c .0) us a (w .from) (Fetched (w .what) (w .which))) (λ y. Steps.abort z m (c .0) y us)
+          (subst (λ (t : ℕ). eqb (deciding (map (fetch-finding z m (c .0) us t) (fetch-items z m (c .0) us))) 10 ≡ false) (sym h) found-judged)
+          (λ _. K) (aborts found)
 
     -- ---- "Metadata comes from server (client modulo servers), a node from its home, a vector from its server."
     meta-kept : (s : Fin (suc k)) → Fine (hand-over z m (c .0) us (object meta) (s .0) (Fetched 0 0))
@@ -182,12 +200,12 @@ module _ (k j slots : ℕ) (al : Allowed (sizes k j slots)) (few : suc j ≤ 16)
         (meta-part (sizes k j slots) v used _ _ (S .servers s .metadata))
 
     node-kept : (x : ℕ) → In-store k j slots (node x) → (s : Fin (suc k)) → N.server-of x ≡ s .0 → Fine (hand-over z m (c .0) us (object (node x)) (s .0) (Fetched 1 x))
-    unfolding node-at node-of tab
+    unfolding node-at node-of tab node-fits
     node-kept x hi s home =
         let N = S .servers s .nodes x hi home in
-        object-kept s (1 + x) 1 x (node-in-range (node-at (server-of m (s .0)) x)) (fetched-node x (node-at (server-of m (s .0)) x))
+        object-kept s (1 + x) 1 x (node-fits (sizes k j slots) (node-at (server-of m (s .0)) x)) (fetched-node x (node-at (server-of m (s .0)) x))
         (number-inside (sizes k j slots) al (node x) hi)
-        (omega (arith, name-lt (sizes k j slots) al x hi)) (N .range)
+        (omega (arith, name-lt (sizes k j slots) al x hi)) (rw (N .range, N .children))
         (node-part (sizes k j slots) v used x (node-at (server-of m (s .0)) x) (record { keys = refl; slots = refl })
         (object-sound (sizes k j slots) al (node x) (node-at (server-of m (s .0)) x) hi (N .range) (N .children)) N)
 
@@ -205,8 +223,8 @@ module _ (k j slots : ℕ) (al : Allowed (sizes k j slots)) (few : suc j ≤ 16)
         lacks-object (sizes k j slots) u o (subst (λ (x : Ask). have (sizes k j slots) u x ≡ none) is-o (lacking .0))
         (subst (λ (x : Ask). broken (sizes k j slots) u x ≡ false) is-o (lacks .1)) .inside
 
-    server-there : (s : ℕ) → not (ltb s (suc k)) ≡ false → s < suc k
-    server-there s h = ltb-true s (suc k) (not-false (ltb s (suc k)) h)
+    server-there : (s : ℕ) → bad-vector (sizes k j slots) u s ≡ false → s < suc k
+    server-there s h = ltb-true s (suc k) (and-both (ltb s (suc k)) (vector-fits u s) (not-false (ltb s (suc k) && vector-fits u s) h) .0)
 
   pub fetch-kept : (a : Ask) → worked (sizes k j slots) u ≡ Work.fetches a → Fine (Steps.fetch z m (c .0) us a)
   unfolding Steps.fetch broken

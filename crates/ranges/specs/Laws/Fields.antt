@@ -5,8 +5,8 @@ use mathlib.Core.List.{List, [], _∷_}
 use Prim.Native.Nat.{ℕ, zero, suc, _+_, _-_, _^_, _≤_, _<_}
 use native.Mathlib.Omega.{arith}
 use native.Mathlib.Decide.{ℕ-discrete}
-use borrow.Author.Tests.{eqb-true, ne-eqb, lt-ltb}
-use lib.Dec.{eqb, ltb}
+use borrow.Author.Tests.{eqb-true, ne-eqb, le-leb, lt-ltb}
+use lib.Dec.{eqb, leb, ltb}
 use lib.ListN.{getD}
 use Rattle.base.specs.Update.{upd}
 use Rattle.base.specs.Laws.Update.{upd-same, upd-other}
@@ -23,7 +23,8 @@ use Rattle.client.specs.declared.part.Set.the-variants.{Copies}
 use Rattle.client.specs.Layout.{ClientWord, client-code, client-words, field, item, vector-word, op-number, op-key, op-server, prepared, applied, fetched-vectors}
 use Rattle.client.specs.Record.{in-store}
 use Rattle.client.specs.Sets.{find}
-use Rattle.client.specs.Fits.{bounds, op-fits}
+use Rattle.client.specs.Fits.{op-fits}
+use Rattle.client.specs.Laws.Ranges.{bounds}
 use Rattle.client.specs.Part.{nothing, put-field, put-fields, put-item, put-vector, put-word}
 use Rattle.client.specs.Participants.{takes-part, participants-of, committing}
 use Rattle.client.specs.Course.{noted, decided}
@@ -76,7 +77,7 @@ module _ (z : S.TreeSizes) (u : ClientWord → ℕ) (a : ClientWord) (v : ℕ) (
   unfolding op-fits
   op-now = go (decide client-words op-number a)
     where
-      go : Dec (op-number ≡ a) → cond (eqb (g op-number) 6) (in-store z (g op-key) && ltb (g op-server) (z .servers)) true ≡ true
+      go : Dec (op-number ≡ a) → (leb (g op-number) 6 && cond (eqb (g op-number) 6) (in-store z (g op-key) && ltb (g op-server) (z .servers)) true) ≡ true
       go (yes e) =
           let q = now 1 e in
           let none : g op-number ≡ 0 = q .0 ∙ eqb-true v 0 (q .1) in
@@ -84,7 +85,7 @@ module _ (z : S.TreeSizes) (u : ClientWord → ℕ) (a : ClientWord) (v : ℕ) (
       go (no n) =
           let k : g op-key ≡ u op-key = kept 2 (λ e. true≢false (sym (now 2 e .1))) in
           let s : g op-server ≡ u op-server = kept 4 (λ e. true≢false (sym (now 4 e .1))) in
-          (λ t. cond (eqb (kept 1 n t) 6) (in-store z (k t) && ltb (s t) (z .servers)) true) ∙ F .op
+          (λ t. leb (kept 1 n t) 6 && cond (eqb (kept 1 n t) 6) (in-store z (k t) && ltb (s t) (z .servers)) true) ∙ F .op
 
   store-within : Fields-sound z (upd (decide client-words) u a v)
   store-within = record { within = within-now; op = op-now }
@@ -113,7 +114,7 @@ module _ (z : S.TreeSizes) (u v : ClientWord → ℕ) where
         let n : v op-number ≡ u op-number = same 1 (omega arith) (λ e. absurd (omega arith)) in
         let k : v op-key ≡ u op-key = same 2 (omega arith) (λ e. absurd (omega arith)) in
         let s : v op-server ≡ u op-server = same 4 (omega arith) (λ e. absurd (omega arith)) in
-        (λ t. cond (eqb (n t) 6) (in-store z (k t) && ltb (s t) (z .servers)) true) ∙ F .op;
+        (λ t. leb (n t) 6 && cond (eqb (n t) 6) (in-store z (k t) && ltb (s t) (z .servers)) true) ∙ F .op;
   }
     where
       go : (i : ℕ) → i < 13 → Dec (i ≡ f) → v (field i) ≤ bound z i
@@ -178,7 +179,7 @@ module _ (z : S.TreeSizes) (u : ClientWord → ℕ) where
 
       fits : Dec (op ≡ 6) → op-fits z (changed client-words u ps) ≡ true
       fits (yes e) = rw (at op-number, at op-key, at op-server, m e .0, lt-ltb server (z .servers) (m e .1), e)
-      fits (no n) = rw (at op-number, ne-eqb op 6 n)
+      fits (no n) = rw (at op-number, le-leb op 6 o, ne-eqb op 6 n)
 
   -- it is answered
   pub answered-fields : Stays (put op-number 0 ∷ [])

@@ -4,9 +4,11 @@ use mathlib.Core.Bool.{Bool, true, false, cond, _&&_, _||_, not, false≢true}
 use mathlib.Core.List.{List, [], _∷_, _++_}
 use mathlib.Core.Option.{Option, some}
 use Prim.Native.Nat.{ℕ, _+_, _-_}
+use native.Mathlib.Omega.{arith}
 use borrow.Author.Tests.{eq-eqb, lt-ltb, not-true}
 use lib.Dec.{eqb, ltb}
 use Rattle.base.specs.Test.{and-both, not-both}
+use Rattle.base.specs.Laws.Test.{or-right}
 use Rattle.plans.specs.Plan.{gives}
 use Rattle.plans.specs.Walk.{Every}
 use Rattle.plans.specs.Laws.Walk.{lacks, ends, walk, used-had}
@@ -20,14 +22,14 @@ use Rattle.operations.specs.Laws.Storable.{Storable, Named, All-storable, Insid
 use Rattle.operations.specs.Laws.Storing.{writes-storable, asked-inside}
 use Rattle.client.specs.Layout.{ClientWord, reads-count}
 use Rattle.client.specs.Answered.{entered}
-use Rattle.client.specs.Record.{number, in-store, object-in-store, record-in-range}
+use Rattle.client.specs.Record.{number, in-store, number-in-store, object-in-store, all, children-there}
 use Rattle.client.specs.Sets.{record-at, find}
-use Rattle.client.specs.Have.{is-found, copied, or-copied, or-read, source, have, broken}
+use Rattle.client.specs.declared.answer.Look.{Look}
+use Rattle.client.specs.Have.{is-found, is-copied, copied, copy-fits, or-copied, or-read, source, look-fits, have, broken}
 use Rattle.client.specs.Items.{has}
-use Rattle.client.specs.Fits.{client-fits}
+use Rattle.client.specs.Laws.Ranges.{client-fits}
 use Rattle.client.specs.Run.{among}
 use Rattle.client.specs.Work.{Worked, waiting, walked, worked, new}
-use Rattle.steps.specs.Uses.{all}
 use Rattle.demand.specs.Laws.AtHand.{had}
 use Rattle.demand.specs.Laws.Behind.{has-absent}
 use Rattle.demand.specs.Laws.Lacking.{plan, asked}
@@ -37,9 +39,10 @@ use Rattle.demand.specs.Laws.Shows.{T, Slot-shown, Copies-shown}
 use Rattle.demand.specs.Laws.Store.{sizes}
 use Rattle.demand.specs.Laws.Held.{found-at}
 use Rattle.demand.specs.Laws.Records.{Points, op-names, have-storable}
-use Rattle.ranges.specs.Laws.Sound.{children-there, Sound, Part-sound}
+use Rattle.ranges.specs.Laws.Sound.{Sound, Part-sound}
 use Rattle.ranges.specs.Laws.Lists.{every-more, all-every}
 use Rattle.ranges.specs.Laws.Sets.{part-fits, copied-sound, All-copied}
+use Rattle.ranges.specs.Laws.Judged.{copy-judged, vector-judged, versions-judged}
 use Rattle.ranges.specs.Laws.Entries.{There}
 use Rattle.ranges.specs.Laws.Stored.{root-there}
 use Rattle.protocol.specs.Machine as M
@@ -74,16 +77,32 @@ module _ (z : TreeSizes) (u : ClientWord → ℕ) (P : Part-sound z u) where
           subst (λ (r : Found). Sound z x (or-copied u x r .node)) (sym q)
           (copied-sound z u (P .copies) x (subst (λ (r : Found). is-found (or-copied u x r .how) ≡ true) q h))
 
-  -- a question about something of the store is never broken
-  unbroken : (a : Ask) → Inside (There z) z a → broken z u a ≡ false
-  unfolding broken
-  unbroken (object o) h = rw (named-there z o h) (go (is-found (source u (number o) .how)) refl)
+  -- and it can be used
+  source-judged : Allowed z → (x : ℕ) → number-in-store z x ≡ true → is-found (source u x .how) ≡ true → look-fits z u x (source u x) ≡ true
+  unfolding look-fits source
+  source-judged al x hi h = rw (source-sound x h .fitting) (go (find u set.Writes x) (find u set.Reads x) refl h)
     where
-      go : (b : Bool) → is-found (source u (number o) .how) ≡ b → (b && not (record-in-range z (number o) (source u (number o) .node))) ≡ false
-      go true e = ap not (source-sound (number o) e .fitting)
+      Usable : Look → Type 0
+      Usable l = (not (is-copied (l .how)) || copy-fits u x (l .node)) ≡ true
+
+      go : (w r : Found) → find u set.Reads x ≡ r → is-found (or-read u x w .how) ≡ true → Usable (or-read u x w)
+      go (At i) r q h = refl
+      go Absent (At i) q h = subst (λ (r : Found). Usable (or-copied u x r)) (sym q) refl
+      go Absent Absent q h =
+          subst (λ (r : Found). Usable (or-copied u x r)) (sym q)
+          (or-right (not (is-copied (copied u x .how))) (copy-fits u x (copied u x .node))
+          (copy-judged z u P al x hi (subst (λ (r : Found). is-found (or-copied u x r .how) ≡ true) q h)))
+
+  -- a question about something of the store is never broken
+  unbroken : Allowed z → (a : Ask) → Inside (There z) z a → broken z u a ≡ false
+  unfolding broken
+  unbroken al (object o) h = rw (named-there z o h) (go (is-found (source u (number o) .how)) refl)
+    where
+      go : (b : Bool) → is-found (source u (number o) .how) ≡ b → (b && not (look-fits z u (number o) (source u (number o)))) ≡ false
+      go true e = ap not (source-judged al (number o) (number-inside z al o (named-there z o h)) e)
       go false e = refl
-  unbroken (vector s) h = ap not (lt-ltb s (z .servers) h)
-  unbroken (fetched s) h = ap not (lt-ltb s (z .servers) h)
+  unbroken al (vector s) h = rw (lt-ltb s (z .servers) h, vector-judged z u P s (omega (arith, h, al .0)))
+  unbroken al (fetched s) h = rw (lt-ltb s (z .servers) h, vector-judged z u P s (omega (arith, h, al .0)))
 
   points : Allowed z → (o : Obj) → object-in-store z o ≡ true → is-found (source u (number o) .how) ≡ true → Points (There z) o (source u (number o) .node)
   unfolding children-there
@@ -109,14 +128,14 @@ module _ (k j slots : ℕ) (al : Allowed (sizes k j slots)) (u : ClientWord → 
 
   -- the plan asks for nothing but what the store has
   lacks-unbroken : (a : Ask) → walk (plan z u) (have z u) ≡ lacks a → broken z u a ≡ false
-  lacks-unbroken a e = unbroken z u P a (asked-inside (There z) z (slot-named z al) (waiting u) (op-names (There z) z (λ n h. h) u fit) (have z u) at-hand a e)
+  lacks-unbroken a e = unbroken z u P al a (asked-inside (There z) z (slot-named z al) (waiting u) (op-names (There z) z (λ n h. h) u fit) (have z u) at-hand a e)
 
   pub never-refused : ¬ (worked z u ≡ Work.refused)
   unfolding worked walked
   never-refused e = not-both (ap is-refused e) (go (walked z u .how) (run-follows (have z u) (new u) (96 - u reads-count) (plan z u) []))
     where
       asks : (a : Ans) (w : Writes) → is-refused (Work.last-questions z u a w) ≡ false
-      asks a w = by (not (all-fit? w w)) (ltb 48 (Work.writes-after u w)) (Work.any-at-last u (entered w))
+      asks a w = rw (versions-judged z u P (entered w)) (by (not (all-fit? w w)) (ltb 48 (Work.writes-after u w)) (Work.any-at-last u (entered w)))
         where
           by : (p q r : Bool) → is-refused (cond p (Work.aborted 3) (cond q (Work.aborted 4) (cond r (Work.aborted 8) (Work.answers a w)))) ≡ false
           by true q r = refl

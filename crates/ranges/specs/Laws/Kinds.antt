@@ -13,7 +13,7 @@ use Rattle.plans.specs.Walk.{Every}
 use Rattle.operations.specs.Slot.{Allowed}
 use Rattle.protocol.specs.Machine as P
 use Rattle.client.specs.Layout.{ClientWord, phase, op-number, prepared, applied}
-use Rattle.client.specs.Fits.{client-fits}
+use Rattle.client.specs.Fits.{fit-to-work}
 use Rattle.client.specs.Work as Work
 use Rattle.client.specs.Work.{Worked, walked, worked}
 use Rattle.steps.specs.declared.sizes.Sizes.{Sizes}
@@ -33,7 +33,7 @@ use Rattle.demand.specs.Laws.Store.{sizes}
 use Rattle.demand.specs.Laws.Turns.{one-of, store, Good}
 use Rattle.demand.specs.Laws.Undecided.{either}
 use Rattle.ranges.specs.Laws.Sound.{Sound-store}
-use Rattle.ranges.specs.Laws.Sets.{part-fits}
+use Rattle.ranges.specs.Laws.Judged.{fits-to-work}
 use Rattle.ranges.specs.Laws.Whole.{accepted, Kept, if-kept}
 use Rattle.ranges.specs.Laws.Undecided.{begin-kept, give-kept, commit-kept, abort-kept, loss-kept}
 use Rattle.ranges.specs.Laws.Applying.{apply-kept}
@@ -78,7 +78,7 @@ module _ (k j slots : ℕ) (al : Allowed (sizes k j slots)) (few : suc j ≤ 16)
 
     work-kept : state-fits u (n .server) Work ≡ true → Fine (Steps.work z m (n .client))
     unfolding Steps.work state-fits
-    work-kept f = go (worked (sizes k j slots) u) refl
+    work-kept f = if-kept k j slots m (fit-to-work (sizes k j slots) u) _ (fits-to-work (sizes k j slots) u (S .parts c)) (go (worked (sizes k j slots) u) refl)
       where
         now : u phase ≡ 1
         now = eqb-true (u phase) 1 (and-both (eqb (u phase) 1) (not (eqb (u op-number) 0)) f .0)
@@ -117,8 +117,5 @@ module _ (k j slots : ℕ) (al : Allowed (sizes k j slots)) (few : suc j ≤ 16)
   unfolding Steps.step
   step-kept =
       one-of Fine (eqb (refusal z n m) 0) _ _
-      (λ q. let p = passed z n m (eqb-true (refusal z n m) 0 q) in
-      if-kept k j slots m (client-fits (sizes k j slots) (client-of m (n .client))) _
-      (part-fits (sizes k j slots) (client-of m (n .client)) (S .parts (n .client, p .known-client)))
-      (kind-kept (p .known-client) p))
+      (λ q. let p = passed z n m (eqb-true (refusal z n m) 0 q) in kind-kept (p .known-client) p)
       (λ _. refused-kept (refusal z n m) (refusal-low z n m))

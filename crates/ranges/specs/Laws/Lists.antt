@@ -1,6 +1,6 @@
 -- Lists all of whose elements pass.
 use mathlib.Core.Path.{_≡_, refl}
-use mathlib.Core.Bool.{Bool, true, false, cond}
+use mathlib.Core.Bool.{Bool, true}
 use mathlib.Core.List.{List, [], _∷_, _++_, map}
 use Prim.Native.Nat.{ℕ, zero, suc, _<_}
 use native.Mathlib.Omega.{arith}
@@ -8,7 +8,8 @@ use lib.ListN.{length, getD}
 use Rattle.base.specs.Test.{and-both}
 use Rattle.plans.specs.Walk.{Every}
 use Rattle.operations.specs.Laws.Storable.{every-append}
-use Rattle.steps.specs.Uses.{those, all, each}
+use Rattle.client.specs.Record.{all}
+use Rattle.steps.specs.Uses.{each}
 
 pub every-weaker : {A : Type 0} (P Q : A → Type 0) → ((a : A) → P a → Q a) → (l : List A) → Every P l → Every Q l
 unfolding Every
@@ -45,13 +46,3 @@ pub every-all : {A : Type 0} (f : A → Bool) (l : List A) → Every (λ a. f a 
 unfolding all Every
 every-all f [] h = refl
 every-all f (a ∷ l) h = rw (h .0) (every-all f l (h .1))
-
--- a test that all those pass that another lets through
-pub all-those : {A : Type 0} (f g : A → Bool) (l : List A) → Every (λ a. g a ≡ true → f a ≡ true) l → all f (those g l) ≡ true
-unfolding Every all those
-all-those f g [] h = refl
-all-those f g (a ∷ l) h = go (g a) refl (all-those f g l (h .1))
-  where
-    go : (b : Bool) → g a ≡ b → all f (those g l) ≡ true → all f (cond b (a ∷ those g l) (those g l)) ≡ true
-    go true e rest = rw (h .0 e) rest
-    go false e rest = rest

@@ -1,6 +1,6 @@
 -- LOCKS STAY SOUND: those that a lock's word names go on holding it, or are named no more. Stores in a client's part alone; prepare.
 use mathlib.Core.Path.{_≡_, refl, ap, ap₂, sym, _∙_, subst}
-use mathlib.Core.Bool.{Bool, true, false, _||_, true≢false}
+use mathlib.Core.Bool.{Bool, true, false, _||_, not, true≢false}
 use mathlib.Core.List.{List}
 use mathlib.Core.Logic.{_⊎_, inl, inr}
 use Prim.Native.Nat.{ℕ, suc, _≤_, _<_, Fin}
@@ -23,7 +23,7 @@ use Rattle.server.specs.Lock.{locked, lock-in-range}
 use Rattle.server.specs.Laws.Lock.{locked-range}
 use Rattle.client.specs.declared.part.Set.the-variants.{Reads, Writes, Copies}
 use Rattle.client.specs.Layout.{ClientWord, client-words, field, item, vector-word, phase, participants, prepared, applied, reads-count, writes-count}
-use Rattle.client.specs.Record.{number, by-number, first-slot}
+use Rattle.client.specs.Record.{number, by-number, first-slot, kind-in-range}
 use Rattle.client.specs.Commit.{is-at}
 use Rattle.client.specs.Sets.{record-at, number-at, find}
 use Rattle.client.specs.Items.{inner, has, of-record}
@@ -31,7 +31,7 @@ use Rattle.client.specs.Participants.{lowest-of}
 use Rattle.client.specs.Part.{put-field, put-word}
 use Rattle.client.specs.Copies.{drop-all}
 use Rattle.client.specs.Life.{lose-part}
-use Rattle.client.specs.Fits.{client-fits}
+use Rattle.client.specs.Laws.Ranges.{client-fits}
 use Rattle.client.specs.Course.{noted, decided}
 use Rattle.steps.specs.declared.sizes.Sizes.{Sizes}
 use Rattle.steps.specs.Whole.{Address, server, client, whole}
@@ -156,22 +156,29 @@ module _ (z : Sizes) (s : ℕ) where
     abbrev v₀ : ClientWord → ℕ
     v₀ = client-of m′ d
 
-    becomes-same : (x : ℕ) (f : Found) → of-record v₀ Writes (inner x) f ≡ of-record u₀ Writes (inner x) f
-    becomes-same x (At i) = ap (inner x) (record-frame u₀ v₀ Writes i (G .sets .items-written i))
-    becomes-same x Absent = refl
+    -- what is asked of a written record
+    record-same : (g : Node → Bool) (f : Found) → of-record v₀ Writes g f ≡ of-record u₀ Writes g f
+    record-same g (At i) = ap g (record-frame u₀ v₀ Writes i (G .sets .items-written i))
+    record-same g Absent = refl
+
+    written-same : (g : Node → Bool) (x : ℕ) → of-record v₀ Writes g (find v₀ Writes x) ≡ of-record u₀ Writes g (find u₀ Writes x)
+    written-same g x = ap (of-record v₀ Writes g) (same-written u₀ v₀ 0 0 0 (G .sets) x) ∙ record-same g (find u₀ Writes x)
 
     -- servers are asked about the same items
     item-as : (x : ℕ) (r : Node) → U.item-of v₀ x r ≡ U.item-of u₀ x r
     unfolding U.item-of has
     item-as x r =
         let w = same-written u₀ v₀ 0 0 0 (G .sets) x in
-        let b = ap (of-record v₀ Writes (inner x)) w ∙ becomes-same x (find u₀ Writes x) in
+        let b = written-same (inner x) x in
+        let k = written-same (kind-in-range x) x in
         λ t. record {
           number = x;
           inner-read = inner x r;
           mark = by-number x (r .version) (λ n. r .version) (λ n. first-slot r);
           written = is-at (w t);
           becomes = b t;
+          read-fits = kind-in-range x r;
+          written-fits = not (is-at (w t)) || k t;
         }
 
     item-same : (i : ℕ) → U.read-item v₀ i ≡ U.read-item u₀ i

@@ -4,7 +4,7 @@ use mathlib.Core.Bool.{Bool, true, false, cond}
 use mathlib.Core.List.{List, [], _∷_}
 use Prim.Native.Nat.{ℕ, _+_, _≤_, _<_}
 use native.Mathlib.Omega.{arith}
-use borrow.Author.Tests.{ltb-true}
+use borrow.Author.Tests.{eqb-true, ltb-true}
 use lib.Dec.{eqb, ltb}
 use Rattle.layout.specs.Space.{Put, put, puts, changed}
 use Rattle.layout.specs.Step.{andThen}
@@ -38,7 +38,7 @@ use Rattle.demand.specs.Laws.Renewed.{Renews, renew-keeps}
 use Rattle.demand.specs.Laws.Latest.{All-whole}
 use Rattle.demand.specs.Laws.Entered.{Read-entered}
 use Rattle.demand.specs.Laws.Used.{after-used}
-use Rattle.ranges.specs.Laws.Sound.{Sound, Node-sound, Item-sound, Fields-sound, Part-sound}
+use Rattle.ranges.specs.Laws.Sound.{Sound, Node-sound, Inner-sound, Item-sound, Fields-sound, Part-sound}
 use Rattle.ranges.specs.Laws.Sets.{sets-frame, no-sets, read-sound, read-or-not, copied-sound, May-write, All-copied, used-keeps}
 use Rattle.ranges.specs.Laws.Entries.{written-sound}
 use Rattle.ranges.specs.Laws.Renewing.{renewed-node, renewed-meta}
@@ -115,7 +115,7 @@ module _ (z : S.TreeSizes) (u : ClientWord → ℕ) (P : Part-sound z u) where
   read-part x r w I = read-or-not u x r w (Part-sound z) (λ v E. entered-part z u v x r E I P) P
 
   -- ---- a copy is made
-  node-copied : (x : ℕ) (r : Node) → Sized r → Node-sound z r → Part-sound z (changed client-words u (copy-node x r u))
+  node-copied : (x : ℕ) (r : Node) → Sized r → Inner-sound z r → Part-sound z (changed client-words u (copy-node x r u))
   node-copied x r w s = record {
     fields = F.copied-fields z u (P .fields) x r;
     sets = sets-frame z u _ (sets-stay (copy-node x r u) u (only-copy x r u)) (P .sets);
@@ -181,7 +181,7 @@ module _ (z : S.TreeSizes) (u : ClientWord → ℕ) (P : Part-sound z u) where
 
   pub finish-part : Part-sound z (changed client-words u (Rn.finish u))
   unfolding Rn.finish
-  finish-part = then-keeps client-words (Part-sound z) Rn.renew-kept (reset 0) u (renew-keeps (Part-sound z) (renews z) u P) (λ w Q. reset-part z w Q 0 (omega arith))
+  finish-part = then-keeps client-words (Part-sound z) Rn.renew-kept (reset 0) u (renew-keeps (Part-sound z) u (λ _. renews z) P) (λ w Q. reset-part z w Q 0 (omega arith))
 
   -- "loss drops all copies"
   pub forget-part : Part-sound z (changed client-words u (drop-all u))
@@ -202,12 +202,12 @@ module _ (z : S.TreeSizes) (u : ClientWord → ℕ) (P : Part-sound z u) where
   pub node-part : (n : ℕ) (r : Node) → Sized r → Item-sound z (1 + n) r → Node-sound z r → Part-sound z (changed client-words u (fetched-node n r u))
   unfolding fetched-node copy-inner nothing changed
   node-part n r w I s =
-      then-keeps client-words (Part-sound z) (enter-read (1 + n) r) (copy-inner (1 + n) r) u (read-part z u P (1 + n) r w I) (λ v Q. inner v Q (eqb (r .kind) 2))
+      then-keeps client-words (Part-sound z) (enter-read (1 + n) r) (copy-inner (1 + n) r) u (read-part z u P (1 + n) r w I) (λ v Q. inner v Q (eqb (r .kind) 2) refl)
     where
       -- "an inner node is copied too"
-      inner : (v : ClientWord → ℕ) → Part-sound z v → (b : Bool) → Part-sound z (changed client-words v (cond b (copy-node (1 + n) r) nothing v))
-      inner v Q true = node-copied z v Q (1 + n) r w s
-      inner v Q false = Q
+      inner : (v : ClientWord → ℕ) → Part-sound z v → (b : Bool) → eqb (r .kind) 2 ≡ b → Part-sound z (changed client-words v (cond b (copy-node (1 + n) r) nothing v))
+      inner v Q true e = node-copied z v Q (1 + n) r w (record { inner = eqb-true (r .kind) 2 e; sound = s })
+      inner v Q false e = Q
 
   pub vector-part : (s : ℕ) (ws : List ℕ) → s < z .servers → Part-sound z (changed client-words u (fetched-vector s ws u))
   unfolding fetched-vector

@@ -1,43 +1,46 @@
 -- Prepare: the locks, the decision, and with one participant the apply.
 use mathlib.Core.Path.{_≡_, refl, sym, subst}
-use mathlib.Core.Bool.{Bool, true, false, cond, _||_, not}
+use mathlib.Core.Bool.{Bool, true, false, cond, not}
 use mathlib.Core.List.{[], map}
 use mathlib.Core.Logic.{inr}
 use Prim.Native.Nat.{ℕ, suc, _≤_, _<_, Fin}
 use native.Mathlib.Omega.{arith}
-use borrow.Author.Tests.{eqb-true, not-false}
+use borrow.Author.Tests.{not-false}
 use lib.Dec.{eqb}
 use Rattle.memory.specs.Bit.{bit}
 use Rattle.layout.specs.Space.{changed}
 use Rattle.layout.specs.Part.{over}
 use Rattle.layout.specs.Laws.Step.{changed-append}
 use Rattle.operations.specs.Slot.{Allowed}
+use Rattle.server.specs.Check.{held, checked, finding-number}
 use Rattle.client.specs.declared.part.Set.the-variants.{Reads}
-use Rattle.client.specs.Sets.{count, number-at}
+use Rattle.client.specs.Sets.{count, record-at, number-at}
 use Rattle.client.specs.Layout.{ClientWord, phase, participants, prepared}
 use Rattle.client.specs.Course.{noted, decided}
-use Rattle.client.specs.Fits.{client-fits}
+use Rattle.client.specs.Fits.{fit-to-prepare, fit-to-apply}
+use Rattle.client.specs.Laws.Ranges.{client-fits}
 use Rattle.steps.specs.declared.sizes.Sizes.{Sizes}
 use Rattle.steps.specs.declared.outcome.Outcome.the-variants.{Prepared, Decided}
 use Rattle.steps.specs.Whole.{Address, client, whole}
-use Rattle.steps.specs.Judge.{lock-fits, check-fits, lowest-participant, versions-fit, prepare-fits}
+use Rattle.steps.specs.Judge.{lowest-participant}
 use Rattle.steps.specs.Laws.Stores.{client-of, server-of}
 use Rattle.steps.specs.Steps.{lock-each}
 use Rattle.steps.specs.Uses.{read-item, checked-at, locked-at}
-use Rattle.demand.specs.Laws.Held.{every-below}
 use Rattle.demand.specs.Ledger.{Ledger, notes-decision}
 use Rattle.demand.specs.Laws.Shows.{T}
 use Rattle.demand.specs.Laws.Store.{sizes}
 use Rattle.demand.specs.Laws.Turns.{one-of, store, Good}
 use Rattle.ranges.specs.Laws.Sound.{Sound-store}
+use Rattle.ranges.specs.Laws.Lists.{every-map, every-each}
 use Rattle.ranges.specs.Laws.Sets.{part-fits}
+use Rattle.ranges.specs.Laws.Judged.{fits-to-prepare, fits-to-apply}
 use Rattle.ranges.specs.Laws.Part.{prepared-part, decided-part}
 use Rattle.ranges.specs.Laws.Servers.{lock-each-sound}
 use Rattle.ranges.specs.Laws.Locks.{prepare-locks, decided-locks}
-use Rattle.ranges.specs.Laws.Held.{item-judged}
-use Rattle.ranges.specs.Laws.Whole.{accepted, Kept, if-kept, client-sound, both-sound}
+use Rattle.ranges.specs.Laws.Held.{kinds-judged, item-judged}
+use Rattle.ranges.specs.Laws.Whole.{accepted, Kept, if-kept, finding-kept, client-sound, both-sound}
 use Rattle.ranges.specs.Laws.Undecided.{abort-kept}
-use Rattle.ranges.specs.Laws.Applying.{versions-judged, applied-kept}
+use Rattle.ranges.specs.Laws.Applying.{applied-kept}
 use Rattle.protocol.specs.Machine as P
 use Rattle.steps.specs.Steps as Steps
 use Rattle.steps.specs.Uses as U
@@ -59,23 +62,45 @@ module _ (k j slots : ℕ) (al : Allowed (sizes k j slots)) (few : suc j ≤ 16)
     fit : client-fits (sizes k j slots) u ≡ true
     fit = part-fits (sizes k j slots) u (S .parts c)
 
-    -- what a prepare reads is in range
-    judged : prepare-fits z m (c .0) (s .0) ≡ true
-    unfolding prepare-fits U.item-of number-at
-    judged = every-below (count u Reads) _ (λ n l. one n l (locked-at low (s .0) (read-item u n)) refl)
-      where
-        one : (n : ℕ) → n < count u Reads → (b : Bool) → locked-at low (s .0) (read-item u n) ≡ b
-            → (not b || cond (checked-at low (s .0) (read-item u n)) (check-fits z m (s .0) (read-item u n)) (lock-fits z m (s .0) (read-item u n))) ≡ true
-        one n l false e = refl
-        one n l true e = by (checked-at low (s .0) (read-item u n)) refl
-          where
-            lock : lock-fits z m (s .0) (read-item u n) ≡ true
-            lock = item-judged k j slots few m S al c fit (M .slots c) (G .shown .clients c .slot) (omega (arith, now)) s n l e
+    -- what a prepare reads of each object is in range, so none comes to a refusal
+    abbrev Passes : U.Item → Type 0
+    Passes i = eqb (Steps.prepare-finding z m (c .0) (s .0) i .1) 10 ≡ false
 
-            by : (t : Bool) → checked-at low (s .0) (read-item u n) ≡ t
-                → cond t (check-fits z m (s .0) (read-item u n)) (lock-fits z m (s .0) (read-item u n)) ≡ true
-            by true h = Checks.prepare-judged z m (s .0) (S .servers s) (read-item u n) (S .parts c .sets .read n l .inside) lock low h
-            by false h = lock
+    item-passes : (n : ℕ) → n < count u Reads → Passes (read-item u n)
+    unfolding U.item-of number-at
+    item-passes n l = rw (kinds-judged k j slots few m S al c (M .slots c) (G .shown .clients c .slot) n l) (go (locked-at low (s .0) i) refl)
+      where
+        i : U.Item
+        i = read-item u n
+
+        found : ℕ
+        found = finding-number (checked (U.item-object i) (i .inner-read) (i .mark) (c .0) (U.use-of i) (server-of m (s .0)))
+
+        held-by : ℕ
+        held-by = cond (held (U.item-object i) (c .0) (U.use-of i) (server-of m (s .0))) 2 0
+
+        at-hand : (t : Bool) → checked-at low (s .0) i ≡ t → eqb (cond t found held-by) 10 ≡ false
+        at-hand true h =
+            let I = S .parts c .sets .read n l in
+            Checks.prepare-judged (sizes k j slots) (s .0) (server-of m (s .0)) (S .servers s) i low (c .0) (I .inside)
+            (Checks.mark-judged (sizes k j slots) u (number-at u Reads n) (record-at u Reads n) (I .sound)) h
+        at-hand false h = by (held (U.item-object i) (c .0) (U.use-of i) (server-of m (s .0)))
+          where
+            by : (b : Bool) → eqb (cond b 2 0) 10 ≡ false
+            by true = refl
+            by false = refl
+
+        go : (b : Bool) → locked-at low (s .0) i ≡ b → eqb (cond b (Steps.prepare-reason z m (c .0) (s .0) i) 0) 10 ≡ false
+        go false e = refl
+        go true e =
+            rw (item-judged k j slots few m S al c (M .slots c) (G .shown .clients c .slot) (omega (arith, now)) s n l e) (at-hand (checked-at low (s .0) i) refl)
+
+    found-judged : eqb (U.deciding (map (Steps.prepare-finding z m (c .0) (s .0)) (U.read-items u))) 10 ≡ false
+    unfolding U.read-items
+    found-judged =
+        Checks.deciding-judged (map (Steps.prepare-finding z m (c .0) (s .0)) (U.read-items u))
+        (every-map Passes (λ f. eqb (f .1) 10 ≡ false) (Steps.prepare-finding z m (c .0) (s .0)) (λ i h. h) (U.read-items u)
+        (every-each Passes (count u Reads) (read-item u) item-passes))
 
     abbrev m₁ : Address → ℕ
     m₁ = changed whole m (Steps.preparing z m (c .0) (s .0))
@@ -116,10 +141,10 @@ module _ (k j slots : ℕ) (al : Allowed (sizes k j slots)) (few : suc j ≤ 16)
     prepare-kept =
         let found = U.deciding (map (Steps.prepare-finding z m (c .0) (s .0)) (U.read-items u)) in
         let every = Steps.all-prepared z m (c .0) (s .0) in
-        if-kept k j slots m (prepare-fits z m (c .0) (s .0)) _ judged
-        (one-of (Kept k j slots m) (eqb found 0) _ _
+        if-kept k j slots m (fit-to-prepare (sizes k j slots) u) _ (fits-to-prepare (sizes k j slots) u (S .parts c))
+        (finding-kept k j slots m found (Steps.prepared-at z m (c .0) (s .0)) (λ y. Steps.abort z m (c .0) y []) found-judged
         (λ q. one-of (Kept k j slots m) (not every) _ _ (λ _. record { passes = accepted (Prepared (s .0)) refl; sound = prepared-sound })
         (λ e. one-of (Kept k j slots m) (Steps.only z m (c .0) (s .0)) _ _
-        (λ _. if-kept k j slots m (versions-fit z m (c .0)) _ (versions-judged k j slots m (c .0) (S .parts c)) (alone (eqb-true found 0 q) (not-false every e)))
-        (λ _. record { passes = accepted Decided refl; sound = decided-sound (eqb-true found 0 q) (not-false every e) })))
-        (λ _. abort-kept k j slots m S c al few L M (G .shown) (inr now) found []))
+        (λ _. if-kept k j slots m (fit-to-apply (sizes k j slots) u (s .0) true) _ (fits-to-apply (sizes k j slots) u (S .parts c) al (s .0) true) (alone q (not-false every e)))
+        (λ _. record { passes = accepted Decided refl; sound = decided-sound q (not-false every e) })))
+        (abort-kept k j slots m S c al few L M (G .shown) (inr now) found []))

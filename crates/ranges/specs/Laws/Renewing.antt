@@ -3,7 +3,7 @@ use mathlib.Core.Path.{_≡_, refl, subst}
 use mathlib.Core.Bool.{Bool, true, false, cond, false≢true, _&&_}
 use Prim.Native.Nat.{ℕ, _≤_, _<_, suc}
 use native.Mathlib.Omega.{arith}
-use borrow.Author.Tests.{ltb-true}
+use borrow.Author.Tests.{eqb-true, ltb-true}
 use lib.Dec.{eqb, leb, ltb}
 use Rattle.layout.specs.Space.{tab}
 use Rattle.nodes.specs.declared.node.Node.{Node}
@@ -13,12 +13,12 @@ use Rattle.nodes.specs.Stored.{node-of}
 use Rattle.nodes.specs.Laws.Stored.{Sized}
 use Rattle.client.specs.declared.part.Set.the-variants.{Reads, Writes}
 use Rattle.client.specs.Layout.{ClientWord, item}
-use Rattle.client.specs.Record.{single, by-number, first-slot, in-store, last-version, record-in-range}
+use Rattle.client.specs.Record.{single, by-number, first-slot, in-store, last-version, record-in-range, children-there}
 use Rattle.client.specs.Sets.{count, record-at, number-at, find}
 use Rattle.client.specs.Commit.{inner-at}
 use Rattle.demand.specs.Laws.Held.{found-at}
 use Rattle.demand.specs.Laws.Placed.{record-sized}
-use Rattle.ranges.specs.Laws.Sound.{children-there, Node-sound, Sound, Sets-sound}
+use Rattle.ranges.specs.Laws.Sound.{Node-sound, Inner-sound, Sound, Sets-sound}
 use Rattle.ranges.specs.Laws.Stored.{root-there, metadata-of, versioned-sound}
 use Rattle.operations.specs.Slot as S
 use Rattle.client.specs.Renew as Rn
@@ -36,6 +36,12 @@ node-record z x r b h s = go (eqb x 0) (leb x 8192) h (s .fitting) (s .children)
     go false true h f g = record { range = f; children = g }
     go false false h f g = absurd (false≢true h)
 
+-- an item that is an inner node's
+inner-kind : (k : ℕ) (a b : Bool) → cond a false (cond b (eqb k 2) false) ≡ true → k ≡ 2
+inner-kind k true b h = absurd (false≢true h)
+inner-kind k false true h = eqb-true k 2 h
+inner-kind k false false h = absurd (false≢true h)
+
 -- "a 32-bit version"
 new-within : (w : ClientWord → ℕ) (x : ℕ) → Rn.new-version w x ≤ last-version
 unfolding Rn.new-version next-version
@@ -47,14 +53,17 @@ new-within w x = next (version-of w (find w Reads x)) (ltb (version-of w (find w
 
 module _ (z : S.TreeSizes) (w : ClientWord → ℕ) (S : Sets-sound z w) where
   -- "then written inner nodes by name"
-  pub renewed-node : (i : ℕ) → i < count w Writes → inner-at w Writes i ≡ true → Sized (Rn.renewed w i) × Node-sound z (Rn.renewed w i)
-  unfolding Rn.renewed Rn.versioned inner-at
+  pub renewed-node : (i : ℕ) → i < count w Writes → inner-at w Writes i ≡ true → Sized (Rn.renewed w i) × Inner-sound z (Rn.renewed w i)
+  unfolding Rn.renewed Rn.versioned inner-at record-at node-of tab
   renewed-node i l h =
       let x = number-at w Writes i in
       let r = record-at w Writes i in
       let whole : Sized r = record-sized w Writes i in (
         record { keys = whole .keys; slots = whole .slots },
-        versioned-sound z r (Rn.new-version w x) (new-within w x) (node-record z x r (eqb (w (item Writes i 1)) 2) h (S .written i l .sound)),
+        record {
+          inner = inner-kind (w (item Writes i 1)) (eqb x 0) (leb x 8192) h;
+          sound = versioned-sound z r (Rn.new-version w x) (new-within w x) (node-record z x r (eqb (w (item Writes i 1)) 2) h (S .written i l .sound));
+        },
       )
 
   -- "metadata"

@@ -19,7 +19,7 @@ use Rattle.server.specs.Object.{object-of, lock-of}
 use Rattle.server.specs.Laws.Lock.{reads, writes, free-range}
 use Rattle.server.specs.Laws.Fresh.{fresh}
 use Rattle.client.specs.Layout.{ClientWord}
-use Rattle.client.specs.Record.{number, single, in-store, record-in-range, last-version}
+use Rattle.client.specs.Record.{number, single, in-store, record-in-range, last-version, children-there}
 use Rattle.client.specs.Sets.{count}
 use Rattle.client.specs.Fits.{op-fits}
 use Rattle.steps.specs.Whole.{Address}
@@ -32,7 +32,7 @@ use Rattle.demand.specs.Laws.Servers.{is-lock, lock-stays, unlock-stays, node-f
 use Rattle.demand.specs.Laws.Numbers.{zeroth-there}
 use Rattle.demand.specs.Laws.Opened.{zero-at, empty-node, root-node, no-client, server-fresh}
 use Rattle.demand.specs.Laws.Turns.{store}
-use Rattle.ranges.specs.Laws.Sound.{children-there, Node-sound, Sound, Part-sound, Server-sound, Lock-sound, Locks-sound, Sound-store}
+use Rattle.ranges.specs.Laws.Sound.{Node-sound, Sound, Part-sound, Server-sound, Lock-sound, Locks-sound, Sound-store}
 use Rattle.nodes.specs.Name as N
 use Rattle.operations.specs.Slot as S
 use Rattle.server.specs.declared.object.Object.the-variants as object
@@ -85,7 +85,7 @@ new-part z = record {
     young = λ i l. absurd (omega arith);
   };
   copies = record {
-    meta-copy = λ e. absurd (omega (arith, e));
+    meta-copy = λ n. absurd (n refl);
     copies = λ i l n. absurd (n refl);
     vectors = λ s l. omega arith;
   };

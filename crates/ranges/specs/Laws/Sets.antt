@@ -29,7 +29,7 @@ use Rattle.client.specs.Record.{first-slot, single, number-in-store, in-store, 
 use Rattle.client.specs.Sets.{or-found, at-most, count, record-at, number-at, find}
 use Rattle.client.specs.Items.{has}
 use Rattle.client.specs.Part.{nothing}
-use Rattle.client.specs.Fits.{bounds, field-fits, has-read, vector-fits, item-fits, client-fits}
+use Rattle.client.specs.Laws.Ranges.{bounds, field-fits, has-read, vector-fits, item-fits, client-fits}
 use Rattle.client.specs.Have.{copy, lacking, is-found, copied-meta, copied-item, copied-node, copied-flag, copied}
 use Rattle.client.specs.Enter.{enter-read, enter-copy, enter-nth, enter-used}
 use Rattle.client.specs.Answered.{used-enter}
@@ -195,30 +195,30 @@ module _ (z : TreeSizes) (u : ClientWord → ℕ) where
   unfolding copied copied-meta copied-node copied-flag count number-at record-in-range
   copied-sound C x h = go (eqb x 0) refl (leb x 8192) refl h
     where
-      of-meta : x ≡ 0 → (c : Bool) → eqb (u meta-copied) 1 ≡ c → is-found (cond c (copy (single (u meta-version) (u meta-root))) lacking .how) ≡ true
-          → Sound z x (cond c (copy (single (u meta-version) (u meta-root))) lacking .node)
-      of-meta e true t h = subst (λ (y : ℕ). Sound z y (single (u meta-version) (u meta-root))) (sym e) (C .meta-copy (eqb-true (u meta-copied) 1 t))
-      of-meta e false t h = absurd (false≢true h)
+      of-meta : x ≡ 0 → (c : Bool) → eqb (u meta-copied) 0 ≡ c → is-found (cond c lacking (copy (single (u meta-version) (u meta-root))) .how) ≡ true
+          → Sound z x (cond c lacking (copy (single (u meta-version) (u meta-root))) .node)
+      of-meta e true t h = absurd (false≢true h)
+      of-meta e false t h = subst (λ (y : ℕ). Sound z y (single (u meta-version) (u meta-root))) (sym e) (C .meta-copy (eqb-false (u meta-copied) 0 t))
 
       of-node : eqb x 0 ≡ false → leb x 8192 ≡ true → (f : Found) → find u Copies x ≡ f → is-found (copied-item u f .how) ≡ true → Sound z x (copied-item u f .node)
       of-node a b (At i) e h =
           let f = found-at u Copies x i e in
-          let n = C .copies i (f .0) (λ q. eqb-false x 0 a (sym (f .1) ∙ q)) in
+          let n = C .copies i (f .0) (λ q. eqb-false x 0 a (sym (f .1) ∙ q)) .sound in
           record { fitting = rw (a, b) (n .range); children = rw (a, b) (n .children) }
       of-node a b Absent e h = absurd (false≢true h)
 
-      of-flag : eqb x 0 ≡ false → leb x 8192 ≡ false → (c d : Bool) → is-found (cond c (copy (single 0 (digit d))) lacking .how) ≡ true
-          → Sound z x (cond c (copy (single 0 (digit d))) lacking .node)
-      of-flag a b true d h = record { fitting = rw (a, b) (flag-fits d); children = rw (a, b) refl }
-      of-flag a b false d h = absurd (false≢true h)
+      of-flag : eqb x 0 ≡ false → leb x 8192 ≡ false → (c d : Bool) → is-found (cond c lacking (copy (single 0 (digit d))) .how) ≡ true
+          → Sound z x (cond c lacking (copy (single 0 (digit d))) .node)
+      of-flag a b true d h = absurd (false≢true h)
+      of-flag a b false d h = record { fitting = rw (a, b) (flag-fits d); children = rw (a, b) refl }
 
       go : (a : Bool) → eqb x 0 ≡ a → (b : Bool) → leb x 8192 ≡ b → is-found (cond a (copied-meta u) (cond b (copied-node u x) (copied-flag u (x - 8193))) .how) ≡ true
           → Sound z x (cond a (copied-meta u) (cond b (copied-node u x) (copied-flag u (x - 8193))) .node)
-      go true a b q h = of-meta (eqb-true x 0 a) (eqb (u meta-copied) 1) refl h
+      go true a b q h = of-meta (eqb-true x 0 a) (eqb (u meta-copied) 0) refl h
       go false a true q h = of-node a q (find u Copies x) refl h
       go false a false q h =
           let n = x - 8193 in
-          of-flag a q (eqb (u (vector-word (N.server-of n) 0)) 1) (bit (u (vector-word (N.server-of n) (1 + N.slot-of n / 64))) (N.slot-of n % 64)) h
+          of-flag a q (eqb (u (vector-word (N.server-of n) 0)) 0) (bit (u (vector-word (N.server-of n) (1 + N.slot-of n / 64))) (N.slot-of n % 64)) h
 
   -- each of these objects is one of the store, and its copy is found
   abbrev pub All-copied : List ℕ → Type 0

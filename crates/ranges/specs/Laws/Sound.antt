@@ -1,9 +1,8 @@
 -- A SOUND STORE: everything stored is in range, and what it points to is there. From it no step is refused by 10, and every step leaves one.
 use mathlib.Core.Path.{_≡_, refl}
-use mathlib.Core.Bool.{Bool, true, false, _||_, not}
+use mathlib.Core.Bool.{true, false}
 use mathlib.Core.List.{[], _∷_}
 use Prim.Native.Nat.{ℕ, suc, _-_, _^_, _≤_, _<_, Fin}
-use lib.Dec.{eqb}
 use lib.ListN.{getD}
 use Rattle.memory.specs.Bit.{bit}
 use Rattle.nodes.specs.declared.node.Node.{Node}
@@ -18,15 +17,16 @@ use Rattle.server.specs.Object.{object-of, lock-of}
 use Rattle.server.specs.Laws.Lock.{reads, writes}
 use Rattle.client.specs.declared.part.Set.the-variants.{Reads, Writes, Copies}
 use Rattle.client.specs.Layout.{ClientWord, field, item, vector-word, phase, participants, prepared, applied, meta-copied, meta-root, meta-version}
-use Rattle.client.specs.Record.{number, by-number, single, in-store, number-in-store, last-version, record-in-range}
+use Rattle.client.specs.Record.{number, by-number, single, in-store, number-in-store, last-version, record-in-range, all, children-there}
 use Rattle.client.specs.Sets.{count, record-at, number-at, find}
 use Rattle.client.specs.Items.{has}
 use Rattle.client.specs.Drops.{version-of}
-use Rattle.client.specs.Fits.{bounds, op-fits}
+use Rattle.client.specs.Fits.{op-fits}
+use Rattle.client.specs.Laws.Ranges.{bounds}
 use Rattle.steps.specs.declared.sizes.Sizes.{Sizes}
 use Rattle.steps.specs.Whole.{Address, server}
 use Rattle.steps.specs.Laws.Stores.{client-of, server-of}
-use Rattle.steps.specs.Uses.{all, read-item, locked-at}
+use Rattle.steps.specs.Uses.{read-item, locked-at}
 use Rattle.steps.specs.Judge.{lowest-participant}
 use Rattle.steps.specs.Steps.{node-at}
 use Rattle.demand.specs.Laws.Store.{sizes}
@@ -35,10 +35,6 @@ use Rattle.demand.specs.Laws.Turns.{store}
 use Rattle.nodes.specs.Name as N
 use Rattle.operations.specs.Slot as S
 use Rattle.server.specs.Lock as L
-
--- an inner node's children are names of the store
-unfoldable pub children-there : S.TreeSizes → Node → Bool
-children-there z r = not (eqb (r .kind) 2) || all (in-store z) (slotsOf r)
 
 -- with one server of two slots: inner nodes over 0 and 1, over 0 and 2; a leaf's values are no names
 children-sample : let z : S.TreeSizes = record { servers = 1; slots = 2 } in
@@ -51,6 +47,11 @@ children-sample = (refl, refl, refl)
 pub record Node-sound (z : S.TreeSizes) (r : Node) : Type 0 where
   pub range : node-in-range r ≡ true
   pub children : children-there z r ≡ true
+
+-- a copy's record: "64 inner nodes"
+pub record Inner-sound (z : S.TreeSizes) (r : Node) : Type 0 where
+  pub inner : r .kind ≡ 2
+  pub sound : Node-sound z r
 
 -- the record of the object with number x
 pub record Sound (z : S.TreeSizes) (x : ℕ) (r : Node) : Type 0 where
@@ -76,8 +77,8 @@ pub record Sets-sound (z : S.TreeSizes) (u : ClientWord → ℕ) : Type 0 where
   pub young : (i : ℕ) → i < count u Writes → number-at u Writes i ≤ 8192 → version-of u (find u Reads (number-at u Writes i)) < last-version
 
 pub record Copies-sound (z : S.TreeSizes) (u : ClientWord → ℕ) : Type 0 where
-  pub meta-copy : u meta-copied ≡ 1 → Sound z 0 (single (u meta-version) (u meta-root))
-  pub copies : (i : ℕ) → i < 64 → ¬ (u (item Copies i 0) ≡ 0) → Node-sound z (record-at u Copies i)
+  pub meta-copy : ¬ (u meta-copied ≡ 0) → Sound z 0 (single (u meta-version) (u meta-root))
+  pub copies : (i : ℕ) → i < 64 → ¬ (u (item Copies i 0) ≡ 0) → Inner-sound z (record-at u Copies i)
   pub vectors : (s : ℕ) → s < 8 → u (vector-word s 0) ≤ 1
 
 pub record Part-sound (z : S.TreeSizes) (u : ClientWord → ℕ) : Type 0 where

@@ -27,7 +27,7 @@ use Rattle.server.specs.Object.{named}
 use Rattle.server.specs.Store.{kept-of, metadata-step, flag-step, home-step, table-step, node-step}
 use Rattle.client.specs.declared.part.Set.the-variants.{Writes}
 use Rattle.client.specs.Layout.{ClientWord}
-use Rattle.client.specs.Record.{first-slot, single, in-store, record-in-range, last-version}
+use Rattle.client.specs.Record.{first-slot, single, in-store, record-in-range, last-version, children-there}
 use Rattle.client.specs.Sets.{count, record-at, number-at}
 use Rattle.client.specs.Items.{inner-before-after}
 use Rattle.client.specs.Participants.{at-home}
@@ -37,7 +37,7 @@ use Rattle.steps.specs.Steps.{store-write, store-all, unlock-each, node-at}
 use Rattle.steps.specs.Laws.Writes.{kept-sized}
 use Rattle.demand.specs.Laws.Frame.{then-keeps, sweep-keeps, Only, only-keeps}
 use Rattle.demand.specs.Laws.Placed.{record-sized}
-use Rattle.ranges.specs.Laws.Sound.{children-there, Node-sound, Sound, Sets-sound, Server-sound}
+use Rattle.ranges.specs.Laws.Sound.{Node-sound, Sound, Sets-sound, Server-sound}
 use Rattle.ranges.specs.Laws.Servers.{unlock-each-sound}
 use Rattle.nodes.specs.declared.node.Node as Record
 use Rattle.nodes.specs.Name as N

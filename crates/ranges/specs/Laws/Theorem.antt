@@ -32,6 +32,7 @@ use Rattle.demand.specs.Laws.Done.{due-applied, applies-note, applies-done}
 use Rattle.ranges.specs.Claim as C
 use Rattle.ranges.specs.Laws.Sound.{Sound-store}
 use Rattle.ranges.specs.Laws.Servers.{first-sound}
+use Rattle.ranges.specs.Laws.Sets.{part-fits}
 use Rattle.ranges.specs.Laws.Kinds.{step-kept}
 
 module _ (k j slots : ℕ) (al : Allowed (sizes k j slots)) (few : suc j ≤ 16) where
@@ -52,7 +53,8 @@ module _ (k j slots : ℕ) (al : Allowed (sizes k j slots)) (few : suc j ≤ 16)
       let K = step-kept k j slots al few m (e .sound) L (x .machine) (x .good) (t .step) (p .0) in
       let next : State (after (store k j slots) m (t .step)) (note L (t .step) (t .outcome)) = record {
         explained = subst (λ (o : Outcome). Explained k j slots (after (store k j slots) m (t .step)) (note L (t .step) o)) (sym (p .1))
-            (step-after k j slots al few m L (x .machine) (x .good) (t .step) (p .0 .key));
+            (step-after k j slots al few m L (x .machine) (x .good) (t .step) (p .0 .key)
+            (λ l. part-fits (sizes k j slots) (client-of m (t .step .client)) (e .sound .parts (t .step .client, l))));
         sound = K .sound;
       } in
       let rest = led h (after (store k j slots) m (t .step)) m′ (note L (t .step) (t .outcome)) (p .2) next in

@@ -1,12 +1,12 @@
 -- Steps that decide and apply nothing: begin, give, commit, give up, and loss.
 use mathlib.Core.Path.{_≡_, refl, sym, subst}
-use mathlib.Core.Bool.{Bool, true, false, cond}
+use mathlib.Core.Bool.{Bool, true, false, cond, _&&_}
 use mathlib.Core.List.{List, []}
 use mathlib.Core.Logic.{_⊎_}
 use Prim.Native.Nat.{ℕ, suc, _≤_, _<_, Fin}
 use native.Mathlib.Omega.{arith}
-use borrow.Author.Tests.{eqb-true}
-use lib.Dec.{eqb}
+use borrow.Author.Tests.{eqb-true, le-leb}
+use lib.Dec.{eqb, leb}
 use Rattle.memory.specs.Bit.{bit}
 use Rattle.layout.specs.Space.{Put, changed}
 use Rattle.layout.specs.Part.{over}
@@ -19,6 +19,7 @@ use Rattle.client.specs.Layout.{ClientWord, client-words, phase, prepared}
 use Rattle.client.specs.Record.{in-store}
 use Rattle.client.specs.Copies.{drop-all}
 use Rattle.client.specs.Participants.{participants-of, committing}
+use Rattle.client.specs.Fits.{fit-to-commit}
 use Rattle.steps.specs.declared.sizes.Sizes.{Sizes}
 use Rattle.steps.specs.declared.step.Step.{Step}
 use Rattle.steps.specs.declared.outcome.Outcome.{Outcome}
@@ -38,6 +39,7 @@ use Rattle.ranges.specs.Laws.Sound.{Part-sound, Server-sound, Sound-stor
 use Rattle.ranges.specs.Laws.Part.{reset-part, give-part-sound, commit-part, lose-part-sound, forget-part, abort-part-sound}
 use Rattle.ranges.specs.Laws.Servers.{unlock-each-sound}
 use Rattle.ranges.specs.Laws.Sets.{part-fits}
+use Rattle.ranges.specs.Laws.Judged.{fits-to-commit}
 use Rattle.ranges.specs.Laws.Locks.{early-stored, lost-locks}
 use Rattle.ranges.specs.Laws.Unlocks.{abort-locks, abort-phase}
 use Rattle.ranges.specs.Laws.Held.{abort-judged}
@@ -78,9 +80,10 @@ module _ (k j slots : ℕ) (m : Address → ℕ) (S : Sound-store k j slots m) (
   pub commit-kept : u phase ≡ 1 → Fine (Steps.commit z m (c .0))
   unfolding Steps.commit
   commit-kept e =
-      one-of Fine (eqb (participants-of u (suc k)) 0) _ _
+      if-kept k j slots m (fit-to-commit (sizes k j slots) u) _ (fits-to-commit (sizes k j slots) u part)
+      (one-of Fine (eqb (participants-of u (suc k)) 0) _ _
       (λ _. early Committed refl (Life.reset 0 u) (omega (arith, e)) (reset-part (sizes k j slots) u part 0 (omega arith)))
-      (λ _. early Done refl (committing (suc k) u) (omega (arith, e)) (commit-part (sizes k j slots) u part))
+      (λ _. early Done refl (committing (suc k) u) (omega (arith, e)) (commit-part (sizes k j slots) u part)))
 
   -- loss without a transaction, and after the decision
   forget-kept : u phase ≡ 0 → Fine (Steps.forgetting z m (c .0) m)
@@ -123,7 +126,7 @@ module _ (k j slots : ℕ) (m : Address → ℕ) (S : Sound-store k j slots m) (
     unfolding Steps.abort
     abort-kept y us =
         if-kept k j slots m (abort-fits z m (c .0)) _
-        (abort-judged k j slots few m S al c (part-fits (sizes k j slots) u part) (M .slots c) (R .clients c .slot) open-still)
+        (abort-judged k j slots few m S al c (M .slots c) (R .clients c .slot) open-still)
         (record { passes = accepted (Aborted y) refl; sound = abort-sound us })
 
 -- ---- LOSS: before the decision an abort, and then all copies go
@@ -135,24 +138,23 @@ module _ (k j slots : ℕ) (al : Allowed (sizes k j slots)) (few : suc j ≤ 16)
   u₁ = client-of m (c .0)
 
   pub loss-kept : (u₁ phase ≤ 3) → Kept k j slots m (Steps.lose z₁ m (c .0))
-  unfolding Steps.lose Steps.abort
+  unfolding Steps.lose
   loss-kept l =
       one-of (Kept k j slots m) (eqb (u₁ phase) 0) _ _ (λ q. forget-kept k j slots m S c (eqb-true (u₁ phase) 0 q))
       (λ q. one-of (Kept k j slots m) (eqb (u₁ phase) 3) _ _ (λ _. lose-kept k j slots m S c)
       (λ r. now (undecided-word (u₁ phase) q r l)))
     where
       now : (u₁ phase ≡ 1) ⊎ (u₁ phase ≡ 2)
-          → Kept k j slots m (if-fit (abort-fits z₁ m (c .0)) (Steps.lose-undecided z₁ m (c .0) (Steps.abort z₁ m (c .0) 7 [])))
+          → Kept k j slots m (if-fit (leb (u₁ phase) 3 && abort-fits z₁ m (c .0)) (Steps.lose-undecided z₁ m (c .0)))
       now e =
           let fit = part-fits (sizes k j slots) u₁ (S .parts c) in
-          let b = abort-judged k j slots few m S al c fit (M .slots c) (R .clients c .slot) e in
+          let b = abort-judged k j slots few m S al c (M .slots c) (R .clients c .slot) e in
           let m₁ = changed whole m (aborting z₁ m (c .0) []) in
           let S₁ = abort-sound k j slots m S c al few L M R e [] in
           let F = forget-kept k j slots m₁ S₁ c (abort-phase k j slots al few m L M c R fit (S .locks) [] e) in
-          if-kept k j slots m (abort-fits z₁ m (c .0)) _ b
-          (subst (λ (t : Bool). Kept k j slots m (Steps.lose-undecided z₁ m (c .0) (if-fit t (did (Aborted 7) (aborting z₁ m (c .0) []))))) (sym b)
+          if-kept k j slots m (leb (u₁ phase) 3 && abort-fits z₁ m (c .0)) _ (rw (le-leb (u₁ phase) 3 l, b))
           (record {
             passes = accepted (Aborted 7) refl;
             sound = subst (Sound-store k j slots)
                 (sym (changed-append whole (aborting z₁ m (c .0) []) (over (client (c .0)) (drop-all (client-of m₁ (c .0)))) m)) (F .sound);
-          }))
+          })

@@ -21,7 +21,7 @@ use Rattle.server.specs.Lock.{unlocked, lock-in-range}
 use Rattle.server.specs.Laws.Lock.{unlocked-range}
 use Rattle.client.specs.Layout.{ClientWord, client-words, phase, participants, prepared, applied}
 use Rattle.client.specs.Record.{number}
-use Rattle.client.specs.Fits.{client-fits}
+use Rattle.client.specs.Laws.Ranges.{client-fits}
 use Rattle.client.specs.Drops.{drop-used}
 use Rattle.client.specs.Life.{reset}
 use Rattle.client.specs.Renew.{finish}

@@ -1,9 +1,10 @@
 -- WHAT A STEP MUST LEAVE, and a sound store from its parts, where a step stores in one client's part, or in one server's too.
 use mathlib.Core.Path.{_≡_, ap, sym, _∙_, subst}
-use mathlib.Core.Bool.{Bool, true, false, true≢false, false≢true}
+use mathlib.Core.Bool.{Bool, true, false, cond, true≢false, false≢true}
 use mathlib.Core.List.{List}
 use Prim.Native.Nat.{ℕ, suc, Fin}
 use native.Mathlib.Decide.{Fin-discrete, Fin·val-path}
+use borrow.Author.Tests.{eqb-true}
 use lib.Dec.{eqb}
 use Rattle.layout.specs.Space.{Put, changed}
 use Rattle.layout.specs.Part.{over}
@@ -13,10 +14,11 @@ use Rattle.client.specs.Layout.{ClientWord, client-words}
 use Rattle.steps.specs.Whole.{Address, client, whole}
 use Rattle.steps.specs.declared.outcome.Outcome.{Outcome}
 use Rattle.steps.specs.declared.outcome.Outcome.the-variants.{Refused, Done, Fetched, Answered, Prepared, Decided, Applied, Committed, Aborted}
-use Rattle.steps.specs.Steps.{Did, if-fit}
+use Rattle.steps.specs.Steps.{Did, refuse, if-fit, by-finding}
 use Rattle.steps.specs.Laws.Stores.{client-of, server-of, client-changed, client-else, client-servers}
 use Rattle.demand.specs.Laws.Store.{sizes}
 use Rattle.demand.specs.Laws.Kept.{away}
+use Rattle.demand.specs.Laws.Turns.{one-of}
 use Rattle.demand.specs.Laws.Servers.{both, both-client, both-other, both-server, both-else}
 use Rattle.ranges.specs.Claim.{Not-refused-by-10}
 use Rattle.ranges.specs.Laws.Sound.{Part-sound, Server-sound, Locks-sound, Sound-store}
@@ -45,6 +47,12 @@ pub record Kept (k j slots : ℕ) (m : Address → ℕ) (d : Did) : Type 0 where
 pub if-kept : (k j slots : ℕ) (m : Address → ℕ) (b : Bool) (d : Did) → b ≡ true → Kept k j slots m d → Kept k j slots m (if-fit b d)
 if-kept k j slots m true d e K = K
 if-kept k j slots m false d e K = absurd (false≢true e)
+
+-- and what it finds is no refusal
+pub finding-kept : (k j slots : ℕ) (m : Address → ℕ) (y : ℕ) (d : Did) (aborts : ℕ → Did) → eqb y 10 ≡ false → (y ≡ 0 → Kept k j slots m d) → Kept k j slots m (aborts y)
+    → Kept k j slots m (by-finding y d aborts)
+finding-kept k j slots m y d aborts e on off =
+    one-of (Kept k j slots m) (eqb y 0) _ _ (λ q. on (eqb-true y 0 q)) (λ _. subst (λ (b : Bool). Kept k j slots m (cond b (refuse 10) (aborts y))) (sym e) off)
 
 module _ (k j slots : ℕ) (m : Address → ℕ) (S : Sound-store k j slots m) where
   -- one client's part is another

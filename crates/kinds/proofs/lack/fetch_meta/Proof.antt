@@ -1,3 +1,4 @@
+use mathlib.Core.Path.{refl}
 use borrow.Author.Needs.{needs}
 use Rattle.kinds.specs.Laws.Lack.{fetch-unfit, fetch-aborts, fetch-hands}
 use Rattle.kinds.proofs.lack.fetch_meta.Statement.{statement}
@@ -13,9 +14,9 @@ fetch-meta-spec = tie.close (tie.spec
     (λ c. search needs)  -- enum-told-2
     (λ c κs. search needs)  -- hand-meta-requires
     (λ c. search needs)  -- same-length
-    (λ c. let a = c .before .before .before .before .before .before .before .args in fetch-unfit (a .sizes) _ (a .client) _ _ _ (c .before .before .check-all .ensures) (search needs))  -- returns
+    (λ c. let a = c .before .before .before .before .before .before .before .args in fetch-unfit (a .sizes) _ (a .client) _ _ _ refl _ (c .before .before .check-all .ensures) (search needs))  -- returns
     (λ c. search needs)  -- same-length-2
-    (λ c. let a = c .before .before .before .before .before .before .before .before .before .before .before .before .args in fetch-aborts (a .sizes) _ (a .client) _ _ _ (c .before .before .before .before .before .before .before .check-all .ensures) _ _ _ (search needs) (c .before .before .abort .ensures))  -- returns-2
+    (λ c. let a = c .before .before .before .before .before .before .before .before .before .before .before .before .args in fetch-aborts (a .sizes) _ (a .client) _ _ _ refl _ (c .before .before .before .before .before .before .before .check-all .ensures) _ _ _ (search needs) (c .before .before .abort .ensures))  -- returns-2
     (λ c. search needs)  -- same-length-3
-    (λ c. let a = c .before .before .before .before .before .before .before .before .before .before .before .args in fetch-hands (a .sizes) _ (a .client) _ _ _ (c .before .before .before .before .before .before .check-all .ensures) _ _ (search needs) (c .before .before .hand-meta .ensures))  -- returns-3
+    (λ c. let a = c .before .before .before .before .before .before .before .before .before .before .before .args in fetch-hands (a .sizes) _ (a .client) _ _ _ refl _ (c .before .before .before .before .before .before .check-all .ensures) _ _ (search needs) (c .before .before .hand-meta .ensures))  -- returns-3
     )

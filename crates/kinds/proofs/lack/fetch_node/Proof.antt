@@ -14,9 +14,9 @@ fetch-node-spec = tie.close (tie.spec
     (λ c. search needs)  -- enum-told-2
     (λ c κs. search (checking-as, needs))  -- hand-node-requires
     (λ c. search needs)  -- same-length
-    (λ c. let a = c .before .before .before .before .before .before .before .args in fetch-unfit (a .sizes) _ (a .client) _ _ _ (c .before .before .check-all .ensures) (search needs))  -- returns
+    (λ c. let a = c .before .before .before .before .before .before .before .args in fetch-unfit (a .sizes) _ (a .client) _ _ _ (c .before .before .before .before .server .ensures) _ (c .before .before .check-all .ensures) (search needs))  -- returns
     (λ c. search needs)  -- same-length-2
-    (λ c. let a = c .before .before .before .before .before .before .before .before .before .before .before .before .args in fetch-aborts (a .sizes) _ (a .client) _ _ _ (c .before .before .before .before .before .before .before .check-all .ensures) _ _ _ (search needs) (c .before .before .abort .ensures))  -- returns-2
+    (λ c. let a = c .before .before .before .before .before .before .before .before .before .before .before .before .args in fetch-aborts (a .sizes) _ (a .client) _ _ _ (c .before .before .before .before .before .before .before .before .before .server .ensures) _ (c .before .before .before .before .before .before .before .check-all .ensures) _ _ _ (search needs) (c .before .before .abort .ensures))  -- returns-2
     (λ c. search needs)  -- same-length-3
-    (λ c. let a = c .before .before .before .before .before .before .before .before .before .before .before .args in fetch-hands (a .sizes) _ (a .client) _ _ _ (c .before .before .before .before .before .before .check-all .ensures) _ _ (search needs) (c .before .before .hand-node .ensures))  -- returns-3
+    (λ c. let a = c .before .before .before .before .before .before .before .before .before .before .before .args in fetch-hands (a .sizes) _ (a .client) _ _ _ (c .before .before .before .before .before .before .before .before .server .ensures) _ (c .before .before .before .before .before .before .check-all .ensures) _ _ (search needs) (c .before .before .hand-node .ensures))  -- returns-3
     )

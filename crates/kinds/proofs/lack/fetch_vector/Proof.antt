@@ -1,3 +1,4 @@
+use mathlib.Core.Path.{refl}
 use borrow.Author.Needs.{needs}
 use Rattle.kinds.specs.Laws.Lack.{fetch-unfit, fetch-aborts, vector-handed}
 use Rattle.kinds.proofs.lack.fetch_vector.Statement.{statement}
@@ -13,9 +14,9 @@ fetch-vector-spec = tie.close (tie.spec
     (λ c κs. search needs)  -- vector-of-requires
     (λ c κs. search needs)  -- store-vector-requires
     (λ c. search needs)  -- same-length
-    (λ c. let a = c .before .before .before .before .before .before .args in fetch-unfit (a .sizes) _ (a .client) _ _ _ (c .before .before .check-all .ensures) (search needs))  -- returns
+    (λ c. let a = c .before .before .before .before .before .before .args in fetch-unfit (a .sizes) _ (a .client) _ _ _ refl _ (c .before .before .check-all .ensures) (search needs))  -- returns
     (λ c. search needs)  -- same-length-2
-    (λ c. let a = c .before .before .before .before .before .before .before .before .before .before .before .args in fetch-aborts (a .sizes) _ (a .client) _ _ _ (c .before .before .before .before .before .before .before .check-all .ensures) _ _ _ (search needs) (c .before .before .abort .ensures))  -- returns-2
+    (λ c. let a = c .before .before .before .before .before .before .before .before .before .before .before .args in fetch-aborts (a .sizes) _ (a .client) _ _ _ refl _ (c .before .before .before .before .before .before .before .check-all .ensures) _ _ _ (search needs) (c .before .before .abort .ensures))  -- returns-2
     (λ c. search needs)  -- same-length-3
     (λ c. let a = c .before .before .before .before .before .before .before .before .before .before .before .before .args in vector-handed (a .sizes) _ (a .client) _ (a .server) _ _ _ (c .before .before .before .before .before .before .before .before .check-all .ensures) (search needs) (c .before .before .before .before .vector-of .ensures) (c .before .before .store-vector .ensures))  -- returns-3
     )
