@@ -67,14 +67,14 @@ module _ (z : Sizes) (c p : ℕ) (w w′ : List ℕ) (e : p ≡ of-client z w c 
       meets-as z w Done w′ (λ m. did Done (inPart (client c) L.lose-part m)) (λ m. lose z m c) (sym (rw (← e, ne-eqb p 0 n, eq-eqb p 3 q)))
       (meets-did z w Done w′ (inPart (client c) L.lose-part) d)
 
-  module _ (n : p ≡ 0 → ⊥) (q : p ≡ 3 → ⊥) where
-    pub lost-astray : 3 < p → Meets z (λ m. lose z m c) w (Refused 10) w
-    unfolding lose
-    lost-astray l = meets-refused z w 10 (λ m. lose z m c) (sym (rw (← e, ne-eqb p 0 n, ne-eqb p 3 q, lt-leb p 3 l)))
+  pub lost-undecided : (o : Outcome) → (p ≡ 0 → ⊥) → (p ≡ 3 → ⊥) → p ≤ 3 → Meets z (loses-undecided z c) w o w′ → Meets z (λ m. lose z m c) w o w′
+  lost-undecided o n q l d =
+      let m = stored-in z w in
+      meets-as z w o w′ (loses-undecided z c) (λ m. lose z m c) (same-loss z c m (λ h. n (e ∙ h)) (λ h. q (e ∙ h)) (subst (λ (x : ℕ). x ≤ 3) e l)) d
 
-    pub lost-undecided : (o : Outcome) → p ≤ 3 → Meets z (loses-undecided z c) w o w′ → Meets z (λ m. lose z m c) w o w′
-    lost-undecided o l d =
-        let m = stored-in z w in
-        meets-as z w o w′ (loses-undecided z c) (λ m. lose z m c) (same-loss z c m (λ h. n (e ∙ h)) (λ h. q (e ∙ h)) (subst (λ (x : ℕ). x ≤ 3) e l)) d
+-- a phase that is none
+pub lost-astray : (z : Sizes) (c p : ℕ) (w : List ℕ) → p ≡ of-client z w c (field 0) → (p ≡ 0 → ⊥) → (p ≡ 3 → ⊥) → 3 < p → Meets z (λ m. lose z m c) w (Refused 10) w
+unfolding lose
+lost-astray z c p w e n q l = meets-refused z w 10 (λ m. lose z m c) (sym (rw (← e, ne-eqb p 0 n, ne-eqb p 3 q, lt-leb p 3 l)))
 
 pub ruleset loss-exits = (is-lost, loss-aborts, loss-refused, lost-idle, lost-decided, lost-astray, lost-undecided)

@@ -14,8 +14,8 @@ lose-spec = tie.close (tie.spec
     (λ c. search needs)  -- same-length-2
     (λ c. let a = c .before .before .before .before .before .before .before .before .before .args in lost-decided (a .sizes) (a .client) _ _ _ (c .before .before .before .before .before .before .field-of .ensures) (search needs) (search needs) (c .before .before .mark-lost .ensures))  -- returns-2
     (λ c. search needs)  -- same-length-3
-    (λ c. let a = c .before .before .before .before .before .before .args in lost-astray (a .sizes) (a .client) _ _ _ (c .before .before .before .field-of .ensures) (search needs) (search needs) (search needs))  -- returns-3
+    (λ c. let a = c .before .before .before .before .before .before .args in lost-astray (a .sizes) (a .client) _ _ (c .before .before .before .field-of .ensures) (search needs) (search needs) (search needs))  -- returns-3
     (λ c κs. search needs)  -- lose-undecided-requires
     (λ c. search needs)  -- same-length-4
-    (λ c. let a = c .before .before .before .before .before .before .before .before .before .before .args in lost-undecided (a .sizes) (a .client) _ _ _ (c .before .before .before .before .before .before .before .field-of .ensures) (search needs) (search needs) _ (search needs) (c .before .before .lose-undecided .ensures))  -- returns-4
+    (λ c. let a = c .before .before .before .before .before .before .before .before .before .before .args in lost-undecided (a .sizes) (a .client) _ _ _ (c .before .before .before .before .before .before .before .field-of .ensures) _ (search needs) (search needs) (search needs) (c .before .before .lose-undecided .ensures))  -- returns-4
     )
