@@ -1,5 +1,5 @@
 -- One step on any memory lent: its outcome, and every word afterwards.
-use mathlib.Core.Bool.{cond, true}
+use mathlib.Core.Bool.{cond}
 use mathlib.Core.List.{List}
 use Prim.Native.Nat.{ℕ}
 use lib.Dec.{eqb}
@@ -9,7 +9,7 @@ use Rattle.steps.specs.declared.step.Step.{Step}
 use Rattle.steps.specs.declared.step.Kind.{Kind}
 use Rattle.steps.specs.declared.outcome.Outcome.{Outcome}
 use Rattle.steps.specs.declared.outcome.Outcome.the-variants.{Refused}
-use Rattle.steps.specs.Whole.{Address, whole, block, tree-sizes}
+use Rattle.steps.specs.Whole.{Address, whole, block}
 use Rattle.steps.specs.Refusal.{open-refusal, kind-of}
 use Rattle.steps.specs.Steps.{Did, by-kind, step}
 use Rattle.kinds.specs.Parts.{head-sizes, stored-in, Store-in}
@@ -17,20 +17,17 @@ use mathlib.Core.Path.{_≡_}
 use lib.ListN.{length}
 use Rattle.memory.specs.Word.{view}
 use Rattle.steps.specs.Passed.{Passed}
-use Rattle.client.specs.Fits.{client-fits}
-use Rattle.kinds.specs.Judge.{of-client}
 
 -- ---- the rule of a kind
 unfoldable pub rule-of : Sizes → ℕ → Step → Kind → (Address → ℕ) → Did
 rule-of z c k x m = by-kind z m c k x
 
--- what the rule of a step's kind x rests on, where b are the memory's bytes: no refusal up to 9, and the client's own state is in range
+-- what the rule of a step's kind x rests on, where b are the memory's bytes: no refusal up to 9
 pub record Ruled (z : Sizes) (b : List ℕ) (c : ℕ) (k : Step) (x : Kind) : Type 0 where
   pub store : Store-in z (length b)
   pub client : c ≡ k .client
   pub kind : x ≡ kind-of (k .kind)
   pub passed : Passed z k (stored-in z (view b))
-  pub fits : client-fits (tree-sizes z) (of-client z (view b) c) ≡ true
 
 -- what comes of a step on memory of that many bytes with these words: refusals 1 to 3 for the sizes in the head, else the step's rule
 module _ (bytes : ℕ) (w : List ℕ) (k : Step) where

@@ -9,7 +9,11 @@ use Rattle.walk.specs.declared.walk.Stop.{Stop}
 use Rattle.walk.specs.declared.walk.Stop.the-variants.{Going, LacksMeta, LacksNode, LacksVector, Refused, Aborts, Answers}
 use Rattle.steps.specs.declared.outcome.Outcome.{Outcome}
 use Rattle.steps.specs.declared.outcome.Outcome.the-variants as outcome
+use mathlib.Core.Path.{_≡_}
+use mathlib.Core.Bool.{true}
 use Rattle.client.specs.Layout.{op-number}
+use Rattle.client.specs.Fits.{fit-to-work}
+use Rattle.steps.specs.Whole.{tree-sizes}
 use Rattle.kinds.specs.Parts.{Store-in}
 use Rattle.kinds.specs.Fits.{Known}
 use Rattle.kinds.specs.Judge.{of-client}
@@ -32,9 +36,10 @@ answer-of Refused = outcome.Refused 10
 answer-of (Aborts y) = outcome.Refused 10
 answer-of (Answers a b) = outcome.Answered a b
 
--- memory with the bytes b that holds a store, with a client whose operation waits
+-- memory with the bytes b that holds a store, with a client whose operation waits, and what is then judged
 pub record WaitingClient (z : Sizes) (b : List ℕ) (c : ℕ) : Type 0 where
   pub store : Store-in z (length b)
   pub client : c < z .clients
+  pub fits : fit-to-work (tree-sizes z) (of-client z (view b) c) ≡ true
   pub sets : Known z (view b) c
   pub waiting : Waiting (of-client z (view b) c)

@@ -24,6 +24,7 @@ use client::enter::enter_writes;
 use client::part::OP_NUMBER;
 use client::part::set_field;
 use kinds::abort::abort;
+use kinds::known::fit_to_work;
 use kinds::lack::fetch_meta;
 use kinds::lack::fetch_node;
 use kinds::lack::fetch_vector;
@@ -135,9 +136,13 @@ fn change(mem: &mut [u8], sizes: Sizes, client: usize) -> Outcome
 }
 
 pub fn work(mem: &mut [u8], sizes: Sizes, client: usize) -> Outcome
-    requires { ⌜ WaitingClient sizes (now mem) client ⌝ }
+    requires { ⌜ AtClient sizes (length (now mem)) client ⌝ }
+    requires waits { ⌜ (of-client sizes (view (now mem)) client op-number ≡ 0 → ⊥) ⌝ }
     ensures { λ r. ⌜ Comes sizes (λ m. work sizes m client) (now (mem .entry)) r (now (mem .exit)) ⌝ }
 {
+    if !fit_to_work(mem, sizes, client) {
+        return Outcome::Refused(10);
+    }
     let reads = only_reads_at(mem, sizes, client);
     if reads {
         return look(mem, sizes, client);

@@ -14,7 +14,6 @@ use crate::operate::work;
 use kinds::abort::give_up;
 use kinds::apply::apply;
 use kinds::commit::commit;
-use kinds::known::is_fit;
 use kinds::life::begin;
 use kinds::life::give;
 use kinds::loss::lose;
@@ -46,7 +45,7 @@ fn by_kind(mem: &mut [u8], sizes: Sizes, client: usize, step: Step, kind: Kind) 
     }
 }
 
-// Refusals 4 to 9, then 10 for the client's own state, then the rule.
+// Refusals 4 to 9, then the rule.
 fn in_store(mem: &mut [u8], sizes: Sizes, step: Step) -> Outcome
     requires { ⌜ Store-in sizes (length (now mem)) ⌝ }
     ensures { λ r. ⌜ Comes sizes (rule sizes step) (now (mem .entry)) r (now (mem .exit)) ⌝ }
@@ -56,11 +55,8 @@ fn in_store(mem: &mut [u8], sizes: Sizes, step: Step) -> Outcome
         return Outcome::Refused(number);
     }
     let client = step.client as usize;
-    if is_fit(mem, sizes, client) {
-        let kind = kind_of(step.kind);
-        return by_kind(mem, sizes, client, step, kind);
-    }
-    Outcome::Refused(10)
+    let kind = kind_of(step.kind);
+    by_kind(mem, sizes, client, step, kind)
 }
 
 // "A refused step returns the first number that holds and changes no byte". Whatever steps had reached the store, this one with its outcome goes on

@@ -181,7 +181,6 @@ module _ (z : TreeSizes) (m : ClientWord → ℕ) where
       unfolding op-fits
       op-astray t = rw (← e, d, ← a, ← p, not-true b t)
 
-
   pub number-asked : (s : Set) (i x : ℕ) (b : Bool) → x ≡ number-at m s i → b ≡ number-in-store z x → b ≡ number-fits z m s i
   unfolding number-fits
   number-asked s i x b e p = p ∙ rw e

@@ -10,26 +10,21 @@ use Rattle.base.specs.Test.{and-both}
 use Rattle.layout.specs.Space.{stored}
 use Rattle.layout.specs.Step.{stepped}
 use Rattle.client.specs.Layout.{phase, op-number}
-use Rattle.client.specs.Fits.{client-fits}
-use Rattle.walk.specs.Stopped.{Waiting}
 use Rattle.steps.specs.declared.sizes.Sizes.{Sizes}
 use Rattle.steps.specs.declared.step.Step.{Step}
 use Rattle.steps.specs.declared.step.Kind.{Kind}
 use Rattle.steps.specs.declared.step.Kind.the-variants.{Begin, Give, Work, Commit, Prepare, Apply, GiveUp, Lost, Unknown}
 use Rattle.steps.specs.declared.outcome.Outcome.{Outcome}
 use Rattle.steps.specs.declared.outcome.Outcome.the-variants.{Refused}
-use Rattle.steps.specs.Whole.{Address, tree-sizes}
+use Rattle.steps.specs.Whole.{Address}
 use Rattle.steps.specs.Refusal.{kind-of, state-fits, open-refusal, refusal}
 use Rattle.steps.specs.Passed.{Passed}
 use Rattle.steps.specs.Laws.Passed.{passed}
 use Rattle.steps.specs.Steps.{begin, give, work, commit, prepare, apply, abort, lose, by-kind, step}
-use Rattle.kinds.specs.Parts.{Store-in, head-sizes, stored-in}
+use Rattle.kinds.specs.Parts.{head-sizes, stored-in}
 use Rattle.kinds.specs.Judge.{of-client}
 use Rattle.kinds.specs.Laws.Refusal.{too-short}
-use Rattle.kinds.specs.Fits.{Known}
-use Rattle.kinds.specs.Laws.Known.{fits-known}
 use Rattle.kinds.specs.Kinds.{Meets}
-use Rattle.engine.specs.Laws.Work.{fits-waiting}
 use Rattle.engine.specs.Step.{rule-of, outcome-of, words-after}
 
 module _ (z : Sizes) (c : ℕ) (k : Step) (x : Kind) (w : List ℕ) (o : Outcome) (w′ : List ℕ) where
@@ -64,10 +59,6 @@ module _ (z : Sizes) (c : ℕ) (k : Step) (x : Kind) (w : List ℕ) (o : Outcome
   pub is-none : x ≡ Unknown → o ≡ Refused 4 → w′ ≡ w → Meets z (rule-of z c k x) w o w′
   unfolding stepped stored
   is-none q p r = of-kind Unknown q (record { answer = p; words = r })
-
--- a client's state in range
-pub known-by : (z : Sizes) (n : ℕ) (w : List ℕ) (c : ℕ) → Store-in z n → client-fits (tree-sizes z) (of-client z w c) ≡ true → Known z w c
-known-by z n w c h f = fits-known z w c true (h .allowed) (sym f) refl
 
 pub ruleset kinds = (is-begin, is-give, is-work, is-commit, is-prepare, is-apply, is-give-up, is-lost, is-none)
 
@@ -108,14 +99,13 @@ module _ (z : Sizes) (c : ℕ) (k : Step) (m : Address → ℕ) (e : c ≡ k .cl
     at-apply q = let r : k .kind ≡ 5 = numbered (k .kind) (h .known-kind) ∙ ap number-of (sym ek ∙ q) in h .known-participant (omega arith) (omega arith)
 
 -- a work step has an operation that waits
-pub at-work : (z : Sizes) (c : ℕ) (k : Step) (w : List ℕ) (x : Kind) → x ≡ Work → c ≡ k .client → x ≡ kind-of (k .kind) → Passed z k (stored-in z w)
-    → client-fits (tree-sizes z) (of-client z w c) ≡ true → Waiting (of-client z w c)
+pub at-work : (z : Sizes) (c : ℕ) (k : Step) (w : List ℕ) (x : Kind) → x ≡ Work → c ≡ k .client → x ≡ kind-of (k .kind) → Passed z k (stored-in z w) → of-client z w c op-number ≡ 0 → ⊥
 unfolding state-fits
-at-work z c k w x q e ek h f =
+at-work z c k w x q e ek h p =
     let m = of-client z w (k .client) in
     let g : state-fits m (k .server) Work ≡ true = subst (λ (y : Kind). state-fits m (k .server) y ≡ true) (sym ek ∙ q) (h .fitting) in
     let n : not (eqb (m op-number) 0) ≡ true = and-both (eqb (m phase) 1) (not (eqb (m op-number) 0)) g .1 in
-    fits-waiting z (of-client z w c) f (λ p. eqb-false (m op-number) 0 (not-true (eqb (m op-number) 0) n) (subst (λ (d : ℕ). of-client z w d op-number ≡ 0) e p))
+    eqb-false (m op-number) 0 (not-true (eqb (m op-number) 0) n) (subst (λ (d : ℕ). of-client z w d op-number ≡ 0) e p)
 
 -- ---- refusals 4 to 10
 module _ (z : Sizes) (k : Step) (w : List ℕ) (r : ℕ) (e : r ≡ refusal z k (stored-in z w)) where
@@ -129,26 +119,14 @@ module _ (z : Sizes) (k : Step) (w : List ℕ) (r : ℕ) (e : r ≡ refusal z k 
   pub client-there : (c : ℕ) → r ≡ 0 → c ≡ k .client → c < z .clients
   client-there c q ec = rw ec (passes q .known-client)
 
-  module _ (c : ℕ) (b : Bool) (ec : c ≡ k .client) (eb : b ≡ client-fits (tree-sizes z) (of-client z w c)) where
-    pub is-unfit : r ≡ 0 → b ≡ false → Meets z (step z k) w (Refused 10) w
-    unfolding step stepped stored
-    is-unfit q t =
-        let p : eqb (refusal z k (stored-in z w)) 0 ≡ true = rw (← e, q) in
-        let f : client-fits (tree-sizes z) (of-client z w (k .client)) ≡ false = rw ec at (sym eb ∙ t) in
-        record { answer = rw (p, f); words = rw (p, f) }
+  pub is-ruled : (c : ℕ) (x : Kind) (o : Outcome) (w′ : List ℕ) → c ≡ k .client → r ≡ 0 → x ≡ kind-of (k .kind) → Meets z (rule-of z c k x) w o w′ → Meets z (step z k) w o w′
+  unfolding step stepped rule-of
+  is-ruled c x o w′ ec q ek h =
+      let p : eqb (refusal z k (stored-in z w)) 0 ≡ true = rw (← e, q) in
+      let g : Meets z (λ m. by-kind z m (k .client) k (kind-of (k .kind))) w o w′ = rw (ec, ek) at h in
+      record { answer = rw p (g .answer); words = rw p (g .words) }
 
-    pub is-ruled : (x : Kind) (o : Outcome) (w′ : List ℕ) → r ≡ 0 → b ≡ true → x ≡ kind-of (k .kind) → Meets z (rule-of z c k x) w o w′ → Meets z (step z k) w o w′
-    unfolding step stepped rule-of
-    is-ruled x o w′ q t ek h =
-        let p : eqb (refusal z k (stored-in z w)) 0 ≡ true = rw (← e, q) in
-        let f : client-fits (tree-sizes z) (of-client z w (k .client)) ≡ true = rw ec at (sym eb ∙ t) in
-        let g : Meets z (λ m. by-kind z m (k .client) k (kind-of (k .kind))) w o w′ = rw (ec, ek) at h in
-        record { answer = rw (p, f) (g .answer); words = rw (p, f) (g .words) }
-
-pub is-fit : (z : Sizes) (w : List ℕ) (c : ℕ) (b : Bool) → b ≡ client-fits (tree-sizes z) (of-client z w c) → b ≡ true → client-fits (tree-sizes z) (of-client z w c) ≡ true
-is-fit z w c b e t = sym e ∙ t
-
-pub ruleset rule-exits = (is-refused, passes, client-there, is-unfit, is-ruled)
+pub ruleset rule-exits = (is-refused, passes, client-there, is-ruled)
 
 module _ (bytes : ℕ) (w : List ℕ) (k : Step) where
   -- ---- ways out of the code

@@ -2,13 +2,13 @@
 use mathlib.Core.Path.{_≡_, refl, sym, ap, _∙_, subst}
 use mathlib.Core.Bool.{Bool, true, false, cond, _&&_, not}
 use mathlib.Core.List.{List, []}
-use Prim.Native.Nat.{ℕ, _+_, _-_, _*_, _/_, _%_, _^_, _≤_, _<_}
+use Prim.Native.Nat.{ℕ, _+_, _-_, _*_, _/_, _%_, _≤_, _<_}
 use native.Mathlib.Nat.{mod-lt}
 use native.Mathlib.Omega.{arith}
 use native.Mathlib.Decide.{decLt}
 use borrow.Author.Tests.{not-true, not-false, lt-ltb, le-ltb, ltb-true, leb-true}
 use borrow.Rule.Slice.PartMut.{midOf}
-use lib.Dec.{ltb}
+use lib.Dec.{eqb, leb, ltb}
 use lib.ListN.{length, getD, replicate}
 use Rattle.base.specs.Test.{and-both}
 use Rattle.memory.specs.Word.{view}
@@ -17,21 +17,24 @@ use Rattle.layout.specs.Part.{inPart}
 use Rattle.nodes.specs.Name.{server-of, slot-of}
 use Rattle.operations.specs.Operation.{all-fit?}
 use Rattle.server.specs.Object.{object-of, Has}
+use Rattle.operations.specs.Slot.{TreeSizes}
+use Rattle.client.specs.declared.part.Set.{Set}
 use Rattle.client.specs.declared.part.Set.the-variants.{Reads, Writes}
-use Rattle.client.specs.Layout.{ClientWord, op-number, reads-count, writes-count}
+use Rattle.client.specs.Layout.{ClientWord, op-number, op-key, op-server, writes-count, limit}
 use Rattle.client.specs.Record.{in-store, object-in-store}
 use Rattle.client.specs.Sets.{count}
 use Rattle.client.specs.Items.{all-below}
-use Rattle.client.specs.Fits.{field-fits, op-fits, item-fits, vector-fits, client-fits}
+use Rattle.client.specs.Fits.{said-count, number-fits, numbers-fit, op-fits, fit-to-work}
 use Rattle.client.specs.Part.{Did, nothing, put-field, put-word}
 use Rattle.client.specs.Laws.Steps.{did-three, did-nothing}
 use Rattle.client.specs.Laws.GoodSteps.{good-entries}
-use Rattle.client.specs.Have.{broken}
+use Rattle.client.specs.Vectors.{vector-fits}
+use Rattle.client.specs.Have.{bad-vector, broken}
 use Rattle.client.specs.Run.{End, lacks, aborts, gives}
 use Rattle.client.specs.Lent.{Entry, used-in, OwnFits, own-list}
 use Rattle.client.specs.Enter.{enter-entries}
 use Rattle.client.specs.Answered.{used-enter, enter-writes, entered, answered}
-use Rattle.client.specs.Work.{Worked, refused, fetches, aborted, answers, count-new, any-at-last, last-questions, judge, walked, worked}
+use Rattle.client.specs.Work.{Worked, refused, fetches, aborted, answers, count-new, versions-there, any-at-last, last-questions, judge, walked, worked}
 use Rattle.walk.specs.declared.walk.Stop.{Stop}
 use Rattle.walk.specs.declared.walk.Stop.the-variants.{Going, LacksMeta, LacksNode, LacksVector, Refused, Aborts, Answers}
 use Rattle.walk.specs.Walk.{is-answer, lack}
@@ -49,14 +52,14 @@ use Rattle.kinds.specs.Laws.Parts.{client-lent}
 use Rattle.kinds.specs.Items.{read-item}
 use Rattle.kinds.specs.Judge.{of-client}
 use Rattle.kinds.specs.Fits.{Known}
-use Rattle.kinds.specs.Laws.Known.{all-at}
+use Rattle.kinds.specs.Laws.Known.{work-known}
 use Rattle.kinds.specs.Kinds.{Meets}
 use Rattle.kinds.specs.Laws.Kinds.{meets-did, meets-as, meets-refused}
 use Rattle.kinds.specs.Fetch.{used-item, known-at, AllKnown, Checking}
 use Rattle.kinds.specs.Laws.Hand.{good-used-enter}
 use Rattle.kinds.specs.Lack.{There}
 use Rattle.engine.specs.Laws.Used.{stored-at, used-stored}
-use Rattle.engine.specs.Work.{entering, answer-of}
+use Rattle.engine.specs.Work.{entering, answer-of, WaitingClient}
 use Rattle.operations.specs.Object as O
 use Rattle.client.specs.Sets as sets
 use Rattle.steps.specs.declared.outcome.Outcome.the-variants as outcome
@@ -200,13 +203,14 @@ asked-of (answers a w) d = d
 module _ (z : Sizes) (m : ClientWord → ℕ) where
   -- the last questions never fetch
   last-tag : (a : O.Ans) (w : O.Writes) → tag (last-questions (tree-sizes z) m a w) ≡ 0
-  last-tag a w = go (all-fit? w w) (ltb 48 (m writes-count + count-new m (entered w))) (any-at-last m (entered w))
+  last-tag a w = go (all-fit? w w) (ltb 48 (m writes-count + count-new m (entered w))) (versions-there m (entered w)) (any-at-last m (entered w))
     where
-      go : (b c d : Bool) → tag (cond (not b) (aborted 3) (cond c (aborted 4) (cond d (aborted 8) (answers a w)))) ≡ 0
-      go false c d = refl
-      go true true d = refl
-      go true false true = refl
-      go true false false = refl
+      go : (b c t d : Bool) → tag (cond (not b) (aborted 3) (cond c (aborted 4) (cond (not t) refused (cond d (aborted 8) (answers a w))))) ≡ 0
+      go false c t d = refl
+      go true true t d = refl
+      go true false false d = refl
+      go true false true true = refl
+      go true false true false = refl
 
   sound-end : (e : End) (a : O.Ask) → judge (tree-sizes z) m e ≡ fetches a → broken (tree-sizes z) m a ≡ false
   unfolding asked-of
@@ -230,12 +234,9 @@ module _ (z : Sizes) (m : ClientWord → ℕ) where
       go true q = q
       go false q = let r : true ≡ false = rw (broken, q) at p in let c : _≡_ {A = ℕ} 0 1 = cc in absurd (omega arith)
 
-  server-there : (s : ℕ) → not (ltb s (z .servers)) ≡ false → s < z .servers
-  server-there s p = go (ltb s (z .servers)) refl
-    where
-      go : (b : Bool) → ltb s (z .servers) ≡ b → s < z .servers
-      go true q = ltb-true s (z .servers) q
-      go false q = let r : true ≡ false = rw q at p in let c : _≡_ {A = ℕ} 0 1 = cc in absurd (omega arith)
+  server-there : (s : ℕ) → bad-vector (tree-sizes z) m s ≡ false → s < z .servers
+  server-there s p =
+      ltb-true s (z .servers) (and-both (ltb s (z .servers)) (vector-fits m s) (not-false (ltb s (z .servers) && vector-fits m s) p) .0)
 
   home-there : (n : ℕ) → in-store (tree-sizes z) n ≡ true → (server-of n < z .servers) × (slot-of n < z .slots)
   unfolding in-store
@@ -276,7 +277,7 @@ all-known z w c al k = record { known = λ i l. go i l (decLt i (count (of-clien
         (in-store-has z (getD us (i - count (of-client z w c) Reads) 0) al
         (stored-at (tree-sizes z) us (i - count (of-client z w c) Reads) (used-stored (tree-sizes z) (al .servers .1) (of-client z w c)) (omega arith)))
 
-module _ (z : Sizes) (b : List ℕ) (c : ℕ) (hold : Store-in z (length b)) (h : c < z .clients) (known : Known z (view b) c) (wait : Waiting (of-client z (view b) c)) (s : Stop) (u : List ℕ) (k : Stopped (tree-sizes z) (of-client z (view b) c) s u) where
+module _ (z : Sizes) (b : List ℕ) (c : ℕ) (hold : Store-in z (length b)) (h : c < z .clients) (known : Known z (view b) c) (wait : Waiting (of-client z (view b) c)) (fit : fit-to-work (tree-sizes z) (of-client z (view b) c) ≡ true) (s : Stop) (u : List ℕ) (k : Stopped (tree-sizes z) (of-client z (view b) c) s u) where
   abbrev W : Worked
   W = worked (tree-sizes z) (of-client z (view b) c)
 
@@ -308,7 +309,7 @@ module _ (z : Sizes) (b : List ℕ) (c : ℕ) (hold : Store-in z (length b)) (h 
   -- ---- what the step comes to
   work-is : work z (stored-in z (view b)) c ≡ after-walk z (stored-in z (view b)) c (used-in u) W
   unfolding work
-  work-is = rw (k .used)
+  work-is = rw (fit, k .used)
 
   abbrev Comes : Outcome → List ℕ → Type 0
   Comes o w′ = Meets z (λ m. work z m c) (view b) o w′
@@ -366,33 +367,47 @@ module _ (z : Sizes) (b : List ℕ) (c : ℕ) (hold : Store-in z (length b)) (h 
         (meets-as z (view b) o w′ (λ m. did o (inPart (client c) (entering (used-in u) l) m)) (λ m. work z m c)
         (sym (work-is ∙ rw (q, ← r))) (meets-did z (view b) o w′ (inPart (client c) (entering (used-in u) l)) p))
 
-module _ (z : Sizes) (b : List ℕ) (c : ℕ) (hold : Store-in z (length b)) (h : c < z .clients) (known : Known z (view b) c) (wait : Waiting (of-client z (view b) c)) (s : Stop) where
+module _ (z : Sizes) (b : List ℕ) (c : ℕ) (hold : Store-in z (length b)) (h : c < z .clients) (known : Known z (view b) c) (wait : Waiting (of-client z (view b) c)) (fit : fit-to-work (tree-sizes z) (of-client z (view b) c) ≡ true) (s : Stop) where
   -- an operation that only reads
   module _ (u₀ u : List ℕ) (k : Looks (tree-sizes z) (of-client z (view b) c) s u₀ u) where
     pub look-answers : (o : Outcome) (w′ : List ℕ) → is-answer s ≡ true → o ≡ answer-of s → Does whole (block z) (inPart (client c) (entering (used-in u) [])) silent (view b) 0 w′
         → Meets z (λ m. work z m c) (view b) o w′
     unfolding entered
-    look-answers o w′ n e p = rw e (work-answers z b c hold h known wait s u (k .stopped) n [] w′ (λ a w q. rw (k .none a w q)) p)
+    look-answers o w′ n e p = rw e (work-answers z b c hold h known wait fit s u (k .stopped) n [] w′ (λ a w q. rw (k .none a w q)) p)
 
   -- one that writes
   module _ (x₀ u₀ x u : List ℕ) (k : Works (tree-sizes z) (of-client z (view b) c) s x₀ u₀ x u) where
     pub change-fits : is-answer s ≡ true → OwnFits x
-    change-fits n = let v = answering z b c hold h known wait s u (k .stopped) n in k .fits _ (v .writes) (v .is)
+    change-fits n = let v = answering z b c hold h known wait fit s u (k .stopped) n in k .fits _ (v .writes) (v .is)
 
     pub change-answers : (o : Outcome) (w′ : List ℕ) → is-answer s ≡ true → o ≡ answer-of s
         → Does whole (block z) (inPart (client c) (entering (used-in u) (own-list x))) silent (view b) 0 w′ → Meets z (λ m. work z m c) (view b) o w′
-    change-answers o w′ n e p = rw e (work-answers z b c hold h known wait s u (k .stopped) n (own-list x) w′ (k .own) p)
+    change-answers o w′ n e p = rw e (work-answers z b c hold h known wait fit s u (k .stopped) n (own-list x) w′ (k .own) p)
 
 -- ---- what refusals 9 and 10 have judged
-pub fits-waiting : (z : Sizes) (m : ClientWord → ℕ) → client-fits (tree-sizes z) m ≡ true → (m op-number ≡ 0 → ⊥) → Waiting m
-unfolding client-fits field-fits
-fits-waiting z m h n =
-    let every : ℕ = 2 ^ z .servers - 1 in
-    let a = and-both (all-below 13 (field-fits m every))
-    (op-fits (tree-sizes z) m && (all-below (count m Reads) (item-fits (tree-sizes z) m Reads) && (all-below (count m Writes) (item-fits (tree-sizes z) m Writes) && all-below 8 (vector-fits m)))) h in
+count-within : (t : TreeSizes) (m : ClientWord → ℕ) (s : Set) → numbers-fit t m s ≡ true → said-count m s ≤ limit s
+unfolding numbers-fit
+count-within t m s h = leb-true (said-count m s) (limit s) (and-both (leb (said-count m s) (limit s)) (all-below (count m s) (number-fits t m s)) h .0)
+
+pub fits-waiting : (t : TreeSizes) (m : ClientWord → ℕ) → fit-to-work t m ≡ true → (m op-number ≡ 0 → ⊥) → Waiting m
+unfolding fit-to-work op-fits
+fits-waiting t m h n =
+    let a = and-both (op-fits t m) (numbers-fit t m Reads && numbers-fit t m Writes) h in
+    let b = and-both (numbers-fit t m Reads) (numbers-fit t m Writes) (a .1) in
+    let op = cond (eqb (m op-number) 6) (in-store t (m op-key) && ltb (m op-server) (t .servers)) true in
     record {
       some = n;
-      known = leb-true (m op-number) 6 (all-at (field-fits m every) 13 1 (a .0) (omega arith));
-      reads = leb-true (m reads-count) 96 (all-at (field-fits m every) 13 10 (a .0) (omega arith));
-      writes = leb-true (m writes-count) 48 (all-at (field-fits m every) 13 11 (a .0) (omega arith));
+      known = leb-true (m op-number) 6 (and-both (leb (m op-number) 6) op (a .0) .0);
+      reads = count-within t m Reads (b .0);
+      writes = count-within t m Writes (b .1);
     }
+
+module _ (z : Sizes) (b : List ℕ) (c : ℕ) (d : Bool) (e : d ≡ fit-to-work (tree-sizes z) (of-client z (view b) c)) where
+  pub work-unfit : not d ≡ true → Meets z (λ m. work z m c) (view b) (outcome.Refused 10) (view b)
+  unfolding work
+  work-unfit t = meets-refused z (view b) 10 (λ m. work z m c) (sym (rw (← e, not-true d t)))
+
+  pub waiting-client : Store-in z (length b) → c < z .clients → (of-client z (view b) c op-number ≡ 0 → ⊥) → not d ≡ false → WaitingClient z b c
+  waiting-client hold h n t =
+      let f = sym e ∙ not-false d t in
+      record { store = hold; client = h; fits = f; sets = work-known z (view b) c (hold .allowed) f; waiting = fits-waiting (tree-sizes z) (of-client z (view b) c) f n }

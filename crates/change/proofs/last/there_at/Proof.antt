@@ -3,7 +3,6 @@ use borrow.Author.Needs.{needs}
 use Rattle.change.proofs.last.there_at.Statement.{statement}
 use Rattle.change.proofs.last.there_at.Tie as tie
 
-
 pub there-at-spec : {M : Type 1} → statement M
 there-at-spec = tie.close (tie.spec
     (λ c. search needs)  -- mul-number

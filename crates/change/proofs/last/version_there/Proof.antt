@@ -4,7 +4,6 @@ use borrow.Author.Needs.{needs}
 use Rattle.change.proofs.last.version_there.Statement.{statement}
 use Rattle.change.proofs.last.version_there.Tie as tie
 
-
 pub version-there-spec : {M : Type 1} → statement M
 version-there-spec = tie.close (tie.spec
     (λ c κs. search needs)  -- find-requires

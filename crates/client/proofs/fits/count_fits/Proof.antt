@@ -3,7 +3,6 @@ use borrow.Author.Needs.{needs}
 use Rattle.client.proofs.fits.count_fits.Statement.{statement}
 use Rattle.client.proofs.fits.count_fits.Tie as tie
 
-
 pub count-fits-spec : {M : Type 1} → statement M
 count-fits-spec = tie.close (tie.spec
     (λ c. search needs)  -- enum-told

@@ -3,7 +3,6 @@ use borrow.Author.Needs.{needs}
 use Rattle.client.proofs.fits.fit_to_apply.Statement.{statement}
 use Rattle.client.proofs.fits.fit_to_apply.Tie as tie
 
-
 pub fit-to-apply-spec : {M : Type 1} → statement M
 fit-to-apply-spec = tie.close (tie.spec
     (λ c κs. search needs)  -- servers-fit-requires

@@ -3,7 +3,6 @@ use borrow.Author.Needs.{needs}
 use Rattle.client.proofs.fits.fit_to_commit.Statement.{statement}
 use Rattle.client.proofs.fits.fit_to_commit.Tie as tie
 
-
 pub fit-to-commit-spec : {M : Type 1} → statement M
 fit-to-commit-spec = tie.close (tie.spec
     (λ c κs. search needs)  -- sets-fit-requires

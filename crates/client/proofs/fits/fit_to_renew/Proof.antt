@@ -3,7 +3,6 @@ use borrow.Author.Needs.{needs}
 use Rattle.client.proofs.fits.fit_to_renew.Statement.{statement}
 use Rattle.client.proofs.fits.fit_to_renew.Tie as tie
 
-
 pub fit-to-renew-spec : {M : Type 1} → statement M
 fit-to-renew-spec = tie.close (tie.spec
     (λ c κs. search needs)  -- get-field-requires

@@ -3,7 +3,6 @@ use borrow.Author.Needs.{needs}
 use Rattle.client.proofs.fits.fit_to_unlock.Statement.{statement}
 use Rattle.client.proofs.fits.fit_to_unlock.Tie as tie
 
-
 pub fit-to-unlock-spec : {M : Type 1} → statement M
 fit-to-unlock-spec = tie.close (tie.spec
     (λ c κs. search needs)  -- servers-fit-requires

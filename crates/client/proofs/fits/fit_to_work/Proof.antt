@@ -3,7 +3,6 @@ use borrow.Author.Needs.{needs}
 use Rattle.client.proofs.fits.fit_to_work.Statement.{statement}
 use Rattle.client.proofs.fits.fit_to_work.Tie as tie
 
-
 pub fit-to-work-spec : {M : Type 1} → statement M
 fit-to-work-spec = tie.close (tie.spec
     (λ c κs. search needs)  -- op-fits-requires

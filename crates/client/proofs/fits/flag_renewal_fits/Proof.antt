@@ -3,7 +3,6 @@ use borrow.Author.Needs.{needs}
 use Rattle.client.proofs.fits.flag_renewal_fits.Statement.{statement}
 use Rattle.client.proofs.fits.flag_renewal_fits.Tie as tie
 
-
 pub flag-renewal-fits-spec : {M : Type 1} → statement M
 flag-renewal-fits-spec = tie.close (tie.spec
     (λ c κs. search needs)  -- number-at-requires

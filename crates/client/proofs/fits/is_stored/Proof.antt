@@ -3,7 +3,6 @@ use borrow.Author.Needs.{needs}
 use Rattle.client.proofs.fits.is_stored.Statement.{statement}
 use Rattle.client.proofs.fits.is_stored.Tie as tie
 
-
 pub is-stored-spec : {M : Type 1} → statement M
 is-stored-spec = tie.close (tie.spec
     (λ c κs. search needs)  -- is-home-requires

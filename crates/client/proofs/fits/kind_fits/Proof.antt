@@ -3,7 +3,6 @@ use borrow.Author.Needs.{needs}
 use Rattle.client.proofs.fits.kind_fits.Statement.{statement}
 use Rattle.client.proofs.fits.kind_fits.Tie as tie
 
-
 pub kind-fits-spec : {M : Type 1} → statement M
 kind-fits-spec = tie.close (tie.spec
     (λ c κs. search needs)  -- number-at-requires

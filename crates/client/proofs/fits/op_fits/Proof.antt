@@ -3,7 +3,6 @@ use borrow.Author.Needs.{needs}
 use Rattle.client.proofs.fits.op_fits.Statement.{statement}
 use Rattle.client.proofs.fits.op_fits.Tie as tie
 
-
 pub op-fits-spec : {M : Type 1} → statement M
 op-fits-spec = tie.close (tie.spec
     (λ c κs. search needs)  -- get-field-requires

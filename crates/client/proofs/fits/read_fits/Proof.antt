@@ -3,7 +3,6 @@ use borrow.Author.Needs.{needs}
 use Rattle.client.proofs.fits.read_fits.Statement.{statement}
 use Rattle.client.proofs.fits.read_fits.Tie as tie
 
-
 pub read-fits-spec : {M : Type 1} → statement M
 read-fits-spec = tie.close (tie.spec
     (λ c κs. search needs)  -- number-at-requires

@@ -3,7 +3,6 @@ use borrow.Author.Needs.{needs}
 use Rattle.client.proofs.fits.sets_fit.Statement.{statement}
 use Rattle.client.proofs.fits.sets_fit.Tie as tie
 
-
 pub sets-fit-spec : {M : Type 1} → statement M
 sets-fit-spec = tie.close (tie.spec
     (λ c κs. search needs)  -- numbers-fit-requires

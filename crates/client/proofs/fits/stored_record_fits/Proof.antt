@@ -3,7 +3,6 @@ use borrow.Author.Needs.{needs}
 use Rattle.client.proofs.fits.stored_record_fits.Statement.{statement}
 use Rattle.client.proofs.fits.stored_record_fits.Tie as tie
 
-
 pub stored-record-fits-spec : {M : Type 1} → statement M
 stored-record-fits-spec = tie.close (tie.spec
     (λ c κs. search needs)  -- number-at-requires

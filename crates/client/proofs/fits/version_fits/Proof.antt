@@ -3,7 +3,6 @@ use borrow.Author.Needs.{needs}
 use Rattle.client.proofs.fits.version_fits.Statement.{statement}
 use Rattle.client.proofs.fits.version_fits.Tie as tie
 
-
 pub version-fits-spec : {M : Type 1} → statement M
 version-fits-spec = tie.close (tie.spec
     (λ c κs. search needs)  -- number-at-requires

@@ -3,7 +3,6 @@ use borrow.Author.Needs.{needs}
 use Rattle.client.proofs.fits.write_fits.Statement.{statement}
 use Rattle.client.proofs.fits.write_fits.Tie as tie
 
-
 pub write-fits-spec : {M : Type 1} → statement M
 write-fits-spec = tie.close (tie.spec
     (λ c κs. search needs)  -- read-fits-requires

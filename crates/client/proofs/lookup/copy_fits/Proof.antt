@@ -3,7 +3,6 @@ use borrow.Author.Needs.{needs}
 use Rattle.client.proofs.lookup.copy_fits.Statement.{statement}
 use Rattle.client.proofs.lookup.copy_fits.Tie as tie
 
-
 pub copy-fits-spec : {M : Type 1} → statement M
 copy-fits-spec = tie.close (tie.spec
     (λ c κs. search needs)  -- get-field-requires

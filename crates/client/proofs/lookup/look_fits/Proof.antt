@@ -3,7 +3,6 @@ use borrow.Author.Needs.{needs}
 use Rattle.client.proofs.lookup.look_fits.Statement.{statement}
 use Rattle.client.proofs.lookup.look_fits.Tie as tie
 
-
 pub look-fits-spec : {M : Type 1} → statement M
 look-fits-spec = tie.close (tie.spec
     (λ c κs. search needs)  -- fits-requires

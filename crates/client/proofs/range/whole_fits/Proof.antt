@@ -3,7 +3,6 @@ use borrow.Author.Needs.{needs}
 use Rattle.client.proofs.range.whole_fits.Statement.{statement}
 use Rattle.client.proofs.range.whole_fits.Tie as tie
 
-
 pub whole-fits-spec : {M : Type 1} → statement M
 whole-fits-spec = tie.close (tie.spec
     (λ c κs. search needs)  -- fits-requires

@@ -3,7 +3,6 @@ use borrow.Author.Needs.{needs}
 use Rattle.client.proofs.vector.flag_fits.Statement.{statement}
 use Rattle.client.proofs.vector.flag_fits.Tie as tie
 
-
 pub flag-fits-spec : {M : Type 1} → statement M
 flag-fits-spec = tie.close (tie.spec
     (λ c κs. search needs)  -- number-at-requires

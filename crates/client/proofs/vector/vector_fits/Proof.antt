@@ -3,7 +3,6 @@ use borrow.Author.Needs.{needs}
 use Rattle.client.proofs.vector.vector_fits.Statement.{statement}
 use Rattle.client.proofs.vector.vector_fits.Tie as tie
 
-
 pub vector-fits-spec : {M : Type 1} → statement M
 vector-fits-spec = tie.close (tie.spec
     (λ c κs. search needs)  -- vector-word-requires

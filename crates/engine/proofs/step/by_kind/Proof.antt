@@ -1,4 +1,4 @@
-use Rattle.engine.specs.Laws.Step.{kinds, known-client, known-by, at-work, at-prepare, at-apply}
+use Rattle.engine.specs.Laws.Step.{kinds, known-client, at-work, at-prepare, at-apply}
 use borrow.Author.Needs.{needs}
 use Rattle.engine.proofs.step.by_kind.Statement.{statement}
 use Rattle.engine.proofs.step.by_kind.Tie as tie
@@ -10,17 +10,17 @@ by-kind-spec = tie.close (tie.spec
     (λ c. search needs)  -- enum-told-2
     (λ c κs. search (known-client, needs))  -- give-requires
     (λ c. search needs)  -- enum-told-3
-    (λ c κs. record { store = search needs; client = search (known-client, needs); sets = search (known-by, needs); waiting = search (at-work, needs) })  -- work-requires
+    (λ c κs. (record { store = search needs; client = search (known-client, needs) }, search (at-work, needs)))  -- work-requires
     (λ c. search needs)  -- enum-told-4
     (λ c κs. search (known-client, needs))  -- commit-requires
     (λ c. search needs)  -- enum-told-5
-    (λ c κs. record { store = search needs; client = search (known-client, needs); server = search (at-prepare, needs); sets = search (known-by, needs) })  -- prepare-requires
+    (λ c κs. record { store = search needs; client = search (known-client, needs); server = search (at-prepare, needs) })  -- prepare-requires
     (λ c. search needs)  -- enum-told-6
-    (λ c κs. record { store = search needs; client = search (known-client, needs); server = search (at-apply, needs); sets = search (known-by, needs) })  -- apply-requires
+    (λ c κs. record { store = search needs; client = search (known-client, needs); server = search (at-apply, needs) })  -- apply-requires
     (λ c. search needs)  -- enum-told-7
-    (λ c κs. record { store = search needs; client = search (known-client, needs); sets = search (known-by, needs) })  -- give-up-requires
+    (λ c κs. search (known-client, needs))  -- give-up-requires
     (λ c. search needs)  -- enum-told-8
-    (λ c κs. record { store = search needs; client = search (known-client, needs); sets = search (known-by, needs) })  -- lose-requires
+    (λ c κs. search (known-client, needs))  -- lose-requires
     (λ c. search needs)  -- enum-told-9
     (λ c. search needs)  -- same-length
     (λ c. search (kinds, needs))  -- returns

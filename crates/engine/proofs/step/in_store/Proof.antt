@@ -1,4 +1,4 @@
-use Rattle.engine.specs.Laws.Step.{rule-exits, passes, is-fit}
+use Rattle.engine.specs.Laws.Step.{rule-exits, passes}
 use borrow.Author.Needs.{needs}
 use Rattle.engine.proofs.step.in_store.Statement.{statement}
 use Rattle.engine.proofs.step.in_store.Tie as tie
@@ -8,11 +8,8 @@ in-store-spec = tie.close (tie.spec
     (λ c κs. search needs)  -- refusal-requires
     (λ c. search needs)  -- same-length
     (λ c. search (rule-exits, needs))  -- returns
-    (λ c κs. search (rule-exits, needs))  -- is-fit-requires
     (λ c κs. search needs)  -- kind-of-requires
-    (λ c κs. record { store = search needs; client = search needs; kind = search needs; passed = search (passes, needs); fits = search (is-fit, needs) })  -- by-kind-requires
+    (λ c κs. record { store = search needs; client = search needs; kind = search needs; passed = search (passes, needs) })  -- by-kind-requires
     (λ c. search needs)  -- same-length-2
     (λ c. search (rule-exits, needs))  -- returns-2
-    (λ c. search needs)  -- same-length-3
-    (λ c. search (rule-exits, needs))  -- returns-3
     )

@@ -4,7 +4,6 @@ use borrow.Author.Needs.{needs}
 use Rattle.kinds.proofs.apply.apply.Statement.{statement}
 use Rattle.kinds.proofs.apply.apply.Tie as tie
 
-
 pub apply-spec : {M : Type 1} → statement M
 apply-spec = tie.close (tie.spec
     (λ c κs. search needs)  -- is-last-requires

@@ -3,7 +3,6 @@ use borrow.Author.Needs.{needs}
 use Rattle.kinds.proofs.commit.commit.Statement.{statement}
 use Rattle.kinds.proofs.commit.commit.Tie as tie
 
-
 pub commit-spec : {M : Type 1} → statement M
 commit-spec = tie.close (tie.spec
     (λ c κs. search needs)  -- fit-to-commit-requires

@@ -3,7 +3,6 @@ use borrow.Author.Needs.{needs}
 use Rattle.kinds.proofs.fetch.fetch_fault.Statement.{statement}
 use Rattle.kinds.proofs.fetch.fetch_fault.Tie as tie
 
-
 pub fetch-fault-spec : {M : Type 1} → statement M
 fetch-fault-spec = tie.close (tie.spec
     (λ c. search (fetch-items-exits, needs))  -- returns

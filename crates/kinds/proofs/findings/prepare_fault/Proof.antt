@@ -3,7 +3,6 @@ use borrow.Author.Needs.{needs}
 use Rattle.kinds.proofs.findings.prepare_fault.Statement.{statement}
 use Rattle.kinds.proofs.findings.prepare_fault.Tie as tie
 
-
 pub prepare-fault-spec : {M : Type 1} → statement M
 prepare-fault-spec = tie.close (tie.spec
     (λ c. search (finding-exits, needs))  -- returns

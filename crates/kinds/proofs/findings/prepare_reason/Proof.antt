@@ -3,7 +3,6 @@ use borrow.Author.Needs.{needs}
 use Rattle.kinds.proofs.findings.prepare_reason.Statement.{statement}
 use Rattle.kinds.proofs.findings.prepare_reason.Tie as tie
 
-
 pub prepare-reason-spec : {M : Type 1} → statement M
 prepare-reason-spec = tie.close (tie.spec
     (λ c κs. search needs)  -- lock-fits-requires

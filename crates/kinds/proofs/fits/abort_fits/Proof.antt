@@ -4,7 +4,6 @@ use borrow.Author.Needs.{needs}
 use Rattle.kinds.proofs.fits.abort_fits.Statement.{statement}
 use Rattle.kinds.proofs.fits.abort_fits.Tie as tie
 
-
 pub abort-fits-spec : {M : Type 1} → statement M
 abort-fits-spec = tie.close (tie.spec
     (λ c κs. search needs)  -- fit-to-abort-requires

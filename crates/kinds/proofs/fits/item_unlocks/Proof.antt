@@ -3,7 +3,6 @@ use borrow.Author.Needs.{needs}
 use Rattle.kinds.proofs.fits.item_unlocks.Statement.{statement}
 use Rattle.kinds.proofs.fits.item_unlocks.Tie as tie
 
-
 pub item-unlocks-spec : {M : Type 1} → statement M
 item-unlocks-spec = tie.close (tie.spec
     (λ c. search (fit-exits, needs))  -- returns

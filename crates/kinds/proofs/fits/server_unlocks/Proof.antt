@@ -3,7 +3,6 @@ use borrow.Author.Needs.{needs}
 use Rattle.kinds.proofs.fits.server_unlocks.Statement.{statement}
 use Rattle.kinds.proofs.fits.server_unlocks.Tie as tie
 
-
 pub server-unlocks-spec : {M : Type 1} → statement M
 server-unlocks-spec = tie.close (tie.spec
     (λ c. search needs)  -- cast-has

@@ -4,7 +4,6 @@ use borrow.Author.Needs.{needs}
 use Rattle.kinds.proofs.items.as_written.Statement.{statement}
 use Rattle.kinds.proofs.items.as_written.Tie as tie
 
-
 pub as-written-spec : {M : Type 1} → statement M
 as-written-spec = tie.close (tie.spec
     (λ c κs. search needs)  -- find-requires

@@ -3,7 +3,6 @@ use borrow.Author.Needs.{needs}
 use Rattle.kinds.proofs.items.item_of.Statement.{statement}
 use Rattle.kinds.proofs.items.item_of.Tie as tie
 
-
 pub item-of-spec : {M : Type 1} → statement M
 item-of-spec = tie.close (tie.spec
     (λ c κs. search needs)  -- is-inner-requires

@@ -3,7 +3,6 @@ use borrow.Author.Needs.{needs}
 use Rattle.kinds.proofs.known.fit_to_abort.Statement.{statement}
 use Rattle.kinds.proofs.known.fit_to_abort.Tie as tie
 
-
 pub fit-to-abort-spec : {M : Type 1} → statement M
 fit-to-abort-spec = tie.close (tie.spec
     (λ c κs. search needs)  -- client-at-requires

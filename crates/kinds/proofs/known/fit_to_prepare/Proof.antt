@@ -3,7 +3,6 @@ use borrow.Author.Needs.{needs}
 use Rattle.kinds.proofs.known.fit_to_prepare.Statement.{statement}
 use Rattle.kinds.proofs.known.fit_to_prepare.Tie as tie
 
-
 pub fit-to-prepare-spec : {M : Type 1} → statement M
 fit-to-prepare-spec = tie.close (tie.spec
     (λ c κs. search needs)  -- client-at-requires

@@ -3,7 +3,6 @@ use borrow.Author.Needs.{needs}
 use Rattle.kinds.proofs.lack.fetch_node.Statement.{statement}
 use Rattle.kinds.proofs.lack.fetch_node.Tie as tie
 
-
 pub fetch-node-spec : {M : Type 1} → statement M
 fetch-node-spec = tie.close (tie.spec
     (λ c κs. search needs)  -- server-requires

@@ -3,7 +3,6 @@ use borrow.Author.Needs.{needs}
 use Rattle.kinds.proofs.lack.hand_meta.Statement.{statement}
 use Rattle.kinds.proofs.lack.hand_meta.Tie as tie
 
-
 pub hand-meta-spec : {M : Type 1} → statement M
 hand-meta-spec = tie.close (tie.spec
     (λ c κs. (search needs, search (meta-has, needs)))  -- gate-requires

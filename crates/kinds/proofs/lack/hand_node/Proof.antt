@@ -4,7 +4,6 @@ use borrow.Author.Needs.{needs}
 use Rattle.kinds.proofs.lack.hand_node.Statement.{statement}
 use Rattle.kinds.proofs.lack.hand_node.Tie as tie
 
-
 pub hand-node-spec : {M : Type 1} → statement M
 hand-node-spec = tie.close (tie.spec
     (λ c. search needs)  -- add-number

@@ -3,7 +3,6 @@ use borrow.Author.Needs.{needs}
 use Rattle.kinds.proofs.lack.node_of.Statement.{statement}
 use Rattle.kinds.proofs.lack.node_of.Tie as tie
 
-
 pub node-of-spec : {M : Type 1} → statement M
 node-of-spec = tie.close (tie.spec
     (λ c κs. search needs)  -- server-at-requires

@@ -3,7 +3,6 @@ use borrow.Author.Needs.{needs}
 use Rattle.kinds.proofs.loss.lose.Statement.{statement}
 use Rattle.kinds.proofs.loss.lose.Tie as tie
 
-
 pub lose-spec : {M : Type 1} → statement M
 lose-spec = tie.close (tie.spec
     (λ c κs. search needs)  -- field-of-requires

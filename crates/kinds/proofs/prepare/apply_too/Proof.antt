@@ -4,7 +4,6 @@ use borrow.Author.Needs.{needs}
 use Rattle.kinds.proofs.prepare.apply_too.Statement.{statement}
 use Rattle.kinds.proofs.prepare.apply_too.Tie as tie
 
-
 pub apply-too-spec : {M : Type 1} → statement M
 apply-too-spec = tie.close (tie.spec
     (λ c κs. search needs)  -- fit-to-apply-requires

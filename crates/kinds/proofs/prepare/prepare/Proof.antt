@@ -4,7 +4,6 @@ use borrow.Author.Needs.{needs}
 use Rattle.kinds.proofs.prepare.prepare.Statement.{statement}
 use Rattle.kinds.proofs.prepare.prepare.Tie as tie
 
-
 pub prepare-spec : {M : Type 1} → statement M
 prepare-spec = tie.close (tie.spec
     (λ c κs. search needs)  -- fit-to-prepare-requires

@@ -1,10 +1,8 @@
-
 use Rattle.kinds.specs.Laws.Writes.{write-exits}
 use Rattle.steps.specs.Laws.Writes.{node-has}
 use borrow.Author.Needs.{needs}
 use Rattle.kinds.proofs.writes.store_write.Statement.{statement}
 use Rattle.kinds.proofs.writes.store_write.Tie as tie
-
 
 pub store-write-spec : {M : Type 1} → statement M
 store-write-spec = tie.close (tie.spec

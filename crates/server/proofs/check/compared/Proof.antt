@@ -3,7 +3,6 @@ use borrow.Author.Needs.{needs}
 use Rattle.server.proofs.check.compared.Statement.{statement}
 use Rattle.server.proofs.check.compared.Tie as tie
 
-
 pub compared-spec : {M : Type 1} → statement M
 compared-spec = tie.close (tie.spec
     (λ c κs. search needs)  -- mark-fits-requires

@@ -3,7 +3,6 @@ use borrow.Author.Needs.{needs}
 use Rattle.server.proofs.check.mark_fits.Statement.{statement}
 use Rattle.server.proofs.check.mark_fits.Tie as tie
 
-
 pub mark-fits-spec : {M : Type 1} → statement M
 mark-fits-spec = tie.close (tie.spec
     (λ c. search needs)  -- enum-told
