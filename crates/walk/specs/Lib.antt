@@ -11,6 +11,8 @@ pub mod Down
 pub mod Lookup
 pub mod Seek
 pub mod Near
+-- the operations, by their numbers
+pub mod Operation
 -- how a walk stops; the work step of an operation that only reads
 pub mod Stopped
 pub mod Look
