@@ -7,7 +7,7 @@ use client::part::OP_KEY;
 use client::part::OP_SERVER;
 use client::part::OP_VALUE;
 use client::part::get_field;
-use walk::operation::Writing;
+use walk::operation::Update;
 use walk::walk::Stop;
 use walk::walk::is_answer;
 ghost use Prim.Native.Nat.{_≤_};
@@ -31,7 +31,7 @@ fn walk(
     slots: usize,
     own: &mut [u64],
     used: &mut [u64],
-    op: Writing,
+    op: Update,
 ) -> Stop
     requires { ⌜ Beginning servers (now part) (now own) (now used) ⌝ }
     requires waits { ⌜ Waiting (held (now part)) × (operation-of (held (now part) op-number) ≡ Write op) ⌝ }
@@ -40,12 +40,12 @@ fn walk(
 {
     let key = get_field(part, OP_KEY);
     match op {
-        Writing::Insert => {
+        Update::Insert => {
             let value = get_field(part, OP_VALUE);
             insert(part, servers, slots, own, used, key, value)
         }
-        Writing::Delete => delete(part, servers, slots, own, used, key),
-        Writing::Migrate => {
+        Update::Delete => delete(part, servers, slots, own, used, key),
+        Update::Migrate => {
             let server = get_field(part, OP_SERVER);
             migrate(part, servers, slots, own, used, key, server)
         }
@@ -59,7 +59,7 @@ pub fn work(
     slots: usize,
     own: &mut [u64],
     used: &mut [u64],
-    op: Writing,
+    op: Update,
 ) -> Stop
     requires { ⌜ (servers ≤ 8) × Ready (now own) (now used) × ClientPart (now part) ⌝ }
     requires waits { ⌜ Waiting (held (now part)) × (operation-of (held (now part) op-number) ≡ Write op) ⌝ }

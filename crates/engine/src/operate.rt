@@ -32,8 +32,8 @@ use kinds::whole::client_at;
 use steps::outcome::Outcome;
 use steps::sizes::Sizes;
 use walk::operation::Operation;
-use walk::operation::Reading;
-use walk::operation::Writing;
+use walk::operation::Query;
+use walk::operation::Update;
 use walk::walk::Stop;
 use walk::walk::is_answer;
 
@@ -106,7 +106,7 @@ fn answered(stop: Stop) -> Outcome
 }
 
 // Lookup, next and previous.
-fn look(mem: &mut [u8], sizes: Sizes, client: usize, op: Reading) -> Outcome
+fn look(mem: &mut [u8], sizes: Sizes, client: usize, op: Query) -> Outcome
     requires { ⌜ WaitingClient sizes (now mem) client ⌝ }
     requires reads { ⌜ operation-of (of-client sizes (view (now mem)) client op-number) ≡ Read op ⌝ }
     ensures { λ r. ⌜ Comes sizes (λ m. work sizes m client) (now (mem .entry)) r (now (mem .exit)) ⌝ }
@@ -122,7 +122,7 @@ fn look(mem: &mut [u8], sizes: Sizes, client: usize, op: Reading) -> Outcome
 }
 
 // Insert, delete and migrate.
-fn change(mem: &mut [u8], sizes: Sizes, client: usize, op: Writing) -> Outcome
+fn change(mem: &mut [u8], sizes: Sizes, client: usize, op: Update) -> Outcome
     requires { ⌜ WaitingClient sizes (now mem) client ⌝ }
     requires writes { ⌜ operation-of (of-client sizes (view (now mem)) client op-number) ≡ Write op ⌝ }
     ensures { λ r. ⌜ Comes sizes (λ m. work sizes m client) (now (mem .entry)) r (now (mem .exit)) ⌝ }

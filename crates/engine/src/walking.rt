@@ -17,8 +17,8 @@ use kinds::whole::client_at;
 use steps::sizes::Sizes;
 use walk::look::look;
 use walk::operation::Operation;
-use walk::operation::Reading;
-use walk::operation::Writing;
+use walk::operation::Query;
+use walk::operation::Update;
 use walk::operation::waiting;
 use walk::walk::Stop;
 
@@ -32,7 +32,7 @@ pub fn waiting_at(mem: &[u8], sizes: Sizes, client: usize) -> Operation
 }
 
 // An operation that only reads: no list of own writes is lent, and the other one is empty.
-pub fn look_at(mem: &[u8], sizes: Sizes, client: usize, used: &mut [u64], op: Reading) -> Stop
+pub fn look_at(mem: &[u8], sizes: Sizes, client: usize, used: &mut [u64], op: Query) -> Stop
     requires { ⌜ AtClient sizes (length (now mem)) client × (98 ≤ length (now used)) × (getD (now used) 0 0 ≡ 0) ⌝ }
     requires waits { ⌜ Waiting (of-client sizes (view (now mem)) client)
         × (operation-of (of-client sizes (view (now mem)) client op-number) ≡ Read op) ⌝ }
@@ -50,7 +50,7 @@ pub fn walk_at(
     client: usize,
     own: &mut [u64],
     used: &mut [u64],
-    op: Writing,
+    op: Update,
 ) -> Stop
     requires { ⌜ AtClient sizes (length (now mem)) client × Ready (now own) (now used) ⌝ }
     requires waits { ⌜ Waiting (of-client sizes (view (now mem)) client)

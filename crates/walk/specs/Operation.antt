@@ -2,8 +2,8 @@
 use mathlib.Core.List.{[], _∷_}
 use Prim.Native.Nat.{ℕ}
 use lib.ListN.{getD}
-use Rattle.walk.specs.declared.operation.Reading.the-variants.{Lookup, Next, Previous}
-use Rattle.walk.specs.declared.operation.Writing.the-variants.{Insert, Delete, Migrate}
+use Rattle.walk.specs.declared.operation.Query.the-variants.{Lookup, Next, Previous}
+use Rattle.walk.specs.declared.operation.Update.the-variants.{Insert, Delete, Migrate}
 use Rattle.walk.specs.declared.operation.Operation.{Operation}
 use Rattle.walk.specs.declared.operation.Operation.the-variants.{Read, Write, Unknown}
 

@@ -1,6 +1,6 @@
 // The work step of an operation that only reads. It is lent no list of own writes.
 use crate::lookup::lookup;
-use crate::operation::Reading;
+use crate::operation::Query;
 use crate::seek::near;
 use crate::walk::Stop;
 use client::part::OP_KEY;
@@ -17,15 +17,15 @@ ghost use Rattle.walk.specs.Stopped.{Waiting};
 ghost use Rattle.walk.specs.Look.{Looks};
 
 // `used` is lent empty; it has the copies in use afterwards.
-pub fn look(part: &[u8], servers: usize, slots: usize, used: &mut [u64], op: Reading) -> Stop
+pub fn look(part: &[u8], servers: usize, slots: usize, used: &mut [u64], op: Query) -> Stop
     requires { ⌜ (servers ≤ 8) × (98 ≤ length (now used)) × (getD (now used) 0 0 ≡ 0) × ClientPart (now part) ⌝ }
     requires waits { ⌜ Waiting (held (now part)) × (operation-of (held (now part) op-number) ≡ Read op) ⌝ }
     ensures { λ r. ⌜ Looks (sizes servers slots) (held (now (part .entry))) r (now (used .entry)) (now (used .exit)) ⌝ }
 {
     let key = get_field(part, OP_KEY);
     match op {
-        Reading::Lookup => lookup(part, servers, slots, used, key),
-        Reading::Next => near(part, servers, slots, used, true, key),
-        Reading::Previous => near(part, servers, slots, used, false, key),
+        Query::Lookup => lookup(part, servers, slots, used, key),
+        Query::Next => near(part, servers, slots, used, true, key),
+        Query::Previous => near(part, servers, slots, used, false, key),
     }
 }

@@ -7,22 +7,22 @@ ghost use Rattle.client.specs.Sets.{held};
 ghost use Rattle.walk.specs.Operation.{operation-of};
 
 // Operations that only read.
-pub enum Reading {
+pub enum Query {
     Lookup,
     Next,
     Previous,
 }
 
 // Operations that may write.
-pub enum Writing {
+pub enum Update {
     Insert,
     Delete,
     Migrate,
 }
 
 pub enum Operation {
-    Read(Reading),
-    Write(Writing),
+    Read(Query),
+    Write(Update),
     Unknown,
 }
 
@@ -32,12 +32,12 @@ fn operation_of(number: u64) -> Operation
 {
     match number {
         0 => Operation::Unknown,
-        1 => Operation::Write(Writing::Insert),
-        2 => Operation::Read(Reading::Lookup),
-        3 => Operation::Write(Writing::Delete),
-        4 => Operation::Read(Reading::Next),
-        5 => Operation::Read(Reading::Previous),
-        6 => Operation::Write(Writing::Migrate),
+        1 => Operation::Write(Update::Insert),
+        2 => Operation::Read(Query::Lookup),
+        3 => Operation::Write(Update::Delete),
+        4 => Operation::Read(Query::Next),
+        5 => Operation::Read(Query::Previous),
+        6 => Operation::Write(Update::Migrate),
         7..=u64::MAX => Operation::Unknown,
     }
 }

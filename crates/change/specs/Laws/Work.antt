@@ -25,11 +25,11 @@ use Rattle.walk.specs.Laws.Begin.{nothing-used, nothing-noted}
 use Rattle.walk.specs.Lookup.{ended}
 use Rattle.walk.specs.Stopped.{Waiting, stop-of, Stopped, Filled}
 use Rattle.walk.specs.Laws.Stopped.{noted-in-use, is-filled, R, run-is, never, told-used, Given, stops, given}
-use Rattle.walk.specs.declared.operation.Writing.{Writing}
-use Rattle.walk.specs.declared.operation.Writing.the-variants.{Insert, Delete, Migrate}
+use Rattle.walk.specs.declared.operation.Update.{Update}
+use Rattle.walk.specs.declared.operation.Update.the-variants.{Insert, Delete, Migrate}
 use Rattle.walk.specs.declared.operation.Operation.the-variants.{Write}
 use Rattle.walk.specs.Operation.{operation-of}
-use Rattle.walk.specs.Laws.Operation.{writing-number, writes-number}
+use Rattle.walk.specs.Laws.Operation.{update-number, writes-number}
 use Rattle.change.specs.Mute.{stands}
 use Rattle.change.specs.Operated.{Operated}
 use Rattle.change.specs.Fit.{entries-fit}
@@ -136,14 +136,14 @@ module _ (z : TreeSizes) (m : ClientWord → ℕ) (eight : z .servers ≤ 8) (wa
 pub ruleset work-exits = (work-stops, own-kept, work-aborts, work-answers)
 
 -- ---- by the operation
-module _ (z : TreeSizes) (m : ClientWord → ℕ) (x u : List ℕ) (s : Stop) (x′ u′ : List ℕ) (op : Writing) (key : ℕ) (po : operation-of (m op-number) ≡ Write op) (pk : key ≡ m op-key) where
+module _ (z : TreeSizes) (m : ClientWord → ℕ) (x u : List ℕ) (s : Stop) (x′ u′ : List ℕ) (op : Update) (key : ℕ) (po : operation-of (m op-number) ≡ Write op) (pk : key ≡ m op-key) where
   abbrev By : TreePlan → Type 0
   By p = Operated z m x u p s x′ u′
 
   by-plan : (p : TreePlan) → reading z (waiting m) ≡ p → By p → By (reading z (waiting m))
   by-plan p e h = rw e h
 
-  number-is : (r : Writing) → op ≡ r → m op-number ≡ writing-number r
+  number-is : (r : Update) → op ≡ r → m op-number ≡ update-number r
   number-is r e = writes-number (m op-number) r (po ∙ ap Write e)
 
   pub by-insert : (value : ℕ) → op ≡ Insert → value ≡ m op-value → By (insert-plan z key value) → By (reading z (waiting m))

@@ -24,11 +24,11 @@ use Rattle.walk.specs.Laws.Begin.{nothing-used}
 use Rattle.walk.specs.Lookup.{ended, Walks}
 use Rattle.walk.specs.Laws.Lookup.{ended-nothing}
 use Rattle.walk.specs.Seek.{near-plan}
-use Rattle.walk.specs.declared.operation.Reading.{Reading}
-use Rattle.walk.specs.declared.operation.Reading.the-variants.{Lookup, Next, Previous}
+use Rattle.walk.specs.declared.operation.Query.{Query}
+use Rattle.walk.specs.declared.operation.Query.the-variants.{Lookup, Next, Previous}
 use Rattle.walk.specs.declared.operation.Operation.the-variants.{Read}
 use Rattle.walk.specs.Operation.{operation-of}
-use Rattle.walk.specs.Laws.Operation.{reading-number, reads-number}
+use Rattle.walk.specs.Laws.Operation.{query-number, reads-number}
 use Rattle.walk.specs.Stopped.{Waiting, stop-of, Filled}
 use Rattle.walk.specs.Laws.Stopped.{noted-in-use, is-filled, R, run-is, never, told-used, Given, stops, given}
 use Rattle.walk.specs.Look.{Looks}
@@ -75,8 +75,8 @@ module _ (z : TreeSizes) (m : ClientWord → ℕ) (wait : Waiting m) (u : List �
               none = λ a w k. let y : answers (g .answer) [] ≡ answers a w = sym q ∙ k in let v : [] ≡ w = cc in sym v;
             }
 
-  module _ (op : Reading) (key : ℕ) (po : operation-of (m op-number) ≡ Read op) (pk : key ≡ m op-key) where
-    number-is : (r : Reading) → op ≡ r → m op-number ≡ reading-number r
+  module _ (op : Query) (key : ℕ) (po : operation-of (m op-number) ≡ Read op) (pk : key ≡ m op-key) where
+    number-is : (r : Query) → op ≡ r → m op-number ≡ query-number r
     number-is r e = reads-number (m op-number) r (po ∙ ap Read e)
 
     pub look-lookup : op ≡ Lookup → Walks z m u (lookup-plan key) s u′ → Looks z m s u u′

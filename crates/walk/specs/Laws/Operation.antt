@@ -2,10 +2,10 @@
 use mathlib.Core.Path.{_≡_, refl}
 use Prim.Native.Nat.{ℕ, zero, suc, _≤_}
 use native.Mathlib.Omega.{arith}
-use Rattle.walk.specs.declared.operation.Reading.{Reading}
-use Rattle.walk.specs.declared.operation.Reading.the-variants.{Lookup, Next, Previous}
-use Rattle.walk.specs.declared.operation.Writing.{Writing}
-use Rattle.walk.specs.declared.operation.Writing.the-variants.{Insert, Delete, Migrate}
+use Rattle.walk.specs.declared.operation.Query.{Query}
+use Rattle.walk.specs.declared.operation.Query.the-variants.{Lookup, Next, Previous}
+use Rattle.walk.specs.declared.operation.Update.{Update}
+use Rattle.walk.specs.declared.operation.Update.the-variants.{Insert, Delete, Migrate}
 use Rattle.walk.specs.declared.operation.Operation.{Operation}
 use Rattle.walk.specs.declared.operation.Operation.the-variants.{Read, Write, Unknown}
 use Rattle.walk.specs.Operation.{operation-of}
@@ -29,12 +29,12 @@ of-none (suc (suc (suc (suc (suc (suc zero)))))) a b c d e f g = absurd (g refl)
 of-none (suc (suc (suc (suc (suc (suc (suc n))))))) a b c d e f g = refl
 
 -- ---- back to the numbers
-abbrev pub reading-number : Reading → ℕ
-reading-number Lookup = 2
-reading-number Next = 4
-reading-number Previous = 5
+abbrev pub query-number : Query → ℕ
+query-number Lookup = 2
+query-number Next = 4
+query-number Previous = 5
 
-pub reads-number : (n : ℕ) (r : Reading) → operation-of n ≡ Read r → n ≡ reading-number r
+pub reads-number : (n : ℕ) (r : Query) → operation-of n ≡ Read r → n ≡ query-number r
 unfolding operation-of
 reads-number zero r e = cc
 reads-number (suc zero) r e = cc
@@ -51,12 +51,12 @@ reads-number (suc (suc (suc (suc (suc zero))))) Previous e = refl
 reads-number (suc (suc (suc (suc (suc (suc zero)))))) r e = cc
 reads-number (suc (suc (suc (suc (suc (suc (suc n))))))) r e = cc
 
-abbrev pub writing-number : Writing → ℕ
-writing-number Insert = 1
-writing-number Delete = 3
-writing-number Migrate = 6
+abbrev pub update-number : Update → ℕ
+update-number Insert = 1
+update-number Delete = 3
+update-number Migrate = 6
 
-pub writes-number : (n : ℕ) (r : Writing) → operation-of n ≡ Write r → n ≡ writing-number r
+pub writes-number : (n : ℕ) (r : Update) → operation-of n ≡ Write r → n ≡ update-number r
 unfolding operation-of
 writes-number zero r e = cc
 writes-number (suc zero) Insert e = refl
