@@ -4,6 +4,7 @@ ghost use Prim.Native.Nat.{_≤_};
 ghost use lib.ListN.{length, getD};
 ghost use Rattle.memory.specs.Word.{view};
 ghost use Rattle.client.specs.Layout.{op-number};
+ghost use Rattle.walk.specs.Bounds.{used-room};
 ghost use Rattle.walk.specs.Stopped.{Waiting};
 ghost use Rattle.walk.specs.declared.operation.Operation.the-variants.{Read, Write};
 ghost use Rattle.walk.specs.Operation.{operation-of};
@@ -33,7 +34,7 @@ pub fn waiting_at(mem: &[u8], sizes: Sizes, client: usize) -> Operation
 
 // An operation that only reads: no list of own writes is lent, and the other one is empty.
 pub fn look_at(mem: &[u8], sizes: Sizes, client: usize, used: &mut [u64], op: Query) -> Stop
-    requires { ⌜ AtClient sizes (length (now mem)) client × (98 ≤ length (now used)) × (getD (now used) 0 0 ≡ 0) ⌝ }
+    requires { ⌜ AtClient sizes (length (now mem)) client × (used-room ≤ length (now used)) × (getD (now used) 0 0 ≡ 0) ⌝ }
     requires waits { ⌜ Waiting (of-client sizes (view (now mem)) client)
         × (operation-of (of-client sizes (view (now mem)) client op-number) ≡ Read op) ⌝ }
     ensures { λ r. ⌜ Looks (tree-sizes sizes) (of-client sizes (view (now (mem .entry))) client) r (now (used .entry))
