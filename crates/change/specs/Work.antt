@@ -10,14 +10,15 @@ use Rattle.client.specs.Lent.{OwnFits, own-list}
 use Rattle.client.specs.Answered.{entered}
 use Rattle.client.specs.Work.{answers, worked}
 use Rattle.walk.specs.declared.walk.Stop.{Stop}
+use Rattle.walk.specs.Bounds.{own-room, used-room}
 use Rattle.walk.specs.Stopped.{Stopped, Filled}
 use Rattle.client.specs.Work as C
 
 -- both lists are empty
 pub record Ready (x u : List ℕ) : Type 0 where
-  pub own-long : 681 ≤ length x
+  pub own-long : own-room ≤ length x
   pub own-none : getD x 0 0 ≡ 0
-  pub used-long : 98 ≤ length u
+  pub used-long : used-room ≤ length u
   pub used-none : getD u 0 0 ≡ 0
 
 -- the walk has stopped as the work step ends: one lent list has the copies that it used, and with an answer the other one has the

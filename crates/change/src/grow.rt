@@ -10,11 +10,12 @@ use walk::walk::Stop;
 use walk::walk::going;
 ghost use mathlib.Core.Path.{_≡_};
 ghost use mathlib.Core.Bool.{true};
-ghost use Prim.Native.Nat.{_+_, _<_, _≤_};
-ghost use lib.ListN.{getD};
+ghost use Prim.Native.Nat.{_+_, _-_, _<_, _≤_};
 ghost use Rattle.nodes.specs.Entries.{wide-entries};
 ghost use Rattle.client.specs.Record.{sizes, in-store};
 ghost use Rattle.client.specs.Sets.{held};
+ghost use Rattle.client.specs.Lent.{own-count};
+ghost use Rattle.walk.specs.Bounds.{end-of-names, own-most};
 ghost use Rattle.walk.specs.Ask.{OwnGood, Writing, WalkingOwn, Rising};
 ghost use Rattle.change.specs.Rise.{Full, Closed};
 ghost use Rattle.change.specs.Split.{Overfull};
@@ -37,7 +38,7 @@ fn take_two(
     name: u64,
 ) -> Two
     requires { ⌜ Writing servers (now part) (now own) (now used) 19 ⌝ }
-    requires there { ⌜ name < 8192 ⌝ }
+    requires there { ⌜ name < end-of-names ⌝ }
     ensures { λ r. ⌜ TwoTaken (sizes servers slots) (held (now (part .entry))) (now (own .entry)) (now (used .entry)) name r
         (now (own .exit)) (now (used .exit)) ⌝ }
 {
@@ -90,7 +91,7 @@ fn take_halves(
     name: u64,
 ) -> Two
     requires { ⌜ Writing servers (now part) (now own) (now used) 19 ⌝ }
-    requires there { ⌜ name < 8192 ⌝ }
+    requires there { ⌜ name < end-of-names ⌝ }
     ensures { λ r. ⌜ HalvesTaken (sizes servers slots) (held (now (part .entry))) (now (own .entry)) (now (used .entry)) name r
         (now (own .exit)) (now (used .exit)) ⌝ }
 {
@@ -108,8 +109,8 @@ fn take_halves(
 
 // The halves are written, and the root anew as their parent.
 fn grow(own: &mut [u64], name: u64, t: Two, n: Wide)
-    requires { ⌜ (t .left < 8192) × (t .right < 8192) × OwnGood (now own) × (getD (now own) 0 0 < 18) ⌝ }
-    requires there { ⌜ name < 8192 ⌝ }
+    requires { ⌜ (t .left < end-of-names) × (t .right < end-of-names) × OwnGood (now own) × (own-count (now own) < own-most - 2) ⌝ }
+    requires there { ⌜ name < end-of-names ⌝ }
     requires full { ⌜ Overfull n ⌝ }
     ensures { λ _. ⌜ Grown (now (own .entry)) name (t .left) (t .right) n (now (own .exit)) ⌝ }
 {

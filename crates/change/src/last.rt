@@ -17,6 +17,7 @@ ghost use Rattle.client.specs.Layout.{writes-count, ClientPart};
 ghost use Rattle.client.specs.Sets.{held, find};
 ghost use Rattle.client.specs.Lent.{OwnFits, own-list};
 ghost use Rattle.client.specs.Work.{version-in, version-there, count-new, versions-there, any-at-last};
+ghost use Rattle.walk.specs.Bounds.{end-of-numbers, own-most};
 ghost use Rattle.walk.specs.Ask.{OwnKept};
 ghost use Rattle.change.specs.Fit.{entries-fit};
 ghost use Rattle.change.specs.Last.{own-fits, new-at, stays-below, last-reason, there-at};
@@ -64,7 +65,7 @@ fn new_at(part: &[u8], own: &[u64], i: usize) -> usize
 fn count_new(part: &[u8], own: &[u64]) -> usize
     requires { ⌜ OwnFits (now own) × ClientPart (now part) ⌝ }
     ensures { λ r. ⌜ r ≡ count-new (held (now (part .entry))) (own-list (now (own .entry))) ⌝ }
-    ensures within { λ r. ⌜ r ≤ 20 ⌝ }
+    ensures within { λ r. ⌜ r ≤ own-most ⌝ }
 {
     let n = own[0] as usize;
     let mut i: usize = 0;
@@ -78,7 +79,7 @@ fn count_new(part: &[u8], own: &[u64]) -> usize
 
 // The version of an object that was read, or that came into use.
 fn version_in(part: &[u8], number: u64) -> u64
-    requires { ⌜ (number < 16385) × ClientPart (now part) ⌝ }
+    requires { ⌜ (number < end-of-numbers) × ClientPart (now part) ⌝ }
     ensures { λ r. ⌜ r ≡ version-in (held (now (part .entry))) number (find (held (now (part .entry))) Reads number) ⌝ }
 {
     let at = find(part, Set::Reads, number);

@@ -11,10 +11,11 @@ use walk::walk::Stop;
 ghost use mathlib.Core.Path.{_≡_};
 ghost use mathlib.Core.Bool.{true};
 ghost use Prim.Native.Nat.{_<_, _≤_};
-ghost use lib.ListN.{getD};
 ghost use Rattle.nodes.specs.Entries.{wide-entries};
 ghost use Rattle.client.specs.Record.{sizes, in-store};
 ghost use Rattle.client.specs.Sets.{held};
+ghost use Rattle.client.specs.Lent.{own-count};
+ghost use Rattle.walk.specs.Bounds.{end-of-names, own-most};
 ghost use Rattle.walk.specs.Ask.{OwnGood, Noted, Rising};
 ghost use Rattle.change.specs.Rise.{Content, Under, Raised, Closed};
 ghost use Rattle.change.specs.Level.{Settled, level-plan, top-plan};
@@ -30,7 +31,7 @@ fn settle(
     a: u64,
     b: u64,
 ) -> Stop
-    requires { ⌜ (name < 8192) × OwnGood (now own) × (getD (now own) 0 0 < 20) × (n .count ≤ 14) ⌝ }
+    requires { ⌜ (name < end-of-names) × OwnGood (now own) × (own-count (now own) < own-most) × (n .count ≤ 14) ⌝ }
     requires noted { ⌜ Noted (held (now part)) (now used) × ClientPart (now part) ⌝ }
     ensures { λ r. ⌜ Settled (held (now (part .entry))) (now (own .entry)) (now (used .entry)) name n a b r (now (own .exit))
         (now (used .exit)) ⌝ }

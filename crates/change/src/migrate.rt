@@ -26,6 +26,8 @@ ghost use Rattle.operations.specs.Object.{node};
 ghost use Rattle.operations.specs.Migrate.{move-root, move-below, move-if, migrate-plan};
 ghost use Rattle.client.specs.Record.{sizes, in-store, value-of};
 ghost use Rattle.client.specs.Sets.{held};
+ghost use Rattle.client.specs.Lent.{own-count};
+ghost use Rattle.walk.specs.Bounds.{end-of-slots, own-most};
 ghost use Rattle.walk.specs.Ask.{SmallNode, OwnGood, Writing, Beginning, Walking};
 ghost use Rattle.change.specs.Operated.{Operated};
 ghost use Rattle.change.specs.Move.{Beside, Placed, Left, Moved};
@@ -34,7 +36,7 @@ ghost use Rattle.change.specs.Parent.{Parent, ToParent, ChildMoved, Move
 
 // "changes .. the metadata for the root"
 fn write_root(own: &mut [u64], is_root: bool, name: u64)
-    requires { ⌜ OwnGood (now own) × (getD (now own) 0 0 < 20) ⌝ }
+    requires { ⌜ OwnGood (now own) × (own-count (now own) < own-most) ⌝ }
     ensures { λ _. ⌜ Beside (now (own .entry)) «is_root» name (now (own .exit)) ⌝ }
 {
     if !is_root {
@@ -54,8 +56,8 @@ fn take_place(
     server: usize,
     slot: usize,
 ) -> Taken
-    requires { ⌜ Writing servers (now part) (now own) (now used) 20 ⌝ }
-    requires above { ⌜ slot < 1024 ⌝ }
+    requires { ⌜ Writing servers (now part) (now own) (now used) own-most ⌝ }
+    requires above { ⌜ slot < end-of-slots ⌝ }
     ensures { λ r. ⌜ Placed (sizes servers slots) (held (now (part .entry))) (now (own .entry)) (now (used .entry)) server slot r
         (now (own .exit)) (now (used .exit)) ⌝ }
 {

@@ -7,8 +7,9 @@ use nodes::node::Node;
 use walk::walk::Stop;
 use walk::walk::node_number;
 ghost use mathlib.Core.Path.{_≡_};
-ghost use Prim.Native.Nat.{_<_, _≤_};
-ghost use lib.ListN.{getD};
+ghost use Prim.Native.Nat.{_-_, _<_, _≤_};
+ghost use Rattle.client.specs.Lent.{own-count};
+ghost use Rattle.walk.specs.Bounds.{end-of-names, own-most};
 ghost use Rattle.walk.specs.Ask.{OwnGood};
 ghost use Rattle.change.specs.Rise.{NodeWritten, Fitting, BothWritten, widened};
 
@@ -20,7 +21,7 @@ pub struct Risen {
 
 // A node is written under its name, as the record of its keys and slots.
 pub fn write_node(own: &mut [u64], name: u64, n: Node)
-    requires { ⌜ (name < 8192) × OwnGood (now own) × (getD (now own) 0 0 < 20) × (n .count ≤ 14) ⌝ }
+    requires { ⌜ (name < end-of-names) × OwnGood (now own) × (own-count (now own) < own-most) × (n .count ≤ 14) ⌝ }
     ensures { λ _. ⌜ NodeWritten (now (own .entry)) name n (now (own .exit)) ⌝ }
 {
     let number = node_number(name);
@@ -30,7 +31,7 @@ pub fn write_node(own: &mut [u64], name: u64, n: Node)
 
 // The two parts of a node, or of two neighbours: the left one is written first.
 pub fn write_halves(own: &mut [u64], left: u64, right: u64, h: Halves)
-    requires { ⌜ (left < 8192) × (right < 8192) × OwnGood (now own) × (getD (now own) 0 0 < 19) ⌝ }
+    requires { ⌜ (left < end-of-names) × (right < end-of-names) × OwnGood (now own) × (own-count (now own) < own-most - 1) ⌝ }
     requires halves { ⌜ Fitting h ⌝ }
     ensures { λ _. ⌜ BothWritten (now (own .entry)) left right h (now (own .exit)) ⌝ }
 {

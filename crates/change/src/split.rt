@@ -8,10 +8,11 @@ use walk::search::take_for;
 use walk::take::take_node;
 use walk::walk::Stop;
 use walk::walk::going;
-ghost use Prim.Native.Nat.{_<_, _≤_};
-ghost use lib.ListN.{getD};
+ghost use Prim.Native.Nat.{_-_, _<_, _≤_};
 ghost use Rattle.client.specs.Record.{sizes};
 ghost use Rattle.client.specs.Sets.{held};
+ghost use Rattle.client.specs.Lent.{own-count};
+ghost use Rattle.walk.specs.Bounds.{end-of-names, own-most};
 ghost use Rattle.walk.specs.Ask.{OwnGood, Writing, Rising};
 ghost use Rattle.change.specs.Rise.{Under, Full};
 ghost use Rattle.change.specs.Split.{HalfTaken, Overfull, Halved, Divided, Splits};
@@ -25,8 +26,8 @@ fn take_half(
     used: &mut [u64],
     name: u64,
 ) -> Taken
-    requires { ⌜ Writing servers (now part) (now own) (now used) 20 ⌝ }
-    requires there { ⌜ name < 8192 ⌝ }
+    requires { ⌜ Writing servers (now part) (now own) (now used) own-most ⌝ }
+    requires there { ⌜ name < end-of-names ⌝ }
     ensures { λ r. ⌜ HalfTaken (sizes servers slots) (held (now (part .entry))) (now (own .entry)) (now (used .entry)) name r
         (now (own .exit)) (now (used .exit)) ⌝ }
 {
@@ -43,7 +44,7 @@ fn take_half(
 
 // A node's halves are written; the result is the separator between them.
 pub fn halve(own: &mut [u64], left: u64, right: u64, n: Wide) -> u64
-    requires { ⌜ (left < 8192) × (right < 8192) × OwnGood (now own) × (getD (now own) 0 0 < 19) ⌝ }
+    requires { ⌜ (left < end-of-names) × (right < end-of-names) × OwnGood (now own) × (own-count (now own) < own-most - 1) ⌝ }
     requires full { ⌜ Overfull n ⌝ }
     ensures { λ r. ⌜ Halved (now (own .entry)) left right n r (now (own .exit)) ⌝ }
 {
@@ -54,7 +55,7 @@ pub fn halve(own: &mut [u64], left: u64, right: u64, n: Wide) -> u64
 
 // A child's halves are written; the result is its parent with the right one as one more child.
 fn divide(own: &mut [u64], above: Turn, left: u64, right: u64, n: Wide) -> Wide
-    requires { ⌜ (left < 8192) × (right < 8192) × OwnGood (now own) × (getD (now own) 0 0 < 19) ⌝ }
+    requires { ⌜ (left < end-of-names) × (right < end-of-names) × OwnGood (now own) × (own-count (now own) < own-most - 1) ⌝ }
     requires parent { ⌜ (above .node .count ≤ 14) × (above .at ≤ above .node .count) ⌝ }
     requires full { ⌜ Overfull n ⌝ }
     ensures { λ r. ⌜ Divided (now (own .entry)) above left right n r (now (own .exit)) ⌝ }

@@ -4,15 +4,14 @@ use crate::insert::insert;
 use crate::last::last_reason;
 use crate::migrate::migrate;
 use client::part::OP_KEY;
-use client::part::OP_NUMBER;
 use client::part::OP_SERVER;
 use client::part::OP_VALUE;
 use client::part::get_field;
+use walk::operation::Update;
 use walk::walk::Stop;
 use walk::walk::is_answer;
 ghost use Prim.Native.Nat.{_≤_};
 ghost use mathlib.Core.Path.{_≡_};
-ghost use mathlib.Core.Bool.{false};
 ghost use Rattle.operations.specs.Operation.{reading};
 ghost use Rattle.client.specs.Layout.{op-number, ClientPart};
 ghost use Rattle.client.specs.Record.{sizes};
@@ -21,25 +20,32 @@ ghost use Rattle.client.specs.Work.{waiting};
 ghost use Rattle.walk.specs.Ask.{Beginning};
 ghost use Rattle.change.specs.Operated.{Operated};
 ghost use Rattle.walk.specs.Stopped.{Waiting};
-ghost use Rattle.walk.specs.Look.{only-reads};
+ghost use Rattle.walk.specs.declared.operation.Operation.the-variants.{Write};
+ghost use Rattle.walk.specs.Operation.{operation-of};
 ghost use Rattle.change.specs.Work.{Ready, Works};
 
-// "op 1 insert, .. 3 delete, .. 6 migrate (key is the node name)"
-fn walk(part: &[u8], servers: usize, slots: usize, own: &mut [u64], used: &mut [u64]) -> Stop
+// "insert, .. delete, .. migrate (key is the node name)"
+fn walk(
+    part: &[u8],
+    servers: usize,
+    slots: usize,
+    own: &mut [u64],
+    used: &mut [u64],
+    op: Update,
+) -> Stop
     requires { ⌜ Beginning servers (now part) (now own) (now used) ⌝ }
-    requires waits { ⌜ Waiting (held (now part)) × (only-reads (held (now part) op-number) ≡ false) ⌝ }
+    requires waits { ⌜ Waiting (held (now part)) × (operation-of (held (now part) op-number) ≡ Write op) ⌝ }
     ensures { λ r. ⌜ Operated (sizes servers slots) (held (now (part .entry))) (now (own .entry)) (now (used .entry))
         (reading (sizes servers slots) (waiting (held (now (part .entry))))) r (now (own .exit)) (now (used .exit)) ⌝ }
 {
-    let op = get_field(part, OP_NUMBER);
     let key = get_field(part, OP_KEY);
     match op {
-        1 => {
+        Update::Insert => {
             let value = get_field(part, OP_VALUE);
             insert(part, servers, slots, own, used, key, value)
         }
-        3 => delete(part, servers, slots, own, used, key),
-        _ => {
+        Update::Delete => delete(part, servers, slots, own, used, key),
+        Update::Migrate => {
             let server = get_field(part, OP_SERVER);
             migrate(part, servers, slots, own, used, key, server)
         }
@@ -47,13 +53,20 @@ fn walk(part: &[u8], servers: usize, slots: usize, own: &mut [u64], used: &mut [
 }
 
 // Both lists are lent empty. With the answer, `own` has the operation's writes; `used` has the copies in use.
-pub fn work(part: &[u8], servers: usize, slots: usize, own: &mut [u64], used: &mut [u64]) -> Stop
+pub fn work(
+    part: &[u8],
+    servers: usize,
+    slots: usize,
+    own: &mut [u64],
+    used: &mut [u64],
+    op: Update,
+) -> Stop
     requires { ⌜ (servers ≤ 8) × Ready (now own) (now used) × ClientPart (now part) ⌝ }
-    requires waits { ⌜ Waiting (held (now part)) × (only-reads (held (now part) op-number) ≡ false) ⌝ }
+    requires waits { ⌜ Waiting (held (now part)) × (operation-of (held (now part) op-number) ≡ Write op) ⌝ }
     ensures { λ r. ⌜ Works (sizes servers slots) (held (now (part .entry))) r (now (own .entry)) (now (used .entry))
         (now (own .exit)) (now (used .exit)) ⌝ }
 {
-    let stop = walk(part, servers, slots, own, used);
+    let stop = walk(part, servers, slots, own, used, op);
     let answered = is_answer(stop);
     if !answered {
         return stop;

@@ -1,6 +1,6 @@
 // 2 work: the waiting operation is walked over what the client has. It is answered, or the first thing lacking is fetched.
 ghost use mathlib.Core.Path.{_≡_};
-ghost use mathlib.Core.Bool.{true, false};
+ghost use mathlib.Core.Bool.{false};
 ghost use mathlib.Core.List.{[]};
 ghost use lib.ListN.{length};
 ghost use Rattle.memory.specs.Word.{view};
@@ -9,7 +9,8 @@ ghost use Rattle.client.specs.Part.{Did};
 ghost use Rattle.client.specs.Lent.{InUse, used-in, OwnFits, own-list};
 ghost use Rattle.walk.specs.Walk.{is-answer};
 ghost use Rattle.walk.specs.Stopped.{Stopped};
-ghost use Rattle.walk.specs.Look.{only-reads};
+ghost use Rattle.walk.specs.declared.operation.Operation.the-variants.{Read, Write};
+ghost use Rattle.walk.specs.Operation.{operation-of};
 ghost use Rattle.steps.specs.Whole.{tree-sizes};
 ghost use Rattle.steps.specs.Steps.{work};
 ghost use Rattle.kinds.specs.Parts.{InClient, AtClient};
@@ -17,7 +18,7 @@ ghost use Rattle.kinds.specs.Judge.{of-client};
 ghost use Rattle.kinds.specs.Kinds.{Comes};
 ghost use Rattle.engine.specs.Work.{entering, answer-of, WaitingClient};
 use crate::walking::look_at;
-use crate::walking::only_reads_at;
+use crate::walking::waiting_at;
 use crate::walking::walk_at;
 use client::enter::enter_used;
 use client::enter::enter_writes;
@@ -31,6 +32,9 @@ use kinds::lack::fetch_vector;
 use kinds::whole::client_at;
 use steps::outcome::Outcome;
 use steps::sizes::Sizes;
+use walk::operation::Operation;
+use walk::operation::Query;
+use walk::operation::Update;
 use walk::walk::Stop;
 use walk::walk::is_answer;
 
@@ -103,13 +107,13 @@ fn answered(stop: Stop) -> Outcome
 }
 
 // Lookup, next and previous.
-fn look(mem: &mut [u8], sizes: Sizes, client: usize) -> Outcome
+fn look(mem: &mut [u8], sizes: Sizes, client: usize, op: Query) -> Outcome
     requires { ⌜ WaitingClient sizes (now mem) client ⌝ }
-    requires reads { ⌜ only-reads (of-client sizes (view (now mem)) client op-number) ≡ true ⌝ }
+    requires reads { ⌜ operation-of (of-client sizes (view (now mem)) client op-number) ≡ Read op ⌝ }
     ensures { λ r. ⌜ Comes sizes (λ m. work sizes m client) (now (mem .entry)) r (now (mem .exit)) ⌝ }
 {
     let mut used = [0u64; 98];
-    let stop = look_at(mem, sizes, client, &mut used);
+    let stop = look_at(mem, sizes, client, &mut used, op);
     let done = is_answer(stop);
     if !done {
         return unanswered(mem, sizes, client, stop, &used);
@@ -119,20 +123,33 @@ fn look(mem: &mut [u8], sizes: Sizes, client: usize) -> Outcome
 }
 
 // Insert, delete and migrate.
-fn change(mem: &mut [u8], sizes: Sizes, client: usize) -> Outcome
+fn change(mem: &mut [u8], sizes: Sizes, client: usize, op: Update) -> Outcome
     requires { ⌜ WaitingClient sizes (now mem) client ⌝ }
-    requires writes { ⌜ only-reads (of-client sizes (view (now mem)) client op-number) ≡ false ⌝ }
+    requires writes { ⌜ operation-of (of-client sizes (view (now mem)) client op-number) ≡ Write op ⌝ }
     ensures { λ r. ⌜ Comes sizes (λ m. work sizes m client) (now (mem .entry)) r (now (mem .exit)) ⌝ }
 {
     let mut own = [0u64; 681];
     let mut used = [0u64; 98];
-    let stop = walk_at(mem, sizes, client, &mut own, &mut used);
+    let stop = walk_at(mem, sizes, client, &mut own, &mut used, op);
     let done = is_answer(stop);
     if !done {
         return unanswered(mem, sizes, client, stop, &used);
     }
     store_answer(mem, sizes, client, &own, &used);
     answered(stop)
+}
+
+// By the sort of the operation.
+fn operate(mem: &mut [u8], sizes: Sizes, client: usize) -> Outcome
+    requires { ⌜ WaitingClient sizes (now mem) client ⌝ }
+    ensures { λ r. ⌜ Comes sizes (λ m. work sizes m client) (now (mem .entry)) r (now (mem .exit)) ⌝ }
+{
+    let op = waiting_at(mem, sizes, client);
+    match op {
+        Operation::Read(op) => look(mem, sizes, client, op),
+        Operation::Write(op) => change(mem, sizes, client, op),
+        Operation::Unknown => Outcome::Refused(10),
+    }
 }
 
 pub fn work(mem: &mut [u8], sizes: Sizes, client: usize) -> Outcome
@@ -143,9 +160,5 @@ pub fn work(mem: &mut [u8], sizes: Sizes, client: usize) -> Outcome
     if !fit_to_work(mem, sizes, client) {
         return Outcome::Refused(10);
     }
-    let reads = only_reads_at(mem, sizes, client);
-    if reads {
-        return look(mem, sizes, client);
-    }
-    change(mem, sizes, client)
+    operate(mem, sizes, client)
 }

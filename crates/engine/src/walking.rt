@@ -1,12 +1,14 @@
 // The walk of a client's waiting operation, over its part of the memory.
 ghost use mathlib.Core.Path.{_≡_};
-ghost use mathlib.Core.Bool.{true, false};
 ghost use Prim.Native.Nat.{_≤_};
 ghost use lib.ListN.{length, getD};
 ghost use Rattle.memory.specs.Word.{view};
 ghost use Rattle.client.specs.Layout.{op-number};
+ghost use Rattle.walk.specs.Bounds.{used-room};
 ghost use Rattle.walk.specs.Stopped.{Waiting};
-ghost use Rattle.walk.specs.Look.{only-reads, Looks};
+ghost use Rattle.walk.specs.declared.operation.Operation.the-variants.{Read, Write};
+ghost use Rattle.walk.specs.Operation.{operation-of};
+ghost use Rattle.walk.specs.Look.{Looks};
 ghost use Rattle.change.specs.Work.{Ready, Works};
 ghost use Rattle.steps.specs.Whole.{tree-sizes};
 ghost use Rattle.kinds.specs.Parts.{AtClient};
@@ -15,37 +17,48 @@ use change::work::work;
 use kinds::whole::client_at;
 use steps::sizes::Sizes;
 use walk::look::look;
-use walk::look::only_reads;
+use walk::operation::Operation;
+use walk::operation::Query;
+use walk::operation::Update;
+use walk::operation::waiting;
 use walk::walk::Stop;
 
-pub fn only_reads_at(mem: &[u8], sizes: Sizes, client: usize) -> bool
+// The operation that waits.
+pub fn waiting_at(mem: &[u8], sizes: Sizes, client: usize) -> Operation
     requires { ⌜ AtClient sizes (length (now mem)) client ⌝ }
-    ensures { λ r. ⌜ r ≡ only-reads (of-client sizes (view (now (mem .entry))) client op-number) ⌝ }
+    ensures { λ r. ⌜ r ≡ operation-of (of-client sizes (view (now (mem .entry))) client op-number) ⌝ }
 {
     let at = 8 * client_at(sizes, client);
-    only_reads(&mem[at..])
+    waiting(&mem[at..])
 }
 
 // An operation that only reads: no list of own writes is lent, and the other one is empty.
-pub fn look_at(mem: &[u8], sizes: Sizes, client: usize, used: &mut [u64]) -> Stop
-    requires { ⌜ AtClient sizes (length (now mem)) client × (98 ≤ length (now used)) × (getD (now used) 0 0 ≡ 0) ⌝ }
+pub fn look_at(mem: &[u8], sizes: Sizes, client: usize, used: &mut [u64], op: Query) -> Stop
+    requires { ⌜ AtClient sizes (length (now mem)) client × (used-room ≤ length (now used)) × (getD (now used) 0 0 ≡ 0) ⌝ }
     requires waits { ⌜ Waiting (of-client sizes (view (now mem)) client)
-        × (only-reads (of-client sizes (view (now mem)) client op-number) ≡ true) ⌝ }
+        × (operation-of (of-client sizes (view (now mem)) client op-number) ≡ Read op) ⌝ }
     ensures { λ r. ⌜ Looks (tree-sizes sizes) (of-client sizes (view (now (mem .entry))) client) r (now (used .entry))
         (now (used .exit)) ⌝ }
 {
     let at = 8 * client_at(sizes, client);
-    look(&mem[at..], sizes.servers, sizes.slots, used)
+    look(&mem[at..], sizes.servers, sizes.slots, used, op)
 }
 
 // One that writes: both lists are lent empty.
-pub fn walk_at(mem: &[u8], sizes: Sizes, client: usize, own: &mut [u64], used: &mut [u64]) -> Stop
+pub fn walk_at(
+    mem: &[u8],
+    sizes: Sizes,
+    client: usize,
+    own: &mut [u64],
+    used: &mut [u64],
+    op: Update,
+) -> Stop
     requires { ⌜ AtClient sizes (length (now mem)) client × Ready (now own) (now used) ⌝ }
     requires waits { ⌜ Waiting (of-client sizes (view (now mem)) client)
-        × (only-reads (of-client sizes (view (now mem)) client op-number) ≡ false) ⌝ }
+        × (operation-of (of-client sizes (view (now mem)) client op-number) ≡ Write op) ⌝ }
     ensures { λ r. ⌜ Works (tree-sizes sizes) (of-client sizes (view (now (mem .entry))) client) r (now (own .entry))
         (now (used .entry)) (now (own .exit)) (now (used .exit)) ⌝ }
 {
     let at = 8 * client_at(sizes, client);
-    work(&mem[at..], sizes.servers, sizes.slots, own, used)
+    work(&mem[at..], sizes.servers, sizes.slots, own, used, op)
 }

@@ -15,8 +15,8 @@ use Rattle.steps.specs.Refusal.{between, state-fits}
 use Rattle.kinds.specs.Parts.{stored-in}
 
 -- the first of two refusals, where 0 is none
-abbrev pub or-else : ℕ → ℕ → ℕ
-or-else a b = cond (eqb a 0) b a
+abbrev pub first-refusal : ℕ → ℕ → ℕ
+first-refusal a b = cond (eqb a 0) b a
 
 -- 7 of a migrate, a prepare or an apply
 unfoldable pub server-refusal : Sizes → ℕ → ℕ
@@ -28,7 +28,7 @@ node-refusal z n = cond (in-store (tree-sizes z) n) 0 8
 
 -- 6 of a give, and 7 and 8 where it gives a migrate
 unfoldable pub give-refusal : Sizes → Step → ℕ
-give-refusal z k = cond (between 1 5 (k .op)) 0 (cond (eqb (k .op) 6) (or-else (server-refusal z (k .server)) (node-refusal z (k .key))) 6)
+give-refusal z k = cond (between 1 5 (k .op)) 0 (cond (eqb (k .op) 6) (first-refusal (server-refusal z (k .server)) (node-refusal z (k .key))) 6)
 
 -- a participant that is not yet in the set of servers that the field has
 unfoldable pub left : (ClientWord → ℕ) → ClientWord → ℕ → Bool
@@ -75,7 +75,7 @@ field-refusal z k Unknown = 0
 
 -- 5 to 9: a step of that kind, from 0 to 7, where the memory has these words
 unfoldable pub known-refusal : Sizes → Step → Kind → List ℕ → ℕ
-known-refusal z k i w = cond (leb (z .clients) (k .client)) 5 (or-else (field-refusal z k i) (cond (unfit z k i w) 9 0))
+known-refusal z k i w = cond (leb (z .clients) (k .client)) 5 (first-refusal (field-refusal z k i) (cond (unfit z k i w) 9 0))
 
 -- the server of a prepare or an apply is one of eight
 unfoldable pub Sited : Kind → ℕ → Type 0

@@ -6,7 +6,7 @@ ghost use Rattle.memory.specs.Word.{view};
 ghost use Rattle.client.specs.Sets.{held};
 ghost use Rattle.steps.specs.Refusal.{kind-of, open-refusal, refusal, state-fits};
 ghost use Rattle.kinds.specs.Parts.{Store-in, stored-in};
-ghost use Rattle.kinds.specs.Refusal.{server-refusal, node-refusal, or-else, give-refusal, field-refusal, known-refusal};
+ghost use Rattle.kinds.specs.Refusal.{server-refusal, node-refusal, first-refusal, give-refusal, field-refusal, known-refusal};
 ghost use Rattle.kinds.specs.Refusal.{left, due, fitting, unfit, Sited};
 ghost use Rattle.client.specs.Layout.{ClientPart, field};
 use crate::sizes::allowed;
@@ -83,8 +83,8 @@ fn node_refusal(sizes: Sizes, name: u64) -> u64
 }
 
 // The first of two that holds.
-fn first_of(a: u64, b: u64) -> u64
-    ensures { λ r. ⌜ r ≡ or-else a b ⌝ }
+fn first_refusal(a: u64, b: u64) -> u64
+    ensures { λ r. ⌜ r ≡ first-refusal a b ⌝ }
 {
     match a {
         0 => b,
@@ -100,7 +100,7 @@ fn give_refusal(sizes: Sizes, step: Step) -> u64
     match op {
         0 => 6,
         1..=5 => 0,
-        6 => first_of(
+        6 => first_refusal(
             server_refusal(sizes, step.server),
             node_refusal(sizes, step.key),
         ),

@@ -1,10 +1,8 @@
 -- Blocks of words, nested. A place in a block is a list of numbers, one for each level.
-use mathlib.Core.Bool.{cond}
 use mathlib.Core.List.{List, [], _∷_}
 use mathlib.Core.Logic.{Dec·and}
-use Prim.Native.Nat.{ℕ, zero, suc, _+_, _-_, _*_, _/_, _%_, _<_}
+use Prim.Native.Nat.{ℕ, zero, suc, _+_, _-_, _*_, _<_}
 use native.Mathlib.Decide.{decLt}
-use lib.Dec.{ltb}
 
 -- words in nested blocks, which cannot overlap
 pub data Block : Type 0 where
@@ -51,13 +49,6 @@ offset end p = 0
 abbrev pub step : List ℕ → List ℕ
 step [] = []
 step (i ∷ p) = suc i ∷ p
-
--- the place that lies at word i
-unfoldable pub locate : Block → ℕ → List ℕ
-locate (words n) i = i ∷ []
-locate (times n b) i = i / size b ∷ locate b (i % size b)
-locate (followed-by a b) i = cond (ltb i (size a)) (0 ∷ locate a i) (step (locate b (i - size a)))
-locate end i = []
 
 -- whether a list is a place of the block can be decided
 pub decIn : (b : Block) (p : List ℕ) → Dec (In b p)

@@ -6,10 +6,10 @@ use mathlib.Core.List.{List, [], _∷_}
 use Prim.Native.Nat.{ℕ, zero, suc}
 use borrow.Author.Tests.{eqb-true, eq-eqb}
 use lib.Dec.{eqb}
-use lib.ListN.{getD, set, replicate}
+use lib.ListN.{getD, set}
 use Rattle.base.specs.Test.{ifd, and-both, not-both}
 use Rattle.base.specs.Update.{upd}
-use Rattle.layout.specs.Block.{Block, size, In, decIn, offset, locate}
+use Rattle.layout.specs.Block.{Block, In, decIn, offset}
 
 -- are two places the same; where the numbers of two families differ, this computes
 abbrev pub same : List ℕ → List ℕ → Bool
@@ -97,11 +97,3 @@ module _ {A : Type 0} (C : Coding A) where
     unfoldable pub stored : List ℕ → List (Put A) → List ℕ
     stored w [] = w
     stored w (put a v ∷ ps) = stored (set w (at a) v) ps
-
-    -- the address at word i
-    unfoldable pub nth : ℕ → A
-    nth i = C .back (locate b i)
-
-    -- zeros everywhere, as stores
-    unfoldable pub clear : List (Put A)
-    clear = puts nth (replicate (size b) 0)

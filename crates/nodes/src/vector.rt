@@ -1,12 +1,10 @@
 // A server's vector: sixteen words with the taken flags of its slots, 64 in each word, lowest bit first.
 use crate::found::Found;
 ghost use mathlib.Core.Path.{_≡_};
-ghost use mathlib.Core.Bool.{false};
 ghost use Prim.Native.Nat.{_<_, _≤_};
-ghost use lib.ListN.{getD};
 ghost use Rattle.nodes.specs.Found.{found, Inside};
 ghost use Rattle.nodes.specs.Vector.{free-from, first-free};
-ghost use Rattle.nodes.specs.Flags.{bits, otherwise, all-flags, flags-in, with-flag};
+ghost use Rattle.nodes.specs.Flags.{bits, otherwise, flags-in, with-flag};
 
 // the lowest bit that is 0, from bit p on, or 64
 fn first_zero(x: u64, p: u32) -> u32
@@ -53,14 +51,6 @@ pub fn first_free(words: [u64; 16], slots: usize, slot: usize) -> Found
         Found::At(_) => above,
         Found::Absent => free_from(words, slots, 0),
     }
-}
-
-// whether a slot is taken
-pub fn is_taken(words: [u64; 16], slot: usize) -> bool
-    requires { ⌜ slot < 1024 ⌝ }
-    ensures { λ r. ⌜ r ≡ getD (all-flags words) slot false ⌝ }
-{
-    memory::bits::has(words[slot / 64], (slot % 64) as u32)
 }
 
 // the vector with a slot's flag set or cleared

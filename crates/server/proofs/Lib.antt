@@ -6,4 +6,3 @@ pub mod CheckExits
 pub mod StoreExits
 pub mod RangeExits
 pub mod HandOutExits
-pub mod FreshExits

@@ -1,17 +1,12 @@
 -- A newly opened server: "A new store has the root, an empty leaf, in node 0; all versions are 0."
 use mathlib.Core.Bool.{cond}
-use mathlib.Core.List.{List, [], _∷_, _++_}
+use mathlib.Core.List.{List, [], _∷_}
 use Prim.Native.Nat.{ℕ}
 use lib.Dec.{eqb}
-use Rattle.layout.specs.Space.{Put, put, clear}
+use Rattle.layout.specs.Space.{Put, put}
 use Rattle.server.specs.declared.place.Place.{Place}
 use Rattle.server.specs.declared.place.Place.the-variants.{Vector, Node}
-use Rattle.server.specs.Layout.{places, server-block}
 
 -- the stores of the first leaf, at server 0: its kind, and its flag
 unfoldable pub first-leaf : ℕ → List (Put Place)
 first-leaf s = cond (eqb s 0) (put (Node 0 0) 1 ∷ put (Vector 0) 1 ∷ []) []
-
--- opening server s: zeros at every place of its part, and then the first leaf
-unfoldable pub open-step : ℕ → ℕ → (Place → ℕ) → List (Put Place)
-open-step s n m = clear places (server-block n) ++ first-leaf s

@@ -1,6 +1,5 @@
 // One server's part of the memory: what it stores, checks, locks and hands out.
 pub mod check;
-pub mod fresh;
 pub mod hand_out;
 pub mod lock;
 pub mod object;

@@ -1,7 +1,6 @@
 // A line read byte by byte, so that it may be longer than any buffer: leading zeros have no limit.
 ghost use mathlib.Core.Path.{_≡_};
 ghost use Prim.Native.Nat.{_<_};
-ghost use Rattle.text.specs.Line.{line-of};
 ghost use Rattle.text.specs.Reader.{start, spoiled, with-digit, ended, next, finish};
 
 // What a line says.
@@ -108,17 +107,4 @@ impl Reader {
         self.good = false;
         self
     }
-}
-
-// What the bytes of a whole line say.
-pub fn read_line(bytes: &[u8]) -> Line
-    ensures { λ r. ⌜ r ≡ line-of (now (bytes .entry)) ⌝ }
-{
-    let mut reader = Reader::start();
-    let mut i: usize = 0;
-    while i < bytes.len() {
-        reader = reader.next(bytes[i]);
-        i += 1;
-    }
-    reader.finish()
 }

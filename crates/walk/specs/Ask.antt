@@ -23,6 +23,7 @@ use Rattle.client.specs.Have.{is-copied}
 use Rattle.client.specs.Run.{among}
 use Rattle.client.specs.Lent.{OwnFits, own-find, own-record, own-count, own-list, used-in, pushed}
 use Rattle.client.specs.Answered.{entered}
+use Rattle.walk.specs.Bounds.{end-of-numbers, used-room}
 use Rattle.walk.specs.Walk.{goes, lack, walked, carry}
 
 -- ---- a node at hand has at most 14 keys, and a level of at most 4
@@ -72,9 +73,9 @@ nothing = 0 ∷ []
 
 -- ---- the copies in use: object 97 may be among them
 pub record Noted (m : ClientWord → ℕ) (u : List ℕ) : Type 0 where
-  pub long : 98 ≤ length u
+  pub long : used-room ≤ length u
   pub few : count m Reads + getD u 0 0 ≤ 97
-  pub each : (i : ℕ) → i < getD u 0 0 → getD u (i + 1) 0 < 16385
+  pub each : (i : ℕ) → i < getD u 0 0 → getD u (i + 1) 0 < end-of-numbers
 
 -- ---- what a question comes to
 -- for every way on, the walk of the plan is what was told, or goes on with the record's value

@@ -14,6 +14,7 @@ pub mod Seek
 pub mod Near
 pub mod Begin
 -- how a walk stops; the work step of an operation that only reads
+pub mod Operation
 pub mod Stopped
 pub mod Look
 -- own writes, slots taken and freed

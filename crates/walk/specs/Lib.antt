@@ -1,5 +1,7 @@
 -- The walk of a plan against its run over what the client has: questions, the way down, what only reads, slots.
 
+-- where numbers end
+pub mod Bounds
 -- how a walk is told; nodes as the plans' entries
 pub mod Entries
 pub mod Walk
@@ -11,6 +13,8 @@ pub mod Down
 pub mod Lookup
 pub mod Seek
 pub mod Near
+-- the operations, by their numbers
+pub mod Operation
 -- how a walk stops; the work step of an operation that only reads
 pub mod Stopped
 pub mod Look

@@ -1,8 +1,7 @@
 -- The work step of an operation that only reads: it writes nothing, so the last questions let every answer pass.
 use mathlib.Core.Path.{_≡_}
-use mathlib.Core.Bool.{Bool, true, false}
 use mathlib.Core.List.{List, []}
-use Prim.Native.Nat.{ℕ, zero, suc}
+use Prim.Native.Nat.{ℕ}
 use Rattle.operations.specs.Object.{Ans, Writes}
 use Rattle.operations.specs.Slot.{TreeSizes}
 use Rattle.walk.specs.declared.walk.Stop.{Stop}
@@ -10,16 +9,6 @@ use Rattle.client.specs.Layout.{ClientWord}
 use Rattle.client.specs.Work.{answers, worked}
 use Rattle.walk.specs.Stopped.{Stopped, Filled}
 use Rattle.client.specs.Work as C
-
--- "2 lookup", "4 next key above, 5 previous key below"
-abbrev pub only-reads : ℕ → Bool
-only-reads zero = false
-only-reads (suc zero) = false
-only-reads (suc (suc zero)) = true
-only-reads (suc (suc (suc zero))) = false
-only-reads (suc (suc (suc (suc zero)))) = true
-only-reads (suc (suc (suc (suc (suc zero))))) = true
-only-reads (suc (suc (suc (suc (suc (suc n)))))) = false
 
 -- the walk of such an operation has ended as its work step does, and nothing is written; the lent list has the copies that it used
 pub record Looks (z : TreeSizes) (m : ClientWord → ℕ) (s : Stop) (u₀ u : List ℕ) : Type 0 where

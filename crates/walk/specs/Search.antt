@@ -11,6 +11,7 @@ use Rattle.nodes.specs.Placement.{row}
 use Rattle.operations.specs.Object.{flag, taken, Writes}
 use Rattle.operations.specs.Slot.{TreeSizes, chosen, search, present, take-on}
 use Rattle.operations.specs.Path.{TreePlan}
+use Rattle.walk.specs.Bounds.{end-of-slots}
 use Rattle.walk.specs.declared.search.Taken.{Taken}
 use Rattle.walk.specs.declared.walk.Stop.{Stop}
 use Rattle.client.specs.Layout.{ClientWord}
@@ -26,7 +27,7 @@ pub record LookedInRow (z : TreeSizes) (m : ClientWord → ℕ) (x u : List ℕ)
   pub asks : (w : Writes) → Holds-writes z x w → (ss : List ℕ) (k : ℕ → TreePlan)
       → walked z m (search z w slot (present (z .servers) (s ∷ ss)) k) (used-in u)
       ≡ carry t (used-in u′) (λ us. walked z m (chosen s (slot-in f) k (search z w slot (present (z .servers) ss) k)) us)
-  pub near : Inside f 1024
+  pub near : Inside f end-of-slots
   pub noted : Noted m u′
   pub long : length u′ ≡ length u
 

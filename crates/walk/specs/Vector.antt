@@ -11,6 +11,7 @@ use Rattle.nodes.specs.Found.{Inside}
 use Rattle.operations.specs.Object.{vector, fetched, Val, flags, Writes}
 use Rattle.operations.specs.Slot.{TreeSizes, chosen, search}
 use Rattle.operations.specs.Path.{TreePlan}
+use Rattle.walk.specs.Bounds.{end-of-slots}
 use Rattle.walk.specs.declared.walk.Stop.{Stop}
 use Rattle.walk.specs.declared.walk.Stop.the-variants.{Going, LacksVector}
 use Rattle.client.specs.Layout.{ClientWord}
@@ -51,6 +52,6 @@ pub record Looked (z : TreeSizes) (m : ClientWord → ℕ) (x u : List ℕ) (s s
   pub asks : (w : Writes) → Holds-writes z x w → (ss : List ℕ) (k : ℕ → TreePlan)
       → walked z m (search z w slot (s ∷ ss) k) (used-in u) ≡ carry t (used-in u′) (λ us. walked z m (chosen s (slot-in f) k (search z w slot ss k)) us)
   pub there : goes t ≡ true → s < z .servers
-  pub near : Inside f 1024
+  pub near : Inside f end-of-slots
   pub noted : Noted m u′
   pub long : length u′ ≡ length u

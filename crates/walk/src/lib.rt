@@ -2,6 +2,7 @@
 pub mod down;
 pub mod look;
 pub mod lookup;
+pub mod operation;
 pub mod search;
 pub mod seek;
 pub mod take;

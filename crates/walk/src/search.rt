@@ -24,6 +24,7 @@ ghost use Rattle.operations.specs.Slot.{present};
 ghost use Rattle.client.specs.Record.{sizes};
 ghost use Rattle.client.specs.Sets.{held};
 ghost use Rattle.client.specs.Lent.{OwnFits};
+ghost use Rattle.walk.specs.Bounds.{end-of-slots, end-of-names, own-most};
 ghost use Rattle.walk.specs.Ask.{Walking, WalkingOwn, Writing};
 ghost use Rattle.walk.specs.Counted.{counts-one, counts};
 ghost use Rattle.walk.specs.Vector.{VectorAsked, passes, Looked};
@@ -32,7 +33,7 @@ ghost use Rattle.client.specs.Layout.{ClientPart};
 
 // A server's vector with own write i counted.
 fn count_one(own: &[u64], s: usize, i: usize, words: [u64; 16]) -> [u64; 16]
-    requires { ⌜ (i < 20) × OwnFits (now own) ⌝ }
+    requires { ⌜ (i < own-most) × OwnFits (now own) ⌝ }
     ensures { λ r. ⌜ r ≡ counts-one (now (own .entry)) s i words ⌝ }
 {
     let number = own[34 * i + 1];
@@ -117,7 +118,7 @@ fn look_on(
     slot: usize,
 ) -> Chosen
     requires { ⌜ WalkingOwn servers (now part) (now own) (now used) ⌝ }
-    requires above { ⌜ slot < 1024 ⌝ }
+    requires above { ⌜ slot < end-of-slots ⌝ }
     ensures { λ r. ⌜ Looked (sizes servers slots) (held (now (part .entry))) (now (own .entry)) (now (used .entry)) s slot (r .stop)
         (r .found) (now (used .exit)) ⌝ }
 {
@@ -152,7 +153,7 @@ fn look_next(
     slot: usize,
 ) -> Chosen
     requires { ⌜ WalkingOwn servers (now part) (now own) (now used) ⌝ }
-    requires above { ⌜ slot < 1024 ⌝ }
+    requires above { ⌜ slot < end-of-slots ⌝ }
     ensures { λ r. ⌜ LookedInRow (sizes servers slots) (held (now (part .entry))) (now (own .entry)) (now (used .entry)) s slot
         (r .stop) (r .found) (now (used .exit)) ⌝ }
 {
@@ -172,7 +173,7 @@ pub struct Taken {
 }
 
 fn slot_name(s: usize, slot: usize) -> u64
-    requires { ⌜ (s < 8) × (slot < 1024) ⌝ }
+    requires { ⌜ (s < 8) × (slot < end-of-slots) ⌝ }
     ensures { λ r. ⌜ r ≡ name s slot ⌝ }
 {
     let n = Name::new(s as u64, slot as u64);
@@ -191,7 +192,7 @@ fn search(
 ) -> Taken
     requires { ⌜ WalkingOwn servers (now part) (now own) (now used) ⌝ }
     requires from { ⌜ home < 8 ⌝ }
-    requires above { ⌜ slot < 1024 ⌝ }
+    requires above { ⌜ slot < end-of-slots ⌝ }
     ensures { λ r. ⌜ Sought (sizes servers slots) (held (now (part .entry))) (now (own .entry)) (now (used .entry))
         (present servers (row home)) slot r (now (used .exit)) ⌝ }
 {
@@ -234,7 +235,7 @@ fn search_one(
     slot: usize,
 ) -> Taken
     requires { ⌜ WalkingOwn servers (now part) (now own) (now used) ⌝ }
-    requires above { ⌜ slot < 1024 ⌝ }
+    requires above { ⌜ slot < end-of-slots ⌝ }
     ensures { λ r. ⌜ Sought (sizes servers slots) (held (now (part .entry))) (now (own .entry)) (now (used .entry)) (s ∷ []) slot r
         (now (used .exit)) ⌝ }
 {
@@ -266,8 +267,8 @@ pub fn take_for(
     used: &mut [u64],
     name: u64,
 ) -> Taken
-    requires { ⌜ Writing servers (now part) (now own) (now used) 20 ⌝ }
-    requires there { ⌜ name < 8192 ⌝ }
+    requires { ⌜ Writing servers (now part) (now own) (now used) own-most ⌝ }
+    requires there { ⌜ name < end-of-names ⌝ }
     ensures { λ r. ⌜ TakenFor (sizes servers slots) (held (now (part .entry))) (now (own .entry)) (now (used .entry)) name r
         (now (own .exit)) (now (used .exit)) ⌝ }
 {
@@ -295,8 +296,8 @@ pub fn take_on(
     s: usize,
     slot: usize,
 ) -> Taken
-    requires { ⌜ Writing servers (now part) (now own) (now used) 20 ⌝ }
-    requires above { ⌜ slot < 1024 ⌝ }
+    requires { ⌜ Writing servers (now part) (now own) (now used) own-most ⌝ }
+    requires above { ⌜ slot < end-of-slots ⌝ }
     ensures { λ r. ⌜ TakenOn (sizes servers slots) (held (now (part .entry))) (now (own .entry)) (now (used .entry)) (s ∷ []) slot r
         (now (own .exit)) (now (used .exit)) ⌝ }
 {

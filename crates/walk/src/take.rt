@@ -9,11 +9,12 @@ use client::own::put_own;
 use client::range::single;
 use nodes::node::Node;
 ghost use Prim.Native.Nat.{_<_};
-ghost use lib.ListN.{getD};
 ghost use mathlib.Core.Bool.{false};
 ghost use Rattle.operations.specs.Object.{node, flag, taken, free};
 ghost use Rattle.client.specs.Record.{sizes};
 ghost use Rattle.client.specs.Sets.{held};
+ghost use Rattle.client.specs.Lent.{own-count};
+ghost use Rattle.walk.specs.Bounds.{end-of-names, own-most};
 ghost use Rattle.walk.specs.Ask.{OwnGood, WalkingOwn, Writing};
 ghost use Rattle.walk.specs.Take.{NodeTaken, FlagTaken, Wrote, Released};
 
@@ -52,7 +53,7 @@ pub fn take_flag(
     used: &mut [u64],
     name: u64,
 ) -> Stop
-    requires { ⌜ Writing servers (now part) (now own) (now used) 20 ⌝ }
+    requires { ⌜ Writing servers (now part) (now own) (now used) own-most ⌝ }
     ensures { λ r. ⌜ FlagTaken (sizes servers slots) (held (now (part .entry))) (now (own .entry)) (now (used .entry)) name r
         (now (own .exit)) (now (used .exit)) ⌝ }
 {
@@ -74,7 +75,7 @@ pub fn take_flag(
 }
 
 fn free_flag(own: &mut [u64], name: u64)
-    requires { ⌜ (name < 8192) × OwnGood (now own) × (getD (now own) 0 0 < 20) ⌝ }
+    requires { ⌜ (name < end-of-names) × OwnGood (now own) × (own-count (now own) < own-most) ⌝ }
     ensures { λ _. ⌜ Wrote (now (own .entry)) (flag name) (taken false) (now (own .exit)) ⌝ }
 {
     let number = flag_number(name);
@@ -83,7 +84,7 @@ fn free_flag(own: &mut [u64], name: u64)
 }
 
 fn free_node(own: &mut [u64], name: u64)
-    requires { ⌜ (name < 8192) × OwnGood (now own) × (getD (now own) 0 0 < 20) ⌝ }
+    requires { ⌜ (name < end-of-names) × OwnGood (now own) × (own-count (now own) < own-most) ⌝ }
     ensures { λ _. ⌜ Wrote (now (own .entry)) (node name) free (now (own .exit)) ⌝ }
 {
     let number = node_number(name);

@@ -22,6 +22,7 @@ ghost use Rattle.operations.specs.Object.{meta, node, flag};
 ghost use Rattle.client.specs.Record.{sizes};
 ghost use Rattle.client.specs.Sets.{held};
 ghost use Rattle.client.specs.Lent.{Lent, used-in};
+ghost use Rattle.walk.specs.Bounds.{end-of-names, end-of-numbers, used-room};
 ghost use Rattle.walk.specs.Walk.{goes, is-answer, over};
 ghost use Rattle.walk.specs.Ask.{Noted, Numbered, Outside, Answer, nothing, popped, noted-copy, stopped, Walking, WalkingOwn};
 ghost use Rattle.client.specs.Layout.{ClientPart};
@@ -83,7 +84,7 @@ pub fn over(part: &[u8], used: &[u64]) -> bool
 
 // The last copy in use is taken back.
 pub fn pop_used(used: &mut [u64])
-    requires { ⌜ (0 < getD (now used) 0 0) × (98 ≤ length (now used)) ⌝ }
+    requires { ⌜ (0 < getD (now used) 0 0) × (used-room ≤ length (now used)) ⌝ }
     ensures { λ _. ⌜ now (used .exit) ≡ popped (now (used .entry)) ⌝ }
 {
     let count = used[0];
@@ -124,7 +125,7 @@ fn ask_number(
     number: u64,
     lacks: Stop,
 ) -> Asked
-    requires { ⌜ (number < 16385) × Walking servers (now part) (now used) ⌝ }
+    requires { ⌜ (number < end-of-numbers) × Walking servers (now part) (now used) ⌝ }
     ensures { λ r. ⌜ Numbered (sizes servers slots) (held (now (part .entry))) nothing (now (used .entry)) number lacks (r .stop)
         (r .node) (now (used .exit)) ⌝ }
 {
@@ -163,17 +164,17 @@ fn ask_outside(part: &[u8], used: &mut [u64]) -> Asked
 }
 
 pub fn node_number(name: u64) -> u64
-    requires { ⌜ name < 8192 ⌝ }
+    requires { ⌜ name < end-of-names ⌝ }
     ensures { λ r. ⌜ r ≡ 1 + name ⌝ }
-    ensures within { λ r. ⌜ r < 16385 ⌝ }
+    ensures within { λ r. ⌜ r < end-of-numbers ⌝ }
 {
     1 + name
 }
 
 pub fn flag_number(name: u64) -> u64
-    requires { ⌜ name < 8192 ⌝ }
+    requires { ⌜ name < end-of-names ⌝ }
     ensures { λ r. ⌜ r ≡ 8193 + name ⌝ }
-    ensures within { λ r. ⌜ r < 16385 ⌝ }
+    ensures within { λ r. ⌜ r < end-of-numbers ⌝ }
 {
     8193 + name
 }
@@ -209,7 +210,7 @@ fn see_number(
     number: u64,
     lacks: Stop,
 ) -> Asked
-    requires { ⌜ (number < 16385) × WalkingOwn servers (now part) (now own) (now used) ⌝ }
+    requires { ⌜ (number < end-of-numbers) × WalkingOwn servers (now part) (now own) (now used) ⌝ }
     ensures { λ r. ⌜ Numbered (sizes servers slots) (held (now (part .entry))) (now (own .entry)) (now (used .entry)) number lacks
         (r .stop) (r .node) (now (used .exit)) ⌝ }
 {

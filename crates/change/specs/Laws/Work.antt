@@ -2,8 +2,7 @@
 use mathlib.Core.Path.{_≡_, refl, sym, _∙_, ap}
 use mathlib.Core.Bool.{Bool, true, false, cond, not}
 use mathlib.Core.List.{List, []}
-use Prim.Native.Nat.{ℕ, zero, suc, _+_, _≤_}
-use native.Mathlib.Omega.{arith}
+use Prim.Native.Nat.{ℕ, _+_, _≤_}
 use lib.Dec.{eqb, ltb}
 use lib.ListN.{length}
 use borrow.Author.Tests.{not-true, not-false, eq-eqb, ne-eqb}
@@ -26,7 +25,11 @@ use Rattle.walk.specs.Laws.Begin.{nothing-used, nothing-noted}
 use Rattle.walk.specs.Lookup.{ended}
 use Rattle.walk.specs.Stopped.{Waiting, stop-of, Stopped, Filled}
 use Rattle.walk.specs.Laws.Stopped.{noted-in-use, is-filled, R, run-is, never, told-used, Given, stops, given}
-use Rattle.walk.specs.Look.{only-reads}
+use Rattle.walk.specs.declared.operation.Update.{Update}
+use Rattle.walk.specs.declared.operation.Update.the-variants.{Insert, Delete, Migrate}
+use Rattle.walk.specs.declared.operation.Operation.the-variants.{Write}
+use Rattle.walk.specs.Operation.{operation-of}
+use Rattle.walk.specs.Laws.Operation.{update-number, writes-number}
 use Rattle.change.specs.Mute.{stands}
 use Rattle.change.specs.Operated.{Operated}
 use Rattle.change.specs.Fit.{entries-fit}
@@ -142,38 +145,27 @@ module _ (z : TreeSizes) (m : ClientWord → ℕ) (eight : z .servers ≤ 8) (wa
 
 pub ruleset work-exits = (work-stops, own-kept, work-refused, work-aborts, work-answers)
 
--- ---- by the operation's number
-only-six : (n : ℕ) → (n ≡ 0 → ⊥) → n ≤ 6 → only-reads n ≡ false → (n ≡ 1 → ⊥) → (n ≡ 3 → ⊥) → n ≡ 6
-only-six zero n₀ h r n₁ n₃ = absurd (n₀ refl)
-only-six (suc zero) n₀ h r n₁ n₃ = absurd (n₁ refl)
-only-six (suc (suc zero)) n₀ h r n₁ n₃ = cc
-only-six (suc (suc (suc zero))) n₀ h r n₁ n₃ = absurd (n₃ refl)
-only-six (suc (suc (suc (suc zero)))) n₀ h r n₁ n₃ = cc
-only-six (suc (suc (suc (suc (suc zero))))) n₀ h r n₁ n₃ = cc
-only-six (suc (suc (suc (suc (suc (suc n)))))) n₀ h r n₁ n₃ = omega arith
-
-module _ (z : TreeSizes) (m : ClientWord → ℕ) (x u : List ℕ) (s : Stop) (x′ u′ : List ℕ) (op key : ℕ) (po : op ≡ m op-number) (pk : key ≡ m op-key) where
+-- ---- by the operation
+module _ (z : TreeSizes) (m : ClientWord → ℕ) (x u : List ℕ) (s : Stop) (x′ u′ : List ℕ) (op : Update) (key : ℕ) (po : operation-of (m op-number) ≡ Write op) (pk : key ≡ m op-key) where
   abbrev By : TreePlan → Type 0
   By p = Operated z m x u p s x′ u′
 
   by-plan : (p : TreePlan) → reading z (waiting m) ≡ p → By p → By (reading z (waiting m))
   by-plan p e h = rw e h
 
-  pub by-insert : (value : ℕ) → op ≡ 1 → value ≡ m op-value → By (insert-plan z key value) → By (reading z (waiting m))
-  by-insert value e pv h = let q : m op-number ≡ 1 = sym po ∙ e in by-plan (insert-plan z key value) (rw (q, pk, pv)) h
+  number-is : (r : Update) → op ≡ r → m op-number ≡ update-number r
+  number-is r e = writes-number (m op-number) r (po ∙ ap Write e)
 
-  pub by-delete : op ≡ 3 → By (delete-plan z key) → By (reading z (waiting m))
-  by-delete e h = let q : m op-number ≡ 3 = sym po ∙ e in by-plan (delete-plan z key) (rw (q, pk)) h
+  pub by-insert : (value : ℕ) → op ≡ Insert → value ≡ m op-value → By (insert-plan z key value) → By (reading z (waiting m))
+  by-insert value e pv h = by-plan (insert-plan z key value) (rw (number-is Insert e, pk, pv)) h
 
-  -- no other number is left
-  module _ (wait : Waiting m) (writes : only-reads (m op-number) ≡ false) (n₁ : op ≡ 1 → ⊥) (n₃ : op ≡ 3 → ⊥) where
-    six : m op-number ≡ 6
-    six = only-six (m op-number) (wait .some) (wait .known) writes (λ q. n₁ (po ∙ q)) (λ q. n₃ (po ∙ q))
+  pub by-delete : op ≡ Delete → By (delete-plan z key) → By (reading z (waiting m))
+  by-delete e h = by-plan (delete-plan z key) (rw (number-is Delete e, pk)) h
 
-    pub by-migrate : (server : ℕ) → server ≡ m op-server → By (migrate-plan z key server) → By (reading z (waiting m))
-    by-migrate server pv h = by-plan (migrate-plan z key server) (rw (six, pk, pv)) h
+  pub by-migrate : (server : ℕ) → op ≡ Migrate → server ≡ m op-server → By (migrate-plan z key server) → By (reading z (waiting m))
+  by-migrate server e pv h = by-plan (migrate-plan z key server) (rw (number-is Migrate e, pk, pv)) h
 
-pub ruleset by-number = (by-insert, by-delete, by-migrate)
+pub ruleset by-operation = (by-insert, by-delete, by-migrate)
 
 -- ---- what the parts of the work step ask for
 pub ready-good : (x u : List ℕ) → Ready x u → OwnGood x

@@ -39,7 +39,11 @@ use Rattle.walk.specs.declared.walk.Stop.{Stop}
 use Rattle.walk.specs.declared.walk.Stop.the-variants.{Going, LacksMeta, LacksNode, LacksVector, Refused, Aborts, Answers}
 use Rattle.walk.specs.Walk.{is-answer, lack}
 use Rattle.walk.specs.Stopped.{Waiting, stop-of, Stopped}
-use Rattle.walk.specs.Look.{only-reads, Looks}
+use Rattle.walk.specs.declared.operation.Operation.{Operation}
+use Rattle.walk.specs.declared.operation.Operation.the-variants.{Unknown}
+use Rattle.walk.specs.Operation.{operation-of}
+use Rattle.walk.specs.Laws.Operation.{not-unknown}
+use Rattle.walk.specs.Look.{Looks}
 use Rattle.change.specs.Work.{Ready, Works}
 use Rattle.steps.specs.declared.sizes.Sizes.{Sizes}
 use Rattle.steps.specs.declared.outcome.Outcome.{Outcome}
@@ -94,21 +98,25 @@ pub looks-lent : (z : Sizes) (b : List ℕ) (c k : ℕ) (s : Stop) (u₀ u : Lis
 unfolding sets.held
 looks-lent z b c k s u₀ u l h e d = subst (λ (m : ClientWord → ℕ). Looks (tree-sizes z) m s u₀ u) (client-lent z c k b h e (l .room)) d
 
--- which of the two it is
-module _ (z : Sizes) (b : List ℕ) (c k : ℕ) (l : Store-in z (length b)) (h : c < z .clients) (e : k ≡ client-at z c) (r : Bool) where
-  pub reads-lent : r ≡ only-reads (sets.held (midOf (8 * k) (length b - 8 * k) b) op-number) → r ≡ only-reads (of-client z (view b) c op-number)
+-- which operation it is
+module _ (z : Sizes) (b : List ℕ) (c k : ℕ) (l : Store-in z (length b)) (h : c < z .clients) (e : k ≡ client-at z c) (r : Operation) where
+  pub operation-lent : r ≡ operation-of (sets.held (midOf (8 * k) (length b - 8 * k) b) op-number) → r ≡ operation-of (of-client z (view b) c op-number)
   unfolding sets.held
-  reads-lent d = subst (λ (m : ClientWord → ℕ). r ≡ only-reads (m op-number)) (client-lent z c k b h e (l .room)) d
+  operation-lent d = subst (λ (m : ClientWord → ℕ). r ≡ operation-of (m op-number)) (client-lent z c k b h e (l .room)) d
 
-  pub reads-so : only-reads (of-client z (view b) c op-number) ≡ r → only-reads (sets.held (midOf (8 * k) (length b - 8 * k) b) op-number) ≡ r
+  pub operation-so : operation-of (of-client z (view b) c op-number) ≡ r → operation-of (sets.held (midOf (8 * k) (length b - 8 * k) b) op-number) ≡ r
   unfolding sets.held
-  reads-so d = subst (λ (m : ClientWord → ℕ). only-reads (m op-number) ≡ r) (sym (client-lent z c k b h e (l .room))) d
+  operation-so d = subst (λ (m : ClientWord → ℕ). operation-of (m op-number) ≡ r) (sym (client-lent z c k b h e (l .room))) d
 
--- the code's test
-pub tested : (r c d : Bool) → r ≡ c → r ≡ d → c ≡ d
-tested r c d p q = sym p ∙ q
+-- one that is none doesn't wait
+pub none-unknown : {A : Type 0} (z : Sizes) (b : List ℕ) (c : ℕ) (r : Operation) → WaitingClient z b c → r ≡ operation-of (of-client z (view b) c op-number) → r ≡ Unknown → A
+none-unknown z b c r w p q = absurd (not-unknown (of-client z (view b) c op-number) (w .waiting .some) (w .waiting .known) (sym p ∙ q))
 
-pub ruleset walk-lent = (works-lent, looks-lent, waiting-lent, reads-lent, reads-so)
+-- what the code was told of it
+pub told-as : (r s t : Operation) → r ≡ s → r ≡ t → s ≡ t
+told-as r s t p q = sym p ∙ q
+
+pub ruleset walk-lent = (works-lent, looks-lent, waiting-lent, operation-lent, operation-so)
 
 pub ready : Ready (replicate 681 0) (replicate 98 0)
 ready = record { own-long = omega arith; own-none = refl; used-long = omega arith; used-none = refl }

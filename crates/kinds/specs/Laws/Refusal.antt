@@ -21,7 +21,7 @@ use Rattle.steps.specs.Whole.{Allowed, client, tree-sizes, words-for, length-fo
 use Rattle.steps.specs.Refusal.{between, allowed?, first, kind-of, open-refusal, refusal, state-fits}
 use Rattle.kinds.specs.Parts.{Store-in, stored-in}
 use Rattle.kinds.specs.Laws.Parts.{are-allowed, client-lent}
-use Rattle.kinds.specs.Refusal.{or-else, server-refusal, node-refusal, give-refusal, field-refusal, known-refusal, left, due, fitting, unfit, Sited}
+use Rattle.kinds.specs.Refusal.{first-refusal, server-refusal, node-refusal, give-refusal, field-refusal, known-refusal, left, due, fitting, unfit, Sited}
 
 pub ruleset tests = (eq-eqb, ne-eqb, lt-ltb, le-ltb, le-leb, lt-leb)
 
@@ -126,7 +126,7 @@ unfolding held unfit
 client-unfit z k b j i t l h e q = ap not (q ∙ ap (λ (m : ClientWord → ℕ). state-fits m (k .server) i) (client-lent z (k .client) j b h e (l .room)))
 
 -- ---- 6 to 8
-pub some-first : (a b : ℕ) → (a ≡ 0 → ⊥) → a ≡ or-else a b
+pub some-first : (a b : ℕ) → (a ≡ 0 → ⊥) → a ≡ first-refusal a b
 some-first a b h = sym (rw (ne-eqb a 0 h))
 
 within-servers : (z : Sizes) (s : ℕ) → z .servers ≤ 8 → server-refusal z s ≡ 0 → s < 8
@@ -168,7 +168,7 @@ module _ (z : Sizes) (k : Step) where
   unfolding give-refusal
   op-above d h = sym (rw (le-leb 1 (k .op) (omega arith), lt-leb (k .op) 5 (omega arith), ne-eqb (k .op) 6 d))
 
-  pub op-migrate : (a b r : ℕ) → k .op ≡ 6 → a ≡ server-refusal z (k .server) → b ≡ node-refusal z (k .key) → r ≡ or-else a b → r ≡ give-refusal z k
+  pub op-migrate : (a b r : ℕ) → k .op ≡ 6 → a ≡ server-refusal z (k .server) → b ≡ node-refusal z (k .key) → r ≡ first-refusal a b → r ≡ give-refusal z k
   unfolding give-refusal
   op-migrate a b r e p q h = rw (e, ← p, ← q) h
 
@@ -214,11 +214,11 @@ pub ruleset known-exits = (is-sited, no-client, asked-first, state-unfit, state-
 
 -- ---- 4 to 9: the table is what its kinds ask
 -- the table's rows 6 to 8 of a give, then x
-above-6 : (o : ℕ) (s d : Bool) (x y : ℕ) → 6 < o → or-else (cond (between 1 5 o) 0 (cond (eqb o 6) y 6)) x ≡ cond (not (between 1 6 o)) 6 (cond ((eqb o 6 || false) && s) 7 (cond (eqb o 6 && not d) 8 x))
+above-6 : (o : ℕ) (s d : Bool) (x y : ℕ) → 6 < o → first-refusal (cond (between 1 5 o) 0 (cond (eqb o 6) y 6)) x ≡ cond (not (between 1 6 o)) 6 (cond ((eqb o 6 || false) && s) 7 (cond (eqb o 6 && not d) 8 x))
 above-6 o s d x y h = rw (le-leb 1 o (omega arith), lt-leb o 5 (omega arith), lt-leb o 6 h, ne-eqb o 6 (λ e. absurd (omega arith)))
 
 by-op : (o : ℕ) (s d : Bool) (x : ℕ)
-    → or-else (cond (between 1 5 o) 0 (cond (eqb o 6) (or-else (cond s 7 0) (cond d 0 8)) 6)) x ≡ cond (not (between 1 6 o)) 6 (cond ((eqb o 6 || false) && s) 7 (cond (eqb o 6 && not d) 8 x))
+    → first-refusal (cond (between 1 5 o) 0 (cond (eqb o 6) (first-refusal (cond s 7 0) (cond d 0 8)) 6)) x ≡ cond (not (between 1 6 o)) 6 (cond ((eqb o 6 || false) && s) 7 (cond (eqb o 6 && not d) 8 x))
 by-op zero s d x = refl
 by-op (suc zero) s d x = refl
 by-op (suc (suc zero)) s d x = refl
@@ -228,10 +228,10 @@ by-op (suc (suc (suc (suc (suc zero))))) s d x = refl
 by-op (suc (suc (suc (suc (suc (suc zero)))))) true d x = refl
 by-op (suc (suc (suc (suc (suc (suc zero)))))) false true x = refl
 by-op (suc (suc (suc (suc (suc (suc zero)))))) false false x = refl
-by-op (suc (suc (suc (suc (suc (suc (suc o))))))) s d x = above-6 (suc (suc (suc (suc (suc (suc (suc o))))))) s d x (or-else (cond s 7 0) (cond d 0 8)) (omega arith)
+by-op (suc (suc (suc (suc (suc (suc (suc o))))))) s d x = above-6 (suc (suc (suc (suc (suc (suc (suc o))))))) s d x (first-refusal (cond s 7 0) (cond d 0 8)) (omega arith)
 
 -- its row 7 of a prepare or an apply, then x
-by-site : (s : Bool) (x : ℕ) → or-else (cond s 7 0) x ≡ cond s 7 x
+by-site : (s : Bool) (x : ℕ) → first-refusal (cond s 7 0) x ≡ cond s 7 x
 by-site true x = refl
 by-site false x = refl
 

@@ -1,12 +1,11 @@
 -- No two places of a block overlap (`apart`), and all lie within it (`below`): proved once for every block.
-use mathlib.Core.Path.{_≡_, refl, ap, ap₂, _∙_}
+use mathlib.Core.Path.{_≡_, refl, ap, ap₂}
 use mathlib.Core.List.{List, [], _∷_}
-use Prim.Native.Nat.{ℕ, zero, suc, _+_, _-_, _*_, _/_, _%_, _≤_, _<_}
-use native.Mathlib.Nat.{suc-mul, mul-le-mul-right, mul-zero, mul-comm, mod-lt, div-add-mod, div-lt-iff-lt-mul}
+use Prim.Native.Nat.{ℕ, zero, suc, _+_, _-_, _*_, _≤_, _<_}
+use native.Mathlib.Nat.{suc-mul, mul-le-mul-right}
 use native.Mathlib.Omega.{arith}
 use native.Mathlib.Decide.{decLt}
-use borrow.Author.Tests.{lt-ltb, le-ltb}
-use Rattle.layout.specs.Block.{Block, words, times, followed-by, end, size, In, offset, step, locate}
+use Rattle.layout.specs.Block.{Block, words, times, followed-by, end, size, In, offset, step}
 
 -- three words, then two rows of four: the last word of the second row is the eleventh, at 10
 pub offset-sample : let b = followed-by (words 3) (followed-by (times 2 (words 4)) end) in (size b ≡ 11) × (offset b (1 ∷ 1 ∷ 3 ∷ []) ≡ 10)
@@ -63,53 +62,3 @@ apart (followed-by a b) (suc i ∷ p) [] h g e = absurd g
 apart (followed-by a b) (suc i ∷ p) (zero ∷ q) h g e = absurd (omega (arith, below a q g))
 apart (followed-by a b) (suc i ∷ p) (suc j ∷ q) h g e = ap step (apart b (i ∷ p) (j ∷ q) h g (omega arith))
 apart end p q h g e = absurd h
-
--- every word of a block has a place
-none : (b : Block) → In b [] → ⊥
-unfolding In
-none (words n) h = h
-none (times n b) h = h
-none (followed-by a b) h = h
-none end h = h
-
-in-next : (a b : Block) (p : List ℕ) (i : ℕ) → In b p → offset b p ≡ i → In (followed-by a b) (step p) × (offset (followed-by a b) (step p) ≡ size a + i)
-unfolding In offset
-in-next a b [] i h e = absurd (none b h)
-in-next a b (j ∷ p) i h e = (h, rw e)
-
-filled : (n t i : ℕ) → i < n * t → 0 < t
-filled n t i h = go (decLt 0 t)
-  where
-    go : Dec (0 < t) → 0 < t
-    go (yes p) = p
-    go (no q) =
-        let z : t ≡ 0 = omega arith in
-        let e : n * t ≡ 0 = rw (z, mul-zero) in
-        absurd (omega arith)
-
-next-located : (a b : Block) (i : ℕ) → i < size (followed-by a b)
-    → (i < size a → In a (locate a i) × (offset a (locate a i) ≡ i))
-    → (i - size a < size b → In b (locate b (i - size a)) × (offset b (locate b (i - size a)) ≡ i - size a))
-    → In (followed-by a b) (locate (followed-by a b) i) × (offset (followed-by a b) (locate (followed-by a b) i) ≡ i)
-unfolding size In offset locate
-next-located a b i h first rest = go (decLt i (size a))
-  where
-    go : Dec (i < size a) → In (followed-by a b) (locate (followed-by a b) i) × (offset (followed-by a b) (locate (followed-by a b) i) ≡ i)
-    go (yes l) = rw (lt-ltb i (size a) l) (first l)
-    go (no l) =
-        let g : size a ≤ i = omega arith in
-        let r = rest (omega arith) in
-        let q = in-next a b (locate b (i - size a)) (i - size a) (r .0) (r .1) in
-        rw (le-ltb i (size a) g) (q .0, q .1 ∙ omega arith)
-
-pub located : (b : Block) (i : ℕ) → i < size b → In b (locate b i) × (offset b (locate b i) ≡ i)
-unfolding size In offset locate
-located (words n) i h = (h, refl)
-located (times n b) i h =
-    let t = size b in
-    let pos : 0 < t = filled n t i h in
-    let r = located b (i % t) (mod-lt i pos) in
-    let e : t * (i / t) + i % t ≡ i = div-add-mod i t in
-    ((div-lt-iff-lt-mul pos .1 h, r .0), rw (r .1, mul-comm (i / t) t) e)
-located (followed-by a b) i h = next-located a b i h (λ l. located a i l) (λ l. located b (i - size a) l)
-located end i h = absurd (omega arith)

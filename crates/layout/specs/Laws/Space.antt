@@ -11,9 +11,9 @@ use Rattle.base.specs.Laws.Test.{ifd-yes, ifd-no}
 use Rattle.base.specs.Test.{not-both}
 use Rattle.base.specs.Update.{upd}
 use Rattle.base.specs.Laws.Update.{upd-same, upd-other}
-use Rattle.layout.specs.Block.{Block, size, In, offset, locate}
-use Rattle.layout.specs.Laws.Block.{below, apart, located}
-use Rattle.layout.specs.Space.{same, tab, Coding, Put, put, code-inj, differ, decide, changed, puts, at, Valid, valid?, mem, stored, nth, clear}
+use Rattle.layout.specs.Block.{Block, size}
+use Rattle.layout.specs.Laws.Block.{below, apart}
+use Rattle.layout.specs.Space.{same, tab, Coding, Put, put, code-inj, differ, decide, changed, puts, at, Valid, valid?, mem, stored}
 
 pub tab-eq : (n : ℕ) (f g : ℕ → ℕ) → ((i : ℕ) → i < n → f i ≡ g i) → tab n f ≡ tab n g
 unfolding tab
@@ -179,32 +179,6 @@ module _ {A : Type 0} (C : Coding A) where
             ∙ ap (λ (u : List ℕ). getD u (at C b a) 0) (sets-eq zeros w 0 (omega (arith, whole)))
             ∙ List·getD-append zeros (drop (0 + length zeros) w) 0 (at C b a) (omega (arith, whole, at-below a h))
             ∙ getD-replicate (size b) (at C b a) 0 0 (at-below a h)
-
-    -- ---- all words of the block, where every place is one of an address
-    abbrev pub Onto : Type 0
-    Onto = (p : List ℕ) → In b p → C .code (C .back p) ≡ p
-
-    pub nth-run : Onto → Run (nth C b) 0 (size b)
-    unfolding at Valid nth
-    nth-run onto =
-        record {
-          good = λ i l. let r = located b i l in subst (In b) (sym (onto (locate b i) (r .0))) (r .0);
-          spot = λ i l. let r = located b i l in ap (offset b) (onto (locate b i) (r .0)) ∙ r .1 ∙ omega arith;
-        }
-
-    zeros-run : Onto → Run (nth C b) 0 (length {A = ℕ} (replicate (size b) 0))
-    zeros-run onto = rw (length-replicate {A = ℕ} (size b) 0) (nth-run onto)
-
-    pub stored-clear : Onto → (w : List ℕ) → stored C b w (clear C b) ≡ sets w 0 (replicate (size b) 0)
-    unfolding clear
-    stored-clear onto w = stored-run (replicate (size b) 0) w (nth C b) 0 (zeros-run onto)
-
-    pub clear-valid : Onto → AllValid (clear C b)
-    unfolding clear
-    clear-valid onto = valid-run (replicate (size b) 0) (nth C b) 0 (zeros-run onto)
-
-    pub mem-clear : Onto → (w : List ℕ) → size b ≤ length w → mem C b (stored C b w (clear C b)) ≡ (λ a. 0)
-    mem-clear onto w r = ap (mem C b) (stored-clear onto w) ∙ mem-zeros w r
 
   -- the record that was stored is the record read
   pub tab-puts-same : (n : ℕ) (vs : List ℕ) (m : A → ℕ) (f : ℕ → A) → length vs ≡ n → ((i j : ℕ) → f i ≡ f j → i ≡ j)

@@ -1,29 +1,24 @@
 -- What stands in a newly opened server's part.
 use mathlib.Core.Path.{_≡_, refl, ap, _∙_}
-use mathlib.Core.Bool.{Bool, true, false, cond}
 use mathlib.Core.List.{List, [], _∷_}
-use Prim.Native.Nat.{ℕ, _≤_, _<_}
+use Prim.Native.Nat.{ℕ, _<_}
 use native.Mathlib.Omega.{arith}
-use lib.Dec.{eqb}
 use native.Mathlib.Decide.{ℕ-discrete}
 use borrow.Author.Tests.{ne-eqb}
-use lib.ListN.{length, replicate, getD, set}
+use lib.ListN.{replicate, getD, set}
 use Rattle.layout.specs.Block.{In}
-use Rattle.layout.specs.Space.{put, Valid, mem, changed, stored, clear, tab, decide}
-use Rattle.layout.specs.Laws.Space.{AllValid, mem-stored, length-stored, clear-valid, mem-clear, tab-eq, tab-upd, upd-apart}
-use Rattle.layout.specs.Step.{stepped}
-use Rattle.layout.specs.Laws.Step.{stored-append, valid-append}
+use Rattle.layout.specs.Space.{Valid, changed, tab, decide}
+use Rattle.layout.specs.Laws.Space.{tab-eq, tab-upd, upd-apart}
 use Rattle.server.specs.declared.place.Place.{Place}
 use Rattle.server.specs.declared.place.Place.the-variants.{Vector, Node}
-use Rattle.server.specs.Layout.{places, server-block, partWords, place-code}
-use Rattle.server.specs.Laws.Layout.{places-onto}
+use Rattle.server.specs.Layout.{places, server-block, place-code}
 use Rattle.server.specs.HandOut.{vector-at, node-here}
 use Rattle.nodes.specs.Node.{made}
 use Rattle.nodes.specs.Lists.{pad}
 use Rattle.nodes.specs.Stored.{node-of}
 use Rattle.base.specs.Update.{upd}
 use Rattle.base.specs.Laws.Update.{upd-other}
-use Rattle.server.specs.Fresh.{first-leaf, open-step}
+use Rattle.server.specs.Fresh.{first-leaf}
 
 -- what stands at the places of a newly opened server
 unfoldable pub fresh : ℕ → Place → ℕ
@@ -41,23 +36,6 @@ first-node-valid n h = (h, omega arith)
 pub first-flag-valid : (n : ℕ) → Valid places (server-block n) (Vector 0)
 unfolding Valid In
 first-flag-valid n = omega arith
-
-first-valid : (n : ℕ) → 0 < n → (b : Bool) → AllValid places (server-block n) (cond b (put (Node 0 0) 1 ∷ put (Vector 0) 1 ∷ []) [])
-unfolding AllValid Valid In
-first-valid n h true = (first-node-valid n h, (first-flag-valid n, tt))
-first-valid n h false = tt
-
-pub open-inside : (s n : ℕ) (m : Place → ℕ) → 0 < n → AllValid places (server-block n) (open-step s n m)
-unfolding open-step first-leaf
-open-inside s n m h =
-    valid-append places (server-block n) (clear places (server-block n)) (first-leaf s) (clear-valid places (server-block n) (places-onto n)) (first-valid n h (eqb s 0))
-
-pub mem-opened : (s n : ℕ) (w : List ℕ) → 0 < n → partWords n ≤ length w → mem places (server-block n) (stepped places (server-block n) (open-step s n) w) ≡ fresh s
-unfolding stepped open-step fresh first-leaf partWords
-mem-opened s n w h l =
-    ap (mem places (server-block n)) (stored-append places (server-block n) (clear places (server-block n)) (first-leaf s) w)
-    ∙ mem-stored places (server-block n) (first-leaf s) (stored places (server-block n) w (clear places (server-block n))) (rw length-stored l) (first-valid n h (eqb s 0))
-    ∙ ap (λ (m : Place → ℕ). changed places m (first-leaf s)) (mem-clear places (server-block n) (places-onto n) w l)
 
 -- ---- the same, as it is handed out
 pub fresh-other : (s : ℕ) (a : Place) → ¬ (s ≡ 0) → fresh s a ≡ 0

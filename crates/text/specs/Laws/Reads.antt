@@ -8,8 +8,8 @@ use native.Mathlib.Omega.{arith}
 use native.Mathlib.Numerals.{add-one}
 use borrow.Author.Tests.{ltb-true, ltb-false, lt-ltb, le-ltb, eqb-true, eqb-false, ne-eqb}
 use lib.Dec.{eqb, ltb}
-use lib.ListN.{length, getD, set, take, length-append, length-set, List·getD-append, drop, drop-of-length-le}
-use lib.Seq.{drop-cons, take-suc-set, append-snoc, length-take-le, getD-take, getD-at}
+use lib.ListN.{length, getD, set, take, length-append, length-set, List·getD-append}
+use lib.Seq.{take-suc-set, append-snoc, length-take-le, getD-take, getD-at}
 use Rattle.base.specs.Laws.Test.{bool-cases}
 use Rattle.text.specs.declared.read.Line.{Line}
 use Rattle.text.specs.declared.read.Line.the-variants.{Sizes, Step, Bad}
@@ -219,12 +219,3 @@ unfolding line-of rest-of numbers? number?
 reads bs =
     let s : First (pieces bs) = first-piece bs in
     goes-on bs start (record { good = refl; five = refl; within = omega arith; small = omega arith }) ∙ rw (s .split)
-
--- a loop over the bytes: one more, and none left
-pub after-one : (bs : List ℕ) (r x y : Reader) (i : ℕ) → i < length bs → after r (drop i bs) ≡ y → x ≡ next r (getD bs i 0) → after x (drop (i + 1) bs) ≡ y
-unfolding after
-after-one bs r x y i h e n = rw (n, add-one i) (sym (ap (after r) (drop-cons bs i 0 h)) ∙ e)
-
-pub read-all : (bs : List ℕ) (r : Reader) (x : Line) (i : ℕ) → length bs ≤ i → after r (drop i bs) ≡ after start bs → x ≡ finish r → x ≡ line-of bs
-unfolding after
-read-all bs r x i h e f = f ∙ ap finish (sym (ap (after r) (drop-of-length-le bs h)) ∙ e) ∙ reads bs

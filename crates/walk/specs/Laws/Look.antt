@@ -2,7 +2,7 @@
 use mathlib.Core.Path.{_≡_, refl, sym, _∙_, ap}
 use mathlib.Core.Bool.{Bool, true, false}
 use mathlib.Core.List.{List, []}
-use Prim.Native.Nat.{ℕ, zero, suc, _+_, _≤_}
+use Prim.Native.Nat.{ℕ, _+_, _≤_}
 use native.Mathlib.Omega.{arith}
 use lib.Dec.{ltb}
 use lib.ListN.{length, getD}
@@ -24,34 +24,15 @@ use Rattle.walk.specs.Laws.Begin.{nothing-used}
 use Rattle.walk.specs.Lookup.{ended, Walks}
 use Rattle.walk.specs.Laws.Lookup.{ended-nothing}
 use Rattle.walk.specs.Seek.{near-plan}
+use Rattle.walk.specs.declared.operation.Query.{Query}
+use Rattle.walk.specs.declared.operation.Query.the-variants.{Lookup, Next, Previous}
+use Rattle.walk.specs.declared.operation.Operation.the-variants.{Read}
+use Rattle.walk.specs.Operation.{operation-of}
+use Rattle.walk.specs.Laws.Operation.{query-number, reads-number}
 use Rattle.walk.specs.Stopped.{Waiting, stop-of, Filled}
 use Rattle.walk.specs.Laws.Stopped.{noted-in-use, is-filled, R, run-is, never, told-used, Given, stops, given}
-use Rattle.walk.specs.Look.{only-reads, Looks}
+use Rattle.walk.specs.Look.{Looks}
 use Rattle.client.specs.Work as C
-
-module _ (n op : ℕ) (po : op ≡ n) where
-  pub reads-two : op ≡ 2 → true ≡ only-reads n
-  reads-two e = let q : n ≡ 2 = sym po ∙ e in rw q
-
-  pub reads-four : op ≡ 4 → true ≡ only-reads n
-  reads-four e = let q : n ≡ 4 = sym po ∙ e in rw q
-
-  pub reads-five : op ≡ 5 → true ≡ only-reads n
-  reads-five e = let q : n ≡ 5 = sym po ∙ e in rw q
-
-  pub reads-no : (op ≡ 2 → ⊥) → (op ≡ 4 → ⊥) → (op ≡ 5 → ⊥) → false ≡ only-reads n
-  reads-no n₂ n₄ n₅ = go n (λ q. n₂ (po ∙ q)) (λ q. n₄ (po ∙ q)) (λ q. n₅ (po ∙ q))
-    where
-      go : (k : ℕ) → (k ≡ 2 → ⊥) → (k ≡ 4 → ⊥) → (k ≡ 5 → ⊥) → false ≡ only-reads k
-      go zero n₂ n₄ n₅ = refl
-      go (suc zero) n₂ n₄ n₅ = refl
-      go (suc (suc zero)) n₂ n₄ n₅ = absurd (n₂ refl)
-      go (suc (suc (suc zero))) n₂ n₄ n₅ = refl
-      go (suc (suc (suc (suc zero)))) n₂ n₄ n₅ = absurd (n₄ refl)
-      go (suc (suc (suc (suc (suc zero))))) n₂ n₄ n₅ = absurd (n₅ refl)
-      go (suc (suc (suc (suc (suc (suc k)))))) n₂ n₄ n₅ = refl
-
-pub ruleset reads-exits = (reads-two, reads-four, reads-five, reads-no)
 
 last-none : (z : TreeSizes) (m : ClientWord → ℕ) (a : Ans) → m writes-count ≤ 48 → last-questions z m a [] ≡ answers a []
 unfolding entered count-new versions-there any-at-last
@@ -94,23 +75,17 @@ module _ (z : TreeSizes) (m : ClientWord → ℕ) (wait : Waiting m) (u : List �
               none = λ a w k. let y : answers (g .answer) [] ≡ answers a w = sym q ∙ k in let v : [] ≡ w = cc in sym v;
             }
 
-  module _ (op key : ℕ) (po : op ≡ m op-number) (pk : key ≡ m op-key) where
-    pub look-lookup : op ≡ 2 → Walks z m u (lookup-plan key) s u′ → Looks z m s u u′
-    look-lookup e h = let q : m op-number ≡ 2 = sym po ∙ e in looks (lookup-plan key) (rw (q, pk)) h
+  module _ (op : Query) (key : ℕ) (po : operation-of (m op-number) ≡ Read op) (pk : key ≡ m op-key) where
+    number-is : (r : Query) → op ≡ r → m op-number ≡ query-number r
+    number-is r e = reads-number (m op-number) r (po ∙ ap Read e)
 
-    pub look-next : op ≡ 4 → Walks z m u (near-plan true key) s u′ → Looks z m s u u′
-    look-next e h = let q : m op-number ≡ 4 = sym po ∙ e in looks (near-plan true key) (rw (q, pk)) h
+    pub look-lookup : op ≡ Lookup → Walks z m u (lookup-plan key) s u′ → Looks z m s u u′
+    look-lookup e h = looks (lookup-plan key) (rw (number-is Lookup e, pk)) h
 
-    pub look-previous : only-reads (m op-number) ≡ true → (op ≡ 2 → ⊥) → (op ≡ 4 → ⊥) → Walks z m u (near-plan false key) s u′ → Looks z m s u u′
-    look-previous r n₂ n₄ h = looks (near-plan false key) (rw (five (m op-number) r (λ q. n₂ (po ∙ q)) (λ q. n₄ (po ∙ q)), pk)) h
-      where
-        five : (n : ℕ) → only-reads n ≡ true → (n ≡ 2 → ⊥) → (n ≡ 4 → ⊥) → n ≡ 5
-        five zero r n₂ n₄ = cc
-        five (suc zero) r n₂ n₄ = cc
-        five (suc (suc zero)) r n₂ n₄ = absurd (n₂ refl)
-        five (suc (suc (suc zero))) r n₂ n₄ = cc
-        five (suc (suc (suc (suc zero)))) r n₂ n₄ = absurd (n₄ refl)
-        five (suc (suc (suc (suc (suc zero))))) r n₂ n₄ = refl
-        five (suc (suc (suc (suc (suc (suc n)))))) r n₂ n₄ = cc
+    pub look-next : op ≡ Next → Walks z m u (near-plan true key) s u′ → Looks z m s u u′
+    look-next e h = looks (near-plan true key) (rw (number-is Next e, pk)) h
 
-pub ruleset look-by-number = (look-lookup, look-next, look-previous)
+    pub look-previous : op ≡ Previous → Walks z m u (near-plan false key) s u′ → Looks z m s u u′
+    look-previous e h = looks (near-plan false key) (rw (number-is Previous e, pk)) h
+
+pub ruleset look-exits = (look-lookup, look-next, look-previous)

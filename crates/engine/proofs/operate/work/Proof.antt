@@ -1,5 +1,5 @@
 use borrow.Author.Needs.{needs}
-use Rattle.engine.specs.Laws.Work.{tested, work-unfit, waiting-client}
+use Rattle.engine.specs.Laws.Work.{work-unfit, waiting-client}
 use Rattle.engine.proofs.operate.work.Statement.{statement}
 use Rattle.engine.proofs.operate.work.Tie as tie
 
@@ -8,11 +8,7 @@ work-spec = tie.close (tie.spec
     (λ c κs. search needs)  -- fit-to-work-requires
     (λ c. search needs)  -- same-length
     (λ c. work-unfit _ _ _ _ (c .before .fit-to-work .ensures) (search needs))  -- returns
-    (λ c κs. search needs)  -- only-reads-at-requires
-    (λ c κs. (waiting-client _ _ _ _ (c .before .before .before .before .before .fit-to-work .ensures) (search needs) (search needs) (search needs) (search needs), tested _ _ _ (c .before .before .only-reads-at .ensures) (search needs)))  -- look-requires
+    (λ c κs. waiting-client _ _ _ _ (c .before .before .fit-to-work .ensures) (search needs) (search needs) (search needs) (search needs))  -- operate-requires
     (λ c. search needs)  -- same-length-2
     (λ c. search needs)  -- returns-2
-    (λ c κs. (waiting-client _ _ _ _ (c .before .before .before .before .before .fit-to-work .ensures) (search needs) (search needs) (search needs) (search needs), tested _ _ _ (c .before .before .only-reads-at .ensures) (search needs)))  -- change-requires
-    (λ c. search needs)  -- same-length-3
-    (λ c. search needs)  -- returns-3
     )

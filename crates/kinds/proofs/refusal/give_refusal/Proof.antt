@@ -7,7 +7,7 @@ pub give-refusal-spec : {M : Type 1} → statement M
 give-refusal-spec = tie.close (tie.spec
     (λ c κs. search needs)  -- server-refusal-requires
     (λ c κs. search needs)  -- node-refusal-requires
-    (λ c κs. search needs)  -- first-of-requires
+    (λ c κs. search needs)  -- first-refusal-requires
     (λ c. search (field-exits, needs))  -- returns
     (λ c. search (field-exits, needs))  -- returns-2
     (λ c. search (field-exits, needs))  -- returns-3

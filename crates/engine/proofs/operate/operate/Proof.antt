@@ -1,0 +1,20 @@
+use borrow.Author.Needs.{needs}
+use Rattle.engine.specs.Laws.Work.{told-as, none-unknown}
+use Rattle.engine.proofs.operate.operate.Statement.{statement}
+use Rattle.engine.proofs.operate.operate.Tie as tie
+
+pub operate-spec : {M : Type 1} → statement M
+operate-spec = tie.close (tie.spec
+    (λ c κs. search needs)  -- waiting-at-requires
+    (λ c. search needs)  -- enum-known-op
+    (λ c κs. (search needs, search (told-as, needs)))  -- look-requires
+    (λ c. search needs)  -- enum-known-op-2
+    (λ c κs. (search needs, search (told-as, needs)))  -- change-requires
+    (λ c. search needs)  -- enum-told
+    (λ c. search needs)  -- same-length
+    (λ c. search needs)  -- returns
+    (λ c. search needs)  -- same-length-2
+    (λ c. search needs)  -- returns-2
+    (λ c. search needs)  -- same-length-3
+    (λ c. none-unknown _ _ _ _ (search needs) (c .before .before .waiting-at .ensures) (search needs))  -- returns-3
+    )
