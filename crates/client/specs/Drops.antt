@@ -19,7 +19,7 @@ drop-each (x ∷ xs) m = andThen client-words (drop-object x) (drop-each xs) m
 unfoldable pub drop-used : List ℕ → (ClientWord → ℕ) → List (Put ClientWord)
 drop-used us m = andThen client-words drop-reads (drop-each us) m
 
--- the version of an object that was read; what is written was read (`client-fits`), so 0 is not reached
+-- the version of an object that was read; a rule that uses it has judged that it is there (`Fits.read-fits`)
 abbrev pub version-of : (ClientWord → ℕ) → Found → ℕ
 version-of m (At i) = record-at m Reads i .version
 version-of m Absent = 0

@@ -86,10 +86,11 @@ module _ (z : TreeSizes) (m : ClientWord → ℕ) where
   unfoldable pub fit-to-unlock : Bool
   fit-to-unlock = servers-fit m (z .servers) participants && numbers-fit Writes
 
-  -- write item i as server s stores it: the read of a written node; at home its record; wherever it is stored the version read
+  -- write item i as server s stores it: the read of a written node; at home, which is s, its record; wherever it is stored the version read
   unfoldable pub stored-record-fits : ℕ → ℕ → Bool
   stored-record-fits s i = not (at-home s (number-at m Writes i)) || whole-in-range z (number-at m Writes i) (record-at m Writes i)
 
+  -- the three together
   unfoldable pub write-fits : ℕ → ℕ → Bool
   write-fits s i = read-fits m i && (stored-record-fits s i && version-fits m s i)
 
@@ -97,18 +98,20 @@ module _ (z : TreeSizes) (m : ClientWord → ℕ) where
   unfoldable pub writes-fit : ℕ → Bool
   writes-fit s = all-below (count m Writes) (write-fits s)
 
-  -- write item i as copies are renewed by it: a flag and whether there is a copy of its vector; metadata and inner nodes whole
+  -- write item i as copies are renewed by it, if it is a flag: its value, and whether there is a copy of its vector
   unfoldable pub flag-renewal-fits : ℕ → Bool
   flag-renewal-fits i =
       let x = number-at m Writes i in
       let s = server-of (x - 8193) in
       (ltb s 8 && leb (m (vector-word s 0)) 1) && whole-in-range z x (record-at m Writes i)
 
+  -- if it is metadata or an inner node: whole, and the version read
   unfoldable pub inner-renewal-fits : ℕ → Bool
   inner-renewal-fits i =
       let x = number-at m Writes i in
       not (inner x (record-at m Writes i)) || (whole-in-range z x (record-at m Writes i) && young m x)
 
+  -- one or the other
   unfoldable pub renewal-fits : ℕ → Bool
   renewal-fits i = cond (ltb 8192 (number-at m Writes i)) (flag-renewal-fits i) (inner-renewal-fits i)
 

@@ -17,7 +17,7 @@ use Rattle.nodes.specs.Stored.{node-of}
 unfoldable pub held : List ℕ → ClientWord → ℕ
 held s = mem client-words client-block (view s)
 
--- the count c of a set whose limit is l. A count above it is never used: it is refused by 10 before (`client-fits`, and for another
+-- the count c of a set whose limit is l. A count above it is never used: it is refused by 10 before (`Fits.numbers-fit`, and for another
 -- client `Judge.writes`)
 abbrev pub at-most : ℕ → ℕ → ℕ
 at-most l c = cond (leb c l) c l

@@ -94,7 +94,7 @@ module _ (z : TreeSizes) (m : ClientWord → ℕ) where
   judge (aborts y) = aborted y
   judge (gives a w) = last-questions a w
 
-  -- the walk of the plan, with room for 96 objects in the read set, which has at most 96 (`client-fits`)
+  -- the walk of the plan, with room for 96 objects in the read set, which has at most 96 (`fit-to-work`)
   unfoldable pub walked : Ran
   walked = run (have z m) (new m) (96 - m reads-count) (reading z (waiting m)) []
 

@@ -69,7 +69,7 @@ fn count_fits(part: &[u8], set: Set) -> bool
 }
 
 // And their objects are objects of the store.
-pub fn numbers_fit(part: &[u8], servers: usize, slots: usize, set: Set) -> bool
+fn numbers_fit(part: &[u8], servers: usize, slots: usize, set: Set) -> bool
     requires { ⌜ ClientPart (now part) ⌝ }
     ensures { λ r. ⌜ r ≡ numbers-fit (sizes servers slots) (held (now (part .entry))) set ⌝ }
 {
@@ -309,7 +309,7 @@ fn write_fits(part: &[u8], servers: usize, slots: usize, server: u64, i: usize) 
 }
 
 // All that a server stores.
-pub fn writes_fit(part: &[u8], servers: usize, slots: usize, server: u64) -> bool
+fn writes_fit(part: &[u8], servers: usize, slots: usize, server: u64) -> bool
     requires { ⌜ ClientPart (now part) ⌝ }
     ensures { λ r. ⌜ r ≡ writes-fit (sizes servers slots) (held (now (part .entry))) server ⌝ }
 {
@@ -386,7 +386,7 @@ fn renewals_fit(part: &[u8], servers: usize, slots: usize) -> bool
 }
 
 // The renewal of copies; "a lost client gets none".
-pub fn fit_to_renew(part: &[u8], servers: usize, slots: usize) -> bool
+fn fit_to_renew(part: &[u8], servers: usize, slots: usize) -> bool
     requires { ⌜ ClientPart (now part) ⌝ }
     ensures { λ r. ⌜ r ≡ fit-to-renew (sizes servers slots) (held (now (part .entry))) ⌝ }
 {

@@ -22,7 +22,7 @@ use nodes::node::Node;
 ghost use mathlib.Core.Path.{_≡_};
 ghost use Prim.Native.Nat.{_<_};
 ghost use Rattle.client.specs.Sets.{held};
-ghost use Rattle.client.specs.Have.{copied, copied-meta, copied-node, copied-flag, copy-fits, source, look, look-fits};
+ghost use Rattle.client.specs.Have.{copied, copied-meta, copied-node, copied-flag, copy-fits, source, known-as, look-fits};
 ghost use Rattle.client.specs.Record.{sizes};
 ghost use Rattle.client.specs.Layout.{ClientPart};
 
@@ -113,7 +113,7 @@ fn copy_fits(part: &[u8], number: u64, n: Node) -> bool
 // May what was found of the object be used?
 pub fn look_fits(part: &[u8], servers: usize, slots: usize, number: u64, how: How, n: Node) -> bool
     requires { ⌜ (number < 16385) × ClientPart (now part) ⌝ }
-    ensures { λ r. ⌜ r ≡ look-fits (sizes servers slots) (held (now (part .entry))) number (look how n) ⌝ }
+    ensures { λ r. ⌜ r ≡ look-fits (sizes servers slots) (held (now (part .entry))) number (known-as how n) ⌝ }
 {
     if !fits(servers, slots, number, n) {
         return false;

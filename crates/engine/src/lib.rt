@@ -1,5 +1,5 @@
 // Opening a store, and its steps.
 pub mod open;
-pub mod operate;
+mod operate;
 pub mod step;
-pub mod walking;
+mod walking;

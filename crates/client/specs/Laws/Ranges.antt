@@ -4,7 +4,7 @@ use mathlib.Core.Bool.{Bool, true, _&&_}
 use mathlib.Core.List.{List, [], _∷_}
 use Prim.Native.Nat.{ℕ, zero, suc, _-_, _^_, _≤_, _<_}
 use native.Mathlib.Omega.{arith}
-use borrow.Author.Tests.{le-leb, leb-true}
+use borrow.Author.Tests.{leb-true}
 use native.Mathlib.Decide.{ℕ-discrete}
 use lib.Dec.{leb}
 use lib.ListN.{getD}
@@ -84,12 +84,3 @@ module _ (z : TreeSizes) (m : ClientWord → ℕ) (h : client-fits z m ≡ true)
   pub fits-write : (i : ℕ) → i < count m Writes → item-fits z m Writes i ≡ true
   fits-write i l =
       all-at (item-fits z m Writes) (count m Writes) i (and-both (all-below (count m Writes) (item-fits z m Writes)) (all-below 8 (vector-fits m)) (sets .1) .0) l
-
-  -- so the counts are what the fields say
-  pub exact-reads : count m Reads ≡ m (field 10)
-  unfolding count
-  exact-reads = rw (le-leb _ _ (fits-field 10 (omega arith)))
-
-  pub exact-writes : count m Writes ≡ m (field 11)
-  unfolding count
-  exact-writes = rw (le-leb _ _ (fits-field 11 (omega arith)))

@@ -5,12 +5,10 @@ use mathlib.Core.List.{List}
 use Prim.Native.Nat.{ℕ, zero, suc, _+_, _-_, _*_, _≤_, _<_}
 use native.Mathlib.Omega.{arith}
 use native.Mathlib.Numerals.{add-one}
-use native.Mathlib.Decide.{ℕ-discrete}
 use borrow.Author.Tests.{lt-ltb, le-ltb, le-leb, lt-leb, ltb-true}
 use borrow.Rule.Slice.PartMut.{midOf}
 use lib.Dec.{ltb}
 use lib.ListN.{length}
-use Rattle.base.specs.Test.{and-both}
 use Rattle.memory.specs.Word.{view}
 use Rattle.memory.specs.Bit.{bit}
 use Rattle.layout.specs.Space.{Valid, mem}
@@ -84,15 +82,6 @@ module _ (f : ℕ → Bool) where
 
   pub one-fails : (i n : ℕ) (b : Bool) → i < n → b ≡ f i → b ≡ false → false ≡ all-below n f
   one-fails i n b h e t = let q : n ≡ suc i + (n - suc i) = omega arith in sym (rw q (fails-on i (n - suc i) (sym e ∙ t)))
-
-  pub below-at : (n i : ℕ) → all-below n f ≡ true → i < n → f i ≡ true
-  unfolding all-below
-  below-at zero i h l = absurd (omega arith)
-  below-at (suc n) i h l = go (ℕ-discrete i n) (and-both (all-below n f) (f n) h) (λ k. below-at n i (and-both (all-below n f) (f n) h .0) k)
-    where
-      go : Dec (i ≡ n) → (all-below n f ≡ true) × (f n ≡ true) → (i < n → f i ≡ true) → f i ≡ true
-      go (yes e) p k = rw e (p .1)
-      go (no d) p k = k (omega arith)
 
   pub all-passed : (i n : ℕ) → i ≤ n → n ≤ i → all-below i f ≡ true → true ≡ all-below n f
   all-passed i n h g p = let e : n ≡ i = omega arith in sym (rw e p)
