@@ -50,9 +50,9 @@ fn in_store(mem: &mut [u8], sizes: Sizes, step: Step) -> Outcome
     requires { ⌜ Store-in sizes (length (now mem)) ⌝ }
     ensures { λ r. ⌜ Comes sizes (rule sizes step) (now (mem .entry)) r (now (mem .exit)) ⌝ }
 {
-    let number = refusal(mem, sizes, step);
-    if number != 0 {
-        return Outcome::Refused(number);
+    let refused = refusal(mem, sizes, step);
+    if refused != 0 {
+        return Outcome::Refused(refused);
     }
     let client = step.client as usize;
     let kind = kind_of(step.kind);
