@@ -3,7 +3,7 @@
 mod common;
 
 use common::player::{Player, Taste};
-use common::{inputs, layout, Random};
+use common::{inputs, layout, tried, Random};
 use gemandrolo::{Outcome, Refusal, Sizes, Store};
 
 const STATES: usize = 1000;
@@ -36,19 +36,6 @@ fn state(random: &mut Random) -> (Player, Vec<u8>) {
         player.play(random, &mut store);
     }
     (player, store.into_memory())
-}
-
-/// A step on memory that may be damaged: what is refused changes nothing. Outcomes that 01 doesn't have fail in `Outcome`'s making.
-fn tried(memory: &mut [u8], step: [u64; 6]) -> Option<Outcome> {
-    let before = memory.to_vec();
-    let outcome = match Store::resume(&mut *memory) {
-        Ok(mut store) => Some(store.step_words(step)),
-        Err(_) => None,
-    };
-    if matches!(outcome, None | Some(Outcome::Refused(_))) {
-        assert!(before == memory, "a refused step changed a byte: {step:?}");
-    }
-    outcome
 }
 
 /// A flipped bit, mostly; else a word that is all ones, large, or small.

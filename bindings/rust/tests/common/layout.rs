@@ -7,6 +7,69 @@ use std::ops::Range;
 const HEAD_WORDS: usize = 8;
 const CLIENT_WORDS: usize = 7223;
 const ITEM_WORDS: usize = 34;
+const VECTORS: usize = 7087;
+
+/// The fields of a client's part.
+pub const PHASE: usize = 0;
+pub const OP: usize = 1;
+pub const OP_KEY: usize = 2;
+pub const OP_VALUE: usize = 3;
+pub const OP_SERVER: usize = 4;
+pub const PARTICIPANTS: usize = 5;
+pub const PREPARED: usize = 6;
+pub const APPLIED: usize = 7;
+pub const LOST: usize = 9;
+pub const READS: usize = 10;
+pub const WRITES: usize = 11;
+pub const META_COPIED: usize = 12;
+pub const META_ROOT: usize = 13;
+pub const META_VERSION: usize = 14;
+
+/// How many there are.
+pub const FIELDS: usize = 15;
+
+/// The words of a record, in the form of a node.
+pub const KIND: usize = 0;
+pub const LEVEL: usize = 1;
+pub const VERSION: usize = 2;
+pub const COUNT: usize = 3;
+pub const KEYS: Range<usize> = 4..18;
+pub const SLOTS: Range<usize> = 18..33;
+
+pub const LAST_VERSION: u64 = 4_294_967_295;
+
+/// The sets of a client's part whose items are an object's number and its record.
+#[derive(Clone, Copy)]
+pub enum Set {
+    Reads,
+    Writes,
+    Copies,
+}
+
+impl Set {
+    fn base(self) -> usize {
+        [15, 3279, 4911][self as usize]
+    }
+
+    fn limit(self) -> usize {
+        [96, 48, 64][self as usize]
+    }
+}
+
+/// The objects' numbers: the metadata's, a node's, a flag's.
+pub const METADATA: u64 = 0;
+
+pub const fn node(name: u64) -> u64 {
+    1 + name
+}
+
+pub const fn flag(name: u64) -> u64 {
+    8193 + name
+}
+
+pub fn is_node(object: u64) -> bool {
+    (1..=8192).contains(&object)
+}
 
 pub fn word(memory: &[u8], i: usize) -> u64 {
     u64::from_le_bytes(memory[8 * i..8 * i + 8].try_into().expect("eight bytes"))
@@ -28,9 +91,90 @@ pub fn client_at(sizes: Sizes, client: usize) -> usize {
     server_at(sizes, sizes.servers) + CLIENT_WORDS * client
 }
 
+pub fn words(sizes: Sizes) -> usize {
+    client_at(sizes, sizes.clients)
+}
+
+/// Whose word a word is, and which one of its part.
+#[derive(Debug)]
+pub enum Part {
+    Head(usize),
+    Server(usize, usize),
+    Client(usize, usize),
+}
+
+pub fn part(sizes: Sizes, place: usize) -> Part {
+    let (servers, clients) = (server_at(sizes, 0), client_at(sizes, 0));
+    let split = |from: usize, words: usize| (from / words, from % words);
+    if place < servers {
+        Part::Head(place)
+    } else if place < clients {
+        let (server, i) = split(place - servers, server_words(sizes));
+        Part::Server(server, i)
+    } else {
+        let (client, i) = split(place - clients, CLIENT_WORDS);
+        Part::Client(client, i)
+    }
+}
+
+/// Which word of an item word i of a client's part is; none behind the sets.
+pub fn within_item(i: usize) -> Option<usize> {
+    (FIELDS..VECTORS)
+        .contains(&i)
+        .then(|| (i - FIELDS) % ITEM_WORDS)
+}
+
+/// The home of a name.
+fn home(name: u64) -> usize {
+    (name / 1024) as usize
+}
+
+/// Where a server's part has what is in the row of a name's slot: the node, the flag's lock, the table, the nodes' locks.
+fn row_at(sizes: Sizes, server: usize, name: u64) -> usize {
+    server_at(sizes, server) + 19 + 50 * (name % 1024) as usize
+}
+
 pub fn node_at(sizes: Sizes, name: u64) -> usize {
-    let (server, slot) = ((name / 1024) as usize, (name % 1024) as usize);
-    server_at(sizes, server) + 19 + 50 * slot
+    row_at(sizes, home(name), name)
+}
+
+/// An object's lock at a server.
+pub fn lock_at(sizes: Sizes, server: usize, object: u64) -> usize {
+    match object {
+        METADATA => server_at(sizes, server) + 2,
+        1..=8192 => row_at(sizes, server, object - 1) + 42 + home(object - 1),
+        _ => row_at(sizes, server, object - 8193) + 33,
+    }
+}
+
+/// The version that a server compares with the one read: the metadata's, an inner node's in the table, another node's own.
+pub fn version_at(sizes: Sizes, server: usize, object: u64, inner: bool) -> usize {
+    match object {
+        METADATA => server_at(sizes, server) + 1,
+        _ if inner => row_at(sizes, server, object - 1) + 34 + home(object - 1),
+        _ => node_at(sizes, object - 1) + VERSION,
+    }
+}
+
+/// Item i of a set: the object's number, then its record.
+pub fn item_at(sizes: Sizes, client: usize, set: Set, i: usize) -> usize {
+    client_at(sizes, client) + set.base() + ITEM_WORDS * i
+}
+
+/// A client's copy of a server's vector: whether there is one, then its words.
+pub fn vector_copy_at(sizes: Sizes, client: usize, server: usize) -> usize {
+    client_at(sizes, client) + VECTORS + 17 * server
+}
+
+/// The items that a set has, in order.
+pub fn items(memory: &[u8], sizes: Sizes, client: usize, set: Set) -> Vec<usize> {
+    let field = |i| word(memory, client_at(sizes, client) + i) as usize;
+    let count = match set {
+        Set::Reads => field(READS),
+        Set::Writes => field(WRITES),
+        Set::Copies => set.limit(),
+    };
+    (0..count).map(|i| item_at(sizes, client, set, i)).collect()
 }
 
 /// The byte at which the clients' parts begin.
@@ -53,6 +197,21 @@ pub fn pairs(memory: &[u8], sizes: Sizes) -> Vec<(u64, u64)> {
     below(memory, sizes, root, level, true, &mut out);
     assert!(out.windows(2).all(|w| w[0].0 < w[1].0), "keys rise");
     out
+}
+
+/// The leaf that a key belongs to.
+pub fn leaf_of(memory: &[u8], sizes: Sizes, key: u64) -> u64 {
+    let mut name = word(memory, server_at(sizes, 0));
+    loop {
+        let at = node_at(sizes, name);
+        if word(memory, at + LEVEL) == 0 {
+            return name;
+        }
+        let count = word(memory, at + COUNT) as usize;
+        let keys = at + KEYS.start..at + KEYS.start + count;
+        let place = keys.filter(|k| word(memory, *k) <= key).count();
+        name = word(memory, at + SLOTS.start + place);
+    }
 }
 
 fn below(
@@ -108,8 +267,8 @@ pub fn place(random: &mut Random, sizes: Sizes, target: usize) -> usize {
     let row = server + 19 + 50 * low(random, sizes.slots);
     let client = client_at(sizes, random.index(sizes.clients));
     let within = |random: &mut Random, range: Range<usize>| range.start + random.index(range.len());
-    let items = |random: &mut Random, start: usize, count: usize| {
-        start + ITEM_WORDS * low(random, count) + random.index(ITEM_WORDS)
+    let items = |random: &mut Random, set: Set| {
+        set.base() + ITEM_WORDS * low(random, set.limit()) + random.index(ITEM_WORDS)
     };
     match target {
         0 => random.index(HEAD_WORDS),
@@ -120,10 +279,10 @@ pub fn place(random: &mut Random, sizes: Sizes, target: usize) -> usize {
         5 => row + 34 + random.index(sizes.servers),
         6 => row + 42 + random.index(sizes.servers),
         7 => client + random.index(15),
-        8 => client + items(random, 15, 96),
-        9 => client + items(random, 3279, 48),
-        10 => client + items(random, 4911, 64),
-        _ => client + within(random, 7087..7223),
+        8 => client + items(random, Set::Reads),
+        9 => client + items(random, Set::Writes),
+        10 => client + items(random, Set::Copies),
+        _ => client + within(random, VECTORS..CLIENT_WORDS),
     }
 }
 

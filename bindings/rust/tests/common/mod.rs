@@ -1,9 +1,12 @@
-//! What the tests share: random numbers, the map that 01 asks for, and schedules of steps that mostly fit.
+//! What the tests share: random numbers, the map that 01 asks for, schedules of steps that mostly fit, and single steps on damaged memory.
 #![allow(dead_code)]
 
 pub mod layout;
 pub mod ledger;
 pub mod player;
+pub mod stage;
+
+use gemandrolo::{Outcome, Store};
 
 /// Random numbers that are the same in every run (SplitMix64).
 pub struct Random(pub u64);
@@ -39,4 +42,17 @@ pub fn inputs(usual: usize) -> usize {
         .ok()
         .and_then(|t| t.parse::<f64>().ok());
     (usual as f64 * times.unwrap_or(1.0)).ceil() as usize
+}
+
+/// A step on memory that may be damaged: what is refused changes nothing. Outcomes that 01 doesn't have fail in `Outcome`'s making.
+pub fn tried(memory: &mut [u8], step: [u64; 6]) -> Option<Outcome> {
+    let before = memory.to_vec();
+    let outcome = match Store::resume(&mut *memory) {
+        Ok(mut store) => Some(store.step_words(step)),
+        Err(_) => None,
+    };
+    if matches!(outcome, None | Some(Outcome::Refused(_))) {
+        assert!(before == memory, "a refused step changed a byte: {step:?}");
+    }
+    outcome
 }

@@ -1,0 +1,249 @@
+//! A store brought to a point by plain steps, and what the next step comes to when a word is damaged there.
+
+use super::layout::{self, Part, Set, LAST_VERSION};
+use gemandrolo::{Fetched, Operation, Outcome, Refusal, Sizes, Step, Store};
+
+#[derive(Clone)]
+pub struct Stage {
+    pub sizes: Sizes,
+    pub memory: Vec<u8>,
+}
+
+/// What is due where a word is damaged. Words that are in none of these lists are not read.
+pub struct Due {
+    /// The step is refused by 10.
+    pub damaged: Vec<usize>,
+    /// The step is refused by 9.
+    pub unfit: Vec<usize>,
+    /// The step takes the word for what it is: a key, a value, another object's number.
+    pub taken: Vec<usize>,
+}
+
+const DAMAGED: Outcome = Outcome::Refused(Refusal::Damaged);
+const UNFIT: Outcome = Outcome::Refused(Refusal::Unfit);
+
+/// What is due of a word: that it is taken as it is, that the step is refused by 9, by 10, or that the word is not read.
+const TAKEN: usize = 0;
+const JUDGED: usize = 2;
+const UNREAD: usize = 3;
+
+impl Stage {
+    pub fn new(servers: usize, slots: usize, clients: usize) -> Stage {
+        let sizes = Sizes {
+            servers,
+            slots,
+            clients,
+        };
+        let store = Store::new(sizes).expect("allowed sizes");
+        Stage {
+            sizes,
+            memory: store.into_memory(),
+        }
+    }
+
+    /// The outcome of a step, which may be a refusal.
+    pub fn tried(&mut self, step: Step) -> Outcome {
+        super::tried(&mut self.memory, step.words()).expect("a store")
+    }
+
+    /// A step that has to be taken.
+    pub fn step(&mut self, step: Step) -> Outcome {
+        let outcome = self.store().step(step);
+        assert!(!matches!(outcome, Outcome::Refused(_)), "{step:?}");
+        outcome
+    }
+
+    fn store(&mut self) -> Store<&mut [u8]> {
+        Store::resume(&mut self.memory[..]).expect("a store")
+    }
+
+    /// A transaction from begin to end.
+    pub fn transaction(&mut self, client: u64, asked: &[Operation]) {
+        self.opened(client, asked);
+        self.prepared(client, &[]);
+        // Servers that take no part refuse.
+        for kind in [4, 5] {
+            for server in 0..self.sizes.servers as u64 {
+                self.store().step_words([kind, client, 0, 0, 0, server]);
+            }
+        }
+        let phase = self.field(client, layout::PHASE);
+        assert_eq!(self.word(phase), 0, "the transaction has ended");
+    }
+
+    /// A commit, and prepares at these servers.
+    pub fn prepared(&mut self, client: u64, servers: &[u64]) {
+        self.step(Step::Commit { client });
+        for server in servers.iter().copied() {
+            self.step(Step::Prepare { client, server });
+        }
+    }
+
+    /// An open transaction that has been given these operations and has their answers.
+    pub fn opened(&mut self, client: u64, asked: &[Operation]) {
+        self.step(Step::Begin { client });
+        for operation in asked {
+            self.given(client, *operation);
+            while let Outcome::Fetched(_) = self.step(Step::Work { client }) {}
+        }
+    }
+
+    pub fn given(&mut self, client: u64, operation: Operation) {
+        self.step(Step::Give { client, operation });
+    }
+
+    /// Works on until the next work step fetches this, or, for none, answers.
+    pub fn before(&mut self, client: u64, what: Option<Fetched>) {
+        loop {
+            let mut next = self.clone();
+            match next.step(Step::Work { client }) {
+                Outcome::Fetched(found) if Some(found) == what => return,
+                Outcome::Answered(_) if what.is_none() => return,
+                Outcome::Fetched(_) => *self = next,
+                outcome => panic!("{outcome:?} comes before {what:?}"),
+            }
+        }
+    }
+
+    // ---- words
+
+    pub fn word(&self, place: usize) -> u64 {
+        layout::word(&self.memory, place)
+    }
+
+    /// The same store with one word set.
+    pub fn with(&self, place: usize, word: u64) -> Stage {
+        let mut damaged = self.clone();
+        layout::set_word(&mut damaged.memory, place, word);
+        damaged
+    }
+
+    pub fn field(&self, client: u64, i: usize) -> usize {
+        layout::client_at(self.sizes, client as usize) + i
+    }
+
+    pub fn fields(&self, client: u64, of: &[usize]) -> Vec<usize> {
+        of.iter().map(|i| self.field(client, *i)).collect()
+    }
+
+    /// The numbers of a set's objects.
+    pub fn numbers(&self, client: u64, set: Set) -> Vec<usize> {
+        layout::items(&self.memory, self.sizes, client as usize, set)
+    }
+
+    /// The kinds of a set's nodes.
+    pub fn kinds(&self, client: u64, set: Set) -> Vec<usize> {
+        let mut places = self.numbers(client, set);
+        places.retain(|at| layout::is_node(self.word(*at)));
+        places.iter().map(|at| at + 1 + layout::KIND).collect()
+    }
+
+    /// The record of an object in a set.
+    pub fn record(&self, client: u64, set: Set, object: u64) -> usize {
+        let items = self.numbers(client, set);
+        let at = items.into_iter().find(|at| self.word(*at) == object);
+        1 + at.expect("the set has the object")
+    }
+
+    /// Kind, level, version and count.
+    pub fn judged(&self, record: usize) -> Vec<usize> {
+        (record..record + layout::KEYS.start).collect()
+    }
+
+    /// An inner node's children.
+    pub fn children(&self, record: usize) -> Vec<usize> {
+        let first = record + layout::SLOTS.start;
+        (first..=first + self.word(record + layout::COUNT) as usize).collect()
+    }
+
+    /// Keys, and values or children.
+    pub fn contents(&self, record: usize) -> Vec<usize> {
+        (record + layout::KEYS.start..record + layout::SLOTS.end).collect()
+    }
+
+    // ---- damage
+
+    /// Damages each word of the memory, one at a time, by its top bit, and takes the step: it is refused by 10 or 9 where that is due and
+    /// nowhere else, for 10 also with the least number that is out of range; where the word is not read, outcome and all other bytes are
+    /// as without damage.
+    pub fn reads(&self, name: &str, step: Step, due: Due) {
+        let mut classes = vec![UNREAD; layout::words(self.sizes)];
+        for (class, places) in [&due.taken, &due.unfit, &due.damaged].iter().enumerate() {
+            places.iter().for_each(|place| classes[*place] = class);
+        }
+        let mut undamaged = self.clone();
+        let outcome = undamaged.step(step);
+        let mut counts = [0; 4];
+        let mut trial = self.clone();
+        let mut found = |place, damage, class: usize| {
+            layout::set_word(&mut trial.memory, place, damage);
+            let found = trial.store().step(step);
+            let whose = layout::part(self.sizes, place);
+            let told = || format!("{name}, {whose:?} set to {damage}");
+            if class == TAKEN {
+                assert_ne!(found, DAMAGED, "{}", told());
+            } else {
+                assert_eq!(found, [UNFIT, DAMAGED, outcome][class - 1], "{}", told());
+                let due = if class == UNREAD { &undamaged } else { self };
+                assert!(class == UNREAD || trial.word(place) == damage);
+                layout::set_word(&mut trial.memory, place, due.word(place));
+                assert!(trial.memory == due.memory, "{}: other bytes", told());
+            }
+            trial.memory.copy_from_slice(&self.memory);
+        };
+        // The sizes in the head are for refusals 2 and 3.
+        for (place, class) in classes.into_iter().enumerate().skip(3) {
+            found(place, self.word(place) ^ 1 << 63, class);
+            if class == JUDGED {
+                found(place, self.too_large(place), class);
+            }
+            counts[class] += 1;
+        }
+        let [taken, unfit, damaged, unread] = counts;
+        println!("{name}: {damaged} words refused by 10, {unfit} by 9, {taken} taken as they are, {unread} not read");
+    }
+
+    /// The least number that is out of range in a word, by what the word holds.
+    fn too_large(&self, place: usize) -> u64 {
+        let (slots, servers) = (self.sizes.slots as u64, self.sizes.servers as u64);
+        let lock = 1 << self.sizes.clients;
+        let record = |at: usize, j: usize, object: u64| match j {
+            layout::KIND => 3,
+            layout::LEVEL => [1, 1, 5][self.word(at + layout::KIND) as usize],
+            layout::VERSION => LAST_VERSION + 1,
+            layout::COUNT => [1, 15, 15][self.word(at + layout::KIND) as usize],
+            _ if object > 8192 => 2,
+            _ => slots,
+        };
+        match layout::part(self.sizes, place) {
+            Part::Head(_) => unreachable!("no step judges the head by 10"),
+            Part::Server(_, 0) => slots,
+            Part::Server(_, 1) => LAST_VERSION + 1,
+            Part::Server(_, 2) => lock,
+            Part::Server(_, i) => match (i - 19) % 50 {
+                j if j < layout::SLOTS.end => record(place - j, j, layout::node(0)),
+                34..=41 => LAST_VERSION + 1,
+                _ => lock,
+            },
+            Part::Client(_, i) if i < layout::FIELDS => match i {
+                layout::PHASE => 4,
+                layout::OP => 7,
+                layout::OP_SERVER => servers,
+                layout::PARTICIPANTS | layout::PREPARED | layout::APPLIED => {
+                    self.word(place) | 1 << servers
+                }
+                layout::READS => 97,
+                layout::WRITES => 49,
+                layout::LOST | layout::META_COPIED => 2,
+                layout::META_VERSION => LAST_VERSION + 1,
+                _ => slots,
+            },
+            Part::Client(_, i) => match layout::within_item(i) {
+                Some(0) if self.word(place) > 8192 => layout::flag(slots),
+                Some(0) => layout::node(slots),
+                Some(j) => record(place - (j - 1), j - 1, self.word(place - j)),
+                None => 2,
+            },
+        }
+    }
+}
