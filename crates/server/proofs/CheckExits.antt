@@ -20,7 +20,7 @@ use Rattle.server.specs.declared.place.Place.the-variants as place
 use Rattle.server.specs.Layout.{places, server-block}
 use Rattle.server.specs.Object.{lock-of, Has}
 use Rattle.server.specs.Lock.{busy}
-use Rattle.server.specs.Check.{can-check, mark-place, mark-in, standing, held, mark-fits, compared, checked}
+use Rattle.server.specs.Check.{can-check, mark-place, mark-in, standing, held, mark-fits, marks-compared, checked}
 
 module _ (s : ℕ) (o : Object) (inner : Bool) where
   pub can-metadata : o ≡ object.Metadata → true ≡ can-check s o inner
@@ -99,7 +99,7 @@ module _ (o : Object) (m : Place → ℕ) where
     unfolding checked
     found-busy t = sym (rw (← e, t))
 
-    pub found-compared : (r : ℕ) (f : Finding) → b ≡ false → r ≡ standing o inner m → f ≡ compared o r mark → f ≡ checked o inner mark c u m
+    pub found-compared : (r : ℕ) (f : Finding) → b ≡ false → r ≡ standing o inner m → f ≡ marks-compared o r mark → f ≡ checked o inner mark c u m
     unfolding checked
     found-compared r f t q h = h ∙ sym (rw (← e, t, ← q))
 
@@ -118,21 +118,21 @@ module _ (o : Object) (x : ℕ) where
   fits-flag n e = sym (rw e)
 
 module _ (o : Object) (here read : ℕ) (a : Bool) (p : a ≡ mark-fits o here) where
-  pub here-unfit : not a ≡ true → Unfit ≡ compared o here read
-  unfolding compared
+  pub here-unfit : not a ≡ true → Unfit ≡ marks-compared o here read
+  unfolding marks-compared
   here-unfit t = sym (rw (← p, not-true a t))
 
   module _ (b : Bool) (t : not a ≡ false) (q : b ≡ mark-fits o read) where
-    pub read-unfit : not b ≡ true → Unfit ≡ compared o here read
-    unfolding compared
+    pub read-unfit : not b ≡ true → Unfit ≡ marks-compared o here read
+    unfolding marks-compared
     read-unfit u = sym (rw (← p, not-false a t, ← q, not-true b u))
 
-    pub marks-same : not b ≡ false → here ≡ read → Same ≡ compared o here read
-    unfolding compared
+    pub marks-same : not b ≡ false → here ≡ read → Same ≡ marks-compared o here read
+    unfolding marks-compared
     marks-same u e = sym (rw (← p, not-false a t, ← q, not-false b u, eq-eqb here read e))
 
-    pub marks-differ : not b ≡ false → ¬ (here ≡ read) → Differs ≡ compared o here read
-    unfolding compared
+    pub marks-differ : not b ≡ false → ¬ (here ≡ read) → Differs ≡ marks-compared o here read
+    unfolding marks-compared
     marks-differ u d = sym (rw (← p, not-false a t, ← q, not-false b u, ne-eqb here read d))
 
 pub ruleset check-exits = (

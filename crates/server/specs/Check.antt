@@ -49,12 +49,12 @@ mark-fits (object.Node x) y = leb y 4294967295
 mark-fits (object.Flag x) y = leb y 1
 
 -- the two marks, the one that stands here and the one that was read: are both in range, and are they the same
-unfoldable pub compared : Object → ℕ → ℕ → Finding
-compared o here read = cond (mark-fits o here && mark-fits o read) (cond (eqb here read) Same Differs) Unfit
+unfoldable pub marks-compared : Object → ℕ → ℕ → Finding
+marks-compared o here read = cond (mark-fits o here && mark-fits o read) (cond (eqb here read) Same Differs) Unfit
 
 -- "at one object 2 before 1": of a busy object no mark is read
 unfoldable pub checked : Object → Bool → ℕ → ℕ → Use → (Place → ℕ) → Finding
-checked o inner mark c u m = cond (held o c u m) Busy (compared o (standing o inner m) mark)
+checked o inner mark c u m = cond (held o c u m) Busy (marks-compared o (standing o inner m) mark)
 
 -- "1 a checked object differs .. 2 it is locked against this use by another client"; 0 is no reason, and 10 the refusal
 abbrev pub finding-number : Finding → ℕ

@@ -6,7 +6,7 @@ ghost use Rattle.memory.specs.Word.{view};
 ghost use Rattle.layout.specs.Space.{mem};
 ghost use Rattle.server.specs.Layout.{places, server-block, partWords};
 ghost use Rattle.server.specs.Object.{Has};
-ghost use Rattle.server.specs.Check.{can-check, mark-place, mark-in, standing, held, mark-fits, compared, checked};
+ghost use Rattle.server.specs.Check.{can-check, mark-place, mark-in, standing, held, mark-fits, marks-compared, checked};
 use crate::lock;
 use crate::lock::Use;
 use crate::object::Object;
@@ -101,7 +101,7 @@ fn mark_fits(object: Object, mark: u64) -> bool
 
 // The mark that stands here, and the one that was read.
 fn compared(object: Object, here: u64, read: u64) -> Finding
-    ensures { λ r. ⌜ r ≡ compared object here read ⌝ }
+    ensures { λ r. ⌜ r ≡ marks-compared object here read ⌝ }
 {
     if !mark_fits(object, here) {
         return Finding::Unfit;

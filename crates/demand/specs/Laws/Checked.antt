@@ -113,7 +113,7 @@ all-found g n f h i l = none-all (map g (U.each n f)) (least-none (map g (U.each
 -- ---- one finding
 pub found-same : (o : Object) (b : Bool) (mark c : ℕ) (u : Use) (p : Place → ℕ) → Chk.finding-number (Chk.checked o b mark c u p) ≡ 0
     → (Chk.held o c u p ≡ false) × (Chk.standing o b p ≡ mark)
-unfolding Chk.checked Chk.compared
+unfolding Chk.checked Chk.marks-compared
 found-same o b mark c u p h =
     go (Chk.held o c u p) refl (Chk.mark-fits o (Chk.standing o b p) && Chk.mark-fits o mark) (eqb (Chk.standing o b p) mark) refl h
   where

@@ -21,7 +21,7 @@ use Rattle.server.specs.declared.place.Place.the-variants.{Root, Version}
 use Rattle.server.specs.Object.{object-of, named}
 use Rattle.server.specs.declared.check.Finding.the-variants.{Same, Differs, Busy}
 use Rattle.server.specs.declared.lock.Use.{Use}
-use Rattle.server.specs.Check.{can-check, mark-place, mark-in, standing, held, mark-fits, compared, checked, finding-number}
+use Rattle.server.specs.Check.{can-check, mark-place, mark-in, standing, held, mark-fits, marks-compared, checked, finding-number}
 use Rattle.server.specs.HandOut.{metadata-sound}
 use Rattle.client.specs.Layout.{ClientWord}
 use Rattle.client.specs.Record.{first-slot, in-store, number-in-store, last-version, record-in-range}
@@ -65,7 +65,7 @@ module _ (z : S.TreeSizes) (s : ℕ) (p : Place → ℕ) (good : Server-sound z 
   -- so a check of a mark in range finds none that is not
   checked-judged : (x : ℕ) (inner : Bool) (mark c : ℕ) (w : Use) → number-in-store z x ≡ true → mark-fits (object-of x) mark ≡ true → (inner || at-home s x) ≡ true
       → eqb (finding-number (checked (object-of x) inner mark c w p)) 10 ≡ false
-  unfolding checked compared
+  unfolding checked marks-compared
   checked-judged x inner mark c w there fits h =
       rw (standing-judged x inner there h, fits) (go (held (object-of x) c w p) (eqb (standing (object-of x) inner p) mark))
     where
