@@ -15,7 +15,7 @@ use Rattle.client.specs.Layout.{ClientWord, field, vector-word}
 use Rattle.client.specs.declared.part.Set.the-variants.{Reads, Writes, Copies}
 use Rattle.client.specs.Sets.{record-at, find}
 use Rattle.client.specs.Record.{single, record-in-range}
-use Rattle.client.specs.Have.{look, here, copy, lacking, is-copied, source, copied-meta, copied-node, copied-flag, copied, copy-fits, look-fits}
+use Rattle.client.specs.Have.{looked, here, copy, lacking, is-copied, source, copied-meta, copied-node, copied-flag, copied, copy-fits, look-fits}
 use Rattle.memory.specs.Bit.{bit}
 
 -- copies
@@ -93,16 +93,16 @@ module _ (m : ClientWord → ℕ) (x : ℕ) (r : Node) where
   fits-vector s q d h o e = rw (ne-eqb _ _ d, lt-leb _ _ h, ← o, ← e)
 
 module _ (z : TreeSizes) (m : ClientWord → ℕ) (x : ℕ) (h : How) (r : Node) (b : Bool) (p : b ≡ record-in-range z x r) where
-  pub look-unfit : not b ≡ true → false ≡ look-fits z m x (look h r)
+  pub look-unfit : not b ≡ true → false ≡ look-fits z m x (looked h r)
   unfolding look-fits
   look-unfit t = rw (← p, not-true b t)
 
   module _ (c : Bool) (t : not b ≡ false) (q : c ≡ is-copied h) where
-    pub look-copy : (f : Bool) → c ≡ true → f ≡ copy-fits m x r → f ≡ look-fits z m x (look h r)
+    pub look-copy : (f : Bool) → c ≡ true → f ≡ copy-fits m x r → f ≡ look-fits z m x (looked h r)
     unfolding look-fits
     look-copy f u e = e ∙ rw (← p, not-false b t, ← q, u)
 
-    pub look-here : c ≡ false → true ≡ look-fits z m x (look h r)
+    pub look-here : c ≡ false → true ≡ look-fits z m x (looked h r)
     unfolding look-fits
     look-here u = rw (← p, not-false b t, ← q, u)
 
