@@ -7,10 +7,11 @@ use Rattle.nodes.specs.declared.node.Node.{Node}
 use Rattle.nodes.specs.Find.{rises}
 use Rattle.nodes.specs.Node.{keysOf}
 use Rattle.client.specs.Lent.{Entry}
+use Rattle.client.specs.Bounds.{highest-level}
 
 -- may this record be written?
 unfoldable pub record-fits : Node → Bool
-record-fits r = rises (keysOf r) && leb (r .level) 4
+record-fits r = rises (keysOf r) && leb (r .level) highest-level
 
 unfoldable pub entries-fit : List Entry → Bool
 entries-fit [] = true

@@ -20,6 +20,7 @@ use Rattle.walk.specs.Walk.{goes, walked, carry}
 use Rattle.walk.specs.Ask.{OwnKept, OwnGood, Holds-writes, Noted}
 use Rattle.change.specs.Mute.{stands}
 use Rattle.nodes.specs.Change as N
+use Rattle.client.specs.Bounds.{most-servers}
 
 -- ---- two slots
 abbrev pub two-flags : Two → Writes → Writes
@@ -57,7 +58,7 @@ pub record HalvesTaken (z : TreeSizes) (m : ClientWord → ℕ) (x u : List ℕ)
 
 -- ---- the halves and the root, written
 pub record Grown (x : List ℕ) (r c d : ℕ) (n : Wide) (x′ : List ℕ) : Type 0 where
-  pub holds : (z : TreeSizes) (w : Writes) → z .servers ≤ 8 → in-store z r ≡ true → in-store z c ≡ true → in-store z d ≡ true → Holds-writes z x w
+  pub holds : (z : TreeSizes) (w : Writes) → z .servers ≤ most-servers → in-store z r ≡ true → in-store z c ≡ true → in-store z d ≡ true → Holds-writes z x w
       → Holds-writes z x′ ((node r, value-of (node r) (parent-of (n .level + 1) 0 c (N.split n 0 .sep) d))
       ∷ (node d, value-of (node d) (N.split n 0 .right)) ∷ (node c, value-of (node c) (N.split n 0 .left)) ∷ w)
   pub kept : OwnKept x′

@@ -18,6 +18,7 @@ use Rattle.walk.specs.declared.down.Descent.{Descent}
 use Rattle.change.specs.declared.insert.Paired.{Paired}
 use Rattle.walk.specs.Down.{low, branches, trail, Linked, Reached}
 use Rattle.change.specs.Rise.{widened}
+use Rattle.client.specs.Bounds.{highest-level}
 
 -- ---- the leaf's new content
 abbrev pub paired-at : Node → ℕ → ℕ → Option ℕ → Paired
@@ -29,7 +30,7 @@ paired n key v = paired-at n key v (key-index (keysOf n) key)
 
 -- ---- a way down that ended at a leaf
 pub record Ended (z : TreeSizes) (d : Descent) : Type 0 where
-  pub high : d .top ≤ 4
+  pub high : d .top ≤ highest-level
   pub reached : Reached 0 d
   pub linked : Linked z 0 (d .name) (trail (d .path) 0 (d .top - 0))
 

@@ -16,6 +16,7 @@ use Rattle.client.specs.Record.{in-store, value-of}
 use Rattle.client.specs.Lent.{used-in}
 use Rattle.walk.specs.Walk.{goes, walked, carry}
 use Rattle.walk.specs.Ask.{OwnGood, Holds-writes, Noted}
+use Rattle.client.specs.Bounds.{most-servers}
 
 -- "changes the parent, or the metadata for the root": what is written beside the move
 abbrev pub beside : Bool → ℕ → Writes → Writes
@@ -23,7 +24,7 @@ beside true d w = (meta, root d) ∷ w
 beside false d w = w
 
 pub record Beside (x : List ℕ) (b : Bool) (d : ℕ) (x′ : List ℕ) : Type 0 where
-  pub holds : (z : TreeSizes) (w : Writes) → z .servers ≤ 8 → Holds-writes z x w → Holds-writes z x′ (beside b d w)
+  pub holds : (z : TreeSizes) (w : Writes) → z .servers ≤ most-servers → Holds-writes z x w → Holds-writes z x′ (beside b d w)
   pub good : OwnGood x′
   pub few : getD x′ 0 0 ≤ getD x 0 0 + 1
 

@@ -17,6 +17,7 @@ use Rattle.client.specs.Layout.{ClientWord}
 use Rattle.change.specs.Rise.{OfLevel, Raised}
 use Rattle.change.specs.Beside.{own-side, far-side, evened}
 use Rattle.change.specs.Merge.{pair-in}
+use Rattle.client.specs.Bounds.{fewest-keys}
 
 -- ---- with both at hand: n turns to k
 unfoldable pub even-plan : Ans → ℕ → Turn → Sides → Node → Node → ℕ → List Branch → Writes → Go → TreePlan
@@ -26,4 +27,4 @@ even-plan a l b s n k lo fs w go =
     evened a l fs go (s .last) w f (s .left) (s .right) (entriesOf n (own-side (s .last) (f .key) sep)) (entriesOf k (far-side (s .last) (f .key) sep))
 
 pub record Evens (z : TreeSizes) (m : ClientWord → ℕ) (x u : List ℕ) (root : Bool) (a : Ans) (b : Turn) (s : Sides) (n k : Node) (r : Risen) (x′ u′ : List ℕ) : Type 0 where
-  pub raised : (l : ℕ) → b .node .level ≡ suc l → OfLevel l n → OfLevel l k → 7 ≤ k .count → Raised z m x u l root (even-plan a l b s n k) r x′ u′
+  pub raised : (l : ℕ) → b .node .level ≡ suc l → OfLevel l n → OfLevel l k → fewest-keys ≤ k .count → Raised z m x u l root (even-plan a l b s n k) r x′ u′

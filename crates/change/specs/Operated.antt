@@ -3,14 +3,16 @@ use mathlib.Core.Path.{_≡_}
 use mathlib.Core.Bool.{true}
 use mathlib.Core.List.{List, []}
 use Prim.Native.Nat.{ℕ}
+use denote.Ref.{now}
 use Rattle.operations.specs.Object.{Writes}
 use Rattle.operations.specs.Slot.{TreeSizes}
 use Rattle.operations.specs.Path.{TreePlan}
 use Rattle.walk.specs.declared.walk.Stop.{Stop}
 use Rattle.client.specs.Layout.{ClientWord}
-use Rattle.client.specs.Lent.{used-in}
+use Rattle.client.specs.Record.{sizes}
+use Rattle.client.specs.Lent.{LentList, used-in}
 use Rattle.walk.specs.Walk.{walked}
-use Rattle.walk.specs.Ask.{OwnKept, Holds-writes, Noted}
+use Rattle.walk.specs.Ask.{OwnKept, Holds-writes, Noted, over-lent}
 use Rattle.change.specs.Mute.{stands}
 use Rattle.walk.specs.Lookup.{ended}
 
@@ -21,3 +23,7 @@ pub record Operated (z : TreeSizes) (m : ClientWord → ℕ) (x u : List ℕ) (p
   pub holds : stands s ≡ true → Holds-writes z x [] → Holds-writes z x′ writes
   pub kept : stands s ≡ true → Holds-writes z x [] → OwnKept x′
   pub noted : Noted m u′
+
+-- as a contract promises it, over what the walk is lent: the plan is that of the store's sizes
+abbrev pub Operates : ℕ → ℕ → LentList → LentList → LentList → (TreeSizes → TreePlan) → Stop → Type 0
+Operates servers slots part own used plan s = over-lent Operated servers slots part own used (plan (sizes servers slots)) s (now (own .exit)) (now (used .exit))

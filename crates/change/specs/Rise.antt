@@ -4,6 +4,7 @@ use mathlib.Core.Bool.{Bool, true, false, cond}
 use mathlib.Core.List.{List, [], _∷_, _++_}
 use Prim.Native.Nat.{ℕ, suc, _+_, _≤_}
 use lib.ListN.{getD}
+use denote.Ref.{now}
 use Rattle.nodes.specs.declared.node.Node.{Node}
 use Rattle.nodes.specs.declared.change.Wide.{Wide}
 use Rattle.nodes.specs.declared.change.Halves.{Halves}
@@ -20,20 +21,21 @@ use Rattle.change.specs.declared.rise.Risen.{Risen}
 use Rattle.walk.specs.declared.down.Turn.{Turn}
 use Rattle.walk.specs.declared.walk.Stop.{Stop}
 use Rattle.client.specs.Layout.{ClientWord}
-use Rattle.client.specs.Record.{in-store, value-of}
-use Rattle.client.specs.Lent.{used-in}
+use Rattle.client.specs.Record.{sizes, in-store, value-of}
+use Rattle.client.specs.Lent.{LentList, used-in}
 use Rattle.walk.specs.Walk.{Told, goes, walked}
 use Rattle.walk.specs.Lookup.{ended}
 use Rattle.change.specs.Mute.{stands}
-use Rattle.walk.specs.Ask.{SmallNode, OwnKept, OwnGood, Holds-writes, Noted}
+use Rattle.walk.specs.Ask.{SmallNode, OwnKept, OwnGood, Holds-writes, Noted, over-lent}
 use Rattle.walk.specs.Take.{Wrote}
 use Rattle.walk.specs.Entries.{branch-of}
 use Rattle.walk.specs.Down.{Followed, Link}
+use Rattle.client.specs.Bounds.{most-servers, highest-level, keys-to-split}
 
 -- a node is written under its name
 pub record NodeWritten (x : List ℕ) (name : ℕ) (n : Node) (x′ : List ℕ) : Type 0 where
-  pub wrote : n .level ≤ 4 → Wrote x (node name) (value-of (node name) n) x′
-  pub holds : (z : TreeSizes) (w : Writes) → z .servers ≤ 8 → in-store z name ≡ true → Holds-writes z x w → Holds-writes z x′ ((node name, value-of (node name) n) ∷ w)
+  pub wrote : n .level ≤ highest-level → Wrote x (node name) (value-of (node name) n) x′
+  pub holds : (z : TreeSizes) (w : Writes) → z .servers ≤ most-servers → in-store z name ≡ true → Holds-writes z x w → Holds-writes z x′ ((node name, value-of (node name) n) ∷ w)
   pub kept : OwnKept x′
 
 -- the new content of a node of level l: up to 15 keys
@@ -41,7 +43,7 @@ pub record Content (l : ℕ) (n : Wide) : Type 0 where
   pub kind : n .kind ≡ kind l
   pub level : n .level ≡ l
   pub whole : WholeWide n
-  pub few : n .count ≤ 15
+  pub few : n .count ≤ keys-to-split
 
 -- with the copies us and the writes w the walk has ended, or goes on
 abbrev pub rose : Stop → List ℕ → Writes → (List ℕ → Writes → Told) → Told
@@ -65,6 +67,11 @@ pub record Raised (z : TreeSizes) (m : ClientWord → ℕ) (x u : List ℕ) (l :
   pub content : goes (r .stop) ≡ true → Content (suc l) (r .up)
   pub noted : Noted m u′
 
+-- As a contract promises it, over what the walk is lent: the plan is that of the store's sizes.
+abbrev pub Raises : ℕ → ℕ → LentList → LentList → LentList → ℕ → Bool → (TreeSizes → ℕ → List Branch → Writes → Go → TreePlan) → Risen → Type 0
+Raises servers slots part own used l root plan r =
+    over-lent Raised servers slots part own used l root (plan (sizes servers slots)) r (now (own .exit)) (now (used .exit))
+
 -- The last level. `plan` is what it does after the writes w.
 pub record Closed (z : TreeSizes) (m : ClientWord → ℕ) (x u : List ℕ) (plan : Writes → TreePlan) (s : Stop) (x′ u′ : List ℕ) : Type 0 where
   pub more : Writes
@@ -72,6 +79,10 @@ pub record Closed (z : TreeSizes) (m : ClientWord → ℕ) (x u : List ℕ) (pla
   pub holds : stands s ≡ true → (w : Writes) → Holds-writes z x w → Holds-writes z x′ (more ++ w)
   pub kept : stands s ≡ true → (w : Writes) → Holds-writes z x w → OwnKept x′
   pub noted : Noted m u′
+
+-- As a contract promises it, over what the walk is lent: the plan is that of the store's sizes.
+abbrev pub Closes : ℕ → ℕ → LentList → LentList → LentList → (TreeSizes → Writes → TreePlan) → Stop → Type 0
+Closes servers slots part own used plan s = over-lent Closed servers slots part own used (plan (sizes servers slots)) s (now (own .exit)) (now (used .exit))
 
 -- ---- the node of the name c and the level l whose parent is b, with the entries es lo where it holds keys from lo on
 abbrev pub in-parent : Turn → ℕ → Branch
@@ -92,7 +103,7 @@ pub record OfLevel (l : ℕ) (n : Node) : Type 0 where
 -- of 15 keys
 pub record Full (l : ℕ) (n : Wide) : Type 0 where
   pub content : Content l n
-  pub full : n .count ≡ 15
+  pub full : n .count ≡ keys-to-split
 
 -- a node of 15 keys below the root
 unfoldable pub split-plan : TreeSizes → ℕ → Turn → ℕ → (ℕ → Entries) → ℕ → List Branch → Writes → Go → TreePlan
@@ -109,7 +120,7 @@ pub record Fitting (h : Halves) : Type 0 where
   pub right : SmallNode (h .right)
 
 pub record BothWritten (x : List ℕ) (c d : ℕ) (h : Halves) (x′ : List ℕ) : Type 0 where
-  pub holds : (z : TreeSizes) (w : Writes) → z .servers ≤ 8 → in-store z c ≡ true → in-store z d ≡ true → Holds-writes z x w
+  pub holds : (z : TreeSizes) (w : Writes) → z .servers ≤ most-servers → in-store z c ≡ true → in-store z d ≡ true → Holds-writes z x w
       → Holds-writes z x′ ((node d, value-of (node d) (h .right)) ∷ (node c, value-of (node c) (h .left)) ∷ w)
   pub good : OwnGood x′
   pub few : getD x′ 0 0 ≤ getD x 0 0 + 2

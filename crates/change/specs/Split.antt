@@ -22,6 +22,7 @@ use Rattle.walk.specs.Ask.{OwnGood, Holds-writes, Noted}
 use Rattle.change.specs.Mute.{stands}
 use Rattle.change.specs.Rise.{Raised, BothWritten, split-plan}
 use Rattle.nodes.specs.Change as N
+use Rattle.client.specs.Bounds.{highest-level, keys-to-split}
 
 -- ---- a slot for a half
 pub record HalfTaken (z : TreeSizes) (m : ClientWord → ℕ) (x u : List ℕ) (n : ℕ) (r : Taken) (x′ u′ : List ℕ) : Type 0 where
@@ -36,8 +37,8 @@ pub record HalfTaken (z : TreeSizes) (m : ClientWord → ℕ) (x u : List ℕ) (
 
 -- ---- the halves of a node, written
 pub record Overfull (n : Wide) : Type 0 where
-  pub full : n .count ≡ 15
-  pub level : n .level ≤ 4
+  pub full : n .count ≡ keys-to-split
+  pub level : n .level ≤ highest-level
 
 pub record Halved (x : List ℕ) (c d : ℕ) (n : Wide) (sep : ℕ) (x′ : List ℕ) : Type 0 where
   pub sep-is : sep ≡ N.split n 0 .sep

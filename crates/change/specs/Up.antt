@@ -12,6 +12,7 @@ use Rattle.operations.specs.Change.{up}
 use Rattle.walk.specs.declared.down.Turn.{Turn}
 use Rattle.walk.specs.Down.{low, branches, trail, All, Linked}
 use Rattle.change.specs.Rise.{Content}
+use Rattle.client.specs.Bounds.{highest-level, level-count}
 
 -- the plan from the level l on: the inner nodes of the path above it, and the new content of the node of that level
 abbrev pub from-level : TreeSizes → Ans → ℕ → List Turn → ℕ → Writes → ℕ → Wide → TreePlan
@@ -22,8 +23,8 @@ rise-plan z a top path c n = from-level z a top path 0 [] c n
 
 -- a leaf's new content, and the path to it
 pub record Ready (z : TreeSizes) (top : ℕ) (path : List Turn) (c : ℕ) (n : Wide) : Type 0 where
-  pub high : top ≤ 4
-  pub size : length path ≡ 5
+  pub high : top ≤ highest-level
+  pub size : length path ≡ level-count
   pub good : All (trail path 0 (top - 0))
   pub linked : Linked z 0 c (trail path 0 (top - 0))
   pub content : Content 0 n

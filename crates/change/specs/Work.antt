@@ -3,14 +3,15 @@ use mathlib.Core.Path.{_≡_}
 use mathlib.Core.List.{List}
 use Prim.Native.Nat.{ℕ, _≤_}
 use lib.ListN.{length, getD}
+use denote.Ref.{now}
 use Rattle.operations.specs.Object.{Ans, Writes}
 use Rattle.operations.specs.Slot.{TreeSizes}
 use Rattle.client.specs.Layout.{ClientWord}
-use Rattle.client.specs.Lent.{OwnFits, own-list}
+use Rattle.client.specs.Lent.{LentList, OwnFits, own-list}
 use Rattle.client.specs.Answered.{entered}
 use Rattle.client.specs.Work.{answers, worked}
 use Rattle.walk.specs.declared.walk.Stop.{Stop}
-use Rattle.walk.specs.Bounds.{own-room, used-room}
+use Rattle.client.specs.Bounds.{own-room, used-room}
 use Rattle.walk.specs.Stopped.{Stopped, Filled}
 use Rattle.client.specs.Work as C
 
@@ -30,3 +31,7 @@ pub record Works (z : TreeSizes) (m : ClientWord → ℕ) (s : Stop) (x₀ u₀ 
   pub own : (a : Ans) (w : Writes) → worked z m ≡ answers a w → own-list x ≡ entered w
   pub fits : (a : Ans) (w : Writes) → worked z m ≡ answers a w → OwnFits x
   pub own-same-length : length x ≡ length x₀
+
+-- as a contract promises it of the lists that are lent
+abbrev pub WorksOn : TreeSizes → (ClientWord → ℕ) → Stop → LentList → LentList → Type 0
+WorksOn z m s own used = Works z m s (now (own .entry)) (now (used .entry)) (now (own .exit)) (now (used .exit))

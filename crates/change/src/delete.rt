@@ -14,16 +14,16 @@ ghost use Prim.Native.Nat.{_<_, _≤_};
 ghost use Rattle.nodes.specs.Change.{take-out};
 ghost use Rattle.operations.specs.Change.{delete-plan};
 ghost use Rattle.client.specs.Record.{sizes};
-ghost use Rattle.client.specs.Sets.{held};
 ghost use Rattle.walk.specs.Ask.{Beginning};
 ghost use Rattle.change.specs.Rise.{widened};
-ghost use Rattle.change.specs.Operated.{Operated};
+ghost use Rattle.change.specs.Operated.{Operates};
 ghost use Rattle.change.specs.Insert.{Ended};
 ghost use Rattle.change.specs.Delete.{delete-in};
+ghost use Rattle.client.specs.Bounds.{most-keys};
 
 // The leaf's content without key number i.
 fn without(n: Node, i: usize) -> Wide
-    requires { ⌜ (n .count ≤ 14) × (i < n .count) ⌝ }
+    requires { ⌜ (n .count ≤ most-keys) × (i < n .count) ⌝ }
     ensures { λ r. ⌜ r ≡ widened (take-out n i) ⌝ }
 {
     let m = n.take_out(i);
@@ -42,8 +42,7 @@ fn delete_at(
 ) -> Stop
     requires { ⌜ Beginning servers (now part) (now own) (now used) ⌝ }
     requires ended { ⌜ Ended (sizes servers slots) d ⌝ }
-    ensures { λ r. ⌜ Operated (sizes servers slots) (held (now (part .entry))) (now (own .entry)) (now (used .entry))
-        (delete-in (sizes servers slots) d key) r (now (own .exit)) (now (used .exit)) ⌝ }
+    ensures { λ r. ⌜ Operates servers slots part own used (λ z. delete-in z d key) r ⌝ }
 {
     let leaf = d.node;
     let f = leaf.find(key);
@@ -65,8 +64,7 @@ pub fn delete(
     key: u64,
 ) -> Stop
     requires { ⌜ Beginning servers (now part) (now own) (now used) ⌝ }
-    ensures { λ r. ⌜ Operated (sizes servers slots) (held (now (part .entry))) (now (own .entry)) (now (used .entry))
-        (delete-plan (sizes servers slots) key) r (now (own .exit)) (now (used .exit)) ⌝ }
+    ensures { λ r. ⌜ Operates servers slots part own used (λ z. delete-plan z key) r ⌝ }
 {
     let d = descend(part, servers, slots, used, key);
     let stop = d.stop;

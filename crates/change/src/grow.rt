@@ -13,11 +13,10 @@ ghost use mathlib.Core.Bool.{true};
 ghost use Prim.Native.Nat.{_+_, _-_, _<_, _≤_};
 ghost use Rattle.nodes.specs.Entries.{wide-entries};
 ghost use Rattle.client.specs.Record.{sizes, in-store};
-ghost use Rattle.client.specs.Sets.{held};
 ghost use Rattle.client.specs.Lent.{own-count};
-ghost use Rattle.walk.specs.Bounds.{end-of-names, own-most};
-ghost use Rattle.walk.specs.Ask.{OwnGood, Writing, WalkingOwn, Rising};
-ghost use Rattle.change.specs.Rise.{Full, Closed};
+ghost use Rattle.client.specs.Bounds.{end-of-names, own-most, highest-level, risen-most};
+ghost use Rattle.walk.specs.Ask.{OwnGood, Writing, WalkingOwn, Rising, over-lent};
+ghost use Rattle.change.specs.Rise.{Full, Closes};
 ghost use Rattle.change.specs.Split.{Overfull};
 ghost use Rattle.change.specs.Grow.{TwoTaken, BothFree, HalvesTaken, Grown, root-split};
 
@@ -37,10 +36,9 @@ fn take_two(
     used: &mut [u64],
     name: u64,
 ) -> Two
-    requires { ⌜ Writing servers (now part) (now own) (now used) 19 ⌝ }
+    requires { ⌜ Writing servers (now part) (now own) (now used) (own-most - 1) ⌝ }
     requires there { ⌜ name < end-of-names ⌝ }
-    ensures { λ r. ⌜ TwoTaken (sizes servers slots) (held (now (part .entry))) (now (own .entry)) (now (used .entry)) name r
-        (now (own .exit)) (now (used .exit)) ⌝ }
+    ensures { λ r. ⌜ over-lent TwoTaken servers slots part own used name r (now (own .exit)) (now (used .exit)) ⌝ }
 {
     let t = take_for(part, servers, slots, own, used, name);
     let stop = t.stop;
@@ -70,8 +68,7 @@ fn both_free(
     right: u64,
 ) -> Stop
     requires { ⌜ WalkingOwn servers (now part) (now own) (now used) ⌝ }
-    ensures { λ r. ⌜ BothFree (sizes servers slots) (held (now (part .entry))) (now (own .entry)) (now (used .entry)) left right r
-        (now (used .exit)) ⌝ }
+    ensures { λ r. ⌜ over-lent BothFree servers slots part own used left right r (now (used .exit)) ⌝ }
 {
     let stop = take_node(part, servers, slots, own, used, left);
     let on = going(stop);
@@ -90,10 +87,9 @@ fn take_halves(
     used: &mut [u64],
     name: u64,
 ) -> Two
-    requires { ⌜ Writing servers (now part) (now own) (now used) 19 ⌝ }
+    requires { ⌜ Writing servers (now part) (now own) (now used) (own-most - 1) ⌝ }
     requires there { ⌜ name < end-of-names ⌝ }
-    ensures { λ r. ⌜ HalvesTaken (sizes servers slots) (held (now (part .entry))) (now (own .entry)) (now (used .entry)) name r
-        (now (own .exit)) (now (used .exit)) ⌝ }
+    ensures { λ r. ⌜ over-lent HalvesTaken servers slots part own used name r (now (own .exit)) (now (used .exit)) ⌝ }
 {
     let t = take_two(part, servers, slots, own, used, name);
     let stop = t.stop;
@@ -134,12 +130,11 @@ pub fn split_root(
     a: u64,
     b: u64,
 ) -> Stop
-    requires { ⌜ Rising servers (now part) (now own) (now used) 12 ⌝ }
+    requires { ⌜ Rising servers (now part) (now own) (now used) risen-most ⌝ }
     requires there { ⌜ in-store (sizes servers slots) name ≡ true ⌝ }
     requires full { ⌜ Full level n ⌝ }
-    requires low { ⌜ level ≤ 4 ⌝ }
-    ensures { λ r. ⌜ Closed (sizes servers slots) (held (now (part .entry))) (now (own .entry)) (now (used .entry))
-        (root-split (sizes servers slots) (a, b) level name (wide-entries n 0)) r (now (own .exit)) (now (used .exit)) ⌝ }
+    requires low { ⌜ level ≤ highest-level ⌝ }
+    ensures { λ r. ⌜ Closes servers slots part own used (λ z. root-split z (a, b) level name (wide-entries n 0)) r ⌝ }
 {
     let t = take_halves(part, servers, slots, own, used, name);
     let stop = t.stop;

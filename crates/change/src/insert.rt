@@ -12,10 +12,10 @@ ghost use mathlib.Core.Path.{_≡_};
 ghost use Prim.Native.Nat.{_≤_};
 ghost use Rattle.operations.specs.Change.{insert-plan};
 ghost use Rattle.client.specs.Record.{sizes};
-ghost use Rattle.client.specs.Sets.{held};
 ghost use Rattle.walk.specs.Ask.{Beginning};
-ghost use Rattle.change.specs.Operated.{Operated};
+ghost use Rattle.change.specs.Operated.{Operates};
 ghost use Rattle.change.specs.Insert.{Ended, paired, insert-in};
+ghost use Rattle.client.specs.Bounds.{most-keys};
 
 // A leaf's new content, with the answer a: 1 if the key is new.
 pub struct Paired {
@@ -25,7 +25,7 @@ pub struct Paired {
 
 // "Insert of a present key replaces its value"
 fn with_pair(n: Node, key: u64, value: u64) -> Paired
-    requires { ⌜ n .count ≤ 14 ⌝ }
+    requires { ⌜ n .count ≤ most-keys ⌝ }
     ensures { λ r. ⌜ r ≡ paired n key value ⌝ }
 {
     let f = n.find(key);
@@ -56,8 +56,7 @@ fn insert_at(
 ) -> Stop
     requires { ⌜ Beginning servers (now part) (now own) (now used) ⌝ }
     requires ended { ⌜ Ended (sizes servers slots) d ⌝ }
-    ensures { λ r. ⌜ Operated (sizes servers slots) (held (now (part .entry))) (now (own .entry)) (now (used .entry))
-        (insert-in (sizes servers slots) d key value) r (now (own .exit)) (now (used .exit)) ⌝ }
+    ensures { λ r. ⌜ Operates servers slots part own used (λ z. insert-in z d key value) r ⌝ }
 {
     let leaf = d.node;
     let p = with_pair(leaf, key, value);
@@ -76,8 +75,7 @@ pub fn insert(
     value: u64,
 ) -> Stop
     requires { ⌜ Beginning servers (now part) (now own) (now used) ⌝ }
-    ensures { λ r. ⌜ Operated (sizes servers slots) (held (now (part .entry))) (now (own .entry)) (now (used .entry))
-        (insert-plan (sizes servers slots) key value) r (now (own .exit)) (now (used .exit)) ⌝ }
+    ensures { λ r. ⌜ Operates servers slots part own used (λ z. insert-plan z key value) r ⌝ }
 {
     let d = descend(part, servers, slots, used, key);
     let stop = d.stop;

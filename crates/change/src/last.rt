@@ -12,12 +12,12 @@ ghost use mathlib.Core.Path.{_≡_};
 ghost use mathlib.Core.Bool.{not};
 ghost use Prim.Native.Nat.{_<_, _≤_};
 ghost use lib.ListN.{getD};
-ghost use Rattle.client.specs.declared.part.Set.the-variants.{Reads};
-ghost use Rattle.client.specs.Layout.{writes-count, ClientPart};
+ghost use Rattle.client.specs.declared.part.Set.the-variants.{Reads, Writes};
+ghost use Rattle.client.specs.Layout.{writes-count, ClientPart, limit};
 ghost use Rattle.client.specs.Sets.{held, find};
 ghost use Rattle.client.specs.Lent.{OwnFits, own-list};
 ghost use Rattle.client.specs.Work.{version-in, version-there, count-new, versions-there, any-at-last};
-ghost use Rattle.walk.specs.Bounds.{end-of-numbers, own-most};
+ghost use Rattle.client.specs.Bounds.{end-of-numbers, own-most};
 ghost use Rattle.walk.specs.Ask.{OwnKept};
 ghost use Rattle.change.specs.Fit.{entries-fit};
 ghost use Rattle.change.specs.Last.{own-fits, new-at, stays-below, last-reason, there-at};
@@ -168,7 +168,7 @@ fn all_below(part: &[u8], own: &[u64]) -> bool
 
 // The reason to abort, 0 if there is none: 3, then 4, then 8; 10 is the refusal.
 pub fn last_reason(part: &[u8], own: &[u64]) -> u64
-    requires { ⌜ OwnKept (now own) × (held (now part) writes-count ≤ 48) × ClientPart (now part) ⌝ }
+    requires { ⌜ OwnKept (now own) × (held (now part) writes-count ≤ limit Writes) × ClientPart (now part) ⌝ }
     ensures { λ r. ⌜ r ≡ last-reason (held (now (part .entry))) (own-list (now (own .entry))) ⌝ }
 {
     if !all_fit(own) {

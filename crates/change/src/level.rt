@@ -15,9 +15,9 @@ ghost use Rattle.nodes.specs.Entries.{wide-entries};
 ghost use Rattle.client.specs.Record.{sizes, in-store};
 ghost use Rattle.client.specs.Sets.{held};
 ghost use Rattle.client.specs.Lent.{own-count};
-ghost use Rattle.walk.specs.Bounds.{end-of-names, own-most};
+ghost use Rattle.client.specs.Bounds.{end-of-names, own-most, most-keys, highest-level, risen-most};
 ghost use Rattle.walk.specs.Ask.{OwnGood, Noted, Rising};
-ghost use Rattle.change.specs.Rise.{Content, Under, Raised, Closed};
+ghost use Rattle.change.specs.Rise.{Content, Under, Raises, Closes};
 ghost use Rattle.change.specs.Level.{Settled, level-plan, top-plan};
 ghost use Rattle.client.specs.Layout.{ClientPart};
 
@@ -31,7 +31,7 @@ fn settle(
     a: u64,
     b: u64,
 ) -> Stop
-    requires { ⌜ (name < end-of-names) × OwnGood (now own) × (own-count (now own) < own-most) × (n .count ≤ 14) ⌝ }
+    requires { ⌜ (name < end-of-names) × OwnGood (now own) × (own-count (now own) < own-most) × (n .count ≤ most-keys) ⌝ }
     requires noted { ⌜ Noted (held (now part)) (now used) × ClientPart (now part) ⌝ }
     ensures { λ r. ⌜ Settled (held (now (part .entry))) (now (own .entry)) (now (used .entry)) name n a b r (now (own .exit))
         (now (used .exit)) ⌝ }
@@ -56,11 +56,10 @@ pub fn raise(
     a: u64,
     b: u64,
 ) -> Risen
-    requires { ⌜ Rising servers (now part) (now own) (now used) 12 ⌝ }
+    requires { ⌜ Rising servers (now part) (now own) (now used) risen-most ⌝ }
     requires under { ⌜ Under (sizes servers slots) level name above ⌝ }
     requires content { ⌜ Content level n ⌝ }
-    ensures { λ r. ⌜ Raised (sizes servers slots) (held (now (part .entry))) (now (own .entry)) (now (used .entry)) level root
-        (level-plan (sizes servers slots) (a, b) level above name (wide-entries n)) r (now (own .exit)) (now (used .exit)) ⌝ }
+    ensures { λ r. ⌜ Raises servers slots part own used level root (λ z. level-plan z (a, b) level above name (wide-entries n)) r ⌝ }
 {
     if n.count == 15 {
         return split(part, servers, slots, own, used, level, above, name, n);
@@ -99,12 +98,11 @@ pub fn at_top(
     a: u64,
     b: u64,
 ) -> Stop
-    requires { ⌜ Rising servers (now part) (now own) (now used) 12 ⌝ }
+    requires { ⌜ Rising servers (now part) (now own) (now used) risen-most ⌝ }
     requires there { ⌜ in-store (sizes servers slots) name ≡ true ⌝ }
     requires content { ⌜ Content level n ⌝ }
-    requires low { ⌜ level ≤ 4 ⌝ }
-    ensures { λ r. ⌜ Closed (sizes servers slots) (held (now (part .entry))) (now (own .entry)) (now (used .entry))
-        (top-plan (sizes servers slots) (a, b) level name (wide-entries n 0)) r (now (own .exit)) (now (used .exit)) ⌝ }
+    requires low { ⌜ level ≤ highest-level ⌝ }
+    ensures { λ r. ⌜ Closes servers slots part own used (λ z. top-plan z (a, b) level name (wide-entries n 0)) r ⌝ }
 {
     if n.count == 15 {
         return split_root(part, servers, slots, own, used, level, name, n, a, b);

@@ -19,7 +19,7 @@ use walk::walk::ask_node;
 use walk::walk::going;
 ghost use mathlib.Core.Path.{_≡_};
 ghost use mathlib.Core.Bool.{true};
-ghost use Prim.Native.Nat.{_+_, _<_, _≤_};
+ghost use Prim.Native.Nat.{_+_, _<_, _≤_, _-_};
 ghost use lib.ListN.{getD};
 ghost use Rattle.nodes.specs.Kept.{Whole};
 ghost use Rattle.operations.specs.Object.{node};
@@ -27,9 +27,9 @@ ghost use Rattle.operations.specs.Migrate.{move-root, move-below, move-if, migr
 ghost use Rattle.client.specs.Record.{sizes, in-store, value-of};
 ghost use Rattle.client.specs.Sets.{held};
 ghost use Rattle.client.specs.Lent.{own-count};
-ghost use Rattle.walk.specs.Bounds.{end-of-slots, own-most};
-ghost use Rattle.walk.specs.Ask.{SmallNode, OwnGood, Writing, Beginning, Walking};
-ghost use Rattle.change.specs.Operated.{Operated};
+ghost use Rattle.client.specs.Bounds.{end-of-slots, own-most, highest-level};
+ghost use Rattle.walk.specs.Ask.{SmallNode, OwnGood, Writing, Beginning, Walking, over-lent};
+ghost use Rattle.change.specs.Operated.{Operates};
 ghost use Rattle.change.specs.Move.{Beside, Placed, Left, Moved};
 ghost use Rattle.change.specs.Migrate.{named-plan};
 ghost use Rattle.change.specs.Parent.{Parent, ToParent, ChildMoved, MovedAt};
@@ -58,8 +58,7 @@ fn take_place(
 ) -> Taken
     requires { ⌜ Writing servers (now part) (now own) (now used) own-most ⌝ }
     requires above { ⌜ slot < end-of-slots ⌝ }
-    ensures { λ r. ⌜ Placed (sizes servers slots) (held (now (part .entry))) (now (own .entry)) (now (used .entry)) server slot r
-        (now (own .exit)) (now (used .exit)) ⌝ }
+    ensures { λ r. ⌜ over-lent Placed servers slots part own used server slot r (now (own .exit)) (now (used .exit)) ⌝ }
 {
     let t = take_on(part, servers, slots, own, used, server, slot);
     let stop = t.stop;
@@ -84,11 +83,10 @@ fn leave(
     n: Node,
     is_root: bool,
 ) -> Stop
-    requires { ⌜ Writing servers (now part) (now own) (now used) 16 ⌝ }
+    requires { ⌜ Writing servers (now part) (now own) (now used) (own-most - 4) ⌝ }
     requires there { ⌜ in-store (sizes servers slots) to ≡ true ⌝ }
     requires small { ⌜ SmallNode n ⌝ }
-    ensures { λ r. ⌜ Left (sizes servers slots) (held (now (part .entry))) (now (own .entry)) (now (used .entry)) name to n «is_root» r
-        (now (own .exit)) (now (used .exit)) ⌝ }
+    ensures { λ r. ⌜ over-lent Left servers slots part own used name to n «is_root» r (now (own .exit)) (now (used .exit)) ⌝ }
 {
     write_root(own, is_root, to);
     let stop = release(part, servers, slots, own, used, name);
@@ -114,8 +112,7 @@ fn move_to(
 ) -> Taken
     requires { ⌜ Beginning servers (now part) (now own) (now used) ⌝ }
     requires small { ⌜ SmallNode n ⌝ }
-    ensures { λ r. ⌜ Moved (sizes servers slots) (held (now (part .entry))) (now (own .entry)) (now (used .entry)) name server n
-        «is_root» r (now (own .exit)) (now (used .exit)) ⌝ }
+    ensures { λ r. ⌜ over-lent Moved servers slots part own used name server n «is_root» r (now (own .exit)) (now (used .exit)) ⌝ }
 {
     let from = Name { number: name };
     let slot = from.slot() as usize;
@@ -143,8 +140,7 @@ fn move_root(
 ) -> Stop
     requires { ⌜ Beginning servers (now part) (now own) (now used) ⌝ }
     requires small { ⌜ SmallNode n ⌝ }
-    ensures { λ r. ⌜ Operated (sizes servers slots) (held (now (part .entry))) (now (own .entry)) (now (used .entry))
-        (move-root (sizes servers slots) name server (value-of (node name) n)) r (now (own .exit)) (now (used .exit)) ⌝ }
+    ensures { λ r. ⌜ Operates servers slots part own used (λ z. move-root z name server (value-of (node name) n)) r ⌝ }
 {
     let t = move_to(part, servers, slots, own, used, name, server, n, true);
     let stop = t.stop;
@@ -174,8 +170,7 @@ fn move_child(
     requires small { ⌜ SmallNode n ⌝ }
     requires parent { ⌜ Parent (sizes servers slots) (n .level) above p ⌝ }
     requires child { ⌜ at ≤ p .count ⌝ }
-    ensures { λ r. ⌜ ChildMoved (sizes servers slots) (held (now (part .entry))) (now (own .entry)) (now (used .entry)) name server n
-        above p at r (now (own .exit)) (now (used .exit)) ⌝ }
+    ensures { λ r. ⌜ over-lent ChildMoved servers slots part own used name server n above p at r (now (own .exit)) (now (used .exit)) ⌝ }
 {
     let t = move_to(part, servers, slots, own, used, name, server, n, false);
     let stop = t.stop;
@@ -206,8 +201,7 @@ fn move_at(
     requires { ⌜ Beginning servers (now part) (now own) (now used) ⌝ }
     requires small { ⌜ SmallNode n ⌝ }
     requires parent { ⌜ Parent (sizes servers slots) (n .level) above p ⌝ }
-    ensures { λ r. ⌜ MovedAt (sizes servers slots) (held (now (part .entry))) (now (own .entry)) (now (used .entry)) key name server n
-        above p r (now (own .exit)) (now (used .exit)) ⌝ }
+    ensures { λ r. ⌜ over-lent MovedAt servers slots part own used key name server n above p r (now (own .exit)) (now (used .exit)) ⌝ }
 {
     let at = p.place(key);
     let children = p.slots;
@@ -240,7 +234,7 @@ fn to_parent(
     level: usize,
 ) -> Descent
     requires { ⌜ Walking servers (now part) (now used) ⌝ }
-    requires low { ⌜ level ≤ 4 ⌝ }
+    requires low { ⌜ level ≤ highest-level ⌝ }
     ensures { λ r. ⌜ ToParent (sizes servers slots) (held (now (part .entry))) (now (used .entry)) key top level r (now (used .exit)) ⌝ }
 {
     let r = root(part, servers, slots, used, top);
@@ -270,9 +264,7 @@ fn move_below(
 ) -> Stop
     requires { ⌜ Beginning servers (now part) (now own) (now used) ⌝ }
     requires small { ⌜ SmallNode n ⌝ }
-    ensures { λ r. ⌜ Operated (sizes servers slots) (held (now (part .entry))) (now (own .entry)) (now (used .entry))
-        (move-below (sizes servers slots) top name server (value-of (node name) n) (n .level) (getD (n .keys) 0 0)) r (now (own .exit))
-        (now (used .exit)) ⌝ }
+    ensures { λ r. ⌜ Operates servers slots part own used (λ z. move-below z top name server (value-of (node name) n) (n .level) (getD (n .keys) 0 0)) r ⌝ }
 {
     let keys = n.keys;
     let key = keys[0];
@@ -315,8 +307,7 @@ fn move_if(
     requires { ⌜ Beginning servers (now part) (now own) (now used) ⌝ }
     requires small { ⌜ SmallNode n ⌝ }
     requires whole { ⌜ Whole n ⌝ }
-    ensures { λ r. ⌜ Operated (sizes servers slots) (held (now (part .entry))) (now (own .entry)) (now (used .entry))
-        (move-if (sizes servers slots) top name server (value-of (node name) n)) r (now (own .exit)) (now (used .exit)) ⌝ }
+    ensures { λ r. ⌜ Operates servers slots part own used (λ z. move-if z top name server (value-of (node name) n)) r ⌝ }
 {
     if n.kind == 0 {
         return answers(part, used, 0, 0);
@@ -346,8 +337,7 @@ fn move_named(
     server: u64,
 ) -> Stop
     requires { ⌜ Beginning servers (now part) (now own) (now used) ⌝ }
-    ensures { λ r. ⌜ Operated (sizes servers slots) (held (now (part .entry))) (now (own .entry)) (now (used .entry))
-        (named-plan (sizes servers slots) top name server) r (now (own .exit)) (now (used .exit)) ⌝ }
+    ensures { λ r. ⌜ Operates servers slots part own used (λ z. named-plan z top name server) r ⌝ }
 {
     let a = ask_node(part, servers, slots, used, name);
     let stop = a.stop;
@@ -370,8 +360,7 @@ pub fn migrate(
     server: u64,
 ) -> Stop
     requires { ⌜ Beginning servers (now part) (now own) (now used) ⌝ }
-    ensures { λ r. ⌜ Operated (sizes servers slots) (held (now (part .entry))) (now (own .entry)) (now (used .entry))
-        (migrate-plan (sizes servers slots) name server) r (now (own .exit)) (now (used .exit)) ⌝ }
+    ensures { λ r. ⌜ Operates servers slots part own used (λ z. migrate-plan z name server) r ⌝ }
 {
     let a = ask_meta(part, servers, slots, used);
     let stop = a.stop;

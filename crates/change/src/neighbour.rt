@@ -13,16 +13,16 @@ use walk::walk::Stop;
 use walk::walk::going;
 ghost use mathlib.Core.Path.{_≡_};
 ghost use mathlib.Core.Bool.{true};
-ghost use Prim.Native.Nat.{_+_, _<_, _≤_};
+ghost use Prim.Native.Nat.{_+_, _<_, _≤_, _-_};
 ghost use Rattle.nodes.specs.Entries.{entriesOf};
 ghost use Rattle.client.specs.Record.{sizes, in-store};
-ghost use Rattle.client.specs.Sets.{held};
-ghost use Rattle.walk.specs.Ask.{SmallNode, Rising};
-ghost use Rattle.change.specs.Rise.{Raised, Under, OfLevel, neighbour-plan};
+ghost use Rattle.walk.specs.Ask.{SmallNode, Rising, over-lent};
+ghost use Rattle.change.specs.Rise.{Under, OfLevel, neighbour-plan, Raises};
 ghost use Rattle.change.specs.Beside.{far-side};
 ghost use Rattle.change.specs.Lend.{lent, joined};
 ghost use Rattle.change.specs.Merge.{Between, Neighbours, collapses, Collapses, Merges};
 ghost use Rattle.change.specs.Neighbour.{Evens};
+ghost use Rattle.client.specs.Bounds.{most-keys, fewest-keys, risen-most};
 
 // Two neighbours by their names. The left one's number among the children is that of the separator between them; `last` says that
 // the node which turns is the right one.
@@ -35,7 +35,7 @@ struct Sides {
 
 // "turns to its right neighbour under the same parent, or to the left one if it is the last child"
 fn beside(above: Turn) -> Sides
-    requires { ⌜ (0 < above .node .count) × (above .at ≤ above .node .count) × (above .node .count ≤ 14) ⌝ }
+    requires { ⌜ (0 < above .node .count) × (above .at ≤ above .node .count) × (above .node .count ≤ most-keys) ⌝ }
     ensures { λ r. ⌜ Between above r ⌝ }
 {
     let parent = above.node;
@@ -61,9 +61,9 @@ fn far_side(last: bool, left: u64, right: u64) -> u64
 
 // "From 8 or more keys one moves over": from m to n.
 fn lent(last: bool, n: Node, sep: u64, m: Node) -> Halves
-    requires { ⌜ (n .count ≤ 6) × (7 < m .count) × (m .count ≤ 14) ⌝ }
+    requires { ⌜ (n .count ≤ fewest-keys - 1) × (fewest-keys < m .count) × (m .count ≤ most-keys) ⌝ }
     ensures { λ r. ⌜ r ≡ lent last n sep m ⌝ }
-    ensures sizes { λ r. ⌜ (r .left .count ≤ 14) × (r .right .count ≤ 14) ⌝ }
+    ensures sizes { λ r. ⌜ (r .left .count ≤ most-keys) × (r .right .count ≤ most-keys) ⌝ }
 {
     if last {
         return m.from_left(sep, n);
@@ -73,9 +73,9 @@ fn lent(last: bool, n: Node, sep: u64, m: Node) -> Halves
 
 // "from 7 the two merge into the left one"
 fn joined(last: bool, n: Node, sep: u64, m: Node) -> Node
-    requires { ⌜ (n .count ≤ 6) × (m .count ≤ 7) ⌝ }
+    requires { ⌜ (n .count ≤ fewest-keys - 1) × (m .count ≤ fewest-keys) ⌝ }
     ensures { λ r. ⌜ r ≡ joined last n sep m ⌝ }
-    ensures size { λ r. ⌜ r .count ≤ 14 ⌝ }
+    ensures size { λ r. ⌜ r .count ≤ most-keys ⌝ }
 {
     if last {
         return m.merge(sep, n);
@@ -106,11 +106,10 @@ fn collapse(
     a: u64,
     b: u64,
 ) -> Risen
-    requires { ⌜ Rising servers (now part) (now own) (now used) 14 ⌝ }
+    requires { ⌜ Rising servers (now part) (now own) (now used) (risen-most + 2) ⌝ }
     requires there { ⌜ in-store (sizes servers slots) root ≡ true ⌝ }
-    requires few { ⌜ one .count ≤ 14 ⌝ }
-    ensures { λ r. ⌜ Collapses (sizes servers slots) (held (now (part .entry))) (now (own .entry)) (now (used .entry)) (a, b) root child
-        one r (now (own .exit)) (now (used .exit)) ⌝ }
+    requires few { ⌜ one .count ≤ most-keys ⌝ }
+    ensures { λ r. ⌜ over-lent Collapses servers slots part own used (a, b) root child one r (now (own .exit)) (now (used .exit)) ⌝ }
 {
     let stop = release(part, servers, slots, own, used, child);
     let on = going(stop);
@@ -146,11 +145,10 @@ fn merge(
     a: u64,
     b: u64,
 ) -> Risen
-    requires { ⌜ Rising servers (now part) (now own) (now used) 12 ⌝ }
+    requires { ⌜ Rising servers (now part) (now own) (now used) risen-most ⌝ }
     requires beside { ⌜ Neighbours (sizes servers slots) above s ⌝ }
     requires few { ⌜ SmallNode one ⌝ }
-    ensures { λ r. ⌜ Merges (sizes servers slots) (held (now (part .entry))) (now (own .entry)) (now (used .entry)) root (a, b) above s
-        one r (now (own .exit)) (now (used .exit)) ⌝ }
+    ensures { λ r. ⌜ over-lent Merges servers slots part own used root (a, b) above s one r (now (own .exit)) (now (used .exit)) ⌝ }
 {
     let left = s.left;
     let stop = release(part, servers, slots, own, used, s.right);
@@ -186,13 +184,12 @@ fn even_out(
     a: u64,
     b: u64,
 ) -> Risen
-    requires { ⌜ Rising servers (now part) (now own) (now used) 12 ⌝ }
+    requires { ⌜ Rising servers (now part) (now own) (now used) risen-most ⌝ }
     requires beside { ⌜ Neighbours (sizes servers slots) above s ⌝ }
     requires turning { ⌜ SmallNode n ⌝ }
     requires far { ⌜ SmallNode m ⌝ }
-    requires lacks { ⌜ n .count ≤ 6 ⌝ }
-    ensures { λ r. ⌜ Evens (sizes servers slots) (held (now (part .entry))) (now (own .entry)) (now (used .entry)) root (a, b) above s n
-        m r (now (own .exit)) (now (used .exit)) ⌝ }
+    requires lacks { ⌜ n .count ≤ fewest-keys - 1 ⌝ }
+    ensures { λ r. ⌜ over-lent Evens servers slots part own used root (a, b) above s n m r (now (own .exit)) (now (used .exit)) ⌝ }
 {
     let parent = above.node;
     let at = s.at;
@@ -228,12 +225,11 @@ pub fn neighbour(
     a: u64,
     b: u64,
 ) -> Risen
-    requires { ⌜ Rising servers (now part) (now own) (now used) 12 ⌝ }
+    requires { ⌜ Rising servers (now part) (now own) (now used) risen-most ⌝ }
     requires under { ⌜ Under (sizes servers slots) level name above ⌝ }
     requires of { ⌜ OfLevel level n ⌝ }
-    requires lacks { ⌜ n .count ≤ 6 ⌝ }
-    ensures { λ r. ⌜ Raised (sizes servers slots) (held (now (part .entry))) (now (own .entry)) (now (used .entry)) level root
-        (neighbour-plan (a, b) level above name (entriesOf n)) r (now (own .exit)) (now (used .exit)) ⌝ }
+    requires lacks { ⌜ n .count ≤ fewest-keys - 1 ⌝ }
+    ensures { λ r. ⌜ Raises servers slots part own used level root (λ _. neighbour-plan (a, b) level above name (entriesOf n)) r ⌝ }
 {
     let parent = above.node;
     if parent.count == 0 {

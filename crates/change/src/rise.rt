@@ -9,7 +9,7 @@ use walk::walk::node_number;
 ghost use mathlib.Core.Path.{_≡_};
 ghost use Prim.Native.Nat.{_-_, _<_, _≤_};
 ghost use Rattle.client.specs.Lent.{own-count};
-ghost use Rattle.walk.specs.Bounds.{end-of-names, own-most};
+ghost use Rattle.client.specs.Bounds.{end-of-names, own-most, most-keys};
 ghost use Rattle.walk.specs.Ask.{OwnGood};
 ghost use Rattle.change.specs.Rise.{NodeWritten, Fitting, BothWritten, widened};
 
@@ -21,7 +21,7 @@ pub struct Risen {
 
 // A node is written under its name, as the record of its keys and slots.
 pub fn write_node(own: &mut [u64], name: u64, n: Node)
-    requires { ⌜ (name < end-of-names) × OwnGood (now own) × (own-count (now own) < own-most) × (n .count ≤ 14) ⌝ }
+    requires { ⌜ (name < end-of-names) × OwnGood (now own) × (own-count (now own) < own-most) × (n .count ≤ most-keys) ⌝ }
     ensures { λ _. ⌜ NodeWritten (now (own .entry)) name n (now (own .exit)) ⌝ }
 {
     let number = node_number(name);
@@ -43,7 +43,7 @@ pub fn write_halves(own: &mut [u64], left: u64, right: u64, h: Halves)
 
 // A node's keys and slots, as the content that goes up.
 pub fn widen(n: Node) -> Wide
-    requires { ⌜ n .count ≤ 14 ⌝ }
+    requires { ⌜ n .count ≤ most-keys ⌝ }
     ensures { λ r. ⌜ r ≡ widened n ⌝ }
     ensures size { λ r. ⌜ r .count ≡ n .count ⌝ }
 {

@@ -10,10 +10,9 @@ use walk::walk::Stop;
 use walk::walk::going;
 ghost use Prim.Native.Nat.{_-_, _<_, _≤_};
 ghost use Rattle.client.specs.Record.{sizes};
-ghost use Rattle.client.specs.Sets.{held};
 ghost use Rattle.client.specs.Lent.{own-count};
-ghost use Rattle.walk.specs.Bounds.{end-of-names, own-most};
-ghost use Rattle.walk.specs.Ask.{OwnGood, Writing, Rising};
+ghost use Rattle.client.specs.Bounds.{end-of-names, own-most, most-keys, risen-most};
+ghost use Rattle.walk.specs.Ask.{OwnGood, Writing, Rising, over-lent};
 ghost use Rattle.change.specs.Rise.{Under, Full};
 ghost use Rattle.change.specs.Split.{HalfTaken, Overfull, Halved, Divided, Splits};
 
@@ -28,8 +27,7 @@ fn take_half(
 ) -> Taken
     requires { ⌜ Writing servers (now part) (now own) (now used) own-most ⌝ }
     requires there { ⌜ name < end-of-names ⌝ }
-    ensures { λ r. ⌜ HalfTaken (sizes servers slots) (held (now (part .entry))) (now (own .entry)) (now (used .entry)) name r
-        (now (own .exit)) (now (used .exit)) ⌝ }
+    ensures { λ r. ⌜ over-lent HalfTaken servers slots part own used name r (now (own .exit)) (now (used .exit)) ⌝ }
 {
     let t = take_for(part, servers, slots, own, used, name);
     let stop = t.stop;
@@ -56,7 +54,7 @@ pub fn halve(own: &mut [u64], left: u64, right: u64, n: Wide) -> u64
 // A child's halves are written; the result is its parent with the right one as one more child.
 fn divide(own: &mut [u64], above: Turn, left: u64, right: u64, n: Wide) -> Wide
     requires { ⌜ (left < end-of-names) × (right < end-of-names) × OwnGood (now own) × (own-count (now own) < own-most - 1) ⌝ }
-    requires parent { ⌜ (above .node .count ≤ 14) × (above .at ≤ above .node .count) ⌝ }
+    requires parent { ⌜ (above .node .count ≤ most-keys) × (above .at ≤ above .node .count) ⌝ }
     requires full { ⌜ Overfull n ⌝ }
     ensures { λ r. ⌜ Divided (now (own .entry)) above left right n r (now (own .exit)) ⌝ }
 {
@@ -77,11 +75,10 @@ pub fn split(
     name: u64,
     n: Wide,
 ) -> Risen
-    requires { ⌜ Rising servers (now part) (now own) (now used) 12 ⌝ }
+    requires { ⌜ Rising servers (now part) (now own) (now used) risen-most ⌝ }
     requires under { ⌜ Under (sizes servers slots) level name above ⌝ }
     requires full { ⌜ Full level n ⌝ }
-    ensures { λ r. ⌜ Splits (sizes servers slots) (held (now (part .entry))) (now (own .entry)) (now (used .entry)) level above name n r
-        (now (own .exit)) (now (used .exit)) ⌝ }
+    ensures { λ r. ⌜ over-lent Splits servers slots part own used level above name n r (now (own .exit)) (now (used .exit)) ⌝ }
 {
     let t = take_half(part, servers, slots, own, used, name);
     let stop = t.stop;

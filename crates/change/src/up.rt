@@ -7,9 +7,8 @@ use walk::down::Turn;
 use walk::walk::Stop;
 use walk::walk::going;
 ghost use Rattle.client.specs.Record.{sizes};
-ghost use Rattle.client.specs.Sets.{held};
 ghost use Rattle.walk.specs.Ask.{Beginning};
-ghost use Rattle.change.specs.Operated.{Operated};
+ghost use Rattle.change.specs.Operated.{Operates};
 ghost use Rattle.change.specs.Up.{Ready, rise-plan};
 
 pub fn rise(
@@ -27,8 +26,7 @@ pub fn rise(
 ) -> Stop
     requires { ⌜ Beginning servers (now part) (now own) (now used) ⌝ }
     requires ready { ⌜ Ready (sizes servers slots) top path leaf content ⌝ }
-    ensures { λ r. ⌜ Operated (sizes servers slots) (held (now (part .entry))) (now (own .entry)) (now (used .entry))
-        (rise-plan (sizes servers slots) (a, b) top path leaf content) r (now (own .exit)) (now (used .exit)) ⌝ }
+    ensures { λ r. ⌜ Operates servers slots part own used (λ z. rise-plan z (a, b) top path leaf content) r ⌝ }
 {
     let mut name = leaf;
     let mut n = content;
@@ -75,8 +73,7 @@ pub fn carry_up(
 ) -> Stop
     requires { ⌜ Beginning servers (now part) (now own) (now used) ⌝ }
     requires ready { ⌜ Ready (sizes servers slots) (d .top) (d .path) (d .name) content ⌝ }
-    ensures { λ r. ⌜ Operated (sizes servers slots) (held (now (part .entry))) (now (own .entry)) (now (used .entry))
-        (rise-plan (sizes servers slots) (a, 0) (d .top) (d .path) (d .name) content) r (now (own .exit)) (now (used .exit)) ⌝ }
+    ensures { λ r. ⌜ Operates servers slots part own used (λ z. rise-plan z (a, 0) (d .top) (d .path) (d .name) content) r ⌝ }
 {
     let top = d.top;
     let path = d.path;

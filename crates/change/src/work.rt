@@ -18,11 +18,12 @@ ghost use Rattle.client.specs.Record.{sizes};
 ghost use Rattle.client.specs.Sets.{held};
 ghost use Rattle.client.specs.Work.{waiting};
 ghost use Rattle.walk.specs.Ask.{Beginning};
-ghost use Rattle.change.specs.Operated.{Operated};
+ghost use Rattle.change.specs.Operated.{Operates};
 ghost use Rattle.walk.specs.Stopped.{Waiting};
 ghost use Rattle.walk.specs.declared.operation.Operation.the-variants.{Write};
 ghost use Rattle.walk.specs.Operation.{operation-of};
-ghost use Rattle.change.specs.Work.{Ready, Works};
+ghost use Rattle.change.specs.Work.{Ready, WorksOn};
+ghost use Rattle.client.specs.Bounds.{most-servers};
 
 // "insert, .. delete, .. migrate (key is the node name)"
 fn walk(
@@ -35,8 +36,7 @@ fn walk(
 ) -> Stop
     requires { ⌜ Beginning servers (now part) (now own) (now used) ⌝ }
     requires waits { ⌜ Waiting (held (now part)) × (operation-of (held (now part) op-number) ≡ Write op) ⌝ }
-    ensures { λ r. ⌜ Operated (sizes servers slots) (held (now (part .entry))) (now (own .entry)) (now (used .entry))
-        (reading (sizes servers slots) (waiting (held (now (part .entry))))) r (now (own .exit)) (now (used .exit)) ⌝ }
+    ensures { λ r. ⌜ Operates servers slots part own used (λ z. reading z (waiting (held (now (part .entry))))) r ⌝ }
 {
     let key = get_field(part, OP_KEY);
     match op {
@@ -61,10 +61,9 @@ pub fn work(
     used: &mut [u64],
     op: Update,
 ) -> Stop
-    requires { ⌜ (servers ≤ 8) × Ready (now own) (now used) × ClientPart (now part) ⌝ }
+    requires { ⌜ (servers ≤ most-servers) × Ready (now own) (now used) × ClientPart (now part) ⌝ }
     requires waits { ⌜ Waiting (held (now part)) × (operation-of (held (now part) op-number) ≡ Write op) ⌝ }
-    ensures { λ r. ⌜ Works (sizes servers slots) (held (now (part .entry))) r (now (own .entry)) (now (used .entry))
-        (now (own .exit)) (now (used .exit)) ⌝ }
+    ensures { λ r. ⌜ WorksOn (sizes servers slots) (held (now (part .entry))) r own used ⌝ }
 {
     let stop = walk(part, servers, slots, own, used, op);
     let answered = is_answer(stop);

@@ -6,10 +6,11 @@ use Rattle.nodes.specs.declared.found.Found.{Found}
 use Rattle.nodes.specs.declared.found.Found.the-variants.{At, Absent}
 use Rattle.nodes.specs.Name.{server-of}
 use Rattle.client.specs.declared.part.Set.the-variants.{Reads, Copies}
-use Rattle.client.specs.Layout.{client-words, meta-copied}
+use Rattle.client.specs.Layout.{client-words, meta-copied, limit}
 use Rattle.client.specs.Record.{by-number}
 use Rattle.client.specs.Sets.{count, number-at, find}
 use Rattle.client.specs.Part.{PartStep, _then_, nothing, put-item, put-number, drop-vector, put-word}
+use Rattle.client.specs.Bounds.{most-servers}
 
 -- to an empty place; "when full, a node isn't copied"
 abbrev pub to-empty : ℕ → Node → Found → PartStep
@@ -52,4 +53,4 @@ empty-place i = put-number Copies i 0
 
 -- "loss drops all copies": the metadata, 64 inner nodes, 8 vectors
 unfoldable pub drop-all : PartStep
-drop-all = put-word meta-copied 0 then sweep client-words empty-place 64 then sweep client-words drop-vector 8
+drop-all = put-word meta-copied 0 then sweep client-words empty-place (limit Copies) then sweep client-words drop-vector most-servers

@@ -9,7 +9,7 @@ use Rattle.nodes.specs.declared.node.Node.{Node}
 use Rattle.nodes.specs.declared.found.Found.{Found}
 use Rattle.nodes.specs.declared.found.Found.the-variants.{At, Absent}
 use Rattle.client.specs.declared.part.Set.the-variants.{Reads, Writes}
-use Rattle.client.specs.Layout.{client-words, reads-count, writes-count}
+use Rattle.client.specs.Layout.{client-words, reads-count, writes-count, limit}
 use Rattle.client.specs.Sets.{count, find}
 use Rattle.client.specs.Part.{PartStep, _then_, nothing, put-item, put-word}
 use Rattle.client.specs.Have.{copied}
@@ -21,7 +21,7 @@ read-behind c x r = put-item Reads c x r then put-word reads-count (c + 1)
 
 -- x enters the read set. There is always room: object 97 has ended the step by reason 4 (`judged`, `Steps.full`)
 unfoldable pub enter-read : ℕ → Node → PartStep
-enter-read x r m = cond (ltb (count m Reads) 96) (read-behind (count m Reads) x r) nothing m
+enter-read x r m = cond (ltb (count m Reads) (limit Reads)) (read-behind (count m Reads) x r) nothing m
 
 -- "what is used enters the read set": a copy, by its number
 unfoldable pub enter-copy : ℕ → PartStep
@@ -43,7 +43,7 @@ written-behind c x r = put-item Writes c x r then put-word writes-count (c + 1)
 -- by reason 4 (`last-questions`)
 abbrev pub enter-at : ℕ → Node → ℕ → Found → PartStep
 enter-at x r c (At i) = put-item Writes i x r
-enter-at x r c Absent = cond (ltb c 48) (written-behind c x r) nothing
+enter-at x r c Absent = cond (ltb c (limit Writes)) (written-behind c x r) nothing
 
 -- x enters the write set with the record r
 unfoldable pub enter-write : ℕ → Node → PartStep

@@ -15,13 +15,14 @@ use Rattle.client.specs.Sets.{count, number-at, record-at, find}
 use Rattle.client.specs.Items.{all-below, has, inner, inner-before-after}
 use Rattle.client.specs.Participants.{at-home}
 use Rattle.client.specs.Drops.{version-of}
+use Rattle.client.specs.Bounds.{most-servers, last-node-number, first-flag-number}
 
 module _ (m : ClientWord → ℕ) where
   -- how many items a set says that it has
   abbrev pub said-count : Set → ℕ
   said-count Reads = m reads-count
   said-count Writes = m writes-count
-  said-count Copies = 64
+  said-count Copies = limit Copies
 
   -- is the kind of item i of a set in range
   unfoldable pub kind-fits : Set → ℕ → Bool
@@ -33,7 +34,7 @@ module _ (m : ClientWord → ℕ) where
 
   -- the version read of an object has a next one; of flags none is kept
   unfoldable pub young : ℕ → Bool
-  young x = ltb 8192 x || ltb (version-of m (find m Reads x)) last-version
+  young x = ltb last-node-number x || ltb (version-of m (find m Reads x)) last-version
 
   -- does a server store something of the object: "at home and, for a node inner before or after, in every table"
   abbrev pub stored-at : ℕ → ℕ → Bool
@@ -41,7 +42,7 @@ module _ (m : ClientWord → ℕ) where
 
   -- the read of write item i is there, if it is metadata or a node: their version is the one read plus 1
   unfoldable pub read-fits : ℕ → Bool
-  read-fits i = ltb 8192 (number-at m Writes i) || is-read i
+  read-fits i = ltb last-node-number (number-at m Writes i) || is-read i
 
   -- the version read of write item i, if server s stores it
   unfoldable pub version-fits : ℕ → ℕ → Bool
@@ -60,23 +61,27 @@ module _ (z : TreeSizes) (m : ClientWord → ℕ) where
   unfoldable pub numbers-fit : Set → Bool
   numbers-fit s = leb (said-count m s) (limit s) && all-below (count m s) (number-fits s)
 
+  -- both the read set and the write set
+  abbrev pub sets-fit : Bool
+  sets-fit = numbers-fit Reads && numbers-fit Writes
+
   -- the operation that waits is one of six; a migrate's node and server are in the store
   unfoldable pub op-fits : Bool
   op-fits = leb (m op-number) 6 && cond (eqb (m op-number) 6) (in-store z (m op-key) && ltb (m op-server) (z .servers)) true
 
   -- WORK: the operation, and which objects are read and written
   unfoldable pub fit-to-work : Bool
-  fit-to-work = op-fits && (numbers-fit Reads && numbers-fit Writes)
+  fit-to-work = op-fits && sets-fit
 
   -- COMMIT: which objects are read and written, their kinds, and the reads of what is written: they say who takes part
   unfoldable pub fit-to-commit : Bool
   fit-to-commit =
-      (numbers-fit Reads && numbers-fit Writes)
+      sets-fit
       && (all-below (count m Reads) (kind-fits m Reads) && (all-below (count m Writes) (kind-fits m Writes) && all-below (count m Writes) (is-read m)))
 
   -- PREPARE: who takes part and who has prepared, which objects are read and written
   unfoldable pub fit-to-prepare : Bool
-  fit-to-prepare = (servers-fit m (z .servers) participants && servers-fit m (z .servers) prepared) && (numbers-fit Reads && numbers-fit Writes)
+  fit-to-prepare = (servers-fit m (z .servers) participants && servers-fit m (z .servers) prepared) && sets-fit
 
   -- ABORT: who has prepared, and which objects are read
   unfoldable pub fit-to-abort : Bool
@@ -86,11 +91,11 @@ module _ (z : TreeSizes) (m : ClientWord → ℕ) where
   unfoldable pub fit-to-unlock : Bool
   fit-to-unlock = servers-fit m (z .servers) participants && numbers-fit Writes
 
-  -- write item i as server s stores it: the read of a written node; at home, which is s, its record; wherever it is stored the version read
+  -- the record of write item i, where server s is its home
   unfoldable pub stored-record-fits : ℕ → ℕ → Bool
   stored-record-fits s i = not (at-home s (number-at m Writes i)) || whole-in-range z (number-at m Writes i) (record-at m Writes i)
 
-  -- the three together
+  -- write item i as server s stores it: the read of a written node; at home its record; wherever it is stored the version read
   unfoldable pub write-fits : ℕ → ℕ → Bool
   write-fits s i = read-fits m i && (stored-record-fits s i && version-fits m s i)
 
@@ -98,22 +103,22 @@ module _ (z : TreeSizes) (m : ClientWord → ℕ) where
   unfoldable pub writes-fit : ℕ → Bool
   writes-fit s = all-below (count m Writes) (write-fits s)
 
-  -- write item i as copies are renewed by it, if it is a flag: its value, and whether there is a copy of its vector
+  -- write item i as copies are renewed by it: of a flag its value, and whether there is a copy of its vector
   unfoldable pub flag-renewal-fits : ℕ → Bool
   flag-renewal-fits i =
       let x = number-at m Writes i in
-      let s = server-of (x - 8193) in
-      (ltb s 8 && leb (m (vector-word s 0)) 1) && whole-in-range z x (record-at m Writes i)
+      let s = server-of (x - first-flag-number) in
+      (ltb s most-servers && leb (m (vector-word s 0)) 1) && whole-in-range z x (record-at m Writes i)
 
-  -- if it is metadata or an inner node: whole, and the version read
+  -- of metadata and inner nodes the whole record, and the version read
   unfoldable pub inner-renewal-fits : ℕ → Bool
   inner-renewal-fits i =
       let x = number-at m Writes i in
       not (inner x (record-at m Writes i)) || (whole-in-range z x (record-at m Writes i) && young m x)
 
-  -- one or the other
+  -- by its number the one or the other
   unfoldable pub renewal-fits : ℕ → Bool
-  renewal-fits i = cond (ltb 8192 (number-at m Writes i)) (flag-renewal-fits i) (inner-renewal-fits i)
+  renewal-fits i = cond (ltb last-node-number (number-at m Writes i)) (flag-renewal-fits i) (inner-renewal-fits i)
 
   -- the renewal of copies; "a lost client gets none"
   unfoldable pub fit-to-renew : Bool

@@ -43,7 +43,7 @@ is-found Here = true
 is-found Copied = true
 is-found Lacking = false
 
--- is it a copy
+-- is it a copy, and in neither set
 abbrev pub is-copied : How → Bool
 is-copied Here = false
 is-copied Copied = true

@@ -7,6 +7,7 @@ use Rattle.layout.specs.Block.{Block, words, times, followed-by, end}
 use Rattle.layout.specs.Space.{Coding}
 use Rattle.client.specs.declared.part.Set.{Set}
 use Rattle.client.specs.declared.part.Set.the-variants.{Reads, Writes, Copies}
+use Rattle.client.specs.Bounds.{most-servers}
 
 -- a word of a client's part; the read set, the write set and the copies of inner nodes have items of one form
 pub data ClientWord : Type 0 where
@@ -76,6 +77,10 @@ meta-root = field 13
 abbrev pub meta-version : ClientWord
 meta-version = field 14
 
+-- how many fields there are
+abbrev pub field-count : ℕ
+field-count = 15
+
 -- where runs of fields begin: the waiting operation's
 abbrev pub op-fields : ℕ
 op-fields = 1
@@ -110,16 +115,29 @@ limit Reads = 96
 limit Writes = 48
 limit Copies = 64
 
+-- a record of a node's form has so many words
+abbrev pub record-words : ℕ
+record-words = 33
+
+-- an item of a set: the object's number, and its record
+abbrev pub item-words : ℕ
+item-words = 34
+
+-- the copy of a vector: whether there is one, and its sixteen words
+abbrev pub vector-words : ℕ
+vector-words = 17
+
 -- where a set begins
 unfoldable pub base : Set → ℕ
-base Reads = 15
+base Reads = field-count
 base Writes = 3279
 base Copies = 4911
 
 -- 15 fields; 96 read, 48 written and 64 copied items of 34 words; the copies of 8 vectors, of 17 words
 abbrev pub client-block : Block
 client-block =
-    followed-by (words 15) (followed-by (times 96 (words 34)) (followed-by (times 48 (words 34)) (followed-by (times 64 (words 34)) (followed-by (times 8 (words 17)) end))))
+    followed-by (words field-count) (followed-by (times (limit Reads) (words item-words)) (followed-by (times (limit Writes) (words item-words))
+    (followed-by (times (limit Copies) (words item-words)) (followed-by (times most-servers (words vector-words)) end))))
 
 -- where in the block each word of the part stands
 abbrev pub client-code : ClientWord → List ℕ

@@ -3,25 +3,34 @@ use mathlib.Core.List.{List, [], _∷_, _++_}
 use Prim.Native.Nat.{ℕ, zero, suc, _+_, _*_, _≤_, _<_}
 use lib.ListN.{length, getD, take, drop, set}
 use lib.Seq.{paste}
+use denote.Ref.{RefT}
+use denote.Triple.Both.{Both}
 use Rattle.nodes.specs.declared.node.Node.{Node}
 use Rattle.nodes.specs.declared.found.Found.{Found}
 use Rattle.nodes.specs.declared.found.Found.the-variants.{At, Absent}
 use Rattle.client.specs.Sets.{first-of}
 use Rattle.nodes.specs.Stored.{node-at, words-of}
+use Rattle.client.specs.Bounds.{end-of-numbers, used-most, used-room, own-most, own-room}
+use Rattle.client.specs.Layout.{limit, item-words}
+use Rattle.client.specs.declared.part.Set.the-variants.{Reads}
+
+-- a lent list as a contract names it: as it is lent, and as it comes back
+abbrev pub LentList : Type 0
+LentList = Both (RefT (List ℕ)) (RefT (List ℕ))
 
 -- ---- own writes: their count, then items of 34 words, an object's number and its record; each object once
 pub record OwnFits (w : List ℕ) : Type 0 where
-  pub long : 681 ≤ length w
-  pub few : getD w 0 0 ≤ 20
+  pub long : own-room ≤ length w
+  pub few : getD w 0 0 ≤ own-most
 
 abbrev pub own-count : List ℕ → ℕ
 own-count w = getD w 0 0
 
 unfoldable pub own-number : List ℕ → ℕ → ℕ
-own-number w i = getD w (34 * i + 1) 0
+own-number w i = getD w (item-words * i + 1) 0
 
 unfoldable pub own-record : List ℕ → ℕ → Node
-own-record w i = node-at w (34 * i + 2)
+own-record w i = node-at w (item-words * i + 2)
 
 -- an object's number with its record
 abbrev pub Entry : Type 0
@@ -41,7 +50,7 @@ own-find w x = first-of (own-number w) (own-count w) x
 
 -- the object x gets the record r: in its place, else behind the others
 unfoldable pub own-at : List ℕ → ℕ → Node → ℕ → List ℕ
-own-at w x r i = paste w (34 * i + 1) (x ∷ words-of r) 34
+own-at w x r i = paste w (item-words * i + 1) (x ∷ words-of r) item-words
 
 abbrev pub own-entered : List ℕ → ℕ → Node → Found → List ℕ
 own-entered w x r (At i) = own-at w x r i
@@ -52,15 +61,15 @@ own-put w x r = own-entered w x r (own-find w x)
 
 -- ---- the copies in use: their count, then their numbers, in the order of use
 pub record Lent (u : List ℕ) : Type 0 where
-  pub long : 98 ≤ length u
-  pub few : getD u 0 0 ≤ 96
-  pub small : (i : ℕ) → i < getD u 0 0 → getD u (i + 1) 0 < 16385
+  pub long : used-room ≤ length u
+  pub few : getD u 0 0 ≤ limit Reads
+  pub small : (i : ℕ) → i < getD u 0 0 → getD u (i + 1) 0 < end-of-numbers
 
 -- object 97 may be among them, where it is judged at once
 pub record InUse (u : List ℕ) : Type 0 where
-  pub long : 98 ≤ length u
-  pub few : getD u 0 0 ≤ 97
-  pub small : (i : ℕ) → i < getD u 0 0 → getD u (i + 1) 0 < 16385
+  pub long : used-room ≤ length u
+  pub few : getD u 0 0 ≤ used-most
+  pub small : (i : ℕ) → i < getD u 0 0 → getD u (i + 1) 0 < end-of-numbers
 
 unfoldable pub used-in : List ℕ → List ℕ
 used-in u = take (getD u 0 0) (drop 1 u)

@@ -1,5 +1,7 @@
 -- One client's part of the memory, and what a client does between two messages, in reading order.
 
+-- where numbers end, and how many of a thing there may be
+pub mod Bounds
 -- the part's layout; nodes in words; objects as numbers and their records
 pub mod Layout
 pub mod Record

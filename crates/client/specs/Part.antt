@@ -10,7 +10,8 @@ use Rattle.layout.specs.Step.{Does, silent, andThen}
 use Rattle.nodes.specs.declared.node.Node.{Node}
 use Rattle.nodes.specs.Stored.{words-of}
 use Rattle.client.specs.declared.part.Set.{Set}
-use Rattle.client.specs.Layout.{ClientWord, client-words, client-block, field, item, vector-word}
+use Rattle.client.specs.Layout.{ClientWord, client-words, client-block, field, item, vector-word, item-words}
+use Rattle.client.specs.Bounds.{most-servers}
 
 -- a step is its stores, as a function of what the part holds
 abbrev pub PartStep : Type 0
@@ -42,7 +43,7 @@ put-fields i vs m = puts client-words (λ j. field (i + j)) vs
 
 -- item i of a set (34 words) becomes the object of number x with the record r
 unfoldable pub put-item : Set → ℕ → ℕ → Node → PartStep
-put-item s i x r m = puts client-words (item s i) (tab 34 (λ j. getD (x ∷ words-of r) j 0))
+put-item s i x r m = puts client-words (item s i) (tab item-words (λ j. getD (x ∷ words-of r) j 0))
 
 -- the number of item i becomes x
 unfoldable pub put-number : Set → ℕ → ℕ → PartStep
@@ -54,4 +55,4 @@ put-vector s ws m = puts client-words (vector-word s) (1 ∷ tab 16 (λ j. getD 
 
 -- there is no copy of the vector of server s; s is a server's number, so always below 8
 unfoldable pub drop-vector : ℕ → PartStep
-drop-vector s m = cond (ltb s 8) (put (vector-word s 0) 0 ∷ []) []
+drop-vector s m = cond (ltb s most-servers) (put (vector-word s 0) 0 ∷ []) []

@@ -11,16 +11,17 @@ use Rattle.nodes.specs.Place.{one-if}
 use Rattle.nodes.specs.Range.{node-in-range}
 use Rattle.operations.specs.Object.{Obj, meta, node, flag, Val, root, body, taken, flags}
 use Rattle.operations.specs.Slot.{TreeSizes}
+use Rattle.client.specs.Bounds.{last-node-number, first-flag-number}
 
 -- "in the order metadata, nodes by name, flags by name": the order of these numbers
 abbrev pub number : Obj → ℕ
 number meta = 0
 number (node n) = 1 + n
-number (flag n) = 8193 + n
+number (flag n) = first-flag-number + n
 
 -- by the number: what the metadata has, what a node of that name has, what a flag of that name has
 abbrev pub by-number : {A : Type 0} → ℕ → A → (ℕ → A) → (ℕ → A) → A
-by-number x a f g = cond (eqb x 0) a (cond (leb x 8192) (f (x - 1)) (g (x - 8193)))
+by-number x a f g = cond (eqb x 0) a (cond (leb x last-node-number) (f (x - 1)) (g (x - first-flag-number)))
 
 -- the root's name and a flag stand in the record's first slot
 abbrev pub first-slot : Node → ℕ

@@ -20,6 +20,7 @@ use Rattle.client.specs.Part.{PartStep, _then_, nothing, put-fields, put
 use Rattle.client.specs.Copies.{copy-node, drop-node}
 use Rattle.client.specs.Life.{reset}
 use Rattle.client.specs.Drops.{version-of, next-version}
+use Rattle.client.specs.Bounds.{most-servers, first-flag-number}
 
 -- a node that is written and not inner loses its copy
 unfoldable pub drop-outer : ℕ → PartStep
@@ -75,11 +76,11 @@ renew-meta m = meta-found m (find m Writes 0) m
 
 -- a flag is renewed in its server's vector, if there is a copy of that; the server is one of the store, so it is below 8
 unfoldable pub renew-in : (ClientWord → ℕ) → ℕ → ℕ → PartStep
-renew-in m n v = cond (ltb (server-of n) 8 && has-vector m (server-of n)) (put-vector (server-of n) (with-flag (vector-copy m (server-of n)) (slot-of n) (eqb v 1))) nothing
+renew-in m n v = cond (ltb (server-of n) most-servers && has-vector m (server-of n)) (put-vector (server-of n) (with-flag (vector-copy m (server-of n)) (slot-of n) (eqb v 1))) nothing
 
 -- write item i, if it is a flag (numbers from 8,193 on); word 19 says whether it is taken
 unfoldable pub renew-flag : ℕ → PartStep
-renew-flag i m = cond (ltb (number-at m Writes i) 8193) nothing (renew-in m (number-at m Writes i - 8193) (m (item Writes i 19))) m
+renew-flag i m = cond (ltb (number-at m Writes i) first-flag-number) nothing (renew-in m (number-at m Writes i - first-flag-number) (m (item Writes i 19))) m
 
 -- each for all write items
 unfoldable pub for-writes : (ℕ → PartStep) → PartStep

@@ -10,7 +10,7 @@ use Rattle.nodes.specs.declared.found.Found.{Found}
 use Rattle.nodes.specs.declared.found.Found.the-variants.{At, Absent}
 use Rattle.client.specs.declared.part.Set.{Set}
 use Rattle.client.specs.declared.part.Set.the-variants.{Reads, Writes, Copies}
-use Rattle.client.specs.Layout.{ClientWord, client-words, client-block, item, reads-count, writes-count}
+use Rattle.client.specs.Layout.{ClientWord, client-words, client-block, item, reads-count, writes-count, limit, record-words}
 use Rattle.nodes.specs.Stored.{node-of}
 
 -- what the bytes of a client's part hold
@@ -35,13 +35,13 @@ first-of f (suc n) x = or-found (first-of f n x) (cond (eqb (f n) x) (At n) Abse
 module _ (m : ClientWord → ℕ) where
   -- how many items a set has; a place among the copies may be empty, its number is then 0
   unfoldable pub count : Set → ℕ
-  count Reads = at-most 96 (m reads-count)
-  count Writes = at-most 48 (m writes-count)
-  count Copies = 64
+  count Reads = at-most (limit Reads) (m reads-count)
+  count Writes = at-most (limit Writes) (m writes-count)
+  count Copies = limit Copies
 
   -- the record of item i
   unfoldable pub record-at : Set → ℕ → Node
-  record-at s i = node-of (tab 33 (λ j. m (item s i (suc j))))
+  record-at s i = node-of (tab record-words (λ j. m (item s i (suc j))))
 
   -- the number of the object of item i
   unfoldable pub number-at : Set → ℕ → ℕ

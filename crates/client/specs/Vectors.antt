@@ -11,6 +11,7 @@ use Rattle.client.specs.declared.part.Set.the-variants.{Writes}
 use Rattle.client.specs.Layout.{ClientWord, item, vector-word, fetched-vectors}
 use Rattle.client.specs.Sets.{count, number-at}
 use Rattle.client.specs.Items.{all-below}
+use Rattle.client.specs.Bounds.{first-flag-number}
 
 module _ (m : ClientWord → ℕ) (s : ℕ) where
   -- is there a copy
@@ -27,7 +28,7 @@ module _ (m : ClientWord → ℕ) (s : ℕ) where
 
   -- write item i counted: numbers from 8,193 on are flags, and word 19 (the record's first slot) says whether one is taken
   unfoldable pub counted-one : ℕ → List ℕ → List ℕ
-  counted-one i ws = cond (ltb (number-at m Writes i) 8193) ws (counted-flag (number-at m Writes i - 8193) (m (item Writes i 19)) ws)
+  counted-one i ws = cond (ltb (number-at m Writes i) first-flag-number) ws (counted-flag (number-at m Writes i - first-flag-number) (m (item Writes i 19)) ws)
 
   -- the first n write items counted
   unfoldable pub counted-words : ℕ → List ℕ → List ℕ
@@ -42,7 +43,7 @@ module _ (m : ClientWord → ℕ) (s : ℕ) where
   unfoldable pub flag-fits : ℕ → Bool
   flag-fits i =
       let x = number-at m Writes i in
-      (ltb x 8193 || not (eqb (server-of (x - 8193)) s)) || leb (m (item Writes i 19)) 1
+      (ltb x first-flag-number || not (eqb (server-of (x - first-flag-number)) s)) || leb (m (item Writes i 19)) 1
 
   -- all of them
   unfoldable pub flags-fit : Bool

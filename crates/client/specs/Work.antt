@@ -9,7 +9,7 @@ use Rattle.operations.specs.Object.{Ask, Ans, Writes}
 use Rattle.operations.specs.Map.{Op, insert, lookup, delete, next, previous, migrate}
 use Rattle.operations.specs.Operation.{reading, all-fit?}
 use Rattle.operations.specs.Slot.{TreeSizes}
-use Rattle.client.specs.Layout.{ClientWord, op-number, op-key, op-value, op-server, reads-count, writes-count}
+use Rattle.client.specs.Layout.{ClientWord, op-number, op-key, op-value, op-server, reads-count, writes-count, limit}
 use Rattle.client.specs.Record.{last-version}
 use Rattle.client.specs.Sets.{record-at, find}
 use Rattle.client.specs.Have.{have, broken, copied}
@@ -18,6 +18,7 @@ use Rattle.client.specs.Items.{has}
 use Rattle.client.specs.Lent.{Entry}
 use Rattle.client.specs.Answered.{entered}
 use Rattle.client.specs.declared.part.Set.the-variants as set
+use Rattle.client.specs.Bounds.{last-node-number}
 
 -- how a work step ends: refused by 10; or the first thing lacking, an abort's reason, the answer with the operation's writes
 pub data Worked : Type 0 where
@@ -67,7 +68,7 @@ module _ (m : ClientWord → ℕ) where
 
   -- "8 a written version is 4,294,967,295": of metadata and nodes
   abbrev pub at-last-version : ℕ → Bool
-  at-last-version x = leb x 8192 && eqb (version-in x (find m set.Reads x)) last-version
+  at-last-version x = leb x last-node-number && eqb (version-in x (find m set.Reads x)) last-version
 
   -- is one of these objects at the last version
   unfoldable pub any-at-last : List Entry → Bool
@@ -77,14 +78,14 @@ module _ (m : ClientWord → ℕ) where
   -- the versions of all of these objects are there, of metadata and nodes
   unfoldable pub versions-there : List Entry → Bool
   versions-there [] = true
-  versions-there (e ∷ l) = (ltb 8192 (e .0) || version-there (e .0) (find m set.Reads (e .0))) && versions-there l
+  versions-there (e ∷ l) = (ltb last-node-number (e .0) || version-there (e .0) (find m set.Reads (e .0))) && versions-there l
 
 module _ (z : TreeSizes) (m : ClientWord → ℕ) where
   -- what would be written is looked at once all is read: reason 3, then 4, then 8, for which the versions are read
   abbrev pub last-questions : Ans → Writes → Worked
   last-questions a w =
       cond (not (all-fit? w w)) (aborted 3)
-      (cond (ltb 48 (writes-after m w)) (aborted 4)
+      (cond (ltb (limit set.Writes) (writes-after m w)) (aborted 4)
       (cond (not (versions-there m (entered w))) refused
       (cond (any-at-last m (entered w)) (aborted 8) (answers a w))))
 
@@ -96,7 +97,7 @@ module _ (z : TreeSizes) (m : ClientWord → ℕ) where
 
   -- the walk of the plan, with room for 96 objects in the read set, which has at most 96 (`fit-to-work`)
   unfoldable pub walked : Ran
-  walked = run (have z m) (new m) (96 - m reads-count) (reading z (waiting m)) []
+  walked = run (have z m) (new m) (limit set.Reads - m reads-count) (reading z (waiting m)) []
 
   -- how the work step ends
   unfoldable pub worked : Worked

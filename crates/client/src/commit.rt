@@ -20,6 +20,7 @@ ghost use Rattle.client.specs.Sets.{held, count};
 ghost use Rattle.client.specs.Commit.{is-at, inner-at};
 ghost use Rattle.client.specs.Items.{any-below};
 ghost use Rattle.client.specs.Participants.{calls-home, calls-all, participants-of};
+ghost use Rattle.client.specs.Bounds.{most-servers};
 
 pub fn is_at(at: Found) -> bool
     ensures { λ r. ⌜ r ≡ is-at at ⌝ }
@@ -47,7 +48,7 @@ pub fn inner_at(part: &[u8], set: Set, i: usize) -> bool
 
 // Does write item i make all servers take part?
 fn calls_all(part: &[u8], i: usize) -> bool
-    requires { ⌜ (i < 48) × ClientPart (now part) ⌝ }
+    requires { ⌜ (i < limit Writes) × ClientPart (now part) ⌝ }
     ensures { λ r. ⌜ r ≡ calls-all (held (now (part .entry))) i ⌝ }
 {
     let number = number_at(part, Set::Writes, i);
@@ -71,7 +72,7 @@ fn one_calls_all(part: &[u8]) -> bool
 
 // Does read item i make the server, its home, take part?
 fn calls_home(part: &[u8], server: u64, i: usize) -> bool
-    requires { ⌜ (i < 96) × ClientPart (now part) ⌝ }
+    requires { ⌜ (i < limit Reads) × ClientPart (now part) ⌝ }
     ensures { λ r. ⌜ r ≡ calls-home (held (now (part .entry))) server i ⌝ }
 {
     let number = number_at(part, Set::Reads, i);
@@ -109,7 +110,7 @@ fn takes_part(part: &[u8], all: bool, server: u64) -> bool
 
 // The set with or without a server.
 fn marked(set: u64, server: usize, there: bool) -> u64
-    requires { ⌜ server < 8 ⌝ }
+    requires { ⌜ server < most-servers ⌝ }
     ensures { λ r. ⌜ r ≡ putBit there set server ⌝ }
 {
     if there {
@@ -120,7 +121,7 @@ fn marked(set: u64, server: usize, there: bool) -> u64
 
 // The set of the servers that take part.
 pub fn participants(part: &[u8], servers: usize) -> u64
-    requires { ⌜ (servers ≤ 8) × ClientPart (now part) ⌝ }
+    requires { ⌜ (servers ≤ most-servers) × ClientPart (now part) ⌝ }
     ensures { λ r. ⌜ r ≡ participants-of (held (now (part .entry))) servers ⌝ }
 {
     let all = one_calls_all(part);

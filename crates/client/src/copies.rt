@@ -13,11 +13,13 @@ use nodes::name::Name;
 use nodes::node::Node;
 ghost use Prim.Native.Nat.{_<_};
 ghost use Rattle.layout.specs.Sweep.{sweep};
-ghost use Rattle.client.specs.Layout.{client-words, ClientPart};
+ghost use Rattle.client.specs.Layout.{client-words, ClientPart, limit};
 ghost use Rattle.client.specs.Part.{Did, drop-vector};
 ghost use Rattle.client.specs.Lent.{InUse, used-in};
 ghost use Rattle.client.specs.Drops.{drop-each, drop-used};
 ghost use Rattle.client.specs.Copies.{copy-node, drop-node, drop-object, drop-read, drop-reads, empty-place, drop-all};
+ghost use Rattle.client.specs.Bounds.{most-servers};
+ghost use Rattle.client.specs.declared.part.Set.the-variants.{Reads, Copies};
 
 // A node's copy, where it has a place or one is empty.
 pub fn copy_node(part: &mut [u8], number: u64, n: Node)
@@ -73,7 +75,7 @@ fn drop_object(part: &mut [u8], number: u64)
 }
 
 fn drop_read(part: &mut [u8], i: usize)
-    requires { ⌜ (i < 96) × ClientPart (now part) ⌝ }
+    requires { ⌜ (i < limit Reads) × ClientPart (now part) ⌝ }
     ensures { λ _. ⌜ Did (drop-read i) (now (part .entry)) (now (part .exit)) ⌝ }
 {
     let number = number_at(part, Set::Reads, i);
@@ -117,7 +119,7 @@ pub fn drop_used(part: &mut [u8], used: &[u64])
 
 fn drop_nodes(part: &mut [u8])
     requires { ⌜ ClientPart (now part) ⌝ }
-    ensures { λ _. ⌜ Did (sweep client-words empty-place 64) (now (part .entry)) (now (part .exit)) ⌝ }
+    ensures { λ _. ⌜ Did (sweep client-words empty-place (limit Copies)) (now (part .entry)) (now (part .exit)) ⌝ }
 {
     let mut i: usize = 0;
     while i < 64 {
@@ -128,7 +130,7 @@ fn drop_nodes(part: &mut [u8])
 
 fn drop_vectors(part: &mut [u8])
     requires { ⌜ ClientPart (now part) ⌝ }
-    ensures { λ _. ⌜ Did (sweep client-words drop-vector 8) (now (part .entry)) (now (part .exit)) ⌝ }
+    ensures { λ _. ⌜ Did (sweep client-words drop-vector most-servers) (now (part .entry)) (now (part .exit)) ⌝ }
 {
     let mut s: usize = 0;
     while s < 8 {

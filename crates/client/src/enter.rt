@@ -16,6 +16,7 @@ ghost use Rattle.client.specs.Lent.{InUse, used-in, OwnFits, own-list};
 ghost use Rattle.client.specs.Enter.{enter-read, enter-copy, enter-write, write-nth, enter-entries};
 ghost use Rattle.client.specs.Answered.{used-enter};
 ghost use Rattle.client.specs.Layout.{ClientPart};
+ghost use Rattle.client.specs.Bounds.{end-of-numbers, own-most};
 
 // An object with its record as read. Nothing is done where there are 96.
 pub fn enter_read(part: &mut [u8], number: u64, n: Node)
@@ -32,7 +33,7 @@ pub fn enter_read(part: &mut [u8], number: u64, n: Node)
 
 // A copy that came into use.
 fn enter_copy(part: &mut [u8], number: u64)
-    requires { ⌜ (number < 16385) × ClientPart (now part) ⌝ }
+    requires { ⌜ (number < end-of-numbers) × ClientPart (now part) ⌝ }
     ensures { λ _. ⌜ Did (enter-copy number) (now (part .entry)) (now (part .exit)) ⌝ }
 {
     let l = copied(part, number);
@@ -75,7 +76,7 @@ fn enter_write(part: &mut [u8], number: u64, n: Node)
 
 // The operation's own write i.
 fn write_nth(part: &mut [u8], own: &[u64], i: usize)
-    requires { ⌜ (i < 20) × OwnFits (now own) × ClientPart (now part) ⌝ }
+    requires { ⌜ (i < own-most) × OwnFits (now own) × ClientPart (now part) ⌝ }
     ensures { λ _. ⌜ Did (write-nth (now (own .entry)) i) (now (part .entry)) (now (part .exit)) ⌝ }
 {
     let n = own_record(own, i);

@@ -14,6 +14,7 @@ ghost use Prim.Native.Nat.{_<_};
 ghost use Rattle.client.specs.Part.{Did};
 ghost use Rattle.client.specs.Fetched.{fetched-meta, fetched-node, fetched-vector, copy-inner, mark-fetched};
 ghost use Rattle.client.specs.Layout.{ClientPart};
+ghost use Rattle.client.specs.Bounds.{most-servers, end-of-names};
 
 pub fn fetched_meta(part: &mut [u8], root: u64, version: u64)
     requires { ⌜ ClientPart (now part) ⌝ }
@@ -36,7 +37,7 @@ fn copy_inner(part: &mut [u8], number: u64, n: Node)
 }
 
 pub fn fetched_node(part: &mut [u8], name: u64, n: Node)
-    requires { ⌜ (name < 8192) × ClientPart (now part) ⌝ }
+    requires { ⌜ (name < end-of-names) × ClientPart (now part) ⌝ }
     ensures { λ _. ⌜ Did (fetched-node name n) (now (part .entry)) (now (part .exit)) ⌝ }
 {
     enter_read(part, 1 + name, n);
@@ -44,7 +45,7 @@ pub fn fetched_node(part: &mut [u8], name: u64, n: Node)
 }
 
 fn mark_fetched(part: &mut [u8], s: usize)
-    requires { ⌜ (s < 8) × ClientPart (now part) ⌝ }
+    requires { ⌜ (s < most-servers) × ClientPart (now part) ⌝ }
     ensures { λ _. ⌜ Did (mark-fetched s) (now (part .entry)) (now (part .exit)) ⌝ }
 {
     let marks = with(get_field(part, FETCHED_VECTORS), s as u32);
@@ -52,7 +53,7 @@ fn mark_fetched(part: &mut [u8], s: usize)
 }
 
 pub fn fetched_vector(part: &mut [u8], s: usize, words: [u64; 16])
-    requires { ⌜ (s < 8) × ClientPart (now part) ⌝ }
+    requires { ⌜ (s < most-servers) × ClientPart (now part) ⌝ }
     ensures { λ _. ⌜ Did (fetched-vector s words) (now (part .entry)) (now (part .exit)) ⌝ }
 {
     set_vector(part, s, words);

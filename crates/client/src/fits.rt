@@ -1,14 +1,14 @@
 // Refusal 10, "Something stored that this step's rule reads has a field out of range": what each rule reads of its client's own part.
 ghost use mathlib.Core.Path.{_≡_};
-ghost use mathlib.Core.Bool.{_&&_};
 ghost use Prim.Native.Nat.{_≤_, _<_};
 ghost use lib.Dec.{leb};
-ghost use Rattle.client.specs.declared.part.Set.the-variants.{Reads, Writes};
-ghost use Rattle.client.specs.Layout.{ClientPart, field, limit};
+ghost use Rattle.client.specs.declared.part.Set.the-variants.{Writes};
+ghost use Rattle.client.specs.Layout.{ClientPart, field, limit, field-count};
 ghost use Rattle.client.specs.Record.{sizes, number-in-store};
 ghost use Rattle.client.specs.Sets.{held, count, number-at};
 ghost use Rattle.client.specs.Items.{all-below};
-ghost use Rattle.client.specs.Fits.{said-count, kind-fits, is-read, young, stored-at, read-fits, version-fits, servers-fit, numbers-fit, op-fits, fit-to-work, fit-to-commit, fit-to-prepare, fit-to-abort, fit-to-unlock, stored-record-fits, write-fits, writes-fit, flag-renewal-fits, inner-renewal-fits, renewal-fits, fit-to-renew, fit-to-apply};
+ghost use Rattle.client.specs.Fits.{said-count, kind-fits, is-read, young, stored-at, read-fits, version-fits, servers-fit, numbers-fit, op-fits, fit-to-work, fit-to-commit, fit-to-prepare, fit-to-abort, fit-to-unlock, stored-record-fits, write-fits, writes-fit, flag-renewal-fits, inner-renewal-fits, renewal-fits, fit-to-renew, fit-to-apply, sets-fit};
+ghost use Rattle.client.specs.Bounds.{most-servers, last-node-number};
 use crate::items::has;
 use crate::items::inner_before_after;
 use crate::items::is_home;
@@ -36,7 +36,7 @@ use nodes::name::Name;
 
 // The set of servers in a field has servers of the store only.
 fn servers_fit(part: &[u8], servers: usize, i: usize) -> bool
-    requires { ⌜ (servers ≤ 8) × (i < 15) × ClientPart (now part) ⌝ }
+    requires { ⌜ (servers ≤ most-servers) × (i < field-count) × ClientPart (now part) ⌝ }
     ensures { λ r. ⌜ r ≡ servers-fit (held (now (part .entry))) servers (field i) ⌝ }
 {
     let one: u64 = 1;
@@ -90,8 +90,7 @@ fn numbers_fit(part: &[u8], servers: usize, slots: usize, set: Set) -> bool
 // Both the read set and the write set.
 fn sets_fit(part: &[u8], servers: usize, slots: usize) -> bool
     requires { ⌜ ClientPart (now part) ⌝ }
-    ensures { λ r. ⌜ r ≡ (numbers-fit (sizes servers slots) (held (now (part .entry))) Reads
-        && numbers-fit (sizes servers slots) (held (now (part .entry))) Writes) ⌝ }
+    ensures { λ r. ⌜ r ≡ sets-fit (sizes servers slots) (held (now (part .entry))) ⌝ }
 {
     if !numbers_fit(part, servers, slots, Set::Reads) {
         return false;
@@ -162,7 +161,7 @@ fn kinds_fit(part: &[u8], set: Set) -> bool
 
 // "a written object's read": that of a write item.
 fn is_read(part: &[u8], i: usize) -> bool
-    requires { ⌜ (i < 48) × ClientPart (now part) ⌝ }
+    requires { ⌜ (i < limit Writes) × ClientPart (now part) ⌝ }
     ensures { λ r. ⌜ r ≡ is-read (held (now (part .entry))) i ⌝ }
 {
     has(part, Set::Reads, number_at(part, Set::Writes, i))
@@ -203,7 +202,7 @@ pub fn fit_to_commit(part: &[u8], servers: usize, slots: usize) -> bool
 
 // What a prepare reads before it checks.
 pub fn fit_to_prepare(part: &[u8], servers: usize, slots: usize) -> bool
-    requires { ⌜ (servers ≤ 8) × ClientPart (now part) ⌝ }
+    requires { ⌜ (servers ≤ most-servers) × ClientPart (now part) ⌝ }
     ensures { λ r. ⌜ r ≡ fit-to-prepare (sizes servers slots) (held (now (part .entry))) ⌝ }
 {
     if !servers_fit(part, servers, PARTICIPANTS) {
@@ -217,7 +216,7 @@ pub fn fit_to_prepare(part: &[u8], servers: usize, slots: usize) -> bool
 
 // What an abort reads.
 pub fn fit_to_abort(part: &[u8], servers: usize, slots: usize) -> bool
-    requires { ⌜ (servers ≤ 8) × ClientPart (now part) ⌝ }
+    requires { ⌜ (servers ≤ most-servers) × ClientPart (now part) ⌝ }
     ensures { λ r. ⌜ r ≡ fit-to-abort (sizes servers slots) (held (now (part .entry))) ⌝ }
 {
     if !servers_fit(part, servers, PREPARED) {
@@ -228,7 +227,7 @@ pub fn fit_to_abort(part: &[u8], servers: usize, slots: usize) -> bool
 
 // And where a server has prepared, what says what is locked there.
 pub fn fit_to_unlock(part: &[u8], servers: usize, slots: usize) -> bool
-    requires { ⌜ (servers ≤ 8) × ClientPart (now part) ⌝ }
+    requires { ⌜ (servers ≤ most-servers) × ClientPart (now part) ⌝ }
     ensures { λ r. ⌜ r ≡ fit-to-unlock (sizes servers slots) (held (now (part .entry))) ⌝ }
 {
     if !servers_fit(part, servers, PARTICIPANTS) {
@@ -261,7 +260,7 @@ fn is_stored(part: &[u8], server: u64, number: u64) -> bool
 
 // The record of a write item, if the server is its home.
 fn stored_record_fits(part: &[u8], servers: usize, slots: usize, server: u64, i: usize) -> bool
-    requires { ⌜ (i < 48) × ClientPart (now part) ⌝ }
+    requires { ⌜ (i < limit Writes) × ClientPart (now part) ⌝ }
     ensures { λ r. ⌜ r ≡ stored-record-fits (sizes servers slots) (held (now (part .entry))) server i ⌝ }
 {
     let number = number_at(part, Set::Writes, i);
@@ -273,7 +272,7 @@ fn stored_record_fits(part: &[u8], servers: usize, slots: usize, server: u64, i:
 
 // The version read of a write item, if the server stores it.
 fn version_fits(part: &[u8], server: u64, i: usize) -> bool
-    requires { ⌜ (i < 48) × ClientPart (now part) ⌝ }
+    requires { ⌜ (i < limit Writes) × ClientPart (now part) ⌝ }
     ensures { λ r. ⌜ r ≡ version-fits (held (now (part .entry))) server i ⌝ }
 {
     let number = number_at(part, Set::Writes, i);
@@ -285,7 +284,7 @@ fn version_fits(part: &[u8], server: u64, i: usize) -> bool
 
 // A written node has its read; of a flag it is not looked at.
 fn read_fits(part: &[u8], i: usize) -> bool
-    requires { ⌜ (i < 48) × ClientPart (now part) ⌝ }
+    requires { ⌜ (i < limit Writes) × ClientPart (now part) ⌝ }
     ensures { λ r. ⌜ r ≡ read-fits (held (now (part .entry))) i ⌝ }
 {
     if number_at(part, Set::Writes, i) > 8192 {
@@ -296,7 +295,7 @@ fn read_fits(part: &[u8], i: usize) -> bool
 
 // A write item as a server stores it.
 fn write_fits(part: &[u8], servers: usize, slots: usize, server: u64, i: usize) -> bool
-    requires { ⌜ (i < 48) × ClientPart (now part) ⌝ }
+    requires { ⌜ (i < limit Writes) × ClientPart (now part) ⌝ }
     ensures { λ r. ⌜ r ≡ write-fits (sizes servers slots) (held (now (part .entry))) server i ⌝ }
 {
     if !read_fits(part, i) {
@@ -326,7 +325,7 @@ fn writes_fit(part: &[u8], servers: usize, slots: usize, server: u64) -> bool
 
 // A written flag, and whether there is a copy of its vector.
 fn flag_renewal_fits(part: &[u8], servers: usize, slots: usize, i: usize) -> bool
-    requires { ⌜ (i < 48) × (8192 < number-at (held (now part)) Writes i) × ClientPart (now part) ⌝ }
+    requires { ⌜ (i < limit Writes) × (last-node-number < number-at (held (now part)) Writes i) × ClientPart (now part) ⌝ }
     ensures { λ r. ⌜ r ≡ flag-renewal-fits (sizes servers slots) (held (now (part .entry))) i ⌝ }
 {
     let number = number_at(part, Set::Writes, i);
@@ -345,7 +344,7 @@ fn flag_renewal_fits(part: &[u8], servers: usize, slots: usize, i: usize) -> boo
 
 // Written metadata, or a node that is inner.
 fn inner_renewal_fits(part: &[u8], servers: usize, slots: usize, i: usize) -> bool
-    requires { ⌜ (i < 48) × ClientPart (now part) ⌝ }
+    requires { ⌜ (i < limit Writes) × ClientPart (now part) ⌝ }
     ensures { λ r. ⌜ r ≡ inner-renewal-fits (sizes servers slots) (held (now (part .entry))) i ⌝ }
 {
     let number = number_at(part, Set::Writes, i);
@@ -361,7 +360,7 @@ fn inner_renewal_fits(part: &[u8], servers: usize, slots: usize, i: usize) -> bo
 
 // A write item as copies are renewed by it.
 fn renewal_fits(part: &[u8], servers: usize, slots: usize, i: usize) -> bool
-    requires { ⌜ (i < 48) × ClientPart (now part) ⌝ }
+    requires { ⌜ (i < limit Writes) × ClientPart (now part) ⌝ }
     ensures { λ r. ⌜ r ≡ renewal-fits (sizes servers slots) (held (now (part .entry))) i ⌝ }
 {
     if number_at(part, Set::Writes, i) > 8192 {
@@ -402,7 +401,7 @@ fn fit_to_renew(part: &[u8], servers: usize, slots: usize) -> bool
 
 // What an apply at a server reads; the last one renews the copies.
 pub fn fit_to_apply(part: &[u8], servers: usize, slots: usize, server: u64, last: bool) -> bool
-    requires { ⌜ (servers ≤ 8) × ClientPart (now part) ⌝ }
+    requires { ⌜ (servers ≤ most-servers) × ClientPart (now part) ⌝ }
     ensures { λ r. ⌜ r ≡ fit-to-apply (sizes servers slots) (held (now (part .entry))) server last ⌝ }
 {
     if !servers_fit(part, servers, APPLIED) {

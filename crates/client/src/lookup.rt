@@ -25,6 +25,7 @@ ghost use Rattle.client.specs.Sets.{held};
 ghost use Rattle.client.specs.Have.{copied, copied-meta, copied-node, copied-flag, copy-fits, source, known-as, look-fits};
 ghost use Rattle.client.specs.Record.{sizes};
 ghost use Rattle.client.specs.Layout.{ClientPart};
+ghost use Rattle.client.specs.Bounds.{end-of-names, end-of-numbers};
 
 fn copied_meta(part: &[u8]) -> Look
     requires { ⌜ ClientPart (now part) ⌝ }
@@ -47,7 +48,7 @@ fn copied_node(part: &[u8], number: u64) -> Look
 }
 
 fn copied_flag(part: &[u8], name: u64) -> Look
-    requires { ⌜ (name < 8192) × ClientPart (now part) ⌝ }
+    requires { ⌜ (name < end-of-names) × ClientPart (now part) ⌝ }
     ensures { λ r. ⌜ r ≡ copied-flag (held (now (part .entry))) name ⌝ }
 {
     let flag = Name { number: name };
@@ -65,7 +66,7 @@ fn copied_flag(part: &[u8], name: u64) -> Look
 
 // The copy of the object with that number.
 pub fn copied(part: &[u8], number: u64) -> Look
-    requires { ⌜ (number < 16385) × ClientPart (now part) ⌝ }
+    requires { ⌜ (number < end-of-numbers) × ClientPart (now part) ⌝ }
     ensures { λ r. ⌜ r ≡ copied (held (now (part .entry))) number ⌝ }
 {
     if number == 0 {
@@ -79,7 +80,7 @@ pub fn copied(part: &[u8], number: u64) -> Look
 
 // The object with that number in the write set, else the read set, else the copies.
 pub fn source(part: &[u8], number: u64) -> Look
-    requires { ⌜ (number < 16385) × ClientPart (now part) ⌝ }
+    requires { ⌜ (number < end-of-numbers) × ClientPart (now part) ⌝ }
     ensures { λ r. ⌜ r ≡ source (held (now (part .entry))) number ⌝ }
 {
     match find(part, Set::Writes, number) {
@@ -95,7 +96,7 @@ pub fn source(part: &[u8], number: u64) -> Look
 
 // Refusal 10 for a copy that is used: there is one, and of nodes an inner one.
 fn copy_fits(part: &[u8], number: u64, n: Node) -> bool
-    requires { ⌜ (number < 16385) × ClientPart (now part) ⌝ }
+    requires { ⌜ (number < end-of-numbers) × ClientPart (now part) ⌝ }
     ensures { λ r. ⌜ r ≡ copy-fits (held (now (part .entry))) number n ⌝ }
 {
     if number == 0 {
@@ -112,7 +113,7 @@ fn copy_fits(part: &[u8], number: u64, n: Node) -> bool
 
 // May what was found of the object be used?
 pub fn look_fits(part: &[u8], servers: usize, slots: usize, number: u64, how: How, n: Node) -> bool
-    requires { ⌜ (number < 16385) × ClientPart (now part) ⌝ }
+    requires { ⌜ (number < end-of-numbers) × ClientPart (now part) ⌝ }
     ensures { λ r. ⌜ r ≡ look-fits (sizes servers slots) (held (now (part .entry))) number (known-as how n) ⌝ }
 {
     if !fits(servers, slots, number, n) {

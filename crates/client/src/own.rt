@@ -10,10 +10,11 @@ ghost use Prim.Native.Nat.{_+_, _<_, _≤_};
 ghost use lib.ListN.{length, getD};
 ghost use Rattle.nodes.specs.Found.{Inside};
 ghost use Rattle.client.specs.Lent.{OwnFits, own-find, own-record, own-at, own-put};
+ghost use Rattle.client.specs.Bounds.{own-most, own-room};
 
 // The record of own write i.
 pub fn own_record(own: &[u64], i: usize) -> Node
-    requires { ⌜ (i < 20) × OwnFits (now own) ⌝ }
+    requires { ⌜ (i < own-most) × OwnFits (now own) ⌝ }
     ensures { λ r. ⌜ r ≡ own-record (now (own .entry)) i ⌝ }
 {
     record_in(own, 34 * i + 2)
@@ -23,7 +24,7 @@ pub fn own_record(own: &[u64], i: usize) -> Node
 pub fn find_own(own: &[u64], number: u64) -> Found
     requires { ⌜ OwnFits (now own) ⌝ }
     ensures { λ r. ⌜ r ≡ own-find (now (own .entry)) number ⌝ }
-    ensures within { λ r. ⌜ Inside r 20 ⌝ }
+    ensures within { λ r. ⌜ Inside r own-most ⌝ }
 {
     let n = own[0] as usize;
     let mut i: usize = 0;
@@ -37,7 +38,7 @@ pub fn find_own(own: &[u64], number: u64) -> Found
 }
 
 fn set_own(own: &mut [u64], i: usize, number: u64, n: Node)
-    requires { ⌜ (i < 20) × (681 ≤ length (now own)) ⌝ }
+    requires { ⌜ (i < own-most) × (own-room ≤ length (now own)) ⌝ }
     ensures { λ _. ⌜ now (own .exit) ≡ own-at (now (own .entry)) number n i ⌝ }
 {
     let words = item_words(number, n);
@@ -46,7 +47,7 @@ fn set_own(own: &mut [u64], i: usize, number: u64, n: Node)
 
 // An object is written: in its place, else behind the others.
 pub fn put_own(own: &mut [u64], number: u64, n: Node)
-    requires { ⌜ OwnFits (now own) × (getD (now own) 0 0 < 20) ⌝ }
+    requires { ⌜ OwnFits (now own) × (getD (now own) 0 0 < own-most) ⌝ }
     ensures { λ _. ⌜ now (own .exit) ≡ own-put (now (own .entry)) number n ⌝ }
     ensures fits { λ _. ⌜ OwnFits (now (own .exit)) ⌝ }
 {

@@ -11,10 +11,12 @@ ghost use mathlib.Core.Path.{_≡_};
 ghost use Prim.Native.Nat.{_+_, _*_, _<_, _≤_};
 ghost use lib.ListN.{length};
 ghost use Rattle.layout.specs.Space.{at};
-ghost use Rattle.client.specs.Layout.{client-words, client-block, field, item, vector-word, limit, base, client-length, ClientPart};
+ghost use Rattle.client.specs.Layout.{client-words, client-block, field, item, vector-word, limit, base, client-length, ClientPart, field-count, item-words, vector-words};
 ghost use Rattle.client.specs.Sets.{held, at-most, count, number-at, record-at, find};
 ghost use Rattle.nodes.specs.Found.{Inside};
 ghost use Rattle.client.specs.Part.{Did, put-field, put-fields, put-item, put-number, put-vector, drop-vector};
+ghost use Rattle.client.specs.Bounds.{most-servers};
+ghost use Rattle.client.specs.declared.part.Set.the-variants.{Reads};
 
 // The words of a client's part: "the length that given sizes call for" has this for each client.
 pub const CLIENT_WORDS: usize = 7223;
@@ -69,7 +71,7 @@ pub enum Set {
 // Where a set begins.
 fn base(set: Set) -> usize
     ensures { λ r. ⌜ r ≡ base set ⌝ }
-    ensures within { λ r. ⌜ (limit set ≤ 96) × (r + 34 * limit set ≤ client-length) ⌝ }
+    ensures within { λ r. ⌜ (limit set ≤ limit Reads) × (r + item-words * limit set ≤ client-length) ⌝ }
 {
     match set {
         Set::Reads => 15,
@@ -82,7 +84,7 @@ fn base(set: Set) -> usize
 pub fn item_at(set: Set, i: usize) -> usize
     requires { ⌜ i < limit set ⌝ }
     ensures { λ r. ⌜ r ≡ at client-words client-block (item set i 0) ⌝ }
-    ensures within { λ r. ⌜ r + 34 ≤ client-length ⌝ }
+    ensures within { λ r. ⌜ r + item-words ≤ client-length ⌝ }
 {
     let first = base(set);
     first + 34 * i
@@ -90,22 +92,22 @@ pub fn item_at(set: Set, i: usize) -> usize
 
 // Where the copy of a server's vector begins.
 pub fn vector_at(s: usize) -> usize
-    requires { ⌜ s < 8 ⌝ }
+    requires { ⌜ s < most-servers ⌝ }
     ensures { λ r. ⌜ r ≡ at client-words client-block (vector-word s 0) ⌝ }
-    ensures within { λ r. ⌜ r + 17 ≤ client-length ⌝ }
+    ensures within { λ r. ⌜ r + vector-words ≤ client-length ⌝ }
 {
     7087 + 17 * s
 }
 
 pub fn get_field(part: &[u8], i: usize) -> u64
-    requires { ⌜ (i < 15) × ClientPart (now part) ⌝ }
+    requires { ⌜ (i < field-count) × ClientPart (now part) ⌝ }
     ensures { λ r. ⌜ r ≡ held (now (part .entry)) (field i) ⌝ }
 {
     read_word(part, i)
 }
 
 pub fn set_field(part: &mut [u8], i: usize, v: u64)
-    requires { ⌜ (i < 15) × ClientPart (now part) ⌝ }
+    requires { ⌜ (i < field-count) × ClientPart (now part) ⌝ }
     ensures { λ _. ⌜ Did (put-field i v) (now (part .entry)) (now (part .exit)) ⌝ }
 {
     write_word(part, i, v);
@@ -113,7 +115,7 @@ pub fn set_field(part: &mut [u8], i: usize, v: u64)
 
 // The fields from i on become those given.
 pub fn set_fields(part: &mut [u8], i: usize, values: &[u64])
-    requires { ⌜ (i + length (now values) ≤ 15) × ClientPart (now part) ⌝ }
+    requires { ⌜ (i + length (now values) ≤ field-count) × ClientPart (now part) ⌝ }
     ensures { λ _. ⌜ Did (put-fields i (now (values .entry))) (now (part .entry)) (now (part .exit)) ⌝ }
 {
     write_words(part, i, values);
@@ -121,7 +123,7 @@ pub fn set_fields(part: &mut [u8], i: usize, values: &[u64])
 
 // The copy of a server's vector becomes the words given.
 pub fn set_vector(part: &mut [u8], s: usize, words: [u64; 16])
-    requires { ⌜ (s < 8) × ClientPart (now part) ⌝ }
+    requires { ⌜ (s < most-servers) × ClientPart (now part) ⌝ }
     ensures { λ _. ⌜ Did (put-vector s words) (now (part .entry)) (now (part .exit)) ⌝ }
 {
     let copy = vector_words(words);
@@ -129,7 +131,7 @@ pub fn set_vector(part: &mut [u8], s: usize, words: [u64; 16])
 }
 
 pub fn drop_vector(part: &mut [u8], s: usize)
-    requires { ⌜ (s < 8) × ClientPart (now part) ⌝ }
+    requires { ⌜ (s < most-servers) × ClientPart (now part) ⌝ }
     ensures { λ _. ⌜ Did (drop-vector s) (now (part .entry)) (now (part .exit)) ⌝ }
 {
     write_word(part, vector_at(s), 0);
@@ -137,7 +139,7 @@ pub fn drop_vector(part: &mut [u8], s: usize)
 
 // A word of the copy of a server's vector.
 pub fn vector_word(part: &[u8], s: usize, j: usize) -> u64
-    requires { ⌜ (s < 8) × (j < 17) × ClientPart (now part) ⌝ }
+    requires { ⌜ (s < most-servers) × (j < vector-words) × ClientPart (now part) ⌝ }
     ensures { λ r. ⌜ r ≡ held (now (part .entry)) (vector-word s j) ⌝ }
 {
     read_word(part, vector_at(s) + j)
@@ -145,7 +147,7 @@ pub fn vector_word(part: &[u8], s: usize, j: usize) -> u64
 
 // A word of an item.
 pub fn item_word(part: &[u8], set: Set, i: usize, j: usize) -> u64
-    requires { ⌜ (i < limit set) × (j < 34) × ClientPart (now part) ⌝ }
+    requires { ⌜ (i < limit set) × (j < item-words) × ClientPart (now part) ⌝ }
     ensures { λ r. ⌜ r ≡ held (now (part .entry)) (item set i j) ⌝ }
 {
     read_word(part, item_at(set, i) + j)

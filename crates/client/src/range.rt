@@ -4,6 +4,7 @@ use nodes::node::Node;
 ghost use mathlib.Core.Path.{_≡_};
 ghost use Prim.Native.Nat.{_≤_};
 ghost use Rattle.client.specs.Record.{single, in-store, record-in-range, children-there, node-fits, whole-in-range, kind-in-range, sizes};
+ghost use Rattle.client.specs.Bounds.{most-keys};
 
 // A record of the metadata or a flag: its value stands in the first slot.
 pub fn single(version: u64, value: u64) -> Node
@@ -51,7 +52,7 @@ pub fn fits(servers: usize, slots: usize, number: u64, n: Node) -> bool
 
 // Are an inner node's children names of the store?
 fn children_there(servers: usize, slots: usize, n: Node) -> bool
-    requires { ⌜ n .count ≤ 14 ⌝ }
+    requires { ⌜ n .count ≤ most-keys ⌝ }
     ensures { λ r. ⌜ r ≡ children-there (sizes servers slots) n ⌝ }
 {
     if n.kind != 2 {

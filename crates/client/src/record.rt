@@ -6,10 +6,11 @@ ghost use mathlib.Core.List.{_∷_};
 ghost use Prim.Native.Nat.{_+_, _≤_};
 ghost use lib.ListN.{length};
 ghost use Rattle.nodes.specs.Stored.{node-at, words-of};
+ghost use Rattle.client.specs.Layout.{record-words};
 
 // The record in a list of words, from word at on.
 pub fn record_in(list: &[u64], at: usize) -> Node
-    requires { ⌜ at + 33 ≤ length (now list) ⌝ }
+    requires { ⌜ at + record-words ≤ length (now list) ⌝ }
     ensures { λ r. ⌜ r ≡ node-at (now (list .entry)) at ⌝ }
 {
     let mut words = [0u64; 33];

@@ -29,11 +29,11 @@ ghost use Rattle.client.specs.declared.part.Set.the-variants.{Writes};
 ghost use Rattle.client.specs.Sets.{held, count};
 ghost use Rattle.client.specs.Part.{Did};
 ghost use Rattle.client.specs.Renew.{drop-outer, versioned, new-version, with-inner, inner-below, rank, ranked, renewed, renew-nth, renew-meta, renew-in, renew-flag, for-writes, renew-written, renew, renew-kept, finish};
-ghost use Rattle.client.specs.Layout.{ClientPart};
+ghost use Rattle.client.specs.Layout.{ClientPart, limit};
 
 // A node that is written and not inner loses its copy.
 fn drop_outer(part: &mut [u8], i: usize)
-    requires { ⌜ (i < 48) × ClientPart (now part) ⌝ }
+    requires { ⌜ (i < limit Writes) × ClientPart (now part) ⌝ }
     ensures { λ _. ⌜ Did (drop-outer i) (now (part .entry)) (now (part .exit)) ⌝ }
 {
     let number = number_at(part, Set::Writes, i);
@@ -78,7 +78,7 @@ pub fn new_version(part: &[u8], number: u64) -> u64
 
 // One more, where write item i is an inner node with a number below this one.
 fn with_inner(part: &[u8], number: u64, i: usize, below: usize) -> usize
-    requires { ⌜ (i < 48) × (below ≤ i) × ClientPart (now part) ⌝ }
+    requires { ⌜ (i < limit Writes) × (below ≤ i) × ClientPart (now part) ⌝ }
     ensures { λ r. ⌜ r ≡ with-inner (held (now (part .entry))) number i below ⌝ }
     ensures within { λ r. ⌜ r ≤ i + 1 ⌝ }
 {
@@ -95,7 +95,7 @@ fn with_inner(part: &[u8], number: u64, i: usize, below: usize) -> usize
 fn inner_below(part: &[u8], number: u64) -> usize
     requires { ⌜ ClientPart (now part) ⌝ }
     ensures { λ r. ⌜ r ≡ inner-below (held (now (part .entry))) number (count (held (now (part .entry))) Writes) ⌝ }
-    ensures within { λ r. ⌜ r ≤ 48 ⌝ }
+    ensures within { λ r. ⌜ r ≤ limit Writes ⌝ }
 {
     let n = count(part, Set::Writes);
     let mut below: usize = 0;
@@ -109,7 +109,7 @@ fn inner_below(part: &[u8], number: u64) -> usize
 
 // 1 + the place of write item i among the written inner nodes by name; 0 for another object.
 fn rank(part: &[u8], i: usize) -> usize
-    requires { ⌜ (i < 48) × ClientPart (now part) ⌝ }
+    requires { ⌜ (i < limit Writes) × ClientPart (now part) ⌝ }
     ensures { λ r. ⌜ r ≡ rank (held (now (part .entry))) i ⌝ }
 {
     if !inner_at(part, Set::Writes, i) {
@@ -123,7 +123,7 @@ fn rank(part: &[u8], i: usize) -> usize
 fn ranked(part: &[u8], k: usize) -> Found
     requires { ⌜ ClientPart (now part) ⌝ }
     ensures { λ r. ⌜ r ≡ ranked (held (now (part .entry))) k ⌝ }
-    ensures within { λ r. ⌜ Inside r 48 ⌝ }
+    ensures within { λ r. ⌜ Inside r (limit Writes) ⌝ }
 {
     let n = count(part, Set::Writes);
     let mut i: usize = 0;
@@ -138,7 +138,7 @@ fn ranked(part: &[u8], k: usize) -> Found
 
 // The copy of write item i.
 fn renewed(part: &[u8], i: usize) -> Node
-    requires { ⌜ (i < 48) × ClientPart (now part) ⌝ }
+    requires { ⌜ (i < limit Writes) × ClientPart (now part) ⌝ }
     ensures { λ r. ⌜ r ≡ renewed (held (now (part .entry))) i ⌝ }
 {
     let n = record_at(part, Set::Writes, i);
@@ -148,7 +148,7 @@ fn renewed(part: &[u8], i: usize) -> Node
 }
 
 fn renew_nth(part: &mut [u8], k: usize)
-    requires { ⌜ (k < 48) × ClientPart (now part) ⌝ }
+    requires { ⌜ (k < limit Writes) × ClientPart (now part) ⌝ }
     ensures { λ _. ⌜ Did (renew-nth k) (now (part .entry)) (now (part .exit)) ⌝ }
 {
     let at = ranked(part, k + 1);
@@ -198,7 +198,7 @@ fn renew_in(part: &mut [u8], name: u64, value: u64)
 }
 
 fn renew_flag(part: &mut [u8], i: usize)
-    requires { ⌜ (i < 48) × ClientPart (now part) ⌝ }
+    requires { ⌜ (i < limit Writes) × ClientPart (now part) ⌝ }
     ensures { λ _. ⌜ Did (renew-flag i) (now (part .entry)) (now (part .exit)) ⌝ }
 {
     let number = number_at(part, Set::Writes, i);

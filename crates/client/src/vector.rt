@@ -15,18 +15,20 @@ ghost use mathlib.Core.Path.{_≡_};
 ghost use Prim.Native.Nat.{_<_};
 ghost use Rattle.client.specs.Sets.{held};
 ghost use Rattle.client.specs.Vectors.{has-vector, vector-copy, counted-one, seen-words, flag-fits, flags-fit, vector-fits, is-fetched};
-ghost use Rattle.client.specs.Layout.{ClientPart};
+ghost use Rattle.client.specs.Layout.{ClientPart, limit};
+ghost use Rattle.client.specs.Bounds.{most-servers};
+ghost use Rattle.client.specs.declared.part.Set.the-variants.{Writes};
 
 // Is there a copy?
 pub fn has_vector(part: &[u8], s: usize) -> bool
-    requires { ⌜ (s < 8) × ClientPart (now part) ⌝ }
+    requires { ⌜ (s < most-servers) × ClientPart (now part) ⌝ }
     ensures { λ r. ⌜ r ≡ has-vector (held (now (part .entry))) s ⌝ }
 {
     vector_word(part, s, 0) == 1
 }
 
 pub fn vector_copy(part: &[u8], s: usize) -> [u64; 16]
-    requires { ⌜ (s < 8) × ClientPart (now part) ⌝ }
+    requires { ⌜ (s < most-servers) × ClientPart (now part) ⌝ }
     ensures { λ r. ⌜ r ≡ vector-copy (held (now (part .entry))) s ⌝ }
 {
     let mut words = [0u64; 16];
@@ -36,7 +38,7 @@ pub fn vector_copy(part: &[u8], s: usize) -> [u64; 16]
 
 // The vector with write item i counted.
 fn counted_one(part: &[u8], s: usize, i: usize, words: [u64; 16]) -> [u64; 16]
-    requires { ⌜ (i < 48) × ClientPart (now part) ⌝ }
+    requires { ⌜ (i < limit Writes) × ClientPart (now part) ⌝ }
     ensures { λ r. ⌜ r ≡ counted-one (held (now (part .entry))) s i words ⌝ }
 {
     let number = number_at(part, Set::Writes, i);
@@ -55,7 +57,7 @@ fn counted_one(part: &[u8], s: usize, i: usize, words: [u64; 16]) -> [u64; 16]
 
 // The vector with the transaction's frees and takes.
 pub fn seen_words(part: &[u8], s: usize) -> [u64; 16]
-    requires { ⌜ (s < 8) × ClientPart (now part) ⌝ }
+    requires { ⌜ (s < most-servers) × ClientPart (now part) ⌝ }
     ensures { λ r. ⌜ r ≡ seen-words (held (now (part .entry))) s ⌝ }
 {
     let n = count(part, Set::Writes);
@@ -72,7 +74,7 @@ pub fn seen_words(part: &[u8], s: usize) -> [u64; 16]
 
 // Refusal 10 for what is counted: write item i is no flag of the server, or 0 or 1.
 fn flag_fits(part: &[u8], s: usize, i: usize) -> bool
-    requires { ⌜ (i < 48) × ClientPart (now part) ⌝ }
+    requires { ⌜ (i < limit Writes) × ClientPart (now part) ⌝ }
     ensures { λ r. ⌜ r ≡ flag-fits (held (now (part .entry))) s i ⌝ }
 {
     let number = number_at(part, Set::Writes, i);
@@ -106,7 +108,7 @@ fn flags_fit(part: &[u8], s: usize) -> bool
 
 // Are the copy of the vector and the flags written there in range?
 pub fn vector_fits(part: &[u8], s: usize) -> bool
-    requires { ⌜ (s < 8) × ClientPart (now part) ⌝ }
+    requires { ⌜ (s < most-servers) × ClientPart (now part) ⌝ }
     ensures { λ r. ⌜ r ≡ vector-fits (held (now (part .entry))) s ⌝ }
 {
     if vector_word(part, s, 0) > 1 {
@@ -117,7 +119,7 @@ pub fn vector_fits(part: &[u8], s: usize) -> bool
 
 // Has this transaction fetched it?
 pub fn is_fetched(part: &[u8], s: usize) -> bool
-    requires { ⌜ (s < 8) × ClientPart (now part) ⌝ }
+    requires { ⌜ (s < most-servers) × ClientPart (now part) ⌝ }
     ensures { λ r. ⌜ r ≡ is-fetched (held (now (part .entry))) s ⌝ }
 {
     has(get_field(part, FETCHED_VECTORS), s as u32)

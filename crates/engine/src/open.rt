@@ -9,7 +9,7 @@ ghost use Rattle.layout.specs.Part.{inPart};
 ghost use Rattle.server.specs.Layout as Srv;
 ghost use Rattle.steps.specs.Whole.{server};
 ghost use Rattle.steps.specs.Refusal.{open-refusal};
-ghost use Rattle.kinds.specs.Parts.{Store-in, InWhole};
+ghost use Rattle.kinds.specs.Parts.{Store-in, InWhole, head-words};
 ghost use Rattle.engine.specs.Open.{opening, with-head, new-words, words-opened};
 ghost use Rattle.engine.specs.Reached.{Reached};
 use kinds::refusal::memory_refusal;
@@ -38,7 +38,7 @@ fn put_first(mem: &mut [u8], sizes: Sizes, place: Place, v: u64)
 
 // "a 64-byte head holding the three sizes"
 fn put_head(mem: &mut [u8], sizes: Sizes)
-    requires { ⌜ 8 ≤ length (now mem) / 8 ⌝ }
+    requires { ⌜ head-words ≤ length (now mem) / 8 ⌝ }
     ensures { λ _. ⌜ view (now (mem .exit)) ≡ with-head sizes (view (now (mem .entry))) ⌝ }
 {
     write_word(mem, 0, sizes.servers as u64);

@@ -4,12 +4,12 @@ ghost use Prim.Native.Nat.{_≤_};
 ghost use lib.ListN.{length, getD};
 ghost use Rattle.memory.specs.Word.{view};
 ghost use Rattle.client.specs.Layout.{op-number};
-ghost use Rattle.walk.specs.Bounds.{used-room};
+ghost use Rattle.client.specs.Bounds.{used-room};
 ghost use Rattle.walk.specs.Stopped.{Waiting};
 ghost use Rattle.walk.specs.declared.operation.Operation.the-variants.{Read, Write};
 ghost use Rattle.walk.specs.Operation.{operation-of};
 ghost use Rattle.walk.specs.Look.{Looks};
-ghost use Rattle.change.specs.Work.{Ready, Works};
+ghost use Rattle.change.specs.Work.{Ready, WorksOn};
 ghost use Rattle.steps.specs.Whole.{tree-sizes};
 ghost use Rattle.kinds.specs.Parts.{AtClient};
 ghost use Rattle.kinds.specs.Judge.{of-client};
@@ -56,8 +56,7 @@ pub fn walk_at(
     requires { ⌜ AtClient sizes (length (now mem)) client × Ready (now own) (now used) ⌝ }
     requires waits { ⌜ Waiting (of-client sizes (view (now mem)) client)
         × (operation-of (of-client sizes (view (now mem)) client op-number) ≡ Write op) ⌝ }
-    ensures { λ r. ⌜ Works (tree-sizes sizes) (of-client sizes (view (now (mem .entry))) client) r (now (own .entry))
-        (now (used .entry)) (now (own .exit)) (now (used .exit)) ⌝ }
+    ensures { λ r. ⌜ WorksOn (tree-sizes sizes) (of-client sizes (view (now (mem .entry))) client) r own used ⌝ }
 {
     let at = 8 * client_at(sizes, client);
     work(&mem[at..], sizes.servers, sizes.slots, own, used, op)

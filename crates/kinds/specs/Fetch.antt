@@ -9,7 +9,7 @@ use Rattle.server.specs.declared.lock.Use.the-variants.{Fetch}
 use Rattle.server.specs.Object.{object-of, Has}
 use Rattle.server.specs.Check.{can-check, checked, held, finding-number}
 use Rattle.client.specs.declared.part.Set.the-variants.{Reads}
-use Rattle.client.specs.Layout.{ClientWord, reads-count}
+use Rattle.client.specs.Layout.{ClientWord, reads-count, limit}
 use Rattle.client.specs.Sets.{count}
 use Rattle.client.specs.Have.{copied}
 use Rattle.client.specs.Lent.{InUse, used-in}
@@ -27,6 +27,10 @@ use Rattle.kinds.specs.Judge.{of-client, of-server}
 unfoldable pub used-item : (ClientWord → ℕ) → ℕ → Item
 used-item m x = item-of m x (copied m x .node)
 
+-- how many objects are read: the read set's, and the copies in use, whose list is u
+abbrev pub known-count : (ClientWord → ℕ) → List ℕ → ℕ
+known-count m u = count m Reads + getD u 0 0
+
 -- object i of those read: the read set's, then the copies in use
 unfoldable pub known-at : (ClientWord → ℕ) → List ℕ → ℕ → Item
 known-at m us i = cond (ltb i (count m Reads)) (read-item m i) (used-item m (getD us (i - count m Reads) 0))
@@ -41,7 +45,7 @@ pub record Checking (z : Sizes) (b : List ℕ) (c s : ℕ) (u : List ℕ) : Type
   pub client : c < z .clients
   pub server : s < z .servers
   pub in-use : InUse u
-  pub reads : of-client z (view b) c reads-count ≤ 96
+  pub reads : of-client z (view b) c reads-count ≤ limit Reads
   pub known : AllKnown z (view b) c (used-in u)
 
 -- can the server s check the item
@@ -66,4 +70,4 @@ verdict-of y = cond (eqb y 0) Clear (cond (eqb y 10) Unfit (Fault y))
 unfoldable pub gate-of : Sizes → List ℕ → ℕ → ℕ → ℕ → List ℕ → Verdict
 gate-of z w c s x us =
     cond (lock-fits z (stored-in z w) s x)
-    (cond (held (object-of x) c Fetch (of-server z w s)) (Fault 2) (cond (leb 96 (of-client z w c reads-count + length us)) (Fault 4) Clear)) Unfit
+    (cond (held (object-of x) c Fetch (of-server z w s)) (Fault 2) (cond (leb (limit Reads) (of-client z w c reads-count + length us)) (Fault 4) Clear)) Unfit

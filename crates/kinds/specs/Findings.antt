@@ -4,6 +4,8 @@ use mathlib.Core.List.{List, map}
 use mathlib.Core.Option.{Option, none, some}
 use Prim.Native.Nat.{ℕ, _-_}
 use lib.Dec.{eqb, leb}
+use Rattle.server.specs.declared.lock.Use.{Use}
+use Rattle.server.specs.Object.{object-of}
 use Rattle.server.specs.Check.{checked, held, finding-number}
 use Rattle.steps.specs.declared.sizes.Sizes.{Sizes}
 use Rattle.kinds.specs.declared.findings.Fault.{Fault}
@@ -12,6 +14,7 @@ use Rattle.steps.specs.Judge.{lock-fits}
 use Rattle.steps.specs.Steps.{prepare-finding}
 use Rattle.kinds.specs.Parts.{stored-in}
 use Rattle.kinds.specs.Judge.{of-client, of-server}
+use Rattle.kinds.specs.declared.items.Item as code
 
 -- a fault by value
 abbrev pub fault : ℕ → ℕ → Option (ℕ × ℕ)
@@ -27,6 +30,10 @@ or-later (some f) g = cond (leb (f .0) (g .0)) (some f) (some g)
 
 unfoldable pub later : Option (ℕ × ℕ) → ℕ → ℕ → Option (ℕ × ℕ)
 later f x y = cond (eqb y 0) f (or-later f (x, y))
+
+-- what a check of an item at the server s finds, for a use u by the client c
+abbrev pub finding-at : Sizes → List ℕ → ℕ → code.Item → ℕ → Use → ℕ
+finding-at z w s i c u = finding-number (checked (object-of (i .number)) (i .inner) (i .mark) c u (of-server z w s))
 
 -- ---- a prepare at the server s
 unfoldable pub prepare-reason : Sizes → List ℕ → ℕ → ℕ → ℕ → Item → ℕ

@@ -20,6 +20,14 @@ use Rattle.memory.specs.Word.{view}
 unfoldable pub head-sizes : List ℕ → Sizes
 head-sizes w = record { servers = getD w 0 0; slots = getD w 1 0; clients = getD w 2 0 }
 
+-- its words
+abbrev pub head-words : ℕ
+head-words = 8
+
+-- no sizes call for more words: the head, 8 servers' parts of 1,024 slots, 16 clients' parts
+abbrev pub most-words : ℕ
+most-words = 525328
+
 -- "the length that given sizes call for", refused by 2
 unfoldable pub length-answer : Sizes → Length
 length-answer z = cond (allowed? z) (Bytes (length-for z)) (Refused 2)

@@ -13,6 +13,7 @@ use Rattle.steps.specs.declared.step.Kind.the-variants.{Begin, Give, Work, Comm
 use Rattle.steps.specs.Whole.{client, tree-sizes}
 use Rattle.steps.specs.Refusal.{between, state-fits}
 use Rattle.kinds.specs.Parts.{stored-in}
+use Rattle.client.specs.Bounds.{most-servers}
 
 -- the first of two refusals, where 0 is none
 abbrev pub first-refusal : ℕ → ℕ → ℕ
@@ -83,8 +84,8 @@ Sited Begin s = Unit {0}
 Sited Give s = Unit {0}
 Sited Work s = Unit {0}
 Sited Commit s = Unit {0}
-Sited Prepare s = s < 8
-Sited Apply s = s < 8
+Sited Prepare s = s < most-servers
+Sited Apply s = s < most-servers
 Sited GiveUp s = Unit {0}
 Sited Lost s = Unit {0}
 Sited Unknown s = Unit {0}

@@ -10,7 +10,7 @@ use Rattle.server.specs.Object.{object-of, named, Has}
 use Rattle.server.specs.Store.{metadata-step, flag-step, node-step}
 use Rattle.client.specs.declared.part.Set.the-variants.{Reads, Writes}
 use Rattle.client.specs.Layout.{ClientWord}
-use Rattle.client.specs.Record.{by-number, first-slot}
+use Rattle.client.specs.Record.{by-number, first-slot, last-version}
 use Rattle.client.specs.Sets.{number-at, record-at, find}
 use Rattle.client.specs.Items.{inner-before-after}
 use Rattle.client.specs.Participants.{at-home}
@@ -23,6 +23,7 @@ use Rattle.client.specs.Fits.{version-fits, writes-fit}
 use Rattle.kinds.specs.Fits.{In-set}
 use Rattle.kinds.specs.Locks.{Done}
 use Rattle.kinds.specs.declared.writes.Write as code
+use Rattle.client.specs.Bounds.{last-node-number}
 
 abbrev Rule : Type 0
 Rule = (Place → ℕ) → List (Put Place)
@@ -46,7 +47,7 @@ stores-some s w = at-home s (w .number) || w .inner
 
 -- where it is stored, the version read has a next one; of a flag none is kept
 pub record Storable (s : ℕ) (w : code.Write) : Type 0 where
-  pub low : w .number ≤ 8192 → stores-some s w ≡ true → w .read < 4294967295
+  pub low : w .number ≤ last-node-number → stores-some s w ≡ true → w .read < last-version
 
 -- ---- one write of a client
 pub record Writable (z : Sizes) (m : ClientWord → ℕ) (s i : ℕ) : Type 0 where

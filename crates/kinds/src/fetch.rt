@@ -1,17 +1,17 @@
 // "A fetch checks at that server what the transaction has read": the read set and the copies that came into use in the step.
 ghost use mathlib.Core.Path.{_≡_};
-ghost use Prim.Native.Nat.{_+_, _<_};
-ghost use lib.ListN.{length, getD};
+ghost use Prim.Native.Nat.{_<_};
+ghost use lib.ListN.{length};
 ghost use Rattle.memory.specs.Word.{view};
 ghost use Rattle.server.specs.Object.{object-of, Has};
-ghost use Rattle.client.specs.declared.part.Set.the-variants.{Reads};
-ghost use Rattle.client.specs.Sets.{held, count};
+ghost use Rattle.client.specs.Sets.{held};
 ghost use Rattle.client.specs.Lent.{InUse, used-in};
-ghost use Rattle.kinds.specs.Parts.{AtClient, ObjectAt, ObjectFor};
+ghost use Rattle.kinds.specs.Parts.{AtClient, ObjectFor};
 ghost use Rattle.kinds.specs.Items.{as-item};
 ghost use Rattle.kinds.specs.Judge.{of-client};
-ghost use Rattle.kinds.specs.Fetch.{used-item, known-at, fetch-fault, items-found, Checking, verdict-of, gate-of};
+ghost use Rattle.kinds.specs.Fetch.{used-item, known-at, fetch-fault, items-found, Checking, verdict-of, gate-of, known-count};
 ghost use Rattle.client.specs.Layout.{ClientPart};
+ghost use Rattle.client.specs.Bounds.{end-of-numbers};
 use crate::findings::Fault;
 use crate::findings::checked_at;
 use crate::findings::held_at;
@@ -32,7 +32,7 @@ use steps::sizes::Sizes;
 
 // A copy in use, as an object read.
 fn used_item(part: &[u8], number: u64) -> Item
-    requires { ⌜ (number < 16385) × ClientPart (now part) ⌝ }
+    requires { ⌜ (number < end-of-numbers) × ClientPart (now part) ⌝ }
     ensures { λ r. ⌜ as-item r ≡ used-item (held (now (part .entry))) number ⌝ }
 {
     let l = copied(part, number);
@@ -41,7 +41,7 @@ fn used_item(part: &[u8], number: u64) -> Item
 }
 
 fn used_at(mem: &[u8], sizes: Sizes, client: usize, number: u64) -> Item
-    requires { ⌜ AtClient sizes (length (now mem)) client × (number < 16385) ⌝ }
+    requires { ⌜ AtClient sizes (length (now mem)) client × (number < end-of-numbers) ⌝ }
     ensures { λ r. ⌜ as-item r ≡ used-item (of-client sizes (view (now (mem .entry))) client) number ⌝ }
 {
     let at = 8 * client_at(sizes, client);
@@ -50,8 +50,7 @@ fn used_at(mem: &[u8], sizes: Sizes, client: usize, number: u64) -> Item
 
 // Object i of those read: the read set's, then the copies in use.
 fn known_at(mem: &[u8], sizes: Sizes, client: usize, used: &[u64], i: usize) -> Item
-    requires { ⌜ AtClient sizes (length (now mem)) client × InUse (now used)
-        × (i < count (of-client sizes (view (now mem)) client) Reads + getD (now used) 0 0) ⌝ }
+    requires { ⌜ AtClient sizes (length (now mem)) client × InUse (now used) × (i < known-count (of-client sizes (view (now mem)) client) (now used)) ⌝ }
     ensures { λ r. ⌜ as-item r ≡ known-at (of-client sizes (view (now (mem .entry))) client) (used-in (now (used .entry))) i ⌝ }
 {
     let n = reads_of(mem, sizes, client);

@@ -3,14 +3,14 @@ ghost use mathlib.Core.Path.{_≡_};
 ghost use Prim.Native.Nat.{_<_};
 ghost use lib.ListN.{length};
 ghost use Rattle.memory.specs.Word.{view};
-ghost use Rattle.server.specs.Check.{checked, held, finding-number};
+ghost use Rattle.server.specs.Check.{held, finding-number};
 ghost use Rattle.server.specs.Object.{object-of, Has};
 ghost use Rattle.steps.specs.Uses.{use-of};
 ghost use Rattle.kinds.specs.Parts.{ObjectFor, ClientAt};
 ghost use Rattle.kinds.specs.Items.{as-item};
 ghost use Rattle.kinds.specs.Judge.{of-server};
 ghost use Rattle.kinds.specs.Fits.{KnownAt};
-ghost use Rattle.kinds.specs.Findings.{as-fault, later, prepare-reason, prepare-fault, prepare-found};
+ghost use Rattle.kinds.specs.Findings.{as-fault, later, prepare-reason, prepare-fault, prepare-found, finding-at};
 use crate::fits::lowest;
 use crate::fits::reads_of;
 use crate::items::Item;
@@ -80,8 +80,7 @@ pub fn checked_at(
     wanted: Use,
 ) -> u64
     requires { ⌜ ObjectFor sizes (length (now mem)) client server (item .number) ⌝ }
-    ensures { λ r. ⌜ r ≡ finding-number
-        (checked (object-of (item .number)) (item .inner) (item .mark) client wanted (of-server sizes (view (now (mem .entry))) server)) ⌝ }
+    ensures { λ r. ⌜ r ≡ finding-at sizes (view (now (mem .entry))) server item client wanted ⌝ }
 {
     let at = 8 * server_at(sizes, server);
     let object = numbered(item.number);

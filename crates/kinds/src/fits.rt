@@ -11,6 +11,8 @@ ghost use Rattle.kinds.specs.Parts.{AtClient, stored-in, ObjectAt};
 ghost use Rattle.kinds.specs.Items.{as-item};
 ghost use Rattle.kinds.specs.Judge.{of-client};
 ghost use Rattle.kinds.specs.Fits.{unlock-item, unlocks-at, unlocks-all, KnownAt, KnownClient};
+ghost use Rattle.client.specs.Bounds.{most-servers};
+ghost use Rattle.client.specs.Layout.{limit};
 use crate::items::Item;
 use crate::items::is_locked_at;
 use crate::judge::field_of;
@@ -30,7 +32,7 @@ use steps::sizes::Sizes;
 pub fn reads_of(mem: &[u8], sizes: Sizes, client: usize) -> usize
     requires { ⌜ AtClient sizes (length (now mem)) client ⌝ }
     ensures { λ r. ⌜ r ≡ count (of-client sizes (view (now (mem .entry))) client) Reads ⌝ }
-    ensures within { λ r. ⌜ r ≤ 96 ⌝ }
+    ensures within { λ r. ⌜ r ≤ limit Reads ⌝ }
 {
     let at = 8 * client_at(sizes, client);
     count(&mem[at..], Set::Reads)
@@ -38,7 +40,7 @@ pub fn reads_of(mem: &[u8], sizes: Sizes, client: usize) -> usize
 
 // The lowest of n servers in the set; n if there is none.
 fn lowest_in(n: usize, set: u64) -> usize
-    requires { ⌜ n ≤ 8 ⌝ }
+    requires { ⌜ n ≤ most-servers ⌝ }
     ensures { λ r. ⌜ r ≡ lowest-of n set ⌝ }
 {
     let mut s: usize = 0;

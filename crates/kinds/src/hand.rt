@@ -7,6 +7,7 @@ ghost use Rattle.client.specs.Answered.{used-enter};
 ghost use Rattle.client.specs.Fetched.{fetched-meta, fetched-node, fetched-vector};
 ghost use Rattle.kinds.specs.Parts.{InClient, AtClient};
 ghost use Rattle.client.specs.Layout.{ClientPart};
+ghost use Rattle.client.specs.Bounds.{most-servers, end-of-names};
 use crate::whole::client_at;
 use client::enter::enter_used;
 use client::fetched::fetched_meta;
@@ -25,7 +26,7 @@ fn enter_meta(part: &mut [u8], used: &[u64], root: u64, version: u64)
 }
 
 fn enter_node(part: &mut [u8], used: &[u64], name: u64, n: Node)
-    requires { ⌜ InUse (now used) × (name < 8192) × ClientPart (now part) ⌝ }
+    requires { ⌜ InUse (now used) × (name < end-of-names) × ClientPart (now part) ⌝ }
     ensures { λ _. ⌜ Did (used-enter (used-in (now (used .entry))) then fetched-node name n) (now (part .entry)) (now (part .exit)) ⌝ }
 {
     enter_used(part, used);
@@ -33,7 +34,7 @@ fn enter_node(part: &mut [u8], used: &[u64], name: u64, n: Node)
 }
 
 fn enter_vector(part: &mut [u8], used: &[u64], s: usize, words: [u64; 16])
-    requires { ⌜ InUse (now used) × (s < 8) × ClientPart (now part) ⌝ }
+    requires { ⌜ InUse (now used) × (s < most-servers) × ClientPart (now part) ⌝ }
     ensures { λ _. ⌜ Did (used-enter (used-in (now (used .entry))) then fetched-vector s words) (now (part .entry)) (now (part .exit)) ⌝ }
 {
     enter_used(part, used);
@@ -57,7 +58,7 @@ pub fn store_meta(
 }
 
 pub fn store_node(mem: &mut [u8], sizes: Sizes, client: usize, used: &[u64], name: u64, n: Node)
-    requires { ⌜ AtClient sizes (length (now mem)) client × InUse (now used) × (name < 8192) ⌝ }
+    requires { ⌜ AtClient sizes (length (now mem)) client × InUse (now used) × (name < end-of-names) ⌝ }
     ensures { λ _. ⌜ InClient sizes client (used-enter (used-in (now (used .entry))) then fetched-node name n) (now (mem .entry))
         (now (mem .exit)) ⌝ }
 {
@@ -73,7 +74,7 @@ pub fn store_vector(
     s: usize,
     words: [u64; 16],
 )
-    requires { ⌜ AtClient sizes (length (now mem)) client × InUse (now used) × (s < 8) ⌝ }
+    requires { ⌜ AtClient sizes (length (now mem)) client × InUse (now used) × (s < most-servers) ⌝ }
     ensures { λ _. ⌜ InClient sizes client (used-enter (used-in (now (used .entry))) then fetched-vector s words) (now (mem .entry))
         (now (mem .exit)) ⌝ }
 {

@@ -5,7 +5,8 @@ ghost use Rattle.client.specs.Record.{first-slot};
 ghost use Rattle.client.specs.Sets.{held};
 ghost use Rattle.steps.specs.Uses.{item-of, checked-at, locked-at};
 ghost use Rattle.kinds.specs.Items.{as-item, as-written, mark-of, read-item};
-ghost use Rattle.client.specs.Layout.{ClientPart};
+ghost use Rattle.client.specs.Layout.{ClientPart, limit};
+ghost use Rattle.client.specs.declared.part.Set.the-variants.{Reads};
 use client::items::is_home;
 use client::items::is_inner;
 use client::part::Set;
@@ -96,7 +97,7 @@ pub fn item_of(part: &[u8], number: u64, node: Node) -> Item
 
 // Item i of the read set.
 pub fn read_item(part: &[u8], i: usize) -> Item
-    requires { ⌜ (i < 96) × ClientPart (now part) ⌝ }
+    requires { ⌜ (i < limit Reads) × ClientPart (now part) ⌝ }
     ensures { λ r. ⌜ as-item r ≡ read-item (held (now (part .entry))) i ⌝ }
 {
     let number = number_at(part, Set::Reads, i);

@@ -7,12 +7,13 @@ ghost use Rattle.memory.specs.Word.{view};
 ghost use Rattle.server.specs.Lock.{lock-in-range};
 ghost use Rattle.server.specs.Object.{object-of, lock-of};
 ghost use Rattle.client.specs.Items.{has, all-below};
-ghost use Rattle.client.specs.Layout.{field};
+ghost use Rattle.client.specs.Layout.{field, limit, field-count};
 ghost use Rattle.steps.specs.Whole.{server as at-server};
 ghost use Rattle.steps.specs.Judge.{has-transaction, writes, holders-fit, lock-fits};
 ghost use Rattle.kinds.specs.Parts.{AtClient, Store-in, stored-in, ObjectAt};
 ghost use Rattle.kinds.specs.Items.{as-item, read-item};
 ghost use Rattle.kinds.specs.Judge.{of-client, reader-fits};
+ghost use Rattle.client.specs.declared.part.Set.the-variants.{Reads};
 use crate::items::Item;
 use crate::items::read_item;
 use crate::sizes::between;
@@ -34,7 +35,7 @@ use steps::sizes::Sizes;
 
 // A field of a client.
 pub fn field_of(mem: &[u8], sizes: Sizes, client: usize, i: usize) -> u64
-    requires { ⌜ AtClient sizes (length (now mem)) client × (i < 15) ⌝ }
+    requires { ⌜ AtClient sizes (length (now mem)) client × (i < field-count) ⌝ }
     ensures { λ r. ⌜ r ≡ of-client sizes (view (now (mem .entry))) client (field i) ⌝ }
 {
     let at = 8 * client_at(sizes, client);
@@ -52,7 +53,7 @@ pub fn has_item(mem: &[u8], sizes: Sizes, client: usize, set: Set, number: u64) 
 
 // Item i of a client's read set.
 pub fn item_at(mem: &[u8], sizes: Sizes, client: usize, i: usize) -> Item
-    requires { ⌜ AtClient sizes (length (now mem)) client × (i < 96) ⌝ }
+    requires { ⌜ AtClient sizes (length (now mem)) client × (i < limit Reads) ⌝ }
     ensures { λ r. ⌜ as-item r ≡ read-item (of-client sizes (view (now (mem .entry))) client) i ⌝ }
 {
     let at = 8 * client_at(sizes, client);

@@ -9,12 +9,12 @@ ghost use Rattle.operations.specs.Object.{object, meta, node, vector};
 ghost use Rattle.server.specs.HandOut.{metadata-at, metadata-sound, vector-at};
 ghost use Rattle.client.specs.Lent.{used-in};
 ghost use Rattle.steps.specs.declared.outcome.Outcome.the-variants.{Fetched};
-ghost use Rattle.steps.specs.Steps.{node-at, hand-over, fetch};
+ghost use Rattle.steps.specs.Steps.{node-at, fetch};
 ghost use Rattle.kinds.specs.Parts.{AtServer};
 ghost use Rattle.kinds.specs.Judge.{of-server};
 ghost use Rattle.kinds.specs.Fetch.{Checking};
 ghost use Rattle.kinds.specs.Kinds.{Comes};
-ghost use Rattle.kinds.specs.Lack.{There};
+ghost use Rattle.kinds.specs.Lack.{There, HandsOver};
 use crate::abort::abort;
 use crate::fetch::Verdict;
 use crate::fetch::check_all;
@@ -52,8 +52,7 @@ fn meta_of(mem: &[u8], sizes: Sizes, server: usize) -> Metadata
 
 fn hand_meta(mem: &mut [u8], sizes: Sizes, client: usize, server: usize, used: &[u64]) -> Outcome
     requires { ⌜ Checking sizes (now mem) client server (now used) ⌝ }
-    ensures { λ r. ⌜ Comes sizes (λ m. hand-over sizes m client (used-in (now (used .entry))) (object meta) server (Fetched 0 0))
-        (now (mem .entry)) r (now (mem .exit)) ⌝ }
+    ensures { λ r. ⌜ HandsOver sizes client (now (used .entry)) (object meta) server (Fetched 0 0) (now (mem .entry)) r (now (mem .exit)) ⌝ }
 {
     let g = gate(mem, sizes, client, server, 0, used);
     match g {
@@ -104,9 +103,7 @@ fn hand_node(
     used: &[u64],
 ) -> Outcome
     requires { ⌜ Checking sizes (now mem) client server (now used) × There sizes name ⌝ }
-    ensures { λ r. ⌜ Comes sizes
-        (λ m. hand-over sizes m client (used-in (now (used .entry))) (object (node name)) server (Fetched 1 name)) (now (mem .entry)) r
-        (now (mem .exit)) ⌝ }
+    ensures { λ r. ⌜ HandsOver sizes client (now (used .entry)) (object (node name)) server (Fetched 1 name) (now (mem .entry)) r (now (mem .exit)) ⌝ }
 {
     let number = 1 + name;
     let g = gate(mem, sizes, client, server, number, used);

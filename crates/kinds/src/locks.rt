@@ -9,6 +9,8 @@ ghost use Rattle.kinds.specs.Parts.{InServer, InWhole, ObjectFor, Client
 ghost use Rattle.kinds.specs.Items.{as-item};
 ghost use Rattle.kinds.specs.Fits.{KnownAt};
 ghost use Rattle.kinds.specs.Locks.{rule, passing, changes, Knows, Turn};
+ghost use Rattle.client.specs.Layout.{limit};
+ghost use Rattle.client.specs.declared.part.Set.the-variants.{Reads};
 use crate::fits::lowest;
 use crate::fits::reads_of;
 use crate::items::Item;
@@ -84,7 +86,7 @@ fn change_nth(
     change: Change,
     i: usize,
 )
-    requires { ⌜ ClientAt sizes (length (now mem)) client server × (i < 96) × Knows sizes (view (now mem)) client i ⌝ }
+    requires { ⌜ ClientAt sizes (length (now mem)) client server × (i < limit Reads) × Knows sizes (view (now mem)) client i ⌝ }
     ensures { λ _. ⌜ Turn sizes client server change low i (view (now (mem .entry))) (view (now (mem .exit))) ⌝ }
 {
     let item = item_at(mem, sizes, client, i);

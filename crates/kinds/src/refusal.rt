@@ -8,7 +8,8 @@ ghost use Rattle.steps.specs.Refusal.{kind-of, open-refusal, refusal, state-fit
 ghost use Rattle.kinds.specs.Parts.{Store-in, stored-in};
 ghost use Rattle.kinds.specs.Refusal.{server-refusal, node-refusal, first-refusal, give-refusal, field-refusal, known-refusal};
 ghost use Rattle.kinds.specs.Refusal.{left, due, fitting, unfit, Sited};
-ghost use Rattle.client.specs.Layout.{ClientPart, field};
+ghost use Rattle.client.specs.Layout.{ClientPart, field, field-count};
+ghost use Rattle.client.specs.Bounds.{most-servers};
 use crate::sizes::allowed;
 use crate::sizes::between;
 use crate::whole::client_at;
@@ -110,7 +111,7 @@ fn give_refusal(sizes: Sizes, step: Step) -> u64
 
 // Is a server a participant that is not in the set of the field `done` yet?
 fn is_unfinished(part: &[u8], done: usize, server: u64) -> bool
-    requires { ⌜ (server < 8) × (done < 15) × ClientPart (now part) ⌝ }
+    requires { ⌜ (server < most-servers) × (done < field-count) × ClientPart (now part) ⌝ }
     ensures { λ r. ⌜ r ≡ left (held (now (part .entry))) (field done) server ⌝ }
 {
     let s = server as u32;

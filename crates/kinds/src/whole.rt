@@ -3,7 +3,7 @@ ghost use mathlib.Core.Path.{_≡_};
 ghost use Prim.Native.Nat.{_+_, _<_, _≤_};
 ghost use Rattle.server.specs.Layout.{partWords};
 ghost use Rattle.steps.specs.Whole.{Allowed, words-for, server-at, client-at};
-ghost use Rattle.kinds.specs.Parts.{length-answer};
+ghost use Rattle.kinds.specs.Parts.{length-answer, head-words, most-words};
 ghost use Rattle.client.specs.Layout.{client-length};
 use crate::sizes::allowed;
 use client::part::CLIENT_WORDS;
@@ -20,7 +20,7 @@ pub enum Length {
 pub fn words_for(sizes: Sizes) -> usize
     requires { ⌜ Allowed sizes ⌝ }
     ensures { λ r. ⌜ r ≡ words-for sizes ⌝ }
-    ensures within { λ r. ⌜ (8 ≤ r) × (r ≤ 525328) ⌝ }
+    ensures within { λ r. ⌜ (head-words ≤ r) × (r ≤ most-words) ⌝ }
 {
     8 + sizes.servers * part_words(sizes.slots) + CLIENT_WORDS * sizes.clients
 }
@@ -29,7 +29,7 @@ pub fn words_for(sizes: Sizes) -> usize
 pub fn server_at(sizes: Sizes, server: usize) -> usize
     requires { ⌜ Allowed sizes × (server < sizes .servers) ⌝ }
     ensures { λ r. ⌜ r ≡ server-at sizes server ⌝ }
-    ensures within { λ r. ⌜ (r ≤ 525328) × (r + partWords (sizes .slots) ≤ words-for sizes) ⌝ }
+    ensures within { λ r. ⌜ (r ≤ most-words) × (r + partWords (sizes .slots) ≤ words-for sizes) ⌝ }
 {
     8 + server * part_words(sizes.slots)
 }
@@ -38,7 +38,7 @@ pub fn server_at(sizes: Sizes, server: usize) -> usize
 pub fn client_at(sizes: Sizes, client: usize) -> usize
     requires { ⌜ Allowed sizes × (client < sizes .clients) ⌝ }
     ensures { λ r. ⌜ r ≡ client-at sizes client ⌝ }
-    ensures within { λ r. ⌜ (r ≤ 525328) × (r + client-length ≤ words-for sizes) ⌝ }
+    ensures within { λ r. ⌜ (r ≤ most-words) × (r + client-length ≤ words-for sizes) ⌝ }
 {
     8 + sizes.servers * part_words(sizes.slots) + CLIENT_WORDS * client
 }

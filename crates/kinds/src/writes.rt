@@ -12,8 +12,9 @@ ghost use Rattle.kinds.specs.Parts.{AtClient, InServer, InWhole, AtServe
 ghost use Rattle.kinds.specs.Judge.{of-client};
 ghost use Rattle.kinds.specs.Fits.{KnownAt};
 ghost use Rattle.kinds.specs.Writes.{write-nth, write-step, stores-some, Storable, Writable, Storing, StoredNth, stores};
-ghost use Rattle.client.specs.Layout.{ClientPart};
+ghost use Rattle.client.specs.Layout.{ClientPart, limit};
 ghost use Rattle.server.specs.Layout.{ServerDone};
+ghost use Rattle.client.specs.Bounds.{end-of-slots};
 use crate::items::first_slot;
 use crate::whole::client_at;
 use crate::whole::server_at;
@@ -41,7 +42,7 @@ pub struct Write {
 
 // Item i of the write set.
 fn write_in(part: &[u8], i: usize) -> Write
-    requires { ⌜ (i < 48) × ClientPart (now part) ⌝ }
+    requires { ⌜ (i < limit Writes) × ClientPart (now part) ⌝ }
     ensures { λ r. ⌜ r ≡ write-nth (held (now (part .entry))) i ⌝ }
 {
     let number = number_at(part, Set::Writes, i);
@@ -57,7 +58,7 @@ fn write_in(part: &[u8], i: usize) -> Write
 }
 
 fn write_at(mem: &[u8], sizes: Sizes, client: usize, i: usize) -> Write
-    requires { ⌜ AtClient sizes (length (now mem)) client × (i < 48) ⌝ }
+    requires { ⌜ AtClient sizes (length (now mem)) client × (i < limit Writes) ⌝ }
     ensures { λ r. ⌜ r ≡ write-nth (of-client sizes (view (now (mem .entry))) client) i ⌝ }
 {
     let at = 8 * client_at(sizes, client);
@@ -68,7 +69,7 @@ fn write_at(mem: &[u8], sizes: Sizes, client: usize, i: usize) -> Write
 fn writes_of(mem: &[u8], sizes: Sizes, client: usize) -> usize
     requires { ⌜ AtClient sizes (length (now mem)) client ⌝ }
     ensures { λ r. ⌜ r ≡ count (of-client sizes (view (now (mem .entry))) client) Writes ⌝ }
-    ensures within { λ r. ⌜ r ≤ 48 ⌝ }
+    ensures within { λ r. ⌜ r ≤ limit Writes ⌝ }
 {
     let at = 8 * client_at(sizes, client);
     count(&mem[at..], Set::Writes)
@@ -86,7 +87,7 @@ fn stores_some(server: u64, write: Write) -> bool
 
 // What a server stores of a write.
 fn store_write(part: &mut [u8], slots: usize, server: u64, write: Write)
-    requires { ⌜ (slots ≤ 1024) × Has slots (object-of (write .number)) × Storable server write × (Srv.partWords slots ≤ length (now part) / 8) ⌝ }
+    requires { ⌜ (slots ≤ end-of-slots) × Has slots (object-of (write .number)) × Storable server write × (Srv.partWords slots ≤ length (now part) / 8) ⌝ }
     ensures { λ _. ⌜ ServerDone slots (write-step server write) (now (part .entry)) (now (part .exit)) ⌝ }
 {
     let number = write.number;
@@ -127,7 +128,7 @@ fn store_at(mem: &mut [u8], sizes: Sizes, server: usize, write: Write)
 }
 
 fn store_nth(mem: &mut [u8], sizes: Sizes, client: usize, server: usize, i: usize)
-    requires { ⌜ ClientAt sizes (length (now mem)) client server × (i < 48) × Writable sizes (of-client sizes (view (now mem)) client) server i ⌝ }
+    requires { ⌜ ClientAt sizes (length (now mem)) client server × (i < limit Writes) × Writable sizes (of-client sizes (view (now mem)) client) server i ⌝ }
     ensures { λ _. ⌜ StoredNth sizes client server i (view (now (mem .entry))) (view (now (mem .exit))) ⌝ }
 {
     let write = write_at(mem, sizes, client, i);

@@ -29,6 +29,12 @@ module _ (n : ℕ) where
 unfoldable pub written-down : List ℕ → ℕ → Line → List ℕ
 written-down out i l = cond (ltb i (length out / 3)) (set (set (set out (3 * i) (l .outcome)) (3 * i + 1) (l .a)) (3 * i + 2) (l .b)) out
 
+-- What step k, the i-th of a list, leaves of memory with the bytes b and of the output `out`; r is its outcome's number.
+abbrev pub Turn-taken : List ℕ → List ℕ → ℕ → Step → ℕ → List ℕ → List ℕ → Type 0
+Turn-taken b out i k r b′ out′ =
+    let l = line (outcome-of (length b) (view b) k) in
+    (r ≡ l .outcome) × (view b′ ≡ words-after (length b) (view b) k) × (out′ ≡ written-down out i l)
+
 -- those of a list of steps, from step i on
 unfoldable pub lines : List ℕ → ℕ → List Taken → List ℕ
 lines out i [] = out

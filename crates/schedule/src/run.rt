@@ -1,10 +1,6 @@
 // "A schedule is a lent list of step records, run front to back."
 ghost use mathlib.Core.Path.{_≡_};
-ghost use lib.ListN.{length};
-ghost use Rattle.memory.specs.Word.{view};
-ghost use Rattle.steps.specs.Outcome.{line};
-ghost use Rattle.engine.specs.Step.{outcome-of, words-after};
-ghost use Rattle.schedule.specs.Listed.{written-down, All-taken};
+ghost use Rattle.schedule.specs.Listed.{written-down, All-taken, Turn-taken};
 use engine::step::step;
 use steps::outcome::Line;
 use steps::step::Step;
@@ -22,9 +18,7 @@ fn note(out: &mut [u64], i: usize, l: Line)
 
 // One step, by value, the i-th of a list. Its outcome is written down, and its number returned.
 pub fn turn(mem: &mut [u8], out: &mut [u64], i: usize, k: Step) -> u64
-    ensures { λ r. ⌜ (r ≡ line (outcome-of (length (now (mem .entry))) (view (now (mem .entry))) k) .outcome)
-        × (view (now (mem .exit)) ≡ words-after (length (now (mem .entry))) (view (now (mem .entry))) k)
-        × (now (out .exit) ≡ written-down (now (out .entry)) i (line (outcome-of (length (now (mem .entry))) (view (now (mem .entry))) k))) ⌝ }
+    ensures { λ r. ⌜ Turn-taken (now (mem .entry)) (now (out .entry)) i k r (now (mem .exit)) (now (out .exit)) ⌝ }
 {
     let o = step(mem, k);
     let l = Line::of(o);

@@ -5,6 +5,7 @@ use mathlib.Core.List.{List, [], _∷_}
 use mathlib.Core.Option.{Option, none, some}
 use Prim.Native.Nat.{ℕ, _+_, _-_, _≤_, _<_}
 use lib.ListN.{length, getD, set}
+use denote.Ref.{now}
 use Rattle.nodes.specs.declared.node.Node.{Node}
 use Rattle.nodes.specs.declared.found.Found.{Found}
 use Rattle.nodes.specs.declared.found.Found.the-variants.{At, Absent}
@@ -17,19 +18,19 @@ use Rattle.walk.specs.declared.walk.Asked.{Asked}
 use Rattle.walk.specs.declared.walk.Stop.{Stop}
 use Rattle.client.specs.declared.part.Set.the-variants.{Reads}
 use Rattle.client.specs.Layout.{ClientWord, ClientPart}
-use Rattle.client.specs.Record.{number, object-in-store, value-of}
+use Rattle.client.specs.Record.{sizes, number, object-in-store, value-of}
 use Rattle.client.specs.Sets.{count, held}
 use Rattle.client.specs.Have.{is-copied}
 use Rattle.client.specs.Run.{among}
-use Rattle.client.specs.Lent.{OwnFits, own-find, own-record, own-count, own-list, used-in, pushed}
+use Rattle.client.specs.Lent.{LentList, OwnFits, own-find, own-record, own-count, own-list, used-in, pushed}
 use Rattle.client.specs.Answered.{entered}
-use Rattle.walk.specs.Bounds.{end-of-numbers, used-room}
+use Rattle.client.specs.Bounds.{end-of-numbers, used-room, most-servers, most-keys, highest-level, used-most}
 use Rattle.walk.specs.Walk.{goes, lack, walked, carry}
 
 -- ---- a node at hand has at most 14 keys, and a level of at most 4
 pub record SmallNode (r : Node) : Type 0 where
-  pub keys : r .count ≤ 14
-  pub level : r .level ≤ 4
+  pub keys : r .count ≤ most-keys
+  pub level : r .level ≤ highest-level
 
 abbrev pub Small : Obj → Node → Type 0
 Small meta r = Unit {0}
@@ -48,7 +49,7 @@ own-value x o Absent = none
 
 -- no own write has more than 14 keys
 abbrev pub Few : List ℕ → Type 0
-Few x = (i : ℕ) → i < own-count x → own-record x i .count ≤ 14
+Few x = (i : ℕ) → i < own-count x → own-record x i .count ≤ most-keys
 
 -- what the answer finds in the lent list: a split root of level 4 is written too, with level 5, and judged only then
 pub record OwnKept (x : List ℕ) : Type 0 where
@@ -74,7 +75,7 @@ nothing = 0 ∷ []
 -- ---- the copies in use: object 97 may be among them
 pub record Noted (m : ClientWord → ℕ) (u : List ℕ) : Type 0 where
   pub long : used-room ≤ length u
-  pub few : count m Reads + getD u 0 0 ≤ 97
+  pub few : count m Reads + getD u 0 0 ≤ used-most
   pub each : (i : ℕ) → i < getD u 0 0 → getD u (i + 1) 0 < end-of-numbers
 
 -- ---- what a question comes to
@@ -116,23 +117,27 @@ stopped s = record { stop = s; node = free-node 0 }
 unfoldable pub noted-copy : How → List ℕ → ℕ → List ℕ
 noted-copy d u n = cond (is-copied d) (cond (among n (used-in u)) u (pushed u n)) u
 
+-- ---- a statement of a walk over what the walk is lent: the store's sizes, what the client's part holds, the own writes, the copies in use
+abbrev pub over-lent : {A : Type 1} → (TreeSizes → (ClientWord → ℕ) → List ℕ → List ℕ → A) → ℕ → ℕ → LentList → LentList → LentList → A
+over-lent S servers slots part own used = S (sizes servers slots) (held (now (part .entry))) (now (own .entry)) (now (used .entry))
+
 -- ---- what a walk is lent: up to eight servers, a client's part, the copies in use, and the operation's own writes
 -- to one that only reads
 abbrev pub Walking : ℕ → List ℕ → List ℕ → Type 0
-Walking servers part used = (servers ≤ 8) × Noted (held part) used × ClientPart part
+Walking servers part used = (servers ≤ most-servers) × Noted (held part) used × ClientPart part
 
 -- to one that reads its own writes too
 abbrev pub WalkingOwn : ℕ → List ℕ → List ℕ → List ℕ → Type 0
-WalkingOwn servers part own used = (servers ≤ 8) × OwnGood own × Noted (held part) used × ClientPart part
+WalkingOwn servers part own used = (servers ≤ most-servers) × OwnGood own × Noted (held part) used × ClientPart part
 
 -- to one that writes, before its first write
 abbrev pub Beginning : ℕ → List ℕ → List ℕ → List ℕ → Type 0
-Beginning servers part own used = (servers ≤ 8) × OwnGood own × (getD own 0 0 ≡ 0) × Noted (held part) used × ClientPart part
+Beginning servers part own used = (servers ≤ most-servers) × OwnGood own × (getD own 0 0 ≡ 0) × Noted (held part) used × ClientPart part
 
 -- to one that writes, with less than n own writes
 abbrev pub Writing : ℕ → List ℕ → List ℕ → List ℕ → ℕ → Type 0
-Writing servers part own used n = (servers ≤ 8) × OwnGood own × (getD own 0 0 < n) × Noted (held part) used × ClientPart part
+Writing servers part own used n = (servers ≤ most-servers) × OwnGood own × (getD own 0 0 < n) × Noted (held part) used × ClientPart part
 
 -- to one that carries a change up, with at most n own writes
 abbrev pub Rising : ℕ → List ℕ → List ℕ → List ℕ → ℕ → Type 0
-Rising servers part own used n = (servers ≤ 8) × OwnGood own × (getD own 0 0 ≤ n) × Noted (held part) used × ClientPart part
+Rising servers part own used n = (servers ≤ most-servers) × OwnGood own × (getD own 0 0 ≤ n) × Noted (held part) used × ClientPart part

@@ -7,12 +7,13 @@ use Rattle.nodes.specs.Name.{server-of, slot-of}
 use Rattle.nodes.specs.Flags.{with-flag}
 use Rattle.client.specs.Record.{first-slot}
 use Rattle.client.specs.Lent.{own-number, own-record}
+use Rattle.client.specs.Bounds.{first-flag-number}
 
 -- the words of the server s with own write i counted
 unfoldable pub counts-one : List ℕ → ℕ → ℕ → List ℕ → List ℕ
 counts-one x s i ws =
-    let n = own-number x i - 8193 in
-    cond (ltb (own-number x i) 8193) ws (cond (eqb (server-of n) s) (with-flag ws (slot-of n) (eqb (first-slot (own-record x i)) 1)) ws)
+    let n = own-number x i - first-flag-number in
+    cond (ltb (own-number x i) first-flag-number) ws (cond (eqb (server-of n) s) (with-flag ws (slot-of n) (eqb (first-slot (own-record x i)) 1)) ws)
 
 -- with the first n own writes: of one object the first counts
 unfoldable pub counts : List ℕ → ℕ → ℕ → List ℕ → List ℕ

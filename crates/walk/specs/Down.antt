@@ -25,6 +25,7 @@ use Rattle.walk.specs.Entries.{opens, below, Inner, branch-of, Below}
 use Rattle.walk.specs.Walk.{goes, walked, carry}
 use Rattle.walk.specs.Ask.{SmallNode, Holds-writes, Noted, Answer}
 use Rattle.plans.specs.Plan as P
+use Rattle.client.specs.Bounds.{highest-level, level-count}
 
 -- a node of level l below the root, for any key lo from which it holds keys
 pub record Kid (z : TreeSizes) (m : ClientWord → ℕ) (x u : List ℕ) (l n : ℕ) (s : Stop) (r : Node) (u′ : List ℕ) : Type 0 where
@@ -135,7 +136,7 @@ pub record Reached (target : ℕ) (d : Descent) : Type 0 where
   pub opened : opens (d .node) ≡ true
   pub small : SmallNode (d .node)
   pub whole : Whole (d .node)
-  pub size : length (d .path) ≡ 5
+  pub size : length (d .path) ≡ level-count
   pub above : target ≤ d .top
   pub good : All (trail (d .path) target (d .top - target))
 
@@ -146,7 +147,7 @@ pub record Led (z : TreeSizes) (m : ClientWord → ℕ) (u : List ℕ) (key targ
       ≡ carry (d .stop) (used-in u′) (λ us. walked z m
       (k target (branches (trail (d .path) target (d .top - target))) (d .name) (entriesOf (d .node) (low (trail (d .path) target (d .top - target))))) us)
   pub noted : Noted m u′
-  pub high : d .top ≤ 4
+  pub high : d .top ≤ highest-level
   pub reached : goes (d .stop) ≡ true → Reached target d
   pub linked : in-store z root ≡ true → goes (d .stop) ≡ true → Linked z target (d .name) (trail (d .path) target (d .top - target))
 
@@ -165,6 +166,6 @@ pub record Descends (z : TreeSizes) (m : ClientWord → ℕ) (u : List ℕ) (key
       → walked z m (from-root key k) (used-in u)
       ≡ carry (d .stop) (used-in u′) (λ us. walked z m (k (branches (trail (d .path) 0 (d .top - 0))) (d .name) (entriesOf (d .node) (low (trail (d .path) 0 (d .top - 0))))) us)
   pub noted : Noted m u′
-  pub high : d .top ≤ 4
+  pub high : d .top ≤ highest-level
   pub reached : goes (d .stop) ≡ true → Reached 0 d
   pub linked : goes (d .stop) ≡ true → Linked z 0 (d .name) (trail (d .path) 0 (d .top - 0))

@@ -7,6 +7,7 @@ use lib.ListN.{take, drop, getD}
 use Rattle.nodes.specs.declared.node.Node.{Node}
 use Rattle.operations.specs.Entry.{Entries}
 use Rattle.operations.specs.Path.{Branch}
+use Rattle.client.specs.Bounds.{fewest-keys}
 
 -- "the root is free, a child is free": a leaf or an inner node, with a level of its kind
 unfoldable pub opens : Node → Bool
@@ -14,7 +15,7 @@ opens n = cond (eqb (n .kind) 1) (eqb (n .level) 0) (cond (eqb (n .kind) 2) (ltb
 
 -- "a child is free or not exactly one level lower, a node used below the root has under 7 keys"
 unfoldable pub below : ℕ → Node → Bool
-below l n = cond (opens n) (cond (eqb (n .level) l) (leb 7 (n .count)) false) false
+below l n = cond (opens n) (cond (eqb (n .level) l) (leb fewest-keys (n .count)) false) false
 
 pub record Inner (n : Node) : Type 0 where
   pub kind : n .kind ≡ 2
@@ -27,4 +28,4 @@ branch-of n i es = record { nm = n; key = getD es i (0, 0) .0; pre = take i es; 
 pub record Below (l : ℕ) (n : Node) : Type 0 where
   pub opened : opens n ≡ true
   pub level : n .level ≡ l
-  pub enough : 7 ≤ n .count
+  pub enough : fewest-keys ≤ n .count

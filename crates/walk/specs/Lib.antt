@@ -1,7 +1,5 @@
 -- The walk of a plan against its run over what the client has: questions, the way down, what only reads, slots.
 
--- where numbers end
-pub mod Bounds
 -- how a walk is told; nodes as the plans' entries
 pub mod Entries
 pub mod Walk

@@ -11,7 +11,7 @@ use Rattle.nodes.specs.Placement.{row}
 use Rattle.operations.specs.Object.{flag, taken, Writes}
 use Rattle.operations.specs.Slot.{TreeSizes, chosen, search, present, take-on}
 use Rattle.operations.specs.Path.{TreePlan}
-use Rattle.walk.specs.Bounds.{end-of-slots}
+use Rattle.client.specs.Bounds.{end-of-slots}
 use Rattle.walk.specs.declared.search.Taken.{Taken}
 use Rattle.walk.specs.declared.walk.Stop.{Stop}
 use Rattle.client.specs.Layout.{ClientWord}

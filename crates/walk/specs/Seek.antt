@@ -30,6 +30,7 @@ use Rattle.walk.specs.Ask.{SmallNode, Noted}
 use Rattle.walk.specs.Down.{trail, All}
 use Rattle.plans.specs.Plan as P
 use Rattle.walk.specs.Walk as W
+use Rattle.client.specs.Bounds.{highest-level, level-count}
 
 -- ---- one side: true for the right one
 abbrev pub visit : Bool → Visit
@@ -90,8 +91,8 @@ rests right (b ∷ bs) lows = rest right (b .at) (entriesOf (b .node) (lows 0)) 
 
 -- the inner nodes above a level, up to the top
 pub record Stacked (top : ℕ) (path : List Turn) (level : ℕ) : Type 0 where
-  pub high : top ≤ 4
-  pub size : length path ≡ 5
+  pub high : top ≤ highest-level
+  pub size : length path ≡ level-count
   pub good : All (trail path level (top - level))
 
 -- the plan that goes on at a child of that level

@@ -6,18 +6,19 @@ use lib.ListN.{length}
 use Rattle.operations.specs.Slot.{TreeSizes}
 use Rattle.walk.specs.declared.walk.Stop.{Stop}
 use Rattle.walk.specs.declared.walk.Stop.the-variants.{Refused, Aborts, Answers}
-use Rattle.client.specs.Layout.{ClientWord, op-number, reads-count, writes-count}
+use Rattle.client.specs.Layout.{ClientWord, op-number, reads-count, writes-count, limit}
 use Rattle.client.specs.Lent.{InUse, used-in}
 use Rattle.client.specs.Work.{Worked, refused, fetches, aborted, answers, worked}
 use Rattle.walk.specs.Walk.{lack, walked}
 use Rattle.client.specs.Work as C
+use Rattle.client.specs.declared.part.Set.the-variants.{Reads, Writes}
 
 -- an operation waits; what refusals 9 and 10 have judged
 pub record Waiting (m : ClientWord → ℕ) : Type 0 where
   pub some : m op-number ≡ 0 → ⊥
   pub known : m op-number ≤ 6
-  pub reads : m reads-count ≤ 96
-  pub writes : m writes-count ≤ 48
+  pub reads : m reads-count ≤ limit Reads
+  pub writes : m writes-count ≤ limit Writes
 
 -- how the work step ends, as the walk stops
 abbrev pub stop-of : Worked → Stop

@@ -13,6 +13,7 @@ use Rattle.client.specs.Record.{in-store, object-in-store}
 use Rattle.client.specs.Lent.{used-in}
 use Rattle.walk.specs.Walk.{goes, walked, carry}
 use Rattle.walk.specs.Ask.{OwnGood, Holds-writes, Noted}
+use Rattle.client.specs.Bounds.{most-servers}
 
 -- a taken slot's node, which must be free
 pub record NodeTaken (z : TreeSizes) (m : ClientWord → ℕ) (x u : List ℕ) (n : ℕ) (s : Stop) (u′ : List ℕ) : Type 0 where
@@ -44,6 +45,6 @@ pub record Released (z : TreeSizes) (m : ClientWord → ℕ) (x u : List ℕ) (n
 
 -- an object is written
 pub record Wrote (x : List ℕ) (o : Obj) (v : Val) (x′ : List ℕ) : Type 0 where
-  pub holds : (z : TreeSizes) (w : Writes) → z .servers ≤ 8 → object-in-store z o ≡ true → Holds-writes z x w → Holds-writes z x′ ((o, v) ∷ w)
+  pub holds : (z : TreeSizes) (w : Writes) → z .servers ≤ most-servers → object-in-store z o ≡ true → Holds-writes z x w → Holds-writes z x′ ((o, v) ∷ w)
   pub good : OwnGood x′
   pub few : getD x′ 0 0 ≤ getD x 0 0 + 1

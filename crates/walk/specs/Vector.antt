@@ -11,7 +11,7 @@ use Rattle.nodes.specs.Found.{Inside}
 use Rattle.operations.specs.Object.{vector, fetched, Val, flags, Writes}
 use Rattle.operations.specs.Slot.{TreeSizes, chosen, search}
 use Rattle.operations.specs.Path.{TreePlan}
-use Rattle.walk.specs.Bounds.{end-of-slots}
+use Rattle.client.specs.Bounds.{end-of-slots}
 use Rattle.walk.specs.declared.walk.Stop.{Stop}
 use Rattle.walk.specs.declared.walk.Stop.the-variants.{Going, LacksVector}
 use Rattle.client.specs.Layout.{ClientWord}

@@ -11,7 +11,7 @@ use Rattle.operations.specs.Path.{TreePlan}
 use Rattle.walk.specs.declared.walk.Stop.{Stop}
 use Rattle.walk.specs.declared.walk.Stop.the-variants.{Going, LacksMeta, LacksNode, LacksVector, Refused, Aborts, Answers}
 use Rattle.client.specs.declared.part.Set.the-variants.{Reads}
-use Rattle.client.specs.Layout.{ClientWord}
+use Rattle.client.specs.Layout.{ClientWord, limit}
 use Rattle.client.specs.Sets.{count, find}
 use Rattle.client.specs.Have.{have, broken}
 use Rattle.client.specs.Commit.{is-at}
@@ -67,10 +67,10 @@ module _ (m : ClientWord → ℕ) where
   fresh x = not (is-at (find m set.Writes x)) && not (is-at (find m Reads x))
 
   abbrev pub room : ℕ
-  room = 96 - count m Reads
+  room = limit Reads - count m Reads
 
   unfoldable pub over : List ℕ → Bool
-  over us = ltb 96 (count m Reads + length us)
+  over us = ltb (limit Reads) (count m Reads + length us)
 
 module _ (z : TreeSizes) (m : ClientWord → ℕ) where
   unfoldable pub worked : TreePlan → List ℕ → Ran

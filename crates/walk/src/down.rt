@@ -11,8 +11,9 @@ ghost use Prim.Native.Nat.{_<_, _≤_};
 ghost use Rattle.client.specs.Record.{sizes};
 ghost use Rattle.client.specs.Sets.{held};
 ghost use Rattle.walk.specs.Entries.{opens, below};
-ghost use Rattle.walk.specs.Ask.{nothing, Walking, WalkingOwn};
+ghost use Rattle.walk.specs.Ask.{nothing, Walking, WalkingOwn, over-lent};
 ghost use Rattle.walk.specs.Down.{Kid, Checked, RootMet, Above, Lowered, From, Led, AtRoot, Descends};
+ghost use Rattle.client.specs.Bounds.{highest-level};
 
 // Is the node a leaf or an inner node?
 fn opens(n: Node) -> bool
@@ -88,8 +89,7 @@ pub fn see_child(
     name: u64,
 ) -> Asked
     requires { ⌜ WalkingOwn servers (now part) (now own) (now used) ⌝ }
-    ensures { λ r. ⌜ Kid (sizes servers slots) (held (now (part .entry))) (now (own .entry)) (now (used .entry)) level name (r .stop)
-        (r .node) (now (used .exit)) ⌝ }
+    ensures { λ r. ⌜ over-lent Kid servers slots part own used level name (r .stop) (r .node) (now (used .exit)) ⌝ }
 {
     let a = see_node(part, servers, slots, own, used, name);
     as_child(a, level)
@@ -255,7 +255,7 @@ pub fn at_root(part: &[u8], servers: usize, slots: usize, used: &mut [u64]) -> R
 
 pub fn no_descent(stop: Stop) -> Descent
     ensures { λ r. ⌜ r .stop ≡ stop ⌝ }
-    ensures low { λ r. ⌜ r .top ≤ 4 ⌝ }
+    ensures low { λ r. ⌜ r .top ≤ highest-level ⌝ }
 {
     let node = Node::free(0);
     let blank = Turn {

@@ -11,7 +11,7 @@ ghost use lib.ListN.{length, getD};
 ghost use Rattle.client.specs.Layout.{op-number, ClientPart};
 ghost use Rattle.client.specs.Record.{sizes};
 ghost use Rattle.client.specs.Sets.{held};
-ghost use Rattle.walk.specs.Bounds.{used-room};
+ghost use Rattle.client.specs.Bounds.{used-room, most-servers};
 ghost use Rattle.walk.specs.declared.operation.Operation.the-variants.{Read};
 ghost use Rattle.walk.specs.Operation.{operation-of};
 ghost use Rattle.walk.specs.Stopped.{Waiting};
@@ -19,7 +19,7 @@ ghost use Rattle.walk.specs.Look.{Looks};
 
 // `used` is lent empty; it has the copies in use afterwards.
 pub fn look(part: &[u8], servers: usize, slots: usize, used: &mut [u64], op: Query) -> Stop
-    requires { ⌜ (servers ≤ 8) × (used-room ≤ length (now used)) × (getD (now used) 0 0 ≡ 0) × ClientPart (now part) ⌝ }
+    requires { ⌜ (servers ≤ most-servers) × (used-room ≤ length (now used)) × (getD (now used) 0 0 ≡ 0) × ClientPart (now part) ⌝ }
     requires waits { ⌜ Waiting (held (now part)) × (operation-of (held (now part) op-number) ≡ Read op) ⌝ }
     ensures { λ r. ⌜ Looks (sizes servers slots) (held (now (part .entry))) r (now (used .entry)) (now (used .exit)) ⌝ }
 {

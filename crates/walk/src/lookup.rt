@@ -15,6 +15,7 @@ ghost use Rattle.client.specs.Sets.{held};
 ghost use Rattle.walk.specs.Ask.{Noted, Walking};
 ghost use Rattle.walk.specs.Lookup.{Ends, Walks, look-in};
 ghost use Rattle.client.specs.Layout.{ClientPart};
+ghost use Rattle.client.specs.Bounds.{most-keys, most-children};
 
 // The answer, unless object 97 has been read.
 pub fn answers(part: &[u8], used: &mut [u64], a: u64, b: u64) -> Stop
@@ -35,7 +36,7 @@ struct Pair {
 }
 
 pub fn slot(slots: [u64; 15], i: usize) -> u64
-    requires { ⌜ i < 15 ⌝ }
+    requires { ⌜ i < most-children ⌝ }
     ensures { λ r. ⌜ r ≡ getD slots i 0 ⌝ }
 {
     slots[i]
@@ -43,7 +44,7 @@ pub fn slot(slots: [u64; 15], i: usize) -> u64
 
 // "Lookup of a key there: a 1, b the value."
 fn look_in(n: Node, key: u64) -> Pair
-    requires { ⌜ n .count ≤ 14 ⌝ }
+    requires { ⌜ n .count ≤ most-keys ⌝ }
     ensures { λ r. ⌜ r ≡ look-in n key ⌝ }
 {
     let f = n.find(key);

@@ -21,11 +21,10 @@ ghost use lib.ListN.{getD};
 ghost use Rattle.nodes.specs.Name.{name};
 ghost use Rattle.nodes.specs.Placement.{row};
 ghost use Rattle.operations.specs.Slot.{present};
-ghost use Rattle.client.specs.Record.{sizes};
 ghost use Rattle.client.specs.Sets.{held};
 ghost use Rattle.client.specs.Lent.{OwnFits};
-ghost use Rattle.walk.specs.Bounds.{end-of-slots, end-of-names, own-most};
-ghost use Rattle.walk.specs.Ask.{Walking, WalkingOwn, Writing};
+ghost use Rattle.client.specs.Bounds.{end-of-slots, end-of-names, own-most, most-servers};
+ghost use Rattle.walk.specs.Ask.{Walking, WalkingOwn, Writing, over-lent};
 ghost use Rattle.walk.specs.Counted.{counts-one, counts};
 ghost use Rattle.walk.specs.Vector.{VectorAsked, passes, Looked};
 ghost use Rattle.walk.specs.Search.{LookedInRow, Sought, TakenOn, TakenFor};
@@ -92,7 +91,7 @@ fn ask_vector(part: &[u8], servers: usize, used: &mut [u64], s: usize) -> Stop
 
 // "a server is passed over only by a vector that this transaction fetched"
 fn passed(part: &[u8], s: usize) -> Stop
-    requires { ⌜ (s < 8) × ClientPart (now part) ⌝ }
+    requires { ⌜ (s < most-servers) × ClientPart (now part) ⌝ }
     ensures { λ r. ⌜ r ≡ passes (held (now (part .entry))) s ⌝ }
 {
     let fetched = is_fetched(part, s);
@@ -119,8 +118,7 @@ fn look_on(
 ) -> Chosen
     requires { ⌜ WalkingOwn servers (now part) (now own) (now used) ⌝ }
     requires above { ⌜ slot < end-of-slots ⌝ }
-    ensures { λ r. ⌜ Looked (sizes servers slots) (held (now (part .entry))) (now (own .entry)) (now (used .entry)) s slot (r .stop)
-        (r .found) (now (used .exit)) ⌝ }
+    ensures { λ r. ⌜ over-lent Looked servers slots part own used s slot (r .stop) (r .found) (now (used .exit)) ⌝ }
 {
     let stop = ask_vector(part, servers, used, s);
     let on = going(stop);
@@ -154,8 +152,7 @@ fn look_next(
 ) -> Chosen
     requires { ⌜ WalkingOwn servers (now part) (now own) (now used) ⌝ }
     requires above { ⌜ slot < end-of-slots ⌝ }
-    ensures { λ r. ⌜ LookedInRow (sizes servers slots) (held (now (part .entry))) (now (own .entry)) (now (used .entry)) s slot
-        (r .stop) (r .found) (now (used .exit)) ⌝ }
+    ensures { λ r. ⌜ over-lent LookedInRow servers slots part own used s slot (r .stop) (r .found) (now (used .exit)) ⌝ }
 {
     if servers <= s {
         return Chosen {
@@ -173,7 +170,7 @@ pub struct Taken {
 }
 
 fn slot_name(s: usize, slot: usize) -> u64
-    requires { ⌜ (s < 8) × (slot < end-of-slots) ⌝ }
+    requires { ⌜ (s < most-servers) × (slot < end-of-slots) ⌝ }
     ensures { λ r. ⌜ r ≡ name s slot ⌝ }
 {
     let n = Name::new(s as u64, slot as u64);
@@ -191,10 +188,9 @@ fn search(
     slot: usize,
 ) -> Taken
     requires { ⌜ WalkingOwn servers (now part) (now own) (now used) ⌝ }
-    requires from { ⌜ home < 8 ⌝ }
+    requires from { ⌜ home < most-servers ⌝ }
     requires above { ⌜ slot < end-of-slots ⌝ }
-    ensures { λ r. ⌜ Sought (sizes servers slots) (held (now (part .entry))) (now (own .entry)) (now (used .entry))
-        (present servers (row home)) slot r (now (used .exit)) ⌝ }
+    ensures { λ r. ⌜ over-lent Sought servers slots part own used (present servers (row home)) slot r (now (used .exit)) ⌝ }
 {
     let mut i: usize = 0;
     while i < 8 {
@@ -236,8 +232,7 @@ fn search_one(
 ) -> Taken
     requires { ⌜ WalkingOwn servers (now part) (now own) (now used) ⌝ }
     requires above { ⌜ slot < end-of-slots ⌝ }
-    ensures { λ r. ⌜ Sought (sizes servers slots) (held (now (part .entry))) (now (own .entry)) (now (used .entry)) (s ∷ []) slot r
-        (now (used .exit)) ⌝ }
+    ensures { λ r. ⌜ over-lent Sought servers slots part own used (s ∷ []) slot r (now (used .exit)) ⌝ }
 {
     let c = look_on(part, servers, slots, own, used, s, slot);
     let stop = c.stop;
@@ -269,8 +264,7 @@ pub fn take_for(
 ) -> Taken
     requires { ⌜ Writing servers (now part) (now own) (now used) own-most ⌝ }
     requires there { ⌜ name < end-of-names ⌝ }
-    ensures { λ r. ⌜ TakenFor (sizes servers slots) (held (now (part .entry))) (now (own .entry)) (now (used .entry)) name r
-        (now (own .exit)) (now (used .exit)) ⌝ }
+    ensures { λ r. ⌜ over-lent TakenFor servers slots part own used name r (now (own .exit)) (now (used .exit)) ⌝ }
 {
     let split = Name { number: name };
     let home = split.server() as usize;
@@ -298,8 +292,7 @@ pub fn take_on(
 ) -> Taken
     requires { ⌜ Writing servers (now part) (now own) (now used) own-most ⌝ }
     requires above { ⌜ slot < end-of-slots ⌝ }
-    ensures { λ r. ⌜ TakenOn (sizes servers slots) (held (now (part .entry))) (now (own .entry)) (now (used .entry)) (s ∷ []) slot r
-        (now (own .exit)) (now (used .exit)) ⌝ }
+    ensures { λ r. ⌜ over-lent TakenOn servers slots part own used (s ∷ []) slot r (now (own .exit)) (now (used .exit)) ⌝ }
 {
     let t = search_one(part, servers, slots, own, used, s, slot);
     let stop = t.stop;

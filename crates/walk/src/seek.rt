@@ -16,6 +16,7 @@ ghost use Rattle.walk.specs.Ask.{Walking};
 ghost use Rattle.walk.specs.Lookup.{Walks};
 ghost use Rattle.walk.specs.Near.{Beyond};
 ghost use Rattle.walk.specs.Seek.{in-leaf, more, onward, first-at, Stacked, Climbed, Standing, Advanced, ReadOn, Seeks, near-plan};
+ghost use Rattle.client.specs.Bounds.{most-keys};
 
 // A key, if there is one.
 pub enum Key {
@@ -24,7 +25,7 @@ pub enum Key {
 }
 
 fn key_at(keys: [u64; 14], i: usize) -> u64
-    requires { ⌜ i < 14 ⌝ }
+    requires { ⌜ i < most-keys ⌝ }
     ensures { λ r. ⌜ r ≡ getD keys i 0 ⌝ }
 {
     keys[i]
@@ -32,7 +33,7 @@ fn key_at(keys: [u64; 14], i: usize) -> u64
 
 // The nearest key of a leaf strictly above the key, or strictly below it.
 fn in_leaf(right: bool, n: Node, key: u64) -> Key
-    requires { ⌜ n .count ≤ 14 ⌝ }
+    requires { ⌜ n .count ≤ most-keys ⌝ }
     ensures { λ r. ⌜ r ≡ in-leaf right n key ⌝ }
 {
     let keys = n.keys;
@@ -66,7 +67,7 @@ fn more(right: bool, b: Turn) -> bool
 
 // The number of the next child on that side.
 fn onward(right: bool, at: usize) -> usize
-    requires { ⌜ at ≤ 14 ⌝ }
+    requires { ⌜ at ≤ most-keys ⌝ }
     ensures { λ r. ⌜ r ≡ onward right at ⌝ }
 {
     if right {

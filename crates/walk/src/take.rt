@@ -8,14 +8,12 @@ use crate::walk::see_node;
 use client::own::put_own;
 use client::range::single;
 use nodes::node::Node;
-ghost use Prim.Native.Nat.{_<_};
+ghost use Prim.Native.Nat.{_<_, _-_};
 ghost use mathlib.Core.Bool.{false};
 ghost use Rattle.operations.specs.Object.{node, flag, taken, free};
-ghost use Rattle.client.specs.Record.{sizes};
-ghost use Rattle.client.specs.Sets.{held};
 ghost use Rattle.client.specs.Lent.{own-count};
-ghost use Rattle.walk.specs.Bounds.{end-of-names, own-most};
-ghost use Rattle.walk.specs.Ask.{OwnGood, WalkingOwn, Writing};
+ghost use Rattle.client.specs.Bounds.{end-of-names, own-most};
+ghost use Rattle.walk.specs.Ask.{OwnGood, WalkingOwn, Writing, over-lent};
 ghost use Rattle.walk.specs.Take.{NodeTaken, FlagTaken, Wrote, Released};
 
 // "A taken slot's node is read too, and must be free."
@@ -28,8 +26,7 @@ pub fn take_node(
     name: u64,
 ) -> Stop
     requires { ⌜ WalkingOwn servers (now part) (now own) (now used) ⌝ }
-    ensures { λ r. ⌜ NodeTaken (sizes servers slots) (held (now (part .entry))) (now (own .entry)) (now (used .entry)) name r
-        (now (used .exit)) ⌝ }
+    ensures { λ r. ⌜ over-lent NodeTaken servers slots part own used name r (now (used .exit)) ⌝ }
 {
     let a = see_node(part, servers, slots, own, used, name);
     let stop = a.stop;
@@ -54,8 +51,7 @@ pub fn take_flag(
     name: u64,
 ) -> Stop
     requires { ⌜ Writing servers (now part) (now own) (now used) own-most ⌝ }
-    ensures { λ r. ⌜ FlagTaken (sizes servers slots) (held (now (part .entry))) (now (own .entry)) (now (used .entry)) name r
-        (now (own .exit)) (now (used .exit)) ⌝ }
+    ensures { λ r. ⌜ over-lent FlagTaken servers slots part own used name r (now (own .exit)) (now (used .exit)) ⌝ }
 {
     let a = see_flag(part, servers, slots, own, used, name);
     let stop = a.stop;
@@ -101,9 +97,8 @@ pub fn release(
     used: &mut [u64],
     name: u64,
 ) -> Stop
-    requires { ⌜ Writing servers (now part) (now own) (now used) 19 ⌝ }
-    ensures { λ r. ⌜ Released (sizes servers slots) (held (now (part .entry))) (now (own .entry)) (now (used .entry)) name r
-        (now (own .exit)) (now (used .exit)) ⌝ }
+    requires { ⌜ Writing servers (now part) (now own) (now used) (own-most - 1) ⌝ }
+    ensures { λ r. ⌜ over-lent Released servers slots part own used name r (now (own .exit)) (now (used .exit)) ⌝ }
 {
     let a = see_flag(part, servers, slots, own, used, name);
     let stop = a.stop;

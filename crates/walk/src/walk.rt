@@ -22,9 +22,9 @@ ghost use Rattle.operations.specs.Object.{meta, node, flag};
 ghost use Rattle.client.specs.Record.{sizes};
 ghost use Rattle.client.specs.Sets.{held};
 ghost use Rattle.client.specs.Lent.{Lent, used-in};
-ghost use Rattle.walk.specs.Bounds.{end-of-names, end-of-numbers, used-room};
+ghost use Rattle.client.specs.Bounds.{end-of-names, end-of-numbers, used-room, first-flag-number};
 ghost use Rattle.walk.specs.Walk.{goes, is-answer, over};
-ghost use Rattle.walk.specs.Ask.{Noted, Numbered, Outside, Answer, nothing, popped, noted-copy, stopped, Walking, WalkingOwn};
+ghost use Rattle.walk.specs.Ask.{Noted, Numbered, Outside, Answer, nothing, popped, noted-copy, stopped, Walking, WalkingOwn, over-lent};
 ghost use Rattle.client.specs.Layout.{ClientPart};
 
 // How the walk of a plan goes on or ends: a lack is to be fetched, Refused is refusal 10.
@@ -173,7 +173,7 @@ pub fn node_number(name: u64) -> u64
 
 pub fn flag_number(name: u64) -> u64
     requires { ⌜ name < end-of-names ⌝ }
-    ensures { λ r. ⌜ r ≡ 8193 + name ⌝ }
+    ensures { λ r. ⌜ r ≡ first-flag-number + name ⌝ }
     ensures within { λ r. ⌜ r < end-of-numbers ⌝ }
 {
     8193 + name
@@ -211,8 +211,7 @@ fn see_number(
     lacks: Stop,
 ) -> Asked
     requires { ⌜ (number < end-of-numbers) × WalkingOwn servers (now part) (now own) (now used) ⌝ }
-    ensures { λ r. ⌜ Numbered (sizes servers slots) (held (now (part .entry))) (now (own .entry)) (now (used .entry)) number lacks
-        (r .stop) (r .node) (now (used .exit)) ⌝ }
+    ensures { λ r. ⌜ over-lent Numbered servers slots part own used number lacks (r .stop) (r .node) (now (used .exit)) ⌝ }
 {
     let f = find_own(own, number);
     match f {
@@ -233,8 +232,7 @@ pub fn see_node(
     name: u64,
 ) -> Asked
     requires { ⌜ WalkingOwn servers (now part) (now own) (now used) ⌝ }
-    ensures { λ r. ⌜ Answer (sizes servers slots) (held (now (part .entry))) (now (own .entry)) (now (used .entry)) (node name)
-        (r .stop) (r .node) (now (used .exit)) ⌝ }
+    ensures { λ r. ⌜ over-lent Answer servers slots part own used (node name) (r .stop) (r .node) (now (used .exit)) ⌝ }
 {
     let there = in_store(servers, slots, name);
     if !there {
@@ -262,8 +260,7 @@ pub fn see_flag(
     name: u64,
 ) -> Asked
     requires { ⌜ WalkingOwn servers (now part) (now own) (now used) ⌝ }
-    ensures { λ r. ⌜ Answer (sizes servers slots) (held (now (part .entry))) (now (own .entry)) (now (used .entry)) (flag name)
-        (r .stop) (r .node) (now (used .exit)) ⌝ }
+    ensures { λ r. ⌜ over-lent Answer servers slots part own used (flag name) (r .stop) (r .node) (now (used .exit)) ⌝ }
 {
     let there = in_store(servers, slots, name);
     if !there {
