@@ -2,6 +2,9 @@
 use client::items::has;
 use client::lookup::copied;
 use client::own::own_record;
+use client::part::ITEM_WORDS;
+use client::part::LAST_NODE_NUMBER;
+use client::part::MOST_WRITTEN;
 use client::part::Set;
 use client::part::WRITES_COUNT;
 use client::part::find;
@@ -55,7 +58,7 @@ fn new_at(part: &[u8], own: &[u64], i: usize) -> usize
     ensures { λ r. ⌜ r ≡ new-at (held (now (part .entry))) (now (own .entry)) i ⌝ }
     ensures within { λ r. ⌜ r ≤ 1 ⌝ }
 {
-    let at = find(part, Set::Writes, own[34 * i + 1]);
+    let at = find(part, Set::Writes, own[ITEM_WORDS * i + 1]);
     match at {
         Found::At(_) => 0,
         Found::Absent => 1,
@@ -116,8 +119,8 @@ fn there_at(part: &[u8], own: &[u64], i: usize) -> bool
     requires { ⌜ (i < getD (now own) 0 0) × OwnFits (now own) × ClientPart (now part) ⌝ }
     ensures { λ r. ⌜ r ≡ there-at (held (now (part .entry))) (now (own .entry)) i ⌝ }
 {
-    let number = own[34 * i + 1];
-    if number > 8192 {
+    let number = own[ITEM_WORDS * i + 1];
+    if number > LAST_NODE_NUMBER {
         return true;
     }
     version_there(part, number)
@@ -143,8 +146,8 @@ fn stays_below(part: &[u8], own: &[u64], i: usize) -> bool
     requires { ⌜ (i < getD (now own) 0 0) × OwnFits (now own) × ClientPart (now part) ⌝ }
     ensures { λ r. ⌜ r ≡ stays-below (held (now (part .entry))) (now (own .entry)) i ⌝ }
 {
-    let number = own[34 * i + 1];
-    if number > 8192 {
+    let number = own[ITEM_WORDS * i + 1];
+    if number > LAST_NODE_NUMBER {
         return true;
     }
     let version = version_in(part, number);
@@ -176,7 +179,7 @@ pub fn last_reason(part: &[u8], own: &[u64]) -> u64
     }
     let written = get_field(part, WRITES_COUNT) as usize;
     let new = count_new(part, own);
-    if 48 < written + new {
+    if MOST_WRITTEN < written + new {
         return 4;
     }
     if !all_there(part, own) {

@@ -2,6 +2,7 @@
 use crate::items::inner_before_after;
 use crate::items::is_home;
 use crate::items::is_inner;
+use crate::part::LAST_NODE_NUMBER;
 use crate::part::Set;
 use crate::part::count;
 use crate::part::item_word;
@@ -40,7 +41,7 @@ pub fn inner_at(part: &[u8], set: Set, i: usize) -> bool
     if number == 0 {
         return false;
     }
-    if number <= 8192 {
+    if number <= LAST_NODE_NUMBER {
         return item_word(part, set, i, 1) == 2;
     }
     false

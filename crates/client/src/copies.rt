@@ -1,4 +1,6 @@
 // Copies of objects: put, and dropped.
+use crate::part::FIRST_FLAG_NUMBER;
+use crate::part::LAST_NODE_NUMBER;
 use crate::part::META_COPIED;
 use crate::part::Set;
 use crate::part::count;
@@ -61,12 +63,12 @@ fn drop_object(part: &mut [u8], number: u64)
         set_field(part, META_COPIED, 0);
         return;
     }
-    if number <= 8192 {
+    if number <= LAST_NODE_NUMBER {
         drop_node(part, number);
         return;
     }
     let flag = Name {
-        number: number - 8193,
+        number: number - FIRST_FLAG_NUMBER,
     };
     let s = flag.server();
     if s < Name::SERVERS {

@@ -1,6 +1,9 @@
 // Objects enter the read set and the write set.
 use crate::lookup::copied;
 use crate::own::own_record;
+use crate::part::ITEM_WORDS;
+use crate::part::MOST_READ;
+use crate::part::MOST_WRITTEN;
 use crate::part::READS_COUNT;
 use crate::part::Set;
 use crate::part::WRITES_COUNT;
@@ -24,7 +27,7 @@ pub fn enter_read(part: &mut [u8], number: u64, n: Node)
     ensures { λ _. ⌜ Did (enter-read number n) (now (part .entry)) (now (part .exit)) ⌝ }
 {
     let c = count(part, Set::Reads);
-    if c >= 96 {
+    if c >= MOST_READ {
         return;
     }
     set_item(part, Set::Reads, c, number, n);
@@ -67,7 +70,7 @@ fn enter_write(part: &mut [u8], number: u64, n: Node)
         Found::Absent => {}
     }
     let c = count(part, Set::Writes);
-    if c >= 48 {
+    if c >= MOST_WRITTEN {
         return;
     }
     set_item(part, Set::Writes, c, number, n);
@@ -80,7 +83,7 @@ fn write_nth(part: &mut [u8], own: &[u64], i: usize)
     ensures { λ _. ⌜ Did (write-nth (now (own .entry)) i) (now (part .entry)) (now (part .exit)) ⌝ }
 {
     let n = own_record(own, i);
-    enter_write(part, own[34 * i + 1], n);
+    enter_write(part, own[ITEM_WORDS * i + 1], n);
 }
 
 // The operation's own writes.

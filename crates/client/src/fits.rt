@@ -15,7 +15,11 @@ use crate::items::is_home;
 use crate::items::is_inner;
 use crate::items::version_read;
 use crate::part::APPLIED;
+use crate::part::FIRST_FLAG_NUMBER;
+use crate::part::LAST_NODE_NUMBER;
 use crate::part::LOST;
+use crate::part::MOST_READ;
+use crate::part::MOST_WRITTEN;
 use crate::part::OP_KEY;
 use crate::part::OP_NUMBER;
 use crate::part::OP_SERVER;
@@ -50,10 +54,10 @@ fn number_in_store(servers: usize, slots: usize, number: u64) -> bool
     if number == 0 {
         return true;
     }
-    if number <= 8192 {
+    if number <= LAST_NODE_NUMBER {
         return in_store(servers, slots, number - 1);
     }
-    in_store(servers, slots, number - 8193)
+    in_store(servers, slots, number - FIRST_FLAG_NUMBER)
 }
 
 // A set has no more items than it may.
@@ -62,8 +66,8 @@ fn count_fits(part: &[u8], set: Set) -> bool
     ensures { λ r. ⌜ r ≡ leb (said-count (held (now (part .entry))) set) (limit set) ⌝ }
 {
     match set {
-        Set::Reads => get_field(part, READS_COUNT) <= 96,
-        Set::Writes => get_field(part, WRITES_COUNT) <= 48,
+        Set::Reads => get_field(part, READS_COUNT) <= MOST_READ as u64,
+        Set::Writes => get_field(part, WRITES_COUNT) <= MOST_WRITTEN as u64,
         Set::Copies => true,
     }
 }
@@ -137,7 +141,7 @@ fn kind_fits(part: &[u8], set: Set, i: usize) -> bool
     if number == 0 {
         return true;
     }
-    if number > 8192 {
+    if number > LAST_NODE_NUMBER {
         return true;
     }
     item_word(part, set, i, 1) <= 2
@@ -241,7 +245,7 @@ fn young(part: &[u8], number: u64) -> bool
     requires { ⌜ ClientPart (now part) ⌝ }
     ensures { λ r. ⌜ r ≡ young (held (now (part .entry))) number ⌝ }
 {
-    if number > 8192 {
+    if number > LAST_NODE_NUMBER {
         return true;
     }
     version_read(part, number) < 4294967295
@@ -287,7 +291,7 @@ fn read_fits(part: &[u8], i: usize) -> bool
     requires { ⌜ (i < limit Writes) × ClientPart (now part) ⌝ }
     ensures { λ r. ⌜ r ≡ read-fits (held (now (part .entry))) i ⌝ }
 {
-    if number_at(part, Set::Writes, i) > 8192 {
+    if number_at(part, Set::Writes, i) > LAST_NODE_NUMBER {
         return true;
     }
     is_read(part, i)
@@ -330,7 +334,7 @@ fn flag_renewal_fits(part: &[u8], servers: usize, slots: usize, i: usize) -> boo
 {
     let number = number_at(part, Set::Writes, i);
     let name = Name {
-        number: number - 8193,
+        number: number - FIRST_FLAG_NUMBER,
     };
     let s = name.server();
     if s >= 8 {
@@ -363,7 +367,7 @@ fn renewal_fits(part: &[u8], servers: usize, slots: usize, i: usize) -> bool
     requires { ⌜ (i < limit Writes) × ClientPart (now part) ⌝ }
     ensures { λ r. ⌜ r ≡ renewal-fits (sizes servers slots) (held (now (part .entry))) i ⌝ }
 {
-    if number_at(part, Set::Writes, i) > 8192 {
+    if number_at(part, Set::Writes, i) > LAST_NODE_NUMBER {
         return flag_renewal_fits(part, servers, slots, i);
     }
     inner_renewal_fits(part, servers, slots, i)

@@ -1,4 +1,6 @@
 // What a transaction has read and written, object by object.
+use crate::part::FIRST_FLAG_NUMBER;
+use crate::part::LAST_NODE_NUMBER;
 use crate::part::Set;
 use crate::part::find;
 use crate::part::record_at;
@@ -20,7 +22,7 @@ pub fn is_inner(number: u64, node: Node) -> bool
     if number == 0 {
         return true;
     }
-    if number <= 8192 {
+    if number <= LAST_NODE_NUMBER {
         return node.kind == 2;
     }
     false
@@ -68,12 +70,12 @@ pub fn is_home(server: u64, number: u64) -> bool
     if number == 0 {
         return true;
     }
-    if number <= 8192 {
+    if number <= LAST_NODE_NUMBER {
         let node = Name { number: number - 1 };
         return node.server() == server;
     }
     let flag = Name {
-        number: number - 8193,
+        number: number - FIRST_FLAG_NUMBER,
     };
     flag.server() == server
 }

@@ -5,6 +5,8 @@ use crate::answer::copy;
 use crate::answer::here;
 use crate::answer::is_copied;
 use crate::answer::lacking;
+use crate::part::FIRST_FLAG_NUMBER;
+use crate::part::LAST_NODE_NUMBER;
 use crate::part::META_COPIED;
 use crate::part::META_ROOT;
 use crate::part::META_VERSION;
@@ -72,10 +74,10 @@ pub fn copied(part: &[u8], number: u64) -> Look
     if number == 0 {
         return copied_meta(part);
     }
-    if number <= 8192 {
+    if number <= LAST_NODE_NUMBER {
         return copied_node(part, number);
     }
-    copied_flag(part, number - 8193)
+    copied_flag(part, number - FIRST_FLAG_NUMBER)
 }
 
 // The object with that number in the write set, else the read set, else the copies.
@@ -102,11 +104,11 @@ fn copy_fits(part: &[u8], number: u64, n: Node) -> bool
     if number == 0 {
         return get_field(part, META_COPIED) == 1;
     }
-    if number <= 8192 {
+    if number <= LAST_NODE_NUMBER {
         return n.kind == 2;
     }
     let name = Name {
-        number: number - 8193,
+        number: number - FIRST_FLAG_NUMBER,
     };
     vector_word(part, name.server() as usize, 0) == 1
 }

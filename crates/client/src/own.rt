@@ -1,5 +1,6 @@
 // The writes of the operation that is worked on, in a lent list: their count, then items of 34 words, an object's number and its
 // record, each object once. They enter the write set only with the answer.
+use crate::part::ITEM_WORDS;
 use crate::record::item_words;
 use crate::record::record_in;
 use nodes::arrays::blit;
@@ -17,7 +18,7 @@ pub fn own_record(own: &[u64], i: usize) -> Node
     requires { ⌜ (i < own-most) × OwnFits (now own) ⌝ }
     ensures { λ r. ⌜ r ≡ own-record (now (own .entry)) i ⌝ }
 {
-    record_in(own, 34 * i + 2)
+    record_in(own, ITEM_WORDS * i + 2)
 }
 
 // The own write of the object with that number.
@@ -29,7 +30,7 @@ pub fn find_own(own: &[u64], number: u64) -> Found
     let n = own[0] as usize;
     let mut i: usize = 0;
     while i < n {
-        if own[34 * i + 1] == number {
+        if own[ITEM_WORDS * i + 1] == number {
             return Found::At(i);
         }
         i += 1;
@@ -42,7 +43,7 @@ fn set_own(own: &mut [u64], i: usize, number: u64, n: Node)
     ensures { λ _. ⌜ now (own .exit) ≡ own-at (now (own .entry)) number n i ⌝ }
 {
     let words = item_words(number, n);
-    blit(own, 34 * i + 1, &words, 0, 34);
+    blit(own, ITEM_WORDS * i + 1, &words, 0, ITEM_WORDS);
 }
 
 // An object is written: in its place, else behind the others.

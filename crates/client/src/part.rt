@@ -61,6 +61,21 @@ pub const COMMITTING: u64 = 2;
 
 pub const DECIDED: u64 = 3;
 
+// The words of an item of a set: the object's number, then its record.
+pub const ITEM_WORDS: usize = 34;
+
+pub const RECORD_WORDS: usize = 33;
+
+// Reason 4: "object 97 would be read or 49 written".
+pub const MOST_READ: usize = 96;
+
+pub const MOST_WRITTEN: usize = 48;
+
+// Numbers of objects: the metadata 0, then the nodes, then the flags.
+pub const LAST_NODE_NUMBER: u64 = 8192;
+
+pub const FIRST_FLAG_NUMBER: u64 = 8193;
+
 // The read set, the write set, and the copies of inner nodes.
 pub enum Set {
     Reads,
@@ -87,7 +102,7 @@ pub fn item_at(set: Set, i: usize) -> usize
     ensures within { λ r. ⌜ r + item-words ≤ client-length ⌝ }
 {
     let first = base(set);
-    first + 34 * i
+    first + ITEM_WORDS * i
 }
 
 // Where the copy of a server's vector begins.
@@ -199,8 +214,8 @@ pub fn count(part: &[u8], set: Set) -> usize
     ensures within { λ r. ⌜ r ≤ limit set ⌝ }
 {
     match set {
-        Set::Reads => at_most(96, get_field(part, READS_COUNT)),
-        Set::Writes => at_most(48, get_field(part, WRITES_COUNT)),
+        Set::Reads => at_most(MOST_READ, get_field(part, READS_COUNT)),
+        Set::Writes => at_most(MOST_WRITTEN, get_field(part, WRITES_COUNT)),
         Set::Copies => 64,
     }
 }

@@ -1,4 +1,5 @@
 // Records of objects, and which of them are out of range.
+use crate::part::LAST_NODE_NUMBER;
 use nodes::name::Name;
 use nodes::node::Node;
 ghost use mathlib.Core.Path.{_≡_};
@@ -44,7 +45,7 @@ pub fn fits(servers: usize, slots: usize, number: u64, n: Node) -> bool
         }
         return n.version <= 4294967295;
     }
-    if number <= 8192 {
+    if number <= LAST_NODE_NUMBER {
         return n.in_range();
     }
     first <= 1
@@ -87,7 +88,7 @@ pub fn whole_fits(servers: usize, slots: usize, number: u64, n: Node) -> bool
     if number == 0 {
         return fits(servers, slots, number, n);
     }
-    if number > 8192 {
+    if number > LAST_NODE_NUMBER {
         return fits(servers, slots, number, n);
     }
     node_fits(servers, slots, n)
@@ -100,7 +101,7 @@ pub fn kind_fits(number: u64, n: Node) -> bool
     if number == 0 {
         return true;
     }
-    if number > 8192 {
+    if number > LAST_NODE_NUMBER {
         return true;
     }
     n.kind <= 2

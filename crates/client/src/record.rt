@@ -1,4 +1,5 @@
 // Items: an object's number and its record, 34 words.
+use crate::part::RECORD_WORDS;
 use nodes::arrays::blit;
 use nodes::node::Node;
 ghost use mathlib.Core.Path.{_≡_};
@@ -14,7 +15,7 @@ pub fn record_in(list: &[u64], at: usize) -> Node
     ensures { λ r. ⌜ r ≡ node-at (now (list .entry)) at ⌝ }
 {
     let mut words = [0u64; 33];
-    blit(&mut words, 0, list, at, 33);
+    blit(&mut words, 0, list, at, RECORD_WORDS);
     Node::from_words(words)
 }
 
@@ -25,7 +26,7 @@ pub fn item_words(number: u64, n: Node) -> [u64; 34]
     let words = n.to_words();
     let mut item = [0u64; 34];
     item[0] = number;
-    blit(&mut item, 1, &words, 0, 33);
+    blit(&mut item, 1, &words, 0, RECORD_WORDS);
     item
 }
 

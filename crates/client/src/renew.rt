@@ -4,6 +4,8 @@ use crate::copies::copy_node;
 use crate::copies::drop_node;
 use crate::items::version_read;
 use crate::life::reset;
+use crate::part::FIRST_FLAG_NUMBER;
+use crate::part::LAST_NODE_NUMBER;
 use crate::part::LOST;
 use crate::part::META_COPIED;
 use crate::part::NO_TRANSACTION;
@@ -40,7 +42,7 @@ fn drop_outer(part: &mut [u8], i: usize)
     if number == 0 {
         return;
     }
-    if number > 8192 {
+    if number > LAST_NODE_NUMBER {
         return;
     }
     if inner_at(part, Set::Writes, i) {
@@ -202,11 +204,11 @@ fn renew_flag(part: &mut [u8], i: usize)
     ensures { λ _. ⌜ Did (renew-flag i) (now (part .entry)) (now (part .exit)) ⌝ }
 {
     let number = number_at(part, Set::Writes, i);
-    if number < 8193 {
+    if number < FIRST_FLAG_NUMBER {
         return;
     }
     let value = item_word(part, Set::Writes, i, 19);
-    renew_in(part, number - 8193, value);
+    renew_in(part, number - FIRST_FLAG_NUMBER, value);
 }
 
 fn drop_outers(part: &mut [u8])

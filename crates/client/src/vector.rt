@@ -1,5 +1,6 @@
 // A server's vector as a client sees it: its copy, with the transaction's frees and takes.
 use crate::part::FETCHED_VECTORS;
+use crate::part::FIRST_FLAG_NUMBER;
 use crate::part::Set;
 use crate::part::count;
 use crate::part::get_field;
@@ -42,11 +43,11 @@ fn counted_one(part: &[u8], s: usize, i: usize, words: [u64; 16]) -> [u64; 16]
     ensures { λ r. ⌜ r ≡ counted-one (held (now (part .entry))) s i words ⌝ }
 {
     let number = number_at(part, Set::Writes, i);
-    if number < 8193 {
+    if number < FIRST_FLAG_NUMBER {
         return words;
     }
     let flag = Name {
-        number: number - 8193,
+        number: number - FIRST_FLAG_NUMBER,
     };
     if flag.server() as usize != s {
         return words;
@@ -78,11 +79,11 @@ fn flag_fits(part: &[u8], s: usize, i: usize) -> bool
     ensures { λ r. ⌜ r ≡ flag-fits (held (now (part .entry))) s i ⌝ }
 {
     let number = number_at(part, Set::Writes, i);
-    if number < 8193 {
+    if number < FIRST_FLAG_NUMBER {
         return true;
     }
     let name = Name {
-        number: number - 8193,
+        number: number - FIRST_FLAG_NUMBER,
     };
     if name.server() as usize != s {
         return true;

@@ -5,6 +5,8 @@ use crate::walk::going;
 use crate::walk::over;
 use crate::walk::pop_used;
 use client::own::own_record;
+use client::part::FIRST_FLAG_NUMBER;
+use client::part::ITEM_WORDS;
 use client::vector::has_vector;
 use client::vector::is_fetched;
 use client::vector::seen_words;
@@ -35,12 +37,12 @@ fn count_one(own: &[u64], s: usize, i: usize, words: [u64; 16]) -> [u64; 16]
     requires { ⌜ (i < own-most) × OwnFits (now own) ⌝ }
     ensures { λ r. ⌜ r ≡ counts-one (now (own .entry)) s i words ⌝ }
 {
-    let number = own[34 * i + 1];
-    if number < 8193 {
+    let number = own[ITEM_WORDS * i + 1];
+    if number < FIRST_FLAG_NUMBER {
         return words;
     }
     let flag = Name {
-        number: number - 8193,
+        number: number - FIRST_FLAG_NUMBER,
     };
     if flag.server() as usize != s {
         return words;

@@ -6,6 +6,8 @@ use client::lookup::look_fits;
 use client::lookup::source;
 use client::own::find_own;
 use client::own::own_record;
+use client::part::FIRST_FLAG_NUMBER;
+use client::part::MOST_READ;
 use client::part::Set;
 use client::part::count;
 use client::range::in_store;
@@ -79,7 +81,7 @@ pub fn over(part: &[u8], used: &[u64]) -> bool
 {
     let read = count(part, Set::Reads);
     let copies = used[0] as usize;
-    96 < read + copies
+    MOST_READ < read + copies
 }
 
 // The last copy in use is taken back.
@@ -176,7 +178,7 @@ pub fn flag_number(name: u64) -> u64
     ensures { λ r. ⌜ r ≡ first-flag-number + name ⌝ }
     ensures within { λ r. ⌜ r < end-of-numbers ⌝ }
 {
-    8193 + name
+    FIRST_FLAG_NUMBER + name
 }
 
 pub fn ask_meta(part: &[u8], servers: usize, slots: usize, used: &mut [u64]) -> Asked
