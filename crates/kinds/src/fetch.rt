@@ -24,6 +24,7 @@ use crate::judge::item_at;
 use crate::judge::lock_fits;
 use crate::whole::client_at;
 use client::lookup::copied;
+use client::part::MOST_READ;
 use client::part::READS_COUNT;
 use server::check::can_check;
 use server::lock::Use;
@@ -139,7 +140,7 @@ pub fn gate(
             return Verdict::Fault(2);
         }
         let read = field_of(mem, sizes, client, READS_COUNT) as usize;
-        if 96 <= read + used[0] as usize {
+        if MOST_READ <= read + used[0] as usize {
             return Verdict::Fault(4);
         }
         return Verdict::Clear;

@@ -21,6 +21,7 @@ use crate::whole::client_at;
 use crate::whole::server_at;
 use client::items::has;
 use client::part::DECIDED;
+use client::part::MOST_WRITTEN;
 use client::part::OPEN;
 use client::part::PHASE;
 use client::part::Set;
@@ -74,7 +75,7 @@ fn writes(mem: &[u8], sizes: Sizes, client: usize, number: u64) -> bool
     requires { ⌜ AtClient sizes (length (now mem)) client ⌝ }
     ensures { λ r. ⌜ r ≡ writes sizes (stored-in sizes (view (now (mem .entry)))) client number ⌝ }
 {
-    if field_of(mem, sizes, client, WRITES_COUNT) <= 48 {
+    if field_of(mem, sizes, client, WRITES_COUNT) <= MOST_WRITTEN as u64 {
         return has_item(mem, sizes, client, Set::Writes, number);
     }
     false
