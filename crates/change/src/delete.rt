@@ -4,6 +4,7 @@ use crate::up::carry_up;
 use nodes::change::Wide;
 use nodes::found::Found;
 use nodes::node::Node;
+use nodes::stored::read_node;
 use walk::down::Descent;
 use walk::down::descend;
 use walk::lookup::answers;
@@ -44,7 +45,7 @@ fn delete_at(
     requires ended { ⌜ Ended (sizes servers slots) d ⌝ }
     ensures { λ r. ⌜ Operates servers slots part own used (λ z. delete-in z d key) r ⌝ }
 {
-    let leaf = d.node;
+    let leaf = read_node(part, d.place);
     let f = leaf.find(key);
     match f {
         Found::At(i) => {

@@ -4,6 +4,7 @@ use crate::up::carry_up;
 use nodes::change::Wide;
 use nodes::found::Found;
 use nodes::node::Node;
+use nodes::stored::read_node;
 use walk::down::Descent;
 use walk::down::descend;
 use walk::walk::Stop;
@@ -58,7 +59,7 @@ fn insert_at(
     requires ended { ⌜ Ended (sizes servers slots) d ⌝ }
     ensures { λ r. ⌜ Operates servers slots part own used (λ z. insert-in z d key value) r ⌝ }
 {
-    let leaf = d.node;
+    let leaf = read_node(part, d.place);
     let p = with_pair(leaf, key, value);
     let content = p.content;
     let a = p.a;

@@ -4,6 +4,8 @@ use client::own::put_own;
 use client::range::single;
 use nodes::name::Name;
 use nodes::node::Node;
+use nodes::standing::level_at;
+use nodes::stored::read_node;
 use walk::down::Descent;
 use walk::down::go_down;
 use walk::down::no_descent;
@@ -243,8 +245,8 @@ fn to_parent(
     if !on {
         return no_descent(stop);
     }
-    let first = r.node;
-    if first.level as usize <= level {
+    let first = r.place;
+    if level_at(part, first) as usize <= level {
         return no_descent(Stop::Aborts(3));
     }
     go_down(part, servers, slots, used, key, level + 1, top, first)
@@ -276,7 +278,7 @@ fn move_below(
         return stop;
     }
     let above = d.name;
-    let p = d.node;
+    let p = read_node(part, d.place);
     move_at(
         part,
         servers,
@@ -345,7 +347,7 @@ fn move_named(
     if !on {
         return stop;
     }
-    let n = a.node;
+    let n = read_node(part, a.place);
     move_if(part, servers, slots, own, used, top, name, server, n)
 }
 
@@ -368,8 +370,6 @@ pub fn migrate(
     if !on {
         return stop;
     }
-    let meta = a.node;
-    let values = meta.slots;
-    let top = values[0];
+    let top = a.value;
     move_named(part, servers, slots, own, used, top, name, server)
 }

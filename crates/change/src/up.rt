@@ -4,6 +4,7 @@ use crate::level::raise;
 use nodes::change::Wide;
 use walk::down::Descent;
 use walk::down::Turn;
+use walk::down::turns;
 use walk::walk::Stop;
 use walk::walk::going;
 ghost use Rattle.client.specs.Record.{sizes};
@@ -76,7 +77,7 @@ pub fn carry_up(
     ensures { λ r. ⌜ Operates servers slots part own used (λ z. rise-plan z (a, 0) (d .top) (d .path) (d .name) content) r ⌝ }
 {
     let top = d.top;
-    let path = d.path;
+    let path = turns(part, d.path);
     let name = d.name;
     rise(
         part,

@@ -1,23 +1,31 @@
 -- "An object is read from the write set, else the read set, else the client's copies"
 use mathlib.Core.Bool.{Bool, true, false, cond, _&&_, _||_, not}
+use mathlib.Core.List.{List}
 use mathlib.Core.Option.{Option, none, some}
-use Prim.Native.Nat.{ℕ, _+_, _/_, _%_}
-use lib.Dec.{eqb, ltb}
+use mathlib.Core.Path.{_≡_}
+use Prim.Native.Nat.{ℕ, _+_, _/_, _%_, _≤_}
+use lib.Dec.{eqb, ltb, leb}
+use Rattle.memory.specs.Word.{view}
 use Rattle.memory.specs.Bit.{bit, digit}
 use Rattle.nodes.specs.declared.node.Node.{Node}
 use Rattle.nodes.specs.declared.found.Found.{Found}
 use Rattle.nodes.specs.declared.found.Found.the-variants.{At, Absent}
 use Rattle.nodes.specs.Node.{free-node}
+use Rattle.nodes.specs.Stored.{node-at}
+use Rattle.nodes.specs.Range.{node-in-range}
 use Rattle.nodes.specs.Name.{server-of, slot-of}
 use Rattle.operations.specs.Object.{Obj, node, Ask, object, vector, fetched, Val, flags}
 use Rattle.operations.specs.Slot.{TreeSizes}
 use Rattle.client.specs.declared.answer.How.{How}
 use Rattle.client.specs.declared.answer.How.the-variants.{Here, Copied, Lacking}
 use Rattle.client.specs.declared.answer.Look.{Look}
+use Rattle.client.specs.declared.answer.Stand.{Stand}
+use Rattle.client.specs.declared.answer.Short.{Short}
 use Rattle.client.specs.declared.part.Set.the-variants.{Reads, Writes, Copies}
-use Rattle.client.specs.Layout.{ClientWord, vector-word, meta-copied, meta-root, meta-version}
-use Rattle.client.specs.Record.{number, by-number, value-of, single, object-in-store, record-in-range}
-use Rattle.client.specs.Sets.{record-at, find}
+use Rattle.client.specs.Layout.{ClientWord, vector-word, meta-copied, meta-root, meta-version, record-words, client-length}
+use Rattle.client.specs.Bounds.{last-node-number}
+use Rattle.client.specs.Record.{number, by-number, first-slot, value-of, single, in-store, object-in-store, last-version, record-in-range}
+use Rattle.client.specs.Sets.{held, record-at, find}
 use Rattle.client.specs.Vectors.{has-vector, seen-words, vector-fits, is-fetched}
 use Rattle.nodes.specs.Flags as N
 
@@ -48,6 +56,19 @@ abbrev pub is-copied : How → Bool
 is-copied Here = false
 is-copied Copied = true
 is-copied Lacking = false
+
+-- what the code says of a node, over the words w of the part: how it is known, and from which word on its record stands there
+abbrev pub stood : List ℕ → Stand → Look
+stood w s = known-as (s .how) (cond (is-found (s .how)) (node-at w (s .at)) (free-node 0))
+
+-- what it says of the metadata or a flag: how it is known, its version and its value
+abbrev pub short : Look → Short
+short l = record { how = l .how; version = l .node .version; value = first-slot (l .node) }
+
+-- the number of a node
+pub record IsNode (x : ℕ) : Type 0 where
+  pub some : x ≡ 0 → ⊥
+  pub most : x ≤ last-node-number
 
 module _ (m : ClientWord → ℕ) where
   -- "Copies: metadata, one vector a server, 64 inner nodes": there is one of the metadata unless the word that says so is 0
@@ -91,6 +112,25 @@ module _ (m : ClientWord → ℕ) where
   -- the object with the number x
   unfoldable pub source : ℕ → Look
   source x = or-read x (find m Writes x)
+
+-- x was looked for in both sets, in a part of the bytes b: it stands there, or what there is of it is a copy
+pub record InSets (b : List ℕ) (x : ℕ) (s : Stand) : Type 0 where
+  pub how : s .how ≡ cond (is-found (s .how)) Here Lacking
+  pub found : is-found (s .how) ≡ true → stood (view b) s ≡ source (held b) x
+  pub absent : is-found (s .how) ≡ false → source (held b) x ≡ copied (held b) x
+  pub within : s .at + record-words ≤ client-length
+
+-- may a node known in that way be used: it is in range, and a copy is inner
+unfoldable pub node-usable : How → Node → Bool
+node-usable h r = node-in-range r && (not (is-copied h) || eqb (r .kind) 2)
+
+-- may the metadata be used, as the code has it
+unfoldable pub meta-usable : TreeSizes → (ClientWord → ℕ) → Short → Bool
+meta-usable z m s = (in-store z (s .value) && leb (s .version) last-version) && (not (is-copied (s .how)) || eqb (m meta-copied) 1)
+
+-- may the flag of that name be used, as the code has it
+unfoldable pub flag-usable : (ClientWord → ℕ) → ℕ → Short → Bool
+flag-usable m n s = leb (s .value) 1 && (not (is-copied (s .how)) || eqb (m (vector-word (server-of n) 0)) 1)
 
 module _ (z : TreeSizes) (m : ClientWord → ℕ) where
   -- the record is in range, and where it is a copy, so is that

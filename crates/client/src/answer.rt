@@ -16,6 +16,19 @@ pub struct Look {
     pub node: Node,
 }
 
+// Of a node, where its record stands: from word `at` of the part on.
+pub struct Stand {
+    pub how: How,
+    pub at: usize,
+}
+
+// Of the metadata or a flag, its version and its value.
+pub struct Short {
+    pub how: How,
+    pub version: u64,
+    pub value: u64,
+}
+
 // Is there a record?
 pub fn is_found(how: How) -> bool
     ensures { λ r. ⌜ r ≡ is-found how ⌝ }

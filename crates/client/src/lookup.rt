@@ -1,9 +1,11 @@
 // What a client has of an object: in the write set, else the read set, else the copies.
 use crate::answer::How;
 use crate::answer::Look;
+use crate::answer::Short;
+use crate::answer::Stand;
 use crate::answer::copy;
-use crate::answer::here;
 use crate::answer::is_copied;
+use crate::answer::is_found;
 use crate::answer::lacking;
 use crate::part::FIRST_FLAG_NUMBER;
 use crate::part::LAST_NODE_NUMBER;
@@ -14,20 +16,26 @@ use crate::part::Set;
 use crate::part::find;
 use crate::part::get_field;
 use crate::part::record_at;
+use crate::part::record_start;
 use crate::part::vector_word;
-use crate::range::fits;
+use crate::range::in_store;
 use crate::range::single;
 use memory::bits::has;
 use nodes::found::Found;
 use nodes::name::Name;
-use nodes::node::Node;
+use nodes::standing::in_range_at;
+use nodes::standing::kind_at;
+use nodes::standing::slot_at;
+use nodes::standing::version_at;
 ghost use mathlib.Core.Path.{_≡_};
-ghost use Prim.Native.Nat.{_<_};
+ghost use Prim.Native.Nat.{_+_, _<_, _≤_};
+ghost use Rattle.memory.specs.Word.{view};
+ghost use Rattle.nodes.specs.Stored.{node-at};
 ghost use Rattle.client.specs.Sets.{held};
-ghost use Rattle.client.specs.Have.{copied, copied-meta, copied-node, copied-flag, copy-fits, source, known-as, look-fits};
-ghost use Rattle.client.specs.Record.{sizes};
-ghost use Rattle.client.specs.Layout.{ClientPart};
-ghost use Rattle.client.specs.Bounds.{end-of-names, end-of-numbers};
+ghost use Rattle.client.specs.Have.{here, copy, lacking, stood, short, IsNode, InSets, copied, copied-meta, copied-node, copied-flag, source, node-usable, meta-usable, flag-usable};
+ghost use Rattle.client.specs.Record.{single, sizes};
+ghost use Rattle.client.specs.Layout.{record-words, client-length, ClientPart};
+ghost use Rattle.client.specs.Bounds.{end-of-names, end-of-numbers, first-flag-number};
 
 fn copied_meta(part: &[u8]) -> Look
     requires { ⌜ ClientPart (now part) ⌝ }
@@ -80,49 +88,179 @@ pub fn copied(part: &[u8], number: u64) -> Look
     copied_flag(part, number - FIRST_FLAG_NUMBER)
 }
 
-// The object with that number in the write set, else the read set, else the copies.
-pub fn source(part: &[u8], number: u64) -> Look
-    requires { ⌜ (number < end-of-numbers) × ClientPart (now part) ⌝ }
-    ensures { λ r. ⌜ r ≡ source (held (now (part .entry))) number ⌝ }
+// The object with that number in the write set, else the read set.
+fn in_sets(part: &[u8], number: u64) -> Stand
+    requires { ⌜ ClientPart (now part) ⌝ }
+    ensures { λ r. ⌜ InSets (now (part .entry)) number r ⌝ }
 {
     match find(part, Set::Writes, number) {
-        Found::At(i) => return here(record_at(part, Set::Writes, i)),
+        Found::At(i) => {
+            return Stand {
+                how: How::Here,
+                at: record_start(Set::Writes, i),
+            };
+        }
         Found::Absent => {}
     }
     match find(part, Set::Reads, number) {
-        Found::At(i) => return here(record_at(part, Set::Reads, i)),
-        Found::Absent => {}
+        Found::At(i) => Stand {
+            how: How::Here,
+            at: record_start(Set::Reads, i),
+        },
+        Found::Absent => Stand {
+            how: How::Lacking,
+            at: 0,
+        },
     }
-    copied(part, number)
 }
 
-// Refusal 10 for a copy that is used: there is one, and of nodes an inner one.
-fn copy_fits(part: &[u8], number: u64, n: Node) -> bool
-    requires { ⌜ (number < end-of-numbers) × ClientPart (now part) ⌝ }
-    ensures { λ r. ⌜ r ≡ copy-fits (held (now (part .entry))) number n ⌝ }
+// The node with that number in the write set, else the read set, else the copies.
+pub fn node_stands(part: &[u8], number: u64) -> Stand
+    requires { ⌜ IsNode number × ClientPart (now part) ⌝ }
+    ensures { λ r. ⌜ stood (view (now (part .entry))) r ≡ source (held (now (part .entry))) number ⌝ }
+    ensures within { λ r. ⌜ r .at + record-words ≤ client-length ⌝ }
 {
-    if number == 0 {
-        return get_field(part, META_COPIED) == 1;
+    let s = in_sets(part, number);
+    let how = s.how;
+    if is_found(how) {
+        return s;
     }
-    if number <= LAST_NODE_NUMBER {
-        return n.kind == 2;
+    match find(part, Set::Copies, number) {
+        Found::At(i) => Stand {
+            how: How::Copied,
+            at: record_start(Set::Copies, i),
+        },
+        Found::Absent => Stand {
+            how: How::Lacking,
+            at: 0,
+        },
     }
-    let name = Name {
-        number: number - FIRST_FLAG_NUMBER,
-    };
-    vector_word(part, name.server() as usize, 0) == 1
 }
 
-// May what was found of the object be used?
-pub fn look_fits(part: &[u8], servers: usize, slots: usize, number: u64, how: How, n: Node) -> bool
-    requires { ⌜ (number < end-of-numbers) × ClientPart (now part) ⌝ }
-    ensures { λ r. ⌜ r ≡ look-fits (sizes servers slots) (held (now (part .entry))) number (known-as how n) ⌝ }
+// The version and the value of a record in a set.
+fn short_at(part: &[u8], at: usize) -> Short
+    requires { ⌜ (at + record-words ≤ client-length) × ClientPart (now part) ⌝ }
+    ensures { λ r. ⌜ r ≡ short (here (node-at (view (now (part .entry))) at)) ⌝ }
 {
-    if !fits(servers, slots, number, n) {
+    Short {
+        how: How::Here,
+        version: version_at(part, at),
+        value: slot_at(part, at, 0),
+    }
+}
+
+fn lacking_short() -> Short
+    ensures { λ r. ⌜ r ≡ short lacking ⌝ }
+{
+    Short {
+        how: How::Lacking,
+        version: 0,
+        value: 0,
+    }
+}
+
+fn copied_short(version: u64, value: u64) -> Short
+    ensures { λ r. ⌜ r ≡ short (copy (single version value)) ⌝ }
+{
+    Short {
+        how: How::Copied,
+        version,
+        value,
+    }
+}
+
+// The metadata in the write set, else the read set, else the copies.
+pub fn meta_source(part: &[u8]) -> Short
+    requires { ⌜ ClientPart (now part) ⌝ }
+    ensures { λ r. ⌜ r ≡ short (source (held (now (part .entry))) 0) ⌝ }
+{
+    let s = in_sets(part, 0);
+    let how = s.how;
+    if is_found(how) {
+        return short_at(part, s.at);
+    }
+    if get_field(part, META_COPIED) == 0 {
+        return lacking_short();
+    }
+    copied_short(get_field(part, META_VERSION), get_field(part, META_ROOT))
+}
+
+// The copy of the flag of that name, in its server's vector.
+fn flag_copy(part: &[u8], name: u64) -> Short
+    requires { ⌜ (name < end-of-names) × ClientPart (now part) ⌝ }
+    ensures { λ r. ⌜ r ≡ short (copied-flag (held (now (part .entry))) name) ⌝ }
+{
+    let flag = Name { number: name };
+    let s = flag.server() as usize;
+    let slot = flag.slot();
+    if vector_word(part, s, 0) == 0 {
+        return lacking_short();
+    }
+    let word = vector_word(part, s, 1 + (slot / 64) as usize);
+    if has(word, (slot % 64) as u32) {
+        return copied_short(0, 1);
+    }
+    copied_short(0, 0)
+}
+
+// The flag of that name in the write set, else the read set, else the copies.
+pub fn flag_source(part: &[u8], name: u64) -> Short
+    requires { ⌜ (name < end-of-names) × ClientPart (now part) ⌝ }
+    ensures { λ r. ⌜ r ≡ short (source (held (now (part .entry))) (first-flag-number + name)) ⌝ }
+{
+    let s = in_sets(part, FIRST_FLAG_NUMBER + name);
+    let how = s.how;
+    if is_found(how) {
+        return short_at(part, s.at);
+    }
+    flag_copy(part, name)
+}
+
+// May the node that was found be used? A copy must be an inner node.
+pub fn stand_fits(part: &[u8], s: Stand) -> bool
+    requires { ⌜ (s .at + record-words ≤ client-length) × ClientPart (now part) ⌝ }
+    ensures { λ r. ⌜ r ≡ node-usable (s .how) (node-at (view (now (part .entry))) (s .at)) ⌝ }
+{
+    if !in_range_at(part, s.at) {
         return false;
     }
+    let how = s.how;
     if is_copied(how) {
-        return copy_fits(part, number, n);
+        return kind_at(part, s.at) == 2;
+    }
+    true
+}
+
+// May the metadata that was found be used? Its copy must be said to be there.
+pub fn meta_fits(part: &[u8], servers: usize, slots: usize, s: Short) -> bool
+    requires { ⌜ ClientPart (now part) ⌝ }
+    ensures { λ r. ⌜ r ≡ meta-usable (sizes servers slots) (held (now (part .entry))) s ⌝ }
+{
+    if !in_store(servers, slots, s.value) {
+        return false;
+    }
+    if s.version > 4294967295 {
+        return false;
+    }
+    let how = s.how;
+    if is_copied(how) {
+        return get_field(part, META_COPIED) == 1;
+    }
+    true
+}
+
+// May the flag that was found be used? So must its server's vector.
+pub fn flag_fits(part: &[u8], name: u64, s: Short) -> bool
+    requires { ⌜ (name < end-of-names) × ClientPart (now part) ⌝ }
+    ensures { λ r. ⌜ r ≡ flag-usable (held (now (part .entry))) name s ⌝ }
+{
+    if s.value > 1 {
+        return false;
+    }
+    let how = s.how;
+    if is_copied(how) {
+        let flag = Name { number: name };
+        return vector_word(part, flag.server() as usize, 0) == 1;
     }
     true
 }

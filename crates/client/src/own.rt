@@ -12,6 +12,7 @@ ghost use lib.ListN.{length, getD};
 ghost use Rattle.nodes.specs.Found.{Inside};
 ghost use Rattle.client.specs.Lent.{OwnFits, own-find, own-record, own-at, own-put};
 ghost use Rattle.client.specs.Bounds.{own-most, own-room};
+ghost use Rattle.client.specs.Record.{first-slot};
 
 // The record of own write i.
 pub fn own_record(own: &[u64], i: usize) -> Node
@@ -19,6 +20,14 @@ pub fn own_record(own: &[u64], i: usize) -> Node
     ensures { λ r. ⌜ r ≡ own-record (now (own .entry)) i ⌝ }
 {
     record_in(own, ITEM_WORDS * i + 2)
+}
+
+// Its value, if it is of the metadata or a flag.
+pub fn own_value(own: &[u64], i: usize) -> u64
+    requires { ⌜ (i < own-most) × OwnFits (now own) ⌝ }
+    ensures { λ r. ⌜ r ≡ first-slot (own-record (now (own .entry)) i) ⌝ }
+{
+    own[ITEM_WORDS * i + 20]
 }
 
 // The own write of the object with that number.

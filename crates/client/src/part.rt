@@ -11,7 +11,7 @@ ghost use mathlib.Core.Path.{_≡_};
 ghost use Prim.Native.Nat.{_+_, _*_, _<_, _≤_};
 ghost use lib.ListN.{length};
 ghost use Rattle.layout.specs.Space.{at};
-ghost use Rattle.client.specs.Layout.{client-words, client-block, field, item, vector-word, limit, base, client-length, ClientPart, field-count, item-words, vector-words};
+ghost use Rattle.client.specs.Layout.{client-words, client-block, field, item, vector-word, limit, base, client-length, ClientPart, field-count, item-words, record-words, vector-words};
 ghost use Rattle.client.specs.Sets.{held, at-most, count, number-at, record-at, find};
 ghost use Rattle.nodes.specs.Found.{Inside};
 ghost use Rattle.client.specs.Part.{Did, put-field, put-fields, put-item, put-number, put-vector, drop-vector};
@@ -176,11 +176,20 @@ pub fn number_at(part: &[u8], set: Set, i: usize) -> u64
     read_word(part, item_at(set, i))
 }
 
+// Where the record of an item begins.
+pub fn record_start(set: Set, i: usize) -> usize
+    requires { ⌜ i < limit set ⌝ }
+    ensures { λ r. ⌜ r ≡ at client-words client-block (item set i 0) + 1 ⌝ }
+    ensures within { λ r. ⌜ r + record-words ≤ client-length ⌝ }
+{
+    item_at(set, i) + 1
+}
+
 pub fn record_at(part: &[u8], set: Set, i: usize) -> Node
     requires { ⌜ (i < limit set) × ClientPart (now part) ⌝ }
     ensures { λ r. ⌜ r ≡ record-at (held (now (part .entry))) set i ⌝ }
 {
-    read_node(part, item_at(set, i) + 1)
+    read_node(part, record_start(set, i))
 }
 
 // Item i of a set becomes the object of that number with that record.

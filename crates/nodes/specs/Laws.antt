@@ -6,12 +6,13 @@ pub mod Found
 -- the bits of words, and the search for a free slot
 pub mod Bits
 pub mod Search
--- a node's lists, the place of a key, what the functions build, nodes as words, ranges
+-- a node's lists, the place of a key, what the functions build, nodes as words, ranges, nodes where they stand
 pub mod Node
 pub mod Find
 pub mod Built
 pub mod Stored
 pub mod Range
+pub mod Standing
 -- what each change leaves of the entries
 pub mod Entries
 pub mod Kept

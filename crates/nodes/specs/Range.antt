@@ -13,5 +13,9 @@ abbrev pub count-fits : ℕ → ℕ → Bool
 count-fits kind count = cond (eqb kind 0) (eqb count 0) (leb count 14)
 
 -- "a kind (0 free, 1 leaf, 2 inner), a level, a 32-bit version, at most 14 keys"
+abbrev pub fields-in-range : ℕ → ℕ → ℕ → ℕ → Bool
+fields-in-range kind level version count = leb kind 2 && (leb version 4294967295 && (level-fits kind level && count-fits kind count))
+
+-- of a node
 unfoldable pub node-in-range : Node → Bool
-node-in-range n = leb (n .kind) 2 && (leb (n .version) 4294967295 && (level-fits (n .kind) (n .level) && count-fits (n .kind) (n .count)))
+node-in-range n = fields-in-range (n .kind) (n .level) (n .version) (n .count)

@@ -8,7 +8,7 @@ ghost use Prim.Native.Nat.{_+_, _/_, _≤_};
 ghost use lib.ListN.{length};
 ghost use Rattle.memory.specs.Word.{view};
 ghost use Rattle.nodes.specs.Stored.{node-of, node-at, words-of, put-node};
-ghost use Rattle.nodes.specs.Range.{node-in-range};
+ghost use Rattle.nodes.specs.Range.{node-in-range, fields-in-range};
 
 impl Node {
     pub fn from_words(words: [u64; 33]) -> Node
@@ -45,29 +45,36 @@ impl Node {
     pub fn in_range(self) -> bool
         ensures { λ r. ⌜ r ≡ node-in-range self ⌝ }
     {
-        if self.kind > 2 {
-            return false;
-        }
-        if self.version > 4294967295 {
-            return false;
-        }
-        if self.kind == 2 {
-            if self.level < 1 {
-                return false;
-            }
-            if self.level > 4 {
-                return false;
-            }
-            return self.count <= 14;
-        }
-        if self.level != 0 {
-            return false;
-        }
-        if self.kind == 0 {
-            return self.count == 0;
-        }
-        self.count <= 14
+        fields_in_range(self.kind, self.level, self.version, self.count)
     }
+}
+
+// the same of a node's fields before its keys
+pub fn fields_in_range(kind: u64, level: u64, version: u64, count: usize) -> bool
+    ensures { λ r. ⌜ r ≡ fields-in-range kind level version count ⌝ }
+{
+    if kind > 2 {
+        return false;
+    }
+    if version > 4294967295 {
+        return false;
+    }
+    if kind == 2 {
+        if level < 1 {
+            return false;
+        }
+        if level > 4 {
+            return false;
+        }
+        return count <= 14;
+    }
+    if level != 0 {
+        return false;
+    }
+    if kind == 0 {
+        return count == 0;
+    }
+    count <= 14
 }
 
 // the node at word b

@@ -1,6 +1,6 @@
 -- What comes of a question: an own write of the operation, else what the part has.
 use mathlib.Core.Path.{_≡_}
-use mathlib.Core.Bool.{true, false, cond}
+use mathlib.Core.Bool.{Bool, true, false, cond}
 use mathlib.Core.List.{List, [], _∷_}
 use mathlib.Core.Option.{Option, none, some}
 use Prim.Native.Nat.{ℕ, _+_, _-_, _≤_, _<_}
@@ -9,22 +9,28 @@ use denote.Ref.{now}
 use Rattle.nodes.specs.declared.node.Node.{Node}
 use Rattle.nodes.specs.declared.found.Found.{Found}
 use Rattle.nodes.specs.declared.found.Found.the-variants.{At, Absent}
+use Rattle.nodes.specs.Name.{server-of}
 use Rattle.nodes.specs.Node.{free-node}
+use Rattle.nodes.specs.Stored.{node-at}
+use Rattle.memory.specs.Word.{view}
 use Rattle.operations.specs.Object.{Obj, meta, node, flag, object, Val, Writes, hit}
 use Rattle.operations.specs.Slot.{TreeSizes}
 use Rattle.operations.specs.Path.{TreePlan, see}
 use Rattle.client.specs.declared.answer.How.{How}
-use Rattle.walk.specs.declared.walk.Asked.{Asked}
+use Rattle.walk.specs.declared.walk.Placed.{Placed}
+use Rattle.walk.specs.declared.walk.Seen.{Seen}
+use Rattle.walk.specs.declared.walk.Valued.{Valued}
 use Rattle.walk.specs.declared.walk.Stop.{Stop}
+use Rattle.walk.specs.declared.walk.Stop.the-variants.{LacksNode, LacksVector}
 use Rattle.client.specs.declared.part.Set.the-variants.{Reads}
-use Rattle.client.specs.Layout.{ClientWord, ClientPart}
-use Rattle.client.specs.Record.{sizes, number, object-in-store, value-of}
+use Rattle.client.specs.Layout.{ClientWord, ClientPart, record-words, client-length}
+use Rattle.client.specs.Record.{sizes, number, object-in-store, first-slot, value-of}
 use Rattle.client.specs.Sets.{count, held}
-use Rattle.client.specs.Have.{is-copied}
+use Rattle.client.specs.Have.{is-found, is-copied, source, look-fits}
 use Rattle.client.specs.Run.{among}
 use Rattle.client.specs.Lent.{LentList, OwnFits, own-find, own-record, own-count, own-list, used-in, pushed}
 use Rattle.client.specs.Answered.{entered}
-use Rattle.client.specs.Bounds.{end-of-numbers, used-room, most-servers, most-keys, highest-level, used-most}
+use Rattle.client.specs.Bounds.{end-of-numbers, first-flag-number, used-room, most-servers, most-keys, highest-level, used-most}
 use Rattle.walk.specs.Walk.{goes, lack, walked, carry}
 
 -- ---- a node at hand has at most 14 keys, and a level of at most 4
@@ -91,12 +97,11 @@ pub record Numbered (z : TreeSizes) (m : ClientWord → ℕ) (x u : List ℕ) (n
   pub small : (o : Obj) → number o ≡ n → object-in-store z o ≡ true → Small o r
 
 -- an object that is not in the store
-pub record Outside (m : ClientWord → ℕ) (u : List ℕ) (s : Stop) (r : Node) (u′ : List ℕ) : Type 0 where
-  pub asks : (z : TreeSizes) (x : List ℕ) (o : Obj) → object-in-store z o ≡ false → (w : Writes) → Holds-writes z x w → Asks z m w o u s r u′
+pub record Outside (m : ClientWord → ℕ) (u : List ℕ) (s : Stop) (u′ : List ℕ) : Type 0 where
+  pub asks : (z : TreeSizes) (x : List ℕ) (o : Obj) → object-in-store z o ≡ false → (w : Writes) → Holds-writes z x w → (r : Node) → Asks z m w o u s r u′
   pub noted : Noted m u′
   pub long : length u′ ≡ length u
   pub stops : goes s ≡ false
-  pub small : (o : Obj) → Small o r
 
 -- any object, over whatever writes the lent list holds
 pub record Answer (z : TreeSizes) (m : ClientWord → ℕ) (x u : List ℕ) (o : Obj) (s : Stop) (r : Node) (u′ : List ℕ) : Type 0 where
@@ -106,12 +111,46 @@ pub record Answer (z : TreeSizes) (m : ClientWord → ℕ) (x u : List ℕ) (o :
   pub inside : goes s ≡ true → object-in-store z o ≡ true
   pub small : Small o r
 
+-- ---- what the code is told
+-- the record that comes with Going
+abbrev pub given : Stop → Node → Node
+given s r = cond (goes s) r (free-node 0)
+
+-- the object with the number n was looked for: how it is known, and whether what is known of it may be used
+pub record Meets (m : ClientWord → ℕ) (u : List ℕ) (n : ℕ) (how : How) (right : Bool) (l s : Stop) (u′ : List ℕ) : Type 0 where
+  pub numbered : (z : TreeSizes) → z .servers ≤ most-servers → how ≡ source m n .how → (is-found how ≡ true → right ≡ look-fits z m n (source m n))
+      → Numbered z m nothing u n l s (given s (source m n .node)) u′
+  pub found : goes s ≡ true → is-found how ≡ true
+
+-- a record has room in a client's part from this word on
+abbrev pub In-part : ℕ → Type 0
+In-part place = place + record-words ≤ client-length
+
+-- the node that stands at a place of a part of the bytes b
+abbrev pub placed-in : List ℕ → Placed → Node
+placed-in b p = given (p .stop) (node-at (view b) (p .place))
+
+-- and with it
+abbrev pub seen-in : List ℕ → Placed → Seen
+seen-in b p = record { stop = p .stop; node = placed-in b p }
+
+-- a node of the store, by its name
+pub record PlacedNode (b u : List ℕ) (n : ℕ) (p : Placed) (u′ : List ℕ) : Type 0 where
+  pub numbered : (z : TreeSizes) → z .servers ≤ most-servers → Numbered z (held b) nothing u (1 + n) (LacksNode n) (p .stop) (placed-in b p) u′
+  pub within : In-part (p .place)
+
+pub record SeenNode (m : ClientWord → ℕ) (x u : List ℕ) (n : ℕ) (a : Seen) (u′ : List ℕ) : Type 0 where
+  pub numbered : (z : TreeSizes) → z .servers ≤ most-servers → Numbered z m x u (1 + n) (LacksNode n) (a .stop) (a .node) u′
+
+-- a flag of the store
+pub record AskedFlag (m : ClientWord → ℕ) (u : List ℕ) (n : ℕ) (v : Valued) (u′ : List ℕ) : Type 0 where
+  pub node : Node
+  pub numbered : (z : TreeSizes) → z .servers ≤ most-servers → Numbered z m nothing u (first-flag-number + n) (LacksVector (server-of n)) (v .stop) node u′
+  pub value : goes (v .stop) ≡ true → v .value ≡ first-slot node
+
 -- the last copy taken back
 abbrev pub popped : List ℕ → List ℕ
 popped u = set u 0 (getD u 0 0 - 1)
-
-abbrev pub stopped : Stop → Asked
-stopped s = record { stop = s; node = free-node 0 }
 
 -- a copy that is not in use yet comes into use
 unfoldable pub noted-copy : How → List ℕ → ℕ → List ℕ

@@ -1,29 +1,29 @@
 -- The way down: what comes of the root, of a node below it, and of a path.
 use mathlib.Core.Path.{_≡_}
 use mathlib.Core.Bool.{Bool, true, false}
-use mathlib.Core.List.{List, [], _∷_}
+use mathlib.Core.List.{List, [], _∷_, map}
 use Prim.Native.Nat.{ℕ, zero, suc, _-_, _≤_, _<_}
 use lib.ListN.{length, getD}
 use Rattle.nodes.specs.declared.node.Node.{Node}
 use Rattle.nodes.specs.Node.{free-node}
+use Rattle.nodes.specs.Stored.{node-at}
+use Rattle.memory.specs.Word.{view}
 use Rattle.nodes.specs.Entries.{entriesOf}
 use Rattle.nodes.specs.Kept.{Whole}
-use Rattle.operations.specs.Object.{meta, node, object, Writes}
+use Rattle.operations.specs.Object.{meta, object, Writes}
 use Rattle.operations.specs.Slot.{TreeSizes}
 use Rattle.operations.specs.Entry.{Entries}
 use Rattle.operations.specs.Path.{TreePlan, kid, when-root, at-root, Branch, Cont, down, from-root}
 use Rattle.walk.specs.declared.down.Turn.{Turn}
 use Rattle.walk.specs.declared.down.Descent.{Descent}
-use Rattle.walk.specs.declared.down.Lower.{Lower}
-use Rattle.walk.specs.declared.down.Rooted.{Rooted}
-use Rattle.walk.specs.declared.walk.Asked.{Asked}
+use Rattle.walk.specs.declared.down.Pass.{Pass}
 use Rattle.walk.specs.declared.walk.Stop.{Stop}
 use Rattle.client.specs.Layout.{ClientWord}
 use Rattle.client.specs.Record.{in-store}
 use Rattle.client.specs.Lent.{used-in}
 use Rattle.walk.specs.Entries.{opens, below, Inner, branch-of, Below}
 use Rattle.walk.specs.Walk.{goes, walked, carry}
-use Rattle.walk.specs.Ask.{SmallNode, Holds-writes, Noted, Answer}
+use Rattle.walk.specs.Ask.{SmallNode, Holds-writes, Noted, In-part}
 use Rattle.plans.specs.Plan as P
 use Rattle.client.specs.Bounds.{highest-level, level-count}
 
@@ -32,10 +32,10 @@ pub record Kid (z : TreeSizes) (m : ClientWord → ℕ) (x u : List ℕ) (l n : 
   pub asks : (w : Writes) → Holds-writes z x w → (lo : ℕ) (k : Entries → TreePlan)
       → walked z m (kid w l lo n k) (used-in u) ≡ carry s (used-in u′) (λ us. walked z m (k (entriesOf r lo)) us)
   pub noted : Noted m u′
-  pub small : SmallNode r
+  pub small : goes s ≡ true → SmallNode r
   pub long : length u′ ≡ length u
   pub fits : goes s ≡ true → below l r ≡ true
-  pub whole : Whole r
+  pub whole : goes s ≡ true → Whole r
   pub inside : goes s ≡ true → in-store z n ≡ true
 
 -- the root of that name
@@ -43,19 +43,42 @@ pub record RootMet (z : TreeSizes) (m : ClientWord → ℕ) (u : List ℕ) (n : 
   pub asks : (k : ℕ → Entries → TreePlan)
       → walked z m (at-root n k) (used-in u) ≡ carry s (used-in u′) (λ us. walked z m (k (r .level) (entriesOf r 0)) us)
   pub noted : Noted m u′
-  pub small : SmallNode r
+  pub small : goes s ≡ true → SmallNode r
   pub long : length u′ ≡ length u
   pub fits : goes s ≡ true → opens r ≡ true
-  pub whole : Whole r
+  pub whole : goes s ≡ true → Whole r
   pub inside : goes s ≡ true → in-store z n ≡ true
-
--- whatever node was asked for, it has been judged as a child
-pub record Checked (l : ℕ) (a r : Asked) : Type 0 where
-  pub met : (z : TreeSizes) (m : ClientWord → ℕ) (x u : List ℕ) (n : ℕ) (u′ : List ℕ) → Answer z m x u (node n) (a .stop) (a .node) u′ → Kid z m x u l n (r .stop) (r .node) u′
 
 -- a place of the path that is not passed
 abbrev pub blank : Turn
 blank = record { name = 0; at = 0; node = free-node 0 }
+
+abbrev pub nowhere : Pass
+nowhere = record { name = 0; at = 0; place = 0 }
+
+-- ---- what the code passes stands in a part of the bytes b
+-- an inner node that was passed
+abbrev pub turn-in : List ℕ → Pass → Turn
+turn-in b p = record { name = p .name; at = p .at; node = node-at (view b) (p .place) }
+
+-- all that were passed
+abbrev pub turns-in : List ℕ → List Pass → List Turn
+turns-in b ps = map (turn-in b) ps
+
+-- where a way down has come to: how it stopped, the root's level, the inner nodes passed by their levels, and the node reached
+pub record Arrival : Type 0 where
+  pub stop : Stop
+  pub top : ℕ
+  pub path : List Turn
+  pub name : ℕ
+  pub node : Node
+
+abbrev pub arrival : List ℕ → Descent → Arrival
+arrival b d = record { stop = d .stop; top = d .top; path = turns-in b (d .path); name = d .name; node = node-at (view b) (d .place) }
+
+-- every place of a path is one of the part
+pub record Path-in-part (ps : List Pass) : Type 0 where
+  pub each : (i : ℕ) → i < length ps → In-part (getD ps i nowhere .place)
 
 -- ---- a path: the inner nodes above a node, the nearest first
 -- from what key on the node below them holds keys
@@ -114,24 +137,24 @@ pub record Above (n : Node) (level : ℕ) : Type 0 where
   pub level-is : n .level ≡ level
   pub inner : 0 < level
 
--- a step down from it
-pub record Lowered (z : TreeSizes) (m : ClientWord → ℕ) (u : List ℕ) (key level : ℕ) (n : Node) (r : Lower) (u′ : List ℕ) : Type 0 where
+-- a step down from it: s says how it went, i is the number of the child, c its name and r its node
+pub record Lowered (z : TreeSizes) (m : ClientWord → ℕ) (u : List ℕ) (key level : ℕ) (n : Node) (s : Stop) (i c : ℕ) (r : Node) (u′ : List ℕ) : Type 0 where
   pub asks : (stop : ℕ → Bool) → stop level ≡ false → (k : Cont) (fs : List Branch) (nm lo : ℕ)
       → walked z m (down stop key k level fs nm (entriesOf n lo)) (used-in u)
-      ≡ carry (r .stop) (used-in u′) (λ us. walked z m
-      (down stop key k (level - 1) (branch-of nm (r .at) (entriesOf n lo) ∷ fs) (r .name) (entriesOf (r .node) (getD (entriesOf n lo) (r .at) (0, 0) .0))) us)
+      ≡ carry s (used-in u′) (λ us. walked z m
+      (down stop key k (level - 1) (branch-of nm i (entriesOf n lo) ∷ fs) c (entriesOf r (getD (entriesOf n lo) i (0, 0) .0))) us)
   pub noted : Noted m u′
   pub long : length u′ ≡ length u
-  pub within : r .at ≤ n .count
-  pub turned : Followed (record { name = 0; at = r .at; node = n })
-  pub small : SmallNode (r .node)
-  pub whole : Whole (r .node)
-  pub fits : goes (r .stop) ≡ true → Below (level - 1) (r .node)
-  pub child : r .name ≡ getD (n .slots) (r .at) 0
-  pub inside : goes (r .stop) ≡ true → in-store z (r .name) ≡ true
+  pub within : i ≤ n .count
+  pub turned : Followed (record { name = 0; at = i; node = n })
+  pub small : goes s ≡ true → SmallNode r
+  pub whole : goes s ≡ true → Whole r
+  pub fits : goes s ≡ true → Below (level - 1) r
+  pub child : c ≡ getD (n .slots) i 0
+  pub inside : goes s ≡ true → in-store z c ≡ true
 
 -- what stands at its end
-pub record Reached (target : ℕ) (d : Descent) : Type 0 where
+pub record Reached (target : ℕ) (d : Arrival) : Type 0 where
   pub level : d .node .level ≡ target
   pub opened : opens (d .node) ≡ true
   pub small : SmallNode (d .node)
@@ -141,7 +164,7 @@ pub record Reached (target : ℕ) (d : Descent) : Type 0 where
   pub good : All (trail (d .path) target (d .top - target))
 
 -- the way down from a root to a level
-pub record Led (z : TreeSizes) (m : ClientWord → ℕ) (u : List ℕ) (key target root : ℕ) (first : Node) (d : Descent) (u′ : List ℕ) : Type 0 where
+pub record Led (z : TreeSizes) (m : ClientWord → ℕ) (u : List ℕ) (key target root : ℕ) (first : Node) (d : Arrival) (u′ : List ℕ) : Type 0 where
   pub asks : (stop : ℕ → Bool) → Stops stop target → (k : Cont)
       → walked z m (down stop key k (first .level) [] root (entriesOf first 0)) (used-in u)
       ≡ carry (d .stop) (used-in u′) (λ us. walked z m
@@ -151,17 +174,17 @@ pub record Led (z : TreeSizes) (m : ClientWord → ℕ) (u : List ℕ) (key targ
   pub reached : goes (d .stop) ≡ true → Reached target d
   pub linked : in-store z root ≡ true → goes (d .stop) ≡ true → Linked z target (d .name) (trail (d .path) target (d .top - target))
 
--- ---- from the metadata on
-pub record AtRoot (z : TreeSizes) (m : ClientWord → ℕ) (u : List ℕ) (r : Rooted) (u′ : List ℕ) : Type 0 where
+-- ---- from the metadata on: the root's name q and its node r
+pub record AtRoot (z : TreeSizes) (m : ClientWord → ℕ) (u : List ℕ) (s : Stop) (q : ℕ) (r : Node) (u′ : List ℕ) : Type 0 where
   pub asks : (k : ℕ → ℕ → Entries → TreePlan)
       → walked z m (P.ask (object meta) (λ v. when-root v (λ q. at-root q (k q)))) (used-in u)
-      ≡ carry (r .stop) (used-in u′) (λ us. walked z m (k (r .name) (r .node .level) (entriesOf (r .node) 0)) us)
+      ≡ carry s (used-in u′) (λ us. walked z m (k q (r .level) (entriesOf r 0)) us)
   pub noted : Noted m u′
-  pub begins : goes (r .stop) ≡ true → From (r .node) 0
-  pub inside : goes (r .stop) ≡ true → in-store z (r .name) ≡ true
+  pub begins : goes s ≡ true → From r 0
+  pub inside : goes s ≡ true → in-store z q ≡ true
 
 -- down to the leaf for a key
-pub record Descends (z : TreeSizes) (m : ClientWord → ℕ) (u : List ℕ) (key : ℕ) (d : Descent) (u′ : List ℕ) : Type 0 where
+pub record Descends (z : TreeSizes) (m : ClientWord → ℕ) (u : List ℕ) (key : ℕ) (d : Arrival) (u′ : List ℕ) : Type 0 where
   pub asks : (k : List Branch → ℕ → Entries → TreePlan)
       → walked z m (from-root key k) (used-in u)
       ≡ carry (d .stop) (used-in u′) (λ us. walked z m (k (branches (trail (d .path) 0 (d .top - 0))) (d .name) (entriesOf (d .node) (low (trail (d .path) 0 (d .top - 0))))) us)

@@ -10,10 +10,16 @@ use Rattle.operations.specs.Path.{Branch}
 use Rattle.client.specs.Bounds.{fewest-keys}
 
 -- "the root is free, a child is free": a leaf or an inner node, with a level of its kind
+abbrev pub opens-with : ℕ → ℕ → Bool
+opens-with kind level = cond (eqb kind 1) (eqb level 0) (cond (eqb kind 2) (ltb 0 level) false)
+
 unfoldable pub opens : Node → Bool
-opens n = cond (eqb (n .kind) 1) (eqb (n .level) 0) (cond (eqb (n .kind) 2) (ltb 0 (n .level)) false)
+opens n = opens-with (n .kind) (n .level)
 
 -- "a child is free or not exactly one level lower, a node used below the root has under 7 keys"
+abbrev pub below-with : ℕ → ℕ → ℕ → ℕ → Bool
+below-with l kind level count = cond (opens-with kind level) (cond (eqb level l) (leb fewest-keys count) false) false
+
 unfoldable pub below : ℕ → Node → Bool
 below l n = cond (opens n) (cond (eqb (n .level) l) (leb fewest-keys (n .count)) false) false
 

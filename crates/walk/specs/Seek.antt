@@ -70,9 +70,10 @@ abbrev pub onward : Bool → ℕ → ℕ
 onward true i = i + 1
 onward false i = i - 1
 
-abbrev pub first-at : Bool → Node → ℕ
-first-at true n = 0
-first-at false n = n .count
+-- the first child from that side's other end, of a node with that many keys
+abbrev pub first-at : Bool → ℕ → ℕ
+first-at true count = 0
+first-at false count = count
 
 -- ---- the children left to visit, level by level from the lowest
 abbrev pub rest : Bool → ℕ → Entries → Entries

@@ -1,64 +1,82 @@
-// The way down from the root: what every operation reads first, and the checks of what was read.
-use crate::walk::Asked;
+// The way down from the root: what every operation reads first, and the checks of what was read. Nodes are asked where they stand in the
+// client's part.
+use crate::walk::Placed;
+use crate::walk::Seen;
 use crate::walk::Stop;
 use crate::walk::ask_meta;
 use crate::walk::ask_node;
 use crate::walk::going;
 use crate::walk::see_node;
 use nodes::node::Node;
+use nodes::standing::count_at;
+use nodes::standing::kind_at;
+use nodes::standing::level_at;
+use nodes::standing::place_at;
+use nodes::standing::slot_at;
+use nodes::stored::read_node;
 ghost use mathlib.Core.Path.{_≡_};
-ghost use Prim.Native.Nat.{_<_, _≤_};
+ghost use Prim.Native.Nat.{_≤_};
+ghost use Rattle.memory.specs.Word.{view};
+ghost use Rattle.nodes.specs.Stored.{node-at};
+ghost use Rattle.client.specs.Layout.{ClientPart};
 ghost use Rattle.client.specs.Record.{sizes};
 ghost use Rattle.client.specs.Sets.{held};
-ghost use Rattle.walk.specs.Entries.{opens, below};
-ghost use Rattle.walk.specs.Ask.{nothing, Walking, WalkingOwn, over-lent};
-ghost use Rattle.walk.specs.Down.{Kid, Checked, RootMet, Above, Lowered, From, Led, AtRoot, Descends};
 ghost use Rattle.client.specs.Bounds.{highest-level};
+ghost use Rattle.walk.specs.Entries.{opens-with, opens, below-with, below};
+ghost use Rattle.walk.specs.Ask.{In-part, nothing, Walking, WalkingOwn, over-lent};
+ghost use Rattle.walk.specs.Down.{Kid, RootMet, turn-in, turns-in, arrival, Path-in-part, Above, Lowered, From, Led, AtRoot, Descends};
 
-// Is the node a leaf or an inner node?
-fn opens(n: Node) -> bool
-    ensures { λ r. ⌜ r ≡ opens n ⌝ }
+// Is a node of that kind and level a leaf or an inner node?
+fn opens(kind: u64, level: u64) -> bool
+    ensures { λ r. ⌜ r ≡ opens-with kind level ⌝ }
 {
-    if n.kind == 1 {
-        return n.level == 0;
+    if kind == 1 {
+        return level == 0;
     }
-    if n.kind == 2 {
-        return 0 < n.level;
+    if kind == 2 {
+        return 0 < level;
     }
     false
 }
 
-// May the node be used below the root, at that level?
-fn below(n: Node, level: u64) -> bool
-    ensures { λ r. ⌜ r ≡ below level n ⌝ }
+// May a node of that kind, level and count be used below the root, at the level `wanted`?
+fn below(kind: u64, level: u64, count: usize, wanted: u64) -> bool
+    ensures { λ r. ⌜ r ≡ below-with wanted kind level count ⌝ }
 {
-    if !opens(n) {
+    if !opens(kind, level) {
         return false;
     }
-    if n.level != level {
+    if level != wanted {
         return false;
     }
-    7 <= n.count
+    7 <= count
 }
 
-// What was asked for as a node of that level below the root.
-fn as_child(a: Asked, level: u64) -> Asked
-    ensures { λ r. ⌜ Checked level a r ⌝ }
+// The same of a node at a place.
+fn opens_at(part: &[u8], place: usize) -> bool
+    requires { ⌜ In-part place × ClientPart (now part) ⌝ }
+    ensures { λ r. ⌜ r ≡ opens (node-at (view (now (part .entry))) place) ⌝ }
 {
-    let stop = a.stop;
-    let node = a.node;
-    let on = going(stop);
-    if !on {
-        return a;
-    }
-    let fits = below(node, level);
-    if !fits {
-        return Asked {
-            stop: Stop::Aborts(3),
-            node,
-        };
-    }
-    a
+    let kind = kind_at(part, place);
+    let level = level_at(part, place);
+    opens(kind, level)
+}
+
+fn below_at(part: &[u8], place: usize, wanted: u64) -> bool
+    requires { ⌜ In-part place × ClientPart (now part) ⌝ }
+    ensures { λ r. ⌜ r ≡ below wanted (node-at (view (now (part .entry))) place) ⌝ }
+{
+    let kind = kind_at(part, place);
+    let level = level_at(part, place);
+    let count = count_at(part, place);
+    below(kind, level, count, wanted)
+}
+
+// And of a node by value.
+fn below_node(n: Node, wanted: u64) -> bool
+    ensures { λ r. ⌜ r ≡ below wanted n ⌝ }
+{
+    below(n.kind, n.level, n.count, wanted)
 }
 
 // A node below the root.
@@ -69,13 +87,27 @@ pub fn child(
     used: &mut [u64],
     level: u64,
     name: u64,
-) -> Asked
+) -> Placed
     requires { ⌜ Walking servers (now part) (now used) ⌝ }
-    ensures { λ r. ⌜ Kid (sizes servers slots) (held (now (part .entry))) nothing (now (used .entry)) level name (r .stop) (r .node)
-        (now (used .exit)) ⌝ }
+    ensures { λ r. ⌜ Kid (sizes servers slots) (held (now (part .entry))) nothing (now (used .entry)) level name (r .stop)
+        (node-at (view (now (part .entry))) (r .place)) (now (used .exit)) ⌝ }
+    ensures within { λ r. ⌜ In-part (r .place) ⌝ }
 {
     let a = ask_node(part, servers, slots, used, name);
-    as_child(a, level)
+    let stop = a.stop;
+    let on = going(stop);
+    if !on {
+        return a;
+    }
+    let place = a.place;
+    let fits = below_at(part, place, level);
+    if !fits {
+        return Placed {
+            stop: Stop::Aborts(3),
+            place,
+        };
+    }
+    a
 }
 
 // The same, where the operation may have written it.
@@ -87,32 +119,46 @@ pub fn see_child(
     used: &mut [u64],
     level: u64,
     name: u64,
-) -> Asked
+) -> Seen
     requires { ⌜ WalkingOwn servers (now part) (now own) (now used) ⌝ }
     ensures { λ r. ⌜ over-lent Kid servers slots part own used level name (r .stop) (r .node) (now (used .exit)) ⌝ }
 {
     let a = see_node(part, servers, slots, own, used, name);
-    as_child(a, level)
-}
-
-// The root, by its name.
-pub fn root(part: &[u8], servers: usize, slots: usize, used: &mut [u64], name: u64) -> Asked
-    requires { ⌜ Walking servers (now part) (now used) ⌝ }
-    ensures { λ r. ⌜ RootMet (sizes servers slots) (held (now (part .entry))) (now (used .entry)) name (r .stop) (r .node)
-        (now (used .exit)) ⌝ }
-{
-    let a = ask_node(part, servers, slots, used, name);
     let stop = a.stop;
     let node = a.node;
     let on = going(stop);
     if !on {
         return a;
     }
-    let fits = opens(node);
+    let fits = below_node(node, level);
     if !fits {
-        return Asked {
+        return Seen {
             stop: Stop::Aborts(3),
             node,
+        };
+    }
+    a
+}
+
+// The root, by its name.
+pub fn root(part: &[u8], servers: usize, slots: usize, used: &mut [u64], name: u64) -> Placed
+    requires { ⌜ Walking servers (now part) (now used) ⌝ }
+    ensures { λ r. ⌜ RootMet (sizes servers slots) (held (now (part .entry))) (now (used .entry)) name (r .stop)
+        (node-at (view (now (part .entry))) (r .place)) (now (used .exit)) ⌝ }
+    ensures within { λ r. ⌜ In-part (r .place) ⌝ }
+{
+    let a = ask_node(part, servers, slots, used, name);
+    let stop = a.stop;
+    let on = going(stop);
+    if !on {
+        return a;
+    }
+    let place = a.place;
+    let fits = opens_at(part, place);
+    if !fits {
+        return Placed {
+            stop: Stop::Aborts(3),
+            place,
         };
     }
     a
@@ -125,21 +171,28 @@ pub struct Turn {
     pub node: Node,
 }
 
-// With Going: the node of the level that was looked for, its name, and the inner nodes above it by their levels, up to the root's.
+// The same, where the node stands in the part.
+pub struct Pass {
+    pub name: u64,
+    pub at: usize,
+    pub place: usize,
+}
+
+// With Going: where the node of the level that was looked for stands, its name, and the inner nodes above it by their levels, up to the root's.
 pub struct Descent {
     pub stop: Stop,
     pub top: usize,
-    pub path: [Turn; 5],
+    pub path: [Pass; 5],
     pub name: u64,
-    pub node: Node,
+    pub place: usize,
 }
 
-// A step down: the child that was followed, its number, its name and its node.
+// A step down: the child that was followed, its number, its name and where it stands.
 struct Lower {
     stop: Stop,
     at: usize,
     name: u64,
-    node: Node,
+    place: usize,
 }
 
 // From an inner node of a level to its child for a key.
@@ -150,27 +203,28 @@ fn go_lower(
     used: &mut [u64],
     key: u64,
     level: usize,
-    n: Node,
+    place: usize,
 ) -> Lower
     requires { ⌜ Walking servers (now part) (now used) ⌝ }
-    requires from { ⌜ Above n level ⌝ }
-    ensures { λ r. ⌜ Lowered (sizes servers slots) (held (now (part .entry))) (now (used .entry)) key level n r (now (used .exit)) ⌝ }
+    requires from { ⌜ Above (node-at (view (now part)) place) level × In-part place ⌝ }
+    ensures { λ r. ⌜ Lowered (sizes servers slots) (held (now (part .entry))) (now (used .entry)) key level
+        (node-at (view (now (part .entry))) place) (r .stop) (r .at) (r .name) (node-at (view (now (part .entry))) (r .place)) (now (used .exit)) ⌝ }
+    ensures within { λ r. ⌜ In-part (r .place) ⌝ }
 {
-    let at = n.place(key);
-    let children = n.slots;
-    let name = children[at];
+    let at = place_at(part, place, key);
+    let name = slot_at(part, place, at);
     let c = child(part, servers, slots, used, (level - 1) as u64, name);
     let stop = c.stop;
-    let node = c.node;
+    let place = c.place;
     Lower {
         stop,
         at,
         name,
-        node,
+        place,
     }
 }
 
-// From the root, which is at hand, down to a level, by a key.
+// From the root, which stands at a place, down to a level, by a key.
 pub fn go_down(
     part: &[u8],
     servers: usize,
@@ -179,24 +233,26 @@ pub fn go_down(
     key: u64,
     target: usize,
     root: u64,
-    first: Node,
+    first: usize,
 ) -> Descent
     requires { ⌜ Walking servers (now part) (now used) ⌝ }
-    requires from { ⌜ From first target ⌝ }
-    ensures { λ r. ⌜ Led (sizes servers slots) (held (now (part .entry))) (now (used .entry)) key target root first r (now (used .exit)) ⌝ }
+    requires from { ⌜ From (node-at (view (now part)) first) target × In-part first ⌝ }
+    ensures { λ r. ⌜ Led (sizes servers slots) (held (now (part .entry))) (now (used .entry)) key target root
+        (node-at (view (now (part .entry))) first) (arrival (now (part .entry)) r) (now (used .exit)) ⌝ }
+    ensures within { λ r. ⌜ Path-in-part (r .path) × In-part (r .place) ⌝ }
 {
-    let top = first.level as usize;
-    let blank = Turn {
+    let top = level_at(part, first) as usize;
+    let blank = Pass {
         name: 0,
         at: 0,
-        node: Node::free(0),
+        place: 0,
     };
     let mut path = [blank; 5];
     let mut name = root;
-    let mut node = first;
+    let mut place = first;
     let mut level = top;
     while target < level {
-        let l = go_lower(part, servers, slots, used, key, level, node);
+        let l = go_lower(part, servers, slots, used, key, level, place);
         let stop = l.stop;
         let on = going(stop);
         if !on {
@@ -205,16 +261,16 @@ pub fn go_down(
                 top,
                 path,
                 name,
-                node,
+                place,
             };
         }
-        path[level] = Turn {
+        path[level] = Pass {
             name,
             at: l.at,
-            node,
+            place,
         };
         name = l.name;
-        node = l.node;
+        place = l.place;
         level -= 1;
     }
     Descent {
@@ -222,7 +278,7 @@ pub fn go_down(
         top,
         path,
         name,
-        node,
+        place,
     }
 }
 
@@ -230,52 +286,58 @@ pub fn go_down(
 pub struct Rooted {
     pub stop: Stop,
     pub name: u64,
-    pub node: Node,
+    pub place: usize,
 }
 
 // The metadata, and the root that it names.
 pub fn at_root(part: &[u8], servers: usize, slots: usize, used: &mut [u64]) -> Rooted
     requires { ⌜ Walking servers (now part) (now used) ⌝ }
-    ensures { λ r. ⌜ AtRoot (sizes servers slots) (held (now (part .entry))) (now (used .entry)) r (now (used .exit)) ⌝ }
+    ensures { λ r. ⌜ AtRoot (sizes servers slots) (held (now (part .entry))) (now (used .entry)) (r .stop) (r .name)
+        (node-at (view (now (part .entry))) (r .place)) (now (used .exit)) ⌝ }
+    ensures within { λ r. ⌜ In-part (r .place) ⌝ }
 {
     let a = ask_meta(part, servers, slots, used);
     let stop = a.stop;
-    let node = a.node;
-    let values = node.slots;
-    let name = values[0];
+    let name = a.value;
     let on = going(stop);
     if !on {
-        return Rooted { stop, name, node };
+        return Rooted {
+            stop,
+            name,
+            place: 0,
+        };
     }
     let r = root(part, servers, slots, used, name);
     let stop = r.stop;
-    let node = r.node;
-    Rooted { stop, name, node }
+    let place = r.place;
+    Rooted { stop, name, place }
 }
 
 pub fn no_descent(stop: Stop) -> Descent
     ensures { λ r. ⌜ r .stop ≡ stop ⌝ }
     ensures low { λ r. ⌜ r .top ≤ highest-level ⌝ }
+    ensures within { λ r. ⌜ Path-in-part (r .path) × In-part (r .place) ⌝ }
 {
-    let node = Node::free(0);
-    let blank = Turn {
+    let blank = Pass {
         name: 0,
         at: 0,
-        node,
+        place: 0,
     };
     Descent {
         stop,
         top: 0,
         path: [blank; 5],
         name: 0,
-        node,
+        place: 0,
     }
 }
 
 // From the metadata down to the leaf for a key.
 pub fn descend(part: &[u8], servers: usize, slots: usize, used: &mut [u64], key: u64) -> Descent
     requires { ⌜ Walking servers (now part) (now used) ⌝ }
-    ensures { λ r. ⌜ Descends (sizes servers slots) (held (now (part .entry))) (now (used .entry)) key r (now (used .exit)) ⌝ }
+    ensures { λ r. ⌜ Descends (sizes servers slots) (held (now (part .entry))) (now (used .entry)) key (arrival (now (part .entry)) r)
+        (now (used .exit)) ⌝ }
+    ensures within { λ r. ⌜ Path-in-part (r .path) × In-part (r .place) ⌝ }
 {
     let r = at_root(part, servers, slots, used);
     let stop = r.stop;
@@ -284,6 +346,40 @@ pub fn descend(part: &[u8], servers: usize, slots: usize, used: &mut [u64], key:
         return no_descent(stop);
     }
     let name = r.name;
-    let node = r.node;
-    go_down(part, servers, slots, used, key, 0, name, node)
+    let place = r.place;
+    go_down(part, servers, slots, used, key, 0, name, place)
+}
+
+// An inner node of the path, taken out of the part.
+fn turn_at(part: &[u8], p: Pass) -> Turn
+    requires { ⌜ In-part (p .place) × ClientPart (now part) ⌝ }
+    ensures { λ r. ⌜ r ≡ turn-in (now (part .entry)) p ⌝ }
+{
+    let node = read_node(part, p.place);
+    Turn {
+        name: p.name,
+        at: p.at,
+        node,
+    }
+}
+
+// All of them.
+pub fn turns(part: &[u8], path: [Pass; 5]) -> [Turn; 5]
+    requires { ⌜ Path-in-part path × ClientPart (now part) ⌝ }
+    ensures { λ r. ⌜ r ≡ turns-in (now (part .entry)) path ⌝ }
+{
+    let blank = Turn {
+        name: 0,
+        at: 0,
+        node: Node::free(0),
+    };
+    let mut out = [blank; 5];
+    let mut i: usize = 0;
+    while i < 5 {
+        let p = path[i];
+        let t = turn_at(part, p);
+        out[i] = t;
+        i += 1;
+    }
+    out
 }

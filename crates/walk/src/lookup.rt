@@ -5,17 +5,19 @@ use crate::walk::going;
 use crate::walk::over;
 use crate::walk::pop_used;
 use nodes::found::Found;
-use nodes::node::Node;
+use nodes::standing::find_at;
+use nodes::standing::slot_at;
 ghost use mathlib.Core.Path.{_≡_};
-ghost use Prim.Native.Nat.{_<_, _≤_};
-ghost use lib.ListN.{getD};
+ghost use Prim.Native.Nat.{_≤_};
 ghost use Rattle.operations.specs.Look.{lookup-plan};
 ghost use Rattle.client.specs.Record.{sizes};
 ghost use Rattle.client.specs.Sets.{held};
-ghost use Rattle.walk.specs.Ask.{Noted, Walking};
+ghost use Rattle.memory.specs.Word.{view};
+ghost use Rattle.nodes.specs.Stored.{node-at};
+ghost use Rattle.walk.specs.Ask.{Noted, In-part, Walking};
 ghost use Rattle.walk.specs.Lookup.{Ends, Walks, look-in};
 ghost use Rattle.client.specs.Layout.{ClientPart};
-ghost use Rattle.client.specs.Bounds.{most-keys, most-children};
+ghost use Rattle.client.specs.Bounds.{most-keys};
 
 // The answer, unless object 97 has been read.
 pub fn answers(part: &[u8], used: &mut [u64], a: u64, b: u64) -> Stop
@@ -35,24 +37,16 @@ struct Pair {
     b: u64,
 }
 
-pub fn slot(slots: [u64; 15], i: usize) -> u64
-    requires { ⌜ i < most-children ⌝ }
-    ensures { λ r. ⌜ r ≡ getD slots i 0 ⌝ }
-{
-    slots[i]
-}
-
 // "Lookup of a key there: a 1, b the value."
-fn look_in(n: Node, key: u64) -> Pair
-    requires { ⌜ n .count ≤ most-keys ⌝ }
-    ensures { λ r. ⌜ r ≡ look-in n key ⌝ }
+fn look_in(part: &[u8], leaf: usize, key: u64) -> Pair
+    requires { ⌜ (node-at (view (now part)) leaf .count ≤ most-keys) × In-part leaf × ClientPart (now part) ⌝ }
+    ensures { λ r. ⌜ r ≡ look-in (node-at (view (now (part .entry))) leaf) key ⌝ }
 {
-    let f = n.find(key);
-    let slots = n.slots;
+    let f = find_at(part, leaf, key);
     match f {
         Found::At(i) => Pair {
             a: 1,
-            b: slot(slots, i),
+            b: slot_at(part, leaf, i),
         },
         Found::Absent => Pair { a: 0, b: 0 },
     }
@@ -68,8 +62,8 @@ pub fn lookup(part: &[u8], servers: usize, slots: usize, used: &mut [u64], key: 
     if !on {
         return stop;
     }
-    let n = d.node;
-    let p = look_in(n, key);
+    let leaf = d.place;
+    let p = look_in(part, leaf, key);
     let a = p.a;
     let b = p.b;
     answers(part, used, a, b)

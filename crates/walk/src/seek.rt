@@ -2,21 +2,28 @@
 use crate::down::Turn;
 use crate::down::child;
 use crate::down::descend;
+use crate::down::turns;
 use crate::lookup::answers;
-use crate::lookup::slot;
 use crate::walk::Stop;
 use crate::walk::going;
-use nodes::node::Node;
+use nodes::standing::count_at;
+use nodes::standing::key_at;
+use nodes::standing::place_at;
+use nodes::standing::slot_at;
+use nodes::stored::read_node;
 ghost use mathlib.Core.Path.{_≡_};
 ghost use Prim.Native.Nat.{_+_, _<_, _≤_};
 ghost use lib.ListN.{getD};
 ghost use Rattle.client.specs.Record.{sizes};
 ghost use Rattle.client.specs.Sets.{held};
-ghost use Rattle.walk.specs.Ask.{Walking};
+ghost use Rattle.memory.specs.Word.{view};
+ghost use Rattle.nodes.specs.Stored.{node-at};
+ghost use Rattle.client.specs.Layout.{ClientPart};
+ghost use Rattle.walk.specs.Ask.{In-part, Walking};
 ghost use Rattle.walk.specs.Lookup.{Walks};
 ghost use Rattle.walk.specs.Near.{Beyond};
 ghost use Rattle.walk.specs.Seek.{in-leaf, more, onward, first-at, Stacked, Climbed, Standing, Advanced, ReadOn, Seeks, near-plan};
-ghost use Rattle.client.specs.Bounds.{most-keys};
+ghost use Rattle.client.specs.Bounds.{most-keys, most-children};
 
 // A key, if there is one.
 pub enum Key {
@@ -24,34 +31,34 @@ pub enum Key {
     Nothing,
 }
 
-fn key_at(keys: [u64; 14], i: usize) -> u64
-    requires { ⌜ i < most-keys ⌝ }
-    ensures { λ r. ⌜ r ≡ getD keys i 0 ⌝ }
+fn slot(slots: [u64; 15], i: usize) -> u64
+    requires { ⌜ i < most-children ⌝ }
+    ensures { λ r. ⌜ r ≡ getD slots i 0 ⌝ }
 {
-    keys[i]
+    slots[i]
 }
 
-// The nearest key of a leaf strictly above the key, or strictly below it.
-fn in_leaf(right: bool, n: Node, key: u64) -> Key
-    requires { ⌜ n .count ≤ most-keys ⌝ }
-    ensures { λ r. ⌜ r ≡ in-leaf right n key ⌝ }
+// The nearest key of the leaf at a place strictly above the key, or strictly below it.
+fn in_leaf(part: &[u8], right: bool, leaf: usize, key: u64) -> Key
+    requires { ⌜ (node-at (view (now part)) leaf .count ≤ most-keys) × In-part leaf × ClientPart (now part) ⌝ }
+    ensures { λ r. ⌜ r ≡ in-leaf right (node-at (view (now (part .entry))) leaf) key ⌝ }
 {
-    let keys = n.keys;
     if right {
-        let p = n.place(key);
-        if p < n.count {
-            return Key::Is(key_at(keys, p));
+        let p = place_at(part, leaf, key);
+        let count = count_at(part, leaf);
+        if p < count {
+            return Key::Is(key_at(part, leaf, p));
         }
         return Key::Nothing;
     }
     if key == 0 {
         return Key::Nothing;
     }
-    let p = n.place(key - 1);
+    let p = place_at(part, leaf, key - 1);
     if p == 0 {
         return Key::Nothing;
     }
-    Key::Is(key_at(keys, p - 1))
+    Key::Is(key_at(part, leaf, p - 1))
 }
 
 // Is there a child left on that side of the one that was followed?
@@ -79,14 +86,14 @@ fn onward(right: bool, at: usize) -> usize
     at - 1
 }
 
-// The first child from that side's other end.
-fn first_at(right: bool, n: Node) -> usize
-    ensures { λ r. ⌜ r ≡ first-at right n ⌝ }
+// The first child from that side's other end, of a node with that many keys.
+fn first_at(right: bool, count: usize) -> usize
+    ensures { λ r. ⌜ r ≡ first-at right count ⌝ }
 {
     if right {
         return 0;
     }
-    n.count
+    count
 }
 
 pub enum Where {
@@ -141,20 +148,21 @@ fn climb(right: bool, top: usize, path: [Turn; 5], level: usize) -> Ahead
 
 // On from a node that was read: from a leaf without such a key to the nearest branch, from an inner node to its first child.
 fn advance(
+    part: &[u8],
     right: bool,
     key: u64,
     top: usize,
     path: [Turn; 5],
     level: usize,
     name: u64,
-    node: Node,
+    place: usize,
 ) -> Ahead
-    requires { ⌜ Stacked top path level ⌝ }
-    requires at { ⌜ Standing node level top ⌝ }
-    ensures { λ r. ⌜ Advanced right key top path level node r ⌝ }
+    requires { ⌜ Stacked top path level × In-part place × ClientPart (now part) ⌝ }
+    requires at { ⌜ Standing (node-at (view (now part)) place) level top ⌝ }
+    ensures { λ r. ⌜ Advanced right key top path level (node-at (view (now (part .entry))) place) r ⌝ }
 {
     if level == 0 {
-        let k = in_leaf(right, node, key);
+        let k = in_leaf(part, right, place, key);
         match k {
             Key::Is(x) => {
                 return Ahead {
@@ -169,9 +177,10 @@ fn advance(
             }
         }
     }
-    let at = first_at(right, node);
-    let children = node.slots;
-    let child = slot(children, at);
+    let count = count_at(part, place);
+    let at = first_at(right, count);
+    let child = slot_at(part, place, at);
+    let node = read_node(part, place);
     let mut out = path;
     out[level] = Turn { name, at, node };
     Ahead {
@@ -219,8 +228,8 @@ fn read_on(
             },
         };
     }
-    let node = c.node;
-    let ahead = advance(right, key, top, path, level, name, node);
+    let place = c.place;
+    let ahead = advance(part, right, key, top, path, level, name, place);
     Reading { stop, ahead }
 }
 
@@ -339,12 +348,13 @@ pub fn near(
     if !on {
         return stop;
     }
-    let n = d.node;
-    let k = in_leaf(right, n, key);
+    let leaf = d.place;
+    let k = in_leaf(part, right, leaf, key);
     match k {
         Key::Is(x) => answers(part, used, 1, x),
         Key::Nothing => {
-            let path = d.path;
+            let passed = d.path;
+            let path = turns(part, passed);
             beyond(part, servers, slots, used, right, key, d.top, path)
         }
     }

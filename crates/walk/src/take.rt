@@ -55,13 +55,11 @@ pub fn take_flag(
 {
     let a = see_flag(part, servers, slots, own, used, name);
     let stop = a.stop;
-    let node = a.node;
     let on = going(stop);
     if !on {
         return stop;
     }
-    let values = node.slots;
-    if values[0] == 1 {
+    if a.value == 1 {
         return Stop::Aborts(1);
     }
     let number = flag_number(name);

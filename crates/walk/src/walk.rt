@@ -2,10 +2,15 @@
 use client::answer::How;
 use client::answer::is_copied;
 use client::answer::is_found;
-use client::lookup::look_fits;
-use client::lookup::source;
+use client::lookup::flag_fits;
+use client::lookup::flag_source;
+use client::lookup::meta_fits;
+use client::lookup::meta_source;
+use client::lookup::node_stands;
+use client::lookup::stand_fits;
 use client::own::find_own;
 use client::own::own_record;
+use client::own::own_value;
 use client::part::FIRST_FLAG_NUMBER;
 use client::part::MOST_READ;
 use client::part::Set;
@@ -16,17 +21,18 @@ use client::used::push_used;
 use nodes::found::Found;
 use nodes::name::Name;
 use nodes::node::Node;
+use nodes::stored::read_node;
 ghost use mathlib.Core.Path.{_≡_};
-ghost use mathlib.Core.Bool.{true};
+ghost use mathlib.Core.Bool.{true, false};
 ghost use Prim.Native.Nat.{_+_, _<_, _≤_};
 ghost use lib.ListN.{length, getD};
 ghost use Rattle.operations.specs.Object.{meta, node, flag};
-ghost use Rattle.client.specs.Record.{sizes};
+ghost use Rattle.client.specs.Record.{sizes, single};
 ghost use Rattle.client.specs.Sets.{held};
 ghost use Rattle.client.specs.Lent.{Lent, used-in};
 ghost use Rattle.client.specs.Bounds.{end-of-names, end-of-numbers, used-room, first-flag-number};
 ghost use Rattle.walk.specs.Walk.{goes, is-answer, over};
-ghost use Rattle.walk.specs.Ask.{Noted, Numbered, Outside, Answer, nothing, popped, noted-copy, stopped, Walking, WalkingOwn, over-lent};
+ghost use Rattle.walk.specs.Ask.{Noted, OwnGood, Meets, Outside, Answer, PlacedNode, SeenNode, AskedFlag, In-part, placed-in, seen-in, nothing, popped, noted-copy, Walking, WalkingOwn, over-lent};
 ghost use Rattle.client.specs.Layout.{ClientPart};
 
 // How the walk of a plan goes on or ends: a lack is to be fetched, Refused is refusal 10.
@@ -40,10 +46,22 @@ pub enum Stop {
     Answers(u64, u64),
 }
 
-// With Going comes the object's record.
-pub struct Asked {
+// With Going: where the node's record stands, from that word of the part on.
+pub struct Placed {
+    pub stop: Stop,
+    pub place: usize,
+}
+
+// With Going: the node itself.
+pub struct Seen {
     pub stop: Stop,
     pub node: Node,
+}
+
+// With Going: the root's name, or 1 for a slot that is taken.
+pub struct Valued {
+    pub stop: Stop,
+    pub value: u64,
 }
 
 pub fn going(stop: Stop) -> bool
@@ -109,60 +127,38 @@ fn note_copy(used: &mut [u64], how: How, number: u64)
     push_used(used, number);
 }
 
-fn stopped(stop: Stop) -> Asked
-    ensures { λ r. ⌜ r ≡ stopped stop ⌝ }
-{
-    Asked {
-        stop,
-        node: Node::free(0),
-    }
-}
-
-// The object of that number in the part; `lacks` says what is to be fetched for it.
-fn ask_number(
-    part: &[u8],
-    servers: usize,
-    slots: usize,
-    used: &mut [u64],
-    number: u64,
-    lacks: Stop,
-) -> Asked
-    requires { ⌜ (number < end-of-numbers) × Walking servers (now part) (now used) ⌝ }
-    ensures { λ r. ⌜ Numbered (sizes servers slots) (held (now (part .entry))) nothing (now (used .entry)) number lacks (r .stop)
-        (r .node) (now (used .exit)) ⌝ }
+// A question about the object of that number: `how` tells what was found of it, `right` whether that may be used, `lacks` what is to be
+// fetched for it.
+fn meet(part: &[u8], used: &mut [u64], number: u64, how: How, right: bool, lacks: Stop) -> Stop
+    requires { ⌜ (number < end-of-numbers) × Noted (held (now part)) (now used) × ClientPart (now part) ⌝ }
+    requires stops { ⌜ goes lacks ≡ false ⌝ }
+    ensures { λ r. ⌜ Meets (held (now (part .entry))) (now (used .entry)) number how right lacks r (now (used .exit)) ⌝ }
 {
     if over(part, used) {
         pop_used(used);
-        return stopped(Stop::Aborts(4));
+        return Stop::Aborts(4);
     }
-    let l = source(part, number);
-    let how = l.how;
-    let node = l.node;
     let found = is_found(how);
     if !found {
-        return stopped(lacks);
+        return lacks;
     }
-    let right = look_fits(part, servers, slots, number, how, node);
     if !right {
-        return stopped(Stop::Refused);
+        return Stop::Refused;
     }
     note_copy(used, how, number);
-    Asked {
-        stop: Stop::Going,
-        node,
-    }
+    Stop::Going
 }
 
 // An object that is not in the store.
-fn ask_outside(part: &[u8], used: &mut [u64]) -> Asked
+fn ask_outside(part: &[u8], used: &mut [u64]) -> Stop
     requires { ⌜ Noted (held (now part)) (now used) × ClientPart (now part) ⌝ }
-    ensures { λ r. ⌜ Outside (held (now (part .entry))) (now (used .entry)) (r .stop) (r .node) (now (used .exit)) ⌝ }
+    ensures { λ r. ⌜ Outside (held (now (part .entry))) (now (used .entry)) r (now (used .exit)) ⌝ }
 {
     if over(part, used) {
         pop_used(used);
-        return stopped(Stop::Aborts(4));
+        return Stop::Aborts(4);
     }
-    stopped(Stop::Refused)
+    Stop::Refused
 }
 
 pub fn node_number(name: u64) -> u64
@@ -181,50 +177,83 @@ pub fn flag_number(name: u64) -> u64
     FIRST_FLAG_NUMBER + name
 }
 
-pub fn ask_meta(part: &[u8], servers: usize, slots: usize, used: &mut [u64]) -> Asked
+pub fn ask_meta(part: &[u8], servers: usize, slots: usize, used: &mut [u64]) -> Valued
     requires { ⌜ Walking servers (now part) (now used) ⌝ }
-    ensures { λ r. ⌜ Answer (sizes servers slots) (held (now (part .entry))) nothing (now (used .entry)) meta (r .stop) (r .node)
-        (now (used .exit)) ⌝ }
+    ensures { λ r. ⌜ Answer (sizes servers slots) (held (now (part .entry))) nothing (now (used .entry)) meta (r .stop)
+        (single 0 (r .value)) (now (used .exit)) ⌝ }
 {
-    ask_number(part, servers, slots, used, 0, Stop::LacksMeta)
+    let s = meta_source(part);
+    let how = s.how;
+    let right = meta_fits(part, servers, slots, s);
+    let stop = meet(part, used, 0, how, right, Stop::LacksMeta);
+    Valued {
+        stop,
+        value: s.value,
+    }
 }
 
-pub fn ask_node(part: &[u8], servers: usize, slots: usize, used: &mut [u64], name: u64) -> Asked
+// A node of the store, in the part.
+fn place_node(part: &[u8], used: &mut [u64], name: u64) -> Placed
+    requires { ⌜ (name < end-of-names) × Noted (held (now part)) (now used) × ClientPart (now part) ⌝ }
+    ensures { λ r. ⌜ PlacedNode (now (part .entry)) (now (used .entry)) name r (now (used .exit)) ⌝ }
+{
+    let number = node_number(name);
+    let s = node_stands(part, number);
+    let how = s.how;
+    let right = stand_fits(part, s);
+    let stop = meet(part, used, number, how, right, Stop::LacksNode(name));
+    Placed { stop, place: s.at }
+}
+
+pub fn ask_node(part: &[u8], servers: usize, slots: usize, used: &mut [u64], name: u64) -> Placed
     requires { ⌜ Walking servers (now part) (now used) ⌝ }
-    ensures { λ r. ⌜ Answer (sizes servers slots) (held (now (part .entry))) nothing (now (used .entry)) (node name) (r .stop) (r .node)
-        (now (used .exit)) ⌝ }
+    ensures { λ r. ⌜ Answer (sizes servers slots) (held (now (part .entry))) nothing (now (used .entry)) (node name) (r .stop)
+        (placed-in (now (part .entry)) r) (now (used .exit)) ⌝ }
+    ensures within { λ r. ⌜ In-part (r .place) ⌝ }
 {
     let there = in_store(servers, slots, name);
     if !there {
-        return ask_outside(part, used);
+        let stop = ask_outside(part, used);
+        return Placed { stop, place: 0 };
     }
-    let number = node_number(name);
-    ask_number(part, servers, slots, used, number, Stop::LacksNode(name))
+    place_node(part, used, name)
 }
 
-// The object of that number: an own write of the operation, else in the part.
-fn see_number(
-    part: &[u8],
-    servers: usize,
-    slots: usize,
-    own: &[u64],
-    used: &mut [u64],
-    number: u64,
-    lacks: Stop,
-) -> Asked
-    requires { ⌜ (number < end-of-numbers) × WalkingOwn servers (now part) (now own) (now used) ⌝ }
-    ensures { λ r. ⌜ over-lent Numbered servers slots part own used number lacks (r .stop) (r .node) (now (used .exit)) ⌝ }
+// The node itself.
+fn taken_out(part: &[u8], p: Placed) -> Seen
+    requires { ⌜ In-part (p .place) × ClientPart (now part) ⌝ }
+    ensures { λ r. ⌜ r ≡ seen-in (now (part .entry)) p ⌝ }
 {
+    let stop = p.stop;
+    let on = going(stop);
+    if on {
+        let node = read_node(part, p.place);
+        return Seen { stop, node };
+    }
+    let node = Node::free(0);
+    Seen { stop, node }
+}
+
+// An own write of the operation, else what the part has.
+fn see_in_store(part: &[u8], own: &[u64], used: &mut [u64], name: u64) -> Seen
+    requires { ⌜ (name < end-of-names) × OwnGood (now own) × Noted (held (now part)) (now used) × ClientPart (now part) ⌝ }
+    ensures { λ r. ⌜ SeenNode (held (now (part .entry))) (now (own .entry)) (now (used .entry)) name r (now (used .exit)) ⌝ }
+{
+    let number = node_number(name);
     let f = find_own(own, number);
     match f {
-        Found::At(i) => Asked {
+        Found::At(i) => Seen {
             stop: Stop::Going,
             node: own_record(own, i),
         },
-        Found::Absent => ask_number(part, servers, slots, used, number, lacks),
+        Found::Absent => {
+            let p = place_node(part, used, name);
+            taken_out(part, p)
+        }
     }
 }
 
+// A node that the operation may have written.
 pub fn see_node(
     part: &[u8],
     servers: usize,
@@ -232,27 +261,38 @@ pub fn see_node(
     own: &[u64],
     used: &mut [u64],
     name: u64,
-) -> Asked
+) -> Seen
     requires { ⌜ WalkingOwn servers (now part) (now own) (now used) ⌝ }
     ensures { λ r. ⌜ over-lent Answer servers slots part own used (node name) (r .stop) (r .node) (now (used .exit)) ⌝ }
 {
     let there = in_store(servers, slots, name);
     if !there {
-        return ask_outside(part, used);
+        let stop = ask_outside(part, used);
+        let node = Node::free(0);
+        return Seen { stop, node };
     }
-    let number = node_number(name);
-    see_number(
-        part,
-        servers,
-        slots,
-        own,
-        used,
-        number,
-        Stop::LacksNode(name),
-    )
+    see_in_store(part, own, used, name)
 }
 
-// A flag is in its server's vector.
+// A flag of the store, in the part: it is in its server's vector.
+fn ask_flag(part: &[u8], used: &mut [u64], name: u64) -> Valued
+    requires { ⌜ (name < end-of-names) × Noted (held (now part)) (now used) × ClientPart (now part) ⌝ }
+    ensures { λ r. ⌜ AskedFlag (held (now (part .entry))) (now (used .entry)) name r (now (used .exit)) ⌝ }
+{
+    let number = flag_number(name);
+    let s = flag_source(part, name);
+    let how = s.how;
+    let right = flag_fits(part, name, s);
+    let flag = Name { number: name };
+    let server = flag.server();
+    let stop = meet(part, used, number, how, right, Stop::LacksVector(server));
+    Valued {
+        stop,
+        value: s.value,
+    }
+}
+
+// A flag that the operation may have written.
 pub fn see_flag(
     part: &[u8],
     servers: usize,
@@ -260,24 +300,22 @@ pub fn see_flag(
     own: &[u64],
     used: &mut [u64],
     name: u64,
-) -> Asked
+) -> Valued
     requires { ⌜ WalkingOwn servers (now part) (now own) (now used) ⌝ }
-    ensures { λ r. ⌜ over-lent Answer servers slots part own used (flag name) (r .stop) (r .node) (now (used .exit)) ⌝ }
+    ensures { λ r. ⌜ over-lent Answer servers slots part own used (flag name) (r .stop) (single 0 (r .value)) (now (used .exit)) ⌝ }
 {
     let there = in_store(servers, slots, name);
     if !there {
-        return ask_outside(part, used);
+        let stop = ask_outside(part, used);
+        return Valued { stop, value: 0 };
     }
     let number = flag_number(name);
-    let flag = Name { number: name };
-    let server = flag.server();
-    see_number(
-        part,
-        servers,
-        slots,
-        own,
-        used,
-        number,
-        Stop::LacksVector(server),
-    )
+    let f = find_own(own, number);
+    match f {
+        Found::At(i) => Valued {
+            stop: Stop::Going,
+            value: own_value(own, i),
+        },
+        Found::Absent => ask_flag(part, used, name),
+    }
 }

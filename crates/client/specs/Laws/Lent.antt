@@ -14,8 +14,10 @@ use Rattle.nodes.specs.declared.node.Node.{Node}
 use Rattle.nodes.specs.declared.found.Found.{Found}
 use Rattle.nodes.specs.declared.found.Found.the-variants.{At, Absent}
 use Rattle.nodes.specs.Stored.{words-of}
+use Rattle.nodes.specs.Laws.Standing.{slot-there}
+use Rattle.client.specs.Record.{first-slot}
 use Rattle.client.specs.Run.{among}
-use Rattle.client.specs.Lent.{Lent, InUse, used-in, pushed, OwnFits, own-find, own-at, own-put}
+use Rattle.client.specs.Lent.{Lent, InUse, used-in, pushed, OwnFits, own-record, own-find, own-at, own-put}
 
 -- ---- the copies in use
 pub among-append : (x : ℕ) (l m : List ℕ) → among x (l ++ m) ≡ (among x l || among x m)
@@ -138,3 +140,8 @@ own-set w words w′ x i n e p = p ∙ rw e
 
 pub small-nth : (u : List ℕ) (n i : ℕ) → InUse u → n ≡ getD u 0 0 → i < n → getD u (i + 1) 0 < 16385
 small-nth u n i f e h = f .small i (omega arith)
+
+-- the value of an own write of the metadata or a flag
+pub own-value-there : (w : List ℕ) (i r : ℕ) → r ≡ getD w (34 * i + 20) 0 → r ≡ first-slot (own-record w i)
+unfolding own-record
+own-value-there w i r e = let z : 34 * i + 2 + 18 + 0 ≡ 34 * i + 20 = omega arith in slot-there w (34 * i + 2) r 0 (omega arith) (rw z e)

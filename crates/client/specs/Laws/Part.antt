@@ -93,15 +93,19 @@ got-copy s ws k a h p l b e =
 pub got-vector : (s : List ℕ) (k j a r : ℕ) → k < 8 → j < 17 → a ≡ at client-words client-block (vector-word k 0) → r ≡ getD (view s) (a + j) 0 → r ≡ held s (vector-word k j)
 got-vector s k j a r h l p e = got-word s (vector-word k) a 17 j r (rw p (vector-run k h)) l e
 
-pub got-record : (s : List ℕ) (k : Set) (i a : ℕ) (r : Node) → i < limit k → a ≡ at client-words client-block (item k i 0) → a + 34 ≤ 7223 → 7223 ≤ length s / 8
-    → r ≡ node-at (view s) (a + 1) → r ≡ record-at (held s) k i
+pub record-there : (s : List ℕ) (k : Set) (i a : ℕ) → i < limit k → a ≡ at client-words client-block (item k i 0) + 1 → a + 33 ≤ 7223 → 7223 ≤ length s / 8
+    → node-at (view s) a ≡ record-at (held s) k i
 unfolding held record-at node-at
-got-record s k i a r h p l b e =
-    e ∙ ap node-of (mem-run client-words client-block 33 (view s) (λ j. item k i (suc j)) (a + 1) (later (item-run k i h) p) (omega (arith, view-length s)))
+record-there s k i a h p l b =
+    ap node-of (mem-run client-words client-block 33 (view s) (λ j. item k i (suc j)) a (later (item-run k i h) p) (omega (arith, view-length s)))
   where
-    later : Run client-words client-block (item k i) (at client-words client-block (item k i 0)) 34 → a ≡ at client-words client-block (item k i 0)
-        → Run client-words client-block (λ j. item k i (suc j)) (a + 1) 33
+    later : Run client-words client-block (item k i) (at client-words client-block (item k i 0)) 34 → a ≡ at client-words client-block (item k i 0) + 1
+        → Run client-words client-block (λ j. item k i (suc j)) a 33
     later u p = record { good = λ j g. u .good (suc j) (omega arith); spot = λ j g. u .spot (suc j) (omega arith) ∙ rw p (omega arith) }
+
+pub got-record : (s : List ℕ) (k : Set) (i a : ℕ) (r : Node) → i < limit k → a ≡ at client-words client-block (item k i 0) + 1 → a + 33 ≤ 7223 → 7223 ≤ length s / 8
+    → r ≡ node-at (view s) a → r ≡ record-at (held s) k i
+got-record s k i a r h p l b e = e ∙ record-there s k i a h p l b
 
 -- ---- writing
 pub field-done : (i v : ℕ) (w w′ : List ℕ) → w′ ≡ set w i v → Does client-words client-block (put-field i v) silent w 0 w′

@@ -8,7 +8,7 @@ use borrow.Author.Tests.{eqb-true, leb-true, le-leb}
 use lib.Dec.{eqb, leb}
 use Rattle.base.specs.Test.{and-both}
 use Rattle.nodes.specs.declared.node.Node.{Node}
-use Rattle.nodes.specs.Range.{level-fits, count-fits, node-in-range}
+use Rattle.nodes.specs.Range.{level-fits, count-fits, fields-in-range, node-in-range}
 
 -- ---- laws
 module _ (n : Node) where
@@ -52,6 +52,5 @@ module _ (n : Node) where
         go (suc (suc (suc k))) l c g p q = absurd (omega arith)
 
 -- where the code has asked all but the count of an inner node
-pub inner-range : (n : Node) → n .kind ≡ 2 → n .version ≤ 4294967295 → 1 ≤ n .level → n .level ≤ 4 → leb (n .count) 14 ≡ node-in-range n
-unfolding node-in-range
-inner-range n k v l m = rw (k, le-leb (n .version) 4294967295 v, le-leb 1 (n .level) l, le-leb (n .level) 4 m)
+pub inner-range : (k l v c : ℕ) → k ≡ 2 → v ≤ 4294967295 → 1 ≤ l → l ≤ 4 → leb c 14 ≡ fields-in-range k l v c
+inner-range k l v c e f g h = rw (e, le-leb v 4294967295 f, le-leb 1 l g, le-leb l 4 h)

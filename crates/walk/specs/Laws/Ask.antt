@@ -1,5 +1,5 @@
 -- Laws of a question: own writes, then what the part has.
-use mathlib.Core.Path.{_≡_, refl, sym, ap, _∙_}
+use mathlib.Core.Path.{_≡_, refl, sym, ap, _∙_, subst}
 use mathlib.Core.Bool.{Bool, true, false, _&&_, _||_, not}
 use mathlib.Core.List.{List, [], _∷_, _++_}
 use mathlib.Core.Option.{Option, none, some}
@@ -23,22 +23,30 @@ use Rattle.nodes.specs.Found.{Inside}
 use Rattle.operations.specs.Object.{Obj, meta, node, flag, Ask, object, vector, fetched, Val, Writes, hit}
 use Rattle.operations.specs.Slot.{TreeSizes}
 use Rattle.operations.specs.Path.{TreePlan, see}
+use Rattle.memory.specs.Word.{view}
+use Rattle.nodes.specs.Lists.{pad}
+use Rattle.nodes.specs.Stored.{node-at}
 use Rattle.client.specs.declared.answer.Look.{Look}
-use Rattle.walk.specs.declared.walk.Asked.{Asked}
+use Rattle.client.specs.declared.answer.Stand.{Stand}
+use Rattle.client.specs.declared.answer.Short.{Short}
+use Rattle.walk.specs.declared.walk.Placed.{Placed}
+use Rattle.walk.specs.declared.walk.Seen.{Seen}
+use Rattle.walk.specs.declared.walk.Valued.{Valued}
 use Rattle.walk.specs.declared.walk.Stop.{Stop}
 use Rattle.walk.specs.declared.walk.Stop.the-variants.{Going, LacksMeta, LacksNode, LacksVector, Refused, Aborts}
 use Rattle.client.specs.declared.part.Set.the-variants.{Reads, Copies}
 use Rattle.client.specs.Layout.{ClientWord, reads-count, meta-copied, vector-word}
-use Rattle.client.specs.Record.{number, sizes, object-in-store, in-store, value-of, record-in-range}
-use Rattle.client.specs.Sets.{count, find, first-of}
-use Rattle.client.specs.Have.{is-copied, is-found, copied, copied-meta, copied-item, copied-node, copied-flag, copy-fits, source, look-fits, have, broken}
+use Rattle.client.specs.Record.{number, sizes, object-in-store, in-store, first-slot, value-of, single, record-in-range}
+use Rattle.client.specs.Sets.{held, count, find, first-of}
+use Rattle.client.specs.Have.{is-copied, is-found, stood, short, IsNode, node-usable, meta-usable, flag-usable, copied, copied-meta, copied-item, copied-node, copied-flag, copy-fits, source, look-fits, have, broken}
+use Rattle.client.specs.Laws.Look.{node-usable-is, meta-usable-is, flag-usable-is}
 use Rattle.client.specs.Run.{lacks, Ran, ran, among, run}
 use Rattle.client.specs.Lent.{own-find, own-first, own-record, own-list, Lent, used-in, pushed}
 use Rattle.client.specs.Answered.{entered}
 use Rattle.walk.specs.Laws.Met.{Way, Here, Copied, Full, Lacking, Broken, Met, here, copy, full, lacking, unfit, is-new, taken-up, looked, at-hand, used-after}
-use Rattle.walk.specs.Walk.{goes, lack, fresh, room, over, worked, walked}
+use Rattle.walk.specs.Walk.{goes, lack, fresh, room, over, worked, walked, carry}
 use Rattle.walk.specs.Laws.Walk.{full-ask, judged-over}
-use Rattle.walk.specs.Ask.{Small, write-of, OwnGood, Holds-writes, nothing, Noted, Asks, Numbered, Outside, Answer, popped, stopped, noted-copy}
+use Rattle.walk.specs.Ask.{Small, write-of, OwnGood, Holds-writes, nothing, Noted, Asks, Numbered, Outside, Answer, given, Meets, placed-in, seen-in, PlacedNode, SeenNode, AskedFlag, popped, noted-copy}
 use Rattle.plans.specs.Plan as P
 use Rattle.client.specs.declared.part.Set.the-variants as set
 use Rattle.client.specs.declared.answer.How.{How}
@@ -355,12 +363,12 @@ pushed-noted m u x b f h =
     go i (no d) l = rw (getD-set-other u (c + 1) (i + 1) x 0 (λ e. d (omega arith))) (f .each i (omega arith))
 
 module _ (z : TreeSizes) (m : ClientWord → ℕ) (u : List ℕ) (n : ℕ) (l : Stop) (eight : z .servers ≤ 8) (near : n < 16385) (h : Noted m u) where
-  pub asked-over : (c : Bool) (r : Asked) (u′ : List ℕ) → c ≡ over m (used-in u) → c ≡ true → r ≡ stopped (Aborts 4) → u′ ≡ popped u → Numbered z m nothing u n l (r .stop) (r .node) u′
-  asked-over c r u′ vc ct pr pu =
+  asked-over : (u′ : List ℕ) → over m (used-in u) ≡ true → u′ ≡ popped u → Numbered z m nothing u n l (Aborts 4) (free-node 0) u′
+  asked-over u′ v pu =
       let b : getD u 0 0 ≤ 97 = omega arith in
-      rw (pr, pu) (record {
+      rw pu (record {
         asks = λ o p t b′ w hold. let y : write-of w o ≡ none = sym (hold .same o t) ∙ rw (none-own nothing (number o) refl) in
-            record { same = λ k. rw (see-is w o k, y, full-ask z m (used-in u) (object o) k (sym vc ∙ ct), popped-used u (h .long) b) };
+            record { same = λ k. rw (see-is w o k, y, full-ask z m (used-in u) (object o) k v, popped-used u (h .long) b) };
         noted = popped-noted m u h;
         long = simp length-set;
         small = λ o p t. free-small o;
@@ -427,39 +435,108 @@ module _ (z : TreeSizes) (m : ClientWord → ℕ) (u : List ℕ) (n : ℕ) (l : 
     small = λ o p t. rw (hand-node v (looked z m nothing u n), ← p) (looked-small z m nothing u o eight t (λ i q. absent-at i (sym (none-own nothing (number o) refl) ∙ q)));
   })
 
-  module _ (c : Bool) (vc : c ≡ over m (used-in u)) (cf : c ≡ false) (a : Look) (pa : a ≡ source m n) (f : Bool) (pf : f ≡ is-found (a .how)) where
-    under : over m (used-in u) ≡ false
-    under = sym vc ∙ cf
-
-    pub asked-lacking : (r : Asked) → not f ≡ true → r ≡ stopped l → Numbered z m nothing u n l (r .stop) (r .node) u
+  module _ (under : over m (used-in u) ≡ false) where
+    asked-lacking : is-found (source m n .how) ≡ false → Numbered z m nothing u n l l (free-node 0) u
     unfolding looked at-hand used-after
-    asked-lacking r nf pr =
-        let k : is-found (source m n .how) ≡ false = rw pa at (sym pf ∙ not-true f nf) in
-        rw pr (looked-found under lacking (rw (looked, none-own nothing n refl, k)))
+    asked-lacking k = looked-found under lacking (rw (looked, none-own nothing n refl, k))
 
-    module _ (nf : not f ≡ false) (g : Bool) (pg : g ≡ look-fits z m n a) where
-      k : is-found (source m n .how) ≡ true
-      k = rw pa at (sym pf ∙ not-false f nf)
-
-      pub asked-broken : (r : Asked) → not g ≡ true → r ≡ stopped Refused → Numbered z m nothing u n l (r .stop) (r .node) u
+    module _ (k : is-found (source m n .how) ≡ true) where
+      asked-broken : look-fits z m n (source m n) ≡ false → Numbered z m nothing u n l Refused (free-node 0) u
       unfolding looked at-hand used-after
-      asked-broken r ng pr =
-          let q : look-fits z m n (source m n) ≡ false = rw pa at (sym pg ∙ not-true g ng) in
-          rw pr (looked-found under unfit (rw (looked, none-own nothing n refl, k, q)))
+      asked-broken q = looked-found under unfit (rw (looked, none-own nothing n refl, k, q))
 
-      pub asked-going : (u′ : List ℕ) → not g ≡ false → u′ ≡ noted-copy (a .how) u n → Numbered z m nothing u n l Going (a .node) u′
+      asked-going : (u′ : List ℕ) → look-fits z m n (source m n) ≡ true → u′ ≡ noted-copy (source m n .how) u n → Numbered z m nothing u n l Going (source m n .node) u′
       unfolding looked taken-up at-hand used-after noted-copy
-      asked-going u′ ng pu = rw (pu, pa) (go (is-copied (source m n .how)) refl (among n (used-in u)) refl (ltb (count m Reads + length (used-in u)) 96) refl)
+      asked-going u′ q pu = rw pu (go (is-copied (source m n .how)) refl (among n (used-in u)) refl (ltb (count m Reads + length (used-in u)) 96) refl)
         where
-          q : look-fits z m n (source m n) ≡ true
-          q = rw pa at (sym pg ∙ not-false g ng)
-
           go : (b : Bool) → is-copied (source m n .how) ≡ b → (d : Bool) → among n (used-in u) ≡ d → (e : Bool) → ltb (count m Reads + length (used-in u)) 96 ≡ e
               → Numbered z m nothing u n l Going (source m n .node) (noted-copy (source m n .how) u n)
           go false pb d pd e pe = rw (noted-copy, pb) (looked-found under (here (source m n .node)) (rw (looked, none-own nothing n refl, k, q, pb)))
           go true pb true pd e pe = rw (noted-copy, pb, pd) (looked-found under (here (source m n .node)) (rw (looked, none-own nothing n refl, k, q, pb, taken-up, pd)))
           go true pb false pd true pe = rw (noted-copy, pb, pd) (looked-found under (copy (source m n .node)) (rw (looked, none-own nothing n refl, k, q, pb, taken-up, pd, pe)))
           go true pb false pd false pe = rw (noted-copy, pb, pd) (looked-found under (full (source m n .node)) (rw (looked, none-own nothing n refl, k, q, pb, taken-up, pd, pe)))
+
+-- as the code asks
+module _ (m : ClientWord → ℕ) (u : List ℕ) (n : ℕ) (how : How) (right : Bool) (l : Stop) (near : n < 16385) (h : Noted m u) (c : Bool) (vc : c ≡ over m (used-in u)) where
+  pub meets-over : (u′ : List ℕ) → c ≡ true → u′ ≡ popped u → Meets m u n how right l (Aborts 4) u′
+  meets-over u′ t pu = record { numbered = λ z e p q. asked-over z m u n l e near h u′ (sym vc ∙ t) pu; found = λ g. never refl g }
+
+  module _ (cf : c ≡ false) (f : Bool) (pf : f ≡ is-found how) where
+    pub meets-lacking : goes l ≡ false → not f ≡ true → Meets m u n how right l l u
+    meets-lacking gl nf =
+        record {
+          numbered = λ z e p q. let k : is-found (source m n .how) ≡ false = rw p at (sym pf ∙ not-true f nf) in rw gl (asked-lacking z m u n l e near h (sym vc ∙ cf) k);
+          found = λ g. never gl g;
+        }
+
+    module _ (nf : not f ≡ false) where
+      there : is-found how ≡ true
+      there = sym pf ∙ not-false f nf
+
+      pub meets-unfit : not right ≡ true → Meets m u n how right l Refused u
+      meets-unfit nr =
+          record {
+            numbered = λ z e p q. asked-broken z m u n l e near h (sym vc ∙ cf) (rw p at there) (sym (q there) ∙ not-true right nr);
+            found = λ g. never refl g;
+          }
+
+      pub meets-fit : (u′ : List ℕ) → not right ≡ false → u′ ≡ noted-copy how u n → Meets m u n how right l Going u′
+      meets-fit u′ nr pu =
+          record {
+            numbered = λ z e p q. asked-going z m u n l e near h (sym vc ∙ cf) (rw p at there) u′ (sym (q there) ∙ not-false right nr) (rw p at pu);
+            found = λ g. there;
+          }
+
+-- the record of a walk that stopped is not looked at
+given-as : (s : Stop) (r r′ : Node) → (goes s ≡ true → r ≡ r′) → given s r ≡ given s r′
+given-as s r r′ h = go (goes s) refl
+  where
+    go : (b : Bool) → goes s ≡ b → given s r ≡ given s r′
+    go true e = rw (e, h e)
+    go false e = rw e
+
+pub given-small : (n : ℕ) (s : Stop) (r : Node) → Small (node n) r → Small (node n) (given s r)
+given-small n s r h = go (goes s) refl
+  where
+    go : (b : Bool) → goes s ≡ b → Small (node n) (given s r)
+    go true e = rw e h
+    go false e = rw e (free-small (node n))
+
+module _ (z : TreeSizes) (m : ClientWord → ℕ) (x u : List ℕ) (o : Obj) (s : Stop) (r r′ : Node) (u′ : List ℕ) where
+  pub answer-as : (goes s ≡ true → value-of o r ≡ value-of o r′) → Small o r′ → Answer z m x u o s r u′ → Answer z m x u o s r′ u′
+  answer-as v sm a =
+      record { asks = λ w hold. record { same = λ k. a .asks w hold .same k ∙ go (goes s) refl k }; noted = a .noted; long = a .long; inside = a .inside; small = sm }
+    where
+      go : (b : Bool) → goes s ≡ b → (k : Val → TreePlan) → carry s (used-in u′) (λ us. walked z m (k (value-of o r)) us) ≡ carry s (used-in u′) (λ us. walked z m (k (value-of o r′)) us)
+      go true e k = rw (e, v e)
+      go false e k = rw e
+
+-- ---- a node of the store, where it stands in the part
+module _ (b u : List ℕ) (n k : ℕ) (q : Stand) (right : Bool) (s : Stop) (u′ : List ℕ) where
+  pub node-placed : k ≡ 1 + n → n < 8192 → stood (view b) q ≡ source (held b) k → q .at + 33 ≤ 7223 → right ≡ node-usable (q .how) (node-at (view b) (q .at))
+      → Meets (held b) u k (q .how) right (LacksNode n) s u′ → PlacedNode b u n (record { stop = s; place = q .at }) u′
+  node-placed e h st w pr g =
+      record {
+        numbered = λ z eight. rw (← e) (subst (λ (r : Node). Numbered z (held b) nothing u k (LacksNode n) s r u′) (given-as s (source (held b) k .node) (node-at (view b) (q .at)) same)
+            (g .numbered z eight (ap (λ (y : Look). y .how) st) (λ t. pr ∙ fits z t)));
+        within = w;
+      }
+    where
+      node-is : is-found (q .how) ≡ true → source (held b) k .node ≡ node-at (view b) (q .at)
+      node-is t = ap (λ (y : Look). y .node) (sym st) ∙ rw t
+
+      same : goes s ≡ true → source (held b) k .node ≡ node-at (view b) (q .at)
+      same t = node-is (g .found t)
+
+      fits : (z : TreeSizes) → is-found (q .how) ≡ true → node-usable (q .how) (node-at (view b) (q .at)) ≡ look-fits z (held b) k (source (held b) k)
+      fits z t =
+          ap (node-usable (q .how)) (sym (node-is t)) ∙ ap (λ (y : How). node-usable y (source (held b) k .node)) (ap (λ (y : Look). y .how) st)
+          ∙ sym (node-usable-is z (held b) k (source (held b) k) (record { some = λ d. omega arith; most = omega arith }))
+
+pub node-is-node : (n k : ℕ) → k ≡ 1 + n → n < 8192 → IsNode k
+node-is-node n k e h = record { some = λ d. omega arith; most = omega arith }
+
+pub ruleset placed-exits = (node-placed, node-is-node)
 
 -- ---- an object seen: an own write, else what was asked for
 module _ (z : TreeSizes) (m : ClientWord → ℕ) (x u : List ℕ) (n : ℕ) (l : Stop) (h : Noted m u) (g : OwnGood x) (f : Found) (pf : f ≡ own-find x n) where
@@ -488,9 +565,6 @@ module _ (z : TreeSizes) (m : ClientWord → ℕ) (x u : List ℕ) (n : ℕ) (l 
       }
 
 -- ---- ways out of the code that asks
-pub stopped-is : (s : Stop) (n : Node) → n ≡ free-node 0 → _≡_ {A = Asked} (record { stop = s; node = n }) (stopped s)
-stopped-is s n e = rw e
-
 pub at-inside : (f : Found) (i n : ℕ) → Inside f n → f ≡ At i → i < n
 at-inside f i n h e = h .inside i e
 
@@ -534,53 +608,127 @@ module _ (m : ClientWord → ℕ) (u : List ℕ) (b : Bool) (e : b ≡ over m (u
   pub under-lent : b ≡ false → Lent u
   under-lent f = not-over m u h (sym e ∙ f)
 
-pub ruleset number-exits = (over-some, over-long, under-lent, asked-over, asked-lacking, asked-broken, asked-going)
+pub ruleset meet-exits = (over-some, over-long, under-lent, meets-over, meets-lacking, meets-unfit, meets-fit)
 
-pub ruleset seen-exits = (seen-own, seen-asked, at-inside)
+module _ (b x u : List ℕ) (n k : ℕ) (e : k ≡ 1 + n) (h : Noted (held b) u) (g : OwnGood x) (f : Found) (pf : f ≡ own-find x k) where
+  pub node-own : (i : ℕ) (r : Node) → f ≡ At i → r ≡ own-record x i → SeenNode (held b) x u n (record { stop = Going; node = r }) u
+  node-own i r d q = record { numbered = λ z eight. rw (← e) (seen-own z (held b) x u k (LacksNode n) h g f pf i r d q) }
+
+  pub node-seen : (p : Placed) (a : Seen) (u′ : List ℕ) → f ≡ Absent → PlacedNode b u n p u′ → a ≡ seen-in b p → SeenNode (held b) x u n a u′
+  node-seen p a u′ d q t = rw t (record { numbered = λ z eight. rw (← e) (seen-asked z (held b) x u k (LacksNode n) h g f pf (p .stop) (placed-in b p) u′ d (rw (← e) at (q .numbered z eight))) })
+
+  pub node-within : (p : Placed) (u′ : List ℕ) → PlacedNode b u n p u′ → p .place + 33 ≤ 7223
+  node-within p u′ q = q .within
+
+pub ruleset seen-exits = (node-own, node-seen, node-within, at-inside)
+
+pub taken-going : (b : List ℕ) (p : Placed) (c : Bool) (n : Node) → c ≡ goes (p .stop) → c ≡ true → n ≡ node-at (view b) (p .place) → _≡_ {A = Seen} (record { stop = p .stop; node = n }) (seen-in b p)
+taken-going b p c n e t q = rw (← e, t, q)
+
+pub taken-stopped : (b : List ℕ) (p : Placed) (c : Bool) (n : Node) → c ≡ goes (p .stop) → c ≡ false → n ≡ free-node 0 → _≡_ {A = Seen} (record { stop = p .stop; node = n }) (seen-in b p)
+taken-stopped b p c n e t q = rw (← e, t, q)
 
 module _ (m : ClientWord → ℕ) (u : List ℕ) (b : Bool) (e : b ≡ over m (used-in u)) (h : Noted m u) where
-  pub out-over : (r : Asked) (u′ : List ℕ) → b ≡ true → r ≡ stopped (Aborts 4) → u′ ≡ popped u → Outside m u (r .stop) (r .node) u′
-  out-over r u′ t q p =
+  pub out-over : (u′ : List ℕ) → b ≡ true → u′ ≡ popped u → Outside m u (Aborts 4) u′
+  out-over u′ t p =
       let c : getD u 0 0 ≤ 97 = omega arith in
-      rw (q, p) (record {
-        asks = λ z x o f w hold. record { same = λ k. rw (see-is w o k, hold .out o f, full-ask z m (used-in u) (object o) k (sym e ∙ t), popped-used u (h .long) c) };
+      rw p (record {
+        asks = λ z x o f w hold r. record { same = λ k. rw (see-is w o k, hold .out o f, full-ask z m (used-in u) (object o) k (sym e ∙ t), popped-used u (h .long) c) };
         noted = popped-noted m u h;
         long = simp length-set;
         stops = refl;
-        small = λ o. free-small o;
       })
 
-  pub out-refused : (r : Asked) → b ≡ false → r ≡ stopped Refused → Outside m u (r .stop) (r .node) u
+  pub out-refused : b ≡ false → Outside m u Refused u
   unfolding walked worked run have broken
-  out-refused r t q =
+  out-refused t =
       let v : over m (used-in u) ≡ false = sym e ∙ t in
-      rw q (record {
-        asks = λ z x o f w hold. record { same = λ k. rw (see-is w o k, hold .out o f, walked, worked, run, have, v, f, broken, f) };
+      record {
+        asks = λ z x o f w hold r. record { same = λ k. rw (see-is w o k, hold .out o f, walked, worked, run, have, v, f, broken, f) };
         noted = h;
         long = refl;
         stops = refl;
-        small = λ o. free-small o;
-      })
+      }
 
 pub ruleset outside-exits = (over-some, over-long, out-over, out-refused)
 
-module _ (z : TreeSizes) (m : ClientWord → ℕ) (x u : List ℕ) (n : ℕ) (s : Stop) (r : Node) (u′ : List ℕ) (b : Bool) (e : b ≡ in-store z n) where
-  pub node-out : not b ≡ true → Outside m u s r u′ → Answer z m x u (node n) s r u′
-  node-out t h = record { asks = λ w hold. h .asks z x (node n) (sym e ∙ not-true b t) w hold; noted = h .noted; long = h .long; inside = λ g. never (h .stops) g; small = h .small (node n) }
+single-small : (o : Obj) (v : ℕ) → Small o (single 0 v)
+unfolding single made
+single-small meta v = tt
+single-small (node n) v = record { keys = omega arith; level = omega arith }
+single-small (flag n) v = tt
 
-  pub flag-out : not b ≡ true → Outside m u s r u′ → Answer z m x u (flag n) s r u′
-  flag-out t h = record { asks = λ w hold. h .asks z x (flag n) (sym e ∙ not-true b t) w hold; noted = h .noted; long = h .long; inside = λ g. never (h .stops) g; small = h .small (flag n) }
+pub first-single : (v : ℕ) → first-slot (single 0 v) ≡ v
+unfolding single made pad
+first-single v = refl
 
-  pub node-found : (k : ℕ) → not b ≡ false → k ≡ 1 + n → Numbered z m x u k (LacksNode n) s r u′ → Answer z m x u (node n) s r u′
-  node-found k t p h =
-      record { asks = λ w hold. h .asks (node n) (sym p) (sym e ∙ not-false b t) refl w hold; noted = h .noted; long = h .long; inside = λ g. sym e ∙ not-false b t; small = h .small (node n) (sym p) (sym e ∙ not-false b t) }
+module _ (z : TreeSizes) (m : ClientWord → ℕ) (x u : List ℕ) (n : ℕ) (b : Bool) (e : b ≡ in-store z n) where
+  module _ (s : Stop) (u′ : List ℕ) (t : not b ≡ true) (h : Outside m u s u′) where
+    outside-is : (r : Node) → Small (node n) r → Answer z m x u (node n) s r u′
+    outside-is r sm = record { asks = λ w hold. h .asks z x (node n) (sym e ∙ not-true b t) w hold r; noted = h .noted; long = h .long; inside = λ g. never (h .stops) g; small = sm }
 
-  pub flag-found : (k q : ℕ) → not b ≡ false → k ≡ 8193 + n → q ≡ server-of n → Numbered z m x u k (LacksVector q) s r u′ → Answer z m x u (flag n) s r u′
-  flag-found k q t p o h =
-      record { asks = λ w hold. h .asks (flag n) (sym p) (sym e ∙ not-false b t) (ap LacksVector (sym o)) w hold; noted = h .noted; long = h .long; inside = λ g. sym e ∙ not-false b t; small = h .small (flag n) (sym p) (sym e ∙ not-false b t) }
+    pub node-out : (r : Node) → Answer z m x u (node n) s (given s r) u′
+    node-out r = outside-is (given s r) (rw (h .stops) (free-small (node n)))
 
-pub meta-found : (z : TreeSizes) (m : ClientWord → ℕ) (x u : List ℕ) (s : Stop) (r : Node) (u′ : List ℕ) → Numbered z m x u 0 LacksMeta s r u′ → Answer z m x u meta s r u′
-meta-found z m x u s r u′ h = record { asks = λ w hold. h .asks meta refl refl refl w hold; noted = h .noted; long = h .long; inside = λ g. refl; small = h .small meta refl refl }
+    pub node-out-free : (r : Node) → r ≡ free-node 0 → Answer z m x u (node n) s r u′
+    node-out-free r q = rw q (outside-is (free-node 0) (free-small (node n)))
+
+    pub flag-out : (v : ℕ) → Answer z m x u (flag n) s (single 0 v) u′
+    flag-out v =
+        record { asks = λ w hold. h .asks z x (flag n) (sym e ∙ not-true b t) w hold (single 0 v); noted = h .noted; long = h .long; inside = λ g. never (h .stops) g; small = tt }
+
+  module _ (t : not b ≡ false) where
+    node-found : (s : Stop) (r : Node) (u′ : List ℕ) → Numbered z m x u (1 + n) (LacksNode n) s r u′ → Answer z m x u (node n) s r u′
+    node-found s r u′ h =
+        record { asks = λ w hold. h .asks (node n) refl (sym e ∙ not-false b t) refl w hold; noted = h .noted; long = h .long; inside = λ g. sym e ∙ not-false b t; small = h .small (node n) refl (sym e ∙ not-false b t) }
+
+    pub node-see : z .servers ≤ 8 → (a : Seen) (u′ : List ℕ) → SeenNode m x u n a u′ → Answer z m x u (node n) (a .stop) (a .node) u′
+    node-see eight a u′ h = node-found (a .stop) (a .node) u′ (h .numbered z eight)
+
+    flag-found : (s : Stop) (r : Node) (v : ℕ) (u′ : List ℕ) → (goes s ≡ true → v ≡ first-slot r) → Numbered z m x u (8193 + n) (LacksVector (server-of n)) s r u′
+        → Answer z m x u (flag n) s (single 0 v) u′
+    flag-found s r v u′ q h =
+        answer-as z m x u (flag n) s r (single 0 v) u′ (λ g. rw (first-single v, q g)) tt
+        (record { asks = λ w hold. h .asks (flag n) refl (sym e ∙ not-false b t) refl w hold; noted = h .noted; long = h .long; inside = λ g. sym e ∙ not-false b t; small = tt })
+
+    module _ (k : ℕ) (d : k ≡ 8193 + n) (h : Noted m u) (g : OwnGood x) (f : Found) (pf : f ≡ own-find x k) where
+      pub flag-own : (i v : ℕ) → f ≡ At i → v ≡ first-slot (own-record x i) → Answer z m x u (flag n) Going (single 0 v) u
+      flag-own i v c q =
+          flag-found Going (own-record x i) v u (λ a. q) (rw d at (seen-own z m x u k (LacksVector (server-of n)) h g f pf i (own-record x i) c refl))
+
+      pub flag-asked : z .servers ≤ 8 → (v : Valued) (u′ : List ℕ) → f ≡ Absent → AskedFlag m u n v u′ → Answer z m x u (flag n) (v .stop) (single 0 (v .value)) u′
+      flag-asked eight v u′ c a =
+          flag-found (v .stop) (a .node) (v .value) u′ (a .value)
+          (seen-asked z m x u (8193 + n) (LacksVector (server-of n)) h g f (rw d at pf) (v .stop) (a .node) u′ c (a .numbered z eight))
+
+pub node-ask : (servers slots : ℕ) (c u : List ℕ) (n : ℕ) (b : Bool) → b ≡ in-store (sizes servers slots) n → not b ≡ false → servers ≤ 8 → (p : Placed) (u′ : List ℕ) → PlacedNode c u n p u′
+    → Answer (sizes servers slots) (held c) nothing u (node n) (p .stop) (placed-in c p) u′
+node-ask servers slots c u n b e t eight p u′ h =
+    node-found (sizes servers slots) (held c) nothing u n b e t (p .stop) (placed-in c p) u′ (h .numbered (sizes servers slots) eight)
+
+pub ask-within : (c u : List ℕ) (n : ℕ) (p : Placed) (u′ : List ℕ) → PlacedNode c u n p u′ → p .place + 33 ≤ 7223
+ask-within c u n p u′ h = h .within
+
+-- a flag of the store
+pub flag-met : (m : ClientWord → ℕ) (u : List ℕ) (n k y : ℕ) (q : Short) (right : Bool) (s : Stop) (u′ : List ℕ) → k ≡ 8193 + n → y ≡ server-of n → q ≡ short (source m (8193 + n)) → right ≡ flag-usable m n q
+    → Meets m u k (q .how) right (LacksVector y) s u′ → AskedFlag m u n (record { stop = s; value = q .value }) u′
+flag-met m u n k y q right s u′ e o sh pr g =
+    record {
+      node = given s (source m (8193 + n) .node);
+      numbered = λ z eight. rw (o, e) at (g .numbered z eight (rw e how-is) (λ t. rw e (pr ∙ ap (flag-usable m n) sh ∙ sym (flag-usable-is z m n (source m (8193 + n))))));
+      value = λ t. rw t (ap (λ (y : Short). y .value) sh);
+    }
+  where
+    how-is : q .how ≡ source m (8193 + n) .how
+    how-is = ap (λ (y : Short). y .how) sh
+
+-- the metadata
+pub meta-met : (z : TreeSizes) (m : ClientWord → ℕ) (u : List ℕ) (q : Short) (right : Bool) (s : Stop) (u′ : List ℕ) → z .servers ≤ 8 → q ≡ short (source m 0) → right ≡ meta-usable z m q
+    → Meets m u 0 (q .how) right LacksMeta s u′ → Answer z m nothing u meta s (single 0 (q .value)) u′
+meta-met z m u q right s u′ eight sh pr g =
+    let h = g .numbered z eight (ap (λ (y : Short). y .how) sh) (λ t. pr ∙ ap (meta-usable z m) sh ∙ sym (meta-usable-is z m (source m 0))) in
+    answer-as z m nothing u meta s (given s (source m 0 .node)) (single 0 (q .value)) u′ (λ t. rw (t, first-single (q .value), ap (λ (y : Short). y .value) sh)) tt
+    (record { asks = λ w hold. h .asks meta refl refl refl w hold; noted = h .noted; long = h .long; inside = λ t. refl; small = tt })
 
 pub name-small : (servers slots n : ℕ) (b : Bool) → b ≡ in-store (sizes servers slots) n → servers ≤ 8 → not b ≡ false → n < 8192
 unfolding in-store
@@ -588,4 +736,4 @@ name-small servers slots n b e h t =
     let a : n / 1024 < servers = ltb-true _ _ (and-both _ _ (sym e ∙ not-false b t) .0) in
     omega arith
 
-pub ruleset answer-exits = (node-out, flag-out, node-found, flag-found, meta-found, name-small)
+pub ruleset answer-exits = (node-out, node-out-free, flag-out, node-ask, ask-within, node-see, flag-own, flag-asked, name-small, at-inside)

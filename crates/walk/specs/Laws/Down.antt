@@ -1,140 +1,177 @@
 -- Laws of the way down.
-use mathlib.Core.Path.{_≡_, refl, sym, _∙_}
+use mathlib.Core.Path.{_≡_, refl, sym, ap, _∙_}
 use mathlib.Core.Bool.{Bool, true, false, not}
-use mathlib.Core.List.{List, [], _∷_}
-use Prim.Native.Nat.{ℕ, zero, suc, _-_, _≤_, _<_}
+use mathlib.Core.List.{List, [], _∷_, map}
+use Prim.Native.Nat.{ℕ, zero, suc, _+_, _-_, _/_, _≤_, _<_}
 use native.Mathlib.Omega.{arith}
-use lib.ListN.{length, getD, set, length-set}
-use lib.Seq.{getD-set-same, getD-set-other}
+use native.Mathlib.Decide.{ℕ-discrete}
+use native.Mathlib.Numerals.{add-one}
+use lib.ListN.{length, getD, take, set, length-set}
+use lib.Seq.{getD-set-same, getD-set-other, take-suc, take-suc-set, take-all}
 use borrow.Author.Tests.{not-true, not-false}
 use Rattle.nodes.specs.declared.node.Node.{Node}
 use Rattle.nodes.specs.Place.{place}
 use Rattle.nodes.specs.Node.{keysOf}
 use Rattle.nodes.specs.Entries.{entriesOf}
 use Rattle.nodes.specs.Kept.{Whole}
+use Rattle.nodes.specs.Stored.{node-at}
+use Rattle.nodes.specs.Laws.Stored.{Sized}
+use Rattle.nodes.specs.Laws.Standing.{standing-sized}
+use Rattle.memory.specs.Word.{view}
 use Rattle.nodes.specs.Laws.Kept.{whole, length-entriesOf}
 use Rattle.operations.specs.Object.{meta, node, no-tree}
 use Rattle.operations.specs.Slot.{TreeSizes}
 use Rattle.operations.specs.Path.{Cont, down, to-leaf}
 use Rattle.walk.specs.declared.down.Turn.{Turn}
-use Rattle.walk.specs.declared.down.Descent.{Descent}
-use Rattle.walk.specs.declared.down.Lower.{Lower}
-use Rattle.walk.specs.declared.down.Rooted.{Rooted}
-use Rattle.walk.specs.declared.walk.Asked.{Asked}
+use Rattle.walk.specs.declared.down.Pass.{Pass}
+use Rattle.walk.specs.declared.walk.Seen.{Seen}
 use Rattle.walk.specs.declared.walk.Stop.{Stop}
 use Rattle.walk.specs.declared.walk.Stop.the-variants.{Going, Aborts}
 use Rattle.client.specs.Layout.{ClientWord}
-use Rattle.client.specs.Record.{in-store}
+use Rattle.client.specs.Record.{in-store, single}
 use Rattle.client.specs.Lent.{used-in}
 use Rattle.walk.specs.Entries.{opens, below, Inner, Below}
 use Rattle.walk.specs.Laws.Entries.{open-is, child-is, open-inner, extra-inner, down-inner, down-there, below-true}
 use Rattle.walk.specs.Walk.{goes, walked}
 use Rattle.walk.specs.Laws.Walk.{walked-fails}
-use Rattle.walk.specs.Ask.{SmallNode, Noted, Answer, nothing}
-use Rattle.walk.specs.Laws.Ask.{none-held}
-use Rattle.walk.specs.Down.{Kid, RootMet, Checked, blank, low, branches, trail, All, Linked, From, Stops, Above, Lowered, Led, AtRoot, Descends}
+use Rattle.walk.specs.Ask.{SmallNode, Noted, Answer, given, In-part, nothing}
+use Rattle.walk.specs.Laws.Ask.{none-held, answer-as, given-small, first-single}
+use Rattle.walk.specs.Down.{Kid, RootMet, blank, nowhere, turn-in, turns-in, Arrival, arrival, Path-in-part, low, branches, trail, All, Linked, From, Stops, Above, Lowered, Led, AtRoot, Descends}
 
 pub stops-not : (s : Stop) {A : Type 0} → goes s ≡ false → goes s ≡ true → A
 stops-not s p q = let e : false ≡ true = sym p ∙ q in let z : _≡_ {A = ℕ} 0 1 = cc in absurd (omega arith)
 
-module _ (z : TreeSizes) (m : ClientWord → ℕ) (x u : List ℕ) (n : ℕ) (s : Stop) (r : Node) (u′ : List ℕ) (h : Answer z m x u (node n) s r u′) (b : Bool) (pb : b ≡ goes s) (lk : length (r .keys) ≡ 14) (ls : length (r .slots) ≡ 15) where
-  f : Whole r
-  f = whole r lk ls (h .small .keys)
+-- a record that has room in a client's part has its sizes
+pub part-sized : (c : List ℕ) (p : ℕ) → p + 33 ≤ 7223 → 7223 ≤ length c / 8 → Sized (node-at (view c) p)
+part-sized c p h g = standing-sized c p (omega arith)
 
-  module _ (nb : not b ≡ true) where
-    no : goes s ≡ false
-    no = sym pb ∙ not-true b nb
+-- what was asked for, used below the root
+module _ (z : TreeSizes) (m : ClientWord → ℕ) (x u : List ℕ) (n : ℕ) (s : Stop) (r : Node) (u′ : List ℕ) (b : Bool) (pb : b ≡ goes s) where
+  pub kid-stops : (l : ℕ) → Answer z m x u (node n) s (given s r) u′ → not b ≡ true → Kid z m x u l n s r u′
+  kid-stops l h nb =
+      let no : goes s ≡ false = sym pb ∙ not-true b nb in
+      record {
+        asks = λ w hold lo k. rw (h .asks w hold .same, no);
+        noted = h .noted;
+        long = h .long;
+        small = λ t. stops-not s no t;
+        fits = λ t. stops-not s no t;
+        whole = λ t. stops-not s no t;
+        inside = λ t. stops-not s no t;
+      }
 
-    kid-stops : (l : ℕ) → Kid z m x u l n s r u′
-    kid-stops l = record { asks = λ w hold lo k. rw (h .asks w hold .same, no); noted = h .noted; long = h .long; small = h .small; fits = λ t. stops-not s no t; whole = f; inside = h .inside }
-
-  module _ (nb : not b ≡ false) (c : Bool) where
+  module _ (g : Sized r) (h : Answer z m x u (node n) s (given s r) u′) (nb : not b ≡ false) where
     on : goes s ≡ true
     on = sym pb ∙ not-false b nb
 
-    kid-bad : (l : ℕ) → c ≡ below l r → not c ≡ true → Kid z m x u l n (Aborts 3) r u′
-    kid-bad l pc nc =
-        let e : below l r ≡ false = sym pc ∙ not-true c nc in
-        record {
-          asks = λ w hold lo k. rw (h .asks w hold .same, on, child-is l lo n r f k, e) (walked-fails z m (used-in u′) no-tree);
-          noted = h .noted;
-          long = h .long;
-          small = h .small;
-          fits = λ t. stops-not (Aborts 3) refl t;
-          whole = f;
-          inside = λ t. stops-not (Aborts 3) refl t;
-        }
+    whole-answer : Answer z m x u (node n) s r u′
+    whole-answer = rw on at h
 
-    kid-good : (l : ℕ) → c ≡ below l r → not c ≡ false → Kid z m x u l n s r u′
-    kid-good l pc nc =
-        let e : below l r ≡ true = sym pc ∙ not-false c nc in
-        record {
-          asks = λ w hold lo k. rw (h .asks w hold .same, on, child-is l lo n r f k, e);
-          noted = h .noted;
-          long = h .long;
-          small = h .small;
-          fits = λ t. e;
-          whole = f;
-          inside = h .inside;
-        }
+    f : Whole r
+    f = whole r (g .keys) (g .slots) (whole-answer .small .keys)
 
-module _ (l : ℕ) (a : Asked) (b : Bool) (pb : b ≡ goes (a .stop)) (lk : length (a .node .keys) ≡ 14) (ls : length (a .node .slots) ≡ 15) where
-  pub check-stops : not b ≡ true → Checked l a a
-  check-stops nb = record { met = λ z m x u n u′ h. kid-stops z m x u n (a .stop) (a .node) u′ h b pb lk ls nb l }
+    module _ (c : Bool) where
+      pub kid-bad : (l : ℕ) → c ≡ below l r → not c ≡ true → Kid z m x u l n (Aborts 3) r u′
+      kid-bad l pc nc =
+          let e : below l r ≡ false = sym pc ∙ not-true c nc in
+          record {
+            asks = λ w hold lo k. rw (whole-answer .asks w hold .same, on, child-is l lo n r f k, e) (walked-fails z m (used-in u′) no-tree);
+            noted = h .noted;
+            long = h .long;
+            small = λ t. stops-not (Aborts 3) refl t;
+            fits = λ t. stops-not (Aborts 3) refl t;
+            whole = λ t. stops-not (Aborts 3) refl t;
+            inside = λ t. stops-not (Aborts 3) refl t;
+          }
 
-  module _ (nb : not b ≡ false) (c : Bool) (pc : c ≡ below l (a .node)) where
-    pub check-bad : not c ≡ true → Checked l a (record { stop = Aborts 3; node = a .node })
-    check-bad nc = record { met = λ z m x u n u′ h. kid-bad z m x u n (a .stop) (a .node) u′ h b pb lk ls nb c l pc nc }
+      pub kid-good : (l : ℕ) → c ≡ below l r → not c ≡ false → Kid z m x u l n s r u′
+      kid-good l pc nc =
+          let e : below l r ≡ true = sym pc ∙ not-false c nc in
+          record {
+            asks = λ w hold lo k. rw (whole-answer .asks w hold .same, on, child-is l lo n r f k, e);
+            noted = h .noted;
+            long = h .long;
+            small = λ t. whole-answer .small;
+            fits = λ t. e;
+            whole = λ t. f;
+            inside = h .inside;
+          }
 
-    pub check-good : not c ≡ false → Checked l a a
-    check-good nc = record { met = λ z m x u n u′ h. kid-good z m x u n (a .stop) (a .node) u′ h b pb lk ls nb c l pc nc }
+pub ruleset kid-exits = (kid-stops, kid-bad, kid-good, part-sized)
 
-pub ruleset check-exits = (check-stops, check-bad, check-good)
+-- a node that was seen
+answer-given : (z : TreeSizes) (m : ClientWord → ℕ) (x u : List ℕ) (n : ℕ) (s : Stop) (r : Node) (u′ : List ℕ) → Answer z m x u (node n) s r u′ → Answer z m x u (node n) s (given s r) u′
+answer-given z m x u n s r u′ h = answer-as z m x u (node n) s r (given s r) u′ (λ t. rw t) (given-small n s r (h .small)) h
 
-pub kid-is : (z : TreeSizes) (m : ClientWord → ℕ) (x u : List ℕ) (l n : ℕ) (a r : Asked) (u′ : List ℕ) → Answer z m x u (node n) (a .stop) (a .node) u′ → Checked l a r
-    → Kid z m x u l n (r .stop) (r .node) u′
-kid-is z m x u l n a r u′ h c = c .met z m x u n u′ h
+module _ (z : TreeSizes) (m : ClientWord → ℕ) (x u : List ℕ) (n l : ℕ) (a : Seen) (u′ : List ℕ) (h : Answer z m x u (node n) (a .stop) (a .node) u′) (b : Bool) (pb : b ≡ goes (a .stop)) where
+  same-answer : Answer z m x u (node n) (a .stop) (given (a .stop) (a .node)) u′
+  same-answer = answer-given z m x u n (a .stop) (a .node) u′ h
+
+  pub seen-stops : not b ≡ true → Kid z m x u l n (a .stop) (a .node) u′
+  seen-stops nb = kid-stops z m x u n (a .stop) (a .node) u′ b pb l same-answer nb
+
+  module _ (lk : length (a .node .keys) ≡ 14) (ls : length (a .node .slots) ≡ 15) (nb : not b ≡ false) (c : Bool) (pc : c ≡ below l (a .node)) where
+    sized : Sized (a .node)
+    sized = record { keys = lk; slots = ls }
+
+    pub seen-bad : not c ≡ true → Kid z m x u l n (Aborts 3) (a .node) u′
+    seen-bad nc = kid-bad z m x u n (a .stop) (a .node) u′ b pb sized same-answer nb c l pc nc
+
+    pub seen-good : not c ≡ false → Kid z m x u l n (a .stop) (a .node) u′
+    seen-good nc = kid-good z m x u n (a .stop) (a .node) u′ b pb sized same-answer nb c l pc nc
+
+pub ruleset seen-kid-exits = (seen-stops, seen-bad, seen-good)
 
 -- the root
-module _ (z : TreeSizes) (m : ClientWord → ℕ) (u : List ℕ) (n : ℕ) (s : Stop) (r : Node) (u′ : List ℕ) (h : Answer z m nothing u (node n) s r u′) (b : Bool) (pb : b ≡ goes s) (lk : length (r .keys) ≡ 14) (ls : length (r .slots) ≡ 15) where
-  g : Whole r
-  g = whole r lk ls (h .small .keys)
+module _ (z : TreeSizes) (m : ClientWord → ℕ) (u : List ℕ) (n : ℕ) (s : Stop) (r : Node) (u′ : List ℕ) (b : Bool) (pb : b ≡ goes s) where
+  pub root-stops : Answer z m nothing u (node n) s (given s r) u′ → not b ≡ true → RootMet z m u n s r u′
+  root-stops h nb =
+      let no : goes s ≡ false = sym pb ∙ not-true b nb in
+      record {
+        asks = λ k. rw (h .asks [] (none-held z) .same, no);
+        noted = h .noted;
+        long = h .long;
+        small = λ t. stops-not s no t;
+        fits = λ t. stops-not s no t;
+        whole = λ t. stops-not s no t;
+        inside = λ t. stops-not s no t;
+      }
 
-  pub root-stops : not b ≡ true → RootMet z m u n s r u′
-  root-stops nb = let no : goes s ≡ false = sym pb ∙ not-true b nb in
-      record { asks = λ k. rw (h .asks [] (none-held z) .same, no); noted = h .noted; long = h .long; small = h .small; fits = λ t. stops-not s no t; whole = g; inside = h .inside }
-
-  module _ (nb : not b ≡ false) (c : Bool) where
+  module _ (g : Sized r) (h : Answer z m nothing u (node n) s (given s r) u′) (nb : not b ≡ false) where
     goes-on : goes s ≡ true
     goes-on = sym pb ∙ not-false b nb
 
-    pub root-bad : c ≡ opens r → not c ≡ true → RootMet z m u n (Aborts 3) r u′
-    root-bad pc nc =
-        let e : opens r ≡ false = sym pc ∙ not-true c nc in
-        record {
-          asks = λ k. rw (h .asks [] (none-held z) .same, goes-on, open-is 0 n r k, e) (walked-fails z m (used-in u′) no-tree);
-          noted = h .noted;
-          long = h .long;
-          small = h .small;
-          fits = λ t. stops-not (Aborts 3) refl t;
-          whole = g;
-          inside = λ t. stops-not (Aborts 3) refl t;
-        }
+    root-answer : Answer z m nothing u (node n) s r u′
+    root-answer = rw goes-on at h
 
-    pub root-good : c ≡ opens r → not c ≡ false → RootMet z m u n s r u′
-    root-good pc nc =
-        let e : opens r ≡ true = sym pc ∙ not-false c nc in
-        record {
-          asks = λ k. rw (h .asks [] (none-held z) .same, goes-on, open-is 0 n r k, e);
-          noted = h .noted;
-          long = h .long;
-          small = h .small;
-          fits = λ t. e;
-          whole = g;
-          inside = h .inside;
-        }
+    module _ (c : Bool) (pc : c ≡ opens r) where
+      pub root-bad : not c ≡ true → RootMet z m u n (Aborts 3) r u′
+      root-bad nc =
+          let e : opens r ≡ false = sym pc ∙ not-true c nc in
+          record {
+            asks = λ k. rw (root-answer .asks [] (none-held z) .same, goes-on, open-is 0 n r k, e) (walked-fails z m (used-in u′) no-tree);
+            noted = h .noted;
+            long = h .long;
+            small = λ t. stops-not (Aborts 3) refl t;
+            fits = λ t. stops-not (Aborts 3) refl t;
+            whole = λ t. stops-not (Aborts 3) refl t;
+            inside = λ t. stops-not (Aborts 3) refl t;
+          }
 
-pub ruleset root-ways = (root-stops, root-bad, root-good)
+      pub root-good : not c ≡ false → RootMet z m u n s r u′
+      root-good nc =
+          let e : opens r ≡ true = sym pc ∙ not-false c nc in
+          record {
+            asks = λ k. rw (root-answer .asks [] (none-held z) .same, goes-on, open-is 0 n r k, e);
+            noted = h .noted;
+            long = h .long;
+            small = λ t. root-answer .small;
+            fits = λ t. e;
+            whole = λ t. whole r (g .keys) (g .slots) (root-answer .small .keys);
+            inside = h .inside;
+          }
+
+pub ruleset root-ways = (root-stops, root-bad, root-good, part-sized)
 
 -- how far a way down has come
 pub record Downward (z : TreeSizes) (m : ClientWord → ℕ) (u₀ : List ℕ) (key target root : ℕ) (first : Node) (top : ℕ) (path : List Turn) (name : ℕ) (n : Node) (level : ℕ) (u : List ℕ) : Type 0 where
@@ -197,34 +234,34 @@ down-start z m u key target root first path f h l = record {
 }
 
 module _ (z : TreeSizes) (m : ClientWord → ℕ) (u₀ : List ℕ) (key target root : ℕ) (first : Node) (top : ℕ) (path : List Turn) (name : ℕ) (n : Node) (level : ℕ) (u : List ℕ) (d : Downward z m u₀ key target root first top path name n level u) where
-  module _ (lt : target < level) (r : Lower) (u′ : List ℕ) (c : Lowered z m u key level n r u′) (b : Bool) (pb : b ≡ goes (r .stop)) where
+  module _ (lt : target < level) (s : Stop) (i next : ℕ) (r : Node) (u′ : List ℕ) (c : Lowered z m u key level n s i next r u′) (b : Bool) (pb : b ≡ goes s) where
     abbrev above : List Turn
     above = trail path level (top - level)
 
     abbrev turn : Turn
-    turn = record { name = name; at = r .at; node = n }
+    turn = record { name = name; at = i; node = n }
 
-    pub down-stops : not b ≡ true → Led z m u₀ key target root first (record { stop = r .stop; top = top; path = path; name = name; node = n }) u′
+    pub down-stops : not b ≡ true → Led z m u₀ key target root first (record { stop = s; top = top; path = path; name = name; node = n }) u′
     down-stops nb =
-        let no : goes (r .stop) ≡ false = sym pb ∙ not-true b nb in
+        let no : goes s ≡ false = sym pb ∙ not-true b nb in
         record {
           asks = λ stop st k. rw (d .same stop st k, c .asks stop (st .before level lt) k (branches above) name (low above), no);
           noted = c .noted;
           high = d .high;
-          reached = λ t. stops-not (r .stop) no t;
-          linked = λ q t. stops-not (r .stop) no t;
+          reached = λ t. stops-not s no t;
+          linked = λ q t. stops-not s no t;
         }
 
     pub down-long : length u′ ≡ length u₀
     down-long = c .long ∙ d .long
 
-    pub down-more : not b ≡ false → Downward z m u₀ key target root first top (set path level turn) (r .name) (r .node) (level - 1) u′
+    pub down-more : not b ≡ false → Downward z m u₀ key target root first top (set path level turn) next r (level - 1) u′
     unfolding All Linked
     down-more nb =
-        let on : goes (r .stop) ≡ true = sym pb ∙ not-false b nb in
+        let on : goes s ≡ true = sym pb ∙ not-false b nb in
         let up : suc (level - 1) ≡ level = omega arith in
         let t : trail (set path level turn) (level - 1) (top - (level - 1)) ≡ turn ∷ above = trail-more path turn level top (omega arith) (d .upper) (omega (arith, d .size, d .high, d .upper)) in
-        let q : Below (level - 1) (r .node) = c .fits on in
+        let q : Below (level - 1) r = c .fits on in
         record {
           whole-way = d .whole-way;
           long = down-long;
@@ -234,8 +271,8 @@ module _ (z : TreeSizes) (m : ClientWord → ℕ) (u₀ : List ℕ) (key target 
           size = simp length-set (d .size);
           level-is = q .level;
           opened = q .opened;
-          small = c .small;
-          whole = c .whole;
+          small = c .small on;
+          whole = c .whole on;
           noted = c .noted;
           good = rw t (record { inner = c .turned .inner; whole = c .turned .whole; small = c .turned .small; within = c .within }, d .good);
           linked = λ q. rw (t, up) (record { level = rw up (d .level-is); child = c .child; there = c .inside on }, d .linked q);
@@ -262,11 +299,113 @@ module _ (z : TreeSizes) (m : ClientWord → ℕ) (u₀ : List ℕ) (key target 
         linked = λ q t. rw e at (d .linked q);
       }
 
-pub ruleset down-exits = (down-start, down-stops, down-more, down-done, down-above)
+-- ---- the same of what the code passes, in a part of the bytes b
+map-set : {A B : Type 0} (f : A → B) (l : List A) (i : ℕ) (x : A) → map f (set l i x) ≡ set (map f l) i (f x)
+map-set f [] i x = refl
+map-set f (y ∷ l) zero x = refl
+map-set f (y ∷ l) (suc i) x = ap (λ (t : List _). f y ∷ t) (map-set f l i x)
+
+map-length : {A B : Type 0} (f : A → B) (l : List A) → length (map f l) ≡ length l
+map-length f [] = refl
+map-length f (y ∷ l) = ap suc (map-length f l)
+
+pub set-in-part : (ps : List Pass) (i : ℕ) (p : Pass) → Path-in-part ps → p .place + 33 ≤ 7223 → Path-in-part (set ps i p)
+set-in-part ps i p h w = record { each = λ j l. go j l (ℕ-discrete j i) }
+  where
+    go : (j : ℕ) → j < length (set ps i p) → Dec (j ≡ i) → getD (set ps i p) j nowhere .place + 33 ≤ 7223
+    go j l (yes e) = let g : i < length ps = rw (length-set ps i p, e) at l in rw (e, getD-set-same ps i p nowhere g) w
+    go j l (no d) = rw (getD-set-other ps i j p nowhere d) (h .each j (rw (length-set ps i p) at l))
+
+pub none-in-part : Path-in-part (nowhere ∷ nowhere ∷ nowhere ∷ nowhere ∷ nowhere ∷ [])
+none-in-part = record { each = λ i h. go i }
+  where
+    go : (i : ℕ) → getD (nowhere ∷ nowhere ∷ nowhere ∷ nowhere ∷ nowhere ∷ []) i nowhere .place + 33 ≤ 7223
+    go zero = omega arith
+    go (suc zero) = omega arith
+    go (suc (suc zero)) = omega arith
+    go (suc (suc (suc zero))) = omega arith
+    go (suc (suc (suc (suc zero)))) = omega arith
+    go (suc (suc (suc (suc (suc i))))) = omega arith
+
+module _ (b : List ℕ) (z : TreeSizes) (m : ClientWord → ℕ) (u₀ : List ℕ) (key target root first : ℕ) where
+  abbrev pub Passing : ℕ → List Pass → ℕ → ℕ → ℕ → List ℕ → Type 0
+  Passing top path name place level u =
+      Downward z m u₀ key target root (node-at (view b) first) top (turns-in b path) name (node-at (view b) place) level u × Path-in-part path × (place + 33 ≤ 7223)
+
+  pub pass-start : (path : List Pass) (top : ℕ) → From (node-at (view b) first) target → first + 33 ≤ 7223 → Noted m u₀ → path ≡ nowhere ∷ nowhere ∷ nowhere ∷ nowhere ∷ nowhere ∷ []
+      → top ≡ node-at (view b) first .level → Passing top path root first top u₀
+  pass-start path top f w h p e =
+      rw (p, e) (down-start z m u₀ key target root (node-at (view b) first) (turns-in b (nowhere ∷ nowhere ∷ nowhere ∷ nowhere ∷ nowhere ∷ [])) f h refl, none-in-part, w)
+
+  module _ (top : ℕ) (path : List Pass) (name place level : ℕ) (u : List ℕ) (d : Passing top path name place level u) where
+    pub pass-above : target < level → Above (node-at (view b) place) level
+    pass-above lt = down-above z m u₀ key target root (node-at (view b) first) top (turns-in b path) name (node-at (view b) place) level u (d .0) lt
+
+    pub pass-done : level ≤ target
+        → Led z m u₀ key target root (node-at (view b) first) (arrival b (record { stop = Going; top = top; path = path; name = name; place = place })) u
+    pass-done h = down-done z m u₀ key target root (node-at (view b) first) top (turns-in b path) name (node-at (view b) place) level u (d .0) h
+
+    pub pass-path : Path-in-part path × (place + 33 ≤ 7223)
+    pass-path = (d .1, d .2)
+
+    pub pass-noted : Noted m u
+    pass-noted = d .0 .noted
+
+    pub pass-level : target < level → level < 5
+    pass-level lt = omega (arith, d .0 .upper, d .0 .high)
+
+    module _ (lt : target < level) (s : Stop) (i next p : ℕ) (u′ : List ℕ) (c : Lowered z m u key level (node-at (view b) place) s i next (node-at (view b) p) u′) (on : Bool) (po : on ≡ goes s) where
+      pub pass-stops : not on ≡ true
+          → Led z m u₀ key target root (node-at (view b) first) (arrival b (record { stop = s; top = top; path = path; name = name; place = place })) u′
+      pass-stops nb = down-stops z m u₀ key target root (node-at (view b) first) top (turns-in b path) name (node-at (view b) place) level u (d .0) lt s i next (node-at (view b) p) u′ c on po nb
+
+      pub pass-more : not on ≡ false → p + 33 ≤ 7223 → Passing top (set path level (record { name = name; at = i; place = place })) next p (level - 1) u′
+      pass-more nb w =
+          let y : Pass = record { name = name; at = i; place = place } in
+          let e = down-more z m u₀ key target root (node-at (view b) first) top (turns-in b path) name (node-at (view b) place) level u (d .0) lt s i next (node-at (view b) p) u′ c on po nb in
+          (rw (map-set (turn-in b) path level y) e, set-in-part path level y (d .1) w′, w)
+        where
+          w′ : place + 33 ≤ 7223
+          w′ = d .2
+
+pub ruleset pass-exits = (pass-start, pass-above, pass-done, pass-path, pass-stops, pass-more)
+
+-- the nodes of a path taken out
+pub turn-is : (b : List ℕ) (p : Pass) (n : Node) → n ≡ node-at (view b) (p .place) → _≡_ {A = Turn} (record { name = p .name; at = p .at; node = n }) (turn-in b p)
+turn-is b p n e = rw e
+
+abbrev pub Taken-out : List ℕ → List Pass → List Turn → ℕ → Type 0
+Taken-out b ps out i = (i ≤ 5) × (length out ≡ 5) × (take i out ≡ take i (turns-in b ps))
+
+map-getD : (b : List ℕ) (ps : List Pass) (i : ℕ) → i < length ps → getD (turns-in b ps) i blank ≡ turn-in b (getD ps i nowhere)
+map-getD b [] i h = absurd (omega arith)
+map-getD b (p ∷ ps) zero h = refl
+map-getD b (p ∷ ps) (suc i) h = map-getD b ps i (omega arith)
+
+module _ (b : List ℕ) (ps : List Pass) (l : length ps ≡ 5) (out : List Turn) (i : ℕ) (h : Taken-out b ps out i) where
+  pub taken-more : i < 5 → (t : Turn) → t ≡ turn-in b (getD ps i nowhere) → Taken-out b ps (set out i t) (i + 1)
+  taken-more g t e =
+      let m : i < length (turns-in b ps) = rw (map-length (turn-in b) ps, l) g in
+      (omega arith, length-set out i t ∙ h .1,
+      rw (add-one, take-suc-set out i t (omega (arith, h .1)), take-suc (turns-in b ps) i blank m, h .2, map-getD b ps i (omega arith), ← e))
+
+  pub taken-all : 5 ≤ i → out ≡ turns-in b ps
+  taken-all g =
+      let z : i ≡ 5 = omega (arith, h .0) in
+      let q : take 5 out ≡ take 5 (turns-in b ps) = rw z at (h .2) in
+      sym (take-all 5 out (omega (arith, h .1))) ∙ q ∙ take-all 5 (turns-in b ps) (rw (map-length (turn-in b) ps) (omega arith))
+
+pub taken-none : (b : List ℕ) (ps : List Pass) (out : List Turn) → length out ≡ 5 → Taken-out b ps out 0
+taken-none b ps out l = (omega arith, l, refl)
+
+pub pass-inside : (ps : List Pass) (i : ℕ) → Path-in-part ps → length ps ≡ 5 → i < 5 → getD ps i nowhere .place + 33 ≤ 7223
+pass-inside ps i h l g = h .each i (omega arith)
+
+pub ruleset taken-exits = (taken-none, taken-more, taken-all, pass-inside)
 
 module _ (z : TreeSizes) (m : ClientWord → ℕ) (u : List ℕ) (key level : ℕ) (n : Node) (g : Above n level) (at next : ℕ) (pa : at ≡ place (keysOf n) key) (ha : at ≤ n .count) (pn : next ≡ getD (n .slots) at 0) where
   pub lowered : (s : Stop) (r : Node) (u′ : List ℕ) → Kid z m nothing u (level - 1) next s r u′
-      → Lowered z m u key level n (record { stop = s; at = at; name = next; node = r }) u′
+      → Lowered z m u key level n s at next r u′
   lowered s r u′ c =
       let wn : Whole n = g .whole in
       let i : Inner n = open-inner n (g .opened) (omega (arith, g .level-is, g .inner)) in
@@ -288,17 +427,17 @@ module _ (z : TreeSizes) (m : ClientWord → ℕ) (u : List ℕ) (key level : �
 
 pub ruleset lower-exits = (lowered, child-inside)
 
-module _ (z : TreeSizes) (m : ClientWord → ℕ) (u : List ℕ) (s : Stop) (n : Node) (u₁ : List ℕ) (a : Answer z m nothing u meta s n u₁) (b : Bool) (pb : b ≡ goes s) where
-  pub no-root : not b ≡ true → AtRoot z m u (record { stop = s; name = getD (n .slots) 0 0; node = n }) u₁
-  no-root nb = let no : goes s ≡ false = sym pb ∙ not-true b nb in
+module _ (z : TreeSizes) (m : ClientWord → ℕ) (u : List ℕ) (s : Stop) (q : ℕ) (u₁ : List ℕ) (a : Answer z m nothing u meta s (single 0 q) u₁) (b : Bool) (pb : b ≡ goes s) where
+  pub no-root : (r : Node) → not b ≡ true → AtRoot z m u s q r u₁
+  no-root r nb = let no : goes s ≡ false = sym pb ∙ not-true b nb in
       record { asks = λ k. rw (a .asks [] (none-held z) .same, no); noted = a .noted; begins = λ t. stops-not s no t; inside = λ t. stops-not s no t }
 
-  pub met-root : (t : Stop) (r : Node) (u₂ : List ℕ) → not b ≡ false → RootMet z m u₁ (getD (n .slots) 0 0) t r u₂ → AtRoot z m u (record { stop = t; name = getD (n .slots) 0 0; node = r }) u₂
+  pub met-root : (t : Stop) (r : Node) (u₂ : List ℕ) → not b ≡ false → RootMet z m u₁ q t r u₂ → AtRoot z m u t q r u₂
   met-root t r u₂ nb h = let on : goes s ≡ true = sym pb ∙ not-false b nb in
       record {
-        asks = λ k. rw (a .asks [] (none-held z) .same, on, h .asks);
+        asks = λ k. rw (a .asks [] (none-held z) .same, on, first-single q) (h .asks (k q));
         noted = h .noted;
-        begins = λ g. record { whole = h .whole; small = h .small; opened = h .fits g; above = omega arith };
+        begins = λ g. record { whole = h .whole g; small = h .small g; opened = h .fits g; above = omega arith };
         inside = h .inside;
       }
 
@@ -311,16 +450,16 @@ leaf-stops = record { before = λ l h. go l h; there = λ h. absurd (omega arith
     go zero h = absurd (omega arith)
     go (suc l) h = refl
 
-module _ (z : TreeSizes) (m : ClientWord → ℕ) (u : List ℕ) (key : ℕ) (r : Rooted) (u₁ : List ℕ) (a : AtRoot z m u r u₁) (b : Bool) (pb : b ≡ goes (r .stop)) where
-  pub no-way : (d : Descent) → not b ≡ true → d .stop ≡ r .stop → d .top ≤ 4 → Descends z m u key d u₁
-  no-way d nb e t4 = let no : goes (r .stop) ≡ false = sym pb ∙ not-true b nb in
-      record { asks = λ k. rw (a .asks (λ q l es. down to-leaf key (λ _ fs n es. k fs n es) l [] q es), e, no); noted = a .noted; high = t4; reached = λ t. stops-not (r .stop) no (rw e at t); linked = λ t. stops-not (r .stop) no (rw e at t) }
+module _ (z : TreeSizes) (m : ClientWord → ℕ) (u : List ℕ) (key : ℕ) (s : Stop) (q : ℕ) (r : Node) (u₁ : List ℕ) (a : AtRoot z m u s q r u₁) (b : Bool) (pb : b ≡ goes s) where
+  pub no-way : (d : Arrival) → not b ≡ true → d .stop ≡ s → d .top ≤ 4 → Descends z m u key d u₁
+  no-way d nb e t4 = let no : goes s ≡ false = sym pb ∙ not-true b nb in
+      record { asks = λ k. rw (a .asks (λ q l es. down to-leaf key (λ _ fs n es. k fs n es) l [] q es), e, no); noted = a .noted; high = t4; reached = λ t. stops-not s no (rw e at t); linked = λ t. stops-not s no (rw e at t) }
 
-  pub whole-way : (d : Descent) (u₂ : List ℕ) → not b ≡ false → Led z m u₁ key 0 (r .name) (r .node) d u₂ → Descends z m u key d u₂
-  whole-way d u₂ nb h = let on : goes (r .stop) ≡ true = sym pb ∙ not-false b nb in
+  pub whole-way : (d : Arrival) (u₂ : List ℕ) → not b ≡ false → Led z m u₁ key 0 q r d u₂ → Descends z m u key d u₂
+  whole-way d u₂ nb h = let on : goes s ≡ true = sym pb ∙ not-false b nb in
       record { asks = λ k. rw (a .asks (λ q l es. down to-leaf key (λ _ fs n es. k fs n es) l [] q es), on) (h .asks to-leaf leaf-stops (λ l fs n es. k fs n es)); noted = h .noted; high = h .high; reached = h .reached; linked = h .linked (a .inside on) }
 
-  pub way-begins : not b ≡ false → From (r .node) 0
+  pub way-begins : not b ≡ false → From r 0
   way-begins nb = a .begins (sym pb ∙ not-false b nb)
 
 pub ruleset descend-exits = (no-way, whole-way, way-begins)

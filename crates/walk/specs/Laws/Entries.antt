@@ -25,7 +25,7 @@ use Rattle.operations.specs.Object.{node, body, no-tree}
 use Rattle.operations.specs.Entry.{Entries, zip, keys, vals, node-value, fewest-entries, cut-at, index, value-in}
 use Rattle.operations.specs.Path.{TreePlan, open-node, kid, Branch, Cont, down}
 use Rattle.client.specs.Record.{value-of}
-use Rattle.walk.specs.Entries.{opens, below, Inner, branch-of, Below}
+use Rattle.walk.specs.Entries.{opens-with, opens, below-with, below, Inner, branch-of, Below}
 use Rattle.plans.specs.Plan as P
 use Rattle.nodes.specs.Entries as N
 
@@ -122,20 +122,26 @@ child-is l lo x n f k = open-is lo x n _ ∙ go (opens n) (eqb (n .level) l) ref
     go false b p q = rw (below, p)
 
 -- ---- ways out of the code that decides it
-module _ (n : Node) (l : ℕ) (t : Bool) (e : t ≡ opens n) where
-  pub below-shut : not t ≡ true → false ≡ below l n
-  unfolding below
+module _ (k v c l : ℕ) (t : Bool) (e : t ≡ opens-with k v) where
+  pub below-shut : not t ≡ true → false ≡ below-with l k v c
   below-shut q = rw (← e, not-true t q)
 
-  pub below-other : not t ≡ false → (n .level ≡ l → ⊥) → false ≡ below l n
-  unfolding below
-  below-other q h = rw (← e, not-false t q, ne-eqb (n .level) l h)
+  pub below-other : not t ≡ false → (v ≡ l → ⊥) → false ≡ below-with l k v c
+  below-other q h = rw (← e, not-false t q, ne-eqb v l h)
 
-  pub below-count : not t ≡ false → n .level ≡ l → leb 7 (n .count) ≡ below l n
-  unfolding below
-  below-count q h = rw (← e, not-false t q, eq-eqb (n .level) l h)
+  pub below-count : not t ≡ false → v ≡ l → leb 7 c ≡ below-with l k v c
+  below-count q h = rw (← e, not-false t q, eq-eqb v l h)
 
 pub ruleset below-exits = (below-shut, below-other, below-count)
+
+-- of a node whose fields are asked one by one
+pub opens-as : (n : Node) (k v : ℕ) (c : Bool) → k ≡ n .kind → v ≡ n .level → c ≡ opens-with k v → c ≡ opens n
+unfolding opens
+opens-as n k v c p q e = rw (← p, ← q) e
+
+pub below-as : (n : Node) (l k v d : ℕ) (c : Bool) → k ≡ n .kind → v ≡ n .level → d ≡ n .count → c ≡ below-with l k v d → c ≡ below l n
+unfolding below opens
+below-as n l k v d c p q r e = rw (← p, ← q, ← r) e
 
 -- ---- the entry that a key leads to
 pub cut-at-is : (i : ℕ) (e : ℕ × ℕ) (es : Entries) → i ≤ length es → cut-at i e es ≡ (take i (e ∷ es), getD (e ∷ es) i (0, 0), drop (suc i) (e ∷ es))

@@ -9,8 +9,10 @@ use borrow.Author.Tests.{not-true, not-false}
 use Rattle.nodes.specs.Entries.{entriesOf}
 use Rattle.operations.specs.Slot.{TreeSizes}
 use Rattle.operations.specs.Look.{told, seek-up}
-use Rattle.walk.specs.declared.down.Turn.{Turn}
+use Rattle.memory.specs.Word.{view}
+use Rattle.nodes.specs.Stored.{node-at}
 use Rattle.walk.specs.declared.down.Descent.{Descent}
+use Rattle.walk.specs.declared.down.Turn.{Turn}
 use Rattle.walk.specs.declared.walk.Stop.{Stop}
 use Rattle.walk.specs.declared.seek.Ahead.{Ahead}
 use Rattle.walk.specs.declared.seek.Where.the-variants.{Found, Nowhere, Next}
@@ -21,7 +23,7 @@ use Rattle.client.specs.Lent.{used-in}
 use Rattle.walk.specs.Laws.Entries.{Leaf, open-leaf}
 use Rattle.walk.specs.Entries.{branch-of}
 use Rattle.walk.specs.Walk.{goes}
-use Rattle.walk.specs.Down.{Descends, Reached, low, branches, trail}
+use Rattle.walk.specs.Down.{turns-in, Arrival, arrival, Descends, Reached, low, branches, trail}
 use Rattle.walk.specs.Lookup.{Ends, Walks}
 use Rattle.walk.specs.Laws.Lookup.{ended-nothing}
 use Rattle.walk.specs.Seek.{visit, side, nearest-in, near-plan, key-of, in-leaf, rests, Stacked, Climbed, Seeks}
@@ -57,8 +59,11 @@ sides-are false [] = refl
 sides-are true (b ∷ bs) = rw (sides-are true bs)
 sides-are false (b ∷ bs) = rw (sides-are false bs)
 
-module _ (z : TreeSizes) (m : ClientWord → ℕ) (u : List ℕ) (right : Bool) (key : ℕ) (d : Descent) (u₁ : List ℕ) (h : Descends z m u key d u₁) (b : Bool) (pb : b ≡ goes (d .stop)) where
-  pub near-stops : not b ≡ true → Walks z m u (near-plan right key) (d .stop) u₁
+module _ (z : TreeSizes) (m : ClientWord → ℕ) (u : List ℕ) (right : Bool) (key : ℕ) (c : List ℕ) (p : Descent) (u₁ : List ℕ) (h : Descends z m u key (arrival c p) u₁) (b : Bool) (pb : b ≡ goes (p .stop)) where
+  abbrev d : Arrival
+  d = arrival c p
+
+  pub near-stops : not b ≡ true → Walks z m u (near-plan right key) (p .stop) u₁
   near-stops nb = let no : goes (d .stop) ≡ false = sym pb ∙ not-true b nb in
       record { same = rw (h .asks (λ fs n es. told (nearest-in right key es) (seek-up (nearest-in right key) (visit right) (side right) zero fs)), no); noted = h .noted }
 
@@ -79,10 +84,10 @@ module _ (z : TreeSizes) (m : ClientWord → ℕ) (u : List ℕ) (right : Bool) 
     unfolding in-leaf
     near = rw (near-of right key (d .node) (low bs) (end .whole) leaf)
 
-    pub near-small : d .node .count ≤ 14
+    pub near-small : node-at (view c) (p .place) .count ≤ 14
     near-small = end .small .keys
 
-    pub near-found : (k : Key) (y : ℕ) (s : Stop) (u₂ : List ℕ) → k ≡ in-leaf right (d .node) key → k ≡ Is y → Ends m u₁ 1 y s u₂ → Walks z m u (near-plan right key) s u₂
+    pub near-found : (k : Key) (y : ℕ) (s : Stop) (u₂ : List ℕ) → k ≡ in-leaf right (node-at (view c) (p .place)) key → k ≡ Is y → Ends m u₁ 1 y s u₂ → Walks z m u (near-plan right key) s u₂
     near-found k y s u₂ pk e q =
         let v : nearest-in right key (entriesOf (d .node) (low bs)) ≡ some y = is-key (nearest-in right key (entriesOf (d .node) (low bs))) y (near ∙ sym pk ∙ e) in
         record {
@@ -91,8 +96,8 @@ module _ (z : TreeSizes) (m : ClientWord → ℕ) (u : List ℕ) (right : Bool) 
           noted = q .noted;
         }
 
-    pub near-beyond : (k : Key) (s : Stop) (u₂ : List ℕ) → k ≡ in-leaf right (d .node) key → k ≡ Nothing → Beyond z m u₁ right key (d .top) (d .path) s u₂ → Walks z m u (near-plan right key) s u₂
-    near-beyond k s u₂ pk e q =
+    pub near-beyond : (k : Key) (path : List Turn) (s : Stop) (u₂ : List ℕ) → k ≡ in-leaf right (node-at (view c) (p .place)) key → k ≡ Nothing → path ≡ turns-in c (p .path) → Beyond z m u₁ right key (p .top) path s u₂ → Walks z m u (near-plan right key) s u₂
+    near-beyond k path s u₂ pk e pp q =
         let v : nearest-in right key (entriesOf (d .node) (low bs)) ≡ none = no-key (nearest-in right key (entriesOf (d .node) (low bs))) (near ∙ sym pk ∙ e) in
         record {
           same = rw (
@@ -101,11 +106,11 @@ module _ (z : TreeSizes) (m : ClientWord → ℕ) (u : List ℕ) (right : Bool) 
             v,
             seek-climb (nearest-in right key) right zero (branches bs),
             sides-are right bs,
-          ) (q .same (lows-of bs));
+          ) (rw pp at (q .same (lows-of bs)));
           noted = q .noted;
         }
 
-    pub near-stacked : Stacked (d .top) (d .path) 0
-    near-stacked = record { high = h .high; size = end .size; good = end .good }
+    pub near-stacked : (path : List Turn) → path ≡ turns-in c (p .path) → Stacked (p .top) path 0
+    near-stacked path pp = rw pp (record { high = h .high; size = end .size; good = end .good })
 
 pub ruleset near-exits = (near-stops, near-small, near-found, near-beyond, near-stacked)

@@ -16,6 +16,7 @@ use Rattle.nodes.specs.Node.{keysOf}
 use Rattle.nodes.specs.Laws.Node.{length-keysOf}
 use Rattle.nodes.specs.Entries.{entriesOf}
 use Rattle.nodes.specs.Kept.{Whole}
+use Rattle.nodes.specs.Laws.Stored.{Sized}
 use Rattle.nodes.specs.Laws.Kept.{length-entriesOf}
 use Rattle.operations.specs.Slot.{TreeSizes}
 use Rattle.operations.specs.Entry.{Entries, keys, under, before}
@@ -38,7 +39,7 @@ use Rattle.walk.specs.Laws.Ask.{none-held}
 use Rattle.walk.specs.Lookup.{Ends}
 use Rattle.walk.specs.Laws.Lookup.{ended-nothing}
 use Rattle.walk.specs.Down.{Kid, trail, Followed, All, blank}
-use Rattle.walk.specs.Laws.Down.{stops-not, trail-more}
+use Rattle.walk.specs.Laws.Down.{stops-not, part-sized, trail-more}
 use Rattle.walk.specs.Seek.{visit, side, nearest-in, key-of, near-keys, in-leaf, more, onward, first-at, rest, climb, rests, Stacked, onto, times, pow, left-in, load, weight, Climbed, Standing, read-on, Advanced, afterwards, ReadOn, Seeks}
 
 -- ---- ways out of the code on one node
@@ -73,21 +74,21 @@ before-some : (ks : List ℕ) (p : ℕ) → (p ≡ 0 → ⊥) → before ks p �
 before-some ks zero h = absurd (h refl)
 before-some ks (suc p) h = let e : suc p - 1 ≡ p = omega arith in rw e
 
-module _ (right : Bool) (n : Node) (key : ℕ) (lk : length (n .keys) ≡ 14) (small : n .count ≤ 14) where
+module _ (right : Bool) (n : Node) (key : ℕ) (lk : Sized n) (small : n .count ≤ 14) where
   long : length (keysOf n) ≡ n .count
-  long = length-keysOf n lk small
+  long = length-keysOf n (lk .keys) small
 
   key-is : (i : ℕ) → i < n .count → getElem? (keysOf n) i ≡ some (getD (n .keys) i 0)
   unfolding keysOf
   key-is i h = elem-some (keysOf n) i (omega (arith, long)) ∙ rw (getD-take (n .count) (n .keys) i 0 h)
 
-  pub right-some : (p x : ℕ) → right ≡ true → p ≡ place (keysOf n) key → p < n .count → x ≡ getD (n .keys) p 0 → Is x ≡ in-leaf right n key
+  pub right-some : (c p x : ℕ) → right ≡ true → c ≡ n .count → p ≡ place (keysOf n) key → p < c → x ≡ getD (n .keys) p 0 → Is x ≡ in-leaf right n key
   unfolding in-leaf
-  right-some p x t e h q = rw (t, ← e, key-is p h, q)
+  right-some c p x t d e h q = rw (t, ← e, key-is p (omega arith), q)
 
-  pub right-none : (p : ℕ) → right ≡ true → p ≡ place (keysOf n) key → n .count ≤ p → Nothing ≡ in-leaf right n key
+  pub right-none : (c p : ℕ) → right ≡ true → c ≡ n .count → p ≡ place (keysOf n) key → c ≤ p → Nothing ≡ in-leaf right n key
   unfolding in-leaf
-  right-none p t e h = rw (t, ← e, elem-none (keysOf n) p (omega (arith, long)))
+  right-none c p t d e h = rw (t, ← e, elem-none (keysOf n) p (omega (arith, long)))
 
   pub left-zero : right ≡ false → key ≡ 0 → Nothing ≡ in-leaf right n key
   unfolding in-leaf
@@ -101,7 +102,7 @@ module _ (right : Bool) (n : Node) (key : ℕ) (lk : length (n .keys) ≡ 14) (s
   unfolding in-leaf
   left-some p x t z e h g q = let l : p - 1 < n .count = omega arith in rw (t, under-place (keysOf n) key z, ← e, before-some (keysOf n) p g, key-is (p - 1) l, q)
 
-pub ruleset leaf-exits = (right-some, right-none, left-zero, left-none, left-some)
+pub ruleset leaf-exits = (right-some, right-none, left-zero, left-none, left-some, part-sized)
 
 pub more-right : (b : Turn) (right : Bool) → right ≡ true → ltb (b .at) (b .node .count) ≡ more right b
 unfolding more
@@ -380,9 +381,9 @@ unfolding read-on
 read-inner g right zero es p z = absurd (z refl)
 read-inner g right (suc l) es p z = let e : suc l - 1 ≡ l = omega arith in rw e
 
-first-is : (right : Bool) (n : Node) → first-at right n ≡ cond right 0 (n .count)
-first-is true n = refl
-first-is false n = refl
+first-is : (right : Bool) (c : ℕ) → first-at right c ≡ cond right 0 c
+first-is true c = refl
+first-is false c = refl
 
 first-left : (right : Bool) (c : ℕ) → cond right (c - cond right 0 c) (cond right 0 c) ≡ c
 first-left true c = omega arith
@@ -398,29 +399,30 @@ module _ (right : Bool) (key top : ℕ) (path : List Turn) (n : Node) (level : �
   at-most true = omega arith
   at-most false = omega arith
 
-  pub first-inside : (at : ℕ) → at ≡ first-at right n → at < 15
-  first-inside at e = go right refl
+  pub first-inside : (c at : ℕ) → c ≡ n .count → at ≡ first-at right c → at < 15
+  first-inside c at d e = go right refl
     where
       go : (r : Bool) → right ≡ r → at < 15
       go true t = let w : at ≡ 0 = rw t at e in omega arith
-      go false t = let w : at ≡ n .count = rw t at e in omega (arith, s .small .keys)
+      go false t = let w : at ≡ c = rw t at e in omega (arith, s .small .keys)
 
-  pub down-first : (name at child : ℕ) → at ≡ first-at right n → child ≡ getD (n .slots) at 0
-      → Advanced right key top path level n (record { state = Next; path = set path level (record { name = name; at = at; node = n }); level = level - 1; name = child })
+  pub down-first : (c name at child : ℕ) (q : Node) → c ≡ n .count → at ≡ first-at right c → q ≡ n → child ≡ getD (n .slots) at 0
+      → Advanced right key top path level n (record { state = Next; path = set path level (record { name = name; at = at; node = q }); level = level - 1; name = child })
   unfolding climb All weight load
-  down-first name at child pa pc =
+  down-first c name at child q d pa′ pq pc =
+      let pa : at ≡ first-at right (n .count) = rw d at pa′ in
       let b : Turn = record { name = name; at = at; node = n } in
       let i : Inner n = open-inner n (s .opened) (omega (arith, s .level-is)) in
       let x = extra-inner n i in
       let e : suc (level - 1) ≡ level = omega arith in
-      let a : at ≡ cond right 0 (n .count) = pa ∙ first-is right n in
-      let g : at < 15 = first-inside at pa in
+      let a : at ≡ cond right 0 (n .count) = pa ∙ first-is right (n .count) in
+      let g : at < 15 = first-inside (n .count) at refl pa in
       let t : trail (set path level b) (level - 1) (top - (level - 1)) ≡ b ∷ trail path level (top - level) =
       trail-more path b level top (omega arith) (omega (arith, s .below)) (omega (arith, s .below, k .high, k .size)) in
       let w : at ≤ n .count = rw a (at-most right) in
       let v : (j : ℕ) → getD (entriesOf n j) at (0, 0) .1 ≡ child = λ j. rw pc (entry-slot n j (s .whole) at (omega arith)) in
       let m : left-in right b ≡ n .count = rw a (first-left right (n .count)) in
-      record {
+      rw pq (record {
         lo = λ j f. getD (entriesOf n j) at (0, 0) .0;
         lows = λ j f. pushed j f;
         found = λ y q. let c : _≡_ {A = ℕ} 0 1 = cc in absurd (omega arith);
@@ -432,7 +434,7 @@ module _ (right : Bool) (key top : ℕ) (path : List Turn) (n : Node) (level : �
         below = λ q. omega (arith, s .below);
         lighter = λ q. let y : pow (level - 1) + times (n .count) (pow (level - 1)) < pow level = rw e at (pow-more (level - 1) (n .count) (s .small .keys)) in
             rw (weight, t, load, m, e) (omega arith);
-      }
+      })
 
 pub ruleset advance-exits = (leaf-found, leaf-passed, first-inside, down-first)
 
@@ -451,8 +453,9 @@ module _ (z : TreeSizes) (m : ClientWord → ℕ) (u : List ℕ) (right : Bool) 
 
   pub read-standing : not b ≡ false → level < top → Standing n level top
   read-standing nb lt =
-      let q = below-true level n (h .fits (sym pb ∙ not-false b nb)) in
-      record { whole = h .whole; small = h .small; opened = q .opened; level-is = q .level; below = lt }
+      let on : goes s ≡ true = sym pb ∙ not-false b nb in
+      let q = below-true level n (h .fits on) in
+      record { whole = h .whole on; small = h .small on; opened = q .opened; level-is = q .level; below = lt }
 
 pub ruleset read-exits = (read-stops, read-leads, read-standing)
 

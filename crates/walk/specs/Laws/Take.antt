@@ -22,6 +22,7 @@ use Rattle.client.specs.Record.{number, value-of, single, record-of, first-slot
 use Rattle.client.specs.Lent.{OwnFits, own-put, used-in}
 use Rattle.walk.specs.Walk.{goes}
 use Rattle.walk.specs.Laws.Walk.{walked-fails}
+use Rattle.walk.specs.Laws.Ask.{first-single}
 use Rattle.walk.specs.Ask.{SmallNode, OwnGood, Answer}
 use Rattle.walk.specs.Laws.Down.{stops-not}
 use Rattle.walk.specs.Laws.Write.{holds-more, good-more, count-more, name-below}
@@ -73,15 +74,15 @@ flag-record : (b : Bool) → single 0 (one-if b) ≡ record-of 0 (taken b)
 unfolding record-of
 flag-record b = refl
 
-module _ (z : TreeSizes) (m : ClientWord → ℕ) (x u : List ℕ) (n : ℕ) (s : Stop) (r : Node) (u′ : List ℕ) (h : Answer z m x u (flag n) s r u′) (b : Bool) (pb : b ≡ goes s) where
+module _ (z : TreeSizes) (m : ClientWord → ℕ) (x u : List ℕ) (n : ℕ) (s : Stop) (v : ℕ) (u′ : List ℕ) (h : Answer z m x u (flag n) s (single 0 v) u′) (b : Bool) (pb : b ≡ goes s) where
   pub flag-lacks : not b ≡ true → FlagTaken z m x u n s x u′
   flag-lacks nb = let no : goes s ≡ false = sym pb ∙ not-true b nb in
       record { asks = λ w hold k. rw (h .asks w hold .same, no); holds = λ t. stops-not s no t; good = λ t. stops-not s no t; noted = h .noted; long = h .long; few = omega arith; inside = h .inside }
 
-  pub flag-in-use : not b ≡ false → getD (r .slots) 0 0 ≡ 1 → FlagTaken z m x u n (Aborts 1) x u′
+  pub flag-in-use : not b ≡ false → v ≡ 1 → FlagTaken z m x u n (Aborts 1) x u′
   flag-in-use nb e = let on : goes s ≡ true = sym pb ∙ not-false b nb in
       record {
-        asks = λ w hold k. rw (h .asks w hold .same, on, free-flag-is (eqb (first-slot r) 1) (k ((flag n, taken true) ∷ w)), eq-eqb (first-slot r) 1 e) (walked-fails z m (used-in u′) not-free);
+        asks = λ w hold k. rw (h .asks w hold .same, on, first-single v, free-flag-is (eqb v 1) (k ((flag n, taken true) ∷ w)), eq-eqb v 1 e) (walked-fails z m (used-in u′) not-free);
         holds = λ t. stops-not (Aborts 1) refl t;
         good = λ t. stops-not (Aborts 1) refl t;
         noted = h .noted;
@@ -90,7 +91,7 @@ module _ (z : TreeSizes) (m : ClientWord → ℕ) (x u : List ℕ) (n : ℕ) (s 
         inside = λ t. stops-not (Aborts 1) refl t;
       }
 
-  pub flag-taken : (k : ℕ) (q : Node) (x′ : List ℕ) → z .servers ≤ 8 → OwnGood x → not b ≡ false → (getD (r .slots) 0 0 ≡ 1 → ⊥) → getD x 0 0 < 20 → k ≡ 8193 + n
+  pub flag-taken : (k : ℕ) (q : Node) (x′ : List ℕ) → z .servers ≤ 8 → OwnGood x → not b ≡ false → (v ≡ 1 → ⊥) → getD x 0 0 < 20 → k ≡ 8193 + n
       → q ≡ single 0 1 → length (q .keys) ≡ 14 → length (q .slots) ≡ 15 → x′ ≡ own-put x k q → OwnFits x′ → FlagTaken z m x u n Going x′ u′
   flag-taken k q x′ eight g nb e few pk pq lk ls px f =
       let on : goes s ≡ true = sym pb ∙ not-false b nb in
@@ -99,7 +100,7 @@ module _ (z : TreeSizes) (m : ClientWord → ℕ) (x u : List ℕ) (n : ℕ) (s 
       let is-v : value-of (flag n) q ≡ taken true = rw pq (taken-value n) in
       let px′ : x′ ≡ own-put x (8193 + n) q = rw pk at px in
       record {
-        asks = λ w hold k. rw (h .asks w hold .same, on, free-flag-is (eqb (first-slot r) 1) (k ((flag n, taken true) ∷ w)), ne-eqb (first-slot r) 1 e);
+        asks = λ w hold k. rw (h .asks w hold .same, on, first-single v, free-flag-is (eqb v 1) (k ((flag n, taken true) ∷ w)), ne-eqb v 1 e);
         holds = λ _ w hold. rw px′ (holds-more z x w (flag n) (taken true) q eight g hold few t sized is-v (pq ∙ flag-record true));
         good = λ _. rw px′ (good-more x (flag n) q g few sized (rw px′ at f) (rw pq (single-small 1)));
         noted = h .noted;

@@ -5,8 +5,7 @@ use Rattle.client.proofs.part.record_at.Tie as tie
 
 pub record-at-spec : {M : Type 1} → statement M
 record-at-spec = tie.close (tie.spec
-    (λ c κs. search needs)  -- item-at-requires
-    (λ c. search needs)  -- add-read-node
+    (λ c κs. search needs)  -- record-start-requires
     (λ c κs. search needs)  -- read-node-requires
     (λ c. search (got-record, needs))  -- returns
     )

@@ -6,7 +6,6 @@ use Rattle.walk.proofs.down.at_root.Tie as tie
 pub at-root-spec : {M : Type 1} → statement M
 at-root-spec = tie.close (tie.spec
     (λ c κs. search needs)  -- ask-meta-requires
-    (λ c. search needs)  -- array-read-name
     (λ c κs. search needs)  -- going-requires
     (λ c. search needs)  -- same-length
     (λ c. search (root-exits, needs))  -- returns

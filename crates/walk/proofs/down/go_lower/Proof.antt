@@ -5,9 +5,8 @@ use Rattle.walk.proofs.down.go_lower.Tie as tie
 
 pub go-lower-spec : {M : Type 1} → statement M
 go-lower-spec = tie.close (tie.spec
-    (λ c κs. search needs)  -- place-requires
-    (λ c. search needs)  -- mul-name
-    (λ c. search needs)  -- array-read-name
+    (λ c κs. search needs)  -- place-at-requires
+    (λ c κs. search (lower-exits, needs))  -- slot-at-requires
     (λ c. search needs)  -- sub-child
     (λ c κs. search needs)  -- child-requires
     (λ c. search needs)  -- same-length

@@ -8,10 +8,10 @@ root-spec = tie.close (tie.spec
     (λ c κs. search needs)  -- ask-node-requires
     (λ c κs. search needs)  -- going-requires
     (λ c. search needs)  -- same-length
-    (λ c. search (root-ways, needs))  -- returns
-    (λ c κs. search needs)  -- opens-requires
+    (λ c. (search (root-ways, needs), search needs))  -- returns
+    (λ c κs. search needs)  -- opens-at-requires
     (λ c. search needs)  -- same-length-2
-    (λ c. search (root-ways, needs))  -- returns-2
+    (λ c. (search (root-ways, needs), search needs))  -- returns-2
     (λ c. search needs)  -- same-length-3
-    (λ c. search (root-ways, needs))  -- returns-3
+    (λ c. (search (root-ways, needs), search needs))  -- returns-3
     )

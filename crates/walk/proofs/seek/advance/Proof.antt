@@ -11,8 +11,10 @@ advance-spec = tie.close (tie.spec
     (λ c. search needs)  -- enum-told
     (λ c κs. search needs)  -- climb-requires
     (λ c. search (advance-exits, needs))  -- returns-2
+    (λ c κs. search needs)  -- count-at-requires
     (λ c κs. search needs)  -- first-at-requires
-    (λ c κs. search (advance-exits, needs))  -- slot-requires
+    (λ c κs. search (advance-exits, needs))  -- slot-at-requires
+    (λ c κs. search needs)  -- read-node-requires
     (λ c. search needs)  -- mul-out
     (λ c. search needs)  -- array-set-from-out
     (λ c. search needs)  -- sub-t17

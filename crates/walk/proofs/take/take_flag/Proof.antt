@@ -10,7 +10,6 @@ take-flag-spec = tie.close (tie.spec
     (λ c. search needs)  -- same-length
     (λ c. search needs)  -- same-length-2
     (λ c. search (taken-flag-exits, needs))  -- returns
-    (λ c. search needs)  -- array-read-if2
     (λ c. search needs)  -- same-length-3
     (λ c. search needs)  -- same-length-4
     (λ c. search (taken-flag-exits, needs))  -- returns-2

@@ -9,8 +9,7 @@ ask-node-spec = tie.close (tie.spec
     (λ c κs. search needs)  -- ask-outside-requires
     (λ c. search needs)  -- same-length
     (λ c. search (answer-exits, needs))  -- returns
-    (λ c κs. search (answer-exits, needs))  -- node-number-requires
-    (λ c κs. search needs)  -- ask-number-requires
+    (λ c κs. search (answer-exits, needs))  -- place-node-requires
     (λ c. search needs)  -- same-length-2
     (λ c. search (answer-exits, needs))  -- returns-2
     )

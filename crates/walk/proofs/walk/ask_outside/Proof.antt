@@ -7,10 +7,8 @@ pub ask-outside-spec : {M : Type 1} → statement M
 ask-outside-spec = tie.close (tie.spec
     (λ c κs. search needs)  -- over-requires
     (λ c κs. search (outside-exits, needs))  -- pop-used-requires
-    (λ c κs. search needs)  -- stopped-requires
     (λ c. search needs)  -- same-length
     (λ c. search (outside-exits, needs))  -- returns
-    (λ c κs. search needs)  -- stopped-requires-2
     (λ c. search needs)  -- same-length-2
     (λ c. search (outside-exits, needs))  -- returns-2
     )

@@ -10,8 +10,12 @@ see-flag-spec = tie.close (tie.spec
     (λ c. search needs)  -- same-length
     (λ c. search (answer-exits, needs))  -- returns
     (λ c κs. search (answer-exits, needs))  -- flag-number-requires
-    (λ c κs. search needs)  -- server-requires
-    (λ c κs. search needs)  -- see-number-requires
-    (λ c. search needs)  -- same-length-2
+    (λ c κs. search needs)  -- find-own-requires
+    (λ c. search needs)  -- enum-known-f
+    (λ c κs. search (answer-exits, needs))  -- own-value-requires
+    (λ c. search needs)  -- enum-told
+    (λ c κs. search (answer-exits, needs))  -- ask-flag-requires
     (λ c. search (answer-exits, needs))  -- returns-2
+    (λ c. search needs)  -- same-length-2
+    (λ c. search (answer-exits, needs))  -- returns-3
     )

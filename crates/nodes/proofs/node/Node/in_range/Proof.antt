@@ -1,46 +1,14 @@
 use borrow.Author.Needs.{needs}
-use borrow.Author.Tests.{eq-eqb, ne-eqb, le-leb, lt-leb}
 use Rattle.nodes.specs.Range.{node-in-range}
-use Rattle.nodes.specs.Laws.Range.{inner-range}
 use Rattle.nodes.proofs.node.Node.in_range.Statement.{statement}
 use Rattle.nodes.proofs.node.Node.in_range.Tie as tie
 
 returns : tie.Need-returns
 unfolding node-in-range
-returns c = search (eq-eqb, le-leb, lt-leb)
-
-returns-2 : tie.Need-returns-2
-unfolding node-in-range
-returns-2 c = search (eq-eqb, le-leb, lt-leb)
-
-returns-3 : tie.Need-returns-3
-unfolding node-in-range
-returns-3 c = search (eq-eqb, le-leb, lt-leb)
-
-returns-4 : tie.Need-returns-4
-unfolding node-in-range
-returns-4 c = search (eq-eqb, le-leb, lt-leb)
-
-returns-6 : tie.Need-returns-6
-unfolding node-in-range
-returns-6 c = search (eq-eqb, ne-eqb, le-leb, lt-leb)
-
-returns-7 : tie.Need-returns-7
-unfolding node-in-range
-returns-7 c = search (eq-eqb, ne-eqb, le-leb, lt-leb)
-
-returns-8 : tie.Need-returns-8
-unfolding node-in-range
-returns-8 c = search (eq-eqb, ne-eqb, le-leb, lt-leb)
+returns c = search needs
 
 pub in-range-spec : {M : Type 1} → statement M
 in-range-spec = tie.close (tie.spec
+    (λ c κs. search needs)  -- fields-in-range-requires
     returns
-    returns-2
-    returns-3
-    returns-4
-    (λ c. search (inner-range, needs))  -- returns-5
-    returns-6
-    returns-7
-    returns-8
     )

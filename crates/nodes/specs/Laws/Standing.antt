@@ -1,0 +1,87 @@
+-- Laws of a node where it stands: which word has which field.
+use mathlib.Core.Path.{_≡_, sym, _∙_}
+use Prim.Native.Nat.{ℕ, _+_, _-_, _/_, _≤_, _<_}
+use native.Mathlib.Omega.{arith}
+use mathlib.Core.List.{List}
+use lib.ListN.{length, getD, take, drop, length-drop}
+use lib.Seq.{getD-take, getD-drop, length-take-le}
+use Rattle.memory.specs.Word.{view}
+use Rattle.memory.specs.Laws.Word.{view-length}
+use mathlib.Core.Bool.{Bool}
+use Rattle.nodes.specs.declared.node.Node.{Node}
+use Rattle.nodes.specs.Place.{place}
+use Rattle.nodes.specs.Node.{keysOf}
+use Rattle.nodes.specs.declared.found.Found.the-variants.{At, Absent}
+use Rattle.nodes.specs.Found.{found}
+use Rattle.nodes.specs.Find.{key-index}
+use Rattle.nodes.specs.Range.{fields-in-range, node-in-range}
+use Rattle.nodes.specs.Stored.{node-of, node-at}
+use Rattle.nodes.specs.Laws.Stored.{Sized, node-sized}
+use Rattle.nodes.specs.Laws.Find.{place-yes, place-no, other-key, this-key}
+
+module _ (w : List ℕ) (b : ℕ) where
+  word-there : (i : ℕ) → i < 33 → getD (take 33 (drop b w)) i 0 ≡ getD w (b + i) 0
+  word-there i h = getD-take 33 (drop b w) i 0 h ∙ getD-drop b w i 0
+
+  module _ (r : ℕ) where
+    pub kind-there : r ≡ getD w b 0 → r ≡ node-at w b .kind
+    unfolding node-at node-of
+    kind-there e = let z : b + 0 ≡ b = omega arith in e ∙ sym (rw z at (word-there 0 (omega arith)))
+
+    pub level-there : r ≡ getD w (b + 1) 0 → r ≡ node-at w b .level
+    unfolding node-at node-of
+    level-there e = e ∙ sym (word-there 1 (omega arith))
+
+    pub version-there : r ≡ getD w (b + 2) 0 → r ≡ node-at w b .version
+    unfolding node-at node-of
+    version-there e = e ∙ sym (word-there 2 (omega arith))
+
+    pub count-there : r ≡ getD w (b + 3) 0 → r ≡ node-at w b .count
+    unfolding node-at node-of
+    count-there e = e ∙ sym (word-there 3 (omega arith))
+
+    pub key-there : (i : ℕ) → i < 14 → r ≡ getD w (b + 4 + i) 0 → r ≡ getD (node-at w b .keys) i 0
+    unfolding node-at node-of
+    key-there i h e =
+        let z : b + (4 + i) ≡ b + 4 + i = omega arith in
+        e ∙ sym (getD-take 14 (drop 4 (take 33 (drop b w))) i 0 h ∙ getD-drop 4 (take 33 (drop b w)) i 0 ∙ rw z at (word-there (4 + i) (omega arith)))
+
+    pub slot-there : (i : ℕ) → i < 15 → r ≡ getD w (b + 18 + i) 0 → r ≡ getD (node-at w b .slots) i 0
+    unfolding node-at node-of
+    slot-there i h e =
+        let z : b + (18 + i) ≡ b + 18 + i = omega arith in
+        e ∙ sym (getD-take 15 (drop 18 (take 33 (drop b w))) i 0 h ∙ getD-drop 18 (take 33 (drop b w)) i 0 ∙ rw z at (word-there (18 + i) (omega arith)))
+
+-- its arrays have their sizes
+pub standing-sized : (s : List ℕ) (b : ℕ) → b + 33 ≤ length s / 8 → Sized (node-at (view s) b)
+unfolding node-at
+standing-sized s b h = node-sized (take 33 (drop b (view s))) (length-take-le 33 (drop b (view s)) (simp length-drop (omega (arith, view-length s))))
+
+pub keys-sized : (s : List ℕ) (b : ℕ) → b + 33 ≤ length s / 8 → length (node-at (view s) b .keys) ≡ 14
+keys-sized s b h = standing-sized s b h .keys
+
+-- ---- what was asked of its words one by one, said of the node
+module _ (s : List ℕ) (b : ℕ) (h : b + 33 ≤ length s / 8) (c i x k p q : ℕ) (e : c ≡ node-at (view s) b .count) (f : node-at (view s) b .count ≤ 14) (g : i < c) (d : x ≡ getD (node-at (view s) b .keys) i 0) (a : p ≡ place (take i (node-at (view s) b .keys)) k) where
+  pub counts-one : x ≤ k → q ≡ p + 1 → q ≡ place (take (i + 1) (node-at (view s) b .keys)) k
+  counts-one t r = place-yes (node-at (view s) b .keys) i c k p q (keys-sized s b h) (omega arith) g (rw d at t) a r
+
+  pub counts-none : k < x → q ≡ p → q ≡ place (take (i + 1) (node-at (view s) b .keys)) k
+  counts-none t r = place-no (node-at (view s) b .keys) i c k p q (keys-sized s b h) (omega arith) g (rw d at t) a r
+
+pub place-counted : (n : Node) (c i k p : ℕ) → c ≡ n .count → i ≤ c → c ≤ i → p ≡ place (take i (n .keys)) k → p ≡ place (keysOf n) k
+unfolding keysOf
+place-counted n c i k p e h g q = let z : i ≡ n .count = omega arith in rw (← z) q
+
+pub place-within : (n : Node) (c i p : ℕ) → c ≡ n .count → i ≤ c → p ≤ i → p ≤ n .count
+place-within n c i p e h g = omega arith
+
+module _ (n : Node) (k p : ℕ) (e : p ≡ place (keysOf n) k) (h : p ≤ n .count) (z : p ≡ 0 → ⊥) (x : ℕ) (d : x ≡ getD (n .keys) (p - 1) 0) where
+  pub other-there : (x ≡ k → ⊥) → Absent ≡ found (key-index (keysOf n) k)
+  other-there q = other-key n k p e h z (λ t. q (d ∙ t))
+
+  pub this-there : x ≡ k → At (p - 1) ≡ found (key-index (keysOf n) k)
+  this-there q = this-key n k p e h z (sym d ∙ q)
+
+pub range-there : (n : Node) (k l v c : ℕ) (r : Bool) → k ≡ n .kind → l ≡ n .level → v ≡ n .version → c ≡ n .count → r ≡ fields-in-range k l v c → r ≡ node-in-range n
+unfolding node-in-range
+range-there n k l v c r a b d e q = rw (← a, ← b, ← d, ← e) q
