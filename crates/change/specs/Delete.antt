@@ -5,12 +5,11 @@ use Rattle.operations.specs.Slot.{TreeSizes}
 use Rattle.operations.specs.Entry.{index}
 use Rattle.operations.specs.Path.{TreePlan}
 use Rattle.operations.specs.Change.{delete-at}
-use Rattle.walk.specs.declared.down.Descent.{Descent}
-use Rattle.walk.specs.Down.{low, branches}
+use Rattle.walk.specs.Down.{Arrival, low, branches}
 use Rattle.change.specs.Insert.{way}
 
 -- the plan from the leaf on
-unfoldable pub delete-in : TreeSizes → Descent → ℕ → TreePlan
+unfoldable pub delete-in : TreeSizes → Arrival → ℕ → TreePlan
 delete-in z d key =
     let es = entriesOf (d .node) (low (way d)) in
     delete-at z (branches (way d)) (d .name) es (index key es)

@@ -14,9 +14,8 @@ use Rattle.operations.specs.Entry.{value-in, with-pair}
 use Rattle.operations.specs.Path.{TreePlan}
 use Rattle.operations.specs.Change.{up}
 use Rattle.walk.specs.declared.down.Turn.{Turn}
-use Rattle.walk.specs.declared.down.Descent.{Descent}
 use Rattle.change.specs.declared.insert.Paired.{Paired}
-use Rattle.walk.specs.Down.{low, branches, trail, Linked, Reached}
+use Rattle.walk.specs.Down.{Arrival, low, branches, trail, Linked, Reached}
 use Rattle.change.specs.Rise.{widened}
 use Rattle.client.specs.Bounds.{highest-level}
 
@@ -29,15 +28,15 @@ unfoldable pub paired : Node → ℕ → ℕ → Paired
 paired n key v = paired-at n key v (key-index (keysOf n) key)
 
 -- ---- a way down that ended at a leaf
-pub record Ended (z : TreeSizes) (d : Descent) : Type 0 where
+pub record Ended (z : TreeSizes) (d : Arrival) : Type 0 where
   pub high : d .top ≤ highest-level
   pub reached : Reached 0 d
   pub linked : Linked z 0 (d .name) (trail (d .path) 0 (d .top - 0))
 
-abbrev pub way : Descent → List Turn
+abbrev pub way : Arrival → List Turn
 way d = trail (d .path) 0 (d .top - 0)
 
 -- ---- insert
 -- the plan from the leaf on
-unfoldable pub insert-in : TreeSizes → Descent → ℕ → ℕ → TreePlan
+unfoldable pub insert-in : TreeSizes → Arrival → ℕ → ℕ → TreePlan
 insert-in z d key v = let es = entriesOf (d .node) (low (way d)) in up z (fresh (value-in key es)) zero (branches (way d)) [] (d .name) (with-pair key v es)

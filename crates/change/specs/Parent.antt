@@ -14,7 +14,6 @@ use Rattle.operations.specs.Slot.{TreeSizes}
 use Rattle.operations.specs.Entry.{Entries, node-value}
 use Rattle.operations.specs.Path.{TreePlan, Branch, Cont, down, at-root}
 use Rattle.operations.specs.Migrate.{moved, move-at, to-level}
-use Rattle.walk.specs.declared.down.Descent.{Descent}
 use Rattle.walk.specs.declared.walk.Stop.{Stop}
 use Rattle.client.specs.Layout.{ClientWord}
 use Rattle.client.specs.Record.{in-store, value-of}
@@ -22,7 +21,7 @@ use Rattle.client.specs.Lent.{used-in}
 use Rattle.walk.specs.Entries.{opens}
 use Rattle.walk.specs.Walk.{goes, walked, carry}
 use Rattle.walk.specs.Ask.{SmallNode, Noted}
-use Rattle.walk.specs.Down.{branches, trail, low}
+use Rattle.walk.specs.Down.{Arrival, branches, trail, low}
 use Rattle.change.specs.Operated.{Operated}
 use Rattle.plans.specs.Plan as P
 
@@ -36,7 +35,7 @@ pub record Parent (z : TreeSizes) (l up : ℕ) (p : Node) : Type 0 where
   pub there : in-store z up ≡ true
 
 -- "the path downward" from the root of the name top to the level above l
-pub record ToParent (z : TreeSizes) (m : ClientWord → ℕ) (u : List ℕ) (key top l : ℕ) (d : Descent) (u′ : List ℕ) : Type 0 where
+pub record ToParent (z : TreeSizes) (m : ClientWord → ℕ) (u : List ℕ) (key top l : ℕ) (d : Arrival) (u′ : List ℕ) : Type 0 where
   pub asks : (k : Cont)
       → walked z m (at-root top (λ j es. ifd (decLt l j) (down (to-level (suc l)) key k j [] top es) (P.fail no-tree))) (used-in u)
       ≡ carry (d .stop) (used-in u′) (λ us. walked z m

@@ -4,6 +4,7 @@ use crate::up::carry_up;
 use nodes::change::Wide;
 use nodes::found::Found;
 use nodes::node::Node;
+use nodes::standing::find_at;
 use nodes::stored::read_node;
 use walk::down::Descent;
 use walk::down::descend;
@@ -15,7 +16,8 @@ ghost use Prim.Native.Nat.{_<_, _≤_};
 ghost use Rattle.nodes.specs.Change.{take-out};
 ghost use Rattle.operations.specs.Change.{delete-plan};
 ghost use Rattle.client.specs.Record.{sizes};
-ghost use Rattle.walk.specs.Ask.{Beginning};
+ghost use Rattle.walk.specs.Ask.{In-part, Beginning};
+ghost use Rattle.walk.specs.Down.{arrival, Path-in-part};
 ghost use Rattle.change.specs.Rise.{widened};
 ghost use Rattle.change.specs.Operated.{Operates};
 ghost use Rattle.change.specs.Insert.{Ended};
@@ -42,13 +44,13 @@ fn delete_at(
     key: u64,
 ) -> Stop
     requires { ⌜ Beginning servers (now part) (now own) (now used) ⌝ }
-    requires ended { ⌜ Ended (sizes servers slots) d ⌝ }
-    ensures { λ r. ⌜ Operates servers slots part own used (λ z. delete-in z d key) r ⌝ }
+    requires ended { ⌜ Ended (sizes servers slots) (arrival (now part) d) × Path-in-part (d .path) × In-part (d .place) ⌝ }
+    ensures { λ r. ⌜ Operates servers slots part own used (λ z. delete-in z (arrival (now (part .entry)) d) key) r ⌝ }
 {
-    let leaf = read_node(part, d.place);
-    let f = leaf.find(key);
+    let f = find_at(part, d.place, key);
     match f {
         Found::At(i) => {
+            let leaf = read_node(part, d.place);
             let content = without(leaf, i);
             carry_up(part, servers, slots, own, used, d, content, 1)
         }

@@ -13,7 +13,8 @@ ghost use mathlib.Core.Path.{_≡_};
 ghost use Prim.Native.Nat.{_≤_};
 ghost use Rattle.operations.specs.Change.{insert-plan};
 ghost use Rattle.client.specs.Record.{sizes};
-ghost use Rattle.walk.specs.Ask.{Beginning};
+ghost use Rattle.walk.specs.Ask.{In-part, Beginning};
+ghost use Rattle.walk.specs.Down.{arrival, Path-in-part};
 ghost use Rattle.change.specs.Operated.{Operates};
 ghost use Rattle.change.specs.Insert.{Ended, paired, insert-in};
 ghost use Rattle.client.specs.Bounds.{most-keys};
@@ -56,8 +57,8 @@ fn insert_at(
     value: u64,
 ) -> Stop
     requires { ⌜ Beginning servers (now part) (now own) (now used) ⌝ }
-    requires ended { ⌜ Ended (sizes servers slots) d ⌝ }
-    ensures { λ r. ⌜ Operates servers slots part own used (λ z. insert-in z d key value) r ⌝ }
+    requires ended { ⌜ Ended (sizes servers slots) (arrival (now part) d) × Path-in-part (d .path) × In-part (d .place) ⌝ }
+    ensures { λ r. ⌜ Operates servers slots part own used (λ z. insert-in z (arrival (now (part .entry)) d) key value) r ⌝ }
 {
     let leaf = read_node(part, d.place);
     let p = with_pair(leaf, key, value);

@@ -30,7 +30,8 @@ ghost use Rattle.client.specs.Record.{sizes, in-store, value-of};
 ghost use Rattle.client.specs.Sets.{held};
 ghost use Rattle.client.specs.Lent.{own-count};
 ghost use Rattle.client.specs.Bounds.{end-of-slots, own-most, highest-level};
-ghost use Rattle.walk.specs.Ask.{SmallNode, OwnGood, Writing, Beginning, Walking, over-lent};
+ghost use Rattle.walk.specs.Ask.{SmallNode, OwnGood, In-part, Writing, Beginning, Walking, over-lent};
+ghost use Rattle.walk.specs.Down.{arrival};
 ghost use Rattle.change.specs.Operated.{Operates};
 ghost use Rattle.change.specs.Move.{Beside, Placed, Left, Moved};
 ghost use Rattle.change.specs.Migrate.{named-plan};
@@ -237,7 +238,9 @@ fn to_parent(
 ) -> Descent
     requires { ⌜ Walking servers (now part) (now used) ⌝ }
     requires low { ⌜ level ≤ highest-level ⌝ }
-    ensures { λ r. ⌜ ToParent (sizes servers slots) (held (now (part .entry))) (now (used .entry)) key top level r (now (used .exit)) ⌝ }
+    ensures { λ r. ⌜ ToParent (sizes servers slots) (held (now (part .entry))) (now (used .entry)) key top level
+        (arrival (now (part .entry)) r) (now (used .exit)) ⌝ }
+    ensures within { λ r. ⌜ In-part (r .place) ⌝ }
 {
     let r = root(part, servers, slots, used, top);
     let stop = r.stop;
@@ -246,7 +249,8 @@ fn to_parent(
         return no_descent(stop);
     }
     let first = r.place;
-    if level_at(part, first) as usize <= level {
+    let height = level_at(part, first) as usize;
+    if height <= level {
         return no_descent(Stop::Aborts(3));
     }
     go_down(part, servers, slots, used, key, level + 1, top, first)

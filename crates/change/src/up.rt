@@ -9,6 +9,7 @@ use walk::walk::Stop;
 use walk::walk::going;
 ghost use Rattle.client.specs.Record.{sizes};
 ghost use Rattle.walk.specs.Ask.{Beginning};
+ghost use Rattle.walk.specs.Down.{turns-in, Path-in-part};
 ghost use Rattle.change.specs.Operated.{Operates};
 ghost use Rattle.change.specs.Up.{Ready, rise-plan};
 
@@ -61,7 +62,7 @@ pub fn rise(
     at_top(part, servers, slots, own, used, level, name, n, a, b)
 }
 
-// From where a way down ended.
+// From where a way down ended: its path is taken out of the part.
 pub fn carry_up(
     part: &[u8],
     servers: usize,
@@ -73,11 +74,13 @@ pub fn carry_up(
     a: u64,
 ) -> Stop
     requires { ⌜ Beginning servers (now part) (now own) (now used) ⌝ }
-    requires ready { ⌜ Ready (sizes servers slots) (d .top) (d .path) (d .name) content ⌝ }
-    ensures { λ r. ⌜ Operates servers slots part own used (λ z. rise-plan z (a, 0) (d .top) (d .path) (d .name) content) r ⌝ }
+    requires ready { ⌜ Ready (sizes servers slots) (d .top) (turns-in (now part) (d .path)) (d .name) content × Path-in-part (d .path) ⌝ }
+    ensures { λ r. ⌜ Operates servers slots part own used
+        (λ z. rise-plan z (a, 0) (d .top) (turns-in (now (part .entry)) (d .path)) (d .name) content) r ⌝ }
 {
     let top = d.top;
-    let path = turns(part, d.path);
+    let passed = d.path;
+    let path = turns(part, passed);
     let name = d.name;
     rise(
         part,

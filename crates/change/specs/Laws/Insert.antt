@@ -28,6 +28,8 @@ use Rattle.operations.specs.Slot.{TreeSizes}
 use Rattle.operations.specs.Entry.{Entries, keys, index, value-in, with-pair}
 use Rattle.operations.specs.Path.{TreePlan, Branch, from-root}
 use Rattle.operations.specs.Change.{up, insert-plan}
+use Rattle.memory.specs.Word.{view}
+use Rattle.nodes.specs.Stored.{node-at}
 use Rattle.walk.specs.declared.down.Descent.{Descent}
 use Rattle.change.specs.declared.insert.Paired.{Paired}
 use Rattle.walk.specs.declared.walk.Stop.{Stop}
@@ -37,7 +39,7 @@ use Rattle.walk.specs.Laws.Entries.{Leaf, open-leaf, extra-leaf, leaf-keys, lea
 use Rattle.walk.specs.Walk.{goes}
 use Rattle.walk.specs.Laws.Lookup.{ended-nothing, place-within, find-inside}
 use Rattle.walk.specs.Ask.{OwnGood, Noted}
-use Rattle.walk.specs.Down.{low, branches, Descends}
+use Rattle.walk.specs.Down.{turns-in, Arrival, arrival, low, branches, Descends}
 use Rattle.change.specs.Operated.{Operated}
 use Rattle.change.specs.Rise.{OfLevel, Content, widened}
 use Rattle.change.specs.Laws.Parts.{widened-entries, widened-content}
@@ -145,19 +147,19 @@ pair-few n d e h = omega arith
 
 pub ruleset pair-exits = (pair-replaced, pair-new, pair-inside, pair-few)
 
-module _ (z : TreeSizes) (d : Descent) (t : Ended z d) where
+module _ (z : TreeSizes) (d : Arrival) (t : Ended z d) where
   pub ended-leaf : AtLeaf (d .node)
   ended-leaf = record { whole = t .reached .whole; leaf = open-leaf (d .node) (t .reached .opened) (t .reached .level); small = t .reached .small .keys }
-
-  pub ended-few : d .node .count ≤ 14
-  ended-few = ended-leaf .small
 
   pub ended-ready : (n : Wide) → Content 0 n → Ready z (d .top) (d .path) (d .name) n
   ended-ready n c = record { high = t .high; size = t .reached .size; good = t .reached .good; linked = t .linked; content = c }
 
-module _ (z : TreeSizes) (m : ClientWord → ℕ) (x u : List ℕ) (key : ℕ) (d : Descent) (u₁ : List ℕ) (h : Descends z m u key d u₁) (on : Bool) (po : on ≡ goes (d .stop)) where
+module _ (z : TreeSizes) (m : ClientWord → ℕ) (x u : List ℕ) (key : ℕ) (b : List ℕ) (p : Descent) (u₁ : List ℕ) (h : Descends z m u key (arrival b p) u₁) (on : Bool) (po : on ≡ goes (p .stop)) where
+  abbrev d : Arrival
+  d = arrival b p
+
   -- an operation that stops on the way has written nothing
-  pub change-stops : (k : List Branch → ℕ → Entries → TreePlan) → OwnGood x → not on ≡ true → Operated z m x u (from-root key k) (d .stop) x u₁
+  pub change-stops : (k : List Branch → ℕ → Entries → TreePlan) → OwnGood x → not on ≡ true → Operated z m x u (from-root key k) (p .stop) x u₁
   change-stops k g nb =
       let halts : goes (d .stop) ≡ false = sym po ∙ not-true on nb in
       record {
@@ -175,7 +177,7 @@ module _ (z : TreeSizes) (m : ClientWord → ℕ) (x u : List ℕ) (key : ℕ) (
     going : goes (d .stop) ≡ true
     going = sym po ∙ not-false on nb
 
-    pub change-ended : Ended z d
+    pub change-ended : Ended z (arrival b p)
     change-ended = record { high = h .high; reached = h .reached going; linked = h .linked going }
 
     -- what follows at the leaf
@@ -189,28 +191,39 @@ module _ (z : TreeSizes) (m : ClientWord → ℕ) (x u : List ℕ) (key : ℕ) (
       noted = q .noted;
     }
 
-module _ (z : TreeSizes) (m : ClientWord → ℕ) (x u : List ℕ) (d : Descent) (key v : ℕ) (t : Ended z d) (p : Paired) (pp : p ≡ paired (d .node) key v) where
-  pub insert-ready : Ready z (d .top) (d .path) (d .name) (p .content)
-  insert-ready = ended-ready z d t (p .content) (rw pp (paired-content (d .node) (ended-leaf z d t) key v))
+-- the leaf, taken out of the part
+pub leaf-few : (z : TreeSizes) (b : List ℕ) (p : Descent) (n : Node) → Ended z (arrival b p) → n ≡ node-at (view b) (p .place) → n .count ≤ 14
+leaf-few z b p n t e = rw e (ended-leaf z (arrival b p) t .small)
 
-  pub insert-goes : (s : Stop) (x′ u′ : List ℕ) → Operated z m x u (rise-plan z (p .a, 0) (d .top) (d .path) (d .name) (p .content)) s x′ u′ → Operated z m x u (insert-in z d key v) s x′ u′
+module _ (z : TreeSizes) (m : ClientWord → ℕ) (x u : List ℕ) (b : List ℕ) (p : Descent) (key v : ℕ) (t : Ended z (arrival b p)) (n : Node) (pn : n ≡ node-at (view b) (p .place)) (q : Paired) (pq : q ≡ paired n key v) where
+  abbrev come : Arrival
+  come = arrival b p
+
+  pp : q ≡ paired (come .node) key v
+  pp = rw pn at pq
+
+  pub insert-ready : Ready z (p .top) (turns-in b (p .path)) (p .name) (q .content)
+  insert-ready = ended-ready z come t (q .content) (rw pp (paired-content (come .node) (ended-leaf z come t) key v))
+
+  pub insert-goes : (s : Stop) (x′ u′ : List ℕ) → Operated z m x u (rise-plan z (q .a, 0) (p .top) (turns-in b (p .path)) (p .name) (q .content)) s x′ u′
+      → Operated z m x u (insert-in z (arrival b p) key v) s x′ u′
   unfolding rise-plan insert-in
-  insert-goes s x′ u′ q =
-      let e : wide-entries (p .content) (low (way d)) ≡ with-pair key v (entriesOf (d .node) (low (way d))) = rw pp (paired-entries (d .node) (ended-leaf z d t) key v (low (way d))) in
-      let a : fresh (value-in key (entriesOf (d .node) (low (way d)))) ≡ (p .a, 0) = rw pp (paired-answer (d .node) (ended-leaf z d t) key v (low (way d))) in
+  insert-goes s x′ u′ r =
+      let e : wide-entries (q .content) (low (way come)) ≡ with-pair key v (entriesOf (come .node) (low (way come))) = rw pp (paired-entries (come .node) (ended-leaf z come t) key v (low (way come))) in
+      let a : fresh (value-in key (entriesOf (come .node) (low (way come)))) ≡ (q .a, 0) = rw pp (paired-answer (come .node) (ended-leaf z come t) key v (low (way come))) in
       record {
-        writes = q .writes;
-        same = λ hold. rw (a, ← e) (q .same hold);
-        holds = q .holds;
-        kept = q .kept;
-        noted = q .noted;
+        writes = r .writes;
+        same = λ hold. rw (a, ← e) (r .same hold);
+        holds = r .holds;
+        kept = r .kept;
+        noted = r .noted;
       }
 
-pub ruleset insert-exits = (ended-few, insert-ready, insert-goes)
+pub ruleset insert-exits = (leaf-few, insert-ready, insert-goes)
 
-pub inserted : (z : TreeSizes) (m : ClientWord → ℕ) (x u : List ℕ) (key v : ℕ) (d : Descent) (u₁ : List ℕ) → Descends z m u key d u₁ → (on : Bool) → on ≡ goes (d .stop) → not on ≡ false
-    → (s : Stop) (x′ u′ : List ℕ) → Operated z m x u₁ (insert-in z d key v) s x′ u′ → Operated z m x u (insert-plan z key v) s x′ u′
+pub inserted : (z : TreeSizes) (m : ClientWord → ℕ) (x u : List ℕ) (key v : ℕ) (b : List ℕ) (p : Descent) (u₁ : List ℕ) → Descends z m u key (arrival b p) u₁ → (on : Bool) → on ≡ goes (p .stop) → not on ≡ false
+    → (s : Stop) (x′ u′ : List ℕ) → Operated z m x u₁ (insert-in z (arrival b p) key v) s x′ u′ → Operated z m x u (insert-plan z key v) s x′ u′
 unfolding insert-in
-inserted z m x u key v d u₁ h on po nb s x′ u′ q = change-on z m x u key d u₁ h on po nb (λ fs n es. up z (fresh (value-in key es)) zero fs [] n (with-pair key v es)) s x′ u′ q
+inserted z m x u key v b p u₁ h on po nb s x′ u′ q = change-on z m x u key b p u₁ h on po nb (λ fs n es. up z (fresh (value-in key es)) zero fs [] n (with-pair key v es)) s x′ u′ q
 
 pub ruleset inserted-exits = (change-stops, change-noted, change-ended, inserted)

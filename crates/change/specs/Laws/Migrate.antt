@@ -19,18 +19,20 @@ use Rattle.operations.specs.Object.{meta, node, Val, body, no-tree}
 use Rattle.operations.specs.Slot.{TreeSizes}
 use Rattle.operations.specs.Path.{TreePlan}
 use Rattle.operations.specs.Migrate.{move-root, move-at, first-key, move-below, move-node, move-if, migrate-plan}
+use Rattle.memory.specs.Word.{view}
+use Rattle.nodes.specs.Stored.{node-at}
 use Rattle.walk.specs.declared.down.Descent.{Descent}
 use Rattle.walk.specs.declared.search.Taken.{Taken}
 use Rattle.walk.specs.declared.walk.Stop.{Stop}
 use Rattle.walk.specs.declared.walk.Stop.the-variants.{Aborts}
 use Rattle.client.specs.Layout.{ClientWord}
-use Rattle.client.specs.Record.{value-of}
+use Rattle.client.specs.Record.{value-of, single}
 use Rattle.client.specs.Lent.{used-in}
 use Rattle.walk.specs.Walk.{goes, walked}
 use Rattle.walk.specs.Laws.Walk.{walked-fails}
-use Rattle.walk.specs.Ask.{SmallNode, OwnGood, Holds-writes, Noted, Answer, nothing}
-use Rattle.walk.specs.Laws.Ask.{none-held}
-use Rattle.walk.specs.Down.{branches, trail, low}
+use Rattle.walk.specs.Ask.{SmallNode, OwnGood, Holds-writes, Noted, Answer, given, nothing}
+use Rattle.walk.specs.Laws.Ask.{none-held, first-single}
+use Rattle.walk.specs.Down.{Arrival, arrival, branches, trail, low}
 use Rattle.change.specs.Mute.{stands}
 use Rattle.walk.specs.Lookup.{Ends}
 use Rattle.walk.specs.Laws.Lookup.{ended-nothing}
@@ -80,25 +82,28 @@ module _ (z : TreeSizes) (m : ClientWord → ℕ) (x u : List ℕ) (nm s : ℕ) 
 pub ruleset root-moves = (root-stays, root-moved)
 
 -- ---- a node below the root
-module _ (z : TreeSizes) (m : ClientWord → ℕ) (x u : List ℕ) (top nm s key : ℕ) (n : Node) (d : Descent) (u₁ : List ℕ) (h : ToParent z m u key top (n .level) d u₁) (b : Bool) (pb : b ≡ goes (d .stop)) where
+module _ (z : TreeSizes) (m : ClientWord → ℕ) (x u : List ℕ) (top nm s key : ℕ) (n : Node) (c : List ℕ) (p : Descent) (u₁ : List ℕ) (h : ToParent z m u key top (n .level) (arrival c p) u₁) (b : Bool) (pb : b ≡ goes (p .stop)) where
+  abbrev d : Arrival
+  d = arrival c p
+
   abbrev w : Val
   w = value-of (node nm) n
 
-  pub below-stops : OwnGood x → not b ≡ true → Operated z m x u (move-below z top nm s w (n .level) key) (d .stop) x u₁
+  pub below-stops : OwnGood x → not b ≡ true → Operated z m x u (move-below z top nm s w (n .level) key) (p .stop) x u₁
   below-stops g nb =
       let q : goes (d .stop) ≡ false = sym pb ∙ not-true b nb in
       walks-operated z m x u (move-below z top nm s w (n .level) key) (d .stop) u₁ g (record { same = rw (h .asks (move-at z nm s w key), q); noted = h .noted })
 
-  pub below-moves : (st : Stop) (x′ u′ : List ℕ) → not b ≡ false → MovedAt z m x u₁ key nm s n (d .name) (d .node) st x′ u′ → Operated z m x u (move-below z top nm s w (n .level) key) st x′ u′
-  below-moves st x′ u′ nb c =
+  pub below-moves : (q : Node) (st : Stop) (x′ u′ : List ℕ) → not b ≡ false → q ≡ node-at (view c) (p .place) → MovedAt z m x u₁ key nm s n (p .name) q st x′ u′ → Operated z m x u (move-below z top nm s w (n .level) key) st x′ u′
+  below-moves q st x′ u′ nb pq a =
       let on : goes (d .stop) ≡ true = sym pb ∙ not-false b nb in
       let e : d .node .level ≡ suc (n .level) = h .parent on .level in
       follows z m x u u₁ (move-below z top nm s w (n .level) key) _ st x′ u′ (λ hold. rw (h .asks (move-at z nm s w key), on, ← e))
-      (c .operated (branches (trail (d .path) (suc (n .level)) (d .top - suc (n .level)))) (low (trail (d .path) (suc (n .level)) (d .top - suc (n .level)))))
+      ((rw pq at a) .operated (branches (trail (d .path) (suc (n .level)) (d .top - suc (n .level)))) (low (trail (d .path) (suc (n .level)) (d .top - suc (n .level)))))
 
-pub below-parent : (z : TreeSizes) (m : ClientWord → ℕ) (u : List ℕ) (key top l : ℕ) (d : Descent) (u′ : List ℕ) (b : Bool) → ToParent z m u key top l d u′ → b ≡ goes (d .stop) → not b ≡ false
-    → Parent z l (d .name) (d .node)
-below-parent z m u key top l d u′ b h pb nb = h .parent (sym pb ∙ not-false b nb)
+pub below-parent : (z : TreeSizes) (m : ClientWord → ℕ) (u : List ℕ) (key top l : ℕ) (c : List ℕ) (p : Descent) (u′ : List ℕ) (b : Bool) (n : Node) → ToParent z m u key top l (arrival c p) u′ → b ≡ goes (p .stop) → not b ≡ false
+    → n ≡ node-at (view c) (p .place) → Parent z l (p .name) n
+below-parent z m u key top l c p u′ b n h pb nb e = rw e (h .parent (sym pb ∙ not-false b nb))
 
 pub ruleset below-exits = (below-stops, below-parent, below-moves)
 
@@ -161,37 +166,43 @@ module _ (z : TreeSizes) (m : ClientWord → ℕ) (x u : List ℕ) (g : OwnGood 
 
 pub ruleset if-exits = (if-free, if-there, if-root, if-few, if-below)
 
-module _ (z : TreeSizes) (m : ClientWord → ℕ) (x u : List ℕ) (g : OwnGood x) (top nm s : ℕ) (s₁ : Stop) (n : Node) (u₁ : List ℕ) (a : Answer z m nothing u (node nm) s₁ n u₁) (b : Bool) (pb : b ≡ goes s₁) where
-  pub named-stops : not b ≡ true → Operated z m x u (named-plan z top nm s) s₁ x u₁
+module _ (z : TreeSizes) (m : ClientWord → ℕ) (x u : List ℕ) (top nm s : ℕ) (s₁ : Stop) (q : Node) (u₁ : List ℕ) (a : Answer z m nothing u (node nm) s₁ (given s₁ q) u₁) (b : Bool) (pb : b ≡ goes s₁) where
+  pub named-stops : OwnGood x → not b ≡ true → Operated z m x u (named-plan z top nm s) s₁ x u₁
   unfolding named-plan
-  named-stops nb =
-      let q : goes s₁ ≡ false = sym pb ∙ not-true b nb in
-      walks-operated z m x u (named-plan z top nm s) s₁ u₁ g (record { same = rw (a .asks [] (none-held z) .same, q); noted = a .noted })
+  named-stops g nb =
+      let t : goes s₁ ≡ false = sym pb ∙ not-true b nb in
+      walks-operated z m x u (named-plan z top nm s) s₁ u₁ g (record { same = rw (a .asks [] (none-held z) .same, t); noted = a .noted })
 
-  pub named-goes-on : (st : Stop) (x′ u′ : List ℕ) → not b ≡ false → Operated z m x u₁ (move-if z top nm s (value-of (node nm) n)) st x′ u′ → Operated z m x u (named-plan z top nm s) st x′ u′
-  unfolding named-plan
-  named-goes-on st x′ u′ nb h =
-      let on : goes s₁ ≡ true = sym pb ∙ not-false b nb in
-      follows z m x u u₁ (named-plan z top nm s) (move-if z top nm s (value-of (node nm) n)) st x′ u′ (λ hold. rw (a .asks [] (none-held z) .same, on)) h
+  module _ (n : Node) (nb : not b ≡ false) (e : n ≡ q) where
+    on : goes s₁ ≡ true
+    on = sym pb ∙ not-false b nb
 
-pub named-small : (z : TreeSizes) (m : ClientWord → ℕ) (u : List ℕ) (nm : ℕ) (s : Stop) (n : Node) (u′ : List ℕ) → Answer z m nothing u (node nm) s n u′ → SmallNode n
-named-small z m u nm s n u′ c = c .small
+    node-asked : Answer z m nothing u (node nm) s₁ n u₁
+    node-asked = rw e (rw on at a)
 
-pub named-whole : (z : TreeSizes) (m : ClientWord → ℕ) (u : List ℕ) (nm : ℕ) (s : Stop) (n : Node) (u′ : List ℕ) → Answer z m nothing u (node nm) s n u′ → length (n .keys) ≡ 14 → length (n .slots) ≡ 15 → Whole n
-named-whole z m u nm s n u′ c lk ls = whole n lk ls (c .small .keys)
+    pub named-goes-on : (st : Stop) (x′ u′ : List ℕ) → Operated z m x u₁ (move-if z top nm s (value-of (node nm) n)) st x′ u′ → Operated z m x u (named-plan z top nm s) st x′ u′
+    unfolding named-plan
+    named-goes-on st x′ u′ h =
+        follows z m x u u₁ (named-plan z top nm s) (move-if z top nm s (value-of (node nm) n)) st x′ u′ (λ hold. rw (node-asked .asks [] (none-held z) .same, on)) h
+
+    pub named-small : SmallNode n
+    named-small = node-asked .small
+
+    pub named-whole : length (n .keys) ≡ 14 → length (n .slots) ≡ 15 → Whole n
+    named-whole lk ls = whole n lk ls (node-asked .small .keys)
 
 pub ruleset named-exits = (named-stops, named-goes-on, named-small, named-whole)
 
-module _ (z : TreeSizes) (m : ClientWord → ℕ) (x u : List ℕ) (nm s : ℕ) (s₁ : Stop) (r : Node) (u₁ : List ℕ) (a : Answer z m nothing u meta s₁ r u₁) (b : Bool) (pb : b ≡ goes s₁) where
+module _ (z : TreeSizes) (m : ClientWord → ℕ) (x u : List ℕ) (nm s : ℕ) (s₁ : Stop) (v : ℕ) (u₁ : List ℕ) (a : Answer z m nothing u meta s₁ (single 0 v) u₁) (b : Bool) (pb : b ≡ goes s₁) where
   pub migrate-stops : OwnGood x → not b ≡ true → Operated z m x u (migrate-plan z nm s) s₁ x u₁
   migrate-stops g nb =
       let q : goes s₁ ≡ false = sym pb ∙ not-true b nb in
       walks-operated z m x u (migrate-plan z nm s) s₁ u₁ g (record { same = rw (a .asks [] (none-held z) .same, q); noted = a .noted })
 
-  pub migrate-goes-on : (st : Stop) (x′ u′ : List ℕ) → not b ≡ false → Operated z m x u₁ (named-plan z (getD (r .slots) 0 0) nm s) st x′ u′ → Operated z m x u (migrate-plan z nm s) st x′ u′
+  pub migrate-goes-on : (st : Stop) (x′ u′ : List ℕ) → not b ≡ false → Operated z m x u₁ (named-plan z v nm s) st x′ u′ → Operated z m x u (migrate-plan z nm s) st x′ u′
   unfolding named-plan
   migrate-goes-on st x′ u′ nb h =
       let on : goes s₁ ≡ true = sym pb ∙ not-false b nb in
-      follows z m x u u₁ (migrate-plan z nm s) (named-plan z (getD (r .slots) 0 0) nm s) st x′ u′ (λ hold. rw (a .asks [] (none-held z) .same, on)) h
+      follows z m x u u₁ (migrate-plan z nm s) (named-plan z v nm s) st x′ u′ (λ hold. rw (a .asks [] (none-held z) .same, on, first-single v)) h
 
 pub ruleset migrate-exits = (migrate-stops, migrate-goes-on)

@@ -289,6 +289,9 @@ module _ (z : TreeSizes) (l a c : ℕ) (b : Turn) (name : ℕ) (n : Node) (d : U
               let low : Below l k = below-true l k (asked .fits t) in
               raised-as z m x u u₁ l root whole-plan (even-plan (a, c) l b s n k) r x′ u′
               (λ w hold lo fs go. rw (meets lo fs w go, asked .asks w hold _ _, t))
-              (evens .raised l (d .link .level) f (below-level l k low (asked .whole)) (low .enough))
+              (evens .raised l (d .link .level) f (below-level l k low (asked .whole t)) (low .enough))
+
+pub far-small : (z : TreeSizes) (m : ClientWord → ℕ) (x u : List ℕ) (l other : ℕ) (stop : Stop) (k : Node) (u₁ : List ℕ) (on : Bool) → Kid z m x u l other stop k u₁ → on ≡ goes stop → not on ≡ false → SmallNode k
+far-small z m x u l other stop k u₁ on asked pg q = asked .small (sym pg ∙ not-false on q)
 
 pub ruleset neighbour-exits = (alone, itself, turn-stops, met, turning-small, turned)

@@ -24,7 +24,6 @@ use Rattle.operations.specs.Entry.{Entries, keys, node-value}
 use Rattle.operations.specs.Path.{TreePlan, Branch, Cont, down}
 use Rattle.operations.specs.Migrate.{move-at, to-level}
 use Rattle.walk.specs.declared.down.Turn.{Turn}
-use Rattle.walk.specs.declared.down.Descent.{Descent}
 use Rattle.walk.specs.declared.search.Taken.{Taken}
 use Rattle.walk.specs.declared.walk.Stop.{Stop}
 use Rattle.walk.specs.declared.walk.Stop.the-variants.{Aborts}
@@ -37,7 +36,7 @@ use Rattle.walk.specs.Walk.{goes}
 use Rattle.walk.specs.Laws.Walk.{walked-fails}
 use Rattle.walk.specs.Ask.{OwnGood, Noted}
 use Rattle.walk.specs.Laws.Down.{stops-not}
-use Rattle.walk.specs.Down.{RootMet, From, Stops, Led, Linked, trail, Reached}
+use Rattle.walk.specs.Down.{Arrival, RootMet, From, Stops, Led, Linked, trail, Reached}
 use Rattle.walk.specs.Laws.Write.{name-below}
 use Rattle.walk.specs.Take.{Wrote}
 use Rattle.change.specs.Mute.{stands}
@@ -185,7 +184,7 @@ module _ (z : TreeSizes) (m : ClientWord → ℕ) (u : List ℕ) (key top l : �
   abbrev below : Cont → ℕ → Entries → TreePlan
   below k j es = ifd (decLt l j) (down (to-level (suc l)) key k j [] top es) (P.fail no-tree)
 
-  pub parent-no-root : (d : Descent) → not b ≡ true → d .stop ≡ st → ToParent z m u key top l d u₁
+  pub parent-no-root : (d : Arrival) → not b ≡ true → d .stop ≡ st → ToParent z m u key top l d u₁
   parent-no-root d nb e =
       let q : goes st ≡ false = sym pb ∙ not-true b nb in
       record { asks = λ k. rw (h .asks (below k), e, q); noted = h .noted; parent = λ t. stops-not st q (rw e at t) }
@@ -194,19 +193,20 @@ module _ (z : TreeSizes) (m : ClientWord → ℕ) (u : List ℕ) (key top l : �
     on : goes st ≡ true
     on = sym pb ∙ not-false b nb
 
-    pub parent-low : (d : Descent) → r .level ≤ l → d .stop ≡ Aborts 3 → ToParent z m u key top l d u₁
-    parent-low d g e = record {
+    pub parent-low : (d : Arrival) (v : ℕ) → v ≡ r .level → v ≤ l → d .stop ≡ Aborts 3 → ToParent z m u key top l d u₁
+    parent-low d v pv g e = record {
       asks = λ k. rw (h .asks (below k), on, ifd-no (decLt l (r .level)) (down (to-level (suc l)) key k (r .level) [] top (entriesOf r 0)) (P.fail no-tree) (λ a. absurd (omega arith)), e)
           (walked-fails z m (used-in u₁) no-tree);
       noted = h .noted;
       parent = λ t. stops-not (Aborts 3) refl (rw e at t);
     }
 
-    pub parent-from : l < r .level → From r (l + 1)
-    parent-from g = record { whole = h .whole; small = h .small; opened = h .fits on; above = omega arith }
+    pub parent-from : (v : ℕ) → v ≡ r .level → l < v → From r (l + 1)
+    parent-from v pv g = record { whole = h .whole on; small = h .small on; opened = h .fits on; above = omega arith }
 
-    pub parent-led : (d : Descent) (u₂ : List ℕ) → l < r .level → Led z m u₁ key (l + 1) top r d u₂ → ToParent z m u key top l d u₂
-    parent-led d u₂ g c =
+    pub parent-led : (d : Arrival) (v : ℕ) (u₂ : List ℕ) → v ≡ r .level → l < v → Led z m u₁ key (l + 1) top r d u₂ → ToParent z m u key top l d u₂
+    parent-led d v u₂ pv g′ c =
+        let g : l < r .level = omega arith in
         let c′ : Led z m u₁ key (suc l) top r d u₂ = rw add-one at c in
         record {
           asks = λ k. rw (h .asks (below k), on, ifd-yes (decLt l (r .level)) (down (to-level (suc l)) key k (r .level) [] top (entriesOf r 0)) (P.fail no-tree) g)

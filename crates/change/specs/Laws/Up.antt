@@ -200,3 +200,13 @@ module _ (z : TreeSizes) (m : ClientWord → ℕ) (x₀ u₀ : List ℕ) (a : An
           })
 
 pub ruleset rise-exits = (rise-start, rise-content, rise-good, rise-noted, rise-room, rise-low, rise-there, rise-ends, rise-inside, rise-under, rise-stops, rise-more)
+
+-- ---- from where a way down ended: the path is taken out of the part
+module _ (z : TreeSizes) (top : ℕ) (path path′ : List Turn) (c : ℕ) (n : Wide) (e : path ≡ path′) where
+  pub ready-out : Ready z top path′ c n → Ready z top path c n
+  ready-out r = rw e r
+
+  pub risen-out : (m : ClientWord → ℕ) (x u : List ℕ) (a : Ans) (s : Stop) (x′ u′ : List ℕ) → Operated z m x u (rise-plan z a top path c n) s x′ u′ → Operated z m x u (rise-plan z a top path′ c n) s x′ u′
+  risen-out m x u a s x′ u′ q = rw e at q
+
+pub ruleset carried-exits = (ready-out, risen-out)

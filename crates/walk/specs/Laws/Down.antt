@@ -385,9 +385,11 @@ map-getD b (p ∷ ps) (suc i) h = map-getD b ps i (omega arith)
 module _ (b : List ℕ) (ps : List Pass) (l : length ps ≡ 5) (out : List Turn) (i : ℕ) (h : Taken-out b ps out i) where
   pub taken-more : i < 5 → (t : Turn) → t ≡ turn-in b (getD ps i nowhere) → Taken-out b ps (set out i t) (i + 1)
   taken-more g t e =
-      let m : i < length (turns-in b ps) = rw (map-length (turn-in b) ps, l) g in
-      (omega arith, length-set out i t ∙ h .1,
-      rw (add-one, take-suc-set out i t (omega (arith, h .1)), take-suc (turns-in b ps) i blank m, h .2, map-getD b ps i (omega arith), ← e))
+      let m : i < length (turns-in b ps) = rw (map-length (turn-in b) ps, l) g in (
+        omega arith,
+        length-set out i t ∙ h .1,
+        rw (add-one, take-suc-set out i t (omega (arith, h .1)), take-suc (turns-in b ps) i blank m, h .2, map-getD b ps i (omega arith), ← e),
+      )
 
   pub taken-all : 5 ≤ i → out ≡ turns-in b ps
   taken-all g =

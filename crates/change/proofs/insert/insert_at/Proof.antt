@@ -5,6 +5,7 @@ use Rattle.change.proofs.insert.insert_at.Tie as tie
 
 pub insert-at-spec : {M : Type 1} → statement M
 insert-at-spec = tie.close (tie.spec
+    (λ c κs. search needs)  -- read-node-requires
     (λ c κs. search (insert-exits, needs))  -- with-pair-requires
     (λ c κs. search (insert-exits, needs))  -- carry-up-requires
     (λ c. search needs)  -- same-length

@@ -10,6 +10,7 @@ to-parent-spec = tie.close (tie.spec
     (λ c κs. search needs)  -- no-descent-requires
     (λ c. search needs)  -- same-length
     (λ c. search (parent-exits, needs))  -- returns
+    (λ c κs. search needs)  -- level-at-requires
     (λ c κs. search needs)  -- no-descent-requires-2
     (λ c. search needs)  -- same-length-2
     (λ c. search (parent-exits, needs))  -- returns-2
