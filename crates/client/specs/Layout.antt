@@ -1,7 +1,7 @@
 -- The layout of a client's part, in words.
 use mathlib.Core.Path.{_≡_, refl}
 use mathlib.Core.List.{List, [], _∷_}
-use Prim.Native.Nat.{ℕ, _≤_, _/_}
+use Prim.Native.Nat.{ℕ, zero, suc, _≤_, _/_}
 use lib.ListN.{length, getD}
 use Rattle.layout.specs.Block.{Block, words, times, followed-by, end}
 use Rattle.layout.specs.Space.{Coding}
@@ -133,33 +133,43 @@ base Reads = field-count
 base Writes = 3279
 base Copies = 4911
 
--- 15 fields; 96 read, 48 written and 64 copied items of 34 words; the copies of 8 vectors, of 17 words
+-- a set: the numbers of its objects side by side, so that a search reads few words, then their records
+abbrev pub set-block : Set → Block → Block
+set-block s rest = followed-by (words (limit s)) (followed-by (times (limit s) (words record-words)) rest)
+
+-- 15 fields; the sets of 96 read, 48 written and 64 copied items; the copies of 8 vectors, of 17 words
 abbrev pub client-block : Block
 client-block =
-    followed-by (words field-count) (followed-by (times (limit Reads) (words item-words)) (followed-by (times (limit Writes) (words item-words))
-    (followed-by (times (limit Copies) (words item-words)) (followed-by (times most-servers (words vector-words)) end))))
+    followed-by (words field-count) (set-block Reads (set-block Writes (set-block Copies (followed-by (times most-servers (words vector-words)) end))))
 
 -- where in the block each word of the part stands
 abbrev pub client-code : ClientWord → List ℕ
 client-code (field i) = 0 ∷ i ∷ []
-client-code (item Reads i j) = 1 ∷ i ∷ j ∷ []
-client-code (item Writes i j) = 2 ∷ i ∷ j ∷ []
-client-code (item Copies i j) = 3 ∷ i ∷ j ∷ []
-client-code (vector-word s j) = 4 ∷ s ∷ j ∷ []
+client-code (item Reads i zero) = 1 ∷ i ∷ []
+client-code (item Reads i (suc j)) = 2 ∷ i ∷ j ∷ []
+client-code (item Writes i zero) = 3 ∷ i ∷ []
+client-code (item Writes i (suc j)) = 4 ∷ i ∷ j ∷ []
+client-code (item Copies i zero) = 5 ∷ i ∷ []
+client-code (item Copies i (suc j)) = 6 ∷ i ∷ j ∷ []
+client-code (vector-word s j) = 7 ∷ s ∷ j ∷ []
 
 -- which word stands there; of a list that is none of these it is not asked
 abbrev pub client-back : List ℕ → ClientWord
 client-back p =
     let i = getD p 1 0 in
     let j = getD p 2 0 in
-    getD (field i ∷ item Reads i j ∷ item Writes i j ∷ item Copies i j ∷ vector-word i j ∷ []) (getD p 0 0) (field i)
+    getD (field i ∷ item Reads i 0 ∷ item Reads i (suc j) ∷ item Writes i 0 ∷ item Writes i (suc j) ∷ item Copies i 0 ∷ item Copies i (suc j) ∷ vector-word i j ∷ [])
+    (getD p 0 0) (field i)
 
 -- each word is had back
 pub client-again : (a : ClientWord) → client-back (client-code a) ≡ a
 client-again (field i) = refl
-client-again (item Reads i j) = refl
-client-again (item Writes i j) = refl
-client-again (item Copies i j) = refl
+client-again (item Reads i zero) = refl
+client-again (item Reads i (suc j)) = refl
+client-again (item Writes i zero) = refl
+client-again (item Writes i (suc j)) = refl
+client-again (item Copies i zero) = refl
+client-again (item Copies i (suc j)) = refl
 client-again (vector-word s j) = refl
 
 -- the words of a client's part as addresses

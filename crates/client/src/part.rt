@@ -1,5 +1,4 @@
 // A client's part, a lent slice of bytes that begins at the client's first word: its fields and its items.
-use crate::record::item_words;
 use crate::record::vector_words;
 use memory::read_word;
 use memory::write_word;
@@ -7,6 +6,7 @@ use memory::write_words;
 use nodes::found::Found;
 use nodes::node::Node;
 use nodes::stored::read_node;
+use nodes::stored::write_node;
 ghost use mathlib.Core.Path.{_≡_};
 ghost use Prim.Native.Nat.{_+_, _*_, _<_, _≤_};
 ghost use lib.ListN.{length};
@@ -83,7 +83,7 @@ pub enum Set {
     Copies,
 }
 
-// Where a set begins.
+// Where a set begins: with the numbers of its objects.
 fn base(set: Set) -> usize
     ensures { λ r. ⌜ r ≡ base set ⌝ }
     ensures within { λ r. ⌜ (limit set ≤ limit Reads) × (r + item-words * limit set ≤ client-length) ⌝ }
@@ -95,14 +95,36 @@ fn base(set: Set) -> usize
     }
 }
 
-// Where an item of a set begins.
-pub fn item_at(set: Set, i: usize) -> usize
+// How many items it may have.
+fn limit(set: Set) -> usize
+    ensures { λ r. ⌜ r ≡ limit set ⌝ }
+{
+    match set {
+        Set::Reads => MOST_READ,
+        Set::Writes => MOST_WRITTEN,
+        Set::Copies => 64,
+    }
+}
+
+// Where the number of an item's object stands.
+fn number_place(set: Set, i: usize) -> usize
     requires { ⌜ i < limit set ⌝ }
     ensures { λ r. ⌜ r ≡ at client-words client-block (item set i 0) ⌝ }
-    ensures within { λ r. ⌜ r + item-words ≤ client-length ⌝ }
+    ensures within { λ r. ⌜ r < client-length ⌝ }
 {
     let first = base(set);
-    first + ITEM_WORDS * i
+    first + i
+}
+
+// Where the record of an item begins: behind the numbers of its set.
+pub fn record_start(set: Set, i: usize) -> usize
+    requires { ⌜ i < limit set ⌝ }
+    ensures { λ r. ⌜ r ≡ at client-words client-block (item set i 1) ⌝ }
+    ensures within { λ r. ⌜ r + record-words ≤ client-length ⌝ }
+{
+    let first = base(set);
+    let numbers = limit(set);
+    first + numbers + RECORD_WORDS * i
 }
 
 // Where the copy of a server's vector begins.
@@ -160,12 +182,12 @@ pub fn vector_word(part: &[u8], s: usize, j: usize) -> u64
     read_word(part, vector_at(s) + j)
 }
 
-// A word of an item.
+// A word of an item's record, counted from 1 on.
 pub fn item_word(part: &[u8], set: Set, i: usize, j: usize) -> u64
-    requires { ⌜ (i < limit set) × (j < item-words) × ClientPart (now part) ⌝ }
+    requires { ⌜ (i < limit set) × (0 < j) × (j < item-words) × ClientPart (now part) ⌝ }
     ensures { λ r. ⌜ r ≡ held (now (part .entry)) (item set i j) ⌝ }
 {
-    read_word(part, item_at(set, i) + j)
+    read_word(part, record_start(set, i) + (j - 1))
 }
 
 // The number of an item's object.
@@ -173,16 +195,7 @@ pub fn number_at(part: &[u8], set: Set, i: usize) -> u64
     requires { ⌜ (i < limit set) × ClientPart (now part) ⌝ }
     ensures { λ r. ⌜ r ≡ number-at (held (now (part .entry))) set i ⌝ }
 {
-    read_word(part, item_at(set, i))
-}
-
-// Where the record of an item begins.
-pub fn record_start(set: Set, i: usize) -> usize
-    requires { ⌜ i < limit set ⌝ }
-    ensures { λ r. ⌜ r ≡ at client-words client-block (item set i 0) + 1 ⌝ }
-    ensures within { λ r. ⌜ r + record-words ≤ client-length ⌝ }
-{
-    item_at(set, i) + 1
+    read_word(part, number_place(set, i))
 }
 
 pub fn record_at(part: &[u8], set: Set, i: usize) -> Node
@@ -197,8 +210,8 @@ pub fn set_item(part: &mut [u8], set: Set, i: usize, number: u64, node: Node)
     requires { ⌜ (i < limit set) × ClientPart (now part) ⌝ }
     ensures { λ _. ⌜ Did (put-item set i number node) (now (part .entry)) (now (part .exit)) ⌝ }
 {
-    let words = item_words(number, node);
-    write_words(part, item_at(set, i), &words);
+    write_word(part, number_place(set, i), number);
+    write_node(part, record_start(set, i), node);
 }
 
 fn at_most(limit: usize, n: u64) -> usize
@@ -213,7 +226,7 @@ pub fn set_number(part: &mut [u8], set: Set, i: usize, number: u64)
     requires { ⌜ (i < limit set) × ClientPart (now part) ⌝ }
     ensures { λ _. ⌜ Did (put-number set i number) (now (part .entry)) (now (part .exit)) ⌝ }
 {
-    write_word(part, item_at(set, i), number);
+    write_word(part, number_place(set, i), number);
 }
 
 // How many items a set has, at most its limit.

@@ -84,12 +84,12 @@ never e = let z : _≡_ {A = ℕ} 0 1 = cc in absurd (omega arith)
 
 -- where an object stands in the sets
 module _ (b : List ℕ) (l : 7223 ≤ length b / 8) (x : ℕ) (g : Found) (e : g ≡ find (held b) Writes x) where
-  pub sets-written : (i a : ℕ) → i < limit Writes → g ≡ At i → a ≡ at client-words client-block (item Writes i 0) + 1 → a + 33 ≤ 7223 → InSets b x (standing Here a)
+  pub sets-written : (i a : ℕ) → i < limit Writes → g ≡ At i → a ≡ at client-words client-block (item Writes i 1) → a + 33 ≤ 7223 → InSets b x (standing Here a)
   unfolding source
   sets-written i a h d p w = record { how = refl; found = λ t. rw (← e, d, record-there b Writes i a h p w l); absent = λ t. never t; within = w }
 
   module _ (f : Found) (q : g ≡ Absent) (o : f ≡ find (held b) Reads x) where
-    pub sets-read : (i a : ℕ) → i < limit Reads → f ≡ At i → a ≡ at client-words client-block (item Reads i 0) + 1 → a + 33 ≤ 7223 → InSets b x (standing Here a)
+    pub sets-read : (i a : ℕ) → i < limit Reads → f ≡ At i → a ≡ at client-words client-block (item Reads i 1) → a + 33 ≤ 7223 → InSets b x (standing Here a)
     unfolding source
     sets-read i a h d p w = record { how = refl; found = λ t. rw (← e, q, ← o, d, record-there b Reads i a h p w l); absent = λ t. never t; within = w }
 
@@ -112,7 +112,7 @@ module _ (b : List ℕ) (l : 7223 ≤ length b / 8) (x : ℕ) (s : Stand) (n : I
     copied-is = n .absent (sym p ∙ t)
 
     module _ (k : IsNode x) (g : Found) (e : g ≡ find (held b) Copies x) where
-      pub stands-copied : (i a : ℕ) → i < limit Copies → g ≡ At i → a ≡ at client-words client-block (item Copies i 0) + 1 → a + 33 ≤ 7223
+      pub stands-copied : (i a : ℕ) → i < limit Copies → g ≡ At i → a ≡ at client-words client-block (item Copies i 1) → a + 33 ≤ 7223
           → stood (view b) (standing Copied a) ≡ source (held b) x
       stands-copied i a h d q w =
           sym (copied-is ∙ sym (copied-1 (held b) (copied-node (held b) x) x (k .some) (k .most) refl)

@@ -22,16 +22,18 @@ abbrev stands : List (List ℕ × ℕ) → ClientWord → ℕ
 stands [] a = 0
 stands (e ∷ l) a = cond (same (e .0) (client-code a)) (e .1) (stands l a)
 
--- fields 10 and 11, the numbers, and the kinds (word 1 of an item): the leaf's kind as read 1, as written k
+-- fields 10 and 11, the numbers, and the kinds (the first word of a record): the leaf's kind as read 1, as written k
 abbrev part-with : ℕ → ClientWord → ℕ
 part-with k =
-    stands ((0 ∷ 10 ∷ [], 2) ∷ (0 ∷ 11 ∷ [], 1) ∷ (1 ∷ 1 ∷ 0 ∷ [], 1026) ∷ (1 ∷ 1 ∷ 1 ∷ [], 1) ∷ (2 ∷ 0 ∷ 0 ∷ [], 1026) ∷ (2 ∷ 0 ∷ 1 ∷ [], k) ∷ [])
+    stands ((0 ∷ 10 ∷ [], 2) ∷ (0 ∷ 11 ∷ [], 1) ∷ (1 ∷ 1 ∷ [], 1026) ∷ (2 ∷ 1 ∷ 0 ∷ [], 1) ∷ (3 ∷ 0 ∷ [], 1026) ∷ (4 ∷ 0 ∷ 0 ∷ [], k) ∷ [])
 
--- the part has 7,223 words; the sets begin at 15, 3,279, 4,911, the vectors at 7,087
-pub layout-sample : (client-size ≡ 7223) × (at client-words client-block (item Reads 0 0) ≡ 15) × (at client-words client-block (item Writes 0 0) ≡ 3279)
-    × (at client-words client-block (item Copies 0 0) ≡ 4911) × (at client-words client-block (vector-word 0 0) ≡ 7087)
+-- the part has 7,223 words; the sets begin at 15, 3,279, 4,911, their records at 111, 3,327, 4,975, the vectors at 7,087
+pub layout-sample : (client-size ≡ 7223) × (at client-words client-block (item Reads 0 0) ≡ 15) × (at client-words client-block (item Reads 0 1) ≡ 111)
+    × (at client-words client-block (item Writes 0 0) ≡ 3279) × (at client-words client-block (item Writes 0 1) ≡ 3327)
+    × (at client-words client-block (item Copies 0 0) ≡ 4911) × (at client-words client-block (item Copies 0 1) ≡ 4975)
+    × (at client-words client-block (item Copies 1 2) ≡ 5009) × (at client-words client-block (vector-word 0 0) ≡ 7087)
 unfolding client-size size at offset
-layout-sample = (refl, refl, refl, refl, refl)
+layout-sample = (refl, refl, refl, refl, refl, refl, refl, refl, refl)
 
 pub find-sample : (find (part-with 1) Reads 1026 ≡ At 1) × (find (part-with 1) Writes 0 ≡ Absent)
 unfolding find first-of count number-at

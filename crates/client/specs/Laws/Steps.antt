@@ -11,7 +11,7 @@ use lib.Seq.{sets}
 use Rattle.memory.specs.Word.{view}
 use Rattle.memory.specs.Laws.Word.{view-length}
 use Rattle.layout.specs.Block.{size, In, offset}
-use Rattle.layout.specs.Space.{put, tab, at, Valid, mem, changed, stored}
+use Rattle.layout.specs.Space.{put, tab, at, Valid, mem, changed, stored, puts}
 use Rattle.layout.specs.Laws.Space.{tab-getD, Run, stored-run, valid-run, AllValid, length-stored}
 use Rattle.layout.specs.Step.{Does, silent, stepped, andThen}
 use Rattle.layout.specs.Laws.Step.{does-then, does-mem, valid-append}
@@ -26,7 +26,7 @@ use Rattle.nodes.specs.Stored.{words-of}
 use Rattle.client.specs.declared.part.Set.{Set}
 use Rattle.client.specs.Layout.{ClientWord, client-words, client-block, field, item, vector-word, limit}
 use Rattle.client.specs.Sets.{held, or-found, first-of, count, number-at, find}
-use Rattle.client.specs.Laws.Part.{item-run, vector-run, count-limit}
+use Rattle.client.specs.Laws.Part.{record-run, number-good, vector-run, count-limit}
 use Rattle.client.specs.Part.{PartStep, Did, _then_, nothing, put-field, put-fields, put-item, put-number, put-vector, drop-vector, put-word}
 
 -- the stores lie in the part, whatever it holds
@@ -93,14 +93,19 @@ unfolding put-fields
 good-fields i vs h = record { all = λ m. valid-run client-words client-block vs (λ j. field (i + j)) i (field-run i (length vs) h) }
 
 pub good-item : (s : Set) (i x : ℕ) (r : Node) → i < limit s → Good (put-item s i x r)
-unfolding put-item
+unfolding put-item AllValid puts tab
 good-item s i x r h =
-    let vs : List ℕ = tab 34 (λ j. getD (x ∷ words-of r) j 0) in
-    record { all = λ m. valid-run client-words client-block vs (item s i) (at client-words client-block (item s i 0)) (rw (length-tab 34 (λ j. getD (x ∷ words-of r) j 0)) (item-run s i h)) }
+    let vs : List ℕ = tab 33 (λ j. getD (x ∷ words-of r) (suc j) 0) in
+    record {
+      all = λ m. (
+        number-good s i h,
+        valid-run client-words client-block vs (λ j. item s i (suc j)) (at client-words client-block (item s i 1)) (rw (length-tab 33 (λ j. getD (x ∷ words-of r) (suc j) 0)) (record-run s i h)),
+      );
+    }
 
 pub good-number : (s : Set) (i x : ℕ) → i < limit s → Good (put-number s i x)
 unfolding put-number AllValid
-good-number s i x h = record { all = λ m. (item-run s i h .good 0 (omega arith), tt) }
+good-number s i x h = record { all = λ m. (number-good s i h, tt) }
 
 pub good-vector : (s : ℕ) (ws : List ℕ) → s < 8 → Good (put-vector s ws)
 unfolding put-vector

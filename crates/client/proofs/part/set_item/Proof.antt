@@ -5,10 +5,10 @@ use Rattle.client.proofs.part.set_item.Tie as tie
 
 pub set-item-spec : {M : Type 1} → statement M
 set-item-spec = tie.close (tie.spec
-    (λ c κs. search needs)  -- item-words-requires
-    (λ c κs. search needs)  -- item-at-requires
-    (λ c. search needs)  -- slice-aggregate-write-words
-    (λ c κs. search needs)  -- write-words-requires
+    (λ c κs. search needs)  -- number-place-requires
+    (λ c κs. search needs)  -- write-word-requires
+    (λ c κs. search needs)  -- record-start-requires
+    (λ c κs. search needs)  -- write-node-requires
     (λ c. search needs)  -- same-length
     (λ c. search (item-done, needs))  -- returns
     )

@@ -8,7 +8,7 @@ pub renew-meta-spec : {M : Type 1} → statement M
 renew-meta-spec = tie.close (tie.spec
     (λ c κs. search needs)  -- find-requires
     (λ c. search needs)  -- enum-known-at
-    (λ c κs. (search (found-inside, needs), search needs, search needs))  -- item-word-requires
+    (λ c κs. (search (found-inside, needs), search needs, search needs, search needs))  -- item-word-requires
     (λ c κs. search needs)  -- new-version-requires
     (λ c. search needs)  -- slice-aggregate-set-fields
     (λ c κs. search needs)  -- set-fields-requires
