@@ -50,7 +50,7 @@ const NODE_COPIES: Places = Places {
     room: 64,
 };
 
-/// Places for objects: an object's number, then its record.
+/// Places for objects: their numbers side by side, then their records.
 #[derive(Clone, Copy)]
 struct Places {
     first: usize,
@@ -58,14 +58,12 @@ struct Places {
 }
 
 impl Places {
-    const PLACE_WORDS: usize = 34;
-
     fn number(self, place: usize) -> usize {
-        self.first + Self::PLACE_WORDS * place
+        self.first + place
     }
 
     fn record(self, place: usize) -> usize {
-        self.number(place) + 1
+        self.first + self.room + RECORD_WORDS * place
     }
 }
 

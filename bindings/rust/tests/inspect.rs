@@ -421,7 +421,7 @@ fn out_of_range_at_a_client() {
     shown(10, |c| c.reads() == Err(OUT));
     shown(11, |c| c.writes() == Err(OUT));
     shown(12, |c| c.metadata_copy() == Err(OUT));
-    shown(4911 + 34 * 63, |c| c.node_copies().eq([Err(OUT)]));
+    shown(4911 + 63, |c| c.node_copies().eq([Err(OUT)]));
     shown(7087 + 17 * 7, |c| c.vector_copy(7) == Err(OUT));
     shown(7222, |c| c.vector_copy(7) == Ok(None));
 }

@@ -337,7 +337,7 @@ fn prepare_that_is_busy() {
         &checks(&stage, 0, &[METADATA, node(ROOT)]),
         &locks(&stage, 0, &[node(LEFT)]),
         &stage.fields(OTHER, &[PHASE, WRITES]),
-        &[stage.record(OTHER, Set::Writes, node(LEFT)) - 1],
+        &[stage.number(OTHER, Set::Writes, node(LEFT))],
     ];
     reads(&stage, "prepare that is busy", prepare(0), &damaged, &[]);
     assert_eq!(stage.step(prepare(0)), BUSY);
@@ -619,7 +619,7 @@ fn fetch_over_copies() {
     ];
     let taken = [
         &contents(&stage, Set::Copies, &[ROOT])[..],
-        &[stage.record(ME, Set::Copies, node(ROOT)) - 1],
+        &[stage.number(ME, Set::Copies, node(ROOT))],
         &stage.contents(left),
     ];
     work(&stage, "fetch over copies", &damaged, &taken);
@@ -899,7 +899,7 @@ fn writes_without_reads() {
         (node(FREE), [DAMAGED; 2], ANSWERED_0),
         (flag(FREE), [at_0, at_1], ANSWERED_0),
     ] {
-        let number = open.record(ME, Set::Reads, object) - 1;
+        let number = open.number(ME, Set::Reads, object);
         let mut without = |stage: &Stage, step, due| {
             let found = stage.with(number, object + 4).tried(step);
             assert_eq!(found, due, "{step:?} without the read of {object}");
@@ -994,8 +994,8 @@ fn leaf_among_copies() {
     let leaf = |place: usize| stage.with(place + KIND, 1).with(place + LEVEL, 0);
     let root = stage.record(ME, Set::Copies, node(ROOT));
     assert_eq!(leaf(root).tried(WORK), DAMAGED);
-    let empty = stage.numbers(ME, Set::Copies)[1];
-    let unused = leaf(empty + 1).with(empty, node(MIDDLE));
+    let empty = stage.items(ME, Set::Copies)[1];
+    let unused = leaf(empty.record).with(empty.number, node(MIDDLE));
     let fetched = Outcome::Fetched(Fetched::Node(LEFT));
     assert_eq!(unused.clone().tried(WORK), fetched);
     let mut used = unused.with(stage.field(ME, OP_KEY), 70);

@@ -6,7 +6,7 @@ use std::ops::Range;
 
 const HEAD_WORDS: usize = 8;
 const CLIENT_WORDS: usize = 7223;
-const ITEM_WORDS: usize = 34;
+const RECORD_WORDS: usize = 33;
 const VECTORS: usize = 7087;
 
 /// The fields of a client's part.
@@ -38,7 +38,7 @@ pub const SLOTS: Range<usize> = 18..33;
 
 pub const LAST_VERSION: u64 = 4_294_967_295;
 
-/// The sets of a client's part whose items are an object's number and its record.
+/// The sets of a client's part: the numbers of their objects side by side, then their records.
 #[derive(Clone, Copy)]
 pub enum Set {
     Reads,
@@ -53,6 +53,15 @@ impl Set {
 
     fn limit(self) -> usize {
         [96, 48, 64][self as usize]
+    }
+
+    /// Where in a client's part the number and the record of item i stand.
+    fn number(self, i: usize) -> usize {
+        self.base() + i
+    }
+
+    fn record(self, i: usize) -> usize {
+        self.base() + self.limit() + RECORD_WORDS * i
     }
 }
 
@@ -117,11 +126,30 @@ pub fn part(sizes: Sizes, place: usize) -> Part {
     }
 }
 
-/// Which word of an item word i of a client's part is; none behind the sets.
-pub fn within_item(i: usize) -> Option<usize> {
-    (FIELDS..VECTORS)
-        .contains(&i)
-        .then(|| (i - FIELDS) % ITEM_WORDS)
+/// What word i of a client's part is in a set: an object's number, or word j of the record of the object whose number stands at the place given.
+pub enum Within {
+    Number,
+    Record { number: usize, j: usize },
+}
+
+/// None behind the sets.
+pub fn within_set(i: usize) -> Option<Within> {
+    let set = [Set::Copies, Set::Writes, Set::Reads]
+        .into_iter()
+        .find(|set| set.base() <= i)?;
+    let records = set.record(0);
+    if VECTORS <= i {
+        return None;
+    }
+    Some(if i < records {
+        Within::Number
+    } else {
+        let (item, j) = ((i - records) / RECORD_WORDS, (i - records) % RECORD_WORDS);
+        Within::Record {
+            number: set.number(item),
+            j,
+        }
+    })
 }
 
 /// The home of a name.
@@ -156,25 +184,32 @@ pub fn version_at(sizes: Sizes, server: usize, object: u64, inner: bool) -> usiz
     }
 }
 
-/// Item i of a set: the object's number, then its record.
-pub fn item_at(sizes: Sizes, client: usize, set: Set, i: usize) -> usize {
-    client_at(sizes, client) + set.base() + ITEM_WORDS * i
-}
-
 /// A client's copy of a server's vector: whether there is one, then its words.
 pub fn vector_copy_at(sizes: Sizes, client: usize, server: usize) -> usize {
     client_at(sizes, client) + VECTORS + 17 * server
 }
 
+/// Where an item of a set stands: its object's number, and its record.
+#[derive(Clone, Copy)]
+pub struct Item {
+    pub number: usize,
+    pub record: usize,
+}
+
 /// The items that a set has, in order.
-pub fn items(memory: &[u8], sizes: Sizes, client: usize, set: Set) -> Vec<usize> {
+pub fn items(memory: &[u8], sizes: Sizes, client: usize, set: Set) -> Vec<Item> {
     let field = |i| word(memory, client_at(sizes, client) + i) as usize;
     let count = match set {
         Set::Reads => field(READS),
         Set::Writes => field(WRITES),
         Set::Copies => set.limit(),
     };
-    (0..count).map(|i| item_at(sizes, client, set, i)).collect()
+    let first = client_at(sizes, client);
+    let item = |i| Item {
+        number: first + set.number(i),
+        record: first + set.record(i),
+    };
+    (0..count).map(item).collect()
 }
 
 /// The byte at which the clients' parts begin.
@@ -268,7 +303,11 @@ pub fn place(random: &mut Random, sizes: Sizes, target: usize) -> usize {
     let client = client_at(sizes, random.index(sizes.clients));
     let within = |random: &mut Random, range: Range<usize>| range.start + random.index(range.len());
     let items = |random: &mut Random, set: Set| {
-        set.base() + ITEM_WORDS * low(random, set.limit()) + random.index(ITEM_WORDS)
+        let i = low(random, set.limit());
+        match random.index(1 + RECORD_WORDS) {
+            0 => set.number(i),
+            j => set.record(i) + j - 1,
+        }
     };
     match target {
         0 => random.index(HEAD_WORDS),

@@ -1,6 +1,6 @@
 //! A store brought to a point by plain steps, and what the next step comes to when a word is damaged there.
 
-use super::layout::{self, Part, Set, LAST_VERSION};
+use super::layout::{self, Part, Set, Within, LAST_VERSION};
 use gemandrolo::{Fetched, Operation, Outcome, Refusal, Sizes, Step, Store};
 
 #[derive(Clone)]
@@ -126,23 +126,38 @@ impl Stage {
         of.iter().map(|i| self.field(client, *i)).collect()
     }
 
+    /// The items of a set.
+    pub fn items(&self, client: u64, set: Set) -> Vec<layout::Item> {
+        layout::items(&self.memory, self.sizes, client as usize, set)
+    }
+
     /// The numbers of a set's objects.
     pub fn numbers(&self, client: u64, set: Set) -> Vec<usize> {
-        layout::items(&self.memory, self.sizes, client as usize, set)
+        let items = self.items(client, set);
+        items.iter().map(|item| item.number).collect()
     }
 
     /// The kinds of a set's nodes.
     pub fn kinds(&self, client: u64, set: Set) -> Vec<usize> {
-        let mut places = self.numbers(client, set);
-        places.retain(|at| layout::is_node(self.word(*at)));
-        places.iter().map(|at| at + 1 + layout::KIND).collect()
+        let mut items = self.items(client, set);
+        items.retain(|item| layout::is_node(self.word(item.number)));
+        items.iter().map(|item| item.record + layout::KIND).collect()
     }
 
-    /// The record of an object in a set.
+    fn item(&self, client: u64, set: Set, object: u64) -> layout::Item {
+        let mut items = self.items(client, set).into_iter();
+        let item = items.find(|item| self.word(item.number) == object);
+        item.expect("the set has the object")
+    }
+
+    /// The number of an object in a set.
+    pub fn number(&self, client: u64, set: Set, object: u64) -> usize {
+        self.item(client, set, object).number
+    }
+
+    /// Its record.
     pub fn record(&self, client: u64, set: Set, object: u64) -> usize {
-        let items = self.numbers(client, set);
-        let at = items.into_iter().find(|at| self.word(*at) == object);
-        1 + at.expect("the set has the object")
+        self.item(client, set, object).record
     }
 
     /// Kind, level, version and count.
@@ -238,10 +253,13 @@ impl Stage {
                 layout::META_VERSION => LAST_VERSION + 1,
                 _ => slots,
             },
-            Part::Client(_, i) => match layout::within_item(i) {
-                Some(0) if self.word(place) > 8192 => layout::flag(slots),
-                Some(0) => layout::node(slots),
-                Some(j) => record(place - (j - 1), j - 1, self.word(place - j)),
+            Part::Client(client, i) => match layout::within_set(i) {
+                Some(Within::Number) if self.word(place) > 8192 => layout::flag(slots),
+                Some(Within::Number) => layout::node(slots),
+                Some(Within::Record { number, j }) => {
+                    let object = layout::client_at(self.sizes, client) + number;
+                    record(place - j, j, self.word(object))
+                }
                 None => 2,
             },
         }
