@@ -1,5 +1,7 @@
 -- Nodes, their names and places, and the vectors of taken flags, in reading order.
 
+-- where numbers end, and how many of a thing there may be
+pub mod Bounds
 -- lists with an element put in or taken out; a place that was found
 pub mod Lists
 pub mod Found

@@ -5,6 +5,7 @@ ghost use Prim.Native.Nat.{_+_, _≤_, _<_};
 ghost use lib.ListN.{length, take, drop};
 ghost use lib.Seq.{paste};
 ghost use Rattle.nodes.specs.Lists.{pad, insert-at, remove-at};
+ghost use Rattle.nodes.specs.Bounds.{most-children, most-keys, wide-room};
 
 // n elements of src, from the place `from` on, written to dst at the place `at` on
 pub fn blit(dst: &mut [u64], at: usize, src: &[u64], from: usize, n: usize)
@@ -21,9 +22,9 @@ pub fn blit(dst: &mut [u64], at: usize, src: &[u64], from: usize, n: usize)
 
 // the first n of a, then m of b from the place `from` on
 pub fn joined(a: &[u64], n: usize, b: &[u64], from: usize, m: usize) -> [u64; 32]
-    requires { ⌜ (n + m ≤ 32) × (n ≤ length (now a)) × (from + m ≤ length (now b)) ⌝ }
-    ensures { λ r. ⌜ r ≡ pad 32 (take n (now (a .entry)) ++ take m (drop from (now (b .entry)))) ⌝ }
-    ensures size { λ r. ⌜ length r ≡ 32 ⌝ }
+    requires { ⌜ (n + m ≤ wide-room) × (n ≤ length (now a)) × (from + m ≤ length (now b)) ⌝ }
+    ensures { λ r. ⌜ r ≡ pad wide-room (take n (now (a .entry)) ++ take m (drop from (now (b .entry)))) ⌝ }
+    ensures size { λ r. ⌜ length r ≡ wide-room ⌝ }
 {
     let mut out = [0u64; 32];
     blit(&mut out, 0, a, 0, n);
@@ -33,8 +34,8 @@ pub fn joined(a: &[u64], n: usize, b: &[u64], from: usize, m: usize) -> [u64; 32
 
 // the first n of a with v put in at the place `at`
 pub fn inserted(a: &[u64], n: usize, at: usize, v: u64) -> [u64; 32]
-    requires { ⌜ (at ≤ n) × (n < 32) × (n ≤ length (now a)) ⌝ }
-    ensures { λ r. ⌜ r ≡ pad 32 (insert-at at v (take n (now (a .entry)))) ⌝ }
+    requires { ⌜ (at ≤ n) × (n < wide-room) × (n ≤ length (now a)) ⌝ }
+    ensures { λ r. ⌜ r ≡ pad wide-room (insert-at at v (take n (now (a .entry)))) ⌝ }
 {
     let one = [v; 1];
     let t = joined(a, at, &one, 0, 1);
@@ -43,16 +44,16 @@ pub fn inserted(a: &[u64], n: usize, at: usize, v: u64) -> [u64; 32]
 
 // the first n of a without the one at the place `at`
 pub fn removed(a: &[u64], n: usize, at: usize) -> [u64; 32]
-    requires { ⌜ (at < n) × (n ≤ 32) × (n ≤ length (now a)) ⌝ }
-    ensures { λ r. ⌜ r ≡ pad 32 (remove-at at (take n (now (a .entry)))) ⌝ }
+    requires { ⌜ (at < n) × (n ≤ wide-room) × (n ≤ length (now a)) ⌝ }
+    ensures { λ r. ⌜ r ≡ pad wide-room (remove-at at (take n (now (a .entry)))) ⌝ }
 {
     joined(a, at, a, at + 1, n - at - 1)
 }
 
 // the m elements of a from the place `from` on, as an array of keys
 pub fn keys_part(a: &[u64], from: usize, m: usize) -> [u64; 14]
-    requires { ⌜ (m ≤ 14) × (from + m ≤ length (now a)) ⌝ }
-    ensures { λ r. ⌜ r ≡ pad 14 (take m (drop from (now (a .entry)))) ⌝ }
+    requires { ⌜ (m ≤ most-keys) × (from + m ≤ length (now a)) ⌝ }
+    ensures { λ r. ⌜ r ≡ pad most-keys (take m (drop from (now (a .entry)))) ⌝ }
 {
     let mut out = [0u64; 14];
     blit(&mut out, 0, a, from, m);
@@ -61,8 +62,8 @@ pub fn keys_part(a: &[u64], from: usize, m: usize) -> [u64; 14]
 
 // the same as an array of slots
 pub fn slots_part(a: &[u64], from: usize, m: usize) -> [u64; 15]
-    requires { ⌜ (m ≤ 15) × (from + m ≤ length (now a)) ⌝ }
-    ensures { λ r. ⌜ r ≡ pad 15 (take m (drop from (now (a .entry)))) ⌝ }
+    requires { ⌜ (m ≤ most-children) × (from + m ≤ length (now a)) ⌝ }
+    ensures { λ r. ⌜ r ≡ pad most-children (take m (drop from (now (a .entry)))) ⌝ }
 {
     let mut out = [0u64; 15];
     blit(&mut out, 0, a, from, m);

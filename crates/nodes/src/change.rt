@@ -12,6 +12,7 @@ ghost use lib.ListN.{length};
 ghost use Rattle.nodes.specs.Lists.{pad};
 ghost use Rattle.nodes.specs.Node.{extra};
 ghost use Rattle.nodes.specs.Change.{put-in, without, take-out, with-key, with-slot, with-version, part, narrow, cut-at, Cuttable, split, joined-keys, join, merged, from-right, from-left};
+ghost use Rattle.nodes.specs.Bounds.{keys-to-split, most-keys, wide-room};
 
 // A node with room for two neighbours and their separator.
 pub struct Wide {
@@ -33,7 +34,7 @@ pub struct Halves {
 impl Node {
     // a key put in before key number `at`, with its slot: a leaf's value beside it, an inner node's child right of it
     pub fn put_in(self, at: usize, key: u64, slot: u64) -> Wide
-        requires { ⌜ (self .count ≤ 14) × (at ≤ self .count) ⌝ }
+        requires { ⌜ (self .count ≤ most-keys) × (at ≤ self .count) ⌝ }
         ensures { λ r. ⌜ r ≡ put-in self at key slot ⌝ }
         ensures size { λ r. ⌜ r .count ≡ self .count + 1 ⌝ }
     {
@@ -56,7 +57,7 @@ impl Node {
 
     // key number `at` taken out, with its slot
     fn without(self, at: usize) -> Wide
-        requires { ⌜ (self .count ≤ 14) × (at < self .count) ⌝ }
+        requires { ⌜ (self .count ≤ most-keys) × (at < self .count) ⌝ }
         ensures { λ r. ⌜ r ≡ without self at ⌝ }
         ensures size { λ r. ⌜ r .count < self .count ⌝ }
     {
@@ -78,7 +79,7 @@ impl Node {
     }
 
     pub fn take_out(self, at: usize) -> Node
-        requires { ⌜ (self .count ≤ 14) × (at < self .count) ⌝ }
+        requires { ⌜ (self .count ≤ most-keys) × (at < self .count) ⌝ }
         ensures { λ r. ⌜ r ≡ take-out self at ⌝ }
         ensures size { λ r. ⌜ r .count < self .count ⌝ }
     {
@@ -87,7 +88,7 @@ impl Node {
 
     // the same keys and slots with another version, and 0 behind them
     pub fn with_version(self, version: u64) -> Node
-        requires { ⌜ self .count ≤ 14 ⌝ }
+        requires { ⌜ self .count ≤ most-keys ⌝ }
         ensures { λ r. ⌜ r ≡ with-version self version ⌝ }
         ensures size { λ r. ⌜ (r .count ≡ self .count) × (extra (self .kind) ≤ 1) ⌝ }
     {
@@ -109,7 +110,7 @@ impl Node {
 
     // key number i replaced
     pub fn with_key(self, i: usize, key: u64) -> Node
-        requires { ⌜ (self .count ≤ 14) × (i < self .count) ⌝ }
+        requires { ⌜ (self .count ≤ most-keys) × (i < self .count) ⌝ }
         ensures { λ r. ⌜ r ≡ with-key self i key ⌝ }
         ensures size { λ r. ⌜ r .count ≡ self .count ⌝ }
     {
@@ -129,7 +130,7 @@ impl Node {
 
     // slot number i replaced: a leaf's value, an inner node's child
     pub fn with_slot(self, i: usize, slot: u64) -> Node
-        requires { ⌜ (self .count ≤ 14) × (i < self .count + extra (self .kind)) ⌝ }
+        requires { ⌜ (self .count ≤ most-keys) × (i < self .count + extra (self .kind)) ⌝ }
         ensures { λ r. ⌜ r ≡ with-slot self i slot ⌝ }
         ensures size { λ r. ⌜ r .count ≡ self .count ⌝ }
     {
@@ -149,8 +150,8 @@ impl Node {
 
     // the keys of two neighbours, in inner nodes with the separator between them
     fn joined_keys(self, sep: u64, right: Node) -> [u64; 32]
-        requires { ⌜ (self .count ≤ 14) × (right .count ≤ 14) ⌝ }
-        ensures { λ r. ⌜ r ≡ pad 32 (joined-keys self sep right) ⌝ }
+        requires { ⌜ (self .count ≤ most-keys) × (right .count ≤ most-keys) ⌝ }
+        ensures { λ r. ⌜ r ≡ pad wide-room (joined-keys self sep right) ⌝ }
     {
         let n = self.count;
         let e = self.extra();
@@ -163,7 +164,7 @@ impl Node {
 
     // two neighbours in one
     fn join(self, sep: u64, right: Node) -> Wide
-        requires { ⌜ (self .count ≤ 14) × (right .count ≤ 14) ⌝ }
+        requires { ⌜ (self .count ≤ most-keys) × (right .count ≤ most-keys) ⌝ }
         ensures { λ r. ⌜ r ≡ join self sep right ⌝ }
         ensures size { λ r. ⌜ (r .count ≡ self .count + extra (r .kind) + right .count) × (extra (r .kind) ≤ 1)
             × (extra (r .kind) ≡ extra (self .kind)) ⌝ }
@@ -189,7 +190,7 @@ impl Node {
 
     // "from 7 the two merge into the left one"
     pub fn merge(self, sep: u64, right: Node) -> Node
-        requires { ⌜ (self .count ≤ 14) × (right .count ≤ 14) × (self .count + extra (self .kind) + right .count ≤ 14) ⌝ }
+        requires { ⌜ (self .count ≤ most-keys) × (right .count ≤ most-keys) × (self .count + extra (self .kind) + right .count ≤ most-keys) ⌝ }
         ensures { λ r. ⌜ r ≡ merged self sep right ⌝ }
         ensures size { λ r. ⌜ r .count ≡ self .count + extra (self .kind) + right .count ⌝ }
     {
@@ -198,9 +199,9 @@ impl Node {
 
     // "From 8 or more keys one moves over, in inner nodes through the parent": from the right one
     pub fn from_right(self, sep: u64, right: Node) -> Halves
-        requires { ⌜ (self .count < 14) × (right .count ≤ 14) × (1 < right .count) ⌝ }
+        requires { ⌜ (self .count < most-keys) × (right .count ≤ most-keys) × (1 < right .count) ⌝ }
         ensures { λ r. ⌜ r ≡ from-right self sep right ⌝ }
-        ensures sizes { λ r. ⌜ (r .left .count ≤ 14) × (r .right .count ≤ 14) ⌝ }
+        ensures sizes { λ r. ⌜ (r .left .count ≤ most-keys) × (r .right .count ≤ most-keys) ⌝ }
     {
         let i = self.count + 1;
         self.join(sep, right).cut(i, right.version)
@@ -208,9 +209,9 @@ impl Node {
 
     // and from this one to the right one
     pub fn from_left(self, sep: u64, right: Node) -> Halves
-        requires { ⌜ (self .count ≤ 14) × (right .count < 14) × (1 < self .count) ⌝ }
+        requires { ⌜ (self .count ≤ most-keys) × (right .count < most-keys) × (1 < self .count) ⌝ }
         ensures { λ r. ⌜ r ≡ from-left self sep right ⌝ }
-        ensures sizes { λ r. ⌜ (r .left .count ≤ 14) × (r .right .count ≤ 14) ⌝ }
+        ensures sizes { λ r. ⌜ (r .left .count ≤ most-keys) × (r .right .count ≤ most-keys) ⌝ }
     {
         let i = self.count - 1;
         self.join(sep, right).cut(i, right.version)
@@ -222,14 +223,14 @@ impl Wide {
     fn extra(self) -> usize
         ensures { λ r. ⌜ r ≡ extra (self .kind) ⌝ }
         ensures small { λ r. ⌜ r ≤ 1 ⌝ }
-        ensures sizes { λ _. ⌜ (length (self .keys) ≡ 32) × (length (self .slots) ≡ 32) ⌝ }
+        ensures sizes { λ _. ⌜ (length (self .keys) ≡ wide-room) × (length (self .slots) ≡ wide-room) ⌝ }
     {
         slots_beyond(self.kind)
     }
 
     // so many keys from key number `from` on, with their slots
     fn part(self, from: usize, count: usize, version: u64) -> Node
-        requires { ⌜ (count ≤ 14) × (from + count ≤ 31) ⌝ }
+        requires { ⌜ (count ≤ most-keys) × (from + count ≤ 31) ⌝ }
         ensures { λ r. ⌜ r ≡ part self from count version ⌝ }
         ensures size { λ r. ⌜ r .count ≡ count ⌝ }
     {
@@ -250,7 +251,7 @@ impl Wide {
 
     // a node that is not overfull
     pub fn node(self) -> Node
-        requires { ⌜ self .count ≤ 14 ⌝ }
+        requires { ⌜ self .count ≤ most-keys ⌝ }
         ensures { λ r. ⌜ r ≡ narrow self ⌝ }
         ensures size { λ r. ⌜ r .count ≡ self .count ⌝ }
     {
@@ -261,7 +262,7 @@ impl Wide {
     fn cut(self, i: usize, version: u64) -> Halves
         requires { ⌜ Cuttable self i ⌝ }
         ensures { λ r. ⌜ r ≡ cut-at self i version ⌝ }
-        ensures sizes { λ r. ⌜ (r .left .count ≤ 14) × (r .right .count ≤ 14) ⌝ }
+        ensures sizes { λ r. ⌜ (r .left .count ≤ most-keys) × (r .right .count ≤ most-keys) ⌝ }
     {
         let e = self.extra();
         let left = self.part(0, i, self.version);
@@ -277,9 +278,9 @@ impl Wide {
     // "A leaf of 15 pairs splits into 7 and 8, and the first key of the right one goes up.
     // An inner node of 15 keys splits into 7 and 7, the eighth going up."
     pub fn split(self, version: u64) -> Halves
-        requires { ⌜ self .count ≡ 15 ⌝ }
+        requires { ⌜ self .count ≡ keys-to-split ⌝ }
         ensures { λ r. ⌜ r ≡ split self version ⌝ }
-        ensures sizes { λ r. ⌜ (r .left .count ≤ 14) × (r .right .count ≤ 14) ⌝ }
+        ensures sizes { λ r. ⌜ (r .left .count ≤ most-keys) × (r .right .count ≤ most-keys) ⌝ }
     {
         self.cut(7, version)
     }

@@ -2,6 +2,7 @@
 ghost use mathlib.Core.Path.{_≡_};
 ghost use Prim.Native.Nat.{_<_};
 ghost use Rattle.nodes.specs.Name.{name, server-of, slot-of};
+ghost use Rattle.nodes.specs.Bounds.{end-of-names, end-of-slots, most-servers};
 
 // "A node name is server times 1,024 plus slot."
 pub struct Name {
@@ -18,9 +19,9 @@ impl Name {
 
     // "A node name is server times 1,024 plus slot."
     pub fn new(server: u64, slot: u64) -> Name
-        requires { ⌜ (server < 8) × (slot < 1024) ⌝ }
+        requires { ⌜ (server < most-servers) × (slot < end-of-slots) ⌝ }
         ensures { λ r. ⌜ r .number ≡ name server slot ⌝ }
-        ensures within { λ r. ⌜ r .number < 8192 ⌝ }
+        ensures within { λ r. ⌜ r .number < end-of-names ⌝ }
     {
         Name {
             number: server * Name::SLOTS + slot,
@@ -36,7 +37,7 @@ impl Name {
 
     pub fn slot(self) -> u64
         ensures { λ r. ⌜ r ≡ slot-of (self .number) ⌝ }
-        ensures within { λ r. ⌜ r < 1024 ⌝ }
+        ensures within { λ r. ⌜ r < end-of-slots ⌝ }
     {
         self.number % Name::SLOTS
     }

@@ -7,6 +7,7 @@ ghost use Rattle.nodes.specs.Place.{place};
 ghost use Rattle.nodes.specs.Node.{extra, keysOf, free-node, parent-of, pair-at};
 ghost use Rattle.nodes.specs.Found.{found, Inside};
 ghost use Rattle.nodes.specs.Find.{key-index, rises};
+ghost use Rattle.nodes.specs.Bounds.{most-children, most-keys};
 
 // "A node has a kind (0 free, 1 leaf, 2 inner), a level, a 32-bit version, at most 14 keys in strictly rising order,
 // and 14 values (leaf) or one child more than keys (inner)."
@@ -32,14 +33,14 @@ impl Node {
     pub fn extra(self) -> usize
         ensures { λ r. ⌜ r ≡ extra (self .kind) ⌝ }
         ensures small { λ r. ⌜ r ≤ 1 ⌝ }
-        ensures sizes { λ _. ⌜ (length (self .keys) ≡ 14) × (length (self .slots) ≡ 15) ⌝ }
+        ensures sizes { λ _. ⌜ (length (self .keys) ≡ most-keys) × (length (self .slots) ≡ most-children) ⌝ }
     {
         slots_beyond(self.kind)
     }
 
     // the number of keys that are not above the key
     pub fn place(self, key: u64) -> usize
-        requires { ⌜ self .count ≤ 14 ⌝ }
+        requires { ⌜ self .count ≤ most-keys ⌝ }
         ensures { λ r. ⌜ r ≡ place (keysOf self) key ⌝ }
         ensures within { λ r. ⌜ r ≤ self .count ⌝ }
     {
@@ -58,7 +59,7 @@ impl Node {
 
     // where the key is
     pub fn find(self, key: u64) -> Found
-        requires { ⌜ self .count ≤ 14 ⌝ }
+        requires { ⌜ self .count ≤ most-keys ⌝ }
         ensures { λ r. ⌜ r ≡ found (key-index (keysOf self) key) ⌝ }
         ensures within { λ r. ⌜ Inside r (self .count) ⌝ }
     {
@@ -75,7 +76,7 @@ impl Node {
 
     // whether each key is above the one before
     pub fn keys_rise(self) -> bool
-        requires { ⌜ self .count ≤ 14 ⌝ }
+        requires { ⌜ self .count ≤ most-keys ⌝ }
         ensures { λ r. ⌜ r ≡ rises (keysOf self) ⌝ }
     {
         let keys = self.keys;

@@ -3,6 +3,7 @@ ghost use mathlib.Core.Path.{_≡_};
 ghost use Prim.Native.Nat.{_<_};
 ghost use lib.ListN.{getD};
 ghost use Rattle.nodes.specs.Placement.{row};
+ghost use Rattle.nodes.specs.Bounds.{most-servers};
 
 const ROWS: [[u8; 8]; 8] = [
     [0, 1, 2, 3, 4, 5, 6, 7],
@@ -17,9 +18,9 @@ const ROWS: [[u8; 8]; 8] = [
 
 // The server that is looked at in turn i for a node of server s.
 pub fn server_at(s: usize, i: usize) -> usize
-    requires { ⌜ (s < 8) × (i < 8) ⌝ }
+    requires { ⌜ (s < most-servers) × (i < most-servers) ⌝ }
     ensures { λ r. ⌜ r ≡ getD (row s) i 0 ⌝ }
-    ensures within { λ r. ⌜ r < 8 ⌝ }
+    ensures within { λ r. ⌜ r < most-servers ⌝ }
 {
     ROWS[s][i] as usize
 }

@@ -12,44 +12,45 @@ ghost use Rattle.nodes.specs.Node.{keysOf};
 ghost use Rattle.nodes.specs.Range.{node-in-range};
 ghost use Rattle.nodes.specs.Find.{key-index};
 ghost use Rattle.nodes.specs.Found.{found, Inside};
+ghost use Rattle.nodes.specs.Bounds.{most-children, most-keys, node-words};
 
 pub fn kind_at(s: &[u8], b: usize) -> u64
-    requires { ⌜ b + 33 ≤ length (now s) / 8 ⌝ }
+    requires { ⌜ b + node-words ≤ length (now s) / 8 ⌝ }
     ensures { λ r. ⌜ r ≡ node-at (view (now (s .entry))) b .kind ⌝ }
 {
     read_word(s, b)
 }
 
 pub fn level_at(s: &[u8], b: usize) -> u64
-    requires { ⌜ b + 33 ≤ length (now s) / 8 ⌝ }
+    requires { ⌜ b + node-words ≤ length (now s) / 8 ⌝ }
     ensures { λ r. ⌜ r ≡ node-at (view (now (s .entry))) b .level ⌝ }
 {
     read_word(s, b + 1)
 }
 
 pub fn version_at(s: &[u8], b: usize) -> u64
-    requires { ⌜ b + 33 ≤ length (now s) / 8 ⌝ }
+    requires { ⌜ b + node-words ≤ length (now s) / 8 ⌝ }
     ensures { λ r. ⌜ r ≡ node-at (view (now (s .entry))) b .version ⌝ }
 {
     read_word(s, b + 2)
 }
 
 pub fn count_at(s: &[u8], b: usize) -> usize
-    requires { ⌜ b + 33 ≤ length (now s) / 8 ⌝ }
+    requires { ⌜ b + node-words ≤ length (now s) / 8 ⌝ }
     ensures { λ r. ⌜ r ≡ node-at (view (now (s .entry))) b .count ⌝ }
 {
     read_word(s, b + 3) as usize
 }
 
 pub fn key_at(s: &[u8], b: usize, i: usize) -> u64
-    requires { ⌜ (i < 14) × (b + 33 ≤ length (now s) / 8) ⌝ }
+    requires { ⌜ (i < most-keys) × (b + node-words ≤ length (now s) / 8) ⌝ }
     ensures { λ r. ⌜ r ≡ getD (node-at (view (now (s .entry))) b .keys) i 0 ⌝ }
 {
     read_word(s, b + 4 + i)
 }
 
 pub fn slot_at(s: &[u8], b: usize, i: usize) -> u64
-    requires { ⌜ (i < 15) × (b + 33 ≤ length (now s) / 8) ⌝ }
+    requires { ⌜ (i < most-children) × (b + node-words ≤ length (now s) / 8) ⌝ }
     ensures { λ r. ⌜ r ≡ getD (node-at (view (now (s .entry))) b .slots) i 0 ⌝ }
 {
     read_word(s, b + 18 + i)
@@ -57,7 +58,7 @@ pub fn slot_at(s: &[u8], b: usize, i: usize) -> u64
 
 // whether every field is in its range
 pub fn in_range_at(s: &[u8], b: usize) -> bool
-    requires { ⌜ b + 33 ≤ length (now s) / 8 ⌝ }
+    requires { ⌜ b + node-words ≤ length (now s) / 8 ⌝ }
     ensures { λ r. ⌜ r ≡ node-in-range (node-at (view (now (s .entry))) b) ⌝ }
 {
     fields_in_range(
@@ -70,7 +71,7 @@ pub fn in_range_at(s: &[u8], b: usize) -> bool
 
 // the number of keys that are not above the key
 pub fn place_at(s: &[u8], b: usize, key: u64) -> usize
-    requires { ⌜ (node-at (view (now s)) b .count ≤ 14) × (b + 33 ≤ length (now s) / 8) ⌝ }
+    requires { ⌜ (node-at (view (now s)) b .count ≤ most-keys) × (b + node-words ≤ length (now s) / 8) ⌝ }
     ensures { λ r. ⌜ r ≡ place (keysOf (node-at (view (now (s .entry))) b)) key ⌝ }
     ensures within { λ r. ⌜ r ≤ node-at (view (now (s .entry))) b .count ⌝ }
 {
@@ -88,7 +89,7 @@ pub fn place_at(s: &[u8], b: usize, key: u64) -> usize
 
 // where the key is
 pub fn find_at(s: &[u8], b: usize, key: u64) -> Found
-    requires { ⌜ (node-at (view (now s)) b .count ≤ 14) × (b + 33 ≤ length (now s) / 8) ⌝ }
+    requires { ⌜ (node-at (view (now s)) b .count ≤ most-keys) × (b + node-words ≤ length (now s) / 8) ⌝ }
     ensures { λ r. ⌜ r ≡ found (key-index (keysOf (node-at (view (now (s .entry))) b)) key) ⌝ }
     ensures within { λ r. ⌜ Inside r (node-at (view (now (s .entry))) b .count) ⌝ }
 {

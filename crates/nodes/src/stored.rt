@@ -9,6 +9,7 @@ ghost use lib.ListN.{length};
 ghost use Rattle.memory.specs.Word.{view};
 ghost use Rattle.nodes.specs.Stored.{node-of, node-at, words-of, put-node};
 ghost use Rattle.nodes.specs.Range.{node-in-range, fields-in-range};
+ghost use Rattle.nodes.specs.Bounds.{node-words};
 
 impl Node {
     pub fn from_words(words: [u64; 33]) -> Node
@@ -79,7 +80,7 @@ pub fn fields_in_range(kind: u64, level: u64, version: u64, count: usize) -> boo
 
 // the node at word b
 pub fn read_node(s: &[u8], b: usize) -> Node
-    requires { ⌜ b + 33 ≤ length (now s) / 8 ⌝ }
+    requires { ⌜ b + node-words ≤ length (now s) / 8 ⌝ }
     ensures { λ r. ⌜ r ≡ node-at (view (now (s .entry))) b ⌝ }
 {
     let mut words = [0u64; 33];
@@ -89,7 +90,7 @@ pub fn read_node(s: &[u8], b: usize) -> Node
 
 // the node at word b becomes n
 pub fn write_node(s: &mut [u8], b: usize, n: Node)
-    requires { ⌜ b + 33 ≤ length (now s) / 8 ⌝ }
+    requires { ⌜ b + node-words ≤ length (now s) / 8 ⌝ }
     ensures { λ _. ⌜ view (now (s .exit)) ≡ put-node (view (now (s .entry))) b n ⌝ }
 {
     let words = n.to_words();

@@ -5,11 +5,12 @@ ghost use Prim.Native.Nat.{_<_, _≤_};
 ghost use Rattle.nodes.specs.Found.{found, Inside};
 ghost use Rattle.nodes.specs.Vector.{free-from, first-free};
 ghost use Rattle.nodes.specs.Flags.{bits, otherwise, flags-in, with-flag};
+ghost use Rattle.nodes.specs.Bounds.{end-of-slots, word-bits};
 
 // the lowest bit that is 0, from bit p on, or 64
 fn first_zero(x: u64, p: u32) -> u32
-    requires { ⌜ p < 64 ⌝ }
-    ensures { λ r. ⌜ r ≡ otherwise 64 (free-from p (bits 64 x)) ⌝ }
+    requires { ⌜ p < word-bits ⌝ }
+    ensures { λ r. ⌜ r ≡ otherwise word-bits (free-from p (bits word-bits x)) ⌝ }
 {
     let one: u64 = 1;
     let low = (one << p) - 1;
@@ -18,7 +19,7 @@ fn first_zero(x: u64, p: u32) -> u32
 
 // the lowest free slot from the slot `from` on
 fn free_from(words: [u64; 16], slots: usize, from: usize) -> Found
-    requires { ⌜ from ≤ 1024 ⌝ }
+    requires { ⌜ from ≤ end-of-slots ⌝ }
     ensures { λ r. ⌜ r ≡ found (free-from from (flags-in slots words)) ⌝ }
     ensures inside { λ r. ⌜ Inside r slots ⌝ }
 {
@@ -42,7 +43,7 @@ fn free_from(words: [u64; 16], slots: usize, from: usize) -> Found
 
 // "it takes the first free slot above the split node's slot number, going round"
 pub fn first_free(words: [u64; 16], slots: usize, slot: usize) -> Found
-    requires { ⌜ slot < 1024 ⌝ }
+    requires { ⌜ slot < end-of-slots ⌝ }
     ensures { λ r. ⌜ r ≡ found (first-free slot (flags-in slots words)) ⌝ }
     ensures inside { λ r. ⌜ Inside r slots ⌝ }
 {
@@ -55,7 +56,7 @@ pub fn first_free(words: [u64; 16], slots: usize, slot: usize) -> Found
 
 // the vector with a slot's flag set or cleared
 pub fn with_taken(words: [u64; 16], slot: usize, taken: bool) -> [u64; 16]
-    requires { ⌜ slot < 1024 ⌝ }
+    requires { ⌜ slot < end-of-slots ⌝ }
     ensures { λ r. ⌜ r ≡ with-flag words slot taken ⌝ }
 {
     let w = slot / 64;
