@@ -34,7 +34,7 @@ use Rattle.change.specs.Mute.{stands}
 use Rattle.change.specs.Operated.{Operated}
 use Rattle.change.specs.Fit.{entries-fit}
 use Rattle.change.specs.Laws.Fit.{all-fit-entries}
-use Rattle.change.specs.Last.{last-reason}
+use Rattle.change.specs.Last.{reason-of, last-reason}
 use Rattle.change.specs.Work.{Ready, Works}
 use Rattle.client.specs.Work as C
 
@@ -44,17 +44,17 @@ by-reason r a w = cond (eqb r 0) (answers a w) (cond (eqb r 10) refused (aborted
 
 pub last-is : (z : TreeSizes) (m : ClientWord → ℕ) (a : Ans) (w : Writes) → all-fit? w w ≡ entries-fit (entered w)
     → last-questions z m a w ≡ by-reason (last-reason m (entered w)) a w
-unfolding last-reason
+unfolding last-reason reason-of
 last-is z m a w e =
     go (entries-fit (entered w)) refl (ltb 48 (m writes-count + count-new m (entered w))) refl (versions-there m (entered w)) refl (any-at-last m (entered w)) refl
   where
     go : (b : Bool) → entries-fit (entered w) ≡ b → (c : Bool) → ltb 48 (m writes-count + count-new m (entered w)) ≡ c → (f : Bool) → versions-there m (entered w) ≡ f
         → (d : Bool) → any-at-last m (entered w) ≡ d → last-questions z m a w ≡ by-reason (last-reason m (entered w)) a w
-    go false p c q f t d r = rw (e, last-reason, p)
-    go true p true q f t d r = rw (e, last-reason, p, q)
-    go true p false q false t d r = rw (e, last-reason, p, q, t)
-    go true p false q true t true r = rw (e, last-reason, p, q, t, r)
-    go true p false q true t false r = rw (e, last-reason, p, q, t, r)
+    go false p c q f t d r = rw (e, last-reason, reason-of, p)
+    go true p true q f t d r = rw (e, last-reason, reason-of, p, q)
+    go true p false q false t d r = rw (e, last-reason, reason-of, p, q, t)
+    go true p false q true t true r = rw (e, last-reason, reason-of, p, q, t, r)
+    go true p false q true t false r = rw (e, last-reason, reason-of, p, q, t, r)
 
 -- ---- the ways out of the work step
 module _ (z : TreeSizes) (m : ClientWord → ℕ) (eight : z .servers ≤ 8) (wait : Waiting m) (x u : List ℕ) (ready : Ready x u) (s : Stop) (x′ u′ : List ℕ) (kx : length x′ ≡ length x) (ku : length u′ ≡ length u) (o : Operated z m x u (reading z (waiting m)) s x′ u′) (b : Bool) (pb : b ≡ is-answer s) where
