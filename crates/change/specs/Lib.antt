@@ -17,7 +17,7 @@ pub mod Operated
 -- insert and delete
 pub mod Up
 pub mod Insert
-pub mod Delete
+pub mod Leaf
 -- the whole work step
 pub mod Work
 -- migrate

@@ -3,6 +3,7 @@ pub mod delete;
 pub mod grow;
 pub mod insert;
 pub mod last;
+pub mod leaf;
 pub mod level;
 pub mod migrate;
 pub mod neighbour;

@@ -1,17 +1,18 @@
 // The new content of a leaf, carried up "level by level from the lowest".
+use crate::leaf::Changed;
 use crate::level::at_top;
 use crate::level::raise;
 use nodes::change::Wide;
-use walk::down::Descent;
 use walk::down::Turn;
 use walk::walk::Stop;
 use walk::walk::going;
 ghost use Rattle.client.specs.Record.{sizes};
-ghost use Rattle.walk.specs.Ask.{Beginning};
+ghost use Rattle.walk.specs.Ask.{Beginning, over-lent};
 ghost use Rattle.change.specs.Operated.{Operates};
 ghost use Rattle.change.specs.Up.{Ready, rise-plan};
+ghost use Rattle.change.specs.Leaf.{LeafReady, Carries};
 
-pub fn rise(
+fn rise(
     part: &[u8],
     servers: usize,
     slots: usize,
@@ -60,35 +61,38 @@ pub fn rise(
     at_top(part, servers, slots, own, used, level, name, n, a, b)
 }
 
-// From where a way down ended.
+// From the leaf on, if one changes.
 pub fn carry_up(
     part: &[u8],
     servers: usize,
     slots: usize,
     own: &mut [u64],
     used: &mut [u64],
-    d: Descent,
-    content: Wide,
-    a: u64,
+    c: Changed,
 ) -> Stop
     requires { ⌜ Beginning servers (now part) (now own) (now used) ⌝ }
-    requires ready { ⌜ Ready (sizes servers slots) (d .top) (d .path) (d .name) content ⌝ }
-    ensures { λ r. ⌜ Operates servers slots part own used (λ z. rise-plan z (a, 0) (d .top) (d .path) (d .name) content) r ⌝ }
+    requires ready { ⌜ LeafReady (sizes servers slots) c ⌝ }
+    ensures { λ r. ⌜ over-lent Carries servers slots part own used c r (now (own .exit)) (now (used .exit)) ⌝ }
 {
-    let top = d.top;
-    let path = d.path;
-    let name = d.name;
+    let stop = c.stop;
+    let on = going(stop);
+    if !on {
+        return stop;
+    }
+    let way = c.way;
+    let path = way.path;
+    let content = c.content;
     rise(
         part,
         servers,
         slots,
         own,
         used,
-        top,
+        way.top,
         path,
-        name,
+        way.name,
         content,
-        a,
+        c.a,
         0,
     )
 }

@@ -1,7 +1,7 @@
 -- Laws of a delete's walk.
 use mathlib.Core.Path.{_≡_, sym, _∙_}
 use mathlib.Core.Bool.{Bool, false, not}
-use mathlib.Core.List.{List, []}
+use mathlib.Core.List.{List}
 use mathlib.Core.Option.{Option, none, some}
 use Prim.Native.Nat.{ℕ, _+_, _-_, _≤_, _<_}
 use native.Mathlib.Omega.{arith}
@@ -20,23 +20,22 @@ use Rattle.nodes.specs.Entries.{entriesOf, wide-entries}
 use Rattle.nodes.specs.Change.{take-out}
 use Rattle.nodes.specs.Laws.Kept.{take-out-entries}
 use Rattle.operations.specs.Slot.{TreeSizes}
-use Rattle.operations.specs.Entry.{index}
+use Rattle.operations.specs.Entry.{Entries, index}
+use Rattle.operations.specs.Path.{TreePlan, Branch}
 use Rattle.operations.specs.Change.{delete-at, delete-plan}
 use Rattle.walk.specs.declared.down.Descent.{Descent}
+use Rattle.change.specs.declared.leaf.Changed.{Changed}
 use Rattle.walk.specs.declared.walk.Stop.{Stop}
 use Rattle.client.specs.Layout.{ClientWord}
 use Rattle.walk.specs.Laws.Entries.{extra-leaf, leaf-index}
 use Rattle.walk.specs.Walk.{goes}
 use Rattle.walk.specs.Lookup.{Ends}
-use Rattle.walk.specs.Ask.{OwnGood}
 use Rattle.walk.specs.Down.{low, Descends}
-use Rattle.change.specs.Operated.{Operated}
 use Rattle.change.specs.Rise.{Content, widened}
 use Rattle.change.specs.Laws.Parts.{out-level, widened-entries, widened-content}
-use Rattle.change.specs.Up.{Ready, rise-plan}
-use Rattle.change.specs.Laws.Insert.{AtLeaf, leaf-level, ended-leaf, ended-few, ended-ready, change-stops, change-noted, change-ended, change-on}
-use Rattle.change.specs.Insert.{Ended, way}
-use Rattle.change.specs.Delete.{delete-in}
+use Rattle.change.specs.Up.{rise-plan}
+use Rattle.change.specs.Leaf.{Changes}
+use Rattle.change.specs.Laws.Insert.{AtLeaf, leaf-level, way, ended-leaf, change-stops, change-noted, change-ended, change-few, change-on, change-none}
 
 -- ---- the leaf's new content
 module _ (n : Node) (f : AtLeaf n) (i : ℕ) (h : i < n .count) where
@@ -61,55 +60,32 @@ without-few n d e h = omega arith
 pub ruleset without-exits = (without-is, without-few)
 
 -- ---- at the leaf
-module _ (z : TreeSizes) (m : ClientWord → ℕ) (x u : List ℕ) (d : Descent) (key : ℕ) (t : Ended z d) (f : Found) (p : f ≡ found (key-index (keysOf (d .node)) key)) where
+module _ (z : TreeSizes) (m : ClientWord → ℕ) (u : List ℕ) (key : ℕ) (d : Descent) (u₁ : List ℕ) (h : Descends z m u key d u₁) (on : Bool) (po : on ≡ goes (d .stop)) (nb : not on ≡ false) (f : Found) (p : f ≡ found (key-index (keysOf (d .node)) key)) where
   abbrev lo : ℕ
   lo = low (way d)
 
   leaf : AtLeaf (d .node)
-  leaf = ended-leaf z d t
+  leaf = ended-leaf z d (change-ended z m u key d u₁ h on po nb)
 
   there : (o : Option ℕ) → key-index (keysOf (d .node)) key ≡ o → index key (entriesOf (d .node) lo) ≡ o
   there o e = leaf-index (d .node) lo key (leaf .whole) (leaf .leaf) ∙ e
 
-  pub delete-nothing : f ≡ Absent → OwnGood x → (s : Stop) (u′ : List ℕ) → Ends m u 0 0 s u′ → Operated z m x u (delete-in z d key) s x u′
-  unfolding delete-in
-  delete-nothing e g s u′ q =
-      let i = there none (found-none (key-index (keysOf (d .node)) key) (sym p ∙ e)) in
-      record {
-        writes = [];
-        same = λ hold. rw i (q .same z []);
-        holds = λ t hold. hold;
-        kept = λ t hold. record { fit = g .fit; few = g .few };
-        noted = q .noted;
-      }
+  abbrev plan : List Branch → ℕ → Entries → TreePlan
+  plan fs n es = delete-at z fs n es (index key es)
+
+  pub delete-nothing : f ≡ Absent → (s : Stop) (u′ : List ℕ) (c : Changed) → Ends m u₁ 0 0 s u′ → c .stop ≡ s → Changes z m u (delete-plan z key) c u′
+  delete-nothing e s u′ c q t =
+      change-none z m u key d u₁ h on po nb plan 0 0 s u′ c (rw (there none (found-none (key-index (keysOf (d .node)) key) (sym p ∙ e)))) q t
 
   module _ (i : ℕ) (e : f ≡ At i) (inside : Inside f (d .node .count)) where
     pub delete-inside : i < d .node .count
     delete-inside = inside .inside i e
 
-    pub delete-ready : (n : Wide) → n ≡ widened (take-out (d .node) i) → Ready z (d .top) (d .path) (d .name) n
-    delete-ready n pn = ended-ready z d t n (rw pn (out-content (d .node) leaf i delete-inside))
-
-    pub delete-goes : (n : Wide) (s : Stop) (x′ u′ : List ℕ) → n ≡ widened (take-out (d .node) i) → Operated z m x u (rise-plan z (1, 0) (d .top) (d .path) (d .name) n) s x′ u′
-        → Operated z m x u (delete-in z d key) s x′ u′
-    unfolding delete-in rise-plan
-    delete-goes n s x′ u′ pn q =
+    pub deleted : (n : Wide) → n ≡ widened (take-out (d .node) i) → Changes z m u (delete-plan z key) (record { stop = d .stop; way = d; content = n; a = 1 }) u₁
+    unfolding rise-plan
+    deleted n pn =
         let j = there (some i) (found-some (key-index (keysOf (d .node)) key) i (sym p ∙ e)) in
         let w : wide-entries n lo ≡ remove-at i (entriesOf (d .node) lo) = rw pn (out-entries (d .node) leaf i delete-inside lo) in
-        record {
-          writes = q .writes;
-          same = λ hold. rw (j, ← w) (q .same hold);
-          holds = q .holds;
-          kept = q .kept;
-          noted = q .noted;
-        }
+        change-on z m u key d u₁ h on po nb plan n 1 (rw pn (out-content (d .node) leaf i delete-inside)) (rw (j, ← w))
 
-pub ruleset delete-exits = (ended-few, delete-nothing, delete-inside, delete-ready, delete-goes)
-
--- ---- from the root on
-pub deleted : (z : TreeSizes) (m : ClientWord → ℕ) (x u : List ℕ) (key : ℕ) (d : Descent) (u₁ : List ℕ) → Descends z m u key d u₁ → (on : Bool) → on ≡ goes (d .stop) → not on ≡ false
-    → (s : Stop) (x′ u′ : List ℕ) → Operated z m x u₁ (delete-in z d key) s x′ u′ → Operated z m x u (delete-plan z key) s x′ u′
-unfolding delete-in
-deleted z m x u key d u₁ h on po nb s x′ u′ q = change-on z m x u key d u₁ h on po nb (λ fs n es. delete-at z fs n es (index key es)) s x′ u′ q
-
-pub ruleset deleted-exits = (change-stops, change-noted, change-ended, deleted)
+pub ruleset delete-exits = (change-stops, change-noted, change-few, delete-nothing, delete-inside, deleted)

@@ -28,21 +28,27 @@ use Rattle.operations.specs.Slot.{TreeSizes}
 use Rattle.operations.specs.Entry.{Entries, keys, index, value-in, with-pair}
 use Rattle.operations.specs.Path.{TreePlan, Branch, from-root}
 use Rattle.operations.specs.Change.{up, insert-plan}
+use Rattle.walk.specs.declared.down.Turn.{Turn}
 use Rattle.walk.specs.declared.down.Descent.{Descent}
+use Rattle.change.specs.declared.leaf.Changed.{Changed}
 use Rattle.change.specs.declared.insert.Paired.{Paired}
 use Rattle.walk.specs.declared.walk.Stop.{Stop}
 use Rattle.client.specs.Layout.{ClientWord}
 use Rattle.client.specs.Lent.{used-in}
 use Rattle.walk.specs.Laws.Entries.{Leaf, open-leaf, extra-leaf, leaf-keys, leaf-index, leaf-value, leaf-absent}
 use Rattle.walk.specs.Walk.{goes}
+use Rattle.walk.specs.Lookup.{Ends}
+use Rattle.walk.specs.Laws.Down.{stops-not}
 use Rattle.walk.specs.Laws.Lookup.{ended-nothing, place-within, find-inside}
-use Rattle.walk.specs.Ask.{OwnGood, Noted}
-use Rattle.walk.specs.Down.{low, branches, Descends}
-use Rattle.change.specs.Operated.{Operated}
+use Rattle.walk.specs.Ask.{Noted}
+use Rattle.walk.specs.Down.{low, branches, trail, Linked, Reached, Descends}
 use Rattle.change.specs.Rise.{OfLevel, Content, widened}
 use Rattle.change.specs.Laws.Parts.{widened-entries, widened-content}
 use Rattle.change.specs.Up.{Ready, rise-plan}
-use Rattle.change.specs.Insert.{paired-at, paired, Ended, way, insert-in}
+use Rattle.change.specs.Insert.{paired-at, paired}
+use Rattle.change.specs.Leaf.{Changes}
+use Rattle.change.specs.Laws.Merge.{ends-halts}
+use Rattle.plans.specs.Plan as P
 
 find-key : (ks : List ℕ) (key i : ℕ) → key-index ks key ≡ some i → getD ks i 0 ≡ key
 unfolding key-index find-at
@@ -145,28 +151,28 @@ pair-few n d e h = omega arith
 
 pub ruleset pair-exits = (pair-replaced, pair-new, pair-inside, pair-few)
 
+-- ---- a way down that ended at a leaf
+pub record Ended (z : TreeSizes) (d : Descent) : Type 0 where
+  pub high : d .top ≤ 4
+  pub reached : Reached 0 d
+  pub linked : Linked z 0 (d .name) (trail (d .path) 0 (d .top - 0))
+
+abbrev pub way : Descent → List Turn
+way d = trail (d .path) 0 (d .top - 0)
+
 module _ (z : TreeSizes) (d : Descent) (t : Ended z d) where
   pub ended-leaf : AtLeaf (d .node)
   ended-leaf = record { whole = t .reached .whole; leaf = open-leaf (d .node) (t .reached .opened) (t .reached .level); small = t .reached .small .keys }
 
-  pub ended-few : d .node .count ≤ 14
-  ended-few = ended-leaf .small
-
-  pub ended-ready : (n : Wide) → Content 0 n → Ready z (d .top) (d .path) (d .name) n
+  ended-ready : (n : Wide) → Content 0 n → Ready z (d .top) (d .path) (d .name) n
   ended-ready n c = record { high = t .high; size = t .reached .size; good = t .reached .good; linked = t .linked; content = c }
 
-module _ (z : TreeSizes) (m : ClientWord → ℕ) (x u : List ℕ) (key : ℕ) (d : Descent) (u₁ : List ℕ) (h : Descends z m u key d u₁) (on : Bool) (po : on ≡ goes (d .stop)) where
-  -- an operation that stops on the way has written nothing
-  pub change-stops : (k : List Branch → ℕ → Entries → TreePlan) → OwnGood x → not on ≡ true → Operated z m x u (from-root key k) (d .stop) x u₁
-  change-stops k g nb =
+module _ (z : TreeSizes) (m : ClientWord → ℕ) (u : List ℕ) (key : ℕ) (d : Descent) (u₁ : List ℕ) (h : Descends z m u key d u₁) (on : Bool) (po : on ≡ goes (d .stop)) where
+  -- an operation that stops on the way
+  pub change-stops : (k : List Branch → ℕ → Entries → TreePlan) (c : Changed) → c .stop ≡ d .stop → not on ≡ true → Changes z m u (from-root key k) c u₁
+  change-stops k c e nb =
       let halts : goes (d .stop) ≡ false = sym po ∙ not-true on nb in
-      record {
-        writes = [];
-        same = λ hold. h .asks k ∙ rw halts (sym (ended-nothing (d .stop) (used-in u₁)));
-        holds = λ t hold. hold;
-        kept = λ t hold. record { fit = g .fit; few = g .few };
-        noted = h .noted;
-      }
+      record { asks = h .asks k ∙ rw (e, halts); ready = λ t. stops-not (d .stop) halts (rw e at t); noted = h .noted }
 
   pub change-noted : Noted m u₁
   change-noted = h .noted
@@ -178,39 +184,33 @@ module _ (z : TreeSizes) (m : ClientWord → ℕ) (x u : List ℕ) (key : ℕ) (
     pub change-ended : Ended z d
     change-ended = record { high = h .high; reached = h .reached going; linked = h .linked going }
 
-    -- what follows at the leaf
-    pub change-on : (k : List Branch → ℕ → Entries → TreePlan) (s : Stop) (x′ u′ : List ℕ)
-        → Operated z m x u₁ (k (branches (way d)) (d .name) (entriesOf (d .node) (low (way d)))) s x′ u′ → Operated z m x u (from-root key k) s x′ u′
-    change-on k s x′ u′ q = record {
-      writes = q .writes;
-      same = λ hold. h .asks k ∙ rw going (q .same hold);
-      holds = q .holds;
-      kept = q .kept;
-      noted = q .noted;
-    }
+    pub change-few : d .node .count ≤ 14
+    change-few = ended-leaf z d change-ended .small
 
-module _ (z : TreeSizes) (m : ClientWord → ℕ) (x u : List ℕ) (d : Descent) (key v : ℕ) (t : Ended z d) (p : Paired) (pp : p ≡ paired (d .node) key v) where
-  pub insert-ready : Ready z (d .top) (d .path) (d .name) (p .content)
-  insert-ready = ended-ready z d t (p .content) (rw pp (paired-content (d .node) (ended-leaf z d t) key v))
+    -- a leaf's new content, where the plan goes up from it
+    pub change-on : (k : List Branch → ℕ → Entries → TreePlan) (n : Wide) (a : ℕ) → Content 0 n
+        → k (branches (way d)) (d .name) (entriesOf (d .node) (low (way d))) ≡ rise-plan z (a, 0) (d .top) (d .path) (d .name) n
+        → Changes z m u (from-root key k) (record { stop = d .stop; way = d; content = n; a = a }) u₁
+    change-on k n a c e = record { asks = h .asks k ∙ rw (going, e); ready = λ t. ended-ready z d change-ended n c; noted = h .noted }
 
-  pub insert-goes : (s : Stop) (x′ u′ : List ℕ) → Operated z m x u (rise-plan z (p .a, 0) (d .top) (d .path) (d .name) (p .content)) s x′ u′ → Operated z m x u (insert-in z d key v) s x′ u′
-  unfolding rise-plan insert-in
-  insert-goes s x′ u′ q =
-      let e : wide-entries (p .content) (low (way d)) ≡ with-pair key v (entriesOf (d .node) (low (way d))) = rw pp (paired-entries (d .node) (ended-leaf z d t) key v (low (way d))) in
-      let a : fresh (value-in key (entriesOf (d .node) (low (way d)))) ≡ (p .a, 0) = rw pp (paired-answer (d .node) (ended-leaf z d t) key v (low (way d))) in
-      record {
-        writes = q .writes;
-        same = λ hold. rw (a, ← e) (q .same hold);
-        holds = q .holds;
-        kept = q .kept;
-        noted = q .noted;
-      }
+    -- no leaf changes: the plan answers at once
+    pub change-none : (k : List Branch → ℕ → Entries → TreePlan) (a b : ℕ) (s : Stop) (u′ : List ℕ) (c : Changed)
+        → k (branches (way d)) (d .name) (entriesOf (d .node) (low (way d))) ≡ P.done ((a, b), []) → Ends m u₁ a b s u′ → c .stop ≡ s → Changes z m u (from-root key k) c u′
+    change-none k a b s u′ c e q p =
+        let halts : goes s ≡ false = ends-halts z m u₁ a b s u′ q in
+        record {
+          asks = h .asks k ∙ rw (going, e, p, halts) (q .same z [] ∙ ended-nothing s (used-in u′));
+          ready = λ t. stops-not s halts (rw p at t);
+          noted = q .noted;
+        }
 
-pub ruleset insert-exits = (ended-few, insert-ready, insert-goes)
+    -- ---- insert
+    pub inserted : (v : ℕ) (p : Paired) → p ≡ paired (d .node) key v → Changes z m u (insert-plan z key v) (record { stop = d .stop; way = d; content = p .content; a = p .a }) u₁
+    unfolding rise-plan
+    inserted v p pp =
+        let leaf : AtLeaf (d .node) = ended-leaf z d change-ended in
+        let e : wide-entries (p .content) (low (way d)) ≡ with-pair key v (entriesOf (d .node) (low (way d))) = rw pp (paired-entries (d .node) leaf key v (low (way d))) in
+        let a : fresh (value-in key (entriesOf (d .node) (low (way d)))) ≡ (p .a, 0) = rw pp (paired-answer (d .node) leaf key v (low (way d))) in
+        change-on (λ fs n es. up z (fresh (value-in key es)) zero fs [] n (with-pair key v es)) (p .content) (p .a) (rw pp (paired-content (d .node) leaf key v)) (rw (a, ← e))
 
-pub inserted : (z : TreeSizes) (m : ClientWord → ℕ) (x u : List ℕ) (key v : ℕ) (d : Descent) (u₁ : List ℕ) → Descends z m u key d u₁ → (on : Bool) → on ≡ goes (d .stop) → not on ≡ false
-    → (s : Stop) (x′ u′ : List ℕ) → Operated z m x u₁ (insert-in z d key v) s x′ u′ → Operated z m x u (insert-plan z key v) s x′ u′
-unfolding insert-in
-inserted z m x u key v d u₁ h on po nb s x′ u′ q = change-on z m x u key d u₁ h on po nb (λ fs n es. up z (fresh (value-in key es)) zero fs [] n (with-pair key v es)) s x′ u′ q
-
-pub ruleset inserted-exits = (change-stops, change-noted, change-ended, inserted)
+pub ruleset insert-exits = (change-stops, change-few, inserted)

@@ -15,6 +15,7 @@ use Rattle.operations.specs.Slot.{TreeSizes}
 use Rattle.operations.specs.Path.{TreePlan}
 use Rattle.operations.specs.Change.{Go, up}
 use Rattle.walk.specs.declared.down.Turn.{Turn}
+use Rattle.change.specs.declared.leaf.Changed.{Changed}
 use Rattle.change.specs.declared.rise.Risen.{Risen}
 use Rattle.walk.specs.declared.walk.Stop.{Stop}
 use Rattle.walk.specs.declared.walk.Stop.the-variants.{Going, LacksMeta, LacksNode, LacksVector, Refused, Aborts, Answers}
@@ -32,6 +33,8 @@ use Rattle.change.specs.Rise.{Content, Under, is-root, rose, Raised, Clo
 use Rattle.change.specs.Level.{level-plan, top-plan}
 use Rattle.change.specs.Laws.Level.{up-level}
 use Rattle.change.specs.Up.{from-level, rise-plan, Ready}
+use Rattle.change.specs.Leaf.{risen, LeafReady, Carries}
+use Rattle.change.specs.Laws.Operated.{walks-operated}
 
 -- how far it has come: at most three writes a level
 pub record Rising (z : TreeSizes) (m : ClientWord → ℕ) (x₀ u₀ : List ℕ) (a : Ans) (top : ℕ) (path : List Turn) (c₀ : ℕ) (n₀ : Wide) (c : ℕ) (n : Wide) (l : ℕ) (x u : List ℕ) : Type 0 where
@@ -79,7 +82,7 @@ stands-on Refused e = e
 stands-on (Aborts r) e = e
 stands-on (Answers a b) e = refl
 
-linked-there : (z : TreeSizes) (l n : ℕ) (bs : List Turn) → Linked z l n bs → in-store z n ≡ true
+pub linked-there : (z : TreeSizes) (l n : ℕ) (bs : List Turn) → Linked z l n bs → in-store z n ≡ true
 unfolding Linked
 linked-there z l n [] h = h
 linked-there z l n (b ∷ bs) h = h .0 .there
@@ -200,3 +203,32 @@ module _ (z : TreeSizes) (m : ClientWord → ℕ) (x₀ u₀ : List ℕ) (a : An
           })
 
 pub ruleset rise-exits = (rise-start, rise-content, rise-good, rise-noted, rise-room, rise-low, rise-there, rise-ends, rise-inside, rise-under, rise-stops, rise-more)
+
+-- ---- from a leaf that changes, or not
+module _ (z : TreeSizes) (m : ClientWord → ℕ) (x u : List ℕ) (c : Changed) (on : Bool) (po : on ≡ goes (c .stop)) where
+  pub carry-stops : not on ≡ true → OwnGood x → Carries z m x u c (c .stop) x u
+  carry-stops nb g =
+      let halts : goes (c .stop) ≡ false = sym po ∙ not-true on nb in
+      record {
+        operated = λ p u₀ h. walks-operated z m x u₀ p (c .stop) u g (record { same = h .asks ∙ rw halts; noted = h .noted });
+      }
+
+  module _ (nb : not on ≡ false) where
+    going : goes (c .stop) ≡ true
+    going = sym po ∙ not-false on nb
+
+    pub carry-ready : LeafReady z c → Ready z (c .way .top) (c .way .path) (c .way .name) (c .content)
+    carry-ready h = h going
+
+    pub carry-goes : (s : Stop) (x′ u′ : List ℕ) → Operated z m x u (risen z c) s x′ u′ → Carries z m x u c s x′ u′
+    carry-goes s x′ u′ q = record {
+      operated = λ p u₀ h. record {
+        writes = q .writes;
+        same = λ hold. h .asks ∙ rw going (q .same hold);
+        holds = q .holds;
+        kept = q .kept;
+        noted = q .noted;
+      };
+    }
+
+pub ruleset carry-exits = (carry-stops, carry-ready, carry-goes)

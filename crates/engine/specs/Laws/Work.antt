@@ -386,11 +386,11 @@ module _ (z : Sizes) (b : List ℕ) (c : ℕ) (hold : Store-in z (length b)) (h 
   -- one that writes
   module _ (x₀ u₀ x u : List ℕ) (k : Works (tree-sizes z) (of-client z (view b) c) s x₀ u₀ x u) where
     pub change-fits : is-answer s ≡ true → OwnFits x
-    change-fits n = let v = answering z b c hold h known wait fit s u (k .stopped) n in k .fits _ (v .writes) (v .is)
+    change-fits n = let v = answering z b c hold h known wait fit s u (k .enters .stopped) n in k .fits _ (v .writes) (v .is)
 
     pub change-answers : (o : Outcome) (w′ : List ℕ) → is-answer s ≡ true → o ≡ answer-of s
         → Does whole (block z) (inPart (client c) (entering (used-in u) (own-list x))) silent (view b) 0 w′ → Meets z (λ m. work z m c) (view b) o w′
-    change-answers o w′ n e p = rw e (work-answers z b c hold h known wait fit s u (k .stopped) n (own-list x) w′ (k .own) p)
+    change-answers o w′ n e p = rw e (work-answers z b c hold h known wait fit s u (k .enters .stopped) n (own-list x) w′ (k .enters .own) p)
 
 -- ---- what refusals 9 and 10 have judged
 count-within : (t : TreeSizes) (m : ClientWord → ℕ) (s : Set) → numbers-fit t m s ≡ true → said-count m s ≤ limit s
