@@ -20,6 +20,7 @@ pub mod Insert
 pub mod Leaf
 -- the whole work step
 pub mod Work
+pub mod Single
 -- migrate
 pub mod Move
 pub mod Parent

@@ -8,6 +8,7 @@ pub mod level;
 pub mod migrate;
 pub mod neighbour;
 pub mod rise;
+pub mod single;
 pub mod split;
 pub mod up;
 pub mod work;
