@@ -21,6 +21,7 @@ pub mod Insert
 pub mod Delete
 -- the whole work step
 pub mod Work
+pub mod Single
 -- migrate
 pub mod Move
 pub mod Parent

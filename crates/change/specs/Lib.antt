@@ -17,9 +17,10 @@ pub mod Operated
 -- insert and delete
 pub mod Up
 pub mod Insert
-pub mod Delete
+pub mod Leaf
 -- the whole work step
 pub mod Work
+pub mod Single
 -- migrate
 pub mod Move
 pub mod Parent

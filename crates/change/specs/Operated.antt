@@ -1,18 +1,20 @@
 -- An operation walked to its end.
 use mathlib.Core.Path.{_≡_}
-use mathlib.Core.Bool.{true}
+use mathlib.Core.Bool.{true, false}
 use mathlib.Core.List.{List, []}
+use mathlib.Core.Option.{none}
 use Prim.Native.Nat.{ℕ}
 use denote.Ref.{now}
-use Rattle.operations.specs.Object.{Writes}
+use Rattle.operations.specs.Object.{Obj, Writes}
 use Rattle.operations.specs.Slot.{TreeSizes}
 use Rattle.operations.specs.Path.{TreePlan}
 use Rattle.walk.specs.declared.walk.Stop.{Stop}
 use Rattle.client.specs.Layout.{ClientWord}
-use Rattle.client.specs.Record.{sizes}
-use Rattle.client.specs.Lent.{LentList, used-in}
+use Rattle.client.specs.Record.{sizes, object-in-store}
+use Rattle.client.specs.Lent.{LentList, Entry, used-in}
+use Rattle.client.specs.Answered.{entered}
 use Rattle.walk.specs.Walk.{walked}
-use Rattle.walk.specs.Ask.{OwnKept, Holds-writes, Noted, over-lent}
+use Rattle.walk.specs.Ask.{OwnKept, Holds-writes, write-of, Noted, over-lent}
 use Rattle.change.specs.Mute.{stands}
 use Rattle.walk.specs.Lookup.{ended}
 
@@ -27,3 +29,11 @@ pub record Operated (z : TreeSizes) (m : ClientWord → ℕ) (x u : List ℕ) (p
 -- as a contract promises it, over what the walk is lent: the plan is that of the store's sizes
 abbrev pub Operates : ℕ → ℕ → LentList → LentList → LentList → (TreeSizes → TreePlan) → Stop → Type 0
 Operates servers slots part own used plan s = over-lent Operated servers slots part own used (plan (sizes servers slots)) s (now (own .exit)) (now (used .exit))
+
+-- the same without the list: with an answer l are the entries of the operation's writes, all of objects of the store
+pub record Written (z : TreeSizes) (m : ClientWord → ℕ) (u : List ℕ) (p : TreePlan) (s : Stop) (l : List Entry) (u′ : List ℕ) : Type 0 where
+  pub writes : Writes
+  pub same : walked z m p (used-in u) ≡ ended s (used-in u′) writes
+  pub entries : stands s ≡ true → l ≡ entered writes
+  pub out : stands s ≡ true → (o : Obj) → object-in-store z o ≡ false → write-of writes o ≡ none
+  pub noted : Noted m u′

@@ -1,22 +1,20 @@
 // Insert: the pair comes into the leaf for the key.
+use crate::leaf::Changed;
+use crate::leaf::unchanged;
 use crate::rise::widen;
-use crate::up::carry_up;
 use nodes::change::Wide;
 use nodes::found::Found;
 use nodes::node::Node;
 use nodes::stored::read_node;
-use walk::down::Descent;
 use walk::down::descend;
-use walk::walk::Stop;
 use walk::walk::going;
 ghost use mathlib.Core.Path.{_≡_};
 ghost use Prim.Native.Nat.{_≤_};
 ghost use Rattle.operations.specs.Change.{insert-plan};
 ghost use Rattle.client.specs.Record.{sizes};
-ghost use Rattle.walk.specs.Ask.{In-part, Beginning};
-ghost use Rattle.walk.specs.Down.{arrival, Path-in-part};
-ghost use Rattle.change.specs.Operated.{Operates};
-ghost use Rattle.change.specs.Insert.{Ended, paired, insert-in};
+ghost use Rattle.walk.specs.Ask.{Walking};
+ghost use Rattle.change.specs.Insert.{paired};
+ghost use Rattle.change.specs.Leaf.{Changes};
 ghost use Rattle.client.specs.Bounds.{most-keys};
 
 // A leaf's new content, with the answer a: 1 if the key is new.
@@ -45,45 +43,32 @@ fn with_pair(n: Node, key: u64, value: u64) -> Paired
     }
 }
 
-// At the leaf.
-fn insert_at(
-    part: &[u8],
-    servers: usize,
-    slots: usize,
-    own: &mut [u64],
-    used: &mut [u64],
-    d: Descent,
-    key: u64,
-    value: u64,
-) -> Stop
-    requires { ⌜ Beginning servers (now part) (now own) (now used) ⌝ }
-    requires ended { ⌜ Ended (sizes servers slots) (arrival (now part) d) × Path-in-part (d .path) × In-part (d .place) ⌝ }
-    ensures { λ r. ⌜ Operates servers slots part own used (λ z. insert-in z (arrival (now (part .entry)) d) key value) r ⌝ }
-{
-    let leaf = read_node(part, d.place);
-    let p = with_pair(leaf, key, value);
-    let content = p.content;
-    let a = p.a;
-    carry_up(part, servers, slots, own, used, d, content, a)
-}
-
+// The pair in the leaf for the key.
 pub fn insert(
     part: &[u8],
     servers: usize,
     slots: usize,
-    own: &mut [u64],
     used: &mut [u64],
     key: u64,
     value: u64,
-) -> Stop
-    requires { ⌜ Beginning servers (now part) (now own) (now used) ⌝ }
-    ensures { λ r. ⌜ Operates servers slots part own used (λ z. insert-plan z key value) r ⌝ }
+) -> Changed
+    requires { ⌜ Walking servers (now part) (now used) ⌝ }
+    ensures { λ r. ⌜ Changes (sizes servers slots) (now (part .entry)) (now (used .entry)) (insert-plan (sizes servers slots) key value) r
+        (now (used .exit)) ⌝ }
 {
-    let d = descend(part, servers, slots, used, key);
-    let stop = d.stop;
+    let way = descend(part, servers, slots, used, key);
+    let stop = way.stop;
     let on = going(stop);
     if !on {
-        return stop;
+        return unchanged(stop, way);
     }
-    insert_at(part, servers, slots, own, used, d, key, value)
+    let leaf = read_node(part, way.place);
+    let p = with_pair(leaf, key, value);
+    let content = p.content;
+    Changed {
+        stop,
+        way,
+        content,
+        a: p.a,
+    }
 }

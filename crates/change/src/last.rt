@@ -9,28 +9,28 @@ use client::part::Set;
 use client::part::WRITES_COUNT;
 use client::part::find;
 use client::part::get_field;
-use client::part::record_at;
+use client::part::item_word;
 use nodes::found::Found;
+use nodes::node::Node;
 ghost use mathlib.Core.Path.{_≡_};
 ghost use mathlib.Core.Bool.{not};
+ghost use mathlib.Core.List.{[], _∷_};
 ghost use Prim.Native.Nat.{_<_, _≤_};
-ghost use lib.ListN.{getD};
 ghost use Rattle.client.specs.declared.part.Set.the-variants.{Reads, Writes};
 ghost use Rattle.client.specs.Layout.{writes-count, ClientPart, limit};
-ghost use Rattle.client.specs.Sets.{held, find};
+ghost use Rattle.client.specs.Sets.{held, find, record-at};
 ghost use Rattle.client.specs.Lent.{OwnFits, own-list};
 ghost use Rattle.client.specs.Work.{version-in, version-there, count-new, versions-there, any-at-last};
-ghost use Rattle.client.specs.Bounds.{end-of-numbers, own-most};
+ghost use Rattle.client.specs.Bounds.{end-of-numbers, own-most, most-keys};
 ghost use Rattle.walk.specs.Ask.{OwnKept};
-ghost use Rattle.change.specs.Fit.{entries-fit};
-ghost use Rattle.change.specs.Last.{own-fits, new-at, stays-below, last-reason, there-at};
+ghost use Rattle.change.specs.Fit.{record-fits, entries-fit};
+ghost use Rattle.change.specs.Last.{new-one, stays-below, there, reason-of, last-reason};
 
 // "a node with keys that don't rise or a level above 4 would be written"
-fn own_fits(own: &[u64], i: usize) -> bool
-    requires { ⌜ (i < getD (now own) 0 0) × OwnKept (now own) ⌝ }
-    ensures { λ r. ⌜ r ≡ own-fits (now (own .entry)) i ⌝ }
+fn fits(n: Node) -> bool
+    requires { ⌜ n .count ≤ most-keys ⌝ }
+    ensures { λ r. ⌜ r ≡ record-fits n ⌝ }
 {
-    let n = own_record(own, i);
     if !n.keys_rise() {
         return false;
     }
@@ -44,7 +44,8 @@ fn all_fit(own: &[u64]) -> bool
     let n = own[0] as usize;
     let mut i: usize = 0;
     while i < n {
-        if !own_fits(own, i) {
+        let r = own_record(own, i);
+        if !fits(r) {
             return false;
         }
         i += 1;
@@ -52,13 +53,13 @@ fn all_fit(own: &[u64]) -> bool
     true
 }
 
-// 1 for an own write of an object that the write set lacks.
-fn new_at(part: &[u8], own: &[u64], i: usize) -> usize
-    requires { ⌜ (i < getD (now own) 0 0) × OwnFits (now own) × ClientPart (now part) ⌝ }
-    ensures { λ r. ⌜ r ≡ new-at (held (now (part .entry))) (now (own .entry)) i ⌝ }
+// 1 for an object that the write set lacks.
+fn new_one(part: &[u8], number: u64) -> usize
+    requires { ⌜ ClientPart (now part) ⌝ }
+    ensures { λ r. ⌜ r ≡ new-one (held (now (part .entry))) number ⌝ }
     ensures within { λ r. ⌜ r ≤ 1 ⌝ }
 {
-    let at = find(part, Set::Writes, own[ITEM_WORDS * i + 1]);
+    let at = find(part, Set::Writes, number);
     match at {
         Found::At(_) => 0,
         Found::Absent => 1,
@@ -74,10 +75,18 @@ fn count_new(part: &[u8], own: &[u64]) -> usize
     let mut i: usize = 0;
     let mut c: usize = 0;
     while i < n {
-        c += new_at(part, own, i);
+        c += new_one(part, own[ITEM_WORDS * i + 1]);
         i += 1;
     }
     c
+}
+
+// The version of a read object's record, without the rest of it.
+fn version_at(part: &[u8], i: usize) -> u64
+    requires { ⌜ (i < limit Reads) × ClientPart (now part) ⌝ }
+    ensures { λ r. ⌜ r ≡ record-at (held (now (part .entry))) Reads i .version ⌝ }
+{
+    item_word(part, Set::Reads, i, 3)
 }
 
 // The version of an object that was read, or that came into use.
@@ -87,10 +96,7 @@ fn version_in(part: &[u8], number: u64) -> u64
 {
     let at = find(part, Set::Reads, number);
     match at {
-        Found::At(i) => {
-            let n = record_at(part, Set::Reads, i);
-            n.version
-        }
+        Found::At(i) => version_at(part, i),
         Found::Absent => {
             let l = copied(part, number);
             let n = l.node;
@@ -107,19 +113,18 @@ fn version_there(part: &[u8], number: u64) -> bool
     let at = find(part, Set::Reads, number);
     match at {
         Found::At(i) => {
-            let n = record_at(part, Set::Reads, i);
-            n.version <= 4294967295
+            let version = version_at(part, i);
+            version <= 4294967295
         }
         Found::Absent => !has(part, Set::Writes, number),
     }
 }
 
-// Refusal 10 for the version of an own write; of flags none is kept.
-fn there_at(part: &[u8], own: &[u64], i: usize) -> bool
-    requires { ⌜ (i < getD (now own) 0 0) × OwnFits (now own) × ClientPart (now part) ⌝ }
-    ensures { λ r. ⌜ r ≡ there-at (held (now (part .entry))) (now (own .entry)) i ⌝ }
+// Refusal 10 for the version of a written object; of flags none is kept.
+fn there(part: &[u8], number: u64) -> bool
+    requires { ⌜ ClientPart (now part) ⌝ }
+    ensures { λ r. ⌜ r ≡ there (held (now (part .entry))) number ⌝ }
 {
-    let number = own[ITEM_WORDS * i + 1];
     if number > LAST_NODE_NUMBER {
         return true;
     }
@@ -133,7 +138,7 @@ fn all_there(part: &[u8], own: &[u64]) -> bool
     let n = own[0] as usize;
     let mut i: usize = 0;
     while i < n {
-        if !there_at(part, own, i) {
+        if !there(part, own[ITEM_WORDS * i + 1]) {
             return false;
         }
         i += 1;
@@ -142,11 +147,10 @@ fn all_there(part: &[u8], own: &[u64]) -> bool
 }
 
 // "8 a written version is 4,294,967,295": of metadata and nodes.
-fn stays_below(part: &[u8], own: &[u64], i: usize) -> bool
-    requires { ⌜ (i < getD (now own) 0 0) × OwnFits (now own) × ClientPart (now part) ⌝ }
-    ensures { λ r. ⌜ r ≡ stays-below (held (now (part .entry))) (now (own .entry)) i ⌝ }
+fn stays_below(part: &[u8], number: u64) -> bool
+    requires { ⌜ ClientPart (now part) ⌝ }
+    ensures { λ r. ⌜ r ≡ stays-below (held (now (part .entry))) number ⌝ }
 {
-    let number = own[ITEM_WORDS * i + 1];
     if number > LAST_NODE_NUMBER {
         return true;
     }
@@ -161,7 +165,7 @@ fn all_below(part: &[u8], own: &[u64]) -> bool
     let n = own[0] as usize;
     let mut i: usize = 0;
     while i < n {
-        if !stays_below(part, own, i) {
+        if !stays_below(part, own[ITEM_WORDS * i + 1]) {
             return false;
         }
         i += 1;
@@ -170,23 +174,46 @@ fn all_below(part: &[u8], own: &[u64]) -> bool
 }
 
 // The reason to abort, 0 if there is none: 3, then 4, then 8; 10 is the refusal.
+fn reason_of(part: &[u8], fit: bool, new: usize, known: bool, below: bool) -> u64
+    requires { ⌜ (new ≤ own-most) × (held (now part) writes-count ≤ limit Writes) × ClientPart (now part) ⌝ }
+    ensures { λ r. ⌜ r ≡ reason-of (held (now (part .entry))) fit new known below ⌝ }
+{
+    if !fit {
+        return 3;
+    }
+    let written = get_field(part, WRITES_COUNT) as usize;
+    if MOST_WRITTEN < written + new {
+        return 4;
+    }
+    if !known {
+        return 10;
+    }
+    if !below {
+        return 8;
+    }
+    0
+}
+
+// Of all own writes.
 pub fn last_reason(part: &[u8], own: &[u64]) -> u64
     requires { ⌜ OwnKept (now own) × (held (now part) writes-count ≤ limit Writes) × ClientPart (now part) ⌝ }
     ensures { λ r. ⌜ r ≡ last-reason (held (now (part .entry))) (own-list (now (own .entry))) ⌝ }
 {
-    if !all_fit(own) {
-        return 3;
-    }
-    let written = get_field(part, WRITES_COUNT) as usize;
+    let fit = all_fit(own);
     let new = count_new(part, own);
-    if MOST_WRITTEN < written + new {
-        return 4;
-    }
-    if !all_there(part, own) {
-        return 10;
-    }
-    if !all_below(part, own) {
-        return 8;
-    }
-    0
+    let known = all_there(part, own);
+    let below = all_below(part, own);
+    reason_of(part, fit, new, known, below)
+}
+
+// Of one write.
+pub fn one_reason(part: &[u8], number: u64, n: Node) -> u64
+    requires { ⌜ (n .count ≤ most-keys) × (held (now part) writes-count ≤ limit Writes) × ClientPart (now part) ⌝ }
+    ensures { λ r. ⌜ r ≡ last-reason (held (now (part .entry))) ((number, n) ∷ []) ⌝ }
+{
+    let fit = fits(n);
+    let new = new_one(part, number);
+    let known = there(part, number);
+    let below = stays_below(part, number);
+    reason_of(part, fit, new, known, below)
 }

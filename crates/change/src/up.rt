@@ -1,19 +1,19 @@
 // The new content of a leaf, carried up "level by level from the lowest".
+use crate::leaf::Changed;
 use crate::level::at_top;
 use crate::level::raise;
 use nodes::change::Wide;
-use walk::down::Descent;
 use walk::down::Turn;
 use walk::down::turns;
 use walk::walk::Stop;
 use walk::walk::going;
 ghost use Rattle.client.specs.Record.{sizes};
 ghost use Rattle.walk.specs.Ask.{Beginning};
-ghost use Rattle.walk.specs.Down.{turns-in, Path-in-part};
 ghost use Rattle.change.specs.Operated.{Operates};
 ghost use Rattle.change.specs.Up.{Ready, rise-plan};
+ghost use Rattle.change.specs.Leaf.{LeafReady, Carries};
 
-pub fn rise(
+fn rise(
     part: &[u8],
     servers: usize,
     slots: usize,
@@ -62,37 +62,40 @@ pub fn rise(
     at_top(part, servers, slots, own, used, level, name, n, a, b)
 }
 
-// From where a way down ended: its path is taken out of the part.
+// From the leaf on, if one changes: its path is taken out of the part.
 pub fn carry_up(
     part: &[u8],
     servers: usize,
     slots: usize,
     own: &mut [u64],
     used: &mut [u64],
-    d: Descent,
-    content: Wide,
-    a: u64,
+    c: Changed,
 ) -> Stop
     requires { ⌜ Beginning servers (now part) (now own) (now used) ⌝ }
-    requires ready { ⌜ Ready (sizes servers slots) (d .top) (turns-in (now part) (d .path)) (d .name) content × Path-in-part (d .path) ⌝ }
-    ensures { λ r. ⌜ Operates servers slots part own used
-        (λ z. rise-plan z (a, 0) (d .top) (turns-in (now (part .entry)) (d .path)) (d .name) content) r ⌝ }
+    requires ready { ⌜ LeafReady (sizes servers slots) (now part) c ⌝ }
+    ensures { λ r. ⌜ Carries (sizes servers slots) (now (part .entry)) (now (own .entry)) (now (used .entry)) c r (now (own .exit))
+        (now (used .exit)) ⌝ }
 {
-    let top = d.top;
-    let passed = d.path;
+    let stop = c.stop;
+    let on = going(stop);
+    if !on {
+        return stop;
+    }
+    let way = c.way;
+    let passed = way.path;
     let path = turns(part, passed);
-    let name = d.name;
+    let content = c.content;
     rise(
         part,
         servers,
         slots,
         own,
         used,
-        top,
+        way.top,
         path,
-        name,
+        way.name,
         content,
-        a,
+        c.a,
         0,
     )
 }

@@ -57,7 +57,7 @@ pub fn enter_used(part: &mut [u8], used: &[u64])
 }
 
 // A written object: in its place, else behind the others. Nothing is done where there are 48.
-fn enter_write(part: &mut [u8], number: u64, n: Node)
+pub fn enter_write(part: &mut [u8], number: u64, n: Node)
     requires { ⌜ ClientPart (now part) ⌝ }
     ensures { λ _. ⌜ Did (enter-write number n) (now (part .entry)) (now (part .exit)) ⌝ }
 {

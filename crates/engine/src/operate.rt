@@ -7,6 +7,8 @@ ghost use Rattle.memory.specs.Word.{view};
 ghost use Rattle.client.specs.Layout.{op-number, ClientPart};
 ghost use Rattle.client.specs.Part.{Did};
 ghost use Rattle.client.specs.Lent.{InUse, used-in, OwnFits, own-list};
+ghost use Rattle.client.specs.Enter.{enter-entries};
+ghost use Rattle.change.specs.Single.{entries-of};
 ghost use Rattle.walk.specs.Walk.{is-answer};
 ghost use Rattle.walk.specs.Stopped.{Stopped};
 ghost use Rattle.walk.specs.declared.operation.Operation.the-variants.{Read, Write};
@@ -18,9 +20,12 @@ ghost use Rattle.kinds.specs.Judge.{of-client};
 ghost use Rattle.kinds.specs.Kinds.{Comes};
 ghost use Rattle.engine.specs.Work.{entering, answer-of, WaitingClient};
 use crate::walking::look_at;
+use crate::walking::single_at;
 use crate::walking::waiting_at;
 use crate::walking::walk_at;
+use change::single::Single;
 use client::enter::enter_used;
+use client::enter::enter_write;
 use client::enter::enter_writes;
 use client::part::OP_NUMBER;
 use client::part::set_field;
@@ -36,6 +41,7 @@ use walk::operation::Operation;
 use walk::operation::Query;
 use walk::operation::Update;
 use walk::walk::Stop;
+use walk::walk::going;
 use walk::walk::is_answer;
 
 // "otherwise it answers the operation, and only then do its writes enter the write set": no operation waits any more.
@@ -55,6 +61,35 @@ fn store_answer(mem: &mut [u8], sizes: Sizes, client: usize, own: &[u64], used: 
 {
     let at = 8 * client_at(sizes, client);
     enter_answer(&mut mem[at..], own, used);
+}
+
+// The one write, if there is one.
+fn enter_one(part: &mut [u8], s: Single)
+    requires { ⌜ ClientPart (now part) ⌝ }
+    ensures { λ _. ⌜ Did (enter-entries (entries-of s)) (now (part .entry)) (now (part .exit)) ⌝ }
+{
+    if s.written {
+        let node = s.node;
+        enter_write(part, s.number, node);
+    }
+}
+
+// The same of an operation with one write or none.
+fn enter_single(part: &mut [u8], s: Single, used: &[u64])
+    requires { ⌜ InUse (now used) × ClientPart (now part) ⌝ }
+    ensures { λ _. ⌜ Did (entering (used-in (now (used .entry))) (entries-of s)) (now (part .entry)) (now (part .exit)) ⌝ }
+{
+    enter_used(part, used);
+    enter_one(part, s);
+    set_field(part, OP_NUMBER, 0);
+}
+
+fn store_single(mem: &mut [u8], sizes: Sizes, client: usize, s: Single, used: &[u64])
+    requires { ⌜ AtClient sizes (length (now mem)) client × InUse (now used) ⌝ }
+    ensures { λ _. ⌜ InClient sizes client (entering (used-in (now (used .entry))) (entries-of s)) (now (mem .entry)) (now (mem .exit)) ⌝ }
+{
+    let at = 8 * client_at(sizes, client);
+    enter_single(&mut mem[at..], s, used);
 }
 
 // The same of an operation that only reads: nothing enters the write set.
@@ -122,8 +157,8 @@ fn look(mem: &mut [u8], sizes: Sizes, client: usize, op: Query) -> Outcome
     answered(stop)
 }
 
-// Insert, delete and migrate.
-fn change(mem: &mut [u8], sizes: Sizes, client: usize, op: Update) -> Outcome
+// An operation that writes many objects: it is walked anew, with a list of them.
+fn change_many(mem: &mut [u8], sizes: Sizes, client: usize, op: Update) -> Outcome
     requires { ⌜ WaitingClient sizes (now mem) client ⌝ }
     requires writes { ⌜ operation-of (of-client sizes (view (now mem)) client op-number) ≡ Write op ⌝ }
     ensures { λ r. ⌜ Comes sizes (λ m. work sizes m client) (now (mem .entry)) r (now (mem .exit)) ⌝ }
@@ -136,6 +171,27 @@ fn change(mem: &mut [u8], sizes: Sizes, client: usize, op: Update) -> Outcome
         return unanswered(mem, sizes, client, stop, &used);
     }
     store_answer(mem, sizes, client, &own, &used);
+    answered(stop)
+}
+
+// Insert, delete and migrate: most write one object or none.
+fn change(mem: &mut [u8], sizes: Sizes, client: usize, op: Update) -> Outcome
+    requires { ⌜ WaitingClient sizes (now mem) client ⌝ }
+    requires writes { ⌜ operation-of (of-client sizes (view (now mem)) client op-number) ≡ Write op ⌝ }
+    ensures { λ r. ⌜ Comes sizes (λ m. work sizes m client) (now (mem .entry)) r (now (mem .exit)) ⌝ }
+{
+    let mut used = [0u64; 98];
+    let s = single_at(mem, sizes, client, &mut used, op);
+    let stop = s.stop;
+    let on = going(stop);
+    if on {
+        return change_many(mem, sizes, client, op);
+    }
+    let done = is_answer(stop);
+    if !done {
+        return unanswered(mem, sizes, client, stop, &used);
+    }
+    store_single(mem, sizes, client, s, &used);
     answered(stop)
 }
 

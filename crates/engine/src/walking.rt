@@ -10,9 +10,12 @@ ghost use Rattle.walk.specs.declared.operation.Operation.the-variants.{Read, Wr
 ghost use Rattle.walk.specs.Operation.{operation-of};
 ghost use Rattle.walk.specs.Look.{Looks};
 ghost use Rattle.change.specs.Work.{Ready, WorksOn};
+ghost use Rattle.change.specs.Single.{WorksSingly};
 ghost use Rattle.steps.specs.Whole.{tree-sizes};
 ghost use Rattle.kinds.specs.Parts.{AtClient};
 ghost use Rattle.kinds.specs.Judge.{of-client};
+use change::single::Single;
+use change::single::write_single;
 use change::work::work;
 use kinds::whole::client_at;
 use steps::sizes::Sizes;
@@ -44,7 +47,19 @@ pub fn look_at(mem: &[u8], sizes: Sizes, client: usize, used: &mut [u64], op: Qu
     look(&mem[at..], sizes.servers, sizes.slots, used, op)
 }
 
-// One that writes: both lists are lent empty.
+// One that writes, unless that is more than one object: the list is lent empty.
+pub fn single_at(mem: &[u8], sizes: Sizes, client: usize, used: &mut [u64], op: Update) -> Single
+    requires { ⌜ AtClient sizes (length (now mem)) client × (used-room ≤ length (now used)) × (getD (now used) 0 0 ≡ 0) ⌝ }
+    requires waits { ⌜ Waiting (of-client sizes (view (now mem)) client)
+        × (operation-of (of-client sizes (view (now mem)) client op-number) ≡ Write op) ⌝ }
+    ensures { λ r. ⌜ WorksSingly (tree-sizes sizes) (of-client sizes (view (now (mem .entry))) client) r (now (used .entry))
+        (now (used .exit)) ⌝ }
+{
+    let at = 8 * client_at(sizes, client);
+    write_single(&mem[at..], sizes.servers, sizes.slots, used, op)
+}
+
+// Any that writes: both lists are lent empty.
 pub fn walk_at(
     mem: &[u8],
     sizes: Sizes,

@@ -28,23 +28,30 @@ use Rattle.operations.specs.Slot.{TreeSizes}
 use Rattle.operations.specs.Entry.{Entries, keys, index, value-in, with-pair}
 use Rattle.operations.specs.Path.{TreePlan, Branch, from-root}
 use Rattle.operations.specs.Change.{up, insert-plan}
+use Rattle.walk.specs.declared.down.Turn.{Turn}
 use Rattle.memory.specs.Word.{view}
 use Rattle.nodes.specs.Stored.{node-at}
 use Rattle.walk.specs.declared.down.Descent.{Descent}
+use Rattle.client.specs.Sets.{held}
+use Rattle.change.specs.declared.leaf.Changed.{Changed}
 use Rattle.change.specs.declared.insert.Paired.{Paired}
 use Rattle.walk.specs.declared.walk.Stop.{Stop}
 use Rattle.client.specs.Layout.{ClientWord}
 use Rattle.client.specs.Lent.{used-in}
 use Rattle.walk.specs.Laws.Entries.{Leaf, open-leaf, extra-leaf, leaf-keys, leaf-index, leaf-value, leaf-absent}
 use Rattle.walk.specs.Walk.{goes}
+use Rattle.walk.specs.Lookup.{Ends}
+use Rattle.walk.specs.Laws.Down.{stops-not}
 use Rattle.walk.specs.Laws.Lookup.{ended-nothing, place-within, find-inside}
-use Rattle.walk.specs.Ask.{OwnGood, Noted}
-use Rattle.walk.specs.Down.{turns-in, Arrival, arrival, low, branches, Descends}
-use Rattle.change.specs.Operated.{Operated}
+use Rattle.walk.specs.Ask.{Noted}
+use Rattle.walk.specs.Down.{low, branches, trail, Linked, Reached, Descends, Arrival, arrival, Path-in-part}
 use Rattle.change.specs.Rise.{OfLevel, Content, widened}
 use Rattle.change.specs.Laws.Parts.{widened-entries, widened-content}
 use Rattle.change.specs.Up.{Ready, rise-plan}
-use Rattle.change.specs.Insert.{paired-at, paired, Ended, way, insert-in}
+use Rattle.change.specs.Insert.{paired-at, paired}
+use Rattle.change.specs.Leaf.{Changes}
+use Rattle.change.specs.Laws.Merge.{ends-halts}
+use Rattle.plans.specs.Plan as P
 
 find-key : (ks : List ℕ) (key i : ℕ) → key-index ks key ≡ some i → getD ks i 0 ≡ key
 unfolding key-index find-at
@@ -147,30 +154,33 @@ pair-few n d e h = omega arith
 
 pub ruleset pair-exits = (pair-replaced, pair-new, pair-inside, pair-few)
 
+-- ---- a way down that ended at a leaf
+pub record Ended (z : TreeSizes) (d : Arrival) : Type 0 where
+  pub high : d .top ≤ 4
+  pub reached : Reached 0 d
+  pub linked : Linked z 0 (d .name) (trail (d .path) 0 (d .top - 0))
+
+abbrev pub way : Arrival → List Turn
+way d = trail (d .path) 0 (d .top - 0)
+
 module _ (z : TreeSizes) (d : Arrival) (t : Ended z d) where
   pub ended-leaf : AtLeaf (d .node)
   ended-leaf = record { whole = t .reached .whole; leaf = open-leaf (d .node) (t .reached .opened) (t .reached .level); small = t .reached .small .keys }
 
-  pub ended-ready : (n : Wide) → Content 0 n → Ready z (d .top) (d .path) (d .name) n
+  ended-ready : (n : Wide) → Content 0 n → Ready z (d .top) (d .path) (d .name) n
   ended-ready n c = record { high = t .high; size = t .reached .size; good = t .reached .good; linked = t .linked; content = c }
 
-module _ (z : TreeSizes) (m : ClientWord → ℕ) (x u : List ℕ) (key : ℕ) (b : List ℕ) (p : Descent) (u₁ : List ℕ) (h : Descends z m u key (arrival b p) u₁) (on : Bool) (po : on ≡ goes (p .stop)) where
+module _ (z : TreeSizes) (b u : List ℕ) (key : ℕ) (p : Descent) (u₁ : List ℕ) (h : Descends z (held b) u key (arrival b p) u₁) (on : Bool) (po : on ≡ goes (p .stop)) where
   abbrev d : Arrival
   d = arrival b p
 
-  -- an operation that stops on the way has written nothing
-  pub change-stops : (k : List Branch → ℕ → Entries → TreePlan) → OwnGood x → not on ≡ true → Operated z m x u (from-root key k) (p .stop) x u₁
-  change-stops k g nb =
+  -- an operation that stops on the way
+  pub change-stops : (k : List Branch → ℕ → Entries → TreePlan) (c : Changed) → c .stop ≡ p .stop → not on ≡ true → Changes z b u (from-root key k) c u₁
+  change-stops k c e nb =
       let halts : goes (d .stop) ≡ false = sym po ∙ not-true on nb in
-      record {
-        writes = [];
-        same = λ hold. h .asks k ∙ rw halts (sym (ended-nothing (d .stop) (used-in u₁)));
-        holds = λ t hold. hold;
-        kept = λ t hold. record { fit = g .fit; few = g .few };
-        noted = h .noted;
-      }
+      record { asks = h .asks k ∙ rw (e, halts); ready = λ t. stops-not (d .stop) halts (rw e at t); noted = h .noted }
 
-  pub change-noted : Noted m u₁
+  pub change-noted : Noted (held b) u₁
   change-noted = h .noted
 
   module _ (nb : not on ≡ false) where
@@ -180,50 +190,35 @@ module _ (z : TreeSizes) (m : ClientWord → ℕ) (x u : List ℕ) (key : ℕ) (
     pub change-ended : Ended z (arrival b p)
     change-ended = record { high = h .high; reached = h .reached going; linked = h .linked going }
 
-    -- what follows at the leaf
-    pub change-on : (k : List Branch → ℕ → Entries → TreePlan) (s : Stop) (x′ u′ : List ℕ)
-        → Operated z m x u₁ (k (branches (way d)) (d .name) (entriesOf (d .node) (low (way d)))) s x′ u′ → Operated z m x u (from-root key k) s x′ u′
-    change-on k s x′ u′ q = record {
-      writes = q .writes;
-      same = λ hold. h .asks k ∙ rw going (q .same hold);
-      holds = q .holds;
-      kept = q .kept;
-      noted = q .noted;
-    }
+    pub change-few : (n : Node) → n ≡ node-at (view b) (p .place) → n .count ≤ 14
+    change-few n e = rw e (ended-leaf z d change-ended .small)
 
--- the leaf, taken out of the part
-pub leaf-few : (z : TreeSizes) (b : List ℕ) (p : Descent) (n : Node) → Ended z (arrival b p) → n ≡ node-at (view b) (p .place) → n .count ≤ 14
-leaf-few z b p n t e = rw e (ended-leaf z (arrival b p) t .small)
+    -- a leaf's new content, where the plan goes up from it
+    pub change-on : (k : List Branch → ℕ → Entries → TreePlan) (n : Wide) (a : ℕ) → Path-in-part (p .path) → Content 0 n
+        → k (branches (way d)) (d .name) (entriesOf (d .node) (low (way d))) ≡ rise-plan z (a, 0) (d .top) (d .path) (d .name) n
+        → Changes z b u (from-root key k) (record { stop = p .stop; way = p; content = n; a = a }) u₁
+    change-on k n a w c e = record { asks = h .asks k ∙ rw (going, e); ready = λ t. (ended-ready z d change-ended n c, w); noted = h .noted }
 
-module _ (z : TreeSizes) (m : ClientWord → ℕ) (x u : List ℕ) (b : List ℕ) (p : Descent) (key v : ℕ) (t : Ended z (arrival b p)) (n : Node) (pn : n ≡ node-at (view b) (p .place)) (q : Paired) (pq : q ≡ paired n key v) where
-  abbrev come : Arrival
-  come = arrival b p
+    -- no leaf changes: the plan answers at once
+    pub change-none : (k : List Branch → ℕ → Entries → TreePlan) (i j : ℕ) (s : Stop) (u′ : List ℕ) (c : Changed)
+        → k (branches (way d)) (d .name) (entriesOf (d .node) (low (way d))) ≡ P.done ((i, j), []) → Ends (held b) u₁ i j s u′ → c .stop ≡ s → Changes z b u (from-root key k) c u′
+    change-none k i j s u′ c e q t =
+        let halts : goes s ≡ false = ends-halts z (held b) u₁ i j s u′ q in
+        record {
+          asks = h .asks k ∙ rw (going, e, t, halts) (q .same z [] ∙ ended-nothing s (used-in u′));
+          ready = λ g. stops-not s halts (rw t at g);
+          noted = q .noted;
+        }
 
-  pp : q ≡ paired (come .node) key v
-  pp = rw pn at pq
+    -- ---- insert
+    pub inserted : (v : ℕ) (n : Node) (q : Paired) → Path-in-part (p .path) → n ≡ node-at (view b) (p .place) → q ≡ paired n key v
+        → Changes z b u (insert-plan z key v) (record { stop = p .stop; way = p; content = q .content; a = q .a }) u₁
+    unfolding rise-plan
+    inserted v n q w pn pq =
+        let pp : q ≡ paired (d .node) key v = rw pn at pq in
+        let leaf : AtLeaf (d .node) = ended-leaf z d change-ended in
+        let e : wide-entries (q .content) (low (way d)) ≡ with-pair key v (entriesOf (d .node) (low (way d))) = rw pp (paired-entries (d .node) leaf key v (low (way d))) in
+        let a : fresh (value-in key (entriesOf (d .node) (low (way d)))) ≡ (q .a, 0) = rw pp (paired-answer (d .node) leaf key v (low (way d))) in
+        change-on (λ fs n es. up z (fresh (value-in key es)) zero fs [] n (with-pair key v es)) (q .content) (q .a) w (rw pp (paired-content (d .node) leaf key v)) (rw (a, ← e))
 
-  pub insert-ready : Ready z (p .top) (turns-in b (p .path)) (p .name) (q .content)
-  insert-ready = ended-ready z come t (q .content) (rw pp (paired-content (come .node) (ended-leaf z come t) key v))
-
-  pub insert-goes : (s : Stop) (x′ u′ : List ℕ) → Operated z m x u (rise-plan z (q .a, 0) (p .top) (turns-in b (p .path)) (p .name) (q .content)) s x′ u′
-      → Operated z m x u (insert-in z (arrival b p) key v) s x′ u′
-  unfolding rise-plan insert-in
-  insert-goes s x′ u′ r =
-      let e : wide-entries (q .content) (low (way come)) ≡ with-pair key v (entriesOf (come .node) (low (way come))) = rw pp (paired-entries (come .node) (ended-leaf z come t) key v (low (way come))) in
-      let a : fresh (value-in key (entriesOf (come .node) (low (way come)))) ≡ (q .a, 0) = rw pp (paired-answer (come .node) (ended-leaf z come t) key v (low (way come))) in
-      record {
-        writes = r .writes;
-        same = λ hold. rw (a, ← e) (r .same hold);
-        holds = r .holds;
-        kept = r .kept;
-        noted = r .noted;
-      }
-
-pub ruleset insert-exits = (leaf-few, insert-ready, insert-goes)
-
-pub inserted : (z : TreeSizes) (m : ClientWord → ℕ) (x u : List ℕ) (key v : ℕ) (b : List ℕ) (p : Descent) (u₁ : List ℕ) → Descends z m u key (arrival b p) u₁ → (on : Bool) → on ≡ goes (p .stop) → not on ≡ false
-    → (s : Stop) (x′ u′ : List ℕ) → Operated z m x u₁ (insert-in z (arrival b p) key v) s x′ u′ → Operated z m x u (insert-plan z key v) s x′ u′
-unfolding insert-in
-inserted z m x u key v b p u₁ h on po nb s x′ u′ q = change-on z m x u key b p u₁ h on po nb (λ fs n es. up z (fresh (value-in key es)) zero fs [] n (with-pair key v es)) s x′ u′ q
-
-pub ruleset inserted-exits = (change-stops, change-noted, change-ended, inserted)
+pub ruleset insert-exits = (change-stops, change-few, inserted)

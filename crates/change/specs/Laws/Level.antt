@@ -89,6 +89,25 @@ ended-not z m r us us′ s w e = go (over m us) refl
     go true h = sym (ap (λ (t : Told). goes (t .stop)) (rw (walked, worked, h) at e))
     go false h = sym (ap (λ (t : Told). goes (t .stop)) (rw (walked, worked, h) at e))
 
+-- ---- a node in range is written
+pub level-written : (z : TreeSizes) (l : ℕ) (t : Turn) (c : ℕ) (n : Wide) (a : Ans) → Content l n → 7 ≤ n .count → n .count ≤ 14 → (lo : ℕ) (fs : List Branch) (w : Writes) (go : Go)
+    → level-plan z a l t c (wide-entries n) lo fs w go ≡ P.done (a, (node c, value-of (node c) (narrow n)) ∷ w)
+unfolding level-plan
+level-written z l t c n a k e f lo fs w go =
+    let i : ℕ = in-parent t lo .key in
+    let p : fewest-entries l ≤ length (wide-entries n (in-parent t lo .key)) = omega (arith, least l n k i, entries-many l n k (in-parent t lo .key)) in
+    let q : length (wide-entries n (in-parent t lo .key)) ≤ most-entries l = omega (arith, most l n k i, entries-many l n k (in-parent t lo .key)) in
+    ifd-yes (decLe (fewest-entries l) (length (wide-entries n (in-parent t lo .key)))) _ _ p ∙ ifd-yes (decLe (length (wide-entries n (in-parent t lo .key))) (most-entries l)) _ _ q
+    ∙ rw (narrow-value l n k (in-parent t lo .key) c)
+
+pub top-written : (z : TreeSizes) (l c : ℕ) (n : Wide) (a : Ans) → Content l n → n .count ≤ 14 → (w : Writes)
+    → top-plan z a l c (wide-entries n 0) w ≡ P.done (a, (node c, value-of (node c) (narrow n)) ∷ w)
+unfolding top-plan
+top-written z l c n a k f w =
+    let q : length (wide-entries n 0) ≤ most-entries l = omega (arith, most l n k 0, entries-many l n k 0) in
+    ifd-yes (decLe (length (wide-entries n 0)) (most-entries l)) (P.done (a, (node c, node-value l (wide-entries n 0)) ∷ w)) (split-root z a l w c (wide-entries n 0)) q
+    ∙ rw (narrow-value l n k 0 c)
+
 -- ---- below the root
 raised-as : (z : TreeSizes) (m : ClientWord → ℕ) (x u : List ℕ) (l : ℕ) (root : Bool) (p q : ℕ → List Branch → Writes → Go → TreePlan) (r : Risen) (x′ u′ : List ℕ)
     → ((lo : ℕ) (fs : List Branch) (w : Writes) (go : Go) → p lo fs w go ≡ q lo fs w go) → Raised z m x u l root q r x′ u′ → Raised z m x u l root p r x′ u′
@@ -123,15 +142,6 @@ module _ (z : TreeSizes) (m : ClientWord → ℕ) (x u : List ℕ) (l : ℕ) (ro
       let p : fewest-entries l ≤ length (wide-entries n (in-parent t lo .key)) → ⊥ = λ p. omega (arith, least l n k i, entries-many l n k (in-parent t lo .key), p) in
       rw (narrow-entries n (in-parent t lo .key) (k .whole)) (ifd-no (decLe (fewest-entries l) (length (wide-entries n (in-parent t lo .key)))) _ _ p)
 
-  is-written : 7 ≤ n .count → n .count ≤ 14 → (lo : ℕ) (fs : List Branch) (w : Writes) (go : Go) → whole-plan lo fs w go ≡ P.done ((a, b), (node c, value-of (node c) (narrow n)) ∷ w)
-  unfolding level-plan
-  is-written e f lo fs w go =
-      let i : ℕ = in-parent t lo .key in
-      let p : fewest-entries l ≤ length (wide-entries n (in-parent t lo .key)) = omega (arith, least l n k i, entries-many l n k (in-parent t lo .key)) in
-      let q : length (wide-entries n (in-parent t lo .key)) ≤ most-entries l = omega (arith, most l n k i, entries-many l n k (in-parent t lo .key)) in
-      ifd-yes (decLe (fewest-entries l) (length (wide-entries n (in-parent t lo .key)))) _ _ p ∙ ifd-yes (decLe (length (wide-entries n (in-parent t lo .key))) (most-entries l)) _ _ q
-      ∙ rw (narrow-value l n k (in-parent t lo .key) c)
-
   pub raise-splits : n .count ≡ 15 → (r : Risen) (x′ u′ : List ℕ) → Splits z m x u l t c n r x′ u′ → Raised z m x u l root (level-plan z (a, b) l t c (wide-entries n)) r x′ u′
   raise-splits e r x′ u′ h = raised-as z m x u l root whole-plan (split-plan z l t c (wide-entries n)) r x′ u′ (is-split e) (h .raised root)
 
@@ -150,7 +160,7 @@ module _ (z : TreeSizes) (m : ClientWord → ℕ) (x u : List ℕ) (l : ℕ) (ro
       let halts : goes s ≡ false = ended-not z m ((a, b), (node c, value-of (node c) (narrow n)) ∷ []) (used-in u) (used-in u′) s _ (h .ends z []) in
       record {
         more = (node c, value-of (node c) (narrow n)) ∷ [];
-        same = λ w hold lo fs t′ go. rw (is-written e f lo fs w go, halts) (h .ends z w);
+        same = λ w hold lo fs t′ go. rw (level-written z l t c n (a, b) k e f lo fs w go, halts) (h .ends z w);
         holds = λ _ w hold. h .written .holds z w eight (un .link .there) hold;
         kept = λ _ w hold. h .written .kept;
         good = λ q. stops-not s halts q;
@@ -193,12 +203,11 @@ module _ (z : TreeSizes) (m : ClientWord → ℕ) (x u : List ℕ) (l c : ℕ) (
 
   pub top-writes : (n .count ≡ 15 → ⊥) → z .servers ≤ 8 → in-store z c ≡ true → (s : Stop) (x′ u′ : List ℕ) → Settled m x u c n a b s x′ u′
       → Closed z m x u (top-plan z (a, b) l c (wide-entries n 0)) s x′ u′
-  unfolding top-plan
   top-writes ne eight there s x′ u′ h =
-      let q : length (wide-entries n 0) ≤ most-entries l = omega (arith, most l n k 0, entries-many l n k 0, k .few, ne) in
+      let f : n .count ≤ 14 = omega (arith, k .few, ne) in
       record {
         more = (node c, value-of (node c) (narrow n)) ∷ [];
-        same = λ w hold. rw (ifd-yes (decLe (length (wide-entries n 0)) (most-entries l)) (P.done ((a, b), (node c, node-value l (wide-entries n 0)) ∷ w)) (split-root z (a, b) l w c (wide-entries n 0)) q, narrow-value l n k 0 c) (h .ends z w);
+        same = λ w hold. rw (top-written z l c n (a, b) k f w) (h .ends z w);
         holds = λ _ w hold. h .written .holds z w eight there hold;
         kept = λ _ w hold. h .written .kept;
         noted = h .noted;

@@ -90,7 +90,7 @@ unfolding free-node made
 blank-few n e = rw e (omega arith)
 
 -- an answer, or one object too many
-ends-halts : (z : TreeSizes) (m : ClientWord → ℕ) (u : List ℕ) (a b : ℕ) (s : Stop) (u′ : List ℕ) → Ends m u a b s u′ → goes s ≡ false
+pub ends-halts : (z : TreeSizes) (m : ClientWord → ℕ) (u : List ℕ) (a b : ℕ) (s : Stop) (u′ : List ℕ) → Ends m u a b s u′ → goes s ≡ false
 ends-halts z m u a b s u′ h = go (over m (used-in u)) refl
   where
     is : walked z m (P.done ((a, b), [])) (used-in u) .stop ≡ s

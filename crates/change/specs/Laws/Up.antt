@@ -15,23 +15,27 @@ use Rattle.operations.specs.Slot.{TreeSizes}
 use Rattle.operations.specs.Path.{TreePlan}
 use Rattle.operations.specs.Change.{Go, up}
 use Rattle.walk.specs.declared.down.Turn.{Turn}
+use Rattle.change.specs.declared.leaf.Changed.{Changed}
 use Rattle.change.specs.declared.rise.Risen.{Risen}
 use Rattle.walk.specs.declared.walk.Stop.{Stop}
 use Rattle.walk.specs.declared.walk.Stop.the-variants.{Going, LacksMeta, LacksNode, LacksVector, Refused, Aborts, Answers}
 use Rattle.client.specs.Layout.{ClientWord}
+use Rattle.client.specs.Sets.{held}
 use Rattle.client.specs.Record.{in-store}
 use Rattle.client.specs.Lent.{used-in}
 use Rattle.walk.specs.Entries.{branch-of}
 use Rattle.walk.specs.Walk.{goes, walked}
 use Rattle.change.specs.Mute.{stands}
 use Rattle.walk.specs.Ask.{OwnGood, Holds-writes, Noted}
-use Rattle.walk.specs.Down.{low, branches, trail, blank, Followed, All, Link, Linked}
+use Rattle.walk.specs.Down.{low, branches, trail, blank, Followed, All, Link, Linked, turns-in, Path-in-part}
 use Rattle.walk.specs.Laws.Seek.{getD-any}
 use Rattle.change.specs.Operated.{Operated}
 use Rattle.change.specs.Rise.{Content, Under, is-root, rose, Raised, Closed}
 use Rattle.change.specs.Level.{level-plan, top-plan}
 use Rattle.change.specs.Laws.Level.{up-level}
 use Rattle.change.specs.Up.{from-level, rise-plan, Ready}
+use Rattle.change.specs.Leaf.{risen, LeafReady, Carries}
+use Rattle.change.specs.Laws.Operated.{walks-operated}
 
 -- how far it has come: at most three writes a level
 pub record Rising (z : TreeSizes) (m : ClientWord → ℕ) (x₀ u₀ : List ℕ) (a : Ans) (top : ℕ) (path : List Turn) (c₀ : ℕ) (n₀ : Wide) (c : ℕ) (n : Wide) (l : ℕ) (x u : List ℕ) : Type 0 where
@@ -79,7 +83,7 @@ stands-on Refused e = e
 stands-on (Aborts r) e = e
 stands-on (Answers a b) e = refl
 
-linked-there : (z : TreeSizes) (l n : ℕ) (bs : List Turn) → Linked z l n bs → in-store z n ≡ true
+pub linked-there : (z : TreeSizes) (l n : ℕ) (bs : List Turn) → Linked z l n bs → in-store z n ≡ true
 unfolding Linked
 linked-there z l n [] h = h
 linked-there z l n (b ∷ bs) h = h .0 .there
@@ -201,12 +205,36 @@ module _ (z : TreeSizes) (m : ClientWord → ℕ) (x₀ u₀ : List ℕ) (a : An
 
 pub ruleset rise-exits = (rise-start, rise-content, rise-good, rise-noted, rise-room, rise-low, rise-there, rise-ends, rise-inside, rise-under, rise-stops, rise-more)
 
--- ---- from where a way down ended: the path is taken out of the part
-module _ (z : TreeSizes) (top : ℕ) (path path′ : List Turn) (c : ℕ) (n : Wide) (e : path ≡ path′) where
-  pub ready-out : Ready z top path′ c n → Ready z top path c n
-  ready-out r = rw e r
+-- ---- from a leaf that changes, or not
+module _ (z : TreeSizes) (b x u : List ℕ) (c : Changed) (on : Bool) (po : on ≡ goes (c .stop)) where
+  pub carry-stops : not on ≡ true → OwnGood x → Carries z b x u c (c .stop) x u
+  carry-stops nb g =
+      let halts : goes (c .stop) ≡ false = sym po ∙ not-true on nb in
+      record {
+        operated = λ p u₀ h. walks-operated z (held b) x u₀ p (c .stop) u g (record { same = h .asks ∙ rw halts; noted = h .noted });
+      }
 
-  pub risen-out : (m : ClientWord → ℕ) (x u : List ℕ) (a : Ans) (s : Stop) (x′ u′ : List ℕ) → Operated z m x u (rise-plan z a top path c n) s x′ u′ → Operated z m x u (rise-plan z a top path′ c n) s x′ u′
-  risen-out m x u a s x′ u′ q = rw e at q
+  module _ (nb : not on ≡ false) where
+    going : goes (c .stop) ≡ true
+    going = sym po ∙ not-false on nb
 
-pub ruleset carried-exits = (ready-out, risen-out)
+    pub carry-path : LeafReady z b c → Path-in-part (c .way .path)
+    carry-path h = h going .1
+
+    -- its path is taken out of the part
+    pub carry-ready : (path : List Turn) → LeafReady z b c → path ≡ turns-in b (c .way .path) → Ready z (c .way .top) path (c .way .name) (c .content)
+    carry-ready path h e = rw e (h going .0)
+
+    pub carry-goes : (path : List Turn) (s : Stop) (x′ u′ : List ℕ) → path ≡ turns-in b (c .way .path)
+        → Operated z (held b) x u (rise-plan z (c .a, 0) (c .way .top) path (c .way .name) (c .content)) s x′ u′ → Carries z b x u c s x′ u′
+    carry-goes path s x′ u′ e q′ = let q : Operated z (held b) x u (risen z b c) s x′ u′ = rw e at q′ in record {
+      operated = λ p u₀ h. record {
+        writes = q .writes;
+        same = λ hold. h .asks ∙ rw going (q .same hold);
+        holds = q .holds;
+        kept = q .kept;
+        noted = q .noted;
+      };
+    }
+
+pub ruleset carry-exits = (carry-stops, carry-path, carry-ready, carry-goes)

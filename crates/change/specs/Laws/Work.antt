@@ -3,8 +3,9 @@ use mathlib.Core.Path.{_≡_, refl, sym, _∙_, ap}
 use mathlib.Core.Bool.{Bool, true, false, cond, not}
 use mathlib.Core.List.{List, []}
 use Prim.Native.Nat.{ℕ, _+_, _≤_}
+use native.Mathlib.Omega.{arith}
 use lib.Dec.{eqb, ltb}
-use lib.ListN.{length}
+use lib.ListN.{length, getD}
 use borrow.Author.Tests.{not-true, not-false, eq-eqb, ne-eqb}
 use Rattle.operations.specs.Object.{Ans, Writes}
 use Rattle.operations.specs.Slot.{TreeSizes}
@@ -13,7 +14,7 @@ use Rattle.operations.specs.Change.{insert-plan, delete-plan}
 use Rattle.operations.specs.Migrate.{migrate-plan}
 use Rattle.operations.specs.Operation.{reading, all-fit?}
 use Rattle.client.specs.Layout.{ClientWord, op-number, op-key, op-value, op-server, writes-count}
-use Rattle.client.specs.Lent.{InUse, own-list, used-in}
+use Rattle.client.specs.Lent.{InUse, Entry, own-list, used-in}
 use Rattle.client.specs.Answered.{entered}
 use Rattle.client.specs.Work.{Worked, refused, aborted, answers, waiting, count-new, versions-there, any-at-last, last-questions, worked}
 use Rattle.walk.specs.declared.walk.Stop.{Stop}
@@ -23,7 +24,7 @@ use Rattle.walk.specs.Ask.{OwnKept, OwnGood, Holds-writes, Noted}
 use Rattle.walk.specs.Laws.Ask.{nothing-good, nothing-held}
 use Rattle.walk.specs.Laws.Begin.{nothing-used, nothing-noted}
 use Rattle.walk.specs.Lookup.{ended}
-use Rattle.walk.specs.Stopped.{Waiting, stop-of, Stopped, Filled}
+use Rattle.walk.specs.Stopped.{Waiting, stop-of}
 use Rattle.walk.specs.Laws.Stopped.{noted-in-use, is-filled, R, run-is, never, told-used, Given, stops, given}
 use Rattle.walk.specs.declared.operation.Update.{Update}
 use Rattle.walk.specs.declared.operation.Update.the-variants.{Insert, Delete, Migrate}
@@ -31,11 +32,14 @@ use Rattle.walk.specs.declared.operation.Operation.the-variants.{Write}
 use Rattle.walk.specs.Operation.{operation-of}
 use Rattle.walk.specs.Laws.Operation.{update-number, writes-number}
 use Rattle.change.specs.Mute.{stands}
-use Rattle.change.specs.Operated.{Operated}
+use Rattle.change.specs.declared.leaf.Changed.{Changed}
+use Rattle.change.specs.Operated.{Operated, Written}
+use Rattle.client.specs.Sets.{held}
+use Rattle.change.specs.Leaf.{Changes, Carries}
 use Rattle.change.specs.Fit.{entries-fit}
 use Rattle.change.specs.Laws.Fit.{all-fit-entries}
-use Rattle.change.specs.Last.{last-reason}
-use Rattle.change.specs.Work.{Ready, Works}
+use Rattle.change.specs.Last.{reason-of, last-reason}
+use Rattle.change.specs.Work.{moves, Ready, judged, Enters, Works}
 use Rattle.client.specs.Work as C
 
 -- ---- the last questions, by their reason; 10 is the refusal
@@ -44,25 +48,49 @@ by-reason r a w = cond (eqb r 0) (answers a w) (cond (eqb r 10) refused (aborted
 
 pub last-is : (z : TreeSizes) (m : ClientWord → ℕ) (a : Ans) (w : Writes) → all-fit? w w ≡ entries-fit (entered w)
     → last-questions z m a w ≡ by-reason (last-reason m (entered w)) a w
-unfolding last-reason
+unfolding last-reason reason-of
 last-is z m a w e =
     go (entries-fit (entered w)) refl (ltb 48 (m writes-count + count-new m (entered w))) refl (versions-there m (entered w)) refl (any-at-last m (entered w)) refl
   where
     go : (b : Bool) → entries-fit (entered w) ≡ b → (c : Bool) → ltb 48 (m writes-count + count-new m (entered w)) ≡ c → (f : Bool) → versions-there m (entered w) ≡ f
         → (d : Bool) → any-at-last m (entered w) ≡ d → last-questions z m a w ≡ by-reason (last-reason m (entered w)) a w
-    go false p c q f t d r = rw (e, last-reason, p)
-    go true p true q f t d r = rw (e, last-reason, p, q)
-    go true p false q false t d r = rw (e, last-reason, p, q, t)
-    go true p false q true t true r = rw (e, last-reason, p, q, t, r)
-    go true p false q true t false r = rw (e, last-reason, p, q, t, r)
+    go false p c q f t d r = rw (e, last-reason, reason-of, p)
+    go true p true q f t d r = rw (e, last-reason, reason-of, p, q)
+    go true p false q false t d r = rw (e, last-reason, reason-of, p, q, t)
+    go true p false q true t true r = rw (e, last-reason, reason-of, p, q, t, r)
+    go true p false q true t false r = rw (e, last-reason, reason-of, p, q, t, r)
 
--- ---- the ways out of the work step
-module _ (z : TreeSizes) (m : ClientWord → ℕ) (eight : z .servers ≤ 8) (wait : Waiting m) (x u : List ℕ) (ready : Ready x u) (s : Stop) (x′ u′ : List ℕ) (kx : length x′ ≡ length x) (ku : length u′ ≡ length u) (o : Operated z m x u (reading z (waiting m)) s x′ u′) (b : Bool) (pb : b ≡ is-answer s) where
-  empty : Holds-writes z x []
-  empty = nothing-held x (ready .own-none) z
+by-reason-stop : (r : ℕ) (a : Ans) (w : Writes) → judged (Answers (a .0) (a .1)) r ≡ stop-of (by-reason r a w)
+unfolding judged
+by-reason-stop r a w = go (eqb r 0) (eqb r 10)
+  where
+    go : (b c : Bool) → cond b (Answers (a .0) (a .1)) (cond c Refused (Aborts r)) ≡ stop-of (cond b (answers a w) (cond c refused (aborted r)))
+    go true c = refl
+    go false true = refl
+    go false false = refl
 
+-- only without a reason is it answered, with these writes
+by-reason-writes : (r : ℕ) (a b : Ans) (w v : Writes) → by-reason r a w ≡ answers b v → w ≡ v
+by-reason-writes r a b w v = go (eqb r 0) (eqb r 10)
+  where
+    go : (p q : Bool) → cond p (answers a w) (cond q refused (aborted r)) ≡ answers b v → w ≡ v
+    go true q e = cc
+    go false true e = let z : _≡_ {A = ℕ} 0 1 = cc in absurd (omega arith)
+    go false false e = let z : _≡_ {A = ℕ} 0 1 = cc in absurd (omega arith)
+
+stand : (s : Stop) → is-answer s ≡ true → stands s ≡ true
+stand Going n = refl
+stand LacksMeta n = n
+stand (LacksNode k) n = n
+stand (LacksVector k) n = n
+stand Refused n = n
+stand (Aborts r) n = n
+stand (Answers c d) n = refl
+
+-- ---- how the work step ends, by the walk: l are the entries of what it writes
+module _ (z : TreeSizes) (m : ClientWord → ℕ) (eight : z .servers ≤ 8) (wait : Waiting m) (u : List ℕ) (none : getD u 0 0 ≡ 0) (s : Stop) (l : List Entry) (u′ : List ℕ) (ku : length u′ ≡ length u) (o : Written z m u (reading z (waiting m)) s l u′) where
   tells : tell z m (R z m (wait .reads) .how) (R z m (wait .reads) .used) ≡ ended s (used-in u′) (o .writes)
-  tells = sym (run-is z m (wait .reads)) ∙ ap (walked z m (reading z (waiting m))) (sym (nothing-used m u (ready .used-none))) ∙ o .same empty
+  tells = sym (run-is z m (wait .reads)) ∙ ap (walked z m (reading z (waiting m))) (sym (nothing-used m u none)) ∙ o .same
 
   used-are : used-in u′ ≡ C.walked z m .used
   used-are = sym (ap (λ (k : Told). k .used) tells) ∙ told-used z m (R z m (wait .reads) .how) (R z m (wait .reads) .used)
@@ -70,22 +98,51 @@ module _ (z : TreeSizes) (m : ClientWord → ℕ) (eight : z .servers ≤ 8) (wa
   in-use : InUse u′
   in-use = noted-in-use m u′ (o .noted)
 
-  stopped-as : (t : Stop) → t ≡ stop-of (worked z m) → Stopped z m t u′
-  stopped-as t e = record { stop = e; used = used-are; in-use = in-use }
+  enters-as : (t : Stop) → t ≡ stop-of (worked z m) → ((a : Ans) (w : Writes) → worked z m ≡ answers a w → l ≡ entered w) → Enters z m t l u u′
+  enters-as t e f = record { stopped = record { stop = e; used = used-are; in-use = in-use }; filled = is-filled u (C.walked z m .used) u′ in-use used-are ku; own = f }
 
-  fills : Filled u (C.walked z m .used) u′
-  fills = is-filled u (C.walked z m .used) u′ in-use used-are ku
+  module _ (no : is-answer s ≡ false) where
+    stop-is : s ≡ stop-of (worked z m)
+    unfolding worked
+    stop-is = stops z m s (R z m (wait .reads) .used) (used-in u′) (o .writes) (R z m (wait .reads) .how) tells no
+
+    pub unanswered : {A : Type 0} (a : Ans) (w : Writes) → worked z m ≡ answers a w → A
+    unanswered a w p = never s (Answers (a .0) (a .1)) (stop-is ∙ rw p) no refl
+
+    pub enters-stops : Enters z m s l u u′
+    enters-stops = enters-as s stop-is (λ a w p. unanswered a w p)
+
+  module _ (yes-answer : is-answer s ≡ true) where
+    given-is : Given z m (R z m (wait .reads) .how) s (o .writes)
+    given-is = given z m s (R z m (wait .reads) .used) (used-in u′) (o .writes) (R z m (wait .reads) .how) tells yes-answer
+
+    worked-is : worked z m ≡ by-reason (last-reason m (entered (o .writes))) (given-is .answer) (o .writes)
+    unfolding worked
+    worked-is = rw (given-is .is) (last-is z m (given-is .answer) (o .writes) (all-fit-entries z eight (o .writes) (o .out (stand s yes-answer))))
+
+    listed-are : l ≡ entered (o .writes)
+    listed-are = o .entries (stand s yes-answer)
+
+    pub enters-judged : (r : ℕ) → r ≡ last-reason m l → (t : Stop) → t ≡ judged s r → Enters z m t l u u′
+    enters-judged r pr t e =
+        let q : worked z m ≡ by-reason r (given-is .answer) (o .writes) = worked-is ∙ ap (λ (k : ℕ). by-reason k (given-is .answer) (o .writes)) (sym (pr ∙ ap (last-reason m) listed-are)) in
+        enters-as t (e ∙ ap (λ (k : Stop). judged k r) (given-is .stop) ∙ by-reason-stop r (given-is .answer) (o .writes) ∙ sym (ap stop-of q))
+        (λ a w p. listed-are ∙ ap entered (by-reason-writes r (given-is .answer) a (o .writes) w (sym q ∙ p)))
+
+-- ---- the ways out of the work step
+module _ (z : TreeSizes) (m : ClientWord → ℕ) (eight : z .servers ≤ 8) (wait : Waiting m) (x u : List ℕ) (ready : Ready x u) (s : Stop) (x′ u′ : List ℕ) (kx : length x′ ≡ length x) (ku : length u′ ≡ length u) (o : Operated z m x u (reading z (waiting m)) s x′ u′) (b : Bool) (pb : b ≡ is-answer s) where
+  empty : Holds-writes z x []
+  empty = nothing-held x (ready .own-none) z
+
+  listed : Written z m u (reading z (waiting m)) s (own-list x′) u′
+  listed = record { writes = o .writes; same = o .same empty; entries = λ t. o .holds t empty .entries; out = λ t. o .holds t empty .out; noted = o .noted }
 
   pub work-stops : not b ≡ true → Works z m s x u x′ u′
-  unfolding worked
   work-stops nb =
       let no : is-answer s ≡ false = sym pb ∙ not-true b nb in
-      let e : s ≡ stop-of (worked z m) = stops z m s (R z m (wait .reads) .used) (used-in u′) (o .writes) (R z m (wait .reads) .how) tells no in
       record {
-        stopped = stopped-as s (e);
-        filled = fills;
-        own = λ a w p. never s (Answers (a .0) (a .1)) (e ∙ rw p) no refl;
-        fits = λ a w p. never s (Answers (a .0) (a .1)) (e ∙ rw p) no refl;
+        enters = enters-stops z m eight wait u (ready .used-none) s (own-list x′) u′ ku listed no;
+        fits = λ a w p. unanswered z m eight wait u (ready .used-none) s (own-list x′) u′ ku listed no a w p;
         own-same-length = kx;
       }
 
@@ -93,79 +150,73 @@ module _ (z : TreeSizes) (m : ClientWord → ℕ) (eight : z .servers ≤ 8) (wa
     yes-answer : is-answer s ≡ true
     yes-answer = sym pb ∙ not-false b nb
 
-    stand : (s : Stop) → is-answer s ≡ true → stands s ≡ true
-    stand Going n = refl
-    stand LacksMeta n = n
-    stand (LacksNode k) n = n
-    stand (LacksVector k) n = n
-    stand Refused n = n
-    stand (Aborts r) n = n
-    stand (Answers c d) n = refl
-
-    held : Holds-writes z x′ (o .writes)
-    held = o .holds (stand s yes-answer) empty
-
     pub own-kept : OwnKept x′
     own-kept = o .kept (stand s yes-answer) empty
 
-    given-is : Given z m (R z m (wait .reads) .how) s (o .writes)
-    given-is = given z m s (R z m (wait .reads) .used) (used-in u′) (o .writes) (R z m (wait .reads) .how) tells yes-answer
+    pub work-judged : (r : ℕ) → r ≡ last-reason m (own-list x′) → (t : Stop) → t ≡ judged s r → Works z m t x u x′ u′
+    work-judged r pr t e = record {
+      enters = enters-judged z m eight wait u (ready .used-none) s (own-list x′) u′ ku listed yes-answer r pr t e;
+      fits = λ a w p. own-kept .fit;
+      own-same-length = kx;
+    }
 
-    worked-is : worked z m ≡ by-reason (last-reason m (own-list x′)) (given-is .answer) (o .writes)
-    unfolding worked
-    worked-is = rw (given-is .is, held .entries) (last-is z m (given-is .answer) (o .writes) (all-fit-entries z eight (o .writes) (held .out)))
+pub ruleset work-exits = (work-stops, own-kept, work-judged)
 
-    module _ (r : ℕ) (pr : r ≡ last-reason m (own-list x′)) where
-      -- without an answer
-      ends : (t : Stop) (v : Worked) → worked z m ≡ v → t ≡ stop-of v → is-answer t ≡ false → Works z m t x u x′ u′
-      ends t v e p n = record {
-        stopped = stopped-as t (p ∙ sym (ap stop-of e));
-        filled = fills;
-        own = λ a w q. never t (Answers (a .0) (a .1)) (p ∙ ap stop-of (sym e ∙ q)) n refl;
-        fits = λ a w q. own-kept .fit;
-        own-same-length = kx;
-      }
+module _ (s : Stop) (r : ℕ) where
+  pub judged-none : r ≡ 0 → s ≡ judged s r
+  unfolding judged
+  judged-none e = rw (eq-eqb r 0 e)
 
-      pub work-refused : (r ≡ 0 → ⊥) → r ≡ 10 → Works z m Refused x u x′ u′
-      work-refused d t = ends Refused refused (rw (worked-is, ← pr, ne-eqb r 0 d, eq-eqb r 10 t)) refl refl
+  module _ (d : r ≡ 0 → ⊥) where
+    pub judged-refused : r ≡ 10 → Refused ≡ judged s r
+    unfolding judged
+    judged-refused e = rw (ne-eqb r 0 d, eq-eqb r 10 e)
 
-      pub work-aborts : (r ≡ 0 → ⊥) → (r ≡ 10 → ⊥) → Works z m (Aborts r) x u x′ u′
-      work-aborts d t = ends (Aborts r) (aborted r) (rw (worked-is, ← pr, ne-eqb r 0 d, ne-eqb r 10 t)) refl refl
+    pub judged-aborts : (r ≡ 10 → ⊥) → Aborts r ≡ judged s r
+    unfolding judged
+    judged-aborts e = rw (ne-eqb r 0 d, ne-eqb r 10 e)
 
-      pub work-answers : r ≡ 0 → Works z m s x u x′ u′
-      work-answers d =
-          let e : worked z m ≡ answers (given-is .answer) (o .writes) = rw (worked-is, ← pr, eq-eqb r 0 d) in
-          record {
-            stopped = stopped-as s (given-is .stop ∙ rw e);
-            filled = fills;
-            own = λ a w p. let q : answers (given-is .answer) (o .writes) ≡ answers a w = sym e ∙ p in let v : o .writes ≡ w = cc in held .entries ∙ rw v;
-            fits = λ a w p. own-kept .fit;
-            own-same-length = kx;
-          }
-
-pub ruleset work-exits = (work-stops, own-kept, work-refused, work-aborts, work-answers)
+pub ruleset judged-exits = (judged-none, judged-refused, judged-aborts)
 
 -- ---- by the operation
-module _ (z : TreeSizes) (m : ClientWord → ℕ) (x u : List ℕ) (s : Stop) (x′ u′ : List ℕ) (op : Update) (key : ℕ) (po : operation-of (m op-number) ≡ Write op) (pk : key ≡ m op-key) where
-  abbrev By : TreePlan → Type 0
-  By p = Operated z m x u p s x′ u′
+is-move : (op : Update) → moves op ≡ true → op ≡ Migrate
+is-move Insert e = let y : _≡_ {A = ℕ} 0 1 = cc in absurd (omega arith)
+is-move Delete e = let y : _≡_ {A = ℕ} 0 1 = cc in absurd (omega arith)
+is-move Migrate e = refl
 
-  by-plan : (p : TreePlan) → reading z (waiting m) ≡ p → By p → By (reading z (waiting m))
-  by-plan p e h = rw e h
+module _ (z : TreeSizes) (b : List ℕ) (op : Update) (po : operation-of (held b op-number) ≡ Write op) where
+  abbrev m : ClientWord → ℕ
+  m = held b
 
   number-is : (r : Update) → op ≡ r → m op-number ≡ update-number r
   number-is r e = writes-number (m op-number) r (po ∙ ap Write e)
 
-  pub by-insert : (value : ℕ) → op ≡ Insert → value ≡ m op-value → By (insert-plan z key value) → By (reading z (waiting m))
-  by-insert value e pv h = by-plan (insert-plan z key value) (rw (number-is Insert e, pk, pv)) h
+  module _ (key : ℕ) (pk : key ≡ held b op-key) where
+    -- down to the leaf
+    module _ (u : List ℕ) (c : Changed) (u′ : List ℕ) where
+      pub leaf-insert : (value : ℕ) → op ≡ Insert → value ≡ held b op-value → Changes z b u (insert-plan z key value) c u′ → Changes z b u (reading z (waiting (held b))) c u′
+      leaf-insert value e pv h = let p : reading z (waiting m) ≡ insert-plan z key value = rw (number-is Insert e, pk, pv) in rw p h
 
-  pub by-delete : op ≡ Delete → By (delete-plan z key) → By (reading z (waiting m))
-  by-delete e h = by-plan (delete-plan z key) (rw (number-is Delete e, pk)) h
+      pub leaf-delete : op ≡ Delete → Changes z b u (delete-plan z key) c u′ → Changes z b u (reading z (waiting (held b))) c u′
+      leaf-delete e h = let p : reading z (waiting m) ≡ delete-plan z key = rw (number-is Delete e, pk) in rw p h
 
-  pub by-migrate : (server : ℕ) → op ≡ Migrate → server ≡ m op-server → By (migrate-plan z key server) → By (reading z (waiting m))
-  by-migrate server e pv h = by-plan (migrate-plan z key server) (rw (number-is Migrate e, pk, pv)) h
+    -- a move
+    pub by-migrate : (c : Bool) → c ≡ moves op → c ≡ true → (server : ℕ) → server ≡ held b op-server → (x u : List ℕ) (s : Stop) (x′ u′ : List ℕ)
+        → Operated z (held b) x u (migrate-plan z key server) s x′ u′ → Operated z (held b) x u (reading z (waiting (held b))) s x′ u′
+    by-migrate c pb t server pv x u s x′ u′ h =
+        let p : reading z (waiting m) ≡ migrate-plan z key server = rw (number-is Migrate (is-move op (sym pb ∙ t)), pk, pv) in
+        rw p h
 
-pub ruleset by-operation = (by-insert, by-delete, by-migrate)
+pub leaf-not : (op : Update) → moves op ≡ false → op ≡ Migrate → (z : TreeSizes) (b u : List ℕ) (p : TreePlan) (c : Changed) (u′ : List ℕ) → Changes z b u p c u′
+leaf-not op n e z b u p c u′ = let q : true ≡ false = sym (ap moves e) ∙ n in let y : _≡_ {A = ℕ} 0 1 = cc in absurd (omega arith)
+
+-- the list of own writes is carried along
+pub by-leaf : (z : TreeSizes) (b : List ℕ) (p : TreePlan) (x u : List ℕ) (c : Changed) (u₁ : List ℕ) → Changes z b u p c u₁ → (s : Stop) (x′ u′ : List ℕ) → Carries z b x u₁ c s x′ u′ → Operated z (held b) x u p s x′ u′
+by-leaf z b p x u c u₁ h s x′ u′ q = q .operated p u h
+
+pub ruleset to-leaf-exits = (leaf-insert, leaf-delete, leaf-not)
+
+pub ruleset by-operation = (by-migrate, by-leaf)
 
 -- ---- what the parts of the work step ask for
 pub ready-good : (x u : List ℕ) → Ready x u → OwnGood x

@@ -26,25 +26,28 @@ use Rattle.client.specs.Sets.{count}
 use Rattle.client.specs.Items.{all-below}
 use Rattle.client.specs.Fits.{said-count, number-fits, numbers-fit, op-fits, fit-to-work}
 use Rattle.client.specs.Part.{Did, nothing, put-field, put-word}
-use Rattle.client.specs.Laws.Steps.{did-three, did-nothing}
+use Rattle.client.specs.Laws.Steps.{did-then, did-three, did-nothing}
 use Rattle.client.specs.Laws.GoodSteps.{good-entries}
+use Rattle.client.specs.Laws.Enter.{good-write}
 use Rattle.client.specs.Vectors.{vector-fits}
 use Rattle.client.specs.Have.{bad-vector, broken}
 use Rattle.client.specs.Run.{End, lacks, aborts, gives}
-use Rattle.client.specs.Lent.{Entry, used-in, OwnFits, own-list}
-use Rattle.client.specs.Enter.{enter-entries}
+use Rattle.client.specs.Lent.{Entry, InUse, used-in, OwnFits, own-list}
+use Rattle.client.specs.Enter.{enter-write, enter-entries}
 use Rattle.client.specs.Answered.{used-enter, enter-writes, entered, answered}
 use Rattle.client.specs.Work.{Worked, refused, fetches, aborted, answers, count-new, versions-there, any-at-last, last-questions, judge, walked, worked}
 use Rattle.walk.specs.declared.walk.Stop.{Stop}
 use Rattle.walk.specs.declared.walk.Stop.the-variants.{Going, LacksMeta, LacksNode, LacksVector, Refused, Aborts, Answers}
-use Rattle.walk.specs.Walk.{is-answer, lack}
+use Rattle.walk.specs.Walk.{goes, is-answer, lack}
 use Rattle.walk.specs.Stopped.{Waiting, stop-of, Stopped}
 use Rattle.walk.specs.declared.operation.Operation.{Operation}
 use Rattle.walk.specs.declared.operation.Operation.the-variants.{Unknown}
 use Rattle.walk.specs.Operation.{operation-of}
 use Rattle.walk.specs.Laws.Operation.{not-unknown}
 use Rattle.walk.specs.Look.{Looks}
-use Rattle.change.specs.Work.{Ready, Works}
+use Rattle.change.specs.declared.single.Single.{Single}
+use Rattle.change.specs.Work.{Ready, Enters, Works}
+use Rattle.change.specs.Single.{entries-of, WorksSingly}
 use Rattle.steps.specs.declared.sizes.Sizes.{Sizes}
 use Rattle.steps.specs.declared.outcome.Outcome.{Outcome}
 use Rattle.steps.specs.Whole.{Allowed, Address, client, whole, block, tree-sizes, client-at}
@@ -77,6 +80,19 @@ answer-entered us l s t v x h p q r = did-three (used-enter us) (enter-entries l
 pub seen-entered : (us s t x : List ℕ) → 7223 ≤ length s / 8 → Did (used-enter us) s t → Did (put-field 1 0) t x → Did (entering us []) s x
 unfolding enter-entries nothing
 seen-entered us s t x h p r = answer-entered us [] s t t x h p (did-nothing (enter-entries []) t refl) r
+
+-- one write, or none
+module _ (r : Single) (s t : List ℕ) where
+  pub one-entered : 7223 ≤ length s / 8 → r .written ≡ true → Did (enter-write (r .number) (r .node)) s t → Did (enter-entries (entries-of r)) s t
+  unfolding enter-entries nothing
+  one-entered h w p =
+      rw w (did-then (enter-write (r .number) (r .node)) nothing s t t h (good-write (r .number) (r .node)) p (did-nothing nothing t refl))
+
+  pub none-entered : r .written ≡ false → t ≡ s → Did (enter-entries (entries-of r)) s t
+  unfolding enter-entries nothing
+  none-entered w e = rw (w, e) (did-nothing nothing s refl)
+
+pub ruleset single-entered = (one-entered, none-entered)
 
 entering-is : (us : List ℕ) (l : List Entry) (w : O.Writes) → l ≡ entered w → entering us l ≡ answered us w
 unfolding entering answered enter-writes put-word
@@ -116,7 +132,12 @@ none-unknown z b c r w p q = absurd (not-unknown (of-client z (view b) c op-numb
 pub told-as : (r s t : Operation) → r ≡ s → r ≡ t → s ≡ t
 told-as r s t p q = sym p ∙ q
 
-pub ruleset walk-lent = (works-lent, looks-lent, waiting-lent, operation-lent, operation-so)
+pub singly-lent : (z : Sizes) (b : List ℕ) (c k : ℕ) (r : Single) (u₀ u : List ℕ) → Store-in z (length b) → c < z .clients → k ≡ client-at z c
+    → WorksSingly (tree-sizes z) (sets.held (midOf (8 * k) (length b - 8 * k) b)) r u₀ u → WorksSingly (tree-sizes z) (of-client z (view b) c) r u₀ u
+unfolding sets.held
+singly-lent z b c k r u₀ u l h e d = subst (λ (m : ClientWord → ℕ). WorksSingly (tree-sizes z) m r u₀ u) (client-lent z c k b h e (l .room)) d
+
+pub ruleset walk-lent = (works-lent, singly-lent, looks-lent, waiting-lent, operation-lent, operation-so)
 
 pub ready : Ready (replicate 681 0) (replicate 98 0)
 ready = record { own-long = omega arith; own-none = refl; used-long = omega arith; used-none = refl }
@@ -386,11 +407,27 @@ module _ (z : Sizes) (b : List ℕ) (c : ℕ) (hold : Store-in z (length b)) (h 
   -- one that writes
   module _ (x₀ u₀ x u : List ℕ) (k : Works (tree-sizes z) (of-client z (view b) c) s x₀ u₀ x u) where
     pub change-fits : is-answer s ≡ true → OwnFits x
-    change-fits n = let v = answering z b c hold h known wait fit s u (k .stopped) n in k .fits _ (v .writes) (v .is)
+    change-fits n = let v = answering z b c hold h known wait fit s u (k .enters .stopped) n in k .fits _ (v .writes) (v .is)
 
     pub change-answers : (o : Outcome) (w′ : List ℕ) → is-answer s ≡ true → o ≡ answer-of s
         → Does whole (block z) (inPart (client c) (entering (used-in u) (own-list x))) silent (view b) 0 w′ → Meets z (λ m. work z m c) (view b) o w′
-    change-answers o w′ n e p = rw e (work-answers z b c hold h known wait fit s u (k .stopped) n (own-list x) w′ (k .own) p)
+    change-answers o w′ n e p = rw e (work-answers z b c hold h known wait fit s u (k .enters .stopped) n (own-list x) w′ (k .enters .own) p)
+
+-- one that writes one object or none
+module _ (t : TreeSizes) (m : ClientWord → ℕ) (r : Single) (u₀ u : List ℕ) (k : WorksSingly t m r u₀ u) (on : Bool) (po : on ≡ goes (r .stop)) (off : on ≡ false) where
+  pub single-ended : Enters t m (r .stop) (entries-of r) u₀ u
+  single-ended = k .enters (sym po ∙ off)
+
+  pub single-stopped : Stopped t m (r .stop) u
+  single-stopped = single-ended .stopped
+
+  pub single-used : InUse u
+  single-used = single-ended .stopped .in-use
+
+module _ (z : Sizes) (b : List ℕ) (c : ℕ) (hold : Store-in z (length b)) (h : c < z .clients) (known : Known z (view b) c) (wait : Waiting (of-client z (view b) c)) (fit : fit-to-work (tree-sizes z) (of-client z (view b) c) ≡ true) (r : Single) (u₀ u : List ℕ) (k : Enters (tree-sizes z) (of-client z (view b) c) (r .stop) (entries-of r) u₀ u) where
+  pub single-answers : (o : Outcome) (w′ : List ℕ) → is-answer (r .stop) ≡ true → o ≡ answer-of (r .stop)
+      → Does whole (block z) (inPart (client c) (entering (used-in u) (entries-of r))) silent (view b) 0 w′ → Meets z (λ m. work z m c) (view b) o w′
+  single-answers o w′ n e p = rw e (work-answers z b c hold h known wait fit (r .stop) u (k .stopped) n (entries-of r) w′ (k .own) p)
 
 -- ---- what refusals 9 and 10 have judged
 count-within : (t : TreeSizes) (m : ClientWord → ℕ) (s : Set) → numbers-fit t m s ≡ true → said-count m s ≤ limit s

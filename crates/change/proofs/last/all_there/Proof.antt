@@ -1,11 +1,10 @@
 use Prim.Native.Nat.{_-_}
 use mathlib.Core.Path.{_≡_}
 use lib.ListN.{getD}
-use Rattle.client.specs.Laws.Commit.{Sofar, so-none, so-next}
 use Rattle.client.specs.Sets.{held}
-use Rattle.change.specs.Last.{there-at}
+use Rattle.client.specs.Laws.Commit.{Sofar, so-none, so-next}
 use borrow.Author.Needs.{needs}
-use Rattle.change.specs.Laws.Last.{there-exits}
+use Rattle.change.specs.Laws.Last.{there-at, there-exits}
 use Rattle.change.proofs.last.all_there.Statement.{statement}
 use Rattle.change.proofs.last.all_there.Tie as tie
 
@@ -21,7 +20,11 @@ all-there-spec = tie.close (tie.spec
     μ-loop
     (λ c. search needs)  -- shared-slice-read-n
     (λ c. (search needs, search (so-none, needs)))  -- loop-holds
-    (λ c κs. search needs)  -- there-at-requires
+    (λ c. search needs)  -- mul-there
+    (λ c. search needs)  -- add-there
+    (λ c. search needs)  -- mul-there-2
+    (λ c. search needs)  -- shared-slice-read-there
+    (λ c κs. search needs)  -- there-requires
     (λ c. search (there-exits, needs))  -- returns
     (λ c. search needs)  -- add-i
     (λ c. search needs)  -- loop-less

@@ -1,9 +1,9 @@
-use Prim.Native.Nat.{_-_, _≤_}
+use Prim.Native.Nat.{_-_}
 use mathlib.Core.Path.{_≡_}
 use lib.ListN.{getD}
 use Rattle.client.specs.Sets.{held}
-use Rattle.change.specs.Laws.Last.{Counted, counting}
 use borrow.Author.Needs.{needs}
+use Rattle.change.specs.Laws.Last.{Counted, counting}
 use Rattle.change.proofs.last.count_new.Statement.{statement}
 use Rattle.change.proofs.last.count_new.Tie as tie
 
@@ -19,7 +19,11 @@ count-new-spec = tie.close (tie.spec
     μ-loop
     (λ c. search needs)  -- shared-slice-read-n
     (λ c. (search needs, search (counting, needs)))  -- loop-holds
-    (λ c κs. search needs)  -- new-at-requires
+    (λ c. search needs)  -- mul-new-one
+    (λ c. search needs)  -- add-new-one
+    (λ c. search needs)  -- mul-new-one-2
+    (λ c. search needs)  -- shared-slice-read-new-one
+    (λ c κs. search needs)  -- new-one-requires
     (λ c. search needs)  -- add-c
     (λ c. search needs)  -- add-i
     (λ c. search needs)  -- loop-less

@@ -5,10 +5,6 @@ use Rattle.change.proofs.last.stays_below.Tie as tie
 
 pub stays-below-spec : {M : Type 1} → statement M
 stays-below-spec = tie.close (tie.spec
-    (λ c. search needs)  -- mul-number
-    (λ c. search needs)  -- add-number
-    (λ c. search needs)  -- mul-number-2
-    (λ c. search needs)  -- shared-slice-read-number
     (λ c. search (below-exits, needs))  -- returns
     (λ c κs. search needs)  -- version-in-requires
     (λ c. search (below-exits, needs))  -- returns-2

@@ -8,7 +8,7 @@ pub version-there-spec : {M : Type 1} → statement M
 version-there-spec = tie.close (tie.spec
     (λ c κs. search needs)  -- find-requires
     (λ c. search needs)  -- enum-known-at
-    (λ c κs. (search (found-inside, needs), search needs))  -- record-at-requires
+    (λ c κs. (search (found-inside, needs), search needs))  -- version-at-requires
     (λ c. search needs)  -- enum-told
     (λ c κs. search needs)  -- has-requires
     (λ c. search (there-exits, needs))  -- returns

@@ -5,22 +5,16 @@ use Rattle.change.proofs.work.walk.Tie as tie
 
 pub walk-spec : {M : Type 1} → statement M
 walk-spec = tie.close (tie.spec
+    (λ c κs. search needs)  -- moves-requires
     (λ c κs. search needs)  -- get-field-requires
-    (λ c. search needs)  -- enum-told
     (λ c κs. search needs)  -- get-field-requires-2
-    (λ c κs. search needs)  -- insert-requires
-    (λ c. search needs)  -- enum-told-2
-    (λ c κs. search needs)  -- delete-requires
-    (λ c. search needs)  -- enum-told-3
-    (λ c κs. search needs)  -- get-field-requires-3
     (λ c κs. search needs)  -- migrate-requires
     (λ c. search needs)  -- same-length
     (λ c. search needs)  -- same-length-2
     (λ c. search (by-operation, needs))  -- returns
+    (λ c κs. search needs)  -- to-leaf-requires
+    (λ c κs. search needs)  -- carry-up-requires
     (λ c. search needs)  -- same-length-3
     (λ c. search needs)  -- same-length-4
     (λ c. search (by-operation, needs))  -- returns-2
-    (λ c. search needs)  -- same-length-5
-    (λ c. search needs)  -- same-length-6
-    (λ c. search (by-operation, needs))  -- returns-3
     )

@@ -11,13 +11,8 @@ work-spec = tie.close (tie.spec
     (λ c. search needs)  -- same-length-2
     (λ c. search (work-exits, needs))  -- returns
     (λ c κs. search (work-exits, needs))  -- last-reason-requires
+    (λ c κs. search needs)  -- judged-requires
     (λ c. search needs)  -- same-length-3
     (λ c. search needs)  -- same-length-4
     (λ c. search (work-exits, needs))  -- returns-2
-    (λ c. search needs)  -- same-length-5
-    (λ c. search needs)  -- same-length-6
-    (λ c. search (work-exits, needs))  -- returns-3
-    (λ c. search needs)  -- same-length-7
-    (λ c. search needs)  -- same-length-8
-    (λ c. search (work-exits, needs))  -- returns-4
     )
