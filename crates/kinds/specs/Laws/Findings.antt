@@ -11,8 +11,8 @@ use borrow.Rule.Slice.PartMut.{midOf}
 use lib.Dec.{eqb, leb}
 use lib.ListN.{length}
 use Rattle.memory.specs.Word.{view}
-use Rattle.memory.specs.Bit.{bit, putBit}
-use Rattle.memory.specs.Laws.Bit.{zero-bit}
+use Rattle.memory.specs.Bit.{bit}
+use Rattle.memory.specs.Laws.Bit.{zero-bit, put-none}
 use Rattle.layout.specs.Space.{mem}
 use Rattle.server.specs.declared.check.Finding.{Finding}
 use Rattle.server.specs.declared.check.Finding.the-variants.{Busy}
@@ -131,11 +131,6 @@ names-none : (f : ℕ → Bool) (n : ℕ) → all-below n (λ d. not (bit 0 d) |
 unfolding all-below
 names-none f zero = refl
 names-none f (suc n) = rw (names-none f n, zero-bit n)
-
-put-none : (i : ℕ) → putBit false 0 i ≡ 0
-unfolding putBit
-put-none zero = refl
-put-none (suc i) = rw (put-none i)
 
 zero-fits : (z : Sizes) (w : List ℕ) (x : ℕ) → word-fits z w x 0 ≡ true
 unfolding word-fits holders-fit
