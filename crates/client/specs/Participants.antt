@@ -36,6 +36,10 @@ module _ (m : ClientWord → ℕ) where
   abbrev pub calls-all : ℕ → Bool
   calls-all i = inner-before-after m (number-at m Writes i)
 
+  -- the homes below n that the first i read items make take part
+  abbrev pub called-homes : ℕ → ℕ → ℕ
+  called-homes n i = mask n (λ s. any-below i (calls-home s))
+
   -- does server s take part
   abbrev pub takes-part : ℕ → Bool
   takes-part s = any-below (count m Writes) calls-all || any-below (count m Reads) (calls-home s)

@@ -1,7 +1,7 @@
 // Who takes part in a commit.
 use crate::items::inner_before_after;
-use crate::items::is_home;
 use crate::items::is_inner;
+use crate::part::FIRST_FLAG_NUMBER;
 use crate::part::LAST_NODE_NUMBER;
 use crate::part::Set;
 use crate::part::count;
@@ -9,18 +9,19 @@ use crate::part::item_word;
 use crate::part::number_at;
 use crate::part::record_at;
 use memory::bits::with;
-use memory::bits::without;
 use nodes::found::Found;
+use nodes::name::Name;
 ghost use mathlib.Core.Path.{_≡_};
-ghost use mathlib.Core.Bool.{_||_};
-ghost use Prim.Native.Nat.{_<_, _≤_};
-ghost use Rattle.memory.specs.Bit.{putBit};
+ghost use mathlib.Core.Bool.{true};
+ghost use Prim.Native.Nat.{_+_, _<_, _≤_};
+ghost use Rattle.nodes.specs.Name.{server-of};
+ghost use Rattle.client.specs.Record.{by-number};
 ghost use Rattle.client.specs.Layout.{limit, ClientPart};
 ghost use Rattle.client.specs.declared.part.Set.the-variants.{Reads, Writes};
 ghost use Rattle.client.specs.Sets.{held, count};
 ghost use Rattle.client.specs.Commit.{is-at, inner-at};
 ghost use Rattle.client.specs.Items.{any-below};
-ghost use Rattle.client.specs.Participants.{calls-home, calls-all, participants-of};
+ghost use Rattle.client.specs.Participants.{mask, calls-all, called-homes, participants-of};
 ghost use Rattle.client.specs.Bounds.{most-servers};
 
 pub fn is_at(at: Found) -> bool
@@ -71,53 +72,66 @@ fn one_calls_all(part: &[u8]) -> bool
     false
 }
 
-// Does read item i make the server, its home, take part?
-fn calls_home(part: &[u8], server: u64, i: usize) -> bool
-    requires { ⌜ (i < limit Reads) × ClientPart (now part) ⌝ }
-    ensures { λ r. ⌜ r ≡ calls-home (held (now (part .entry))) server i ⌝ }
+// The home of the object with that number; the metadata has none of its own.
+fn home_of(number: u64) -> u64
+    ensures { λ r. ⌜ r ≡ by-number number 0 server-of server-of ⌝ }
+{
+    if number == 0 {
+        return 0;
+    }
+    if number <= LAST_NODE_NUMBER {
+        let node = Name { number: number - 1 };
+        return node.server();
+    }
+    let flag = Name {
+        number: number - FIRST_FLAG_NUMBER,
+    };
+    flag.server()
+}
+
+// The homes that read items call, with that of item i.
+fn with_home(part: &[u8], servers: usize, i: usize, set: u64) -> u64
+    requires { ⌜ (i < limit Reads) × (servers ≤ most-servers) × (set ≡ called-homes (held (now part)) servers i) × ClientPart (now part) ⌝ }
+    ensures { λ r. ⌜ r ≡ called-homes (held (now (part .entry))) servers (i + 1) ⌝ }
 {
     let number = number_at(part, Set::Reads, i);
     if is_inner(number, record_at(part, Set::Reads, i)) {
-        return false;
+        return set;
     }
-    is_home(server, number)
+    let home = home_of(number);
+    if home < servers as u64 {
+        return with(set, home as u32);
+    }
+    set
 }
 
-fn one_calls_home(part: &[u8], server: u64) -> bool
-    requires { ⌜ ClientPart (now part) ⌝ }
-    ensures { λ r. ⌜ r ≡ any-below (count (held (now (part .entry))) Reads) (calls-home (held (now (part .entry))) server) ⌝ }
+// Those of all read items, in one pass: not one for each server.
+fn homes(part: &[u8], servers: usize) -> u64
+    requires { ⌜ (servers ≤ most-servers) × ClientPart (now part) ⌝ }
+    ensures { λ r. ⌜ r ≡ called-homes (held (now (part .entry))) servers (count (held (now (part .entry))) Reads) ⌝ }
 {
     let n = count(part, Set::Reads);
+    let mut set: u64 = 0;
     let mut i: usize = 0;
     while i < n {
-        if calls_home(part, server, i) {
-            return true;
-        }
+        set = with_home(part, servers, i, set);
         i += 1;
     }
-    false
+    set
 }
 
-// Does the server take part, where all of them do or its own items call it?
-fn takes_part(part: &[u8], all: bool, server: u64) -> bool
-    requires { ⌜ ClientPart (now part) ⌝ }
-    ensures { λ r. ⌜ r ≡ (all || any-below (count (held (now (part .entry))) Reads) (calls-home (held (now (part .entry))) server)) ⌝ }
+// The set of all servers.
+fn all_servers(servers: usize) -> u64
+    requires { ⌜ servers ≤ most-servers ⌝ }
+    ensures { λ r. ⌜ r ≡ mask servers (λ s. true) ⌝ }
 {
-    if all {
-        return true;
+    let mut set: u64 = 0;
+    let mut s: usize = 0;
+    while s < servers {
+        set = with(set, s as u32);
+        s += 1;
     }
-    one_calls_home(part, server)
-}
-
-// The set with or without a server.
-fn marked(set: u64, server: usize, there: bool) -> u64
-    requires { ⌜ server < most-servers ⌝ }
-    ensures { λ r. ⌜ r ≡ putBit there set server ⌝ }
-{
-    if there {
-        return with(set, server as u32);
-    }
-    without(set, server as u32)
+    set
 }
 
 // The set of the servers that take part.
@@ -125,12 +139,8 @@ pub fn participants(part: &[u8], servers: usize) -> u64
     requires { ⌜ (servers ≤ most-servers) × ClientPart (now part) ⌝ }
     ensures { λ r. ⌜ r ≡ participants-of (held (now (part .entry))) servers ⌝ }
 {
-    let all = one_calls_all(part);
-    let mut set: u64 = 0;
-    let mut s: usize = 0;
-    while s < servers {
-        set = marked(set, s, takes_part(part, all, s as u64));
-        s += 1;
+    if one_calls_all(part) {
+        return all_servers(servers);
     }
-    set
+    homes(part, servers)
 }

@@ -1,5 +1,6 @@
 // Refusal 10, "Something stored that this step's rule reads has a field out of range": what each rule reads of its client's own part.
 ghost use mathlib.Core.Path.{_≡_};
+ghost use mathlib.Core.Bool.{true};
 ghost use Prim.Native.Nat.{_≤_, _<_};
 ghost use lib.Dec.{leb};
 ghost use Rattle.client.specs.declared.part.Set.the-variants.{Writes};
@@ -401,6 +402,20 @@ fn fit_to_renew(part: &[u8], servers: usize, slots: usize) -> bool
         return true;
     }
     renewals_fit(part, servers, slots)
+}
+
+// What the last apply at a server reads, after a prepare that was fit: who takes part and which objects are read and written is judged.
+pub fn fit_to_apply_too(part: &[u8], servers: usize, slots: usize, server: u64) -> bool
+    requires { ⌜ (servers ≤ most-servers) × ClientPart (now part) × (fit-to-prepare (sizes servers slots) (held (now part)) ≡ true) ⌝ }
+    ensures { λ r. ⌜ r ≡ fit-to-apply (sizes servers slots) (held (now (part .entry))) server true ⌝ }
+{
+    if !servers_fit(part, servers, APPLIED) {
+        return false;
+    }
+    if !writes_fit(part, servers, slots, server) {
+        return false;
+    }
+    fit_to_renew(part, servers, slots)
 }
 
 // What an apply at a server reads; the last one renews the copies.

@@ -66,8 +66,12 @@ items-found z w c s us = deciding (map (fetch-finding z (stored-in z w) c us s) 
 abbrev pub verdict-of : ℕ → Verdict
 verdict-of y = cond (eqb y 0) Clear (cond (eqb y 10) Unfit (Fault y))
 
+-- one too many is read
+abbrev pub room-of : Sizes → List ℕ → ℕ → List ℕ → Verdict
+room-of z w c us = cond (leb (limit Reads) (of-client z w c reads-count + length us)) (Fault 4) Clear
+
 -- the object fetched, of the number x: busy by a writer, or one too many
 unfoldable pub gate-of : Sizes → List ℕ → ℕ → ℕ → ℕ → List ℕ → Verdict
 gate-of z w c s x us =
     cond (lock-fits z (stored-in z w) s x)
-    (cond (held (object-of x) c Fetch (of-server z w s)) (Fault 2) (cond (leb (limit Reads) (of-client z w c reads-count + length us)) (Fault 4) Clear)) Unfit
+    (cond (held (object-of x) c Fetch (of-server z w s)) (Fault 2) (room-of z w c us)) Unfit

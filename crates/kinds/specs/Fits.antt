@@ -1,5 +1,6 @@
 -- Refusal 10 over all objects read, as code asks it item by item.
-use mathlib.Core.Bool.{Bool, _&&_, _||_, not}
+use mathlib.Core.Path.{_≡_}
+use mathlib.Core.Bool.{Bool, true, _&&_, _||_, not}
 use mathlib.Core.List.{List}
 use Prim.Native.Nat.{ℕ, _-_, _<_}
 use Rattle.memory.specs.Bit.{bit}
@@ -9,7 +10,7 @@ use Rattle.client.specs.declared.part.Set.the-variants.{Reads}
 use Rattle.client.specs.Layout.{ClientWord, prepared}
 use Rattle.client.specs.Sets.{count, number-at}
 use Rattle.client.specs.Items.{all-below}
-use Rattle.client.specs.Fits.{fit-to-unlock}
+use Rattle.client.specs.Fits.{fit-to-prepare, fit-to-unlock}
 use Rattle.steps.specs.declared.sizes.Sizes.{Sizes}
 use Rattle.steps.specs.Whole.{tree-sizes}
 use Rattle.steps.specs.Uses.{Item, locked-at}
@@ -37,6 +38,10 @@ pub record KnownAt (z : Sizes) (b : List ℕ) (c s : ℕ) : Type 0 where
   pub client : c < z .clients
   pub server : s < z .servers
   pub sets : Known z (view b) c
+
+-- what a prepare of the client c reads of its own part is in range
+pub record Fit-to-prepare (z : Sizes) (b : List ℕ) (c : ℕ) : Type 0 where
+  pub fit : fit-to-prepare (tree-sizes z) (of-client z (view b) c) ≡ true
 
 -- what an unlocking reads of an item at the server s
 unfoldable pub unlock-item : Sizes → List ℕ → ℕ → ℕ → Item → Bool

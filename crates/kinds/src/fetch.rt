@@ -1,6 +1,6 @@
 // "A fetch checks at that server what the transaction has read": the read set and the copies that came into use in the step.
 ghost use mathlib.Core.Path.{_≡_};
-ghost use Prim.Native.Nat.{_<_};
+ghost use Prim.Native.Nat.{_≤_, _<_};
 ghost use lib.ListN.{length};
 ghost use Rattle.memory.specs.Word.{view};
 ghost use Rattle.server.specs.Object.{object-of, Has};
@@ -9,19 +9,20 @@ ghost use Rattle.client.specs.Lent.{InUse, used-in};
 ghost use Rattle.kinds.specs.Parts.{AtClient, ObjectFor};
 ghost use Rattle.kinds.specs.Items.{as-item};
 ghost use Rattle.kinds.specs.Judge.{of-client};
-ghost use Rattle.kinds.specs.Fetch.{used-item, known-at, fetch-fault, items-found, Checking, verdict-of, gate-of, known-count};
-ghost use Rattle.client.specs.Layout.{ClientPart};
+ghost use Rattle.kinds.specs.Fetch.{used-item, known-at, fetch-fault, items-found, Checking, verdict-of, room-of, gate-of, known-count};
+ghost use Rattle.client.specs.Layout.{ClientPart, limit, reads-count};
+ghost use Rattle.client.specs.declared.part.Set.the-variants.{Reads};
 ghost use Rattle.client.specs.Bounds.{end-of-numbers};
 use crate::findings::Fault;
-use crate::findings::checked_at;
-use crate::findings::held_at;
+use crate::findings::compared_at;
+use crate::findings::held_reason;
 use crate::findings::lesser;
 use crate::fits::reads_of;
 use crate::items::Item;
 use crate::items::item_of;
 use crate::judge::field_of;
 use crate::judge::item_at;
-use crate::judge::lock_fits;
+use crate::judge::lock_word;
 use crate::whole::client_at;
 use client::lookup::copied;
 use client::part::MOST_READ;
@@ -74,10 +75,15 @@ fn fetch_fault(mem: &[u8], sizes: Sizes, client: usize, server: usize, item: Ite
     if !can_check(server as u64, object, item.inner) {
         return 0;
     }
-    if !lock_fits(mem, sizes, server, item.number) {
-        return 10;
+    let word = lock_word(mem, sizes, server, item.number);
+    if word == 0 {
+        return compared_at(mem, sizes, server, item);
     }
-    checked_at(mem, sizes, server, item, client, Use::Fetch)
+    let reason = held_reason(mem, sizes, client, item.number, word, Use::Fetch);
+    if reason == 0 {
+        return compared_at(mem, sizes, server, item);
+    }
+    reason
 }
 
 // What the check finds, of the least object: a reason to abort, or 10 for the refusal; 0 if there is nothing.
@@ -123,6 +129,18 @@ pub fn check_all(mem: &[u8], sizes: Sizes, client: usize, server: usize, used: &
     Verdict::Fault(found)
 }
 
+// The limit of 96: those read and those in use.
+fn room(mem: &[u8], sizes: Sizes, client: usize, used: &[u64]) -> Verdict
+    requires { ⌜ AtClient sizes (length (now mem)) client × InUse (now used) × (of-client sizes (view (now mem)) client reads-count ≤ limit Reads) ⌝ }
+    ensures { λ r. ⌜ r ≡ room-of sizes (view (now (mem .entry))) client (used-in (now (used .entry))) ⌝ }
+{
+    let read = field_of(mem, sizes, client, READS_COUNT) as usize;
+    if MOST_READ <= read + used[0] as usize {
+        return Verdict::Fault(4);
+    }
+    Verdict::Clear
+}
+
 // "then the object fetched"; then the limit of 96.
 pub fn gate(
     mem: &[u8],
@@ -135,15 +153,16 @@ pub fn gate(
     requires { ⌜ Checking sizes (now mem) client server (now used) × Has (sizes .slots) (object-of number) ⌝ }
     ensures { λ r. ⌜ r ≡ gate-of sizes (view (now (mem .entry))) client server number (used-in (now (used .entry))) ⌝ }
 {
-    if lock_fits(mem, sizes, server, number) {
-        if held_at(mem, sizes, server, number, client, Use::Fetch) {
-            return Verdict::Fault(2);
-        }
-        let read = field_of(mem, sizes, client, READS_COUNT) as usize;
-        if MOST_READ <= read + used[0] as usize {
-            return Verdict::Fault(4);
-        }
-        return Verdict::Clear;
+    let word = lock_word(mem, sizes, server, number);
+    if word == 0 {
+        return room(mem, sizes, client, used);
     }
-    Verdict::Unfit
+    let reason = held_reason(mem, sizes, client, number, word, Use::Fetch);
+    if reason == 0 {
+        return room(mem, sizes, client, used);
+    }
+    if reason == 10 {
+        return Verdict::Unfit;
+    }
+    Verdict::Fault(2)
 }

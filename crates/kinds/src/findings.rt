@@ -3,26 +3,25 @@ ghost use mathlib.Core.Path.{_≡_};
 ghost use Prim.Native.Nat.{_<_};
 ghost use lib.ListN.{length};
 ghost use Rattle.memory.specs.Word.{view};
-ghost use Rattle.server.specs.Check.{held, finding-number};
-ghost use Rattle.server.specs.Object.{object-of, Has};
+ghost use Rattle.server.specs.Check.{finding-number};
 ghost use Rattle.steps.specs.Uses.{use-of};
-ghost use Rattle.kinds.specs.Parts.{ObjectFor, ClientAt};
+ghost use Rattle.kinds.specs.Parts.{AtClient, ObjectAt, ObjectFor};
 ghost use Rattle.kinds.specs.Items.{as-item};
-ghost use Rattle.kinds.specs.Judge.{of-server};
 ghost use Rattle.kinds.specs.Fits.{KnownAt};
-ghost use Rattle.kinds.specs.Findings.{as-fault, later, prepare-reason, prepare-fault, prepare-found, finding-at};
+ghost use Rattle.kinds.specs.Findings.{as-fault, later, word-reason, compared-at, mark-reason, prepare-reason, prepare-fault, prepare-found};
 use crate::fits::lowest;
 use crate::fits::reads_of;
 use crate::items::Item;
 use crate::items::is_checked_at;
-use crate::items::is_locked_at;
+use crate::items::is_locked;
 use crate::judge::item_at;
-use crate::judge::lock_fits;
+use crate::judge::lock_word;
+use crate::judge::word_fits;
 use crate::whole::server_at;
 use server::check::Finding;
-use server::check::check;
-use server::check::is_busy;
+use server::check::compare;
 use server::lock::Use;
+use server::lock::is_busy;
 use server::object::numbered;
 use steps::sizes::Sizes;
 
@@ -70,72 +69,71 @@ fn use_of(item: Item) -> Use
     Use::Read
 }
 
-// A check of an item at a server.
-pub fn checked_at(
+// What the word of an object's lock comes to, for a client's use of the object: 10 is the refusal, 2 where it is locked against the use. Of a
+// word that is 0 nobody needs to ask: there is no lock.
+pub fn held_reason(
     mem: &[u8],
     sizes: Sizes,
-    server: usize,
-    item: Item,
     client: usize,
+    number: u64,
+    word: u64,
     wanted: Use,
 ) -> u64
-    requires { ⌜ ObjectFor sizes (length (now mem)) client server (item .number) ⌝ }
-    ensures { λ r. ⌜ r ≡ finding-at sizes (view (now (mem .entry))) server item client wanted ⌝ }
+    requires { ⌜ AtClient sizes (length (now mem)) client ⌝ }
+    ensures { λ r. ⌜ r ≡ word-reason sizes (view (now (mem .entry))) client number word wanted ⌝ }
+{
+    if !word_fits(mem, sizes, number, word) {
+        return 10;
+    }
+    if is_busy(word, client as u32, wanted) {
+        return 2;
+    }
+    0
+}
+
+// What the marks of an item say at a server, that which stands there and that which was read.
+pub fn compared_at(mem: &[u8], sizes: Sizes, server: usize, item: Item) -> u64
+    requires { ⌜ ObjectAt sizes (length (now mem)) server (item .number) ⌝ }
+    ensures { λ r. ⌜ r ≡ compared-at sizes (view (now (mem .entry))) server (as-item item) ⌝ }
 {
     let at = 8 * server_at(sizes, server);
     let object = numbered(item.number);
-    let slots = sizes.slots;
-    let finding = check(
-        &mem[at..],
-        slots,
-        object,
-        item.inner,
-        item.mark,
-        client as u32,
-        wanted,
-    );
+    let finding = compare(&mem[at..], sizes.slots, object, item.inner, item.mark);
     number_of(finding)
 }
 
-// Is the object locked there against the client's use?
-pub fn held_at(
-    mem: &[u8],
-    sizes: Sizes,
-    server: usize,
-    number: u64,
-    client: usize,
-    wanted: Use,
-) -> bool
-    requires { ⌜ ClientAt sizes (length (now mem)) client server × Has (sizes .slots) (object-of number) ⌝ }
-    ensures { λ r. ⌜ r ≡ held (object-of number) client wanted (of-server sizes (view (now (mem .entry))) server) ⌝ }
+// What they say of an item that is checked there.
+fn mark_reason(mem: &[u8], sizes: Sizes, server: usize, checked: bool, item: Item) -> u64
+    requires { ⌜ ObjectAt sizes (length (now mem)) server (item .number) ⌝ }
+    ensures { λ r. ⌜ r ≡ mark-reason sizes (view (now (mem .entry))) server checked (as-item item) ⌝ }
 {
-    let at = 8 * server_at(sizes, server);
-    let object = numbered(number);
-    is_busy(&mem[at..], sizes.slots, object, client as u32, wanted)
+    if checked {
+        return compared_at(mem, sizes, server, item);
+    }
+    0
 }
 
-// What a prepare at a server finds of an item that is locked there: its lock, then what is checked, else who holds it.
+// What a prepare at a server finds of an item that is locked there: its lock, and who holds it; then its mark, if it is checked there.
 fn prepare_reason(
     mem: &[u8],
     sizes: Sizes,
     client: usize,
     server: usize,
-    low: u64,
+    checked: bool,
     item: Item,
 ) -> u64
     requires { ⌜ ObjectFor sizes (length (now mem)) client server (item .number) ⌝ }
-    ensures { λ r. ⌜ r ≡ prepare-reason sizes (view (now (mem .entry))) client server low (as-item item) ⌝ }
+    ensures { λ r. ⌜ r ≡ prepare-reason sizes (view (now (mem .entry))) client server checked (as-item item) ⌝ }
 {
-    if !lock_fits(mem, sizes, server, item.number) {
-        return 10;
+    let word = lock_word(mem, sizes, server, item.number);
+    if word == 0 {
+        return mark_reason(mem, sizes, server, checked, item);
     }
-    if is_checked_at(item, low, server as u64) {
-        return checked_at(mem, sizes, server, item, client, use_of(item));
+    let reason = held_reason(mem, sizes, client, item.number, word, use_of(item));
+    if reason == 0 {
+        return mark_reason(mem, sizes, server, checked, item);
     }
-    if held_at(mem, sizes, server, item.number, client, use_of(item)) {
-        return 2;
-    }
-    0
+    reason
 }
 
 // The fault of an item at a prepare: its kinds say whether it is locked there, and if not there is none.
@@ -156,8 +154,9 @@ fn prepare_fault(
     if !item.settled {
         return 10;
     }
-    if is_locked_at(item, low, server as u64) {
-        return prepare_reason(mem, sizes, client, server, low, item);
+    let checked = is_checked_at(item, low, server as u64);
+    if is_locked(item, checked) {
+        return prepare_reason(mem, sizes, client, server, checked, item);
     }
     0
 }

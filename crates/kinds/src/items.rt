@@ -1,5 +1,6 @@
 // What a transaction has read, as servers are asked about it: which object is checked where, and which is locked.
 ghost use mathlib.Core.Path.{_≡_};
+ghost use mathlib.Core.Bool.{_&&_, _||_};
 ghost use Prim.Native.Nat.{_<_};
 ghost use Rattle.client.specs.Record.{first-slot};
 ghost use Rattle.client.specs.Sets.{held};
@@ -118,15 +119,21 @@ pub fn is_checked_at(item: Item, lowest: u64, server: u64) -> bool
     is_home(server, item.number)
 }
 
-// "a node becoming inner is checked at home, locked at all"
-pub fn is_locked_at(item: Item, lowest: u64, server: u64) -> bool
-    ensures { λ r. ⌜ r ≡ locked-at lowest server (as-item item) ⌝ }
+// "a node becoming inner is checked at home, locked at all": is an item locked that is checked there, or not?
+pub fn is_locked(item: Item, checked: bool) -> bool
+    ensures { λ r. ⌜ r ≡ (checked || (item .written && item .becomes)) ⌝ }
 {
-    if is_checked_at(item, lowest, server) {
+    if checked {
         return true;
     }
     if item.written {
         return item.becomes;
     }
     false
+}
+
+pub fn is_locked_at(item: Item, lowest: u64, server: u64) -> bool
+    ensures { λ r. ⌜ r ≡ locked-at lowest server (as-item item) ⌝ }
+{
+    is_locked(item, is_checked_at(item, lowest, server))
 }

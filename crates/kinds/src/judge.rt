@@ -12,7 +12,7 @@ ghost use Rattle.steps.specs.Whole.{server as at-server};
 ghost use Rattle.steps.specs.Judge.{has-transaction, writes, holders-fit, lock-fits};
 ghost use Rattle.kinds.specs.Parts.{AtClient, Store-in, stored-in, ObjectAt};
 ghost use Rattle.kinds.specs.Items.{as-item, read-item};
-ghost use Rattle.kinds.specs.Judge.{of-client, reader-fits};
+ghost use Rattle.kinds.specs.Judge.{of-client, reader-fits, word-fits};
 ghost use Rattle.client.specs.declared.part.Set.the-variants.{Reads};
 use crate::items::Item;
 use crate::items::read_item;
@@ -124,6 +124,17 @@ fn holders_fit(mem: &[u8], sizes: Sizes, number: u64, word: u64) -> bool
     false
 }
 
+// Is a lock's word in range, and are its holders there?
+pub fn word_fits(mem: &[u8], sizes: Sizes, number: u64, word: u64) -> bool
+    requires { ⌜ Store-in sizes (length (now mem)) ⌝ }
+    ensures { λ r. ⌜ r ≡ word-fits sizes (view (now (mem .entry))) number word ⌝ }
+{
+    if is_lock(word, sizes.clients as u32) {
+        return holders_fit(mem, sizes, number, word);
+    }
+    false
+}
+
 // The word of an object's lock at a server.
 pub fn lock_word(mem: &[u8], sizes: Sizes, server: usize, number: u64) -> u64
     requires { ⌜ ObjectAt sizes (length (now mem)) server number ⌝ }
@@ -139,9 +150,5 @@ pub fn lock_fits(mem: &[u8], sizes: Sizes, server: usize, number: u64) -> bool
     requires { ⌜ ObjectAt sizes (length (now mem)) server number ⌝ }
     ensures { λ r. ⌜ r ≡ lock-fits sizes (stored-in sizes (view (now (mem .entry)))) server number ⌝ }
 {
-    let word = lock_word(mem, sizes, server, number);
-    if is_lock(word, sizes.clients as u32) {
-        return holders_fit(mem, sizes, number, word);
-    }
-    false
+    word_fits(mem, sizes, number, lock_word(mem, sizes, server, number))
 }

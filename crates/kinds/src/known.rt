@@ -1,11 +1,13 @@
 // Refusal 10 for what each rule reads of its client's own part.
 ghost use mathlib.Core.Path.{_≡_};
+ghost use mathlib.Core.Bool.{true};
 ghost use lib.ListN.{length};
 ghost use Rattle.memory.specs.Word.{view};
 ghost use Rattle.client.specs.Fits.{fit-to-work, fit-to-commit, fit-to-prepare, fit-to-abort, fit-to-unlock, fit-to-apply};
 ghost use Rattle.steps.specs.Whole.{tree-sizes};
 ghost use Rattle.kinds.specs.Parts.{AtClient};
 ghost use Rattle.kinds.specs.Judge.{of-client};
+ghost use Rattle.kinds.specs.Fits.{Fit-to-prepare};
 use crate::whole::client_at;
 use client::fits;
 use steps::sizes::Sizes;
@@ -53,6 +55,15 @@ pub fn fit_to_unlock(mem: &[u8], sizes: Sizes, client: usize) -> bool
 {
     let at = 8 * client_at(sizes, client);
     fits::fit_to_unlock(&mem[at..], sizes.servers, sizes.slots)
+}
+
+// The last apply at a server, after a prepare that was fit.
+pub fn fit_to_apply_too(mem: &[u8], sizes: Sizes, client: usize, server: usize) -> bool
+    requires { ⌜ AtClient sizes (length (now mem)) client × Fit-to-prepare sizes (now mem) client ⌝ }
+    ensures { λ r. ⌜ r ≡ fit-to-apply (tree-sizes sizes) (of-client sizes (view (now (mem .entry))) client) server true ⌝ }
+{
+    let at = 8 * client_at(sizes, client);
+    fits::fit_to_apply_too(&mem[at..], sizes.servers, sizes.slots, server as u64)
 }
 
 // An apply at a server; the last one renews the copies.

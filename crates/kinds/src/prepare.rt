@@ -9,7 +9,7 @@ ghost use Rattle.client.specs.Layout.{participants};
 ghost use Rattle.steps.specs.Steps.{prepared-at, prepare};
 ghost use Rattle.kinds.specs.Parts.{InWhole, ClientAt};
 ghost use Rattle.kinds.specs.Judge.{of-client};
-ghost use Rattle.kinds.specs.Fits.{KnownAt};
+ghost use Rattle.kinds.specs.Fits.{KnownAt, Fit-to-prepare};
 ghost use Rattle.kinds.specs.Kinds.{Comes};
 ghost use Rattle.kinds.specs.Prepare.{prepares, decides, applies-too};
 use crate::abort::abort_unused;
@@ -19,7 +19,7 @@ use crate::course::note;
 use crate::course::put_field;
 use crate::findings::prepare_finds;
 use crate::judge::field_of;
-use crate::known::fit_to_apply;
+use crate::known::fit_to_apply_too;
 use crate::known::fit_to_prepare;
 use crate::locks::Change;
 use crate::locks::change_all;
@@ -60,10 +60,10 @@ fn is_only(mem: &[u8], sizes: Sizes, client: usize, server: usize) -> bool
 
 // The prepare of the only participant decides and applies.
 fn apply_too(mem: &mut [u8], sizes: Sizes, client: usize, server: usize) -> Outcome
-    requires { ⌜ KnownAt sizes (now mem) client server ⌝ }
+    requires { ⌜ KnownAt sizes (now mem) client server × Fit-to-prepare sizes (now mem) client ⌝ }
     ensures { λ r. ⌜ Comes sizes (applies-too sizes client server) (now (mem .entry)) r (now (mem .exit)) ⌝ }
 {
-    if !fit_to_apply(mem, sizes, client, server, true) {
+    if !fit_to_apply_too(mem, sizes, client, server) {
         return Outcome::Refused(10);
     }
     decide(mem, sizes, client, server);
@@ -72,7 +72,7 @@ fn apply_too(mem: &mut [u8], sizes: Sizes, client: usize, server: usize) -> Outc
 
 // A prepare that finds no fault.
 fn prepare_at(mem: &mut [u8], sizes: Sizes, client: usize, server: usize) -> Outcome
-    requires { ⌜ KnownAt sizes (now mem) client server ⌝ }
+    requires { ⌜ KnownAt sizes (now mem) client server × Fit-to-prepare sizes (now mem) client ⌝ }
     ensures { λ r. ⌜ Comes sizes (λ m. prepared-at sizes m client server) (now (mem .entry)) r (now (mem .exit)) ⌝ }
 {
     if !is_last(mem, sizes, client, PREPARED, server) {

@@ -11,16 +11,14 @@ use Rattle.layout.specs.Space.{Valid}
 use Rattle.nodes.specs.Name.{server-of, slot-of}
 use Rattle.nodes.specs.declared.name.Name.{Name}
 use Rattle.server.specs.declared.check.Finding.{Finding}
-use Rattle.server.specs.declared.check.Finding.the-variants.{Same, Differs, Busy, Unfit}
-use Rattle.server.specs.declared.lock.Use.{Use}
+use Rattle.server.specs.declared.check.Finding.the-variants.{Same, Differs, Unfit}
 use Rattle.server.specs.declared.object.Object.{Object}
 use Rattle.server.specs.declared.object.Object.the-variants as object
 use Rattle.server.specs.declared.place.Place.{Place}
 use Rattle.server.specs.declared.place.Place.the-variants as place
 use Rattle.server.specs.Layout.{places, server-block}
 use Rattle.server.specs.Object.{lock-of, Has}
-use Rattle.server.specs.Lock.{busy}
-use Rattle.server.specs.Check.{can-check, mark-place, mark-in, standing, held, mark-fits, mark-finding, checked}
+use Rattle.server.specs.Check.{can-check, mark-place, mark-in, standing, mark-fits, mark-finding}
 
 module _ (s : ℕ) (o : Object) (inner : Bool) where
   pub can-metadata : o ≡ object.Metadata → true ≡ can-check s o inner
@@ -90,18 +88,8 @@ module _ (o : Object) (m : Place → ℕ) where
   unfolding standing
   it-stands inner a w r e q h = h ∙ rw (q, e)
 
-  pub it-is-held : (u : Use) (c w : ℕ) (a : Place) (r : Bool) → a ≡ lock-of o → w ≡ m a → r ≡ busy u c w → r ≡ held o c u m
-  unfolding held
-  it-is-held u c w a r e q h = h ∙ rw (q, e)
-
-  module _ (inner : Bool) (mark c : ℕ) (u : Use) (b : Bool) (e : b ≡ held o c u m) where
-    pub found-busy : b ≡ true → Busy ≡ checked o inner mark c u m
-    unfolding checked
-    found-busy t = sym (rw (← e, t))
-
-    pub found-mark-finding : (r : ℕ) (f : Finding) → b ≡ false → r ≡ standing o inner m → f ≡ mark-finding o r mark → f ≡ checked o inner mark c u m
-    unfolding checked
-    found-mark-finding r f t q h = h ∙ sym (rw (← e, t, ← q))
+  pub it-compares : (inner : Bool) (mark r : ℕ) (f : Finding) → r ≡ standing o inner m → f ≡ mark-finding o r mark → f ≡ mark-finding o (standing o inner m) mark
+  it-compares inner mark r f q h = h ∙ rw q
 
 -- ---- the two marks
 module _ (o : Object) (x : ℕ) where
@@ -150,9 +138,7 @@ pub ruleset check-exits = (
   marks-free,
   mark-valid,
   it-stands,
-  it-is-held,
-  found-busy,
-  found-mark-finding,
+  it-compares,
   fits-metadata,
   fits-node,
   fits-flag,

@@ -1,16 +1,13 @@
 // What a server can say of an object that a transaction has read.
 ghost use mathlib.Core.Path.{_≡_};
-ghost use Prim.Native.Nat.{_/_, _<_, _≤_};
+ghost use Prim.Native.Nat.{_/_, _≤_};
 ghost use lib.ListN.{length};
 ghost use Rattle.memory.specs.Word.{view};
 ghost use Rattle.layout.specs.Space.{mem};
 ghost use Rattle.server.specs.Layout.{places, server-block, partWords};
 ghost use Rattle.server.specs.Object.{Has};
-ghost use Rattle.server.specs.Check.{can-check, mark-place, mark-in, standing, held, mark-fits, mark-finding, checked};
-use crate::lock;
-use crate::lock::Use;
+ghost use Rattle.server.specs.Check.{can-check, mark-place, mark-in, standing, mark-fits, mark-finding};
 use crate::object::Object;
-use crate::object::lock_place;
 use crate::place::Place;
 use crate::place::get;
 use memory::bits;
@@ -79,15 +76,6 @@ pub fn stands(part: &[u8], slots: usize, object: Object, inner: bool) -> u64
     mark_in(object, word)
 }
 
-// Is an object locked here against a client's use?
-pub fn is_busy(part: &[u8], slots: usize, object: Object, client: u32, wanted: Use) -> bool
-    requires { ⌜ (slots ≤ 1024) × Has slots object × (client < 16) × (partWords slots ≤ length (now part) / 8) ⌝ }
-    ensures { λ r. ⌜ r ≡ held object client wanted (mem places (server-block slots) (view (now (part .entry)))) ⌝ }
-{
-    let word = get(part, slots, lock_place(object));
-    lock::is_busy(word, client, wanted)
-}
-
 // May a mark of the object be this number?
 fn mark_fits(object: Object, mark: u64) -> bool
     ensures { λ r. ⌜ r ≡ mark-fits object mark ⌝ }
@@ -115,21 +103,10 @@ fn mark_finding(object: Object, here: u64, read: u64) -> Finding
     Finding::Differs
 }
 
-// Is an object still as it was read, with this mark, and open to this use?
-pub fn check(
-    part: &[u8],
-    slots: usize,
-    object: Object,
-    inner: bool,
-    mark: u64,
-    client: u32,
-    wanted: Use,
-) -> Finding
-    requires { ⌜ (slots ≤ 1024) × Has slots object × (client < 16) × (partWords slots ≤ length (now part) / 8) ⌝ }
-    ensures { λ r. ⌜ r ≡ checked object inner mark client wanted (mem places (server-block slots) (view (now (part .entry)))) ⌝ }
+// Is an object still as it was read, with this mark? Its lock is not looked at.
+pub fn compare(part: &[u8], slots: usize, object: Object, inner: bool, mark: u64) -> Finding
+    requires { ⌜ (slots ≤ 1024) × Has slots object × (partWords slots ≤ length (now part) / 8) ⌝ }
+    ensures { λ r. ⌜ r ≡ mark-finding object (standing object inner (mem places (server-block slots) (view (now (part .entry))))) mark ⌝ }
 {
-    if is_busy(part, slots, object, client, wanted) {
-        return Finding::Busy;
-    }
     mark_finding(object, stands(part, slots, object, inner), mark)
 }

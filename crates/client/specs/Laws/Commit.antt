@@ -1,20 +1,24 @@
 -- The ways out of the functions on a commit.
-use mathlib.Core.Path.{_≡_, refl, sym, ap, _∙_}
-use mathlib.Core.Bool.{Bool, true, false, not, _||_}
+use mathlib.Core.Path.{_≡_, refl, sym, ap, _∙_, fun-ext}
+use mathlib.Core.Bool.{Bool, true, false, true≢false, cond, not, _||_}
 use Prim.Native.Nat.{ℕ, zero, suc, _+_, _-_, _≤_, _<_}
+use native.Mathlib.Decide.{decLt}
 use native.Mathlib.Omega.{arith}
 use native.Mathlib.Numerals.{add-one}
 use borrow.Author.Tests.{eq-eqb, ne-eqb, le-leb, lt-leb, not-true, not-false}
-use lib.Dec.{eqb}
+use lib.Dec.{eqb, leb}
 use Rattle.memory.specs.Bit.{putBit}
+use Rattle.memory.specs.Laws.Bit.{put-twice, put-swap, put-none}
+use Rattle.nodes.specs.Name.{server-of}
 use Rattle.nodes.specs.declared.node.Node.{Node}
 use Rattle.client.specs.declared.part.Set.{Set}
 use Rattle.client.specs.declared.part.Set.the-variants.{Reads, Writes}
 use Rattle.client.specs.Layout.{ClientWord, item}
+use Rattle.client.specs.Record.{by-number}
 use Rattle.client.specs.Sets.{count, number-at, record-at}
 use Rattle.client.specs.Commit.{inner-at}
 use Rattle.client.specs.Items.{all-below, any-below, inner, inner-before-after}
-use Rattle.client.specs.Participants.{mask, at-home, calls-home, calls-all, takes-part, participants-of}
+use Rattle.client.specs.Participants.{mask, at-home, calls-home, calls-all, called-homes, participants-of}
 
 -- ---- all below a number
 pub record Sofar (f : ℕ → Bool) (n i : ℕ) : Type 0 where
@@ -85,46 +89,107 @@ module _ (f : ℕ → Bool) where
   pub any-absent : (i n : ℕ) → i ≤ n → n ≤ i → any-below i f ≡ false → false ≡ any-below n f
   any-absent i n l g h = let e : n ≡ i = omega arith in sym (rw e h)
 
+-- ---- a set of servers with one more
+mask-none : (n : ℕ) → mask n (λ s. false) ≡ 0
+unfolding mask
+mask-none zero = refl
+mask-none (suc n) = rw (mask-none n) (put-none n)
+
+or-false : (b : Bool) → (b || false) ≡ b
+or-false true = refl
+or-false false = refl
+
+or-true : (b : Bool) → (b || true) ≡ true
+or-true true = refl
+or-true false = refl
+
+mask-out : (f : ℕ → Bool) (h n : ℕ) → n ≤ h → mask n (λ s. f s || eqb h s) ≡ mask n f
+unfolding mask
+mask-out f h zero l = refl
+mask-out f h (suc n) l = rw (mask-out f h n (omega arith), ne-eqb h n (λ e. omega arith), or-false (f n))
+
+mask-in : (f : ℕ → Bool) (h n : ℕ) → h < n → mask n (λ s. f s || eqb h s) ≡ putBit true (mask n f) h
+unfolding mask
+mask-in f h zero l = absurd (omega arith)
+mask-in f h (suc n) l = go (decLt h n) (λ p. mask-in f h n p)
+  where
+    go : Dec (h < n) → (h < n → mask n (λ s. f s || eqb h s) ≡ putBit true (mask n f) h)
+        → putBit (f n || eqb h n) (mask n (λ s. f s || eqb h s)) n ≡ putBit true (putBit (f n) (mask n f) n) h
+    go (yes p) more =
+        rw (more p, ne-eqb h n (λ e. omega arith), or-false (f n)) (put-swap (f n) true (mask n f) h n (λ e. omega arith))
+    go (no q) more =
+        let e : h ≡ n = omega arith in
+        rw (mask-out f h n (omega arith), eq-eqb h n e, or-true (f n), e) (sym (put-twice true (f n) (mask n f) n))
+
 -- ---- who takes part
-pub with-all : (all b : Bool) → all ≡ true → true ≡ (all || b)
-with-all all b e = sym (rw e)
-
-pub by-home : (all b r : Bool) → all ≡ false → r ≡ b → r ≡ (all || b)
-by-home all b r e h = h ∙ sym (rw e)
-
-pub is-marked : (w i r : ℕ) (b t : Bool) → b ≡ t → r ≡ putBit t w i → r ≡ putBit b w i
-is-marked w i r b t e h = h ∙ sym (rw e)
-
 pub one-calls : (n : ℕ) (r : Bool) (f : ℕ → Bool) (k : ℕ) → n ≡ k → r ≡ any-below n f → r ≡ any-below k f
 one-calls n r f k e h = h ∙ rw e
+
+-- the home of an object that is not inner
+at-home-by : (s x h : ℕ) (n : Node) → h ≡ by-number x 0 server-of server-of → inner x n ≡ false → at-home s x ≡ eqb h s
+unfolding at-home inner
+at-home-by s x h n p e = go (eqb x 0) (leb x 8192) e p
+  where
+    go : (t l : Bool) → cond t true (cond l (eqb (n .kind) 2) false) ≡ false → h ≡ cond t 0 (cond l (server-of (x - 1)) (server-of (x - 8193)))
+        → cond t true (cond l (eqb (server-of (x - 1)) s) (eqb (server-of (x - 8193)) s)) ≡ eqb h s
+    go true l e q = absurd (true≢false e)
+    go false true e q = rw q
+    go false false e q = rw q
 
 module _ (m : ClientWord → ℕ) where
   pub all-called : (i x : ℕ) (r : Bool) → x ≡ number-at m Writes i → r ≡ inner-before-after m x → r ≡ calls-all m i
   all-called i x r e h = h ∙ ap (inner-before-after m) e
 
-  module _ (s i x : ℕ) (n : Node) (b : Bool) (e : x ≡ number-at m Reads i) (q : n ≡ record-at m Reads i) (h : b ≡ inner x n) where
+  -- the homes called by the first i read items, and by the next
+  module _ (n i x w : ℕ) (r : Node) (b : Bool) (before : w ≡ called-homes m n i) (e : x ≡ number-at m Reads i) (q : r ≡ record-at m Reads i) (k : b ≡ inner x r) where
     same-inner : b ≡ inner (number-at m Reads i) (record-at m Reads i)
-    same-inner = h ∙ rw (e, q)
+    same-inner = k ∙ rw (e, q)
 
-    pub home-not-called : b ≡ true → false ≡ calls-home m s i
-    home-not-called t = sym (rw (← same-inner, t))
+    called-next : (f : ℕ → Bool) → ((s : ℕ) → calls-home m s i ≡ f s) → called-homes m n (i + 1) ≡ mask n (λ s. any-below i (calls-home m s) || f s)
+    unfolding any-below
+    called-next f c = ap (mask n) (fun-ext (λ s. rw (add-one i, c s)))
 
-    pub home-called : (r : Bool) → b ≡ false → r ≡ at-home s x → r ≡ calls-home m s i
-    home-called r t p = p ∙ ap (at-home s) e ∙ sym (rw (← same-inner, t))
+    pub home-inner : b ≡ true → w ≡ called-homes m n (i + 1)
+    home-inner t =
+        before ∙ sym (called-next (λ s. false) (λ s. rw (← same-inner, t)) ∙ ap (mask n) (fun-ext (λ s. or-false (any-below i (calls-home m s)))))
 
-  -- the servers below s
-  unfoldable pub taking : ℕ → ℕ
-  taking s = mask s (takes-part m)
+    module _ (h : ℕ) (t : b ≡ false) (p : h ≡ by-number x 0 server-of server-of) where
+      calls-it : (s : ℕ) → calls-home m s i ≡ eqb h s
+      calls-it s = rw (← same-inner, t, ← e) (at-home-by s x h r p (sym k ∙ t))
 
-  pub taking-none : 0 ≡ taking 0
-  unfolding taking mask
-  taking-none = refl
+      pub home-added : (y : ℕ) → h < n → y ≡ putBit true w h → y ≡ called-homes m n (i + 1)
+      home-added y l z = z ∙ rw before (sym (called-next (eqb h) calls-it ∙ mask-in (λ s. any-below i (calls-home m s)) h n l))
 
-  pub taking-next : (s w w′ : ℕ) (all b : Bool) → b ≡ (all || any-below (count m Reads) (calls-home m s)) → w′ ≡ putBit b w s
-      → w ≡ taking s → all ≡ any-below (count m Writes) (calls-all m) → w′ ≡ taking (s + 1)
-  unfolding taking mask
-  taking-next s w w′ all b h p e a = p ∙ rw (h, a, e, add-one s)
+      pub home-outside : n ≤ h → w ≡ called-homes m n (i + 1)
+      home-outside l = before ∙ sym (called-next (eqb h) calls-it ∙ mask-out (λ s. any-below i (calls-home m s)) h n l)
 
-  pub taking-all : (s n w : ℕ) → s ≤ n → n ≤ s → w ≡ taking s → w ≡ participants-of m n
-  unfolding taking participants-of
-  taking-all s n w l g e = let q : s ≡ n = omega arith in e ∙ rw q
+  pub homes-none : (n : ℕ) → 0 ≡ called-homes m n 0
+  unfolding any-below
+  homes-none n = sym (mask-none n)
+
+  pub homes-all : (n i k w : ℕ) → i ≤ k → k ≤ i → k ≡ count m Reads → w ≡ called-homes m n i → w ≡ called-homes m n (count m Reads)
+  homes-all n i k w l g e h = let q : i ≡ count m Reads = omega arith in h ∙ rw q
+
+  module _ (all : Bool) (n w : ℕ) (a : all ≡ any-below (count m Writes) (calls-all m)) where
+    abbrev by-all : Bool → ℕ
+    by-all b = mask n (λ s. b || any-below (count m Reads) (calls-home m s))
+
+    pub taking-all : all ≡ true → w ≡ mask n (λ s. true) → w ≡ participants-of m n
+    unfolding participants-of
+    taking-all t h = h ∙ ap by-all (sym t ∙ a)
+
+    pub taking-homes : all ≡ false → w ≡ called-homes m n (count m Reads) → w ≡ participants-of m n
+    unfolding participants-of
+    taking-homes t h = h ∙ ap by-all (sym t ∙ a)
+
+-- the servers below s
+pub servers-none : 0 ≡ mask 0 (λ s. true)
+unfolding mask
+servers-none = refl
+
+pub servers-next : (s w v : ℕ) → w ≡ mask s (λ s. true) → v ≡ putBit true w s → v ≡ mask (s + 1) (λ s. true)
+unfolding mask
+servers-next s w v e h = h ∙ rw (add-one s, e)
+
+pub servers-all : (s n w : ℕ) → s ≤ n → n ≤ s → w ≡ mask s (λ s. true) → w ≡ mask n (λ s. true)
+servers-all s n w l g e = let q : s ≡ n = omega arith in e ∙ rw q

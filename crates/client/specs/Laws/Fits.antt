@@ -6,6 +6,7 @@ use native.Mathlib.Omega.{arith}
 use borrow.Author.Tests.{eq-eqb, ne-eqb, le-leb, lt-leb, lt-ltb, le-ltb, not-true, not-false}
 use lib.Dec.{eqb, leb, ltb}
 use lib.Pow.{pow-lt}
+use Rattle.base.specs.Test.{and-both}
 use Rattle.operations.specs.Slot.{TreeSizes}
 use Rattle.nodes.specs.declared.node.Node.{Node}
 use Rattle.client.specs.declared.part.Set.{Set}
@@ -20,6 +21,10 @@ use Rattle.client.specs.Items.{all-below, has, inner, inner-before-after
 use Rattle.client.specs.Participants.{at-home}
 use Rattle.client.specs.Drops.{version-of}
 use Rattle.client.specs.Fits.{said-count, kind-fits, is-read, young, stored-at, read-fits, version-fits, servers-fit, number-fits, numbers-fit, op-fits, fit-to-work, fit-to-commit, fit-to-prepare, fit-to-abort, fit-to-unlock, stored-record-fits, write-fits, writes-fit, flag-renewal-fits, inner-renewal-fits, renewal-fits, fit-to-renew, fit-to-apply}
+
+and-more : (a b : Bool) → ((a && true) && b) ≡ (a && b)
+and-more true b = refl
+and-more false b = refl
 
 -- ---- one test, and then another
 module _ (a b c : Bool) (p : c ≡ a) where
@@ -321,6 +326,27 @@ module _ (z : TreeSizes) (m : ClientWord → ℕ) where
             unfolding fit-to-apply
             apply-first a = rw (← p, not-false b t, ← q, not-false c u, ← f, not-false d v, ← h, not-false g w, a)
 
+  -- the last apply, after a prepare that was fit
+  module _ (s : ℕ) (f : fit-to-prepare z m ≡ true) where
+    pub left-to-apply : (servers-fit m (z .servers) (field 7) && (writes-fit z m s && fit-to-renew z m)) ≡ fit-to-apply z m s true
+    unfolding fit-to-apply fit-to-prepare fit-to-unlock
+    left-to-apply =
+        let h = and-both (servers-fit m (z .servers) (field 5) && servers-fit m (z .servers) (field 6)) (numbers-fit z m Reads && numbers-fit z m Writes) f in
+        let p = and-both (servers-fit m (z .servers) (field 5)) (servers-fit m (z .servers) (field 6)) (h .0) in
+        let n = and-both (numbers-fit z m Reads) (numbers-fit z m Writes) (h .1) in
+        sym (rw (p .0, n .0, n .1) (and-more (servers-fit m (z .servers) (field 7)) (writes-fit z m s && fit-to-renew z m)))
+
+    module _ (b : Bool) (p : b ≡ servers-fit m (z .servers) (field 7)) where
+      pub too-astray : not b ≡ true → false ≡ fit-to-apply z m s true
+      too-astray t = first-fails (servers-fit m (z .servers) (field 7)) (writes-fit z m s && fit-to-renew z m) b p t ∙ left-to-apply
+
+      module _ (c : Bool) (t : not b ≡ false) (q : c ≡ writes-fit z m s) where
+        pub too-no-writes : not c ≡ true → false ≡ fit-to-apply z m s true
+        too-no-writes u = second-says (servers-fit m (z .servers) (field 7)) (writes-fit z m s && fit-to-renew z m) b p false t (first-fails (writes-fit z m s) (fit-to-renew z m) c q u) ∙ left-to-apply
+
+        pub too-by-renewal : (r : Bool) → not c ≡ false → r ≡ fit-to-renew z m → r ≡ fit-to-apply z m s true
+        too-by-renewal r u k = second-says (servers-fit m (z .servers) (field 7)) (writes-fit z m s && fit-to-renew z m) b p r t (second-says (writes-fit z m s) (fit-to-renew z m) c q r u k) ∙ left-to-apply
+
 pub ruleset rule-exits = (
   first-fails,
   second-says,
@@ -350,6 +376,9 @@ pub ruleset rule-exits = (
   apply-no-writes,
   apply-last,
   apply-first,
+  too-astray,
+  too-no-writes,
+  too-by-renewal,
 )
 
 pub ruleset fit-exits = (

@@ -1,6 +1,6 @@
 -- Laws of a fetch's check: "A fetch checks at that server what the transaction has read".
 use mathlib.Core.Path.{_≡_, refl, sym, ap, ap₂, _∙_, subst}
-use mathlib.Core.Bool.{Bool, true, false, not}
+use mathlib.Core.Bool.{Bool, true, false, cond, not}
 use mathlib.Core.List.{List, [], _∷_, _++_, map, append-assoc, append-nil}
 use mathlib.Core.Option.{Option}
 use Prim.Native.Nat.{ℕ, zero, suc, _+_, _-_, _*_, _≤_, _<_}
@@ -12,8 +12,10 @@ use lib.Seq.{getD-take, getD-drop}
 use Rattle.memory.specs.Word.{view}
 use Rattle.server.specs.declared.object.Object.{Object}
 use Rattle.server.specs.declared.lock.Use.the-variants.{Fetch}
-use Rattle.server.specs.Object.{object-of, Has}
-use Rattle.server.specs.Check.{can-check, checked, held, finding-number}
+use Rattle.server.specs.declared.check.Finding.{Finding}
+use Rattle.server.specs.declared.check.Finding.the-variants.{Busy}
+use Rattle.server.specs.Object.{object-of, lock-of, Has}
+use Rattle.server.specs.Check.{can-check, standing, mark-finding, checked, held, finding-number}
 use Rattle.client.specs.declared.answer.Look.{Look}
 use Rattle.client.specs.declared.part.Set.the-variants.{Reads}
 use Rattle.client.specs.Layout.{ClientWord, reads-count}
@@ -22,17 +24,18 @@ use Rattle.client.specs.Have.{copied}
 use Rattle.client.specs.Lent.{InUse, used-in}
 use Rattle.client.specs.Laws.Lent.{length-used}
 use Rattle.steps.specs.declared.sizes.Sizes.{Sizes}
+use Rattle.kinds.specs.declared.fetch.Verdict.{Verdict}
 use Rattle.kinds.specs.declared.fetch.Verdict.the-variants.{Unfit, Fault, Clear}
-use Rattle.steps.specs.Whole.{client-at}
+use Rattle.steps.specs.Whole.{server, client-at}
 use Rattle.steps.specs.Uses.{Item, each, item-of, read-items, used-items, least, reason-of, deciding}
 use Rattle.steps.specs.Judge.{lock-fits}
 use Rattle.kinds.specs.Parts.{Store-in, stored-in}
 use Rattle.kinds.specs.Laws.Parts.{client-lent}
 use Rattle.kinds.specs.Items.{as-item, read-item}
 use Rattle.kinds.specs.Judge.{of-client, of-server}
-use Rattle.kinds.specs.Findings.{fault, as-fault, later}
-use Rattle.kinds.specs.Laws.Findings.{reason-again, least-upto, least-first, least-next}
-use Rattle.kinds.specs.Fetch.{used-item, known-at, AllKnown, fetch-fault, items-found, verdict-of, gate-of}
+use Rattle.kinds.specs.Findings.{fault, as-fault, later, word-reason, compared-at}
+use Rattle.kinds.specs.Laws.Findings.{by-lock, settled, unsettled, by-word, zero-reason, reason-again, least-upto, least-first, least-next}
+use Rattle.kinds.specs.Fetch.{used-item, known-at, AllKnown, fetch-fault, items-found, verdict-of, room-of, gate-of}
 use Rattle.client.specs.Sets as sets
 use Rattle.kinds.specs.declared.items.Item as code
 use Rattle.kinds.specs.declared.findings.Fault as code-fault
@@ -117,19 +120,41 @@ module _ (z : Sizes) (w : List ℕ) (c s : ℕ) (i : code.Item) where
     unfolding fetch-fault
     fault-elsewhere t = sym (rw (not-false (i .known) r, ← po, ← pb, not-true b t))
 
-    module _ (t : not b ≡ false) (a : Bool) (pa : a ≡ lock-fits z (stored-in z w) s (i .number)) where
+    module _ (t : not b ≡ false) (v : ℕ) (e : v ≡ stored-in z w (server s (lock-of (object-of (i .number))))) where
       can : can-check s (object-of (i .number)) (i .inner) ≡ true
       can = ap (λ (x : Object). can-check s x (i .inner)) (sym po) ∙ sym pb ∙ not-false b t
 
-      pub fault-unlocked : not a ≡ true → 10 ≡ fetch-fault z w c s (as-item i)
-      unfolding fetch-fault
-      fault-unlocked u = sym (rw (not-false (i .known) r, can, ← pa, not-true a u))
+      abbrev fits : Bool
+      fits = lock-fits z (stored-in z w) s (i .number)
 
-      pub fault-checked : (y : ℕ) → not a ≡ false → y ≡ finding-number (checked (object-of (i .number)) (i .inner) (i .mark) c Fetch (of-server z w s)) → y ≡ fetch-fault z w c s (as-item i)
-      unfolding fetch-fault
-      fault-checked y u q = q ∙ sym (rw (not-false (i .known) r, can, ← pa, not-false a u))
+      abbrev busy : Bool
+      busy = held (object-of (i .number)) c Fetch (of-server z w s)
 
-pub ruleset fetch-items-exits = (used-lent, used-by, known-there, known-copy, copy-small, fault-unkind, fault-elsewhere, fault-unlocked, fault-checked)
+      abbrev marks : Finding
+      marks = mark-finding (object-of (i .number)) (standing (object-of (i .number)) (i .inner) (of-server z w s)) (i .mark)
+
+      of-lock : word-reason z w c (i .number) v Fetch ≡ by-lock fits busy
+      of-lock = by-word z w c s (i .number) v Fetch e
+
+      at-fault : cond fits (cond true (finding-number (cond busy Busy marks)) (cond busy 2 0)) 10 ≡ fetch-fault z w c s (as-item i)
+      unfolding fetch-fault checked
+      at-fault = sym (rw (not-false (i .known) r, can))
+
+      after-lock : (y : ℕ) → 0 ≡ word-reason z w c (i .number) v Fetch → y ≡ compared-at z w s (as-item i) → y ≡ fetch-fault z w c s (as-item i)
+      unfolding compared-at
+      after-lock y g q = q ∙ settled fits busy true marks (sym of-lock ∙ sym g) ∙ at-fault
+
+      pub fault-free : (y : ℕ) → v ≡ 0 → y ≡ compared-at z w s (as-item i) → y ≡ fetch-fault z w c s (as-item i)
+      fault-free y h q = after-lock y (zero-reason z w c s (i .number) v Fetch e h) q
+
+      module _ (k : ℕ) (p : k ≡ word-reason z w c (i .number) v Fetch) where
+        pub fault-open : (y : ℕ) → k ≡ 0 → y ≡ compared-at z w s (as-item i) → y ≡ fetch-fault z w c s (as-item i)
+        fault-open y h q = after-lock y (sym h ∙ p) q
+
+        pub fault-held : ¬ (k ≡ 0) → k ≡ fetch-fault z w c s (as-item i)
+        fault-held d = let g : k ≡ by-lock fits busy = p ∙ of-lock in g ∙ unsettled fits busy true marks (λ h. d (g ∙ h)) ∙ at-fault
+
+pub ruleset fetch-items-exits = (used-lent, used-by, known-there, known-copy, copy-small, fault-unkind, fault-elsewhere, fault-free, fault-open, fault-held)
 
 -- ---- over all objects read, one after another
 module _ (z : Sizes) (w : List ℕ) (c s : ℕ) (u : List ℕ) where
@@ -178,23 +203,56 @@ module _ (x y : ℕ) (q : x ≡ y) where
     pub verdict-fault : (x ≡ 10 → ⊥) → Fault x ≡ verdict-of y
     verdict-fault h = rw (← q, ne-eqb x 0 d, ne-eqb x 10 h)
 
-module _ (z : Sizes) (w : List ℕ) (c s x : ℕ) (u : List ℕ) (b : Bool) (e : b ≡ lock-fits z (stored-in z w) s x) where
-  pub gate-unfit : b ≡ false → Unfit ≡ gate-of z w c s x (used-in u)
+module _ (z : Sizes) (w : List ℕ) (c : ℕ) (u : List ℕ) (f : InUse u) (r : ℕ) (pr : r ≡ of-client z w c reads-count) where
+  pub room-full : 96 ≤ r + getD u 0 0 → Fault 4 ≡ room-of z w c (used-in u)
+  room-full l = rw (← pr, length-used u f, le-leb 96 (r + getD u 0 0) l)
+
+  pub room-left : r + getD u 0 0 < 96 → Clear ≡ room-of z w c (used-in u)
+  room-left l = rw (← pr, length-used u f, lt-leb 96 (r + getD u 0 0) l)
+
+-- a lock and who holds it, as a reason and as a verdict
+gate-open : (fits held : Bool) (y : Verdict) → by-lock fits held ≡ 0 → y ≡ cond fits (cond held (Fault 2) y) Unfit
+gate-open true true y e = absurd (let z : 2 ≡ 0 = e in omega arith)
+gate-open true false y e = refl
+gate-open false held y e = absurd (let z : 10 ≡ 0 = e in omega arith)
+
+gate-shut : (fits held : Bool) (y : Verdict) → by-lock fits held ≡ 10 → Unfit ≡ cond fits (cond held (Fault 2) y) Unfit
+gate-shut true true y e = absurd (let z : 2 ≡ 10 = e in omega arith)
+gate-shut true false y e = absurd (let z : 0 ≡ 10 = e in omega arith)
+gate-shut false held y e = refl
+
+gate-held : (fits held : Bool) (y : Verdict) → ¬ (by-lock fits held ≡ 0) → ¬ (by-lock fits held ≡ 10) → Fault 2 ≡ cond fits (cond held (Fault 2) y) Unfit
+gate-held true true y d n = refl
+gate-held true false y d n = absurd (d refl)
+gate-held false held y d n = absurd (n refl)
+
+module _ (z : Sizes) (w : List ℕ) (c s x : ℕ) (us : List ℕ) (v : ℕ) (e : v ≡ stored-in z w (server s (lock-of (object-of x)))) where
+  abbrev lock-there : Bool
+  lock-there = lock-fits z (stored-in z w) s x
+
+  abbrev lock-held : Bool
+  lock-held = held (object-of x) c Fetch (of-server z w s)
+
+  gate-after : (y : Verdict) → 0 ≡ word-reason z w c x v Fetch → y ≡ room-of z w c us → y ≡ gate-of z w c s x us
   unfolding gate-of
-  gate-unfit t = rw (← e, t)
+  gate-after y o q = q ∙ gate-open lock-there lock-held (room-of z w c us) (sym (by-word z w c s x v Fetch e) ∙ sym o)
 
-  module _ (t : b ≡ true) (h : Bool) (p : h ≡ held (object-of x) c Fetch (of-server z w s)) where
-    pub gate-busy : h ≡ true → Fault 2 ≡ gate-of z w c s x (used-in u)
+  pub gate-free : (y : Verdict) → v ≡ 0 → y ≡ room-of z w c us → y ≡ gate-of z w c s x us
+  gate-free y h q = gate-after y (zero-reason z w c s x v Fetch e h) q
+
+  module _ (k : ℕ) (o : k ≡ word-reason z w c x v Fetch) where
+    of-gate : k ≡ by-lock lock-there lock-held
+    of-gate = o ∙ by-word z w c s x v Fetch e
+
+    pub gate-passed : (y : Verdict) → k ≡ 0 → y ≡ room-of z w c us → y ≡ gate-of z w c s x us
+    gate-passed y h q = gate-after y (sym h ∙ o) q
+
+    pub gate-unfit : k ≡ 10 → Unfit ≡ gate-of z w c s x us
     unfolding gate-of
-    gate-busy q = rw (← e, t, ← p, q)
+    gate-unfit h = gate-shut lock-there lock-held (room-of z w c us) (sym of-gate ∙ h)
 
-    module _ (q : h ≡ false) (f : InUse u) (r : ℕ) (pr : r ≡ of-client z w c reads-count) where
-      pub gate-full : 96 ≤ r + getD u 0 0 → Fault 4 ≡ gate-of z w c s x (used-in u)
-      unfolding gate-of
-      gate-full l = rw (← e, t, ← p, q, ← pr, length-used u f, le-leb 96 (r + getD u 0 0) l)
+    pub gate-busy : ¬ (k ≡ 0) → ¬ (k ≡ 10) → Fault 2 ≡ gate-of z w c s x us
+    unfolding gate-of
+    gate-busy d n = gate-held lock-there lock-held (room-of z w c us) (λ h. d (of-gate ∙ h)) (λ h. n (of-gate ∙ h))
 
-      pub gate-clear : r + getD u 0 0 < 96 → Clear ≡ gate-of z w c s x (used-in u)
-      unfolding gate-of
-      gate-clear l = rw (← e, t, ← p, q, ← pr, length-used u f, lt-leb 96 (r + getD u 0 0) l)
-
-pub ruleset verdicts = (verdict-unfit, verdict-clear, verdict-fault, gate-unfit, gate-busy, gate-full, gate-clear)
+pub ruleset verdicts = (verdict-unfit, verdict-clear, verdict-fault, room-full, room-left, gate-free, gate-passed, gate-unfit, gate-busy)

@@ -1,9 +1,9 @@
 -- Laws of the findings' code: "in the order metadata, nodes by name, flags by name".
 use mathlib.Core.Path.{_≡_, refl, sym, ap, _∙_}
-use mathlib.Core.Bool.{Bool, true, false, cond, not}
+use mathlib.Core.Bool.{Bool, true, false, cond, not, _&&_, _||_}
 use mathlib.Core.List.{List, [], _∷_, _++_, map}
 use mathlib.Core.Option.{Option, none, some}
-use Prim.Native.Nat.{ℕ, _+_, _-_, _*_, _≤_, _<_}
+use Prim.Native.Nat.{ℕ, zero, suc, _+_, _-_, _*_, _≤_, _<_}
 use native.Mathlib.Omega.{arith}
 use native.Mathlib.Numerals.{add-one}
 use borrow.Author.Tests.{eq-eqb, ne-eqb, le-leb, lt-leb, leb-true, leb-false, eqb-true, not-true, not-false}
@@ -11,25 +11,33 @@ use borrow.Rule.Slice.PartMut.{midOf}
 use lib.Dec.{eqb, leb}
 use lib.ListN.{length}
 use Rattle.memory.specs.Word.{view}
+use Rattle.memory.specs.Bit.{bit}
+use Rattle.memory.specs.Laws.Bit.{zero-bit, put-none}
 use Rattle.layout.specs.Space.{mem}
 use Rattle.server.specs.declared.check.Finding.{Finding}
+use Rattle.server.specs.declared.check.Finding.the-variants.{Busy}
 use Rattle.server.specs.declared.lock.Use.{Use}
+use Rattle.server.specs.declared.lock.Use.the-variants.{Fetch, Read, Write}
 use Rattle.server.specs.declared.object.Object.{Object}
 use Rattle.server.specs.declared.place.Place.{Place}
-use Rattle.server.specs.Object.{object-of}
-use Rattle.server.specs.Check.{checked, held, finding-number}
+use Rattle.server.specs.Object.{object-of, lock-of}
+use Rattle.server.specs.Lock.{busy}
+use Rattle.server.specs.Laws.Lock.{free-range}
+use Rattle.server.specs.Check.{standing, mark-finding, checked, held, finding-number}
 use Rattle.client.specs.declared.part.Set.the-variants.{Reads}
 use Rattle.client.specs.Sets.{count}
+use Rattle.client.specs.Items.{all-below}
 use Rattle.steps.specs.declared.sizes.Sizes.{Sizes}
 use Rattle.kinds.specs.declared.findings.Fault.{Fault}
-use Rattle.steps.specs.Whole.{server-at}
+use Rattle.steps.specs.Whole.{server, server-at}
 use Rattle.steps.specs.Uses.{Item, each, read-items, use-of, checked-at, locked-at, lesser, least, reason-of, deciding}
-use Rattle.steps.specs.Judge.{lock-fits, lowest-participant}
+use Rattle.steps.specs.Judge.{has-transaction, holders-fit, lock-fits, lowest-participant}
 use Rattle.kinds.specs.Parts.{Store-in, stored-in}
 use Rattle.kinds.specs.Laws.Parts.{server-lent}
 use Rattle.kinds.specs.Items.{as-item, read-item}
-use Rattle.kinds.specs.Judge.{of-client, of-server}
-use Rattle.kinds.specs.Findings.{fault, as-fault, or-later, later, prepare-reason, prepare-fault, prepare-found}
+use Rattle.kinds.specs.Judge.{of-client, of-server, word-fits}
+use Rattle.kinds.specs.Laws.Items.{locked-by}
+use Rattle.kinds.specs.Findings.{fault, as-fault, or-later, later, word-reason, compared-at, mark-reason, prepare-reason, prepare-fault, prepare-found}
 use Rattle.server.specs.Layout as Srv
 use Rattle.kinds.specs.declared.items.Item as code
 
@@ -85,39 +93,108 @@ module _ (f g : Fault) where
       unfolding later
       second-least h = rw (ne-eqb (g .reason) 0 d, ne-eqb (f .reason) 0 c, lt-leb (f .number) (g .number) h)
 
--- ---- parts lent to be read
-module _ (z : Sizes) (b : List ℕ) (l : Store-in z (length b)) (s k : ℕ) (h : s < z .servers) (e : k ≡ server-at z s) (o : Object) (c : ℕ) (u : Use) where
-  pub check-lent : (i : code.Item) (f : Finding) (r : ℕ) → o ≡ object-of (i .number)
-      → f ≡ checked o (i .inner) (i .mark) c u (mem Srv.places (Srv.server-block (z .slots)) (view (midOf (8 * k) (length b - 8 * k) b))) → r ≡ finding-number f
-      → r ≡ finding-number (checked (object-of (i .number)) (i .inner) (i .mark) c u (of-server z (view b) s))
-  check-lent i f r p q t =
-      t ∙ ap finding-number (q ∙ ap (λ (m : Place → ℕ). checked o (i .inner) (i .mark) c u m) (server-lent z s k b h e (l .room))) ∙ rw p
+-- ---- a mark compared, in the part lent to be read
+pub compared-lent : (z : Sizes) (b : List ℕ) (s k : ℕ) (o : Object) (i : code.Item) (f : Finding) (r : ℕ) → Store-in z (length b) → s < z .servers → k ≡ server-at z s
+    → o ≡ object-of (i .number)
+    → f ≡ mark-finding o (standing o (i .inner) (mem Srv.places (Srv.server-block (z .slots)) (view (midOf (8 * k) (length b - 8 * k) b)))) (i .mark)
+    → r ≡ finding-number f → r ≡ compared-at z (view b) s (as-item i)
+unfolding compared-at
+compared-lent z b s k o i f r l h e p q t =
+    t ∙ ap finding-number (q ∙ ap (λ (m : Place → ℕ). mark-finding o (standing o (i .inner) m) (i .mark)) (server-lent z s k b h e (l .room))) ∙ rw p
 
-  pub held-lent : (x : ℕ) (r : Bool) → o ≡ object-of x → r ≡ held o c u (mem Srv.places (Srv.server-block (z .slots)) (view (midOf (8 * k) (length b - 8 * k) b)))
-      → r ≡ held (object-of x) c u (of-server z (view b) s)
-  held-lent x r p q = q ∙ ap (λ (m : Place → ℕ). held o c u m) (server-lent z s k b h e (l .room)) ∙ rw p
+module _ (z : Sizes) (w : List ℕ) (s : ℕ) (b : Bool) (i : code.Item) where
+  pub mark-checked : (r : ℕ) → b ≡ true → r ≡ compared-at z w s (as-item i) → r ≡ mark-reason z w s b (as-item i)
+  unfolding mark-reason
+  mark-checked r t q = q ∙ sym (rw t)
+
+  pub mark-none : b ≡ false → 0 ≡ mark-reason z w s b (as-item i)
+  unfolding mark-reason
+  mark-none t = sym (rw t)
+
+-- ---- the word of a lock
+module _ (z : Sizes) (w : List ℕ) (c x v : ℕ) (u : Use) (a : Bool) (p : a ≡ word-fits z w x v) where
+  pub word-unfit : not a ≡ true → 10 ≡ word-reason z w c x v u
+  unfolding word-reason
+  word-unfit n = sym (rw (← p, not-true a n))
+
+  module _ (n : not a ≡ false) (h : Bool) (q : h ≡ busy u c v) where
+    pub word-busy : h ≡ true → 2 ≡ word-reason z w c x v u
+    unfolding word-reason
+    word-busy t = sym (rw (← p, not-false a n, ← q, t))
+
+    pub word-free : h ≡ false → 0 ≡ word-reason z w c x v u
+    unfolding word-reason
+    word-free t = sym (rw (← p, not-false a n, ← q, t))
+
+-- a word that is 0 names nobody
+names-none : (f : ℕ → Bool) (n : ℕ) → all-below n (λ d. not (bit 0 d) || f d) ≡ true
+unfolding all-below
+names-none f zero = refl
+names-none f (suc n) = rw (names-none f n, zero-bit n)
+
+zero-fits : (z : Sizes) (w : List ℕ) (x : ℕ) → word-fits z w x 0 ≡ true
+unfolding word-fits holders-fit
+zero-fits z w x = rw (free-range (z .clients), names-none (has-transaction z (stored-in z w)) (z .clients))
+
+zero-free : (u : Use) (c : ℕ) → busy u c 0 ≡ false
+unfolding busy
+zero-free Fetch c = refl
+zero-free Read c = refl
+zero-free Write c = rw (put-none c)
+
+-- how a lock and who holds it come to a reason
+abbrev pub by-lock : Bool → Bool → ℕ
+by-lock fits held = cond fits (cond held 2 0) 10
+
+-- with what is found else
+pub settled : (fits held b : Bool) (f : Finding) → by-lock fits held ≡ 0
+    → cond b (finding-number f) 0 ≡ cond fits (cond b (finding-number (cond held Busy f)) (cond held 2 0)) 10
+settled true true b f e = absurd (let z : 2 ≡ 0 = e in omega arith)
+settled true false b f e = refl
+settled false held b f e = absurd (let z : 10 ≡ 0 = e in omega arith)
+
+pub unsettled : (fits held b : Bool) (f : Finding) → ¬ (by-lock fits held ≡ 0)
+    → by-lock fits held ≡ cond fits (cond b (finding-number (cond held Busy f)) (cond held 2 0)) 10
+unsettled true true true f d = refl
+unsettled true true false f d = refl
+unsettled true false b f d = absurd (d refl)
+unsettled false held b f d = refl
+
+module _ (z : Sizes) (w : List ℕ) (c s x v : ℕ) (u : Use) (e : v ≡ stored-in z w (server s (lock-of (object-of x)))) where
+  -- the same by the word and by the lock
+  pub by-word : word-reason z w c x v u ≡ by-lock (lock-fits z (stored-in z w) s x) (held (object-of x) c u (of-server z w s))
+  unfolding word-reason word-fits lock-fits held
+  by-word = rw e
+
+  pub zero-reason : v ≡ 0 → 0 ≡ word-reason z w c x v u
+  unfolding word-reason
+  zero-reason h = sym (rw (h, zero-fits z w x, zero-free u c))
 
 -- ---- the reason of an item
+module _ (z : Sizes) (w : List ℕ) (c s : ℕ) (b : Bool) (i : code.Item) (v : ℕ) (e : v ≡ stored-in z w (server s (lock-of (object-of (i .number))))) where
+  after-lock : (y : ℕ) → 0 ≡ word-reason z w c (i .number) v (use-of (as-item i)) → y ≡ mark-reason z w s b (as-item i) → y ≡ prepare-reason z w c s b (as-item i)
+  unfolding prepare-reason mark-reason compared-at checked
+  after-lock y o q =
+      q ∙ settled (lock-fits z (stored-in z w) s (i .number)) (held (object-of (i .number)) c (use-of (as-item i)) (of-server z w s)) b
+      (mark-finding (object-of (i .number)) (standing (object-of (i .number)) (i .inner) (of-server z w s)) (i .mark))
+      (sym (by-word z w c s (i .number) v (use-of (as-item i)) e) ∙ sym o)
+
+  pub reason-free : (y : ℕ) → v ≡ 0 → y ≡ mark-reason z w s b (as-item i) → y ≡ prepare-reason z w c s b (as-item i)
+  reason-free y h q = after-lock y (zero-reason z w c s (i .number) v (use-of (as-item i)) e h) q
+
+  module _ (u : Use) (r : ℕ) (p : u ≡ use-of (as-item i)) (o : r ≡ word-reason z w c (i .number) v u) where
+    pub reason-open : (y : ℕ) → r ≡ 0 → y ≡ mark-reason z w s b (as-item i) → y ≡ prepare-reason z w c s b (as-item i)
+    reason-open y h q = after-lock y (sym h ∙ o ∙ rw p) q
+
+    pub reason-held : ¬ (r ≡ 0) → r ≡ prepare-reason z w c s b (as-item i)
+    unfolding prepare-reason checked
+    reason-held d =
+        let k : r ≡ by-lock (lock-fits z (stored-in z w) s (i .number)) (held (object-of (i .number)) c (use-of (as-item i)) (of-server z w s)) =
+        o ∙ rw p (by-word z w c s (i .number) v (use-of (as-item i)) e) in
+        k ∙ unsettled (lock-fits z (stored-in z w) s (i .number)) (held (object-of (i .number)) c (use-of (as-item i)) (of-server z w s)) b
+        (mark-finding (object-of (i .number)) (standing (object-of (i .number)) (i .inner) (of-server z w s)) (i .mark)) (λ h. d (k ∙ h))
+
 module _ (z : Sizes) (w : List ℕ) (c s low : ℕ) (i : code.Item) where
-  module _ (a : Bool) (pa : a ≡ lock-fits z (stored-in z w) s (i .number)) where
-    pub reason-unfit : not a ≡ true → 10 ≡ prepare-reason z w c s low (as-item i)
-    unfolding prepare-reason
-    reason-unfit n = sym (rw (← pa, not-true a n))
-
-    module _ (n : not a ≡ false) (b : Bool) (u : Use) (e : b ≡ checked-at low s (as-item i)) (q : u ≡ use-of (as-item i)) where
-      pub reason-checked : (r : ℕ) → b ≡ true → r ≡ finding-number (checked (object-of (i .number)) (i .inner) (i .mark) c u (of-server z w s)) → r ≡ prepare-reason z w c s low (as-item i)
-      unfolding prepare-reason
-      reason-checked r t h = h ∙ rw q (sym (rw (← pa, not-false a n, ← e, t)))
-
-      module _ (d : Bool) (t : b ≡ false) (p : d ≡ held (object-of (i .number)) c u (of-server z w s)) where
-        pub reason-held : d ≡ true → 2 ≡ prepare-reason z w c s low (as-item i)
-        unfolding prepare-reason
-        reason-held h = sym (rw (← pa, not-false a n, ← e, t, ← q, ← p, h))
-
-        pub reason-none : d ≡ false → 0 ≡ prepare-reason z w c s low (as-item i)
-        unfolding prepare-reason
-        reason-none h = sym (rw (← pa, not-false a n, ← e, t, ← q, ← p, h))
-
   pub fault-read : not (i .known) ≡ true → 10 ≡ prepare-fault z w c s low (as-item i)
   unfolding prepare-fault
   fault-read t = sym (rw (not-true (i .known) t))
@@ -127,26 +204,32 @@ module _ (z : Sizes) (w : List ℕ) (c s low : ℕ) (i : code.Item) where
     unfolding prepare-fault
     fault-written t = sym (rw (not-false (i .known) r, not-true (i .settled) t))
 
-    module _ (n : not (i .settled) ≡ false) (b : Bool) (e : b ≡ locked-at low s (as-item i)) where
-      pub fault-locked : (y : ℕ) → b ≡ true → y ≡ prepare-reason z w c s low (as-item i) → y ≡ prepare-fault z w c s low (as-item i)
+    module _ (n : not (i .settled) ≡ false) (k b : Bool) (p : k ≡ checked-at low s (as-item i)) (e : b ≡ (k || (i .written && i .becomes))) where
+      locked-so : locked-at low s (as-item i) ≡ b
+      locked-so = sym (locked-by i low s k b p e)
+
+      pub fault-locked : (y : ℕ) → b ≡ true → y ≡ prepare-reason z w c s k (as-item i) → y ≡ prepare-fault z w c s low (as-item i)
       unfolding prepare-fault
-      fault-locked y t h = h ∙ sym (rw (← e, t, not-false (i .known) r, not-false (i .settled) n))
+      fault-locked y t h = h ∙ rw p (sym (rw (locked-so, t, not-false (i .known) r, not-false (i .settled) n)))
 
       pub fault-none : b ≡ false → 0 ≡ prepare-fault z w c s low (as-item i)
       unfolding prepare-fault
-      fault-none t = sym (rw (← e, t, not-false (i .known) r, not-false (i .settled) n))
+      fault-none t = sym (rw (locked-so, t, not-false (i .known) r, not-false (i .settled) n))
 
 pub ruleset finding-exits = (
   no-second,
   no-first,
   first-least,
   second-least,
-  check-lent,
-  held-lent,
-  reason-unfit,
-  reason-checked,
+  compared-lent,
+  mark-checked,
+  mark-none,
+  word-unfit,
+  word-busy,
+  word-free,
+  reason-free,
+  reason-open,
   reason-held,
-  reason-none,
   fault-read,
   fault-written,
   fault-locked,

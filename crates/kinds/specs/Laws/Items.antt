@@ -1,6 +1,6 @@
 -- Laws of the items' code.
 use mathlib.Core.Path.{_≡_, refl, sym, _∙_}
-use mathlib.Core.Bool.{Bool, true, false, cond}
+use mathlib.Core.Bool.{Bool, true, false, cond, _&&_, _||_}
 use Prim.Native.Nat.{ℕ, _≤_, _<_}
 use native.Mathlib.Omega.{arith}
 use borrow.Author.Tests.{eq-eqb, ne-eqb, le-leb, lt-leb}
@@ -66,18 +66,20 @@ module _ (i : code.Item) (low s : ℕ) where
   unfolding checked-at
   checked-home b e q = q ∙ sym (rw e)
 
-  module _ (b : Bool) (q : b ≡ checked-at low s (as-item i)) where
-    pub locked-checked : b ≡ true → true ≡ locked-at low s (as-item i)
-    unfolding locked-at
-    locked-checked t = sym (rw (← q, t))
+  pub locked-by : (b r : Bool) → b ≡ checked-at low s (as-item i) → r ≡ (b || (i .written && i .becomes)) → r ≡ locked-at low s (as-item i)
+  unfolding locked-at
+  locked-by b r q h = h ∙ rw q
 
-    pub locked-becoming : b ≡ false → i .written ≡ true → i .becomes ≡ locked-at low s (as-item i)
-    unfolding locked-at
-    locked-becoming t w = sym (rw (← q, t, w))
+-- an item that is checked there, or not, is written, and becomes inner
+module _ (b w k : Bool) where
+  pub locked-checked : b ≡ true → true ≡ (b || (w && k))
+  locked-checked t = sym (rw t)
 
-    pub locked-not : b ≡ false → i .written ≡ false → false ≡ locked-at low s (as-item i)
-    unfolding locked-at
-    locked-not t w = sym (rw (← q, t, w))
+  pub locked-becoming : b ≡ false → w ≡ true → k ≡ (b || (w && k))
+  locked-becoming t u = sym (rw (t, u))
+
+  pub locked-not : b ≡ false → w ≡ false → false ≡ (b || (w && k))
+  locked-not t u = sym (rw (t, u))
 
 pub ruleset item-exits = (
   written-there,
@@ -89,6 +91,7 @@ pub ruleset item-exits = (
   checked-lowest,
   checked-written,
   checked-home,
+  locked-by,
   locked-checked,
   locked-becoming,
   locked-not,

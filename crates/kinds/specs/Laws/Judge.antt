@@ -29,7 +29,7 @@ use Rattle.steps.specs.Judge.{has-transaction, writes, holders-fit, lock-fits}
 use Rattle.kinds.specs.Parts.{Store-in, stored-in}
 use Rattle.kinds.specs.Laws.Parts.{client-lent, server-lent}
 use Rattle.kinds.specs.Items.{read-item}
-use Rattle.kinds.specs.Judge.{of-client, reader-fits}
+use Rattle.kinds.specs.Judge.{of-client, reader-fits, word-fits}
 use Rattle.server.specs.Layout as Srv
 
 -- ---- objects of the store
@@ -130,14 +130,18 @@ module _ (z : Sizes) (w : List ℕ) where
   is-range n v b e t = sym e ∙ t
 
   -- ---- locks
-  module _ (s x v : ℕ) (b : Bool) (e : v ≡ stored-in z w (server s (lock-of (object-of x)))) (q : b ≡ lock-in-range (z .clients) v) where
-    pub lock-out : b ≡ false → false ≡ lock-fits z (stored-in z w) s x
-    unfolding lock-fits
-    lock-out t = sym (rw (← e, ← q, t))
+  module _ (x v : ℕ) (b : Bool) (q : b ≡ lock-in-range (z .clients) v) where
+    pub word-out : b ≡ false → false ≡ word-fits z w x v
+    unfolding word-fits
+    word-out t = sym (rw (← q, t))
 
-    pub lock-by : (r : Bool) → b ≡ true → r ≡ holders-fit z (stored-in z w) x v → r ≡ lock-fits z (stored-in z w) s x
-    unfolding lock-fits
-    lock-by r t p = p ∙ sym (rw (← e, ← q, t))
+    pub word-by : (r : Bool) → b ≡ true → r ≡ holders-fit z (stored-in z w) x v → r ≡ word-fits z w x v
+    unfolding word-fits
+    word-by r t p = p ∙ sym (rw (← q, t))
+
+  pub lock-by : (s x v : ℕ) (r : Bool) → v ≡ stored-in z w (server s (lock-of (object-of x))) → r ≡ word-fits z w x v → r ≡ lock-fits z (stored-in z w) s x
+  unfolding lock-fits word-fits
+  lock-by s x v r e q = q ∙ rw e
 
 pub ruleset judge-exits = (
   has-as,
@@ -156,7 +160,8 @@ pub ruleset judge-exits = (
   by-writer,
   a-client,
   is-range,
-  lock-out,
+  word-out,
+  word-by,
   lock-by,
 )
 

@@ -24,7 +24,7 @@ use Rattle.steps.specs.Laws.There.{in-store-has}
 use Rattle.kinds.specs.Parts.{Store-in, stored-in}
 use Rattle.kinds.specs.Laws.Parts.{client-lent}
 use Rattle.kinds.specs.Judge.{of-client}
-use Rattle.kinds.specs.Fits.{In-set, Known}
+use Rattle.kinds.specs.Fits.{In-set, Known, Fit-to-prepare}
 use Rattle.kinds.specs.Writes.{Storing}
 
 -- ---- a client's part lent to be read
@@ -58,6 +58,10 @@ module _ (z : Sizes) (b : List ℕ) (c k : ℕ) (r : Bool) (l : Store-in z (leng
   apply-lent s last q = q ∙ ap (λ (m : ClientWord → ℕ). fit-to-apply (tree-sizes z) m s last) same-part
 
 pub ruleset own-lent = (work-lent, commit-lent, prepare-lent, abort-lent, unlock-lent, apply-lent)
+
+pub prepare-back : (z : Sizes) (b : List ℕ) (c k : ℕ) → Store-in z (length b) → c < z .clients → k ≡ client-at z c
+    → Fit-to-prepare z b c → fit-to-prepare (tree-sizes z) (held (midOf (8 * k) (length b - 8 * k) b)) ≡ true
+prepare-back z b c k l h e f = ap (fit-to-prepare (tree-sizes z)) (same-part z b c k true l h e) ∙ f .fit
 
 -- ---- the objects of a set
 module _ (z : Sizes) (a : Allowed z) (m : ClientWord → ℕ) where
@@ -117,4 +121,7 @@ module _ (z : Sizes) (w : List ℕ) (c : ℕ) (a : Allowed z) where
   unfolding abort-fits fit-to-abort
   abort-judged b q e = known-by (and-both (servers-fit m (z .servers) prepared) (numbers-fit t m Reads) (and-both (fit-to-abort t m) _ (sym e ∙ q) .0) .1)
 
-pub ruleset knows = (prepare-known, abort-known, apply-known, apply-storing, abort-judged)
+pub fit-prepared : (z : Sizes) (b : List ℕ) (c : ℕ) (r : Bool) → not r ≡ false → r ≡ fit-to-prepare (tree-sizes z) (of-client z (view b) c) → Fit-to-prepare z b c
+fit-prepared z b c r n e = record { fit = sym e ∙ not-false r n }
+
+pub ruleset knows = (fit-prepared, prepare-known, abort-known, apply-known, apply-storing, abort-judged)

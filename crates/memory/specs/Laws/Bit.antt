@@ -122,3 +122,37 @@ bit-below (suc n) w zero l h = omega arith
 bit-below (suc n) w (suc i) l h =
     let p : w < 2 ^ n * 2 = rw pow-suc at l in
     omega (arith, bit-below n (w / 2) i (omega arith) h)
+
+-- ---- bits put one after the other
+pub put-twice : (a b : Bool) (w i : ℕ) → putBit a (putBit b w i) i ≡ putBit a w i
+unfolding putBit
+put-twice a b w zero = let e : (w / 2 * 2 + digit b) / 2 ≡ w / 2 = omega (arith, digit-lt b) in rw e
+put-twice a b w (suc i) =
+    let e : (putBit b (w / 2) i * 2 + w % 2) / 2 ≡ putBit b (w / 2) i = omega arith in
+    let f : (putBit b (w / 2) i * 2 + w % 2) % 2 ≡ w % 2 = omega arith in
+    rw (e, f, put-twice a b (w / 2) i)
+
+pub put-swap : (a b : Bool) (w i j : ℕ) → ¬ (i ≡ j) → putBit a (putBit b w i) j ≡ putBit b (putBit a w j) i
+unfolding putBit
+put-swap a b w zero zero d = absurd (d refl)
+put-swap a b w zero (suc j) d =
+    let e : (w / 2 * 2 + digit b) / 2 ≡ w / 2 = omega (arith, digit-lt b) in
+    let f : (w / 2 * 2 + digit b) % 2 ≡ digit b = omega (arith, digit-lt b) in
+    let g : (putBit a (w / 2) j * 2 + w % 2) / 2 ≡ putBit a (w / 2) j = omega arith in
+    rw (e, f, g)
+put-swap a b w (suc i) zero d =
+    let e : (w / 2 * 2 + digit a) / 2 ≡ w / 2 = omega (arith, digit-lt a) in
+    let f : (w / 2 * 2 + digit a) % 2 ≡ digit a = omega (arith, digit-lt a) in
+    let g : (putBit b (w / 2) i * 2 + w % 2) / 2 ≡ putBit b (w / 2) i = omega arith in
+    rw (e, f, g)
+put-swap a b w (suc i) (suc j) d =
+    let e : (putBit b (w / 2) i * 2 + w % 2) / 2 ≡ putBit b (w / 2) i = omega arith in
+    let f : (putBit b (w / 2) i * 2 + w % 2) % 2 ≡ w % 2 = omega arith in
+    let g : (putBit a (w / 2) j * 2 + w % 2) / 2 ≡ putBit a (w / 2) j = omega arith in
+    let h : (putBit a (w / 2) j * 2 + w % 2) % 2 ≡ w % 2 = omega arith in
+    rw (e, f, g, h, put-swap a b (w / 2) i j (λ k. d (ap suc k)))
+
+pub put-none : (i : ℕ) → putBit false 0 i ≡ 0
+unfolding putBit
+put-none zero = refl
+put-none (suc i) = rw (put-none i)

@@ -9,8 +9,11 @@ fetch-fault-spec = tie.close (tie.spec
     (λ c κs. search needs)  -- numbered-requires
     (λ c κs. search needs)  -- can-check-requires
     (λ c. search (fetch-items-exits, needs))  -- returns-2
-    (λ c κs. search needs)  -- lock-fits-requires
+    (λ c κs. search needs)  -- lock-word-requires
+    (λ c κs. search needs)  -- compared-at-requires
     (λ c. search (fetch-items-exits, needs))  -- returns-3
-    (λ c κs. search needs)  -- checked-at-requires
+    (λ c κs. search needs)  -- held-reason-requires
+    (λ c κs. search needs)  -- compared-at-requires-2
     (λ c. search (fetch-items-exits, needs))  -- returns-4
+    (λ c. search (fetch-items-exits, needs))  -- returns-5
     )

@@ -7,7 +7,8 @@ pub prepare-fault-spec : {M : Type 1} → statement M
 prepare-fault-spec = tie.close (tie.spec
     (λ c. search (finding-exits, needs))  -- returns
     (λ c. search (finding-exits, needs))  -- returns-2
-    (λ c κs. search needs)  -- is-locked-at-requires
+    (λ c κs. search needs)  -- is-checked-at-requires
+    (λ c κs. search needs)  -- is-locked-requires
     (λ c κs. search needs)  -- prepare-reason-requires
     (λ c. search (finding-exits, needs))  -- returns-3
     (λ c. search (finding-exits, needs))  -- returns-4

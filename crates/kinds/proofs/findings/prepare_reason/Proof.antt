@@ -5,14 +5,12 @@ use Rattle.kinds.proofs.findings.prepare_reason.Tie as tie
 
 pub prepare-reason-spec : {M : Type 1} → statement M
 prepare-reason-spec = tie.close (tie.spec
-    (λ c κs. search needs)  -- lock-fits-requires
+    (λ c κs. search needs)  -- lock-word-requires
+    (λ c κs. search needs)  -- mark-reason-requires
     (λ c. search (finding-exits, needs))  -- returns
-    (λ c κs. search needs)  -- is-checked-at-requires
     (λ c κs. search needs)  -- use-of-requires
-    (λ c κs. search needs)  -- checked-at-requires
+    (λ c κs. search needs)  -- held-reason-requires
+    (λ c κs. search needs)  -- mark-reason-requires-2
     (λ c. search (finding-exits, needs))  -- returns-2
-    (λ c κs. search needs)  -- use-of-requires-2
-    (λ c κs. search needs)  -- held-at-requires
     (λ c. search (finding-exits, needs))  -- returns-3
-    (λ c. search (finding-exits, needs))  -- returns-4
     )

@@ -6,7 +6,6 @@ use Rattle.kinds.proofs.items.is_locked_at.Tie as tie
 pub is-locked-at-spec : {M : Type 1} → statement M
 is-locked-at-spec = tie.close (tie.spec
     (λ c κs. search needs)  -- is-checked-at-requires
+    (λ c κs. search needs)  -- is-locked-requires
     (λ c. search (item-exits, needs))  -- returns
-    (λ c. search (item-exits, needs))  -- returns-2
-    (λ c. search (item-exits, needs))  -- returns-3
     )

@@ -6,9 +6,6 @@ use Rattle.kinds.proofs.judge.lock_fits.Tie as tie
 pub lock-fits-spec : {M : Type 1} → statement M
 lock-fits-spec = tie.close (tie.spec
     (λ c κs. search needs)  -- lock-word-requires
-    (λ c. search needs)  -- cast-is-lock
-    (λ c κs. search needs)  -- is-lock-requires
-    (λ c κs. search (judge-exits, needs))  -- holders-fit-requires
+    (λ c κs. search needs)  -- word-fits-requires
     (λ c. search (judge-exits, needs))  -- returns
-    (λ c. search (judge-exits, needs))  -- returns-2
     )
