@@ -7,6 +7,7 @@ use Rattle.layout.specs.Block.{Block, words, times, followed-by, end}
 use Rattle.layout.specs.Space.{Coding}
 use Rattle.client.specs.declared.part.Set.{Set}
 use Rattle.client.specs.declared.part.Set.the-variants.{Reads, Writes, Copies}
+use Rattle.nodes.specs.Bounds.{node-words}
 use Rattle.client.specs.Bounds.{most-servers}
 
 -- a word of a client's part; the read set, the write set and the copies of inner nodes have items of one form
@@ -117,7 +118,7 @@ limit Copies = 64
 
 -- a record of a node's form has so many words
 abbrev pub record-words : ℕ
-record-words = 33
+record-words = node-words
 
 -- an item of a set: the object's number, and its record
 abbrev pub item-words : ℕ

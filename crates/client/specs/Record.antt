@@ -12,6 +12,7 @@ use Rattle.nodes.specs.Range.{node-in-range}
 use Rattle.operations.specs.Object.{Obj, meta, node, flag, Val, root, body, taken, flags}
 use Rattle.operations.specs.Slot.{TreeSizes}
 use Rattle.client.specs.Bounds.{last-node-number, first-flag-number}
+pub use Rattle.nodes.specs.Bounds.{last-version}
 
 -- "in the order metadata, nodes by name, flags by name": the order of these numbers
 abbrev pub number : Obj → ℕ
@@ -61,10 +62,6 @@ object-in-store z (flag n) = in-store z n
 -- the number of such an object
 unfoldable pub number-in-store : TreeSizes → ℕ → Bool
 number-in-store z x = by-number x true (in-store z) (in-store z)
-
--- "a 32-bit version"
-abbrev pub last-version : ℕ
-last-version = 4294967295
 
 -- "has a field out of range, or points to something that isn't there": may the record of the object with that number be used. The children of a
 -- node are names that are judged where one is gone to

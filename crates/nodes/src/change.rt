@@ -230,7 +230,7 @@ impl Wide {
 
     // so many keys from key number `from` on, with their slots
     fn part(self, from: usize, count: usize, version: u64) -> Node
-        requires { ⌜ (count ≤ most-keys) × (from + count ≤ 31) ⌝ }
+        requires { ⌜ (count ≤ most-keys) × (from + count < wide-room) ⌝ }
         ensures { λ r. ⌜ r ≡ part self from count version ⌝ }
         ensures size { λ r. ⌜ r .count ≡ count ⌝ }
     {

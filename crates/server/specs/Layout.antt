@@ -63,6 +63,10 @@ places = record { code = place-code; back = place-back; again = place-again }
 unfoldable pub partWords : ℕ → ℕ
 partWords n = size (server-block n)
 
+-- the most that it has, with 1,024 slots
+abbrev pub most-part-words : ℕ
+most-part-words = 51219
+
 -- the store of one word
 unfoldable pub putStep : Place → ℕ → (Place → ℕ) → List (Put Place)
 putStep a v m = put a v ∷ []

@@ -7,6 +7,7 @@ ghost use Rattle.layout.specs.Space.{mem};
 ghost use Rattle.server.specs.Layout.{places, server-block, partWords};
 ghost use Rattle.server.specs.Object.{Has};
 ghost use Rattle.server.specs.Check.{can-check, mark-place, mark-in, standing, mark-fits, mark-finding};
+ghost use Rattle.nodes.specs.Bounds.{end-of-slots};
 use crate::object::Object;
 use crate::place::Place;
 use crate::place::get;
@@ -69,7 +70,7 @@ fn mark_in(object: Object, word: u64) -> u64
 
 // The mark that stands here of an object.
 pub fn stands(part: &[u8], slots: usize, object: Object, inner: bool) -> u64
-    requires { ⌜ (slots ≤ 1024) × Has slots object × (partWords slots ≤ length (now part) / 8) ⌝ }
+    requires { ⌜ (slots ≤ end-of-slots) × Has slots object × (partWords slots ≤ length (now part) / 8) ⌝ }
     ensures { λ r. ⌜ r ≡ standing object inner (mem places (server-block slots) (view (now (part .entry)))) ⌝ }
 {
     let word = get(part, slots, mark_place(object, inner));
@@ -105,7 +106,7 @@ fn mark_finding(object: Object, here: u64, read: u64) -> Finding
 
 // Is an object still as it was read, with this mark? Its lock is not looked at.
 pub fn compare(part: &[u8], slots: usize, object: Object, inner: bool, mark: u64) -> Finding
-    requires { ⌜ (slots ≤ 1024) × Has slots object × (partWords slots ≤ length (now part) / 8) ⌝ }
+    requires { ⌜ (slots ≤ end-of-slots) × Has slots object × (partWords slots ≤ length (now part) / 8) ⌝ }
     ensures { λ r. ⌜ r ≡ mark-finding object (standing object inner (mem places (server-block slots) (view (now (part .entry))))) mark ⌝ }
 {
     mark_finding(object, stands(part, slots, object, inner), mark)

@@ -6,6 +6,7 @@ ghost use Rattle.memory.specs.Word.{view};
 ghost use Rattle.layout.specs.Space.{mem};
 ghost use Rattle.server.specs.Layout.{places, server-block, partWords};
 ghost use Rattle.server.specs.HandOut.{metadata-at, metadata-sound, vector-at, node-here};
+ghost use Rattle.nodes.specs.Bounds.{end-of-slots};
 use crate::place::Place;
 use crate::place::get;
 use crate::place::index;
@@ -20,7 +21,7 @@ pub struct Metadata {
 }
 
 pub fn read_metadata(part: &[u8], slots: usize) -> Metadata
-    requires { ⌜ (slots ≤ 1024) × (partWords slots ≤ length (now part) / 8) ⌝ }
+    requires { ⌜ (slots ≤ end-of-slots) × (partWords slots ≤ length (now part) / 8) ⌝ }
     ensures { λ r. ⌜ r ≡ metadata-at (mem places (server-block slots) (view (now (part .entry)))) ⌝ }
 {
     let root = get(part, slots, Place::Root);
@@ -30,7 +31,7 @@ pub fn read_metadata(part: &[u8], slots: usize) -> Metadata
 
 // Refusal 10: does the metadata name a node of the store, with a version of 32 bits?
 pub fn metadata_is_sound(part: &[u8], servers: u64, slots: usize) -> bool
-    requires { ⌜ (slots ≤ 1024) × (partWords slots ≤ length (now part) / 8) ⌝ }
+    requires { ⌜ (slots ≤ end-of-slots) × (partWords slots ≤ length (now part) / 8) ⌝ }
     ensures { λ r. ⌜ r ≡ metadata-sound servers slots (mem places (server-block slots) (view (now (part .entry)))) ⌝ }
 {
     let root = get(part, slots, Place::Root);
@@ -52,7 +53,7 @@ pub fn read_vector(part: &[u8], slots: usize) -> [u64; 16]
 
 // The node in a slot of this server, with its own version.
 pub fn read_node(part: &[u8], slots: usize, slot: usize) -> Node
-    requires { ⌜ (slots ≤ 1024) × (slot < slots) × (partWords slots ≤ length (now part) / 8) ⌝ }
+    requires { ⌜ (slots ≤ end-of-slots) × (slot < slots) × (partWords slots ≤ length (now part) / 8) ⌝ }
     ensures { λ r. ⌜ r ≡ node-here slot (mem places (server-block slots) (view (now (part .entry)))) ⌝ }
 {
     stored::read_node(part, index(slots, Place::Node(slot, 0)))

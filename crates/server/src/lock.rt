@@ -2,6 +2,7 @@
 ghost use mathlib.Core.Path.{_≡_};
 ghost use Prim.Native.Nat.{_<_, _≤_};
 ghost use Rattle.server.specs.Lock.{busy, locked, unlocked, lock-in-range};
+ghost use Rattle.nodes.specs.Bounds.{most-clients};
 use memory::bits;
 
 // What an object is asked for.
@@ -13,7 +14,7 @@ pub enum Use {
 
 // Is it "locked against this use by another client (fetch: by a writer)"?
 pub fn is_busy(word: u64, client: u32, wanted: Use) -> bool
-    requires { ⌜ client < 16 ⌝ }
+    requires { ⌜ client < most-clients ⌝ }
     ensures { λ r. ⌜ r ≡ busy wanted client word ⌝ }
 {
     if word >= 65536 {
@@ -28,7 +29,7 @@ pub fn is_busy(word: u64, client: u32, wanted: Use) -> bool
 
 // The word with the client's lock on it.
 pub fn with_lock(word: u64, client: u32, writing: bool) -> u64
-    requires { ⌜ client < 16 ⌝ }
+    requires { ⌜ client < most-clients ⌝ }
     ensures { λ r. ⌜ r ≡ locked writing client word ⌝ }
 {
     if writing {
@@ -42,7 +43,7 @@ pub fn with_lock(word: u64, client: u32, writing: bool) -> u64
 
 // The word without a lock of the client.
 pub fn without_lock(word: u64, client: u32) -> u64
-    requires { ⌜ client < 16 ⌝ }
+    requires { ⌜ client < most-clients ⌝ }
     ensures { λ r. ⌜ r ≡ unlocked client word ⌝ }
 {
     if word < 65536 {
@@ -56,7 +57,7 @@ pub fn without_lock(word: u64, client: u32) -> u64
 
 // Are those that the word names clients of a store with so many?
 pub fn is_lock(word: u64, clients: u32) -> bool
-    requires { ⌜ clients ≤ 16 ⌝ }
+    requires { ⌜ clients ≤ most-clients ⌝ }
     ensures { λ r. ⌜ r ≡ lock-in-range clients word ⌝ }
 {
     if word >= 65536 {

@@ -4,7 +4,8 @@ ghost use Prim.Native.Nat.{_+_, _*_, _/_, _≤_};
 ghost use lib.ListN.{length};
 ghost use Rattle.memory.specs.Word.{view};
 ghost use Rattle.layout.specs.Space.{Valid, mem};
-ghost use Rattle.server.specs.Layout.{places, server-block, partWords, Lies, putStep, ServerDone};
+ghost use Rattle.server.specs.Layout.{most-part-words, places, server-block, partWords, Lies, putStep, ServerDone};
+ghost use Rattle.nodes.specs.Bounds.{end-of-slots};
 
 // "The metadata (root name and its version) is on every server. Every server also has a table of versions for all slots
 // .. a node's own version is at its home server. Each slot has a taken flag; a server's flags are its vector." And a lock
@@ -27,16 +28,16 @@ pub enum Place {
 
 // The words of the part of a server with so many slots.
 pub fn part_words(slots: usize) -> usize
-    requires { ⌜ slots ≤ 1024 ⌝ }
+    requires { ⌜ slots ≤ end-of-slots ⌝ }
     ensures { λ r. ⌜ r ≡ partWords slots ⌝ }
-    ensures within { λ r. ⌜ r ≤ 51219 ⌝ }
+    ensures within { λ r. ⌜ r ≤ most-part-words ⌝ }
 {
     19 + 50 * slots
 }
 
 // The word at which a place lies.
 pub fn index(slots: usize, place: Place) -> usize
-    requires { ⌜ (slots ≤ 1024) × Valid places (server-block slots) place ⌝ }
+    requires { ⌜ (slots ≤ end-of-slots) × Valid places (server-block slots) place ⌝ }
     ensures { λ r. ⌜ Lies slots place r ⌝ }
 {
     match place {
@@ -53,7 +54,7 @@ pub fn index(slots: usize, place: Place) -> usize
 
 // The word at a place.
 pub fn get(part: &[u8], slots: usize, place: Place) -> u64
-    requires { ⌜ (slots ≤ 1024) × Valid places (server-block slots) place × (partWords slots ≤ length (now part) / 8) ⌝ }
+    requires { ⌜ (slots ≤ end-of-slots) × Valid places (server-block slots) place × (partWords slots ≤ length (now part) / 8) ⌝ }
     ensures { λ r. ⌜ r ≡ mem places (server-block slots) (view (now (part .entry))) place ⌝ }
 {
     memory::read_word(part, index(slots, place))
@@ -61,7 +62,7 @@ pub fn get(part: &[u8], slots: usize, place: Place) -> u64
 
 // The word at a place becomes v.
 pub fn put(part: &mut [u8], slots: usize, place: Place, v: u64)
-    requires { ⌜ (slots ≤ 1024) × Valid places (server-block slots) place × (partWords slots ≤ length (now part) / 8) ⌝ }
+    requires { ⌜ (slots ≤ end-of-slots) × Valid places (server-block slots) place × (partWords slots ≤ length (now part) / 8) ⌝ }
     ensures { λ _. ⌜ ServerDone slots (putStep place v) (now (part .entry)) (now (part .exit)) ⌝ }
 {
     memory::write_word(part, index(slots, place), v);

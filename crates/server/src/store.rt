@@ -5,6 +5,7 @@ ghost use lib.ListN.{length};
 ghost use Rattle.server.specs.Layout.{partWords, ServerDone};
 ghost use Rattle.server.specs.Object.{Has};
 ghost use Rattle.server.specs.Store.{lock-step, unlock-step, metadata-step, flag-step, kept-of, home-step, table-step, node-step};
+ghost use Rattle.nodes.specs.Bounds.{end-of-slots, last-version, most-clients};
 use crate::lock::with_lock;
 use crate::lock::without_lock;
 use crate::object::Object;
@@ -20,7 +21,7 @@ use nodes::stored;
 
 // A client locks an object, for writing or for reading.
 pub fn lock(part: &mut [u8], slots: usize, object: Object, client: u32, writing: bool)
-    requires { ⌜ (slots ≤ 1024) × Has slots object × (client < 16) × (partWords slots ≤ length (now part) / 8) ⌝ }
+    requires { ⌜ (slots ≤ end-of-slots) × Has slots object × (client < most-clients) × (partWords slots ≤ length (now part) / 8) ⌝ }
     ensures { λ _. ⌜ ServerDone slots (lock-step object writing client) (now (part .entry)) (now (part .exit)) ⌝ }
 {
     let at = lock_place(object);
@@ -30,7 +31,7 @@ pub fn lock(part: &mut [u8], slots: usize, object: Object, client: u32, writing:
 
 // A client's lock on an object goes.
 pub fn unlock(part: &mut [u8], slots: usize, object: Object, client: u32)
-    requires { ⌜ (slots ≤ 1024) × Has slots object × (client < 16) × (partWords slots ≤ length (now part) / 8) ⌝ }
+    requires { ⌜ (slots ≤ end-of-slots) × Has slots object × (client < most-clients) × (partWords slots ≤ length (now part) / 8) ⌝ }
     ensures { λ _. ⌜ ServerDone slots (unlock-step object client) (now (part .entry)) (now (part .exit)) ⌝ }
 {
     let at = lock_place(object);
@@ -40,7 +41,7 @@ pub fn unlock(part: &mut [u8], slots: usize, object: Object, client: u32)
 
 // The metadata, read with a version, names another root: "a written version becomes the one read plus 1".
 pub fn store_metadata(part: &mut [u8], slots: usize, root: u64, read: u64)
-    requires { ⌜ (slots ≤ 1024) × (read < 4294967295) × (partWords slots ≤ length (now part) / 8) ⌝ }
+    requires { ⌜ (slots ≤ end-of-slots) × (read < last-version) × (partWords slots ≤ length (now part) / 8) ⌝ }
     ensures { λ _. ⌜ ServerDone slots (metadata-step root (read + 1)) (now (part .entry)) (now (part .exit)) ⌝ }
 {
     put(part, slots, Place::Root, root);
@@ -49,7 +50,7 @@ pub fn store_metadata(part: &mut [u8], slots: usize, root: u64, read: u64)
 
 // The flag of a slot here becomes taken or free.
 pub fn store_flag(part: &mut [u8], slots: usize, name: Name, taken: bool)
-    requires { ⌜ (slots ≤ 1024) × (partWords slots ≤ length (now part) / 8) ⌝ }
+    requires { ⌜ (slots ≤ end-of-slots) × (partWords slots ≤ length (now part) / 8) ⌝ }
     ensures { λ _. ⌜ ServerDone slots (flag-step name taken) (now (part .entry)) (now (part .exit)) ⌝ }
 {
     let slot = name.slot();
@@ -76,7 +77,7 @@ fn kept(mut node: Node, version: u64) -> Node
 
 // A node is written at its home.
 fn store_at_home(part: &mut [u8], slots: usize, server: u64, name: Name, node: Node)
-    requires { ⌜ (slots ≤ 1024) × Has slots (Object.Node name) × (partWords slots ≤ length (now part) / 8) ⌝ }
+    requires { ⌜ (slots ≤ end-of-slots) × Has slots (Object.Node name) × (partWords slots ≤ length (now part) / 8) ⌝ }
     ensures { λ _. ⌜ ServerDone slots (home-step server name node) (now (part .entry)) (now (part .exit)) ⌝ }
 {
     if name.server() == server {
@@ -90,7 +91,7 @@ fn store_at_home(part: &mut [u8], slots: usize, server: u64, name: Name, node: N
 
 // The table has a version for a node that is inner before or after.
 fn store_in_table(part: &mut [u8], slots: usize, name: Name, version: u64, inner: bool)
-    requires { ⌜ (slots ≤ 1024) × Has slots (Object.Node name) × (partWords slots ≤ length (now part) / 8) ⌝ }
+    requires { ⌜ (slots ≤ end-of-slots) × Has slots (Object.Node name) × (partWords slots ≤ length (now part) / 8) ⌝ }
     ensures { λ _. ⌜ ServerDone slots (table-step name version inner) (now (part .entry)) (now (part .exit)) ⌝ }
 {
     if inner {
@@ -114,7 +115,7 @@ pub fn store_node(
     read: u64,
     inner: bool,
 )
-    requires { ⌜ (slots ≤ 1024) × Has slots (Object.Node name) × (read < 4294967295) × (partWords slots ≤ length (now part) / 8) ⌝ }
+    requires { ⌜ (slots ≤ end-of-slots) × Has slots (Object.Node name) × (read < last-version) × (partWords slots ≤ length (now part) / 8) ⌝ }
     ensures { λ _. ⌜ ServerDone slots (node-step server name node (read + 1) inner) (now (part .entry)) (now (part .exit)) ⌝ }
 {
     let version = read + 1;
