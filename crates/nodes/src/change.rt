@@ -7,7 +7,7 @@ use crate::arrays::slots_part;
 use crate::node::Node;
 use crate::node::slots_beyond;
 ghost use mathlib.Core.Path.{_≡_};
-ghost use Prim.Native.Nat.{_+_, _≤_, _<_};
+ghost use Prim.Native.Nat.{_+_, _-_, _≤_, _<_};
 ghost use lib.ListN.{length};
 ghost use Rattle.nodes.specs.Lists.{pad};
 ghost use Rattle.nodes.specs.Node.{extra};
@@ -230,7 +230,7 @@ impl Wide {
 
     // so many keys from key number `from` on, with their slots
     fn part(self, from: usize, count: usize, version: u64) -> Node
-        requires { ⌜ (count ≤ most-keys) × (from + count < wide-room) ⌝ }
+        requires { ⌜ (count ≤ most-keys) × (from + count ≤ wide-room - 1) ⌝ }
         ensures { λ r. ⌜ r ≡ part self from count version ⌝ }
         ensures size { λ r. ⌜ r .count ≡ count ⌝ }
     {
