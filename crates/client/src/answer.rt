@@ -1,7 +1,7 @@
 // What a lookup says.
 use nodes::node::Node;
 ghost use mathlib.Core.Path.{_≡_};
-ghost use Rattle.client.specs.Have.{here, copy, lacking, is-found, is-copied};
+ghost use Rattle.client.specs.Have.{copy, lacking, is-found, is-copied};
 
 // Here: in a set. Copied: a copy. Lacking: to be fetched.
 pub enum How {
@@ -48,15 +48,6 @@ pub fn is_copied(how: How) -> bool
         How::Here => false,
         How::Copied => true,
         How::Lacking => false,
-    }
-}
-
-pub fn here(node: Node) -> Look
-    ensures { λ r. ⌜ r ≡ here node ⌝ }
-{
-    Look {
-        how: How::Here,
-        node,
     }
 }
 

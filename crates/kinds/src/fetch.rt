@@ -131,7 +131,8 @@ pub fn check_all(mem: &[u8], sizes: Sizes, client: usize, server: usize, used: &
 
 // The limit of 96: those read and those in use.
 fn room(mem: &[u8], sizes: Sizes, client: usize, used: &[u64]) -> Verdict
-    requires { ⌜ AtClient sizes (length (now mem)) client × InUse (now used) × (of-client sizes (view (now mem)) client reads-count ≤ limit Reads) ⌝ }
+    requires { ⌜ AtClient sizes (length (now mem)) client × InUse (now used)
+        × (of-client sizes (view (now mem)) client reads-count ≤ limit Reads) ⌝ }
     ensures { λ r. ⌜ r ≡ room-of sizes (view (now (mem .entry))) client (used-in (now (used .entry))) ⌝ }
 {
     let read = field_of(mem, sizes, client, READS_COUNT) as usize;

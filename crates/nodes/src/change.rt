@@ -190,7 +190,8 @@ impl Node {
 
     // "from 7 the two merge into the left one"
     pub fn merge(self, sep: u64, right: Node) -> Node
-        requires { ⌜ (self .count ≤ most-keys) × (right .count ≤ most-keys) × (self .count + extra (self .kind) + right .count ≤ most-keys) ⌝ }
+        requires { ⌜ (self .count ≤ most-keys) × (right .count ≤ most-keys)
+            × (self .count + extra (self .kind) + right .count ≤ most-keys) ⌝ }
         ensures { λ r. ⌜ r ≡ merged self sep right ⌝ }
         ensures size { λ r. ⌜ r .count ≡ self .count + extra (self .kind) + right .count ⌝ }
     {

@@ -115,7 +115,8 @@ pub fn store_node(
     read: u64,
     inner: bool,
 )
-    requires { ⌜ (slots ≤ end-of-slots) × Has slots (Object.Node name) × (read < last-version) × (partWords slots ≤ length (now part) / 8) ⌝ }
+    requires { ⌜ (slots ≤ end-of-slots) × Has slots (Object.Node name) × (read < last-version)
+        × (partWords slots ≤ length (now part) / 8) ⌝ }
     ensures { λ _. ⌜ ServerDone slots (node-step server name node (read + 1) inner) (now (part .entry)) (now (part .exit)) ⌝ }
 {
     let version = read + 1;

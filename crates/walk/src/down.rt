@@ -208,7 +208,8 @@ fn go_lower(
     requires { ⌜ Walking servers (now part) (now used) ⌝ }
     requires from { ⌜ Above (node-at (view (now part)) place) level × In-part place ⌝ }
     ensures { λ r. ⌜ Lowered (sizes servers slots) (held (now (part .entry))) (now (used .entry)) key level
-        (node-at (view (now (part .entry))) place) (r .stop) (r .at) (r .name) (node-at (view (now (part .entry))) (r .place)) (now (used .exit)) ⌝ }
+        (node-at (view (now (part .entry))) place) (r .stop) (r .at) (r .name) (node-at (view (now (part .entry))) (r .place))
+        (now (used .exit)) ⌝ }
     ensures within { λ r. ⌜ In-part (r .place) ⌝ }
 {
     let at = place_at(part, place, key);

@@ -348,12 +348,6 @@ module _ (b : List ℕ) (z : TreeSizes) (m : ClientWord → ℕ) (u₀ : List �
     pub pass-path : Path-in-part path × (place + 33 ≤ 7223)
     pass-path = (d .1, d .2)
 
-    pub pass-noted : Noted m u
-    pass-noted = d .0 .noted
-
-    pub pass-level : target < level → level < 5
-    pass-level lt = omega (arith, d .0 .upper, d .0 .high)
-
     module _ (lt : target < level) (s : Stop) (i next p : ℕ) (u′ : List ℕ) (c : Lowered z m u key level (node-at (view b) place) s i next (node-at (view b) p) u′) (on : Bool) (po : on ≡ goes s) where
       pub pass-stops : not on ≡ true
           → Led z m u₀ key target root (node-at (view b) first) (arrival b (record { stop = s; top = top; path = path; name = name; place = place })) u′
