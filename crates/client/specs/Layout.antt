@@ -135,32 +135,37 @@ base Writes = 3279
 base Copies = 4911
 
 -- a set: the numbers of its objects side by side, so that a search reads few words, then their records
-abbrev pub set-block : Set → Block → Block
-set-block s rest = followed-by (words (limit s)) (followed-by (times (limit s) (words record-words)) rest)
+abbrev pub set-block : Set → Block
+set-block s = followed-by (words (limit s)) (followed-by (times (limit s) (words record-words)) end)
 
 -- 15 fields; the sets of 96 read, 48 written and 64 copied items; the copies of 8 vectors, of 17 words
 abbrev pub client-block : Block
 client-block =
-    followed-by (words field-count) (set-block Reads (set-block Writes (set-block Copies (followed-by (times most-servers (words vector-words)) end))))
+    followed-by (words field-count)
+    (followed-by (set-block Reads) (followed-by (set-block Writes) (followed-by (set-block Copies) (followed-by (times most-servers (words vector-words)) end))))
+
+-- where in a set word j of item i stands
+abbrev pub in-set : ℕ → ℕ → List ℕ
+in-set i zero = 0 ∷ i ∷ []
+in-set i (suc j) = 1 ∷ i ∷ j ∷ []
 
 -- where in the block each word of the part stands
 abbrev pub client-code : ClientWord → List ℕ
 client-code (field i) = 0 ∷ i ∷ []
-client-code (item Reads i zero) = 1 ∷ i ∷ []
-client-code (item Reads i (suc j)) = 2 ∷ i ∷ j ∷ []
-client-code (item Writes i zero) = 3 ∷ i ∷ []
-client-code (item Writes i (suc j)) = 4 ∷ i ∷ j ∷ []
-client-code (item Copies i zero) = 5 ∷ i ∷ []
-client-code (item Copies i (suc j)) = 6 ∷ i ∷ j ∷ []
-client-code (vector-word s j) = 7 ∷ s ∷ j ∷ []
+client-code (item Reads i j) = 1 ∷ in-set i j
+client-code (item Writes i j) = 2 ∷ in-set i j
+client-code (item Copies i j) = 3 ∷ in-set i j
+client-code (vector-word s j) = 4 ∷ s ∷ j ∷ []
 
 -- which word stands there; of a list that is none of these it is not asked
+abbrev pub item-back : Set → List ℕ → ClientWord
+item-back s p = let i = getD p 2 0 in getD (item s i 0 ∷ item s i (suc (getD p 3 0)) ∷ []) (getD p 1 0) (field i)
+
+-- of a set, a field, or the copy of a vector
 abbrev pub client-back : List ℕ → ClientWord
 client-back p =
     let i = getD p 1 0 in
-    let j = getD p 2 0 in
-    getD (field i ∷ item Reads i 0 ∷ item Reads i (suc j) ∷ item Writes i 0 ∷ item Writes i (suc j) ∷ item Copies i 0 ∷ item Copies i (suc j) ∷ vector-word i j ∷ [])
-    (getD p 0 0) (field i)
+    getD (field i ∷ item-back Reads p ∷ item-back Writes p ∷ item-back Copies p ∷ vector-word i (getD p 2 0) ∷ []) (getD p 0 0) (field i)
 
 -- each word is had back
 pub client-again : (a : ClientWord) → client-back (client-code a) ≡ a

@@ -25,7 +25,7 @@ stands (e ∷ l) a = cond (same (e .0) (client-code a)) (e .1) (stands l a)
 -- fields 10 and 11, the numbers, and the kinds (the first word of a record): the leaf's kind as read 1, as written k
 abbrev part-with : ℕ → ClientWord → ℕ
 part-with k =
-    stands ((0 ∷ 10 ∷ [], 2) ∷ (0 ∷ 11 ∷ [], 1) ∷ (1 ∷ 1 ∷ [], 1026) ∷ (2 ∷ 1 ∷ 0 ∷ [], 1) ∷ (3 ∷ 0 ∷ [], 1026) ∷ (4 ∷ 0 ∷ 0 ∷ [], k) ∷ [])
+    stands ((0 ∷ 10 ∷ [], 2) ∷ (0 ∷ 11 ∷ [], 1) ∷ (1 ∷ 0 ∷ 1 ∷ [], 1026) ∷ (1 ∷ 1 ∷ 1 ∷ 0 ∷ [], 1) ∷ (2 ∷ 0 ∷ 0 ∷ [], 1026) ∷ (2 ∷ 1 ∷ 0 ∷ 0 ∷ [], k) ∷ [])
 
 -- the part has 7,223 words; the sets begin at 15, 3,279, 4,911, their records at 111, 3,327, 4,975, the vectors at 7,087
 pub layout-sample : (client-size ≡ 7223) × (at client-words client-block (item Reads 0 0) ≡ 15) × (at client-words client-block (item Reads 0 1) ≡ 111)
