@@ -192,3 +192,17 @@ pub record Descends (z : TreeSizes) (m : ClientWord → ℕ) (u : List ℕ) (key
   pub high : d .top ≤ highest-level
   pub reached : goes (d .stop) ≡ true → Reached 0 d
   pub linked : goes (d .stop) ≡ true → Linked z 0 (d .name) (trail (d .path) 0 (d .top - 0))
+
+-- ---- the same by an operation that asks nothing of the path: there is one, whatever it is, and r is the node reached
+pub record Reaches (z : TreeSizes) (m : ClientWord → ℕ) (u : List ℕ) (key : ℕ) (first : Node) (s : Stop) (r : Node) (u′ : List ℕ) : Type 0 where
+  pub come : ℕ → Arrival
+  pub stop : (root : ℕ) → come root .stop ≡ s
+  pub node : (root : ℕ) → come root .node ≡ r
+  pub led : (root : ℕ) → Led z m u key 0 root first (come root) u′
+
+-- from the metadata on
+pub record ToLeaf (z : TreeSizes) (m : ClientWord → ℕ) (u : List ℕ) (key : ℕ) (s : Stop) (r : Node) (u′ : List ℕ) : Type 0 where
+  pub come : Arrival
+  pub stop : come .stop ≡ s
+  pub node : come .node ≡ r
+  pub descends : Descends z m u key come u′

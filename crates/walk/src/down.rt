@@ -24,7 +24,7 @@ ghost use Rattle.client.specs.Sets.{held};
 ghost use Rattle.client.specs.Bounds.{highest-level};
 ghost use Rattle.walk.specs.Entries.{opens-with, opens, below-with, below};
 ghost use Rattle.walk.specs.Ask.{In-part, nothing, Walking, WalkingOwn, over-lent};
-ghost use Rattle.walk.specs.Down.{Kid, RootMet, turn-in, turns-in, arrival, Path-in-part, Above, Lowered, From, Led, AtRoot, Descends};
+ghost use Rattle.walk.specs.Down.{Kid, RootMet, turn-in, turns-in, arrival, Path-in-part, Above, Lowered, From, Led, AtRoot, Descends, Reaches, ToLeaf};
 
 // Is a node of that kind and level a leaf or an inner node?
 fn opens(kind: u64, level: u64) -> bool
@@ -349,6 +349,62 @@ pub fn descend(part: &[u8], servers: usize, slots: usize, used: &mut [u64], key:
     let name = r.name;
     let place = r.place;
     go_down(part, servers, slots, used, key, 0, name, place)
+}
+
+// Where a leaf stands; without Going nothing does.
+pub struct Leaf {
+    pub stop: Stop,
+    pub place: usize,
+}
+
+// From the root, which stands at a place, down to the leaf for a key. No path is kept.
+fn reach(
+    part: &[u8],
+    servers: usize,
+    slots: usize,
+    used: &mut [u64],
+    key: u64,
+    first: usize,
+) -> Leaf
+    requires { ⌜ Walking servers (now part) (now used) ⌝ }
+    requires from { ⌜ From (node-at (view (now part)) first) 0 × In-part first ⌝ }
+    ensures { λ r. ⌜ Reaches (sizes servers slots) (held (now (part .entry))) (now (used .entry)) key (node-at (view (now (part .entry))) first)
+        (r .stop) (node-at (view (now (part .entry))) (r .place)) (now (used .exit)) ⌝ }
+    ensures within { λ r. ⌜ In-part (r .place) ⌝ }
+{
+    let mut place = first;
+    let mut level = level_at(part, first) as usize;
+    while 0 < level {
+        let l = go_lower(part, servers, slots, used, key, level, place);
+        let stop = l.stop;
+        let on = going(stop);
+        if !on {
+            return Leaf { stop, place };
+        }
+        place = l.place;
+        level -= 1;
+    }
+    Leaf {
+        stop: Stop::Going,
+        place,
+    }
+}
+
+// From the metadata down to the leaf for a key, by an operation that goes nowhere from there.
+pub fn to_leaf(part: &[u8], servers: usize, slots: usize, used: &mut [u64], key: u64) -> Leaf
+    requires { ⌜ Walking servers (now part) (now used) ⌝ }
+    ensures { λ r. ⌜ ToLeaf (sizes servers slots) (held (now (part .entry))) (now (used .entry)) key (r .stop)
+        (node-at (view (now (part .entry))) (r .place)) (now (used .exit)) ⌝ }
+    ensures within { λ r. ⌜ In-part (r .place) ⌝ }
+{
+    let r = at_root(part, servers, slots, used);
+    let stop = r.stop;
+    let place = r.place;
+    let on = going(stop);
+    if !on {
+        return Leaf { stop, place };
+    }
+    reach(part, servers, slots, used, key, place)
 }
 
 // An inner node of the path, taken out of the part.

@@ -1,5 +1,5 @@
 // Lookup, and how every operation answers.
-use crate::down::descend;
+use crate::down::to_leaf;
 use crate::walk::Stop;
 use crate::walk::going;
 use crate::walk::over;
@@ -56,7 +56,7 @@ pub fn lookup(part: &[u8], servers: usize, slots: usize, used: &mut [u64], key: 
     requires { ⌜ Walking servers (now part) (now used) ⌝ }
     ensures { λ r. ⌜ Walks (sizes servers slots) (held (now (part .entry))) (now (used .entry)) (lookup-plan key) r (now (used .exit)) ⌝ }
 {
-    let d = descend(part, servers, slots, used, key);
+    let d = to_leaf(part, servers, slots, used, key);
     let stop = d.stop;
     let on = going(stop);
     if !on {

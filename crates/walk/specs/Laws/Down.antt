@@ -36,7 +36,7 @@ use Rattle.walk.specs.Walk.{goes, walked}
 use Rattle.walk.specs.Laws.Walk.{walked-fails}
 use Rattle.walk.specs.Ask.{SmallNode, Noted, Answer, given, In-part, nothing}
 use Rattle.walk.specs.Laws.Ask.{none-held, answer-as, given-small, first-single}
-use Rattle.walk.specs.Down.{Kid, RootMet, blank, nowhere, turn-in, turns-in, Arrival, arrival, Path-in-part, low, branches, trail, All, Linked, From, Stops, Above, Lowered, Led, AtRoot, Descends}
+use Rattle.walk.specs.Down.{Kid, RootMet, blank, nowhere, turn-in, turns-in, Arrival, arrival, Path-in-part, low, branches, trail, All, Linked, From, Stops, Above, Lowered, Led, AtRoot, Descends, Reaches, ToLeaf}
 
 pub stops-not : (s : Stop) {A : Type 0} → goes s ≡ false → goes s ≡ true → A
 stops-not s p q = let e : false ≡ true = sym p ∙ q in let z : _≡_ {A = ℕ} 0 1 = cc in absurd (omega arith)
@@ -459,3 +459,62 @@ module _ (z : TreeSizes) (m : ClientWord → ℕ) (u : List ℕ) (key : ℕ) (s 
   way-begins nb = a .begins (sym pb ∙ not-false b nb)
 
 pub ruleset descend-exits = (no-way, whole-way, way-begins)
+
+-- ---- the way down of which no path is kept
+-- how far it has come, from a root of whatever name
+pub record Reaching (z : TreeSizes) (m : ClientWord → ℕ) (u₀ : List ℕ) (key : ℕ) (first : Node) (n : Node) (level : ℕ) (u : List ℕ) : Type 0 where
+  pub path : ℕ → List Turn
+  pub name : ℕ → ℕ
+  pub way : (root : ℕ) → Downward z m u₀ key 0 root first (first .level) (path root) (name root) n level u
+
+pub reach-start : (z : TreeSizes) (m : ClientWord → ℕ) (u : List ℕ) (key v : ℕ) (first : Node) → From first 0 → Noted m u → v ≡ first .level → Reaching z m u key first first v u
+reach-start z m u key v first f h e = rw e (record {
+  path = λ root. blank ∷ blank ∷ blank ∷ blank ∷ blank ∷ [];
+  name = λ root. root;
+  way = λ root. down-start z m u key 0 root first (blank ∷ blank ∷ blank ∷ blank ∷ blank ∷ []) f h refl;
+})
+
+module _ (z : TreeSizes) (m : ClientWord → ℕ) (u₀ : List ℕ) (key : ℕ) (first n : Node) (level : ℕ) (u : List ℕ) (d : Reaching z m u₀ key first n level u) where
+  pub reach-above : 0 < level → Above n level
+  reach-above lt = down-above z m u₀ key 0 0 first (first .level) (d .path 0) (d .name 0) n level u (d .way 0) lt
+
+  pub reach-done : level ≤ 0 → Reaches z m u₀ key first Going n u
+  reach-done h = record {
+    come = λ root. record { stop = Going; top = first .level; path = d .path root; name = d .name root; node = n };
+    stop = λ root. refl;
+    node = λ root. refl;
+    led = λ root. down-done z m u₀ key 0 root first (first .level) (d .path root) (d .name root) n level u (d .way root) h;
+  }
+
+  module _ (lt : 0 < level) (s : Stop) (i next : ℕ) (r : Node) (u′ : List ℕ) (c : Lowered z m u key level n s i next r u′) (b : Bool) (pb : b ≡ goes s) where
+    pub reach-stops : not b ≡ true → Reaches z m u₀ key first s n u′
+    reach-stops nb = record {
+      come = λ root. record { stop = s; top = first .level; path = d .path root; name = d .name root; node = n };
+      stop = λ root. refl;
+      node = λ root. refl;
+      led = λ root. down-stops z m u₀ key 0 root first (first .level) (d .path root) (d .name root) n level u (d .way root) lt s i next r u′ c b pb nb;
+    }
+
+    pub reach-long : length u′ ≡ length u₀
+    reach-long = c .long ∙ d .way 0 .long
+
+    pub reach-more : not b ≡ false → Reaching z m u₀ key first r (level - 1) u′
+    reach-more nb = record {
+      path = λ root. set (d .path root) level (record { name = d .name root; at = i; node = n });
+      name = λ root. next;
+      way = λ root. down-more z m u₀ key 0 root first (first .level) (d .path root) (d .name root) n level u (d .way root) lt s i next r u′ c b pb nb;
+    }
+
+pub ruleset reach-exits = (reach-start, reach-above, reach-done, reach-stops, reach-long, reach-more)
+
+module _ (z : TreeSizes) (m : ClientWord → ℕ) (u : List ℕ) (key : ℕ) (s : Stop) (q : ℕ) (r : Node) (u₁ : List ℕ) (a : AtRoot z m u s q r u₁) (b : Bool) (pb : b ≡ goes s) where
+  pub leaf-none : not b ≡ true → ToLeaf z m u key s r u₁
+  leaf-none nb =
+      let d : Arrival = record { stop = s; top = 0; path = []; name = 0; node = r } in
+      record { come = d; stop = refl; node = refl; descends = no-way z m u key s q r u₁ a b pb d nb refl (omega arith) }
+
+  pub leaf-reached : (t : Stop) (n : Node) (u₂ : List ℕ) → not b ≡ false → Reaches z m u₁ key r t n u₂ → ToLeaf z m u key t n u₂
+  leaf-reached t n u₂ nb h =
+      record { come = h .come q; stop = h .stop q; node = h .node q; descends = whole-way z m u key s q r u₁ a b pb (h .come q) u₂ nb (h .led q) }
+
+pub ruleset leaf-exits = (leaf-none, leaf-reached, way-begins)

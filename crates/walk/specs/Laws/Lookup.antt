@@ -23,9 +23,6 @@ use Rattle.operations.specs.Slot.{TreeSizes}
 use Rattle.operations.specs.Entry.{Entries, value-in}
 use Rattle.operations.specs.Path.{TreePlan, Branch, from-root}
 use Rattle.operations.specs.Look.{lookup-plan}
-use Rattle.memory.specs.Word.{view}
-use Rattle.nodes.specs.Stored.{node-at}
-use Rattle.walk.specs.declared.down.Descent.{Descent}
 use Rattle.walk.specs.declared.lookup.Pair.{Pair}
 use Rattle.walk.specs.declared.walk.Stop.{Stop}
 use Rattle.walk.specs.declared.walk.Stop.the-variants.{Going, LacksMeta, LacksNode, LacksVector, Refused, Aborts, Answers}
@@ -36,7 +33,7 @@ use Rattle.walk.specs.Walk.{told, goes, over}
 use Rattle.walk.specs.Laws.Walk.{walked-done, full-done}
 use Rattle.walk.specs.Ask.{Noted, popped}
 use Rattle.walk.specs.Laws.Ask.{popped-used, popped-noted}
-use Rattle.walk.specs.Down.{Arrival, arrival, low, trail, Reached, Descends}
+use Rattle.walk.specs.Down.{Arrival, low, trail, Reached, ToLeaf}
 use Rattle.walk.specs.Lookup.{ended, Ends, Walks, look-in}
 use Rattle.plans.specs.Plan as P
 
@@ -104,23 +101,26 @@ leaf-said n lo key f l = go (key-index (keysOf n) key) refl
     go none e = rw (leaf-absent n lo key f l e, look-in, e)
     go (some i) e = let h : i < n .count = omega (arith, find-inside (keysOf n) key i e, f .keys) in rw (leaf-value n lo key f l i e h, look-in, e)
 
-module _ (z : TreeSizes) (m : ClientWord → ℕ) (u : List ℕ) (key : ℕ) (c : List ℕ) (p : Descent) (u₁ : List ℕ) (h : Descends z m u key (arrival c p) u₁) (b : Bool) (pb : b ≡ goes (p .stop)) where
-  abbrev d : Arrival
-  d = arrival c p
+module _ (z : TreeSizes) (m : ClientWord → ℕ) (u : List ℕ) (key : ℕ) (s₁ : Stop) (r : Node) (u₁ : List ℕ) (h : ToLeaf z m u key s₁ r u₁) (b : Bool) (pb : b ≡ goes s₁) where
+  pub look-stops : (k : List Branch → ℕ → Entries → TreePlan) → not b ≡ true → Walks z m u (from-root key k) s₁ u₁
+  look-stops k nb = let no : goes s₁ ≡ false = sym pb ∙ not-true b nb in
+      record { same = rw (h .descends .asks k, h .stop, no); noted = h .descends .noted }
 
-  pub look-stops : (k : List Branch → ℕ → Entries → TreePlan) → not b ≡ true → Walks z m u (from-root key k) (p .stop) u₁
-  look-stops k nb = let no : goes (d .stop) ≡ false = sym pb ∙ not-true b nb in
-      record { same = rw (h .asks k, no); noted = h .noted }
+  module _ (nb : not b ≡ false) where
+    on : goes (h .come .stop) ≡ true
+    on = rw (h .stop) (sym pb ∙ not-false b nb)
 
-  pub leaf-small : not b ≡ false → node-at (view c) (p .place) .count ≤ 14
-  leaf-small nb = h .reached (sym pb ∙ not-false b nb) .small .keys
+    end : Reached 0 (h .come)
+    end = h .descends .reached on
 
-  pub look-ends : (q : Pair) (s : Stop) (u₂ : List ℕ) → not b ≡ false → q ≡ look-in (node-at (view c) (p .place)) key → Ends m u₁ (q .a) (q .b) s u₂ → Walks z m u (lookup-plan key) s u₂
-  look-ends q s u₂ nb pp e =
-      let on : goes (d .stop) ≡ true = sym pb ∙ not-false b nb in
-      let end : Reached 0 d = h .reached on in
-      let lo : ℕ = low (trail (d .path) 0 (d .top - 0)) in
-      let v : said (value-in key (entriesOf (d .node) lo)) ≡ (q .a, q .b) = rw pp (leaf-said (d .node) lo key (end .whole) (open-leaf (d .node) (end .opened) (end .level))) in
-      record { same = rw (h .asks (λ fs n es. P.done (said (value-in key es), [])), on, v) (e .same z [] ∙ ended-nothing s (used-in u₂)); noted = e .noted }
+    pub leaf-small : r .count ≤ 14
+    leaf-small = rw (h .node) at (end .small .keys)
+
+    pub look-ends : (q : Pair) (s : Stop) (u₂ : List ℕ) → q ≡ look-in r key → Ends m u₁ (q .a) (q .b) s u₂ → Walks z m u (lookup-plan key) s u₂
+    look-ends q s u₂ pp e =
+        let d : Arrival = h .come in
+        let lo : ℕ = low (trail (d .path) 0 (d .top - 0)) in
+        let v : said (value-in key (entriesOf (d .node) lo)) ≡ (q .a, q .b) = rw (pp, ← h .node) (leaf-said (d .node) lo key (end .whole) (open-leaf (d .node) (end .opened) (end .level))) in
+        record { same = rw (h .descends .asks (λ fs n es. P.done (said (value-in key es), [])), on, v) (e .same z [] ∙ ended-nothing s (used-in u₂)); noted = e .noted }
 
 pub ruleset look-exits = (look-stops, leaf-small, look-ends)
