@@ -18,7 +18,7 @@ use Rattle.operations.specs.Look.{told, Visit, rightward, leftward, seek, neare
 use Rattle.walk.specs.declared.down.Turn.{Turn}
 use Rattle.walk.specs.declared.walk.Stop.{Stop}
 use Rattle.walk.specs.declared.seek.Ahead.{Ahead}
-use Rattle.walk.specs.declared.seek.Reading.{Reading}
+use Rattle.walk.specs.declared.seek.Where.{Where}
 use Rattle.walk.specs.declared.seek.Where.the-variants.{Found, Nowhere, Next}
 use Rattle.walk.specs.declared.seek.Key.{Key}
 use Rattle.walk.specs.declared.seek.Key.the-variants.{Is, Nothing}
@@ -27,7 +27,7 @@ use Rattle.client.specs.Layout.{ClientWord}
 use Rattle.client.specs.Lent.{used-in}
 use Rattle.walk.specs.Walk.{goes, walked, carry}
 use Rattle.walk.specs.Ask.{SmallNode, Noted}
-use Rattle.walk.specs.Down.{trail, All}
+use Rattle.walk.specs.Down.{turns-in, trail, All}
 use Rattle.plans.specs.Plan as P
 use Rattle.walk.specs.Walk as W
 use Rattle.client.specs.Bounds.{highest-level, level-count}
@@ -61,10 +61,14 @@ near-keys false ks key = before ks (under ks key)
 unfoldable pub in-leaf : Bool → Node → ℕ → Key
 in-leaf right n key = key-of (near-keys right (keysOf n) key)
 
--- is there a child left on that side of the one that was followed
+-- is there a child left on that side of child number i, of a node with that many keys
+abbrev pub more-with : Bool → ℕ → ℕ → Bool
+more-with true i count = ltb i count
+more-with false i count = ltb 0 i
+
+-- of the one that was followed
 unfoldable pub more : Bool → Turn → Bool
-more true b = ltb (b .at) (b .node .count)
-more false b = ltb 0 (b .at)
+more right b = more-with right (b .at) (b .node .count)
 
 abbrev pub onward : Bool → ℕ → ℕ
 onward true i = i + 1
@@ -119,8 +123,19 @@ load right l (b ∷ bs) = times (left-in right b) (pow l) + load right (suc l) b
 unfoldable pub weight : Bool → ℕ → List Turn → ℕ → ℕ
 weight right top path level = pow level + load right level (trail path level (top - level))
 
+-- what is ahead: with Next the child to be read next, its name and its level, with the inner nodes above it
+pub record Heading : Type 0 where
+  pub state : Where
+  pub path : List Turn
+  pub level : ℕ
+  pub name : ℕ
+
+-- as the code has it, over a part of the bytes b
+abbrev pub heading : List ℕ → Ahead → Heading
+heading b a = record { state = a .state; path = turns-in b (a .path); level = a .level; name = a .name }
+
 -- where the climb comes to
-pub record Climbed (right : Bool) (top : ℕ) (path : List Turn) (level : ℕ) (a : Ahead) : Type 0 where
+pub record Climbed (right : Bool) (top : ℕ) (path : List Turn) (level : ℕ) (a : Heading) : Type 0 where
   pub lo : (ℕ → ℕ) → ℕ
   pub lows : (ℕ → ℕ) → ℕ → ℕ
   pub found : (x : ℕ) → a .state ≡ Found x → ⊥
@@ -145,7 +160,7 @@ unfoldable pub read-on : (Entries → Option ℕ) → Bool → ℕ → Entries �
 read-on g right zero es p = told (g es) p
 read-on g right (suc l) es p = visit right (seek g (visit right) l) es p
 
-pub record Advanced (right : Bool) (key top : ℕ) (path : List Turn) (level : ℕ) (n : Node) (a : Ahead) : Type 0 where
+pub record Advanced (right : Bool) (key top : ℕ) (path : List Turn) (level : ℕ) (n : Node) (a : Heading) : Type 0 where
   pub lo : ℕ → (ℕ → ℕ) → ℕ
   pub lows : ℕ → (ℕ → ℕ) → ℕ → ℕ
   pub found : (x : ℕ) → a .state ≡ Found x → (j : ℕ) (f : ℕ → ℕ)
@@ -164,13 +179,13 @@ abbrev pub afterwards : Bool → ℕ → ℕ → List Turn → ℕ → Node → 
 afterwards right key top path level n j f =
     read-on (nearest-in right key) right level (entriesOf n j) (climb (nearest-in right key) right level (rests right (trail path level (top - level)) f))
 
-pub record ReadOn (z : TreeSizes) (m : ClientWord → ℕ) (u : List ℕ) (right : Bool) (key top : ℕ) (path : List Turn) (level name : ℕ) (r : Reading) (u′ : List ℕ) : Type 0 where
+pub record ReadOn (z : TreeSizes) (m : ClientWord → ℕ) (u : List ℕ) (right : Bool) (key top : ℕ) (path : List Turn) (level name : ℕ) (s : Stop) (a : Heading) (u′ : List ℕ) : Type 0 where
   pub node : Node
   pub asks : (j : ℕ) (f : ℕ → ℕ) → walked z m (onto (nearest-in right key) right top path level name j f) (used-in u)
-      ≡ carry (r .stop) (used-in u′) (λ us. walked z m (afterwards right key top path level node j f) us)
+      ≡ carry s (used-in u′) (λ us. walked z m (afterwards right key top path level node j f) us)
   pub noted : Noted m u′
   pub long : length u′ ≡ length u
-  pub leads : goes (r .stop) ≡ true → Advanced right key top path level node (r .ahead)
+  pub leads : goes s ≡ true → Advanced right key top path level node a
 
 -- ---- the leaves on that side, from a child on
 pub record Seeks (z : TreeSizes) (m : ClientWord → ℕ) (u : List ℕ) (right : Bool) (key top : ℕ) (path : List Turn) (level name : ℕ) (s : Stop) (u′ : List ℕ) : Type 0 where

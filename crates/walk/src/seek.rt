@@ -1,8 +1,7 @@
 // Next and previous: "if the leaf has none, go on down the nearest branch on that side".
-use crate::down::Turn;
+use crate::down::Pass;
 use crate::down::child;
 use crate::down::descend;
-use crate::down::turns;
 use crate::lookup::answers;
 use crate::walk::Stop;
 use crate::walk::going;
@@ -10,10 +9,8 @@ use nodes::standing::count_at;
 use nodes::standing::key_at;
 use nodes::standing::place_at;
 use nodes::standing::slot_at;
-use nodes::stored::read_node;
 ghost use mathlib.Core.Path.{_≡_};
 ghost use Prim.Native.Nat.{_+_, _<_, _≤_};
-ghost use lib.ListN.{getD};
 ghost use Rattle.client.specs.Record.{sizes};
 ghost use Rattle.client.specs.Sets.{held};
 ghost use Rattle.memory.specs.Word.{view};
@@ -21,21 +18,15 @@ ghost use Rattle.nodes.specs.Stored.{node-at};
 ghost use Rattle.client.specs.Layout.{ClientPart};
 ghost use Rattle.walk.specs.Ask.{In-part, Walking};
 ghost use Rattle.walk.specs.Lookup.{Walks};
+ghost use Rattle.walk.specs.Down.{turns-in, Path-in-part};
 ghost use Rattle.walk.specs.Near.{Beyond};
-ghost use Rattle.walk.specs.Seek.{in-leaf, more, onward, first-at, Stacked, Climbed, Standing, Advanced, ReadOn, Seeks, near-plan};
-ghost use Rattle.client.specs.Bounds.{most-keys, most-children};
+ghost use Rattle.walk.specs.Seek.{in-leaf, more-with, onward, first-at, Stacked, heading, Climbed, Standing, Advanced, ReadOn, Seeks, near-plan};
+ghost use Rattle.client.specs.Bounds.{most-keys};
 
 // A key, if there is one.
 pub enum Key {
     Is(u64),
     Nothing,
-}
-
-fn slot(slots: [u64; 15], i: usize) -> u64
-    requires { ⌜ i < most-children ⌝ }
-    ensures { λ r. ⌜ r ≡ getD slots i 0 ⌝ }
-{
-    slots[i]
 }
 
 // The nearest key of the leaf at a place strictly above the key, or strictly below it.
@@ -61,15 +52,14 @@ fn in_leaf(part: &[u8], right: bool, leaf: usize, key: u64) -> Key
     Key::Is(key_at(part, leaf, p - 1))
 }
 
-// Is there a child left on that side of the one that was followed?
-fn more(right: bool, b: Turn) -> bool
-    ensures { λ r. ⌜ r ≡ more right b ⌝ }
+// Is there a child left on that side of child number `at`, of a node with that many keys?
+fn more(right: bool, at: usize, count: usize) -> bool
+    ensures { λ r. ⌜ r ≡ more-with right at count ⌝ }
 {
-    let n = b.node;
     if right {
-        return b.at < n.count;
+        return at < count;
     }
-    0 < b.at
+    0 < at
 }
 
 // The number of the next child on that side.
@@ -105,29 +95,29 @@ pub enum Where {
 // With Next: the child to be read next, its name and its level, with the inner nodes above it.
 pub struct Ahead {
     pub state: Where,
-    pub path: [Turn; 5],
+    pub path: [Pass; 5],
     pub level: usize,
     pub name: u64,
 }
 
 // The nearest branch on that side, of the nodes above a level.
-fn climb(right: bool, top: usize, path: [Turn; 5], level: usize) -> Ahead
-    requires { ⌜ Stacked top path level ⌝ }
-    ensures { λ r. ⌜ Climbed right top path level r ⌝ }
+fn climb(part: &[u8], right: bool, top: usize, path: [Pass; 5], level: usize) -> Ahead
+    requires { ⌜ Stacked top (turns-in (now part) path) level × Path-in-part path × ClientPart (now part) ⌝ }
+    ensures { λ r. ⌜ Climbed right top (turns-in (now (part .entry)) path) level (heading (now (part .entry)) r) ⌝ }
+    ensures within { λ r. ⌜ Path-in-part (r .path) ⌝ }
 {
     let mut l = level;
     while l < top {
         let b = path[l + 1];
-        if more(right, b) {
+        let count = count_at(part, b.place);
+        if more(right, b.at, count) {
             let at = onward(right, b.at);
-            let node = b.node;
-            let children = node.slots;
-            let name = slot(children, at);
+            let name = slot_at(part, b.place, at);
             let mut out = path;
-            out[l + 1] = Turn {
+            out[l + 1] = Pass {
                 name: b.name,
                 at,
-                node,
+                place: b.place,
             };
             return Ahead {
                 state: Where::Next,
@@ -152,14 +142,16 @@ fn advance(
     right: bool,
     key: u64,
     top: usize,
-    path: [Turn; 5],
+    path: [Pass; 5],
     level: usize,
     name: u64,
     place: usize,
 ) -> Ahead
-    requires { ⌜ Stacked top path level × In-part place × ClientPart (now part) ⌝ }
+    requires { ⌜ Stacked top (turns-in (now part) path) level × Path-in-part path × In-part place × ClientPart (now part) ⌝ }
     requires at { ⌜ Standing (node-at (view (now part)) place) level top ⌝ }
-    ensures { λ r. ⌜ Advanced right key top path level (node-at (view (now (part .entry))) place) r ⌝ }
+    ensures { λ r. ⌜ Advanced right key top (turns-in (now (part .entry)) path) level (node-at (view (now (part .entry))) place)
+        (heading (now (part .entry)) r) ⌝ }
+    ensures within { λ r. ⌜ Path-in-part (r .path) ⌝ }
 {
     if level == 0 {
         let k = in_leaf(part, right, place, key);
@@ -173,16 +165,15 @@ fn advance(
                 };
             }
             Key::Nothing => {
-                return climb(right, top, path, level);
+                return climb(part, right, top, path, level);
             }
         }
     }
     let count = count_at(part, place);
     let at = first_at(right, count);
     let child = slot_at(part, place, at);
-    let node = read_node(part, place);
     let mut out = path;
-    out[level] = Turn { name, at, node };
+    out[level] = Pass { name, at, place };
     Ahead {
         state: Where::Next,
         path: out,
@@ -205,14 +196,15 @@ fn read_on(
     right: bool,
     key: u64,
     top: usize,
-    path: [Turn; 5],
+    path: [Pass; 5],
     level: usize,
     name: u64,
 ) -> Reading
     requires { ⌜ Walking servers (now part) (now used) ⌝ }
-    requires at { ⌜ Stacked top path level × (level < top) ⌝ }
-    ensures { λ r. ⌜ ReadOn (sizes servers slots) (held (now (part .entry))) (now (used .entry)) right key top path level name r
-        (now (used .exit)) ⌝ }
+    requires at { ⌜ Stacked top (turns-in (now part) path) level × (level < top) × Path-in-part path ⌝ }
+    ensures { λ r. ⌜ ReadOn (sizes servers slots) (held (now (part .entry))) (now (used .entry)) right key top
+        (turns-in (now (part .entry)) path) level name (r .stop) (heading (now (part .entry)) (r .ahead)) (now (used .exit)) ⌝ }
+    ensures within { λ r. ⌜ Path-in-part (r .ahead .path) ⌝ }
 {
     let c = child(part, servers, slots, used, level as u64, name);
     let stop = c.stop;
@@ -242,14 +234,14 @@ fn seek(
     right: bool,
     key: u64,
     top: usize,
-    first: [Turn; 5],
+    first: [Pass; 5],
     from: usize,
     child: u64,
 ) -> Stop
     requires { ⌜ Walking servers (now part) (now used) ⌝ }
-    requires at { ⌜ Stacked top first from × (from < top) ⌝ }
-    ensures { λ r. ⌜ Seeks (sizes servers slots) (held (now (part .entry))) (now (used .entry)) right key top first from child r
-        (now (used .exit)) ⌝ }
+    requires at { ⌜ Stacked top (turns-in (now part) first) from × (from < top) × Path-in-part first ⌝ }
+    ensures { λ r. ⌜ Seeks (sizes servers slots) (held (now (part .entry))) (now (used .entry)) right key top
+        (turns-in (now (part .entry)) first) from child r (now (used .exit)) ⌝ }
 {
     let mut path = first;
     let mut level = from;
@@ -298,13 +290,14 @@ fn beyond(
     right: bool,
     key: u64,
     top: usize,
-    path: [Turn; 5],
+    path: [Pass; 5],
 ) -> Stop
     requires { ⌜ Walking servers (now part) (now used) ⌝ }
-    requires at { ⌜ Stacked top path 0 ⌝ }
-    ensures { λ r. ⌜ Beyond (sizes servers slots) (held (now (part .entry))) (now (used .entry)) right key top path r (now (used .exit)) ⌝ }
+    requires at { ⌜ Stacked top (turns-in (now part) path) 0 × Path-in-part path ⌝ }
+    ensures { λ r. ⌜ Beyond (sizes servers slots) (held (now (part .entry))) (now (used .entry)) right key top
+        (turns-in (now (part .entry)) path) r (now (used .exit)) ⌝ }
 {
-    let a = climb(right, top, path, 0);
+    let a = climb(part, right, top, path, 0);
     let state = a.state;
     match state {
         Where::Found(_) => answers(part, used, 0, 0),
@@ -353,8 +346,7 @@ pub fn near(
     match k {
         Key::Is(x) => answers(part, used, 1, x),
         Key::Nothing => {
-            let passed = d.path;
-            let path = turns(part, passed);
+            let path = d.path;
             beyond(part, servers, slots, used, right, key, d.top, path)
         }
     }

@@ -300,10 +300,15 @@ module _ (z : TreeSizes) (m : ClientWord → ℕ) (u₀ : List ℕ) (key target 
       }
 
 -- ---- the same of what the code passes, in a part of the bytes b
-map-set : {A B : Type 0} (f : A → B) (l : List A) (i : ℕ) (x : A) → map f (set l i x) ≡ set (map f l) i (f x)
+pub map-set : {A B : Type 0} (f : A → B) (l : List A) (i : ℕ) (x : A) → map f (set l i x) ≡ set (map f l) i (f x)
 map-set f [] i x = refl
 map-set f (y ∷ l) zero x = refl
 map-set f (y ∷ l) (suc i) x = ap (λ (t : List _). f y ∷ t) (map-set f l i x)
+
+pub map-get : {A B : Type 0} (f : A → B) (l : List A) (i : ℕ) (d : A) → getD (map f l) i (f d) ≡ f (getD l i d)
+map-get f [] i d = refl
+map-get f (y ∷ l) zero d = refl
+map-get f (y ∷ l) (suc i) d = map-get f l i d
 
 map-length : {A B : Type 0} (f : A → B) (l : List A) → length (map f l) ≡ length l
 map-length f [] = refl

@@ -11,10 +11,10 @@ use Rattle.operations.specs.Slot.{TreeSizes}
 use Rattle.operations.specs.Look.{told, seek-up}
 use Rattle.memory.specs.Word.{view}
 use Rattle.nodes.specs.Stored.{node-at}
+use Rattle.walk.specs.declared.seek.Ahead.{Ahead}
 use Rattle.walk.specs.declared.down.Descent.{Descent}
 use Rattle.walk.specs.declared.down.Turn.{Turn}
 use Rattle.walk.specs.declared.walk.Stop.{Stop}
-use Rattle.walk.specs.declared.seek.Ahead.{Ahead}
 use Rattle.walk.specs.declared.seek.Where.the-variants.{Found, Nowhere, Next}
 use Rattle.walk.specs.declared.seek.Key.{Key}
 use Rattle.walk.specs.declared.seek.Key.the-variants.{Is, Nothing}
@@ -26,25 +26,25 @@ use Rattle.walk.specs.Walk.{goes}
 use Rattle.walk.specs.Down.{turns-in, Arrival, arrival, Descends, Reached, low, branches, trail}
 use Rattle.walk.specs.Lookup.{Ends, Walks}
 use Rattle.walk.specs.Laws.Lookup.{ended-nothing}
-use Rattle.walk.specs.Seek.{visit, side, nearest-in, near-plan, key-of, in-leaf, rests, Stacked, Climbed, Seeks}
+use Rattle.walk.specs.Seek.{heading, visit, side, nearest-in, near-plan, key-of, in-leaf, rests, Stacked, Climbed, Seeks}
 use Rattle.walk.specs.Laws.Seek.{is-key, no-key, near-of, seek-climb}
 use Rattle.walk.specs.Near.{Beyond}
 
-module _ (z : TreeSizes) (m : ClientWord → ℕ) (u : List ℕ) (right : Bool) (key top : ℕ) (path : List Turn) (a : Ahead) (h : Climbed right top path 0 a) (s : Stop) (u′ : List ℕ) where
+module _ (z : TreeSizes) (m : ClientWord → ℕ) (u : List ℕ) (right : Bool) (key top : ℕ) (path : List Turn) (c : List ℕ) (a : Ahead) (h : Climbed right top path 0 (heading c a)) (s : Stop) (u′ : List ℕ) where
   pub beyond-found : (y : ℕ) → a .state ≡ Found y → Beyond z m u right key top path s u′
   beyond-found y e = absurd (h .found y e)
 
   pub beyond-none : a .state ≡ Nowhere → Ends m u 0 0 s u′ → Beyond z m u right key top path s u′
   beyond-none e q = record { same = λ f. rw (h .ends e (nearest-in right key) f) (q .same z [] ∙ ended-nothing s (used-in u′)); noted = q .noted }
 
-  pub beyond-next : a .state ≡ Next → Seeks z m u right key top (a .path) (a .level) (a .name) s u′ → Beyond z m u right key top path s u′
+  pub beyond-next : a .state ≡ Next → Seeks z m u right key top (turns-in c (a .path)) (a .level) (a .name) s u′ → Beyond z m u right key top path s u′
   beyond-next e q = record { same = λ f. rw (h .next e (nearest-in right key) f) (q .same (h .lo f) (h .lows f)); noted = q .noted }
 
-pub next-stacked : (right : Bool) (top : ℕ) (path : List Turn) (a : Ahead) → Climbed right top path 0 a → a .state ≡ Next → Stacked top (a .path) (a .level)
-next-stacked right top path a h e = h .stacked e
+pub next-stacked : (right : Bool) (top : ℕ) (path : List Turn) (c : List ℕ) (a : Ahead) → Climbed right top path 0 (heading c a) → a .state ≡ Next → Stacked top (turns-in c (a .path)) (a .level)
+next-stacked right top path c a h e = h .stacked e
 
-pub next-below : (right : Bool) (top : ℕ) (path : List Turn) (a : Ahead) → Climbed right top path 0 a → a .state ≡ Next → a .level < top
-next-below right top path a h e = h .below e
+pub next-below : (right : Bool) (top : ℕ) (path : List Turn) (c : List ℕ) (a : Ahead) → Climbed right top path 0 (heading c a) → a .state ≡ Next → a .level < top
+next-below right top path c a h e = h .below e
 
 pub ruleset beyond-exits = (beyond-found, beyond-none, beyond-next, next-stacked, next-below)
 
@@ -96,8 +96,8 @@ module _ (z : TreeSizes) (m : ClientWord → ℕ) (u : List ℕ) (right : Bool) 
           noted = q .noted;
         }
 
-    pub near-beyond : (k : Key) (path : List Turn) (s : Stop) (u₂ : List ℕ) → k ≡ in-leaf right (node-at (view c) (p .place)) key → k ≡ Nothing → path ≡ turns-in c (p .path) → Beyond z m u₁ right key (p .top) path s u₂ → Walks z m u (near-plan right key) s u₂
-    near-beyond k path s u₂ pk e pp q =
+    pub near-beyond : (k : Key) (s : Stop) (u₂ : List ℕ) → k ≡ in-leaf right (node-at (view c) (p .place)) key → k ≡ Nothing → Beyond z m u₁ right key (p .top) (turns-in c (p .path)) s u₂ → Walks z m u (near-plan right key) s u₂
+    near-beyond k s u₂ pk e q =
         let v : nearest-in right key (entriesOf (d .node) (low bs)) ≡ none = no-key (nearest-in right key (entriesOf (d .node) (low bs))) (near ∙ sym pk ∙ e) in
         record {
           same = rw (
@@ -106,11 +106,11 @@ module _ (z : TreeSizes) (m : ClientWord → ℕ) (u : List ℕ) (right : Bool) 
             v,
             seek-climb (nearest-in right key) right zero (branches bs),
             sides-are right bs,
-          ) (rw pp at (q .same (lows-of bs)));
+          ) (q .same (lows-of bs));
           noted = q .noted;
         }
 
-    pub near-stacked : (path : List Turn) → path ≡ turns-in c (p .path) → Stacked (p .top) path 0
-    near-stacked path pp = rw pp (record { high = h .high; size = end .size; good = end .good })
+    pub near-stacked : Stacked (p .top) (turns-in c (p .path)) 0
+    near-stacked = record { high = h .high; size = end .size; good = end .good }
 
 pub ruleset near-exits = (near-stops, near-small, near-found, near-beyond, near-stacked)

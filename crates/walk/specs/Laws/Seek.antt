@@ -3,7 +3,7 @@ use mathlib.Core.Path.{_≡_, refl, sym, _∙_}
 use mathlib.Core.Bool.{Bool, true, false, cond, not}
 use mathlib.Core.List.{List, [], _∷_, _++_, map}
 use mathlib.Core.Option.{Option, none, some}
-use Prim.Native.Nat.{ℕ, zero, suc, _+_, _-_, _≤_, _<_}
+use Prim.Native.Nat.{ℕ, zero, suc, _+_, _-_, _/_, _≤_, _<_}
 use native.Mathlib.Omega.{arith}
 use lib.Dec.{leb, ltb}
 use lib.ListN.{length, take, drop, getD, set, getElem?, drop-of-length-le, length-set}
@@ -16,6 +16,8 @@ use Rattle.nodes.specs.Node.{keysOf}
 use Rattle.nodes.specs.Laws.Node.{length-keysOf}
 use Rattle.nodes.specs.Entries.{entriesOf}
 use Rattle.nodes.specs.Kept.{Whole}
+use Rattle.nodes.specs.Stored.{node-at}
+use Rattle.memory.specs.Word.{view}
 use Rattle.nodes.specs.Laws.Stored.{Sized}
 use Rattle.nodes.specs.Laws.Kept.{length-entriesOf}
 use Rattle.operations.specs.Slot.{TreeSizes}
@@ -24,8 +26,8 @@ use Rattle.operations.specs.Path.{TreePlan, kid, Branch}
 use Rattle.operations.specs.Look.{rightward, leftward, seek, seek-up}
 use Rattle.walk.specs.declared.down.Turn.{Turn}
 use Rattle.walk.specs.declared.walk.Stop.{Stop}
+use Rattle.walk.specs.declared.down.Pass.{Pass}
 use Rattle.walk.specs.declared.seek.Ahead.{Ahead}
-use Rattle.walk.specs.declared.seek.Reading.{Reading}
 use Rattle.walk.specs.declared.seek.Where.the-variants.{Found, Nowhere, Next}
 use Rattle.walk.specs.declared.seek.Key.{Key}
 use Rattle.walk.specs.declared.seek.Key.the-variants.{Is, Nothing}
@@ -38,9 +40,9 @@ use Rattle.walk.specs.Ask.{Noted, nothing}
 use Rattle.walk.specs.Laws.Ask.{none-held}
 use Rattle.walk.specs.Lookup.{Ends}
 use Rattle.walk.specs.Laws.Lookup.{ended-nothing}
-use Rattle.walk.specs.Down.{Kid, trail, Followed, All, blank}
-use Rattle.walk.specs.Laws.Down.{stops-not, part-sized, trail-more}
-use Rattle.walk.specs.Seek.{visit, side, nearest-in, key-of, near-keys, in-leaf, more, onward, first-at, rest, climb, rests, Stacked, onto, times, pow, left-in, load, weight, Climbed, Standing, read-on, Advanced, afterwards, ReadOn, Seeks}
+use Rattle.walk.specs.Down.{Kid, nowhere, turn-in, turns-in, Path-in-part, trail, Followed, All, blank}
+use Rattle.walk.specs.Laws.Down.{stops-not, part-sized, map-set, map-get, set-in-part, trail-more}
+use Rattle.walk.specs.Seek.{visit, side, nearest-in, key-of, near-keys, in-leaf, more-with, more, onward, first-at, rest, climb, rests, Stacked, onto, times, pow, left-in, load, weight, Heading, heading, Climbed, Standing, read-on, Advanced, afterwards, ReadOn, Seeks}
 
 -- ---- ways out of the code on one node
 elem-some : (l : List ℕ) (i : ℕ) → i < length l → getElem? l i ≡ some (getD l i 0)
@@ -104,13 +106,11 @@ module _ (right : Bool) (n : Node) (key : ℕ) (lk : Sized n) (small : n .count 
 
 pub ruleset leaf-exits = (right-some, right-none, left-zero, left-none, left-some, part-sized)
 
-pub more-right : (b : Turn) (right : Bool) → right ≡ true → ltb (b .at) (b .node .count) ≡ more right b
-unfolding more
-more-right b right t = rw t
+pub more-right : (i c : ℕ) (right : Bool) → right ≡ true → ltb i c ≡ more-with right i c
+more-right i c right t = rw t
 
-pub more-left : (b : Turn) (right : Bool) → right ≡ false → ltb 0 (b .at) ≡ more right b
-unfolding more
-more-left b right t = rw t
+pub more-left : (i c : ℕ) (right : Bool) → right ≡ false → ltb 0 i ≡ more-with right i c
+more-left i c right t = rw t
 
 pub onward-right : (i : ℕ) (right : Bool) → right ≡ true → i + 1 ≡ onward right i
 onward-right i right t = rw t
@@ -305,7 +305,59 @@ module _ (right : Bool) (top : ℕ) (path : List Turn) (level l : ℕ) (c : Clim
             lighter = λ r. lighter-by b s (one-less n (getD path (l + 1) d .at) at pa going-on);
           }
 
-pub ruleset climb-exits = (climb-start, climb-ends, climb-at, climb-more, climb-slot, climb-next)
+pass-there : (ps : List Pass) (i : ℕ) (d : Pass) → Path-in-part ps → i < length ps → getD ps i d .place + 33 ≤ 7223
+pass-there ps i d h l = rw (getD-any ps i d nowhere l) (h .each i l)
+
+-- ---- the same over what the code passes, in a part of the bytes b
+module _ (b : List ℕ) (right : Bool) (top : ℕ) (ps : List Pass) (level l : ℕ) (c : Climbing right top (turns-in b ps) level l) where
+  pub climbs-end : top ≤ l → (n : ℕ) → Climbed right top (turns-in b ps) level (heading b (record { state = Nowhere; path = ps; level = l; name = n }))
+  climbs-end h n = climb-ends right top (turns-in b ps) level l c h n
+
+  module _ (h : l < top) (d : Pass) where
+    abbrev p : Pass
+    p = getD ps (l + 1) d
+
+    turn-there : getD (turns-in b ps) (l + 1) (turn-in b d) ≡ turn-in b p
+    turn-there = map-get (turn-in b) ps (l + 1) d
+
+    pub climbs-room : Path-in-part ps → length ps ≡ 5 → 7223 ≤ length b / 8 → getD ps (l + 1) d .place + 33 ≤ length b / 8
+    climbs-room w e g =
+        let i : l + 1 < length ps = omega (arith, c .stacked .high) in
+        let r : getD ps (l + 1) d .place + 33 ≤ 7223 = pass-there ps (l + 1) d w i in
+        omega arith
+
+    pub climbs-kept : Path-in-part ps → length ps ≡ 5 → (n v : ℕ) → Path-in-part (set ps (l + 1) (record { name = n; at = v; place = getD ps (l + 1) d .place }))
+    climbs-kept w e n v =
+        let i : l + 1 < length ps = omega (arith, c .stacked .high) in
+        set-in-part ps (l + 1) (record { name = n; at = v; place = getD ps (l + 1) d .place }) w (pass-there ps (l + 1) d w i)
+
+    pub climbs-at : getD ps (l + 1) d .at ≤ 14
+    climbs-at = rw turn-there at (climb-at right top (turns-in b ps) level l c h (turn-in b d))
+
+    module _ (t : Bool) (n : ℕ) (pn : n ≡ node-at (view b) (getD ps (l + 1) d .place) .count) (pt : t ≡ more-with right (getD ps (l + 1) d .at) n) where
+      branch-asked : t ≡ more right (getD (turns-in b ps) (l + 1) (turn-in b d))
+      unfolding more
+      branch-asked = pt ∙ rw (turn-there, ← pn)
+
+      pub climbs-on : t ≡ false → Climbing right top (turns-in b ps) level (l + 1)
+      climbs-on q = climb-more right top (turns-in b ps) level l c h (turn-in b d) t branch-asked q
+
+      module _ (q : t ≡ true) (at name : ℕ) (pa : at ≡ onward right (getD ps (l + 1) d .at)) where
+        onto-at : at ≡ onward right (getD (turns-in b ps) (l + 1) (turn-in b d) .at)
+        onto-at = pa ∙ rw turn-there
+
+        pub climbs-slot : at < 15
+        climbs-slot = climb-slot right top (turns-in b ps) level l c h (turn-in b d) t branch-asked q at name onto-at
+
+        pub climbs-next : name ≡ getD (node-at (view b) (getD ps (l + 1) d .place) .slots) at 0
+            → Climbed right top (turns-in b ps) level
+            (heading b (record { state = Next; path = set ps (l + 1) (record { name = getD ps (l + 1) d .name; at = at; place = getD ps (l + 1) d .place }); level = l; name = name }))
+        climbs-next e =
+            let y : Pass = record { name = p .name; at = at; place = p .place } in
+            let v : name ≡ getD (getD (turns-in b ps) (l + 1) (turn-in b d) .node .slots) at 0 = e ∙ rw turn-there in
+            rw (map-set (turn-in b) ps (l + 1) y) (rw turn-there at (climb-next right top (turns-in b ps) level l c h (turn-in b d) t branch-asked q at name onto-at v))
+
+pub ruleset climb-exits = (climb-start, climbs-end, climbs-at, climbs-on, climbs-slot, climbs-next, climbs-room, climbs-kept)
 
 pub seek-reads : (g : Entries → Option ℕ) (right : Bool) (l lo n : ℕ) (p : TreePlan) → seek g (visit right) l lo n p ≡ kid [] l lo n (λ es. read-on g right l es p)
 unfolding read-on
@@ -345,7 +397,7 @@ module _ (right : Bool) (key top : ℕ) (path : List Turn) (n : Node) (level : �
     lighter = λ q. let c : _≡_ {A = ℕ} 0 1 = cc in absurd (omega arith);
   }
 
-  pub leaf-passed : (k : Key) (a : Ahead) → k ≡ in-leaf right n key → k ≡ Nothing → Climbed right top path level a → Advanced right key top path level n a
+  pub leaf-passed : (k : Key) (a : Heading) → k ≡ in-leaf right n key → k ≡ Nothing → Climbed right top path level a → Advanced right key top path level n a
   unfolding read-on weight pow
   leaf-passed k a pk e c₀ =
       let c : Climbed right top path 0 a = rw z at c₀ in
@@ -406,7 +458,7 @@ module _ (right : Bool) (key top : ℕ) (path : List Turn) (n : Node) (level : �
       go true t = let w : at ≡ 0 = rw t at e in omega arith
       go false t = let w : at ≡ c = rw t at e in omega (arith, s .small .keys)
 
-  pub down-first : (c name at child : ℕ) (q : Node) → c ≡ n .count → at ≡ first-at right c → q ≡ n → child ≡ getD (n .slots) at 0
+  down-first : (c name at child : ℕ) (q : Node) → c ≡ n .count → at ≡ first-at right c → q ≡ n → child ≡ getD (n .slots) at 0
       → Advanced right key top path level n (record { state = Next; path = set path level (record { name = name; at = at; node = q }); level = level - 1; name = child })
   unfolding climb All weight load
   down-first c name at child q d pa′ pq pc =
@@ -436,7 +488,20 @@ module _ (right : Bool) (key top : ℕ) (path : List Turn) (n : Node) (level : �
             rw (weight, t, load, m, e) (omega arith);
       })
 
-pub ruleset advance-exits = (leaf-found, leaf-passed, first-inside, down-first)
+-- the inner node stands in a part of the bytes b
+pub first-down : (b : List ℕ) (right : Bool) (key top : ℕ) (ps : List Pass) (p level : ℕ) → Standing (node-at (view b) p) level top → Stacked top (turns-in b ps) level → (level ≡ 0 → ⊥)
+    → (c name at child : ℕ) → c ≡ node-at (view b) p .count → at ≡ first-at right c → child ≡ getD (node-at (view b) p .slots) at 0
+    → Advanced right key top (turns-in b ps) level (node-at (view b) p) (heading b (record { state = Next; path = set ps level (record { name = name; at = at; place = p }); level = level - 1; name = child }))
+first-down b right key top ps p level s k z c name at child d pa pc =
+    rw (map-set (turn-in b) ps level (record { name = name; at = at; place = p }))
+    (down-first right key top (turns-in b ps) (node-at (view b) p) level s k z c name at child (node-at (view b) p) d pa refl pc)
+
+-- a leaf does
+module _ (b : List ℕ) (right : Bool) (key top : ℕ) (ps : List Pass) (n : Node) (level : ℕ) (s : Standing n level top) (z : level ≡ 0) where
+  pub found-in-leaf : (k : Key) (x name : ℕ) → k ≡ in-leaf right n key → k ≡ Is x → Advanced right key top (turns-in b ps) level n (heading b (record { state = Found x; path = ps; level = level; name = name }))
+  found-in-leaf k x name pk e = leaf-found right key top (turns-in b ps) n level s z k x name pk e
+
+pub ruleset advance-exits = (found-in-leaf, leaf-passed, first-inside, first-down, set-in-part)
 
 module _ (z : TreeSizes) (m : ClientWord → ℕ) (u : List ℕ) (right : Bool) (key top : ℕ) (path : List Turn) (level name : ℕ) (s : Stop) (n : Node) (u′ : List ℕ) (h : Kid z m nothing u level name s n u′) (b : Bool) (pb : b ≡ goes s) where
   asked : (j : ℕ) (f : ℕ → ℕ) → walked z m (onto (nearest-in right key) right top path level name j f) (used-in u)
@@ -445,17 +510,18 @@ module _ (z : TreeSizes) (m : ClientWord → ℕ) (u : List ℕ) (right : Bool) 
       let p = climb (nearest-in right key) right level (rests right (trail path level (top - level)) f) in
       rw (seek-reads (nearest-in right key) right level j name p, h .asks [] (none-held z))
 
-  pub read-stops : (a : Ahead) → not b ≡ true → ReadOn z m u right key top path level name (record { stop = s; ahead = a }) u′
+  pub read-stops : (a : Heading) → not b ≡ true → ReadOn z m u right key top path level name s a u′
   read-stops a nb = record { node = n; asks = asked; noted = h .noted; long = h .long; leads = λ t. stops-not s (sym pb ∙ not-true b nb) t }
 
-  pub read-leads : (a : Ahead) → not b ≡ false → Advanced right key top path level n a → ReadOn z m u right key top path level name (record { stop = s; ahead = a }) u′
+  pub read-leads : (a : Heading) → not b ≡ false → Advanced right key top path level n a → ReadOn z m u right key top path level name s a u′
   read-leads a nb v = record { node = n; asks = asked; noted = h .noted; long = h .long; leads = λ t. v }
 
-  pub read-standing : not b ≡ false → level < top → Standing n level top
-  read-standing nb lt =
-      let on : goes s ≡ true = sym pb ∙ not-false b nb in
-      let q = below-true level n (h .fits on) in
-      record { whole = h .whole on; small = h .small on; opened = q .opened; level-is = q .level; below = lt }
+pub read-standing : (z : TreeSizes) (m : ClientWord → ℕ) (u : List ℕ) (level name : ℕ) (s : Stop) (n : Node) (u′ : List ℕ) (b : Bool) (top : ℕ) → Kid z m nothing u level name s n u′ → b ≡ goes s → not b ≡ false → level < top
+    → Standing n level top
+read-standing z m u level name s n u′ b top h pb nb lt =
+    let on : goes s ≡ true = sym pb ∙ not-false b nb in
+    let q = below-true level n (h .fits on) in
+    record { whole = h .whole on; small = h .small on; opened = q .opened; level-is = q .level; below = lt }
 
 pub ruleset read-exits = (read-stops, read-leads, read-standing)
 
@@ -476,31 +542,31 @@ pub seek-start : (z : TreeSizes) (m : ClientWord → ℕ) (u : List ℕ) (right 
 seek-start z m u right key top path level name k n =
     record { lo = λ j f. j; lows = λ j f. f; same = λ j f. refl; stacked = k .0; below = k .1; noted = n; long = refl }
 
-module _ (z : TreeSizes) (m : ClientWord → ℕ) (u₀ : List ℕ) (right : Bool) (key top : ℕ) (path₀ : List Turn) (level₀ name₀ : ℕ) (path : List Turn) (level name : ℕ) (u : List ℕ) (d : Seeking z m u₀ right key top path₀ level₀ name₀ path level name u) (r : Reading) (u₁ : List ℕ) (h : ReadOn z m u right key top path level name r u₁) (b : Bool) (pb : b ≡ goes (r .stop)) where
-  pub seek-stops : not b ≡ true → Seeks z m u₀ right key top path₀ level₀ name₀ (r .stop) u₁
-  seek-stops nb = let no : goes (r .stop) ≡ false = sym pb ∙ not-true b nb in
+module _ (z : TreeSizes) (m : ClientWord → ℕ) (u₀ : List ℕ) (right : Bool) (key top : ℕ) (path₀ : List Turn) (level₀ name₀ : ℕ) (path : List Turn) (level name : ℕ) (u : List ℕ) (d : Seeking z m u₀ right key top path₀ level₀ name₀ path level name u) (t : Stop) (c : List ℕ) (a : Ahead) (u₁ : List ℕ) (h : ReadOn z m u right key top path level name t (heading c a) u₁) (b : Bool) (pb : b ≡ goes t) where
+  pub seek-stops : not b ≡ true → Seeks z m u₀ right key top path₀ level₀ name₀ t u₁
+  seek-stops nb = let no : goes t ≡ false = sym pb ∙ not-true b nb in
       record { same = λ j f. rw (d .same j f, h .asks (d .lo j f) (d .lows j f), no); noted = h .noted }
 
   pub seek-long : length u₁ ≡ length u₀
   seek-long = h .long ∙ d .long
 
   module _ (nb : not b ≡ false) where
-    on : goes (r .stop) ≡ true
+    on : goes t ≡ true
     on = sym pb ∙ not-false b nb
 
-    pub seek-found : (y : ℕ) (s : Stop) (u₂ : List ℕ) → r .ahead .state ≡ Found y → Ends m u₁ 1 y s u₂ → Seeks z m u₀ right key top path₀ level₀ name₀ s u₂
+    pub seek-found : (y : ℕ) (s : Stop) (u₂ : List ℕ) → a .state ≡ Found y → Ends m u₁ 1 y s u₂ → Seeks z m u₀ right key top path₀ level₀ name₀ s u₂
     seek-found y s u₂ e q = record {
       same = λ j f. rw (d .same j f, h .asks (d .lo j f) (d .lows j f), on, h .leads on .found y e (d .lo j f) (d .lows j f)) (q .same z [] ∙ ended-nothing s (used-in u₂));
       noted = q .noted;
     }
 
-    pub seek-nowhere : (s : Stop) (u₂ : List ℕ) → r .ahead .state ≡ Nowhere → Ends m u₁ 0 0 s u₂ → Seeks z m u₀ right key top path₀ level₀ name₀ s u₂
+    pub seek-nowhere : (s : Stop) (u₂ : List ℕ) → a .state ≡ Nowhere → Ends m u₁ 0 0 s u₂ → Seeks z m u₀ right key top path₀ level₀ name₀ s u₂
     seek-nowhere s u₂ e q = record {
       same = λ j f. rw (d .same j f, h .asks (d .lo j f) (d .lows j f), on, h .leads on .ends e (d .lo j f) (d .lows j f)) (q .same z [] ∙ ended-nothing s (used-in u₂));
       noted = q .noted;
     }
 
-    pub seek-more : r .ahead .state ≡ Next → Seeking z m u₀ right key top path₀ level₀ name₀ (r .ahead .path) (r .ahead .level) (r .ahead .name) u₁
+    pub seek-more : a .state ≡ Next → Seeking z m u₀ right key top path₀ level₀ name₀ (turns-in c (a .path)) (a .level) (a .name) u₁
     seek-more e = let v = h .leads on in
         record {
           lo = λ j f. v .lo (d .lo j f) (d .lows j f);
@@ -512,7 +578,7 @@ module _ (z : TreeSizes) (m : ClientWord → ℕ) (u₀ : List ℕ) (right : Boo
           long = seek-long;
         }
 
-    pub seek-less : r .ahead .state ≡ Next → weight right top (r .ahead .path) (r .ahead .level) < weight right top path level
+    pub seek-less : a .state ≡ Next → weight right top (turns-in c (a .path)) (a .level) < weight right top path level
     seek-less e = h .leads on .lighter e
 
 pub ruleset seek-exits = (seek-start, seek-stops, seek-found, seek-nowhere, seek-more, seek-less)

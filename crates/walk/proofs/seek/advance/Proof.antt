@@ -14,7 +14,6 @@ advance-spec = tie.close (tie.spec
     (λ c κs. search needs)  -- count-at-requires
     (λ c κs. search needs)  -- first-at-requires
     (λ c κs. search (advance-exits, needs))  -- slot-at-requires
-    (λ c κs. search needs)  -- read-node-requires
     (λ c. search needs)  -- mul-out
     (λ c. search needs)  -- array-set-from-out
     (λ c. search needs)  -- sub-t17

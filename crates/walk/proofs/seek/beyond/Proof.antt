@@ -11,7 +11,7 @@ beyond-spec = tie.close (tie.spec
     (λ c. search needs)  -- enum-told-2
     (λ c κs. search needs)  -- answers-requires-2
     (λ c. search needs)  -- enum-told-3
-    (λ c κs. search (beyond-exits, needs))  -- seek-requires
+    (λ c κs. (search needs, (search (beyond-exits, needs), search (beyond-exits, needs), search needs)))  -- seek-requires
     (λ c. search needs)  -- same-length
     (λ c. search (beyond-exits, needs))  -- returns
     (λ c. search needs)  -- same-length-2

@@ -13,7 +13,6 @@ near-spec = tie.close (tie.spec
     (λ c. search needs)  -- enum-known-k
     (λ c κs. search needs)  -- answers-requires
     (λ c. search needs)  -- enum-told
-    (λ c κs. search needs)  -- turns-requires
     (λ c κs. (let k = c .before .before .before .before .before .before .before .before in search (near-exits, needs), search (near-exits, needs)))  -- beyond-requires
     (λ c. search needs)  -- same-length-2
     (λ c. search (near-exits, needs))  -- returns-2

@@ -1,5 +1,6 @@
 use Rattle.client.specs.Record.{sizes}
 use Rattle.client.specs.Sets.{held}
+use Rattle.walk.specs.Down.{turns-in, Path-in-part}
 use Rattle.walk.specs.Seek.{weight}
 use Rattle.walk.specs.Laws.Seek.{Seeking, seek-exits}
 use borrow.Author.Needs.{needs}
@@ -8,10 +9,10 @@ use Rattle.walk.proofs.seek.seek.Tie as tie
 
 abbrev Inv-loop : tie.InvT-loop
 Inv-loop part servers slots used₀ right key top from child path₀ level₀ name₀ used path level name =
-    Seeking (sizes servers slots) (held part) used₀ right key top path₀ level₀ name₀ path level name used
+    Seeking (sizes servers slots) (held part) used₀ right key top (turns-in part path₀) level₀ name₀ (turns-in part path) level name used × Path-in-part path
 
 abbrev μ-loop : tie.MeasureT-loop
-μ-loop part servers slots used₀ right key top from child path₀ level₀ name₀ used path level name = weight right top path level
+μ-loop part servers slots used₀ right key top from child path₀ level₀ name₀ used path level name = weight right top (turns-in part path) level
 
 pub seek-spec : {M : Type 1} → statement M
 seek-spec = tie.close (tie.spec
