@@ -368,8 +368,8 @@ fn reach(
 ) -> Leaf
     requires { ⌜ Walking servers (now part) (now used) ⌝ }
     requires from { ⌜ From (node-at (view (now part)) first) 0 × In-part first ⌝ }
-    ensures { λ r. ⌜ Reaches (sizes servers slots) (held (now (part .entry))) (now (used .entry)) key (node-at (view (now (part .entry))) first)
-        (r .stop) (node-at (view (now (part .entry))) (r .place)) (now (used .exit)) ⌝ }
+    ensures { λ r. ⌜ Reaches (sizes servers slots) (held (now (part .entry))) (now (used .entry)) key
+        (node-at (view (now (part .entry))) first) (r .stop) (node-at (view (now (part .entry))) (r .place)) (now (used .exit)) ⌝ }
     ensures within { λ r. ⌜ In-part (r .place) ⌝ }
 {
     let mut place = first;
