@@ -1,10 +1,10 @@
 -- A node as a list of entries: its keys with its values or children. The first entry of an inner node has the key from which
 -- the node holds keys, which its parent stores and it does not. With it leaves and inner nodes split, merge and lend alike.
-use mathlib.Core.List.{List, [], _∷_, map, tail}
+use mathlib.Core.List.{List, [], _∷_, map, tail, reverse}
 use mathlib.Core.Option.{Option, none, some}
 use Prim.Native.Nat.{ℕ, zero, suc, _+_}
 use lib.Dec.{ltb}
-use lib.ListN.{getD, set, getElem?}
+use lib.ListN.{getD, set, take, drop}
 use Rattle.nodes.specs.Lists.{insert-at}
 use Rattle.nodes.specs.Place.{place, one-if}
 use Rattle.nodes.specs.Find.{key-index}
@@ -96,15 +96,10 @@ with-at key v es (some i) = set es i (key, v)
 abbrev pub with-pair : ℕ → ℕ → Entries → Entries
 with-pair key v es = with-at key v es (index key es)
 
--- the nearest key strictly above: the one after the keys not above
-abbrev pub next-in : ℕ → Entries → Option ℕ
-next-in key es = getElem? (keys es) (place (keys es) key)
+-- the pairs strictly above a key: those after the keys not above it
+abbrev pub above-in : ℕ → Entries → Entries
+above-in key es = drop (place (keys es) key) es
 
--- the last of the first i keys, if i is not 0
-abbrev pub before : List ℕ → ℕ → Option ℕ
-before ks zero = none
-before ks (suc i) = getElem? ks i
-
--- the nearest key strictly below: the last of those below
-abbrev pub previous-in : ℕ → Entries → Option ℕ
-previous-in key es = before (keys es) (under (keys es) key)
+-- the pairs strictly below, the nearest first
+abbrev pub below-in : ℕ → Entries → Entries
+below-in key es = reverse (take (under (keys es) key) es)

@@ -31,6 +31,8 @@ pub mod Written
 -- the plans' steps on entries are these on keys and slots
 pub mod Arrays
 -- PROOFS
+-- pairs picked by their keys
+pub mod Picked
 -- a node's functions go by the place of a key, the map's by comparing keys: the same where keys rise
 pub mod Places
 -- whether a write hits an object

@@ -8,11 +8,12 @@ pub mod Met
 pub mod Ask
 -- the way down from the root
 pub mod Down
--- lookup, next and previous
+-- where a walk begins; lookup; pairs found in leaves; leaves in a row
+pub mod Begin
 pub mod Lookup
+pub mod Found
 pub mod Seek
 pub mod Near
-pub mod Begin
 -- how a walk stops; the work step of an operation that only reads
 pub mod Operation
 pub mod Stopped

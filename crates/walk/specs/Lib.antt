@@ -7,10 +7,10 @@ pub mod Walk
 pub mod Ask
 -- the way down from the root
 pub mod Down
--- lookup, next and previous
+-- lookup; pairs found in leaves; leaves in a row
 pub mod Lookup
+pub mod Found
 pub mod Seek
-pub mod Near
 -- the operations, by their numbers
 pub mod Operation
 -- how a walk stops; the work step of an operation that only reads

@@ -4,11 +4,18 @@ use mathlib.Core.List.{List, []}
 use Prim.Native.Nat.{ℕ}
 use Rattle.operations.specs.Object.{Ans, Writes}
 use Rattle.operations.specs.Slot.{TreeSizes}
+use Rattle.operations.specs.Path.{TreePlan}
+use Rattle.walk.specs.declared.found.Sought.{Sought}
 use Rattle.walk.specs.declared.walk.Stop.{Stop}
 use Rattle.client.specs.Layout.{ClientWord}
 use Rattle.client.specs.Work.{answers, worked}
+use Rattle.walk.specs.Found.{search-plan}
 use Rattle.walk.specs.Stopped.{Stopped, Filled}
 use Rattle.client.specs.Work as C
+
+-- next or previous: one pair is sought
+abbrev pub near-plan : Sought → ℕ → TreePlan
+near-plan s key = search-plan (record { sought = s; wanted = 1; key = key })
 
 -- the walk of such an operation has ended as its work step does, and nothing is written; the lent list has the copies that it used
 pub record Looks (z : TreeSizes) (m : ClientWord → ℕ) (s : Stop) (u₀ u : List ℕ) : Type 0 where

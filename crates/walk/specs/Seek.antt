@@ -1,65 +1,32 @@
--- Next and previous: the nearest branch on one side, and the leaves below it.
+-- Leaves in a row: the nearest branch on one side, and the leaves below it.
 use mathlib.Core.Path.{_≡_}
 use mathlib.Core.Bool.{Bool, true, false, cond}
-use mathlib.Core.List.{List, [], _∷_}
-use mathlib.Core.Option.{Option, none, some}
+use mathlib.Core.List.{List, [], _∷_, _++_}
 use Prim.Native.Nat.{ℕ, zero, suc, _+_, _-_, _≤_, _<_}
 use lib.Dec.{ltb}
-use lib.ListN.{length, take, drop, getElem?}
+use lib.ListN.{length, take, drop, getD, set}
 use Rattle.nodes.specs.declared.node.Node.{Node}
-use Rattle.nodes.specs.Place.{place}
-use Rattle.nodes.specs.Node.{keysOf}
 use Rattle.nodes.specs.Entries.{entriesOf}
 use Rattle.nodes.specs.Kept.{Whole}
 use Rattle.operations.specs.Slot.{TreeSizes}
-use Rattle.operations.specs.Entry.{Entries, next-in, previous-in, under, before}
-use Rattle.operations.specs.Path.{TreePlan, Branch}
-use Rattle.operations.specs.Look.{told, Visit, rightward, leftward, seek, nearest}
+use Rattle.operations.specs.Entry.{Entries}
+use Rattle.operations.specs.Path.{TreePlan}
+use Rattle.operations.specs.Look.{Search, Onward, told, enough, seek}
 use Rattle.walk.specs.declared.down.Turn.{Turn}
 use Rattle.walk.specs.declared.walk.Stop.{Stop}
+use Rattle.walk.specs.declared.found.Wish.{Wish}
 use Rattle.walk.specs.declared.seek.Ahead.{Ahead}
 use Rattle.walk.specs.declared.seek.Where.{Where}
-use Rattle.walk.specs.declared.seek.Where.the-variants.{Found, Nowhere, Next}
-use Rattle.walk.specs.declared.seek.Key.{Key}
-use Rattle.walk.specs.declared.seek.Key.the-variants.{Is, Nothing}
+use Rattle.walk.specs.declared.seek.Where.the-variants.{Finished, Next}
 use Rattle.walk.specs.Entries.{opens}
 use Rattle.client.specs.Layout.{ClientWord}
 use Rattle.client.specs.Lent.{used-in}
 use Rattle.walk.specs.Walk.{goes, walked, carry}
 use Rattle.walk.specs.Ask.{SmallNode, Noted}
 use Rattle.walk.specs.Down.{turns-in, trail, All}
-use Rattle.plans.specs.Plan as P
+use Rattle.walk.specs.Found.{to-right, search-of, visit}
 use Rattle.walk.specs.Walk as W
 use Rattle.client.specs.Bounds.{highest-level, level-count}
-
--- ---- one side: true for the right one
-abbrev pub visit : Bool → Visit
-visit true = rightward
-visit false = leftward
-
-abbrev pub side : Bool → Branch → Entries
-side true f = f .post
-side false f = f .pre
-
-abbrev pub nearest-in : Bool → ℕ → Entries → Option ℕ
-nearest-in true = next-in
-nearest-in false = previous-in
-
--- the plan of next or previous
-abbrev pub near-plan : Bool → ℕ → TreePlan
-near-plan right key = nearest (nearest-in right) (visit right) (side right) key
-
--- the leaf's key, by the code
-abbrev pub key-of : Option ℕ → Key
-key-of none = Nothing
-key-of (some x) = Is x
-
-abbrev pub near-keys : Bool → List ℕ → ℕ → Option ℕ
-near-keys true ks key = getElem? ks (place ks key)
-near-keys false ks key = before ks (under ks key)
-
-unfoldable pub in-leaf : Bool → Node → ℕ → Key
-in-leaf right n key = key-of (near-keys right (keysOf n) key)
 
 -- is there a child left on that side of child number i, of a node with that many keys
 abbrev pub more-with : Bool → ℕ → ℕ → Bool
@@ -85,9 +52,9 @@ rest true i es = drop (suc i) es
 rest false i es = take i es
 
 -- up from a level: the leaves below the entries left there, then those left further up
-unfoldable pub climb : (Entries → Option ℕ) → Bool → ℕ → List Entries → TreePlan
-climb g right l [] = P.done ((0, 0), [])
-climb g right l (es ∷ ess) = visit right (seek g (visit right) l) es (climb g right (suc l) ess)
+unfoldable pub climb : Search → Bool → ℕ → List Entries → Onward
+climb q right l [] = told q
+climb q right l (es ∷ ess) = visit right (seek q (visit right) l) es (climb q right (suc l) ess)
 
 -- ---- a stack of inner nodes: what is left to visit of each, for some keys from which they hold keys
 abbrev pub rests : Bool → List Turn → (ℕ → ℕ) → List Entries
@@ -100,9 +67,13 @@ pub record Stacked (top : ℕ) (path : List Turn) (level : ℕ) : Type 0 where
   pub size : length path ≡ level-count
   pub good : All (trail path level (top - level))
 
+-- what is left above a level
+abbrev pub above : Search → Bool → ℕ → List Turn → ℕ → (ℕ → ℕ) → Onward
+above q right top path level lows = climb q right level (rests right (trail path level (top - level)) lows)
+
 -- the plan that goes on at a child of that level
-abbrev pub onto : (Entries → Option ℕ) → Bool → ℕ → List Turn → ℕ → ℕ → ℕ → (ℕ → ℕ) → TreePlan
-onto g right top path level name lo lows = seek g (visit right) level lo name (climb g right level (rests right (trail path level (top - level)) lows))
+abbrev pub onto : Search → Bool → ℕ → List Turn → ℕ → ℕ → ℕ → (ℕ → ℕ) → Onward
+onto q right top path level name lo lows = seek q (visit right) level lo name (above q right top path level lows)
 
 -- ---- how much is left to read: 16 to the level for each node of a level
 unfoldable pub times : ℕ → ℕ → ℕ
@@ -138,16 +109,32 @@ heading b a = record { state = a .state; path = turns-in b (a .path); level = a 
 pub record Climbed (right : Bool) (top : ℕ) (path : List Turn) (level : ℕ) (a : Heading) : Type 0 where
   pub lo : (ℕ → ℕ) → ℕ
   pub lows : (ℕ → ℕ) → ℕ → ℕ
-  pub found : (x : ℕ) → a .state ≡ Found x → ⊥
-  pub ends : a .state ≡ Nowhere → (g : Entries → Option ℕ) (f : ℕ → ℕ) → climb g right level (rests right (trail path level (top - level)) f) ≡ P.done ((0, 0), [])
-  pub next : a .state ≡ Next → (g : Entries → Option ℕ) (f : ℕ → ℕ)
-      → climb g right level (rests right (trail path level (top - level)) f) ≡ onto g right top (a .path) (a .level) (a .name) (lo f) (lows f)
+  pub ends : a .state ≡ Finished → (q : Search) (f : ℕ → ℕ) → above q right top path level f ≡ told q
+  pub next : a .state ≡ Next → (q : Search) (f : ℕ → ℕ) → above q right top path level f ≡ onto q right top (a .path) (a .level) (a .name) (lo f) (lows f)
   pub stacked : a .state ≡ Next → Stacked top (a .path) (a .level)
   pub below : a .state ≡ Next → a .level < top
   pub lighter : a .state ≡ Next → weight right top (a .path) (a .level) ≤ load right level (trail path level (top - level))
 
--- ---- on from a node that was read
--- a node below the root, of a level below the top
+-- ---- on from a leaf with the pairs got, to those got then
+pub record Past (w : Wish) (top : ℕ) (path : List Turn) (n : Node) (got : Entries) (a : Heading) (got′ : Entries) : Type 0 where
+  pub lo : (ℕ → ℕ) → ℕ
+  pub lows : (ℕ → ℕ) → ℕ → ℕ
+  pub ends : a .state ≡ Finished → (j : ℕ) (f : ℕ → ℕ) → let q = search-of w in
+      enough q (above q (to-right (w .sought)) top path 0 f) (got ++ q .in-leaf (entriesOf n j)) ≡ told q got′
+  pub next : a .state ≡ Next → (j : ℕ) (f : ℕ → ℕ) → let q = search-of w in
+      enough q (above q (to-right (w .sought)) top path 0 f) (got ++ q .in-leaf (entriesOf n j))
+      ≡ onto q (to-right (w .sought)) top (a .path) (a .level) (a .name) (lo f) (lows f) got′
+  pub stacked : a .state ≡ Next → Stacked top (a .path) (a .level)
+  pub below : a .state ≡ Next → a .level < top
+  pub lighter : a .state ≡ Next → weight (to-right (w .sought)) top (a .path) (a .level) ≤ load (to-right (w .sought)) 0 (trail path 0 (top - 0))
+
+-- ---- on from an inner node n of a level: its first child comes next
+unfoldable pub first-child : Bool → List Turn → ℕ → ℕ → Node → Heading
+first-child right path level name n =
+    let at = first-at right (n .count) in
+    record { state = Next; path = set path level (record { name = name; at = at; node = n }); level = level - 1; name = getD (n .slots) at 0 }
+
+-- ---- on from a node below the root that was read
 pub record Standing (n : Node) (level top : ℕ) : Type 0 where
   pub whole : Whole n
   pub small : SmallNode n
@@ -156,38 +143,50 @@ pub record Standing (n : Node) (level top : ℕ) : Type 0 where
   pub below : level < top
 
 -- what a plan does with its entries
-unfoldable pub read-on : (Entries → Option ℕ) → Bool → ℕ → Entries → TreePlan → TreePlan
-read-on g right zero es p = told (g es) p
-read-on g right (suc l) es p = visit right (seek g (visit right) l) es p
+unfoldable pub read-on : Search → Bool → ℕ → Entries → Onward → Onward
+read-on q right zero es on found = enough q on (found ++ q .in-leaf es)
+read-on q right (suc l) es on found = visit right (seek q (visit right) l) es on found
 
-pub record Advanced (right : Bool) (key top : ℕ) (path : List Turn) (level : ℕ) (n : Node) (a : Heading) : Type 0 where
+abbrev pub afterwards : Wish → ℕ → List Turn → ℕ → Node → ℕ → (ℕ → ℕ) → Onward
+afterwards w top path level n j f =
+    read-on (search-of w) (to-right (w .sought)) level (entriesOf n j) (above (search-of w) (to-right (w .sought)) top path level f)
+
+pub record Advanced (w : Wish) (top : ℕ) (path : List Turn) (level : ℕ) (n : Node) (got : Entries) (a : Heading) (got′ : Entries) : Type 0 where
   pub lo : ℕ → (ℕ → ℕ) → ℕ
   pub lows : ℕ → (ℕ → ℕ) → ℕ → ℕ
-  pub found : (x : ℕ) → a .state ≡ Found x → (j : ℕ) (f : ℕ → ℕ)
-      → read-on (nearest-in right key) right level (entriesOf n j) (climb (nearest-in right key) right level (rests right (trail path level (top - level)) f)) ≡ P.done ((1, x), [])
-  pub ends : a .state ≡ Nowhere → (j : ℕ) (f : ℕ → ℕ)
-      → read-on (nearest-in right key) right level (entriesOf n j) (climb (nearest-in right key) right level (rests right (trail path level (top - level)) f)) ≡ P.done ((0, 0), [])
+  pub ends : a .state ≡ Finished → (j : ℕ) (f : ℕ → ℕ) → afterwards w top path level n j f got ≡ told (search-of w) got′
   pub next : a .state ≡ Next → (j : ℕ) (f : ℕ → ℕ)
-      → read-on (nearest-in right key) right level (entriesOf n j) (climb (nearest-in right key) right level (rests right (trail path level (top - level)) f))
-      ≡ onto (nearest-in right key) right top (a .path) (a .level) (a .name) (lo j f) (lows j f)
+      → afterwards w top path level n j f got ≡ onto (search-of w) (to-right (w .sought)) top (a .path) (a .level) (a .name) (lo j f) (lows j f) got′
   pub stacked : a .state ≡ Next → Stacked top (a .path) (a .level)
   pub below : a .state ≡ Next → a .level < top
-  pub lighter : a .state ≡ Next → weight right top (a .path) (a .level) < weight right top path level
+  pub lighter : a .state ≡ Next → weight (to-right (w .sought)) top (a .path) (a .level) < weight (to-right (w .sought)) top path level
 
 -- ---- a child read, and where it leads
-abbrev pub afterwards : Bool → ℕ → ℕ → List Turn → ℕ → Node → ℕ → (ℕ → ℕ) → TreePlan
-afterwards right key top path level n j f =
-    read-on (nearest-in right key) right level (entriesOf n j) (climb (nearest-in right key) right level (rests right (trail path level (top - level)) f))
-
-pub record ReadOn (z : TreeSizes) (m : ClientWord → ℕ) (u : List ℕ) (right : Bool) (key top : ℕ) (path : List Turn) (level name : ℕ) (s : Stop) (a : Heading) (u′ : List ℕ) : Type 0 where
+pub record ReadOn (z : TreeSizes) (m : ClientWord → ℕ) (u : List ℕ) (w : Wish) (top : ℕ) (path : List Turn) (level name : ℕ) (got : Entries) (s : Stop) (a : Heading) (u′ : List ℕ) (got′ : Entries) : Type 0 where
   pub node : Node
-  pub asks : (j : ℕ) (f : ℕ → ℕ) → walked z m (onto (nearest-in right key) right top path level name j f) (used-in u)
-      ≡ carry s (used-in u′) (λ us. walked z m (afterwards right key top path level node j f) us)
+  pub asks : (j : ℕ) (f : ℕ → ℕ) → walked z m (onto (search-of w) (to-right (w .sought)) top path level name j f got) (used-in u)
+      ≡ carry s (used-in u′) (λ us. walked z m (afterwards w top path level node j f got) us)
   pub noted : Noted m u′
   pub long : length u′ ≡ length u
-  pub leads : goes s ≡ true → Advanced right key top path level node a
+  pub leads : goes s ≡ true → Advanced w top path level node got a got′
+
+-- ---- the answer by the pairs got
+pub record Tells (m : ClientWord → ℕ) (u : List ℕ) (w : Wish) (got : Entries) (s : Stop) (u′ : List ℕ) : Type 0 where
+  pub same : (z : TreeSizes) → walked z m (told (search-of w) got) (used-in u) ≡ W.told s (used-in u′)
+  pub noted : Noted m u′
 
 -- ---- the leaves on that side, from a child on
-pub record Seeks (z : TreeSizes) (m : ClientWord → ℕ) (u : List ℕ) (right : Bool) (key top : ℕ) (path : List Turn) (level name : ℕ) (s : Stop) (u′ : List ℕ) : Type 0 where
-  pub same : (j : ℕ) (f : ℕ → ℕ) → walked z m (onto (nearest-in right key) right top path level name j f) (used-in u) ≡ W.told s (used-in u′)
+pub record Seeks (z : TreeSizes) (m : ClientWord → ℕ) (u : List ℕ) (w : Wish) (top : ℕ) (path : List Turn) (level name : ℕ) (got : Entries) (s : Stop) (u′ : List ℕ) : Type 0 where
+  pub same : (j : ℕ) (f : ℕ → ℕ) → walked z m (onto (search-of w) (to-right (w .sought)) top path level name j f got) (used-in u) ≡ W.told s (used-in u′)
+  pub noted : Noted m u′
+
+-- ---- the leaves on that side, from one with the path to it on
+pub record FromLeaf (z : TreeSizes) (m : ClientWord → ℕ) (u : List ℕ) (w : Wish) (top : ℕ) (path : List Turn) (n : Node) (got : Entries) (s : Stop) (u′ : List ℕ) : Type 0 where
+  pub same : (j : ℕ) (f : ℕ → ℕ) → let q = search-of w in
+      walked z m (enough q (above q (to-right (w .sought)) top path 0 f) (got ++ q .in-leaf (entriesOf n j))) (used-in u) ≡ W.told s (used-in u′)
+  pub noted : Noted m u′
+
+-- ---- a plan that writes nothing, walked from the start, with no copy in use
+pub record Afresh (z : TreeSizes) (m : ClientWord → ℕ) (p : TreePlan) (s : Stop) (u′ : List ℕ) : Type 0 where
+  pub same : walked z m p [] ≡ W.told s (used-in u′)
   pub noted : Noted m u′

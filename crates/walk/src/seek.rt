@@ -1,56 +1,30 @@
-// Next and previous: "if the leaf has none, go on down the nearest branch on that side".
+// Leaves in a row: "next and previous, if the leaf has none, go on down the nearest branch on that side".
 use crate::down::Pass;
 use crate::down::child;
 use crate::down::descend;
+use crate::down::to_leaf;
+use crate::found::Wish;
+use crate::found::gather;
+use crate::found::to_right;
 use crate::lookup::answers;
 use crate::walk::Stop;
 use crate::walk::going;
 use nodes::standing::count_at;
-use nodes::standing::key_at;
-use nodes::standing::place_at;
 use nodes::standing::slot_at;
 ghost use mathlib.Core.Path.{_≡_};
 ghost use Prim.Native.Nat.{_+_, _<_, _≤_};
+ghost use lib.ListN.{length, getD, set};
 ghost use Rattle.client.specs.Record.{sizes};
 ghost use Rattle.client.specs.Sets.{held};
 ghost use Rattle.memory.specs.Word.{view};
 ghost use Rattle.nodes.specs.Stored.{node-at};
 ghost use Rattle.client.specs.Layout.{ClientPart};
-ghost use Rattle.walk.specs.Ask.{In-part, Walking};
+ghost use Rattle.walk.specs.Ask.{In-part, Noted, Walking};
+ghost use Rattle.walk.specs.Found.{pairs-in, Roomy, search-plan, LeafAt};
 ghost use Rattle.walk.specs.Lookup.{Walks};
 ghost use Rattle.walk.specs.Down.{turns-in, Path-in-part};
-ghost use Rattle.walk.specs.Near.{Beyond};
-ghost use Rattle.walk.specs.Seek.{in-leaf, more-with, onward, first-at, Stacked, heading, Climbed, Standing, Advanced, ReadOn, Seeks, near-plan};
-ghost use Rattle.client.specs.Bounds.{most-keys};
-
-// A key, if there is one.
-pub enum Key {
-    Is(u64),
-    Nothing,
-}
-
-// The nearest key of the leaf at a place strictly above the key, or strictly below it.
-fn in_leaf(part: &[u8], right: bool, leaf: usize, key: u64) -> Key
-    requires { ⌜ (node-at (view (now part)) leaf .count ≤ most-keys) × In-part leaf × ClientPart (now part) ⌝ }
-    ensures { λ r. ⌜ r ≡ in-leaf right (node-at (view (now (part .entry))) leaf) key ⌝ }
-{
-    if right {
-        let p = place_at(part, leaf, key);
-        let count = count_at(part, leaf);
-        if p < count {
-            return Key::Is(key_at(part, leaf, p));
-        }
-        return Key::Nothing;
-    }
-    if key == 0 {
-        return Key::Nothing;
-    }
-    let p = place_at(part, leaf, key - 1);
-    if p == 0 {
-        return Key::Nothing;
-    }
-    Key::Is(key_at(part, leaf, p - 1))
-}
+ghost use Rattle.walk.specs.Seek.{more-with, onward, first-at, Stacked, heading, Climbed, Past, first-child, Standing, Advanced, ReadOn, Tells, Seeks, FromLeaf, Afresh};
+ghost use Rattle.client.specs.Bounds.{most-keys, highest-level};
 
 // Is there a child left on that side of child number `at`, of a node with that many keys?
 fn more(right: bool, at: usize, count: usize) -> bool
@@ -86,9 +60,9 @@ fn first_at(right: bool, count: usize) -> usize
     count
 }
 
+// The answer is found, or there is more to read.
 pub enum Where {
-    Found(u64),
-    Nowhere,
+    Finished,
     Next,
 }
 
@@ -129,46 +103,56 @@ fn climb(part: &[u8], right: bool, top: usize, path: [Pass; 5], level: usize) ->
         l += 1;
     }
     Ahead {
-        state: Where::Nowhere,
+        state: Where::Finished,
         path,
         level: l,
         name: 0,
     }
 }
 
-// On from a node that was read: from a leaf without such a key to the nearest branch, from an inner node to its first child.
-fn advance(
+// On from a leaf: its pairs are gathered, and where they are not enough the nearest branch comes next.
+fn past_leaf(
+    part: &[u8],
+    w: Wish,
+    found: &mut [u64],
+    top: usize,
+    path: [Pass; 5],
+    leaf: usize,
+) -> Ahead
+    requires { ⌜ Stacked top (turns-in (now part) path) 0 × Path-in-part path × In-part leaf × ClientPart (now part) ⌝ }
+    requires at { ⌜ LeafAt (node-at (view (now part)) leaf) × Roomy (w .wanted) (now found) ⌝ }
+    ensures { λ r. ⌜ Past w top (turns-in (now (part .entry)) path) (node-at (view (now (part .entry))) leaf) (pairs-in (now (found .entry)))
+        (heading (now (part .entry)) r) (pairs-in (now (found .exit))) ⌝ }
+    ensures within { λ r. ⌜ Path-in-part (r .path) × Roomy (w .wanted) (now (found .exit)) ⌝ }
+{
+    gather(part, leaf, w, found);
+    if found[0] as usize == w.wanted {
+        return Ahead {
+            state: Where::Finished,
+            path,
+            level: 0,
+            name: 0,
+        };
+    }
+    let sought = w.sought;
+    let right = to_right(sought);
+    climb(part, right, top, path, 0)
+}
+
+// On from an inner node: to its first child.
+fn to_first(
     part: &[u8],
     right: bool,
-    key: u64,
-    top: usize,
     path: [Pass; 5],
     level: usize,
     name: u64,
     place: usize,
 ) -> Ahead
-    requires { ⌜ Stacked top (turns-in (now part) path) level × Path-in-part path × In-part place × ClientPart (now part) ⌝ }
-    requires at { ⌜ Standing (node-at (view (now part)) place) level top ⌝ }
-    ensures { λ r. ⌜ Advanced right key top (turns-in (now (part .entry)) path) level (node-at (view (now (part .entry))) place)
-        (heading (now (part .entry)) r) ⌝ }
+    requires { ⌜ Path-in-part path × In-part place × ClientPart (now part) ⌝ }
+    requires at { ⌜ (0 < level) × (level ≤ highest-level) × (node-at (view (now part)) place .count ≤ most-keys) ⌝ }
+    ensures { λ r. ⌜ heading (now (part .entry)) r ≡ first-child right (turns-in (now (part .entry)) path) level name (node-at (view (now (part .entry))) place) ⌝ }
     ensures within { λ r. ⌜ Path-in-part (r .path) ⌝ }
 {
-    if level == 0 {
-        let k = in_leaf(part, right, place, key);
-        match k {
-            Key::Is(x) => {
-                return Ahead {
-                    state: Where::Found(x),
-                    path,
-                    level,
-                    name,
-                };
-            }
-            Key::Nothing => {
-                return climb(part, right, top, path, level);
-            }
-        }
-    }
     let count = count_at(part, place);
     let at = first_at(right, count);
     let child = slot_at(part, place, at);
@@ -182,6 +166,31 @@ fn advance(
     }
 }
 
+// On from a node below the root that was read.
+fn advance(
+    part: &[u8],
+    w: Wish,
+    found: &mut [u64],
+    top: usize,
+    path: [Pass; 5],
+    level: usize,
+    name: u64,
+    place: usize,
+) -> Ahead
+    requires { ⌜ Stacked top (turns-in (now part) path) level × Path-in-part path × In-part place × ClientPart (now part) ⌝ }
+    requires at { ⌜ Standing (node-at (view (now part)) place) level top × Roomy (w .wanted) (now found) ⌝ }
+    ensures { λ r. ⌜ Advanced w top (turns-in (now (part .entry)) path) level (node-at (view (now (part .entry))) place) (pairs-in (now (found .entry)))
+        (heading (now (part .entry)) r) (pairs-in (now (found .exit))) ⌝ }
+    ensures within { λ r. ⌜ Path-in-part (r .path) × Roomy (w .wanted) (now (found .exit)) ⌝ }
+{
+    if level == 0 {
+        return past_leaf(part, w, found, top, path, place);
+    }
+    let sought = w.sought;
+    let right = to_right(sought);
+    to_first(part, right, path, level, name, place)
+}
+
 // A child read, and where it leads.
 struct Reading {
     stop: Stop,
@@ -193,18 +202,18 @@ fn read_on(
     servers: usize,
     slots: usize,
     used: &mut [u64],
-    right: bool,
-    key: u64,
+    w: Wish,
+    found: &mut [u64],
     top: usize,
     path: [Pass; 5],
     level: usize,
     name: u64,
 ) -> Reading
-    requires { ⌜ Walking servers (now part) (now used) ⌝ }
+    requires { ⌜ Walking servers (now part) (now used) × Roomy (w .wanted) (now found) ⌝ }
     requires at { ⌜ Stacked top (turns-in (now part) path) level × (level < top) × Path-in-part path ⌝ }
-    ensures { λ r. ⌜ ReadOn (sizes servers slots) (held (now (part .entry))) (now (used .entry)) right key top
-        (turns-in (now (part .entry)) path) level name (r .stop) (heading (now (part .entry)) (r .ahead)) (now (used .exit)) ⌝ }
-    ensures within { λ r. ⌜ Path-in-part (r .ahead .path) ⌝ }
+    ensures { λ r. ⌜ ReadOn (sizes servers slots) (held (now (part .entry))) (now (used .entry)) w top (turns-in (now (part .entry)) path) level name
+        (pairs-in (now (found .entry))) (r .stop) (heading (now (part .entry)) (r .ahead)) (now (used .exit)) (pairs-in (now (found .exit))) ⌝ }
+    ensures within { λ r. ⌜ Path-in-part (r .ahead .path) × Roomy (w .wanted) (now (found .exit)) ⌝ }
 {
     let c = child(part, servers, slots, used, level as u64, name);
     let stop = c.stop;
@@ -213,7 +222,7 @@ fn read_on(
         return Reading {
             stop,
             ahead: Ahead {
-                state: Where::Nowhere,
+                state: Where::Finished,
                 path,
                 level,
                 name,
@@ -221,44 +230,44 @@ fn read_on(
         };
     }
     let place = c.place;
-    let ahead = advance(part, right, key, top, path, level, name, place);
+    let ahead = advance(part, w, found, top, path, level, name, place);
     Reading { stop, ahead }
 }
 
-// The leaves on that side of the path, from a child on, until one has such a key.
+// "Next and previous: a 1, b the nearest key strictly above or below, if any."
+fn tell(part: &[u8], used: &mut [u64], w: Wish, found: &[u64]) -> Stop
+    requires { ⌜ Noted (held (now part)) (now used) × ClientPart (now part) × Roomy (w .wanted) (now found) ⌝ }
+    ensures { λ r. ⌜ Tells (held (now (part .entry))) (now (used .entry)) w (pairs-in (now (found .entry))) r (now (used .exit)) ⌝ }
+{
+    if found[0] == 0 {
+        return answers(part, used, 0, 0);
+    }
+    answers(part, used, 1, found[1])
+}
+
+// The leaves on that side of the path, from a child on, until the pairs wanted are found.
 fn seek(
     part: &[u8],
     servers: usize,
     slots: usize,
     used: &mut [u64],
-    right: bool,
-    key: u64,
+    w: Wish,
+    found: &mut [u64],
     top: usize,
     first: [Pass; 5],
     from: usize,
     child: u64,
 ) -> Stop
-    requires { ⌜ Walking servers (now part) (now used) ⌝ }
+    requires { ⌜ Walking servers (now part) (now used) × Roomy (w .wanted) (now found) ⌝ }
     requires at { ⌜ Stacked top (turns-in (now part) first) from × (from < top) × Path-in-part first ⌝ }
-    ensures { λ r. ⌜ Seeks (sizes servers slots) (held (now (part .entry))) (now (used .entry)) right key top
-        (turns-in (now (part .entry)) first) from child r (now (used .exit)) ⌝ }
+    ensures { λ r. ⌜ Seeks (sizes servers slots) (held (now (part .entry))) (now (used .entry)) w top (turns-in (now (part .entry)) first) from child
+        (pairs-in (now (found .entry))) r (now (used .exit)) ⌝ }
 {
     let mut path = first;
     let mut level = from;
     let mut name = child;
     loop {
-        let r = read_on(
-            part,
-            servers,
-            slots,
-            used,
-            right,
-            key,
-            top,
-            path,
-            level,
-            name,
-        );
+        let r = read_on(part, servers, slots, used, w, found, top, path, level, name);
         let stop = r.stop;
         let on = going(stop);
         if !on {
@@ -267,11 +276,8 @@ fn seek(
         let a = r.ahead;
         let state = a.state;
         match state {
-            Where::Found(x) => {
-                return answers(part, used, 1, x);
-            }
-            Where::Nowhere => {
-                return answers(part, used, 0, 0);
+            Where::Finished => {
+                return tell(part, used, w, found);
             }
             Where::Next => {}
         }
@@ -281,27 +287,27 @@ fn seek(
     }
 }
 
-// Beyond the leaf of a path, on that side.
-fn beyond(
+// From a leaf on, with the path to it, until the pairs wanted are found.
+fn from_leaf(
     part: &[u8],
     servers: usize,
     slots: usize,
     used: &mut [u64],
-    right: bool,
-    key: u64,
+    w: Wish,
+    found: &mut [u64],
     top: usize,
     path: [Pass; 5],
+    leaf: usize,
 ) -> Stop
-    requires { ⌜ Walking servers (now part) (now used) ⌝ }
-    requires at { ⌜ Stacked top (turns-in (now part) path) 0 × Path-in-part path ⌝ }
-    ensures { λ r. ⌜ Beyond (sizes servers slots) (held (now (part .entry))) (now (used .entry)) right key top
-        (turns-in (now (part .entry)) path) r (now (used .exit)) ⌝ }
+    requires { ⌜ Walking servers (now part) (now used) × Roomy (w .wanted) (now found) ⌝ }
+    requires at { ⌜ Stacked top (turns-in (now part) path) 0 × Path-in-part path × LeafAt (node-at (view (now part)) leaf) × In-part leaf ⌝ }
+    ensures { λ r. ⌜ FromLeaf (sizes servers slots) (held (now (part .entry))) (now (used .entry)) w top (turns-in (now (part .entry)) path)
+        (node-at (view (now (part .entry))) leaf) (pairs-in (now (found .entry))) r (now (used .exit)) ⌝ }
 {
-    let a = climb(part, right, top, path, 0);
+    let a = past_leaf(part, w, found, top, path, leaf);
     let state = a.state;
     match state {
-        Where::Found(_) => answers(part, used, 0, 0),
-        Where::Nowhere => answers(part, used, 0, 0),
+        Where::Finished => tell(part, used, w, found),
         Where::Next => {
             let branches = a.path;
             let level = a.level;
@@ -311,8 +317,8 @@ fn beyond(
                 servers,
                 slots,
                 used,
-                right,
-                key,
+                w,
+                found,
                 top,
                 branches,
                 level,
@@ -322,32 +328,75 @@ fn beyond(
     }
 }
 
-// "Next and previous: a 1, b the nearest key strictly above or below, if any": next to the right, previous to the left.
+// From the leaf of the key on.
+fn by_path(
+    part: &[u8],
+    servers: usize,
+    slots: usize,
+    used: &mut [u64],
+    w: Wish,
+    found: &mut [u64],
+) -> Stop
+    requires { ⌜ Walking servers (now part) (now used) × Roomy (w .wanted) (now found) × (getD (now found) 0 0 ≡ 0) ⌝ }
+    ensures { λ r. ⌜ Walks (sizes servers slots) (held (now (part .entry))) (now (used .entry)) (search-plan w) r (now (used .exit)) ⌝ }
+{
+    let d = descend(part, servers, slots, used, w.key);
+    let stop = d.stop;
+    let on = going(stop);
+    if !on {
+        return stop;
+    }
+    let path = d.path;
+    from_leaf(part, servers, slots, used, w, found, d.top, path, d.place)
+}
+
+// None is in the lent list any more.
+fn empty(list: &mut [u64])
+    requires { ⌜ 0 < length (now list) ⌝ }
+    ensures { λ _. ⌜ now (list .exit) ≡ set (now (list .entry)) 0 0 ⌝ }
+{
+    list[0] = 0;
+}
+
+// The same from the start: no copy is in use, and no pair found.
+fn afresh(
+    part: &[u8],
+    servers: usize,
+    slots: usize,
+    used: &mut [u64],
+    w: Wish,
+    found: &mut [u64],
+) -> Stop
+    requires { ⌜ Walking servers (now part) (now used) × Roomy (w .wanted) (now found) ⌝ }
+    ensures { λ r. ⌜ Afresh (sizes servers slots) (held (now (part .entry))) (search-plan w) r (now (used .exit)) ⌝ }
+{
+    empty(used);
+    empty(found);
+    by_path(part, servers, slots, used, w, found)
+}
+
+// Next and previous. Nearly always the leaf of the key has the pair. Only where it has none a path is needed, and the walk begins anew with one.
 pub fn near(
     part: &[u8],
     servers: usize,
     slots: usize,
     used: &mut [u64],
-    right: bool,
-    key: u64,
+    w: Wish,
+    found: &mut [u64],
 ) -> Stop
-    requires { ⌜ Walking servers (now part) (now used) ⌝ }
-    ensures { λ r. ⌜ Walks (sizes servers slots) (held (now (part .entry))) (now (used .entry)) (near-plan right key) r
-        (now (used .exit)) ⌝ }
+    requires { ⌜ Walking servers (now part) (now used) × (getD (now used) 0 0 ≡ 0) × Roomy (w .wanted) (now found) × (getD (now found) 0 0 ≡ 0) ⌝ }
+    ensures { λ r. ⌜ Walks (sizes servers slots) (held (now (part .entry))) (now (used .entry)) (search-plan w) r (now (used .exit)) ⌝ }
 {
-    let d = descend(part, servers, slots, used, key);
+    let d = to_leaf(part, servers, slots, used, w.key);
     let stop = d.stop;
     let on = going(stop);
     if !on {
         return stop;
     }
     let leaf = d.place;
-    let k = in_leaf(part, right, leaf, key);
-    match k {
-        Key::Is(x) => answers(part, used, 1, x),
-        Key::Nothing => {
-            let path = d.path;
-            beyond(part, servers, slots, used, right, key, d.top, path)
-        }
+    gather(part, leaf, w, found);
+    if found[0] as usize == w.wanted {
+        return tell(part, used, w, found);
     }
+    afresh(part, servers, slots, used, w, found)
 }

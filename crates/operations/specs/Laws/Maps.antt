@@ -1,19 +1,19 @@
 -- The map's operations on pairs of which a part is at hand, and where the pairs of a tree lie.
-use mathlib.Core.Path.{_≡_, refl, ap, sym, _∙_}
+use mathlib.Core.Path.{_≡_, refl, ap, _∙_}
 use mathlib.Core.List.{List, [], _∷_, _++_}
-use mathlib.Core.Option.{Option, none, some}
+use mathlib.Core.Option.{none, some}
 use Prim.Native.Nat.{ℕ, zero, suc, _+_, _<_, _≤_}
 use native.Mathlib.Decide.{ℕ-discrete, decLt}
 use native.Mathlib.Omega.{arith}
 use lib.ListN.{length}
 use Rattle.base.specs.Test.{ifd}
 use Rattle.base.specs.Laws.Test.{ifd-yes, ifd-no}
-use Rattle.nodes.specs.Vector.{or-else}
 use Rattle.operations.specs.Object.{Val}
-use Rattle.operations.specs.Map.{Map, look, set-key, remove-key, above, below}
+use Rattle.operations.specs.Map.{Map, look, set-key, remove-key}
 use Rattle.operations.specs.Entry.{first-key-or}
 use Rattle.operations.specs.Chain.{Chain, gather, ren}
 use Rattle.operations.specs.Laws.Chain.{chain-le}
+use Rattle.operations.specs.Laws.Picked.{picked}
 use Rattle.operations.specs.Tree.{Slot, word, pairs, Entry}
 use Rattle.operations.specs.Laws.Focus.{entry-rise, Path, top, frame, lo, hi, left, right, Ctx}
 use Rattle.operations.specs.Laws.Moves.{starts-le}
@@ -78,9 +78,10 @@ pub leaf-words : (es : List (ℕ × ℕ)) → ren (word zero) es ≡ es
 leaf-words [] = refl
 leaf-words (e ∷ es) = ap (λ r. e ∷ r) (leaf-words es)
 
-pub or-assoc : (x y z : Option ℕ) → or-else (or-else x y) z ≡ or-else x (or-else y z)
-or-assoc none y z = refl
-or-assoc (some x) y z = refl
+-- nothing is picked where no key is as P says
+pub picked-none : {P : ℕ → Type 0} (d : (x : ℕ) → Dec (P x)) (a : Map) → Keys (λ x. ¬ P x) a → picked d a ≡ []
+picked-none d [] h = refl
+picked-none d (e ∷ a) h = ifd-no (d (e .0)) (e ∷ picked d a) (picked d a) (h .0) ∙ picked-none d a (h .1)
 
 -- LAWS
 module _ (key : ℕ) where
@@ -159,36 +160,6 @@ module _ (key : ℕ) where
       go : {P : Type 0} (d : Dec P) → (look key m ≡ none → remove-key key m ≡ m) → ifd d (some (e .1)) (look key m) ≡ none → ifd d m (e ∷ remove-key key m) ≡ e ∷ m
       go (yes p) r q = cc
       go (no p) r q = ap (λ z. e ∷ z) (r q)
-
-  -- next and previous over appended parts
-  pub above-app : (a b : Map) → above key (a ++ b) ≡ or-else (above key a) (above key b)
-  above-app [] b = refl
-  above-app (e ∷ a) b = go (decLt key (e .0)) (above-app a b)
-    where
-      go : {P : Type 0} (d : Dec P) → above key (a ++ b) ≡ or-else (above key a) (above key b)
-          → ifd d (some (e .0)) (above key (a ++ b)) ≡ or-else (ifd d (some (e .0)) (above key a)) (above key b)
-      go (yes p) r = refl
-      go (no p) r = r
-
-  pub above-none : (a : Map) → Keys Lt a → above key a ≡ none
-  above-none [] h = refl
-  above-none (e ∷ a) h = ifd-no (decLt key (e .0)) (some (e .0)) (above key a) (λ q. absurd (omega (arith, h .0, q))) ∙ above-none a (h .1)
-
-  pub below-app : (a b : Map) → below key (a ++ b) ≡ or-else (below key b) (below key a)
-  below-app [] b = sym (or-none (below key b))
-    where
-      or-none : (x : Option ℕ) → or-else x none ≡ x
-      or-none none = refl
-      or-none (some x) = refl
-  below-app (e ∷ a) b =
-      ap (λ r. or-else r (ifd (decLt (e .0) key) (some (e .0)) none)) (below-app a b)
-      ∙ or-assoc (below key b) (below key a) (ifd (decLt (e .0) key) (some (e .0)) none)
-
-  pub below-none : (b : Map) → Keys Gt b → below key b ≡ none
-  below-none [] h = refl
-  below-none (e ∷ b) h =
-      ap (λ r. or-else r (ifd (decLt (e .0) key) (some (e .0)) none)) (below-none b (h .1))
-      ∙ ifd-no (decLt (e .0) key) (some (e .0)) none (λ q. absurd (omega (arith, h .0, q)))
 
   -- a leaf after put or del
   abbrev Up : ℕ → ℕ → ℕ → Type 0

@@ -2,24 +2,24 @@
 -- leads to is the one whose part the key is in.
 use mathlib.Core.Path.{_≡_, refl, ap, sym, _∙_, subst}
 use mathlib.Core.Bool.{Bool, true, false, cond, not}
-use mathlib.Core.List.{List, [], _∷_, _++_}
+use mathlib.Core.List.{List, [], _∷_, _++_, reverse}
 use mathlib.Core.Logic.{_⊎_, inl, inr}
 use mathlib.Core.Option.{Option, none, some}
 use Prim.Native.Nat.{ℕ, zero, suc, _+_, _-_, _<_, _≤_}
 use native.Mathlib.Decide.{ℕ-discrete, decLt, decLe}
 use native.Mathlib.Omega.{arith}
-use lib.Dec.{T, leb, eqb, le→leb, leb→le, not-T, eqb·suc-zero}
+use lib.Dec.{T, leb, eqb, le→leb, leb→le, not-T, eqb·suc-zero, leb·suc-suc}
 use borrow.Author.Tests.{eq-eqb, ne-eqb}
-use lib.ListN.{length, take, drop, getD, getElem?}
+use lib.ListN.{length, take, drop, getD}
 use Rattle.base.specs.Test.{ifd}
 use Rattle.base.specs.Laws.Test.{ifd-yes, ifd-no}
 use Rattle.nodes.specs.Lists.{insert-at, remove-at}
 use Rattle.nodes.specs.Place.{place, one-if}
 use Rattle.nodes.specs.Find.{key-index, find-at}
-use Rattle.nodes.specs.Vector.{or-else}
-use Rattle.operations.specs.Map.{look, set-key, remove-key, above, below}
-use Rattle.operations.specs.Entry.{Entries, keys, first-key-or, Cut, cut-at, cut, index, value-at, value-in, with-at, with-pair, next-in, under, before, previous-in}
+use Rattle.operations.specs.Map.{look, set-key, remove-key}
+use Rattle.operations.specs.Entry.{Entries, keys, first-key-or, Cut, cut-at, cut, index, value-at, value-in, with-at, with-pair, under, above-in, below-in}
 use Rattle.operations.specs.Laws.Chain.{Rising, ren-keys}
+use Rattle.operations.specs.Laws.Picked.{picked}
 use Rattle.operations.specs.Chain.{ren}
 
 -- COUNTS of keys
@@ -237,32 +237,37 @@ module _ (key : ℕ) where
       go (inr (inr h)) rec = ap (removed (e ∷ es)) (index-gt (e .0) z (e ∷ es) h (omega arith, r .1))
           ∙ ap (λ q. e ∷ q) (sym (ap (removed es) (index-gt (suc (e .0)) z es (omega (arith, h)) (r .1))) ∙ rec) ∙ kept (λ q. absurd (omega (arith, q, h)))
 
-  pub above-is : (a z : ℕ) (es : Entries) → Rising a z (keys es) → next-in key es ≡ above key es
-  unfolding place
-  above-is a z [] r = refl
-  above-is a z (e ∷ es) r = go (decLt key (e .0)) (above-is (suc (e .0)) z es (r .1))
-    where
-      go : (d : Dec (key < e .0)) → next-in key es ≡ above key es → next-in key (e ∷ es) ≡ ifd d (some (e .0)) (above key es)
-      go (yes h) rec = ap (getElem? (keys (e ∷ es))) (place-none key (e .0) z (keys (e ∷ es)) h (omega arith, r .1))
-      go (no h) rec = ap (getElem? (keys (e ∷ es))) (place-le key (e .0) (keys es) (omega (arith, h))) ∙ rec
-
-  -- there is a key at each index below the length
-  there : (ks : List ℕ) (i : ℕ) (o : Option ℕ) → i < length ks → or-else (getElem? ks i) o ≡ getElem? ks i
-  there [] i o h = absurd (omega (arith, h))
-  there (k ∷ ks) zero o h = refl
-  there (k ∷ ks) (suc i) o h = there ks i o (omega (arith, h))
-
-  pub below-is : (a z : ℕ) (es : Entries) → Rising a z (keys es) → previous-in key es ≡ below key es
+  -- what is picked from a leaf's pairs by a bound for their keys
+  pub drop-is : (a z : ℕ) (es : Entries) → Rising a z (keys es) → drop (under (keys es) key) es ≡ picked (decLe key) es
   unfolding under
-  below-is a z [] r = refl
-  below-is a z (e ∷ es) r = go (decLt (e .0) key) (below-is (suc (e .0)) z es (r .1))
+  drop-is a z [] r = refl
+  drop-is a z (e ∷ es) r = go (decLe key (e .0)) (drop-is (suc (e .0)) z es (r .1))
     where
-      shift : (u : ℕ) → u ≤ length (keys es) → before (keys (e ∷ es)) (suc u) ≡ or-else (before (keys es) u) (some (e .0))
-      shift zero h = refl
-      shift (suc i) h = sym (there (keys es) i (some (e .0)) (omega (arith, h)))
+      go : (d : Dec (key ≤ e .0)) → drop (under (keys es) key) es ≡ picked (decLe key) es
+          → drop (under (keys (e ∷ es)) key) (e ∷ es) ≡ ifd d (e ∷ picked (decLe key) es) (picked (decLe key) es)
+      go (yes h) rec = ap (λ i. drop i (e ∷ es)) (under-none key (e .0) z (keys (e ∷ es)) h (omega arith, r .1))
+          ∙ ap (λ l. e ∷ l) (ap (λ i. drop i es) (sym (under-none key (suc (e .0)) z (keys es) (omega (arith, h)) (r .1))) ∙ rec)
+      go (no h) rec = ap (λ i. drop i (e ∷ es)) (under-lt key (e .0) (keys es) (omega (arith, h))) ∙ rec
 
-      go : (d : Dec (e .0 < key)) → previous-in key es ≡ below key es → previous-in key (e ∷ es) ≡ or-else (below key es) (ifd d (some (e .0)) none)
-      go (yes h) rec = ap (before (keys (e ∷ es))) (under-lt key (e .0) (keys es) h) ∙ shift (under (keys es) key) (under-length key (keys es))
-          ∙ ap (λ o. or-else o (some (e .0))) rec
-      go (no h) rec = ap (before (keys (e ∷ es))) (under-none key (e .0) z (keys (e ∷ es)) (omega (arith, h)) (omega arith, r .1))
-          ∙ sym (ap (λ o. or-else o none) (sym rec ∙ ap (before (keys es)) (under-none key (suc (e .0)) z (keys es) (omega (arith, h)) (r .1))))
+  pub take-is : (a z : ℕ) (es : Entries) → Rising a z (keys es) → take (under (keys es) key) es ≡ picked (λ x. decLt x key) es
+  unfolding under
+  take-is a z [] r = refl
+  take-is a z (e ∷ es) r = go (decLt (e .0) key) (take-is (suc (e .0)) z es (r .1))
+    where
+      go : (d : Dec (e .0 < key)) → take (under (keys es) key) es ≡ picked (λ x. decLt x key) es
+          → take (under (keys (e ∷ es)) key) (e ∷ es) ≡ ifd d (e ∷ picked (λ x. decLt x key) es) (picked (λ x. decLt x key) es)
+      go (yes h) rec = ap (λ i. take i (e ∷ es)) (under-lt key (e .0) (keys es) h) ∙ ap (λ l. e ∷ l) rec
+      go (no h) rec = ap (λ i. take i (e ∷ es)) (under-none key (e .0) z (keys (e ∷ es)) (omega (arith, h)) (omega arith, r .1))
+          ∙ ap (λ i. take i es) (sym (under-none key (suc (e .0)) z (keys es) (omega (arith, h)) (r .1))) ∙ rec
+
+-- the keys not above a key are those below the next number
+place-under : (key : ℕ) (ks : List ℕ) → place ks key ≡ under ks (suc key)
+unfolding place under
+place-under key [] = refl
+place-under key (x ∷ ks) = ap (λ i. one-if (leb x key) + i) (place-under key ks) ∙ ap (λ b. one-if b + under ks (suc key)) (sym (leb·suc-suc x key))
+
+pub above-is : (key a z : ℕ) (es : Entries) → Rising a z (keys es) → above-in key es ≡ picked (decLe (suc key)) es
+above-is key a z es r = ap (λ i. drop i es) (place-under key (keys es)) ∙ drop-is (suc key) a z es r
+
+pub below-is : (key a z : ℕ) (es : Entries) → Rising a z (keys es) → below-in key es ≡ reverse (picked (λ x. decLt x key) es)
+below-is key a z es r = ap reverse (take-is key a z es r)

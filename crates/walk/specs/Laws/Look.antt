@@ -23,7 +23,7 @@ use Rattle.walk.specs.Walk.{Told, is-answer, tell, walked}
 use Rattle.walk.specs.Laws.Begin.{nothing-used}
 use Rattle.walk.specs.Lookup.{ended, Walks}
 use Rattle.walk.specs.Laws.Lookup.{ended-nothing}
-use Rattle.walk.specs.Seek.{near-plan}
+use Rattle.walk.specs.declared.found.Sought.the-variants.{Higher, Lower}
 use Rattle.walk.specs.declared.operation.Query.{Query}
 use Rattle.walk.specs.declared.operation.Query.the-variants.{Lookup, Next, Previous}
 use Rattle.walk.specs.declared.operation.Operation.the-variants.{Read}
@@ -31,7 +31,7 @@ use Rattle.walk.specs.Operation.{operation-of}
 use Rattle.walk.specs.Laws.Operation.{query-number, reads-number}
 use Rattle.walk.specs.Stopped.{Waiting, stop-of, Filled}
 use Rattle.walk.specs.Laws.Stopped.{noted-in-use, is-filled, R, run-is, never, told-used, Given, stops, given}
-use Rattle.walk.specs.Look.{Looks}
+use Rattle.walk.specs.Look.{near-plan, Looks}
 use Rattle.client.specs.Work as C
 
 last-none : (z : TreeSizes) (m : ClientWord → ℕ) (a : Ans) → m writes-count ≤ 48 → last-questions z m a [] ≡ answers a []
@@ -82,10 +82,10 @@ module _ (z : TreeSizes) (m : ClientWord → ℕ) (wait : Waiting m) (u : List �
     pub look-lookup : op ≡ Lookup → Walks z m u (lookup-plan key) s u′ → Looks z m s u u′
     look-lookup e h = looks (lookup-plan key) (rw (number-is Lookup e, pk)) h
 
-    pub look-next : op ≡ Next → Walks z m u (near-plan true key) s u′ → Looks z m s u u′
-    look-next e h = looks (near-plan true key) (rw (number-is Next e, pk)) h
+    pub look-next : op ≡ Next → Walks z m u (near-plan Higher key) s u′ → Looks z m s u u′
+    look-next e h = looks (near-plan Higher key) (rw (number-is Next e, pk)) h
 
-    pub look-previous : op ≡ Previous → Walks z m u (near-plan false key) s u′ → Looks z m s u u′
-    look-previous e h = looks (near-plan false key) (rw (number-is Previous e, pk)) h
+    pub look-previous : op ≡ Previous → Walks z m u (near-plan Lower key) s u′ → Looks z m s u u′
+    look-previous e h = looks (near-plan Lower key) (rw (number-is Previous e, pk)) h
 
 pub ruleset look-exits = (look-lookup, look-next, look-previous)

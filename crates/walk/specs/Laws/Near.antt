@@ -1,54 +1,43 @@
--- Laws of next and previous, from the leaf on.
-use mathlib.Core.Path.{_≡_, refl, sym, _∙_}
+-- Laws of a search from the leaf of its key on.
+use mathlib.Core.Path.{_≡_, refl, sym, ap, _∙_}
 use mathlib.Core.Bool.{Bool, true, false, not}
-use mathlib.Core.List.{List, [], _∷_, map}
-use mathlib.Core.Option.{none, some}
-use Prim.Native.Nat.{ℕ, zero, suc, _-_, _≤_, _<_}
-use lib.ListN.{drop}
-use borrow.Author.Tests.{not-true, not-false}
-use Rattle.nodes.specs.Entries.{entriesOf}
-use Rattle.operations.specs.Slot.{TreeSizes}
-use Rattle.operations.specs.Look.{told, seek-up}
+use mathlib.Core.List.{List, [], _∷_, _++_, map}
+use Prim.Native.Nat.{ℕ, zero, suc, _-_, _<_}
+use native.Mathlib.Omega.{arith}
+use lib.Dec.{leb}
+use lib.ListN.{length, drop, take, getD, set, length-set}
+use lib.Seq.{getD-set-same}
+use borrow.Author.Tests.{not-true, not-false, le-leb}
 use Rattle.memory.specs.Word.{view}
+use Rattle.nodes.specs.declared.node.Node.{Node}
+use Rattle.nodes.specs.Entries.{entriesOf}
 use Rattle.nodes.specs.Stored.{node-at}
-use Rattle.walk.specs.declared.seek.Ahead.{Ahead}
+use Rattle.operations.specs.Slot.{TreeSizes}
+use Rattle.operations.specs.Entry.{Entries}
+use Rattle.operations.specs.Path.{TreePlan, Branch}
+use Rattle.operations.specs.Look.{Search, enough, told, seek-up}
 use Rattle.walk.specs.declared.down.Descent.{Descent}
 use Rattle.walk.specs.declared.down.Turn.{Turn}
+use Rattle.walk.specs.declared.found.Wish.{Wish}
+use Rattle.walk.specs.declared.seek.Ahead.{Ahead}
+use Rattle.walk.specs.declared.seek.Where.the-variants.{Finished, Next}
 use Rattle.walk.specs.declared.walk.Stop.{Stop}
-use Rattle.walk.specs.declared.seek.Where.the-variants.{Found, Nowhere, Next}
-use Rattle.walk.specs.declared.seek.Key.{Key}
-use Rattle.walk.specs.declared.seek.Key.the-variants.{Is, Nothing}
 use Rattle.client.specs.Layout.{ClientWord}
 use Rattle.client.specs.Lent.{used-in}
-use Rattle.walk.specs.Laws.Entries.{Leaf, open-leaf}
 use Rattle.walk.specs.Entries.{branch-of}
-use Rattle.walk.specs.Walk.{goes}
-use Rattle.walk.specs.Down.{turns-in, Arrival, arrival, Descends, Reached, low, branches, trail}
-use Rattle.walk.specs.Lookup.{Ends, Walks}
-use Rattle.walk.specs.Laws.Lookup.{ended-nothing}
-use Rattle.walk.specs.Seek.{heading, visit, side, nearest-in, near-plan, key-of, in-leaf, rests, Stacked, Climbed, Seeks}
-use Rattle.walk.specs.Laws.Seek.{is-key, no-key, near-of, seek-climb}
-use Rattle.walk.specs.Near.{Beyond}
+use Rattle.walk.specs.Walk.{goes, walked}
+use Rattle.walk.specs.Ask.{Noted}
+use Rattle.walk.specs.Laws.Begin.{nothing-used, nothing-noted}
+use Rattle.walk.specs.Down.{turns-in, Arrival, arrival, Descends, Reached, ToLeaf, low, branches, trail}
+use Rattle.walk.specs.Lookup.{Walks}
+use Rattle.walk.specs.Found.{pairs-in, first-pairs, Roomy, to-right, search-of, visit, side, search-plan, LeafAt}
+use Rattle.walk.specs.Laws.Found.{length-pairs, leaf-from, full-take}
+use Rattle.walk.specs.Seek.{heading, rests, above, Stacked, Past, Tells, Seeks, FromLeaf, Afresh}
+use Rattle.walk.specs.Laws.Seek.{seek-climb, told-taken}
+use Rattle.walk.specs.Laws.Entries.{open-leaf}
+use Rattle.walk.specs.Walk as W
 
-module _ (z : TreeSizes) (m : ClientWord → ℕ) (u : List ℕ) (right : Bool) (key top : ℕ) (path : List Turn) (c : List ℕ) (a : Ahead) (h : Climbed right top path 0 (heading c a)) (s : Stop) (u′ : List ℕ) where
-  pub beyond-found : (y : ℕ) → a .state ≡ Found y → Beyond z m u right key top path s u′
-  beyond-found y e = absurd (h .found y e)
-
-  pub beyond-none : a .state ≡ Nowhere → Ends m u 0 0 s u′ → Beyond z m u right key top path s u′
-  beyond-none e q = record { same = λ f. rw (h .ends e (nearest-in right key) f) (q .same z [] ∙ ended-nothing s (used-in u′)); noted = q .noted }
-
-  pub beyond-next : a .state ≡ Next → Seeks z m u right key top (turns-in c (a .path)) (a .level) (a .name) s u′ → Beyond z m u right key top path s u′
-  beyond-next e q = record { same = λ f. rw (h .next e (nearest-in right key) f) (q .same (h .lo f) (h .lows f)); noted = q .noted }
-
-pub next-stacked : (right : Bool) (top : ℕ) (path : List Turn) (c : List ℕ) (a : Ahead) → Climbed right top path 0 (heading c a) → a .state ≡ Next → Stacked top (turns-in c (a .path)) (a .level)
-next-stacked right top path c a h e = h .stacked e
-
-pub next-below : (right : Bool) (top : ℕ) (path : List Turn) (c : List ℕ) (a : Ahead) → Climbed right top path 0 (heading c a) → a .state ≡ Next → a .level < top
-next-below right top path c a h e = h .below e
-
-pub ruleset beyond-exits = (beyond-found, beyond-none, beyond-next, next-stacked, next-below)
-
--- ---- next and previous
+-- ---- the branches left on one side
 abbrev lows-of : List Turn → ℕ → ℕ
 lows-of bs i = low (drop (suc i) bs)
 
@@ -59,58 +48,140 @@ sides-are false [] = refl
 sides-are true (b ∷ bs) = rw (sides-are true bs)
 sides-are false (b ∷ bs) = rw (sides-are false bs)
 
-module _ (z : TreeSizes) (m : ClientWord → ℕ) (u : List ℕ) (right : Bool) (key : ℕ) (c : List ℕ) (p : Descent) (u₁ : List ℕ) (h : Descends z m u key (arrival c p) u₁) (b : Bool) (pb : b ≡ goes (p .stop)) where
-  abbrev d : Arrival
-  d = arrival c p
+-- ---- the leaf of the key
+pub near-noted : (z : TreeSizes) (m : ClientWord → ℕ) (u : List ℕ) (key : ℕ) (s : Stop) (r : Node) (u₁ : List ℕ) → ToLeaf z m u key s r u₁ → Noted m u₁
+near-noted z m u key s r u₁ h = h .descends .noted
 
-  pub near-stops : not b ≡ true → Walks z m u (near-plan right key) (p .stop) u₁
-  near-stops nb = let no : goes (d .stop) ≡ false = sym pb ∙ not-true b nb in
-      record { same = rw (h .asks (λ fs n es. told (nearest-in right key es) (seek-up (nearest-in right key) (visit right) (side right) zero fs)), no); noted = h .noted }
+module _ (z : TreeSizes) (m : ClientWord → ℕ) (u : List ℕ) (w : Wish) (s₁ : Stop) (r : Node) (u₁ : List ℕ) (h : ToLeaf z m u (w .key) s₁ r u₁) (b : Bool) (pb : b ≡ goes s₁) where
+  abbrev d : Arrival
+  d = h .come
+
+  abbrev q : Search
+  q = search-of w
+
+  abbrev right : Bool
+  right = to-right (w .sought)
+
+  abbrev from : List Branch → ℕ → Entries → TreePlan
+  from fs n es = enough q (seek-up q (visit right) (side right) zero fs) (q .in-leaf es)
+
+  pub near-stops : not b ≡ true → Walks z m u (search-plan w) s₁ u₁
+  near-stops nb = let no : goes s₁ ≡ false = sym pb ∙ not-true b nb in
+      record { same = rw (h .descends .asks from, h .stop, no); noted = h .descends .noted }
 
   module _ (nb : not b ≡ false) where
     on : goes (d .stop) ≡ true
-    on = sym pb ∙ not-false b nb
+    on = rw (h .stop) (sym pb ∙ not-false b nb)
 
     end : Reached 0 d
-    end = h .reached on
+    end = h .descends .reached on
 
     abbrev bs : List Turn
     bs = trail (d .path) 0 (d .top - 0)
 
-    leaf : Leaf (d .node)
-    leaf = open-leaf (d .node) (end .opened) (end .level)
+    pub near-leaf : LeafAt r
+    near-leaf = let l : LeafAt (d .node) = record { whole = end .whole; small = end .small; opened = end .opened; level = end .level } in rw (h .node) at l
 
-    near : key-of (nearest-in right key (entriesOf (d .node) (low bs))) ≡ in-leaf right (d .node) key
-    unfolding in-leaf
-    near = rw (near-of right key (d .node) (low bs) (end .whole) leaf)
+    -- on from there
+    pub near-goes : walked z m (search-plan w) (used-in u) ≡ walked z m (enough q (above q right (d .top) (d .path) 0 (lows-of bs)) (q .in-leaf (entriesOf r (low bs)))) (used-in u₁)
+    near-goes =
+        let e : walked z m (search-plan w) (used-in u) ≡ walked z m (enough q (above q right (d .top) (d .path) 0 (lows-of bs)) (q .in-leaf (entriesOf (d .node) (low bs)))) (used-in u₁) =
+        rw (h .descends .asks from, on, seek-climb q right zero (branches bs), sides-are right bs) in
+        e ∙ ap (λ (n : Node). walked z m (enough q (above q right (d .top) (d .path) 0 (lows-of bs)) (q .in-leaf (entriesOf n (low bs)))) (used-in u₁)) (h .node)
 
-    pub near-small : node-at (view c) (p .place) .count ≤ 14
-    near-small = end .small .keys
-
-    pub near-found : (k : Key) (y : ℕ) (s : Stop) (u₂ : List ℕ) → k ≡ in-leaf right (node-at (view c) (p .place)) key → k ≡ Is y → Ends m u₁ 1 y s u₂ → Walks z m u (near-plan right key) s u₂
-    near-found k y s u₂ pk e q =
-        let v : nearest-in right key (entriesOf (d .node) (low bs)) ≡ some y = is-key (nearest-in right key (entriesOf (d .node) (low bs))) y (near ∙ sym pk ∙ e) in
+    -- where the leaf has enough
+    pub near-enough : (f₀ f : List ℕ) (s : Stop) (u₂ : List ℕ) → getD f₀ 0 0 ≡ 0 → pairs-in f ≡ take (w .wanted) (pairs-in f₀ ++ q .in-leaf (entriesOf r 0)) → getD f 0 0 ≡ w .wanted
+        → Tells m u₁ w (pairs-in f) s u₂ → Walks z m u (search-plan w) s u₂
+    unfolding pairs-in first-pairs
+    near-enough f₀ f s u₂ z₀ e c t =
+        let all : Entries = q .in-leaf (entriesOf r 0) in
+        let e′ : pairs-in f ≡ take (w .wanted) all = rw z₀ at e in
+        let n : length (take (w .wanted) all) ≡ w .wanted = rw (← e′) (length-pairs f ∙ c) in
+        let full : leb (w .wanted) (length all) ≡ true = le-leb (w .wanted) (length all) (full-take (w .wanted) all (omega arith)) in
+        let v : walked z m (told q all) (used-in u₁) ≡ walked z m (told q (pairs-in f)) (used-in u₁) = rw (e′, told-taken q all) in
         record {
-          same = rw (h .asks (λ fs n es. told (nearest-in right key es) (seek-up (nearest-in right key) (visit right) (side right) zero fs)), on, v)
-              (q .same z [] ∙ ended-nothing s (used-in u₂));
-          noted = q .noted;
+          same = near-goes ∙ rw (leaf-from r (low bs) (open-leaf r (near-leaf .opened) (near-leaf .level)), full) (v ∙ t .same z);
+          noted = t .noted;
         }
 
-    pub near-beyond : (k : Key) (s : Stop) (u₂ : List ℕ) → k ≡ in-leaf right (node-at (view c) (p .place)) key → k ≡ Nothing → Beyond z m u₁ right key (p .top) (turns-in c (p .path)) s u₂ → Walks z m u (near-plan right key) s u₂
-    near-beyond k s u₂ pk e q =
-        let v : nearest-in right key (entriesOf (d .node) (low bs)) ≡ none = no-key (nearest-in right key (entriesOf (d .node) (low bs))) (near ∙ sym pk ∙ e) in
-        record {
-          same = rw (
-            h .asks (λ fs n es. told (nearest-in right key es) (seek-up (nearest-in right key) (visit right) (side right) zero fs)),
-            on,
-            v,
-            seek-climb (nearest-in right key) right zero (branches bs),
-            sides-are right bs,
-          ) (q .same (lows-of bs));
-          noted = q .noted;
-        }
+-- ---- with the path to it
+module _ (z : TreeSizes) (m : ClientWord → ℕ) (u : List ℕ) (key : ℕ) (c : List ℕ) (p : Descent) (u₁ : List ℕ) (h : Descends z m u key (arrival c p) u₁) (b : Bool) (pb : b ≡ goes (p .stop)) (nb : not b ≡ false) where
+  reached : Reached 0 (arrival c p)
+  reached = h .reached (sym pb ∙ not-false b nb)
 
-    pub near-stacked : Stacked (p .top) (turns-in c (p .path)) 0
-    near-stacked = record { high = h .high; size = end .size; good = end .good }
+  pub path-stacked : Stacked (p .top) (turns-in c (p .path)) 0
+  path-stacked = record { high = h .high; size = reached .size; good = reached .good }
 
-pub ruleset near-exits = (near-stops, near-small, near-found, near-beyond, near-stacked)
+  pub path-leaf : LeafAt (node-at (view c) (p .place))
+  path-leaf = record { whole = reached .whole; small = reached .small; opened = reached .opened; level = reached .level }
+
+pub path-noted : (z : TreeSizes) (m : ClientWord → ℕ) (u : List ℕ) (key : ℕ) (d : Arrival) (u₁ : List ℕ) → Descends z m u key d u₁ → Noted m u₁
+path-noted z m u key d u₁ h = h .noted
+
+module _ (z : TreeSizes) (m : ClientWord → ℕ) (u : List ℕ) (w : Wish) (c : List ℕ) (p : Descent) (u₁ : List ℕ) (h : Descends z m u (w .key) (arrival c p) u₁) where
+  arrived : ToLeaf z m u (w .key) (p .stop) (node-at (view c) (p .place)) u₁
+  arrived = record { come = arrival c p; stop = refl; node = refl; descends = h }
+
+  pub path-stops : (b : Bool) → b ≡ goes (p .stop) → not b ≡ true → Walks z m u (search-plan w) (p .stop) u₁
+  path-stops b pb nb = near-stops z m u w (p .stop) (node-at (view c) (p .place)) u₁ arrived b pb nb
+
+  module _ (b : Bool) (pb : b ≡ goes (p .stop)) (nb : not b ≡ false) (f₀ : List ℕ) (z₀ : getD f₀ 0 0 ≡ 0) where
+    abbrev way : List Turn
+    way = trail (turns-in c (p .path)) 0 (p .top - 0)
+
+    pub path-on : (s : Stop) (u₂ : List ℕ) → FromLeaf z m u₁ w (p .top) (turns-in c (p .path)) (node-at (view c) (p .place)) (pairs-in f₀) s u₂ → Walks z m u (search-plan w) s u₂
+    unfolding pairs-in first-pairs arrived
+    path-on s u₂ t =
+        let e : walked z m (enough (search-of w) (above (search-of w) (to-right (w .sought)) (p .top) (turns-in c (p .path)) 0 (lows-of way)) (search-of w .in-leaf (entriesOf (node-at (view c) (p .place)) (low way)))) (used-in u₁)
+        ≡ W.told s (used-in u₂) = rw z₀ at (t .same (low way) (lows-of way)) in
+        record { same = near-goes z m u w (p .stop) (node-at (view c) (p .place)) u₁ arrived b pb nb ∙ e; noted = t .noted }
+
+pub ruleset path-exits = (path-stops, path-noted, path-stacked, path-leaf, path-on)
+
+-- ---- on from a leaf
+module _ (z : TreeSizes) (m : ClientWord → ℕ) (u : List ℕ) (w : Wish) (top : ℕ) (path : List Turn) (n : Node) (got : Entries) (c : List ℕ) (a : Ahead) (got′ : Entries) (h : Past w top path n got (heading c a) got′) (s : Stop) (u′ : List ℕ) where
+  pub leaf-ends : a .state ≡ Finished → Tells m u w got′ s u′ → FromLeaf z m u w top path n got s u′
+  leaf-ends e t = record { same = λ j f. rw (h .ends e j f) (t .same z); noted = t .noted }
+
+  pub leaf-next : a .state ≡ Next → Seeks z m u w top (turns-in c (a .path)) (a .level) (a .name) got′ s u′ → FromLeaf z m u w top path n got s u′
+  leaf-next e t = record { same = λ j f. rw (h .next e j f) (t .same (h .lo f) (h .lows f)); noted = t .noted }
+
+module _ (w : Wish) (top : ℕ) (path : List Turn) (n : Node) (got : Entries) (c : List ℕ) (a : Ahead) (got′ : Entries) (h : Past w top path n got (heading c a) got′) (e : a .state ≡ Next) where
+  pub next-stacked : Stacked top (turns-in c (a .path)) (a .level)
+  next-stacked = h .stacked e
+
+  pub next-below : a .level < top
+  next-below = h .below e
+
+pub ruleset leaf-exits = (leaf-ends, leaf-next, next-stacked, next-below)
+
+-- ---- from the start again: no copy was in use then, and no pair found
+emptied : (l : List ℕ) → 0 < length l → getD (set l 0 0) 0 0 ≡ 0
+emptied l h = getD-set-same l 0 0 0 h
+
+module _ (m : ClientWord → ℕ) (u : List ℕ) (h : Noted m u) where
+  pub used-there : 0 < length u
+  used-there = omega (arith, h .long)
+
+  pub again-noted : (u₁ : List ℕ) → u₁ ≡ set u 0 0 → Noted m u₁
+  again-noted u₁ e = rw e (nothing-noted m (set u 0 0) (emptied u used-there) (rw (length-set u 0 0) (h .long)))
+
+module _ (n : ℕ) (f : List ℕ) (r : Roomy n f) where
+  pub found-there : 0 < length f
+  found-there = omega (arith, r .long)
+
+  pub again-roomy : (f₁ : List ℕ) → f₁ ≡ set f 0 0 → Roomy n f₁
+  again-roomy f₁ e = rw e (record { few = r .few; long = rw (length-set f 0 0) (r .long); within = rw (emptied f found-there) (omega arith) })
+
+  pub again-empty : (f₁ : List ℕ) → f₁ ≡ set f 0 0 → getD f₁ 0 0 ≡ 0
+  again-empty f₁ e = rw e (emptied f found-there)
+
+pub again : (z : TreeSizes) (m : ClientWord → ℕ) (u u₁ : List ℕ) (p : TreePlan) (s : Stop) (u₂ : List ℕ) → Noted m u → u₁ ≡ set u 0 0 → Walks z m u₁ p s u₂ → Afresh z m p s u₂
+again z m u u₁ p s u₂ h e w = record { same = rw (nothing-used m u₁ (rw e (emptied u (used-there m u h)))) at (w .same); noted = w .noted }
+
+pub ruleset again-exits = (used-there, again-noted, found-there, again-roomy, again-empty, again)
+
+pub near-afresh : (z : TreeSizes) (m : ClientWord → ℕ) (u : List ℕ) (p : TreePlan) (s : Stop) (u₁ : List ℕ) → getD u 0 0 ≡ 0 → Afresh z m p s u₁ → Walks z m u p s u₁
+near-afresh z m u p s u₁ e h = record { same = rw (nothing-used m u e) (h .same); noted = h .noted }
+
+pub ruleset near-exits = (near-stops, near-noted, near-leaf, near-enough, near-afresh)

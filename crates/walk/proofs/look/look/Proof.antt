@@ -10,9 +10,9 @@ look-spec = tie.close (tie.spec
     (λ c. search needs)  -- enum-told
     (λ c κs. search (nothing-noted, needs))  -- lookup-requires
     (λ c. search needs)  -- enum-told-2
-    (λ c κs. search (nothing-noted, needs))  -- near-requires
+    (λ c κs. search (nothing-noted, needs))  -- near-one-requires
     (λ c. search needs)  -- enum-told-3
-    (λ c κs. search (nothing-noted, needs))  -- near-requires-2
+    (λ c κs. search (nothing-noted, needs))  -- near-one-requires-2
     (λ c. search needs)  -- same-length
     (λ c. search (look-exits, needs))  -- returns
     (λ c. search needs)  -- same-length-2

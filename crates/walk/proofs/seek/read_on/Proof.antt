@@ -9,7 +9,8 @@ read-on-spec = tie.close (tie.spec
     (λ c κs. search needs)  -- going-requires
     (λ c. search needs)  -- same-length
     (λ c. search (read-exits, needs))  -- returns
-    (λ c κs. ((search needs, search needs, search needs, search needs), search (read-exits, needs)))  -- advance-requires
+    (λ c κs. search (read-exits, needs))  -- advance-requires
     (λ c. search needs)  -- same-length-2
+    (λ c. search needs)  -- same-length-3
     (λ c. search (read-exits, needs))  -- returns-2
     )
