@@ -12,6 +12,8 @@ pub enum Operation {
 pub enum Workload {
     /// One lookup of a key that is there.
     Lookup,
+    /// The key after one that is there.
+    Next,
     /// One insert that gives a key a new value.
     Insert,
     /// By turns a delete, and an insert of the same key.
@@ -22,8 +24,9 @@ pub enum Workload {
     Mixed,
 }
 
-pub const WORKLOADS: [Workload; 5] = [
+pub const WORKLOADS: [Workload; 6] = [
     Workload::Lookup,
+    Workload::Next,
     Workload::Insert,
     Workload::Delete,
     Workload::Ears,
@@ -44,6 +47,7 @@ impl Workload {
     pub fn name(self) -> &'static str {
         match self {
             Workload::Lookup => "lookup",
+            Workload::Next => "next",
             Workload::Insert => "insert",
             Workload::Delete => "delete",
             Workload::Ears => "ears",
@@ -61,6 +65,7 @@ impl Workload {
         let (key, value) = (scattered(i) % keys, scattered(i + 1) >> 1);
         match self {
             Workload::Lookup => out.push(Operation::Lookup(key)),
+            Workload::Next => out.push(Operation::Next(key)),
             Workload::Insert => out.push(Operation::Insert(key, value)),
             Workload::Delete => {
                 let key = scattered(i / 2) % keys;
