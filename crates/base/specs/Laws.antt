@@ -3,3 +3,4 @@
 -- What every other crate's definitions use: tests, decisions, and functions changed at one place.
 pub mod Test
 pub mod Update
+pub mod Table

@@ -1,4 +1,4 @@
-// The cases of "Tried by hand" that speak of steps, each as an input of `stepshow`.
+// The cases of "Tried by hand" that speak of steps, and class lists, each as an input of `stepshow`.
 ghost use Prim.Native.Nat.{_≤_};
 ghost use lib.ListN.{length};
 
@@ -47,12 +47,22 @@ fn clients(memory: &mut [u8]) {
     );
 }
 
+// 02, A.1: a transaction lists what it has entered, "from the given key upward"; "11: count outside 1 to 32"
+fn lists(memory: &mut [u8]) {
+    print_case(
+        memory,
+        b"lists of two pairs, one and none, and counts 0 and 33\n",
+        b"1 4 1\n0 0 0 0 0 0\n1 0 1 5 50 0\n2 0 0 0 0 0\n2 0 0 0 0 0\n2 0 0 0 0 0\n1 0 1 9 90 0\n2 0 0 0 0 0\n1 0 7 5 2 0\n2 0 0 0 0 0\n1 0 7 6 32 0\n2 0 0 0 0 0\n1 0 7 10 1 0\n2 0 0 0 0 0\n1 0 7 0 0 0\n1 0 7 0 33 0\n3 0 0 0 0 0\n4 0 0 0 0 0\n",
+    );
+}
+
 fn main() {
     let mut memory = show::fresh();
     two_clients(&mut memory);
     one_due(&mut memory);
     sizes(&mut memory);
     clients(&mut memory);
+    lists(&mut memory);
     print_case(&mut memory, b"no line\n", b"");
     print_case(&mut memory, b"no newline at the end\n", b"1 4 1");
 }

@@ -18,7 +18,7 @@ use Rattle.client.specs.Record.{in-store, value-of}
 use Rattle.client.specs.Lent.{used-in}
 use Rattle.walk.specs.Walk.{goes, walked, carry}
 use Rattle.walk.specs.Ask.{OwnKept, OwnGood, Holds-writes, Noted}
-use Rattle.change.specs.Mute.{stands}
+use Rattle.walk.specs.Walk.{stands}
 use Rattle.nodes.specs.Change as N
 use Rattle.client.specs.Bounds.{most-servers}
 

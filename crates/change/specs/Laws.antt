@@ -1,7 +1,6 @@
 -- Laws and proofs, in reading order.
 
 -- changes carried up
-pub mod Mute
 pub mod Rise
 pub mod Split
 pub mod Grow

@@ -1,7 +1,7 @@
 -- What an insert or a delete makes of the leaf for its key, and what follows from there.
 use mathlib.Core.Path.{_≡_}
 use mathlib.Core.Bool.{true}
-use mathlib.Core.List.{List}
+use mathlib.Core.List.{List, []}
 use Prim.Native.Nat.{ℕ}
 use Rattle.operations.specs.Slot.{TreeSizes}
 use Rattle.operations.specs.Path.{TreePlan}
@@ -17,7 +17,7 @@ use Rattle.change.specs.Operated.{Operated}
 
 -- the plan from the leaf's new content on; the path to it stands in a part of the bytes b
 abbrev pub risen : TreeSizes → List ℕ → Changed → TreePlan
-risen z b c = rise-plan z (c .a, 0) (c .way .top) (turns-in b (c .way .path)) (c .way .name) (c .content)
+risen z b c = rise-plan z (c .a, 0, []) (c .way .top) (turns-in b (c .way .path)) (c .way .name) (c .content)
 
 -- the leaf's new content with the path to it, if one changes
 abbrev pub LeafReady : TreeSizes → List ℕ → Changed → Type 0

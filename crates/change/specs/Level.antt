@@ -38,6 +38,6 @@ top-plan z a l c es w = up z a l [] w c es
 
 -- ---- a node written, and the answer
 pub record Settled (m : ClientWord → ℕ) (x u : List ℕ) (c : ℕ) (n : Wide) (a b : ℕ) (s : Stop) (x′ u′ : List ℕ) : Type 0 where
-  pub ends : (z : TreeSizes) (w : Writes) → walked z m (P.done ((a, b), (node c, value-of (node c) (narrow n)) ∷ w)) (used-in u) ≡ ended s (used-in u′) ((node c, value-of (node c) (narrow n)) ∷ w)
+  pub ends : (z : TreeSizes) (w : Writes) → walked z m (P.done ((a, b, []), (node c, value-of (node c) (narrow n)) ∷ w)) (used-in u) ≡ ended s (used-in u′) ((node c, value-of (node c) (narrow n)) ∷ w) []
   pub written : NodeWritten x c (narrow n) x′
   pub noted : Noted m u′

@@ -1,7 +1,6 @@
 -- The operations that write, walked against their plans' runs, and the whole work step.
 
 -- changes carried up
-pub mod Mute
 pub mod Rise
 pub mod Split
 pub mod Grow

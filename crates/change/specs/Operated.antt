@@ -15,13 +15,13 @@ use Rattle.client.specs.Lent.{LentList, Entry, used-in}
 use Rattle.client.specs.Answered.{entered}
 use Rattle.walk.specs.Walk.{walked}
 use Rattle.walk.specs.Ask.{OwnKept, Holds-writes, write-of, Noted, over-lent}
-use Rattle.change.specs.Mute.{stands}
+use Rattle.walk.specs.Walk.{stands}
 use Rattle.walk.specs.Lookup.{ended}
 
 -- from an empty lent list; with an answer the list holds the operation's writes
 pub record Operated (z : TreeSizes) (m : ClientWord → ℕ) (x u : List ℕ) (p : TreePlan) (s : Stop) (x′ u′ : List ℕ) : Type 0 where
   pub writes : Writes
-  pub same : Holds-writes z x [] → walked z m p (used-in u) ≡ ended s (used-in u′) writes
+  pub same : Holds-writes z x [] → walked z m p (used-in u) ≡ ended s (used-in u′) writes []
   pub holds : stands s ≡ true → Holds-writes z x [] → Holds-writes z x′ writes
   pub kept : stands s ≡ true → Holds-writes z x [] → OwnKept x′
   pub noted : Noted m u′
@@ -33,7 +33,7 @@ Operates servers slots part own used plan s = over-lent Operated servers slots p
 -- the same without the list: with an answer l are the entries of the operation's writes, all of objects of the store
 pub record Written (z : TreeSizes) (m : ClientWord → ℕ) (u : List ℕ) (p : TreePlan) (s : Stop) (l : List Entry) (u′ : List ℕ) : Type 0 where
   pub writes : Writes
-  pub same : walked z m p (used-in u) ≡ ended s (used-in u′) writes
+  pub same : walked z m p (used-in u) ≡ ended s (used-in u′) writes []
   pub entries : stands s ≡ true → l ≡ entered writes
   pub out : stands s ≡ true → (o : Obj) → object-in-store z o ≡ false → write-of writes o ≡ none
   pub noted : Noted m u′

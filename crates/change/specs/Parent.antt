@@ -49,7 +49,7 @@ with-child es i d = take i es ++ (getD es i (0, 0) .0, d) ∷ drop (suc i) es
 
 -- the plan of a move with that write
 abbrev pub child-plan : TreeSizes → ℕ → ℕ → Val → ℕ → ℕ → ℕ → Entries → TreePlan
-child-plan z nm s v up l at es = moved z nm s v (λ d w. w) (λ d w. P.done ((1, d), (node up, node-value l (with-child es at d)) ∷ w))
+child-plan z nm s v up l at es = moved z nm s v (λ d w. w) (λ d w. P.done ((1, d, []), (node up, node-value l (with-child es at d)) ∷ w))
 
 -- "Migrate moves a node .. and changes the parent": the node n of the name nm, child number at of p
 pub record ChildMoved (z : TreeSizes) (m : ClientWord → ℕ) (x u : List ℕ) (nm s : ℕ) (n : Node) (up : ℕ) (p : Node) (at : ℕ) (st : Stop) (x′ u′ : List ℕ) : Type 0 where

@@ -25,7 +25,7 @@ use Rattle.client.specs.Record.{sizes, in-store, value-of}
 use Rattle.client.specs.Lent.{LentList, used-in}
 use Rattle.walk.specs.Walk.{Told, goes, walked}
 use Rattle.walk.specs.Lookup.{ended}
-use Rattle.change.specs.Mute.{stands}
+use Rattle.walk.specs.Walk.{stands}
 use Rattle.walk.specs.Ask.{SmallNode, OwnKept, OwnGood, Holds-writes, Noted, over-lent}
 use Rattle.walk.specs.Take.{Wrote}
 use Rattle.walk.specs.Entries.{branch-of}
@@ -47,7 +47,7 @@ pub record Content (l : ℕ) (n : Wide) : Type 0 where
 
 -- with the copies us and the writes w the walk has ended, or goes on
 abbrev pub rose : Stop → List ℕ → Writes → (List ℕ → Writes → Told) → Told
-rose s us w f = cond (goes s) (f us w) (ended s us w)
+rose s us w f = cond (goes s) (f us w) (ended s us w [])
 
 -- nothing is above the parent
 abbrev pub is-root : List Branch → Bool
@@ -75,7 +75,7 @@ Raises servers slots part own used l root plan r =
 -- The last level. `plan` is what it does after the writes w.
 pub record Closed (z : TreeSizes) (m : ClientWord → ℕ) (x u : List ℕ) (plan : Writes → TreePlan) (s : Stop) (x′ u′ : List ℕ) : Type 0 where
   pub more : Writes
-  pub same : (w : Writes) → Holds-writes z x w → walked z m (plan w) (used-in u) ≡ ended s (used-in u′) (more ++ w)
+  pub same : (w : Writes) → Holds-writes z x w → walked z m (plan w) (used-in u) ≡ ended s (used-in u′) (more ++ w) []
   pub holds : stands s ≡ true → (w : Writes) → Holds-writes z x w → Holds-writes z x′ (more ++ w)
   pub kept : stands s ≡ true → (w : Writes) → Holds-writes z x w → OwnKept x′
   pub noted : Noted m u′

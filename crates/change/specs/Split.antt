@@ -19,7 +19,7 @@ use Rattle.client.specs.Record.{in-store}
 use Rattle.client.specs.Lent.{used-in}
 use Rattle.walk.specs.Walk.{goes, walked, carry}
 use Rattle.walk.specs.Ask.{OwnGood, Holds-writes, Noted}
-use Rattle.change.specs.Mute.{stands}
+use Rattle.walk.specs.Walk.{stands}
 use Rattle.change.specs.Rise.{Raised, BothWritten, split-plan}
 use Rattle.nodes.specs.Change as N
 use Rattle.client.specs.Bounds.{highest-level, keys-to-split}

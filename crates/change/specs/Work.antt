@@ -1,7 +1,7 @@
 -- The work step of an operation that writes: it is walked, then come the last questions.
 use mathlib.Core.Path.{_≡_}
 use mathlib.Core.Bool.{Bool, true, false, cond}
-use mathlib.Core.List.{List}
+use mathlib.Core.List.{List, []}
 use Prim.Native.Nat.{ℕ, _≤_}
 use lib.Dec.{eqb}
 use lib.ListN.{length, getD}
@@ -37,11 +37,12 @@ pub record Ready (x u : List ℕ) : Type 0 where
 unfoldable pub judged : Stop → ℕ → Stop
 judged s r = cond (eqb r 0) s (cond (eqb r 10) Refused (Aborts r))
 
--- the walk has stopped as the work step ends: a lent list has the copies that it used, and with an answer l are the writes that enter
+-- the walk has stopped as the work step ends: a lent list has the copies that it used, and with an answer l are the writes that enter; it has no pairs
 pub record Enters (z : TreeSizes) (m : ClientWord → ℕ) (s : Stop) (l : List Entry) (u₀ u : List ℕ) : Type 0 where
   pub stopped : Stopped z m s u
   pub filled : Filled u₀ (C.walked z m .used) u
   pub own : (a : Ans) (w : Writes) → worked z m ≡ answers a w → l ≡ entered w
+  pub unlisted : (a : Ans) (w : Writes) → worked z m ≡ answers a w → a .2 ≡ []
 
 -- and where these stand in a lent list too: what lies behind them, and without an answer all of that list, is free: anything may
 -- stand there, and nobody reads it. It keeps its length

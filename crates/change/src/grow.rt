@@ -9,6 +9,7 @@ use walk::take::take_node;
 use walk::walk::Stop;
 use walk::walk::going;
 ghost use mathlib.Core.Path.{_≡_};
+ghost use mathlib.Core.List.{[]};
 ghost use mathlib.Core.Bool.{true};
 ghost use Prim.Native.Nat.{_+_, _-_, _<_, _≤_};
 ghost use Rattle.nodes.specs.Entries.{wide-entries};
@@ -134,7 +135,7 @@ pub fn split_root(
     requires there { ⌜ in-store (sizes servers slots) name ≡ true ⌝ }
     requires full { ⌜ Full level n ⌝ }
     requires low { ⌜ level ≤ highest-level ⌝ }
-    ensures { λ r. ⌜ Closes servers slots part own used (λ z. root-split z (a, b) level name (wide-entries n 0)) r ⌝ }
+    ensures { λ r. ⌜ Closes servers slots part own used (λ z. root-split z (a, b, []) level name (wide-entries n 0)) r ⌝ }
 {
     let t = take_halves(part, servers, slots, own, used, name);
     let stop = t.stop;

@@ -9,6 +9,7 @@ use walk::down::Turn;
 use walk::lookup::answers;
 use walk::walk::Stop;
 ghost use mathlib.Core.Path.{_≡_};
+ghost use mathlib.Core.List.{[]};
 ghost use mathlib.Core.Bool.{true};
 ghost use Prim.Native.Nat.{_<_, _≤_};
 ghost use Rattle.nodes.specs.Entries.{wide-entries};
@@ -59,7 +60,7 @@ pub fn raise(
     requires { ⌜ Rising servers (now part) (now own) (now used) risen-most ⌝ }
     requires under { ⌜ Under (sizes servers slots) level name above ⌝ }
     requires content { ⌜ Content level n ⌝ }
-    ensures { λ r. ⌜ Raises servers slots part own used level root (λ z. level-plan z (a, b) level above name (wide-entries n)) r ⌝ }
+    ensures { λ r. ⌜ Raises servers slots part own used level root (λ z. level-plan z (a, b, []) level above name (wide-entries n)) r ⌝ }
 {
     if n.count == 15 {
         return split(part, servers, slots, own, used, level, above, name, n);
@@ -102,7 +103,7 @@ pub fn at_top(
     requires there { ⌜ in-store (sizes servers slots) name ≡ true ⌝ }
     requires content { ⌜ Content level n ⌝ }
     requires low { ⌜ level ≤ highest-level ⌝ }
-    ensures { λ r. ⌜ Closes servers slots part own used (λ z. top-plan z (a, b) level name (wide-entries n 0)) r ⌝ }
+    ensures { λ r. ⌜ Closes servers slots part own used (λ z. top-plan z (a, b, []) level name (wide-entries n 0)) r ⌝ }
 {
     if n.count == 15 {
         return split_root(part, servers, slots, own, used, level, name, n, a, b);

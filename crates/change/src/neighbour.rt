@@ -12,6 +12,7 @@ use walk::take::release;
 use walk::walk::Stop;
 use walk::walk::going;
 ghost use mathlib.Core.Path.{_≡_};
+ghost use mathlib.Core.List.{[]};
 ghost use mathlib.Core.Bool.{true};
 ghost use Prim.Native.Nat.{_+_, _<_, _≤_, _-_};
 ghost use Rattle.nodes.specs.Entries.{entriesOf};
@@ -109,7 +110,7 @@ fn collapse(
     requires { ⌜ Rising servers (now part) (now own) (now used) (risen-most + 2) ⌝ }
     requires there { ⌜ in-store (sizes servers slots) root ≡ true ⌝ }
     requires few { ⌜ one .count ≤ most-keys ⌝ }
-    ensures { λ r. ⌜ over-lent Collapses servers slots part own used (a, b) root child one r (now (own .exit)) (now (used .exit)) ⌝ }
+    ensures { λ r. ⌜ over-lent Collapses servers slots part own used (a, b, []) root child one r (now (own .exit)) (now (used .exit)) ⌝ }
 {
     let stop = release(part, servers, slots, own, used, child);
     let on = going(stop);
@@ -148,7 +149,7 @@ fn merge(
     requires { ⌜ Rising servers (now part) (now own) (now used) risen-most ⌝ }
     requires beside { ⌜ Neighbours (sizes servers slots) above s ⌝ }
     requires few { ⌜ SmallNode one ⌝ }
-    ensures { λ r. ⌜ over-lent Merges servers slots part own used root (a, b) above s one r (now (own .exit)) (now (used .exit)) ⌝ }
+    ensures { λ r. ⌜ over-lent Merges servers slots part own used root (a, b, []) above s one r (now (own .exit)) (now (used .exit)) ⌝ }
 {
     let left = s.left;
     let stop = release(part, servers, slots, own, used, s.right);
@@ -189,7 +190,7 @@ fn even_out(
     requires turning { ⌜ SmallNode n ⌝ }
     requires far { ⌜ SmallNode m ⌝ }
     requires lacks { ⌜ n .count ≤ fewest-keys - 1 ⌝ }
-    ensures { λ r. ⌜ over-lent Evens servers slots part own used root (a, b) above s n m r (now (own .exit)) (now (used .exit)) ⌝ }
+    ensures { λ r. ⌜ over-lent Evens servers slots part own used root (a, b, []) above s n m r (now (own .exit)) (now (used .exit)) ⌝ }
 {
     let parent = above.node;
     let at = s.at;
@@ -229,7 +230,7 @@ pub fn neighbour(
     requires under { ⌜ Under (sizes servers slots) level name above ⌝ }
     requires of { ⌜ OfLevel level n ⌝ }
     requires lacks { ⌜ n .count ≤ fewest-keys - 1 ⌝ }
-    ensures { λ r. ⌜ Raises servers slots part own used level root (λ _. neighbour-plan (a, b) level above name (entriesOf n)) r ⌝ }
+    ensures { λ r. ⌜ Raises servers slots part own used level root (λ _. neighbour-plan (a, b, []) level above name (entriesOf n)) r ⌝ }
 {
     let parent = above.node;
     if parent.count == 0 {

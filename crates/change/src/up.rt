@@ -7,6 +7,7 @@ use walk::down::Turn;
 use walk::down::turns;
 use walk::walk::Stop;
 use walk::walk::going;
+ghost use mathlib.Core.List.{[]};
 ghost use Rattle.client.specs.Record.{sizes};
 ghost use Rattle.walk.specs.Ask.{Beginning};
 ghost use Rattle.change.specs.Operated.{Operates};
@@ -28,7 +29,7 @@ fn rise(
 ) -> Stop
     requires { ⌜ Beginning servers (now part) (now own) (now used) ⌝ }
     requires ready { ⌜ Ready (sizes servers slots) top path leaf content ⌝ }
-    ensures { λ r. ⌜ Operates servers slots part own used (λ z. rise-plan z (a, b) top path leaf content) r ⌝ }
+    ensures { λ r. ⌜ Operates servers slots part own used (λ z. rise-plan z (a, b, []) top path leaf content) r ⌝ }
 {
     let mut name = leaf;
     let mut n = content;

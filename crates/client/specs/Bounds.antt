@@ -37,3 +37,11 @@ risen-most = 12
 -- their list: its count, and for each an item of 34 words
 abbrev pub own-room : ℕ
 own-room = 681
+
+-- ---- pairs of a list: "count (the value field, 1 to 32)"
+abbrev pub most-listed : ℕ
+most-listed = 32
+
+-- the lent list of those found: its count, and for each its key and its value
+abbrev pub found-room : ℕ
+found-room = 65

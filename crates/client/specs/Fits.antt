@@ -9,13 +9,13 @@ use Rattle.nodes.specs.Name.{server-of}
 use Rattle.operations.specs.Slot.{TreeSizes}
 use Rattle.client.specs.declared.part.Set.{Set}
 use Rattle.client.specs.declared.part.Set.the-variants.{Reads, Writes, Copies}
-use Rattle.client.specs.Layout.{ClientWord, vector-word, op-number, op-key, op-server, participants, prepared, applied, lost, reads-count, writes-count, limit}
+use Rattle.client.specs.Layout.{ClientWord, vector-word, op-number, op-key, op-value, op-server, participants, prepared, applied, lost, reads-count, writes-count, limit}
 use Rattle.client.specs.Record.{in-store, number-in-store, whole-in-range, kind-in-range, last-version}
 use Rattle.client.specs.Sets.{count, number-at, record-at, find}
 use Rattle.client.specs.Items.{all-below, has, inner, inner-before-after}
 use Rattle.client.specs.Participants.{at-home}
 use Rattle.client.specs.Drops.{version-of}
-use Rattle.client.specs.Bounds.{most-servers, last-node-number, first-flag-number}
+use Rattle.client.specs.Bounds.{most-servers, last-node-number, first-flag-number, most-listed}
 
 module _ (m : ClientWord → ℕ) where
   -- how many items a set says that it has
@@ -48,6 +48,10 @@ module _ (m : ClientWord → ℕ) where
   unfoldable pub version-fits : ℕ → ℕ → Bool
   version-fits s i = not (stored-at s (number-at m Writes i)) || young (number-at m Writes i)
 
+  -- a list's "count (the value field, 1 to 32)"
+  abbrev pub list-fits : Bool
+  list-fits = leb 1 (m op-value) && leb (m op-value) most-listed
+
   -- a set of servers has servers of the store only, which has n
   unfoldable pub servers-fit : ℕ → ClientWord → Bool
   servers-fit n a = leb (m a) (2 ^ n - 1)
@@ -65,9 +69,13 @@ module _ (z : TreeSizes) (m : ClientWord → ℕ) where
   abbrev pub sets-fit : Bool
   sets-fit = numbers-fit Reads && numbers-fit Writes
 
-  -- the operation that waits is one of six; a migrate's node and server are in the store
+  -- a migrate's node and server are in the store
+  abbrev pub migrate-fits : Bool
+  migrate-fits = in-store z (m op-key) && ltb (m op-server) (z .servers)
+
+  -- the operation that waits is one of seven, and what a migrate and a list need of its fields
   unfoldable pub op-fits : Bool
-  op-fits = leb (m op-number) 6 && cond (eqb (m op-number) 6) (in-store z (m op-key) && ltb (m op-server) (z .servers)) true
+  op-fits = leb (m op-number) 7 && cond (eqb (m op-number) 6) migrate-fits (cond (eqb (m op-number) 7) (list-fits m) true)
 
   -- WORK: the operation, and which objects are read and written
   unfoldable pub fit-to-work : Bool

@@ -6,7 +6,7 @@ use lib.Dec.{eqb, leb, ltb}
 use Rattle.nodes.specs.declared.found.Found.{Found}
 use Rattle.nodes.specs.declared.found.Found.the-variants.{At, Absent}
 use Rattle.operations.specs.Object.{Ask, Ans, Writes}
-use Rattle.operations.specs.Map.{Op, insert, lookup, delete, next, previous, migrate}
+use Rattle.operations.specs.Map.{Op, insert, lookup, delete, next, previous, migrate, list}
 use Rattle.operations.specs.Operation.{reading, all-fit?}
 use Rattle.operations.specs.Slot.{TreeSizes}
 use Rattle.client.specs.Layout.{ClientWord, op-number, op-key, op-value, op-server, reads-count, writes-count, limit}
@@ -27,8 +27,8 @@ pub data Worked : Type 0 where
   aborted : ℕ → Worked
   answers : Ans → Writes → Worked
 
--- "op 1 insert, 2 lookup, 3 delete, 4 next key above, 5 previous key below, 6 migrate (key is the node name)". No other number comes here:
--- 0 means that none waits, and work is then refused by 9; a given one outside 1 to 6 is refused by 6, a stored one above 6 by 10
+-- "op 1 insert, 2 lookup, 3 delete, 4 next key above, 5 previous key below, 6 migrate (key is the node name)", and 7 list (value is the count). No
+-- other number comes here: 0 means that none waits, and work is then refused by 9; a given one outside 1 to 7 is refused by 6, a stored one above 7 by 10
 abbrev pub op-of : ℕ → ℕ → ℕ → ℕ → Op
 op-of zero key value server = lookup key
 op-of (suc zero) key value server = insert key value
@@ -36,7 +36,8 @@ op-of (suc (suc zero)) key value server = lookup key
 op-of (suc (suc (suc zero))) key value server = delete key
 op-of (suc (suc (suc (suc zero)))) key value server = next key
 op-of (suc (suc (suc (suc (suc zero))))) key value server = previous key
-op-of (suc (suc (suc (suc (suc (suc n)))))) key value server = migrate key server
+op-of (suc (suc (suc (suc (suc (suc zero)))))) key value server = migrate key server
+op-of (suc (suc (suc (suc (suc (suc (suc n))))))) key value server = list key value
 
 module _ (m : ClientWord → ℕ) where
   -- the operation that waits

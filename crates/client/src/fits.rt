@@ -8,7 +8,7 @@ ghost use Rattle.client.specs.Layout.{ClientPart, field, limit, field-co
 ghost use Rattle.client.specs.Record.{sizes, number-in-store};
 ghost use Rattle.client.specs.Sets.{held, count, number-at};
 ghost use Rattle.client.specs.Items.{all-below};
-ghost use Rattle.client.specs.Fits.{said-count, kind-fits, is-read, young, stored-at, read-fits, version-fits, servers-fit, numbers-fit, op-fits, fit-to-work, fit-to-commit, fit-to-prepare, fit-to-abort, fit-to-unlock, stored-record-fits, write-fits, writes-fit, flag-renewal-fits, inner-renewal-fits, renewal-fits, fit-to-renew, fit-to-apply, sets-fit};
+ghost use Rattle.client.specs.Fits.{said-count, kind-fits, is-read, young, stored-at, read-fits, version-fits, servers-fit, numbers-fit, migrate-fits, list-fits, op-fits, fit-to-work, fit-to-commit, fit-to-prepare, fit-to-abort, fit-to-unlock, stored-record-fits, write-fits, writes-fit, flag-renewal-fits, inner-renewal-fits, renewal-fits, fit-to-renew, fit-to-apply, sets-fit};
 ghost use Rattle.client.specs.Bounds.{most-servers, last-node-number};
 use crate::items::has;
 use crate::items::inner_before_after;
@@ -19,11 +19,13 @@ use crate::part::APPLIED;
 use crate::part::FIRST_FLAG_NUMBER;
 use crate::part::LAST_NODE_NUMBER;
 use crate::part::LOST;
+use crate::part::MOST_LISTED;
 use crate::part::MOST_READ;
 use crate::part::MOST_WRITTEN;
 use crate::part::OP_KEY;
 use crate::part::OP_NUMBER;
 use crate::part::OP_SERVER;
+use crate::part::OP_VALUE;
 use crate::part::PARTICIPANTS;
 use crate::part::PREPARED;
 use crate::part::READS_COUNT;
@@ -103,23 +105,43 @@ fn sets_fit(part: &[u8], servers: usize, slots: usize) -> bool
     numbers_fit(part, servers, slots, Set::Writes)
 }
 
-// The operation that waits is one of six; a migrate's node and server are in the store.
-fn op_fits(part: &[u8], servers: usize, slots: usize) -> bool
+// A migrate's node and server are in the store.
+fn migrate_fits(part: &[u8], servers: usize, slots: usize) -> bool
     requires { ⌜ ClientPart (now part) ⌝ }
-    ensures { λ r. ⌜ r ≡ op-fits (sizes servers slots) (held (now (part .entry))) ⌝ }
+    ensures { λ r. ⌜ r ≡ migrate-fits (sizes servers slots) (held (now (part .entry))) ⌝ }
 {
-    let op = get_field(part, OP_NUMBER);
-    if op > 6 {
-        return false;
-    }
-    if op != 6 {
-        return true;
-    }
     if !in_store(servers, slots, get_field(part, OP_KEY)) {
         return false;
     }
     let server = get_field(part, OP_SERVER);
     (server as usize) < servers
+}
+
+// A list's "count (the value field, 1 to 32)".
+fn list_fits(part: &[u8]) -> bool
+    requires { ⌜ ClientPart (now part) ⌝ }
+    ensures { λ r. ⌜ r ≡ list-fits (held (now (part .entry))) ⌝ }
+{
+    let count = get_field(part, OP_VALUE);
+    if count < 1 {
+        return false;
+    }
+    count <= MOST_LISTED
+}
+
+// The operation that waits is one of seven, and what a migrate and a list need of its fields.
+fn op_fits(part: &[u8], servers: usize, slots: usize) -> bool
+    requires { ⌜ ClientPart (now part) ⌝ }
+    ensures { λ r. ⌜ r ≡ op-fits (sizes servers slots) (held (now (part .entry))) ⌝ }
+{
+    let op = get_field(part, OP_NUMBER);
+    if op == 6 {
+        return migrate_fits(part, servers, slots);
+    }
+    if op == 7 {
+        return list_fits(part);
+    }
+    op < 7
 }
 
 // What a work step reads before its walk.

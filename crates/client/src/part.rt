@@ -71,6 +71,9 @@ pub const MOST_READ: usize = 96;
 
 pub const MOST_WRITTEN: usize = 48;
 
+// The pairs of a list: "count (the value field, 1 to 32)".
+pub const MOST_LISTED: u64 = 32;
+
 // Numbers of objects: the metadata 0, then the nodes, then the flags.
 pub const LAST_NODE_NUMBER: u64 = 8192;
 

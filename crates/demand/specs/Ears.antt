@@ -7,7 +7,7 @@ use Prim.Native.Nat.{ℕ}
 use lib.Dec.{eqb}
 use Rattle.plans.specs.Walk.{Every}
 use Rattle.operations.specs.Object.{Ans}
-use Rattle.operations.specs.Map.{Op, insert, lookup, delete, next, previous, migrate, said}
+use Rattle.operations.specs.Map.{Op, insert, lookup, delete, next, previous, migrate, list, said}
 use Rattle.demand.specs.Ledger.{Told, Right-all}
 
 -- does an operation write the key k
@@ -18,6 +18,7 @@ op-writes k (delete i) = eqb i k
 op-writes k (next i) = false
 op-writes k (previous i) = false
 op-writes k (migrate n s) = false
+op-writes k (list i n) = false
 
 -- what an operation leaves at the key that it writes: a value, or none where it takes the key out
 abbrev pub op-leaves : Op → Option ℕ
@@ -27,6 +28,7 @@ op-leaves (delete i) = none
 op-leaves (next i) = none
 op-leaves (previous i) = none
 op-leaves (migrate n s) = none
+op-leaves (list i n) = none
 
 -- does a transaction write the key
 unfoldable pub tx-writes : ℕ → List Told → Bool
@@ -73,13 +75,13 @@ Both-ears = (l r : ℕ) (a b : Ans) (after before : List (List Told)) (ts : List
 -- A child's ears are keys 40 and 41. The first transaction enters both, the second changes both, the third is another child's. Then both
 -- answers are the second's; had 40 been written by the third, the one would be of the third and the other of the second.
 abbrev enters : ℕ → ℕ → Told
-enters k v = record { op = insert k v; ans = (1, 0) }
+enters k v = record { op = insert k v; ans = (1, 0, []) }
 
 abbrev story : List Told → List (List Told)
 story third = third ∷ (enters 41 20 ∷ enters 40 20 ∷ []) ∷ (enters 41 60 ∷ enters 40 55 ∷ []) ∷ []
 
 pub ears-sample : let both = story (enters 50 7 ∷ []) in
-    (of-first 40 (up-to-writer 40 both) ≡ (1, 20)) × (of-first 41 (up-to-writer 41 both) ≡ (1, 20)) × (of-first 42 (up-to-writer 42 both) ≡ (0, 0))
-    × (of-first 40 (up-to-writer 40 (story (enters 40 7 ∷ []))) ≡ (1, 7))
+    (of-first 40 (up-to-writer 40 both) ≡ (1, 20, [])) × (of-first 41 (up-to-writer 41 both) ≡ (1, 20, [])) × (of-first 42 (up-to-writer 42 both) ≡ (0, 0, []))
+    × (of-first 40 (up-to-writer 40 (story (enters 40 7 ∷ []))) ≡ (1, 7, []))
 unfolding up-to-writer tx-writes tx-leaves
 ears-sample = (refl, refl, refl, refl)

@@ -56,6 +56,7 @@ pub mod Rewritten
 -- work that answers: the writes as the machine has them; the step
 pub mod Overwritten
 pub mod Answered
+pub mod Seen
 pub mod Answering
 -- a new store
 pub mod Opened
@@ -92,3 +93,4 @@ pub mod Inside
 pub mod Done
 -- both ears
 pub mod Ears
+pub mod ClassList

@@ -7,8 +7,9 @@ use native.Mathlib.Decide.{ℕ-discrete}
 use lib.Dec.{eqb}
 use Rattle.base.specs.Update.{upd}
 use Rattle.operations.specs.Object.{Ans}
-use Rattle.operations.specs.Map.{Map, Op, lookup, answer, compared, map-after}
+use Rattle.operations.specs.Map.{Map, Op, insert, lookup, delete, next, previous, migrate, list, answer, compared, map-after}
 use Rattle.client.specs.Work.{op-of}
+use Rattle.steps.specs.Output.{pairs-at}
 use Rattle.steps.specs.declared.step.Step.{Step}
 use Rattle.steps.specs.declared.outcome.Outcome.{Outcome}
 use Rattle.steps.specs.declared.outcome.Outcome.the-variants.{Refused, Done, Fetched, Answered, Prepared, Decided, Applied, Committed, Aborted}
@@ -46,6 +47,16 @@ notes-answer L c a = record { given = L .given; undecided = upd ℕ-discrete (L 
 abbrev pub notes-decision : Ledger → ℕ → Ledger
 notes-decision L c = record { given = L .given; undecided = upd ℕ-discrete (L .undecided) c []; decided = L .undecided c ∷ L .decided }
 
+-- an operation's answer as a tablet sees it: a and b, and of a list its pairs "from the output as the answering step left it"
+abbrev pub seen : Op → ℕ → ℕ → List ℕ → Ans
+seen (insert k v) a b out = (a, b, [])
+seen (lookup k) a b out = (a, b, [])
+seen (delete k) a b out = (a, b, [])
+seen (next k) a b out = (a, b, [])
+seen (previous k) a b out = (a, b, [])
+seen (migrate n s) a b out = (a, b, [])
+seen (list k n) a b out = (a, b, pairs-at a out)
+
 -- "a begin starts its client's transaction, a give adds an op, key and value"
 abbrev pub note-done : Ledger → Step → Ledger
 note-done L k =
@@ -56,22 +67,23 @@ note-done L k =
 abbrev pub note-decided : Ledger → Step → Ledger
 note-decided L k = cond (eqb (k .kind) 3 || eqb (k .kind) 4) (notes-decision L (k .client)) L
 
--- "outcome 3 adds that operation's answer, a and b, outcome 8 drops the transaction .. ; refused steps do nothing"
-abbrev pub note : Ledger → Step → Outcome → Ledger
-note L k (Refused n) = L
-note L k Done = note-done L k
-note L k (Fetched a b) = L
-note L k (Answered a b) = notes-answer L (k .client) (a, b)
-note L k (Prepared s) = L
-note L k Decided = note-decided L k
-note L k (Applied s) = L
-note L k Committed = note-decided L k
-note L k (Aborted y) = clears L (k .client)
+-- "outcome 3 adds that operation's answer, a and b, outcome 8 drops the transaction .. ; refused steps do nothing"; out are the words of the
+-- output after the step
+abbrev pub note : Ledger → Step → List ℕ → Outcome → Ledger
+note L k out (Refused n) = L
+note L k out Done = note-done L k
+note L k out (Fetched a b) = L
+note L k out (Answered a b) = notes-answer L (k .client) (seen (L .given (k .client)) a b out)
+note L k out (Prepared s) = L
+note L k out Decided = note-decided L k
+note L k out (Applied s) = L
+note L k out Committed = note-decided L k
+note L k out (Aborted y) = clears L (k .client)
 
 -- of steps that were taken, front to back
 unfoldable pub ledger-from : Ledger → List Taken → Ledger
 ledger-from L [] = L
-ledger-from L (t ∷ h) = ledger-from (note L (t .step) (t .outcome)) h
+ledger-from L (t ∷ h) = ledger-from (note L (t .step) (t .left) (t .outcome)) h
 
 -- the transactions decided by them, the last first
 abbrev pub decided-in : List Taken → List (List Told)

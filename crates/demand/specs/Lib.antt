@@ -8,5 +8,7 @@ pub mod Demand
 pub mod Wrong
 -- BOTH EARS, the statement: two keys that are always written together
 pub mod Ears
+-- a list of a decided transaction is the map's
+pub mod ClassList
 -- laws and proofs
 pub mod Laws

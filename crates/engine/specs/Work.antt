@@ -1,6 +1,6 @@
 -- How a walk that stopped ends the work step: its outcome, and what enters the sets with an answer.
-use mathlib.Core.List.{List}
-use Prim.Native.Nat.{ℕ, _<_}
+use mathlib.Core.List.{List, []}
+use Prim.Native.Nat.{ℕ, _*_, _≤_, _<_}
 use Rattle.client.specs.Part.{PartStep, _then_, put-word}
 use Rattle.client.specs.Lent.{Entry}
 use Rattle.client.specs.Enter.{enter-entries}
@@ -11,10 +11,12 @@ use Rattle.steps.specs.declared.outcome.Outcome.{Outcome}
 use Rattle.steps.specs.declared.outcome.Outcome.the-variants as outcome
 use mathlib.Core.Path.{_≡_}
 use mathlib.Core.Bool.{true}
-use Rattle.client.specs.Layout.{op-number}
+use Rattle.client.specs.Layout.{op-number, op-value}
 use Rattle.client.specs.Fits.{fit-to-work}
-use Rattle.steps.specs.Whole.{tree-sizes}
-use Rattle.kinds.specs.Parts.{Store-in}
+use Rattle.steps.specs.Whole.{Address, tree-sizes}
+use Rattle.steps.specs.Output.{with-pairs}
+use Rattle.steps.specs.Steps.{Did, work}
+use Rattle.kinds.specs.Parts.{Store-in, stored-in}
 use Rattle.kinds.specs.Fits.{Known}
 use Rattle.kinds.specs.Judge.{of-client}
 use Rattle.walk.specs.Stopped.{Waiting}
@@ -43,3 +45,15 @@ pub record WaitingClient (z : Sizes) (b : List ℕ) (c : ℕ) : Type 0 where
   pub fits : fit-to-work (tree-sizes z) (of-client z (view b) c) ≡ true
   pub sets : Known z (view b) c
   pub waiting : Waiting (of-client z (view b) c)
+
+-- the lent output is long enough for the list that waits, if one does
+abbrev pub Room-for-list : Sizes → List ℕ → ℕ → List ℕ → Type 0
+Room-for-list z b c out = of-client z (view b) c op-number ≡ 7 → 16 * of-client z (view b) c op-value ≤ length out
+
+-- the output out as the rule d leaves it, on memory with the bytes b: the pairs of a list's answer are written to it, else it keeps its contents
+abbrev pub Leaves : Sizes → ((Address → ℕ) → Did) → List ℕ → List ℕ → List ℕ → Type 0
+Leaves z d b out out′ = view out′ ≡ with-pairs (d (stored-in z (view b)) .pairs) (view out)
+
+-- the work step has no pairs to write
+abbrev pub No-pairs : Sizes → List ℕ → ℕ → Type 0
+No-pairs z b c = work z (stored-in z (view b)) c .pairs ≡ []

@@ -2,23 +2,28 @@
 ghost use mathlib.Core.Path.{_≡_};
 ghost use mathlib.Core.Bool.{false};
 ghost use mathlib.Core.List.{[]};
-ghost use lib.ListN.{length};
+ghost use Prim.Native.Nat.{_*_, _≤_, _<_};
+ghost use lib.ListN.{length, getD};
 ghost use Rattle.memory.specs.Word.{view};
-ghost use Rattle.client.specs.Layout.{op-number, ClientPart};
+ghost use Rattle.client.specs.Layout.{op-number, op-value, ClientPart};
 ghost use Rattle.client.specs.Part.{Did};
 ghost use Rattle.client.specs.Lent.{InUse, used-in, OwnFits, own-list};
+ghost use Rattle.client.specs.Bounds.{most-listed};
 ghost use Rattle.client.specs.Enter.{enter-entries};
 ghost use Rattle.change.specs.Single.{entries-of};
 ghost use Rattle.walk.specs.Walk.{is-answer};
 ghost use Rattle.walk.specs.Stopped.{Stopped};
-ghost use Rattle.walk.specs.declared.operation.Operation.the-variants.{Read, Write};
+ghost use Rattle.walk.specs.declared.operation.Operation.the-variants.{Read, Listing, Write};
+ghost use Rattle.walk.specs.Found.{pairs-in};
 ghost use Rattle.walk.specs.Operation.{operation-of};
 ghost use Rattle.steps.specs.Whole.{tree-sizes};
+ghost use Rattle.steps.specs.Output.{with-pairs};
 ghost use Rattle.steps.specs.Steps.{work};
 ghost use Rattle.kinds.specs.Parts.{InClient, AtClient};
 ghost use Rattle.kinds.specs.Judge.{of-client};
 ghost use Rattle.kinds.specs.Kinds.{Comes};
-ghost use Rattle.engine.specs.Work.{entering, answer-of, WaitingClient};
+ghost use Rattle.engine.specs.Work.{entering, answer-of, WaitingClient, Room-for-list, Leaves, No-pairs};
+use crate::walking::list_at;
 use crate::walking::look_at;
 use crate::walking::single_at;
 use crate::walking::waiting_at;
@@ -35,6 +40,7 @@ use kinds::lack::fetch_meta;
 use kinds::lack::fetch_node;
 use kinds::lack::fetch_vector;
 use kinds::whole::client_at;
+use memory::write_words;
 use steps::outcome::Outcome;
 use steps::sizes::Sizes;
 use walk::operation::Operation;
@@ -114,6 +120,7 @@ fn unanswered(mem: &mut [u8], sizes: Sizes, client: usize, stop: Stop, used: &[u
     requires { ⌜ WaitingClient sizes (now mem) client ⌝ }
     requires stopped { ⌜ Stopped (tree-sizes sizes) (of-client sizes (view (now mem)) client) stop (now used) × (is-answer stop ≡ false) ⌝ }
     ensures { λ r. ⌜ Comes sizes (λ m. work sizes m client) (now (mem .entry)) r (now (mem .exit)) ⌝ }
+    ensures pairs { λ _. ⌜ No-pairs sizes (now (mem .entry)) client ⌝ }
 {
     match stop {
         Stop::Going => Outcome::Refused(10),
@@ -146,6 +153,7 @@ fn look(mem: &mut [u8], sizes: Sizes, client: usize, op: Query) -> Outcome
     requires { ⌜ WaitingClient sizes (now mem) client ⌝ }
     requires reads { ⌜ operation-of (of-client sizes (view (now mem)) client op-number) ≡ Read op ⌝ }
     ensures { λ r. ⌜ Comes sizes (λ m. work sizes m client) (now (mem .entry)) r (now (mem .exit)) ⌝ }
+    ensures pairs { λ _. ⌜ No-pairs sizes (now (mem .entry)) client ⌝ }
 {
     let mut used = [0u64; 98];
     let stop = look_at(mem, sizes, client, &mut used, op);
@@ -157,11 +165,42 @@ fn look(mem: &mut [u8], sizes: Sizes, client: usize, op: Query) -> Outcome
     answered(stop)
 }
 
+// "written to a lent output of 16 bytes a pair, key first, lowest byte first"
+fn put_pairs(out: &mut [u8], found: &[u64])
+    requires { ⌜ (getD (now found) 0 0 ≤ most-listed) × (2 * getD (now found) 0 0 < length (now found)) ⌝ }
+    requires room { ⌜ 16 * getD (now found) 0 0 ≤ length (now out) ⌝ }
+    ensures { λ _. ⌜ view (now (out .exit)) ≡ with-pairs (pairs-in (now (found .entry))) (view (now (out .entry))) ⌝ }
+{
+    let n = found[0] as usize;
+    write_words(out, 0, &found[1..2 * n + 1]);
+}
+
+// A list: its pairs go to the lent output.
+fn list(mem: &mut [u8], out: &mut [u8], sizes: Sizes, client: usize) -> Outcome
+    requires { ⌜ WaitingClient sizes (now mem) client ⌝ }
+    requires lists { ⌜ (operation-of (of-client sizes (view (now mem)) client op-number) ≡ Listing)
+        × (16 * of-client sizes (view (now mem)) client op-value ≤ length (now out)) ⌝ }
+    ensures { λ r. ⌜ Comes sizes (λ m. work sizes m client) (now (mem .entry)) r (now (mem .exit)) ⌝ }
+    ensures output { λ _. ⌜ Leaves sizes (λ m. work sizes m client) (now (mem .entry)) (now (out .entry)) (now (out .exit)) ⌝ }
+{
+    let mut used = [0u64; 98];
+    let mut found = [0u64; 65];
+    let stop = list_at(mem, sizes, client, &mut used, &mut found);
+    let done = is_answer(stop);
+    if !done {
+        return unanswered(mem, sizes, client, stop, &used);
+    }
+    put_pairs(out, &found);
+    store_seen(mem, sizes, client, &used);
+    answered(stop)
+}
+
 // An operation that writes many objects: it is walked anew, with a list of them.
 fn change_many(mem: &mut [u8], sizes: Sizes, client: usize, op: Update) -> Outcome
     requires { ⌜ WaitingClient sizes (now mem) client ⌝ }
     requires writes { ⌜ operation-of (of-client sizes (view (now mem)) client op-number) ≡ Write op ⌝ }
     ensures { λ r. ⌜ Comes sizes (λ m. work sizes m client) (now (mem .entry)) r (now (mem .exit)) ⌝ }
+    ensures pairs { λ _. ⌜ No-pairs sizes (now (mem .entry)) client ⌝ }
 {
     let mut own = [0u64; 681];
     let mut used = [0u64; 98];
@@ -179,6 +218,7 @@ fn change(mem: &mut [u8], sizes: Sizes, client: usize, op: Update) -> Outcome
     requires { ⌜ WaitingClient sizes (now mem) client ⌝ }
     requires writes { ⌜ operation-of (of-client sizes (view (now mem)) client op-number) ≡ Write op ⌝ }
     ensures { λ r. ⌜ Comes sizes (λ m. work sizes m client) (now (mem .entry)) r (now (mem .exit)) ⌝ }
+    ensures pairs { λ _. ⌜ No-pairs sizes (now (mem .entry)) client ⌝ }
 {
     let mut used = [0u64; 98];
     let s = single_at(mem, sizes, client, &mut used, op);
@@ -196,25 +236,31 @@ fn change(mem: &mut [u8], sizes: Sizes, client: usize, op: Update) -> Outcome
 }
 
 // By the sort of the operation.
-fn operate(mem: &mut [u8], sizes: Sizes, client: usize) -> Outcome
+fn operate(mem: &mut [u8], out: &mut [u8], sizes: Sizes, client: usize) -> Outcome
     requires { ⌜ WaitingClient sizes (now mem) client ⌝ }
+    requires room { ⌜ Room-for-list sizes (now mem) client (now out) ⌝ }
     ensures { λ r. ⌜ Comes sizes (λ m. work sizes m client) (now (mem .entry)) r (now (mem .exit)) ⌝ }
+    ensures output { λ _. ⌜ Leaves sizes (λ m. work sizes m client) (now (mem .entry)) (now (out .entry)) (now (out .exit)) ⌝ }
 {
     let op = waiting_at(mem, sizes, client);
     match op {
         Operation::Read(op) => look(mem, sizes, client, op),
+        Operation::Listing => list(mem, out, sizes, client),
         Operation::Write(op) => change(mem, sizes, client, op),
         Operation::Unknown => Outcome::Refused(10),
     }
 }
 
-pub fn work(mem: &mut [u8], sizes: Sizes, client: usize) -> Outcome
+// The pairs of a list go to the lent output.
+pub fn work(mem: &mut [u8], out: &mut [u8], sizes: Sizes, client: usize) -> Outcome
     requires { ⌜ AtClient sizes (length (now mem)) client ⌝ }
     requires waits { ⌜ (of-client sizes (view (now mem)) client op-number ≡ 0 → ⊥) ⌝ }
+    requires room { ⌜ Room-for-list sizes (now mem) client (now out) ⌝ }
     ensures { λ r. ⌜ Comes sizes (λ m. work sizes m client) (now (mem .entry)) r (now (mem .exit)) ⌝ }
+    ensures output { λ _. ⌜ Leaves sizes (λ m. work sizes m client) (now (mem .entry)) (now (out .entry)) (now (out .exit)) ⌝ }
 {
     if !fit_to_work(mem, sizes, client) {
         return Outcome::Refused(10);
     }
-    operate(mem, sizes, client)
+    operate(mem, out, sizes, client)
 }

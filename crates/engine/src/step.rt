@@ -4,16 +4,21 @@ ghost use mathlib.Core.List.{[], _∷_};
 ghost use Prim.Native.Nat.{_<_};
 ghost use lib.ListN.{length};
 ghost use Rattle.memory.specs.Word.{view};
-ghost use Rattle.steps.specs.Steps.{step as rule};
+ghost use Rattle.steps.specs.Steps.{short-output, step as rule};
 ghost use Rattle.steps.specs.Taken.{came-to};
-ghost use Rattle.kinds.specs.Parts.{Store-in};
+ghost use Rattle.kinds.specs.Parts.{Store-in, AtClient};
+ghost use Rattle.kinds.specs.Judge.{of-client};
 ghost use Rattle.kinds.specs.Kinds.{Comes};
-ghost use Rattle.engine.specs.Step.{rule-of, outcome-of, words-after, Ruled};
+ghost use Rattle.engine.specs.Work.{Leaves};
+ghost use Rattle.engine.specs.Step.{rule-of, outcome-of, words-after, output-after, Ruled};
 ghost use Rattle.engine.specs.Reached.{Goes-on};
 use crate::operate::work;
+use client::part::OP_NUMBER;
+use client::part::OP_VALUE;
 use kinds::abort::give_up;
 use kinds::apply::apply;
 use kinds::commit::commit;
+use kinds::judge::field_of;
 use kinds::life::begin;
 use kinds::life::give;
 use kinds::loss::lose;
@@ -27,15 +32,42 @@ use steps::sizes::Sizes;
 use steps::step::Kind;
 use steps::step::Step;
 
-// The rule of a step's kind.
-fn by_kind(mem: &mut [u8], sizes: Sizes, client: usize, step: Step, kind: Kind) -> Outcome
-    requires { ⌜ Ruled sizes (now mem) client step kind ⌝ }
+// A step's kind, and the number of the operation that waits.
+const WORK: u64 = 2;
+
+const LIST: u64 = 7;
+
+// "12: at work, output shorter than 16 times the count". The count may still be any number: nothing has judged it.
+fn short_output(mem: &[u8], room: usize, sizes: Sizes, client: usize, kind: u64) -> bool
+    requires { ⌜ AtClient sizes (length (now mem)) client ⌝ }
+    ensures { λ r. ⌜ r ≡ short-output kind room (of-client sizes (view (now (mem .entry))) client) ⌝ }
+{
+    if kind != WORK {
+        return false;
+    }
+    if field_of(mem, sizes, client, OP_NUMBER) != LIST {
+        return false;
+    }
+    ((room / 16) as u64) < field_of(mem, sizes, client, OP_VALUE)
+}
+
+// The rule of a step's kind. Only a list writes to the lent output.
+fn by_kind(
+    mem: &mut [u8],
+    out: &mut [u8],
+    sizes: Sizes,
+    client: usize,
+    step: Step,
+    kind: Kind,
+) -> Outcome
+    requires { ⌜ Ruled sizes (now mem) (length (now out)) client step kind ⌝ }
     ensures { λ r. ⌜ Comes sizes (rule-of sizes client step kind) (now (mem .entry)) r (now (mem .exit)) ⌝ }
+    ensures output { λ _. ⌜ Leaves sizes (rule-of sizes client step kind) (now (mem .entry)) (now (out .entry)) (now (out .exit)) ⌝ }
 {
     match kind {
         Kind::Begin => begin(mem, sizes, client),
         Kind::Give => give(mem, sizes, client, step),
-        Kind::Work => work(mem, sizes, client),
+        Kind::Work => work(mem, out, sizes, client),
         Kind::Commit => commit(mem, sizes, client),
         Kind::Prepare => prepare(mem, sizes, client, step.server as usize),
         Kind::Apply => apply(mem, sizes, client, step.server as usize),
@@ -45,26 +77,34 @@ fn by_kind(mem: &mut [u8], sizes: Sizes, client: usize, step: Step, kind: Kind) 
     }
 }
 
-// Refusals 4 to 9, then the rule.
-fn in_store(mem: &mut [u8], sizes: Sizes, step: Step) -> Outcome
+// Refusals 4 to 9, 11 and 12, then the rule.
+fn in_store(mem: &mut [u8], out: &mut [u8], sizes: Sizes, step: Step) -> Outcome
     requires { ⌜ Store-in sizes (length (now mem)) ⌝ }
-    ensures { λ r. ⌜ Comes sizes (rule sizes step) (now (mem .entry)) r (now (mem .exit)) ⌝ }
+    ensures { λ r. ⌜ Comes sizes (rule sizes step (length (now (out .entry)))) (now (mem .entry)) r (now (mem .exit)) ⌝ }
+    ensures output { λ _. ⌜ Leaves sizes (rule sizes step (length (now (out .entry)))) (now (mem .entry)) (now (out .entry)) (now (out .exit)) ⌝ }
 {
     let refused = refusal(mem, sizes, step);
     if refused != 0 {
         return Outcome::Refused(refused);
     }
     let client = step.client as usize;
+    if short_output(mem, out.len(), sizes, client, step.kind) {
+        return Outcome::Refused(12);
+    }
     let kind = kind_of(step.kind);
-    by_kind(mem, sizes, client, step, kind)
+    by_kind(mem, out, sizes, client, step, kind)
 }
 
-// "A refused step returns the first number that holds and changes no byte". Whatever steps had reached the store, this one with its outcome goes on
-// from there.
-pub fn step(mem: &mut [u8], step: Step) -> Outcome
-    ensures { λ r. ⌜ r ≡ outcome-of (length (now (mem .entry))) (view (now (mem .entry))) step ⌝ }
-    ensures words { λ _. ⌜ view (now (mem .exit)) ≡ words-after (length (now (mem .entry))) (view (now (mem .entry))) step ⌝ }
-    ensures reached { λ r. ⌜ Goes-on (now (mem .entry)) (came-to step r ∷ []) (now (mem .exit)) ⌝ }
+// "A refused step returns the first number that holds and changes no byte". A list writes its pairs to `out`, which any other step leaves alone.
+// Whatever steps had reached the store, this one with its outcome and its output goes on from there.
+pub fn step(mem: &mut [u8], out: &mut [u8], step: Step) -> Outcome
+    ensures { λ r. ⌜ r ≡ outcome-of (length (now (mem .entry))) (view (now (mem .entry))) (length (now (out .entry))) step ⌝ }
+    ensures words { λ _. ⌜ view (now (mem .exit))
+        ≡ words-after (length (now (mem .entry))) (view (now (mem .entry))) (length (now (out .entry))) step ⌝ }
+    ensures output { λ _. ⌜ view (now (out .exit))
+        ≡ output-after (length (now (mem .entry))) (view (now (mem .entry))) (length (now (out .entry))) step (view (now (out .entry))) ⌝ }
+    ensures reached { λ r. ⌜ Goes-on (now (mem .entry))
+        (came-to step (length (now (out .entry))) (view (now (out .entry))) r (view (now (out .exit))) ∷ []) (now (mem .exit)) ⌝ }
 {
     let bytes = mem.len();
     if bytes < 64 {
@@ -75,5 +115,5 @@ pub fn step(mem: &mut [u8], step: Step) -> Outcome
     if number != 0 {
         return Outcome::Refused(number);
     }
-    in_store(mem, sizes, step)
+    in_store(mem, out, sizes, step)
 }

@@ -3,10 +3,12 @@ ghost use mathlib.Core.Path.{_≡_};
 ghost use Prim.Native.Nat.{_≤_};
 ghost use lib.ListN.{length, getD};
 ghost use Rattle.memory.specs.Word.{view};
-ghost use Rattle.client.specs.Layout.{op-number};
-ghost use Rattle.client.specs.Bounds.{used-room};
+ghost use mathlib.Core.List.{[]};
+ghost use Rattle.client.specs.Layout.{op-number, op-value};
+ghost use Rattle.client.specs.Bounds.{used-room, found-room};
 ghost use Rattle.walk.specs.Stopped.{Waiting};
-ghost use Rattle.walk.specs.declared.operation.Operation.the-variants.{Read, Write};
+ghost use Rattle.walk.specs.declared.operation.Operation.the-variants.{Read, Listing, Write};
+ghost use Rattle.walk.specs.Found.{pairs-in, Roomy};
 ghost use Rattle.walk.specs.Operation.{operation-of};
 ghost use Rattle.walk.specs.Look.{Looks};
 ghost use Rattle.change.specs.Work.{Ready, WorksOn};
@@ -19,6 +21,7 @@ use change::single::write_single;
 use change::work::work;
 use kinds::whole::client_at;
 use steps::sizes::Sizes;
+use walk::look::list;
 use walk::look::look;
 use walk::operation::Operation;
 use walk::operation::Query;
@@ -41,10 +44,24 @@ pub fn look_at(mem: &[u8], sizes: Sizes, client: usize, used: &mut [u64], op: Qu
     requires waits { ⌜ Waiting (of-client sizes (view (now mem)) client)
         × (operation-of (of-client sizes (view (now mem)) client op-number) ≡ Read op) ⌝ }
     ensures { λ r. ⌜ Looks (tree-sizes sizes) (of-client sizes (view (now (mem .entry))) client) r (now (used .entry))
-        (now (used .exit)) ⌝ }
+        (now (used .exit)) [] ⌝ }
 {
     let at = 8 * client_at(sizes, client);
     look(&mem[at..], sizes.servers, sizes.slots, used, op)
+}
+
+// A list: another list is lent, which has the pairs afterwards.
+pub fn list_at(mem: &[u8], sizes: Sizes, client: usize, used: &mut [u64], found: &mut [u64]) -> Stop
+    requires { ⌜ AtClient sizes (length (now mem)) client × (used-room ≤ length (now used)) × (getD (now used) 0 0 ≡ 0) ⌝ }
+    requires waits { ⌜ Waiting (of-client sizes (view (now mem)) client)
+        × (operation-of (of-client sizes (view (now mem)) client op-number) ≡ Listing) ⌝ }
+    requires room { ⌜ (found-room ≤ length (now found)) × (getD (now found) 0 0 ≡ 0) ⌝ }
+    ensures { λ r. ⌜ Looks (tree-sizes sizes) (of-client sizes (view (now (mem .entry))) client) r (now (used .entry))
+        (now (used .exit)) (pairs-in (now (found .exit))) ⌝ }
+    ensures within { λ _. ⌜ Roomy (of-client sizes (view (now (mem .entry))) client op-value) (now (found .exit)) ⌝ }
+{
+    let at = 8 * client_at(sizes, client);
+    list(&mem[at..], sizes.servers, sizes.slots, used, found)
 }
 
 // One that writes, unless that is more than one object: the list is lent empty.

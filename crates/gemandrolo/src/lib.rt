@@ -4,14 +4,13 @@ ghost use mathlib.Core.Path.{_≡_};
 ghost use mathlib.Core.List.{[]};
 ghost use lib.ListN.{length};
 ghost use Rattle.memory.specs.Word.{view};
-ghost use Rattle.steps.specs.Outcome.{line};
 ghost use Rattle.steps.specs.Refusal.{open-refusal};
 ghost use Rattle.kinds.specs.Parts.{length-answer};
 ghost use Rattle.engine.specs.Open.{words-opened};
-ghost use Rattle.engine.specs.Step.{outcome-of, words-after};
+ghost use Rattle.engine.specs.Step.{words-after, output-after};
 ghost use Rattle.engine.specs.Reached.{Reached, Goes-on};
 ghost use Rattle.schedule.specs.Listed.{All-taken};
-ghost use Rattle.gemandrolo.specs.Numbers.{sizes-of, step-of, bytes-of, one-taken};
+ghost use Rattle.gemandrolo.specs.Numbers.{sizes-of, step-of, bytes-of, numbers-of, one-taken};
 use engine::open::Opening;
 use engine::open::open;
 use engine::step::step;
@@ -64,11 +63,12 @@ pub extern "C" fn gemandrolo_open(
     }
 }
 
-// One step: the number of its outcome; its a and b behind the references. Whatever steps had reached the store, this one with its outcome goes on
-// from there.
+// One step: the number of its outcome; its a and b behind the references. A list writes its pairs to `out`, which any other step leaves alone; it may
+// be empty. Whatever steps had reached the store, this one with its outcome and its output goes on from there.
 #[no_mangle]
 pub extern "C" fn gemandrolo_step(
     mem: &mut [u8],
+    out: &mut [u8],
     kind: u64,
     client: u64,
     op: u64,
@@ -78,15 +78,20 @@ pub extern "C" fn gemandrolo_step(
     a: &mut u64,
     b: &mut u64,
 ) -> u64
-    ensures { λ r. ⌜ r ≡ line (outcome-of (length (now (mem .entry))) (view (now (mem .entry))) (step-of kind client op key value server)) .outcome ⌝ }
-    ensures a { λ _. ⌜ now (a .exit) ≡ line (outcome-of (length (now (mem .entry))) (view (now (mem .entry))) (step-of kind client op key value server)) .a ⌝ }
-    ensures b { λ _. ⌜ now (b .exit) ≡ line (outcome-of (length (now (mem .entry))) (view (now (mem .entry))) (step-of kind client op key value server)) .b ⌝ }
-    ensures words { λ _. ⌜ view (now (mem .exit)) ≡ words-after (length (now (mem .entry))) (view (now (mem .entry))) (step-of kind client op key value server) ⌝ }
+    ensures { λ r. ⌜ r ≡ numbers-of (now (mem .entry)) (now (out .entry)) (step-of kind client op key value server) .outcome ⌝ }
+    ensures a { λ _. ⌜ now (a .exit) ≡ numbers-of (now (mem .entry)) (now (out .entry)) (step-of kind client op key value server) .a ⌝ }
+    ensures b { λ _. ⌜ now (b .exit) ≡ numbers-of (now (mem .entry)) (now (out .entry)) (step-of kind client op key value server) .b ⌝ }
+    ensures words { λ _. ⌜ view (now (mem .exit)) ≡ words-after (length (now (mem .entry))) (view (now (mem .entry))) (length (now (out .entry)))
+        (step-of kind client op key value server) ⌝ }
+    ensures output { λ _. ⌜ view (now (out .exit)) ≡ output-after (length (now (mem .entry))) (view (now (mem .entry))) (length (now (out .entry)))
+        (step-of kind client op key value server) (view (now (out .entry))) ⌝ }
     ensures reached { λ r. ⌜ Goes-on (now (mem .entry))
-        (one-taken (step-of kind client op key value server) r (now (a .exit)) (now (b .exit))) (now (mem .exit)) ⌝ }
+        (one-taken (step-of kind client op key value server) (now (out .entry)) r (now (a .exit)) (now (b .exit)) (now (out .exit)))
+        (now (mem .exit)) ⌝ }
 {
     let outcome = step(
         mem,
+        out,
         Step {
             kind,
             client,
@@ -102,10 +107,16 @@ pub extern "C" fn gemandrolo_step(
     l.outcome
 }
 
-// A list of steps, run front to back; the three numbers of each outcome stand in `out`, as far as it has room.
+// A list of steps, run front to back; `out` is lent to all of them. The three numbers of each outcome stand in `outcomes`, as far as it has room.
 #[no_mangle]
-pub extern "C" fn gemandrolo_run(mem: &mut [u8], steps: &[Step], out: &mut [u64])
-    ensures { λ _. ⌜ All-taken (now (mem .entry)) (now (out .entry)) (now (steps .entry)) (now (mem .exit)) (now (out .exit)) ⌝ }
+pub extern "C" fn gemandrolo_run(
+    mem: &mut [u8],
+    out: &mut [u8],
+    steps: &[Step],
+    outcomes: &mut [u64],
+)
+    ensures { λ _. ⌜ All-taken (now (mem .entry)) (now (out .entry)) (now (outcomes .entry)) (now (steps .entry)) (now (mem .exit)) (now (out .exit))
+        (now (outcomes .exit)) ⌝ }
 {
-    run(mem, out, steps);
+    run(mem, out, outcomes, steps);
 }

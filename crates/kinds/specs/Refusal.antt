@@ -1,4 +1,4 @@
--- Refusals 5 to 9 as the code asks for them: which of 6 to 8, by the kind.
+-- Refusals 5 to 9 and 11 as the code asks for them: which of 6 to 8 and 11, by the kind.
 use mathlib.Core.Bool.{Bool, true, false, cond, _&&_, not}
 use mathlib.Core.List.{List}
 use Prim.Native.Nat.{ℕ, _-_, _<_}
@@ -13,7 +13,7 @@ use Rattle.steps.specs.declared.step.Kind.the-variants.{Begin, Give, Work, Comm
 use Rattle.steps.specs.Whole.{client, tree-sizes}
 use Rattle.steps.specs.Refusal.{between, state-fits}
 use Rattle.kinds.specs.Parts.{stored-in}
-use Rattle.client.specs.Bounds.{most-servers}
+use Rattle.client.specs.Bounds.{most-servers, most-listed}
 
 -- the first of two refusals, where 0 is none
 abbrev pub first-refusal : ℕ → ℕ → ℕ
@@ -27,9 +27,16 @@ server-refusal z s = cond (leb (z .servers) s) 7 0
 unfoldable pub node-refusal : Sizes → ℕ → ℕ
 node-refusal z n = cond (in-store (tree-sizes z) n) 0 8
 
--- 6 of a give, and 7 and 8 where it gives a migrate
+-- 11 of a list
+unfoldable pub count-refusal : ℕ → ℕ
+count-refusal n = cond (between 1 most-listed n) 0 11
+
+-- 6 of a give, 7 and 8 where it gives a migrate, and 11 where it gives a list
 unfoldable pub give-refusal : Sizes → Step → ℕ
-give-refusal z k = cond (between 1 5 (k .op)) 0 (cond (eqb (k .op) 6) (first-refusal (server-refusal z (k .server)) (node-refusal z (k .key))) 6)
+give-refusal z k =
+    cond (between 1 5 (k .op)) 0
+    (cond (eqb (k .op) 6) (first-refusal (server-refusal z (k .server)) (node-refusal z (k .key)))
+    (cond (eqb (k .op) 7) (count-refusal (k .value)) 6))
 
 -- a participant that is not yet in the set of servers that the field has
 unfoldable pub left : (ClientWord → ℕ) → ClientWord → ℕ → Bool

@@ -6,7 +6,7 @@ ghost use Rattle.memory.specs.Word.{view};
 ghost use Rattle.client.specs.Sets.{held};
 ghost use Rattle.steps.specs.Refusal.{kind-of, open-refusal, refusal, state-fits};
 ghost use Rattle.kinds.specs.Parts.{Store-in, stored-in};
-ghost use Rattle.kinds.specs.Refusal.{server-refusal, node-refusal, first-refusal, give-refusal, field-refusal, known-refusal};
+ghost use Rattle.kinds.specs.Refusal.{server-refusal, node-refusal, count-refusal, first-refusal, give-refusal, field-refusal, known-refusal};
 ghost use Rattle.kinds.specs.Refusal.{left, due, fitting, unfit, Sited};
 ghost use Rattle.client.specs.Layout.{ClientPart, field, field-count};
 ghost use Rattle.client.specs.Bounds.{most-servers};
@@ -17,6 +17,7 @@ use crate::whole::words_for;
 use client::part::APPLIED;
 use client::part::COMMITTING;
 use client::part::DECIDED;
+use client::part::MOST_LISTED;
 use client::part::NO_TRANSACTION;
 use client::part::OP_NUMBER;
 use client::part::OPEN;
@@ -83,6 +84,16 @@ fn node_refusal(sizes: Sizes, name: u64) -> u64
     8
 }
 
+// 11: "count outside 1 to 32".
+fn count_refusal(count: u64) -> u64
+    ensures { λ r. ⌜ r ≡ count-refusal count ⌝ }
+{
+    if between(1, MOST_LISTED, count) {
+        return 0;
+    }
+    11
+}
+
 // The first of two that holds.
 fn first_refusal(a: u64, b: u64) -> u64
     ensures { λ r. ⌜ r ≡ first-refusal a b ⌝ }
@@ -93,7 +104,7 @@ fn first_refusal(a: u64, b: u64) -> u64
     }
 }
 
-// 6: "A given op is not 1 to 6."; of a migrate 7 and 8.
+// 6: "A given op is not 1 to 6", and "Operations now run to 7"; of a migrate 7 and 8, of a list 11.
 fn give_refusal(sizes: Sizes, step: Step) -> u64
     ensures { λ r. ⌜ r ≡ give-refusal sizes step ⌝ }
 {
@@ -105,7 +116,8 @@ fn give_refusal(sizes: Sizes, step: Step) -> u64
             server_refusal(sizes, step.server),
             node_refusal(sizes, step.key),
         ),
-        7..=u64::MAX => 6,
+        7 => count_refusal(step.value),
+        8..=u64::MAX => 6,
     }
 }
 
@@ -176,7 +188,7 @@ fn client_is_unfit(mem: &[u8], sizes: Sizes, step: Step, kind: Kind) -> bool
     !state_fits(&mem[at..], kind, step.server)
 }
 
-// 6 to 8: what the kind asks of the step's fields.
+// 6 to 8 and 11: what the kind asks of the step's fields.
 fn field_refusal(sizes: Sizes, step: Step, kind: Kind) -> u64
     ensures { λ r. ⌜ r ≡ field-refusal sizes step kind ⌝ }
 {
@@ -193,7 +205,7 @@ fn field_refusal(sizes: Sizes, step: Step, kind: Kind) -> u64
     }
 }
 
-// 5 to 9, of a kind from 0 to 7.
+// 5 to 9 and 11, of a kind from 0 to 7.
 fn known_refusal(mem: &[u8], sizes: Sizes, step: Step, kind: Kind) -> u64
     requires { ⌜ Store-in sizes (length (now mem)) ⌝ }
     ensures { λ r. ⌜ r ≡ known-refusal sizes step kind (view (now (mem .entry))) ⌝ }
@@ -211,7 +223,7 @@ fn known_refusal(mem: &[u8], sizes: Sizes, step: Step, kind: Kind) -> u64
     0
 }
 
-// 4: "The kind is above 7.", and 5 to 9; 0 if none holds.
+// 4: "The kind is above 7.", 5 to 9 and 11; 0 if none holds.
 pub fn refusal(mem: &[u8], sizes: Sizes, step: Step) -> u64
     requires { ⌜ Store-in sizes (length (now mem)) ⌝ }
     ensures { λ r. ⌜ r ≡ refusal sizes step (stored-in sizes (view (now (mem .entry)))) ⌝ }

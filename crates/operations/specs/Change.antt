@@ -112,8 +112,8 @@ insert-plan sz key v = from-root key (λ fs n es. up sz (fresh (value-in key es)
 
 -- a key that is not there changes nothing
 abbrev pub delete-at : TreeSizes → List Branch → ℕ → Entries → Option ℕ → TreePlan
-delete-at sz fs n es none = P.done ((0, 0), [])
-delete-at sz fs n es (some i) = up sz (1, 0) zero fs [] n (remove-at i es)
+delete-at sz fs n es none = P.done ((0, 0, []), [])
+delete-at sz fs n es (some i) = up sz (1, 0, []) zero fs [] n (remove-at i es)
 
 -- "Delete removes the key; a is 1 if it was there."
 abbrev pub delete-plan : TreeSizes → ℕ → TreePlan

@@ -100,6 +100,10 @@ with-pair key v es = with-at key v es (index key es)
 abbrev pub above-in : ℕ → Entries → Entries
 above-in key es = drop (place (keys es) key) es
 
+-- the pairs not below a key: those after the keys below it
+abbrev pub from-in : ℕ → Entries → Entries
+from-in key es = drop (under (keys es) key) es
+
 -- the pairs strictly below, the nearest first
 abbrev pub below-in : ℕ → Entries → Entries
 below-in key es = reverse (take (under (keys es) key) es)

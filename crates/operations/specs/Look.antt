@@ -1,4 +1,4 @@
--- Lookup, next and previous: what they read and answer. They write nothing.
+-- Lookup, next, previous and list: what they read and answer. They write nothing.
 use mathlib.Core.Bool.{cond}
 use mathlib.Core.List.{List, [], _∷_, _++_}
 use mathlib.Core.Option.{none, some}
@@ -6,8 +6,8 @@ use Prim.Native.Nat.{ℕ, zero, suc}
 use lib.Dec.{leb}
 use lib.ListN.{length, take}
 use Rattle.operations.specs.Object.{Ans}
-use Rattle.operations.specs.Map.{said}
-use Rattle.operations.specs.Entry.{Entries, value-in, above-in, below-in}
+use Rattle.operations.specs.Map.{said, listed}
+use Rattle.operations.specs.Entry.{Entries, value-in, above-in, below-in, from-in}
 use Rattle.operations.specs.Path.{TreePlan, kid, Branch, from-root}
 use Rattle.plans.specs.Plan as P
 
@@ -78,3 +78,7 @@ next-plan key = from-leaf (one-of (above-in key)) rightward (λ f. f .post) key
 -- the nearest key strictly below
 abbrev pub previous-plan : ℕ → TreePlan
 previous-plan key = from-leaf (one-of (below-in key)) leftward (λ f. f .pre) key
+
+-- "up to a given count of pairs .., from the given key upward"; "It reads on as next does."
+abbrev pub list-plan : ℕ → ℕ → TreePlan
+list-plan key count = from-leaf (record { wanted = count; in-leaf = from-in key; answer = listed }) rightward (λ f. f .post) key

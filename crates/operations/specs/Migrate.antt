@@ -20,7 +20,7 @@ moved sz n s v x k = take-on sz (s ∷ []) (slot-of n) [] (λ d w. take-node w d
 
 -- the root moves: the metadata names its new slot d, which is the answer's b
 abbrev pub move-root : TreeSizes → ℕ → ℕ → Val → TreePlan
-move-root sz n s v = moved sz n s v (λ d w. (meta, root d) ∷ w) (λ d w. P.done ((1, d), w))
+move-root sz n s v = moved sz n s v (λ d w. (meta, root d) ∷ w) (λ d w. P.done ((1, d, []), w))
 
 -- "a migrated node other than the root isn't met at its level going down from the root by its first key": at the level above. Level 0 and
 -- [] are not reached: the path stops above the node, and an inner node has a child
@@ -30,7 +30,7 @@ move-at sz n s v key (suc l) fs m [] = P.fail no-tree
 move-at sz n s v key (suc l) fs m (e ∷ es) =
     let c = cut key e es in
     ifd (ℕ-discrete (c .1 .1) n)
-    (moved sz n s v (λ d w. w) (λ d w. P.done ((1, d), (node m, node-value (suc l) (c .0 ++ (c .1 .0, d) ∷ c .2)) ∷ w)))
+    (moved sz n s v (λ d w. w) (λ d w. P.done ((1, d, []), (node m, node-value (suc l) (c .0 ++ (c .1 .0, d) ∷ c .2)) ∷ w)))
     (P.fail no-tree)
 
 -- the path stops at the level s
@@ -57,9 +57,9 @@ abbrev pub move-if : TreeSizes → ℕ → ℕ → ℕ → Val → TreePlan
 move-if sz r n s (root q) = P.fail no-tree
 move-if sz r n s (taken b) = P.fail no-tree
 move-if sz r n s (flags fs) = P.fail no-tree
-move-if sz r n s (body zero l ks vs) = P.done ((0, 0), [])
+move-if sz r n s (body zero l ks vs) = P.done ((0, 0, []), [])
 move-if sz r n s (body (suc j) l ks vs) =
-    ifd (ℕ-discrete (server-of n) s) (P.done ((0, 1), [])) (move-node sz r n s (body (suc j) l ks vs) l ks)
+    ifd (ℕ-discrete (server-of n) s) (P.done ((0, 1, []), [])) (move-node sz r n s (body (suc j) l ks vs) l ks)
 
 -- "in the order metadata, a migrated node, the path downward"
 abbrev pub migrate-plan : TreeSizes → ℕ → ℕ → TreePlan

@@ -86,9 +86,9 @@ reason not-free = 1
 reason no-tree = 3
 reason no-slot = 5
 
--- an answer is a and b
+-- an answer is a and b, and of a list the pairs that it writes to the lent output
 abbrev pub Ans : Type 0
-Ans = ℕ × ℕ
+Ans = ℕ × ℕ × List (ℕ × ℕ)
 
 -- what an operation writes, the last first
 abbrev pub Writes : Type 0

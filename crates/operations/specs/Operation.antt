@@ -1,4 +1,4 @@
--- The six operations as plans, with the last check before the answer.
+-- The seven operations as plans, with the last check before the answer.
 use mathlib.Core.Bool.{Bool, true, cond, _&&_}
 use mathlib.Core.List.{[], _∷_}
 use Prim.Native.Nat.{_<_}
@@ -6,10 +6,10 @@ use native.Mathlib.Decide.{decLe}
 use Rattle.base.specs.Test.{yes?}
 use Rattle.nodes.specs.Find.{rises}
 use Rattle.operations.specs.Object.{Val, keys-of, level-of, no-tree, Ans, Writes, written-value}
-use Rattle.operations.specs.Map.{two-to-64, Op, insert, lookup, delete, next, previous, migrate}
+use Rattle.operations.specs.Map.{two-to-64, Op, insert, lookup, delete, next, previous, migrate, list}
 use Rattle.operations.specs.Path.{TreePlan}
 use Rattle.operations.specs.Slot.{TreeSizes}
-use Rattle.operations.specs.Look.{lookup-plan, next-plan, previous-plan}
+use Rattle.operations.specs.Look.{lookup-plan, next-plan, previous-plan, list-plan}
 use Rattle.operations.specs.Change.{insert-plan, delete-plan}
 use Rattle.operations.specs.Migrate.{migrate-plan}
 use Rattle.plans.specs.Plan as P
@@ -39,6 +39,7 @@ reading sz (delete k) = delete-plan sz k
 reading sz (next k) = next-plan k
 reading sz (previous k) = previous-plan k
 reading sz (migrate n s) = migrate-plan sz n s
+reading sz (list k n) = list-plan k n
 
 -- the plan of an operation
 abbrev pub plan : TreeSizes → Op → TreePlan
@@ -52,3 +53,4 @@ Legal sz (delete k) = k < two-to-64
 Legal sz (next k) = k < two-to-64
 Legal sz (previous k) = k < two-to-64
 Legal sz (migrate n s) = s < sz .servers
+Legal sz (list k n) = k < two-to-64

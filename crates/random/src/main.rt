@@ -51,9 +51,9 @@ fn print_tally(tally: Tally) {
     io::write_all(1, b"; outcomes 0 to 8:");
     let outcomes = tally.outcomes;
     print_list(outcomes, 0, 9);
-    io::write_all(1, b"; refused by 4 to 10:");
+    io::write_all(1, b"; refused by 4 to 12:");
     let refused = tally.refused;
-    print_list(refused, 4, 11);
+    print_list(refused, 4, 13);
     io::write_all(1, b"; aborts 1 to 8:");
     let reasons = tally.reasons;
     print_list(reasons, 1, 9);

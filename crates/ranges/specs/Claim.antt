@@ -29,4 +29,4 @@ Never-refused-by-10 = (z : Sizes) → Allowed z → (h : List Taken) (m : Addres
 abbrev pub Due-is-applied : Type 0
 Due-is-applied = (z : Sizes) → Allowed z → (h : List Taken) (m : Address → ℕ) → Leads z (opened z) h m
     → (k : Step) → Words k → k .kind ≡ 5 → k .client < z .clients → k .server < z .servers → state-fits (λ a. m (client (k .client) a)) (k .server) Apply ≡ true
-    → (step z k m .outcome ≡ Applied (k .server)) ⊎ (step z k m .outcome ≡ Committed)
+    → (room : ℕ) → (step z k room m .outcome ≡ Applied (k .server)) ⊎ (step z k room m .outcome ≡ Committed)

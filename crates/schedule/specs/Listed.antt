@@ -1,5 +1,5 @@
--- "A schedule is a lent list of step records, run front to back": the words after it, the steps with their outcomes, and the outcomes written to a
--- lent output.
+-- "A schedule is a lent list of step records, run front to back": the words after it, the steps with their outcomes, the outcomes written to a lent
+-- list, and the output that is lent to all its steps.
 use mathlib.Core.Path.{_≡_}
 use mathlib.Core.Bool.{cond}
 use mathlib.Core.List.{List, [], _∷_}
@@ -11,42 +11,63 @@ use Rattle.steps.specs.declared.step.Step.{Step}
 use Rattle.steps.specs.declared.outcome.Line.{Line}
 use Rattle.steps.specs.Outcome.{line}
 use Rattle.steps.specs.Taken.{Taken, came-to, outcome-from}
-use Rattle.engine.specs.Step.{outcome-of, words-after}
+use Rattle.engine.specs.Step.{outcome-of, words-after, output-after}
 use Rattle.engine.specs.Reached.{Goes-on}
 
--- on memory of n bytes with these words: the words after a list of steps
-module _ (n : ℕ) where
+-- on memory of n bytes with these words, where an output of `room` bytes is lent to all steps: the words after a list of steps
+module _ (n room : ℕ) where
   unfoldable pub words-run : List ℕ → List Step → List ℕ
   words-run w [] = w
-  words-run w (k ∷ ks) = words-run (words-after n w k) ks
+  words-run w (k ∷ ks) = words-run (words-after n w room k) ks
 
-  -- the steps with their outcomes
-  unfoldable pub taken-run : List ℕ → List Step → List Taken
-  taken-run w [] = []
-  taken-run w (k ∷ ks) = came-to k (outcome-of n w k) ∷ taken-run (words-after n w k) ks
+  -- the output after them, whose words were `out`
+  unfoldable pub output-run : List ℕ → List ℕ → List Step → List ℕ
+  output-run w out [] = out
+  output-run w out (k ∷ ks) = output-run (words-after n w room k) (output-after n w room k out) ks
+
+  -- the steps as they were taken: with their outcomes, and the output as each found and left it
+  unfoldable pub taken-run : List ℕ → List ℕ → List Step → List Taken
+  taken-run w out [] = []
+  taken-run w out (k ∷ ks) =
+      let out′ = output-after n w room k out in
+      came-to k room out (outcome-of n w room k) out′ ∷ taken-run (words-after n w room k) out′ ks
 
 -- the three numbers of an outcome as those of step i; without room for them they are left out
 unfoldable pub written-down : List ℕ → ℕ → Line → List ℕ
-written-down out i l = cond (ltb i (length out / 3)) (set (set (set out (3 * i) (l .outcome)) (3 * i + 1) (l .a)) (3 * i + 2) (l .b)) out
+written-down outcomes i l =
+    cond (ltb i (length outcomes / 3)) (set (set (set outcomes (3 * i) (l .outcome)) (3 * i + 1) (l .a)) (3 * i + 2) (l .b)) outcomes
 
--- What step k, the i-th of a list, leaves of memory with the bytes b and of the output `out`; r is its outcome's number.
-abbrev pub Turn-taken : List ℕ → List ℕ → ℕ → Step → ℕ → List ℕ → List ℕ → Type 0
-Turn-taken b out i k r b′ out′ =
-    let l = line (outcome-of (length b) (view b) k) in
-    (r ≡ l .outcome) × (view b′ ≡ words-after (length b) (view b) k) × (out′ ≡ written-down out i l)
+-- What step k, the i-th of a list, leaves of memory with the bytes b, of the output with the bytes `out` and of the list of outcomes; r is its
+-- outcome's number.
+abbrev pub Turn-taken : List ℕ → List ℕ → List ℕ → ℕ → Step → ℕ → List ℕ → List ℕ → List ℕ → Type 0
+Turn-taken b out outcomes i k r b′ out′ outcomes′ =
+    let l = line (outcome-of (length b) (view b) (length out) k) in
+    (r ≡ l .outcome) × (view b′ ≡ words-after (length b) (view b) (length out) k)
+    × (view out′ ≡ output-after (length b) (view b) (length out) k (view out)) × (outcomes′ ≡ written-down outcomes i l)
 
--- those of a list of steps, from step i on
+-- the outcomes of a list of steps, from step i on
 unfoldable pub lines : List ℕ → ℕ → List Taken → List ℕ
-lines out i [] = out
-lines out i (t ∷ ts) = lines (written-down out i (line (t .outcome))) (suc i) ts
+lines outcomes i [] = outcomes
+lines outcomes i (t ∷ ts) = lines (written-down outcomes i (line (t .outcome))) (suc i) ts
 
--- the steps with the outcomes that stand in the output, from step i on
-unfoldable pub taken-in : List ℕ → ℕ → List Step → List Taken
-taken-in out i [] = []
-taken-in out i (k ∷ ks) = came-to k (outcome-from (getD out (3 * i) 0) (getD out (3 * i + 1) 0) (getD out (3 * i + 2) 0)) ∷ taken-in out (suc i) ks
+-- the same steps with the outcomes that stand in the list, from step i on
+unfoldable pub as-written : List ℕ → ℕ → List Taken → List Taken
+as-written outcomes i [] = []
+as-written outcomes i (t ∷ ts) =
+    let o = outcome-from (getD outcomes (3 * i) 0) (getD outcomes (3 * i + 1) 0) (getD outcomes (3 * i + 2) 0) in
+    came-to (t .step) (t .room) (t .lent) o (t .left) ∷ as-written outcomes (suc i) ts
 
--- What a list of steps ks leaves of memory with the bytes b and of the output `out`. Whatever steps had reached b, these go on from there.
-pub record All-taken (b out : List ℕ) (ks : List Step) (b′ out′ : List ℕ) : Type 0 where
-  pub words : view b′ ≡ words-run (length b) (view b) ks
-  pub outcomes : out′ ≡ lines out 0 (taken-run (length b) (view b) ks)
-  pub reached : Goes-on b (taken-run (length b) (view b) ks) b′
+-- the steps ks as they were taken on memory with the bytes b, lent an output with the bytes `out`
+abbrev pub taken-on : List ℕ → List ℕ → List Step → List Taken
+taken-on b out ks = taken-run (length b) (length out) (view b) (view out) ks
+
+-- What a list of steps ks leaves of memory with the bytes b, of the output with the bytes `out` and of the list of outcomes. Whatever steps had
+-- reached b, these go on from there.
+pub record All-taken (b out outcomes : List ℕ) (ks : List Step) (b′ out′ outcomes′ : List ℕ) : Type 0 where
+  pub words : view b′ ≡ words-run (length b) (length out) (view b) ks
+  pub output : view out′ ≡ output-run (length b) (length out) (view b) (view out) ks
+  -- the steps as they were taken
+  pub taken : List Taken
+  pub is : taken ≡ taken-on b out ks
+  pub noted : outcomes′ ≡ lines outcomes 0 taken
+  pub reached : Goes-on b taken b′

@@ -17,7 +17,7 @@ use Rattle.engine.specs.Open.{words-opened}
 use Rattle.engine.specs.Step.{words-after}
 use Rattle.show.specs.declared.Show.{Show}
 use Rattle.show.specs.declared.Shown.{Shown}
-use Rattle.show.specs.Shown.{Effect, ends, before, sizes-of, step-of, line-of-step}
+use Rattle.show.specs.Shown.{Effect, ends, before, sizes-of, step-of, room, line-of-step}
 
 -- no byte of the line yet: the sizes are awaited (stage 0), step n (1), or nothing more (2)
 abbrev pub awaits : ℕ → ℕ → Show
@@ -61,7 +61,7 @@ opened servers slots clients bytes w =
 
 -- a line with step n; the next number is that of 64 bits
 unfoldable pub stepped : ℕ → step.Step → Showing
-stepped n k bytes w = progress (awaits 1 ((n + 1) % 2 ^ 64)) (line-of-step bytes n w k) (words-after bytes w k)
+stepped n k bytes w = progress (awaits 1 ((n + 1) % 2 ^ 64)) (line-of-step bytes n w k) (words-after bytes w room k)
 
 -- a line that says this, where sizes were awaited, and where step n was
 unfoldable pub first-line : Line → Showing

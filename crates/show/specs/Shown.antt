@@ -41,18 +41,22 @@ sizes-of servers slots clients = record { servers = servers; slots = slots; clie
 abbrev pub step-of : ℕ → ℕ → ℕ → ℕ → ℕ → ℕ → step.Step
 step-of kind client op key value server = record { kind = kind; client = client; op = op; key = key; value = value; server = server }
 
+-- "`stepshow` one of 512 bytes": the output that is lent to every step. What a list writes there is not printed
+abbrev pub room : ℕ
+room = 512
+
 -- on memory of so many bytes
 module _ (bytes : ℕ) where
   -- "Fields: step from 0, outcome, a, b."
   abbrev pub line-of-step : ℕ → List ℕ → step.Step → List ℕ
-  line-of-step n w k = let o = line (outcome-of bytes w k) in step-line n (o .outcome) (o .a) (o .b)
+  line-of-step n w k = let o = line (outcome-of bytes w room k) in step-line n (o .outcome) (o .a) (o .b)
 
   -- "then a step a line": from step n on; "any other .. prints `bad` and ends"
   unfoldable pub steps-shown : ℕ → List ℕ → List Line → Effect
   steps-shown n w [] = ends [] w
   steps-shown n w (Step kind client op key value server ∷ ls) =
       let k = step-of kind client op key value server in
-      before (line-of-step n w k) (steps-shown (n + 1) (words-after bytes w k) ls)
+      before (line-of-step n w k) (steps-shown (n + 1) (words-after bytes w room k) ls)
   steps-shown n w (Sizes servers slots clients ∷ ls) = ends bad-line w
   steps-shown n w (Bad ∷ ls) = ends bad-line w
 

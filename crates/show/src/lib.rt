@@ -137,13 +137,14 @@ fn opened(
     }
 }
 
-// A step, and its line.
+// A step, and its line. What a list writes is not printed.
 fn stepped(mem: &mut [u8], out: &mut [u8], at: usize, number: u64, step: Step) -> Shown
     requires { ⌜ at + 84 ≤ length (now out) ⌝ }
     ensures { λ r. ⌜ Came (stepped number step) (now (mem .entry)) (now (out .entry)) at r (now (mem .exit)) (now (out .exit)) ⌝ }
     ensures short { λ r. ⌜ r .at ≤ at + 84 ⌝ }
 {
-    let line = outcome::Line::of(engine::step::step(mem, step));
+    let mut pairs = [0u8; 512];
+    let line = outcome::Line::of(engine::step::step(mem, &mut pairs, step));
     Shown {
         show: Show::line(STEPS, std::num::wrapping_add_u64(number, 1)),
         at: print::put_step(out, at, number, line.outcome, line.a, line.b),

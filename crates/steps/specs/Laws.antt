@@ -16,3 +16,5 @@ pub mod There
 pub mod Writes
 -- where steps lead, one list after another
 pub mod Taken
+-- only the answer of a list writes to the lent output
+pub mod Unlisted

@@ -11,7 +11,9 @@ pub mod Passed
 pub mod Uses
 -- refusal 10 at servers
 pub mod Judge
--- the eight kinds of steps: outcome and stores
+-- the output that a step is lent
+pub mod Output
+-- the eight kinds of steps: outcome, stores and the pairs of a list
 pub mod Steps
 -- a newly opened store, and the memory after a step
 pub mod Run

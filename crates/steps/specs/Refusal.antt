@@ -1,4 +1,4 @@
--- "Steps refused": 1 to 9 as a table of tests, in document 01's order. "A refused step returns the first number that holds and
+-- "Steps refused": 1 to 9 and 11 as a table of tests, in document 01's order. "A refused step returns the first number that holds and
 -- changes no byte; opening checks 1 to 3 only."
 use mathlib.Core.Bool.{Bool, true, cond, _&&_, _||_, not}
 use mathlib.Core.List.{List, [], _∷_}
@@ -80,8 +80,10 @@ of-step z k m =
     refused-if 4 (ltb 7 (k .kind))
     -- "5. The client is not in the store."
     ∷ refused-if 5 (leb (z .clients) (k .client))
-    -- "6. A given op is not 1 to 6."
-    ∷ refused-if 6 (gives && not (between 1 6 (k .op)))
+    -- "6. A given op is not 1 to 6", and "Operations now run to 7"
+    ∷ refused-if 6 (gives && not (between 1 7 (k .op)))
+    -- "11: count outside 1 to 32, after 6"
+    ∷ refused-if 11 (gives && eqb (k .op) 7 && not (between 1 32 (k .value)))
     -- "7. The server of a migrate, prepare or apply is not in the store."
     ∷ refused-if 7 ((migrates || between 4 5 (k .kind)) && leb (z .servers) (k .server))
     -- "8. A migrated node's name is not in the store."
@@ -94,6 +96,6 @@ of-step z k m =
 unfoldable pub open-refusal : ℕ → Sizes → ℕ
 open-refusal bytes z = first (of-memory bytes z)
 
--- by which of 4 to 9 a step is refused; 0 if by none
+-- by which of 4 to 9 and 11 a step is refused; 0 if by none
 unfoldable pub refusal : Sizes → Step → (Address → ℕ) → ℕ
 refusal z k m = first (of-step z k m)

@@ -2,8 +2,8 @@
 -- order, and before anything is stored; a rule that has ended has read no further.
 use mathlib.Core.Bool.{Bool, true, cond, _&&_, _||_, not}
 use mathlib.Core.List.{List, [], _++_, map}
-use Prim.Native.Nat.{ℕ, zero, suc, _+_, _-_, _%_}
-use lib.Dec.{eqb, leb}
+use Prim.Native.Nat.{ℕ, zero, suc, _+_, _-_, _*_, _%_}
+use lib.Dec.{eqb, leb, ltb}
 use lib.ListN.{length}
 use Rattle.memory.specs.Bit.{bit, putBit}
 use Rattle.layout.specs.Space.{Put, tab, changed}
@@ -11,6 +11,7 @@ use Rattle.layout.specs.Step.{andThen}
 use Rattle.layout.specs.Part.{over}
 use Rattle.layout.specs.Sweep.{sweep}
 use Rattle.nodes.specs.declared.node.Node.{Node}
+use Rattle.operations.specs.Entry.{Entries}
 use Rattle.nodes.specs.Name.{server-of, slot-of}
 use Rattle.server.specs.declared.place.Place.{Place}
 use Rattle.server.specs.declared.lock.Use.the-variants.{Fetch}
@@ -20,7 +21,7 @@ use Rattle.server.specs.Check.{can-check, held, checked, finding-number}
 use Rattle.server.specs.Store.{lock-step, unlock-step, metadata-step, flag-step, node-step}
 use Rattle.server.specs.HandOut.{metadata-at, metadata-sound, vector-at}
 use Rattle.client.specs.declared.part.Set.the-variants.{Reads, Writes}
-use Rattle.client.specs.Layout.{ClientWord, client-words, phase, participants, prepared, applied, reads-count, no-transaction, decided-phase}
+use Rattle.client.specs.Layout.{ClientWord, client-words, phase, op-number, op-value, participants, prepared, applied, reads-count, no-transaction, decided-phase}
 use Rattle.nodes.specs.Stored.{node-of}
 use Rattle.client.specs.Record.{by-number, first-slot, node-fits}
 use Rattle.client.specs.Sets.{count, record-at, number-at}
@@ -48,14 +49,15 @@ use Rattle.operations.specs.Object as O
 use Rattle.server.specs.declared.place.Place.the-variants as place
 use Rattle.client.specs.Life as Life
 
--- what comes of a step
+-- what comes of a step: its outcome, what it stores, and the pairs that it writes to the lent output
 pub record Did : Type 0 where
   pub outcome : Outcome
   pub stores : List (Put Address)
+  pub pairs : Entries
 
--- an outcome with its stores
+-- an outcome with its stores, and no pairs
 abbrev pub did : Outcome → List (Put Address) → Did
-did o ps = record { outcome = o; stores = ps }
+did o ps = record { outcome = o; stores = ps; pairs = [] }
 
 -- "A refused step returns the first number that holds and changes no byte"
 abbrev pub refuse : ℕ → Did
@@ -213,7 +215,7 @@ module _ (z : Sizes) (m : Address → ℕ) (c : ℕ) where
   after-walk us refused = refuse 10
   after-walk us (fetches a) = fetch us a
   after-walk us (aborted y) = abort y us
-  after-walk us (answers a w) = did (Answered (a .0) (a .1)) (in-client (answered us w))
+  after-walk us (answers a w) = record { outcome = Answered (a .0) (a .1); stores = in-client (answered us w); pairs = a .2 }
 
   -- "otherwise it answers the operation": the waiting operation is walked over what the client has
   unfoldable pub work : Did
@@ -323,6 +325,18 @@ module _ (z : Sizes) (m : Address → ℕ) (c : ℕ) where
   by-kind k Lost = lose
   by-kind k Unknown = refuse 4
 
--- THE STEP: refusals 4 to 9, then the rule of its kind, with refusal 10 where it reads
-unfoldable pub step : Sizes → Step → (Address → ℕ) → Did
-step z k m = cond (eqb (refusal z k m) 0) (by-kind z m (k .client) k (kind-of (k .kind))) (refuse (refusal z k m))
+-- refusals 4 to 9 and 11, then the rule of its kind, with refusal 10 where it reads
+unfoldable pub by-rule : Sizes → Step → (Address → ℕ) → Did
+by-rule z k m = cond (eqb (refusal z k m) 0) (by-kind z m (k .client) k (kind-of (k .kind))) (refuse (refusal z k m))
+
+-- "12: at work, output shorter than 16 times the count": of a step of that kind, lent an output of so many bytes, where m is the client's part
+abbrev pub short-output : ℕ → ℕ → (ClientWord → ℕ) → Bool
+short-output kind room m = eqb kind 2 && (eqb (m op-number) 7 && ltb room (16 * m op-value))
+
+-- ".. after 9": at every work step of a list
+unfoldable pub lacks-room : Sizes → Step → ℕ → (Address → ℕ) → Bool
+lacks-room z k room m = eqb (refusal z k m) 0 && short-output (k .kind) room (λ a. m (client (k .client) a))
+
+-- THE STEP, to which an output of that many bytes is lent
+unfoldable pub step : Sizes → Step → ℕ → (Address → ℕ) → Did
+step z k room m = cond (lacks-room z k room m) (refuse 12) (by-rule z k m)

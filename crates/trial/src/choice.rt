@@ -58,7 +58,8 @@ fn drawn_op(mix: Mix, rng: &mut u64) -> u64 {
     let upto3 = upto2 + mix.delete % 100;
     let upto4 = upto3 + mix.next % 100;
     let upto5 = upto4 + mix.previous % 100;
-    let n = rng::draw_any(rng, upto5 + mix.migrate % 100);
+    let upto6 = upto5 + mix.migrate % 100;
+    let n = rng::draw_any(rng, upto6 + mix.list % 100);
     if n < upto1 {
         return 1;
     }
@@ -71,7 +72,10 @@ fn drawn_op(mix: Mix, rng: &mut u64) -> u64 {
     if n < upto4 {
         return 4;
     }
-    if n < upto5 { 5 } else { 6 }
+    if n < upto5 {
+        return 5;
+    }
+    if n < upto6 { 6 } else { 7 }
 }
 
 // A key: of the map, of a narrow range that wanders, now and then the least or the largest, else any.
@@ -119,9 +123,21 @@ fn drawn(p: Profile, world: World, keys: &[u64; 4096], c: usize, rng: &mut u64) 
         client: c as u64,
         op,
         key: drawn_key(p, world, keys, op, rng),
-        value: rng::draw(rng, 1000),
+        value: drawn_value(op, rng),
         server: 0,
     }
+}
+
+// A value; of a list a count, now and then one that is refused.
+fn drawn_value(op: u64, rng: &mut u64) -> u64 {
+    if op == 7 {
+        return if rng::happens(rng, 100) {
+            rng::draw(rng, 40)
+        } else {
+            rng::draw(rng, 32) + 1
+        };
+    }
+    rng::draw(rng, 1000)
 }
 
 // A server at which the client has not yet tried its prepare, or its apply.

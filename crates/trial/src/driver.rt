@@ -19,13 +19,13 @@ use steps::step::Step;
 ghost use Prim.Native.Nat.{_<_};
 
 // A client's log has the operation given, or its answer.
-fn noted(log: &mut [u64; 10240], c: usize, client: Client, step: Step, line: Line)
+fn noted(log: &mut [u64; 10240], c: usize, client: Client, step: Step, line: Line, out: &[u8; 512])
     requires { ⌜ c < 16 ⌝ }
 {
     let count = least(client.count, 128);
     if line.outcome == 3 {
         if 0 < count {
-            replay::note_answer(log, c, count - 1, line.a, line.b);
+            replay::note_answer(log, c, count - 1, line.a, line.b, out);
         }
         return;
     }
@@ -100,6 +100,7 @@ fn written(
     before: World,
     step: Step,
     line: Line,
+    out: &[u8; 512],
     left: u64,
 ) -> World {
     let mut world = before;
@@ -111,7 +112,7 @@ fn written(
     }
     let c = step.client as usize;
     let client = world.client(c);
-    noted(log, c, client, step, line);
+    noted(log, c, client, step, line, out);
     let moved = world.with_client(c, client_after(client, step, line, left));
     let mut after = learned(moved, step, line);
     after.current = c;
@@ -127,6 +128,15 @@ fn written(
     after
 }
 
+// A step, lent the output, or one that no list fits in.
+fn lent(memory: &mut [u8], out: &mut [u8; 512], is_short: bool, step: Step) -> Line {
+    if is_short {
+        let mut short = [0u8; 15];
+        return Line::of(engine::step::step(memory, &mut short, step));
+    }
+    Line::of(engine::step::step(memory, out, step))
+}
+
 // A step, run and written down.
 fn stepped(
     memory: &mut [u8],
@@ -135,10 +145,12 @@ fn stepped(
     values: &mut [u64; 4096],
     world: World,
     step: Step,
+    is_short: bool,
     left: u64,
 ) -> World {
-    let line = Line::of(engine::step::step(memory, step));
-    written(log, keys, values, world, step, line, left)
+    let mut out = [0u8; 512];
+    let line = lent(memory, &mut out, is_short, step);
+    written(log, keys, values, world, step, line, &out, left)
 }
 
 // All keys are filled in, or all are read.
@@ -158,7 +170,8 @@ fn went_one(
 ) -> World {
     let left = std::num::wrapping_add_u64(rng::draw_any(rng, p.ops), 1);
     let step = choice::chosen(p, world, keys, rng);
-    stepped(memory, log, keys, values, world, step, left)
+    let is_short = rng::happens(rng, p.noise);
+    stepped(memory, log, keys, values, world, step, is_short, left)
 }
 
 // Steps of a profile, at most this many.
@@ -201,7 +214,7 @@ fn settled(
         } else {
             step.server = (i % 9 - 1) as u64;
         }
-        world = stepped(memory, log, keys, values, world, step, 0);
+        world = stepped(memory, log, keys, values, world, step, false, 0);
         i += 1;
     }
     world

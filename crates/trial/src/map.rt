@@ -1,7 +1,8 @@
 // "The map is pairs by rising key": a count, and arrays of which that many are used.
+use crate::rng::shuffled;
 ghost use Prim.Native.Nat.{_≤_, _<_};
 
-// What an operation answers, and how many pairs there are then. Migrate's answer isn't compared.
+// What an operation answers, and how many pairs there are then. Migrate's answer isn't compared. Of a list b stands for its pairs.
 pub struct Answer {
     pub a: u64,
     pub b: u64,
@@ -144,6 +145,31 @@ fn previous(keys: &[u64; 4096], count: usize, key: u64) -> Answer
     Answer::of(1, keys[at - 1], count)
 }
 
+// A number that stands for some pairs, with one more: two lists hardly share it.
+pub fn with_pair(sum: u64, key: u64, value: u64) -> u64 {
+    let keyed = shuffled(std::num::wrapping_add_u64(sum, key));
+    shuffled(std::num::wrapping_add_u64(keyed, value))
+}
+
+// "up to a given count of pairs .., from the given key upward": a is their number.
+fn list(keys: &[u64; 4096], values: &[u64; 4096], count: usize, key: u64, wanted: u64) -> Answer
+    requires { ⌜ count ≤ 4096 ⌝ }
+    ensures { λ r. ⌜ r .count ≤ 4096 ⌝ }
+{
+    let mut i = place(keys, count, key);
+    let mut n: u64 = 0;
+    let mut sum: u64 = 0;
+    while i < count {
+        if n == wanted {
+            return Answer::of(n, sum, count);
+        }
+        sum = with_pair(sum, keys[i], values[i]);
+        n = std::num::wrapping_add_u64(n, 1);
+        i += 1;
+    }
+    Answer::of(n, sum, count)
+}
+
 // An operation by its number.
 pub fn operate(
     keys: &mut [u64; 4096],
@@ -162,6 +188,7 @@ pub fn operate(
         3 => delete(keys, values, count, key),
         4 => next(keys, count, key),
         5 => previous(keys, count, key),
+        7 => list(keys, values, count, key, value),
         _ => Answer {
             a: 0,
             b: 0,

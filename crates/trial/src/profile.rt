@@ -8,6 +8,7 @@ pub struct Mix {
     pub next: u64,
     pub previous: u64,
     pub migrate: u64,
+    pub list: u64,
 }
 
 pub struct Profile {
@@ -27,7 +28,7 @@ pub struct Profile {
     pub shrink: Mix,
     pub period: u64,
     // times in ten thousand: the same client goes on, also one with a prepare or an apply due; keys of a narrow range are drawn; a
-    // due prepare or apply is left for later; a transaction is given up; a client is lost; a step is arbitrary
+    // due prepare or apply is left for later; a transaction is given up; a client is lost; a step is arbitrary, or is lent an output that no list fits in
     pub sticks: u64,
     pub finishes: u64,
     pub narrow: u64,
@@ -48,6 +49,7 @@ impl Mix {
             next: others,
             previous: others,
             migrate,
+            list: others,
         }
     }
 }

@@ -1,5 +1,7 @@
 // The operations of each client's transaction, as they were given and answered, and their replay on the map.
 use crate::map::operate;
+use crate::map::with_pair;
+use memory::read_word;
 ghost use Prim.Native.Nat.{_+_, _*_, _≤_, _<_};
 
 // Where an operation's five numbers begin: op, key, value, a, b.
@@ -26,12 +28,35 @@ pub fn note_given(
     log[at + 2] = value;
 }
 
-pub fn note_answer(log: &mut [u64; 10240], client: usize, number: usize, a: u64, b: u64)
+// A number that stands for the first pairs of an output, where b is 0.
+fn pairs_of(out: &[u8; 512], count: u64, b: u64) -> u64 {
+    let mut sum = b;
+    let mut i: usize = 0;
+    while i < 32 {
+        if i as u64 == count {
+            return sum;
+        }
+        sum = with_pair(sum, read_word(out, 2 * i), read_word(out, 2 * i + 1));
+        i += 1;
+    }
+    sum
+}
+
+// Of a list, what stands for the pairs that it wrote is noted as b.
+pub fn note_answer(
+    log: &mut [u64; 10240],
+    client: usize,
+    number: usize,
+    a: u64,
+    b: u64,
+    out: &[u8; 512],
+)
     requires { ⌜ (client < 16) × (number < 128) ⌝ }
 {
     let at = entry(client, number);
+    let is_list = log[at] == 7;
     log[at + 3] = a;
-    log[at + 4] = b;
+    log[at + 4] = if is_list { pairs_of(out, a, b) } else { b };
 }
 
 // What a replay came to: the pairs in the map, the answers compared, and those that were wrong.

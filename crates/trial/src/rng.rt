@@ -2,7 +2,7 @@
 ghost use Prim.Native.Nat.{_<_};
 
 // The next state (Marsaglia's xorshift).
-fn shuffled(state: u64) -> u64 {
+pub fn shuffled(state: u64) -> u64 {
     let a = state ^ (state << 13);
     let b = a ^ (a >> 7);
     b ^ (b << 17)

@@ -2,26 +2,24 @@
 use mathlib.Core.Path.{_≡_}
 use mathlib.Core.Bool.{Bool, true, false}
 use mathlib.Core.List.{List, [], _∷_, _++_}
-use Prim.Native.Nat.{ℕ, zero, suc, _+_, _-_, _*_, _≤_}
+use Prim.Native.Nat.{ℕ, zero, suc, _+_, _-_, _*_, _≤_, _<_}
 use lib.ListN.{length, getD, set}
 use Rattle.nodes.specs.declared.node.Node.{Node}
 use Rattle.nodes.specs.Place.{place}
 use Rattle.nodes.specs.Kept.{Whole}
 use Rattle.operations.specs.Object.{Ans}
-use Rattle.operations.specs.Entry.{Entries, under, above-in, below-in}
+use Rattle.operations.specs.Map.{listed}
+use Rattle.operations.specs.Entry.{Entries, under, above-in, below-in, from-in}
 use Rattle.operations.specs.Path.{TreePlan, Branch}
 use Rattle.operations.specs.Look.{Search, nearest, Visit, rightward, leftward, from-leaf}
 use Rattle.walk.specs.declared.found.Sought.{Sought}
-use Rattle.walk.specs.declared.found.Sought.the-variants.{Higher, Lower}
+use Rattle.walk.specs.declared.found.Sought.the-variants.{Higher, Lower, AtLeast}
 use Rattle.walk.specs.declared.found.Wish.{Wish}
 use Rattle.walk.specs.Entries.{opens}
 use Rattle.walk.specs.Ask.{SmallNode}
+use Rattle.client.specs.Bounds.{most-listed}
 
 -- ---- the pairs found, in a lent list: their number, then the key and the value of each
--- no search wants more
-abbrev pub most-found : ℕ
-most-found = 32
-
 unfoldable pub pair-in : List ℕ → ℕ → ℕ × ℕ
 pair-in f i = (getD f (2 * i + 1) 0, getD f (2 * i + 2) 0)
 
@@ -34,7 +32,8 @@ pairs-in f = first-pairs f (getD f 0 0)
 
 -- it has room for as many as are wanted, and no more are in it
 pub record Roomy (wanted : ℕ) (f : List ℕ) : Type 0 where
-  pub few : wanted ≤ most-found
+  pub some : 0 < wanted
+  pub few : wanted ≤ most-listed
   pub long : 2 * wanted + 1 ≤ length f
   pub within : getD f 0 0 ≤ wanted
 
@@ -47,26 +46,31 @@ pushed-pair f k v = let n = getD f 0 0 in set (set (set f (2 * n + 1) k) (2 * n 
 abbrev pub to-right : Sought → Bool
 to-right Higher = true
 to-right Lower = false
+to-right AtLeast = true
 
 -- the pairs of a leaf that are sought from a key on, the nearest first
 abbrev pub sought-in : Sought → ℕ → Entries → Entries
 sought-in Higher key = above-in key
 sought-in Lower key = below-in key
+sought-in AtLeast key = from-in key
 
 -- by their indices: how many keys come before those on the right
 abbrev pub start-in : Sought → List ℕ → ℕ → ℕ
 start-in Higher ks key = place ks key
 start-in Lower ks key = under ks key
+start-in AtLeast ks key = under ks key
 
 -- how many are sought, of a leaf with that many keys
 abbrev pub many-from : Sought → ℕ → ℕ → ℕ
 many-from Higher start count = count - start
 many-from Lower start count = start
+many-from AtLeast start count = count - start
 
 -- the index of the one after j others
 abbrev pub index-from : Sought → ℕ → ℕ → ℕ
 index-from Higher start j = start + j
 index-from Lower start j = start - 1 - j
+index-from AtLeast start j = start + j
 
 -- that pair of a leaf is found too
 unfoldable pub with-one : Node → Sought → ℕ → ℕ → List ℕ → List ℕ
@@ -76,10 +80,15 @@ with-one n s start j f = pushed-pair f (getD (n .keys) (index-from s start j) 0)
 abbrev pub answer-by : Sought → Entries → Ans
 answer-by Higher = nearest
 answer-by Lower = nearest
+answer-by AtLeast = listed
 
 -- the wish as the plans have it
 abbrev pub search-of : Wish → Search
 search-of w = record { wanted = w .wanted; in-leaf = sought-in (w .sought) (w .key); answer = answer-by (w .sought) }
+
+-- the pairs of the answer by those found
+abbrev pub pairs-told : Wish → Entries → Entries
+pairs-told w got = answer-by (w .sought) got .2
 
 -- one side of a path
 abbrev pub visit : Bool → Visit

@@ -8,6 +8,8 @@ pub mod Met
 pub mod Ask
 -- the way down from the root
 pub mod Down
+-- what stops a walk is no answer
+pub mod Mute
 -- where a walk begins; lookup; pairs found in leaves; leaves in a row
 pub mod Begin
 pub mod Lookup

@@ -9,6 +9,7 @@ use Rattle.nodes.specs.Find.{key-index}
 use Rattle.nodes.specs.Node.{keysOf}
 use Rattle.operations.specs.Object.{Writes}
 use Rattle.operations.specs.Slot.{TreeSizes}
+use Rattle.operations.specs.Entry.{Entries}
 use Rattle.operations.specs.Path.{TreePlan}
 use Rattle.walk.specs.declared.lookup.Pair.{Pair}
 use Rattle.walk.specs.declared.walk.Stop.{Stop}
@@ -19,27 +20,28 @@ use Rattle.walk.specs.Walk.{Told, told, walked}
 use Rattle.walk.specs.Ask.{Noted}
 use Rattle.plans.specs.Plan as P
 
--- an answer with writes: of an abort none are kept
-abbrev pub kept : Stop → Writes → Writes
-kept Going w = []
-kept LacksMeta w = []
-kept (LacksNode n) w = []
-kept (LacksVector s) w = []
-kept Refused w = []
-kept (Aborts r) w = []
-kept (Answers a b) w = w
+-- what comes with an answer only
+abbrev pub kept : {A : Type 0} → Stop → List A → List A
+kept Going l = []
+kept LacksMeta l = []
+kept (LacksNode n) l = []
+kept (LacksVector s) l = []
+kept Refused l = []
+kept (Aborts r) l = []
+kept (Answers a b) l = l
 
-abbrev pub ended : Stop → List ℕ → Writes → Told
-ended s us w = record { stop = s; used = us; writes = kept s w }
+-- with the writes w and the pairs ps
+abbrev pub ended : Stop → List ℕ → Writes → Entries → Told
+ended s us w ps = record { stop = s; used = us; writes = kept s w; pairs = kept s ps }
 
 -- the plan that ends here with an answer
 pub record Ends (m : ClientWord → ℕ) (u : List ℕ) (a b : ℕ) (s : Stop) (u′ : List ℕ) : Type 0 where
-  pub same : (z : TreeSizes) (w : Writes) → walked z m (P.done ((a, b), w)) (used-in u) ≡ ended s (used-in u′) w
+  pub same : (z : TreeSizes) (w : Writes) (ps : Entries) → walked z m (P.done ((a, b, ps), w)) (used-in u) ≡ ended s (used-in u′) w ps
   pub noted : Noted m u′
 
--- a plan that writes nothing, walked to its end
-pub record Walks (z : TreeSizes) (m : ClientWord → ℕ) (u : List ℕ) (p : TreePlan) (s : Stop) (u′ : List ℕ) : Type 0 where
-  pub same : walked z m p (used-in u) ≡ told s (used-in u′)
+-- a plan that writes nothing, walked to its end, with the pairs ps
+pub record Walks (z : TreeSizes) (m : ClientWord → ℕ) (u : List ℕ) (p : TreePlan) (s : Stop) (u′ : List ℕ) (ps : Entries) : Type 0 where
+  pub same : walked z m p (used-in u) ≡ ended s (used-in u′) [] ps
   pub noted : Noted m u′
 
 -- ---- a key looked up in a leaf

@@ -21,11 +21,11 @@ use Rattle.walk.specs.declared.seek.Where.the-variants.{Finished, Next}
 use Rattle.walk.specs.Entries.{opens}
 use Rattle.client.specs.Layout.{ClientWord}
 use Rattle.client.specs.Lent.{used-in}
-use Rattle.walk.specs.Walk.{goes, walked, carry}
+use Rattle.walk.specs.Walk.{goes, stands, walked, carry}
 use Rattle.walk.specs.Ask.{SmallNode, Noted}
+use Rattle.walk.specs.Lookup.{ended}
 use Rattle.walk.specs.Down.{turns-in, trail, All}
-use Rattle.walk.specs.Found.{to-right, search-of, visit}
-use Rattle.walk.specs.Walk as W
+use Rattle.walk.specs.Found.{to-right, search-of, pairs-told, visit}
 use Rattle.client.specs.Bounds.{highest-level, level-count}
 
 -- is there a child left on that side of child number i, of a node with that many keys
@@ -169,24 +169,25 @@ pub record ReadOn (z : TreeSizes) (m : ClientWord → ℕ) (u : List ℕ) (w : W
   pub noted : Noted m u′
   pub long : length u′ ≡ length u
   pub leads : goes s ≡ true → Advanced w top path level node got a got′
+  pub silent : goes s ≡ false → stands s ≡ false
 
 -- ---- the answer by the pairs got
 pub record Tells (m : ClientWord → ℕ) (u : List ℕ) (w : Wish) (got : Entries) (s : Stop) (u′ : List ℕ) : Type 0 where
-  pub same : (z : TreeSizes) → walked z m (told (search-of w) got) (used-in u) ≡ W.told s (used-in u′)
+  pub same : (z : TreeSizes) → walked z m (told (search-of w) got) (used-in u) ≡ ended s (used-in u′) [] (pairs-told w got)
   pub noted : Noted m u′
 
--- ---- the leaves on that side, from a child on
-pub record Seeks (z : TreeSizes) (m : ClientWord → ℕ) (u : List ℕ) (w : Wish) (top : ℕ) (path : List Turn) (level name : ℕ) (got : Entries) (s : Stop) (u′ : List ℕ) : Type 0 where
-  pub same : (j : ℕ) (f : ℕ → ℕ) → walked z m (onto (search-of w) (to-right (w .sought)) top path level name j f got) (used-in u) ≡ W.told s (used-in u′)
+-- ---- the leaves on that side, from a child on, with the pairs ps of the answer
+pub record Seeks (z : TreeSizes) (m : ClientWord → ℕ) (u : List ℕ) (w : Wish) (top : ℕ) (path : List Turn) (level name : ℕ) (got : Entries) (s : Stop) (u′ : List ℕ) (ps : Entries) : Type 0 where
+  pub same : (j : ℕ) (f : ℕ → ℕ) → walked z m (onto (search-of w) (to-right (w .sought)) top path level name j f got) (used-in u) ≡ ended s (used-in u′) [] ps
   pub noted : Noted m u′
 
 -- ---- the leaves on that side, from one with the path to it on
-pub record FromLeaf (z : TreeSizes) (m : ClientWord → ℕ) (u : List ℕ) (w : Wish) (top : ℕ) (path : List Turn) (n : Node) (got : Entries) (s : Stop) (u′ : List ℕ) : Type 0 where
+pub record FromLeaf (z : TreeSizes) (m : ClientWord → ℕ) (u : List ℕ) (w : Wish) (top : ℕ) (path : List Turn) (n : Node) (got : Entries) (s : Stop) (u′ : List ℕ) (ps : Entries) : Type 0 where
   pub same : (j : ℕ) (f : ℕ → ℕ) → let q = search-of w in
-      walked z m (enough q (above q (to-right (w .sought)) top path 0 f) (got ++ q .in-leaf (entriesOf n j))) (used-in u) ≡ W.told s (used-in u′)
+      walked z m (enough q (above q (to-right (w .sought)) top path 0 f) (got ++ q .in-leaf (entriesOf n j))) (used-in u) ≡ ended s (used-in u′) [] ps
   pub noted : Noted m u′
 
 -- ---- a plan that writes nothing, walked from the start, with no copy in use
-pub record Afresh (z : TreeSizes) (m : ClientWord → ℕ) (p : TreePlan) (s : Stop) (u′ : List ℕ) : Type 0 where
-  pub same : walked z m p [] ≡ W.told s (used-in u′)
+pub record Afresh (z : TreeSizes) (m : ClientWord → ℕ) (p : TreePlan) (s : Stop) (u′ : List ℕ) (ps : Entries) : Type 0 where
+  pub same : walked z m p [] ≡ ended s (used-in u′) [] ps
   pub noted : Noted m u′

@@ -7,6 +7,7 @@ use lib.ListN.{length, take}
 use Rattle.nodes.specs.Name.{server-of}
 use Rattle.operations.specs.Object.{meta, node, flag, Ask, object, vector, fetched, reason, Writes}
 use Rattle.operations.specs.Slot.{TreeSizes}
+use Rattle.operations.specs.Entry.{Entries}
 use Rattle.operations.specs.Path.{TreePlan}
 use Rattle.walk.specs.declared.walk.Stop.{Stop}
 use Rattle.walk.specs.declared.walk.Stop.the-variants.{Going, LacksMeta, LacksNode, LacksVector, Refused, Aborts, Answers}
@@ -19,14 +20,15 @@ use Rattle.client.specs.Run.{End, lacks, aborts, gives, Ran, ran, run}
 use Rattle.plans.specs.Plan as P
 use Rattle.client.specs.declared.part.Set.the-variants as set
 
--- how a walk ends, the copies that it used, and what it would write
+-- how a walk ends, the copies that it used, what it would write, and the pairs of its answer
 pub record Told : Type 0 where
   pub stop : Stop
   pub used : List ℕ
   pub writes : Writes
+  pub pairs : Entries
 
 abbrev pub told : Stop → List ℕ → Told
-told s us = record { stop = s; used = us; writes = [] }
+told s us = record { stop = s; used = us; writes = []; pairs = [] }
 
 abbrev pub goes : Stop → Bool
 goes Going = true
@@ -45,6 +47,16 @@ is-answer (LacksVector s) = false
 is-answer Refused = false
 is-answer (Aborts r) = false
 is-answer (Answers a b) = true
+
+-- the walk goes on, or has come to the answer
+abbrev pub stands : Stop → Bool
+stands Going = true
+stands LacksMeta = false
+stands (LacksNode n) = false
+stands (LacksVector s) = false
+stands Refused = false
+stands (Aborts r) = false
+stands (Answers a b) = true
 
 -- "Metadata comes from server (client modulo servers), a node from its home, a vector from its server": a flag is in its vector
 abbrev pub lack : Ask → Stop
@@ -79,7 +91,7 @@ module _ (z : TreeSizes) (m : ClientWord → ℕ) where
   abbrev pub tell : End → List ℕ → Told
   tell (lacks a) us = told (cond (broken z m a) Refused (lack a)) us
   tell (aborts r) us = told (Aborts r) us
-  tell (gives a w) us = record { stop = Answers (a .0) (a .1); used = us; writes = w }
+  tell (gives a w) us = record { stop = Answers (a .0) (a .1); used = us; writes = w; pairs = a .2 }
 
   unfoldable pub walked : TreePlan → List ℕ → Told
   walked p us = tell (worked p us .how) (worked p us .used)

@@ -13,14 +13,15 @@ ghost use Rattle.nodes.specs.Stored.{node-at};
 ghost use Rattle.nodes.specs.Entries.{entriesOf};
 ghost use Rattle.operations.specs.Entry.{under};
 ghost use Rattle.client.specs.Layout.{ClientPart};
-ghost use Rattle.client.specs.Bounds.{most-keys};
+ghost use Rattle.client.specs.Bounds.{most-keys, most-listed};
 ghost use Rattle.walk.specs.Ask.{In-part};
-ghost use Rattle.walk.specs.Found.{most-found, pairs-in, pushed-pair, Roomy, to-right, sought-in, start-in, many-from, index-from, with-one, LeafAt};
+ghost use Rattle.walk.specs.Found.{pairs-in, pushed-pair, Roomy, to-right, sought-in, start-in, many-from, index-from, with-one, LeafAt};
 
-// The pairs that are sought: those strictly above a key, or strictly below it.
+// The pairs that are sought: those strictly above a key, strictly below it, or not below it.
 pub enum Sought {
     Higher,
     Lower,
+    AtLeast,
 }
 
 // Which pairs are sought from which key on, and how many.
@@ -37,6 +38,7 @@ pub fn to_right(sought: Sought) -> bool
     match sought {
         Sought::Higher => true,
         Sought::Lower => false,
+        Sought::AtLeast => true,
     }
 }
 
@@ -61,6 +63,7 @@ fn start_at(part: &[u8], leaf: usize, sought: Sought, key: u64) -> usize
     match sought {
         Sought::Higher => place_at(part, leaf, key),
         Sought::Lower => under_at(part, leaf, key),
+        Sought::AtLeast => under_at(part, leaf, key),
     }
 }
 
@@ -72,6 +75,7 @@ fn many_from(sought: Sought, start: usize, count: usize) -> usize
     match sought {
         Sought::Higher => count - start,
         Sought::Lower => start,
+        Sought::AtLeast => count - start,
     }
 }
 
@@ -84,12 +88,13 @@ fn index_from(sought: Sought, start: usize, count: usize, j: usize) -> usize
     match sought {
         Sought::Higher => start + j,
         Sought::Lower => start - 1 - j,
+        Sought::AtLeast => start + j,
     }
 }
 
 // One pair more.
 fn push(found: &mut [u64], key: u64, value: u64)
-    requires { ⌜ (getD (now found) 0 0 < most-found) × (2 * getD (now found) 0 0 + 2 < length (now found)) ⌝ }
+    requires { ⌜ (getD (now found) 0 0 < most-listed) × (2 * getD (now found) 0 0 + 2 < length (now found)) ⌝ }
     ensures { λ _. ⌜ now (found .exit) ≡ pushed-pair (now (found .entry)) key value ⌝ }
 {
     let n = found[0] as usize;
@@ -109,7 +114,7 @@ fn take_one(
     found: &mut [u64],
 )
     requires { ⌜ (start ≤ count) × (count ≤ most-keys) × (j < many-from sought start count) × In-part leaf × ClientPart (now part) ⌝ }
-    requires room { ⌜ (getD (now found) 0 0 < most-found) × (2 * getD (now found) 0 0 + 2 < length (now found)) ⌝ }
+    requires room { ⌜ (getD (now found) 0 0 < most-listed) × (2 * getD (now found) 0 0 + 2 < length (now found)) ⌝ }
     ensures { λ _. ⌜ now (found .exit) ≡ with-one (node-at (view (now (part .entry))) leaf) sought start j (now (found .entry)) ⌝ }
 {
     let i = index_from(sought, start, count, j);

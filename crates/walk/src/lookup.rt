@@ -8,6 +8,7 @@ use nodes::found::Found;
 use nodes::standing::find_at;
 use nodes::standing::slot_at;
 ghost use mathlib.Core.Path.{_≡_};
+ghost use mathlib.Core.List.{[]};
 ghost use Prim.Native.Nat.{_≤_};
 ghost use Rattle.operations.specs.Look.{lookup-plan};
 ghost use Rattle.client.specs.Record.{sizes};
@@ -54,7 +55,7 @@ fn look_in(part: &[u8], leaf: usize, key: u64) -> Pair
 
 pub fn lookup(part: &[u8], servers: usize, slots: usize, used: &mut [u64], key: u64) -> Stop
     requires { ⌜ Walking servers (now part) (now used) ⌝ }
-    ensures { λ r. ⌜ Walks (sizes servers slots) (held (now (part .entry))) (now (used .entry)) (lookup-plan key) r (now (used .exit)) ⌝ }
+    ensures { λ r. ⌜ Walks (sizes servers slots) (held (now (part .entry))) (now (used .entry)) (lookup-plan key) r (now (used .exit)) [] ⌝ }
 {
     let d = to_leaf(part, servers, slots, used, key);
     let stop = d.stop;

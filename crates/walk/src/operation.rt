@@ -6,7 +6,7 @@ ghost use Rattle.client.specs.Layout.{op-number, ClientPart};
 ghost use Rattle.client.specs.Sets.{held};
 ghost use Rattle.walk.specs.Operation.{operation-of};
 
-// Operations that only read.
+// Operations that only read, and answer with a and b.
 pub enum Query {
     Lookup,
     Next,
@@ -22,11 +22,12 @@ pub enum Update {
 
 pub enum Operation {
     Read(Query),
+    Listing,
     Write(Update),
     Unknown,
 }
 
-// "op 1 insert, 2 lookup, 3 delete, 4 next key above, 5 previous key below, 6 migrate"
+// "op 1 insert, 2 lookup, 3 delete, 4 next key above, 5 previous key below, 6 migrate", and 7 list
 fn operation_of(number: u64) -> Operation
     ensures { λ r. ⌜ r ≡ operation-of number ⌝ }
 {
@@ -38,7 +39,8 @@ fn operation_of(number: u64) -> Operation
         4 => Operation::Read(Query::Next),
         5 => Operation::Read(Query::Previous),
         6 => Operation::Write(Update::Migrate),
-        7..=u64::MAX => Operation::Unknown,
+        7 => Operation::Listing,
+        8..=u64::MAX => Operation::Unknown,
     }
 }
 

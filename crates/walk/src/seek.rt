@@ -3,6 +3,7 @@ use crate::down::Pass;
 use crate::down::child;
 use crate::down::descend;
 use crate::down::to_leaf;
+use crate::found::Sought;
 use crate::found::Wish;
 use crate::found::gather;
 use crate::found::to_right;
@@ -18,10 +19,11 @@ ghost use Rattle.client.specs.Record.{sizes};
 ghost use Rattle.client.specs.Sets.{held};
 ghost use Rattle.memory.specs.Word.{view};
 ghost use Rattle.nodes.specs.Stored.{node-at};
+ghost use Rattle.operations.specs.Look.{nearest};
 ghost use Rattle.client.specs.Layout.{ClientPart};
 ghost use Rattle.walk.specs.Ask.{In-part, Noted, Walking};
-ghost use Rattle.walk.specs.Found.{pairs-in, Roomy, search-plan, LeafAt};
-ghost use Rattle.walk.specs.Lookup.{Walks};
+ghost use Rattle.walk.specs.Found.{pairs-in, Roomy, pairs-told, search-plan, LeafAt};
+ghost use Rattle.walk.specs.Lookup.{Ends, Walks};
 ghost use Rattle.walk.specs.Down.{turns-in, Path-in-part};
 ghost use Rattle.walk.specs.Seek.{more-with, onward, first-at, Stacked, heading, Climbed, Past, first-child, Standing, Advanced, ReadOn, Tells, Seeks, FromLeaf, Afresh};
 ghost use Rattle.client.specs.Bounds.{most-keys, highest-level};
@@ -235,14 +237,31 @@ fn read_on(
 }
 
 // "Next and previous: a 1, b the nearest key strictly above or below, if any."
-fn tell(part: &[u8], used: &mut [u64], w: Wish, found: &[u64]) -> Stop
-    requires { ⌜ Noted (held (now part)) (now used) × ClientPart (now part) × Roomy (w .wanted) (now found) ⌝ }
-    ensures { λ r. ⌜ Tells (held (now (part .entry))) (now (used .entry)) w (pairs-in (now (found .entry))) r (now (used .exit)) ⌝ }
+fn tell_nearest(part: &[u8], used: &mut [u64], found: &[u64]) -> Stop
+    requires { ⌜ Noted (held (now part)) (now used) × ClientPart (now part) × (1 < length (now found)) ⌝ }
+    ensures { λ r. ⌜ Ends (held (now (part .entry))) (now (used .entry)) (nearest (pairs-in (now (found .entry))) .0)
+        (nearest (pairs-in (now (found .entry))) .1) r (now (used .exit)) ⌝ }
 {
     if found[0] == 0 {
         return answers(part, used, 0, 0);
     }
     answers(part, used, 1, found[1])
+}
+
+// The answer by the pairs found; of a list "a is the number of pairs".
+fn tell(part: &[u8], used: &mut [u64], w: Wish, found: &[u64]) -> Stop
+    requires { ⌜ Noted (held (now part)) (now used) × ClientPart (now part) × Roomy (w .wanted) (now found) ⌝ }
+    ensures { λ r. ⌜ Tells (held (now (part .entry))) (now (used .entry)) w (pairs-in (now (found .entry))) r (now (used .exit)) ⌝ }
+{
+    let sought = w.sought;
+    match sought {
+        Sought::Higher => tell_nearest(part, used, found),
+        Sought::Lower => tell_nearest(part, used, found),
+        Sought::AtLeast => {
+            let n = found[0];
+            answers(part, used, n, 0)
+        }
+    }
 }
 
 // The leaves on that side of the path, from a child on, until the pairs wanted are found.
@@ -261,7 +280,8 @@ fn seek(
     requires { ⌜ Walking servers (now part) (now used) × Roomy (w .wanted) (now found) ⌝ }
     requires at { ⌜ Stacked top (turns-in (now part) first) from × (from < top) × Path-in-part first ⌝ }
     ensures { λ r. ⌜ Seeks (sizes servers slots) (held (now (part .entry))) (now (used .entry)) w top (turns-in (now (part .entry)) first) from child
-        (pairs-in (now (found .entry))) r (now (used .exit)) ⌝ }
+        (pairs-in (now (found .entry))) r (now (used .exit)) (pairs-told w (pairs-in (now (found .exit)))) ⌝ }
+    ensures within { λ _. ⌜ Roomy (w .wanted) (now (found .exit)) ⌝ }
 {
     let mut path = first;
     let mut level = from;
@@ -302,7 +322,9 @@ fn from_leaf(
     requires { ⌜ Walking servers (now part) (now used) × Roomy (w .wanted) (now found) ⌝ }
     requires at { ⌜ Stacked top (turns-in (now part) path) 0 × Path-in-part path × LeafAt (node-at (view (now part)) leaf) × In-part leaf ⌝ }
     ensures { λ r. ⌜ FromLeaf (sizes servers slots) (held (now (part .entry))) (now (used .entry)) w top (turns-in (now (part .entry)) path)
-        (node-at (view (now (part .entry))) leaf) (pairs-in (now (found .entry))) r (now (used .exit)) ⌝ }
+        (node-at (view (now (part .entry))) leaf) (pairs-in (now (found .entry))) r (now (used .exit))
+        (pairs-told w (pairs-in (now (found .exit)))) ⌝ }
+    ensures within { λ _. ⌜ Roomy (w .wanted) (now (found .exit)) ⌝ }
 {
     let a = past_leaf(part, w, found, top, path, leaf);
     let state = a.state;
@@ -329,7 +351,7 @@ fn from_leaf(
 }
 
 // From the leaf of the key on.
-fn by_path(
+pub fn by_path(
     part: &[u8],
     servers: usize,
     slots: usize,
@@ -338,7 +360,9 @@ fn by_path(
     found: &mut [u64],
 ) -> Stop
     requires { ⌜ Walking servers (now part) (now used) × Roomy (w .wanted) (now found) × (getD (now found) 0 0 ≡ 0) ⌝ }
-    ensures { λ r. ⌜ Walks (sizes servers slots) (held (now (part .entry))) (now (used .entry)) (search-plan w) r (now (used .exit)) ⌝ }
+    ensures { λ r. ⌜ Walks (sizes servers slots) (held (now (part .entry))) (now (used .entry)) (search-plan w) r (now (used .exit))
+        (pairs-told w (pairs-in (now (found .exit)))) ⌝ }
+    ensures within { λ _. ⌜ Roomy (w .wanted) (now (found .exit)) ⌝ }
 {
     let d = descend(part, servers, slots, used, w.key);
     let stop = d.stop;
@@ -354,6 +378,7 @@ fn by_path(
 fn empty(list: &mut [u64])
     requires { ⌜ 0 < length (now list) ⌝ }
     ensures { λ _. ⌜ now (list .exit) ≡ set (now (list .entry)) 0 0 ⌝ }
+    ensures none { λ _. ⌜ getD (now (list .exit)) 0 0 ≡ 0 ⌝ }
 {
     list[0] = 0;
 }
@@ -368,7 +393,8 @@ fn afresh(
     found: &mut [u64],
 ) -> Stop
     requires { ⌜ Walking servers (now part) (now used) × Roomy (w .wanted) (now found) ⌝ }
-    ensures { λ r. ⌜ Afresh (sizes servers slots) (held (now (part .entry))) (search-plan w) r (now (used .exit)) ⌝ }
+    ensures { λ r. ⌜ Afresh (sizes servers slots) (held (now (part .entry))) (search-plan w) r (now (used .exit))
+        (pairs-told w (pairs-in (now (found .exit)))) ⌝ }
 {
     empty(used);
     empty(found);
@@ -385,7 +411,8 @@ pub fn near(
     found: &mut [u64],
 ) -> Stop
     requires { ⌜ Walking servers (now part) (now used) × (getD (now used) 0 0 ≡ 0) × Roomy (w .wanted) (now found) × (getD (now found) 0 0 ≡ 0) ⌝ }
-    ensures { λ r. ⌜ Walks (sizes servers slots) (held (now (part .entry))) (now (used .entry)) (search-plan w) r (now (used .exit)) ⌝ }
+    ensures { λ r. ⌜ Walks (sizes servers slots) (held (now (part .entry))) (now (used .entry)) (search-plan w) r (now (used .exit))
+        (pairs-told w (pairs-in (now (found .exit)))) ⌝ }
 {
     let d = to_leaf(part, servers, slots, used, w.key);
     let stop = d.stop;

@@ -180,14 +180,14 @@ root-value l r c sep d =
 
 module _ (z : TreeSizes) (m : ClientWord → ℕ) (x u : List ℕ) (l r : ℕ) (n : Wide) (a b : ℕ) (t : Two) (x₁ u₁ : List ℕ) (q : HalvesTaken z m x u r t x₁ u₁) (on : Bool) (po : on ≡ goes (t .stop)) where
   abbrev plan : Writes → TreePlan
-  plan = root-split z (a, b) l r (wide-entries n 0)
+  plan = root-split z (a, b, []) l r (wide-entries n 0)
 
   -- the root is its own branch, with nothing round it
   abbrev alone : Branch
   alone = record { nm = r; key = 0; pre = []; post = [] }
 
   abbrev answer : Writes → Entries → TreePlan
-  answer w es = P.done ((a, b), (node r, node-value (suc l) es) ∷ w)
+  answer w es = P.done ((a, b, []), (node r, node-value (suc l) es) ∷ w)
 
   asked-root : (w : Writes) → Holds-writes z x w → walked z m (plan w) (used-in u)
       ≡ carry (t .stop) (used-in u₁) (λ us. walked z m
@@ -230,7 +230,7 @@ module _ (z : TreeSizes) (m : ClientWord → ℕ) (x u : List ℕ) (l r : ℕ) (
             halves-parted l n k answer (two-flags t w) alone (t .left) (t .right) 0,
             root-value l r (t .left) (N.split n 0 .sep) (t .right),
             lv,
-          ) (e .same z _);
+          ) (e .same z _ []);
           holds = λ _ w hold. y .holds z (two-flags t w) eight there (q .left-in on-going) (q .right-in on-going) (q .holds on-going w hold);
           kept = λ _ w hold. y .kept;
           noted = e .noted;

@@ -126,11 +126,11 @@ module _ (n : Node) (f : AtLeaf n) where
           go (some i) e =
               rw (ix, e) (widened-entries 0 (with-slot n i v) (slot-level i v) lo ∙ slot-entries n lo (f .whole) i v ∙ rw (none-more, find-key (keysOf n) key i e))
 
-      pub paired-answer : fresh (value-in key (entriesOf n lo)) ≡ (paired n key v .a, 0)
+      pub paired-answer : fresh (value-in key (entriesOf n lo)) ≡ (paired n key v .a, 0, [])
       unfolding paired
       paired-answer = go (key-index (keysOf n) key) refl
         where
-          go : (o : Option ℕ) → key-index (keysOf n) key ≡ o → fresh (value-in key (entriesOf n lo)) ≡ (paired-at n key v (key-index (keysOf n) key) .a, 0)
+          go : (o : Option ℕ) → key-index (keysOf n) key ≡ o → fresh (value-in key (entriesOf n lo)) ≡ (paired-at n key v (key-index (keysOf n) key) .a, 0, [])
           go none e = rw (leaf-absent n lo key (f .whole) (f .leaf) e, e)
           go (some i) e =
               let h : i < n .count = omega (arith, find-inside (keysOf n) key i e, f .whole .keys) in
@@ -195,17 +195,17 @@ module _ (z : TreeSizes) (b u : List ℕ) (key : ℕ) (p : Descent) (u₁ : List
 
     -- a leaf's new content, where the plan goes up from it
     pub change-on : (k : List Branch → ℕ → Entries → TreePlan) (n : Wide) (a : ℕ) → Path-in-part (p .path) → Content 0 n
-        → k (branches (way d)) (d .name) (entriesOf (d .node) (low (way d))) ≡ rise-plan z (a, 0) (d .top) (d .path) (d .name) n
+        → k (branches (way d)) (d .name) (entriesOf (d .node) (low (way d))) ≡ rise-plan z (a, 0, []) (d .top) (d .path) (d .name) n
         → Changes z b u (from-root key k) (record { stop = p .stop; way = p; content = n; a = a }) u₁
     change-on k n a w c e = record { asks = h .asks k ∙ rw (going, e); ready = λ t. (ended-ready z d change-ended n c, w); noted = h .noted }
 
     -- no leaf changes: the plan answers at once
     pub change-none : (k : List Branch → ℕ → Entries → TreePlan) (i j : ℕ) (s : Stop) (u′ : List ℕ) (c : Changed)
-        → k (branches (way d)) (d .name) (entriesOf (d .node) (low (way d))) ≡ P.done ((i, j), []) → Ends (held b) u₁ i j s u′ → c .stop ≡ s → Changes z b u (from-root key k) c u′
+        → k (branches (way d)) (d .name) (entriesOf (d .node) (low (way d))) ≡ P.done ((i, j, []), []) → Ends (held b) u₁ i j s u′ → c .stop ≡ s → Changes z b u (from-root key k) c u′
     change-none k i j s u′ c e q t =
         let halts : goes s ≡ false = ends-halts z (held b) u₁ i j s u′ q in
         record {
-          asks = h .asks k ∙ rw (going, e, t, halts) (q .same z [] ∙ ended-nothing s (used-in u′));
+          asks = h .asks k ∙ rw (going, e, t, halts) (q .same z [] [] ∙ ended-nothing s (used-in u′));
           ready = λ g. stops-not s halts (rw t at g);
           noted = q .noted;
         }
@@ -218,7 +218,7 @@ module _ (z : TreeSizes) (b u : List ℕ) (key : ℕ) (p : Descent) (u₁ : List
         let pp : q ≡ paired (d .node) key v = rw pn at pq in
         let leaf : AtLeaf (d .node) = ended-leaf z d change-ended in
         let e : wide-entries (q .content) (low (way d)) ≡ with-pair key v (entriesOf (d .node) (low (way d))) = rw pp (paired-entries (d .node) leaf key v (low (way d))) in
-        let a : fresh (value-in key (entriesOf (d .node) (low (way d)))) ≡ (q .a, 0) = rw pp (paired-answer (d .node) leaf key v (low (way d))) in
+        let a : fresh (value-in key (entriesOf (d .node) (low (way d)))) ≡ (q .a, 0, []) = rw pp (paired-answer (d .node) leaf key v (low (way d))) in
         change-on (λ fs n es. up z (fresh (value-in key es)) zero fs [] n (with-pair key v es)) (q .content) (q .a) w (rw pp (paired-content (d .node) leaf key v)) (rw (a, ← e))
 
 pub ruleset insert-exits = (change-stops, change-few, inserted)

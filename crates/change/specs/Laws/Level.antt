@@ -73,7 +73,7 @@ module _ (l : ℕ) (n : Wide) (k : Content l n) (lo : ℕ) where
 
 module _ (n : Wide) (d : Node) (pd : d ≡ narrow n) where
   pub settled : (m : ClientWord → ℕ) (x u : List ℕ) (c a b : ℕ) (s : Stop) (x′ u′ : List ℕ) → NodeWritten x c d x′ → Ends m u a b s u′ → Settled m x u c n a b s x′ u′
-  settled m x u c a b s x′ u′ h e = record { ends = λ z w. e .same z _; written = rw pd at h; noted = e .noted }
+  settled m x u c a b s x′ u′ h e = record { ends = λ z w. e .same z _ []; written = rw pd at h; noted = e .noted }
 
 pub settled-few : (n : Wide) (d : Node) → d .count ≡ n .count → n .count ≤ 14 → d .count ≤ 14
 settled-few n d e h = omega arith
@@ -81,7 +81,7 @@ settled-few n d e h = omega arith
 pub ruleset settle-exits = (settled, settled-few)
 
 -- an answer does not go on
-ended-not : (z : TreeSizes) (m : ClientWord → ℕ) (r : Ans × Writes) (us us′ : List ℕ) (s : Stop) (w : Writes) → walked z m (P.done r) us ≡ ended s us′ w → goes s ≡ false
+ended-not : (z : TreeSizes) (m : ClientWord → ℕ) (r : Ans × Writes) (us us′ : List ℕ) (s : Stop) (w : Writes) → walked z m (P.done r) us ≡ ended s us′ w [] → goes s ≡ false
 unfolding walked worked run
 ended-not z m r us us′ s w e = go (over m us) refl
   where
@@ -124,7 +124,7 @@ raised-as z m x u l root p q r x′ u′ e h = record {
 
 module _ (z : TreeSizes) (m : ClientWord → ℕ) (x u : List ℕ) (l : ℕ) (root : Bool) (t : Turn) (c : ℕ) (n : Wide) (a b : ℕ) (k : Content l n) where
   abbrev whole-plan : ℕ → List Branch → Writes → Go → TreePlan
-  whole-plan = level-plan z (a, b) l t c (wide-entries n)
+  whole-plan = level-plan z (a, b, []) l t c (wide-entries n)
 
   -- which of the three plans it is
   is-split : n .count ≡ 15 → (lo : ℕ) (fs : List Branch) (w : Writes) (go : Go) → whole-plan lo fs w go ≡ split-plan z l t c (wide-entries n) lo fs w go
@@ -135,32 +135,32 @@ module _ (z : TreeSizes) (m : ClientWord → ℕ) (x u : List ℕ) (l : ℕ) (ro
       let q : length (wide-entries n (in-parent t lo .key)) ≤ most-entries l → ⊥ = λ q. omega (arith, most l n k i, entries-many l n k (in-parent t lo .key), q) in
       ifd-yes (decLe (fewest-entries l) (length (wide-entries n (in-parent t lo .key)))) _ _ p ∙ ifd-no (decLe (length (wide-entries n (in-parent t lo .key))) (most-entries l)) _ _ q
 
-  is-neighbour : n .count < 7 → (lo : ℕ) (fs : List Branch) (w : Writes) (go : Go) → whole-plan lo fs w go ≡ neighbour-plan (a, b) l t c (entriesOf (narrow n)) lo fs w go
+  is-neighbour : n .count < 7 → (lo : ℕ) (fs : List Branch) (w : Writes) (go : Go) → whole-plan lo fs w go ≡ neighbour-plan (a, b, []) l t c (entriesOf (narrow n)) lo fs w go
   unfolding level-plan neighbour-plan
   is-neighbour e lo fs w go =
       let i : ℕ = in-parent t lo .key in
       let p : fewest-entries l ≤ length (wide-entries n (in-parent t lo .key)) → ⊥ = λ p. omega (arith, least l n k i, entries-many l n k (in-parent t lo .key), p) in
       rw (narrow-entries n (in-parent t lo .key) (k .whole)) (ifd-no (decLe (fewest-entries l) (length (wide-entries n (in-parent t lo .key)))) _ _ p)
 
-  pub raise-splits : n .count ≡ 15 → (r : Risen) (x′ u′ : List ℕ) → Splits z m x u l t c n r x′ u′ → Raised z m x u l root (level-plan z (a, b) l t c (wide-entries n)) r x′ u′
+  pub raise-splits : n .count ≡ 15 → (r : Risen) (x′ u′ : List ℕ) → Splits z m x u l t c n r x′ u′ → Raised z m x u l root (level-plan z (a, b, []) l t c (wide-entries n)) r x′ u′
   raise-splits e r x′ u′ h = raised-as z m x u l root whole-plan (split-plan z l t c (wide-entries n)) r x′ u′ (is-split e) (h .raised root)
 
   module _ (d : Node) (pd : d ≡ narrow n) where
-    pub raise-turns : n .count < 7 → (r : Risen) (x′ u′ : List ℕ) → Raised z m x u l root (neighbour-plan (a, b) l t c (entriesOf d)) r x′ u′
-        → Raised z m x u l root (level-plan z (a, b) l t c (wide-entries n)) r x′ u′
-    raise-turns e r x′ u′ h = raised-as z m x u l root whole-plan (neighbour-plan (a, b) l t c (entriesOf (narrow n))) r x′ u′ (is-neighbour e) (rw pd at h)
+    pub raise-turns : n .count < 7 → (r : Risen) (x′ u′ : List ℕ) → Raised z m x u l root (neighbour-plan (a, b, []) l t c (entriesOf d)) r x′ u′
+        → Raised z m x u l root (level-plan z (a, b, []) l t c (wide-entries n)) r x′ u′
+    raise-turns e r x′ u′ h = raised-as z m x u l root whole-plan (neighbour-plan (a, b, []) l t c (entriesOf (narrow n))) r x′ u′ (is-neighbour e) (rw pd at h)
 
     pub raise-of-level : OfLevel l d
     raise-of-level = rw pd (narrow-of-level l n k 0)
 
   pub raise-writes : (n .count ≡ 15 → ⊥) → 7 ≤ n .count → z .servers ≤ 8 → Under z l c t → (s : Stop) (x′ u′ : List ℕ) → Settled m x u c n a b s x′ u′
-      → Raised z m x u l root (level-plan z (a, b) l t c (wide-entries n)) (record { stop = s; up = n }) x′ u′
+      → Raised z m x u l root (level-plan z (a, b, []) l t c (wide-entries n)) (record { stop = s; up = n }) x′ u′
   raise-writes ne e eight un s x′ u′ h =
       let f : n .count ≤ 14 = omega (arith, k .few, ne) in
-      let halts : goes s ≡ false = ended-not z m ((a, b), (node c, value-of (node c) (narrow n)) ∷ []) (used-in u) (used-in u′) s _ (h .ends z []) in
+      let halts : goes s ≡ false = ended-not z m ((a, b, []), (node c, value-of (node c) (narrow n)) ∷ []) (used-in u) (used-in u′) s _ (h .ends z []) in
       record {
         more = (node c, value-of (node c) (narrow n)) ∷ [];
-        same = λ w hold lo fs t′ go. rw (level-written z l t c n (a, b) k e f lo fs w go, halts) (h .ends z w);
+        same = λ w hold lo fs t′ go. rw (level-written z l t c n (a, b, []) k e f lo fs w go, halts) (h .ends z w);
         holds = λ _ w hold. h .written .holds z w eight (un .link .there) hold;
         kept = λ _ w hold. h .written .kept;
         good = λ q. stops-not s halts q;
@@ -188,26 +188,26 @@ pub ruleset raise-exits = (raise-splits, raise-turns, raise-of-level, raise-writ
 
 -- ---- the root
 module _ (z : TreeSizes) (m : ClientWord → ℕ) (x u : List ℕ) (l c : ℕ) (n : Wide) (a b : ℕ) (k : Content l n) where
-  pub top-splits : n .count ≡ 15 → (s : Stop) (x′ u′ : List ℕ) → Closed z m x u (root-split z (a, b) l c (wide-entries n 0)) s x′ u′
-      → Closed z m x u (top-plan z (a, b) l c (wide-entries n 0)) s x′ u′
+  pub top-splits : n .count ≡ 15 → (s : Stop) (x′ u′ : List ℕ) → Closed z m x u (root-split z (a, b, []) l c (wide-entries n 0)) s x′ u′
+      → Closed z m x u (top-plan z (a, b, []) l c (wide-entries n 0)) s x′ u′
   unfolding top-plan root-split
   top-splits e s x′ u′ h =
       let q : length (wide-entries n 0) ≤ most-entries l → ⊥ = λ q. omega (arith, most l n k 0, entries-many l n k 0, q) in
       record {
         more = h .more;
-        same = λ w hold. rw (ifd-no (decLe (length (wide-entries n 0)) (most-entries l)) (P.done ((a, b), (node c, node-value l (wide-entries n 0)) ∷ w)) (split-root z (a, b) l w c (wide-entries n 0)) q) (h .same w hold);
+        same = λ w hold. rw (ifd-no (decLe (length (wide-entries n 0)) (most-entries l)) (P.done ((a, b, []), (node c, node-value l (wide-entries n 0)) ∷ w)) (split-root z (a, b, []) l w c (wide-entries n 0)) q) (h .same w hold);
         holds = h .holds;
         kept = h .kept;
         noted = h .noted;
       }
 
   pub top-writes : (n .count ≡ 15 → ⊥) → z .servers ≤ 8 → in-store z c ≡ true → (s : Stop) (x′ u′ : List ℕ) → Settled m x u c n a b s x′ u′
-      → Closed z m x u (top-plan z (a, b) l c (wide-entries n 0)) s x′ u′
+      → Closed z m x u (top-plan z (a, b, []) l c (wide-entries n 0)) s x′ u′
   top-writes ne eight there s x′ u′ h =
       let f : n .count ≤ 14 = omega (arith, k .few, ne) in
       record {
         more = (node c, value-of (node c) (narrow n)) ∷ [];
-        same = λ w hold. rw (top-written z l c n (a, b) k f w) (h .ends z w);
+        same = λ w hold. rw (top-written z l c n (a, b, []) k f w) (h .ends z w);
         holds = λ _ w hold. h .written .holds z w eight there hold;
         kept = λ _ w hold. h .written .kept;
         noted = h .noted;

@@ -41,8 +41,8 @@ use Rattle.walk.specs.Laws.Down.{stops-not}
 use Rattle.walk.specs.Lookup.{Ends}
 use Rattle.walk.specs.Take.{Wrote, Released}
 use Rattle.walk.specs.Laws.Write.{name-below}
-use Rattle.change.specs.Laws.Mute.{Mute, walked-mute, release-mute}
-use Rattle.change.specs.Mute.{stands}
+use Rattle.walk.specs.Laws.Mute.{Mute, walked-mute, release-mute}
+use Rattle.walk.specs.Walk.{stands}
 use Rattle.change.specs.Rise.{NodeWritten, OfLevel, is-root, widened}
 use Rattle.change.specs.Laws.Rise.{of-level-value, stopped-raised}
 use Rattle.change.specs.Laws.Parts.{out-level, widened-entries, widened-content}
@@ -93,12 +93,12 @@ blank-few n e = rw e (omega arith)
 pub ends-halts : (z : TreeSizes) (m : ClientWord → ℕ) (u : List ℕ) (a b : ℕ) (s : Stop) (u′ : List ℕ) → Ends m u a b s u′ → goes s ≡ false
 ends-halts z m u a b s u′ h = go (over m (used-in u)) refl
   where
-    is : walked z m (P.done ((a, b), [])) (used-in u) .stop ≡ s
-    is = ap (λ (t : Told). t .stop) (h .same z [])
+    is : walked z m (P.done ((a, b, []), [])) (used-in u) .stop ≡ s
+    is = ap (λ (t : Told). t .stop) (h .same z [] [])
 
     go : (o : Bool) → over m (used-in u) ≡ o → goes s ≡ false
-    go true e = ap goes (sym (sym (ap (λ (t : Told). t .stop) (full-done z m (used-in u) ((a, b), []) e)) ∙ is))
-    go false e = ap goes (sym (sym (ap (λ (t : Told). t .stop) (walked-done z m (used-in u) ((a, b), []) e)) ∙ is))
+    go true e = ap goes (sym (sym (ap (λ (t : Told). t .stop) (full-done z m (used-in u) ((a, b, []), []) e)) ∙ is))
+    go false e = ap goes (sym (sym (ap (λ (t : Told). t .stop) (walked-done z m (used-in u) ((a, b, []), []) e)) ∙ is))
 
 -- a node is freed, or its flag stops the walk
 module _ (z : TreeSizes) (m : ClientWord → ℕ) (x u : List ℕ) (c : ℕ) (s : Stop) (x′ u′ : List ℕ) (h : Released z m x u c s x′ u′) where
@@ -121,19 +121,19 @@ module _ (z : TreeSizes) (m : ClientWord → ℕ) (x u : List ℕ) (c : ℕ) (s 
       rw (ap (λ (t : Told). t .stop) e) at (walked-mute z m (release w c (λ _. P.fail no-tree)) (release-mute w c (λ _. P.fail no-tree) (λ _. tt)) (used-in u))
 
 module _ (z : TreeSizes) (m : ClientWord → ℕ) (x u : List ℕ) (a b root c : ℕ) (one : Node) (s : Stop) (x₁ u₁ : List ℕ) (h : Released z m x u c s x₁ u₁) (on : Bool) (po : on ≡ goes s) where
-  pub collapse-stops : (r : Risen) → not on ≡ true → r .stop ≡ s → Collapses z m x u (a, b) root c one r x₁ u₁
+  pub collapse-stops : (r : Risen) → not on ≡ true → r .stop ≡ s → Collapses z m x u (a, b, []) root c one r x₁ u₁
   unfolding collapse-plan
   collapse-stops r q e =
       let f : goes s ≡ false = sym po ∙ not-true on q in
       let halt : goes (r .stop) ≡ false = rw e f in
       record {
-        raised = λ l top. stopped-raised z m x u l top (collapse-plan (a, b) root c one) r x₁ u₁ halt (λ w hold. rw e (release-stands z m x u c s x₁ u₁ h f w hold))
+        raised = λ l top. stopped-raised z m x u l top (collapse-plan (a, b, []) root c one) r x₁ u₁ halt (λ w hold. rw e (release-stands z m x u c s x₁ u₁ h f w hold))
             (λ w hold lo fs t go. rw (h .asks w hold _, f, e)) (h .noted);
         halts = halt;
       }
 
   pub collapse-ends : (r : Risen) (x₂ : List ℕ) (e : Stop) (u₂ : List ℕ) → not on ≡ false → z .servers ≤ 8 → in-store z root ≡ true → NodeWritten x₁ root one x₂ → Ends m u₁ a b e u₂ → r .stop ≡ e
-      → Collapses z m x u (a, b) root c one r x₂ u₂
+      → Collapses z m x u (a, b, []) root c one r x₂ u₂
   unfolding collapse-plan
   collapse-ends r x₂ e u₂ q eight t written end p =
       let go-on : goes s ≡ true = sym po ∙ not-false on q in
@@ -142,7 +142,7 @@ module _ (z : TreeSizes) (m : ClientWord → ℕ) (x u : List ℕ) (a b root c :
       record {
         raised = λ l top. record {
           more = (node root, value-of (node root) one) ∷ (node c, free) ∷ (flag c, taken false) ∷ [];
-          same = λ w hold lo fs d go. rw (h .asks w hold _, go-on, p, halt) (end .same z ((node root, value-of (node root) one) ∷ (node c, free) ∷ (flag c, taken false) ∷ w));
+          same = λ w hold lo fs d go. rw (h .asks w hold _, go-on, p, halt) (end .same z ((node root, value-of (node root) one) ∷ (node c, free) ∷ (flag c, taken false) ∷ w) []);
           holds = λ d w hold. written .holds z ((node c, free) ∷ (flag c, taken false) ∷ w) eight t (h .holds go-on w hold);
           kept = λ d w hold. written .kept;
           good = λ d. stops-not (r .stop) stop d;
@@ -202,12 +202,12 @@ module _ (z : TreeSizes) (m : ClientWord → ℕ) (x u : List ℕ) (root : Bool)
   abbrev let-go : Writes
   let-go = (node (s .right), free) ∷ (flag (s .right), taken false) ∷ []
 
-  pub merge-stops : (r : Risen) → not on ≡ true → r .stop ≡ stop → Merges z m x u root (a, c) b s one r x₁ u₁
+  pub merge-stops : (r : Risen) → not on ≡ true → r .stop ≡ stop → Merges z m x u root (a, c, []) b s one r x₁ u₁
   unfolding merge-plan
   merge-stops r q e =
       let f : goes stop ≡ false = sym po ∙ not-true on q in
       record {
-        raised = λ l v k. stopped-raised z m x u l root (merge-plan (a, c) l b s one) r x₁ u₁ (rw e f) (λ w hold. rw e (release-stands z m x u (s .right) stop x₁ u₁ freed f w hold))
+        raised = λ l v k. stopped-raised z m x u l root (merge-plan (a, c, []) l b s one) r x₁ u₁ (rw e f) (λ w hold. rw e (release-stands z m x u (s .right) stop x₁ u₁ freed f w hold))
             (λ w hold lo fs t go. rw (freed .asks w hold _, f, e)) (freed .noted);
       }
 
@@ -215,7 +215,7 @@ module _ (z : TreeSizes) (m : ClientWord → ℕ) (x u : List ℕ) (root : Bool)
     go-on : goes stop ≡ true
     go-on = sym po ∙ not-false on q
 
-    pub merge-collapses : (r : Risen) (x₂ u₂ : List ℕ) → t ≡ true → Collapses z m x₁ u₁ (a, c) (b .name) (s .left) one r x₂ u₂ → Merges z m x u root (a, c) b s one r x₂ u₂
+    pub merge-collapses : (r : Risen) (x₂ u₂ : List ℕ) → t ≡ true → Collapses z m x₁ u₁ (a, c, []) (b .name) (s .left) one r x₂ u₂ → Merges z m x u root (a, c, []) b s one r x₂ u₂
     unfolding merge-plan collapse-plan pair-of
     merge-collapses r x₂ u₂ e k = record {
       raised = λ l v lv. let d = k .raised l root in record {
@@ -223,7 +223,7 @@ module _ (z : TreeSizes) (m : ClientWord → ℕ) (x u : List ℕ) (root : Bool)
         same = λ w hold lo fs f go. rw (
           freed .asks w hold _,
           go-on,
-          merged-is (a, c) l fs go root (b .node .count) (let-go ++ w) (pair-in b s lo) (s .left) (entriesOf one (getD (entriesOf (b .node) lo) (s .at) (0, 0) .0)) f (one-less-length z b s h lo),
+          merged-is (a, c, []) l fs go root (b .node .count) (let-go ++ w) (pair-in b s lo) (s .left) (entriesOf one (getD (entriesOf (b .node) lo) (s .at) (0, 0) .0)) f (one-less-length z b s h lo),
           ← pt,
           e,
           of-level-value l one (getD (entriesOf (b .node) lo) (s .at) (0, 0) .0) (b .name) lv,
@@ -239,7 +239,7 @@ module _ (z : TreeSizes) (m : ClientWord → ℕ) (x u : List ℕ) (root : Bool)
     }
 
     pub merge-goes : (x₂ : List ℕ) (p : Node) (up : Wide) → z .servers ≤ 8 → t ≡ false → SmallNode one → NodeWritten x₁ (s .left) one x₂ → p ≡ take-out (b .node) (s .at) → p .count < b .node .count
-        → up ≡ widened p → Merges z m x u root (a, c) b s one (record { stop = Going; up = up }) x₂ u₁
+        → up ≡ widened p → Merges z m x u root (a, c, []) b s one (record { stop = Going; up = up }) x₂ u₁
     unfolding merge-plan
     merge-goes x₂ p up eight e small written pp fewer pu =
         let wrote : Wrote x₁ (node (s .left)) (value-of (node (s .left)) one) x₂ = written .wrote (small .level) in
@@ -250,7 +250,7 @@ module _ (z : TreeSizes) (m : ClientWord → ℕ) (x u : List ℕ) (root : Bool)
             same = λ w hold lo fs f go. rw (
               freed .asks w hold _,
               go-on,
-              merged-is (a, c) l fs go root (b .node .count) (let-go ++ w) (pair-in b s lo) (s .left)
+              merged-is (a, c, []) l fs go root (b .node .count) (let-go ++ w) (pair-in b s lo) (s .left)
                   (entriesOf one (pair-in b s lo .key)) f (one-less-length z b s h lo),
               ← pt,
               e,

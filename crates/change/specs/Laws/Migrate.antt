@@ -33,7 +33,7 @@ use Rattle.walk.specs.Laws.Walk.{walked-fails}
 use Rattle.walk.specs.Ask.{SmallNode, OwnGood, Holds-writes, Noted, Answer, given, nothing}
 use Rattle.walk.specs.Laws.Ask.{none-held, first-single}
 use Rattle.walk.specs.Down.{Arrival, arrival, branches, trail, low}
-use Rattle.change.specs.Mute.{stands}
+use Rattle.walk.specs.Walk.{stands}
 use Rattle.walk.specs.Lookup.{Ends}
 use Rattle.walk.specs.Laws.Lookup.{ended-nothing}
 use Rattle.change.specs.Operated.{Operated}
@@ -62,7 +62,7 @@ module _ (z : TreeSizes) (m : ClientWord → ℕ) (x u : List ℕ) (nm s : ℕ) 
       let q : goes (t .stop) ≡ false = sym pb ∙ not-true b nb in
       record {
         writes = [];
-        same = λ hold. rw (h .asks hold (λ d w. P.done ((1, d), w)), q) (sym (ended-nothing (t .stop) (used-in u₁)));
+        same = λ hold. rw (h .asks hold (λ d w. P.done ((1, d, []), w)), q) (sym (ended-nothing (t .stop) (used-in u₁)));
         holds = λ g hold. never (t .stop) (moved-stops z m x u nm s n true t x₁ u₁ h hold q) g;
         kept = λ g hold. never (t .stop) (moved-stops z m x u nm s n true t x₁ u₁ h hold q) g;
         noted = h .noted;
@@ -73,7 +73,7 @@ module _ (z : TreeSizes) (m : ClientWord → ℕ) (x u : List ℕ) (nm s : ℕ) 
       let on : goes (t .stop) ≡ true = sym pb ∙ not-false b nb in
       record {
         writes = moves nm v true (t .name);
-        same = λ hold. rw (h .asks hold (λ d w. P.done ((1, d), w)), on) (a .same z (moves nm v true (t .name)));
+        same = λ hold. rw (h .asks hold (λ d w. P.done ((1, d, []), w)), on) (a .same z (moves nm v true (t .name)) []);
         holds = λ _ hold. h .holds on hold;
         kept = λ _ hold. record { fit = h .good on .fit; few = h .good on .few };
         noted = a .noted;
@@ -92,7 +92,7 @@ module _ (z : TreeSizes) (m : ClientWord → ℕ) (x u : List ℕ) (top nm s key
   pub below-stops : OwnGood x → not b ≡ true → Operated z m x u (move-below z top nm s w (n .level) key) (p .stop) x u₁
   below-stops g nb =
       let q : goes (d .stop) ≡ false = sym pb ∙ not-true b nb in
-      walks-operated z m x u (move-below z top nm s w (n .level) key) (d .stop) u₁ g (record { same = rw (h .asks (move-at z nm s w key), q); noted = h .noted })
+      walks-operated z m x u (move-below z top nm s w (n .level) key) (d .stop) u₁ g (record { same = rw (h .asks (move-at z nm s w key), q) (sym (ended-nothing (d .stop) (used-in u₁))); noted = h .noted })
 
   pub below-moves : (q : Node) (st : Stop) (x′ u′ : List ℕ) → not b ≡ false → q ≡ node-at (view c) (p .place) → MovedAt z m x u₁ key nm s n (p .name) q st x′ u′ → Operated z m x u (move-below z top nm s w (n .level) key) st x′ u′
   below-moves q st x′ u′ nb pq a =
@@ -109,11 +109,11 @@ pub ruleset below-exits = (below-stops, below-parent, below-moves)
 
 -- ---- which it is
 move-used : (z : TreeSizes) (top nm s kind level : ℕ) (ks vs : List ℕ) → (kind ≡ 0 → ⊥)
-    → move-if z top nm s (body kind level ks vs) ≡ ifd (ℕ-discrete (server-of nm) s) (P.done ((0, 1), [])) (move-node z top nm s (body kind level ks vs) level ks)
+    → move-if z top nm s (body kind level ks vs) ≡ ifd (ℕ-discrete (server-of nm) s) (P.done ((0, 1, []), [])) (move-node z top nm s (body kind level ks vs) level ks)
 move-used z top nm s zero level ks vs h = absurd (h refl)
 move-used z top nm s (suc kind) level ks vs h = refl
 
-move-free : (z : TreeSizes) (top nm s kind level : ℕ) (ks vs : List ℕ) → kind ≡ 0 → move-if z top nm s (body kind level ks vs) ≡ P.done ((0, 0), [])
+move-free : (z : TreeSizes) (top nm s kind level : ℕ) (ks vs : List ℕ) → kind ≡ 0 → move-if z top nm s (body kind level ks vs) ≡ P.done ((0, 0, []), [])
 move-free z top nm s kind level ks vs h = rw h
 
 first-is : (ks : List ℕ) (k : ℕ → TreePlan) → 0 < length ks → first-key ks k ≡ k (getD ks 0 0)
@@ -126,23 +126,23 @@ module _ (z : TreeSizes) (m : ClientWord → ℕ) (x u : List ℕ) (g : OwnGood 
 
   pub if-free : (st : Stop) (u′ : List ℕ) → n .kind ≡ 0 → Ends m u 0 0 st u′ → Operated z m x u (move-if z top nm s y) st x u′
   if-free st u′ k a = walks-operated z m x u (move-if z top nm s y) st u′ g (record {
-    same = rw (move-free z top nm s (n .kind) (n .level) (keysOf n) (slotsOf n) k) (a .same z [] ∙ ended-nothing st (used-in u′));
+    same = rw (move-free z top nm s (n .kind) (n .level) (keysOf n) (slotsOf n) k) (a .same z [] []);
     noted = a .noted;
   })
 
   module _ (k : n .kind ≡ 0 → ⊥) where
-    used-is : move-if z top nm s y ≡ ifd (ℕ-discrete (server-of nm) s) (P.done ((0, 1), [])) (move-node z top nm s y (n .level) (keysOf n))
+    used-is : move-if z top nm s y ≡ ifd (ℕ-discrete (server-of nm) s) (P.done ((0, 1, []), [])) (move-node z top nm s y (n .level) (keysOf n))
     used-is = move-used z top nm s (n .kind) (n .level) (keysOf n) (slotsOf n) k
 
     pub if-there : (home : ℕ) (st : Stop) (u′ : List ℕ) → home ≡ server-of nm → home ≡ s → Ends m u 0 1 st u′ → Operated z m x u (move-if z top nm s y) st x u′
     if-there home st u′ o e a = walks-operated z m x u (move-if z top nm s y) st u′ g (record {
-      same = rw (used-is, ifd-yes (ℕ-discrete (server-of nm) s) (P.done ((0, 1), [])) (move-node z top nm s y (n .level) (keysOf n)) (sym o ∙ e)) (a .same z [] ∙ ended-nothing st (used-in u′));
+      same = rw (used-is, ifd-yes (ℕ-discrete (server-of nm) s) (P.done ((0, 1, []), [])) (move-node z top nm s y (n .level) (keysOf n)) (sym o ∙ e)) (a .same z [] []);
       noted = a .noted;
     })
 
     module _ (home : ℕ) (o : home ≡ server-of nm) (e : home ≡ s → ⊥) where
       node-is : move-if z top nm s y ≡ move-node z top nm s y (n .level) (keysOf n)
-      node-is = used-is ∙ ifd-no (ℕ-discrete (server-of nm) s) (P.done ((0, 1), [])) (move-node z top nm s y (n .level) (keysOf n)) (λ t. e (o ∙ t))
+      node-is = used-is ∙ ifd-no (ℕ-discrete (server-of nm) s) (P.done ((0, 1, []), [])) (move-node z top nm s y (n .level) (keysOf n)) (λ t. e (o ∙ t))
 
       pub if-root : (st : Stop) (x′ u′ : List ℕ) → nm ≡ top → Operated z m x u (move-root z nm s y) st x′ u′ → Operated z m x u (move-if z top nm s y) st x′ u′
       if-root st x′ u′ f a = rw (node-is, ifd-yes (ℕ-discrete nm top) (move-root z nm s y) (ifd (decLe 7 (length (keysOf n))) (first-key (keysOf n) (move-below z top nm s y (n .level))) (P.fail no-tree)) f) a
@@ -171,7 +171,7 @@ module _ (z : TreeSizes) (m : ClientWord → ℕ) (x u : List ℕ) (top nm s : �
   unfolding named-plan
   named-stops g nb =
       let t : goes s₁ ≡ false = sym pb ∙ not-true b nb in
-      walks-operated z m x u (named-plan z top nm s) s₁ u₁ g (record { same = rw (a .asks [] (none-held z) .same, t); noted = a .noted })
+      walks-operated z m x u (named-plan z top nm s) s₁ u₁ g (record { same = rw (a .asks [] (none-held z) .same, t) (sym (ended-nothing s₁ (used-in u₁))); noted = a .noted })
 
   module _ (n : Node) (nb : not b ≡ false) (e : n ≡ q) where
     on : goes s₁ ≡ true
@@ -197,7 +197,7 @@ module _ (z : TreeSizes) (m : ClientWord → ℕ) (x u : List ℕ) (nm s : ℕ) 
   pub migrate-stops : OwnGood x → not b ≡ true → Operated z m x u (migrate-plan z nm s) s₁ x u₁
   migrate-stops g nb =
       let q : goes s₁ ≡ false = sym pb ∙ not-true b nb in
-      walks-operated z m x u (migrate-plan z nm s) s₁ u₁ g (record { same = rw (a .asks [] (none-held z) .same, q); noted = a .noted })
+      walks-operated z m x u (migrate-plan z nm s) s₁ u₁ g (record { same = rw (a .asks [] (none-held z) .same, q) (sym (ended-nothing s₁ (used-in u₁))); noted = a .noted })
 
   pub migrate-goes-on : (st : Stop) (x′ u′ : List ℕ) → not b ≡ false → Operated z m x u₁ (named-plan z v nm s) st x′ u′ → Operated z m x u (migrate-plan z nm s) st x′ u′
   unfolding named-plan

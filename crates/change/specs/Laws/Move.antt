@@ -26,8 +26,8 @@ use Rattle.walk.specs.Laws.Write.{name-below}
 use Rattle.walk.specs.Take.{NodeTaken, Released, Wrote}
 use Rattle.walk.specs.Laws.Take.{wrote, single-small}
 use Rattle.walk.specs.Search.{TakenOn}
-use Rattle.change.specs.Laws.Mute.{Mute, walked-mute, take-on-mute, take-node-mute, release-mute}
-use Rattle.change.specs.Mute.{stands}
+use Rattle.walk.specs.Laws.Mute.{Mute, walked-mute, take-on-mute, take-node-mute, release-mute}
+use Rattle.walk.specs.Walk.{stands}
 use Rattle.change.specs.Rise.{NodeWritten}
 use Rattle.change.specs.Move.{beside, Beside, Placed, Left, Moved}
 use Rattle.plans.specs.Plan as P

@@ -35,7 +35,7 @@ use Rattle.walk.specs.Walk.{Told, told, goes, walked}
 use Rattle.walk.specs.Laws.Walk.{walked-fails}
 use Rattle.walk.specs.Ask.{SmallNode, Holds-writes, Noted}
 use Rattle.walk.specs.Down.{Kid}
-use Rattle.change.specs.Laws.Mute.{Mute, walked-mute, kid-mute}
+use Rattle.walk.specs.Laws.Mute.{Mute, walked-mute, kid-mute}
 use Rattle.change.specs.Rise.{OfLevel, Raised, Under, Fitting, BothWritten, widened, neighbour-plan}
 use Rattle.change.specs.Laws.Rise.{of-level-value, stopped-raised}
 use Rattle.change.specs.Laws.Parts.{key-level, widened-entries, widened-content}
@@ -90,19 +90,19 @@ module _ (last : Bool) (n k : Node) (sep : ℕ) (small-n : SmallNode n) (small-k
 module _ (z : TreeSizes) (m : ClientWord → ℕ) (x u : List ℕ) (root : Bool) (a c : ℕ) (b : Turn) (s : Sides) (n k : Node) (h : Neighbours z b s) (sep : ℕ) (ps : sep ≡ getD (b .node .keys) (s .at) 0) where
   -- the plan by the nodes that the code makes
   even-is : (l lo : ℕ) → OfLevel l n → OfLevel l k → 7 ≤ k .count → (fs : List Branch) (w : Writes) (go : Go)
-      → even-plan (a, c) l b s n k lo fs w go
+      → even-plan (a, c, []) l b s n k lo fs w go
       ≡ cond (ltb 7 (k .count))
       (parted go l w (pair-in b s lo) (s .left) (entriesOf (lent (s .last) n sep k .left) (pair-in b s lo .key))
       (s .right) (entriesOf (lent (s .last) n sep k .right) (lent (s .last) n sep k .sep)))
-      (merge-plan (a, c) l b s (joined (s .last) n sep k) lo fs w go)
+      (merge-plan (a, c, []) l b s (joined (s .last) n sep k) lo fs w go)
   unfolding even-plan merge-plan
   even-is l lo fn fk seven fs w go =
-      rw (← ps) (evened-is l n k sep fn fk (omega arith) (a, c) fs go (s .last) w (pair-in b s lo) (s .left) (s .right) (pair-in b s lo .key))
+      rw (← ps) (evened-is l n k sep fn fk (omega arith) (a, c, []) fs go (s .last) w (pair-in b s lo) (s .left) (s .right) (pair-in b s lo .key))
 
-  pub even-merges : (one : Node) (r : Risen) (x₁ u₁ : List ℕ) → k .count ≤ 7 → one ≡ joined (s .last) n sep k → Merges z m x u root (a, c) b s one r x₁ u₁ → Evens z m x u root (a, c) b s n k r x₁ u₁
+  pub even-merges : (one : Node) (r : Risen) (x₁ u₁ : List ℕ) → k .count ≤ 7 → one ≡ joined (s .last) n sep k → Merges z m x u root (a, c, []) b s one r x₁ u₁ → Evens z m x u root (a, c, []) b s n k r x₁ u₁
   even-merges one r x₁ u₁ few e d = record {
     raised = λ l v fn fk seven.
-        raised-as z m x u u l root (even-plan (a, c) l b s n k) (merge-plan (a, c) l b s one) r x₁ u₁
+        raised-as z m x u u l root (even-plan (a, c, []) l b s n k) (merge-plan (a, c, []) l b s one) r x₁ u₁
         (λ w hold lo fs go. rw (even-is l lo fn fk seven fs w go, le-ltb 7 (k .count) few, e))
         (d .raised l v (rw e (joined-level l n k sep fn fk (omega arith) (s .last))));
   }
@@ -123,7 +123,7 @@ module _ (z : TreeSizes) (m : ClientWord → ℕ) (x u : List ℕ) (root : Bool)
         ∙ sym (widened-entries (suc l) p (rw pp (key-level (suc l) (b .node) (parent-level z b s h l v) (s .at) (h′ .sep))) lo)
 
     pub even-shares : (x₁ : List ℕ) (up : Wide) → 7 < k .count → z .servers ≤ 8 → Noted m u → BothWritten x (s .left) (s .right) h′ x₁ → p .count ≡ b .node .count → up ≡ widened p
-        → Evens z m x u root (a, c) b s n k (record { stop = Going; up = up }) x₁ u
+        → Evens z m x u root (a, c, []) b s n k (record { stop = Going; up = up }) x₁ u
     even-shares x₁ up plenty eight noted both pc pu = record {
       raised = λ l v fn fk seven. let parts : Halved l h′ = rw e (lent-halved l n k sep fn fk (omega arith) (s .last)) in record {
         more = (node (s .right), value-of (node (s .right)) (h′ .right)) ∷ (node (s .left), value-of (node (s .left)) (h′ .left)) ∷ [];
@@ -205,7 +205,7 @@ met z m x u l b name s other stop k u₁ on d h po kid pg q =
 
 module _ (z : TreeSizes) (l a c : ℕ) (b : Turn) (name : ℕ) (n : Node) (d : Under z l name b) where
   abbrev whole-plan : ℕ → List Branch → Writes → Go → TreePlan
-  whole-plan = neighbour-plan (a, c) l b name (entriesOf n)
+  whole-plan = neighbour-plan (a, c, []) l b name (entriesOf n)
 
   pub alone : (m : ClientWord → ℕ) (x u : List ℕ) (root : Bool) (r : Risen) → b .node .count ≡ 0 → r .stop ≡ Aborts 3 → Noted m u → Raised z m x u l root whole-plan r x u
   unfolding neighbour-plan branch-of
@@ -213,8 +213,8 @@ module _ (z : TreeSizes) (l a c : ℕ) (b : Turn) (name : ℕ) (n : Node) (d : U
       let first : b .at ≡ 0 = omega (arith, d .followed .within) in
       fails-raised z m x u l root whole-plan r
       (λ lo fs w go.
-      ap (λ (i : ℕ). C.neighbour (a, c) l fs go w (branch-of (b .name) i (entriesOf (b .node) lo)) name (entriesOf n (getD (entriesOf (b .node) lo) i (0, 0) .0)) (branch-of (b .name) i (entriesOf (b .node) lo) .post)) first
-      ∙ only-child (a, c) l fs go w (b .name) (entriesOf (b .node) lo) (entriesOf n (getD (entriesOf (b .node) lo) 0 (0, 0) .0)) name (only lo))
+      ap (λ (i : ℕ). C.neighbour (a, c, []) l fs go w (branch-of (b .name) i (entriesOf (b .node) lo)) name (entriesOf n (getD (entriesOf (b .node) lo) i (0, 0) .0)) (branch-of (b .name) i (entriesOf (b .node) lo) .post)) first
+      ∙ only-child (a, c, []) l fs go w (b .name) (entriesOf (b .node) lo) (entriesOf n (getD (entriesOf (b .node) lo) 0 (0, 0) .0)) name (only lo))
       e noted
     where
       only : (lo : ℕ) → length (entriesOf (b .node) lo) ≡ 1
@@ -239,7 +239,7 @@ module _ (z : TreeSizes) (l a c : ℕ) (b : Turn) (name : ℕ) (n : Node) (d : U
 
     abbrev turned-at : ℕ → List Branch → Writes → Go → ℕ → ℕ → ℕ → TreePlan
     turned-at lo fs w go i e q =
-        C.neighbour (a, c) l fs go w (branch-of (b .name) i (entriesOf (b .node) lo)) e (entriesOf n q) (branch-of (b .name) i (entriesOf (b .node) lo) .post)
+        C.neighbour (a, c, []) l fs go w (branch-of (b .name) i (entriesOf (b .node) lo)) e (entriesOf n q) (branch-of (b .name) i (entriesOf (b .node) lo) .post)
 
     by-side : (lo : ℕ) (fs : List Branch) (w : Writes) (go : Go)
         → whole-plan lo fs w go ≡ turned-at lo fs w go (own-side (s .last) (s .at) (suc (s .at))) (own-side (s .last) (s .left) (s .right)) (own-side (s .last) (lows lo) sep)
@@ -255,7 +255,7 @@ module _ (z : TreeSizes) (l a c : ℕ) (b : Turn) (name : ℕ) (n : Node) (d : U
           let same : s .left ≡ s .right = one-name (s .last) (s .left) (s .right) (sym po ∙ e ∙ side-name z l b name s d h) in
           fails-raised z m x u l root whole-plan r
           (λ lo fs w go. by-side lo fs w go
-          ∙ turns-to-itself (a, c) l fs go w (b .name) (entriesOf (b .node) lo) (entriesOf n (own-side (s .last) (lows lo) sep)) (s .at) (both-inside b s (d .followed) h lo)
+          ∙ turns-to-itself (a, c, []) l fs go w (b .name) (entriesOf (b .node) lo) (entriesOf n (own-side (s .last) (lows lo) sep)) (s .at) (both-inside b s (d .followed) h lo)
           (s .left) (s .right) (left-entry b s (d .followed) h lo) (right-entry b s (d .followed) h lo) (s .last) (ends lo) same)
           p noted
 
@@ -263,11 +263,11 @@ module _ (z : TreeSizes) (l a c : ℕ) (b : Turn) (name : ℕ) (n : Node) (d : U
         meets : (lo : ℕ) (fs : List Branch) (w : Writes) (go : Go)
             → whole-plan lo fs w go
             ≡ kid w l (far-side (s .last) (lows lo) sep) other
-            (λ es2. evened (a, c) l fs go (s .last) w (pair-in b s lo) (s .left) (s .right) (entriesOf n (own-side (s .last) (lows lo) sep)) es2)
+            (λ es2. evened (a, c, []) l fs go (s .last) w (pair-in b s lo) (s .left) (s .right) (entriesOf n (own-side (s .last) (lows lo) sep)) es2)
         meets lo fs w go =
             let two : s .left ≡ s .right → ⊥ = λ e. apart (po ∙ same-names (s .last) (s .left) (s .right) e ∙ sym (side-name z l b name s d h)) in
             by-side lo fs w go
-            ∙ turns (a, c) l fs go w (b .name) (entriesOf (b .node) lo) (entriesOf n (own-side (s .last) (lows lo) sep)) (s .at) (both-inside b s (d .followed) h lo)
+            ∙ turns (a, c, []) l fs go w (b .name) (entriesOf (b .node) lo) (entriesOf n (own-side (s .last) (lows lo) sep)) (s .at) (both-inside b s (d .followed) h lo)
             (s .left) (s .right) (left-entry b s (d .followed) h lo) (right-entry b s (d .followed) h lo) (s .last) (ends lo) two
             ∙ rw (far-low lo, po)
 
@@ -282,12 +282,12 @@ module _ (z : TreeSizes) (l a c : ℕ) (b : Turn) (name : ℕ) (n : Node) (d : U
               rw (e, ← ap (λ (t : Told). t .stop) t) (walked-mute z m (kid w l 0 other (λ _. P.fail no-tree)) (kid-mute w l 0 other (λ _. P.fail no-tree) (λ _. tt)) (used-in u)))
               (λ w hold lo fs t go. rw (meets lo fs w go, asked .asks w hold _ _, f, e)) (asked .noted)
 
-          pub turned : (r : Risen) (x′ u′ : List ℕ) → not on ≡ false → OfLevel l n → Evens z m x u₁ root (a, c) b s n k r x′ u′ → Raised z m x u l root whole-plan r x′ u′
+          pub turned : (r : Risen) (x′ u′ : List ℕ) → not on ≡ false → OfLevel l n → Evens z m x u₁ root (a, c, []) b s n k r x′ u′ → Raised z m x u l root whole-plan r x′ u′
           unfolding even-plan pair-of
           turned r x′ u′ q f evens =
               let t : goes stop ≡ true = sym pg ∙ not-false on q in
               let low : Below l k = below-true l k (asked .fits t) in
-              raised-as z m x u u₁ l root whole-plan (even-plan (a, c) l b s n k) r x′ u′
+              raised-as z m x u u₁ l root whole-plan (even-plan (a, c, []) l b s n k) r x′ u′
               (λ w hold lo fs go. rw (meets lo fs w go, asked .asks w hold _ _, t))
               (evens .raised l (d .link .level) f (below-level l k low (asked .whole t)) (low .enough))
 

@@ -8,15 +8,14 @@ use Rattle.walk.specs.declared.walk.Stop.{Stop}
 use Rattle.client.specs.Layout.{ClientWord}
 use Rattle.client.specs.Lent.{used-in}
 use Rattle.walk.specs.Ask.{OwnGood}
-use Rattle.walk.specs.Laws.Lookup.{ended-nothing}
 use Rattle.walk.specs.Lookup.{Walks}
 use Rattle.change.specs.Operated.{Operated}
 
 -- one that writes nothing
-pub walks-operated : (z : TreeSizes) (m : ClientWord → ℕ) (x u : List ℕ) (p : TreePlan) (s : Stop) (u′ : List ℕ) → OwnGood x → Walks z m u p s u′ → Operated z m x u p s x u′
+pub walks-operated : (z : TreeSizes) (m : ClientWord → ℕ) (x u : List ℕ) (p : TreePlan) (s : Stop) (u′ : List ℕ) → OwnGood x → Walks z m u p s u′ [] → Operated z m x u p s x u′
 walks-operated z m x u p s u′ g h = record {
   writes = [];
-  same = λ hold. h .same ∙ sym (ended-nothing s (used-in u′));
+  same = λ hold. h .same;
   holds = λ t hold. hold;
   kept = λ t hold. record { fit = g .fit; few = g .few };
   noted = h .noted;

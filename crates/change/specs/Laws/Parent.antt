@@ -39,7 +39,7 @@ use Rattle.walk.specs.Laws.Down.{stops-not}
 use Rattle.walk.specs.Down.{Arrival, RootMet, From, Stops, Led, Linked, trail, Reached}
 use Rattle.walk.specs.Laws.Write.{name-below}
 use Rattle.walk.specs.Take.{Wrote}
-use Rattle.change.specs.Mute.{stands}
+use Rattle.walk.specs.Walk.{stands}
 use Rattle.walk.specs.Lookup.{Ends}
 use Rattle.walk.specs.Laws.Lookup.{ended-nothing}
 use Rattle.change.specs.Rise.{NodeWritten}
@@ -79,7 +79,7 @@ module _ (z : TreeSizes) (m : ClientWord → ℕ) (x u : List ℕ) (nm s : ℕ) 
   v = value-of (node nm) n
 
   abbrev after : ℕ → ℕ → Writes → TreePlan
-  after lo d w = P.done ((1, d), (node up, node-value (p .level) (with-child (entriesOf p lo) at d)) ∷ w)
+  after lo d w = P.done ((1, d, []), (node up, node-value (p .level) (with-child (entriesOf p lo) at d)) ∷ w)
 
   pub child-stops : not b ≡ true → ChildMoved z m x u nm s n up p at (t .stop) x₁ u₁
   child-stops nb =
@@ -108,7 +108,7 @@ module _ (z : TreeSizes) (m : ClientWord → ℕ) (x u : List ℕ) (nm s : ℕ) 
       record {
         operated = λ lo. record {
           writes = (node up, value-of (node up) q) ∷ moves nm v false (t .name);
-          same = λ hold. rw (h .asks hold (after lo), on, k lo) (a .same z ((node up, value-of (node up) q) ∷ moves nm v false (t .name)));
+          same = λ hold. rw (h .asks hold (after lo), on, k lo) (a .same z ((node up, value-of (node up) q) ∷ moves nm v false (t .name)) []);
           holds = λ _ hold. y .holds z (moves nm v false (t .name)) eight (f .there) (h .holds on hold);
           kept = λ _ hold. record { fit = y .good .fit; few = y .good .few };
           noted = a .noted;

@@ -32,7 +32,7 @@ use Rattle.client.specs.Record.{number, value-of, record-of}
 use Rattle.client.specs.Lent.{OwnFits, own-put, used-in}
 use Rattle.walk.specs.Walk.{told, goes, walked}
 use Rattle.walk.specs.Lookup.{ended}
-use Rattle.change.specs.Mute.{stands}
+use Rattle.walk.specs.Walk.{stands}
 use Rattle.walk.specs.Ask.{OwnGood, Holds-writes, Noted}
 use Rattle.walk.specs.Laws.Write.{name-below, few-more, holds-more}
 use Rattle.walk.specs.Take.{Wrote}
@@ -136,7 +136,7 @@ pub of-level-value : (l : ℕ) (n : Node) (lo x : ℕ) → OfLevel l n → node-
 of-level-value l n lo x h = ap (λ (j : ℕ). node-value j (entriesOf n lo)) (sym (h .level)) ∙ stored-node n lo x (h .whole) (of-level-open l n h)
 
 -- ---- a level that a question stops
-stopped-told : (s : Stop) (us : List ℕ) (w : Writes) → stands s ≡ false → ended s us w ≡ told s us
+stopped-told : (s : Stop) (us : List ℕ) (w : Writes) → stands s ≡ false → ended s us w [] ≡ told s us
 stopped-told Going us w h = refl
 stopped-told LacksMeta us w h = refl
 stopped-told (LacksNode n) us w h = refl

@@ -143,7 +143,7 @@ module _ (y u : List ℕ) (c : Changed) (on : Bool) (po : on ≡ goes (c .stop))
       leaf-one s u′ q n v pn pv cn cv k pk = record {
         written = λ ng z eight p u₀ h. record {
           writes = (node (c .way .name), value-of (node (c .way .name)) (narrow (c .content))) ∷ [];
-          same = h .asks ∙ rw (going, leaf-plan z (c .a, 0) (c .way .top) (turns-in y (c .way .path)) (c .way .name) (c .content) (h .ready going .0 .content) ranges) (q .same z _);
+          same = h .asks ∙ rw (going, leaf-plan z (c .a, 0, []) (c .way .top) (turns-in y (c .way .path)) (c .way .name) (c .content) (h .ready going .0 .content) ranges) (q .same z _ []);
           entries = λ t. rw (pk, pv, pn);
           out = λ t o e. out-one z (c .way .name) _ o (linked-there z 0 (c .way .name) (trail (turns-in y (c .way .path)) 0 (c .way .top - 0)) (h .ready going .0 .linked)) e;
           noted = q .noted;

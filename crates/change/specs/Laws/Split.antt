@@ -36,8 +36,8 @@ use Rattle.walk.specs.Down.{Followed}
 use Rattle.walk.specs.Laws.Write.{name-below}
 use Rattle.walk.specs.Take.{NodeTaken}
 use Rattle.walk.specs.Search.{TakenFor}
-use Rattle.change.specs.Laws.Mute.{Mute, walked-mute, take-for-mute, take-node-mute}
-use Rattle.change.specs.Mute.{stands}
+use Rattle.walk.specs.Laws.Mute.{Mute, walked-mute, take-for-mute, take-node-mute}
+use Rattle.walk.specs.Walk.{stands}
 use Rattle.change.specs.Laws.Parts.{extra-level, Leveled, left-level, right-level}
 use Rattle.change.specs.Rise.{Content, Full, OfLevel, Under, in-parent, Fitting, BothWritten, split-plan}
 use Rattle.change.specs.Laws.Rise.{of-level-value, under-name, level-room, stopped-raised}

@@ -14,6 +14,7 @@ use Rattle.operations.specs.Object.{Ans, Writes}
 use Rattle.operations.specs.Slot.{TreeSizes}
 use Rattle.operations.specs.Path.{TreePlan}
 use Rattle.operations.specs.Change.{Go, up}
+use Rattle.walk.specs.Laws.Lookup.{ended-nothing}
 use Rattle.walk.specs.declared.down.Turn.{Turn}
 use Rattle.change.specs.declared.leaf.Changed.{Changed}
 use Rattle.change.specs.declared.rise.Risen.{Risen}
@@ -25,7 +26,7 @@ use Rattle.client.specs.Record.{in-store}
 use Rattle.client.specs.Lent.{used-in}
 use Rattle.walk.specs.Entries.{branch-of}
 use Rattle.walk.specs.Walk.{goes, walked}
-use Rattle.change.specs.Mute.{stands}
+use Rattle.walk.specs.Walk.{stands}
 use Rattle.walk.specs.Ask.{OwnGood, Holds-writes, Noted}
 use Rattle.walk.specs.Down.{low, branches, trail, blank, Followed, All, Link, Linked, turns-in, Path-in-part}
 use Rattle.walk.specs.Laws.Seek.{getD-any}
@@ -211,7 +212,7 @@ module _ (z : TreeSizes) (b x u : List ℕ) (c : Changed) (on : Bool) (po : on �
   carry-stops nb g =
       let halts : goes (c .stop) ≡ false = sym po ∙ not-true on nb in
       record {
-        operated = λ p u₀ h. walks-operated z (held b) x u₀ p (c .stop) u g (record { same = h .asks ∙ rw halts; noted = h .noted });
+        operated = λ p u₀ h. walks-operated z (held b) x u₀ p (c .stop) u g (record { same = h .asks ∙ rw halts (sym (ended-nothing (c .stop) (used-in u))); noted = h .noted });
       }
 
   module _ (nb : not on ≡ false) where
@@ -226,7 +227,7 @@ module _ (z : TreeSizes) (b x u : List ℕ) (c : Changed) (on : Bool) (po : on �
     carry-ready path h e = rw e (h going .0)
 
     pub carry-goes : (path : List Turn) (s : Stop) (x′ u′ : List ℕ) → path ≡ turns-in b (c .way .path)
-        → Operated z (held b) x u (rise-plan z (c .a, 0) (c .way .top) path (c .way .name) (c .content)) s x′ u′ → Carries z b x u c s x′ u′
+        → Operated z (held b) x u (rise-plan z (c .a, 0, []) (c .way .top) path (c .way .name) (c .content)) s x′ u′ → Carries z b x u c s x′ u′
     carry-goes path s x′ u′ e q′ = let q : Operated z (held b) x u (risen z b c) s x′ u′ = rw e at q′ in record {
       operated = λ p u₀ h. record {
         writes = q .writes;

@@ -31,7 +31,7 @@ use Rattle.walk.specs.declared.operation.Update.the-variants.{Insert, Delete, M
 use Rattle.walk.specs.declared.operation.Operation.the-variants.{Write}
 use Rattle.walk.specs.Operation.{operation-of}
 use Rattle.walk.specs.Laws.Operation.{update-number, writes-number}
-use Rattle.change.specs.Mute.{stands}
+use Rattle.walk.specs.Walk.{stands}
 use Rattle.change.specs.declared.leaf.Changed.{Changed}
 use Rattle.change.specs.Operated.{Operated, Written}
 use Rattle.client.specs.Sets.{held}
@@ -69,12 +69,12 @@ by-reason-stop r a w = go (eqb r 0) (eqb r 10)
     go false true = refl
     go false false = refl
 
--- only without a reason is it answered, with these writes
-by-reason-writes : (r : ℕ) (a b : Ans) (w v : Writes) → by-reason r a w ≡ answers b v → w ≡ v
-by-reason-writes r a b w v = go (eqb r 0) (eqb r 10)
+-- only without a reason is it answered, with these writes and pairs
+by-reason-same : (r : ℕ) (a b : Ans) (w v : Writes) → by-reason r a w ≡ answers b v → (w ≡ v) × (a ≡ b)
+by-reason-same r a b w v = go (eqb r 0) (eqb r 10)
   where
-    go : (p q : Bool) → cond p (answers a w) (cond q refused (aborted r)) ≡ answers b v → w ≡ v
-    go true q e = cc
+    go : (p q : Bool) → cond p (answers a w) (cond q refused (aborted r)) ≡ answers b v → (w ≡ v) × (a ≡ b)
+    go true q e = (cc, cc)
     go false true e = let z : _≡_ {A = ℕ} 0 1 = cc in absurd (omega arith)
     go false false e = let z : _≡_ {A = ℕ} 0 1 = cc in absurd (omega arith)
 
@@ -89,7 +89,7 @@ stand (Answers c d) n = refl
 
 -- ---- how the work step ends, by the walk: l are the entries of what it writes
 module _ (z : TreeSizes) (m : ClientWord → ℕ) (eight : z .servers ≤ 8) (wait : Waiting m) (u : List ℕ) (none : getD u 0 0 ≡ 0) (s : Stop) (l : List Entry) (u′ : List ℕ) (ku : length u′ ≡ length u) (o : Written z m u (reading z (waiting m)) s l u′) where
-  tells : tell z m (R z m (wait .reads) .how) (R z m (wait .reads) .used) ≡ ended s (used-in u′) (o .writes)
+  tells : tell z m (R z m (wait .reads) .how) (R z m (wait .reads) .used) ≡ ended s (used-in u′) (o .writes) []
   tells = sym (run-is z m (wait .reads)) ∙ ap (walked z m (reading z (waiting m))) (sym (nothing-used m u none)) ∙ o .same
 
   used-are : used-in u′ ≡ C.walked z m .used
@@ -98,13 +98,13 @@ module _ (z : TreeSizes) (m : ClientWord → ℕ) (eight : z .servers ≤ 8) (wa
   in-use : InUse u′
   in-use = noted-in-use m u′ (o .noted)
 
-  enters-as : (t : Stop) → t ≡ stop-of (worked z m) → ((a : Ans) (w : Writes) → worked z m ≡ answers a w → l ≡ entered w) → Enters z m t l u u′
-  enters-as t e f = record { stopped = record { stop = e; used = used-are; in-use = in-use }; filled = is-filled u (C.walked z m .used) u′ in-use used-are ku; own = f }
+  enters-as : (t : Stop) → t ≡ stop-of (worked z m) → ((a : Ans) (w : Writes) → worked z m ≡ answers a w → (l ≡ entered w) × (a .2 ≡ [])) → Enters z m t l u u′
+  enters-as t e f = record { stopped = record { stop = e; used = used-are; in-use = in-use }; filled = is-filled u (C.walked z m .used) u′ in-use used-are ku; own = λ a w p. f a w p .0; unlisted = λ a w p. f a w p .1 }
 
   module _ (no : is-answer s ≡ false) where
     stop-is : s ≡ stop-of (worked z m)
     unfolding worked
-    stop-is = stops z m s (R z m (wait .reads) .used) (used-in u′) (o .writes) (R z m (wait .reads) .how) tells no
+    stop-is = stops z m s (R z m (wait .reads) .used) (used-in u′) (o .writes) [] (R z m (wait .reads) .how) tells no
 
     pub unanswered : {A : Type 0} (a : Ans) (w : Writes) → worked z m ≡ answers a w → A
     unanswered a w p = never s (Answers (a .0) (a .1)) (stop-is ∙ rw p) no refl
@@ -113,8 +113,8 @@ module _ (z : TreeSizes) (m : ClientWord → ℕ) (eight : z .servers ≤ 8) (wa
     enters-stops = enters-as s stop-is (λ a w p. unanswered a w p)
 
   module _ (yes-answer : is-answer s ≡ true) where
-    given-is : Given z m (R z m (wait .reads) .how) s (o .writes)
-    given-is = given z m s (R z m (wait .reads) .used) (used-in u′) (o .writes) (R z m (wait .reads) .how) tells yes-answer
+    given-is : Given z m (R z m (wait .reads) .how) s (o .writes) []
+    given-is = given z m s (R z m (wait .reads) .used) (used-in u′) (o .writes) [] (R z m (wait .reads) .how) tells yes-answer
 
     worked-is : worked z m ≡ by-reason (last-reason m (entered (o .writes))) (given-is .answer) (o .writes)
     unfolding worked
@@ -127,7 +127,7 @@ module _ (z : TreeSizes) (m : ClientWord → ℕ) (eight : z .servers ≤ 8) (wa
     enters-judged r pr t e =
         let q : worked z m ≡ by-reason r (given-is .answer) (o .writes) = worked-is ∙ ap (λ (k : ℕ). by-reason k (given-is .answer) (o .writes)) (sym (pr ∙ ap (last-reason m) listed-are)) in
         enters-as t (e ∙ ap (λ (k : Stop). judged k r) (given-is .stop) ∙ by-reason-stop r (given-is .answer) (o .writes) ∙ sym (ap stop-of q))
-        (λ a w p. listed-are ∙ ap entered (by-reason-writes r (given-is .answer) a (o .writes) w (sym q ∙ p)))
+        (λ a w p. let same = by-reason-same r (given-is .answer) a (o .writes) w (sym q ∙ p) in (listed-are ∙ ap entered (same .0), ap (λ (b : Ans). b .2) (sym (same .1)) ∙ given-is .pairs))
 
 -- ---- the ways out of the work step
 module _ (z : TreeSizes) (m : ClientWord → ℕ) (eight : z .servers ≤ 8) (wait : Waiting m) (x u : List ℕ) (ready : Ready x u) (s : Stop) (x′ u′ : List ℕ) (kx : length x′ ≡ length x) (ku : length u′ ≡ length u) (o : Operated z m x u (reading z (waiting m)) s x′ u′) (b : Bool) (pb : b ≡ is-answer s) where

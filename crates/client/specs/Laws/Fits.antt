@@ -3,7 +3,7 @@ use mathlib.Core.Path.{_≡_, refl, sym, _∙_}
 use mathlib.Core.Bool.{Bool, true, false, cond, _&&_, _||_, not}
 use Prim.Native.Nat.{ℕ, _-_, _*_, _%_, _^_, _≤_, _<_}
 use native.Mathlib.Omega.{arith}
-use borrow.Author.Tests.{eq-eqb, ne-eqb, le-leb, lt-leb, lt-ltb, le-ltb, not-true, not-false}
+use borrow.Author.Tests.{eq-eqb, ne-eqb, le-leb, lt-leb, lt-ltb, le-ltb, ltb-true, ltb-false, not-true, not-false}
 use lib.Dec.{eqb, leb, ltb}
 use lib.Pow.{pow-lt}
 use Rattle.base.specs.Test.{and-both}
@@ -20,7 +20,7 @@ use Rattle.client.specs.Sets.{count, number-at, record-at, find}
 use Rattle.client.specs.Items.{all-below, has, inner, inner-before-after}
 use Rattle.client.specs.Participants.{at-home}
 use Rattle.client.specs.Drops.{version-of}
-use Rattle.client.specs.Fits.{said-count, kind-fits, is-read, young, stored-at, read-fits, version-fits, servers-fit, number-fits, numbers-fit, op-fits, fit-to-work, fit-to-commit, fit-to-prepare, fit-to-abort, fit-to-unlock, stored-record-fits, write-fits, writes-fit, flag-renewal-fits, inner-renewal-fits, renewal-fits, fit-to-renew, fit-to-apply}
+use Rattle.client.specs.Fits.{said-count, kind-fits, is-read, young, stored-at, read-fits, version-fits, servers-fit, number-fits, numbers-fit, migrate-fits, list-fits, op-fits, fit-to-work, fit-to-commit, fit-to-prepare, fit-to-abort, fit-to-unlock, stored-record-fits, write-fits, writes-fit, flag-renewal-fits, inner-renewal-fits, renewal-fits, fit-to-renew, fit-to-apply}
 
 and-more : (a b : Bool) → ((a && true) && b) ≡ (a && b)
 and-more true b = refl
@@ -166,25 +166,36 @@ module _ (m : ClientWord → ℕ) where
       renewal-of-inner b h p = p ∙ rw (← e, le-ltb _ _ h)
 
 -- ---- what a rule reads, one test after another
-pub op-there : (k l : ℕ) (m : ClientWord → ℕ) (q key v : ℕ) (b : Bool) → q ≡ m (field 1) → q ≡ 6 → key ≡ m (field 2) → b ≡ in-store (sizes k l) key → not b ≡ false
-    → v ≡ m (field 4) → ltb v k ≡ op-fits (sizes k l) m
-unfolding op-fits
-op-there k l m q key v b e d a p t f = rw (← e, d, ← a, ← p, not-false b t, ← f)
+pub migrates-there : (k l : ℕ) (m : ClientWord → ℕ) (key v : ℕ) (b : Bool) → key ≡ m (field 2) → b ≡ in-store (sizes k l) key → not b ≡ false → v ≡ m (field 4) → ltb v k ≡ migrate-fits (sizes k l) m
+migrates-there k l m key v b a p t f = rw (← a, ← p, not-false b t, ← f)
+
+module _ (m : ClientWord → ℕ) (v : ℕ) (e : v ≡ m (field 3)) where
+  pub lists-none : v < 1 → false ≡ list-fits m
+  lists-none h = rw (← e, lt-leb 1 v h)
+
+  pub lists-some : 1 ≤ v → leb v 32 ≡ list-fits m
+  lists-some h = rw (← e, le-leb 1 v h)
 
 module _ (z : TreeSizes) (m : ClientWord → ℕ) where
+  pub migrates-astray : (key : ℕ) (b : Bool) → key ≡ m (field 2) → b ≡ in-store z key → not b ≡ true → false ≡ migrate-fits z m
+  migrates-astray key b a p t = rw (← a, ← p, not-true b t)
+
   module _ (q : ℕ) (e : q ≡ m (field 1)) where
-    pub op-other : q ≤ 6 → (q ≡ 6 → ⊥) → true ≡ op-fits z m
+    pub op-migrates : (r : Bool) → q ≡ 6 → r ≡ migrate-fits z m → r ≡ op-fits z m
     unfolding op-fits
-    op-other l d = rw (← e, le-leb _ _ l, ne-eqb _ _ d)
+    op-migrates r d p = p ∙ rw (← e, d)
 
-    pub op-unknown : 6 < q → false ≡ op-fits z m
+    pub op-lists : (r : Bool) → q ≡ 7 → r ≡ list-fits m → r ≡ op-fits z m
     unfolding op-fits
-    op-unknown l = rw (← e, lt-leb _ _ l)
+    op-lists r d p = p ∙ rw (← e, d)
 
-    module _ (key : ℕ) (b : Bool) (d : q ≡ 6) (a : key ≡ m (field 2)) (p : b ≡ in-store z key) where
-      pub op-astray : not b ≡ true → false ≡ op-fits z m
-      unfolding op-fits
-      op-astray t = rw (← e, d, ← a, ← p, not-true b t)
+    pub op-others : (q ≡ 6 → ⊥) → (q ≡ 7 → ⊥) → ltb q 7 ≡ op-fits z m
+    unfolding op-fits
+    op-others d f = go (ltb q 7) refl
+      where
+        go : (b : Bool) → ltb q 7 ≡ b → ltb q 7 ≡ op-fits z m
+        go true t = let l : q < 7 = ltb-true q 7 t in let k : q ≤ 7 = omega arith in rw (t, ← e, le-leb q 7 k, ne-eqb q 6 d, ne-eqb q 7 f)
+        go false t = let l : 7 ≤ q = ltb-false q 7 t in let k : 7 < q = omega (arith, f) in rw (t, ← e, lt-leb q 7 k)
 
   pub number-asked : (s : Set) (i x : ℕ) (b : Bool) → x ≡ number-at m s i → b ≡ number-in-store z x → b ≡ number-fits z m s i
   unfolding number-fits
@@ -381,6 +392,8 @@ pub ruleset rule-exits = (
   too-by-renewal,
 )
 
+pub ruleset op-exits = (migrates-there, migrates-astray, lists-none, lists-some, op-migrates, op-lists, op-others)
+
 pub ruleset fit-exits = (
   servers-asked,
   reads-counted,
@@ -408,10 +421,6 @@ pub ruleset fit-exits = (
   inner-renewed,
   renewal-of-flag,
   renewal-of-inner,
-  op-other,
-  op-unknown,
-  op-astray,
-  op-there,
   too-many,
   numbers-asked,
 )

@@ -22,7 +22,7 @@ use Rattle.client.specs.Fits.{op-fits}
 -- the greatest value of each field: phase; operation's number, key, value, server; four sets of servers; lost; counts; metadata copied
 abbrev pub bounds : ℕ → List ℕ
 bounds every =
-    3 ∷ 6 ∷ 18446744073709551615 ∷ 18446744073709551615 ∷ 18446744073709551615 ∷ every ∷ every ∷ every ∷ every ∷ 1 ∷ 96 ∷ 48 ∷ 1 ∷ []
+    3 ∷ 7 ∷ 18446744073709551615 ∷ 18446744073709551615 ∷ 18446744073709551615 ∷ every ∷ every ∷ every ∷ every ∷ 1 ∷ 96 ∷ 48 ∷ 1 ∷ []
 
 module _ (m : ClientWord → ℕ) where
   -- every: the set of all servers

@@ -19,7 +19,7 @@ use Rattle.operations.specs.Slot.{TreeSizes, Allowed}
 use Rattle.operations.specs.Laws.Seen.{Hint, hint-of, plan-with}
 use Rattle.operations.specs.Laws.Asked.{written-asked}
 use Rattle.operations.specs.Laws.Storable.{All-storable}
-use Rattle.operations.specs.Laws.Storing.{writes-storable}
+use Rattle.operations.specs.Laws.Storing.{Form, writes-storable, answer-formed}
 use Rattle.protocol.specs.Laws.Hints.{Fits, objects, walk-hinted}
 use Rattle.client.specs.Layout.{ClientWord, client-words, item, vector-word, phase, op-number, participants, prepared, applied, reads-count, writes-count, meta-copied, meta-root, meta-version}
 use Rattle.client.specs.Commit.{is-at}
@@ -171,6 +171,12 @@ module _ (k j slots : ℕ) (al : Allowed (sizes k j slots)) (u : ClientWord → 
   pub storable : All-storable Any w
   storable =
       writes-storable Any z (λ s i _ _. tt) (waiting u) (op-names Any z (λ n _. tt) u fit) (have z u)
+      (have-storable k j slots al u f copies fit y shown Any (λ o v _. points-any o (source u (number o) .node))) a w (ran .0)
+
+  -- ---- the answer has its operation's form
+  pub formed : Form (waiting u) a
+  formed =
+      answer-formed Any z (λ s i _ _. tt) (waiting u) (op-names Any z (λ n _. tt) u fit) (have z u)
       (have-storable k j slots al u f copies fit y shown Any (λ o v _. points-any o (source u (number o) .node))) a w (ran .0)
 
   -- what holds of everything that the plan asks for holds of what is written

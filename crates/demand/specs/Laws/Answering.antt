@@ -26,7 +26,11 @@ use Rattle.demand.specs.Laws.Store.{sizes}
 use Rattle.demand.specs.Laws.Shows.{phase-of, T, told, Client-shown, Related}
 use Rattle.demand.specs.Laws.Kept.{away, client-related}
 use Rattle.demand.specs.Laws.Turns.{Turns}
-use Rattle.demand.specs.Laws.Answered.{Answers, answered-as, qs, hint, machine-walks, v₃, stored, none-waits, slot-now, copies-now}
+use Rattle.demand.specs.Laws.Answered.{Answers, answered-as, qs, hint, machine-walks, v₃, stored, none-waits, slot-now, copies-now, formed}
+use Rattle.demand.specs.Ledger.{seen as seen-by}
+use Rattle.demand.specs.Laws.Seen.{seen-formed}
+use Rattle.steps.specs.Output.{with-pairs}
+use Rattle.operations.specs.Map.{Op}
 use Rattle.protocol.specs.Machine as P
 use Rattle.protocol.specs.Moves as Mv
 use Rattle.protocol.specs.Laws.Work as W
@@ -96,6 +100,12 @@ module _ (k j slots : ℕ) (al : Allowed (sizes k j slots)) (m : Address → ℕ
           let g = own .says .given-as waits in
           let l = own .says .said-as (omega (arith, now), omega (arith, now)) in
           λ t. record { op = g t; ans = a } ∷ l t
+
+  -- what the ledger takes down is the answer
+  pub answer-seen : (lent : List ℕ) → seen-by (L .given (c .0)) (a .0) (a .1) (with-pairs (a .2) lent) ≡ a
+  answer-seen lent =
+      subst (λ (op : Op). seen-by op (a .0) (a .1) (with-pairs (a .2) lent) ≡ a) (sym (own .says .given-as waits))
+      (seen-formed (waiting u) a lent (formed k j slots al u fit y (own .slot) (M .copy c) (own .copies) a w A))
 
   pub answer-turns : Turns k j slots m (changed whole m (over (client (c .0)) ps)) (notes-answer L (c .0) a) M c
   answer-turns = record {

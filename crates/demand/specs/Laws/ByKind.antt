@@ -1,4 +1,6 @@
 -- EVERY STEP, of whatever kind, refused ones included, leads from a good state to a good one.
+use Rattle.operations.specs.Object.{Ans}
+use Rattle.steps.specs.Output.{with-pairs}
 use mathlib.Core.Path.{_≡_, refl, ap, sym, _∙_, subst}
 use mathlib.Core.Bool.{Bool, true, false, cond, _&&_, _||_, not, false≢true}
 use mathlib.Core.List.{List, [], map}
@@ -32,14 +34,14 @@ use Rattle.steps.specs.Passed.{Passed}
 use Rattle.steps.specs.Laws.Passed.{passed}
 use Rattle.steps.specs.Judge.{abort-fits, unlock-fits}
 use Rattle.steps.specs.Steps.{Did, did, refuse, if-fit, by-finding}
-use Rattle.demand.specs.Ledger.{Ledger, clears, notes-op, notes-decision, note, note-done, note-decided}
+use Rattle.demand.specs.Ledger.{Ledger, clears, notes-op, notes-decision, note, note-done, note-decided, notes-answer}
 use Rattle.demand.specs.Laws.Store.{sizes}
 use Rattle.demand.specs.Laws.Shows.{T, Related}
 use Rattle.demand.specs.Laws.Kept.{away}
 use Rattle.demand.specs.Laws.Forgotten.{lost-kept}
 use Rattle.demand.specs.Laws.InRange.{loss-fits}
 use Rattle.demand.specs.Laws.Turns.{one-of, store, Good, still-fits, Explained, Turns, turns-good, abort-turns}
-use Rattle.demand.specs.Laws.Answering.{answer-turns}
+use Rattle.demand.specs.Laws.Answering.{answer-turns, answer-seen}
 use Rattle.demand.specs.Laws.Fetches.{fetch-turns}
 use Rattle.demand.specs.Laws.Undecided.{either, undecided-word, given-legal, begin-turns, give-turns, forget-turns, commit-turns, end-turns, lost-turns}
 use Rattle.demand.specs.Laws.Settled.{unfinished, due-now}
@@ -49,13 +51,13 @@ use Rattle.steps.specs.Uses as U
 use Rattle.steps.specs.Steps as S
 use Rattle.demand.specs.Laws.Decides as D
 
-module _ (k j slots : ℕ) (al : Allowed (sizes k j slots)) (few : suc j ≤ 16) (m : Address → ℕ) (L : Ledger) (M : P.Machine (T k j slots)) (G : Good k j slots m L M) (n : Step) where
+module _ (k j slots : ℕ) (al : Allowed (sizes k j slots)) (few : suc j ≤ 16) (m : Address → ℕ) (L : Ledger) (M : P.Machine (T k j slots)) (G : Good k j slots m L M) (n : Step) (lent : List ℕ) where
   abbrev z : Sizes
   z = store k j slots
 
   -- the state after what a step did
   abbrev pub After : Did → Type 0
-  After d = Explained k j slots (changed whole m (d .stores)) (note L n (d .outcome))
+  After d = Explained k j slots (changed whole m (d .stores)) (note L n (with-pairs (d .pairs) lent) (d .outcome))
 
   -- "refused steps do nothing"
   pub refused-after : (x : ℕ) → After (refuse x)
@@ -100,7 +102,7 @@ module _ (k j slots : ℕ) (al : Allowed (sizes k j slots)) (few : suc j ≤ 16)
     unfolding S.begin state-fits
     begin-after e f = subst (Explained k j slots _) (sym (done-is 0 e)) (turned (begin-turns k j slots al few m L M c R (eqb-true (u phase) 0 f)))
 
-    give-after : n .kind ≡ 1 → n .key < two-to-64 → (1 ≤ n .op) × (n .op ≤ 6) → (n .op ≡ 6 → n .server < suc k) → state-fits u (n .server) Give ≡ true → After (S.give z m (n .client) n)
+    give-after : n .kind ≡ 1 → n .key < two-to-64 → (1 ≤ n .op) × (n .op ≤ 7) → (n .op ≡ 6 → n .server < suc k) → state-fits u (n .server) Give ≡ true → After (S.give z m (n .client) n)
     unfolding S.give state-fits
     give-after e w o q f =
         let open-now = eqb-true (u phase) 1 (and-both (eqb (u phase) 1) (eqb (u op-number) 0) f .0) in
@@ -126,9 +128,10 @@ module _ (k j slots : ℕ) (al : Allowed (sizes k j slots)) (few : suc j ≤ 16)
 
         go : (w : Worked) → worked (sizes k j slots) u ≡ w → After (S.after-walk z m (n .client) us w)
         go refused e = refused-after 10
-        go (fetches a) e = turned (fetch-turns k j slots al few m L M c R fit open-now n refl a e)
+        go (fetches a) e = turned (fetch-turns k j slots al few m L M c R fit open-now n refl lent a e)
         go (aborted y) e = abort-after y us (inl open-now)
-        go (answers a w) e = turned (answer-turns k j slots al m L M c R fit open-now waits a w e)
+        go (answers a w) e = subst (λ (b : Ans). Explained k j slots (changed whole m (S.after-walk z m (n .client) us (answers a w) .stores)) (notes-answer L (n .client) b)) (sym (answer-seen k j slots al m L M c R fit open-now waits a w e lent))
+            (turned (answer-turns k j slots al m L M c R fit open-now waits a w e))
 
     -- ---- 3 commit
     commit-after : n .kind ≡ 3 → state-fits u (n .server) Commit ≡ true → After (S.commit z m (n .client))
@@ -190,8 +193,8 @@ module _ (k j slots : ℕ) (al : Allowed (sizes k j slots)) (few : suc j ≤ 16)
             let ps = S.deciding-stores z m (n .client) (n .server) in
             let m₂ = changed whole m ps in
             let done = D.only-applied k j slots al few m L M c G fit s now new fine all (eqb-true (u participants) (putBit true 0 (n .server)) one) in
-            let ends : note L n (S.applied-at z m₂ (n .client) (n .server) .outcome) ≡ notes-decision L (n .client)
-            = ap (note L n) (applied-outcome z m₂ (n .client) (n .server) ∙ cond-true Committed (Applied (n .server)) done) ∙ decided-is 4 e in
+            let ends : note L n (with-pairs [] lent) (S.applied-at z m₂ (n .client) (n .server) .outcome) ≡ notes-decision L (n .client)
+            = ap (note L n (with-pairs [] lent)) (applied-outcome z m₂ (n .client) (n .server) ∙ cond-true Committed (Applied (n .server)) done) ∙ decided-is 4 e in
             coe 1 0 (t. Explained k j slots (changed-append whole ps (S.applied-at z m₂ (n .client) (n .server) .stores) m t) (ends t))
             (apply-explained k j slots al few m₂ (notes-decision L (n .client)) (D.M₂ k j slots al few m L M c G fit s now new fine all) c
             (D.decide-good k j slots al few m L M c G fit s now new fine all) s
@@ -219,17 +222,20 @@ module _ (k j slots : ℕ) (al : Allowed (sizes k j slots)) (few : suc j ≤ 16)
       unfolding S.apply
       apply-after e f =
           let d = due-now u (n .server) f in
-          if-after (S.apply-fits z m (n .client) (n .server)) _
+          if-after (S.apply-fits z m (n .client) (n .server)) (S.applied-at z m (n .client) (n .server))
           (λ q. subst (Explained k j slots _) (sym (applied-is e))
           (apply-explained k j slots al few m L M c G s (d .0) (d .2)
           (λ all. fit-young (sizes k j slots) u (n .server)
           (subst (λ (b : Bool). fit-to-apply (sizes k j slots) u (n .server) b ≡ true) all
           (and-both (fit-to-apply (sizes k j slots) u (n .server) (S.all-applied z m (n .client) (n .server))) (unlock-fits z m (n .client) (n .server)) q .0)))))
         where
-          applied-is : n .kind ≡ 5 → note L n (S.applied-at z m (n .client) (n .server) .outcome) ≡ L
-          applied-is e = ap (note L n) (applied-outcome z m (n .client) (n .server)) ∙ go (S.all-applied z m (n .client) (n .server))
+          out : List ℕ
+          out = with-pairs (S.applied-at z m (n .client) (n .server) .pairs) lent
+
+          applied-is : n .kind ≡ 5 → note L n out (S.applied-at z m (n .client) (n .server) .outcome) ≡ L
+          applied-is e = ap (note L n out) (applied-outcome z m (n .client) (n .server)) ∙ go (S.all-applied z m (n .client) (n .server))
             where
-              go : (b : Bool) → note L n (cond b Committed (Applied (n .server))) ≡ L
+              go : (b : Bool) → note L n out (cond b Committed (Applied (n .server))) ≡ L
               go true = decided-is 5 e
               go false = refl
 
@@ -251,9 +257,10 @@ module _ (k j slots : ℕ) (al : Allowed (sizes k j slots)) (few : suc j ≤ 16)
         go (suc (suc (suc (suc (suc (suc (suc (suc x)))))))) e l f = absurd (omega arith)
 
   -- THE STEP of a client whose part is in range, as of every client that steps lead to (`ranges`)
-  pub step-after : n .key < two-to-64 → (n .client < suc j → client-fits (sizes k j slots) (client-of m (n .client)) ≡ true) → After (S.step z n m)
-  unfolding S.step
-  step-after w fit =
+  pub step-after : (room : ℕ) → n .key < two-to-64 → (n .client < suc j → client-fits (sizes k j slots) (client-of m (n .client)) ≡ true) → After (S.step z n room m)
+  unfolding S.step S.by-rule
+  step-after room w fit =
+      one-of After (S.lacks-room z n room m) _ _ (λ _. refused-after 12) (λ _.
       one-of After (eqb (refusal z n m) 0) _ _
       (λ q. let p = passed z n m (eqb-true (refusal z n m) 0 q) in kind-after (p .known-client) (fit (p .known-client)) p w)
-      (λ _. refused-after (refusal z n m))
+      (λ _. refused-after (refusal z n m)))

@@ -1,6 +1,6 @@
 -- APPLIES ONE AFTER ANOTHER: each is refused or applied; they note nothing; and what is not due any more stays so.
 use mathlib.Core.Path.{_≡_, refl, ap, sym, _∙_, subst}
-use mathlib.Core.Bool.{Bool, true, false, cond, _&&_, _||_, not}
+use mathlib.Core.Bool.{Bool, true, false, cond, _&&_, _||_, not, true≢false}
 use mathlib.Core.List.{List, [], _∷_, _++_}
 use mathlib.Core.Logic.{_⊎_, inl, inr}
 use Prim.Native.Nat.{ℕ, _<_}
@@ -26,7 +26,7 @@ use Rattle.steps.specs.declared.outcome.Outcome.the-variants.{Refused, Applied,
 use Rattle.steps.specs.Whole.{Address, whole}
 use Rattle.steps.specs.Laws.Stores.{client-of}
 use Rattle.steps.specs.Refusal.{first, state-fits, kind-of, refusal}
-use Rattle.steps.specs.Steps.{Did, did, refuse, if-fit, in-client, applying, all-applied, applied-at, apply-fits, apply, by-kind, step}
+use Rattle.steps.specs.Steps.{Did, did, refuse, if-fit, in-client, applying, all-applied, applied-at, apply-fits, apply, by-kind, step, by-rule, lacks-room}
 use Rattle.steps.specs.Run.{after}
 use Rattle.steps.specs.Taken.{Taken, steps-of, Leads-by, Leads}
 use Rattle.demand.specs.Ledger.{Ledger, notes-decision, note, ledger-from}
@@ -114,19 +114,19 @@ module _ (z : Sizes) (m : Address → ℕ) (n : Step) (five : n .kind ≡ 5) whe
   unfolding apply
   judged-is = ap (λ (x : Kind). by-kind z m (n .client) n x) kind-is
 
-  refused-or : (P : Did → Type 0) → ((x : ℕ) → P (refuse x)) → P done → P (step z n m)
-  unfolding step
+  refused-or : (P : Did → Type 0) → ((x : ℕ) → P (refuse x)) → P done → P (by-rule z n m)
+  unfolding by-rule
   refused-or P no-step yes-step =
       one-of P (eqb (refusal z n m) 0) _ _
       (λ _. subst P (sym judged-is) (one-of P (apply-fits z m (n .client) (n .server)) _ _ (λ _. yes-step) (λ _. no-step 10)))
       (λ _. no-step (refusal z n m))
 
   -- it notes nothing
-  pub apply-notes : (L : Ledger) → note L n (step z n m .outcome) ≡ L
-  apply-notes L = refused-or (λ (d : Did). note L n (d .outcome) ≡ L) (λ x. refl)
-      (ap (note L n) (applied-outcome z m (n .client) (n .server)) ∙ go (all-applied z m (n .client) (n .server)))
+  pub apply-notes : (L : Ledger) (out : List ℕ) → note L n out (by-rule z n m .outcome) ≡ L
+  apply-notes L out = refused-or (λ (d : Did). note L n out (d .outcome) ≡ L) (λ x. refl)
+      (ap (note L n out) (applied-outcome z m (n .client) (n .server)) ∙ go (all-applied z m (n .client) (n .server)))
     where
-      go : (b : Bool) → note L n (cond b Committed (Applied (n .server))) ≡ L
+      go : (b : Bool) → note L n out (cond b Committed (Applied (n .server))) ≡ L
       go true = ap (λ (y : ℕ). cond (eqb y 3 || eqb y 4) (notes-decision L (n .client)) L) five
       go false = refl
 
@@ -141,20 +141,20 @@ module _ (z : Sizes) (m : Address → ℕ) (n : Step) (five : n .kind ≡ 5) whe
     unfolding refusal first
     due-passes = rw (kind-is, fit, five, lt-leb (z .clients) (n .client) c, lt-leb (z .servers) (n .server) s)
 
-    step-is : step z n m ≡ judged
-    unfolding step
+    step-is : by-rule z n m ≡ judged
+    unfolding by-rule
     step-is =
         ap (λ (b : Bool). cond b (by-kind z m (n .client) n (kind-of (n .kind))) (refuse (refusal z n m))) (eq-eqb (refusal z n m) 0 due-passes)
         ∙ judged-is
 
-    pub due-applied : ¬ (step z n m .outcome ≡ Refused 10) → step z n m ≡ done
+    pub due-applied : ¬ (by-rule z n m .outcome ≡ Refused 10) → by-rule z n m ≡ done
     due-applied fine = step-is ∙ go (apply-fits z m (n .client) (n .server)) (λ e. fine (ap (λ (d : Did). d .outcome) step-is ∙ e))
       where
         go : (b : Bool) → ¬ (if-fit b done .outcome ≡ Refused 10) → if-fit b done ≡ done
         go true f = refl
         go false f = absurd (f refl)
 
-  pub apply-done : n .client < z .clients → n .server < z .servers → ¬ (step z n m .outcome ≡ Refused 10) → state-fits (client-of (after z m n) (n .client)) (n .server) Apply ≡ false
+  pub apply-done : n .client < z .clients → n .server < z .servers → ¬ (by-rule z n m .outcome ≡ Refused 10) → state-fits (client-of (after z m n) (n .client)) (n .server) Apply ≡ false
   apply-done c s fine = go (bool-cases (state-fits u (n .server) Apply))
     where
       go : (state-fits u (n .server) Apply ≡ true) ⊎ (state-fits u (n .server) Apply ≡ false) → state-fits (client-of (after z m n) (n .client)) (n .server) Apply ≡ false
@@ -163,23 +163,40 @@ module _ (z : Sizes) (m : Address → ℕ) (n : Step) (five : n .kind ≡ 5) whe
           (applied-own z m (n .client) (n .server) (n .server) (inr refl))
       go (inr f) = apply-stays (n .client) (n .server) f
 
+  -- an apply needs no room
+  pub apply-roomy : (room : ℕ) → step z n room m ≡ by-rule z n m
+  unfolding step lacks-room
+  apply-roomy room = ap (λ (b : Bool). cond b (refuse 12) (by-rule z n m)) (none (eqb (refusal z n m) 0) (eqb (n .kind) 2) _ (ap (λ (x : ℕ). eqb x 2) five))
+    where
+      none : (a b c : Bool) → b ≡ false → (a && (b && c)) ≡ false
+      none true false c e = refl
+      none false b c e = refl
+      none true true c e = absurd (true≢false e)
+
 -- ---- a list of applies
 abbrev pub Kind-5 : Step → Type 0
 Kind-5 k = k .kind ≡ 5
 
 module _ (z : Sizes) where
+  roomy : (t : Taken) (m : Address → ℕ) → t .step .kind ≡ 5 → step z (t .step) (t .room) m ≡ by-rule z (t .step) m
+  roomy t m five = apply-roomy z m (t .step) five (t .room)
+
+  rest : (t : Taken) (ts : List Taken) (m m′ : Address → ℕ) → Leads z m (t ∷ ts) m′ → t .step .kind ≡ 5 → Leads z (after z m (t .step)) ts m′
+  unfolding Leads-by
+  rest t ts m m′ p five = subst (λ (d : Did). Leads z (changed whole m (d .stores)) ts m′) (roomy t m five) (p .3)
+
   pub applies-note : (ts : List Taken) (m m′ : Address → ℕ) (L : Ledger) → Leads z m ts m′ → Every Kind-5 (steps-of ts) → ledger-from L ts ≡ L
   unfolding Leads-by Every ledger-from
   applies-note [] m m′ L p five = refl
   applies-note (t ∷ ts) m m′ L p five =
-      ap (λ (x : Ledger). ledger-from x ts) (ap (note L (t .step)) (p .1) ∙ apply-notes z m (t .step) (five .0) L)
-      ∙ applies-note ts (after z m (t .step)) m′ L (p .2) (five .1)
+      ap (λ (x : Ledger). ledger-from x ts) (ap (note L (t .step) (t .left)) (p .1 ∙ ap (λ (d : Did). d .outcome) (roomy t m (five .0))) ∙ apply-notes z m (t .step) (five .0) L (t .left))
+      ∙ applies-note ts (after z m (t .step)) m′ L (rest t ts m m′ p (five .0)) (five .1)
 
   applies-stay : (ts : List Taken) (m m′ : Address → ℕ) → Leads z m ts m′ → Every Kind-5 (steps-of ts) → (c s : ℕ) → state-fits (client-of m c) s Apply ≡ false → state-fits (client-of m′ c) s Apply ≡ false
   unfolding Leads-by Every
   applies-stay [] m m′ p five c s h = subst (λ (u : Address → ℕ). state-fits (client-of u c) s Apply ≡ false) (sym p) h
   applies-stay (t ∷ ts) m m′ p five c s h =
-      applies-stay ts (after z m (t .step)) m′ (p .2) (five .1) c s (apply-stays z m (t .step) (five .0) c s h)
+      applies-stay ts (after z m (t .step)) m′ (rest t ts m m′ p (five .0)) (five .1) c s (apply-stays z m (t .step) (five .0) c s h)
 
   -- what was taken is not due
   pub applies-done : (ts : List Taken) (m m′ : Address → ℕ) → Leads z m ts m′ → Every Kind-5 (steps-of ts) → Every (λ (t : Taken). ¬ (t .outcome ≡ Refused 10)) ts → (c s : ℕ) → c < z .clients → s < z .servers
@@ -187,9 +204,9 @@ module _ (z : Sizes) where
   unfolding Leads-by Every Some
   applies-done [] m m′ p five fine c s l r e = absurd e
   applies-done (t ∷ ts) m m′ p five fine c s l r (inl e) =
-      applies-stay ts (after z m (t .step)) m′ (p .2) (five .1) c s
+      applies-stay ts (after z m (t .step)) m′ (rest t ts m m′ p (five .0)) (five .1) c s
       (subst (λ (d : ℕ). state-fits (client-of (after z m (t .step)) d) s Apply ≡ false) (e .0)
       (subst (λ (x : ℕ). state-fits (client-of (after z m (t .step)) (t .step .client)) x Apply ≡ false) (e .1)
-      (apply-done z m (t .step) (five .0) (omega (arith, e .0)) (omega (arith, e .1)) (λ q. fine .0 (p .1 ∙ q)))))
+      (apply-done z m (t .step) (five .0) (omega (arith, e .0)) (omega (arith, e .1)) (λ q. fine .0 (p .1 ∙ ap (λ (d : Did). d .outcome) (roomy t m (five .0)) ∙ q)))))
   applies-done (t ∷ ts) m m′ p five fine c s l r (inr e) =
-      applies-done ts (after z m (t .step)) m′ (p .2) (five .1) (fine .1) c s l r e
+      applies-done ts (after z m (t .step)) m′ (rest t ts m m′ p (five .0)) (five .1) (fine .1) c s l r e

@@ -12,7 +12,7 @@ use Rattle.base.specs.Test.{ifd}
 use Rattle.base.specs.Laws.Test.{ifd-yes, ifd-no, ifd-all}
 use Rattle.plans.specs.Walk.{Every}
 use Rattle.operations.specs.Object.{Ans}
-use Rattle.operations.specs.Map.{Map, Op, insert, lookup, delete, next, previous, migrate, look, set-key, remove-key, said, map-after}
+use Rattle.operations.specs.Map.{Map, Op, insert, lookup, delete, next, previous, migrate, list, look, set-key, remove-key, said, map-after}
 use Rattle.demand.specs.Ledger.{Told, map-of, map-all, Right, Right-all}
 use Rattle.demand.specs.Ears.{op-writes, op-leaves, tx-writes, tx-leaves, up-to-writer, of-first, Together, Looks-up, Of-one, Both-ears}
 
@@ -92,6 +92,7 @@ op-rises (delete i) m h = del-rises i 0 m h
 op-rises (next i) m h = h
 op-rises (previous i) m h = h
 op-rises (migrate n s) m h = h
+op-rises (list i n) m h = h
 
 op-looks : (k : ℕ) (p : Op) (m : Map) → Rises 0 m → look k (map-after p m) ≡ cond (op-writes k p) (op-leaves p) (look k m)
 op-looks k (insert i v) m h =
@@ -102,6 +103,7 @@ op-looks k (delete i) m h =
 op-looks k (next i) m h = refl
 op-looks k (previous i) m h = refl
 op-looks k (migrate n s) m h = refl
+op-looks k (list i n) m h = refl
 
 -- ---- after a transaction, and after all
 tx-rises : (ts : List Told) (m : Map) → Rises 0 m → Rises 0 (map-of ts m)
@@ -134,11 +136,11 @@ module _ (k : ℕ) where
       go false h = h
 
 -- ---- what is right of all is right of each
-right-at : (later : List Told) (t : Told) (earlier : List Told) (m : Map) → Right (later ++ t ∷ earlier) m → Right (t ∷ earlier) m
+pub right-at : (later : List Told) (t : Told) (earlier : List Told) (m : Map) → Right (later ++ t ∷ earlier) m → Right (t ∷ earlier) m
 right-at [] t earlier m h = h
 right-at (u ∷ later) t earlier m h = right-at later t earlier m (h .0)
 
-right-in : (after : List (List Told)) (ts : List Told) (before : List (List Told)) → Right-all (after ++ ts ∷ before) → Right ts (map-all before)
+pub right-in : (after : List (List Told)) (ts : List Told) (before : List (List Told)) → Right-all (after ++ ts ∷ before) → Right ts (map-all before)
 right-in [] ts before h = h .1
 right-in (us ∷ after) ts before h = right-in after ts before (h .0)
 

@@ -1,6 +1,6 @@
 -- Document 01's example of a schedule, run by the definitions: sizes 1 4 1; a transaction that inserts key 5 with value 70.
-use mathlib.Core.Path.{_≡_, refl}
-use mathlib.Core.Bool.{Bool, true, _&&_}
+use mathlib.Core.Path.{_≡_, refl, ap, sym}
+use mathlib.Core.Bool.{Bool, true, _&&_, false, false≢true}
 use mathlib.Core.List.{List, [], _∷_, _++_}
 use mathlib.Core.Logic.{inl}
 use Prim.Native.Nat.{ℕ, _<_}
@@ -60,18 +60,20 @@ use Rattle.steps.specs.Judge as Judge
 use Rattle.steps.specs.Refusal as Refusal
 use Rattle.steps.specs.Run as Run
 use Rattle.steps.specs.Steps as Steps
+use Rattle.steps.specs.Output as Output
+use Rattle.operations.specs.Entry.{Entries}
 use Rattle.steps.specs.Uses as Uses
 use Rattle.steps.specs.Whole.{Address, whole}
 
 -- ---- SCHEDULES THAT COMPUTE
--- the steps with the outcomes to which an engine brings them, and the memory after them
+-- the steps with the outcomes to which an engine brings them, lent no output, and the memory after them
 abbrev pub taken-by : Engine → Sizes → (Address → ℕ) → List Step → List Taken
 taken-by f z m [] = []
-taken-by f z m (k ∷ ks) = came-to k (f z k m .outcome) ∷ taken-by f z (Space.changed whole m (f z k m .stores)) ks
+taken-by f z m (k ∷ ks) = came-to k 0 [] (f z k 0 m .outcome) [] ∷ taken-by f z (Space.changed whole m (f z k 0 m .stores)) ks
 
 abbrev pub memory-by : Engine → Sizes → (Address → ℕ) → List Step → Address → ℕ
 memory-by f z m [] = m
-memory-by f z m (k ∷ ks) = memory-by f z (Space.changed whole m (f z k m .stores)) ks
+memory-by f z m (k ∷ ks) = memory-by f z (Space.changed whole m (f z k 0 m .stores)) ks
 
 -- small numbers, so machine words
 abbrev small? : Step → Bool
@@ -91,16 +93,34 @@ small-words k t =
     let below : (n : ℕ) → ltb n 100 ≡ true → n < 18446744073709551616 = λ n h. omega (arith, ltb-true n 100 h) in
     fields-are-words k (below (k .kind) (a .0)) (below (k .client) (b .0)) (below (k .op) (c .0)) (below (k .key) (d .0)) (below (k .value) (e .0)) (below (k .server) (e .1))
 
-pub leads-there : (f : Engine) (z : Sizes) (m : Address → ℕ) (ks : List Step) → all-small? ks ≡ true → Leads-by f z m (taken-by f z m ks) (memory-by f z m ks)
-unfolding Leads-by
-leads-there f z m [] t = refl
-leads-there f z m (k ∷ ks) t =
+-- no step writes to the output
+abbrev none? : Entries → Bool
+none? [] = true
+none? (e ∷ ps) = false
+
+none-is : (ps : Entries) → none? ps ≡ true → ps ≡ []
+none-is [] e = refl
+none-is (x ∷ ps) e = absurd (false≢true e)
+
+abbrev pub unlisted? : Engine → Sizes → (Address → ℕ) → List Step → Bool
+unlisted? f z m [] = true
+unlisted? f z m (k ∷ ks) = none? (f z k 0 m .pairs) && unlisted? f z (Space.changed whole m (f z k 0 m .stores)) ks
+
+pub leads-there : (f : Engine) (z : Sizes) (m : Address → ℕ) (ks : List Step) → all-small? ks ≡ true → unlisted? f z m ks ≡ true → Leads-by f z m (taken-by f z m ks) (memory-by f z m ks)
+unfolding Leads-by Output.with-pairs
+leads-there f z m [] t n = refl
+leads-there f z m (k ∷ ks) t n =
     let p = and-both (small? k) (all-small? ks) t in
-    (small-words k (p .0), refl, leads-there f z (Space.changed whole m (f z k m .stores)) ks (p .1))
+    let q = and-both (none? (f z k 0 m .pairs)) (unlisted? f z (Space.changed whole m (f z k 0 m .stores)) ks) n in (
+      small-words k (p .0),
+      refl,
+      ap (λ (ps : Entries). Output.with-pairs ps []) (sym (none-is (f z k 0 m .pairs) (q .0))),
+      leads-there f z (Space.changed whole m (f z k 0 m .stores)) ks (p .1) (q .1),
+    )
 
 -- all that steps compute with on a small store
 unfoldable pub computes : Type 0
-unfolding Update.upd Bit.bit Bit.putBit LayoutPart.over Space.changed Space.decide Space.puts Space.tab LayoutStep.andThen Sweep.sweep Find.key-index Find.find-at Find.rises Lists.insert-at Lists.pad Node.extra Node.free-node Node.keysOf Node.made Node.slotsOf Place.place NodesRange.node-in-range Stored.node-of Stored.words-of Entry.under Check.can-check Check.checked Check.mark-finding Check.held Check.mark-fits Check.mark-in Check.mark-place Check.standing Fresh.first-leaf HandOut.metadata-at HandOut.metadata-sound Lock.busy Lock.lock-in-range Lock.locked Lock.unlocked Object.lock-of Object.object-of ServerRange.name-in-store Store.home-step Store.kept-of Store.lock-step Store.node-step Store.table-step Store.unlock-step Answered.answered Answered.enter-writes Answered.entered Answered.put-entry Answered.used-enter Commit.inner-at Copies.drop-node Course.decided Course.noted Drops.next-version Enter.enter-entries Enter.enter-read Enter.enter-used Enter.enter-write Fetched.copy-inner Fetched.fetched-meta Fetched.fetched-node Fits.fit-to-apply Fits.fit-to-commit Fits.fit-to-prepare Fits.fit-to-renew Fits.fit-to-unlock Fits.fit-to-work Fits.inner-renewal-fits Fits.is-read Fits.kind-fits Fits.number-fits Fits.numbers-fit Fits.op-fits Fits.read-fits Fits.renewal-fits Fits.servers-fit Fits.stored-record-fits Fits.version-fits Fits.write-fits Fits.writes-fit Fits.young Have.broken Have.copied Have.copied-meta Have.copied-node Have.have Have.look-fits Have.source Items.all-below Items.any-below Items.has Items.inner Items.inner-before-after Items.inner-in Life.give-part Life.reset ClientPart.nothing ClientPart.put-word ClientPart.put-fields ClientPart.put-item Participants.at-home Participants.committing Participants.lowest-of Participants.mask Participants.participants-of Record.children-there Record.kind-in-range Record.node-fits Record.record-in-range Record.whole-in-range Record.in-store Record.number-in-store Record.record-of Record.single Renew.drop-outer Renew.finish Renew.for-writes Renew.rank Renew.ranked Renew.renew Renew.renew-flag Renew.renew-kept Renew.renew-meta Renew.renew-nth Renew.renew-written ClientRun.among ClientRun.run Sets.count Sets.find Sets.first-of Sets.number-at Sets.record-at Work.any-at-last Work.count-new Work.versions-there Work.walked Work.worked Judge.holders-fit Judge.lock-fits Refusal.first Refusal.state-fits Refusal.kind-of Refusal.refusal Run.opened Steps.applied-at Steps.begin Steps.commit Steps.covers Steps.fetch Steps.give Steps.node-at Steps.prepare Steps.prepared-at Steps.step Steps.work Uses.checked-at Uses.deciding Uses.each Uses.item-of Uses.least Uses.locked-at Uses.read-items Uses.used-items ledger-from Every Some node-in decLe ℕ-discrete
+unfolding Update.upd Bit.bit Bit.putBit LayoutPart.over Space.changed Space.decide Space.puts Space.tab LayoutStep.andThen Sweep.sweep Find.key-index Find.find-at Find.rises Lists.insert-at Lists.pad Node.extra Node.free-node Node.keysOf Node.made Node.slotsOf Place.place NodesRange.node-in-range Stored.node-of Stored.words-of Entry.under Check.can-check Check.checked Check.mark-finding Check.held Check.mark-fits Check.mark-in Check.mark-place Check.standing Fresh.first-leaf HandOut.metadata-at HandOut.metadata-sound Lock.busy Lock.lock-in-range Lock.locked Lock.unlocked Object.lock-of Object.object-of ServerRange.name-in-store Store.home-step Store.kept-of Store.lock-step Store.node-step Store.table-step Store.unlock-step Answered.answered Answered.enter-writes Answered.entered Answered.put-entry Answered.used-enter Commit.inner-at Copies.drop-node Course.decided Course.noted Drops.next-version Enter.enter-entries Enter.enter-read Enter.enter-used Enter.enter-write Fetched.copy-inner Fetched.fetched-meta Fetched.fetched-node Fits.fit-to-apply Fits.fit-to-commit Fits.fit-to-prepare Fits.fit-to-renew Fits.fit-to-unlock Fits.fit-to-work Fits.inner-renewal-fits Fits.is-read Fits.kind-fits Fits.number-fits Fits.numbers-fit Fits.op-fits Fits.read-fits Fits.renewal-fits Fits.servers-fit Fits.stored-record-fits Fits.version-fits Fits.write-fits Fits.writes-fit Fits.young Have.broken Have.copied Have.copied-meta Have.copied-node Have.have Have.look-fits Have.source Items.all-below Items.any-below Items.has Items.inner Items.inner-before-after Items.inner-in Life.give-part Life.reset ClientPart.nothing ClientPart.put-word ClientPart.put-fields ClientPart.put-item Participants.at-home Participants.committing Participants.lowest-of Participants.mask Participants.participants-of Record.children-there Record.kind-in-range Record.node-fits Record.record-in-range Record.whole-in-range Record.in-store Record.number-in-store Record.record-of Record.single Renew.drop-outer Renew.finish Renew.for-writes Renew.rank Renew.ranked Renew.renew Renew.renew-flag Renew.renew-kept Renew.renew-meta Renew.renew-nth Renew.renew-written ClientRun.among ClientRun.run Sets.count Sets.find Sets.first-of Sets.number-at Sets.record-at Work.any-at-last Work.count-new Work.versions-there Work.walked Work.worked Judge.holders-fit Judge.lock-fits Refusal.first Refusal.state-fits Refusal.kind-of Refusal.refusal Run.opened Steps.applied-at Steps.begin Steps.commit Steps.covers Steps.fetch Steps.give Steps.node-at Steps.prepare Steps.prepared-at Steps.step Steps.by-rule Steps.lacks-room Steps.work Uses.checked-at Uses.deciding Uses.each Uses.item-of Uses.least Uses.locked-at Uses.read-items Uses.used-items ledger-from Every Some node-in decLe ℕ-discrete
 computes = Unit {0}
 
 -- one server of 4 slots, one client
@@ -122,21 +142,21 @@ all-apply = record { only = (refl, tt); each = λ c s l r. inl (omega arith, ome
 -- begin, give, work three times, commit, prepare, with the outcomes that stepshow prints
 abbrev story : List Taken
 story =
-    came-to (line 0 0 0 0) Done ∷ came-to (line 1 1 5 70) Done ∷ came-to (line 2 0 0 0) (Fetched 0 0) ∷ came-to (line 2 0 0 0) (Fetched 1 0)
-    ∷ came-to (line 2 0 0 0) (Answered 1 0) ∷ came-to (line 3 0 0 0) Done ∷ came-to (line 4 0 0 0) Committed ∷ []
+    came-to (line 0 0 0 0) 0 [] Done [] ∷ came-to (line 1 1 5 70) 0 [] Done [] ∷ came-to (line 2 0 0 0) 0 [] (Fetched 0 0) [] ∷ came-to (line 2 0 0 0) 0 [] (Fetched 1 0) []
+    ∷ came-to (line 2 0 0 0) 0 [] (Answered 1 0) [] ∷ came-to (line 3 0 0 0) 0 [] Done [] ∷ came-to (line 4 0 0 0) 0 [] Committed [] ∷ []
 
 -- with one participant the prepare has also applied: no apply is due
 abbrev applies : List Taken
-applies = came-to (line 5 0 0 0) (Refused 9) ∷ []
+applies = came-to (line 5 0 0 0) 0 [] (Refused 9) [] ∷ []
 
 abbrev after-all : Address → ℕ
 after-all = memory-by Steps.step sizes (Run.opened sizes) (steps-of (story ++ applies))
 
 abbrev pub inserted : Told
-inserted = record { op = insert 5 70; ans = (1, 0) }
+inserted = record { op = insert 5 70; ans = (1, 0, []) }
 
 -- The steps come to these outcomes; one transaction is decided, with its answer; and the tree then holds its pair.
 pub example : Leads sizes (Run.opened sizes) (story ++ applies) after-all
     × (decided-in story ≡ (inserted ∷ []) ∷ []) × Applies sizes (steps-of applies) × (pairs-under after-all 0 ≡ (5, 70) ∷ [])
 unfolding computes
-example = (leads-there Steps.step sizes (Run.opened sizes) (steps-of (story ++ applies)) refl, refl, all-apply, refl)
+example = (leads-there Steps.step sizes (Run.opened sizes) (steps-of (story ++ applies)) refl refl, refl, all-apply, refl)

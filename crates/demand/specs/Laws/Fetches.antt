@@ -1,5 +1,6 @@
 -- WORK THAT FETCHES: "A work step that lacks an object fetches the first one lacking and does no more". The copies in use become items, and then
 -- the object is one, or a vector's flags are copies; else the step is refused or aborts.
+use Rattle.steps.specs.Output.{with-pairs}
 use mathlib.Core.Path.{_≡_, refl, ap, sym, _∙_, subst, fun-ext}
 use mathlib.Core.Bool.{Bool, true, false, cond, _&&_}
 use mathlib.Core.List.{List, [], map}
@@ -91,9 +92,9 @@ module _ (k j slots : ℕ) (al : Allowed (sizes k j slots)) (few : suc j ≤ 16)
   open-now = sym (shown .phase-as) ∙ ap phase-of now
 
   -- ---- the step refused, aborted, or one of these
-  module _ (n : Step) (mine : n .client ≡ c .0) where
+  module _ (n : Step) (mine : n .client ≡ c .0) (lent : List ℕ) where
     abbrev Good : Did → Type 0
-    Good d = Turns k j slots m (changed whole m (d .stores)) (note L n (d .outcome)) M c
+    Good d = Turns k j slots m (changed whole m (d .stores)) (note L n (with-pairs (d .pairs) lent) (d .outcome)) M c
 
     refused : Good (refuse 10)
     unfolding changed
@@ -241,7 +242,7 @@ module _ (k j slots : ℕ) (al : Allowed (sizes k j slots)) (few : suc j ≤ 16)
       server-there s h = ltb-true s (suc k) (and-both (ltb s (suc k)) (vector-fits u s) (not-false (ltb s (suc k) && vector-fits u s) h) .0)
 
     -- THE FETCH
-    pub fetch-turns : (a : Ask) → worked (sizes k j slots) u ≡ Work.fetches a → Turns k j slots m (changed whole m (fetch z m (c .0) us a .stores)) (note L n (fetch z m (c .0) us a .outcome)) M c
+    pub fetch-turns : (a : Ask) → worked (sizes k j slots) u ≡ Work.fetches a → Turns k j slots m (changed whole m (fetch z m (c .0) us a .stores)) (note L n (with-pairs (fetch z m (c .0) us a .pairs) lent) (fetch z m (c .0) us a .outcome)) M c
     unfolding fetch broken
     fetch-turns (object meta) e = checked (object meta) e (wanted (suc k) (c .0) (object meta)) (meta-good (object meta) e refl (c .0 % suc k, mod-lt (c .0) (positive k)))
     fetch-turns (object (node x)) e = checked (object (node x)) e (wanted (suc k) (c .0) (object (node x))) (node-good (object (node x)) e x refl)

@@ -14,7 +14,7 @@ use Rattle.layout.specs.Space.{Put, decide, changed}
 use Rattle.operations.specs.Slot.{TreeSizes}
 use Rattle.client.specs.declared.part.Set.{Set}
 use Rattle.client.specs.declared.part.Set.the-variants.{Reads, Writes, Copies}
-use Rattle.client.specs.Layout.{ClientWord, client-words, field, item, vector-word, op-number, op-key, op-server, prepared, applied, reads-count, writes-count}
+use Rattle.client.specs.Layout.{ClientWord, client-words, field, item, vector-word, op-number, op-key, op-value, op-server, prepared, applied, reads-count, writes-count}
 use Rattle.client.specs.Record.{in-store, number-in-store, record-in-range}
 use Rattle.client.specs.Sets.{count, number-at}
 use Rattle.client.specs.Commit.{is-at}
@@ -142,7 +142,8 @@ module _ (z : TreeSizes) (u : ClientWord → ℕ) (fit : client-fits z u ≡ tru
         let n = kept op-number (λ w q. true≢false (sym (q .0))) in
         let k = kept op-key (λ w q. true≢false (sym (q .0))) in
         let s = kept op-server (λ w q. true≢false (sym (q .0))) in
-        λ t. leb (n t) 6 && cond (eqb (n t) 6) (in-store z (k t) && ltb (s t) (z .servers)) true
+        let v = kept op-value (λ w q. true≢false (sym (q .0))) in
+        λ t. leb (n t) 7 && cond (eqb (n t) 6) (in-store z (k t) && ltb (s t) (z .servers)) (cond (eqb (n t) 7) (leb 1 (v t) && leb (v t) 32) true)
 
     pub store-fits : client-fits z (upd (decide client-words) u a v) ≡ true
     unfolding client-fits field-fits vector-fits Within g

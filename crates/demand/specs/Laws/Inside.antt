@@ -412,10 +412,18 @@ module _ (z : Sizes) (al : Allowed z) (k : Step.Step) (m : Address → ℕ) wher
       go (suc (suc (suc (suc (suc (suc (suc zero))))))) e r = lose-lies z al m c l
       go (suc (suc (suc (suc (suc (suc (suc (suc x)))))))) e r = absurd (omega arith)
 
-  pub step-lies : Lies z (S.step z k m .stores)
-  unfolding S.step
-  step-lies = go (eqb (refusal z k m) 0) refl
+  rule-lies : Lies z (S.by-rule z k m .stores)
+  unfolding S.by-rule
+  rule-lies = go (eqb (refusal z k m) 0) refl
     where
       go : (a : Bool) → eqb (refusal z k m) 0 ≡ a → Lies z (cond a (S.by-kind z m (k .client) k (kind-of (k .kind))) (S.refuse (refusal z k m)) .stores)
       go true e = kind-lies (passed z k m (eqb-true (refusal z k m) 0 e))
       go false e = lies-none z
+
+  pub step-lies : (room : ℕ) → Lies z (S.step z k room m .stores)
+  unfolding S.step
+  step-lies room = go (S.lacks-room z k room m)
+    where
+      go : (a : Bool) → Lies z (cond a (S.refuse 12) (S.by-rule z k m) .stores)
+      go true = lies-none z
+      go false = rule-lies

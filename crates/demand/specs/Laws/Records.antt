@@ -29,7 +29,7 @@ use Rattle.client.specs.declared.part.Set.the-variants.{Reads, Writes}
 use Rattle.client.specs.Layout.{ClientWord, op-number, op-key, op-value, op-server}
 use Rattle.client.specs.Record.{number, first-slot, value-of, single, record-of, in-store, last-version, record-in-range}
 use Rattle.client.specs.Sets.{find}
-use Rattle.client.specs.Fits.{op-fits}
+use Rattle.client.specs.Fits.{migrate-fits, list-fits, op-fits}
 use Rattle.client.specs.Laws.Ranges.{client-fits, fits-field}
 use Rattle.client.specs.Have.{or-copied, or-read, source, have}
 use Rattle.client.specs.Work.{op-of, waiting}
@@ -120,10 +120,9 @@ pub op-names : (N : ℕ → Type 0) (z : TreeSizes) → ((n : ℕ) → in-store 
 unfolding op-fits
 op-names N z there u fit =
     go (u op-number) (fits-field z u fit 1 (omega arith))
-    (and-both (leb (u op-number) 6) (cond (eqb (u op-number) 6) (in-store z (u op-key) && ltb (u op-server) (z .servers)) true) (judged z u fit .0) .1)
+    (and-both (leb (u op-number) 7) (cond (eqb (u op-number) 6) (migrate-fits z u) (cond (eqb (u op-number) 7) (list-fits u) true)) (judged z u fit .0) .1)
   where
-    go : (q : ℕ) → q ≤ 6 → cond (eqb q 6) (in-store z (u op-key) && ltb (u op-server) (z .servers)) true ≡ true
-        → Names N z (op-of q (u op-key) (u op-value) (u op-server))
+    go : (q : ℕ) → q ≤ 7 → cond (eqb q 6) (migrate-fits z u) (cond (eqb q 7) (list-fits u) true) ≡ true → Names N z (op-of q (u op-key) (u op-value) (u op-server))
     go zero l h = tt
     go (suc zero) l h = tt
     go (suc (suc zero)) l h = tt
@@ -132,7 +131,7 @@ op-names N z there u fit =
     go (suc (suc (suc (suc (suc zero))))) l h = tt
     go (suc (suc (suc (suc (suc (suc zero)))))) l h =
         let b = and-both (in-store z (u op-key)) (ltb (u op-server) (z .servers)) h in (there (u op-key) (b .0), ltb-true (u op-server) (z .servers) (b .1))
-    go (suc (suc (suc (suc (suc (suc (suc q))))))) l h = absurd (omega arith)
+    go (suc (suc (suc (suc (suc (suc (suc q))))))) l h = tt
 
 module _ (k j slots : ℕ) (al : Allowed (sizes k j slots)) (u : ClientWord → ℕ) (f : Obj → Option (P.Copy (T k j slots))) (copies : Copies-shown k j slots u f) (fit : client-fits (sizes k j slots) u ≡ true) (y : P.Slot (T k j slots)) (shown : Slot-shown k j slots u y) where
   pub have-storable : (N : ℕ → Type 0) → ((o : Obj) (v : Val) → Had k j slots al u f copies fit y shown o v → Points N o (source u (number o) .node))

@@ -53,14 +53,15 @@ pub undecided-word : (x : ℕ) → eqb x 0 ≡ false → eqb x 3 ≡ false → x
 undecided-word x p q l = let a = eqb-false x 0 p in let b = eqb-false x 3 q in either x (omega arith) (omega arith)
 
 -- "op 1 insert .. 6 migrate": what was given is an operation that the store can do
-pub given-legal : (k j slots op key value server : ℕ) → key < two-to-64 → 1 ≤ op → op ≤ 6 → (op ≡ 6 → server < suc k) → Legal (sizes k j slots) (op-of op key value server)
+pub given-legal : (k j slots op key value server : ℕ) → key < two-to-64 → 1 ≤ op → op ≤ 7 → (op ≡ 6 → server < suc k) → Legal (sizes k j slots) (op-of op key value server)
 given-legal k j slots zero key value server h l r s = h
 given-legal k j slots (suc zero) key value server h l r s = h
 given-legal k j slots (suc (suc zero)) key value server h l r s = h
 given-legal k j slots (suc (suc (suc zero))) key value server h l r s = h
 given-legal k j slots (suc (suc (suc (suc zero)))) key value server h l r s = h
 given-legal k j slots (suc (suc (suc (suc (suc zero))))) key value server h l r s = h
-given-legal k j slots (suc (suc (suc (suc (suc (suc n)))))) key value server h l r s = s (omega arith)
+given-legal k j slots (suc (suc (suc (suc (suc (suc zero)))))) key value server h l r s = s (omega arith)
+given-legal k j slots (suc (suc (suc (suc (suc (suc (suc n))))))) key value server h l r s = h
 
 module _ (k j slots : ℕ) (al : Allowed (sizes k j slots)) (few : suc j ≤ 16) (m : Address → ℕ) (L : Ledger) (M : P.Machine (T k j slots)) (c : Fin (suc j)) (R : Related k j slots m L M) where
   abbrev u : ClientWord → ℕ

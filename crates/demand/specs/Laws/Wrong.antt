@@ -17,7 +17,7 @@ use Rattle.steps.specs.Taken.{Engine, Taken}
 use Rattle.demand.specs.Ledger.{decided-in, map-all, Right-all}
 use Rattle.demand.specs.Demand.{pairs-under, Demand, Meets-demand-3}
 use Rattle.demand.specs.Wrong.{finds-none, feigns-later, Shut-out}
-use Rattle.demand.specs.Laws.Example.{taken-by, memory-by, all-small?, leads-there, computes, sizes, line, every-apply, all-apply, inserted}
+use Rattle.demand.specs.Laws.Example.{taken-by, memory-by, all-small?, unlisted?, leads-there, computes, sizes, line, every-apply, all-apply, inserted}
 
 -- begin; insert 5 with value 70, for which metadata and root are fetched; another operation; commit, prepare
 abbrev steps : ℕ → ℕ → ℕ → List Step
@@ -28,19 +28,23 @@ allowed : Allowed sizes
 allowed = record { servers = (omega arith, omega arith); slots = (omega arith, omega arith); clients = (omega arith, omega arith) }
 
 -- what is claimed of such steps
-met : (f : Engine) → Meets-demand-3 f → (ks : List Step) → all-small? ks ≡ true
+met : (f : Engine) → Meets-demand-3 f → (ks : List Step) → all-small? ks ≡ true → unlisted? f sizes (opened sizes) ks ≡ true
     → Demand sizes (taken-by f sizes (opened sizes) ks) (memory-by f sizes (opened sizes) ks)
-met f claim ks t = claim sizes allowed (taken-by f sizes (opened sizes) ks) (memory-by f sizes (opened sizes) ks) (leads-there f sizes (opened sizes) ks t)
+met f claim ks t n = claim sizes allowed (taken-by f sizes (opened sizes) ks) (memory-by f sizes (opened sizes) ks) (leads-there f sizes (opened sizes) ks t n)
 
 -- key 5 is looked up and not found
-not-found : decided-in (taken-by finds-none sizes (opened sizes) (steps 2 5 0)) ≡ (record { op = lookup 5; ans = (0, 0) } ∷ inserted ∷ []) ∷ []
+not-found : decided-in (taken-by finds-none sizes (opened sizes) (steps 2 5 0)) ≡ (record { op = lookup 5; ans = (0, 0, []) } ∷ inserted ∷ []) ∷ []
 unfolding computes Outcome.line
 not-found = refl
+
+unlisted-one : unlisted? finds-none sizes (opened sizes) (steps 2 5 0) ≡ true
+unfolding computes Outcome.line
+unlisted-one = refl
 
 finding-none : ¬ Meets-demand-3 finds-none
 unfolding ℕ-discrete
 finding-none claim =
-    let wrong : _≡_ {A = Ans} (0, 0) (1, 70) = subst Right-all not-found (met finds-none claim (steps 2 5 0) refl .answers) .1 .1 refl in
+    let wrong : _≡_ {A = Ans} (0, 0, []) (1, 70, []) = subst Right-all not-found (met finds-none claim (steps 2 5 0) refl unlisted-one .answers) .1 .1 refl in
     let a : _≡_ {A = ℕ} 0 1 = ap (λ (p : Ans). p .0) wrong in
     omega arith
 
@@ -54,7 +58,7 @@ between = memory-by feigns-later sizes (opened sizes) (steps 1 6 60)
 abbrev after-all : Address → ℕ
 after-all = memory-by feigns-later sizes between every-apply
 
-both-answered : decided-in before-applies ≡ (record { op = insert 6 60; ans = (1, 0) } ∷ inserted ∷ []) ∷ []
+both-answered : decided-in before-applies ≡ (record { op = insert 6 60; ans = (1, 0, []) } ∷ inserted ∷ []) ∷ []
 unfolding computes Outcome.line
 both-answered = refl
 
@@ -62,10 +66,14 @@ one-there : (after-all (server 0 Root) ≡ 0) × (pairs-under after-all 0 ≡ (5
 unfolding computes Outcome.line
 one-there = (refl, refl)
 
+unlisted-both : unlisted? feigns-later sizes (opened sizes) (steps 1 6 60 ++ every-apply) ≡ true
+unfolding computes Outcome.line
+unlisted-both = refl
+
 feigning-later : ¬ Meets-demand-3 feigns-later
 unfolding ℕ-discrete decLt
 feigning-later claim =
-    let tree = met feigns-later claim (steps 1 6 60 ++ every-apply) refl .tree before-applies (taken-by feigns-later sizes between every-apply) refl all-apply in
+    let tree = met feigns-later claim (steps 1 6 60 ++ every-apply) refl unlisted-both .tree before-applies (taken-by feigns-later sizes between every-apply) refl all-apply in
     let root : tree .root ≡ 0 = sym (tree .named 0 (omega arith)) ∙ one-there .0 in
     let two : (5, 70) ∷ [] ≡ map-all (decided-in before-applies) = sym (one-there .1) ∙ ap (pairs-under after-all) (sym root) ∙ tree .holds in
     let n : _≡_ {A = ℕ} 1 2 = ap length (two ∙ ap map-all both-answered) in

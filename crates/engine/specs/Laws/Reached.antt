@@ -15,8 +15,9 @@ use Rattle.steps.specs.declared.step.Step.{Step}
 use Rattle.steps.specs.declared.outcome.Outcome.{Outcome}
 use Rattle.steps.specs.Whole.{Address, head, whole, block, words-for}
 use Rattle.steps.specs.Refusal.{open-refusal}
-use Rattle.steps.specs.Steps.{step}
-use Rattle.steps.specs.Run.{opened, after}
+use Rattle.steps.specs.Output.{with-pairs}
+use Rattle.steps.specs.Steps.{Did, step}
+use Rattle.steps.specs.Run.{opened}
 use Rattle.steps.specs.Taken.{Words, Taken, came-to, Leads-by, Leads}
 use Rattle.steps.specs.Laws.Taken.{leads-on}
 use Rattle.kinds.specs.Parts.{Store-in, head-sizes, stored-in}
@@ -27,7 +28,8 @@ use Rattle.engine.specs.declared.open.Opening.{Opening}
 use Rattle.engine.specs.declared.open.Opening.the-variants.{Accepted}
 use Rattle.engine.specs.Open.{opening, first-stores, new-words, words-opened}
 use Rattle.engine.specs.Laws.Open.{new-store}
-use Rattle.engine.specs.Step.{outcome-of, words-after}
+use Rattle.engine.specs.Step.{result-of, outcome-of, words-after, output-after}
+use Rattle.engine.specs.Laws.Step.{Stands}
 use Rattle.engine.specs.Reached.{Reached, Goes-on}
 
 -- memory of n bytes with the words w, as a store of sizes z
@@ -43,7 +45,9 @@ module _ (z : Sizes) (n : ℕ) (ok : open-refusal n z ≡ 0) where
   led-head : (h : List Taken) (m m′ : Address → ℕ) → Leads z m h m′ → (i : ℕ) → m′ (head i) ≡ m (head i)
   unfolding Leads-by
   led-head [] m m′ p i = ap (λ (u : Address → ℕ). u (head i)) p
-  led-head (t ∷ h) m m′ p i = led-head h (after z m (t .step)) m′ (p .2) i ∙ step-lies z (holds .allowed) (t .step) m .headless m i
+  led-head (t ∷ h) m m′ p i =
+      let room = t .room in
+      led-head h (changed whole m (step z (t .step) room m .stores)) m′ (p .3) i ∙ step-lies z (holds .allowed) (t .step) m room .headless m i
 
   head-valid : (i : ℕ) → i < 8 → Valid whole (block z) (head i)
   unfolding Valid In
@@ -73,28 +77,37 @@ module _ (z : Sizes) (n : ℕ) (ok : open-refusal n z ≡ 0) where
   unfolding Leads-by words-for words-opened
   new-at w l = rw ok (record { long = rw (new-length w) l; way = new-store z w (holds .allowed) (omega (arith, holds .room)) })
 
-  -- ---- one step
-  module _ (h : List Taken) (w : List ℕ) (a : At h w) (k : Step) where
-    outcome-is : outcome-of n w k ≡ step z k (stored-in z w) .outcome
+  -- ---- one step, lent an output of so many bytes
+  module _ (h : List Taken) (w : List ℕ) (a : At h w) (k : Step) (room : ℕ) where
+    result-is : result-of n w room k ≡ step z k room (stored-in z w)
+    unfolding result-of
+    result-is = rw (sizes-are h w a, ok)
+
+    outcome-is : outcome-of n w room k ≡ step z k room (stored-in z w) .outcome
     unfolding outcome-of
-    outcome-is = rw (sizes-are h w a, ok)
+    outcome-is = ap (λ (d : Did). d .outcome) result-is
 
-    words-are : words-after n w k ≡ stored whole (block z) w (step z k (stored-in z w) .stores)
+    words-are : words-after n w room k ≡ stored whole (block z) w (step z k room (stored-in z w) .stores)
     unfolding words-after
-    words-are = rw (sizes-are h w a, ok)
+    words-are = rw (result-is, sizes-are h w a)
 
-    room : size (block z) ≤ length w
+    output-is : (out : List ℕ) → output-after n w room k out ≡ with-pairs (step z k room (stored-in z w) .pairs) out
+    unfolding output-after
+    output-is out = ap (λ (d : Did). with-pairs (d .pairs) out) result-is
+
+    fits : size (block z) ≤ length w
     unfolding words-for
-    room = omega (arith, holds .room, a .long)
+    fits = omega (arith, holds .room, a .long)
 
-    memory : stored-in z (words-after n w k) ≡ after z (stored-in z w) k
-    memory = ap (stored-in z) words-are ∙ mem-stored whole (block z) (step z k (stored-in z w) .stores) w room (step-lies z (holds .allowed) k (stored-in z w) .valid)
+    memory : stored-in z (words-after n w room k) ≡ changed whole (stored-in z w) (step z k room (stored-in z w) .stores)
+    memory = ap (stored-in z) words-are ∙ mem-stored whole (block z) (step z k room (stored-in z w) .stores) w fits (step-lies z (holds .allowed) k (stored-in z w) room .valid)
 
-    pub next-at : Words k → At (h ++ came-to k (outcome-of n w k) ∷ []) (words-after n w k)
+    pub next-at : (lent left : List ℕ) → Words k → left ≡ output-after n w room k lent → At (h ++ came-to k room lent (outcome-of n w room k) left ∷ []) (words-after n w room k)
     unfolding Leads-by
-    next-at words = record {
-      long = subst (λ (u : List ℕ). n / 8 ≤ length u) (sym words-are) (rw (length-stored whole (block z) (step z k (stored-in z w) .stores) w) (a .long));
-      way = leads-on z h (came-to k (outcome-of n w k) ∷ []) (opened z) (stored-in z w) (stored-in z (words-after n w k)) (a .way) (words, outcome-is, memory);
+    next-at lent left words out = record {
+      long = subst (λ (u : List ℕ). n / 8 ≤ length u) (sym words-are) (rw (length-stored whole (block z) (step z k room (stored-in z w) .stores) w) (a .long));
+      way = leads-on z h (came-to k room lent (outcome-of n w room k) left ∷ []) (opened z) (stored-in z w) (stored-in z (words-after n w room k)) (a .way)
+          (words, outcome-is, out ∙ output-is lent, memory);
     }
 
 -- ---- bytes
@@ -110,12 +123,14 @@ as-bytes z n ok h w b e q a = record { accepted = rw e ok; way = rw q (a .way) }
 pub new-reached : (z : Sizes) (b b′ : List ℕ) → open-refusal (length b) z ≡ 0 → length b′ ≡ length b → view b′ ≡ words-opened (length b) z (view b) → Reached z [] b′
 new-reached z b b′ ok e q = as-bytes z (length b) ok [] (words-opened (length b) z (view b)) b′ e q (new-at z (length b) ok (view b) (whole-words b))
 
-pub step-goes-on : (b b′ : List ℕ) (k : Step) (o : Outcome) → Words k → length b′ ≡ length b → o ≡ outcome-of (length b) (view b) k → view b′ ≡ words-after (length b) (view b) k
-    → Goes-on b (came-to k o ∷ []) b′
+pub step-goes-on : (b b′ lent left : List ℕ) (k : Step) (o : Outcome) → Words k → length b′ ≡ length b → Stands b lent k o b′ left
+    → Goes-on b (came-to k (length lent) (view lent) o (view left) ∷ []) b′
 unfolding Goes-on
-step-goes-on b b′ k o words e p q z h r =
-    rw p (as-bytes z (length b) (r .accepted) (h ++ came-to k (outcome-of (length b) (view b) k) ∷ []) (words-after (length b) (view b) k) b′ e q
-    (next-at z (length b) (r .accepted) h (view b) (of-bytes z h b r) k words))
+step-goes-on b b′ lent left k o words e s z h r =
+    let room = length lent in
+    let t = came-to k room (view lent) (outcome-of (length b) (view b) room k) (view left) in
+    rw (s .outcome) (as-bytes z (length b) (r .accepted) (h ++ t ∷ []) (words-after (length b) (view b) room k) b′ e (s .words)
+    (next-at z (length b) (r .accepted) h (view b) (of-bytes z h b r) k room (view lent) (view left) words (s .output)))
 
 -- ---- ways out of the code: what a call ensures besides follows from its first two clauses
 accepted-none : (n : ℕ) → opening n ≡ Accepted → n ≡ 0
@@ -128,6 +143,8 @@ module _ (b b′ : List ℕ) where
       → (o ≡ opening (open-refusal (length b) z)) × ((view b′ ≡ words-opened (length b) z (view b)) × (o ≡ Accepted → Reached z [] b′))
   opens z o e p q = (p, (q, λ a. new-reached z b b′ (accepted-none (open-refusal (length b) z) (sym p ∙ a)) e q))
 
-  pub steps : (k : Step) (o : Outcome) → Words k → length b′ ≡ length b → o ≡ outcome-of (length b) (view b) k → view b′ ≡ words-after (length b) (view b) k
-      → (o ≡ outcome-of (length b) (view b) k) × ((view b′ ≡ words-after (length b) (view b) k) × Goes-on b (came-to k o ∷ []) b′)
-  steps k o words e p q = (p, (q, step-goes-on b b′ k o words e p q))
+  pub steps : (lent left : List ℕ) (k : Step) (o : Outcome) → Words k → length b′ ≡ length b → Stands b lent k o b′ left
+      → (o ≡ outcome-of (length b) (view b) (length lent) k)
+      × ((view b′ ≡ words-after (length b) (view b) (length lent) k)
+      × ((view left ≡ output-after (length b) (view b) (length lent) k (view lent)) × Goes-on b (came-to k (length lent) (view lent) o (view left) ∷ []) b′))
+  steps lent left k o words e s = (s .outcome, (s .words, (s .output, step-goes-on b b′ lent left k o words e s)))

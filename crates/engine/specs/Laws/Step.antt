@@ -2,30 +2,37 @@
 use mathlib.Core.Path.{_≡_, refl, sym, ap, _∙_, subst}
 use mathlib.Core.Bool.{Bool, true, false, not}
 use mathlib.Core.List.{List, []}
-use Prim.Native.Nat.{ℕ, zero, suc, _≤_, _<_}
+use Prim.Native.Nat.{ℕ, zero, suc, _*_, _/_, _≤_, _<_}
 use native.Mathlib.Omega.{arith}
-use borrow.Author.Tests.{ne-eqb, eqb-false, not-true}
-use lib.Dec.{eqb}
+use native.Mathlib.Decide.{decLt}
+use borrow.Author.Tests.{ne-eqb, eqb-false, not-true, lt-ltb, le-ltb, ltb-false}
+use lib.Dec.{eqb, ltb}
+use lib.ListN.{length}
+use Rattle.memory.specs.Word.{view}
 use Rattle.base.specs.Test.{and-both}
 use Rattle.layout.specs.Space.{stored}
 use Rattle.layout.specs.Step.{stepped}
-use Rattle.client.specs.Layout.{phase, op-number}
+use Rattle.client.specs.Layout.{ClientWord, phase, op-number, op-value}
 use Rattle.steps.specs.declared.sizes.Sizes.{Sizes}
 use Rattle.steps.specs.declared.step.Step.{Step}
 use Rattle.steps.specs.declared.step.Kind.{Kind}
 use Rattle.steps.specs.declared.step.Kind.the-variants.{Begin, Give, Work, Commit, Prepare, Apply, GiveUp, Lost, Unknown}
 use Rattle.steps.specs.declared.outcome.Outcome.{Outcome}
 use Rattle.steps.specs.declared.outcome.Outcome.the-variants.{Refused}
-use Rattle.steps.specs.Whole.{Address}
+use Rattle.steps.specs.Whole.{Address, client, whole, block}
 use Rattle.steps.specs.Refusal.{kind-of, state-fits, open-refusal, refusal}
 use Rattle.steps.specs.Passed.{Passed}
 use Rattle.steps.specs.Laws.Passed.{passed}
-use Rattle.steps.specs.Steps.{begin, give, work, commit, prepare, apply, abort, lose, by-kind, step}
+use Rattle.steps.specs.Output.{with-pairs}
+use Rattle.steps.specs.Steps.{Did, refuse, begin, give, work, commit, prepare, apply, abort, lose, by-kind, by-rule, short-output, lacks-room, step}
+use Rattle.steps.specs.Laws.Unlisted.{works?, kind-unlisted}
 use Rattle.kinds.specs.Parts.{head-sizes, stored-in}
 use Rattle.kinds.specs.Judge.{of-client}
 use Rattle.kinds.specs.Laws.Refusal.{too-short}
 use Rattle.kinds.specs.Kinds.{Meets}
-use Rattle.engine.specs.Step.{rule-of, outcome-of, words-after}
+use Rattle.kinds.specs.Laws.Kinds.{meets-as, meets-refused}
+use Rattle.engine.specs.Work.{Room-for-list, Leaves}
+use Rattle.engine.specs.Step.{rule-of, Ruled, result-of, outcome-of, words-after, output-after}
 
 module _ (z : Sizes) (c : ℕ) (k : Step) (x : Kind) (w : List ℕ) (o : Outcome) (w′ : List ℕ) where
   of-kind : (y : Kind) → x ≡ y → Meets z (λ m. by-kind z m c k y) w o w′ → Meets z (rule-of z c k x) w o w′
@@ -107,56 +114,133 @@ at-work z c k w x q e ek h p =
     let n : not (eqb (m op-number) 0) ≡ true = and-both (eqb (m phase) 1) (not (eqb (m op-number) 0)) g .1 in
     eqb-false (m op-number) 0 (not-true (eqb (m op-number) 0) n) (subst (λ (d : ℕ). of-client z w d op-number ≡ 0) e p)
 
--- ---- refusals 4 to 10
-module _ (z : Sizes) (k : Step) (w : List ℕ) (r : ℕ) (e : r ≡ refusal z k (stored-in z w)) where
-  pub is-refused : (r ≡ 0 → ⊥) → Meets z (step z k) w (Refused r) w
-  unfolding step stepped stored
-  is-refused n = let q : eqb (refusal z k (stored-in z w)) 0 ≡ false = rw (← e, ne-eqb r 0 n) in record { answer = rw q (sym (rw e)); words = rw q }
+-- ---- refusals 4 to 9, 11 and 12, then the rule
+module _ (z : Sizes) (k : Step) (room : ℕ) (m : Address → ℕ) (r : ℕ) (e : r ≡ refusal z k m) where
+  refused-is : (r ≡ 0 → ⊥) → step z k room m ≡ refuse r
+  unfolding step by-rule lacks-room
+  refused-is n = let q : eqb (refusal z k m) 0 ≡ false = rw (← e, ne-eqb r 0 n) in rw q (rw e)
 
-  pub passes : r ≡ 0 → Passed z k (stored-in z w)
-  passes q = passed z k (stored-in z w) (sym e ∙ q)
+  short-is : r ≡ 0 → short-output (k .kind) room (λ a. m (client (k .client) a)) ≡ true → step z k room m ≡ refuse 12
+  unfolding step lacks-room
+  short-is q s = let p : eqb (refusal z k m) 0 ≡ true = rw (← e, q) in rw (p, s)
+
+  ruled-is : r ≡ 0 → short-output (k .kind) room (λ a. m (client (k .client) a)) ≡ false → step z k room m ≡ by-kind z m (k .client) k (kind-of (k .kind))
+  unfolding step by-rule lacks-room
+  ruled-is q s = let p : eqb (refusal z k m) 0 ≡ true = rw (← e, q) in rw (p, s)
+
+module _ (z : Sizes) (k : Step) (b : List ℕ) (r : ℕ) (e : r ≡ refusal z k (stored-in z (view b))) (out : List ℕ) where
+  abbrev m : Address → ℕ
+  m = stored-in z (view b)
+
+  refused-by : (n : ℕ) → step z k (length out) m ≡ refuse n → Meets z (step z k (length out)) (view b) (Refused n) (view b) × Leaves z (step z k (length out)) b out out
+  unfolding with-pairs
+  refused-by n p = (meets-refused z (view b) n (step z k (length out)) (sym p), rw p)
+
+  pub is-refused : (r ≡ 0 → ⊥) → Meets z (step z k (length out)) (view b) (Refused r) (view b) × Leaves z (step z k (length out)) b out out
+  is-refused n = refused-by r (refused-is z k (length out) m r e n)
+
+  pub passes : r ≡ 0 → Passed z k m
+  passes q = passed z k m (sym e ∙ q)
 
   pub client-there : (c : ℕ) → r ≡ 0 → c ≡ k .client → c < z .clients
   client-there c q ec = rw ec (passes q .known-client)
 
-  pub is-ruled : (c : ℕ) (x : Kind) (o : Outcome) (w′ : List ℕ) → c ≡ k .client → r ≡ 0 → x ≡ kind-of (k .kind) → Meets z (rule-of z c k x) w o w′ → Meets z (step z k) w o w′
-  unfolding step stepped rule-of
-  is-ruled c x o w′ ec q ek h =
-      let p : eqb (refusal z k (stored-in z w)) 0 ≡ true = rw (← e, q) in
-      let g : Meets z (λ m. by-kind z m (k .client) k (kind-of (k .kind))) w o w′ = rw (ec, ek) at h in
-      record { answer = rw p (g .answer); words = rw p (g .words) }
+  module _ (c : ℕ) (ec : c ≡ k .client) (none : r ≡ 0) (d : Bool) (ed : d ≡ short-output (k .kind) (length out) (of-client z (view b) c)) where
+    short-so : (t : Bool) → d ≡ t → short-output (k .kind) (length out) (λ a. m (client (k .client) a)) ≡ t
+    short-so t q = subst (λ (i : ℕ). short-output (k .kind) (length out) (of-client z (view b) i) ≡ t) ec (sym ed ∙ q)
 
-pub ruleset rule-exits = (is-refused, passes, client-there, is-ruled)
+    pub is-short : d ≡ true → Meets z (step z k (length out)) (view b) (Refused 12) (view b) × Leaves z (step z k (length out)) b out out
+    is-short q = refused-by 12 (short-is z k (length out) m r e none (short-so true q))
 
-module _ (bytes : ℕ) (w : List ℕ) (k : Step) where
+    pub is-ruled : (x : Kind) (o : Outcome) (w′ out′ : List ℕ) → x ≡ kind-of (k .kind) → d ≡ false → Meets z (rule-of z c k x) (view b) o w′
+        → Leaves z (rule-of z c k x) b out out′ → Meets z (step z k (length out)) (view b) o w′ × Leaves z (step z k (length out)) b out out′
+    unfolding rule-of
+    is-ruled x o w′ out′ ek q h g =
+        let p : step z k (length out) m ≡ rule-of z c k x m = ruled-is z k (length out) m r e none (short-so false q) ∙ sym (rw (ec, ek)) in
+        (meets-as z (view b) o w′ (rule-of z c k x) (step z k (length out)) (sym p) h, rw p g)
+
+-- ---- 12, as the code asks for it
+module _ (kind room : ℕ) (m : ClientWord → ℕ) where
+  pub not-work : (kind ≡ 2 → ⊥) → false ≡ short-output kind room m
+  not-work n = sym (rw (ne-eqb kind 2 n))
+
+  pub no-list : (op : ℕ) → op ≡ m op-number → kind ≡ 2 → (op ≡ 7 → ⊥) → false ≡ short-output kind room m
+  no-list op e q n = sym (rw (q, ← e, ne-eqb op 7 n))
+
+  pub list-short : (op value : ℕ) → op ≡ m op-number → value ≡ m op-value → kind ≡ 2 → op ≡ 7 → ltb (room / 16) value ≡ short-output kind room m
+  list-short op value e f q s = let short : short-output kind room m ≡ ltb room (16 * value) = rw (q, ← e, s, ← f) in sym (short ∙ same)
+    where
+      same : ltb room (16 * value) ≡ ltb (room / 16) value
+      same = go (decLt (room / 16) value)
+        where
+          go : Dec (room / 16 < value) → ltb room (16 * value) ≡ ltb (room / 16) value
+          go (yes l) = rw (lt-ltb (room / 16) value l) (lt-ltb room (16 * value) (omega arith))
+          go (no l) = rw (le-ltb (room / 16) value (omega arith)) (le-ltb room (16 * value) (omega arith))
+
+-- the list that waits has room
+pub list-roomy : (z : Sizes) (b : List ℕ) (room c : ℕ) (k : Step) (x : Kind) (out : List ℕ) → Ruled z b room c k x → room ≡ length out → x ≡ Work → Room-for-list z b c out
+list-roomy z b room c k x out h e q l =
+    let s : k .kind ≡ 2 = numbered (k .kind) (h .passed .known-kind) ∙ ap number-of (sym (h .kind) ∙ q) in
+    let p : ltb (length out) (16 * of-client z (view b) c op-value) ≡ false = rw (s, l, e) at (h .roomy) in
+    ltb-false (length out) (16 * of-client z (view b) c op-value) p
+
+-- no step of another kind writes to the output
+module _ (z : Sizes) (c : ℕ) (k : Step) (x : Kind) (b out : List ℕ) where
+  pub kind-leaves : (y : Kind) → works? y ≡ false → x ≡ y → Leaves z (rule-of z c k x) b out out
+  unfolding rule-of with-pairs
+  kind-leaves y n q = rw (q, kind-unlisted z (stored-in z (view b)) c k y n .none)
+
+  pub work-leaves : (out′ : List ℕ) → x ≡ Work → Leaves z (λ m. work z m c) b out out′ → Leaves z (rule-of z c k x) b out out′
+  unfolding rule-of
+  work-leaves out′ q h = rw q h
+
+module _ (bytes : ℕ) (w : List ℕ) (room : ℕ) (k : Step) where
   -- ---- ways out of the code
-  pub short-outcome : bytes < 64 → Refused 1 ≡ outcome-of bytes w k
-  unfolding outcome-of
-  short-outcome h = let q = too-short bytes (head-sizes w) h in sym (rw (← q))
-
-  pub short-words : bytes < 64 → w ≡ words-after bytes w k
-  unfolding words-after
-  short-words h = let q = too-short bytes (head-sizes w) h in sym (rw (← q))
+  pub short-result : bytes < 64 → result-of bytes w room k ≡ refuse 1
+  unfolding result-of
+  short-result h = let q = too-short bytes (head-sizes w) h in rw (← q)
 
   module _ (z : Sizes) (r : ℕ) (ez : z ≡ head-sizes w) (er : r ≡ open-refusal bytes z) where
     refusal-is : r ≡ open-refusal bytes (head-sizes w)
     refusal-is = er ∙ ap (open-refusal bytes) ez
 
-    pub shut-outcome : (r ≡ 0 → ⊥) → Refused r ≡ outcome-of bytes w k
-    unfolding outcome-of
-    shut-outcome n = let q = refusal-is in sym (rw (← q, ne-eqb r 0 n))
+    pub shut-result : (r ≡ 0 → ⊥) → result-of bytes w room k ≡ refuse r
+    unfolding result-of
+    shut-result n = let q = refusal-is in rw (← q, ne-eqb r 0 n)
 
-    pub shut-words : (r ≡ 0 → ⊥) → w ≡ words-after bytes w k
-    unfolding words-after
-    shut-words n = let q = refusal-is in sym (rw (← q, ne-eqb r 0 n))
+    open-result : r ≡ 0 → result-of bytes w room k ≡ step z k room (stored-in z w)
+    unfolding result-of
+    open-result e = let q = refusal-is in rw (← q, e, ← ez)
 
-    module _ (o : Outcome) (w′ : List ℕ) (h : Meets z (step z k) w o w′) where
-      pub open-outcome : r ≡ 0 → o ≡ outcome-of bytes w k
-      unfolding outcome-of
-      open-outcome e = let q = refusal-is in h .answer ∙ sym (rw (← q, e, ← ez))
+-- the three clauses of a step's contract
+module _ (b out : List ℕ) (k : Step) where
+  pub record Stands (o : Outcome) (b′ out′ : List ℕ) : Type 0 where
+    pub outcome : o ≡ outcome-of (length b) (view b) (length out) k
+    pub words : view b′ ≡ words-after (length b) (view b) (length out) k
+    pub output : view out′ ≡ output-after (length b) (view b) (length out) k (view out)
 
-      pub open-words : r ≡ 0 → w′ ≡ words-after bytes w k
-      unfolding words-after stepped
-      open-words e = let q = refusal-is in h .words ∙ sym (rw (← q, e, ← ez))
+  refused-so : (n : ℕ) → result-of (length b) (view b) (length out) k ≡ refuse n → Stands (Refused n) b out
+  unfolding outcome-of words-after output-after stored with-pairs
+  refused-so n p = record {
+    outcome = sym (ap (λ (d : Did). d .outcome) p);
+    words = sym (ap (λ (d : Did). stored whole (block (head-sizes (view b))) (view b) (d .stores)) p);
+    output = sym (ap (λ (d : Did). with-pairs (d .pairs) (view out)) p);
+  }
 
-pub ruleset step-exits = (short-outcome, short-words, shut-outcome, shut-words, open-outcome, open-words)
+  pub short-stands : length b < 64 → Stands (Refused 1) b out
+  short-stands h = refused-so 1 (short-result (length b) (view b) (length out) k h)
+
+  module _ (z : Sizes) (r : ℕ) (ez : z ≡ head-sizes (view b)) (er : r ≡ open-refusal (length b) z) where
+    pub shut-stands : (r ≡ 0 → ⊥) → Stands (Refused r) b out
+    shut-stands n = refused-so r (shut-result (length b) (view b) (length out) k z r ez er n)
+
+    pub open-stands : (o : Outcome) (b′ out′ : List ℕ) → r ≡ 0 → Meets z (step z k (length out)) (view b) o (view b′) → Leaves z (step z k (length out)) b out out′ → Stands o b′ out′
+    unfolding outcome-of words-after output-after stepped
+    open-stands o b′ out′ e h g =
+        let p = open-result (length b) (view b) (length out) k z r ez er e in
+        record {
+          outcome = h .answer ∙ sym (ap (λ (d : Did). d .outcome) p);
+          words = h .words ∙ ap (λ (y : Sizes). stored whole (block y) (view b) (step z k (length out) (stored-in z (view b)) .stores)) ez
+              ∙ sym (ap (λ (d : Did). stored whole (block (head-sizes (view b))) (view b) (d .stores)) p);
+          output = g ∙ sym (ap (λ (d : Did). with-pairs (d .pairs) (view out)) p);
+        }

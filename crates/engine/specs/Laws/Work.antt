@@ -1,6 +1,6 @@
 -- Laws of the work step's code: how the walk stopped is what the rule comes to.
 use mathlib.Core.Path.{_≡_, refl, sym, ap, _∙_, subst}
-use mathlib.Core.Bool.{Bool, true, false, cond, _&&_, not}
+use mathlib.Core.Bool.{Bool, true, false, cond, _&&_, not, false≢true}
 use mathlib.Core.List.{List, []}
 use Prim.Native.Nat.{ℕ, _+_, _-_, _*_, _/_, _%_, _≤_, _<_}
 use native.Mathlib.Nat.{mod-lt}
@@ -18,13 +18,14 @@ use Rattle.nodes.specs.Name.{server-of, slot-of}
 use Rattle.operations.specs.Operation.{all-fit?}
 use Rattle.server.specs.Object.{object-of, Has}
 use Rattle.operations.specs.Slot.{TreeSizes}
+use Rattle.operations.specs.Entry.{Entries}
 use Rattle.client.specs.declared.part.Set.{Set}
 use Rattle.client.specs.declared.part.Set.the-variants.{Reads, Writes}
-use Rattle.client.specs.Layout.{ClientWord, op-number, op-key, op-server, writes-count, limit}
+use Rattle.client.specs.Layout.{ClientWord, op-number, op-value, writes-count, limit}
 use Rattle.client.specs.Record.{in-store, object-in-store}
 use Rattle.client.specs.Sets.{count}
 use Rattle.client.specs.Items.{all-below}
-use Rattle.client.specs.Fits.{said-count, number-fits, numbers-fit, op-fits, fit-to-work}
+use Rattle.client.specs.Fits.{said-count, number-fits, numbers-fit, list-fits, migrate-fits, op-fits, fit-to-work}
 use Rattle.client.specs.Part.{Did, nothing, put-field, put-word}
 use Rattle.client.specs.Laws.Steps.{did-then, did-three, did-nothing}
 use Rattle.client.specs.Laws.GoodSteps.{good-entries}
@@ -41,10 +42,11 @@ use Rattle.walk.specs.declared.walk.Stop.the-variants.{Going, LacksMeta, LacksN
 use Rattle.walk.specs.Walk.{goes, is-answer, lack}
 use Rattle.walk.specs.Stopped.{Waiting, stop-of, Stopped}
 use Rattle.walk.specs.declared.operation.Operation.{Operation}
-use Rattle.walk.specs.declared.operation.Operation.the-variants.{Unknown}
+use Rattle.walk.specs.declared.operation.Operation.the-variants.{Listing, Unknown}
 use Rattle.walk.specs.Operation.{operation-of}
-use Rattle.walk.specs.Laws.Operation.{not-unknown}
+use Rattle.walk.specs.Laws.Operation.{not-unknown, lists-number}
 use Rattle.walk.specs.Look.{Looks}
+use Rattle.walk.specs.Found.{Roomy}
 use Rattle.change.specs.declared.single.Single.{Single}
 use Rattle.change.specs.Work.{Ready, Enters, Works}
 use Rattle.change.specs.Single.{entries-of, WorksSingly}
@@ -52,7 +54,9 @@ use Rattle.steps.specs.declared.sizes.Sizes.{Sizes}
 use Rattle.steps.specs.declared.outcome.Outcome.{Outcome}
 use Rattle.steps.specs.Whole.{Allowed, Address, client, whole, block, tree-sizes, client-at}
 use Rattle.steps.specs.Uses.{item-of}
-use Rattle.steps.specs.Steps.{did, abort, fetch, after-walk, work}
+use Rattle.steps.specs.Output.{with-pairs}
+use Rattle.steps.specs.Steps.{Did as StepDid, refuse, abort, fetch, after-walk, work}
+use Rattle.steps.specs.Laws.Unlisted.{pairs-of, walk-pairs}
 use Rattle.steps.specs.Laws.There.{in-store-has}
 use Rattle.kinds.specs.Parts.{Store-in, stored-in}
 use Rattle.kinds.specs.Laws.Parts.{client-lent}
@@ -61,12 +65,12 @@ use Rattle.kinds.specs.Judge.{of-client}
 use Rattle.kinds.specs.Fits.{Known}
 use Rattle.kinds.specs.Laws.Known.{work-known}
 use Rattle.kinds.specs.Kinds.{Meets}
-use Rattle.kinds.specs.Laws.Kinds.{meets-did, meets-as, meets-refused}
+use Rattle.kinds.specs.Laws.Kinds.{meets-as, meets-refused}
 use Rattle.kinds.specs.Fetch.{used-item, known-at, AllKnown, Checking}
 use Rattle.kinds.specs.Laws.Hand.{good-used-enter}
 use Rattle.kinds.specs.Lack.{There}
 use Rattle.engine.specs.Laws.Used.{stored-at, used-stored}
-use Rattle.engine.specs.Work.{entering, answer-of, WaitingClient}
+use Rattle.engine.specs.Work.{entering, answer-of, WaitingClient, Room-for-list, Leaves, No-pairs}
 use Rattle.operations.specs.Object as O
 use Rattle.client.specs.Sets as sets
 use Rattle.steps.specs.declared.outcome.Outcome.the-variants as outcome
@@ -109,10 +113,15 @@ pub waiting-lent : (z : Sizes) (b : List ℕ) (c k : ℕ) → Store-in z (length
 unfolding sets.held
 waiting-lent z b c k l h e d = subst Waiting (sym (client-lent z c k b h e (l .room))) d
 
-pub looks-lent : (z : Sizes) (b : List ℕ) (c k : ℕ) (s : Stop) (u₀ u : List ℕ) → Store-in z (length b) → c < z .clients → k ≡ client-at z c
-    → Looks (tree-sizes z) (sets.held (midOf (8 * k) (length b - 8 * k) b)) s u₀ u → Looks (tree-sizes z) (of-client z (view b) c) s u₀ u
+pub looks-lent : (z : Sizes) (b : List ℕ) (c k : ℕ) (s : Stop) (u₀ u : List ℕ) (ps : Entries) → Store-in z (length b) → c < z .clients → k ≡ client-at z c
+    → Looks (tree-sizes z) (sets.held (midOf (8 * k) (length b - 8 * k) b)) s u₀ u ps → Looks (tree-sizes z) (of-client z (view b) c) s u₀ u ps
 unfolding sets.held
-looks-lent z b c k s u₀ u l h e d = subst (λ (m : ClientWord → ℕ). Looks (tree-sizes z) m s u₀ u) (client-lent z c k b h e (l .room)) d
+looks-lent z b c k s u₀ u ps l h e d = subst (λ (m : ClientWord → ℕ). Looks (tree-sizes z) m s u₀ u ps) (client-lent z c k b h e (l .room)) d
+
+pub room-lent : (z : Sizes) (b : List ℕ) (c k : ℕ) (f : List ℕ) → Store-in z (length b) → c < z .clients → k ≡ client-at z c
+    → Roomy (sets.held (midOf (8 * k) (length b - 8 * k) b) op-value) f → Roomy (of-client z (view b) c op-value) f
+unfolding sets.held
+room-lent z b c k f l h e d = subst (λ (m : ClientWord → ℕ). Roomy (m op-value) f) (client-lent z c k b h e (l .room)) d
 
 -- which operation it is
 module _ (z : Sizes) (b : List ℕ) (c k : ℕ) (l : Store-in z (length b)) (h : c < z .clients) (e : k ≡ client-at z c) (r : Operation) where
@@ -137,7 +146,7 @@ pub singly-lent : (z : Sizes) (b : List ℕ) (c k : ℕ) (r : Single) (u₀ u : 
 unfolding sets.held
 singly-lent z b c k r u₀ u l h e d = subst (λ (m : ClientWord → ℕ). WorksSingly (tree-sizes z) m r u₀ u) (client-lent z c k b h e (l .room)) d
 
-pub ruleset walk-lent = (works-lent, singly-lent, looks-lent, waiting-lent, operation-lent, operation-so)
+pub ruleset walk-lent = (works-lent, singly-lent, looks-lent, room-lent, waiting-lent, operation-lent, operation-so)
 
 pub ready : Ready (replicate 681 0) (replicate 98 0)
 ready = record { own-long = omega arith; own-none = refl; used-long = omega arith; used-none = refl }
@@ -149,8 +158,9 @@ pub record Vector (s : ℕ) (W : Worked) : Type 0 where
   pub lacked : lack asks ≡ LacksVector s
 
 pub record Answering (a b : ℕ) (W : Worked) : Type 0 where
+  pub pairs : Entries
   pub writes : O.Writes
-  pub is : W ≡ answers (a, b) writes
+  pub is : W ≡ answers (a, b, pairs) writes
 
 abbrev Ended : Stop → Worked → Type 0
 Ended Going W = ⊥
@@ -193,7 +203,7 @@ ends (fetches (O.object (O.flag n))) = record { asks = O.object (O.flag n); is =
 ends (fetches (O.vector s)) = record { asks = O.vector s; is = refl; lacked = refl }
 ends (fetches (O.fetched s)) = record { asks = O.fetched s; is = refl; lacked = refl }
 ends (aborted y) = refl
-ends (answers a w) = record { writes = w; is = refl }
+ends (answers a w) = record { pairs = a .2; writes = w; is = refl }
 
 -- a flag is fetched with its vector
 lack-server : Stop → ℕ
@@ -290,6 +300,26 @@ module _ (z : Sizes) (m : ClientWord → ℕ) where
       go (O.vector x) e p = let q : x ≡ s = ap lack-server e in rw (← q) (server-there x p)
       go (O.fetched x) e p = let q : x ≡ s = ap lack-server e in rw (← q) (server-there x p)
 
+-- ---- the pairs of an answer
+unanswered-none : (X : Worked) → is-answer (stop-of X) ≡ false → pairs-of X ≡ []
+unanswered-none refused n = refl
+unanswered-none (fetches a) n = refl
+unanswered-none (aborted y) n = refl
+unanswered-none (answers a w) n = let y : _≡_ {A = ℕ} 0 1 = cc in absurd (omega arith)
+
+lack-unanswered : (a : O.Ask) → is-answer (lack a) ≡ false
+lack-unanswered (O.object O.meta) = refl
+lack-unanswered (O.object (O.node n)) = refl
+lack-unanswered (O.object (O.flag n)) = refl
+lack-unanswered (O.vector s) = refl
+lack-unanswered (O.fetched s) = refl
+
+answered-pairs : (X : Worked) (ps : Entries) → ((a : O.Ans) (w : O.Writes) → X ≡ answers a w → a .2 ≡ ps) → is-answer (stop-of X) ≡ true → pairs-of X ≡ ps
+answered-pairs refused ps f n = let y : _≡_ {A = ℕ} 0 1 = cc in absurd (omega arith)
+answered-pairs (fetches a) ps f n = absurd (false≢true (sym (lack-unanswered a) ∙ n))
+answered-pairs (aborted y) ps f n = let y : _≡_ {A = ℕ} 0 1 = cc in absurd (omega arith)
+answered-pairs (answers a w) ps f n = f a w refl
+
 -- ---- what was read, with the copies in use, is of the store
 pub all-known : (z : Sizes) (w : List ℕ) (c : ℕ) → Allowed z → Known z w c → AllKnown z w c (walked (tree-sizes z) (of-client z w c) .used)
 unfolding known-at read-item used-item item-of
@@ -374,6 +404,15 @@ module _ (z : Sizes) (b : List ℕ) (c : ℕ) (hold : Store-in z (length b)) (h 
         meets-as z (view b) o w′ (λ m. fetch z m c (used-in u) (O.vector t)) (λ m. work z m c)
         (sym (work-is ∙ rw q (vector-same z (stored-in z (view b)) c (used-in u) t (v .asks) (v .lacked)))) d
 
+  work-pairs : work z (stored-in z (view b)) c .pairs ≡ pairs-of W
+  work-pairs = ap (λ (d : StepDid). d .pairs) work-is ∙ walk-pairs z (stored-in z (view b)) c (used-in u) W
+
+  pub none-written : is-answer s ≡ false → No-pairs z b c
+  none-written n = work-pairs ∙ unanswered-none W (subst (λ (t : Stop). is-answer t ≡ false) (k .stop) n)
+
+  pairs-written : (ps : Entries) → ((a : O.Ans) (w : O.Writes) → W ≡ answers a w → a .2 ≡ ps) → is-answer s ≡ true → work z (stored-in z (view b)) c .pairs ≡ ps
+  pairs-written ps f n = work-pairs ∙ answered-pairs W ps f (subst (λ (t : Stop). is-answer t ≡ true) (k .stop) n)
+
   pub work-unanswered : (a d : ℕ) → s ≡ Answers a d → is-answer s ≡ false → Comes (outcome.Refused 10) (view b)
   work-unanswered a d e n = let q : true ≡ false = sym (ap is-answer e) ∙ n in let y : _≡_ {A = ℕ} 0 1 = cc in absurd (omega arith)
 
@@ -389,20 +428,24 @@ module _ (z : Sizes) (b : List ℕ) (c : ℕ) (hold : Store-in z (length b)) (h 
         → Does whole (block z) (inPart (client c) (entering (used-in u) l)) silent (view b) 0 w′ → Comes (answer-of s) w′
     unfolding inPart
     work-answers l w′ f p =
-        let q : W ≡ answers (pair .a, pair .b) (answering .writes) = answering .is in
-        let r : entering (used-in u) l ≡ answered (used-in u) (answering .writes) = entering-is (used-in u) l (answering .writes) (f (pair .a, pair .b) (answering .writes) q) in
+        let a : O.Ans = (pair .a, pair .b, answering .pairs) in
+        let q : W ≡ answers a (answering .writes) = answering .is in
+        let r : entering (used-in u) l ≡ answered (used-in u) (answering .writes) = entering-is (used-in u) l (answering .writes) (f a (answering .writes) q) in
         let o : Outcome = outcome.Answered (pair .a) (pair .b) in
         subst (λ (y : Stop). Comes (answer-of y) w′) (sym (pair .is))
-        (meets-as z (view b) o w′ (λ m. did o (inPart (client c) (entering (used-in u) l) m)) (λ m. work z m c)
-        (sym (work-is ∙ rw (q, ← r))) (meets-did z (view b) o w′ (inPart (client c) (entering (used-in u) l)) p))
+        (meets-as z (view b) o w′ (λ m. record { outcome = o; stores = inPart (client c) (entering (used-in u) l) m; pairs = answering .pairs }) (λ m. work z m c)
+        (sym (work-is ∙ rw (q, ← r))) (record { answer = refl; words = p .words }))
 
 module _ (z : Sizes) (b : List ℕ) (c : ℕ) (hold : Store-in z (length b)) (h : c < z .clients) (known : Known z (view b) c) (wait : Waiting (of-client z (view b) c)) (fit : fit-to-work (tree-sizes z) (of-client z (view b) c) ≡ true) (s : Stop) where
   -- an operation that only reads
-  module _ (u₀ u : List ℕ) (k : Looks (tree-sizes z) (of-client z (view b) c) s u₀ u) where
+  module _ (u₀ u : List ℕ) (ps : Entries) (k : Looks (tree-sizes z) (of-client z (view b) c) s u₀ u ps) where
     pub look-answers : (o : Outcome) (w′ : List ℕ) → is-answer s ≡ true → o ≡ answer-of s → Does whole (block z) (inPart (client c) (entering (used-in u) [])) silent (view b) 0 w′
-        → Meets z (λ m. work z m c) (view b) o w′
+        → Meets z (λ m. work z m c) (view b) o w′ × (work z (stored-in z (view b)) c .pairs ≡ ps)
     unfolding entered
-    look-answers o w′ n e p = rw e (work-answers z b c hold h known wait fit s u (k .stopped) n [] w′ (λ a w q. rw (k .none a w q)) p)
+    look-answers o w′ n e p = (
+      rw e (work-answers z b c hold h known wait fit s u (k .stopped) n [] w′ (λ a w q. rw (k .none a w q)) p),
+      pairs-written z b c hold h known wait fit s u (k .stopped) ps (k .pairs) n,
+    )
 
   -- one that writes
   module _ (x₀ u₀ x u : List ℕ) (k : Works (tree-sizes z) (of-client z (view b) c) s x₀ u₀ x u) where
@@ -410,8 +453,11 @@ module _ (z : Sizes) (b : List ℕ) (c : ℕ) (hold : Store-in z (length b)) (h 
     change-fits n = let v = answering z b c hold h known wait fit s u (k .enters .stopped) n in k .fits _ (v .writes) (v .is)
 
     pub change-answers : (o : Outcome) (w′ : List ℕ) → is-answer s ≡ true → o ≡ answer-of s
-        → Does whole (block z) (inPart (client c) (entering (used-in u) (own-list x))) silent (view b) 0 w′ → Meets z (λ m. work z m c) (view b) o w′
-    change-answers o w′ n e p = rw e (work-answers z b c hold h known wait fit s u (k .enters .stopped) n (own-list x) w′ (k .enters .own) p)
+        → Does whole (block z) (inPart (client c) (entering (used-in u) (own-list x))) silent (view b) 0 w′ → Meets z (λ m. work z m c) (view b) o w′ × No-pairs z b c
+    change-answers o w′ n e p = (
+      rw e (work-answers z b c hold h known wait fit s u (k .enters .stopped) n (own-list x) w′ (k .enters .own) p),
+      pairs-written z b c hold h known wait fit s u (k .enters .stopped) [] (k .enters .unlisted) n,
+    )
 
 -- one that writes one object or none
 module _ (t : TreeSizes) (m : ClientWord → ℕ) (r : Single) (u₀ u : List ℕ) (k : WorksSingly t m r u₀ u) (on : Bool) (po : on ≡ goes (r .stop)) (off : on ≡ false) where
@@ -426,8 +472,11 @@ module _ (t : TreeSizes) (m : ClientWord → ℕ) (r : Single) (u₀ u : List �
 
 module _ (z : Sizes) (b : List ℕ) (c : ℕ) (hold : Store-in z (length b)) (h : c < z .clients) (known : Known z (view b) c) (wait : Waiting (of-client z (view b) c)) (fit : fit-to-work (tree-sizes z) (of-client z (view b) c) ≡ true) (r : Single) (u₀ u : List ℕ) (k : Enters (tree-sizes z) (of-client z (view b) c) (r .stop) (entries-of r) u₀ u) where
   pub single-answers : (o : Outcome) (w′ : List ℕ) → is-answer (r .stop) ≡ true → o ≡ answer-of (r .stop)
-      → Does whole (block z) (inPart (client c) (entering (used-in u) (entries-of r))) silent (view b) 0 w′ → Meets z (λ m. work z m c) (view b) o w′
-  single-answers o w′ n e p = rw e (work-answers z b c hold h known wait fit (r .stop) u (k .stopped) n (entries-of r) w′ (k .own) p)
+      → Does whole (block z) (inPart (client c) (entering (used-in u) (entries-of r))) silent (view b) 0 w′ → Meets z (λ m. work z m c) (view b) o w′ × No-pairs z b c
+  single-answers o w′ n e p = (
+    rw e (work-answers z b c hold h known wait fit (r .stop) u (k .stopped) n (entries-of r) w′ (k .own) p),
+    pairs-written z b c hold h known wait fit (r .stop) u (k .stopped) [] (k .unlisted) n,
+  )
 
 -- ---- what refusals 9 and 10 have judged
 count-within : (t : TreeSizes) (m : ClientWord → ℕ) (s : Set) → numbers-fit t m s ≡ true → said-count m s ≤ limit s
@@ -439,20 +488,40 @@ unfolding fit-to-work op-fits
 fits-waiting t m h n =
     let a = and-both (op-fits t m) (numbers-fit t m Reads && numbers-fit t m Writes) h in
     let b = and-both (numbers-fit t m Reads) (numbers-fit t m Writes) (a .1) in
-    let op = cond (eqb (m op-number) 6) (in-store t (m op-key) && ltb (m op-server) (t .servers)) true in
+    let op = cond (eqb (m op-number) 6) (migrate-fits t m) (cond (eqb (m op-number) 7) (list-fits m) true) in
+    let p = and-both (leb (m op-number) 7) op (a .0) in
     record {
       some = n;
-      known = leb-true (m op-number) 6 (and-both (leb (m op-number) 6) op (a .0) .0);
+      known = leb-true (m op-number) 7 (p .0);
+      listed = λ e.
+          let f : list-fits m ≡ true = rw e at (p .1) in
+          let g = and-both (leb 1 (m op-value)) (leb (m op-value) 32) f in
+          (leb-true 1 (m op-value) (g .0), leb-true (m op-value) 32 (g .1));
       reads = count-within t m Reads (b .0);
       writes = count-within t m Writes (b .1);
     }
 
 module _ (z : Sizes) (b : List ℕ) (c : ℕ) (d : Bool) (e : d ≡ fit-to-work (tree-sizes z) (of-client z (view b) c)) where
-  pub work-unfit : not d ≡ true → Meets z (λ m. work z m c) (view b) (outcome.Refused 10) (view b)
+  pub work-unfit : not d ≡ true → Meets z (λ m. work z m c) (view b) (outcome.Refused 10) (view b) × No-pairs z b c
   unfolding work
-  work-unfit t = meets-refused z (view b) 10 (λ m. work z m c) (sym (rw (← e, not-true d t)))
+  work-unfit t =
+      let p : work z (stored-in z (view b)) c ≡ refuse 10 = rw (← e, not-true d t) in
+      (meets-refused z (view b) 10 (λ m. work z m c) (sym p), ap (λ (d : StepDid). d .pairs) p)
 
   pub waiting-client : Store-in z (length b) → c < z .clients → (of-client z (view b) c op-number ≡ 0 → ⊥) → not d ≡ false → WaitingClient z b c
   waiting-client hold h n t =
       let f = sym e ∙ not-false d t in
       record { store = hold; client = h; fits = f; sets = work-known z (view b) c (hold .allowed) f; waiting = fits-waiting (tree-sizes z) (of-client z (view b) c) f n }
+
+-- ---- the lent output
+pub unlisted-output : (z : Sizes) (b : List ℕ) (c : ℕ) (out : List ℕ) → No-pairs z b c → Leaves z (λ m. work z m c) b out out
+unfolding with-pairs
+unlisted-output z b c out e = rw e
+
+pub list-room : (z : Sizes) (b : List ℕ) (c : ℕ) (out : List ℕ) → Room-for-list z b c out → operation-of (of-client z (view b) c op-number) ≡ Listing
+    → 16 * of-client z (view b) c op-value ≤ length out
+list-room z b c out r e = r (lists-number (of-client z (view b) c op-number) e)
+
+pub listed-output : (z : Sizes) (b : List ℕ) (c : ℕ) (out out′ : List ℕ) (ps : Entries) → work z (stored-in z (view b)) c .pairs ≡ ps → view out′ ≡ with-pairs ps (view out)
+    → Leaves z (λ m. work z m c) b out out′
+listed-output z b c out out′ ps e p = rw e p

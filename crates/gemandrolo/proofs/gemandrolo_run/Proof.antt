@@ -1,5 +1,6 @@
 -- `gemandrolo_run` meets its contract: a walk of its MIR, by hand, since its signature has a slice of structs. All that it knows of `run` is that it meets its contract.
 -- `run` is called at the slices' own lifetimes, shares and ghost names, so what it says of their last lists is said of the parameters'. The slices are given up for good (`gave-slice`).
+-- The letters: memory x, first xs, last m; output u, first us, last d; steps y, ys; outcomes z, first ws, last w.
 -- Assumes nothing.
 use mathlib.Core.Path.{_≡_, refl, sym, ap, subst}
 use Prim.Native.Nat.{ℕ}
@@ -51,15 +52,18 @@ abbrev R : RattleType
 R = T.the-row
 
 abbrev stayed : Stays (f.ended .signature .params) (f.ended .kept)
-stayed = (gave-slice (0 ∷ []) tt (plain (λ _. u8)), (stay-dropped (shrSliceOf (1 ∷ []) tt (plain (λ _. R))) yes, (gave-slice (2 ∷ []) tt (plain (λ _. u64)), tt)))
+stayed = (gave-slice (0 ∷ []) tt (plain (λ _. u8)), (gave-slice (1 ∷ []) tt (plain (λ _. u8)), (stay-dropped (shrSliceOf (2 ∷ []) tt (plain (λ _. R))) yes, (gave-slice (3 ∷ []) tt (plain (λ _. u64)), tt))))
 
 -- the contract that the proof cites
 abbrev Run : {M : Type 1} (𝓤 : URA M) (H : Heap 𝓤) (A : Atoms 𝓤) (mem : Memory → SProp 𝓤) (run : Routine → Fun 𝓤) → Contract 𝓤
 Run 𝓤 H A mem run = tripleOf 𝓤 H A callee.signature (callee.spec 𝓤 H A mem run)
 
-module _ {M : Type 1} (𝓤 : URA M) (H : Heap 𝓤) (A : Atoms 𝓤) (W : Given 𝓤 H A) (mem : Memory → SProp 𝓤) (run : Routine → Fun 𝓤) (κ κ₂ κ′ : Lft) (q q₂ q₁ : Share) (b o : ℕ) (γ : GName) (xs : List ℕ) (c p : ℕ) (γ₂ : GName) (ys : List Step) (b′ o′ : ℕ) (γ′ : GName) (ws : List ℕ) where
+module _ {M : Type 1} (𝓤 : URA M) (H : Heap 𝓤) (A : Atoms 𝓤) (W : Given 𝓤 H A) (mem : Memory → SProp 𝓤) (run : Routine → Fun 𝓤) (κ κᵤ κ₂ κ′ : Lft) (q qᵤ q₂ q₁ : Share) (b o : ℕ) (γ : GName) (xs : List ℕ) (bᵤ oᵤ : ℕ) (γᵤ : GName) (us : List ℕ) (c p : ℕ) (γ₂ : GName) (ys : List Step) (b′ o′ : ℕ) (γ′ : GName) (ws : List ℕ) where
   abbrev x : RefT (List ℕ)
   x = record { ptr = (b, o); name = γ; now = xs }
+
+  abbrev u : RefT (List ℕ)
+  u = record { ptr = (bᵤ, oᵤ); name = γᵤ; now = us }
 
   abbrev y : RefT (List Step)
   y = record { ptr = (c, p); name = γ₂; now = ys }
@@ -70,82 +74,87 @@ module _ {M : Type 1} (𝓤 : URA M) (H : Heap 𝓤) (A : Atoms 𝓤) (W : Given
   abbrev sv : Val
   sv = sliceVal (b, o) (length xs)
 
+  abbrev uv : Val
+  uv = sliceVal (bᵤ, oᵤ) (length us)
+
   abbrev tv : Val
   tv = sliceVal (c, p) (length ys)
 
   abbrev ov : Val
   ov = sliceVal (b′, o′) (length ws)
 
-  abbrev at : Vals f.signature (κ, (κ₂, (κ′, tt)))
-  at = (sv ∷ [], (tv ∷ [], (ov ∷ [], tt)))
+  abbrev at : Vals f.signature (κ, (κᵤ, (κ₂, (κ′, tt))))
+  at = (sv ∷ [], (uv ∷ [], (tv ∷ [], (ov ∷ [], tt))))
 
   abbrev Post : Val → SProp 𝓤
-  Post = walkOf 𝓤 H A f.ended stayed (f.clauses 𝓤 H A mem run) .post (((κ, (κ₂, (κ′, tt))), (q, (q₂, (q₁, tt))), tt, (x, (y, (z, tt))), at), tt)
+  Post = walkOf 𝓤 H A f.ended stayed (f.clauses 𝓤 H A mem run) .post (((κ, (κᵤ, (κ₂, (κ′, tt)))), (q, (qᵤ, (q₂, (q₁, tt)))), tt, (x, (u, (y, (z, tt)))), at), tt)
 
   -- what `run`'s triple binds outside, and that the caller has what it asks
   abbrev to-run : Run 𝓤 H A mem run .Ghost
-  to-run = (((κ, (κ′, (κ₂, tt))), (q, (q₁, (q₂, tt))), tt, (x, (z, (y, tt))), (sv ∷ [], (ov ∷ [], (tv ∷ [], tt)))), tt)
+  to-run = (((κ, (κᵤ, (κ′, (κ₂, tt)))), (q, (qᵤ, (q₁, (q₂, tt)))), tt, (x, (u, (z, (y, tt)))), (sv ∷ [], (uv ∷ [], (ov ∷ [], (tv ∷ [], tt))))), tt)
 
   abbrev Held : List (Item 𝓤)
-  Held = ‵ (flft κ q) ∷ ‵ (flft κ′ q₁) ∷ ‵ (flft κ₂ q₂) ∷ ‵ (MutSlice (named 0) κ u8 .own x (sv ∷ [])) ∷ ‵ (MutSlice (named 1) κ′ u64 .own z (ov ∷ [])) ∷ ‵ (ShrSlice (named 2) κ₂ R .own y (tv ∷ [])) ∷ []
+  Held = ‵ (flft κ q) ∷ ‵ (flft κᵤ qᵤ) ∷ ‵ (flft κ′ q₁) ∷ ‵ (flft κ₂ q₂) ∷ ‵ (MutSlice (named 0) κ u8 .own x (sv ∷ [])) ∷ ‵ (MutSlice (named 1) κᵤ u8 .own u (uv ∷ [])) ∷ ‵ (MutSlice (named 2) κ′ u64 .own z (ov ∷ [])) ∷ ‵ (ShrSlice (named 3) κ₂ R .own y (tv ∷ [])) ∷ []
 
   goes-run : ent 𝓤 (⋆ 𝓤 H A Held) (Run 𝓤 H A mem run .pre to-run)
   goes-run =
-      qed W Held ∵ nothing ! $ move ! (6 ∷ 0 ∷ []) $ fjoin ! $ move ! (5 ∷ 0 ∷ []) $ fjoin ! $ move ! (4 ∷ 0 ∷ []) $ fjoin ! $
-      nothing ! $ move ! (4 ∷ 0 ∷ []) $ join ! $ move ! (3 ∷ 0 ∷ []) $ join ! $ move ! (2 ∷ 0 ∷ []) $ join ! $ join ! $ frame ! $ done !
+      qed W Held ∵ nothing ! $ move ! (8 ∷ 0 ∷ []) $ fjoin ! $ move ! (7 ∷ 0 ∷ []) $ fjoin ! $ move ! (6 ∷ 0 ∷ []) $ fjoin ! $ move ! (5 ∷ 0 ∷ []) $ fjoin ! $
+      nothing ! $ move ! (5 ∷ 0 ∷ []) $ join ! $ move ! (4 ∷ 0 ∷ []) $ join ! $ move ! (3 ∷ 0 ∷ []) $ join ! $ move ! (2 ∷ 0 ∷ []) $ join ! $ join ! $ frame ! $ done !
 
-  abbrev Ends : List ℕ → List ℕ → List (Item 𝓤)
-  Ends m w = ‵ (flft κ q) ∷ ‵ (flft κ₂ q₂) ∷ ‵ (flft κ′ q₁) ∷ ‵ (finally u8 γ m) ∷ ‵ (finally u64 γ′ w) ∷ []
+  abbrev Ends : List ℕ → List ℕ → List ℕ → List (Item 𝓤)
+  Ends m d w = ‵ (flft κ q) ∷ ‵ (flft κᵤ qᵤ) ∷ ‵ (flft κ₂ q₂) ∷ ‵ (flft κ′ q₁) ∷ ‵ (finally u8 γ m) ∷ ‵ (finally u8 γᵤ d) ∷ ‵ (finally u64 γ′ w) ∷ []
 
-  exits : (m w : List ℕ) → length m ≡ length xs → length w ≡ length ws → All-taken xs ws ys m w → ent 𝓤 (⋆ 𝓤 H A (Ends m w)) (Post vunit)
-  exits m w e e′ ran =
-      qed W (Ends m w) ∵
-      suffices ! _ (ends-at 𝓤 H A f.ended stayed (f.clauses 𝓤 H A mem run) W (((κ, (κ₂, (κ′, tt))), (q, (q₂, (q₁, tt))), tt, (x, (y, (z, tt))), at), tt) vunit tt (m, (tt, (w, tt))) (e, (tt, (e′, tt)))) $ says ! ran $
-      nothing ! $ move ! (3 ∷ 0 ∷ []) $ join ! $ move ! (2 ∷ 0 ∷ []) $ join ! $ move ! (1 ∷ 0 ∷ []) $ join ! $
-      nothing ! $ move ! (3 ∷ 0 ∷ []) $ fjoin ! $ nothing ! $ fjoin ! $ move ! (2 ∷ 0 ∷ []) $ fjoin ! $ move ! (1 ∷ 0 ∷ []) $
+  exits : (m d w : List ℕ) → length m ≡ length xs → length d ≡ length us → length w ≡ length ws → All-taken xs us ws ys m d w → ent 𝓤 (⋆ 𝓤 H A (Ends m d w)) (Post vunit)
+  exits m d w e eᵤ e′ ran =
+      qed W (Ends m d w) ∵
+      suffices ! _ (ends-at 𝓤 H A f.ended stayed (f.clauses 𝓤 H A mem run) W (((κ, (κᵤ, (κ₂, (κ′, tt)))), (q, (qᵤ, (q₂, (q₁, tt)))), tt, (x, (u, (y, (z, tt)))), at), tt) vunit tt (m, (d, (tt, (w, tt)))) (e, (eᵤ, (tt, (e′, tt))))) $ says ! ran $
+      nothing ! $ move ! (4 ∷ 0 ∷ []) $ join ! $ move ! (3 ∷ 0 ∷ []) $ join ! $ move ! (2 ∷ 0 ∷ []) $ join ! $ move ! (1 ∷ 0 ∷ []) $ join ! $
+      nothing ! $ move ! (4 ∷ 0 ∷ []) $ fjoin ! $ nothing ! $ fjoin ! $ move ! (3 ∷ 0 ∷ []) $ fjoin ! $ move ! (2 ∷ 0 ∷ []) $ fjoin ! $ move ! (1 ∷ 0 ∷ []) $
       frame ! $ frame ! $ feqI ! (List Val) (vunit ∷ []) (vunit ∷ []) refl $ done !
 
   abbrev Lists : Type 0
-  Lists = List ℕ × (List ℕ × (Unit {0} × Unit {0}))
+  Lists = List ℕ × (List ℕ × (List ℕ × (Unit {0} × Unit {0})))
 
   module _ (C : Calls 𝓤 H) (Λ : Loops 𝓤 H) (fm : FmC 𝓤 H (W .laws) C) (known : Triple 𝓤 (C #run·run) (Run 𝓤 H A mem run)) where
-    walk : Room u8 (length xs) → Room R (length ys) → Room u64 (length ws)
-        → ent 𝓤 (onEntry 𝓤 H A f.signature (κ, (κ₂, (κ′, tt))) (q, (q₂, (q₁, tt))) (x, (y, (z, tt))) at) (WpFn 𝓤 H C Λ code.function (sv ∷ tv ∷ ov ∷ []) Post)
-    walk g g₂ g′ =
-        qed W ((‵ (flft κ q) ⊛ ‵ (flft κ₂ q₂) ⊛ ‵ (flft κ′ q₁) ⊛ ‵ ftrue) ∷ ‵ (owns (MutSlice (named 0) κ u8 ∷ ShrSlice (named 1) κ₂ R ∷ MutSlice (named 2) κ′ u64 ∷ []) (x, (y, (z, tt))) at) ∷ []) ∵
-        enter ! C Λ code.function (sv ∷ tv ∷ ov ∷ []) _ $
-        alloc1 ! (λ l₀. alloc1 ! (λ l₁. alloc1 ! (λ l₂. alloc1 ! (λ l₃. alloc1 ! (λ l₄. alloc1 ! (λ l₅. alloc1 ! (λ l₆. alloc1 ! (λ l₇. alloc1 ! (λ l₈. alloc0 ! $ params1 ! $
-        pass1 ! (init ! 14 refl (tt, (tt, (record { fits = g .0 }, tt)))) $ pass1 ! (init ! 12 refl (tt, (tt, (record { fits = g₂ .0 }, tt)))) $ pass1 ! (init ! 10 refl (tt, (tt, (record { fits = g′ .0 }, tt)))) $ pass0 ! $
-        -- [_8; …; _7; …; _6; …; _5; …; _4; …; _3; …; _2; …; _1; …; room for _0; …; the tokens; what the three slices own]
-        assigns ! (addr ! (from ! (fld ! refl (hop ! (look-in ! 14 (sub ! 0 refl (whole !))) (stop !))))) (from ! (stop !)) (init ! 6 refl (tt, tt)) $
-        assigns ! (agg ! (and-then ! (load ! (from ! (stop !)) (look ! 6 refl)) (and-then ! (load ! (from ! (fld ! refl (stop !))) (look-in ! 14 (sub ! 1 refl (whole !)))) (no-more !)))) (from ! (stop !)) (init ! 4 refl (tt, (tt, (record { fits = g .0 }, tt)))) $
-        assigns ! (addr ! (from ! (fld ! refl (hop ! (look-in ! 10 (sub ! 0 refl (whole !))) (stop !))))) (from ! (stop !)) (init ! 2 refl (tt, tt)) $
-        assigns ! (agg ! (and-then ! (load ! (from ! (stop !)) (look ! 2 refl)) (and-then ! (load ! (from ! (fld ! refl (stop !))) (look-in ! 10 (sub ! 1 refl (whole !)))) (no-more !)))) (from ! (stop !)) (init ! 0 refl (tt, (tt, (record { fits = g′ .0 }, tt)))) $
-        -- `run` gets all three
-        move ! (19 ∷ []) $ fsplit ! $ move ! (1 ∷ []) $ fsplit ! $ move ! (1 ∷ []) $ fsplit ! $ move ! (22 ∷ []) $ split ! $ move ! (1 ∷ []) $ split ! $ move ! (1 ∷ []) $ split ! $
-        move ! (4 ∷ 6 ∷ []) $ join ! $ move ! (6 ∷ 0 ∷ []) $ join ! $ move ! (3 ∷ 0 ∷ []) $ join ! $ move ! (1 ∷ 0 ∷ []) $ join ! $ move ! (2 ∷ 0 ∷ []) $ join ! $
+    walk : Room u8 (length xs) → Room u8 (length us) → Room R (length ys) → Room u64 (length ws)
+        → ent 𝓤 (onEntry 𝓤 H A f.signature (κ, (κᵤ, (κ₂, (κ′, tt)))) (q, (qᵤ, (q₂, (q₁, tt)))) (x, (u, (y, (z, tt)))) at) (WpFn 𝓤 H C Λ code.function (sv ∷ uv ∷ tv ∷ ov ∷ []) Post)
+    walk g gᵤ g₂ g′ =
+        qed W ((‵ (flft κ q) ⊛ ‵ (flft κᵤ qᵤ) ⊛ ‵ (flft κ₂ q₂) ⊛ ‵ (flft κ′ q₁) ⊛ ‵ ftrue) ∷ ‵ (owns (MutSlice (named 0) κ u8 ∷ MutSlice (named 1) κᵤ u8 ∷ ShrSlice (named 2) κ₂ R ∷ MutSlice (named 3) κ′ u64 ∷ []) (x, (u, (y, (z, tt)))) at) ∷ []) ∵
+        enter ! C Λ code.function (sv ∷ uv ∷ tv ∷ ov ∷ []) _ $
+        alloc1 ! (λ l₀. alloc1 ! (λ l₁. alloc1 ! (λ l₂. alloc1 ! (λ l₃. alloc1 ! (λ l₄. alloc1 ! (λ l₅. alloc1 ! (λ l₆. alloc1 ! (λ l₇. alloc1 ! (λ l₈. alloc1 ! (λ l₉. alloc1 ! (λ l₁₀. alloc1 ! (λ l₁₁. alloc0 ! $ params1 ! $
+        pass1 ! (init ! 20 refl (tt, (tt, (record { fits = g .0 }, tt)))) $ pass1 ! (init ! 18 refl (tt, (tt, (record { fits = gᵤ .0 }, tt)))) $ pass1 ! (init ! 16 refl (tt, (tt, (record { fits = g₂ .0 }, tt)))) $ pass1 ! (init ! 14 refl (tt, (tt, (record { fits = g′ .0 }, tt)))) $ pass0 ! $
+        -- [_11; …; _10; …; _9; …; _8; …; _7; …; _6; …; _5; …; _4; …; _3; …; _2; …; _1; …; room for _0; …; the tokens; what the four slices own]
+        assigns ! (addr ! (from ! (fld ! refl (hop ! (look-in ! 20 (sub ! 0 refl (whole !))) (stop !))))) (from ! (stop !)) (init ! 10 refl (tt, tt)) $
+        assigns ! (agg ! (and-then ! (load ! (from ! (stop !)) (look ! 10 refl)) (and-then ! (load ! (from ! (fld ! refl (stop !))) (look-in ! 20 (sub ! 1 refl (whole !)))) (no-more !)))) (from ! (stop !)) (init ! 8 refl (tt, (tt, (record { fits = g .0 }, tt)))) $
+        assigns ! (addr ! (from ! (fld ! refl (hop ! (look-in ! 18 (sub ! 0 refl (whole !))) (stop !))))) (from ! (stop !)) (init ! 6 refl (tt, tt)) $
+        assigns ! (agg ! (and-then ! (load ! (from ! (stop !)) (look ! 6 refl)) (and-then ! (load ! (from ! (fld ! refl (stop !))) (look-in ! 18 (sub ! 1 refl (whole !)))) (no-more !)))) (from ! (stop !)) (init ! 4 refl (tt, (tt, (record { fits = gᵤ .0 }, tt)))) $
+        assigns ! (addr ! (from ! (fld ! refl (hop ! (look-in ! 14 (sub ! 0 refl (whole !))) (stop !))))) (from ! (stop !)) (init ! 2 refl (tt, tt)) $
+        assigns ! (agg ! (and-then ! (load ! (from ! (stop !)) (look ! 2 refl)) (and-then ! (load ! (from ! (fld ! refl (stop !))) (look-in ! 14 (sub ! 1 refl (whole !)))) (no-more !)))) (from ! (stop !)) (init ! 0 refl (tt, (tt, (record { fits = g′ .0 }, tt)))) $
+        -- `run` gets all four
+        move ! (25 ∷ []) $ fsplit ! $ move ! (1 ∷ []) $ fsplit ! $ move ! (1 ∷ []) $ fsplit ! $ move ! (1 ∷ []) $ fsplit ! $ move ! (29 ∷ []) $ split ! $ move ! (1 ∷ []) $ split ! $ move ! (1 ∷ []) $ split ! $ move ! (1 ∷ []) $ split ! $
+        move ! (5 ∷ 7 ∷ []) $ join ! $ move ! (7 ∷ 0 ∷ []) $ join ! $ move ! (7 ∷ 0 ∷ []) $ join ! $ move ! (3 ∷ 0 ∷ []) $ join ! $ move ! (1 ∷ 0 ∷ []) $ join ! $ move ! (2 ∷ 0 ∷ []) $ join ! $ move ! (2 ∷ 0 ∷ []) $ join ! $
         use1 W (raw (Run 𝓤 H A mem run .pre to-run)) goes-run $
-        calls-at ! fm (Run 𝓤 H A mem run) known to-run (and-then ! (load ! (from ! (stop !)) (look ! 7 refl)) (and-then ! (load ! (from ! (stop !)) (look ! 3 refl)) (and-then ! (load ! (from ! (stop !)) (look ! 15 refl)) (no-more !)))) (λ v.
-        use1 W (later (some (λ (r : Unit {0}). ((‵ (flft κ q) ⊛ ‵ (flft κ′ q₁) ⊛ ‵ (flft κ₂ q₂) ⊛ ‵ ftrue) ⊛ ‵ (unit .own r (v ∷ []))) ⊛ raw (ensured 𝓤 H A callee.ended (callee.clauses 𝓤 H A mem run) (κ, (κ′, (κ₂, tt))) (x, (z, (y, tt))) tt r)))) (id⊢ 𝓤 _) $ await ! tt $ pick ! (λ r.
-        split ! $ move ! (1 ∷ []) $ use1 W (some (λ (zs : Lists). ‵ (lasts callee.ended (κ, (κ′, (κ₂, tt))) (x, (z, (y, tt))) zs) ⊛ raw (fact 𝓤 (All-taken xs ws ys (zs .0) (zs .1 .0))))) (id⊢ 𝓤 _) $ pick ! (λ zs.
-        split ! $ move ! (1 ∷ []) $ heard ! (All-taken xs ws ys (zs .0) (zs .1 .0)) (λ ran. fsplit ! $ fsplit ! $ move ! (1 ∷ []) $ feqL ! (λ e. move ! (1 ∷ []) $ fsplit ! $ fsplit ! $ move ! (1 ∷ []) $ feqL ! (λ e′.
-        -- [the output's last list; …; the memory's; the tokens and the result; …]
-        move ! (3 ∷ []) $ split ! $ move ! (1 ∷ []) $ feqL ! (λ is.
-        land ! (from ! (stop !)) (init ! 14 refl (nothing-lawful 𝓤 H A W .typed r (v ∷ []) is .0)) $
-        assigns ! (of-opd ! (unit-lit !)) (from ! (stop !)) (init ! 22 refl (tt, tt)) $
-        returns ! (look ! 22 refl) $ forget ! 6 refl $ forget ! 8 refl $ forget ! 10 refl $ forget ! 12 refl $ forget ! 14 refl $ forget ! 16 refl $ forget ! 18 refl $ forget ! 20 refl $ forget ! 22 refl $
-        move ! (22 ∷ 23 ∷ []) $ free1 ! $ move ! (20 ∷ 21 ∷ []) $ free1 ! $ move ! (18 ∷ 19 ∷ []) $ free1 ! $ move ! (16 ∷ 17 ∷ []) $ free1 ! $ move ! (14 ∷ 15 ∷ []) $ free1 ! $ move ! (12 ∷ 13 ∷ []) $ free1 ! $ move ! (10 ∷ 11 ∷ []) $ free1 ! $ move ! (8 ∷ 9 ∷ []) $ free1 ! $ move ! (6 ∷ 7 ∷ []) $ free1 ! $ free0 ! $
-        split ! $ move ! (1 ∷ []) $ split ! $ move ! (1 ∷ []) $ split ! $ keep ! (3 ∷ 0 ∷ 2 ∷ 6 ∷ 4 ∷ []) $ by ! (exits (zs .0) (zs .1 .0) e e′ ran)))))))))))))))))
+        calls-at ! fm (Run 𝓤 H A mem run) known to-run (and-then ! (load ! (from ! (stop !)) (look ! 11 refl)) (and-then ! (load ! (from ! (stop !)) (look ! 7 refl)) (and-then ! (load ! (from ! (stop !)) (look ! 3 refl)) (and-then ! (load ! (from ! (stop !)) (look ! 19 refl)) (no-more !))))) (λ v.
+        use1 W (later (some (λ (r : Unit {0}). ((‵ (flft κ q) ⊛ ‵ (flft κᵤ qᵤ) ⊛ ‵ (flft κ′ q₁) ⊛ ‵ (flft κ₂ q₂) ⊛ ‵ ftrue) ⊛ ‵ (unit .own r (v ∷ []))) ⊛ raw (ensured 𝓤 H A callee.ended (callee.clauses 𝓤 H A mem run) (κ, (κᵤ, (κ′, (κ₂, tt)))) (x, (u, (z, (y, tt)))) tt r)))) (id⊢ 𝓤 _) $ await ! tt $ pick ! (λ r.
+        split ! $ move ! (1 ∷ []) $ use1 W (some (λ (zs : Lists). ‵ (lasts callee.ended (κ, (κᵤ, (κ′, (κ₂, tt)))) (x, (u, (z, (y, tt)))) zs) ⊛ raw (fact 𝓤 (All-taken xs us ws ys (zs .0) (zs .1 .0) (zs .1 .1 .0))))) (id⊢ 𝓤 _) $ pick ! (λ zs.
+        split ! $ move ! (1 ∷ []) $ heard ! (All-taken xs us ws ys (zs .0) (zs .1 .0) (zs .1 .1 .0)) (λ ran. fsplit ! $ fsplit ! $ move ! (1 ∷ []) $ feqL ! (λ e. move ! (1 ∷ []) $ fsplit ! $ fsplit ! $ move ! (1 ∷ []) $ feqL ! (λ eᵤ. move ! (1 ∷ []) $ fsplit ! $ fsplit ! $ move ! (1 ∷ []) $ feqL ! (λ e′.
+        -- [the outcomes' last list; …; the output's; the memory's; the tokens and the result; …]
+        move ! (4 ∷ []) $ split ! $ move ! (1 ∷ []) $ feqL ! (λ is.
+        land ! (from ! (stop !)) (init ! 19 refl (nothing-lawful 𝓤 H A W .typed r (v ∷ []) is .0)) $
+        assigns ! (of-opd ! (unit-lit !)) (from ! (stop !)) (init ! 29 refl (tt, tt)) $
+        returns ! (look ! 29 refl) $ forget ! 7 refl $ forget ! 9 refl $ forget ! 11 refl $ forget ! 13 refl $ forget ! 15 refl $ forget ! 17 refl $ forget ! 19 refl $ forget ! 21 refl $ forget ! 23 refl $ forget ! 25 refl $ forget ! 27 refl $ forget ! 29 refl $
+        move ! (29 ∷ 30 ∷ []) $ free1 ! $ move ! (27 ∷ 28 ∷ []) $ free1 ! $ move ! (25 ∷ 26 ∷ []) $ free1 ! $ move ! (23 ∷ 24 ∷ []) $ free1 ! $ move ! (21 ∷ 22 ∷ []) $ free1 ! $ move ! (19 ∷ 20 ∷ []) $ free1 ! $ move ! (17 ∷ 18 ∷ []) $ free1 ! $ move ! (15 ∷ 16 ∷ []) $ free1 ! $ move ! (13 ∷ 14 ∷ []) $ free1 ! $ move ! (11 ∷ 12 ∷ []) $ free1 ! $ move ! (9 ∷ 10 ∷ []) $ free1 ! $ move ! (7 ∷ 8 ∷ []) $ free1 ! $ free0 ! $
+        split ! $ move ! (1 ∷ []) $ split ! $ move ! (1 ∷ []) $ split ! $ move ! (1 ∷ []) $ split ! $ keep ! (4 ∷ 3 ∷ 0 ∷ 2 ∷ 8 ∷ 7 ∷ 5 ∷ []) $ by ! (exits (zs .0) (zs .1 .0) (zs .1 .1 .0) e eᵤ e′ ran)))))))))))))))))))))
 
 module _ {M : Type 1} (𝓤 : URA M) (H : Heap 𝓤) (A : Atoms 𝓤) (W : Given 𝓤 H A) (mem : Memory → SProp 𝓤) (run : Routine → Fun 𝓤) (𝓣 : Tables 𝓤 H) (known : Triple 𝓤 (𝓣 .C #run·run) (Run 𝓤 H A mem run)) where
   run-walks : Walks 𝓤 H A f.ended stayed (WpFn 𝓤 H (𝓣 .C) (𝓣 .Λ) code.function) (f.clauses 𝓤 H A mem run)
-  run-walks = walked 𝓤 H A f.ended stayed (f.clauses 𝓤 H A mem run) (WpFn 𝓤 H (𝓣 .C) (𝓣 .Λ) code.function) (λ κs. (slice-vals, (slice-vals, (slice-vals, tt)))) (λ κs. (mut-slice-tells (named 0) (κs .0) u8, (shr-slice-tells (named 1) (κs .1 .0) R, (mut-slice-tells (named 2) (κs .1 .1 .0) u64, tt))))
+  run-walks = walked 𝓤 H A f.ended stayed (f.clauses 𝓤 H A mem run) (WpFn 𝓤 H (𝓣 .C) (𝓣 .Λ) code.function) (λ κs. (slice-vals, (slice-vals, (slice-vals, (slice-vals, tt))))) (λ κs. (mut-slice-tells (named 0) (κs .0) u8, (mut-slice-tells (named 1) (κs .1 .0) u8, (shr-slice-tells (named 2) (κs .1 .1 .0) R, (mut-slice-tells (named 3) (κs .1 .1 .1 .0) u64, tt)))))
       (λ κs qs bounds a g are. via 𝓤 _ (fst∗ 𝓤 _ (emp 𝓤)) (
-      walk 𝓤 H A W mem run (κs .0) (κs .1 .0) (κs .1 .1 .0) (qs .0) (qs .1 .0) (qs .1 .1 .0) (a .0 .ptr .0) (a .0 .ptr .1) (a .0 .name) (a .0 .now) (a .1 .0 .ptr .0) (a .1 .0 .ptr .1) (a .1 .0 .name) (a .1 .0 .now) (a .1 .1 .0 .ptr .0) (a .1 .1 .0 .ptr .1) (a .1 .1 .0 .name) (a .1 .1 .0 .now)
-      (𝓣 .C) (𝓣 .Λ) (fmOf 𝓤 H (W .laws) 𝓣) known (are .0 .0 .1) (are .1 .0 .0 .1) (are .1 .1 .0 .0 .1)))
+      walk 𝓤 H A W mem run (κs .0) (κs .1 .0) (κs .1 .1 .0) (κs .1 .1 .1 .0) (qs .0) (qs .1 .0) (qs .1 .1 .0) (qs .1 .1 .1 .0) (a .0 .ptr .0) (a .0 .ptr .1) (a .0 .name) (a .0 .now) (a .1 .0 .ptr .0) (a .1 .0 .ptr .1) (a .1 .0 .name) (a .1 .0 .now) (a .1 .1 .0 .ptr .0) (a .1 .1 .0 .ptr .1) (a .1 .1 .0 .name) (a .1 .1 .0 .now) (a .1 .1 .1 .0 .ptr .0) (a .1 .1 .1 .0 .ptr .1) (a .1 .1 .1 .0 .name) (a .1 .1 .1 .0 .now)
+      (𝓣 .C) (𝓣 .Λ) (fmOf 𝓤 H (W .laws) 𝓣) known (are .0 .0 .1) (are .1 .0 .0 .1) (are .1 .1 .0 .0 .1) (are .1 .1 .1 .0 .0 .1)))
 
   run-meets : Meets 𝓤 H A f.signature (WpFn 𝓤 H (𝓣 .C) (𝓣 .Λ) code.function) (f.spec 𝓤 H A mem run)
-  run-meets = walk-meets 𝓤 H A f.ended stayed W (goes-gave-slice 𝓤 H A W 3 0 tt (plain (λ _. u8)), (goes-dropped 𝓤 H A W 3 (shrSliceOf (1 ∷ []) tt (plain (λ _. R))) yes (λ κs x f. refl), (goes-gave-slice 𝓤 H A W 3 2 tt (plain (λ _. u64)), tt))) (f.clauses 𝓤 H A mem run) (WpFn 𝓤 H (𝓣 .C) (𝓣 .Λ) code.function) (WpFn-mono 𝓤 H (W .laws) 𝓣 code.function) run-walks
+  run-meets = walk-meets 𝓤 H A f.ended stayed W (goes-gave-slice 𝓤 H A W 4 0 tt (plain (λ _. u8)), (goes-gave-slice 𝓤 H A W 4 1 tt (plain (λ _. u8)), (goes-dropped 𝓤 H A W 4 (shrSliceOf (2 ∷ []) tt (plain (λ _. R))) yes (λ κs x f. refl), (goes-gave-slice 𝓤 H A W 4 3 tt (plain (λ _. u64)), tt)))) (f.clauses 𝓤 H A mem run) (WpFn 𝓤 H (𝓣 .C) (𝓣 .Λ) code.function) (WpFn-mono 𝓤 H (W .laws) 𝓣 code.function) run-walks
 
 pub gemandrolo-run-spec : {M : Type 1} → stated.statement M
 unfolding code.routine tablesOf

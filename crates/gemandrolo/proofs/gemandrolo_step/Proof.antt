@@ -9,5 +9,6 @@ gemandrolo-step-spec = tie.close (tie.spec
     (λ c κs. search needs)  -- step-requires
     (λ c κs. search needs)  -- of-requires
     (λ c. search needs)  -- same-length
-    (λ c. (search (line-numbers, needs), (search (line-numbers, needs), (search (line-numbers, needs), (search needs, search (tells, line-numbers, needs))))))  -- returns
+    (λ c. search needs)  -- same-length-2
+    (λ c. (search (line-numbers, needs), (search (line-numbers, needs), (search (line-numbers, needs), (search needs, (search needs, search (tells, line-numbers, needs)))))))  -- returns
     )

@@ -1,5 +1,5 @@
 -- What is reached, by the numbers that a program gets: the last clause of a contract follows from the others.
-use mathlib.Core.Path.{_≡_, refl, sym, ap, _∙_, subst}
+use mathlib.Core.Path.{_≡_, sym, _∙_, subst}
 use mathlib.Core.List.{List, [], _∷_}
 use Prim.Native.Nat.{ℕ}
 use lib.ListN.{length}
@@ -9,10 +9,10 @@ use Rattle.steps.specs.declared.step.Step.{Step}
 use Rattle.steps.specs.declared.outcome.Outcome.{Outcome}
 use Rattle.steps.specs.Outcome.{line}
 use Rattle.steps.specs.Refusal.{open-refusal}
-use Rattle.steps.specs.Taken.{came-to, outcome-from}
+use Rattle.steps.specs.Taken.{came-to}
 use Rattle.steps.specs.Laws.Taken.{same-outcome}
 use Rattle.engine.specs.Open.{words-opened}
-use Rattle.engine.specs.Step.{outcome-of, words-after}
+use Rattle.engine.specs.Step.{outcome-of}
 use Rattle.engine.specs.Reached.{Reached, Goes-on}
 use Rattle.engine.specs.Laws.Reached.{new-reached}
 use Rattle.gemandrolo.specs.Numbers.{one-taken}
@@ -23,9 +23,9 @@ module _ (b b′ : List ℕ) where
   opens z r e p q = (p, (q, λ n. new-reached z b b′ (sym p ∙ n) e q))
 
   -- o is what `step` returned, and r, a and c are its numbers
-  pub tells : (k : Step) (o : Outcome) (r a c : ℕ) → o ≡ outcome-of (length b) (view b) k → Goes-on b (came-to k o ∷ []) b′
-      → r ≡ line (outcome-of (length b) (view b) k) .outcome → a ≡ line (outcome-of (length b) (view b) k) .a → c ≡ line (outcome-of (length b) (view b) k) .b
-      → Goes-on b (one-taken k r a c) b′
-  tells k o r a c p g x y w =
-      subst (λ (u : Outcome). Goes-on b (came-to k u ∷ []) b′)
-      (p ∙ sym (rw (x, y, w) (same-outcome (outcome-of (length b) (view b) k)))) g
+  pub tells : (k : Step) (lent left : List ℕ) (o : Outcome) (r a c : ℕ) → let x = outcome-of (length b) (view b) (length lent) k in o ≡ x
+      → Goes-on b (came-to k (length lent) (view lent) o (view left) ∷ []) b′ → r ≡ line x .outcome → a ≡ line x .a → c ≡ line x .b
+      → Goes-on b (one-taken k lent r a c left) b′
+  tells k lent left o r a c p g x y w =
+      subst (λ (u : Outcome). Goes-on b (came-to k (length lent) (view lent) u (view left) ∷ []) b′)
+      (p ∙ sym (rw (x, y, w) (same-outcome (outcome-of (length b) (view b) (length lent) k)))) g

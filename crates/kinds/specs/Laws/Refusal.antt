@@ -8,6 +8,7 @@ use borrow.Author.Tests.{eq-eqb, ne-eqb, lt-ltb, le-ltb, le-leb, lt-leb, leb-fal
 use borrow.Rule.Slice.PartMut.{midOf}
 use lib.Dec.{eqb, leb, ltb}
 use lib.ListN.{length}
+use Rattle.base.specs.Laws.Table.{past-eight}
 use Rattle.memory.specs.Word.{view}
 use Rattle.memory.specs.Bit.{bit}
 use Rattle.client.specs.Layout.{ClientWord, field, phase, op-number, participants}
@@ -21,7 +22,7 @@ use Rattle.steps.specs.Whole.{Allowed, client, tree-sizes, words-for, length-fo
 use Rattle.steps.specs.Refusal.{between, allowed?, first, kind-of, open-refusal, refusal, state-fits}
 use Rattle.kinds.specs.Parts.{Store-in, stored-in}
 use Rattle.kinds.specs.Laws.Parts.{are-allowed, client-lent}
-use Rattle.kinds.specs.Refusal.{first-refusal, server-refusal, node-refusal, give-refusal, field-refusal, known-refusal, left, due, fitting, unfit, Sited}
+use Rattle.kinds.specs.Refusal.{first-refusal, server-refusal, node-refusal, count-refusal, give-refusal, field-refusal, known-refusal, left, due, fitting, unfit, Sited}
 
 pub ruleset tests = (eq-eqb, ne-eqb, lt-ltb, le-ltb, le-leb, lt-leb)
 
@@ -70,15 +71,7 @@ of-number n k r e h = rw e h
 
 pub of-none : (n : ℕ) → (n ≡ 0 → ⊥) → (n ≡ 1 → ⊥) → (n ≡ 2 → ⊥) → (n ≡ 3 → ⊥) → (n ≡ 4 → ⊥) → (n ≡ 5 → ⊥) → (n ≡ 6 → ⊥) → (n ≡ 7 → ⊥) → Unknown ≡ kind-of n
 unfolding kind-of
-of-none zero a b c d e f g h = absurd (a refl)
-of-none (suc zero) a b c d e f g h = absurd (b refl)
-of-none (suc (suc zero)) a b c d e f g h = absurd (c refl)
-of-none (suc (suc (suc zero))) a b c d e f g h = absurd (d refl)
-of-none (suc (suc (suc (suc zero)))) a b c d e f g h = absurd (e refl)
-of-none (suc (suc (suc (suc (suc zero))))) a b c d e f g h = absurd (f refl)
-of-none (suc (suc (suc (suc (suc (suc zero)))))) a b c d e f g h = absurd (g refl)
-of-none (suc (suc (suc (suc (suc (suc (suc zero))))))) a b c d e f g h = absurd (h refl)
-of-none (suc (suc (suc (suc (suc (suc (suc (suc n)))))))) a b c d e f g h = refl
+of-none = past-eight _ _ _ _ _ _ _ _ Unknown
 
 fits-fitting : (m : ClientWord → ℕ) (s : ℕ) (k : Kind) → fitting k (m phase) (m op-number) (due m s k) ≡ state-fits m s k
 unfolding state-fits fitting due left
@@ -164,15 +157,28 @@ module _ (z : Sizes) (k : Step) where
   unfolding give-refusal
   op-other d h = sym (rw (le-leb 1 (k .op) (omega arith), le-leb (k .op) 5 (omega arith)))
 
-  pub op-above : (k .op ≡ 6 → ⊥) → 6 ≤ k .op → 6 ≡ give-refusal z k
+  pub op-above : (k .op ≡ 6 → ⊥) → (k .op ≡ 7 → ⊥) → 6 ≤ k .op → 6 ≡ give-refusal z k
   unfolding give-refusal
-  op-above d h = sym (rw (le-leb 1 (k .op) (omega arith), lt-leb (k .op) 5 (omega arith), ne-eqb (k .op) 6 d))
+  op-above d f h = sym (rw (le-leb 1 (k .op) (omega arith), lt-leb (k .op) 5 (omega arith), ne-eqb (k .op) 6 d, ne-eqb (k .op) 7 f))
+
+  pub op-list : (r : ℕ) → k .op ≡ 7 → r ≡ count-refusal (k .value) → r ≡ give-refusal z k
+  unfolding give-refusal
+  op-list r e h = rw (e, ← h)
 
   pub op-migrate : (a b r : ℕ) → k .op ≡ 6 → a ≡ server-refusal z (k .server) → b ≡ node-refusal z (k .key) → r ≡ first-refusal a b → r ≡ give-refusal z k
   unfolding give-refusal
   op-migrate a b r e p q h = rw (e, ← p, ← q) h
 
-pub ruleset field-exits = (some-first, server-out, server-in, node-in, node-out, op-none, op-other, op-above, op-migrate)
+module _ (n : ℕ) (b : Bool) (e : b ≡ between 1 32 n) where
+  pub count-in : b ≡ true → 0 ≡ count-refusal n
+  unfolding count-refusal
+  count-in t = sym (rw (← e, t))
+
+  pub count-out : b ≡ false → 11 ≡ count-refusal n
+  unfolding count-refusal
+  count-out t = sym (rw (← e, t))
+
+pub ruleset field-exits = (some-first, server-out, server-in, node-in, node-out, count-in, count-out, op-none, op-other, op-above, op-migrate, op-list)
 
 pub kind-fields : (z : Sizes) (k : Step) (i j : Kind) (r : ℕ) → i ≡ j → r ≡ field-refusal z k j → r ≡ field-refusal z k i
 kind-fields z k i j r e h = rw e h
@@ -213,22 +219,29 @@ module _ (z : Sizes) (k : Step) (i : Kind) (w : List ℕ) where
 pub ruleset known-exits = (is-sited, no-client, asked-first, state-unfit, state-fit)
 
 -- ---- 4 to 9: the table is what its kinds ask
--- the table's rows 6 to 8 of a give, then x
-above-6 : (o : ℕ) (s d : Bool) (x y : ℕ) → 6 < o → first-refusal (cond (between 1 5 o) 0 (cond (eqb o 6) y 6)) x ≡ cond (not (between 1 6 o)) 6 (cond ((eqb o 6 || false) && s) 7 (cond (eqb o 6 && not d) 8 x))
-above-6 o s d x y h = rw (le-leb 1 o (omega arith), lt-leb o 5 (omega arith), lt-leb o 6 h, ne-eqb o 6 (λ e. absurd (omega arith)))
+-- the table's rows 6, 11, 7 and 8 of a give, then x
+abbrev rows : (o : ℕ) (s d c : Bool) (x : ℕ) → ℕ
+rows o s d c x = cond (not (between 1 7 o)) 6 (cond (eqb o 7 && not c) 11 (cond ((eqb o 6 || false) && s) 7 (cond (eqb o 6 && not d) 8 x)))
 
-by-op : (o : ℕ) (s d : Bool) (x : ℕ)
-    → first-refusal (cond (between 1 5 o) 0 (cond (eqb o 6) (first-refusal (cond s 7 0) (cond d 0 8)) 6)) x ≡ cond (not (between 1 6 o)) 6 (cond ((eqb o 6 || false) && s) 7 (cond (eqb o 6 && not d) 8 x))
-by-op zero s d x = refl
-by-op (suc zero) s d x = refl
-by-op (suc (suc zero)) s d x = refl
-by-op (suc (suc (suc zero))) s d x = refl
-by-op (suc (suc (suc (suc zero)))) s d x = refl
-by-op (suc (suc (suc (suc (suc zero))))) s d x = refl
-by-op (suc (suc (suc (suc (suc (suc zero)))))) true d x = refl
-by-op (suc (suc (suc (suc (suc (suc zero)))))) false true x = refl
-by-op (suc (suc (suc (suc (suc (suc zero)))))) false false x = refl
-by-op (suc (suc (suc (suc (suc (suc (suc o))))))) s d x = above-6 (suc (suc (suc (suc (suc (suc (suc o))))))) s d x (first-refusal (cond s 7 0) (cond d 0 8)) (omega arith)
+abbrev given : (o : ℕ) (s d c : Bool) → ℕ
+given o s d c = cond (between 1 5 o) 0 (cond (eqb o 6) (first-refusal (cond s 7 0) (cond d 0 8)) (cond (eqb o 7) (cond c 0 11) 6))
+
+above-7 : (o : ℕ) (s d c : Bool) (x : ℕ) → 7 < o → first-refusal (given o s d c) x ≡ rows o s d c x
+above-7 o s d c x h = rw (le-leb 1 o (omega arith), lt-leb o 5 (omega arith), lt-leb o 7 h, ne-eqb o 6 (λ e. absurd (omega arith)), ne-eqb o 7 (λ e. absurd (omega arith)))
+
+by-op : (o : ℕ) (s d c : Bool) (x : ℕ) → first-refusal (given o s d c) x ≡ rows o s d c x
+by-op zero s d c x = refl
+by-op (suc zero) s d c x = refl
+by-op (suc (suc zero)) s d c x = refl
+by-op (suc (suc (suc zero))) s d c x = refl
+by-op (suc (suc (suc (suc zero)))) s d c x = refl
+by-op (suc (suc (suc (suc (suc zero))))) s d c x = refl
+by-op (suc (suc (suc (suc (suc (suc zero)))))) true d c x = refl
+by-op (suc (suc (suc (suc (suc (suc zero)))))) false true c x = refl
+by-op (suc (suc (suc (suc (suc (suc zero)))))) false false c x = refl
+by-op (suc (suc (suc (suc (suc (suc (suc zero))))))) s d true x = refl
+by-op (suc (suc (suc (suc (suc (suc (suc zero))))))) s d false x = refl
+by-op (suc (suc (suc (suc (suc (suc (suc (suc o)))))))) s d c x = above-7 (suc (suc (suc (suc (suc (suc (suc (suc o)))))))) s d c x (omega arith)
 
 -- its row 7 of a prepare or an apply, then x
 by-site : (s : Bool) (x : ℕ) → first-refusal (cond s 7 0) x ≡ cond s 7 x
@@ -244,9 +257,9 @@ module _ (z : Sizes) (k : Step) (w : List ℕ) where
   nine i = cond (unfit z k i w) 9 0
 
   by-kind : (n : ℕ) → n < 8 → known-refusal z (kinded n) (kind-of n) w ≡ refusal z (kinded n) (stored-in z w)
-  unfolding refusal first known-refusal field-refusal unfit give-refusal server-refusal node-refusal kind-of
+  unfolding refusal first known-refusal field-refusal unfit give-refusal server-refusal node-refusal count-refusal kind-of
   by-kind zero h = refl
-  by-kind (suc zero) h = rw (by-op (k .op) (leb (z .servers) (k .server)) (in-store (tree-sizes z) (k .key)) (nine Give))
+  by-kind (suc zero) h = rw (by-op (k .op) (leb (z .servers) (k .server)) (in-store (tree-sizes z) (k .key)) (between 1 32 (k .value)) (nine Give))
   by-kind (suc (suc zero)) h = refl
   by-kind (suc (suc (suc zero))) h = refl
   by-kind (suc (suc (suc (suc zero)))) h = rw (by-site (leb (z .servers) (k .server)) (nine Prepare))

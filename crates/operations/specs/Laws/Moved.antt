@@ -46,7 +46,7 @@ module _ (F : Terms) (sz : TreeSizes) (al : Allowed sz) (M : Obj → Val) (suppl
       let es = R .ents in
       let f = R .tree in
       let t : ℕ → ℕ = λ d. 0 + one r d + tally (cnt l) es d + 0 in
-      let end : ℕ → Writes → TreePlan = λ d w. P.done ((1, d), (node d, v) ∷ w) in
+      let end : ℕ → Writes → TreePlan = λ d w. P.done ((1, d, []), (node d, v) ∷ w) in
       take-at-ok F Kept M sz al supply s (slot-of r) [] (λ d w. take-node w d (release ((meta, root d) ∷ w) r (end d))) t server (f .marks)
       (λ d sm z.
       let w1 : Writes = (flag d, taken true) ∷ [] in
@@ -63,13 +63,13 @@ module _ (F : Terms) (sz : TreeSizes) (al : Allowed sz) (M : Obj → Val) (suppl
   -- a node below the root moves
   move-kid-ok : (key l k n : ℕ) (pre post : List (ℕ × Slot (suc l))) (p : Path (suc l)) (es : List (ℕ × Slot l)) (v : Val) → M (node n) ≡ v
       → Site M m key l (frame k n pre post p) es
-      → Ok F Kept M (moved sz n s v (λ d w. w) (λ d w. P.done ((1, d), (node (nm (suc l) p), node-value (suc l) (ren (word (suc l)) pre ++ (k, d) ∷ ren (word (suc l)) post)) ∷ w)))
+      → Ok F Kept M (moved sz n s v (λ d w. w) (λ d w. P.done ((1, d, []), (node (nm (suc l) p), node-value (suc l) (ren (word (suc l)) pre ++ (k, d) ∷ ren (word (suc l)) post)) ∷ w)))
   move-kid-ok key l k n pre post p es v e g =
       let f = g .focus in
       let W = word (suc l) in
       let hole = frame k n pre post p in
       let t : ℕ → ℕ = λ d. around l hole d + one n d + tally (cnt l) es d + 0 in
-      let end : ℕ → Writes → TreePlan = λ d w. P.done ((1, d), (node (nm (suc l) p), node-value (suc l) (ren W pre ++ (k, d) ∷ ren W post)) ∷ (node d, v) ∷ w) in
+      let end : ℕ → Writes → TreePlan = λ d w. P.done ((1, d, []), (node (nm (suc l) p), node-value (suc l) (ren W pre ++ (k, d) ∷ ren W post)) ∷ (node d, v) ∷ w) in
       take-at-ok F Kept M sz al supply s (slot-of n) [] (λ d w. take-node w d (release w n (end d))) t server (f .marks)
       (λ d sm z.
       let w1 : Writes = (flag d, taken true) ∷ [] in
@@ -135,7 +135,7 @@ module _ (F : Terms) (sz : TreeSizes) (al : Allowed sz) (M : Obj → Val) (suppl
         let D = site-down M m key l p y es g in
         let hole = frame (c .1 .0) (c .1 .1 .0) (c .0) (c .2) p in
         let i = in-cut l p y es g h in
-        let there : Cut ℕ → TreePlan = λ c. moved sz n s v (λ d w. w) (λ d w. P.done ((1, d), (node (nm (suc l) p), node-value (suc l) (c .0 ++ (c .1 .0, d) ∷ c .2)) ∷ w)) in
+        let there : Cut ℕ → TreePlan = λ c. moved sz n s v (λ d w. w) (λ d w. P.done ((1, d, []), (node (nm (suc l) p), node-value (suc l) (c .0 ++ (c .1 .0, d) ∷ c .2)) ∷ w)) in
         let met-here : Cut ℕ → TreePlan = λ c. ifd (ℕ-discrete (c .1 .1) n) (there c) (P.fail no-tree) in
         let on : Cut ℕ → TreePlan = λ c. kid [] l (c .1 .0) (c .1 .1)
         (λ es′. down (to-level (suc lv)) key (move-at sz n s v key) l (record { nm = nm (suc l) p; key = c .1 .0; pre = c .0; post = c .2 } ∷ branches (suc l) p) (c .1 .1) es′) in

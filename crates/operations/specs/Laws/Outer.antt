@@ -10,7 +10,7 @@ use Rattle.base.specs.Test.{ifd}
 use Rattle.base.specs.Laws.Test.{ifd-all}
 use Rattle.operations.specs.Object.{node, Ask, object, Val, root, body, taken, flags, no-tree, Ans, Writes}
 use Rattle.operations.specs.Laws.Object.{inner, inner-node}
-use Rattle.operations.specs.Map.{Op, insert, lookup, delete, next, previous, migrate, compared}
+use Rattle.operations.specs.Map.{Op, insert, lookup, delete, next, previous, migrate, list, compared}
 use Rattle.operations.specs.Entry.{Entries, fewest-entries, cut}
 use Rattle.operations.specs.Path.{TreePlan, open-node, kid, when-root, Branch, Cont, to-leaf, down, at-root, from-root}
 use Rattle.operations.specs.Slot.{TreeSizes}
@@ -74,6 +74,7 @@ module _ (G : Type 0) (A : Ask → Val → Type 0) (out : (n : ℕ) (v : Val) �
   reading-outer sz (delete k) c = root-outer k _
   reading-outer sz (next k) c = root-outer k _
   reading-outer sz (previous k) c = root-outer k _
+  reading-outer sz (list k n) c = root-outer k _
   reading-outer sz (migrate n s) c = absurd (false≢true c)
 
 pub asks-outer : (sz : TreeSizes) (op : Op) (rd : Ask → Bool) (S : Ask → Val) (a : Ans) (w : Writes) → compared op ≡ true

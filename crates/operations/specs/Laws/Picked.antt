@@ -3,11 +3,11 @@ use mathlib.Core.Path.{_≡_, refl, ap, _∙_}
 use mathlib.Core.List.{[], _∷_, _++_, reverse, reverse-append}
 use mathlib.Core.Option.{Option, none, some}
 use Prim.Native.Nat.{ℕ, _<_}
-use native.Mathlib.Decide.{decLt}
+use native.Mathlib.Decide.{decLt, decLe}
 use lib.ListN.{take}
 use Rattle.base.specs.Test.{ifd}
 use Rattle.nodes.specs.Vector.{or-else}
-use Rattle.operations.specs.Map.{Map, above, below, said}
+use Rattle.operations.specs.Map.{Map, above, below, upward, said}
 use Rattle.operations.specs.Look.{nearest}
 
 module _ {P : ℕ → Type 0} (d : (x : ℕ) → Dec (P x)) where
@@ -42,6 +42,10 @@ first-app [] b = refl
 first-app (e ∷ a) b = refl
 
 module _ (key : ℕ) where
+  pub upward-is : (m : Map) → upward key m ≡ picked (decLe key) m
+  upward-is [] = refl
+  upward-is (e ∷ m) = ap (λ l. ifd (decLe key (e .0)) (e ∷ l) l) (upward-is m)
+
   -- however it is decided
   module _ (d : (x : ℕ) → Dec (key < x)) where
     above-first : (m : Map) → first (picked d m) ≡ above key m

@@ -1,4 +1,4 @@
--- Lookup, next and previous on a snapshot that holds a tree.
+-- Lookup, next, previous and list on a snapshot that holds a tree.
 use mathlib.Core.Path.{_≡_, ap, sym, _∙_, subst}
 use mathlib.Core.List.{List, [], _∷_, _++_, reverse, append-nil, append-assoc}
 use Prim.Native.Nat.{ℕ, zero, suc, _<_}
@@ -9,13 +9,13 @@ use lib.ListN.{length, take}
 use lib.Seq.{take-append-le}
 use borrow.Author.Tests.{leb-true}
 use Rattle.operations.specs.Object.{Obj, node, Val, Ans, Writes}
-use Rattle.operations.specs.Map.{Map, look, above, below, said, two-to-64}
-use Rattle.operations.specs.Entry.{Entries, keys, first-key-or, value-in, above-in, below-in}
-use Rattle.operations.specs.Look.{lookup-plan, Search, Onward, told, enough, Visit, rightward, leftward, seek, seek-up, from-leaf, one-of, next-plan, previous-plan}
+use Rattle.operations.specs.Map.{Map, look, above, below, upward, said, listed, two-to-64}
+use Rattle.operations.specs.Entry.{Entries, keys, first-key-or, value-in, above-in, below-in, from-in}
+use Rattle.operations.specs.Look.{lookup-plan, Search, Onward, told, enough, Visit, rightward, leftward, seek, seek-up, from-leaf, one-of, next-plan, previous-plan, list-plan}
 use Rattle.operations.specs.Laws.Chain.{Rising, chain-rising}
 use Rattle.operations.specs.Chain.{Chain, gather, ren}
-use Rattle.operations.specs.Laws.Picked.{picked, picked-app, picked-back, above-nearest, below-nearest}
-use Rattle.operations.specs.Laws.Places.{look-is, above-is, below-is}
+use Rattle.operations.specs.Laws.Picked.{picked, picked-app, picked-back, above-nearest, below-nearest, upward-is}
+use Rattle.operations.specs.Laws.Places.{look-is, above-is, below-is, drop-is}
 use Rattle.operations.specs.Laws.Ensures.{Terms, Ok, cond-ok}
 use Rattle.operations.specs.Tree.{Slot, word, pairs, Entry}
 use Rattle.operations.specs.Laws.Focus.{entry-rise, Path, top, frame, hi, left, right, Ctx, Rep, Ends}
@@ -146,3 +146,7 @@ module _ (F : Terms) (M : Obj → Val) (m : Map) (key : ℕ) (small : key < two-
 
   pub previous-ok : Ok F (Ends M m (said (below key m))) M (previous-plan key)
   previous-ok = subst (λ a. Ok F (Ends M m a) M (previous-plan key)) (below-nearest key m) (left-ok (λ x. decLt x key) (one-of (below-in key)) (below-is key) (λ x h p. omega (arith, h, p)))
+
+  pub list-ok : (n : ℕ) → Ok F (Ends M m (listed (take n (upward key m)))) M (list-plan key n)
+  list-ok n = subst (λ l. Ok F (Ends M m (listed (take n l))) M (list-plan key n)) (sym (upward-is key m))
+      (right-ok (decLe key) (record { wanted = n; in-leaf = from-in key; answer = listed }) (drop-is key) (λ x h p. omega (arith, h, p)))

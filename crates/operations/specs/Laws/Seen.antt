@@ -5,7 +5,7 @@ use mathlib.Core.Logic.{_⊎_, inl, inr}
 use Prim.Native.Nat.{ℕ}
 use Rattle.operations.specs.Object.{Obj, node, Ask, object, vector, fetched, Val, Why, no-tree, Ans, Writes, over}
 use Rattle.operations.specs.Laws.Object.{inner, written}
-use Rattle.operations.specs.Map.{Map, Op, insert, lookup, delete, next, previous, migrate, answer, compared, map-after}
+use Rattle.operations.specs.Map.{Map, Op, insert, lookup, delete, next, previous, migrate, list, answer, compared, map-after}
 use Rattle.operations.specs.Path.{TreePlan}
 use Rattle.operations.specs.Slot.{TreeSizes, Allowed}
 use Rattle.operations.specs.Operation.{plan, Legal}
@@ -79,4 +79,5 @@ uncompared-after (lookup k) m h = refl
 uncompared-after (delete k) m h = absurd (true≢false h)
 uncompared-after (next k) m h = refl
 uncompared-after (previous k) m h = refl
+uncompared-after (list k n) m h = refl
 uncompared-after (migrate n s) m h = refl

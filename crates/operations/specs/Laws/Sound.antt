@@ -7,7 +7,7 @@ use Prim.Native.Nat.{ℕ, zero, suc, _+_, _≤_}
 use native.Mathlib.Omega.{arith}
 use Rattle.plans.specs.Plan.{fails, exec}
 use Rattle.operations.specs.Object.{Obj, node, flag, Ask, Val, flags-of, taken, Why, not-free, no-tree, no-slot, Ans, Writes, over, objects}
-use Rattle.operations.specs.Map.{Map, Op, insert, lookup, delete, next, previous, migrate, answer, compared, map-after}
+use Rattle.operations.specs.Map.{Map, Op, insert, lookup, delete, next, previous, migrate, list, answer, compared, map-after}
 use Rattle.operations.specs.Slot.{TreeSizes, Allowed}
 use Rattle.operations.specs.Operation.{reading, plan, Legal}
 use Rattle.operations.specs.Chain.{one}
@@ -17,7 +17,7 @@ use Rattle.operations.specs.Tree.{room, Mark, Holds-tree, True-of}
 use Rattle.operations.specs.Laws.Tree.{room-is}
 use Rattle.operations.specs.Laws.Focus.{Rep, rep-of, holds-of}
 use Rattle.operations.specs.Laws.Slots.{counted-true, Supply}
-use Rattle.operations.specs.Laws.Reads.{lookup-ok, next-ok, previous-ok}
+use Rattle.operations.specs.Laws.Reads.{lookup-ok, next-ok, previous-ok, list-ok}
 use Rattle.operations.specs.Laws.Changes.{insert-ok, delete-ok}
 use Rattle.operations.specs.Laws.Moved.{migrate-ok}
 use Rattle.operations.specs.Laws.Checked.{checked-ok, all-fit-rep}
@@ -35,6 +35,7 @@ module _ (sz : TreeSizes) (al : Allowed sz) where
     reading-ok (delete k) i = ok-mono F _ (Right (delete k) M m) M (λ a w q. (λ _. q .0, q .1)) (reading sz (delete k)) (delete-ok F sz al M supply m k i R)
     reading-ok (next k) i = ok-mono F _ (Right (next k) M m) M (λ a w q. (λ _. q .0, q .1)) (reading sz (next k)) (next-ok F M m k i R)
     reading-ok (previous k) i = ok-mono F _ (Right (previous k) M m) M (λ a w q. (λ _. q .0, q .1)) (reading sz (previous k)) (previous-ok F M m k i R)
+    reading-ok (list k n) i = ok-mono F _ (Right (list k n) M m) M (λ a w q. (λ _. q .0, q .1)) (reading sz (list k n)) (list-ok F M m k i R n)
     reading-ok (migrate n s) i = ok-mono F _ (Right (migrate n s) M m) M (λ a w q. (λ c. absurd (false≢true c), q)) (reading sz (migrate n s))
         (migrate-ok F sz al M supply m R s i n)
 

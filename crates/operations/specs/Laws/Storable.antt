@@ -117,6 +117,8 @@ pub record Scope : Type 1 where
   pub R : Obj → Type 0
   -- says that what is read can be stored
   pub Z : Type 0
+  -- holds of the answer
+  pub A : Ans → Type 0
 
 abbrev pub least : ℕ → ℕ
 least zero = 0
@@ -191,12 +193,16 @@ module _ (T : Scope) where
   All-well [] = Unit {0}
   All-well (e ∷ w) = Well (e .0) (e .1) × All-well w
 
+  -- an answer with what is written
+  abbrev pub Ends : Ans → Writes → Type 0
+  Ends a w = T .A a × All-well w
+
   abbrev pub Ok : TreePlan → Type 0
-  Ok p = Along Asks Read (λ a w. All-well w) p
+  Ok p = Along Asks Read Ends p
 
   -- and what it comes to
   abbrev pub Comes : W.Met Ask (Ans × Writes) Why → Type 0
-  Comes m = Ended Asks Read (λ a w. All-well w) m
+  Comes m = Ended Asks Read Ends m
 
   -- a node that was asked for
   abbrev pub Met : ℕ → Type 0

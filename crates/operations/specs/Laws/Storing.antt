@@ -14,7 +14,7 @@ use Rattle.nodes.specs.Name.{name, server-of, slot-of}
 use Rattle.nodes.specs.Place.{place}
 use Rattle.nodes.specs.Placement.{row}
 use Rattle.operations.specs.Object.{Obj, meta, node, Ask, object, vector, fetched, Val, root, body, taken, flags, no-tree, Ans, Writes}
-use Rattle.operations.specs.Map.{Op, insert, lookup, delete, next, previous, migrate, fresh}
+use Rattle.operations.specs.Map.{Op, insert, lookup, delete, next, previous, migrate, list, fresh, said, gone, listed}
 use Rattle.operations.specs.Entry.{Entries, keys, node-value, fewest-entries, most-entries, first-key-or, cut, index, value-in, with-at, with-pair}
 use Rattle.operations.specs.Path.{TreePlan, when-root, Branch}
 use Rattle.operations.specs.Slot.{TreeSizes, present, take-for, take-node, release}
@@ -23,8 +23,8 @@ use Rattle.operations.specs.Change.{Go, with-one, with-two, parted, at-t
 use Rattle.operations.specs.Migrate.{moved, move-at, to-level, first-key, move-below, move-node, move-if}
 use Rattle.operations.specs.Operation.{reading}
 use Rattle.operations.specs.Laws.Along.{along-walk}
-use Rattle.operations.specs.Laws.Quiet.{lookup-quiet, next-quiet, previous-quiet}
-use Rattle.operations.specs.Laws.Storable.{Storable, All-storable, Inside, every-any, every-append, every-take, every-drop, Scope, least, Children, Within, Sized, Asks, Read, Well, All-well, Ok, Comes, Met, mk-well, see-ok, if-ok, kid-ok, Beside, Branched, Path, cut-ok, down-ok, root-ok, at-root-ok, leaf-ok, node-ok, release-ok, Servers, take-ok}
+use Rattle.operations.specs.Laws.Quiet.{lookup-quiet, next-quiet, previous-quiet, list-quiet}
+use Rattle.operations.specs.Laws.Storable.{Ends, Storable, All-storable, Inside, every-any, every-append, every-take, every-drop, Scope, least, Children, Within, Sized, Asks, Read, Well, All-well, Ok, Comes, Met, mk-well, see-ok, if-ok, kid-ok, Beside, Branched, Path, cut-ok, down-ok, root-ok, at-root-ok, leaf-ok, node-ok, release-ok, Servers, take-ok}
 use Rattle.plans.specs.Plan as P
 use Rattle.plans.specs.Laws.Walk as W
 use Rattle.nodes.specs.Lists as L
@@ -47,7 +47,30 @@ Names N sz (lookup k) = Unit {0}
 Names N sz (delete k) = Unit {0}
 Names N sz (next k) = Unit {0}
 Names N sz (previous k) = Unit {0}
+Names N sz (list k n) = Unit {0}
 Names N sz (migrate n s) = N n × (s < sz .servers)
+
+-- how an operation's answer is made up: "a is the number of pairs" of a list, and no other has any
+abbrev pub Form : Op → Ans → Type 0
+Form (insert k v) a = a .2 ≡ []
+Form (lookup k) a = a .2 ≡ []
+Form (delete k) a = a .2 ≡ []
+Form (next k) a = a .2 ≡ []
+Form (previous k) a = a .2 ≡ []
+Form (migrate n s) a = a .2 ≡ []
+Form (list k n) a = a .0 ≡ length (a .2)
+
+said-form : (o : Option ℕ) → said o .2 ≡ []
+said-form none = refl
+said-form (some v) = refl
+
+fresh-form : (o : Option ℕ) → fresh o .2 ≡ []
+fresh-form none = refl
+fresh-form (some v) = refl
+
+gone-form : (o : Option ℕ) → gone o .2 ≡ []
+gone-form none = refl
+gone-form (some v) = refl
 
 -- a pair put into a leaf, or taken out
 with-few : (key v : ℕ) (es : Entries) → length (with-pair key v es) ≤ suc (length es)
@@ -132,7 +155,7 @@ module _ (T : Scope) where
       go none q = (ap suc q, λ c. (tt, c .0))
       go (some r) q = (ap suc (q .0), λ c. let d = q .1 (c .1) in ((c .0, d .0), d .1))
 
-  module _ (a : Ans) (l : ℕ) (fs : List Branch) (go : Go) (g : Goes l go) where
+  module _ (a : Ans) (fine : T .A a) (l : ℕ) (fs : List Branch) (go : Go) (g : Goes l go) where
     merged-ok : (w : Writes) (f : Branch) (c : ℕ) (es : Entries) → All-well T w → Branched T f → Met T c → (Z → Sized T l es) → Ok T (merged a l fs go w f c es)
     merged-ok w f c es h b m s = by fs
       where
@@ -141,7 +164,7 @@ module _ (T : Scope) where
 
         by : (gs : List Branch) → let p = onward a l fs go w f c es in Ok T (at-top gs (ifd (ℕ-discrete (length (with-one f c)) 1) (collapsed a l fs go w f c es) p) p)
         by [] = if-ok T (ℕ-discrete (length (with-one f c)) 1) _ _
-            (λ _. release-ok T w c (λ w′. P.done (a, (node (f .nm), node-value l es) ∷ w′)) h m (λ u n. (mk-well T l (f .nm) es (b .0) s, n))) (λ _. one)
+            (λ _. release-ok T w c (λ w′. P.done (a, (node (f .nm), node-value l es) ∷ w′)) h m (λ u n. (fine, (mk-well T l (f .nm) es (b .0) s, n)))) (λ _. one)
         by (x ∷ gs) = one
 
     -- the entries es of c, too few, and a neighbour; f: the branch without the neighbour
@@ -184,17 +207,20 @@ module _ (T : Scope) where
   in-order : (n : ℕ) → Z → Servers T (present (sz .servers) (row (server-of n)))
   in-order n z = present-below (sz .servers) (row (server-of n))
 
-  split-root-ok : (a : Ans) (l : ℕ) (w : Writes) (r : ℕ) (es : Entries) → All-well T w → Met T r → (Z → Risen l es) → most-entries l < length es → Ok T (split-root sz a l w r es)
+  split-root-ok : (a : Ans) → T .A a → (l : ℕ) (w : Writes) (r : ℕ) (es : Entries) → All-well T w → Met T r → (Z → Risen l es) → most-entries l < length es → Ok T (split-root sz a l w r es)
   unfolding Every
-  split-root-ok a l w r es h m s q =
+  split-root-ok a fine l w r es h m s q =
       let ss = present (sz .servers) (row (server-of r)) in
       let f : Branch = record { nm = r; key = 0; pre = []; post = [] } in
       let top : Go = λ w′ es′. P.done (a, (node r, node-value (suc l) es′) ∷ w′) in
       let both : ℕ → ℕ → Writes → TreePlan = λ c d w2. take-node w2 c (take-node w2 d (parted top l w2 f c (take (fewest-entries l) es) d (drop (fewest-entries l) es))) in
       take-ok T ss (slot-of r) w (λ c w1. take-for sz r w1 (both c)) h (in-order r) (λ c w1 i n1.
       take-ok T ss (slot-of r) w1 (both c) n1 (in-order r) (λ d w2 j n2. node-ok T w2 c _ n2 i (λ mc. node-ok T w2 d _ n2 j (λ md. (
-        mk-well T (suc l) r (with-two f c (first-key-or (drop (fewest-entries l) es) 0) d) m (λ z. record { some-child = omega arith; few = omega arith; children = (i z, (j z, tt)) }),
-        (mk-well T l d _ md (λ z. halves l es (s z) q .1), (mk-well T l c _ mc (λ z. halves l es (s z) q .0), n2)),
+        fine,
+        (
+          mk-well T (suc l) r (with-two f c (first-key-or (drop (fewest-entries l) es) 0) d) m (λ z. record { some-child = omega arith; few = omega arith; children = (i z, (j z, tt)) }),
+          (mk-well T l d _ md (λ z. halves l es (s z) q .1), (mk-well T l c _ mc (λ z. halves l es (s z) q .0), n2)),
+        ),
       )))))
 
   split-ok : (go : Go) (l : ℕ) (w : Writes) (f : Branch) (c : ℕ) (es : Entries) → All-well T w → Branched T f → Met T c → (Z → Risen l es) → most-entries l < length es → Goes l go
@@ -208,26 +234,26 @@ module _ (T : Scope) where
   fits-well : (l c : ℕ) (es : Entries) → Met T c → (Z → Risen l es) → length es ≤ most-entries l → Well T (node c) (node-value l es)
   fits-well l c es m s q = mk-well T l c es m (λ z. record { some-child = s z .some-child; few = q; children = s z .children })
 
-  up-ok : (a : Ans) (fs : List Branch) (l : ℕ) (w : Writes) (c : ℕ) (es : Entries) → All-well T w → Path T fs → Met T c → (Z → Risen l es) → Ok T (up sz a l fs w c es)
-  up-ok a [] l w c es h p m s =
-      if-ok T (decLe (length es) (most-entries l)) _ _ (λ q. (fits-well l c es m s q, h)) (λ q. split-root-ok a l w c es h m s (omega (arith, q)))
-  up-ok a (f ∷ fs) l w c es h p m s =
+  up-ok : (a : Ans) → T .A a → (fs : List Branch) (l : ℕ) (w : Writes) (c : ℕ) (es : Entries) → All-well T w → Path T fs → Met T c → (Z → Risen l es) → Ok T (up sz a l fs w c es)
+  up-ok a fine [] l w c es h p m s =
+      if-ok T (decLe (length es) (most-entries l)) _ _ (λ q. (fine, (fits-well l c es m s q, h))) (λ q. split-root-ok a fine l w c es h m s (omega (arith, q)))
+  up-ok a fine (f ∷ fs) l w c es h p m s =
       let go : Go = λ w′ es′. up sz a (suc l) fs w′ (f .nm) es′ in
-      let on : Goes l go = λ w′ es′ n r. up-ok a fs (suc l) w′ (f .nm) es′ n (p .1) (p .0 .0) r in
+      let on : Goes l go = λ w′ es′ n r. up-ok a fine fs (suc l) w′ (f .nm) es′ n (p .1) (p .0 .0) r in
       if-ok T (decLe (fewest-entries l) (length es)) _ _
-      (λ _. if-ok T (decLe (length es) (most-entries l)) _ _ (λ q. (fits-well l c es m s q, h)) (λ q. split-ok go l w f c es h (p .0) m s (omega (arith, q)) on))
-      (λ q. neighbour-ok a l fs go on w f c es (f .post) h (p .0 .0) (p .0 .1) m (λ z. s z .children) (omega (arith, q)))
+      (λ _. if-ok T (decLe (length es) (most-entries l)) _ _ (λ q. (fine, (fits-well l c es m s q, h))) (λ q. split-ok go l w f c es h (p .0) m s (omega (arith, q)) on))
+      (λ q. neighbour-ok a fine l fs go on w f c es (f .post) h (p .0 .0) (p .0 .1) m (λ z. s z .children) (omega (arith, q)))
 
   -- a leaf has no children
   leaf-risen : (es : Entries) → length es ≤ 15 → Risen 0 es
   leaf-risen es h = record { some-child = omega arith; few = omega arith; children = every-any _ (λ _. tt) es }
 
-  delete-ok : (fs : List Branch) (n : ℕ) (es : Entries) (o : Option ℕ) → Path T fs → Met T n → (Z → Sized T 0 es) → Ok T (delete-at sz fs n es o)
-  delete-ok fs n es none p m s = tt
-  delete-ok fs n es (some i) p m s = up-ok (1, 0) fs zero [] n (remove-at i es) tt p m (λ z. leaf-risen (remove-at i es) (omega (arith, remove-few i es, s z .few)))
+  delete-ok : ((o : Option ℕ) → T .A (gone o)) → (fs : List Branch) (n : ℕ) (es : Entries) (o : Option ℕ) → Path T fs → Met T n → (Z → Sized T 0 es) → Ok T (delete-at sz fs n es o)
+  delete-ok a fs n es none p m s = (a none, tt)
+  delete-ok a fs n es (some i) p m s = up-ok (1, 0, []) (a (some 0)) fs zero [] n (remove-at i es) tt p m (λ z. leaf-risen (remove-at i es) (omega (arith, remove-few i es, s z .few)))
 
   -- ---- MIGRATE
-  module _ (n s : ℕ) (server : Z → s < sz .servers) (m : Met T n) (v : Val) (kept : Z → Storable N (node n) v) where
+  module _ (n s : ℕ) (server : Z → s < sz .servers) (m : Met T n) (v : Val) (kept : Z → Storable N (node n) v) (fine : (i d : ℕ) → T .A (i, d, [])) where
     moved-ok : (x : ℕ → Writes → Writes) (k : ℕ → Writes → TreePlan) → ((d : ℕ) (w : Writes) → (Z → N d) → All-well T w → All-well T (x d w))
         → ((d : ℕ) (w : Writes) → (Z → N d) → All-well T w → Ok T (k d w)) → Ok T (moved sz n s v x k)
     unfolding Every
@@ -249,15 +275,15 @@ module _ (T : Scope) where
     move-at-ok key (suc l) fs p (e ∷ es) o h =
         let c = cut key e es in
         let f : Branch = record { nm = p; key = c .1 .0; pre = c .0; post = c .2 } in
-        let end : ℕ → Writes → TreePlan = λ d w. P.done ((1, d), (node p, node-value (suc l) (with-one f d)) ∷ w) in
+        let end : ℕ → Writes → TreePlan = λ d w. P.done ((1, d, []), (node p, node-value (suc l) (with-one f d)) ∷ w) in
         if-ok T (ℕ-discrete (c .1 .1) n) _ (P.fail no-tree)
         (λ _. moved-ok (λ d w. w) end (λ d w i g. g)
-        (λ d w i g. (mk-well T (suc l) p (with-one f d) o (λ z. one-within 15 l f d (omega arith) (cut-ok T key l e es (h z) .0) (i z)), g))) (λ _. tt)
+        (λ d w i g. (fine 1 d, (mk-well T (suc l) p (with-one f d) o (λ z. one-within 15 l f d (omega arith) (cut-ok T key l e es (h z) .0) (i z)), g)))) (λ _. tt)
 
     move-node-ok : (r l : ℕ) (ks : List ℕ) → T .R meta → (Z → N r) → Ok T (move-node sz r n s v l ks)
     move-node-ok r l ks a i =
         if-ok T (ℕ-discrete n r) _ _
-        (λ _. moved-ok (λ d w. (meta, root d) ∷ w) (λ d w. P.done ((1, d), w)) (λ d w j h. ((a, λ z. (tt, j z)), h)) (λ d w j h. h))
+        (λ _. moved-ok (λ d w. (meta, root d) ∷ w) (λ d w. P.done ((1, d, []), w)) (λ d w j h. ((a, λ z. (tt, j z)), h)) (λ d w j h. (fine 1 d, h)))
         (λ _. if-ok T (decLe 7 (length ks)) _ (P.fail no-tree) (λ _. by ks) (λ _. tt))
       where
         by : (ks : List ℕ) → Ok T (first-key ks (move-below sz r n s v l))
@@ -266,32 +292,33 @@ module _ (T : Scope) where
             at-root-ok T r _ i (λ j es o f. if-ok T (decLt l j) _ (P.fail no-tree)
             (λ _. down-ok T (to-level (suc l)) key (move-at sz n s v key) (λ i fs p es _ o g _. move-at-ok key i fs p es o g) j [] r es tt o f) (λ _. tt))
 
-  move-if-ok : (r n s : ℕ) (v : Val) → (Z → s < sz .servers) → T .R meta → (Z → N r) → Well T (node n) v → Ok T (move-if sz r n s v)
-  move-if-ok r n s (root q) x a i t = tt
-  move-if-ok r n s (taken b) x a i t = tt
-  move-if-ok r n s (flags fs) x a i t = tt
-  move-if-ok r n s (body zero l ks vs) x a i t = tt
-  move-if-ok r n s (body (suc j) l ks vs) x a i t =
-      if-ok T (ℕ-discrete (server-of n) s) _ _ (λ _. tt) (λ _. move-node-ok n s x (t .0, λ z. t .1 z .0) (body (suc j) l ks vs) (λ z. t .1 z .1) r l ks a i)
+  move-if-ok : ((i d : ℕ) → T .A (i, d, [])) → (r n s : ℕ) (v : Val) → (Z → s < sz .servers) → T .R meta → (Z → N r) → Well T (node n) v → Ok T (move-if sz r n s v)
+  move-if-ok fine r n s (root q) x a i t = tt
+  move-if-ok fine r n s (taken b) x a i t = tt
+  move-if-ok fine r n s (flags fs) x a i t = tt
+  move-if-ok fine r n s (body zero l ks vs) x a i t = (fine 0 0, tt)
+  move-if-ok fine r n s (body (suc j) l ks vs) x a i t =
+      if-ok T (ℕ-discrete (server-of n) s) _ _ (λ _. (fine 0 1, tt)) (λ _. move-node-ok n s x (t .0, λ z. t .1 z .0) (body (suc j) l ks vs) (λ z. t .1 z .1) fine r l ks a i)
 
-  pub reading-ok : (op : Op) → (Z → Names N sz op) → Ok T (reading sz op)
-  reading-ok (insert k v) h = leaf-ok T k _ (λ fs n es p m s.
-      up-ok (fresh (value-in k es)) fs zero [] n (with-pair k v es) tt p m (λ z. leaf-risen (with-pair k v es) (omega (arith, with-few k v es, s z .few))))
-  reading-ok (lookup k) h = lookup-quiet T k
-  reading-ok (delete k) h = leaf-ok T k _ (λ fs n es p m s. delete-ok fs n es (index k es) p m s)
-  reading-ok (next k) h = next-quiet T k
-  reading-ok (previous k) h = previous-quiet T k
-  reading-ok (migrate n s) h =
+  pub reading-ok : (op : Op) → (Z → Names N sz op) → ((a : Ans) → Form op a → T .A a) → Ok T (reading sz op)
+  reading-ok (insert k v) h a = leaf-ok T k _ (λ fs n es p m s.
+      up-ok (fresh (value-in k es)) (a (fresh (value-in k es)) (fresh-form (value-in k es))) fs zero [] n (with-pair k v es) tt p m (λ z. leaf-risen (with-pair k v es) (omega (arith, with-few k v es, s z .few))))
+  reading-ok (lookup k) h a = lookup-quiet T k (λ o. a (said o) (said-form o))
+  reading-ok (delete k) h a = leaf-ok T k _ (λ fs n es p m s. delete-ok (λ o. a (gone o) (gone-form o)) fs n es (index k es) p m s)
+  reading-ok (next k) h a = next-quiet T k (λ o. a (said o) (said-form o))
+  reading-ok (previous k) h a = previous-quiet T k (λ o. a (said o) (said-form o))
+  reading-ok (list k n) h a = list-quiet T k n (λ l. a (listed l) refl)
+  reading-ok (migrate n s) h a =
       see-ok T [] meta (λ v. when-root v (λ r. P.ask (object (node n)) (λ u. move-if sz r n s u))) tt (λ _. tt) (λ v b. root-ok T v _ b (λ r i.
-      see-ok T [] (node n) (λ u. move-if sz r n s u) tt (λ z. h z .0) (λ u t. move-if-ok r n s u (λ z. h z .1) (b .0) i t)))
+      see-ok T [] (node n) (λ u. move-if sz r n s u) tt (λ z. h z .0) (λ u t. move-if-ok (λ i d. a (i, d, []) refl) r n s u (λ z. h z .1) (b .0) i t)))
 
 -- THE THEOREMS, where everything at hand can be stored in a store of the names N
 module _ (N : ℕ → Type 0) (sz : TreeSizes) (new : (s i : ℕ) → s < sz .servers → i < sz .slots → N (name s i)) (op : Op) (names : Names N sz op) (have : Ask → Option Val) (kept : (o : Obj) (v : Val) → have (object o) ≡ some v → Storable N o v) where
   abbrev T : Scope
-  T = record { sz = sz; N = N; new = new; R = λ o. Unit {0}; Z = Unit {0} }
+  T = record { sz = sz; N = N; new = new; R = λ o. Unit {0}; Z = Unit {0}; A = Form op }
 
   ended : Comes T (W.walk (reading sz op) have)
-  ended = along-walk (Asks T) (Read T) (λ a w. All-well T w) have read (reading sz op) (reading-ok T op (λ _. names))
+  ended = along-walk (Asks T) (Read T) (Ends T) have read (reading sz op) (reading-ok T op (λ _. names) (λ a h. h))
     where
       read : (q : Ask) (v : Val) → have q ≡ some v → Read T q v
       read (object o) v e = (tt, λ _. kept o v e)
@@ -300,11 +327,15 @@ module _ (N : ℕ → Type 0) (sz : TreeSizes) (new : (s i : ℕ) → s < sz .se
 
   -- EVERYTHING WRITTEN CAN BE STORED, and is of the store
   pub writes-storable : (a : Ans) (w : Writes) → W.walk (reading sz op) have ≡ W.ends (P.gives (a, w)) → All-storable N w
-  writes-storable a w e = all w (subst (Comes T) e ended)
+  writes-storable a w e = all w (subst (Comes T) e ended .1)
     where
       all : (w : Writes) → All-well T w → All-storable N w
       all [] h = tt
       all (e ∷ w) h = let k = h .0 .1 tt in (k .0, k .1, all w (h .1))
+
+  -- AN ANSWER has its operation's form
+  pub answer-formed : (a : Ans) (w : Writes) → W.walk (reading sz op) have ≡ W.ends (P.gives (a, w)) → Form op a
+  answer-formed a w e = subst (Comes T) e ended .0
 
   -- EVERY QUESTION is about something of the store
   pub asked-inside : (q : Ask) → W.walk (reading sz op) have ≡ W.lacks q → Inside N sz q

@@ -98,7 +98,7 @@ module _ (k j slots : ℕ) (al : Allowed (sizes k j slots)) (few : suc j ≤ 16)
   -- ---- FETCH
   module _ (a : Ask) (e : worked (sizes k j slots) u ≡ Work.fetches a) where
     lacking : (have (sizes k j slots) u a ≡ none) × (us ≡ all-used (new u) (asked (sizes k j slots) u) []) × (length us ≤ 96 - u reads-count)
-    lacking = F.walk k j slots al few m L M c R fit now n refl a e
+    lacking = F.walk k j slots al few m L M c R fit now n refl [] a e
 
     all-copied : All-copied (sizes k j slots) u us
     all-copied = used-copied k j slots al u part (M .copy c) (R .clients c .copies) (M .slots c) (R .clients c .slot) us (lacking .1)
@@ -216,7 +216,7 @@ module _ (k j slots : ℕ) (al : Allowed (sizes k j slots)) (few : suc j ≤ 16)
 
     -- what is lacking is of the store
     lacks : (walked (sizes k j slots) u .how ≡ Run.lacks a) × (broken (sizes k j slots) u a ≡ false)
-    lacks = F.lacks k j slots al few m L M c R fit now n refl a e
+    lacks = F.lacks k j slots al few m L M c R fit now n refl [] a e
 
     lacked : (o : Obj) → a ≡ object o → In-store k j slots o
     lacked o is-o =

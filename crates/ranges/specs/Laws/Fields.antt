@@ -20,10 +20,10 @@ use Rattle.operations.specs.Map.{two-to-64}
 use Rattle.operations.specs.Laws.Map.{H-is}
 use Rattle.client.specs.declared.part.Set.{Set}
 use Rattle.client.specs.declared.part.Set.the-variants.{Copies}
-use Rattle.client.specs.Layout.{ClientWord, client-code, client-words, field, item, vector-word, op-number, op-key, op-server, prepared, applied, fetched-vectors}
+use Rattle.client.specs.Layout.{ClientWord, client-code, client-words, field, item, vector-word, op-number, op-key, op-server, prepared, applied, fetched-vectors, op-value}
 use Rattle.client.specs.Record.{in-store}
 use Rattle.client.specs.Sets.{find}
-use Rattle.client.specs.Fits.{op-fits}
+use Rattle.client.specs.Fits.{op-fits, migrate-fits, list-fits}
 use Rattle.client.specs.Laws.Ranges.{bounds}
 use Rattle.client.specs.Part.{nothing, put-field, put-fields, put-item, put-vector, put-word}
 use Rattle.client.specs.Participants.{takes-part, participants-of, committing}
@@ -44,7 +44,7 @@ bound z i = getD (bounds (2 ^ z .servers - 1)) i 0
 
 -- a store leaves the operation that waits as it is, or takes it away
 abbrev calm : ℕ → ℕ → Bool
-calm i v = getD (true ∷ eqb v 0 ∷ false ∷ true ∷ false ∷ []) i true
+calm i v = getD (true ∷ eqb v 0 ∷ false ∷ false ∷ false ∷ []) i true
 
 -- a store in range
 unfoldable pub Within-store : S.TreeSizes → ClientWord → ℕ → Type 0
@@ -77,7 +77,7 @@ module _ (z : S.TreeSizes) (u : ClientWord → ℕ) (a : ClientWord) (v : ℕ) (
   unfolding op-fits
   op-now = go (decide client-words op-number a)
     where
-      go : Dec (op-number ≡ a) → (leb (g op-number) 6 && cond (eqb (g op-number) 6) (in-store z (g op-key) && ltb (g op-server) (z .servers)) true) ≡ true
+      go : Dec (op-number ≡ a) → (leb (g op-number) 7 && cond (eqb (g op-number) 6) (migrate-fits z g) (cond (eqb (g op-number) 7) (list-fits g) true)) ≡ true
       go (yes e) =
           let q = now 1 e in
           let none : g op-number ≡ 0 = q .0 ∙ eqb-true v 0 (q .1) in
@@ -85,7 +85,8 @@ module _ (z : S.TreeSizes) (u : ClientWord → ℕ) (a : ClientWord) (v : ℕ) (
       go (no n) =
           let k : g op-key ≡ u op-key = kept 2 (λ e. true≢false (sym (now 2 e .1))) in
           let s : g op-server ≡ u op-server = kept 4 (λ e. true≢false (sym (now 4 e .1))) in
-          (λ t. leb (kept 1 n t) 6 && cond (eqb (kept 1 n t) 6) (in-store z (k t) && ltb (s t) (z .servers)) true) ∙ F .op
+          let w : g op-value ≡ u op-value = kept 3 (λ e. true≢false (sym (now 3 e .1))) in
+          (λ t. leb (kept 1 n t) 7 && cond (eqb (kept 1 n t) 6) (in-store z (k t) && ltb (s t) (z .servers)) (cond (eqb (kept 1 n t) 7) (leb 1 (w t) && leb (w t) 32) true)) ∙ F .op
 
   store-within : Fields-sound z (upd (decide client-words) u a v)
   store-within = record { within = within-now; op = op-now }
@@ -114,7 +115,8 @@ module _ (z : S.TreeSizes) (u v : ClientWord → ℕ) where
         let n : v op-number ≡ u op-number = same 1 (omega arith) (λ e. absurd (omega arith)) in
         let k : v op-key ≡ u op-key = same 2 (omega arith) (λ e. absurd (omega arith)) in
         let s : v op-server ≡ u op-server = same 4 (omega arith) (λ e. absurd (omega arith)) in
-        (λ t. leb (n t) 6 && cond (eqb (n t) 6) (in-store z (k t) && ltb (s t) (z .servers)) true) ∙ F .op;
+        let w : v op-value ≡ u op-value = same 3 (omega arith) (λ e. absurd (omega arith)) in
+        (λ t. leb (n t) 7 && cond (eqb (n t) 6) (in-store z (k t) && ltb (s t) (z .servers)) (cond (eqb (n t) 7) (leb 1 (w t) && leb (w t) 32) true)) ∙ F .op;
   }
     where
       go : (i : ℕ) → i < 13 → Dec (i ≡ f) → v (field i) ≤ bound z i
@@ -153,10 +155,10 @@ module _ (z : S.TreeSizes) (u : ClientWord → ℕ) where
   reset-fields p l = stores-within z u (reset p u) (reset-within p l)
 
   -- an operation that waits
-  pub give-fields : (op key value server : ℕ) → op ≤ 6 → key < two-to-64 → value < two-to-64 → server < two-to-64
-      → (op ≡ 6 → (in-store z key ≡ true) × (server < z .servers)) → Stays (give-part op key value server u)
+  pub give-fields : (op key value server : ℕ) → op ≤ 7 → key < two-to-64 → value < two-to-64 → server < two-to-64
+      → (op ≡ 6 → (in-store z key ≡ true) × (server < z .servers)) → (op ≡ 7 → (1 ≤ value) × (value ≤ 32)) → Stays (give-part op key value server u)
   unfolding give-part put-fields puts op-fits
-  give-fields op key value server o k v s m F = record { within = go; op = fits (ℕ-discrete op 6) }
+  give-fields op key value server o k v s m list F = record { within = go; op = fits (ℕ-discrete op 6) (ℕ-discrete op 7) }
     where
       ps : List (Put ClientWord)
       ps = give-part op key value server u
@@ -177,9 +179,10 @@ module _ (z : S.TreeSizes) (u : ClientWord → ℕ) where
               puts-other client-words (op ∷ key ∷ value ∷ server ∷ []) u (λ j. field (1 + j)) (field (suc (suc (suc (suc (suc i))))))
               (λ j q e. absurd (let x : suc (suc (suc (suc (suc i)))) ≡ 1 + j = ap (λ (a : ClientWord). getD (client-code a) 1 0) e in omega arith))
 
-      fits : Dec (op ≡ 6) → op-fits z (changed client-words u ps) ≡ true
-      fits (yes e) = rw (at op-number, at op-key, at op-server, m e .0, lt-ltb server (z .servers) (m e .1), e)
-      fits (no n) = rw (at op-number, le-leb op 6 o, ne-eqb op 6 n)
+      fits : Dec (op ≡ 6) → Dec (op ≡ 7) → op-fits z (changed client-words u ps) ≡ true
+      fits (yes e) f = rw (at op-number, at op-key, at op-server, m e .0, lt-ltb server (z .servers) (m e .1), e)
+      fits (no n) (yes f) = rw (at op-number, at op-value, le-leb 1 value (list f .0), le-leb value 32 (list f .1), f)
+      fits (no n) (no f) = rw (at op-number, le-leb op 7 o, ne-eqb op 6 n, ne-eqb op 7 f)
 
   -- it is answered
   pub answered-fields : Stays (put op-number 0 ∷ [])

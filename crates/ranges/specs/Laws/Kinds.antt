@@ -42,19 +42,32 @@ use Rattle.ranges.specs.Laws.Hand.{never-refused}
 use Rattle.ranges.specs.Laws.Fetching.{fetch-kept}
 use Rattle.ranges.specs.Laws.Answering.{answer-kept}
 
--- the numbers of the table are below 10
-first-low : (rs : List Row) → Every (λ (r : Row). r .number ≤ 9) rs → first rs ≤ 9
+-- 10 is no number of the table
+first-not-10 : (rs : List Row) → Every (λ (r : Row). ¬ (r .number ≡ 10)) rs → ¬ (first rs ≡ 10)
 unfolding first Every
-first-low [] h = omega arith
-first-low (r ∷ rs) h = go (r .holds) (first-low rs (h .1))
+first-not-10 [] h = λ e. absurd (omega (arith, e))
+first-not-10 (r ∷ rs) h = go (r .holds) (first-not-10 rs (h .1))
   where
-    go : (b : Bool) → first rs ≤ 9 → cond b (r .number) (first rs) ≤ 9
+    go : (b : Bool) → ¬ (first rs ≡ 10) → ¬ (cond b (r .number) (first rs) ≡ 10)
     go true l = h .0
     go false l = l
 
-refusal-low : (z : Sizes) (n : Step) (m : Address → ℕ) → refusal z n m ≤ 9
+not-10 : (z : Sizes) (n : Step) (m : Address → ℕ) → ¬ (refusal z n m ≡ 10)
 unfolding refusal Every
-refusal-low z n m = first-low (of-step z n m) (omega arith, (omega arith, (omega arith, (omega arith, (omega arith, (omega arith, tt))))))
+not-10 z n m =
+    first-not-10 (of-step z n m) (
+      λ e. absurd (omega (arith, e)),
+      (
+        λ e. absurd (omega (arith, e)),
+        (
+          λ e. absurd (omega (arith, e)),
+          (
+            λ e. absurd (omega (arith, e)),
+            (λ e. absurd (omega (arith, e)), (λ e. absurd (omega (arith, e)), (λ e. absurd (omega (arith, e)), tt))),
+          ),
+        ),
+      ),
+    )
 
 module _ (k j slots : ℕ) (al : Allowed (sizes k j slots)) (few : suc j ≤ 16) (m : Address → ℕ) (S : Sound-store k j slots m) (L : Ledger) (M : P.Machine (T k j slots))
     (G : Good k j slots m L M) (n : Step) (words : Words n) where
@@ -65,9 +78,9 @@ module _ (k j slots : ℕ) (al : Allowed (sizes k j slots)) (few : suc j ≤ 16)
   Fine = Kept k j slots m
 
   -- refused by another number: nothing is stored
-  refused-kept : (x : ℕ) → x ≤ 9 → Fine (Steps.refuse x)
+  refused-kept : (x : ℕ) → ¬ (x ≡ 10) → Fine (Steps.refuse x)
   unfolding changed
-  refused-kept x l = record { passes = accepted _ (ne-eqb x 10 (λ e. absurd (omega (arith, e)))); sound = S }
+  refused-kept x l = record { passes = accepted _ (ne-eqb x 10 l); sound = S }
 
   module _ (h : n .client < suc j) where
     abbrev c : Fin (suc j)
@@ -87,7 +100,7 @@ module _ (k j slots : ℕ) (al : Allowed (sizes k j slots)) (few : suc j ≤ 16)
         go Work.refused e = absurd (never-refused k j slots al u (S .parts c) (M .copy c) (G .shown .clients c .copies) (M .slots c) (G .shown .clients c .slot) e)
         go (Work.fetches a) e = fetch-kept k j slots al few m S L M (G .shown) c now a e
         go (Work.aborted y) e = abort-kept k j slots m S c al few L M (G .shown) (inl now) y (walked (sizes k j slots) u .used)
-        go (Work.answers a w) e = answer-kept k j slots al few m S L M (G .shown) c now a w e
+        go (Work.answers a w) e = let q = answer-kept k j slots al few m S L M (G .shown) c now a w e in record { passes = q .passes; sound = q .sound }
 
     kind-kept : Passed z n m → Fine (Steps.by-kind z m (n .client) n (kind-of (n .kind)))
     unfolding kind-of state-fits
@@ -97,7 +110,7 @@ module _ (k j slots : ℕ) (al : Allowed (sizes k j slots)) (few : suc j ≤ 16)
         go zero e l f = begin-kept k j slots m S c (eqb-true (u phase) 0 f)
         go (suc zero) e l f =
             give-kept k j slots m S c n (eqb-true (u phase) 1 (and-both (eqb (u phase) 1) (eqb (u op-number) 0) f .0)) (p .known-op e)
-            (words .key) (words .value) (words .server) (λ o. (p .known-node e o, p .known-server e o))
+            (words .key) (words .value) (words .server) (λ o. (p .known-node e o, p .known-server e o)) (p .known-count e)
         go (suc (suc zero)) e l f = work-kept f
         go (suc (suc (suc zero))) e l f = commit-kept k j slots m S c (eqb-true (u phase) 1 (and-both (eqb (u phase) 1) (eqb (u op-number) 0) f .0))
         go (suc (suc (suc (suc zero)))) e l f =
@@ -113,9 +126,10 @@ module _ (k j slots : ℕ) (al : Allowed (sizes k j slots)) (few : suc j ≤ 16)
         go (suc (suc (suc (suc (suc (suc (suc (suc x)))))))) e l f = absurd (omega arith)
 
   -- THE STEP
-  pub step-kept : Fine (Steps.step z n m)
-  unfolding Steps.step
-  step-kept =
+  pub step-kept : (room : ℕ) → Fine (Steps.step z n room m)
+  unfolding Steps.step Steps.by-rule
+  step-kept room =
+      one-of Fine (Steps.lacks-room z n room m) _ _ (λ _. refused-kept 12 (λ e. absurd (omega (arith, e)))) (λ _.
       one-of Fine (eqb (refusal z n m) 0) _ _
       (λ q. let p = passed z n m (eqb-true (refusal z n m) 0 q) in kind-kept (p .known-client) p)
-      (λ _. refused-kept (refusal z n m) (refusal-low z n m))
+      (λ _. refused-kept (refusal z n m) (not-10 z n m)))

@@ -65,10 +65,11 @@ module _ (z : S.TreeSizes) (u : ClientWord → ℕ) (P : Part-sound z u) where
   few-fields ps h f =
       record { fields = f; sets = sets-frame z u (changed client-words u ps) (C.fields-sets u ps h) (P .sets); copies = C.fields-copies u ps h z (P .copies) }
 
-  pub give-part-sound : (op key value server : ℕ) → op ≤ 6 → key < two-to-64 → value < two-to-64 → server < two-to-64 → (op ≡ 6 → (in-store z key ≡ true) × (server < z .servers))
+  pub give-part-sound : (op key value server : ℕ) → op ≤ 7 → key < two-to-64 → value < two-to-64 → server < two-to-64 → (op ≡ 6 → (in-store z key ≡ true) × (server < z .servers))
+      → (op ≡ 7 → (1 ≤ value) × (value ≤ 32))
       → Part-sound z (changed client-words u (give-part op key value server u))
-  give-part-sound op key value server l k v s there =
-      few-fields (give-part op key value server u) (C.only-give u op key value server) (F.give-fields z u op key value server l k v s there (P .fields))
+  give-part-sound op key value server l k v s there listed =
+      few-fields (give-part op key value server u) (C.only-give u op key value server) (F.give-fields z u op key value server l k v s there listed (P .fields))
 
   pub commit-part : Part-sound z (changed client-words u (committing (z .servers) u))
   commit-part = few-fields (committing (z .servers) u) (C.only-committing u (z .servers)) (F.committing-fields z u (P .fields))

@@ -1,5 +1,6 @@
 -- THE THEOREMS: from a newly opened store no step is refused by 10, and DEMAND 3. Every step leads from a good state to a good one and leaves a sound
 -- store; so applies that are due are taken, and then the tree is read.
+use Rattle.layout.specs.Space.{changed}
 use mathlib.Core.Path.{_≡_, ap, sym, _∙_, subst}
 use mathlib.Core.Bool.{Bool, true, false, cond}
 use mathlib.Core.List.{List, [], _∷_, _++_}
@@ -14,7 +15,7 @@ use Rattle.steps.specs.declared.step.Kind.the-variants.{Apply}
 use Rattle.steps.specs.declared.outcome.Outcome.{Outcome}
 use Rattle.steps.specs.declared.outcome.Outcome.the-variants.{Applied, Committed}
 use Rattle.steps.specs.Whole as W
-use Rattle.steps.specs.Whole.{Address}
+use Rattle.steps.specs.Whole.{Address, whole}
 use Rattle.steps.specs.Refusal.{state-fits}
 use Rattle.steps.specs.Laws.Stores.{client-of}
 use Rattle.steps.specs.Steps.{Did, all-applied, step}
@@ -28,7 +29,7 @@ use Rattle.demand.specs.Laws.Turns.{store, Explained}
 use Rattle.demand.specs.Laws.Applies.{applied-outcome}
 use Rattle.demand.specs.Laws.ByKind.{step-after}
 use Rattle.demand.specs.Laws.Theorem as Th
-use Rattle.demand.specs.Laws.Done.{due-applied, applies-note, applies-done}
+use Rattle.demand.specs.Laws.Done.{due-applied, applies-note, applies-done, apply-roomy}
 use Rattle.ranges.specs.Claim as C
 use Rattle.ranges.specs.Laws.Sound.{Sound-store}
 use Rattle.ranges.specs.Laws.Servers.{first-sound}
@@ -50,14 +51,15 @@ module _ (k j slots : ℕ) (al : Allowed (sizes k j slots)) (few : suc j ≤ 16)
   led [] m m′ L p e = record { state = subst (λ (u : Address → ℕ). State u L) (sym p) e; accepted = tt }
   led (t ∷ h) m m′ L p e =
       let x = e .explained in
-      let K = step-kept k j slots al few m (e .sound) L (x .machine) (x .good) (t .step) (p .0) in
-      let next : State (after (store k j slots) m (t .step)) (note L (t .step) (t .outcome)) = record {
-        explained = subst (λ (o : Outcome). Explained k j slots (after (store k j slots) m (t .step)) (note L (t .step) o)) (sym (p .1))
-            (step-after k j slots al few m L (x .machine) (x .good) (t .step) (p .0 .key)
+      let K = step-kept k j slots al few m (e .sound) L (x .machine) (x .good) (t .step) (p .0) (t .room) in
+      let d = step (store k j slots) (t .step) (t .room) m in
+      let next : State (changed whole m (d .stores)) (note L (t .step) (t .left) (t .outcome)) = record {
+        explained = coe 1 0 (i. Explained k j slots (changed whole m (d .stores)) (note L (t .step) (p .2 i) (p .1 i)))
+            (step-after k j slots al few m L (x .machine) (x .good) (t .step) (t .lent) (t .room) (p .0 .key)
             (λ l. part-fits (sizes k j slots) (client-of m (t .step .client)) (e .sound .parts (t .step .client, l))));
         sound = K .sound;
       } in
-      let rest = led h (after (store k j slots) m (t .step)) m′ (note L (t .step) (t .outcome)) (p .2) next in
+      let rest = led h (changed whole m (d .stores)) m′ (note L (t .step) (t .left) (t .outcome)) (p .3) next in
       record { state = rest .state; accepted = (subst C.Not-refused-by-10 (sym (p .1)) (K .passes), rest .accepted) }
 
   module _ (some-slot : 1 ≤ slots) where
@@ -84,15 +86,16 @@ module _ (k j slots : ℕ) (al : Allowed (sizes k j slots)) (few : suc j ≤ 16)
     }
 
     due : (h : List Taken) (m : Address → ℕ) → New h m → (n : Step) → Words n → n .kind ≡ 5 → n .client < suc j → n .server < suc k
-        → state-fits (client-of m (n .client)) (n .server) Apply ≡ true → (step (store k j slots) n m .outcome ≡ Applied (n .server)) ⊎ (step (store k j slots) n m .outcome ≡ Committed)
-    due h m p n w five c s f =
+        → state-fits (client-of m (n .client)) (n .server) Apply ≡ true → (room : ℕ) → (step (store k j slots) n room m .outcome ≡ Applied (n .server)) ⊎ (step (store k j slots) n room m .outcome ≡ Committed)
+    due h m p n w five c s f room =
         let e = from-new h m p .state in
-        let K = step-kept k j slots al few m (e .sound) (ledger-from blank h) (e .explained .machine) (e .explained .good) n w in
+        let K = step-kept k j slots al few m (e .sound) (ledger-from blank h) (e .explained .machine) (e .explained .good) n w room in
+        let roomy = apply-roomy (store k j slots) m n five room in
         go (all-applied (store k j slots) m (n .client) (n .server))
-        (ap (λ (d : Did). d .outcome) (due-applied (store k j slots) m n five c s f (K .passes)) ∙ applied-outcome (store k j slots) m (n .client) (n .server))
+        (ap (λ (d : Did). d .outcome) (roomy ∙ due-applied (store k j slots) m n five c s f (λ q. K .passes (ap (λ (d : Did). d .outcome) roomy ∙ q))) ∙ applied-outcome (store k j slots) m (n .client) (n .server))
       where
-        go : (b : Bool) → step (store k j slots) n m .outcome ≡ cond b Committed (Applied (n .server))
-            → (step (store k j slots) n m .outcome ≡ Applied (n .server)) ⊎ (step (store k j slots) n m .outcome ≡ Committed)
+        go : (b : Bool) → step (store k j slots) n room m .outcome ≡ cond b Committed (Applied (n .server))
+            → (step (store k j slots) n room m .outcome ≡ Applied (n .server)) ⊎ (step (store k j slots) n room m .outcome ≡ Committed)
         go true q = inr q
         go false q = inl q
 
@@ -109,9 +112,9 @@ never-refused-by-10 z a h m p =
     (z .servers) (z .slots) (z .clients) a p
 
 pub due-is-applied : C.Due-is-applied
-due-is-applied z a h m p n w five c s f =
-    with-sizes (λ (x : Sizes). Leads x (opened x) h m → n .client < x .clients → n .server < x .servers → (step x n m .outcome ≡ Applied (n .server)) ⊎ (step x n m .outcome ≡ Committed))
-    (λ k j slots al few some q c s. due k j slots al few some h m q n w five c s f) (z .servers) (z .slots) (z .clients) a p c s
+due-is-applied z a h m p n w five c s f room =
+    with-sizes (λ (x : Sizes). Leads x (opened x) h m → n .client < x .clients → n .server < x .servers → (step x n room m .outcome ≡ Applied (n .server)) ⊎ (step x n room m .outcome ≡ Committed))
+    (λ k j slots al few some q c s. due k j slots al few some h m q n w five c s f room) (z .servers) (z .slots) (z .clients) a p c s
 
 -- DEMAND 3
 pub demand-3 : D.Demand-3

@@ -70,12 +70,12 @@ module _ (k j slots : ℕ) (m : Address → ℕ) (S : Sound-store k j slots m) (
   unfolding Steps.begin
   begin-kept e = early Done refl (Life.reset 1 u) (omega (arith, e)) (reset-part (sizes k j slots) u part 1 (omega arith))
 
-  pub give-kept : (n : Step) → u phase ≡ 1 → (1 ≤ n .op) × (n .op ≤ 6) → n .key < two-to-64 → n .value < two-to-64 → n .server < two-to-64
-      → (n .op ≡ 6 → (in-store (sizes k j slots) (n .key) ≡ true) × (n .server < suc k)) → Fine (Steps.give z m (c .0) n)
+  pub give-kept : (n : Step) → u phase ≡ 1 → (1 ≤ n .op) × (n .op ≤ 7) → n .key < two-to-64 → n .value < two-to-64 → n .server < two-to-64
+      → (n .op ≡ 6 → (in-store (sizes k j slots) (n .key) ≡ true) × (n .server < suc k)) → (n .op ≡ 7 → (1 ≤ n .value) × (n .value ≤ 32)) → Fine (Steps.give z m (c .0) n)
   unfolding Steps.give
-  give-kept n e o key value home there =
+  give-kept n e o key value home there listed =
       early Done refl (Life.give-part (n .op) (n .key) (n .value) (n .server) u) (omega (arith, e))
-      (give-part-sound (sizes k j slots) u part (n .op) (n .key) (n .value) (n .server) (o .1) key value home there)
+      (give-part-sound (sizes k j slots) u part (n .op) (n .key) (n .value) (n .server) (o .1) key value home there listed)
 
   pub commit-kept : u phase ≡ 1 → Fine (Steps.commit z m (c .0))
   unfolding Steps.commit

@@ -39,11 +39,11 @@ module _ (out : List ℕ) (i : ℕ) where
 
 pub ruleset note-exits = (room-first, room-second, room-third, noted-there, left-out)
 
-module _ (n : ℕ) (w : List ℕ) (k : Step) (o : Outcome) (l : Line) (p : o ≡ outcome-of n w k) (q : l ≡ line o) where
-  pub turned : (i : ℕ) (out out′ : List ℕ) → out′ ≡ written-down out i l → out′ ≡ written-down out i (line (outcome-of n w k))
+module _ (n : ℕ) (w : List ℕ) (room : ℕ) (k : Step) (o : Outcome) (l : Line) (p : o ≡ outcome-of n w room k) (q : l ≡ line o) where
+  pub turned : (i : ℕ) (out out′ : List ℕ) → out′ ≡ written-down out i l → out′ ≡ written-down out i (line (outcome-of n w room k))
   turned i out out′ r = rw (q, p) at r
 
-  pub turned-number : l .outcome ≡ line (outcome-of n w k) .outcome
+  pub turned-number : l .outcome ≡ line (outcome-of n w room k) .outcome
   turned-number = rw (q, p)
 
 pub ruleset turn-exits = (turned, turned-number)

@@ -15,9 +15,9 @@ use Rattle.steps.specs.declared.outcome.Line.{Line}
 use Rattle.steps.specs.Outcome.{line}
 use Rattle.steps.specs.Taken.{Taken, steps-of, came-to, outcome-from}
 use Rattle.steps.specs.Laws.Taken.{same-outcome}
-use Rattle.engine.specs.Step.{outcome-of, words-after}
+use Rattle.engine.specs.Step.{words-after, output-after}
 use Rattle.engine.specs.Reached.{Goes-on}
-use Rattle.schedule.specs.Listed.{written-down, lines, taken-run, taken-in, All-taken}
+use Rattle.schedule.specs.Listed.{written-down, lines, taken-run, as-written, All-taken}
 
 -- ---- one outcome is written
 module _ (out : List ℕ) (i : ℕ) (l : Line) where
@@ -71,34 +71,42 @@ unfolding lines
 lines-before [] out i p h = refl
 lines-before (t ∷ ts) out i p h = lines-before ts (written-down out i (line (t .outcome))) (suc i) p (omega arith) ∙ noted-before out i (line (t .outcome)) p h
 
-module _ (n : ℕ) where
-  pub written : (ks : List Step) (w out : List ℕ) (i : ℕ) → 3 * (i + length ks) ≤ length out → taken-in (lines out i (taken-run n w ks)) i ks ≡ taken-run n w ks
-  unfolding taken-in taken-run lines
-  written [] w out i room = refl
-  written (k ∷ ks) w out i room =
-      let o = outcome-of n w k in
-      let l = line o in
-      let out′ = written-down out i l in
-      let later = lines out′ (suc i) (taken-run n (words-after n w k) ks) in
-      let here : (p : ℕ) → p < 3 * suc i → getD later p 0 ≡ getD out′ p 0 = lines-before (taken-run n (words-after n w k) ks) out′ (suc i) in
-      ap₂ (λ (x : Outcome) (ts : List Taken). came-to k x ∷ ts)
-      (rw (
-        here (3 * i) (omega arith),
-        here (3 * i + 1) (omega arith),
-        here (3 * i + 2) (omega arith),
-        noted-first out i l (omega arith),
-        noted-second out i l (omega arith),
-        noted-third out i l (omega arith),
-      ) (same-outcome o))
-      (written ks (words-after n w k) out′ (suc i) (omega (arith, noted-length out i l)))
+pub written : (ts : List Taken) (out : List ℕ) (i : ℕ) → 3 * (i + length ts) ≤ length out → as-written (lines out i ts) i ts ≡ ts
+unfolding as-written lines
+written [] out i room = refl
+written (t ∷ ts) out i room =
+    let o = t .outcome in
+    let l = line o in
+    let out′ = written-down out i l in
+    let later = lines out′ (suc i) ts in
+    let here : (p : ℕ) → p < 3 * suc i → getD later p 0 ≡ getD out′ p 0 = lines-before ts out′ (suc i) in
+    ap₂ (λ (x : Outcome) (us : List Taken). came-to (t .step) (t .room) (t .lent) x (t .left) ∷ us)
+    (rw (
+      here (3 * i) (omega arith),
+      here (3 * i + 1) (omega arith),
+      here (3 * i + 2) (omega arith),
+      noted-first out i l (omega arith),
+      noted-second out i l (omega arith),
+      noted-third out i l (omega arith),
+    ) (same-outcome o))
+    (written ts out′ (suc i) (omega (arith, noted-length out i l)))
 
 -- the steps are those that were run
-pub steps-run : (n : ℕ) (ks : List Step) (w : List ℕ) → steps-of (taken-run n w ks) ≡ ks
-unfolding taken-run
-steps-run n [] w = refl
-steps-run n (k ∷ ks) w = ap (λ (l : List Step). k ∷ l) (steps-run n ks (words-after n w k))
+module _ (n room : ℕ) where
+  pub steps-run : (ks : List Step) (w out : List ℕ) → steps-of (taken-run n room w out ks) ≡ ks
+  unfolding taken-run
+  steps-run [] w out = refl
+  steps-run (k ∷ ks) w out = ap (λ (l : List Step). k ∷ l) (steps-run ks (words-after n w room k) (output-after n w room k out))
+
+  length-run : (ks : List Step) (w out : List ℕ) → length (taken-run n room w out ks) ≡ length ks
+  unfolding taken-run
+  length-run [] w out = refl
+  length-run (k ∷ ks) w out = ap suc (length-run ks (words-after n w room k) (output-after n w room k out))
 
 -- what `run` leaves, by the outcomes that it wrote
-pub reached-as-written : (b out : List ℕ) (ks : List Step) (b′ out′ : List ℕ) → 3 * length ks ≤ length out → All-taken b out ks b′ out′ → Goes-on b (taken-in out′ 0 ks) b′
-reached-as-written b out ks b′ out′ room a =
-    subst (λ (ts : List Taken). Goes-on b ts b′) (sym (ap (λ (x : List ℕ). taken-in x 0 ks) (a .outcomes) ∙ written (length b) ks (view b) out 0 (omega arith))) (a .reached)
+pub reached-as-written : (b out outcomes : List ℕ) (ks : List Step) (b′ out′ outcomes′ : List ℕ) → 3 * length ks ≤ length outcomes
+    → (a : All-taken b out outcomes ks b′ out′ outcomes′) → Goes-on b (as-written outcomes′ 0 (a .taken)) b′
+reached-as-written b out outcomes ks b′ out′ outcomes′ room a =
+    let long = ap length (a .is) ∙ length-run (length b) (length out) ks (view b) (view out) in
+    subst (λ (us : List Taken). Goes-on b us b′)
+    (sym (ap (λ (x : List ℕ). as-written x 0 (a .taken)) (a .noted) ∙ written (a .taken) outcomes 0 (omega (arith, long)))) (a .reached)

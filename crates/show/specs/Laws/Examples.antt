@@ -11,10 +11,10 @@ use Rattle.text.specs.Print.{digits-within, decimal, field, step-line, store-li
 use Rattle.steps.specs.Whole.{words-for, length-for}
 use Rattle.steps.specs.Refusal.{first, allowed?, open-refusal, refusal}
 use Rattle.steps.specs.Outcome.{line}
-use Rattle.steps.specs.Steps.{step}
+use Rattle.steps.specs.Steps.{step, by-rule, lacks-room}
 use Rattle.kinds.specs.Parts.{head-sizes}
 use Rattle.engine.specs.Open.{new-words, words-opened}
-use Rattle.engine.specs.Step.{outcome-of, words-after}
+use Rattle.engine.specs.Step.{result-of, outcome-of, words-after}
 use Rattle.show.specs.Shown.{lines, steps-shown, store-shown, lines-shown, shown}
 
 -- `stepshow`'s memory, of which these inputs need the head only
@@ -31,5 +31,5 @@ pub prints-samples : (prints [] ≡ bad-line)
     × (prints (57 ∷ 32 ∷ 52 ∷ 32 ∷ 49 ∷ []) ≡ refused-line)
     × (prints (49 ∷ 32 ∷ 52 ∷ 32 ∷ 49 ∷ 10 ∷ 56 ∷ 32 ∷ 48 ∷ 32 ∷ 48 ∷ 32 ∷ 48 ∷ 32 ∷ 48 ∷ 32 ∷ 48 ∷ 10 ∷ 49 ∷ 32 ∷ 52 ∷ 32 ∷ 49 ∷ 10 ∷ 10 ∷ [])
     ≡ store-line 1 4 1 ++ step-line 0 0 4 0 ++ bad-line)
-unfolding shown lines lines-shown store-shown steps-shown line-of numbers? pieces number? digits? value-from of-numbers open-refusal first allowed? length-for words-for size store-line field decimal digits-within words-opened new-words stored at offset over first-leaf head-sizes outcome-of words-after refusal step step-line line
+unfolding shown lines lines-shown store-shown steps-shown line-of numbers? pieces number? digits? value-from of-numbers open-refusal first allowed? length-for words-for size store-line field decimal digits-within words-opened new-words stored at offset over first-leaf head-sizes result-of outcome-of words-after refusal step by-rule lacks-room step-line line
 prints-samples = (refl, refl, refl, refl, refl, refl, refl)

@@ -103,7 +103,7 @@ module _ (bytes : ℕ) where
     by-line true w (Step a b c d e g) = rw (over w)
     by-line true w Bad = rw (over w)
     by-line false w (Sizes a b c) = rw (over w)
-    by-line false w (Step a b c d e g) = rw (mod-eq-of-lt small, on (n + 1) (words-after bytes w (step-of a b c d e g)) (omega arith))
+    by-line false w (Step a b c d e g) = rw (mod-eq-of-lt small, on (n + 1) (words-after bytes w 512 (step-of a b c d e g)) (omega arith))
     by-line false w Bad = rw (over w)
 
   -- a line of which p has been read

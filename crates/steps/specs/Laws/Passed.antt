@@ -36,16 +36,21 @@ passed z k m e =
     let unfit = not (state-fits (λ a. m (client (k .client) a)) (k .server) (kind-of (k .kind))) in
     let p4 = peel 4 (ltb 7 (k .kind)) _ (omega arith) e in
     let p5 = peel 5 (leb (z .clients) (k .client)) _ (omega arith) (p4 .1) in
-    let p6 = peel 6 (gives && not (between 1 6 (k .op))) _ (omega arith) (p5 .1) in
-    let p7 = peel 7 (sited && leb (z .servers) (k .server)) _ (omega arith) (p6 .1) in
+    let p6 = peel 6 (gives && not (between 1 7 (k .op))) _ (omega arith) (p5 .1) in
+    let p11 = peel 11 (gives && eqb (k .op) 7 && not (between 1 32 (k .value))) _ (omega arith) (p6 .1) in
+    let p7 = peel 7 (sited && leb (z .servers) (k .server)) _ (omega arith) (p11 .1) in
     let p8 = peel 8 (migrates && not (in-store (tree-sizes z) (k .key))) _ (omega arith) (p7 .1) in
     let p9 = peel 9 unfit 0 (omega arith) (p8 .1) in
     record {
       known-kind = ltb-false 7 (k .kind) (p4 .0);
       known-client = leb-false (z .clients) (k .client) (p5 .0);
       known-op = λ h.
-          let r = and-both (leb 1 (k .op)) (leb (k .op) 6) (not-so (between 1 6 (k .op)) (given-half gives (not (between 1 6 (k .op))) (p6 .0) (eq-eqb (k .kind) 1 h))) in
-          (leb-true 1 (k .op) (r .0), leb-true (k .op) 6 (r .1));
+          let r = and-both (leb 1 (k .op)) (leb (k .op) 7) (not-so (between 1 7 (k .op)) (given-half gives (not (between 1 7 (k .op))) (p6 .0) (eq-eqb (k .kind) 1 h))) in
+          (leb-true 1 (k .op) (r .0), leb-true (k .op) 7 (r .1));
+      known-count = λ h o.
+          let lists : (gives && eqb (k .op) 7) ≡ true = rw (eq-eqb (k .kind) 1 h, eq-eqb (k .op) 7 o) in
+          let r = and-both (leb 1 (k .value)) (leb (k .value) 32) (not-so (between 1 32 (k .value)) (given-half (gives && eqb (k .op) 7) (not (between 1 32 (k .value))) (p11 .0) lists)) in
+          (leb-true 1 (k .value) (r .0), leb-true (k .value) 32 (r .1));
       known-server = λ h o. leb-false (z .servers) (k .server) (given-half sited (leb (z .servers) (k .server)) (p7 .0) (rw (eq-eqb (k .kind) 1 h, eq-eqb (k .op) 6 o)));
       known-participant = λ l h. leb-false (z .servers) (k .server) (given-half sited (leb (z .servers) (k .server)) (p7 .0) (either migrates (between 4 5 (k .kind)) (rw (le-leb 4 (k .kind) l, le-leb (k .kind) 5 h))));
       known-node = λ h o. not-so (in-store (tree-sizes z) (k .key)) (given-half migrates (not (in-store (tree-sizes z) (k .key))) (p8 .0) (rw (eq-eqb (k .kind) 1 h, eq-eqb (k .op) 6 o)));

@@ -44,7 +44,7 @@ module _ (z : Sizes) where
   pub leads-on : (h ts : List Taken) (m m′ m″ : Address → ℕ) → Leads z m h m′ → Leads z m′ ts m″ → Leads z m (h ++ ts) m″
   unfolding Leads-by
   leads-on [] ts m m′ m″ p q = subst (λ (u : Address → ℕ). Leads z u ts m″) p q
-  leads-on (t ∷ h) ts m m′ m″ p q = (p .0, p .1, leads-on h ts (after z m (t .step)) m′ m″ (p .2) q)
+  leads-on (t ∷ h) ts m m′ m″ p q = (p .0, p .1, p .2, leads-on h ts _ m′ m″ (p .3) q)
 
   -- the memory between two lists
   pub record Parted (m : Address → ℕ) (h ts : List Taken) (m″ : Address → ℕ) : Type 0 where
@@ -56,5 +56,5 @@ module _ (z : Sizes) where
   unfolding Leads-by
   parted [] ts m m″ p = record { between = m; first = refl; then = p }
   parted (t ∷ h) ts m m″ p =
-      let q = parted h ts (after z m (t .step)) m″ (p .2) in
-      record { between = q .between; first = (p .0, p .1, q .first); then = q .then }
+      let q = parted h ts _ m″ (p .3) in
+      record { between = q .between; first = (p .0, p .1, p .2, q .first); then = q .then }

@@ -19,7 +19,7 @@ use Rattle.memory.specs.Word.{view}
 use Rattle.nodes.specs.Laws.Kept.{length-entriesOf}
 use Rattle.operations.specs.Entry.{Entries, keys, under}
 use Rattle.walk.specs.declared.found.Sought.{Sought}
-use Rattle.walk.specs.declared.found.Sought.the-variants.{Higher, Lower}
+use Rattle.walk.specs.declared.found.Sought.the-variants.{Higher, Lower, AtLeast}
 use Rattle.walk.specs.declared.found.Wish.{Wish}
 use Rattle.walk.specs.Laws.Entries.{Leaf, open-leaf, leaf-keys, extra-leaf, entry-slot}
 use Rattle.walk.specs.Found.{pair-in, first-pairs, pairs-in, Roomy, pushed-pair, to-right, sought-in, start-in, many-from, index-from, with-one, LeafAt}
@@ -58,11 +58,17 @@ module _ (s : Sought) where
   pub right-lower : s ≡ Lower → false ≡ to-right s
   right-lower e = rw e
 
+  pub right-least : s ≡ AtLeast → true ≡ to-right s
+  right-least e = rw e
+
   pub start-higher : (ks : List ℕ) (key r : ℕ) → s ≡ Higher → r ≡ place ks key → r ≡ start-in s ks key
   start-higher ks key r e h = rw e h
 
   pub start-lower : (ks : List ℕ) (key r : ℕ) → s ≡ Lower → r ≡ under ks key → r ≡ start-in s ks key
   start-lower ks key r e h = rw e h
+
+  pub start-least : (ks : List ℕ) (key r : ℕ) → s ≡ AtLeast → r ≡ under ks key → r ≡ start-in s ks key
+  start-least ks key r e h = rw e h
 
   pub many-higher : (start count : ℕ) → s ≡ Higher → count - start ≡ many-from s start count
   many-higher start count e = rw e
@@ -70,12 +76,21 @@ module _ (s : Sought) where
   pub many-lower : (start count : ℕ) → s ≡ Lower → start ≡ many-from s start count
   many-lower start count e = rw e
 
+  pub many-least : (start count : ℕ) → s ≡ AtLeast → count - start ≡ many-from s start count
+  many-least start count e = rw e
+
   module _ (start count j : ℕ) (h : j < many-from s start count) (g : start ≤ count) where
     pub index-higher : s ≡ Higher → start + j ≡ index-from s start j
     index-higher e = rw e
 
     pub index-lower : s ≡ Lower → start - 1 - j ≡ index-from s start j
     index-lower e = rw e
+
+    pub index-least : s ≡ AtLeast → start + j ≡ index-from s start j
+    index-least e = rw e
+
+    pub least-inside : s ≡ AtLeast → start + j < count
+    least-inside e = let k : j < count - start = rw e at h in omega arith
 
     pub higher-inside : s ≡ Higher → start + j < count
     higher-inside e = let k : j < count - start = rw e at h in omega arith
@@ -86,7 +101,23 @@ module _ (s : Sought) where
     pub lower-inside : s ≡ Lower → start - 1 - j < count
     lower-inside e = let k : j < start = rw e at h in omega arith
 
-pub ruleset sought-exits = (right-higher, right-lower, start-higher, start-lower, many-higher, many-lower, index-higher, index-lower, higher-inside, lower-inside)
+pub ruleset sought-exits = (
+  right-higher,
+  right-lower,
+  right-least,
+  start-higher,
+  start-lower,
+  start-least,
+  many-higher,
+  many-lower,
+  many-least,
+  index-higher,
+  index-lower,
+  index-least,
+  higher-inside,
+  lower-inside,
+  least-inside,
+)
 
 -- ---- one pair more
 pub length-first : (f : List ℕ) (n : ℕ) → length (first-pairs f n) ≡ n
@@ -198,6 +229,7 @@ module _ (n : Node) (h : LeafAt n) where
       where
         go : (t : Sought) → s ≡ t → length (sought-in t key E) ≡ many-from t start (n .count)
         go Higher e = rw (← start-is Higher e) (length-drop start E ∙ rw long)
+        go AtLeast e = rw (← start-is AtLeast e) (length-drop start E ∙ rw long)
         go Lower e = rw (← start-is Lower e) (length-reverse (take start E) ∙ length-take-le start E (omega (arith, long)))
 
     pub sought-at : (j : ℕ) → j < many-from s start (n .count) → getD L j (0, 0) ≡ (getD (n .keys) (index-from s start j) 0, getD (n .slots) (index-from s start j) 0)
@@ -207,6 +239,9 @@ module _ (n : Node) (h : LeafAt n) where
         go Higher e =
             let k : j < n .count - start = rw e at g in
             rw (← start-is Higher e, getD-drop start E j (0, 0)) (pair-at (start + j) (omega arith))
+        go AtLeast e =
+            let k : j < n .count - start = rw e at g in
+            rw (← start-is AtLeast e, getD-drop start E j (0, 0)) (pair-at (start + j) (omega arith))
         go Lower e =
             let k : j < start = rw e at g in
             let m : length (take start E) ≡ start = length-take-le start E (omega (arith, long)) in
@@ -257,6 +292,7 @@ module _ (w : ℕ) (L got : Entries) (f : List ℕ) where
         where
           roomy : Roomy w (pushed-pair f k v)
           roomy = record {
+            some = g .room .some;
             few = g .room .few;
             long = rw (pushed-length f k v (gather-room .1)) (g .room .long);
             within = rw (pushed-count f k v (gather-room .1)) (omega (arith, g .room .within));

@@ -18,6 +18,7 @@ use Rattle.nodes.specs.Find.{key-index, find-at}
 use Rattle.nodes.specs.Node.{keysOf}
 use Rattle.nodes.specs.Entries.{entriesOf}
 use Rattle.nodes.specs.Kept.{Whole}
+use Rattle.operations.specs.Object.{Writes}
 use Rattle.operations.specs.Map.{said}
 use Rattle.operations.specs.Slot.{TreeSizes}
 use Rattle.operations.specs.Entry.{Entries, value-in}
@@ -29,7 +30,7 @@ use Rattle.walk.specs.declared.walk.Stop.the-variants.{Going, LacksMeta,
 use Rattle.client.specs.Layout.{ClientWord}
 use Rattle.client.specs.Lent.{used-in}
 use Rattle.walk.specs.Laws.Entries.{Leaf, open-leaf, leaf-value, leaf-absent}
-use Rattle.walk.specs.Walk.{told, goes, over}
+use Rattle.walk.specs.Walk.{told, goes, stands, over}
 use Rattle.walk.specs.Laws.Walk.{walked-done, full-done}
 use Rattle.walk.specs.Ask.{Noted, popped}
 use Rattle.walk.specs.Laws.Ask.{popped-used, popped-noted}
@@ -41,14 +42,14 @@ module _ (m : ClientWord → ℕ) (u : List ℕ) (c : Bool) (e : c ≡ over m (u
   pub ends-over : (u′ : List ℕ) → c ≡ true → u′ ≡ popped u → Ends m u a b (Aborts 4) u′
   ends-over u′ t p =
       let few : getD u 0 0 ≤ 97 = omega arith in
-      rw p (record { same = λ z w. rw (full-done z m (used-in u) ((a, b), w) (sym e ∙ t), popped-used u (h .long) few); noted = popped-noted m u h })
+      rw p (record { same = λ z w ps. rw (full-done z m (used-in u) ((a, b, ps), w) (sym e ∙ t), popped-used u (h .long) few); noted = popped-noted m u h })
 
   pub ends-here : c ≡ false → Ends m u a b (Answers a b) u
-  ends-here t = record { same = λ z w. walked-done z m (used-in u) ((a, b), w) (sym e ∙ t); noted = h }
+  ends-here t = record { same = λ z w ps. walked-done z m (used-in u) ((a, b, ps), w) (sym e ∙ t); noted = h }
 
 pub ruleset answer-ends = (ends-over, ends-here)
 
-pub ended-nothing : (s : Stop) (us : List ℕ) → ended s us [] ≡ told s us
+pub ended-nothing : (s : Stop) (us : List ℕ) → ended s us [] [] ≡ told s us
 ended-nothing Going us = refl
 ended-nothing LacksMeta us = refl
 ended-nothing (LacksNode n) us = refl
@@ -56,6 +57,16 @@ ended-nothing (LacksVector s) us = refl
 ended-nothing Refused us = refl
 ended-nothing (Aborts r) us = refl
 ended-nothing (Answers a b) us = refl
+
+-- what has stopped without an answer comes with nothing
+pub told-ended : (s : Stop) (us : List ℕ) (w : Writes) (ps : Entries) → goes s ≡ false → stands s ≡ false → told s us ≡ ended s us w ps
+told-ended Going us w ps g h = refl
+told-ended LacksMeta us w ps g h = refl
+told-ended (LacksNode n) us w ps g h = refl
+told-ended (LacksVector s) us w ps g h = refl
+told-ended Refused us w ps g h = refl
+told-ended (Aborts r) us w ps g h = refl
+told-ended (Answers a b) us w ps g h = let z : _≡_ {A = ℕ} 0 1 = cc in absurd (omega arith)
 
 module _ (n : Node) (key : ℕ) (f : Found) (pf : f ≡ found (key-index (keysOf n) key)) where
   pub look-there : (i v : ℕ) → f ≡ At i → v ≡ getD (n .slots) i 0 → _≡_ {A = Pair} (record { a = 1; b = v }) (look-in n key)
@@ -93,18 +104,18 @@ find-inside ks key i e = go (eqb (place ks key) 0) (eqb (getD ks (place ks key -
         omega (arith, place-within ks key)
     go false false p q = let r : none ≡ some i = rw (key-index, find-at, p, q) at e in let z : _≡_ {A = ℕ} 0 1 = cc in absurd (omega arith)
 
-leaf-said : (n : Node) (lo key : ℕ) → Whole n → Leaf n → said (value-in key (entriesOf n lo)) ≡ (look-in n key .a, look-in n key .b)
+leaf-said : (n : Node) (lo key : ℕ) → Whole n → Leaf n → said (value-in key (entriesOf n lo)) ≡ (look-in n key .a, look-in n key .b, [])
 unfolding look-in
 leaf-said n lo key f l = go (key-index (keysOf n) key) refl
   where
-    go : (o : Option ℕ) → key-index (keysOf n) key ≡ o → said (value-in key (entriesOf n lo)) ≡ (look-in n key .a, look-in n key .b)
+    go : (o : Option ℕ) → key-index (keysOf n) key ≡ o → said (value-in key (entriesOf n lo)) ≡ (look-in n key .a, look-in n key .b, [])
     go none e = rw (leaf-absent n lo key f l e, look-in, e)
     go (some i) e = let h : i < n .count = omega (arith, find-inside (keysOf n) key i e, f .keys) in rw (leaf-value n lo key f l i e h, look-in, e)
 
 module _ (z : TreeSizes) (m : ClientWord → ℕ) (u : List ℕ) (key : ℕ) (s₁ : Stop) (r : Node) (u₁ : List ℕ) (h : ToLeaf z m u key s₁ r u₁) (b : Bool) (pb : b ≡ goes s₁) where
-  pub look-stops : (k : List Branch → ℕ → Entries → TreePlan) → not b ≡ true → Walks z m u (from-root key k) s₁ u₁
+  pub look-stops : (k : List Branch → ℕ → Entries → TreePlan) → not b ≡ true → Walks z m u (from-root key k) s₁ u₁ []
   look-stops k nb = let no : goes s₁ ≡ false = sym pb ∙ not-true b nb in
-      record { same = rw (h .descends .asks k, h .stop, no); noted = h .descends .noted }
+      record { same = rw (h .descends .asks k, h .stop, no) (sym (ended-nothing s₁ (used-in u₁))); noted = h .descends .noted }
 
   module _ (nb : not b ≡ false) where
     on : goes (h .come .stop) ≡ true
@@ -116,11 +127,11 @@ module _ (z : TreeSizes) (m : ClientWord → ℕ) (u : List ℕ) (key : ℕ) (s�
     pub leaf-small : r .count ≤ 14
     leaf-small = rw (h .node) at (end .small .keys)
 
-    pub look-ends : (q : Pair) (s : Stop) (u₂ : List ℕ) → q ≡ look-in r key → Ends m u₁ (q .a) (q .b) s u₂ → Walks z m u (lookup-plan key) s u₂
+    pub look-ends : (q : Pair) (s : Stop) (u₂ : List ℕ) → q ≡ look-in r key → Ends m u₁ (q .a) (q .b) s u₂ → Walks z m u (lookup-plan key) s u₂ []
     look-ends q s u₂ pp e =
         let d : Arrival = h .come in
         let lo : ℕ = low (trail (d .path) 0 (d .top - 0)) in
-        let v : said (value-in key (entriesOf (d .node) lo)) ≡ (q .a, q .b) = rw (pp, ← h .node) (leaf-said (d .node) lo key (end .whole) (open-leaf (d .node) (end .opened) (end .level))) in
-        record { same = rw (h .descends .asks (λ fs n es. P.done (said (value-in key es), [])), on, v) (e .same z [] ∙ ended-nothing s (used-in u₂)); noted = e .noted }
+        let v : said (value-in key (entriesOf (d .node) lo)) ≡ (q .a, q .b, []) = rw (pp, ← h .node) (leaf-said (d .node) lo key (end .whole) (open-leaf (d .node) (end .opened) (end .level))) in
+        record { same = rw (h .descends .asks (λ fs n es. P.done (said (value-in key es), [])), on, v) (e .same z [] []); noted = e .noted }
 
 pub ruleset look-exits = (look-stops, leaf-small, look-ends)

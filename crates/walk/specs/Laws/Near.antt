@@ -25,17 +25,18 @@ use Rattle.walk.specs.declared.walk.Stop.{Stop}
 use Rattle.client.specs.Layout.{ClientWord}
 use Rattle.client.specs.Lent.{used-in}
 use Rattle.walk.specs.Entries.{branch-of}
-use Rattle.walk.specs.Walk.{goes, walked}
+use Rattle.walk.specs.Walk.{goes, stands, walked}
 use Rattle.walk.specs.Ask.{Noted}
 use Rattle.walk.specs.Laws.Begin.{nothing-used, nothing-noted}
 use Rattle.walk.specs.Down.{turns-in, Arrival, arrival, Descends, Reached, ToLeaf, low, branches, trail}
-use Rattle.walk.specs.Lookup.{Walks}
-use Rattle.walk.specs.Found.{pairs-in, first-pairs, Roomy, to-right, search-of, visit, side, search-plan, LeafAt}
+use Rattle.walk.specs.Lookup.{ended, Walks}
+use Rattle.walk.specs.Laws.Lookup.{told-ended}
+use Rattle.walk.specs.Laws.Mute.{way-silent}
+use Rattle.walk.specs.Found.{pairs-in, first-pairs, Roomy, to-right, search-of, pairs-told, visit, side, search-plan, LeafAt}
 use Rattle.walk.specs.Laws.Found.{length-pairs, leaf-from, full-take}
 use Rattle.walk.specs.Seek.{heading, rests, above, Stacked, Past, Tells, Seeks, FromLeaf, Afresh}
 use Rattle.walk.specs.Laws.Seek.{seek-climb, told-taken}
 use Rattle.walk.specs.Laws.Entries.{open-leaf}
-use Rattle.walk.specs.Walk as W
 
 -- ---- the branches left on one side
 abbrev lows-of : List Turn → ℕ → ℕ
@@ -65,9 +66,12 @@ module _ (z : TreeSizes) (m : ClientWord → ℕ) (u : List ℕ) (w : Wish) (s�
   abbrev from : List Branch → ℕ → Entries → TreePlan
   from fs n es = enough q (seek-up q (visit right) (side right) zero fs) (q .in-leaf es)
 
-  pub near-stops : not b ≡ true → Walks z m u (search-plan w) s₁ u₁
-  near-stops nb = let no : goes s₁ ≡ false = sym pb ∙ not-true b nb in
-      record { same = rw (h .descends .asks from, h .stop, no); noted = h .descends .noted }
+  pub near-stops : (ps : Entries) → not b ≡ true → Walks z m u (search-plan w) s₁ u₁ ps
+  near-stops ps nb =
+      let no : goes s₁ ≡ false = sym pb ∙ not-true b nb in
+      let silent : goes (d .stop) ≡ false → stands (d .stop) ≡ false = way-silent z m u (w .key) d u₁ (h .descends) in
+      let quiet : goes s₁ ≡ false → stands s₁ ≡ false = rw (h .stop) at silent in
+      record { same = rw (h .descends .asks from, h .stop, no) (told-ended s₁ (used-in u₁) [] ps no (quiet no)); noted = h .descends .noted }
 
   module _ (nb : not b ≡ false) where
     on : goes (d .stop) ≡ true
@@ -91,7 +95,7 @@ module _ (z : TreeSizes) (m : ClientWord → ℕ) (u : List ℕ) (w : Wish) (s�
 
     -- where the leaf has enough
     pub near-enough : (f₀ f : List ℕ) (s : Stop) (u₂ : List ℕ) → getD f₀ 0 0 ≡ 0 → pairs-in f ≡ take (w .wanted) (pairs-in f₀ ++ q .in-leaf (entriesOf r 0)) → getD f 0 0 ≡ w .wanted
-        → Tells m u₁ w (pairs-in f) s u₂ → Walks z m u (search-plan w) s u₂
+        → Tells m u₁ w (pairs-in f) s u₂ → Walks z m u (search-plan w) s u₂ (pairs-told w (pairs-in f))
     unfolding pairs-in first-pairs
     near-enough f₀ f s u₂ z₀ e c t =
         let all : Entries = q .in-leaf (entriesOf r 0) in
@@ -122,29 +126,29 @@ module _ (z : TreeSizes) (m : ClientWord → ℕ) (u : List ℕ) (w : Wish) (c :
   arrived : ToLeaf z m u (w .key) (p .stop) (node-at (view c) (p .place)) u₁
   arrived = record { come = arrival c p; stop = refl; node = refl; descends = h }
 
-  pub path-stops : (b : Bool) → b ≡ goes (p .stop) → not b ≡ true → Walks z m u (search-plan w) (p .stop) u₁
-  path-stops b pb nb = near-stops z m u w (p .stop) (node-at (view c) (p .place)) u₁ arrived b pb nb
+  pub path-stops : (b : Bool) (ps : Entries) → b ≡ goes (p .stop) → not b ≡ true → Walks z m u (search-plan w) (p .stop) u₁ ps
+  path-stops b ps pb nb = near-stops z m u w (p .stop) (node-at (view c) (p .place)) u₁ arrived b pb ps nb
 
   module _ (b : Bool) (pb : b ≡ goes (p .stop)) (nb : not b ≡ false) (f₀ : List ℕ) (z₀ : getD f₀ 0 0 ≡ 0) where
     abbrev way : List Turn
     way = trail (turns-in c (p .path)) 0 (p .top - 0)
 
-    pub path-on : (s : Stop) (u₂ : List ℕ) → FromLeaf z m u₁ w (p .top) (turns-in c (p .path)) (node-at (view c) (p .place)) (pairs-in f₀) s u₂ → Walks z m u (search-plan w) s u₂
+    pub path-on : (s : Stop) (u₂ : List ℕ) (ps : Entries) → FromLeaf z m u₁ w (p .top) (turns-in c (p .path)) (node-at (view c) (p .place)) (pairs-in f₀) s u₂ ps → Walks z m u (search-plan w) s u₂ ps
     unfolding pairs-in first-pairs arrived
-    path-on s u₂ t =
+    path-on s u₂ ps t =
         let e : walked z m (enough (search-of w) (above (search-of w) (to-right (w .sought)) (p .top) (turns-in c (p .path)) 0 (lows-of way)) (search-of w .in-leaf (entriesOf (node-at (view c) (p .place)) (low way)))) (used-in u₁)
-        ≡ W.told s (used-in u₂) = rw z₀ at (t .same (low way) (lows-of way)) in
+        ≡ ended s (used-in u₂) [] ps = rw z₀ at (t .same (low way) (lows-of way)) in
         record { same = near-goes z m u w (p .stop) (node-at (view c) (p .place)) u₁ arrived b pb nb ∙ e; noted = t .noted }
 
 pub ruleset path-exits = (path-stops, path-noted, path-stacked, path-leaf, path-on)
 
 -- ---- on from a leaf
 module _ (z : TreeSizes) (m : ClientWord → ℕ) (u : List ℕ) (w : Wish) (top : ℕ) (path : List Turn) (n : Node) (got : Entries) (c : List ℕ) (a : Ahead) (got′ : Entries) (h : Past w top path n got (heading c a) got′) (s : Stop) (u′ : List ℕ) where
-  pub leaf-ends : a .state ≡ Finished → Tells m u w got′ s u′ → FromLeaf z m u w top path n got s u′
+  pub leaf-ends : a .state ≡ Finished → Tells m u w got′ s u′ → FromLeaf z m u w top path n got s u′ (pairs-told w got′)
   leaf-ends e t = record { same = λ j f. rw (h .ends e j f) (t .same z); noted = t .noted }
 
-  pub leaf-next : a .state ≡ Next → Seeks z m u w top (turns-in c (a .path)) (a .level) (a .name) got′ s u′ → FromLeaf z m u w top path n got s u′
-  leaf-next e t = record { same = λ j f. rw (h .next e j f) (t .same (h .lo f) (h .lows f)); noted = t .noted }
+  pub leaf-next : (ps : Entries) → a .state ≡ Next → Seeks z m u w top (turns-in c (a .path)) (a .level) (a .name) got′ s u′ ps → FromLeaf z m u w top path n got s u′ ps
+  leaf-next ps e t = record { same = λ j f. rw (h .next e j f) (t .same (h .lo f) (h .lows f)); noted = t .noted }
 
 module _ (w : Wish) (top : ℕ) (path : List Turn) (n : Node) (got : Entries) (c : List ℕ) (a : Ahead) (got′ : Entries) (h : Past w top path n got (heading c a) got′) (e : a .state ≡ Next) where
   pub next-stacked : Stacked top (turns-in c (a .path)) (a .level)
@@ -156,32 +160,24 @@ module _ (w : Wish) (top : ℕ) (path : List Turn) (n : Node) (got : Entries) (c
 pub ruleset leaf-exits = (leaf-ends, leaf-next, next-stacked, next-below)
 
 -- ---- from the start again: no copy was in use then, and no pair found
-emptied : (l : List ℕ) → 0 < length l → getD (set l 0 0) 0 0 ≡ 0
-emptied l h = getD-set-same l 0 0 0 h
+pub used-there : (m : ClientWord → ℕ) (u : List ℕ) → Noted m u → 0 < length u
+used-there m u h = omega (arith, h .long)
 
-module _ (m : ClientWord → ℕ) (u : List ℕ) (h : Noted m u) where
-  pub used-there : 0 < length u
-  used-there = omega (arith, h .long)
+pub again-noted : (m : ClientWord → ℕ) (u u₁ : List ℕ) → Noted m u → length u₁ ≡ length u → getD u₁ 0 0 ≡ 0 → Noted m u₁
+again-noted m u u₁ h l e = nothing-noted m u₁ e (omega (arith, h .long))
 
-  pub again-noted : (u₁ : List ℕ) → u₁ ≡ set u 0 0 → Noted m u₁
-  again-noted u₁ e = rw e (nothing-noted m (set u 0 0) (emptied u used-there) (rw (length-set u 0 0) (h .long)))
+pub found-there : (n : ℕ) (f : List ℕ) → Roomy n f → 0 < length f
+found-there n f r = omega (arith, r .long)
 
-module _ (n : ℕ) (f : List ℕ) (r : Roomy n f) where
-  pub found-there : 0 < length f
-  found-there = omega (arith, r .long)
+pub again-roomy : (n : ℕ) (f f₁ : List ℕ) → Roomy n f → length f₁ ≡ length f → getD f₁ 0 0 ≡ 0 → Roomy n f₁
+again-roomy n f f₁ r l e = record { some = r .some; few = r .few; long = omega (arith, r .long); within = omega arith }
 
-  pub again-roomy : (f₁ : List ℕ) → f₁ ≡ set f 0 0 → Roomy n f₁
-  again-roomy f₁ e = rw e (record { few = r .few; long = rw (length-set f 0 0) (r .long); within = rw (emptied f found-there) (omega arith) })
+pub ruleset again-exits = (used-there, again-noted, found-there, again-roomy)
 
-  pub again-empty : (f₁ : List ℕ) → f₁ ≡ set f 0 0 → getD f₁ 0 0 ≡ 0
-  again-empty f₁ e = rw e (emptied f found-there)
+pub again : (z : TreeSizes) (m : ClientWord → ℕ) (u : List ℕ) (p : TreePlan) (s : Stop) (u₁ : List ℕ) (ps : Entries) → getD u 0 0 ≡ 0 → Walks z m u p s u₁ ps → Afresh z m p s u₁ ps
+again z m u p s u₁ ps e w = record { same = rw (nothing-used m u e) at (w .same); noted = w .noted }
 
-pub again : (z : TreeSizes) (m : ClientWord → ℕ) (u u₁ : List ℕ) (p : TreePlan) (s : Stop) (u₂ : List ℕ) → Noted m u → u₁ ≡ set u 0 0 → Walks z m u₁ p s u₂ → Afresh z m p s u₂
-again z m u u₁ p s u₂ h e w = record { same = rw (nothing-used m u₁ (rw e (emptied u (used-there m u h)))) at (w .same); noted = w .noted }
-
-pub ruleset again-exits = (used-there, again-noted, found-there, again-roomy, again-empty, again)
-
-pub near-afresh : (z : TreeSizes) (m : ClientWord → ℕ) (u : List ℕ) (p : TreePlan) (s : Stop) (u₁ : List ℕ) → getD u 0 0 ≡ 0 → Afresh z m p s u₁ → Walks z m u p s u₁
-near-afresh z m u p s u₁ e h = record { same = rw (nothing-used m u e) (h .same); noted = h .noted }
+pub near-afresh : (z : TreeSizes) (m : ClientWord → ℕ) (u : List ℕ) (p : TreePlan) (s : Stop) (u₁ : List ℕ) (ps : Entries) → getD u 0 0 ≡ 0 → Afresh z m p s u₁ ps → Walks z m u p s u₁ ps
+near-afresh z m u p s u₁ ps e h = record { same = rw (nothing-used m u e) (h .same); noted = h .noted }
 
 pub ruleset near-exits = (near-stops, near-noted, near-leaf, near-enough, near-afresh)

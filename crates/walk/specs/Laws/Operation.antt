@@ -2,12 +2,13 @@
 use mathlib.Core.Path.{_≡_, refl}
 use Prim.Native.Nat.{ℕ, zero, suc, _≤_}
 use native.Mathlib.Omega.{arith}
+use Rattle.base.specs.Laws.Table.{past-eight}
 use Rattle.walk.specs.declared.operation.Query.{Query}
 use Rattle.walk.specs.declared.operation.Query.the-variants.{Lookup, Next, Previous}
 use Rattle.walk.specs.declared.operation.Update.{Update}
 use Rattle.walk.specs.declared.operation.Update.the-variants.{Insert, Delete, Migrate}
 use Rattle.walk.specs.declared.operation.Operation.{Operation}
-use Rattle.walk.specs.declared.operation.Operation.the-variants.{Read, Write, Unknown}
+use Rattle.walk.specs.declared.operation.Operation.the-variants.{Read, Listing, Write, Unknown}
 use Rattle.walk.specs.Operation.{operation-of}
 
 -- ---- the ways out of the code
@@ -17,16 +18,9 @@ of-number n k r e h = rw e h
 pub of-field : (n k : ℕ) (r : Operation) → k ≡ n → r ≡ operation-of k → r ≡ operation-of n
 of-field n k r e h = rw (← e) h
 
-pub of-none : (n : ℕ) → (n ≡ 0 → ⊥) → (n ≡ 1 → ⊥) → (n ≡ 2 → ⊥) → (n ≡ 3 → ⊥) → (n ≡ 4 → ⊥) → (n ≡ 5 → ⊥) → (n ≡ 6 → ⊥) → Unknown ≡ operation-of n
+pub of-none : (n : ℕ) → (n ≡ 0 → ⊥) → (n ≡ 1 → ⊥) → (n ≡ 2 → ⊥) → (n ≡ 3 → ⊥) → (n ≡ 4 → ⊥) → (n ≡ 5 → ⊥) → (n ≡ 6 → ⊥) → (n ≡ 7 → ⊥) → Unknown ≡ operation-of n
 unfolding operation-of
-of-none zero a b c d e f g = absurd (a refl)
-of-none (suc zero) a b c d e f g = absurd (b refl)
-of-none (suc (suc zero)) a b c d e f g = absurd (c refl)
-of-none (suc (suc (suc zero))) a b c d e f g = absurd (d refl)
-of-none (suc (suc (suc (suc zero)))) a b c d e f g = absurd (e refl)
-of-none (suc (suc (suc (suc (suc zero))))) a b c d e f g = absurd (f refl)
-of-none (suc (suc (suc (suc (suc (suc zero)))))) a b c d e f g = absurd (g refl)
-of-none (suc (suc (suc (suc (suc (suc (suc n))))))) a b c d e f g = refl
+of-none = past-eight _ _ _ _ _ _ _ _ Unknown
 
 -- ---- back to the numbers
 abbrev pub query-number : Query → ℕ
@@ -49,7 +43,20 @@ reads-number (suc (suc (suc (suc (suc zero))))) Lookup e = cc
 reads-number (suc (suc (suc (suc (suc zero))))) Next e = cc
 reads-number (suc (suc (suc (suc (suc zero))))) Previous e = refl
 reads-number (suc (suc (suc (suc (suc (suc zero)))))) r e = cc
-reads-number (suc (suc (suc (suc (suc (suc (suc n))))))) r e = cc
+reads-number (suc (suc (suc (suc (suc (suc (suc zero))))))) r e = cc
+reads-number (suc (suc (suc (suc (suc (suc (suc (suc n)))))))) r e = cc
+
+pub lists-number : (n : ℕ) → operation-of n ≡ Listing → n ≡ 7
+unfolding operation-of
+lists-number zero e = cc
+lists-number (suc zero) e = cc
+lists-number (suc (suc zero)) e = cc
+lists-number (suc (suc (suc zero))) e = cc
+lists-number (suc (suc (suc (suc zero)))) e = cc
+lists-number (suc (suc (suc (suc (suc zero))))) e = cc
+lists-number (suc (suc (suc (suc (suc (suc zero)))))) e = cc
+lists-number (suc (suc (suc (suc (suc (suc (suc zero))))))) e = refl
+lists-number (suc (suc (suc (suc (suc (suc (suc (suc n)))))))) e = cc
 
 abbrev pub update-number : Update → ℕ
 update-number Insert = 1
@@ -71,10 +78,11 @@ writes-number (suc (suc (suc (suc (suc zero))))) r e = cc
 writes-number (suc (suc (suc (suc (suc (suc zero)))))) Insert e = cc
 writes-number (suc (suc (suc (suc (suc (suc zero)))))) Delete e = cc
 writes-number (suc (suc (suc (suc (suc (suc zero)))))) Migrate e = refl
-writes-number (suc (suc (suc (suc (suc (suc (suc n))))))) r e = cc
+writes-number (suc (suc (suc (suc (suc (suc (suc zero))))))) r e = cc
+writes-number (suc (suc (suc (suc (suc (suc (suc (suc n)))))))) r e = cc
 
--- a number from 1 to 6 is one of them
-pub not-unknown : (n : ℕ) → (n ≡ 0 → ⊥) → n ≤ 6 → operation-of n ≡ Unknown → ⊥
+-- a number from 1 to 7 is one of them
+pub not-unknown : (n : ℕ) → (n ≡ 0 → ⊥) → n ≤ 7 → operation-of n ≡ Unknown → ⊥
 unfolding operation-of
 not-unknown zero z h e = absurd (z refl)
 not-unknown (suc zero) z h e = let k : _≡_ {A = ℕ} 0 1 = cc in omega arith
@@ -83,4 +91,5 @@ not-unknown (suc (suc (suc zero))) z h e = let k : _≡_ {A = ℕ} 0 1 = cc in o
 not-unknown (suc (suc (suc (suc zero)))) z h e = let k : _≡_ {A = ℕ} 0 1 = cc in omega arith
 not-unknown (suc (suc (suc (suc (suc zero))))) z h e = let k : _≡_ {A = ℕ} 0 1 = cc in omega arith
 not-unknown (suc (suc (suc (suc (suc (suc zero)))))) z h e = let k : _≡_ {A = ℕ} 0 1 = cc in omega arith
-not-unknown (suc (suc (suc (suc (suc (suc (suc n))))))) z h e = omega arith
+not-unknown (suc (suc (suc (suc (suc (suc (suc zero))))))) z h e = let k : _≡_ {A = ℕ} 0 1 = cc in omega arith
+not-unknown (suc (suc (suc (suc (suc (suc (suc (suc n)))))))) z h e = omega arith

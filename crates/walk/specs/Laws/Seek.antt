@@ -14,17 +14,17 @@ use Rattle.nodes.specs.Entries.{entriesOf}
 use Rattle.nodes.specs.Stored.{node-at}
 use Rattle.memory.specs.Word.{view}
 use Rattle.nodes.specs.Laws.Kept.{length-entriesOf}
+use Rattle.operations.specs.Object.{Ans}
 use Rattle.operations.specs.Slot.{TreeSizes}
 use Rattle.operations.specs.Entry.{Entries}
 use Rattle.operations.specs.Path.{kid, Branch}
-use Rattle.operations.specs.Look.{Search, Onward, told, rightward, leftward, seek, seek-up}
+use Rattle.operations.specs.Look.{Search, Onward, told, nearest, rightward, leftward, seek, seek-up}
 use Rattle.walk.specs.declared.down.Turn.{Turn}
 use Rattle.walk.specs.declared.walk.Stop.{Stop}
 use Rattle.walk.specs.declared.down.Pass.{Pass}
 use Rattle.walk.specs.declared.seek.Ahead.{Ahead}
 use Rattle.walk.specs.declared.seek.Where.the-variants.{Finished, Next}
-use Rattle.walk.specs.declared.found.Sought.{Sought}
-use Rattle.walk.specs.declared.found.Sought.the-variants.{Higher, Lower}
+use Rattle.walk.specs.declared.found.Sought.the-variants.{Higher, Lower, AtLeast}
 use Rattle.walk.specs.declared.found.Wish.{Wish}
 use Rattle.walk.specs.Laws.Entries.{below-true, open-leaf, open-inner, extra-inner, entry-slot}
 use Rattle.walk.specs.Entries.{Inner}
@@ -34,8 +34,9 @@ use Rattle.walk.specs.Walk.{goes, walked, carry}
 use Rattle.walk.specs.Ask.{Noted, nothing}
 use Rattle.walk.specs.Laws.Ask.{none-held}
 use Rattle.walk.specs.Lookup.{Ends}
-use Rattle.walk.specs.Laws.Lookup.{ended-nothing}
-use Rattle.walk.specs.Found.{first-pairs, pair-in, pairs-in, Roomy, to-right, answer-by, search-of, visit, side, LeafAt}
+use Rattle.walk.specs.Laws.Lookup.{told-ended}
+use Rattle.walk.specs.Laws.Mute.{kid-silent}
+use Rattle.walk.specs.Found.{first-pairs, pair-in, pairs-in, Roomy, to-right, answer-by, search-of, pairs-told, visit, side, LeafAt}
 use Rattle.walk.specs.Laws.Found.{length-first, length-pairs, leaf-from, full-take, short-take}
 use Rattle.walk.specs.Down.{Kid, nowhere, turn-in, turns-in, Path-in-part, trail, Followed, All, blank}
 use Rattle.walk.specs.Laws.Down.{stops-not, map-set, map-get, set-in-part, trail-more}
@@ -466,10 +467,10 @@ module _ (z : TreeSizes) (m : ClientWord → ℕ) (u : List ℕ) (w : Wish) (top
   asked j f = rw (seek-reads (search-of w) (to-right (w .sought)) level j name (above (search-of w) (to-right (w .sought)) top path level f) got, h .asks [] (none-held z))
 
   pub read-stops : (a : Heading) (got′ : Entries) → not b ≡ true → ReadOn z m u w top path level name got s a u′ got′
-  read-stops a got′ nb = record { node = n; asks = asked; noted = h .noted; long = h .long; leads = λ t. stops-not s (sym pb ∙ not-true b nb) t }
+  read-stops a got′ nb = record { node = n; asks = asked; noted = h .noted; long = h .long; leads = λ t. stops-not s (sym pb ∙ not-true b nb) t; silent = kid-silent z m u level name s n u′ h }
 
   pub read-leads : (a : Heading) (got′ : Entries) → not b ≡ false → Advanced w top path level n got a got′ → ReadOn z m u w top path level name got s a u′ got′
-  read-leads a got′ nb v = record { node = n; asks = asked; noted = h .noted; long = h .long; leads = λ t. v }
+  read-leads a got′ nb v = record { node = n; asks = asked; noted = h .noted; long = h .long; leads = λ t. v; silent = kid-silent z m u level name s n u′ h }
 
 pub read-standing : (z : TreeSizes) (m : ClientWord → ℕ) (u : List ℕ) (level name : ℕ) (s : Stop) (n : Node) (u′ : List ℕ) (b : Bool) (top : ℕ) → Kid z m nothing u level name s n u′ → b ≡ goes s → not b ≡ false → level < top
     → Standing n level top
@@ -481,43 +482,52 @@ read-standing z m u level name s n u′ b top h pb nb lt =
 pub ruleset read-exits = (read-stops, read-leads, read-standing)
 
 -- ---- the answer by the pairs found
-none-said : (s : Sought) → answer-by s [] ≡ (0, 0)
-none-said Higher = refl
-none-said Lower = refl
+-- the nearest is the first
+nearest-app : (l m : Entries) → 0 < length l → nearest (l ++ m) ≡ nearest l
+nearest-app [] m h = absurd (omega arith)
+nearest-app (e ∷ l) m h = refl
 
--- later ones don't count
-first-said : (s : Sought) (l m : Entries) → 0 < length l → answer-by s (l ++ m) ≡ answer-by s l
-first-said s [] m h = absurd (omega arith)
-first-said Higher (e ∷ l) m h = refl
-first-said Lower (e ∷ l) m h = refl
-
-one-said : (s : Sought) (e : ℕ × ℕ) → answer-by s (e ∷ []) ≡ (1, e .0)
-one-said Higher e = refl
-one-said Lower e = refl
-
-some-said : (s : Sought) (f : List ℕ) (n : ℕ) → answer-by s (first-pairs f (suc n)) ≡ (1, getD f 1 0)
+nearest-some : (f : List ℕ) (n : ℕ) → nearest (first-pairs f (suc n)) ≡ (1, getD f 1 0, [])
 unfolding first-pairs pair-in
-some-said s f zero = one-said s (pair-in f 0)
-some-said s f (suc n) = let h : 0 < length (first-pairs f (suc n)) = rw (length-first f (suc n)) (omega arith) in
-    first-said s (first-pairs f (suc n)) (pair-in f (suc n) ∷ []) h ∙ some-said s f n
+nearest-some f zero = refl
+nearest-some f (suc n) = let h : 0 < length (first-pairs f (suc n)) = rw (length-first f (suc n)) (omega arith) in
+    nearest-app (first-pairs f (suc n)) (pair-in f (suc n) ∷ []) h ∙ nearest-some f n
+
+module _ (m : ClientWord → ℕ) (u : List ℕ) (f : List ℕ) (s : Stop) (u′ : List ℕ) where
+  pub nearest-none-told : getD f 0 0 ≡ 0 → Ends m u 0 0 s u′ → Ends m u (nearest (pairs-in f) .0) (nearest (pairs-in f) .1) s u′
+  unfolding pairs-in first-pairs
+  nearest-none-told e q = rw e q
+
+  pub nearest-told : (x : ℕ) → (getD f 0 0 ≡ 0 → ⊥) → x ≡ getD f 1 0 → Ends m u 1 x s u′ → Ends m u (nearest (pairs-in f) .0) (nearest (pairs-in f) .1) s u′
+  unfolding pairs-in
+  nearest-told x d e q =
+      let n : getD f 0 0 ≡ suc (getD f 0 0 - 1) = omega arith in
+      rw (n, nearest-some f (getD f 0 0 - 1), ← e) q
+
+pub ruleset nearest-exits = (nearest-none-told, nearest-told)
 
 module _ (m : ClientWord → ℕ) (u : List ℕ) (w : Wish) (f : List ℕ) (s : Stop) (u′ : List ℕ) (r : Roomy (w .wanted) f) where
-  told-is : (a b : ℕ) → answer-by (w .sought) (pairs-in f) ≡ (a, b) → Ends m u a b s u′ → Tells m u w (pairs-in f) s u′
-  told-is a b e q =
-      let t : take (w .wanted) (pairs-in f) ≡ pairs-in f = take-all (w .wanted) (pairs-in f) (rw (length-pairs f) (r .within)) in
-      record { same = λ z. rw (t, e) (q .same z [] ∙ ended-nothing s (used-in u′)); noted = q .noted }
+  all-taken : take (w .wanted) (pairs-in f) ≡ pairs-in f
+  all-taken = take-all (w .wanted) (pairs-in f) (rw (length-pairs f) (r .within))
 
-  pub tell-none : getD f 0 0 ≡ 0 → Ends m u 0 0 s u′ → Tells m u w (pairs-in f) s u′
-  unfolding pairs-in first-pairs
-  tell-none e q = told-is 0 0 (rw e (none-said (w .sought))) q
+  tells : (a : Ans) → answer-by (w .sought) (pairs-in f) ≡ a → Ends m u (a .0) (a .1) s u′ → Tells m u w (pairs-in f) s u′
+  tells a e t =
+      let p : pairs-told w (pairs-in f) ≡ a .2 = ap (λ (x : Ans). x .2) e in
+      record { same = λ z. rw (all-taken, p, e) (t .same z [] (a .2)); noted = t .noted }
 
-  pub tell-first : (x : ℕ) → (getD f 0 0 ≡ 0 → ⊥) → x ≡ getD f 1 0 → Ends m u 1 x s u′ → Tells m u w (pairs-in f) s u′
-  unfolding pairs-in
-  tell-first x d e q =
-      let n : getD f 0 0 ≡ suc (getD f 0 0 - 1) = omega arith in
-      told-is 1 x (rw (n, e) (some-said (w .sought) f (getD f 0 0 - 1))) q
+  pub tell-higher : w .sought ≡ Higher → Ends m u (nearest (pairs-in f) .0) (nearest (pairs-in f) .1) s u′ → Tells m u w (pairs-in f) s u′
+  tell-higher e t = tells (nearest (pairs-in f)) (rw e) t
 
-pub ruleset tell-exits = (tell-none, tell-first)
+  pub tell-lower : w .sought ≡ Lower → Ends m u (nearest (pairs-in f) .0) (nearest (pairs-in f) .1) s u′ → Tells m u w (pairs-in f) s u′
+  tell-lower e t = tells (nearest (pairs-in f)) (rw e) t
+
+  pub tell-listed : (n : ℕ) → w .sought ≡ AtLeast → n ≡ getD f 0 0 → Ends m u n 0 s u′ → Tells m u w (pairs-in f) s u′
+  tell-listed n e c t = tells (n, 0, pairs-in f) (rw (e, length-pairs f, c)) t
+
+  pub roomy-there : 1 < length f
+  roomy-there = omega (arith, r .long, r .some)
+
+pub ruleset tell-exits = (tell-higher, tell-lower, tell-listed, roomy-there)
 
 -- how far the search has come
 pub record Seeking (z : TreeSizes) (m : ClientWord → ℕ) (u₀ : List ℕ) (w : Wish) (top : ℕ) (path₀ : List Turn) (level₀ name₀ : ℕ) (got₀ : Entries) (path : List Turn) (level name : ℕ) (u : List ℕ) (got : Entries) : Type 0 where
@@ -537,9 +547,9 @@ seek-start z m u w top path level name got k n =
     record { lo = λ j f. j; lows = λ j f. f; same = λ j f. refl; stacked = k .0; below = k .1; noted = n; long = refl }
 
 module _ (z : TreeSizes) (m : ClientWord → ℕ) (u₀ : List ℕ) (w : Wish) (top : ℕ) (path₀ : List Turn) (level₀ name₀ : ℕ) (got₀ : Entries) (path : List Turn) (level name : ℕ) (u : List ℕ) (got : Entries) (d : Seeking z m u₀ w top path₀ level₀ name₀ got₀ path level name u got) (t : Stop) (c : List ℕ) (a : Ahead) (u₁ : List ℕ) (got₁ : Entries) (h : ReadOn z m u w top path level name got t (heading c a) u₁ got₁) (b : Bool) (pb : b ≡ goes t) where
-  pub seek-stops : not b ≡ true → Seeks z m u₀ w top path₀ level₀ name₀ got₀ t u₁
-  seek-stops nb = let no : goes t ≡ false = sym pb ∙ not-true b nb in
-      record { same = λ j f. rw (d .same j f, h .asks (d .lo j f) (d .lows j f), no); noted = h .noted }
+  pub seek-stops : (ps : Entries) → not b ≡ true → Seeks z m u₀ w top path₀ level₀ name₀ got₀ t u₁ ps
+  seek-stops ps nb = let no : goes t ≡ false = sym pb ∙ not-true b nb in
+      record { same = λ j f. rw (d .same j f, h .asks (d .lo j f) (d .lows j f), no) (told-ended t (used-in u₁) [] ps no (h .silent no)); noted = h .noted }
 
   pub seek-long : length u₁ ≡ length u₀
   seek-long = h .long ∙ d .long
@@ -551,7 +561,7 @@ module _ (z : TreeSizes) (m : ClientWord → ℕ) (u₀ : List ℕ) (w : Wish) (
     pub seek-noted : Noted m u₁
     seek-noted = h .noted
 
-    pub seek-ends : (s : Stop) (u₂ : List ℕ) → a .state ≡ Finished → Tells m u₁ w got₁ s u₂ → Seeks z m u₀ w top path₀ level₀ name₀ got₀ s u₂
+    pub seek-ends : (s : Stop) (u₂ : List ℕ) → a .state ≡ Finished → Tells m u₁ w got₁ s u₂ → Seeks z m u₀ w top path₀ level₀ name₀ got₀ s u₂ (pairs-told w got₁)
     seek-ends s u₂ e q = record {
       same = λ j f. rw (d .same j f, h .asks (d .lo j f) (d .lows j f), on, h .leads on .ends e (d .lo j f) (d .lows j f)) (q .same z);
       noted = q .noted;

@@ -8,6 +8,7 @@ use lib.ListN.{length, take, drop, length-take, take-append-drop}
 use borrow.Author.Tests.{le-leb}
 use Rattle.operations.specs.Object.{meta, node, flag, Ask, object, vector, fetched, Ans, Writes}
 use Rattle.operations.specs.Slot.{TreeSizes}
+use Rattle.operations.specs.Entry.{Entries}
 use Rattle.operations.specs.Operation.{reading}
 use Rattle.walk.specs.declared.walk.Stop.{Stop}
 use Rattle.walk.specs.declared.walk.Stop.the-variants.{Refused, Aborts, Answers}
@@ -67,13 +68,14 @@ module _ (z : TreeSizes) (m : ClientWord → ℕ) where
   told-used (aborts y) us = refl
   told-used (gives a w) us = refl
 
-  pub record Given (e : End) (s : Stop) (w : Writes) : Type 0 where
+  pub record Given (e : End) (s : Stop) (w : Writes) (ps : Entries) : Type 0 where
     pub answer : Ans
     pub is : e ≡ gives answer w
     pub stop : s ≡ Answers (answer .0) (answer .1)
+    pub pairs : answer .2 ≡ ps
 
-  module _ (s : Stop) (us us′ : List ℕ) (w : Writes) where
-    pub stops : (e : End) → tell z m e us ≡ ended s us′ w → is-answer s ≡ false → s ≡ stop-of (C.judge z m e)
+  module _ (s : Stop) (us us′ : List ℕ) (w : Writes) (ps : Entries) where
+    pub stops : (e : End) → tell z m e us ≡ ended s us′ w ps → is-answer s ≡ false → s ≡ stop-of (C.judge z m e)
     stops (lacks a) t n = go (broken z m a) refl
       where
         go : (b : Bool) → broken z m a ≡ b → s ≡ stop-of (C.judge z m (lacks a))
@@ -83,14 +85,14 @@ module _ (z : TreeSizes) (m : ClientWord → ℕ) where
     stops (gives a v) t n =
         never s (Answers (a .0) (a .1)) (sym (ap (λ (k : Told). k .stop) t)) n refl
 
-    pub given : (e : End) → tell z m e us ≡ ended s us′ w → is-answer s ≡ true → Given e s w
+    pub given : (e : End) → tell z m e us ≡ ended s us′ w ps → is-answer s ≡ true → Given e s w ps
     given (lacks a) t n = go (broken z m a) refl
       where
-        go : (b : Bool) → broken z m a ≡ b → Given (lacks a) s w
+        go : (b : Bool) → broken z m a ≡ b → Given (lacks a) s w ps
         go true p = never Refused s (rw p at (ap (λ (k : Told). k .stop) t)) refl n
         go false p = never (lack a) s (rw p at (ap (λ (k : Told). k .stop) t)) (lack-waits a) n
     given (aborts y) t n = never (Aborts y) s (ap (λ (k : Told). k .stop) t) refl n
     given (gives a v) t n =
         let p : Answers (a .0) (a .1) ≡ s = ap (λ (k : Told). k .stop) t in
         let q : v ≡ w = ap (λ (k : Told). k .writes) t ∙ rw (← p) in
-        record { answer = a; is = rw q; stop = sym p }
+        record { answer = a; is = rw q; stop = sym p; pairs = ap (λ (k : Told). k .pairs) t ∙ rw (← p) }

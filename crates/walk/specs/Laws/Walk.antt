@@ -26,7 +26,7 @@ module _ (z : TreeSizes) (m : ClientWord → ℕ) (us : List ℕ) where
       go false e = rw (e, walked, worked)
 
   pub walked-done : (r : Ans × Writes) → over m us ≡ false
-      → walked z m (P.done r) us ≡ record { stop = Answers (r .0 .0) (r .0 .1); used = us; writes = r .1 }
+      → walked z m (P.done r) us ≡ record { stop = Answers (r .0 .0) (r .0 .1); used = us; writes = r .1; pairs = r .0 .2 }
   unfolding walked worked run
   walked-done r h = rw h
 

@@ -1,3 +1,4 @@
+use mathlib.Core.List.{[]}
 use Prim.Native.Nat.{_-_}
 use borrow.Author.Needs.{needs}
 use Rattle.client.specs.Record.{sizes}
@@ -8,7 +9,7 @@ use Rattle.change.proofs.up.rise.Tie as tie
 
 abbrev Inv-loop : tie.InvT-loop
 Inv-loop part servers slots own₀ used₀ top leaf a b path name₀ n₀ level₀ own used name n level =
-    Rising (sizes servers slots) (held part) own₀ used₀ (a, b) top path leaf n₀ name n level own used
+    Rising (sizes servers slots) (held part) own₀ used₀ (a, b, []) top path leaf n₀ name n level own used
 
 abbrev μ-loop : tie.MeasureT-loop
 μ-loop part servers slots own₀ used₀ top leaf a b path name₀ n₀ level₀ own used name n level = top - level

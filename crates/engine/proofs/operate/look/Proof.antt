@@ -16,5 +16,5 @@ look-spec = tie.close (tie.spec
     (λ c κs. search needs)  -- store-seen-requires
     (λ c κs. search needs)  -- answered-requires
     (λ c. search needs)  -- same-length-2
-    (λ c. let s = c .before .before .before .before .before .before .before .before .before .before .before .before .before in look-answers (s .args .sizes) _ (s .args .client) (search needs) (search needs) (search needs) (search needs) (search needs) _ _ _ (c .before .before .before .before .before .before .before .before .before .look-at .ensures) _ _ (some-answer (c .before .before .before .before .before .before .before .before .before .look-at .result) _ (c .before .before .before .before .before .before .before .is-answer .ensures) (c .before .before .before .before .before .before .if1 .left)) (c .answered .ensures) (c .before .before .before .store-seen .ensures))  -- returns-2
+    (λ c. let s = c .before .before .before .before .before .before .before .before .before .before .before .before .before in look-answers (s .args .sizes) _ (s .args .client) (search needs) (search needs) (search needs) (search needs) (search needs) _ _ _ _ (c .before .before .before .before .before .before .before .before .before .look-at .ensures) _ _ (some-answer (c .before .before .before .before .before .before .before .before .before .look-at .result) _ (c .before .before .before .before .before .before .before .is-answer .ensures) (c .before .before .before .before .before .before .if1 .left)) (c .answered .ensures) (c .before .before .before .store-seen .ensures))  -- returns-2
     )

@@ -1,4 +1,6 @@
-use Rattle.engine.specs.Laws.Step.{kinds, known-client, at-work, at-prepare, at-apply}
+use mathlib.Core.Path.{refl}
+use Rattle.steps.specs.declared.step.Kind.the-variants.{Begin, Give, Commit, Prepare, Apply, GiveUp, Lost, Unknown}
+use Rattle.engine.specs.Laws.Step.{kinds, kind-leaves, work-leaves, list-roomy, known-client, at-work, at-prepare, at-apply}
 use borrow.Author.Needs.{needs}
 use Rattle.engine.proofs.step.by_kind.Statement.{statement}
 use Rattle.engine.proofs.step.by_kind.Tie as tie
@@ -10,7 +12,7 @@ by-kind-spec = tie.close (tie.spec
     (λ c. search needs)  -- enum-told-2
     (λ c κs. search (known-client, needs))  -- give-requires
     (λ c. search needs)  -- enum-told-3
-    (λ c κs. (record { store = search needs; client = search (known-client, needs) }, search (at-work, needs)))  -- work-requires
+    (λ c κs. (record { store = search needs; client = search (known-client, needs) }, (search (at-work, needs), search (list-roomy, needs))))  -- work-requires
     (λ c. search needs)  -- enum-told-4
     (λ c κs. search (known-client, needs))  -- commit-requires
     (λ c. search needs)  -- enum-told-5
@@ -23,20 +25,21 @@ by-kind-spec = tie.close (tie.spec
     (λ c κs. search (known-client, needs))  -- lose-requires
     (λ c. search needs)  -- enum-told-9
     (λ c. search needs)  -- same-length
-    (λ c. search (kinds, needs))  -- returns
+    (λ c. (search (kinds, needs), kind-leaves _ _ _ _ _ _ Begin refl (search needs)))  -- returns
     (λ c. search needs)  -- same-length-2
-    (λ c. search (kinds, needs))  -- returns-2
+    (λ c. (search (kinds, needs), kind-leaves _ _ _ _ _ _ Give refl (search needs)))  -- returns-2
     (λ c. search needs)  -- same-length-3
-    (λ c. search (kinds, needs))  -- returns-3
     (λ c. search needs)  -- same-length-4
-    (λ c. search (kinds, needs))  -- returns-4
+    (λ c. (search (kinds, needs), search (work-leaves, needs)))  -- returns-3
     (λ c. search needs)  -- same-length-5
-    (λ c. search (kinds, needs))  -- returns-5
+    (λ c. (search (kinds, needs), kind-leaves _ _ _ _ _ _ Commit refl (search needs)))  -- returns-4
     (λ c. search needs)  -- same-length-6
-    (λ c. search (kinds, needs))  -- returns-6
+    (λ c. (search (kinds, needs), kind-leaves _ _ _ _ _ _ Prepare refl (search needs)))  -- returns-5
     (λ c. search needs)  -- same-length-7
-    (λ c. search (kinds, needs))  -- returns-7
+    (λ c. (search (kinds, needs), kind-leaves _ _ _ _ _ _ Apply refl (search needs)))  -- returns-6
     (λ c. search needs)  -- same-length-8
-    (λ c. search (kinds, needs))  -- returns-8
-    (λ c. search (kinds, needs))  -- returns-9
+    (λ c. (search (kinds, needs), kind-leaves _ _ _ _ _ _ GiveUp refl (search needs)))  -- returns-7
+    (λ c. search needs)  -- same-length-9
+    (λ c. (search (kinds, needs), kind-leaves _ _ _ _ _ _ Lost refl (search needs)))  -- returns-8
+    (λ c. (search (kinds, needs), kind-leaves _ _ _ _ _ _ Unknown refl (search needs)))  -- returns-9
     )

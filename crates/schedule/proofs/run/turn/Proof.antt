@@ -10,5 +10,6 @@ turn-spec = tie.close (tie.spec
     (λ c κs. search needs)  -- note-requires
     (λ c. search needs)  -- same-length
     (λ c. search needs)  -- same-length-2
+    (λ c. search needs)  -- same-length-3
     (λ c. search (turn-exits, needs))  -- returns
     )

@@ -8,6 +8,9 @@ many-from-spec = tie.close (tie.spec
     (λ c. search needs)  -- enum-told
     (λ c. search (sought-exits, needs))  -- sub-result
     (λ c. search needs)  -- enum-told-2
+    (λ c. search needs)  -- enum-told-3
+    (λ c. search (sought-exits, needs))  -- sub-result-2
     (λ c. search (sought-exits, needs))  -- returns
     (λ c. search (sought-exits, needs))  -- returns-2
+    (λ c. search (sought-exits, needs))  -- returns-3
     )

@@ -9,6 +9,9 @@ start-at-spec = tie.close (tie.spec
     (λ c κs. search needs)  -- place-at-requires
     (λ c. search needs)  -- enum-told-2
     (λ c κs. search needs)  -- under-at-requires
+    (λ c. search needs)  -- enum-told-3
+    (λ c κs. search needs)  -- under-at-requires-2
     (λ c. search (sought-exits, needs))  -- returns
     (λ c. search (sought-exits, needs))  -- returns-2
+    (λ c. search (sought-exits, needs))  -- returns-3
     )

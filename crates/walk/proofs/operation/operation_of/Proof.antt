@@ -14,5 +14,6 @@ operation-of-spec = tie.close (tie.spec
     (λ c. search (of-number, needs))  -- returns-5
     (λ c. search (of-number, needs))  -- returns-6
     (λ c. search (of-number, needs))  -- returns-7
-    (λ c. search (of-none, needs))  -- returns-8
+    (λ c. search (of-number, needs))  -- returns-8
+    (λ c. search (of-none, needs))  -- returns-9
     )

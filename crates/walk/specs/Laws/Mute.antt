@@ -1,5 +1,5 @@
 -- Plans that never come to an answer: what stops the walk of one is no answer. Every question is one, up to what follows it.
-use mathlib.Core.Path.{_≡_, refl}
+use mathlib.Core.Path.{_≡_, refl, sym, ap, _∙_}
 use mathlib.Core.Bool.{Bool, true, false, cond}
 use mathlib.Core.List.{List, [], _∷_, _++_}
 use mathlib.Core.Option.{Option, none, some}
@@ -10,16 +10,22 @@ use lib.ListN.{length}
 use Rattle.base.specs.Test.{ifd}
 use Rattle.nodes.specs.Name.{server-of, slot-of}
 use Rattle.nodes.specs.Placement.{row}
-use Rattle.operations.specs.Object.{Obj, meta, node, flag, Ask, object, vector, fetched, Val, root, body, taken, flags, Writes, hit}
+use Rattle.operations.specs.Object.{Obj, meta, node, flag, Ask, object, vector, fetched, Val, root, body, taken, flags, no-tree, Writes, hit}
 use Rattle.operations.specs.Slot.{TreeSizes, present, chosen, free-slot, search, when-free-flag, take-flag, take-on, take-for, when-free-node, take-node, release}
-use Rattle.operations.specs.Entry.{Entries, fewest-entries}
-use Rattle.operations.specs.Path.{TreePlan, see, open-node, kid}
+use Rattle.operations.specs.Entry.{Entries, fewest-entries, cut}
+use Rattle.operations.specs.Path.{TreePlan, see, when-root, open-node, kid, Branch, Cont, down, at-root, to-leaf, from-root}
 use Rattle.client.specs.Layout.{ClientWord}
 use Rattle.client.specs.Record.{number}
 use Rattle.client.specs.Have.{have, broken}
 use Rattle.client.specs.Run.{End, lacks, aborts, gives, among, judged, run}
-use Rattle.walk.specs.Walk.{lack, over-run, fresh, room, over, worked, tell, walked}
-use Rattle.change.specs.Mute.{stands}
+use Rattle.walk.specs.Walk.{Told, told, goes, lack, over-run, fresh, room, over, worked, tell, walked}
+use Rattle.walk.specs.Walk.{stands}
+use Rattle.nodes.specs.declared.node.Node.{Node}
+use Rattle.walk.specs.declared.walk.Stop.{Stop}
+use Rattle.client.specs.Lent.{used-in}
+use Rattle.walk.specs.Ask.{nothing}
+use Rattle.walk.specs.Laws.Ask.{none-held}
+use Rattle.walk.specs.Down.{Kid, Arrival, Descends}
 use Rattle.plans.specs.Plan as P
 
 unfoldable pub Mute : TreePlan → Type 0
@@ -165,3 +171,36 @@ pub kid-mute : (w : Writes) (l lo n : ℕ) (k : Entries → TreePlan) → ((es :
 unfolding Mute
 kid-mute w l lo n k h =
     see-mute w (node n) _ (λ v. open-mute lo v _ (λ j es. ifd-mute (ℕ-discrete j l) _ _ (ifd-mute (decLe (fewest-entries l) (length es)) _ _ (h es) tt) tt))
+
+-- ---- the way down
+down-mute : (stop : ℕ → Bool) (key : ℕ) (k : Cont) → ((l : ℕ) (fs : List Branch) (n : ℕ) (es : Entries) → Mute (k l fs n es)) → (l : ℕ) (fs : List Branch) (n : ℕ) (es : Entries) → Mute (down stop key k l fs n es)
+unfolding Mute
+down-mute stop key k h zero fs n es = h zero fs n es
+down-mute stop key k h (suc l) fs n [] = tt
+down-mute stop key k h (suc l) fs n (e ∷ es) =
+    let c = cut key e es in
+    let next : Entries → TreePlan = λ es′. down stop key k l (record { nm = n; key = c .1 .0; pre = c .0; post = c .2 } ∷ fs) (c .1 .1) es′ in
+    cond-mute (stop (suc l)) (k (suc l) fs n (e ∷ es)) (kid [] l (c .1 .0) (c .1 .1) next) (h (suc l) fs n (e ∷ es))
+    (kid-mute [] l (c .1 .0) (c .1 .1) next (λ es′. down-mute stop key k h l (record { nm = n; key = c .1 .0; pre = c .0; post = c .2 } ∷ fs) (c .1 .1) es′))
+
+root-mute : (key : ℕ) → Mute (from-root key (λ fs n es. P.fail no-tree))
+unfolding Mute
+root-mute key = λ v. go v
+  where
+    go : (v : Val) → Mute (when-root v (λ r. at-root r (λ l es. down to-leaf key (λ _ fs n es. P.fail no-tree) l [] r es)))
+    go (root r) = λ u. open-mute 0 u (λ l es. down to-leaf key (λ _ fs n es. P.fail no-tree) l [] r es) (λ l es. down-mute to-leaf key (λ _ fs n es. P.fail no-tree) (λ l fs n es. tt) l [] r es)
+    go (body j l ks vs) = tt
+    go (taken b) = tt
+    go (flags fs) = tt
+
+-- what stops the walk at a child, or on the way down
+pub kid-silent : (z : TreeSizes) (m : ClientWord → ℕ) (u : List ℕ) (l n : ℕ) (s : Stop) (r : Node) (u′ : List ℕ) → Kid z m nothing u l n s r u′ → goes s ≡ false → stands s ≡ false
+unfolding Mute
+kid-silent z m u l n s r u′ h halts =
+    let e : walked z m (kid [] l 0 n (λ es. P.fail no-tree)) (used-in u) ≡ told s (used-in u′) = h .asks [] (none-held z) 0 (λ es. P.fail no-tree) ∙ rw halts in
+    sym (ap (λ (t : Told). stands (t .stop)) e) ∙ walked-mute z m (kid [] l 0 n (λ es. P.fail no-tree)) (kid-mute [] l 0 n (λ es. P.fail no-tree) (λ es. tt)) (used-in u)
+
+pub way-silent : (z : TreeSizes) (m : ClientWord → ℕ) (u : List ℕ) (key : ℕ) (d : Arrival) (u′ : List ℕ) → Descends z m u key d u′ → goes (d .stop) ≡ false → stands (d .stop) ≡ false
+way-silent z m u key d u′ h halts =
+    let e : walked z m (from-root key (λ fs n es. P.fail no-tree)) (used-in u) ≡ told (d .stop) (used-in u′) = h .asks (λ fs n es. P.fail no-tree) ∙ rw halts in
+    sym (ap (λ (t : Told). stands (t .stop)) e) ∙ walked-mute z m (from-root key (λ fs n es. P.fail no-tree)) (root-mute key) (used-in u)
