@@ -1,7 +1,7 @@
 //! One transaction with a function of its own for each kind of step, so that callgrind can tell them apart.
 
-use crate::workload::{Operation, Workload};
-use gemandrolo::{Outcome, Sizes, Step, Store};
+use crate::workload::{Operation, Workload, LISTED};
+use gemandrolo::{Outcome, Sizes, Step, Store, PAIR_BYTES};
 
 type Memory = Store<Vec<u8>>;
 
@@ -19,8 +19,8 @@ fn give(store: &mut Memory, operation: gemandrolo::Operation) -> Outcome {
 }
 
 #[inline(never)]
-fn work(store: &mut Memory) -> Outcome {
-    store.step(Step::Work { client: 0 })
+fn work(store: &mut Memory, output: &mut [u8]) -> Outcome {
+    store.step_into(Step::Work { client: 0 }, output)
 }
 
 #[inline(never)]
@@ -54,10 +54,11 @@ pub fn run(workload: Workload, keys: u64, n: u64) {
 }
 
 fn transaction(store: &mut Memory, operations: &[Operation]) {
+    let mut output = [0; LISTED * PAIR_BYTES];
     begin(store);
     for operation in operations {
         give(store, named(*operation));
-        while let Outcome::Fetched(_) = work(store) {}
+        while let Outcome::Fetched(_) = work(store, &mut output) {}
     }
     commit(store);
     assert_eq!(prepare(store, 0), Outcome::Committed);
@@ -67,6 +68,10 @@ fn named(operation: Operation) -> gemandrolo::Operation {
     match operation {
         Operation::Lookup(key) => gemandrolo::Operation::Lookup { key },
         Operation::Next(key) => gemandrolo::Operation::Next { key },
+        Operation::List(key) => gemandrolo::Operation::List {
+            key,
+            count: LISTED as u64,
+        },
         Operation::Insert(key, value) => gemandrolo::Operation::Insert { key, value },
         Operation::Delete(key) => gemandrolo::Operation::Delete { key },
     }

@@ -1,6 +1,6 @@
 //! LMDB on a file system in memory, without sync; read-only transactions are renewed, as its users do.
 
-use crate::workload::{Operation, Rival};
+use crate::workload::{sum_of, Operation, Rival, LISTED};
 use std::ffi::{c_char, c_int, c_uint, c_void, CStr, CString};
 use std::path::PathBuf;
 use std::ptr::null_mut;
@@ -53,6 +53,7 @@ extern "C" {
 const NO_SYNC: c_uint = 0x10000;
 const READ_ONLY: c_uint = 0x20000;
 const INTEGER_KEY: c_uint = 0x08;
+const NEXT: c_uint = 8;
 const SET_RANGE: c_uint = 17;
 const NOT_FOUND: c_int = -30798;
 
@@ -68,6 +69,18 @@ fn number(n: &mut u64) -> Value {
         size: 8,
         data: n as *mut u64 as *mut c_void,
     }
+}
+
+fn nothing() -> Value {
+    Value {
+        size: 0,
+        data: null_mut(),
+    }
+}
+
+/// The number that a found value leads to.
+unsafe fn read(value: &Value) -> u64 {
+    (value.data as *const u64).read_unaligned()
 }
 
 fn fine(code: c_int) {
@@ -114,12 +127,15 @@ impl Lmdb {
 
     /// One operation in a transaction under way.
     unsafe fn perform(&self, txn: *mut c_void, operation: Operation) -> u64 {
-        let mut out = Value {
-            size: 0,
-            data: null_mut(),
-        };
+        let mut out = nothing();
         let code = match operation {
-            Operation::Next(key) => return self.next(txn, key + 1),
+            Operation::Next(key) => {
+                let found = Cursor::open(txn, self.dbi).pairs(key + 1).next();
+                return found.map_or(0, |(key, _)| key);
+            }
+            Operation::List(key) => {
+                return sum_of(Cursor::open(txn, self.dbi).pairs(key).take(LISTED));
+            }
             Operation::Lookup(mut key) => mdb_get(txn, self.dbi, &mut number(&mut key), &mut out),
             Operation::Insert(mut key, mut value) => mdb_put(
                 txn,
@@ -132,38 +148,49 @@ impl Lmdb {
         };
         fine(code);
         match operation {
-            Operation::Lookup(_) if code == 0 => (out.data as *const u64).read_unaligned(),
+            Operation::Lookup(_) if code == 0 => read(&out),
             _ => 0,
         }
     }
+}
 
-    unsafe fn next(&self, txn: *mut c_void, mut from: u64) -> u64 {
-        let (mut cursor, mut out) = (
-            null_mut(),
-            Value {
-                size: 0,
-                data: null_mut(),
-            },
-        );
-        let mut key = number(&mut from);
-        fine(mdb_cursor_open(txn, self.dbi, &mut cursor));
-        let code = mdb_cursor_get(cursor, &mut key, &mut out, SET_RANGE);
-        fine(code);
-        let found = if code == 0 {
-            (key.data as *const u64).read_unaligned()
-        } else {
-            0
-        };
-        mdb_cursor_close(cursor);
-        found
+/// A cursor of a transaction under way.
+struct Cursor(*mut c_void);
+
+impl Cursor {
+    unsafe fn open(txn: *mut c_void, dbi: c_uint) -> Cursor {
+        let mut cursor = null_mut();
+        fine(mdb_cursor_open(txn, dbi, &mut cursor));
+        Cursor(cursor)
+    }
+
+    /// The pairs from a key on.
+    fn pairs(&self, mut from: u64) -> impl Iterator<Item = (u64, u64)> + '_ {
+        let mut way = SET_RANGE;
+        std::iter::from_fn(move || self.pair(&mut from, std::mem::replace(&mut way, NEXT)))
+    }
+
+    fn pair(&self, from: &mut u64, way: c_uint) -> Option<(u64, u64)> {
+        let (mut key, mut value) = (number(from), nothing());
+        // SAFETY: the cursor is open, and what it finds is there until the transaction ends.
+        unsafe {
+            let code = mdb_cursor_get(self.0, &mut key, &mut value, way);
+            fine(code);
+            (code == 0).then(|| (read(&key), read(&value)))
+        }
+    }
+}
+
+impl Drop for Cursor {
+    fn drop(&mut self) {
+        // SAFETY: opened once, and closed before its transaction ends.
+        unsafe { mdb_cursor_close(self.0) };
     }
 }
 
 impl Rival for Lmdb {
     fn transaction(&mut self, operations: &[Operation]) -> u64 {
-        let reads = operations
-            .iter()
-            .all(|o| matches!(o, Operation::Lookup(_) | Operation::Next(_)));
+        let reads = operations.iter().all(|o| o.is_read());
         // SAFETY: the environment is open; a transaction is ended before the next begins.
         unsafe {
             let mut txn = self.reader;

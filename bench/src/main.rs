@@ -30,7 +30,7 @@ fn main() {
 }
 
 fn named(workload: &str) -> Workload {
-    Workload::of(workload).expect("lookup, next, insert, delete, ears or mixed")
+    Workload::of(workload).expect("lookup, next, list of 32, insert, delete, ears or mixed")
 }
 
 fn number(text: &str) -> u64 {

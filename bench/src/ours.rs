@@ -1,6 +1,6 @@
 //! The store itself, its steps counted.
 
-use crate::workload::{Operation, Rival};
+use crate::workload::{sum_of, Operation, Rival, LISTED};
 use gemandrolo::{Failure, Fetched, Outcome, Sizes, Step, Store, Transaction};
 use std::cell::Cell;
 use std::rc::Rc;
@@ -84,6 +84,7 @@ fn perform(t: &mut Transaction<Counted>, operations: &[Operation]) -> Result<u64
         let answer = match *operation {
             Operation::Lookup(key) => t.lookup(key)?.unwrap_or(0),
             Operation::Next(key) => t.next(key)?.unwrap_or(0),
+            Operation::List(key) => sum_of(t.list(key, LISTED)?.into_iter()),
             Operation::Insert(key, value) => t.insert(key, value).map(|_| 0)?,
             Operation::Delete(key) => t.delete(key).map(|_| 0)?,
         };

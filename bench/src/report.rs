@@ -56,7 +56,7 @@ fn head(load: &str) -> String {
          | Processor | {}, {} threads |\n| Memory | {} |\n| System | {} |\n| Load when started | {} |\n\
          | Rust | {} |\n| Rattle kit | {} |\n| SQLite | {}, in memory, prepared statements |\n| LMDB | {}, on tmpfs, without sync |\n\n\
          A transaction is run to its end by the Rust crate's `transaction`: begin, give, work, commit, prepare and apply at each participant. Its steps are counted, refused ones too. Each rate is the best of five runs.\n\
-         lookup: one key. next: the key after one. insert: a new value for one key. delete: by turns a delete and an insert of one key. ears: two inserts. mixed: a lookup, a next key and an insert.\n\
+         lookup: one key. next: the key after one. list of 32: the 32 pairs from a key on. insert: a new value for one key. delete: by turns a delete and an insert of one key. ears: two inserts. mixed: a lookup, a next key and an insert.\n\
          Sixteen clients take turns, a transaction each. The last three columns are ratios of rates: above 1 this store is the faster one.\n\
          BTreeMap has no transactions, no copies and no second client: it is the limit for one thread.\n\n\
          SUMMARY\n",

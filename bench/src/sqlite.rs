@@ -1,6 +1,6 @@
 //! SQLite in memory, with prepared statements and without a journal on disk.
 
-use crate::workload::{Operation, Rival};
+use crate::workload::{sum_of, Operation, Rival, LISTED};
 use std::ffi::{c_char, c_int, c_void, CStr, CString};
 use std::ptr::{null, null_mut};
 
@@ -41,21 +41,45 @@ impl Statement {
 
     /// The first column of the first row, or 0.
     fn run(&self, numbers: &[u64]) -> u64 {
-        // SAFETY: the statement is not finalized before it is dropped, and its columns are read on a row only.
-        unsafe {
-            for (i, n) in numbers.iter().enumerate() {
-                sqlite3_bind_int64(self.0, i as c_int + 1, *n as i64);
-            }
-            let code = sqlite3_step(self.0);
-            assert!(code == ROW || code == DONE, "sqlite3_step: {code}");
-            let answer = if code == ROW {
-                sqlite3_column_int64(self.0, 0) as u64
-            } else {
-                0
-            };
-            sqlite3_reset(self.0);
-            answer
+        self.bind(numbers);
+        let answer = if self.row() { self.column(0) } else { 0 };
+        self.reset();
+        answer
+    }
+
+    /// The sum of the first two columns of all rows.
+    fn run_pairs(&self, numbers: &[u64]) -> u64 {
+        self.bind(numbers);
+        let pair = || self.row().then(|| (self.column(0), self.column(1)));
+        let answer = sum_of(std::iter::from_fn(pair));
+        self.reset();
+        answer
+    }
+
+    fn bind(&self, numbers: &[u64]) {
+        for (i, n) in numbers.iter().enumerate() {
+            // SAFETY: the statement is not finalized before it is dropped.
+            unsafe { sqlite3_bind_int64(self.0, i as c_int + 1, *n as i64) };
         }
+    }
+
+    /// Whether there is another row.
+    fn row(&self) -> bool {
+        // SAFETY: as above.
+        let code = unsafe { sqlite3_step(self.0) };
+        assert!(code == ROW || code == DONE, "sqlite3_step: {code}");
+        code == ROW
+    }
+
+    /// A column of the row that there is.
+    fn column(&self, i: c_int) -> u64 {
+        // SAFETY: as above, and the statement stands on a row.
+        unsafe { sqlite3_column_int64(self.0, i) as u64 }
+    }
+
+    fn reset(&self) {
+        // SAFETY: as above.
+        unsafe { sqlite3_reset(self.0) };
     }
 }
 
@@ -67,7 +91,7 @@ impl Drop for Statement {
 }
 
 pub struct Sqlite {
-    statements: [Statement; 6],
+    statements: [Statement; 7],
     db: *mut c_void,
 }
 
@@ -89,6 +113,7 @@ impl Sqlite {
             "COMMIT",
             "SELECT value FROM pairs WHERE key = ?",
             "SELECT key FROM pairs WHERE key > ? ORDER BY key LIMIT 1",
+            "SELECT key, value FROM pairs WHERE key >= ? ORDER BY key LIMIT ?",
             "INSERT OR REPLACE INTO pairs VALUES (?, ?)",
             "DELETE FROM pairs WHERE key = ?",
         ]
@@ -106,13 +131,14 @@ impl Sqlite {
 
 impl Rival for Sqlite {
     fn transaction(&mut self, operations: &[Operation]) -> u64 {
-        let [begin, commit, lookup, next, insert, delete] = &self.statements;
+        let [begin, commit, lookup, next, list, insert, delete] = &self.statements;
         begin.run(&[]);
         let mut sum = 0u64;
         for operation in operations {
             let answer = match *operation {
                 Operation::Lookup(key) => lookup.run(&[key]),
                 Operation::Next(key) => next.run(&[key]),
+                Operation::List(key) => list.run_pairs(&[key, LISTED as u64]),
                 Operation::Insert(key, value) => insert.run(&[key, value]),
                 Operation::Delete(key) => delete.run(&[key]),
             };

@@ -1,11 +1,16 @@
 //! What is measured: transactions of a few operations each, the same for every store.
 
+/// The pairs of a list.
+pub const LISTED: usize = 32;
+
 #[derive(Clone, Copy)]
 pub enum Operation {
     Lookup(u64),
     Insert(u64, u64),
     Delete(u64),
     Next(u64),
+    /// The first `LISTED` pairs from a key on.
+    List(u64),
 }
 
 #[derive(Clone, Copy, PartialEq)]
@@ -14,6 +19,8 @@ pub enum Workload {
     Lookup,
     /// The key after one that is there.
     Next,
+    /// The pairs from a key on, as many as a list can have.
+    List,
     /// One insert that gives a key a new value.
     Insert,
     /// By turns a delete, and an insert of the same key.
@@ -24,9 +31,10 @@ pub enum Workload {
     Mixed,
 }
 
-pub const WORKLOADS: [Workload; 6] = [
+pub const WORKLOADS: [Workload; 7] = [
     Workload::Lookup,
     Workload::Next,
+    Workload::List,
     Workload::Insert,
     Workload::Delete,
     Workload::Ears,
@@ -35,7 +43,8 @@ pub const WORKLOADS: [Workload; 6] = [
 
 /// A store that runs transactions. Each answer is a number, so that stores can be compared.
 pub trait Rival {
-    /// The sum of the answers, wrapped: for an insert and a delete 0, for the others the value or key found.
+    /// The sum of the answers, wrapped: for an insert and a delete 0, for a lookup and a next the value or key found, for a list all keys and
+    /// values.
     fn transaction(&mut self, operations: &[Operation]) -> u64;
     /// The steps since it was last asked; 0 in a store that has none.
     fn steps(&mut self) -> u64 {
@@ -43,11 +52,28 @@ pub trait Rival {
     }
 }
 
+impl Operation {
+    pub fn is_read(self) -> bool {
+        matches!(
+            self,
+            Operation::Lookup(_) | Operation::Next(_) | Operation::List(_)
+        )
+    }
+}
+
+/// The answer to a list: the sum of its keys and values, wrapped.
+pub fn sum_of(pairs: impl Iterator<Item = (u64, u64)>) -> u64 {
+    pairs.fold(0, |sum, (key, value)| {
+        sum.wrapping_add(key).wrapping_add(value)
+    })
+}
+
 impl Workload {
     pub fn name(self) -> &'static str {
         match self {
             Workload::Lookup => "lookup",
             Workload::Next => "next",
+            Workload::List => "list of 32",
             Workload::Insert => "insert",
             Workload::Delete => "delete",
             Workload::Ears => "ears",
@@ -66,6 +92,11 @@ impl Workload {
         match self {
             Workload::Lookup => out.push(Operation::Lookup(key)),
             Workload::Next => out.push(Operation::Next(key)),
+            Workload::List => {
+                // There are as many from there on.
+                let starts = (keys + 1).saturating_sub(LISTED as u64).max(1);
+                out.push(Operation::List(key % starts));
+            }
             Workload::Insert => out.push(Operation::Insert(key, value)),
             Workload::Delete => {
                 let key = scattered(i / 2) % keys;

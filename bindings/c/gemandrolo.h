@@ -21,6 +21,12 @@ enum {
     GEMANDROLO_MAX_CLIENTS = 16
 };
 
+/* A list of pairs: an output of GEMANDROLO_MAX_PAIRS * GEMANDROLO_PAIR_BYTES bytes is enough for every one. */
+enum {
+    GEMANDROLO_MAX_PAIRS = 32, /* that one list can ask for */
+    GEMANDROLO_PAIR_BYTES = 16 /* in the output: the key, then the value, each lowest byte first */
+};
+
 /* Kinds of a step. */
 enum gemandrolo_kind {
     GEMANDROLO_BEGIN = 0,   /* a transaction starts */
@@ -40,12 +46,14 @@ enum gemandrolo_op {
     GEMANDROLO_DELETE = 3,   /* a: 1 if the key was there */
     GEMANDROLO_NEXT = 4,     /* a: 1 if there is a key strictly above; b: the nearest */
     GEMANDROLO_PREVIOUS = 5, /* a: 1 if there is a key strictly below; b: the nearest */
-    GEMANDROLO_MIGRATE = 6   /* node `key` moves to `server`. a: 1 if it moved; b: its new name, or for an unmoved node 0 if free, 1 if there already */
+    GEMANDROLO_MIGRATE = 6,  /* node `key` moves to `server`. a: 1 if it moved; b: its new name, or for an unmoved node 0 if free, 1 if there already */
+    GEMANDROLO_LIST = 7      /* the first `value` pairs (1 to 32) from the key upward, the key's own too. a: how many were written to the output;
+                                they are fewer only where there are no more */
 };
 
 /* Outcomes of a step. Numbers a and b that are not named are 0. */
 enum gemandrolo_outcome {
-    GEMANDROLO_REFUSED = 0,   /* nothing was done and no byte changed. a: the refusal */
+    GEMANDROLO_REFUSED = 0,   /* nothing was done and no byte changed, in memory or output. a: the refusal */
     GEMANDROLO_DONE = 1,      /* a begin, a give, a commit with a participant, a loss that aborts nothing */
     GEMANDROLO_FETCHED = 2,   /* the operation still waits. a: what was fetched; b: the node's name or the vector's server */
     GEMANDROLO_ANSWERED = 3,  /* a, b: the operation's answer */
@@ -63,17 +71,19 @@ enum gemandrolo_fetched {
     GEMANDROLO_FETCHED_VECTOR = 2    /* a server's taken flags */
 };
 
-/* Refusals: the first that holds. Opening checks 1 to 3 only. */
+/* Refusals: the first that holds, in the order of this list. Opening checks 1 to 3 only. */
 enum gemandrolo_refusal {
     GEMANDROLO_NO_HEAD = 1,           /* the lent memory is shorter than 64 bytes */
     GEMANDROLO_BAD_SIZES = 2,         /* a size, given or in the head, is outside its range */
     GEMANDROLO_TOO_SHORT = 3,         /* the memory is shorter than the sizes call for */
     GEMANDROLO_UNKNOWN_KIND = 4,      /* the kind is above 7 */
     GEMANDROLO_UNKNOWN_CLIENT = 5,    /* the client is not in the store */
-    GEMANDROLO_UNKNOWN_OPERATION = 6, /* a given op is not 1 to 6 */
+    GEMANDROLO_UNKNOWN_OPERATION = 6, /* a given op is not 1 to 7 */
+    GEMANDROLO_BAD_COUNT = 11,        /* the count of a given list is not 1 to 32 */
     GEMANDROLO_UNKNOWN_SERVER = 7,    /* the server of a migrate, prepare or apply is not in the store */
     GEMANDROLO_UNKNOWN_NODE = 8,      /* a migrated node's name is not in the store */
     GEMANDROLO_UNFIT = 9,             /* the client's state doesn't fit */
+    GEMANDROLO_SHORT_OUTPUT = 12,     /* a list waits, and the output is shorter than 16 times its count: at each of its work steps */
     GEMANDROLO_DAMAGED = 10           /* something stored that the step reads is out of range or points to what isn't there */
 };
 
@@ -95,17 +105,23 @@ size_t gemandrolo_length(size_t servers, size_t slots, size_t clients);
 /* A new, empty store in the memory lent: 0, or the refusal (1 to 3). Bytes behind the store's length stay as they are. */
 uint64_t gemandrolo_open(uint8_t *mem, size_t bytes, size_t servers, size_t slots, size_t clients);
 
-/* One step: its outcome; a and b are written in every case. Fields that a kind doesn't use are not looked at. */
-uint64_t gemandrolo_step(uint8_t *mem, size_t bytes, uint64_t kind, uint64_t client, uint64_t op, uint64_t key, uint64_t value, uint64_t server,
-                         uint64_t *a, uint64_t *b);
+/* One step: its outcome; a and b are written in every case. Fields that a kind doesn't use are not looked at.
+ *
+ * `out` is the output, of `out_bytes` bytes, for the pairs of a list. The work step that answers a list writes a * 16 bytes from its start on; no
+ * other byte changes, and none at any other step. Only work steps of a list need one: for all others 0 bytes are enough. It may be any pointer
+ * then that is not null, `mem` too: it is not followed. */
+uint64_t gemandrolo_step(uint8_t *mem, size_t bytes, uint8_t *out, size_t out_bytes, uint64_t kind, uint64_t client, uint64_t op, uint64_t key,
+                         uint64_t value, uint64_t server, uint64_t *a, uint64_t *b);
 
-/* A step as one record, for lists of them. */
+/* A step as one record, to run some of them. */
 struct gemandrolo_record {
     uint64_t kind, client, op, key, value, server;
 };
 
-/* A list of steps, run front to back; outcome, a and b of each go into `out`, three words each, as far as it has room. */
-void gemandrolo_run(uint8_t *mem, size_t bytes, const struct gemandrolo_record *steps, size_t count, uint64_t *out, size_t out_words);
+/* Some steps, run front to back; outcome, a and b of each go into `outcomes`, three words each, as far as it has room. All are lent the same
+ * output, so of each of its bytes the last list that wrote there is kept. */
+void gemandrolo_run(uint8_t *mem, size_t bytes, uint8_t *out, size_t out_bytes, const struct gemandrolo_record *steps, size_t count,
+                    uint64_t *outcomes, size_t words);
 
 #ifdef __cplusplus
 }

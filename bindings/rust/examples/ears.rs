@@ -103,5 +103,9 @@ fn main() -> Result<(), Failure> {
         "tablet 0 again: before {before:?}, now {:?}",
         both(&mut store, 1, child)?
     );
+
+    // The nurse at tablet 1 wants children 16 to 18 in order, both ears of each.
+    let class = store.transaction(1, 10, |t| t.list(ears(16).0, 6))?;
+    println!("class list from child 16 on: {class:?}");
     Ok(())
 }

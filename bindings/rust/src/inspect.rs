@@ -12,7 +12,7 @@
 //! assert_eq!(view.pairs(), Ok(vec![(40, 55)]));
 //! ```
 
-use crate::{Operation, Refusal, Sizes};
+use crate::{Operation, Refusal, Sizes, MAX_PAIRS};
 use std::fmt;
 
 // ---- 8.6: the whole, in words of eight bytes
@@ -603,6 +603,7 @@ impl Client<'_> {
             4 => Operation::Next { key },
             5 => Operation::Previous { key },
             6 => self.migrate(key, server)?,
+            7 => list(key, value)?,
             _ => return Err(OutOfRange(number)),
         }))
     }
@@ -717,6 +718,13 @@ impl Client<'_> {
                 Ok((*read)? != home.is_some_and(|s| s.is_taken(name.slot)))
             }
         }
+    }
+}
+
+fn list(key: u64, count: u64) -> Field<Operation> {
+    match (1..=MAX_PAIRS as u64).contains(&count) {
+        true => Ok(Operation::List { key, count }),
+        false => Err(OutOfRange(count)),
     }
 }
 

@@ -17,18 +17,38 @@
 //! assert_eq!(before, Ok(Some(35)));
 //! ```
 //!
+//! A class list is the first pairs from a key upward, up to 32 of them, or all pairs of a range:
+//!
+//! ```
+//! # use gemandrolo::{Sizes, Store};
+//! # let mut store = Store::new(Sizes { servers: 2, slots: 64, clients: 1 }).unwrap();
+//! store.transaction(0, 10, |t| (1..=40).try_for_each(|child| t.insert(child, 20).map(drop)))?;
+//! let class = store.transaction(0, 10, |t| t.list(38, 32))?;
+//! assert_eq!(class, [(38, 20), (39, 20), (40, 20)]);
+//! let sum = store.transaction(0, 10, |t| {
+//!     t.range(5..25).map(|pair| Ok(pair?.1)).sum::<Result<u64, _>>()
+//! })?;
+//! assert_eq!(sum, 20 * 20);
+//! # Ok::<(), gemandrolo::Failure>(())
+//! ```
+//!
 //! [`Store::transaction`] runs one transaction to its end. Whoever drives the steps itself, as a server that gets them from many tablets does,
-//! calls [`Store::step`] or [`Store::run`], and looks at each [`Outcome`]. What stands in the memory is shown by [`inspect`].
+//! calls [`Store::step`] or [`Store::run`], and looks at each [`Outcome`]; lists are written to an output, which [`Store::step_into`] and
+//! [`Store::run_into`] lend. What stands in the memory is shown by [`inspect`].
 
 pub mod inspect;
 mod library;
 mod outcome;
+mod output;
+mod pairs;
 mod sizes;
 mod step;
 mod store;
 mod transaction;
 
 pub use outcome::{Answer, Fetched, Outcome, Reason, Refusal};
+pub use output::{MAX_PAIRS, PAIR_BYTES};
+pub use pairs::Pairs;
 pub use sizes::Sizes;
 pub use step::{Operation, Step};
 pub use store::Store;

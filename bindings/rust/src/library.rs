@@ -14,6 +14,8 @@ mod exported {
         pub fn gemandrolo_step(
             mem: *mut u8,
             bytes: usize,
+            out: *mut u8,
+            out_bytes: usize,
             kind: u64,
             client: u64,
             op: u64,
@@ -26,10 +28,12 @@ mod exported {
         pub fn gemandrolo_run(
             mem: *mut u8,
             bytes: usize,
+            out: *mut u8,
+            out_bytes: usize,
             steps: *const [u64; 6],
             count: usize,
-            out: *mut u64,
-            out_words: usize,
+            outcomes: *mut u64,
+            words: usize,
         );
     }
 }
@@ -46,33 +50,46 @@ pub fn open(memory: &mut [u8], servers: usize, slots: usize, clients: usize) -> 
     unsafe { exported::gemandrolo_open(memory.as_mut_ptr(), memory.len(), servers, slots, clients) }
 }
 
-/// The three numbers of the step's outcome.
-pub fn step(memory: &mut [u8], words: [u64; 6]) -> [u64; 3] {
+/// The three numbers of the step's outcome. A list writes its pairs to the output.
+pub fn step(memory: &mut [u8], output: &mut [u8], words: [u64; 6]) -> [u64; 3] {
     let [kind, client, op, key, value, server] = words;
     let (mut a, mut b) = (0, 0);
-    let (start, bytes) = (memory.as_mut_ptr(), memory.len());
-    // SAFETY: as above; a and b are there for the call.
+    // SAFETY: both slices are there and lent to be written, an empty one's pointer is not null, and no two overlap; a and b are there for the
+    // call.
     let outcome = unsafe {
         exported::gemandrolo_step(
-            start, bytes, kind, client, op, key, value, server, &mut a, &mut b,
+            memory.as_mut_ptr(),
+            memory.len(),
+            output.as_mut_ptr(),
+            output.len(),
+            kind,
+            client,
+            op,
+            key,
+            value,
+            server,
+            &mut a,
+            &mut b,
         )
     };
     [outcome, a, b]
 }
 
-/// Steps front to back; the three numbers of each outcome.
-pub fn run(memory: &mut [u8], steps: &[[u64; 6]]) -> Vec<[u64; 3]> {
+/// Steps front to back, all lent the same output; the three numbers of each outcome.
+pub fn run(memory: &mut [u8], output: &mut [u8], steps: &[[u64; 6]]) -> Vec<[u64; 3]> {
     let mut lines = vec![[0; 3]; steps.len()];
-    let out = lines.as_flattened_mut();
-    // SAFETY: three slices, each there for the call, the two written ones lent to be written.
+    let outcomes = lines.as_flattened_mut();
+    // SAFETY: four slices, each there for the call, the three written ones lent to be written.
     unsafe {
         exported::gemandrolo_run(
             memory.as_mut_ptr(),
             memory.len(),
+            output.as_mut_ptr(),
+            output.len(),
             steps.as_ptr(),
             steps.len(),
-            out.as_mut_ptr(),
-            out.len(),
+            outcomes.as_mut_ptr(),
+            outcomes.len(),
         )
     };
     lines

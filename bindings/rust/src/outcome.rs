@@ -1,9 +1,10 @@
+use crate::output;
 use std::fmt;
 
 /// What came of a step.
 #[derive(Clone, Copy, Debug, PartialEq, Eq, Hash)]
 pub enum Outcome {
-    /// Nothing was done, and no byte changed.
+    /// Nothing was done, and no byte changed, in memory or output.
     Refused(Refusal),
     /// The step was taken: a begin, a give, a commit with a participant, a loss that aborts nothing.
     Done,
@@ -45,9 +46,15 @@ impl Answer {
     pub fn found(self) -> Option<u64> {
         (self.a == 1).then_some(self.b)
     }
+
+    /// The pairs of a list's answer, from the output that was lent to the step that gave it.
+    pub fn pairs(self, output: &[u8]) -> impl Iterator<Item = (u64, u64)> + '_ {
+        let count = usize::try_from(self.a).unwrap_or(usize::MAX);
+        output::pairs(output).take(count)
+    }
 }
 
-/// Why a step is refused: the first that holds.
+/// Why a step is refused: the first that holds, in the order 1 to 6, 11, 7 to 9, 12, 10.
 #[derive(Clone, Copy, Debug, PartialEq, Eq, Hash)]
 pub enum Refusal {
     /// 1: the lent memory is shorter than 64 bytes.
@@ -60,7 +67,7 @@ pub enum Refusal {
     UnknownKind,
     /// 5: the client is not in the store.
     UnknownClient,
-    /// 6: a given operation is not 1 to 6.
+    /// 6: a given operation is not 1 to 7.
     UnknownOperation,
     /// 7: the server of a migrate, prepare or apply is not in the store.
     UnknownServer,
@@ -70,6 +77,10 @@ pub enum Refusal {
     Unfit,
     /// 10: something stored that the step reads is out of range, or points to something that isn't there.
     Damaged,
+    /// 11: the count of a given list is not 1 to 32.
+    Count,
+    /// 12: a list waits, and the output lent is shorter than 16 times its count.
+    ShortOutput,
 }
 
 /// Why a transaction aborted.
@@ -93,7 +104,7 @@ pub enum Reason {
     LastVersion,
 }
 
-const REFUSALS: [Refusal; 10] = [
+const REFUSALS: [Refusal; 12] = [
     Refusal::NoHead,
     Refusal::Sizes,
     Refusal::TooShort,
@@ -104,6 +115,8 @@ const REFUSALS: [Refusal; 10] = [
     Refusal::UnknownNode,
     Refusal::Unfit,
     Refusal::Damaged,
+    Refusal::Count,
+    Refusal::ShortOutput,
 ];
 
 const REASONS: [Reason; 8] = [
@@ -118,7 +131,7 @@ const REASONS: [Reason; 8] = [
 ];
 
 impl Refusal {
-    /// The number, 1 to 10.
+    /// The number, 1 to 12.
     pub fn number(self) -> u64 {
         self as u64 + 1
     }
@@ -197,11 +210,13 @@ impl fmt::Display for Refusal {
             Refusal::TooShort => "the memory is shorter than the sizes call for",
             Refusal::UnknownKind => "the kind is above 7",
             Refusal::UnknownClient => "the client is not in the store",
-            Refusal::UnknownOperation => "the operation is not 1 to 6",
+            Refusal::UnknownOperation => "the operation is not 1 to 7",
             Refusal::UnknownServer => "the server is not in the store",
             Refusal::UnknownNode => "the node's name is not in the store",
             Refusal::Unfit => "the client's state doesn't fit",
             Refusal::Damaged => "something stored is out of range",
+            Refusal::Count => "the count of a list is not 1 to 32",
+            Refusal::ShortOutput => "the output is too short for the list that waits",
         };
         write!(f, "refused by {}: {words}", self.number())
     }

@@ -13,6 +13,10 @@ pub enum Operation {
     Previous { key: u64 },
     /// A node moves to a server. Answer: a is 1 if it moved, and b its new name; else b is 0 for a free node, 1 for one that is there already.
     Migrate { node: u64, server: u64 },
+    /// The first pairs from the key upward, the key's own too: as many as `count` says, 1 to 32. Answer: a is the number of pairs, fewer than
+    /// asked for only where there are no more. They are written to the output lent to the work step ([`crate::Store::step_into`]), which has to
+    /// have room for `count` of them; [`crate::Answer::pairs`] reads them.
+    List { key: u64, count: u64 },
 }
 
 /// One step of one client.
@@ -46,6 +50,7 @@ impl Operation {
             Operation::Next { key } => [4, key, 0, 0],
             Operation::Previous { key } => [5, key, 0, 0],
             Operation::Migrate { node, server } => [6, node, 0, server],
+            Operation::List { key, count } => [7, key, count, 0],
         }
     }
 }

@@ -31,7 +31,7 @@ impl<B: AsMut<[u8]>> Store<B> {
     /// The store that stands in the memory lent already.
     pub fn resume(mut memory: B) -> Result<Self, Refusal> {
         // A step of an unknown kind tells whether one of refusals 1 to 3 holds, and changes nothing.
-        let asked = library::step(memory.as_mut(), [u64::MAX, 0, 0, 0, 0, 0]);
+        let asked = library::step(memory.as_mut(), &mut [], [u64::MAX, 0, 0, 0, 0, 0]);
         match Outcome::of(asked) {
             Outcome::Refused(Refusal::UnknownKind) => {
                 let sizes = inspect::sizes_in_head(memory.as_mut());
@@ -57,25 +57,46 @@ impl<B: AsMut<[u8]>> Store<B> {
         self.memory
     }
 
-    /// One step.
+    /// One step, without an output: all but the work steps of a list need none, and those are refused by 12.
     pub fn step(&mut self, step: Step) -> Outcome {
-        self.step_words(step.words())
+        self.step_into(step, &mut [])
+    }
+
+    /// One step that is lent an output. The one that answers a list writes its pairs to it, [`crate::PAIR_BYTES`] each, from the first byte on.
+    /// No other byte of it changes, and none at any other step.
+    pub fn step_into(&mut self, step: Step, output: &mut [u8]) -> Outcome {
+        self.step_words_into(step.words(), output)
     }
 
     /// One step of any six numbers, as they come from a file or a network: kind, client, op, key, value, server.
     pub fn step_words(&mut self, words: [u64; 6]) -> Outcome {
-        Outcome::of(library::step(self.memory.as_mut(), words))
+        self.step_words_into(words, &mut [])
     }
 
-    /// A list of steps, run front to back: the outcome of each.
+    /// One step of any six numbers that is lent an output, as by [`Store::step_into`].
+    pub fn step_words_into(&mut self, words: [u64; 6], output: &mut [u8]) -> Outcome {
+        Outcome::of(library::step(self.memory.as_mut(), output, words))
+    }
+
+    /// Some steps, run front to back: the outcome of each.
     pub fn run(&mut self, steps: &[Step]) -> Vec<Outcome> {
-        let words: Vec<[u64; 6]> = steps.iter().map(|step| step.words()).collect();
-        self.run_words(&words)
+        self.run_into(steps, &mut [])
     }
 
-    /// A list of steps of any six numbers each, run front to back.
+    /// Some steps that are lent one output, in turn as by [`Store::step_into`]: a list writes over what one before it has written.
+    pub fn run_into(&mut self, steps: &[Step], output: &mut [u8]) -> Vec<Outcome> {
+        let words: Vec<[u64; 6]> = steps.iter().map(|step| step.words()).collect();
+        self.run_words_into(&words, output)
+    }
+
+    /// Some steps of any six numbers each, run front to back.
     pub fn run_words(&mut self, steps: &[[u64; 6]]) -> Vec<Outcome> {
-        let lines = library::run(self.memory.as_mut(), steps);
+        self.run_words_into(steps, &mut [])
+    }
+
+    /// Some steps of any six numbers each that are lent one output, as by [`Store::run_into`].
+    pub fn run_words_into(&mut self, steps: &[[u64; 6]], output: &mut [u8]) -> Vec<Outcome> {
+        let lines = library::run(self.memory.as_mut(), output, steps);
         lines.into_iter().map(Outcome::of).collect()
     }
 }

@@ -1,12 +1,16 @@
-use crate::{Answer, Operation, Outcome, Reason, Refusal, Step, Store};
+use crate::{
+    Answer, Operation, Outcome, Pairs, Reason, Refusal, Step, Store, MAX_PAIRS, PAIR_BYTES,
+};
 use std::fmt;
+use std::ops::RangeBounds;
 
 /// Why a transaction, or an operation in it, came to nothing.
 #[derive(Clone, Copy, Debug, PartialEq, Eq, Hash)]
 pub enum Failure {
     /// It aborted: nothing of it is in the store. From [`Store::transaction`]: the last of its runs did, or a reason that does not pass.
     Aborted(Reason),
-    /// A step of it was refused: the client is in another transaction, a migrate names what is not there, or the memory is damaged.
+    /// A step of it was refused: the client is in another transaction, a migrate names what is not there, a list's count is not 1 to 32, or
+    /// the memory is damaged.
     Refused(Refusal),
 }
 
@@ -28,7 +32,7 @@ pub struct Transaction<'s, B> {
     client: u64,
 }
 
-impl<B: AsMut<[u8]>> Transaction<'_, B> {
+impl<'s, B: AsMut<[u8]>> Transaction<'s, B> {
     /// Sets the key's value: whether the key was absent.
     pub fn insert(&mut self, key: u64, value: u64) -> Result<bool, Failure> {
         Ok(self.answer(Operation::Insert { key, value })?.a == 1)
@@ -63,17 +67,43 @@ impl<B: AsMut<[u8]>> Transaction<'_, B> {
         })
     }
 
+    /// The first pairs from a key upward, in order, the key's own too: `count` of them, 1 to 32. They are fewer only where there are no more.
+    pub fn list(&mut self, from: u64, count: usize) -> Result<Vec<(u64, u64)>, Failure> {
+        let mut output = [0; MAX_PAIRS * PAIR_BYTES];
+        let (key, count) = (from, count as u64);
+        let answer = self.answer_into(Operation::List { key, count }, &mut output)?;
+        Ok(answer.pairs(&output).collect())
+    }
+
+    /// The pairs whose keys are in a range, in order: `t.range(..)`, `t.range(40..60)`, `t.range(40..=60)`. A range that ends before it starts
+    /// is empty.
+    ///
+    /// The iterator asks for [`list`](Transaction::list)s of up to 32 as it gets on. The last of them may read some leaves behind the range's
+    /// end.
+    ///
+    /// A transaction reads at most 96 objects, and a range reads every leaf that it goes through, of 7 to 14 pairs each, and the inner nodes
+    /// above them. In a transaction of its own some 500 pairs always get through, at best about 1,200; then it aborts by [`Reason::TooMany`].
+    /// Read a longer range in several transactions, each from behind the last key of the one before: each part is as the map was in one
+    /// moment, the whole need not be.
+    pub fn range(&mut self, keys: impl RangeBounds<u64>) -> Pairs<'_, 's, B> {
+        Pairs::new(self, keys)
+    }
+
     /// Gives the transaction up. The error is what the closure returns, and the transaction is not run again.
     pub fn give_up<T>(&mut self) -> Result<T, Failure> {
         Err(Failure::Aborted(Reason::GivenUp))
     }
 
-    /// Gives an operation and works until it is answered.
     fn answer(&mut self, operation: Operation) -> Result<Answer, Failure> {
+        self.answer_into(operation, &mut [])
+    }
+
+    /// Gives an operation and works until it is answered; a list's pairs go into the output.
+    fn answer_into(&mut self, operation: Operation, output: &mut [u8]) -> Result<Answer, Failure> {
         let client = self.client;
         expect_done(self.store.step(Step::Give { client, operation }))?;
         loop {
-            match self.store.step(Step::Work { client }) {
+            match self.store.step_into(Step::Work { client }, output) {
                 Outcome::Fetched(_) => {}
                 Outcome::Answered(answer) => return Ok(answer),
                 other => return Err(failure(other)),

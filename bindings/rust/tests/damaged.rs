@@ -1,10 +1,12 @@
-//! Memory that is damaged, random, too short, of odd length or not aligned: never a crash, and a refused step leaves every byte as it was.
+//! Memory that is damaged, random, too short, of odd length or not aligned: never a crash, and a refused step leaves every byte as it was, of
+//! the memory and of the output.
 
 mod common;
 
 use common::player::{Player, Taste};
-use common::{inputs, layout, tried, Random};
+use common::{inputs, layout, tried, Random, LONGEST};
 use gemandrolo::{Outcome, Refusal, Sizes, Store};
+use std::collections::BTreeMap;
 
 const STATES: usize = 1000;
 const DAMAGES: usize = 200;
@@ -12,9 +14,10 @@ const STEPS: usize = 8;
 
 const TASTE: Taste = Taste {
     keys: 60,
-    inserts: 70,
-    deletes: 20,
+    inserts: 65,
+    deletes: 15,
     migrates: 3,
+    lists: 12,
     noise: 2,
     length: 4,
 };
@@ -51,10 +54,16 @@ fn damage(random: &mut Random, memory: &mut [u8], place: usize) {
     layout::set_word(memory, place, damaged);
 }
 
+/// Mostly one that is long enough for every list.
+fn output(random: &mut Random) -> Vec<u8> {
+    let any = random.index(2 * LONGEST);
+    vec![0xa5; random.pick(&[LONGEST, LONGEST, 2 * LONGEST, any])]
+}
+
 fn steps_on(random: &mut Random, player: &Player, memory: &mut [u8], counts: &mut [usize; 2]) {
     for _ in 0..STEPS {
         let step = player.choose(random);
-        match tried(memory, step) {
+        match tried(memory, &mut output(random), step) {
             Some(Outcome::Refused(Refusal::Damaged)) => counts[0] += 1,
             _ => counts[1] += 1,
         }
@@ -86,6 +95,60 @@ fn flipped_bits() {
     }
 }
 
+/// The store with a list of one of its clients waiting, before a fetch or before the answer; none where that client's applies are still due.
+fn with_list(random: &mut Random, sizes: Sizes, memory: Vec<u8>) -> Option<(u64, Vec<u8>)> {
+    let mut store = Store::resume(memory).expect("a store");
+    let client = random.index(sizes.clients) as u64;
+    let give = [1, client, 7, random.below(60), 1 + random.below(32), 0];
+    for step in [[6, client, 0, 0, 0, 0], [0, client, 0, 0, 0, 0], give] {
+        store.step_words(step);
+    }
+    for _ in 0..random.below(8) {
+        let work = [2, client, 0, 0, 0, 0];
+        match store.step_words_into(work, &mut [0; LONGEST]) {
+            Outcome::Fetched(_) => {}
+            Outcome::Refused(_) => return None,
+            // Given again, the next step answers it.
+            _ => drop(store.step_words(give)),
+        }
+    }
+    Some((client, store.into_memory()))
+}
+
+#[test]
+fn flipped_bits_below_a_list() {
+    let mut random = Random(5);
+    let mut outcomes: BTreeMap<String, usize> = BTreeMap::new();
+    for _ in 0..inputs(STATES) {
+        let (player, sound) = state(&mut random);
+        let Some((client, sound)) = with_list(&mut random, player.sizes, sound) else {
+            continue;
+        };
+        for _ in 0..DAMAGES {
+            let target = 1 + random.index(layout::TARGETS.len() - 1);
+            let mut memory = sound.clone();
+            let place = layout::place(&mut random, player.sizes, target);
+            damage(&mut random, &mut memory, place);
+            for _ in 0..3 {
+                let work = [2, client, 0, 0, 0, 0];
+                let outcome = tried(&mut memory, &mut output(&mut random), work);
+                let [number, a, _] = outcome.expect("a store").numbers();
+                let what = match number {
+                    0 => format!("refused by {a}"),
+                    2 => "fetched".into(),
+                    3 => "answered".into(),
+                    _ => format!("aborted by {a}"),
+                };
+                *outcomes.entry(what).or_default() += 1;
+            }
+        }
+    }
+    println!("work on lists in damaged memory: {outcomes:?}");
+    for due in ["refused by 10", "refused by 12", "fetched", "answered"] {
+        assert!(outcomes.contains_key(due), "{due}");
+    }
+}
+
 /// Random bytes in all of the memory, in some of it, or in the servers' parts alone, which the clients then read.
 #[test]
 fn random_bytes() {
@@ -104,7 +167,8 @@ fn random_bytes() {
         memory[ranges[round % 3].clone()].fill_with(|| random.next() as u8);
         steps_on(&mut random, &player, &mut memory, &mut counts);
         memory[..64].fill_with(|| random.next() as u8);
-        assert_eq!(tried(&mut memory, [0; 6]), None, "random sizes are refused");
+        let refused = tried(&mut memory, &mut output(&mut random), [0; 6]);
+        assert_eq!(refused, None, "random sizes are refused");
     }
     println!(
         "{} random memories: {} steps refused by 10, {} other outcomes",
@@ -141,7 +205,8 @@ fn lengths() {
     println!("{tries} openings of memory that is too short");
 }
 
-/// Memory that starts at any byte and is longer than the store, by any number of bytes: the same outcomes, and what is behind stays.
+/// Memory and output that start at any byte and are longer than they need be, by any number of bytes: the same outcomes, and what is behind
+/// stays.
 #[test]
 fn alignment() {
     let mut random = Random(4);
@@ -153,7 +218,13 @@ fn alignment() {
         longer.extend(std::iter::repeat_n(0x5a, tail));
         for _ in 0..40 {
             let step = player.choose(&mut random);
-            assert_eq!(tried(&mut longer[offset..], step), tried(&mut sound, step));
+            let mut outputs = [LONGEST, LONGEST + offset + tail].map(|bytes| vec![0xa5; bytes]);
+            let [plain, shifted] = &mut outputs;
+            assert_eq!(
+                tried(&mut longer[offset..], &mut shifted[offset..], step),
+                tried(&mut sound, plain, step)
+            );
+            assert!(shifted[offset..].starts_with(plain), "the same pairs");
         }
         let behind = offset + sound.len();
         assert!(longer[offset..behind] == sound, "the same bytes");

@@ -3,7 +3,7 @@
 mod common;
 
 use common::player::{Player, Taste};
-use common::{inputs, layout, Random};
+use common::{inputs, layout, Random, LONGEST};
 use gemandrolo::inspect::{
     Body, Client, Field, Item, Lock, Name, NoTree, Object, OutOfRange, Phase, Server, View,
 };
@@ -27,6 +27,7 @@ fn taste(random: &mut Random) -> Taste {
         inserts,
         deletes,
         migrates: random.pick(&[0, 4]),
+        lists: random.pick(&[0, 10]),
         noise: random.pick(&[0, 3]),
         length: random.pick(&[1, 3, 8]),
     }
@@ -141,6 +142,7 @@ fn given([_, _, op, key, value, server]: [u64; 6]) -> Option<Operation> {
         4 => Some(Operation::Next { key }),
         5 => Some(Operation::Previous { key }),
         6 => Some(Operation::Migrate { node: key, server }),
+        7 => Some(Operation::List { key, count: value }),
         _ => None,
     }
 }
@@ -250,8 +252,7 @@ fn random_schedules() {
                 true => player.choose(&mut random),
                 false => player.fitting(&mut random, 1),
             };
-            let outcome = store.step_words(step);
-            player.note(step, outcome);
+            let outcome = player.take(&mut store, step, LONGEST);
             follows(&view(store.memory()), step, outcome);
             if random.percent(5) {
                 locks_have_holders(&view(store.memory()), &mut seen);
@@ -424,6 +425,25 @@ fn out_of_range_at_a_client() {
     shown(4911 + 63, |c| c.node_copies().eq([Err(OUT)]));
     shown(7087 + 17 * 7, |c| c.vector_copy(7) == Err(OUT));
     shown(7222, |c| c.vector_copy(7) == Ok(None));
+}
+
+/// A list that waits is shown with its count, and as out of range where that is not 1 to 32.
+#[test]
+fn a_list_that_waits() {
+    let (op, count) = (1, 3);
+    let part = layout::client_at(LARGEST, 15);
+    let waiting = |asked: u64| {
+        let mut memory = with_all_ones(part + count);
+        layout::set_word(&mut memory, part + op, 7);
+        layout::set_word(&mut memory, part + count, asked);
+        view(&memory).client(15).expect("a client").waiting()
+    };
+    for count in [1, 32] {
+        assert_eq!(waiting(count), Ok(Some(Operation::List { key: 0, count })));
+    }
+    for count in [0, 33, u64::MAX] {
+        assert_eq!(waiting(count), Err(OutOfRange(count)));
+    }
 }
 
 /// A root that servers do not agree on, that is none of the store, or that is free.

@@ -10,6 +10,7 @@ use gemandrolo::Operation::{self, *};
 use gemandrolo::{Answer, Fetched, Outcome, Reason, Refusal, Step};
 
 const DAMAGED: Outcome = Outcome::Refused(Refusal::Damaged);
+const SHORT: Outcome = Outcome::Refused(Refusal::ShortOutput);
 const DIFFERS: Outcome = Outcome::Aborted(Reason::Differs);
 const BUSY: Outcome = Outcome::Aborted(Reason::Busy);
 const TOO_MANY: Outcome = Outcome::Aborted(Reason::TooMany);
@@ -44,6 +45,10 @@ const TO_LEFT: [u64; 3] = [METADATA, node(ROOT), node(LEFT)];
 
 fn insert(key: u64) -> Operation {
     Insert { key, value: 5 }
+}
+
+fn list(key: u64, count: u64) -> Operation {
+    List { key, count }
 }
 
 fn migrate(node: u64, server: u64) -> Operation {
@@ -174,7 +179,13 @@ fn contents(stage: &Stage, set: Set, names: &[u64]) -> Vec<usize> {
     names.iter().flat_map(contents).collect()
 }
 
-/// The step reads these words and judges them, takes those as they are, and reads no others; but refusal 9 comes before it, except for a loss.
+/// Whether a list waits.
+fn lists(stage: &Stage) -> bool {
+    stage.word(stage.field(ME, OP)) == 7
+}
+
+/// The step reads these words and judges them, takes those as they are, and reads no others; but refusal 9 comes before it, except for a loss,
+/// and 12 where a list waits for a work step, by its count.
 fn reads(stage: &Stage, name: &str, step: Step, damaged: &[&[usize]], taken: &[&[usize]]) {
     let unfit: &[usize] = match step {
         Step::Lost { .. } => &[],
@@ -184,6 +195,10 @@ fn reads(stage: &Stage, name: &str, step: Step, damaged: &[&[usize]], taken: &[&
     let due = Due {
         damaged: damaged.concat(),
         unfit: stage.fields(ME, unfit),
+        short: match step {
+            Step::Work { .. } if lists(stage) => stage.fields(ME, &[OP_VALUE]),
+            _ => Vec::new(),
+        },
         taken: taken.concat(),
     };
     stage.reads(name, step, due);
@@ -526,7 +541,12 @@ fn moved_root() {
 /// A work step reads which operation waits, and which objects are read and written; then what it uses.
 fn work(stage: &Stage, name: &str, damaged: &[&[usize]], taken: &[&[usize]]) {
     let state = [stage.fields(ME, &[OP]), objects(stage)].concat();
-    let asked = stage.fields(ME, &[OP_KEY, OP_VALUE]);
+    let asked: &[usize] = if lists(stage) {
+        &[OP_KEY]
+    } else {
+        &[OP_KEY, OP_VALUE]
+    };
+    let asked = stage.fields(ME, asked);
     let damaged = [&state, &damaged.concat()[..]];
     reads(stage, name, WORK, &damaged, &[&asked, &taken.concat()]);
 }
@@ -692,6 +712,7 @@ fn answers() {
         ("answer of a lookup", Lookup { key: 10 }),
         ("answer of an insert", insert(10)),
         ("answer of a delete", Delete { key: 3 }),
+        ("answer of a list", list(3, 11)),
     ] {
         let mut stage = alone(operation);
         stage.before(ME, None);
@@ -703,6 +724,77 @@ fn answers() {
         let walked = contents(&stage, Set::Reads, &[ROOT, LEFT]);
         work(&stage, name, &damaged, &[&walked]);
     }
+}
+
+/// A list reads on to the leaf at its right, down from the root: the leaf before is judged at each step, and its pairs are taken.
+#[test]
+fn lists_that_read_on() {
+    let mut stage = alone(list(3, 12));
+    let walk = |stage: &Stage| {
+        let on = stage.record(ME, Set::Reads, node(ROOT)) + SLOTS.start + 1;
+        [
+            used_metadata(stage, Set::Reads),
+            used_root(stage, Set::Reads, 0),
+            used(stage, Set::Reads, LEFT),
+            vec![on],
+        ]
+        .concat()
+    };
+    stage.before(ME, Some(Fetched::Node(MIDDLE)));
+    let middle = layout::node_at(stage.sizes, MIDDLE);
+    let damaged = [
+        &walk(&stage)[..],
+        &checks(&stage, 0, &TO_LEFT),
+        &locks(&stage, 0, &[node(MIDDLE)]),
+        &stage.judged(middle),
+    ];
+    let walked = contents(&stage, Set::Reads, &[ROOT, LEFT]);
+    let taken = [&walked[..], &stage.contents(middle)];
+    work(&stage, "fetch of a list's second leaf", &damaged, &taken);
+
+    stage.before(ME, None);
+    let damaged = [&walk(&stage)[..], &used(&stage, Set::Reads, MIDDLE)];
+    let walked = contents(&stage, Set::Reads, &[ROOT, LEFT, MIDDLE]);
+    work(
+        &stage,
+        "answer of a list of two leaves",
+        &damaged,
+        &[&walked],
+    );
+    assert_eq!(stage.step(WORK), Outcome::Answered(Answer { a: 12, b: 0 }));
+}
+
+/// The count of a list that waits: 12 where the output is too short for it, whatever it is; else 10 where it is not 1 to 32. At a fetch and at
+/// the answer.
+#[test]
+fn stored_counts() {
+    let before = alone(list(3, 11));
+    let mut answering = before.clone();
+    answering.before(ME, None);
+    let mut tries = 0;
+    for stage in [before, answering] {
+        let count = stage.field(ME, OP_VALUE);
+        let mut try_count = |stored: u64, room: usize, due| {
+            let mut stage = stage.with(count, stored);
+            stage.output = vec![0xa5; room];
+            assert_eq!(stage.tried(WORK), due, "count {stored} with {room} bytes");
+            tries += 1;
+        };
+        for (stored, enough) in [(0, 0), (33, 528), (34, 544), (1000, 16_000)] {
+            try_count(stored, enough, DAMAGED);
+            try_count(stored, enough + 1, DAMAGED);
+            if enough > 0 {
+                try_count(stored, enough - 1, SHORT);
+            }
+        }
+        // 16 times these is above 2^64, or 0 in 64 bits
+        for stored in [1 << 60, 1 << 63, u64::MAX] {
+            for room in [0, 512, 16_000] {
+                try_count(stored, room, SHORT);
+            }
+        }
+    }
+    println!("{tries} stored counts of lists");
 }
 
 /// A split reads the slot that it takes, and of its server's vector whether there is a copy; flags written before are counted in it. What is

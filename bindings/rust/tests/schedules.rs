@@ -4,7 +4,7 @@
 mod common;
 
 use common::player::{Player, Taste};
-use common::{inputs, layout, Random};
+use common::{inputs, layout, Random, LONGEST};
 use gemandrolo::{Outcome, Sizes, Store};
 
 const SCHEDULES: usize = 10_000;
@@ -16,6 +16,7 @@ fn taste(random: &mut Random) -> Taste {
         inserts,
         deletes,
         migrates: random.pick(&[0, 0, 3]),
+        lists: random.pick(&[0, 2, 15]),
         noise: random.pick(&[0, 1, 5, 30]),
         length: random.pick(&[1, 2, 4, 12, 300]),
     }
@@ -36,14 +37,14 @@ fn fill(random: &mut Random, player: &mut Player, store: &mut Store<Vec<u8>>) {
         inserts: 100,
         deletes: 0,
         migrates: 0,
+        lists: 0,
         noise: 0,
         length: 6,
         ..usual
     };
     for _ in 0..random.pick(&[0, 0, 0, 300, 300, 1500, 1500, 12_000]) {
         let step = player.fitting(random, 0);
-        let outcome = store.step_words(step);
-        player.note(step, outcome);
+        player.take(store, step, LONGEST);
     }
     player.taste = usual;
 }
@@ -75,21 +76,26 @@ fn schedule(seed: u64) -> Player {
 
 #[test]
 fn decided_transactions_explain_answers_and_tree() {
-    let (mut steps, mut decided, mut refused, mut aborted) = (0, 0, [0; 11], [0; 9]);
+    let (mut steps, mut decided, mut refused, mut aborted) = (0, 0, [0; 13], [0; 9]);
+    let (mut lists, mut pairs) = (0, 0);
     for seed in 0..inputs(SCHEDULES) as u64 {
         let player = schedule(seed);
         steps += player.steps;
         decided += player.ledger.decided;
-        (0..11).for_each(|i| refused[i] += player.refused[i]);
+        lists += player.ledger.lists;
+        pairs += player.ledger.pairs;
+        (0..13).for_each(|i| refused[i] += player.refused[i]);
         (0..9).for_each(|i| aborted[i] += player.aborted[i]);
     }
     println!(
-        "{} schedules, {steps} steps, {decided} transactions decided",
+        "{} schedules, {steps} steps, {decided} transactions decided, with {lists} lists of {pairs} pairs",
         inputs(SCHEDULES)
     );
+    assert!(lists > 0 && pairs > lists);
     println!(
-        "refused by 4 to 9: {:?}; aborted by 1 to 7: {:?}",
+        "refused by 4 to 9: {:?}, by 11 and 12: {:?}; aborted by 1 to 7: {:?}",
         &refused[4..10],
+        &refused[11..],
         &aborted[1..8]
     );
     assert_eq!(
@@ -98,7 +104,7 @@ fn decided_transactions_explain_answers_and_tree() {
         "the memory is sound"
     );
     assert!(
-        refused[4..10].iter().all(|n| *n > 0),
+        refused[4..10].iter().chain(&refused[11..]).all(|n| *n > 0),
         "each refusal was met"
     );
     assert!(
@@ -107,9 +113,9 @@ fn decided_transactions_explain_answers_and_tree() {
     );
 }
 
-/// A list of steps is the same as its steps one by one.
+/// Steps that are run at once are the same as one by one, with one output for all.
 #[test]
-fn a_list_is_its_steps() {
+fn a_run_is_its_steps() {
     for seed in 0..inputs(20) as u64 {
         let mut random = Random(seed);
         let sizes = Sizes {
@@ -120,8 +126,9 @@ fn a_list_is_its_steps() {
         let taste = Taste {
             keys: 30,
             inserts: 60,
-            deletes: 20,
+            deletes: 15,
             migrates: 5,
+            lists: 10,
             noise: 10,
             length: 3,
         };
@@ -130,13 +137,13 @@ fn a_list_is_its_steps() {
         let (mut steps, mut outcomes) = (Vec::new(), Vec::new());
         for _ in 0..300 {
             let step = player.choose(&mut random);
-            let outcome = store.step_words(step);
-            player.note(step, outcome);
             steps.push(step);
-            outcomes.push(outcome);
+            outcomes.push(player.take(&mut store, step, LONGEST));
         }
         let mut again = Store::new(sizes).expect("allowed sizes");
-        assert_eq!(again.run_words(&steps), outcomes);
+        let mut output = Player::new(sizes, taste).output;
+        assert_eq!(again.run_words_into(&steps, &mut output), outcomes);
         assert!(again.memory() == store.memory());
+        assert!(output == player.output);
     }
 }

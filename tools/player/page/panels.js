@@ -139,7 +139,7 @@ function transaction(tablet, standing) {
   const line = ([turn, it]) => {
     const place = `o/${tablet}/${turn}`;
     const looks = `${mark(place) || ""}${things.has(place) ? "" : " gone"}`;
-    return html("li", { class: looks }, `${it.asked}: `, html("b", {}, it.answer ?? unanswered));
+    return operationLine(looks, it, unanswered);
   };
   return html(
     "div",
@@ -147,6 +147,18 @@ function transaction(tablet, standing) {
     html("h4", {}, "Its transaction"),
     hidden ? html("p", { class: "note" }, `${plural(hidden, "operation")} before these`) : null,
     html("ul", { class: "asked" }, ...asked.slice(hidden).map(line)),
+  );
+}
+
+// An operation, its answer, and the pairs that a list has written.
+function operationLine(looks, it, unanswered) {
+  const pairs = it.pairs.map(([key, value]) => html("span", { class: "pair" }, `${key}: ${value}`));
+  return html(
+    "li",
+    { class: looks },
+    `${it.asked}: `,
+    html("b", {}, it.answer ?? unanswered),
+    pairs.length ? html("span", { class: "pairs" }, ...pairs) : null,
   );
 }
 
@@ -245,7 +257,7 @@ function showDecided() {
   const decided = thingsAt("d/");
   const entry = ([turn, { tablet, asked }], i) => {
     const title = `Tablet ${tablet}, step ${decisions[turn]}, ${plural(asked.length, "operation")}`;
-    const operations = asked.map((it) => html("li", {}, `${it.asked}: `, html("b", {}, it.answer ?? "no answer")));
+    const operations = asked.map((it) => operationLine(false, it, "no answer"));
     const open = i === decided.length - 1 ? "" : false;
     return html("li", { class: mark(`d/${turn}`) }, html("details", { open }, html("summary", {}, title), html("ul", {}, ...operations)));
   };

@@ -73,7 +73,16 @@ impl Told {
                 };
                 self.add("In the map now:", format!("{key} is {is}"), "");
             }
-            Place::Write(..) | Place::Client(_) | Place::Asked(..) | Place::Decided(_) => {}
+            Place::Asked(..) => self.listed(change),
+            Place::Write(..) | Place::Client(_) | Place::Decided(_) => {}
+        }
+    }
+
+    fn listed(&mut self, change: &Change) {
+        if let Some(Content::Asked(asked)) = &change.after {
+            for (key, value) in &asked.pairs {
+                self.add("Listed:", format!("{key} is {value}"), "");
+            }
         }
     }
 

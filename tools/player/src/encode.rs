@@ -133,12 +133,10 @@ fn metadata(it: &Metadata) -> Fields {
 
 fn node(it: &Node) -> Fields {
     let mut fields = vec![("version", field(it.version, number))];
-    let word = |n: &u64| text(&n.to_string());
     match &it.body {
         Body::Free => fields.push(("kind", text("free"))),
-        Body::Leaf { pairs } => {
-            let pairs = pairs.iter().map(|(k, v)| list([word(k), word(v)]));
-            fields.extend([("kind", text("leaf")), ("pairs", list(pairs))]);
+        Body::Leaf { pairs: it } => {
+            fields.extend([("kind", text("leaf")), ("pairs", pairs(it))]);
         }
         Body::Inner {
             level,
@@ -161,6 +159,14 @@ fn node(it: &Node) -> Fields {
         }
     }
     fields
+}
+
+fn word(n: &u64) -> String {
+    text(&n.to_string())
+}
+
+fn pairs(it: &[(u64, u64)]) -> String {
+    list(it.iter().map(|(key, value)| list([word(key), word(value)])))
 }
 
 fn item(it: &Item) -> Fields {
@@ -216,5 +222,6 @@ fn asked(it: &Asked) -> String {
     object(&[
         ("asked", text(&words::asked(it.operation))),
         ("answer", answer.map_or("null".into(), |words| text(&words))),
+        ("pairs", pairs(&it.pairs)),
     ])
 }

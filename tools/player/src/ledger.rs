@@ -4,10 +4,12 @@ use gemandrolo::{Answer, Operation, Outcome};
 use std::collections::BTreeMap;
 use std::rc::Rc;
 
-#[derive(Clone, Copy, Debug, PartialEq, Eq)]
+#[derive(Clone, Debug, PartialEq, Eq)]
 pub struct Asked {
     pub operation: Operation,
     pub answer: Option<Answer>,
+    /// What a list has written.
+    pub pairs: Vec<(u64, u64)>,
 }
 
 #[derive(Clone, Debug, PartialEq, Eq)]
@@ -35,12 +37,14 @@ pub fn operation(step: [u64; 6]) -> Option<Operation> {
         4 => Operation::Next { key },
         5 => Operation::Previous { key },
         6 => Operation::Migrate { node: key, server },
+        7 => Operation::List { key, count: value },
         _ => return None,
     })
 }
 
 impl Ledger {
-    pub fn note(&mut self, step: [u64; 6], outcome: Outcome) {
+    /// A step, its outcome, and the output as it left it.
+    pub fn note(&mut self, step: [u64; 6], outcome: Outcome, output: &[u8]) {
         let [kind, client, ..] = step;
         match (kind, outcome) {
             (_, Outcome::Refused(_)) => {}
@@ -48,6 +52,9 @@ impl Ledger {
             (_, Outcome::Answered(answer)) => {
                 if let Some(asked) = self.open.get_mut(&client).and_then(|t| t.last_mut()) {
                     asked.answer = Some(answer);
+                    if let Operation::List { .. } = asked.operation {
+                        asked.pairs = answer.pairs(output).collect();
+                    }
                 }
             }
             (0, _) => drop(self.open.insert(client, Vec::new())),
@@ -55,6 +62,7 @@ impl Ledger {
                 let asked = operation(step).map(|operation| Asked {
                     operation,
                     answer: None,
+                    pairs: Vec::new(),
                 });
                 self.open.entry(client).or_default().extend(asked);
             }

@@ -169,7 +169,8 @@ fn held(client: &Client, item: Item) -> Content {
 fn see_ledger(state: &mut State, ledger: &Ledger) {
     for (client, asked) in &ledger.open {
         for (turn, asked) in asked.iter().enumerate() {
-            state.insert(Place::Asked(*client as usize, turn), Content::Asked(*asked));
+            let place = Place::Asked(*client as usize, turn);
+            state.insert(place, Content::Asked(asked.clone()));
         }
     }
     for (key, value) in &ledger.map {

@@ -8,7 +8,10 @@ use crate::schedule::Schedule;
 use crate::state::{state, State};
 use crate::words;
 use gemandrolo::inspect::View;
-use gemandrolo::{Outcome, Sizes, Store};
+use gemandrolo::{Outcome, Sizes, Store, MAX_PAIRS, PAIR_BYTES};
+
+/// What `stepshow` lends to its steps: room for every list.
+pub const OUTPUT: usize = MAX_PAIRS * PAIR_BYTES;
 
 #[derive(Clone, Debug)]
 pub struct Story {
@@ -33,14 +36,15 @@ pub struct Moment {
 
 pub fn tell(schedule: &Schedule) -> Story {
     let mut store = Store::new(schedule.sizes).expect("sizes that the schedule's reader accepted");
+    let mut output = [0; OUTPUT];
     let mut ledger = Ledger::default();
     let start = seen(&mut store, &ledger);
     let mut before = start.clone();
     let mut moments = Vec::new();
     for step in &schedule.steps {
         let given = ledger.last_given(step[1]);
-        let outcome = store.step_words(*step);
-        ledger.note(*step, outcome);
+        let outcome = store.step_words_into(*step, &mut output);
+        ledger.note(*step, outcome, &output);
         let after = seen(&mut store, &ledger);
         let difference = difference(&before, &after);
         moments.push(Moment {

@@ -58,7 +58,12 @@ pub fn asked(operation: Operation) -> String {
         Operation::Next { key } => format!("find the next key above {key}"),
         Operation::Previous { key } => format!("find the previous key below {key}"),
         Operation::Migrate { node, server } => format!("move node {node} to server {server}"),
+        Operation::List { key, count } => format!("list up to {} from key {key} on", pairs(count)),
     }
+}
+
+fn pairs(count: u64) -> String {
+    format!("{count} pair{}", if count == 1 { "" } else { "s" })
 }
 
 /// What an answer says.
@@ -80,6 +85,11 @@ pub fn answered(operation: Operation, Answer { a, b }: Answer) -> String {
         }
         Operation::Migrate { node, .. } if b == 0 => format!("node {node} is free and stays"),
         Operation::Migrate { node, server } => format!("node {node} is at server {server} already"),
+        Operation::List { key, .. } if a == 0 => format!("there is no key from {key} on"),
+        Operation::List { key, count } if a < count => {
+            format!("only {} from key {key} on", pairs(a))
+        }
+        Operation::List { key, .. } => format!("{} from key {key} on", pairs(a)),
     }
 }
 
@@ -150,6 +160,8 @@ fn refused(refusal: Refusal) -> String {
         Refusal::UnknownNode => "there is no such node",
         Refusal::Unfit => "it does not fit what the tablet did before",
         Refusal::Damaged => "something stored is out of range",
+        Refusal::Count => "a list has 1 to 32 pairs",
+        Refusal::ShortOutput => "there is no room for so many pairs",
     };
     format!("refused, {why}")
 }

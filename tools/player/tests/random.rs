@@ -11,6 +11,7 @@ use gemandrolo::{Outcome, Reason, Sizes, Store};
 use json::Json;
 use player::ledger::Ledger;
 use player::state::{state, Content, Place, State};
+use player::story::OUTPUT;
 use player::{encode, page, story, Captions, Schedule};
 
 const STEPS: usize = 300;
@@ -21,6 +22,7 @@ fn taste(random: &mut Random) -> Taste {
         inserts: random.pick(&[50, 90]),
         deletes: random.pick(&[5, 30]),
         migrates: random.pick(&[0, 5]),
+        lists: random.pick(&[0, 10]),
         noise: random.pick(&[0, 5]),
         length: random.pick(&[1, 3, 10]),
     }
@@ -33,8 +35,7 @@ fn played(random: &mut Random, sizes: Sizes, taste: Taste) -> (Schedule, Store<V
     let mut steps = Vec::new();
     for _ in 0..STEPS {
         let step = player.choose(random);
-        let outcome = store.step_words(step);
-        player.note(step, outcome);
+        player.take(&mut store, step, OUTPUT);
         steps.push(step);
     }
     (Schedule { sizes, steps }, store, player)
@@ -44,9 +45,10 @@ fn played(random: &mut Random, sizes: Sizes, taste: Taste) -> (Schedule, Store<V
 fn seen(schedule: &Schedule, store: &mut Store<Vec<u8>>) -> State {
     let mut ledger = Ledger::default();
     let mut again = Store::new(schedule.sizes).expect("allowed sizes");
+    let mut output = [0; OUTPUT];
     for step in &schedule.steps {
-        let outcome = again.step_words(*step);
-        ledger.note(*step, outcome);
+        let outcome = again.step_words_into(*step, &mut output);
+        ledger.note(*step, outcome, &output);
     }
     let view = View::of(store.memory()).expect("a store");
     state(&view, &ledger)
@@ -113,6 +115,7 @@ fn aborts_have_causes() {
             inserts: 60,
             deletes: 25,
             migrates: 8,
+            lists: 3,
             noise: 2,
             length: random.pick(&[1, 2]),
         };
@@ -145,7 +148,8 @@ fn a_page_is_small() {
             keys: u64::MAX,
             inserts: 95,
             deletes: 0,
-            migrates: 5,
+            migrates: 2,
+            lists: 3,
             noise: 0,
             length,
         };

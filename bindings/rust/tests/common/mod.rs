@@ -6,7 +6,11 @@ pub mod ledger;
 pub mod player;
 pub mod stage;
 
-use gemandrolo::{Outcome, Store};
+use gemandrolo::inspect::View;
+use gemandrolo::{Operation, Outcome, Store, MAX_PAIRS, PAIR_BYTES};
+
+/// The bytes of the longest list.
+pub const LONGEST: usize = MAX_PAIRS * PAIR_BYTES;
 
 /// Random numbers that are the same in every run (SplitMix64).
 pub struct Random(pub u64);
@@ -44,11 +48,36 @@ pub fn inputs(usual: usize) -> usize {
     (usual as f64 * times.unwrap_or(1.0)).ceil() as usize
 }
 
+/// A step that is lent an output: what changes there is the pairs of a list that it answers, and nothing else.
+pub fn stepped<B: AsMut<[u8]>>(store: &mut Store<B>, output: &mut [u8], step: [u64; 6]) -> Outcome {
+    let before = output.to_vec();
+    let listing = lists(store.memory(), step[1]);
+    let outcome = store.step_words_into(step, output);
+    let written = match outcome {
+        Outcome::Answered(answer) if listing => PAIR_BYTES * answer.a as usize,
+        _ => 0,
+    };
+    assert!(
+        before[written..] == output[written..],
+        "{step:?} changed more of its output than {written} bytes"
+    );
+    outcome
+}
+
+/// Whether a list of the client waits.
+fn lists(memory: &[u8], client: u64) -> bool {
+    let waiting = View::of(memory)
+        .ok()
+        .and_then(|view| view.client(client as usize))
+        .map(|client| client.waiting());
+    matches!(waiting, Some(Ok(Some(Operation::List { .. }))))
+}
+
 /// A step on memory that may be damaged: what is refused changes nothing. Outcomes that 01 doesn't have fail in `Outcome`'s making.
-pub fn tried(memory: &mut [u8], step: [u64; 6]) -> Option<Outcome> {
+pub fn tried(memory: &mut [u8], output: &mut [u8], step: [u64; 6]) -> Option<Outcome> {
     let before = memory.to_vec();
     let outcome = match Store::resume(&mut *memory) {
-        Ok(mut store) => Some(store.step_words(step)),
+        Ok(mut store) => Some(stepped(&mut store, output, step)),
         Err(_) => None,
     };
     if matches!(outcome, None | Some(Outcome::Refused(_))) {

@@ -1,8 +1,8 @@
 //! Clients that take steps at random: mostly such that fit, sometimes any.
 
 use super::ledger::Ledger;
-use super::Random;
-use gemandrolo::{Outcome, Sizes, Store};
+use super::{stepped, Random, LONGEST};
+use gemandrolo::{Outcome, Sizes, Store, MAX_PAIRS};
 
 #[derive(Clone, Copy, PartialEq)]
 enum Phase {
@@ -18,11 +18,12 @@ enum Phase {
 pub struct Taste {
     /// Keys are below this.
     pub keys: u64,
-    /// How many of 100 operations are inserts, and how many deletes.
+    /// How many of 100 operations are inserts, deletes, migrates, lists. The others read one key.
     pub inserts: u64,
     pub deletes: u64,
     pub migrates: u64,
-    /// How many of 100 steps are any step at all, a give up, or a loss.
+    pub lists: u64,
+    /// How many of 100 steps are any step at all, a give up, or a loss; and how many are lent an output of any length.
     pub noise: u64,
     /// Operations in a transaction, about.
     pub length: u64,
@@ -33,8 +34,10 @@ pub struct Player {
     pub taste: Taste,
     pub ledger: Ledger,
     pub steps: usize,
-    pub refused: [usize; 11],
+    pub refused: [usize; 13],
     pub aborted: [usize; 9],
+    /// Lent to all steps of the schedule, whole or in part.
+    pub output: Vec<u8>,
     phases: Vec<Phase>,
 }
 
@@ -45,8 +48,9 @@ impl Player {
             taste,
             ledger: Ledger::default(),
             steps: 0,
-            refused: [0; 11],
+            refused: [0; 13],
             aborted: [0; 9],
+            output: vec![0xa5; LONGEST],
             phases: vec![Phase::Idle; sizes.clients],
         }
     }
@@ -54,7 +58,19 @@ impl Player {
     /// One step, chosen at random and noted.
     pub fn play<B: AsMut<[u8]>>(&mut self, random: &mut Random, store: &mut Store<B>) -> Outcome {
         let step = self.choose(random);
-        let outcome = store.step_words(step);
+        let any = random.percent(self.taste.noise);
+        let room = if any { random.index(LONGEST) } else { LONGEST };
+        self.take(store, step, room)
+    }
+
+    /// A step that is lent so many bytes of the output, and noted.
+    pub fn take<B: AsMut<[u8]>>(
+        &mut self,
+        store: &mut Store<B>,
+        step: [u64; 6],
+        room: usize,
+    ) -> Outcome {
+        let outcome = stepped(store, &mut self.output[..room], step);
         self.note(step, outcome);
         outcome
     }
@@ -82,40 +98,45 @@ impl Player {
 
     fn operation(&self, random: &mut Random, client: u64) -> [u64; 6] {
         let (key, value) = (random.below(self.taste.keys), random.next());
-        let die = random.below(100);
-        if die < self.taste.inserts {
-            return [1, client, 1, key, value, 0];
+        let Taste {
+            inserts,
+            deletes,
+            migrates,
+            lists,
+            ..
+        } = self.taste;
+        let shares = [(1, inserts), (3, deletes), (6, migrates), (7, lists)];
+        match drawn(random, &shares) {
+            Some(1) => [1, client, 1, key, value, 0],
+            Some(6) => {
+                let [home, server] = [(); 2].map(|()| random.index(self.sizes.servers) as u64);
+                let node = 1024 * home + random.index(self.sizes.slots) as u64;
+                [1, client, 6, node, 0, server]
+            }
+            Some(7) => [1, client, 7, key, count(random), 0],
+            Some(op) => [1, client, op, key, 0, 0],
+            None => [1, client, random.pick(&[2, 4, 5]), key, 0, 0],
         }
-        if die < self.taste.inserts + self.taste.deletes {
-            return [1, client, 3, key, 0, 0];
-        }
-        if die < self.taste.inserts + self.taste.deletes + self.taste.migrates {
-            let server = random.index(self.sizes.servers) as u64;
-            let node = 1024 * random.index(self.sizes.servers) as u64
-                + random.index(self.sizes.slots) as u64;
-            return [1, client, 6, node, 0, server];
-        }
-        [1, client, random.pick(&[2, 4, 5]), key, 0, 0]
     }
 
     /// Any step: also of clients, kinds and servers that are not there.
     pub fn any(&self, random: &mut Random) -> [u64; 6] {
         let client = random.below(self.sizes.clients as u64 + 1);
         let server = random.below(self.sizes.servers as u64 + 1);
-        let kind = random.below(9);
+        let (kind, value) = (random.below(9), random.next());
         [
             kind,
             client,
-            random.below(8),
+            random.below(9),
             random.below(self.taste.keys),
-            random.next(),
+            random.pick(&[value, value % 40]),
             server,
         ]
     }
 
-    pub fn note(&mut self, step: [u64; 6], outcome: Outcome) {
+    fn note(&mut self, step: [u64; 6], outcome: Outcome) {
         self.steps += 1;
-        self.ledger.note(step, outcome);
+        self.ledger.note(step, outcome, &self.output);
         if let Outcome::Refused(refusal) = outcome {
             self.refused[refusal.number() as usize] += 1;
             return;
@@ -141,10 +162,28 @@ impl Player {
             for server in 0..self.sizes.servers {
                 if self.phases[client] == Phase::Decided {
                     let step = [5, client as u64, 0, 0, 0, server as u64];
-                    let outcome = store.step_words(step);
-                    self.note(step, outcome);
+                    self.take(store, step, 0);
                 }
             }
         }
     }
+}
+
+/// One of these by its share in 100, or none.
+fn drawn(random: &mut Random, shares: &[(u64, u64)]) -> Option<u64> {
+    let mut die = random.below(100);
+    for (one, share) in shares {
+        if die < *share {
+            return Some(*one);
+        }
+        die -= share;
+    }
+    None
+}
+
+/// How many pairs a list asks for: any number that is allowed, often the least or the most.
+fn count(random: &mut Random) -> u64 {
+    let most = MAX_PAIRS as u64;
+    let any = 1 + random.below(most);
+    random.pick(&[1, any, any, most])
 }

@@ -1,12 +1,15 @@
 //! A store brought to a point by plain steps, and what the next step comes to when a word is damaged there.
 
 use super::layout::{self, Part, Set, Within, LAST_VERSION};
-use gemandrolo::{Fetched, Operation, Outcome, Refusal, Sizes, Step, Store};
+use super::{stepped, LONGEST};
+use gemandrolo::{Fetched, Operation, Outcome, Refusal, Sizes, Step, Store, PAIR_BYTES};
 
 #[derive(Clone)]
 pub struct Stage {
     pub sizes: Sizes,
     pub memory: Vec<u8>,
+    /// What every step is lent: with room for a pair more than a list can ask for.
+    pub output: Vec<u8>,
 }
 
 /// What is due where a word is damaged. Words that are in none of these lists are not read.
@@ -15,17 +18,20 @@ pub struct Due {
     pub damaged: Vec<usize>,
     /// The step is refused by 9.
     pub unfit: Vec<usize>,
+    /// The step is refused by 12.
+    pub short: Vec<usize>,
     /// The step takes the word for what it is: a key, a value, another object's number.
     pub taken: Vec<usize>,
 }
 
 const DAMAGED: Outcome = Outcome::Refused(Refusal::Damaged);
 const UNFIT: Outcome = Outcome::Refused(Refusal::Unfit);
+const SHORT: Outcome = Outcome::Refused(Refusal::ShortOutput);
 
-/// What is due of a word: that it is taken as it is, that the step is refused by 9, by 10, or that the word is not read.
+/// What is due of a word: that it is taken as it is, that the step is refused by 9, by 12, by 10, or that the word is not read.
 const TAKEN: usize = 0;
-const JUDGED: usize = 2;
-const UNREAD: usize = 3;
+const JUDGED: usize = 3;
+const UNREAD: usize = 4;
 
 impl Stage {
     pub fn new(servers: usize, slots: usize, clients: usize) -> Stage {
@@ -38,23 +44,25 @@ impl Stage {
         Stage {
             sizes,
             memory: store.into_memory(),
+            output: vec![0xa5; LONGEST + PAIR_BYTES],
         }
     }
 
     /// The outcome of a step, which may be a refusal.
     pub fn tried(&mut self, step: Step) -> Outcome {
-        super::tried(&mut self.memory, step.words()).expect("a store")
+        super::tried(&mut self.memory, &mut self.output, step.words()).expect("a store")
     }
 
     /// A step that has to be taken.
     pub fn step(&mut self, step: Step) -> Outcome {
-        let outcome = self.store().step(step);
+        let outcome = self.taken(step.words());
         assert!(!matches!(outcome, Outcome::Refused(_)), "{step:?}");
         outcome
     }
 
-    fn store(&mut self) -> Store<&mut [u8]> {
-        Store::resume(&mut self.memory[..]).expect("a store")
+    fn taken(&mut self, step: [u64; 6]) -> Outcome {
+        let mut store = Store::resume(&mut self.memory[..]).expect("a store");
+        stepped(&mut store, &mut self.output, step)
     }
 
     /// A transaction from begin to end.
@@ -64,7 +72,7 @@ impl Stage {
         // Servers that take no part refuse.
         for kind in [4, 5] {
             for server in 0..self.sizes.servers as u64 {
-                self.store().step_words([kind, client, 0, 0, 0, server]);
+                self.taken([kind, client, 0, 0, 0, server]);
             }
         }
         let phase = self.field(client, layout::PHASE);
@@ -141,7 +149,10 @@ impl Stage {
     pub fn kinds(&self, client: u64, set: Set) -> Vec<usize> {
         let mut items = self.items(client, set);
         items.retain(|item| layout::is_node(self.word(item.number)));
-        items.iter().map(|item| item.record + layout::KIND).collect()
+        items
+            .iter()
+            .map(|item| item.record + layout::KIND)
+            .collect()
     }
 
     fn item(&self, client: u64, set: Set, object: u64) -> layout::Item {
@@ -178,33 +189,37 @@ impl Stage {
 
     // ---- damage
 
-    /// Damages each word of the memory, one at a time, by its top bit, and takes the step: it is refused by 10 or 9 where that is due and
-    /// nowhere else, for 10 also with the least number that is out of range; where the word is not read, outcome and all other bytes are
-    /// as without damage.
+    /// Damages each word of the memory, one at a time, by its top bit, and takes the step: it is refused by 10, 9 or 12 where that is due and
+    /// nowhere else, for 10 also with the least number that is out of range; where the word is not read, outcome, output and all other bytes
+    /// are as without damage.
     pub fn reads(&self, name: &str, step: Step, due: Due) {
         let mut classes = vec![UNREAD; layout::words(self.sizes)];
-        for (class, places) in [&due.taken, &due.unfit, &due.damaged].iter().enumerate() {
+        let due = [due.taken, due.unfit, due.short, due.damaged];
+        for (class, places) in due.iter().enumerate() {
             places.iter().for_each(|place| classes[*place] = class);
         }
         let mut undamaged = self.clone();
         let outcome = undamaged.step(step);
-        let mut counts = [0; 4];
+        let mut counts = [0; 5];
         let mut trial = self.clone();
         let mut found = |place, damage, class: usize| {
             layout::set_word(&mut trial.memory, place, damage);
-            let found = trial.store().step(step);
+            let found = trial.taken(step.words());
             let whose = layout::part(self.sizes, place);
             let told = || format!("{name}, {whose:?} set to {damage}");
             if class == TAKEN {
                 assert_ne!(found, DAMAGED, "{}", told());
             } else {
-                assert_eq!(found, [UNFIT, DAMAGED, outcome][class - 1], "{}", told());
+                let outcomes = [UNFIT, SHORT, DAMAGED, outcome];
+                assert_eq!(found, outcomes[class - 1], "{}", told());
                 let due = if class == UNREAD { &undamaged } else { self };
                 assert!(class == UNREAD || trial.word(place) == damage);
                 layout::set_word(&mut trial.memory, place, due.word(place));
-                assert!(trial.memory == due.memory, "{}: other bytes", told());
+                let same = trial.memory == due.memory && trial.output == due.output;
+                assert!(same, "{}: other bytes", told());
             }
             trial.memory.copy_from_slice(&self.memory);
+            trial.output.copy_from_slice(&self.output);
         };
         // The sizes in the head are for refusals 2 and 3.
         for (place, class) in classes.into_iter().enumerate().skip(3) {
@@ -214,8 +229,8 @@ impl Stage {
             }
             counts[class] += 1;
         }
-        let [taken, unfit, damaged, unread] = counts;
-        println!("{name}: {damaged} words refused by 10, {unfit} by 9, {taken} taken as they are, {unread} not read");
+        let [taken, unfit, short, damaged, unread] = counts;
+        println!("{name}: {damaged} words refused by 10, {unfit} by 9, {short} by 12, {taken} taken as they are, {unread} not read");
     }
 
     /// The least number that is out of range in a word, by what the word holds.
@@ -242,7 +257,7 @@ impl Stage {
             },
             Part::Client(_, i) if i < layout::FIELDS => match i {
                 layout::PHASE => 4,
-                layout::OP => 7,
+                layout::OP => 8,
                 layout::OP_SERVER => servers,
                 layout::PARTICIPANTS | layout::PREPARED | layout::APPLIED => {
                     self.word(place) | 1 << servers
