@@ -7,7 +7,8 @@ fn print_case(memory: &mut [u8], title: &[u8], input: &[u8])
     requires { ⌜ length (now input) ≤ 700 ⌝ }
 {
     let mut out = io::large_buffer();
-    let n = show::show_all(memory, input, &mut out);
+    let mut pairs = [0u8; 512];
+    let n = show::show_all(memory, &mut pairs, input, &mut out);
     io::write_all(1, title);
     io::write_all(1, &out[..n]);
 }

@@ -1,6 +1,6 @@
 -- What the code of the kinds is held to, a file for each file of src: the rules of `steps`, as they are worked out item by item.
 
--- the whole memory and its parts lent on; refusals 1 to 9
+-- the whole memory and its parts lent on; refusals 1 to 9 and 11
 pub mod Parts
 pub mod Refusal
 -- the objects read; refusal 10 at servers, of one item and of all, and for the client's own state

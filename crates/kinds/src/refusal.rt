@@ -1,4 +1,4 @@
-// "Steps refused": 1 to 9. "A refused step returns the first number that holds and changes no byte".
+// "Steps refused": 1 to 9 and 11. "A refused step returns the first number that holds and changes no byte".
 ghost use mathlib.Core.Path.{_≡_};
 ghost use Prim.Native.Nat.{_<_};
 ghost use lib.ListN.{length};

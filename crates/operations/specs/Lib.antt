@@ -2,7 +2,7 @@
 
 -- objects, what a plan asks for, values, reasons, writes
 pub mod Object
--- the sorted map, the six operations on it, their answers
+-- the sorted map, the seven operations on it, their answers
 pub mod Map
 -- a node as its entries, and what is looked up and changed in one
 pub mod Entry

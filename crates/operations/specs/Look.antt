@@ -79,6 +79,10 @@ next-plan key = from-leaf (one-of (above-in key)) rightward (λ f. f .post) key
 abbrev pub previous-plan : ℕ → TreePlan
 previous-plan key = from-leaf (one-of (below-in key)) leftward (λ f. f .pre) key
 
--- "up to a given count of pairs .., from the given key upward"; "It reads on as next does."
+-- "up to a given count of pairs .., from the given key upward"
+abbrev pub listing : ℕ → ℕ → Search
+listing key count = record { wanted = count; in-leaf = from-in key; answer = listed }
+
+-- "It reads on as next does."
 abbrev pub list-plan : ℕ → ℕ → TreePlan
-list-plan key count = from-leaf (record { wanted = count; in-leaf = from-in key; answer = listed }) rightward (λ f. f .post) key
+list-plan key count = from-leaf (listing key count) rightward (λ f. f .post) key

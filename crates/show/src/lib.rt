@@ -137,14 +137,21 @@ fn opened(
     }
 }
 
-// A step, and its line. What a list writes is not printed.
-fn stepped(mem: &mut [u8], out: &mut [u8], at: usize, number: u64, step: Step) -> Shown
+// A step, and its line. `pairs` is the output that is lent to all steps, for what lists write; nothing of it is printed, and what stands there afterwards
+// is left free, here and below.
+fn stepped(
+    mem: &mut [u8],
+    pairs: &mut [u8; 512],
+    out: &mut [u8],
+    at: usize,
+    number: u64,
+    step: Step,
+) -> Shown
     requires { ⌜ at + 84 ≤ length (now out) ⌝ }
     ensures { λ r. ⌜ Came (stepped number step) (now (mem .entry)) (now (out .entry)) at r (now (mem .exit)) (now (out .exit)) ⌝ }
     ensures short { λ r. ⌜ r .at ≤ at + 84 ⌝ }
 {
-    let mut pairs = [0u8; 512];
-    let line = outcome::Line::of(engine::step::step(mem, &mut pairs, step));
+    let line = outcome::Line::of(engine::step::step(mem, pairs, step));
     Shown {
         show: Show::line(STEPS, std::num::wrapping_add_u64(number, 1)),
         at: print::put_step(out, at, number, line.outcome, line.a, line.b),
@@ -165,7 +172,14 @@ fn first_line(mem: &mut [u8], out: &mut [u8], at: usize, line: Line) -> Shown
 }
 
 // A line where a step was awaited.
-fn later_line(mem: &mut [u8], out: &mut [u8], at: usize, number: u64, line: Line) -> Shown
+fn later_line(
+    mem: &mut [u8],
+    pairs: &mut [u8; 512],
+    out: &mut [u8],
+    at: usize,
+    number: u64,
+    line: Line,
+) -> Shown
     requires { ⌜ at + 84 ≤ length (now out) ⌝ }
     ensures { λ r. ⌜ Came (later-line number line) (now (mem .entry)) (now (out .entry)) at r (now (mem .exit)) (now (out .exit)) ⌝ }
     ensures short { λ r. ⌜ r .at ≤ at + 84 ⌝ }
@@ -180,7 +194,7 @@ fn later_line(mem: &mut [u8], out: &mut [u8], at: usize, number: u64, line: Line
                 value,
                 server,
             };
-            stepped(mem, out, at, number, step)
+            stepped(mem, pairs, out, at, number, step)
         }
         Line::Sizes(_, _, _) => bad(out, at),
         Line::Bad => bad(out, at),
@@ -188,7 +202,7 @@ fn later_line(mem: &mut [u8], out: &mut [u8], at: usize, number: u64, line: Line
 }
 
 // A line has ended.
-fn ended(mem: &mut [u8], out: &mut [u8], at: usize, show: Show) -> Shown
+fn ended(mem: &mut [u8], pairs: &mut [u8; 512], out: &mut [u8], at: usize, show: Show) -> Shown
     requires { ⌜ at + 84 ≤ length (now out) ⌝ }
     ensures { λ r. ⌜ Came (line-ended show) (now (mem .entry)) (now (out .entry)) at r (now (mem .exit)) (now (out .exit)) ⌝ }
     ensures short { λ r. ⌜ r .at ≤ at + 84 ⌝ }
@@ -198,11 +212,18 @@ fn ended(mem: &mut [u8], out: &mut [u8], at: usize, show: Show) -> Shown
     if show.stage == SIZES {
         return first_line(mem, out, at, line);
     }
-    later_line(mem, out, at, show.step, line)
+    later_line(mem, pairs, out, at, show.step, line)
 }
 
 // One byte of the input: a newline ends the line.
-fn byte(mem: &mut [u8], out: &mut [u8], at: usize, show: Show, byte: u8) -> Shown
+fn byte(
+    mem: &mut [u8],
+    pairs: &mut [u8; 512],
+    out: &mut [u8],
+    at: usize,
+    show: Show,
+    byte: u8,
+) -> Shown
     requires { ⌜ at + 84 ≤ length (now out) ⌝ }
     ensures { λ r. ⌜ Came (next-byte show byte) (now (mem .entry)) (now (out .entry)) at r (now (mem .exit)) (now (out .exit)) ⌝ }
     ensures short { λ r. ⌜ r .at ≤ at + 84 ⌝ }
@@ -211,7 +232,7 @@ fn byte(mem: &mut [u8], out: &mut [u8], at: usize, show: Show, byte: u8) -> Show
         return Shown { show, at };
     }
     if byte == 10 {
-        return ended(mem, out, at, show);
+        return ended(mem, pairs, out, at, show);
     }
     Shown {
         show: show.byte(byte),
@@ -220,7 +241,13 @@ fn byte(mem: &mut [u8], out: &mut [u8], at: usize, show: Show, byte: u8) -> Show
 }
 
 // Some bytes of the input, in a buffer that holds what each may print.
-pub fn feed(mem: &mut [u8], input: &[u8], out: &mut [u8], show: Show) -> Shown
+pub fn feed(
+    mem: &mut [u8],
+    pairs: &mut [u8; 512],
+    input: &[u8],
+    out: &mut [u8],
+    show: Show,
+) -> Shown
     requires { ⌜ 84 * length (now input) ≤ length (now out) ⌝ }
     ensures { λ r. ⌜ Came (fed show (now (input .entry))) (now (mem .entry)) (now (out .entry)) 0 r (now (mem .exit)) (now (out .exit)) ⌝ }
     ensures short { λ r. ⌜ r .at ≤ 84 * length (now (input .entry)) ⌝ }
@@ -230,14 +257,14 @@ pub fn feed(mem: &mut [u8], input: &[u8], out: &mut [u8], show: Show) -> Shown
     while i < input.len() {
         let at = shown.at;
         let state = shown.show;
-        shown = byte(mem, out, at, state, input[i]);
+        shown = byte(mem, pairs, out, at, state, input[i]);
         i += 1;
     }
     shown
 }
 
 // The end of the input: a last line without a newline counts, and an empty input is bad.
-pub fn finish(mem: &mut [u8], out: &mut [u8], at: usize, show: Show) -> Shown
+pub fn finish(mem: &mut [u8], pairs: &mut [u8; 512], out: &mut [u8], at: usize, show: Show) -> Shown
     requires { ⌜ at + 84 ≤ length (now out) ⌝ }
     ensures { λ r. ⌜ Came (finished show) (now (mem .entry)) (now (out .entry)) at r (now (mem .exit)) (now (out .exit)) ⌝ }
     ensures short { λ r. ⌜ r .at ≤ at + 84 ⌝ }
@@ -248,7 +275,7 @@ pub fn finish(mem: &mut [u8], out: &mut [u8], at: usize, show: Show) -> Shown
     if show.begun {
         return Shown {
             show: Show::ended(),
-            at: ended(mem, out, at, show).at,
+            at: ended(mem, pairs, out, at, show).at,
         };
     }
     if show.stage == SIZES {
@@ -268,7 +295,7 @@ pub fn fresh() -> [u8; 4202624]
 }
 
 // The next bytes of a file, or its end.
-pub fn turn(mem: &mut [u8], file: i32, out: &mut [u8], show: Show) -> Shown
+pub fn turn(mem: &mut [u8], pairs: &mut [u8; 512], file: i32, out: &mut [u8], show: Show) -> Shown
     requires { ⌜ 43008 ≤ length (now out) ⌝ }
     ensures { λ r. ⌜ Reads-on 512 show (now (mem .entry)) (now (out .entry)) r (now (mem .exit)) (now (out .exit)) ⌝ }
     ensures counts { λ r. ⌜ Counts (r .at) (now (out .exit)) ⌝ }
@@ -276,9 +303,9 @@ pub fn turn(mem: &mut [u8], file: i32, out: &mut [u8], show: Show) -> Shown
     let mut bytes = [0u8; 512];
     let n = io::count(libc::read(file, &mut bytes), &bytes);
     if n == 0 {
-        return finish(mem, out, 0, show);
+        return finish(mem, pairs, out, 0, show);
     }
-    feed(mem, &bytes[..n], out, show)
+    feed(mem, pairs, &bytes[..n], out, show)
 }
 
 pub fn is_ended(show: Show) -> bool
@@ -288,13 +315,13 @@ pub fn is_ended(show: Show) -> bool
 }
 
 // A whole input.
-pub fn show_all(mem: &mut [u8], input: &[u8], out: &mut [u8]) -> usize
+pub fn show_all(mem: &mut [u8], pairs: &mut [u8; 512], input: &[u8], out: &mut [u8]) -> usize
     requires { ⌜ 84 * length (now input) + 84 ≤ length (now out) ⌝ }
     ensures { λ r. ⌜ Printed (now (out .entry)) 0 (shown-in (now (mem .entry)) (now (input .entry)) .printed) (now (out .exit)) r ⌝ }
     ensures words { λ _. ⌜ view (now (mem .exit)) ≡ shown-in (now (mem .entry)) (now (input .entry)) .words ⌝ }
     ensures counts { λ r. ⌜ Counts r (now (out .exit)) ⌝ }
 {
-    let fed = feed(mem, input, out, Show::start());
+    let fed = feed(mem, pairs, input, out, Show::start());
     let at = fed.at;
-    finish(mem, out, at, fed.show).at
+    finish(mem, pairs, out, at, fed.show).at
 }

@@ -13,9 +13,9 @@ fn comes_next(file: i32, printed: &[u8], part: &mut [u8]) -> bool {
     check::same(printed, &part[..got])
 }
 
-fn turn(memory: &mut [u8], input: i32, expected: i32, run: Run) -> Run {
+fn turn(memory: &mut [u8], pairs: &mut [u8; 512], input: i32, expected: i32, run: Run) -> Run {
     let mut out = io::large_buffer();
-    let shown = show::turn(memory, input, &mut out, run.show);
+    let shown = show::turn(memory, pairs, input, &mut out, run.show);
     let n = shown.at;
     let mut room = io::large_buffer();
     let as_expected = comes_next(expected, &out[..n], &mut room[..n]);
@@ -32,7 +32,7 @@ fn at_end(file: i32) -> bool {
 }
 
 // The turns are counted, so that the loop ends.
-fn agrees(memory: &mut [u8], input: i32, expected: i32) -> bool {
+fn agrees(memory: &mut [u8], pairs: &mut [u8; 512], input: i32, expected: i32) -> bool {
     let mut run = Run {
         show: Show::start(),
         agrees: true,
@@ -42,7 +42,7 @@ fn agrees(memory: &mut [u8], input: i32, expected: i32) -> bool {
         if show::is_ended(run.show) {
             return run.agrees && at_end(expected);
         }
-        run = turn(memory, input, expected, run);
+        run = turn(memory, pairs, input, expected, run);
         turns -= 1;
     }
     false
@@ -68,21 +68,21 @@ fn print_line(argument: usize, is_right: bool) {
 }
 
 // Whether the two files could be opened and agree.
-fn both(memory: &mut [u8], input: i32, expected: i32) -> bool {
+fn both(memory: &mut [u8], pairs: &mut [u8; 512], input: i32, expected: i32) -> bool {
     if input < 0 {
         return false;
     }
     if expected < 0 {
         return false;
     }
-    agrees(memory, input, expected)
+    agrees(memory, pairs, input, expected)
 }
 
 // One schedule, and its line; 1 if it agrees.
-fn one(memory: &mut [u8], argument: usize) -> u64 {
+fn one(memory: &mut [u8], pairs: &mut [u8; 512], argument: usize) -> u64 {
     let input = open(argument);
     let expected = open(std::num::wrapping_add_usize(argument, 1));
-    let is_right = both(memory, input, expected);
+    let is_right = both(memory, pairs, input, expected);
     libc::close(input);
     libc::close(expected);
     print_line(argument, is_right);
@@ -90,12 +90,12 @@ fn one(memory: &mut [u8], argument: usize) -> u64 {
 }
 
 // All schedules; how many agree.
-fn all(memory: &mut [u8], count: usize) -> u64 {
+fn all(memory: &mut [u8], pairs: &mut [u8; 512], count: usize) -> u64 {
     let mut right: u64 = 0;
     let mut i: usize = 0;
     while i < count {
         let argument = std::num::wrapping_add_usize(std::num::wrapping_add_usize(i, i), 1);
-        right = std::num::wrapping_add_u64(right, one(memory, argument));
+        right = std::num::wrapping_add_u64(right, one(memory, pairs, argument));
         i += 1;
     }
     right
@@ -104,7 +104,8 @@ fn all(memory: &mut [u8], count: usize) -> u64 {
 fn main() {
     let mut memory = show::fresh();
     let count = os::arg_count() / 2;
-    let right = all(&mut memory, count);
+    let mut pairs = [0u8; 512];
+    let right = all(&mut memory, &mut pairs, count);
     io::print_decimal(1, right);
     io::write_all(1, b" of ");
     io::print_decimal(1, count as u64);

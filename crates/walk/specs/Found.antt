@@ -19,7 +19,8 @@ use Rattle.walk.specs.Entries.{opens}
 use Rattle.walk.specs.Ask.{SmallNode}
 use Rattle.client.specs.Bounds.{most-listed}
 
--- ---- the pairs found, in a lent list: their number, then the key and the value of each
+-- ---- the pairs found, in a lent list: their number, then the key and the value of each. What lies behind them is free: anything may stand there, and
+-- nobody reads it
 unfoldable pub pair-in : List ℕ → ℕ → ℕ × ℕ
 pair-in f i = (getD f (2 * i + 1) 0, getD f (2 * i + 2) 0)
 

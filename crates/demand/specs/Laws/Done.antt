@@ -106,7 +106,7 @@ module _ (z : Sizes) (m : Address → ℕ) (n : Step) (five : n .kind ≡ 5) whe
   unfolding kind-of
   kind-is = rw five
 
-  -- what comes of it where refusals 4 to 9 don't hold
+  -- what comes of it where refusals 4 to 9 and 11 don't hold
   abbrev judged : Did
   judged = if-fit (apply-fits z m (n .client) (n .server)) done
 

@@ -218,7 +218,7 @@ module _ (z : Sizes) (k : Step) (i : Kind) (w : List ℕ) where
 
 pub ruleset known-exits = (is-sited, no-client, asked-first, state-unfit, state-fit)
 
--- ---- 4 to 9: the table is what its kinds ask
+-- ---- 4 to 9 and 11: the table is what its kinds ask
 -- the table's rows 6, 11, 7 and 8 of a give, then x
 abbrev rows : (o : ℕ) (s d c : Bool) (x : ℕ) → ℕ
 rows o s d c x = cond (not (between 1 7 o)) 6 (cond (eqb o 7 && not c) 11 (cond ((eqb o 6 || false) && s) 7 (cond (eqb o 6 && not d) 8 x)))

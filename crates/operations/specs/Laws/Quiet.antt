@@ -7,9 +7,9 @@ use lib.ListN.{length, take}
 use mathlib.Core.Option.{Option, none, some}
 use Rattle.plans.specs.Walk.{Every}
 use Rattle.operations.specs.Map.{said, listed}
-use Rattle.operations.specs.Entry.{Entries, value-in, above-in, below-in, from-in}
+use Rattle.operations.specs.Entry.{Entries, value-in, above-in, below-in}
 use Rattle.operations.specs.Path.{Branch}
-use Rattle.operations.specs.Look.{Search, Onward, told, enough, Visit, rightward, leftward, seek, seek-up, from-leaf, nearest, one-of, lookup-plan, next-plan, previous-plan, list-plan}
+use Rattle.operations.specs.Look.{Search, Onward, told, enough, Visit, rightward, leftward, seek, seek-up, from-leaf, nearest, one-of, lookup-plan, next-plan, previous-plan, list-plan, listing}
 use Rattle.operations.specs.Laws.Storable.{Scope, Children, Ok, kid-ok, Branched, Path, leaf-ok}
 use Rattle.plans.specs.Plan as P
 
@@ -77,4 +77,4 @@ module _ (T : Scope) where
   previous-quiet key a = from-leaf-ok (one-of (below-in key)) (nearest-answers a) leftward left-ok (λ f. f .pre) (λ f b z. b .1 z .before) key
 
   pub list-quiet : (key n : ℕ) → ((l : Entries) → T .A (listed l)) → Ok T (list-plan key n)
-  list-quiet key n a = from-leaf-ok (record { wanted = n; in-leaf = from-in key; answer = listed }) a rightward right-ok (λ f. f .post) (λ f b z. b .1 z .after) key
+  list-quiet key n a = from-leaf-ok (listing key n) a rightward right-ok (λ f. f .post) (λ f b z. b .1 z .after) key

@@ -10,8 +10,8 @@ use lib.Seq.{take-append-le}
 use borrow.Author.Tests.{leb-true}
 use Rattle.operations.specs.Object.{Obj, node, Val, Ans, Writes}
 use Rattle.operations.specs.Map.{Map, look, above, below, upward, said, listed, two-to-64}
-use Rattle.operations.specs.Entry.{Entries, keys, first-key-or, value-in, above-in, below-in, from-in}
-use Rattle.operations.specs.Look.{lookup-plan, Search, Onward, told, enough, Visit, rightward, leftward, seek, seek-up, from-leaf, one-of, next-plan, previous-plan, list-plan}
+use Rattle.operations.specs.Entry.{Entries, keys, first-key-or, value-in, above-in, below-in}
+use Rattle.operations.specs.Look.{lookup-plan, Search, Onward, told, enough, Visit, rightward, leftward, seek, seek-up, from-leaf, one-of, next-plan, previous-plan, list-plan, listing}
 use Rattle.operations.specs.Laws.Chain.{Rising, chain-rising}
 use Rattle.operations.specs.Chain.{Chain, gather, ren}
 use Rattle.operations.specs.Laws.Picked.{picked, picked-app, picked-back, above-nearest, below-nearest, upward-is}
@@ -149,4 +149,4 @@ module _ (F : Terms) (M : Obj → Val) (m : Map) (key : ℕ) (small : key < two-
 
   pub list-ok : (n : ℕ) → Ok F (Ends M m (listed (take n (upward key m)))) M (list-plan key n)
   list-ok n = subst (λ l. Ok F (Ends M m (listed (take n l))) M (list-plan key n)) (sym (upward-is key m))
-      (right-ok (decLe key) (record { wanted = n; in-leaf = from-in key; answer = listed }) (drop-is key) (λ x h p. omega (arith, h, p)))
+      (right-ok (decLe key) (listing key n) (drop-is key) (λ x h p. omega (arith, h, p)))

@@ -8,12 +8,12 @@ use Rattle.show.proofs.feed.Statement.{statement}
 use Rattle.show.proofs.feed.Tie as tie
 
 abbrev Inv-loop : tie.InvT-loop
-Inv-loop mem₀ input out₀ shown₀ i₀ mem out shown i =
+Inv-loop mem₀ pairs₀ input out₀ shown₀ i₀ mem pairs out shown i =
     (i ≤ length input) × (shown .at ≤ 84 * i) × (length out ≡ length out₀) × (length mem ≡ length mem₀)
     × Came (fed (shown₀ .show) (take i input)) mem₀ out₀ 0 shown mem out
 
 abbrev μ-loop : tie.MeasureT-loop
-μ-loop mem₀ input out₀ shown₀ i₀ mem out shown i = length input - i
+μ-loop mem₀ pairs₀ input out₀ shown₀ i₀ mem pairs out shown i = length input - i
 
 pub feed-spec : {M : Type 1} → statement M
 feed-spec =

@@ -16,11 +16,11 @@ show-all-spec =
     (λ c. search needs)
     (λ c.
     let ended = c .before .before .before .before in
-    let started = ended .before .before .before .before .before .before .before in
-    let begun = started .before .before .before .before .before .before .before in
+    let started = ended .before .before .before .before .before .before .before .before in
+    let begun = started .before .before .before .before .before .before .before .before in
     let fed = started .feed .ensures .0 in
     let finished = ended .finish .ensures .0 in
-    let small = begun .good .1 .0 .0 in (
+    let small = begun .good .1 .1 .0 .0 in (
       all-printed _ _ _ _ _ _ _ _ _ _ (search needs) (search needs) fed finished small,
       (all-words _ _ _ _ _ _ _ _ _ _ (search needs) (search needs) fed finished small, counts _ _ (omega arith)),
     )))

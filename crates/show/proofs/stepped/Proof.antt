@@ -5,7 +5,6 @@ use Rattle.show.proofs.stepped.Tie as tie
 
 pub stepped-spec : {M : Type 1} → statement M
 stepped-spec = tie.close (tie.spec
-    (λ c. search needs)  -- slice-aggregate-step
     (λ c κs. search needs)  -- step-requires
     (λ c κs. search needs)  -- of-requires
     (λ c κs. search needs)  -- wrapping-add-u64-requires

@@ -101,11 +101,14 @@ module _ (m out : List ℕ) (at : ℕ) (m′ out′ : List ℕ) where
     is-too-large x n k a p = came-to _ (progress ended bad-line (view m)) (rw (← q, ne-eqb r 0 n, ne-eqb r 2 k)) x a p (words-stay n)
 
   -- ---- a step
-  pub is-stepped : (n : ℕ) (k : step.Step) (o : Outcome) (l : Line) (n′ e : ℕ) (s : Show) → o ≡ outcome-of (length m) (view m) 512 k → l ≡ line o → n′ ≡ (n + 1) % 2 ^ 64
-      → s ≡ awaits 1 n′ → Printed out at (step-line n (l .outcome) (l .a) (l .b)) out′ e → view m′ ≡ words-after (length m) (view m) 512 k
+  pub is-stepped : (n : ℕ) (k : step.Step) (pairs : List ℕ) (o : Outcome) (l : Line) (n′ e : ℕ) (s : Show) → length pairs ≡ 512
+      → o ≡ outcome-of (length m) (view m) (length pairs) k → l ≡ line o → n′ ≡ (n + 1) % 2 ^ 64 → s ≡ awaits 1 n′
+      → Printed out at (step-line n (l .outcome) (l .a) (l .b)) out′ e → view m′ ≡ words-after (length m) (view m) (length pairs) k
       → Came (stepped n k) m out at (record { show = s; at = e }) m′ out′
   unfolding stepped
-  is-stepped n k o l n′ e s qo ql qn qs p w = record { state = rw (← qn) qs; printed = rw (← qo, ← ql) p; words = w }
+  is-stepped n k pairs o l n′ e s ql qo qi qn qs p w =
+      let v : o ≡ outcome-of (length m) (view m) 512 k = rw ql at qo in
+      record { state = rw (← qn) qs; printed = rw (← v, ← qi) p; words = rw ql at w }
 
   -- ---- what a line says
   module _ (l : said.Line) (x : Shown) where

@@ -5,10 +5,10 @@ use Rattle.stepshow.proofs.run.Statement.{statement}
 use Rattle.stepshow.proofs.run.Tie as tie
 
 abbrev Inv-loop : tie.InvT-loop
-Inv-loop memory₀ show₀ turns₀ memory show turns = length memory ≡ length memory₀
+Inv-loop memory₀ pairs₀ show₀ turns₀ memory pairs show turns = length memory ≡ length memory₀
 
 abbrev μ-loop : tie.MeasureT-loop
-μ-loop memory₀ show₀ turns₀ memory show turns = turns
+μ-loop memory₀ pairs₀ show₀ turns₀ memory pairs show turns = turns
 
 pub run-spec : {M : Type 1} → statement M
 run-spec =

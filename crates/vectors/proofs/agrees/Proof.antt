@@ -5,10 +5,10 @@ use Rattle.vectors.proofs.agrees.Statement.{statement}
 use Rattle.vectors.proofs.agrees.Tie as tie
 
 abbrev Inv-loop : tie.InvT-loop
-Inv-loop memory₀ input expected run₀ turns₀ memory run turns = length memory ≡ length memory₀
+Inv-loop memory₀ pairs₀ input expected run₀ turns₀ memory pairs run turns = length memory ≡ length memory₀
 
 abbrev μ-loop : tie.MeasureT-loop
-μ-loop memory₀ input expected run₀ turns₀ memory run turns = turns
+μ-loop memory₀ pairs₀ input expected run₀ turns₀ memory pairs run turns = turns
 
 pub agrees-spec : {M : Type 1} → statement M
 agrees-spec =

@@ -6,10 +6,10 @@ use Rattle.vectors.proofs.all.Statement.{statement}
 use Rattle.vectors.proofs.all.Tie as tie
 
 abbrev Inv-loop : tie.InvT-loop
-Inv-loop memory₀ count right₀ i₀ memory right i = (i ≤ count) × (length memory ≡ length memory₀)
+Inv-loop memory₀ pairs₀ count right₀ i₀ memory pairs right i = (i ≤ count) × (length memory ≡ length memory₀)
 
 abbrev μ-loop : tie.MeasureT-loop
-μ-loop memory₀ count right₀ i₀ memory right i = count - i
+μ-loop memory₀ pairs₀ count right₀ i₀ memory pairs right i = count - i
 
 pub all-spec : {M : Type 1} → statement M
 all-spec =
