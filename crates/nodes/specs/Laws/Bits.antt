@@ -4,7 +4,7 @@ use mathlib.Core.Bool.{Bool, true, false, not}
 use mathlib.Core.List.{List, [], _∷_, _++_, map}
 use mathlib.Core.Option.{Option, none, some}
 use Prim.Native.Nat.{ℕ, zero, suc, _+_, _-_, _*_, _/_, _%_, _^_, _≤_, _<_}
-use native.Mathlib.Nat.{pow-suc, zero-add, suc-add, mul-suc}
+use native.Mathlib.Nat.{pow-suc, zero-add, suc-add, mul-suc, le-of-suc-le-suc}
 use native.Mathlib.Numerals.{one-add}
 use native.Mathlib.Decide.{decLt}
 use native.Mathlib.Omega.{arith}
@@ -12,7 +12,6 @@ use lib.Bits.{bitAnd, and-shr, and-mod}
 use lib.Count.{trailingZeros, under}
 use lib.Dec.{eqb}
 use lib.ListN.{length, take, drop, getD, set, replicate, length-append, length-take, List·getD-append}
-use lib.Pow.{pow-pos}
 use lib.Seq.{drop-append-le, drop-append-add, drop-at, set-append-left, getD-append-add, take-set-lt, take-set-le, set-out, getD-take, length-take-le}
 use Rattle.memory.specs.Bit.{bit, digit, putBit}
 use Rattle.nodes.specs.Vector.{lowest-free, shifted}
@@ -51,27 +50,40 @@ no-digit zero h = refl
 no-digit (suc zero) h = refl
 no-digit (suc (suc d)) h = absurd (omega arith)
 
+-- a word of one bit more: n stands for 2 ^ k, so that what is left is linear
+half-complement : (n x : ℕ) → x < n * 2 → (n * 2 - 1 - x) / 2 ≡ n - 1 - x / 2
+half-complement n x h = omega arith
+
+last-complement : (n x : ℕ) → x < n * 2 → (n * 2 - 1 - x) % 2 ≡ 1 - x % 2
+last-complement n x h = omega arith
+
+half-ones : (n : ℕ) → (n * 2 - 1) / 2 ≡ n - 1
+half-ones n = omega arith
+
+last-ones : (n x : ℕ) → x < n * 2 → (n * 2 - 1) % 2 ≡ 1
+last-ones n x h = omega arith
+
+half-mask : (n m : ℕ) → (n * 2 - m * 2) / 2 ≡ n - m
+half-mask n m = omega arith
+
+last-mask : (n m : ℕ) → (n * 2 - m * 2) % 2 ≡ 0
+last-mask n m = omega arith
+
+half-below : (n x : ℕ) → x < n * 2 → x / 2 < n
+half-below n x h = omega arith
+
 pub masked-bits : (k p x : ℕ) → p ≤ k → x < 2 ^ k → map not (bits k (bitAnd (2 ^ k - 1 - x) (2 ^ k - 2 ^ p))) ≡ replicate p true ++ drop p (bits k x)
 unfolding bits
 masked-bits zero zero x h g = refl
 masked-bits zero (suc p) x h g = absurd (omega arith)
 masked-bits (suc k) zero x h g =
-    let e : 2 ^ suc k ≡ 2 ^ k * 2 = pow-suc 2 k in
-    let o : 0 < 2 ^ k = pow-pos k in
-    let a : (2 ^ suc k - 1 - x) / 2 ≡ 2 ^ k - 1 - x / 2 = omega arith in
-    let b : (2 ^ suc k - 2 ^ 0) / 2 ≡ 2 ^ k - 2 ^ 0 = omega arith in
-    let c : (2 ^ suc k - 1 - x) % 2 ≡ 1 - x % 2 = omega arith in
-    let d : (2 ^ suc k - 2 ^ 0) % 2 ≡ 1 = omega arith in
-    rw (and-mod (2 ^ suc k - 1 - x) (2 ^ suc k - 2 ^ 0) 1, and-shr (2 ^ suc k - 1 - x) (2 ^ suc k - 2 ^ 0) 1, a, b, c, d, not-digit (x % 2) (omega arith))
-    (ap (λ (l : List Bool). eqb (x % 2) 1 ∷ l) (masked-bits k 0 (x / 2) (omega arith) (omega arith)))
+    let lt : x < 2 ^ k * 2 = subst (λ (n : ℕ). x < n) (pow-suc 2 k) g in
+    rw (pow-suc 2 k, and-mod (2 ^ k * 2 - 1 - x) (2 ^ k * 2 - 1) 1, and-shr (2 ^ k * 2 - 1 - x) (2 ^ k * 2 - 1) 1, half-complement (2 ^ k) x lt, half-ones (2 ^ k), last-complement (2 ^ k) x lt, last-ones (2 ^ k) x lt, not-digit (x % 2) (omega arith))
+    (ap (λ (l : List Bool). eqb (x % 2) 1 ∷ l) (masked-bits k 0 (x / 2) (omega arith) (half-below (2 ^ k) x lt)))
 masked-bits (suc k) (suc p) x h g =
-    let e : 2 ^ suc k ≡ 2 ^ k * 2 = pow-suc 2 k in
-    let f : 2 ^ suc p ≡ 2 ^ p * 2 = pow-suc 2 p in
-    let a : (2 ^ suc k - 1 - x) / 2 ≡ 2 ^ k - 1 - x / 2 = omega arith in
-    let b : (2 ^ suc k - 2 ^ suc p) / 2 ≡ 2 ^ k - 2 ^ p = omega arith in
-    let d : (2 ^ suc k - 2 ^ suc p) % 2 ≡ 0 = omega arith in
-    rw (and-mod (2 ^ suc k - 1 - x) (2 ^ suc k - 2 ^ suc p) 1, and-shr (2 ^ suc k - 1 - x) (2 ^ suc k - 2 ^ suc p) 1, a, b, d, no-digit ((2 ^ suc k - 1 - x) % 2) (omega arith))
-    (ap (λ (l : List Bool). true ∷ l) (masked-bits k p (x / 2) (omega arith) (omega arith)))
+    let lt : x < 2 ^ k * 2 = subst (λ (n : ℕ). x < n) (pow-suc 2 k) g in
+    rw (pow-suc 2 k, pow-suc 2 p, and-mod (2 ^ k * 2 - 1 - x) (2 ^ k * 2 - 2 ^ p * 2) 1, and-shr (2 ^ k * 2 - 1 - x) (2 ^ k * 2 - 2 ^ p * 2) 1, half-complement (2 ^ k) x lt, half-mask (2 ^ k) (2 ^ p), last-mask (2 ^ k) (2 ^ p), no-digit ((2 ^ k * 2 - 1 - x) % 2) (omega arith))
+    (ap (λ (l : List Bool). true ∷ l) (masked-bits k p (x / 2) (le-of-suc-le-suc h) (half-below (2 ^ k) x lt)))
 
 -- ---- one bit read or replaced
 pub bits-at : (n p x : ℕ) (d : Bool) → p < n → getD (bits n x) p d ≡ bit x p
