@@ -5,8 +5,9 @@ use mathlib.Core.Option.{Option, none, some}
 use mathlib.Core.Path.{_≡_}
 use Prim.Native.Nat.{ℕ, _+_, _/_, _%_, _≤_}
 use lib.Dec.{eqb, ltb, leb}
+use Rattle.base.specs.Test.{one-if}
 use Rattle.memory.specs.Word.{view}
-use Rattle.memory.specs.Bit.{bit, digit}
+use Rattle.memory.specs.Bit.{bit}
 use Rattle.nodes.specs.declared.node.Node.{Node}
 use Rattle.nodes.specs.declared.found.Found.{Found}
 use Rattle.nodes.specs.declared.found.Found.the-variants.{At, Absent}
@@ -89,7 +90,7 @@ module _ (m : ClientWord → ℕ) where
   copied-flag n =
       let i = slot-of n in
       cond (eqb (m (vector-word (server-of n) 0)) 0) lacking
-      (copy (single 0 (digit (bit (m (vector-word (server-of n) (1 + i / 64))) (i % 64)))))
+      (copy (single 0 (one-if (bit (m (vector-word (server-of n) (1 + i / 64))) (i % 64)))))
 
   -- the copy of the object with the number x
   unfoldable pub copied : ℕ → Look

@@ -4,10 +4,10 @@ use mathlib.Core.List.{List, [], _∷_}
 use Prim.Native.Nat.{ℕ, _+_, _-_}
 use lib.Dec.{eqb, leb, ltb}
 use lib.ListN.{getD}
+use Rattle.base.specs.Test.{one-if}
 use Rattle.nodes.specs.declared.node.Node.{Node}
-use Rattle.nodes.specs.Name.{server-of, slot-of}
+use Rattle.nodes.specs.Name.{server-of, slot-of, name-in-store}
 use Rattle.nodes.specs.Node.{keysOf, slotsOf, made}
-use Rattle.nodes.specs.Place.{one-if}
 use Rattle.nodes.specs.Range.{node-in-range}
 use Rattle.operations.specs.Object.{Obj, meta, node, flag, Val, root, body, taken, flags}
 use Rattle.operations.specs.Slot.{TreeSizes}
@@ -50,8 +50,8 @@ abbrev pub sizes : ℕ → ℕ → TreeSizes
 sizes servers slots = record { servers = servers; slots = slots }
 
 -- a name that the store has
-unfoldable pub in-store : TreeSizes → ℕ → Bool
-in-store z n = ltb (server-of n) (z .servers) && ltb (slot-of n) (z .slots)
+abbrev pub in-store : TreeSizes → ℕ → Bool
+in-store z n = name-in-store (z .servers) (z .slots) n
 
 -- an object that the store has
 abbrev pub object-in-store : TreeSizes → Obj → Bool

@@ -37,9 +37,9 @@ use crate::part::item_word;
 use crate::part::number_at;
 use crate::part::record_at;
 use crate::part::vector_word;
-use crate::range::in_store;
 use crate::range::whole_fits;
 use nodes::name::Name;
+use nodes::name::in_store;
 
 // The set of servers in a field has servers of the store only.
 fn servers_fit(part: &[u8], servers: usize, i: usize) -> bool

@@ -1,10 +1,10 @@
 // Records of objects, and which of them are out of range.
 use crate::part::LAST_NODE_NUMBER;
-use nodes::name::Name;
+use nodes::name::in_store;
 use nodes::node::Node;
 ghost use mathlib.Core.Path.{_≡_};
 ghost use Prim.Native.Nat.{_≤_};
-ghost use Rattle.client.specs.Record.{single, in-store, record-in-range, children-there, node-fits, whole-in-range, kind-in-range, sizes};
+ghost use Rattle.client.specs.Record.{single, record-in-range, children-there, node-fits, whole-in-range, kind-in-range, sizes};
 ghost use Rattle.client.specs.Bounds.{most-keys};
 
 // A record of the metadata or a flag: its value stands in the first slot.
@@ -21,17 +21,6 @@ pub fn single(version: u64, value: u64) -> Node
         keys: [0; 14],
         slots,
     }
-}
-
-// Is there a node of that name in a store of these sizes?
-pub fn in_store(servers: usize, slots: usize, name: u64) -> bool
-    ensures { λ r. ⌜ r ≡ in-store (sizes servers slots) name ⌝ }
-{
-    let node = Name { number: name };
-    if node.server() as usize >= servers {
-        return false;
-    }
-    (node.slot() as usize) < slots
 }
 
 // May the record of the object with that number be used?

@@ -1,17 +1,16 @@
 -- Opening: the words of a new store.
 use mathlib.Core.Bool.{cond}
-use mathlib.Core.List.{List, _∷_}
+use mathlib.Core.List.{List}
 use Prim.Native.Nat.{ℕ, zero, suc}
 use lib.Dec.{eqb}
 use lib.ListN.{set, replicate}
 use lib.Seq.{sets}
-use Rattle.layout.specs.Space.{Put, put, stored}
-use Rattle.layout.specs.Part.{over}
-use Rattle.server.specs.Fresh.{first-leaf}
+use Rattle.layout.specs.Space.{stored}
 use Rattle.steps.specs.declared.sizes.Sizes.{Sizes}
 use Rattle.engine.specs.declared.open.Opening.{Opening}
 use Rattle.engine.specs.declared.open.Opening.the-variants.{Accepted, Refused}
-use Rattle.steps.specs.Whole.{Address, head, server, whole, block, words-for}
+use Rattle.steps.specs.Whole.{whole, block, words-for}
+use Rattle.steps.specs.Run.{first-stores}
 use Rattle.steps.specs.Refusal.{open-refusal}
 
 -- the refusal's number, if there is one
@@ -19,10 +18,7 @@ unfoldable pub opening : ℕ → Opening
 opening zero = Accepted
 opening (suc n) = Refused (suc n)
 
--- the sizes in the head, and the first leaf
-abbrev pub first-stores : Sizes → List (Put Address)
-first-stores z = put (head 0) (z .servers) ∷ put (head 1) (z .slots) ∷ put (head 2) (z .clients) ∷ over (server 0) (first-leaf 0)
-
+-- "a 64-byte head holding the three sizes": the words with them
 unfoldable pub with-head : Sizes → List ℕ → List ℕ
 with-head z w = set (set (set w 0 (z .servers)) 1 (z .slots)) 2 (z .clients)
 

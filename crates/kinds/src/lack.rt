@@ -39,7 +39,7 @@ fn meta_fits(mem: &[u8], sizes: Sizes, server: usize) -> bool
     ensures { λ r. ⌜ r ≡ metadata-sound (sizes .servers) (sizes .slots) (of-server sizes (view (now (mem .entry))) server) ⌝ }
 {
     let at = 8 * server_at(sizes, server);
-    metadata_is_sound(&mem[at..], sizes.servers as u64, sizes.slots)
+    metadata_is_sound(&mem[at..], sizes.servers, sizes.slots)
 }
 
 fn meta_of(mem: &[u8], sizes: Sizes, server: usize) -> Metadata

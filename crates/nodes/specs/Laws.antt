@@ -3,6 +3,8 @@
 -- lists and arrays; a place that was found
 pub mod Lists
 pub mod Found
+-- names of the store
+pub mod Name
 -- the bits of words, and the search for a free slot
 pub mod Bits
 pub mod Search

@@ -1,5 +1,7 @@
 -- "A node name is server times 1,024 plus slot."
+use mathlib.Core.Bool.{Bool, _&&_}
 use Prim.Native.Nat.{ℕ, _+_, _*_, _/_, _%_}
+use lib.Dec.{ltb}
 
 -- the name of a slot on a server
 abbrev pub name : ℕ → ℕ → ℕ
@@ -12,3 +14,7 @@ server-of n = n / 1024
 -- its slot there
 abbrev pub slot-of : ℕ → ℕ
 slot-of n = n % 1024
+
+-- is it a name of a store with so many servers and slots
+unfoldable pub name-in-store : ℕ → ℕ → ℕ → Bool
+name-in-store servers slots n = ltb (server-of n) servers && ltb (slot-of n) slots

@@ -4,9 +4,9 @@ use mathlib.Core.List.{List, [], _∷_}
 use mathlib.Core.Bool.{cond}
 use lib.ListN.{length, take}
 use lib.Dec.{eqb, ltb}
+use Rattle.base.specs.Test.{one-if}
 use Rattle.nodes.specs.declared.node.Node.{Node}
 use Rattle.nodes.specs.Lists.{pad}
-use Rattle.nodes.specs.Place.{one-if}
 
 -- the slots of a node beyond its keys: "14 values (leaf) or one child more than keys (inner)"
 unfoldable pub extra : ℕ → ℕ

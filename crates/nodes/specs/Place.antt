@@ -1,13 +1,8 @@
 -- "The place of a key in a node is the number of keys not above it. Source 000 answers nothing for an empty node; here it is 0."
-use mathlib.Core.Bool.{Bool, true, false}
 use mathlib.Core.List.{List, [], _∷_}
 use Prim.Native.Nat.{ℕ, _+_}
 use lib.Dec.{leb}
-
--- 1 for true, 0 for false
-abbrev pub one-if : Bool → ℕ
-one-if true = 1
-one-if false = 0
+use Rattle.base.specs.Test.{one-if}
 
 -- how many keys of the list are not above k
 unfoldable pub place : List ℕ → ℕ → ℕ

@@ -2,7 +2,7 @@
 use mathlib.Core.List.{List, [], _∷_}
 use Prim.Native.Nat.{ℕ, _+_}
 use lib.Dec.{eqb}
-use Rattle.nodes.specs.Place.{one-if}
+use Rattle.base.specs.Test.{one-if}
 
 -- how often x is named in a list
 abbrev pub times : ℕ → List ℕ → ℕ

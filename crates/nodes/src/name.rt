@@ -1,7 +1,7 @@
 // The name of a node: its server and its slot there.
 ghost use mathlib.Core.Path.{_≡_};
 ghost use Prim.Native.Nat.{_<_};
-ghost use Rattle.nodes.specs.Name.{name, server-of, slot-of};
+ghost use Rattle.nodes.specs.Name.{name, server-of, slot-of, name-in-store};
 ghost use Rattle.nodes.specs.Bounds.{end-of-names, end-of-slots, most-servers};
 
 // "A node name is server times 1,024 plus slot."
@@ -41,4 +41,15 @@ impl Name {
     {
         self.number % Name::SLOTS
     }
+}
+
+// Is there a node of that name in a store of so many servers and slots?
+pub fn in_store(servers: usize, slots: usize, name: u64) -> bool
+    ensures { λ r. ⌜ r ≡ name-in-store servers slots name ⌝ }
+{
+    let node = Name { number: name };
+    if node.server() as usize >= servers {
+        return false;
+    }
+    (node.slot() as usize) < slots
 }

@@ -5,8 +5,9 @@ use mathlib.Core.Option.{Option, none, some}
 use Prim.Native.Nat.{ℕ, zero, suc, _+_}
 use lib.Dec.{ltb}
 use lib.ListN.{getD, set, take, drop}
+use Rattle.base.specs.Test.{one-if}
 use Rattle.nodes.specs.Lists.{insert-at}
-use Rattle.nodes.specs.Place.{place, one-if}
+use Rattle.nodes.specs.Place.{place}
 use Rattle.nodes.specs.Find.{key-index}
 use Rattle.operations.specs.Object.{Val, body}
 

@@ -15,7 +15,7 @@ use Rattle.nodes.specs.Stored.{node-of, node-at}
 use Rattle.nodes.specs.declared.node.Node as node
 use Rattle.server.specs.declared.place.Place.{Place}
 use Rattle.server.specs.declared.place.Place.the-variants.{Root, Version, Vector, Node}
-use Rattle.server.specs.Range.{name-in-store}
+use Rattle.nodes.specs.Name.{name-in-store}
 use Rattle.server.specs.Layout.{places, server-block, partWords, Lies}
 use Rattle.server.specs.Laws.Layout.{node-run, node-room, node-valid, root-valid, version-valid}
 use Rattle.server.specs.HandOut.{metadata-at, metadata-sound, vector-at, node-here}

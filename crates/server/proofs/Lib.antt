@@ -4,5 +4,4 @@ pub mod ObjectExits
 pub mod LockExits
 pub mod CheckExits
 pub mod StoreExits
-pub mod RangeExits
 pub mod HandOutExits

@@ -3,7 +3,8 @@
 use mathlib.Core.Bool.{Bool, true, cond, _&&_, _||_}
 use Prim.Native.Nat.{ℕ, _/_, _%_}
 use lib.Dec.{eqb, leb}
-use Rattle.memory.specs.Bit.{bit, digit}
+use Rattle.base.specs.Test.{one-if}
+use Rattle.memory.specs.Bit.{bit}
 use Rattle.nodes.specs.Name.{server-of, slot-of}
 use Rattle.server.specs.declared.check.Finding.{Finding}
 use Rattle.server.specs.declared.check.Finding.the-variants.{Same, Differs, Busy, Unfit}
@@ -32,7 +33,7 @@ mark-place (object.Flag x) inner = place.Vector (slot-of (x .number) / 64)
 unfoldable pub mark-in : Object → ℕ → ℕ
 mark-in object.Metadata w = w
 mark-in (object.Node x) w = w
-mark-in (object.Flag x) w = digit (bit w (slot-of (x .number) % 64))
+mark-in (object.Flag x) w = one-if (bit w (slot-of (x .number) % 64))
 
 -- the mark that stands at a server
 unfoldable pub standing : Object → Bool → (Place → ℕ) → ℕ

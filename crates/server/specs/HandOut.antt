@@ -8,7 +8,7 @@ use Rattle.nodes.specs.Stored.{node-of}
 use Rattle.server.specs.declared.hand_out.Metadata.{Metadata}
 use Rattle.server.specs.declared.place.Place.{Place}
 use Rattle.server.specs.declared.place.Place.the-variants.{Root, Version, Vector, Node}
-use Rattle.server.specs.Range.{name-in-store}
+use Rattle.nodes.specs.Name.{name-in-store}
 use Rattle.nodes.specs.declared.node.Node as node
 
 -- the metadata that a server has

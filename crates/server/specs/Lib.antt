@@ -9,8 +9,7 @@ pub mod Lock
 pub mod Check
 -- what is stored, at a prepare and at an apply
 pub mod Store
--- what is out of range (refusal 10), and what is handed out for a fetch
-pub mod Range
+-- what is handed out for a fetch, and what of it is out of range (refusal 10)
 pub mod HandOut
 -- a newly opened server
 pub mod Fresh

@@ -10,7 +10,7 @@ ghost use Rattle.nodes.specs.Bounds.{end-of-slots};
 use crate::place::Place;
 use crate::place::get;
 use crate::place::index;
-use crate::range::name_fits;
+use nodes::name::in_store;
 use nodes::node::Node;
 use nodes::stored;
 
@@ -30,12 +30,12 @@ pub fn read_metadata(part: &[u8], slots: usize) -> Metadata
 }
 
 // Refusal 10: does the metadata name a node of the store, with a version of 32 bits?
-pub fn metadata_is_sound(part: &[u8], servers: u64, slots: usize) -> bool
+pub fn metadata_is_sound(part: &[u8], servers: usize, slots: usize) -> bool
     requires { ⌜ (slots ≤ end-of-slots) × (partWords slots ≤ length (now part) / 8) ⌝ }
     ensures { λ r. ⌜ r ≡ metadata-sound servers slots (mem places (server-block slots) (view (now (part .entry)))) ⌝ }
 {
     let root = get(part, slots, Place::Root);
-    if name_fits(root, servers, slots) {
+    if in_store(servers, slots, root) {
         return get(part, slots, Place::Version) <= 4294967295;
     }
     false

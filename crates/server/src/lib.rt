@@ -4,5 +4,4 @@ pub mod hand_out;
 pub mod lock;
 pub mod object;
 pub mod place;
-pub mod range;
 pub mod store;

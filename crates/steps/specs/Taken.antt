@@ -13,7 +13,7 @@ use Rattle.steps.specs.Whole.{Address, whole}
 use Rattle.steps.specs.Output.{with-pairs}
 use Rattle.steps.specs.Steps.{Did, step}
 
--- a number of 64 bits; H is 2^64
+-- a number of 64 bits
 abbrev pub Word : ℕ → Type 0
 Word n = n < two-to-64
 

@@ -2,7 +2,10 @@
 use mathlib.Core.Path.{_≡_, refl}
 use mathlib.Core.Bool.{Bool, true, false, cond, _||_, true≢false, false≢true}
 use mathlib.Core.Logic.{_⊎_, inl, inr}
-use Rattle.base.specs.Test.{yes?, ifd}
+use Prim.Native.Nat.{_≤_}
+use native.Mathlib.Omega.{arith}
+use lib.Dec.{eqb}
+use Rattle.base.specs.Test.{yes?, ifd, one-if}
 
 -- a test is true or false, with the equation
 pub bool-cases : (b : Bool) → (b ≡ true) ⊎ (b ≡ false)
@@ -54,3 +57,12 @@ ifd-no (no q) x y h = refl
 pub ifd-all : {P A : Type 0} (d : Dec P) (x y : A) (Q : A → Type 0) → (P → Q x) → ((P → ⊥) → Q y) → Q (ifd d x y)
 ifd-all (yes p) x y Q f g = f p
 ifd-all (no q) x y Q f g = g q
+
+-- a test as a number
+pub one-if-small : (b : Bool) → one-if b ≤ 1
+one-if-small true = omega arith
+one-if-small false = omega arith
+
+pub one-if-is : (b : Bool) → eqb (one-if b) 1 ≡ b
+one-if-is true = refl
+one-if-is false = refl

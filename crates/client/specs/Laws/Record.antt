@@ -16,16 +16,6 @@ use Rattle.nodes.specs.Laws.Range.{range-count}
 use Rattle.operations.specs.Slot.{TreeSizes}
 use Rattle.client.specs.Record.{sizes, first-slot, in-store, record-in-range, all, children-there, node-fits, whole-in-range, kind-in-range}
 
--- the server r of a name is looked at first, then its slot
-module _ (servers slots x r : ℕ) (o : r ≡ server-of x) where
-  pub no-server : servers ≤ r → false ≡ in-store (sizes servers slots) x
-  unfolding in-store
-  no-server h = sym (rw (← o, le-ltb _ _ h))
-
-  pub by-slot : (k : ℕ) → r < servers → k ≡ slot-of x → ltb k slots ≡ in-store (sizes servers slots) x
-  unfolding in-store
-  by-slot k h l = sym (rw (← o, lt-ltb _ _ h, ← l))
-
 module _ (z : TreeSizes) (x : ℕ) (n : Node) (b : Bool) (e : x ≡ 0) (p : b ≡ in-store z (first-slot n)) where
   pub root-astray : not b ≡ true → false ≡ record-in-range z x n
   unfolding record-in-range

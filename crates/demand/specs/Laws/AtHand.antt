@@ -6,8 +6,9 @@ use Prim.Native.Nat.{ℕ, suc, _+_, _/_, _%_, _≤_, _<_}
 use native.Mathlib.Omega.{arith}
 use borrow.Author.Tests.{eqb-false}
 use lib.Dec.{eqb}
-use Rattle.base.specs.Test.{and-both}
-use Rattle.memory.specs.Bit.{bit, digit}
+use Rattle.base.specs.Laws.Test.{one-if-is}
+use Rattle.base.specs.Test.{and-both, one-if}
+use Rattle.memory.specs.Bit.{bit}
 use Rattle.nodes.specs.declared.found.Found.{Found}
 use Rattle.nodes.specs.declared.found.Found.the-variants.{At, Absent}
 use Rattle.nodes.specs.Lists.{pad}
@@ -37,10 +38,6 @@ use Rattle.demand.specs.Laws.Shows as S
 -- a lookup has found something
 abbrev pub Is-there : Look → Type 0
 Is-there l = is-found (l .how) ≡ true
-
-flag-back : (b : Bool) → eqb (digit b) 1 ≡ b
-flag-back true = refl
-flag-back false = refl
 
 -- a word in range that says whether there is a copy: it is 1 where it is not 0
 there-is-one : (w : ℕ) → eqb w 0 ≡ false → w ≤ 1 → w ≡ 1
@@ -80,14 +77,14 @@ module _ (k j slots : ℕ) (al : Allowed (sizes k j slots)) (u : ClientWord → 
       near = omega (arith, name-server k j slots n h, al .0)
 
       go : (t : Bool) → eqb (u (vector-word (N.server-of n) 0)) 0 ≡ t
-          → Is-there (cond t lacking (copy (single 0 (digit (bit w (N.slot-of n % 64))))))
-          → Same-copy (flag n) (cond t lacking (copy (single 0 (digit (bit w (N.slot-of n % 64))))))
+          → Is-there (cond t lacking (copy (single 0 (one-if (bit w (N.slot-of n % 64))))))
+          → Same-copy (flag n) (cond t lacking (copy (single 0 (one-if (bit w (N.slot-of n % 64))))))
       go true e b = absurd (false≢true b)
       go false e b =
           let next : suc (N.slot-of n / 64) ≡ 1 + N.slot-of n / 64 = omega arith in
           copies .flag-as n h (there-is-one (u (vector-word (N.server-of n) 0)) e (fits-vector (sizes k j slots) u fit (N.server-of n) near))
           ∙ ap (λ (i : ℕ). S.copy k j slots u (taken (bit (u (vector-word (N.server-of n) i)) (N.slot-of n % 64))) 0) next
-          ∙ ap (λ (t : Bool). S.copy k j slots u (taken t) 0) (sym (flag-back (bit w (N.slot-of n % 64))))
+          ∙ ap (λ (t : Bool). S.copy k j slots u (taken t) 0) (sym (one-if-is (bit w (N.slot-of n % 64))))
 
   pub copy-there : (o : Obj) → In-store k j slots o → Is-there (copied u (number o)) → Same-copy o (copied u (number o))
   unfolding copied

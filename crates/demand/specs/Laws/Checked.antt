@@ -10,8 +10,7 @@ use native.Mathlib.Decide.{ℕ-discrete, Fin-discrete}
 use borrow.Author.Tests.{eqb-true, eqb-false}
 use lib.Dec.{eqb, leb}
 use Rattle.base.specs.Test.{yes?}
-use Rattle.base.specs.Laws.Test.{of-yes}
-use Rattle.memory.specs.Bit.{digit}
+use Rattle.base.specs.Laws.Test.{of-yes, one-if-is}
 use Rattle.layout.specs.Space.{tab}
 use Rattle.nodes.specs.declared.node.Node.{Node}
 use Rattle.operations.specs.Object.{Obj, meta, node, flag, taken}
@@ -129,10 +128,6 @@ guarded : (b x : Bool) → (b ≡ true → x ≡ true) → (not b || x) ≡ true
 guarded true x h = h refl
 guarded false x h = refl
 
-digit-one : (b : Bool) → eqb (digit b) 1 ≡ b
-digit-one true = refl
-digit-one false = refl
-
 module _ (k j slots : ℕ) (al : Allowed (sizes k j slots)) (u : ClientWord → ℕ) (y : P.Slot (T k j slots)) (M : P.Machine (T k j slots)) (s : Fin (suc k)) (low : ℕ) (el : y .lowest .0 ≡ low) (p : Place → ℕ) (S : Server-shown k j slots p s (M .value s) (M .version s) (M .table s) (M .lock s)) where
   -- the mark of an object
   unfoldable pub mark-of : (o : Obj) (i : ℕ) → ℕ
@@ -183,4 +178,4 @@ module _ (k j slots : ℕ) (al : Allowed (sizes k j slots)) (u : ClientWord → 
           by-kind false e f = guarded _ _ (λ b. of-yes (ℕ-discrete (M .version s (node n)) (r .version)) (S .version-as (node n) hi b ∙ f b))
       go (flag n) hi f =
           guarded _ _ (λ b. of-yes (Val-discrete (M .value s (flag n)) (taken (eqb (first-slot r) 1)))
-          (S .value-as (flag n) hi b ∙ ap taken (sym (digit-one _) ∙ ap (λ (x : ℕ). eqb x 1) (f b))))
+          (S .value-as (flag n) hi b ∙ ap taken (sym (one-if-is _) ∙ ap (λ (x : ℕ). eqb x 1) (f b))))

@@ -13,7 +13,7 @@ use Rattle.base.specs.Laws.Test.{bool-cases, cond-true, cond-false, of-yes, of-
 use Rattle.base.specs.Test.{not-both, and-both, yes?}
 use Rattle.memory.specs.Bit.{bit, putBit}
 use Rattle.memory.specs.Laws.Bit.{bit-put-same, bit-put-other, put-lt, no-bits}
-use Rattle.nodes.specs.Name.{server-of, slot-of}
+use Rattle.nodes.specs.Name.{server-of, slot-of, name-in-store}
 use Rattle.operations.specs.Object.{Obj, meta, node, flag, Val}
 use Rattle.operations.specs.Laws.Object.{inner}
 use Rattle.operations.specs.Slot.{Allowed}
@@ -156,7 +156,7 @@ module _ (k j slots : ℕ) where
       go (no n) = of-no (Fin-discrete (suc k) s (server k j slots q)) (λ e. n (sym (ap (λ (z : Fin (suc k)). z .0) e ∙ server-is q h))) ∙ sym (ne-eqb q (s .0) n)
 
   pub name-server : (n : ℕ) → in-store (sizes k j slots) n ≡ true → server-of n < suc k
-  unfolding in-store
+  unfolding name-in-store
   name-server n h = ltb-true (server-of n) (suc k) (and-both (ltb (server-of n) (suc k)) (ltb (slot-of n) slots) h .0)
 
   pub kept-at : (s : Fin (suc k)) (n : ℕ) → in-store (sizes k j slots) n ≡ true → yes? (Fin-discrete (suc k) s (server k j slots (server-of n))) ≡ true → server-of n ≡ s .0

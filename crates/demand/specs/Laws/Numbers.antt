@@ -6,7 +6,7 @@ use native.Mathlib.Omega.{arith}
 use borrow.Author.Tests.{ltb-true, lt-ltb, leb-false, eqb-true, eqb-false, le-leb, lt-leb, ne-eqb}
 use lib.Dec.{eqb, leb, ltb}
 use Rattle.base.specs.Test.{and-both}
-use Rattle.nodes.specs.Name.{name, server-of, slot-of}
+use Rattle.nodes.specs.Name.{name, server-of, slot-of, name-in-store}
 use Rattle.nodes.specs.declared.node.Node.{Node}
 use Rattle.operations.specs.Object.{Obj, meta, node, flag}
 use Rattle.operations.specs.Laws.Object.{inner}
@@ -63,19 +63,19 @@ store-obj z x = go (eqb x 0) (leb x 8192)
 
 -- node 0, which holds the first root
 pub zeroth-there : (z : TreeSizes) → 0 < z .servers → 0 < z .slots → in-store z 0 ≡ true
-unfolding in-store
+unfolding name-in-store
 zeroth-there z h g = rw (lt-ltb 0 (z .servers) h, lt-ltb 0 (z .slots) g)
 
 module _ (z : TreeSizes) (al : Allowed z) where
   pub name-lt : (n : ℕ) → in-store z n ≡ true → n < 8192
-  unfolding in-store
+  unfolding name-in-store
   name-lt n h =
       let s : n / 1024 < z .servers = ltb-true (server-of n) (z .servers) (and-both (ltb (server-of n) (z .servers)) (ltb (slot-of n) (z .slots)) h .0) in
       omega (arith, s, al .0)
 
   -- every slot has a name
   pub slot-named : (s i : ℕ) → s < z .servers → i < z .slots → in-store z (name s i) ≡ true
-  unfolding in-store
+  unfolding name-in-store
   slot-named s i h g =
       let p : server-of (name s i) ≡ s = omega (arith, al .1) in
       let q : slot-of (name s i) ≡ i = omega (arith, al .1) in

@@ -9,7 +9,7 @@ use native.Mathlib.Omega.{arith}
 use borrow.Author.Tests.{ltb-true}
 use lib.Dec.{eqb, leb, ltb}
 use lib.ListN.{length}
-use Rattle.base.specs.Test.{and-both}
+use Rattle.base.specs.Test.{and-both, one-if}
 use Rattle.plans.specs.Walk.{Every}
 use Rattle.nodes.specs.declared.node.Node.{Node}
 use Rattle.nodes.specs.declared.found.Found.{Found}
@@ -17,7 +17,6 @@ use Rattle.nodes.specs.declared.found.Found.the-variants.{At, Absent}
 use Rattle.nodes.specs.Lists.{pad}
 use Rattle.nodes.specs.Node.{keysOf, slotsOf, made}
 use Rattle.nodes.specs.Laws.Node.{length-keysOf, length-slotsOf, keys-made, slots-made, extra-le}
-use Rattle.nodes.specs.Place.{one-if}
 use Rattle.nodes.specs.Range.{node-in-range}
 use Rattle.nodes.specs.Laws.Range.{range-count, range-cases}
 use Rattle.nodes.specs.Laws.Stored.{Sized, made-sized}

@@ -10,8 +10,8 @@ use lib.Dec.{eqb, leb}
 use lib.ListN.{length, getD, List·getD-append}
 use lib.Seq.{getD-append-seam}
 use Rattle.base.specs.Laws.Test.{bool-cases, or-neither, or-cases}
-use Rattle.base.specs.Test.{not-both}
-use Rattle.memory.specs.Bit.{bit, digit}
+use Rattle.base.specs.Test.{not-both, one-if}
+use Rattle.memory.specs.Bit.{bit}
 use Rattle.layout.specs.Space.{Put, changed}
 use Rattle.layout.specs.Step.{andThen}
 use Rattle.layout.specs.Laws.Step.{changed-append}
@@ -76,7 +76,7 @@ module _ (u v : ClientWord → ℕ) (h : Else-same u v) where
       of-flag n =
           let a = vector-same Reads 10 u v h (N.server-of n) 0 in
           let b = vector-same Reads 10 u v h (N.server-of n) (1 + N.slot-of n / 64) in
-          λ t. cond (eqb (a t) 0) lacking (copy (single 0 (digit (bit (b t) (N.slot-of n % 64)))))
+          λ t. cond (eqb (a t) 0) lacking (copy (single 0 (one-if (bit (b t) (N.slot-of n % 64)))))
 
 -- and stay, where only a set and its count change
 pub copies-stay : (s : Set) (f : ℕ) (u v : ClientWord → ℕ) → Elsewhere s f u v → ¬ (family (item Copies 0 0) ≡ family (item s 0 0)) → f < 12

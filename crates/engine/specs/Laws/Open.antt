@@ -18,9 +18,9 @@ use Rattle.steps.specs.declared.sizes.Sizes.{Sizes}
 use Rattle.engine.specs.declared.open.Opening.the-variants.{Accepted, Refused}
 use Rattle.steps.specs.Whole.{Allowed, Address, server, whole, block, words-for}
 use Rattle.steps.specs.Refusal.{open-refusal}
-use Rattle.steps.specs.Run.{opened}
+use Rattle.steps.specs.Run.{first-stores, opened}
 use Rattle.kinds.specs.Parts.{stored-in}
-use Rattle.engine.specs.Open.{opening, first-stores, with-head, new-words, words-opened}
+use Rattle.engine.specs.Open.{opening, with-head, new-words, words-opened}
 
 -- what then stands at the addresses
 first-valid : (z : Sizes) → Allowed z → AllValid whole (block z) (first-stores z)

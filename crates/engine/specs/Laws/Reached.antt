@@ -17,7 +17,7 @@ use Rattle.steps.specs.Whole.{Address, head, whole, block, words-for}
 use Rattle.steps.specs.Refusal.{open-refusal}
 use Rattle.steps.specs.Output.{with-pairs}
 use Rattle.steps.specs.Steps.{Did, step}
-use Rattle.steps.specs.Run.{opened}
+use Rattle.steps.specs.Run.{first-stores, opened}
 use Rattle.steps.specs.Taken.{Words, Taken, came-to, Leads-by, Leads}
 use Rattle.steps.specs.Laws.Taken.{leads-on}
 use Rattle.kinds.specs.Parts.{Store-in, head-sizes, stored-in}
@@ -26,7 +26,7 @@ use Rattle.demand.specs.Laws.Inside.{step-lies}
 use Rattle.demand.specs.Laws.Opened.{opened-head}
 use Rattle.engine.specs.declared.open.Opening.{Opening}
 use Rattle.engine.specs.declared.open.Opening.the-variants.{Accepted}
-use Rattle.engine.specs.Open.{opening, first-stores, new-words, words-opened}
+use Rattle.engine.specs.Open.{opening, new-words, words-opened}
 use Rattle.engine.specs.Laws.Open.{new-store}
 use Rattle.engine.specs.Step.{result-of, outcome-of, words-after, output-after}
 use Rattle.engine.specs.Laws.Step.{Stands}

@@ -14,7 +14,7 @@ use Rattle.base.specs.Test.{and-both}
 use Rattle.memory.specs.Word.{view}
 use Rattle.layout.specs.Step.{Does, silent}
 use Rattle.layout.specs.Part.{inPart}
-use Rattle.nodes.specs.Name.{server-of, slot-of}
+use Rattle.nodes.specs.Name.{server-of, slot-of, name-in-store}
 use Rattle.operations.specs.Operation.{all-fit?}
 use Rattle.server.specs.Object.{object-of, Has}
 use Rattle.operations.specs.Slot.{TreeSizes}
@@ -278,7 +278,7 @@ module _ (z : Sizes) (m : ClientWord → ℕ) where
       ltb-true s (z .servers) (and-both (ltb s (z .servers)) (vector-fits m s) (not-false (ltb s (z .servers) && vector-fits m s) p) .0)
 
   home-there : (n : ℕ) → in-store (tree-sizes z) n ≡ true → (server-of n < z .servers) × (slot-of n < z .slots)
-  unfolding in-store
+  unfolding name-in-store
   home-there n h =
       let p = and-both (ltb (server-of n) (z .servers)) (ltb (slot-of n) (z .slots)) h in
       (ltb-true (server-of n) (z .servers) (p .0), ltb-true (slot-of n) (z .slots) (p .1))

@@ -9,7 +9,9 @@ use borrow.Author.Tests.{eqb-false}
 use lib.Dec.{eqb}
 use lib.Bits.{bitOr, or-step, or-zero-r}
 use lib.Pow.{shr-shr, pow-lt}
-use Rattle.memory.specs.Bit.{bit, digit, putBit}
+use Rattle.base.specs.Laws.Test.{one-if-is, one-if-small}
+use Rattle.base.specs.Test.{one-if}
+use Rattle.memory.specs.Bit.{bit, putBit}
 
 -- 5 is the set of 0 and 2
 pub bit-sample : (bit 5 1 ≡ false) × (bit 5 2 ≡ true) × (putBit true 5 1 ≡ 7) × (putBit false 5 2 ≡ 1)
@@ -17,24 +19,16 @@ unfolding bit putBit
 bit-sample = (refl, refl, refl, refl)
 
 -- ---- the bit that was put is the bit read, and others stay
-digit-lt : (b : Bool) → digit b < 2
-digit-lt true = omega arith
-digit-lt false = omega arith
-
-digit-is : (b : Bool) → eqb (digit b) 1 ≡ b
-digit-is true = refl
-digit-is false = refl
-
 module _ (b : Bool) where
-  low : (n : ℕ) → (n * 2 + digit b) % 2 ≡ digit b
-  low n = omega (arith, digit-lt b)
+  low : (n : ℕ) → (n * 2 + one-if b) % 2 ≡ one-if b
+  low n = omega (arith, one-if-small b)
 
-  low-half : (n : ℕ) → (n * 2 + digit b) / 2 ≡ n
-  low-half n = omega (arith, digit-lt b)
+  low-half : (n : ℕ) → (n * 2 + one-if b) / 2 ≡ n
+  low-half n = omega (arith, one-if-small b)
 
   pub bit-put-same : (w i : ℕ) → bit (putBit b w i) i ≡ b
   unfolding bit putBit
-  bit-put-same w zero = rw (low (w / 2)) (digit-is b)
+  bit-put-same w zero = rw (low (w / 2)) (one-if-is b)
   bit-put-same w (suc i) =
       let e : (putBit b (w / 2) i * 2 + w % 2) / 2 ≡ putBit b (w / 2) i = omega arith in
       rw e (bit-put-same (w / 2) i)
@@ -56,7 +50,7 @@ module _ (b : Bool) where
   put-lt zero w i h l = absurd (omega arith)
   put-lt (suc n) w zero h l =
       let p : w < 2 ^ n * 2 = rw pow-suc at l in
-      rw pow-suc (omega (arith, digit-lt b))
+      rw pow-suc (omega (arith, one-if-small b))
   put-lt (suc n) w (suc i) h l =
       let p : w < 2 ^ n * 2 = rw pow-suc at l in
       rw pow-suc (omega (arith, put-lt n (w / 2) i (omega arith) (omega arith)))
@@ -126,7 +120,7 @@ bit-below (suc n) w (suc i) l h =
 -- ---- bits put one after the other
 pub put-twice : (a b : Bool) (w i : ℕ) → putBit a (putBit b w i) i ≡ putBit a w i
 unfolding putBit
-put-twice a b w zero = let e : (w / 2 * 2 + digit b) / 2 ≡ w / 2 = omega (arith, digit-lt b) in rw e
+put-twice a b w zero = let e : (w / 2 * 2 + one-if b) / 2 ≡ w / 2 = omega (arith, one-if-small b) in rw e
 put-twice a b w (suc i) =
     let e : (putBit b (w / 2) i * 2 + w % 2) / 2 ≡ putBit b (w / 2) i = omega arith in
     let f : (putBit b (w / 2) i * 2 + w % 2) % 2 ≡ w % 2 = omega arith in
@@ -136,13 +130,13 @@ pub put-swap : (a b : Bool) (w i j : ℕ) → ¬ (i ≡ j) → putBit a (putBit 
 unfolding putBit
 put-swap a b w zero zero d = absurd (d refl)
 put-swap a b w zero (suc j) d =
-    let e : (w / 2 * 2 + digit b) / 2 ≡ w / 2 = omega (arith, digit-lt b) in
-    let f : (w / 2 * 2 + digit b) % 2 ≡ digit b = omega (arith, digit-lt b) in
+    let e : (w / 2 * 2 + one-if b) / 2 ≡ w / 2 = omega (arith, one-if-small b) in
+    let f : (w / 2 * 2 + one-if b) % 2 ≡ one-if b = omega (arith, one-if-small b) in
     let g : (putBit a (w / 2) j * 2 + w % 2) / 2 ≡ putBit a (w / 2) j = omega arith in
     rw (e, f, g)
 put-swap a b w (suc i) zero d =
-    let e : (w / 2 * 2 + digit a) / 2 ≡ w / 2 = omega (arith, digit-lt a) in
-    let f : (w / 2 * 2 + digit a) % 2 ≡ digit a = omega (arith, digit-lt a) in
+    let e : (w / 2 * 2 + one-if a) / 2 ≡ w / 2 = omega (arith, one-if-small a) in
+    let f : (w / 2 * 2 + one-if a) % 2 ≡ one-if a = omega (arith, one-if-small a) in
     let g : (putBit b (w / 2) i * 2 + w % 2) / 2 ≡ putBit b (w / 2) i = omega arith in
     rw (e, f, g)
 put-swap a b w (suc i) (suc j) d =

@@ -13,7 +13,9 @@ use lib.Count.{trailingZeros, under}
 use lib.Dec.{eqb}
 use lib.ListN.{length, take, drop, getD, set, replicate, length-append, length-take, List·getD-append}
 use lib.Seq.{drop-append-le, drop-append-add, drop-at, set-append-left, getD-append-add, take-set-lt, take-set-le, set-out, getD-take, length-take-le}
-use Rattle.memory.specs.Bit.{bit, digit, putBit}
+use Rattle.base.specs.Laws.Test.{one-if-is, one-if-small}
+use Rattle.base.specs.Test.{one-if}
+use Rattle.memory.specs.Bit.{bit, putBit}
 use Rattle.nodes.specs.Vector.{lowest-free, shifted}
 use Rattle.nodes.specs.Flags.{bits, all-flags, flags-in, otherwise, with-flag}
 
@@ -92,21 +94,13 @@ bits-at zero p x d h = absurd (omega arith)
 bits-at (suc n) zero x d h = refl
 bits-at (suc n) (suc p) x d h = bits-at n p (x / 2) d (omega arith)
 
-digit-lt : (b : Bool) → digit b < 2
-digit-lt true = omega arith
-digit-lt false = omega arith
-
-digit-is : (b : Bool) → eqb (digit b) 1 ≡ b
-digit-is true = refl
-digit-is false = refl
-
 pub bits-with : (n p x : ℕ) (b : Bool) → p < n → bits n (putBit b x p) ≡ set (bits n x) p b
 unfolding bits putBit
 bits-with zero p x b h = absurd (omega arith)
 bits-with (suc n) zero x b h =
-    let m : (x / 2 * 2 + digit b) % 2 ≡ digit b = omega (arith, digit-lt b) in
-    let d : (x / 2 * 2 + digit b) / 2 ≡ x / 2 = omega (arith, digit-lt b) in
-    rw (m, d, digit-is b)
+    let m : (x / 2 * 2 + one-if b) % 2 ≡ one-if b = omega (arith, one-if-small b) in
+    let d : (x / 2 * 2 + one-if b) / 2 ≡ x / 2 = omega (arith, one-if-small b) in
+    rw (m, d, one-if-is b)
 bits-with (suc n) (suc p) x b h =
     let y : ℕ = putBit b (x / 2) p in
     let m : (y * 2 + x % 2) % 2 ≡ x % 2 = omega arith in

@@ -9,11 +9,12 @@ use lib.ListN.{length, take, drop, getD, length-drop}
 use lib.Seq.{take-suc, length-take-le, getD-take, drop-cons}
 use lib.Dec.{leb, ltb}
 use borrow.Author.Tests.{le-leb, lt-leb, le-ltb, lt-ltb, eq-eqb, ne-eqb}
+use Rattle.base.specs.Test.{one-if}
 use Rattle.nodes.specs.declared.node.Node.{Node}
 use Rattle.nodes.specs.declared.found.Found.the-variants.{At, Absent}
 use Rattle.nodes.specs.Found.{found, Inside}
 use Rattle.nodes.specs.Laws.Found.{at-inside}
-use Rattle.nodes.specs.Place.{one-if, place}
+use Rattle.nodes.specs.Place.{place}
 use Rattle.nodes.specs.Node.{keysOf}
 use Rattle.nodes.specs.Find.{find-at, key-index, rises}
 

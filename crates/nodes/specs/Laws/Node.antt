@@ -7,19 +7,15 @@ use native.Mathlib.Omega.{arith}
 use lib.ListN.{length}
 use lib.Seq.{length-take-le}
 use lib.Dec.{eqb}
+use Rattle.base.specs.Laws.Test.{one-if-small}
 use Rattle.nodes.specs.declared.node.Node.{Node}
 use Rattle.nodes.specs.Laws.Lists.{take-pad}
-use Rattle.nodes.specs.Place.{one-if}
 use Rattle.nodes.specs.Node.{extra, keysOf, slotsOf, made}
 
 -- ---- laws
-bit-le : (b : Bool) → one-if b ≤ 1
-bit-le true = omega arith
-bit-le false = omega arith
-
 pub extra-le : (kind : ℕ) → extra kind ≤ 1
 unfolding extra
-extra-le kind = bit-le (eqb kind 2)
+extra-le kind = one-if-small (eqb kind 2)
 
 pub length-keysOf : (n : Node) → length (n .keys) ≡ 14 → n .count ≤ 14 → length (keysOf n) ≡ n .count
 unfolding keysOf

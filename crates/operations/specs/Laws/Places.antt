@@ -11,10 +11,10 @@ use native.Mathlib.Omega.{arith}
 use lib.Dec.{T, leb, eqb, le→leb, leb→le, not-T, eqb·suc-zero, leb·suc-suc}
 use borrow.Author.Tests.{eq-eqb, ne-eqb}
 use lib.ListN.{length, take, drop, getD}
-use Rattle.base.specs.Test.{ifd}
+use Rattle.base.specs.Test.{ifd, one-if}
 use Rattle.base.specs.Laws.Test.{ifd-yes, ifd-no}
 use Rattle.nodes.specs.Lists.{insert-at, remove-at}
-use Rattle.nodes.specs.Place.{place, one-if}
+use Rattle.nodes.specs.Place.{place}
 use Rattle.nodes.specs.Find.{key-index, find-at}
 use Rattle.operations.specs.Map.{look, set-key, remove-key}
 use Rattle.operations.specs.Entry.{Entries, keys, first-key-or, Cut, cut-at, cut, index, value-at, value-in, with-at, with-pair, under, above-in, below-in}

@@ -7,9 +7,9 @@ use Prim.Native.Nat.{ℕ, _-_, _%_, _≤_}
 use native.Mathlib.Omega.{arith}
 use borrow.Author.Tests.{eqb-true, le-leb}
 use lib.Dec.{eqb, leb}
-use Rattle.base.specs.Test.{and-both}
+use Rattle.base.specs.Test.{and-both, one-if}
 use Rattle.base.specs.Laws.Test.{or-right}
-use Rattle.memory.specs.Bit.{bit, digit}
+use Rattle.memory.specs.Bit.{bit}
 use Rattle.layout.specs.Space.{tab}
 use Rattle.plans.specs.Walk.{Every}
 use Rattle.nodes.specs.declared.node.Node.{Node}
@@ -32,17 +32,16 @@ use Rattle.ranges.specs.Laws.Stored.{metadata-parts}
 use Rattle.nodes.specs.Name as N
 use Rattle.operations.specs.Slot as S
 use Rattle.server.specs.declared.object.Object.the-variants as object
-use Rattle.server.specs.Range as Range
 use Rattle.steps.specs.Uses as U
 
 module _ (z : S.TreeSizes) (s : ℕ) (p : Place → ℕ) (good : Server-sound z s p) where
   -- ---- a fetch of the metadata
   pub metadata-judged : metadata-sound (z .servers) (z .slots) p ≡ true
-  unfolding metadata-sound Range.name-in-store in-store
+  unfolding metadata-sound N.name-in-store
   metadata-judged = let q = metadata-parts z (p Version) (p Root) (good .metadata) in rw (q .0, le-leb (p Version) last-version (q .1))
 
   -- ---- the mark that stands here: of what is checked by the table, or at home here
-  digit-fits : (b : Bool) → leb (digit b) 1 ≡ true
+  digit-fits : (b : Bool) → leb (one-if b) 1 ≡ true
   digit-fits true = refl
   digit-fits false = refl
 

@@ -9,7 +9,7 @@ use native.Mathlib.Decide.{ℕ-discrete, decLe}
 use borrow.Author.Tests.{eqb-true, eqb-false, eq-eqb, le-leb, ltb-true, lt-ltb}
 use lib.Dec.{eqb, leb, ltb}
 use lib.ListN.{length}
-use Rattle.base.specs.Test.{and-both, yes?}
+use Rattle.base.specs.Test.{and-both, yes?, one-if}
 use Rattle.base.specs.Laws.Test.{or-neither, bool-cases, yes-of}
 use Rattle.layout.specs.Space.{changed}
 use Rattle.layout.specs.Step.{andThen}
@@ -22,7 +22,6 @@ use Rattle.nodes.specs.Find.{rises}
 use Rattle.nodes.specs.Lists.{pad}
 use Rattle.nodes.specs.Node.{slotsOf, made}
 use Rattle.nodes.specs.Laws.Node.{slots-made}
-use Rattle.nodes.specs.Place.{one-if}
 use Rattle.nodes.specs.Range.{node-in-range}
 use Rattle.nodes.specs.Laws.Range.{range-of}
 use Rattle.nodes.specs.Laws.Stored.{Sized}

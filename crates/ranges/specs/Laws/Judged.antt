@@ -67,7 +67,7 @@ module _ (z : TreeSizes) (x : ℕ) (r : Node) (h : Sound z x r) where
 
 -- a flag's server is one of the store
 flag-near : (z : TreeSizes) → Allowed z → (x : ℕ) → 8193 ≤ x → number-in-store z x ≡ true → N.server-of (x - 8193) < 8
-unfolding number-in-store in-store
+unfolding number-in-store N.name-in-store
 flag-near z al x l h =
     let n = x - 8193 in
     let there : (ltb (N.server-of n) (z .servers) && ltb (N.slot-of n) (z .slots)) ≡ true = rw (ne-eqb x 0 (λ e. absurd (omega arith)), lt-leb x 8192 (omega arith)) at h in

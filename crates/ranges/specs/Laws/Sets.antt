@@ -8,8 +8,8 @@ use native.Mathlib.Decide.{ℕ-discrete}
 use borrow.Author.Tests.{eqb-true, eqb-false, le-leb, leb-true, ltb-true}
 use lib.Dec.{eqb, leb, ltb}
 use lib.ListN.{getD, length}
-use Rattle.base.specs.Test.{and-both}
-use Rattle.memory.specs.Bit.{bit, digit}
+use Rattle.base.specs.Test.{and-both, one-if}
+use Rattle.memory.specs.Bit.{bit}
 use Rattle.layout.specs.Space.{changed}
 use Rattle.plans.specs.Walk.{Every}
 use Rattle.nodes.specs.declared.node.Node.{Node}
@@ -184,7 +184,7 @@ module _ (u : ClientWord → ℕ) (x : ℕ) (r : Node) (w : Sized r) where
       go false e = rw e stays
 
 -- ---- COPIES
-flag-fits : (d : Bool) → leb (first-slot (single 0 (digit d))) 1 ≡ true
+flag-fits : (d : Bool) → leb (first-slot (single 0 (one-if d))) 1 ≡ true
 unfolding single made pad
 flag-fits true = refl
 flag-fits false = refl
@@ -207,8 +207,8 @@ module _ (z : TreeSizes) (u : ClientWord → ℕ) where
           record { fitting = rw (a, b) (n .range); children = rw (a, b) (n .children) }
       of-node a b Absent e h = absurd (false≢true h)
 
-      of-flag : eqb x 0 ≡ false → leb x 8192 ≡ false → (c d : Bool) → is-found (cond c lacking (copy (single 0 (digit d))) .how) ≡ true
-          → Sound z x (cond c lacking (copy (single 0 (digit d))) .node)
+      of-flag : eqb x 0 ≡ false → leb x 8192 ≡ false → (c d : Bool) → is-found (cond c lacking (copy (single 0 (one-if d))) .how) ≡ true
+          → Sound z x (cond c lacking (copy (single 0 (one-if d))) .node)
       of-flag a b true d h = absurd (false≢true h)
       of-flag a b false d h = record { fitting = rw (a, b) (flag-fits d); children = rw (a, b) refl }
 

@@ -40,7 +40,7 @@ use Rattle.server.specs.Lock as L
 children-sample : let z : S.TreeSizes = record { servers = 1; slots = 2 } in
     (children-there z (made 2 1 0 (5 ∷ []) (0 ∷ 1 ∷ [])) ≡ true) × (children-there z (made 2 1 0 (5 ∷ []) (0 ∷ 2 ∷ [])) ≡ false)
     × (children-there z (made 1 0 0 (5 ∷ []) (2 ∷ [])) ≡ true)
-unfolding children-there made pad slotsOf extra all in-store
+unfolding children-there made pad slotsOf extra all N.name-in-store
 children-sample = (refl, refl, refl)
 
 -- a node's record

@@ -8,9 +8,10 @@ use native.Mathlib.Omega.{arith}
 use borrow.Author.Tests.{eq-eqb, ne-eqb}
 use lib.Dec.{eqb}
 use lib.ListN.{getD, set}
+use Rattle.base.specs.Test.{one-if}
 use Rattle.base.specs.Update.{upd}
 use Rattle.base.specs.Laws.Update.{upd-same, upd-other}
-use Rattle.memory.specs.Bit.{putBit, bit, digit}
+use Rattle.memory.specs.Bit.{putBit, bit}
 use Rattle.layout.specs.Space.{Put, put, puts, tab, decide, changed, at}
 use Rattle.layout.specs.Laws.Space.{tab-eq, tab-upd, getD-tab, upd-apart, Only, changed-only, only-puts, tab-puts-same, tab-puts-other, AllValid, valid-run, length-tab}
 use Rattle.layout.specs.Laws.Step.{valid-append}
@@ -221,10 +222,10 @@ module _ (m : Place → ℕ) (x : Name) where
   unfolding standing mark-in mark-place node-here node-of
   own-version = sym (getD-tab 33 (λ j. m (Node (slot-of (x .number)) j)) 2 (omega arith))
 
-  pub own-flag : (inner : Bool) → standing (object.Flag x) inner m ≡ digit (getD (all-flags (vector-at m)) (slot-of (x .number)) false)
+  pub own-flag : (inner : Bool) → standing (object.Flag x) inner m ≡ one-if (getD (all-flags (vector-at m)) (slot-of (x .number)) false)
   unfolding standing mark-in mark-place vector-at
   own-flag inner =
       let k = slot-of (x .number) in
       let ws = tab 16 (λ i. m (Vector i)) in
       let e : m (Vector (k / 64)) ≡ getD ws (k / 64) 0 = sym (getD-tab 16 (λ i. m (Vector i)) (k / 64) (omega arith)) in
-      ap digit (flag-read ws k (bit (m (Vector (k / 64))) (k % 64)) (length-tab 16 (λ i. m (Vector i))) (omega arith) (ap (λ (w : ℕ). bit w (k % 64)) e))
+      ap one-if (flag-read ws k (bit (m (Vector (k / 64))) (k % 64)) (length-tab 16 (λ i. m (Vector i))) (omega arith) (ap (λ (w : ℕ). bit w (k % 64)) e))

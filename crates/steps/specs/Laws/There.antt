@@ -9,7 +9,7 @@ use lib.Dec.{ltb}
 use Rattle.base.specs.Test.{and-both}
 use Rattle.layout.specs.Block.{In}
 use Rattle.layout.specs.Space.{Valid}
-use Rattle.nodes.specs.Name.{server-of, slot-of}
+use Rattle.nodes.specs.Name.{server-of, slot-of, name-in-store}
 use Rattle.server.specs.Object.{object-of, lock-of, Has}
 use Rattle.client.specs.Record.{in-store, number-in-store}
 use Rattle.steps.specs.declared.sizes.Sizes.{Sizes}
@@ -17,7 +17,7 @@ use Rattle.steps.specs.Whole.{Allowed, tree-sizes}
 use Rattle.operations.specs.Slot as S
 
 pub named-in : (z : S.TreeSizes) (n : ℕ) → in-store z n ≡ true → (server-of n < z .servers) × (slot-of n < z .slots)
-unfolding in-store
+unfolding name-in-store
 named-in z n h =
     let p = and-both (ltb (server-of n) (z .servers)) (ltb (slot-of n) (z .slots)) h in
     (ltb-true (server-of n) (z .servers) (p .0), ltb-true (slot-of n) (z .slots) (p .1))

@@ -15,7 +15,7 @@ use Rattle.base.specs.Test.{and-both}
 use Rattle.nodes.specs.declared.node.Node.{Node}
 use Rattle.nodes.specs.declared.found.Found.{Found}
 use Rattle.nodes.specs.declared.found.Found.the-variants.{At, Absent}
-use Rattle.nodes.specs.Name.{server-of}
+use Rattle.nodes.specs.Name.{server-of, name-in-store}
 use Rattle.nodes.specs.Node.{free-node, made}
 use Rattle.nodes.specs.Range.{level-fits, count-fits, node-in-range}
 use Rattle.nodes.specs.Laws.Range.{range-count}
@@ -268,7 +268,7 @@ range-level n h = go (eqb (n .kind) 2) refl
     go false e = let z : n .level ≡ 0 = eqb-true (n .level) 0 (rw e at fit) in omega arith
 
 range-small : (z : TreeSizes) (o : Obj) (r : Node) → z .servers ≤ 8 → object-in-store z o ≡ true → record-in-range z (number o) r ≡ true → Small o r
-unfolding record-in-range in-store
+unfolding record-in-range name-in-store
 range-small z meta r s t h = tt
 range-small z (node n) r s t h =
     let a : n / 1024 < z .servers = ltb-true _ _ (and-both _ _ t .0) in
@@ -731,7 +731,7 @@ meta-met z m u q right s u′ eight sh pr g =
     (record { asks = λ w hold. h .asks meta refl refl refl w hold; noted = h .noted; long = h .long; inside = λ t. refl; small = tt })
 
 pub name-small : (servers slots n : ℕ) (b : Bool) → b ≡ in-store (sizes servers slots) n → servers ≤ 8 → not b ≡ false → n < 8192
-unfolding in-store
+unfolding name-in-store
 name-small servers slots n b e h t =
     let a : n / 1024 < servers = ltb-true _ _ (and-both _ _ (sym e ∙ not-false b t) .0) in
     omega arith

@@ -14,7 +14,7 @@ use Rattle.base.specs.Test.{yes?, ifd}
 use Rattle.nodes.specs.declared.node.Node.{Node}
 use Rattle.nodes.specs.declared.found.Found.{Found}
 use Rattle.nodes.specs.declared.found.Found.the-variants.{At, Absent}
-use Rattle.nodes.specs.Name.{name, server-of, slot-of}
+use Rattle.nodes.specs.Name.{name, server-of, slot-of, name-in-store}
 use Rattle.nodes.specs.Flags.{with-flag}
 use Rattle.nodes.specs.Laws.Bits.{length-flags, flags-with}
 use Rattle.operations.specs.Object.{meta, node, flag, Val, is-taken, Writes}
@@ -140,7 +140,7 @@ counted-at ((flag n, v) ∷ w) s i fs small h = go (counted-at w s i fs small h)
 -- ---- both are one
 module _ (z : TreeSizes) (x : List ℕ) (w : Writes) (hold : Holds-writes z x w) (s : ℕ) (there : s < z .servers) where
   same-or : (i : ℕ) (b : Bool) → i < 1024 → i < z .slots → own-or x (own-find x (8193 + name s i)) b ≡ written-or (write-of w (flag (name s i))) b
-  unfolding in-store
+  unfolding name-in-store
   same-or i b small h =
       let p : server-of (name s i) ≡ s = omega arith in
       let q : slot-of (name s i) ≡ i = omega arith in

@@ -8,12 +8,13 @@ use native.Mathlib.Omega.{arith}
 use lib.ListN.{length, getD}
 use lib.Dec.{eqb, leb}
 use borrow.Author.Tests.{not-true, not-false, eqb-false}
+use Rattle.base.specs.Laws.Test.{one-if-small}
 use Rattle.nodes.specs.declared.node.Node.{Node}
 use Rattle.nodes.specs.declared.found.Found.{Found}
 use Rattle.nodes.specs.declared.found.Found.the-variants.{At, Absent}
 use Rattle.nodes.specs.Found.{found, Inside}
 use Rattle.nodes.specs.Laws.Found.{found-some, found-none}
-use Rattle.nodes.specs.Place.{place, one-if}
+use Rattle.nodes.specs.Place.{place}
 use Rattle.nodes.specs.Find.{key-index, find-at}
 use Rattle.nodes.specs.Node.{keysOf}
 use Rattle.nodes.specs.Entries.{entriesOf}
@@ -82,14 +83,10 @@ slot-inside f i n h e l = omega (arith, h .inside i e)
 
 pub ruleset look-in-exits = (look-there, look-not-there, slot-inside)
 
-bit-small : (b : Bool) → one-if b ≤ 1
-bit-small true = omega arith
-bit-small false = omega arith
-
 pub place-within : (ks : List ℕ) (key : ℕ) → place ks key ≤ length ks
 unfolding place
 place-within [] key = omega arith
-place-within (k ∷ ks) key = omega (arith, bit-small (leb k key), place-within ks key)
+place-within (k ∷ ks) key = omega (arith, one-if-small (leb k key), place-within ks key)
 
 pub find-inside : (ks : List ℕ) (key i : ℕ) → key-index ks key ≡ some i → i < length ks
 unfolding key-index find-at

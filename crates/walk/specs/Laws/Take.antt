@@ -7,9 +7,9 @@ use native.Mathlib.Omega.{arith}
 use lib.Dec.{eqb}
 use lib.ListN.{length, getD}
 use borrow.Author.Tests.{not-true, not-false, eq-eqb, ne-eqb}
+use Rattle.base.specs.Test.{one-if}
 use Rattle.nodes.specs.declared.node.Node.{Node}
 use Rattle.nodes.specs.Lists.{pad}
-use Rattle.nodes.specs.Place.{one-if}
 use Rattle.nodes.specs.Node.{extra, keysOf, slotsOf, made, free-node}
 use Rattle.nodes.specs.Laws.Stored.{Sized}
 use Rattle.operations.specs.Object.{Obj, node, flag, Val, body, taken, free, not-free}

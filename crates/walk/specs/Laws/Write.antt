@@ -22,6 +22,7 @@ use Rattle.nodes.specs.Stored.{words-of, node-of, node-at, put-node}
 use Rattle.nodes.specs.Laws.Stored.{Sized, length-words, node-same}
 use Rattle.operations.specs.Object.{Obj, meta, node, flag, Val, Writes, hit}
 use Rattle.operations.specs.Slot.{TreeSizes}
+use Rattle.nodes.specs.Name.{name-in-store}
 use Rattle.client.specs.Record.{number, in-store, object-in-store, value-of, record-of}
 use Rattle.client.specs.Sets.{or-found, first-of}
 use Rattle.client.specs.Lent.{OwnFits, own-count, own-number, own-record, own-find, own-at, own-put, own-first, own-list}
@@ -31,7 +32,7 @@ use Rattle.walk.specs.Ask.{SmallNode, Small, Few, OwnGood, write-of, own
 
 -- ---- an object of the store and its number
 pub name-below : (z : TreeSizes) (n : ℕ) → z .servers ≤ 8 → in-store z n ≡ true → n < 8192
-unfolding in-store
+unfolding name-in-store
 name-below z n h t = let a : n / 1024 < z .servers = ltb-true _ _ (and-both _ _ t .0) in omega arith
 
 pub hit-is : (z : TreeSizes) → z .servers ≤ 8 → (o p : Obj) → object-in-store z o ≡ true → object-in-store z p ≡ true → hit o p ≡ eqb (number o) (number p)

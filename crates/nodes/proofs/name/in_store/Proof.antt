@@ -1,7 +1,7 @@
-use Rattle.client.specs.Laws.Record.{no-server, by-slot}
+use Rattle.nodes.specs.Laws.Name.{no-server, by-slot}
 use borrow.Author.Needs.{needs}
-use Rattle.client.proofs.range.in_store.Statement.{statement}
-use Rattle.client.proofs.range.in_store.Tie as tie
+use Rattle.nodes.proofs.name.in_store.Statement.{statement}
+use Rattle.nodes.proofs.name.in_store.Tie as tie
 
 pub in-store-spec : {M : Type 1} → statement M
 in-store-spec = tie.close (tie.spec
