@@ -51,6 +51,7 @@ pub fn open(memory: &mut [u8], servers: usize, slots: usize, clients: usize) -> 
 }
 
 /// The three numbers of the step's outcome. A list writes its pairs to the output.
+#[inline]
 pub fn step(memory: &mut [u8], output: &mut [u8], words: [u64; 6]) -> [u64; 3] {
     let [kind, client, op, key, value, server] = words;
     let (mut a, mut b) = (0, 0);

@@ -159,6 +159,7 @@ impl Reason {
 
 impl Outcome {
     /// The outcome of three numbers as the library gives them.
+    #[inline]
     pub(crate) fn of([outcome, a, b]: [u64; 3]) -> Outcome {
         match outcome {
             0 => Outcome::Refused(Refusal::of(a)),

@@ -42,6 +42,7 @@ pub enum Step {
 
 impl Operation {
     /// op, key, value and server.
+    #[inline]
     fn words(self) -> [u64; 4] {
         match self {
             Operation::Insert { key, value } => [1, key, value, 0],
@@ -57,6 +58,7 @@ impl Operation {
 
 impl Step {
     /// The six fields: kind, client, op, key, value, server. Those that a kind doesn't use are 0.
+    #[inline]
     pub fn words(self) -> [u64; 6] {
         match self {
             Step::Begin { client } => [0, client, 0, 0, 0, 0],
