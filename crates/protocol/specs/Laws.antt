@@ -8,6 +8,8 @@ pub mod Safety
 pub mod Meaning
 -- THE CLAIM on every state that the machine reaches
 pub mod Claim
+-- the largest number in tables, which an added server's table takes
+pub mod Largest
 -- a work step, fetching or answering, as moves of the machine
 pub mod Work
 -- how a plan is shown, by its shape, to meet what Setting demands of it
@@ -21,12 +23,16 @@ pub mod Example
 pub mod Small
 -- a flag changed and changed back passes its check by value
 pub mod ByValue
+-- a server leaves, the other one works on alone, and the first one comes back
+pub mod Coming
 -- why the answers of a transaction without participants are not compared
 pub mod Unchecked
 -- runs with moves that the rules do not have
 pub mod Variant
 -- the second trap: reads checked, but not locked until the decision
 pub mod Unlocked
+-- servers changed while a transaction is prepared at some participants
+pub mod Halfway
 -- the third trap: a reused slot's version started afresh
 pub mod Afresh
 -- WHY THE PROTOCOL'S THEOREM HOLDS
@@ -46,6 +52,8 @@ pub mod History
 pub mod Decide
 -- apply
 pub mod Apply
+-- a change of the servers
+pub mod Reconfigure
 -- WHY THE CLAIM FOLLOWS
 -- the tests over lists of items
 pub mod Items
@@ -57,6 +65,8 @@ pub mod Ghosts
 pub mod Prepared
 -- the apply move
 pub mod Applied
+-- the change of the servers
+pub mod Reconfigured
 -- all moves
 pub mod Explained
 -- GENERAL LAWS

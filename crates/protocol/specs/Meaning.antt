@@ -3,6 +3,7 @@
 use mathlib.Core.Path.{_≡_}
 use mathlib.Core.Bool.{true, false}
 use mathlib.Core.List.{List, [], _∷_}
+use Rattle.base.specs.Update.{upd}
 use Rattle.plans.specs.Plan.{gives, exec}
 use Rattle.protocol.specs.Setting.{Setting}
 use Rattle.protocol.specs.Writes.{latest}
@@ -20,6 +21,9 @@ pub record Meaning (T : Setting) : Type 1 where
   pub Holds-map : (T .Obj → T .Val) → Map → Type 0
   pub first-map : Map
   pub first-holds : Holds-map (T .init) first-map
+  -- with other servers it is the same tree
+  pub alike-holds : (M : T .Obj → T .Val) (m : Map) (v : T .Val) → Holds-map M m → T .Alike (M (T .meta)) v
+      → Holds-map (upd (T .eqObj) M (T .meta) v) m
   -- a plan that has a result over a tree of the map has the map's answer, and its writes make a tree of the next map
   pub sound : (p : T .Op) (M : T .Obj → T .Val) (m : Map) (r : T .Res) → Holds-map M m → exec (T .plan p) M ≡ gives r
       → (T .compared (T .public p) ≡ true → T .answer-of r ≡ map-answer (T .public p) m)

@@ -14,12 +14,13 @@ use Rattle.protocol.specs.Setting.{Setting}
 use Rattle.protocol.specs.Writes.{writes?, latest}
 use Rattle.protocol.specs.Lists.{all, any}
 use Rattle.protocol.specs.State.{Phase, idle, opened, committing, decided, is-decided, Entry, view}
+use Rattle.protocol.specs.System.{changed, Largest}
 use Rattle.protocol.specs.Meaning.{shown-of}
 use Rattle.protocol.specs.Machine.{Item, find, says, test, Slot, Copy, Lock, shared, owned, Machine, with-items, with-course, blank, unlocked, first-machine, with-item, seen, turned, with-slot, with-copies}
 
 module _ (T : Setting) where
   open Setting T using (Obj, Server, Client, Val, eqObj, eqVal, eqServer, eqClient, servers, some-server, clients)
-  open Setting T using (home, keeps, inner, by-value, plan, writes)
+  open Setting T using (home, keeps, inner, by-value, plan, writes, meta, present, Alike, init)
 
   -- ANSWERING: the writes enter the items
   abbrev pub wrote : List (Obj × Val) → Item T → Item T
@@ -44,8 +45,13 @@ module _ (T : Setting) where
   abbrev pub for-home : Server → Item T → Bool
   for-home s i = not (inner (i .obj) (i .old)) && yes? (eqServer s (home (i .obj)))
 
+  -- the metadata that was read: "all servers" are those that are there by it
+  abbrev pub meta-read : List (Item T) → Val
+  meta-read is = says T (λ i. i .old) (init meta) (find T is meta)
+
+  -- "Participants are the homes of leaves, free nodes and flags read; or all servers, where the metadata or a node inner before or after is written"
   abbrev pub participants : List (Item T) → Server → Bool
-  participants is s = any for-all is || any (for-home s) is
+  participants is s = cond (any for-all is) (present (meta-read is) s) (any (for-home s) is)
 
   -- the first server of a list that passes a test
   unfoldable pub first-of : (Server → Bool) → List Server → Server
@@ -55,6 +61,21 @@ module _ (T : Setting) where
   -- all participants p have done it
   abbrev pub all-parts : (Server → Bool) → (Server → Bool) → Bool
   all-parts p done = all (λ s. not (p s) || done s) servers
+
+  -- is the home of an item's object there by the metadata read
+  abbrev pub home-there : List (Item T) → Item T → Bool
+  home-there is i = present (meta-read is) (home (i .obj))
+
+  -- is it read as an inner node whose home isn't: then what was read was never one tree
+  abbrev pub homeless : List (Item T) → Item T → Bool
+  homeless is i = test T (λ j. inner (j .obj) (j .old)) is (i .obj) && (not (yes? (eqObj (i .obj) meta)) && not (home-there is i))
+
+  -- where all servers take part, the homes of what is outer are among them, or the transaction can't be decided
+  abbrev pub homed : List (Item T) → Bool
+  homed is =
+      let p = participants is in
+      not (any for-all is) || (all (λ i. inner (i .obj) (i .old) || home-there is i) is
+      || (any (homeless is) is && (test T (λ i. true) is meta && p (first-of p servers))))
 
   abbrev pub committed-slot : Slot T → Slot T
   committed-slot y = let p = participants (y .items) in with-course T y committing p (first-of p servers) (y .prepared) (y .applied)
@@ -148,6 +169,33 @@ module _ (T : Setting) where
     renewed : (i : Item T) → m .slots c .phase ≡ decided → find T (m .slots c .items) o ≡ some i → i .written ≡ true
         → Copied m c o (some (record { value = i .new; version = cond (by-value o) 0 (suc (i .version)) }))
 
+  -- SERVERS COME AND GO: a is a server that is there, whose metadata is the old one; v is the new one; t gives the tables of added servers
+  pub record Reconfigurable (m : Machine T) (a : Server) (v : Val) (t : Server → Obj → ℕ) : Type 0 where
+    pub not-absent : present (m .value a meta) a ≡ true
+    -- "no transaction is prepared or decided without being ended"
+    pub unprepared : (c : Client) (s : Server) → m .slots c .prepared s ≡ false
+    pub undecided : (c : Client) → is-decided (m .slots c .phase) ≡ false
+    pub alike : Alike (m .value a meta) v
+    pub manned : (s : Server) × (present v s ≡ true)
+    -- "removal with a slot still taken" is refused: the home of no inner node is absent afterwards
+    pub homed : (o : Obj) → ¬ (o ≡ meta) → inner o (m .value (home o) o) ≡ true → present v (home o) ≡ true
+    -- "An added server's version table takes, slot by slot, the largest number in its own earlier table or in those of servers not absent"
+    pub tables : (s : Server) → present (m .value a meta) s ≡ false → present v s ≡ true → (o : Obj)
+        → Largest T (m .table) (present (m .value a meta)) s o (t s o)
+
+  -- the new metadata v in place of the old one, with the version n, and the tables of added servers
+  abbrev pub reconfigured-by : (old : Val) (n : ℕ) (v : Val) (t : Server → Obj → ℕ) → Machine T → Machine T
+  reconfigured-by old n v t m = record {
+    slots = m .slots;
+    value = λ s o. cond (changed T old v s o) v (m .value s o);
+    version = λ s o. cond (changed T old v s o) n (m .version s o);
+    table = λ s o. cond (changed T old v s o) n (cond (not (present old s) && present v s) (t s o) (m .table s o));
+    lock = m .lock;
+    copy = m .copy;
+    said = m .said;
+    log = m .log;
+  }
+
   pub data Move (m : Machine T) : Machine T → Type 0 where
     begins : (c : Client) → m .slots c .phase ≡ idle → Move m (cleared m c opened)
     uses-copy : (c : Client) (o : Obj) (k : Copy T) → m .slots c .phase ≡ opened → find T (m .slots c .items) o ≡ none → m .copy c o ≡ some k
@@ -159,21 +207,24 @@ module _ (T : Setting) where
         → exec (plan (e .op)) (view T (seen T (m .slots c))) ≡ gives (e .result)
         → Move m (turned T m (upd eqClient (m .slots) c (answered-slot (m .slots c) (writes (e .result)))) (m .lock)
         (upd eqClient (m .said) c (shown-of T e ∷ m .said c)) (m .log))
-    commits : (c : Client) → m .slots c .phase ≡ opened → Move m (with-slot T m c (committed-slot (m .slots c)))
-    prepares : (c : Client) (s : Server) → m .slots c .phase ≡ committing → m .slots c .prepared s ≡ false
+    commits : (c : Client) → m .slots c .phase ≡ opened → homed (m .slots c .items) ≡ true → Move m (with-slot T m c (committed-slot (m .slots c)))
+    prepares : (c : Client) (s : Server) → present (m .value s meta) s ≡ true → m .slots c .phase ≡ committing → m .slots c .prepared s ≡ false
         → all (check m (m .slots c .lowest) s) (m .slots c .items) ≡ true
         → all (λ i. grants c (to-write s i) (to-read (m .slots c .lowest) s i) (m .lock s (i .obj))) (m .slots c .items) ≡ true
         → Move m (turned T m (upd eqClient (m .slots) c (prepared-slot (m .slots c) s)) (granted-at m c s) (m .said) (m .log))
     decides : (c : Client) → m .slots c .phase ≡ committing
         → all-parts (m .slots c .participant) (m .slots c .prepared) ≡ true
         → Move m (turned T m (upd eqClient (m .slots) c (decided-slot (m .slots c))) (m .lock) (m .said) (m .said c ∷ m .log))
-    applies : (c : Client) (s : Server) → m .slots c .phase ≡ decided → m .slots c .applied s ≡ false → Move m (applied-at m c s)
+    applies : (c : Client) (s : Server) → m .slots c .phase ≡ decided → m .slots c .participant s ≡ true → m .slots c .applied s ≡ false
+        → Move m (applied-at m c s)
     ends : (c : Client) → m .slots c .phase ≡ decided → all-parts (m .slots c .participant) (m .slots c .applied) ≡ true
         → Move m (cleared m c idle)
     aborts : (c : Client) → is-decided (m .slots c .phase) ≡ false → Move m (cleared m c idle)
     releases : (lock : Server → Obj → Lock T) → ((s : Server) (o : Obj) → Released m s o (lock s o))
         → Move m (turned T m (m .slots) lock (m .said) (m .log))
     copies : (f : Client → Obj → Option (Copy T)) → ((c : Client) (o : Obj) → Copied m c o (f c o)) → Move m (with-copies T m f)
+    reconfigures : (a : Server) (v : Val) (t : Server → Obj → ℕ) → Reconfigurable m a v t
+        → Move m (reconfigured-by (m .value a meta) (suc (m .version a meta)) v t m)
 
   pub data Reached : Machine T → Type 0 where
     at-first : Reached (first-machine T)

@@ -41,10 +41,10 @@ module _ (T : Setting) where
     pub prepared : Server → Bool
     pub applied : Server → Bool
 
-  -- a decided transaction, and whether it had a participant
-  pub record Decided : Type 0 where
-    pub ops : List Entry
-    pub took-part : Bool
+  -- a decided transaction, and whether it had a participant; or a change of the servers, by its new metadata
+  pub data Decided : Type 0 where
+    transacted : (ops : List Entry) (took-part : Bool) → Decided
+    reconfigured : Val → Decided
 
   -- The clients' transactions; what each server stores of each object, value, version and its table's version; and the ghosts:
   -- an object's version counting decided writes, what it was at each version, and the decided transactions, last first.

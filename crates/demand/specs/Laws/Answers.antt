@@ -1,11 +1,14 @@
 -- WHAT FOLLOWS where the memory shows a state that the machine reaches: the decided transactions' answers are the map's, and the tree, due writes
 -- counted in, holds the map that they leave.
-use mathlib.Core.Path.{_≡_, refl, ap, sym, _∙_, subst}
+use mathlib.Core.Path.{_≡_, refl, ap, sym, _∙_, subst, fun-ext}
 use mathlib.Core.List.{List, [], _∷_, map}
 use Prim.Native.Nat.{ℕ}
+use Rattle.base.specs.Test.{ifd}
+use Rattle.operations.specs.Object.{Obj, meta, Val}
+use Rattle.operations.specs.Laws.Object.{Obj-discrete}
 use Rattle.operations.specs.Slot.{Allowed}
 use Rattle.operations.specs.Tree.{Holds-tree}
-use Rattle.protocol.specs.Claim.{due-in}
+use Rattle.protocol.specs.Claim.{due-in, seat}
 use Rattle.protocol.specs.Laws.Claim.{claim}
 use Rattle.steps.specs.Whole.{Address}
 use Rattle.demand.specs.Laws.Store.{sizes, home, meaning}
@@ -50,4 +53,12 @@ module _ (k j slots : ℕ) (al : Allowed (sizes k j slots)) where
     pub tree-holds : Holds-tree (λ o. due-in (T k j slots) N (home k j slots o) o) (Ledger.map-all (L .decided))
     tree-holds =
         subst (Holds-tree (λ o. due-in (T k j slots) N (home k j slots o) o)) (map-all-same (N .log) ∙ ap Ledger.map-all (sym (R .log-as)))
-        (claim (T k j slots) Z (R .reached) .holds)
+        (subst (λ (S : Obj → Val). Holds-tree S (Mean.map-all (T k j slots) Z (N .log))) (fun-ext (λ o. ap (λ s. due-in (T k j slots) N s o) (seat-home o)))
+        (claim (T k j slots) Z (R .reached) .holds (home k j slots meta) refl))
+      where
+        seat-home : (o : Obj) → seat (T k j slots) (home k j slots meta) o ≡ home k j slots o
+        seat-home o = go (Obj-discrete o meta)
+          where
+            go : (d : Dec (o ≡ meta)) → ifd d (home k j slots meta) (home k j slots o) ≡ home k j slots o
+            go (yes e) = ap (home k j slots) (sym e)
+            go (no ne) = refl

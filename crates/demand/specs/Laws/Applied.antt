@@ -48,7 +48,7 @@ use Rattle.protocol.specs.Machine as P
 use Rattle.protocol.specs.Moves as Mv
 use Rattle.client.specs.Items as I
 
-module _ (k j slots : ℕ) (al : Allowed (sizes k j slots)) (few : suc j ≤ 16) (m : Address → ℕ) (L : Ledger) (M : P.Machine (T k j slots)) (c : Fin (suc j)) (R : Related k j slots m L M) (fit : client-fits (sizes k j slots) (client-of m (c .0)) ≡ true) (s : Fin (suc k)) (now : client-of m (c .0) phase ≡ 3) (new : bit (client-of m (c .0) applied) (s .0) ≡ false) where
+module _ (k j slots : ℕ) (al : Allowed (sizes k j slots)) (few : suc j ≤ 16) (m : Address → ℕ) (L : Ledger) (M : P.Machine (T k j slots)) (c : Fin (suc j)) (R : Related k j slots m L M) (fit : client-fits (sizes k j slots) (client-of m (c .0)) ≡ true) (s : Fin (suc k)) (now : client-of m (c .0) phase ≡ 3) (part : bit (client-of m (c .0) participants) (s .0) ≡ true) (new : bit (client-of m (c .0) applied) (s .0) ≡ false) where
   abbrev z : Sizes
   z = record { servers = suc k; slots = slots; clients = suc j }
 
@@ -86,7 +86,7 @@ module _ (k j slots : ℕ) (al : Allowed (sizes k j slots)) (few : suc j ≤ 16)
   pub reached₁ : Mv.Reached (T k j slots) M₁
   unfolding phase-of
   reached₁ =
-      Mv.moved (Mv.moved (R .reached) (Mv.applies c s (sym (shown .phase-as) ∙ ap phase-of now) (shown .applied-as s ∙ new)))
+      Mv.moved (Mv.moved (R .reached) (Mv.applies c s (sym (shown .phase-as) ∙ ap phase-of now) (shown .participant-as s ∙ part) (shown .applied-as s ∙ new)))
       (Mv.releases (upd (Fin-discrete (suc k)) (M .lock) s locks) (λ t o. go t o (Fin-discrete (suc k) t s)))
     where
       applied-now : (M₀ .slots c .prepared s && not (M₀ .slots c .applied s)) ≡ false

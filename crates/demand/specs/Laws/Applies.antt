@@ -117,7 +117,7 @@ module _ (k j slots : ℕ) where
       ap (λ (l : List (Put Address)). changed whole m (ps ++ l)) (over-append (client c) (noted applied s u) (finish v))
       ∙ ap (changed whole m) (sym (append-assoc ps qs (over (client c) (finish v)))) ∙ changed-append whole (ps ++ qs) (over (client c) (finish v)) m
 
-  module _ (al : Allowed (sizes k j slots)) (few : suc j ≤ 16) (m : Address → ℕ) (L : Ledger) (M : P.Machine (T k j slots)) (c : Fin (suc j)) (G : Good k j slots m L M) (s : Fin (suc k)) (now : client-of m (c .0) phase ≡ 3) (new : bit (client-of m (c .0) applied) (s .0) ≡ false) (early : all-applied (store k j slots) m (c .0) (s .0) ≡ true → renews-young (client-of m (c .0)) ≡ true) where
+  module _ (al : Allowed (sizes k j slots)) (few : suc j ≤ 16) (m : Address → ℕ) (L : Ledger) (M : P.Machine (T k j slots)) (c : Fin (suc j)) (G : Good k j slots m L M) (s : Fin (suc k)) (now : client-of m (c .0) phase ≡ 3) (part : bit (client-of m (c .0) participants) (s .0) ≡ true) (new : bit (client-of m (c .0) applied) (s .0) ≡ false) (early : all-applied (store k j slots) m (c .0) (s .0) ≡ true → renews-young (client-of m (c .0)) ≡ true) where
     abbrev u : ClientWord → ℕ
     u = client-of m (c .0)
 
@@ -125,13 +125,13 @@ module _ (k j slots : ℕ) where
     v = changed client-words u (noted applied (s .0) u)
 
     abbrev n₁ : Address → ℕ
-    n₁ = m₁ k j slots al few m L M c G s now new
+    n₁ = m₁ k j slots al few m L M c G s now part new
 
     own : client-of n₁ (c .0) ≡ v
     own = both-client m (s .0) (c .0) _ _
 
-    good₁ : Good k j slots n₁ L (M₁ k j slots al few m L M c G s now new)
-    good₁ = apply-good k j slots al few m L M c G s now new
+    good₁ : Good k j slots n₁ L (M₁ k j slots al few m L M c G s now part new)
+    good₁ = apply-good k j slots al few m L M c G s now part new
 
     same-sets : Same-sets u (client-of n₁ (c .0))
     unfolding noted Only
@@ -166,4 +166,4 @@ module _ (k j slots : ℕ) where
 
         go : (b : Bool) → all-applied (store k j slots) m (c .0) (s .0) ≡ b → Explained k j slots (changed whole m (cond b last-one one-more .stores)) L
         go true e = subst (λ (f : Address → ℕ). Explained k j slots f L) (sym stores-end) (ends e)
-        go false e = record { machine = M₁ k j slots al few m L M c G s now new; good = good₁ }
+        go false e = record { machine = M₁ k j slots al few m L M c G s now part new; good = good₁ }

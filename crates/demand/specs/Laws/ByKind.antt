@@ -198,7 +198,8 @@ module _ (k j slots : ℕ) (al : Allowed (sizes k j slots)) (few : suc j ≤ 16)
             coe 1 0 (t. Explained k j slots (changed-append whole ps (S.applied-at z m₂ (n .client) (n .server) .stores) m t) (ends t))
             (apply-explained k j slots al few m₂ (notes-decision L (n .client)) (D.M₂ k j slots al few m L M c G fit s now new fine all) c
             (D.decide-good k j slots al few m L M c G fit s now new fine all) s
-            (D.now₂ k j slots al few m L M c G fit s now new fine all) (D.new₂ k j slots al few m L M c G fit s now new fine all)
+            (D.now₂ k j slots al few m L M c G fit s now new fine all)
+            (D.part₂ k j slots al few m L M c G fit s now new fine all (eqb-true (u participants) (putBit true 0 (n .server)) one)) (D.new₂ k j slots al few m L M c G fit s now new fine all)
             (λ _. young-kept u (client-of m₂ (n .client)) (D.same-sets₂ k j slots al few m L M c G fit s now new fine all)
             (D.lost₂ k j slots al few m L M c G fit s now new fine all) (fit-young (sizes k j slots) u (n .server) fits)))
 
@@ -224,7 +225,7 @@ module _ (k j slots : ℕ) (al : Allowed (sizes k j slots)) (few : suc j ≤ 16)
           let d = due-now u (n .server) f in
           if-after (S.apply-fits z m (n .client) (n .server)) (S.applied-at z m (n .client) (n .server))
           (λ q. subst (Explained k j slots _) (sym (applied-is e))
-          (apply-explained k j slots al few m L M c G s (d .0) (d .2)
+          (apply-explained k j slots al few m L M c G s (d .0) (d .1) (d .2)
           (λ all. fit-young (sizes k j slots) u (n .server)
           (subst (λ (b : Bool). fit-to-apply (sizes k j slots) u (n .server) b ≡ true) all
           (and-both (fit-to-apply (sizes k j slots) u (n .server) (S.all-applied z m (n .client) (n .server))) (unlock-fits z m (n .client) (n .server)) q .0)))))

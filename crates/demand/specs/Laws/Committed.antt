@@ -1,11 +1,12 @@
 -- COMMIT: the machine's move, and with no participant the decision and the end.
 use mathlib.Core.Path.{_≡_, refl, ap, ap₂, sym, _∙_, subst}
-use mathlib.Core.Bool.{Bool, true, false, _&&_, _||_, not}
+use mathlib.Core.Bool.{Bool, true, false, cond, _&&_, _||_, not}
 use mathlib.Core.List.{List, [], _∷_}
 use Prim.Native.Nat.{ℕ, zero, suc, _<_, Fin}
 use native.Mathlib.Omega.{arith}
 use native.Mathlib.Decide.{Fin-discrete, ℕ-discrete}
 use Rattle.base.specs.Test.{and-both}
+use Rattle.base.specs.Laws.Test.{or-left, or-right}
 use Rattle.base.specs.Update.{upd}
 use Rattle.base.specs.Laws.Update.{upd-same, upd-other}
 use Rattle.memory.specs.Bit.{bit}
@@ -18,6 +19,7 @@ use Rattle.operations.specs.Slot.{Allowed}
 use Rattle.nodes.specs.declared.found.Found.{Found}
 use Rattle.nodes.specs.declared.found.Found.the-variants.{At}
 use Rattle.protocol.specs.Lists.{any}
+use Rattle.protocol.specs.Laws.Lists.{all-in}
 use Rattle.protocol.specs.State.{idle, opened}
 use Rattle.client.specs.declared.part.Set.the-variants.{Reads, Writes, Copies}
 use Rattle.client.specs.Layout.{ClientWord, client-words, phase, op-number, op-key, op-value, op-server, participants, prepared, applied, item, vector-word, reads-count, writes-count, meta-copied, meta-root, meta-version}
@@ -35,7 +37,7 @@ use Rattle.demand.specs.Laws.Frame.{last, read-after}
 use Rattle.demand.specs.Laws.Numbers.{obj-of, number-obj, inner-of}
 use Rattle.demand.specs.Laws.Shows.{phase-of, T, In-store, new-value, Slot-shown, Related}
 use Rattle.demand.specs.Laws.Slots.{Same-sets, item-frame, read-frame, write-frame, copies-frame}
-use Rattle.demand.specs.Laws.Held.{any-at, any-one, same-test, all-in, found-at, has-at, at-has, read-in, written-in, item-at, any-items}
+use Rattle.demand.specs.Laws.Held.{any-at, any-one, same-test, found-at, has-at, at-has, read-in, written-in, item-at, any-items}
 use Rattle.demand.specs.Laws.Members.{mask-bit, member, lowest-same, kept-home, outer-home}
 use Rattle.demand.specs.Laws.Kept.{cleared-shown, client-related, away}
 use Rattle.protocol.specs.Machine as P
@@ -45,6 +47,10 @@ use Rattle.client.specs.Participants as K
 
 pub both-true : (a b : Bool) → a ≡ true → b ≡ true → (a && b) ≡ true
 both-true a b p q = rw (p, q)
+
+cond-or : (a b : Bool) → cond a true b ≡ (a || b)
+cond-or true b = refl
+cond-or false b = refl
 
 any-eq : (n : ℕ) (f g : ℕ → Bool) → ((i : ℕ) → i < n → f i ≡ g i) → I.any-below n f ≡ I.any-below n g
 unfolding I.any-below
@@ -112,7 +118,9 @@ module _ (k j slots : ℕ) (al : Allowed (sizes k j slots)) (u : ClientWord → 
     -- "Participants are the homes .. or all servers": the machine's are those that the client computes
     pub participants-same : (s : Fin (suc k)) → Mv.participants (T k j slots) (y .items) s ≡ bit (K.participants-of u (suc k)) (s .0)
     unfolding K.participants-of count
-    participants-same s = ap₂ _||_ all-same (homes-same s) ∙ sym (mask-bit (suc k) (K.takes-part u) (s .0) (s .1))
+    participants-same s =
+        cond-or (any (Mv.for-all (T k j slots)) (y .items)) (any (Mv.for-home (T k j slots) s) (y .items)) ∙ ap₂ _||_ all-same (homes-same s)
+        ∙ sym (mask-bit (suc k) (K.takes-part u) (s .0) (s .1))
 
     -- the slot after the commit
     abbrev committed-words : ClientWord → ℕ
@@ -160,8 +168,12 @@ module _ (k j slots : ℕ) (al : Allowed (sizes k j slots)) (m : Address → ℕ
   unfolding phase-of
   opened-at = sym (R .clients c .slot .phase-as) ∙ ap phase-of open-now
 
+  -- every home is there
+  homed : Mv.homed (T k j slots) (y .items) ≡ true
+  homed = or-right (not (any (Mv.for-all (T k j slots)) (y .items))) _ (or-left _ _ (all-in _ (y .items) (λ i q. or-right (inner (i .obj) (i .old)) true refl)))
+
   pub reached₁ : Mv.Reached (T k j slots) M₁
-  reached₁ = Mv.moved (R .reached) (Mv.commits c opened-at)
+  reached₁ = Mv.moved (R .reached) (Mv.commits c opened-at homed)
 
   slot₁ : M₁ .slots c ≡ Mv.committed-slot (T k j slots) y
   slot₁ = upd-same (Fin-discrete (suc j)) (M .slots) c (Mv.committed-slot (T k j slots) y)

@@ -21,7 +21,8 @@ use Rattle.steps.specs.Laws.Stores.{client-of}
 use Rattle.demand.specs.Laws.Frame.{last, read-after, Only}
 use Rattle.demand.specs.Laws.Shows.{phase-of, T, Slot-shown, Client-shown, Related}
 use Rattle.demand.specs.Laws.Course.{else-same, course-shown}
-use Rattle.demand.specs.Laws.Held.{all-at, all-in}
+use Rattle.protocol.specs.Laws.Lists.{all-in}
+use Rattle.demand.specs.Laws.Held.{all-at}
 use Rattle.demand.specs.Laws.Kept.{client-related, away}
 use Rattle.protocol.specs.Machine as P
 use Rattle.protocol.specs.Moves as Mv

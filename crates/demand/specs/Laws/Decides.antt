@@ -148,7 +148,12 @@ module _ (k j slots : ℕ) (al : Allowed (sizes k j slots)) (few : suc j ≤ 16)
     unfolding decided noted
     lost₂ = word₂ lost
 
-    -- with one participant that is all
+    -- with one participant it takes part
+    pub part₂ : u participants ≡ putBit true 0 (s .0) → bit (client-of m₂ (c .0) participants) (s .0) ≡ true
+    unfolding decided noted
+    part₂ e = ap (λ (w : ℕ). bit w (s .0)) (word₂ participants ∙ e) ∙ bit-put-same true 0 (s .0)
+
+    -- and that is all
     pub only-applied : u participants ≡ putBit true 0 (s .0) → all-applied z m₂ (c .0) (s .0) ≡ true
     unfolding decided noted covers
     only-applied e =

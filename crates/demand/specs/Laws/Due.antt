@@ -15,7 +15,7 @@ use Rattle.operations.specs.Slot.{Allowed}
 use Rattle.operations.specs.Sound.{new-store}
 use Rattle.protocol.specs.Lists.{Among}
 use Rattle.protocol.specs.Laws.Items.{find-item}
-use Rattle.client.specs.Layout.{client-words, phase, applied}
+use Rattle.client.specs.Layout.{client-words, phase, applied, participants}
 use Rattle.client.specs.Record.{object-in-store}
 use Rattle.client.specs.Laws.Ranges.{client-fits}
 use Rattle.client.specs.Course.{noted}
@@ -46,7 +46,7 @@ module _ (k j slots : ℕ) where
           let q = find-item (T k j slots) (y .items) o i e in
           absurd (not-both (subst (In-store k j slots) (q .1) (inside i (q .0))) h)
 
-  module _ (al : Allowed (sizes k j slots)) (few : suc j ≤ 16) (m : Address → ℕ) (L : Ledger) (M : P.Machine (T k j slots)) (c : Fin (suc j)) (G : Good k j slots m L M) (s : Fin (suc k)) (now : client-of m (c .0) phase ≡ 3) (new : bit (client-of m (c .0) applied) (s .0) ≡ false) where
+  module _ (al : Allowed (sizes k j slots)) (few : suc j ≤ 16) (m : Address → ℕ) (L : Ledger) (M : P.Machine (T k j slots)) (c : Fin (suc j)) (G : Good k j slots m L M) (s : Fin (suc k)) (now : client-of m (c .0) phase ≡ 3) (part : bit (client-of m (c .0) participants) (s .0) ≡ true) (new : bit (client-of m (c .0) applied) (s .0) ≡ false) where
     abbrev fit : client-fits (sizes k j slots) (client-of m (c .0)) ≡ true
     fit = G .decided-fits c (omega (arith, now))
 
@@ -55,14 +55,14 @@ module _ (k j slots : ℕ) where
     m₁ = changed whole m (applying (store k j slots) m (c .0) (s .0) ++ in-client (store k j slots) m (c .0) (noted applied (s .0)))
 
     abbrev pub M₁ : P.Machine (T k j slots)
-    M₁ = A.M₁ k j slots al few m L M c (G .shown) fit s now new
+    M₁ = A.M₁ k j slots al few m L M c (G .shown) fit s now part new
 
     own : client-of m₁ (c .0) ≡ changed client-words (client-of m (c .0)) (noted applied (s .0) (client-of m (c .0)))
     own = both-client m (s .0) (c .0) _ _
 
     pub apply-good : Good k j slots m₁ L M₁
     apply-good = record {
-      shown = A.apply-kept k j slots al few m L M c (G .shown) fit s now new;
+      shown = A.apply-kept k j slots al few m L M c (G .shown) fit s now part new;
       decided-fits = still-fits k j slots m m₁ L L M c G
           (λ _. subst (λ u. client-fits (sizes k j slots) u ≡ true) (sym own) (applied-fits (sizes k j slots) (client-of m (c .0)) fit (s .0) (s .1)))
           (λ d n. both-other m (s .0) (c .0) _ _ (d .0) (away k j slots c d n));

@@ -16,7 +16,7 @@ use Rattle.nodes.specs.declared.found.Found.the-variants.{At, Absent}
 use Rattle.operations.specs.Object.{Obj}
 use Rattle.operations.specs.Slot.{TreeSizes, Allowed}
 use Rattle.protocol.specs.Lists.{Among, all, any}
-use Rattle.protocol.specs.Laws.Lists.{any-among}
+use Rattle.protocol.specs.Laws.Lists.{any-among, any-in, all-in}
 use Rattle.protocol.specs.Laws.Items.{find-item}
 use Rattle.client.specs.declared.part.Set.{Set}
 use Rattle.client.specs.declared.part.Set.the-variants.{Reads, Writes}
@@ -68,21 +68,6 @@ pub same-test : (a b : Bool) → (a ≡ true → b ≡ true) → (b ≡ true →
 same-test true b f g = sym (f refl)
 same-test false true f g = g refl
 same-test false false f g = refl
-
--- ---- tests of a list
-pub any-in : {A : Type 0} (f : A → Bool) (l : List A) → any f l ≡ true → (a : A) × Among a l × (f a ≡ true)
-unfolding any Among
-any-in f [] h = absurd (false≢true h)
-any-in {A} f (a ∷ l) h = go (or-cases (f a) (any f l) h) (any-in f l)
-  where
-    go : (f a ≡ true) ⊎ (any f l ≡ true) → (any f l ≡ true → (b : A) × Among b l × (f b ≡ true)) → (b : A) × Among b (a ∷ l) × (f b ≡ true)
-    go (inl e) rec = (a, inl refl, e)
-    go (inr e) rec = let r = rec e in (r .0, inr (r .1), r .2)
-
-pub all-in : {A : Type 0} (f : A → Bool) (l : List A) → ((a : A) → Among a l → f a ≡ true) → all f l ≡ true
-unfolding all Among
-all-in f [] h = refl
-all-in f (a ∷ l) h = rw (h a (inl refl)) (all-in f l (λ b i. h b (inr i)))
 
 -- ---- a search
 pub absent≢at : (i : ℕ) → _≡_ {A = Found} Absent (At i) → ⊥

@@ -200,7 +200,7 @@ module _ (k j slots : ℕ) (al : Allowed (sizes k j slots)) (few : suc j ≤ 16)
     unfolding phase-of
     reached₁ =
         Mv.moved (R .reached)
-        (Mv.prepares c s (sym (shown .phase-as) ∙ ap phase-of now) (shown .prepared-as s ∙ new)
+        (Mv.prepares c s refl (sym (shown .phase-as) ∙ ap phase-of now) (shown .prepared-as s ∙ new)
         (all-items k j slots al u fit y shown (Mv.check (T k j slots) M (y .lowest) s) checks-at)
         (all-items k j slots al u fit y shown (λ i. Mv.grants (T k j slots) c (Mv.to-write (T k j slots) s i) (Mv.to-read (T k j slots) (y .lowest) s i) (M .lock s (i .obj))) grants-here))
       where

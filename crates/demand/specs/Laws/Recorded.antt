@@ -26,7 +26,7 @@ use Rattle.client.specs.Record.{number}
 use Rattle.client.specs.Laws.Ranges.{client-fits}
 use Rattle.steps.specs.Steps.{unlock-each}
 use Rattle.demand.specs.Laws.Store.{sizes, fins}
-use Rattle.demand.specs.Laws.Held.{any-in}
+use Rattle.protocol.specs.Laws.Lists.{any-in}
 use Rattle.demand.specs.Laws.Locking.{Swept, unlocked-swept}
 use Rattle.demand.specs.Laws.Shows.{T, In-store, lock-kept, Slot-shown, Recorded}
 use Rattle.protocol.specs.Machine as P

@@ -16,12 +16,14 @@ use Rattle.operations.specs.Slot.{TreeSizes, Allowed}
 use Rattle.operations.specs.Tree.{Holds-tree}
 use Rattle.operations.specs.Laws.Sound.{new-holds}
 use Rattle.operations.specs.Sound.{new-store}
-use Rattle.operations.specs.Laws.Seen.{Given, plan-with, sound-with, written-asked-with, asks-outer-with, uncompared-after}
+use Rattle.operations.specs.Laws.Seen.{Hint, Given, plan-with, sound-with, written-asked-with, asks-outer-with, uncompared-after}
 use Rattle.protocol.specs.Setting.{Setting}
 use Rattle.protocol.specs.Lists.{Among}
+use Rattle.protocol.specs.Laws.Changed.{upd-none}
 use Rattle.protocol.specs.Writes.{writes?, latest}
 use Rattle.protocol.specs.Meaning.{Meaning}
 use Rattle.plans.specs.Plan as P
+use Rattle.plans.specs.Laws.Plan as P-laws
 use Rattle.operations.specs.Map as M
 
 -- the operations' test of two objects is that one
@@ -113,8 +115,8 @@ module _ (k j slots : ℕ) where
   keeps-home (node n) = of-yes (Fin-discrete (suc k) (server (server-of n)) (server (server-of n))) refl
   keeps-home (flag n) = of-yes (Fin-discrete (suc k) (server (server-of n)) (server (server-of n))) refl
 
-  pub keeps-where : (s : Fin (suc k)) (o : Obj) → keeps s o ≡ true → (s ≡ home o) ⊎ ((v : Val) → inner o v ≡ true)
-  keeps-where s meta h = inr (λ v. refl)
+  pub keeps-where : (s : Fin (suc k)) (o : Obj) → keeps s o ≡ true → (s ≡ home o) ⊎ (o ≡ meta)
+  keeps-where s meta h = inr refl
   keeps-where s (node n) h = inl (yes-of (Fin-discrete (suc k) s (server (server-of n))) h)
   keeps-where s (flag n) h = inl (yes-of (Fin-discrete (suc k) s (server (server-of n))) h)
 
@@ -139,6 +141,16 @@ module _ (k j slots : ℕ) where
       → P.exec (plan-with sizes (p .hint) (p .op)) S ≡ P.gives r → (o : Obj) → writes? Obj-discrete (r .1) o ≡ true → asked o ≡ true
   writes-asked p asked S r a e o h = written-asked-with sizes (p .hint) (p .op) S asked (r .0) (r .1) a e o (sym (written-same (r .1) o) ∙ h)
 
+  pub writes-know : (op : M.Op) (h : Hint) (asked : Obj → Bool) (S : Obj → Val) → P.Asked (plan-with sizes h op) asked S → asked meta ≡ true
+  unfolding P.Asked P-laws.hinted P.bind
+  writes-know (M.insert q v) h asked S a = a .0
+  writes-know (M.lookup q) h asked S a = a .0
+  writes-know (M.delete q) h asked S a = a .0
+  writes-know (M.next q) h asked S a = a .0
+  writes-know (M.previous q) h asked S a = a .0
+  writes-know (M.migrate n s) h asked S a = a .0
+  writes-know (M.list q n) h asked S a = a .0
+
   abbrev pub setting : Setting
   setting = record {
     Obj = Obj;
@@ -156,6 +168,15 @@ module _ (k j slots : ℕ) where
     clients-all = fins-all (suc j);
     inner = inner;
     home = home;
+    meta = meta;
+    meta-inner = λ v. refl;
+    present = λ v s. true;
+    keeps-meta = λ s. refl;
+    init-manned = refl;
+    init-homed = λ o _ _. refl;
+    Alike = λ v u. v ≡ u;
+    writes-know = λ p asked S r a e o h. writes-know (p .op) (p .hint) asked S a;
+    servers-stay = λ p S r e s. refl;
     keeps = keeps;
     keeps-home = keeps-home;
     keeps-where = keeps-where;
@@ -192,5 +213,6 @@ module _ (k j slots : ℕ) where
     Holds-map = Holds-tree;
     first-map = [];
     first-holds = new-holds;
+    alike-holds = λ S m v h e. subst (λ U. Holds-tree U m) (sym (fun-ext (upd-none Obj-discrete S meta v e))) h;
     sound = sound al;
   }

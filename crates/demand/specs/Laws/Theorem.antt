@@ -4,6 +4,7 @@ use mathlib.Core.Path.{_≡_, refl, ap, sym, _∙_, subst, fun-ext}
 use mathlib.Core.Bool.{Bool, true, false, false≢true}
 use Prim.Native.Nat.{ℕ, zero, suc, _≤_, _<_, Fin}
 use native.Mathlib.Omega.{arith}
+use mathlib.Core.Logic.{inl}
 use Rattle.base.specs.Test.{not-both}
 use Rattle.nodes.specs.Name as N
 use Rattle.operations.specs.Object.{Obj, meta, node, flag, Val, root-of, taken, is-taken}
@@ -40,7 +41,7 @@ module _ (k j slots : ℕ) (al : Allowed (sizes k j slots)) (few : suc j ≤ 16)
     Stored o = M .value (home k j slots o) o
 
     stored-is : (λ o. due-in (T k j slots) M (home k j slots o) o) ≡ Stored
-    stored-is = fun-ext (λ o. none-due (T k j slots) (meaning k j slots al) (G .shown .reached) done (home k j slots o) o (keeps-home k j slots o))
+    stored-is = fun-ext (λ o. none-due (T k j slots) (meaning k j slots al) (G .shown .reached) done (home k j slots o) o (keeps-home k j slots o) (inl refl))
 
     holds : Holds-tree Stored (map-all (L .decided))
     holds = subst (λ S. Holds-tree S (map-all (L .decided))) stored-is (tree-holds k j slots al m L M (G .shown))
@@ -53,8 +54,8 @@ module _ (k j slots : ℕ) (al : Allowed (sizes k j slots)) (few : suc j ≤ 16)
     root-named s l =
         let t : Fin (suc k) = (s, l) in
         let Z = meaning k j slots al in
-        ap root-of (sym (G .shown .servers t .value-as meta refl refl) ∙ sym (none-due (T k j slots) Z (G .shown .reached) done t meta refl)
-        ∙ claim (T k j slots) Z (G .shown .reached) .agree t meta refl ∙ none-due (T k j slots) Z (G .shown .reached) done (home k j slots meta) meta refl)
+        ap root-of (sym (G .shown .servers t .value-as meta refl refl) ∙ sym (none-due (T k j slots) Z (G .shown .reached) done t meta refl (inl refl))
+        ∙ claim (T k j slots) Z (G .shown .reached) .agree t (home k j slots meta) refl refl ∙ none-due (T k j slots) Z (G .shown .reached) done (home k j slots meta) meta refl (inl refl))
 
     -- a taken slot is one of the store's, and its node is read at its home
     node-read : (x : ℕ) → Stored (flag x) ≡ taken true → D.node-in m x ≡ Stored (node x)

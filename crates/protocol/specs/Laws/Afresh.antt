@@ -15,7 +15,7 @@ use Rattle.protocol.specs.Meaning.{Shown, map-of, map-all, Right, Right-
 use Rattle.protocol.specs.Machine.{Machine, find}
 use Rattle.protocol.specs.Moves.{releases, given-back, first-of, stored-at, begins, fetches, answers, commits, prepares, decides, applies, ends, Reached}
 use Rattle.protocol.specs.Laws.Variant.{ReachedWith, at-start, by-rule, also, never}
-use Rattle.protocol.specs.Laws.Example.{leaf, look, put, tiny, leaves, one, one≢seven}
+use Rattle.protocol.specs.Laws.Example.{root, leaf, look, put, tiny, leaves, one, one≢seven}
 
 -- an apply as the rules have it, but that the version of what was free becomes 0
 data Afresh (m : Machine tiny) : Machine tiny → Type 0 where
@@ -44,27 +44,29 @@ mistaken =
     let r2 : Goes _ = by-rule r1 (fetches true false (leaf false) refl refl refl) in
     let r3 : Goes _ = by-rule r2 (begins false refl) in
     let r4 : Goes _ = by-rule r3 (fetches false false (leaf false) refl refl refl) in
-    let r5 : Goes _ = by-rule r4 (answers false emptied refl (refl, (refl, tt)) refl) in
-    let r6 : Goes _ = by-rule r5 (commits false refl) in
-    let r7 : Goes _ = by-rule r6 (prepares false false refl refl refl refl) in
-    let r8 : Goes _ = by-rule r7 (decides false refl refl) in
-    let r9 : Goes _ = by-rule r8 (applies false false refl refl) in
-    let r10 : Goes _ = by-rule r9 (ends false refl refl) in
-    let r11 : Goes _ = by-rule r10 (releases _ (λ s o. given-back false refl)) in
-    let r12 : Goes _ = by-rule r11 (begins false refl) in
-    let r13 : Goes _ = by-rule r12 (fetches false false (leaf false) refl refl refl) in
-    let r14 : Goes _ = by-rule r13 (answers false reused refl (refl, (refl, tt)) refl) in
-    let r15 : Goes _ = by-rule r14 (commits false refl) in
-    let r16 : Goes _ = by-rule r15 (prepares false false refl refl refl refl) in
-    let r17 : Goes _ = by-rule r16 (decides false refl refl) in
-    let r18 : Goes _ = also r17 (applies-afresh false false refl refl) in
-    let r19 : Goes _ = by-rule r18 (ends false refl refl) in
-    let r20 : Goes _ = by-rule r19 (releases _ (λ s o. given-back false refl)) in
-    let r21 : Goes _ = by-rule r20 (answers true looked refl (refl, tt) refl) in
-    let r22 : Goes _ = by-rule r21 (commits true refl) in
-    let r23 : Goes _ = by-rule r22 (prepares true false refl refl refl refl) in
-    let r24 : Goes _ = by-rule r23 (decides true refl refl) in
-    (_, r24, refl)
+    let r5 : Goes _ = by-rule r4 (fetches false false root refl refl refl) in
+    let r6 : Goes _ = by-rule r5 (answers false emptied refl (refl, (refl, (refl, tt))) refl) in
+    let r7 : Goes _ = by-rule r6 (commits false refl refl) in
+    let r8 : Goes _ = by-rule r7 (prepares false false refl refl refl refl refl) in
+    let r9 : Goes _ = by-rule r8 (decides false refl refl) in
+    let r10 : Goes _ = by-rule r9 (applies false false refl refl refl) in
+    let r11 : Goes _ = by-rule r10 (ends false refl refl) in
+    let r12 : Goes _ = by-rule r11 (releases _ (λ s o. given-back false refl)) in
+    let r13 : Goes _ = by-rule r12 (begins false refl) in
+    let r14 : Goes _ = by-rule r13 (fetches false false (leaf false) refl refl refl) in
+    let r15 : Goes _ = by-rule r14 (fetches false false root refl refl refl) in
+    let r16 : Goes _ = by-rule r15 (answers false reused refl (refl, (refl, (refl, tt))) refl) in
+    let r17 : Goes _ = by-rule r16 (commits false refl refl) in
+    let r18 : Goes _ = by-rule r17 (prepares false false refl refl refl refl refl) in
+    let r19 : Goes _ = by-rule r18 (decides false refl refl) in
+    let r20 : Goes _ = also r19 (applies-afresh false false refl refl) in
+    let r21 : Goes _ = by-rule r20 (ends false refl refl) in
+    let r22 : Goes _ = by-rule r21 (releases _ (λ s o. given-back false refl)) in
+    let r23 : Goes _ = by-rule r22 (answers true looked refl (refl, tt) refl) in
+    let r24 : Goes _ = by-rule r23 (commits true refl refl) in
+    let r25 : Goes _ = by-rule r24 (prepares true false refl refl refl refl refl) in
+    let r26 : Goes _ = by-rule r25 (decides true refl refl) in
+    (_, r26, refl)
 
 -- the last one should have answered 7
 wrong : Right-all tiny leaves outcome → ⊥

@@ -94,6 +94,6 @@ module _ (T : Setting) where
       log = g .log;
     }
 
-    pub apply-reach : Reach T (state-of T m g) → m .slots c .phase ≡ decided → m .slots c .applied s ≡ false
+    pub apply-reach : Reach T (state-of T m g) → m .slots c .phase ≡ decided → m .slots c .participant s ≡ true → m .slots c .applied s ≡ false
         → Reach T (state-of T (applied-at T m c s) applied-ghost)
-    apply-reach r hp ha = subst (λ σ. Reach T σ) (sym path) (after r (apply c s hp ha))
+    apply-reach r hp hs ha = subst (λ σ. Reach T σ) (sym path) (after r (apply c s hp hs ha))

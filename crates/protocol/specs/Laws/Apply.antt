@@ -10,14 +10,15 @@ use Rattle.protocol.specs.Laws.Changed.{upd-both}
 use Rattle.protocol.specs.Setting.{Setting}
 use Rattle.protocol.specs.State.{decided, is-decided, Transaction, State, applying}
 use Rattle.protocol.specs.Laws.State.{after-commit}
-use Rattle.protocol.specs.System.{next-version, in-tables, after-apply, Parts}
-use Rattle.protocol.specs.Laws.Invariant.{Content, Course, Reads, Kept, OuterSince, Due, Pending, PendingInner, Newest, TableRight, Inv}
+use Rattle.protocol.specs.System.{here, there, next-version, in-tables, after-apply, Parts}
+use Rattle.protocol.specs.Laws.Invariant.{Content, Course, Reads, Kept, OuterSince, Due, Pending, PendingInner, Newest, TableRight, Counts, Inv}
 use Rattle.protocol.specs.Laws.Put.{still, apart-upd}
 
 module _ (T : Setting) where
-  open Setting T using (Obj, Server, Client, eqServer, eqClient, keeps)
+  open Setting T using (Obj, Server, Client, eqServer, eqClient, keeps, keeps-meta, meta, present)
 
-  module _ (σ : State T) (I : Inv T σ) (c : Client) (s : Server) (hp : σ .clients c .phase ≡ decided) (ha : σ .clients c .applied s ≡ false) where
+  module _ (σ : State T) (I : Inv T σ) (c : Client) (s : Server) (hp : σ .clients c .phase ≡ decided)
+      (hs : σ .clients c .participant s ≡ true) (ha : σ .clients c .applied s ≡ false) where
     abbrev x : Transaction T
     x = σ .clients c
 
@@ -33,6 +34,10 @@ module _ (T : Setting) where
     D : Due T (σ .current) (σ .history) x
     D = I .due c hd
 
+    -- a participant is there, and the transaction knows it
+    known : (o : Obj) → x .written o ≡ true → there T x s ≡ true
+    known o w = D .aware o w s ∙ I .held c s (I .course c .all-prepared hd s hs)
+
     -- what is unapplied after the step was so before
     was : (t : Server) → x′ .applied t ≡ false → x .applied t ≡ false
     was t h = go (eqServer t s)
@@ -43,7 +48,7 @@ module _ (T : Setting) where
 
     -- at another server what is pending stays pending
     own-else : (t : Server) → ¬ (t ≡ s) → (o : Obj) → Pending T x t o → Pending T x′ t o
-    own-else t ne o p = (p .0, upd-other eqServer (x .applied) s true t ne ∙ p .1, p .2, p .3)
+    own-else t ne o p = (p .0, upd-other eqServer (x .applied) s true t ne ∙ p .1, p .2, p .3, p .4)
 
     pending-else : (t : Server) → ¬ (t ≡ s) → (o : Obj) (d : Client) → Pending T (σ .clients d) t o → Pending T (τ .clients d) t o
     pending-else t ne o = upd-all eqClient (σ .clients) c x′ (λ d y. Pending T (σ .clients d) t o → Pending T y t o) (own-else t ne o) (λ d _ p. p)
@@ -66,27 +71,27 @@ module _ (T : Setting) where
         here o k (inr n) = rw n (I .stored s o k)
 
     -- and it is the newest
-    newest-step : (t : Server) (o : Obj) → keeps t o ≡ true → Newest T τ t o
+    newest-step : (t : Server) (o : Obj) → keeps t o ≡ true → Counts T τ t o → Newest T τ t o
     newest-step = upd-all eqServer (σ .version) s _
-        (λ t n. (o : Obj) → keeps t o ≡ true → (n o ≡ σ .current o) ⊎ ((d : Client) × Pending T (τ .clients d) t o))
-        (λ o k. here o k (bool-cases (x .written o)) (I .newest s o k)) (λ t ne o k. there t ne o (I .newest t o k))
+        (λ t n. (o : Obj) → keeps t o ≡ true → Counts T σ t o → (n o ≡ σ .current o) ⊎ ((d : Client) × Pending T (τ .clients d) t o))
+        (λ o k q. at-s o k (bool-cases (x .written o)) (I .newest s o k q)) (λ t ne o k q. else t ne o (I .newest t o k q))
       where
-        here : (o : Obj) → keeps s o ≡ true → (x .written o ≡ true) ⊎ (x .written o ≡ false) → Newest T σ s o
+        at-s : (o : Obj) → keeps s o ≡ true → (x .written o ≡ true) ⊎ (x .written o ≡ false) → Newest T σ s o
             → (cond (x .written o) (cond (keeps s o) (next-version T x o) (σ .version s o)) (σ .version s o) ≡ σ .current o)
             ⊎ ((d : Client) × Pending T (τ .clients d) s o)
-        here o k (inl w) _ = inl (rw (w, k) (sym (D .due-newest s o ha w k)))
-        here o k (inr n) (inl e) = inl (rw n e)
-        here o k (inr n) (inr w) = inr (still T (σ .clients) c x′ (λ y. Pending T y s o) (λ p. not-both (p .2) n) w)
+        at-s o k (inl w) _ = inl (rw (w, k) (sym (D .due-newest s o ha w k (known o w))))
+        at-s o k (inr n) (inl e) = inl (rw n e)
+        at-s o k (inr n) (inr w) = inr (still T (σ .clients) c x′ (λ y. Pending T y s o) (λ p. not-both (p .2) n) w)
 
-        there : (t : Server) → ¬ (t ≡ s) → (o : Obj) → Newest T σ t o → (σ .version t o ≡ σ .current o) ⊎ ((d : Client) × Pending T (τ .clients d) t o)
-        there t ne o (inl e) = inl e
-        there t ne o (inr w) = inr (w .0, pending-else t ne o (w .0) (w .1))
+        else : (t : Server) → ¬ (t ≡ s) → (o : Obj) → Newest T σ t o → (σ .version t o ≡ σ .current o) ⊎ ((d : Client) × Pending T (τ .clients d) t o)
+        else t ne o (inl e) = inl e
+        else t ne o (inr w) = inr (w .0, pending-else t ne o (w .0) (w .1))
 
     -- the table takes the version of a write that is inner before or after, "even where a table holds an older number"
-    tables-step : (t : Server) (o : Obj) → TableRight T τ t o
+    tables-step : (t : Server) (o : Obj) → here T τ t ≡ true → TableRight T τ t o
     tables-step = upd-all eqServer (σ .table) s _
-        (λ t n. (o : Obj) → OuterSince T (σ .current) (σ .history) o (n o) ⊎ ((d : Client) × PendingInner T (τ .clients d) t o))
-        (λ o. here o (bool-cases (x .written o)) (bool-cases (in-tables T x o)) (I .tables s o)) (λ t ne o. there t ne o (I .tables t o))
+        (λ t n. (o : Obj) → here T σ t ≡ true → OuterSince T (σ .current) (σ .history) o (n o) ⊎ ((d : Client) × PendingInner T (τ .clients d) t o))
+        (λ o q. at-s o (bool-cases (x .written o)) (bool-cases (in-tables T x o)) (I .tables s o q)) (λ t ne o q. else t ne o (I .tables t o q))
       where
         row : Obj → ℕ
         row o = cond (x .written o) (cond (in-tables T x o) (next-version T x o) (σ .table s o)) (σ .table s o)
@@ -98,16 +103,36 @@ module _ (T : Setting) where
         keep o np same (inl out) = inl (subst (OuterSince T (σ .current) (σ .history) o) (sym same) out)
         keep o np same (inr w) = inr (still T (σ .clients) c x′ (λ y. PendingInner T y s o) np w)
 
-        here : (o : Obj) → (x .written o ≡ true) ⊎ (x .written o ≡ false) → (in-tables T x o ≡ true) ⊎ (in-tables T x o ≡ false)
+        at-s : (o : Obj) → (x .written o ≡ true) ⊎ (x .written o ≡ false) → (in-tables T x o ≡ true) ⊎ (in-tables T x o ≡ false)
             → TableRight T σ s o → After o
-        here o (inl w) (inl b) _ = inl (subst (OuterSince T (σ .current) (σ .history) o) (rw (w, b)) (D .due-outer s o ha w b))
-        here o (inl w) (inr n) h = keep o (λ p. not-both (p .1) n) (rw (w, n)) h
-        here o (inr n) _ h = keep o (λ p. not-both (p .0 .2) n) (rw n) h
+        at-s o (inl w) (inl b) _ = inl (subst (OuterSince T (σ .current) (σ .history) o) (rw (w, b)) (D .due-outer s o ha w b (known o w)))
+        at-s o (inl w) (inr n) h = keep o (λ p. not-both (p .1) n) (rw (w, n)) h
+        at-s o (inr n) _ h = keep o (λ p. not-both (p .0 .2) n) (rw n) h
 
-        there : (t : Server) → ¬ (t ≡ s) → (o : Obj) → TableRight T σ t o
+        else : (t : Server) → ¬ (t ≡ s) → (o : Obj) → TableRight T σ t o
             → OuterSince T (σ .current) (σ .history) o (σ .table t o) ⊎ ((d : Client) × PendingInner T (τ .clients d) t o)
-        there t ne o (inl out) = inl out
-        there t ne o (inr w) = inr (w .0, inner-else t ne o (w .0) (w .1))
+        else t ne o (inl out) = inl out
+        else t ne o (inr w) = inr (w .0, inner-else t ne o (w .0) (w .1))
+
+    -- metadata that is written has the same servers
+    called-step : (t : Server) → present (τ .value t meta) t ≡ here T σ t
+    called-step = upd-all eqServer (σ .value) s _ (λ t v. present (v meta) t ≡ here T σ t)
+        (at-s (bool-cases (x .written meta))) (λ t _. I .staffed .called t)
+      where
+        at-s : (x .written meta ≡ true) ⊎ (x .written meta ≡ false)
+            → present (cond (x .written meta) (cond (keeps s meta) (x .value-written meta) (σ .value s meta)) (σ .value s meta)) s ≡ here T σ s
+        at-s (inl w) = rw (w, keeps-meta s) (I .content c .same-servers w s ∙ D .aware meta w s)
+        at-s (inr n) = rw n (I .staffed .called s)
+
+    behind-step : (t : Server) (o : Obj) → τ .table t o ≤ σ .current o
+    behind-step = upd-all eqServer (σ .table) s _ (λ t n. (o : Obj) → n o ≤ σ .current o)
+        (λ o. at-s o (bool-cases (x .written o)) (bool-cases (in-tables T x o))) (λ t _. I .staffed .behind t)
+      where
+        at-s : (o : Obj) → (x .written o ≡ true) ⊎ (x .written o ≡ false) → (in-tables T x o ≡ true) ⊎ (in-tables T x o ≡ false)
+            → cond (x .written o) (cond (in-tables T x o) (next-version T x o) (σ .table s o)) (σ .table s o) ≤ σ .current o
+        at-s o (inl w) (inl b) = rw (w, b) (D .past o w .1)
+        at-s o (inl w) (inr n) = rw (w, n) (I .staffed .behind s o)
+        at-s o (inr n) _ = rw n (I .staffed .behind s o)
 
     pub apply-inv : Inv T (after-apply T σ c s)
     apply-inv = record {
@@ -122,6 +147,9 @@ module _ (T : Setting) where
       due = upd-all eqClient (σ .clients) c x′ (λ d y. is-decided (y .phase) ≡ true → Due T (σ .current) (σ .history) y)
           (λ _. record {
             past = D .past;
+            seated = D .seated;
+            aware = D .aware;
+            at-home = D .at-home;
             due-newest = λ t o a. D .due-newest t o (was t a);
             due-outer = λ t o a. D .due-outer t o (was t a);
           })
@@ -133,5 +161,7 @@ module _ (T : Setting) where
       stored = stored-step;
       newest = newest-step;
       tables = tables-step;
+      staffed = record { called = called-step; homed = I .staffed .homed; manned = I .staffed .manned; behind = behind-step };
+      held = upd-all eqClient (σ .clients) c x′ (λ d y. (t : Server) → y .prepared t ≡ true → here T σ t ≡ true) (I .held c) (λ d _. I .held d);
       replay = I .replay;
     }

@@ -13,7 +13,7 @@ use Rattle.protocol.specs.Machine.{Machine, find}
 use Rattle.protocol.specs.Moves.{releases, given-back, first-of, begins, fetches, answers, commits, prepares, decides, applies, ends, Reached, at-first, moved}
 use Rattle.protocol.specs.Claim.{Claim}
 use Rattle.protocol.specs.Laws.Claim.{claim}
-use Rattle.protocol.specs.Laws.Example.{leaf, look, put, tiny, leaves, one}
+use Rattle.protocol.specs.Laws.Example.{root, leaf, look, put, tiny, leaves, one}
 
 abbrev changed : Entry tiny
 changed = record { op = put true true 7; result = (1, (leaf true, 7) ∷ []) }
@@ -32,26 +32,28 @@ run =
     let r3 : Reached tiny _ = moved r2 (answers true looked refl (refl, tt) refl) in
     let r4 : Reached tiny _ = moved r3 (begins false refl) in
     let r5 : Reached tiny _ = moved r4 (fetches false true (leaf true) refl refl refl) in
-    let r6 : Reached tiny _ = moved r5 (answers false changed refl (refl, (refl, tt)) refl) in
-    let r7 : Reached tiny _ = moved r6 (commits false refl) in
-    let r8 : Reached tiny _ = moved r7 (prepares false true refl refl refl refl) in
-    let r9 : Reached tiny _ = moved r8 (decides false refl refl) in
-    let r10 : Reached tiny _ = moved r9 (applies false true refl refl) in
-    let r11 : Reached tiny _ = moved r10 (ends false refl refl) in
-    let r12 : Reached tiny _ = moved r11 (releases _ (λ s o. given-back false refl)) in
-    let r13 : Reached tiny _ = moved r12 (begins false refl) in
-    let r14 : Reached tiny _ = moved r13 (fetches false true (leaf true) refl refl refl) in
-    let r15 : Reached tiny _ = moved r14 (answers false back refl (refl, (refl, tt)) refl) in
-    let r16 : Reached tiny _ = moved r15 (commits false refl) in
-    let r17 : Reached tiny _ = moved r16 (prepares false true refl refl refl refl) in
-    let r18 : Reached tiny _ = moved r17 (decides false refl refl) in
-    let r19 : Reached tiny _ = moved r18 (applies false true refl refl) in
-    let r20 : Reached tiny _ = moved r19 (ends false refl refl) in
-    let r21 : Reached tiny _ = moved r20 (releases _ (λ s o. given-back false refl)) in
-    let r22 : Reached tiny _ = moved r21 (commits true refl) in
-    let r23 : Reached tiny _ = moved r22 (prepares true true refl refl refl refl) in
-    let r24 : Reached tiny _ = moved r23 (decides true refl refl) in
-    (_, r24, refl)
+    let r6 : Reached tiny _ = moved r5 (fetches false false root refl refl refl) in
+    let r7 : Reached tiny _ = moved r6 (answers false changed refl (refl, (refl, (refl, tt))) refl) in
+    let r8 : Reached tiny _ = moved r7 (commits false refl refl) in
+    let r9 : Reached tiny _ = moved r8 (prepares false true refl refl refl refl refl) in
+    let r10 : Reached tiny _ = moved r9 (decides false refl refl) in
+    let r11 : Reached tiny _ = moved r10 (applies false true refl refl refl) in
+    let r12 : Reached tiny _ = moved r11 (ends false refl refl) in
+    let r13 : Reached tiny _ = moved r12 (releases _ (λ s o. given-back false refl)) in
+    let r14 : Reached tiny _ = moved r13 (begins false refl) in
+    let r15 : Reached tiny _ = moved r14 (fetches false true (leaf true) refl refl refl) in
+    let r16 : Reached tiny _ = moved r15 (fetches false false root refl refl refl) in
+    let r17 : Reached tiny _ = moved r16 (answers false back refl (refl, (refl, (refl, tt))) refl) in
+    let r18 : Reached tiny _ = moved r17 (commits false refl refl) in
+    let r19 : Reached tiny _ = moved r18 (prepares false true refl refl refl refl refl) in
+    let r20 : Reached tiny _ = moved r19 (decides false refl refl) in
+    let r21 : Reached tiny _ = moved r20 (applies false true refl refl refl) in
+    let r22 : Reached tiny _ = moved r21 (ends false refl refl) in
+    let r23 : Reached tiny _ = moved r22 (releases _ (λ s o. given-back false refl)) in
+    let r24 : Reached tiny _ = moved r23 (commits true refl refl) in
+    let r25 : Reached tiny _ = moved r24 (prepares true true refl refl refl refl refl) in
+    let r26 : Reached tiny _ = moved r25 (decides true refl refl) in
+    (_, r26, refl)
 
 claimed : Claim tiny leaves (run .0)
 claimed = claim tiny leaves (run .1)

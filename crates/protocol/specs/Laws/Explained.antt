@@ -14,22 +14,24 @@ use Rattle.protocol.specs.Setting.{Setting}
 use Rattle.protocol.specs.Lists.{all}
 use Rattle.protocol.specs.State.{idle, opened, committing, decided, is-decided, Phase, Entry, State, fresh, start, view}
 use Rattle.protocol.specs.Laws.State.{after-commit}
-use Rattle.protocol.specs.System.{Reach, initial}
+use Rattle.protocol.specs.System.{CanReconfigure, Reach, initial}
 use Rattle.protocol.specs.Laws.Invariant.{Inv}
 use Rattle.protocol.specs.Laws.History.{history-old, current-le}
 use Rattle.protocol.specs.Laws.Safety.{reach-inv}
 use Rattle.protocol.specs.Meaning.{Shown, shown-of}
 use Rattle.protocol.specs.Laws.Meaning.{show, show-all}
 use Rattle.protocol.specs.Machine.{Item, find, says, Slot, Copy, Lock, Machine, blank, first-machine, with-item, seen, turned, with-slot, with-copies}
-use Rattle.protocol.specs.Moves.{Released, unchanged, given-back, releases, answered-slot, check, to-write, to-read, grants, granted-at, prepared-slot, decided-slot, applied-slot, applied-at, cleared, Copied, as-before, dropped, fetched, renewed, Move, begins, uses-copy, fetches, answers, commits, prepares, decides, applies, ends, aborts, copies, Reached, at-first, moved}
+use Rattle.protocol.specs.Moves.{Released, unchanged, given-back, releases, answered-slot, check, to-write, to-read, grants, granted-at, prepared-slot, decided-slot, applied-slot, applied-at, cleared, Copied, as-before, dropped, fetched, renewed, Move, begins, uses-copy, fetches, answers, commits, prepares, decides, applies, ends, aborts, copies, Reconfigurable, reconfigured-by, reconfigures, Reached, at-first, moved}
 use Rattle.protocol.specs.Laws.Items.{each-part}
 use Rattle.protocol.specs.Laws.Locks.{Known, Recorded, calm-recorded, drop-recorded, decide-recorded, apply-recorded}
 use Rattle.protocol.specs.Laws.Ghosts.{Own, Ghost, nothing, transaction-of, state-of, put-own, clients-put, stamped, begin-reach, abort-reach, end-reach, read-reach, answer-reach, commit-reach, decided-ghost, decide-reach}
 use Rattle.protocol.specs.Laws.Prepared.{stamped-ghost, prepared-ghost, prepare-reach, locks-recorded}
 use Rattle.protocol.specs.Laws.Applied.{applied-ghost, apply-reach}
+use Rattle.protocol.specs.Laws.Reconfigure.{reconfigured-old, reconfigured-le}
+use Rattle.protocol.specs.Laws.Reconfigured.{reconfigured-ghost, can-reconfigure, reconfigure-reach}
 
 module _ (T : Setting) where
-  open Setting T using (Obj, Server, Client, Val, eqClient, keeps, by-value, init, plan, writes)
+  open Setting T using (Obj, Server, Client, Val, eqClient, keeps, by-value, init, plan, writes, meta, present)
 
   -- a copy is something that the object once was
   pub record Legal (current : Obj → ℕ) (history : Obj → ℕ → Val) (o : Obj) (k : Copy T) : Type 0 where
@@ -155,14 +157,14 @@ module _ (T : Setting) where
         y : Slot T
         y = answered-slot T (m .slots c) (writes (e .result))
 
-    prepare-explained : (s : Server) → m .slots c .phase ≡ committing → m .slots c .prepared s ≡ false
+    prepare-explained : (s : Server) → present (m .value s meta) s ≡ true → m .slots c .phase ≡ committing → m .slots c .prepared s ≡ false
         → all (check T m (m .slots c .lowest) s) (m .slots c .items) ≡ true
         → all (λ i. grants T c (to-write T s i) (to-read T (m .slots c .lowest) s i) (m .lock s (i .obj))) (m .slots c .items) ≡ true
         → Explained (turned T m (upd eqClient (m .slots) c (prepared-slot T (m .slots c) s)) (granted-at T m c s) (m .said) (m .log))
-    prepare-explained s hp new pass granted = record {
+    prepare-explained s hs hp new pass granted = record {
       ghost = prepared-ghost T g c s;
-      reach = prepare-reach T m g c (G .reach) s hp new pass (G .recorded) granted;
-      recorded = locks-recorded T m g c (G .reach) s hp new pass (G .recorded) granted;
+      reach = prepare-reach T m g c (G .reach) s hs hp new pass (G .recorded) granted;
+      recorded = locks-recorded T m g c (G .reach) s hs hp new pass (G .recorded) granted;
       legal = G .legal;
       said-as = said-same (g1 .own) (g1 .own c) refl (said-same (g .own) _ refl (G .said-as));
       log-as = G .log-as;
@@ -188,10 +190,10 @@ module _ (T : Setting) where
       log-as = λ i. G .said-as c i ∷ G .log-as i;
     }
 
-    apply-explained : (s : Server) → m .slots c .phase ≡ decided → m .slots c .applied s ≡ false → Explained (applied-at T m c s)
-    apply-explained s hp ha = record {
+    apply-explained : (s : Server) → m .slots c .phase ≡ decided → m .slots c .participant s ≡ true → m .slots c .applied s ≡ false → Explained (applied-at T m c s)
+    apply-explained s hp hs ha = record {
       ghost = applied-ghost T m g c s;
-      reach = apply-reach T m g c s (G .reach) hp ha;
+      reach = apply-reach T m g c s (G .reach) hp hs ha;
       recorded = recorded-put (applied-slot T (m .slots c) s) (g .own c) _ (apply-recorded T (σ .clients) (m .lock) (G .recorded) c s);
       legal = G .legal;
       said-as = said-same (g .own) (g .own c) refl (G .said-as);
@@ -256,21 +258,48 @@ module _ (T : Setting) where
     log-as = G .log-as;
   }
 
+  reconfigure-explained : (m : Machine T) → Explained m → (a : Server) (v : Val) (t : Server → Obj → ℕ) → Reconfigurable T m a v t
+      → Explained (reconfigured-by T (m .value a meta) (suc (m .version a meta)) v t m)
+  unfolding show-all
+  reconfigure-explained m G a v t K = record {
+    ghost = reconfigured-ghost T m (G .ghost) v t;
+    reach = reconfigure-reach T m (G .ghost) (G .reach) a v t K;
+    recorded = G .recorded;
+    legal = λ d o k e. let l = G .legal d o k e in record {
+      at = l .at;
+      was = l .was ∙ sym (reconfigured-old T σ I v t C o (l .at) (l .upto));
+      upto = omega (arith, l .upto, reconfigured-le T σ I v t C o);
+      same = l .same;
+    };
+    said-as = G .said-as;
+    log-as = G .log-as;
+  }
+    where
+      σ : State T
+      σ = state-of T m (G .ghost)
+
+      I : Inv T σ
+      I = reach-inv T (G .reach)
+
+      C : CanReconfigure T σ v t
+      C = can-reconfigure T m (G .ghost) (G .reach) a v t K
+
   move-explained : {m n : Machine T} → Explained m → Move T m n → Explained n
   move-explained {m = m} G (begins c h) = cleared-explained m G c opened (begin-reach T m (G .ghost) c (G .reach) h)
   move-explained {m = m} G (uses-copy c o k hp hf e) = read-explained m G c o k hp hf (G .legal c o k e)
   move-explained {m = m} G (fetches c s o hp hf k) = read-explained m G c o _ hp hf (stored-legal m G c s o k)
   move-explained {m = m} G (answers c e hp asked ran) = answer-explained m G c e hp asked ran
-  move-explained {m = m} G (commits c hp) =
-      calm-explained m G c _ (G .ghost .own c) (commit-reach T m (G .ghost) c (G .reach) hp) (unprepared m G c (ap after-commit hp)) refl
-  move-explained {m = m} G (prepares c s hp new pass granted) = prepare-explained m G c s hp new pass granted
+  move-explained {m = m} G (commits c hp hm) =
+      calm-explained m G c _ (G .ghost .own c) (commit-reach T m (G .ghost) c (G .reach) hp hm) (unprepared m G c (ap after-commit hp)) refl
+  move-explained {m = m} G (prepares c s hs hp new pass granted) = prepare-explained m G c s hs hp new pass granted
   move-explained {m = m} G (decides c hp all) = decide-explained m G c hp (each-part T (m .slots c .participant) (m .slots c .prepared) all)
-  move-explained {m = m} G (applies c s hp ha) = apply-explained m G c s hp ha
+  move-explained {m = m} G (applies c s hp hs ha) = apply-explained m G c s hp hs ha
   move-explained {m = m} G (ends c hp all) =
       cleared-explained m G c idle (end-reach T m (G .ghost) c (G .reach) hp (each-part T (m .slots c .participant) (m .slots c .applied) all))
   move-explained {m = m} G (aborts c h) = cleared-explained m G c idle (abort-reach T m (G .ghost) c (G .reach) h)
   move-explained {m = m} G (releases lock h) = release-explained m G lock h
   move-explained {m = m} G (copies f h) = copies-explained m G f h
+  move-explained {m = m} G (reconfigures a v t K) = reconfigure-explained m G a v t K
 
   pub reached-explained : {m : Machine T} → Reached T m → Explained m
   reached-explained at-first = first-explained

@@ -16,7 +16,7 @@ use Rattle.protocol.specs.Laws.Writes.{latest-unwritten, latest-cond}
 use Rattle.protocol.specs.State.{Phase, idle, opened, committing, decided, is-decided, Entry, Transaction, Decided, State, view, fresh, reading, answering, put}
 use Rattle.protocol.specs.System.{after-decision, begin, read, answer, commit, decide, end, abort, Reach, after}
 use Rattle.protocol.specs.Machine.{Item, find, says, test, Slot, Machine, blank, item, with-item, with-slot}
-use Rattle.protocol.specs.Moves.{wrote, answered-slot, participants, first-of, committed-slot, decided-slot}
+use Rattle.protocol.specs.Moves.{wrote, answered-slot, participants, homed, first-of, committed-slot, decided-slot}
 use Rattle.protocol.specs.Laws.Items.{find-item, participants-right}
 
 module _ (T : Setting) where
@@ -258,11 +258,11 @@ module _ (T : Setting) where
       subst (λ σ. Reach T σ) (sym (state-put m g c _ _ _ (slot-answered (m .slots c) (g .own c) e asked ran))) (after r (answer c e hp asked ran))
 
   -- COMMIT
-  pub commit-reach : (m : Machine T) (g : Ghost) (c : Client) → Reach T (state-of m g) → m .slots c .phase ≡ opened
+  pub commit-reach : (m : Machine T) (g : Ghost) (c : Client) → Reach T (state-of m g) → m .slots c .phase ≡ opened → homed T (m .slots c .items) ≡ true
       → Reach T (state-of (with-slot T m c (committed-slot T (m .slots c))) (put-own g c (g .own c)))
-  commit-reach m g c r hp =
+  commit-reach m g c r hp hm =
       subst (λ σ. Reach T σ) (sym (state-put m g c (committed-slot T (m .slots c)) (g .own c) _ refl))
-      (after r (commit c (participants T (m .slots c .items)) (first-of T (participants T (m .slots c .items)) servers) hp (participants-right T (m .slots c))))
+      (after r (commit c (participants T (m .slots c .items)) (first-of T (participants T (m .slots c .items)) servers) hp (participants-right T (m .slots c) hm)))
 
   -- DECISION: the ghosts take the writes in
   abbrev pub decided-ghost : Machine T → Ghost → Client → Ghost

@@ -13,16 +13,19 @@ use Prim.Native.Nat.{ℕ, suc, _≤_, _<_}
 use Rattle.protocol.specs.Setting.{Setting}
 use Rattle.protocol.specs.State.{Phase, is-decided, Entry, Transaction, State}
 use Rattle.protocol.specs.Laws.State.{after-commit}
-use Rattle.protocol.specs.System.{inner-before-after, Holds, Checked, LockedAt, Apart, Parts}
+use Rattle.protocol.specs.System.{here, there, inner-before-after, Holds, Checked, LockedAt, Apart, Parts}
 use Rattle.protocol.specs.Replay.{effect, Answers, Uncompared, Replays}
 
 module _ (T : Setting) where
-  open Setting T using (Obj, Server, Client, Val, keeps, inner)
+  open Setting T using (Obj, Server, Client, Val, home, keeps, inner, meta, present)
 
   -- Of a transaction's sets and its trace. The steps `read` and `answer` build it up; the decision needs it.
   pub record Contents (read written : Obj → Bool) (value-read value-written : Obj → Val) (trace : List (Entry T)) : Type 0 where
     -- what is written was read: so checks cover it, and its home takes part
     pub written-read : (o : Obj) → written o ≡ true → read o ≡ true
+    -- who writes knows the servers, and leaves them as they are: the decision needs both, for "all servers" as read and as they then are
+    pub knows : (o : Obj) → written o ≡ true → read meta ≡ true
+    pub same-servers : written meta ≡ true → (s : Server) → present (value-written meta) s ≡ present (value-read meta) s
     -- on EVERY snapshot that agrees with what was read the trace has its results, and makes its writes: the decision takes the newest one
     -- in place of the many old ones that were read
     pub explained : (M : Obj → Val) → ((o : Obj) → read o ≡ true → M o ≡ value-read o)
@@ -62,22 +65,31 @@ module _ (T : Setting) where
     pub upto : n ≤ current o
     pub none : (w : ℕ) → n ≤ w → w < current o → (inner o (history o w) ≡ false) × (inner o (history o (suc w)) ≡ false)
 
+  abbrev pub Seated : Transaction T → Type 0
+  Seated x = (o : Obj) → x .read o ≡ true → inner o (x .value-read o) ≡ false → x .participant (home o) ≡ true
+
   -- Of a decided transaction's writes, where they are still to be applied.
   pub record Due (current : Obj → ℕ) (history : Obj → ℕ → Val) (x : Transaction T) : Type 0 where
     -- each is in the history, also after others wrote again: an apply stores it, and the client may copy it
     pub past : (o : Obj) → x .written o ≡ true
         → (history o (suc (x .version-read o)) ≡ x .value-written o) × (suc (x .version-read o) ≤ current o)
+    -- it was not lost: the homes of all outer objects that it read took part
+    pub seated : Seated x
+    -- the servers that it knows are those that are there until it ends, since they change only where none is decided; homes are among them
+    pub aware : (o : Obj) → x .written o ≡ true → (s : Server) → there T x s ≡ present (history meta (current meta)) s
+    pub at-home : (o : Obj) → x .written o ≡ true → ¬ (o ≡ meta) → there T x (home o) ≡ true
     -- due at a server that keeps the object, it is the newest: so the apply makes that server current, and the theorem may count it in
-    pub due-newest : (s : Server) (o : Obj) → x .applied s ≡ false → x .written o ≡ true → keeps s o ≡ true
+    pub due-newest : (s : Server) (o : Obj) → x .applied s ≡ false → x .written o ≡ true → keeps s o ≡ true → there T x s ≡ true
         → current o ≡ suc (x .version-read o)
     -- Due at a table, nothing was inner since, so the apply makes that table right. It need not be the newest: after an inner node was
     -- freed, another transaction may take it as a leaf, with its home as sole participant, before all tables know that it is free.
-    pub due-outer : (s : Server) (o : Obj) → x .applied s ≡ false → x .written o ≡ true → inner-before-after T x o ≡ true
+    pub due-outer : (s : Server) (o : Obj) → x .applied s ≡ false → x .written o ≡ true → inner-before-after T x o ≡ true → there T x s ≡ true
         → OuterSince current history o (suc (x .version-read o))
 
-  -- A decided write, locked at s and not yet applied there. The lock is part of it: a server that takes no part never gets an apply.
+  -- A decided write, locked at s and not yet applied there. The lock is part of it, and so is that s is there: a server that takes no part
+  -- never gets an apply.
   abbrev pub Pending : Transaction T → Server → Obj → Type 0
-  Pending x s o = (is-decided (x .phase) ≡ true) × (x .applied s ≡ false) × (x .written o ≡ true) × LockedAt T x s o
+  Pending x s o = (is-decided (x .phase) ≡ true) × (x .applied s ≡ false) × (x .written o ≡ true) × LockedAt T x s o × (there T x s ≡ true)
 
   abbrev pub PendingInner : Transaction T → Server → Obj → Type 0
   PendingInner x s o = Pending x s o × (inner-before-after T x o ≡ true)
@@ -90,6 +102,21 @@ module _ (T : Setting) where
   -- table needs it. It is not the object's version, which goes on while the object is outer.
   abbrev pub TableRight : State T → Server → Obj → Type 0
   TableRight σ s o = OuterSince (σ .current) (σ .history) o (σ .table s o) ⊎ ((c : Client) × PendingInner (σ .clients c) s o)
+
+  -- what s stores of o counts: an absent server's metadata is old; its free nodes are not, since nothing is written there
+  abbrev pub Counts : State T → Server → Obj → Type 0
+  Counts σ s o = (here T σ s ≡ true) ⊎ ¬ (o ≡ meta)
+
+  -- Of servers that come and go.
+  pub record Staffed (value : Server → Obj → Val) (table : Server → Obj → ℕ) (current : Obj → ℕ) (history : Obj → ℕ → Val) : Type 0 where
+    -- "a server is what its own metadata calls it": a prepare needs it, which asks the server
+    pub called : (s : Server) → present (value s meta) s ≡ present (history meta (current meta)) s
+    -- inner nodes live on servers that are there: the decision needs it, since a write of one is applied at all of these, and so at home
+    pub homed : (o : Obj) → ¬ (o ≡ meta) → inner o (history o (current o)) ≡ true → present (history meta (current meta)) (home o) ≡ true
+    -- there was always a server: so whoever writes an inner node has a participant, which checks
+    pub manned : (n : ℕ) → n ≤ current meta → (s : Server) × (present (history meta n) s ≡ true)
+    -- no table is ahead, not even of an absent server, from which an added one takes the largest number
+    pub behind : (s : Server) (o : Obj) → table s o ≤ current o
 
   pub record Inv (σ : State T) : Type 0 where
     pub content : (c : Client) → Content (σ .clients c)
@@ -104,7 +131,10 @@ module _ (T : Setting) where
         → Apart T (σ .clients c) (σ .clients d) s
     -- what is stored is what the object was at the stored version: a fetch reads it, and a check by value compares it
     pub stored : (s : Server) (o : Obj) → keeps s o ≡ true → (σ .value s o ≡ σ .history o (σ .version s o)) × (σ .version s o ≤ σ .current o)
-    pub newest : (s : Server) (o : Obj) → keeps s o ≡ true → Newest σ s o
-    pub tables : (s : Server) (o : Obj) → TableRight σ s o
+    pub newest : (s : Server) (o : Obj) → keeps s o ≡ true → Counts σ s o → Newest σ s o
+    pub tables : (s : Server) (o : Obj) → here T σ s ≡ true → TableRight σ s o
+    pub staffed : Staffed (σ .value) (σ .table) (σ .current) (σ .history)
+    -- locks are held only at servers that are there
+    pub held : (c : Client) (s : Server) → σ .clients c .prepared s ≡ true → here T σ s ≡ true
     -- the decided transactions explain the newest snapshot: the theorem's first half
     pub replay : Replays T (σ .log) (λ o. σ .history o (σ .current o))

@@ -1,21 +1,22 @@
 -- The tests that the machine computes over a list of items, and what they say of every object.
 use mathlib.Core.Path.{_≡_, refl, ap, sym, _∙_, subst}
-use mathlib.Core.Bool.{Bool, true, false, _||_, not, false≢true}
+use mathlib.Core.Bool.{Bool, true, false, _&&_, _||_, not, false≢true}
 use mathlib.Core.List.{List, [], _∷_}
 use mathlib.Core.Logic.{_⊎_, inl, inr}
 use mathlib.Core.Option.{Option, none, some, Option·none-ne-some, Option·some-injective}
+use borrow.Author.Tests.{not-true}
 use native.Mathlib.Decide.{ℕ-discrete}
-use Rattle.base.specs.Laws.Test.{bool-cases, cond-true, or-left, or-right, yes-of, of-yes}
-use Rattle.base.specs.Test.{not-both, yes?}
+use Rattle.base.specs.Laws.Test.{bool-cases, cond-true, or-left, or-right, or-cases, yes-of, of-yes}
+use Rattle.base.specs.Test.{not-both, and-both, yes?}
 use Rattle.protocol.specs.Setting.{Setting}
 use Rattle.protocol.specs.Lists.{Among, all, any}
-use Rattle.protocol.specs.Laws.Lists.{all-among, any-among}
-use Rattle.protocol.specs.System.{inner-before-after, Checked, ReadLock, LockedAt, WriteLock, Parts}
+use Rattle.protocol.specs.Laws.Lists.{all-among, any-among, any-in}
+use Rattle.protocol.specs.System.{there, Homeless, inner-before-after, Checked, ReadLock, LockedAt, WriteLock, Parts}
 use Rattle.protocol.specs.Machine.{Item, find, says, test, Slot, Lock, shared, owned, Machine, seen}
-use Rattle.protocol.specs.Moves.{item-inner, for-all, for-home, participants, first-of, all-parts, check, to-write, to-read, grants}
+use Rattle.protocol.specs.Moves.{item-inner, for-all, for-home, participants, home-there, homeless, homed, first-of, all-parts, check, to-write, to-read, grants}
 
 module _ (T : Setting) where
-  open Setting T using (Obj, Server, Client, eqObj, eqVal, eqServer, eqClient, servers, servers-all, home, inner, by-value)
+  open Setting T using (Obj, Server, Client, eqObj, eqVal, eqServer, eqClient, servers, servers-all, home, inner, by-value, meta)
 
   -- the item that is found is in the list, and is the object's
   pub find-item : (is : List (Item T)) (o : Obj) (i : Item T) → find T is o ≡ some i → Among i is × (i .obj ≡ o)
@@ -62,24 +63,81 @@ module _ (T : Setting) where
       go (inr n) rec (inl e) = subst (λ u. p u ≡ false) (sym e) n
       go (inr n) rec (inr i) = rec (rw n at h) i
 
-  pub participants-right : (y : Slot T) → Parts T (seen T y) (participants T (y .items)) (first-of T (participants T (y .items)) servers)
-  participants-right y = record {
-    homes = λ o r n. let f = found (λ i. true) (y .items) o r in homes o (f .0) (f .1) n;
-    everywhere = λ o s w b. let f = found (λ i. i .written) (y .items) o w in everywhere o s (f .0) (f .1) w b;
+  pub participants-right : (y : Slot T) → homed T (y .items) ≡ true
+      → Parts T (seen T y) (participants T (y .items)) (first-of T (participants T (y .items)) servers)
+  participants-right y H = record {
+    homes = λ o r n. let f = found (λ i. true) (y .items) o r in by-all (bool-cases (any (for-all T) (y .items))) o (f .0) (f .1) n;
+    everywhere = λ o s w b a. let f = found (λ i. i .written) (y .items) o w in rw (for-some o (f .0) (f .1) w b) a;
     one-of-them = λ h s. first-none (participants T (y .items)) servers h s (servers-all s);
   }
     where
-      homes : (o : Obj) (i : Item T) → find T (y .items) o ≡ some i → inner o (seen T y .value-read o) ≡ false → participants T (y .items) (home o) ≡ true
-      homes o i q = at-item (y .items) o i q (λ o. inner o (seen T y .value-read o) ≡ false → participants T (y .items) (home o) ≡ true)
-          (λ q n. let h = home (i .obj) in or-right (any (for-all T) (y .items)) (any (for-home T h) (y .items))
-          (any-among (for-home T h) (y .items) i (rw (rw q at n) (of-yes (eqServer h h) refl)) (find-item (y .items) (i .obj) i q .0)))
+      homes : (o : Obj) (i : Item T) → find T (y .items) o ≡ some i → inner o (seen T y .value-read o) ≡ false → any (for-home T (home o)) (y .items) ≡ true
+      homes o i q = at-item (y .items) o i q (λ o. inner o (seen T y .value-read o) ≡ false → any (for-home T (home o)) (y .items) ≡ true)
+          (λ q n. let h = home (i .obj) in
+          any-among (for-home T h) (y .items) i (rw (rw q at n) (of-yes (eqServer h h) refl)) (find-item (y .items) (i .obj) i q .0))
 
-      everywhere : (o : Obj) (s : Server) (i : Item T) → find T (y .items) o ≡ some i → seen T y .written o ≡ true
-          → inner-before-after T (seen T y) o ≡ true → participants T (y .items) s ≡ true
-      everywhere o s i q = at-item (y .items) o i q
-          (λ o. seen T y .written o ≡ true → inner-before-after T (seen T y) o ≡ true → participants T (y .items) s ≡ true)
-          (λ q w b. let h : i .written ≡ true = rw q at w in or-left (any (for-all T) (y .items)) (any (for-home T s) (y .items))
-          (any-among (for-all T) (y .items) i (rw h (rw (q, h) at b)) (find-item (y .items) (i .obj) i q .0)))
+      for-some : (o : Obj) (i : Item T) → find T (y .items) o ≡ some i → seen T y .written o ≡ true
+          → inner-before-after T (seen T y) o ≡ true → any (for-all T) (y .items) ≡ true
+      for-some o i q = at-item (y .items) o i q
+          (λ o. seen T y .written o ≡ true → inner-before-after T (seen T y) o ≡ true → any (for-all T) (y .items) ≡ true)
+          (λ q w b. let h : i .written ≡ true = rw q at w in
+          any-among (for-all T) (y .items) i (rw h (rw (q, h) at b)) (find-item (y .items) (i .obj) i q .0))
+
+      p : Server → Bool
+      p = participants T (y .items)
+
+      Homeless-here : Type 0
+      Homeless-here = Homeless T (seen T y .read) (λ o. inner o (seen T y .value-read o)) (there T (seen T y)) p (first-of T p servers)
+
+      -- an inner node whose home isn't there
+      without : (i : Item T) → homeless T (y .items) i ≡ true → (test T (λ i. true) (y .items) meta && p (first-of T p servers)) ≡ true → Homeless-here
+      without i h k =
+          let a = and-both (test T (λ j. inner (j .obj) (j .old)) (y .items) (i .obj)) (not (yes? (eqObj (i .obj) meta)) && not (home-there T (y .items) i)) h in
+          let b = and-both (not (yes? (eqObj (i .obj) meta))) (not (home-there T (y .items) i)) (a .1) in
+          let c = and-both (test T (λ i. true) (y .items) meta) (p (first-of T p servers)) k in
+          let f = found (λ j. inner (j .obj) (j .old)) (y .items) (i .obj) (a .0) in (
+            c .1,
+            c .0,
+            (
+              i .obj,
+              rw (f .1) refl,
+              inner-there (i .obj) (f .0) (f .1) (a .0),
+              λ e. not-both (of-yes (eqObj (i .obj) meta) e) (not-true _ (b .0)),
+              not-true _ (b .1),
+            ),
+          )
+        where
+          inner-there : (o : Obj) (j : Item T) → find T (y .items) o ≡ some j → test T (λ j. inner (j .obj) (j .old)) (y .items) o ≡ true
+              → inner o (seen T y .value-read o) ≡ true
+          inner-there o j q = at-item (y .items) o j q (λ o. test T (λ j. inner (j .obj) (j .old)) (y .items) o ≡ true → inner o (seen T y .value-read o) ≡ true)
+              (λ q h. rw q (rw q at h))
+
+      -- the home is there, if those of all outer objects are
+      with-home : all (λ i. inner (i .obj) (i .old) || home-there T (y .items) i) (y .items) ≡ true → (o : Obj) (i : Item T) → find T (y .items) o ≡ some i
+          → inner o (seen T y .value-read o) ≡ false → there T (seen T y) (home o) ≡ true
+      with-home h o i q = at-item (y .items) o i q (λ o. inner o (seen T y .value-read o) ≡ false → there T (seen T y) (home o) ≡ true)
+          (λ q n. rw (rw q at n) at (all-among (λ i. inner (i .obj) (i .old) || home-there T (y .items) i) (y .items) i h (find-item (y .items) (i .obj) i q .0)))
+
+      by-all : (any (for-all T) (y .items) ≡ true) ⊎ (any (for-all T) (y .items) ≡ false) → (o : Obj) (i : Item T) → find T (y .items) o ≡ some i
+          → inner o (seen T y .value-read o) ≡ false → (p (home o) ≡ true) ⊎ Homeless-here
+      by-all (inr n) o i q e = inl (rw n (homes o i q e))
+      by-all (inl b) o i q e = go (or-cases (not (any (for-all T) (y .items))) _ H)
+        where
+          last : (all (λ i. inner (i .obj) (i .old) || home-there T (y .items) i) (y .items) ≡ true)
+              ⊎ ((any (homeless T (y .items)) (y .items) && (test T (λ i. true) (y .items) meta && p (first-of T p servers))) ≡ true)
+              → (p (home o) ≡ true) ⊎ Homeless-here
+          last (inl h) = inl (rw b (with-home h o i q e))
+          last (inr h) =
+              let a = and-both (any (homeless T (y .items)) (y .items)) _ h in
+              let j = any-in (homeless T (y .items)) (y .items) (a .0) in
+              inr (without (j .0) (j .2) (a .1))
+
+          go : (not (any (for-all T) (y .items)) ≡ true)
+              ⊎ ((all (λ i. inner (i .obj) (i .old) || home-there T (y .items) i) (y .items)
+              || (any (homeless T (y .items)) (y .items) && (test T (λ i. true) (y .items) meta && p (first-of T p servers)))) ≡ true)
+              → (p (home o) ≡ true) ⊎ Homeless-here
+          go (inl h) = absurd (not-both b (not-true _ h))
+          go (inr h) = last (or-cases (all (λ i. inner (i .obj) (i .old) || home-there T (y .items) i) (y .items)) _ h)
 
   -- all participants have done it
   pub each-part : (p done : Server → Bool) → all-parts T p done ≡ true → (s : Server) → p s ≡ true → done s ≡ true

@@ -4,7 +4,7 @@ use mathlib.Core.Bool.{Bool, true, false}
 use mathlib.Core.List.{List, [], _∷_}
 use Rattle.base.specs.Test.{not-both}
 use Rattle.protocol.specs.Setting.{Setting}
-use Rattle.protocol.specs.State.{Entry, Decided}
+use Rattle.protocol.specs.State.{Entry, Decided, transacted, reconfigured}
 use Rattle.protocol.specs.Replay.{effect, Answers, Uncompared, Runs, Replays}
 use Rattle.protocol.specs.Meaning.{Meaning, Shown, shown-of, map-of, Right, map-all, Right-all}
 
@@ -17,11 +17,12 @@ module _ (T : Setting) where
 
   unfoldable pub show-all : List (Decided T) → List (List (Shown T))
   show-all [] = []
-  show-all (d ∷ l) = show (d .ops) ∷ show-all l
+  show-all (transacted t b ∷ l) = show t ∷ show-all l
+  show-all (reconfigured v ∷ l) = show-all l
 
 module _ (T : Setting) (Z : Meaning T) where
   open Setting T using (Obj, Val, public, compared)
-  open Meaning Z using (Map, map-answer, map-after, uncompared-after, Holds-map, first-map, first-holds, sound)
+  open Meaning Z using (Map, map-answer, map-after, uncompared-after, Holds-map, first-map, first-holds, alike-holds, sound)
 
   trace-right : (t : List (Entry T)) (M : Obj → Val) (m : Map) → Holds-map M m → Answers T t M
       → Holds-map (effect T t M) (map-of T Z (show T t) m) × Right T Z (show T t) m
@@ -53,7 +54,10 @@ module _ (T : Setting) (Z : Meaning T) where
   pub log-right : (l : List (Decided T)) (U : Obj → Val) → Replays T l U → Holds-map U (map-all T Z (show-all T l)) × Right-all T Z (show-all T l)
   unfolding Replays map-all Right-all show-all
   log-right [] U h = (subst (λ W. Holds-map W first-map) (sym (fun-ext h)) first-holds, tt)
-  log-right (d ∷ l) U h =
+  log-right (transacted t b ∷ l) U h =
       let before = log-right l (h .0) (h .1) in
-      let now = runs-right (d .took-part) (d .ops) (h .0) U (map-all T Z (show-all T l)) (before .0) (h .2) in
+      let now = runs-right b t (h .0) U (map-all T Z (show-all T l)) (before .0) (h .2) in
       (now .0, (before .1, now .1))
+  log-right (reconfigured v ∷ l) U h =
+      let before = log-right l (h .0) (h .1) in
+      (subst (λ W. Holds-map W (map-all T Z (show-all T l))) (sym (fun-ext (h .3))) (alike-holds (h .0) (map-all T Z (show-all T l)) v (before .0) (h .2)), before .1)

@@ -10,7 +10,7 @@ use Rattle.base.specs.Laws.Update.{upd-other}
 use Rattle.protocol.specs.Setting.{Setting}
 use Rattle.protocol.specs.Laws.State.{after-commit}
 use Rattle.protocol.specs.State.{is-decided, Transaction, State, preparing, put}
-use Rattle.protocol.specs.System.{Holds, Checked, ReadLock, Apart, CanPrepare}
+use Rattle.protocol.specs.System.{here, Holds, Checked, ReadLock, Apart, CanPrepare}
 use Rattle.protocol.specs.Laws.Invariant.{OuterSince, Pending, Newest, TableRight, Inv}
 use Rattle.protocol.specs.Laws.Put.{put-inv}
 use Rattle.protocol.specs.Laws.Working.{none-pending}
@@ -25,6 +25,10 @@ module _ (T : Setting) where
 
     undecided : is-decided (x .phase) ≡ false
     undecided = ap is-decided (K .phase)
+
+    -- s calls itself not absent, and so it is
+    is-here : here T σ s ≡ true
+    is-here = sym (I .staffed .called s) ∙ K .not-absent
 
     -- a write of another client that is pending at s is in the way of a lock
     in-the-way : (o : Obj) (d : Client) → Pending T (σ .clients d) s o → ReadLock T x s o → ⊥
@@ -46,12 +50,12 @@ module _ (T : Setting) where
         go (no ge) = omega (arith, same, out .upto)
 
     current : (o : Obj) → x .read o ≡ true → Checked T x s o → σ .current o ≡ x .version-read o
-    current o hr (inl q) = go (I .tables s o)
+    current o hr (inl q) = go (I .tables s o is-here)
       where
         go : TableRight T σ s o → σ .current o ≡ x .version-read o
         go (inl out) = by-table o hr (q .0) (K .checks .by-table o hr (q .0) (q .1)) out
         go (inr w) = absurd (in-the-way o (w .0) (w .1 .0) (hr, inl q))
-    current o hr (inr q) = go (I .newest s o (subst (λ t. keeps t o ≡ true) (sym (q .1)) (keeps-home o)))
+    current o hr (inr q) = go (I .newest s o (subst (λ t. keeps t o ≡ true) (sym (q .1)) (keeps-home o)) (inl is-here))
       where
         go : Newest T σ s o → σ .current o ≡ x .version-read o
         go (inl e) = sym e ∙ K .checks .at-home o hr (q .0) (q .1)
@@ -73,6 +77,7 @@ module _ (T : Setting) where
           kept = λ _ t o ht hr hc. kept t o ht hr hc (eqServer t s);
           apart-out = λ d nd t hx hd. out d nd t (eqServer t s) hx hd;
           apart-into = λ d nd t hd hx. into d nd t (eqServer t s) hd hx;
+          held = λ t h. held t h (eqServer t s);
         })
       where
         x′ : Transaction T
@@ -80,6 +85,10 @@ module _ (T : Setting) where
 
         before : (t : Server) → ¬ (t ≡ s) → x′ .prepared t ≡ true → x .prepared t ≡ true
         before t ne h = sym (upd-other eqServer (x .prepared) s true t ne) ∙ h
+
+        held : (t : Server) → x′ .prepared t ≡ true → Dec (t ≡ s) → here T σ t ≡ true
+        held t h (yes e) = subst (λ t. here T σ t ≡ true) (sym e) is-here
+        held t h (no ne) = I .held c t (before t ne h)
 
         kept : (t : Server) (o : Obj) → x′ .prepared t ≡ true → x .read o ≡ true → Checked T x t o → Dec (t ≡ s) → σ .current o ≡ x .version-read o
         kept t o ht hr hc (yes e) = current o hr (subst (λ t. Checked T x t o) e hc)

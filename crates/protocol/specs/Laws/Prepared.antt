@@ -21,7 +21,7 @@ use Rattle.protocol.specs.Laws.Locks.{Recorded, granted-apart, prepare-r
 use Rattle.protocol.specs.Laws.Ghosts.{Own, Ghost, item-version, transaction-of, state-of, put-own, clients-put, state-put, state-own}
 
 module _ (T : Setting) where
-  open Setting T using (Obj, Server, Client, Val, eqServer, eqClient, home, keeps, keeps-home, inner, by-value, by-value-outer)
+  open Setting T using (Obj, Server, Client, Val, eqServer, eqClient, home, keeps, keeps-home, inner, by-value, by-value-outer, meta, present)
 
   inner-versioned : (o : Obj) (v : Val) → inner o v ≡ true → by-value o ≡ false
   inner-versioned o v h = go (bool-cases (by-value o))
@@ -40,7 +40,9 @@ module _ (T : Setting) where
   abbrev pub prepared-ghost : Ghost T → Client → Server → Ghost T
   prepared-ghost g c s = put-own T (stamped-ghost g c s) c (stamped-ghost g c s .own c)
 
-  module _ (m : Machine T) (g : Ghost T) (c : Client) (r : Reach T (state-of T m g)) (s : Server) (hp : m .slots c .phase ≡ committing) (new : m .slots c .prepared s ≡ false) (pass : all (check T m (m .slots c .lowest) s) (m .slots c .items) ≡ true) where
+  module _ (m : Machine T) (g : Ghost T) (c : Client) (r : Reach T (state-of T m g)) (s : Server) (hs : present (m .value s meta) s ≡ true)
+      (hp : m .slots c .phase ≡ committing)
+      (new : m .slots c .prepared s ≡ false) (pass : all (check T m (m .slots c .lowest) s) (m .slots c .items) ≡ true) where
     abbrev y : Slot T
     y = m .slots c
 
@@ -133,6 +135,7 @@ module _ (T : Setting) where
           can : CanPrepare T (state-of T m g1) c s
           can = record {
             phase = hp;
+            not-absent = hs;
             checks = checks (g1 .own c) (upd-same eqClient (g .own) c _);
             unlocked = granted-apart T (state-of T m g1 .clients) (m .lock) R c s w rd (asks-write T y s) (asks-read T y s) G;
           }

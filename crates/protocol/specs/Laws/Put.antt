@@ -8,7 +8,7 @@ use Rattle.base.specs.Laws.Update.{upd-other, upd-all}
 use Rattle.protocol.specs.Setting.{Setting}
 use Rattle.protocol.specs.Laws.State.{after-commit}
 use Rattle.protocol.specs.State.{is-decided, Transaction, State, put}
-use Rattle.protocol.specs.System.{Holds, Apart, Parts}
+use Rattle.protocol.specs.System.{here, Holds, Apart, Parts}
 use Rattle.protocol.specs.Laws.Invariant.{Content, Course, Reads, Kept, Due, Pending, PendingInner, Newest, TableRight, Inv}
 
 module _ (T : Setting) where
@@ -48,6 +48,7 @@ module _ (T : Setting) where
     pub kept : Kept T σ x
     pub apart-out : (d : Client) → ¬ (d ≡ c) → Exclude x (σ .clients d)
     pub apart-into : (d : Client) → ¬ (d ≡ c) → Exclude (σ .clients d) x
+    pub held : (s : Server) → x .prepared s ≡ true → here T σ s ≡ true
 
   pub put-inv : (σ : State T) → Inv T σ → (c : Client) (x : Transaction T) → Replaced σ c x → Inv T (put T σ c x)
   put-inv σ I c x R = record {
@@ -61,8 +62,10 @@ module _ (T : Setting) where
         (λ h. absurd (not-both h (R .undecided))) (λ d _. I .due d);
     apart = apart-upd (σ .clients) c x (R .apart-out) (R .apart-into) (I .apart);
     stored = I .stored;
-    newest = λ s o h. newest-still s o (I .newest s o h);
-    tables = λ s o. table-still s o (I .tables s o);
+    newest = λ s o h k. newest-still s o (I .newest s o h k);
+    tables = λ s o h. table-still s o (I .tables s o h);
+    staffed = I .staffed;
+    held = upd-all eqClient (σ .clients) c x (λ d y. (s : Server) → y .prepared s ≡ true → here T σ s ≡ true) (R .held) (λ d _. I .held d);
     replay = I .replay;
   }
     where

@@ -1,4 +1,4 @@
--- How a plan is shown, by its shape, to meet what a Setting demands of it: `asks-outer` and `writes-asked`.
+-- How a plan is shown, by its shape, to meet what a Setting demands of it: `asks-outer`, `writes-asked` and `servers-stay`.
 use mathlib.Core.Path.{_≡_, refl, ap, sym, subst}
 use mathlib.Core.Bool.{Bool, true, false, _||_, not, false≢true}
 use mathlib.Core.HLevel.{Discrete}
@@ -9,7 +9,7 @@ use Rattle.base.specs.Test.{yes?}
 use Rattle.plans.specs.Plan.{Plan, ask, done, fail, Out, gives, fails, exec, Asked}
 use Rattle.plans.specs.Walk.{Every}
 use Rattle.protocol.specs.Lists.{Among}
-use Rattle.protocol.specs.Writes.{writes?}
+use Rattle.protocol.specs.Writes.{writes?, latest}
 
 fails≢gives : {Res Why : Type 0} {y : Why} {r : Res} → _≡_ {A = Out Res Why} (fails y) (gives r) → ⊥
 fails≢gives {Res = Res} {Why = Why} e = false≢true (ap gives? e)
@@ -98,3 +98,21 @@ module _ {Obj Val Res Why : Type 0} (eqObj : Discrete Obj) (writes : Res → Lis
       → exec p M ≡ gives r → (o : Obj) → writes? eqObj (writes r) o ≡ true → asked o ≡ true
   unfolding Every
   written-asked p asked M r h = written-among p [] asked M r h tt
+
+-- A plan that has read the metadata as v leaves the servers as they are: so `ask meta q` meets `servers-stay`, if each q v does this.
+module _ {Obj Val Res Why Server : Type 0} (eqObj : Discrete Obj) (writes : Res → List (Obj × Val)) (meta : Obj) (present : Val → Server → Bool) where
+  unfoldable pub Stays : Val → Plan Obj Val Res Why → Type 0
+  Stays v (ask o k) = (u : Val) → Stays v (k u)
+  Stays v (done r) = (s : Server) → present (latest eqObj (writes r) meta v) s ≡ present v s
+  Stays v (fail y) = Unit {0}
+
+  pub servers-left : (v : Val) (p : Plan Obj Val Res Why) (M : Obj → Val) (r : Res) → Stays v p → exec p M ≡ gives r
+      → (s : Server) → present (latest eqObj (writes r) meta v) s ≡ present v s
+  unfolding Stays exec
+  servers-left v (ask o k) M r h e = servers-left v (k (M o)) M r (h (M o)) e
+  servers-left v (done q) M r h e = subst (λ r. (s : Server) → present (latest eqObj (writes r) meta v) s ≡ present v s) (ap (given q) e) h
+    where
+      given : Res → Out Res Why → Res
+      given q (gives r) = r
+      given q (fails y) = q
+  servers-left v (fail y) M r h e = absurd (fails≢gives e)

@@ -29,22 +29,23 @@ unfolding upd exec Asked writes? latest find all any first-of settled ℕ-discre
 run =
     let r1 : Reached tiny _ = moved at-first (begins false refl) in
     let r2 : Reached tiny _ = moved r1 (fetches false false (leaf false) refl refl refl) in
-    let r3 : Reached tiny _ = moved r2 (answers false put-seven refl (refl, (refl, tt)) refl) in
-    let r4 : Reached tiny _ = moved r3 (commits false refl) in
-    let r5 : Reached tiny _ = moved r4 (prepares false false refl refl refl refl) in
-    let r6 : Reached tiny _ = moved r5 (decides false refl refl) in
-    let r7 : Reached tiny _ = moved r6 (applies false false refl refl) in
-    let r8 : Reached tiny _ = moved r7 (ends false refl refl) in
-    let r9 : Reached tiny _ = moved r8 (releases _ (λ s o. given-back false refl)) in
-    let r10 : Reached tiny _ = moved r9 (begins false refl) in
-    let r11 : Reached tiny _ = moved r10 (fetches false true root refl refl refl) in
-    let r12 : Reached tiny _ = moved r11 (answers false turn-five refl (refl, tt) refl) in
-    let r13 : Reached tiny _ = moved r12 (commits false refl) in
-    let r14 : Reached tiny _ = moved r13 (prepares false true refl refl refl refl) in
-    let r15 : Reached tiny _ = moved r14 (prepares false false refl refl refl refl) in
-    let r16 : Reached tiny _ = moved r15 (decides false refl refl) in
-    let r17 : Reached tiny _ = moved r16 (applies false false refl refl) in
-    (_, r17, refl, refl, refl, refl, refl, refl, refl, refl)
+    let r3 : Reached tiny _ = moved r2 (fetches false false root refl refl refl) in
+    let r4 : Reached tiny _ = moved r3 (answers false put-seven refl (refl, (refl, (refl, tt))) refl) in
+    let r5 : Reached tiny _ = moved r4 (commits false refl refl) in
+    let r6 : Reached tiny _ = moved r5 (prepares false false refl refl refl refl refl) in
+    let r7 : Reached tiny _ = moved r6 (decides false refl refl) in
+    let r8 : Reached tiny _ = moved r7 (applies false false refl refl refl) in
+    let r9 : Reached tiny _ = moved r8 (ends false refl refl) in
+    let r10 : Reached tiny _ = moved r9 (releases _ (λ s o. given-back false refl)) in
+    let r11 : Reached tiny _ = moved r10 (begins false refl) in
+    let r12 : Reached tiny _ = moved r11 (fetches false true root refl refl refl) in
+    let r13 : Reached tiny _ = moved r12 (answers false turn-five refl (refl, tt) refl) in
+    let r14 : Reached tiny _ = moved r13 (commits false refl refl) in
+    let r15 : Reached tiny _ = moved r14 (prepares false true refl refl refl refl refl) in
+    let r16 : Reached tiny _ = moved r15 (prepares false false refl refl refl refl refl) in
+    let r17 : Reached tiny _ = moved r16 (decides false refl refl) in
+    let r18 : Reached tiny _ = moved r17 (applies false false refl refl refl) in
+    (_, r18, refl, refl, refl, refl, refl, refl, refl, refl)
 
 -- and the claim holds of it
 claimed : Claim tiny leaves (run .0)

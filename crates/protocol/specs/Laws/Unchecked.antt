@@ -31,11 +31,11 @@ stale =
     let r3 : Reached tiny _ = moved r2 (begins false refl) in
     let r4 : Reached tiny _ = moved r3 (fetches false false root refl refl refl) in
     let r5 : Reached tiny _ = moved r4 (answers false turned refl (refl, tt) refl) in
-    let r6 : Reached tiny _ = moved r5 (commits false refl) in
-    let r7 : Reached tiny _ = moved r6 (prepares false false refl refl refl refl) in
-    let r8 : Reached tiny _ = moved r7 (prepares false true refl refl refl refl) in
+    let r6 : Reached tiny _ = moved r5 (commits false refl refl) in
+    let r7 : Reached tiny _ = moved r6 (prepares false false refl refl refl refl refl) in
+    let r8 : Reached tiny _ = moved r7 (prepares false true refl refl refl refl refl) in
     let r9 : Reached tiny _ = moved r8 (decides false refl refl) in
     let r10 : Reached tiny _ = moved r9 (answers true looked refl (refl, tt) refl) in
-    let r11 : Reached tiny _ = moved r10 (commits true refl) in
+    let r11 : Reached tiny _ = moved r10 (commits true refl refl) in
     let r12 : Reached tiny _ = moved r11 (decides true refl refl) in
     (_, r12, refl, refl, refl)

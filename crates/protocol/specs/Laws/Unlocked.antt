@@ -13,7 +13,7 @@ use Rattle.protocol.specs.Meaning.{Shown, map-of, map-all, Right, Right-
 use Rattle.protocol.specs.Machine.{Machine, find, turned}
 use Rattle.protocol.specs.Moves.{first-of, check, to-write, to-read, grants, granted-row, prepared-slot, begins, fetches, answers, commits, decides, Reached}
 use Rattle.protocol.specs.Laws.Variant.{ReachedWith, at-start, by-rule, also, never}
-use Rattle.protocol.specs.Laws.Example.{leaf, put, tiny, leaves, one, one≢seven}
+use Rattle.protocol.specs.Laws.Example.{root, leaf, put, tiny, leaves, one, one≢seven}
 
 -- a prepare as the rules have it, but that it leaves no lock on what is only read
 data Loose (m : Machine tiny) : Machine tiny → Type 0 where
@@ -38,20 +38,22 @@ skewed =
     let r1 : Goes _ = by-rule at-start (begins false refl) in
     let r2 : Goes _ = by-rule r1 (fetches false false (leaf false) refl refl refl) in
     let r3 : Goes _ = by-rule r2 (fetches false true (leaf true) refl refl refl) in
-    let r4 : Goes _ = by-rule r3 (answers false (crossed false true) refl (refl, (refl, tt)) refl) in
-    let r5 : Goes _ = by-rule r4 (commits false refl) in
-    let r6 : Goes _ = by-rule r5 (begins true refl) in
-    let r7 : Goes _ = by-rule r6 (fetches true true (leaf true) refl refl refl) in
-    let r8 : Goes _ = by-rule r7 (fetches true false (leaf false) refl refl refl) in
-    let r9 : Goes _ = by-rule r8 (answers true (crossed true false) refl (refl, (refl, tt)) refl) in
-    let r10 : Goes _ = by-rule r9 (commits true refl) in
-    let r11 : Goes _ = also r10 (prepares-loosely false false refl refl refl refl) in
-    let r12 : Goes _ = also r11 (prepares-loosely true true refl refl refl refl) in
-    let r13 : Goes _ = also r12 (prepares-loosely true false refl refl refl refl) in
-    let r14 : Goes _ = also r13 (prepares-loosely false true refl refl refl refl) in
-    let r15 : Goes _ = by-rule r14 (decides false refl refl) in
-    let r16 : Goes _ = by-rule r15 (decides true refl refl) in
-    (_, r16, refl)
+    let r4 : Goes _ = by-rule r3 (fetches false false root refl refl refl) in
+    let r5 : Goes _ = by-rule r4 (answers false (crossed false true) refl (refl, (refl, (refl, tt))) refl) in
+    let r6 : Goes _ = by-rule r5 (commits false refl refl) in
+    let r7 : Goes _ = by-rule r6 (begins true refl) in
+    let r8 : Goes _ = by-rule r7 (fetches true true (leaf true) refl refl refl) in
+    let r9 : Goes _ = by-rule r8 (fetches true false (leaf false) refl refl refl) in
+    let r10 : Goes _ = by-rule r9 (fetches true false root refl refl refl) in
+    let r11 : Goes _ = by-rule r10 (answers true (crossed true false) refl (refl, (refl, (refl, tt))) refl) in
+    let r12 : Goes _ = by-rule r11 (commits true refl refl) in
+    let r13 : Goes _ = also r12 (prepares-loosely false false refl refl refl refl) in
+    let r14 : Goes _ = also r13 (prepares-loosely true true refl refl refl refl) in
+    let r15 : Goes _ = also r14 (prepares-loosely true false refl refl refl refl) in
+    let r16 : Goes _ = also r15 (prepares-loosely false true refl refl refl refl) in
+    let r17 : Goes _ = by-rule r16 (decides false refl refl) in
+    let r18 : Goes _ = by-rule r17 (decides true refl refl) in
+    (_, r18, refl)
 
 -- the second of the two should have answered 7
 wrong : Right-all tiny leaves outcome → ⊥

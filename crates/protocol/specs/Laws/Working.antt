@@ -5,7 +5,7 @@ use mathlib.Core.List.{_∷_}
 use mathlib.Core.Logic.{_⊎_, inl, inr}
 use Prim.Native.Nat.{ℕ, _≤_}
 use native.Mathlib.Omega.{arith}
-use Rattle.base.specs.Laws.Test.{bool-cases, cond-false, or-right, or-cases}
+use Rattle.base.specs.Laws.Test.{bool-cases, cond-true, cond-false, or-right, or-cases}
 use Rattle.base.specs.Test.{not-both}
 use Rattle.base.specs.Laws.Update.{upd-same, upd-other}
 use Rattle.plans.specs.Plan.{gives, exec, Asked}
@@ -22,6 +22,7 @@ use Rattle.protocol.specs.Laws.Put.{put-inv}
 
 module _ (T : Setting) where
   open Setting T using (Obj, Server, Client, Val, eqObj, inner, by-value-outer, plan, writes, public, compared, asks-outer, writes-asked)
+  open Setting T using (meta, present, writes-know, servers-stay)
 
   -- an undecided transaction has nothing pending
   pub none-pending : (x : Transaction T) → is-decided (x .phase) ≡ false → (s : Server) (o : Obj) → ¬ (Pending T x s o)
@@ -43,11 +44,12 @@ module _ (T : Setting) where
     kept = λ _ s o p. absurd (not-both p (un s));
     apart-out = λ d _ s hx. absurd (not-both (hx .0) (un s));
     apart-into = λ d _ s hd hx. absurd (not-both (hx .0) (un s));
+    held = λ s h. absurd (not-both h (un s));
   })
 
   pub fresh-content : (p : Phase) → Content T (fresh T p)
   unfolding Answers effect Uncompared
-  fresh-content p = record { written-read = λ o h. absurd (false≢true h); explained = λ M _. (tt, λ o. refl); outer-seen = inl tt }
+  fresh-content p = record { written-read = λ o h. absurd (false≢true h); knows = λ o h. absurd (false≢true h); same-servers = λ h. absurd (false≢true h); explained = λ M _. (tt, λ o. refl); outer-seen = inl tt }
 
   pub fresh-course : (p : Phase) → is-decided p ≡ false → Course T (fresh T p)
   fresh-course p hd = record { unprepared = λ _ s. refl; unapplied = λ _ s. refl; all-prepared = λ h. absurd (not-both h hd) }
@@ -98,6 +100,8 @@ module _ (T : Setting) where
         content : Content T x′
         content = record {
           written-read = λ k h. read-old k (I .content c .written-read k h);
+          knows = λ k h. read-old meta (I .content c .knows k h);
+          same-servers = λ h s. I .content c .same-servers h s ∙ ap (λ v. present v s) (sym (value-old meta (I .content c .written-read meta h)));
           explained = λ M agree. I .content c .explained M (λ k h. agree k (read-old k h) ∙ value-old k h);
           outer-seen = seen (I .content c .outer-seen);
         }
@@ -137,6 +141,21 @@ module _ (T : Setting) where
         was-read o (inl h) = writes-asked (e .op) (x .read) (view T x) (e .result) asked ran o h
         was-read o (inr h) = I .content c .written-read o h
 
+        knew : (o : Obj) → (wrote o ≡ true) ⊎ (x .written o ≡ true) → x .read meta ≡ true
+        knew o (inl h) = writes-know (e .op) (x .read) (view T x) (e .result) asked ran o h
+        knew o (inr h) = I .content c .knows o h
+
+        -- an operation leaves the servers as it sees them, and so did those before it
+        same : x′ .written meta ≡ true → (s : Server) → (x .written meta ≡ true) ⊎ (x .written meta ≡ false)
+            → present (x′ .value-written meta) s ≡ present (x .value-read meta) s
+        same h s b = ap (λ v. present v s)
+            (sym (latest-cond eqObj (writes (e .result)) meta (x .written meta) (x .value-written meta) (x .value-read meta) ∙ cond-true _ _ h))
+            ∙ servers-stay (e .op) (view T x) (e .result) ran s ∙ before b
+          where
+            before : (x .written meta ≡ true) ⊎ (x .written meta ≡ false) → present (view T x meta) s ≡ present (x .value-read meta) s
+            before (inl w) = ap (λ v. present v s) (cond-true (x .value-written meta) (x .value-read meta) w) ∙ I .content c .same-servers w s
+            before (inr w) = ap (λ v. present v s) (cond-false (x .value-written meta) (x .value-read meta) w)
+
         -- the plan asks only for what was read, so it has its result on every snapshot that agrees with that
         explained : (M : Obj → Val) → ((o : Obj) → x .read o ≡ true → M o ≡ x .value-read o)
             → Answers T (e ∷ x .trace) M × ((o : Obj) → effect T (e ∷ x .trace) M o ≡ cond (x′ .written o) (x′ .value-written o) (M o))
@@ -170,6 +189,8 @@ module _ (T : Setting) where
         content : Content T x′
         content = record {
           written-read = λ o h. was-read o (or-cases (wrote o) (x .written o) h);
+          knows = λ o h. knew o (or-cases (wrote o) (x .written o) h);
+          same-servers = λ h s. same h s (bool-cases (x .written meta));
           explained = explained;
           outer-seen = seen (bool-cases (compared (public (e .op)))) (I .content c .outer-seen);
         }
@@ -199,6 +220,7 @@ module _ (T : Setting) where
           kept = λ _ s o hs hr hc. current s o hs hr (st o) hc;
           apart-out = λ d nd. I .apart c d (λ q. nd (sym q));
           apart-into = λ d nd. I .apart d c nd;
+          held = I .held c;
         })
       where
         hd : is-decided (x .phase) ≡ false
