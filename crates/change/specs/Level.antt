@@ -2,6 +2,7 @@
 use mathlib.Core.Path.{_≡_}
 use mathlib.Core.List.{List, [], _∷_}
 use Prim.Native.Nat.{ℕ}
+use denote.Ref.{now}
 use native.Mathlib.Decide.{decLe}
 use lib.ListN.{length}
 use Rattle.base.specs.Test.{ifd}
@@ -16,7 +17,8 @@ use Rattle.walk.specs.declared.down.Turn.{Turn}
 use Rattle.walk.specs.declared.walk.Stop.{Stop}
 use Rattle.client.specs.Layout.{ClientWord}
 use Rattle.client.specs.Record.{value-of}
-use Rattle.client.specs.Lent.{used-in}
+use Rattle.client.specs.Sets.{held}
+use Rattle.client.specs.Lent.{LentList, used-in}
 use Rattle.walk.specs.Walk.{walked}
 use Rattle.walk.specs.Lookup.{ended}
 use Rattle.walk.specs.Ask.{Noted}
@@ -41,3 +43,7 @@ pub record Settled (m : ClientWord → ℕ) (x u : List ℕ) (c : ℕ) (n : Wide
   pub ends : (z : TreeSizes) (w : Writes) → walked z m (P.done ((a, b, []), (node c, value-of (node c) (narrow n)) ∷ w)) (used-in u) ≡ ended s (used-in u′) ((node c, value-of (node c) (narrow n)) ∷ w) []
   pub written : NodeWritten x c (narrow n) x′
   pub noted : Noted m u′
+
+-- over what the walk is lent
+abbrev pub Settles : LentList → LentList → LentList → ℕ → Wide → ℕ → ℕ → Stop → Type 0
+Settles part own used c n a b s = Settled (held (now (part .entry))) (now (own .entry)) (now (used .entry)) c n a b s (now (own .exit)) (now (used .exit))

@@ -14,10 +14,9 @@ ghost use mathlib.Core.Path.{_≡_};
 ghost use Prim.Native.Nat.{_<_, _≤_};
 ghost use Rattle.nodes.specs.Change.{take-out};
 ghost use Rattle.operations.specs.Change.{delete-plan};
-ghost use Rattle.client.specs.Record.{sizes};
 ghost use Rattle.walk.specs.Ask.{Walking};
 ghost use Rattle.change.specs.Rise.{widened};
-ghost use Rattle.change.specs.Leaf.{Changes};
+ghost use Rattle.change.specs.Leaf.{Makes};
 ghost use Rattle.client.specs.Bounds.{most-keys};
 
 // The leaf's content without key number i.
@@ -31,8 +30,7 @@ fn without(n: Node, i: usize) -> Wide
 
 pub fn delete(part: &[u8], servers: usize, slots: usize, used: &mut [u64], key: u64) -> Changed
     requires { ⌜ Walking servers (now part) (now used) ⌝ }
-    ensures { λ r. ⌜ Changes (sizes servers slots) (now (part .entry)) (now (used .entry)) (delete-plan (sizes servers slots) key) r
-        (now (used .exit)) ⌝ }
+    ensures { λ r. ⌜ Makes servers slots part used (λ z. delete-plan z key) r ⌝ }
 {
     let way = descend(part, servers, slots, used, key);
     let stop = way.stop;

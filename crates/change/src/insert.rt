@@ -11,10 +11,9 @@ use walk::walk::going;
 ghost use mathlib.Core.Path.{_≡_};
 ghost use Prim.Native.Nat.{_≤_};
 ghost use Rattle.operations.specs.Change.{insert-plan};
-ghost use Rattle.client.specs.Record.{sizes};
 ghost use Rattle.walk.specs.Ask.{Walking};
 ghost use Rattle.change.specs.Insert.{paired};
-ghost use Rattle.change.specs.Leaf.{Changes};
+ghost use Rattle.change.specs.Leaf.{Makes};
 ghost use Rattle.client.specs.Bounds.{most-keys};
 
 // A leaf's new content, with the answer a: 1 if the key is new.
@@ -53,8 +52,7 @@ pub fn insert(
     value: u64,
 ) -> Changed
     requires { ⌜ Walking servers (now part) (now used) ⌝ }
-    ensures { λ r. ⌜ Changes (sizes servers slots) (now (part .entry)) (now (used .entry)) (insert-plan (sizes servers slots) key value) r
-        (now (used .exit)) ⌝ }
+    ensures { λ r. ⌜ Makes servers slots part used (λ z. insert-plan z key value) r ⌝ }
 {
     let way = descend(part, servers, slots, used, key);
     let stop = way.stop;

@@ -19,7 +19,7 @@ ghost use Rattle.client.specs.Lent.{own-count};
 ghost use Rattle.client.specs.Bounds.{end-of-names, own-most, most-keys, highest-level, risen-most};
 ghost use Rattle.walk.specs.Ask.{OwnGood, Noted, Rising};
 ghost use Rattle.change.specs.Rise.{Content, Under, Raises, Closes};
-ghost use Rattle.change.specs.Level.{Settled, level-plan, top-plan};
+ghost use Rattle.change.specs.Level.{level-plan, top-plan, Settles};
 ghost use Rattle.client.specs.Layout.{ClientPart};
 
 // A node is written, and the operation answered.
@@ -34,8 +34,7 @@ fn settle(
 ) -> Stop
     requires { ⌜ (name < end-of-names) × OwnGood (now own) × (own-count (now own) < own-most) × (n .count ≤ most-keys) ⌝ }
     requires noted { ⌜ Noted (held (now part)) (now used) × ClientPart (now part) ⌝ }
-    ensures { λ r. ⌜ Settled (held (now (part .entry))) (now (own .entry)) (now (used .entry)) name n a b r (now (own .exit))
-        (now (used .exit)) ⌝ }
+    ensures { λ r. ⌜ Settles part own used name n a b r ⌝ }
 {
     let node = n.node();
     write_node(own, name, node);

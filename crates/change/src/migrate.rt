@@ -21,20 +21,18 @@ use walk::walk::ask_node;
 use walk::walk::going;
 ghost use mathlib.Core.Path.{_≡_};
 ghost use mathlib.Core.Bool.{true};
-ghost use Prim.Native.Nat.{_+_, _<_, _≤_, _-_};
-ghost use lib.ListN.{getD};
+ghost use Prim.Native.Nat.{_<_, _≤_, _-_};
 ghost use Rattle.nodes.specs.Kept.{Whole};
 ghost use Rattle.operations.specs.Object.{node};
-ghost use Rattle.operations.specs.Migrate.{move-root, move-below, move-if, migrate-plan};
+ghost use Rattle.operations.specs.Migrate.{move-root, move-if, migrate-plan};
 ghost use Rattle.client.specs.Record.{sizes, in-store, value-of};
-ghost use Rattle.client.specs.Sets.{held};
 ghost use Rattle.client.specs.Lent.{own-count};
 ghost use Rattle.client.specs.Bounds.{end-of-slots, own-most, highest-level};
-ghost use Rattle.walk.specs.Ask.{SmallNode, OwnGood, In-part, Writing, Beginning, Walking, over-lent};
-ghost use Rattle.walk.specs.Down.{arrival};
+ghost use Rattle.walk.specs.Ask.{SmallNode, OwnGood, In-part, Writing, Beginning, Walking, over-lent, over-read};
+ghost use Rattle.walk.specs.Down.{arrived};
 ghost use Rattle.change.specs.Operated.{Operates};
 ghost use Rattle.change.specs.Move.{Beside, Placed, Left, Moved};
-ghost use Rattle.change.specs.Migrate.{named-plan};
+ghost use Rattle.change.specs.Migrate.{named-plan, below-plan};
 ghost use Rattle.change.specs.Parent.{Parent, ToParent, ChildMoved, MovedAt};
 
 // "changes .. the metadata for the root"
@@ -238,8 +236,7 @@ fn to_parent(
 ) -> Descent
     requires { ⌜ Walking servers (now part) (now used) ⌝ }
     requires low { ⌜ level ≤ highest-level ⌝ }
-    ensures { λ r. ⌜ ToParent (sizes servers slots) (held (now (part .entry))) (now (used .entry)) key top level
-        (arrival (now (part .entry)) r) (now (used .exit)) ⌝ }
+    ensures { λ r. ⌜ over-read ToParent servers slots part used key top level (arrived part r) (now (used .exit)) ⌝ }
     ensures within { λ r. ⌜ In-part (r .place) ⌝ }
 {
     let r = root(part, servers, slots, used, top);
@@ -270,7 +267,7 @@ fn move_below(
 ) -> Stop
     requires { ⌜ Beginning servers (now part) (now own) (now used) ⌝ }
     requires small { ⌜ SmallNode n ⌝ }
-    ensures { λ r. ⌜ Operates servers slots part own used (λ z. move-below z top name server (value-of (node name) n) (n .level) (getD (n .keys) 0 0)) r ⌝ }
+    ensures { λ r. ⌜ Operates servers slots part own used (λ z. below-plan z top name server n) r ⌝ }
 {
     let keys = n.keys;
     let key = keys[0];

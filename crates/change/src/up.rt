@@ -12,7 +12,7 @@ ghost use Rattle.client.specs.Record.{sizes};
 ghost use Rattle.walk.specs.Ask.{Beginning};
 ghost use Rattle.change.specs.Operated.{Operates};
 ghost use Rattle.change.specs.Up.{Ready, rise-plan};
-ghost use Rattle.change.specs.Leaf.{LeafReady, Carries};
+ghost use Rattle.change.specs.Leaf.{LeafReady, Carries-up};
 
 fn rise(
     part: &[u8],
@@ -74,8 +74,7 @@ pub fn carry_up(
 ) -> Stop
     requires { ⌜ Beginning servers (now part) (now own) (now used) ⌝ }
     requires ready { ⌜ LeafReady (sizes servers slots) (now part) c ⌝ }
-    ensures { λ r. ⌜ Carries (sizes servers slots) (now (part .entry)) (now (own .entry)) (now (used .entry)) c r (now (own .exit))
-        (now (used .exit)) ⌝ }
+    ensures { λ r. ⌜ Carries-up servers slots part own used c r ⌝ }
 {
     let stop = c.stop;
     let on = going(stop);

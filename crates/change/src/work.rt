@@ -28,7 +28,7 @@ ghost use Rattle.walk.specs.Stopped.{Waiting};
 ghost use Rattle.walk.specs.declared.operation.Operation.the-variants.{Write};
 ghost use Rattle.walk.specs.Operation.{operation-of};
 ghost use Rattle.change.specs.Work.{moves, Ready, judged, WorksOn};
-ghost use Rattle.change.specs.Leaf.{Changes};
+ghost use Rattle.change.specs.Leaf.{Makes};
 ghost use Rattle.client.specs.Bounds.{most-servers};
 
 // "Migrate moves a node"; insert and delete begin at a leaf.
@@ -46,8 +46,7 @@ pub fn moves(op: Update) -> bool
 pub fn to_leaf(part: &[u8], servers: usize, slots: usize, used: &mut [u64], op: Update) -> Changed
     requires { ⌜ Walking servers (now part) (now used) ⌝ }
     requires waits { ⌜ (operation-of (held (now part) op-number) ≡ Write op) × (moves op ≡ false) ⌝ }
-    ensures { λ r. ⌜ Changes (sizes servers slots) (now (part .entry)) (now (used .entry))
-        (reading (sizes servers slots) (waiting (held (now (part .entry))))) r (now (used .exit)) ⌝ }
+    ensures { λ r. ⌜ Makes servers slots part used (λ z. reading z (waiting (held (now (part .entry))))) r ⌝ }
 {
     let key = get_field(part, OP_KEY);
     match op {

@@ -2,10 +2,13 @@
 use mathlib.Core.Bool.{cond}
 use mathlib.Core.List.{List}
 use Prim.Native.Nat.{ℕ, zero, suc}
+use denote.Ref.{now}
 use lib.Dec.{eqb}
-use lib.ListN.{set, replicate}
+use lib.ListN.{length, set, replicate}
 use lib.Seq.{sets}
+use Rattle.memory.specs.Word.{view}
 use Rattle.layout.specs.Space.{stored}
+use Rattle.client.specs.Lent.{LentList}
 use Rattle.steps.specs.declared.sizes.Sizes.{Sizes}
 use Rattle.engine.specs.declared.open.Opening.{Opening}
 use Rattle.engine.specs.declared.open.Opening.the-variants.{Accepted, Refused}
@@ -29,3 +32,7 @@ new-words z w = stored whole (block z) (sets w 0 (replicate (words-for z) 0)) (f
 -- "A refused step .. changes no byte; opening checks 1 to 3 only."
 unfoldable pub words-opened : ℕ → Sizes → List ℕ → List ℕ
 words-opened bytes z w = cond (eqb (open-refusal bytes z) 0) (new-words z w) w
+
+-- over the lent memory
+abbrev pub opened-in : LentList → Sizes → List ℕ
+opened-in mem z = words-opened (length (now (mem .entry))) z (view (now (mem .entry)))

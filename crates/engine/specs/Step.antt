@@ -3,6 +3,7 @@ use mathlib.Core.Path.{_≡_}
 use mathlib.Core.Bool.{false, cond}
 use mathlib.Core.List.{List}
 use Prim.Native.Nat.{ℕ}
+use denote.Ref.{now}
 use lib.Dec.{eqb}
 use lib.ListN.{length}
 use Rattle.memory.specs.Word.{view}
@@ -15,9 +16,11 @@ use Rattle.steps.specs.Whole.{Address, whole, block}
 use Rattle.steps.specs.Refusal.{open-refusal, kind-of}
 use Rattle.steps.specs.Passed.{Passed}
 use Rattle.steps.specs.Output.{with-pairs}
+use Rattle.steps.specs.Taken.{Taken, came-to}
 use Rattle.steps.specs.Steps.{Did, refuse, by-kind, short-output, step}
 use Rattle.kinds.specs.Parts.{head-sizes, stored-in, Store-in}
 use Rattle.kinds.specs.Judge.{of-client}
+use Rattle.client.specs.Lent.{LentList}
 
 -- ---- the rule of a kind
 unfoldable pub rule-of : Sizes → ℕ → Step → Kind → (Address → ℕ) → Did
@@ -50,3 +53,15 @@ module _ (bytes : ℕ) (w : List ℕ) (room : ℕ) (k : Step) where
   -- the output afterwards, whose words were these
   unfoldable pub output-after : List ℕ → List ℕ
   output-after out = with-pairs (result-of .pairs) out
+
+-- ---- over the lent memory and output: a definition of their lengths and the memory's words
+abbrev pub lent : {A : Type 0} → (ℕ → List ℕ → ℕ → A) → LentList → LentList → A
+lent f mem out = f (length (now (mem .entry))) (view (now (mem .entry))) (length (now (out .entry)))
+
+-- the output as the step leaves it
+abbrev pub lent-output : LentList → LentList → Step → List ℕ
+lent-output mem out k = lent output-after mem out k (view (now (out .entry)))
+
+-- the step as it was taken: with its outcome, and the output that it was lent
+abbrev pub as-taken : Step → LentList → Outcome → Taken
+as-taken k out o = came-to k (length (now (out .entry))) (view (now (out .entry))) o (view (now (out .exit)))

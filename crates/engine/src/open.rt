@@ -10,7 +10,7 @@ ghost use Rattle.server.specs.Layout as Srv;
 ghost use Rattle.steps.specs.Whole.{server};
 ghost use Rattle.steps.specs.Refusal.{open-refusal};
 ghost use Rattle.kinds.specs.Parts.{Store-in, InWhole, head-words};
-ghost use Rattle.engine.specs.Open.{opening, with-head, new-words, words-opened};
+ghost use Rattle.engine.specs.Open.{opening, with-head, new-words, opened-in};
 ghost use Rattle.engine.specs.Reached.{Reached};
 use kinds::refusal::memory_refusal;
 use kinds::whole::server_at;
@@ -60,7 +60,7 @@ fn make_new(mem: &mut [u8], sizes: Sizes)
 // A new store of these sizes, if the memory lent is long enough.
 pub fn open(mem: &mut [u8], sizes: Sizes) -> Opening
     ensures { λ r. ⌜ r ≡ opening (open-refusal (length (now (mem .entry))) sizes) ⌝ }
-    ensures words { λ _. ⌜ view (now (mem .exit)) ≡ words-opened (length (now (mem .entry))) sizes (view (now (mem .entry))) ⌝ }
+    ensures words { λ _. ⌜ view (now (mem .exit)) ≡ opened-in mem sizes ⌝ }
     ensures reached { λ r. ⌜ (r ≡ Opening.Accepted → Reached sizes [] (now (mem .exit))) ⌝ }
 {
     let number = memory_refusal(mem.len(), sizes);

@@ -5,7 +5,7 @@ ghost use mathlib.Core.List.{[]};
 ghost use Prim.Native.Nat.{_*_, _≤_, _<_};
 ghost use lib.ListN.{length, getD};
 ghost use Rattle.memory.specs.Word.{view};
-ghost use Rattle.client.specs.Layout.{op-number, op-value, ClientPart};
+ghost use Rattle.client.specs.Layout.{op-number, ClientPart};
 ghost use Rattle.client.specs.Part.{Did};
 ghost use Rattle.client.specs.Lent.{InUse, used-in, OwnFits, own-list};
 ghost use Rattle.client.specs.Bounds.{most-listed};
@@ -13,16 +13,16 @@ ghost use Rattle.client.specs.Enter.{enter-entries};
 ghost use Rattle.change.specs.Single.{entries-of};
 ghost use Rattle.walk.specs.Walk.{is-answer};
 ghost use Rattle.walk.specs.Stopped.{Stopped};
-ghost use Rattle.walk.specs.declared.operation.Operation.the-variants.{Read, Listing, Write};
+ghost use Rattle.walk.specs.declared.operation.Operation.the-variants.{Read, Write};
 ghost use Rattle.walk.specs.Found.{pairs-in};
 ghost use Rattle.walk.specs.Operation.{operation-of};
 ghost use Rattle.steps.specs.Whole.{tree-sizes};
 ghost use Rattle.steps.specs.Output.{with-pairs};
 ghost use Rattle.steps.specs.Steps.{work};
-ghost use Rattle.kinds.specs.Parts.{InClient, AtClient};
+ghost use Rattle.kinds.specs.Parts.{AtClient};
 ghost use Rattle.kinds.specs.Judge.{of-client};
 ghost use Rattle.kinds.specs.Kinds.{Comes};
-ghost use Rattle.engine.specs.Work.{entering, answer-of, WaitingClient, Room-for-list, Leaves, No-pairs};
+ghost use Rattle.engine.specs.Work.{entering, answer-of, WaitingClient, Room-for-list, No-pairs, Enters-all, Lists-into, Leaves-lent};
 use crate::walking::list_at;
 use crate::walking::look_at;
 use crate::walking::single_at;
@@ -62,8 +62,7 @@ fn enter_answer(part: &mut [u8], own: &[u64], used: &[u64])
 
 fn store_answer(mem: &mut [u8], sizes: Sizes, client: usize, own: &[u64], used: &[u64])
     requires { ⌜ AtClient sizes (length (now mem)) client × InUse (now used) × OwnFits (now own) ⌝ }
-    ensures { λ _. ⌜ InClient sizes client (entering (used-in (now (used .entry))) (own-list (now (own .entry)))) (now (mem .entry))
-        (now (mem .exit)) ⌝ }
+    ensures { λ _. ⌜ Enters-all sizes client used (own-list (now (own .entry))) mem ⌝ }
 {
     let at = 8 * client_at(sizes, client);
     enter_answer(&mut mem[at..], own, used);
@@ -92,7 +91,7 @@ fn enter_single(part: &mut [u8], s: Single, used: &[u64])
 
 fn store_single(mem: &mut [u8], sizes: Sizes, client: usize, s: Single, used: &[u64])
     requires { ⌜ AtClient sizes (length (now mem)) client × InUse (now used) ⌝ }
-    ensures { λ _. ⌜ InClient sizes client (entering (used-in (now (used .entry))) (entries-of s)) (now (mem .entry)) (now (mem .exit)) ⌝ }
+    ensures { λ _. ⌜ Enters-all sizes client used (entries-of s) mem ⌝ }
 {
     let at = 8 * client_at(sizes, client);
     enter_single(&mut mem[at..], s, used);
@@ -109,7 +108,7 @@ fn enter_seen(part: &mut [u8], used: &[u64])
 
 fn store_seen(mem: &mut [u8], sizes: Sizes, client: usize, used: &[u64])
     requires { ⌜ AtClient sizes (length (now mem)) client × InUse (now used) ⌝ }
-    ensures { λ _. ⌜ InClient sizes client (entering (used-in (now (used .entry))) []) (now (mem .entry)) (now (mem .exit)) ⌝ }
+    ensures { λ _. ⌜ Enters-all sizes client used [] mem ⌝ }
 {
     let at = 8 * client_at(sizes, client);
     enter_seen(&mut mem[at..], used);
@@ -178,10 +177,9 @@ fn put_pairs(out: &mut [u8], found: &[u64])
 // A list: its pairs go to the lent output.
 fn list(mem: &mut [u8], out: &mut [u8], sizes: Sizes, client: usize) -> Outcome
     requires { ⌜ WaitingClient sizes (now mem) client ⌝ }
-    requires lists { ⌜ (operation-of (of-client sizes (view (now mem)) client op-number) ≡ Listing)
-        × (16 * of-client sizes (view (now mem)) client op-value ≤ length (now out)) ⌝ }
+    requires lists { ⌜ Lists-into sizes (now mem) client (now out) ⌝ }
     ensures { λ r. ⌜ Comes sizes (λ m. work sizes m client) (now (mem .entry)) r (now (mem .exit)) ⌝ }
-    ensures output { λ _. ⌜ Leaves sizes (λ m. work sizes m client) (now (mem .entry)) (now (out .entry)) (now (out .exit)) ⌝ }
+    ensures output { λ _. ⌜ Leaves-lent sizes (λ m. work sizes m client) mem out ⌝ }
 {
     let mut used = [0u64; 98];
     let mut found = [0u64; 65];
@@ -240,7 +238,7 @@ fn operate(mem: &mut [u8], out: &mut [u8], sizes: Sizes, client: usize) -> Outco
     requires { ⌜ WaitingClient sizes (now mem) client ⌝ }
     requires room { ⌜ Room-for-list sizes (now mem) client (now out) ⌝ }
     ensures { λ r. ⌜ Comes sizes (λ m. work sizes m client) (now (mem .entry)) r (now (mem .exit)) ⌝ }
-    ensures output { λ _. ⌜ Leaves sizes (λ m. work sizes m client) (now (mem .entry)) (now (out .entry)) (now (out .exit)) ⌝ }
+    ensures output { λ _. ⌜ Leaves-lent sizes (λ m. work sizes m client) mem out ⌝ }
 {
     let op = waiting_at(mem, sizes, client);
     match op {
@@ -257,7 +255,7 @@ pub fn work(mem: &mut [u8], out: &mut [u8], sizes: Sizes, client: usize) -> Outc
     requires waits { ⌜ (of-client sizes (view (now mem)) client op-number ≡ 0 → ⊥) ⌝ }
     requires room { ⌜ Room-for-list sizes (now mem) client (now out) ⌝ }
     ensures { λ r. ⌜ Comes sizes (λ m. work sizes m client) (now (mem .entry)) r (now (mem .exit)) ⌝ }
-    ensures output { λ _. ⌜ Leaves sizes (λ m. work sizes m client) (now (mem .entry)) (now (out .entry)) (now (out .exit)) ⌝ }
+    ensures output { λ _. ⌜ Leaves-lent sizes (λ m. work sizes m client) mem out ⌝ }
 {
     if !fit_to_work(mem, sizes, client) {
         return Outcome::Refused(10);

@@ -1,16 +1,14 @@
 // One step of a store, on any memory lent.
 ghost use mathlib.Core.Path.{_≡_};
 ghost use mathlib.Core.List.{[], _∷_};
-ghost use Prim.Native.Nat.{_<_};
 ghost use lib.ListN.{length};
 ghost use Rattle.memory.specs.Word.{view};
 ghost use Rattle.steps.specs.Steps.{short-output, step as rule};
-ghost use Rattle.steps.specs.Taken.{came-to};
 ghost use Rattle.kinds.specs.Parts.{Store-in, AtClient};
 ghost use Rattle.kinds.specs.Judge.{of-client};
 ghost use Rattle.kinds.specs.Kinds.{Comes};
-ghost use Rattle.engine.specs.Work.{Leaves};
-ghost use Rattle.engine.specs.Step.{rule-of, outcome-of, words-after, output-after, Ruled};
+ghost use Rattle.engine.specs.Work.{Leaves-lent};
+ghost use Rattle.engine.specs.Step.{rule-of, outcome-of, words-after, Ruled, lent, as-taken, lent-output};
 ghost use Rattle.engine.specs.Reached.{Goes-on};
 use crate::operate::work;
 use client::part::OP_NUMBER;
@@ -62,7 +60,7 @@ fn by_kind(
 ) -> Outcome
     requires { ⌜ Ruled sizes (now mem) (length (now out)) client step kind ⌝ }
     ensures { λ r. ⌜ Comes sizes (rule-of sizes client step kind) (now (mem .entry)) r (now (mem .exit)) ⌝ }
-    ensures output { λ _. ⌜ Leaves sizes (rule-of sizes client step kind) (now (mem .entry)) (now (out .entry)) (now (out .exit)) ⌝ }
+    ensures output { λ _. ⌜ Leaves-lent sizes (rule-of sizes client step kind) mem out ⌝ }
 {
     match kind {
         Kind::Begin => begin(mem, sizes, client),
@@ -81,7 +79,7 @@ fn by_kind(
 fn in_store(mem: &mut [u8], out: &mut [u8], sizes: Sizes, step: Step) -> Outcome
     requires { ⌜ Store-in sizes (length (now mem)) ⌝ }
     ensures { λ r. ⌜ Comes sizes (rule sizes step (length (now (out .entry)))) (now (mem .entry)) r (now (mem .exit)) ⌝ }
-    ensures output { λ _. ⌜ Leaves sizes (rule sizes step (length (now (out .entry)))) (now (mem .entry)) (now (out .entry)) (now (out .exit)) ⌝ }
+    ensures output { λ _. ⌜ Leaves-lent sizes (rule sizes step (length (now (out .entry)))) mem out ⌝ }
 {
     let refused = refusal(mem, sizes, step);
     if refused != 0 {
@@ -98,13 +96,10 @@ fn in_store(mem: &mut [u8], out: &mut [u8], sizes: Sizes, step: Step) -> Outcome
 // "A refused step returns the first number that holds and changes no byte". A list writes its pairs to `out`, which any other step leaves alone.
 // Whatever steps had reached the store, this one with its outcome and its output goes on from there.
 pub fn step(mem: &mut [u8], out: &mut [u8], step: Step) -> Outcome
-    ensures { λ r. ⌜ r ≡ outcome-of (length (now (mem .entry))) (view (now (mem .entry))) (length (now (out .entry))) step ⌝ }
-    ensures words { λ _. ⌜ view (now (mem .exit))
-        ≡ words-after (length (now (mem .entry))) (view (now (mem .entry))) (length (now (out .entry))) step ⌝ }
-    ensures output { λ _. ⌜ view (now (out .exit))
-        ≡ output-after (length (now (mem .entry))) (view (now (mem .entry))) (length (now (out .entry))) step (view (now (out .entry))) ⌝ }
-    ensures reached { λ r. ⌜ Goes-on (now (mem .entry))
-        (came-to step (length (now (out .entry))) (view (now (out .entry))) r (view (now (out .exit))) ∷ []) (now (mem .exit)) ⌝ }
+    ensures { λ r. ⌜ r ≡ lent outcome-of mem out step ⌝ }
+    ensures words { λ _. ⌜ view (now (mem .exit)) ≡ lent words-after mem out step ⌝ }
+    ensures output { λ _. ⌜ view (now (out .exit)) ≡ lent-output mem out step ⌝ }
+    ensures reached { λ r. ⌜ Goes-on (now (mem .entry)) (as-taken step out r ∷ []) (now (mem .exit)) ⌝ }
 {
     let bytes = mem.len();
     if bytes < 64 {

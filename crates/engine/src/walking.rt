@@ -6,16 +6,15 @@ ghost use Rattle.memory.specs.Word.{view};
 ghost use mathlib.Core.List.{[]};
 ghost use Rattle.client.specs.Layout.{op-number, op-value};
 ghost use Rattle.client.specs.Bounds.{used-room, found-room};
-ghost use Rattle.walk.specs.Stopped.{Waiting};
 ghost use Rattle.walk.specs.declared.operation.Operation.the-variants.{Read, Listing, Write};
-ghost use Rattle.walk.specs.Found.{pairs-in, Roomy};
+ghost use Rattle.walk.specs.Found.{Roomy, left-pairs};
 ghost use Rattle.walk.specs.Operation.{operation-of};
 ghost use Rattle.walk.specs.Look.{Looks};
 ghost use Rattle.change.specs.Work.{Ready, WorksOn};
 ghost use Rattle.change.specs.Single.{WorksSingly};
-ghost use Rattle.steps.specs.Whole.{tree-sizes};
 ghost use Rattle.kinds.specs.Parts.{AtClient};
 ghost use Rattle.kinds.specs.Judge.{of-client};
+ghost use Rattle.engine.specs.Work.{Waits-for, over-client};
 use change::single::Single;
 use change::single::write_single;
 use change::work::work;
@@ -41,10 +40,8 @@ pub fn waiting_at(mem: &[u8], sizes: Sizes, client: usize) -> Operation
 // An operation that only reads: no list of own writes is lent, and the other one is empty.
 pub fn look_at(mem: &[u8], sizes: Sizes, client: usize, used: &mut [u64], op: Query) -> Stop
     requires { ⌜ AtClient sizes (length (now mem)) client × (used-room ≤ length (now used)) × (getD (now used) 0 0 ≡ 0) ⌝ }
-    requires waits { ⌜ Waiting (of-client sizes (view (now mem)) client)
-        × (operation-of (of-client sizes (view (now mem)) client op-number) ≡ Read op) ⌝ }
-    ensures { λ r. ⌜ Looks (tree-sizes sizes) (of-client sizes (view (now (mem .entry))) client) r (now (used .entry))
-        (now (used .exit)) [] ⌝ }
+    requires waits { ⌜ Waits-for sizes (now mem) client (Read op) ⌝ }
+    ensures { λ r. ⌜ over-client Looks sizes mem client r (now (used .entry)) (now (used .exit)) [] ⌝ }
 {
     let at = 8 * client_at(sizes, client);
     look(&mem[at..], sizes.servers, sizes.slots, used, op)
@@ -53,11 +50,9 @@ pub fn look_at(mem: &[u8], sizes: Sizes, client: usize, used: &mut [u64], op: Qu
 // A list: another list is lent, which has the pairs afterwards.
 pub fn list_at(mem: &[u8], sizes: Sizes, client: usize, used: &mut [u64], found: &mut [u64]) -> Stop
     requires { ⌜ AtClient sizes (length (now mem)) client × (used-room ≤ length (now used)) × (getD (now used) 0 0 ≡ 0) ⌝ }
-    requires waits { ⌜ Waiting (of-client sizes (view (now mem)) client)
-        × (operation-of (of-client sizes (view (now mem)) client op-number) ≡ Listing) ⌝ }
+    requires waits { ⌜ Waits-for sizes (now mem) client Listing ⌝ }
     requires room { ⌜ (found-room ≤ length (now found)) × (getD (now found) 0 0 ≡ 0) ⌝ }
-    ensures { λ r. ⌜ Looks (tree-sizes sizes) (of-client sizes (view (now (mem .entry))) client) r (now (used .entry))
-        (now (used .exit)) (pairs-in (now (found .exit))) ⌝ }
+    ensures { λ r. ⌜ over-client Looks sizes mem client r (now (used .entry)) (now (used .exit)) (left-pairs found) ⌝ }
     ensures within { λ _. ⌜ Roomy (of-client sizes (view (now (mem .entry))) client op-value) (now (found .exit)) ⌝ }
 {
     let at = 8 * client_at(sizes, client);
@@ -67,10 +62,8 @@ pub fn list_at(mem: &[u8], sizes: Sizes, client: usize, used: &mut [u64], found:
 // One that writes, unless that is more than one object: the list is lent empty.
 pub fn single_at(mem: &[u8], sizes: Sizes, client: usize, used: &mut [u64], op: Update) -> Single
     requires { ⌜ AtClient sizes (length (now mem)) client × (used-room ≤ length (now used)) × (getD (now used) 0 0 ≡ 0) ⌝ }
-    requires waits { ⌜ Waiting (of-client sizes (view (now mem)) client)
-        × (operation-of (of-client sizes (view (now mem)) client op-number) ≡ Write op) ⌝ }
-    ensures { λ r. ⌜ WorksSingly (tree-sizes sizes) (of-client sizes (view (now (mem .entry))) client) r (now (used .entry))
-        (now (used .exit)) ⌝ }
+    requires waits { ⌜ Waits-for sizes (now mem) client (Write op) ⌝ }
+    ensures { λ r. ⌜ over-client WorksSingly sizes mem client r (now (used .entry)) (now (used .exit)) ⌝ }
 {
     let at = 8 * client_at(sizes, client);
     write_single(&mem[at..], sizes.servers, sizes.slots, used, op)
@@ -86,9 +79,8 @@ pub fn walk_at(
     op: Update,
 ) -> Stop
     requires { ⌜ AtClient sizes (length (now mem)) client × Ready (now own) (now used) ⌝ }
-    requires waits { ⌜ Waiting (of-client sizes (view (now mem)) client)
-        × (operation-of (of-client sizes (view (now mem)) client op-number) ≡ Write op) ⌝ }
-    ensures { λ r. ⌜ WorksOn (tree-sizes sizes) (of-client sizes (view (now (mem .entry))) client) r own used ⌝ }
+    requires waits { ⌜ Waits-for sizes (now mem) client (Write op) ⌝ }
+    ensures { λ r. ⌜ over-client WorksOn sizes mem client r own used ⌝ }
 {
     let at = 8 * client_at(sizes, client);
     work(&mem[at..], sizes.servers, sizes.slots, own, used, op)

@@ -1,14 +1,15 @@
 -- What programs in C and Rust pass and get: sizes, steps, lengths and outcomes as numbers.
 use mathlib.Core.List.{List, [], _∷_}
 use Prim.Native.Nat.{ℕ}
-use lib.ListN.{length}
-use Rattle.memory.specs.Word.{view}
+use denote.Ref.{RefT, now}
+use denote.Triple.Both.{Both}
+use Rattle.client.specs.Lent.{LentList}
 use Rattle.steps.specs.declared.sizes.Sizes.{Sizes}
 use Rattle.steps.specs.declared.step.Step.{Step}
 use Rattle.steps.specs.declared.outcome.Line.{Line}
 use Rattle.steps.specs.Outcome.{line}
-use Rattle.steps.specs.Taken.{Taken, came-to, outcome-from}
-use Rattle.engine.specs.Step.{outcome-of}
+use Rattle.steps.specs.Taken.{Taken, outcome-from}
+use Rattle.engine.specs.Step.{outcome-of, lent, as-taken}
 use Rattle.kinds.specs.declared.whole.Length.{Length}
 use Rattle.kinds.specs.declared.whole.Length.the-variants.{Bytes, Refused}
 
@@ -25,10 +26,14 @@ unfoldable pub bytes-of : Length → ℕ
 bytes-of (Bytes n) = n
 bytes-of (Refused _) = 0
 
--- the three numbers of a step's outcome, on memory with the bytes b, lent an output with the bytes `out`
-abbrev pub numbers-of : List ℕ → List ℕ → Step → Line
-numbers-of b out k = line (outcome-of (length b) (view b) (length out) k)
+-- the three numbers of a step's outcome, on the lent memory and with the lent output
+abbrev pub numbers-of : LentList → LentList → Step → Line
+numbers-of mem out k = line (lent outcome-of mem out k)
 
--- one step that was taken, with the three numbers of its outcome, and the bytes of the output that it was lent, before and after it
-abbrev pub one-taken : Step → List ℕ → ℕ → ℕ → ℕ → List ℕ → List Taken
-one-taken k lent n a b left = came-to k (length lent) (view lent) (outcome-from n a b) (view left) ∷ []
+-- a lent number as a contract names it
+abbrev pub LentNumber : Type 0
+LentNumber = Both (RefT ℕ) (RefT ℕ)
+
+-- one step that was taken, with the three numbers of its outcome, two of them behind references, and the output that it was lent
+abbrev pub one-taken : Step → LentList → ℕ → LentNumber → LentNumber → List Taken
+one-taken k out n a b = as-taken k out (outcome-from n (now (a .exit)) (now (b .exit))) ∷ []

@@ -6,10 +6,10 @@ ghost use lib.ListN.{length};
 ghost use Rattle.memory.specs.Word.{view};
 ghost use Rattle.steps.specs.Refusal.{open-refusal};
 ghost use Rattle.kinds.specs.Parts.{length-answer};
-ghost use Rattle.engine.specs.Open.{words-opened};
-ghost use Rattle.engine.specs.Step.{words-after, output-after};
+ghost use Rattle.engine.specs.Open.{opened-in};
+ghost use Rattle.engine.specs.Step.{words-after, lent, lent-output};
 ghost use Rattle.engine.specs.Reached.{Reached, Goes-on};
-ghost use Rattle.schedule.specs.Listed.{All-taken};
+ghost use Rattle.schedule.specs.Listed.{Takes-all};
 ghost use Rattle.gemandrolo.specs.Numbers.{sizes-of, step-of, bytes-of, numbers-of, one-taken};
 use engine::open::Opening;
 use engine::open::open;
@@ -46,7 +46,7 @@ pub extern "C" fn gemandrolo_open(
     clients: usize,
 ) -> u64
     ensures { λ r. ⌜ r ≡ open-refusal (length (now (mem .entry))) (sizes-of servers slots clients) ⌝ }
-    ensures words { λ _. ⌜ view (now (mem .exit)) ≡ words-opened (length (now (mem .entry))) (sizes-of servers slots clients) (view (now (mem .entry))) ⌝ }
+    ensures words { λ _. ⌜ view (now (mem .exit)) ≡ opened-in mem (sizes-of servers slots clients) ⌝ }
     ensures reached { λ r. ⌜ (r ≡ 0 → Reached (sizes-of servers slots clients) [] (now (mem .exit))) ⌝ }
 {
     let opening = open(
@@ -78,16 +78,12 @@ pub extern "C" fn gemandrolo_step(
     a: &mut u64,
     b: &mut u64,
 ) -> u64
-    ensures { λ r. ⌜ r ≡ numbers-of (now (mem .entry)) (now (out .entry)) (step-of kind client op key value server) .outcome ⌝ }
-    ensures a { λ _. ⌜ now (a .exit) ≡ numbers-of (now (mem .entry)) (now (out .entry)) (step-of kind client op key value server) .a ⌝ }
-    ensures b { λ _. ⌜ now (b .exit) ≡ numbers-of (now (mem .entry)) (now (out .entry)) (step-of kind client op key value server) .b ⌝ }
-    ensures words { λ _. ⌜ view (now (mem .exit)) ≡ words-after (length (now (mem .entry))) (view (now (mem .entry))) (length (now (out .entry)))
-        (step-of kind client op key value server) ⌝ }
-    ensures output { λ _. ⌜ view (now (out .exit)) ≡ output-after (length (now (mem .entry))) (view (now (mem .entry))) (length (now (out .entry)))
-        (step-of kind client op key value server) (view (now (out .entry))) ⌝ }
-    ensures reached { λ r. ⌜ Goes-on (now (mem .entry))
-        (one-taken (step-of kind client op key value server) (now (out .entry)) r (now (a .exit)) (now (b .exit)) (now (out .exit)))
-        (now (mem .exit)) ⌝ }
+    ensures { λ r. ⌜ r ≡ numbers-of mem out (step-of kind client op key value server) .outcome ⌝ }
+    ensures a { λ _. ⌜ now (a .exit) ≡ numbers-of mem out (step-of kind client op key value server) .a ⌝ }
+    ensures b { λ _. ⌜ now (b .exit) ≡ numbers-of mem out (step-of kind client op key value server) .b ⌝ }
+    ensures words { λ _. ⌜ view (now (mem .exit)) ≡ lent words-after mem out (step-of kind client op key value server) ⌝ }
+    ensures output { λ _. ⌜ view (now (out .exit)) ≡ lent-output mem out (step-of kind client op key value server) ⌝ }
+    ensures reached { λ r. ⌜ Goes-on (now (mem .entry)) (one-taken (step-of kind client op key value server) out r a b) (now (mem .exit)) ⌝ }
 {
     let outcome = step(
         mem,
@@ -115,8 +111,7 @@ pub extern "C" fn gemandrolo_run(
     steps: &[Step],
     outcomes: &mut [u64],
 )
-    ensures { λ _. ⌜ All-taken (now (mem .entry)) (now (out .entry)) (now (outcomes .entry)) (now (steps .entry)) (now (mem .exit)) (now (out .exit))
-        (now (outcomes .exit)) ⌝ }
+    ensures { λ _. ⌜ Takes-all mem out outcomes steps ⌝ }
 {
     run(mem, out, outcomes, steps);
 }

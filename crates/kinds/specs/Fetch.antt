@@ -19,7 +19,7 @@ use Rattle.kinds.specs.declared.fetch.Verdict.the-variants.{Unfit, Fault
 use Rattle.steps.specs.Uses.{Item, item-of, item-object, deciding}
 use Rattle.steps.specs.Judge.{lock-fits}
 use Rattle.steps.specs.Steps.{fetch-items, fetch-finding}
-use Rattle.kinds.specs.Parts.{Store-in, stored-in}
+use Rattle.kinds.specs.Parts.{Store-in, stored-in, AtClient}
 use Rattle.kinds.specs.Items.{read-item}
 use Rattle.kinds.specs.Judge.{of-client, of-server}
 
@@ -34,6 +34,13 @@ known-count m u = count m Reads + getD u 0 0
 -- object i of those read: the read set's, then the copies in use
 unfoldable pub known-at : (ClientWord → ℕ) → List ℕ → ℕ → Item
 known-at m us i = cond (ltb i (count m Reads)) (read-item m i) (used-item m (getD us (i - count m Reads) 0))
+
+-- memory with the bytes b, a client, and the list u of its copies in use: object i is one of those read; and no more are read than may be
+abbrev pub Reading-one : Sizes → List ℕ → ℕ → List ℕ → ℕ → Type 0
+Reading-one z b c u i = AtClient z (length b) c × InUse u × (i < known-count (of-client z (view b) c) u)
+
+abbrev pub Reading-few : Sizes → List ℕ → ℕ → List ℕ → Type 0
+Reading-few z b c u = AtClient z (length b) c × InUse u × (of-client z (view b) c reads-count ≤ limit Reads)
 
 -- they are all of the store
 pub record AllKnown (z : Sizes) (w : List ℕ) (c : ℕ) (us : List ℕ) : Type 0 where

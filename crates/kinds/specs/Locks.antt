@@ -34,6 +34,10 @@ rule Unlock c i = unlock-step (item-object i) c
 unfoldable pub passing : (Item → Bool) → (Item → Rule) → Item → Rule
 passing t g i m = cond (t i) (g i m) []
 
+-- a change of an item's lock at s, if it is locked there
+abbrev pub change-step : Change → ℕ → ℕ → ℕ → Item → Rule
+change-step k c low s i = passing (locked-at low s) (rule k c) i
+
 -- the rule at those of the first n items that pass the test
 unfoldable pub upto : (Item → Rule) → (Item → Bool) → (ℕ → Item) → ℕ → Rule
 upto g t h n m = sweep Srv.places (λ i. passing t g (h i)) n m
@@ -52,4 +56,4 @@ unfoldable pub Knows : Sizes → List ℕ → ℕ → ℕ → Type 0
 Knows z w c i = Has (z .slots) (object-of (number-at (of-client z w c) Reads i))
 
 unfoldable pub Turn : Sizes → ℕ → ℕ → Change → ℕ → ℕ → List ℕ → List ℕ → Type 0
-Turn z c s k low i w w′ = Done z s (passing (locked-at low s) (rule k c) (read-item (of-client z w c) i)) w w′
+Turn z c s k low i w w′ = Done z s (change-step k c low s (read-item (of-client z w c) i)) w w′

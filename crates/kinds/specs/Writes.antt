@@ -2,14 +2,16 @@
 use mathlib.Core.Path.{_≡_}
 use mathlib.Core.Bool.{Bool, true, cond, _||_}
 use mathlib.Core.List.{List, []}
-use Prim.Native.Nat.{ℕ, _+_, _-_, _≤_, _<_}
+use Prim.Native.Nat.{ℕ, _+_, _-_, _/_, _≤_, _<_}
 use lib.Dec.{eqb}
+use lib.ListN.{length}
+use Rattle.memory.specs.Word.{view}
 use Rattle.layout.specs.Space.{Put}
 use Rattle.server.specs.declared.place.Place.{Place}
 use Rattle.server.specs.Object.{object-of, named, Has}
 use Rattle.server.specs.Store.{metadata-step, flag-step, node-step}
 use Rattle.client.specs.declared.part.Set.the-variants.{Reads, Writes}
-use Rattle.client.specs.Layout.{ClientWord}
+use Rattle.client.specs.Layout.{ClientWord, limit}
 use Rattle.client.specs.Record.{by-number, first-slot, last-version}
 use Rattle.client.specs.Sets.{number-at, record-at, find}
 use Rattle.client.specs.Items.{inner-before-after}
@@ -18,12 +20,14 @@ use Rattle.client.specs.Drops.{version-of}
 use Rattle.steps.specs.declared.sizes.Sizes.{Sizes}
 use Rattle.steps.specs.Whole.{Address, client, tree-sizes}
 use Rattle.steps.specs.Steps.{in-server, store-write, store-all}
+use Rattle.kinds.specs.Parts.{ClientAt}
 use Rattle.kinds.specs.Judge.{of-client}
 use Rattle.client.specs.Fits.{version-fits, writes-fit}
 use Rattle.kinds.specs.Fits.{In-set}
 use Rattle.kinds.specs.Locks.{Done}
 use Rattle.kinds.specs.declared.writes.Write as code
-use Rattle.client.specs.Bounds.{last-node-number}
+use Rattle.client.specs.Bounds.{last-node-number, end-of-slots}
+use Rattle.server.specs.Layout as Srv
 
 abbrev Rule : Type 0
 Rule = (Place → ℕ) → List (Put Place)
@@ -53,6 +57,14 @@ pub record Storable (s : ℕ) (w : code.Write) : Type 0 where
 pub record Writable (z : Sizes) (m : ClientWord → ℕ) (s i : ℕ) : Type 0 where
   pub has : Has (z .slots) (object-of (number-at m Writes i))
   pub fits : version-fits m s i ≡ true
+
+-- a server's part with the bytes b, for so many slots, and a write that may be stored there
+abbrev pub Stored-in : ℕ → ℕ → code.Write → List ℕ → Type 0
+Stored-in slots s w b = (slots ≤ end-of-slots) × Has slots (object-of (w .number)) × Storable s w × (Srv.partWords slots ≤ length b / 8)
+
+-- memory with the bytes b, a client, a server, and write i of the client that may be stored there
+abbrev pub Writable-in : Sizes → List ℕ → ℕ → ℕ → ℕ → Type 0
+Writable-in z b c s i = ClientAt z (length b) c s × (i < limit Writes) × Writable z (of-client z (view b) c) s i
 
 -- what is known of all writes that the server s stores
 pub record Storing (z : Sizes) (w : List ℕ) (c s : ℕ) : Type 0 where

@@ -5,7 +5,7 @@ ghost use Rattle.memory.specs.Word.{view};
 ghost use Rattle.client.specs.Participants.{participants-of, committing};
 ghost use Rattle.steps.specs.Steps.{commit};
 ghost use Rattle.kinds.specs.Parts.{AtClient, InClient};
-ghost use Rattle.kinds.specs.Judge.{of-client};
+ghost use Rattle.kinds.specs.Judge.{of-client, Awaited};
 ghost use Rattle.kinds.specs.Kinds.{Comes};
 use crate::course::put_field;
 use crate::known::fit_to_commit;
@@ -30,8 +30,7 @@ fn participants_of(mem: &[u8], sizes: Sizes, client: usize) -> u64
 
 // The transaction waits for its participants.
 fn await_servers(mem: &mut [u8], sizes: Sizes, client: usize, servers: u64)
-    requires { ⌜ AtClient sizes (length (now mem)) client
-        × (servers ≡ participants-of (of-client sizes (view (now mem)) client) (sizes .servers)) ⌝ }
+    requires { ⌜ Awaited sizes (now mem) client servers ⌝ }
     ensures { λ _. ⌜ InClient sizes client (committing (sizes .servers)) (now (mem .entry)) (now (mem .exit)) ⌝ }
 {
     put_field(mem, sizes, client, PHASE, COMMITTING);

@@ -1,17 +1,16 @@
 // "A fetch checks at that server what the transaction has read": the read set and the copies that came into use in the step.
 ghost use mathlib.Core.Path.{_≡_};
-ghost use Prim.Native.Nat.{_≤_, _<_};
+ghost use Prim.Native.Nat.{_<_};
 ghost use lib.ListN.{length};
 ghost use Rattle.memory.specs.Word.{view};
 ghost use Rattle.server.specs.Object.{object-of, Has};
 ghost use Rattle.client.specs.Sets.{held};
-ghost use Rattle.client.specs.Lent.{InUse, used-in};
+ghost use Rattle.client.specs.Lent.{used-in};
 ghost use Rattle.kinds.specs.Parts.{AtClient, ObjectFor};
 ghost use Rattle.kinds.specs.Items.{as-item};
 ghost use Rattle.kinds.specs.Judge.{of-client};
-ghost use Rattle.kinds.specs.Fetch.{used-item, known-at, fetch-fault, items-found, Checking, verdict-of, room-of, gate-of, known-count};
-ghost use Rattle.client.specs.Layout.{ClientPart, limit, reads-count};
-ghost use Rattle.client.specs.declared.part.Set.the-variants.{Reads};
+ghost use Rattle.kinds.specs.Fetch.{used-item, known-at, fetch-fault, items-found, Checking, verdict-of, room-of, gate-of, Reading-one, Reading-few};
+ghost use Rattle.client.specs.Layout.{ClientPart};
 ghost use Rattle.client.specs.Bounds.{end-of-numbers};
 use crate::findings::Fault;
 use crate::findings::compared_at;
@@ -52,7 +51,7 @@ fn used_at(mem: &[u8], sizes: Sizes, client: usize, number: u64) -> Item
 
 // Object i of those read: the read set's, then the copies in use.
 fn known_at(mem: &[u8], sizes: Sizes, client: usize, used: &[u64], i: usize) -> Item
-    requires { ⌜ AtClient sizes (length (now mem)) client × InUse (now used) × (i < known-count (of-client sizes (view (now mem)) client) (now used)) ⌝ }
+    requires { ⌜ Reading-one sizes (now mem) client (now used) i ⌝ }
     ensures { λ r. ⌜ as-item r ≡ known-at (of-client sizes (view (now (mem .entry))) client) (used-in (now (used .entry))) i ⌝ }
 {
     let n = reads_of(mem, sizes, client);
@@ -131,8 +130,7 @@ pub fn check_all(mem: &[u8], sizes: Sizes, client: usize, server: usize, used: &
 
 // The limit of 96: those read and those in use.
 fn room(mem: &[u8], sizes: Sizes, client: usize, used: &[u64]) -> Verdict
-    requires { ⌜ AtClient sizes (length (now mem)) client × InUse (now used)
-        × (of-client sizes (view (now mem)) client reads-count ≤ limit Reads) ⌝ }
+    requires { ⌜ Reading-few sizes (now mem) client (now used) ⌝ }
     ensures { λ r. ⌜ r ≡ room-of sizes (view (now (mem .entry))) client (used-in (now (used .entry))) ⌝ }
 {
     let read = field_of(mem, sizes, client, READS_COUNT) as usize;

@@ -5,9 +5,10 @@ ghost use Rattle.client.specs.Part.{Did, _then_};
 ghost use Rattle.client.specs.Lent.{InUse, used-in};
 ghost use Rattle.client.specs.Answered.{used-enter};
 ghost use Rattle.client.specs.Fetched.{fetched-meta, fetched-node, fetched-vector};
-ghost use Rattle.kinds.specs.Parts.{InClient, AtClient};
+ghost use Rattle.kinds.specs.Parts.{AtClient};
 ghost use Rattle.client.specs.Layout.{ClientPart};
 ghost use Rattle.client.specs.Bounds.{most-servers, end-of-names};
+ghost use Rattle.kinds.specs.Lack.{Takes-in};
 use crate::whole::client_at;
 use client::enter::enter_used;
 use client::fetched::fetched_meta;
@@ -50,8 +51,7 @@ pub fn store_meta(
     version: u64,
 )
     requires { ⌜ AtClient sizes (length (now mem)) client × InUse (now used) ⌝ }
-    ensures { λ _. ⌜ InClient sizes client (used-enter (used-in (now (used .entry))) then fetched-meta root version) (now (mem .entry))
-        (now (mem .exit)) ⌝ }
+    ensures { λ _. ⌜ Takes-in sizes client used (fetched-meta root version) mem ⌝ }
 {
     let at = 8 * client_at(sizes, client);
     enter_meta(&mut mem[at..], used, root, version);
@@ -59,8 +59,7 @@ pub fn store_meta(
 
 pub fn store_node(mem: &mut [u8], sizes: Sizes, client: usize, used: &[u64], name: u64, n: Node)
     requires { ⌜ AtClient sizes (length (now mem)) client × InUse (now used) × (name < end-of-names) ⌝ }
-    ensures { λ _. ⌜ InClient sizes client (used-enter (used-in (now (used .entry))) then fetched-node name n) (now (mem .entry))
-        (now (mem .exit)) ⌝ }
+    ensures { λ _. ⌜ Takes-in sizes client used (fetched-node name n) mem ⌝ }
 {
     let at = 8 * client_at(sizes, client);
     enter_node(&mut mem[at..], used, name, n);
@@ -75,8 +74,7 @@ pub fn store_vector(
     words: [u64; 16],
 )
     requires { ⌜ AtClient sizes (length (now mem)) client × InUse (now used) × (s < most-servers) ⌝ }
-    ensures { λ _. ⌜ InClient sizes client (used-enter (used-in (now (used .entry))) then fetched-vector s words) (now (mem .entry))
-        (now (mem .exit)) ⌝ }
+    ensures { λ _. ⌜ Takes-in sizes client used (fetched-vector s words) mem ⌝ }
 {
     let at = 8 * client_at(sizes, client);
     enter_vector(&mut mem[at..], used, s, words);

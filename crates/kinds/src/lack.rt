@@ -7,14 +7,12 @@ ghost use Rattle.memory.specs.Word.{view};
 ghost use Rattle.nodes.specs.Name.{server-of, slot-of};
 ghost use Rattle.operations.specs.Object.{object, meta, node, vector};
 ghost use Rattle.server.specs.HandOut.{metadata-at, metadata-sound, vector-at};
-ghost use Rattle.client.specs.Lent.{used-in};
 ghost use Rattle.steps.specs.declared.outcome.Outcome.the-variants.{Fetched};
-ghost use Rattle.steps.specs.Steps.{node-at, fetch};
+ghost use Rattle.steps.specs.Steps.{node-at};
 ghost use Rattle.kinds.specs.Parts.{AtServer};
 ghost use Rattle.kinds.specs.Judge.{of-server};
 ghost use Rattle.kinds.specs.Fetch.{Checking};
-ghost use Rattle.kinds.specs.Kinds.{Comes};
-ghost use Rattle.kinds.specs.Lack.{There, HandsOver};
+ghost use Rattle.kinds.specs.Lack.{There, HandsOver, Fetches};
 use crate::abort::abort;
 use crate::fetch::Verdict;
 use crate::fetch::check_all;
@@ -52,7 +50,7 @@ fn meta_of(mem: &[u8], sizes: Sizes, server: usize) -> Metadata
 
 fn hand_meta(mem: &mut [u8], sizes: Sizes, client: usize, server: usize, used: &[u64]) -> Outcome
     requires { ⌜ Checking sizes (now mem) client server (now used) ⌝ }
-    ensures { λ r. ⌜ HandsOver sizes client (now (used .entry)) (object meta) server (Fetched 0 0) (now (mem .entry)) r (now (mem .exit)) ⌝ }
+    ensures { λ r. ⌜ HandsOver sizes client used (object meta) server (Fetched 0 0) mem r ⌝ }
 {
     let g = gate(mem, sizes, client, server, 0, used);
     match g {
@@ -72,8 +70,7 @@ fn hand_meta(mem: &mut [u8], sizes: Sizes, client: usize, server: usize, used: &
 // The metadata is lacking.
 pub fn fetch_meta(mem: &mut [u8], sizes: Sizes, client: usize, used: &[u64]) -> Outcome
     requires { ⌜ Checking sizes (now mem) client (client % sizes .servers) (now used) ⌝ }
-    ensures { λ r. ⌜ Comes sizes (λ m. fetch sizes m client (used-in (now (used .entry))) (object meta)) (now (mem .entry)) r
-        (now (mem .exit)) ⌝ }
+    ensures { λ r. ⌜ Fetches sizes client used (object meta) mem r ⌝ }
 {
     let server = client % sizes.servers;
     let v = check_all(mem, sizes, client, server, used);
@@ -103,7 +100,7 @@ fn hand_node(
     used: &[u64],
 ) -> Outcome
     requires { ⌜ Checking sizes (now mem) client server (now used) × There sizes name ⌝ }
-    ensures { λ r. ⌜ HandsOver sizes client (now (used .entry)) (object (node name)) server (Fetched 1 name) (now (mem .entry)) r (now (mem .exit)) ⌝ }
+    ensures { λ r. ⌜ HandsOver sizes client used (object (node name)) server (Fetched 1 name) mem r ⌝ }
 {
     let number = 1 + name;
     let g = gate(mem, sizes, client, server, number, used);
@@ -124,8 +121,7 @@ fn hand_node(
 // A node is lacking.
 pub fn fetch_node(mem: &mut [u8], sizes: Sizes, client: usize, name: u64, used: &[u64]) -> Outcome
     requires { ⌜ Checking sizes (now mem) client (server-of name) (now used) × There sizes name ⌝ }
-    ensures { λ r. ⌜ Comes sizes (λ m. fetch sizes m client (used-in (now (used .entry))) (object (node name))) (now (mem .entry)) r
-        (now (mem .exit)) ⌝ }
+    ensures { λ r. ⌜ Fetches sizes client used (object (node name)) mem r ⌝ }
 {
     let home = Name { number: name };
     let server = home.server() as usize;
@@ -154,8 +150,7 @@ pub fn fetch_vector(
     used: &[u64],
 ) -> Outcome
     requires { ⌜ Checking sizes (now mem) client server (now used) ⌝ }
-    ensures { λ r. ⌜ Comes sizes (λ m. fetch sizes m client (used-in (now (used .entry))) (vector server)) (now (mem .entry)) r
-        (now (mem .exit)) ⌝ }
+    ensures { λ r. ⌜ Fetches sizes client used (vector server) mem r ⌝ }
 {
     let v = check_all(mem, sizes, client, server, used);
     match v {

@@ -4,11 +4,10 @@ ghost use lib.ListN.{length};
 ghost use Rattle.memory.specs.Word.{view};
 ghost use Rattle.server.specs.Object.{object-of};
 ghost use Rattle.server.specs.Store.{lock-step, unlock-step};
-ghost use Rattle.steps.specs.Uses.{locked-at};
 ghost use Rattle.kinds.specs.Parts.{InServer, InWhole, ObjectFor, ClientAt};
 ghost use Rattle.kinds.specs.Items.{as-item};
 ghost use Rattle.kinds.specs.Fits.{KnownAt};
-ghost use Rattle.kinds.specs.Locks.{rule, passing, changes, Knows, Turn};
+ghost use Rattle.kinds.specs.Locks.{rule, changes, Knows, Turn, change-step};
 ghost use Rattle.client.specs.Layout.{limit};
 ghost use Rattle.client.specs.declared.part.Set.the-variants.{Reads};
 use crate::fits::lowest;
@@ -68,8 +67,7 @@ fn change_item(
     item: Item,
 )
     requires { ⌜ ObjectFor sizes (length (now mem)) client server (item .number) ⌝ }
-    ensures { λ _. ⌜ InServer sizes server (passing (locked-at low server) (rule change client) (as-item item)) (now (mem .entry))
-        (now (mem .exit)) ⌝ }
+    ensures { λ _. ⌜ InServer sizes server (change-step change client low server (as-item item)) (now (mem .entry)) (now (mem .exit)) ⌝ }
 {
     if is_locked_at(item, low, server as u64) {
         change_at(mem, sizes, client, server, change, item);

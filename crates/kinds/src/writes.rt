@@ -1,20 +1,19 @@
 // The write set stored at one server: "a written version becomes the one read plus 1, at home and, for a node inner before or
 // after, in every table".
 ghost use mathlib.Core.Path.{_≡_};
-ghost use Prim.Native.Nat.{_/_, _≤_, _<_};
+ghost use Prim.Native.Nat.{_≤_, _<_};
 ghost use lib.ListN.{length};
 ghost use Rattle.memory.specs.Word.{view};
 ghost use Rattle.server.specs.Layout as Srv;
 ghost use Rattle.server.specs.Object.{object-of, Has};
 ghost use Rattle.client.specs.declared.part.Set.the-variants.{Writes};
 ghost use Rattle.client.specs.Sets.{held, count};
-ghost use Rattle.kinds.specs.Parts.{AtClient, InServer, InWhole, AtServer, ClientAt};
+ghost use Rattle.kinds.specs.Parts.{AtClient, InServer, InWhole, AtServer};
 ghost use Rattle.kinds.specs.Judge.{of-client};
 ghost use Rattle.kinds.specs.Fits.{KnownAt};
-ghost use Rattle.kinds.specs.Writes.{write-nth, write-step, stores-some, Storable, Writable, Storing, StoredNth, stores};
+ghost use Rattle.kinds.specs.Writes.{write-nth, write-step, stores-some, Storable, Storing, StoredNth, stores, Stored-in, Writable-in};
 ghost use Rattle.client.specs.Layout.{ClientPart, limit};
 ghost use Rattle.server.specs.Layout.{ServerDone};
-ghost use Rattle.client.specs.Bounds.{end-of-slots};
 use crate::items::first_slot;
 use crate::whole::client_at;
 use crate::whole::server_at;
@@ -87,7 +86,7 @@ fn stores_some(server: u64, write: Write) -> bool
 
 // What a server stores of a write.
 fn store_write(part: &mut [u8], slots: usize, server: u64, write: Write)
-    requires { ⌜ (slots ≤ end-of-slots) × Has slots (object-of (write .number)) × Storable server write × (Srv.partWords slots ≤ length (now part) / 8) ⌝ }
+    requires { ⌜ Stored-in slots server write (now part) ⌝ }
     ensures { λ _. ⌜ ServerDone slots (write-step server write) (now (part .entry)) (now (part .exit)) ⌝ }
 {
     let number = write.number;
@@ -128,7 +127,7 @@ fn store_at(mem: &mut [u8], sizes: Sizes, server: usize, write: Write)
 }
 
 fn store_nth(mem: &mut [u8], sizes: Sizes, client: usize, server: usize, i: usize)
-    requires { ⌜ ClientAt sizes (length (now mem)) client server × (i < limit Writes) × Writable sizes (of-client sizes (view (now mem)) client) server i ⌝ }
+    requires { ⌜ Writable-in sizes (now mem) client server i ⌝ }
     ensures { λ _. ⌜ StoredNth sizes client server i (view (now (mem .entry))) (view (now (mem .exit))) ⌝ }
 {
     let write = write_at(mem, sizes, client, i);

@@ -1,4 +1,5 @@
 -- Nodes changed, leaves and inner nodes alike.
+use mathlib.Core.Path.{_≡_}
 use Prim.Native.Nat.{ℕ, _+_, _-_, _≤_, _<_}
 use mathlib.Core.List.{List, [], _∷_, _++_}
 use lib.ListN.{length, take, drop, getD, set}
@@ -67,6 +68,10 @@ joined-keys a sep b = keysOf a ++ (take (extra (a .kind)) (sep ∷ []) ++ keysOf
 
 unfoldable pub join : Node → ℕ → Node → Wide
 join a sep b = wide (a .kind) (a .level) (a .version) (joined-keys a sep b) (slotsOf a ++ slotsOf b)
+
+-- how many keys they have in one: theirs, and in an inner node the separator
+abbrev pub Joined-count : Node → Node → Wide → Type 0
+Joined-count l r w = (w .count ≡ l .count + extra (w .kind) + r .count) × (extra (w .kind) ≤ 1) × (extra (w .kind) ≡ extra (l .kind))
 
 -- "from 7 the two merge into the left one"
 unfoldable pub merged : Node → ℕ → Node → Node

@@ -11,7 +11,7 @@ ghost use Prim.Native.Nat.{_+_, _-_, _≤_, _<_};
 ghost use lib.ListN.{length};
 ghost use Rattle.nodes.specs.Lists.{pad};
 ghost use Rattle.nodes.specs.Node.{extra};
-ghost use Rattle.nodes.specs.Change.{put-in, without, take-out, with-key, with-slot, with-version, part, narrow, cut-at, Cuttable, split, joined-keys, join, merged, from-right, from-left};
+ghost use Rattle.nodes.specs.Change.{put-in, without, take-out, with-key, with-slot, with-version, part, narrow, cut-at, Cuttable, split, joined-keys, join, merged, from-right, from-left, Joined-count};
 ghost use Rattle.nodes.specs.Bounds.{keys-to-split, most-keys, wide-room};
 
 // A node with room for two neighbours and their separator.
@@ -166,8 +166,7 @@ impl Node {
     fn join(self, sep: u64, right: Node) -> Wide
         requires { ⌜ (self .count ≤ most-keys) × (right .count ≤ most-keys) ⌝ }
         ensures { λ r. ⌜ r ≡ join self sep right ⌝ }
-        ensures size { λ r. ⌜ (r .count ≡ self .count + extra (r .kind) + right .count) × (extra (r .kind) ≤ 1)
-            × (extra (r .kind) ≡ extra (self .kind)) ⌝ }
+        ensures size { λ r. ⌜ Joined-count self right r ⌝ }
     {
         let n = self.count;
         let m = right.count;

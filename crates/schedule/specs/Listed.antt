@@ -4,9 +4,12 @@ use mathlib.Core.Path.{_≡_}
 use mathlib.Core.Bool.{cond}
 use mathlib.Core.List.{List, [], _∷_}
 use Prim.Native.Nat.{ℕ, suc, _+_, _*_, _/_}
+use denote.Ref.{RefT, now}
+use denote.Triple.Both.{Both}
 use lib.Dec.{ltb}
 use lib.ListN.{length, set, getD}
 use Rattle.memory.specs.Word.{view}
+use Rattle.client.specs.Lent.{LentList}
 use Rattle.steps.specs.declared.step.Step.{Step}
 use Rattle.steps.specs.declared.outcome.Line.{Line}
 use Rattle.steps.specs.Outcome.{line}
@@ -45,6 +48,11 @@ Turn-taken b out outcomes i k r b′ out′ outcomes′ =
     (r ≡ l .outcome) × (view b′ ≡ words-after (length b) (view b) (length out) k)
     × (view out′ ≡ output-after (length b) (view b) (length out) k (view out)) × (outcomes′ ≡ written-down outcomes i l)
 
+-- over the lent memory, output and list of outcomes
+abbrev pub Turns : LentList → LentList → LentList → ℕ → Step → ℕ → Type 0
+Turns mem out outcomes i k r =
+    Turn-taken (now (mem .entry)) (now (out .entry)) (now (outcomes .entry)) i k r (now (mem .exit)) (now (out .exit)) (now (outcomes .exit))
+
 -- the outcomes of a list of steps, from step i on
 unfoldable pub lines : List ℕ → ℕ → List Taken → List ℕ
 lines outcomes i [] = outcomes
@@ -71,3 +79,12 @@ pub record All-taken (b out outcomes : List ℕ) (ks : List Step) (b′ out′ o
   pub is : taken ≡ taken-on b out ks
   pub noted : outcomes′ ≡ lines outcomes 0 taken
   pub reached : Goes-on b taken b′
+
+-- a lent list of steps as a contract names it
+abbrev pub LentSteps : Type 0
+LentSteps = Both (RefT (List Step)) (RefT (List Step))
+
+-- over what is lent
+abbrev pub Takes-all : LentList → LentList → LentList → LentSteps → Type 0
+Takes-all mem out outcomes steps =
+    All-taken (now (mem .entry)) (now (out .entry)) (now (outcomes .entry)) (now (steps .entry)) (now (mem .exit)) (now (out .exit)) (now (outcomes .exit))

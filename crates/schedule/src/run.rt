@@ -1,6 +1,6 @@
 // "A schedule is a lent list of step records, run front to back."
 ghost use mathlib.Core.Path.{_≡_};
-ghost use Rattle.schedule.specs.Listed.{written-down, All-taken, Turn-taken};
+ghost use Rattle.schedule.specs.Listed.{written-down, Turns, Takes-all};
 use engine::step::step;
 use steps::outcome::Line;
 use steps::step::Step;
@@ -18,8 +18,7 @@ fn note(outcomes: &mut [u64], i: usize, l: Line)
 
 // One step, by value, the i-th of a list, lent the output. Its outcome is written down, and its number returned.
 pub fn turn(mem: &mut [u8], out: &mut [u8], outcomes: &mut [u64], i: usize, k: Step) -> u64
-    ensures { λ r. ⌜ Turn-taken (now (mem .entry)) (now (out .entry)) (now (outcomes .entry)) i k r (now (mem .exit)) (now (out .exit))
-        (now (outcomes .exit)) ⌝ }
+    ensures { λ r. ⌜ Turns mem out outcomes i k r ⌝ }
 {
     let o = step(mem, out, k);
     let l = Line::of(o);
@@ -30,8 +29,7 @@ pub fn turn(mem: &mut [u8], out: &mut [u8], outcomes: &mut [u64], i: usize, k: S
 // All steps, front to back, and their outcomes, three numbers a step; one output is lent to all of them. Whatever steps had reached the store, these
 // go on from there.
 pub fn run(mem: &mut [u8], out: &mut [u8], outcomes: &mut [u64], steps: &[Step])
-    ensures { λ _. ⌜ All-taken (now (mem .entry)) (now (out .entry)) (now (outcomes .entry)) (now (steps .entry)) (now (mem .exit)) (now (out .exit))
-        (now (outcomes .exit)) ⌝ }
+    ensures { λ _. ⌜ Takes-all mem out outcomes steps ⌝ }
 {
     let mut i: usize = 0;
     while i < steps.len() {

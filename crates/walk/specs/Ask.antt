@@ -160,6 +160,18 @@ noted-copy d u n = cond (is-copied d) (cond (among n (used-in u)) u (pushed u n)
 abbrev pub over-lent : {A : Type 1} → (TreeSizes → (ClientWord → ℕ) → List ℕ → List ℕ → A) → ℕ → ℕ → LentList → LentList → LentList → A
 over-lent S servers slots part own used = S (sizes servers slots) (held (now (part .entry))) (now (own .entry)) (now (used .entry))
 
+-- the same of a walk that has written nothing
+abbrev pub unwritten : {A : Type 1} → (TreeSizes → (ClientWord → ℕ) → List ℕ → List ℕ → A) → ℕ → ℕ → LentList → LentList → A
+unwritten S servers slots part used = S (sizes servers slots) (held (now (part .entry))) nothing (now (used .entry))
+
+-- and of one that only reads
+abbrev pub over-read : {A : Type 1} → (TreeSizes → (ClientWord → ℕ) → List ℕ → A) → ℕ → ℕ → LentList → LentList → A
+over-read S servers slots part used = S (sizes servers slots) (held (now (part .entry))) (now (used .entry))
+
+-- the node that stands at a place of the lent part
+abbrev pub lent-node : LentList → ℕ → Node
+lent-node part place = node-at (view (now (part .entry))) place
+
 -- ---- what a walk is lent: up to eight servers, a client's part, the copies in use, and the operation's own writes
 -- to one that only reads
 abbrev pub Walking : ℕ → List ℕ → List ℕ → Type 0

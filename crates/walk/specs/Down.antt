@@ -4,6 +4,7 @@ use mathlib.Core.Bool.{Bool, true, false}
 use mathlib.Core.List.{List, [], _∷_, map}
 use Prim.Native.Nat.{ℕ, zero, suc, _-_, _≤_, _<_}
 use lib.ListN.{length, getD}
+use denote.Ref.{now}
 use Rattle.nodes.specs.declared.node.Node.{Node}
 use Rattle.nodes.specs.Node.{free-node}
 use Rattle.nodes.specs.Stored.{node-at}
@@ -20,10 +21,10 @@ use Rattle.walk.specs.declared.down.Pass.{Pass}
 use Rattle.walk.specs.declared.walk.Stop.{Stop}
 use Rattle.client.specs.Layout.{ClientWord}
 use Rattle.client.specs.Record.{in-store}
-use Rattle.client.specs.Lent.{used-in}
+use Rattle.client.specs.Lent.{LentList, used-in}
 use Rattle.walk.specs.Entries.{opens, below, Inner, branch-of, Below}
 use Rattle.walk.specs.Walk.{goes, walked, carry}
-use Rattle.walk.specs.Ask.{SmallNode, Holds-writes, Noted, In-part}
+use Rattle.walk.specs.Ask.{SmallNode, Holds-writes, Noted, In-part, over-read, lent-node}
 use Rattle.plans.specs.Plan as P
 use Rattle.client.specs.Bounds.{highest-level, level-count}
 
@@ -75,6 +76,10 @@ pub record Arrival : Type 0 where
 
 abbrev pub arrival : List ℕ → Descent → Arrival
 arrival b d = record { stop = d .stop; top = d .top; path = turns-in b (d .path); name = d .name; node = node-at (view b) (d .place) }
+
+-- the same over the lent part
+abbrev pub arrived : LentList → Descent → Arrival
+arrived part d = arrival (now (part .entry)) d
 
 -- every place of a path is one of the part
 pub record Path-in-part (ps : List Pass) : Type 0 where
@@ -153,6 +158,11 @@ pub record Lowered (z : TreeSizes) (m : ClientWord → ℕ) (u : List ℕ) (key 
   pub child : c ≡ getD (n .slots) i 0
   pub inside : goes s ≡ true → in-store z c ≡ true
 
+-- over what the walk is lent: from the node at a place to the one at another
+abbrev pub Lowers : ℕ → ℕ → LentList → LentList → ℕ → ℕ → ℕ → Stop → ℕ → ℕ → ℕ → Type 0
+Lowers servers slots part used key level from s i c to =
+    over-read Lowered servers slots part used key level (lent-node part from) s i c (lent-node part to) (now (used .exit))
+
 -- what stands at its end
 pub record Reached (target : ℕ) (d : Arrival) : Type 0 where
   pub level : d .node .level ≡ target
@@ -199,6 +209,10 @@ pub record Reaches (z : TreeSizes) (m : ClientWord → ℕ) (u : List ℕ) (key 
   pub stop : (root : ℕ) → come root .stop ≡ s
   pub node : (root : ℕ) → come root .node ≡ r
   pub led : (root : ℕ) → Led z m u key 0 root first (come root) u′
+
+-- over what the walk is lent: from the node at a place to the one at another
+abbrev pub Reaching : ℕ → ℕ → LentList → LentList → ℕ → ℕ → Stop → ℕ → Type 0
+Reaching servers slots part used key from s to = over-read Reaches servers slots part used key (lent-node part from) s (lent-node part to) (now (used .exit))
 
 -- from the metadata on
 pub record ToLeaf (z : TreeSizes) (m : ClientWord → ℕ) (u : List ℕ) (key : ℕ) (s : Stop) (r : Node) (u′ : List ℕ) : Type 0 where

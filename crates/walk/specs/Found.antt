@@ -3,9 +3,11 @@ use mathlib.Core.Path.{_≡_}
 use mathlib.Core.Bool.{Bool, true, false}
 use mathlib.Core.List.{List, [], _∷_, _++_}
 use Prim.Native.Nat.{ℕ, zero, suc, _+_, _-_, _*_, _≤_, _<_}
-use lib.ListN.{length, getD, set}
+use lib.ListN.{length, getD, set, take}
+use denote.Ref.{now}
 use Rattle.nodes.specs.declared.node.Node.{Node}
 use Rattle.nodes.specs.Place.{place}
+use Rattle.nodes.specs.Entries.{entriesOf}
 use Rattle.nodes.specs.Kept.{Whole}
 use Rattle.operations.specs.Object.{Ans}
 use Rattle.operations.specs.Map.{listed}
@@ -17,6 +19,7 @@ use Rattle.walk.specs.declared.found.Sought.the-variants.{Higher, Lower,
 use Rattle.walk.specs.declared.found.Wish.{Wish}
 use Rattle.walk.specs.Entries.{opens}
 use Rattle.walk.specs.Ask.{SmallNode}
+use Rattle.client.specs.Lent.{LentList}
 use Rattle.client.specs.Bounds.{most-listed}
 
 -- ---- the pairs found, in a lent list: their number, then the key and the value of each. What lies behind them is free: anything may stand there, and
@@ -103,6 +106,20 @@ side false f = f .pre
 -- the plan of the search
 abbrev pub search-plan : Wish → TreePlan
 search-plan w = from-leaf (search-of w) (visit (to-right (w .sought))) (side (to-right (w .sought))) (w .key)
+
+-- the pairs got, and those of a node that are sought, as many as are wanted
+abbrev pub gathered : Wish → Node → Entries → Entries
+gathered w n got = take (w .wanted) (got ++ sought-in (w .sought) (w .key) (entriesOf n 0))
+
+-- ---- the pairs in the lent list: as it is lent, as it comes back, and those of the answer then
+abbrev pub lent-pairs : LentList → Entries
+lent-pairs found = pairs-in (now (found .entry))
+
+abbrev pub left-pairs : LentList → Entries
+left-pairs found = pairs-in (now (found .exit))
+
+abbrev pub left-told : Wish → LentList → Entries
+left-told w found = pairs-told w (left-pairs found)
 
 -- ---- a leaf as the code has it
 pub record LeafAt (n : Node) : Type 0 where

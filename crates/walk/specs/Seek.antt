@@ -3,6 +3,7 @@ use mathlib.Core.Path.{_≡_}
 use mathlib.Core.Bool.{Bool, true, false, cond}
 use mathlib.Core.List.{List, [], _∷_, _++_}
 use Prim.Native.Nat.{ℕ, zero, suc, _+_, _-_, _≤_, _<_}
+use denote.Ref.{now}
 use lib.Dec.{ltb}
 use lib.ListN.{length, take, drop, getD, set}
 use Rattle.nodes.specs.declared.node.Node.{Node}
@@ -11,8 +12,9 @@ use Rattle.nodes.specs.Kept.{Whole}
 use Rattle.operations.specs.Slot.{TreeSizes}
 use Rattle.operations.specs.Entry.{Entries}
 use Rattle.operations.specs.Path.{TreePlan}
-use Rattle.operations.specs.Look.{Search, Onward, told, enough, seek}
+use Rattle.operations.specs.Look.{Search, Onward, nearest, told, enough, seek}
 use Rattle.walk.specs.declared.down.Turn.{Turn}
+use Rattle.walk.specs.declared.down.Pass.{Pass}
 use Rattle.walk.specs.declared.walk.Stop.{Stop}
 use Rattle.walk.specs.declared.found.Wish.{Wish}
 use Rattle.walk.specs.declared.seek.Ahead.{Ahead}
@@ -20,12 +22,13 @@ use Rattle.walk.specs.declared.seek.Where.{Where}
 use Rattle.walk.specs.declared.seek.Where.the-variants.{Finished, Next}
 use Rattle.walk.specs.Entries.{opens}
 use Rattle.client.specs.Layout.{ClientWord}
-use Rattle.client.specs.Lent.{used-in}
+use Rattle.client.specs.Sets.{held}
+use Rattle.client.specs.Lent.{LentList, used-in}
 use Rattle.walk.specs.Walk.{goes, stands, walked, carry}
-use Rattle.walk.specs.Ask.{SmallNode, Noted}
-use Rattle.walk.specs.Lookup.{ended}
+use Rattle.walk.specs.Ask.{SmallNode, Noted, Walking, over-read, lent-node}
+use Rattle.walk.specs.Lookup.{Ends, Walks, ended}
 use Rattle.walk.specs.Down.{turns-in, trail, All}
-use Rattle.walk.specs.Found.{to-right, search-of, pairs-told, visit}
+use Rattle.walk.specs.Found.{Roomy, to-right, search-of, search-plan, pairs-told, visit, lent-pairs, left-pairs, left-told}
 use Rattle.client.specs.Bounds.{highest-level, level-count}
 
 -- is there a child left on that side of child number i, of a node with that many keys
@@ -191,3 +194,38 @@ pub record FromLeaf (z : TreeSizes) (m : ClientWord → ℕ) (u : List ℕ) (w :
 pub record Afresh (z : TreeSizes) (m : ClientWord → ℕ) (p : TreePlan) (s : Stop) (u′ : List ℕ) (ps : Entries) : Type 0 where
   pub same : walked z m p [] ≡ ended s (used-in u′) [] ps
   pub noted : Noted m u′
+
+-- ---- over what the walk is lent: the branches of its path, and where it is heading
+abbrev pub turns-of : LentList → List Pass → List Turn
+turns-of part path = turns-in (now (part .entry)) path
+
+abbrev pub headed : LentList → Ahead → Heading
+headed part a = heading (now (part .entry)) a
+
+-- the nearest of the pairs found
+abbrev pub Tells-nearest : LentList → LentList → LentList → Stop → Type 0
+Tells-nearest part used found s =
+    let p = nearest (lent-pairs found) in Ends (held (now (part .entry))) (now (used .entry)) (p .0) (p .1) s (now (used .exit))
+
+-- a child read, from a level of a path
+abbrev pub Reads-on : ℕ → ℕ → LentList → LentList → LentList → Wish → ℕ → List Pass → ℕ → ℕ → Stop → Ahead → Type 0
+Reads-on servers slots part used found w top path level name s a =
+    over-read ReadOn servers slots part used w top (turns-of part path) level name (lent-pairs found) s (headed part a) (now (used .exit)) (left-pairs found)
+
+-- the leaves from a child on
+abbrev pub Seeks-on : ℕ → ℕ → LentList → LentList → LentList → Wish → ℕ → List Pass → ℕ → ℕ → Stop → Type 0
+Seeks-on servers slots part used found w top path level name s =
+    over-read Seeks servers slots part used w top (turns-of part path) level name (lent-pairs found) s (now (used .exit)) (left-told w found)
+
+-- the leaves from one at a place on
+abbrev pub Seeks-from : ℕ → ℕ → LentList → LentList → LentList → Wish → ℕ → List Pass → ℕ → Stop → Type 0
+Seeks-from servers slots part used found w top path leaf s =
+    over-read FromLeaf servers slots part used w top (turns-of part path) (lent-node part leaf) (lent-pairs found) s (now (used .exit)) (left-told w found)
+
+-- the whole search, with the pairs of its answer
+abbrev pub Searches : ℕ → ℕ → LentList → LentList → LentList → Wish → Stop → Type 0
+Searches servers slots part used found w s = over-read Walks servers slots part used (search-plan w) s (now (used .exit)) (left-told w found)
+
+-- what the search is lent at its start: no copy is in use, and no pair found
+abbrev pub Starting : ℕ → List ℕ → List ℕ → Wish → List ℕ → Type 0
+Starting servers part used w found = Walking servers part used × (getD used 0 0 ≡ 0) × Roomy (w .wanted) found × (getD found 0 0 ≡ 0)

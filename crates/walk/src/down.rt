@@ -23,8 +23,8 @@ ghost use Rattle.client.specs.Record.{sizes};
 ghost use Rattle.client.specs.Sets.{held};
 ghost use Rattle.client.specs.Bounds.{highest-level};
 ghost use Rattle.walk.specs.Entries.{opens-with, opens, below-with, below};
-ghost use Rattle.walk.specs.Ask.{In-part, nothing, Walking, WalkingOwn, over-lent};
-ghost use Rattle.walk.specs.Down.{Kid, RootMet, turn-in, turns-in, arrival, Path-in-part, Above, Lowered, From, Led, AtRoot, Descends, Reaches, ToLeaf};
+ghost use Rattle.walk.specs.Ask.{In-part, Walking, WalkingOwn, over-lent, unwritten, over-read, lent-node};
+ghost use Rattle.walk.specs.Down.{Kid, RootMet, turn-in, turns-in, Path-in-part, Above, From, Led, AtRoot, Descends, Reaching, ToLeaf, arrived, Lowers};
 
 // Is a node of that kind and level a leaf or an inner node?
 fn opens(kind: u64, level: u64) -> bool
@@ -89,8 +89,7 @@ pub fn child(
     name: u64,
 ) -> Placed
     requires { ⌜ Walking servers (now part) (now used) ⌝ }
-    ensures { λ r. ⌜ Kid (sizes servers slots) (held (now (part .entry))) nothing (now (used .entry)) level name (r .stop)
-        (node-at (view (now (part .entry))) (r .place)) (now (used .exit)) ⌝ }
+    ensures { λ r. ⌜ unwritten Kid servers slots part used level name (r .stop) (lent-node part (r .place)) (now (used .exit)) ⌝ }
     ensures within { λ r. ⌜ In-part (r .place) ⌝ }
 {
     let a = ask_node(part, servers, slots, used, name);
@@ -143,8 +142,7 @@ pub fn see_child(
 // The root, by its name.
 pub fn root(part: &[u8], servers: usize, slots: usize, used: &mut [u64], name: u64) -> Placed
     requires { ⌜ Walking servers (now part) (now used) ⌝ }
-    ensures { λ r. ⌜ RootMet (sizes servers slots) (held (now (part .entry))) (now (used .entry)) name (r .stop)
-        (node-at (view (now (part .entry))) (r .place)) (now (used .exit)) ⌝ }
+    ensures { λ r. ⌜ over-read RootMet servers slots part used name (r .stop) (lent-node part (r .place)) (now (used .exit)) ⌝ }
     ensures within { λ r. ⌜ In-part (r .place) ⌝ }
 {
     let a = ask_node(part, servers, slots, used, name);
@@ -207,9 +205,7 @@ fn go_lower(
 ) -> Lower
     requires { ⌜ Walking servers (now part) (now used) ⌝ }
     requires from { ⌜ Above (node-at (view (now part)) place) level × In-part place ⌝ }
-    ensures { λ r. ⌜ Lowered (sizes servers slots) (held (now (part .entry))) (now (used .entry)) key level
-        (node-at (view (now (part .entry))) place) (r .stop) (r .at) (r .name) (node-at (view (now (part .entry))) (r .place))
-        (now (used .exit)) ⌝ }
+    ensures { λ r. ⌜ Lowers servers slots part used key level place (r .stop) (r .at) (r .name) (r .place) ⌝ }
     ensures within { λ r. ⌜ In-part (r .place) ⌝ }
 {
     let at = place_at(part, place, key);
@@ -238,8 +234,7 @@ pub fn go_down(
 ) -> Descent
     requires { ⌜ Walking servers (now part) (now used) ⌝ }
     requires from { ⌜ From (node-at (view (now part)) first) target × In-part first ⌝ }
-    ensures { λ r. ⌜ Led (sizes servers slots) (held (now (part .entry))) (now (used .entry)) key target root
-        (node-at (view (now (part .entry))) first) (arrival (now (part .entry)) r) (now (used .exit)) ⌝ }
+    ensures { λ r. ⌜ over-read Led servers slots part used key target root (lent-node part first) (arrived part r) (now (used .exit)) ⌝ }
     ensures within { λ r. ⌜ Path-in-part (r .path) × In-part (r .place) ⌝ }
 {
     let top = level_at(part, first) as usize;
@@ -293,8 +288,7 @@ pub struct Rooted {
 // The metadata, and the root that it names.
 pub fn at_root(part: &[u8], servers: usize, slots: usize, used: &mut [u64]) -> Rooted
     requires { ⌜ Walking servers (now part) (now used) ⌝ }
-    ensures { λ r. ⌜ AtRoot (sizes servers slots) (held (now (part .entry))) (now (used .entry)) (r .stop) (r .name)
-        (node-at (view (now (part .entry))) (r .place)) (now (used .exit)) ⌝ }
+    ensures { λ r. ⌜ over-read AtRoot servers slots part used (r .stop) (r .name) (lent-node part (r .place)) (now (used .exit)) ⌝ }
     ensures within { λ r. ⌜ In-part (r .place) ⌝ }
 {
     let a = ask_meta(part, servers, slots, used);
@@ -336,8 +330,7 @@ pub fn no_descent(stop: Stop) -> Descent
 // From the metadata down to the leaf for a key.
 pub fn descend(part: &[u8], servers: usize, slots: usize, used: &mut [u64], key: u64) -> Descent
     requires { ⌜ Walking servers (now part) (now used) ⌝ }
-    ensures { λ r. ⌜ Descends (sizes servers slots) (held (now (part .entry))) (now (used .entry)) key (arrival (now (part .entry)) r)
-        (now (used .exit)) ⌝ }
+    ensures { λ r. ⌜ over-read Descends servers slots part used key (arrived part r) (now (used .exit)) ⌝ }
     ensures within { λ r. ⌜ Path-in-part (r .path) × In-part (r .place) ⌝ }
 {
     let r = at_root(part, servers, slots, used);
@@ -368,8 +361,7 @@ fn reach(
 ) -> Leaf
     requires { ⌜ Walking servers (now part) (now used) ⌝ }
     requires from { ⌜ From (node-at (view (now part)) first) 0 × In-part first ⌝ }
-    ensures { λ r. ⌜ Reaches (sizes servers slots) (held (now (part .entry))) (now (used .entry)) key
-        (node-at (view (now (part .entry))) first) (r .stop) (node-at (view (now (part .entry))) (r .place)) (now (used .exit)) ⌝ }
+    ensures { λ r. ⌜ Reaching servers slots part used key first (r .stop) (r .place) ⌝ }
     ensures within { λ r. ⌜ In-part (r .place) ⌝ }
 {
     let mut place = first;
@@ -393,8 +385,7 @@ fn reach(
 // From the metadata down to the leaf for a key, by an operation that goes nowhere from there.
 pub fn to_leaf(part: &[u8], servers: usize, slots: usize, used: &mut [u64], key: u64) -> Leaf
     requires { ⌜ Walking servers (now part) (now used) ⌝ }
-    ensures { λ r. ⌜ ToLeaf (sizes servers slots) (held (now (part .entry))) (now (used .entry)) key (r .stop)
-        (node-at (view (now (part .entry))) (r .place)) (now (used .exit)) ⌝ }
+    ensures { λ r. ⌜ over-read ToLeaf servers slots part used key (r .stop) (lent-node part (r .place)) (now (used .exit)) ⌝ }
     ensures within { λ r. ⌜ In-part (r .place) ⌝ }
 {
     let r = at_root(part, servers, slots, used);

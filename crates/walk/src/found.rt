@@ -14,8 +14,8 @@ ghost use Rattle.nodes.specs.Entries.{entriesOf};
 ghost use Rattle.operations.specs.Entry.{under};
 ghost use Rattle.client.specs.Layout.{ClientPart};
 ghost use Rattle.client.specs.Bounds.{most-keys, most-listed};
-ghost use Rattle.walk.specs.Ask.{In-part};
-ghost use Rattle.walk.specs.Found.{pairs-in, pushed-pair, Roomy, to-right, sought-in, start-in, many-from, index-from, with-one, LeafAt};
+ghost use Rattle.walk.specs.Ask.{In-part, lent-node};
+ghost use Rattle.walk.specs.Found.{pairs-in, pushed-pair, Roomy, to-right, sought-in, start-in, many-from, index-from, with-one, LeafAt, gathered, lent-pairs, left-pairs};
 
 // The pairs that are sought: those strictly above a key, strictly below it, or not below it.
 pub enum Sought {
@@ -126,8 +126,7 @@ fn take_one(
 // The pairs of a leaf that are sought, until all that are wanted are found.
 pub fn gather(part: &[u8], leaf: usize, w: Wish, found: &mut [u64])
     requires { ⌜ LeafAt (node-at (view (now part)) leaf) × In-part leaf × ClientPart (now part) × Roomy (w .wanted) (now found) ⌝ }
-    ensures { λ _. ⌜ pairs-in (now (found .exit))
-        ≡ take (w .wanted) (pairs-in (now (found .entry)) ++ sought-in (w .sought) (w .key) (entriesOf (node-at (view (now (part .entry))) leaf) 0)) ⌝ }
+    ensures { λ _. ⌜ left-pairs found ≡ gathered w (lent-node part leaf) (lent-pairs found) ⌝ }
     ensures room { λ _. ⌜ Roomy (w .wanted) (now (found .exit)) ⌝ }
 {
     let sought = w.sought;

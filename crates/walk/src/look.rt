@@ -19,10 +19,10 @@ ghost use Rattle.client.specs.Bounds.{used-room, found-room, most-servers};
 ghost use Rattle.walk.specs.declared.operation.Operation.the-variants.{Read, Listing};
 ghost use Rattle.walk.specs.Operation.{operation-of};
 ghost use Rattle.walk.specs.Stopped.{Waiting};
-ghost use Rattle.walk.specs.Ask.{Walking};
+ghost use Rattle.walk.specs.Ask.{Walking, over-read};
 ghost use Rattle.walk.specs.Lookup.{Walks};
 ghost use Rattle.walk.specs.Look.{near-on, near-plan, Looks};
-ghost use Rattle.walk.specs.Found.{pairs-in, Roomy};
+ghost use Rattle.walk.specs.Found.{pairs-in, Roomy, left-pairs};
 ghost use mathlib.Core.List.{[]};
 
 fn near_on(right: bool) -> Sought
@@ -44,7 +44,7 @@ fn near_one(
     key: u64,
 ) -> Stop
     requires { ⌜ Walking servers (now part) (now used) × (getD (now used) 0 0 ≡ 0) ⌝ }
-    ensures { λ r. ⌜ Walks (sizes servers slots) (held (now (part .entry))) (now (used .entry)) (near-plan right key) r (now (used .exit)) [] ⌝ }
+    ensures { λ r. ⌜ over-read Walks servers slots part used (near-plan right key) r (now (used .exit)) [] ⌝ }
 {
     let sought = near_on(right);
     let w = Wish {
@@ -75,7 +75,7 @@ pub fn list(part: &[u8], servers: usize, slots: usize, used: &mut [u64], found: 
     requires { ⌜ (servers ≤ most-servers) × (used-room ≤ length (now used)) × (getD (now used) 0 0 ≡ 0) × ClientPart (now part) ⌝ }
     requires waits { ⌜ Waiting (held (now part)) × (operation-of (held (now part) op-number) ≡ Listing) ⌝ }
     requires room { ⌜ (found-room ≤ length (now found)) × (getD (now found) 0 0 ≡ 0) ⌝ }
-    ensures { λ r. ⌜ Looks (sizes servers slots) (held (now (part .entry))) r (now (used .entry)) (now (used .exit)) (pairs-in (now (found .exit))) ⌝ }
+    ensures { λ r. ⌜ Looks (sizes servers slots) (held (now (part .entry))) r (now (used .entry)) (now (used .exit)) (left-pairs found) ⌝ }
     ensures within { λ _. ⌜ Roomy (held (now (part .entry)) op-value) (now (found .exit)) ⌝ }
 {
     let w = Wish {

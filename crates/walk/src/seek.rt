@@ -21,11 +21,11 @@ ghost use Rattle.memory.specs.Word.{view};
 ghost use Rattle.nodes.specs.Stored.{node-at};
 ghost use Rattle.operations.specs.Look.{nearest};
 ghost use Rattle.client.specs.Layout.{ClientPart};
-ghost use Rattle.walk.specs.Ask.{In-part, Noted, Walking};
-ghost use Rattle.walk.specs.Found.{pairs-in, Roomy, pairs-told, search-plan, LeafAt};
+ghost use Rattle.walk.specs.Ask.{In-part, Noted, Walking, lent-node};
+ghost use Rattle.walk.specs.Found.{pairs-in, Roomy, search-plan, LeafAt, lent-pairs, left-pairs, left-told};
 ghost use Rattle.walk.specs.Lookup.{Ends, Walks};
 ghost use Rattle.walk.specs.Down.{turns-in, Path-in-part};
-ghost use Rattle.walk.specs.Seek.{more-with, onward, first-at, Stacked, heading, Climbed, Past, first-child, Standing, Advanced, ReadOn, Tells, Seeks, FromLeaf, Afresh};
+ghost use Rattle.walk.specs.Seek.{more-with, onward, first-at, Stacked, heading, Climbed, Past, first-child, Standing, Advanced, Tells, Afresh, turns-of, headed, Reads-on, Tells-nearest, Seeks-on, Seeks-from, Searches, Starting};
 ghost use Rattle.client.specs.Bounds.{most-keys, highest-level};
 
 // Is there a child left on that side of child number `at`, of a node with that many keys?
@@ -123,8 +123,7 @@ fn past_leaf(
 ) -> Ahead
     requires { ⌜ Stacked top (turns-in (now part) path) 0 × Path-in-part path × In-part leaf × ClientPart (now part) ⌝ }
     requires at { ⌜ LeafAt (node-at (view (now part)) leaf) × Roomy (w .wanted) (now found) ⌝ }
-    ensures { λ r. ⌜ Past w top (turns-in (now (part .entry)) path) (node-at (view (now (part .entry))) leaf) (pairs-in (now (found .entry)))
-        (heading (now (part .entry)) r) (pairs-in (now (found .exit))) ⌝ }
+    ensures { λ r. ⌜ Past w top (turns-of part path) (lent-node part leaf) (lent-pairs found) (headed part r) (left-pairs found) ⌝ }
     ensures within { λ r. ⌜ Path-in-part (r .path) × Roomy (w .wanted) (now (found .exit)) ⌝ }
 {
     gather(part, leaf, w, found);
@@ -152,7 +151,7 @@ fn to_first(
 ) -> Ahead
     requires { ⌜ Path-in-part path × In-part place × ClientPart (now part) ⌝ }
     requires at { ⌜ (0 < level) × (level ≤ highest-level) × (node-at (view (now part)) place .count ≤ most-keys) ⌝ }
-    ensures { λ r. ⌜ heading (now (part .entry)) r ≡ first-child right (turns-in (now (part .entry)) path) level name (node-at (view (now (part .entry))) place) ⌝ }
+    ensures { λ r. ⌜ headed part r ≡ first-child right (turns-of part path) level name (lent-node part place) ⌝ }
     ensures within { λ r. ⌜ Path-in-part (r .path) ⌝ }
 {
     let count = count_at(part, place);
@@ -181,8 +180,7 @@ fn advance(
 ) -> Ahead
     requires { ⌜ Stacked top (turns-in (now part) path) level × Path-in-part path × In-part place × ClientPart (now part) ⌝ }
     requires at { ⌜ Standing (node-at (view (now part)) place) level top × Roomy (w .wanted) (now found) ⌝ }
-    ensures { λ r. ⌜ Advanced w top (turns-in (now (part .entry)) path) level (node-at (view (now (part .entry))) place) (pairs-in (now (found .entry)))
-        (heading (now (part .entry)) r) (pairs-in (now (found .exit))) ⌝ }
+    ensures { λ r. ⌜ Advanced w top (turns-of part path) level (lent-node part place) (lent-pairs found) (headed part r) (left-pairs found) ⌝ }
     ensures within { λ r. ⌜ Path-in-part (r .path) × Roomy (w .wanted) (now (found .exit)) ⌝ }
 {
     if level == 0 {
@@ -213,8 +211,7 @@ fn read_on(
 ) -> Reading
     requires { ⌜ Walking servers (now part) (now used) × Roomy (w .wanted) (now found) ⌝ }
     requires at { ⌜ Stacked top (turns-in (now part) path) level × (level < top) × Path-in-part path ⌝ }
-    ensures { λ r. ⌜ ReadOn (sizes servers slots) (held (now (part .entry))) (now (used .entry)) w top (turns-in (now (part .entry)) path) level name
-        (pairs-in (now (found .entry))) (r .stop) (heading (now (part .entry)) (r .ahead)) (now (used .exit)) (pairs-in (now (found .exit))) ⌝ }
+    ensures { λ r. ⌜ Reads-on servers slots part used found w top path level name (r .stop) (r .ahead) ⌝ }
     ensures within { λ r. ⌜ Path-in-part (r .ahead .path) × Roomy (w .wanted) (now (found .exit)) ⌝ }
 {
     let c = child(part, servers, slots, used, level as u64, name);
@@ -239,8 +236,7 @@ fn read_on(
 // "Next and previous: a 1, b the nearest key strictly above or below, if any."
 fn tell_nearest(part: &[u8], used: &mut [u64], found: &[u64]) -> Stop
     requires { ⌜ Noted (held (now part)) (now used) × ClientPart (now part) × (1 < length (now found)) ⌝ }
-    ensures { λ r. ⌜ Ends (held (now (part .entry))) (now (used .entry)) (nearest (pairs-in (now (found .entry))) .0)
-        (nearest (pairs-in (now (found .entry))) .1) r (now (used .exit)) ⌝ }
+    ensures { λ r. ⌜ Tells-nearest part used found r ⌝ }
 {
     if found[0] == 0 {
         return answers(part, used, 0, 0);
@@ -279,8 +275,7 @@ fn seek(
 ) -> Stop
     requires { ⌜ Walking servers (now part) (now used) × Roomy (w .wanted) (now found) ⌝ }
     requires at { ⌜ Stacked top (turns-in (now part) first) from × (from < top) × Path-in-part first ⌝ }
-    ensures { λ r. ⌜ Seeks (sizes servers slots) (held (now (part .entry))) (now (used .entry)) w top (turns-in (now (part .entry)) first) from child
-        (pairs-in (now (found .entry))) r (now (used .exit)) (pairs-told w (pairs-in (now (found .exit)))) ⌝ }
+    ensures { λ r. ⌜ Seeks-on servers slots part used found w top first from child r ⌝ }
     ensures within { λ _. ⌜ Roomy (w .wanted) (now (found .exit)) ⌝ }
 {
     let mut path = first;
@@ -321,9 +316,7 @@ fn from_leaf(
 ) -> Stop
     requires { ⌜ Walking servers (now part) (now used) × Roomy (w .wanted) (now found) ⌝ }
     requires at { ⌜ Stacked top (turns-in (now part) path) 0 × Path-in-part path × LeafAt (node-at (view (now part)) leaf) × In-part leaf ⌝ }
-    ensures { λ r. ⌜ FromLeaf (sizes servers slots) (held (now (part .entry))) (now (used .entry)) w top (turns-in (now (part .entry)) path)
-        (node-at (view (now (part .entry))) leaf) (pairs-in (now (found .entry))) r (now (used .exit))
-        (pairs-told w (pairs-in (now (found .exit)))) ⌝ }
+    ensures { λ r. ⌜ Seeks-from servers slots part used found w top path leaf r ⌝ }
     ensures within { λ _. ⌜ Roomy (w .wanted) (now (found .exit)) ⌝ }
 {
     let a = past_leaf(part, w, found, top, path, leaf);
@@ -360,8 +353,7 @@ pub fn by_path(
     found: &mut [u64],
 ) -> Stop
     requires { ⌜ Walking servers (now part) (now used) × Roomy (w .wanted) (now found) × (getD (now found) 0 0 ≡ 0) ⌝ }
-    ensures { λ r. ⌜ Walks (sizes servers slots) (held (now (part .entry))) (now (used .entry)) (search-plan w) r (now (used .exit))
-        (pairs-told w (pairs-in (now (found .exit)))) ⌝ }
+    ensures { λ r. ⌜ Searches servers slots part used found w r ⌝ }
     ensures within { λ _. ⌜ Roomy (w .wanted) (now (found .exit)) ⌝ }
 {
     let d = descend(part, servers, slots, used, w.key);
@@ -393,8 +385,7 @@ fn afresh(
     found: &mut [u64],
 ) -> Stop
     requires { ⌜ Walking servers (now part) (now used) × Roomy (w .wanted) (now found) ⌝ }
-    ensures { λ r. ⌜ Afresh (sizes servers slots) (held (now (part .entry))) (search-plan w) r (now (used .exit))
-        (pairs-told w (pairs-in (now (found .exit)))) ⌝ }
+    ensures { λ r. ⌜ Afresh (sizes servers slots) (held (now (part .entry))) (search-plan w) r (now (used .exit)) (left-told w found) ⌝ }
 {
     empty(used);
     empty(found);
@@ -410,9 +401,8 @@ pub fn near(
     w: Wish,
     found: &mut [u64],
 ) -> Stop
-    requires { ⌜ Walking servers (now part) (now used) × (getD (now used) 0 0 ≡ 0) × Roomy (w .wanted) (now found) × (getD (now found) 0 0 ≡ 0) ⌝ }
-    ensures { λ r. ⌜ Walks (sizes servers slots) (held (now (part .entry))) (now (used .entry)) (search-plan w) r (now (used .exit))
-        (pairs-told w (pairs-in (now (found .exit)))) ⌝ }
+    requires { ⌜ Starting servers (now part) (now used) w (now found) ⌝ }
+    ensures { λ r. ⌜ Searches servers slots part used found w r ⌝ }
 {
     let d = to_leaf(part, servers, slots, used, w.key);
     let stop = d.stop;

@@ -32,7 +32,7 @@ ghost use Rattle.client.specs.Sets.{held};
 ghost use Rattle.client.specs.Lent.{Lent, used-in};
 ghost use Rattle.client.specs.Bounds.{end-of-names, end-of-numbers, used-room, first-flag-number};
 ghost use Rattle.walk.specs.Walk.{goes, is-answer, over};
-ghost use Rattle.walk.specs.Ask.{Noted, OwnGood, Meets, Outside, Answer, PlacedNode, SeenNode, AskedFlag, In-part, placed-in, seen-in, nothing, popped, noted-copy, Walking, WalkingOwn, over-lent};
+ghost use Rattle.walk.specs.Ask.{Noted, OwnGood, Meets, Outside, Answer, PlacedNode, SeenNode, AskedFlag, In-part, placed-in, seen-in, nothing, popped, noted-copy, Walking, WalkingOwn, over-lent, unwritten};
 ghost use Rattle.client.specs.Layout.{ClientPart};
 
 // How the walk of a plan goes on or ends: a lack is to be fetched, Refused is refusal 10.
@@ -179,8 +179,7 @@ pub fn flag_number(name: u64) -> u64
 
 pub fn ask_meta(part: &[u8], servers: usize, slots: usize, used: &mut [u64]) -> Valued
     requires { ⌜ Walking servers (now part) (now used) ⌝ }
-    ensures { λ r. ⌜ Answer (sizes servers slots) (held (now (part .entry))) nothing (now (used .entry)) meta (r .stop)
-        (single 0 (r .value)) (now (used .exit)) ⌝ }
+    ensures { λ r. ⌜ unwritten Answer servers slots part used meta (r .stop) (single 0 (r .value)) (now (used .exit)) ⌝ }
 {
     let s = meta_source(part);
     let how = s.how;
@@ -207,8 +206,7 @@ fn place_node(part: &[u8], used: &mut [u64], name: u64) -> Placed
 
 pub fn ask_node(part: &[u8], servers: usize, slots: usize, used: &mut [u64], name: u64) -> Placed
     requires { ⌜ Walking servers (now part) (now used) ⌝ }
-    ensures { λ r. ⌜ Answer (sizes servers slots) (held (now (part .entry))) nothing (now (used .entry)) (node name) (r .stop)
-        (placed-in (now (part .entry)) r) (now (used .exit)) ⌝ }
+    ensures { λ r. ⌜ unwritten Answer servers slots part used (node name) (r .stop) (placed-in (now (part .entry)) r) (now (used .exit)) ⌝ }
     ensures within { λ r. ⌜ In-part (r .place) ⌝ }
 {
     let there = in_store(servers, slots, name);
