@@ -2,11 +2,11 @@
 use mathlib.Core.Bool.{Bool, true, cond, _&&_, _||_, not}
 use mathlib.Core.List.{List, [], _∷_}
 use Prim.Native.Nat.{ℕ, _+_, _-_}
-use lib.Dec.{eqb, leb, ltb}
+use lib.Dec.{eqb, leb}
 use lib.ListN.{getD}
 use Rattle.base.specs.Test.{one-if}
 use Rattle.nodes.specs.declared.node.Node.{Node}
-use Rattle.nodes.specs.Name.{server-of, slot-of, name-in-store}
+use Rattle.nodes.specs.Name.{name-in-store}
 use Rattle.nodes.specs.Node.{keysOf, slotsOf, made}
 use Rattle.nodes.specs.Range.{node-in-range}
 use Rattle.operations.specs.Object.{Obj, meta, node, flag, Val, root, body, taken, flags}

@@ -1,7 +1,6 @@
 -- A name of the store, as a fetch needs it; what a server hands over.
 use mathlib.Core.Path.{_≡_}
 use mathlib.Core.Bool.{true}
-use mathlib.Core.List.{List}
 use Prim.Native.Nat.{ℕ, _-_, _<_}
 use denote.Ref.{now}
 use Rattle.nodes.specs.Name.{slot-of}

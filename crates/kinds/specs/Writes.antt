@@ -59,8 +59,8 @@ pub record Writable (z : Sizes) (m : ClientWord → ℕ) (s i : ℕ) : Type 0 wh
   pub fits : version-fits m s i ≡ true
 
 -- a server's part with the bytes b, for so many slots, and a write that may be stored there
-abbrev pub Stored-in : ℕ → ℕ → code.Write → List ℕ → Type 0
-Stored-in slots s w b = (slots ≤ end-of-slots) × Has slots (object-of (w .number)) × Storable s w × (Srv.partWords slots ≤ length b / 8)
+abbrev pub Storable-in : ℕ → ℕ → code.Write → List ℕ → Type 0
+Storable-in slots s w b = (slots ≤ end-of-slots) × Has slots (object-of (w .number)) × Storable s w × (Srv.partWords slots ≤ length b / 8)
 
 -- memory with the bytes b, a client, a server, and write i of the client that may be stored there
 abbrev pub Writable-in : Sizes → List ℕ → ℕ → ℕ → ℕ → Type 0

@@ -11,7 +11,7 @@ ghost use Rattle.client.specs.Sets.{held, count};
 ghost use Rattle.kinds.specs.Parts.{AtClient, InServer, InWhole, AtServer};
 ghost use Rattle.kinds.specs.Judge.{of-client};
 ghost use Rattle.kinds.specs.Fits.{KnownAt};
-ghost use Rattle.kinds.specs.Writes.{write-nth, write-step, stores-some, Storable, Storing, StoredNth, stores, Stored-in, Writable-in};
+ghost use Rattle.kinds.specs.Writes.{write-nth, write-step, stores-some, Storable, Storing, StoredNth, stores, Storable-in, Writable-in};
 ghost use Rattle.client.specs.Layout.{ClientPart, limit};
 ghost use Rattle.server.specs.Layout.{ServerDone};
 use crate::items::first_slot;
@@ -86,7 +86,7 @@ fn stores_some(server: u64, write: Write) -> bool
 
 // What a server stores of a write.
 fn store_write(part: &mut [u8], slots: usize, server: u64, write: Write)
-    requires { ⌜ Stored-in slots server write (now part) ⌝ }
+    requires { ⌜ Storable-in slots server write (now part) ⌝ }
     ensures { λ _. ⌜ ServerDone slots (write-step server write) (now (part .entry)) (now (part .exit)) ⌝ }
 {
     let number = write.number;

@@ -5,16 +5,15 @@ use mathlib.Core.List.{List, [], _∷_}
 use Prim.Native.Nat.{ℕ, zero, suc, _+_, _-_, _≤_, _<_}
 use native.Mathlib.Omega.{arith}
 use native.Mathlib.Numerals.{add-one}
-use borrow.Author.Tests.{eq-eqb, ne-eqb, lt-ltb, le-ltb, le-leb, lt-leb, not-true, not-false}
-use lib.Dec.{leb, ltb}
+use borrow.Author.Tests.{eq-eqb, ne-eqb, le-leb, lt-leb, not-true, not-false}
+use lib.Dec.{leb}
 use lib.ListN.{length, getD, take}
-use Rattle.nodes.specs.Name.{server-of, slot-of}
 use Rattle.nodes.specs.declared.node.Node.{Node}
 use Rattle.nodes.specs.Node.{extra, slotsOf}
 use Rattle.nodes.specs.Range.{node-in-range}
 use Rattle.nodes.specs.Laws.Range.{range-count}
 use Rattle.operations.specs.Slot.{TreeSizes}
-use Rattle.client.specs.Record.{sizes, first-slot, in-store, record-in-range, all, children-there, node-fits, whole-in-range, kind-in-range}
+use Rattle.client.specs.Record.{first-slot, in-store, record-in-range, all, children-there, node-fits, whole-in-range, kind-in-range}
 
 module _ (z : TreeSizes) (x : ℕ) (n : Node) (b : Bool) (e : x ≡ 0) (p : b ≡ in-store z (first-slot n)) where
   pub root-astray : not b ≡ true → false ≡ record-in-range z x n

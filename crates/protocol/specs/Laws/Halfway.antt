@@ -22,7 +22,7 @@ use Rattle.protocol.specs.State.{Entry, is-decided}
 use Rattle.protocol.specs.Laws.State.{after-commit}
 use Rattle.protocol.specs.Meaning.{Meaning, Shown, map-of, map-all, Right, Right-all}
 use Rattle.protocol.specs.Machine.{Machine, find}
-use Rattle.protocol.specs.Moves.{all-parts, first-of, begins, fetches, answers, commits, prepares, decides, applies, ends, reconfigured-by, Reached}
+use Rattle.protocol.specs.Moves.{all-parts, first-of, begins, fetches, answers, commits, prepares, decides, applies, reconfigured-by, Reached}
 use Rattle.protocol.specs.Laws.Largest.{largest, added-table}
 use Rattle.protocol.specs.Laws.Shape.{SeesOuter, outer-asked, WritesAsked, written-asked}
 use Rattle.protocol.specs.Laws.Variant.{ReachedWith, at-start, by-rule, also, never}

@@ -1,12 +1,12 @@
 -- The largest number in tables, computed: what the table of an added server takes.
-use mathlib.Core.Path.{_≡_, refl, sym, _∙_, subst}
+use mathlib.Core.Path.{_≡_, refl, sym, subst}
 use mathlib.Core.Bool.{Bool, true, false, cond}
 use mathlib.Core.List.{List, [], _∷_}
 use mathlib.Core.Logic.{_⊎_, inl, inr}
 use Prim.Native.Nat.{ℕ, _≤_, _<_}
 use native.Mathlib.Decide.{decLt}
 use native.Mathlib.Omega.{arith}
-use Rattle.base.specs.Laws.Test.{bool-cases, cond-true, cond-false}
+use Rattle.base.specs.Laws.Test.{bool-cases}
 use Rattle.base.specs.Test.{not-both, ifd}
 use Rattle.protocol.specs.Setting.{Setting}
 use Rattle.protocol.specs.Lists.{Among}

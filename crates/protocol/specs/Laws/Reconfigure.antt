@@ -1,17 +1,17 @@
 -- A change of the servers keeps the invariant: nobody holds a lock and nothing is pending, so what the servers that are there store is newest
 -- and their tables are right; an added one takes the largest number of these, and a removed one is home of no inner node.
 use mathlib.Core.Path.{_≡_, refl, ap, sym, _∙_, subst}
-use mathlib.Core.Bool.{Bool, true, false, cond, _&&_, _||_, not}
+use mathlib.Core.Bool.{true, false, cond, _&&_, _||_, not}
 use mathlib.Core.Logic.{_⊎_, inl, inr}
 use Prim.Native.Nat.{ℕ, suc, _≤_, _<_}
 use native.Mathlib.Decide.{ℕ-discrete, decLt}
 use native.Mathlib.Omega.{arith}
 use Rattle.base.specs.Laws.Test.{bool-cases, or-neither, of-yes, of-no}
-use Rattle.base.specs.Test.{not-both, yes?}
+use Rattle.base.specs.Test.{not-both}
 use Rattle.base.specs.Update.{upd}
 use Rattle.base.specs.Laws.Update.{upd-same, upd-other, upd-all}
 use Rattle.protocol.specs.Setting.{Setting}
-use Rattle.protocol.specs.State.{Transaction, State}
+use Rattle.protocol.specs.State.{State}
 use Rattle.protocol.specs.System.{here, changed, Largest, CanReconfigure, after-reconfigure}
 use Rattle.protocol.specs.Replay.{Replays, snapshot}
 use Rattle.protocol.specs.Laws.Invariant.{OuterSince, Newest, TableRight, Counts, Staffed, Inv}

@@ -1,13 +1,13 @@
 -- The machine's change of the servers is the system's: nothing is pending, so what a server that is there stores is newest.
 use mathlib.Core.Path.{_≡_, refl, ap, sym, _∙_, subst, fun-ext}
-use mathlib.Core.Bool.{Bool, true, false, cond, _&&_, _||_, not, false≢true}
+use mathlib.Core.Bool.{true, false, cond, _||_, not}
 use mathlib.Core.Logic.{_⊎_, inl, inr}
 use Prim.Native.Nat.{ℕ, suc}
 use Rattle.base.specs.Laws.Test.{bool-cases, cond-false, yes-of}
 use Rattle.base.specs.Test.{not-both, and-both}
 use Rattle.protocol.specs.Setting.{Setting}
 use Rattle.protocol.specs.State.{State}
-use Rattle.protocol.specs.System.{here, changed, Largest, CanReconfigure, after-reconfigure, reconfigure, Reach, after}
+use Rattle.protocol.specs.System.{changed, Largest, CanReconfigure, after-reconfigure, reconfigure, Reach, after}
 use Rattle.protocol.specs.Replay.{snapshot}
 use Rattle.protocol.specs.Laws.Invariant.{Newest, Counts, Inv}
 use Rattle.protocol.specs.Laws.Safety.{reach-inv}

@@ -10,7 +10,7 @@ use Rattle.protocol.specs.Setting.{Setting}
 use Rattle.protocol.specs.Lists.{Among}
 use Rattle.protocol.specs.State.{idle, opened, decided, is-decided, State, fresh, start, put}
 use Rattle.protocol.specs.Laws.State.{after-commit}
-use Rattle.protocol.specs.System.{Step, begin, read, answer, commit, stamp, prepare, decide, apply, end, abort, reconfigure, Reach, here, there, initial, after}
+use Rattle.protocol.specs.System.{Step, begin, read, answer, commit, stamp, prepare, decide, apply, end, abort, reconfigure, Reach, there, initial, after}
 use Rattle.protocol.specs.Replay.{Replays, snapshot, due?, settled, Safe}
 use Rattle.protocol.specs.Laws.Invariant.{Pending, Newest, Counts, Inv}
 use Rattle.protocol.specs.Laws.Working.{none-pending, fresh-content, fresh-course, fresh-inv, read-inv, answer-inv, commit-inv, stamp-inv}
