@@ -26,6 +26,11 @@ abbrev inners : ℕ → ℕ → Ask → Val
 inners i j = small ((node 0, node-value 2 ((0, 3) ∷ (1000, 4) ∷ [])) ∷ (node 3, node-value 1 (tens 0 20 i)) ∷ (node 4, node-value 1 (tens 1000 40 j))
     ∷ (node 20, node-value 0 (leaf 1 7)) ∷ (node 21, node-value 0 (leaf 10 7)) ∷ (node 46, node-value 0 (leaf 1061 7)) ∷ (node 47, node-value 0 (leaf 1070 7)) ∷ [])
 
+-- old copies that are no tree: leaf 27, by its place from 70 on, has the keys 1 to 7
+abbrev torn : Ask → Val
+torn = small ((node 0, node-value 2 ((0, 3) ∷ (1000, 4) ∷ [])) ∷ (node 3, node-value 1 (tens 0 20 8)) ∷ (node 4, node-value 1 (tens 1000 40 8))
+    ∷ (node 26, node-value 0 (leaf 60 7)) ∷ (node 27, node-value 0 (leaf 1 7)) ∷ (node 40, node-value 0 (leaf 1001 7)) ∷ [])
+
 -- a full leaf below the root, with these vectors
 abbrev full-leaf : List (List Bool) → Ask → Val
 full-leaf vs = store vs ((node 0, node-value 1 ((0, 4) ∷ (8, 2) ∷ [])) ∷ (node 2, node-value 0 (leaf 8 14)) ∷ [])
@@ -86,6 +91,9 @@ pub record Examples : Type 0 where
   pub found : comes-to (lookup 9) (pair 7 8 8) ≡ gives ((1, 9, []), [])
   pub next-leaf : comes-to (next 7) (pair 7 8 8) ≡ gives ((1, 8, []), [])
   pub previous-leaf : comes-to (previous 8) (pair 7 8 8) ≡ gives ((1, 7, []), [])
+  -- the nearest branch on that side leads to a leaf that has none either: again the nearest branch, which is further up
+  pub next-again : (comes-to (next 66) torn ≡ gives ((1, 1001, []), []))
+      × (asked (next 66) torn ≡ object meta ∷ object (node 0) ∷ object (node 3) ∷ object (node 26) ∷ object (node 27) ∷ object (node 4) ∷ object (node 40) ∷ [])
   -- LISTS: the given key itself, and on across leaves; fewer where there are no more; no further leaf is read once there are enough
   pub listed-across : comes-to (list 6 4) (pair 7 8 8) ≡ gives ((4, 0, (6, 6) ∷ (7, 7) ∷ (8, 8) ∷ (9, 9) ∷ []), [])
   pub listed-fewer : comes-to (list 14 9) (pair 7 8 8) ≡ gives ((2, 0, (14, 14) ∷ (15, 15) ∷ []), [])

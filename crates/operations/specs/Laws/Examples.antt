@@ -19,6 +19,7 @@ examples = record {
   found = refl;
   next-leaf = refl;
   previous-leaf = refl;
+  next-again = (refl, refl);
   listed-across = refl;
   listed-fewer = refl;
   listed-none = refl;

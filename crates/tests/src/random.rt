@@ -79,9 +79,8 @@ fn all(memory: &mut [u8]) -> u64 {
     steps
 }
 
-fn main() {
-    let mut memory = show::fresh();
-    let steps = all(&mut memory);
+pub fn report(memory: &mut [u8]) {
+    let steps = all(memory);
     io::print_decimal(1, steps);
     io::write_all(1, b" steps\n");
 }

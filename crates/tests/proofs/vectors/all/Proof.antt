@@ -2,14 +2,14 @@ use mathlib.Core.Path.{_≡_}
 use Prim.Native.Nat.{_-_, _≤_}
 use borrow.Author.Needs.{needs}
 use lib.ListN.{length}
-use Rattle.random.proofs.all.Statement.{statement}
-use Rattle.random.proofs.all.Tie as tie
+use Rattle.tests.proofs.vectors.all.Statement.{statement}
+use Rattle.tests.proofs.vectors.all.Tie as tie
 
 abbrev Inv-loop : tie.InvT-loop
-Inv-loop memory₀ steps₀ i₀ memory steps i = (i ≤ 14) × (length memory ≡ length memory₀)
+Inv-loop memory₀ pairs₀ count right₀ i₀ memory pairs right i = (i ≤ count) × (length memory ≡ length memory₀)
 
 abbrev μ-loop : tie.MeasureT-loop
-μ-loop memory₀ steps₀ i₀ memory steps i = 14 - i
+μ-loop memory₀ pairs₀ count right₀ i₀ memory pairs right i = count - i
 
 pub all-spec : {M : Type 1} → statement M
 all-spec =
@@ -18,6 +18,8 @@ all-spec =
     Inv-loop
     μ-loop
     (λ c. search needs)
+    (λ c κs. search needs)
+    (λ c κs. search needs)
     (λ c κs. search needs)
     (λ c κs. search needs)
     (λ c. search needs)

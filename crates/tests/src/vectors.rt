@@ -1,4 +1,4 @@
-// Runs each schedule that the arguments name through what `stepshow` runs, and compares what it prints with the file named next.
+// Schedules that the arguments name, each run through what `stepshow` runs; what it prints is compared with the file named next.
 use show::Show;
 
 // How far a schedule has been run, and whether all that was printed was expected.
@@ -101,11 +101,10 @@ fn all(memory: &mut [u8], pairs: &mut [u8; 512], count: usize) -> u64 {
     right
 }
 
-fn main() {
-    let mut memory = show::fresh();
+pub fn report(memory: &mut [u8]) {
     let count = os::arg_count() / 2;
     let mut pairs = [0u8; 512];
-    let right = all(&mut memory, &mut pairs, count);
+    let right = all(memory, &mut pairs, count);
     io::print_decimal(1, right);
     io::write_all(1, b" of ");
     io::print_decimal(1, count as u64);

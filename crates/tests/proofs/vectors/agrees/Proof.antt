@@ -1,8 +1,8 @@
 use mathlib.Core.Path.{_≡_}
 use borrow.Author.Needs.{needs}
 use lib.ListN.{length}
-use Rattle.vectors.proofs.agrees.Statement.{statement}
-use Rattle.vectors.proofs.agrees.Tie as tie
+use Rattle.tests.proofs.vectors.agrees.Statement.{statement}
+use Rattle.tests.proofs.vectors.agrees.Tie as tie
 
 abbrev Inv-loop : tie.InvT-loop
 Inv-loop memory₀ pairs₀ input expected run₀ turns₀ memory pairs run turns = length memory ≡ length memory₀

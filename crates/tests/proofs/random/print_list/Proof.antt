@@ -1,7 +1,7 @@
 use Prim.Native.Nat.{_-_}
 use borrow.Author.Needs.{needs}
-use Rattle.random.proofs.print_list.Statement.{statement}
-use Rattle.random.proofs.print_list.Tie as tie
+use Rattle.tests.proofs.random.print_list.Statement.{statement}
+use Rattle.tests.proofs.random.print_list.Tie as tie
 
 abbrev Inv-loop : tie.InvT-loop
 Inv-loop first last list i₀ i = Unit {0}

@@ -57,13 +57,12 @@ fn lists(memory: &mut [u8]) {
     );
 }
 
-fn main() {
-    let mut memory = show::fresh();
-    two_clients(&mut memory);
-    one_due(&mut memory);
-    sizes(&mut memory);
-    clients(&mut memory);
-    lists(&mut memory);
-    print_case(&mut memory, b"no line\n", b"");
-    print_case(&mut memory, b"no newline at the end\n", b"1 4 1");
+pub fn report(memory: &mut [u8]) {
+    two_clients(memory);
+    one_due(memory);
+    sizes(memory);
+    clients(memory);
+    lists(memory);
+    print_case(memory, b"no line\n", b"");
+    print_case(memory, b"no newline at the end\n", b"1 4 1");
 }

@@ -2,8 +2,8 @@ use mathlib.Core.Path.{sym}
 use native.Mathlib.Omega.{arith}
 use lib.Seq.{length-take-le}
 use borrow.Author.Needs.{needs}
-use Rattle.vectors.proofs.turn.Statement.{statement}
-use Rattle.vectors.proofs.turn.Tie as tie
+use Rattle.tests.proofs.vectors.turn.Statement.{statement}
+use Rattle.tests.proofs.vectors.turn.Tie as tie
 
 pub turn-spec : {M : Type 1} → statement M
 turn-spec =
