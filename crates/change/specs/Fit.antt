@@ -4,7 +4,7 @@ use mathlib.Core.Bool.{Bool, true, _&&_}
 use mathlib.Core.List.{List, [], _∷_}
 use lib.Dec.{leb}
 use Rattle.nodes.specs.declared.node.Node.{Node}
-use Rattle.nodes.specs.Find.{rises}
+use Rattle.nodes.specs.Place.{rises}
 use Rattle.nodes.specs.Node.{keysOf}
 use Rattle.client.specs.Lent.{Entry}
 use Rattle.client.specs.Bounds.{highest-level}

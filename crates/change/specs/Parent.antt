@@ -4,6 +4,7 @@ use mathlib.Core.Bool.{true}
 use mathlib.Core.List.{List, [], _∷_, _++_}
 use Prim.Native.Nat.{ℕ, suc, _+_, _-_}
 use native.Mathlib.Decide.{decLt}
+use denote.Ref.{now}
 use lib.ListN.{take, drop, getD}
 use Rattle.base.specs.Test.{ifd}
 use Rattle.nodes.specs.declared.node.Node.{Node}
@@ -17,10 +18,10 @@ use Rattle.operations.specs.Migrate.{moved, move-at, to-level}
 use Rattle.walk.specs.declared.walk.Stop.{Stop}
 use Rattle.client.specs.Layout.{ClientWord}
 use Rattle.client.specs.Record.{in-store, value-of}
-use Rattle.client.specs.Lent.{used-in}
+use Rattle.client.specs.Lent.{LentList, used-in}
 use Rattle.walk.specs.Entries.{opens}
 use Rattle.walk.specs.Walk.{goes, walked, carry}
-use Rattle.walk.specs.Ask.{SmallNode, Noted}
+use Rattle.walk.specs.Ask.{SmallNode, Noted, over-lent, lent-node}
 use Rattle.walk.specs.Down.{Arrival, branches, trail, low}
 use Rattle.change.specs.Operated.{Operated}
 use Rattle.plans.specs.Plan as P
@@ -58,3 +59,8 @@ pub record ChildMoved (z : TreeSizes) (m : ClientWord → ℕ) (x u : List ℕ) 
 -- "isn't met at its level going down from the root by its first key": at the parent
 pub record MovedAt (z : TreeSizes) (m : ClientWord → ℕ) (x u : List ℕ) (key nm s : ℕ) (n : Node) (up : ℕ) (p : Node) (st : Stop) (x′ u′ : List ℕ) : Type 0 where
   pub operated : (fs : List Branch) (lo : ℕ) → Operated z m x u (move-at z nm s (value-of (node nm) n) key (p .level) fs up (entriesOf p lo)) st x′ u′
+
+-- as a contract promises it, of the parent that stands at a place of the lent part
+abbrev pub Moves-at : ℕ → ℕ → LentList → LentList → LentList → ℕ → ℕ → ℕ → Node → ℕ → ℕ → Stop → Type 0
+Moves-at servers slots part own used key nm s n up place st =
+    over-lent MovedAt servers slots part own used key nm s n up (lent-node part place) st (now (own .exit)) (now (used .exit))

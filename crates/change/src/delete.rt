@@ -3,9 +3,8 @@ use crate::leaf::Changed;
 use crate::leaf::unchanged;
 use crate::rise::widen;
 use nodes::change::Wide;
-use nodes::found::Found;
 use nodes::node::Node;
-use nodes::standing::find_at;
+use nodes::standing::place_at;
 use nodes::stored::read_node;
 use walk::down::descend;
 use walk::lookup::answers;
@@ -38,21 +37,17 @@ pub fn delete(part: &[u8], servers: usize, slots: usize, used: &mut [u64], key: 
     if !on {
         return unchanged(stop, way);
     }
-    let f = find_at(part, way.place, key);
-    match f {
-        Found::At(i) => {
-            let leaf = read_node(part, way.place);
-            let content = without(leaf, i);
-            Changed {
-                stop,
-                way,
-                content,
-                a: 1,
-            }
-        }
-        Found::Absent => {
-            let stop = answers(part, used, 0, 0);
-            unchanged(stop, way)
-        }
+    let at = place_at(part, way.place, key);
+    if at.there {
+        let leaf = read_node(part, way.place);
+        let content = without(leaf, at.place - 1);
+        return Changed {
+            stop,
+            way,
+            content,
+            a: 1,
+        };
     }
+    let stop = answers(part, used, 0, 0);
+    unchanged(stop, way)
 }

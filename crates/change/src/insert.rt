@@ -3,16 +3,18 @@ use crate::leaf::Changed;
 use crate::leaf::unchanged;
 use crate::rise::widen;
 use nodes::change::Wide;
-use nodes::found::Found;
 use nodes::node::Node;
+use nodes::standing::KeyPlace;
+use nodes::standing::place_at;
 use nodes::stored::read_node;
 use walk::down::descend;
 use walk::walk::going;
 ghost use mathlib.Core.Path.{_≡_};
 ghost use Prim.Native.Nat.{_≤_};
+ghost use Rattle.nodes.specs.Place.{Within};
 ghost use Rattle.operations.specs.Change.{insert-plan};
 ghost use Rattle.walk.specs.Ask.{Walking};
-ghost use Rattle.change.specs.Insert.{paired};
+ghost use Rattle.change.specs.Insert.{paired-at};
 ghost use Rattle.change.specs.Leaf.{Makes};
 ghost use Rattle.client.specs.Bounds.{most-keys};
 
@@ -23,23 +25,17 @@ pub struct Paired {
 }
 
 // "Insert of a present key replaces its value"
-fn with_pair(n: Node, key: u64, value: u64) -> Paired
-    requires { ⌜ n .count ≤ most-keys ⌝ }
-    ensures { λ r. ⌜ r ≡ paired n key value ⌝ }
+fn with_pair(n: Node, at: KeyPlace, key: u64, value: u64) -> Paired
+    requires { ⌜ (n .count ≤ most-keys) × Within at (n .count) ⌝ }
+    ensures { λ r. ⌜ r ≡ paired-at n key value at ⌝ }
 {
-    let f = n.find(key);
-    match f {
-        Found::At(i) => {
-            let m = n.with_slot(i, value);
-            let content = widen(m);
-            Paired { content, a: 0 }
-        }
-        Found::Absent => {
-            let p = n.place(key);
-            let content = n.put_in(p, key, value);
-            Paired { content, a: 1 }
-        }
+    if at.there {
+        let m = n.with_slot(at.place - 1, value);
+        let content = widen(m);
+        return Paired { content, a: 0 };
     }
+    let content = n.put_in(at.place, key, value);
+    Paired { content, a: 1 }
 }
 
 // The pair in the leaf for the key.
@@ -60,8 +56,9 @@ pub fn insert(
     if !on {
         return unchanged(stop, way);
     }
+    let at = place_at(part, way.place, key);
     let leaf = read_node(part, way.place);
-    let p = with_pair(leaf, key, value);
+    let p = with_pair(leaf, at, key, value);
     let content = p.content;
     Changed {
         stop,

@@ -5,6 +5,8 @@ use client::range::single;
 use nodes::name::Name;
 use nodes::node::Node;
 use nodes::standing::level_at;
+use nodes::standing::place_at;
+use nodes::standing::slot_at;
 use nodes::stored::read_node;
 use walk::down::Descent;
 use walk::down::go_down;
@@ -22,7 +24,9 @@ use walk::walk::going;
 ghost use mathlib.Core.Path.{_≡_};
 ghost use mathlib.Core.Bool.{true};
 ghost use Prim.Native.Nat.{_<_, _≤_, _-_};
+ghost use Rattle.memory.specs.Word.{view};
 ghost use Rattle.nodes.specs.Kept.{Whole};
+ghost use Rattle.nodes.specs.Stored.{node-at};
 ghost use Rattle.operations.specs.Object.{node};
 ghost use Rattle.operations.specs.Migrate.{move-root, move-if, migrate-plan};
 ghost use Rattle.client.specs.Record.{sizes, in-store, value-of};
@@ -33,7 +37,7 @@ ghost use Rattle.walk.specs.Down.{arrived};
 ghost use Rattle.change.specs.Operated.{Operates};
 ghost use Rattle.change.specs.Move.{Beside, Placed, Left, Moved};
 ghost use Rattle.change.specs.Migrate.{named-plan, below-plan};
-ghost use Rattle.change.specs.Parent.{Parent, ToParent, ChildMoved, MovedAt};
+ghost use Rattle.change.specs.Parent.{Parent, ToParent, ChildMoved, Moves-at};
 
 // "changes .. the metadata for the root"
 fn write_root(own: &mut [u64], is_root: bool, name: u64)
@@ -197,18 +201,19 @@ fn move_at(
     server: u64,
     n: Node,
     above: u64,
-    p: Node,
+    place: usize,
 ) -> Stop
     requires { ⌜ Beginning servers (now part) (now own) (now used) ⌝ }
     requires small { ⌜ SmallNode n ⌝ }
-    requires parent { ⌜ Parent (sizes servers slots) (n .level) above p ⌝ }
-    ensures { λ r. ⌜ over-lent MovedAt servers slots part own used key name server n above p r (now (own .exit)) (now (used .exit)) ⌝ }
+    requires parent { ⌜ Parent (sizes servers slots) (n .level) above (node-at (view (now part)) place) × In-part place ⌝ }
+    ensures { λ r. ⌜ Moves-at servers slots part own used key name server n above place r ⌝ }
 {
-    let at = p.place(key);
-    let children = p.slots;
-    if children[at] != name {
+    let k = place_at(part, place, key);
+    let at = k.place;
+    if slot_at(part, place, at) != name {
         return Stop::Aborts(3);
     }
+    let p = read_node(part, place);
     move_child(
         part,
         servers,
@@ -279,7 +284,7 @@ fn move_below(
         return stop;
     }
     let above = d.name;
-    let p = read_node(part, d.place);
+    let place = d.place;
     move_at(
         part,
         servers,
@@ -291,7 +296,7 @@ fn move_below(
         server,
         n,
         above,
-        p,
+        place,
     )
 }
 

@@ -10,7 +10,7 @@ pub mod Bits
 pub mod Search
 -- a node's lists, the place of a key, what the functions build, nodes as words, ranges, nodes where they stand
 pub mod Node
-pub mod Find
+pub mod Place
 pub mod Built
 pub mod Stored
 pub mod Range

@@ -12,10 +12,9 @@ pub mod Placed
 -- vectors of taken flags as words, and as lists of flags
 pub mod Vector
 pub mod Flags
--- the place of a key; a node and its lists; where a key is
-pub mod Place
+-- a node and its lists; the place of a key, and whether it is there
 pub mod Node
-pub mod Find
+pub mod Place
 -- put in, take out, split, move over, merge
 pub mod Change
 -- a node as 33 words; its ranges

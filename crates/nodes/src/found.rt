@@ -1,4 +1,4 @@
-// The place of something looked for: a key in a node, a free slot in a vector.
+// The place of something looked for: an object in a set, a free slot in a vector.
 pub enum Found {
     At(usize),
     Absent,

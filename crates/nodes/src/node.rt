@@ -1,12 +1,9 @@
 // A node by value, and what is asked of it.
-use crate::found::Found;
 ghost use mathlib.Core.Path.{_≡_};
 ghost use Prim.Native.Nat.{_≤_, _<_};
 ghost use lib.ListN.{length};
-ghost use Rattle.nodes.specs.Place.{place};
 ghost use Rattle.nodes.specs.Node.{extra, keysOf, free-node, parent-of, pair-at};
-ghost use Rattle.nodes.specs.Found.{found, Inside};
-ghost use Rattle.nodes.specs.Find.{key-index, rises};
+ghost use Rattle.nodes.specs.Place.{rises};
 ghost use Rattle.nodes.specs.Bounds.{most-children, most-keys};
 
 // "A node has a kind (0 free, 1 leaf, 2 inner), a level, a 32-bit version, at most 14 keys in strictly rising order,
@@ -36,42 +33,6 @@ impl Node {
         ensures sizes { λ _. ⌜ (length (self .keys) ≡ most-keys) × (length (self .slots) ≡ most-children) ⌝ }
     {
         slots_beyond(self.kind)
-    }
-
-    // the number of keys that are not above the key
-    pub fn place(self, key: u64) -> usize
-        requires { ⌜ self .count ≤ most-keys ⌝ }
-        ensures { λ r. ⌜ r ≡ place (keysOf self) key ⌝ }
-        ensures within { λ r. ⌜ r ≤ self .count ⌝ }
-    {
-        let keys = self.keys;
-        let count = self.count;
-        let mut p: usize = 0;
-        let mut i: usize = 0;
-        while i < count {
-            if keys[i] <= key {
-                p += 1;
-            }
-            i += 1;
-        }
-        p
-    }
-
-    // where the key is
-    pub fn find(self, key: u64) -> Found
-        requires { ⌜ self .count ≤ most-keys ⌝ }
-        ensures { λ r. ⌜ r ≡ found (key-index (keysOf self) key) ⌝ }
-        ensures within { λ r. ⌜ Inside r (self .count) ⌝ }
-    {
-        let p = self.place(key);
-        if p == 0 {
-            return Found::Absent;
-        }
-        let keys = self.keys;
-        if keys[p - 1] != key {
-            return Found::Absent;
-        }
-        Found::At(p - 1)
     }
 
     // whether each key is above the one before

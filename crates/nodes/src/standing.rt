@@ -1,5 +1,4 @@
 // A node where it stands in lent memory, at word b: its words are read one by one, and nothing is copied.
-use crate::found::Found;
 use crate::stored::fields_in_range;
 use memory::read_word;
 ghost use mathlib.Core.Path.{_≡_};
@@ -7,11 +6,9 @@ ghost use Prim.Native.Nat.{_+_, _/_, _<_, _≤_};
 ghost use lib.ListN.{length, getD};
 ghost use Rattle.memory.specs.Word.{view};
 ghost use Rattle.nodes.specs.Stored.{node-at};
-ghost use Rattle.nodes.specs.Place.{place};
+ghost use Rattle.nodes.specs.Place.{place, key-place, Within};
 ghost use Rattle.nodes.specs.Node.{keysOf};
 ghost use Rattle.nodes.specs.Range.{node-in-range};
-ghost use Rattle.nodes.specs.Find.{key-index};
-ghost use Rattle.nodes.specs.Found.{found, Inside};
 ghost use Rattle.nodes.specs.Bounds.{most-children, most-keys, node-words};
 
 pub fn kind_at(s: &[u8], b: usize) -> u64
@@ -69,8 +66,14 @@ pub fn in_range_at(s: &[u8], b: usize) -> bool
     )
 }
 
+// The place of a key, and whether the key is there.
+pub struct KeyPlace {
+    pub place: usize,
+    pub there: bool,
+}
+
 // the number of keys that are not above the key
-pub fn place_at(s: &[u8], b: usize, key: u64) -> usize
+fn not_above(s: &[u8], b: usize, key: u64) -> usize
     requires { ⌜ (node-at (view (now s)) b .count ≤ most-keys) × (b + node-words ≤ length (now s) / 8) ⌝ }
     ensures { λ r. ⌜ r ≡ place (keysOf (node-at (view (now (s .entry))) b)) key ⌝ }
     ensures within { λ r. ⌜ r ≤ node-at (view (now (s .entry))) b .count ⌝ }
@@ -87,18 +90,22 @@ pub fn place_at(s: &[u8], b: usize, key: u64) -> usize
     p
 }
 
-// where the key is
-pub fn find_at(s: &[u8], b: usize, key: u64) -> Found
+// "The place in a node comes with a yes or no"
+pub fn place_at(s: &[u8], b: usize, key: u64) -> KeyPlace
     requires { ⌜ (node-at (view (now s)) b .count ≤ most-keys) × (b + node-words ≤ length (now s) / 8) ⌝ }
-    ensures { λ r. ⌜ r ≡ found (key-index (keysOf (node-at (view (now (s .entry))) b)) key) ⌝ }
-    ensures within { λ r. ⌜ Inside r (node-at (view (now (s .entry))) b .count) ⌝ }
+    ensures { λ r. ⌜ r ≡ key-place (keysOf (node-at (view (now (s .entry))) b)) key ⌝ }
+    ensures counts { λ r. ⌜ r .place ≡ place (keysOf (node-at (view (now (s .entry))) b)) key ⌝ }
+    ensures within { λ r. ⌜ Within r (node-at (view (now (s .entry))) b .count) ⌝ }
 {
-    let p = place_at(s, b, key);
-    if p == 0 {
-        return Found::Absent;
+    let place = not_above(s, b, key);
+    if place == 0 {
+        return KeyPlace {
+            place,
+            there: false,
+        };
     }
-    if key_at(s, b, p - 1) != key {
-        return Found::Absent;
+    KeyPlace {
+        place,
+        there: key_at(s, b, place - 1) == key,
     }
-    Found::At(p - 1)
 }

@@ -1,14 +1,16 @@
 -- Insert and delete: the new entries of a leaf are carried up, "level by level from the lowest".
+use mathlib.Core.Bool.{cond}
 use mathlib.Core.List.{List, [], _∷_, _++_}
 use mathlib.Core.Option.{Option, none, some}
 use Prim.Native.Nat.{ℕ, zero, suc, _-_}
 use native.Mathlib.Decide.{ℕ-discrete, decLt, decLe}
 use lib.ListN.{length, take, drop}
 use Rattle.base.specs.Test.{ifd}
+use Rattle.nodes.specs.declared.standing.KeyPlace.{KeyPlace}
 use Rattle.nodes.specs.Lists.{remove-at}
 use Rattle.operations.specs.Object.{node, no-tree, Ans, Writes}
 use Rattle.operations.specs.Map.{fresh}
-use Rattle.operations.specs.Entry.{Entries, node-value, fewest-entries, most-entries, first-key-or, index, value-in, with-pair}
+use Rattle.operations.specs.Entry.{Entries, node-value, fewest-entries, most-entries, first-key-or, place-in, value-in, with-pair}
 use Rattle.operations.specs.Path.{TreePlan, kid, Branch, from-root}
 use Rattle.operations.specs.Slot.{TreeSizes, take-for, take-node, release}
 use Rattle.plans.specs.Plan as P
@@ -111,10 +113,9 @@ abbrev pub insert-plan : TreeSizes → ℕ → ℕ → TreePlan
 insert-plan sz key v = from-root key (λ fs n es. up sz (fresh (value-in key es)) zero fs [] n (with-pair key v es))
 
 -- a key that is not there changes nothing
-abbrev pub delete-at : TreeSizes → List Branch → ℕ → Entries → Option ℕ → TreePlan
-delete-at sz fs n es none = P.done ((0, 0, []), [])
-delete-at sz fs n es (some i) = up sz (1, 0, []) zero fs [] n (remove-at i es)
+abbrev pub delete-at : TreeSizes → List Branch → ℕ → Entries → KeyPlace → TreePlan
+delete-at sz fs n es p = cond (p .there) (up sz (1, 0, []) zero fs [] n (remove-at (p .place - 1) es)) (P.done ((0, 0, []), []))
 
 -- "Delete removes the key; a is 1 if it was there."
 abbrev pub delete-plan : TreeSizes → ℕ → TreePlan
-delete-plan sz key = from-root key (λ fs n es. delete-at sz fs n es (index key es))
+delete-plan sz key = from-root key (λ fs n es. delete-at sz fs n es (place-in key es))

@@ -1,14 +1,15 @@
 -- A node as a list of entries: its keys with its values or children. The first entry of an inner node has the key from which
 -- the node holds keys, which its parent stores and it does not. With it leaves and inner nodes split, merge and lend alike.
 use mathlib.Core.List.{List, [], _∷_, map, tail, reverse}
+use mathlib.Core.Bool.{cond}
 use mathlib.Core.Option.{Option, none, some}
-use Prim.Native.Nat.{ℕ, zero, suc, _+_}
+use Prim.Native.Nat.{ℕ, zero, suc, _+_, _-_}
 use lib.Dec.{ltb}
 use lib.ListN.{getD, set, take, drop}
 use Rattle.base.specs.Test.{one-if}
 use Rattle.nodes.specs.Lists.{insert-at}
-use Rattle.nodes.specs.Place.{place}
-use Rattle.nodes.specs.Find.{key-index}
+use Rattle.nodes.specs.declared.standing.KeyPlace.{KeyPlace}
+use Rattle.nodes.specs.Place.{place, key-place}
 use Rattle.operations.specs.Object.{Val, body}
 
 -- keys, each with its value or child
@@ -75,27 +76,25 @@ module _ {A : Type 0} where
   cut key e es = cut-at (place (keys es) key) e es
 
 -- LEAVES
--- the index of a present key: the place is not 0, and the key there is equal
-abbrev pub index : ℕ → Entries → Option ℕ
-index key es = key-index (keys es) key
+-- "Insert, lookup and delete go by it": the place of a key, and whether it is there
+abbrev pub place-in : ℕ → Entries → KeyPlace
+place-in key es = key-place (keys es) key
 
--- the value at an index, if there is one
-abbrev pub value-at : Entries → Option ℕ → Option ℕ
-value-at es none = none
-value-at es (some i) = some (getD (vals es) i 0)
+-- the value at a place, if the key is there
+abbrev pub value-at : Entries → KeyPlace → Option ℕ
+value-at es p = cond (p .there) (some (getD (vals es) (p .place - 1) 0)) none
 
 -- the value of a key in a leaf, if it is there
 abbrev pub value-in : ℕ → Entries → Option ℕ
-value-in key es = value-at es (index key es)
+value-in key es = value-at es (place-in key es)
 
 -- "Insert of a present key replaces its value"; another comes after the keys not above it
-abbrev pub with-at : ℕ → ℕ → Entries → Option ℕ → Entries
-with-at key v es none = insert-at (place (keys es) key) (key, v) es
-with-at key v es (some i) = set es i (key, v)
+abbrev pub with-at : ℕ → ℕ → Entries → KeyPlace → Entries
+with-at key v es p = cond (p .there) (set es (p .place - 1) (key, v)) (insert-at (p .place) (key, v) es)
 
 -- a leaf's entries with the key's value set
 abbrev pub with-pair : ℕ → ℕ → Entries → Entries
-with-pair key v es = with-at key v es (index key es)
+with-pair key v es = with-at key v es (place-in key es)
 
 -- the pairs strictly above a key: those after the keys not above it
 abbrev pub above-in : ℕ → Entries → Entries

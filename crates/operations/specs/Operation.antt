@@ -4,7 +4,7 @@ use mathlib.Core.List.{[], _∷_}
 use Prim.Native.Nat.{_<_}
 use native.Mathlib.Decide.{decLe}
 use Rattle.base.specs.Test.{yes?}
-use Rattle.nodes.specs.Find.{rises}
+use Rattle.nodes.specs.Place.{rises}
 use Rattle.operations.specs.Object.{Val, keys-of, level-of, no-tree, Ans, Writes, written-value}
 use Rattle.operations.specs.Map.{two-to-64, Op, insert, lookup, delete, next, previous, migrate, list}
 use Rattle.operations.specs.Path.{TreePlan}

@@ -1,11 +1,12 @@
 -- Lookup, next and previous, walked.
 use mathlib.Core.Path.{_≡_}
 use mathlib.Core.List.{List, []}
-use mathlib.Core.Option.{Option, none, some}
+use mathlib.Core.Bool.{cond}
 use Prim.Native.Nat.{ℕ, _-_}
 use lib.ListN.{getD}
 use Rattle.nodes.specs.declared.node.Node.{Node}
-use Rattle.nodes.specs.Find.{key-index}
+use Rattle.nodes.specs.declared.standing.KeyPlace.{KeyPlace}
+use Rattle.nodes.specs.Place.{key-place}
 use Rattle.nodes.specs.Node.{keysOf}
 use Rattle.operations.specs.Object.{Writes}
 use Rattle.operations.specs.Slot.{TreeSizes}
@@ -45,9 +46,8 @@ pub record Walks (z : TreeSizes) (m : ClientWord → ℕ) (u : List ℕ) (p : Tr
   pub noted : Noted m u′
 
 -- ---- a key looked up in a leaf
-abbrev pub pair-at : Node → Option ℕ → Pair
-pair-at n (some i) = record { a = 1; b = getD (n .slots) i 0 }
-pair-at n none = record { a = 0; b = 0 }
+abbrev pub pair-at : Node → KeyPlace → Pair
+pair-at n p = cond (p .there) (record { a = 1; b = getD (n .slots) (p .place - 1) 0 }) (record { a = 0; b = 0 })
 
 unfoldable pub look-in : Node → ℕ → Pair
-look-in n key = pair-at n (key-index (keysOf n) key)
+look-in n key = pair-at n (key-place (keysOf n) key)

@@ -208,7 +208,8 @@ fn go_lower(
     ensures { λ r. ⌜ Lowers servers slots part used key level place (r .stop) (r .at) (r .name) (r .place) ⌝ }
     ensures within { λ r. ⌜ In-part (r .place) ⌝ }
 {
-    let at = place_at(part, place, key);
+    let k = place_at(part, place, key);
+    let at = k.place;
     let name = slot_at(part, place, at);
     let c = child(part, servers, slots, used, (level - 1) as u64, name);
     let stop = c.stop;

@@ -51,7 +51,8 @@ fn under_at(part: &[u8], leaf: usize, key: u64) -> usize
     if key == 0 {
         return 0;
     }
-    place_at(part, leaf, key - 1)
+    let p = place_at(part, leaf, key - 1);
+    p.place
 }
 
 // The number of keys before those on the right, where a search begins.
@@ -61,7 +62,10 @@ fn start_at(part: &[u8], leaf: usize, sought: Sought, key: u64) -> usize
     ensures within { λ r. ⌜ r ≤ node-at (view (now (part .entry))) leaf .count ⌝ }
 {
     match sought {
-        Sought::Higher => place_at(part, leaf, key),
+        Sought::Higher => {
+            let p = place_at(part, leaf, key);
+            p.place
+        }
         Sought::Lower => under_at(part, leaf, key),
         Sought::AtLeast => under_at(part, leaf, key),
     }

@@ -4,8 +4,7 @@ use crate::walk::Stop;
 use crate::walk::going;
 use crate::walk::over;
 use crate::walk::pop_used;
-use nodes::found::Found;
-use nodes::standing::find_at;
+use nodes::standing::place_at;
 use nodes::standing::slot_at;
 ghost use mathlib.Core.Path.{_≡_};
 ghost use mathlib.Core.List.{[]};
@@ -43,14 +42,14 @@ fn look_in(part: &[u8], leaf: usize, key: u64) -> Pair
     requires { ⌜ (node-at (view (now part)) leaf .count ≤ most-keys) × In-part leaf × ClientPart (now part) ⌝ }
     ensures { λ r. ⌜ r ≡ look-in (node-at (view (now (part .entry))) leaf) key ⌝ }
 {
-    let f = find_at(part, leaf, key);
-    match f {
-        Found::At(i) => Pair {
+    let p = place_at(part, leaf, key);
+    if p.there {
+        return Pair {
             a: 1,
-            b: slot_at(part, leaf, i),
-        },
-        Found::Absent => Pair { a: 0, b: 0 },
+            b: slot_at(part, leaf, p.place - 1),
+        };
     }
+    Pair { a: 0, b: 0 }
 }
 
 pub fn lookup(part: &[u8], servers: usize, slots: usize, used: &mut [u64], key: u64) -> Stop

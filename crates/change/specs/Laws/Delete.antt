@@ -1,26 +1,23 @@
 -- Laws of a delete's walk.
 use mathlib.Core.Path.{_≡_, sym, _∙_}
-use mathlib.Core.Bool.{Bool, false, not}
+use mathlib.Core.Bool.{Bool, true, false, not}
 use mathlib.Core.List.{List}
-use mathlib.Core.Option.{Option, none, some}
 use Prim.Native.Nat.{ℕ, _+_, _-_, _≤_, _<_}
 use native.Mathlib.Omega.{arith}
 use lib.ListN.{length}
 use Rattle.nodes.specs.declared.node.Node.{Node}
 use Rattle.nodes.specs.declared.change.Wide.{Wide}
-use Rattle.nodes.specs.declared.found.Found.{Found}
-use Rattle.nodes.specs.declared.found.Found.the-variants.{At, Absent}
-use Rattle.nodes.specs.Found.{found, Inside}
-use Rattle.nodes.specs.Laws.Found.{found-some, found-none}
+use Rattle.nodes.specs.declared.standing.KeyPlace.{KeyPlace}
 use Rattle.nodes.specs.Lists.{remove-at}
 use Rattle.nodes.specs.Laws.Lists.{length-remove}
-use Rattle.nodes.specs.Find.{key-index}
+use Rattle.nodes.specs.Place.{key-place, Within}
+use Rattle.nodes.specs.Laws.Place.{yes-behind, yes-inside}
 use Rattle.nodes.specs.Node.{keysOf, made}
 use Rattle.nodes.specs.Entries.{entriesOf, wide-entries}
 use Rattle.nodes.specs.Change.{take-out}
 use Rattle.nodes.specs.Laws.Kept.{take-out-entries}
 use Rattle.operations.specs.Slot.{TreeSizes}
-use Rattle.operations.specs.Entry.{Entries, index}
+use Rattle.operations.specs.Entry.{Entries, place-in}
 use Rattle.operations.specs.Path.{TreePlan, Branch}
 use Rattle.operations.specs.Change.{delete-at, delete-plan}
 use Rattle.memory.specs.Word.{view}
@@ -29,8 +26,7 @@ use Rattle.walk.specs.declared.down.Descent.{Descent}
 use Rattle.client.specs.Sets.{held}
 use Rattle.change.specs.declared.leaf.Changed.{Changed}
 use Rattle.walk.specs.declared.walk.Stop.{Stop}
-use Rattle.client.specs.Layout.{ClientWord}
-use Rattle.walk.specs.Laws.Entries.{extra-leaf, leaf-index}
+use Rattle.walk.specs.Laws.Entries.{extra-leaf, leaf-place}
 use Rattle.walk.specs.Walk.{goes}
 use Rattle.walk.specs.Lookup.{Ends}
 use Rattle.walk.specs.Down.{low, Descends, Arrival, arrival, Path-in-part}
@@ -38,7 +34,7 @@ use Rattle.change.specs.Rise.{Content, widened}
 use Rattle.change.specs.Laws.Parts.{out-level, widened-entries, widened-content}
 use Rattle.change.specs.Up.{rise-plan}
 use Rattle.change.specs.Leaf.{Changes}
-use Rattle.change.specs.Laws.Insert.{AtLeaf, leaf-level, way, ended-leaf, change-stops, change-noted, change-ended, change-few, change-on, change-none}
+use Rattle.change.specs.Laws.Insert.{AtLeaf, leaf-level, way, ended-leaf, change-stops, change-noted, change-ended, leaf-few, change-few, change-on, change-none}
 
 -- ---- the leaf's new content
 module _ (n : Node) (f : AtLeaf n) (i : ℕ) (h : i < n .count) where
@@ -63,7 +59,7 @@ without-few n d e h = omega arith
 pub ruleset without-exits = (without-is, without-few)
 
 -- ---- at the leaf
-module _ (z : TreeSizes) (b u : List ℕ) (key : ℕ) (way-down : Descent) (u₁ : List ℕ) (h : Descends z (held b) u key (arrival b way-down) u₁) (on : Bool) (po : on ≡ goes (way-down .stop)) (nb : not on ≡ false) (f : Found) (p : f ≡ found (key-index (keysOf (node-at (view b) (way-down .place))) key)) where
+module _ (z : TreeSizes) (b u : List ℕ) (key : ℕ) (way-down : Descent) (u₁ : List ℕ) (h : Descends z (held b) u key (arrival b way-down) u₁) (on : Bool) (po : on ≡ goes (way-down .stop)) (nb : not on ≡ false) (k : KeyPlace) (p : k ≡ key-place (keysOf (node-at (view b) (way-down .place))) key) where
   abbrev d : Arrival
   d = arrival b way-down
 
@@ -73,22 +69,25 @@ module _ (z : TreeSizes) (b u : List ℕ) (key : ℕ) (way-down : Descent) (u₁
   leaf : AtLeaf (d .node)
   leaf = ended-leaf z d (change-ended z b u key way-down u₁ h on po nb)
 
-  there : (o : Option ℕ) → key-index (keysOf (d .node)) key ≡ o → index key (entriesOf (d .node) lo) ≡ o
-  there o e = leaf-index (d .node) lo key (leaf .whole) (leaf .leaf) ∙ e
+  in-leaf : place-in key (entriesOf (d .node) lo) ≡ k
+  in-leaf = leaf-place (d .node) lo key (leaf .whole) (leaf .leaf) ∙ sym p
 
   abbrev plan : List Branch → ℕ → Entries → TreePlan
-  plan fs n es = delete-at z fs n es (index key es)
+  plan fs n es = delete-at z fs n es (place-in key es)
 
-  pub delete-nothing : f ≡ Absent → (s : Stop) (u′ : List ℕ) (c : Changed) → Ends (held b) u₁ 0 0 s u′ → c .stop ≡ s → Changes z b u (delete-plan z key) c u′
+  pub delete-nothing : k .there ≡ false → (s : Stop) (u′ : List ℕ) (c : Changed) → Ends (held b) u₁ 0 0 s u′ → c .stop ≡ s → Changes z b u (delete-plan z key) c u′
   delete-nothing e s u′ c q t =
-      change-none z b u key way-down u₁ h on po nb plan 0 0 s u′ c (rw (there none (found-none (key-index (keysOf (d .node)) key) (sym p ∙ e)))) q t
+      change-none z b u key way-down u₁ h on po nb plan 0 0 s u′ c (rw (in-leaf, e)) q t
 
-  pub delete-few : node-at (view b) (way-down .place) .count ≤ 14
-  delete-few = leaf .small
+  module _ (yes : k .there ≡ true) (w : Within k (node-at (view b) (way-down .place) .count)) where
+    abbrev i : ℕ
+    i = k .place - 1
 
-  module _ (i : ℕ) (e : f ≡ At i) (inside : Inside f (node-at (view b) (way-down .place) .count)) where
     within : i < d .node .count
-    within = inside .inside i e
+    within = yes-inside k (d .node .count) w yes
+
+    pub delete-behind : 1 ≤ k .place
+    delete-behind = yes-behind k (d .node .count) w yes
 
     pub delete-inside : (n : Node) → n ≡ node-at (view b) (way-down .place) → i < n .count
     delete-inside n q = rw q within
@@ -98,8 +97,7 @@ module _ (z : TreeSizes) (b u : List ℕ) (key : ℕ) (way-down : Descent) (u₁
     unfolding rise-plan
     deleted l n w′ pl pl′ =
         let pn : n ≡ widened (take-out (d .node) i) = rw pl at pl′ in
-        let j = there (some i) (found-some (key-index (keysOf (d .node)) key) i (sym p ∙ e)) in
-        let w : wide-entries n lo ≡ remove-at i (entriesOf (d .node) lo) = rw pn (out-entries (d .node) leaf i within lo) in
-        change-on z b u key way-down u₁ h on po nb plan n 1 w′ (rw pn (out-content (d .node) leaf i within)) (rw (j, ← w))
+        let o : wide-entries n lo ≡ remove-at i (entriesOf (d .node) lo) = rw pn (out-entries (d .node) leaf i within lo) in
+        change-on z b u key way-down u₁ h on po nb plan n 1 w′ (rw pn (out-content (d .node) leaf i within)) (rw (in-leaf, yes, ← o))
 
-pub ruleset delete-exits = (change-stops, change-noted, change-few, delete-few, delete-nothing, delete-inside, deleted)
+pub ruleset delete-exits = (change-stops, change-noted, change-few, leaf-few, delete-nothing, delete-behind, delete-inside, deleted)

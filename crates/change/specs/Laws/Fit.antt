@@ -11,7 +11,7 @@ use borrow.Author.Tests.{leb-true, leb-false, eq-eqb, ne-eqb, eqb-true, eqb-fals
 use Rattle.base.specs.Test.{yes?, and-both, one-if}
 use Rattle.base.specs.Laws.Test.{of-yes, of-no}
 use Rattle.nodes.specs.declared.node.Node.{Node}
-use Rattle.nodes.specs.Find.{rises}
+use Rattle.nodes.specs.Place.{rises}
 use Rattle.nodes.specs.Node.{made}
 use Rattle.nodes.specs.Laws.Node.{keys-made}
 use Rattle.operations.specs.Object.{Obj, meta, node, flag, Val, root, body, taken, flags, Writes, hit, written-value}

@@ -1,23 +1,19 @@
 -- Laws of an insert's walk.
-use mathlib.Core.Path.{_≡_, refl, sym, _∙_}
-use mathlib.Core.Bool.{Bool, true, false, not}
+use mathlib.Core.Path.{_≡_, refl, sym, ap, _∙_}
+use mathlib.Core.Bool.{Bool, true, false, cond, not}
 use mathlib.Core.List.{List, []}
-use mathlib.Core.Option.{Option, none, some}
+use mathlib.Core.Option.{none, some}
 use Prim.Native.Nat.{ℕ, zero, _+_, _-_, _≤_, _<_}
 use native.Mathlib.Omega.{arith}
-use lib.Dec.{eqb}
 use lib.ListN.{length, getD, set, length-set}
-use borrow.Author.Tests.{not-true, not-false, eqb-true}
+use borrow.Author.Tests.{not-true, not-false}
 use Rattle.nodes.specs.declared.node.Node.{Node}
 use Rattle.nodes.specs.declared.change.Wide.{Wide}
-use Rattle.nodes.specs.declared.found.Found.{Found}
-use Rattle.nodes.specs.declared.found.Found.the-variants.{At, Absent}
-use Rattle.nodes.specs.Found.{found, Inside}
-use Rattle.nodes.specs.Laws.Found.{found-some, found-none}
+use Rattle.nodes.specs.declared.standing.KeyPlace.{KeyPlace}
 use Rattle.nodes.specs.Lists.{insert-at}
 use Rattle.nodes.specs.Laws.Lists.{length-insert}
-use Rattle.nodes.specs.Place.{place}
-use Rattle.nodes.specs.Find.{key-index, find-at}
+use Rattle.nodes.specs.Place.{place, key-place, Within}
+use Rattle.nodes.specs.Laws.Place.{place-within, yes-says, yes-behind, yes-inside}
 use Rattle.nodes.specs.Node.{extra, keysOf, slotsOf, made}
 use Rattle.nodes.specs.Entries.{entriesOf, wide-entries}
 use Rattle.nodes.specs.Change.{wide, put-in, with-slot}
@@ -25,7 +21,7 @@ use Rattle.nodes.specs.Kept.{Whole}
 use Rattle.nodes.specs.Laws.Kept.{made-whole, put-in-whole, put-in-entries, slot-entries}
 use Rattle.operations.specs.Map.{fresh}
 use Rattle.operations.specs.Slot.{TreeSizes}
-use Rattle.operations.specs.Entry.{Entries, keys, index, value-in, with-pair}
+use Rattle.operations.specs.Entry.{Entries, value-in, with-at, with-pair}
 use Rattle.operations.specs.Path.{TreePlan, Branch, from-root}
 use Rattle.operations.specs.Change.{up, insert-plan}
 use Rattle.walk.specs.declared.down.Turn.{Turn}
@@ -38,11 +34,11 @@ use Rattle.change.specs.declared.insert.Paired.{Paired}
 use Rattle.walk.specs.declared.walk.Stop.{Stop}
 use Rattle.client.specs.Layout.{ClientWord}
 use Rattle.client.specs.Lent.{used-in}
-use Rattle.walk.specs.Laws.Entries.{Leaf, open-leaf, extra-leaf, leaf-keys, leaf-index, leaf-value, leaf-absent}
+use Rattle.walk.specs.Laws.Entries.{Leaf, open-leaf, extra-leaf, leaf-place, leaf-value}
 use Rattle.walk.specs.Walk.{goes}
 use Rattle.walk.specs.Lookup.{Ends}
 use Rattle.walk.specs.Laws.Down.{stops-not}
-use Rattle.walk.specs.Laws.Lookup.{ended-nothing, place-within, find-inside}
+use Rattle.walk.specs.Laws.Lookup.{ended-nothing}
 use Rattle.walk.specs.Ask.{Noted}
 use Rattle.walk.specs.Down.{low, branches, trail, Linked, Reached, Descends, Arrival, arrival, Path-in-part}
 use Rattle.change.specs.Rise.{OfLevel, Content, widened}
@@ -52,18 +48,6 @@ use Rattle.change.specs.Insert.{paired-at, paired}
 use Rattle.change.specs.Leaf.{Changes}
 use Rattle.change.specs.Laws.Merge.{ends-halts}
 use Rattle.plans.specs.Plan as P
-
-find-key : (ks : List ℕ) (key i : ℕ) → key-index ks key ≡ some i → getD ks i 0 ≡ key
-unfolding key-index find-at
-find-key ks key i e = go (eqb (place ks key) 0) (eqb (getD ks (place ks key - 1) 0) key) refl refl
-  where
-    go : (a b : Bool) → eqb (place ks key) 0 ≡ a → eqb (getD ks (place ks key - 1) 0) key ≡ b → getD ks i 0 ≡ key
-    go true b p q = let r : none ≡ some i = rw (key-index, find-at, p) at e in let z : _≡_ {A = ℕ} 0 1 = cc in absurd (omega arith)
-    go false true p q =
-        let r : some (place ks key - 1) ≡ some i = rw (key-index, find-at, p, q) at e in
-        let t : place ks key - 1 ≡ i = cc in
-        rw (← t) (eqb-true (getD ks (place ks key - 1) 0) key q)
-    go false false p q = let r : none ≡ some i = rw (key-index, find-at, p, q) at e in let z : _≡_ {A = ℕ} 0 1 = cc in absurd (omega arith)
 
 -- a leaf at hand
 pub record AtLeaf (n : Node) : Type 0 where
@@ -102,57 +86,55 @@ module _ (n : Node) (f : AtLeaf n) where
           omega (arith, f .whole .keys, f .small);
     }
 
+    -- with an answer to whether the key is there
+    abbrev answered : Bool → KeyPlace
+    answered t = record { place = place (keysOf n) key; there = t }
+
     pub paired-content : Content 0 (paired n key v .content)
-    unfolding paired
-    paired-content = go (key-index (keysOf n) key) refl
+    unfolding paired key-place
+    paired-content = go (key-place (keysOf n) key .there)
       where
-        go : (o : Option ℕ) → key-index (keysOf n) key ≡ o → Content 0 (paired-at n key v (key-index (keysOf n) key) .content)
-        go none e = rw e put-content
-        go (some i) e = rw e (widened-content 0 (with-slot n i v) (slot-level i v) (slot-few i v))
+        go : (t : Bool) → Content 0 (paired-at n key v (answered t) .content)
+        go false = put-content
+        go true = let i = place (keysOf n) key - 1 in widened-content 0 (with-slot n i v) (slot-level i v) (slot-few i v)
 
     -- the entries are those of the plan, and so is the answer
     module _ (lo : ℕ) where
       pub paired-entries : wide-entries (paired n key v .content) lo ≡ with-pair key v (entriesOf n lo)
-      unfolding paired
-      paired-entries = go (key-index (keysOf n) key) refl
+      unfolding paired key-place
+      paired-entries = go (key-place (keysOf n) key .there) refl ∙ sym (ap (with-at key v (entriesOf n lo)) (leaf-place n lo key (f .whole) (f .leaf)))
         where
-          ix : index key (entriesOf n lo) ≡ key-index (keysOf n) key
-          ix = leaf-index n lo key (f .whole) (f .leaf)
-
-          go : (o : Option ℕ) → key-index (keysOf n) key ≡ o → wide-entries (paired-at n key v (key-index (keysOf n) key) .content) lo ≡ with-pair key v (entriesOf n lo)
-          go none e =
+          go : (t : Bool) → key-place (keysOf n) key .there ≡ t → wide-entries (paired-at n key v (answered t) .content) lo ≡ with-at key v (entriesOf n lo) (answered t)
+          go false e =
               let z : place (keysOf n) key + 0 ≡ place (keysOf n) key = omega arith in
-              rw (ix, e, leaf-keys n lo key (f .whole) (f .leaf)) (put-in-entries n lo (f .whole) (place (keysOf n) key) key v place-inside ∙ rw (none-more, z))
-          go (some i) e =
-              rw (ix, e) (widened-entries 0 (with-slot n i v) (slot-level i v) lo ∙ slot-entries n lo (f .whole) i v ∙ rw (none-more, find-key (keysOf n) key i e))
+              put-in-entries n lo (f .whole) (place (keysOf n) key) key v place-inside ∙ rw (none-more, z)
+          go true e =
+              let i = place (keysOf n) key - 1 in
+              widened-entries 0 (with-slot n i v) (slot-level i v) lo ∙ slot-entries n lo (f .whole) i v ∙ rw (none-more, yes-says (keysOf n) key e .the-key)
 
       pub paired-answer : fresh (value-in key (entriesOf n lo)) ≡ (paired n key v .a, 0, [])
-      unfolding paired
-      paired-answer = go (key-index (keysOf n) key) refl
+      unfolding paired key-place
+      paired-answer = ap fresh (leaf-value n lo key (f .whole) (f .leaf)) ∙ go (key-place (keysOf n) key .there)
         where
-          go : (o : Option ℕ) → key-index (keysOf n) key ≡ o → fresh (value-in key (entriesOf n lo)) ≡ (paired-at n key v (key-index (keysOf n) key) .a, 0, [])
-          go none e = rw (leaf-absent n lo key (f .whole) (f .leaf) e, e)
-          go (some i) e =
-              let h : i < n .count = omega (arith, find-inside (keysOf n) key i e, f .whole .keys) in
-              rw (leaf-value n lo key (f .whole) (f .leaf) i e h, e)
+          go : (t : Bool) → fresh (cond t (some (getD (n .slots) (place (keysOf n) key - 1) 0)) none) ≡ (paired-at n key v (answered t) .a, 0, [])
+          go false = refl
+          go true = refl
 
 -- ---- ways out of the code that makes it
-module _ (n : Node) (key v : ℕ) (f : Found) (p : f ≡ found (key-index (keysOf n) key)) where
-  pub pair-replaced : (i : ℕ) (d : Node) (w : Wide) → f ≡ At i → d ≡ with-slot n i v → w ≡ widened d → _≡_ {A = Paired} (record { content = w; a = 0 }) (paired n key v)
-  unfolding paired
-  pair-replaced i d w e q r = let t : key-index (keysOf n) key ≡ some i = found-some (key-index (keysOf n) key) i (sym p ∙ e) in rw (t, r, q)
+module _ (n : Node) (key v : ℕ) (p : KeyPlace) where
+  pub pair-replaced : (d : Node) (w : Wide) → p .there ≡ true → d ≡ with-slot n (p .place - 1) v → w ≡ widened d → _≡_ {A = Paired} (record { content = w; a = 0 }) (paired-at n key v p)
+  pair-replaced d w t q r = rw (t, r, q)
 
-  pub pair-new : (w : Wide) (i : ℕ) → f ≡ Absent → i ≡ place (keysOf n) key → w ≡ put-in n i key v → _≡_ {A = Paired} (record { content = w; a = 1 }) (paired n key v)
-  unfolding paired
-  pair-new w i e q r = let t : key-index (keysOf n) key ≡ none = found-none (key-index (keysOf n) key) (sym p ∙ e) in rw (t, r, q)
+  pub pair-new : (w : Wide) → p .there ≡ false → w ≡ put-in n (p .place) key v → _≡_ {A = Paired} (record { content = w; a = 1 }) (paired-at n key v p)
+  pair-new w t r = rw (t, r)
 
-pub pair-inside : (n : Node) (f : Found) (i : ℕ) → Inside f (n .count) → f ≡ At i → i < n .count + extra (n .kind)
-pair-inside n f i h e = omega (arith, h .inside i e)
+  pub pair-inside : Within p (n .count) → p .there ≡ true → p .place - 1 < n .count + extra (n .kind)
+  pair-inside h t = omega (arith, yes-inside p (n .count) h t)
 
 pub pair-few : (n d : Node) → d .count ≡ n .count → n .count ≤ 14 → d .count ≤ 14
 pair-few n d e h = omega arith
 
-pub ruleset pair-exits = (pair-replaced, pair-new, pair-inside, pair-few)
+pub ruleset pair-exits = (pair-replaced, pair-new, pair-inside, pair-few, yes-behind)
 
 -- ---- a way down that ended at a leaf
 pub record Ended (z : TreeSizes) (d : Arrival) : Type 0 where
@@ -190,6 +172,12 @@ module _ (z : TreeSizes) (b u : List ℕ) (key : ℕ) (p : Descent) (u₁ : List
     pub change-ended : Ended z (arrival b p)
     change-ended = record { high = h .high; reached = h .reached going; linked = h .linked going }
 
+    pub leaf-few : node-at (view b) (p .place) .count ≤ 14
+    leaf-few = ended-leaf z d change-ended .small
+
+    pub pair-within : (n : Node) (k : KeyPlace) → n ≡ node-at (view b) (p .place) → Within k (node-at (view b) (p .place) .count) → Within k (n .count)
+    pair-within n k e w = rw e w
+
     pub change-few : (n : Node) → n ≡ node-at (view b) (p .place) → n .count ≤ 14
     change-few n e = rw e (ended-leaf z d change-ended .small)
 
@@ -211,14 +199,14 @@ module _ (z : TreeSizes) (b u : List ℕ) (key : ℕ) (p : Descent) (u₁ : List
         }
 
     -- ---- insert
-    pub inserted : (v : ℕ) (n : Node) (q : Paired) → Path-in-part (p .path) → n ≡ node-at (view b) (p .place) → q ≡ paired n key v
+    pub inserted : (v : ℕ) (n : Node) (k : KeyPlace) (q : Paired) → Path-in-part (p .path) → k ≡ key-place (keysOf (node-at (view b) (p .place))) key → n ≡ node-at (view b) (p .place) → q ≡ paired-at n key v k
         → Changes z b u (insert-plan z key v) (record { stop = p .stop; way = p; content = q .content; a = q .a }) u₁
-    unfolding rise-plan
-    inserted v n q w pn pq =
-        let pp : q ≡ paired (d .node) key v = rw pn at pq in
+    unfolding rise-plan paired
+    inserted v n k q w pk pn pq =
+        let pp : q ≡ paired (d .node) key v = rw (pn, pk) at pq in
         let leaf : AtLeaf (d .node) = ended-leaf z d change-ended in
         let e : wide-entries (q .content) (low (way d)) ≡ with-pair key v (entriesOf (d .node) (low (way d))) = rw pp (paired-entries (d .node) leaf key v (low (way d))) in
         let a : fresh (value-in key (entriesOf (d .node) (low (way d)))) ≡ (q .a, 0, []) = rw pp (paired-answer (d .node) leaf key v (low (way d))) in
         change-on (λ fs n es. up z (fresh (value-in key es)) zero fs [] n (with-pair key v es)) (q .content) (q .a) w (rw pp (paired-content (d .node) leaf key v)) (rw (a, ← e))
 
-pub ruleset insert-exits = (change-stops, change-few, inserted)
+pub ruleset insert-exits = (change-stops, leaf-few, change-few, pair-within, inserted)

@@ -11,7 +11,7 @@ use borrow.Author.Tests.{not-true, not-false, lt-ltb, le-ltb, le-leb, lt-leb}
 use Rattle.nodes.specs.declared.node.Node.{Node}
 use Rattle.nodes.specs.declared.found.Found.{Found}
 use Rattle.nodes.specs.declared.found.Found.the-variants.{At, Absent}
-use Rattle.nodes.specs.Find.{rises}
+use Rattle.nodes.specs.Place.{rises}
 use Rattle.nodes.specs.Node.{keysOf}
 use Rattle.nodes.specs.Stored.{node-of}
 use Rattle.layout.specs.Space.{tab}

@@ -94,16 +94,16 @@ module _ (z : TreeSizes) (m : ClientWord → ℕ) (x u : List ℕ) (top nm s key
       let q : goes (d .stop) ≡ false = sym pb ∙ not-true b nb in
       walks-operated z m x u (move-below z top nm s w (n .level) key) (d .stop) u₁ g (record { same = rw (h .asks (move-at z nm s w key), q) (sym (ended-nothing (d .stop) (used-in u₁))); noted = h .noted })
 
-  pub below-moves : (q : Node) (st : Stop) (x′ u′ : List ℕ) → not b ≡ false → q ≡ node-at (view c) (p .place) → MovedAt z m x u₁ key nm s n (p .name) q st x′ u′ → Operated z m x u (move-below z top nm s w (n .level) key) st x′ u′
-  below-moves q st x′ u′ nb pq a =
+  pub below-moves : (st : Stop) (x′ u′ : List ℕ) → not b ≡ false → MovedAt z m x u₁ key nm s n (p .name) (node-at (view c) (p .place)) st x′ u′ → Operated z m x u (move-below z top nm s w (n .level) key) st x′ u′
+  below-moves st x′ u′ nb a =
       let on : goes (d .stop) ≡ true = sym pb ∙ not-false b nb in
       let e : d .node .level ≡ suc (n .level) = h .parent on .level in
       follows z m x u u₁ (move-below z top nm s w (n .level) key) _ st x′ u′ (λ hold. rw (h .asks (move-at z nm s w key), on, ← e))
-      ((rw pq at a) .operated (branches (trail (d .path) (suc (n .level)) (d .top - suc (n .level)))) (low (trail (d .path) (suc (n .level)) (d .top - suc (n .level)))))
+      (a .operated (branches (trail (d .path) (suc (n .level)) (d .top - suc (n .level)))) (low (trail (d .path) (suc (n .level)) (d .top - suc (n .level)))))
 
-pub below-parent : (z : TreeSizes) (m : ClientWord → ℕ) (u : List ℕ) (key top l : ℕ) (c : List ℕ) (p : Descent) (u′ : List ℕ) (b : Bool) (n : Node) → ToParent z m u key top l (arrival c p) u′ → b ≡ goes (p .stop) → not b ≡ false
-    → n ≡ node-at (view c) (p .place) → Parent z l (p .name) n
-below-parent z m u key top l c p u′ b n h pb nb e = rw e (h .parent (sym pb ∙ not-false b nb))
+pub below-parent : (z : TreeSizes) (m : ClientWord → ℕ) (u : List ℕ) (key top l : ℕ) (c : List ℕ) (p : Descent) (u′ : List ℕ) (b : Bool) → ToParent z m u key top l (arrival c p) u′ → b ≡ goes (p .stop) → not b ≡ false
+    → Parent z l (p .name) (node-at (view c) (p .place))
+below-parent z m u key top l c p u′ b h pb nb = h .parent (sym pb ∙ not-false b nb)
 
 pub ruleset below-exits = (below-stops, below-parent, below-moves)
 

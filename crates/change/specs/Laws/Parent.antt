@@ -152,24 +152,30 @@ module _ (z : TreeSizes) (m : ClientWord → ℕ) (x u : List ℕ) (key nm s : �
       let g : suc at ≤ length (entriesOf p lo) = omega (arith, length-entriesOf p lo (f .whole), extra-inner p i) in
       move-at-list z nm s (value-of (node nm) n) key fs up (p .level) at (entriesOf p lo) (i .level) (rw q pa) g ∙ rw r
 
-  pub at-elsewhere : OwnGood x → Noted m u → (getD (p .slots) at 0 ≡ nm → ⊥) → MovedAt z m x u key nm s n up p (Aborts 3) x u
-  at-elsewhere g h d = record {
+  pub at-elsewhere : (c : ℕ) → OwnGood x → Noted m u → c ≡ getD (p .slots) at 0 → (c ≡ nm → ⊥) → MovedAt z m x u key nm s n up p (Aborts 3) x u
+  at-elsewhere c g h q d = record {
     operated = λ fs lo. walks-operated z m x u _ (Aborts 3) u g (record {
-      same = rw (at-is fs lo, ifd-no (ℕ-discrete (getD (p .slots) at 0) nm) (child-plan z nm s (value-of (node nm) n) up (p .level) at (entriesOf p lo)) (P.fail no-tree) d) (walked-fails z m (used-in u) no-tree);
+      same = rw (at-is fs lo, ifd-no (ℕ-discrete (getD (p .slots) at 0) nm) (child-plan z nm s (value-of (node nm) n) up (p .level) at (entriesOf p lo)) (P.fail no-tree) (λ e. d (q ∙ e))) (walked-fails z m (used-in u) no-tree);
       noted = h;
     });
   }
 
-  pub at-child : (st : Stop) (x′ u′ : List ℕ) → getD (p .slots) at 0 ≡ nm → ChildMoved z m x u nm s n up p at st x′ u′ → MovedAt z m x u key nm s n up p st x′ u′
-  at-child st x′ u′ e c = record {
+  pub at-child : (c : ℕ) (q : Node) (st : Stop) (x′ u′ : List ℕ) → c ≡ getD (p .slots) at 0 → c ≡ nm → q ≡ p → ChildMoved z m x u nm s n up q at st x′ u′ → MovedAt z m x u key nm s n up p st x′ u′
+  at-child c q st x′ u′ r e pq t = record {
     operated = λ fs lo.
-        rw (at-is fs lo, ifd-yes (ℕ-discrete (getD (p .slots) at 0) nm) (child-plan z nm s (value-of (node nm) n) up (p .level) at (entriesOf p lo)) (P.fail no-tree) e) (c .operated lo);
+        rw (at-is fs lo, ifd-yes (ℕ-discrete (getD (p .slots) at 0) nm) (child-plan z nm s (value-of (node nm) n) up (p .level) at (entriesOf p lo)) (P.fail no-tree) (sym r ∙ e)) ((rw pq at t) .operated lo);
   }
 
 pub parent-slot : (z : TreeSizes) (l up : ℕ) (p : Node) (at : ℕ) → Parent z l up p → at ≤ p .count → at < 15
 parent-slot z l up p at f h = omega (arith, f .small .keys)
 
-pub ruleset at-exits = (at-elsewhere, at-child, parent-slot)
+pub parent-read : (z : TreeSizes) (l up : ℕ) (p q : Node) → q ≡ p → Parent z l up p → Parent z l up q
+parent-read z l up p q e f = rw e f
+
+pub parent-within : (p q : Node) (at : ℕ) → q ≡ p → at ≤ p .count → at ≤ q .count
+parent-within p q at e h = rw e h
+
+pub ruleset at-exits = (at-elsewhere, at-child, parent-slot, parent-read, parent-within)
 
 -- ---- the way to the parent
 linked-there : (z : TreeSizes) (l nm : ℕ) (bs : List Turn) → Linked z l nm bs → in-store z nm ≡ true

@@ -24,7 +24,6 @@ use Rattle.layout.specs.Part as LayoutPart
 use Rattle.layout.specs.Space as Space
 use Rattle.layout.specs.Step as LayoutStep
 use Rattle.layout.specs.Sweep as Sweep
-use Rattle.nodes.specs.Find as Find
 use Rattle.nodes.specs.Lists as Lists
 use Rattle.nodes.specs.Name as Name
 use Rattle.nodes.specs.Node as Node
@@ -120,7 +119,7 @@ leads-there f z m (k ∷ ks) t n =
 
 -- all that steps compute with on a small store
 unfoldable pub computes : Type 0
-unfolding Update.upd Bit.bit Bit.putBit LayoutPart.over Space.changed Space.decide Space.puts Space.tab LayoutStep.andThen Sweep.sweep Find.key-index Find.find-at Find.rises Lists.insert-at Lists.pad Node.extra Node.free-node Node.keysOf Node.made Node.slotsOf Place.place NodesRange.node-in-range Stored.node-of Stored.words-of Entry.under Check.can-check Check.checked Check.mark-finding Check.held Check.mark-fits Check.mark-in Check.mark-place Check.standing Fresh.first-leaf HandOut.metadata-at HandOut.metadata-sound Lock.busy Lock.lock-in-range Lock.locked Lock.unlocked Object.lock-of Object.object-of Store.home-step Store.kept-of Store.lock-step Store.node-step Store.table-step Store.unlock-step Answered.answered Answered.enter-writes Answered.entered Answered.put-entry Answered.used-enter Commit.inner-at Copies.drop-node Course.decided Course.noted Drops.next-version Enter.enter-entries Enter.enter-read Enter.enter-used Enter.enter-write Fetched.copy-inner Fetched.fetched-meta Fetched.fetched-node Fits.fit-to-apply Fits.fit-to-commit Fits.fit-to-prepare Fits.fit-to-renew Fits.fit-to-unlock Fits.fit-to-work Fits.inner-renewal-fits Fits.is-read Fits.kind-fits Fits.number-fits Fits.numbers-fit Fits.op-fits Fits.read-fits Fits.renewal-fits Fits.servers-fit Fits.stored-record-fits Fits.version-fits Fits.write-fits Fits.writes-fit Fits.young Have.broken Have.copied Have.copied-meta Have.copied-node Have.have Have.look-fits Have.source Items.all-below Items.any-below Items.has Items.inner Items.inner-before-after Items.inner-in Life.give-part Life.reset ClientPart.nothing ClientPart.put-word ClientPart.put-fields ClientPart.put-item Participants.at-home Participants.committing Participants.lowest-of Participants.mask Participants.participants-of Record.children-there Record.kind-in-range Record.node-fits Record.record-in-range Record.whole-in-range Name.name-in-store Record.number-in-store Record.record-of Record.single Renew.drop-outer Renew.finish Renew.for-writes Renew.rank Renew.ranked Renew.renew Renew.renew-flag Renew.renew-kept Renew.renew-meta Renew.renew-nth Renew.renew-written ClientRun.among ClientRun.run Sets.count Sets.find Sets.first-of Sets.number-at Sets.record-at Work.any-at-last Work.count-new Work.versions-there Work.walked Work.worked Judge.holders-fit Judge.lock-fits Refusal.first Refusal.state-fits Refusal.kind-of Refusal.refusal Run.opened Steps.applied-at Steps.begin Steps.commit Steps.covers Steps.fetch Steps.give Steps.node-at Steps.prepare Steps.prepared-at Steps.step Steps.by-rule Steps.lacks-room Steps.work Uses.checked-at Uses.deciding Uses.each Uses.item-of Uses.least Uses.locked-at Uses.read-items Uses.used-items ledger-from Every Some node-in decLe ℕ-discrete
+unfolding Update.upd Bit.bit Bit.putBit LayoutPart.over Space.changed Space.decide Space.puts Space.tab LayoutStep.andThen Sweep.sweep Lists.insert-at Lists.pad Node.extra Node.free-node Node.keysOf Node.made Node.slotsOf Place.place Place.there-at Place.key-place Place.rises NodesRange.node-in-range Stored.node-of Stored.words-of Entry.under Check.can-check Check.checked Check.mark-finding Check.held Check.mark-fits Check.mark-in Check.mark-place Check.standing Fresh.first-leaf HandOut.metadata-at HandOut.metadata-sound Lock.busy Lock.lock-in-range Lock.locked Lock.unlocked Object.lock-of Object.object-of Store.home-step Store.kept-of Store.lock-step Store.node-step Store.table-step Store.unlock-step Answered.answered Answered.enter-writes Answered.entered Answered.put-entry Answered.used-enter Commit.inner-at Copies.drop-node Course.decided Course.noted Drops.next-version Enter.enter-entries Enter.enter-read Enter.enter-used Enter.enter-write Fetched.copy-inner Fetched.fetched-meta Fetched.fetched-node Fits.fit-to-apply Fits.fit-to-commit Fits.fit-to-prepare Fits.fit-to-renew Fits.fit-to-unlock Fits.fit-to-work Fits.inner-renewal-fits Fits.is-read Fits.kind-fits Fits.number-fits Fits.numbers-fit Fits.op-fits Fits.read-fits Fits.renewal-fits Fits.servers-fit Fits.stored-record-fits Fits.version-fits Fits.write-fits Fits.writes-fit Fits.young Have.broken Have.copied Have.copied-meta Have.copied-node Have.have Have.look-fits Have.source Items.all-below Items.any-below Items.has Items.inner Items.inner-before-after Items.inner-in Life.give-part Life.reset ClientPart.nothing ClientPart.put-word ClientPart.put-fields ClientPart.put-item Participants.at-home Participants.committing Participants.lowest-of Participants.mask Participants.participants-of Record.children-there Record.kind-in-range Record.node-fits Record.record-in-range Record.whole-in-range Name.name-in-store Record.number-in-store Record.record-of Record.single Renew.drop-outer Renew.finish Renew.for-writes Renew.rank Renew.ranked Renew.renew Renew.renew-flag Renew.renew-kept Renew.renew-meta Renew.renew-nth Renew.renew-written ClientRun.among ClientRun.run Sets.count Sets.find Sets.first-of Sets.number-at Sets.record-at Work.any-at-last Work.count-new Work.versions-there Work.walked Work.worked Judge.holders-fit Judge.lock-fits Refusal.first Refusal.state-fits Refusal.kind-of Refusal.refusal Run.opened Steps.applied-at Steps.begin Steps.commit Steps.covers Steps.fetch Steps.give Steps.node-at Steps.prepare Steps.prepared-at Steps.step Steps.by-rule Steps.lacks-room Steps.work Uses.checked-at Uses.deciding Uses.each Uses.item-of Uses.least Uses.locked-at Uses.read-items Uses.used-items ledger-from Every Some node-in decLe ℕ-discrete
 computes = Unit {0}
 
 -- one server of 4 slots, one client

@@ -11,13 +11,10 @@ use mathlib.Core.Bool.{Bool}
 use Rattle.nodes.specs.declared.node.Node.{Node}
 use Rattle.nodes.specs.Place.{place}
 use Rattle.nodes.specs.Node.{keysOf}
-use Rattle.nodes.specs.declared.found.Found.the-variants.{At, Absent}
-use Rattle.nodes.specs.Found.{found}
-use Rattle.nodes.specs.Find.{key-index}
 use Rattle.nodes.specs.Range.{fields-in-range, node-in-range}
 use Rattle.nodes.specs.Stored.{node-of, node-at}
 use Rattle.nodes.specs.Laws.Stored.{Sized, node-sized}
-use Rattle.nodes.specs.Laws.Find.{place-yes, place-no, other-key, this-key}
+use Rattle.nodes.specs.Laws.Place.{place-yes, place-no}
 
 module _ (w : List ℕ) (b : ℕ) where
   word-there : (i : ℕ) → i < 33 → getD (take 33 (drop b w)) i 0 ≡ getD w (b + i) 0
@@ -74,13 +71,6 @@ place-counted n c i k p e h g q = let z : i ≡ n .count = omega arith in rw (�
 
 pub place-within : (n : Node) (c i p : ℕ) → c ≡ n .count → i ≤ c → p ≤ i → p ≤ n .count
 place-within n c i p e h g = omega arith
-
-module _ (n : Node) (k p : ℕ) (e : p ≡ place (keysOf n) k) (h : p ≤ n .count) (z : p ≡ 0 → ⊥) (x : ℕ) (d : x ≡ getD (n .keys) (p - 1) 0) where
-  pub other-there : (x ≡ k → ⊥) → Absent ≡ found (key-index (keysOf n) k)
-  other-there q = other-key n k p e h z (λ t. q (d ∙ t))
-
-  pub this-there : x ≡ k → At (p - 1) ≡ found (key-index (keysOf n) k)
-  this-there q = this-key n k p e h z (sym d ∙ q)
 
 pub range-there : (n : Node) (k l v c : ℕ) (r : Bool) → k ≡ n .kind → l ≡ n .level → v ≡ n .version → c ≡ n .count → r ≡ fields-in-range k l v c → r ≡ node-in-range n
 unfolding node-in-range

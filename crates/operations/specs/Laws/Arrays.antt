@@ -8,9 +8,8 @@ use lib.Seq.{length-take-le, append-snoc, take-at, drop-at, set-at, set-append-s
 use Rattle.nodes.specs.Node.{extra}
 use Rattle.nodes.specs.Lists.{insert-at, remove-at}
 use Rattle.nodes.specs.Place.{place}
-use Rattle.nodes.specs.Find.{key-index}
 use Rattle.operations.specs.Object.{body}
-use Rattle.operations.specs.Entry.{Entries, keys, vals, zip, node-value, fewest-entries, most-entries, first-key-or, cut-at, cut, index, kind}
+use Rattle.operations.specs.Entry.{Entries, keys, vals, zip, node-value, fewest-entries, most-entries, first-key-or, cut-at, cut, kind}
 
 -- the entries of a node of level l that holds keys from lo on
 abbrev pub entries : ℕ → ℕ → List ℕ → List ℕ → Entries
@@ -113,10 +112,6 @@ most-is (suc l) = refl
 pub entries-length : (l lo : ℕ) (ks vs : List ℕ) → Sized l ks vs → length (entries l lo ks vs) ≡ at l (length ks)
 entries-length zero lo ks vs h = zip-length ks vs h
 entries-length (suc l) lo ks vs h = zip-length (lo ∷ ks) vs h
-
--- a key is searched among the stored ones
-pub index-is : (key lo : ℕ) (ks vs : List ℕ) → Sized zero ks vs → index key (entries zero lo ks vs) ≡ key-index ks key
-index-is key lo ks vs h = ap (λ z. key-index z key) (zip-keys-of ks vs h)
 
 -- SPLIT before key number i: the left half, and the right half with that key
 pub left-half : (l lo i : ℕ) (ks vs : List ℕ) → take (at l i) (entries l lo ks vs) ≡ entries l lo (take i ks) (take (at l i) vs)

@@ -1,11 +1,14 @@
 -- Chains of entries put together and taken apart, with their counts of names and gathered pairs.
 use mathlib.Core.Path.{_≡_, refl, ap, sym, _∙_, subst}
+use mathlib.Core.Bool.{Bool, true, _&&_}
 use mathlib.Core.List.{List, [], _∷_, _++_, append-assoc, map-map, map-append}
 use Prim.Native.Nat.{ℕ, zero, suc, _+_, _<_, _≤_}
 use native.Mathlib.Decide.{ℕ-discrete}
 use native.Mathlib.Omega.{arith}
+use borrow.Author.Tests.{lt-ltb}
 use lib.ListN.{length, take, drop, length-map}
 use Rattle.base.specs.Laws.Test.{ifd-yes, ifd-no}
+use Rattle.nodes.specs.Place.{first-above}
 use Rattle.operations.specs.Entry.{keys, first-key-or}
 use Rattle.operations.specs.Chain.{one, Chain, tally, gather, ren}
 
@@ -23,6 +26,11 @@ Rising a z (k ∷ ks) = (a ≤ k) × Rising (suc k) z ks
 pub rising-from : (a c z : ℕ) (ks : List ℕ) → a ≤ c → Rising c z ks → Rising a z ks
 rising-from a c z [] h g = omega arith
 rising-from a c z (k ∷ ks) h g = (omega (arith, g .0), g .1)
+
+-- each is above a key below a
+pub above-of : (key a z : ℕ) (ks : List ℕ) → key < a → Rising a z ks → first-above key ks ≡ true
+above-of key a z [] h r = refl
+above-of key a z (k ∷ ks) h r = ap (λ (b : Bool). b && first-above k ks) (lt-ltb key k (omega (arith, r .0))) ∙ above-of k (suc k) z ks (omega arith) (r .1)
 
 pub rising-le : (a z : ℕ) (ks : List ℕ) → Rising a z ks → a ≤ z
 rising-le a z [] h = h

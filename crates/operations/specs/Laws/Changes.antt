@@ -1,14 +1,15 @@
 -- Insert and delete on a snapshot that holds a tree.
 use mathlib.Core.Path.{_≡_, ap, sym, _∙_, subst}
+use mathlib.Core.Bool.{Bool, true, false}
 use mathlib.Core.List.{[], _++_}
-use mathlib.Core.Option.{Option, none, some}
-use Prim.Native.Nat.{ℕ, zero, suc, _+_, _<_, _≤_}
+use Prim.Native.Nat.{ℕ, zero, suc, _+_, _-_, _<_, _≤_}
 use native.Mathlib.Omega.{arith}
 use lib.ListN.{length}
+use Rattle.nodes.specs.declared.standing.KeyPlace.{KeyPlace}
 use Rattle.nodes.specs.Lists.{remove-at}
 use Rattle.operations.specs.Object.{Obj, node, flag, Val, Ans, Writes}
 use Rattle.operations.specs.Map.{Map, look, set-key, remove-key, fresh, gone, two-to-64}
-use Rattle.operations.specs.Entry.{Entries, first-key-or, index, value-at, value-in, with-pair}
+use Rattle.operations.specs.Entry.{Entries, first-key-or, place-in, value-at, value-in, with-pair}
 use Rattle.operations.specs.Slot.{TreeSizes, Allowed}
 use Rattle.operations.specs.Change.{up, insert-plan, delete-at, delete-plan}
 use Rattle.operations.specs.Chain.{one, Chain, tally}
@@ -81,17 +82,17 @@ module _ (F : Terms) (sz : TreeSizes) (al : Allowed sz) (M : Obj → Val) (suppl
       Q : Ans → Writes → Type 0
       Q = Ends M (remove-key key m) (gone (look key m))
 
-      by : (p : Path zero) (es : Entries) → Site M m key zero p es → (o : Option ℕ) → value-at es o ≡ look key m → removed key es o ≡ remove-key key es
-          → Ok F Q M (delete-at sz (branches zero p) (nm zero p) es o)
-      by p es s none e d = (ap gone e, subst (λ z. Rep M z) (sym (del-absent key m (sym e))) R)
-      by p es s (some i) e d =
+      by : (p : Path zero) (es : Entries) → Site M m key zero p es → (i : ℕ) (t : Bool)
+          → (let o : KeyPlace = record { place = i; there = t } in value-at es o ≡ look key m → removed key es o ≡ remove-key key es → Ok F Q M (delete-at sz (branches zero p) (nm zero p) es o))
+      by p es s i false e d = (ap gone e, subst (λ z. Rep M z) (sym (del-absent key m (sym e))) R)
+      by p es s i true e d =
           let n = del-len key es in
           let b = hi zero p in
-          subst (λ a. Ok F Q M (up sz a zero (branches zero p) [] (nm zero p) (remove-at i es))) (sym (ap gone e))
+          subst (λ a. Ok F Q M (up sz a zero (branches zero p) [] (nm zero p) (remove-at (i - 1) es))) (sym (ap gone e))
           (subst (λ z. Ok F Q M (up sz (gone (look key m)) zero (branches zero p) [] (nm zero p) z)) (sym d)
           (leaf-up (remove-key key m) (gone (look key m)) p es (remove-key key es) s (del-chain key b es (s .focus .segs)) (del-from key (lo zero p) b es (s .focus .segs) (s .focus .from))
           (sym (del-mid key (left zero p) es (right zero p) (site-left M m key zero p es small s) (site-right M m key zero p es small s)) ∙ ap (remove-key key) (site-map M m key p es s))
           (near-less p (length (remove-key key es)) (omega (arith, s .least, n))) (omega (arith, s .most, n))))
 
-      at : (p : Path zero) (es : Entries) → Site M m key zero p es → Ok F Q M (delete-at sz (branches zero p) (nm zero p) es (index key es))
-      at p es s = by p es s (index key es) (site-look p es s) (del-is key (first-key-or es (hi zero p)) (hi zero p) es (site-rising M m key zero p es s))
+      at : (p : Path zero) (es : Entries) → Site M m key zero p es → Ok F Q M (delete-at sz (branches zero p) (nm zero p) es (place-in key es))
+      at p es s = by p es s (place-in key es .place) (place-in key es .there) (site-look p es s) (del-is key (first-key-or es (hi zero p)) (hi zero p) es (site-rising M m key zero p es s))

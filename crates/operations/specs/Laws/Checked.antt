@@ -5,16 +5,16 @@ use mathlib.Core.List.{List, [], _∷_}
 use mathlib.Core.Logic.{inl, inr}
 use Prim.Native.Nat.{ℕ, suc, _+_}
 use native.Mathlib.Decide.{decLe}
-use borrow.Author.Tests.{lt-ltb}
+use native.Mathlib.Omega.{arith}
 use Rattle.base.specs.Laws.Test.{of-yes}
 use Rattle.base.specs.Test.{yes?}
-use Rattle.nodes.specs.Find.{first-above, rises}
+use Rattle.nodes.specs.Place.{rises}
 use Rattle.operations.specs.Object.{Obj, meta, node, flag, object, vector, fetched, Val, keys-of, level-of, no-tree, Ans, Writes, hit, over, written-value}
 use Rattle.operations.specs.Laws.Object.{written}
 use Rattle.operations.specs.Map.{Map, two-to-64}
 use Rattle.operations.specs.Path.{TreePlan}
 use Rattle.operations.specs.Operation.{fits?, all-fit?, checked}
-use Rattle.operations.specs.Laws.Chain.{Rising}
+use Rattle.operations.specs.Laws.Chain.{Rising, above-of}
 use Rattle.operations.specs.Chain.{one, tally}
 use Rattle.operations.specs.Laws.Hit.{hit-self}
 use Rattle.operations.specs.Laws.Written.{over-is}
@@ -33,14 +33,10 @@ checked-ok F Q M f (P.ask (fetched s) k) h = λ v t. checked-ok F Q M f (k v) (h
 checked-ok F Q M f (P.done r) h = subst (λ b. Ok F Q M (cond b (P.done r) (P.fail no-tree))) (sym (f (r .0) (r .1) h)) h
 checked-ok F Q M f (P.fail y) h = h
 
-above-of : (k z : ℕ) (ks : List ℕ) → Rising (suc k) z ks → first-above k ks ≡ true
-above-of k z [] h = refl
-above-of k z (j ∷ ks) h = ap (λ b. b && first-above j ks) (lt-ltb k j (h .0)) ∙ above-of j z ks (h .1)
-
 rise-of : (a z : ℕ) (ks : List ℕ) → Rising a z ks → rises ks ≡ true
 unfolding rises
 rise-of a z [] h = refl
-rise-of a z (k ∷ ks) h = above-of k z ks (h .1)
+rise-of a z (k ∷ ks) h = above-of k (suc k) z ks (omega arith) (h .1)
 
 -- every object of w is written by all
 abbrev Among : Writes → Writes → Type 0

@@ -4,21 +4,21 @@ use mathlib.Core.Path.{_≡_, refl, ap, sym, _∙_, subst}
 use mathlib.Core.Bool.{Bool, true, false, cond, not}
 use mathlib.Core.List.{List, [], _∷_, _++_, reverse}
 use mathlib.Core.Logic.{_⊎_, inl, inr}
-use mathlib.Core.Option.{Option, none, some}
+use mathlib.Core.Option.{some}
 use Prim.Native.Nat.{ℕ, zero, suc, _+_, _-_, _<_, _≤_}
 use native.Mathlib.Decide.{ℕ-discrete, decLt, decLe}
 use native.Mathlib.Omega.{arith}
-use lib.Dec.{T, leb, eqb, le→leb, leb→le, not-T, eqb·suc-zero, leb·suc-suc}
-use borrow.Author.Tests.{eq-eqb, ne-eqb}
-use lib.ListN.{length, take, drop, getD}
+use lib.Dec.{T, leb, le→leb, leb→le, not-T, leb·suc-suc}
+use lib.ListN.{length, take, drop}
 use Rattle.base.specs.Test.{ifd, one-if}
 use Rattle.base.specs.Laws.Test.{ifd-yes, ifd-no}
 use Rattle.nodes.specs.Lists.{insert-at, remove-at}
-use Rattle.nodes.specs.Place.{place}
-use Rattle.nodes.specs.Find.{key-index, find-at}
+use Rattle.nodes.specs.declared.standing.KeyPlace.{KeyPlace}
+use Rattle.nodes.specs.Place.{place, there-at, key-place}
+use Rattle.nodes.specs.Laws.Place.{later, counted, none-counted, key-below, key-here, key-above}
 use Rattle.operations.specs.Map.{look, set-key, remove-key}
-use Rattle.operations.specs.Entry.{Entries, keys, first-key-or, Cut, cut-at, cut, index, value-at, value-in, with-at, with-pair, under, above-in, below-in}
-use Rattle.operations.specs.Laws.Chain.{Rising, ren-keys}
+use Rattle.operations.specs.Entry.{Entries, keys, first-key-or, Cut, cut-at, cut, place-in, value-at, value-in, with-at, with-pair, under, above-in, below-in}
+use Rattle.operations.specs.Laws.Chain.{Rising, above-of, ren-keys}
 use Rattle.operations.specs.Laws.Picked.{picked}
 use Rattle.operations.specs.Chain.{ren}
 
@@ -32,19 +32,8 @@ counts-not true n t = absurd t
 counts-not false n t = omega arith
 
 module _ (key : ℕ) where
-  pub place-le : (x : ℕ) (ks : List ℕ) → x ≤ key → place (x ∷ ks) key ≡ suc (place ks key)
-  unfolding place
-  place-le x ks h = counts (leb x key) (place ks key) (le→leb x key h)
-
-  place-gt : (x : ℕ) (ks : List ℕ) → ¬ (x ≤ key) → place (x ∷ ks) key ≡ place ks key
-  unfolding place
-  place-gt x ks h = counts-not (leb x key) (place ks key) (not-T (leb x key) (λ t. h (leb→le x key t)))
-
-  -- no key is counted where all are above
   pub place-none : (a z : ℕ) (ks : List ℕ) → key < a → Rising a z ks → place ks key ≡ 0
-  unfolding place
-  place-none a z [] h r = refl
-  place-none a z (x ∷ ks) h r = place-gt x ks (λ q. absurd (omega (arith, q, r .0, h))) ∙ place-none (suc x) z ks (omega (arith, r .0, h)) (r .1)
+  place-none a z ks h r = none-counted key ks (above-of key a z ks h r)
 
   under-lt : (x : ℕ) (ks : List ℕ) → x < key → under (x ∷ ks) key ≡ suc (under ks key)
   unfolding under
@@ -79,7 +68,7 @@ module _ {A : Type 0} where
   cut-app key e es = cut-at-app (place (keys es) key) e es
 
   cut-on : (key : ℕ) (e f : ℕ × A) (es : List (ℕ × A)) → f .0 ≤ key → cut key e (f ∷ es) ≡ (e ∷ cut key f es .0, cut key f es .1, cut key f es .2)
-  cut-on key e f es h = ap (λ i. cut-at i e (f ∷ es)) (place-le key (f .0) (keys es) h)
+  cut-on key e f es h = ap (λ i. cut-at i e (f ∷ es)) (counted key (f .0) (keys es) h)
 
   cut-here : (key a z : ℕ) (e : ℕ × A) (es : List (ℕ × A)) → key < a → Rising a z (keys es) → cut key e es ≡ ([], e, es)
   cut-here key a z e es h r = ap (λ i. cut-at i e es) (place-none key a z (keys es) h r)
@@ -116,53 +105,7 @@ module _ {A B : Type 0} (w : A → B) where
   ren-cut key e es = ap (λ ks. cut-at (place ks key) (e .0, w (e .1)) (ren w es)) (ren-keys w es) ∙ cut-at-ren (place (keys es) key) e es
 
 -- LEAVES
-abbrev later : Option ℕ → Option ℕ
-later none = none
-later (some i) = some (suc i)
-
--- the search for a key, by its place
-abbrev index-at : ℕ → List ℕ → ℕ → Option ℕ
-index-at key ks zero = none
-index-at key ks (suc i) = ifd (ℕ-discrete (getD ks i 0) key) (some i) none
-
-find-is : (key : ℕ) (ks : List ℕ) → key-index ks key ≡ index-at key ks (place ks key)
-unfolding key-index find-at
-find-is key ks = go (place ks key)
-  where
-    go : (p : ℕ) → find-at ks key p ≡ index-at key ks p
-    go zero = refl
-    go (suc i) =
-        let e : suc i - 1 ≡ i = omega arith in
-        ap (λ b. cond b none (cond (eqb (getD ks (suc i - 1) 0) key) (some (suc i - 1)) none)) (eqb·suc-zero i)
-        ∙ ap (λ n. cond (eqb (getD ks n 0) key) (some n) none) e ∙ by (ℕ-discrete (getD ks i 0) key)
-      where
-        by : (d : Dec (getD ks i 0 ≡ key)) → cond (eqb (getD ks i 0) key) (some i) none ≡ ifd d (some i) none
-        by (yes q) = ap (λ b. cond b (some i) none) (eq-eqb (getD ks i 0) key q)
-        by (no q) = ap (λ b. cond b (some i) none) (ne-eqb (getD ks i 0) key q)
-
 module _ (key : ℕ) where
-  -- the index of the key where the first key is below, equal, above
-  index-lt : (e : ℕ × ℕ) (es : Entries) → e .0 < key → index key (e ∷ es) ≡ later (index key es)
-  index-lt e es h =
-      find-is key (keys (e ∷ es)) ∙ ap (index-at key (keys (e ∷ es))) (place-le key (e .0) (keys es) (omega (arith, h))) ∙ go (place (keys es) key)
-      ∙ sym (ap later (find-is key (keys es)))
-    where
-      go : (p : ℕ) → index-at key (keys (e ∷ es)) (suc p) ≡ later (index-at key (keys es) p)
-      go zero = ifd-no (ℕ-discrete (e .0) key) (some 0) none (λ q. absurd (omega (arith, q, h)))
-      go (suc i) = by (ℕ-discrete (getD (keys es) i 0) key)
-        where
-          by : {P : Type 0} (d : Dec P) → ifd d (some (suc i)) none ≡ later (ifd d (some i) none)
-          by (yes p) = refl
-          by (no q) = refl
-
-  index-eq : (z : ℕ) (e : ℕ × ℕ) (es : Entries) → e .0 ≡ key → Rising (suc (e .0)) z (keys es) → index key (e ∷ es) ≡ some 0
-  index-eq z e es h r =
-      find-is key (keys (e ∷ es)) ∙ ap (index-at key (keys (e ∷ es))) (place-le key (e .0) (keys es) (omega (arith, h)) ∙ ap suc (place-none key (suc (e .0)) z (keys es) (omega (arith, h)) r))
-      ∙ ifd-yes (ℕ-discrete (e .0) key) (some 0) none h
-
-  index-gt : (a z : ℕ) (es : Entries) → key < a → Rising a z (keys es) → index key es ≡ none
-  index-gt a z es h r = find-is key (keys es) ∙ ap (index-at key (keys es)) (place-none key a z (keys es) h r)
-
   abbrev Side : ℕ → Type 0
   Side x = (x < key) ⊎ ((x ≡ key) ⊎ (key < x))
 
@@ -174,68 +117,102 @@ module _ (key : ℕ) where
       go (no p) (yes q) = inr (inl q)
       go (no p) (no q) = inr (inr (omega (arith, p, q)))
 
+  -- the place of the key where the first key is below, equal, above
+  module _ (z : ℕ) (e : ℕ × ℕ) (es : Entries) (r : Rising (suc (e .0)) z (keys es)) where
+    in-later : e .0 < key → place-in key (e ∷ es) ≡ later (place-in key es)
+    in-later h = key-below key (e .0) (keys es) h
+
+    in-first : e .0 ≡ key → place-in key (e ∷ es) ≡ record { place = 1; there = true }
+    in-first h = key-here key (e .0) (keys es) h (above-of (e .0) (suc (e .0)) z (keys es) (omega arith) r)
+
+    in-none : key < e .0 → place-in key (e ∷ es) ≡ record { place = 0; there = false }
+    in-none h = key-above key (keys (e ∷ es)) (above-of key (e .0) z (keys (e ∷ es)) h (omega arith, r))
+
+    in-rest : key < e .0 → record { place = 0; there = false } ≡ place-in key es
+    in-rest h = sym (key-above key (keys es) (above-of key (suc (e .0)) z (keys es) (omega arith) r))
+
+  -- an answer by the place i
+  abbrev at : Entries → ℕ → KeyPlace
+  at es i = record { place = i; there = there-at (keys es) key i }
+
   pub look-is : (a z : ℕ) (es : Entries) → Rising a z (keys es) → value-in key es ≡ look key es
-  unfolding place key-index find-at
+  unfolding place key-place there-at
   look-is a z [] r = refl
   look-is a z (e ∷ es) r = go (side (e .0)) (look-is (suc (e .0)) z es (r .1))
     where
-      shift : (o : Option ℕ) → value-at (e ∷ es) (later o) ≡ value-at es o
-      shift none = refl
-      shift (some i) = refl
+      shift : (i : ℕ) → value-at (e ∷ es) (later (at es i)) ≡ value-at es (at es i)
+      shift zero = refl
+      shift (suc i) =
+          let m : suc (suc i) - 1 ≡ suc i = omega arith in
+          let n : suc i - 1 ≡ i = omega arith in
+          rw (m, n)
+
+      other : ¬ (e .0 ≡ key) → look key es ≡ look key (e ∷ es)
+      other q = sym (ifd-no (ℕ-discrete (e .0) key) (some (e .1)) (look key es) q)
 
       go : Side (e .0) → value-in key es ≡ look key es → value-in key (e ∷ es) ≡ look key (e ∷ es)
-      go (inl h) rec = ap (value-at (e ∷ es)) (index-lt e es h) ∙ shift (index key es) ∙ rec
-          ∙ sym (ifd-no (ℕ-discrete (e .0) key) (some (e .1)) (look key es) (λ q. absurd (omega (arith, q, h))))
-      go (inr (inl h)) rec = ap (value-at (e ∷ es)) (index-eq z e es h (r .1)) ∙ sym (ifd-yes (ℕ-discrete (e .0) key) (some (e .1)) (look key es) h)
-      go (inr (inr h)) rec = ap (value-at (e ∷ es)) (index-gt (e .0) z (e ∷ es) h (omega arith, r .1))
-          ∙ sym (ap (value-at es) (index-gt (suc (e .0)) z es (omega (arith, h)) (r .1))) ∙ rec
-          ∙ sym (ifd-no (ℕ-discrete (e .0) key) (some (e .1)) (look key es) (λ q. absurd (omega (arith, q, h))))
+      go (inl h) rec = ap (value-at (e ∷ es)) (in-later z e es (r .1) h) ∙ shift (place (keys es) key) ∙ rec ∙ other (λ q. absurd (omega (arith, q, h)))
+      go (inr (inl h)) rec = ap (value-at (e ∷ es)) (in-first z e es (r .1) h) ∙ sym (ifd-yes (ℕ-discrete (e .0) key) (some (e .1)) (look key es) h)
+      go (inr (inr h)) rec = ap (value-at (e ∷ es)) (in-none z e es (r .1) h) ∙ ap (value-at es) (in-rest z e es (r .1) h) ∙ rec ∙ other (λ q. absurd (omega (arith, q, h)))
 
   pub put-is : (v a z : ℕ) (es : Entries) → Rising a z (keys es) → with-pair key v es ≡ set-key key v es
-  unfolding place key-index find-at insert-at
+  unfolding place key-place there-at insert-at
   put-is v a z [] r = refl
   put-is v a z (e ∷ es) r = go (side (e .0)) (put-is v (suc (e .0)) z es (r .1))
     where
       new : Entries
       new = (key, v) ∷ e ∷ es
 
-      shift : e .0 < key → (o : Option ℕ) → with-at key v (e ∷ es) (later o) ≡ e ∷ with-at key v es o
-      shift h none = ap (λ p. insert-at p (key, v) (e ∷ es)) (place-le key (e .0) (keys es) (omega (arith, h)))
-      shift h (some i) = refl
+      shift : (i : ℕ) → with-at key v (e ∷ es) (later (at es i)) ≡ e ∷ with-at key v es (at es i)
+      shift zero = refl
+      shift (suc i) = by (there-at (keys es) key (suc i))
+        where
+          by : (t : Bool) → with-at key v (e ∷ es) (record { place = suc (suc i); there = t }) ≡ e ∷ with-at key v es (record { place = suc i; there = t })
+          by true =
+              let m : suc (suc i) - 1 ≡ suc i = omega arith in
+              let n : suc i - 1 ≡ i = omega arith in
+              rw (m, n)
+          by false = refl
 
       go : Side (e .0) → with-pair key v es ≡ set-key key v es → with-pair key v (e ∷ es) ≡ set-key key v (e ∷ es)
-      go (inl h) rec = ap (with-at key v (e ∷ es)) (index-lt e es h) ∙ shift h (index key es) ∙ ap (λ q. e ∷ q) rec
+      go (inl h) rec = ap (with-at key v (e ∷ es)) (in-later z e es (r .1) h) ∙ shift (place (keys es) key) ∙ ap (λ q. e ∷ q) rec
           ∙ sym (ifd-yes (decLt (e .0) key) (e ∷ set-key key v es) (ifd (ℕ-discrete (e .0) key) ((key, v) ∷ es) new) h)
-      go (inr (inl h)) rec = ap (with-at key v (e ∷ es)) (index-eq z e es h (r .1))
+      go (inr (inl h)) rec = ap (with-at key v (e ∷ es)) (in-first z e es (r .1) h)
           ∙ sym (ifd-no (decLt (e .0) key) (e ∷ set-key key v es) (ifd (ℕ-discrete (e .0) key) ((key, v) ∷ es) new) (λ q. absurd (omega (arith, q, h)))
           ∙ ifd-yes (ℕ-discrete (e .0) key) ((key, v) ∷ es) new h)
-      go (inr (inr h)) rec = ap (with-at key v (e ∷ es)) (index-gt (e .0) z (e ∷ es) h (omega arith, r .1))
-          ∙ ap (λ p. insert-at p (key, v) (e ∷ es)) (place-none key (e .0) z (keys (e ∷ es)) h (omega arith, r .1))
+      go (inr (inr h)) rec = ap (with-at key v (e ∷ es)) (in-none z e es (r .1) h)
           ∙ sym (ifd-no (decLt (e .0) key) (e ∷ set-key key v es) (ifd (ℕ-discrete (e .0) key) ((key, v) ∷ es) new) (λ q. absurd (omega (arith, q, h)))
           ∙ ifd-no (ℕ-discrete (e .0) key) ((key, v) ∷ es) new (λ q. absurd (omega (arith, q, h))))
 
-  -- the entries without the one at an index, if there is one
-  abbrev pub removed : Entries → Option ℕ → Entries
-  removed es none = es
-  removed es (some i) = remove-at i es
+  -- the entries without the one at a place, if the key is there
+  abbrev pub removed : Entries → KeyPlace → Entries
+  removed es p = cond (p .there) (remove-at (p .place - 1) es) es
 
-  pub del-is : (a z : ℕ) (es : Entries) → Rising a z (keys es) → removed es (index key es) ≡ remove-key key es
-  unfolding place key-index find-at remove-at
+  pub del-is : (a z : ℕ) (es : Entries) → Rising a z (keys es) → removed es (place-in key es) ≡ remove-key key es
+  unfolding place key-place there-at remove-at
   del-is a z [] r = refl
   del-is a z (e ∷ es) r = go (side (e .0)) (del-is (suc (e .0)) z es (r .1))
     where
-      shift : (o : Option ℕ) → removed (e ∷ es) (later o) ≡ e ∷ removed es o
-      shift none = refl
-      shift (some i) = let n : suc i + 1 ≡ suc (i + 1) = omega arith in ap (λ n. take (suc i) (e ∷ es) ++ drop n (e ∷ es)) n
+      shift : (i : ℕ) → removed (e ∷ es) (later (at es i)) ≡ e ∷ removed es (at es i)
+      shift zero = refl
+      shift (suc i) = by (there-at (keys es) key (suc i))
+        where
+          by : (t : Bool) → removed (e ∷ es) (record { place = suc (suc i); there = t }) ≡ e ∷ removed es (record { place = suc i; there = t })
+          by true =
+              let m : suc (suc i) - 1 ≡ suc i = omega arith in
+              let n : suc i - 1 ≡ i = omega arith in
+              let o : suc i + 1 ≡ suc (i + 1) = omega arith in
+              rw (m, n, o)
+          by false = refl
 
-      kept : ¬ (e .0 ≡ key) → e ∷ remove-key key es ≡ remove-key key (e ∷ es)
-      kept q = sym (ifd-no (ℕ-discrete (e .0) key) es (e ∷ remove-key key es) q)
+      other : ¬ (e .0 ≡ key) → e ∷ remove-key key es ≡ remove-key key (e ∷ es)
+      other q = sym (ifd-no (ℕ-discrete (e .0) key) es (e ∷ remove-key key es) q)
 
-      go : Side (e .0) → removed es (index key es) ≡ remove-key key es → removed (e ∷ es) (index key (e ∷ es)) ≡ remove-key key (e ∷ es)
-      go (inl h) rec = ap (removed (e ∷ es)) (index-lt e es h) ∙ shift (index key es) ∙ ap (λ q. e ∷ q) rec ∙ kept (λ q. absurd (omega (arith, q, h)))
-      go (inr (inl h)) rec = ap (removed (e ∷ es)) (index-eq z e es h (r .1)) ∙ sym (ifd-yes (ℕ-discrete (e .0) key) es (e ∷ remove-key key es) h)
-      go (inr (inr h)) rec = ap (removed (e ∷ es)) (index-gt (e .0) z (e ∷ es) h (omega arith, r .1))
-          ∙ ap (λ q. e ∷ q) (sym (ap (removed es) (index-gt (suc (e .0)) z es (omega (arith, h)) (r .1))) ∙ rec) ∙ kept (λ q. absurd (omega (arith, q, h)))
+      go : Side (e .0) → removed es (place-in key es) ≡ remove-key key es → removed (e ∷ es) (place-in key (e ∷ es)) ≡ remove-key key (e ∷ es)
+      go (inl h) rec = ap (removed (e ∷ es)) (in-later z e es (r .1) h) ∙ shift (place (keys es) key) ∙ ap (λ q. e ∷ q) rec ∙ other (λ q. absurd (omega (arith, q, h)))
+      go (inr (inl h)) rec = ap (removed (e ∷ es)) (in-first z e es (r .1) h) ∙ sym (ifd-yes (ℕ-discrete (e .0) key) es (e ∷ remove-key key es) h)
+      go (inr (inr h)) rec = ap (removed (e ∷ es)) (in-none z e es (r .1) h) ∙ ap (λ q. e ∷ q) (ap (removed es) (in-rest z e es (r .1) h) ∙ rec)
+          ∙ other (λ q. absurd (omega (arith, q, h)))
 
   -- what is picked from a leaf's pairs by a bound for their keys
   pub drop-is : (a z : ℕ) (es : Entries) → Rising a z (keys es) → drop (under (keys es) key) es ≡ picked (decLe key) es

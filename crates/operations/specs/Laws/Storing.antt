@@ -1,5 +1,6 @@
 -- What is asked for and written, as in file Storable: the way up of insert and delete, and migrate. The theorems.
 use mathlib.Core.Path.{_≡_, refl, ap, subst}
+use mathlib.Core.Bool.{Bool, true, false}
 use mathlib.Core.List.{List, [], _∷_, _++_}
 use mathlib.Core.Option.{Option, none, some}
 use Prim.Native.Nat.{ℕ, zero, suc, _+_, _-_, _≤_, _<_}
@@ -15,7 +16,7 @@ use Rattle.nodes.specs.Place.{place}
 use Rattle.nodes.specs.Placement.{row}
 use Rattle.operations.specs.Object.{Obj, meta, node, Ask, object, vector, fetched, Val, root, body, taken, flags, no-tree, Ans, Writes}
 use Rattle.operations.specs.Map.{Op, insert, lookup, delete, next, previous, migrate, list, fresh, said, gone, listed}
-use Rattle.operations.specs.Entry.{Entries, keys, node-value, fewest-entries, most-entries, first-key-or, cut, index, value-in, with-at, with-pair}
+use Rattle.operations.specs.Entry.{Entries, node-value, fewest-entries, most-entries, first-key-or, cut, place-in, value-in, with-at, with-pair}
 use Rattle.operations.specs.Path.{TreePlan, when-root, Branch}
 use Rattle.operations.specs.Slot.{TreeSizes, present, take-for, take-node, release}
 use Rattle.operations.specs.Laws.Slots.{present-below}
@@ -75,12 +76,11 @@ gone-form (some v) = refl
 -- a pair put into a leaf, or taken out
 with-few : (key v : ℕ) (es : Entries) → length (with-pair key v es) ≤ suc (length es)
 unfolding L.insert-at
-with-few key v es = go (index key es)
+with-few key v es = go (place-in key es .place) (place-in key es .there)
   where
-    go : (o : Option ℕ) → length (with-at key v es o) ≤ suc (length es)
-    go none =
-        let i = place (keys es) key in omega (arith, length-append (take i es) ((key, v) ∷ drop i es), length-take i es, length-drop i es)
-    go (some i) = omega (arith, length-set es i (key, v))
+    go : (i : ℕ) (t : Bool) → length (with-at key v es (record { place = i; there = t })) ≤ suc (length es)
+    go i false = omega (arith, length-append (take i es) ((key, v) ∷ drop i es), length-take i es, length-drop i es)
+    go i true = omega (arith, length-set es (i - 1) (key, v))
 
 remove-few : (i : ℕ) (es : Entries) → length (remove-at i es) ≤ length es
 unfolding remove-at
@@ -248,9 +248,10 @@ module _ (T : Scope) where
   leaf-risen : (es : Entries) → length es ≤ 15 → Risen 0 es
   leaf-risen es h = record { some-child = omega arith; few = omega arith; children = every-any _ (λ _. tt) es }
 
-  delete-ok : ((o : Option ℕ) → T .A (gone o)) → (fs : List Branch) (n : ℕ) (es : Entries) (o : Option ℕ) → Path T fs → Met T n → (Z → Sized T 0 es) → Ok T (delete-at sz fs n es o)
-  delete-ok a fs n es none p m s = (a none, tt)
-  delete-ok a fs n es (some i) p m s = up-ok (1, 0, []) (a (some 0)) fs zero [] n (remove-at i es) tt p m (λ z. leaf-risen (remove-at i es) (omega (arith, remove-few i es, s z .few)))
+  delete-ok : ((o : Option ℕ) → T .A (gone o)) → (fs : List Branch) (n : ℕ) (es : Entries) (i : ℕ) (t : Bool) → Path T fs → Met T n → (Z → Sized T 0 es)
+      → Ok T (delete-at sz fs n es (record { place = i; there = t }))
+  delete-ok a fs n es i false p m s = (a none, tt)
+  delete-ok a fs n es i true p m s = up-ok (1, 0, []) (a (some 0)) fs zero [] n (remove-at (i - 1) es) tt p m (λ z. leaf-risen (remove-at (i - 1) es) (omega (arith, remove-few (i - 1) es, s z .few)))
 
   -- ---- MIGRATE
   module _ (n s : ℕ) (server : Z → s < sz .servers) (m : Met T n) (v : Val) (kept : Z → Storable N (node n) v) (fine : (i d : ℕ) → T .A (i, d, [])) where
@@ -304,7 +305,7 @@ module _ (T : Scope) where
   reading-ok (insert k v) h a = leaf-ok T k _ (λ fs n es p m s.
       up-ok (fresh (value-in k es)) (a (fresh (value-in k es)) (fresh-form (value-in k es))) fs zero [] n (with-pair k v es) tt p m (λ z. leaf-risen (with-pair k v es) (omega (arith, with-few k v es, s z .few))))
   reading-ok (lookup k) h a = lookup-quiet T k (λ o. a (said o) (said-form o))
-  reading-ok (delete k) h a = leaf-ok T k _ (λ fs n es p m s. delete-ok (λ o. a (gone o) (gone-form o)) fs n es (index k es) p m s)
+  reading-ok (delete k) h a = leaf-ok T k _ (λ fs n es p m s. delete-ok (λ o. a (gone o) (gone-form o)) fs n es (place-in k es .place) (place-in k es .there) p m s)
   reading-ok (next k) h a = next-quiet T k (λ o. a (said o) (said-form o))
   reading-ok (previous k) h a = previous-quiet T k (λ o. a (said o) (said-form o))
   reading-ok (list k n) h a = list-quiet T k n (λ l. a (listed l) refl)

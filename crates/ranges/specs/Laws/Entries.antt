@@ -18,7 +18,7 @@ use Rattle.plans.specs.Walk.{Every}
 use Rattle.nodes.specs.declared.node.Node.{Node}
 use Rattle.nodes.specs.declared.found.Found.{Found}
 use Rattle.nodes.specs.declared.found.Found.the-variants.{At, Absent}
-use Rattle.nodes.specs.Find.{rises}
+use Rattle.nodes.specs.Place.{rises}
 use Rattle.nodes.specs.Lists.{pad}
 use Rattle.nodes.specs.Node.{slotsOf, made}
 use Rattle.nodes.specs.Laws.Node.{slots-made}

@@ -14,7 +14,8 @@ use Rattle.base.specs.Test.{ifd}
 use Rattle.base.specs.Laws.Test.{ifd-yes, ifd-no}
 use Rattle.nodes.specs.declared.node.Node.{Node}
 use Rattle.nodes.specs.Place.{place}
-use Rattle.nodes.specs.Find.{key-index}
+use Rattle.nodes.specs.Place.{place, key-place}
+use Rattle.nodes.specs.Laws.Place.{place-within, yes-says}
 use Rattle.nodes.specs.Node.{extra, keysOf, slotsOf}
 use Rattle.nodes.specs.Laws.Node.{extra-le}
 use Rattle.nodes.specs.Entries.{entries, entriesOf}
@@ -22,7 +23,7 @@ use Rattle.nodes.specs.Laws.Entries.{entries-keys, entries-slots}
 use Rattle.nodes.specs.Kept.{Whole}
 use Rattle.nodes.specs.Laws.Kept.{length-entriesOf}
 use Rattle.operations.specs.Object.{node, body, no-tree}
-use Rattle.operations.specs.Entry.{Entries, zip, keys, vals, node-value, fewest-entries, cut-at, index, value-in}
+use Rattle.operations.specs.Entry.{Entries, zip, keys, vals, node-value, fewest-entries, cut-at, place-in, value-at, value-in}
 use Rattle.operations.specs.Path.{TreePlan, open-node, kid, Branch, Cont, down}
 use Rattle.client.specs.Record.{value-of}
 use Rattle.walk.specs.Entries.{opens-with, opens, below-with, below, Inner, branch-of, Below}
@@ -235,13 +236,21 @@ module _ (n : Node) (lo key : ℕ) (f : Whole n) (l : Leaf n) where
   pub leaf-keys : keys (entriesOf n lo) ≡ keysOf n
   leaf-keys = rw (entry-keys n lo f, extra-leaf n l)
 
-  pub leaf-index : index key (entriesOf n lo) ≡ key-index (keysOf n) key
-  leaf-index = rw leaf-keys
+  pub leaf-place : place-in key (entriesOf n lo) ≡ key-place (keysOf n) key
+  leaf-place = rw leaf-keys
 
-  pub leaf-value : (i : ℕ) → key-index (keysOf n) key ≡ some i → i < n .count → value-in key (entriesOf n lo) ≡ some (getD (n .slots) i 0)
-  leaf-value i e h =
-      let a : getD (vals (entriesOf n lo)) i 0 ≡ getD (entriesOf n lo) i (0, 0) .1 = List·getD-map (λ (e : ℕ × ℕ). e .1) (entriesOf n lo) i (0, 0) in
-      rw (leaf-index, e, a, entry-slot n lo f i (omega arith))
+  -- the value is that of the node's slot
+  pub leaf-value : value-in key (entriesOf n lo) ≡ cond (key-place (keysOf n) key .there) (some (getD (n .slots) (place (keysOf n) key - 1) 0)) none
+  unfolding key-place
+  leaf-value = ap (value-at (entriesOf n lo)) leaf-place ∙ go (key-place (keysOf n) key .there) refl
+    where
+      i : ℕ
+      i = place (keysOf n) key - 1
 
-  pub leaf-absent : key-index (keysOf n) key ≡ none → value-in key (entriesOf n lo) ≡ none
-  leaf-absent e = rw (leaf-index, e)
+      go : (t : Bool) → key-place (keysOf n) key .there ≡ t → cond t (some (getD (vals (entriesOf n lo)) i 0)) none ≡ cond t (some (getD (n .slots) i 0)) none
+      go true e =
+          let y = yes-says (keysOf n) key e in
+          let h : i < n .count = omega (arith, y .not-zero, place-within (keysOf n) key, f .keys) in
+          let a : getD (vals (entriesOf n lo)) i 0 ≡ getD (entriesOf n lo) i (0, 0) .1 = List·getD-map (λ (e : ℕ × ℕ). e .1) (entriesOf n lo) i (0, 0) in
+          rw (a, entry-slot n lo f i (omega arith))
+      go false e = refl

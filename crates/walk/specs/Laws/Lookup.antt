@@ -1,21 +1,16 @@
 -- Laws of a lookup's walk.
-use mathlib.Core.Path.{_≡_, refl, sym, _∙_}
-use mathlib.Core.Bool.{Bool, true, false, not}
-use mathlib.Core.List.{List, [], _∷_}
-use mathlib.Core.Option.{Option, none, some}
+use mathlib.Core.Path.{_≡_, refl, sym, ap, _∙_}
+use mathlib.Core.Bool.{Bool, true, false, cond, not}
+use mathlib.Core.List.{List, []}
+use mathlib.Core.Option.{none, some}
 use Prim.Native.Nat.{ℕ, _-_, _≤_, _<_}
 use native.Mathlib.Omega.{arith}
-use lib.ListN.{length, getD}
-use lib.Dec.{eqb, leb}
-use borrow.Author.Tests.{not-true, not-false, eqb-false}
-use Rattle.base.specs.Laws.Test.{one-if-small}
+use lib.ListN.{getD}
+use borrow.Author.Tests.{not-true, not-false}
 use Rattle.nodes.specs.declared.node.Node.{Node}
-use Rattle.nodes.specs.declared.found.Found.{Found}
-use Rattle.nodes.specs.declared.found.Found.the-variants.{At, Absent}
-use Rattle.nodes.specs.Found.{found, Inside}
-use Rattle.nodes.specs.Laws.Found.{found-some, found-none}
-use Rattle.nodes.specs.Place.{place}
-use Rattle.nodes.specs.Find.{key-index, find-at}
+use Rattle.nodes.specs.declared.standing.KeyPlace.{KeyPlace}
+use Rattle.nodes.specs.Place.{place, key-place, Within}
+use Rattle.nodes.specs.Laws.Place.{yes-behind}
 use Rattle.nodes.specs.Node.{keysOf}
 use Rattle.nodes.specs.Entries.{entriesOf}
 use Rattle.nodes.specs.Kept.{Whole}
@@ -30,13 +25,13 @@ use Rattle.walk.specs.declared.walk.Stop.{Stop}
 use Rattle.walk.specs.declared.walk.Stop.the-variants.{Going, LacksMeta, LacksNode, LacksVector, Refused, Aborts, Answers}
 use Rattle.client.specs.Layout.{ClientWord}
 use Rattle.client.specs.Lent.{used-in}
-use Rattle.walk.specs.Laws.Entries.{Leaf, open-leaf, leaf-value, leaf-absent}
+use Rattle.walk.specs.Laws.Entries.{Leaf, open-leaf, leaf-value}
 use Rattle.walk.specs.Walk.{told, goes, stands, over}
 use Rattle.walk.specs.Laws.Walk.{walked-done, full-done}
 use Rattle.walk.specs.Ask.{Noted, popped}
 use Rattle.walk.specs.Laws.Ask.{popped-used, popped-noted}
 use Rattle.walk.specs.Down.{Arrival, low, trail, Reached, ToLeaf}
-use Rattle.walk.specs.Lookup.{ended, Ends, Walks, look-in}
+use Rattle.walk.specs.Lookup.{ended, Ends, Walks, pair-at, look-in}
 use Rattle.plans.specs.Plan as P
 
 module _ (m : ClientWord → ℕ) (u : List ℕ) (c : Bool) (e : c ≡ over m (used-in u)) (h : Noted m u) (a b : ℕ) where
@@ -69,45 +64,27 @@ told-ended Refused us w ps g h = refl
 told-ended (Aborts r) us w ps g h = refl
 told-ended (Answers a b) us w ps g h = let z : _≡_ {A = ℕ} 0 1 = cc in absurd (omega arith)
 
-module _ (n : Node) (key : ℕ) (f : Found) (pf : f ≡ found (key-index (keysOf n) key)) where
-  pub look-there : (i v : ℕ) → f ≡ At i → v ≡ getD (n .slots) i 0 → _≡_ {A = Pair} (record { a = 1; b = v }) (look-in n key)
+module _ (n : Node) (key : ℕ) (p : KeyPlace) (e : p ≡ key-place (keysOf n) key) where
+  pub look-there : (v : ℕ) → p .there ≡ true → v ≡ getD (n .slots) (p .place - 1) 0 → _≡_ {A = Pair} (record { a = 1; b = v }) (look-in n key)
   unfolding look-in
-  look-there i v e q = rw (found-some (key-index (keysOf n) key) i (sym pf ∙ e), q)
+  look-there v t q = rw (← e, t, q)
 
-  pub look-not-there : f ≡ Absent → _≡_ {A = Pair} (record { a = 0; b = 0 }) (look-in n key)
+  pub look-not-there : p .there ≡ false → _≡_ {A = Pair} (record { a = 0; b = 0 }) (look-in n key)
   unfolding look-in
-  look-not-there e = rw (found-none (key-index (keysOf n) key) (sym pf ∙ e))
+  look-not-there t = rw (← e, t)
 
-pub slot-inside : (f : Found) (i n : ℕ) → Inside f n → f ≡ At i → n ≤ 14 → i < 15
-slot-inside f i n h e l = omega (arith, h .inside i e)
+pub slot-inside : (p : KeyPlace) (n : ℕ) → Within p n → n ≤ 14 → p .place - 1 < 15
+slot-inside p n h l = omega (arith, h .most)
 
-pub ruleset look-in-exits = (look-there, look-not-there, slot-inside)
-
-pub place-within : (ks : List ℕ) (key : ℕ) → place ks key ≤ length ks
-unfolding place
-place-within [] key = omega arith
-place-within (k ∷ ks) key = omega (arith, one-if-small (leb k key), place-within ks key)
-
-pub find-inside : (ks : List ℕ) (key i : ℕ) → key-index ks key ≡ some i → i < length ks
-unfolding key-index find-at
-find-inside ks key i e = go (eqb (place ks key) 0) (eqb (getD ks (place ks key - 1) 0) key) refl refl
-  where
-    go : (a b : Bool) → eqb (place ks key) 0 ≡ a → eqb (getD ks (place ks key - 1) 0) key ≡ b → i < length ks
-    go true b p q = let r : none ≡ some i = rw (key-index, find-at, p) at e in let z : _≡_ {A = ℕ} 0 1 = cc in absurd (omega arith)
-    go false true p q =
-        let r : some (place ks key - 1) ≡ some i = rw (key-index, find-at, p, q) at e in
-        let t : place ks key - 1 ≡ i = cc in
-        let n : place ks key ≡ 0 → ⊥ = eqb-false (place ks key) 0 p in
-        omega (arith, place-within ks key)
-    go false false p q = let r : none ≡ some i = rw (key-index, find-at, p, q) at e in let z : _≡_ {A = ℕ} 0 1 = cc in absurd (omega arith)
+pub ruleset look-in-exits = (look-there, look-not-there, slot-inside, yes-behind)
 
 leaf-said : (n : Node) (lo key : ℕ) → Whole n → Leaf n → said (value-in key (entriesOf n lo)) ≡ (look-in n key .a, look-in n key .b, [])
-unfolding look-in
-leaf-said n lo key f l = go (key-index (keysOf n) key) refl
+unfolding look-in key-place
+leaf-said n lo key f l = ap said (leaf-value n lo key f l) ∙ go (key-place (keysOf n) key .there)
   where
-    go : (o : Option ℕ) → key-index (keysOf n) key ≡ o → said (value-in key (entriesOf n lo)) ≡ (look-in n key .a, look-in n key .b, [])
-    go none e = rw (leaf-absent n lo key f l e, look-in, e)
-    go (some i) e = let h : i < n .count = omega (arith, find-inside (keysOf n) key i e, f .keys) in rw (leaf-value n lo key f l i e h, look-in, e)
+    go : (t : Bool) → said (cond t (some (getD (n .slots) (place (keysOf n) key - 1) 0)) none) ≡ (let p : KeyPlace = record { place = place (keysOf n) key; there = t } in (pair-at n p .a, pair-at n p .b, []))
+    go true = refl
+    go false = refl
 
 module _ (z : TreeSizes) (m : ClientWord → ℕ) (u : List ℕ) (key : ℕ) (s₁ : Stop) (r : Node) (u₁ : List ℕ) (h : ToLeaf z m u key s₁ r u₁) (b : Bool) (pb : b ≡ goes s₁) where
   pub look-stops : (k : List Branch → ℕ → Entries → TreePlan) → not b ≡ true → Walks z m u (from-root key k) s₁ u₁ []

@@ -10,15 +10,14 @@ delete-spec = tie.close (tie.spec
     (λ c κs. search needs)  -- unchanged-requires
     (λ c. search needs)  -- same-length
     (λ c. search (delete-exits, needs))  -- returns
-    (λ c κs. search (delete-exits, needs))  -- find-at-requires
-    (λ c. search needs)  -- enum-known-f
+    (λ c κs. search (delete-exits, needs))  -- place-at-requires
     (λ c κs. search needs)  -- read-node-requires
+    (λ c. search (delete-exits, needs))  -- sub-without
     (λ c κs. search (delete-exits, needs))  -- without-requires
-    (λ c. search needs)  -- enum-told
-    (λ c κs. search (delete-exits, needs))  -- answers-requires
-    (λ c κs. search needs)  -- unchanged-requires-2
     (λ c. search needs)  -- same-length-2
     (λ c. search (delete-exits, needs))  -- returns-2
+    (λ c κs. search (delete-exits, needs))  -- answers-requires
+    (λ c κs. search needs)  -- unchanged-requires-2
     (λ c. search needs)  -- same-length-3
     (λ c. search (delete-exits, needs))  -- returns-3
     )

@@ -10,6 +10,7 @@ insert-spec = tie.close (tie.spec
     (λ c κs. search needs)  -- unchanged-requires
     (λ c. search needs)  -- same-length
     (λ c. search (insert-exits, needs))  -- returns
+    (λ c κs. search (insert-exits, needs))  -- place-at-requires
     (λ c κs. search needs)  -- read-node-requires
     (λ c κs. search (insert-exits, needs))  -- with-pair-requires
     (λ c. search needs)  -- same-length-2

@@ -5,13 +5,10 @@ use Rattle.change.proofs.insert.with_pair.Tie as tie
 
 pub with-pair-spec : {M : Type 1} → statement M
 with-pair-spec = tie.close (tie.spec
-    (λ c κs. search (pair-exits, needs))  -- find-requires
-    (λ c. search (pair-exits, needs))  -- enum-known-f
+    (λ c. search (pair-exits, needs))  -- sub-with-slot
     (λ c κs. search (pair-exits, needs))  -- with-slot-requires
     (λ c κs. search (pair-exits, needs))  -- widen-requires
-    (λ c. search (pair-exits, needs))  -- enum-told
-    (λ c κs. search (pair-exits, needs))  -- place-requires
-    (λ c κs. search (pair-exits, needs))  -- put-in-requires
     (λ c. search (pair-exits, needs))  -- returns
+    (λ c κs. search needs)  -- put-in-requires
     (λ c. search (pair-exits, needs))  -- returns-2
     )

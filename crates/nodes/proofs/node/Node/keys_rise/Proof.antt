@@ -2,7 +2,7 @@ use borrow.Author.Needs.{needs}
 use Prim.Native.Nat.{_-_}
 use lib.ListN.{take}
 use Rattle.nodes.specs.Node.{keysOf}
-use Rattle.nodes.specs.Laws.Find.{Risen, risen-first, risen-more, not-risen, risen-all}
+use Rattle.nodes.specs.Laws.Place.{Risen, risen-first, risen-more, not-risen, risen-all}
 use Rattle.nodes.proofs.node.Node.keys_rise.Statement.{statement}
 use Rattle.nodes.proofs.node.Node.keys_rise.Tie as tie
 
