@@ -11,6 +11,7 @@ mod measure;
 mod ours;
 mod plot;
 mod report;
+mod servers;
 mod sqlite;
 mod workload;
 

@@ -45,6 +45,20 @@ impl Ours {
         }
     }
 
+    /// A step that is no client's: a change of the servers.
+    pub fn change(&mut self, step: Step) {
+        assert_eq!(self.store.step(step), Outcome::Done, "{step:?}");
+    }
+
+    /// Retires a server: how many nodes were moved off.
+    pub fn retire(&mut self, server: u64) -> usize {
+        let mut most = 0;
+        self.store
+            .retire(0, server, |_, taken| most = most.max(taken))
+            .expect("there is room");
+        most
+    }
+
     /// The level of the root: a client without copies fetches one node more than that on its way to a leaf.
     pub fn height(&mut self) -> u64 {
         let client = 0;

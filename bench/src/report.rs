@@ -4,6 +4,7 @@ use crate::growth;
 use crate::lmdb::Lmdb;
 use crate::measure::{filled, rate, Rate, OTHERS, SMALL_KEYS};
 use crate::plot::{draw, Panel};
+use crate::servers::changes;
 use crate::sqlite::Sqlite;
 use crate::workload::{Workload, WORKLOADS};
 use gemandrolo::Sizes;
@@ -33,6 +34,7 @@ pub fn write(folder: &str) {
     for (title, full) in [("Small stores", false), ("Full stores", true)] {
         text.push_str(&section(title, full, &mut summary));
     }
+    text.push_str(&servers());
     let growth = plot();
     let text = text.replace("SUMMARY", &summary.concat()) + &tail();
     std::fs::write(Path::new(folder).join("BENCHMARKS.md"), text)
@@ -180,6 +182,32 @@ fn rows(
             ));
         }
     }
+}
+
+/// What changes of the servers cost, in stores that are full for two servers.
+fn servers() -> String {
+    let mut out = format!(
+        "## Servers come and go\n\n\
+         Two servers with {FULL_KEYS} keys a slot, one client. A third server comes and goes: the shortest of fifty times. Then a third is added and the second retired, its nodes moved \
+         one transaction each: the shortest of five. An add takes a version table over, slot by slot; what the others write does not depend on the slots.\n\n\
+         | slots on each server | add | close | remove | retire | nodes moved | for each |\n|--:|--:|--:|--:|--:|--:|--:|\n"
+    );
+    for slots in [8, SMALL_SLOTS, FULL_SLOTS] {
+        let c = changes(slots, FULL_KEYS);
+        let _ = writeln!(
+            out,
+            "| {} | {:.1?} | {:.1?} | {:.1?} | {:.1?} | {} | {:.1?} |",
+            c.slots,
+            c.add,
+            c.close,
+            c.remove,
+            c.retire,
+            c.moved,
+            c.retire / c.moved.max(1) as u32,
+        );
+    }
+    out.push('\n');
+    out
 }
 
 fn plot() -> String {

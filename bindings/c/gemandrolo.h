@@ -14,7 +14,8 @@
 extern "C" {
 #endif
 
-/* Sizes: each has its range. */
+/* Sizes: each has its range. Servers are numbered 0 to 7 whatever the store is opened with: the memory has room for eight. Those below the size
+ * are open at first, the others absent. */
 enum {
     GEMANDROLO_MAX_SERVERS = 8,
     GEMANDROLO_MAX_SLOTS = 1024, /* on each server */
@@ -36,7 +37,13 @@ enum gemandrolo_kind {
     GEMANDROLO_PREPARE = 4, /* a participant checks and locks: server. The last prepare is the decision */
     GEMANDROLO_APPLY = 5,   /* a participant writes and unlocks: server. The last apply ends the transaction */
     GEMANDROLO_GIVE_UP = 6, /* an undecided transaction is given up */
-    GEMANDROLO_LOST = 7     /* the client is lost, with its copies; what is decided is still applied */
+    GEMANDROLO_LOST = 7,    /* the client is lost, with its copies; what is decided is still applied */
+
+    /* Changes of the servers: of a step's fields only `server` is used. None is taken while a transaction is prepared at a server, or decided and
+     * not ended. */
+    GEMANDROLO_ADD_SERVER = 8,    /* an absent server is added, and open from then on */
+    GEMANDROLO_CLOSE_SERVER = 9,  /* an open one is closed to new nodes; not the last */
+    GEMANDROLO_REMOVE_SERVER = 10 /* a closing one without a node is removed */
 };
 
 /* Operations that a give names. The answer's numbers a and b are given behind each; where nothing is said they are 0. */
@@ -46,7 +53,8 @@ enum gemandrolo_op {
     GEMANDROLO_DELETE = 3,   /* a: 1 if the key was there */
     GEMANDROLO_NEXT = 4,     /* a: 1 if there is a key strictly above; b: the nearest */
     GEMANDROLO_PREVIOUS = 5, /* a: 1 if there is a key strictly below; b: the nearest */
-    GEMANDROLO_MIGRATE = 6,  /* node `key` moves to `server`. a: 1 if it moved; b: its new name, or for an unmoved node 0 if free, 1 if there already */
+    GEMANDROLO_MIGRATE = 6,  /* node `key` moves to `server`, an open one. a: 1 if it moved; b: its new name, or for an unmoved node 0 if free, 1 if
+                                there already */
     GEMANDROLO_LIST = 7      /* the first `value` pairs (1 to 32) from the key upward, the key's own too. a: how many were written to the output;
                                 they are fewer only where there are no more */
 };
@@ -54,7 +62,7 @@ enum gemandrolo_op {
 /* Outcomes of a step. Numbers a and b that are not named are 0. */
 enum gemandrolo_outcome {
     GEMANDROLO_REFUSED = 0,   /* nothing was done and no byte changed, in memory or output. a: the refusal */
-    GEMANDROLO_DONE = 1,      /* a begin, a give, a commit with a participant, a loss that aborts nothing */
+    GEMANDROLO_DONE = 1,      /* a begin, a give, a commit with a participant, a loss that aborts nothing, a change of the servers */
     GEMANDROLO_FETCHED = 2,   /* the operation still waits. a: what was fetched; b: the node's name or the vector's server */
     GEMANDROLO_ANSWERED = 3,  /* a, b: the operation's answer */
     GEMANDROLO_PREPARED = 4,  /* others are still due. a: the server */
@@ -66,7 +74,7 @@ enum gemandrolo_outcome {
 
 /* What a work step fetched. */
 enum gemandrolo_fetched {
-    GEMANDROLO_FETCHED_METADATA = 0, /* the root's name */
+    GEMANDROLO_FETCHED_METADATA = 0, /* the root's name, and which servers there are */
     GEMANDROLO_FETCHED_NODE = 1,     /* a node */
     GEMANDROLO_FETCHED_VECTOR = 2    /* a server's taken flags */
 };
@@ -76,30 +84,34 @@ enum gemandrolo_refusal {
     GEMANDROLO_NO_HEAD = 1,           /* the lent memory is shorter than 64 bytes */
     GEMANDROLO_BAD_SIZES = 2,         /* a size, given or in the head, is outside its range */
     GEMANDROLO_TOO_SHORT = 3,         /* the memory is shorter than the sizes call for */
-    GEMANDROLO_UNKNOWN_KIND = 4,      /* the kind is above 7 */
-    GEMANDROLO_UNKNOWN_CLIENT = 5,    /* the client is not in the store */
+    GEMANDROLO_UNKNOWN_KIND = 4,      /* the kind is above 10 */
+    GEMANDROLO_UNKNOWN_CLIENT = 5,    /* the client is not in the store; a change of the servers has none */
     GEMANDROLO_UNKNOWN_OPERATION = 6, /* a given op is not 1 to 7 */
     GEMANDROLO_BAD_COUNT = 11,        /* the count of a given list is not 1 to 32 */
-    GEMANDROLO_UNKNOWN_SERVER = 7,    /* the server of a migrate, prepare or apply is not in the store */
-    GEMANDROLO_UNKNOWN_NODE = 8,      /* a migrated node's name is not in the store */
-    GEMANDROLO_UNFIT = 9,             /* the client's state doesn't fit */
+    GEMANDROLO_UNKNOWN_SERVER = 7,    /* the server of a migrate, a prepare, an apply or a change of the servers is above 7 */
+    GEMANDROLO_UNFIT_SERVER = 13,     /* the state of the server that would change doesn't fit, or the last open one would close */
+    GEMANDROLO_SLOT_TAKEN = 14,       /* the server that would be removed has a slot that is taken */
+    GEMANDROLO_LAST_METADATA = 15,    /* the servers would change, and the metadata's version is 4,294,967,295 */
+    GEMANDROLO_UNKNOWN_NODE = 8,      /* a migrated node's name has a server above 7 or a slot that is not there */
+    GEMANDROLO_UNFIT = 9,             /* the client's state doesn't fit; or the servers would change while a transaction is prepared at one of them,
+                                         or decided and not ended */
     GEMANDROLO_SHORT_OUTPUT = 12,     /* a list waits, and the output is shorter than 16 times its count: at each of its work steps */
     GEMANDROLO_DAMAGED = 10           /* something stored that the step reads is out of range or points to what isn't there */
 };
 
 /* Reasons of an abort. The first three may pass when the transaction is run again. */
 enum gemandrolo_reason {
-    GEMANDROLO_DIFFERS = 1,     /* a checked object differs, or a slot taken as free isn't */
+    GEMANDROLO_DIFFERS = 1,     /* a checked object differs, or a slot taken as free isn't, or the server that is asked is absent */
     GEMANDROLO_BUSY = 2,        /* an object is locked against this use by another client */
     GEMANDROLO_NO_TREE = 3,     /* what was read can't be one tree */
     GEMANDROLO_TOO_MANY = 4,    /* object 97 would be read or 49 written */
-    GEMANDROLO_NO_SLOT = 5,     /* no slot is free */
+    GEMANDROLO_NO_SLOT = 5,     /* no slot is free, or a node would move to a server that isn't open */
     GEMANDROLO_GIVEN_UP = 6,    /* given up */
     GEMANDROLO_CLIENT_LOST = 7, /* lost, and undecided */
     GEMANDROLO_LAST_VERSION = 8 /* a written version is 4,294,967,295 */
 };
 
-/* The bytes that these sizes call for, or 0 where one is outside its range. */
+/* The bytes that these sizes call for, or 0 where one is outside its range. They are the same for any number of servers. */
 size_t gemandrolo_length(size_t servers, size_t slots, size_t clients);
 
 /* A new, empty store in the memory lent: 0, or the refusal (1 to 3). Bytes behind the store's length stay as they are. */

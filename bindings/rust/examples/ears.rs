@@ -1,7 +1,7 @@
 //! Both ears in one transaction: a child's left and right ear are two entries that change together or not at all.
 //!
 //! Two tablets test the same child at the same time. Whoever comes second is told so and starts again, so that both ears are always of one
-//! test. Run it by `cargo run --example ears`.
+//! test. Run it by `cargo run --example ears`; ears.txt has what it prints.
 
 use gemandrolo::{Failure, Operation, Outcome, Sizes, Step, Store};
 
@@ -47,65 +47,57 @@ fn give<B: AsMut<[u8]>>(store: &mut Store<B>, client: u64, operation: Operation)
     }
 }
 
-fn main() -> Result<(), Failure> {
-    let sizes = Sizes {
+/// A store with 40 children, both ears at 20 dB.
+fn stored() -> Result<Store<Vec<u8>>, Failure> {
+    let mut store = Store::new(Sizes {
         servers: 2,
         slots: 64,
         clients: 2,
-    };
-    let mut store = Store::new(sizes).map_err(Failure::Refused)?;
+    })?;
     for child in 0..40 {
         record(&mut store, 0, child, (20, 20))?;
     }
-    println!("40 children stored, both ears at 20 dB");
+    Ok(store)
+}
+
+pub fn run(say: &mut dyn FnMut(String)) -> Result<(), Failure> {
+    let mut store = stored()?;
+    say("40 children stored, both ears at 20 dB".into());
 
     // Tablet 0 has written the left ear in its transaction, and is not done: nobody sees it.
     let child = 17;
     let (left, right) = ears(child);
+    let insert = |key, value| Operation::Insert { key, value };
     store.step(Step::Begin { client: 0 });
-    give(
-        &mut store,
-        0,
-        Operation::Insert {
-            key: left,
-            value: 45,
-        },
-    );
-    println!(
-        "tablet 0 has measured the left ear only; tablet 1 sees {:?}",
-        both(&mut store, 1, child)?
-    );
+    give(&mut store, 0, insert(left, 45));
+    let seen = both(&mut store, 1, child)?;
+    say(format!(
+        "tablet 0 has measured the left ear only; tablet 1 sees {seen:?}"
+    ));
 
     // Tablet 1 tests the same child and is done first.
     record(&mut store, 1, child, (30, 35))?;
-    println!(
-        "tablet 1 has stored both ears: {:?}",
-        both(&mut store, 1, child)?
-    );
+    let seen = both(&mut store, 1, child)?;
+    say(format!("tablet 1 has stored both ears: {seen:?}"));
 
     // Tablet 0 goes on from what it read before, and is told that it has changed.
-    let told = give(
-        &mut store,
-        0,
-        Operation::Insert {
-            key: right,
-            value: 50,
-        },
-    );
-    println!(
-        "tablet 0 goes on with the right ear: {told:?}; still {:?}",
-        both(&mut store, 1, child)?
-    );
+    let told = give(&mut store, 0, insert(right, 50));
+    let seen = both(&mut store, 1, child)?;
+    say(format!(
+        "tablet 0 goes on with the right ear: {told:?}; still {seen:?}"
+    ));
 
     // It starts again, and is now the second of the two.
     let before = record(&mut store, 0, child, (45, 50))?;
-    println!(
-        "tablet 0 again: before {before:?}, now {:?}",
-        both(&mut store, 1, child)?
-    );
+    let seen = both(&mut store, 1, child)?;
+    say(format!("tablet 0 again: before {before:?}, now {seen:?}"));
 
     // The nurse at tablet 1 wants children 16 to 18 in order, both ears of each.
     let class = store.transaction(1, 10, |t| t.list(ears(16).0, 6))?;
-    println!("class list from child 16 on: {class:?}");
+    say(format!("class list from child 16 on: {class:?}"));
     Ok(())
+}
+
+fn main() -> Result<(), Failure> {
+    run(&mut |line| println!("{line}"))
 }

@@ -1,4 +1,4 @@
-//! A store's memory, looked at: servers with metadata, nodes, tables, flags and locks; clients with their transactions and copies.
+//! A store's memory, looked at: servers with their state, metadata, nodes, tables, flags and locks; clients with their transactions and copies.
 //!
 //! Nothing is changed and nothing is trusted: what no step could have left there is shown as [`OutOfRange`], and no memory makes a look panic.
 //! In the sources of this crate only this file knows the layout of docs/DECISIONS.md, 8.
@@ -12,7 +12,7 @@
 //! assert_eq!(view.pairs(), Ok(vec![(40, 55)]));
 //! ```
 
-use crate::{Operation, Refusal, Sizes, MAX_PAIRS};
+use crate::{Operation, Refusal, Sizes, MAX_PAIRS, MAX_SERVERS};
 use std::fmt;
 
 // ---- 8.6: the whole, in words of eight bytes
@@ -30,7 +30,7 @@ const PREPARED: usize = 6;
 const APPLIED: usize = 7;
 const VECTORS_FETCHED: usize = 8;
 const LOST: usize = 9;
-/// Whether there is one, root, version.
+/// The servers' states (0: there is none), root, version.
 const METADATA_COPY: usize = 12;
 /// Whether there is one, then its words; so for each server.
 const VECTOR_COPIES: usize = 7087;
@@ -71,9 +71,10 @@ impl Places {
 
 const ROOT: usize = 0;
 const METADATA_VERSION: usize = 1;
-const METADATA_LOCK: usize = 2;
-const VECTOR: usize = 3;
-const ROWS: usize = 19;
+const STATES: usize = 2;
+const METADATA_LOCK: usize = 3;
+const VECTOR: usize = 4;
+const ROWS: usize = 20;
 /// A row for each slot number: this server's node, its flag's lock, and for the nodes with that slot number of all servers versions and locks.
 const ROW_WORDS: usize = 50;
 const FLAG_LOCK: usize = 33;
@@ -93,8 +94,13 @@ const VERSION: usize = 2;
 const COUNT: usize = 3;
 const KEYS: usize = 4;
 const MOST_KEYS: usize = 14;
-/// Values or children. The root's name and a flag stand in the first.
+/// Values or children. The root's name and a flag stand in the first, the servers' states in the second.
 const SLOTS: usize = 18;
+
+// ---- 8.7: the servers' states in one word, bit s for a server that is not absent, bit 8 + s for one that is open
+
+const OPEN_BITS: u32 = 8;
+const END_OF_STATES: u64 = 65_536;
 
 // ---- 8.2 and 8.3: locks and objects as numbers
 
@@ -188,12 +194,61 @@ impl Members {
         (0..64).filter(move |i| self.contains(*i))
     }
 
+    pub fn is_empty(self) -> bool {
+        self.0 == 0
+    }
+
     fn of(word: u64, among: usize) -> Field<Members> {
         let members = Members(word);
         match members.iter().all(|i| i < among) {
             true => Ok(members),
             false => Err(OutOfRange(word)),
         }
+    }
+}
+
+/// What the metadata calls a server.
+#[derive(Clone, Copy, Debug, PartialEq, Eq, Hash)]
+pub enum ServerState {
+    /// It takes part in nothing.
+    Absent,
+    Open,
+    /// It gets no new nodes.
+    Closing,
+}
+
+/// The state of each server, by one metadata.
+#[derive(Clone, Copy, Debug, PartialEq, Eq, Hash)]
+pub struct States(u64);
+
+impl States {
+    /// Those of a word in which one server at least is not absent.
+    fn of(word: u64) -> Field<States> {
+        let states = States(word);
+        match word < END_OF_STATES && !states.present().is_empty() {
+            true => Ok(states),
+            false => Err(OutOfRange(word)),
+        }
+    }
+
+    pub fn server(self, number: usize) -> ServerState {
+        if self.open().contains(number) {
+            ServerState::Open
+        } else if self.present().contains(number) {
+            ServerState::Closing
+        } else {
+            ServerState::Absent
+        }
+    }
+
+    /// The servers that are not absent.
+    pub fn present(self) -> Members {
+        Members(self.0 % (1 << OPEN_BITS))
+    }
+
+    /// The servers that are open.
+    pub fn open(self) -> Members {
+        Members(self.present().0 & self.0 >> OPEN_BITS)
     }
 }
 
@@ -225,11 +280,12 @@ impl Lock {
     }
 }
 
-/// Where the tree begins.
+/// Where the tree begins, and which servers there are.
 #[derive(Clone, Debug, PartialEq, Eq)]
 pub struct Metadata {
     pub root: Field<Name>,
     pub version: Field<u32>,
+    pub states: Field<States>,
 }
 
 #[derive(Clone, Debug, PartialEq, Eq)]
@@ -289,7 +345,7 @@ impl Node {
 
 fn name(word: u64, sizes: Sizes) -> Field<Name> {
     let (server, slot) = (word / SLOTS_OF_A_NAME, word % SLOTS_OF_A_NAME);
-    match server < sizes.servers as u64 && slot < sizes.slots as u64 {
+    match server < MAX_SERVERS as u64 && slot < sizes.slots as u64 {
         true => Ok(Name {
             server: server as usize,
             slot: slot as usize,
@@ -300,7 +356,7 @@ fn name(word: u64, sizes: Sizes) -> Field<Name> {
 
 fn names(sizes: Sizes) -> impl Iterator<Item = Name> {
     let home = move |server| (0..sizes.slots).map(move |slot| Name { server, slot });
-    (0..sizes.servers).flat_map(home)
+    (0..MAX_SERVERS).flat_map(home)
 }
 
 fn version(word: u64) -> Field<u32> {
@@ -364,6 +420,7 @@ impl Item {
             METADATA_NUMBER => Ok(Item::Metadata(Metadata {
                 root: name(record.at(SLOTS), sizes),
                 version: version(record.at(VERSION)),
+                states: States::of(record.at(SLOTS + 1)),
             })),
             FIRST_NODE..FIRST_FLAG => Ok(Item::Node(named(FIRST_NODE)?, Node::of(record, sizes))),
             FIRST_FLAG.. => Ok(Item::Flag(named(FIRST_FLAG)?, flag(record.at(SLOTS)))),
@@ -374,7 +431,7 @@ impl Item {
 /// Why the leaves under the root can't be read as those of one tree.
 #[derive(Clone, Copy, Debug, PartialEq, Eq)]
 pub enum NoTree {
-    /// The servers do not all name the same root.
+    /// The servers that are there do not all name the same root, or there is none.
     Roots,
     /// A root's or child's name is none of the store.
     Name(OutOfRange),
@@ -407,9 +464,10 @@ impl<'m> View<'m> {
         self.sizes
     }
 
+    /// A server, 0 to 7. An absent one is shown too.
     pub fn server(&self, number: usize) -> Option<Server<'m>> {
         let (sizes, words) = (self.sizes, server_words(self.sizes));
-        (number < sizes.servers).then(|| Server {
+        (number < MAX_SERVERS).then(|| Server {
             number,
             words: self.words.part(HEAD_WORDS + words * number, words),
             sizes,
@@ -417,7 +475,7 @@ impl<'m> View<'m> {
     }
 
     pub fn client(&self, number: usize) -> Option<Client<'m>> {
-        let before = HEAD_WORDS + server_words(self.sizes) * self.sizes.servers;
+        let before = HEAD_WORDS + server_words(self.sizes) * MAX_SERVERS;
         (number < self.sizes.clients).then(|| Client {
             number,
             words: self
@@ -427,9 +485,21 @@ impl<'m> View<'m> {
         })
     }
 
+    /// All eight, absent ones too; [`Server::state`] tells which they are.
     pub fn servers(&self) -> impl Iterator<Item = Server<'m>> {
         let view = *self;
-        (0..self.sizes.servers).filter_map(move |number| view.server(number))
+        (0..MAX_SERVERS).filter_map(move |number| view.server(number))
+    }
+
+    /// The server that a client fetches the metadata from: the first that is not absent, counting up and round from the client's number modulo
+    /// the servers that the store was opened with.
+    pub fn metadata_source(&self, client: usize) -> Option<Server<'m>> {
+        let first = client % self.sizes.servers.max(1);
+        let round = (first..first + MAX_SERVERS).map(|number| number % MAX_SERVERS);
+        let view = *self;
+        round
+            .filter_map(|number| view.server(number))
+            .find(Server::is_there)
     }
 
     pub fn clients(&self) -> impl Iterator<Item = Client<'m>> {
@@ -437,7 +507,16 @@ impl<'m> View<'m> {
         (0..self.sizes.clients).filter_map(move |number| view.client(number))
     }
 
-    /// All names of the store, rising.
+    /// The clients whose transaction is prepared at a server, or decided and not ended. While there is one, no server is added, closed or removed.
+    pub fn unended(&self) -> Members {
+        let unended = self.clients().filter(|client| match client.phase() {
+            Ok(Phase::Committing) => client.prepared().is_ok_and(|servers| !servers.is_empty()),
+            phase => phase == Ok(Phase::Decided),
+        });
+        Members(unended.fold(0, |clients, client| clients | 1 << client.number()))
+    }
+
+    /// All names of the store, rising: those of eight servers.
     pub fn names(&self) -> impl Iterator<Item = Name> {
         names(self.sizes)
     }
@@ -447,9 +526,10 @@ impl<'m> View<'m> {
         self.server(name.server)?.node(name.slot)
     }
 
-    /// The pairs of the leaves, left to right, under the root that all servers name.
+    /// The pairs of the leaves, left to right, under the root that all servers name that are there.
     pub fn pairs(&self) -> Result<Vec<(u64, u64)>, NoTree> {
-        let mut roots = self.servers().map(|server| server.metadata().root);
+        let there = self.servers().filter(Server::is_there);
+        let mut roots = there.map(|server| server.metadata().root);
         let root = roots.next().ok_or(NoTree::Roots)?;
         if roots.any(|other| other != root) {
             return Err(NoTree::Roots);
@@ -500,7 +580,18 @@ impl<'m> Server<'m> {
         Metadata {
             root: name(self.words.at(ROOT), self.sizes),
             version: version(self.words.at(METADATA_VERSION)),
+            states: States::of(self.words.at(STATES)),
         }
+    }
+
+    /// What its own metadata calls it, which is what it is. Steps go by these bits, whether or not the rest of the word is in range.
+    pub fn state(&self) -> ServerState {
+        States(self.words.at(STATES)).server(self.number)
+    }
+
+    /// Whether it is not absent.
+    pub fn is_there(&self) -> bool {
+        self.state() != ServerState::Absent
     }
 
     /// The flags of this server's slots.
@@ -511,6 +602,16 @@ impl<'m> Server<'m> {
     /// The flag of one slot.
     pub fn is_taken(&self, slot: usize) -> bool {
         slot < self.sizes.slots && bit(self.flags(), slot)
+    }
+
+    /// The names of the slots that are taken, rising.
+    pub fn taken(&self) -> impl Iterator<Item = Name> + 'm {
+        let server = *self;
+        let slots = (0..server.sizes.slots).filter(move |slot| server.is_taken(*slot));
+        slots.map(move |slot| Name {
+            server: server.number,
+            slot,
+        })
     }
 
     fn flags(&self) -> Words<'m> {
@@ -610,7 +711,7 @@ impl Client<'_> {
 
     fn migrate(&self, node: u64, server: u64) -> Field<Operation> {
         name(node, self.view.sizes)?;
-        match server < self.view.sizes.servers as u64 {
+        match server < MAX_SERVERS as u64 {
             true => Ok(Operation::Migrate { node, server }),
             false => Err(OutOfRange(server)),
         }
@@ -635,7 +736,7 @@ impl Client<'_> {
     }
 
     fn servers(&self, word: usize) -> Field<Members> {
-        Members::of(self.words.at(word), self.view.sizes.servers)
+        Members::of(self.words.at(word), MAX_SERVERS)
     }
 
     /// Whether the client was lost after its decision.
@@ -670,12 +771,13 @@ impl Client<'_> {
     }
 
     /// The copy of the metadata.
-    pub fn metadata_copy(&self) -> Field<Option<Metadata>> {
-        let [there, root, at] = [0, 1, 2].map(|i| self.words.at(METADATA_COPY + i));
-        Ok(flag(there)?.then(|| Metadata {
+    pub fn metadata_copy(&self) -> Option<Metadata> {
+        let [states, root, at] = [0, 1, 2].map(|i| self.words.at(METADATA_COPY + i));
+        (states != 0).then(|| Metadata {
             root: name(root, self.view.sizes),
             version: version(at),
-        }))
+            states: States::of(states),
+        })
     }
 
     /// The copies of inner nodes.
@@ -692,7 +794,7 @@ impl Client<'_> {
 
     /// The copy of a server's vector.
     pub fn vector_copy(&self, server: usize) -> Field<Option<Vector>> {
-        if server >= self.view.sizes.servers {
+        if server >= MAX_SERVERS {
             return Ok(None);
         }
         let words = VECTOR_COPIES + VECTOR_COPY_WORDS * server;
@@ -706,9 +808,8 @@ impl Client<'_> {
     pub fn is_old(&self, item: &Item) -> Field<bool> {
         match item {
             Item::Metadata(read) => {
-                let source = self.number % self.view.sizes.servers.max(1);
-                let there = self.view.server(source).map(|s| s.metadata().version);
-                behind(read.version, there)
+                let source = self.view.metadata_source(self.number);
+                behind(read.version, source.map(|s| s.metadata().version))
             }
             Item::Node(name, read) => {
                 behind(read.version, self.view.node(*name).map(|n| n.version))

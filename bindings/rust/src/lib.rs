@@ -32,6 +32,21 @@
 //! # Ok::<(), gemandrolo::Failure>(())
 //! ```
 //!
+//! Servers come and go while the store is in use: one is added, another retired, that is, closed to new nodes and, once its nodes have moved
+//! away, removed.
+//!
+//! ```
+//! # use gemandrolo::{ServerState, Sizes, Store};
+//! # let mut store = Store::new(Sizes { servers: 2, slots: 64, clients: 1 })?;
+//! # store.transaction(0, 10, |t| t.insert(1, 35))?;
+//! store.add(2)?;
+//! let client = 0;
+//! store.retire(client, 0, |_, taken| println!("{taken} slots still taken"))?;
+//! assert_eq!(store.server_state(0), Ok(ServerState::Absent));
+//! assert_eq!(store.transaction(client, 10, |t| t.lookup(1)), Ok(Some(35)));
+//! # Ok::<(), Box<dyn std::error::Error>>(())
+//! ```
+//!
 //! [`Store::transaction`] runs one transaction to its end. Whoever drives the steps itself, as a server that gets them from many tablets does,
 //! calls [`Store::step`] or [`Store::run`], and looks at each [`Outcome`]; lists are written to an output, which [`Store::step_into`] and
 //! [`Store::run_into`] lend. What stands in the memory is shown by [`inspect`].
@@ -41,15 +56,18 @@ mod library;
 mod outcome;
 mod output;
 mod pairs;
+mod retire;
 mod sizes;
 mod step;
 mod store;
 mod transaction;
 
+pub use inspect::ServerState;
 pub use outcome::{Answer, Fetched, Outcome, Reason, Refusal};
 pub use output::{MAX_PAIRS, PAIR_BYTES};
 pub use pairs::Pairs;
-pub use sizes::Sizes;
+pub use retire::NotRetired;
+pub use sizes::{Sizes, MAX_SERVERS};
 pub use step::{Operation, Step};
 pub use store::Store;
 pub use transaction::{Failure, Migrated, Transaction};

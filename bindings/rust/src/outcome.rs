@@ -6,7 +6,7 @@ use std::fmt;
 pub enum Outcome {
     /// Nothing was done, and no byte changed, in memory or output.
     Refused(Refusal),
-    /// The step was taken: a begin, a give, a commit with a participant, a loss that aborts nothing.
+    /// The step was taken: a begin, a give, a commit with a participant, a loss that aborts nothing, a change of the servers.
     Done,
     /// An object came to the client; the operation still waits.
     Fetched(Fetched),
@@ -54,7 +54,7 @@ impl Answer {
     }
 }
 
-/// Why a step is refused: the first that holds, in the order 1 to 6, 11, 7 to 9, 12, 10.
+/// Why a step is refused: the first that holds, in the order 1 to 6, 11, 7, 13 to 15, 8, 9, 12, 10.
 #[derive(Clone, Copy, Debug, PartialEq, Eq, Hash)]
 pub enum Refusal {
     /// 1: the lent memory is shorter than 64 bytes.
@@ -63,17 +63,17 @@ pub enum Refusal {
     Sizes,
     /// 3: the memory is shorter than the sizes call for.
     TooShort,
-    /// 4: the kind is above 7.
+    /// 4: the kind is above 10.
     UnknownKind,
-    /// 5: the client is not in the store.
+    /// 5: the client is not in the store. A change of the servers has none.
     UnknownClient,
     /// 6: a given operation is not 1 to 7.
     UnknownOperation,
-    /// 7: the server of a migrate, prepare or apply is not in the store.
+    /// 7: the server of a migrate, a prepare, an apply or a change of the servers is above 7.
     UnknownServer,
-    /// 8: a migrated node's name is not in the store.
+    /// 8: a migrated node's name has a server above 7 or a slot that is not there.
     UnknownNode,
-    /// 9: the client's state doesn't fit.
+    /// 9: the client's state doesn't fit; or the servers would change while a transaction is prepared at one of them, or decided and not ended.
     Unfit,
     /// 10: something stored that the step reads is out of range, or points to something that isn't there.
     Damaged,
@@ -81,12 +81,18 @@ pub enum Refusal {
     Count,
     /// 12: a list waits, and the output lent is shorter than 16 times its count.
     ShortOutput,
+    /// 13: the state of the server that would change doesn't fit, or the last open one would close.
+    UnfitServer,
+    /// 14: the server that would be removed has a slot that is taken.
+    SlotTaken,
+    /// 15: the servers would change, and the metadata's version is 4,294,967,295.
+    LastMetadata,
 }
 
 /// Why a transaction aborted.
 #[derive(Clone, Copy, Debug, PartialEq, Eq, Hash)]
 pub enum Reason {
-    /// 1: a checked object differs, or a slot taken as free isn't.
+    /// 1: a checked object differs, or a slot taken as free isn't, or the server that is asked is absent.
     Differs,
     /// 2: an object is locked against this use by another client.
     Busy,
@@ -94,7 +100,7 @@ pub enum Reason {
     NoTree,
     /// 4: object 97 would be read, or object 49 written.
     TooMany,
-    /// 5: no slot is free.
+    /// 5: no slot is free, or a node would move to a server that isn't open.
     NoSlot,
     /// 6: given up.
     GivenUp,
@@ -104,7 +110,7 @@ pub enum Reason {
     LastVersion,
 }
 
-const REFUSALS: [Refusal; 12] = [
+const REFUSALS: [Refusal; 15] = [
     Refusal::NoHead,
     Refusal::Sizes,
     Refusal::TooShort,
@@ -117,6 +123,9 @@ const REFUSALS: [Refusal; 12] = [
     Refusal::Damaged,
     Refusal::Count,
     Refusal::ShortOutput,
+    Refusal::UnfitServer,
+    Refusal::SlotTaken,
+    Refusal::LastMetadata,
 ];
 
 const REASONS: [Reason; 8] = [
@@ -131,7 +140,7 @@ const REASONS: [Reason; 8] = [
 ];
 
 impl Refusal {
-    /// The number, 1 to 12.
+    /// The number, 1 to 15.
     pub fn number(self) -> u64 {
         self as u64 + 1
     }
@@ -209,28 +218,33 @@ impl fmt::Display for Refusal {
             Refusal::NoHead => "the memory is shorter than 64 bytes",
             Refusal::Sizes => "a size is outside its range",
             Refusal::TooShort => "the memory is shorter than the sizes call for",
-            Refusal::UnknownKind => "the kind is above 7",
+            Refusal::UnknownKind => "the kind is above 10",
             Refusal::UnknownClient => "the client is not in the store",
             Refusal::UnknownOperation => "the operation is not 1 to 7",
-            Refusal::UnknownServer => "the server is not in the store",
+            Refusal::UnknownServer => "the server is above 7",
             Refusal::UnknownNode => "the node's name is not in the store",
-            Refusal::Unfit => "the client's state doesn't fit",
+            Refusal::Unfit => "the state of a client's transaction doesn't fit",
             Refusal::Damaged => "something stored is out of range",
             Refusal::Count => "the count of a list is not 1 to 32",
             Refusal::ShortOutput => "the output is too short for the list that waits",
+            Refusal::UnfitServer => "the server's state doesn't fit, or none would be open",
+            Refusal::SlotTaken => "the server has a slot that is taken",
+            Refusal::LastMetadata => "the metadata's version has come to its end",
         };
         write!(f, "refused by {}: {words}", self.number())
     }
 }
 
+impl std::error::Error for Refusal {}
+
 impl fmt::Display for Reason {
     fn fmt(&self, f: &mut fmt::Formatter) -> fmt::Result {
         let words = match self {
-            Reason::Differs => "an object read has changed",
+            Reason::Differs => "an object read has changed, or a server is absent",
             Reason::Busy => "an object is locked by another client",
             Reason::NoTree => "what was read can't be one tree",
             Reason::TooMany => "more than 96 objects read or 48 written",
-            Reason::NoSlot => "no slot is free",
+            Reason::NoSlot => "no slot is free, or the server is not open",
             Reason::GivenUp => "given up",
             Reason::Lost => "the client was lost",
             Reason::LastVersion => "a version has come to its end",

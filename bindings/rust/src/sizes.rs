@@ -1,6 +1,10 @@
 use crate::library;
 
-/// The sizes of a store: servers 1 to 8, slots on each 1 to 1,024, clients 1 to 16.
+/// The most servers that a store can have. Their numbers are 0 to 7, whatever it was opened with.
+pub const MAX_SERVERS: usize = 8;
+
+/// The sizes that a store is opened with: servers 1 to 8, slots on each 1 to 1,024, clients 1 to 16. The servers are those that are open at first;
+/// there is room for all eight, and [`crate::Store::add`] adds one.
 #[derive(Clone, Copy, Debug, PartialEq, Eq, Hash)]
 pub struct Sizes {
     pub servers: usize,

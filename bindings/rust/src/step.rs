@@ -19,7 +19,7 @@ pub enum Operation {
     List { key: u64, count: u64 },
 }
 
-/// One step of one client.
+/// One step: of one client, or a change of the servers.
 #[derive(Clone, Copy, Debug, PartialEq, Eq, Hash)]
 pub enum Step {
     /// A transaction starts.
@@ -38,6 +38,12 @@ pub enum Step {
     GiveUp { client: u64 },
     /// The client is lost, with its copies; a decided transaction of it is still applied.
     Lost { client: u64 },
+    /// An absent server is added, and open from then on.
+    AddServer { server: u64 },
+    /// An open server is closed to new nodes.
+    CloseServer { server: u64 },
+    /// A closing server that has no node left is removed.
+    RemoveServer { server: u64 },
 }
 
 impl Operation {
@@ -72,6 +78,9 @@ impl Step {
             Step::Apply { client, server } => [5, client, 0, 0, 0, server],
             Step::GiveUp { client } => [6, client, 0, 0, 0, 0],
             Step::Lost { client } => [7, client, 0, 0, 0, 0],
+            Step::AddServer { server } => [8, 0, 0, 0, 0, server],
+            Step::CloseServer { server } => [9, 0, 0, 0, 0, server],
+            Step::RemoveServer { server } => [10, 0, 0, 0, 0, server],
         }
     }
 }

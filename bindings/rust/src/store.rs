@@ -1,4 +1,5 @@
-use crate::{inspect, library, Outcome, Refusal, Sizes, Step};
+use crate::inspect::{self, Server, ServerState, View};
+use crate::{library, Outcome, Refusal, Sizes, Step};
 
 /// A store in memory that the caller lends: a `Vec<u8>`, a `&mut [u8]`, a mapped file.
 ///
@@ -42,7 +43,7 @@ impl<B: AsMut<[u8]>> Store<B> {
         }
     }
 
-    /// The sizes that the store was opened with.
+    /// The sizes that the store was opened with. Which servers there are now [`Store::server_state`] tells.
     pub fn sizes(&self) -> Sizes {
         self.sizes
     }
@@ -76,6 +77,49 @@ impl<B: AsMut<[u8]>> Store<B> {
     /// One step of any six numbers that is lent an output, as by [`Store::step_into`].
     pub fn step_words_into(&mut self, words: [u64; 6], output: &mut [u8]) -> Outcome {
         Outcome::of(library::step(self.memory.as_mut(), output, words))
+    }
+
+    /// Adds an absent server. It is open from then on: new nodes are placed there, and others can be moved to it.
+    ///
+    /// This and the other two changes of the servers are refused by [`Refusal::Unfit`] while a transaction of any client is prepared at a server,
+    /// or decided and not ended: take its steps, or declare the client lost and apply what it decided, then try again. Transactions that are open
+    /// meanwhile abort later by [`crate::Reason::Differs`], and pass when they are run again.
+    pub fn add(&mut self, server: u64) -> Result<(), Refusal> {
+        self.change_servers(Step::AddServer { server })
+    }
+
+    /// Closes an open server: no new node is placed there from then on. What it has stays in use, until it is moved or deleted. The last open one
+    /// does not close, and a closing one does not open again before it was removed.
+    pub fn close(&mut self, server: u64) -> Result<(), Refusal> {
+        self.change_servers(Step::CloseServer { server })
+    }
+
+    /// Removes a closing server, once no slot of it is taken ([`Refusal::SlotTaken`]). [`Store::retire`] closes a server, moves its nodes off and
+    /// removes it.
+    pub fn remove(&mut self, server: u64) -> Result<(), Refusal> {
+        self.change_servers(Step::RemoveServer { server })
+    }
+
+    /// What a server is: what its own metadata calls it. A number above 7 is refused as by [`Store::add`].
+    pub fn server_state(&mut self, server: u64) -> Result<ServerState, Refusal> {
+        Ok(self.server(server)?.state())
+    }
+
+    /// A look at one server.
+    pub(crate) fn server(&mut self, server: u64) -> Result<Server<'_>, Refusal> {
+        let view = View::of(self.memory())?;
+        let number = usize::try_from(server).ok();
+        number
+            .and_then(|number| view.server(number))
+            .ok_or(Refusal::UnknownServer)
+    }
+
+    fn change_servers(&mut self, step: Step) -> Result<(), Refusal> {
+        match self.step(step) {
+            Outcome::Done => Ok(()),
+            Outcome::Refused(refusal) => Err(refusal),
+            other => unreachable!("a change of the servers has the outcome {other:?}"),
+        }
     }
 
     /// Some steps, run front to back: the outcome of each.

@@ -1,5 +1,6 @@
 use crate::{
-    Answer, Operation, Outcome, Pairs, Reason, Refusal, Step, Store, MAX_PAIRS, PAIR_BYTES,
+    Answer, Operation, Outcome, Pairs, Reason, Refusal, Step, Store, MAX_PAIRS, MAX_SERVERS,
+    PAIR_BYTES,
 };
 use std::fmt;
 use std::ops::RangeBounds;
@@ -58,7 +59,7 @@ impl<'s, B: AsMut<[u8]>> Transaction<'s, B> {
         Ok(self.answer(Operation::Previous { key })?.found())
     }
 
-    /// Moves a node to a server.
+    /// Moves a node to a server, which has to be open: else the transaction aborts by [`Reason::NoSlot`].
     pub fn migrate(&mut self, node: u64, server: u64) -> Result<Migrated, Failure> {
         Ok(match self.answer(Operation::Migrate { node, server })? {
             Answer { a: 1, b } => Migrated::To(b),
@@ -128,7 +129,7 @@ impl<'s, B: AsMut<[u8]>> Transaction<'s, B> {
 
     /// One step at each participant: whether the transaction has ended. A server that takes no part refuses, and nothing happens there.
     fn at_participants(&mut self, step: fn(u64, u64) -> Step) -> Result<bool, Failure> {
-        for server in 0..self.store.sizes().servers as u64 {
+        for server in 0..MAX_SERVERS as u64 {
             match self.store.step(step(self.client, server)) {
                 Outcome::Prepared(_) | Outcome::Applied(_) | Outcome::Refused(Refusal::Unfit) => {}
                 Outcome::Decided => return Ok(false),
@@ -197,6 +198,12 @@ fn failure(outcome: Outcome) -> Failure {
         Outcome::Aborted(reason) => Failure::Aborted(reason),
         Outcome::Refused(refusal) => Failure::Refused(refusal),
         other => unreachable!("no such step has the outcome {other:?}"),
+    }
+}
+
+impl From<Refusal> for Failure {
+    fn from(refusal: Refusal) -> Failure {
+        Failure::Refused(refusal)
     }
 }
 

@@ -5,7 +5,7 @@ mod common;
 
 use common::player::{Player, Taste};
 use common::{inputs, layout, tried, Random, LONGEST};
-use gemandrolo::{Outcome, Refusal, Sizes, Store};
+use gemandrolo::{NotRetired, Outcome, Refusal, Sizes, Store};
 use std::collections::BTreeMap;
 
 const STATES: usize = 1000;
@@ -19,6 +19,7 @@ const TASTE: Taste = Taste {
     migrates: 3,
     lists: 12,
     noise: 2,
+    changes: 20,
     length: 4,
 };
 
@@ -149,6 +150,39 @@ fn flipped_bits_below_a_list() {
     }
 }
 
+/// A server is retired, or the reason is told: the look that goes before each move is as safe as a step.
+#[test]
+fn a_server_retired() {
+    let mut random = Random(6);
+    let mut ends: BTreeMap<String, usize> = BTreeMap::new();
+    for _ in 0..inputs(STATES) {
+        let (mut player, sound) = state(&mut random);
+        let mut store = Store::resume(sound).expect("a store");
+        player.settle(&mut store);
+        store.step_words([7, 0, 0, 0, 0, 0]);
+        let sound = store.into_memory();
+        for _ in 0..20 {
+            let target = random.index(layout::TARGETS.len());
+            let mut memory = sound.clone();
+            let place = layout::place(&mut random, player.sizes, target);
+            damage(&mut random, &mut memory, place);
+            let Ok(mut store) = Store::resume(memory) else {
+                continue;
+            };
+            let server = random.below(player.sizes.servers as u64);
+            let end = match store.retire(0, server, |_, _| ()) {
+                Ok(()) => "retired".into(),
+                Err(NotRetired::NoRoom { .. }) => "no room".into(),
+                Err(NotRetired::Stuck { failure, .. }) => failure.to_string(),
+                Err(why) => why.to_string(),
+            };
+            *ends.entry(end).or_default() += 1;
+        }
+    }
+    println!("servers retired in damaged memory: {ends:?}");
+    assert!(ends.contains_key("retired") && ends.len() > 5);
+}
+
 /// Random bytes in all of the memory, in some of it, or in the servers' parts alone, which the clients then read.
 #[test]
 fn random_bytes() {
@@ -235,7 +269,8 @@ fn alignment() {
     }
 }
 
-/// Sizes outside their ranges are refused by 2 and call for no memory; the ends of the ranges are accepted.
+/// Sizes outside their ranges are refused by 2 and call for no memory; the ends of the ranges are accepted. There is room for eight servers
+/// whatever the store is opened with.
 #[test]
 fn ranges_of_sizes() {
     let of = |servers, slots, clients| Sizes {
@@ -258,7 +293,11 @@ fn ranges_of_sizes() {
             Some(Refusal::Sizes)
         );
     }
-    assert_eq!(of(8, 1024, 16).length(), Some(4_202_624));
+    assert_eq!(of(8, 1024, 16).length(), Some(4_202_688));
+    for servers in 1..=8 {
+        let length = of(servers, 5, 3).length();
+        assert_eq!(length, Some(8 * layout::words(of(8, 5, 3))));
+    }
     for good in [of(1, 1, 1), of(8, 1024, 16)] {
         assert_eq!(Store::new(good).map(|s| s.sizes()), Ok(good));
     }

@@ -5,9 +5,11 @@ mod common;
 use common::player::{Player, Taste};
 use common::{inputs, layout, Random, LONGEST};
 use gemandrolo::inspect::{
-    Body, Client, Field, Item, Lock, Name, NoTree, Object, OutOfRange, Phase, Server, View,
+    Body, Client, Field, Item, Lock, Metadata, Name, NoTree, Object, OutOfRange, Phase, Server,
+    ServerState, View,
 };
-use gemandrolo::{Failure, Operation, Outcome, Reason, Sizes, Step, Store};
+use gemandrolo::{Failure, Operation, Outcome, Reason, Sizes, Step, Store, MAX_SERVERS};
+use std::collections::BTreeMap;
 
 const SCHEDULES: usize = 1500;
 const OUT: OutOfRange = OutOfRange(u64::MAX);
@@ -29,6 +31,7 @@ fn taste(random: &mut Random) -> Taste {
         migrates: random.pick(&[0, 4]),
         lists: random.pick(&[0, 10]),
         noise: random.pick(&[0, 3]),
+        changes: random.pick(&[0, 20]),
         length: random.pick(&[1, 3, 8]),
     }
 }
@@ -46,7 +49,7 @@ fn items(set: Field<Vec<Field<Item>>>) -> Vec<Item> {
 }
 
 fn copies(client: &Client) -> Vec<Item> {
-    let metadata = sound(client.metadata_copy()).map(Item::Metadata);
+    let metadata = client.metadata_copy().map(Item::Metadata);
     let nodes = client.node_copies().map(sound);
     metadata
         .into_iter()
@@ -101,6 +104,17 @@ fn locks_have_holders(view: &View, seen: &mut Seen) {
     }
 }
 
+/// The server that a client fetches the metadata from, by the words of the memory themselves.
+fn source(memory: &[u8], client: usize) -> usize {
+    let sizes = view(memory).sizes();
+    let there = layout::present(memory, sizes);
+    let first = client % sizes.servers;
+    let mut round = (first..8).chain(0..first);
+    round
+        .find(|server| there.contains(server))
+        .expect("one is there")
+}
+
 /// A copy or a thing read is marked old exactly when its version is behind the server's, or its flag another, by the words of the memory
 /// themselves.
 fn old_is_behind(memory: &[u8], seen: &mut Seen) {
@@ -111,15 +125,15 @@ fn old_is_behind(memory: &[u8], seen: &mut Seen) {
         for item in copies(&client).into_iter().chain(items(client.reads())) {
             let due = match &item {
                 Item::Metadata(m) => {
-                    let source = layout::server_at(sizes, client.number() % sizes.servers);
-                    u64::from(sound(m.version)) < word(source + 1)
+                    let source = layout::server_at(sizes, source(memory, client.number()));
+                    u64::from(sound(m.version)) < word(source + layout::METADATA_VERSION)
                 }
                 Item::Node(name, n) => {
                     let home = layout::node_at(sizes, name.number());
                     u64::from(sound(n.version)) < word(home + 2)
                 }
                 Item::Flag(name, taken) => {
-                    let vector = layout::server_at(sizes, name.server()) + 3;
+                    let vector = layout::server_at(sizes, name.server()) + layout::VECTOR;
                     let flag = word(vector + name.slot() / 64) >> (name.slot() % 64) & 1;
                     u64::from(sound(*taken)) != flag
                 }
@@ -128,6 +142,25 @@ fn old_is_behind(memory: &[u8], seen: &mut Seen) {
             match due {
                 true => seen.old += 1,
                 false => seen.current += 1,
+            }
+        }
+    }
+}
+
+/// Metadata of one version is the same wherever it is: at servers that are there, read, and copied.
+fn metadata_by_version(view: &View) {
+    let mut seen = BTreeMap::new();
+    let mut meet = |metadata: Metadata| {
+        let version = sound(metadata.version);
+        let first = seen.entry(version).or_insert(metadata.clone());
+        assert_eq!(*first, metadata);
+    };
+    let servers = view.servers().filter(Server::is_there);
+    servers.for_each(|server| meet(server.metadata()));
+    for client in view.clients() {
+        for item in copies(&client).into_iter().chain(items(client.reads())) {
+            if let Item::Metadata(metadata) = item {
+                meet(metadata);
             }
         }
     }
@@ -149,6 +182,9 @@ fn given([_, _, op, key, value, server]: [u64; 6]) -> Option<Operation> {
 
 /// What the client's part shows after a step of it, by the outcome alone.
 fn follows(view: &View, step: [u64; 6], outcome: Outcome) {
+    if let (8..=10, Outcome::Done) = (step[0], outcome) {
+        return changed(view, step);
+    }
     let Some(client) = view.client(step[1] as usize) else {
         return;
     };
@@ -180,12 +216,33 @@ fn follows(view: &View, step: [u64; 6], outcome: Outcome) {
     }
 }
 
+/// What is shown after a change of the servers, by each of them that is there.
+fn changed(view: &View, [kind, .., number]: [u64; 6]) {
+    let number = number as usize;
+    let due = match kind {
+        8 => ServerState::Open,
+        9 => ServerState::Closing,
+        _ => ServerState::Absent,
+    };
+    let changed = view.server(number).expect("a server");
+    assert_eq!(changed.state(), due);
+    let newest = changed.metadata();
+    for server in view.servers().filter(Server::is_there) {
+        assert_eq!(server.metadata(), newest);
+        let states = sound(newest.states);
+        assert_eq!(states.server(server.number()), server.state());
+        assert!(states.present().contains(server.number()));
+        let is_open = server.state() == ServerState::Open;
+        assert_eq!(states.open().contains(server.number()), is_open);
+    }
+}
+
 /// The store with no transaction under way, in memory of its own: undecided ones are given up, decided ones applied.
 fn at_rest(memory: &[u8]) -> Store<Vec<u8>> {
     let mut store = Store::resume(memory.to_vec()).expect("a store");
     for client in 0..store.sizes().clients as u64 {
         store.step(Step::GiveUp { client });
-        for server in 0..store.sizes().servers as u64 {
+        for server in 0..MAX_SERVERS as u64 {
             store.step(Step::Apply { client, server });
         }
     }
@@ -220,7 +277,7 @@ fn old_copies_abort(random: &mut Random, store: &mut Store<Vec<u8>>, keys: u64, 
             .filter(|copy| sound(client.is_old(copy)))
             .map(Item::object)
             .collect();
-        let root = sound(client.metadata_copy()).map(|m| Object::Node(sound(m.root)));
+        let root = client.metadata_copy().map(|m| Object::Node(sound(m.root)));
         let by_old_root = root.is_some_and(|root| old.contains(&root));
         let key = random.below(keys);
         match store.transaction(number as u64, 1, |t| t.lookup(key)) {
@@ -257,6 +314,7 @@ fn random_schedules() {
             if random.percent(5) {
                 locks_have_holders(&view(store.memory()), &mut seen);
                 old_is_behind(store.memory(), &mut seen);
+                metadata_by_version(&view(store.memory()));
             }
         }
         let mut rested = at_rest(store.memory());
@@ -272,7 +330,8 @@ fn random_schedules() {
 fn look(view: &View) -> usize {
     let mut text = format!("{:?}", view.pairs());
     for server in view.servers() {
-        text += &format!("{:?} {:?}", server.metadata(), server.locks());
+        text += &format!("{:?} {:?}", server.state(), server.metadata());
+        text += &format!("{:?}", server.locks());
         text += &format!("{:?}", server.vector());
         for name in view.names() {
             text += &format!("{:?} {:?}", server.table(name), server.node(name.slot()));
@@ -289,7 +348,9 @@ fn look(view: &View) -> usize {
             text += &format!("{:?} {:?}", set, set.clone().map(old));
         }
         text += &format!("{:?}", client.node_copies().collect::<Vec<_>>());
-        for server in 0..=view.sizes().servers {
+        let source = view.metadata_source(client.number());
+        text += &format!("{:?}", source.map(|server| server.number()));
+        for server in 0..=MAX_SERVERS {
             text += &format!("{:?}", client.vector_copy(server));
         }
     }
@@ -385,8 +446,11 @@ fn out_of_range_at_a_server() {
     };
     shown(part, |s, _| s.metadata().root == Err(OUT));
     shown(part + 1, |s, _| s.metadata().version == Err(OUT));
-    shown(part + 2, |s, _| s.locks() == [(Object::Metadata, Err(OUT))]);
-    shown(part + 3, |s, _| s.is_taken(63) && !s.is_taken(64));
+    shown(part + 2, |s, _| {
+        s.metadata().states == Err(OUT) && s.state() == ServerState::Open
+    });
+    shown(part + 3, |s, _| s.locks() == [(Object::Metadata, Err(OUT))]);
+    shown(part + 4, |s, _| s.is_taken(63) && !s.is_taken(64));
     shown(row, |s, n| {
         let body = s.node(n.slot()).map(|node| node.body);
         matches!(body, Some(Body::OutOfRange { kind: u64::MAX, .. }))
@@ -421,7 +485,9 @@ fn out_of_range_at_a_client() {
     shown(9, |c| c.is_lost() == Err(OUT));
     shown(10, |c| c.reads() == Err(OUT));
     shown(11, |c| c.writes() == Err(OUT));
-    shown(12, |c| c.metadata_copy() == Err(OUT));
+    shown(12, |c| {
+        c.metadata_copy().map(|copy| copy.states) == Some(Err(OUT))
+    });
     shown(4911 + 63, |c| c.node_copies().eq([Err(OUT)]));
     shown(7087 + 17 * 7, |c| c.vector_copy(7) == Err(OUT));
     shown(7222, |c| c.vector_copy(7) == Ok(None));
@@ -467,6 +533,83 @@ fn no_tree() {
     assert_eq!(pairs([4, 4]), Err(NoTree::Name(OutOfRange(4))));
     let free = view(&memory).names().nth(1).expect("a second slot");
     assert_eq!(pairs([1, 1]), Err(NoTree::Node(free)));
+}
+
+/// An absent server's root is not asked, whatever it names; a closing one's is.
+#[test]
+fn roots_of_servers_that_are_there() {
+    let sizes = Sizes {
+        servers: 3,
+        slots: 4,
+        clients: 1,
+    };
+    let mut store = Store::new(sizes).expect("allowed sizes");
+    let pairs = |memory: &[u8]| {
+        [0, 1, 2, 3].map(|server| {
+            let mut memory = memory.to_vec();
+            layout::set_word(&mut memory, layout::server_at(sizes, server), 1);
+            view(&memory).pairs().is_ok()
+        })
+    };
+    assert_eq!(pairs(store.memory()), [false, false, false, true]);
+    store.close(1).expect("an open one");
+    assert_eq!(pairs(store.memory()), [false, false, false, true]);
+    store.remove(1).expect("a closing one");
+    assert_eq!(pairs(store.memory()), [false, true, false, true]);
+}
+
+/// The servers' states in a server's metadata, in what is read of it and in the copy: out of range where no server is there, or a bit of none is set.
+#[test]
+fn states_in_metadata() {
+    let sizes = Sizes {
+        servers: 2,
+        slots: 4,
+        clients: 1,
+    };
+    let mut store = Store::new(sizes).expect("allowed sizes");
+    let (client, operation) = (0, Operation::Lookup { key: 1 });
+    store.step(Step::Begin { client });
+    store.step(Step::Give { client, operation });
+    store.step(Step::Work { client });
+    let memory = store.into_memory();
+    let read = layout::items(&memory, sizes, 0, layout::Set::Reads)[0];
+    let places = [
+        layout::server_at(sizes, 0) + layout::STATES,
+        read.record + layout::SLOTS.start + 1,
+        layout::client_at(sizes, 0) + layout::META_STATES,
+    ];
+    let shown = |word: u64| {
+        let mut memory = memory.clone();
+        for place in places {
+            layout::set_word(&mut memory, place, word);
+        }
+        let view = view(&memory);
+        let client = view.client(0).expect("a client");
+        let [Item::Metadata(read)] = &items(client.reads())[..] else {
+            panic!("the metadata is read");
+        };
+        let stored = view.server(0).expect("a server").metadata().states;
+        let copied = client.metadata_copy().map(|copy| copy.states);
+        assert_eq!(read.states, stored);
+        assert_eq!(copied, (word != 0).then_some(stored));
+        stored
+    };
+    use ServerState::{Absent, Closing, Open};
+    for (word, due) in [
+        (0x303, [Open, Open, Absent]),
+        (0x103, [Open, Closing, Absent]),
+        (0x301, [Open, Absent, Absent]),
+        (0x007, [Closing, Closing, Closing]),
+        (0x404, [Absent, Absent, Open]),
+        (0xffff, [Open, Open, Open]),
+    ] {
+        let states = sound(shown(word));
+        assert_eq!([0, 1, 2].map(|server| states.server(server)), due);
+        assert_eq!(states.server(MAX_SERVERS), Absent);
+    }
+    for word in [0, 0x100, 0xff00, 0x10001, 1 << 63 | 0x303, u64::MAX] {
+        assert_eq!(shown(word), Err(OutOfRange(word)));
+    }
 }
 
 /// An inner root above a leaf: a tree only if it is one level higher.

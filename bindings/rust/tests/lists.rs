@@ -427,7 +427,7 @@ fn counts_in_order() {
     let mut waiting = open.clone();
     waiting.step(give(list(0, 1)));
     let refusals = [
-        ([8, 0, 7, 0, 0, 0], 4),
+        ([11, 0, 7, 0, 0, 0], 4),
         ([1, 2, 7, 0, 0, 0], 5),
         ([1, 2, 7, 0, 33, 0], 5),
         ([1, 0, 0, 0, 0, 0], 6),

@@ -162,10 +162,19 @@ fn used_root(stage: &Stage, set: Set, child: usize) -> Vec<usize> {
     [used(stage, set, ROOT), vec![children + child]].concat()
 }
 
-/// The metadata's version and the root's name in a set.
+/// The servers' states in a set's metadata.
+fn used_states(stage: &Stage, set: Set) -> usize {
+    stage.record(ME, set, METADATA) + SLOTS.start + 1
+}
+
+/// The metadata's version, the root's name and the servers' states in a set.
 fn used_metadata(stage: &Stage, set: Set) -> Vec<usize> {
     let record = stage.record(ME, set, METADATA);
-    vec![record + VERSION, record + SLOTS.start]
+    vec![
+        record + VERSION,
+        record + SLOTS.start,
+        used_states(stage, set),
+    ]
 }
 
 /// A flag's value in a set.
@@ -200,6 +209,7 @@ fn reads(stage: &Stage, name: &str, step: Step, damaged: &[&[usize]], taken: &[&
             _ => Vec::new(),
         },
         taken: taken.concat(),
+        ..Due::default()
     };
     stage.reads(name, step, due);
 }
@@ -266,13 +276,16 @@ fn give_up_and_lost() {
     );
 }
 
+/// Where all servers take part, a commit reads which they are.
 #[test]
 fn commit() {
-    for (name, stage) in [
-        ("commit of two leaves", shared()),
-        ("commit of a split", split()),
+    let (leaves, split) = (shared(), split());
+    let states = [used_states(&split, Set::Reads)];
+    for (name, stage, more) in [
+        ("commit of two leaves", leaves, &[][..]),
+        ("commit of a split", split, &states),
     ] {
-        reads(&stage, name, COMMIT, &[&kinds(&stage)], &[]);
+        reads(&stage, name, COMMIT, &[&kinds(&stage), more], &[]);
     }
 }
 
@@ -557,8 +570,9 @@ fn fetches() {
     let mut stage = alone(Lookup { key: 10 });
     let [root, left, right] = [ROOT, LEFT, RIGHT].map(|x| layout::node_at(stage.sizes, x));
     let metadata = layout::server_at(stage.sizes, 0);
-    let copied = stage.fields(ME, &[META_COPIED]);
-    let damaged = [&copied[..], &[metadata, metadata + 1, metadata + 2]];
+    let copied = stage.fields(ME, &[META_STATES]);
+    let whole = [layout::ROOT, METADATA_VERSION, STATES, METADATA_LOCK].map(|i| metadata + i);
+    let damaged = [&copied[..], &whole];
     work(&stage, "fetch of metadata", &damaged, &[]);
     let moving = alone(migrate(RIGHT, 0));
     let moved = moving.fields(ME, &[OP_KEY, OP_SERVER]);
@@ -628,7 +642,7 @@ fn fetch_over_copies() {
     stage.given(ME, Lookup { key: 10 });
     let left = layout::node_at(stage.sizes, LEFT);
     let damaged = [
-        &stage.fields(ME, &[META_COPIED, META_ROOT, META_VERSION])[..],
+        &stage.fields(ME, &[META_STATES, META_ROOT, META_VERSION])[..],
         &used_root(&stage, Set::Copies, 0),
         &locks(&stage, 0, &TO_LEFT),
         &[
@@ -663,7 +677,7 @@ fn fetches_of_a_split() {
     };
     stage.before(ME, Some(Fetched::Vector(0)));
     let walked = contents(&stage, Set::Reads, &[ROOT, LEFT]);
-    let vector = layout::server_at(sizes, 0) + 3;
+    let vector = layout::server_at(sizes, 0) + VECTOR;
     let words = (vector..vector + 16).collect::<Vec<_>>();
     work(
         &stage,
@@ -762,6 +776,119 @@ fn lists_that_read_on() {
         &[&walked],
     );
     assert_eq!(stage.step(WORK), Outcome::Answered(Answer { a: 12, b: 0 }));
+}
+
+/// Server 1 is gone, and `RIGHT` has moved to server 0.
+fn without_server_1(mut stage: Stage) -> Stage {
+    stage.step(Step::CloseServer { server: 1 });
+    stage.transaction(OTHER, &[migrate(RIGHT, 0)]);
+    stage.step(Step::RemoveServer { server: 1 });
+    stage
+}
+
+/// At an absent server nothing is checked: a fetch there reads what led to it, a prepare who takes part and which objects are read and written, and
+/// both what every abort reads.
+#[test]
+fn absent_servers() {
+    let mut stage = alone(Lookup { key: 150 });
+    stage.before(ME, Some(Fetched::Node(RIGHT)));
+    let stage = without_server_1(stage);
+    let damaged = [
+        &used_metadata(&stage, Set::Reads)[..],
+        &used_root(&stage, Set::Reads, 2),
+        &stage.fields(ME, &[PREPARED]),
+    ];
+    let walked = contents(&stage, Set::Reads, &[ROOT]);
+    work(&stage, "fetch at an absent server", &damaged, &[&walked]);
+    assert_eq!(stage.clone().step(WORK), DIFFERS);
+
+    let mut stage = tree();
+    stage.opened(ME, &[insert(150)]);
+    stage.prepared(ME, &[]);
+    let stage = without_server_1(stage);
+    let servers = stage.fields(ME, &[PARTICIPANTS, PREPARED]);
+    let damaged = [&servers[..], &objects(&stage)];
+    reads(
+        &stage,
+        "prepare at an absent server",
+        prepare(1),
+        &damaged,
+        &[],
+    );
+    assert_eq!(stage.clone().step(prepare(1)), DIFFERS);
+}
+
+/// States that call all servers absent are out of range wherever the metadata is used: in the copy, but for 0, which says that there is none; in
+/// the read set, for work and for a commit that all servers take part in; in the write set, for an apply.
+#[test]
+fn states_of_no_server() {
+    let mut copied = tree();
+    copied.step(BEGIN);
+    copied.given(ME, Lookup { key: 10 });
+    let mut working = alone(Lookup { key: 10 });
+    working.before(ME, Some(Fetched::Node(ROOT)));
+    let mut decided = tree();
+    decided.opened(ME, &[migrate(ROOT, 1)]);
+    decided.prepared(ME, &[0, 1]);
+    let [leaves, split] = [shared(), split()];
+    let read = |stage: &Stage| used_states(stage, Set::Reads);
+    for word in [0, 0x100, 0xff00] {
+        let mut copy = copied.with(copied.field(ME, META_STATES), word);
+        let due = match word {
+            0 => Outcome::Fetched(Fetched::Metadata),
+            _ => DAMAGED,
+        };
+        assert_eq!(copy.tried(WORK), due, "the copy with states {word:x}");
+        let mut work = working.with(read(&working), word);
+        assert_eq!(work.tried(WORK), DAMAGED);
+        assert_eq!(split.with(read(&split), word).tried(COMMIT), DAMAGED);
+        let mut two = leaves.with(read(&leaves), word);
+        assert_eq!(two.tried(COMMIT), Outcome::Done, "they are not asked");
+        let mut apply_0 = decided.with(used_states(&decided, Set::Writes), word);
+        assert_eq!(apply_0.tried(apply(0)), DAMAGED);
+    }
+}
+
+/// A change of the servers reads where each client stands, and the metadata of the lowest server that is there; an add also the tables that it takes
+/// the largest versions from, a removal the server's flags. Of the other servers' states it reads two bits each.
+#[test]
+fn changes_of_servers() {
+    let due = |stage: &Stage| {
+        let lowest = layout::server_at(stage.sizes, 0);
+        let phases = [ME, OTHER].map(|client| stage.field(client, PHASE));
+        let metadata = [layout::ROOT, STATES].map(|i| lowest + i);
+        Due {
+            damaged: [phases, metadata].concat(),
+            version: vec![lowest + METADATA_VERSION],
+            ..Due::default()
+        }
+    };
+    let add = Step::AddServer { server: 5 };
+    let tables = |stage: &Stage| [0, 1, 5].map(|server| layout::table_at(stage.sizes, server));
+    let mut stage = tree();
+    let mut read = due(&stage);
+    read.damaged.extend(tables(&stage).concat());
+    stage.reads("add a server", add, read);
+
+    let close = Step::CloseServer { server: 1 };
+    stage.reads("close a server", close, due(&stage));
+
+    stage.step(close);
+    stage.transaction(OTHER, &[migrate(RIGHT, 0)]);
+    let vector = layout::server_at(stage.sizes, 1) + VECTOR;
+    let mut read = due(&stage);
+    read.slots.extend(vector..vector + 16);
+    let remove = Step::RemoveServer { server: 1 };
+    stage.reads("remove a server", remove, read);
+
+    // of a client that has committed also whether a server has prepared
+    let mut stage = shared();
+    stage.step(Step::GiveUp { client: OTHER });
+    stage.prepared(ME, &[]);
+    let mut read = due(&stage);
+    read.damaged.extend(tables(&stage).concat());
+    read.unfit.extend(stage.fields(ME, &[PREPARED]));
+    stage.reads("add a server beside a committing client", add, read);
 }
 
 /// The count of a list that waits: 12 where the output is too short for it, whatever it is; else 10 where it is not 1 to 32. At a fetch and at

@@ -1,5 +1,5 @@
-//! Random schedules of many clients, against a map: the decided transactions, one after another in order of decision, explain every answer
-//! and the tree.
+//! Random schedules of many clients, with servers that come and go, against a map: the decided transactions, one after another in order of
+//! decision, explain every answer and the tree.
 
 mod common;
 
@@ -15,9 +15,10 @@ fn taste(random: &mut Random) -> Taste {
         keys: random.pick(&[4, 20, 60, 400, u64::MAX]),
         inserts,
         deletes,
-        migrates: random.pick(&[0, 0, 3]),
+        migrates: random.pick(&[0, 0, 3, 20]),
         lists: random.pick(&[0, 2, 15]),
         noise: random.pick(&[0, 1, 5, 30]),
+        changes: random.pick(&[0, 0, 5, 30]),
         length: random.pick(&[1, 2, 4, 12, 300]),
     }
 }
@@ -39,6 +40,7 @@ fn fill(random: &mut Random, player: &mut Player, store: &mut Store<Vec<u8>>) {
         migrates: 0,
         lists: 0,
         noise: 0,
+        changes: 0,
         length: 6,
         ..usual
     };
@@ -76,16 +78,17 @@ fn schedule(seed: u64) -> Player {
 
 #[test]
 fn decided_transactions_explain_answers_and_tree() {
-    let (mut steps, mut decided, mut refused, mut aborted) = (0, 0, [0; 13], [0; 9]);
-    let (mut lists, mut pairs) = (0, 0);
+    let (mut steps, mut decided, mut refused, mut aborted) = (0, 0, [0; 16], [0; 9]);
+    let (mut lists, mut pairs, mut changed) = (0, 0, [0; 3]);
     for seed in 0..inputs(SCHEDULES) as u64 {
         let player = schedule(seed);
         steps += player.steps;
         decided += player.ledger.decided;
         lists += player.ledger.lists;
         pairs += player.ledger.pairs;
-        (0..13).for_each(|i| refused[i] += player.refused[i]);
+        (0..16).for_each(|i| refused[i] += player.refused[i]);
         (0..9).for_each(|i| aborted[i] += player.aborted[i]);
+        (0..3).for_each(|i| changed[i] += player.changed[i]);
     }
     println!(
         "{} schedules, {steps} steps, {decided} transactions decided, with {lists} lists of {pairs} pairs",
@@ -93,20 +96,24 @@ fn decided_transactions_explain_answers_and_tree() {
     );
     assert!(lists > 0 && pairs > lists);
     println!(
-        "refused by 4 to 9: {:?}, by 11 and 12: {:?}; aborted by 1 to 7: {:?}",
+        "refused by 4 to 9: {:?}, by 11 to 14: {:?}; aborted by 1 to 7: {:?}; servers added, closed and removed: {changed:?}",
         &refused[4..10],
-        &refused[11..],
+        &refused[11..15],
         &aborted[1..8]
     );
     assert_eq!(
-        refused[1] + refused[2] + refused[3] + refused[10],
+        refused[1] + refused[2] + refused[3] + refused[10] + refused[15],
         0,
-        "the memory is sound"
+        "the memory is sound, and no version at its end"
     );
     assert!(
-        refused[4..10].iter().chain(&refused[11..]).all(|n| *n > 0),
+        refused[4..10]
+            .iter()
+            .chain(&refused[11..15])
+            .all(|n| *n > 0),
         "each refusal was met"
     );
+    assert!(changed.iter().all(|n| *n > 0), "servers came and went");
     assert!(
         [1, 2, 4, 5, 6, 7].iter().all(|reason| aborted[*reason] > 0),
         "each reason that can be met was met"
@@ -130,6 +137,7 @@ fn a_run_is_its_steps() {
             migrates: 5,
             lists: 10,
             noise: 10,
+            changes: 20,
             length: 3,
         };
         let mut player = Player::new(sizes, taste);

@@ -148,13 +148,15 @@ fn migrated() {
         Ok(Migrated::Free)
     );
     assert_eq!(
-        store.transaction(0, 1, |t| t.migrate(0, 2)),
+        store.transaction(0, 1, |t| t.migrate(1025, 8)),
         Err(Failure::Refused(Refusal::UnknownServer))
     );
-    assert_eq!(
-        store.transaction(0, 1, |t| t.migrate(16, 1)),
-        Err(Failure::Refused(Refusal::UnknownNode))
-    );
+    for name in [16, 8 * 1024] {
+        assert_eq!(
+            store.transaction(0, 1, |t| t.migrate(name, 1)),
+            Err(Failure::Refused(Refusal::UnknownNode))
+        );
+    }
 }
 
 /// A store that is full says so, and keeps what it has.

@@ -8,7 +8,7 @@ use lib.ListN.{getD}
 use Rattle.nodes.specs.declared.node.Node.{Node}
 use Rattle.nodes.specs.Entries.{entriesOf}
 use Rattle.operations.specs.Object.{node, Ans, Writes}
-use Rattle.operations.specs.Slot.{TreeSizes, release}
+use Rattle.operations.specs.Slot.{release}
 use Rattle.operations.specs.Path.{TreePlan, Branch}
 use Rattle.operations.specs.Change.{Go, merged}
 use Rattle.walk.specs.declared.down.Turn.{Turn}
@@ -29,12 +29,12 @@ pub record Between (b : Turn) (s : Sides) : Type 0 where
   pub right : s .right ≡ getD (b .node .slots) (suc (s .at)) 0
 
 -- they and the parent are in the store
-pub record Neighbours (z : TreeSizes) (b : Turn) (s : Sides) : Type 0 where
+pub record Neighbours (slots : ℕ) (b : Turn) (s : Sides) : Type 0 where
   pub followed : Followed b
-  pub there : in-store z (b .name) ≡ true
+  pub there : in-store slots (b .name) ≡ true
   pub between : Between b s
-  pub left : in-store z (s .left) ≡ true
-  pub right : in-store z (s .right) ≡ true
+  pub left : in-store slots (s .left) ≡ true
+  pub right : in-store slots (s .right) ≡ true
 
 -- the branch to them, where the parent holds keys from lo on
 abbrev pub pair-in : Turn → Sides → ℕ → Branch
@@ -44,8 +44,8 @@ pair-in b s lo = pair-of (b .name) (s .at) (entriesOf (b .node) lo)
 unfoldable pub collapse-plan : Ans → ℕ → ℕ → Node → ℕ → List Branch → Writes → Go → TreePlan
 collapse-plan a root c one lo fs w go = release w c (λ w′. P.done (a, (node root, value-of (node root) one) ∷ w′))
 
-pub record Collapses (z : TreeSizes) (m : ClientWord → ℕ) (x u : List ℕ) (a : Ans) (root c : ℕ) (one : Node) (r : Risen) (x′ u′ : List ℕ) : Type 0 where
-  pub raised : (l : ℕ) (top : Bool) → Raised z m x u l top (collapse-plan a root c one) r x′ u′
+pub record Collapses (slots : ℕ) (m : ClientWord → ℕ) (x u : List ℕ) (a : Ans) (root c : ℕ) (one : Node) (r : Risen) (x′ u′ : List ℕ) : Type 0 where
+  pub raised : (l : ℕ) (top : Bool) → Raised slots m x u l top (collapse-plan a root c one) r x′ u′
   pub halts : goes (r .stop) ≡ false
 
 -- ---- two neighbours in one
@@ -58,5 +58,5 @@ merge-plan a l b s one lo fs w go =
     let f = pair-in b s lo in
     release w (s .right) (λ w′. merged a l fs go w′ f (s .left) (entriesOf one (f .key)))
 
-pub record Merges (z : TreeSizes) (m : ClientWord → ℕ) (x u : List ℕ) (root : Bool) (a : Ans) (b : Turn) (s : Sides) (one : Node) (r : Risen) (x′ u′ : List ℕ) : Type 0 where
-  pub raised : (l : ℕ) → b .node .level ≡ suc l → OfLevel l one → Raised z m x u l root (merge-plan a l b s one) r x′ u′
+pub record Merges (slots : ℕ) (m : ClientWord → ℕ) (x u : List ℕ) (root : Bool) (a : Ans) (b : Turn) (s : Sides) (one : Node) (r : Risen) (x′ u′ : List ℕ) : Type 0 where
+  pub raised : (l : ℕ) → b .node .level ≡ suc l → OfLevel l one → Raised slots m x u l root (merge-plan a l b s one) r x′ u′

@@ -7,7 +7,6 @@ use lib.ListN.{getD}
 use Rattle.nodes.specs.declared.node.Node.{Node}
 use Rattle.nodes.specs.Entries.{entriesOf}
 use Rattle.operations.specs.Object.{node, Ans, Writes}
-use Rattle.operations.specs.Slot.{TreeSizes}
 use Rattle.operations.specs.Path.{TreePlan, Branch}
 use Rattle.operations.specs.Change.{Go}
 use Rattle.walk.specs.declared.down.Turn.{Turn}
@@ -26,5 +25,5 @@ even-plan a l b s n k lo fs w go =
     let sep = getD (b .node .keys) (s .at) 0 in
     evened a l fs go (s .last) w f (s .left) (s .right) (entriesOf n (own-side (s .last) (f .key) sep)) (entriesOf k (far-side (s .last) (f .key) sep))
 
-pub record Evens (z : TreeSizes) (m : ClientWord → ℕ) (x u : List ℕ) (root : Bool) (a : Ans) (b : Turn) (s : Sides) (n k : Node) (r : Risen) (x′ u′ : List ℕ) : Type 0 where
-  pub raised : (l : ℕ) → b .node .level ≡ suc l → OfLevel l n → OfLevel l k → fewest-keys ≤ k .count → Raised z m x u l root (even-plan a l b s n k) r x′ u′
+pub record Evens (slots : ℕ) (m : ClientWord → ℕ) (x u : List ℕ) (root : Bool) (a : Ans) (b : Turn) (s : Sides) (n k : Node) (r : Risen) (x′ u′ : List ℕ) : Type 0 where
+  pub raised : (l : ℕ) → b .node .level ≡ suc l → OfLevel l n → OfLevel l k → fewest-keys ≤ k .count → Raised slots m x u l root (even-plan a l b s n k) r x′ u′

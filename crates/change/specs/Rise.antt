@@ -13,7 +13,6 @@ use Rattle.nodes.specs.Entries.{entriesOf, wide-entries}
 use Rattle.nodes.specs.Change.{wide}
 use Rattle.nodes.specs.Kept.{Whole, WholeWide}
 use Rattle.operations.specs.Object.{node, Ans, Writes}
-use Rattle.operations.specs.Slot.{TreeSizes}
 use Rattle.operations.specs.Entry.{Entries, kind}
 use Rattle.operations.specs.Path.{TreePlan, Branch}
 use Rattle.operations.specs.Change.{Go, split, neighbour}
@@ -21,7 +20,7 @@ use Rattle.change.specs.declared.rise.Risen.{Risen}
 use Rattle.walk.specs.declared.down.Turn.{Turn}
 use Rattle.walk.specs.declared.walk.Stop.{Stop}
 use Rattle.client.specs.Layout.{ClientWord}
-use Rattle.client.specs.Record.{sizes, in-store, value-of}
+use Rattle.client.specs.Record.{in-store, value-of}
 use Rattle.client.specs.Lent.{LentList, used-in}
 use Rattle.walk.specs.Walk.{Told, goes, walked}
 use Rattle.walk.specs.Lookup.{ended}
@@ -30,12 +29,12 @@ use Rattle.walk.specs.Ask.{SmallNode, OwnKept, OwnGood, Holds-writes, Noted, ov
 use Rattle.walk.specs.Take.{Wrote}
 use Rattle.walk.specs.Entries.{branch-of}
 use Rattle.walk.specs.Down.{Followed, Link}
-use Rattle.client.specs.Bounds.{most-servers, highest-level, keys-to-split}
+use Rattle.client.specs.Bounds.{highest-level, keys-to-split}
 
 -- a node is written under its name
 pub record NodeWritten (x : List ℕ) (name : ℕ) (n : Node) (x′ : List ℕ) : Type 0 where
   pub wrote : n .level ≤ highest-level → Wrote x (node name) (value-of (node name) n) x′
-  pub holds : (z : TreeSizes) (w : Writes) → z .servers ≤ most-servers → in-store z name ≡ true → Holds-writes z x w → Holds-writes z x′ ((node name, value-of (node name) n) ∷ w)
+  pub holds : (slots : ℕ) (w : Writes) → in-store slots name ≡ true → Holds-writes slots x w → Holds-writes slots x′ ((node name, value-of (node name) n) ∷ w)
   pub kept : OwnKept x′
 
 -- the new content of a node of level l: up to 15 keys
@@ -56,43 +55,42 @@ is-root (f ∷ fs) = false
 
 -- One level below the root. `plan` is what it does, where the parent holds keys from lo on and has the path fs above it, before go;
 -- `more` are its writes, the latest first. With Going the parent's new content goes up.
-pub record Raised (z : TreeSizes) (m : ClientWord → ℕ) (x u : List ℕ) (l : ℕ) (root : Bool) (plan : ℕ → List Branch → Writes → Go → TreePlan) (r : Risen) (x′ u′ : List ℕ) : Type 0 where
+pub record Raised (slots : ℕ) (m : ClientWord → ℕ) (x u : List ℕ) (l : ℕ) (root : Bool) (plan : ℕ → List Branch → Writes → Go → TreePlan) (r : Risen) (x′ u′ : List ℕ) : Type 0 where
   pub more : Writes
-  pub same : (w : Writes) → Holds-writes z x w → (lo : ℕ) (fs : List Branch) → is-root fs ≡ root → (go : Go)
-      → walked z m (plan lo fs w go) (used-in u) ≡ rose (r .stop) (used-in u′) (more ++ w) (λ us w′. walked z m (go w′ (wide-entries (r .up) lo)) us)
-  pub holds : stands (r .stop) ≡ true → (w : Writes) → Holds-writes z x w → Holds-writes z x′ (more ++ w)
-  pub kept : stands (r .stop) ≡ true → (w : Writes) → Holds-writes z x w → OwnKept x′
+  pub same : (w : Writes) → Holds-writes slots x w → (lo : ℕ) (fs : List Branch) → is-root fs ≡ root → (go : Go)
+      → walked slots m (plan lo fs w go) (used-in u) ≡ rose (r .stop) (used-in u′) (more ++ w) (λ us w′. walked slots m (go w′ (wide-entries (r .up) lo)) us)
+  pub holds : stands (r .stop) ≡ true → (w : Writes) → Holds-writes slots x w → Holds-writes slots x′ (more ++ w)
+  pub kept : stands (r .stop) ≡ true → (w : Writes) → Holds-writes slots x w → OwnKept x′
   pub good : goes (r .stop) ≡ true → OwnGood x′
   pub few : goes (r .stop) ≡ true → getD x′ 0 0 ≤ getD x 0 0 + 3
   pub content : goes (r .stop) ≡ true → Content (suc l) (r .up)
   pub noted : Noted m u′
 
--- As a contract promises it, over what the walk is lent: the plan is that of the store's sizes.
-abbrev pub Raises : ℕ → ℕ → LentList → LentList → LentList → ℕ → Bool → (TreeSizes → ℕ → List Branch → Writes → Go → TreePlan) → Risen → Type 0
-Raises servers slots part own used l root plan r =
-    over-lent Raised servers slots part own used l root (plan (sizes servers slots)) r (now (own .exit)) (now (used .exit))
+-- As a contract promises it, over what the walk is lent.
+abbrev pub Raises : ℕ → LentList → LentList → LentList → ℕ → Bool → (ℕ → List Branch → Writes → Go → TreePlan) → Risen → Type 0
+Raises slots part own used l root plan r = over-lent Raised slots part own used l root plan r (now (own .exit)) (now (used .exit))
 
 -- The last level. `plan` is what it does after the writes w.
-pub record Closed (z : TreeSizes) (m : ClientWord → ℕ) (x u : List ℕ) (plan : Writes → TreePlan) (s : Stop) (x′ u′ : List ℕ) : Type 0 where
+pub record Closed (slots : ℕ) (m : ClientWord → ℕ) (x u : List ℕ) (plan : Writes → TreePlan) (s : Stop) (x′ u′ : List ℕ) : Type 0 where
   pub more : Writes
-  pub same : (w : Writes) → Holds-writes z x w → walked z m (plan w) (used-in u) ≡ ended s (used-in u′) (more ++ w) []
-  pub holds : stands s ≡ true → (w : Writes) → Holds-writes z x w → Holds-writes z x′ (more ++ w)
-  pub kept : stands s ≡ true → (w : Writes) → Holds-writes z x w → OwnKept x′
+  pub same : (w : Writes) → Holds-writes slots x w → walked slots m (plan w) (used-in u) ≡ ended s (used-in u′) (more ++ w) []
+  pub holds : stands s ≡ true → (w : Writes) → Holds-writes slots x w → Holds-writes slots x′ (more ++ w)
+  pub kept : stands s ≡ true → (w : Writes) → Holds-writes slots x w → OwnKept x′
   pub noted : Noted m u′
 
--- As a contract promises it, over what the walk is lent: the plan is that of the store's sizes.
-abbrev pub Closes : ℕ → ℕ → LentList → LentList → LentList → (TreeSizes → Writes → TreePlan) → Stop → Type 0
-Closes servers slots part own used plan s = over-lent Closed servers slots part own used (plan (sizes servers slots)) s (now (own .exit)) (now (used .exit))
+-- As a contract promises it, over what the walk is lent.
+abbrev pub Closes : ℕ → LentList → LentList → LentList → (Writes → TreePlan) → Stop → Type 0
+Closes slots part own used plan s = over-lent Closed slots part own used plan s (now (own .exit)) (now (used .exit))
 
 -- ---- the node of the name c and the level l whose parent is b, with the entries es lo where it holds keys from lo on
 abbrev pub in-parent : Turn → ℕ → Branch
 in-parent b lo = branch-of (b .name) (b .at) (entriesOf (b .node) lo)
 
 -- its parent is at hand, and both are in the store
-pub record Under (z : TreeSizes) (l c : ℕ) (b : Turn) : Type 0 where
+pub record Under (slots l c : ℕ) (b : Turn) : Type 0 where
   pub followed : Followed b
-  pub link : Link z l c b
-  pub there : in-store z (b .name) ≡ true
+  pub link : Link slots l c b
+  pub there : in-store slots (b .name) ≡ true
 
 -- a node of level l
 pub record OfLevel (l : ℕ) (n : Node) : Type 0 where
@@ -106,8 +104,8 @@ pub record Full (l : ℕ) (n : Wide) : Type 0 where
   pub full : n .count ≡ keys-to-split
 
 -- a node of 15 keys below the root
-unfoldable pub split-plan : TreeSizes → ℕ → Turn → ℕ → (ℕ → Entries) → ℕ → List Branch → Writes → Go → TreePlan
-split-plan z l b c es lo fs w go = let f = in-parent b lo in split z go l w f c (es (f .key))
+unfoldable pub split-plan : ℕ → ℕ → Turn → ℕ → (ℕ → Entries) → ℕ → List Branch → Writes → Go → TreePlan
+split-plan slots l b c es lo fs w go = let f = in-parent b lo in split slots go l w f c (es (f .key))
 
 -- "left with 6 keys"
 unfoldable pub neighbour-plan : Ans → ℕ → Turn → ℕ → (ℕ → Entries) → ℕ → List Branch → Writes → Go → TreePlan
@@ -120,8 +118,8 @@ pub record Fitting (h : Halves) : Type 0 where
   pub right : SmallNode (h .right)
 
 pub record BothWritten (x : List ℕ) (c d : ℕ) (h : Halves) (x′ : List ℕ) : Type 0 where
-  pub holds : (z : TreeSizes) (w : Writes) → z .servers ≤ most-servers → in-store z c ≡ true → in-store z d ≡ true → Holds-writes z x w
-      → Holds-writes z x′ ((node d, value-of (node d) (h .right)) ∷ (node c, value-of (node c) (h .left)) ∷ w)
+  pub holds : (slots : ℕ) (w : Writes) → in-store slots c ≡ true → in-store slots d ≡ true → Holds-writes slots x w
+      → Holds-writes slots x′ ((node d, value-of (node d) (h .right)) ∷ (node c, value-of (node c) (h .left)) ∷ w)
   pub good : OwnGood x′
   pub few : getD x′ 0 0 ≤ getD x 0 0 + 2
   pub kept : OwnKept x′

@@ -4,7 +4,6 @@ use mathlib.Core.Bool.{Bool, true, false, cond, _&&_, _||_}
 use mathlib.Core.List.{List, [], _∷_}
 use Prim.Native.Nat.{ℕ, _≤_, _<_}
 use lib.Dec.{eqb, leb}
-use Rattle.operations.specs.Slot.{TreeSizes}
 use Rattle.operations.specs.Operation.{reading}
 use Rattle.operations.specs.Path.{TreePlan}
 use Rattle.change.specs.declared.leaf.Changed.{Changed}
@@ -13,7 +12,7 @@ use Rattle.walk.specs.declared.walk.Stop.{Stop}
 use Rattle.client.specs.Layout.{ClientWord}
 use Rattle.client.specs.Sets.{held}
 use Rattle.client.specs.Lent.{Entry}
-use Rattle.client.specs.Bounds.{most-servers, end-of-names, most-keys, fewest-keys}
+use Rattle.client.specs.Bounds.{end-of-names, most-keys, fewest-keys}
 use Rattle.client.specs.Work.{waiting}
 use Rattle.walk.specs.Walk.{goes}
 use Rattle.change.specs.Operated.{Written}
@@ -40,15 +39,15 @@ Named c = goes (c .stop) ≡ true → c .way .name < end-of-names
 
 -- a changed leaf is written, whatever plan it is, unless there is more to write
 pub record LeafWritten (b u : List ℕ) (c : Changed) (r : Single) (u′ : List ℕ) : Type 0 where
-  pub written : goes (r .stop) ≡ false → (z : TreeSizes) → z .servers ≤ most-servers → (p : TreePlan) (u₀ : List ℕ) → Changes z b u₀ p c u
-      → Written z (held b) u₀ p (r .stop) (entries-of r) u′
+  pub written : goes (r .stop) ≡ false → (slots : ℕ) (p : TreePlan) (u₀ : List ℕ) → Changes slots b u₀ p c u
+      → Written slots (held b) u₀ p (r .stop) (entries-of r) u′
   pub few : r .node .count ≤ most-keys
 
 -- the waiting operation is walked to its end, unless there is more to write
-pub record Singly (z : TreeSizes) (m : ClientWord → ℕ) (u : List ℕ) (r : Single) (u′ : List ℕ) : Type 0 where
-  pub written : goes (r .stop) ≡ false → Written z m u (reading z (waiting m)) (r .stop) (entries-of r) u′
+pub record Singly (slots : ℕ) (m : ClientWord → ℕ) (u : List ℕ) (r : Single) (u′ : List ℕ) : Type 0 where
+  pub written : goes (r .stop) ≡ false → Written slots m u (reading slots (waiting m)) (r .stop) (entries-of r) u′
   pub few : r .node .count ≤ most-keys
 
 -- its work step has ended, unless there is more to write: then nothing of the result counts
-pub record WorksSingly (z : TreeSizes) (m : ClientWord → ℕ) (r : Single) (u₀ u : List ℕ) : Type 0 where
-  pub enters : goes (r .stop) ≡ false → Enters z m (r .stop) (entries-of r) u₀ u
+pub record WorksSingly (slots : ℕ) (m : ClientWord → ℕ) (r : Single) (u₀ u : List ℕ) : Type 0 where
+  pub enters : goes (r .stop) ≡ false → Enters slots m (r .stop) (entries-of r) u₀ u

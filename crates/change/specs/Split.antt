@@ -8,7 +8,7 @@ use Rattle.nodes.specs.declared.change.Wide.{Wide}
 use Rattle.nodes.specs.Entries.{wide-entries}
 use Rattle.nodes.specs.Change.{put-in}
 use Rattle.operations.specs.Object.{node, flag, taken, Writes}
-use Rattle.operations.specs.Slot.{TreeSizes, take-for, take-node}
+use Rattle.operations.specs.Slot.{take-for, take-node}
 use Rattle.operations.specs.Path.{TreePlan}
 use Rattle.operations.specs.Change.{split}
 use Rattle.walk.specs.declared.down.Turn.{Turn}
@@ -25,15 +25,15 @@ use Rattle.nodes.specs.Change as N
 use Rattle.client.specs.Bounds.{highest-level, keys-to-split}
 
 -- ---- a slot for a half
-pub record HalfTaken (z : TreeSizes) (m : ClientWord → ℕ) (x u : List ℕ) (n : ℕ) (r : Taken) (x′ u′ : List ℕ) : Type 0 where
-  pub asks : (w : Writes) → Holds-writes z x w → (k : ℕ → Writes → TreePlan)
-      → walked z m (take-for z n w (λ d w′. take-node w′ d (k d w′))) (used-in u) ≡ carry (r .stop) (used-in u′) (λ us. walked z m (k (r .name) ((flag (r .name), taken true) ∷ w)) us)
-  pub mute : (w : Writes) → Holds-writes z x w → goes (r .stop) ≡ false → stands (r .stop) ≡ false
-  pub holds : goes (r .stop) ≡ true → (w : Writes) → Holds-writes z x w → Holds-writes z x′ ((flag (r .name), taken true) ∷ w)
+pub record HalfTaken (slots : ℕ) (m : ClientWord → ℕ) (x u : List ℕ) (n : ℕ) (r : Taken) (x′ u′ : List ℕ) : Type 0 where
+  pub asks : (w : Writes) → Holds-writes slots x w → (k : ℕ → Writes → TreePlan)
+      → walked slots m (take-for slots n w (λ d w′. take-node w′ d (k d w′))) (used-in u) ≡ carry (r .stop) (used-in u′) (λ us. walked slots m (k (r .name) ((flag (r .name), taken true) ∷ w)) us)
+  pub mute : (w : Writes) → Holds-writes slots x w → goes (r .stop) ≡ false → stands (r .stop) ≡ false
+  pub holds : goes (r .stop) ≡ true → (w : Writes) → Holds-writes slots x w → Holds-writes slots x′ ((flag (r .name), taken true) ∷ w)
   pub good : goes (r .stop) ≡ true → OwnGood x′
   pub noted : Noted m u′
   pub few : getD x′ 0 0 ≤ getD x 0 0 + 1
-  pub inside : goes (r .stop) ≡ true → in-store z (r .name) ≡ true
+  pub inside : goes (r .stop) ≡ true → in-store slots (r .name) ≡ true
 
 -- ---- the halves of a node, written
 pub record Overfull (n : Wide) : Type 0 where
@@ -49,5 +49,5 @@ pub record Divided (x : List ℕ) (b : Turn) (c d : ℕ) (n up : Wide) (x′ : L
   pub written : BothWritten x c d (N.split n 0) x′
 
 -- ---- below the root
-pub record Splits (z : TreeSizes) (m : ClientWord → ℕ) (x u : List ℕ) (l : ℕ) (b : Turn) (c : ℕ) (n : Wide) (r : Risen) (x′ u′ : List ℕ) : Type 0 where
-  pub raised : (root : Bool) → Raised z m x u l root (split-plan z l b c (wide-entries n)) r x′ u′
+pub record Splits (slots : ℕ) (m : ClientWord → ℕ) (x u : List ℕ) (l : ℕ) (b : Turn) (c : ℕ) (n : Wide) (r : Risen) (x′ u′ : List ℕ) : Type 0 where
+  pub raised : (root : Bool) → Raised slots m x u l root (split-plan slots l b c (wide-entries n)) r x′ u′

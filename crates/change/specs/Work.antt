@@ -7,7 +7,6 @@ use lib.Dec.{eqb}
 use lib.ListN.{length, getD}
 use denote.Ref.{now}
 use Rattle.operations.specs.Object.{Ans, Writes}
-use Rattle.operations.specs.Slot.{TreeSizes}
 use Rattle.client.specs.Layout.{ClientWord}
 use Rattle.client.specs.Lent.{LentList, Entry, OwnFits, own-list}
 use Rattle.client.specs.Answered.{entered}
@@ -38,19 +37,19 @@ unfoldable pub judged : Stop → ℕ → Stop
 judged s r = cond (eqb r 0) s (cond (eqb r 10) Refused (Aborts r))
 
 -- the walk has stopped as the work step ends: a lent list has the copies that it used, and with an answer l are the writes that enter; it has no pairs
-pub record Enters (z : TreeSizes) (m : ClientWord → ℕ) (s : Stop) (l : List Entry) (u₀ u : List ℕ) : Type 0 where
-  pub stopped : Stopped z m s u
-  pub filled : Filled u₀ (C.walked z m .used) u
-  pub own : (a : Ans) (w : Writes) → worked z m ≡ answers a w → l ≡ entered w
-  pub unlisted : (a : Ans) (w : Writes) → worked z m ≡ answers a w → a .2 ≡ []
+pub record Enters (slots : ℕ) (m : ClientWord → ℕ) (s : Stop) (l : List Entry) (u₀ u : List ℕ) : Type 0 where
+  pub stopped : Stopped slots m s u
+  pub filled : Filled u₀ (C.walked slots m .used) u
+  pub own : (a : Ans) (w : Writes) → worked slots m ≡ answers a w → l ≡ entered w
+  pub unlisted : (a : Ans) (w : Writes) → worked slots m ≡ answers a w → a .2 ≡ []
 
 -- and where these stand in a lent list too: what lies behind them, and without an answer all of that list, is free: anything may
 -- stand there, and nobody reads it. It keeps its length
-pub record Works (z : TreeSizes) (m : ClientWord → ℕ) (s : Stop) (x₀ u₀ x u : List ℕ) : Type 0 where
-  pub enters : Enters z m s (own-list x) u₀ u
-  pub fits : (a : Ans) (w : Writes) → worked z m ≡ answers a w → OwnFits x
+pub record Works (slots : ℕ) (m : ClientWord → ℕ) (s : Stop) (x₀ u₀ x u : List ℕ) : Type 0 where
+  pub enters : Enters slots m s (own-list x) u₀ u
+  pub fits : (a : Ans) (w : Writes) → worked slots m ≡ answers a w → OwnFits x
   pub own-same-length : length x ≡ length x₀
 
 -- as a contract promises it of the lists that are lent
-abbrev pub WorksOn : TreeSizes → (ClientWord → ℕ) → Stop → LentList → LentList → Type 0
-WorksOn z m s own used = Works z m s (now (own .entry)) (now (used .entry)) (now (own .exit)) (now (used .exit))
+abbrev pub WorksOn : ℕ → (ClientWord → ℕ) → Stop → LentList → LentList → Type 0
+WorksOn slots m s own used = Works slots m s (now (own .entry)) (now (used .entry)) (now (own .exit)) (now (used .exit))

@@ -27,11 +27,11 @@ fn without(n: Node, i: usize) -> Wide
     widen(m)
 }
 
-pub fn delete(part: &[u8], servers: usize, slots: usize, used: &mut [u64], key: u64) -> Changed
-    requires { ⌜ Walking servers (now part) (now used) ⌝ }
-    ensures { λ r. ⌜ Makes servers slots part used (λ z. delete-plan z key) r ⌝ }
+pub fn delete(part: &[u8], slots: usize, used: &mut [u64], key: u64) -> Changed
+    requires { ⌜ Walking (now part) (now used) ⌝ }
+    ensures { λ r. ⌜ Makes slots part used (delete-plan slots key) r ⌝ }
 {
-    let way = descend(part, servers, slots, used, key);
+    let way = descend(part, slots, used, key);
     let stop = way.stop;
     let on = going(stop);
     if !on {

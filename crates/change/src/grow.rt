@@ -13,7 +13,7 @@ ghost use mathlib.Core.List.{[]};
 ghost use mathlib.Core.Bool.{true};
 ghost use Prim.Native.Nat.{_+_, _-_, _<_, _≤_};
 ghost use Rattle.nodes.specs.Entries.{wide-entries};
-ghost use Rattle.client.specs.Record.{sizes, in-store};
+ghost use Rattle.client.specs.Record.{in-store};
 ghost use Rattle.client.specs.Lent.{own-count};
 ghost use Rattle.client.specs.Bounds.{end-of-names, own-most, highest-level, risen-most};
 ghost use Rattle.walk.specs.Ask.{OwnGood, Writing, WalkingOwn, Rising, over-lent};
@@ -29,19 +29,12 @@ pub struct Two {
 }
 
 // "Of a root's halves the left is placed first."
-fn take_two(
-    part: &[u8],
-    servers: usize,
-    slots: usize,
-    own: &mut [u64],
-    used: &mut [u64],
-    name: u64,
-) -> Two
-    requires { ⌜ Writing servers (now part) (now own) (now used) (own-most - 1) ⌝ }
+fn take_two(part: &[u8], slots: usize, own: &mut [u64], used: &mut [u64], name: u64) -> Two
+    requires { ⌜ Writing (now part) (now own) (now used) (own-most - 1) ⌝ }
     requires there { ⌜ name < end-of-names ⌝ }
-    ensures { λ r. ⌜ over-lent TwoTaken servers slots part own used name r (now (own .exit)) (now (used .exit)) ⌝ }
+    ensures { λ r. ⌜ over-lent TwoTaken slots part own used name r (now (own .exit)) (now (used .exit)) ⌝ }
 {
-    let t = take_for(part, servers, slots, own, used, name);
+    let t = take_for(part, slots, own, used, name);
     let stop = t.stop;
     let left = t.name;
     let on = going(stop);
@@ -52,7 +45,7 @@ fn take_two(
             right: left,
         };
     }
-    let t = take_for(part, servers, slots, own, used, name);
+    let t = take_for(part, slots, own, used, name);
     let stop = t.stop;
     let right = t.name;
     Two { stop, left, right }
@@ -61,38 +54,30 @@ fn take_two(
 // The nodes of both slots, which must be free.
 fn both_free(
     part: &[u8],
-    servers: usize,
     slots: usize,
     own: &[u64],
     used: &mut [u64],
     left: u64,
     right: u64,
 ) -> Stop
-    requires { ⌜ WalkingOwn servers (now part) (now own) (now used) ⌝ }
-    ensures { λ r. ⌜ over-lent BothFree servers slots part own used left right r (now (used .exit)) ⌝ }
+    requires { ⌜ WalkingOwn (now part) (now own) (now used) ⌝ }
+    ensures { λ r. ⌜ over-lent BothFree slots part own used left right r (now (used .exit)) ⌝ }
 {
-    let stop = take_node(part, servers, slots, own, used, left);
+    let stop = take_node(part, slots, own, used, left);
     let on = going(stop);
     if !on {
         return stop;
     }
-    take_node(part, servers, slots, own, used, right)
+    take_node(part, slots, own, used, right)
 }
 
 // The slots and the nodes of both halves.
-fn take_halves(
-    part: &[u8],
-    servers: usize,
-    slots: usize,
-    own: &mut [u64],
-    used: &mut [u64],
-    name: u64,
-) -> Two
-    requires { ⌜ Writing servers (now part) (now own) (now used) (own-most - 1) ⌝ }
+fn take_halves(part: &[u8], slots: usize, own: &mut [u64], used: &mut [u64], name: u64) -> Two
+    requires { ⌜ Writing (now part) (now own) (now used) (own-most - 1) ⌝ }
     requires there { ⌜ name < end-of-names ⌝ }
-    ensures { λ r. ⌜ over-lent HalvesTaken servers slots part own used name r (now (own .exit)) (now (used .exit)) ⌝ }
+    ensures { λ r. ⌜ over-lent HalvesTaken slots part own used name r (now (own .exit)) (now (used .exit)) ⌝ }
 {
-    let t = take_two(part, servers, slots, own, used, name);
+    let t = take_two(part, slots, own, used, name);
     let stop = t.stop;
     let on = going(stop);
     if !on {
@@ -100,7 +85,7 @@ fn take_halves(
     }
     let left = t.left;
     let right = t.right;
-    let stop = both_free(part, servers, slots, own, used, left, right);
+    let stop = both_free(part, slots, own, used, left, right);
     Two { stop, left, right }
 }
 
@@ -121,7 +106,6 @@ fn grow(own: &mut [u64], name: u64, t: Two, n: Wide)
 
 pub fn split_root(
     part: &[u8],
-    servers: usize,
     slots: usize,
     own: &mut [u64],
     used: &mut [u64],
@@ -131,13 +115,13 @@ pub fn split_root(
     a: u64,
     b: u64,
 ) -> Stop
-    requires { ⌜ Rising servers (now part) (now own) (now used) risen-most ⌝ }
-    requires there { ⌜ in-store (sizes servers slots) name ≡ true ⌝ }
+    requires { ⌜ Rising (now part) (now own) (now used) risen-most ⌝ }
+    requires there { ⌜ in-store slots name ≡ true ⌝ }
     requires full { ⌜ Full level n ⌝ }
     requires low { ⌜ level ≤ highest-level ⌝ }
-    ensures { λ r. ⌜ Closes servers slots part own used (λ z. root-split z (a, b, []) level name (wide-entries n 0)) r ⌝ }
+    ensures { λ r. ⌜ Closes slots part own used (root-split slots (a, b, []) level name (wide-entries n 0)) r ⌝ }
 {
-    let t = take_halves(part, servers, slots, own, used, name);
+    let t = take_halves(part, slots, own, used, name);
     let stop = t.stop;
     let on = going(stop);
     if !on {

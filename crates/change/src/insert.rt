@@ -39,18 +39,11 @@ fn with_pair(n: Node, at: KeyPlace, key: u64, value: u64) -> Paired
 }
 
 // The pair in the leaf for the key.
-pub fn insert(
-    part: &[u8],
-    servers: usize,
-    slots: usize,
-    used: &mut [u64],
-    key: u64,
-    value: u64,
-) -> Changed
-    requires { ⌜ Walking servers (now part) (now used) ⌝ }
-    ensures { λ r. ⌜ Makes servers slots part used (λ z. insert-plan z key value) r ⌝ }
+pub fn insert(part: &[u8], slots: usize, used: &mut [u64], key: u64, value: u64) -> Changed
+    requires { ⌜ Walking (now part) (now used) ⌝ }
+    ensures { λ r. ⌜ Makes slots part used (insert-plan slots key value) r ⌝ }
 {
-    let way = descend(part, servers, slots, used, key);
+    let way = descend(part, slots, used, key);
     let stop = way.stop;
     let on = going(stop);
     if !on {

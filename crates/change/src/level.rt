@@ -13,7 +13,7 @@ ghost use mathlib.Core.List.{[]};
 ghost use mathlib.Core.Bool.{true};
 ghost use Prim.Native.Nat.{_<_, _≤_};
 ghost use Rattle.nodes.specs.Entries.{wide-entries};
-ghost use Rattle.client.specs.Record.{sizes, in-store};
+ghost use Rattle.client.specs.Record.{in-store};
 ghost use Rattle.client.specs.Sets.{held};
 ghost use Rattle.client.specs.Lent.{own-count};
 ghost use Rattle.client.specs.Bounds.{end-of-names, own-most, most-keys, highest-level, risen-most};
@@ -44,7 +44,6 @@ fn settle(
 // Below the root; `root` says that the parent is the root.
 pub fn raise(
     part: &[u8],
-    servers: usize,
     slots: usize,
     own: &mut [u64],
     used: &mut [u64],
@@ -56,30 +55,17 @@ pub fn raise(
     a: u64,
     b: u64,
 ) -> Risen
-    requires { ⌜ Rising servers (now part) (now own) (now used) risen-most ⌝ }
-    requires under { ⌜ Under (sizes servers slots) level name above ⌝ }
+    requires { ⌜ Rising (now part) (now own) (now used) risen-most ⌝ }
+    requires under { ⌜ Under slots level name above ⌝ }
     requires content { ⌜ Content level n ⌝ }
-    ensures { λ r. ⌜ Raises servers slots part own used level root (λ z. level-plan z (a, b, []) level above name (wide-entries n)) r ⌝ }
+    ensures { λ r. ⌜ Raises slots part own used level root (level-plan slots (a, b, []) level above name (wide-entries n)) r ⌝ }
 {
     if n.count == 15 {
-        return split(part, servers, slots, own, used, level, above, name, n);
+        return split(part, slots, own, used, level, above, name, n);
     }
     if n.count < 7 {
         let node = n.node();
-        return neighbour(
-            part,
-            servers,
-            slots,
-            own,
-            used,
-            level,
-            root,
-            above,
-            name,
-            node,
-            a,
-            b,
-        );
+        return neighbour(part, slots, own, used, level, root, above, name, node, a, b);
     }
     let stop = settle(part, own, used, name, n, a, b);
     Risen { stop, up: n }
@@ -88,7 +74,6 @@ pub fn raise(
 // The root.
 pub fn at_top(
     part: &[u8],
-    servers: usize,
     slots: usize,
     own: &mut [u64],
     used: &mut [u64],
@@ -98,14 +83,14 @@ pub fn at_top(
     a: u64,
     b: u64,
 ) -> Stop
-    requires { ⌜ Rising servers (now part) (now own) (now used) risen-most ⌝ }
-    requires there { ⌜ in-store (sizes servers slots) name ≡ true ⌝ }
+    requires { ⌜ Rising (now part) (now own) (now used) risen-most ⌝ }
+    requires there { ⌜ in-store slots name ≡ true ⌝ }
     requires content { ⌜ Content level n ⌝ }
     requires low { ⌜ level ≤ highest-level ⌝ }
-    ensures { λ r. ⌜ Closes servers slots part own used (λ z. top-plan z (a, b, []) level name (wide-entries n 0)) r ⌝ }
+    ensures { λ r. ⌜ Closes slots part own used (top-plan slots (a, b, []) level name (wide-entries n 0)) r ⌝ }
 {
     if n.count == 15 {
-        return split_root(part, servers, slots, own, used, level, name, n, a, b);
+        return split_root(part, slots, own, used, level, name, n, a, b);
     }
     settle(part, own, used, name, n, a, b)
 }

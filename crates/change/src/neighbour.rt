@@ -16,7 +16,7 @@ ghost use mathlib.Core.List.{[]};
 ghost use mathlib.Core.Bool.{true};
 ghost use Prim.Native.Nat.{_+_, _<_, _≤_, _-_};
 ghost use Rattle.nodes.specs.Entries.{entriesOf};
-ghost use Rattle.client.specs.Record.{sizes, in-store};
+ghost use Rattle.client.specs.Record.{in-store};
 ghost use Rattle.walk.specs.Ask.{SmallNode, Rising, over-lent};
 ghost use Rattle.change.specs.Rise.{Under, OfLevel, neighbour-plan, Raises};
 ghost use Rattle.change.specs.Beside.{far-side};
@@ -97,7 +97,6 @@ fn halted(stop: Stop) -> Risen
 // "An inner root left with no key takes over its only child's contents, and the child is freed."
 fn collapse(
     part: &[u8],
-    servers: usize,
     slots: usize,
     own: &mut [u64],
     used: &mut [u64],
@@ -107,12 +106,12 @@ fn collapse(
     a: u64,
     b: u64,
 ) -> Risen
-    requires { ⌜ Rising servers (now part) (now own) (now used) (risen-most + 2) ⌝ }
-    requires there { ⌜ in-store (sizes servers slots) root ≡ true ⌝ }
+    requires { ⌜ Rising (now part) (now own) (now used) (risen-most + 2) ⌝ }
+    requires there { ⌜ in-store slots root ≡ true ⌝ }
     requires few { ⌜ one .count ≤ most-keys ⌝ }
-    ensures { λ r. ⌜ over-lent Collapses servers slots part own used (a, b, []) root child one r (now (own .exit)) (now (used .exit)) ⌝ }
+    ensures { λ r. ⌜ over-lent Collapses slots part own used (a, b, []) root child one r (now (own .exit)) (now (used .exit)) ⌝ }
 {
-    let stop = release(part, servers, slots, own, used, child);
+    let stop = release(part, slots, own, used, child);
     let on = going(stop);
     if !on {
         return halted(stop);
@@ -135,7 +134,6 @@ fn collapses(root: bool, count: usize) -> bool
 // The two merged into one, under the left one's name; "the right is freed".
 fn merge(
     part: &[u8],
-    servers: usize,
     slots: usize,
     own: &mut [u64],
     used: &mut [u64],
@@ -146,20 +144,20 @@ fn merge(
     a: u64,
     b: u64,
 ) -> Risen
-    requires { ⌜ Rising servers (now part) (now own) (now used) risen-most ⌝ }
-    requires beside { ⌜ Neighbours (sizes servers slots) above s ⌝ }
+    requires { ⌜ Rising (now part) (now own) (now used) risen-most ⌝ }
+    requires beside { ⌜ Neighbours slots above s ⌝ }
     requires few { ⌜ SmallNode one ⌝ }
-    ensures { λ r. ⌜ over-lent Merges servers slots part own used root (a, b, []) above s one r (now (own .exit)) (now (used .exit)) ⌝ }
+    ensures { λ r. ⌜ over-lent Merges slots part own used root (a, b, []) above s one r (now (own .exit)) (now (used .exit)) ⌝ }
 {
     let left = s.left;
-    let stop = release(part, servers, slots, own, used, s.right);
+    let stop = release(part, slots, own, used, s.right);
     let on = going(stop);
     if !on {
         return halted(stop);
     }
     let parent = above.node;
     if collapses(root, parent.count) {
-        return collapse(part, servers, slots, own, used, above.name, left, one, a, b);
+        return collapse(part, slots, own, used, above.name, left, one, a, b);
     }
     write_node(own, left, one);
     let p = parent.take_out(s.at);
@@ -173,7 +171,6 @@ fn merge(
 // With both neighbours at hand: n turns to m.
 fn even_out(
     part: &[u8],
-    servers: usize,
     slots: usize,
     own: &mut [u64],
     used: &mut [u64],
@@ -185,12 +182,12 @@ fn even_out(
     a: u64,
     b: u64,
 ) -> Risen
-    requires { ⌜ Rising servers (now part) (now own) (now used) risen-most ⌝ }
-    requires beside { ⌜ Neighbours (sizes servers slots) above s ⌝ }
+    requires { ⌜ Rising (now part) (now own) (now used) risen-most ⌝ }
+    requires beside { ⌜ Neighbours slots above s ⌝ }
     requires turning { ⌜ SmallNode n ⌝ }
     requires far { ⌜ SmallNode m ⌝ }
     requires lacks { ⌜ n .count ≤ fewest-keys - 1 ⌝ }
-    ensures { λ r. ⌜ over-lent Evens servers slots part own used root (a, b, []) above s n m r (now (own .exit)) (now (used .exit)) ⌝ }
+    ensures { λ r. ⌜ over-lent Evens slots part own used root (a, b, []) above s n m r (now (own .exit)) (now (used .exit)) ⌝ }
 {
     let parent = above.node;
     let at = s.at;
@@ -208,13 +205,12 @@ fn even_out(
         };
     }
     let one = joined(last, n, sep, m);
-    merge(part, servers, slots, own, used, root, above, s, one, a, b)
+    merge(part, slots, own, used, root, above, s, one, a, b)
 }
 
 // "a non-root node left with 6 keys turns to .." a neighbour; "a node is its own neighbour": reason 3
 pub fn neighbour(
     part: &[u8],
-    servers: usize,
     slots: usize,
     own: &mut [u64],
     used: &mut [u64],
@@ -226,11 +222,11 @@ pub fn neighbour(
     a: u64,
     b: u64,
 ) -> Risen
-    requires { ⌜ Rising servers (now part) (now own) (now used) risen-most ⌝ }
-    requires under { ⌜ Under (sizes servers slots) level name above ⌝ }
+    requires { ⌜ Rising (now part) (now own) (now used) risen-most ⌝ }
+    requires under { ⌜ Under slots level name above ⌝ }
     requires of { ⌜ OfLevel level n ⌝ }
     requires lacks { ⌜ n .count ≤ fewest-keys - 1 ⌝ }
-    ensures { λ r. ⌜ Raises servers slots part own used level root (λ _. neighbour-plan (a, b, []) level above name (entriesOf n)) r ⌝ }
+    ensures { λ r. ⌜ Raises slots part own used level root (neighbour-plan (a, b, []) level above name (entriesOf n)) r ⌝ }
 {
     let parent = above.node;
     if parent.count == 0 {
@@ -241,12 +237,12 @@ pub fn neighbour(
     if other == name {
         return halted(Stop::Aborts(3));
     }
-    let c = see_child(part, servers, slots, own, used, level as u64, other);
+    let c = see_child(part, slots, own, used, level as u64, other);
     let stop = c.stop;
     let on = going(stop);
     if !on {
         return halted(stop);
     }
     let m = c.node;
-    even_out(part, servers, slots, own, used, root, above, s, n, m, a, b)
+    even_out(part, slots, own, used, root, above, s, n, m, a, b)
 }

@@ -16,9 +16,8 @@ ghost use mathlib.Core.Path.{_≡_};
 ghost use Prim.Native.Nat.{_≤_};
 ghost use lib.ListN.{length, getD};
 ghost use Rattle.client.specs.Layout.{op-number, writes-count, limit, ClientPart};
-ghost use Rattle.client.specs.Record.{sizes};
 ghost use Rattle.client.specs.Sets.{held};
-ghost use Rattle.client.specs.Bounds.{most-servers, most-keys, used-room};
+ghost use Rattle.client.specs.Bounds.{most-keys, used-room};
 ghost use Rattle.client.specs.declared.part.Set.the-variants.{Writes};
 ghost use Rattle.walk.specs.Ask.{Noted, Walking};
 ghost use Rattle.walk.specs.Stopped.{Waiting};
@@ -88,15 +87,15 @@ fn write_leaf(part: &[u8], used: &mut [u64], c: Changed) -> Single
 }
 
 // Before the last questions. A move is never one write.
-fn walk(part: &[u8], servers: usize, slots: usize, used: &mut [u64], op: Update) -> Single
-    requires { ⌜ Walking servers (now part) (now used) ⌝ }
+fn walk(part: &[u8], slots: usize, used: &mut [u64], op: Update) -> Single
+    requires { ⌜ Walking (now part) (now used) ⌝ }
     requires waits { ⌜ operation-of (held (now part) op-number) ≡ Write op ⌝ }
-    ensures { λ r. ⌜ Singly (sizes servers slots) (held (now (part .entry))) (now (used .entry)) r (now (used .exit)) ⌝ }
+    ensures { λ r. ⌜ Singly slots (held (now (part .entry))) (now (used .entry)) r (now (used .exit)) ⌝ }
 {
     if moves(op) {
         return unwritten(Stop::Going);
     }
-    let c = to_leaf(part, servers, slots, used, op);
+    let c = to_leaf(part, slots, used, op);
     write_leaf(part, used, c)
 }
 
@@ -113,18 +112,12 @@ fn single_reason(part: &[u8], s: Single) -> u64
 }
 
 // The whole work step, unless more is to be written. The list is lent empty; it has the copies in use afterwards.
-pub fn write_single(
-    part: &[u8],
-    servers: usize,
-    slots: usize,
-    used: &mut [u64],
-    op: Update,
-) -> Single
-    requires { ⌜ (servers ≤ most-servers) × (used-room ≤ length (now used)) × (getD (now used) 0 0 ≡ 0) × ClientPart (now part) ⌝ }
+pub fn write_single(part: &[u8], slots: usize, used: &mut [u64], op: Update) -> Single
+    requires { ⌜ (used-room ≤ length (now used)) × (getD (now used) 0 0 ≡ 0) × ClientPart (now part) ⌝ }
     requires waits { ⌜ Waiting (held (now part)) × (operation-of (held (now part) op-number) ≡ Write op) ⌝ }
-    ensures { λ r. ⌜ WorksSingly (sizes servers slots) (held (now (part .entry))) r (now (used .entry)) (now (used .exit)) ⌝ }
+    ensures { λ r. ⌜ WorksSingly slots (held (now (part .entry))) r (now (used .entry)) (now (used .exit)) ⌝ }
 {
-    let s = walk(part, servers, slots, used, op);
+    let s = walk(part, slots, used, op);
     let stop = s.stop;
     let answered = is_answer(stop);
     if !answered {

@@ -9,7 +9,6 @@ use walk::take::take_node;
 use walk::walk::Stop;
 use walk::walk::going;
 ghost use Prim.Native.Nat.{_-_, _<_, _≤_};
-ghost use Rattle.client.specs.Record.{sizes};
 ghost use Rattle.client.specs.Lent.{own-count};
 ghost use Rattle.client.specs.Bounds.{end-of-names, own-most, most-keys, risen-most};
 ghost use Rattle.walk.specs.Ask.{OwnGood, Writing, Rising, over-lent};
@@ -17,26 +16,19 @@ ghost use Rattle.change.specs.Rise.{Under, Full};
 ghost use Rattle.change.specs.Split.{HalfTaken, Overfull, Halved, Divided, Splits};
 
 // A slot for a half of a node, and its node, which must be free.
-fn take_half(
-    part: &[u8],
-    servers: usize,
-    slots: usize,
-    own: &mut [u64],
-    used: &mut [u64],
-    name: u64,
-) -> Taken
-    requires { ⌜ Writing servers (now part) (now own) (now used) own-most ⌝ }
+fn take_half(part: &[u8], slots: usize, own: &mut [u64], used: &mut [u64], name: u64) -> Taken
+    requires { ⌜ Writing (now part) (now own) (now used) own-most ⌝ }
     requires there { ⌜ name < end-of-names ⌝ }
-    ensures { λ r. ⌜ over-lent HalfTaken servers slots part own used name r (now (own .exit)) (now (used .exit)) ⌝ }
+    ensures { λ r. ⌜ over-lent HalfTaken slots part own used name r (now (own .exit)) (now (used .exit)) ⌝ }
 {
-    let t = take_for(part, servers, slots, own, used, name);
+    let t = take_for(part, slots, own, used, name);
     let stop = t.stop;
     let on = going(stop);
     if !on {
         return t;
     }
     let name = t.name;
-    let stop = take_node(part, servers, slots, own, used, name);
+    let stop = take_node(part, slots, own, used, name);
     Taken { stop, name }
 }
 
@@ -66,7 +58,6 @@ fn divide(own: &mut [u64], above: Turn, left: u64, right: u64, n: Wide) -> Wide
 // Below the root: the right half is a new node, and the parent gets one more child.
 pub fn split(
     part: &[u8],
-    servers: usize,
     slots: usize,
     own: &mut [u64],
     used: &mut [u64],
@@ -75,12 +66,12 @@ pub fn split(
     name: u64,
     n: Wide,
 ) -> Risen
-    requires { ⌜ Rising servers (now part) (now own) (now used) risen-most ⌝ }
-    requires under { ⌜ Under (sizes servers slots) level name above ⌝ }
+    requires { ⌜ Rising (now part) (now own) (now used) risen-most ⌝ }
+    requires under { ⌜ Under slots level name above ⌝ }
     requires full { ⌜ Full level n ⌝ }
-    ensures { λ r. ⌜ over-lent Splits servers slots part own used level above name n r (now (own .exit)) (now (used .exit)) ⌝ }
+    ensures { λ r. ⌜ over-lent Splits slots part own used level above name n r (now (own .exit)) (now (used .exit)) ⌝ }
 {
-    let t = take_half(part, servers, slots, own, used, name);
+    let t = take_half(part, slots, own, used, name);
     let stop = t.stop;
     let on = going(stop);
     if !on {

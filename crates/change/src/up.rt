@@ -8,7 +8,6 @@ use walk::down::turns;
 use walk::walk::Stop;
 use walk::walk::going;
 ghost use mathlib.Core.List.{[]};
-ghost use Rattle.client.specs.Record.{sizes};
 ghost use Rattle.walk.specs.Ask.{Beginning};
 ghost use Rattle.change.specs.Operated.{Operates};
 ghost use Rattle.change.specs.Up.{Ready, rise-plan};
@@ -16,7 +15,6 @@ ghost use Rattle.change.specs.Leaf.{LeafReady, Carries-up};
 
 fn rise(
     part: &[u8],
-    servers: usize,
     slots: usize,
     own: &mut [u64],
     used: &mut [u64],
@@ -27,9 +25,9 @@ fn rise(
     a: u64,
     b: u64,
 ) -> Stop
-    requires { ⌜ Beginning servers (now part) (now own) (now used) ⌝ }
-    requires ready { ⌜ Ready (sizes servers slots) top path leaf content ⌝ }
-    ensures { λ r. ⌜ Operates servers slots part own used (λ z. rise-plan z (a, b, []) top path leaf content) r ⌝ }
+    requires { ⌜ Beginning (now part) (now own) (now used) ⌝ }
+    requires ready { ⌜ Ready slots top path leaf content ⌝ }
+    ensures { λ r. ⌜ Operates slots part own used (rise-plan slots (a, b, []) top path leaf content) r ⌝ }
 {
     let mut name = leaf;
     let mut n = content;
@@ -37,20 +35,7 @@ fn rise(
     while level < top {
         let above = path[level + 1];
         let root = level + 1 == top;
-        let r = raise(
-            part,
-            servers,
-            slots,
-            own,
-            used,
-            level,
-            root,
-            above,
-            name,
-            n,
-            a,
-            b,
-        );
+        let r = raise(part, slots, own, used, level, root, above, name, n, a, b);
         let stop = r.stop;
         let on = going(stop);
         if !on {
@@ -60,21 +45,14 @@ fn rise(
         n = r.up;
         level += 1;
     }
-    at_top(part, servers, slots, own, used, level, name, n, a, b)
+    at_top(part, slots, own, used, level, name, n, a, b)
 }
 
 // From the leaf on, if one changes: its path is taken out of the part.
-pub fn carry_up(
-    part: &[u8],
-    servers: usize,
-    slots: usize,
-    own: &mut [u64],
-    used: &mut [u64],
-    c: Changed,
-) -> Stop
-    requires { ⌜ Beginning servers (now part) (now own) (now used) ⌝ }
-    requires ready { ⌜ LeafReady (sizes servers slots) (now part) c ⌝ }
-    ensures { λ r. ⌜ Carries-up servers slots part own used c r ⌝ }
+pub fn carry_up(part: &[u8], slots: usize, own: &mut [u64], used: &mut [u64], c: Changed) -> Stop
+    requires { ⌜ Beginning (now part) (now own) (now used) ⌝ }
+    requires ready { ⌜ LeafReady slots (now part) c ⌝ }
+    ensures { λ r. ⌜ Carries-up slots part own used c r ⌝ }
 {
     let stop = c.stop;
     let on = going(stop);
@@ -87,7 +65,6 @@ pub fn carry_up(
     let content = c.content;
     rise(
         part,
-        servers,
         slots,
         own,
         used,

@@ -14,12 +14,10 @@ use walk::down::no_descent;
 use walk::operation::Update;
 use walk::walk::Stop;
 use walk::walk::is_answer;
-ghost use Prim.Native.Nat.{_≤_};
 ghost use mathlib.Core.Path.{_≡_};
 ghost use mathlib.Core.Bool.{false};
 ghost use Rattle.operations.specs.Operation.{reading};
 ghost use Rattle.client.specs.Layout.{op-number, ClientPart};
-ghost use Rattle.client.specs.Record.{sizes};
 ghost use Rattle.client.specs.Sets.{held};
 ghost use Rattle.client.specs.Work.{waiting};
 ghost use Rattle.walk.specs.Ask.{Walking, Beginning};
@@ -29,7 +27,6 @@ ghost use Rattle.walk.specs.declared.operation.Operation.the-variants.{Write};
 ghost use Rattle.walk.specs.Operation.{operation-of};
 ghost use Rattle.change.specs.Work.{moves, Ready, judged, WorksOn};
 ghost use Rattle.change.specs.Leaf.{Makes};
-ghost use Rattle.client.specs.Bounds.{most-servers};
 
 // "Migrate moves a node"; insert and delete begin at a leaf.
 pub fn moves(op: Update) -> bool
@@ -43,42 +40,35 @@ pub fn moves(op: Update) -> bool
 }
 
 // An insert or a delete, down to its leaf. No move comes here.
-pub fn to_leaf(part: &[u8], servers: usize, slots: usize, used: &mut [u64], op: Update) -> Changed
-    requires { ⌜ Walking servers (now part) (now used) ⌝ }
+pub fn to_leaf(part: &[u8], slots: usize, used: &mut [u64], op: Update) -> Changed
+    requires { ⌜ Walking (now part) (now used) ⌝ }
     requires waits { ⌜ (operation-of (held (now part) op-number) ≡ Write op) × (moves op ≡ false) ⌝ }
-    ensures { λ r. ⌜ Makes servers slots part used (λ z. reading z (waiting (held (now (part .entry))))) r ⌝ }
+    ensures { λ r. ⌜ Makes slots part used (reading slots (waiting (held (now (part .entry))))) r ⌝ }
 {
     let key = get_field(part, OP_KEY);
     match op {
         Update::Insert => {
             let value = get_field(part, OP_VALUE);
-            insert(part, servers, slots, used, key, value)
+            insert(part, slots, used, key, value)
         }
-        Update::Delete => delete(part, servers, slots, used, key),
+        Update::Delete => delete(part, slots, used, key),
         Update::Migrate => unchanged(Stop::Refused, no_descent(Stop::Refused)),
     }
 }
 
 // "insert, .. delete, .. migrate (key is the node name)"
-fn walk(
-    part: &[u8],
-    servers: usize,
-    slots: usize,
-    own: &mut [u64],
-    used: &mut [u64],
-    op: Update,
-) -> Stop
-    requires { ⌜ Beginning servers (now part) (now own) (now used) ⌝ }
-    requires waits { ⌜ operation-of (held (now part) op-number) ≡ Write op ⌝ }
-    ensures { λ r. ⌜ Operates servers slots part own used (λ z. reading z (waiting (held (now (part .entry))))) r ⌝ }
+fn walk(part: &[u8], slots: usize, own: &mut [u64], used: &mut [u64], op: Update) -> Stop
+    requires { ⌜ Beginning (now part) (now own) (now used) ⌝ }
+    requires waits { ⌜ Waiting (held (now part)) × (operation-of (held (now part) op-number) ≡ Write op) ⌝ }
+    ensures { λ r. ⌜ Operates slots part own used (reading slots (waiting (held (now (part .entry))))) r ⌝ }
 {
     if moves(op) {
         let key = get_field(part, OP_KEY);
         let server = get_field(part, OP_SERVER);
-        return migrate(part, servers, slots, own, used, key, server);
+        return migrate(part, slots, own, used, key, server);
     }
-    let c = to_leaf(part, servers, slots, used, op);
-    carry_up(part, servers, slots, own, used, c)
+    let c = to_leaf(part, slots, used, op);
+    carry_up(part, slots, own, used, c)
 }
 
 // How an answer stands after the last questions.
@@ -95,19 +85,12 @@ pub fn judged(stop: Stop, reason: u64) -> Stop
 }
 
 // Both lists are lent empty. With the answer, `own` has the operation's writes; `used` has the copies in use.
-pub fn work(
-    part: &[u8],
-    servers: usize,
-    slots: usize,
-    own: &mut [u64],
-    used: &mut [u64],
-    op: Update,
-) -> Stop
-    requires { ⌜ (servers ≤ most-servers) × Ready (now own) (now used) × ClientPart (now part) ⌝ }
+pub fn work(part: &[u8], slots: usize, own: &mut [u64], used: &mut [u64], op: Update) -> Stop
+    requires { ⌜ Ready (now own) (now used) × ClientPart (now part) ⌝ }
     requires waits { ⌜ Waiting (held (now part)) × (operation-of (held (now part) op-number) ≡ Write op) ⌝ }
-    ensures { λ r. ⌜ WorksOn (sizes servers slots) (held (now (part .entry))) r own used ⌝ }
+    ensures { λ r. ⌜ WorksOn slots (held (now (part .entry))) r own used ⌝ }
 {
-    let stop = walk(part, servers, slots, own, used, op);
+    let stop = walk(part, slots, own, used, op);
     let answered = is_answer(stop);
     if !answered {
         return stop;

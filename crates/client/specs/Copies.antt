@@ -6,7 +6,7 @@ use Rattle.nodes.specs.declared.found.Found.{Found}
 use Rattle.nodes.specs.declared.found.Found.the-variants.{At, Absent}
 use Rattle.nodes.specs.Name.{server-of}
 use Rattle.client.specs.declared.part.Set.the-variants.{Reads, Copies}
-use Rattle.client.specs.Layout.{client-words, meta-copied, limit}
+use Rattle.client.specs.Layout.{client-words, meta-states, limit}
 use Rattle.client.specs.Record.{by-number}
 use Rattle.client.specs.Sets.{count, number-at, find}
 use Rattle.client.specs.Part.{PartStep, _then_, nothing, put-item, put-number, drop-vector, put-word}
@@ -37,7 +37,7 @@ drop-node x m = drop-at (find m Copies x) m
 
 -- the copy of an object, by its number; "for a flag, its vector"
 unfoldable pub drop-object : ℕ → PartStep
-drop-object x = by-number x (put-word meta-copied 0) (λ n. drop-node x) (λ n. drop-vector (server-of n))
+drop-object x = by-number x (put-word meta-states 0) (λ n. drop-node x) (λ n. drop-vector (server-of n))
 
 -- the copy of the object of read item i
 unfoldable pub drop-read : ℕ → PartStep
@@ -53,4 +53,4 @@ empty-place i = put-number Copies i 0
 
 -- "loss drops all copies": the metadata, 64 inner nodes, 8 vectors
 unfoldable pub drop-all : PartStep
-drop-all = put-word meta-copied 0 then sweep client-words empty-place (limit Copies) then sweep client-words drop-vector most-servers
+drop-all = put-word meta-states 0 then sweep client-words empty-place (limit Copies) then sweep client-words drop-vector most-servers

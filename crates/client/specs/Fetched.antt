@@ -1,4 +1,4 @@
--- What a fetched object does to a client's part. "Metadata comes from server (client modulo servers), a node from its home, a vector from its server."
+-- What a fetched object does to a client's part. "Metadata is fetched from the first server not absent .., a node from its home, a vector from its server."
 use mathlib.Core.Bool.{true, cond}
 use mathlib.Core.List.{List, [], _∷_}
 use Prim.Native.Nat.{ℕ, _+_}
@@ -6,14 +6,14 @@ use lib.Dec.{eqb}
 use Rattle.memory.specs.Bit.{putBit}
 use Rattle.nodes.specs.declared.node.Node.{Node}
 use Rattle.client.specs.Layout.{fetched-vectors, meta-fields}
-use Rattle.client.specs.Record.{single}
+use Rattle.client.specs.Record.{metadata}
 use Rattle.client.specs.Part.{PartStep, _then_, nothing, put-fields, put-vector, put-word}
 use Rattle.client.specs.Enter.{enter-read}
 use Rattle.client.specs.Copies.{copy-node}
 
 -- the metadata is fetched: it enters the read set and is copied
-unfoldable pub fetched-meta : ℕ → ℕ → PartStep
-fetched-meta root version = enter-read 0 (single version root) then put-fields meta-fields (1 ∷ root ∷ version ∷ [])
+unfoldable pub fetched-meta : ℕ → ℕ → ℕ → PartStep
+fetched-meta root states version = enter-read 0 (metadata version root states) then put-fields meta-fields (states ∷ root ∷ version ∷ [])
 
 -- an inner node is copied too
 unfoldable pub copy-inner : ℕ → Node → PartStep

@@ -3,17 +3,17 @@
 -- aborts nothing reads the phase. Copies, and what an operation asks for, are judged where they are used (`Have`); what is checked or locked at
 -- servers in the order of checking (`steps`, `Judge`).
 use mathlib.Core.Bool.{Bool, true, cond, _&&_, _||_, not}
-use Prim.Native.Nat.{ℕ, _-_, _^_}
+use Prim.Native.Nat.{ℕ, _-_}
 use lib.Dec.{eqb, leb, ltb}
 use Rattle.nodes.specs.Name.{server-of}
-use Rattle.operations.specs.Slot.{TreeSizes}
+use Rattle.nodes.specs.States.{states-fit}
 use Rattle.client.specs.declared.part.Set.{Set}
 use Rattle.client.specs.declared.part.Set.the-variants.{Reads, Writes, Copies}
 use Rattle.client.specs.Layout.{ClientWord, vector-word, op-number, op-key, op-value, op-server, participants, prepared, applied, lost, reads-count, writes-count, limit}
 use Rattle.client.specs.Record.{in-store, number-in-store, whole-in-range, kind-in-range, last-version}
 use Rattle.client.specs.Sets.{count, number-at, record-at, find}
 use Rattle.client.specs.Items.{all-below, has, inner, inner-before-after}
-use Rattle.client.specs.Participants.{at-home}
+use Rattle.client.specs.Participants.{at-home, all-take-part, states-read}
 use Rattle.client.specs.Drops.{version-of}
 use Rattle.client.specs.Bounds.{most-servers, last-node-number, first-flag-number, most-listed}
 
@@ -52,14 +52,18 @@ module _ (m : ClientWord → ℕ) where
   abbrev pub list-fits : Bool
   list-fits = leb 1 (m op-value) && leb (m op-value) most-listed
 
-  -- a set of servers has servers of the store only, which has n
-  unfoldable pub servers-fit : ℕ → ClientWord → Bool
-  servers-fit n a = leb (m a) (2 ^ n - 1)
+  -- a set of servers has servers of the store only, which are eight
+  unfoldable pub servers-fit : ClientWord → Bool
+  servers-fit a = ltb (m a) 256
 
-module _ (z : TreeSizes) (m : ClientWord → ℕ) where
+  -- where all servers take part, the metadata read says which they are
+  unfoldable pub servers-known : Bool
+  servers-known = not (all-take-part m) || states-fit (states-read m)
+
+module _ (slots : ℕ) (m : ClientWord → ℕ) where
   -- is the object of item i of a set one of the store
   unfoldable pub number-fits : Set → ℕ → Bool
-  number-fits s i = number-in-store z (number-at m s i)
+  number-fits s i = number-in-store slots (number-at m s i)
 
   -- a set has no more items than it may, and their objects are objects of the store
   unfoldable pub numbers-fit : Set → Bool
@@ -71,7 +75,7 @@ module _ (z : TreeSizes) (m : ClientWord → ℕ) where
 
   -- a migrate's node and server are in the store
   abbrev pub migrate-fits : Bool
-  migrate-fits = in-store z (m op-key) && ltb (m op-server) (z .servers)
+  migrate-fits = in-store slots (m op-key) && ltb (m op-server) most-servers
 
   -- the operation that waits is one of seven, and what a migrate and a list need of its fields
   unfoldable pub op-fits : Bool
@@ -81,27 +85,27 @@ module _ (z : TreeSizes) (m : ClientWord → ℕ) where
   unfoldable pub fit-to-work : Bool
   fit-to-work = op-fits && sets-fit
 
-  -- COMMIT: which objects are read and written, their kinds, and the reads of what is written: they say who takes part
+  -- COMMIT: which objects are read and written, their kinds, the reads of what is written, and the servers' states: they say who takes part
   unfoldable pub fit-to-commit : Bool
   fit-to-commit =
       sets-fit
-      && (all-below (count m Reads) (kind-fits m Reads) && (all-below (count m Writes) (kind-fits m Writes) && all-below (count m Writes) (is-read m)))
+      && (all-below (count m Reads) (kind-fits m Reads) && (all-below (count m Writes) (kind-fits m Writes) && (all-below (count m Writes) (is-read m) && servers-known m)))
 
   -- PREPARE: who takes part and who has prepared, which objects are read and written
   unfoldable pub fit-to-prepare : Bool
-  fit-to-prepare = (servers-fit m (z .servers) participants && servers-fit m (z .servers) prepared) && sets-fit
+  fit-to-prepare = (servers-fit m participants && servers-fit m prepared) && sets-fit
 
   -- ABORT: who has prepared, and which objects are read
   unfoldable pub fit-to-abort : Bool
-  fit-to-abort = servers-fit m (z .servers) prepared && numbers-fit Reads
+  fit-to-abort = servers-fit m prepared && numbers-fit Reads
 
   -- and where a server has prepared, what says what is locked there: who takes part, and which objects are written
   unfoldable pub fit-to-unlock : Bool
-  fit-to-unlock = servers-fit m (z .servers) participants && numbers-fit Writes
+  fit-to-unlock = servers-fit m participants && numbers-fit Writes
 
   -- the record of write item i, where server s is its home
   unfoldable pub stored-record-fits : ℕ → ℕ → Bool
-  stored-record-fits s i = not (at-home s (number-at m Writes i)) || whole-in-range z (number-at m Writes i) (record-at m Writes i)
+  stored-record-fits s i = not (at-home s (number-at m Writes i)) || whole-in-range slots (number-at m Writes i) (record-at m Writes i)
 
   -- write item i as server s stores it: the read of a written node; at home its record; wherever it is stored the version read
   unfoldable pub write-fits : ℕ → ℕ → Bool
@@ -116,13 +120,13 @@ module _ (z : TreeSizes) (m : ClientWord → ℕ) where
   flag-renewal-fits i =
       let x = number-at m Writes i in
       let s = server-of (x - first-flag-number) in
-      (ltb s most-servers && leb (m (vector-word s 0)) 1) && whole-in-range z x (record-at m Writes i)
+      (ltb s most-servers && leb (m (vector-word s 0)) 1) && whole-in-range slots x (record-at m Writes i)
 
   -- of metadata and inner nodes the whole record, and the version read
   unfoldable pub inner-renewal-fits : ℕ → Bool
   inner-renewal-fits i =
       let x = number-at m Writes i in
-      not (inner x (record-at m Writes i)) || (whole-in-range z x (record-at m Writes i) && young m x)
+      not (inner x (record-at m Writes i)) || (whole-in-range slots x (record-at m Writes i) && young m x)
 
   -- by its number the one or the other
   unfoldable pub renewal-fits : ℕ → Bool
@@ -135,4 +139,4 @@ module _ (z : TreeSizes) (m : ClientWord → ℕ) where
   -- APPLY at server s: who has applied, which objects are read, and the writes that s stores; what it unlocks; with the last one the renewal
   unfoldable pub fit-to-apply : ℕ → Bool → Bool
   fit-to-apply s last =
-      (servers-fit m (z .servers) applied && numbers-fit Reads) && (fit-to-unlock && (writes-fit s && (not last || fit-to-renew)))
+      (servers-fit m applied && numbers-fit Reads) && (fit-to-unlock && (writes-fit s && (not last || fit-to-renew)))

@@ -15,17 +15,17 @@ use Rattle.nodes.specs.Node.{free-node}
 use Rattle.nodes.specs.Stored.{node-at}
 use Rattle.nodes.specs.Range.{node-in-range}
 use Rattle.nodes.specs.Name.{server-of, slot-of}
+use Rattle.nodes.specs.States.{metadata-fits}
 use Rattle.operations.specs.Object.{Obj, node, Ask, object, vector, fetched, Val, flags}
-use Rattle.operations.specs.Slot.{TreeSizes}
 use Rattle.client.specs.declared.answer.How.{How}
 use Rattle.client.specs.declared.answer.How.the-variants.{Here, Copied, Lacking}
 use Rattle.client.specs.declared.answer.Look.{Look}
 use Rattle.client.specs.declared.answer.Stand.{Stand}
 use Rattle.client.specs.declared.answer.Short.{Short}
 use Rattle.client.specs.declared.part.Set.the-variants.{Reads, Writes, Copies}
-use Rattle.client.specs.Layout.{ClientWord, vector-word, meta-copied, meta-root, meta-version, record-words, client-length}
-use Rattle.client.specs.Bounds.{last-node-number}
-use Rattle.client.specs.Record.{number, by-number, first-slot, value-of, single, in-store, object-in-store, last-version, record-in-range}
+use Rattle.client.specs.Layout.{ClientWord, vector-word, meta-states, meta-root, meta-version, record-words, client-length}
+use Rattle.client.specs.Bounds.{last-node-number, most-servers}
+use Rattle.client.specs.Record.{number, by-number, first-slot, second-slot, value-of, single, metadata, object-in-store, record-in-range}
 use Rattle.client.specs.Sets.{held, record-at, find}
 use Rattle.client.specs.Vectors.{has-vector, seen-words, vector-fits, is-fetched}
 use Rattle.nodes.specs.Flags as N
@@ -62,9 +62,9 @@ is-copied Lacking = false
 abbrev pub stood : List ℕ → Stand → Look
 stood w s = known-as (s .how) (cond (is-found (s .how)) (node-at w (s .at)) (free-node 0))
 
--- what it says of the metadata or a flag: how it is known, its version and its value
+-- what it says of the metadata or a flag: how it is known, its version and its value, and of the metadata the servers' states
 abbrev pub short : Look → Short
-short l = record { how = l .how; version = l .node .version; value = first-slot (l .node) }
+short l = record { how = l .how; version = l .node .version; value = first-slot (l .node); states = second-slot (l .node) }
 
 -- the number of a node
 pub record IsNode (x : ℕ) : Type 0 where
@@ -72,9 +72,9 @@ pub record IsNode (x : ℕ) : Type 0 where
   pub most : x ≤ last-node-number
 
 module _ (m : ClientWord → ℕ) where
-  -- "Copies: metadata, one vector a server, 64 inner nodes": there is one of the metadata unless the word that says so is 0
+  -- "Copies: metadata, one vector a server, 64 inner nodes": there is one of the metadata unless its states are 0
   unfoldable pub copied-meta : Look
-  copied-meta = cond (eqb (m meta-copied) 0) lacking (copy (single (m meta-version) (m meta-root)))
+  copied-meta = cond (eqb (m meta-states) 0) lacking (copy (metadata (m meta-version) (m meta-root) (m meta-states)))
 
   -- the copy of an inner node at its place, if it has one
   abbrev pub copied-item : Found → Look
@@ -96,9 +96,9 @@ module _ (m : ClientWord → ℕ) where
   unfoldable pub copied : ℕ → Look
   copied x = by-number x copied-meta (λ n. copied-node x) copied-flag
 
-  -- refusal 10 for a copy that is used: the word that says that there is one is 1, and what is copied of nodes is an inner one
+  -- refusal 10 for a copy that is used: what is copied of nodes is an inner one, and the word that says that there is a vector is 1
   unfoldable pub copy-fits : ℕ → Node → Bool
-  copy-fits x r = by-number x (eqb (m meta-copied) 1) (λ n. eqb (r .kind) 2) (λ n. eqb (m (vector-word (server-of n) 0)) 1)
+  copy-fits x r = by-number x true (λ n. eqb (r .kind) 2) (λ n. eqb (m (vector-word (server-of n) 0)) 1)
 
   -- "else the read set, else the client's copies": x was looked for in the read set
   abbrev pub or-copied : ℕ → Found → Look
@@ -126,17 +126,17 @@ unfoldable pub node-usable : How → Node → Bool
 node-usable h r = node-in-range r && (not (is-copied h) || eqb (r .kind) 2)
 
 -- may the metadata be used, as the code has it
-unfoldable pub meta-usable : TreeSizes → (ClientWord → ℕ) → Short → Bool
-meta-usable z m s = (in-store z (s .value) && leb (s .version) last-version) && (not (is-copied (s .how)) || eqb (m meta-copied) 1)
+unfoldable pub meta-usable : ℕ → Short → Bool
+meta-usable slots s = metadata-fits slots (s .value) (s .states) (s .version)
 
 -- may the flag of that name be used, as the code has it
 unfoldable pub flag-usable : (ClientWord → ℕ) → ℕ → Short → Bool
 flag-usable m n s = leb (s .value) 1 && (not (is-copied (s .how)) || eqb (m (vector-word (server-of n) 0)) 1)
 
-module _ (z : TreeSizes) (m : ClientWord → ℕ) where
+module _ (slots : ℕ) (m : ClientWord → ℕ) where
   -- the record is in range, and where it is a copy, so is that
   unfoldable pub look-fits : ℕ → Look → Bool
-  look-fits x l = record-in-range z x (l .node) && (not (is-copied (l .how)) || copy-fits m x (l .node))
+  look-fits x l = record-in-range slots x (l .node) && (not (is-copied (l .how)) || copy-fits m x (l .node))
 
   -- there is a record, and it is in range
   abbrev pub usable : ℕ → Look → Bool
@@ -149,11 +149,11 @@ module _ (z : TreeSizes) (m : ClientWord → ℕ) where
   -- the vector of server s, if there is a copy, "own frees and takes counted"
   abbrev pub have-vector : ℕ → Option Val
   have-vector s =
-      cond (ltb s (z .servers) && (vector-fits m s && has-vector m s)) (some (flags (N.flags-in (z .slots) (seen-words m s)))) none
+      cond (ltb s most-servers && (vector-fits m s && has-vector m s)) (some (flags (N.flags-in slots (seen-words m s)))) none
 
   -- what is at hand for a plan. "a server is passed over only by a vector that this transaction fetched"
   unfoldable pub have : Ask → Option Val
-  have (object o) = cond (object-in-store z o) (valued o (source m (number o))) none
+  have (object o) = cond (object-in-store slots o) (valued o (source m (number o))) none
   have (vector s) = have-vector s
   have (fetched s) = cond (is-fetched m s) (have-vector s) none
 
@@ -163,10 +163,10 @@ module _ (z : TreeSizes) (m : ClientWord → ℕ) where
 
   -- there is no such vector, or it is out of range
   abbrev pub bad-vector : ℕ → Bool
-  bad-vector s = not (ltb s (z .servers) && vector-fits m s)
+  bad-vector s = not (ltb s most-servers && vector-fits m s)
 
   -- what is not at hand can't be fetched either: refusal 10. Vectors are only asked of servers of the store
   unfoldable pub broken : Ask → Bool
-  broken (object o) = cond (object-in-store z o) (unusable (number o) (source m (number o))) true
+  broken (object o) = cond (object-in-store slots o) (unusable (number o) (source m (number o))) true
   broken (vector s) = bad-vector s
   broken (fetched s) = bad-vector s

@@ -66,9 +66,9 @@ reads-count = field 10
 abbrev pub writes-count : ClientWord
 writes-count = field 11
 
--- the copy of the metadata: 1 if there is one, the root's name, the version
-abbrev pub meta-copied : ClientWord
-meta-copied = field 12
+-- the copy of the metadata: the servers' states (0: there is none), the root's name, the version
+abbrev pub meta-states : ClientWord
+meta-states = field 12
 
 -- the root's name in it
 abbrev pub meta-root : ClientWord

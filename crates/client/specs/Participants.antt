@@ -1,16 +1,20 @@
 -- "Participants are the homes of leaves, free nodes and flags read; or all servers, where the metadata or a node inner before or after
--- is written."
-use mathlib.Core.Bool.{Bool, true, cond, _&&_, _||_, not}
+-- is written." ""All servers" means those not absent, for a transaction by the metadata it read"
+use mathlib.Core.Bool.{Bool, true, cond, _&&_, not}
 use mathlib.Core.List.{List, [], _∷_}
 use Prim.Native.Nat.{ℕ, zero, suc}
 use lib.Dec.{eqb}
 use Rattle.memory.specs.Bit.{bit, putBit}
 use Rattle.layout.specs.Space.{Put, put}
 use Rattle.nodes.specs.Name.{server-of}
+use Rattle.nodes.specs.States.{present}
+use Rattle.nodes.specs.declared.found.Found.{Found}
+use Rattle.nodes.specs.declared.found.Found.the-variants.{At, Absent}
 use Rattle.client.specs.declared.part.Set.the-variants.{Reads, Writes}
 use Rattle.client.specs.Layout.{ClientWord, phase, participants, commit-phase}
-use Rattle.client.specs.Record.{by-number}
-use Rattle.client.specs.Sets.{record-at, count, number-at}
+use Rattle.client.specs.Record.{by-number, second-slot}
+use Rattle.client.specs.Sets.{record-at, find, count, number-at}
+use Rattle.client.specs.Bounds.{most-servers}
 use Rattle.client.specs.Items.{any-below, inner, inner-before-after}
 
 -- the set of the servers below n that pass a test
@@ -36,18 +40,27 @@ module _ (m : ClientWord → ℕ) where
   abbrev pub calls-all : ℕ → Bool
   calls-all i = inner-before-after m (number-at m Writes i)
 
-  -- the homes below n that the first i read items make take part
-  abbrev pub called-homes : ℕ → ℕ → ℕ
-  called-homes n i = mask n (λ s. any-below i (calls-home s))
+  -- the states in the metadata's record, by its place in the read set
+  abbrev pub states-in : Found → ℕ
+  states-in (At i) = second-slot (record-at m Reads i)
+  states-in Absent = 0
 
-  -- does server s take part
-  abbrev pub takes-part : ℕ → Bool
-  takes-part s = any-below (count m Writes) calls-all || any-below (count m Reads) (calls-home s)
+  -- the homes that the first i read items make take part
+  abbrev pub called-homes : ℕ → ℕ
+  called-homes i = mask most-servers (λ s. any-below i (calls-home s))
+
+  -- does one of the write items
+  abbrev pub all-take-part : Bool
+  all-take-part = any-below (count m Writes) calls-all
+
+  -- the servers' states in the metadata read; a transaction that writes has read it (refusal 10), so 0 is not reached
+  unfoldable pub states-read : ℕ
+  states-read = states-in (find m Reads 0)
 
   -- the set of the participants
-  unfoldable pub participants-of : ℕ → ℕ
-  participants-of servers = mask servers takes-part
+  unfoldable pub participants-of : ℕ
+  participants-of = cond all-take-part (present states-read) (called-homes (count m Reads))
 
 -- the commit step with a participant
-unfoldable pub committing : ℕ → (ClientWord → ℕ) → List (Put ClientWord)
-committing servers m = put phase commit-phase ∷ put participants (participants-of m servers) ∷ []
+unfoldable pub committing : (ClientWord → ℕ) → List (Put ClientWord)
+committing m = put phase commit-phase ∷ put participants (participants-of m) ∷ []

@@ -67,7 +67,7 @@ renew-nth k m = renew-found m (ranked m (k + 1)) m
 
 -- the copy of the metadata as write item i has it, if it is written; word 19 is the root's name
 abbrev pub meta-found : (ClientWord → ℕ) → Found → PartStep
-meta-found m (At i) = put-fields meta-fields (1 ∷ m (item Writes i 19) ∷ new-version m 0 ∷ [])
+meta-found m (At i) = put-fields meta-fields (m (item Writes i 20) ∷ m (item Writes i 19) ∷ new-version m 0 ∷ [])
 meta-found m Absent = nothing
 
 -- the metadata, if it is written

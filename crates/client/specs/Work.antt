@@ -8,7 +8,6 @@ use Rattle.nodes.specs.declared.found.Found.the-variants.{At, Absent}
 use Rattle.operations.specs.Object.{Ask, Ans, Writes}
 use Rattle.operations.specs.Map.{Op, insert, lookup, delete, next, previous, migrate, list}
 use Rattle.operations.specs.Operation.{reading, all-fit?}
-use Rattle.operations.specs.Slot.{TreeSizes}
 use Rattle.client.specs.Layout.{ClientWord, op-number, op-key, op-value, op-server, reads-count, writes-count, limit}
 use Rattle.client.specs.Record.{last-version}
 use Rattle.client.specs.Sets.{record-at, find}
@@ -81,7 +80,7 @@ module _ (m : ClientWord → ℕ) where
   versions-there [] = true
   versions-there (e ∷ l) = (ltb last-node-number (e .0) || version-there (e .0) (find m set.Reads (e .0))) && versions-there l
 
-module _ (z : TreeSizes) (m : ClientWord → ℕ) where
+module _ (slots : ℕ) (m : ClientWord → ℕ) where
   -- what would be written is looked at once all is read: reason 3, then 4, then 8, for which the versions are read
   abbrev pub last-questions : Ans → Writes → Worked
   last-questions a w =
@@ -92,13 +91,13 @@ module _ (z : TreeSizes) (m : ClientWord → ℕ) where
 
   -- how the step ends by the walk's end; what is lacking and can't be fetched is refused
   abbrev pub judge : End → Worked
-  judge (lacks a) = cond (broken z m a) refused (fetches a)
+  judge (lacks a) = cond (broken slots m a) refused (fetches a)
   judge (aborts y) = aborted y
   judge (gives a w) = last-questions a w
 
   -- the walk of the plan, with room for 96 objects in the read set, which has at most 96 (`fit-to-work`)
   unfoldable pub walked : Ran
-  walked = run (have z m) (new m) (limit set.Reads - m reads-count) (reading z (waiting m)) []
+  walked = run (have slots m) (new m) (limit set.Reads - m reads-count) (reading slots (waiting m)) []
 
   -- how the work step ends
   unfoldable pub worked : Worked

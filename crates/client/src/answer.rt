@@ -22,11 +22,12 @@ pub struct Stand {
     pub at: usize,
 }
 
-// Of the metadata or a flag, its version and its value.
+// Of the metadata or a flag, its version and its value; of the metadata the servers' states too.
 pub struct Short {
     pub how: How,
     pub version: u64,
     pub value: u64,
+    pub states: u64,
 }
 
 // Is there a record?

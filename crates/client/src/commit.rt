@@ -5,24 +5,23 @@ use crate::part::FIRST_FLAG_NUMBER;
 use crate::part::LAST_NODE_NUMBER;
 use crate::part::Set;
 use crate::part::count;
+use crate::part::find;
 use crate::part::item_word;
 use crate::part::number_at;
 use crate::part::record_at;
 use memory::bits::with;
 use nodes::found::Found;
 use nodes::name::Name;
+use nodes::states::present;
 ghost use mathlib.Core.Path.{_≡_};
-ghost use mathlib.Core.Bool.{true};
-ghost use Prim.Native.Nat.{_+_, _<_, _≤_};
+ghost use Prim.Native.Nat.{_+_, _<_};
 ghost use Rattle.nodes.specs.Name.{server-of};
 ghost use Rattle.client.specs.Record.{by-number};
 ghost use Rattle.client.specs.Layout.{limit, ClientPart};
 ghost use Rattle.client.specs.declared.part.Set.the-variants.{Reads, Writes};
 ghost use Rattle.client.specs.Sets.{held, count};
 ghost use Rattle.client.specs.Commit.{is-at, inner-at};
-ghost use Rattle.client.specs.Items.{any-below};
-ghost use Rattle.client.specs.Participants.{mask, calls-all, called-homes, participants-of};
-ghost use Rattle.client.specs.Bounds.{most-servers};
+ghost use Rattle.client.specs.Participants.{calls-all, called-homes, all-take-part, states-read, participants-of};
 
 pub fn is_at(at: Found) -> bool
     ensures { λ r. ⌜ r ≡ is-at at ⌝ }
@@ -57,9 +56,10 @@ fn calls_all(part: &[u8], i: usize) -> bool
     inner_before_after(part, number)
 }
 
-fn one_calls_all(part: &[u8]) -> bool
+// Does one of the write items?
+pub fn all_take_part(part: &[u8]) -> bool
     requires { ⌜ ClientPart (now part) ⌝ }
-    ensures { λ r. ⌜ r ≡ any-below (count (held (now (part .entry))) Writes) (calls-all (held (now (part .entry)))) ⌝ }
+    ensures { λ r. ⌜ r ≡ all-take-part (held (now (part .entry))) ⌝ }
 {
     let n = count(part, Set::Writes);
     let mut i: usize = 0;
@@ -90,57 +90,57 @@ fn home_of(number: u64) -> u64
 }
 
 // The homes that read items call, with that of item i.
-fn with_home(part: &[u8], servers: usize, i: usize, set: u64) -> u64
-    requires { ⌜ (i < limit Reads) × (servers ≤ most-servers) × (set ≡ called-homes (held (now part)) servers i) × ClientPart (now part) ⌝ }
-    ensures { λ r. ⌜ r ≡ called-homes (held (now (part .entry))) servers (i + 1) ⌝ }
+fn with_home(part: &[u8], i: usize, set: u64) -> u64
+    requires { ⌜ (i < limit Reads) × (set ≡ called-homes (held (now part)) i) × ClientPart (now part) ⌝ }
+    ensures { λ r. ⌜ r ≡ called-homes (held (now (part .entry))) (i + 1) ⌝ }
 {
     let number = number_at(part, Set::Reads, i);
     if is_inner(number, record_at(part, Set::Reads, i)) {
         return set;
     }
     let home = home_of(number);
-    if home < servers as u64 {
+    if home < Name::SERVERS {
         return with(set, home as u32);
     }
     set
 }
 
 // Those of all read items, in one pass: not one for each server.
-fn homes(part: &[u8], servers: usize) -> u64
-    requires { ⌜ (servers ≤ most-servers) × ClientPart (now part) ⌝ }
-    ensures { λ r. ⌜ r ≡ called-homes (held (now (part .entry))) servers (count (held (now (part .entry))) Reads) ⌝ }
+fn homes(part: &[u8]) -> u64
+    requires { ⌜ ClientPart (now part) ⌝ }
+    ensures { λ r. ⌜ r ≡ called-homes (held (now (part .entry))) (count (held (now (part .entry))) Reads) ⌝ }
 {
     let n = count(part, Set::Reads);
     let mut set: u64 = 0;
     let mut i: usize = 0;
     while i < n {
-        set = with_home(part, servers, i, set);
+        set = with_home(part, i, set);
         i += 1;
     }
     set
 }
 
-// The set of all servers.
-fn all_servers(servers: usize) -> u64
-    requires { ⌜ servers ≤ most-servers ⌝ }
-    ensures { λ r. ⌜ r ≡ mask servers (λ s. true) ⌝ }
+// The servers' states in the metadata read.
+pub fn states_read(part: &[u8]) -> u64
+    requires { ⌜ ClientPart (now part) ⌝ }
+    ensures { λ r. ⌜ r ≡ states-read (held (now (part .entry))) ⌝ }
 {
-    let mut set: u64 = 0;
-    let mut s: usize = 0;
-    while s < servers {
-        set = with(set, s as u32);
-        s += 1;
+    match find(part, Set::Reads, 0) {
+        Found::At(i) => {
+            let r = record_at(part, Set::Reads, i);
+            r.slots[1]
+        }
+        Found::Absent => 0,
     }
-    set
 }
 
 // The set of the servers that take part.
-pub fn participants(part: &[u8], servers: usize) -> u64
-    requires { ⌜ (servers ≤ most-servers) × ClientPart (now part) ⌝ }
-    ensures { λ r. ⌜ r ≡ participants-of (held (now (part .entry))) servers ⌝ }
+pub fn participants(part: &[u8]) -> u64
+    requires { ⌜ ClientPart (now part) ⌝ }
+    ensures { λ r. ⌜ r ≡ participants-of (held (now (part .entry))) ⌝ }
 {
-    if one_calls_all(part) {
-        return all_servers(servers);
+    if all_take_part(part) {
+        return present(states_read(part));
     }
-    homes(part, servers)
+    homes(part)
 }

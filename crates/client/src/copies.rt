@@ -1,7 +1,7 @@
 // Copies of objects: put, and dropped.
 use crate::part::FIRST_FLAG_NUMBER;
 use crate::part::LAST_NODE_NUMBER;
-use crate::part::META_COPIED;
+use crate::part::META_STATES;
 use crate::part::Set;
 use crate::part::count;
 use crate::part::drop_vector;
@@ -60,7 +60,7 @@ fn drop_object(part: &mut [u8], number: u64)
     ensures { λ _. ⌜ Did (drop-object number) (now (part .entry)) (now (part .exit)) ⌝ }
 {
     if number == 0 {
-        set_field(part, META_COPIED, 0);
+        set_field(part, META_STATES, 0);
         return;
     }
     if number <= LAST_NODE_NUMBER {
@@ -146,7 +146,7 @@ pub fn drop_all(part: &mut [u8])
     requires { ⌜ ClientPart (now part) ⌝ }
     ensures { λ _. ⌜ Did drop-all (now (part .entry)) (now (part .exit)) ⌝ }
 {
-    set_field(part, META_COPIED, 0);
+    set_field(part, META_STATES, 0);
     drop_nodes(part);
     drop_vectors(part);
 }

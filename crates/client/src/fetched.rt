@@ -2,12 +2,12 @@
 use crate::copies::copy_node;
 use crate::enter::enter_read;
 use crate::part::FETCHED_VECTORS;
-use crate::part::META_COPIED;
+use crate::part::META_STATES;
 use crate::part::get_field;
 use crate::part::set_field;
 use crate::part::set_fields;
 use crate::part::set_vector;
-use crate::range::single;
+use crate::range::metadata;
 use memory::bits::with;
 use nodes::node::Node;
 ghost use Prim.Native.Nat.{_<_};
@@ -16,14 +16,14 @@ ghost use Rattle.client.specs.Fetched.{fetched-meta, fetched-node, fetch
 ghost use Rattle.client.specs.Layout.{ClientPart};
 ghost use Rattle.client.specs.Bounds.{most-servers, end-of-names};
 
-pub fn fetched_meta(part: &mut [u8], root: u64, version: u64)
+pub fn fetched_meta(part: &mut [u8], root: u64, states: u64, version: u64)
     requires { ⌜ ClientPart (now part) ⌝ }
-    ensures { λ _. ⌜ Did (fetched-meta root version) (now (part .entry)) (now (part .exit)) ⌝ }
+    ensures { λ _. ⌜ Did (fetched-meta root states version) (now (part .entry)) (now (part .exit)) ⌝ }
 {
-    let n = single(version, root);
+    let n = metadata(version, root, states);
     enter_read(part, 0, n);
-    let fields = [1, root, version];
-    set_fields(part, META_COPIED, &fields);
+    let fields = [states, root, version];
+    set_fields(part, META_STATES, &fields);
 }
 
 // An inner node is copied.

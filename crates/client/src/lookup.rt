@@ -9,8 +9,8 @@ use crate::answer::is_found;
 use crate::answer::lacking;
 use crate::part::FIRST_FLAG_NUMBER;
 use crate::part::LAST_NODE_NUMBER;
-use crate::part::META_COPIED;
 use crate::part::META_ROOT;
+use crate::part::META_STATES;
 use crate::part::META_VERSION;
 use crate::part::Set;
 use crate::part::find;
@@ -18,22 +18,23 @@ use crate::part::get_field;
 use crate::part::record_at;
 use crate::part::record_start;
 use crate::part::vector_word;
+use crate::range::metadata;
 use crate::range::single;
 use memory::bits::has;
 use nodes::found::Found;
 use nodes::name::Name;
-use nodes::name::in_store;
 use nodes::standing::in_range_at;
 use nodes::standing::kind_at;
 use nodes::standing::slot_at;
 use nodes::standing::version_at;
+use nodes::states::metadata_fits;
 ghost use mathlib.Core.Path.{_≡_};
 ghost use Prim.Native.Nat.{_+_, _<_, _≤_};
 ghost use Rattle.memory.specs.Word.{view};
 ghost use Rattle.nodes.specs.Stored.{node-at};
 ghost use Rattle.client.specs.Sets.{held};
 ghost use Rattle.client.specs.Have.{here, copy, lacking, stood, short, IsNode, InSets, copied, copied-meta, copied-node, copied-flag, source, node-usable, meta-usable, flag-usable};
-ghost use Rattle.client.specs.Record.{single, sizes};
+ghost use Rattle.client.specs.Record.{single, metadata};
 ghost use Rattle.client.specs.Layout.{record-words, client-length, ClientPart};
 ghost use Rattle.client.specs.Bounds.{end-of-names, end-of-numbers, first-flag-number};
 
@@ -41,10 +42,15 @@ fn copied_meta(part: &[u8]) -> Look
     requires { ⌜ ClientPart (now part) ⌝ }
     ensures { λ r. ⌜ r ≡ copied-meta (held (now (part .entry))) ⌝ }
 {
-    if get_field(part, META_COPIED) == 0 {
+    let states = get_field(part, META_STATES);
+    if states == 0 {
         return lacking();
     }
-    copy(single(get_field(part, META_VERSION), get_field(part, META_ROOT)))
+    copy(metadata(
+        get_field(part, META_VERSION),
+        get_field(part, META_ROOT),
+        states,
+    ))
 }
 
 fn copied_node(part: &[u8], number: u64) -> Look
@@ -146,6 +152,7 @@ fn short_at(part: &[u8], at: usize) -> Short
         how: How::Here,
         version: version_at(part, at),
         value: slot_at(part, at, 0),
+        states: slot_at(part, at, 1),
     }
 }
 
@@ -156,6 +163,7 @@ fn lacking_short() -> Short
         how: How::Lacking,
         version: 0,
         value: 0,
+        states: 0,
     }
 }
 
@@ -166,6 +174,18 @@ fn copied_short(version: u64, value: u64) -> Short
         how: How::Copied,
         version,
         value,
+        states: 0,
+    }
+}
+
+fn copied_metadata(version: u64, root: u64, states: u64) -> Short
+    ensures { λ r. ⌜ r ≡ short (copy (metadata version root states)) ⌝ }
+{
+    Short {
+        how: How::Copied,
+        version,
+        value: root,
+        states,
     }
 }
 
@@ -179,10 +199,15 @@ pub fn meta_source(part: &[u8]) -> Short
     if is_found(how) {
         return short_at(part, s.at);
     }
-    if get_field(part, META_COPIED) == 0 {
+    let states = get_field(part, META_STATES);
+    if states == 0 {
         return lacking_short();
     }
-    copied_short(get_field(part, META_VERSION), get_field(part, META_ROOT))
+    copied_metadata(
+        get_field(part, META_VERSION),
+        get_field(part, META_ROOT),
+        states,
+    )
 }
 
 // The copy of the flag of that name, in its server's vector.
@@ -231,22 +256,11 @@ pub fn stand_fits(part: &[u8], s: Stand) -> bool
     true
 }
 
-// May the metadata that was found be used? Its copy must be said to be there.
-pub fn meta_fits(part: &[u8], servers: usize, slots: usize, s: Short) -> bool
-    requires { ⌜ ClientPart (now part) ⌝ }
-    ensures { λ r. ⌜ r ≡ meta-usable (sizes servers slots) (held (now (part .entry))) s ⌝ }
+// May the metadata that was found be used?
+pub fn meta_fits(slots: usize, s: Short) -> bool
+    ensures { λ r. ⌜ r ≡ meta-usable slots s ⌝ }
 {
-    if !in_store(servers, slots, s.value) {
-        return false;
-    }
-    if s.version > 4294967295 {
-        return false;
-    }
-    let how = s.how;
-    if is_copied(how) {
-        return get_field(part, META_COPIED) == 1;
-    }
-    true
+    metadata_fits(slots, s.value, s.states, s.version)
 }
 
 // May the flag that was found be used? So must its server's vector.

@@ -46,7 +46,7 @@ pub const READS_COUNT: usize = 10;
 
 pub const WRITES_COUNT: usize = 11;
 
-pub const META_COPIED: usize = 12;
+pub const META_STATES: usize = 12;
 
 pub const META_ROOT: usize = 13;
 

@@ -2,12 +2,13 @@
 use crate::part::LAST_NODE_NUMBER;
 use nodes::name::in_store;
 use nodes::node::Node;
+use nodes::states::metadata_fits;
 ghost use mathlib.Core.Path.{_≡_};
 ghost use Prim.Native.Nat.{_≤_};
-ghost use Rattle.client.specs.Record.{single, record-in-range, children-there, node-fits, whole-in-range, kind-in-range, sizes};
+ghost use Rattle.client.specs.Record.{single, metadata, record-in-range, children-there, node-fits, whole-in-range, kind-in-range};
 ghost use Rattle.client.specs.Bounds.{most-keys};
 
-// A record of the metadata or a flag: its value stands in the first slot.
+// A record of a flag: its value stands in the first slot.
 pub fn single(version: u64, value: u64) -> Node
     ensures { λ r. ⌜ r ≡ single version value ⌝ }
 {
@@ -23,16 +24,30 @@ pub fn single(version: u64, value: u64) -> Node
     }
 }
 
+// A record of the metadata: the root's name stands in the first slot, the servers' states in the second.
+pub fn metadata(version: u64, root: u64, states: u64) -> Node
+    ensures { λ r. ⌜ r ≡ metadata version root states ⌝ }
+{
+    let mut slots = [0u64; 15];
+    slots[0] = root;
+    slots[1] = states;
+    Node {
+        kind: 0,
+        level: 0,
+        version,
+        count: 0,
+        keys: [0; 14],
+        slots,
+    }
+}
+
 // May the record of the object with that number be used?
-pub fn fits(servers: usize, slots: usize, number: u64, n: Node) -> bool
-    ensures { λ r. ⌜ r ≡ record-in-range (sizes servers slots) number n ⌝ }
+pub fn fits(slots: usize, number: u64, n: Node) -> bool
+    ensures { λ r. ⌜ r ≡ record-in-range slots number n ⌝ }
 {
     let first = n.slots[0];
     if number == 0 {
-        if !in_store(servers, slots, first) {
-            return false;
-        }
-        return n.version <= 4294967295;
+        return metadata_fits(slots, first, n.slots[1], n.version);
     }
     if number <= LAST_NODE_NUMBER {
         return n.in_range();
@@ -41,9 +56,9 @@ pub fn fits(servers: usize, slots: usize, number: u64, n: Node) -> bool
 }
 
 // Are an inner node's children names of the store?
-fn children_there(servers: usize, slots: usize, n: Node) -> bool
+fn children_there(slots: usize, n: Node) -> bool
     requires { ⌜ n .count ≤ most-keys ⌝ }
-    ensures { λ r. ⌜ r ≡ children-there (sizes servers slots) n ⌝ }
+    ensures { λ r. ⌜ r ≡ children-there slots n ⌝ }
 {
     if n.kind != 2 {
         return true;
@@ -52,7 +67,7 @@ fn children_there(servers: usize, slots: usize, n: Node) -> bool
     let count = n.count as usize + 1;
     let mut i: usize = 0;
     while i < count {
-        if !in_store(servers, slots, children[i]) {
+        if !in_store(slots, children[i]) {
             return false;
         }
         i += 1;
@@ -61,26 +76,26 @@ fn children_there(servers: usize, slots: usize, n: Node) -> bool
 }
 
 // May a node be handed out or stored whole?
-pub fn node_fits(servers: usize, slots: usize, n: Node) -> bool
-    ensures { λ r. ⌜ r ≡ node-fits (sizes servers slots) n ⌝ }
+pub fn node_fits(slots: usize, n: Node) -> bool
+    ensures { λ r. ⌜ r ≡ node-fits slots n ⌝ }
 {
     if !n.in_range() {
         return false;
     }
-    children_there(servers, slots, n)
+    children_there(slots, n)
 }
 
 // May the record of the object with that number be stored whole?
-pub fn whole_fits(servers: usize, slots: usize, number: u64, n: Node) -> bool
-    ensures { λ r. ⌜ r ≡ whole-in-range (sizes servers slots) number n ⌝ }
+pub fn whole_fits(slots: usize, number: u64, n: Node) -> bool
+    ensures { λ r. ⌜ r ≡ whole-in-range slots number n ⌝ }
 {
     if number == 0 {
-        return fits(servers, slots, number, n);
+        return fits(slots, number, n);
     }
     if number > LAST_NODE_NUMBER {
-        return fits(servers, slots, number, n);
+        return fits(slots, number, n);
     }
-    node_fits(servers, slots, n)
+    node_fits(slots, n)
 }
 
 // Is the kind of the object with that number in range? Only a node has one.

@@ -7,7 +7,7 @@ use crate::life::reset;
 use crate::part::FIRST_FLAG_NUMBER;
 use crate::part::LAST_NODE_NUMBER;
 use crate::part::LOST;
-use crate::part::META_COPIED;
+use crate::part::META_STATES;
 use crate::part::NO_TRANSACTION;
 use crate::part::Set;
 use crate::part::count;
@@ -173,8 +173,9 @@ fn renew_meta(part: &mut [u8])
         Found::At(i) => {
             let root = item_word(part, Set::Writes, i, 19);
             let version = new_version(part, 0);
-            let fields = [1, root, version];
-            set_fields(part, META_COPIED, &fields);
+            let states = item_word(part, Set::Writes, i, 20);
+            let fields = [states, root, version];
+            set_fields(part, META_STATES, &fields);
         }
         Found::Absent => {}
     }

@@ -4,10 +4,15 @@
 pub mod Example
 pub mod Wrong
 -- WHY IT HOLDS
+-- operations leave the servers' states as they are
+pub mod Stays
 -- the protocol at this store, with the operations' meaning
 pub mod Store
--- what the memory shows of the protocol's machine
+-- where a transaction's objects live
+pub mod Housed
+-- what the memory shows of the protocol's machine, and which servers are there
 pub mod Shows
+pub mod There
 -- what stands after stores
 pub mod Frame
 -- objects by their numbers
@@ -19,8 +24,9 @@ pub mod Members
 -- begin and give
 pub mod Kept
 pub mod Course
--- commit
+-- commit, and that homes are there
 pub mod Committed
+pub mod Homed
 -- prepare: locks as words, checks, the move
 pub mod Locking
 pub mod Recorded
@@ -34,6 +40,7 @@ pub mod Writing
 pub mod Written
 pub mod Applied
 -- abort and loss
+pub mod Everywhere
 pub mod Dropped
 pub mod Aborted
 pub mod Forgotten
@@ -83,6 +90,10 @@ pub mod Applies
 pub mod Decides
 -- where no apply is due
 pub mod Settled
+-- servers come and go: their states' bits, an added server's table, the step
+pub mod Bits
+pub mod Added
+pub mod Coming
 -- every kind of step
 pub mod ByKind
 -- what holds in a good state; `ranges` puts the steps together

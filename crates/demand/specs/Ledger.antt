@@ -57,7 +57,7 @@ seen (previous k) a b out = (a, b, [])
 seen (migrate n s) a b out = (a, b, [])
 seen (list k n) a b out = (a, b, pairs-at a out)
 
--- "a begin starts its client's transaction, a give adds an op, key and value"
+-- "a begin starts its client's transaction, a give adds an op, key and value"; a change of the servers is no transaction's
 abbrev pub note-done : Ledger → Step → Ledger
 note-done L k =
     cond (eqb (k .kind) 0) (clears L (k .client))

@@ -26,7 +26,7 @@ use Rattle.client.specs.Lent.{LentList}
 unfoldable pub rule-of : Sizes → ℕ → Step → Kind → (Address → ℕ) → Did
 rule-of z c k x m = by-kind z m c k x
 
--- what the rule of a step's kind x rests on, where b are the memory's bytes: no refusal up to 9, nor 11 or 12
+-- what the rule of a step's kind x rests on, where b are the memory's bytes: no refusal up to 9, nor 11 to 15
 pub record Ruled (z : Sizes) (b : List ℕ) (room c : ℕ) (k : Step) (x : Kind) : Type 0 where
   pub store : Store-in z (length b)
   pub client : c ≡ k .client

@@ -3,7 +3,6 @@ use mathlib.Core.List.{List, []}
 use Prim.Native.Nat.{ℕ, _*_, _≤_, _<_}
 use Rattle.client.specs.Part.{PartStep, _then_, put-word}
 use denote.Ref.{now}
-use Rattle.operations.specs.Slot.{TreeSizes}
 use Rattle.client.specs.Lent.{LentList, Entry, used-in}
 use Rattle.client.specs.Enter.{enter-entries}
 use Rattle.client.specs.Answered.{used-enter}
@@ -15,7 +14,7 @@ use mathlib.Core.Path.{_≡_}
 use mathlib.Core.Bool.{true}
 use Rattle.client.specs.Layout.{ClientWord, op-number, op-value}
 use Rattle.client.specs.Fits.{fit-to-work}
-use Rattle.steps.specs.Whole.{Address, tree-sizes}
+use Rattle.steps.specs.Whole.{Address}
 use Rattle.steps.specs.Output.{with-pairs}
 use Rattle.steps.specs.Steps.{Did, work}
 use Rattle.kinds.specs.Parts.{Store-in, stored-in, InClient}
@@ -51,13 +50,13 @@ answer-of (Answers a b) = outcome.Answered a b
 pub record WaitingClient (z : Sizes) (b : List ℕ) (c : ℕ) : Type 0 where
   pub store : Store-in z (length b)
   pub client : c < z .clients
-  pub fits : fit-to-work (tree-sizes z) (of-client z (view b) c) ≡ true
+  pub fits : fit-to-work (z .slots) (of-client z (view b) c) ≡ true
   pub sets : Known z (view b) c
   pub waiting : Waiting (of-client z (view b) c)
 
 -- a statement of a walk over a client's part of the lent memory
-abbrev pub over-client : {A : Type 1} → (TreeSizes → (ClientWord → ℕ) → A) → Sizes → LentList → ℕ → A
-over-client S z mem c = S (tree-sizes z) (of-client z (view (now (mem .entry))) c)
+abbrev pub over-client : {A : Type 1} → (ℕ → (ClientWord → ℕ) → A) → Sizes → LentList → ℕ → A
+over-client S z mem c = S (z .slots) (of-client z (view (now (mem .entry))) c)
 
 -- the operation of client c that waits is of that sort
 abbrev pub Waits-for : Sizes → List ℕ → ℕ → Operation → Type 0

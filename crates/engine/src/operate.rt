@@ -16,7 +16,6 @@ ghost use Rattle.walk.specs.Stopped.{Stopped};
 ghost use Rattle.walk.specs.declared.operation.Operation.the-variants.{Read, Write};
 ghost use Rattle.walk.specs.Found.{pairs-in};
 ghost use Rattle.walk.specs.Operation.{operation-of};
-ghost use Rattle.steps.specs.Whole.{tree-sizes};
 ghost use Rattle.steps.specs.Output.{with-pairs};
 ghost use Rattle.steps.specs.Steps.{work};
 ghost use Rattle.kinds.specs.Parts.{AtClient};
@@ -117,7 +116,7 @@ fn store_seen(mem: &mut [u8], sizes: Sizes, client: usize, used: &[u64])
 // A walk that stopped without an answer.
 fn unanswered(mem: &mut [u8], sizes: Sizes, client: usize, stop: Stop, used: &[u64]) -> Outcome
     requires { ⌜ WaitingClient sizes (now mem) client ⌝ }
-    requires stopped { ⌜ Stopped (tree-sizes sizes) (of-client sizes (view (now mem)) client) stop (now used) × (is-answer stop ≡ false) ⌝ }
+    requires stopped { ⌜ Stopped (sizes .slots) (of-client sizes (view (now mem)) client) stop (now used) × (is-answer stop ≡ false) ⌝ }
     ensures { λ r. ⌜ Comes sizes (λ m. work sizes m client) (now (mem .entry)) r (now (mem .exit)) ⌝ }
     ensures pairs { λ _. ⌜ No-pairs sizes (now (mem .entry)) client ⌝ }
 {

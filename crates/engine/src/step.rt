@@ -1,10 +1,11 @@
 // One step of a store, on any memory lent.
 ghost use mathlib.Core.Path.{_≡_};
 ghost use mathlib.Core.List.{[], _∷_};
+ghost use Prim.Native.Nat.{_<_};
 ghost use lib.ListN.{length};
 ghost use Rattle.memory.specs.Word.{view};
 ghost use Rattle.steps.specs.Steps.{short-output, step as rule};
-ghost use Rattle.kinds.specs.Parts.{Store-in, AtClient};
+ghost use Rattle.kinds.specs.Parts.{Store-in};
 ghost use Rattle.kinds.specs.Judge.{of-client};
 ghost use Rattle.kinds.specs.Kinds.{Comes};
 ghost use Rattle.engine.specs.Work.{Leaves-lent};
@@ -15,6 +16,7 @@ use client::part::OP_NUMBER;
 use client::part::OP_VALUE;
 use kinds::abort::give_up;
 use kinds::apply::apply;
+use kinds::change::change_servers;
 use kinds::commit::commit;
 use kinds::judge::field_of;
 use kinds::life::begin;
@@ -37,7 +39,7 @@ const LIST: u64 = 7;
 
 // "12: at work, output shorter than 16 times the count". The count may still be any number: nothing has judged it.
 fn short_output(mem: &[u8], room: usize, sizes: Sizes, client: usize, kind: u64) -> bool
-    requires { ⌜ AtClient sizes (length (now mem)) client ⌝ }
+    requires { ⌜ Store-in sizes (length (now mem)) × (kind ≡ 2 → client < sizes .clients) ⌝ }
     ensures { λ r. ⌜ r ≡ short-output kind room (of-client sizes (view (now (mem .entry))) client) ⌝ }
 {
     if kind != WORK {
@@ -71,11 +73,12 @@ fn by_kind(
         Kind::Apply => apply(mem, sizes, client, step.server as usize),
         Kind::GiveUp => give_up(mem, sizes, client),
         Kind::Lost => lose(mem, sizes, client),
+        Kind::Servers(change) => change_servers(mem, sizes, change, step.server as usize),
         Kind::Unknown => Outcome::Refused(4),
     }
 }
 
-// Refusals 4 to 9, 11 and 12, then the rule.
+// Refusals 4 to 9 and 11 to 15, then the rule.
 fn in_store(mem: &mut [u8], out: &mut [u8], sizes: Sizes, step: Step) -> Outcome
     requires { ⌜ Store-in sizes (length (now mem)) ⌝ }
     ensures { λ r. ⌜ Comes sizes (rule sizes step (length (now (out .entry)))) (now (mem .entry)) r (now (mem .exit)) ⌝ }

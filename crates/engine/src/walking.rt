@@ -44,7 +44,7 @@ pub fn look_at(mem: &[u8], sizes: Sizes, client: usize, used: &mut [u64], op: Qu
     ensures { λ r. ⌜ over-client Looks sizes mem client r (now (used .entry)) (now (used .exit)) [] ⌝ }
 {
     let at = 8 * client_at(sizes, client);
-    look(&mem[at..], sizes.servers, sizes.slots, used, op)
+    look(&mem[at..], sizes.slots, used, op)
 }
 
 // A list: another list is lent, which has the pairs afterwards.
@@ -56,7 +56,7 @@ pub fn list_at(mem: &[u8], sizes: Sizes, client: usize, used: &mut [u64], found:
     ensures within { λ _. ⌜ Roomy (of-client sizes (view (now (mem .entry))) client op-value) (now (found .exit)) ⌝ }
 {
     let at = 8 * client_at(sizes, client);
-    list(&mem[at..], sizes.servers, sizes.slots, used, found)
+    list(&mem[at..], sizes.slots, used, found)
 }
 
 // One that writes, unless that is more than one object: the list is lent empty.
@@ -66,7 +66,7 @@ pub fn single_at(mem: &[u8], sizes: Sizes, client: usize, used: &mut [u64], op: 
     ensures { λ r. ⌜ over-client WorksSingly sizes mem client r (now (used .entry)) (now (used .exit)) ⌝ }
 {
     let at = 8 * client_at(sizes, client);
-    write_single(&mem[at..], sizes.servers, sizes.slots, used, op)
+    write_single(&mem[at..], sizes.slots, used, op)
 }
 
 // Any that writes: both lists are lent empty.
@@ -83,5 +83,5 @@ pub fn walk_at(
     ensures { λ r. ⌜ over-client WorksOn sizes mem client r own used ⌝ }
 {
     let at = 8 * client_at(sizes, client);
-    work(&mem[at..], sizes.servers, sizes.slots, own, used, op)
+    work(&mem[at..], sizes.slots, own, used, op)
 }

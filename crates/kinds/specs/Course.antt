@@ -4,6 +4,7 @@ use mathlib.Core.List.{List, [], _∷_}
 use Prim.Native.Nat.{ℕ}
 use Rattle.memory.specs.Bit.{bit, putBit}
 use Rattle.layout.specs.Space.{Put, put}
+use Rattle.client.specs.Bounds.{most-servers}
 use Rattle.client.specs.Layout.{ClientWord, field, participants}
 use Rattle.steps.specs.declared.sizes.Sizes.{Sizes}
 use Rattle.steps.specs.Steps.{covers}
@@ -14,7 +15,7 @@ covered p q t = not (bit p t) || bit q t
 
 -- all participants are in the set of field i, once the server s is
 abbrev pub covers-with : Sizes → (ClientWord → ℕ) → ℕ → ℕ → Bool
-covers-with z m i s = covers (z .servers) (m participants) (putBit true (m (field i)) s)
+covers-with z m i s = covers most-servers (m participants) (putBit true (m (field i)) s)
 
 -- one field of a client's part
 unfoldable pub mark : ℕ → ℕ → (ClientWord → ℕ) → List (Put ClientWord)

@@ -8,6 +8,7 @@ use Rattle.memory.specs.Word.{view}
 use Rattle.server.specs.declared.lock.Use.the-variants.{Fetch}
 use Rattle.server.specs.Object.{object-of, Has}
 use Rattle.server.specs.Check.{can-check, checked, held, finding-number}
+use Rattle.client.specs.Bounds.{most-servers}
 use Rattle.client.specs.declared.part.Set.the-variants.{Reads}
 use Rattle.client.specs.Layout.{ClientWord, reads-count, limit}
 use Rattle.client.specs.Sets.{count}
@@ -18,6 +19,7 @@ use Rattle.kinds.specs.declared.fetch.Verdict.{Verdict}
 use Rattle.kinds.specs.declared.fetch.Verdict.the-variants.{Unfit, Fault, Clear}
 use Rattle.steps.specs.Uses.{Item, item-of, item-object, deciding}
 use Rattle.steps.specs.Judge.{lock-fits}
+use Rattle.steps.specs.Servers.{there}
 use Rattle.steps.specs.Steps.{fetch-items, fetch-finding}
 use Rattle.kinds.specs.Parts.{Store-in, stored-in, AtClient}
 use Rattle.kinds.specs.Items.{read-item}
@@ -50,10 +52,14 @@ pub record AllKnown (z : Sizes) (w : List ℕ) (c : ℕ) (us : List ℕ) : Type 
 pub record Checking (z : Sizes) (b : List ℕ) (c s : ℕ) (u : List ℕ) : Type 0 where
   pub holds : Store-in z (length b)
   pub client : c < z .clients
-  pub server : s < z .servers
+  pub server : s < most-servers
   pub in-use : InUse u
   pub reads : of-client z (view b) c reads-count ≤ limit Reads
   pub known : AllKnown z (view b) c (used-in u)
+
+-- the same before it is known from which server
+abbrev pub Fetching : Sizes → List ℕ → ℕ → List ℕ → Type 0
+Fetching z b c u = Checking z b c 0 u
 
 -- can the server s check the item
 abbrev pub checks : ℕ → Item → Bool
@@ -72,6 +78,10 @@ items-found z w c s us = deciding (map (fetch-finding z (stored-in z w) c us s) 
 -- ---- what comes of it: on, refusal 10, or a reason
 abbrev pub verdict-of : ℕ → Verdict
 verdict-of y = cond (eqb y 0) Clear (cond (eqb y 10) Unfit (Fault y))
+
+-- and of an absent server the reason 1
+unfoldable pub reached : Sizes → List ℕ → ℕ → ℕ → List ℕ → Verdict
+reached z w c s us = cond (there (stored-in z w) s) (verdict-of (items-found z w c s us)) (Fault 1)
 
 -- one too many is read
 abbrev pub room-of : Sizes → List ℕ → ℕ → List ℕ → Verdict

@@ -5,6 +5,7 @@ use mathlib.Core.List.{List}
 use Prim.Native.Nat.{ℕ, _-_, _<_}
 use Rattle.memory.specs.Bit.{bit}
 use Rattle.server.specs.Object.{object-of, Has}
+use Rattle.client.specs.Bounds.{most-servers}
 use Rattle.client.specs.declared.part.Set.{Set}
 use Rattle.client.specs.declared.part.Set.the-variants.{Reads}
 use Rattle.client.specs.Layout.{ClientWord, prepared}
@@ -12,7 +13,6 @@ use Rattle.client.specs.Sets.{count, number-at}
 use Rattle.client.specs.Items.{all-below}
 use Rattle.client.specs.Fits.{fit-to-prepare, fit-to-unlock}
 use Rattle.steps.specs.declared.sizes.Sizes.{Sizes}
-use Rattle.steps.specs.Whole.{tree-sizes}
 use Rattle.steps.specs.Uses.{Item, locked-at}
 use Rattle.steps.specs.Judge.{lock-fits, unlock-fits}
 use Rattle.kinds.specs.Parts.{stored-in, Store-in}
@@ -36,12 +36,12 @@ pub record KnownClient (z : Sizes) (b : List ℕ) (c : ℕ) : Type 0 where
 pub record KnownAt (z : Sizes) (b : List ℕ) (c s : ℕ) : Type 0 where
   pub store : Store-in z (length b)
   pub client : c < z .clients
-  pub server : s < z .servers
+  pub server : s < most-servers
   pub sets : Known z (view b) c
 
 -- what a prepare of the client c reads of its own part is in range
 pub record Fit-to-prepare (z : Sizes) (b : List ℕ) (c : ℕ) : Type 0 where
-  pub fit : fit-to-prepare (tree-sizes z) (of-client z (view b) c) ≡ true
+  pub fit : fit-to-prepare (z .slots) (of-client z (view b) c) ≡ true
 
 -- what an unlocking reads of an item at the server s
 unfoldable pub unlock-item : Sizes → List ℕ → ℕ → ℕ → Item → Bool
@@ -49,7 +49,7 @@ unlock-item z w low s i = (i .read-fits && i .written-fits) && (not (locked-at l
 
 -- ---- at every server at which the transaction is prepared
 unfoldable pub unlocks-at : Sizes → List ℕ → ℕ → ℕ → ℕ → Bool
-unlocks-at z w c p s = not (bit p s) || (fit-to-unlock (tree-sizes z) (of-client z w c) && unlock-fits z (stored-in z w) c s)
+unlocks-at z w c p s = not (bit p s) || (fit-to-unlock (z .slots) (of-client z w c) && unlock-fits z (stored-in z w) c s)
 
 unfoldable pub unlocks-all : Sizes → List ℕ → ℕ → Bool
-unlocks-all z w c = all-below (z .servers) (unlocks-at z w c (of-client z w c prepared))
+unlocks-all z w c = all-below most-servers (unlocks-at z w c (of-client z w c prepared))

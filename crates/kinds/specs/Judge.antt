@@ -24,7 +24,7 @@ of-server z w s = λ a. stored-in z w (server s a)
 
 -- memory with the bytes b and a client whose participants are these
 abbrev pub Awaited : Sizes → List ℕ → ℕ → ℕ → Type 0
-Awaited z b c servers = AtClient z (length b) c × (servers ≡ participants-of (of-client z (view b) c) (z .servers))
+Awaited z b c servers = AtClient z (length b) c × (servers ≡ participants-of (of-client z (view b) c))
 
 -- a reader that the word names
 unfoldable pub reader-fits : Sizes → List ℕ → ℕ → ℕ → Bool

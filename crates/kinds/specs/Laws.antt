@@ -1,8 +1,10 @@
 -- Laws and proofs, in reading order.
 
--- the whole memory and its parts lent on; refusals 1 to 9 and 11
+-- the whole memory and its parts lent on; refusals 1 to 9, 11 and 13 to 15
 pub mod Parts
 pub mod Refusal
+-- which servers there are
+pub mod Servers
 -- the objects read; refusal 10 at servers, of one item and of all, and for the client's own state
 pub mod Items
 pub mod Judge
@@ -27,3 +29,5 @@ pub mod Prepare
 pub mod Fetch
 pub mod Hand
 pub mod Lack
+-- a change of the servers
+pub mod Change

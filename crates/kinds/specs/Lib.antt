@@ -1,8 +1,10 @@
 -- What the code of the kinds is held to, a file for each file of src: the rules of `steps`, as they are worked out item by item.
 
--- the whole memory and its parts lent on; refusals 1 to 9 and 11
+-- the whole memory and its parts lent on; refusals 1 to 9, 11 and 13 to 15
 pub mod Parts
 pub mod Refusal
+-- what is asked of a server's vector
+pub mod Servers
 -- the objects read; refusal 10 at servers, of one item and of all, and for the client's own state
 pub mod Items
 pub mod Judge
@@ -24,5 +26,7 @@ pub mod Prepare
 -- a work step that fetches: what it checks at the server, what it hands over
 pub mod Fetch
 pub mod Lack
+-- a change of the servers
+pub mod Change
 -- laws and proofs
 pub mod Laws

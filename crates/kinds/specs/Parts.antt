@@ -15,6 +15,7 @@ use Rattle.layout.specs.Part.{inPart}
 use Rattle.client.specs.Layout.{ClientWord}
 use Rattle.server.specs.declared.place.Place.{Place}
 use Rattle.memory.specs.Word.{view}
+use Rattle.client.specs.Bounds.{most-servers}
 
 -- "a 64-byte head holding the three sizes"
 unfoldable pub head-sizes : List ℕ → Sizes
@@ -26,7 +27,7 @@ head-words = 8
 
 -- no sizes call for more words: the head, 8 servers' parts of 1,024 slots, 16 clients' parts
 abbrev pub most-words : ℕ
-most-words = 525328
+most-words = 525336
 
 -- "the length that given sizes call for", refused by 2
 unfoldable pub length-answer : Sizes → Length
@@ -48,23 +49,23 @@ pub record AtClient (z : Sizes) (n c : ℕ) : Type 0 where
 
 pub record AtServer (z : Sizes) (n s : ℕ) : Type 0 where
   pub store : Store-in z n
-  pub server : s < z .servers
+  pub server : s < most-servers
 
 pub record ClientAt (z : Sizes) (n c s : ℕ) : Type 0 where
   pub store : Store-in z n
   pub client : c < z .clients
-  pub server : s < z .servers
+  pub server : s < most-servers
 
 -- with a server and an object of the store, by its number; and a client who asks for it
 pub record ObjectAt (z : Sizes) (n s x : ℕ) : Type 0 where
   pub store : Store-in z n
-  pub server : s < z .servers
+  pub server : s < most-servers
   pub object : Has (z .slots) (object-of x)
 
 pub record ObjectFor (z : Sizes) (n c s x : ℕ) : Type 0 where
   pub store : Store-in z n
   pub client : c < z .clients
-  pub server : s < z .servers
+  pub server : s < most-servers
   pub object : Has (z .slots) (object-of x)
 
 -- code with the bytes b before and b′ after has made these stores: in the whole, in a client's part, in a server's part

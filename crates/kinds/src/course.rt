@@ -69,5 +69,5 @@ pub fn is_last(mem: &[u8], sizes: Sizes, client: usize, i: usize, server: usize)
 {
     let set = field_of(mem, sizes, client, PARTICIPANTS);
     let done = field_of(mem, sizes, client, i);
-    covers(sizes.servers, set, bits::with(done, server as u32))
+    covers(8, set, bits::with(done, server as u32))
 }

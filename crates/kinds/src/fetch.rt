@@ -9,7 +9,7 @@ ghost use Rattle.client.specs.Lent.{used-in};
 ghost use Rattle.kinds.specs.Parts.{AtClient, ObjectFor};
 ghost use Rattle.kinds.specs.Items.{as-item};
 ghost use Rattle.kinds.specs.Judge.{of-client};
-ghost use Rattle.kinds.specs.Fetch.{used-item, known-at, fetch-fault, items-found, Checking, verdict-of, room-of, gate-of, Reading-one, Reading-few};
+ghost use Rattle.kinds.specs.Fetch.{used-item, known-at, fetch-fault, items-found, Checking, verdict-of, reached, room-of, gate-of, Reading-one, Reading-few};
 ghost use Rattle.client.specs.Layout.{ClientPart};
 ghost use Rattle.client.specs.Bounds.{end-of-numbers};
 use crate::findings::Fault;
@@ -22,6 +22,7 @@ use crate::items::item_of;
 use crate::judge::field_of;
 use crate::judge::item_at;
 use crate::judge::lock_word;
+use crate::servers::is_there;
 use crate::whole::client_at;
 use client::lookup::copied;
 use client::part::MOST_READ;
@@ -114,7 +115,7 @@ pub enum Verdict {
 }
 
 // "in the order metadata, nodes by name, flags by name"
-pub fn check_all(mem: &[u8], sizes: Sizes, client: usize, server: usize, used: &[u64]) -> Verdict
+fn check_all(mem: &[u8], sizes: Sizes, client: usize, server: usize, used: &[u64]) -> Verdict
     requires { ⌜ Checking sizes (now mem) client server (now used) ⌝ }
     ensures { λ r. ⌜ r ≡ verdict-of (items-found sizes (view (now (mem .entry))) client server (used-in (now (used .entry)))) ⌝ }
 {
@@ -126,6 +127,17 @@ pub fn check_all(mem: &[u8], sizes: Sizes, client: usize, server: usize, used: &
         return Verdict::Unfit;
     }
     Verdict::Fault(found)
+}
+
+// "A fetch .. at an absent server aborts with 1", before all else.
+pub fn check_from(mem: &[u8], sizes: Sizes, client: usize, server: usize, used: &[u64]) -> Verdict
+    requires { ⌜ Checking sizes (now mem) client server (now used) ⌝ }
+    ensures { λ r. ⌜ r ≡ reached sizes (view (now (mem .entry))) client server (used-in (now (used .entry))) ⌝ }
+{
+    if !is_there(mem, sizes, server) {
+        return Verdict::Fault(1);
+    }
+    check_all(mem, sizes, client, server, used)
 }
 
 // The limit of 96: those read and those in use.

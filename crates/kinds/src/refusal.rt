@@ -1,15 +1,19 @@
-// "Steps refused": 1 to 9 and 11. "A refused step returns the first number that holds and changes no byte".
+// "Steps refused": 1 to 9, 11 and 13 to 15. "A refused step returns the first number that holds and changes no byte".
 ghost use mathlib.Core.Path.{_≡_};
 ghost use Prim.Native.Nat.{_<_};
 ghost use lib.ListN.{length};
 ghost use Rattle.memory.specs.Word.{view};
 ghost use Rattle.client.specs.Sets.{held};
 ghost use Rattle.steps.specs.Refusal.{kind-of, open-refusal, refusal, state-fits};
-ghost use Rattle.kinds.specs.Parts.{Store-in, stored-in};
+ghost use Rattle.kinds.specs.Parts.{Store-in, AtServer, stored-in};
 ghost use Rattle.kinds.specs.Refusal.{server-refusal, node-refusal, count-refusal, first-refusal, give-refusal, field-refusal, known-refusal};
-ghost use Rattle.kinds.specs.Refusal.{left, due, fitting, unfit, Sited};
+ghost use Rattle.kinds.specs.Refusal.{left, due, fitting, unfit, taken-yet, change-refusal, Sited};
 ghost use Rattle.client.specs.Layout.{ClientPart, field, field-count};
 ghost use Rattle.client.specs.Bounds.{most-servers};
+use crate::servers::any_taken;
+use crate::servers::is_quiet;
+use crate::servers::state_suits;
+use crate::servers::version_ends;
 use crate::sizes::allowed;
 use crate::sizes::between;
 use crate::whole::client_at;
@@ -26,9 +30,11 @@ use client::part::PHASE;
 use client::part::PREPARED;
 use client::part::get_field;
 use memory::bits;
+use nodes::name::Name;
 use nodes::name::in_store;
 use steps::sizes::Sizes;
 use steps::step::Kind;
+use steps::step::ServerChange;
 use steps::step::Step;
 
 // 1 to 3: the memory of so many bytes, for the sizes given or in the head.
@@ -47,7 +53,7 @@ pub fn memory_refusal(bytes: usize, sizes: Sizes) -> u64
     2
 }
 
-// "Kinds: 0 begin. 1 give an operation .. 7 client lost."
+// "Kinds: 0 begin. 1 give an operation .. 7 client lost.", and the changes of the servers.
 pub fn kind_of(number: u64) -> Kind
     ensures { λ r. ⌜ r ≡ kind-of number ⌝ }
 {
@@ -60,15 +66,18 @@ pub fn kind_of(number: u64) -> Kind
         5 => Kind::Apply,
         6 => Kind::GiveUp,
         7 => Kind::Lost,
-        8..=u64::MAX => Kind::Unknown,
+        8 => Kind::Servers(ServerChange::Add),
+        9 => Kind::Servers(ServerChange::Close),
+        10 => Kind::Servers(ServerChange::Remove),
+        11..=u64::MAX => Kind::Unknown,
     }
 }
 
 // 7: "The server of a migrate, prepare or apply is not in the store."
-fn server_refusal(sizes: Sizes, server: u64) -> u64
-    ensures { λ r. ⌜ r ≡ server-refusal sizes server ⌝ }
+fn server_refusal(server: u64) -> u64
+    ensures { λ r. ⌜ r ≡ server-refusal server ⌝ }
 {
-    if server >= sizes.servers as u64 {
+    if server >= Name::SERVERS {
         return 7;
     }
     0
@@ -78,7 +87,7 @@ fn server_refusal(sizes: Sizes, server: u64) -> u64
 fn node_refusal(sizes: Sizes, name: u64) -> u64
     ensures { λ r. ⌜ r ≡ node-refusal sizes name ⌝ }
 {
-    if in_store(sizes.servers, sizes.slots, name) {
+    if in_store(sizes.slots, name) {
         return 0;
     }
     8
@@ -112,10 +121,7 @@ fn give_refusal(sizes: Sizes, step: Step) -> u64
     match op {
         0 => 6,
         1..=5 => 0,
-        6 => first_refusal(
-            server_refusal(sizes, step.server),
-            node_refusal(sizes, step.key),
-        ),
+        6 => first_refusal(server_refusal(step.server), node_refusal(sizes, step.key)),
         7 => count_refusal(step.value),
         8..=u64::MAX => 6,
     }
@@ -147,6 +153,7 @@ fn is_due(part: &[u8], kind: Kind, server: u64) -> bool
         Kind::Apply => is_unfinished(part, APPLIED, server),
         Kind::GiveUp => false,
         Kind::Lost => false,
+        Kind::Servers(_) => false,
         Kind::Unknown => false,
     }
 }
@@ -164,6 +171,7 @@ fn is_fitting(kind: Kind, phase: u64, op: u64, due: bool) -> bool
         Kind::Apply => phase == DECIDED && due,
         Kind::GiveUp => between(OPEN, COMMITTING, phase),
         Kind::Lost => true,
+        Kind::Servers(_) => true,
         Kind::Unknown => true,
     }
 }
@@ -197,10 +205,11 @@ fn field_refusal(sizes: Sizes, step: Step, kind: Kind) -> u64
         Kind::Give => give_refusal(sizes, step),
         Kind::Work => 0,
         Kind::Commit => 0,
-        Kind::Prepare => server_refusal(sizes, step.server),
-        Kind::Apply => server_refusal(sizes, step.server),
+        Kind::Prepare => server_refusal(step.server),
+        Kind::Apply => server_refusal(step.server),
         Kind::GiveUp => 0,
         Kind::Lost => 0,
+        Kind::Servers(_) => 0,
         Kind::Unknown => 0,
     }
 }
@@ -223,7 +232,42 @@ fn known_refusal(mem: &[u8], sizes: Sizes, step: Step, kind: Kind) -> u64
     0
 }
 
-// 4: "The kind is above 7.", 5 to 9 and 11; 0 if none holds.
+// 14: "removal with a slot still taken".
+fn is_taken_yet(mem: &[u8], sizes: Sizes, change: ServerChange, server: usize) -> bool
+    requires { ⌜ AtServer sizes (length (now mem)) server ⌝ }
+    ensures { λ r. ⌜ r ≡ taken-yet (stored-in sizes (view (now (mem .entry)))) change server ⌝ }
+{
+    match change {
+        ServerChange::Add => false,
+        ServerChange::Close => false,
+        ServerChange::Remove => any_taken(mem, sizes, server),
+    }
+}
+
+// 7, 13 to 15 and 9, of a change of the servers.
+fn change_refusal(mem: &[u8], sizes: Sizes, change: ServerChange, server: u64) -> u64
+    requires { ⌜ Store-in sizes (length (now mem)) ⌝ }
+    ensures { λ r. ⌜ r ≡ change-refusal sizes change server (stored-in sizes (view (now (mem .entry)))) ⌝ }
+{
+    if server >= Name::SERVERS {
+        return 7;
+    }
+    if !state_suits(mem, sizes, change, server as usize) {
+        return 13;
+    }
+    if is_taken_yet(mem, sizes, change, server as usize) {
+        return 14;
+    }
+    if version_ends(mem, sizes) {
+        return 15;
+    }
+    if is_quiet(mem, sizes) {
+        return 0;
+    }
+    9
+}
+
+// 4: "The kind is above 7.", and now above 10; 5 to 9, 11 and 13 to 15; 0 if none holds.
 pub fn refusal(mem: &[u8], sizes: Sizes, step: Step) -> u64
     requires { ⌜ Store-in sizes (length (now mem)) ⌝ }
     ensures { λ r. ⌜ r ≡ refusal sizes step (stored-in sizes (view (now (mem .entry)))) ⌝ }
@@ -231,6 +275,9 @@ pub fn refusal(mem: &[u8], sizes: Sizes, step: Step) -> u64
     let number = step.kind;
     match number {
         0..=7 => known_refusal(mem, sizes, step, kind_of(number)),
-        8..=u64::MAX => 4,
+        8 => change_refusal(mem, sizes, ServerChange::Add, step.server),
+        9 => change_refusal(mem, sizes, ServerChange::Close, step.server),
+        10 => change_refusal(mem, sizes, ServerChange::Remove, step.server),
+        11..=u64::MAX => 4,
     }
 }

@@ -5,6 +5,7 @@ ghost use Rattle.server.specs.Layout.{partWords};
 ghost use Rattle.steps.specs.Whole.{Allowed, words-for, server-at, client-at};
 ghost use Rattle.kinds.specs.Parts.{length-answer, head-words, most-words};
 ghost use Rattle.client.specs.Layout.{client-length};
+ghost use Rattle.client.specs.Bounds.{most-servers};
 use crate::sizes::allowed;
 use client::part::CLIENT_WORDS;
 use server::place::part_words;
@@ -16,18 +17,18 @@ pub enum Length {
     Refused(u64),
 }
 
-// The words of the head, the servers' parts and the clients' parts.
+// The words of the head, the parts of eight servers and the clients' parts.
 pub fn words_for(sizes: Sizes) -> usize
     requires { ⌜ Allowed sizes ⌝ }
     ensures { λ r. ⌜ r ≡ words-for sizes ⌝ }
     ensures within { λ r. ⌜ (head-words ≤ r) × (r ≤ most-words) ⌝ }
 {
-    8 + sizes.servers * part_words(sizes.slots) + CLIENT_WORDS * sizes.clients
+    8 + 8 * part_words(sizes.slots) + CLIENT_WORDS * sizes.clients
 }
 
 // The word at which a server's part begins.
 pub fn server_at(sizes: Sizes, server: usize) -> usize
-    requires { ⌜ Allowed sizes × (server < sizes .servers) ⌝ }
+    requires { ⌜ Allowed sizes × (server < most-servers) ⌝ }
     ensures { λ r. ⌜ r ≡ server-at sizes server ⌝ }
     ensures within { λ r. ⌜ (r ≤ most-words) × (r + partWords (sizes .slots) ≤ words-for sizes) ⌝ }
 {
@@ -40,7 +41,7 @@ pub fn client_at(sizes: Sizes, client: usize) -> usize
     ensures { λ r. ⌜ r ≡ client-at sizes client ⌝ }
     ensures within { λ r. ⌜ (r ≤ most-words) × (r + client-length ≤ words-for sizes) ⌝ }
 {
-    8 + sizes.servers * part_words(sizes.slots) + CLIENT_WORDS * client
+    8 + 8 * part_words(sizes.slots) + CLIENT_WORDS * client
 }
 
 // The length that these sizes call for.

@@ -4,7 +4,6 @@ ghost use mathlib.Core.Path.{_≡_};
 ghost use Prim.Native.Nat.{_≤_, _<_};
 ghost use lib.ListN.{length};
 ghost use Rattle.memory.specs.Word.{view};
-ghost use Rattle.server.specs.Layout as Srv;
 ghost use Rattle.server.specs.Object.{object-of, Has};
 ghost use Rattle.client.specs.declared.part.Set.the-variants.{Writes};
 ghost use Rattle.client.specs.Sets.{held, count};
@@ -15,6 +14,7 @@ ghost use Rattle.kinds.specs.Writes.{write-nth, write-step, stores-some,
 ghost use Rattle.client.specs.Layout.{ClientPart, limit};
 ghost use Rattle.server.specs.Layout.{ServerDone};
 use crate::items::first_slot;
+use crate::items::second_slot;
 use crate::whole::client_at;
 use crate::whole::server_at;
 use client::items::inner_before_after;
@@ -92,7 +92,8 @@ fn store_write(part: &mut [u8], slots: usize, server: u64, write: Write)
     let number = write.number;
     let first = first_slot(write.node);
     if number == 0 {
-        store_metadata(part, slots, first, write.read);
+        let states = second_slot(write.node);
+        store_metadata(part, slots, first, states, write.read);
         return;
     }
     if number <= 8192 {

@@ -21,3 +21,5 @@ pub mod Kept
 -- the placement table, by one test that is computed
 pub mod Small
 pub mod Placed
+-- the servers' states
+pub mod States

@@ -9,6 +9,8 @@ pub mod Found
 pub mod Name
 pub mod Placement
 pub mod Placed
+-- the servers' states, and whether the metadata is in range
+pub mod States
 -- vectors of taken flags as words, and as lists of flags
 pub mod Vector
 pub mod Flags

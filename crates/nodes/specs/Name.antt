@@ -2,6 +2,7 @@
 use mathlib.Core.Bool.{Bool, _&&_}
 use Prim.Native.Nat.{ℕ, _+_, _*_, _/_, _%_}
 use lib.Dec.{ltb}
+use Rattle.nodes.specs.Bounds.{most-servers}
 
 -- the name of a slot on a server
 abbrev pub name : ℕ → ℕ → ℕ
@@ -15,6 +16,6 @@ server-of n = n / 1024
 abbrev pub slot-of : ℕ → ℕ
 slot-of n = n % 1024
 
--- is it a name of a store with so many servers and slots
-unfoldable pub name-in-store : ℕ → ℕ → ℕ → Bool
-name-in-store servers slots n = ltb (server-of n) servers && ltb (slot-of n) slots
+-- "a name with such a number", above 7, "or a slot past the size" is not in the store; of absent servers names are
+unfoldable pub name-in-store : ℕ → ℕ → Bool
+name-in-store slots n = ltb (server-of n) most-servers && ltb (slot-of n) slots

@@ -43,12 +43,12 @@ impl Name {
     }
 }
 
-// Is there a node of that name in a store of so many servers and slots?
-pub fn in_store(servers: usize, slots: usize, name: u64) -> bool
-    ensures { λ r. ⌜ r ≡ name-in-store servers slots name ⌝ }
+// Is there a node of that name in a store of so many slots?
+pub fn in_store(slots: usize, name: u64) -> bool
+    ensures { λ r. ⌜ r ≡ name-in-store slots name ⌝ }
 {
     let node = Name { number: name };
-    if node.server() as usize >= servers {
+    if node.server() >= Name::SERVERS {
         return false;
     }
     (node.slot() as usize) < slots

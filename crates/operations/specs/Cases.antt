@@ -9,15 +9,15 @@ use lib.ListN.{getD, replicate}
 use Rattle.plans.specs.Plan.{Out, gives, fails, exec}
 use Rattle.nodes.specs.Name.{name, server-of, slot-of}
 use Rattle.nodes.specs.Placement.{row}
+use Rattle.nodes.specs.States.{first-states}
 use Rattle.operations.specs.Object.{Obj, meta, node, flag, Ask, object, vector, fetched, Val, root, taken, flags, free, keys-of, level-of, slots-of, root-of, Why, Ans, Writes, over, objects}
 use Rattle.operations.specs.Map.{Map, Op, insert, delete, next, previous, answer}
 use Rattle.operations.specs.Entry.{Entries, node-value}
-use Rattle.operations.specs.Slot.{TreeSizes}
 use Rattle.operations.specs.Operation.{plan}
 
--- ---- small snapshots: two servers of 16 slots
-abbrev pub two : TreeSizes
-two = record { servers = 2; slots = 16 }
+-- ---- small snapshots: two open servers of 16 slots
+abbrev pub two : ℕ
+two = first-states 2
 
 -- a vector with the first n slots taken
 abbrev pub first-taken : ℕ → List Bool
@@ -25,7 +25,7 @@ first-taken n = replicate n true ++ replicate (16 - n) false
 
 -- an empty memory: node 0 is named as the root, all nodes are free
 abbrev pub none-there : Obj → Val
-none-there meta = root 0
+none-there meta = root 0 two
 none-there (node n) = free
 none-there (flag n) = taken false
 
@@ -77,7 +77,7 @@ tree-keys S =
 
 -- what comes of an operation's plan
 unfoldable pub comes-to : Op → (Ask → Val) → Out (Ans × Writes) Why
-comes-to op M = exec (plan two op) M
+comes-to op M = exec (plan 16 op) M
 
 -- the tree that a plan has left; none where it failed
 abbrev tree-left : (Ask → Val) → Out (Ans × Writes) Why → List (List ℕ)

@@ -12,7 +12,7 @@ use Rattle.operations.specs.Object.{node, no-tree, Ans, Writes}
 use Rattle.operations.specs.Map.{fresh}
 use Rattle.operations.specs.Entry.{Entries, node-value, fewest-entries, most-entries, first-key-or, place-in, value-in, with-pair}
 use Rattle.operations.specs.Path.{TreePlan, kid, Branch, from-root}
-use Rattle.operations.specs.Slot.{TreeSizes, take-for, take-node, release}
+use Rattle.operations.specs.Slot.{take-for, take-node, release}
 use Rattle.plans.specs.Plan as P
 
 -- what follows with the new entries of the parent
@@ -89,33 +89,33 @@ module _ (a : Ans) (l : ℕ) (fs : List Branch) (go : Go) where
   neighbour w f c es [] = left-of w (f .nm) c es (unsnoc (f .pre))
 
 -- "a split root keeps its name as parent and both halves get new ones"; "Of a root's halves the left is placed first."
-abbrev pub split-root : TreeSizes → Ans → ℕ → Writes → ℕ → Entries → TreePlan
-split-root sz a l w r es =
-    take-for sz r w (λ c w1. take-for sz r w1 (λ d w2. take-node w2 c (take-node w2 d
+abbrev pub split-root : ℕ → Ans → ℕ → Writes → ℕ → Entries → TreePlan
+split-root slots a l w r es =
+    take-for slots r w (λ c w1. take-for slots r w1 (λ d w2. take-node w2 c (take-node w2 d
     (parted (λ w′ es′. P.done (a, (node r, node-value (suc l) es′) ∷ w′)) l w2 (record { nm = r; key = 0; pre = []; post = [] })
     c (take (fewest-entries l) es) d (drop (fewest-entries l) es)))))
 
 -- "A leaf of 15 pairs splits into 7 and 8"; "An inner node of 15 keys splits into 7 and 7"; "The left half keeps the name"
-abbrev pub split : TreeSizes → Go → ℕ → Writes → Branch → ℕ → Entries → TreePlan
-split sz go l w f c es = take-for sz c w (λ d w1. take-node w1 d (parted go l w1 f c (take (fewest-entries l) es) d (drop (fewest-entries l) es)))
+abbrev pub split : ℕ → Go → ℕ → Writes → Branch → ℕ → Entries → TreePlan
+split slots go l w f c es = take-for slots c w (λ d w1. take-node w1 d (parted go l w1 f c (take (fewest-entries l) es) d (drop (fewest-entries l) es)))
 
 -- the new entries es of the node c at level l, below the path fs
-abbrev pub up : TreeSizes → Ans → (l : ℕ) → List Branch → Writes → ℕ → Entries → TreePlan
-up sz a l [] w c es = ifd (decLe (length es) (most-entries l)) (P.done (a, (node c, node-value l es) ∷ w)) (split-root sz a l w c es)
-up sz a l (f ∷ fs) w c es =
-    let go : Go = λ w′ es′. up sz a (suc l) fs w′ (f .nm) es′ in
+abbrev pub up : ℕ → Ans → (l : ℕ) → List Branch → Writes → ℕ → Entries → TreePlan
+up slots a l [] w c es = ifd (decLe (length es) (most-entries l)) (P.done (a, (node c, node-value l es) ∷ w)) (split-root slots a l w c es)
+up slots a l (f ∷ fs) w c es =
+    let go : Go = λ w′ es′. up slots a (suc l) fs w′ (f .nm) es′ in
     ifd (decLe (fewest-entries l) (length es))
-    (ifd (decLe (length es) (most-entries l)) (P.done (a, (node c, node-value l es) ∷ w)) (split sz go l w f c es))
+    (ifd (decLe (length es) (most-entries l)) (P.done (a, (node c, node-value l es) ∷ w)) (split slots go l w f c es))
     (neighbour a l fs go w f c es (f .post))
 
 -- "Insert of a present key replaces its value and writes the leaf, even with an equal value."
-abbrev pub insert-plan : TreeSizes → ℕ → ℕ → TreePlan
-insert-plan sz key v = from-root key (λ fs n es. up sz (fresh (value-in key es)) zero fs [] n (with-pair key v es))
+abbrev pub insert-plan : ℕ → ℕ → ℕ → TreePlan
+insert-plan slots key v = from-root key (λ fs n es. up slots (fresh (value-in key es)) zero fs [] n (with-pair key v es))
 
 -- a key that is not there changes nothing
-abbrev pub delete-at : TreeSizes → List Branch → ℕ → Entries → KeyPlace → TreePlan
-delete-at sz fs n es p = cond (p .there) (up sz (1, 0, []) zero fs [] n (remove-at (p .place - 1) es)) (P.done ((0, 0, []), []))
+abbrev pub delete-at : ℕ → List Branch → ℕ → Entries → KeyPlace → TreePlan
+delete-at slots fs n es p = cond (p .there) (up slots (1, 0, []) zero fs [] n (remove-at (p .place - 1) es)) (P.done ((0, 0, []), []))
 
 -- "Delete removes the key; a is 1 if it was there."
-abbrev pub delete-plan : TreeSizes → ℕ → TreePlan
-delete-plan sz key = from-root key (λ fs n es. delete-at sz fs n es (place-in key es))
+abbrev pub delete-plan : ℕ → ℕ → TreePlan
+delete-plan slots key = from-root key (λ fs n es. delete-at slots fs n es (place-in key es))

@@ -7,7 +7,8 @@ use Prim.Native.Nat.{ℕ}
 use lib.ListN.{replicate}
 use Rattle.plans.specs.Plan.{gives, fails}
 use Rattle.plans.specs.Walk.{used}
-use Rattle.operations.specs.Object.{meta, node, flag, Ask, object, vector, fetched, Val, root, taken, free, not-free, no-tree, no-slot}
+use Rattle.nodes.specs.States.{with-closed}
+use Rattle.operations.specs.Object.{meta, node, flag, Ask, object, vector, fetched, Val, root, taken, free, not-free, no-tree, no-slot, with-value, objects}
 use Rattle.operations.specs.Map.{Op, insert, lookup, delete, next, previous, migrate, list}
 use Rattle.operations.specs.Entry.{node-value}
 use Rattle.operations.specs.Operation.{plan}
@@ -15,7 +16,7 @@ use Rattle.operations.specs.Cases.{two, first-taken, store, small, leaf,
 
 -- what was asked for
 unfoldable pub asked : Op → (Ask → Val) → List Ask
-asked op M = used (plan two op) (λ o. some (M o))
+asked op M = used (plan 16 op) (λ o. some (M o))
 
 -- a full leaf below a full inner node, with the separators 310 to 440, below the root
 abbrev full-inner : Ask → Val
@@ -35,6 +36,12 @@ torn = small ((node 0, node-value 2 ((0, 3) ∷ (1000, 4) ∷ [])) ∷ (node 3, 
 abbrev full-leaf : List (List Bool) → Ask → Val
 full-leaf vs = store vs ((node 0, node-value 1 ((0, 4) ∷ (8, 2) ∷ [])) ∷ (node 2, node-value 0 (leaf 8 14)) ∷ [])
 
+-- the snapshot with the server s closing
+abbrev closing : ℕ → (Ask → Val) → Ask → Val
+closing s M (object o) = with-value meta (root 0 (with-closed two s)) (objects M) o
+closing s M (vector t) = M (vector t)
+closing s M (fetched t) = M (fetched t)
+
 -- a leaf that is the root, with the keys 21 to 34
 abbrev full-root : Ask → Val
 full-root = small ((node 0, node-value 0 (leaf 21 14)) ∷ [])
@@ -49,7 +56,7 @@ pub record Examples : Type 0 where
             ∷ (flag 11, taken true) ∷ (flag 10, taken true) ∷ [],
       )
   pub root-split-asks : asked (insert 35 35) full-root
-      ≡ object meta ∷ object (node 0) ∷ vector 0 ∷ object (flag 10) ∷ vector 0 ∷ object (flag 11) ∷ object (node 10) ∷ object (node 11) ∷ []
+      ≡ object meta ∷ object (node 0) ∷ object meta ∷ vector 0 ∷ object (flag 10) ∷ object meta ∷ vector 0 ∷ object (flag 11) ∷ object (node 10) ∷ object (node 11) ∷ []
   -- "The left half keeps the name": below the root
   pub leaf-split : comes-to (insert 22 22) (pair 7 8 14)
       ≡ gives ((1, 0, []), (node 0, node-value 1 ((0, 1) ∷ (8, 2) ∷ (15, 10) ∷ [])) ∷ (node 10, node-value 0 (leaf 15 8)) ∷ (node 2, node-value 0 (leaf 8 7)) ∷ (flag 10, taken true) ∷ [])
@@ -104,19 +111,24 @@ pub record Examples : Type 0 where
   pub leaf-moves : comes-to (migrate 2 1) (pair 7 8 8)
       ≡ gives ((1, 1027, []), (node 0, node-value 1 ((0, 1) ∷ (8, 1027) ∷ [])) ∷ (node 1027, node-value 0 (leaf 8 8)) ∷ (node 2, free) ∷ (flag 2, taken false) ∷ (flag 1027, taken true) ∷ [])
   pub leaf-moves-asks : asked (migrate 2 1) (pair 7 8 8)
-      ≡ object meta ∷ object (node 2) ∷ object (node 0) ∷ vector 1 ∷ object (flag 1027) ∷ object (node 1027) ∷ object (flag 2) ∷ []
+      ≡ object meta ∷ object (node 2) ∷ object (node 0) ∷ object meta ∷ vector 1 ∷ object (flag 1027) ∷ object (node 1027) ∷ object (flag 2) ∷ []
   pub inner-moves : comes-to (migrate 3 1) (inners 8 8)
       ≡ gives ((1, 1028, []), (node 0, node-value 2 ((0, 1028) ∷ (1000, 4) ∷ [])) ∷ (node 1028, node-value 1 (tens 0 20 8)) ∷ (node 3, free) ∷ (flag 3, taken false) ∷ (flag 1028, taken true) ∷ [])
   pub root-moves : comes-to (migrate 0 1) (pair 7 8 8)
-      ≡ gives ((1, 1025, []), (node 1025, node-value 1 ((0, 1) ∷ (8, 2) ∷ [])) ∷ (node 0, free) ∷ (flag 0, taken false) ∷ (meta, root 1025) ∷ (flag 1025, taken true) ∷ [])
+      ≡ gives ((1, 1025, []), (node 1025, node-value 1 ((0, 1) ∷ (8, 2) ∷ [])) ∷ (node 0, free) ∷ (flag 0, taken false) ∷ (meta, root 1025 two) ∷ (flag 1025, taken true) ∷ [])
   pub unmoved : (comes-to (migrate 2 0) (pair 7 8 8) ≡ gives ((0, 1, []), [])) × (comes-to (migrate 3 1) (pair 7 8 8) ≡ gives ((0, 0, []), []))
   -- "the first free slot above the split node's slot number, going round": on server 0 only slot 1 is free, below the split node's
   pub goes-round : asked (insert 22 22) (full-leaf ((true ∷ false ∷ replicate 14 true) ∷ first-taken 0 ∷ []))
-      ≡ object meta ∷ object (node 0) ∷ object (node 2) ∷ vector 0 ∷ object (flag 1) ∷ object (node 1) ∷ []
+      ≡ object meta ∷ object (node 0) ∷ object (node 2) ∷ object meta ∷ vector 0 ∷ object (flag 1) ∷ object (node 1) ∷ []
   -- PASSED OVER: server 0 has no free slot, so the new leaf goes to server 1; where neither has one, reason 5
   pub passed-over : asked (insert 22 22) (full-leaf (first-taken 16 ∷ first-taken 5 ∷ []))
-      ≡ object meta ∷ object (node 0) ∷ object (node 2) ∷ vector 0 ∷ fetched 0 ∷ vector 1 ∷ object (flag 1029) ∷ object (node 1029) ∷ []
+      ≡ object meta ∷ object (node 0) ∷ object (node 2) ∷ object meta ∷ vector 0 ∷ fetched 0 ∷ vector 1 ∷ object (flag 1029) ∷ object (node 1029) ∷ []
   pub nowhere : comes-to (insert 22 22) (full-leaf (first-taken 16 ∷ first-taken 16 ∷ [])) ≡ fails no-slot
+  -- CLOSING: server 0 takes no new node, so the new leaf goes to server 1; "a migration to a server not open, with 5 where its vector would be read"
+  pub closed-over : asked (insert 22 22) (closing 0 (full-leaf (first-taken 5 ∷ first-taken 5 ∷ [])))
+      ≡ object meta ∷ object (node 0) ∷ object (node 2) ∷ object meta ∷ vector 1 ∷ object (flag 1029) ∷ object (node 1029) ∷ []
+  pub moves-nowhere : (comes-to (migrate 2 1) (closing 1 (pair 7 8 8)) ≡ fails no-slot)
+      × (asked (migrate 2 1) (closing 1 (pair 7 8 8)) ≡ object meta ∷ object (node 2) ∷ object (node 0) ∷ object meta ∷ [])
   -- FAILING: a slot that the vector shows free and that is taken, reason 1; and what can't be one tree, reason 3: a child on the wrong level, a
   -- node that is its own neighbour, a node to be written whose keys don't rise
   pub taken-meanwhile : comes-to (insert 35 35) (small ((node 0, node-value 0 (leaf 21 14)) ∷ (flag 10, taken true) ∷ [])) ≡ fails not-free

@@ -20,9 +20,9 @@ pub data Ask : Type 0 where
   vector : ℕ → Ask
   fetched : ℕ → Ask
 
--- The root's name; a node's kind (0 free, 1 leaf, 2 inner), level, keys, and its values or children; a taken flag; a vector.
+-- The root's name and the servers' states; a node's kind (0 free, 1 leaf, 2 inner), level, keys, and its values or children; a taken flag; a vector.
 pub data Val : Type 0 where
-  root : ℕ → Val
+  root : (name states : ℕ) → Val
   body : (kind level : ℕ) (keys slots : List ℕ) → Val
   taken : Bool → Val
   flags : List Bool → Val
@@ -34,42 +34,49 @@ free = body 0 0 [] []
 
 -- a node's keys; metadata and flags have none, so they rise where all that is written is looked at (`fits?`)
 abbrev pub keys-of : Val → List ℕ
-keys-of (root r) = []
+keys-of (root r st) = []
 keys-of (body k l ks vs) = ks
 keys-of (taken b) = []
 keys-of (flags fs) = []
 
 -- a node's level; metadata and flags have 0, which `fits?` lets pass
 abbrev pub level-of : Val → ℕ
-level-of (root r) = 0
+level-of (root r st) = 0
 level-of (body k l ks vs) = l
 level-of (taken b) = 0
 level-of (flags fs) = 0
 
 -- a node's values or children; asked of nodes only
 abbrev pub slots-of : Val → List ℕ
-slots-of (root r) = []
+slots-of (root r st) = []
 slots-of (body k l ks vs) = vs
 slots-of (taken b) = []
 slots-of (flags fs) = []
 
 -- the metadata's root; asked of the metadata only
 abbrev pub root-of : Val → ℕ
-root-of (root r) = r
+root-of (root r st) = r
 root-of (body k l ks vs) = 0
 root-of (taken b) = 0
 root-of (flags fs) = 0
 
+-- the servers' states in the metadata; asked of the metadata only
+abbrev pub states-of : Val → ℕ
+states-of (root r st) = st
+states-of (body k l ks vs) = 0
+states-of (taken b) = 0
+states-of (flags fs) = 0
+
 -- is a flag taken; asked of flags only
 abbrev pub is-taken : Val → Bool
-is-taken (root r) = false
+is-taken (root r st) = false
 is-taken (body k l ks vs) = false
 is-taken (taken b) = b
 is-taken (flags fs) = false
 
 -- a vector's flags; asked of vectors only
 abbrev pub flags-of : Val → List Bool
-flags-of (root r) = []
+flags-of (root r st) = []
 flags-of (body k l ks vs) = []
 flags-of (taken b) = []
 flags-of (flags fs) = fs
@@ -115,9 +122,9 @@ abbrev pub over : Writes → (Obj → Val) → Obj → Val
 over [] M = M
 over (e ∷ w) M = with-value (e .0) (e .1) (over w M)
 
--- what the writes leave at the object o; asked of objects that they write (`all-fit?`), so root 0 is not reached
+-- what the writes leave at the object o; asked of objects that they write (`all-fit?`), so root 0 0 is not reached
 abbrev pub written-value : Writes → Obj → Val
-written-value [] o = root 0
+written-value [] o = root 0 0
 written-value (e ∷ w) o = cond (hit (e .0) o) (e .1) (written-value w o)
 
 -- a snapshot's objects

@@ -1,14 +1,13 @@
 -- The seven operations as plans, with the last check before the answer.
 use mathlib.Core.Bool.{Bool, true, cond, _&&_}
 use mathlib.Core.List.{[], _∷_}
-use Prim.Native.Nat.{_<_}
+use Prim.Native.Nat.{ℕ, _<_}
 use native.Mathlib.Decide.{decLe}
 use Rattle.base.specs.Test.{yes?}
 use Rattle.nodes.specs.Place.{rises}
 use Rattle.operations.specs.Object.{Val, keys-of, level-of, no-tree, Ans, Writes, written-value}
 use Rattle.operations.specs.Map.{two-to-64, Op, insert, lookup, delete, next, previous, migrate, list}
 use Rattle.operations.specs.Path.{TreePlan}
-use Rattle.operations.specs.Slot.{TreeSizes}
 use Rattle.operations.specs.Look.{lookup-plan, next-plan, previous-plan, list-plan}
 use Rattle.operations.specs.Change.{insert-plan, delete-plan}
 use Rattle.operations.specs.Migrate.{migrate-plan}
@@ -32,25 +31,25 @@ abbrev pub checked : TreePlan → TreePlan
 checked p = P.bind p check
 
 -- what an operation reads and would write
-abbrev pub reading : TreeSizes → Op → TreePlan
-reading sz (insert k v) = insert-plan sz k v
-reading sz (lookup k) = lookup-plan k
-reading sz (delete k) = delete-plan sz k
-reading sz (next k) = next-plan k
-reading sz (previous k) = previous-plan k
-reading sz (migrate n s) = migrate-plan sz n s
-reading sz (list k n) = list-plan k n
+abbrev pub reading : ℕ → Op → TreePlan
+reading slots (insert k v) = insert-plan slots k v
+reading slots (lookup k) = lookup-plan k
+reading slots (delete k) = delete-plan slots k
+reading slots (next k) = next-plan k
+reading slots (previous k) = previous-plan k
+reading slots (migrate n s) = migrate-plan slots n s
+reading slots (list k n) = list-plan k n
 
 -- the plan of an operation
-abbrev pub plan : TreeSizes → Op → TreePlan
-plan sz op = checked (reading sz op)
+abbrev pub plan : ℕ → Op → TreePlan
+plan slots op = checked (reading slots op)
 
--- what a step with this operation is not refused for: the key is a 64-bit number, the server is in the store
-abbrev pub Legal : TreeSizes → Op → Type 0
-Legal sz (insert k v) = k < two-to-64
-Legal sz (lookup k) = k < two-to-64
-Legal sz (delete k) = k < two-to-64
-Legal sz (next k) = k < two-to-64
-Legal sz (previous k) = k < two-to-64
-Legal sz (migrate n s) = s < sz .servers
-Legal sz (list k n) = k < two-to-64
+-- what a step with this operation is not refused for: the key is a 64-bit number
+abbrev pub Legal : Op → Type 0
+Legal (insert k v) = k < two-to-64
+Legal (lookup k) = k < two-to-64
+Legal (delete k) = k < two-to-64
+Legal (next k) = k < two-to-64
+Legal (previous k) = k < two-to-64
+Legal (migrate n s) = Unit {0}
+Legal (list k n) = k < two-to-64

@@ -20,7 +20,7 @@ see (e ∷ w) o k = cond (hit (e .0) o) (k (e .1)) (see w o k)
 
 -- on with the root's name; the metadata has no other value, so the failures are not reached
 abbrev pub when-root : Val → (ℕ → TreePlan) → TreePlan
-when-root (root r) k = k r
+when-root (root r st) k = k r
 when-root (body j l ks vs) k = P.fail no-tree
 when-root (taken b) k = P.fail no-tree
 when-root (flags fs) k = P.fail no-tree
@@ -28,7 +28,7 @@ when-root (flags fs) k = P.fail no-tree
 -- "the root is free, a child is free": of any other node its level and its entries, from the key lo. A value that is no node's is not
 -- reached, nor a kind above 2 or a level that does not fit its kind: they are out of range (refusal 10)
 abbrev pub open-node : ℕ → Val → (ℕ → Entries → TreePlan) → TreePlan
-open-node lo (root r) k = P.fail no-tree
+open-node lo (root r st) k = P.fail no-tree
 open-node lo (taken b) k = P.fail no-tree
 open-node lo (flags fs) k = P.fail no-tree
 open-node lo (body zero l ks vs) k = P.fail no-tree

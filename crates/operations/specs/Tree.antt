@@ -5,7 +5,7 @@ use mathlib.Core.List.{List, [], _∷_}
 use mathlib.Core.Logic.{_⊎_}
 use Prim.Native.Nat.{ℕ, zero, suc, _+_, _<_, _≤_}
 use lib.ListN.{length, getD}
-use Rattle.operations.specs.Object.{Obj, meta, node, flag, Val, root, taken, free, is-taken}
+use Rattle.operations.specs.Object.{Obj, meta, node, flag, Val, root, taken, free, states-of, is-taken}
 use Rattle.operations.specs.Map.{Map, two-to-64}
 use Rattle.operations.specs.Entry.{node-value, fewest-entries, most-entries, first-key-or}
 use Rattle.operations.specs.Chain.{one, Chain, tally, gather, ren}
@@ -71,8 +71,8 @@ pub record Holds-tree (M : Obj → Val) (m : Map) : Type 0 where
   pub level : ℕ
   pub name : ℕ
   pub ents : List (ℕ × Slot level)
-  -- the metadata names the root, whose level is at most 4
-  pub root-is : M meta ≡ root name
+  -- the metadata names the root, whose level is at most 4; the servers' states are any
+  pub root-is : M meta ≡ root name (states-of (M meta))
   pub low : level ≤ 4
   -- the root is stored, with at most 14 keys, and at least 1 if it is inner
   pub stored : M (node name) ≡ node-value level (ren (word level) ents)

@@ -6,6 +6,7 @@ use mathlib.Core.List.{List}
 use mathlib.Core.Logic.{_⊎_}
 use Prim.Native.Nat.{ℕ, _<_}
 use Rattle.plans.specs.Walk.{Every}
+use Rattle.nodes.specs.Bounds.{most-servers}
 use Rattle.steps.specs.declared.sizes.Sizes.{Sizes}
 use Rattle.steps.specs.declared.step.Step.{Step}
 use Rattle.steps.specs.declared.step.Kind.the-variants.{Apply}
@@ -28,5 +29,5 @@ Never-refused-by-10 = (z : Sizes) → Allowed z → (h : List Taken) (m : Addres
 -- an apply fits "after the decision, one not yet applied"
 abbrev pub Due-is-applied : Type 0
 Due-is-applied = (z : Sizes) → Allowed z → (h : List Taken) (m : Address → ℕ) → Leads z (opened z) h m
-    → (k : Step) → Words k → k .kind ≡ 5 → k .client < z .clients → k .server < z .servers → state-fits (λ a. m (client (k .client) a)) (k .server) Apply ≡ true
+    → (k : Step) → Words k → k .kind ≡ 5 → k .client < z .clients → k .server < most-servers → state-fits (λ a. m (client (k .client) a)) (k .server) Apply ≡ true
     → (room : ℕ) → (step z k room m .outcome ≡ Applied (k .server)) ⊎ (step z k room m .outcome ≡ Committed)

@@ -22,12 +22,16 @@ pub mod Words
 pub mod Locks
 pub mod Unlocks
 pub mod Held
+-- some server is there
+pub mod Attended
 -- the whole from its parts; what a step must leave
 pub mod Whole
 -- the kinds of steps
 pub mod Undecided
 pub mod Applying
 pub mod Preparing
+-- servers come and go
+pub mod Changing
 -- work: what is at hand; a fetch; an answer
 pub mod Hand
 pub mod Fetching

@@ -35,7 +35,7 @@ pub record Promised (z : Sizes) (h : List Taken) (b : List ℕ) : Type 0 where
   -- and the tree in the bytes that it left holds the map.
   pub run-then-applies : (ks js : List Step) (out outcomes b₁ out₁ outcomes₁ lent noted b₂ lent₂ noted₂ : List ℕ) → 3 * length ks ≤ length outcomes
       → (first : All-taken b out outcomes ks b₁ out₁ outcomes₁) → All-taken b₁ lent noted js b₂ lent₂ noted₂ → Applies z js
-      → let decided = decided-in (h ++ as-written outcomes₁ 0 (first .taken)) in Right-all decided × Tree z (stored-in z (view b₂)) (map-all decided)
+      → let decided = decided-in (h ++ as-written outcomes₁ 0 (first .taken)) in Right-all decided × Tree (stored-in z (view b₂)) (map-all decided)
 
 -- whatever was reached
 abbrev pub Promise : Type 0

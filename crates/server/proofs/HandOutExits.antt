@@ -1,10 +1,9 @@
 -- Ways out of the code for handing out: from the facts at hand there to what the contract says.
-use mathlib.Core.Path.{_≡_, refl, sym, ap, _∙_}
-use mathlib.Core.Bool.{Bool, true, false}
+use mathlib.Core.Path.{_≡_, refl, ap, _∙_}
+use mathlib.Core.Bool.{Bool}
 use mathlib.Core.List.{List}
 use Prim.Native.Nat.{ℕ, _+_, _/_, _≤_, _<_}
 use native.Mathlib.Omega.{arith}
-use lib.Dec.{leb}
 use lib.ListN.{length, take, drop}
 use Rattle.memory.specs.Word.{view}
 use Rattle.memory.specs.Laws.Word.{view-length}
@@ -14,33 +13,29 @@ use Rattle.layout.specs.Laws.Space.{Run, mem-run}
 use Rattle.nodes.specs.Stored.{node-of, node-at}
 use Rattle.nodes.specs.declared.node.Node as node
 use Rattle.server.specs.declared.place.Place.{Place}
-use Rattle.server.specs.declared.place.Place.the-variants.{Root, Version, Vector, Node}
-use Rattle.nodes.specs.Name.{name-in-store}
+use Rattle.server.specs.declared.place.Place.the-variants.{Root, Version, States, Vector, Node}
+use Rattle.nodes.specs.States.{metadata-fits}
+use Rattle.server.specs.declared.hand_out.Metadata.{Metadata}
 use Rattle.server.specs.Layout.{places, server-block, partWords, Lies}
-use Rattle.server.specs.Laws.Layout.{node-run, node-room, node-valid, root-valid, version-valid}
+use Rattle.server.specs.Laws.Layout.{node-run, node-room, node-valid, root-valid, version-valid, states-valid}
 use Rattle.server.specs.HandOut.{metadata-at, metadata-sound, vector-at, node-here}
 
 module _ (m : Place → ℕ) where
-  pub metadata-got : (x v : ℕ) → x ≡ m Root → v ≡ m Version → record { root = x; version = v } ≡ metadata-at m
+  pub metadata-got : (x v w : ℕ) → x ≡ m Root → v ≡ m Version → w ≡ m States → record { root = x; version = v; states = w } ≡ metadata-at m
   unfolding metadata-at
-  metadata-got x v p q = rw (p, q)
+  metadata-got x v w p q h = rw (p, q, h)
 
-  module _ (servers slots x : ℕ) (b : Bool) (p : x ≡ m Root) (e : b ≡ name-in-store servers slots x) where
-    pub sound-version : (v : ℕ) → b ≡ true → v ≡ m Version → leb v 4294967295 ≡ metadata-sound servers slots m
-    unfolding metadata-sound
-    sound-version v t q = sym (rw (← p, ← e, t, q))
+  pub sound-as-read : (slots : ℕ) (d : Metadata) (r : Bool) → d ≡ metadata-at m → r ≡ metadata-fits slots (d .root) (d .states) (d .version) → r ≡ metadata-sound slots m
+  unfolding metadata-sound metadata-at
+  sound-as-read slots d r h q = q ∙ ap (λ (x : Metadata). metadata-fits slots (x .root) (x .states) (x .version)) h
 
-    pub no-root : b ≡ false → false ≡ metadata-sound servers slots m
-    unfolding metadata-sound
-    no-root t = sym (rw (← p, ← e, t))
-
-vector-run : (n : ℕ) → Run places (server-block n) Vector 3 16
+vector-run : (n : ℕ) → Run places (server-block n) Vector 4 16
 unfolding at Valid In offset size
 vector-run n = record { good = λ i l. l; spot = λ i l. refl }
 
-pub vector-got : (n : ℕ) (s ws : List ℕ) → partWords n ≤ length s / 8 → ws ≡ take 16 (drop 3 (view s)) → ws ≡ vector-at (mem places (server-block n) (view s))
+pub vector-got : (n : ℕ) (s ws : List ℕ) → partWords n ≤ length s / 8 → ws ≡ take 16 (drop 4 (view s)) → ws ≡ vector-at (mem places (server-block n) (view s))
 unfolding vector-at partWords size
-vector-got n s ws l e = e ∙ mem-run places (server-block n) 16 (view s) Vector 3 (vector-run n) (omega (arith, view-length s))
+vector-got n s ws l e = e ∙ mem-run places (server-block n) 16 (view s) Vector 4 (vector-run n) (omega (arith, view-length s))
 
 pub node-got : (n k i : ℕ) (s : List ℕ) (r : node.Node) → k < n → partWords n ≤ length s / 8 → Lies n (Node k 0) i → r ≡ node-at (view s) i
     → r ≡ node-here k (mem places (server-block n) (view s))
@@ -50,8 +45,19 @@ node-got n k i s r h l e q =
     omega (arith, view-length s, node-room n k (at places (server-block n) (Node k 0)) (length s / 8) h (record { spot = refl; within = rw (← e .spot) (e .within) }) l) in
     q ∙ rw (e .spot) (ap node-of (mem-run places (server-block n) 33 (view s) (Node k) (at places (server-block n) (Node k 0)) (node-run n k h) f))
 
-pub vector-room : (n l : ℕ) → partWords n ≤ l → 3 + 16 ≤ l
+pub vector-room : (n l : ℕ) → partWords n ≤ l → 4 + 16 ≤ l
 unfolding partWords size
 vector-room n l h = omega arith
 
-pub ruleset hand-out-exits = (metadata-got, sound-version, no-root, vector-got, vector-room, node-got, node-room, node-valid, root-valid, version-valid)
+pub ruleset hand-out-exits = (
+  metadata-got,
+  sound-as-read,
+  vector-got,
+  vector-room,
+  node-got,
+  node-room,
+  node-valid,
+  root-valid,
+  version-valid,
+  states-valid,
+)

@@ -9,8 +9,8 @@ use Rattle.layout.specs.Space.{at, Valid, mem, stored}
 use Rattle.layout.specs.Laws.Space.{mem-at, at-below}
 use Rattle.layout.specs.Step.{Does, silent, stepped}
 use Rattle.server.specs.declared.place.Place.{Place}
-use Rattle.server.specs.declared.place.Place.the-variants.{Root, Version, MetadataLock, Vector, Node, FlagLock, Table, NodeLock}
-use Rattle.server.specs.Layout.{slot-row, server-block, places, partWords, putStep, Lies}
+use Rattle.server.specs.declared.place.Place.the-variants.{Root, Version, States, MetadataLock, Vector, Node, FlagLock, Table, NodeLock}
+use Rattle.server.specs.Layout.{server-block, places, partWords, putStep, Lies}
 
 -- the bounds of a place that lies in the part
 pub record Cell (k n j m : ℕ) : Type 0 where
@@ -52,31 +52,35 @@ module _ (n : ℕ) (a : Place) (ok : Valid places (server-block n) a) where
   unfolding at offset
   at-version e = placed Version 1 e refl
 
-  pub at-metadata : a ≡ MetadataLock → Lies n a 2
+  pub at-states : a ≡ States → Lies n a 2
   unfolding at offset
-  at-metadata e = placed MetadataLock 2 e refl
+  at-states e = placed States 2 e refl
 
-  pub at-vector : (i : ℕ) → a ≡ Vector i → Lies n a (3 + i)
+  pub at-metadata : a ≡ MetadataLock → Lies n a 3
+  unfolding at offset
+  at-metadata e = placed MetadataLock 3 e refl
+
+  pub at-vector : (i : ℕ) → a ≡ Vector i → Lies n a (4 + i)
   unfolding at offset size
-  at-vector i e = placed (Vector i) (3 + i) e refl
+  at-vector i e = placed (Vector i) (4 + i) e refl
 
-  pub at-node : (k j : ℕ) → a ≡ Node k j → Lies n a (19 + 50 * k + j)
+  pub at-node : (k j : ℕ) → a ≡ Node k j → Lies n a (20 + 50 * k + j)
   unfolding at offset size
-  at-node k j e = placed (Node k j) (19 + 50 * k + j) e (omega arith)
+  at-node k j e = placed (Node k j) (20 + 50 * k + j) e (omega arith)
 
-  pub at-flag : (k : ℕ) → a ≡ FlagLock k → Lies n a (52 + 50 * k)
+  pub at-flag : (k : ℕ) → a ≡ FlagLock k → Lies n a (53 + 50 * k)
   unfolding at offset size
-  at-flag k e = placed (FlagLock k) (52 + 50 * k) e (omega arith)
+  at-flag k e = placed (FlagLock k) (53 + 50 * k) e (omega arith)
 
-  pub at-table : (s k : ℕ) → a ≡ Table s k → Lies n a (53 + 50 * k + s)
+  pub at-table : (s k : ℕ) → a ≡ Table s k → Lies n a (54 + 50 * k + s)
   unfolding at offset size
-  at-table s k e = placed (Table s k) (53 + 50 * k + s) e (omega arith)
+  at-table s k e = placed (Table s k) (54 + 50 * k + s) e (omega arith)
 
-  pub at-lock : (s k : ℕ) → a ≡ NodeLock s k → Lies n a (61 + 50 * k + s)
+  pub at-lock : (s k : ℕ) → a ≡ NodeLock s k → Lies n a (62 + 50 * k + s)
   unfolding at offset size
-  at-lock s k e = placed (NodeLock s k) (61 + 50 * k + s) e (omega arith)
+  at-lock s k e = placed (NodeLock s k) (62 + 50 * k + s) e (omega arith)
 
-pub ruleset indices = (at-root, at-version, at-metadata, at-vector, at-node, at-flag, at-table, at-lock)
+pub ruleset indices = (at-root, at-version, at-states, at-metadata, at-vector, at-node, at-flag, at-table, at-lock)
 
 pub got : (n i r : ℕ) (a : Place) (w : List ℕ) → Valid places (server-block n) a → i ≡ at places (server-block n) a → r ≡ getD w i 0 → r ≡ mem places (server-block n) w a
 got n i r a w h e q = q ∙ rw e (sym (mem-at places (server-block n) w a h))

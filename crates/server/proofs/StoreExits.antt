@@ -20,9 +20,9 @@ use Rattle.nodes.specs.Laws.Stored.{length-words}
 use Rattle.server.specs.declared.object.Object.{Object}
 use Rattle.server.specs.declared.object.Object.the-variants as object
 use Rattle.server.specs.declared.place.Place.{Place}
-use Rattle.server.specs.declared.place.Place.the-variants.{Root, Version, Vector, Table, Node}
+use Rattle.server.specs.declared.place.Place.the-variants.{Root, Version, States, Vector, Table, Node}
 use Rattle.server.specs.Layout.{places, server-block, partWords, putStep, Lies}
-use Rattle.server.specs.Laws.Layout.{node-run, node-room, node-valid, root-valid, version-valid, vector-valid}
+use Rattle.server.specs.Laws.Layout.{node-run, node-room, node-valid, root-valid, version-valid, states-valid, vector-valid}
 use Rattle.server.specs.Object.{lock-of, Has}
 use Rattle.server.proofs.ObjectExits.{lock-valid}
 use Rattle.server.specs.Lock.{locked, unlocked}
@@ -40,10 +40,13 @@ module _ (n : ℕ) (w w′ : List ℕ) where
   unfolding putStep unlock-step
   now-unlocked o c word v a e q h d = does-as places (server-block n) (putStep a v) (unlock-step o c) silent w 0 w′ (rw (h, q, e)) d
 
-  pub metadata-stored : (u : List ℕ) (root version : ℕ) → Does places (server-block n) (putStep Root root) silent w 0 u
-      → Does places (server-block n) (putStep Version version) silent u 0 w′ → Does places (server-block n) (metadata-step root version) silent w 0 w′
+  pub metadata-stored : (u v : List ℕ) (root states version : ℕ) → Does places (server-block n) (putStep Root root) silent w 0 u
+      → Does places (server-block n) (putStep Version version) silent u 0 v → Does places (server-block n) (putStep States states) silent v 0 w′
+      → Does places (server-block n) (metadata-step root states version) silent w 0 w′
   unfolding putStep metadata-step
-  metadata-stored u root version p q = does-both places (server-block n) (put Root root ∷ []) (put Version version ∷ []) w u w′ p q
+  metadata-stored u v root states version p q h =
+      does-both places (server-block n) (put Root root ∷ []) (put Version version ∷ put States states ∷ []) w u w′ p
+      (does-both places (server-block n) (put Version version ∷ []) (put States states ∷ []) u v w′ q h)
 
   pub flag-stored : (x : Name) (b t : Bool) (k word v : ℕ) → b ≡ t → k ≡ slot-of (x .number)
       → word ≡ mem places (server-block n) w (Vector (k / 64)) → v ≡ putBit t word (k % 64)
@@ -114,6 +117,7 @@ pub ruleset store-exits = (
   flag-stored,
   root-valid,
   version-valid,
+  states-valid,
   vector-valid,
   lock-valid,
   kept-free,

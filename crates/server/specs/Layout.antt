@@ -1,4 +1,4 @@
--- The layout of a server's part, for n slots: three words of metadata, sixteen of the vector, and a row of fifty words for
+-- The layout of a server's part, for n slots: four words of metadata, sixteen of the vector, and a row of fifty words for
 -- each slot number. A row has the node in this server's slot, the lock of its flag, and for each of eight servers the
 -- version and the lock of that server's node with this slot number.
 use mathlib.Core.Path.{_≡_, refl}
@@ -8,7 +8,7 @@ use lib.ListN.{getD}
 use Rattle.layout.specs.Block.{Block, words, times, followed-by, end, size}
 use Rattle.layout.specs.Space.{Coding, Put, put, at}
 use Rattle.server.specs.declared.place.Place.{Place}
-use Rattle.server.specs.declared.place.Place.the-variants.{Root, Version, MetadataLock, Vector, Node, FlagLock, Table, NodeLock}
+use Rattle.server.specs.declared.place.Place.the-variants.{Root, Version, States, MetadataLock, Vector, Node, FlagLock, Table, NodeLock}
 use Rattle.memory.specs.Word.{view}
 use Rattle.layout.specs.Step.{Does, silent}
 
@@ -16,15 +16,16 @@ use Rattle.layout.specs.Step.{Does, silent}
 abbrev pub slot-row : Block
 slot-row = followed-by (words 33) (followed-by (words 1) (followed-by (words 8) (followed-by (words 8) end)))
 
--- a server's part for n slots: root, version and lock of the metadata; the vector; a row for each slot number
+-- a server's part for n slots: root, version, states and lock of the metadata; the vector; a row for each slot number
 abbrev pub server-block : ℕ → Block
-server-block n = followed-by (words 3) (followed-by (words 16) (followed-by (times n slot-row) end))
+server-block n = followed-by (words 4) (followed-by (words 16) (followed-by (times n slot-row) end))
 
 -- where in the block each word of the part stands
 abbrev pub place-code : Place → List ℕ
 place-code Root = 0 ∷ 0 ∷ []
 place-code Version = 0 ∷ 1 ∷ []
-place-code MetadataLock = 0 ∷ 2 ∷ []
+place-code States = 0 ∷ 2 ∷ []
+place-code MetadataLock = 0 ∷ 3 ∷ []
 place-code (Vector i) = 1 ∷ i ∷ []
 place-code (Node k j) = 2 ∷ k ∷ 0 ∷ j ∷ []
 place-code (FlagLock k) = 2 ∷ k ∷ 1 ∷ 0 ∷ []
@@ -37,7 +38,7 @@ place-back p =
     let x = getD p 1 0 in
     let y = getD p 3 0 in
     getD
-    (getD (Root ∷ Version ∷ MetadataLock ∷ []) x Root
+    (getD (Root ∷ Version ∷ States ∷ MetadataLock ∷ []) x Root
     ∷ Vector x
     ∷ getD (Node x y ∷ FlagLock x ∷ Table y x ∷ NodeLock y x ∷ []) (getD p 2 0) Root
     ∷ [])
@@ -48,6 +49,7 @@ place-back p =
 pub place-again : (a : Place) → place-back (place-code a) ≡ a
 place-again Root = refl
 place-again Version = refl
+place-again States = refl
 place-again MetadataLock = refl
 place-again (Vector i) = refl
 place-again (Node k j) = refl
@@ -65,7 +67,7 @@ partWords n = size (server-block n)
 
 -- the most that it has, with 1,024 slots
 abbrev pub most-part-words : ℕ
-most-part-words = 51219
+most-part-words = 51220
 
 -- the store of one word
 unfoldable pub putStep : Place → ℕ → (Place → ℕ) → List (Put Place)

@@ -10,14 +10,15 @@ ghost use Rattle.nodes.specs.Bounds.{end-of-slots};
 use crate::place::Place;
 use crate::place::get;
 use crate::place::index;
-use nodes::name::in_store;
 use nodes::node::Node;
+use nodes::states::metadata_fits;
 use nodes::stored;
 
-// "The metadata (root name and its version)"
+// "The metadata (root name and its version)", which "gets each server's state"
 pub struct Metadata {
     pub root: u64,
     pub version: u64,
+    pub states: u64,
 }
 
 pub fn read_metadata(part: &[u8], slots: usize) -> Metadata
@@ -26,19 +27,21 @@ pub fn read_metadata(part: &[u8], slots: usize) -> Metadata
 {
     let root = get(part, slots, Place::Root);
     let version = get(part, slots, Place::Version);
-    Metadata { root, version }
+    let states = get(part, slots, Place::States);
+    Metadata {
+        root,
+        version,
+        states,
+    }
 }
 
-// Refusal 10: does the metadata name a node of the store, with a version of 32 bits?
-pub fn metadata_is_sound(part: &[u8], servers: usize, slots: usize) -> bool
+// Refusal 10: is it in range?
+pub fn metadata_is_sound(part: &[u8], slots: usize) -> bool
     requires { ⌜ (slots ≤ end-of-slots) × (partWords slots ≤ length (now part) / 8) ⌝ }
-    ensures { λ r. ⌜ r ≡ metadata-sound servers slots (mem places (server-block slots) (view (now (part .entry)))) ⌝ }
+    ensures { λ r. ⌜ r ≡ metadata-sound slots (mem places (server-block slots) (view (now (part .entry)))) ⌝ }
 {
-    let root = get(part, slots, Place::Root);
-    if in_store(servers, slots, root) {
-        return get(part, slots, Place::Version) <= 4294967295;
-    }
-    false
+    let m = read_metadata(part, slots);
+    metadata_fits(slots, m.root, m.states, m.version)
 }
 
 // "a server's flags are its vector"
@@ -47,7 +50,7 @@ pub fn read_vector(part: &[u8], slots: usize) -> [u64; 16]
     ensures { λ r. ⌜ r ≡ vector-at (mem places (server-block slots) (view (now (part .entry)))) ⌝ }
 {
     let mut words = [0u64; 16];
-    memory::read_words(part, 3, &mut words);
+    memory::read_words(part, 4, &mut words);
     words
 }
 

@@ -7,13 +7,14 @@ ghost use Rattle.layout.specs.Space.{Valid, mem};
 ghost use Rattle.server.specs.Layout.{most-part-words, places, server-block, partWords, Lies, putStep, ServerDone};
 ghost use Rattle.nodes.specs.Bounds.{end-of-slots};
 
-// "The metadata (root name and its version) is on every server. Every server also has a table of versions for all slots
+// "The metadata (root name and its version) is on every server", and "gets each server's state". Every server also has a table of versions for all slots
 // .. a node's own version is at its home server. Each slot has a taken flag; a server's flags are its vector." And a lock
 // for every object that the server can check.
 pub enum Place {
-    // the root's name, the metadata's version, and the lock of both
+    // the root's name, the metadata's version, the servers' states, and the lock of all three
     Root,
     Version,
+    States,
     MetadataLock,
     // a word of the vector
     Vector(usize),
@@ -32,7 +33,7 @@ pub fn part_words(slots: usize) -> usize
     ensures { λ r. ⌜ r ≡ partWords slots ⌝ }
     ensures within { λ r. ⌜ r ≤ most-part-words ⌝ }
 {
-    19 + 50 * slots
+    20 + 50 * slots
 }
 
 // The word at which a place lies.
@@ -43,12 +44,13 @@ pub fn index(slots: usize, place: Place) -> usize
     match place {
         Place::Root => 0,
         Place::Version => 1,
-        Place::MetadataLock => 2,
-        Place::Vector(i) => 3 + i,
-        Place::Node(k, j) => 19 + 50 * k + j,
-        Place::FlagLock(k) => 52 + 50 * k,
-        Place::Table(s, k) => 53 + 50 * k + s,
-        Place::NodeLock(s, k) => 61 + 50 * k + s,
+        Place::States => 2,
+        Place::MetadataLock => 3,
+        Place::Vector(i) => 4 + i,
+        Place::Node(k, j) => 20 + 50 * k + j,
+        Place::FlagLock(k) => 53 + 50 * k,
+        Place::Table(s, k) => 54 + 50 * k + s,
+        Place::NodeLock(s, k) => 62 + 50 * k + s,
     }
 }
 

@@ -39,13 +39,14 @@ pub fn unlock(part: &mut [u8], slots: usize, object: Object, client: u32)
     put(part, slots, at, without_lock(word, client));
 }
 
-// The metadata, read with a version, names another root: "a written version becomes the one read plus 1".
-pub fn store_metadata(part: &mut [u8], slots: usize, root: u64, read: u64)
+// The metadata, read with a version, is written: "a written version becomes the one read plus 1".
+pub fn store_metadata(part: &mut [u8], slots: usize, root: u64, states: u64, read: u64)
     requires { ⌜ (slots ≤ end-of-slots) × (read < last-version) × (partWords slots ≤ length (now part) / 8) ⌝ }
-    ensures { λ _. ⌜ ServerDone slots (metadata-step root (read + 1)) (now (part .entry)) (now (part .exit)) ⌝ }
+    ensures { λ _. ⌜ ServerDone slots (metadata-step root states (read + 1)) (now (part .entry)) (now (part .exit)) ⌝ }
 {
     put(part, slots, Place::Root, root);
     put(part, slots, Place::Version, read + 1);
+    put(part, slots, Place::States, states);
 }
 
 // The flag of a slot here becomes taken or free.

@@ -288,10 +288,10 @@ pub fn finish(mem: &mut [u8], pairs: &mut [u8; 512], out: &mut [u8], at: usize, 
 }
 
 // Memory for the largest store: 8 servers, 1,024 slots, 16 clients.
-pub fn fresh() -> [u8; 4202624]
-    ensures { λ r. ⌜ r ≡ zeros 4202624 ⌝ }
+pub fn fresh() -> [u8; 4202688]
+    ensures { λ r. ⌜ r ≡ zeros 4202688 ⌝ }
 {
-    [0; 4202624]
+    [0; 4202688]
 }
 
 // The next bytes of a file, or its end.

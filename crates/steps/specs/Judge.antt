@@ -4,6 +4,7 @@ use mathlib.Core.Bool.{Bool, cond, _&&_, _||_, not}
 use Prim.Native.Nat.{ℕ, _-_}
 use lib.Dec.{leb, ltb}
 use Rattle.memory.specs.Bit.{bit}
+use Rattle.nodes.specs.Bounds.{most-servers}
 use Rattle.server.specs.Object.{object-of, lock-of}
 use Rattle.server.specs.Lock.{lock-in-range}
 use Rattle.client.specs.declared.part.Set.the-variants.{Reads, Writes}
@@ -13,7 +14,7 @@ use Rattle.client.specs.Items.{all-below, has}
 use Rattle.client.specs.Participants.{lowest-of}
 use Rattle.client.specs.Fits.{fit-to-abort, fit-to-unlock}
 use Rattle.steps.specs.declared.sizes.Sizes.{Sizes}
-use Rattle.steps.specs.Whole.{Address, server, client, tree-sizes}
+use Rattle.steps.specs.Whole.{Address, server, client}
 use Rattle.steps.specs.Refusal.{between}
 use Rattle.steps.specs.Uses.{Item, read-item, locked-at}
 
@@ -46,7 +47,7 @@ module _ (z : Sizes) (m : Address → ℕ) (c : ℕ) where
 
   -- where metadata and inner nodes are checked
   abbrev pub lowest-participant : ℕ
-  lowest-participant = lowest-of (z .servers) (mine participants)
+  lowest-participant = lowest-of most-servers (mine participants)
 
   -- what an unlocking at s reads of an object: its kinds, which say whether it is locked there, and then its lock
   abbrev pub item-unlocks : ℕ → Item → Bool
@@ -59,5 +60,5 @@ module _ (z : Sizes) (m : Address → ℕ) (c : ℕ) where
   -- what an abort reads: which objects are read, and at every server that has prepared what is locked there
   unfoldable pub abort-fits : Bool
   abort-fits =
-      fit-to-abort (tree-sizes z) mine
-      && all-below (z .servers) (λ s. not (bit (mine prepared) s) || (fit-to-unlock (tree-sizes z) mine && unlock-fits s))
+      fit-to-abort (z .slots) mine
+      && all-below most-servers (λ s. not (bit (mine prepared) s) || (fit-to-unlock (z .slots) mine && unlock-fits s))

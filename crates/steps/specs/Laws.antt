@@ -5,7 +5,9 @@ pub mod Outcome
 -- the whole memory: head, servers' parts, clients' parts; stores and what stands after them
 pub mod Whole
 pub mod Stores
--- refusals 1 to 9 and 11 as tables
+-- servers come and go, on examples
+pub mod Servers
+-- refusals 1 to 9, 11 and 13 to 15 as tables
 pub mod Refusal
 pub mod Passed
 -- which object is checked where, and which is locked

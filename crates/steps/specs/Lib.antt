@@ -4,7 +4,9 @@
 pub mod Outcome
 -- the whole memory: head, servers' parts, clients' parts; stores and what stands after them
 pub mod Whole
--- refusals 1 to 9 and 11 as tables
+-- which servers there are, and what a change of them reads
+pub mod Servers
+-- refusals 1 to 9, 11 and 13 to 15 as tables
 pub mod Refusal
 pub mod Passed
 -- which object is checked where, and which is locked
@@ -13,7 +15,7 @@ pub mod Uses
 pub mod Judge
 -- the output that a step is lent
 pub mod Output
--- the eight kinds of steps: outcome, stores and the pairs of a list
+-- the kinds of steps: outcome, stores and the pairs of a list
 pub mod Steps
 -- a newly opened store, and the memory after a step
 pub mod Run

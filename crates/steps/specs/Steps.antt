@@ -1,8 +1,8 @@
--- The eight kinds of steps: what each comes to, and what it stores. What a rule reads is judged (refusal 10) where it reads it, in document 01's
+-- The kinds of steps: what each comes to, and what it stores. What a rule reads is judged (refusal 10) where it reads it, in document 01's
 -- order, and before anything is stored; a rule that has ended has read no further.
 use mathlib.Core.Bool.{Bool, true, cond, _&&_, _||_, not}
 use mathlib.Core.List.{List, [], _++_, map}
-use Prim.Native.Nat.{ℕ, zero, suc, _+_, _-_, _*_, _%_}
+use Prim.Native.Nat.{ℕ, zero, suc, _+_, _*_}
 use lib.Dec.{eqb, leb, ltb}
 use lib.ListN.{length}
 use Rattle.memory.specs.Bit.{bit, putBit}
@@ -15,15 +15,17 @@ use Rattle.operations.specs.Entry.{Entries}
 use Rattle.nodes.specs.Name.{server-of, slot-of}
 use Rattle.server.specs.declared.place.Place.{Place}
 use Rattle.server.specs.declared.lock.Use.the-variants.{Fetch}
+use Rattle.server.specs.declared.hand_out.Metadata.{Metadata}
 use Rattle.server.specs.Layout.{places}
 use Rattle.server.specs.Object.{object-of, named}
 use Rattle.server.specs.Check.{can-check, held, checked, finding-number}
-use Rattle.server.specs.Store.{lock-step, unlock-step, metadata-step, flag-step, node-step}
+use Rattle.server.specs.Store.{lock-step, unlock-step, metadata-step, flag-step, versions-step, node-step}
 use Rattle.server.specs.HandOut.{metadata-at, metadata-sound, vector-at}
 use Rattle.client.specs.declared.part.Set.the-variants.{Reads, Writes}
 use Rattle.client.specs.Layout.{ClientWord, client-words, phase, op-number, op-value, participants, prepared, applied, reads-count, no-transaction, decided-phase}
 use Rattle.nodes.specs.Stored.{node-of}
-use Rattle.client.specs.Record.{by-number, first-slot, node-fits}
+use Rattle.nodes.specs.Bounds.{most-servers, last-version}
+use Rattle.client.specs.Record.{by-number, first-slot, second-slot, node-fits}
 use Rattle.client.specs.Sets.{count, record-at, number-at}
 use Rattle.client.specs.Items.{all-below, inner-before-after}
 use Rattle.client.specs.Fits.{fit-to-work, fit-to-commit, fit-to-prepare, fit-to-apply}
@@ -38,10 +40,12 @@ use Rattle.client.specs.Work.{Worked, refused, fetches, aborted, answers, walke
 use Rattle.steps.specs.declared.sizes.Sizes.{Sizes}
 use Rattle.steps.specs.declared.step.Step.{Step}
 use Rattle.steps.specs.declared.step.Kind.{Kind}
-use Rattle.steps.specs.declared.step.Kind.the-variants.{Begin, Give, Work, Commit, Prepare, Apply, GiveUp, Lost, Unknown}
+use Rattle.steps.specs.declared.step.Kind.the-variants.{Begin, Give, Work, Commit, Prepare, Apply, GiveUp, Lost, Servers, Unknown}
+use Rattle.steps.specs.declared.step.ServerChange.{ServerChange}
 use Rattle.steps.specs.declared.outcome.Outcome.{Outcome}
 use Rattle.steps.specs.declared.outcome.Outcome.the-variants.{Refused, Done, Fetched, Answered, Prepared, Decided, Applied, Committed, Aborted}
-use Rattle.steps.specs.Whole.{Address, server, client, whole, tree-sizes}
+use Rattle.steps.specs.Whole.{Address, server, client, whole}
+use Rattle.steps.specs.Servers.{there, lowest-there, metadata-source, largest-version, is-add, changed-states}
 use Rattle.steps.specs.Refusal.{kind-of, refusal}
 use Rattle.steps.specs.Uses.{Item, read-item, read-items, used-items, item-object, checked-at, locked-at, use-of, deciding}
 use Rattle.steps.specs.Judge.{lock-fits, lowest-participant, unlock-fits, abort-fits}
@@ -91,7 +95,7 @@ abbrev pub store-write : (ClientWord → ℕ) → ℕ → ℕ → (Place → ℕ
 store-write m s i p =
     let x = number-at m Writes i in
     let r = record-at m Writes i in
-    by-number x (metadata-step (first-slot r) (next-version m x) p)
+    by-number x (metadata-step (first-slot r) (second-slot r) (next-version m x) p)
     (λ n. node-step s (named n) r (next-version m x) (inner-before-after m x) p)
     (λ n. cond (at-home s x) (flag-step (named n) (eqb (first-slot r) 1) p) [])
 
@@ -109,13 +113,13 @@ pub record Wanted : Type 0 where
   pub what : ℕ
   pub which : ℕ
 
--- "Metadata comes from server (client modulo servers), a node from its home, a vector from its server."
-abbrev pub wanted : ℕ → ℕ → O.Ask → Wanted
-wanted servers c (O.object O.meta) = record { from = c % servers; what = 0; which = 0 }
-wanted servers c (O.object (O.node n)) = record { from = server-of n; what = 1; which = n }
-wanted servers c (O.object (O.flag n)) = record { from = server-of n; what = 2; which = server-of n }
-wanted servers c (O.vector s) = record { from = s; what = 2; which = s }
-wanted servers c (O.fetched s) = record { from = s; what = 2; which = s }
+-- "Metadata is fetched from the first server not absent", s; "a node from its home, a vector from its server."
+abbrev pub wanted : ℕ → O.Ask → Wanted
+wanted s (O.object O.meta) = record { from = s; what = 0; which = 0 }
+wanted s (O.object (O.node n)) = record { from = server-of n; what = 1; which = n }
+wanted s (O.object (O.flag n)) = record { from = server-of n; what = 2; which = server-of n }
+wanted s (O.vector t) = record { from = t; what = 2; which = t }
+wanted s (O.fetched t) = record { from = t; what = 2; which = t }
 
 -- the node that a server has in the slot of a name
 unfoldable pub node-at : (Place → ℕ) → ℕ → Node
@@ -141,7 +145,7 @@ module _ (z : Sizes) (m : Address → ℕ) (c : ℕ) where
   -- ---- ABORT: "An abort unlocks everywhere and drops copies of all objects read"; us came into use in this step
   abbrev pub unlocked-everywhere : List (Put Address)
   unlocked-everywhere =
-      at-servers (z .servers) (λ s. cond (bit (mine prepared) s) (in-server s (unlock-each mine c (lowest-participant z m c) s)) [])
+      at-servers most-servers (λ s. cond (bit (mine prepared) s) (in-server s (unlock-each mine c (lowest-participant z m c) s)) [])
 
   -- the stores of an abort: locks, copies, and the transaction's end
   abbrev pub aborting : List ℕ → List (Put Address)
@@ -193,10 +197,10 @@ module _ (z : Sizes) (m : Address → ℕ) (c : ℕ) where
     -- what server s hands over for what is lacking, judged whole; for a flag its vector
     abbrev pub hand-over : O.Ask → ℕ → Outcome → Did
     hand-over (O.object O.meta) s out =
-        fetch-object s 0 out (metadata-sound (z .servers) (z .slots) (theirs s))
-        (fetched-meta (metadata-at (theirs s) .root) (metadata-at (theirs s) .version))
+        fetch-object s 0 out (metadata-sound (z .slots) (theirs s))
+        (fetched-meta (metadata-at (theirs s) .root) (metadata-at (theirs s) .states) (metadata-at (theirs s) .version))
     hand-over (O.object (O.node n)) s out =
-        fetch-object s (1 + n) out (node-fits (tree-sizes z) (node-at (theirs s) n)) (fetched-node n (node-at (theirs s) n))
+        fetch-object s (1 + n) out (node-fits (z .slots) (node-at (theirs s) n)) (fetched-node n (node-at (theirs s) n))
     hand-over (O.object (O.flag n)) s out = did out (handed (fetched-vector s (vector-at (theirs s))))
     hand-over (O.vector s′) s out = did out (handed (fetched-vector s (vector-at (theirs s))))
     hand-over (O.fetched s′) s out = did out (handed (fetched-vector s (vector-at (theirs s))))
@@ -206,9 +210,13 @@ module _ (z : Sizes) (m : Address → ℕ) (c : ℕ) where
     checked-fetch a w =
         by-finding (deciding (map (fetch-finding (w .from)) fetch-items)) (hand-over a (w .from) (Fetched (w .what) (w .which))) (λ y. abort y us)
 
+    -- "A fetch .. at an absent server aborts with 1", before all else; "all absent: 10"
+    abbrev pub fetch-from : O.Ask → Wanted → Did
+    fetch-from a w = if-fit (ltb (w .from) most-servers) (cond (there m (w .from)) (checked-fetch a w) (abort 1 us))
+
     -- "A work step that lacks an object fetches the first one lacking and does no more"
     unfoldable pub fetch : O.Ask → Did
-    fetch a = checked-fetch a (wanted (z .servers) c a)
+    fetch a = fetch-from a (wanted (metadata-source m z c) a)
 
   -- how the walk ends the step; us came into use in it
   abbrev pub after-walk : List ℕ → Worked → Did
@@ -219,13 +227,13 @@ module _ (z : Sizes) (m : Address → ℕ) (c : ℕ) where
 
   -- "otherwise it answers the operation": the waiting operation is walked over what the client has
   unfoldable pub work : Did
-  work = if-fit (fit-to-work (tree-sizes z) mine) (after-walk (walked (tree-sizes z) mine .used) (worked (tree-sizes z) mine))
+  work = if-fit (fit-to-work (z .slots) mine) (after-walk (walked (z .slots) mine .used) (worked (z .slots) mine))
 
   -- ---- COMMIT: "commit with a participant .. done"; "with none the commit step decides and ends"
   unfoldable pub commit : Did
   commit =
-      if-fit (fit-to-commit (tree-sizes z) mine)
-      (cond (eqb (participants-of mine (z .servers)) 0) (did Committed (in-client (Life.reset 0))) (did Done (in-client (committing (z .servers)))))
+      if-fit (fit-to-commit (z .slots) mine)
+      (cond (eqb (participants-of mine) 0) (did Committed (in-client (Life.reset 0))) (did Done (in-client committing)))
 
   -- ---- APPLY at the server s: "Apply writes and unlocks"
   abbrev pub applying : ℕ → List (Put Address)
@@ -233,7 +241,7 @@ module _ (z : Sizes) (m : Address → ℕ) (c : ℕ) where
 
   -- is s the last participant to apply
   abbrev pub all-applied : ℕ → Bool
-  all-applied s = covers (z .servers) (mine participants) (putBit true (mine applied) s)
+  all-applied s = covers most-servers (mine participants) (putBit true (mine applied) s)
 
   -- "The last apply ends the transaction and renews its copies (.. a lost client gets none)."
   unfoldable pub applied-at : ℕ → Did
@@ -244,7 +252,7 @@ module _ (z : Sizes) (m : Address → ℕ) (c : ℕ) where
 
   -- is what an apply at s reads in range: in the client's part, and the locks given back
   abbrev pub apply-fits : ℕ → Bool
-  apply-fits s = fit-to-apply (tree-sizes z) mine s (all-applied s) && unlock-fits z m c s
+  apply-fits s = fit-to-apply (z .slots) mine s (all-applied s) && unlock-fits z m c s
 
   -- the apply at s
   unfoldable pub apply : ℕ → Did
@@ -269,7 +277,7 @@ module _ (z : Sizes) (m : Address → ℕ) (c : ℕ) where
 
   -- is s the last participant to prepare
   abbrev pub all-prepared : ℕ → Bool
-  all-prepared s = covers (z .servers) (mine participants) (putBit true (mine prepared) s)
+  all-prepared s = covers most-servers (mine participants) (putBit true (mine prepared) s)
 
   -- is s the only participant
   abbrev pub only : ℕ → Bool
@@ -278,6 +286,32 @@ module _ (z : Sizes) (m : Address → ℕ) (c : ℕ) where
 -- the stores of one step, and then those of another on what the first left
 abbrev pub then : (Address → ℕ) → List (Put Address) → ((Address → ℕ) → Did) → Did
 then m ps f = let d = f (changed whole m ps) in did (d .outcome) (ps ++ d .stores)
+
+-- ---- KINDS 8 TO 10, at the server s
+module _ (z : Sizes) (m : Address → ℕ) where
+  -- the metadata of the lowest server not absent
+  abbrev pub metadata-now : Metadata
+  metadata-now = metadata-at (λ a. m (server (lowest-there m) a))
+
+  -- "writes the new metadata, its version raised, alike on all servers, an added or removed one included"
+  abbrev pub metadata-stores : ℕ → ℕ → List (Put Address)
+  metadata-stores s states =
+      at-servers most-servers (λ t. cond (there m t || eqb t s) (over (server t) (metadata-step (metadata-now .root) states (suc (metadata-now .version)) (λ a. 0))) [])
+
+  -- "An added server's version table takes, slot by slot, the largest number"
+  abbrev pub added-stores : ServerChange → ℕ → List (Put Address)
+  added-stores x s = cond (is-add x) (over (server s) (versions-step (largest-version m s) (z .slots))) []
+
+  -- what a change reads is in range: every client's phase, the metadata that it goes by, the versions of an added server's table. "all absent: 10"
+  unfoldable pub change-fits : ServerChange → ℕ → Bool
+  change-fits x s =
+      all-below (z .clients) (λ c. leb (m (client c phase)) decided-phase)
+      && (ltb (lowest-there m) most-servers && (metadata-sound (z .slots) (λ a. m (server (lowest-there m) a))
+      && (not (is-add x) || all-below (z .slots) (λ k. all-below most-servers (λ t. leb (largest-version m s t k) last-version)))))
+
+  -- "Each is done and writes the new metadata"
+  unfoldable pub change-servers : ServerChange → ℕ → Did
+  change-servers x s = if-fit (change-fits x s) (did Done (added-stores x s ++ metadata-stores s (changed-states x (metadata-now .states) s)))
 
 module _ (z : Sizes) (m : Address → ℕ) (c : ℕ) where
   -- "The last prepare is the decision"; "With one participant the prepare also applies"
@@ -289,14 +323,16 @@ module _ (z : Sizes) (m : Address → ℕ) (c : ℕ) where
   prepared-at s =
       cond (not (all-prepared z m c s)) (did (Prepared s) (preparing z m c s))
       (cond (only z m c s)
-      (if-fit (fit-to-apply (tree-sizes z) (λ a. m (client c a)) s true) (then m (deciding-stores s) (λ u. applied-at z u c s)))
+      (if-fit (fit-to-apply (z .slots) (λ a. m (client c a)) s true) (then m (deciding-stores s) (λ u. applied-at z u c s)))
       (did Decided (deciding-stores s)))
 
-  -- "Prepare checks and locks": the prepare at s, or the abort by what was found
+  -- by what is found at s
+  abbrev pub checked-prepare : ℕ → Did
+  checked-prepare s = by-finding (deciding (map (prepare-finding z m c s) (read-items (λ a. m (client c a))))) (prepared-at s) (λ y. abort z m c y [])
+
+  -- "Prepare checks and locks"; "prepare at an absent server aborts with 1", before all else
   unfoldable pub prepare : ℕ → Did
-  prepare s =
-      if-fit (fit-to-prepare (tree-sizes z) (λ a. m (client c a)))
-      (by-finding (deciding (map (prepare-finding z m c s) (read-items (λ a. m (client c a))))) (prepared-at s) (λ y. abort z m c y []))
+  prepare s = if-fit (fit-to-prepare (z .slots) (λ a. m (client c a))) (cond (there m s) (checked-prepare s) (abort z m c 1 []))
 
   -- ---- LOSS: "A decided transaction of a lost client is still applied"; "loss drops all copies"
   abbrev pub forgetting : (Address → ℕ) → Did
@@ -313,7 +349,7 @@ module _ (z : Sizes) (m : Address → ℕ) (c : ℕ) where
       (cond (eqb (m (client c phase)) decided-phase) (did Done (in-client z m c Life.lose-part))
       (if-fit (leb (m (client c phase)) decided-phase && abort-fits z m c) lose-undecided))
 
-  -- ---- by kind; one above 7 is refused by 4 before
+  -- ---- by kind; an unknown one is refused by 4 before
   abbrev pub by-kind : Step → Kind → Did
   by-kind k Begin = begin z m c
   by-kind k Give = give z m c k
@@ -323,9 +359,10 @@ module _ (z : Sizes) (m : Address → ℕ) (c : ℕ) where
   by-kind k Apply = apply z m c (k .server)
   by-kind k GiveUp = abort z m c 6 []
   by-kind k Lost = lose
+  by-kind k (Servers x) = change-servers z m x (k .server)
   by-kind k Unknown = refuse 4
 
--- refusals 4 to 9 and 11, then the rule of its kind, with refusal 10 where it reads
+-- refusals 4 to 9, 11 and 13 to 15, then the rule of its kind, with refusal 10 where it reads
 unfoldable pub by-rule : Sizes → Step → (Address → ℕ) → Did
 by-rule z k m = cond (eqb (refusal z k m) 0) (by-kind z m (k .client) k (kind-of (k .kind))) (refuse (refusal z k m))
 

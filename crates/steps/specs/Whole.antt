@@ -1,14 +1,14 @@
--- The whole memory: "a 64-byte head holding the three sizes", then the servers' parts, then the clients' parts.
+-- The whole memory: "a 64-byte head holding the three sizes", then the servers' parts, then the clients' parts. "Memory is laid out for 8 servers".
 use mathlib.Core.Path.{_≡_, refl}
 use mathlib.Core.List.{List, [], _∷_}
 use Prim.Native.Nat.{ℕ, _+_, _*_, _≤_}
 use lib.ListN.{getD, drop}
 use Rattle.layout.specs.Block.{Block, words, times, followed-by, end, size}
 use Rattle.layout.specs.Space.{Coding}
+use Rattle.nodes.specs.Bounds.{most-servers}
 use Rattle.server.specs.declared.place.Place.{Place}
 use Rattle.client.specs.Layout.{ClientWord, client-code, client-back, client-again, client-block}
 use Rattle.steps.specs.declared.sizes.Sizes.{Sizes}
-use Rattle.operations.specs.Slot as S
 use Rattle.server.specs.Layout as Srv
 
 -- "Servers 1 to 8, slots on each 1 to 1,024, clients 1 to 16."
@@ -17,19 +17,15 @@ pub record Allowed (z : Sizes) : Type 0 where
   pub slots : (1 ≤ z .slots) × (z .slots ≤ 1024)
   pub clients : (1 ≤ z .clients) × (z .clients ≤ 16)
 
--- what the tree's rules know of the sizes
-abbrev pub tree-sizes : Sizes → S.TreeSizes
-tree-sizes z = record { servers = z .servers; slots = z .slots }
-
 -- a word of the memory: of the head, of a server's part, of a client's part
 pub data Address : Type 0 where
   head : ℕ → Address
   server : ℕ → Place → Address
   client : ℕ → ClientWord → Address
 
--- a head of 8 words, the servers' parts, the clients' parts
+-- a head of 8 words, the parts of 8 servers, the clients' parts
 abbrev pub block : Sizes → Block
-block z = followed-by (words 8) (followed-by (times (z .servers) (Srv.server-block (z .slots))) (followed-by (times (z .clients) client-block) end))
+block z = followed-by (words 8) (followed-by (times most-servers (Srv.server-block (z .slots))) (followed-by (times (z .clients) client-block) end))
 
 -- where in the block each word of the memory stands
 abbrev pub code : Address → List ℕ
@@ -64,4 +60,4 @@ unfoldable pub server-at : Sizes → ℕ → ℕ
 server-at z s = 8 + s * size (Srv.server-block (z .slots))
 
 unfoldable pub client-at : Sizes → ℕ → ℕ
-client-at z c = 8 + z .servers * size (Srv.server-block (z .slots)) + c * size client-block
+client-at z c = 8 + most-servers * size (Srv.server-block (z .slots)) + c * size client-block

@@ -9,8 +9,15 @@ pub struct Step {
     pub server: u64,
 }
 
+// "Kind 8 adds an absent server, 9 closes an open one to new nodes, 10 removes a closing one."
+pub enum ServerChange {
+    Add,
+    Close,
+    Remove,
+}
+
 // "Kinds: 0 begin. 1 give an operation .. 2 work. 3 commit. 4 prepare at a server. 5 apply at a server. 6 give up.
-// 7 client lost."
+// 7 client lost." And the changes of the servers.
 pub enum Kind {
     Begin,
     Give,
@@ -20,5 +27,6 @@ pub enum Kind {
     Apply,
     GiveUp,
     Lost,
+    Servers(ServerChange),
     Unknown,
 }

@@ -1,4 +1,4 @@
-// The cases of "Tried by hand" that speak of steps, and class lists, each as an input of `stepshow`.
+// The cases of "Tried by hand" that speak of steps, class lists, and servers that come and go, each as an input of `stepshow`.
 ghost use Prim.Native.Nat.{_≤_};
 ghost use lib.ListN.{length};
 
@@ -57,12 +57,23 @@ fn lists(memory: &mut [u8]) {
     );
 }
 
+// 02, A.3: server 2 is added to 0 and 1, which are removed then, 0 once the root has moved. "13: the server's state doesn't fit, or the
+// last open one would close"; "14: removal with a slot still taken"; 9 while a transaction is prepared, and while it is decided
+fn servers(memory: &mut [u8]) {
+    print_case(
+        memory,
+        b"server 2 is added, 1 and 0 are removed, and 1 is added again\n",
+        b"2 4 1\n8 0 0 0 0 2\n9 0 0 0 0 1\n9 0 0 0 0 3\n10 0 0 0 0 2\n10 0 0 0 0 1\n9 0 0 0 0 0\n9 0 0 0 0 2\n10 0 0 0 0 0\n0 0 0 0 0 0\n1 0 6 0 0 2\n2 0 0 0 0 0\n2 0 0 0 0 0\n2 0 0 0 0 0\n2 0 0 0 0 0\n2 0 0 0 0 0\n2 0 0 0 0 0\n3 0 0 0 0 0\n4 0 0 0 0 0\n8 0 0 0 0 1\n4 0 0 0 0 2\n8 0 0 0 0 1\n5 0 0 0 0 0\n5 0 0 0 0 2\n10 0 0 0 0 0\n8 0 0 0 0 1\n",
+    );
+}
+
 pub fn report(memory: &mut [u8]) {
     two_clients(memory);
     one_due(memory);
     sizes(memory);
     clients(memory);
     lists(memory);
+    servers(memory);
     print_case(memory, b"no line\n", b"");
     print_case(memory, b"no newline at the end\n", b"1 4 1");
 }

@@ -18,7 +18,8 @@ fn print_name(number: usize) {
         10 => io::write_all(1, b"noise"),
         11 => io::write_all(1, b"large"),
         12 => io::write_all(1, b"alone"),
-        _ => io::write_all(1, b"pingpong"),
+        13 => io::write_all(1, b"pingpong"),
+        _ => io::write_all(1, b"servers"),
     }
     ;
 }
@@ -51,12 +52,15 @@ fn print_tally(tally: Tally) {
     io::write_all(1, b"; outcomes 0 to 8:");
     let outcomes = tally.outcomes;
     print_list(outcomes, 0, 9);
-    io::write_all(1, b"; refused by 4 to 12:");
+    io::write_all(1, b"; refused by 4 to 15:");
     let refused = tally.refused;
-    print_list(refused, 4, 13);
+    print_list(refused, 4, 16);
     io::write_all(1, b"; aborts 1 to 8:");
     let reasons = tally.reasons;
     print_list(reasons, 1, 9);
+    io::write_all(1, b"; servers added, closed, removed:");
+    let done = tally.done;
+    print_list(done, 8, 11);
     io::write_all(1, b"\n");
 }
 
@@ -72,7 +76,7 @@ fn one(memory: &mut [u8], number: usize) -> u64 {
 fn all(memory: &mut [u8]) -> u64 {
     let mut steps: u64 = 0;
     let mut i: usize = 0;
-    while i < 14 {
+    while i < 15 {
         steps = std::num::wrapping_add_u64(steps, one(memory, i));
         i += 1;
     }

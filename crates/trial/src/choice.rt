@@ -94,13 +94,23 @@ fn drawn_key(p: Profile, world: World, keys: &[u64; 4096], op: u64, rng: &mut u6
     rng::draw_any(rng, p.keys)
 }
 
+// A server: mostly one that is or was there, now and then any of the eight.
+fn drawn_server(world: World, rng: &mut u64) -> u64 {
+    let servers = if rng::happens(rng, 300) {
+        8
+    } else {
+        world.servers
+    };
+    rng::draw_any(rng, servers)
+}
+
 // A node's name: mostly of one fetched lately.
 fn drawn_name(p: Profile, world: World, rng: &mut u64) -> u64 {
     if rng::happens(rng, 8500) {
         let names = world.names;
         return names[rng::draw(rng, 32) as usize];
     }
-    let server = rng::draw_any(rng, p.servers as u64);
+    let server = drawn_server(world, rng);
     let slot = rng::draw_any(rng, p.slots as u64);
     1024 * (server % 8) + slot % 1024
 }
@@ -115,7 +125,7 @@ fn drawn(p: Profile, world: World, keys: &[u64; 4096], c: usize, rng: &mut u64) 
             op,
             key: drawn_name(p, world, rng),
             value: 0,
-            server: rng::draw_any(rng, p.servers as u64),
+            server: drawn_server(world, rng),
         };
     }
     Step {
@@ -140,9 +150,9 @@ fn drawn_value(op: u64, rng: &mut u64) -> u64 {
     rng::draw(rng, 1000)
 }
 
-// A server at which the client has not yet tried its prepare, or its apply.
-fn untried(p: Profile, client: Client, rng: &mut u64) -> u64 {
-    let servers = p.servers as u64 % 16;
+// A server at which the client has not yet tried its prepare, or its apply: one that takes part is or was there.
+fn untried(world: World, client: Client, rng: &mut u64) -> u64 {
+    let servers = world.servers % 16;
     let mut server = rng::draw_any(rng, servers);
     let mut tries: u64 = 8;
     while tries > 0 {
@@ -184,12 +194,19 @@ fn opened(p: Profile, world: World, keys: &[u64; 4096], c: usize, rng: &mut u64)
     }
 }
 
+// An add, a close or a removal of a server. The client, which isn't looked at, is the one that acted last, so that it stays so.
+fn changed(world: World, rng: &mut u64) -> Step {
+    let mut step = plain(8 + rng::draw(rng, 3), world.current);
+    step.server = rng::draw(rng, 8);
+    step
+}
+
 // Any step, most of them of the store.
 fn arbitrary(p: Profile, world: World, keys: &[u64; 4096], rng: &mut u64) -> Step {
     let c = rng::draw_any(rng, p.clients as u64) as usize;
     let like = drawn(p, world, keys, c, rng);
     let count = world.client(c).count;
-    let kind = rng::draw(rng, 9);
+    let kind = rng::draw_any(rng, p.kinds);
     let is_rare = 5 < kind && rng::happens(rng, 8000);
     let is_long = kind == 1 && 120 < count;
     let mut step = like;
@@ -209,6 +226,9 @@ pub fn chosen(p: Profile, world: World, keys: &[u64; 4096], rng: &mut u64) -> St
     if rng::happens(rng, p.noise) {
         return arbitrary(p, world, keys, rng);
     }
+    if rng::happens(rng, p.changes) {
+        return changed(world, rng);
+    }
     let c = least(picked_late(p, world, rng), 15);
     let client = world.client(c);
     if rng::happens(rng, p.loses) {
@@ -219,7 +239,7 @@ pub fn chosen(p: Profile, world: World, keys: &[u64; 4096], rng: &mut u64) -> St
     }
     if client.phase == 3 {
         let mut step = plain(5, c);
-        step.server = untried(p, client, rng);
+        step.server = untried(world, client, rng);
         return step;
     }
     if rng::happens(rng, p.gives_up) {
@@ -229,6 +249,6 @@ pub fn chosen(p: Profile, world: World, keys: &[u64; 4096], rng: &mut u64) -> St
         return opened(p, world, keys, c, rng);
     }
     let mut step = plain(4, c);
-    step.server = untried(p, client, rng);
+    step.server = untried(world, client, rng);
     step
 }

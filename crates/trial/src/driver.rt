@@ -92,6 +92,17 @@ fn learned(mut world: World, step: Step, line: Line) -> World {
     world
 }
 
+// The step is counted. An added server that is past all before it is to be tried from now on.
+fn counted(mut world: World, step: Step, line: Line) -> World {
+    let before = world.tally;
+    let tally = before.counted(step.kind, line);
+    world.tally = tally;
+    if step.kind == 8 && line.outcome == 1 && world.servers <= step.server {
+        world.servers = step.server % 8 + 1;
+    }
+    world
+}
+
 // A step and its outcome, written down.
 fn written(
     log: &mut [u64; 10240],
@@ -103,10 +114,7 @@ fn written(
     out: &[u8; 512],
     left: u64,
 ) -> World {
-    let mut world = before;
-    let counts = before.tally;
-    let tally = counts.counted(line);
-    world.tally = tally;
+    let world = counted(before, step, line);
     if 15 < step.client {
         return world;
     }
@@ -123,6 +131,7 @@ fn written(
     let count = least(client.count, 128);
     let sum = replay::replay(log, c, count, keys, values, pairs);
     after.pairs = sum.pairs;
+    let tally = after.tally;
     let tallied = tally.with_decided(sum.compared, sum.wrong);
     after.tally = tallied;
     after
@@ -239,7 +248,8 @@ fn worked(
     p: Profile,
 ) -> World {
     let calm = profile::calm(p);
-    let mut world = went(memory, log, keys, values, rng, calm, World::new(), 100000);
+    let new = World::new(p.servers as u64);
+    let mut world = went(memory, log, keys, values, rng, calm, new, 100000);
     world.mode = RANDOM;
     let random = went(memory, log, keys, values, rng, p, world, p.steps);
     settled(memory, log, keys, values, random)

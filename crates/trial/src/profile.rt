@@ -28,14 +28,18 @@ pub struct Profile {
     pub shrink: Mix,
     pub period: u64,
     // times in ten thousand: the same client goes on, also one with a prepare or an apply due; keys of a narrow range are drawn; a
-    // due prepare or apply is left for later; a transaction is given up; a client is lost; a step is arbitrary, or is lent an output that no list fits in
+    // due prepare or apply is left for later; a transaction is given up; a client is lost; a server is added, closed or removed; a step is
+    // arbitrary, or is lent an output that no list fits in
     pub sticks: u64,
     pub finishes: u64,
     pub narrow: u64,
     pub late: u64,
     pub gives_up: u64,
     pub loses: u64,
+    pub changes: u64,
     pub noise: u64,
+    // arbitrary steps are of kinds below this number: below 8 where the servers are to stay as they were opened
+    pub kinds: u64,
     // steps of the schedule, before all is settled and read once more
     pub steps: u64,
 }
@@ -73,8 +77,10 @@ fn hot() -> Profile {
         late: 3000,
         gives_up: 30,
         loses: 20,
+        changes: 0,
         noise: 100,
-        steps: 75000,
+        kinds: 8,
+        steps: 70000,
     }
 }
 
@@ -230,6 +236,7 @@ fn noise() -> Profile {
     p.servers = 3;
     p.slots = 12;
     p.noise = 5000;
+    p.kinds = 12;
     p
 }
 
@@ -269,6 +276,20 @@ fn pingpong() -> Profile {
     p
 }
 
+// Servers that come and go. The nodes are few and move, so that a closed server is soon empty and can be removed.
+fn servers() -> Profile {
+    let mut p = moving();
+    p.servers = 3;
+    p.slots = 3;
+    p.awake = 4;
+    p.keys = 60;
+    p.prefill = 30;
+    p.late = 1000;
+    p.changes = 1000;
+    p.kinds = 12;
+    p
+}
+
 // The profile of a number.
 pub fn numbered(n: usize) -> Profile {
     match n {
@@ -285,11 +306,12 @@ pub fn numbered(n: usize) -> Profile {
         10 => noise(),
         11 => large(),
         12 => alone(),
-        _ => pingpong(),
+        13 => pingpong(),
+        _ => servers(),
     }
 }
 
-// The same store and keys, with one client, nothing late and nothing lost.
+// The same store and keys, with one client, nothing late, nothing lost and no change of the servers.
 pub fn calm(mut p: Profile) -> Profile {
     p.awake = 1;
     p.clients = 1;
@@ -299,6 +321,7 @@ pub fn calm(mut p: Profile) -> Profile {
     p.late = 0;
     p.gives_up = 0;
     p.loses = 0;
+    p.changes = 0;
     p.noise = 0;
     p
 }

@@ -14,21 +14,24 @@ pub const LAST: u64 = 3;
 
 pub const READ: u64 = 4;
 
-// What came of the steps, by number, and what came of the decided transactions.
+// What came of the steps, by number, which kinds were done, and what came of the decided transactions.
 pub struct Tally {
     pub steps: u64,
     pub outcomes: [u64; 16],
     pub refused: [u64; 16],
     pub reasons: [u64; 16],
+    pub done: [u64; 16],
     pub decided: u64,
     pub compared: u64,
     pub wrong: u64,
 }
 
-// The clients, the one that acted last, the pairs in the map, nodes fetched lately, and the key that was filled in or read last.
+// The clients, the one that acted last, a number above all servers that are or were there, the pairs in the map, nodes fetched lately, and the
+// key that was filled in or read last.
 pub struct World {
     pub clients: [Client; 16],
     pub current: usize,
+    pub servers: u64,
     pub pairs: usize,
     pub names: [u64; 32],
     pub mode: u64,
@@ -44,25 +47,29 @@ impl Tally {
             outcomes: [0; 16],
             refused: [0; 16],
             reasons: [0; 16],
+            done: [0; 16],
             decided: 0,
             compared: 0,
             wrong: 0,
         }
     }
 
-    // One step more.
-    pub fn counted(self, line: Line) -> Tally {
+    // One step more, of this kind.
+    pub fn counted(self, kind: u64, line: Line) -> Tally {
         let old_outcomes = self.outcomes;
         let old_refused = self.refused;
         let old_reasons = self.reasons;
+        let old_done = self.done;
         let outcomes = one_more(old_outcomes, true, line.outcome);
         let refused = one_more(old_refused, line.outcome == 0, line.a);
         let reasons = one_more(old_reasons, line.outcome == 8, line.a);
+        let done = one_more(old_done, line.outcome == 1, kind);
         Tally {
             steps: std::num::wrapping_add_u64(self.steps, 1),
             outcomes,
             refused,
             reasons,
+            done,
             decided: self.decided,
             compared: self.compared,
             wrong: self.wrong,
@@ -99,10 +106,11 @@ pub fn least(a: usize, b: usize) -> usize
 }
 
 impl World {
-    pub fn new() -> World {
+    pub fn new(servers: u64) -> World {
         World {
             clients: [Client::idle(); 16],
             current: 0,
+            servers,
             pairs: 0,
             names: [0; 32],
             mode: FILLS,

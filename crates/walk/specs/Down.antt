@@ -12,7 +12,6 @@ use Rattle.memory.specs.Word.{view}
 use Rattle.nodes.specs.Entries.{entriesOf}
 use Rattle.nodes.specs.Kept.{Whole}
 use Rattle.operations.specs.Object.{meta, object, Writes}
-use Rattle.operations.specs.Slot.{TreeSizes}
 use Rattle.operations.specs.Entry.{Entries}
 use Rattle.operations.specs.Path.{TreePlan, kid, when-root, at-root, Branch, Cont, down, from-root}
 use Rattle.walk.specs.declared.down.Turn.{Turn}
@@ -29,26 +28,26 @@ use Rattle.plans.specs.Plan as P
 use Rattle.client.specs.Bounds.{highest-level, level-count}
 
 -- a node of level l below the root, for any key lo from which it holds keys
-pub record Kid (z : TreeSizes) (m : ClientWord → ℕ) (x u : List ℕ) (l n : ℕ) (s : Stop) (r : Node) (u′ : List ℕ) : Type 0 where
-  pub asks : (w : Writes) → Holds-writes z x w → (lo : ℕ) (k : Entries → TreePlan)
-      → walked z m (kid w l lo n k) (used-in u) ≡ carry s (used-in u′) (λ us. walked z m (k (entriesOf r lo)) us)
+pub record Kid (slots : ℕ) (m : ClientWord → ℕ) (x u : List ℕ) (l n : ℕ) (s : Stop) (r : Node) (u′ : List ℕ) : Type 0 where
+  pub asks : (w : Writes) → Holds-writes slots x w → (lo : ℕ) (k : Entries → TreePlan)
+      → walked slots m (kid w l lo n k) (used-in u) ≡ carry s (used-in u′) (λ us. walked slots m (k (entriesOf r lo)) us)
   pub noted : Noted m u′
   pub small : goes s ≡ true → SmallNode r
   pub long : length u′ ≡ length u
   pub fits : goes s ≡ true → below l r ≡ true
   pub whole : goes s ≡ true → Whole r
-  pub inside : goes s ≡ true → in-store z n ≡ true
+  pub inside : goes s ≡ true → in-store slots n ≡ true
 
 -- the root of that name
-pub record RootMet (z : TreeSizes) (m : ClientWord → ℕ) (u : List ℕ) (n : ℕ) (s : Stop) (r : Node) (u′ : List ℕ) : Type 0 where
+pub record RootMet (slots : ℕ) (m : ClientWord → ℕ) (u : List ℕ) (n : ℕ) (s : Stop) (r : Node) (u′ : List ℕ) : Type 0 where
   pub asks : (k : ℕ → Entries → TreePlan)
-      → walked z m (at-root n k) (used-in u) ≡ carry s (used-in u′) (λ us. walked z m (k (r .level) (entriesOf r 0)) us)
+      → walked slots m (at-root n k) (used-in u) ≡ carry s (used-in u′) (λ us. walked slots m (k (r .level) (entriesOf r 0)) us)
   pub noted : Noted m u′
   pub small : goes s ≡ true → SmallNode r
   pub long : length u′ ≡ length u
   pub fits : goes s ≡ true → opens r ≡ true
   pub whole : goes s ≡ true → Whole r
-  pub inside : goes s ≡ true → in-store z n ≡ true
+  pub inside : goes s ≡ true → in-store slots n ≡ true
 
 -- a place of the path that is not passed
 abbrev pub blank : Turn
@@ -112,15 +111,15 @@ All [] = Unit {0}
 All (b ∷ bs) = Followed b × All bs
 
 -- a branch as it is linked to the node below it, of the level l and the name n: "exactly one level lower", at the child that was followed
-pub record Link (z : TreeSizes) (l n : ℕ) (b : Turn) : Type 0 where
+pub record Link (slots l n : ℕ) (b : Turn) : Type 0 where
   pub level : b .node .level ≡ suc l
   pub child : n ≡ getD (b .node .slots) (b .at) 0
-  pub there : in-store z n ≡ true
+  pub there : in-store slots n ≡ true
 
 -- all the names of a path are in the store, and each branch is linked to the next
-unfoldable pub Linked : TreeSizes → ℕ → ℕ → List Turn → Type 0
-Linked z l n [] = in-store z n ≡ true
-Linked z l n (b ∷ bs) = Link z l n b × Linked z (suc l) (b .name) bs
+unfoldable pub Linked : ℕ → ℕ → ℕ → List Turn → Type 0
+Linked slots l n [] = in-store slots n ≡ true
+Linked slots l n (b ∷ bs) = Link slots l n b × Linked slots (suc l) (b .name) bs
 
 -- where a way down may begin: at a node that is open, no lower than the level looked for
 pub record From (n : Node) (target : ℕ) : Type 0 where
@@ -143,10 +142,10 @@ pub record Above (n : Node) (level : ℕ) : Type 0 where
   pub inner : 0 < level
 
 -- a step down from it: s says how it went, i is the number of the child, c its name and r its node
-pub record Lowered (z : TreeSizes) (m : ClientWord → ℕ) (u : List ℕ) (key level : ℕ) (n : Node) (s : Stop) (i c : ℕ) (r : Node) (u′ : List ℕ) : Type 0 where
+pub record Lowered (slots : ℕ) (m : ClientWord → ℕ) (u : List ℕ) (key level : ℕ) (n : Node) (s : Stop) (i c : ℕ) (r : Node) (u′ : List ℕ) : Type 0 where
   pub asks : (stop : ℕ → Bool) → stop level ≡ false → (k : Cont) (fs : List Branch) (nm lo : ℕ)
-      → walked z m (down stop key k level fs nm (entriesOf n lo)) (used-in u)
-      ≡ carry s (used-in u′) (λ us. walked z m
+      → walked slots m (down stop key k level fs nm (entriesOf n lo)) (used-in u)
+      ≡ carry s (used-in u′) (λ us. walked slots m
       (down stop key k (level - 1) (branch-of nm i (entriesOf n lo) ∷ fs) c (entriesOf r (getD (entriesOf n lo) i (0, 0) .0))) us)
   pub noted : Noted m u′
   pub long : length u′ ≡ length u
@@ -156,12 +155,12 @@ pub record Lowered (z : TreeSizes) (m : ClientWord → ℕ) (u : List ℕ) (key 
   pub whole : goes s ≡ true → Whole r
   pub fits : goes s ≡ true → Below (level - 1) r
   pub child : c ≡ getD (n .slots) i 0
-  pub inside : goes s ≡ true → in-store z c ≡ true
+  pub inside : goes s ≡ true → in-store slots c ≡ true
 
 -- over what the walk is lent: from the node at a place to the one at another
-abbrev pub Lowers : ℕ → ℕ → LentList → LentList → ℕ → ℕ → ℕ → Stop → ℕ → ℕ → ℕ → Type 0
-Lowers servers slots part used key level from s i c to =
-    over-read Lowered servers slots part used key level (lent-node part from) s i c (lent-node part to) (now (used .exit))
+abbrev pub Lowers : ℕ → LentList → LentList → ℕ → ℕ → ℕ → Stop → ℕ → ℕ → ℕ → Type 0
+Lowers slots part used key level from s i c to =
+    over-read Lowered slots part used key level (lent-node part from) s i c (lent-node part to) (now (used .exit))
 
 -- what stands at its end
 pub record Reached (target : ℕ) (d : Arrival) : Type 0 where
@@ -174,49 +173,49 @@ pub record Reached (target : ℕ) (d : Arrival) : Type 0 where
   pub good : All (trail (d .path) target (d .top - target))
 
 -- the way down from a root to a level
-pub record Led (z : TreeSizes) (m : ClientWord → ℕ) (u : List ℕ) (key target root : ℕ) (first : Node) (d : Arrival) (u′ : List ℕ) : Type 0 where
+pub record Led (slots : ℕ) (m : ClientWord → ℕ) (u : List ℕ) (key target root : ℕ) (first : Node) (d : Arrival) (u′ : List ℕ) : Type 0 where
   pub asks : (stop : ℕ → Bool) → Stops stop target → (k : Cont)
-      → walked z m (down stop key k (first .level) [] root (entriesOf first 0)) (used-in u)
-      ≡ carry (d .stop) (used-in u′) (λ us. walked z m
+      → walked slots m (down stop key k (first .level) [] root (entriesOf first 0)) (used-in u)
+      ≡ carry (d .stop) (used-in u′) (λ us. walked slots m
       (k target (branches (trail (d .path) target (d .top - target))) (d .name) (entriesOf (d .node) (low (trail (d .path) target (d .top - target))))) us)
   pub noted : Noted m u′
   pub high : d .top ≤ highest-level
   pub reached : goes (d .stop) ≡ true → Reached target d
-  pub linked : in-store z root ≡ true → goes (d .stop) ≡ true → Linked z target (d .name) (trail (d .path) target (d .top - target))
+  pub linked : in-store slots root ≡ true → goes (d .stop) ≡ true → Linked slots target (d .name) (trail (d .path) target (d .top - target))
 
 -- ---- from the metadata on: the root's name q and its node r
-pub record AtRoot (z : TreeSizes) (m : ClientWord → ℕ) (u : List ℕ) (s : Stop) (q : ℕ) (r : Node) (u′ : List ℕ) : Type 0 where
+pub record AtRoot (slots : ℕ) (m : ClientWord → ℕ) (u : List ℕ) (s : Stop) (q : ℕ) (r : Node) (u′ : List ℕ) : Type 0 where
   pub asks : (k : ℕ → ℕ → Entries → TreePlan)
-      → walked z m (P.ask (object meta) (λ v. when-root v (λ q. at-root q (k q)))) (used-in u)
-      ≡ carry s (used-in u′) (λ us. walked z m (k q (r .level) (entriesOf r 0)) us)
+      → walked slots m (P.ask (object meta) (λ v. when-root v (λ q. at-root q (k q)))) (used-in u)
+      ≡ carry s (used-in u′) (λ us. walked slots m (k q (r .level) (entriesOf r 0)) us)
   pub noted : Noted m u′
   pub begins : goes s ≡ true → From r 0
-  pub inside : goes s ≡ true → in-store z q ≡ true
+  pub inside : goes s ≡ true → in-store slots q ≡ true
 
 -- down to the leaf for a key
-pub record Descends (z : TreeSizes) (m : ClientWord → ℕ) (u : List ℕ) (key : ℕ) (d : Arrival) (u′ : List ℕ) : Type 0 where
+pub record Descends (slots : ℕ) (m : ClientWord → ℕ) (u : List ℕ) (key : ℕ) (d : Arrival) (u′ : List ℕ) : Type 0 where
   pub asks : (k : List Branch → ℕ → Entries → TreePlan)
-      → walked z m (from-root key k) (used-in u)
-      ≡ carry (d .stop) (used-in u′) (λ us. walked z m (k (branches (trail (d .path) 0 (d .top - 0))) (d .name) (entriesOf (d .node) (low (trail (d .path) 0 (d .top - 0))))) us)
+      → walked slots m (from-root key k) (used-in u)
+      ≡ carry (d .stop) (used-in u′) (λ us. walked slots m (k (branches (trail (d .path) 0 (d .top - 0))) (d .name) (entriesOf (d .node) (low (trail (d .path) 0 (d .top - 0))))) us)
   pub noted : Noted m u′
   pub high : d .top ≤ highest-level
   pub reached : goes (d .stop) ≡ true → Reached 0 d
-  pub linked : goes (d .stop) ≡ true → Linked z 0 (d .name) (trail (d .path) 0 (d .top - 0))
+  pub linked : goes (d .stop) ≡ true → Linked slots 0 (d .name) (trail (d .path) 0 (d .top - 0))
 
 -- ---- the same by an operation that asks nothing of the path: there is one, whatever it is, and r is the node reached
-pub record Reaches (z : TreeSizes) (m : ClientWord → ℕ) (u : List ℕ) (key : ℕ) (first : Node) (s : Stop) (r : Node) (u′ : List ℕ) : Type 0 where
+pub record Reaches (slots : ℕ) (m : ClientWord → ℕ) (u : List ℕ) (key : ℕ) (first : Node) (s : Stop) (r : Node) (u′ : List ℕ) : Type 0 where
   pub come : ℕ → Arrival
   pub stop : (root : ℕ) → come root .stop ≡ s
   pub node : (root : ℕ) → come root .node ≡ r
-  pub led : (root : ℕ) → Led z m u key 0 root first (come root) u′
+  pub led : (root : ℕ) → Led slots m u key 0 root first (come root) u′
 
 -- over what the walk is lent: from the node at a place to the one at another
-abbrev pub Reaching : ℕ → ℕ → LentList → LentList → ℕ → ℕ → Stop → ℕ → Type 0
-Reaching servers slots part used key from s to = over-read Reaches servers slots part used key (lent-node part from) s (lent-node part to) (now (used .exit))
+abbrev pub Reaching : ℕ → LentList → LentList → ℕ → ℕ → Stop → ℕ → Type 0
+Reaching slots part used key from s to = over-read Reaches slots part used key (lent-node part from) s (lent-node part to) (now (used .exit))
 
 -- from the metadata on
-pub record ToLeaf (z : TreeSizes) (m : ClientWord → ℕ) (u : List ℕ) (key : ℕ) (s : Stop) (r : Node) (u′ : List ℕ) : Type 0 where
+pub record ToLeaf (slots : ℕ) (m : ClientWord → ℕ) (u : List ℕ) (key : ℕ) (s : Stop) (r : Node) (u′ : List ℕ) : Type 0 where
   pub come : Arrival
   pub stop : come .stop ≡ s
   pub node : come .node ≡ r
-  pub descends : Descends z m u key come u′
+  pub descends : Descends slots m u key come u′

@@ -4,7 +4,6 @@ use mathlib.Core.Bool.{Bool, true, false}
 use mathlib.Core.List.{List, []}
 use Prim.Native.Nat.{ℕ}
 use Rattle.operations.specs.Object.{Ans, Writes}
-use Rattle.operations.specs.Slot.{TreeSizes}
 use Rattle.operations.specs.Path.{TreePlan}
 use Rattle.operations.specs.Entry.{Entries}
 use Rattle.walk.specs.declared.found.Sought.{Sought}
@@ -27,8 +26,8 @@ near-plan right key = search-plan (record { sought = near-on right; wanted = 1; 
 
 -- the walk of such an operation has ended as its work step does: nothing is written, and the answer has the pairs ps; the lent list has the copies
 -- that it used
-pub record Looks (z : TreeSizes) (m : ClientWord → ℕ) (s : Stop) (u₀ u : List ℕ) (ps : Entries) : Type 0 where
-  pub stopped : Stopped z m s u
-  pub filled : Filled u₀ (C.walked z m .used) u
-  pub none : (a : Ans) (w : Writes) → worked z m ≡ answers a w → w ≡ []
-  pub pairs : (a : Ans) (w : Writes) → worked z m ≡ answers a w → a .2 ≡ ps
+pub record Looks (slots : ℕ) (m : ClientWord → ℕ) (s : Stop) (u₀ u : List ℕ) (ps : Entries) : Type 0 where
+  pub stopped : Stopped slots m s u
+  pub filled : Filled u₀ (C.walked slots m .used) u
+  pub none : (a : Ans) (w : Writes) → worked slots m ≡ answers a w → w ≡ []
+  pub pairs : (a : Ans) (w : Writes) → worked slots m ≡ answers a w → a .2 ≡ ps

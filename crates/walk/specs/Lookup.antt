@@ -9,7 +9,6 @@ use Rattle.nodes.specs.declared.standing.KeyPlace.{KeyPlace}
 use Rattle.nodes.specs.Place.{key-place}
 use Rattle.nodes.specs.Node.{keysOf}
 use Rattle.operations.specs.Object.{Writes}
-use Rattle.operations.specs.Slot.{TreeSizes}
 use Rattle.operations.specs.Entry.{Entries}
 use Rattle.operations.specs.Path.{TreePlan}
 use Rattle.walk.specs.declared.lookup.Pair.{Pair}
@@ -17,7 +16,7 @@ use Rattle.walk.specs.declared.walk.Stop.{Stop}
 use Rattle.walk.specs.declared.walk.Stop.the-variants.{Going, LacksMeta, LacksNode, LacksVector, Refused, Aborts, Answers}
 use Rattle.client.specs.Layout.{ClientWord}
 use Rattle.client.specs.Lent.{used-in}
-use Rattle.walk.specs.Walk.{Told, told, walked}
+use Rattle.walk.specs.Walk.{Told, walked}
 use Rattle.walk.specs.Ask.{Noted}
 use Rattle.plans.specs.Plan as P
 
@@ -37,12 +36,12 @@ ended s us w ps = record { stop = s; used = us; writes = kept s w; pairs = kept 
 
 -- the plan that ends here with an answer
 pub record Ends (m : ClientWord → ℕ) (u : List ℕ) (a b : ℕ) (s : Stop) (u′ : List ℕ) : Type 0 where
-  pub same : (z : TreeSizes) (w : Writes) (ps : Entries) → walked z m (P.done ((a, b, ps), w)) (used-in u) ≡ ended s (used-in u′) w ps
+  pub same : (slots : ℕ) (w : Writes) (ps : Entries) → walked slots m (P.done ((a, b, ps), w)) (used-in u) ≡ ended s (used-in u′) w ps
   pub noted : Noted m u′
 
 -- a plan that writes nothing, walked to its end, with the pairs ps
-pub record Walks (z : TreeSizes) (m : ClientWord → ℕ) (u : List ℕ) (p : TreePlan) (s : Stop) (u′ : List ℕ) (ps : Entries) : Type 0 where
-  pub same : walked z m p (used-in u) ≡ ended s (used-in u′) [] ps
+pub record Walks (slots : ℕ) (m : ClientWord → ℕ) (u : List ℕ) (p : TreePlan) (s : Stop) (u′ : List ℕ) (ps : Entries) : Type 0 where
+  pub same : walked slots m p (used-in u) ≡ ended s (used-in u′) [] ps
   pub noted : Noted m u′
 
 -- ---- a key looked up in a leaf

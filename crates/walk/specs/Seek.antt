@@ -9,7 +9,6 @@ use lib.ListN.{length, take, drop, getD, set}
 use Rattle.nodes.specs.declared.node.Node.{Node}
 use Rattle.nodes.specs.Entries.{entriesOf}
 use Rattle.nodes.specs.Kept.{Whole}
-use Rattle.operations.specs.Slot.{TreeSizes}
 use Rattle.operations.specs.Entry.{Entries}
 use Rattle.operations.specs.Path.{TreePlan}
 use Rattle.operations.specs.Look.{Search, Onward, nearest, told, enough, seek}
@@ -165,10 +164,10 @@ pub record Advanced (w : Wish) (top : ℕ) (path : List Turn) (level : ℕ) (n :
   pub lighter : a .state ≡ Next → weight (to-right (w .sought)) top (a .path) (a .level) < weight (to-right (w .sought)) top path level
 
 -- ---- a child read, and where it leads
-pub record ReadOn (z : TreeSizes) (m : ClientWord → ℕ) (u : List ℕ) (w : Wish) (top : ℕ) (path : List Turn) (level name : ℕ) (got : Entries) (s : Stop) (a : Heading) (u′ : List ℕ) (got′ : Entries) : Type 0 where
+pub record ReadOn (slots : ℕ) (m : ClientWord → ℕ) (u : List ℕ) (w : Wish) (top : ℕ) (path : List Turn) (level name : ℕ) (got : Entries) (s : Stop) (a : Heading) (u′ : List ℕ) (got′ : Entries) : Type 0 where
   pub node : Node
-  pub asks : (j : ℕ) (f : ℕ → ℕ) → walked z m (onto (search-of w) (to-right (w .sought)) top path level name j f got) (used-in u)
-      ≡ carry s (used-in u′) (λ us. walked z m (afterwards w top path level node j f got) us)
+  pub asks : (j : ℕ) (f : ℕ → ℕ) → walked slots m (onto (search-of w) (to-right (w .sought)) top path level name j f got) (used-in u)
+      ≡ carry s (used-in u′) (λ us. walked slots m (afterwards w top path level node j f got) us)
   pub noted : Noted m u′
   pub long : length u′ ≡ length u
   pub leads : goes s ≡ true → Advanced w top path level node got a got′
@@ -176,23 +175,23 @@ pub record ReadOn (z : TreeSizes) (m : ClientWord → ℕ) (u : List ℕ) (w : W
 
 -- ---- the answer by the pairs got
 pub record Tells (m : ClientWord → ℕ) (u : List ℕ) (w : Wish) (got : Entries) (s : Stop) (u′ : List ℕ) : Type 0 where
-  pub same : (z : TreeSizes) → walked z m (told (search-of w) got) (used-in u) ≡ ended s (used-in u′) [] (pairs-told w got)
+  pub same : (slots : ℕ) → walked slots m (told (search-of w) got) (used-in u) ≡ ended s (used-in u′) [] (pairs-told w got)
   pub noted : Noted m u′
 
 -- ---- the leaves on that side, from a child on, with the pairs ps of the answer
-pub record Seeks (z : TreeSizes) (m : ClientWord → ℕ) (u : List ℕ) (w : Wish) (top : ℕ) (path : List Turn) (level name : ℕ) (got : Entries) (s : Stop) (u′ : List ℕ) (ps : Entries) : Type 0 where
-  pub same : (j : ℕ) (f : ℕ → ℕ) → walked z m (onto (search-of w) (to-right (w .sought)) top path level name j f got) (used-in u) ≡ ended s (used-in u′) [] ps
+pub record Seeks (slots : ℕ) (m : ClientWord → ℕ) (u : List ℕ) (w : Wish) (top : ℕ) (path : List Turn) (level name : ℕ) (got : Entries) (s : Stop) (u′ : List ℕ) (ps : Entries) : Type 0 where
+  pub same : (j : ℕ) (f : ℕ → ℕ) → walked slots m (onto (search-of w) (to-right (w .sought)) top path level name j f got) (used-in u) ≡ ended s (used-in u′) [] ps
   pub noted : Noted m u′
 
 -- ---- the leaves on that side, from one with the path to it on
-pub record FromLeaf (z : TreeSizes) (m : ClientWord → ℕ) (u : List ℕ) (w : Wish) (top : ℕ) (path : List Turn) (n : Node) (got : Entries) (s : Stop) (u′ : List ℕ) (ps : Entries) : Type 0 where
+pub record FromLeaf (slots : ℕ) (m : ClientWord → ℕ) (u : List ℕ) (w : Wish) (top : ℕ) (path : List Turn) (n : Node) (got : Entries) (s : Stop) (u′ : List ℕ) (ps : Entries) : Type 0 where
   pub same : (j : ℕ) (f : ℕ → ℕ) → let q = search-of w in
-      walked z m (enough q (above q (to-right (w .sought)) top path 0 f) (got ++ q .in-leaf (entriesOf n j))) (used-in u) ≡ ended s (used-in u′) [] ps
+      walked slots m (enough q (above q (to-right (w .sought)) top path 0 f) (got ++ q .in-leaf (entriesOf n j))) (used-in u) ≡ ended s (used-in u′) [] ps
   pub noted : Noted m u′
 
 -- ---- a plan that writes nothing, walked from the start, with no copy in use
-pub record Afresh (z : TreeSizes) (m : ClientWord → ℕ) (p : TreePlan) (s : Stop) (u′ : List ℕ) (ps : Entries) : Type 0 where
-  pub same : walked z m p [] ≡ ended s (used-in u′) [] ps
+pub record Afresh (slots : ℕ) (m : ClientWord → ℕ) (p : TreePlan) (s : Stop) (u′ : List ℕ) (ps : Entries) : Type 0 where
+  pub same : walked slots m p [] ≡ ended s (used-in u′) [] ps
   pub noted : Noted m u′
 
 -- ---- over what the walk is lent: the branches of its path, and where it is heading
@@ -208,24 +207,24 @@ Tells-nearest part used found s =
     let p = nearest (lent-pairs found) in Ends (held (now (part .entry))) (now (used .entry)) (p .0) (p .1) s (now (used .exit))
 
 -- a child read, from a level of a path
-abbrev pub Reads-on : ℕ → ℕ → LentList → LentList → LentList → Wish → ℕ → List Pass → ℕ → ℕ → Stop → Ahead → Type 0
-Reads-on servers slots part used found w top path level name s a =
-    over-read ReadOn servers slots part used w top (turns-of part path) level name (lent-pairs found) s (headed part a) (now (used .exit)) (left-pairs found)
+abbrev pub Reads-on : ℕ → LentList → LentList → LentList → Wish → ℕ → List Pass → ℕ → ℕ → Stop → Ahead → Type 0
+Reads-on slots part used found w top path level name s a =
+    over-read ReadOn slots part used w top (turns-of part path) level name (lent-pairs found) s (headed part a) (now (used .exit)) (left-pairs found)
 
 -- the leaves from a child on
-abbrev pub Seeks-on : ℕ → ℕ → LentList → LentList → LentList → Wish → ℕ → List Pass → ℕ → ℕ → Stop → Type 0
-Seeks-on servers slots part used found w top path level name s =
-    over-read Seeks servers slots part used w top (turns-of part path) level name (lent-pairs found) s (now (used .exit)) (left-told w found)
+abbrev pub Seeks-on : ℕ → LentList → LentList → LentList → Wish → ℕ → List Pass → ℕ → ℕ → Stop → Type 0
+Seeks-on slots part used found w top path level name s =
+    over-read Seeks slots part used w top (turns-of part path) level name (lent-pairs found) s (now (used .exit)) (left-told w found)
 
 -- the leaves from one at a place on
-abbrev pub Seeks-from : ℕ → ℕ → LentList → LentList → LentList → Wish → ℕ → List Pass → ℕ → Stop → Type 0
-Seeks-from servers slots part used found w top path leaf s =
-    over-read FromLeaf servers slots part used w top (turns-of part path) (lent-node part leaf) (lent-pairs found) s (now (used .exit)) (left-told w found)
+abbrev pub Seeks-from : ℕ → LentList → LentList → LentList → Wish → ℕ → List Pass → ℕ → Stop → Type 0
+Seeks-from slots part used found w top path leaf s =
+    over-read FromLeaf slots part used w top (turns-of part path) (lent-node part leaf) (lent-pairs found) s (now (used .exit)) (left-told w found)
 
 -- the whole search, with the pairs of its answer
-abbrev pub Searches : ℕ → ℕ → LentList → LentList → LentList → Wish → Stop → Type 0
-Searches servers slots part used found w s = over-read Walks servers slots part used (search-plan w) s (now (used .exit)) (left-told w found)
+abbrev pub Searches : ℕ → LentList → LentList → LentList → Wish → Stop → Type 0
+Searches slots part used found w s = over-read Walks slots part used (search-plan w) s (now (used .exit)) (left-told w found)
 
 -- what the search is lent at its start: no copy is in use, and no pair found
-abbrev pub Starting : ℕ → List ℕ → List ℕ → Wish → List ℕ → Type 0
-Starting servers part used w found = Walking servers part used × (getD used 0 0 ≡ 0) × Roomy (w .wanted) found × (getD found 0 0 ≡ 0)
+abbrev pub Starting : List ℕ → List ℕ → Wish → List ℕ → Type 0
+Starting part used w found = Walking part used × (getD used 0 0 ≡ 0) × Roomy (w .wanted) found × (getD found 0 0 ≡ 0)

@@ -6,7 +6,6 @@ use lib.Dec.{ltb}
 use lib.ListN.{length, take}
 use Rattle.nodes.specs.Name.{server-of}
 use Rattle.operations.specs.Object.{meta, node, flag, Ask, object, vector, fetched, reason, Writes}
-use Rattle.operations.specs.Slot.{TreeSizes}
 use Rattle.operations.specs.Entry.{Entries}
 use Rattle.operations.specs.Path.{TreePlan}
 use Rattle.walk.specs.declared.walk.Stop.{Stop}
@@ -58,7 +57,7 @@ stands Refused = false
 stands (Aborts r) = false
 stands (Answers a b) = true
 
--- "Metadata comes from server (client modulo servers), a node from its home, a vector from its server": a flag is in its vector
+-- "Metadata is fetched from the first server not absent", "a node from its home, a vector from its server": a flag is in its vector
 abbrev pub lack : Ask → Stop
 lack (object meta) = LacksMeta
 lack (object (node n)) = LacksNode n
@@ -84,12 +83,12 @@ module _ (m : ClientWord → ℕ) where
   unfoldable pub over : List ℕ → Bool
   over us = ltb (limit Reads) (count m Reads + length us)
 
-module _ (z : TreeSizes) (m : ClientWord → ℕ) where
+module _ (slots : ℕ) (m : ClientWord → ℕ) where
   unfoldable pub worked : TreePlan → List ℕ → Ran
-  worked p us = cond (over m us) (over-run p us) (run (have z m) (fresh m) (room m) p us)
+  worked p us = cond (over m us) (over-run p us) (run (have slots m) (fresh m) (room m) p us)
 
   abbrev pub tell : End → List ℕ → Told
-  tell (lacks a) us = told (cond (broken z m a) Refused (lack a)) us
+  tell (lacks a) us = told (cond (broken slots m a) Refused (lack a)) us
   tell (aborts r) us = told (Aborts r) us
   tell (gives a w) us = record { stop = Answers (a .0) (a .1); used = us; writes = w; pairs = a .2 }
 

@@ -19,8 +19,6 @@ ghost use Prim.Native.Nat.{_≤_};
 ghost use Rattle.memory.specs.Word.{view};
 ghost use Rattle.nodes.specs.Stored.{node-at};
 ghost use Rattle.client.specs.Layout.{ClientPart};
-ghost use Rattle.client.specs.Record.{sizes};
-ghost use Rattle.client.specs.Sets.{held};
 ghost use Rattle.client.specs.Bounds.{highest-level};
 ghost use Rattle.walk.specs.Entries.{opens-with, opens, below-with, below};
 ghost use Rattle.walk.specs.Ask.{In-part, Walking, WalkingOwn, over-lent, unwritten, over-read, lent-node};
@@ -80,19 +78,12 @@ fn below_node(n: Node, wanted: u64) -> bool
 }
 
 // A node below the root.
-pub fn child(
-    part: &[u8],
-    servers: usize,
-    slots: usize,
-    used: &mut [u64],
-    level: u64,
-    name: u64,
-) -> Placed
-    requires { ⌜ Walking servers (now part) (now used) ⌝ }
-    ensures { λ r. ⌜ unwritten Kid servers slots part used level name (r .stop) (lent-node part (r .place)) (now (used .exit)) ⌝ }
+pub fn child(part: &[u8], slots: usize, used: &mut [u64], level: u64, name: u64) -> Placed
+    requires { ⌜ Walking (now part) (now used) ⌝ }
+    ensures { λ r. ⌜ unwritten Kid slots part used level name (r .stop) (lent-node part (r .place)) (now (used .exit)) ⌝ }
     ensures within { λ r. ⌜ In-part (r .place) ⌝ }
 {
-    let a = ask_node(part, servers, slots, used, name);
+    let a = ask_node(part, slots, used, name);
     let stop = a.stop;
     let on = going(stop);
     if !on {
@@ -112,17 +103,16 @@ pub fn child(
 // The same, where the operation may have written it.
 pub fn see_child(
     part: &[u8],
-    servers: usize,
     slots: usize,
     own: &[u64],
     used: &mut [u64],
     level: u64,
     name: u64,
 ) -> Seen
-    requires { ⌜ WalkingOwn servers (now part) (now own) (now used) ⌝ }
-    ensures { λ r. ⌜ over-lent Kid servers slots part own used level name (r .stop) (r .node) (now (used .exit)) ⌝ }
+    requires { ⌜ WalkingOwn (now part) (now own) (now used) ⌝ }
+    ensures { λ r. ⌜ over-lent Kid slots part own used level name (r .stop) (r .node) (now (used .exit)) ⌝ }
 {
-    let a = see_node(part, servers, slots, own, used, name);
+    let a = see_node(part, slots, own, used, name);
     let stop = a.stop;
     let node = a.node;
     let on = going(stop);
@@ -140,12 +130,12 @@ pub fn see_child(
 }
 
 // The root, by its name.
-pub fn root(part: &[u8], servers: usize, slots: usize, used: &mut [u64], name: u64) -> Placed
-    requires { ⌜ Walking servers (now part) (now used) ⌝ }
-    ensures { λ r. ⌜ over-read RootMet servers slots part used name (r .stop) (lent-node part (r .place)) (now (used .exit)) ⌝ }
+pub fn root(part: &[u8], slots: usize, used: &mut [u64], name: u64) -> Placed
+    requires { ⌜ Walking (now part) (now used) ⌝ }
+    ensures { λ r. ⌜ over-read RootMet slots part used name (r .stop) (lent-node part (r .place)) (now (used .exit)) ⌝ }
     ensures within { λ r. ⌜ In-part (r .place) ⌝ }
 {
-    let a = ask_node(part, servers, slots, used, name);
+    let a = ask_node(part, slots, used, name);
     let stop = a.stop;
     let on = going(stop);
     if !on {
@@ -196,22 +186,21 @@ struct Lower {
 // From an inner node of a level to its child for a key.
 fn go_lower(
     part: &[u8],
-    servers: usize,
     slots: usize,
     used: &mut [u64],
     key: u64,
     level: usize,
     place: usize,
 ) -> Lower
-    requires { ⌜ Walking servers (now part) (now used) ⌝ }
+    requires { ⌜ Walking (now part) (now used) ⌝ }
     requires from { ⌜ Above (node-at (view (now part)) place) level × In-part place ⌝ }
-    ensures { λ r. ⌜ Lowers servers slots part used key level place (r .stop) (r .at) (r .name) (r .place) ⌝ }
+    ensures { λ r. ⌜ Lowers slots part used key level place (r .stop) (r .at) (r .name) (r .place) ⌝ }
     ensures within { λ r. ⌜ In-part (r .place) ⌝ }
 {
     let k = place_at(part, place, key);
     let at = k.place;
     let name = slot_at(part, place, at);
-    let c = child(part, servers, slots, used, (level - 1) as u64, name);
+    let c = child(part, slots, used, (level - 1) as u64, name);
     let stop = c.stop;
     let place = c.place;
     Lower {
@@ -225,7 +214,6 @@ fn go_lower(
 // From the root, which stands at a place, down to a level, by a key.
 pub fn go_down(
     part: &[u8],
-    servers: usize,
     slots: usize,
     used: &mut [u64],
     key: u64,
@@ -233,9 +221,9 @@ pub fn go_down(
     root: u64,
     first: usize,
 ) -> Descent
-    requires { ⌜ Walking servers (now part) (now used) ⌝ }
+    requires { ⌜ Walking (now part) (now used) ⌝ }
     requires from { ⌜ From (node-at (view (now part)) first) target × In-part first ⌝ }
-    ensures { λ r. ⌜ over-read Led servers slots part used key target root (lent-node part first) (arrived part r) (now (used .exit)) ⌝ }
+    ensures { λ r. ⌜ over-read Led slots part used key target root (lent-node part first) (arrived part r) (now (used .exit)) ⌝ }
     ensures within { λ r. ⌜ Path-in-part (r .path) × In-part (r .place) ⌝ }
 {
     let top = level_at(part, first) as usize;
@@ -249,7 +237,7 @@ pub fn go_down(
     let mut place = first;
     let mut level = top;
     while target < level {
-        let l = go_lower(part, servers, slots, used, key, level, place);
+        let l = go_lower(part, slots, used, key, level, place);
         let stop = l.stop;
         let on = going(stop);
         if !on {
@@ -287,14 +275,14 @@ pub struct Rooted {
 }
 
 // The metadata, and the root that it names.
-pub fn at_root(part: &[u8], servers: usize, slots: usize, used: &mut [u64]) -> Rooted
-    requires { ⌜ Walking servers (now part) (now used) ⌝ }
-    ensures { λ r. ⌜ over-read AtRoot servers slots part used (r .stop) (r .name) (lent-node part (r .place)) (now (used .exit)) ⌝ }
+pub fn at_root(part: &[u8], slots: usize, used: &mut [u64]) -> Rooted
+    requires { ⌜ Walking (now part) (now used) ⌝ }
+    ensures { λ r. ⌜ over-read AtRoot slots part used (r .stop) (r .name) (lent-node part (r .place)) (now (used .exit)) ⌝ }
     ensures within { λ r. ⌜ In-part (r .place) ⌝ }
 {
-    let a = ask_meta(part, servers, slots, used);
+    let a = ask_meta(part, slots, used);
     let stop = a.stop;
-    let name = a.value;
+    let name = a.root;
     let on = going(stop);
     if !on {
         return Rooted {
@@ -303,7 +291,7 @@ pub fn at_root(part: &[u8], servers: usize, slots: usize, used: &mut [u64]) -> R
             place: 0,
         };
     }
-    let r = root(part, servers, slots, used, name);
+    let r = root(part, slots, used, name);
     let stop = r.stop;
     let place = r.place;
     Rooted { stop, name, place }
@@ -329,12 +317,12 @@ pub fn no_descent(stop: Stop) -> Descent
 }
 
 // From the metadata down to the leaf for a key.
-pub fn descend(part: &[u8], servers: usize, slots: usize, used: &mut [u64], key: u64) -> Descent
-    requires { ⌜ Walking servers (now part) (now used) ⌝ }
-    ensures { λ r. ⌜ over-read Descends servers slots part used key (arrived part r) (now (used .exit)) ⌝ }
+pub fn descend(part: &[u8], slots: usize, used: &mut [u64], key: u64) -> Descent
+    requires { ⌜ Walking (now part) (now used) ⌝ }
+    ensures { λ r. ⌜ over-read Descends slots part used key (arrived part r) (now (used .exit)) ⌝ }
     ensures within { λ r. ⌜ Path-in-part (r .path) × In-part (r .place) ⌝ }
 {
-    let r = at_root(part, servers, slots, used);
+    let r = at_root(part, slots, used);
     let stop = r.stop;
     let on = going(stop);
     if !on {
@@ -342,7 +330,7 @@ pub fn descend(part: &[u8], servers: usize, slots: usize, used: &mut [u64], key:
     }
     let name = r.name;
     let place = r.place;
-    go_down(part, servers, slots, used, key, 0, name, place)
+    go_down(part, slots, used, key, 0, name, place)
 }
 
 // Where a leaf stands; without Going nothing does.
@@ -352,23 +340,16 @@ pub struct Leaf {
 }
 
 // From the root, which stands at a place, down to the leaf for a key. No path is kept.
-fn reach(
-    part: &[u8],
-    servers: usize,
-    slots: usize,
-    used: &mut [u64],
-    key: u64,
-    first: usize,
-) -> Leaf
-    requires { ⌜ Walking servers (now part) (now used) ⌝ }
+fn reach(part: &[u8], slots: usize, used: &mut [u64], key: u64, first: usize) -> Leaf
+    requires { ⌜ Walking (now part) (now used) ⌝ }
     requires from { ⌜ From (node-at (view (now part)) first) 0 × In-part first ⌝ }
-    ensures { λ r. ⌜ Reaching servers slots part used key first (r .stop) (r .place) ⌝ }
+    ensures { λ r. ⌜ Reaching slots part used key first (r .stop) (r .place) ⌝ }
     ensures within { λ r. ⌜ In-part (r .place) ⌝ }
 {
     let mut place = first;
     let mut level = level_at(part, first) as usize;
     while 0 < level {
-        let l = go_lower(part, servers, slots, used, key, level, place);
+        let l = go_lower(part, slots, used, key, level, place);
         let stop = l.stop;
         let on = going(stop);
         if !on {
@@ -384,19 +365,19 @@ fn reach(
 }
 
 // From the metadata down to the leaf for a key, by an operation that goes nowhere from there.
-pub fn to_leaf(part: &[u8], servers: usize, slots: usize, used: &mut [u64], key: u64) -> Leaf
-    requires { ⌜ Walking servers (now part) (now used) ⌝ }
-    ensures { λ r. ⌜ over-read ToLeaf servers slots part used key (r .stop) (lent-node part (r .place)) (now (used .exit)) ⌝ }
+pub fn to_leaf(part: &[u8], slots: usize, used: &mut [u64], key: u64) -> Leaf
+    requires { ⌜ Walking (now part) (now used) ⌝ }
+    ensures { λ r. ⌜ over-read ToLeaf slots part used key (r .stop) (lent-node part (r .place)) (now (used .exit)) ⌝ }
     ensures within { λ r. ⌜ In-part (r .place) ⌝ }
 {
-    let r = at_root(part, servers, slots, used);
+    let r = at_root(part, slots, used);
     let stop = r.stop;
     let place = r.place;
     let on = going(stop);
     if !on {
         return Leaf { stop, place };
     }
-    reach(part, servers, slots, used, key, place)
+    reach(part, slots, used, key, place)
 }
 
 // An inner node of the path, taken out of the part.

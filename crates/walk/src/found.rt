@@ -4,18 +4,16 @@ use nodes::standing::key_at;
 use nodes::standing::place_at;
 use nodes::standing::slot_at;
 ghost use mathlib.Core.Path.{_≡_};
-ghost use mathlib.Core.List.{_++_};
 ghost use Prim.Native.Nat.{_+_, _*_, _<_, _≤_};
-ghost use lib.ListN.{length, getD, take};
+ghost use lib.ListN.{length, getD};
 ghost use Rattle.memory.specs.Word.{view};
 ghost use Rattle.nodes.specs.Node.{keysOf};
 ghost use Rattle.nodes.specs.Stored.{node-at};
-ghost use Rattle.nodes.specs.Entries.{entriesOf};
 ghost use Rattle.operations.specs.Entry.{under};
 ghost use Rattle.client.specs.Layout.{ClientPart};
 ghost use Rattle.client.specs.Bounds.{most-keys, most-listed};
 ghost use Rattle.walk.specs.Ask.{In-part, lent-node};
-ghost use Rattle.walk.specs.Found.{pairs-in, pushed-pair, Roomy, to-right, sought-in, start-in, many-from, index-from, with-one, LeafAt, gathered, lent-pairs, left-pairs};
+ghost use Rattle.walk.specs.Found.{pushed-pair, Roomy, to-right, start-in, many-from, index-from, with-one, LeafAt, gathered, lent-pairs, left-pairs};
 
 // The pairs that are sought: those strictly above a key, strictly below it, or not below it.
 pub enum Sought {

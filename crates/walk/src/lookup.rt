@@ -10,7 +10,6 @@ ghost use mathlib.Core.Path.{_≡_};
 ghost use mathlib.Core.List.{[]};
 ghost use Prim.Native.Nat.{_≤_};
 ghost use Rattle.operations.specs.Look.{lookup-plan};
-ghost use Rattle.client.specs.Record.{sizes};
 ghost use Rattle.client.specs.Sets.{held};
 ghost use Rattle.memory.specs.Word.{view};
 ghost use Rattle.nodes.specs.Stored.{node-at};
@@ -52,11 +51,11 @@ fn look_in(part: &[u8], leaf: usize, key: u64) -> Pair
     Pair { a: 0, b: 0 }
 }
 
-pub fn lookup(part: &[u8], servers: usize, slots: usize, used: &mut [u64], key: u64) -> Stop
-    requires { ⌜ Walking servers (now part) (now used) ⌝ }
-    ensures { λ r. ⌜ Walks (sizes servers slots) (held (now (part .entry))) (now (used .entry)) (lookup-plan key) r (now (used .exit)) [] ⌝ }
+pub fn lookup(part: &[u8], slots: usize, used: &mut [u64], key: u64) -> Stop
+    requires { ⌜ Walking (now part) (now used) ⌝ }
+    ensures { λ r. ⌜ Walks slots (held (now (part .entry))) (now (used .entry)) (lookup-plan key) r (now (used .exit)) [] ⌝ }
 {
-    let d = to_leaf(part, servers, slots, used, key);
+    let d = to_leaf(part, slots, used, key);
     let stop = d.stop;
     let on = going(stop);
     if !on {

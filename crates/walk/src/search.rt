@@ -1,6 +1,7 @@
 // A slot looked for on servers in a row, and taken.
 use crate::take::take_flag;
 use crate::walk::Stop;
+use crate::walk::ask_meta;
 use crate::walk::going;
 use crate::walk::over;
 use crate::walk::pop_used;
@@ -14,15 +15,15 @@ use client::vector::vector_fits;
 use nodes::found::Found;
 use nodes::name::Name;
 use nodes::placement::server_at;
+use nodes::states::is_open;
 use nodes::vector::first_free;
 use nodes::vector::with_taken;
 ghost use mathlib.Core.Path.{_≡_};
-ghost use mathlib.Core.List.{[], _∷_};
-ghost use Prim.Native.Nat.{_+_, _<_};
-ghost use lib.ListN.{getD};
+ghost use Prim.Native.Nat.{_+_, _<_, _≤_};
+ghost use lib.ListN.{getD, take};
 ghost use Rattle.nodes.specs.Name.{name};
 ghost use Rattle.nodes.specs.Placement.{row};
-ghost use Rattle.operations.specs.Slot.{present};
+ghost use Rattle.operations.specs.Slot.{open-ones};
 ghost use Rattle.client.specs.Sets.{held};
 ghost use Rattle.client.specs.Lent.{OwnFits};
 ghost use Rattle.client.specs.Bounds.{end-of-slots, end-of-names, own-most, most-servers};
@@ -69,16 +70,13 @@ fn count_own(own: &[u64], s: usize, seen: [u64; 16]) -> [u64; 16]
 }
 
 // The question for a server's vector.
-fn ask_vector(part: &[u8], servers: usize, used: &mut [u64], s: usize) -> Stop
-    requires { ⌜ Walking servers (now part) (now used) ⌝ }
-    ensures { λ r. ⌜ VectorAsked (held (now (part .entry))) servers (now (used .entry)) s r (now (used .exit)) ⌝ }
+fn ask_vector(part: &[u8], used: &mut [u64], s: usize) -> Stop
+    requires { ⌜ Walking (now part) (now used) × (s < most-servers) ⌝ }
+    ensures { λ r. ⌜ VectorAsked (held (now (part .entry))) (now (used .entry)) s r (now (used .exit)) ⌝ }
 {
     if over(part, used) {
         pop_used(used);
         return Stop::Aborts(4);
-    }
-    if servers <= s {
-        return Stop::Refused;
     }
     let right = vector_fits(part, s);
     if !right {
@@ -111,18 +109,17 @@ struct Chosen {
 
 fn look_on(
     part: &[u8],
-    servers: usize,
     slots: usize,
     own: &[u64],
     used: &mut [u64],
     s: usize,
     slot: usize,
 ) -> Chosen
-    requires { ⌜ WalkingOwn servers (now part) (now own) (now used) ⌝ }
+    requires { ⌜ WalkingOwn (now part) (now own) (now used) × (s < most-servers) ⌝ }
     requires above { ⌜ slot < end-of-slots ⌝ }
-    ensures { λ r. ⌜ over-lent Looked servers slots part own used s slot (r .stop) (r .found) (now (used .exit)) ⌝ }
+    ensures { λ r. ⌜ over-lent Looked slots part own used s slot (r .stop) (r .found) (now (used .exit)) ⌝ }
 {
-    let stop = ask_vector(part, servers, used, s);
+    let stop = ask_vector(part, used, s);
     let on = going(stop);
     if !on {
         return Chosen {
@@ -142,27 +139,28 @@ fn look_on(
     }
 }
 
-// The next server of a row: "absent servers are skipped".
+// The next server of a row: "absent servers are skipped", and those closing.
 fn look_next(
     part: &[u8],
-    servers: usize,
     slots: usize,
     own: &[u64],
     used: &mut [u64],
+    states: u64,
     s: usize,
     slot: usize,
 ) -> Chosen
-    requires { ⌜ WalkingOwn servers (now part) (now own) (now used) ⌝ }
+    requires { ⌜ WalkingOwn (now part) (now own) (now used) × (s < most-servers) ⌝ }
     requires above { ⌜ slot < end-of-slots ⌝ }
-    ensures { λ r. ⌜ over-lent LookedInRow servers slots part own used s slot (r .stop) (r .found) (now (used .exit)) ⌝ }
+    ensures { λ r. ⌜ over-lent LookedInRow slots part own used states s slot (r .stop) (r .found) (now (used .exit)) ⌝ }
 {
-    if servers <= s {
+    let open = is_open(states, s);
+    if !open {
         return Chosen {
             stop: Stop::Going,
             found: Found::Absent,
         };
     }
-    look_on(part, servers, slots, own, used, s, slot)
+    look_on(part, slots, own, used, s, slot)
 }
 
 // A slot looked for: with Going its name.
@@ -179,25 +177,26 @@ fn slot_name(s: usize, slot: usize) -> u64
     n.number
 }
 
-// On the servers of a home's row, in its order.
+// On the open ones of the first n servers of a home's row, in its order. "no slot is free (migrate: on that server)"
 fn search(
     part: &[u8],
-    servers: usize,
     slots: usize,
     own: &[u64],
     used: &mut [u64],
+    states: u64,
     home: usize,
+    n: usize,
     slot: usize,
 ) -> Taken
-    requires { ⌜ WalkingOwn servers (now part) (now own) (now used) ⌝ }
-    requires from { ⌜ home < most-servers ⌝ }
+    requires { ⌜ WalkingOwn (now part) (now own) (now used) ⌝ }
+    requires from { ⌜ (home < most-servers) × (n ≤ most-servers) ⌝ }
     requires above { ⌜ slot < end-of-slots ⌝ }
-    ensures { λ r. ⌜ over-lent Sought servers slots part own used (present servers (row home)) slot r (now (used .exit)) ⌝ }
+    ensures { λ r. ⌜ over-lent Sought slots part own used (open-ones states (take n (row home))) slot r (now (used .exit)) ⌝ }
 {
     let mut i: usize = 0;
-    while i < 8 {
+    while i < n {
         let s = server_at(home, i);
-        let c = look_next(part, servers, slots, own, used, s, slot);
+        let c = look_next(part, slots, own, used, states, s, slot);
         let stop = c.stop;
         let on = going(stop);
         if !on {
@@ -222,87 +221,46 @@ fn search(
     }
 }
 
-// On one server. "no slot is free (migrate: on that server)"
-fn search_one(
+// A slot above a slot number, on the first n servers of a home's row: looked for on those that the metadata read calls open, and taken.
+pub fn take_on(
     part: &[u8],
-    servers: usize,
     slots: usize,
-    own: &[u64],
+    own: &mut [u64],
     used: &mut [u64],
-    s: usize,
+    home: usize,
+    n: usize,
     slot: usize,
 ) -> Taken
-    requires { ⌜ WalkingOwn servers (now part) (now own) (now used) ⌝ }
+    requires { ⌜ Writing (now part) (now own) (now used) own-most ⌝ }
+    requires from { ⌜ (home < most-servers) × (n ≤ most-servers) ⌝ }
     requires above { ⌜ slot < end-of-slots ⌝ }
-    ensures { λ r. ⌜ over-lent Sought servers slots part own used (s ∷ []) slot r (now (used .exit)) ⌝ }
+    ensures { λ r. ⌜ over-lent TakenOn slots part own used (take n (row home)) slot r (now (own .exit)) (now (used .exit)) ⌝ }
 {
-    let c = look_on(part, servers, slots, own, used, s, slot);
-    let stop = c.stop;
+    let m = ask_meta(part, slots, used);
+    let stop = m.stop;
     let on = going(stop);
     if !on {
         return Taken { stop, name: 0 };
     }
-    let found = c.found;
-    match found {
-        Found::At(j) => Taken {
-            stop,
-            name: slot_name(s, j),
-        },
-        Found::Absent => Taken {
-            stop: Stop::Aborts(5),
-            name: 0,
-        },
+    let t = search(part, slots, own, used, m.states, home, n, slot);
+    let stop = t.stop;
+    let on = going(stop);
+    if !on {
+        return t;
     }
+    let name = t.name;
+    let stop = take_flag(part, slots, own, used, name);
+    Taken { stop, name }
 }
 
-// A slot for a new node beside the node of that name, which is split: looked for, and taken.
-pub fn take_for(
-    part: &[u8],
-    servers: usize,
-    slots: usize,
-    own: &mut [u64],
-    used: &mut [u64],
-    name: u64,
-) -> Taken
-    requires { ⌜ Writing servers (now part) (now own) (now used) own-most ⌝ }
+// A slot for a new node beside the node of that name, which is split.
+pub fn take_for(part: &[u8], slots: usize, own: &mut [u64], used: &mut [u64], name: u64) -> Taken
+    requires { ⌜ Writing (now part) (now own) (now used) own-most ⌝ }
     requires there { ⌜ name < end-of-names ⌝ }
-    ensures { λ r. ⌜ over-lent TakenFor servers slots part own used name r (now (own .exit)) (now (used .exit)) ⌝ }
+    ensures { λ r. ⌜ over-lent TakenFor slots part own used name r (now (own .exit)) (now (used .exit)) ⌝ }
 {
     let split = Name { number: name };
     let home = split.server() as usize;
     let slot = split.slot() as usize;
-    let t = search(part, servers, slots, own, used, home, slot);
-    let stop = t.stop;
-    let on = going(stop);
-    if !on {
-        return t;
-    }
-    let name = t.name;
-    let stop = take_flag(part, servers, slots, own, used, name);
-    Taken { stop, name }
-}
-
-// The same on one server, above a slot number.
-pub fn take_on(
-    part: &[u8],
-    servers: usize,
-    slots: usize,
-    own: &mut [u64],
-    used: &mut [u64],
-    s: usize,
-    slot: usize,
-) -> Taken
-    requires { ⌜ Writing servers (now part) (now own) (now used) own-most ⌝ }
-    requires above { ⌜ slot < end-of-slots ⌝ }
-    ensures { λ r. ⌜ over-lent TakenOn servers slots part own used (s ∷ []) slot r (now (own .exit)) (now (used .exit)) ⌝ }
-{
-    let t = search_one(part, servers, slots, own, used, s, slot);
-    let stop = t.stop;
-    let on = going(stop);
-    if !on {
-        return t;
-    }
-    let name = t.name;
-    let stop = take_flag(part, servers, slots, own, used, name);
-    Taken { stop, name }
+    take_on(part, slots, own, used, home, 8, slot)
 }

@@ -15,15 +15,12 @@ use nodes::standing::slot_at;
 ghost use mathlib.Core.Path.{_≡_};
 ghost use Prim.Native.Nat.{_+_, _<_, _≤_};
 ghost use lib.ListN.{length, getD, set};
-ghost use Rattle.client.specs.Record.{sizes};
 ghost use Rattle.client.specs.Sets.{held};
 ghost use Rattle.memory.specs.Word.{view};
 ghost use Rattle.nodes.specs.Stored.{node-at};
-ghost use Rattle.operations.specs.Look.{nearest};
 ghost use Rattle.client.specs.Layout.{ClientPart};
 ghost use Rattle.walk.specs.Ask.{In-part, Noted, Walking, lent-node};
 ghost use Rattle.walk.specs.Found.{pairs-in, Roomy, search-plan, LeafAt, lent-pairs, left-pairs, left-told};
-ghost use Rattle.walk.specs.Lookup.{Ends, Walks};
 ghost use Rattle.walk.specs.Down.{turns-in, Path-in-part};
 ghost use Rattle.walk.specs.Seek.{more-with, onward, first-at, Stacked, heading, Climbed, Past, first-child, Standing, Advanced, Tells, Afresh, turns-of, headed, Reads-on, Tells-nearest, Seeks-on, Seeks-from, Searches, Starting};
 ghost use Rattle.client.specs.Bounds.{most-keys, highest-level};
@@ -199,7 +196,6 @@ struct Reading {
 
 fn read_on(
     part: &[u8],
-    servers: usize,
     slots: usize,
     used: &mut [u64],
     w: Wish,
@@ -209,12 +205,12 @@ fn read_on(
     level: usize,
     name: u64,
 ) -> Reading
-    requires { ⌜ Walking servers (now part) (now used) × Roomy (w .wanted) (now found) ⌝ }
+    requires { ⌜ Walking (now part) (now used) × Roomy (w .wanted) (now found) ⌝ }
     requires at { ⌜ Stacked top (turns-in (now part) path) level × (level < top) × Path-in-part path ⌝ }
-    ensures { λ r. ⌜ Reads-on servers slots part used found w top path level name (r .stop) (r .ahead) ⌝ }
+    ensures { λ r. ⌜ Reads-on slots part used found w top path level name (r .stop) (r .ahead) ⌝ }
     ensures within { λ r. ⌜ Path-in-part (r .ahead .path) × Roomy (w .wanted) (now (found .exit)) ⌝ }
 {
-    let c = child(part, servers, slots, used, level as u64, name);
+    let c = child(part, slots, used, level as u64, name);
     let stop = c.stop;
     let on = going(stop);
     if !on {
@@ -263,7 +259,6 @@ fn tell(part: &[u8], used: &mut [u64], w: Wish, found: &[u64]) -> Stop
 // The leaves on that side of the path, from a child on, until the pairs wanted are found.
 fn seek(
     part: &[u8],
-    servers: usize,
     slots: usize,
     used: &mut [u64],
     w: Wish,
@@ -273,16 +268,16 @@ fn seek(
     from: usize,
     child: u64,
 ) -> Stop
-    requires { ⌜ Walking servers (now part) (now used) × Roomy (w .wanted) (now found) ⌝ }
+    requires { ⌜ Walking (now part) (now used) × Roomy (w .wanted) (now found) ⌝ }
     requires at { ⌜ Stacked top (turns-in (now part) first) from × (from < top) × Path-in-part first ⌝ }
-    ensures { λ r. ⌜ Seeks-on servers slots part used found w top first from child r ⌝ }
+    ensures { λ r. ⌜ Seeks-on slots part used found w top first from child r ⌝ }
     ensures within { λ _. ⌜ Roomy (w .wanted) (now (found .exit)) ⌝ }
 {
     let mut path = first;
     let mut level = from;
     let mut name = child;
     loop {
-        let r = read_on(part, servers, slots, used, w, found, top, path, level, name);
+        let r = read_on(part, slots, used, w, found, top, path, level, name);
         let stop = r.stop;
         let on = going(stop);
         if !on {
@@ -305,7 +300,6 @@ fn seek(
 // From a leaf on, with the path to it, until the pairs wanted are found.
 fn from_leaf(
     part: &[u8],
-    servers: usize,
     slots: usize,
     used: &mut [u64],
     w: Wish,
@@ -314,9 +308,9 @@ fn from_leaf(
     path: [Pass; 5],
     leaf: usize,
 ) -> Stop
-    requires { ⌜ Walking servers (now part) (now used) × Roomy (w .wanted) (now found) ⌝ }
+    requires { ⌜ Walking (now part) (now used) × Roomy (w .wanted) (now found) ⌝ }
     requires at { ⌜ Stacked top (turns-in (now part) path) 0 × Path-in-part path × LeafAt (node-at (view (now part)) leaf) × In-part leaf ⌝ }
-    ensures { λ r. ⌜ Seeks-from servers slots part used found w top path leaf r ⌝ }
+    ensures { λ r. ⌜ Seeks-from slots part used found w top path leaf r ⌝ }
     ensures within { λ _. ⌜ Roomy (w .wanted) (now (found .exit)) ⌝ }
 {
     let a = past_leaf(part, w, found, top, path, leaf);
@@ -327,43 +321,25 @@ fn from_leaf(
             let branches = a.path;
             let level = a.level;
             let name = a.name;
-            seek(
-                part,
-                servers,
-                slots,
-                used,
-                w,
-                found,
-                top,
-                branches,
-                level,
-                name,
-            )
+            seek(part, slots, used, w, found, top, branches, level, name)
         }
     }
 }
 
 // From the leaf of the key on.
-pub fn by_path(
-    part: &[u8],
-    servers: usize,
-    slots: usize,
-    used: &mut [u64],
-    w: Wish,
-    found: &mut [u64],
-) -> Stop
-    requires { ⌜ Walking servers (now part) (now used) × Roomy (w .wanted) (now found) × (getD (now found) 0 0 ≡ 0) ⌝ }
-    ensures { λ r. ⌜ Searches servers slots part used found w r ⌝ }
+pub fn by_path(part: &[u8], slots: usize, used: &mut [u64], w: Wish, found: &mut [u64]) -> Stop
+    requires { ⌜ Walking (now part) (now used) × Roomy (w .wanted) (now found) × (getD (now found) 0 0 ≡ 0) ⌝ }
+    ensures { λ r. ⌜ Searches slots part used found w r ⌝ }
     ensures within { λ _. ⌜ Roomy (w .wanted) (now (found .exit)) ⌝ }
 {
-    let d = descend(part, servers, slots, used, w.key);
+    let d = descend(part, slots, used, w.key);
     let stop = d.stop;
     let on = going(stop);
     if !on {
         return stop;
     }
     let path = d.path;
-    from_leaf(part, servers, slots, used, w, found, d.top, path, d.place)
+    from_leaf(part, slots, used, w, found, d.top, path, d.place)
 }
 
 // None is in the lent list any more.
@@ -376,35 +352,21 @@ fn empty(list: &mut [u64])
 }
 
 // The same from the start: no copy is in use, and no pair found.
-fn afresh(
-    part: &[u8],
-    servers: usize,
-    slots: usize,
-    used: &mut [u64],
-    w: Wish,
-    found: &mut [u64],
-) -> Stop
-    requires { ⌜ Walking servers (now part) (now used) × Roomy (w .wanted) (now found) ⌝ }
-    ensures { λ r. ⌜ Afresh (sizes servers slots) (held (now (part .entry))) (search-plan w) r (now (used .exit)) (left-told w found) ⌝ }
+fn afresh(part: &[u8], slots: usize, used: &mut [u64], w: Wish, found: &mut [u64]) -> Stop
+    requires { ⌜ Walking (now part) (now used) × Roomy (w .wanted) (now found) ⌝ }
+    ensures { λ r. ⌜ Afresh slots (held (now (part .entry))) (search-plan w) r (now (used .exit)) (left-told w found) ⌝ }
 {
     empty(used);
     empty(found);
-    by_path(part, servers, slots, used, w, found)
+    by_path(part, slots, used, w, found)
 }
 
 // Next and previous. Nearly always the leaf of the key has the pair. Only where it has none a path is needed, and the walk begins anew with one.
-pub fn near(
-    part: &[u8],
-    servers: usize,
-    slots: usize,
-    used: &mut [u64],
-    w: Wish,
-    found: &mut [u64],
-) -> Stop
-    requires { ⌜ Starting servers (now part) (now used) w (now found) ⌝ }
-    ensures { λ r. ⌜ Searches servers slots part used found w r ⌝ }
+pub fn near(part: &[u8], slots: usize, used: &mut [u64], w: Wish, found: &mut [u64]) -> Stop
+    requires { ⌜ Starting (now part) (now used) w (now found) ⌝ }
+    ensures { λ r. ⌜ Searches slots part used found w r ⌝ }
 {
-    let d = to_leaf(part, servers, slots, used, w.key);
+    let d = to_leaf(part, slots, used, w.key);
     let stop = d.stop;
     let on = going(stop);
     if !on {
@@ -415,5 +377,5 @@ pub fn near(
     if found[0] as usize == w.wanted {
         return tell(part, used, w, found);
     }
-    afresh(part, servers, slots, used, w, found)
+    afresh(part, slots, used, w, found)
 }

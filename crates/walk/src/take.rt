@@ -17,18 +17,11 @@ ghost use Rattle.walk.specs.Ask.{OwnGood, WalkingOwn, Writing, over-lent
 ghost use Rattle.walk.specs.Take.{NodeTaken, FlagTaken, Wrote, Released};
 
 // "A taken slot's node is read too, and must be free."
-pub fn take_node(
-    part: &[u8],
-    servers: usize,
-    slots: usize,
-    own: &[u64],
-    used: &mut [u64],
-    name: u64,
-) -> Stop
-    requires { ⌜ WalkingOwn servers (now part) (now own) (now used) ⌝ }
-    ensures { λ r. ⌜ over-lent NodeTaken servers slots part own used name r (now (used .exit)) ⌝ }
+pub fn take_node(part: &[u8], slots: usize, own: &[u64], used: &mut [u64], name: u64) -> Stop
+    requires { ⌜ WalkingOwn (now part) (now own) (now used) ⌝ }
+    ensures { λ r. ⌜ over-lent NodeTaken slots part own used name r (now (used .exit)) ⌝ }
 {
-    let a = see_node(part, servers, slots, own, used, name);
+    let a = see_node(part, slots, own, used, name);
     let stop = a.stop;
     let node = a.node;
     let on = going(stop);
@@ -42,18 +35,11 @@ pub fn take_node(
 }
 
 // The flag of a slot to be taken: it must be free, and is then taken.
-pub fn take_flag(
-    part: &[u8],
-    servers: usize,
-    slots: usize,
-    own: &mut [u64],
-    used: &mut [u64],
-    name: u64,
-) -> Stop
-    requires { ⌜ Writing servers (now part) (now own) (now used) own-most ⌝ }
-    ensures { λ r. ⌜ over-lent FlagTaken servers slots part own used name r (now (own .exit)) (now (used .exit)) ⌝ }
+pub fn take_flag(part: &[u8], slots: usize, own: &mut [u64], used: &mut [u64], name: u64) -> Stop
+    requires { ⌜ Writing (now part) (now own) (now used) own-most ⌝ }
+    ensures { λ r. ⌜ over-lent FlagTaken slots part own used name r (now (own .exit)) (now (used .exit)) ⌝ }
 {
-    let a = see_flag(part, servers, slots, own, used, name);
+    let a = see_flag(part, slots, own, used, name);
     let stop = a.stop;
     let on = going(stop);
     if !on {
@@ -87,18 +73,11 @@ fn free_node(own: &mut [u64], name: u64)
 }
 
 // A node freed: its flag is read, and both are written.
-pub fn release(
-    part: &[u8],
-    servers: usize,
-    slots: usize,
-    own: &mut [u64],
-    used: &mut [u64],
-    name: u64,
-) -> Stop
-    requires { ⌜ Writing servers (now part) (now own) (now used) (own-most - 1) ⌝ }
-    ensures { λ r. ⌜ over-lent Released servers slots part own used name r (now (own .exit)) (now (used .exit)) ⌝ }
+pub fn release(part: &[u8], slots: usize, own: &mut [u64], used: &mut [u64], name: u64) -> Stop
+    requires { ⌜ Writing (now part) (now own) (now used) (own-most - 1) ⌝ }
+    ensures { λ r. ⌜ over-lent Released slots part own used name r (now (own .exit)) (now (used .exit)) ⌝ }
 {
-    let a = see_flag(part, servers, slots, own, used, name);
+    let a = see_flag(part, slots, own, used, name);
     let stop = a.stop;
     let on = going(stop);
     if !on {

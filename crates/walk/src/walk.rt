@@ -27,12 +27,12 @@ ghost use mathlib.Core.Bool.{true, false};
 ghost use Prim.Native.Nat.{_+_, _<_, _≤_};
 ghost use lib.ListN.{length, getD};
 ghost use Rattle.operations.specs.Object.{meta, node, flag};
-ghost use Rattle.client.specs.Record.{sizes, single};
+ghost use Rattle.client.specs.Record.{single, metadata};
 ghost use Rattle.client.specs.Sets.{held};
 ghost use Rattle.client.specs.Lent.{Lent, used-in};
 ghost use Rattle.client.specs.Bounds.{end-of-names, end-of-numbers, used-room, first-flag-number};
 ghost use Rattle.walk.specs.Walk.{goes, is-answer, over};
-ghost use Rattle.walk.specs.Ask.{Noted, OwnGood, Meets, Outside, Answer, PlacedNode, SeenNode, AskedFlag, In-part, placed-in, seen-in, nothing, popped, noted-copy, Walking, WalkingOwn, over-lent, unwritten};
+ghost use Rattle.walk.specs.Ask.{Noted, OwnGood, Meets, Outside, Answer, PlacedNode, SeenNode, AskedFlag, In-part, placed-in, seen-in, popped, noted-copy, Walking, WalkingOwn, over-lent, unwritten};
 ghost use Rattle.client.specs.Layout.{ClientPart};
 
 // How the walk of a plan goes on or ends: a lack is to be fetched, Refused is refusal 10.
@@ -58,10 +58,17 @@ pub struct Seen {
     pub node: Node,
 }
 
-// With Going: the root's name, or 1 for a slot that is taken.
+// With Going: 1 for a slot that is taken.
 pub struct Valued {
     pub stop: Stop,
     pub value: u64,
+}
+
+// With Going: the root's name, and the servers' states.
+pub struct Told {
+    pub stop: Stop,
+    pub root: u64,
+    pub states: u64,
 }
 
 pub fn going(stop: Stop) -> bool
@@ -177,17 +184,18 @@ pub fn flag_number(name: u64) -> u64
     FIRST_FLAG_NUMBER + name
 }
 
-pub fn ask_meta(part: &[u8], servers: usize, slots: usize, used: &mut [u64]) -> Valued
-    requires { ⌜ Walking servers (now part) (now used) ⌝ }
-    ensures { λ r. ⌜ unwritten Answer servers slots part used meta (r .stop) (single 0 (r .value)) (now (used .exit)) ⌝ }
+pub fn ask_meta(part: &[u8], slots: usize, used: &mut [u64]) -> Told
+    requires { ⌜ Walking (now part) (now used) ⌝ }
+    ensures { λ r. ⌜ unwritten Answer slots part used meta (r .stop) (metadata 0 (r .root) (r .states)) (now (used .exit)) ⌝ }
 {
     let s = meta_source(part);
     let how = s.how;
-    let right = meta_fits(part, servers, slots, s);
+    let right = meta_fits(slots, s);
     let stop = meet(part, used, 0, how, right, Stop::LacksMeta);
-    Valued {
+    Told {
         stop,
-        value: s.value,
+        root: s.value,
+        states: s.states,
     }
 }
 
@@ -204,12 +212,12 @@ fn place_node(part: &[u8], used: &mut [u64], name: u64) -> Placed
     Placed { stop, place: s.at }
 }
 
-pub fn ask_node(part: &[u8], servers: usize, slots: usize, used: &mut [u64], name: u64) -> Placed
-    requires { ⌜ Walking servers (now part) (now used) ⌝ }
-    ensures { λ r. ⌜ unwritten Answer servers slots part used (node name) (r .stop) (placed-in (now (part .entry)) r) (now (used .exit)) ⌝ }
+pub fn ask_node(part: &[u8], slots: usize, used: &mut [u64], name: u64) -> Placed
+    requires { ⌜ Walking (now part) (now used) ⌝ }
+    ensures { λ r. ⌜ unwritten Answer slots part used (node name) (r .stop) (placed-in (now (part .entry)) r) (now (used .exit)) ⌝ }
     ensures within { λ r. ⌜ In-part (r .place) ⌝ }
 {
-    let there = in_store(servers, slots, name);
+    let there = in_store(slots, name);
     if !there {
         let stop = ask_outside(part, used);
         return Placed { stop, place: 0 };
@@ -252,18 +260,11 @@ fn see_in_store(part: &[u8], own: &[u64], used: &mut [u64], name: u64) -> Seen
 }
 
 // A node that the operation may have written.
-pub fn see_node(
-    part: &[u8],
-    servers: usize,
-    slots: usize,
-    own: &[u64],
-    used: &mut [u64],
-    name: u64,
-) -> Seen
-    requires { ⌜ WalkingOwn servers (now part) (now own) (now used) ⌝ }
-    ensures { λ r. ⌜ over-lent Answer servers slots part own used (node name) (r .stop) (r .node) (now (used .exit)) ⌝ }
+pub fn see_node(part: &[u8], slots: usize, own: &[u64], used: &mut [u64], name: u64) -> Seen
+    requires { ⌜ WalkingOwn (now part) (now own) (now used) ⌝ }
+    ensures { λ r. ⌜ over-lent Answer slots part own used (node name) (r .stop) (r .node) (now (used .exit)) ⌝ }
 {
-    let there = in_store(servers, slots, name);
+    let there = in_store(slots, name);
     if !there {
         let stop = ask_outside(part, used);
         let node = Node::free(0);
@@ -291,18 +292,11 @@ fn ask_flag(part: &[u8], used: &mut [u64], name: u64) -> Valued
 }
 
 // A flag that the operation may have written.
-pub fn see_flag(
-    part: &[u8],
-    servers: usize,
-    slots: usize,
-    own: &[u64],
-    used: &mut [u64],
-    name: u64,
-) -> Valued
-    requires { ⌜ WalkingOwn servers (now part) (now own) (now used) ⌝ }
-    ensures { λ r. ⌜ over-lent Answer servers slots part own used (flag name) (r .stop) (single 0 (r .value)) (now (used .exit)) ⌝ }
+pub fn see_flag(part: &[u8], slots: usize, own: &[u64], used: &mut [u64], name: u64) -> Valued
+    requires { ⌜ WalkingOwn (now part) (now own) (now used) ⌝ }
+    ensures { λ r. ⌜ over-lent Answer slots part own used (flag name) (r .stop) (single 0 (r .value)) (now (used .exit)) ⌝ }
 {
-    let there = in_store(servers, slots, name);
+    let there = in_store(slots, name);
     if !there {
         let stop = ask_outside(part, used);
         return Valued { stop, value: 0 };

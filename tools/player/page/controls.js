@@ -115,15 +115,19 @@ function onKey(event) {
   deed();
 }
 
+// A step's mark in the lane of its tablet; a change of the servers is one in all lanes.
+function drawnMark(step, i, lanes) {
+  const lane = Number(step.tablet);
+  const [y, height] = step.tablet === "" ? [0, lanes] : [lane + 0.2, 0.6];
+  return y < lanes ? svg("rect", { x: i, y, width: 0.8, height, class: `mark ${step.mark}`, "data-step": i }) : null;
+}
+
 // A lane for each tablet, a mark for each step; above them signs for decisions and aborts.
 function drawTimeline() {
   const count = story.steps.length;
   const lanes = story.tablets;
   const cursor = svg("rect", { id: "cursor", x: START, y: 0, width: 1, height: lanes });
-  const marks = story.steps.map((step, i) => {
-    const lane = Number(step.tablet);
-    return lane < lanes ? svg("rect", { x: i, y: lane + 0.2, width: 0.8, height: 0.6, class: `mark ${step.mark}`, "data-step": i }) : null;
-  });
+  const marks = story.steps.map((step, i) => drawnMark(step, i, lanes));
   const signs = story.steps.map((step, i) => {
     const sign = { decision: "◆", abort: "✕" }[step.mark];
     const style = `left: ${(100 * (i + 1.4)) / (count + 1)}%`;

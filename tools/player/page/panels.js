@@ -43,13 +43,34 @@ function showServers() {
   byId("servers").replaceChildren(...Array.from({ length: story.servers }, (_, server) => serverCard(server)));
 }
 
+// Whether servers come and go in this story: only then it is said which there are.
+const serversChange = story.steps.some((step) => step.tablet === "");
+
+// What its own metadata calls a server. An absent one's metadata is not shown.
+function stateOf(server, metadata) {
+  if (!metadata) return "absent";
+  return metadata.states.open?.includes(server) ? "open" : "closing";
+}
+
+// Which servers there are by some metadata.
+function statesWords({ bad, present, open }) {
+  if (!serversChange) return "";
+  if (bad !== undefined) return `, servers ${shown({ bad })}`;
+  const closing = present.filter((server) => !open.includes(server));
+  return `, open: ${open.join(", ") || "none"}${closing.length ? `, closing: ${closing.join(", ")}` : ""}`;
+}
+
 function serverCard(server) {
   const metadata = things.get(`m/${server}`);
   const lock = things.get(`l/${server}/m`);
+  const state = stateOf(server, metadata);
+  const isNew = state !== stateOf(server, thingBefore(`m/${server}`));
+  const title = html("h3", {}, `Server ${server} `, serversChange ? badge(state, `${state}${isNew ? " changed" : ""}`) : null);
+  if (!metadata) return html("article", { class: `card s${server}` }, title);
   return html(
     "article",
     { class: `card s${server}` },
-    html("h3", {}, `Server ${server}`),
+    title,
     html(
       "p",
       { class: isChanged(`m/${server}`) || isChanged(`l/${server}/m`) ? "changed" : false },
@@ -198,7 +219,7 @@ function dropped(start) {
 
 // An object's name and what is said of it, by its letter.
 const OBJECTS = {
-  m: (_, it, version) => ["metadata", `version ${version}, root is node ${shown(it.root)}`],
+  m: (_, it, version) => ["metadata", `version ${version}, root is node ${shown(it.root)}${statesWords(it.states)}`],
   n: (name, it, version) => [`node ${name}`, `version ${version}, ${bodyWords(it)}`],
   f: (name, it) => [`flag ${name}`, it.taken === true ? "taken" : it.taken === false ? "free" : shown(it.taken)],
   v: (server, it) => [`server ${server}'s vector`, `${plural(it.taken.length, "slot")} taken`],

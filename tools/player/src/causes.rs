@@ -1,16 +1,17 @@
-//! What can be seen of an abort's cause: what the tablet used though it was old, or what others had locked.
+//! What can be seen of an abort's cause: what the tablet used though it was old, what others had locked, or that a server is absent.
 
 use crate::changes::named;
 use crate::difference::Change;
-use crate::state::{Content, Copied, Place, State};
+use crate::state::{is_there, Content, Copied, Place, State};
 use crate::words::listed;
 use gemandrolo::inspect::{Item, Lock, Object};
-use gemandrolo::{Outcome, Reason};
+use gemandrolo::{Operation, Outcome, Reason};
 use std::collections::{BTreeMap, BTreeSet};
 
 pub fn words(
     step: [u64; 6],
     outcome: Outcome,
+    given: Option<Operation>,
     before: &State,
     difference: &[Change],
 ) -> Vec<String> {
@@ -18,13 +19,37 @@ pub fn words(
         Outcome::Aborted(Reason::Differs | Reason::NoTree) => {
             let old = grown_old(before, difference);
             let said = !old.is_empty();
-            said.then(|| format!("It used what is old: {}.", listed(&old)))
-                .into_iter()
-                .collect()
+            let old = said.then(|| format!("It used what is old: {}.", listed(&old)));
+            let absent = absent(step, given, before)
+                .map(|server| format!("It asked server {server}, which is absent."));
+            old.into_iter().chain(absent).collect()
         }
         Outcome::Aborted(Reason::Busy) => in_use(step, before),
         _ => Vec::new(),
     }
+}
+
+/// The absent server that a prepare asks, or a fetch of the node to be moved. Where another fetch asks one, what led there is old.
+pub fn absent(step: [u64; 6], given: Option<Operation>, before: &State) -> Option<u64> {
+    let [kind, client, .., at] = step;
+    let asked = match (kind, given) {
+        (4, _) => Some(at),
+        (2, Some(Operation::Migrate { node, .. })) => {
+            (!has_node(before, client as usize, node)).then_some(node / 1024)
+        }
+        _ => None,
+    };
+    asked.filter(|server| !is_there(before, *server))
+}
+
+/// Whether a tablet has read a node or has a copy of it.
+fn has_node(before: &State, client: usize, number: u64) -> bool {
+    before.keys().any(|place| match place {
+        Place::Read(by, Object::Node(name)) | Place::Copy(by, Copied::Node(name)) => {
+            *by == client && name.number() == number
+        }
+        _ => false,
+    })
 }
 
 /// The old things that the abort took from the tablet: an abort drops the copies of all that was read.

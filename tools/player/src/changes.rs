@@ -2,15 +2,15 @@
 
 use crate::difference::Change;
 use crate::state::{Content, Copied, Place};
-use crate::words::listed;
-use gemandrolo::inspect::{Body, Field, Lock, Name, Node, Object, OutOfRange};
+use crate::words::{listed, servers};
+use gemandrolo::inspect::{Body, Field, Lock, Metadata, Name, Node, Object, OutOfRange};
 use std::fmt::Display;
 
-/// The sentences for a step of this client.
-pub fn words(client: u64, difference: &[Change]) -> Vec<String> {
+/// The sentences for a step of this client, if it is one's.
+pub fn words(client: Option<u64>, difference: &[Change]) -> Vec<String> {
     let mut told = Told::default();
     for change in difference {
-        told.of(client as usize, change);
+        told.of(client.map(|client| client as usize), change);
     }
     told.sentences()
 }
@@ -46,7 +46,7 @@ impl Told {
     }
 
     /// What is to be said of one change, in a step of the client `acting`.
-    fn of(&mut self, acting: usize, change: &Change) {
+    fn of(&mut self, acting: Option<usize>, change: &Change) {
         match change.place {
             Place::Metadata(server) => self.metadata(server, change),
             Place::Node(name) => self.node(name, change),
@@ -87,13 +87,17 @@ impl Told {
     }
 
     fn metadata(&mut self, server: usize, change: &Change) {
-        if let Some(Content::Metadata(new)) = &change.after {
-            let thing = format!(
-                "the root is node {}, version {}",
-                shown(new.root),
-                shown(new.version)
-            );
-            self.add(format!("Server {server} stores:"), thing, "");
+        match (&change.before, &change.after) {
+            (old, Some(Content::Metadata(new))) => {
+                let states = match old {
+                    Some(Content::Metadata(old)) if old.states == new.states => String::new(),
+                    _ => format!(", {}", which_servers(new)),
+                };
+                let (root, version) = (shown(new.root), shown(new.version));
+                let thing = format!("the root is node {root}, version {version}{states}");
+                self.add(format!("Server {server} stores:"), thing, "");
+            }
+            _ => self.add("Absent from now on:", format!("server {server}"), ""),
         }
     }
 
@@ -135,7 +139,7 @@ impl Told {
     }
 
     /// The copies of the client that applies grow old until its last apply renews them, which goes without saying.
-    fn copy(&mut self, client: usize, copied: Copied, acting: usize, change: &Change) {
+    fn copy(&mut self, client: usize, copied: Copied, acting: Option<usize>, change: &Change) {
         let thing = match copied {
             Copied::Metadata => named(Object::Metadata),
             Copied::Node(name) => named(Object::Node(name)),
@@ -148,7 +152,7 @@ impl Told {
             (Some(before), Some(after)) if !same_but_for_age(before, after) => {
                 self.add(head("renews its copy of"), thing, "");
             }
-            _ if client == acting => {}
+            _ if Some(client) == acting => {}
             _ => {
                 let thing = format!("tablet {client}'s copy of {thing}");
                 let old = is_old(&change.after);
@@ -173,6 +177,13 @@ fn stored(name: Name, node: &Node) -> String {
         }
         Body::Inner { .. } => format!("node {name} (an inner node, version {version})"),
         Body::OutOfRange { .. } => format!("node {name} (out of range)"),
+    }
+}
+
+fn which_servers(metadata: &Metadata) -> String {
+    match metadata.states {
+        Ok(states) => servers(states),
+        Err(OutOfRange(word)) => format!("the servers' states are out of range ({word})"),
     }
 }
 

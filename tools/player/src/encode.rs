@@ -5,7 +5,7 @@ use crate::ledger::Asked;
 use crate::state::{Content, Copied, Place, Standing, State};
 use crate::words;
 use gemandrolo::inspect::{
-    Body, Field, Item, Lock, Members, Metadata, Node, Object, OutOfRange, Phase, Vector,
+    Body, Field, Item, Lock, Members, Metadata, Node, Object, OutOfRange, Phase, States, Vector,
 };
 use std::fmt::Write;
 
@@ -128,7 +128,16 @@ fn metadata(it: &Metadata) -> Fields {
     vec![
         ("root", field(it.root, |name| number(name.number()))),
         ("version", field(it.version, number)),
+        ("states", field(it.states, states)),
     ]
+}
+
+/// The servers that are there, and those of them that are open.
+fn states(states: States) -> String {
+    object(&[
+        ("present", members(states.present())),
+        ("open", members(states.open())),
+    ])
 }
 
 fn node(it: &Node) -> Fields {

@@ -3,7 +3,8 @@
 
 use crate::captions::Captions;
 use crate::encode;
-use crate::schedule::FIRST_STEP_LINE;
+use crate::schedule::{tablet, FIRST_STEP_LINE};
+use crate::state::Place;
 use crate::story::{Moment, Story};
 use crate::words::numbered;
 use gemandrolo::{Outcome, Sizes};
@@ -24,7 +25,7 @@ pub fn write(story: &Story, captions: &Captions) -> String {
         PAGE,
         &[
             ("title", escaped(title)),
-            ("sizes", sizes(story.sizes)),
+            ("sizes", sizes(story)),
             ("style", STYLE.into()),
             ("steps", steps(story, captions)),
             ("story", data(story)),
@@ -54,13 +55,20 @@ fn escaped(text: &str) -> String {
         .replace('"', "&quot;")
 }
 
-fn sizes(sizes: Sizes) -> String {
+/// The sizes, and that they are those at first where servers come and go.
+fn sizes(story: &Story) -> String {
     let counted = |n: usize, noun: &str| format!("{n} {noun}{}", if n == 1 { "" } else { "s" });
+    let mut changes = story.moments.iter().map(|moment| tablet(moment.step));
+    let at_first = if changes.any(|by| by.is_none()) {
+        " at first"
+    } else {
+        ""
+    };
     format!(
-        "{} of {} each, {}",
-        counted(sizes.servers, "server"),
-        counted(sizes.slots, "slot"),
-        counted(sizes.clients, "tablet")
+        "{} of {} each{at_first}, {}",
+        counted(story.sizes.servers, "server"),
+        counted(story.sizes.slots, "slot"),
+        counted(story.sizes.clients, "tablet")
     )
 }
 
@@ -100,17 +108,24 @@ pub fn mark(moment: &Moment) -> &'static str {
     }
 }
 
+/// How many servers are shown: up to the last one that is ever there.
+fn shown_servers(story: &Story) -> usize {
+    let later = story.moments.iter().flat_map(|moment| &moment.difference);
+    let places = story.start.keys().chain(later.map(|change| &change.place));
+    let servers = places.filter_map(|place| match place {
+        Place::Metadata(server) => Some(server + 1),
+        _ => None,
+    });
+    servers.max().unwrap_or_default()
+}
+
 /// The story as JSON, for the script.
 pub fn data(story: &Story) -> String {
-    let Sizes {
-        servers,
-        slots,
-        clients,
-    } = story.sizes;
+    let Sizes { slots, clients, .. } = story.sizes;
     let count = |n: usize| n.to_string();
     let steps = story.moments.iter().enumerate().map(step_data);
     encode::object(&[
-        ("servers", count(servers)),
+        ("servers", count(shown_servers(story))),
         ("slots", count(slots)),
         ("tablets", count(clients)),
         ("start", encode::state(&story.start)),
@@ -124,10 +139,11 @@ fn step_data((number, moment): (usize, &Moment)) -> String {
         numbers.join(" ")
     };
     let [outcome, a, b] = moment.outcome.numbers();
+    let tablet = tablet(moment.step).map_or(String::new(), |client| client.to_string());
     let (set, gone) = encode::difference(&moment.difference);
     let sentences = moment.causes.iter().chain(&moment.changes);
     encode::object(&[
-        ("tablet", encode::text(&moment.step[1].to_string())),
+        ("tablet", encode::text(&tablet)),
         ("mark", encode::text(mark(moment))),
         ("line", (number + FIRST_STEP_LINE).to_string()),
         ("reads", encode::text(&spaced(&moment.step))),

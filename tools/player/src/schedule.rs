@@ -26,6 +26,11 @@ impl Schedule {
     }
 }
 
+/// The tablet that takes a step; a change of the servers is of none, whatever stands in that field.
+pub fn tablet([kind, client, ..]: [u64; 6]) -> Option<u64> {
+    (!(8..=10).contains(&kind)).then_some(client)
+}
+
 fn sizes(line: (usize, &[u8])) -> Result<Sizes, BadLine> {
     let [servers, slots, clients] = numbers(line, "the sizes are 3: servers, slots, clients")?
         .map(|size| usize::try_from(size).unwrap_or(usize::MAX));

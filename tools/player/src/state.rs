@@ -14,6 +14,7 @@ pub type State = BTreeMap<Place, Content>;
 
 #[derive(Clone, Copy, Debug, PartialEq, Eq, PartialOrd, Ord)]
 pub enum Place {
+    /// The metadata of a server that is not absent.
     Metadata(usize),
     /// A node at its home.
     Node(Name),
@@ -78,6 +79,12 @@ pub struct Standing {
     pub lost: Field<bool>,
 }
 
+/// Whether a server is not absent.
+pub fn is_there(state: &State, server: u64) -> bool {
+    let number = usize::try_from(server).unwrap_or(usize::MAX);
+    state.contains_key(&Place::Metadata(number))
+}
+
 pub fn state(view: &View, ledger: &Ledger) -> State {
     let mut state = State::new();
     for server in view.servers() {
@@ -92,10 +99,10 @@ pub fn state(view: &View, ledger: &Ledger) -> State {
 
 fn see_server(state: &mut State, view: &View, server: &Server) {
     let number = server.number();
-    state.insert(
-        Place::Metadata(number),
-        Content::Metadata(server.metadata()),
-    );
+    if server.is_there() {
+        let metadata = Content::Metadata(server.metadata());
+        state.insert(Place::Metadata(number), metadata);
+    }
     for (object, lock) in server.locks() {
         state.insert(Place::Lock(number, object), Content::Lock(lock));
     }
@@ -144,7 +151,7 @@ fn see_copies(state: &mut State, view: &View, client: &Client) {
     let mut keep = |copied, content| {
         state.insert(Place::Copy(client.number(), copied), content);
     };
-    if let Ok(Some(metadata)) = client.metadata_copy() {
+    if let Some(metadata) = client.metadata_copy() {
         keep(Copied::Metadata, held(client, Item::Metadata(metadata)));
     }
     for (name, node) in client.node_copies().flatten() {

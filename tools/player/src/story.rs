@@ -4,7 +4,7 @@ use crate::causes;
 use crate::changes;
 use crate::difference::{difference, Change};
 use crate::ledger::Ledger;
-use crate::schedule::Schedule;
+use crate::schedule::{tablet, Schedule};
 use crate::state::{state, State};
 use crate::words;
 use gemandrolo::inspect::View;
@@ -42,7 +42,7 @@ pub fn tell(schedule: &Schedule) -> Story {
     let mut before = start.clone();
     let mut moments = Vec::new();
     for step in &schedule.steps {
-        let given = ledger.last_given(step[1]);
+        let given = tablet(*step).and_then(|client| ledger.last_given(client));
         let outcome = store.step_words_into(*step, &mut output);
         ledger.note(*step, outcome, &output);
         let after = seen(&mut store, &ledger);
@@ -50,9 +50,9 @@ pub fn tell(schedule: &Schedule) -> Story {
         moments.push(Moment {
             step: *step,
             outcome,
-            words: words::sentence(schedule.sizes, *step, outcome, given, &after),
-            causes: causes::words(*step, outcome, &before, &difference),
-            changes: changes::words(step[1], &difference),
+            words: words::sentence(schedule.sizes, *step, outcome, given, [&before, &after]),
+            causes: causes::words(*step, outcome, given, &before, &difference),
+            changes: changes::words(tablet(*step), &difference),
             difference,
         });
         before = after;

@@ -1,21 +1,24 @@
 //! A step and its outcome in words: "Tablet 1 works: aborted, what it read has changed".
 
+use crate::causes::absent;
 use crate::ledger::operation;
-use crate::state::{Content, Place, State};
-use gemandrolo::{Answer, Fetched, Operation, Outcome, Reason, Refusal, Sizes};
+use crate::schedule::tablet;
+use crate::state::{is_there, Content, Copied, Place, State};
+use gemandrolo::inspect::{Item, Metadata, Object, ServerState, States};
+use gemandrolo::{Answer, Fetched, Operation, Outcome, Reason, Refusal, Sizes, MAX_SERVERS};
 
-/// The sentence for a step. `given` is the operation that waited before it, `after` what is seen after it.
+/// The sentence for a step. `given` is the operation that waited before it, `before` and `after` what is seen then.
 pub fn sentence(
     sizes: Sizes,
     step: [u64; 6],
     outcome: Outcome,
     given: Option<Operation>,
-    after: &State,
+    [before, after]: [&State; 2],
 ) -> String {
     let came_of_it = match outcome {
-        Outcome::Refused(refusal) => refused(refusal),
+        Outcome::Refused(refusal) => refused(step, refusal),
         Outcome::Done => done(step, after),
-        Outcome::Fetched(what) => fetched(what, step[1], sizes),
+        Outcome::Fetched(what) => fetched(what, step[1], sizes, before),
         Outcome::Answered(answer) => match given {
             Some(operation) => format!("answered, {}", answered(operation, answer)),
             None => "answered".into(),
@@ -24,7 +27,9 @@ pub fn sentence(
         Outcome::Decided => "decided, the transaction stands from here on".into(),
         Outcome::Applied(_) => "applied, other servers are still due".into(),
         Outcome::Committed => committed(step),
-        Outcome::Aborted(reason) => format!("aborted, {}", why_aborted(reason)),
+        Outcome::Aborted(reason) => {
+            format!("aborted, {}", why_aborted(reason, step, given, before))
+        }
     };
     format!("{}: {came_of_it}", deed(step))
 }
@@ -44,6 +49,9 @@ fn deed(step: [u64; 6]) -> String {
         5 => format!("applies at server {server}"),
         6 => "gives up".into(),
         7 => "is lost".into(),
+        8 => return format!("Server {server} is to be added"),
+        9 => return format!("Server {server} is to be closed to new nodes"),
+        10 => return format!("Server {server} is to be removed"),
         _ => format!("takes a step of kind {kind}, which there is not"),
     };
     format!("Tablet {client} {does}")
@@ -94,6 +102,12 @@ pub fn answered(operation: Operation, Answer { a, b }: Answer) -> String {
 }
 
 fn done([kind, client, ..]: [u64; 6], after: &State) -> String {
+    match kind {
+        8 => return "done, it is open".into(),
+        9 => return "done, it is closing".into(),
+        10 => return "done, it is absent".into(),
+        _ => {}
+    }
     let standing = match after.get(&Place::Client(client as usize)) {
         Some(Content::Client(standing)) => standing,
         _ => return "done".into(),
@@ -115,15 +129,25 @@ fn done([kind, client, ..]: [u64; 6], after: &State) -> String {
     }
 }
 
-fn fetched(what: Fetched, client: u64, sizes: Sizes) -> String {
+fn fetched(what: Fetched, client: u64, sizes: Sizes, before: &State) -> String {
     match what {
-        Fetched::Metadata => format!(
-            "fetched the metadata from server {}",
-            client % sizes.servers as u64
-        ),
+        Fetched::Metadata => {
+            let source = source(client, sizes, before);
+            format!("fetched the metadata from server {source}")
+        }
         Fetched::Node(name) => format!("fetched node {name} from server {}", name / 1024),
         Fetched::Vector(server) => format!("fetched the vector of server {server}"),
     }
+}
+
+/// The server that a tablet fetches the metadata from: the first that is there, counting up and round.
+fn source(client: u64, sizes: Sizes, before: &State) -> u64 {
+    let servers = MAX_SERVERS as u64;
+    let first = client % sizes.servers as u64;
+    let mut round = (first..first + servers).map(|server| server % servers);
+    round
+        .find(|server| is_there(before, *server))
+        .unwrap_or(first)
 }
 
 fn committed([kind, ..]: [u64; 6]) -> String {
@@ -135,8 +159,15 @@ fn committed([kind, ..]: [u64; 6]) -> String {
     format!("committed, {how}")
 }
 
-fn why_aborted(reason: Reason) -> &'static str {
+fn why_aborted(
+    reason: Reason,
+    step: [u64; 6],
+    given: Option<Operation>,
+    before: &State,
+) -> &'static str {
     match reason {
+        Reason::Differs if absent(step, given, before).is_some() => "the server is absent",
+        Reason::NoSlot if moves_to_one_not_open(step, given, before) => "the server is not open",
         Reason::Differs => "what it read has changed",
         Reason::Busy => "another tablet has locked what it uses",
         Reason::NoTree => "what it read can't be one tree",
@@ -148,8 +179,35 @@ fn why_aborted(reason: Reason) -> &'static str {
     }
 }
 
-fn refused(refusal: Refusal) -> String {
+/// Whether a node is to move to a server that is not open by the metadata that the tablet has read.
+fn moves_to_one_not_open(step: [u64; 6], given: Option<Operation>, before: &State) -> bool {
+    let Some(Operation::Migrate { server, .. }) = given else {
+        return false;
+    };
+    let states = tablet(step).and_then(|client| metadata_of(client as usize, before)?.states.ok());
+    states.is_some_and(|states| states.server(server as usize) != ServerState::Open)
+}
+
+/// The metadata that a tablet has read, or else its copy.
+fn metadata_of(client: usize, state: &State) -> Option<&Metadata> {
+    let places = [
+        Place::Read(client, Object::Metadata),
+        Place::Copy(client, Copied::Metadata),
+    ];
+    match places.iter().find_map(|place| state.get(place))? {
+        Content::Held {
+            item: Item::Metadata(metadata),
+            ..
+        } => Some(metadata),
+        _ => None,
+    }
+}
+
+fn refused(step: [u64; 6], refusal: Refusal) -> String {
     let why = match refusal {
+        Refusal::Unfit if tablet(step).is_none() => {
+            "a transaction is prepared or decided, and has not ended"
+        }
         Refusal::NoHead => "the memory is shorter than 64 bytes",
         Refusal::Sizes => "a size is outside its range",
         Refusal::TooShort => "the memory is too short",
@@ -162,8 +220,29 @@ fn refused(refusal: Refusal) -> String {
         Refusal::Damaged => "something stored is out of range",
         Refusal::Count => "a list has 1 to 32 pairs",
         Refusal::ShortOutput => "there is no room for so many pairs",
+        Refusal::UnfitServer => "its state does not fit, or no other server is open",
+        Refusal::SlotTaken => "a slot there is still taken",
+        Refusal::LastMetadata => "the metadata's version has come to its end",
     };
     format!("refused, {why}")
+}
+
+/// "servers 0 and 2 are open, server 1 is closing".
+pub fn servers(states: States) -> String {
+    let closing = states
+        .present()
+        .iter()
+        .filter(|s| !states.open().contains(*s));
+    let sets = [
+        ("open", states.open().iter().collect::<Vec<_>>()),
+        ("closing", closing.collect()),
+    ];
+    let said = sets.into_iter().filter(|(_, set)| !set.is_empty());
+    let words = said.map(|(what, set)| {
+        let verb = if set.len() == 1 { "is" } else { "are" };
+        format!("{} {verb} {what}", numbered("server", set.into_iter()))
+    });
+    words.collect::<Vec<_>>().join(", ")
 }
 
 /// "server 1", "servers 0 and 2", "servers 0, 1 and 2".

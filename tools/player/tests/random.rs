@@ -24,6 +24,7 @@ fn taste(random: &mut Random) -> Taste {
         migrates: random.pick(&[0, 5]),
         lists: random.pick(&[0, 10]),
         noise: random.pick(&[0, 5]),
+        changes: random.pick(&[0, 20]),
         length: random.pick(&[1, 3, 10]),
     }
 }
@@ -117,6 +118,7 @@ fn aborts_have_causes() {
             migrates: 8,
             lists: 3,
             noise: 2,
+            changes: random.pick(&[0, 15]),
             length: random.pick(&[1, 2]),
         };
         let (schedule, ..) = played(&mut random, sizes, taste);
@@ -151,6 +153,7 @@ fn a_page_is_small() {
             migrates: 2,
             lists: 3,
             noise: 0,
+            changes: 10,
             length,
         };
         let (schedule, ..) = played(&mut Random(seed as u64), sizes, taste);

@@ -1,13 +1,24 @@
 //! The layout of the memory as docs/DECISIONS.md, 8 has it: for reading the tree off, and for damaging one thing at a time.
 
 use super::Random;
-use gemandrolo::Sizes;
+use gemandrolo::{Sizes, MAX_SERVERS};
 use std::ops::Range;
 
 const HEAD_WORDS: usize = 8;
 const CLIENT_WORDS: usize = 7223;
 const RECORD_WORDS: usize = 33;
 const VECTORS: usize = 7087;
+
+/// The words of a server's part before its rows, one row for each slot number.
+pub const ROWS: usize = 20;
+pub const ROW_WORDS: usize = 50;
+
+/// The first words of a server's part.
+pub const ROOT: usize = 0;
+pub const METADATA_VERSION: usize = 1;
+pub const STATES: usize = 2;
+pub const METADATA_LOCK: usize = 3;
+pub const VECTOR: usize = 4;
 
 /// The fields of a client's part.
 pub const PHASE: usize = 0;
@@ -21,7 +32,7 @@ pub const APPLIED: usize = 7;
 pub const LOST: usize = 9;
 pub const READS: usize = 10;
 pub const WRITES: usize = 11;
-pub const META_COPIED: usize = 12;
+pub const META_STATES: usize = 12;
 pub const META_ROOT: usize = 13;
 pub const META_VERSION: usize = 14;
 
@@ -89,7 +100,7 @@ pub fn set_word(memory: &mut [u8], i: usize, v: u64) {
 }
 
 fn server_words(sizes: Sizes) -> usize {
-    19 + 50 * sizes.slots
+    ROWS + ROW_WORDS * sizes.slots
 }
 
 pub fn server_at(sizes: Sizes, server: usize) -> usize {
@@ -97,7 +108,7 @@ pub fn server_at(sizes: Sizes, server: usize) -> usize {
 }
 
 pub fn client_at(sizes: Sizes, client: usize) -> usize {
-    server_at(sizes, sizes.servers) + CLIENT_WORDS * client
+    server_at(sizes, MAX_SERVERS) + CLIENT_WORDS * client
 }
 
 pub fn words(sizes: Sizes) -> usize {
@@ -159,17 +170,24 @@ fn home(name: u64) -> usize {
 
 /// Where a server's part has what is in the row of a name's slot: the node, the flag's lock, the table, the nodes' locks.
 fn row_at(sizes: Sizes, server: usize, name: u64) -> usize {
-    server_at(sizes, server) + 19 + 50 * (name % 1024) as usize
+    server_at(sizes, server) + ROWS + ROW_WORDS * (name % 1024) as usize
 }
 
 pub fn node_at(sizes: Sizes, name: u64) -> usize {
     row_at(sizes, home(name), name)
 }
 
+/// The versions in a server's table, of all servers' nodes.
+pub fn table_at(sizes: Sizes, server: usize) -> Vec<usize> {
+    let row = |slot| row_at(sizes, server, slot as u64) + 34;
+    let rows = (0..sizes.slots).map(row);
+    rows.flat_map(|first| first..first + MAX_SERVERS).collect()
+}
+
 /// An object's lock at a server.
 pub fn lock_at(sizes: Sizes, server: usize, object: u64) -> usize {
     match object {
-        METADATA => server_at(sizes, server) + 2,
+        METADATA => server_at(sizes, server) + METADATA_LOCK,
         1..=8192 => row_at(sizes, server, object - 1) + 42 + home(object - 1),
         _ => row_at(sizes, server, object - 8193) + 33,
     }
@@ -178,7 +196,7 @@ pub fn lock_at(sizes: Sizes, server: usize, object: u64) -> usize {
 /// The version that a server compares with the one read: the metadata's, an inner node's in the table, another node's own.
 pub fn version_at(sizes: Sizes, server: usize, object: u64, inner: bool) -> usize {
     match object {
-        METADATA => server_at(sizes, server) + 1,
+        METADATA => server_at(sizes, server) + METADATA_VERSION,
         _ if inner => row_at(sizes, server, object - 1) + 34 + home(object - 1),
         _ => node_at(sizes, object - 1) + VERSION,
     }
@@ -217,16 +235,37 @@ pub fn clients_from(sizes: Sizes) -> usize {
     8 * client_at(sizes, 0)
 }
 
-/// The pairs of the leaves, left to right, under the root that all servers' metadata name. Fails where they are no B-tree.
-pub fn pairs(memory: &[u8], sizes: Sizes) -> Vec<(u64, u64)> {
-    let root = word(memory, server_at(sizes, 0));
-    for server in 1..sizes.servers {
-        assert_eq!(
-            word(memory, server_at(sizes, server)),
-            root,
-            "the root by server {server}"
-        );
+/// The states by a server's own metadata.
+fn states(memory: &[u8], sizes: Sizes, server: usize) -> u64 {
+    word(memory, server_at(sizes, server) + STATES)
+}
+
+/// The servers that their own metadata doesn't call absent.
+pub fn present(memory: &[u8], sizes: Sizes) -> Vec<usize> {
+    let is_there = |server: &usize| states(memory, sizes, *server) >> server & 1 == 1;
+    (0..MAX_SERVERS).filter(is_there).collect()
+}
+
+/// Those of them that are open.
+pub fn open(memory: &[u8], sizes: Sizes) -> Vec<usize> {
+    let mut open = present(memory, sizes);
+    open.retain(|server| states(memory, sizes, *server) >> (8 + server) & 1 == 1);
+    open
+}
+
+/// The root that all servers that are there name.
+fn root(memory: &[u8], sizes: Sizes) -> u64 {
+    let by = |server: usize| word(memory, server_at(sizes, server) + ROOT);
+    let servers = present(memory, sizes);
+    for server in &servers {
+        assert_eq!(by(*server), by(servers[0]), "the root by server {server}");
     }
+    by(servers[0])
+}
+
+/// The pairs of the leaves, left to right, under that root. Fails where they are no B-tree.
+pub fn pairs(memory: &[u8], sizes: Sizes) -> Vec<(u64, u64)> {
+    let root = root(memory, sizes);
     let mut out = Vec::new();
     let level = word(memory, node_at(sizes, root) + 1);
     below(memory, sizes, root, level, true, &mut out);
@@ -236,7 +275,7 @@ pub fn pairs(memory: &[u8], sizes: Sizes) -> Vec<(u64, u64)> {
 
 /// The leaf that a key belongs to.
 pub fn leaf_of(memory: &[u8], sizes: Sizes, key: u64) -> u64 {
-    let mut name = word(memory, server_at(sizes, 0));
+    let mut name = root(memory, sizes);
     loop {
         let at = node_at(sizes, name);
         if word(memory, at + LEVEL) == 0 {
@@ -265,6 +304,10 @@ fn below(
         "the kind of node {name}"
     );
     assert_eq!(word(memory, at + 1), level, "the level of node {name}");
+    assert!(
+        present(memory, sizes).contains(&home(name)),
+        "node {name} is on a server that is there"
+    );
     let least = if !root { 7 } else { (level > 0) as usize };
     assert!(
         (least..=14).contains(&count),
@@ -298,8 +341,10 @@ pub const TARGETS: [&str; 12] = [
 ];
 
 pub fn place(random: &mut Random, sizes: Sizes, target: usize) -> usize {
-    let server = server_at(sizes, random.index(sizes.servers));
-    let row = server + 19 + 50 * low(random, sizes.slots);
+    let any = random.index(MAX_SERVERS);
+    let opened = random.index(sizes.servers);
+    let server = server_at(sizes, random.pick(&[opened, opened, any]));
+    let row = server + ROWS + ROW_WORDS * low(random, sizes.slots);
     let client = client_at(sizes, random.index(sizes.clients));
     let within = |random: &mut Random, range: Range<usize>| range.start + random.index(range.len());
     let items = |random: &mut Random, set: Set| {
@@ -311,12 +356,12 @@ pub fn place(random: &mut Random, sizes: Sizes, target: usize) -> usize {
     };
     match target {
         0 => random.index(HEAD_WORDS),
-        1 => server + random.index(3),
-        2 => server + 3 + random.index(sizes.slots.div_ceil(64)),
+        1 => server + random.index(VECTOR),
+        2 => server + VECTOR + random.index(sizes.slots.div_ceil(64)),
         3 => row + random.index(33),
         4 => row + 33,
-        5 => row + 34 + random.index(sizes.servers),
-        6 => row + 42 + random.index(sizes.servers),
+        5 => row + 34 + random.index(MAX_SERVERS),
+        6 => row + 42 + random.index(MAX_SERVERS),
         7 => client + random.index(15),
         8 => client + items(random, Set::Reads),
         9 => client + items(random, Set::Writes),

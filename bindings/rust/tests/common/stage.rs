@@ -2,7 +2,9 @@
 
 use super::layout::{self, Part, Set, Within, LAST_VERSION};
 use super::{stepped, LONGEST};
-use gemandrolo::{Fetched, Operation, Outcome, Refusal, Sizes, Step, Store, PAIR_BYTES};
+use gemandrolo::{
+    Fetched, Operation, Outcome, Refusal, Sizes, Step, Store, MAX_SERVERS, PAIR_BYTES,
+};
 
 #[derive(Clone)]
 pub struct Stage {
@@ -13,6 +15,7 @@ pub struct Stage {
 }
 
 /// What is due where a word is damaged. Words that are in none of these lists are not read.
+#[derive(Default)]
 pub struct Due {
     /// The step is refused by 10.
     pub damaged: Vec<usize>,
@@ -20,18 +23,27 @@ pub struct Due {
     pub unfit: Vec<usize>,
     /// The step is refused by 12.
     pub short: Vec<usize>,
+    /// The step is refused by 14.
+    pub slots: Vec<usize>,
+    /// The step is refused by 15.
+    pub version: Vec<usize>,
     /// The step takes the word for what it is: a key, a value, another object's number.
     pub taken: Vec<usize>,
 }
 
 const DAMAGED: Outcome = Outcome::Refused(Refusal::Damaged);
-const UNFIT: Outcome = Outcome::Refused(Refusal::Unfit);
-const SHORT: Outcome = Outcome::Refused(Refusal::ShortOutput);
 
-/// What is due of a word: that it is taken as it is, that the step is refused by 9, by 12, by 10, or that the word is not read.
+/// What is due of a word: that it is taken as it is, that the step is refused by one of these, or that the word is not read.
 const TAKEN: usize = 0;
-const JUDGED: usize = 3;
-const UNREAD: usize = 4;
+const REFUSALS: [Refusal; 5] = [
+    Refusal::Unfit,
+    Refusal::ShortOutput,
+    Refusal::SlotTaken,
+    Refusal::LastMetadata,
+    Refusal::Damaged,
+];
+const JUDGED: usize = REFUSALS.len();
+const UNREAD: usize = JUDGED + 1;
 
 impl Stage {
     pub fn new(servers: usize, slots: usize, clients: usize) -> Stage {
@@ -71,7 +83,7 @@ impl Stage {
         self.prepared(client, &[]);
         // Servers that take no part refuse.
         for kind in [4, 5] {
-            for server in 0..self.sizes.servers as u64 {
+            for server in 0..MAX_SERVERS as u64 {
                 self.taken([kind, client, 0, 0, 0, server]);
             }
         }
@@ -189,18 +201,25 @@ impl Stage {
 
     // ---- damage
 
-    /// Damages each word of the memory, one at a time, by its top bit, and takes the step: it is refused by 10, 9 or 12 where that is due and
-    /// nowhere else, for 10 also with the least number that is out of range; where the word is not read, outcome, output and all other bytes
-    /// are as without damage.
+    /// Damages each word of the memory, one at a time, by its top bit, and takes the step: it is refused by 10, 9, 12, 14 or 15 where that is
+    /// due and nowhere else, for 10 also with the least number that is out of range; where the word is not read, outcome, output and all other
+    /// bytes are as without damage.
     pub fn reads(&self, name: &str, step: Step, due: Due) {
         let mut classes = vec![UNREAD; layout::words(self.sizes)];
-        let due = [due.taken, due.unfit, due.short, due.damaged];
+        let due = [
+            due.taken,
+            due.unfit,
+            due.short,
+            due.slots,
+            due.version,
+            due.damaged,
+        ];
         for (class, places) in due.iter().enumerate() {
             places.iter().for_each(|place| classes[*place] = class);
         }
         let mut undamaged = self.clone();
         let outcome = undamaged.step(step);
-        let mut counts = [0; 5];
+        let mut counts = [0; UNREAD + 1];
         let mut trial = self.clone();
         let mut found = |place, damage, class: usize| {
             layout::set_word(&mut trial.memory, place, damage);
@@ -210,8 +229,8 @@ impl Stage {
             if class == TAKEN {
                 assert_ne!(found, DAMAGED, "{}", told());
             } else {
-                let outcomes = [UNFIT, SHORT, DAMAGED, outcome];
-                assert_eq!(found, outcomes[class - 1], "{}", told());
+                let refused = REFUSALS.get(class - 1).copied().map(Outcome::Refused);
+                assert_eq!(found, refused.unwrap_or(outcome), "{}", told());
                 let due = if class == UNREAD { &undamaged } else { self };
                 assert!(class == UNREAD || trial.word(place) == damage);
                 layout::set_word(&mut trial.memory, place, due.word(place));
@@ -229,28 +248,32 @@ impl Stage {
             }
             counts[class] += 1;
         }
-        let [taken, unfit, short, damaged, unread] = counts;
-        println!("{name}: {damaged} words refused by 10, {unfit} by 9, {short} by 12, {taken} taken as they are, {unread} not read");
+        let [taken, unfit, short, slots, version, damaged, unread] = counts;
+        println!("{name}: {damaged} words refused by 10, {unfit} by 9, {short} by 12, {slots} by 14, {version} by 15, {taken} taken as they are, {unread} not read");
     }
 
     /// The least number that is out of range in a word, by what the word holds.
     fn too_large(&self, place: usize) -> u64 {
-        let (slots, servers) = (self.sizes.slots as u64, self.sizes.servers as u64);
+        let slots = self.sizes.slots as u64;
         let lock = 1 << self.sizes.clients;
+        let states = self.word(place) | 1 << 16;
+        let servers = self.word(place) | 1 << MAX_SERVERS;
         let record = |at: usize, j: usize, object: u64| match j {
             layout::KIND => 3,
             layout::LEVEL => [1, 1, 5][self.word(at + layout::KIND) as usize],
             layout::VERSION => LAST_VERSION + 1,
             layout::COUNT => [1, 15, 15][self.word(at + layout::KIND) as usize],
+            _ if object == layout::METADATA && j > layout::SLOTS.start => states,
             _ if object > 8192 => 2,
             _ => slots,
         };
         match layout::part(self.sizes, place) {
             Part::Head(_) => unreachable!("no step judges the head by 10"),
-            Part::Server(_, 0) => slots,
-            Part::Server(_, 1) => LAST_VERSION + 1,
-            Part::Server(_, 2) => lock,
-            Part::Server(_, i) => match (i - 19) % 50 {
+            Part::Server(_, layout::ROOT) => slots,
+            Part::Server(_, layout::METADATA_VERSION) => LAST_VERSION + 1,
+            Part::Server(_, layout::STATES) => states,
+            Part::Server(_, layout::METADATA_LOCK) => lock,
+            Part::Server(_, i) => match (i - layout::ROWS) % layout::ROW_WORDS {
                 j if j < layout::SLOTS.end => record(place - j, j, layout::node(0)),
                 34..=41 => LAST_VERSION + 1,
                 _ => lock,
@@ -258,13 +281,12 @@ impl Stage {
             Part::Client(_, i) if i < layout::FIELDS => match i {
                 layout::PHASE => 4,
                 layout::OP => 8,
-                layout::OP_SERVER => servers,
-                layout::PARTICIPANTS | layout::PREPARED | layout::APPLIED => {
-                    self.word(place) | 1 << servers
-                }
+                layout::OP_SERVER => MAX_SERVERS as u64,
+                layout::PARTICIPANTS | layout::PREPARED | layout::APPLIED => servers,
                 layout::READS => 97,
                 layout::WRITES => 49,
-                layout::LOST | layout::META_COPIED => 2,
+                layout::LOST => 2,
+                layout::META_STATES => states,
                 layout::META_VERSION => LAST_VERSION + 1,
                 _ => slots,
             },

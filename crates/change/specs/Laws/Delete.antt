@@ -16,7 +16,6 @@ use Rattle.nodes.specs.Node.{keysOf, made}
 use Rattle.nodes.specs.Entries.{entriesOf, wide-entries}
 use Rattle.nodes.specs.Change.{take-out}
 use Rattle.nodes.specs.Laws.Kept.{take-out-entries}
-use Rattle.operations.specs.Slot.{TreeSizes}
 use Rattle.operations.specs.Entry.{Entries, place-in}
 use Rattle.operations.specs.Path.{TreePlan, Branch}
 use Rattle.operations.specs.Change.{delete-at, delete-plan}
@@ -59,7 +58,7 @@ without-few n d e h = omega arith
 pub ruleset without-exits = (without-is, without-few)
 
 -- ---- at the leaf
-module _ (z : TreeSizes) (b u : List ℕ) (key : ℕ) (way-down : Descent) (u₁ : List ℕ) (h : Descends z (held b) u key (arrival b way-down) u₁) (on : Bool) (po : on ≡ goes (way-down .stop)) (nb : not on ≡ false) (k : KeyPlace) (p : k ≡ key-place (keysOf (node-at (view b) (way-down .place))) key) where
+module _ (slots : ℕ) (b u : List ℕ) (key : ℕ) (way-down : Descent) (u₁ : List ℕ) (h : Descends slots (held b) u key (arrival b way-down) u₁) (on : Bool) (po : on ≡ goes (way-down .stop)) (nb : not on ≡ false) (k : KeyPlace) (p : k ≡ key-place (keysOf (node-at (view b) (way-down .place))) key) where
   abbrev d : Arrival
   d = arrival b way-down
 
@@ -67,17 +66,17 @@ module _ (z : TreeSizes) (b u : List ℕ) (key : ℕ) (way-down : Descent) (u₁
   lo = low (way d)
 
   leaf : AtLeaf (d .node)
-  leaf = ended-leaf z d (change-ended z b u key way-down u₁ h on po nb)
+  leaf = ended-leaf slots d (change-ended slots b u key way-down u₁ h on po nb)
 
   in-leaf : place-in key (entriesOf (d .node) lo) ≡ k
   in-leaf = leaf-place (d .node) lo key (leaf .whole) (leaf .leaf) ∙ sym p
 
   abbrev plan : List Branch → ℕ → Entries → TreePlan
-  plan fs n es = delete-at z fs n es (place-in key es)
+  plan fs n es = delete-at slots fs n es (place-in key es)
 
-  pub delete-nothing : k .there ≡ false → (s : Stop) (u′ : List ℕ) (c : Changed) → Ends (held b) u₁ 0 0 s u′ → c .stop ≡ s → Changes z b u (delete-plan z key) c u′
+  pub delete-nothing : k .there ≡ false → (s : Stop) (u′ : List ℕ) (c : Changed) → Ends (held b) u₁ 0 0 s u′ → c .stop ≡ s → Changes slots b u (delete-plan slots key) c u′
   delete-nothing e s u′ c q t =
-      change-none z b u key way-down u₁ h on po nb plan 0 0 s u′ c (rw (in-leaf, e)) q t
+      change-none slots b u key way-down u₁ h on po nb plan 0 0 s u′ c (rw (in-leaf, e)) q t
 
   module _ (yes : k .there ≡ true) (w : Within k (node-at (view b) (way-down .place) .count)) where
     abbrev i : ℕ
@@ -93,11 +92,11 @@ module _ (z : TreeSizes) (b u : List ℕ) (key : ℕ) (way-down : Descent) (u₁
     delete-inside n q = rw q within
 
     pub deleted : (l : Node) (n : Wide) → Path-in-part (way-down .path) → l ≡ node-at (view b) (way-down .place) → n ≡ widened (take-out l i)
-        → Changes z b u (delete-plan z key) (record { stop = way-down .stop; way = way-down; content = n; a = 1 }) u₁
+        → Changes slots b u (delete-plan slots key) (record { stop = way-down .stop; way = way-down; content = n; a = 1 }) u₁
     unfolding rise-plan
     deleted l n w′ pl pl′ =
         let pn : n ≡ widened (take-out (d .node) i) = rw pl at pl′ in
         let o : wide-entries n lo ≡ remove-at i (entriesOf (d .node) lo) = rw pn (out-entries (d .node) leaf i within lo) in
-        change-on z b u key way-down u₁ h on po nb plan n 1 w′ (rw pn (out-content (d .node) leaf i within)) (rw (in-leaf, yes, ← o))
+        change-on slots b u key way-down u₁ h on po nb plan n 1 w′ (rw pn (out-content (d .node) leaf i within)) (rw (in-leaf, yes, ← o))
 
 pub ruleset delete-exits = (change-stops, change-noted, change-few, leaf-few, delete-nothing, delete-behind, delete-inside, deleted)

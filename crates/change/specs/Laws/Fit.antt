@@ -3,7 +3,7 @@ use mathlib.Core.Path.{_≡_, refl, sym, _∙_}
 use mathlib.Core.Bool.{Bool, true, false, cond, _&&_}
 use mathlib.Core.List.{List, [], _∷_, _++_}
 use mathlib.Core.Option.{Option, none, some}
-use Prim.Native.Nat.{ℕ, _≤_, _<_}
+use Prim.Native.Nat.{ℕ, _<_}
 use native.Mathlib.Omega.{arith}
 use native.Mathlib.Decide.{decLe, ℕ-discrete}
 use lib.Dec.{eqb, leb}
@@ -16,8 +16,7 @@ use Rattle.nodes.specs.Node.{made}
 use Rattle.nodes.specs.Laws.Node.{keys-made}
 use Rattle.operations.specs.Object.{Obj, meta, node, flag, Val, root, body, taken, flags, Writes, hit, written-value}
 use Rattle.operations.specs.Operation.{fits?, all-fit?}
-use Rattle.operations.specs.Slot.{TreeSizes}
-use Rattle.client.specs.Record.{number, object-in-store, record-of, single}
+use Rattle.client.specs.Record.{number, object-in-store, record-of, single, metadata}
 use Rattle.client.specs.Lent.{Entry}
 use Rattle.client.specs.Answered.{put-entry, entered}
 use Rattle.walk.specs.Ask.{write-of}
@@ -49,8 +48,8 @@ unfolding record-fits
 made-fits k l ks vs = rw (keys-made k l 0 ks vs, made-level k l ks vs, at-most-four l)
 
 value-fits : (v : Val) → record-fits (record-of 0 v) ≡ fits? v
-unfolding record-of single
-value-fits (root r) = made-fits 0 0 [] (r ∷ [])
+unfolding record-of single metadata
+value-fits (root r st) = made-fits 0 0 [] (r ∷ st ∷ [])
 value-fits (body k l ks vs) = made-fits k l ks vs
 value-fits (taken b) = made-fits 0 0 [] (one-if b ∷ [])
 value-fits (flags fs) = made-fits 0 0 [] []
@@ -118,8 +117,8 @@ all-fits (f ∷ l) o h = rw (h (f .0) (f .1) (rw (eq-eqb (f .0) (f .0) refl)), a
 
 -- ---- the writes by object
 -- all written objects are in the store
-abbrev Stored : TreeSizes → Writes → Type 0
-Stored z w = (o : Obj) → object-in-store z o ≡ false → write-of w o ≡ none
+abbrev Stored : ℕ → Writes → Type 0
+Stored slots w = (o : Obj) → object-in-store slots o ≡ false → write-of w o ≡ none
 
 hit-self : (o : Obj) → hit o o ≡ true
 hit-self meta = refl
@@ -132,15 +131,15 @@ none-some v e = let z : _≡_ {A = ℕ} 0 1 = cc in absurd (omega arith)
 newest : (e : Obj × Val) (w : Writes) → write-of (e ∷ w) (e .0) ≡ some (e .1)
 newest e w = rw (hit-self (e .0))
 
-stored-head : (z : TreeSizes) (e : Obj × Val) (w : Writes) → Stored z (e ∷ w) → object-in-store z (e .0) ≡ true
-stored-head z e w h = go (object-in-store z (e .0)) refl
+stored-head : (slots : ℕ) (e : Obj × Val) (w : Writes) → Stored slots (e ∷ w) → object-in-store slots (e .0) ≡ true
+stored-head slots e w h = go (object-in-store slots (e .0)) refl
   where
-    go : (b : Bool) → object-in-store z (e .0) ≡ b → object-in-store z (e .0) ≡ true
+    go : (b : Bool) → object-in-store slots (e .0) ≡ b → object-in-store slots (e .0) ≡ true
     go true p = p
     go false p = none-some (e .1) (sym (h (e .0) p) ∙ newest e w)
 
-stored-tail : (z : TreeSizes) (e : Obj × Val) (w : Writes) → Stored z (e ∷ w) → Stored z w
-stored-tail z e w h o p = go (hit (e .0) o) refl
+stored-tail : (slots : ℕ) (e : Obj × Val) (w : Writes) → Stored slots (e ∷ w) → Stored slots w
+stored-tail slots e w h o p = go (hit (e .0) o) refl
   where
     go : (b : Bool) → hit (e .0) o ≡ b → write-of w o ≡ none
     go true q = none-some (e .1) (sym (h o p) ∙ rw q)
@@ -176,37 +175,37 @@ abbrev as-record : Option Val → Option Node
 as-record none = none
 as-record (some v) = some (record-of 0 v)
 
-module _ (z : TreeSizes) (eight : z .servers ≤ 8) where
-  entry-is : (w : Writes) → Stored z w → (o : Obj) → object-in-store z o ≡ true → entry-of (entered w) (number o) ≡ as-record (write-of w o)
+module _ (slots : ℕ) where
+  entry-is : (w : Writes) → Stored slots w → (o : Obj) → object-in-store slots o ≡ true → entry-of (entered w) (number o) ≡ as-record (write-of w o)
   unfolding entered
   entry-is [] s o t = refl
-  entry-is (e ∷ w) s o t = go (hit (e .0) o) refl (entry-is w (stored-tail z e w s) o t)
+  entry-is (e ∷ w) s o t = go (hit (e .0) o) refl (entry-is w (stored-tail slots e w s) o t)
     where
       go : (b : Bool) → hit (e .0) o ≡ b → entry-of (entered w) (number o) ≡ as-record (write-of w o) → entry-of (entered (e ∷ w)) (number o) ≡ as-record (write-of (e ∷ w) o)
       go true p ih = rw (p, ← hit-same (e .0) o p) (entry-put (number (e .0)) (record-of 0 (e .1)) (entered w))
       go false p ih =
-          let d : eqb (number (e .0)) (number o) ≡ false = sym (hit-is z eight (e .0) o (stored-head z e w s) t) ∙ p in
+          let d : eqb (number (e .0)) (number o) ≡ false = sym (hit-is slots (e .0) o (stored-head slots e w s) t) ∙ p in
           rw p (entry-other (number (e .0)) (number o) (record-of 0 (e .1)) (entered w) (eqb-false (number (e .0)) (number o) d) ∙ ih)
 
   -- an entry is of a written object
   pub record Owner (w : Writes) (k : ℕ) : Type 0 where
     pub owner : Obj
     pub named : number owner ≡ k
-    pub there : object-in-store z owner ≡ true
+    pub there : object-in-store slots owner ≡ true
 
-  owned : (w : Writes) → Stored z w → (k : ℕ) (r : Node) → entry-of (entered w) k ≡ some r → Owner w k
+  owned : (w : Writes) → Stored slots w → (k : ℕ) (r : Node) → entry-of (entered w) k ≡ some r → Owner w k
   unfolding entered
   owned [] s k r p = let c : _≡_ {A = ℕ} 0 1 = cc in absurd (omega arith)
-  owned (e ∷ w) s k r p = go (ℕ-discrete (number (e .0)) k) (owned w (stored-tail z e w s) k r)
+  owned (e ∷ w) s k r p = go (ℕ-discrete (number (e .0)) k) (owned w (stored-tail slots e w s) k r)
     where
       go : Dec (number (e .0) ≡ k) → (entry-of (entered w) k ≡ some r → Owner w k) → Owner (e ∷ w) k
-      go (yes q) ih = record { owner = e .0; named = q; there = stored-head z e w s }
+      go (yes q) ih = record { owner = e .0; named = q; there = stored-head slots e w s }
       go (no d) ih = let o = ih (sym (entry-other (number (e .0)) k (record-of 0 (e .1)) (entered w) d) ∙ p) in record { owner = o .owner; named = o .named; there = o .there }
 
-  pub all-fit-entries : (w : Writes) → Stored z w → all-fit? w w ≡ entries-fit (entered w)
+  pub all-fit-entries : (w : Writes) → Stored slots w → all-fit? w w ≡ entries-fit (entered w)
   all-fit-entries w s = go (entries-fit (entered w)) refl (all-fit? w w) refl
     where
-      fit-value : entries-fit (entered w) ≡ true → (o : Obj) (v : Val) → write-of w o ≡ some v → (b : Bool) → object-in-store z o ≡ b → fits? (written-value w o) ≡ true
+      fit-value : entries-fit (entered w) ≡ true → (o : Obj) (v : Val) → write-of w o ≡ some v → (b : Bool) → object-in-store slots o ≡ b → fits? (written-value w o) ≡ true
       fit-value h o v p true t =
           rw (value-is w o v p) (sym (value-fits v) ∙ each-fits (entered w) (number o) (record-of 0 v) h (entry-is w s o t ∙ rw p))
       fit-value h o v p false t = none-some v (sym (s o t) ∙ p)
@@ -221,7 +220,7 @@ module _ (z : TreeSizes) (eight : z .servers ≤ 8) where
           rw (← d, value-fits v, ← value-is w (o .owner) v q) (each-written w w h (o .owner) v q)
 
       go : (a : Bool) → entries-fit (entered w) ≡ a → (b : Bool) → all-fit? w w ≡ b → all-fit? w w ≡ entries-fit (entered w)
-      go true p b q = rw p (all-written w w (λ o v e. fit-value p o v e (object-in-store z o) refl))
+      go true p b q = rw p (all-written w w (λ o v e. fit-value p o v e (object-in-store slots o) refl))
       go false p true q =
           let t : entries-fit (entered w) ≡ true = all-fits (entered w) (once-entered w) (λ k r e. let o = owned w s k r e in of-owner q k r e o (write-of w (o .owner)) refl) in
           q ∙ sym t

@@ -12,7 +12,7 @@ use Rattle.nodes.specs.Node.{extra, made, parent-of}
 use Rattle.nodes.specs.Laws.Node.{keys-made, slots-made}
 use Rattle.nodes.specs.Entries.{wide-entries}
 use Rattle.operations.specs.Object.{node, flag, taken, Writes}
-use Rattle.operations.specs.Slot.{TreeSizes, take-for, take-node}
+use Rattle.operations.specs.Slot.{take-for, take-node}
 use Rattle.operations.specs.Entry.{Entries, node-value, fewest-entries}
 use Rattle.operations.specs.Path.{TreePlan, Branch}
 use Rattle.operations.specs.Change.{with-two, parted}
@@ -26,7 +26,7 @@ use Rattle.walk.specs.Walk.{goes, walked, carry}
 use Rattle.walk.specs.Ask.{OwnGood, Holds-writes, Noted}
 use Rattle.walk.specs.Lookup.{Ends}
 use Rattle.walk.specs.Laws.Down.{stops-not}
-use Rattle.walk.specs.Laws.Write.{name-below}
+use Rattle.walk.specs.Laws.Ask.{name-below}
 use Rattle.walk.specs.Take.{NodeTaken}
 use Rattle.walk.specs.Search.{TakenFor}
 use Rattle.change.specs.Rise.{Full, NodeWritten, Closed}
@@ -37,13 +37,13 @@ use Rattle.change.specs.Grow.{two-flags, TwoTaken, BothFree, HalvesTaken
 use Rattle.nodes.specs.Change as N
 use Rattle.plans.specs.Plan as P
 
-module _ (z : TreeSizes) (m : ClientWord → ℕ) (x u : List ℕ) (n : ℕ) (t : Taken) (x₁ u₁ : List ℕ) (q : TakenFor z m x u n t x₁ u₁) (on : Bool) (po : on ≡ goes (t .stop)) where
-  pub two-lacks : not on ≡ true → TwoTaken z m x u n (record { stop = t .stop; left = t .name; right = t .name }) x₁ u₁
+module _ (slots : ℕ) (m : ClientWord → ℕ) (x u : List ℕ) (n : ℕ) (t : Taken) (x₁ u₁ : List ℕ) (q : TakenFor slots m x u n t x₁ u₁) (on : Bool) (po : on ≡ goes (t .stop)) where
+  pub two-lacks : not on ≡ true → TwoTaken slots m x u n (record { stop = t .stop; left = t .name; right = t .name }) x₁ u₁
   two-lacks nb =
       let halts : goes (t .stop) ≡ false = sym po ∙ not-true on nb in
       record {
-        asks = λ w hold k. q .asks w hold (λ c w₁. take-for z n w₁ (λ d w₂. k c d w₂)) ∙ rw halts;
-        mute = λ w hold e. slot-lacking z m x u w hold n t x₁ u₁ q e;
+        asks = λ w hold k. q .asks w hold (λ c w₁. take-for slots n w₁ (λ d w₂. k c d w₂)) ∙ rw halts;
+        mute = λ w hold e. slot-lacking slots m x u w hold n t x₁ u₁ q e;
         holds = λ e. stops-not (t .stop) halts e;
         good = q .good;
         noted = q .noted;
@@ -65,11 +65,11 @@ module _ (z : TreeSizes) (m : ClientWord → ℕ) (x u : List ℕ) (n : ℕ) (t 
     pub two-room : getD x 0 0 < 19 → getD x₁ 0 0 < 20
     two-room h = omega (arith, q .few)
 
-    pub two-taken : (s : Taken) (x₂ u₂ : List ℕ) → TakenFor z m x₁ u₁ n s x₂ u₂ → TwoTaken z m x u n (record { stop = s .stop; left = t .name; right = s .name }) x₂ u₂
+    pub two-taken : (s : Taken) (x₂ u₂ : List ℕ) → TakenFor slots m x₁ u₁ n s x₂ u₂ → TwoTaken slots m x u n (record { stop = s .stop; left = t .name; right = s .name }) x₂ u₂
     two-taken s x₂ u₂ v =
         record {
-          asks = λ w hold k. q .asks w hold (λ c w₁. take-for z n w₁ (λ d w₂. k c d w₂)) ∙ rw going (v .asks ((flag (t .name), taken true) ∷ w) (q .holds going w hold) (λ d w₂. k (t .name) d w₂));
-          mute = λ w hold e. slot-lacking z m x₁ u₁ ((flag (t .name), taken true) ∷ w) (q .holds going w hold) n s x₂ u₂ v e;
+          asks = λ w hold k. q .asks w hold (λ c w₁. take-for slots n w₁ (λ d w₂. k c d w₂)) ∙ rw going (v .asks ((flag (t .name), taken true) ∷ w) (q .holds going w hold) (λ d w₂. k (t .name) d w₂));
+          mute = λ w hold e. slot-lacking slots m x₁ u₁ ((flag (t .name), taken true) ∷ w) (q .holds going w hold) n s x₂ u₂ v e;
           holds = λ e w hold. v .holds e ((flag (t .name), taken true) ∷ w) (q .holds going w hold);
           good = v .good;
           noted = v .noted;
@@ -83,29 +83,29 @@ two-begins x h = omega arith
 
 pub ruleset two-exits = (two-begins, two-lacks, two-good, two-noted, two-room, two-taken)
 
-module _ (z : TreeSizes) (m : ClientWord → ℕ) (x u : List ℕ) (c d : ℕ) (s : Stop) (u₁ : List ℕ) (q : NodeTaken z m x u c s u₁) (on : Bool) (po : on ≡ goes s) where
-  pub free-lacks : not on ≡ true → BothFree z m x u c d s u₁
+module _ (slots : ℕ) (m : ClientWord → ℕ) (x u : List ℕ) (c d : ℕ) (s : Stop) (u₁ : List ℕ) (q : NodeTaken slots m x u c s u₁) (on : Bool) (po : on ≡ goes s) where
+  pub free-lacks : not on ≡ true → BothFree slots m x u c d s u₁
   free-lacks nb =
       let halts : goes s ≡ false = sym po ∙ not-true on nb in
-      record { asks = λ w hold k. q .asks w hold (take-node w d k) ∙ rw halts; mute = λ w hold e. node-lacking z m x u w hold c s u₁ q e; noted = q .noted }
+      record { asks = λ w hold k. q .asks w hold (take-node w d k) ∙ rw halts; mute = λ w hold e. node-lacking slots m x u w hold c s u₁ q e; noted = q .noted }
 
-  pub both-free : not on ≡ false → (t : Stop) (u₂ : List ℕ) → NodeTaken z m x u₁ d t u₂ → BothFree z m x u c d t u₂
+  pub both-free : not on ≡ false → (t : Stop) (u₂ : List ℕ) → NodeTaken slots m x u₁ d t u₂ → BothFree slots m x u c d t u₂
   both-free nb t u₂ v =
       let going : goes s ≡ true = sym po ∙ not-false on nb in
-      record { asks = λ w hold k. q .asks w hold (take-node w d k) ∙ rw going (v .asks w hold k); mute = λ w hold e. node-lacking z m x u₁ w hold d t u₂ v e; noted = v .noted }
+      record { asks = λ w hold k. q .asks w hold (take-node w d k) ∙ rw going (v .asks w hold k); mute = λ w hold e. node-lacking slots m x u₁ w hold d t u₂ v e; noted = v .noted }
 
   pub free-noted : Noted m u₁
   free-noted = q .noted
 
 pub ruleset free-exits = (free-lacks, both-free, free-noted)
 
-module _ (z : TreeSizes) (m : ClientWord → ℕ) (x u : List ℕ) (n : ℕ) (t : Two) (x₁ u₁ : List ℕ) (q : TwoTaken z m x u n t x₁ u₁) (on : Bool) (po : on ≡ goes (t .stop)) where
-  asked : (w : Writes) → Holds-writes z x w → (k : ℕ → ℕ → Writes → TreePlan)
-      → walked z m (take-for z n w (λ c w₁. take-for z n w₁ (λ d w₂. take-node w₂ c (take-node w₂ d (k c d w₂))))) (used-in u)
-      ≡ carry (t .stop) (used-in u₁) (λ us. walked z m (take-node (two-flags t w) (t .left) (take-node (two-flags t w) (t .right) (k (t .left) (t .right) (two-flags t w)))) us)
+module _ (slots : ℕ) (m : ClientWord → ℕ) (x u : List ℕ) (n : ℕ) (t : Two) (x₁ u₁ : List ℕ) (q : TwoTaken slots m x u n t x₁ u₁) (on : Bool) (po : on ≡ goes (t .stop)) where
+  asked : (w : Writes) → Holds-writes slots x w → (k : ℕ → ℕ → Writes → TreePlan)
+      → walked slots m (take-for slots n w (λ c w₁. take-for slots n w₁ (λ d w₂. take-node w₂ c (take-node w₂ d (k c d w₂))))) (used-in u)
+      ≡ carry (t .stop) (used-in u₁) (λ us. walked slots m (take-node (two-flags t w) (t .left) (take-node (two-flags t w) (t .right) (k (t .left) (t .right) (two-flags t w)))) us)
   asked w hold k = q .asks w hold (λ c d w₂. take-node w₂ c (take-node w₂ d (k c d w₂)))
 
-  pub halves-lack : not on ≡ true → HalvesTaken z m x u n t x₁ u₁
+  pub halves-lack : not on ≡ true → HalvesTaken slots m x u n t x₁ u₁
   halves-lack nb =
       let halts : goes (t .stop) ≡ false = sym po ∙ not-true on nb in
       record {
@@ -129,7 +129,7 @@ module _ (z : TreeSizes) (m : ClientWord → ℕ) (x u : List ℕ) (n : ℕ) (t 
     pub halves-noted : Noted m u₁
     halves-noted = q .noted
 
-    pub halves-taken : (s : Stop) (u₂ : List ℕ) → BothFree z m x₁ u₁ (t .left) (t .right) s u₂ → HalvesTaken z m x u n (record { stop = s; left = t .left; right = t .right }) x₁ u₂
+    pub halves-taken : (s : Stop) (u₂ : List ℕ) → BothFree slots m x₁ u₁ (t .left) (t .right) s u₂ → HalvesTaken slots m x u n (record { stop = s; left = t .left; right = t .right }) x₁ u₂
     halves-taken s u₂ v =
         record {
           asks = λ w hold k. asked w hold k ∙ rw going₂ (v .asks (two-flags t w) (q .holds going₂ w hold) (k (t .left) (t .right) (two-flags t w)));
@@ -155,7 +155,7 @@ module _ (x : List ℕ) (c d : ℕ) (n : Wide) (sep : ℕ) (x₁ : List ℕ) (h 
   grown r p x₂ pp y =
       let e : p ≡ parent-of (n .level + 1) 0 c (N.split n 0 .sep) d = rw (h .sep-is) at pp in
       record {
-        holds = λ z w eight a b e′ hold. rw (← e) (y .holds z _ eight a (h .written .holds z w eight b e′ hold));
+        holds = λ slots w a b e′ hold. rw (← e) (y .holds slots _ a (h .written .holds slots w b e′ hold));
         kept = y .kept;
       }
 
@@ -178,9 +178,9 @@ root-value l r c sep d =
     let e : length (c ∷ d ∷ []) ≡ length (sep ∷ []) + extra 2 = refl in
     rw (keys-made 2 (suc l) 0 (sep ∷ []) (c ∷ d ∷ []), slots-made 2 (suc l) 0 (sep ∷ []) (c ∷ d ∷ []) e)
 
-module _ (z : TreeSizes) (m : ClientWord → ℕ) (x u : List ℕ) (l r : ℕ) (n : Wide) (a b : ℕ) (t : Two) (x₁ u₁ : List ℕ) (q : HalvesTaken z m x u r t x₁ u₁) (on : Bool) (po : on ≡ goes (t .stop)) where
+module _ (slots : ℕ) (m : ClientWord → ℕ) (x u : List ℕ) (l r : ℕ) (n : Wide) (a b : ℕ) (t : Two) (x₁ u₁ : List ℕ) (q : HalvesTaken slots m x u r t x₁ u₁) (on : Bool) (po : on ≡ goes (t .stop)) where
   abbrev plan : Writes → TreePlan
-  plan = root-split z (a, b, []) l r (wide-entries n 0)
+  plan = root-split slots (a, b, []) l r (wide-entries n 0)
 
   -- the root is its own branch, with nothing round it
   abbrev alone : Branch
@@ -189,16 +189,16 @@ module _ (z : TreeSizes) (m : ClientWord → ℕ) (x u : List ℕ) (l r : ℕ) (
   abbrev answer : Writes → Entries → TreePlan
   answer w es = P.done ((a, b, []), (node r, node-value (suc l) es) ∷ w)
 
-  asked-root : (w : Writes) → Holds-writes z x w → walked z m (plan w) (used-in u)
-      ≡ carry (t .stop) (used-in u₁) (λ us. walked z m
+  asked-root : (w : Writes) → Holds-writes slots x w → walked slots m (plan w) (used-in u)
+      ≡ carry (t .stop) (used-in u₁) (λ us. walked slots m
       (parted answer l (two-flags t w) alone (t .left) (take (fewest-entries l) (wide-entries n 0)) (t .right) (drop (fewest-entries l) (wide-entries n 0))) us)
   unfolding root-split
   asked-root w hold = q .asks w hold (λ c d w₂. parted answer l w₂ alone c (take (fewest-entries l) (wide-entries n 0)) d (drop (fewest-entries l) (wide-entries n 0)))
 
-  pub root-lacks : not on ≡ true → Closed z m x u plan (t .stop) x₁ u₁
+  pub root-lacks : not on ≡ true → Closed slots m x u plan (t .stop) x₁ u₁
   root-lacks nb =
       let halts : goes (t .stop) ≡ false = sym po ∙ not-true on nb in
-      stopped-closed z m x u plan (t .stop) x₁ u₁ (λ w hold. q .mute w hold halts) (λ w hold. asked-root w hold ∙ rw halts) (q .noted)
+      stopped-closed slots m x u plan (t .stop) x₁ u₁ (λ w hold. q .mute w hold halts) (λ w hold. asked-root w hold ∙ rw halts) (q .noted)
 
   module _ (nb : not on ≡ false) where
     on-going : goes (t .stop) ≡ true
@@ -213,14 +213,14 @@ module _ (z : TreeSizes) (m : ClientWord → ℕ) (x u : List ℕ) (l r : ℕ) (
     pub root-room : getD x 0 0 ≤ 12 → getD x₁ 0 0 < 18
     root-room h = omega (arith, q .few)
 
-    pub root-left : z .servers ≤ 8 → t .left < 8192
-    root-left eight = name-below z (t .left) eight (q .left-in on-going)
+    pub root-left : t .left < 8192
+    root-left = name-below slots (t .left) (q .left-in on-going)
 
-    pub root-right : z .servers ≤ 8 → t .right < 8192
-    root-right eight = name-below z (t .right) eight (q .right-in on-going)
+    pub root-right : t .right < 8192
+    root-right = name-below slots (t .right) (q .right-in on-going)
 
-    pub root-parts : z .servers ≤ 8 → in-store z r ≡ true → Full l n → (x₂ : List ℕ) → Grown x₁ r (t .left) (t .right) n x₂ → (s : Stop) (u₂ : List ℕ) → Ends m u₁ a b s u₂ → Closed z m x u plan s x₂ u₂
-    root-parts eight there k x₂ y s u₂ e =
+    pub root-parts : in-store slots r ≡ true → Full l n → (x₂ : List ℕ) → Grown x₁ r (t .left) (t .right) n x₂ → (s : Stop) (u₂ : List ℕ) → Ends m u₁ a b s u₂ → Closed slots m x u plan s x₂ u₂
+    root-parts there k x₂ y s u₂ e =
         let lv : n .level + 1 ≡ suc l = omega (arith, k .content .level) in
         record {
           more = (node r, value-of (node r) (parent-of (n .level + 1) 0 (t .left) (N.split n 0 .sep) (t .right)))
@@ -230,8 +230,8 @@ module _ (z : TreeSizes) (m : ClientWord → ℕ) (x u : List ℕ) (l r : ℕ) (
             halves-parted l n k answer (two-flags t w) alone (t .left) (t .right) 0,
             root-value l r (t .left) (N.split n 0 .sep) (t .right),
             lv,
-          ) (e .same z _ []);
-          holds = λ _ w hold. y .holds z (two-flags t w) eight there (q .left-in on-going) (q .right-in on-going) (q .holds on-going w hold);
+          ) (e .same slots _ []);
+          holds = λ _ w hold. y .holds slots (two-flags t w) there (q .left-in on-going) (q .right-in on-going) (q .holds on-going w hold);
           kept = λ _ w hold. y .kept;
           noted = e .noted;
         }

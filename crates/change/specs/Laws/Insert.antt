@@ -20,7 +20,6 @@ use Rattle.nodes.specs.Change.{wide, put-in, with-slot}
 use Rattle.nodes.specs.Kept.{Whole}
 use Rattle.nodes.specs.Laws.Kept.{made-whole, put-in-whole, put-in-entries, slot-entries}
 use Rattle.operations.specs.Map.{fresh}
-use Rattle.operations.specs.Slot.{TreeSizes}
 use Rattle.operations.specs.Entry.{Entries, value-in, with-at, with-pair}
 use Rattle.operations.specs.Path.{TreePlan, Branch, from-root}
 use Rattle.operations.specs.Change.{up, insert-plan}
@@ -32,7 +31,6 @@ use Rattle.client.specs.Sets.{held}
 use Rattle.change.specs.declared.leaf.Changed.{Changed}
 use Rattle.change.specs.declared.insert.Paired.{Paired}
 use Rattle.walk.specs.declared.walk.Stop.{Stop}
-use Rattle.client.specs.Layout.{ClientWord}
 use Rattle.client.specs.Lent.{used-in}
 use Rattle.walk.specs.Laws.Entries.{Leaf, open-leaf, extra-leaf, leaf-place, leaf-value}
 use Rattle.walk.specs.Walk.{goes}
@@ -137,27 +135,27 @@ pair-few n d e h = omega arith
 pub ruleset pair-exits = (pair-replaced, pair-new, pair-inside, pair-few, yes-behind)
 
 -- ---- a way down that ended at a leaf
-pub record Ended (z : TreeSizes) (d : Arrival) : Type 0 where
+pub record Ended (slots : ℕ) (d : Arrival) : Type 0 where
   pub high : d .top ≤ 4
   pub reached : Reached 0 d
-  pub linked : Linked z 0 (d .name) (trail (d .path) 0 (d .top - 0))
+  pub linked : Linked slots 0 (d .name) (trail (d .path) 0 (d .top - 0))
 
 abbrev pub way : Arrival → List Turn
 way d = trail (d .path) 0 (d .top - 0)
 
-module _ (z : TreeSizes) (d : Arrival) (t : Ended z d) where
+module _ (slots : ℕ) (d : Arrival) (t : Ended slots d) where
   pub ended-leaf : AtLeaf (d .node)
   ended-leaf = record { whole = t .reached .whole; leaf = open-leaf (d .node) (t .reached .opened) (t .reached .level); small = t .reached .small .keys }
 
-  ended-ready : (n : Wide) → Content 0 n → Ready z (d .top) (d .path) (d .name) n
+  ended-ready : (n : Wide) → Content 0 n → Ready slots (d .top) (d .path) (d .name) n
   ended-ready n c = record { high = t .high; size = t .reached .size; good = t .reached .good; linked = t .linked; content = c }
 
-module _ (z : TreeSizes) (b u : List ℕ) (key : ℕ) (p : Descent) (u₁ : List ℕ) (h : Descends z (held b) u key (arrival b p) u₁) (on : Bool) (po : on ≡ goes (p .stop)) where
+module _ (slots : ℕ) (b u : List ℕ) (key : ℕ) (p : Descent) (u₁ : List ℕ) (h : Descends slots (held b) u key (arrival b p) u₁) (on : Bool) (po : on ≡ goes (p .stop)) where
   abbrev d : Arrival
   d = arrival b p
 
   -- an operation that stops on the way
-  pub change-stops : (k : List Branch → ℕ → Entries → TreePlan) (c : Changed) → c .stop ≡ p .stop → not on ≡ true → Changes z b u (from-root key k) c u₁
+  pub change-stops : (k : List Branch → ℕ → Entries → TreePlan) (c : Changed) → c .stop ≡ p .stop → not on ≡ true → Changes slots b u (from-root key k) c u₁
   change-stops k c e nb =
       let halts : goes (d .stop) ≡ false = sym po ∙ not-true on nb in
       record { asks = h .asks k ∙ rw (e, halts); ready = λ t. stops-not (d .stop) halts (rw e at t); noted = h .noted }
@@ -169,44 +167,44 @@ module _ (z : TreeSizes) (b u : List ℕ) (key : ℕ) (p : Descent) (u₁ : List
     going : goes (d .stop) ≡ true
     going = sym po ∙ not-false on nb
 
-    pub change-ended : Ended z (arrival b p)
+    pub change-ended : Ended slots (arrival b p)
     change-ended = record { high = h .high; reached = h .reached going; linked = h .linked going }
 
     pub leaf-few : node-at (view b) (p .place) .count ≤ 14
-    leaf-few = ended-leaf z d change-ended .small
+    leaf-few = ended-leaf slots d change-ended .small
 
     pub pair-within : (n : Node) (k : KeyPlace) → n ≡ node-at (view b) (p .place) → Within k (node-at (view b) (p .place) .count) → Within k (n .count)
     pair-within n k e w = rw e w
 
     pub change-few : (n : Node) → n ≡ node-at (view b) (p .place) → n .count ≤ 14
-    change-few n e = rw e (ended-leaf z d change-ended .small)
+    change-few n e = rw e (ended-leaf slots d change-ended .small)
 
     -- a leaf's new content, where the plan goes up from it
     pub change-on : (k : List Branch → ℕ → Entries → TreePlan) (n : Wide) (a : ℕ) → Path-in-part (p .path) → Content 0 n
-        → k (branches (way d)) (d .name) (entriesOf (d .node) (low (way d))) ≡ rise-plan z (a, 0, []) (d .top) (d .path) (d .name) n
-        → Changes z b u (from-root key k) (record { stop = p .stop; way = p; content = n; a = a }) u₁
-    change-on k n a w c e = record { asks = h .asks k ∙ rw (going, e); ready = λ t. (ended-ready z d change-ended n c, w); noted = h .noted }
+        → k (branches (way d)) (d .name) (entriesOf (d .node) (low (way d))) ≡ rise-plan slots (a, 0, []) (d .top) (d .path) (d .name) n
+        → Changes slots b u (from-root key k) (record { stop = p .stop; way = p; content = n; a = a }) u₁
+    change-on k n a w c e = record { asks = h .asks k ∙ rw (going, e); ready = λ t. (ended-ready slots d change-ended n c, w); noted = h .noted }
 
     -- no leaf changes: the plan answers at once
     pub change-none : (k : List Branch → ℕ → Entries → TreePlan) (i j : ℕ) (s : Stop) (u′ : List ℕ) (c : Changed)
-        → k (branches (way d)) (d .name) (entriesOf (d .node) (low (way d))) ≡ P.done ((i, j, []), []) → Ends (held b) u₁ i j s u′ → c .stop ≡ s → Changes z b u (from-root key k) c u′
+        → k (branches (way d)) (d .name) (entriesOf (d .node) (low (way d))) ≡ P.done ((i, j, []), []) → Ends (held b) u₁ i j s u′ → c .stop ≡ s → Changes slots b u (from-root key k) c u′
     change-none k i j s u′ c e q t =
-        let halts : goes s ≡ false = ends-halts z (held b) u₁ i j s u′ q in
+        let halts : goes s ≡ false = ends-halts slots (held b) u₁ i j s u′ q in
         record {
-          asks = h .asks k ∙ rw (going, e, t, halts) (q .same z [] [] ∙ ended-nothing s (used-in u′));
+          asks = h .asks k ∙ rw (going, e, t, halts) (q .same slots [] [] ∙ ended-nothing s (used-in u′));
           ready = λ g. stops-not s halts (rw t at g);
           noted = q .noted;
         }
 
     -- ---- insert
     pub inserted : (v : ℕ) (n : Node) (k : KeyPlace) (q : Paired) → Path-in-part (p .path) → k ≡ key-place (keysOf (node-at (view b) (p .place))) key → n ≡ node-at (view b) (p .place) → q ≡ paired-at n key v k
-        → Changes z b u (insert-plan z key v) (record { stop = p .stop; way = p; content = q .content; a = q .a }) u₁
+        → Changes slots b u (insert-plan slots key v) (record { stop = p .stop; way = p; content = q .content; a = q .a }) u₁
     unfolding rise-plan paired
     inserted v n k q w pk pn pq =
         let pp : q ≡ paired (d .node) key v = rw (pn, pk) at pq in
-        let leaf : AtLeaf (d .node) = ended-leaf z d change-ended in
+        let leaf : AtLeaf (d .node) = ended-leaf slots d change-ended in
         let e : wide-entries (q .content) (low (way d)) ≡ with-pair key v (entriesOf (d .node) (low (way d))) = rw pp (paired-entries (d .node) leaf key v (low (way d))) in
         let a : fresh (value-in key (entriesOf (d .node) (low (way d)))) ≡ (q .a, 0, []) = rw pp (paired-answer (d .node) leaf key v (low (way d))) in
-        change-on (λ fs n es. up z (fresh (value-in key es)) zero fs [] n (with-pair key v es)) (q .content) (q .a) w (rw pp (paired-content (d .node) leaf key v)) (rw (a, ← e))
+        change-on (λ fs n es. up slots (fresh (value-in key es)) zero fs [] n (with-pair key v es)) (q .content) (q .a) w (rw pp (paired-content (d .node) leaf key v)) (rw (a, ← e))
 
 pub ruleset insert-exits = (change-stops, leaf-few, change-few, pair-within, inserted)

@@ -20,7 +20,7 @@ use Rattle.nodes.specs.Entries.{entriesOf, wide-entries}
 use Rattle.nodes.specs.Change.{take-out}
 use Rattle.nodes.specs.Laws.Kept.{length-entriesOf, take-out-entries}
 use Rattle.operations.specs.Object.{node, flag, taken, free, no-tree, Ans, Writes}
-use Rattle.operations.specs.Slot.{TreeSizes, release}
+use Rattle.operations.specs.Slot.{release}
 use Rattle.operations.specs.Entry.{Entries, keys}
 use Rattle.operations.specs.Path.{Branch}
 use Rattle.operations.specs.Change.{Go, with-one, collapsed, onward, merged}
@@ -40,7 +40,7 @@ use Rattle.walk.specs.Down.{Followed}
 use Rattle.walk.specs.Laws.Down.{stops-not}
 use Rattle.walk.specs.Lookup.{Ends}
 use Rattle.walk.specs.Take.{Wrote, Released}
-use Rattle.walk.specs.Laws.Write.{name-below}
+use Rattle.walk.specs.Laws.Ask.{name-below}
 use Rattle.walk.specs.Laws.Mute.{Mute, walked-mute, release-mute}
 use Rattle.walk.specs.Walk.{stands}
 use Rattle.change.specs.Rise.{NodeWritten, OfLevel, is-root, widened}
@@ -90,18 +90,18 @@ unfolding free-node made
 blank-few n e = rw e (omega arith)
 
 -- an answer, or one object too many
-pub ends-halts : (z : TreeSizes) (m : ClientWord → ℕ) (u : List ℕ) (a b : ℕ) (s : Stop) (u′ : List ℕ) → Ends m u a b s u′ → goes s ≡ false
-ends-halts z m u a b s u′ h = go (over m (used-in u)) refl
+pub ends-halts : (slots : ℕ) (m : ClientWord → ℕ) (u : List ℕ) (a b : ℕ) (s : Stop) (u′ : List ℕ) → Ends m u a b s u′ → goes s ≡ false
+ends-halts slots m u a b s u′ h = go (over m (used-in u)) refl
   where
-    is : walked z m (P.done ((a, b, []), [])) (used-in u) .stop ≡ s
-    is = ap (λ (t : Told). t .stop) (h .same z [] [])
+    is : walked slots m (P.done ((a, b, []), [])) (used-in u) .stop ≡ s
+    is = ap (λ (t : Told). t .stop) (h .same slots [] [])
 
     go : (o : Bool) → over m (used-in u) ≡ o → goes s ≡ false
-    go true e = ap goes (sym (sym (ap (λ (t : Told). t .stop) (full-done z m (used-in u) ((a, b, []), []) e)) ∙ is))
-    go false e = ap goes (sym (sym (ap (λ (t : Told). t .stop) (walked-done z m (used-in u) ((a, b, []), []) e)) ∙ is))
+    go true e = ap goes (sym (sym (ap (λ (t : Told). t .stop) (full-done slots m (used-in u) ((a, b, []), []) e)) ∙ is))
+    go false e = ap goes (sym (sym (ap (λ (t : Told). t .stop) (walked-done slots m (used-in u) ((a, b, []), []) e)) ∙ is))
 
 -- a node is freed, or its flag stops the walk
-module _ (z : TreeSizes) (m : ClientWord → ℕ) (x u : List ℕ) (c : ℕ) (s : Stop) (x′ u′ : List ℕ) (h : Released z m x u c s x′ u′) where
+module _ (slots : ℕ) (m : ClientWord → ℕ) (x u : List ℕ) (c : ℕ) (s : Stop) (x′ u′ : List ℕ) (h : Released slots m x u c s x′ u′) where
   pub freed-good : (on : Bool) → on ≡ goes s → not on ≡ false → OwnGood x′
   freed-good on po q = h .good (sym po ∙ not-false on q)
 
@@ -114,36 +114,36 @@ module _ (z : TreeSizes) (m : ClientWord → ℕ) (x u : List ℕ) (c : ℕ) (s 
   pub freed-more : getD x 0 0 ≤ 12 → getD x′ 0 0 < 20
   freed-more q = omega (arith, h .few)
 
-  release-stands : goes s ≡ false → (w : Writes) → Holds-writes z x w → stands s ≡ false
+  release-stands : goes s ≡ false → (w : Writes) → Holds-writes slots x w → stands s ≡ false
   unfolding Mute
   release-stands no-more w hold =
-      let e : walked z m (release w c (λ _. P.fail no-tree)) (used-in u) ≡ told s (used-in u′) = rw (h .asks w hold (λ _. P.fail no-tree), no-more) in
-      rw (ap (λ (t : Told). t .stop) e) at (walked-mute z m (release w c (λ _. P.fail no-tree)) (release-mute w c (λ _. P.fail no-tree) (λ _. tt)) (used-in u))
+      let e : walked slots m (release w c (λ _. P.fail no-tree)) (used-in u) ≡ told s (used-in u′) = rw (h .asks w hold (λ _. P.fail no-tree), no-more) in
+      rw (ap (λ (t : Told). t .stop) e) at (walked-mute slots m (release w c (λ _. P.fail no-tree)) (release-mute w c (λ _. P.fail no-tree) (λ _. tt)) (used-in u))
 
-module _ (z : TreeSizes) (m : ClientWord → ℕ) (x u : List ℕ) (a b root c : ℕ) (one : Node) (s : Stop) (x₁ u₁ : List ℕ) (h : Released z m x u c s x₁ u₁) (on : Bool) (po : on ≡ goes s) where
-  pub collapse-stops : (r : Risen) → not on ≡ true → r .stop ≡ s → Collapses z m x u (a, b, []) root c one r x₁ u₁
+module _ (slots : ℕ) (m : ClientWord → ℕ) (x u : List ℕ) (a b root c : ℕ) (one : Node) (s : Stop) (x₁ u₁ : List ℕ) (h : Released slots m x u c s x₁ u₁) (on : Bool) (po : on ≡ goes s) where
+  pub collapse-stops : (r : Risen) → not on ≡ true → r .stop ≡ s → Collapses slots m x u (a, b, []) root c one r x₁ u₁
   unfolding collapse-plan
   collapse-stops r q e =
       let f : goes s ≡ false = sym po ∙ not-true on q in
       let halt : goes (r .stop) ≡ false = rw e f in
       record {
-        raised = λ l top. stopped-raised z m x u l top (collapse-plan (a, b, []) root c one) r x₁ u₁ halt (λ w hold. rw e (release-stands z m x u c s x₁ u₁ h f w hold))
+        raised = λ l top. stopped-raised slots m x u l top (collapse-plan (a, b, []) root c one) r x₁ u₁ halt (λ w hold. rw e (release-stands slots m x u c s x₁ u₁ h f w hold))
             (λ w hold lo fs t go. rw (h .asks w hold _, f, e)) (h .noted);
         halts = halt;
       }
 
-  pub collapse-ends : (r : Risen) (x₂ : List ℕ) (e : Stop) (u₂ : List ℕ) → not on ≡ false → z .servers ≤ 8 → in-store z root ≡ true → NodeWritten x₁ root one x₂ → Ends m u₁ a b e u₂ → r .stop ≡ e
-      → Collapses z m x u (a, b, []) root c one r x₂ u₂
+  pub collapse-ends : (r : Risen) (x₂ : List ℕ) (e : Stop) (u₂ : List ℕ) → not on ≡ false → in-store slots root ≡ true → NodeWritten x₁ root one x₂ → Ends m u₁ a b e u₂ → r .stop ≡ e
+      → Collapses slots m x u (a, b, []) root c one r x₂ u₂
   unfolding collapse-plan
-  collapse-ends r x₂ e u₂ q eight t written end p =
+  collapse-ends r x₂ e u₂ q t written end p =
       let go-on : goes s ≡ true = sym po ∙ not-false on q in
-      let halt : goes e ≡ false = ends-halts z m u₁ a b e u₂ end in
+      let halt : goes e ≡ false = ends-halts slots m u₁ a b e u₂ end in
       let stop : goes (r .stop) ≡ false = rw p halt in
       record {
         raised = λ l top. record {
           more = (node root, value-of (node root) one) ∷ (node c, free) ∷ (flag c, taken false) ∷ [];
-          same = λ w hold lo fs d go. rw (h .asks w hold _, go-on, p, halt) (end .same z ((node root, value-of (node root) one) ∷ (node c, free) ∷ (flag c, taken false) ∷ w) []);
-          holds = λ d w hold. written .holds z ((node c, free) ∷ (flag c, taken false) ∷ w) eight t (h .holds go-on w hold);
+          same = λ w hold lo fs d go. rw (h .asks w hold _, go-on, p, halt) (end .same slots ((node root, value-of (node root) one) ∷ (node c, free) ∷ (flag c, taken false) ∷ w) []);
+          holds = λ d w hold. written .holds slots ((node c, free) ∷ (flag c, taken false) ∷ w) t (h .holds go-on w hold);
           kept = λ d w hold. written .kept;
           good = λ d. stops-not (r .stop) stop d;
           few = λ d. stops-not (r .stop) stop d;
@@ -177,7 +177,7 @@ merged-is a l [] go root count w f c es e n = rw (← e, ← n) (by (eqb (length
     by false t = rw t (ifd-no (ℕ-discrete (length (with-one f c)) 1) _ _ (eqb-false (length (with-one f c)) 1 t))
 merged-is a l (g ∷ fs) go root count w f c es e n = rw (← e)
 
-module _ (z : TreeSizes) (b : Turn) (s : Sides) (h : Neighbours z b s) where
+module _ (slots : ℕ) (b : Turn) (s : Sides) (h : Neighbours slots b s) where
   -- the parent's entries without the right one
   pub one-less : (lo : ℕ) → with-one (pair-in b s lo) (s .left) ≡ remove-at (suc (s .at)) (entriesOf (b .node) lo)
   one-less lo =
@@ -198,16 +198,16 @@ module _ (z : TreeSizes) (b : Turn) (s : Sides) (h : Neighbours z b s) where
       one-less lo ∙ ap (λ (k : ℕ). remove-at k (entriesOf (b .node) lo)) (sym x) ∙ sym (take-out-entries (b .node) lo (h .followed .whole) (s .at) i)
       ∙ sym (widened-entries (suc l) (take-out (b .node) (s .at)) (out-level (suc l) (b .node) (parent-level l e) (s .at) i) lo)
 
-module _ (z : TreeSizes) (m : ClientWord → ℕ) (x u : List ℕ) (root : Bool) (a c : ℕ) (b : Turn) (s : Sides) (one : Node) (h : Neighbours z b s) (stop : Stop) (x₁ u₁ : List ℕ) (freed : Released z m x u (s .right) stop x₁ u₁) (on : Bool) (po : on ≡ goes stop) where
+module _ (slots : ℕ) (m : ClientWord → ℕ) (x u : List ℕ) (root : Bool) (a c : ℕ) (b : Turn) (s : Sides) (one : Node) (h : Neighbours slots b s) (stop : Stop) (x₁ u₁ : List ℕ) (freed : Released slots m x u (s .right) stop x₁ u₁) (on : Bool) (po : on ≡ goes stop) where
   abbrev let-go : Writes
   let-go = (node (s .right), free) ∷ (flag (s .right), taken false) ∷ []
 
-  pub merge-stops : (r : Risen) → not on ≡ true → r .stop ≡ stop → Merges z m x u root (a, c, []) b s one r x₁ u₁
+  pub merge-stops : (r : Risen) → not on ≡ true → r .stop ≡ stop → Merges slots m x u root (a, c, []) b s one r x₁ u₁
   unfolding merge-plan
   merge-stops r q e =
       let f : goes stop ≡ false = sym po ∙ not-true on q in
       record {
-        raised = λ l v k. stopped-raised z m x u l root (merge-plan (a, c, []) l b s one) r x₁ u₁ (rw e f) (λ w hold. rw e (release-stands z m x u (s .right) stop x₁ u₁ freed f w hold))
+        raised = λ l v k. stopped-raised slots m x u l root (merge-plan (a, c, []) l b s one) r x₁ u₁ (rw e f) (λ w hold. rw e (release-stands slots m x u (s .right) stop x₁ u₁ freed f w hold))
             (λ w hold lo fs t go. rw (freed .asks w hold _, f, e)) (freed .noted);
       }
 
@@ -215,7 +215,7 @@ module _ (z : TreeSizes) (m : ClientWord → ℕ) (x u : List ℕ) (root : Bool)
     go-on : goes stop ≡ true
     go-on = sym po ∙ not-false on q
 
-    pub merge-collapses : (r : Risen) (x₂ u₂ : List ℕ) → t ≡ true → Collapses z m x₁ u₁ (a, c, []) (b .name) (s .left) one r x₂ u₂ → Merges z m x u root (a, c, []) b s one r x₂ u₂
+    pub merge-collapses : (r : Risen) (x₂ u₂ : List ℕ) → t ≡ true → Collapses slots m x₁ u₁ (a, c, []) (b .name) (s .left) one r x₂ u₂ → Merges slots m x u root (a, c, []) b s one r x₂ u₂
     unfolding merge-plan collapse-plan pair-of
     merge-collapses r x₂ u₂ e k = record {
       raised = λ l v lv. let d = k .raised l root in record {
@@ -223,7 +223,7 @@ module _ (z : TreeSizes) (m : ClientWord → ℕ) (x u : List ℕ) (root : Bool)
         same = λ w hold lo fs f go. rw (
           freed .asks w hold _,
           go-on,
-          merged-is (a, c, []) l fs go root (b .node .count) (let-go ++ w) (pair-in b s lo) (s .left) (entriesOf one (getD (entriesOf (b .node) lo) (s .at) (0, 0) .0)) f (one-less-length z b s h lo),
+          merged-is (a, c, []) l fs go root (b .node .count) (let-go ++ w) (pair-in b s lo) (s .left) (entriesOf one (getD (entriesOf (b .node) lo) (s .at) (0, 0) .0)) f (one-less-length slots b s h lo),
           ← pt,
           e,
           of-level-value l one (getD (entriesOf (b .node) lo) (s .at) (0, 0) .0) (b .name) lv,
@@ -238,10 +238,10 @@ module _ (z : TreeSizes) (m : ClientWord → ℕ) (x u : List ℕ) (root : Bool)
       };
     }
 
-    pub merge-goes : (x₂ : List ℕ) (p : Node) (up : Wide) → z .servers ≤ 8 → t ≡ false → SmallNode one → NodeWritten x₁ (s .left) one x₂ → p ≡ take-out (b .node) (s .at) → p .count < b .node .count
-        → up ≡ widened p → Merges z m x u root (a, c, []) b s one (record { stop = Going; up = up }) x₂ u₁
+    pub merge-goes : (x₂ : List ℕ) (p : Node) (up : Wide) → t ≡ false → SmallNode one → NodeWritten x₁ (s .left) one x₂ → p ≡ take-out (b .node) (s .at) → p .count < b .node .count
+        → up ≡ widened p → Merges slots m x u root (a, c, []) b s one (record { stop = Going; up = up }) x₂ u₁
     unfolding merge-plan
-    merge-goes x₂ p up eight e small written pp fewer pu =
+    merge-goes x₂ p up e small written pp fewer pu =
         let wrote : Wrote x₁ (node (s .left)) (value-of (node (s .left)) one) x₂ = written .wrote (small .level) in
         let is-up : up ≡ widened (take-out (b .node) (s .at)) = pu ∙ ap widened pp in
         record {
@@ -251,29 +251,29 @@ module _ (z : TreeSizes) (m : ClientWord → ℕ) (x u : List ℕ) (root : Bool)
               freed .asks w hold _,
               go-on,
               merged-is (a, c, []) l fs go root (b .node .count) (let-go ++ w) (pair-in b s lo) (s .left)
-                  (entriesOf one (pair-in b s lo .key)) f (one-less-length z b s h lo),
+                  (entriesOf one (pair-in b s lo .key)) f (one-less-length slots b s h lo),
               ← pt,
               e,
               of-level-value l one (pair-in b s lo .key) (s .left) lv,
-              goes-up z b s h l lo v,
+              goes-up slots b s h l lo v,
               is-up,
             );
-            holds = λ f w hold. wrote .holds z (let-go ++ w) eight (h .left) (freed .holds go-on w hold);
+            holds = λ f w hold. wrote .holds slots (let-go ++ w) (h .left) (freed .holds go-on w hold);
             kept = λ f w hold. written .kept;
             good = λ f. wrote .good;
             few = λ f. omega (arith, freed .few, wrote .few);
-            content = λ f. rw pu (widened-content (suc l) p (rw pp (out-level (suc l) (b .node) (parent-level z b s h l v) (s .at) (h .between .paired .inside))) (omega (arith, h .followed .small .keys)));
+            content = λ f. rw pu (widened-content (suc l) p (rw pp (out-level (suc l) (b .node) (parent-level slots b s h l v) (s .at) (h .between .paired .inside))) (omega (arith, h .followed .small .keys)));
             noted = freed .noted;
           };
         }
 
-pub left-named : (z : TreeSizes) (b : Turn) (s : Sides) → Neighbours z b s → z .servers ≤ 8 → s .left < 8192
-left-named z b s h eight = name-below z (s .left) eight (h .left)
+pub left-named : (slots : ℕ) (b : Turn) (s : Sides) → Neighbours slots b s → s .left < 8192
+left-named slots b s h = name-below slots (s .left) (h .left)
 
-pub right-named : (z : TreeSizes) (b : Turn) (s : Sides) → Neighbours z b s → z .servers ≤ 8 → s .right < 8192
-right-named z b s h eight = name-below z (s .right) eight (h .right)
+pub right-named : (slots : ℕ) (b : Turn) (s : Sides) → Neighbours slots b s → s .right < 8192
+right-named slots b s h = name-below slots (s .right) (h .right)
 
-pub parent-fewer : (z : TreeSizes) (b : Turn) (s : Sides) → Neighbours z b s → (p : Node) → p .count < b .node .count → p .count ≤ 14
-parent-fewer z b s h p q = omega (arith, h .followed .small .keys)
+pub parent-fewer : (slots : ℕ) (b : Turn) (s : Sides) → Neighbours slots b s → (p : Node) → p .count < b .node .count → p .count ≤ 14
+parent-fewer slots b s h p q = omega (arith, h .followed .small .keys)
 
 pub ruleset merge-exits = (merge-stops, freed-good, freed-some, freed-more, left-named, parent-fewer, merge-collapses, merge-goes)

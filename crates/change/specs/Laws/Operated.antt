@@ -1,19 +1,16 @@
 -- A plan that writes nothing, as an operation.
-use mathlib.Core.Path.{sym, _∙_}
 use mathlib.Core.List.{List, []}
 use Prim.Native.Nat.{ℕ}
-use Rattle.operations.specs.Slot.{TreeSizes}
 use Rattle.operations.specs.Path.{TreePlan}
 use Rattle.walk.specs.declared.walk.Stop.{Stop}
 use Rattle.client.specs.Layout.{ClientWord}
-use Rattle.client.specs.Lent.{used-in}
 use Rattle.walk.specs.Ask.{OwnGood}
 use Rattle.walk.specs.Lookup.{Walks}
 use Rattle.change.specs.Operated.{Operated}
 
 -- one that writes nothing
-pub walks-operated : (z : TreeSizes) (m : ClientWord → ℕ) (x u : List ℕ) (p : TreePlan) (s : Stop) (u′ : List ℕ) → OwnGood x → Walks z m u p s u′ [] → Operated z m x u p s x u′
-walks-operated z m x u p s u′ g h = record {
+pub walks-operated : (slots : ℕ) (m : ClientWord → ℕ) (x u : List ℕ) (p : TreePlan) (s : Stop) (u′ : List ℕ) → OwnGood x → Walks slots m u p s u′ [] → Operated slots m x u p s x u′
+walks-operated slots m x u p s u′ g h = record {
   writes = [];
   same = λ hold. h .same;
   holds = λ t hold. hold;

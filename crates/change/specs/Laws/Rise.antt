@@ -19,7 +19,6 @@ use Rattle.nodes.specs.Kept.{Whole}
 use Rattle.nodes.specs.Laws.Kept.{whole}
 use Rattle.nodes.specs.Laws.Stored.{Sized}
 use Rattle.operations.specs.Object.{node, Writes}
-use Rattle.operations.specs.Slot.{TreeSizes}
 use Rattle.operations.specs.Entry.{node-value, kind}
 use Rattle.operations.specs.Path.{TreePlan, Branch}
 use Rattle.operations.specs.Change.{Go}
@@ -34,7 +33,8 @@ use Rattle.walk.specs.Walk.{told, goes, walked}
 use Rattle.walk.specs.Lookup.{ended}
 use Rattle.walk.specs.Walk.{stands}
 use Rattle.walk.specs.Ask.{OwnGood, Holds-writes, Noted}
-use Rattle.walk.specs.Laws.Write.{name-below, few-more, holds-more}
+use Rattle.walk.specs.Laws.Ask.{name-below}
+use Rattle.walk.specs.Laws.Write.{few-more, holds-more}
 use Rattle.walk.specs.Take.{Wrote}
 use Rattle.walk.specs.Laws.Take.{wrote}
 use Rattle.walk.specs.Entries.{opens}
@@ -42,8 +42,8 @@ use Rattle.walk.specs.Laws.Entries.{stored-node}
 use Rattle.walk.specs.Laws.Down.{stops-not}
 use Rattle.change.specs.Rise.{NodeWritten, is-root, Raised, Closed, Under, OfLevel, Fitting, BothWritten, widened}
 
-pub under-name : (z : TreeSizes) (l c : ℕ) (b : Turn) → z .servers ≤ 8 → Under z l c b → c < 8192
-under-name z l c b eight un = name-below z c eight (un .link .there)
+pub under-name : (slots l c : ℕ) (b : Turn) → Under slots l c b → c < 8192
+under-name slots l c b un = name-below slots c (un .link .there)
 
 -- room for the writes of one level
 pub level-room : (x : List ℕ) → getD x 0 0 ≤ 12 → getD x 0 0 < 20
@@ -86,7 +86,7 @@ module _ (x : List ℕ) (g : OwnGood x) (few : getD x 0 0 < 20) (name k : ℕ) (
   node-written = record {
     wrote = λ l. let e : q .level ≡ n .level = ap (λ (r : Node). r .level) pq ∙ again-level in
         wrote x g few k q x′ px f qk qs (node name) (value-of (node name) n) pk is-value is-record (record { keys = few-keys; level = omega arith });
-    holds = λ z w eight t hold. rw named (holds-more z x w (node name) (value-of (node name) n) q eight g hold few t sized is-value is-record);
+    holds = λ slots w t hold. rw named (holds-more slots x w (node name) (value-of (node name) n) q g hold few t sized is-value is-record);
     kept = rw named (record { fit = rw named at f; few = few-more x (node name) q g few sized few-keys });
   }
 
@@ -104,7 +104,7 @@ module _ (x : List ℕ) (c d : ℕ) (h : Halves) (f : Fitting h) (x₁ : List �
   both-written x₂ q =
       let two = q .wrote (f .right .level) in
       record {
-        holds = λ z w eight s t hold. two .holds z ((node c, value-of (node c) (h .left)) ∷ w) eight t (one .holds z w eight s hold);
+        holds = λ slots w s t hold. two .holds slots ((node c, value-of (node c) (h .left)) ∷ w) t (one .holds slots w s hold);
         good = two .good;
         few = omega (arith, one .few, two .few);
         kept = q .kept;
@@ -149,11 +149,11 @@ stands-not : (s : Stop) {A : Type 0} → stands s ≡ false → stands s ≡ tru
 stands-not s p q = let e : false ≡ true = sym p ∙ q in let z : _≡_ {A = ℕ} 0 1 = cc in absurd (omega arith)
 
 -- some plan that never answers ends as the level does
-pub stopped-raised : (z : TreeSizes) (m : ClientWord → ℕ) (x u : List ℕ) (l : ℕ) (root : Bool) (plan : ℕ → List Branch → Writes → Go → TreePlan) (r : Risen) (x′ u′ : List ℕ) → goes (r .stop) ≡ false
-    → ((w : Writes) → Holds-writes z x w → stands (r .stop) ≡ false)
-    → ((w : Writes) → Holds-writes z x w → (lo : ℕ) (fs : List Branch) → is-root fs ≡ root → (go : Go) → walked z m (plan lo fs w go) (used-in u) ≡ told (r .stop) (used-in u′))
-    → Noted m u′ → Raised z m x u l root plan r x′ u′
-stopped-raised z m x u l root plan r x′ u′ halts mute same noted = record {
+pub stopped-raised : (slots : ℕ) (m : ClientWord → ℕ) (x u : List ℕ) (l : ℕ) (root : Bool) (plan : ℕ → List Branch → Writes → Go → TreePlan) (r : Risen) (x′ u′ : List ℕ) → goes (r .stop) ≡ false
+    → ((w : Writes) → Holds-writes slots x w → stands (r .stop) ≡ false)
+    → ((w : Writes) → Holds-writes slots x w → (lo : ℕ) (fs : List Branch) → is-root fs ≡ root → (go : Go) → walked slots m (plan lo fs w go) (used-in u) ≡ told (r .stop) (used-in u′))
+    → Noted m u′ → Raised slots m x u l root plan r x′ u′
+stopped-raised slots m x u l root plan r x′ u′ halts mute same noted = record {
   more = [];
   same = λ w hold lo fs e go. rw halts (same w hold lo fs e go ∙ sym (stopped-told (r .stop) (used-in u′) w (mute w hold)));
   holds = λ t w hold. stands-not (r .stop) (mute w hold) t;
@@ -164,9 +164,9 @@ stopped-raised z m x u l root plan r x′ u′ halts mute same noted = record {
   noted = noted;
 }
 
-pub stopped-closed : (z : TreeSizes) (m : ClientWord → ℕ) (x u : List ℕ) (plan : Writes → TreePlan) (s : Stop) (x′ u′ : List ℕ) → ((w : Writes) → Holds-writes z x w → stands s ≡ false)
-    → ((w : Writes) → Holds-writes z x w → walked z m (plan w) (used-in u) ≡ told s (used-in u′)) → Noted m u′ → Closed z m x u plan s x′ u′
-stopped-closed z m x u plan s x′ u′ mute same noted = record {
+pub stopped-closed : (slots : ℕ) (m : ClientWord → ℕ) (x u : List ℕ) (plan : Writes → TreePlan) (s : Stop) (x′ u′ : List ℕ) → ((w : Writes) → Holds-writes slots x w → stands s ≡ false)
+    → ((w : Writes) → Holds-writes slots x w → walked slots m (plan w) (used-in u) ≡ told s (used-in u′)) → Noted m u′ → Closed slots m x u plan s x′ u′
+stopped-closed slots m x u plan s x′ u′ mute same noted = record {
   more = [];
   same = λ w hold. same w hold ∙ sym (stopped-told s (used-in u′) w (mute w hold));
   holds = λ t w hold. stands-not s (mute w hold) t;

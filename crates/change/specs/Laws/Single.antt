@@ -14,7 +14,6 @@ use Rattle.nodes.specs.declared.change.Wide.{Wide}
 use Rattle.nodes.specs.Change.{narrow, with-version}
 use Rattle.nodes.specs.Entries.{wide-entries}
 use Rattle.operations.specs.Object.{Obj, node, Val, hit, Ans}
-use Rattle.operations.specs.Slot.{TreeSizes}
 use Rattle.operations.specs.Path.{TreePlan}
 use Rattle.operations.specs.Operation.{reading}
 use Rattle.operations.specs.Change.{up}
@@ -35,7 +34,8 @@ use Rattle.walk.specs.Ask.{write-of}
 use Rattle.walk.specs.Stopped.{Waiting}
 use Rattle.walk.specs.Laws.Down.{stops-not}
 use Rattle.walk.specs.Laws.Lookup.{ended-nothing}
-use Rattle.walk.specs.Laws.Write.{name-below, hit-same}
+use Rattle.walk.specs.Laws.Ask.{name-below}
+use Rattle.walk.specs.Laws.Write.{hit-same}
 use Rattle.change.specs.declared.leaf.Changed.{Changed}
 use Rattle.change.specs.declared.single.Single.{Single}
 use Rattle.change.specs.Rise.{Content}
@@ -79,25 +79,25 @@ range-many i count e =
     leb-true 7 count (rw (ne-eqb (suc i) 0 d) at (and-both (leb count 14) (eqb (suc i) 0 || leb 7 count) e .1))
 
 -- ---- the plan is to write it
-abbrev over-path : TreeSizes → Ans → List Turn → ℕ → Wide → TreePlan
-over-path z a bs c n = up z a 0 (branches bs) [] c (wide-entries n (low bs))
+abbrev over-path : ℕ → Ans → List Turn → ℕ → Wide → TreePlan
+over-path slots a bs c n = up slots a 0 (branches bs) [] c (wide-entries n (low bs))
 
-leaf-plan : (z : TreeSizes) (a : Ans) (top : ℕ) (path : List Turn) (c : ℕ) (n : Wide) → Content 0 n → in-range top (n .count) ≡ true
-    → rise-plan z a top path c n ≡ P.done (a, (node c, value-of (node c) (narrow n)) ∷ [])
+leaf-plan : (slots : ℕ) (a : Ans) (top : ℕ) (path : List Turn) (c : ℕ) (n : Wide) → Content 0 n → in-range top (n .count) ≡ true
+    → rise-plan slots a top path c n ≡ P.done (a, (node c, value-of (node c) (narrow n)) ∷ [])
 unfolding rise-plan trail top-plan level-plan branch-of
-leaf-plan z a zero path c n k e = top-written z 0 c n a k (range-few 0 (n .count) e) []
-leaf-plan z a (suc i) path c n k e =
+leaf-plan slots a zero path c n k e = top-written slots 0 c n a k (range-few 0 (n .count) e) []
+leaf-plan slots a (suc i) path c n k e =
     let q : suc i - 0 ≡ suc i = omega arith in
-    ap (λ (j : ℕ). over-path z a (trail path 0 j) c n) q
-    ∙ level-written z 0 (getD path 1 blank) c n a k (range-many i (n .count) e) (range-few (suc i) (n .count) e) (low (trail path 1 i)) (branches (trail path 1 i)) []
-    (λ w es. up z a 1 (branches (trail path 1 i)) w (getD path 1 blank .name) es)
+    ap (λ (j : ℕ). over-path slots a (trail path 0 j) c n) q
+    ∙ level-written slots 0 (getD path 1 blank) c n a k (range-many i (n .count) e) (range-few (suc i) (n .count) e) (low (trail path 1 i)) (branches (trail path 1 i)) []
+    (λ w es. up slots a 1 (branches (trail path 1 i)) w (getD path 1 blank .name) es)
 
 -- one write of an object of the store
-out-one : (z : TreeSizes) (c : ℕ) (v : Val) (o : Obj) → in-store z c ≡ true → object-in-store z o ≡ false → write-of ((node c, v) ∷ []) o ≡ none
-out-one z c v o t f = go (hit (node c) o) refl
+out-one : (slots c : ℕ) (v : Val) (o : Obj) → in-store slots c ≡ true → object-in-store slots o ≡ false → write-of ((node c, v) ∷ []) o ≡ none
+out-one slots c v o t f = go (hit (node c) o) refl
   where
     go : (b : Bool) → hit (node c) o ≡ b → write-of ((node c, v) ∷ []) o ≡ none
-    go true p = let q : true ≡ false = sym t ∙ ap (object-in-store z) (hit-same (node c) o p) ∙ f in let y : _≡_ {A = ℕ} 0 1 = cc in absurd (omega arith)
+    go true p = let q : true ≡ false = sym t ∙ ap (object-in-store slots) (hit-same (node c) o p) ∙ f in let y : _≡_ {A = ℕ} 0 1 = cc in absurd (omega arith)
     go false p = rw p
 
 -- ---- the ways out of the code that writes it
@@ -107,7 +107,7 @@ module _ (y u : List ℕ) (c : Changed) (on : Bool) (po : on ≡ goes (c .stop))
   leaf-stops nb r w =
       let halts : goes (c .stop) ≡ false = sym po ∙ not-true on nb in
       record {
-        written = λ ng z eight p u₀ h. record {
+        written = λ ng slots p u₀ h. record {
           writes = [];
           same = h .asks ∙ rw (halts, w .stop) (sym (ended-nothing (c .stop) (used-in u)));
           entries = λ t. rw (w .none);
@@ -141,11 +141,11 @@ module _ (y u : List ℕ) (c : Changed) (on : Bool) (po : on ≡ goes (c .stop))
           → LeafWritten y u c (record { stop = s; written = true; number = k; node = v }) u′
       unfolding entered put-entry with-version record-of
       leaf-one s u′ q n v pn pv cn cv k pk = record {
-        written = λ ng z eight p u₀ h. record {
+        written = λ ng slots p u₀ h. record {
           writes = (node (c .way .name), value-of (node (c .way .name)) (narrow (c .content))) ∷ [];
-          same = h .asks ∙ rw (going, leaf-plan z (c .a, 0, []) (c .way .top) (turns-in y (c .way .path)) (c .way .name) (c .content) (h .ready going .0 .content) ranges) (q .same z _ []);
+          same = h .asks ∙ rw (going, leaf-plan slots (c .a, 0, []) (c .way .top) (turns-in y (c .way .path)) (c .way .name) (c .content) (h .ready going .0 .content) ranges) (q .same slots _ []);
           entries = λ t. rw (pk, pv, pn);
-          out = λ t o e. out-one z (c .way .name) _ o (linked-there z 0 (c .way .name) (trail (turns-in y (c .way .path)) 0 (c .way .top - 0)) (h .ready going .0 .linked)) e;
+          out = λ t o e. out-one slots (c .way .name) _ o (linked-there slots 0 (c .way .name) (trail (turns-in y (c .way .path)) 0 (c .way .top - 0)) (h .ready going .0 .linked)) e;
           noted = q .noted;
         };
         few = omega (arith, leaf-few);
@@ -154,18 +154,18 @@ module _ (y u : List ℕ) (c : Changed) (on : Bool) (po : on ≡ goes (c .stop))
 pub ruleset leaf-exits = (leaf-stops, leaf-name, leaf-more, leaf-few, leaf-narrow, leaf-one)
 
 -- ---- by the operation
-module _ (z : TreeSizes) (y u : List ℕ) where
+module _ (slots : ℕ) (y u : List ℕ) where
   abbrev m : ClientWord → ℕ
   m = held y
 
-  module _ (eight : z .servers ≤ 8) (c : Changed) (u₁ : List ℕ) (h : Changes z y u (reading z (waiting (held y))) c u₁) where
+  module _ (c : Changed) (u₁ : List ℕ) (h : Changes slots y u (reading slots (waiting (held y))) c u₁) where
     pub leaf-named : Named c
-    leaf-named t = name-below z (c .way .name) eight (linked-there z 0 (c .way .name) (trail (turns-in y (c .way .path)) 0 (c .way .top - 0)) (h .ready t .0 .linked))
+    leaf-named t = name-below slots (c .way .name) (linked-there slots 0 (c .way .name) (trail (turns-in y (c .way .path)) 0 (c .way .top - 0)) (h .ready t .0 .linked))
 
-    pub single-leaf : (r : Single) (u′ : List ℕ) → LeafWritten y u₁ c r u′ → Singly z (held y) u r u′
-    single-leaf r u′ q = record { written = λ ng. q .written ng z eight (reading z (waiting m)) u h; few = q .few }
+    pub single-leaf : (r : Single) (u′ : List ℕ) → LeafWritten y u₁ c r u′ → Singly slots (held y) u r u′
+    single-leaf r u′ q = record { written = λ ng. q .written ng slots (reading slots (waiting m)) u h; few = q .few }
 
-  pub single-moves : (r : Single) → Unwritten Going r → Singly z (held y) u r u
+  pub single-moves : (r : Single) → Unwritten Going r → Singly slots (held y) u r u
   single-moves r w = record { written = λ ng. stops-not (r .stop) ng (rw (w .stop)); few = w .few }
 
 pub ruleset single-operation = (leaf-named, single-leaf, single-moves)
@@ -191,14 +191,14 @@ answer-stops Refused e = refl
 answer-stops (Aborts y) e = refl
 answer-stops (Answers a b) e = refl
 
-module _ (z : TreeSizes) (m : ClientWord → ℕ) (eight : z .servers ≤ 8) (wait : Waiting m) (u : List ℕ) (none : getD u 0 0 ≡ 0) (r : Single) (u′ : List ℕ) (ku : length u′ ≡ length u) (o : Singly z m u r u′) (b : Bool) (pb : b ≡ is-answer (r .stop)) where
-  pub single-stops : not b ≡ true → WorksSingly z m r u u′
-  single-stops nb = record { enters = λ ng. enters-stops z m eight wait u none (r .stop) (entries-of r) u′ ku (o .written ng) (sym pb ∙ not-true b nb) }
+module _ (slots : ℕ) (m : ClientWord → ℕ) (wait : Waiting m) (u : List ℕ) (none : getD u 0 0 ≡ 0) (r : Single) (u′ : List ℕ) (ku : length u′ ≡ length u) (o : Singly slots m u r u′) (b : Bool) (pb : b ≡ is-answer (r .stop)) where
+  pub single-stops : not b ≡ true → WorksSingly slots m r u u′
+  single-stops nb = record { enters = λ ng. enters-stops slots m wait u none (r .stop) (entries-of r) u′ ku (o .written ng) (sym pb ∙ not-true b nb) }
 
   pub single-judged : not b ≡ false → (y : ℕ) → y ≡ last-reason m (entries-of r) → (t : Stop) → t ≡ judged (r .stop) y
-      → WorksSingly z m (record { stop = t; written = r .written; number = r .number; node = r .node }) u u′
+      → WorksSingly slots m (record { stop = t; written = r .written; number = r .number; node = r .node }) u u′
   single-judged nb y py t e =
       let yes-answer : is-answer (r .stop) ≡ true = sym pb ∙ not-false b nb in
-      record { enters = λ ng. enters-judged z m eight wait u none (r .stop) (entries-of r) u′ ku (o .written (answer-stops (r .stop) yes-answer)) yes-answer y py t e }
+      record { enters = λ ng. enters-judged slots m wait u none (r .stop) (entries-of r) u′ ku (o .written (answer-stops (r .stop) yes-answer)) yes-answer y py t e }
 
 pub ruleset single-exits = (single-stops, single-judged)

@@ -17,7 +17,7 @@ use Rattle.nodes.specs.Laws.Entries.{first}
 use Rattle.nodes.specs.Change.{wide, put-in, cut-at}
 use Rattle.nodes.specs.Laws.Kept.{length-entriesOf, put-in-whole, put-in-entries, split-left, split-right, split-sep}
 use Rattle.operations.specs.Object.{node, flag, taken, no-tree, Writes}
-use Rattle.operations.specs.Slot.{TreeSizes, take-for, take-node}
+use Rattle.operations.specs.Slot.{take-for, take-node}
 use Rattle.operations.specs.Entry.{Entries, fewest-entries, first-key-or, kind}
 use Rattle.operations.specs.Path.{TreePlan, Branch}
 use Rattle.operations.specs.Change.{Go, with-two, parted, split}
@@ -33,7 +33,7 @@ use Rattle.walk.specs.Entries.{branch-of}
 use Rattle.walk.specs.Walk.{Told, told, goes, walked, carry}
 use Rattle.walk.specs.Ask.{OwnGood, Holds-writes, Noted}
 use Rattle.walk.specs.Down.{Followed}
-use Rattle.walk.specs.Laws.Write.{name-below}
+use Rattle.walk.specs.Laws.Ask.{name-below}
 use Rattle.walk.specs.Take.{NodeTaken}
 use Rattle.walk.specs.Search.{TakenFor}
 use Rattle.walk.specs.Laws.Mute.{Mute, walked-mute, take-for-mute, take-node-mute}
@@ -112,26 +112,26 @@ module _ (b : Turn) (f : Followed b) (c : ℕ) (pc : c ≡ getD (b .node .slots)
   }
 
 -- a slot or its node that is lacking is no answer
-module _ (z : TreeSizes) (m : ClientWord → ℕ) (x u : List ℕ) (w : Writes) (hold : Holds-writes z x w) where
-  pub slot-lacking : (c : ℕ) (t : Taken) (x₁ u₁ : List ℕ) → TakenFor z m x u c t x₁ u₁ → goes (t .stop) ≡ false → stands (t .stop) ≡ false
+module _ (slots : ℕ) (m : ClientWord → ℕ) (x u : List ℕ) (w : Writes) (hold : Holds-writes slots x w) where
+  pub slot-lacking : (c : ℕ) (t : Taken) (x₁ u₁ : List ℕ) → TakenFor slots m x u c t x₁ u₁ → goes (t .stop) ≡ false → stands (t .stop) ≡ false
   unfolding Mute
   slot-lacking c t x₁ u₁ q halts =
-      let e : walked z m (take-for z c w (λ d w. P.fail no-tree)) (used-in u) ≡ told (t .stop) (used-in u₁) = q .asks w hold (λ d w. P.fail no-tree) ∙ rw halts in
-      sym (ap (λ (r : Told). stands (r .stop)) e) ∙ walked-mute z m (take-for z c w (λ d w. P.fail no-tree)) (take-for-mute z c w (λ d w. P.fail no-tree) (λ d w. tt)) (used-in u)
+      let e : walked slots m (take-for slots c w (λ d w. P.fail no-tree)) (used-in u) ≡ told (t .stop) (used-in u₁) = q .asks w hold (λ d w. P.fail no-tree) ∙ rw halts in
+      sym (ap (λ (r : Told). stands (r .stop)) e) ∙ walked-mute slots m (take-for slots c w (λ d w. P.fail no-tree)) (take-for-mute slots c w (λ d w. P.fail no-tree) (λ d w. tt)) (used-in u)
 
-  pub node-lacking : (c : ℕ) (s : Stop) (u₁ : List ℕ) → NodeTaken z m x u c s u₁ → goes s ≡ false → stands s ≡ false
+  pub node-lacking : (c : ℕ) (s : Stop) (u₁ : List ℕ) → NodeTaken slots m x u c s u₁ → goes s ≡ false → stands s ≡ false
   unfolding Mute
   node-lacking c s u₁ q halts =
-      let e : walked z m (take-node w c (P.fail no-tree)) (used-in u) ≡ told s (used-in u₁) = q .asks w hold (P.fail no-tree) ∙ rw halts in
-      sym (ap (λ (r : Told). stands (r .stop)) e) ∙ walked-mute z m (take-node w c (P.fail no-tree)) (take-node-mute w c (P.fail no-tree) tt) (used-in u)
+      let e : walked slots m (take-node w c (P.fail no-tree)) (used-in u) ≡ told s (used-in u₁) = q .asks w hold (P.fail no-tree) ∙ rw halts in
+      sym (ap (λ (r : Told). stands (r .stop)) e) ∙ walked-mute slots m (take-node w c (P.fail no-tree)) (take-node-mute w c (P.fail no-tree) tt) (used-in u)
 
-module _ (z : TreeSizes) (m : ClientWord → ℕ) (x u : List ℕ) (c : ℕ) (t : Taken) (x₁ u₁ : List ℕ) (q : TakenFor z m x u c t x₁ u₁) (on : Bool) (po : on ≡ goes (t .stop)) where
-  pub half-lacks : not on ≡ true → HalfTaken z m x u c t x₁ u₁
+module _ (slots : ℕ) (m : ClientWord → ℕ) (x u : List ℕ) (c : ℕ) (t : Taken) (x₁ u₁ : List ℕ) (q : TakenFor slots m x u c t x₁ u₁) (on : Bool) (po : on ≡ goes (t .stop)) where
+  pub half-lacks : not on ≡ true → HalfTaken slots m x u c t x₁ u₁
   half-lacks nb =
       let halts : goes (t .stop) ≡ false = sym po ∙ not-true on nb in
       record {
         asks = λ w hold k. q .asks w hold (λ d w′. take-node w′ d (k d w′)) ∙ rw halts;
-        mute = λ w hold e. slot-lacking z m x u w hold c t x₁ u₁ q e;
+        mute = λ w hold e. slot-lacking slots m x u w hold c t x₁ u₁ q e;
         holds = q .holds;
         good = q .good;
         noted = q .noted;
@@ -149,11 +149,11 @@ module _ (z : TreeSizes) (m : ClientWord → ℕ) (x u : List ℕ) (c : ℕ) (t 
     pub half-noted : Noted m u₁
     half-noted = q .noted
 
-    pub half-taken : (s : Stop) (u₂ : List ℕ) → NodeTaken z m x₁ u₁ (t .name) s u₂ → HalfTaken z m x u c (record { stop = s; name = t .name }) x₁ u₂
+    pub half-taken : (s : Stop) (u₂ : List ℕ) → NodeTaken slots m x₁ u₁ (t .name) s u₂ → HalfTaken slots m x u c (record { stop = s; name = t .name }) x₁ u₂
     half-taken s u₂ v =
         record {
           asks = λ w hold k. q .asks w hold (λ d w′. take-node w′ d (k d w′)) ∙ rw going (v .asks ((flag (t .name), taken true) ∷ w) (q .holds going w hold) (k (t .name) ((flag (t .name), taken true) ∷ w)));
-          mute = λ w hold e. node-lacking z m x₁ u₁ ((flag (t .name), taken true) ∷ w) (q .holds going w hold) (t .name) s u₂ v e;
+          mute = λ w hold e. node-lacking slots m x₁ u₁ ((flag (t .name), taken true) ∷ w) (q .holds going w hold) (t .name) s u₂ v e;
           holds = λ _. q .holds going;
           good = λ _. q .good going;
           noted = v .noted;
@@ -182,7 +182,7 @@ pub ruleset halve-exits = (halves-fit, halved, overfull-count)
 pub divided : (x : List ℕ) (b : Turn) (c d : ℕ) (n up : Wide) (sep : ℕ) (x′ : List ℕ) → Halved x c d n sep x′ → up ≡ put-in (b .node) (b .at) sep d → Divided x b c d n up x′
 divided x b c d n up sep x′ h e = record { up-is = rw (h .sep-is) at e; written = h .written }
 
-module _ (z : TreeSizes) (l c : ℕ) (b : Turn) (un : Under z l c b) where
+module _ (slots l c : ℕ) (b : Turn) (un : Under slots l c b) where
   pub parent-few : b .node .count ≤ 14
   parent-few = un .followed .small .keys
 
@@ -192,26 +192,26 @@ module _ (z : TreeSizes) (l c : ℕ) (b : Turn) (un : Under z l c b) where
   pub split-overfull : (n : Wide) → Full l n → Overfull n
   split-overfull n k = record { full = k .full; level = omega (arith, k .content .level, un .followed .small .level, un .link .level) }
 
-module _ (z : TreeSizes) (m : ClientWord → ℕ) (x u : List ℕ) (l : ℕ) (b : Turn) (c : ℕ) (n : Wide) (t : Taken) (x₁ u₁ : List ℕ) (q : HalfTaken z m x u c t x₁ u₁) (on : Bool) (po : on ≡ goes (t .stop)) where
+module _ (slots : ℕ) (m : ClientWord → ℕ) (x u : List ℕ) (l : ℕ) (b : Turn) (c : ℕ) (n : Wide) (t : Taken) (x₁ u₁ : List ℕ) (q : HalfTaken slots m x u c t x₁ u₁) (on : Bool) (po : on ≡ goes (t .stop)) where
   abbrev plan : ℕ → List Branch → Writes → Go → TreePlan
-  plan = split-plan z l b c (wide-entries n)
+  plan = split-plan slots l b c (wide-entries n)
 
   abbrev d : ℕ
   d = t .name
 
-  asked : (w : Writes) → Holds-writes z x w → (lo : ℕ) (fs : List Branch) (go : Go) → walked z m (plan lo fs w go) (used-in u)
-      ≡ carry (t .stop) (used-in u₁) (λ us. walked z m
+  asked : (w : Writes) → Holds-writes slots x w → (lo : ℕ) (fs : List Branch) (go : Go) → walked slots m (plan lo fs w go) (used-in u)
+      ≡ carry (t .stop) (used-in u₁) (λ us. walked slots m
       (parted go l ((flag d, taken true) ∷ w) (in-parent b lo) c (take (fewest-entries l) (wide-entries n (in-parent b lo .key))) d (drop (fewest-entries l) (wide-entries n (in-parent b lo .key)))) us)
   unfolding split-plan
   asked w hold lo fs go =
       let es : Entries = wide-entries n (in-parent b lo .key) in
       q .asks w hold (λ d w₁. parted go l w₁ (in-parent b lo) c (take (fewest-entries l) es) d (drop (fewest-entries l) es))
 
-  pub split-lacks : not on ≡ true → Splits z m x u l b c n (record { stop = t .stop; up = n }) x₁ u₁
+  pub split-lacks : not on ≡ true → Splits slots m x u l b c n (record { stop = t .stop; up = n }) x₁ u₁
   split-lacks nb =
       let halts : goes (t .stop) ≡ false = sym po ∙ not-true on nb in
       record {
-        raised = λ root. stopped-raised z m x u l root plan (record { stop = t .stop; up = n }) x₁ u₁ halts
+        raised = λ root. stopped-raised slots m x u l root plan (record { stop = t .stop; up = n }) x₁ u₁ halts
             (λ w hold. q .mute w hold halts) (λ w hold lo fs e go. asked w hold lo fs go ∙ rw halts) (q .noted);
       }
 
@@ -222,15 +222,15 @@ module _ (z : TreeSizes) (m : ClientWord → ℕ) (x u : List ℕ) (l : ℕ) (b 
     pub split-good : OwnGood x₁
     split-good = q .good on-going
 
-    pub right-name : z .servers ≤ 8 → t .name < 8192
-    right-name eight = name-below z (t .name) eight (q .inside on-going)
+    pub right-name : t .name < 8192
+    right-name = name-below slots (t .name) (q .inside on-going)
 
     pub split-room : getD x 0 0 ≤ 12 → getD x₁ 0 0 < 19
     split-room h = omega (arith, q .few)
 
-    pub split-done : z .servers ≤ 8 → Under z l c b → Full l n → (up : Wide) (x₂ : List ℕ) → Divided x₁ b c (t .name) n up x₂
-        → Splits z m x u l b c n (record { stop = Going; up = up }) x₂ u₁
-    split-done eight un k up x₂ y =
+    pub split-done : Under slots l c b → Full l n → (up : Wide) (x₂ : List ℕ) → Divided x₁ b c (t .name) n up x₂
+        → Splits slots m x u l b c n (record { stop = Going; up = up }) x₂ u₁
+    split-done un k up x₂ y =
         record {
           raised = λ root. record {
             more = (node d, value-of (node d) (N.split n 0 .right)) ∷ (node c, value-of (node c) (N.split n 0 .left)) ∷ (flag d, taken true) ∷ [];
@@ -240,7 +240,7 @@ module _ (z : TreeSizes) (m : ClientWord → ℕ) (x u : List ℕ) (l : ℕ) (b 
               child-added b (un .followed) c (un .link .child) (N.split n 0 .sep) d lo,
               y .up-is,
             );
-            holds = λ _ w hold. y .written .holds z ((flag d, taken true) ∷ w) eight (un .link .there) (q .inside on-going) (q .holds on-going w hold);
+            holds = λ _ w hold. y .written .holds slots ((flag d, taken true) ∷ w) (un .link .there) (q .inside on-going) (q .holds on-going w hold);
             kept = λ _ w hold. y .written .kept;
             good = λ _. y .written .good;
             few = λ _. omega (arith, y .written .few, q .few);

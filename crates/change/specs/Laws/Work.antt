@@ -2,13 +2,12 @@
 use mathlib.Core.Path.{_≡_, refl, sym, _∙_, ap}
 use mathlib.Core.Bool.{Bool, true, false, cond, not}
 use mathlib.Core.List.{List, []}
-use Prim.Native.Nat.{ℕ, _+_, _≤_}
+use Prim.Native.Nat.{ℕ, _+_, _<_}
 use native.Mathlib.Omega.{arith}
 use lib.Dec.{eqb, ltb}
 use lib.ListN.{length, getD}
 use borrow.Author.Tests.{not-true, not-false, eq-eqb, ne-eqb}
 use Rattle.operations.specs.Object.{Ans, Writes}
-use Rattle.operations.specs.Slot.{TreeSizes}
 use Rattle.operations.specs.Path.{TreePlan}
 use Rattle.operations.specs.Change.{insert-plan, delete-plan}
 use Rattle.operations.specs.Migrate.{migrate-plan}
@@ -46,14 +45,14 @@ use Rattle.client.specs.Work as C
 abbrev by-reason : ℕ → Ans → Writes → Worked
 by-reason r a w = cond (eqb r 0) (answers a w) (cond (eqb r 10) refused (aborted r))
 
-pub last-is : (z : TreeSizes) (m : ClientWord → ℕ) (a : Ans) (w : Writes) → all-fit? w w ≡ entries-fit (entered w)
-    → last-questions z m a w ≡ by-reason (last-reason m (entered w)) a w
+pub last-is : (slots : ℕ) (m : ClientWord → ℕ) (a : Ans) (w : Writes) → all-fit? w w ≡ entries-fit (entered w)
+    → last-questions slots m a w ≡ by-reason (last-reason m (entered w)) a w
 unfolding last-reason reason-of
-last-is z m a w e =
+last-is slots m a w e =
     go (entries-fit (entered w)) refl (ltb 48 (m writes-count + count-new m (entered w))) refl (versions-there m (entered w)) refl (any-at-last m (entered w)) refl
   where
     go : (b : Bool) → entries-fit (entered w) ≡ b → (c : Bool) → ltb 48 (m writes-count + count-new m (entered w)) ≡ c → (f : Bool) → versions-there m (entered w) ≡ f
-        → (d : Bool) → any-at-last m (entered w) ≡ d → last-questions z m a w ≡ by-reason (last-reason m (entered w)) a w
+        → (d : Bool) → any-at-last m (entered w) ≡ d → last-questions slots m a w ≡ by-reason (last-reason m (entered w)) a w
     go false p c q f t d r = rw (e, last-reason, reason-of, p)
     go true p true q f t d r = rw (e, last-reason, reason-of, p, q)
     go true p false q false t d r = rw (e, last-reason, reason-of, p, q, t)
@@ -88,61 +87,61 @@ stand (Aborts r) n = n
 stand (Answers c d) n = refl
 
 -- ---- how the work step ends, by the walk: l are the entries of what it writes
-module _ (z : TreeSizes) (m : ClientWord → ℕ) (eight : z .servers ≤ 8) (wait : Waiting m) (u : List ℕ) (none : getD u 0 0 ≡ 0) (s : Stop) (l : List Entry) (u′ : List ℕ) (ku : length u′ ≡ length u) (o : Written z m u (reading z (waiting m)) s l u′) where
-  tells : tell z m (R z m (wait .reads) .how) (R z m (wait .reads) .used) ≡ ended s (used-in u′) (o .writes) []
-  tells = sym (run-is z m (wait .reads)) ∙ ap (walked z m (reading z (waiting m))) (sym (nothing-used m u none)) ∙ o .same
+module _ (slots : ℕ) (m : ClientWord → ℕ) (wait : Waiting m) (u : List ℕ) (none : getD u 0 0 ≡ 0) (s : Stop) (l : List Entry) (u′ : List ℕ) (ku : length u′ ≡ length u) (o : Written slots m u (reading slots (waiting m)) s l u′) where
+  tells : tell slots m (R slots m (wait .reads) .how) (R slots m (wait .reads) .used) ≡ ended s (used-in u′) (o .writes) []
+  tells = sym (run-is slots m (wait .reads)) ∙ ap (walked slots m (reading slots (waiting m))) (sym (nothing-used m u none)) ∙ o .same
 
-  used-are : used-in u′ ≡ C.walked z m .used
-  used-are = sym (ap (λ (k : Told). k .used) tells) ∙ told-used z m (R z m (wait .reads) .how) (R z m (wait .reads) .used)
+  used-are : used-in u′ ≡ C.walked slots m .used
+  used-are = sym (ap (λ (k : Told). k .used) tells) ∙ told-used slots m (R slots m (wait .reads) .how) (R slots m (wait .reads) .used)
 
   in-use : InUse u′
   in-use = noted-in-use m u′ (o .noted)
 
-  enters-as : (t : Stop) → t ≡ stop-of (worked z m) → ((a : Ans) (w : Writes) → worked z m ≡ answers a w → (l ≡ entered w) × (a .2 ≡ [])) → Enters z m t l u u′
-  enters-as t e f = record { stopped = record { stop = e; used = used-are; in-use = in-use }; filled = is-filled u (C.walked z m .used) u′ in-use used-are ku; own = λ a w p. f a w p .0; unlisted = λ a w p. f a w p .1 }
+  enters-as : (t : Stop) → t ≡ stop-of (worked slots m) → ((a : Ans) (w : Writes) → worked slots m ≡ answers a w → (l ≡ entered w) × (a .2 ≡ [])) → Enters slots m t l u u′
+  enters-as t e f = record { stopped = record { stop = e; used = used-are; in-use = in-use }; filled = is-filled u (C.walked slots m .used) u′ in-use used-are ku; own = λ a w p. f a w p .0; unlisted = λ a w p. f a w p .1 }
 
   module _ (no : is-answer s ≡ false) where
-    stop-is : s ≡ stop-of (worked z m)
+    stop-is : s ≡ stop-of (worked slots m)
     unfolding worked
-    stop-is = stops z m s (R z m (wait .reads) .used) (used-in u′) (o .writes) [] (R z m (wait .reads) .how) tells no
+    stop-is = stops slots m s (R slots m (wait .reads) .used) (used-in u′) (o .writes) [] (R slots m (wait .reads) .how) tells no
 
-    pub unanswered : {A : Type 0} (a : Ans) (w : Writes) → worked z m ≡ answers a w → A
+    pub unanswered : {A : Type 0} (a : Ans) (w : Writes) → worked slots m ≡ answers a w → A
     unanswered a w p = never s (Answers (a .0) (a .1)) (stop-is ∙ rw p) no refl
 
-    pub enters-stops : Enters z m s l u u′
+    pub enters-stops : Enters slots m s l u u′
     enters-stops = enters-as s stop-is (λ a w p. unanswered a w p)
 
   module _ (yes-answer : is-answer s ≡ true) where
-    given-is : Given z m (R z m (wait .reads) .how) s (o .writes) []
-    given-is = given z m s (R z m (wait .reads) .used) (used-in u′) (o .writes) [] (R z m (wait .reads) .how) tells yes-answer
+    given-is : Given slots m (R slots m (wait .reads) .how) s (o .writes) []
+    given-is = given slots m s (R slots m (wait .reads) .used) (used-in u′) (o .writes) [] (R slots m (wait .reads) .how) tells yes-answer
 
-    worked-is : worked z m ≡ by-reason (last-reason m (entered (o .writes))) (given-is .answer) (o .writes)
+    worked-is : worked slots m ≡ by-reason (last-reason m (entered (o .writes))) (given-is .answer) (o .writes)
     unfolding worked
-    worked-is = rw (given-is .is) (last-is z m (given-is .answer) (o .writes) (all-fit-entries z eight (o .writes) (o .out (stand s yes-answer))))
+    worked-is = rw (given-is .is) (last-is slots m (given-is .answer) (o .writes) (all-fit-entries slots (o .writes) (o .out (stand s yes-answer))))
 
     listed-are : l ≡ entered (o .writes)
     listed-are = o .entries (stand s yes-answer)
 
-    pub enters-judged : (r : ℕ) → r ≡ last-reason m l → (t : Stop) → t ≡ judged s r → Enters z m t l u u′
+    pub enters-judged : (r : ℕ) → r ≡ last-reason m l → (t : Stop) → t ≡ judged s r → Enters slots m t l u u′
     enters-judged r pr t e =
-        let q : worked z m ≡ by-reason r (given-is .answer) (o .writes) = worked-is ∙ ap (λ (k : ℕ). by-reason k (given-is .answer) (o .writes)) (sym (pr ∙ ap (last-reason m) listed-are)) in
+        let q : worked slots m ≡ by-reason r (given-is .answer) (o .writes) = worked-is ∙ ap (λ (k : ℕ). by-reason k (given-is .answer) (o .writes)) (sym (pr ∙ ap (last-reason m) listed-are)) in
         enters-as t (e ∙ ap (λ (k : Stop). judged k r) (given-is .stop) ∙ by-reason-stop r (given-is .answer) (o .writes) ∙ sym (ap stop-of q))
         (λ a w p. let same = by-reason-same r (given-is .answer) a (o .writes) w (sym q ∙ p) in (listed-are ∙ ap entered (same .0), ap (λ (b : Ans). b .2) (sym (same .1)) ∙ given-is .pairs))
 
 -- ---- the ways out of the work step
-module _ (z : TreeSizes) (m : ClientWord → ℕ) (eight : z .servers ≤ 8) (wait : Waiting m) (x u : List ℕ) (ready : Ready x u) (s : Stop) (x′ u′ : List ℕ) (kx : length x′ ≡ length x) (ku : length u′ ≡ length u) (o : Operated z m x u (reading z (waiting m)) s x′ u′) (b : Bool) (pb : b ≡ is-answer s) where
-  empty : Holds-writes z x []
-  empty = nothing-held x (ready .own-none) z
+module _ (slots : ℕ) (m : ClientWord → ℕ) (wait : Waiting m) (x u : List ℕ) (ready : Ready x u) (s : Stop) (x′ u′ : List ℕ) (kx : length x′ ≡ length x) (ku : length u′ ≡ length u) (o : Operated slots m x u (reading slots (waiting m)) s x′ u′) (b : Bool) (pb : b ≡ is-answer s) where
+  empty : Holds-writes slots x []
+  empty = nothing-held x (ready .own-none) slots
 
-  listed : Written z m u (reading z (waiting m)) s (own-list x′) u′
+  listed : Written slots m u (reading slots (waiting m)) s (own-list x′) u′
   listed = record { writes = o .writes; same = o .same empty; entries = λ t. o .holds t empty .entries; out = λ t. o .holds t empty .out; noted = o .noted }
 
-  pub work-stops : not b ≡ true → Works z m s x u x′ u′
+  pub work-stops : not b ≡ true → Works slots m s x u x′ u′
   work-stops nb =
       let no : is-answer s ≡ false = sym pb ∙ not-true b nb in
       record {
-        enters = enters-stops z m eight wait u (ready .used-none) s (own-list x′) u′ ku listed no;
-        fits = λ a w p. unanswered z m eight wait u (ready .used-none) s (own-list x′) u′ ku listed no a w p;
+        enters = enters-stops slots m wait u (ready .used-none) s (own-list x′) u′ ku listed no;
+        fits = λ a w p. unanswered slots m wait u (ready .used-none) s (own-list x′) u′ ku listed no a w p;
         own-same-length = kx;
       }
 
@@ -153,9 +152,9 @@ module _ (z : TreeSizes) (m : ClientWord → ℕ) (eight : z .servers ≤ 8) (wa
     pub own-kept : OwnKept x′
     own-kept = o .kept (stand s yes-answer) empty
 
-    pub work-judged : (r : ℕ) → r ≡ last-reason m (own-list x′) → (t : Stop) → t ≡ judged s r → Works z m t x u x′ u′
+    pub work-judged : (r : ℕ) → r ≡ last-reason m (own-list x′) → (t : Stop) → t ≡ judged s r → Works slots m t x u x′ u′
     work-judged r pr t e = record {
-      enters = enters-judged z m eight wait u (ready .used-none) s (own-list x′) u′ ku listed yes-answer r pr t e;
+      enters = enters-judged slots m wait u (ready .used-none) s (own-list x′) u′ ku listed yes-answer r pr t e;
       fits = λ a w p. own-kept .fit;
       own-same-length = kx;
     }
@@ -184,39 +183,43 @@ is-move Insert e = let y : _≡_ {A = ℕ} 0 1 = cc in absurd (omega arith)
 is-move Delete e = let y : _≡_ {A = ℕ} 0 1 = cc in absurd (omega arith)
 is-move Migrate e = refl
 
-module _ (z : TreeSizes) (b : List ℕ) (op : Update) (po : operation-of (held b op-number) ≡ Write op) where
+module _ (slots : ℕ) (b : List ℕ) (op : Update) (po : operation-of (held b op-number) ≡ Write op) where
   abbrev m : ClientWord → ℕ
   m = held b
 
   number-is : (r : Update) → op ≡ r → m op-number ≡ update-number r
   number-is r e = writes-number (m op-number) r (po ∙ ap Write e)
 
+  -- to a server of the store
+  pub move-server : Waiting (held b) → (c : Bool) → c ≡ moves op → c ≡ true → (server : ℕ) → server ≡ held b op-server → server < 8
+  move-server wait c pb t server pv = omega (arith, wait .moved (number-is Migrate (is-move op (sym pb ∙ t))))
+
   module _ (key : ℕ) (pk : key ≡ held b op-key) where
     -- down to the leaf
     module _ (u : List ℕ) (c : Changed) (u′ : List ℕ) where
-      pub leaf-insert : (value : ℕ) → op ≡ Insert → value ≡ held b op-value → Changes z b u (insert-plan z key value) c u′ → Changes z b u (reading z (waiting (held b))) c u′
-      leaf-insert value e pv h = let p : reading z (waiting m) ≡ insert-plan z key value = rw (number-is Insert e, pk, pv) in rw p h
+      pub leaf-insert : (value : ℕ) → op ≡ Insert → value ≡ held b op-value → Changes slots b u (insert-plan slots key value) c u′ → Changes slots b u (reading slots (waiting (held b))) c u′
+      leaf-insert value e pv h = let p : reading slots (waiting m) ≡ insert-plan slots key value = rw (number-is Insert e, pk, pv) in rw p h
 
-      pub leaf-delete : op ≡ Delete → Changes z b u (delete-plan z key) c u′ → Changes z b u (reading z (waiting (held b))) c u′
-      leaf-delete e h = let p : reading z (waiting m) ≡ delete-plan z key = rw (number-is Delete e, pk) in rw p h
+      pub leaf-delete : op ≡ Delete → Changes slots b u (delete-plan slots key) c u′ → Changes slots b u (reading slots (waiting (held b))) c u′
+      leaf-delete e h = let p : reading slots (waiting m) ≡ delete-plan slots key = rw (number-is Delete e, pk) in rw p h
 
     -- a move
     pub by-migrate : (c : Bool) → c ≡ moves op → c ≡ true → (server : ℕ) → server ≡ held b op-server → (x u : List ℕ) (s : Stop) (x′ u′ : List ℕ)
-        → Operated z (held b) x u (migrate-plan z key server) s x′ u′ → Operated z (held b) x u (reading z (waiting (held b))) s x′ u′
+        → Operated slots (held b) x u (migrate-plan slots key server) s x′ u′ → Operated slots (held b) x u (reading slots (waiting (held b))) s x′ u′
     by-migrate c pb t server pv x u s x′ u′ h =
-        let p : reading z (waiting m) ≡ migrate-plan z key server = rw (number-is Migrate (is-move op (sym pb ∙ t)), pk, pv) in
+        let p : reading slots (waiting m) ≡ migrate-plan slots key server = rw (number-is Migrate (is-move op (sym pb ∙ t)), pk, pv) in
         rw p h
 
-pub leaf-not : (op : Update) → moves op ≡ false → op ≡ Migrate → (z : TreeSizes) (b u : List ℕ) (p : TreePlan) (c : Changed) (u′ : List ℕ) → Changes z b u p c u′
-leaf-not op n e z b u p c u′ = let q : true ≡ false = sym (ap moves e) ∙ n in let y : _≡_ {A = ℕ} 0 1 = cc in absurd (omega arith)
+pub leaf-not : (op : Update) → moves op ≡ false → op ≡ Migrate → (slots : ℕ) (b u : List ℕ) (p : TreePlan) (c : Changed) (u′ : List ℕ) → Changes slots b u p c u′
+leaf-not op n e slots b u p c u′ = let q : true ≡ false = sym (ap moves e) ∙ n in let y : _≡_ {A = ℕ} 0 1 = cc in absurd (omega arith)
 
 -- the list of own writes is carried along
-pub by-leaf : (z : TreeSizes) (b : List ℕ) (p : TreePlan) (x u : List ℕ) (c : Changed) (u₁ : List ℕ) → Changes z b u p c u₁ → (s : Stop) (x′ u′ : List ℕ) → Carries z b x u₁ c s x′ u′ → Operated z (held b) x u p s x′ u′
-by-leaf z b p x u c u₁ h s x′ u′ q = q .operated p u h
+pub by-leaf : (slots : ℕ) (b : List ℕ) (p : TreePlan) (x u : List ℕ) (c : Changed) (u₁ : List ℕ) → Changes slots b u p c u₁ → (s : Stop) (x′ u′ : List ℕ) → Carries slots b x u₁ c s x′ u′ → Operated slots (held b) x u p s x′ u′
+by-leaf slots b p x u c u₁ h s x′ u′ q = q .operated p u h
 
 pub ruleset to-leaf-exits = (leaf-insert, leaf-delete, leaf-not)
 
-pub ruleset by-operation = (by-migrate, by-leaf)
+pub ruleset by-operation = (move-server, by-migrate, by-leaf)
 
 -- ---- what the parts of the work step ask for
 pub ready-good : (x u : List ℕ) → Ready x u → OwnGood x

@@ -10,15 +10,18 @@ use lib.Dec.{eqb, leb}
 use Rattle.memory.specs.Bit.{putBit}
 use Rattle.memory.specs.Laws.Bit.{put-twice, put-swap, put-none}
 use Rattle.nodes.specs.Name.{server-of}
+use Rattle.nodes.specs.States.{present}
 use Rattle.nodes.specs.declared.node.Node.{Node}
+use Rattle.nodes.specs.declared.found.Found.{Found}
+use Rattle.nodes.specs.declared.found.Found.the-variants.{At, Absent}
 use Rattle.client.specs.declared.part.Set.{Set}
 use Rattle.client.specs.declared.part.Set.the-variants.{Reads, Writes}
 use Rattle.client.specs.Layout.{ClientWord, item}
-use Rattle.client.specs.Record.{by-number}
-use Rattle.client.specs.Sets.{count, number-at, record-at}
+use Rattle.client.specs.Record.{by-number, second-slot}
+use Rattle.client.specs.Sets.{count, number-at, record-at, find}
 use Rattle.client.specs.Commit.{inner-at}
 use Rattle.client.specs.Items.{all-below, any-below, inner, inner-before-after}
-use Rattle.client.specs.Participants.{mask, at-home, calls-home, calls-all, called-homes, participants-of}
+use Rattle.client.specs.Participants.{mask, at-home, calls-home, calls-all, called-homes, all-take-part, states-in, states-read, participants-of}
 
 -- ---- all below a number
 pub record Sofar (f : ℕ → Bool) (n i : ℕ) : Type 0 where
@@ -141,55 +144,53 @@ module _ (m : ClientWord → ℕ) where
   all-called i x r e h = h ∙ ap (inner-before-after m) e
 
   -- the homes called by the first i read items, and by the next
-  module _ (n i x w : ℕ) (r : Node) (b : Bool) (before : w ≡ called-homes m n i) (e : x ≡ number-at m Reads i) (q : r ≡ record-at m Reads i) (k : b ≡ inner x r) where
+  module _ (i x w : ℕ) (r : Node) (b : Bool) (before : w ≡ called-homes m i) (e : x ≡ number-at m Reads i) (q : r ≡ record-at m Reads i) (k : b ≡ inner x r) where
     same-inner : b ≡ inner (number-at m Reads i) (record-at m Reads i)
     same-inner = k ∙ rw (e, q)
 
-    called-next : (f : ℕ → Bool) → ((s : ℕ) → calls-home m s i ≡ f s) → called-homes m n (i + 1) ≡ mask n (λ s. any-below i (calls-home m s) || f s)
+    called-next : (f : ℕ → Bool) → ((s : ℕ) → calls-home m s i ≡ f s) → called-homes m (i + 1) ≡ mask 8 (λ s. any-below i (calls-home m s) || f s)
     unfolding any-below
-    called-next f c = ap (mask n) (fun-ext (λ s. rw (add-one i, c s)))
+    called-next f c = ap (mask 8) (fun-ext (λ s. rw (add-one i, c s)))
 
-    pub home-inner : b ≡ true → w ≡ called-homes m n (i + 1)
+    pub home-inner : b ≡ true → w ≡ called-homes m (i + 1)
     home-inner t =
-        before ∙ sym (called-next (λ s. false) (λ s. rw (← same-inner, t)) ∙ ap (mask n) (fun-ext (λ s. or-false (any-below i (calls-home m s)))))
+        before ∙ sym (called-next (λ s. false) (λ s. rw (← same-inner, t)) ∙ ap (mask 8) (fun-ext (λ s. or-false (any-below i (calls-home m s)))))
 
     module _ (h : ℕ) (t : b ≡ false) (p : h ≡ by-number x 0 server-of server-of) where
       calls-it : (s : ℕ) → calls-home m s i ≡ eqb h s
       calls-it s = rw (← same-inner, t, ← e) (at-home-by s x h r p (sym k ∙ t))
 
-      pub home-added : (y : ℕ) → h < n → y ≡ putBit true w h → y ≡ called-homes m n (i + 1)
-      home-added y l z = z ∙ rw before (sym (called-next (eqb h) calls-it ∙ mask-in (λ s. any-below i (calls-home m s)) h n l))
+      pub home-added : (y : ℕ) → h < 8 → y ≡ putBit true w h → y ≡ called-homes m (i + 1)
+      home-added y l z = z ∙ rw before (sym (called-next (eqb h) calls-it ∙ mask-in (λ s. any-below i (calls-home m s)) h 8 l))
 
-      pub home-outside : n ≤ h → w ≡ called-homes m n (i + 1)
-      home-outside l = before ∙ sym (called-next (eqb h) calls-it ∙ mask-out (λ s. any-below i (calls-home m s)) h n l)
+      pub home-outside : 8 ≤ h → w ≡ called-homes m (i + 1)
+      home-outside l = before ∙ sym (called-next (eqb h) calls-it ∙ mask-out (λ s. any-below i (calls-home m s)) h 8 l)
 
-  pub homes-none : (n : ℕ) → 0 ≡ called-homes m n 0
+  pub homes-none : 0 ≡ called-homes m 0
   unfolding any-below
-  homes-none n = sym (mask-none n)
+  homes-none = sym (mask-none 8)
 
-  pub homes-all : (n i k w : ℕ) → i ≤ k → k ≤ i → k ≡ count m Reads → w ≡ called-homes m n i → w ≡ called-homes m n (count m Reads)
-  homes-all n i k w l g e h = let q : i ≡ count m Reads = omega arith in h ∙ rw q
+  pub homes-all : (i k w : ℕ) → i ≤ k → k ≤ i → k ≡ count m Reads → w ≡ called-homes m i → w ≡ called-homes m (count m Reads)
+  homes-all i k w l g e h = let q : i ≡ count m Reads = omega arith in h ∙ rw q
 
-  module _ (all : Bool) (n w : ℕ) (a : all ≡ any-below (count m Writes) (calls-all m)) where
+  -- the states in the metadata read
+  module _ (f : Found) (e : f ≡ find m Reads 0) where
+    pub states-there : (i x : ℕ) (r : Node) → f ≡ At i → r ≡ record-at m Reads i → x ≡ second-slot r → x ≡ states-read m
+    unfolding states-read
+    states-there i x r h q l = l ∙ ap second-slot q ∙ ap (states-in m) (sym h ∙ e)
+
+    pub states-unread : f ≡ Absent → 0 ≡ states-read m
+    unfolding states-read
+    states-unread h = ap (states-in m) (sym h ∙ e)
+
+  module _ (all : Bool) (w : ℕ) (a : all ≡ all-take-part m) where
     abbrev by-all : Bool → ℕ
-    by-all b = mask n (λ s. b || any-below (count m Reads) (calls-home m s))
+    by-all b = cond b (present (states-read m)) (called-homes m (count m Reads))
 
-    pub taking-all : all ≡ true → w ≡ mask n (λ s. true) → w ≡ participants-of m n
+    pub taking-all : (x : ℕ) → all ≡ true → x ≡ states-read m → w ≡ present x → w ≡ participants-of m
     unfolding participants-of
-    taking-all t h = h ∙ ap by-all (sym t ∙ a)
+    taking-all x t e h = h ∙ ap present e ∙ ap by-all (sym t ∙ a)
 
-    pub taking-homes : all ≡ false → w ≡ called-homes m n (count m Reads) → w ≡ participants-of m n
+    pub taking-homes : all ≡ false → w ≡ called-homes m (count m Reads) → w ≡ participants-of m
     unfolding participants-of
     taking-homes t h = h ∙ ap by-all (sym t ∙ a)
-
--- the servers below s
-pub servers-none : 0 ≡ mask 0 (λ s. true)
-unfolding mask
-servers-none = refl
-
-pub servers-next : (s w v : ℕ) → w ≡ mask s (λ s. true) → v ≡ putBit true w s → v ≡ mask (s + 1) (λ s. true)
-unfolding mask
-servers-next s w v e h = h ∙ rw (add-one s, e)
-
-pub servers-all : (s n w : ℕ) → s ≤ n → n ≤ s → w ≡ mask s (λ s. true) → w ≡ mask n (λ s. true)
-servers-all s n w l g e = let q : s ≡ n = omega arith in e ∙ rw q

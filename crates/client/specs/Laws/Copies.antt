@@ -20,7 +20,7 @@ use Rattle.nodes.specs.declared.found.Found.{Found}
 use Rattle.nodes.specs.declared.found.Found.the-variants.{At, Absent}
 use Rattle.client.specs.declared.part.Set.the-variants.{Reads, Copies}
 use Rattle.client.specs.Layout.{ClientWord, client-words, field}
-use Rattle.client.specs.Record.{single}
+use Rattle.client.specs.Record.{metadata}
 use Rattle.client.specs.Sets.{held, count, number-at, find}
 use Rattle.client.specs.Lent.{InUse, used-in}
 use Rattle.client.specs.Drops.{drop-each, drop-used}
@@ -193,10 +193,10 @@ pub vector-marked : (s t : List ℕ) (k q r : ℕ) → q ≡ held s (field 8) �
 unfolding mark-fetched
 vector-marked s t k q r e f p = did-as (put-field 8 r) (mark-fetched k) s t (rw (← e, ← f)) p
 
-pub meta-fetched : (s t u : List ℕ) (root version : ℕ) (n : Node) → n ≡ single version root → 7223 ≤ length s / 8
-    → Did (enter-read 0 n) s t → Did (put-fields 12 (1 ∷ root ∷ version ∷ [])) t u → Did (fetched-meta root version) s u
+pub meta-fetched : (s t u : List ℕ) (root states version : ℕ) (n : Node) → n ≡ metadata version root states → 7223 ≤ length s / 8
+    → Did (enter-read 0 n) s t → Did (put-fields 12 (states ∷ root ∷ version ∷ [])) t u → Did (fetched-meta root states version) s u
 unfolding fetched-meta
-meta-fetched s t u root version n e l p q = rw (← e) (did-then (enter-read 0 n) (put-fields 12 (1 ∷ root ∷ version ∷ [])) s t u l (good-read 0 n) p q)
+meta-fetched s t u root states version n e l p q = rw (← e) (did-then (enter-read 0 n) (put-fields 12 (states ∷ root ∷ version ∷ [])) s t u l (good-read 0 n) p q)
 
 -- ---- the life of a transaction
 pub all-dropped : (s t u v : List ℕ) → 7223 ≤ length s / 8 → Did (put-field 12 0) s t → Did (sweep client-words empty-place 64) t u → Did (sweep client-words drop-vector 8) u v → Did drop-all s v

@@ -9,7 +9,7 @@ use Rattle.memory.specs.Bit.{putBit}
 use Rattle.layout.specs.Sweep.{sweep}
 use Rattle.nodes.specs.declared.node.Node.{Node}
 use Rattle.client.specs.Layout.{client-words, fetched-vectors}
-use Rattle.client.specs.Record.{single}
+use Rattle.client.specs.Record.{metadata}
 use Rattle.client.specs.Part.{_then_, nothing, put-field, put-fields, put-vector, drop-vector}
 use Rattle.client.specs.Laws.Steps.{Good, good-then, good-nothing, good-field, good-fields, good-vector, good-cond, good-by, good-sweep, good-loop}
 use Rattle.client.specs.Lent.{Entry}
@@ -32,10 +32,12 @@ unfolding enter-entries
 good-entries [] = good-nothing
 good-entries (e ∷ l) = good-then (enter-write (e .0) (e .1)) (enter-entries l) (good-write (e .0) (e .1)) (good-entries l)
 
-pub good-fetched-meta : (root version : ℕ) → Good (fetched-meta root version)
+pub good-fetched-meta : (root states version : ℕ) → Good (fetched-meta root states version)
 unfolding fetched-meta
-good-fetched-meta root version =
-    good-then (enter-read 0 (single version root)) (put-fields 12 (1 ∷ root ∷ version ∷ [])) (good-read 0 (single version root)) (good-fields 12 (1 ∷ root ∷ version ∷ []) (omega arith))
+good-fetched-meta root states version =
+    let r = metadata version root states in
+    let fields = states ∷ root ∷ version ∷ [] in
+    good-then (enter-read 0 r) (put-fields 12 fields) (good-read 0 r) (good-fields 12 fields (omega arith))
 
 good-inner : (x : ℕ) (n : Node) → Good (copy-inner x n)
 unfolding copy-inner

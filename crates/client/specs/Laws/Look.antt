@@ -1,5 +1,5 @@
 -- How a lookup in a client's part comes to its answer.
-use mathlib.Core.Bool.{Bool, true, false, not}
+use mathlib.Core.Bool.{Bool, true, false, _&&_, _||_, not}
 use mathlib.Core.List.{List}
 use Prim.Native.Nat.{ℕ, _+_, _-_, _/_, _%_, _≤_, _<_}
 use mathlib.Core.Path.{_≡_, refl, sym, ap, _∙_}
@@ -17,7 +17,7 @@ use Rattle.nodes.specs.declared.found.Found.the-variants.{At, Absent}
 use Rattle.nodes.specs.Stored.{node-at}
 use Rattle.nodes.specs.Range.{node-in-range}
 use Rattle.nodes.specs.Laws.Found.{found-inside}
-use Rattle.operations.specs.Slot.{TreeSizes}
+use Rattle.nodes.specs.States.{metadata-fits}
 use Rattle.client.specs.declared.answer.How.{How}
 use Rattle.client.specs.declared.answer.How.the-variants.{Here, Copied, Lacking}
 use Rattle.client.specs.declared.answer.Look.{Look}
@@ -26,7 +26,7 @@ use Rattle.client.specs.declared.answer.Short.{Short}
 use Rattle.client.specs.Layout.{ClientWord, client-words, client-block, field, item, vector-word, limit}
 use Rattle.client.specs.declared.part.Set.the-variants.{Reads, Writes, Copies}
 use Rattle.client.specs.Sets.{held, record-at, find}
-use Rattle.client.specs.Record.{single, in-store, record-in-range}
+use Rattle.client.specs.Record.{first-slot, second-slot, single, metadata, record-in-range}
 use Rattle.client.specs.Have.{here, copy, lacking, is-found, is-copied, stood, short, IsNode, InSets, source, copied-meta, copied-node, copied-flag, copied, copy-fits, node-usable, meta-usable, flag-usable, look-fits}
 use Rattle.client.specs.Laws.Part.{record-there}
 
@@ -36,7 +36,7 @@ module _ (m : ClientWord → ℕ) (r : Look) where
   unfolding copied-meta
   meta-lacking q e d p = rw (← e, eq-eqb _ _ d) p
 
-  pub meta-there : (q v x : ℕ) (n : Node) → q ≡ m (field 12) → (q ≡ 0 → ⊥) → v ≡ m (field 14) → x ≡ m (field 13) → n ≡ single v x → r ≡ copy n → r ≡ copied-meta m
+  pub meta-there : (q v x : ℕ) (n : Node) → q ≡ m (field 12) → (q ≡ 0 → ⊥) → v ≡ m (field 14) → x ≡ m (field 13) → n ≡ metadata v x q → r ≡ copy n → r ≡ copied-meta m
   unfolding copied-meta
   meta-there q v x n e d a b c p = rw (← e, ne-eqb _ _ d, ← a, ← b, ← c) p
 
@@ -141,8 +141,8 @@ module _ (b : List ℕ) (l : 7223 ≤ length b / 8) (x : ℕ) (s : Stand) (n : I
       pub short-meta-lacking : q ≡ 0 → r ≡ short lacking → r ≡ short (source (held b) x)
       short-meta-lacking d k = short-copied (k ∙ ap short (meta-lacking (held b) lacking q e d refl ∙ meta-is))
 
-      pub short-meta-there : (v y : ℕ) → (q ≡ 0 → ⊥) → v ≡ held b (field 14) → y ≡ held b (field 13) → r ≡ short (copy (single v y)) → r ≡ short (source (held b) x)
-      short-meta-there v y d a c k = short-copied (k ∙ ap short (meta-there (held b) (copy (single v y)) q v y (single v y) e d a c refl refl ∙ meta-is))
+      pub short-meta-there : (v y : ℕ) → (q ≡ 0 → ⊥) → v ≡ held b (field 14) → y ≡ held b (field 13) → r ≡ short (copy (metadata v y q)) → r ≡ short (source (held b) x)
+      short-meta-there v y d a c k = short-copied (k ∙ ap short (meta-there (held b) (copy (metadata v y q)) q v y (metadata v y q) e d a c refl refl ∙ meta-is))
 
     pub short-flag : (y : ℕ) → x ≡ 8193 + y → r ≡ short (copied-flag (held b) y) → r ≡ short (source (held b) x)
     short-flag y e k =
@@ -153,8 +153,9 @@ pub ruleset stands-exits = (stands-found, stands-within, stands-copied, stands-n
 
 pub ruleset short-exits = (short-found, short-meta-lacking, short-meta-there, short-flag, stands-within)
 
-pub short-read : (n : Node) (v x : ℕ) → v ≡ n .version → x ≡ getD (n .slots) 0 0 → _≡_ {A = Short} (record { how = Here; version = v; value = x }) (short (here n))
-short-read n v x p q = rw (p, q)
+pub short-read : (n : Node) (v x y : ℕ) → v ≡ n .version → x ≡ getD (n .slots) 0 0 → y ≡ getD (n .slots) 1 0
+    → _≡_ {A = Short} (record { how = Here; version = v; value = x; states = y }) (short (here n))
+short-read n v x y p q h = rw (p, q, h)
 
 module _ (m : ClientWord → ℕ) (r : Short) (n s q : ℕ) (o : s ≡ server-of n) (e : q ≡ m (vector-word s 0)) where
   pub short-flag-lacking : q ≡ 0 → r ≡ short lacking → r ≡ short (copied-flag m n)
@@ -184,25 +185,6 @@ module _ (h : How) (r : Node) (b : Bool) (p : b ≡ node-in-range r) where
     unfolding node-usable
     node-here u = rw (← p, not-false b t, ← q, u)
 
-module _ (z : TreeSizes) (m : ClientWord → ℕ) (s : Short) (b : Bool) (p : b ≡ in-store z (s .value)) where
-  pub meta-outside : not b ≡ true → false ≡ meta-usable z m s
-  unfolding meta-usable
-  meta-outside t = rw (← p, not-true b t)
-
-  module _ (t : not b ≡ false) where
-    pub meta-wide : 4294967295 < s .version → false ≡ meta-usable z m s
-    unfolding meta-usable
-    meta-wide w = rw (← p, not-false b t, lt-leb _ _ w)
-
-    module _ (c : Bool) (w : s .version ≤ 4294967295) (q : c ≡ is-copied (s .how)) where
-      pub meta-copy : (k : ℕ) → c ≡ true → k ≡ m (field 12) → eqb k 1 ≡ meta-usable z m s
-      unfolding meta-usable
-      meta-copy k u e = rw (← p, not-false b t, le-leb _ _ w, ← q, u, ← e)
-
-      pub meta-here : c ≡ false → true ≡ meta-usable z m s
-      unfolding meta-usable
-      meta-here u = rw (← p, not-false b t, le-leb _ _ w, ← q, u)
-
 module _ (m : ClientWord → ℕ) (n : ℕ) (s : Short) where
   pub flag-wide : 1 < s .value → false ≡ flag-usable m n s
   unfolding flag-usable
@@ -217,19 +199,24 @@ module _ (m : ClientWord → ℕ) (n : ℕ) (s : Short) where
     unfolding flag-usable
     flag-here u = rw (le-leb _ _ w, ← q, u)
 
-pub ruleset usable-exits = (node-unfit, node-copy, node-here, meta-outside, meta-wide, meta-copy, meta-here, flag-wide, flag-copy, flag-here)
+pub ruleset usable-exits = (node-unfit, node-copy, node-here, flag-wide, flag-copy, flag-here)
 
 -- so a plan may use it
-module _ (z : TreeSizes) (m : ClientWord → ℕ) where
-  pub node-usable-is : (x : ℕ) (l : Look) → IsNode x → look-fits z m x l ≡ node-usable (l .how) (l .node)
+module _ (slots : ℕ) (m : ClientWord → ℕ) where
+  pub node-usable-is : (x : ℕ) (l : Look) → IsNode x → look-fits slots m x l ≡ node-usable (l .how) (l .node)
   unfolding look-fits record-in-range copy-fits node-usable
   node-usable-is x l k = rw (ne-eqb _ _ (k .some), le-leb _ _ (k .most))
 
-  pub meta-usable-is : (l : Look) → look-fits z m 0 l ≡ meta-usable z m (short l)
+  pub meta-usable-is : (l : Look) → look-fits slots m 0 l ≡ meta-usable slots (short l)
   unfolding look-fits record-in-range copy-fits meta-usable
-  meta-usable-is l = refl
+  meta-usable-is l = go (metadata-fits slots (first-slot (l .node)) (second-slot (l .node)) (l .node .version)) (not (is-copied (l .how)))
+    where
+      go : (a b : Bool) → (a && (b || true)) ≡ a
+      go false b = refl
+      go true true = refl
+      go true false = refl
 
-  pub flag-usable-is : (n : ℕ) (l : Look) → look-fits z m (8193 + n) l ≡ flag-usable m n (short l)
+  pub flag-usable-is : (n : ℕ) (l : Look) → look-fits slots m (8193 + n) l ≡ flag-usable m n (short l)
   unfolding look-fits record-in-range copy-fits flag-usable
   flag-usable-is n l =
       let d : 8193 + n ≡ 0 → ⊥ = λ e. omega arith in

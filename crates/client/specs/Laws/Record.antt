@@ -12,17 +12,12 @@ use Rattle.nodes.specs.declared.node.Node.{Node}
 use Rattle.nodes.specs.Node.{extra, slotsOf}
 use Rattle.nodes.specs.Range.{node-in-range}
 use Rattle.nodes.specs.Laws.Range.{range-count}
-use Rattle.operations.specs.Slot.{TreeSizes}
-use Rattle.client.specs.Record.{first-slot, in-store, record-in-range, all, children-there, node-fits, whole-in-range, kind-in-range}
+use Rattle.nodes.specs.States.{metadata-fits}
+use Rattle.client.specs.Record.{first-slot, second-slot, in-store, record-in-range, all, children-there, node-fits, whole-in-range, kind-in-range}
 
-module _ (z : TreeSizes) (x : ℕ) (n : Node) (b : Bool) (e : x ≡ 0) (p : b ≡ in-store z (first-slot n)) where
-  pub root-astray : not b ≡ true → false ≡ record-in-range z x n
-  unfolding record-in-range
-  root-astray t = let q : in-store z (first-slot n) ≡ false = sym p ∙ not-true b t in rw (e, q)
-
-  pub root-there : not b ≡ false → leb (n .version) 4294967295 ≡ record-in-range z x n
-  unfolding record-in-range
-  root-there t = let q : in-store z (first-slot n) ≡ true = sym p ∙ not-false b t in rw (e, q)
+pub of-metadata : (slots x a c : ℕ) (n : Node) (b : Bool) → x ≡ 0 → a ≡ first-slot n → c ≡ second-slot n → b ≡ metadata-fits slots a c (n .version) → b ≡ record-in-range slots x n
+unfolding record-in-range
+of-metadata slots x a c n b e p q h = h ∙ rw (e, p, q)
 
 -- ---- an inner node's children, one after another
 module _ (f : ℕ → Bool) where
@@ -53,62 +48,62 @@ module _ (f : ℕ → Bool) where
       go true e g = g e
       go false e g = refl
 
-module _ (z : TreeSizes) (n : Node) where
-  pub not-inner : (n .kind ≡ 2 → ⊥) → true ≡ children-there z n
+module _ (slots : ℕ) (n : Node) where
+  pub not-inner : (n .kind ≡ 2 → ⊥) → true ≡ children-there slots n
   unfolding children-there
   not-inner d = rw (ne-eqb _ _ d)
 
 -- the first i of k children are names of the store
-pub record ThereYet (z : TreeSizes) (l : List ℕ) (k i : ℕ) : Type 0 where
+pub record ThereYet (slots : ℕ) (l : List ℕ) (k i : ℕ) : Type 0 where
   pub within : i ≤ k
-  pub so-far : all (in-store z) (take i l) ≡ true
+  pub so-far : all (in-store slots) (take i l) ≡ true
 
-module _ (z : TreeSizes) (l : List ℕ) (k : ℕ) where
-  pub none-yet : ThereYet z l k 0
+module _ (slots : ℕ) (l : List ℕ) (k : ℕ) where
+  pub none-yet : ThereYet slots l k 0
   unfolding all
   none-yet = record { within = omega arith; so-far = refl }
 
-  module _ (i : ℕ) (b : Bool) (long : length l ≡ 15) (few : k ≤ 15) (h : i < k) (e : b ≡ in-store z (getD l i 0)) (y : ThereYet z l k i) where
-    next-is : all (in-store z) (take (suc i) l) ≡ b
-    next-is = all-next (in-store z) l i (omega (arith, long)) ∙ rw (y .so-far, e)
+  module _ (i : ℕ) (b : Bool) (long : length l ≡ 15) (few : k ≤ 15) (h : i < k) (e : b ≡ in-store slots (getD l i 0)) (y : ThereYet slots l k i) where
+    next-is : all (in-store slots) (take (suc i) l) ≡ b
+    next-is = all-next (in-store slots) l i (omega (arith, long)) ∙ rw (y .so-far, e)
 
-    pub one-more : not b ≡ false → ThereYet z l k (i + 1)
+    pub one-more : not b ≡ false → ThereYet slots l k (i + 1)
     one-more t = record { within = omega arith; so-far = rw (add-one i) (next-is ∙ not-false b t) }
 
-module _ (z : TreeSizes) (n : Node) (inner : n .kind ≡ 2) (i : ℕ) where
-  pub one-astray : (b : Bool) → length (n .slots) ≡ 15 → n .count + 1 ≤ 15 → i < n .count + 1 → b ≡ in-store z (getD (n .slots) i 0) → ThereYet z (n .slots) (n .count + 1) i → not b ≡ true
-      → false ≡ children-there z n
+module _ (slots : ℕ) (n : Node) (inner : n .kind ≡ 2) (i : ℕ) where
+  pub one-astray : (b : Bool) → length (n .slots) ≡ 15 → n .count + 1 ≤ 15 → i < n .count + 1 → b ≡ in-store slots (getD (n .slots) i 0) → ThereYet slots (n .slots) (n .count + 1) i → not b ≡ true
+      → false ≡ children-there slots n
   unfolding children-there slotsOf extra
   one-astray b long few h e y t =
-      sym (rw (eq-eqb _ _ inner) (all-short (in-store z) (n .slots) (suc i) (next-is z (n .slots) (n .count + 1) i b long few h e y ∙ not-true b t) (n .count + 1) (omega arith)))
+      sym (rw (eq-eqb _ _ inner) (all-short (in-store slots) (n .slots) (suc i) (next-is slots (n .slots) (n .count + 1) i b long few h e y ∙ not-true b t) (n .count + 1) (omega arith)))
 
-  pub all-children : n .count + 1 ≤ i → ThereYet z (n .slots) (n .count + 1) i → true ≡ children-there z n
+  pub all-children : n .count + 1 ≤ i → ThereYet slots (n .slots) (n .count + 1) i → true ≡ children-there slots n
   unfolding children-there slotsOf extra
   all-children h y = let q : i ≡ n .count + 1 = omega (arith, y .within) in sym (rw (eq-eqb _ _ inner, ← q) (y .so-far))
 
 -- ---- nodes and objects stored whole
-module _ (z : TreeSizes) (n : Node) (b : Bool) (p : b ≡ node-in-range n) where
-  pub node-unfit : not b ≡ true → false ≡ node-fits z n
+module _ (slots : ℕ) (n : Node) (b : Bool) (p : b ≡ node-in-range n) where
+  pub node-unfit : not b ≡ true → false ≡ node-fits slots n
   unfolding node-fits
   node-unfit t = rw (← p, not-true b t)
 
-  pub node-whole : (r : Bool) → not b ≡ false → r ≡ children-there z n → r ≡ node-fits z n
+  pub node-whole : (r : Bool) → not b ≡ false → r ≡ children-there slots n → r ≡ node-fits slots n
   unfolding node-fits
   node-whole r t q = q ∙ rw (← p, not-false b t)
 
   pub few-keys : not b ≡ false → n .count ≤ 14
   few-keys t = range-count n (sym p ∙ not-false b t)
 
-module _ (z : TreeSizes) (x : ℕ) (n : Node) (r : Bool) where
-  pub whole-meta : x ≡ 0 → r ≡ record-in-range z x n → r ≡ whole-in-range z x n
+module _ (slots : ℕ) (x : ℕ) (n : Node) (r : Bool) where
+  pub whole-meta : x ≡ 0 → r ≡ record-in-range slots x n → r ≡ whole-in-range slots x n
   unfolding whole-in-range
   whole-meta e q = q ∙ rw (eq-eqb _ _ e)
 
-  pub whole-node : (x ≡ 0 → ⊥) → x ≤ 8192 → r ≡ node-fits z n → r ≡ whole-in-range z x n
+  pub whole-node : (x ≡ 0 → ⊥) → x ≤ 8192 → r ≡ node-fits slots n → r ≡ whole-in-range slots x n
   unfolding whole-in-range
   whole-node d h q = q ∙ rw (ne-eqb _ _ d, le-leb _ _ h)
 
-  pub whole-flag : 8192 < x → r ≡ record-in-range z x n → r ≡ whole-in-range z x n
+  pub whole-flag : 8192 < x → r ≡ record-in-range slots x n → r ≡ whole-in-range slots x n
   unfolding whole-in-range
   whole-flag h q = q ∙ rw (ne-eqb x 0 (λ e. absurd (omega (arith, e))), lt-leb _ _ h)
 

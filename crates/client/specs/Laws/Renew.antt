@@ -156,16 +156,17 @@ unfolding renew-nth
 good-renew-nth = record { each = λ k. good-by (λ m. renew-found m (ranked m (k + 1))) (λ m. good-found m (ranked m (k + 1))) }
 
 module _ (s : List ℕ) (g : Found) (f : g ≡ find (held s) Writes 0) where
-  pub meta-renewed : (t : List ℕ) (i x v : ℕ) → g ≡ At i → x ≡ held s (item Writes i 19) → v ≡ new-version (held s) 0 → Did (put-fields 12 (1 ∷ x ∷ v ∷ [])) s t → Did renew-meta s t
+  pub meta-renewed : (t : List ℕ) (i y x v : ℕ) → g ≡ At i → x ≡ held s (item Writes i 19) → v ≡ new-version (held s) 0 → y ≡ held s (item Writes i 20)
+      → Did (put-fields 12 (y ∷ x ∷ v ∷ [])) s t → Did renew-meta s t
   unfolding renew-meta
-  meta-renewed t i x v e p q r = did-as (put-fields 12 (1 ∷ x ∷ v ∷ [])) renew-meta s t (rw (← f, e, ← p, ← q)) r
+  meta-renewed t i y x v e p q h r = did-as (put-fields 12 (y ∷ x ∷ v ∷ [])) renew-meta s t (rw (← f, e, ← p, ← q, ← h)) r
 
   pub meta-kept : g ≡ Absent → Did renew-meta s s
   unfolding renew-meta nothing
   meta-kept e = did-nothing renew-meta s (rw (← f, e))
 
 good-meta-found : (m : ClientWord → ℕ) (g : Found) → Good (meta-found m g)
-good-meta-found m (At i) = good-fields 12 (1 ∷ m (item Writes i 19) ∷ new-version m 0 ∷ []) (omega arith)
+good-meta-found m (At i) = good-fields 12 (m (item Writes i 20) ∷ m (item Writes i 19) ∷ new-version m 0 ∷ []) (omega arith)
 good-meta-found m Absent = good-nothing
 
 good-renew-meta : Good renew-meta

@@ -14,7 +14,7 @@ use Rattle.client.specs.Laws.Layout.{client-size}
 use Rattle.client.specs.Sets.{first-of, count, number-at, record-at, find}
 use Rattle.client.specs.Commit.{inner-at}
 use Rattle.client.specs.Items.{any-below, inner, inner-in, inner-before-after}
-use Rattle.client.specs.Participants.{mask, at-home, participants-of}
+use Rattle.client.specs.Participants.{mask, at-home, states-read, participants-of}
 use Rattle.client.specs.Renew.{rank, with-inner, inner-below}
 
 -- what stands at some places, and 0 elsewhere
@@ -22,10 +22,10 @@ abbrev stands : List (List ℕ × ℕ) → ClientWord → ℕ
 stands [] a = 0
 stands (e ∷ l) a = cond (same (e .0) (client-code a)) (e .1) (stands l a)
 
--- fields 10 and 11, the numbers, and the kinds (the first word of a record): the leaf's kind as read 1, as written k
+-- fields 10 and 11, the numbers, the states of three open servers, and the kinds (the first word of a record): the leaf's kind as read 1, as written k
 abbrev part-with : ℕ → ClientWord → ℕ
 part-with k =
-    stands ((0 ∷ 10 ∷ [], 2) ∷ (0 ∷ 11 ∷ [], 1) ∷ (1 ∷ 0 ∷ 1 ∷ [], 1026) ∷ (1 ∷ 1 ∷ 1 ∷ 0 ∷ [], 1) ∷ (2 ∷ 0 ∷ 0 ∷ [], 1026) ∷ (2 ∷ 1 ∷ 0 ∷ 0 ∷ [], k) ∷ [])
+    stands ((0 ∷ 10 ∷ [], 2) ∷ (0 ∷ 11 ∷ [], 1) ∷ (1 ∷ 0 ∷ 1 ∷ [], 1026) ∷ (1 ∷ 1 ∷ 0 ∷ 19 ∷ [], 1799) ∷ (1 ∷ 1 ∷ 1 ∷ 0 ∷ [], 1) ∷ (2 ∷ 0 ∷ 0 ∷ [], 1026) ∷ (2 ∷ 1 ∷ 0 ∷ 0 ∷ [], k) ∷ [])
 
 -- the part has 7,223 words; the sets begin at 15, 3,279, 4,911, their records at 111, 3,327, 4,975, the vectors at 7,087
 pub layout-sample : (client-size ≡ 7223) × (at client-words client-block (item Reads 0 0) ≡ 15) × (at client-words client-block (item Reads 0 1) ≡ 111)
@@ -40,8 +40,8 @@ unfolding find first-of count number-at
 find-sample = (refl, refl)
 
 -- the leaf's home, server 1, takes part; all three servers, where the leaf becomes inner
-pub participants-sample : (participants-of (part-with 1) 3 ≡ 2) × (participants-of (part-with 2) 3 ≡ 7)
-unfolding participants-of mask at-home any-below inner inner-in inner-before-after find first-of count number-at record-at node-of tab putBit
+pub participants-sample : (participants-of (part-with 1) ≡ 2) × (participants-of (part-with 2) ≡ 7)
+unfolding participants-of states-read mask at-home any-below inner inner-in inner-before-after find first-of count number-at record-at node-of tab putBit
 participants-sample = (refl, refl)
 
 -- the only written inner node is the first by name; a leaf has no rank

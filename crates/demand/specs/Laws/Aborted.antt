@@ -3,7 +3,7 @@ use mathlib.Core.Path.{_≡_, refl, ap, sym, _∙_, subst}
 use mathlib.Core.Bool.{Bool, true, false, cond, _&&_, not}
 use mathlib.Core.List.{List, []}
 use mathlib.Core.Logic.{_⊎_, inl, inr}
-use Prim.Native.Nat.{ℕ, zero, suc, _≤_, _<_, Fin}
+use Prim.Native.Nat.{ℕ, suc, _≤_, _<_, Fin}
 use native.Mathlib.Omega.{arith}
 use native.Mathlib.Decide.{ℕ-discrete, Fin-discrete}
 use Rattle.base.specs.Test.{not-both}
@@ -15,7 +15,6 @@ use Rattle.layout.specs.Step.{andThen}
 use Rattle.layout.specs.Laws.Step.{changed-append}
 use Rattle.layout.specs.Part.{over}
 use Rattle.operations.specs.Object.{Obj}
-use Rattle.operations.specs.Slot.{Allowed}
 use Rattle.protocol.specs.State.{idle, is-decided}
 use Rattle.server.specs.declared.place.Place.{Place}
 use Rattle.server.specs.Layout.{places}
@@ -28,13 +27,13 @@ use Rattle.client.specs.Life.{reset, abort-part}
 use Rattle.steps.specs.declared.sizes.Sizes.{Sizes}
 use Rattle.steps.specs.Whole.{Address, server, client, whole}
 use Rattle.steps.specs.Judge.{lowest-participant}
-use Rattle.steps.specs.Steps.{unlock-each, at-servers, unlocked-everywhere, aborting}
+use Rattle.steps.specs.Steps.{unlock-each, unlocked-everywhere, aborting}
 use Rattle.demand.specs.Ledger.{Ledger, clears}
-use Rattle.demand.specs.Laws.Store.{sizes}
-use Rattle.steps.specs.Laws.Stores.{client-of, server-of, client-changed, client-else, client-servers, server-changed, server-else, server-clients}
+use Rattle.steps.specs.Laws.Stores.{client-of, server-of, client-changed, client-else, client-servers}
 use Rattle.demand.specs.Laws.Shows.{phase-of, T, Slot-shown, Server-shown, Client-shown, Related}
 use Rattle.demand.specs.Laws.Recorded.{drop-kept, unlock-recorded}
 use Rattle.demand.specs.Laws.Servers.{is-lock, unlock-stays, value-frame, version-frame, table-frame}
+use Rattle.demand.specs.Laws.Everywhere.{every-client, every-server}
 use Rattle.demand.specs.Laws.Dropped.{fewer, fewer-copies, only-used}
 use Rattle.demand.specs.Laws.Kept.{away, related, cleared, cleared-shown}
 use Rattle.protocol.specs.Machine as P
@@ -44,36 +43,6 @@ use Rattle.protocol.specs.Moves as Mv
 first-phases : (is-decided (phase-of 1) ≡ false) × (is-decided (phase-of 2) ≡ false)
 unfolding phase-of
 first-phases = (refl, refl)
-
--- ---- stores at every server
-module _ (m : Address → ℕ) (f : ℕ → List (Put Address)) (qs : ℕ → List (Put Place)) (e : (t : ℕ) → f t ≡ over (server t) (qs t)) where
-  abbrev m₁ : ℕ → Address → ℕ
-  m₁ n = changed whole m (at-servers n f)
-
-  step : (n : ℕ) → m₁ (suc n) ≡ changed whole (m₁ n) (over (server n) (qs n))
-  unfolding at-servers
-  step n = changed-append whole (at-servers n f) (f n) m ∙ ap (changed whole (m₁ n)) (e n)
-
-  every-client : (n d : ℕ) → client-of (m₁ n) d ≡ client-of m d
-  unfolding at-servers changed
-  every-client zero d = refl
-  every-client (suc n) d = ap (λ (g : Address → ℕ). client-of g d) (step n) ∙ server-clients (m₁ n) n (qs n) d ∙ every-client n d
-
-  later : (n t : ℕ) → n ≤ t → server-of (m₁ n) t ≡ server-of m t
-  unfolding at-servers changed
-  later zero t l = refl
-  later (suc n) t l = ap (λ (g : Address → ℕ). server-of g t) (step n) ∙ server-else (m₁ n) n (qs n) t (λ z. absurd (omega arith)) ∙ later n t (omega arith)
-
-  every-server : (n t : ℕ) → t < n → server-of (m₁ n) t ≡ changed places (server-of m t) (qs t)
-  every-server zero t l = absurd (omega arith)
-  every-server (suc n) t l = ap (λ (g : Address → ℕ). server-of g t) (step n) ∙ go (ℕ-discrete t n) (every-server n t)
-    where
-      go : Dec (t ≡ n) → (t < n → server-of (m₁ n) t ≡ changed places (server-of m t) (qs t))
-          → server-of (changed whole (m₁ n) (over (server n) (qs n))) t ≡ changed places (server-of m t) (qs t)
-      go (yes z) rec =
-          subst (λ (x : ℕ). server-of (changed whole (m₁ n) (over (server n) (qs n))) x ≡ changed places (server-of m x) (qs x)) (sym z)
-          (server-changed (m₁ n) n (qs n) ∙ ap (λ (g : Place → ℕ). changed places g (qs n)) (later n n (omega arith)))
-      go (no d) rec = server-else (m₁ n) n (qs n) t d ∙ rec (omega arith)
 
 -- ---- what an abort stores: at every server where the client is prepared its locks go, then its part begins anew; us came into use in the step
 module _ (k j slots : ℕ) (m : Address → ℕ) (c : ℕ) (us : List ℕ) where
@@ -114,7 +83,7 @@ module _ (k j slots : ℕ) (m : Address → ℕ) (c : ℕ) (us : List ℕ) where
   aborted-is = changed-append whole (unlocked-everywhere z₀ m c) (over (client c) ends) m
 
   clients-stay : (d : ℕ) → client-of n₀ d ≡ client-of m d
-  clients-stay d = every-client m f₀ given-back same-stores (suc k) d
+  clients-stay d = every-client m f₀ given-back same-stores 8 d
 
   pub aborted-client : client-of aborted c ≡ changed client-words u₀ (abort-part us u₀)
   aborted-client =
@@ -123,9 +92,9 @@ module _ (k j slots : ℕ) (m : Address → ℕ) (c : ℕ) (us : List ℕ) where
   pub aborted-others : (d : ℕ) → ¬ (d ≡ c) → client-of aborted d ≡ client-of m d
   aborted-others d n = ap (λ (g : Address → ℕ). client-of g d) aborted-is ∙ client-else n₀ c ends d n ∙ clients-stay d
 
-  pub aborted-server : (s : ℕ) → s < suc k → server-of aborted s ≡ changed places (server-of m s) (given-back s)
+  pub aborted-server : (s : ℕ) → s < 8 → server-of aborted s ≡ changed places (server-of m s) (given-back s)
   aborted-server s l =
-      ap (λ (g : Address → ℕ). server-of g s) aborted-is ∙ client-servers n₀ c ends s ∙ every-server m f₀ given-back same-stores (suc k) s l
+      ap (λ (g : Address → ℕ). server-of g s) aborted-is ∙ client-servers n₀ c ends s ∙ every-server m f₀ given-back same-stores 8 s l
 
 -- what is prepared anywhere is after its commit
 pub prepared-late : (k j slots : ℕ) (u : ClientWord → ℕ) (y : P.Slot (T k j slots)) → Slot-shown k j slots u y → (s : ℕ) → bit (u prepared) s ≡ true
@@ -134,7 +103,7 @@ prepared-late k j slots u y shown s b (inr e) = omega (arith, e)
 prepared-late k j slots u y shown s b (inl e) = absurd (not-both b (ap (λ (w : ℕ). bit w s) (shown .calm (omega (arith, e))) ∙ zero-bit s))
 
 -- ---- ABORT
-module _ (k j slots : ℕ) (al : Allowed (sizes k j slots)) (few : suc j ≤ 16) (m : Address → ℕ) (L : Ledger) (M : P.Machine (T k j slots)) (c : Fin (suc j)) (R : Related k j slots m L M) (fit : client-fits (sizes k j slots) (client-of m (c .0)) ≡ true) where
+module _ (k j slots : ℕ) (al : slots ≤ 1024) (few : suc j ≤ 16) (m : Address → ℕ) (L : Ledger) (M : P.Machine (T k j slots)) (c : Fin (suc j)) (R : Related k j slots m L M) (fit : client-fits slots (client-of m (c .0)) ≡ true) where
   abbrev z : Sizes
   z = record { servers = suc k; slots = slots; clients = suc j }
 
@@ -150,7 +119,7 @@ module _ (k j slots : ℕ) (al : Allowed (sizes k j slots)) (few : suc j ≤ 16)
   abbrev low : ℕ
   low = lowest-participant z m (c .0)
 
-  abbrev locks : Fin (suc k) → Obj → P.Lock (T k j slots)
+  abbrev locks : Fin 8 → Obj → P.Lock (T k j slots)
   locks s o = Mv.drop (T k j slots) c (M .lock s o)
 
   abbrev M₀ : P.Machine (T k j slots)
@@ -172,7 +141,7 @@ module _ (k j slots : ℕ) (al : Allowed (sizes k j slots)) (few : suc j ≤ 16)
         go (inl e) = ap (λ (n : ℕ). is-decided (phase-of n)) e ∙ first-phases .0
         go (inr e) = ap (λ (n : ℕ). is-decided (phase-of n)) e ∙ first-phases .1
 
-    server-shown : (s : Fin (suc k)) → Server-shown k j slots (server-of m′ (s .0)) s (M .value s) (M .version s) (M .table s) (locks s)
+    server-shown : (s : Fin 8) → Server-shown k j slots (server-of m′ (s .0)) s (M .value s) (M .version s) (M .table s) (locks s)
     unfolding changed
     server-shown s =
         subst (λ (p : Place → ℕ). Server-shown k j slots p s (M .value s) (M .version s) (M .table s) (locks s))

@@ -2,7 +2,7 @@
 use mathlib.Core.Path.{_≡_, refl, ap, sym, _∙_, subst}
 use mathlib.Core.Bool.{true}
 use mathlib.Core.List.{List, _∷_, map}
-use Prim.Native.Nat.{ℕ, suc, Fin}
+use Prim.Native.Nat.{ℕ, suc, _≤_, Fin}
 use native.Mathlib.Omega.{arith}
 use native.Mathlib.Decide.{ℕ-discrete, Fin-discrete}
 use Rattle.base.specs.Update.{upd}
@@ -10,7 +10,6 @@ use Rattle.base.specs.Laws.Update.{upd-same, upd-other}
 use Rattle.layout.specs.Space.{Put, changed}
 use Rattle.layout.specs.Part.{over}
 use Rattle.operations.specs.Object.{Obj, Ans, Writes}
-use Rattle.operations.specs.Slot.{Allowed}
 use Rattle.operations.specs.Laws.Seen.{Hint, Given, hint-of}
 use Rattle.protocol.specs.State.{opened, is-decided}
 use Rattle.protocol.specs.Laws.Hints.{objects}
@@ -22,7 +21,6 @@ use Rattle.client.specs.Answered.{answered}
 use Rattle.steps.specs.Whole.{Address, client, whole}
 use Rattle.steps.specs.Laws.Stores.{client-of, client-else}
 use Rattle.demand.specs.Ledger.{Told, Ledger, notes-answer}
-use Rattle.demand.specs.Laws.Store.{sizes}
 use Rattle.demand.specs.Laws.Shows.{phase-of, T, told, Client-shown, Related}
 use Rattle.demand.specs.Laws.Kept.{away, client-related}
 use Rattle.demand.specs.Laws.Turns.{Turns}
@@ -36,7 +34,7 @@ use Rattle.protocol.specs.Moves as Mv
 use Rattle.protocol.specs.Laws.Work as W
 use Rattle.client.specs.Work as Work
 
-module _ (k j slots : ℕ) (al : Allowed (sizes k j slots)) (m : Address → ℕ) (L : Ledger) (M : P.Machine (T k j slots)) (c : Fin (suc j)) (R : Related k j slots m L M) (fit : client-fits (sizes k j slots) (client-of m (c .0)) ≡ true) (now : client-of m (c .0) phase ≡ 1) (waits : ¬ (client-of m (c .0) op-number ≡ 0)) (a : Ans) (w : Writes) (e : worked (sizes k j slots) (client-of m (c .0)) ≡ Work.answers a w) where
+module _ (k j slots : ℕ) (al : slots ≤ 1024) (m : Address → ℕ) (L : Ledger) (M : P.Machine (T k j slots)) (c : Fin (suc j)) (R : Related k j slots m L M) (fit : client-fits slots (client-of m (c .0)) ≡ true) (now : client-of m (c .0) phase ≡ 1) (waits : ¬ (client-of m (c .0) op-number ≡ 0)) (a : Ans) (w : Writes) (e : worked slots (client-of m (c .0)) ≡ Work.answers a w) where
   abbrev u : ClientWord → ℕ
   u = client-of m (c .0)
 
@@ -46,13 +44,13 @@ module _ (k j slots : ℕ) (al : Allowed (sizes k j slots)) (m : Address → ℕ
   abbrev own : Client-shown k j slots u (L .given (c .0)) (L .undecided (c .0)) (M .slots c) (M .copy c) (M .said c)
   own = R .clients c
 
-  A : Answers (sizes k j slots) u a w
-  A = answered-as (sizes k j slots) u a w e
+  A : Answers slots u a w
+  A = answered-as slots u a w e
 
   abbrev seen : Hint
   seen = hint k j slots al u fit y (own .slot) (M .copy c) (own .copies) a w A
 
-  abbrev given : Given (sizes k j slots)
+  abbrev given : Given
   given = record { op = waiting u; legal = own .says .legal waits; hint = seen }
 
   abbrev shown : Shown (T k j slots)
@@ -78,7 +76,7 @@ module _ (k j slots : ℕ) (al : Allowed (sizes k j slots)) (m : Address → ℕ
       subst (λ (l : List Obj). Mv.Reached (T k j slots) (machine l)) (walks .1) (W.work-answers (T k j slots) M c given (a, w) (R .reached) open-now (walks .0))
 
   abbrev ps : List (Put ClientWord)
-  ps = answered (walked (sizes k j slots) u .used) w u
+  ps = answered (walked slots u .used) w u
 
   -- what the client's part shows, and that the answer was added
   abbrev v : ClientWord → ℕ

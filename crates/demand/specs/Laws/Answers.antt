@@ -1,24 +1,20 @@
--- WHAT FOLLOWS where the memory shows a state that the machine reaches: the decided transactions' answers are the map's, and the tree, due writes
--- counted in, holds the map that they leave.
-use mathlib.Core.Path.{_≡_, refl, ap, sym, _∙_, subst, fun-ext}
+-- WHAT FOLLOWS where the memory shows a state that the machine reaches: the decided transactions' answers are the map's, and where no apply is due the
+-- tree holds the map that they leave.
+use mathlib.Core.Path.{_≡_, refl, ap, sym, _∙_, subst}
 use mathlib.Core.List.{List, [], _∷_, map}
-use Prim.Native.Nat.{ℕ}
-use Rattle.base.specs.Test.{ifd}
-use Rattle.operations.specs.Object.{Obj, meta, Val}
-use Rattle.operations.specs.Laws.Object.{Obj-discrete}
-use Rattle.operations.specs.Slot.{Allowed}
-use Rattle.operations.specs.Tree.{Holds-tree}
-use Rattle.protocol.specs.Claim.{due-in, seat}
-use Rattle.protocol.specs.Laws.Claim.{claim}
+use Prim.Native.Nat.{ℕ, _≤_, Fin}
+use mathlib.Core.Bool.{true}
+use Rattle.protocol.specs.Claim.{there-now, seat}
+use Rattle.protocol.specs.Laws.Claim.{claim, Applied, quiet-holds}
 use Rattle.steps.specs.Whole.{Address}
-use Rattle.demand.specs.Laws.Store.{sizes, home, meaning}
+use Rattle.demand.specs.Laws.Store.{Holds, meaning}
 use Rattle.demand.specs.Laws.Shows.{T, told, Related}
 use Rattle.operations.specs.Map as M
 use Rattle.protocol.specs.Meaning as Mean
 use Rattle.protocol.specs.Machine as P
 use Rattle.demand.specs.Ledger as Ledger
 
-module _ (k j slots : ℕ) (al : Allowed (sizes k j slots)) where
+module _ (k j slots : ℕ) (al : slots ≤ 1024) where
   abbrev Z : Mean.Meaning (T k j slots)
   Z = meaning k j slots al
 
@@ -49,16 +45,8 @@ module _ (k j slots : ℕ) (al : Allowed (sizes k j slots)) where
     pub answers-right : Ledger.Right-all (L .decided)
     answers-right = subst Ledger.Right-all (sym (R .log-as)) (right-all-same (N .log) (claim (T k j slots) Z (R .reached) .answered))
 
-    -- "the memory as all applies still due would leave it"
-    pub tree-holds : Holds-tree (λ o. due-in (T k j slots) N (home k j slots o) o) (Ledger.map-all (L .decided))
-    tree-holds =
-        subst (Holds-tree (λ o. due-in (T k j slots) N (home k j slots o) o)) (map-all-same (N .log) ∙ ap Ledger.map-all (sym (R .log-as)))
-        (subst (λ (S : Obj → Val). Holds-tree S (Mean.map-all (T k j slots) Z (N .log))) (fun-ext (λ o. ap (λ s. due-in (T k j slots) N s o) (seat-home o)))
-        (claim (T k j slots) Z (R .reached) .holds (home k j slots meta) refl))
-      where
-        seat-home : (o : Obj) → seat (T k j slots) (home k j slots meta) o ≡ home k j slots o
-        seat-home o = go (Obj-discrete o meta)
-          where
-            go : (d : Dec (o ≡ meta)) → ifd d (home k j slots meta) (home k j slots o) ≡ home k j slots o
-            go (yes e) = ap (home k j slots) (sym e)
-            go (no ne) = refl
+    -- where no apply is due, the tree is what the servers store, the metadata as any server has it that is there
+    pub quiet-tree : Applied (T k j slots) Z N → (s : Fin 8) → there-now (T k j slots) N s ≡ true → Holds k j slots (λ o. N .value (seat (T k j slots) s o) o) (Ledger.map-all (L .decided))
+    quiet-tree done s h =
+        subst (Holds k j slots (λ o. N .value (seat (T k j slots) s o) o)) (map-all-same (N .log) ∙ ap Ledger.map-all (sym (R .log-as)))
+        (quiet-holds (T k j slots) Z (R .reached) done s h)

@@ -15,7 +15,6 @@ use Rattle.nodes.specs.declared.found.Found.{Found}
 use Rattle.nodes.specs.declared.found.Found.the-variants.{At, Absent}
 use Rattle.operations.specs.Object.{Obj, meta, node, flag, Val}
 use Rattle.operations.specs.Laws.Object.{inner}
-use Rattle.operations.specs.Slot.{Allowed}
 use Rattle.server.specs.declared.place.Place.{Place}
 use Rattle.server.specs.Layout.{places}
 use Rattle.server.specs.Object.{object-of, lock-of}
@@ -33,7 +32,7 @@ use Rattle.steps.specs.Whole.{Address}
 use Rattle.steps.specs.Judge.{lowest-participant}
 use Rattle.steps.specs.Steps.{unlock-each, store-all}
 use Rattle.demand.specs.Ledger.{Ledger}
-use Rattle.demand.specs.Laws.Store.{sizes, keeps, by-value}
+use Rattle.demand.specs.Laws.Store.{keeps, by-value}
 use Rattle.steps.specs.Laws.Stores.{client-of, server-of}
 use Rattle.demand.specs.Laws.Frame.{last, read-after, Only}
 use Rattle.demand.specs.Laws.Shows.{phase-of, T, In-store, Recorded, lock-kept, new-value, item-from, item-of, value-at, version-at, table-at, Slot-shown, Server-shown, Client-shown, Related}
@@ -48,7 +47,7 @@ use Rattle.protocol.specs.Machine as P
 use Rattle.protocol.specs.Moves as Mv
 use Rattle.client.specs.Items as I
 
-module _ (k j slots : ℕ) (al : Allowed (sizes k j slots)) (few : suc j ≤ 16) (m : Address → ℕ) (L : Ledger) (M : P.Machine (T k j slots)) (c : Fin (suc j)) (R : Related k j slots m L M) (fit : client-fits (sizes k j slots) (client-of m (c .0)) ≡ true) (s : Fin (suc k)) (now : client-of m (c .0) phase ≡ 3) (part : bit (client-of m (c .0) participants) (s .0) ≡ true) (new : bit (client-of m (c .0) applied) (s .0) ≡ false) where
+module _ (k j slots : ℕ) (al : slots ≤ 1024) (few : suc j ≤ 16) (m : Address → ℕ) (L : Ledger) (M : P.Machine (T k j slots)) (c : Fin (suc j)) (R : Related k j slots m L M) (fit : client-fits slots (client-of m (c .0)) ≡ true) (s : Fin 8) (now : client-of m (c .0) phase ≡ 3) (part : bit (client-of m (c .0) participants) (s .0) ≡ true) (new : bit (client-of m (c .0) applied) (s .0) ≡ false) where
   abbrev z : Sizes
   z = record { servers = suc k; slots = slots; clients = suc j }
 
@@ -81,27 +80,27 @@ module _ (k j slots : ℕ) (al : Allowed (sizes k j slots)) (few : suc j ≤ 16)
   M₀ = Mv.applied-at (T k j slots) M c s
 
   abbrev pub M₁ : P.Machine (T k j slots)
-  M₁ = P.turned (T k j slots) M₀ (M₀ .slots) (upd (Fin-discrete (suc k)) (M .lock) s locks) (M .said) (M .log)
+  M₁ = P.turned (T k j slots) M₀ (M₀ .slots) (upd (Fin-discrete 8) (M .lock) s locks) (M .said) (M .log)
 
   pub reached₁ : Mv.Reached (T k j slots) M₁
   unfolding phase-of
   reached₁ =
       Mv.moved (Mv.moved (R .reached) (Mv.applies c s (sym (shown .phase-as) ∙ ap phase-of now) (shown .participant-as s ∙ part) (shown .applied-as s ∙ new)))
-      (Mv.releases (upd (Fin-discrete (suc k)) (M .lock) s locks) (λ t o. go t o (Fin-discrete (suc k) t s)))
+      (Mv.releases (upd (Fin-discrete 8) (M .lock) s locks) (λ t o. go t o (Fin-discrete 8 t s)))
     where
       applied-now : (M₀ .slots c .prepared s && not (M₀ .slots c .applied s)) ≡ false
       applied-now =
           ap (λ (w : P.Slot (T k j slots)). w .prepared s && not (w .applied s)) (upd-same (Fin-discrete (suc j)) (M .slots) c (Mv.applied-slot (T k j slots) y s))
-          ∙ ap (λ (b : Bool). y .prepared s && not b) (upd-same (Fin-discrete (suc k)) (y .applied) s true) ∙ and-false (y .prepared s)
+          ∙ ap (λ (b : Bool). y .prepared s && not b) (upd-same (Fin-discrete 8) (y .applied) s true) ∙ and-false (y .prepared s)
 
-      Free : Fin (suc k) → Obj → P.Lock (T k j slots) → Type 0
+      Free : Fin 8 → Obj → P.Lock (T k j slots) → Type 0
       Free t o l = Mv.Released (T k j slots) M₀ t o l
 
-      go : (t : Fin (suc k)) (o : Obj) → Dec (t ≡ s) → Free t o (upd (Fin-discrete (suc k)) (M .lock) s locks t o)
+      go : (t : Fin 8) (o : Obj) → Dec (t ≡ s) → Free t o (upd (Fin-discrete 8) (M .lock) s locks t o)
       go t o (yes e) =
-          subst (λ (x : Fin (suc k)). Free x o (upd (Fin-discrete (suc k)) (M .lock) s locks x o)) (sym e)
-          (subst (Free s o) (sym (ap (λ (f : Obj → P.Lock (T k j slots)). f o) (upd-same (Fin-discrete (suc k)) (M .lock) s locks))) (Mv.given-back c applied-now))
-      go t o (no n) = subst (Free t o) (sym (ap (λ (f : Obj → P.Lock (T k j slots)). f o) (upd-other (Fin-discrete (suc k)) (M .lock) s locks t n))) Mv.unchanged
+          subst (λ (x : Fin 8). Free x o (upd (Fin-discrete 8) (M .lock) s locks x o)) (sym e)
+          (subst (Free s o) (sym (ap (λ (f : Obj → P.Lock (T k j slots)). f o) (upd-same (Fin-discrete 8) (M .lock) s locks))) (Mv.given-back c applied-now))
+      go t o (no n) = subst (Free t o) (sym (ap (λ (f : Obj → P.Lock (T k j slots)). f o) (upd-other (Fin-discrete 8) (M .lock) s locks t n))) Mv.unchanged
 
   -- ---- the words of this server: the writes, then the locks
   abbrev p₁ : Place → ℕ
@@ -243,12 +242,12 @@ module _ (k j slots : ℕ) (al : Allowed (sizes k j slots)) (few : suc j ≤ 16)
   unfolding noted Only
   own-shown =
       course-shown k j slots u v (else-same qs u (refl, tt))
-      (L .given (c .0)) (L .undecided (c .0)) (L .undecided (c .0)) y (M .copy c) (M .said c) (y .phase) (y .participant) (y .lowest) (y .prepared) (upd (Fin-discrete (suc k)) (y .applied) s true)
+      (L .given (c .0)) (L .undecided (c .0)) (L .undecided (c .0)) y (M .copy c) (M .said c) (y .phase) (y .participant) (y .lowest) (y .prepared) (upd (Fin-discrete 8) (y .applied) s true)
       (λ n. absurd (omega (arith, now, at phase, n .1))) (ap phase-of (at phase) ∙ shown .phase-as)
       (λ t. shown .participant-as t ∙ ap (λ (w : ℕ). bit w (t .0)) (sym (at participants)))
       (λ t. shown .prepared-as t ∙ ap (λ (w : ℕ). bit w (t .0)) (sym (at prepared)))
       (λ t. noted-bit (y .applied) (u applied) s t (shown .applied-as) ∙ ap (λ (w : ℕ). bit w (t .0)) (sym (at applied)))
-      (omega (arith, at phase, now)) (el ∙ ap (lowest-of (suc k)) (sym (at participants))) (R .clients c)
+      (omega (arith, at phase, now)) (el ∙ ap (lowest-of 8) (sym (at participants))) (R .clients c)
 
   abbrev values : Obj → Val
   values = Mv.row (T k j slots) (y .items) (λ i. i .written && keeps k j slots s (i .obj)) (λ i. i .new) (M .value s)
@@ -280,17 +279,17 @@ module _ (k j slots : ℕ) (al : Allowed (sizes k j slots)) (few : suc j ≤ 16)
       })
       (coe 1 0 (t. Client-shown k j slots (both-client m (s .0) (c .0) ps qs t) (L .given (c .0)) (L .undecided (c .0))
       (upd-same (Fin-discrete (suc j)) (M .slots) c (Mv.applied-slot (T k j slots) y s) t) (M .copy c) (M .said c)) own-shown)
-      (λ t. go t (Fin-discrete (suc k) t s))
+      (λ t. go t (Fin-discrete 8 t s))
       (R .log-as)
     where
-      D : (a b : Fin (suc k)) → Dec (a ≡ b)
-      D = Fin-discrete (suc k)
+      D : (a b : Fin 8) → Dec (a ≡ b)
+      D = Fin-discrete 8
 
-      Shown-at : Fin (suc k) → Type 0
+      Shown-at : Fin 8 → Type 0
       Shown-at t = Server-shown k j slots (server-of (both m (s .0) (c .0) ps qs) (t .0)) t (upd D (M .value) s values t) (upd D (M .version) s versions t)
           (upd D (M .table) s tables t) (upd D (M .lock) s locks t)
 
-      go : (t : Fin (suc k)) → Dec (t ≡ s) → Shown-at t
+      go : (t : Fin 8) → Dec (t ≡ s) → Shown-at t
       go t (yes e) =
           subst Shown-at (sym e)
           (coe 1 0 (i. Server-shown k j slots (both-server m (s .0) (c .0) ps qs i) s (upd-same D (M .value) s values i) (upd-same D (M .version) s versions i)

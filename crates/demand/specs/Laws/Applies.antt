@@ -13,7 +13,6 @@ use Rattle.layout.specs.Laws.Step.{changed-append}
 use Rattle.layout.specs.Part.{over}
 use Rattle.nodes.specs.declared.found.Found.{Found}
 use Rattle.nodes.specs.declared.found.Found.the-variants.{At, Absent}
-use Rattle.operations.specs.Slot.{TreeSizes, Allowed}
 use Rattle.client.specs.declared.part.Set.the-variants.{Reads, Writes}
 use Rattle.client.specs.Layout.{ClientWord, client-words, phase, participants, applied, lost}
 use Rattle.client.specs.Record.{last-version, whole-in-range}
@@ -29,7 +28,6 @@ use Rattle.steps.specs.Laws.Stores.{client-of}
 use Rattle.steps.specs.Steps.{Did, did, in-client, covers, applying, all-applied, applied-at}
 use Rattle.steps.specs.declared.outcome.Outcome.the-variants.{Applied, Committed}
 use Rattle.demand.specs.Ledger.{Ledger}
-use Rattle.demand.specs.Laws.Store.{sizes}
 use Rattle.demand.specs.Laws.Frame.{last, read-after, Only}
 use Rattle.demand.specs.Laws.Shows.{T}
 use Rattle.demand.specs.Laws.Slots.{Same-sets, count-frame, number-frame, same-read, record-frame}
@@ -68,18 +66,18 @@ module _ (u v : ClientWord → ℕ) (S : Same-sets u v) where
           λ t. not (inner (n t) (r t)) || (ltb 8192 (n t) || ltb (old t) last-version)
 
 -- what an apply that ends the transaction reads of them is in range
-pub fit-young : (z : TreeSizes) (u : ClientWord → ℕ) (s : ℕ) → fit-to-apply z u s true ≡ true → renews-young u ≡ true
+pub fit-young : (slots : ℕ) (u : ClientWord → ℕ) (s : ℕ) → fit-to-apply slots u s true ≡ true → renews-young u ≡ true
 unfolding fit-to-apply fit-to-renew renews-young renewal-fits inner-renewal-fits young
-fit-young z u s h = go (eqb (u lost) 1) renews
+fit-young slots u s h = go (eqb (u lost) 1) renews
   where
-    renews : (eqb (u lost) 1 || all-below (count u Writes) (renewal-fits z u)) ≡ true
+    renews : (eqb (u lost) 1 || all-below (count u Writes) (renewal-fits slots u)) ≡ true
     renews =
-        and-both (leb (u lost) 1) (eqb (u lost) 1 || all-below (count u Writes) (renewal-fits z u))
-        (and-both (writes-fit z u s) (fit-to-renew z u) (and-both (fit-to-unlock z u) (writes-fit z u s && fit-to-renew z u)
-        (and-both (servers-fit u (z .servers) applied && numbers-fit z u Reads) (fit-to-unlock z u && (writes-fit z u s && fit-to-renew z u)) h .1) .1) .1) .1
+        and-both (leb (u lost) 1) (eqb (u lost) 1 || all-below (count u Writes) (renewal-fits slots u))
+        (and-both (writes-fit slots u s) (fit-to-renew slots u) (and-both (fit-to-unlock slots u) (writes-fit slots u s && fit-to-renew slots u)
+        (and-both (servers-fit u applied && numbers-fit slots u Reads) (fit-to-unlock slots u && (writes-fit slots u s && fit-to-renew slots u)) h .1) .1) .1) .1
 
-    one : (i : ℕ) → renewal-fits z u i ≡ true → (not (inner (number-at u Writes i) (record-at u Writes i)) || young u (number-at u Writes i)) ≡ true
-    one i = by (ltb 8192 (number-at u Writes i)) (inner (number-at u Writes i) (record-at u Writes i)) (whole-in-range z (number-at u Writes i) (record-at u Writes i)) _ _
+    one : (i : ℕ) → renewal-fits slots u i ≡ true → (not (inner (number-at u Writes i) (record-at u Writes i)) || young u (number-at u Writes i)) ≡ true
+    one i = by (ltb 8192 (number-at u Writes i)) (inner (number-at u Writes i) (record-at u Writes i)) (whole-in-range slots (number-at u Writes i) (record-at u Writes i)) _ _
       where
         by : (f b w y g : Bool) → cond f g (not b || (w && (f || y))) ≡ true → (not b || (f || y)) ≡ true
         by f false w y g h = refl
@@ -87,10 +85,10 @@ fit-young z u s h = go (eqb (u lost) 1) renews
         by false true true y g h = h
         by false true false y g h = absurd (false≢true h)
 
-    go : (b : Bool) → (b || all-below (count u Writes) (renewal-fits z u)) ≡ true
+    go : (b : Bool) → (b || all-below (count u Writes) (renewal-fits slots u)) ≡ true
         → (b || all-below (count u Writes) (λ i. not (inner (number-at u Writes i) (record-at u Writes i)) || young u (number-at u Writes i))) ≡ true
     go true h = refl
-    go false h = every-below (count u Writes) _ (λ i l. one i (all-at (count u Writes) (renewal-fits z u) h i l))
+    go false h = every-below (count u Writes) _ (λ i l. one i (all-at (count u Writes) (renewal-fits slots u) h i l))
 
 -- what comes of an apply
 pub applied-outcome : (z : Sizes) (m : Address → ℕ) (c s : ℕ) → applied-at z m c s .outcome ≡ cond (all-applied z m c s) Committed (Applied s)
@@ -117,7 +115,7 @@ module _ (k j slots : ℕ) where
       ap (λ (l : List (Put Address)). changed whole m (ps ++ l)) (over-append (client c) (noted applied s u) (finish v))
       ∙ ap (changed whole m) (sym (append-assoc ps qs (over (client c) (finish v)))) ∙ changed-append whole (ps ++ qs) (over (client c) (finish v)) m
 
-  module _ (al : Allowed (sizes k j slots)) (few : suc j ≤ 16) (m : Address → ℕ) (L : Ledger) (M : P.Machine (T k j slots)) (c : Fin (suc j)) (G : Good k j slots m L M) (s : Fin (suc k)) (now : client-of m (c .0) phase ≡ 3) (part : bit (client-of m (c .0) participants) (s .0) ≡ true) (new : bit (client-of m (c .0) applied) (s .0) ≡ false) (early : all-applied (store k j slots) m (c .0) (s .0) ≡ true → renews-young (client-of m (c .0)) ≡ true) where
+  module _ (al : slots ≤ 1024) (few : suc j ≤ 16) (m : Address → ℕ) (L : Ledger) (M : P.Machine (T k j slots)) (c : Fin (suc j)) (G : Good k j slots m L M) (s : Fin 8) (now : client-of m (c .0) phase ≡ 3) (part : bit (client-of m (c .0) participants) (s .0) ≡ true) (new : bit (client-of m (c .0) applied) (s .0) ≡ false) (early : all-applied (store k j slots) m (c .0) (s .0) ≡ true → renews-young (client-of m (c .0)) ≡ true) where
     abbrev u : ClientWord → ℕ
     u = client-of m (c .0)
 
@@ -147,7 +145,7 @@ module _ (k j slots : ℕ) where
         let g : client-of n₁ (c .0) phase ≡ 3 = word phase ∙ now in
         turns-good k j slots n₁ _ L L _ c good₁
         (finish-turns k j slots al n₁ L _ c (good₁ .shown) (good₁ .decided-fits c (omega (arith, g))) g
-        (ap₂ (covers (suc k)) (word participants) (word applied) ∙ all)
+        (ap₂ (covers 8) (word participants) (word applied) ∙ all)
         (young-kept u (client-of n₁ (c .0)) same-sets (word lost) (early all)))
 
     stores-end : changed whole m (applying (store k j slots) m (c .0) (s .0) ++ in-client (store k j slots) m (c .0) (andThen client-words (noted applied (s .0)) finish))

@@ -1,6 +1,6 @@
 -- What a client has at hand, its sets and copies, is at hand for the machine.
 use mathlib.Core.Path.{_≡_, refl, ap, sym, _∙_, subst}
-use mathlib.Core.Bool.{Bool, true, false, cond, false≢true}
+use mathlib.Core.Bool.{Bool, true, false, cond, _||_, not, false≢true}
 use mathlib.Core.Option.{Option, none, some, Option·none-ne-some, Option·some-injective}
 use Prim.Native.Nat.{ℕ, suc, _+_, _/_, _%_, _≤_, _<_}
 use native.Mathlib.Omega.{arith}
@@ -14,18 +14,17 @@ use Rattle.nodes.specs.declared.found.Found.the-variants.{At, Absent}
 use Rattle.nodes.specs.Lists.{pad}
 use Rattle.nodes.specs.Node.{made}
 use Rattle.operations.specs.Object.{Obj, meta, node, flag, object, Val, taken}
-use Rattle.operations.specs.Slot.{Allowed}
+use Rattle.operations.specs.Laws.Object.{inner}
 use Rattle.client.specs.declared.answer.Look.{Look}
 use Rattle.client.specs.declared.part.Set.the-variants.{Reads, Writes, Copies}
-use Rattle.client.specs.Layout.{ClientWord, vector-word, meta-copied, meta-root, meta-version}
-use Rattle.client.specs.Record.{number, value-of, single, object-in-store, record-in-range}
+use Rattle.client.specs.Layout.{ClientWord, vector-word, meta-states, meta-root, meta-version}
+use Rattle.client.specs.Record.{number, value-of, single, metadata, object-in-store, record-in-range}
 use Rattle.client.specs.Sets.{record-at, number-at, count, find}
 use Rattle.client.specs.Commit.{is-at}
 use Rattle.client.specs.Items.{has}
-use Rattle.client.specs.Laws.Ranges.{client-fits, fits-field}
-use Rattle.client.specs.Have.{here, copy, lacking, is-found, copied-meta, copied-item, copied-node, copied-flag, copied, or-copied, or-read, source, look-fits, usable, have}
-use Rattle.demand.specs.Laws.Store.{sizes}
-use Rattle.demand.specs.Laws.Numbers.{by-object, by-number-of}
+use Rattle.client.specs.Laws.Ranges.{client-fits}
+use Rattle.client.specs.Have.{here, copy, lacking, is-found, is-copied, copy-fits, copied-meta, copied-item, copied-node, copied-flag, copied, or-copied, or-read, source, look-fits, usable, have}
+use Rattle.demand.specs.Laws.Numbers.{by-object, by-number-of, as-node, name-lt}
 use Rattle.demand.specs.Laws.Shows.{T, In-store, item-from, item-of, Slot-shown, Copies-shown}
 use Rattle.demand.specs.Laws.Held.{found-at, has-at, at-has, written-in}
 use Rattle.demand.specs.Laws.Members.{name-server}
@@ -44,19 +43,19 @@ there-is-one : (w : ℕ) → eqb w 0 ≡ false → w ≤ 1 → w ≡ 1
 there-is-one w e l = omega (arith, eqb-false w 0 e, l)
 
 -- ---- copies: one that is stored is the machine's
-module _ (k j slots : ℕ) (al : Allowed (sizes k j slots)) (u : ClientWord → ℕ) (f : Obj → Option (P.Copy (T k j slots))) (copies : Copies-shown k j slots u f) (fit : client-fits (sizes k j slots) u ≡ true) where
+module _ (k j slots : ℕ) (al : slots ≤ 1024) (u : ClientWord → ℕ) (f : Obj → Option (P.Copy (T k j slots))) (copies : Copies-shown k j slots u f) (fit : client-fits slots u ≡ true) where
   -- the machine has what a lookup among the copies says
   abbrev Same-copy : Obj → Look → Type 0
   Same-copy o l = f o ≡ S.copy k j slots u (value-of o (l .node)) (l .node .version)
 
   meta-there : Is-there (copied-meta u) → Same-copy meta (copied-meta u)
-  unfolding copied-meta single made pad
-  meta-there b = go (eqb (u meta-copied) 0) refl b
+  unfolding copied-meta metadata made pad
+  meta-there b = go (eqb (u meta-states) 0) refl b
     where
-      go : (t : Bool) → eqb (u meta-copied) 0 ≡ t → Is-there (cond t lacking (copy (single (u meta-version) (u meta-root))))
-          → Same-copy meta (cond t lacking (copy (single (u meta-version) (u meta-root))))
+      go : (t : Bool) → eqb (u meta-states) 0 ≡ t → Is-there (cond t lacking (copy (metadata (u meta-version) (u meta-root) (u meta-states))))
+          → Same-copy meta (cond t lacking (copy (metadata (u meta-version) (u meta-root) (u meta-states))))
       go true e b = absurd (false≢true b)
-      go false e b = copies .meta-as (there-is-one (u meta-copied) e (fits-field (sizes k j slots) u fit 12 (omega arith)))
+      go false e b = copies .meta-as (eqb-false (u meta-states) 0 e)
 
   node-there : (n : ℕ) → Is-there (copied-node u (number (node n))) → Same-copy (node n) (copied-node u (number (node n)))
   unfolding copied-node count number-at
@@ -73,23 +72,20 @@ module _ (k j slots : ℕ) (al : Allowed (sizes k j slots)) (u : ClientWord → 
       w : ℕ
       w = u (vector-word (N.server-of n) (1 + N.slot-of n / 64))
 
-      near : N.server-of n < 8
-      near = omega (arith, name-server k j slots n h, al .0)
-
       go : (t : Bool) → eqb (u (vector-word (N.server-of n) 0)) 0 ≡ t
           → Is-there (cond t lacking (copy (single 0 (one-if (bit w (N.slot-of n % 64))))))
           → Same-copy (flag n) (cond t lacking (copy (single 0 (one-if (bit w (N.slot-of n % 64))))))
       go true e b = absurd (false≢true b)
       go false e b =
           let next : suc (N.slot-of n / 64) ≡ 1 + N.slot-of n / 64 = omega arith in
-          copies .flag-as n h (there-is-one (u (vector-word (N.server-of n) 0)) e (fits-vector (sizes k j slots) u fit (N.server-of n) near))
+          copies .flag-as n h (there-is-one (u (vector-word (N.server-of n) 0)) e (fits-vector slots u fit (N.server-of n) (name-server k j slots n h)))
           ∙ ap (λ (i : ℕ). S.copy k j slots u (taken (bit (u (vector-word (N.server-of n) i)) (N.slot-of n % 64))) 0) next
           ∙ ap (λ (t : Bool). S.copy k j slots u (taken t) 0) (sym (one-if-is (bit w (N.slot-of n % 64))))
 
   pub copy-there : (o : Obj) → In-store k j slots o → Is-there (copied u (number o)) → Same-copy o (copied u (number o))
   unfolding copied
   copy-there o h b =
-      let e = by-number-of (sizes k j slots) al o h (copied-meta u) (λ n. copied-node u (number o)) (copied-flag u) in
+      let e = by-number-of slots al o h (copied-meta u) (λ n. copied-node u (number o)) (copied-flag u) in
       subst (Same-copy o) (sym e) (by o h (subst Is-there e b))
     where
       by : (o : Obj) → In-store k j slots o → Is-there (by-object o (copied-meta u) (λ n. copied-node u (number o)) (copied-flag u))
@@ -150,24 +146,40 @@ module _ (k j slots : ℕ) (al : Allowed (sizes k j slots)) (u : ClientWord → 
     pub record Had (o : Obj) (v : Val) : Type 0 where
       pub in-store : In-store k j slots o
       pub found : Is-there (source u (number o))
-      pub fitting : record-in-range (sizes k j slots) (number o) (source u (number o) .node) ≡ true
+      pub fitting : record-in-range slots (number o) (source u (number o) .node) ≡ true
       pub value-as : v ≡ value-of o (source u (number o) .node)
+      -- what is copied of nodes is an inner one
+      pub copy-as : (not (is-copied (source u (number o) .how)) || copy-fits u (number o) (source u (number o) .node)) ≡ true
 
-    pub had : (o : Obj) (v : Val) → have (sizes k j slots) u (object o) ≡ some v → Had o v
+    pub had : (o : Obj) (v : Val) → have slots u (object o) ≡ some v → Had o v
     unfolding have look-fits
-    had o v e = go (object-in-store (sizes k j slots) o) refl (usable (sizes k j slots) u (number o) (source u (number o))) refl e
+    had o v e = go (object-in-store slots o) refl (usable slots u (number o) (source u (number o))) refl e
       where
         l : Look
         l = source u (number o)
 
-        go : (a : Bool) → object-in-store (sizes k j slots) o ≡ a → (b : Bool) → usable (sizes k j slots) u (number o) l ≡ b
+        go : (a : Bool) → object-in-store slots o ≡ a → (b : Bool) → usable slots u (number o) l ≡ b
             → cond a (cond b (some (value-of o (l .node))) none) none ≡ some v → Had o v
         go false p b q e = absurd (Option·none-ne-some v e)
         go true p false q e = absurd (Option·none-ne-some v e)
         go true p true q e =
-            let h = and-both (is-found (l .how)) (look-fits (sizes k j slots) u (number o) l) q in
-            record { in-store = p; found = h .0; fitting = and-both (record-in-range (sizes k j slots) (number o) (l .node)) _ (h .1) .0; value-as = sym (Option·some-injective (value-of o (l .node)) v e) }
+            let h = and-both (is-found (l .how)) (look-fits slots u (number o) l) q in
+            let g = and-both (record-in-range slots (number o) (l .node)) (not (is-copied (l .how)) || copy-fits u (number o) (l .node)) (h .1) in
+            record { in-store = p; found = h .0; fitting = g .0; value-as = sym (Option·some-injective (value-of o (l .node)) v e); copy-as = g .1 }
+
+    pub copied-inner : (n : ℕ) (v : Val) → Had (node n) v → find u Writes (1 + n) ≡ Absent → find u Reads (1 + n) ≡ Absent → inner (node n) (value-of (node n) (copied u (1 + n) .node)) ≡ true
+    unfolding source copied copied-node copy-fits
+    copied-inner n v h a b =
+        let near = name-lt slots al n (h .in-store) in
+        let item : copied u (1 + n) ≡ copied-item u (find u Copies (1 + n)) = as-node (copied-meta u) (λ _. copied-node u (1 + n)) (copied-flag u) n near in
+        let same : source u (1 + n) ≡ copied-item u (find u Copies (1 + n)) = ap (or-read u (1 + n)) a ∙ ap (or-copied u (1 + n)) b ∙ item in
+        subst (λ (l : Look). eqb (l .node .kind) 2 ≡ true) (sym item)
+        (go (find u Copies (1 + n)) near (subst Is-there same (h .found)) (subst (λ (l : Look). (not (is-copied (l .how)) || copy-fits u (1 + n) (l .node)) ≡ true) same (h .copy-as)))
+      where
+        go : (z : Found) → n < 8192 → Is-there (copied-item u z) → (not (is-copied (copied-item u z .how)) || copy-fits u (1 + n) (copied-item u z .node)) ≡ true → eqb (copied-item u z .node .kind) 2 ≡ true
+        go Absent l q r = absurd (false≢true q)
+        go (At i) l q r = sym (as-node true (λ _. eqb (record-at u Copies i .kind) 2) (λ x. eqb (u (vector-word (N.server-of x) 0)) 1) n l) ∙ r
 
     -- AT HAND
-    pub have-there : (o : Obj) (v : Val) → have (sizes k j slots) u (object o) ≡ some v → W.have (T k j slots) f (y .items) o ≡ some v
+    pub have-there : (o : Obj) (v : Val) → have slots u (object o) ≡ some v → W.have (T k j slots) f (y .items) o ≡ some v
     have-there o v e = let h = had o v e in source-there o (h .in-store) (h .found) ∙ ap some (sym (h .value-as))

@@ -4,7 +4,7 @@ use mathlib.Core.Bool.{Bool, true, false, cond, _&&_, _||_, not}
 use mathlib.Core.List.{List, [], _∷_, _++_, map}
 use mathlib.Core.Logic.{_⊎_, inl, inr}
 use mathlib.Core.Option.{Option, none, some, Option·none-ne-some, Option·some-ne-none, Option·some-injective}
-use Prim.Native.Nat.{ℕ, zero, suc, _<_, Fin}
+use Prim.Native.Nat.{ℕ, zero, suc, _≤_, _<_, Fin}
 use native.Mathlib.Omega.{arith}
 use native.Mathlib.Decide.{ℕ-discrete, Fin-discrete}
 use borrow.Author.Tests.{eqb-true, eqb-false}
@@ -15,7 +15,6 @@ use Rattle.layout.specs.Space.{tab}
 use Rattle.nodes.specs.declared.node.Node.{Node}
 use Rattle.operations.specs.Object.{Obj, meta, node, flag, taken}
 use Rattle.operations.specs.Laws.Object.{Val-discrete, inner}
-use Rattle.operations.specs.Slot.{Allowed}
 use Rattle.protocol.specs.Lists.{Among}
 use Rattle.server.specs.declared.check.Finding.the-variants.{Same, Differs, Busy, Unfit}
 use Rattle.server.specs.declared.lock.Use.{Use}
@@ -27,7 +26,7 @@ use Rattle.nodes.specs.Stored.{node-of}
 use Rattle.client.specs.Record.{number, first-slot, value-of}
 use Rattle.client.specs.Sets.{record-at}
 use Rattle.steps.specs.Steps.{node-at}
-use Rattle.demand.specs.Laws.Store.{sizes, home}
+use Rattle.demand.specs.Laws.Store.{home}
 use Rattle.demand.specs.Laws.Numbers.{by-object, by-number-of, server-object}
 use Rattle.demand.specs.Laws.Shows.{T, In-store, Server-shown}
 use Rattle.demand.specs.Laws.Locking.{asked, held, read-same}
@@ -85,13 +84,18 @@ unfolding Among
 among-end [] a = inl refl
 among-end (x ∷ l) a = inr (among-end l a)
 
-among-more : {A : Type 0} (l q : List A) (a : A) → Among a l → Among a (l ++ q)
+pub among-more : {A : Type 0} (l q : List A) (a : A) → Among a l → Among a (l ++ q)
 unfolding Among
 among-more [] q a h = absurd h
 among-more (x ∷ l) q a (inl e) = inl e
 among-more (x ∷ l) q a (inr h) = inr (among-more l q a h)
 
-among-each : {A : Type 0} (n : ℕ) (f : ℕ → A) (i : ℕ) → i < n → Among (f i) (U.each n f)
+pub among-later : {A : Type 0} (l q : List A) (a : A) → Among a q → Among a (l ++ q)
+unfolding Among
+among-later [] q a h = h
+among-later (x ∷ l) q a h = inr (among-later l q a h)
+
+pub among-each : {A : Type 0} (n : ℕ) (f : ℕ → A) (i : ℕ) → i < n → Among (f i) (U.each n f)
 unfolding U.each
 among-each zero f i l = absurd (omega arith)
 among-each {A} (suc n) f i l = go (ℕ-discrete i n) (λ q. among-each n f i q)
@@ -100,14 +104,18 @@ among-each {A} (suc n) f i l = go (ℕ-discrete i n) (λ q. among-each n f i q)
     go (yes e) rec = subst (λ (x : ℕ). Among (f x) (U.each n f ++ (f n ∷ []))) (sym e) (among-end (U.each n f) (f n))
     go (no d) rec = among-more (U.each n f) (f n ∷ []) (f i) (rec (omega arith))
 
-among-image : {A B : Type 0} (g : A → B) (l : List A) (a : A) → Among a l → Among (g a) (map g l)
+pub among-image : {A B : Type 0} (g : A → B) (l : List A) (a : A) → Among a l → Among (g a) (map g l)
 unfolding Among
 among-image g [] a h = h
 among-image g (x ∷ l) a (inl e) = inl (ap g e)
 among-image g (x ∷ l) a (inr h) = inr (among-image g l a h)
 
+-- where nothing is found, nothing is found of each
+pub none-found : (g : U.Item → ℕ × ℕ) (l : List U.Item) → U.deciding (map g l) ≡ 0 → (x : U.Item) → Among x l → g x .1 ≡ 0
+none-found g l h x i = none-all (map g l) (least-none (map g l) h) (g x) (among-image g l x i)
+
 pub all-found : (g : U.Item → ℕ × ℕ) (n : ℕ) (f : ℕ → U.Item) → U.deciding (map g (U.each n f)) ≡ 0 → (i : ℕ) → i < n → g (f i) .1 ≡ 0
-all-found g n f h i l = none-all (map g (U.each n f)) (least-none (map g (U.each n f)) h) (g (f i)) (among-image g (U.each n f) (f i) (among-each n f i l))
+all-found g n f h i l = none-found g (U.each n f) h (f i) (among-each n f i l)
 
 -- ---- one finding
 pub found-same : (o : Object) (b : Bool) (mark c : ℕ) (u : Use) (p : Place → ℕ) → Chk.finding-number (Chk.checked o b mark c u p) ≡ 0
@@ -128,7 +136,7 @@ guarded : (b x : Bool) → (b ≡ true → x ≡ true) → (not b || x) ≡ true
 guarded true x h = h refl
 guarded false x h = refl
 
-module _ (k j slots : ℕ) (al : Allowed (sizes k j slots)) (u : ClientWord → ℕ) (y : P.Slot (T k j slots)) (M : P.Machine (T k j slots)) (s : Fin (suc k)) (low : ℕ) (el : y .lowest .0 ≡ low) (p : Place → ℕ) (S : Server-shown k j slots p s (M .value s) (M .version s) (M .table s) (M .lock s)) where
+module _ (k j slots : ℕ) (al : slots ≤ 1024) (u : ClientWord → ℕ) (y : P.Slot (T k j slots)) (M : P.Machine (T k j slots)) (s : Fin 8) (low : ℕ) (el : y .lowest .0 ≡ low) (p : Place → ℕ) (S : Server-shown k j slots p s (M .value s) (M .version s) (M .table s) (M .lock s)) where
   -- the mark of an object
   unfoldable pub mark-of : (o : Obj) (i : ℕ) → ℕ
   mark-of meta i = record-at u Reads i .version
@@ -137,7 +145,7 @@ module _ (k j slots : ℕ) (al : Allowed (sizes k j slots)) (u : ClientWord → 
 
   pub mark-is : (o : Obj) (i : ℕ) (hi : In-store k j slots o) → U.item-of u (number o) (record-at u Reads i) .mark ≡ mark-of o i
   unfolding U.item-of mark-of
-  mark-is o i hi = by-number-of (sizes k j slots) al o hi (r .version) (λ n. r .version) (λ n. first-slot r) ∙ same o
+  mark-is o i hi = by-number-of slots al o hi (r .version) (λ n. r .version) (λ n. first-slot r) ∙ same o
     where
       r : Node
       r = record-at u Reads i
@@ -170,10 +178,10 @@ module _ (k j slots : ℕ) (al : Allowed (sizes k j slots)) (u : ClientWord → 
           W = I.has u Writes (number (node n))
 
           by-kind : (b : Bool) → eqb (r .kind) 2 ≡ b
-              → (cond b (yes? (Fin-discrete (suc k) (y .lowest) s) || W) (yes? (Fin-discrete (suc k) s (home k j slots (node n)))) ≡ true
+              → (cond b (yes? (Fin-discrete 8 (y .lowest) s) || W) (yes? (Fin-discrete 8 s (home k j slots (node n)))) ≡ true
               → Chk.standing (server-object (node n)) b p ≡ r .version)
-              → cond b (not (yes? (Fin-discrete (suc k) (y .lowest) s) || W) || yes? (ℕ-discrete (M .table s (node n)) (r .version)))
-              (not (yes? (Fin-discrete (suc k) s (home k j slots (node n)))) || yes? (ℕ-discrete (M .version s (node n)) (r .version))) ≡ true
+              → cond b (not (yes? (Fin-discrete 8 (y .lowest) s) || W) || yes? (ℕ-discrete (M .table s (node n)) (r .version)))
+              (not (yes? (Fin-discrete 8 s (home k j slots (node n)))) || yes? (ℕ-discrete (M .version s (node n)) (r .version))) ≡ true
           by-kind true e f = guarded _ _ (λ b. of-yes (ℕ-discrete (M .table s (node n)) (r .version)) (S .table-as (node n) hi refl ∙ f b))
           by-kind false e f = guarded _ _ (λ b. of-yes (ℕ-discrete (M .version s (node n)) (r .version)) (S .version-as (node n) hi b ∙ f b))
       go (flag n) hi f =

@@ -19,7 +19,7 @@ use Rattle.nodes.specs.Laws.Stored.{Sized}
 use Rattle.operations.specs.Object.{Obj, meta, node, flag, root, taken}
 use Rattle.operations.specs.Laws.Object.{Obj-discrete}
 use Rattle.client.specs.declared.part.Set.the-variants.{Copies}
-use Rattle.client.specs.Layout.{ClientWord, client-words, field, item, vector-word, meta-root, meta-version}
+use Rattle.client.specs.Layout.{ClientWord, client-words, field, item, vector-word, meta-states, meta-root, meta-version}
 use Rattle.client.specs.Record.{value-of}
 use Rattle.client.specs.Sets.{count, number-at, record-at, find}
 use Rattle.client.specs.Part.{nothing, put-fields, put-vector}
@@ -123,24 +123,24 @@ module _ (k j slots : ℕ) (u : ClientWord → ℕ) (f : Obj → Option (P.Copy 
         go Absent e Absent d = inl h
 
   -- ---- the metadata's copy
-  module _ (r n : ℕ) where
+  module _ (r st n : ℕ) where
     abbrev vm : ClientWord → ℕ
-    vm = changed client-words u (put-fields 12 (1 ∷ r ∷ n ∷ []) u)
+    vm = changed client-words u (put-fields 12 (st ∷ r ∷ n ∷ []) u)
 
     abbrev gm : Obj → Option (P.Copy (T k j slots))
-    gm = upd Obj-discrete f meta (copy k j slots u (root r) n)
+    gm = upd Obj-discrete f meta (copy k j slots u (root r st) n)
 
-    at : (a : ClientWord) → vm a ≡ last client-words (put-fields 12 (1 ∷ r ∷ n ∷ []) u) a (u a)
-    at a = read-after client-words (put-fields 12 (1 ∷ r ∷ n ∷ []) u) u a
+    at : (a : ClientWord) → vm a ≡ last client-words (put-fields 12 (st ∷ r ∷ n ∷ []) u) a (u a)
+    at a = read-after client-words (put-fields 12 (st ∷ r ∷ n ∷ []) u) u a
 
     else-meta : (o : Obj) → ¬ (sort o ≡ 0) → gm o ≡ f o
-    else-meta o d = upd-other Obj-discrete f meta (copy k j slots u (root r) n) o (other-kind o meta d)
+    else-meta o d = upd-other Obj-discrete f meta (copy k j slots u (root r st) n) o (other-kind o meta d)
 
     pub meta-put : Copies-shown k j slots vm gm
     unfolding put-fields puts
     meta-put = record {
-      meta-as = λ _. upd-same Obj-discrete f meta (copy k j slots u (root r) n)
-          ∙ ap₂ (λ (a b : ℕ). copy k j slots u (root a) b) (sym (at meta-root)) (sym (at meta-version));
+      meta-as = λ _. upd-same Obj-discrete f meta (copy k j slots u (root r st) n)
+          ∙ sym (λ t. copy k j slots u (root (at meta-root t) (at meta-states t)) (at meta-version t));
       node-as = λ i q. node-stays k j slots u vm f gm h i q (λ x. at (item Copies i x)) (else-meta (node q) (λ e. absurd (omega (arith, e))));
       flag-as = λ q. flag-stays k j slots u vm f gm h q (λ x. at (vector-word (N.server-of q) x)) (else-meta (flag q) (λ e. absurd (omega (arith, e))));
       apart = λ i q a b z t. h .apart i q a b (sym (at (item Copies i 0)) ∙ z ∙ at (item Copies q 0)) (λ y. t (at (item Copies i 0) ∙ y));

@@ -3,7 +3,7 @@ use mathlib.Core.Path.{_≡_, refl, ap, sym, _∙_, subst}
 use mathlib.Core.Bool.{Bool, true, false, _||_}
 use mathlib.Core.List.{List, map}
 use mathlib.Core.Option.{Option}
-use Prim.Native.Nat.{ℕ, suc, _≤_, Fin}
+use Prim.Native.Nat.{ℕ, _≤_, Fin}
 use native.Mathlib.Omega.{arith}
 use lib.Dec.{eqb}
 use Rattle.base.specs.Test.{not-both}
@@ -15,11 +15,10 @@ use Rattle.operations.specs.Operation.{Legal}
 use Rattle.protocol.specs.State.{Phase}
 use Rattle.protocol.specs.Meaning.{Shown}
 use Rattle.client.specs.declared.part.Set.the-variants.{Reads, Writes, Copies}
-use Rattle.client.specs.Layout.{ClientWord, client-words, field, phase, op-number, op-key, op-value, op-server, participants, prepared, applied, item, vector-word, reads-count, writes-count, meta-copied, meta-root, meta-version}
+use Rattle.client.specs.Layout.{ClientWord, client-words, field, phase, op-number, op-key, op-value, op-server, participants, prepared, applied, item, vector-word, reads-count, writes-count, meta-states, meta-root, meta-version}
 use Rattle.client.specs.Participants.{lowest-of}
 use Rattle.client.specs.Work.{op-of, waiting}
 use Rattle.demand.specs.Ledger.{Told}
-use Rattle.demand.specs.Laws.Store.{sizes}
 use Rattle.demand.specs.Laws.Frame.{Only, only-other}
 use Rattle.demand.specs.Laws.Shows.{phase-of, T, Client-shown, Running, told}
 use Rattle.demand.specs.Laws.Slots.{Same-sets, item-frame, read-frame, write-frame, copies-frame}
@@ -32,7 +31,7 @@ pub record Else (u v : ClientWord → ℕ) : Type 0 where
   pub op-key-same : v op-key ≡ u op-key
   pub op-value-same : v op-value ≡ u op-value
   pub op-server-same : v op-server ≡ u op-server
-  pub copied-same : v meta-copied ≡ u meta-copied
+  pub copied-same : v meta-states ≡ u meta-states
   pub root-same : v meta-root ≡ u meta-root
   pub version-same : v meta-version ≡ u meta-version
   pub copies-same : (i n : ℕ) → v (item Copies i n) ≡ u (item Copies i n)
@@ -60,7 +59,7 @@ else-same ps u h = record {
   op-key-same = at op-key refl;
   op-value-same = at op-value refl;
   op-server-same = at op-server refl;
-  copied-same = at meta-copied refl;
+  copied-same = at meta-states refl;
   root-same = at meta-root refl;
   version-same = at meta-version refl;
   copies-same = λ i n. at (item Copies i n) refl;
@@ -76,9 +75,9 @@ module _ (k j slots : ℕ) (u v : ClientWord → ℕ) (E : Else u v) where
 
   -- the machine's slot with another course
   pub course-shown : (given : Op) (undecided undecided′ : List Told) (y : P.Slot (T k j slots)) (f : Obj → Option (P.Copy (T k j slots))) (said : List (Shown (T k j slots)))
-      → (p : Phase) (q : Fin (suc k) → Bool) (l : Fin (suc k)) (r a : Fin (suc k) → Bool)
-      → (Running (v phase) → undecided′ ≡ map (told k j slots) said) → phase-of (v phase) ≡ p → ((s : Fin (suc k)) → q s ≡ bit (v participants) (s .0)) → ((s : Fin (suc k)) → r s ≡ bit (v prepared) (s .0))
-      → ((s : Fin (suc k)) → a s ≡ bit (v applied) (s .0)) → 2 ≤ v phase → l .0 ≡ lowest-of (suc k) (v participants)
+      → (p : Phase) (q : Fin 8 → Bool) (l : Fin 8) (r a : Fin 8 → Bool)
+      → (Running (v phase) → undecided′ ≡ map (told k j slots) said) → phase-of (v phase) ≡ p → ((s : Fin 8) → q s ≡ bit (v participants) (s .0)) → ((s : Fin 8) → r s ≡ bit (v prepared) (s .0))
+      → ((s : Fin 8) → a s ≡ bit (v applied) (s .0)) → 2 ≤ v phase → l .0 ≡ lowest-of 8 (v participants)
       → Client-shown k j slots u given undecided y f said → Client-shown k j slots v given undecided′ (P.with-course (T k j slots) y p q l r a) f said
   course-shown given undecided undecided′ y f said p q l r a said-now hp hq hr ha late hl h = record {
     slot = record {
@@ -93,11 +92,12 @@ module _ (k j slots : ℕ) (u v : ClientWord → ℕ) (E : Else u v) where
       applied-as = ha;
       calm = λ z. absurd (omega arith);
       lowest-as = λ _. hl;
+      housed = h .slot .housed;
     };
     copies = copies-frame k j slots u v f (E .copied-same) (E .root-same) (E .version-same) (E .copies-same) (E .vectors-same) (h .copies);
     says = record {
       said-as = said-now;
       given-as = λ n. h .says .given-as (λ e. n (E .op-number-same ∙ e)) ∙ sym waits;
-      legal = λ n. subst (Legal (sizes k j slots)) (sym waits) (h .says .legal (λ e. n (E .op-number-same ∙ e)));
+      legal = λ n. subst Legal (sym waits) (h .says .legal (λ e. n (E .op-number-same ∙ e)));
     };
   }

@@ -29,14 +29,14 @@ use Rattle.protocol.specs.Moves as Mv
 use Rattle.client.specs.Course as Life
 
 -- all participants are among those noted
-pub parts-covered : (k j slots : ℕ) (p d : Fin (suc k) → Bool) (w v : ℕ) → ((s : Fin (suc k)) → p s ≡ bit w (s .0)) → ((s : Fin (suc k)) → d s ≡ bit v (s .0))
-    → covers (suc k) w v ≡ true → Mv.all-parts (T k j slots) p d ≡ true
+pub parts-covered : (k j slots : ℕ) (p d : Fin 8 → Bool) (w v : ℕ) → ((s : Fin 8) → p s ≡ bit w (s .0)) → ((s : Fin 8) → d s ≡ bit v (s .0))
+    → covers 8 w v ≡ true → Mv.all-parts (T k j slots) p d ≡ true
 unfolding covers
 parts-covered k j slots p d w v e f h =
-    all-in (λ s. not (p s) || d s) (fins (suc k))
-    (λ s _. ap₂ (λ (a b : Bool). not a || b) (e s) (f s) ∙ all-at (suc k) (λ t. not (bit w t) || bit v t) h (s .0) (s .1))
+    all-in (λ s. not (p s) || d s) (fins 8)
+    (λ s _. ap₂ (λ (a b : Bool). not a || b) (e s) (f s) ∙ all-at 8 (λ t. not (bit w t) || bit v t) h (s .0) (s .1))
 
-module _ (k j slots : ℕ) (m : Address → ℕ) (L : Ledger) (M : P.Machine (T k j slots)) (c : Fin (suc j)) (R : Related k j slots m L M) (now : client-of m (c .0) phase ≡ 2) (ready : covers (suc k) (client-of m (c .0) participants) (client-of m (c .0) prepared) ≡ true) where
+module _ (k j slots : ℕ) (m : Address → ℕ) (L : Ledger) (M : P.Machine (T k j slots)) (c : Fin (suc j)) (R : Related k j slots m L M) (now : client-of m (c .0) phase ≡ 2) (ready : covers 8 (client-of m (c .0) participants) (client-of m (c .0) prepared) ≡ true) where
   abbrev u : ClientWord → ℕ
   u = client-of m (c .0)
 
@@ -83,5 +83,5 @@ module _ (k j slots : ℕ) (m : Address → ℕ) (L : Ledger) (M : P.Machine (T 
       (λ t. shown .participant-as t ∙ ap (λ (w : ℕ). bit w (t .0)) (sym (at participants)))
       (λ t. shown .prepared-as t ∙ ap (λ (w : ℕ). bit w (t .0)) (sym (at prepared)))
       (λ t. shown .applied-as t ∙ ap (λ (w : ℕ). bit w (t .0)) (sym (at applied)))
-      (omega (arith, at phase)) (shown .lowest-as (omega (arith, now)) ∙ ap (lowest-of (suc k)) (sym (at participants))) (R .clients c)))
+      (omega (arith, at phase)) (shown .lowest-as (omega (arith, now)) ∙ ap (lowest-of 8) (sym (at participants))) (R .clients c)))
       (ap₂ (λ (t : List Told) (l : List (List Told)). t ∷ l) (R .clients c .says .said-as (omega (arith, now), omega (arith, now))) (R .log-as))

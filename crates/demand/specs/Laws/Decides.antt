@@ -11,7 +11,6 @@ use Rattle.memory.specs.Laws.Bit.{bit-put-same, bit-put-other, zero-bit}
 use Rattle.layout.specs.Space.{changed}
 use Rattle.layout.specs.Laws.Step.{changed-append}
 use Rattle.layout.specs.Part.{over}
-use Rattle.operations.specs.Slot.{Allowed}
 use Rattle.protocol.specs.State.{is-decided}
 use Rattle.protocol.specs.Laws.Claim.{unapplied}
 use Rattle.client.specs.Layout.{ClientWord, client-words, phase, participants, prepared, applied, lost}
@@ -19,10 +18,11 @@ use Rattle.client.specs.Laws.Ranges.{client-fits}
 use Rattle.client.specs.Course.{noted, decided}
 use Rattle.steps.specs.declared.sizes.Sizes.{Sizes}
 use Rattle.steps.specs.Whole.{Address, client, whole}
+use Rattle.steps.specs.Servers.{there}
 use Rattle.steps.specs.Laws.Stores.{client-of, client-changed, client-else}
 use Rattle.steps.specs.Steps.{covers, preparing, deciding-stores, prepare-finding, all-prepared, all-applied}
 use Rattle.demand.specs.Ledger.{Ledger, notes-decision}
-use Rattle.demand.specs.Laws.Store.{sizes, meaning}
+use Rattle.demand.specs.Laws.Store.{meaning}
 use Rattle.demand.specs.Laws.Frame.{last, read-after}
 use Rattle.demand.specs.Laws.Shows.{phase-of, T, Related}
 use Rattle.demand.specs.Laws.Held.{every-below}
@@ -38,14 +38,14 @@ use Rattle.demand.specs.Laws.Prepared as A
 use Rattle.demand.specs.Laws.Decided as D
 
 -- nothing is applied before the decision
-pub nothing-applied : (k j slots : ℕ) → Allowed (sizes k j slots) → (m : Address → ℕ) (L : Ledger) (M : P.Machine (T k j slots)) (c : Fin (suc j))
-    → Related k j slots m L M → client-of m (c .0) phase ≡ 2 → (s : Fin (suc k)) → bit (client-of m (c .0) applied) (s .0) ≡ false
+pub nothing-applied : (k j slots : ℕ) → slots ≤ 1024 → (m : Address → ℕ) (L : Ledger) (M : P.Machine (T k j slots)) (c : Fin (suc j))
+    → Related k j slots m L M → client-of m (c .0) phase ≡ 2 → (s : Fin 8) → bit (client-of m (c .0) applied) (s .0) ≡ false
 unfolding phase-of
 nothing-applied k j slots al m L M c R now s =
     let shown = R .clients c .slot in
     sym (shown .applied-as s) ∙ unapplied (T k j slots) (meaning k j slots al) (R .reached) c (ap is-decided (sym (shown .phase-as) ∙ ap phase-of now)) s
 
-module _ (k j slots : ℕ) (al : Allowed (sizes k j slots)) (few : suc j ≤ 16) (m : Address → ℕ) (L : Ledger) (M : P.Machine (T k j slots)) (c : Fin (suc j)) (G : Good k j slots m L M) (fit : client-fits (sizes k j slots) (client-of m (c .0)) ≡ true) (s : Fin (suc k)) (now : client-of m (c .0) phase ≡ 2) (new : bit (client-of m (c .0) prepared) (s .0) ≡ false) (fine : U.deciding (map (prepare-finding (store k j slots) m (c .0) (s .0)) (U.read-items (client-of m (c .0)))) ≡ 0) where
+module _ (k j slots : ℕ) (al : slots ≤ 1024) (few : suc j ≤ 16) (m : Address → ℕ) (L : Ledger) (M : P.Machine (T k j slots)) (c : Fin (suc j)) (G : Good k j slots m L M) (fit : client-fits slots (client-of m (c .0)) ≡ true) (s : Fin 8) (now : client-of m (c .0) phase ≡ 2) (new : bit (client-of m (c .0) prepared) (s .0) ≡ false) (attends : there m (s .0) ≡ true) (fine : U.deciding (map (prepare-finding (store k j slots) m (c .0) (s .0)) (U.read-items (client-of m (c .0)))) ≡ 0) where
   abbrev z : Sizes
   z = store k j slots
 
@@ -57,10 +57,10 @@ module _ (k j slots : ℕ) (al : Allowed (sizes k j slots)) (few : suc j ≤ 16)
   m₁ = changed whole m (preparing z m (c .0) (s .0))
 
   abbrev pub M₁ : P.Machine (T k j slots)
-  M₁ = A.M₁ k j slots al few m L M c (G .shown) fit s now new fine
+  M₁ = A.M₁ k j slots al few m L M c (G .shown) fit s now new attends fine
 
   pub shown₁ : Related k j slots m₁ L M₁
-  shown₁ = A.prepare-kept k j slots al few m L M c (G .shown) fit s now new fine
+  shown₁ = A.prepare-kept k j slots al few m L M c (G .shown) fit s now new attends fine
 
   abbrev v : ClientWord → ℕ
   v = changed client-words u (noted prepared (s .0) u)
@@ -89,9 +89,9 @@ module _ (k j slots : ℕ) (al : Allowed (sizes k j slots)) (few : suc j ≤ 16)
     unfolding noted
     now₁ = word₁ phase ∙ now
 
-    pub ready₁ : covers (suc k) (client-of m₁ (c .0) participants) (client-of m₁ (c .0) prepared) ≡ true
+    pub ready₁ : covers 8 (client-of m₁ (c .0) participants) (client-of m₁ (c .0) prepared) ≡ true
     unfolding noted
-    ready₁ = ap₂ (covers (suc k)) (word₁ participants) (word₁ prepared) ∙ all
+    ready₁ = ap₂ (covers 8) (word₁ participants) (word₁ prepared) ∙ all
 
     abbrev pub m₂ : Address → ℕ
     m₂ = changed whole m (deciding-stores z m (c .0) (s .0))
@@ -116,8 +116,8 @@ module _ (k j slots : ℕ) (al : Allowed (sizes k j slots)) (few : suc j ≤ 16)
     decide-good = record {
       shown = subst (λ (f : Address → ℕ). Related k j slots f (notes-decision L (c .0)) M₂) (sym m₂-is) (D.decide-kept k j slots m₁ L M₁ c shown₁ now₁ ready₁);
       decided-fits = still-fits k j slots m m₂ L (notes-decision L (c .0)) M c G
-          (λ _. subst (λ (w : ClientWord → ℕ). client-fits (sizes k j slots) w ≡ true) (sym own₂)
-          (decision-fits (sizes k j slots) v (prepared-fits (sizes k j slots) u fit (s .0) (s .1)))) others₂;
+          (λ _. subst (λ (w : ClientWord → ℕ). client-fits slots w ≡ true) (sym own₂)
+          (decision-fits slots v (prepared-fits slots u fit (s .0) (s .1)))) others₂;
       outside = G .outside;
     }
 
@@ -157,8 +157,8 @@ module _ (k j slots : ℕ) (al : Allowed (sizes k j slots)) (few : suc j ≤ 16)
     pub only-applied : u participants ≡ putBit true 0 (s .0) → all-applied z m₂ (c .0) (s .0) ≡ true
     unfolding decided noted covers
     only-applied e =
-        ap (λ (w : ℕ). covers (suc k) w (putBit true (client-of m₂ (c .0) applied) (s .0))) (word₂ participants ∙ e)
-        ∙ every-below (suc k) _ (λ t _. at t (ℕ-discrete t (s .0)))
+        ap (λ (w : ℕ). covers 8 w (putBit true (client-of m₂ (c .0) applied) (s .0))) (word₂ participants ∙ e)
+        ∙ every-below 8 _ (λ t _. at t (ℕ-discrete t (s .0)))
       where
         at : (t : ℕ) → Dec (t ≡ s .0) → (not (bit (putBit true 0 (s .0)) t) || bit (putBit true (client-of m₂ (c .0) applied) (s .0)) t) ≡ true
         at t (yes q) =

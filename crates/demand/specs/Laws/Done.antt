@@ -136,10 +136,10 @@ module _ (z : Sizes) (m : Address → ℕ) (n : Step) (five : n .kind ≡ 5) whe
       refused-or (λ (x : Did). state-fits (client-of (changed whole m (x .stores)) d) t Apply ≡ false) (λ x. h) (applied-stays z m (n .client) (n .server) d t h)
 
   -- one that is due is applied, if what it reads is in range
-  module _ (c : n .client < z .clients) (s : n .server < z .servers) (fit : state-fits u (n .server) Apply ≡ true) where
+  module _ (c : n .client < z .clients) (s : n .server < 8) (fit : state-fits u (n .server) Apply ≡ true) where
     pub due-passes : refusal z n m ≡ 0
     unfolding refusal first
-    due-passes = rw (kind-is, fit, five, lt-leb (z .clients) (n .client) c, lt-leb (z .servers) (n .server) s)
+    due-passes = rw (kind-is, fit, five, lt-leb (z .clients) (n .client) c, lt-leb 8 (n .server) s)
 
     step-is : by-rule z n m ≡ judged
     unfolding by-rule
@@ -154,7 +154,7 @@ module _ (z : Sizes) (m : Address → ℕ) (n : Step) (five : n .kind ≡ 5) whe
         go true f = refl
         go false f = absurd (f refl)
 
-  pub apply-done : n .client < z .clients → n .server < z .servers → ¬ (by-rule z n m .outcome ≡ Refused 10) → state-fits (client-of (after z m n) (n .client)) (n .server) Apply ≡ false
+  pub apply-done : n .client < z .clients → n .server < 8 → ¬ (by-rule z n m .outcome ≡ Refused 10) → state-fits (client-of (after z m n) (n .client)) (n .server) Apply ≡ false
   apply-done c s fine = go (bool-cases (state-fits u (n .server) Apply))
     where
       go : (state-fits u (n .server) Apply ≡ true) ⊎ (state-fits u (n .server) Apply ≡ false) → state-fits (client-of (after z m n) (n .client)) (n .server) Apply ≡ false
@@ -199,7 +199,7 @@ module _ (z : Sizes) where
       applies-stay ts (after z m (t .step)) m′ (rest t ts m m′ p (five .0)) (five .1) c s (apply-stays z m (t .step) (five .0) c s h)
 
   -- what was taken is not due
-  pub applies-done : (ts : List Taken) (m m′ : Address → ℕ) → Leads z m ts m′ → Every Kind-5 (steps-of ts) → Every (λ (t : Taken). ¬ (t .outcome ≡ Refused 10)) ts → (c s : ℕ) → c < z .clients → s < z .servers
+  pub applies-done : (ts : List Taken) (m m′ : Address → ℕ) → Leads z m ts m′ → Every Kind-5 (steps-of ts) → Every (λ (t : Taken). ¬ (t .outcome ≡ Refused 10)) ts → (c s : ℕ) → c < z .clients → s < 8
       → Some (λ (k : Step). (k .client ≡ c) × (k .server ≡ s)) (steps-of ts) → state-fits (client-of m′ c) s Apply ≡ false
   unfolding Leads-by Every Some
   applies-done [] m m′ p five fine c s l r e = absurd e

@@ -1,5 +1,5 @@
 -- Copies that are dropped leave the others as they are, and touch nothing else of a client's part.
-use mathlib.Core.Path.{_≡_, refl, ap, ap₂, sym, _∙_, subst}
+use mathlib.Core.Path.{_≡_, refl, ap, sym, _∙_, subst}
 use mathlib.Core.Bool.{Bool, true, false, cond}
 use mathlib.Core.List.{List, [], _∷_}
 use mathlib.Core.Logic.{_⊎_, inl, inr}
@@ -16,9 +16,9 @@ use Rattle.layout.specs.Sweep.{sweep}
 use Rattle.nodes.specs.declared.node.Node.{Node}
 use Rattle.nodes.specs.declared.found.Found.{Found}
 use Rattle.nodes.specs.declared.found.Found.the-variants.{At, Absent}
-use Rattle.operations.specs.Object.{Obj, node, root, taken}
+use Rattle.operations.specs.Object.{Obj, node, taken}
 use Rattle.client.specs.declared.part.Set.the-variants.{Reads, Writes, Copies}
-use Rattle.client.specs.Layout.{ClientWord, client-words, field, item, vector-word, reads-count, writes-count, meta-copied, meta-root, meta-version}
+use Rattle.client.specs.Layout.{ClientWord, client-words, field, item, vector-word, reads-count, writes-count, meta-states, meta-root, meta-version}
 use Rattle.client.specs.Record.{value-of}
 use Rattle.client.specs.Sets.{count, record-at, number-at, find}
 use Rattle.client.specs.Part.{nothing, put-field, put-number, drop-vector, put-word}
@@ -28,7 +28,7 @@ use Rattle.client.specs.Drops.{drop-each, drop-used}
 use Rattle.client.specs.Renew.{drop-outer}
 use Rattle.demand.specs.Laws.Frame.{Only, only-then, only-sweep}
 use Rattle.demand.specs.Laws.Shows.{T, copy, Copies-shown}
-use Rattle.demand.specs.Laws.Slots.{Same-sets, record-later}
+use Rattle.demand.specs.Laws.Slots.{Same-sets, record-later, meta-stays}
 use Rattle.nodes.specs.Name as N
 use Rattle.protocol.specs.Machine as P
 
@@ -81,8 +81,7 @@ still-there f g h a n = go (h a)
 pub fewer-copies : (k j slots : ℕ) (f g : ClientWord → ℕ) (c : Obj → Option (P.Copy (T k j slots))) → Fewer f g → Copies-shown k j slots f c → Copies-shown k j slots g c
 unfolding Mark
 fewer-copies k j slots f g c w h = record {
-  meta-as = λ q. h .meta-as (sym (still-there f g w meta-copied (λ z. absurd (omega (arith, z, q)))) ∙ q)
-      ∙ ap₂ (λ (r n : ℕ). copy k j slots f (root r) n) (sym (kept-word f g w meta-root (λ z. absurd (omega (arith, z))))) (sym (kept-word f g w meta-version (λ z. absurd (omega (arith, z)))));
+  meta-as = λ q. meta-stays k j slots f g c c h (still-there f g w meta-states q) (kept-word f g w meta-root (λ z. absurd (omega (arith, z)))) (kept-word f g w meta-version (λ z. absurd (omega (arith, z)))) refl q;
   node-as = λ i n l q. h .node-as i n l (sym (still-there f g w (item Copies i 0) (λ z. absurd (omega (arith, z, q)))) ∙ q)
       ∙ ap (λ (r : Node). copy k j slots f (value-of (node n) r) (r .version)) (sym (words i));
   flag-as = λ n i q. h .flag-as n i (sym (still-there f g w (vector-word (N.server-of n) 0) (λ z. absurd (omega (arith, z, q)))) ∙ q)

@@ -11,8 +11,6 @@ use Rattle.base.specs.Laws.Update.{upd-all}
 use Rattle.memory.specs.Bit.{bit}
 use Rattle.layout.specs.Space.{changed}
 use Rattle.operations.specs.Object.{Obj, Val}
-use Rattle.operations.specs.Slot.{Allowed}
-use Rattle.operations.specs.Sound.{new-store}
 use Rattle.protocol.specs.Lists.{Among}
 use Rattle.protocol.specs.Laws.Items.{find-item}
 use Rattle.client.specs.Layout.{client-words, phase, applied, participants}
@@ -23,7 +21,7 @@ use Rattle.steps.specs.Whole.{Address, whole}
 use Rattle.steps.specs.Laws.Stores.{client-of}
 use Rattle.steps.specs.Steps.{in-client, applying}
 use Rattle.demand.specs.Ledger.{Ledger}
-use Rattle.demand.specs.Laws.Store.{sizes, keeps}
+use Rattle.demand.specs.Laws.Store.{init, keeps}
 use Rattle.demand.specs.Laws.Shows.{T, In-store}
 use Rattle.demand.specs.Laws.Servers.{both-client, both-other}
 use Rattle.demand.specs.Laws.Kept.{away}
@@ -36,7 +34,7 @@ use Rattle.demand.specs.Laws.Applied as A
 module _ (k j slots : ℕ) where
   -- a row takes in only what is in the store
   row-outside : (y : P.Slot (T k j slots)) → ((i : P.Item (T k j slots)) → Among i (y .items) → In-store k j slots (i .obj))
-      → (new? : P.Item (T k j slots) → Bool) (f : Obj → Val) (o : Obj) → object-in-store (sizes k j slots) o ≡ false
+      → (new? : P.Item (T k j slots) → Bool) (f : Obj → Val) (o : Obj) → object-in-store slots o ≡ false
       → Mv.row (T k j slots) (y .items) new? (λ i. i .new) f o ≡ f o
   row-outside y inside new? f o h = go (P.find (T k j slots) (y .items) o) refl
     where
@@ -46,8 +44,8 @@ module _ (k j slots : ℕ) where
           let q = find-item (T k j slots) (y .items) o i e in
           absurd (not-both (subst (In-store k j slots) (q .1) (inside i (q .0))) h)
 
-  module _ (al : Allowed (sizes k j slots)) (few : suc j ≤ 16) (m : Address → ℕ) (L : Ledger) (M : P.Machine (T k j slots)) (c : Fin (suc j)) (G : Good k j slots m L M) (s : Fin (suc k)) (now : client-of m (c .0) phase ≡ 3) (part : bit (client-of m (c .0) participants) (s .0) ≡ true) (new : bit (client-of m (c .0) applied) (s .0) ≡ false) where
-    abbrev fit : client-fits (sizes k j slots) (client-of m (c .0)) ≡ true
+  module _ (al : slots ≤ 1024) (few : suc j ≤ 16) (m : Address → ℕ) (L : Ledger) (M : P.Machine (T k j slots)) (c : Fin (suc j)) (G : Good k j slots m L M) (s : Fin 8) (now : client-of m (c .0) phase ≡ 3) (part : bit (client-of m (c .0) participants) (s .0) ≡ true) (new : bit (client-of m (c .0) applied) (s .0) ≡ false) where
+    abbrev fit : client-fits slots (client-of m (c .0)) ≡ true
     fit = G .decided-fits c (omega (arith, now))
 
     -- the memory and the machine after it
@@ -64,8 +62,8 @@ module _ (k j slots : ℕ) where
     apply-good = record {
       shown = A.apply-kept k j slots al few m L M c (G .shown) fit s now part new;
       decided-fits = still-fits k j slots m m₁ L L M c G
-          (λ _. subst (λ u. client-fits (sizes k j slots) u ≡ true) (sym own) (applied-fits (sizes k j slots) (client-of m (c .0)) fit (s .0) (s .1)))
+          (λ _. subst (λ u. client-fits slots u ≡ true) (sym own) (applied-fits slots (client-of m (c .0)) fit (s .0) (s .1)))
           (λ d n. both-other m (s .0) (c .0) _ _ (d .0) (away k j slots c d n));
-      outside = upd-all (Fin-discrete (suc k)) (M .value) s _ (λ t f. (o : Obj) → object-in-store (sizes k j slots) o ≡ false → f o ≡ new-store o)
+      outside = upd-all (Fin-discrete 8) (M .value) s _ (λ t f. (o : Obj) → object-in-store slots o ≡ false → f o ≡ init k j slots o)
           (λ o h. row-outside (M .slots c) (G .shown .clients c .slot .inside) (λ i. i .written && keeps k j slots s (i .obj)) (M .value s) o h ∙ G .outside s o h) (λ t _. G .outside t);
     }

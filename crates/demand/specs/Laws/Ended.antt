@@ -2,7 +2,7 @@
 use mathlib.Core.Path.{_≡_, refl, ap, sym, _∙_, subst}
 use mathlib.Core.Bool.{true}
 use mathlib.Core.List.{[]}
-use Prim.Native.Nat.{ℕ, suc, Fin}
+use Prim.Native.Nat.{ℕ, suc, _≤_, Fin}
 use native.Mathlib.Omega.{arith}
 use native.Mathlib.Decide.{Fin-discrete}
 use Rattle.base.specs.Laws.Update.{upd-same, upd-other}
@@ -10,7 +10,6 @@ use Rattle.layout.specs.Space.{changed}
 use Rattle.layout.specs.Step.{andThen}
 use Rattle.layout.specs.Laws.Step.{changed-append}
 use Rattle.layout.specs.Part.{over}
-use Rattle.operations.specs.Slot.{Allowed}
 use Rattle.protocol.specs.State.{idle, decided, is-decided}
 use Rattle.client.specs.Layout.{ClientWord, client-words, phase, participants, applied}
 use Rattle.client.specs.Laws.Ranges.{client-fits}
@@ -19,7 +18,6 @@ use Rattle.steps.specs.Whole.{Address, client, whole}
 use Rattle.steps.specs.Steps.{covers}
 use Rattle.steps.specs.Laws.Stores.{client-of, client-else}
 use Rattle.demand.specs.Ledger.{Ledger}
-use Rattle.demand.specs.Laws.Store.{sizes}
 use Rattle.demand.specs.Laws.Shows.{phase-of, T, Slot-shown, Client-shown, Related}
 use Rattle.demand.specs.Laws.Decided.{parts-covered}
 use Rattle.demand.specs.Laws.Kept.{away, cleared, client-related, cleared-shown}
@@ -30,7 +28,7 @@ use Rattle.protocol.specs.Machine as P
 use Rattle.protocol.specs.Moves as Mv
 use Rattle.client.specs.Renew as Rn
 
-module _ (k j slots : ℕ) (al : Allowed (sizes k j slots)) (m : Address → ℕ) (L : Ledger) (M : P.Machine (T k j slots)) (c : Fin (suc j)) (R : Related k j slots m L M) (fit : client-fits (sizes k j slots) (client-of m (c .0)) ≡ true) (now : client-of m (c .0) phase ≡ 3) (all : covers (suc k) (client-of m (c .0) participants) (client-of m (c .0) applied) ≡ true) (early : renews-young (client-of m (c .0)) ≡ true) where
+module _ (k j slots : ℕ) (al : slots ≤ 1024) (m : Address → ℕ) (L : Ledger) (M : P.Machine (T k j slots)) (c : Fin (suc j)) (R : Related k j slots m L M) (fit : client-fits slots (client-of m (c .0)) ≡ true) (now : client-of m (c .0) phase ≡ 3) (all : covers 8 (client-of m (c .0) participants) (client-of m (c .0) applied) ≡ true) (early : renews-young (client-of m (c .0)) ≡ true) where
   abbrev u : ClientWord → ℕ
   u = client-of m (c .0)
 

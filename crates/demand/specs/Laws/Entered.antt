@@ -3,7 +3,7 @@ use mathlib.Core.Path.{_≡_, refl, ap, sym, _∙_, subst}
 use mathlib.Core.List.{List, _∷_}
 use mathlib.Core.Logic.{inl, inr}
 use mathlib.Core.Option.{some, none, Option·none-ne-some}
-use Prim.Native.Nat.{ℕ, suc, _≤_, _<_}
+use Prim.Native.Nat.{ℕ, _≤_, _<_}
 use native.Mathlib.Omega.{arith}
 use borrow.Author.Tests.{lt-ltb}
 use Rattle.memory.specs.Bit.{bit}
@@ -14,7 +14,6 @@ use Rattle.nodes.specs.declared.found.Found.the-variants.{At, Absent}
 use Rattle.nodes.specs.Laws.Stored.{Sized}
 use Rattle.operations.specs.Object.{Obj, Val}
 use Rattle.operations.specs.Laws.Object.{Obj-discrete}
-use Rattle.operations.specs.Slot.{Allowed}
 use Rattle.protocol.specs.Lists.{Among}
 use Rattle.client.specs.declared.part.Set.the-variants.{Reads, Writes}
 use Rattle.client.specs.Layout.{ClientWord, client-words, item, phase, participants, prepared, applied, reads-count}
@@ -24,8 +23,8 @@ use Rattle.client.specs.Commit.{is-at}
 use Rattle.client.specs.Items.{has}
 use Rattle.client.specs.Participants.{lowest-of}
 use Rattle.client.specs.Enter.{enter-read}
-use Rattle.demand.specs.Laws.Store.{sizes}
 use Rattle.demand.specs.Laws.Numbers.{obj-of, obj-number}
+use Rattle.demand.specs.Laws.Housed.{Housed, Placed-at, find-first, find-past, more-housed}
 use Rattle.demand.specs.Laws.Shows.{phase-of, T, In-store, new-value, item-from, item-of, Slot-shown}
 use Rattle.demand.specs.Laws.Slots.{find-frame, record-frame}
 use Rattle.demand.specs.Laws.Held.{found-at}
@@ -66,23 +65,6 @@ module _ (u v : ClientWord → ℕ) (h : Else-same u v) where
   record-written i = record-frame u v Writes i (written-same i)
 
 -- ---- the machine's items: the first, and past it
-module _ (k j slots : ℕ) (i : P.Item (T k j slots)) (is : List (P.Item (T k j slots))) where
-  pub find-first : P.find (T k j slots) (i ∷ is) (i .obj) ≡ some i
-  unfolding P.find
-  find-first = go (Obj-discrete (i .obj) (i .obj)) refl
-    where
-      go : (d : Dec (i .obj ≡ i .obj)) → Obj-discrete (i .obj) (i .obj) ≡ d → P.find (T k j slots) (i ∷ is) (i .obj) ≡ some i
-      go (yes p) e = rw (e, P.find) refl
-      go (no n) e = absurd (n refl)
-
-  pub find-past : (q : Obj) → ¬ (q ≡ i .obj) → P.find (T k j slots) (i ∷ is) q ≡ P.find (T k j slots) is q
-  unfolding P.find
-  find-past q h = go (Obj-discrete (i .obj) q) refl
-    where
-      go : (d : Dec (i .obj ≡ q)) → Obj-discrete (i .obj) q ≡ d → P.find (T k j slots) (i ∷ is) q ≡ P.find (T k j slots) is q
-      go (yes p) e = absurd (h (sym p))
-      go (no n) e = rw (e, P.find) refl
-
 -- ---- a transaction with other items, the rest as before
 pub slot-with : (k j slots : ℕ) (u v : ClientWord → ℕ) (y : P.Slot (T k j slots)) → Slot-shown k j slots u y → (is : List (P.Item (T k j slots)))
     → v phase ≡ u phase → v participants ≡ u participants → v prepared ≡ u prepared → v applied ≡ u applied
@@ -91,8 +73,9 @@ pub slot-with : (k j slots : ℕ) (u v : ClientWord → ℕ) (y : P.Slot (T k j 
     → ((i : ℕ) → i < count v Writes → find v Writes (number-at v Writes i) ≡ At i)
     → ((i : P.Item (T k j slots)) → Among i is → In-store k j slots (i .obj))
     → ((i : P.Item (T k j slots)) → Among i is → P.find (T k j slots) is (i .obj) ≡ some i)
+    → Housed k j slots is
     → Slot-shown k j slots v (P.with-items (T k j slots) y is)
-slot-with k j slots u v y S is p q t a items reads writes inside unique = record {
+slot-with k j slots u v y S is p q t a items reads writes inside unique housed = record {
   phase-as = ap phase-of p ∙ S .phase-as;
   item-as = items;
   read-found = reads;
@@ -103,7 +86,8 @@ slot-with k j slots u v y S is p q t a items reads writes inside unique = record
   prepared-as = λ s. S .prepared-as s ∙ ap (λ (w : ℕ). bit w (s .0)) (sym t);
   applied-as = λ s. S .applied-as s ∙ ap (λ (w : ℕ). bit w (s .0)) (sym a);
   calm = λ l. t ∙ S .calm (subst (λ (w : ℕ). w < 2) p l);
-  lowest-as = λ l. S .lowest-as (subst (λ (w : ℕ). 2 ≤ w) p l) ∙ ap (lowest-of (suc k)) (sym q);
+  lowest-as = λ l. S .lowest-as (subst (λ (w : ℕ). 2 ≤ w) p l) ∙ ap (lowest-of 8) (sym q);
+  housed = housed;
 }
 
 -- ---- AN OBJECT ENTERS THE READ SET
@@ -120,8 +104,8 @@ read-entered u x r h l =
     (put-behind Reads 10 x r h u c (λ v e. reads-within v (omega (arith, e, l)) ∙ e))
 
 -- what it shows
-module _ (k j slots : ℕ) (al : Allowed (sizes k j slots)) (u v : ClientWord → ℕ) (o : Obj) (r : Node) (E : Read-entered u v (number o) r) where
-  module _ (y : P.Slot (T k j slots)) (S : Slot-shown k j slots u y) (hi : In-store k j slots o) (unread : find u Reads (number o) ≡ Absent) (unwritten : find u Writes (number o) ≡ Absent) where
+module _ (k j slots : ℕ) (al : slots ≤ 1024) (u v : ClientWord → ℕ) (o : Obj) (r : Node) (E : Read-entered u v (number o) r) where
+  module _ (y : P.Slot (T k j slots)) (S : Slot-shown k j slots u y) (hi : In-store k j slots o) (unread : find u Reads (number o) ≡ Absent) (unwritten : find u Writes (number o) ≡ Absent) (placed : Placed-at k j slots (y .items) o (value-of o r)) where
     abbrev it : P.Item (T k j slots)
     it = P.item (T k j slots) o (value-of o r) (r .version)
 
@@ -134,7 +118,7 @@ module _ (k j slots : ℕ) (al : Allowed (sizes k j slots)) (u v : ClientWord �
         ∙ (λ t. some (record { obj = o; old = value-of o (a t); version = a t .version; written = is-at (w t); new = new-value k j slots v o (value-of o (a t)) (w t) }))
 
     other-number : (q : Obj) → In-store k j slots q → ¬ (q ≡ o) → ¬ (number q ≡ number o)
-    other-number q h d e = d (sym (obj-number (sizes k j slots) al q h) ∙ ap obj-of e ∙ obj-number (sizes k j slots) al o hi)
+    other-number q h d e = d (sym (obj-number slots al q h) ∙ ap obj-of e ∙ obj-number slots al o hi)
 
     old-item : (q : Obj) → In-store k j slots q → ¬ (q ≡ o) → item-of k j slots v q ≡ item-of k j slots u q
     unfolding item-of
@@ -172,7 +156,7 @@ module _ (k j slots : ℕ) (al : Allowed (sizes k j slots)) (u v : ClientWord �
         (field-same Reads 10 u v (E .other) 6 (λ e. absurd (omega arith))) (field-same Reads 10 u v (E .other) 7 (λ e. absurd (omega arith))) item-as
         (one-each Reads 10 u v (number o) r E (S .read-found) unread)
         (λ i l. ap (find v Writes) (written-same u v (E .other) i 0) ∙ found-written u v (E .other) (number-at u Writes i) ∙ S .write-found i (subst (λ (c : ℕ). i < c) (writes-same u v (E .other)) l))
-        inside unique
+        inside unique (more-housed k j slots (y .items) it none-yet (S .housed) refl placed)
       where
         inside : (i : P.Item (T k j slots)) → Among i (it ∷ y .items) → In-store k j slots (i .obj)
         inside i (inl e) = subst (λ (i : P.Item (T k j slots)). In-store k j slots (i .obj)) (sym e) hi

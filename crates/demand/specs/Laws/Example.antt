@@ -2,8 +2,8 @@
 use mathlib.Core.Path.{_≡_, refl, ap, sym}
 use mathlib.Core.Bool.{Bool, true, _&&_, false, false≢true}
 use mathlib.Core.List.{List, [], _∷_, _++_}
-use mathlib.Core.Logic.{inl}
-use Prim.Native.Nat.{ℕ, _<_}
+use mathlib.Core.Logic.{inl, inr}
+use Prim.Native.Nat.{ℕ, zero, suc, _<_}
 use native.Mathlib.Decide.{decLe, ℕ-discrete}
 use native.Mathlib.Omega.{arith}
 use borrow.Author.Tests.{ltb-true}
@@ -32,6 +32,7 @@ use Rattle.nodes.specs.Range as NodesRange
 use Rattle.nodes.specs.Stored as Stored
 use Rattle.operations.specs.Entry as Entry
 use Rattle.server.specs.Check as Check
+use Rattle.nodes.specs.States as States
 use Rattle.server.specs.Fresh as Fresh
 use Rattle.server.specs.HandOut as HandOut
 use Rattle.server.specs.Lock as Lock
@@ -58,6 +59,7 @@ use Rattle.client.specs.Work as Work
 use Rattle.steps.specs.Judge as Judge
 use Rattle.steps.specs.Refusal as Refusal
 use Rattle.steps.specs.Run as Run
+use Rattle.steps.specs.Servers as Servers
 use Rattle.steps.specs.Steps as Steps
 use Rattle.steps.specs.Output as Output
 use Rattle.operations.specs.Entry.{Entries}
@@ -119,7 +121,7 @@ leads-there f z m (k ∷ ks) t n =
 
 -- all that steps compute with on a small store
 unfoldable pub computes : Type 0
-unfolding Update.upd Bit.bit Bit.putBit LayoutPart.over Space.changed Space.decide Space.puts Space.tab LayoutStep.andThen Sweep.sweep Lists.insert-at Lists.pad Node.extra Node.free-node Node.keysOf Node.made Node.slotsOf Place.place Place.there-at Place.key-place Place.rises NodesRange.node-in-range Stored.node-of Stored.words-of Entry.under Check.can-check Check.checked Check.mark-finding Check.held Check.mark-fits Check.mark-in Check.mark-place Check.standing Fresh.first-leaf HandOut.metadata-at HandOut.metadata-sound Lock.busy Lock.lock-in-range Lock.locked Lock.unlocked Object.lock-of Object.object-of Store.home-step Store.kept-of Store.lock-step Store.node-step Store.table-step Store.unlock-step Answered.answered Answered.enter-writes Answered.entered Answered.put-entry Answered.used-enter Commit.inner-at Copies.drop-node Course.decided Course.noted Drops.next-version Enter.enter-entries Enter.enter-read Enter.enter-used Enter.enter-write Fetched.copy-inner Fetched.fetched-meta Fetched.fetched-node Fits.fit-to-apply Fits.fit-to-commit Fits.fit-to-prepare Fits.fit-to-renew Fits.fit-to-unlock Fits.fit-to-work Fits.inner-renewal-fits Fits.is-read Fits.kind-fits Fits.number-fits Fits.numbers-fit Fits.op-fits Fits.read-fits Fits.renewal-fits Fits.servers-fit Fits.stored-record-fits Fits.version-fits Fits.write-fits Fits.writes-fit Fits.young Have.broken Have.copied Have.copied-meta Have.copied-node Have.have Have.look-fits Have.source Items.all-below Items.any-below Items.has Items.inner Items.inner-before-after Items.inner-in Life.give-part Life.reset ClientPart.nothing ClientPart.put-word ClientPart.put-fields ClientPart.put-item Participants.at-home Participants.committing Participants.lowest-of Participants.mask Participants.participants-of Record.children-there Record.kind-in-range Record.node-fits Record.record-in-range Record.whole-in-range Name.name-in-store Record.number-in-store Record.record-of Record.single Renew.drop-outer Renew.finish Renew.for-writes Renew.rank Renew.ranked Renew.renew Renew.renew-flag Renew.renew-kept Renew.renew-meta Renew.renew-nth Renew.renew-written ClientRun.among ClientRun.run Sets.count Sets.find Sets.first-of Sets.number-at Sets.record-at Work.any-at-last Work.count-new Work.versions-there Work.walked Work.worked Judge.holders-fit Judge.lock-fits Refusal.first Refusal.state-fits Refusal.kind-of Refusal.refusal Run.opened Steps.applied-at Steps.begin Steps.commit Steps.covers Steps.fetch Steps.give Steps.node-at Steps.prepare Steps.prepared-at Steps.step Steps.by-rule Steps.lacks-room Steps.work Uses.checked-at Uses.deciding Uses.each Uses.item-of Uses.least Uses.locked-at Uses.read-items Uses.used-items ledger-from Every Some node-in decLe ℕ-discrete
+unfolding Update.upd Bit.bit Bit.putBit LayoutPart.over Space.changed Space.decide Space.puts Space.tab LayoutStep.andThen Sweep.sweep Lists.insert-at Lists.pad Node.extra Node.free-node Node.keysOf Node.made Node.slotsOf Place.place Place.there-at Place.key-place Place.rises NodesRange.node-in-range Stored.node-of Stored.words-of Entry.under Check.can-check Check.checked Check.mark-finding Check.held Check.mark-fits Check.mark-in Check.mark-place Check.standing Fresh.first-leaf Fresh.fresh-stores States.is-present States.states-fit States.metadata-fits States.first-states HandOut.metadata-at HandOut.metadata-sound Lock.busy Lock.lock-in-range Lock.locked Lock.unlocked Object.lock-of Object.object-of Store.home-step Store.kept-of Store.lock-step Store.node-step Store.table-step Store.unlock-step Answered.answered Answered.enter-writes Answered.entered Answered.put-entry Answered.used-enter Commit.inner-at Copies.drop-node Course.decided Course.noted Drops.next-version Enter.enter-entries Enter.enter-read Enter.enter-used Enter.enter-write Fetched.copy-inner Fetched.fetched-meta Fetched.fetched-node Fits.fit-to-apply Fits.fit-to-commit Fits.fit-to-prepare Fits.fit-to-renew Fits.fit-to-unlock Fits.fit-to-work Fits.inner-renewal-fits Fits.is-read Fits.kind-fits Fits.number-fits Fits.numbers-fit Fits.op-fits Fits.read-fits Fits.renewal-fits Fits.servers-fit Fits.servers-known Fits.stored-record-fits Fits.version-fits Fits.write-fits Fits.writes-fit Fits.young Have.broken Have.copied Have.copied-meta Have.copied-node Have.have Have.look-fits Have.source Items.all-below Items.any-below Items.has Items.inner Items.inner-before-after Items.inner-in Life.give-part Life.reset ClientPart.nothing ClientPart.put-word ClientPart.put-fields ClientPart.put-item Participants.at-home Participants.committing Participants.lowest-of Participants.mask Participants.participants-of Participants.states-read Record.children-there Record.kind-in-range Record.node-fits Record.record-in-range Record.whole-in-range Name.name-in-store Record.number-in-store Record.record-of Record.single Record.metadata Renew.drop-outer Renew.finish Renew.for-writes Renew.rank Renew.ranked Renew.renew Renew.renew-flag Renew.renew-kept Renew.renew-meta Renew.renew-nth Renew.renew-written ClientRun.among ClientRun.run Sets.count Sets.find Sets.first-of Sets.number-at Sets.record-at Work.any-at-last Work.count-new Work.versions-there Work.walked Work.worked Judge.holders-fit Judge.lock-fits Refusal.first Refusal.state-fits Refusal.kind-of Refusal.refusal Run.opened Steps.at-servers Servers.there Servers.first-from Servers.metadata-source Steps.applied-at Steps.begin Steps.commit Steps.covers Steps.fetch Steps.give Steps.node-at Steps.prepare Steps.prepared-at Steps.step Steps.by-rule Steps.lacks-room Steps.work Uses.checked-at Uses.deciding Uses.each Uses.item-of Uses.least Uses.locked-at Uses.read-items Uses.used-items ledger-from Every Some node-in decLe ℕ-discrete
 computes = Unit {0}
 
 -- one server of 4 slots, one client
@@ -129,13 +131,27 @@ sizes = record { servers = 1; slots = 4; clients = 1 }
 abbrev pub line : ℕ → ℕ → ℕ → ℕ → Step
 line kind op key value = record { kind = kind; client = 0; op = op; key = key; value = value; server = 0 }
 
--- the apply of the one client at the one server
+-- the applies of the one client at every server
+abbrev pub apply-at : ℕ → Step
+apply-at s = record { kind = 5; client = 0; op = 0; key = 0; value = 0; server = s }
+
 abbrev pub every-apply : List Step
-every-apply = line 5 0 0 0 ∷ []
+every-apply = apply-at 0 ∷ apply-at 1 ∷ apply-at 2 ∷ apply-at 3 ∷ apply-at 4 ∷ apply-at 5 ∷ apply-at 6 ∷ apply-at 7 ∷ []
 
 pub all-apply : Applies sizes every-apply
 unfolding Every Some
-all-apply = record { only = (refl, tt); each = λ c s l r. inl (omega arith, omega arith) }
+all-apply = record { only = (refl, (refl, (refl, (refl, (refl, (refl, (refl, (refl, tt)))))))); each = λ c s l r. at c s l r }
+  where
+    at : (c s : ℕ) → c < 1 → s < 8 → Some (λ (k : Step). (k .client ≡ c) × (k .server ≡ s)) every-apply
+    at c zero l r = inl (omega arith, refl)
+    at c (suc zero) l r = inr (inl (omega arith, refl))
+    at c (suc (suc zero)) l r = inr (inr (inl (omega arith, refl)))
+    at c (suc (suc (suc zero))) l r = inr (inr (inr (inl (omega arith, refl))))
+    at c (suc (suc (suc (suc zero)))) l r = inr (inr (inr (inr (inl (omega arith, refl)))))
+    at c (suc (suc (suc (suc (suc zero))))) l r = inr (inr (inr (inr (inr (inl (omega arith, refl))))))
+    at c (suc (suc (suc (suc (suc (suc zero)))))) l r = inr (inr (inr (inr (inr (inr (inl (omega arith, refl)))))))
+    at c (suc (suc (suc (suc (suc (suc (suc zero))))))) l r = inr (inr (inr (inr (inr (inr (inr (inl (omega arith, refl))))))))
+    at c (suc (suc (suc (suc (suc (suc (suc (suc s)))))))) l r = absurd (omega arith)
 
 -- ---- THE EXAMPLE
 -- begin, give, work three times, commit, prepare, with the outcomes that stepshow prints
@@ -145,8 +161,11 @@ story =
     ∷ came-to (line 2 0 0 0) 0 [] (Answered 1 0) [] ∷ came-to (line 3 0 0 0) 0 [] Done [] ∷ came-to (line 4 0 0 0) 0 [] Committed [] ∷ []
 
 -- with one participant the prepare has also applied: no apply is due
+abbrev refused-at : ℕ → Taken
+refused-at s = came-to (apply-at s) 0 [] (Refused 9) []
+
 abbrev applies : List Taken
-applies = came-to (line 5 0 0 0) 0 [] (Refused 9) [] ∷ []
+applies = refused-at 0 ∷ refused-at 1 ∷ refused-at 2 ∷ refused-at 3 ∷ refused-at 4 ∷ refused-at 5 ∷ refused-at 6 ∷ refused-at 7 ∷ []
 
 abbrev after-all : Address → ℕ
 after-all = memory-by Steps.step sizes (Run.opened sizes) (steps-of (story ++ applies))

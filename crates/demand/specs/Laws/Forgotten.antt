@@ -10,14 +10,13 @@ use Rattle.layout.specs.Laws.Step.{changed-append}
 use Rattle.layout.specs.Part.{over}
 use Rattle.operations.specs.Operation.{Legal}
 use Rattle.client.specs.declared.part.Set.the-variants.{Reads, Writes, Copies}
-use Rattle.client.specs.Layout.{ClientWord, client-words, field, lost, phase, op-number, item, vector-word, reads-count, writes-count, meta-copied, meta-root, meta-version}
+use Rattle.client.specs.Layout.{ClientWord, client-words, field, lost, phase, op-number, item, vector-word, reads-count, writes-count, meta-states, meta-root, meta-version}
 use Rattle.client.specs.Copies.{drop-all}
 use Rattle.client.specs.Part.{put-field, put-word}
 use Rattle.client.specs.Life.{lose-part}
 use Rattle.client.specs.Work.{op-of, waiting}
 use Rattle.steps.specs.Whole.{Address, client, whole}
 use Rattle.demand.specs.Ledger.{Ledger}
-use Rattle.demand.specs.Laws.Store.{sizes}
 use Rattle.steps.specs.Laws.Stores.{client-of}
 use Rattle.demand.specs.Laws.Shows.{T, Copies-shown, Related, Running}
 use Rattle.demand.specs.Laws.Slots.{Same-sets, slot-frame, copies-frame}
@@ -64,7 +63,7 @@ module _ (k j slots : ℕ) (m : Address → ℕ) (L : Ledger) (M : P.Machine (T 
 
     before : Copies-shown k j slots v (M .copy c)
     unfolding is-lost
-    before = copies-frame k j slots u v (M .copy c) (e meta-copied (other 12 (λ z. absurd (omega (arith, z))))) (e meta-root (other 13 (λ z. absurd (omega (arith, z)))))
+    before = copies-frame k j slots u v (M .copy c) (e meta-states (other 12 (λ z. absurd (omega (arith, z))))) (e meta-root (other 13 (λ z. absurd (omega (arith, z)))))
         (e meta-version (other 14 (λ z. absurd (omega (arith, z))))) (λ i n. e (item Copies i n) (λ z. not-item (ap is-lost z))) (λ s n. e (vector-word s n) (λ z. not-item (ap is-lost z)))
         (R .clients c .copies)
       where
@@ -105,7 +104,7 @@ module _ (k j slots : ℕ) (m : Address → ℕ) (L : Ledger) (M : P.Machine (T 
           says = record {
             said-as = λ n. R .clients c .says .said-as (subst Running phase-at n);
             given-as = λ n. R .clients c .says .given-as (λ q. n (op-at ∙ q)) ∙ sym waits;
-            legal = λ n. subst (Legal (sizes k j slots)) (sym waits) (R .clients c .says .legal (λ q. n (op-at ∙ q)));
+            legal = λ n. subst Legal (sym waits) (R .clients c .says .legal (λ q. n (op-at ∙ q)));
           };
         })
         (R .log-as)

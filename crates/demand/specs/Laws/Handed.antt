@@ -1,10 +1,10 @@
 -- What a fetch hands over: metadata, a node, a vector, each as a stage of the step.
 use mathlib.Core.Path.{_≡_, refl, ap, sym, _∙_}
-use mathlib.Core.Bool.{Bool, true, false, cond, _&&_}
+use mathlib.Core.Bool.{Bool, true, false, cond, _&&_, true≢false}
 use mathlib.Core.List.{[], _∷_}
 use mathlib.Core.Logic.{_⊎_, inl, inr}
 use mathlib.Core.Option.{Option}
-use Prim.Native.Nat.{ℕ, suc, _+_, _/_, _%_, _<_, Fin}
+use Prim.Native.Nat.{ℕ, suc, _+_, _/_, _%_, _≤_, _<_, Fin}
 use native.Mathlib.Omega.{arith}
 use borrow.Author.Tests.{eq-eqb}
 use lib.Dec.{eqb}
@@ -20,12 +20,11 @@ use Rattle.nodes.specs.Node.{made}
 use Rattle.nodes.specs.Stored.{node-of}
 use Rattle.nodes.specs.Laws.Stored.{Sized}
 use Rattle.operations.specs.Object.{Obj, meta, node, flag, root, taken}
-use Rattle.operations.specs.Slot.{Allowed}
 use Rattle.server.specs.declared.place.Place.{Place}
 use Rattle.server.specs.HandOut.{metadata-at, vector-at}
 use Rattle.client.specs.declared.part.Set.the-variants.{Reads, Writes, Copies}
-use Rattle.client.specs.Layout.{ClientWord, client-words, item, vector-word, reads-count, meta-copied, meta-root, meta-version}
-use Rattle.client.specs.Record.{number, value-of, single, object-in-store}
+use Rattle.client.specs.Layout.{ClientWord, client-words, item, vector-word, reads-count, meta-states, meta-root, meta-version}
+use Rattle.client.specs.Record.{number, value-of, metadata, object-in-store}
 use Rattle.client.specs.Sets.{find}
 use Rattle.client.specs.Participants.{at-home}
 use Rattle.client.specs.Part.{nothing, put-field, put-fields, put-vector, put-word}
@@ -36,9 +35,10 @@ use Rattle.steps.specs.Whole.{Address}
 use Rattle.steps.specs.Steps.{node-at}
 use Rattle.steps.specs.Laws.Stores.{server-of}
 use Rattle.demand.specs.Ledger.{Ledger}
-use Rattle.demand.specs.Laws.Store.{sizes, keeps}
+use Rattle.demand.specs.Laws.Store.{keeps}
 use Rattle.demand.specs.Laws.Frame.{then-keeps, last, read-after}
 use Rattle.demand.specs.Laws.Numbers.{as-flag, by-object}
+use Rattle.demand.specs.Laws.Housed.{Placed-at}
 use Rattle.demand.specs.Laws.Shows.{T, In-store, copy, value-at, version-at, Server-shown, Copies-shown, Related}
 use Rattle.demand.specs.Laws.Slots.{copies-frame}
 use Rattle.demand.specs.Laws.Members.{kept-at, kept-home}
@@ -50,7 +50,7 @@ use Rattle.protocol.specs.Machine as P
 use Rattle.protocol.specs.Moves as Mv
 use Rattle.server.specs.declared.place.Place.the-variants as place
 
-module _ (k j slots : ℕ) (al : Allowed (sizes k j slots)) (m : Address → ℕ) (L : Ledger) (M : P.Machine (T k j slots)) (c : Fin (suc j)) (R : Related k j slots m L M) (s : Fin (suc k)) where
+module _ (k j slots : ℕ) (al : slots ≤ 1024) (m : Address → ℕ) (L : Ledger) (M : P.Machine (T k j slots)) (c : Fin (suc j)) (R : Related k j slots m L M) (s : Fin 8) where
   abbrev p : Place → ℕ
   p = server-of m (s .0)
 
@@ -74,16 +74,16 @@ module _ (k j slots : ℕ) (al : Allowed (sizes k j slots)) (m : Address → ℕ
       (Mv.fetched s kept)
 
   -- ---- metadata
-  pub meta-handed : (v : ClientWord → ℕ) → At v → Unread v meta → At (changed client-words v (fetched-meta (metadata-at p .root) (metadata-at p .version) v))
-  unfolding fetched-meta metadata-at single made pad
+  pub meta-handed : (v : ClientWord → ℕ) (G : At v) → Unread v meta → At (changed client-words v (fetched-meta (metadata-at p .root) (metadata-at p .states) (metadata-at p .version) v))
+  unfolding fetched-meta metadata-at metadata made pad
   meta-handed v G h =
-      then-keeps client-words At (enter-read 0 (single (p place.Version) (p place.Root))) (put-fields 12 (1 ∷ p place.Root ∷ p place.Version ∷ [])) v
-      (read-stage k j slots m L M c R al s meta (single (p place.Version) (p place.Root)) (record { keys = refl; slots = refl }) refl refl
-      (sym (S .value-as meta refl refl)) (sym (S .version-as meta refl refl)) v G (h .room) (h .unread) (h .unwritten))
-      (λ w H. copies-stored k j slots m L M c R w (put-fields 12 (1 ∷ p place.Root ∷ p place.Version ∷ []) w) (only-fields 1 (p place.Root) (p place.Version) w) H _
-      (copy-on k j slots m L M c R (H .slot) (H .copies) (H .reached) meta (copy k j slots w (root (p place.Root)) (p place.Version))
+      then-keeps client-words At (enter-read 0 (metadata (p place.Version) (p place.Root) (p place.States))) (put-fields 12 (p place.States ∷ p place.Root ∷ p place.Version ∷ [])) v
+      (read-stage k j slots m L M c R al s meta (metadata (p place.Version) (p place.Root) (p place.States)) (record { keys = refl; slots = refl }) refl refl
+      (sym (S .value-as meta refl refl)) (sym (S .version-as meta refl refl)) v G (record { known = inl refl; there = λ n. absurd (true≢false n) }) (h .room) (h .unread) (h .unwritten))
+      (λ w H. copies-stored k j slots m L M c R w (put-fields 12 (p place.States ∷ p place.Root ∷ p place.Version ∷ []) w) (only-fields (p place.States) (p place.Root) (p place.Version) w) H _
+      (copy-on k j slots m L M c R (H .slot) (H .copies) (H .reached) meta (copy k j slots w (root (p place.Root) (p place.States)) (p place.Version))
       (handed-legal w H meta refl refl))
-      (meta-put k j slots w (H .copies) (H .shows .copies) (p place.Root) (p place.Version)))
+      (meta-put k j slots w (H .copies) (H .shows .copies) (p place.Root) (p place.States) (p place.Version)))
 
   -- ---- a node; "an inner node is copied too"
   module _ (n : ℕ) (hi : In-store k j slots (node n)) (kept : keeps k j slots s (node n) ≡ true) where
@@ -107,11 +107,11 @@ module _ (k j slots : ℕ) (al : Allowed (sizes k j slots)) (m : Address → ℕ
             (copy-on k j slots m L M c R (H .slot) (H .copies) (H .reached) (node n) (copy k j slots w (value-of (node n) r) (r .version))
             (handed-legal w H (node n) hi kept)) h
 
-    pub node-handed : (v : ClientWord → ℕ) → At v → Unread v (node n) → At (changed client-words v (fetched-node n r v))
+    pub node-handed : (v : ClientWord → ℕ) (G : At v) → Placed-at k j slots (G .slot .items) (node n) (value-of (node n) r) → Unread v (node n) → At (changed client-words v (fetched-node n r v))
     unfolding fetched-node copy-inner nothing changed
-    node-handed v G h =
+    node-handed v G placed h =
         then-keeps client-words At (enter-read (1 + n) r) (copy-inner (1 + n) r) v
-        (read-stage k j slots m L M c R al s (node n) r sized hi kept (sym (S .value-as (node n) hi kept)) (sym (S .version-as (node n) hi kept)) v G (h .room) (h .unread) (h .unwritten))
+        (read-stage k j slots m L M c R al s (node n) r sized hi kept (sym (S .value-as (node n) hi kept)) (sym (S .version-as (node n) hi kept)) v G placed (h .room) (h .unread) (h .unwritten))
         (λ w H. go w H (eqb (r .kind) 2))
       where
         go : (w : ClientWord → ℕ) → At w → (b : Bool) → At (changed client-words w (cond b (copy-node (1 + n) r) nothing w))
@@ -122,7 +122,7 @@ module _ (k j slots : ℕ) (al : Allowed (sizes k j slots)) (m : Address → ℕ
   module _ (w : ClientWord → ℕ) (H : At w) where
     -- a flag of this server
     abbrev ours? : ℕ → Bool
-    ours? n = keeps k j slots s (flag n) && object-in-store (sizes k j slots) (flag n)
+    ours? n = keeps k j slots s (flag n) && object-in-store slots (flag n)
 
     abbrev g : Obj → Option (P.Copy (T k j slots))
     g o = by-object o (H .copies meta) (λ n. H .copies (node n))
@@ -138,7 +138,7 @@ module _ (k j slots : ℕ) (al : Allowed (sizes k j slots)) (m : Address → ℕ
       where
         go : (b : Bool) → ours? n ≡ b
             → Fine (flag n) (cond b (copy k j slots w (value-at k j slots p (flag n)) (version-at k j slots p (flag n))) (H .copies (flag n)))
-        go true e = let h = and-both (keeps k j slots s (flag n)) (object-in-store (sizes k j slots) (flag n)) e in handed-legal w H (flag n) (h .1) (h .0)
+        go true e = let h = and-both (keeps k j slots s (flag n)) (object-in-store slots (flag n)) e in handed-legal w H (flag n) (h .1) (h .0)
         go false e = as-before k j slots m L M c R (H .slot) (H .copies) (H .reached) (flag n)
 
     flags-are : Taken k j slots w (H .copies) (H .shows .copies) (s .0) (vector-at p) g
@@ -158,7 +158,7 @@ module _ (k j slots : ℕ) (al : Allowed (sizes k j slots)) (m : Address → ℕ
         not-ours : (n : ℕ) → ¬ (N.server-of n ≡ s .0) → (ours? n ≡ true) ⊎ (ours? n ≡ false) → ours? n ≡ false
         not-ours n d (inr e) = e
         not-ours n d (inl e) =
-            let h = and-both (keeps k j slots s (flag n)) (object-in-store (sizes k j slots) (flag n)) e in absurd (d (kept-at k j slots s n (h .1) (h .0)))
+            let h = and-both (keeps k j slots s (flag n)) (object-in-store slots (flag n)) e in absurd (d (kept-at k j slots s n (h .1) (h .0)))
 
         is-ours : (n : ℕ) → In-store k j slots (flag n) → N.server-of n ≡ s .0 → ours? n ≡ true
         is-ours n h e =
@@ -170,7 +170,7 @@ module _ (k j slots : ℕ) (al : Allowed (sizes k j slots)) (m : Address → ℕ
     mark-copies : (v : ClientWord → ℕ) (x : ℕ) (f : Obj → Option (P.Copy (T k j slots))) → Copies-shown k j slots v f → Copies-shown k j slots (changed client-words v (put-field 8 x v)) f
     unfolding put-word
     mark-copies v x f h =
-        copies-frame k j slots v (changed client-words v (put-field 8 x v)) f (at meta-copied) (at meta-root) (at meta-version) (λ i n. at (item Copies i n)) (λ q n. at (vector-word q n)) h
+        copies-frame k j slots v (changed client-words v (put-field 8 x v)) f (at meta-states) (at meta-root) (at meta-version) (λ i n. at (item Copies i n)) (λ q n. at (vector-word q n)) h
       where
         at : (a : ClientWord) → changed client-words v (put-field 8 x v) a ≡ last client-words (put-field 8 x v) a (v a)
         at a = read-after client-words (put-field 8 x v) v a

@@ -3,7 +3,7 @@ use mathlib.Core.Path.{_≡_, refl, ap, sym, _∙_, subst}
 use mathlib.Core.Bool.{Bool, true, false, cond, _&&_, _||_, true≢false, false≢true}
 use mathlib.Core.Logic.{_⊎_, inl, inr}
 use mathlib.Core.Option.{some, Option·none-ne-some, Option·some-injective}
-use Prim.Native.Nat.{ℕ, zero, suc, _<_}
+use Prim.Native.Nat.{ℕ, zero, suc, _≤_, _<_}
 use native.Mathlib.Omega.{arith}
 use native.Mathlib.Decide.{ℕ-discrete}
 use borrow.Author.Tests.{eqb-true, eqb-false}
@@ -13,7 +13,6 @@ use Rattle.base.specs.Laws.Test.{or-left, or-right, or-cases}
 use Rattle.nodes.specs.declared.found.Found.{Found}
 use Rattle.nodes.specs.declared.found.Found.the-variants.{At, Absent}
 use Rattle.operations.specs.Object.{Obj}
-use Rattle.operations.specs.Slot.{TreeSizes, Allowed}
 use Rattle.protocol.specs.Lists.{Among, all, any}
 use Rattle.protocol.specs.Laws.Lists.{any-among, any-in, all-in}
 use Rattle.protocol.specs.Laws.Items.{find-item}
@@ -25,7 +24,6 @@ use Rattle.client.specs.Sets.{or-found, count, record-at, number-at, first-of, 
 use Rattle.client.specs.Commit.{is-at}
 use Rattle.client.specs.Items.{all-below, any-below, has}
 use Rattle.client.specs.Laws.Ranges.{has-read, item-fits, client-fits, fits-read, fits-write}
-use Rattle.demand.specs.Laws.Store.{sizes}
 use Rattle.demand.specs.Laws.Numbers.{obj-of, number-obj, store-obj, obj-number}
 use Rattle.demand.specs.Laws.Shows.{T, In-store, new-value, item-from, item-of, Slot-shown}
 use Rattle.protocol.specs.Machine as P
@@ -125,29 +123,26 @@ module _ (u : ClientWord → ℕ) where
   at-has s x i e = ap is-at e
 
 -- ---- items
-module _ (k j slots : ℕ) (al : Allowed (sizes k j slots)) (u : ClientWord → ℕ) (fit : client-fits (sizes k j slots) u ≡ true) where
-  abbrev z : TreeSizes
-  z = sizes k j slots
-
+module _ (k j slots : ℕ) (al : slots ≤ 1024) (u : ClientWord → ℕ) (fit : client-fits slots u ≡ true) where
   -- what an item in range is known by
-  judged : (s : Set) (i : ℕ) → item-fits z u s i ≡ true
-      → In-store k j slots (obj-of (number-at u s i)) × (record-in-range z (number-at u s i) (record-at u s i) ≡ true) × (has-read u s (number-at u s i) ≡ true)
+  judged : (s : Set) (i : ℕ) → item-fits slots u s i ≡ true
+      → In-store k j slots (obj-of (number-at u s i)) × (record-in-range slots (number-at u s i) (record-at u s i) ≡ true) × (has-read u s (number-at u s i) ≡ true)
   unfolding item-fits
   judged s i h =
       let x = number-at u s i in
-      let f = and-both (number-in-store z x) (record-in-range z x (record-at u s i) && has-read u s x) h in
-      let g = and-both (record-in-range z x (record-at u s i)) (has-read u s x) (f .1) in
-      (sym (store-obj z x) ∙ f .0, g .0, g .1)
+      let f = and-both (number-in-store slots x) (record-in-range slots x (record-at u s i) && has-read u s x) h in
+      let g = and-both (record-in-range slots x (record-at u s i)) (has-read u s x) (f .1) in
+      (sym (store-obj slots x) ∙ f .0, g .0, g .1)
 
   pub read-in : (i : ℕ) → i < count u Reads → In-store k j slots (obj-of (number-at u Reads i))
-  read-in i l = judged Reads i (fits-read z u fit i l) .0
+  read-in i l = judged Reads i (fits-read slots u fit i l) .0
 
   pub written-in : (i : ℕ) → i < count u Writes → In-store k j slots (obj-of (number-at u Writes i)) × (has u Reads (number-at u Writes i) ≡ true)
   unfolding has has-read
-  written-in i l = let f = judged Writes i (fits-write z u fit i l) in (f .0, f .2)
+  written-in i l = let f = judged Writes i (fits-write slots u fit i l) in (f .0, f .2)
 
-  pub written-fits : (i : ℕ) → i < count u Writes → record-in-range z (number-at u Writes i) (record-at u Writes i) ≡ true
-  written-fits i l = judged Writes i (fits-write z u fit i l) .1
+  pub written-fits : (i : ℕ) → i < count u Writes → record-in-range slots (number-at u Writes i) (record-at u Writes i) ≡ true
+  written-fits i l = judged Writes i (fits-write slots u fit i l) .1
 
   -- the item at place i of the read set, for the object o
   abbrev item-for : Obj → ℕ → P.Item (T k j slots)
@@ -182,7 +177,7 @@ module _ (k j slots : ℕ) (al : Allowed (sizes k j slots)) (u : ClientWord → 
         go Absent e = absurd (Option·none-ne-some a (ap (item-from k j slots u (a .obj)) (sym e) ∙ shown))
         go (At i) e =
             let f = found-at u Reads (number (a .obj)) i e in
-            let same : obj-of (number-at u Reads i) ≡ a .obj = ap obj-of (f .1) ∙ obj-number (sizes k j slots) al (a .obj) (h .inside a q) in
+            let same : obj-of (number-at u Reads i) ≡ a .obj = ap obj-of (f .1) ∙ obj-number slots al (a .obj) (h .inside a q) in
             let here : item-for (a .obj) i ≡ a = Option·some-injective (item-for (a .obj) i) a (ap (item-from k j slots u (a .obj)) (sym e) ∙ shown) in
             (i, f .0, sym here ∙ ap (λ (o : Obj). item-for o i) (sym same))
 

@@ -2,7 +2,7 @@
 use mathlib.Core.Path.{_≡_, refl, ap, ap₂, sym, _∙_, subst, fun-ext}
 use mathlib.Core.Bool.{Bool, true, false, cond, _&&_, true≢false}
 use mathlib.Core.List.{List, [], _∷_}
-use Prim.Native.Nat.{ℕ, zero, suc, _-_, _^_, _≤_, _<_}
+use Prim.Native.Nat.{ℕ, zero, suc, _≤_, _<_}
 use native.Mathlib.Omega.{arith}
 use borrow.Author.Tests.{le-leb, leb-true}
 use lib.Dec.{eqb, leb, ltb}
@@ -11,7 +11,6 @@ use Rattle.base.specs.Test.{and-both}
 use Rattle.base.specs.Update.{upd}
 use Rattle.base.specs.Laws.Update.{upd-same, upd-other}
 use Rattle.layout.specs.Space.{Put, decide, changed}
-use Rattle.operations.specs.Slot.{TreeSizes}
 use Rattle.client.specs.declared.part.Set.{Set}
 use Rattle.client.specs.declared.part.Set.the-variants.{Reads, Writes, Copies}
 use Rattle.client.specs.Layout.{ClientWord, client-words, field, item, vector-word, op-number, op-key, op-value, op-server, prepared, applied, reads-count, writes-count}
@@ -40,41 +39,38 @@ abbrev apart-field : ℕ → Bool
 apart-field i = getD (true ∷ false ∷ false ∷ false ∷ false ∷ true ∷ true ∷ true ∷ true ∷ true ∷ false ∷ false ∷ []) i true
 
 -- a store that is in range, and none in the sets or the operation
-unfoldable pub Harmless : ℕ → ClientWord → ℕ → Type 0
-Harmless every (field i) v = (apart-field i ≡ true) × (v ≤ getD (bounds every) i 0)
-Harmless every (item Reads i n) v = ⊥
-Harmless every (item Writes i n) v = ⊥
-Harmless every (item Copies i n) v = Unit {0}
-Harmless every (vector-word s n) v = v ≤ 1
+unfoldable pub Harmless : ClientWord → ℕ → Type 0
+Harmless (field i) v = (apart-field i ≡ true) × (v ≤ getD bounds i 0)
+Harmless (item Reads i n) v = ⊥
+Harmless (item Writes i n) v = ⊥
+Harmless (item Copies i n) v = Unit {0}
+Harmless (vector-word s n) v = v ≤ 1
 
 -- what is judged of fields and vectors
-unfoldable Within : ℕ → ClientWord → ℕ → Type 0
-Within every (field i) w = i < 13 → w ≤ getD (bounds every) i 0
-Within every (item s i n) w = Unit {0}
-Within every (vector-word s n) w = n ≡ 0 → s < 8 → w ≤ 1
+unfoldable Within : ClientWord → ℕ → Type 0
+Within (field i) w = i < 13 → w ≤ getD bounds i 0
+Within (item s i n) w = Unit {0}
+Within (vector-word s n) w = n ≡ 0 → s < 8 → w ≤ 1
 
-harmless-within : (every : ℕ) (x : ClientWord) (w : ℕ) → Harmless every x w → Within every x w
+harmless-within : (x : ClientWord) (w : ℕ) → Harmless x w → Within x w
 unfolding Harmless Within
-harmless-within every (field i) w h = λ l. h .1
-harmless-within every (item Reads i n) w h = tt
-harmless-within every (item Writes i n) w h = tt
-harmless-within every (item Copies i n) w h = tt
-harmless-within every (vector-word s n) w h = λ e l. h
+harmless-within (field i) w h = λ l. h .1
+harmless-within (item Reads i n) w h = tt
+harmless-within (item Writes i n) w h = tt
+harmless-within (item Copies i n) w h = tt
+harmless-within (vector-word s n) w h = λ e l. h
 
-module _ (z : TreeSizes) (u : ClientWord → ℕ) (fit : client-fits z u ≡ true) where
-  abbrev every : ℕ
-  every = 2 ^ z .servers - 1
-
+module _ (slots : ℕ) (u : ClientWord → ℕ) (fit : client-fits slots u ≡ true) where
   abbrev items : (ClientWord → ℕ) → Set → Bool
-  items m s = all-below (count m s) (item-fits z m s)
+  items m s = all-below (count m s) (item-fits slots m s)
 
   -- what is judged
-  pub judged : (op-fits z u ≡ true) × (items u Reads ≡ true) × (items u Writes ≡ true) × (all-below 8 (vector-fits u) ≡ true)
+  pub judged : (op-fits slots u ≡ true) × (items u Reads ≡ true) × (items u Writes ≡ true) × (all-below 8 (vector-fits u) ≡ true)
   unfolding client-fits
   judged =
       let vectors = all-below 8 (vector-fits u) in
-      let all = and-both (all-below 13 (field-fits u every)) (op-fits z u && (items u Reads && (items u Writes && vectors))) fit in
-      let op = and-both (op-fits z u) (items u Reads && (items u Writes && vectors)) (all .1) in
+      let all = and-both (all-below 13 (field-fits u)) (op-fits slots u && (items u Reads && (items u Writes && vectors))) fit in
+      let op = and-both (op-fits slots u) (items u Reads && (items u Writes && vectors)) (all .1) in
       let reads = and-both (items u Reads) (items u Writes && vectors) (op .1) in
       let writes = and-both (items u Writes) vectors (reads .1) in
       (op .0, reads .0, writes .0, writes .1)
@@ -84,21 +80,21 @@ module _ (z : TreeSizes) (u : ClientWord → ℕ) (fit : client-fits z u ≡ tru
   unfolding vector-fits
   fits-vector s l = leb-true (u (vector-word s 0)) 1 (all-at (vector-fits u) 8 s (judged .3) l)
 
-  was-within : (x : ClientWord) → Within every x (u x)
+  was-within : (x : ClientWord) → Within x (u x)
   unfolding Within
-  was-within (field i) = λ l. fits-field z u fit i l
+  was-within (field i) = λ l. fits-field slots u fit i l
   was-within (item s i n) = tt
   was-within (vector-word s n) = λ e l. subst (λ (i : ℕ). u (vector-word s i) ≤ 1) (sym e) (fits-vector s l)
 
   -- one store
-  module _ (a : ClientWord) (v : ℕ) (h : Harmless every a v) where
+  module _ (a : ClientWord) (v : ℕ) (h : Harmless a v) where
     g : ClientWord → ℕ
     g = upd (decide client-words) u a v
 
     -- where there is no such store
-    kept : (x : ClientWord) → ((w : ℕ) → ¬ (Harmless every x w)) → g x ≡ u x
+    kept : (x : ClientWord) → ((w : ℕ) → ¬ (Harmless x w)) → g x ≡ u x
     unfolding g
-    kept x n = upd-other (decide client-words) u a v x (λ q. n v (subst (λ y. Harmless every y v) (sym q) h))
+    kept x n = upd-other (decide client-words) u a v x (λ q. n v (subst (λ y. Harmless y v) (sym q) h))
 
     same-sets : Same-sets u g
     unfolding Harmless
@@ -110,21 +106,21 @@ module _ (z : TreeSizes) (u : ClientWord → ℕ) (fit : client-fits z u ≡ tru
     }
 
     -- fields and vectors: as before, or the one stored
-    within : (x : ClientWord) → Within every x (g x)
+    within : (x : ClientWord) → Within x (g x)
     unfolding g
     within x = go (decide client-words x a)
       where
-        go : Dec (x ≡ a) → Within every x (upd (decide client-words) u a v x)
+        go : Dec (x ≡ a) → Within x (upd (decide client-words) u a v x)
         go (yes q) =
-            subst (Within every x) (sym (subst (λ y. upd (decide client-words) u a v y ≡ v) (sym q) (upd-same (decide client-words) u a v)))
-            (harmless-within every x v (subst (λ y. Harmless every y v) (sym q) h))
-        go (no n) = subst (Within every x) (sym (upd-other (decide client-words) u a v x n)) (was-within x)
+            subst (Within x) (sym (subst (λ y. upd (decide client-words) u a v y ≡ v) (sym q) (upd-same (decide client-words) u a v)))
+            (harmless-within x v (subst (λ y. Harmless y v) (sym q) h))
+        go (no n) = subst (Within x) (sym (upd-other (decide client-words) u a v x n)) (was-within x)
 
-    item-same : (s : Set) (i : ℕ) → ((n : ℕ) → g (item s i n) ≡ u (item s i n)) → has-read g s ≡ has-read u s → item-fits z g s i ≡ item-fits z u s i
+    item-same : (s : Set) (i : ℕ) → ((n : ℕ) → g (item s i n) ≡ u (item s i n)) → has-read g s ≡ has-read u s → item-fits slots g s i ≡ item-fits slots u s i
     unfolding item-fits number-at
     item-same s i e r =
         let c = record-frame u g s i e in
-        λ t. number-in-store z (e 0 t) && (record-in-range z (e 0 t) (c t) && r t (e 0 t))
+        λ t. number-in-store slots (e 0 t) && (record-in-range slots (e 0 t) (c t) && r t (e 0 t))
 
     read-same : (s : Set) → has-read g s ≡ has-read u s
     unfolding has-read
@@ -136,19 +132,19 @@ module _ (z : TreeSizes) (u : ClientWord → ℕ) (fit : client-fits z u ≡ tru
     items-same s e =
         ap₂ all-below (count-frame u g s (same-sets .reads) (same-sets .writes)) (fun-ext (λ i. item-same s i (e i) (read-same s)))
 
-    op-same : op-fits z g ≡ op-fits z u
+    op-same : op-fits slots g ≡ op-fits slots u
     unfolding op-fits Harmless
     op-same =
         let n = kept op-number (λ w q. true≢false (sym (q .0))) in
         let k = kept op-key (λ w q. true≢false (sym (q .0))) in
         let s = kept op-server (λ w q. true≢false (sym (q .0))) in
         let v = kept op-value (λ w q. true≢false (sym (q .0))) in
-        λ t. leb (n t) 7 && cond (eqb (n t) 6) (in-store z (k t) && ltb (s t) (z .servers)) (cond (eqb (n t) 7) (leb 1 (v t) && leb (v t) 32) true)
+        λ t. leb (n t) 7 && cond (eqb (n t) 6) (in-store slots (k t) && ltb (s t) 8) (cond (eqb (n t) 7) (leb 1 (v t) && leb (v t) 32) true)
 
-    pub store-fits : client-fits z (upd (decide client-words) u a v) ≡ true
+    pub store-fits : client-fits slots (upd (decide client-words) u a v) ≡ true
     unfolding client-fits field-fits vector-fits Within g
     store-fits =
-        let fields = all-from (field-fits g every) 13 (λ i l. le-leb (g (field i)) (getD (bounds every) i 0) (within (field i) l)) in
+        let fields = all-from (field-fits g) 13 (λ i l. le-leb (g (field i)) (getD bounds i 0) (within (field i) l)) in
         let vectors = all-from (vector-fits g) 8 (λ s l. le-leb (g (vector-word s 0)) 1 (within (vector-word s 0) refl l)) in
         let op = op-same ∙ judged .0 in
         let reads = items-same Reads (same-sets .items-read) ∙ judged .1 in
@@ -156,34 +152,34 @@ module _ (z : TreeSizes) (u : ClientWord → ℕ) (fit : client-fits z u ≡ tru
         rw (fields, op, reads, writes, vectors)
 
 -- a list of such stores
-pub stores-fit : (z : TreeSizes) (ps : List (Put ClientWord)) (u : ClientWord → ℕ) → Only client-words (Harmless (2 ^ z .servers - 1)) ps
-    → client-fits z u ≡ true → client-fits z (changed client-words u ps) ≡ true
-stores-fit z ps u h fit =
-    only-keeps client-words (Harmless (2 ^ z .servers - 1)) (λ m. client-fits z m ≡ true) (λ m a v q f. store-fits z m f a v q) ps u h fit
+pub stores-fit : (slots : ℕ) (ps : List (Put ClientWord)) (u : ClientWord → ℕ) → Only client-words Harmless ps
+    → client-fits slots u ≡ true → client-fits slots (changed client-words u ps) ≡ true
+stores-fit slots ps u h fit =
+    only-keeps client-words Harmless (λ m. client-fits slots m ≡ true) (λ m a v q f. store-fits slots m f a v q) ps u h fit
 
 -- ---- the steps of a decided transaction
-module _ (z : TreeSizes) (u : ClientWord → ℕ) (fit : client-fits z u ≡ true) where
-  module _ (s : ℕ) (l : s < z .servers) where
-    pub prepared-fits : client-fits z (changed client-words u (noted prepared s u)) ≡ true
+module _ (slots : ℕ) (u : ClientWord → ℕ) (fit : client-fits slots u ≡ true) where
+  module _ (s : ℕ) (l : s < 8) where
+    pub prepared-fits : client-fits slots (changed client-words u (noted prepared s u)) ≡ true
     unfolding noted Only Harmless
-    prepared-fits = stores-fit z (noted prepared s u) u ((refl, one-more (z .servers) s l (u prepared) (fits-field z u fit 6 (omega arith))), tt) fit
+    prepared-fits = stores-fit slots (noted prepared s u) u ((refl, one-more 8 s l (u prepared) (fits-field slots u fit 6 (omega arith))), tt) fit
 
-    pub applied-fits : client-fits z (changed client-words u (noted applied s u)) ≡ true
+    pub applied-fits : client-fits slots (changed client-words u (noted applied s u)) ≡ true
     unfolding noted Only Harmless
-    applied-fits = stores-fit z (noted applied s u) u ((refl, one-more (z .servers) s l (u applied) (fits-field z u fit 7 (omega arith))), tt) fit
+    applied-fits = stores-fit slots (noted applied s u) u ((refl, one-more 8 s l (u applied) (fits-field slots u fit 7 (omega arith))), tt) fit
 
-  pub decision-fits : client-fits z (changed client-words u (decided u)) ≡ true
+  pub decision-fits : client-fits slots (changed client-words u (decided u)) ≡ true
   unfolding decided Only Harmless
-  decision-fits = stores-fit z (decided u) u ((refl, omega arith), tt) fit
+  decision-fits = stores-fit slots (decided u) u ((refl, omega arith), tt) fit
 
-  pub loss-fits : client-fits z (changed client-words u (lose-part u)) ≡ true
+  pub loss-fits : client-fits slots (changed client-words u (lose-part u)) ≡ true
   unfolding lose-part put-word Only Harmless Mark
   loss-fits =
-      stores-fit z (lose-part u) u
-      (only-then client-words (Harmless (2 ^ z .servers - 1)) (put-field 9 1) drop-all u ((refl, omega arith), tt)
-      (λ m. only-mono client-words Drop (Harmless (2 ^ z .servers - 1)) drop-harmless (drop-all m) (only-all m))) fit
+      stores-fit slots (lose-part u) u
+      (only-then client-words Harmless (put-field 9 1) drop-all u ((refl, omega arith), tt)
+      (λ m. only-mono client-words Drop Harmless drop-harmless (drop-all m) (only-all m))) fit
     where
-      drop-harmless : (a : ClientWord) (v : ℕ) → Drop a v → Harmless (2 ^ z .servers - 1) a v
+      drop-harmless : (a : ClientWord) (v : ℕ) → Drop a v → Harmless a v
       drop-harmless (field i) v h = (ap apart-field (h .0), omega (arith, h .1))
       drop-harmless (item Reads i n) v h = h .0
       drop-harmless (item Writes i n) v h = h .0

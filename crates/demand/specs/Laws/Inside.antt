@@ -2,15 +2,16 @@
 use mathlib.Core.Path.{_≡_, refl, ap, sym, _∙_, subst}
 use mathlib.Core.Bool.{Bool, true, false, cond, _&&_, _||_, not, true≢false}
 use mathlib.Core.List.{List, [], _∷_, _++_, map}
-use Prim.Native.Nat.{ℕ, zero, suc, _+_, _%_, _≤_, _<_}
+use Prim.Native.Nat.{ℕ, zero, suc, _+_, _≤_, _<_}
 use native.Mathlib.Omega.{arith}
+use native.Mathlib.Decide.{decLe}
 use borrow.Author.Tests.{eqb-true, ltb-true, not-false}
 use lib.Dec.{eqb, leb, ltb}
 use lib.ListN.{length}
 use Rattle.base.specs.Test.{and-both}
 use Rattle.memory.specs.Bit.{bit}
 use Rattle.layout.specs.Block.{In}
-use Rattle.layout.specs.Space.{Put, changed, Valid}
+use Rattle.layout.specs.Space.{Put, put, changed, Valid}
 use Rattle.layout.specs.Laws.Space.{AllValid}
 use Rattle.layout.specs.Step.{andThen}
 use Rattle.layout.specs.Laws.Step.{changed-append, valid-append}
@@ -22,9 +23,9 @@ use Rattle.server.specs.declared.lock.Use.the-variants.{Fetch}
 use Rattle.server.specs.Check.{held}
 use Rattle.server.specs.HandOut.{metadata-at, metadata-sound, vector-at}
 use Rattle.server.specs.Object.{object-of, Has}
-use Rattle.server.specs.Store.{lock-step, unlock-step}
-use Rattle.server.specs.Laws.Leaves.{lock-inside, unlock-inside}
-use Rattle.operations.specs.Slot.{TreeSizes}
+use Rattle.server.specs.declared.place.Place.the-variants.{Table}
+use Rattle.server.specs.Store.{lock-step, unlock-step, versions-row, versions-step}
+use Rattle.server.specs.Laws.Leaves.{lock-inside, unlock-inside, metadata-inside}
 use Rattle.client.specs.declared.part.Set.{Set}
 use Rattle.client.specs.declared.part.Set.the-variants.{Reads, Writes}
 use Rattle.client.specs.Layout.{ClientWord, client-words, client-block, field, item, phase, participants, prepared, applied, limit}
@@ -46,17 +47,21 @@ use Rattle.client.specs.Renew.{finish}
 use Rattle.client.specs.Work.{Worked, refused, fetches, aborted, answers, walked, worked}
 use Rattle.client.specs.Laws.GoodSteps.{good-used, good-entries, good-fetched-meta, good-fetched-node, good-fetched-vector, good-drop-all, good-reset, good-give, good-abort, good-lose, good-finish}
 use Rattle.steps.specs.declared.sizes.Sizes.{Sizes}
-use Rattle.steps.specs.Whole.{Address, head, server, client, whole, block, tree-sizes, server-at, client-at, Allowed}
+use Rattle.steps.specs.Whole.{Address, head, server, client, whole, block, server-at, client-at, Allowed}
 use Rattle.steps.specs.Laws.Whole.{server-part, client-part}
 use Rattle.steps.specs.Laws.Stores.{client-of, server-of, part-other, client-changed}
 use Rattle.steps.specs.Laws.Writes.{write-inside}
 use Rattle.steps.specs.Laws.There.{named-in, in-store-has}
 use Rattle.steps.specs.Judge.{lock-fits, unlock-fits, abort-fits, lowest-participant}
 use Rattle.steps.specs.declared.outcome.Outcome.{Outcome}
-use Rattle.steps.specs.declared.outcome.Outcome.the-variants.{Fetched}
+use Rattle.steps.specs.declared.outcome.Outcome.the-variants.{Done, Fetched}
+use Rattle.steps.specs.declared.step.Kind.{Kind}
+use Rattle.steps.specs.declared.step.ServerChange.{ServerChange}
+use Rattle.steps.specs.Servers.{change-of, there, metadata-source, largest-version, is-add, changed-states}
 use Rattle.steps.specs.Refusal.{kind-of, refusal}
 use Rattle.steps.specs.Passed.{Passed}
 use Rattle.steps.specs.Laws.Passed.{passed}
+use Rattle.demand.specs.Laws.Coming.{a-change}
 use Rattle.demand.specs.Laws.Lacking.{fetch-lacks}
 use Rattle.demand.specs.Laws.Servers.{both-client}
 use Rattle.demand.specs.Laws.Frame.{Only}
@@ -82,9 +87,9 @@ good-answered us w =
     good-then (used-enter us) (andThen client-words (enter-writes w) (put-field 1 0)) (good-entering us)
     (good-then (enter-writes w) (put-field 1 0) (good-entries (entered w)) (good-field 1 0 (omega arith)))
 
-good-committing : (n : ℕ) → Good (committing n)
+good-committing : Good committing
 unfolding committing AllValid Valid In
-good-committing n = record { all = λ m. (omega arith, (omega arith, tt)) }
+good-committing = record { all = λ m. (omega arith, (omega arith, tt)) }
 
 good-noted : (i s : ℕ) → i < 15 → Good (noted (field i) s)
 unfolding noted AllValid Valid In
@@ -99,6 +104,19 @@ in-head : Address → Bool
 in-head (head i) = true
 in-head (server s a) = false
 in-head (client c a) = false
+
+-- the table's versions of an added server
+module _ (n : ℕ) (v : ℕ → ℕ → ℕ) where
+  row-inside : (i t : ℕ) → i < n → t ≤ 8 → AllValid Srv.places (Srv.server-block n) (versions-row v i t)
+  unfolding versions-row AllValid Valid In
+  row-inside i zero l h = tt
+  row-inside i (suc t) l h =
+      valid-append Srv.places (Srv.server-block n) (versions-row v i t) (put (Table t i) (v t i) ∷ []) (row-inside i t l (omega arith)) ((l, omega arith), tt)
+
+  versions-inside : (i : ℕ) → i ≤ n → AllValid Srv.places (Srv.server-block n) (versions-step v i)
+  unfolding versions-step AllValid
+  versions-inside zero l = tt
+  versions-inside (suc i) l = valid-append Srv.places (Srv.server-block n) (versions-step v i) (versions-row v i 8) (versions-inside i (omega arith)) (row-inside i 8 (omega arith) (omega arith))
 
 module _ (z : Sizes) where
   -- each store is at an address of the memory; what the head holds stays
@@ -124,7 +142,7 @@ module _ (z : Sizes) where
     headless = λ m i. part-other client-words whole (client c) (head i) (λ a q. true≢false (ap in-head q)) ps m;
   }
 
-  pub lies-server : (s : ℕ) → s < z .servers → (ps : List (Put Place)) → AllValid Srv.places (Srv.server-block (z .slots)) ps → Lies (over (server s) ps)
+  pub lies-server : (s : ℕ) → s < 8 → (ps : List (Put Place)) → AllValid Srv.places (Srv.server-block (z .slots)) ps → Lies (over (server s) ps)
   unfolding in-head
   lies-server s l ps ok = record {
     valid = good-all Srv.places (Srv.server-block (z .slots)) whole (block z) (server s) (server-at z s) (server-part z s l) ps ok;
@@ -150,13 +168,13 @@ module _ (z : Sizes) where
 
     -- a set whose objects are objects of the store
     abbrev There : Set → Type 0
-    There s = numbers-fit (tree-sizes z) u s ≡ true
+    There s = numbers-fit (z .slots) u s ≡ true
 
     set-has : (s : Set) → There s → (i : ℕ) → i < count u s → Has (z .slots) (object-of (number-at u s i))
     unfolding numbers-fit number-fits
-    set-has s fit i h = in-store-has z (number-at u s i) al
-        (all-at (number-fits (tree-sizes z) u s) (count u s) i
-        (and-both (leb (said-count u s) (limit s)) (all-below (count u s) (number-fits (tree-sizes z) u s)) fit .1) h)
+    set-has s fit i h = in-store-has (z .slots) (number-at u s i)
+        (all-at (number-fits (z .slots) u s) (count u s) i
+        (and-both (leb (said-count u s) (limit s)) (all-below (count u s) (number-fits (z .slots) u s)) fit .1) h)
 
     -- locks and unlocks of what is read, and the writes
     abbrev Inside : List (Put Place) → Type 0
@@ -188,14 +206,14 @@ module _ (z : Sizes) where
     unfolding abort-fits fit-to-abort
     aborting-lies fits us =
         lies-append (S.unlocked-everywhere z m c) (S.in-client z m c (Life.abort-part us))
-        (lies-servers (z .servers) _
+        (lies-servers 8 _
         (λ s h. lies-either (bit (u prepared) s) _ [] (lies-server s h (S.unlock-each u c (lowest-participant z m c) s (server-of m s)) (unlock-valid reads (lowest-participant z m c) s (server-of m s))) lies-none))
         (lies-part (Life.abort-part us) (good-abort us))
       where
         reads : There Reads
         reads =
-            and-both (servers-fit u (z .servers) prepared) (numbers-fit (tree-sizes z) u Reads)
-            (and-both (fit-to-abort (tree-sizes z) u) (all-below (z .servers) (λ s. not (bit (u prepared) s) || (fit-to-unlock (tree-sizes z) u && unlock-fits z m c s))) fits .0) .1
+            and-both (servers-fit u prepared) (numbers-fit (z .slots) u Reads)
+            (and-both (fit-to-abort (z .slots) u) (all-below 8 (λ s. not (bit (u prepared) s) || (fit-to-unlock (z .slots) u && unlock-fits z m c s))) fits .0) .1
 
     -- ---- a step that is refused where something is out of range, and one of two
     lies-if : (b : Bool) (d : S.Did) → (b ≡ true → Lies (d .stores)) → Lies (S.if-fit b d .stores)
@@ -235,14 +253,14 @@ module _ (z : Sizes) where
     Near (O.vector s) = s < 8
     Near (O.fetched s) = s < 8
 
-    hand-over-lies : (us : List ℕ) (a : O.Ask) (out : Outcome) → Near a → Lies (S.hand-over z m c us a (S.wanted (z .servers) c a .from) out .stores)
+    hand-over-lies : (us : List ℕ) (a : O.Ask) (out : Outcome) → Near a → Lies (S.hand-over z m c us a (S.wanted (metadata-source m z c) a .from) out .stores)
     hand-over-lies us (O.object O.meta) out h =
-        let p = server-of m (c % z .servers) in
-        object-lies us (c % z .servers) 0 out (metadata-sound (z .servers) (z .slots) p) (fetched-meta (metadata-at p .root) (metadata-at p .version))
-        (good-fetched-meta (metadata-at p .root) (metadata-at p .version))
+        let p = server-of m (metadata-source m z c) in
+        let r = metadata-at p in
+        object-lies us (metadata-source m z c) 0 out (metadata-sound (z .slots) p) (fetched-meta (r .root) (r .states) (r .version)) (good-fetched-meta (r .root) (r .states) (r .version))
     hand-over-lies us (O.object (O.node n)) out h =
         let r = S.node-at (server-of m (N.server-of n)) n in
-        object-lies us (N.server-of n) (1 + n) out (node-fits (tree-sizes z) r) (fetched-node n r) (good-fetched-node n r)
+        object-lies us (N.server-of n) (1 + n) out (node-fits (z .slots) r) (fetched-node n r) (good-fetched-node n r)
     hand-over-lies us (O.object (O.flag n)) out h = vector-lies us (N.server-of n) h
     hand-over-lies us (O.vector s) out h = vector-lies us s h
     hand-over-lies us (O.fetched s) out h = vector-lies us s h
@@ -250,37 +268,38 @@ module _ (z : Sizes) where
     fetch-lies : (us : List ℕ) (a : O.Ask) → Near a → Lies (S.fetch z m c us a .stores)
     unfolding S.fetch
     fetch-lies us a h =
-        let w = S.wanted (z .servers) c a in
-        lies-found (U.deciding (map (S.fetch-finding z m c us (w .from)) (S.fetch-items z m c us))) (S.hand-over z m c us a (w .from) (Fetched (w .what) (w .which))) us
-        (hand-over-lies us a (Fetched (w .what) (w .which)) h)
+        let w = S.wanted (metadata-source m z c) a in
+        lies-if (ltb (w .from) 8) _ (λ _. lies-one (there m (w .from)) _ _
+        (lies-found (U.deciding (map (S.fetch-finding z m c us (w .from)) (S.fetch-items z m c us))) (S.hand-over z m c us a (w .from) (Fetched (w .what) (w .which))) us
+        (hand-over-lies us a (Fetched (w .what) (w .which)) h)) (abort-lies 1 us))
 
     -- what is fetched is one of the store's
-    near-server : (s : ℕ) → bad-vector (tree-sizes z) u s ≡ false → s < 8
+    near-server : (s : ℕ) → bad-vector (z .slots) u s ≡ false → s < 8
     near-server s e =
-        omega (arith, ltb-true s (z .servers) (and-both (ltb s (z .servers)) (vector-fits u s) (not-false (ltb s (z .servers) && vector-fits u s) e) .0), al .servers)
+        ltb-true s 8 (and-both (ltb s 8) (vector-fits u s) (not-false (ltb s 8 && vector-fits u s) e) .0)
 
-    near : (a : O.Ask) → broken (tree-sizes z) u a ≡ false → Near a
+    near : (a : O.Ask) → broken (z .slots) u a ≡ false → Near a
     unfolding broken
     near (O.object O.meta) e = tt
     near (O.object (O.node n)) e = tt
-    near (O.object (O.flag n)) e = go (in-store (tree-sizes z) n) refl e
+    near (O.object (O.flag n)) e = go (in-store (z .slots) n) refl e
       where
-        go : (b : Bool) → in-store (tree-sizes z) n ≡ b → cond b (unusable (tree-sizes z) u (8193 + n) (source u (8193 + n))) true ≡ false → N.server-of n < 8
-        go true i q = omega (arith, named-in (tree-sizes z) n i .0, al .servers)
+        go : (b : Bool) → in-store (z .slots) n ≡ b → cond b (unusable (z .slots) u (8193 + n) (source u (8193 + n))) true ≡ false → N.server-of n < 8
+        go true i q = named-in (z .slots) n i .0
         go false i q = absurd (true≢false q)
     near (O.vector s) e = near-server s e
     near (O.fetched s) e = near-server s e
 
     work-lies : Lies (S.work z m c .stores)
     unfolding S.work
-    work-lies = lies-if (fit-to-work (tree-sizes z) u) _ (λ _. go (worked (tree-sizes z) u) refl)
+    work-lies = lies-if (fit-to-work (z .slots) u) _ (λ _. go (worked (z .slots) u) refl)
       where
         us : List ℕ
-        us = walked (tree-sizes z) u .used
+        us = walked (z .slots) u .used
 
-        go : (w : Worked) → worked (tree-sizes z) u ≡ w → Lies (S.after-walk z m c us w .stores)
+        go : (w : Worked) → worked (z .slots) u ≡ w → Lies (S.after-walk z m c us w .stores)
         go refused e = lies-none
-        go (fetches a) e = fetch-lies us a (near a (fetch-lacks (tree-sizes z) u a e .1))
+        go (fetches a) e = fetch-lies us a (near a (fetch-lacks (z .slots) u a e .1))
         go (aborted y) e = abort-lies y us
         go (answers a w) e = lies-part (answered us w) (good-answered us w)
 
@@ -288,11 +307,11 @@ module _ (z : Sizes) where
     commit-lies : Lies (S.commit z m c .stores)
     unfolding S.commit
     commit-lies =
-        lies-if (fit-to-commit (tree-sizes z) u) _
-        (λ _. lies-one (eqb (participants-of u (z .servers)) 0) _ _ (lies-part (Life.reset 0) (good-reset 0)) (lies-part (committing (z .servers)) (good-committing (z .servers))))
+        lies-if (fit-to-commit (z .slots) u) _
+        (λ _. lies-one (eqb (participants-of u) 0) _ _ (lies-part (Life.reset 0) (good-reset 0)) (lies-part committing good-committing))
 
     -- ---- APPLY and PREPARE at a server
-    module _ (s : ℕ) (h : s < z .servers) (reads : There Reads) where
+    module _ (s : ℕ) (h : s < 8) (reads : There Reads) where
       applying-lies : There Writes → Lies (S.applying z m c s)
       unfolding andThen
       applying-lies writes =
@@ -327,24 +346,24 @@ module _ (z : Sizes) where
         (lies-client c l _ (good-drop-all .all (client-of (changed whole m (S.aborting z m c [])) c))))))
 
 -- what an apply reads: the objects of both sets are there
-apply-numbers : (z : TreeSizes) (u : ClientWord → ℕ) (s : ℕ) (last : Bool) → fit-to-apply z u s last ≡ true → (numbers-fit z u Reads ≡ true) × (numbers-fit z u Writes ≡ true)
+apply-numbers : (slots : ℕ) (u : ClientWord → ℕ) (s : ℕ) (last : Bool) → fit-to-apply slots u s last ≡ true → (numbers-fit slots u Reads ≡ true) × (numbers-fit slots u Writes ≡ true)
 unfolding fit-to-apply fit-to-unlock
-apply-numbers z u s last h =
-    let rest = writes-fit z u s && (not last || fit-to-renew z u) in
-    let p = and-both (servers-fit u (z .servers) applied && numbers-fit z u Reads) (fit-to-unlock z u && rest) h in (
-      and-both (servers-fit u (z .servers) applied) (numbers-fit z u Reads) (p .0) .1,
-      and-both (servers-fit u (z .servers) participants) (numbers-fit z u Writes) (and-both (fit-to-unlock z u) rest (p .1) .0) .1,
+apply-numbers slots u s last h =
+    let rest = writes-fit slots u s && (not last || fit-to-renew slots u) in
+    let p = and-both (servers-fit u applied && numbers-fit slots u Reads) (fit-to-unlock slots u && rest) h in (
+      and-both (servers-fit u applied) (numbers-fit slots u Reads) (p .0) .1,
+      and-both (servers-fit u participants) (numbers-fit slots u Writes) (and-both (fit-to-unlock slots u) rest (p .1) .0) .1,
     )
 
 -- they stay where the sets do
-numbers-same : (z : TreeSizes) (u v : ClientWord → ℕ) → Same-sets u v → (s : Set) → said-count v s ≡ said-count u s → ((i : ℕ) → v (item s i 0) ≡ u (item s i 0))
-    → numbers-fit z v s ≡ numbers-fit z u s
+numbers-same : (slots : ℕ) (u v : ClientWord → ℕ) → Same-sets u v → (s : Set) → said-count v s ≡ said-count u s → ((i : ℕ) → v (item s i 0) ≡ u (item s i 0))
+    → numbers-fit slots v s ≡ numbers-fit slots u s
 unfolding numbers-fit number-fits
-numbers-same z u v S s c e =
-    λ t. leb (c t) (limit s) && all-below (count-frame u v s (S .reads) (S .writes) t) (λ i. number-in-store z (number-frame 0 0 0 u v S s i (e i) t))
+numbers-same slots u v S s c e =
+    λ t. leb (c t) (limit s) && all-below (count-frame u v s (S .reads) (S .writes) t) (λ i. number-in-store slots (number-frame 0 0 0 u v S s i (e i) t))
 
 -- ---- PREPARE: the sets are the same still where it also applies
-module _ (z : Sizes) (al : Allowed z) (m : Address → ℕ) (c : ℕ) (l : c < z .clients) (s : ℕ) (h : s < z .servers) where
+module _ (z : Sizes) (al : Allowed z) (m : Address → ℕ) (c : ℕ) (l : c < z .clients) (s : ℕ) (h : s < 8) where
   abbrev mine : ClientWord → ℕ
   mine = client-of m c
 
@@ -361,40 +380,40 @@ module _ (z : Sizes) (al : Allowed z) (m : Address → ℕ) (c : ℕ) (l : c < z
       ∙ client-changed m₁ c (decided mine) ∙ ap (λ (w : ClientWord → ℕ). changed client-words w (decided mine)) (both-client m s c _ _)))
       (sets-then mine v (changed client-words v (decided v)) (else-same (noted prepared s mine) mine (refl, tt) .sets) (else-same (decided v) v (refl, tt) .sets))
 
-  alone-lies : fit-to-apply (tree-sizes z) mine s true ≡ true → Lies z (S.applied-at z m₂ c s .stores)
+  alone-lies : fit-to-apply (z .slots) mine s true ≡ true → Lies z (S.applied-at z m₂ c s .stores)
   alone-lies fits =
-      let both = apply-numbers (tree-sizes z) mine s true fits in
-      applied-lies z al m₂ c l s h (numbers-same (tree-sizes z) mine (client-of m₂ c) sets₂ Reads (sets₂ .reads) (λ i. sets₂ .items-read i 0) ∙ both .0)
-      (numbers-same (tree-sizes z) mine (client-of m₂ c) sets₂ Writes (sets₂ .writes) (λ i. sets₂ .items-written i 0) ∙ both .1)
+      let both = apply-numbers (z .slots) mine s true fits in
+      applied-lies z al m₂ c l s h (numbers-same (z .slots) mine (client-of m₂ c) sets₂ Reads (sets₂ .reads) (λ i. sets₂ .items-read i 0) ∙ both .0)
+      (numbers-same (z .slots) mine (client-of m₂ c) sets₂ Writes (sets₂ .writes) (λ i. sets₂ .items-written i 0) ∙ both .1)
 
-  prepared-lies : numbers-fit (tree-sizes z) mine Reads ≡ true → Lies z (S.prepared-at z m c s .stores)
+  prepared-lies : numbers-fit (z .slots) mine Reads ≡ true → Lies z (S.prepared-at z m c s .stores)
   unfolding S.prepared-at
   prepared-lies reads =
       let ps = S.deciding-stores z m c s in
       lies-one z al m c l (not (S.all-prepared z m c s)) _ _ (preparing-lies z al m c l s h reads)
       (lies-one z al m c l (S.only z m c s) _ _
-      (lies-if z al m c l (fit-to-apply (tree-sizes z) mine s true) _ (λ fits. lies-append z ps (S.applied-at z m₂ c s .stores) (deciding-lies z al m c l s h reads) (alone-lies fits)))
+      (lies-if z al m c l (fit-to-apply (z .slots) mine s true) _ (λ fits. lies-append z ps (S.applied-at z m₂ c s .stores) (deciding-lies z al m c l s h reads) (alone-lies fits)))
       (deciding-lies z al m c l s h reads))
 
   prepare-lies : Lies z (S.prepare z m c s .stores)
   unfolding S.prepare fit-to-prepare
   prepare-lies =
-      lies-if z al m c l (fit-to-prepare (tree-sizes z) mine) _
-      (λ fits. lies-found z al m c l (U.deciding (map (S.prepare-finding z m c s) (U.read-items mine))) (S.prepared-at z m c s) []
-      (prepared-lies (and-both (numbers-fit (tree-sizes z) mine Reads) (numbers-fit (tree-sizes z) mine Writes)
-      (and-both (servers-fit mine (z .servers) participants && servers-fit mine (z .servers) prepared) (numbers-fit (tree-sizes z) mine Reads && numbers-fit (tree-sizes z) mine Writes) fits .1) .0)))
+      lies-if z al m c l (fit-to-prepare (z .slots) mine) _
+      (λ fits. lies-one z al m c l (there m s) _ _ (lies-found z al m c l (U.deciding (map (S.prepare-finding z m c s) (U.read-items mine))) (S.prepared-at z m c s) []
+      (prepared-lies (and-both (numbers-fit (z .slots) mine Reads) (numbers-fit (z .slots) mine Writes)
+      (and-both (servers-fit mine participants && servers-fit mine prepared) (numbers-fit (z .slots) mine Reads && numbers-fit (z .slots) mine Writes) fits .1) .0))) (abort-lies z al m c l 1 []))
 
 -- ---- THE STEP
 module _ (z : Sizes) (al : Allowed z) (k : Step.Step) (m : Address → ℕ) where
-  kind-lies : Passed z k m → Lies z (S.by-kind z m (k .client) k (kind-of (k .kind)) .stores)
+  kind-lies : Passed z k m → k .kind ≤ 7 → Lies z (S.by-kind z m (k .client) k (kind-of (k .kind)) .stores)
   unfolding kind-of S.begin S.give S.apply
-  kind-lies p = go (k .kind) refl (p .known-kind)
+  kind-lies p below = go (k .kind) refl below
     where
       c : ℕ
       c = k .client
 
       l : k .client < z .clients
-      l = p .known-client
+      l = p .known-client below
 
       go : (x : ℕ) → k .kind ≡ x → x ≤ 7 → Lies z (S.by-kind z m (k .client) k (kind-of x) .stores)
       go zero e r = lies-part z al m c l (Life.reset 1) (good-reset 1)
@@ -405,19 +424,43 @@ module _ (z : Sizes) (al : Allowed z) (k : Step.Step) (m : Address → ℕ) wher
       go (suc (suc (suc (suc (suc zero))))) e r =
           let last = S.all-applied z m c (k .server) in
           lies-if z al m c l (S.apply-fits z m c (k .server)) (S.applied-at z m c (k .server))
-          (λ fits. let both = apply-numbers (tree-sizes z) (client-of m c) (k .server) last
-          (and-both (fit-to-apply (tree-sizes z) (client-of m c) (k .server) last) (unlock-fits z m c (k .server)) fits .0) in
+          (λ fits. let both = apply-numbers (z .slots) (client-of m c) (k .server) last
+          (and-both (fit-to-apply (z .slots) (client-of m c) (k .server) last) (unlock-fits z m c (k .server)) fits .0) in
           applied-lies z al m c l (k .server) (p .known-participant (omega (arith, e)) (omega (arith, e))) (both .0) (both .1))
       go (suc (suc (suc (suc (suc (suc zero)))))) e r = abort-lies z al m c l 6 []
       go (suc (suc (suc (suc (suc (suc (suc zero))))))) e r = lose-lies z al m c l
       go (suc (suc (suc (suc (suc (suc (suc (suc x)))))))) e r = absurd (omega arith)
+
+  -- ---- 8 add, 9 close, 10 remove: at no client
+  change-lies : (x : ServerChange) (s : ℕ) → s < 8 → Lies z (S.change-servers z m x s .stores)
+  unfolding S.change-servers
+  change-lies x s l = go (S.change-fits z m x s)
+    where
+      added : (b : Bool) → Lies z (cond b (over (server s) (versions-step (largest-version m s) (z .slots))) [])
+      added true = lies-server z s l _ (versions-inside (z .slots) (largest-version m s) (z .slots) (omega arith))
+      added false = lies-none z
+
+      go : (b : Bool) → Lies z (S.if-fit b (S.did Done (S.added-stores z m x s ++ S.metadata-stores z m s (changed-states x (S.metadata-now z m .states) s))) .stores)
+      go true =
+          lies-append z (S.added-stores z m x s) (S.metadata-stores z m s (changed-states x (S.metadata-now z m .states) s)) (added (is-add x))
+          (lies-servers z 8 _ (λ t h. lies-either z (there m t || eqb t s) _ [] (lies-server z t h _ (metadata-inside (z .slots) (λ a. 0) (S.metadata-now z m .root) (changed-states x (S.metadata-now z m .states) s) (suc (S.metadata-now z m .version)))) (lies-none z)))
+      go false = lies-none z
+
+  changed-lies : Passed z k m → 8 ≤ k .kind → Lies z (S.by-kind z m (k .client) k (kind-of (k .kind)) .stores)
+  changed-lies p above =
+      subst (λ (x : Kind). Lies z (S.by-kind z m (k .client) k x .stores)) (sym (a-change (k .kind) above (p .known-kind)))
+      (change-lies (change-of (k .kind)) (k .server) (p .known-changed above))
 
   rule-lies : Lies z (S.by-rule z k m .stores)
   unfolding S.by-rule
   rule-lies = go (eqb (refusal z k m) 0) refl
     where
       go : (a : Bool) → eqb (refusal z k m) 0 ≡ a → Lies z (cond a (S.by-kind z m (k .client) k (kind-of (k .kind))) (S.refuse (refusal z k m)) .stores)
-      go true e = kind-lies (passed z k m (eqb-true (refusal z k m) 0 e))
+      go true e = by (passed z k m (eqb-true (refusal z k m) 0 e)) (decLe (k .kind) 7)
+        where
+          by : Passed z k m → Dec (k .kind ≤ 7) → Lies z (S.by-kind z m (k .client) k (kind-of (k .kind)) .stores)
+          by p (yes l) = kind-lies p l
+          by p (no n) = changed-lies p (omega (arith, n))
       go false e = lies-none z
 
   pub step-lies : (room : ℕ) → Lies z (S.step z k room m .stores)

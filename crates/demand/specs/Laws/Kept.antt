@@ -12,15 +12,14 @@ use Rattle.operations.specs.Object.{Obj}
 use Rattle.operations.specs.Map.{Op}
 use Rattle.operations.specs.Operation.{Legal}
 use Rattle.protocol.specs.State.{Phase, opened}
-use Rattle.client.specs.Layout.{ClientWord, client-words, phase, op-number, op-key, op-value, op-server, participants, prepared, applied, reads-count, writes-count, item, vector-word, meta-copied, meta-root, meta-version}
+use Rattle.client.specs.Layout.{ClientWord, client-words, phase, op-number, op-key, op-value, op-server, participants, prepared, applied, reads-count, writes-count, item, vector-word, meta-states, meta-root, meta-version}
 use Rattle.client.specs.declared.part.Set.the-variants.{Reads, Writes, Copies}
 use Rattle.client.specs.Life.{reset, give-part}
-use Rattle.client.specs.Part.{put-field, put-fields, put-word}
+use Rattle.client.specs.Part.{put-fields, put-word}
 use Rattle.layout.specs.Step.{andThen}
 use Rattle.client.specs.Work.{op-of, waiting}
 use Rattle.steps.specs.Whole.{Address, client, whole}
 use Rattle.demand.specs.Ledger.{Told, Ledger, clears, notes-op}
-use Rattle.demand.specs.Laws.Store.{sizes}
 use Rattle.steps.specs.Laws.Stores.{client-of, server-of, client-changed, client-else, client-servers}
 use Rattle.demand.specs.Laws.Frame.{last, read-after}
 use Rattle.demand.specs.Laws.Shows.{phase-of, T, told, Slot-shown, Copies-shown, Server-shown, Client-shown, Related, Running}
@@ -48,7 +47,7 @@ module _ (k j slots : ℕ) where
 
     pub related : Related k j slots m L M → Mv.Reached (T k j slots) M′ → Others
         → Client-shown k j slots (client-of m′ (c .0)) (L′ .given (c .0)) (L′ .undecided (c .0)) (M′ .slots c) (M′ .copy c) (M′ .said c)
-        → ((s : Fin (suc k)) → Server-shown k j slots (server-of m′ (s .0)) s (M′ .value s) (M′ .version s) (M′ .table s) (M′ .lock s))
+        → ((s : Fin 8) → Server-shown k j slots (server-of m′ (s .0)) s (M′ .value s) (M′ .version s) (M′ .table s) (M′ .lock s))
         → L′ .decided ≡ map (map (told k j slots)) (M′ .log)
         → Related k j slots m′ L′ M′
     related R reach O own servers log = record { reached = reach; clients = λ d. go d (Fin-discrete (suc j) d c); servers = servers; log-as = log }
@@ -78,7 +77,7 @@ module _ (k j slots : ℕ) where
     pub reset-copies : (f : Obj → Option (P.Copy (T k j slots))) → Copies-shown k j slots u f → Copies-shown k j slots cleared f
     unfolding reset put-word put-fields puts andThen
     reset-copies f h =
-        copies-frame k j slots u cleared f (at meta-copied) (at meta-root) (at meta-version) (λ i n. at (item Copies i n)) (λ s n. at (vector-word s n)) h
+        copies-frame k j slots u cleared f (at meta-states) (at meta-root) (at meta-version) (λ i n. at (item Copies i n)) (λ s n. at (vector-word s n)) h
       where
         at : (a : ClientWord) → cleared a ≡ last client-words (reset p u) a (u a)
         at a = read-after client-words (reset p u) u a
@@ -192,7 +191,7 @@ module _ (k j slots : ℕ) where
       unfolding give-part put-fields puts
       now-waits t = op-of (at op-number t) (at op-key t) (at op-value t) (at op-server t)
 
-      pub give-kept : Legal (sizes k j slots) (op-of op key value server)
+      pub give-kept : Legal (op-of op key value server)
           → Related k j slots (changed whole m (over (client (c .0)) ps)) (notes-op L (c .0) (op-of op key value server)) M
       unfolding give-part put-fields puts
       give-kept legal =
@@ -213,12 +212,12 @@ module _ (k j slots : ℕ) where
             slot = slot-frame k j slots u v
                 (record { reads = at reads-count; writes = at writes-count; items-read = λ i n. at (item Reads i n); items-written = λ i n. at (item Writes i n) })
                 (M .slots c) (at phase) (at participants) (at prepared) (at applied) (R .clients c .slot);
-            copies = copies-frame k j slots u v (M .copy c) (at meta-copied) (at meta-root) (at meta-version) (λ i n. at (item Copies i n)) (λ s n. at (vector-word s n))
+            copies = copies-frame k j slots u v (M .copy c) (at meta-states) (at meta-root) (at meta-version) (λ i n. at (item Copies i n)) (λ s n. at (vector-word s n))
                 (R .clients c .copies);
             says = record {
               said-as = λ n. R .clients c .says .said-as (subst Running (at phase) n);
               given-as = λ n. upd-same ℕ-discrete (L .given) (c .0) (op-of op key value server) ∙ sym now-waits;
-              legal = λ n. subst (Legal (sizes k j slots)) (sym now-waits) legal;
+              legal = λ n. subst Legal (sym now-waits) legal;
             };
           })
           (R .log-as)

@@ -13,7 +13,6 @@ use Rattle.nodes.specs.declared.found.Found.the-variants.{At, Absent}
 use Rattle.operations.specs.Object.{Obj, Ask, object, vector, fetched, Val, Ans}
 use Rattle.operations.specs.Operation.{reading, all-fit?}
 use Rattle.operations.specs.Path.{TreePlan}
-use Rattle.operations.specs.Slot.{TreeSizes, Allowed}
 use Rattle.client.specs.declared.answer.Look.{Look}
 use Rattle.client.specs.declared.part.Set.the-variants.{Reads, Writes}
 use Rattle.client.specs.Layout.{ClientWord, reads-count}
@@ -24,7 +23,6 @@ use Rattle.client.specs.Run.{among}
 use Rattle.client.specs.Have.{is-found, or-copied, or-read, source, look-fits, valued, have, unusable, broken}
 use Rattle.client.specs.Answered.{entered}
 use Rattle.client.specs.Work.{Worked, walked, worked}
-use Rattle.demand.specs.Laws.Store.{sizes}
 use Rattle.demand.specs.Laws.Numbers.{obj-of, obj-number}
 use Rattle.demand.specs.Laws.Shows.{T, In-store, Slot-shown, Copies-shown}
 use Rattle.demand.specs.Laws.AtHand.{had}
@@ -44,9 +42,9 @@ fetched-ask (Work.fetches a) = some a
 fetched-ask (Work.aborted y) = none
 fetched-ask (Work.answers a w) = none
 
-module _ (z : TreeSizes) (u : ClientWord → ℕ) where
+module _ (slots : ℕ) (u : ClientWord → ℕ) where
   -- the last questions fetch nothing
-  no-fetch : (a : Ans) (w : O.Writes) → fetched-ask (Work.last-questions z u a w) ≡ none
+  no-fetch : (a : Ans) (w : O.Writes) → fetched-ask (Work.last-questions slots u a w) ≡ none
   no-fetch a w = go (not (all-fit? w w)) (ltb 48 (Work.writes-after u w)) (not (Work.versions-there u (entered w))) (Work.any-at-last u (entered w))
     where
       go : (p q r s : Bool) → fetched-ask (cond p (Work.aborted 3) (cond q (Work.aborted 4) (cond r Work.refused (cond s (Work.aborted 8) (Work.answers a w))))) ≡ none
@@ -56,44 +54,49 @@ module _ (z : TreeSizes) (u : ClientWord → ℕ) where
       go false false false true = refl
       go false false false false = refl
 
-  pub fetch-lacks : (a : Ask) → worked z u ≡ Work.fetches a → (walked z u .how ≡ Run.lacks a) × (broken z u a ≡ false)
+  pub fetch-lacks : (a : Ask) → worked slots u ≡ Work.fetches a → (walked slots u .how ≡ Run.lacks a) × (broken slots u a ≡ false)
   unfolding worked
-  fetch-lacks a e = go (walked z u .how) refl (ap fetched-ask e)
+  fetch-lacks a e = go (walked slots u .how) refl (ap fetched-ask e)
     where
-      go : (h : Run.End) → walked z u .how ≡ h → fetched-ask (Work.judge z u h) ≡ some a → (walked z u .how ≡ Run.lacks a) × (broken z u a ≡ false)
+      go : (h : Run.End) → walked slots u .how ≡ h → fetched-ask (Work.judge slots u h) ≡ some a → (walked slots u .how ≡ Run.lacks a) × (broken slots u a ≡ false)
       go (Run.aborts y) p q = absurd (Option·none-ne-some a q)
       go (Run.gives b w) p q = absurd (Option·none-ne-some a (sym (no-fetch b w) ∙ q))
-      go (Run.lacks b) p q = by (broken z u b) refl q
+      go (Run.lacks b) p q = by (broken slots u b) refl q
         where
-          by : (t : Bool) → broken z u b ≡ t → fetched-ask (cond t Work.refused (Work.fetches b)) ≡ some a → (walked z u .how ≡ Run.lacks a) × (broken z u a ≡ false)
+          by : (t : Bool) → broken slots u b ≡ t → fetched-ask (cond t Work.refused (Work.fetches b)) ≡ some a → (walked slots u .how ≡ Run.lacks a) × (broken slots u a ≡ false)
           by true r q = absurd (Option·none-ne-some a q)
-          by false r q = let s = Option·some-injective b a q in (p ∙ ap Run.lacks s, subst (λ (x : Ask). broken z u x ≡ false) s r)
+          by false r q = let s = Option·some-injective b a q in (p ∙ ap Run.lacks s, subst (λ (x : Ask). broken slots u x ≡ false) s r)
 
   -- the plan that is walked, and what it used
   abbrev pub plan : TreePlan
-  plan = reading z (Work.waiting u)
+  plan = reading slots (Work.waiting u)
 
   abbrev pub asked : List Ask
-  asked = W.used plan (have z u)
+  asked = W.used plan (have slots u)
 
-  pub lacking : (a : Ask) → walked z u .how ≡ Run.lacks a
-      → (have z u a ≡ none) × (walked z u .used ≡ all-used (Work.new u) asked []) × (length (walked z u .used) ≤ 96 - u reads-count)
+  follows : (a : Ask) → walked slots u .how ≡ Run.lacks a
+      → Follows (W-laws.walk plan (have slots u)) (all-used (Work.new u) asked []) [] (96 - u reads-count) (Run.lacks a) (walked slots u .used)
   unfolding walked
-  lacking a e =
-      let f : Follows (W-laws.walk plan (have z u)) (all-used (Work.new u) asked []) [] (96 - u reads-count) (walked z u .how) (walked z u .used)
-      = run-follows (have z u) (Work.new u) (96 - u reads-count) plan [] in
-      let g = subst (λ (h : Run.End). Follows (W-laws.walk plan (have z u)) (all-used (Work.new u) asked []) [] (96 - u reads-count) h (walked z u .used)) e f in
-      (W-laws.lacks-none plan (have z u) a (g .0), g .1, g .2 (omega arith))
+  follows a e =
+      subst (λ (h : Run.End). Follows (W-laws.walk plan (have slots u)) (all-used (Work.new u) asked []) [] (96 - u reads-count) h (walked slots u .used)) e
+      (run-follows (have slots u) (Work.new u) (96 - u reads-count) plan [])
+
+  pub lacking-walk : (a : Ask) → walked slots u .how ≡ Run.lacks a → W-laws.walk plan (have slots u) ≡ W-laws.lacks a
+  lacking-walk a e = follows a e .0
+
+  pub lacking : (a : Ask) → walked slots u .how ≡ Run.lacks a
+      → (have slots u a ≡ none) × (walked slots u .used ≡ all-used (Work.new u) asked []) × (length (walked slots u .used) ≤ 96 - u reads-count)
+  lacking a e = let g = follows a e in (W-laws.lacks-none plan (have slots u) a (g .0), g .1, g .2 (omega arith))
 
 -- ---- an object that is lacking
-pub record Lacks (z : TreeSizes) (u : ClientWord → ℕ) (o : Obj) : Type 0 where
-  pub inside : object-in-store z o ≡ true
+pub record Lacks (slots : ℕ) (u : ClientWord → ℕ) (o : Obj) : Type 0 where
+  pub inside : object-in-store slots o ≡ true
   pub unwritten : find u Writes (number o) ≡ Absent
   pub unread : find u Reads (number o) ≡ Absent
 
-pub lacks-object : (z : TreeSizes) (u : ClientWord → ℕ) (o : Obj) → have z u (object o) ≡ none → broken z u (object o) ≡ false → Lacks z u o
+pub lacks-object : (slots : ℕ) (u : ClientWord → ℕ) (o : Obj) → have slots u (object o) ≡ none → broken slots u (object o) ≡ false → Lacks slots u o
 unfolding have broken source
-lacks-object z u o h b = in-store? (object-in-store z o) refl h b
+lacks-object slots u o h b = in-store? (object-in-store slots o) refl h b
   where
     l : Look
     l = source u (number o)
@@ -109,19 +112,19 @@ lacks-object z u o h b = in-store? (object-in-store z o) refl h b
     sets Absent p Absent q e = (p, q)
     sets Absent p (At i) q e = absurd (true≢false (sym (ap (λ (f : Found). is-found (or-copied u (number o) f .how)) q) ∙ e))
 
-    in-store? : (s : Bool) → object-in-store z o ≡ s → cond s (valued z u o l) none ≡ none → cond s (unusable z u (number o) l) true ≡ false → Lacks z u o
+    in-store? : (s : Bool) → object-in-store slots o ≡ s → cond s (valued slots u o l) none ≡ none → cond s (unusable slots u (number o) l) true ≡ false → Lacks slots u o
     in-store? false e h b = absurd (true≢false b)
     in-store? true e h b =
-        let p = sets (find u Writes (number o)) refl (find u Reads (number o)) refl (not-found (is-found (l .how)) (look-fits z u (number o) l) h b) in
+        let p = sets (find u Writes (number o)) refl (find u Reads (number o)) refl (not-found (is-found (l .how)) (look-fits slots u (number o) l) h b) in
         record { inside = e; unwritten = p .0; unread = p .1 }
 
-module _ (k j slots : ℕ) (al : Allowed (sizes k j slots)) (u : ClientWord → ℕ) (fit : client-fits (sizes k j slots) u ≡ true) (y : P.Slot (T k j slots)) (shown : Slot-shown k j slots u y) (f : Obj → Option (P.Copy (T k j slots))) (copies : Copies-shown k j slots u f) (o : Obj) (hi : In-store k j slots o) (lack : have (sizes k j slots) u (object o) ≡ none) where
+module _ (k j slots : ℕ) (al : slots ≤ 1024) (u : ClientWord → ℕ) (fit : client-fits slots u ≡ true) (y : P.Slot (T k j slots)) (shown : Slot-shown k j slots u y) (f : Obj → Option (P.Copy (T k j slots))) (copies : Copies-shown k j slots u f) (o : Obj) (hi : In-store k j slots o) (lack : have slots u (object o) ≡ none) where
   -- it is none of those at hand
-  apart : (q : Obj) (v : Val) → have (sizes k j slots) u (object q) ≡ some v → ¬ (number q ≡ number o)
+  apart : (q : Obj) (v : Val) → have slots u (object q) ≡ some v → ¬ (number q ≡ number o)
   apart q v h e =
       let inside = had k j slots al u f copies fit y shown q v h .in-store in
-      let same : q ≡ o = sym (obj-number (sizes k j slots) al q inside) ∙ ap obj-of e ∙ obj-number (sizes k j slots) al o hi in
-      Option·some-ne-none v (sym h ∙ ap (λ (x : Obj). have (sizes k j slots) u (object x)) same ∙ lack)
+      let same : q ≡ o = sym (obj-number slots al q inside) ∙ ap obj-of e ∙ obj-number slots al o hi in
+      Option·some-ne-none v (sym h ∙ ap (λ (x : Obj). have slots u (object x)) same ∙ lack)
 
   pub unused : (qs : List Ask) → At-hand k j slots al u fit y shown f copies qs → (us : List ℕ) → among (number o) us ≡ false
       → among (number o) (all-used (Work.new u) qs us) ≡ false

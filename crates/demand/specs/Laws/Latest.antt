@@ -3,7 +3,7 @@ use mathlib.Core.Path.{_≡_, refl, ap, sym, _∙_, subst}
 use mathlib.Core.Bool.{Bool, true, false, cond, _||_}
 use mathlib.Core.List.{List, [], _∷_}
 use mathlib.Core.Option.{Option, none, some}
-use Prim.Native.Nat.{ℕ}
+use Prim.Native.Nat.{ℕ, _≤_}
 use borrow.Author.Tests.{eqb-true, eqb-false, eq-eqb, ne-eqb}
 use lib.Dec.{eqb}
 use Rattle.base.specs.Laws.Test.{or-neither}
@@ -14,13 +14,11 @@ use Rattle.nodes.specs.Laws.Stored.{Sized}
 use Rattle.operations.specs.Object.{Obj, Val, Writes, hit}
 use Rattle.operations.specs.Laws.Object.{Obj-discrete, written}
 use Rattle.operations.specs.Laws.Hit.{hit-self}
-use Rattle.operations.specs.Slot.{Allowed}
 use Rattle.operations.specs.Laws.Storable.{Storable, All-storable}
 use Rattle.protocol.specs.Writes.{writes?, latest}
 use Rattle.client.specs.Record.{number, value-of, record-of}
 use Rattle.client.specs.Lent.{Entry}
 use Rattle.client.specs.Answered.{put-entry, entered}
-use Rattle.demand.specs.Laws.Store.{sizes}
 use Rattle.demand.specs.Laws.Numbers.{obj-of, obj-number}
 use Rattle.demand.specs.Laws.Shows.{In-store}
 use Rattle.demand.specs.Laws.Records.{Any, read-back, record-whole}
@@ -174,14 +172,14 @@ abbrev pub value-in : Obj → Val → Option Node → Val
 value-in o a none = a
 value-in o a (some r) = value-of o r
 
-module _ (k j slots : ℕ) (al : Allowed (sizes k j slots)) where
+module _ (k j slots : ℕ) (al : slots ≤ 1024) where
   abbrev pub All-inside : Writes → Type 0
   All-inside = Every (λ (e : Obj × Val). In-store k j slots (e .0))
 
   same-number : (o q : Obj) → In-store k j slots o → In-store k j slots q → (d : Dec (o ≡ q)) → eqb (number q) (number o) ≡ yes? d
   same-number o q h g (yes p) = eq-eqb (number q) (number o) (ap number (sym p))
   same-number o q h g (no n) =
-      ne-eqb (number q) (number o) (λ e. n (sym (obj-number (sizes k j slots) al o h) ∙ ap obj-of (sym e) ∙ obj-number (sizes k j slots) al q g))
+      ne-eqb (number q) (number o) (λ e. n (sym (obj-number slots al o h) ∙ ap obj-of (sym e) ∙ obj-number slots al q g))
 
   module _ (o : Obj) (h : In-store k j slots o) where
     pub last-there : (w : Writes) → All-inside w → (d : Option Node) → is-there (by-writes w (number o) d) ≡ (writes? Obj-discrete w o || is-there d)

@@ -3,7 +3,7 @@ use mathlib.Core.Path.{_≡_, refl, ap, ap₂, sym, _∙_, subst}
 use mathlib.Core.Bool.{Bool, true, false, cond, _&&_, _||_, not, false≢true}
 use mathlib.Core.List.{List, [], _∷_}
 use mathlib.Core.Logic.{_⊎_, inl, inr}
-use Prim.Native.Nat.{ℕ, zero, suc, _+_, _*_, _/_, _%_, _<_, Fin}
+use Prim.Native.Nat.{ℕ, zero, suc, _+_, _*_, _/_, _%_, _≤_, _<_, Fin}
 use native.Mathlib.Omega.{arith}
 use native.Mathlib.Decide.{ℕ-discrete, Fin-discrete, Fin·val-path}
 use borrow.Author.Tests.{eq-eqb, ne-eqb}
@@ -20,7 +20,6 @@ use Rattle.nodes.specs.declared.found.Found.{Found}
 use Rattle.nodes.specs.declared.found.Found.the-variants.{At, Absent}
 use Rattle.operations.specs.Object.{Obj, meta, node, flag, Val}
 use Rattle.operations.specs.Laws.Object.{inner}
-use Rattle.operations.specs.Slot.{Allowed}
 use Rattle.server.specs.declared.place.Place.{Place}
 use Rattle.server.specs.Layout.{places}
 use Rattle.server.specs.Lock.{locked, unlocked}
@@ -34,7 +33,7 @@ use Rattle.client.specs.Sets.{count, record-at, number-at, find}
 use Rattle.client.specs.Laws.Ranges.{client-fits}
 use Rattle.client.specs.Participants.{at-home}
 use Rattle.steps.specs.Steps.{lock-each, unlock-each}
-use Rattle.demand.specs.Laws.Store.{sizes, home, keeps}
+use Rattle.demand.specs.Laws.Store.{home, keeps}
 use Rattle.demand.specs.Laws.Numbers.{obj-of, number-obj, obj-number, inner-of, server-object, object-number}
 use Rattle.demand.specs.Laws.Shows.{T, In-store, new-value, lock-kept, Slot-shown}
 use Rattle.demand.specs.Laws.Held.{absent≢at, at-same, found-at, read-in}
@@ -93,6 +92,7 @@ module _ (here : ℕ → Bool) (lk : ℕ → Place) (F : ℕ → ℕ → ℕ) (p
 whose : Place → ℕ
 whose place.Root = 0
 whose place.Version = 0
+whose place.States = 0
 whose place.MetadataLock = 0
 whose (place.Vector i) = 0
 whose (place.Node k j) = 0
@@ -103,6 +103,7 @@ whose (place.NodeLock s k) = s * 1024 + k
 sort-of : Place → ℕ
 sort-of place.Root = 0
 sort-of place.Version = 0
+sort-of place.States = 0
 sort-of place.MetadataLock = 1
 sort-of (place.Vector i) = 0
 sort-of (place.Node k j) = 0
@@ -110,12 +111,12 @@ sort-of (place.FlagLock k) = 2
 sort-of (place.Table s k) = 0
 sort-of (place.NodeLock s k) = 3
 
-module _ (k j slots : ℕ) (al : Allowed (sizes k j slots)) where
+module _ (k j slots : ℕ) (al : slots ≤ 1024) where
   abbrev pub lock-place : Obj → Place
   lock-place o = lock-of (server-object o)
 
   -- at one server the locks of different objects are at different places
-  pub lock-apart : (p : Place → ℕ) (s : Fin (suc k)) (o q : Obj) → In-store k j slots o → In-store k j slots q → lock-kept k j slots p s o ≡ true → lock-kept k j slots p s q ≡ true
+  pub lock-apart : (p : Place → ℕ) (s : Fin 8) (o q : Obj) → In-store k j slots o → In-store k j slots q → lock-kept k j slots p s o ≡ true → lock-kept k j slots p s q ≡ true
       → lock-place o ≡ lock-place q → o ≡ q
   unfolding lock-of sort-of whose
   lock-apart p s meta meta hi hq ho hz e = refl
@@ -133,7 +134,7 @@ module _ (k j slots : ℕ) (al : Allowed (sizes k j slots)) where
       ap flag (omega arith)
 
   -- ---- what the machine asks for, by the words
-  module _ (u : ClientWord → ℕ) (y : P.Slot (T k j slots)) (s : Fin (suc k)) (low : ℕ) (el : y .lowest .0 ≡ low) (o : Obj) (i : ℕ) (hi : In-store k j slots o) where
+  module _ (u : ClientWord → ℕ) (y : P.Slot (T k j slots)) (s : Fin 8) (low : ℕ) (el : y .lowest .0 ≡ low) (o : Obj) (i : ℕ) (hi : In-store k j slots o) where
     abbrev r : Node
     r = record-at u Reads i
 
@@ -150,28 +151,28 @@ module _ (k j slots : ℕ) (al : Allowed (sizes k j slots)) where
       new = new-value k j slots u o (value-of o r) (find u Writes (number o));
     }
 
-    low-same : eqb (s .0) low ≡ yes? (Fin-discrete (suc k) (y .lowest) s)
+    low-same : eqb (s .0) low ≡ yes? (Fin-discrete 8 (y .lowest) s)
     low-same = go (ℕ-discrete (s .0) low)
       where
-        go : Dec (s .0 ≡ low) → eqb (s .0) low ≡ yes? (Fin-discrete (suc k) (y .lowest) s)
-        go (yes e) = eq-eqb (s .0) low e ∙ sym (of-yes (Fin-discrete (suc k) (y .lowest) s) (Fin·val-path (el ∙ sym e)))
-        go (no n) = ne-eqb (s .0) low n ∙ sym (of-no (Fin-discrete (suc k) (y .lowest) s) (λ e. n (sym (ap (λ (z : Fin (suc k)). z .0) e) ∙ el)))
+        go : Dec (s .0 ≡ low) → eqb (s .0) low ≡ yes? (Fin-discrete 8 (y .lowest) s)
+        go (yes e) = eq-eqb (s .0) low e ∙ sym (of-yes (Fin-discrete 8 (y .lowest) s) (Fin·val-path (el ∙ sym e)))
+        go (no n) = ne-eqb (s .0) low n ∙ sym (of-no (Fin-discrete 8 (y .lowest) s) (λ e. n (sym (ap (λ (z : Fin 8). z .0) e) ∙ el)))
 
     -- of an outer object
-    home-same : (v : Val) → inner o v ≡ false → at-home (s .0) (number o) ≡ yes? (Fin-discrete (suc k) s (home k j slots o))
+    home-same : (v : Val) → inner o v ≡ false → at-home (s .0) (number o) ≡ yes? (Fin-discrete 8 s (home k j slots o))
     home-same v e =
-        sym (kept-home k j slots al s o hi) ∙ sym (subst (λ (b : Bool). (not b && yes? (Fin-discrete (suc k) s (home k j slots o))) ≡ (not b && keeps k j slots s o)) e
+        sym (kept-home k j slots al s o hi) ∙ sym (subst (λ (b : Bool). (not b && yes? (Fin-discrete 8 s (home k j slots o))) ≡ (not b && keeps k j slots s o)) e
         (outer-home k j slots s o v))
 
     pub read-same : U.checked-at low (s .0) asked ≡ Mv.to-read (T k j slots) (y .lowest) s held
     unfolding U.checked-at U.item-of
     read-same =
-        ap (λ (b : Bool). cond b (eqb (s .0) low || I.has u Writes (number o)) (at-home (s .0) (number o))) (inner-of (sizes k j slots) al o hi r)
+        ap (λ (b : Bool). cond b (eqb (s .0) low || I.has u Writes (number o)) (at-home (s .0) (number o))) (inner-of slots al o hi r)
         ∙ go (inner o (value-of o r)) refl
       where
         go : (b : Bool) → inner o (value-of o r) ≡ b
             → cond b (eqb (s .0) low || I.has u Writes (number o)) (at-home (s .0) (number o))
-            ≡ cond b (yes? (Fin-discrete (suc k) (y .lowest) s) || I.has u Writes (number o)) (yes? (Fin-discrete (suc k) s (home k j slots o)))
+            ≡ cond b (yes? (Fin-discrete 8 (y .lowest) s) || I.has u Writes (number o)) (yes? (Fin-discrete 8 s (home k j slots o)))
         go true e = ap (λ (b : Bool). b || I.has u Writes (number o)) low-same
         go false e = home-same (value-of o r) e
 
@@ -179,17 +180,17 @@ module _ (k j slots : ℕ) (al : Allowed (sizes k j slots)) where
     becomes-same : (f : Found) → I.of-record u Writes (I.inner (number o)) f
         ≡ (is-at f && inner o (new-value k j slots u o (value-of o r) f))
     becomes-same Absent = refl
-    becomes-same (At w) = inner-of (sizes k j slots) al o hi (record-at u Writes w)
+    becomes-same (At w) = inner-of slots al o hi (record-at u Writes w)
 
     pub write-same : (I.has u Writes (number o) && U.locked-at low (s .0) asked) ≡ Mv.to-write (T k j slots) s held
     unfolding U.locked-at U.checked-at U.item-of I.has
     write-same =
         ap₂ (λ (a b : Bool). I.has u Writes (number o) && (cond a (eqb (s .0) low || I.has u Writes (number o)) (at-home (s .0) (number o)) || (I.has u Writes (number o) && b)))
-        (inner-of (sizes k j slots) al o hi r) (becomes-same (find u Writes (number o)))
+        (inner-of slots al o hi r) (becomes-same (find u Writes (number o)))
         ∙ go (inner o (value-of o r)) refl (I.has u Writes (number o)) (inner o (new-value k j slots u o (value-of o r) (find u Writes (number o))))
       where
         H : Bool
-        H = yes? (Fin-discrete (suc k) s (home k j slots o))
+        H = yes? (Fin-discrete 8 s (home k j slots o))
 
         go : (b : Bool) → inner o (value-of o r) ≡ b → (w n : Bool)
             → (w && (cond b (eqb (s .0) low || w) (at-home (s .0) (number o)) || (w && (w && n)))) ≡ (w && (H || (b || n)))
@@ -204,7 +205,7 @@ module _ (k j slots : ℕ) (al : Allowed (sizes k j slots)) where
         go false e true n = ap (λ (b : Bool). b || n) (home-same (value-of o r) e)
 
   -- ---- the words of locks after a sweep over the read set
-  module _ (u : ClientWord → ℕ) (fit : client-fits (sizes k j slots) u ≡ true) (y : P.Slot (T k j slots)) (h : Slot-shown k j slots u y) (s : Fin (suc k)) (low : ℕ) (el : y .lowest .0 ≡ low) (p : Place → ℕ) where
+  module _ (u : ClientWord → ℕ) (fit : client-fits slots u ≡ true) (y : P.Slot (T k j slots)) (h : Slot-shown k j slots u y) (s : Fin 8) (low : ℕ) (el : y .lowest .0 ≡ low) (p : Place → ℕ) where
     abbrev pub obj : ℕ → Obj
     obj i = obj-of (number-at u Reads i)
 
@@ -219,7 +220,7 @@ module _ (k j slots : ℕ) (al : Allowed (sizes k j slots)) where
     by-object i = ap (λ (x : ℕ). U.item-of u x (record-at u Reads i)) (sym (number-obj (number-at u Reads i)))
 
     pub lock-at : (i : ℕ) → i < count u Reads → lk i ≡ lock-place (obj i)
-    lock-at i l = ap lock-of (ap object-of (sym (number-obj (number-at u Reads i))) ∙ object-number (sizes k j slots) al (obj i) (read-in k j slots al u fit i l))
+    lock-at i l = ap lock-of (ap object-of (sym (number-obj (number-at u Reads i))) ∙ object-number slots al (obj i) (read-in k j slots al u fit i l))
 
     -- what is locked is kept here
     pub here-kept : (i : ℕ) → i < count u Reads → here i ≡ true → lock-kept k j slots p s (obj i) ≡ true
@@ -273,7 +274,7 @@ module _ (k j slots : ℕ) (al : Allowed (sizes k j slots)) where
         at = found-at u Reads (number o) i e
 
         pub the-object : obj i ≡ o
-        the-object = ap obj-of (at .1) ∙ obj-number (sizes k j slots) al o hi
+        the-object = ap obj-of (at .1) ∙ obj-number slots al o hi
 
         pub one-swept : here i ≡ true → swept ≡ F i (p (lock-place o))
         one-swept b =
@@ -301,7 +302,7 @@ module _ (k j slots : ℕ) (al : Allowed (sizes k j slots)) where
 
       swept-or-not : Swept (after here lk F p (count u Reads) (lock-of (object-of (number o))))
       swept-or-not =
-          subst (λ (a : Place). Becomes (after here lk F p (count u Reads) a) (p a)) (sym (ap lock-of (object-number (sizes k j slots) al o hi)))
+          subst (λ (a : Place). Becomes (after here lk F p (count u Reads) a) (p a)) (sym (ap lock-of (object-number slots al o hi)))
           (go (find u Reads (number o)) refl)
         where
           go : (f : Found) → find u Reads (number o) ≡ f → Becomes swept (p (lock-place o))

@@ -1,7 +1,7 @@
 -- Objects and their numbers, at a store of allowed sizes.
 use mathlib.Core.Path.{_≡_, refl, ap, sym, _∙_}
 use mathlib.Core.Bool.{Bool, true, false, cond}
-use Prim.Native.Nat.{ℕ, _+_, _-_, _/_, _<_}
+use Prim.Native.Nat.{ℕ, _+_, _-_, _/_, _≤_, _<_}
 use native.Mathlib.Omega.{arith}
 use borrow.Author.Tests.{ltb-true, lt-ltb, leb-false, eqb-true, eqb-false, le-leb, lt-leb, ne-eqb}
 use lib.Dec.{eqb, leb, ltb}
@@ -10,7 +10,6 @@ use Rattle.nodes.specs.Name.{name, server-of, slot-of, name-in-store}
 use Rattle.nodes.specs.declared.node.Node.{Node}
 use Rattle.operations.specs.Object.{Obj, meta, node, flag}
 use Rattle.operations.specs.Laws.Object.{inner}
-use Rattle.operations.specs.Slot.{TreeSizes, Allowed}
 use Rattle.server.specs.declared.object.Object.{Object}
 use Rattle.server.specs.Object.{object-of, named}
 use Rattle.client.specs.Record.{number, by-number, value-of, in-store, object-in-store, number-in-store}
@@ -52,41 +51,41 @@ number-obj x = go (eqb x 0) refl (leb x 8192) refl
     go false e true q = let z = eqb-false x 0 e in omega arith
     go false e false q = let l = leb-false x 8192 q in omega arith
 
-pub store-obj : (z : TreeSizes) (x : ℕ) → number-in-store z x ≡ object-in-store z (obj-of x)
+pub store-obj : (slots x : ℕ) → number-in-store slots x ≡ object-in-store slots (obj-of x)
 unfolding obj-of number-in-store
-store-obj z x = go (eqb x 0) (leb x 8192)
+store-obj slots x = go (eqb x 0) (leb x 8192)
   where
-    go : (a b : Bool) → cond a true (cond b (in-store z (x - 1)) (in-store z (x - 8193))) ≡ object-in-store z (cond a meta (cond b (node (x - 1)) (flag (x - 8193))))
+    go : (a b : Bool) → cond a true (cond b (in-store slots (x - 1)) (in-store slots (x - 8193))) ≡ object-in-store slots (cond a meta (cond b (node (x - 1)) (flag (x - 8193))))
     go true b = refl
     go false true = refl
     go false false = refl
 
 -- node 0, which holds the first root
-pub zeroth-there : (z : TreeSizes) → 0 < z .servers → 0 < z .slots → in-store z 0 ≡ true
+pub zeroth-there : (slots : ℕ) → 0 < slots → in-store slots 0 ≡ true
 unfolding name-in-store
-zeroth-there z h g = rw (lt-ltb 0 (z .servers) h, lt-ltb 0 (z .slots) g)
+zeroth-there slots g = rw (lt-ltb 0 slots g)
 
-module _ (z : TreeSizes) (al : Allowed z) where
-  pub name-lt : (n : ℕ) → in-store z n ≡ true → n < 8192
+module _ (slots : ℕ) (al : slots ≤ 1024) where
+  pub name-lt : (n : ℕ) → in-store slots n ≡ true → n < 8192
   unfolding name-in-store
   name-lt n h =
-      let s : n / 1024 < z .servers = ltb-true (server-of n) (z .servers) (and-both (ltb (server-of n) (z .servers)) (ltb (slot-of n) (z .slots)) h .0) in
-      omega (arith, s, al .0)
+      let s : n / 1024 < 8 = ltb-true (server-of n) 8 (and-both (ltb (server-of n) 8) (ltb (slot-of n) slots) h .0) in
+      omega (arith, s)
 
   -- every slot has a name
-  pub slot-named : (s i : ℕ) → s < z .servers → i < z .slots → in-store z (name s i) ≡ true
+  pub slot-named : (s i : ℕ) → s < 8 → i < slots → in-store slots (name s i) ≡ true
   unfolding name-in-store
   slot-named s i h g =
-      let p : server-of (name s i) ≡ s = omega (arith, al .1) in
-      let q : slot-of (name s i) ≡ i = omega (arith, al .1) in
-      rw (p, q, lt-ltb s (z .servers) h, lt-ltb i (z .slots) g)
+      let p : server-of (name s i) ≡ s = omega (arith, al) in
+      let q : slot-of (name s i) ≡ i = omega (arith, al) in
+      rw (p, q, lt-ltb s 8 h, lt-ltb i slots g)
 
-  pub by-number-of : {A : Type 0} (o : Obj) → object-in-store z o ≡ true → (a : A) (f g : ℕ → A) → by-number (number o) a f g ≡ by-object o a f g
+  pub by-number-of : {A : Type 0} (o : Obj) → object-in-store slots o ≡ true → (a : A) (f g : ℕ → A) → by-number (number o) a f g ≡ by-object o a f g
   by-number-of meta h a f g = refl
   by-number-of (node n) h a f g = as-node a f g n (name-lt n h)
   by-number-of (flag n) h a f g = as-flag a f g n
 
-  pub obj-number : (o : Obj) → object-in-store z o ≡ true → obj-of (number o) ≡ o
+  pub obj-number : (o : Obj) → object-in-store slots o ≡ true → obj-of (number o) ≡ o
   unfolding obj-of
   obj-number o h = by-number-of o h meta node flag ∙ same o
     where
@@ -95,10 +94,10 @@ module _ (z : TreeSizes) (al : Allowed z) where
       same (node n) = refl
       same (flag n) = refl
 
-  pub number-inside : (o : Obj) → object-in-store z o ≡ true → number-in-store z (number o) ≡ true
-  number-inside o h = store-obj z (number o) ∙ ap (object-in-store z) (obj-number o h) ∙ h
+  pub number-inside : (o : Obj) → object-in-store slots o ≡ true → number-in-store slots (number o) ≡ true
+  number-inside o h = store-obj slots (number o) ∙ ap (object-in-store slots) (obj-number o h) ∙ h
 
-  pub inner-of : (o : Obj) → object-in-store z o ≡ true → (r : Node) → I.inner (number o) r ≡ inner o (value-of o r)
+  pub inner-of : (o : Obj) → object-in-store slots o ≡ true → (r : Node) → I.inner (number o) r ≡ inner o (value-of o r)
   unfolding I.inner
   inner-of o h r = by-number-of o h true (λ n. eqb (r .kind) 2) (λ n. false) ∙ same o
     where
@@ -113,12 +112,12 @@ server-object meta = object.Metadata
 server-object (node n) = object.Node (named n)
 server-object (flag n) = object.Flag (named n)
 
-module _ (z : TreeSizes) (al : Allowed z) where
-  pub object-number : (o : Obj) → object-in-store z o ≡ true → object-of (number o) ≡ server-object o
+module _ (slots : ℕ) (al : slots ≤ 1024) where
+  pub object-number : (o : Obj) → object-in-store slots o ≡ true → object-of (number o) ≡ server-object o
   unfolding object-of
   object-number meta h = refl
   object-number (node n) h =
-      let l = name-lt z al n h in
+      let l = name-lt slots al n h in
       let e : 1 + n - 1 ≡ n = omega arith in
       let p = ne-eqb (1 + n) 0 (λ q. omega arith) in
       let q = le-leb (1 + n) 8192 (omega arith) in

@@ -4,13 +4,12 @@ use mathlib.Core.Bool.{Bool, _||_}
 use mathlib.Core.List.{List, [], _∷_, map}
 use mathlib.Core.Logic.{inl, inr}
 use mathlib.Core.Option.{some, Option·map}
-use Prim.Native.Nat.{ℕ, _<_}
+use Prim.Native.Nat.{ℕ, _≤_, _<_}
 use native.Mathlib.Omega.{arith}
 use Rattle.nodes.specs.declared.found.Found.{Found}
 use Rattle.nodes.specs.declared.found.Found.the-variants.{At, Absent}
-use Rattle.operations.specs.Object.{Obj, Val, Writes}
+use Rattle.operations.specs.Object.{Obj, meta, Val, states-of, Writes}
 use Rattle.operations.specs.Laws.Object.{Obj-discrete}
-use Rattle.operations.specs.Slot.{Allowed}
 use Rattle.operations.specs.Laws.Storable.{All-storable}
 use Rattle.protocol.specs.Lists.{Among}
 use Rattle.protocol.specs.Writes.{writes?, latest}
@@ -18,7 +17,8 @@ use Rattle.protocol.specs.Laws.Ghosts.{find-wrote}
 use Rattle.client.specs.Layout.{ClientWord, item}
 use Rattle.client.specs.Record.{number, value-of}
 use Rattle.client.specs.Sets.{at-most, count, record-at, number-at, find}
-use Rattle.demand.specs.Laws.Store.{sizes}
+use Rattle.demand.specs.Laws.Stays.{All-keep}
+use Rattle.demand.specs.Laws.Housed.{wrote-housed}
 use Rattle.demand.specs.Laws.Shows.{T, In-store, new-value, item-from, item-of, Slot-shown}
 use Rattle.demand.specs.Laws.Slots.{find-frame, record-frame}
 use Rattle.demand.specs.Laws.Behind.{field-same, set-same}
@@ -46,7 +46,7 @@ new-write k j slots u o a = go (find u set.Writes (number o))
     go (At i) = refl
     go Absent = refl
 
-module _ (k j slots : ℕ) (al : Allowed (sizes k j slots)) (u v : ClientWord → ℕ) (w : Writes) (R : Rewritten u v (by-writes w)) (kept : All-storable Any w) (within : All-inside k j slots al w) (y : P.Slot (T k j slots)) (S : Slot-shown k j slots u y) where
+module _ (k j slots : ℕ) (al : slots ≤ 1024) (u v : ClientWord → ℕ) (w : Writes) (R : Rewritten u v (by-writes w)) (kept : All-storable Any w) (within : All-inside k j slots al w) (y : P.Slot (T k j slots)) (S : Slot-shown k j slots u y) where
   abbrev wrote : P.Item (T k j slots) → P.Item (T k j slots)
   wrote = Mv.wrote (T k j slots) w
 
@@ -73,14 +73,14 @@ module _ (k j slots : ℕ) (al : Allowed (sizes k j slots)) (u v : ClientWord �
       λ t. some (record { obj = o; old = value-of o (r t); version = r t .version; written = is t; new = now t })
 
   -- THE WRITES ENTERED
-  pub slot-written : Slot-shown k j slots v (Mv.answered-slot (T k j slots) y w)
+  pub slot-written : ((x : P.Item (T k j slots)) → P.find (T k j slots) (y .items) meta ≡ some x → All-keep (states-of (x .old)) w) → Slot-shown k j slots v (Mv.answered-slot (T k j slots) y w)
   unfolding number-at item-of
-  slot-written =
+  slot-written keep =
       let at : (i : ℕ) → _ = field-same set.Writes 11 u v (R .other) in
       slot-with k j slots u v y S (map wrote (y .items)) (at 0 (λ e. absurd (omega arith))) (at 5 (λ e. absurd (omega arith))) (at 6 (λ e. absurd (omega arith))) (at 7 (λ e. absurd (omega arith)))
       item-as
       (λ i l. ap (find v set.Reads) (read-same i 0) ∙ found-read (number-at u set.Reads i) ∙ S .read-found i (subst (λ (c : ℕ). i < c) reads-same l))
-      (R .once (S .write-found)) inside unique
+      (R .once (S .write-found)) inside unique (wrote-housed k j slots (y .items) w (S .housed) keep)
     where
       item-as : (o : Obj) → In-store k j slots o → P.find (T k j slots) (map wrote (y .items)) o ≡ item-of k j slots v o
       item-as o h =

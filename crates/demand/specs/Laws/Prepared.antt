@@ -15,7 +15,6 @@ use Rattle.nodes.specs.declared.found.Found.{Found}
 use Rattle.nodes.specs.declared.found.Found.the-variants.{At, Absent}
 use Rattle.operations.specs.Object.{Obj}
 use Rattle.operations.specs.Laws.Object.{inner}
-use Rattle.operations.specs.Slot.{Allowed}
 use Rattle.server.specs.declared.lock.Use.the-variants.{Read, Write}
 use Rattle.server.specs.declared.place.Place.{Place}
 use Rattle.server.specs.Layout.{places}
@@ -31,13 +30,14 @@ use Rattle.client.specs.Participants.{lowest-of}
 use Rattle.client.specs.Course.{noted}
 use Rattle.steps.specs.declared.sizes.Sizes.{Sizes}
 use Rattle.steps.specs.Whole.{Address}
+use Rattle.steps.specs.Servers.{there}
 use Rattle.steps.specs.Judge.{lowest-participant, lock-fits}
 use Rattle.steps.specs.Steps.{lock-each, prepare-reason, prepare-finding}
 use Rattle.demand.specs.Ledger.{Ledger}
-use Rattle.demand.specs.Laws.Store.{sizes}
 use Rattle.steps.specs.Laws.Stores.{client-of, server-of}
 use Rattle.demand.specs.Laws.Frame.{last, read-after, Only}
 use Rattle.demand.specs.Laws.Numbers.{obj-of, inner-of, server-object, object-number}
+use Rattle.demand.specs.Laws.There.{there-same}
 use Rattle.demand.specs.Laws.Shows.{phase-of, T, In-store, Recorded, lock-kept, item-from, item-of, Slot-shown, Server-shown, Client-shown, Related}
 use Rattle.demand.specs.Laws.Course.{else-same, course-shown}
 use Rattle.demand.specs.Laws.Held.{found-at, read-in, item-at, all-items}
@@ -85,7 +85,7 @@ module _ (z : Sizes) (m : Address → ℕ) (c s : ℕ) (x : U.Item) (h : prepare
       (subst (λ (t : Bool). cond t whole-check lock-check ≡ 0) q reason-none) .1
 
 -- ---- the step
-module _ (k j slots : ℕ) (al : Allowed (sizes k j slots)) (few : suc j ≤ 16) (m : Address → ℕ) (L : Ledger) (M : P.Machine (T k j slots)) (c : Fin (suc j)) (R : Related k j slots m L M) (fit : client-fits (sizes k j slots) (client-of m (c .0)) ≡ true) (s : Fin (suc k)) (now : client-of m (c .0) phase ≡ 2) (new : bit (client-of m (c .0) prepared) (s .0) ≡ false) where
+module _ (k j slots : ℕ) (al : slots ≤ 1024) (few : suc j ≤ 16) (m : Address → ℕ) (L : Ledger) (M : P.Machine (T k j slots)) (c : Fin (suc j)) (R : Related k j slots m L M) (fit : client-fits slots (client-of m (c .0)) ≡ true) (s : Fin 8) (now : client-of m (c .0) phase ≡ 2) (new : bit (client-of m (c .0) prepared) (s .0) ≡ false) (attends : there m (s .0) ≡ true) where
   abbrev z : Sizes
   z = record { servers = suc k; slots = slots; clients = suc j }
 
@@ -146,7 +146,7 @@ module _ (k j slots : ℕ) (al : Allowed (sizes k j slots)) (few : suc j ≤ 16)
           let q = subst (λ (x : U.Item). U.checked-at low (s .0) x ≡ true) (sym item-is) b in
           let here = or-left (U.checked-at low (s .0) (U.read-item u i)) (U.read-item u i .written && U.read-item u i .becomes) q in
           let f = subst (λ (x : U.Item). Chk.standing (U.item-object x) (x .inner-read) p ≡ x .mark) item-is (as-it-stands z m (c .0) (s .0) (U.read-item u i) no-reason here q) in
-          sym (ap₂ (λ (a : _) (b : Bool). Chk.standing a b p) (object-number (sizes k j slots) al o hi) (inner-of (sizes k j slots) al o hi (record-at u Reads i)))
+          sym (ap₂ (λ (a : _) (b : Bool). Chk.standing a b p) (object-number slots al o hi) (inner-of slots al o hi (record-at u Reads i)))
           ∙ f ∙ mark-is k j slots al u y M s low el p S o i hi
 
       checks-at : Mv.check (T k j slots) M (y .lowest) s (item-at k j slots al u fit i) ≡ true
@@ -193,14 +193,14 @@ module _ (k j slots : ℕ) (al : Allowed (sizes k j slots)) (few : suc j ≤ 16)
     -- the machine after it
     abbrev pub M₁ : P.Machine (T k j slots)
     M₁ = P.turned (T k j slots) M (upd (Fin-discrete (suc j)) (M .slots) c (Mv.prepared-slot (T k j slots) y s))
-        (upd (Fin-discrete (suc k)) (M .lock) s (Mv.granted-row (T k j slots) c (Mv.to-write (T k j slots) s) (Mv.to-read (T k j slots) (y .lowest) s) (y .items) (M .lock s)))
+        (upd (Fin-discrete 8) (M .lock) s (Mv.granted-row (T k j slots) c (Mv.to-write (T k j slots) s) (Mv.to-read (T k j slots) (y .lowest) s) (y .items) (M .lock s)))
         (M .said) (M .log)
 
     pub reached₁ : Mv.Reached (T k j slots) M₁
     unfolding phase-of
     reached₁ =
         Mv.moved (R .reached)
-        (Mv.prepares c s refl (sym (shown .phase-as) ∙ ap phase-of now) (shown .prepared-as s ∙ new)
+        (Mv.prepares c s (sym (there-same k j slots m L M R s) ∙ attends) (sym (shown .phase-as) ∙ ap phase-of now) (shown .prepared-as s ∙ new)
         (all-items k j slots al u fit y shown (Mv.check (T k j slots) M (y .lowest) s) checks-at)
         (all-items k j slots al u fit y shown (λ i. Mv.grants (T k j slots) c (Mv.to-write (T k j slots) s i) (Mv.to-read (T k j slots) (y .lowest) s i) (M .lock s (i .obj))) grants-here))
       where
@@ -235,14 +235,14 @@ module _ (k j slots : ℕ) (al : Allowed (sizes k j slots)) (few : suc j ≤ 16)
     recorded-at o hi kept =
         subst (λ (w : ℕ). Recorded k j slots (Mv.granted-row (T k j slots) c (Mv.to-write (T k j slots) s) (Mv.to-read (T k j slots) (y .lowest) s) (y .items) (M .lock s) o) w)
         (sym (ap (λ (f : Place → ℕ). f (lock-of (object-of (number o)))) swept-is
-        ∙ ap (λ (x : _). after (here k j slots al u fit y shown s low el p) (lk k j slots al u fit y shown s low el p) F p (count u Reads) (lock-of x)) (object-number (sizes k j slots) al o hi)))
+        ∙ ap (λ (x : _). after (here k j slots al u fit y shown s low el p) (lk k j slots al u fit y shown s low el p) F p (count u Reads) (lock-of x)) (object-number slots al o hi)))
         (by-found (find u Reads (number o)) refl)
       where
         l : P.Lock (T k j slots)
         l = M .lock s o
 
         old : Recorded k j slots l (p (lock-place k j slots al o))
-        old = subst (λ (x : _). Recorded k j slots l (p (lock-of x))) (object-number (sizes k j slots) al o hi) (S .lock-as o hi kept)
+        old = subst (λ (x : _). Recorded k j slots l (p (lock-of x))) (object-number slots al o hi) (S .lock-as o hi kept)
 
         W : ℕ
         W = after (here k j slots al u fit y shown s low el p) (lk k j slots al u fit y shown s low el p) F p (count u Reads) (lock-place k j slots al o)
@@ -282,7 +282,7 @@ module _ (k j slots : ℕ) (al : Allowed (sizes k j slots)) (few : suc j ≤ 16)
 
                 unheld : U.locked-at low (s .0) a ≡ true → busy (U.use-of a) (c .0) w₀ ≡ false
                 unheld b =
-                    subst (λ (x : _). busy (U.use-of a) (c .0) (p (lock-of x)) ≡ false) (object-number (sizes k j slots) al o hi)
+                    subst (λ (x : _). busy (U.use-of a) (c .0) (p (lock-of x)) ≡ false) (object-number slots al o hi)
                     (subst (λ (x : U.Item). Chk.held (U.item-object x) (c .0) (U.use-of x) p ≡ false) item-is′
                     (free-of-others z m (c .0) (s .0) (U.read-item u i) (no-reason i at-i) (here-is ∙ b)))
 
@@ -330,12 +330,12 @@ module _ (k j slots : ℕ) (al : Allowed (sizes k j slots)) (few : suc j ≤ 16)
     unfolding noted Only
     own-shown =
         course-shown k j slots u v (else-same qs u (refl, tt))
-        (L .given (c .0)) (L .undecided (c .0)) (L .undecided (c .0)) y (M .copy c) (M .said c) (y .phase) (y .participant) (y .lowest) (upd (Fin-discrete (suc k)) (y .prepared) s true) (y .applied)
+        (L .given (c .0)) (L .undecided (c .0)) (L .undecided (c .0)) y (M .copy c) (M .said c) (y .phase) (y .participant) (y .lowest) (upd (Fin-discrete 8) (y .prepared) s true) (y .applied)
         (λ _. R .clients c .says .said-as (omega (arith, now), omega (arith, now))) (ap phase-of (at phase) ∙ shown .phase-as)
         (λ t. shown .participant-as t ∙ ap (λ (w : ℕ). bit w (t .0)) (sym (at participants)))
         (λ t. noted-bit (y .prepared) (u prepared) s t (shown .prepared-as) ∙ ap (λ (w : ℕ). bit w (t .0)) (sym (at prepared)))
         (λ t. shown .applied-as t ∙ ap (λ (w : ℕ). bit w (t .0)) (sym (at applied)))
-        (omega (arith, at phase, now)) (el ∙ ap (lowest-of (suc k)) (sym (at participants))) (R .clients c)
+        (omega (arith, at phase, now)) (el ∙ ap (lowest-of 8) (sym (at participants))) (R .clients c)
 
     server-shown : Server-shown k j slots p′ s (M .value s) (M .version s) (M .table s)
         (Mv.granted-row (T k j slots) c (Mv.to-write (T k j slots) s) (Mv.to-read (T k j slots) (y .lowest) s) (y .items) (M .lock s))
@@ -359,19 +359,19 @@ module _ (k j slots : ℕ) (al : Allowed (sizes k j slots)) (few : suc j ≤ 16)
         })
         (coe 1 0 (t. Client-shown k j slots (both-client m (s .0) (c .0) ps qs t) (L .given (c .0)) (L .undecided (c .0))
         (upd-same (Fin-discrete (suc j)) (M .slots) c (Mv.prepared-slot (T k j slots) y s) t) (M .copy c) (M .said c)) own-shown)
-        (λ t. go t (Fin-discrete (suc k) t s))
+        (λ t. go t (Fin-discrete 8 t s))
         (R .log-as)
       where
         row : Obj → P.Lock (T k j slots)
         row = Mv.granted-row (T k j slots) c (Mv.to-write (T k j slots) s) (Mv.to-read (T k j slots) (y .lowest) s) (y .items) (M .lock s)
 
-        Shown-at : Fin (suc k) → Type 0
-        Shown-at t = Server-shown k j slots (server-of (both m (s .0) (c .0) ps qs) (t .0)) t (M .value t) (M .version t) (M .table t) (upd (Fin-discrete (suc k)) (M .lock) s row t)
+        Shown-at : Fin 8 → Type 0
+        Shown-at t = Server-shown k j slots (server-of (both m (s .0) (c .0) ps qs) (t .0)) t (M .value t) (M .version t) (M .table t) (upd (Fin-discrete 8) (M .lock) s row t)
 
-        go : (t : Fin (suc k)) → Dec (t ≡ s) → Shown-at t
+        go : (t : Fin 8) → Dec (t ≡ s) → Shown-at t
         go t (yes e) =
             subst Shown-at (sym e)
-            (coe 1 0 (i. Server-shown k j slots (both-server m (s .0) (c .0) ps qs i) s (M .value s) (M .version s) (M .table s) (upd-same (Fin-discrete (suc k)) (M .lock) s row i)) server-shown)
+            (coe 1 0 (i. Server-shown k j slots (both-server m (s .0) (c .0) ps qs i) s (M .value s) (M .version s) (M .table s) (upd-same (Fin-discrete 8) (M .lock) s row i)) server-shown)
         go t (no n) =
             coe 1 0 (i. Server-shown k j slots (both-else m (s .0) (c .0) ps qs (t .0) (λ q. n (Fin·val-path q)) i) t (M .value t) (M .version t) (M .table t)
-            (upd-other (Fin-discrete (suc k)) (M .lock) s row t n i)) (R .servers t)
+            (upd-other (Fin-discrete 8) (M .lock) s row t n i)) (R .servers t)

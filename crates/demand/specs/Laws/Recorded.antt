@@ -12,7 +12,6 @@ use Rattle.base.specs.Laws.Test.{bool-cases, or-left, or-right}
 use Rattle.base.specs.Test.{not-both, and-both, yes?}
 use Rattle.layout.specs.Space.{changed}
 use Rattle.operations.specs.Object.{Obj}
-use Rattle.operations.specs.Slot.{Allowed}
 use Rattle.protocol.specs.Lists.{any}
 use Rattle.server.specs.declared.lock.Use.{Use}
 use Rattle.server.specs.declared.lock.Use.the-variants.{Read, Write}
@@ -25,7 +24,7 @@ use Rattle.client.specs.Layout.{ClientWord}
 use Rattle.client.specs.Record.{number}
 use Rattle.client.specs.Laws.Ranges.{client-fits}
 use Rattle.steps.specs.Steps.{unlock-each}
-use Rattle.demand.specs.Laws.Store.{sizes, fins}
+use Rattle.demand.specs.Laws.Store.{fins}
 use Rattle.protocol.specs.Laws.Lists.{any-in}
 use Rattle.demand.specs.Laws.Locking.{Swept, unlocked-swept}
 use Rattle.demand.specs.Laws.Shows.{T, In-store, lock-kept, Slot-shown, Recorded}
@@ -162,8 +161,8 @@ module _ (k j slots : ℕ) (few : suc j ≤ 16) (c : Fin (suc j)) where
   grants-none (P.owned d) = or-right (yes? (Fin-discrete (suc j) d c)) true refl
 
 -- what is unlocked at a server, at an apply or an abort
-pub unlock-recorded : (k j slots : ℕ) (al : Allowed (sizes k j slots)) (few : suc j ≤ 16) (c : Fin (suc j)) (u : ClientWord → ℕ)
-    (fit : client-fits (sizes k j slots) u ≡ true) (y : P.Slot (T k j slots)) (shown : Slot-shown k j slots u y) (s : Fin (suc k)) (low : ℕ)
+pub unlock-recorded : (k j slots : ℕ) (al : slots ≤ 1024) (few : suc j ≤ 16) (c : Fin (suc j)) (u : ClientWord → ℕ)
+    (fit : client-fits slots u ≡ true) (y : P.Slot (T k j slots)) (shown : Slot-shown k j slots u y) (s : Fin 8) (low : ℕ)
     (el : y .lowest .0 ≡ low) (p : Place → ℕ) (o : Obj) (hi : In-store k j slots o) → lock-kept k j slots p s o ≡ true → (l : P.Lock (T k j slots)) → Recorded k j slots l (p (lock-of (object-of (number o))))
     → Recorded k j slots (Mv.drop (T k j slots) c l) (changed places p (unlock-each u (c .0) low (s .0) p) (lock-of (object-of (number o))))
 unlock-recorded k j slots al few c u fit y shown s low el p o hi kept l h = go (unlocked-swept k j slots al u fit y shown s low el p (c .0) o hi kept)

@@ -26,11 +26,10 @@ use Rattle.nodes.specs.Stored.{node-of}
 use Rattle.nodes.specs.Laws.Stored.{Sized}
 use Rattle.operations.specs.Object.{Obj, meta, node, flag, Val, root, taken}
 use Rattle.operations.specs.Laws.Object.{Obj-discrete}
-use Rattle.operations.specs.Slot.{Allowed}
 use Rattle.protocol.specs.State.{decided}
 use Rattle.client.specs.declared.part.Set.the-variants.{Reads, Writes}
 use Rattle.client.specs.Layout.{ClientWord, client-words, item, vector-word, lost}
-use Rattle.client.specs.Record.{number, by-number, value-of, first-slot, last-version}
+use Rattle.client.specs.Record.{number, by-number, value-of, first-slot, second-slot, last-version}
 use Rattle.client.specs.Sets.{count, record-at, number-at, find}
 use Rattle.client.specs.Vectors.{has-vector, vector-copy}
 use Rattle.client.specs.Commit.{is-at, inner-at}
@@ -40,7 +39,7 @@ use Rattle.client.specs.Laws.Ranges.{client-fits}
 use Rattle.client.specs.Drops.{version-of, next-version}
 use Rattle.client.specs.Copies.{copy-node}
 use Rattle.client.specs.Part.{PartStep, nothing, put-fields, put-vector}
-use Rattle.demand.specs.Laws.Store.{sizes, by-value}
+use Rattle.demand.specs.Laws.Store.{by-value}
 use Rattle.demand.specs.Laws.Frame.{then-keeps, sweep-keeps}
 use Rattle.demand.specs.Laws.Numbers.{by-object, obj-of, number-obj, name-lt}
 use Rattle.demand.specs.Laws.Shows.{T, In-store, copy, new-value, item-from, item-of, Slot-shown, Copies-shown}
@@ -88,7 +87,7 @@ pub record Renews (R : (ClientWord → ℕ) → Type 0) : Type 0 where
       → R (changed client-words w (copy-node (number-at w Writes i) (Rn.renewed w i) w))
   -- "metadata"
   pub meta-renews : (i : ℕ) (w : ClientWord → ℕ) → R w → find w Writes 0 ≡ At i
-      → R (changed client-words w (put-fields 12 (1 ∷ w (item Writes i 19) ∷ Rn.new-version w 0 ∷ []) w))
+      → R (changed client-words w (put-fields 12 (w (item Writes i 20) ∷ w (item Writes i 19) ∷ Rn.new-version w 0 ∷ []) w))
   -- "flags", in their vectors; x: before the first of them
   pub flag-renews : (i : ℕ) (w x : ClientWord → ℕ) → R w → R x → i < count x Writes → 8193 ≤ number-at w Writes i
       → let n = number-at w Writes i - 8193 in has-vector w (N.server-of n) ≡ true
@@ -158,7 +157,7 @@ renew-keeps R u K r = go (eqb (u lost) 1) refl
 unfoldable pub renews-young : (ClientWord → ℕ) → Bool
 renews-young u = eqb (u lost) 1 || all-below (count u Writes) (λ i. not (I.inner (number-at u Writes i) (record-at u Writes i)) || young u (number-at u Writes i))
 
-module _ (k j slots : ℕ) (al : Allowed (sizes k j slots)) (M : P.Machine (T k j slots)) (c : Fin (suc j)) (u : ClientWord → ℕ) (fit : client-fits (sizes k j slots) u ≡ true) (shown : Slot-shown k j slots u (M .slots c)) (now : M .slots c .phase ≡ decided) (early : renews-young u ≡ true) where
+module _ (k j slots : ℕ) (al : slots ≤ 1024) (M : P.Machine (T k j slots)) (c : Fin (suc j)) (u : ClientWord → ℕ) (fit : client-fits slots u ≡ true) (shown : Slot-shown k j slots u (M .slots c)) (now : M .slots c .phase ≡ decided) (early : renews-young u ≡ true) where
   abbrev Copy : Type 0
   Copy = Option (P.Copy (T k j slots))
 
@@ -299,6 +298,10 @@ module _ (k j slots : ℕ) (al : Allowed (sizes k j slots)) (M : P.Machine (T k 
     unfolding record-at node-of tab
     first-is i = K .sets .items-written i 19
 
+    second-is : (i : ℕ) → w (item Writes i 20) ≡ second-slot (record-at u Writes i)
+    unfolding record-at node-of tab
+    second-is i = K .sets .items-written i 20
+
     node-renewed : eqb (u lost) 1 ≡ false → (i n : ℕ) → i < count w Writes → inner-at w Writes i ≡ true → obj-of (number-at w Writes i) ≡ node n → number-at w Writes i ≡ 1 + n
         → Renewing (changed client-words w (copy-node (number-at w Writes i) (Rn.renewed w i) w))
     unfolding Rn.renewed Rn.versioned keysOf slotsOf
@@ -324,7 +327,7 @@ module _ (k j slots : ℕ) (al : Allowed (sizes k j slots)) (M : P.Machine (T k 
         new : r .version ≡ suc (record-at u Reads (W .read-at) .version)
         new =
             ap (Rn.new-version w) (number-is i)
-            ∙ next-is kept w (K .sets) i inside (node n) W (omega (arith, q, number-is i, name-lt (sizes k j slots) al n (W .stored)))
+            ∙ next-is kept w (K .sets) i inside (node n) W (omega (arith, q, number-is i, name-lt slots al n (W .stored)))
             (ap₂ I.inner (sym (number-is i)) (sym (record-is i)) ∙ inner-is w i h)
 
         go : Copies-shown k j slots v (K .copies c) ⊎ Copies-shown k j slots v (given k j slots w (K .copies c) (K .shows) n r sized) → Renewing v
@@ -334,15 +337,15 @@ module _ (k j slots : ℕ) (al : Allowed (sizes k j slots)) (M : P.Machine (T k 
             (renewed-legal (K .copies) i (node n) W (value-of (node n) r) (r .version) (ap (value-of (node n)) (record-is i)) new) h
 
     -- ---- "metadata"
-    meta-renewed : eqb (u lost) 1 ≡ false → (i : ℕ) → find w Writes 0 ≡ At i → Renewing (changed client-words w (put-fields 12 (1 ∷ w (item Writes i 19) ∷ Rn.new-version w 0 ∷ []) w))
+    meta-renewed : eqb (u lost) 1 ≡ false → (i : ℕ) → find w Writes 0 ≡ At i → Renewing (changed client-words w (put-fields 12 (w (item Writes i 20) ∷ w (item Writes i 19) ∷ Rn.new-version w 0 ∷ []) w))
     unfolding obj-of I.inner
     meta-renewed kept i e =
-        renewal w (changed client-words w (put-fields 12 (1 ∷ w (item Writes i 19) ∷ Rn.new-version w 0 ∷ []) w)) K
-        (sets-stay (put-fields 12 (1 ∷ w (item Writes i 19) ∷ Rn.new-version w 0 ∷ []) w) w (only-fields 1 (w (item Writes i 19)) (Rn.new-version w 0) w))
-        meta (copy k j slots u (root (w (item Writes i 19))) (Rn.new-version w 0))
-        (renewed-legal (K .copies) i meta W (root (w (item Writes i 19))) (Rn.new-version w 0) (ap root (first-is i))
+        renewal w (changed client-words w (put-fields 12 (w (item Writes i 20) ∷ w (item Writes i 19) ∷ Rn.new-version w 0 ∷ []) w)) K
+        (sets-stay (put-fields 12 (w (item Writes i 20) ∷ w (item Writes i 19) ∷ Rn.new-version w 0 ∷ []) w) w (only-fields (w (item Writes i 20)) (w (item Writes i 19)) (Rn.new-version w 0) w))
+        meta (copy k j slots u (root (w (item Writes i 19)) (w (item Writes i 20))) (Rn.new-version w 0))
+        (renewed-legal (K .copies) i meta W (root (w (item Writes i 19)) (w (item Writes i 20))) (Rn.new-version w 0) (ap₂ root (first-is i) (second-is i))
         (ap (Rn.new-version w) (sym zero-at) ∙ next-is kept w (K .sets) i inside meta W (omega (arith, zero-at)) (ap (λ (x : ℕ). I.inner x (record-at u Writes i)) zero-at)))
-        (meta-put k j slots w (K .copies c) (K .shows) (w (item Writes i 19)) (Rn.new-version w 0))
+        (meta-put k j slots w (K .copies c) (K .shows) (w (item Writes i 19)) (w (item Writes i 20)) (Rn.new-version w 0))
       where
         at : (i < count w Writes) × (number-at w Writes i ≡ 0)
         at = found-at w Writes 0 i e

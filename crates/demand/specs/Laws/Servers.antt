@@ -1,5 +1,5 @@
 -- Steps that store in one server's part and in one client's; what a server shows stays where only locks change.
-use mathlib.Core.Path.{_≡_, refl, ap, sym, _∙_, subst, fun-ext}
+use mathlib.Core.Path.{_≡_, refl, ap, ap₂, sym, _∙_, subst, fun-ext}
 use mathlib.Core.Bool.{Bool, true, false, cond}
 use mathlib.Core.List.{List, [], _++_}
 use Prim.Native.Nat.{ℕ, _/_, _%_, Fin}
@@ -67,6 +67,7 @@ module _ (m : Address → ℕ) (s c : ℕ) (ps : List (Put Place)) (qs : List (P
 abbrev pub is-lock : Place → Bool
 is-lock place.Root = false
 is-lock place.Version = false
+is-lock place.States = false
 is-lock place.MetadataLock = true
 is-lock (place.Vector i) = false
 is-lock (place.Node k j) = false
@@ -114,7 +115,7 @@ module _ (k j slots : ℕ) (p q : Place → ℕ) (h : (a : Place) → is-lock a 
   node-frame n = ap (λ (f : ℕ → ℕ). node-of (tab 33 f)) (fun-ext (λ i. h (place.Node (N.slot-of n) i) refl))
 
   pub value-frame : (o : Obj) → value-at k j slots q o ≡ value-at k j slots p o
-  value-frame meta = ap root (h place.Root refl)
+  value-frame meta = ap₂ root (h place.Root refl) (h place.States refl)
   value-frame (node n) = ap (value-of (node n)) (node-frame n)
   value-frame (flag n) = ap (λ (w : ℕ). taken (bit w (N.slot-of n % 64))) (h (place.Vector (N.slot-of n / 64)) refl)
 

@@ -9,7 +9,6 @@ use Rattle.base.specs.Test.{and-both}
 use Rattle.memory.specs.Bit.{bit, putBit}
 use Rattle.memory.specs.Laws.Bit.{bit-put-same, bit-put-other}
 use Rattle.layout.specs.Space.{changed}
-use Rattle.operations.specs.Slot.{Allowed}
 use Rattle.protocol.specs.State.{is-decided}
 use Rattle.protocol.specs.Machine as P
 use Rattle.protocol.specs.Laws.Claim.{Applied}
@@ -22,7 +21,7 @@ use Rattle.steps.specs.Whole.{Address}
 use Rattle.steps.specs.Laws.Stores.{client-of}
 use Rattle.steps.specs.Refusal.{state-fits}
 use Rattle.demand.specs.Ledger.{Ledger}
-use Rattle.demand.specs.Laws.Store.{sizes, meaning}
+use Rattle.demand.specs.Laws.Store.{meaning}
 use Rattle.demand.specs.Laws.Frame.{last, read-after}
 use Rattle.demand.specs.Laws.Shows.{T}
 use Rattle.demand.specs.Laws.Turns.{store, word-decided, Good}
@@ -62,9 +61,9 @@ due-now u s = unfinished u s applied 3
 
 -- no apply is due
 abbrev pub None-due : Sizes → (Address → ℕ) → Type 0
-None-due z m = (c s : ℕ) → c < z .clients → s < z .servers → state-fits (client-of m c) s Apply ≡ false
+None-due z m = (c s : ℕ) → c < z .clients → s < 8 → state-fits (client-of m c) s Apply ≡ false
 
-module _ (k j slots : ℕ) (al : Allowed (sizes k j slots)) (L : Ledger) where
+module _ (k j slots : ℕ) (al : slots ≤ 1024) (L : Ledger) where
   -- in the machine too
   pub settled-applied : (m : Address → ℕ) (M : P.Machine (T k j slots)) → Good k j slots m L M
       → None-due (store k j slots) m → Applied (T k j slots) (meaning k j slots al) M
@@ -73,5 +72,5 @@ module _ (k j slots : ℕ) (al : Allowed (sizes k j slots)) (L : Ledger) where
       let u = client-of m (c .0) in
       let shown = G .shown .clients c .slot in
       let late : 3 ≤ u phase = word-decided (u phase) (ap is-decided (shown .phase-as) ∙ h) in
-      let now : u phase ≡ 3 = omega (arith, late, fits-field (sizes k j slots) u (G .decided-fits c late) 0 (omega arith)) in
+      let now : u phase ≡ 3 = omega (arith, late, fits-field slots u (G .decided-fits c late) 0 (omega arith)) in
       shown .applied-as s ∙ not-false (bit (u applied) (s .0)) (sym (ap₂ (λ (a b : Bool). a && (b && not (bit (u applied) (s .0)))) (eq-eqb (u phase) 3 now) (sym (shown .participant-as s) ∙ p)) ∙ none (c .0) (s .0) (c .1) (s .1))

@@ -20,7 +20,7 @@ use Rattle.server.specs.declared.place.Place.{Place}
 use Rattle.server.specs.Object.{object-of, lock-of}
 use Rattle.server.specs.Laws.Lock.{reads, writes}
 use Rattle.client.specs.declared.part.Set.the-variants.{Reads, Writes, Copies}
-use Rattle.client.specs.Layout.{ClientWord, phase, op-number, participants, prepared, applied, item, vector-word, meta-copied, meta-root, meta-version}
+use Rattle.client.specs.Layout.{ClientWord, phase, op-number, participants, prepared, applied, item, vector-word, meta-states, meta-root, meta-version}
 use Rattle.client.specs.Record.{number, value-of, object-in-store}
 use Rattle.client.specs.Sets.{count, record-at, number-at, find}
 use Rattle.client.specs.Items.{has}
@@ -30,7 +30,8 @@ use Rattle.steps.specs.Whole.{Address}
 use Rattle.steps.specs.Steps.{node-at}
 use Rattle.demand.specs.Ledger.{Told, Ledger}
 use Rattle.steps.specs.Laws.Stores.{client-of, server-of}
-use Rattle.demand.specs.Laws.Store.{setting, sizes, keeps, by-value}
+use Rattle.demand.specs.Laws.Store.{setting, keeps, by-value}
+use Rattle.demand.specs.Laws.Housed.{Housed}
 use Rattle.nodes.specs.Name as N
 use Rattle.protocol.specs.Machine as P
 use Rattle.protocol.specs.Moves as Mv
@@ -48,7 +49,7 @@ module _ (k j slots : ℕ) where
   T = setting k j slots
 
   abbrev pub In-store : Obj → Type 0
-  In-store o = object-in-store (sizes k j slots) o ≡ true
+  In-store o = object-in-store slots o ≡ true
 
   -- an operation with its answer, as the machine has it and as the steps show it
   abbrev pub told : Shown T → Told
@@ -83,19 +84,21 @@ module _ (k j slots : ℕ) where
       pub write-found : (i : ℕ) → i < count u Writes → find u Writes (number-at u Writes i) ≡ At i
       pub inside : (i : P.Item T) → Among i (y .items) → In-store (i .obj)
       pub unique : (i : P.Item T) → Among i (y .items) → P.find T (y .items) (i .obj) ≡ some i
-      pub participant-as : (s : Fin (suc k)) → y .participant s ≡ bit (u participants) (s .0)
-      pub prepared-as : (s : Fin (suc k)) → y .prepared s ≡ bit (u prepared) (s .0)
-      pub applied-as : (s : Fin (suc k)) → y .applied s ≡ bit (u applied) (s .0)
+      pub participant-as : (s : Fin 8) → y .participant s ≡ bit (u participants) (s .0)
+      pub prepared-as : (s : Fin 8) → y .prepared s ≡ bit (u prepared) (s .0)
+      pub applied-as : (s : Fin 8) → y .applied s ≡ bit (u applied) (s .0)
       -- nothing is prepared before the commit
       pub calm : u phase < 2 → u prepared ≡ 0
-      pub lowest-as : 2 ≤ u phase → y .lowest .0 ≡ lowest-of (suc k) (u participants)
+      pub lowest-as : 2 ≤ u phase → y .lowest .0 ≡ lowest-of 8 (u participants)
+      -- the homes of what it has read are there
+      pub housed : Housed k j slots (y .items)
 
     abbrev pub copy : Val → ℕ → Option (P.Copy T)
     copy v n = some (record { value = v; version = n })
 
     -- copies; a place among those of nodes is one node's
     pub record Copies-shown (f : Obj → Option (P.Copy T)) : Type 0 where
-      pub meta-as : u meta-copied ≡ 1 → f meta ≡ copy (root (u meta-root)) (u meta-version)
+      pub meta-as : ¬ (u meta-states ≡ 0) → f meta ≡ copy (root (u meta-root) (u meta-states)) (u meta-version)
       pub node-as : (i n : ℕ) → i < 64 → u (item Copies i 0) ≡ 1 + n → f (node n) ≡ copy (value-of (node n) (record-at u Copies i)) (record-at u Copies i .version)
       pub flag-as : (n : ℕ) → In-store (flag n) → u (vector-word (N.server-of n) 0) ≡ 1
           → f (flag n) ≡ copy (taken (bit (u (vector-word (N.server-of n) (suc (N.slot-of n / 64)))) (N.slot-of n % 64))) 0
@@ -105,7 +108,7 @@ module _ (k j slots : ℕ) where
     pub record Said-shown (given : Op) (undecided : List Told) (said : List (Shown T)) : Type 0 where
       pub said-as : Running (u phase) → undecided ≡ map told said
       pub given-as : ¬ (u op-number ≡ 0) → given ≡ waiting u
-      pub legal : ¬ (u op-number ≡ 0) → Legal (sizes k j slots) (waiting u)
+      pub legal : ¬ (u op-number ≡ 0) → Legal (waiting u)
 
   -- ---- a server
   abbrev pub Recorded : P.Lock T → ℕ → Type 0
@@ -114,7 +117,7 @@ module _ (k j slots : ℕ) where
 
   module _ (p : Place → ℕ) where
     abbrev pub value-at : Obj → Val
-    value-at meta = root (p place.Root)
+    value-at meta = root (p place.Root) (p place.States)
     value-at (node n) = value-of (node n) (node-at p n)
     value-at (flag n) = taken (bit (p (place.Vector (N.slot-of n / 64))) (N.slot-of n % 64))
 
@@ -129,12 +132,12 @@ module _ (k j slots : ℕ) where
     table-at (flag n) = 0
 
     -- locks of flags are at home, all others at every server
-    abbrev pub lock-kept : Fin (suc k) → Obj → Bool
+    abbrev pub lock-kept : Fin 8 → Obj → Bool
     lock-kept s meta = true
     lock-kept s (node n) = true
     lock-kept s (flag n) = keeps k j slots s (flag n)
 
-    pub record Server-shown (s : Fin (suc k)) (value : Obj → Val) (version table : Obj → ℕ) (lock : Obj → P.Lock T) : Type 0 where
+    pub record Server-shown (s : Fin 8) (value : Obj → Val) (version table : Obj → ℕ) (lock : Obj → P.Lock T) : Type 0 where
       pub value-as : (o : Obj) → In-store o → keeps k j slots s o ≡ true → value o ≡ value-at o
       pub version-as : (o : Obj) → In-store o → keeps k j slots s o ≡ true → version o ≡ version-at o
       pub table-as : (o : Obj) → In-store o → by-value k j slots o ≡ false → table o ≡ table-at o
@@ -149,5 +152,5 @@ module _ (k j slots : ℕ) where
   pub record Related (m : Address → ℕ) (L : Ledger) (M : P.Machine T) : Type 0 where
     pub reached : Mv.Reached T M
     pub clients : (c : Fin (suc j)) → Client-shown (client-of m (c .0)) (L .given (c .0)) (L .undecided (c .0)) (M .slots c) (M .copy c) (M .said c)
-    pub servers : (s : Fin (suc k)) → Server-shown (server-of m (s .0)) s (M .value s) (M .version s) (M .table s) (M .lock s)
+    pub servers : (s : Fin 8) → Server-shown (server-of m (s .0)) s (M .value s) (M .version s) (M .table s) (M .lock s)
     pub log-as : L .decided ≡ map (map told) (M .log)

@@ -13,13 +13,14 @@ use Rattle.operations.specs.Object.{Obj, meta, node, flag, Val, root, taken}
 use Rattle.protocol.specs.Lists.{Among}
 use Rattle.client.specs.declared.part.Set.{Set}
 use Rattle.client.specs.declared.part.Set.the-variants.{Reads, Writes, Copies}
-use Rattle.client.specs.Layout.{ClientWord, phase, participants, prepared, applied, item, vector-word, reads-count, writes-count, meta-copied, meta-root, meta-version}
+use Rattle.client.specs.Layout.{ClientWord, phase, participants, prepared, applied, item, vector-word, reads-count, writes-count, meta-states, meta-root, meta-version}
 use Rattle.client.specs.Record.{number, value-of}
 use Rattle.nodes.specs.Stored.{node-of}
 use Rattle.client.specs.Sets.{at-most, count, record-at, number-at, first-of, find}
 use Rattle.client.specs.Commit.{is-at}
 use Rattle.client.specs.Items.{has}
 use Rattle.client.specs.Participants.{lowest-of}
+use Rattle.demand.specs.Laws.Housed.{none-housed}
 use Rattle.demand.specs.Laws.Shows.{phase-of, T, In-store, new-value, item-from, item-of, Slot-shown, Copies-shown, copy}
 use Rattle.nodes.specs.Name as N
 use Rattle.protocol.specs.Machine as P
@@ -106,14 +107,15 @@ module _ (k j slots : ℕ) (u v : ClientWord → ℕ) (S : Same-sets u v) where
     prepared-as = λ s. h .prepared-as s ∙ ap (λ (w : ℕ). bit w (s .0)) (sym r);
     applied-as = λ s. h .applied-as s ∙ ap (λ (w : ℕ). bit w (s .0)) (sym a);
     calm = λ l. r ∙ h .calm (subst (λ (w : ℕ). w < 2) p l);
-    lowest-as = λ l. h .lowest-as (subst (λ (w : ℕ). 2 ≤ w) p l) ∙ ap (lowest-of (suc k)) (sym q);
+    lowest-as = λ l. h .lowest-as (subst (λ (w : ℕ). 2 ≤ w) p l) ∙ ap (lowest-of 8) (sym q);
+    housed = h .housed;
   }
 
 -- ---- copies that stay, one by one and all; g: the copies afterwards
 module _ (k j slots : ℕ) (u v : ClientWord → ℕ) (f g : Obj → Option (P.Copy (T k j slots))) (h : Copies-shown k j slots u f) where
-  pub meta-stays : v meta-copied ≡ u meta-copied → v meta-root ≡ u meta-root → v meta-version ≡ u meta-version → g meta ≡ f meta
-      → v meta-copied ≡ 1 → g meta ≡ copy k j slots v (root (v meta-root)) (v meta-version)
-  meta-stays a b c s q = s ∙ h .meta-as (sym a ∙ q) ∙ ap₂ (λ (r n : ℕ). copy k j slots u (root r) n) (sym b) (sym c)
+  pub meta-stays : v meta-states ≡ u meta-states → v meta-root ≡ u meta-root → v meta-version ≡ u meta-version → g meta ≡ f meta
+      → ¬ (v meta-states ≡ 0) → g meta ≡ copy k j slots v (root (v meta-root) (v meta-states)) (v meta-version)
+  meta-stays a b c s q = s ∙ h .meta-as (λ z. q (a ∙ z)) ∙ sym (λ t. copy k j slots u (root (b t) (a t)) (c t))
 
   pub node-stays : (i n : ℕ) → ((q : ℕ) → v (item Copies i q) ≡ u (item Copies i q)) → g (node n) ≡ f (node n)
       → i < 64 → v (item Copies i 0) ≡ 1 + n → g (node n) ≡ copy k j slots v (value-of (node n) (record-at v Copies i)) (record-at v Copies i .version)
@@ -128,7 +130,7 @@ module _ (k j slots : ℕ) (u v : ClientWord → ℕ) (f g : Obj → Option (P.C
       s ∙ h .flag-as n i (sym (e 0) ∙ q) ∙ ap (λ (w : ℕ). copy k j slots u (taken (bit w (N.slot-of n % 64))) 0) (sym (e (suc (N.slot-of n / 64))))
 
 module _ (k j slots : ℕ) (u v : ClientWord → ℕ) where
-  pub copies-frame : (f : Obj → Option (P.Copy (T k j slots))) → v meta-copied ≡ u meta-copied → v meta-root ≡ u meta-root → v meta-version ≡ u meta-version
+  pub copies-frame : (f : Obj → Option (P.Copy (T k j slots))) → v meta-states ≡ u meta-states → v meta-root ≡ u meta-root → v meta-version ≡ u meta-version
       → ((i n : ℕ) → v (item Copies i n) ≡ u (item Copies i n)) → ((s n : ℕ) → v (vector-word s n) ≡ u (vector-word s n))
       → Copies-shown k j slots u f → Copies-shown k j slots v f
   copies-frame f a b c d e h = record {
@@ -154,6 +156,7 @@ blank-shown k j slots u p r w q e a = record {
   applied-as = λ s. sym (ap (λ (w : ℕ). bit w (s .0)) a ∙ zero-bit (s .0));
   calm = λ _. e;
   lowest-as = λ l. absurd (omega arith);
+  housed = none-housed k j slots;
 }
   where
     nothing : (i : ℕ) → ¬ (i < 0)

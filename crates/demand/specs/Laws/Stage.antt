@@ -3,7 +3,7 @@ use mathlib.Core.Path.{_≡_, refl, ap, sym, _∙_, subst, fun-ext}
 use mathlib.Core.Bool.{true, false}
 use mathlib.Core.List.{List}
 use mathlib.Core.Option.{Option, none}
-use Prim.Native.Nat.{ℕ, suc, _<_, Fin}
+use Prim.Native.Nat.{ℕ, suc, _≤_, _<_, Fin}
 use native.Mathlib.Omega.{arith}
 use native.Mathlib.Decide.{Fin-discrete}
 use Rattle.base.specs.Update.{upd}
@@ -17,7 +17,6 @@ use Rattle.nodes.specs.Laws.Stored.{Sized}
 use Rattle.operations.specs.Object.{Obj}
 use Rattle.operations.specs.Laws.Object.{Obj-discrete}
 use Rattle.operations.specs.Operation.{Legal}
-use Rattle.operations.specs.Slot.{Allowed}
 use Rattle.operations.specs.Map.{Op}
 use Rattle.protocol.specs.Laws.Changed.{upd-twice}
 use Rattle.protocol.specs.State.{opened, is-decided}
@@ -31,7 +30,7 @@ use Rattle.client.specs.Work.{op-of, waiting}
 use Rattle.steps.specs.Whole.{Address, client, whole}
 use Rattle.steps.specs.Laws.Stores.{client-of, client-else}
 use Rattle.demand.specs.Ledger.{Told, Ledger}
-use Rattle.demand.specs.Laws.Store.{sizes}
+use Rattle.demand.specs.Laws.Housed.{Placed-at}
 use Rattle.demand.specs.Laws.Shows.{T, In-store, item-from, item-of, Copies-shown, Said-shown, Client-shown, Related, Running}
 use Rattle.demand.specs.Laws.Slots.{slot-frame}
 use Rattle.demand.specs.Laws.Kept.{away, client-related}
@@ -54,7 +53,7 @@ said-frame k j slots u v given undecided said p a b d e h =
     record {
       said-as = λ n. h .said-as (subst Running p n);
       given-as = λ n. h .given-as (λ z. n (a ∙ z)) ∙ sym same;
-      legal = λ n. subst (Legal (sizes k j slots)) (sym same) (h .legal (λ z. n (a ∙ z)));
+      legal = λ n. subst Legal (sym same) (h .legal (λ z. n (a ∙ z)));
     }
 
 -- as where only the read set grows
@@ -113,7 +112,7 @@ module _ (k j slots : ℕ) (m : Address → ℕ) (L : Ledger) (M : P.Machine (T 
   -- ---- the moves
   module _ (y : P.Slot (T k j slots)) (f : Obj → Copy) (reached : Mv.Reached (T k j slots) (machine y f)) where
     -- a fetch
-    pub fetches-on : y .phase ≡ opened → (s : Fin (suc k)) (o : Obj) → Store.keeps k j slots s o ≡ true → P.find (T k j slots) (y .items) o ≡ none
+    pub fetches-on : y .phase ≡ opened → (s : Fin 8) (o : Obj) → Store.keeps k j slots s o ≡ true → P.find (T k j slots) (y .items) o ≡ none
         → Mv.Reached (T k j slots) (machine (P.with-item (T k j slots) y o (M .value s o) (M .version s o)) f)
     fetches-on open-now s o kept lacking =
         subst (Mv.Reached (T k j slots)) path
@@ -177,18 +176,18 @@ module _ (k j slots : ℕ) (m : Address → ℕ) (L : Ledger) (M : P.Machine (T 
       at a e = changed-only client-words of-copies ps v a h e
 
   -- ---- an object that a server hands out is read
-  module _ (al : Allowed (sizes k j slots)) (s : Fin (suc k)) (o : Obj) (r : Node) (sized : Sized r) (hi : In-store k j slots o) (kept : Store.keeps k j slots s o ≡ true) (value : value-of o r ≡ M .value s o) (version : r .version ≡ M .version s o) where
-    pub read-stage : (v : ClientWord → ℕ) → Stage v → v reads-count < 96 → find v Reads (number o) ≡ Absent → find v Writes (number o) ≡ Absent
+  module _ (al : slots ≤ 1024) (s : Fin 8) (o : Obj) (r : Node) (sized : Sized r) (hi : In-store k j slots o) (kept : Store.keeps k j slots s o ≡ true) (value : value-of o r ≡ M .value s o) (version : r .version ≡ M .version s o) where
+    pub read-stage : (v : ClientWord → ℕ) (G : Stage v) → Placed-at k j slots (G .slot .items) o (value-of o r) → v reads-count < 96 → find v Reads (number o) ≡ Absent → find v Writes (number o) ≡ Absent
         → Stage (changed client-words v (enter-read (number o) r v))
     unfolding item-of
-    read-stage v G room unread unwritten = record {
+    read-stage v G placed room unread unwritten = record {
       slot = P.with-item (T k j slots) y o (value-of o r) (r .version);
       copies = G .copies;
       reached = subst (λ (z : P.Slot (T k j slots)). Mv.Reached (T k j slots) (machine z (G .copies))) (λ t. P.with-item (T k j slots) y o (sym value t) (sym version t))
           (fetches-on y (G .copies) (G .reached) (G .open-still) s o kept (G .shows .slot .item-as o hi ∙ ap (item-from k j slots v o) unread));
       open-still = G .open-still;
       shows = record {
-        slot = slot-entered k j slots al v w o r E y (G .shows .slot) hi unread unwritten;
+        slot = slot-entered k j slots al v w o r E y (G .shows .slot) hi unread unwritten placed;
         copies = copies-stay Reads 10 v w (E .other) (λ e. absurd (omega arith)) (omega arith) k j slots (G .copies) (G .shows .copies);
         says = said-else k j slots v w (E .other) (L .given (c .0)) (L .undecided (c .0)) (M .said c) (G .shows .says);
       };

@@ -11,8 +11,7 @@ use Rattle.base.specs.Test.{not-both}
 use Rattle.base.specs.Laws.Update.{upd-same}
 use Rattle.layout.specs.Space.{changed}
 use Rattle.operations.specs.Object.{Obj}
-use Rattle.operations.specs.Slot.{Allowed}
-use Rattle.operations.specs.Sound.{new-store}
+use Rattle.demand.specs.Laws.Store.{init}
 use Rattle.protocol.specs.State.{idle, is-decided}
 use Rattle.client.specs.Layout.{phase}
 use Rattle.client.specs.Record.{object-in-store}
@@ -22,7 +21,6 @@ use Rattle.steps.specs.Whole.{Address, whole}
 use Rattle.steps.specs.Laws.Stores.{client-of}
 use Rattle.steps.specs.Steps.{aborting}
 use Rattle.demand.specs.Ledger.{Ledger, clears}
-use Rattle.demand.specs.Laws.Store.{sizes}
 use Rattle.demand.specs.Laws.Shows.{phase-of, T, Related}
 use Rattle.protocol.specs.Machine as P
 use Rattle.demand.specs.Laws.Aborted as A
@@ -59,9 +57,9 @@ module _ (k j slots : ℕ) where
   pub record Good (m : Address → ℕ) (L : Ledger) (M : P.Machine (T k j slots)) : Type 0 where
     pub shown : Related k j slots m L M
     -- a decided transaction is in range: its applies still due can be done
-    pub decided-fits : (c : Client) → 3 ≤ client-of m (c .0) phase → client-fits (sizes k j slots) (client-of m (c .0)) ≡ true
+    pub decided-fits : (c : Client) → 3 ≤ client-of m (c .0) phase → client-fits slots (client-of m (c .0)) ≡ true
     -- nothing is written to what the store hasn't
-    pub outside : (s : Fin (suc k)) (o : Obj) → object-in-store (sizes k j slots) o ≡ false → M .value s o ≡ new-store o
+    pub outside : (s : Fin 8) (o : Obj) → object-in-store slots o ≡ false → M .value s o ≡ init k j slots o
 
   -- memory and ledger are those of some good state
   pub record Explained (m : Address → ℕ) (L : Ledger) : Type 0 where
@@ -78,7 +76,7 @@ module _ (k j slots : ℕ) where
 
   module _ (m m′ : Address → ℕ) (L L′ : Ledger) (M : P.Machine (T k j slots)) (c : Client) (G : Good m L M) where
     abbrev Fits : Client → Type 0
-    Fits d = 3 ≤ client-of m′ (d .0) phase → client-fits (sizes k j slots) (client-of m′ (d .0)) ≡ true
+    Fits d = 3 ≤ client-of m′ (d .0) phase → client-fits slots (client-of m′ (d .0)) ≡ true
 
     -- one client's part changes
     pub still-fits : Fits c → ((d : Client) → ¬ (d ≡ c) → client-of m′ (d .0) ≡ client-of m (d .0)) → (d : Client) → Fits d
@@ -86,7 +84,7 @@ module _ (k j slots : ℕ) where
       where
         go : Dec (d ≡ c) → Fits d
         go (yes e) = subst Fits (sym e) own
-        go (no n) = subst (λ u. 3 ≤ u phase → client-fits (sizes k j slots) u ≡ true) (sym (others d n)) (G .decided-fits d)
+        go (no n) = subst (λ u. 3 ≤ u phase → client-fits slots u ≡ true) (sym (others d n)) (G .decided-fits d)
 
     pub turns-good : Turns m m′ L′ M c → Explained m′ L′
     turns-good t = record {
@@ -94,12 +92,12 @@ module _ (k j slots : ℕ) where
       good = record {
         shown = t .shows;
         decided-fits = still-fits (λ e. absurd (not-both (ap is-decided (sym (t .shows .clients c .slot .phase-as)) ∙ decided-word (client-of m′ (c .0) phase) e) (t .undecided))) (t .others);
-        outside = λ s o h. ap (λ (f : Fin (suc k) → Obj → _). f s o) (t .values-same) ∙ G .outside s o h;
+        outside = λ s o h. ap (λ (f : Fin 8 → Obj → _). f s o) (t .values-same) ∙ G .outside s o h;
       };
     }
 
   -- ---- ABORT, for whatever reason; us came into use in the step
-  module _ (al : Allowed (sizes k j slots)) (few : suc j ≤ 16) (m : Address → ℕ) (L : Ledger) (M : P.Machine (T k j slots)) (c : Client) (R : Related k j slots m L M) (fit : client-fits (sizes k j slots) (client-of m (c .0)) ≡ true) (us : List ℕ) (open-still : (client-of m (c .0) phase ≡ 1) ⊎ (client-of m (c .0) phase ≡ 2)) where
+  module _ (al : slots ≤ 1024) (few : suc j ≤ 16) (m : Address → ℕ) (L : Ledger) (M : P.Machine (T k j slots)) (c : Client) (R : Related k j slots m L M) (fit : client-fits slots (client-of m (c .0)) ≡ true) (us : List ℕ) (open-still : (client-of m (c .0) phase ≡ 1) ⊎ (client-of m (c .0) phase ≡ 2)) where
     pub abort-turns : Turns m (changed whole m (aborting store m (c .0) us)) (clears L (c .0)) M c
     abort-turns = record {
       machine = A.M₁ k j slots al few m L M c R fit;

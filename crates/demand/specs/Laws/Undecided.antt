@@ -14,9 +14,9 @@ use Rattle.layout.specs.Laws.Step.{changed-append}
 use Rattle.layout.specs.Part.{over}
 use Rattle.operations.specs.Map.{two-to-64}
 use Rattle.operations.specs.Operation.{Legal}
-use Rattle.operations.specs.Slot.{Allowed}
 use Rattle.protocol.specs.State.{Phase, idle, opened, is-decided}
 use Rattle.client.specs.Layout.{ClientWord, phase}
+use Rattle.client.specs.Fits.{servers-known}
 use Rattle.client.specs.Laws.Ranges.{client-fits}
 use Rattle.client.specs.Copies.{drop-all}
 use Rattle.client.specs.Life.{reset, give-part}
@@ -25,7 +25,6 @@ use Rattle.steps.specs.Whole.{Address, client, whole}
 use Rattle.steps.specs.Laws.Stores.{client-of, client-else}
 use Rattle.steps.specs.Steps.{aborting}
 use Rattle.demand.specs.Ledger.{Ledger, clears, notes-op, notes-decision}
-use Rattle.demand.specs.Laws.Store.{sizes}
 use Rattle.demand.specs.Laws.Shows.{phase-of, T, Related}
 use Rattle.demand.specs.Laws.Kept.{away, begin-kept, give-kept}
 use Rattle.demand.specs.Laws.Forgotten.{loss-kept}
@@ -36,7 +35,7 @@ use Rattle.client.specs.Participants as K
 use Rattle.demand.specs.Laws.Committed as C
 
 -- words of phases before the decision
-early-word : (n : ℕ) → n < 3 → is-decided (phase-of n) ≡ false
+pub early-word : (n : ℕ) → n < 3 → is-decided (phase-of n) ≡ false
 unfolding phase-of
 early-word zero l = refl
 early-word (suc zero) l = refl
@@ -53,17 +52,17 @@ pub undecided-word : (x : ℕ) → eqb x 0 ≡ false → eqb x 3 ≡ false → x
 undecided-word x p q l = let a = eqb-false x 0 p in let b = eqb-false x 3 q in either x (omega arith) (omega arith)
 
 -- "op 1 insert .. 6 migrate": what was given is an operation that the store can do
-pub given-legal : (k j slots op key value server : ℕ) → key < two-to-64 → 1 ≤ op → op ≤ 7 → (op ≡ 6 → server < suc k) → Legal (sizes k j slots) (op-of op key value server)
-given-legal k j slots zero key value server h l r s = h
-given-legal k j slots (suc zero) key value server h l r s = h
-given-legal k j slots (suc (suc zero)) key value server h l r s = h
-given-legal k j slots (suc (suc (suc zero))) key value server h l r s = h
-given-legal k j slots (suc (suc (suc (suc zero)))) key value server h l r s = h
-given-legal k j slots (suc (suc (suc (suc (suc zero))))) key value server h l r s = h
-given-legal k j slots (suc (suc (suc (suc (suc (suc zero)))))) key value server h l r s = s (omega arith)
-given-legal k j slots (suc (suc (suc (suc (suc (suc (suc n))))))) key value server h l r s = h
+pub given-legal : (op key value server : ℕ) → key < two-to-64 → Legal (op-of op key value server)
+given-legal zero key value server h = h
+given-legal (suc zero) key value server h = h
+given-legal (suc (suc zero)) key value server h = h
+given-legal (suc (suc (suc zero))) key value server h = h
+given-legal (suc (suc (suc (suc zero)))) key value server h = h
+given-legal (suc (suc (suc (suc (suc zero))))) key value server h = h
+given-legal (suc (suc (suc (suc (suc (suc zero)))))) key value server h = tt
+given-legal (suc (suc (suc (suc (suc (suc (suc n))))))) key value server h = h
 
-module _ (k j slots : ℕ) (al : Allowed (sizes k j slots)) (few : suc j ≤ 16) (m : Address → ℕ) (L : Ledger) (M : P.Machine (T k j slots)) (c : Fin (suc j)) (R : Related k j slots m L M) where
+module _ (k j slots : ℕ) (al : slots ≤ 1024) (few : suc j ≤ 16) (m : Address → ℕ) (L : Ledger) (M : P.Machine (T k j slots)) (c : Fin (suc j)) (R : Related k j slots m L M) where
   abbrev u : ClientWord → ℕ
   u = client-of m (c .0)
 
@@ -86,7 +85,7 @@ module _ (k j slots : ℕ) (al : Allowed (sizes k j slots)) (few : suc j ≤ 16)
     others = others (reset 1 u);
   }
 
-  pub give-turns : (op key value server : ℕ) → u phase ≡ 1 → Legal (sizes k j slots) (op-of op key value server)
+  pub give-turns : (op key value server : ℕ) → u phase ≡ 1 → Legal (op-of op key value server)
       → Turns k j slots m (changed whole m (over (client (c .0)) (give-part op key value server u))) (notes-op L (c .0) (op-of op key value server)) M c
   give-turns op key value server e legal = record {
     machine = M;
@@ -106,23 +105,23 @@ module _ (k j slots : ℕ) (al : Allowed (sizes k j slots)) (few : suc j ≤ 16)
     others = others (drop-all u);
   }
 
-  module _ (fit : client-fits (sizes k j slots) u ≡ true) where
+  module _ (fit : client-fits slots u ≡ true) where
     -- commit, with participants and without
-    pub commit-turns : u phase ≡ 1 → ¬ (K.participants-of u (suc k) ≡ 0) → Turns k j slots m (changed whole m (over (client (c .0)) (K.committing (suc k) u))) L M c
-    commit-turns e some = record {
-      machine = C.M₁ k j slots al m L M c R fit e;
-      shows = C.commit-kept k j slots al m L M c R fit e some;
+    pub commit-turns : u phase ≡ 1 → servers-known u ≡ true → Mv.homed (T k j slots) (M .slots c .items) ≡ true → ¬ (K.participants-of u ≡ 0) → Turns k j slots m (changed whole m (over (client (c .0)) (K.committing u))) L M c
+    commit-turns e known homed some = record {
+      machine = C.M₁ k j slots al m L M c R fit e known homed;
+      shows = C.commit-kept k j slots al m L M c R fit e known homed some;
       values-same = refl;
       undecided = ap (λ (y : P.Slot (T k j slots)). is-decided (y .phase)) (upd-same (Fin-discrete (suc j)) (M .slots) c (Mv.committed-slot (T k j slots) (M .slots c)));
-      others = others (K.committing (suc k) u);
+      others = others (K.committing u);
     }
 
-    pub end-turns : u phase ≡ 1 → K.participants-of u (suc k) ≡ 0 → Turns k j slots m (changed whole m (over (client (c .0)) (reset 0 u))) (notes-decision L (c .0)) M c
-    end-turns e nobody = record {
-      machine = C.M₃ k j slots al m L M c R fit e nobody;
-      shows = C.commit-ends k j slots al m L M c R fit e nobody;
+    pub end-turns : u phase ≡ 1 → servers-known u ≡ true → Mv.homed (T k j slots) (M .slots c .items) ≡ true → K.participants-of u ≡ 0 → Turns k j slots m (changed whole m (over (client (c .0)) (reset 0 u))) (notes-decision L (c .0)) M c
+    end-turns e known homed nobody = record {
+      machine = C.M₃ k j slots al m L M c R fit e known homed nobody;
+      shows = C.commit-ends k j slots al m L M c R fit e known homed nobody;
       values-same = refl;
-      undecided = ap (λ (y : P.Slot (T k j slots)). is-decided (y .phase)) (upd-same (Fin-discrete (suc j)) (C.M₂ k j slots al m L M c R fit e nobody .slots) c (P.blank (T k j slots) idle));
+      undecided = ap (λ (y : P.Slot (T k j slots)). is-decided (y .phase)) (upd-same (Fin-discrete (suc j)) (C.M₂ k j slots al m L M c R fit e known homed nobody .slots) c (P.blank (T k j slots) idle));
       others = others (reset 0 u);
     }
 

@@ -1,5 +1,5 @@
 -- What one write of an apply does to each object that a server stores.
-use mathlib.Core.Path.{_≡_, refl, ap, sym, _∙_, subst, fun-ext}
+use mathlib.Core.Path.{_≡_, refl, ap, ap₂, sym, _∙_, subst, fun-ext}
 use mathlib.Core.Bool.{and-false, Bool, true, false, cond, false≢true}
 use mathlib.Core.List.{List, [], _∷_, _++_}
 use mathlib.Core.Logic.{_⊎_, inl, inr}
@@ -15,7 +15,7 @@ use Rattle.layout.specs.Laws.Space.{upd-apart, puts-apart, tab-puts-same}
 use Rattle.layout.specs.Laws.Step.{changed-append}
 use Rattle.operations.specs.Object.{Obj, meta, node, flag, Val, root, taken}
 use Rattle.server.specs.declared.place.Place.{Place}
-use Rattle.server.specs.declared.place.Place.the-variants.{Root, Version, MetadataLock, Vector, Node, FlagLock, Table, NodeLock}
+use Rattle.server.specs.declared.place.Place.the-variants.{Root, Version, States, MetadataLock, Vector, Node, FlagLock, Table, NodeLock}
 use Rattle.server.specs.Layout.{places}
 use Rattle.server.specs.Object.{named}
 use Rattle.server.specs.Store.{metadata-step, flag-step}
@@ -29,10 +29,11 @@ use Rattle.demand.specs.Laws.Shows.{value-at, version-at, table-at}
 use Rattle.demand.specs.Laws.Frame.{read-after, Only, only-append, only-other}
 use Rattle.nodes.specs.declared.node.Node as Record
 
--- which word a place is
-pub sort : Place → ℕ
+-- which word a place is; 0 for the metadata's
+unfoldable pub sort : Place → ℕ
 sort Root = 0
-sort Version = 1
+sort Version = 0
+sort States = 0
 sort MetadataLock = 2
 sort (Vector i) = 3
 sort (Node k i) = 4
@@ -43,6 +44,7 @@ sort (NodeLock s k) = 7
 slot-in : Place → ℕ
 slot-in Root = 0
 slot-in Version = 0
+slot-in States = 0
 slot-in MetadataLock = 0
 slot-in (Vector i) = i
 slot-in (Node k i) = k
@@ -53,12 +55,26 @@ slot-in (NodeLock s k) = 0
 word-in : Place → ℕ
 word-in Root = 0
 word-in Version = 0
+word-in States = 0
 word-in MetadataLock = 0
 word-in (Vector i) = 0
 word-in (Node k i) = i
 word-in (FlagLock k) = 0
 word-in (Table s k) = 0
 word-in (NodeLock s k) = 0
+
+-- the metadata's words are no locks
+pub unlocked : (a : Place) → sort a ≡ 0 → is-lock a ≡ false
+unfolding sort
+unlocked Root e = refl
+unlocked Version e = refl
+unlocked States e = refl
+unlocked MetadataLock e = absurd (omega (arith, e))
+unlocked (Vector i) e = refl
+unlocked (Node k i) e = refl
+unlocked (FlagLock k) e = absurd (omega (arith, e))
+unlocked (Table s k) e = refl
+unlocked (NodeLock s k) e = absurd (omega (arith, e))
 
 abbrev Same : ℕ → ℕ → Type 0
 Same a b = a ≡ b
@@ -89,15 +105,16 @@ node-puts n r = puts places (Node (n % 1024)) (words-of r)
 abbrev pub table-puts : ℕ → ℕ → List (Put Place)
 table-puts n version = put (Table (n / 1024) (n % 1024)) version ∷ []
 
--- h: the object is at home here; b: a node inner before or after; version: the one read plus 1; r: the node with it; first, t: the root's name, a flag
-module _ (k j slots : ℕ) (h b t : Bool) (version first : ℕ) (r : Record.Node) (w : Sized r) where
+-- h: the object is at home here; b: a node inner before or after; version: the one read plus 1; r: the node with it; first, second, t: the root's name,
+-- the servers' states, a flag
+module _ (k j slots : ℕ) (h b t : Bool) (version first second : ℕ) (r : Record.Node) (w : Sized r) where
   abbrev pub write-of : Obj → (Place → ℕ) → List (Put Place)
   write-of o q =
-      by-object o (metadata-step first version q) (λ n. cond h (node-puts n r) [] ++ cond b (table-puts n version) []) (λ n. cond h (flag-step (named n) t q) [])
+      by-object o (metadata-step first second version q) (λ n. cond h (node-puts n r) [] ++ cond b (table-puts n version) []) (λ n. cond h (flag-step (named n) t q) [])
 
   -- the places that it stores at
   unfoldable pub Touches : Obj → Place → Type 0
-  Touches meta a = (a ≡ Root) ⊎ (a ≡ Version)
+  Touches meta a = sort a ≡ 0
   Touches (node n) a = ((h ≡ true) × (i : ℕ) × (a ≡ Node (n % 1024) i)) ⊎ (a ≡ Table (n / 1024) (n % 1024))
   Touches (flag n) a = (h ≡ true) × (a ≡ Vector (n % 1024 / 64))
 
@@ -107,8 +124,8 @@ module _ (k j slots : ℕ) (h b t : Bool) (version first : ℕ) (r : Record.Node
   puts-touch n f (v ∷ vs) g = (g 0, puts-touch n (λ i. f (suc i)) vs (λ i. g (suc i)))
 
   only-touches : (o : Obj) (q : Place → ℕ) → Only places (λ a v. Touches o a) (write-of o q)
-  unfolding Only Touches metadata-step flag-step
-  only-touches meta q = (inl refl, (inr refl, tt))
+  unfolding Only Touches metadata-step flag-step sort
+  only-touches meta q = (refl, (refl, (refl, tt)))
   only-touches (node n) q = only-append places (λ a v. Touches (node n) a) (cond h (node-puts n r) []) (cond b (table-puts n version) []) (at-home h refl) (in-table b)
     where
       at-home : (x : Bool) → h ≡ x → Only places (λ a v. Touches (node n) a) (cond x (node-puts n r) [])
@@ -130,8 +147,7 @@ module _ (k j slots : ℕ) (h b t : Bool) (version first : ℕ) (r : Record.Node
 
   pub no-lock : (o : Obj) (a : Place) → is-lock a ≡ true → ¬ (Touches o a)
   unfolding Touches
-  no-lock meta a h (inl e) = absurd (false≢true (ap is-lock (sym e) ∙ h))
-  no-lock meta a h (inr e) = absurd (false≢true (ap is-lock (sym e) ∙ h))
+  no-lock meta a h e = absurd (false≢true (sym (unlocked a e) ∙ h))
   no-lock (node n) a h (inl e) = absurd (false≢true (ap is-lock (sym (e .2)) ∙ h))
   no-lock (node n) a h (inr e) = absurd (false≢true (ap is-lock (sym e) ∙ h))
   no-lock (flag n) a h e = absurd (false≢true (ap is-lock (sym (e .1)) ∙ h))
@@ -141,30 +157,20 @@ module _ (k j slots : ℕ) (h b t : Bool) (version first : ℕ) (r : Record.Node
     abbrev pub q′ : Obj → Place → ℕ
     q′ o = changed places q (write-of o q)
 
-    keeps-root : (o : Obj) → ¬ (o ≡ meta) → (a : Place) → (sort a ≡ 0) ⊎ (sort a ≡ 1) → q′ o a ≡ q a
+    keeps-root : (o : Obj) → ¬ (o ≡ meta) → (a : Place) → sort a ≡ 0 → q′ o a ≡ q a
     unfolding Touches sort
     keeps-root meta n a e = absurd (n refl)
-    keeps-root (node x) n a e = untouched (node x) q a (no e)
+    keeps-root (node x) n a e = untouched (node x) q a no
       where
-        no : (sort a ≡ 0) ⊎ (sort a ≡ 1) → ¬ (Touches (node x) a)
-        no (inl e) (inl g) = let z : sort a ≡ 4 = ap sort (g .2) in absurd (omega arith)
-        no (inl e) (inr g) = let z : sort a ≡ 6 = ap sort g in absurd (omega arith)
-        no (inr e) (inl g) = let z : sort a ≡ 4 = ap sort (g .2) in absurd (omega arith)
-        no (inr e) (inr g) = let z : sort a ≡ 6 = ap sort g in absurd (omega arith)
-    keeps-root (flag x) n a e = untouched (flag x) q a (no e)
-      where
-        no : (sort a ≡ 0) ⊎ (sort a ≡ 1) → ¬ (Touches (flag x) a)
-        no (inl e) g = let z : sort a ≡ 3 = ap sort (g .1) in absurd (omega arith)
-        no (inr e) g = let z : sort a ≡ 3 = ap sort (g .1) in absurd (omega arith)
+        no : ¬ (Touches (node x) a)
+        no (inl g) = let z : sort a ≡ 4 = ap sort (g .2) in absurd (omega (arith, e))
+        no (inr g) = let z : sort a ≡ 6 = ap sort g in absurd (omega (arith, e))
+    keeps-root (flag x) n a e = untouched (flag x) q a (λ g. let z : sort a ≡ 3 = ap sort (g .1) in absurd (omega (arith, e)))
 
     -- a node's words, where both are at home at one server
     keeps-node : (s n : ℕ) → n / 1024 ≡ s → (o : Obj) → ¬ (o ≡ node n) → ((x : ℕ) → o ≡ node x → h ≡ true → x / 1024 ≡ s) → (i : ℕ) → q′ o (Node (n % 1024) i) ≡ q (Node (n % 1024) i)
     unfolding Touches sort slot-in
-    keeps-node s n at meta d f i = untouched meta q (Node (n % 1024) i) no
-      where
-        no : ¬ (Touches meta (Node (n % 1024) i))
-        no (inl e) = let z : Same 4 0 = ap sort e in absurd (omega arith)
-        no (inr e) = let z : Same 4 1 = ap sort e in absurd (omega arith)
+    keeps-node s n at meta d f i = untouched meta q (Node (n % 1024) i) (λ e. let z : Same 4 0 = e in absurd (omega arith))
     keeps-node s n at (node x) d f i = untouched (node x) q (Node (n % 1024) i) no
       where
         no : ¬ (Touches (node x) (Node (n % 1024) i))
@@ -175,11 +181,7 @@ module _ (k j slots : ℕ) (h b t : Bool) (version first : ℕ) (r : Record.Node
     -- a table's entry
     keeps-table : (n : ℕ) (o : Obj) → ¬ (o ≡ node n) → q′ o (Table (n / 1024) (n % 1024)) ≡ q (Table (n / 1024) (n % 1024))
     unfolding Touches sort slot-in
-    keeps-table n meta d = untouched meta q (Table (n / 1024) (n % 1024)) no
-      where
-        no : ¬ (Touches meta (Table (n / 1024) (n % 1024)))
-        no (inl e) = let z : Same 6 0 = ap sort e in absurd (omega arith)
-        no (inr e) = let z : Same 6 1 = ap sort e in absurd (omega arith)
+    keeps-table n meta d = untouched meta q (Table (n / 1024) (n % 1024)) (λ e. let z : Same 6 0 = e in absurd (omega arith))
     keeps-table n (node x) d = untouched (node x) q (Table (n / 1024) (n % 1024)) no
       where
         no : ¬ (Touches (node x) (Table (n / 1024) (n % 1024)))
@@ -191,11 +193,7 @@ module _ (k j slots : ℕ) (h b t : Bool) (version first : ℕ) (r : Record.Node
     keeps-bit : (s n : ℕ) → n / 1024 ≡ s → (o : Obj) → ¬ (o ≡ flag n) → ((x : ℕ) → o ≡ flag x → h ≡ true → x / 1024 ≡ s)
         → bit (q′ o (Vector (n % 1024 / 64))) (n % 1024 % 64) ≡ bit (q (Vector (n % 1024 / 64))) (n % 1024 % 64)
     unfolding Touches sort changed flag-step slot-in
-    keeps-bit s n at meta d f = ap (λ (x : ℕ). bit x (n % 1024 % 64)) (untouched meta q (Vector (n % 1024 / 64)) no)
-      where
-        no : ¬ (Touches meta (Vector (n % 1024 / 64)))
-        no (inl e) = let z : Same 3 0 = ap sort e in absurd (omega arith)
-        no (inr e) = let z : Same 3 1 = ap sort e in absurd (omega arith)
+    keeps-bit s n at meta d f = ap (λ (x : ℕ). bit x (n % 1024 % 64)) (untouched meta q (Vector (n % 1024 / 64)) (λ e. let z : Same 3 0 = e in absurd (omega arith)))
     keeps-bit s n at (node x) d f = ap (λ (x : ℕ). bit x (n % 1024 % 64)) (untouched (node x) q (Vector (n % 1024 / 64)) no)
       where
         no : ¬ (Touches (node x) (Vector (n % 1024 / 64)))
@@ -230,7 +228,7 @@ module _ (k j slots : ℕ) (h b t : Bool) (version first : ℕ) (r : Record.Node
       other-value = go o x here d there
         where
           go : (o x : Obj) → At-home s o → ¬ (x ≡ o) → (h ≡ true → At-home s x) → value-at k j slots (q′ x) o ≡ value-at k j slots q o
-          go meta x at d f = ap root (keeps-root x d Root (inl refl))
+          go meta x at d f = ap₂ root (keeps-root x d Root refl) (keeps-root x d States refl)
           go (node n) x at d f =
               ap (λ (g : ℕ → ℕ). value-of (node n) (node-of (tab 33 g))) (fun-ext (keeps-node s n at x d (λ y e z. subst (At-home s) e (f z))))
           go (flag n) x at d f = ap taken (keeps-bit s n at x d (λ y e z. subst (At-home s) e (f z)))
@@ -240,14 +238,14 @@ module _ (k j slots : ℕ) (h b t : Bool) (version first : ℕ) (r : Record.Node
       other-version = go o x here d there
         where
           go : (o x : Obj) → At-home s o → ¬ (x ≡ o) → (h ≡ true → At-home s x) → version-at k j slots (q′ x) o ≡ version-at k j slots q o
-          go meta x at d f = keeps-root x d Version (inr refl)
+          go meta x at d f = keeps-root x d Version refl
           go (node n) x at d f =
               ap (λ (g : ℕ → ℕ). node-of (tab 33 g) .version) (fun-ext (keeps-node s n at x d (λ y e z. subst (At-home s) e (f z))))
           go (flag n) x at d f = refl
 
     pub other-table : (o x : Obj) → ¬ (x ≡ o) → table-at k j slots (q′ x) o ≡ table-at k j slots q o
     unfolding sort
-    other-table meta x d = keeps-root x d Version (inr refl)
+    other-table meta x d = keeps-root x d Version refl
     other-table (node n) x d = keeps-table n x d
     other-table (flag n) x d = refl
 
@@ -270,13 +268,17 @@ module _ (k j slots : ℕ) (h b t : Bool) (version first : ℕ) (r : Record.Node
                 nothing : (f : Place → ℕ) → changed places f [] (Node (n % 1024) i) ≡ f (Node (n % 1024) i)
                 nothing f = read-after places [] f (Node (n % 1024) i)
 
+    -- the metadata's words
+    abbrev meta-puts : List (Put Place)
+    meta-puts = put Root first ∷ put Version version ∷ put States second ∷ []
+
     -- the value that it gets
     abbrev pub given-value : Obj → Val
-    given-value o = by-object o (root first) (λ n. value-of (node n) r) (λ n. taken t)
+    given-value o = by-object o (root first second) (λ n. value-of (node n) r) (λ n. taken t)
 
     pub own-value : (o : Obj) → h ≡ true → value-at k j slots (q′ o) o ≡ given-value o
     unfolding metadata-step flag-step changed
-    own-value meta e = ap root (read-after places (put Root first ∷ put Version version ∷ []) q Root)
+    own-value meta e = ap₂ root (read-after places meta-puts q Root) (read-after places meta-puts q States)
     own-value (node n) e = ap (value-of (node n)) (own-node e n)
     own-value (flag n) e =
         ap (λ (y : Bool). taken (bit (changed places q (cond y (flag-step (named n) t q) []) (Vector (n % 1024 / 64))) (n % 1024 % 64))) e
@@ -288,7 +290,7 @@ module _ (k j slots : ℕ) (h b t : Bool) (version first : ℕ) (r : Record.Node
 
     pub own-version : (o : Obj) → h ≡ true → version-at k j slots (q′ o) o ≡ given-version o
     unfolding metadata-step
-    own-version meta e = read-after places (put Root first ∷ put Version version ∷ []) q Version
+    own-version meta e = read-after places meta-puts q Version
     own-version (node n) e = ap (λ (x : Record.Node). x .version) (own-node e n)
     own-version (flag n) e = refl
 
@@ -297,7 +299,7 @@ module _ (k j slots : ℕ) (h b t : Bool) (version first : ℕ) (r : Record.Node
 
     pub own-table : (o : Obj) → table-at k j slots (q′ o) o ≡ given-table o
     unfolding metadata-step Touches sort
-    own-table meta = read-after places (put Root first ∷ put Version version ∷ []) q Version
+    own-table meta = read-after places meta-puts q Version
     own-table (flag n) = refl
     own-table (node n) =
         ap (λ (f : Place → ℕ). f (Table (n / 1024) (n % 1024))) (changed-append places (cond h (node-puts n r) []) (cond b (table-puts n version) []) q)

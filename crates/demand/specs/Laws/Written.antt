@@ -1,6 +1,6 @@
 -- What all writes of an apply do to each object that a server stores.
 use mathlib.Core.Path.{_≡_, refl, ap, sym, _∙_, subst}
-use mathlib.Core.Bool.{Bool, true, false, cond, _&&_, true≢false}
+use mathlib.Core.Bool.{Bool, true, false, cond, true≢false}
 use mathlib.Core.List.{List, [], _++_}
 use mathlib.Core.Logic.{_⊎_, inl, inr}
 use Prim.Native.Nat.{ℕ, zero, suc, _-_, _≤_, _<_, Fin}
@@ -18,7 +18,6 @@ use Rattle.nodes.specs.Node.{extra, keysOf, slotsOf, made, free-node}
 use Rattle.nodes.specs.Range.{node-in-range}
 use Rattle.nodes.specs.Laws.Range.{range-cases}
 use Rattle.operations.specs.Object.{Obj, meta, node, flag}
-use Rattle.operations.specs.Slot.{Allowed}
 use Rattle.server.specs.declared.place.Place.{Place}
 use Rattle.server.specs.Layout.{places}
 use Rattle.server.specs.Object.{named}
@@ -26,13 +25,14 @@ use Rattle.server.specs.Store.{metadata-step, flag-step, kept-of, home-step, ta
 use Rattle.client.specs.declared.part.Set.the-variants.{Writes}
 use Rattle.client.specs.Layout.{ClientWord}
 use Rattle.nodes.specs.Laws.Stored.{Sized}
-use Rattle.client.specs.Record.{number, by-number, first-slot, value-of, in-store, record-in-range, last-version}
+use Rattle.nodes.specs.States.{metadata-fits}
+use Rattle.client.specs.Record.{number, by-number, first-slot, second-slot, value-of, record-in-range}
 use Rattle.client.specs.Sets.{count, record-at, number-at, find}
 use Rattle.client.specs.Participants.{at-home}
 use Rattle.client.specs.Drops.{next-version}
 use Rattle.steps.specs.Steps.{store-write, store-all}
 use Rattle.steps.specs.Laws.Writes.{kept-sized}
-use Rattle.demand.specs.Laws.Store.{sizes, keeps, by-value}
+use Rattle.demand.specs.Laws.Store.{keeps, by-value}
 use Rattle.demand.specs.Laws.Numbers.{by-object, obj-of, number-obj, obj-number}
 use Rattle.demand.specs.Laws.Shows.{T, In-store, value-at, version-at, table-at, Slot-shown}
 use Rattle.demand.specs.Laws.Held.{absent≢at, at-same, found-at}
@@ -104,7 +104,7 @@ kept-value r v n h = go (range-cases r h)
     go (inr (inl (k, l))) = rw k
     go (inr (inr (k, l, m))) = rw k
 
-module _ (k j slots : ℕ) (al : Allowed (sizes k j slots)) (u : ClientWord → ℕ) (y : P.Slot (T k j slots)) (shown : Slot-shown k j slots u y) (s : Fin (suc k)) where
+module _ (k j slots : ℕ) (al : slots ≤ 1024) (u : ClientWord → ℕ) (y : P.Slot (T k j slots)) (shown : Slot-shown k j slots u y) (s : Fin 8) where
   -- write i
   abbrev x : ℕ → ℕ
   x i = number-at u Writes i
@@ -130,8 +130,11 @@ module _ (k j slots : ℕ) (al : Allowed (sizes k j slots)) (u : ClientWord → 
   abbrev A : ℕ → ℕ
   A i = first-slot (r i)
 
+  abbrev C : ℕ → ℕ
+  C i = second-slot (r i)
+
   abbrev write : ℕ → (Place → ℕ) → List (Put Place)
-  write i = W.write-of k j slots (H i) (B i) (F i) (Next i) (A i) (stored-node u i) (record-whole u i) (o i)
+  write i = W.write-of k j slots (H i) (B i) (F i) (Next i) (A i) (C i) (stored-node u i) (record-whole u i) (o i)
 
   at-home-obj : (i : ℕ) → H i ≡ by-object (o i) true (λ n. eqb (N.server-of n) (s .0)) (λ n. eqb (N.server-of n) (s .0))
   unfolding at-home
@@ -142,8 +145,8 @@ module _ (k j slots : ℕ) (al : Allowed (sizes k j slots)) (u : ClientWord → 
   write-is i q = by-obj (x i) _ _ _ ∙ go (o i) (at-home-obj i)
     where
       go : (v : Obj) → H i ≡ by-object v true (λ n. eqb (N.server-of n) (s .0)) (λ n. eqb (N.server-of n) (s .0))
-          → by-object v (metadata-step (A i) (Next i) q) (λ n. node-step (s .0) (named n) (r i) (Next i) (B i) q) (λ n. cond (H i) (flag-step (named n) (F i) q) [])
-          ≡ W.write-of k j slots (H i) (B i) (F i) (Next i) (A i) (stored-node u i) (record-whole u i) v q
+          → by-object v (metadata-step (A i) (C i) (Next i) q) (λ n. node-step (s .0) (named n) (r i) (Next i) (B i) q) (λ n. cond (H i) (flag-step (named n) (F i) q) [])
+          ≡ W.write-of k j slots (H i) (B i) (F i) (Next i) (A i) (C i) (stored-node u i) (record-whole u i) v q
       go meta e = refl
       go (node n) e = ap (λ (b : Bool). cond b (W.node-puts n (stored-node u i)) [] ++ cond (B i) (W.table-puts n (Next i)) []) (sym e)
       go (flag n) e = refl
@@ -182,7 +185,7 @@ module _ (k j slots : ℕ) (al : Allowed (sizes k j slots)) (u : ClientWord → 
       number-is = found-at u Writes (number q) w e .1
 
       it-is : o w ≡ q
-      it-is = ap obj-of number-is ∙ obj-number (sizes k j slots) al q hi
+      it-is = ap obj-of number-is ∙ obj-number slots al q hi
 
     abbrev p₁ : (Place → ℕ) → Place → ℕ
     p₁ p = changed places p (store-all u (s .0) p)
@@ -197,28 +200,28 @@ module _ (k j slots : ℕ) (al : Allowed (sizes k j slots)) (u : ClientWord → 
       pub value-none : find u Writes (number q) ≡ Absent → value-at k j slots (p₁ p) q ≡ value-at k j slots p q
       value-none e =
           seen-none (λ f. value-at k j slots f q) (store-write u (s .0)) p (count u Writes)
-          (λ i l. other-of (λ f. value-at k j slots f q) i (λ f. W.other-value k j slots (H i) (B i) (F i) (Next i) (A i) (stored-node u i) (record-whole u i) f (s .0) q (o i) (kept-here q hi kept) (none-of e i l) (homed i)))
+          (λ i l. other-of (λ f. value-at k j slots f q) i (λ f. W.other-value k j slots (H i) (B i) (F i) (Next i) (A i) (C i) (stored-node u i) (record-whole u i) f (s .0) q (o i) (kept-here q hi kept) (none-of e i l) (homed i)))
 
       pub version-none : find u Writes (number q) ≡ Absent → version-at k j slots (p₁ p) q ≡ version-at k j slots p q
       version-none e =
           seen-none (λ f. version-at k j slots f q) (store-write u (s .0)) p (count u Writes)
-          (λ i l. other-of (λ f. version-at k j slots f q) i (λ f. W.other-version k j slots (H i) (B i) (F i) (Next i) (A i) (stored-node u i) (record-whole u i) f (s .0) q (o i) (kept-here q hi kept) (none-of e i l) (homed i)))
+          (λ i l. other-of (λ f. version-at k j slots f q) i (λ f. W.other-version k j slots (H i) (B i) (F i) (Next i) (A i) (C i) (stored-node u i) (record-whole u i) f (s .0) q (o i) (kept-here q hi kept) (none-of e i l) (homed i)))
 
       module _ (w : ℕ) (e : find u Writes (number q) ≡ At w) where
         home-here : at-home (s .0) (x w) ≡ true
         home-here = ap (at-home (s .0)) (number-is w e) ∙ sym (kept-home k j slots al s q hi) ∙ kept
 
-        pub value-one : record-in-range (sizes k j slots) (x w) (r w) ≡ true → value-at k j slots (p₁ p) q ≡ value-of q (r w)
+        pub value-one : record-in-range slots (x w) (r w) ≡ true → value-at k j slots (p₁ p) q ≡ value-of q (r w)
         unfolding record-in-range
         value-one ok =
             seen-one (λ f. value-at k j slots f q) (store-write u (s .0)) p (λ _. value-of q (r w)) (count u Writes) w (within w e)
-            (λ i l d. other-of (λ f. value-at k j slots f q) i (λ f. W.other-value k j slots (H i) (B i) (F i) (Next i) (A i) (stored-node u i) (record-whole u i) f (s .0) q (o i) (kept-here q hi kept) (others-of w e i l d) (homed i)))
+            (λ i l d. other-of (λ f. value-at k j slots f q) i (λ f. W.other-value k j slots (H i) (B i) (F i) (Next i) (A i) (C i) (stored-node u i) (record-whole u i) f (s .0) q (o i) (kept-here q hi kept) (others-of w e i l d) (homed i)))
             (λ f. ap (λ (ps : List (Put Place)). value-at k j slots (changed places f ps) q) (write-is w f)
             ∙ subst (λ (z : Obj). value-at k j slots (changed places f (write w f)) z ≡ value-of z (r w)) (it-is w e)
-            (W.own-value k j slots (H w) (B w) (F w) (Next w) (A w) (stored-node u w) (record-whole u w) f (o w) home-here ∙ same (o w) (sym (by-obj (x w) _ _ _) ∙ ok)))
+            (W.own-value k j slots (H w) (B w) (F w) (Next w) (A w) (C w) (stored-node u w) (record-whole u w) f (o w) home-here ∙ same (o w) (sym (by-obj (x w) _ _ _) ∙ ok)))
           where
-            same : (z : Obj) → by-object z (in-store (sizes k j slots) (A w) && leb (r w .version) last-version) (λ n. node-in-range (r w)) (λ n. leb (A w) 1) ≡ true
-                → W.given-value k j slots (H w) (B w) (F w) (Next w) (A w) (stored-node u w) (record-whole u w) p z ≡ value-of z (r w)
+            same : (z : Obj) → by-object z (metadata-fits slots (A w) (C w) (r w .version)) (λ n. node-in-range (r w)) (λ n. leb (A w) 1) ≡ true
+                → W.given-value k j slots (H w) (B w) (F w) (Next w) (A w) (C w) (stored-node u w) (record-whole u w) p z ≡ value-of z (r w)
             same meta e = refl
             same (node n) e = kept-value (r w) (Next w) n e
             same (flag n) e = refl
@@ -226,13 +229,13 @@ module _ (k j slots : ℕ) (al : Allowed (sizes k j slots)) (u : ClientWord → 
         pub version-one : by-value k j slots q ≡ false → version-at k j slots (p₁ p) q ≡ next-version u (x w)
         version-one nf =
             seen-one (λ f. version-at k j slots f q) (store-write u (s .0)) p (λ _. next-version u (x w)) (count u Writes) w (within w e)
-            (λ i l d. other-of (λ f. version-at k j slots f q) i (λ f. W.other-version k j slots (H i) (B i) (F i) (Next i) (A i) (stored-node u i) (record-whole u i) f (s .0) q (o i) (kept-here q hi kept) (others-of w e i l d) (homed i)))
+            (λ i l d. other-of (λ f. version-at k j slots f q) i (λ f. W.other-version k j slots (H i) (B i) (F i) (Next i) (A i) (C i) (stored-node u i) (record-whole u i) f (s .0) q (o i) (kept-here q hi kept) (others-of w e i l d) (homed i)))
             (λ f. ap (λ (ps : List (Put Place)). version-at k j slots (changed places f ps) q) (write-is w f)
             ∙ subst (λ (z : Obj). by-value k j slots z ≡ false → version-at k j slots (changed places f (write w f)) z ≡ next-version u (x w)) (it-is w e)
-            (λ g. W.own-version k j slots (H w) (B w) (F w) (Next w) (A w) (stored-node u w) (record-whole u w) f (o w) home-here ∙ same (o w) g) nf)
+            (λ g. W.own-version k j slots (H w) (B w) (F w) (Next w) (A w) (C w) (stored-node u w) (record-whole u w) f (o w) home-here ∙ same (o w) g) nf)
           where
             same : (z : Obj) → by-value k j slots z ≡ false
-                → W.given-version k j slots (H w) (B w) (F w) (Next w) (A w) (stored-node u w) (record-whole u w) p z ≡ next-version u (x w)
+                → W.given-version k j slots (H w) (B w) (F w) (Next w) (A w) (C w) (stored-node u w) (record-whole u w) p z ≡ next-version u (x w)
             same meta g = refl
             same (node n) g = kept-version (r w) (Next w)
             same (flag n) g = absurd (true≢false g)
@@ -242,31 +245,31 @@ module _ (k j slots : ℕ) (al : Allowed (sizes k j slots)) (u : ClientWord → 
       pub table-none : find u Writes (number q) ≡ Absent → table-at k j slots (p₁ p) q ≡ table-at k j slots p q
       table-none e =
           seen-none (λ f. table-at k j slots f q) (store-write u (s .0)) p (count u Writes)
-          (λ i l. other-of (λ f. table-at k j slots f q) i (λ f. W.other-table k j slots (H i) (B i) (F i) (Next i) (A i) (stored-node u i) (record-whole u i) f q (o i) (none-of e i l)))
+          (λ i l. other-of (λ f. table-at k j slots f q) i (λ f. W.other-table k j slots (H i) (B i) (F i) (Next i) (A i) (C i) (stored-node u i) (record-whole u i) f q (o i) (none-of e i l)))
 
       pub table-one : (w : ℕ) (e : find u Writes (number q) ≡ At w) → by-value k j slots q ≡ false → (q ≡ meta → B w ≡ true)
           → table-at k j slots (p₁ p) q ≡ cond (B w) (Next w) (table-at k j slots p q)
       table-one w e nf m =
           seen-one (λ f. table-at k j slots f q) (store-write u (s .0)) p (λ a. cond (B w) (Next w) a) (count u Writes) w (within w e)
-          (λ i l d. other-of (λ f. table-at k j slots f q) i (λ f. W.other-table k j slots (H i) (B i) (F i) (Next i) (A i) (stored-node u i) (record-whole u i) f q (o i) (others-of w e i l d)))
+          (λ i l d. other-of (λ f. table-at k j slots f q) i (λ f. W.other-table k j slots (H i) (B i) (F i) (Next i) (A i) (C i) (stored-node u i) (record-whole u i) f q (o i) (others-of w e i l d)))
           (λ f. ap (λ (ps : List (Put Place)). table-at k j slots (changed places f ps) q) (write-is w f)
           ∙ subst (λ (z : Obj). by-value k j slots z ≡ false → (z ≡ meta → B w ≡ true)
           → table-at k j slots (changed places f (write w f)) z ≡ cond (B w) (Next w) (table-at k j slots f z))
-          (it-is w e) (λ g n. W.own-table k j slots (H w) (B w) (F w) (Next w) (A w) (stored-node u w) (record-whole u w) f (o w) ∙ same f (o w) g n) nf m)
+          (it-is w e) (λ g n. W.own-table k j slots (H w) (B w) (F w) (Next w) (A w) (C w) (stored-node u w) (record-whole u w) f (o w) ∙ same f (o w) g n) nf m)
         where
           same : (f : Place → ℕ) (z : Obj) → by-value k j slots z ≡ false → (z ≡ meta → B w ≡ true)
-              → W.given-table k j slots (H w) (B w) (F w) (Next w) (A w) (stored-node u w) (record-whole u w) f z ≡ cond (B w) (Next w) (table-at k j slots f z)
+              → W.given-table k j slots (H w) (B w) (F w) (Next w) (A w) (C w) (stored-node u w) (record-whole u w) f z ≡ cond (B w) (Next w) (table-at k j slots f z)
           same f meta g n = sym (ap (λ (b : Bool). cond b (Next w) (table-at k j slots f meta)) (n refl))
           same f (node n) g m = refl
           same f (flag n) g m = absurd (true≢false g)
 
 -- locks are no part of it
-module _ (k j slots : ℕ) (al : Allowed (sizes k j slots)) (u : ClientWord → ℕ) (y : P.Slot (T k j slots)) (shown : Slot-shown k j slots u y) (s : Fin (suc k)) (p : Place → ℕ) where
+module _ (k j slots : ℕ) (al : slots ≤ 1024) (u : ClientWord → ℕ) (y : P.Slot (T k j slots)) (shown : Slot-shown k j slots u y) (s : Fin 8) (p : Place → ℕ) where
   pub locks-stay : (a : Place) → is-lock a ≡ true → changed places p (store-all u (s .0) p) a ≡ p a
   locks-stay a h =
       seen-none (λ f. f a) (store-write u (s .0)) p (count u Writes)
       (λ i l f. ap (λ (ps : List (Put Place)). changed places f ps a) (write-is k j slots al u y shown s i f)
       ∙ W.untouched k j slots (H k j slots al u y shown s i) (B k j slots al u y shown s i) (F k j slots al u y shown s i) (Next k j slots al u y shown s i)
-      (A k j slots al u y shown s i) (stored-node u i) (record-whole u i) (o k j slots al u y shown s i) f a
+      (A k j slots al u y shown s i) (C k j slots al u y shown s i) (stored-node u i) (record-whole u i) (o k j slots al u y shown s i) f a
       (W.no-lock k j slots (H k j slots al u y shown s i) (B k j slots al u y shown s i) (F k j slots al u y shown s i) (Next k j slots al u y shown s i)
-      (A k j slots al u y shown s i) (stored-node u i) (record-whole u i) (o k j slots al u y shown s i) a h))
+      (A k j slots al u y shown s i) (C k j slots al u y shown s i) (stored-node u i) (record-whole u i) (o k j slots al u y shown s i) a h))

@@ -7,15 +7,16 @@ use native.Mathlib.Decide.{ℕ-discrete, decLt}
 use native.Mathlib.Omega.{arith}
 use lib.ListN.{length}
 use Rattle.operations.specs.Object.{Ans}
-use Rattle.operations.specs.Map.{insert, lookup}
+use Rattle.operations.specs.Map.{Map, insert, lookup}
 use Rattle.server.specs.declared.place.Place.the-variants.{Root}
 use Rattle.steps.specs.declared.step.Step.{Step}
 use Rattle.steps.specs.Outcome as Outcome
 use Rattle.steps.specs.Whole.{Address, server, Allowed}
+use Rattle.steps.specs.Servers.{there}
 use Rattle.steps.specs.Run.{opened}
 use Rattle.steps.specs.Taken.{Engine, Taken}
 use Rattle.demand.specs.Ledger.{decided-in, map-all, Right-all}
-use Rattle.demand.specs.Demand.{pairs-under, Demand, Meets-demand-3}
+use Rattle.demand.specs.Demand.{pairs-under, Tree, Demand, Meets-demand-3}
 use Rattle.demand.specs.Wrong.{finds-none, feigns-later, Shut-out}
 use Rattle.demand.specs.Laws.Example.{taken-by, memory-by, all-small?, unlisted?, leads-there, computes, sizes, line, every-apply, all-apply, inserted}
 
@@ -56,7 +57,7 @@ abbrev between : Address → ℕ
 between = memory-by feigns-later sizes (opened sizes) (steps 1 6 60)
 
 abbrev after-all : Address → ℕ
-after-all = memory-by feigns-later sizes between every-apply
+after-all = memory-by feigns-later sizes (opened sizes) (steps 1 6 60 ++ every-apply)
 
 both-answered : decided-in before-applies ≡ (record { op = insert 6 60; ans = (1, 0, []) } ∷ inserted ∷ []) ∷ []
 unfolding computes Outcome.line
@@ -66,18 +67,26 @@ one-there : (after-all (server 0 Root) ≡ 0) × (pairs-under after-all 0 ≡ (5
 unfolding computes Outcome.line
 one-there = (refl, refl)
 
+there-still : there after-all 0 ≡ true
+unfolding computes Outcome.line
+there-still = refl
+
 unlisted-both : unlisted? feigns-later sizes (opened sizes) (steps 1 6 60 ++ every-apply) ≡ true
 unfolding computes Outcome.line
 unlisted-both = refl
 
+-- a tree of one pair is none of two
+one-not-two : (m : Address → ℕ) (pairs : Map) → Tree m pairs → there m 0 ≡ true → m (server 0 Root) ≡ 0 → pairs-under m 0 ≡ (5, 70) ∷ [] → length pairs ≡ 2 → ⊥
+one-not-two m pairs tree here root one two =
+    let n : 1 ≡ length pairs = ap length (sym one ∙ ap (pairs-under m) (sym (sym (tree .named 0 (omega arith) here) ∙ root)) ∙ tree .holds) in
+    omega (arith, n, two)
+
 feigning-later : ¬ Meets-demand-3 feigns-later
 unfolding ℕ-discrete decLt
 feigning-later claim =
-    let tree = met feigns-later claim (steps 1 6 60 ++ every-apply) refl unlisted-both .tree before-applies (taken-by feigns-later sizes between every-apply) refl all-apply in
-    let root : tree .root ≡ 0 = sym (tree .named 0 (omega arith)) ∙ one-there .0 in
-    let two : (5, 70) ∷ [] ≡ map-all (decided-in before-applies) = sym (one-there .1) ∙ ap (pairs-under after-all) (sym root) ∙ tree .holds in
-    let n : _≡_ {A = ℕ} 1 2 = ap length (two ∙ ap map-all both-answered) in
-    omega arith
+    one-not-two after-all (map-all (decided-in before-applies))
+    (met feigns-later claim (steps 1 6 60 ++ every-apply) refl unlisted-both .tree before-applies (taken-by feigns-later sizes between every-apply) refl all-apply)
+    there-still (one-there .0) (one-there .1) (ap (λ l. length (map-all l)) both-answered)
 
 pub shut-out : Shut-out
 shut-out = record { finding-none = finding-none; feigning-later = feigning-later }

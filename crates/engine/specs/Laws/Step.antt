@@ -5,8 +5,8 @@ use mathlib.Core.List.{List, []}
 use Prim.Native.Nat.{ℕ, zero, suc, _*_, _/_, _≤_, _<_}
 use native.Mathlib.Omega.{arith}
 use native.Mathlib.Decide.{decLt}
-use borrow.Author.Tests.{ne-eqb, eqb-false, not-true, lt-ltb, le-ltb, ltb-false}
-use lib.Dec.{eqb, ltb}
+use borrow.Author.Tests.{ne-eqb, eqb-false, not-true, lt-ltb, le-ltb, ltb-false, leb-true}
+use lib.Dec.{eqb, leb, ltb}
 use lib.ListN.{length}
 use Rattle.memory.specs.Word.{view}
 use Rattle.base.specs.Test.{and-both}
@@ -16,15 +16,18 @@ use Rattle.client.specs.Layout.{ClientWord, phase, op-number, op-value}
 use Rattle.steps.specs.declared.sizes.Sizes.{Sizes}
 use Rattle.steps.specs.declared.step.Step.{Step}
 use Rattle.steps.specs.declared.step.Kind.{Kind}
-use Rattle.steps.specs.declared.step.Kind.the-variants.{Begin, Give, Work, Commit, Prepare, Apply, GiveUp, Lost, Unknown}
+use Rattle.steps.specs.declared.step.Kind.the-variants.{Begin, Give, Work, Commit, Prepare, Apply, GiveUp, Lost, Servers, Unknown}
+use Rattle.steps.specs.declared.step.ServerChange.{ServerChange}
+use Rattle.steps.specs.declared.step.ServerChange.the-variants.{Add, Close, Remove}
 use Rattle.steps.specs.declared.outcome.Outcome.{Outcome}
 use Rattle.steps.specs.declared.outcome.Outcome.the-variants.{Refused}
 use Rattle.steps.specs.Whole.{Address, client, whole, block}
 use Rattle.steps.specs.Refusal.{kind-of, state-fits, open-refusal, refusal}
+use Rattle.steps.specs.Servers.{version-ends}
 use Rattle.steps.specs.Passed.{Passed}
 use Rattle.steps.specs.Laws.Passed.{passed}
 use Rattle.steps.specs.Output.{with-pairs}
-use Rattle.steps.specs.Steps.{Did, refuse, begin, give, work, commit, prepare, apply, abort, lose, by-kind, by-rule, short-output, lacks-room, step}
+use Rattle.steps.specs.Steps.{Did, refuse, begin, give, work, commit, prepare, apply, abort, lose, change-servers, by-kind, by-rule, short-output, lacks-room, step}
 use Rattle.steps.specs.Laws.Unlisted.{works?, kind-unlisted}
 use Rattle.kinds.specs.Parts.{head-sizes, stored-in}
 use Rattle.kinds.specs.Judge.{of-client}
@@ -63,11 +66,14 @@ module _ (z : Sizes) (c : ℕ) (k : Step) (x : Kind) (w : List ℕ) (o : Outcome
   pub is-lost : x ≡ Lost → Meets z (λ m. lose z m c) w o w′ → Meets z (rule-of z c k x) w o w′
   is-lost q h = of-kind Lost q h
 
+  pub is-change : (y : ServerChange) → x ≡ Servers y → Meets z (λ m. change-servers z m y (k .server)) w o w′ → Meets z (rule-of z c k x) w o w′
+  is-change y q h = of-kind (Servers y) q h
+
   pub is-none : x ≡ Unknown → o ≡ Refused 4 → w′ ≡ w → Meets z (rule-of z c k x) w o w′
   unfolding stepped stored
   is-none q p r = of-kind Unknown q (record { answer = p; words = r })
 
-pub ruleset kinds = (is-begin, is-give, is-work, is-commit, is-prepare, is-apply, is-give-up, is-lost, is-none)
+pub ruleset kinds = (is-begin, is-give, is-work, is-commit, is-prepare, is-apply, is-give-up, is-lost, is-change, is-none)
 
 -- the number of a kind
 abbrev number-of : Kind → ℕ
@@ -79,9 +85,12 @@ number-of Prepare = 4
 number-of Apply = 5
 number-of GiveUp = 6
 number-of Lost = 7
-number-of Unknown = 8
+number-of (Servers Add) = 8
+number-of (Servers Close) = 9
+number-of (Servers Remove) = 10
+number-of Unknown = 11
 
-numbered : (n : ℕ) → n ≤ 7 → n ≡ number-of (kind-of n)
+numbered : (n : ℕ) → n ≤ 10 → n ≡ number-of (kind-of n)
 unfolding kind-of
 numbered zero l = refl
 numbered (suc zero) l = refl
@@ -91,30 +100,50 @@ numbered (suc (suc (suc (suc zero)))) l = refl
 numbered (suc (suc (suc (suc (suc zero))))) l = refl
 numbered (suc (suc (suc (suc (suc (suc zero)))))) l = refl
 numbered (suc (suc (suc (suc (suc (suc (suc zero))))))) l = refl
-numbered (suc (suc (suc (suc (suc (suc (suc (suc n)))))))) l = absurd (omega arith)
+numbered (suc (suc (suc (suc (suc (suc (suc (suc zero)))))))) l = refl
+numbered (suc (suc (suc (suc (suc (suc (suc (suc (suc zero))))))))) l = refl
+numbered (suc (suc (suc (suc (suc (suc (suc (suc (suc (suc zero)))))))))) l = refl
+numbered (suc (suc (suc (suc (suc (suc (suc (suc (suc (suc (suc n))))))))))) l = absurd (omega arith)
+
+-- a change of the servers has a number from 8 on
+changes-last : (y : ServerChange) → 8 ≤ number-of (Servers y)
+changes-last Add = omega arith
+changes-last Close = omega arith
+changes-last Remove = omega arith
 
 -- what the kinds' functions ask for
-module _ (z : Sizes) (c : ℕ) (k : Step) (m : Address → ℕ) (e : c ≡ k .client) (h : Passed z k m) where
-  pub known-client : c < z .clients
-  known-client = rw e (h .known-client)
+module _ (z : Sizes) (c : ℕ) (k : Step) (w : List ℕ) (e : c ≡ k .client) (h : Passed z k (stored-in z w)) (x : Kind) (ek : x ≡ kind-of (k .kind)) where
+  number-is : (y : Kind) → x ≡ y → k .kind ≡ number-of y
+  number-is y q = numbered (k .kind) (h .known-kind) ∙ ap number-of (sym ek ∙ q)
 
-  module _ (x : Kind) (ek : x ≡ kind-of (k .kind)) where
-    pub at-prepare : x ≡ Prepare → k .server < z .servers
-    at-prepare q = let r : k .kind ≡ 4 = numbered (k .kind) (h .known-kind) ∙ ap number-of (sym ek ∙ q) in h .known-participant (omega arith) (omega arith)
+  -- any other kind has a client
+  pub known-client : (y : Kind) → leb (number-of y) 7 ≡ true → x ≡ y → c < z .clients
+  known-client y l q = rw e (h .known-client (rw (number-is y q) (leb-true (number-of y) 7 l)))
 
-    pub at-apply : x ≡ Apply → k .server < z .servers
-    at-apply q = let r : k .kind ≡ 5 = numbered (k .kind) (h .known-kind) ∙ ap number-of (sym ek ∙ q) in h .known-participant (omega arith) (omega arith)
+  pub at-prepare : x ≡ Prepare → k .server < 8
+  at-prepare q = let r = number-is Prepare q in h .known-participant (omega arith) (omega arith)
+
+  pub at-apply : x ≡ Apply → k .server < 8
+  at-apply q = let r = number-is Apply q in h .known-participant (omega arith) (omega arith)
+
+  pub at-change : (y : ServerChange) → x ≡ Servers y → k .server < 8
+  at-change y q = h .known-changed (rw (number-is (Servers y) q) (changes-last y))
+
+  pub change-rises : (y : ServerChange) → x ≡ Servers y → version-ends (stored-in z w) ≡ false
+  change-rises y q = h .rising (rw (number-is (Servers y) q) (changes-last y))
+
+pub ruleset asked = (known-client, at-prepare, at-apply, at-change, change-rises)
 
 -- a work step has an operation that waits
 pub at-work : (z : Sizes) (c : ℕ) (k : Step) (w : List ℕ) (x : Kind) → x ≡ Work → c ≡ k .client → x ≡ kind-of (k .kind) → Passed z k (stored-in z w) → of-client z w c op-number ≡ 0 → ⊥
 unfolding state-fits
 at-work z c k w x q e ek h p =
     let m = of-client z w (k .client) in
-    let g : state-fits m (k .server) Work ≡ true = subst (λ (y : Kind). state-fits m (k .server) y ≡ true) (sym ek ∙ q) (h .fitting) in
+    let g : state-fits m (k .server) Work ≡ true = subst (λ (y : Kind). state-fits m (k .server) y ≡ true) (sym ek ∙ q) (h .fitting (omega (arith, number-is z c k w e h x ek Work q))) in
     let n : not (eqb (m op-number) 0) ≡ true = and-both (eqb (m phase) 1) (not (eqb (m op-number) 0)) g .1 in
     eqb-false (m op-number) 0 (not-true (eqb (m op-number) 0) n) (subst (λ (d : ℕ). of-client z w d op-number ≡ 0) e p)
 
--- ---- refusals 4 to 9, 11 and 12, then the rule
+-- ---- refusals 4 to 9 and 11 to 15, then the rule
 module _ (z : Sizes) (k : Step) (room : ℕ) (m : Address → ℕ) (r : ℕ) (e : r ≡ refusal z k m) where
   refused-is : (r ≡ 0 → ⊥) → step z k room m ≡ refuse r
   unfolding step by-rule lacks-room
@@ -142,8 +171,8 @@ module _ (z : Sizes) (k : Step) (b : List ℕ) (r : ℕ) (e : r ≡ refusal z k 
   pub passes : r ≡ 0 → Passed z k m
   passes q = passed z k m (sym e ∙ q)
 
-  pub client-there : (c : ℕ) → r ≡ 0 → c ≡ k .client → c < z .clients
-  client-there c q ec = rw ec (passes q .known-client)
+  pub client-there : (c : ℕ) → r ≡ 0 → c ≡ k .client → k .kind ≡ 2 → c < z .clients
+  client-there c q ec work = rw ec (passes q .known-client (omega arith))
 
   module _ (c : ℕ) (ec : c ≡ k .client) (none : r ≡ 0) (d : Bool) (ed : d ≡ short-output (k .kind) (length out) (of-client z (view b) c)) where
     short-so : (t : Bool) → d ≡ t → short-output (k .kind) (length out) (λ a. m (client (k .client) a)) ≡ t
@@ -159,7 +188,10 @@ module _ (z : Sizes) (k : Step) (b : List ℕ) (r : ℕ) (e : r ≡ refusal z k 
         let p : step z k (length out) m ≡ rule-of z c k x m = ruled-is z k (length out) m r e none (short-so false q) ∙ sym (rw (ec, ek)) in
         (meets-as z (view b) o w′ (rule-of z c k x) (step z k (length out)) (sym p) h, rw p g)
 
--- ---- 12, as the code asks for it
+-- ---- 12, as the code asks for it: a step of any other kind may have no client
+pub work-client : (kind c n : ℕ) → (kind ≡ 2 → c < n) → kind ≡ 2 → c < n
+work-client kind c n h = h
+
 module _ (kind room : ℕ) (m : ClientWord → ℕ) where
   pub not-work : (kind ≡ 2 → ⊥) → false ≡ short-output kind room m
   not-work n = sym (rw (ne-eqb kind 2 n))
@@ -189,6 +221,9 @@ module _ (z : Sizes) (c : ℕ) (k : Step) (x : Kind) (b out : List ℕ) where
   pub kind-leaves : (y : Kind) → works? y ≡ false → x ≡ y → Leaves z (rule-of z c k x) b out out
   unfolding rule-of with-pairs
   kind-leaves y n q = rw (q, kind-unlisted z (stored-in z (view b)) c k y n .none)
+
+  pub change-leaves : (y : ServerChange) → x ≡ Servers y → Leaves z (rule-of z c k x) b out out
+  change-leaves y q = kind-leaves (Servers y) refl q
 
   pub work-leaves : (out′ : List ℕ) → x ≡ Work → Leaves z (λ m. work z m c) b out out′ → Leaves z (rule-of z c k x) b out out′
   unfolding rule-of

@@ -2,8 +2,7 @@
 use mathlib.Core.Path.{_≡_, refl, sym, ap, _∙_, subst}
 use mathlib.Core.Bool.{Bool, true, false, cond, _&&_, not, false≢true}
 use mathlib.Core.List.{List, []}
-use Prim.Native.Nat.{ℕ, _+_, _-_, _*_, _/_, _%_, _≤_, _<_}
-use native.Mathlib.Nat.{mod-lt}
+use Prim.Native.Nat.{ℕ, _+_, _-_, _*_, _/_, _≤_, _<_}
 use native.Mathlib.Omega.{arith}
 use native.Mathlib.Decide.{decLt}
 use borrow.Author.Tests.{not-true, not-false, lt-ltb, le-ltb, ltb-true, leb-true}
@@ -17,11 +16,10 @@ use Rattle.layout.specs.Part.{inPart}
 use Rattle.nodes.specs.Name.{server-of, slot-of, name-in-store}
 use Rattle.operations.specs.Operation.{all-fit?}
 use Rattle.server.specs.Object.{object-of, Has}
-use Rattle.operations.specs.Slot.{TreeSizes}
 use Rattle.operations.specs.Entry.{Entries}
 use Rattle.client.specs.declared.part.Set.{Set}
 use Rattle.client.specs.declared.part.Set.the-variants.{Reads, Writes}
-use Rattle.client.specs.Layout.{ClientWord, op-number, op-value, writes-count, limit}
+use Rattle.client.specs.Layout.{ClientWord, op-number, op-key, op-value, op-server, writes-count, limit}
 use Rattle.client.specs.Record.{in-store, object-in-store}
 use Rattle.client.specs.Sets.{count}
 use Rattle.client.specs.Items.{all-below}
@@ -52,7 +50,7 @@ use Rattle.change.specs.Work.{Ready, Enters, Works}
 use Rattle.change.specs.Single.{entries-of, WorksSingly}
 use Rattle.steps.specs.declared.sizes.Sizes.{Sizes}
 use Rattle.steps.specs.declared.outcome.Outcome.{Outcome}
-use Rattle.steps.specs.Whole.{Allowed, Address, client, whole, block, tree-sizes, client-at}
+use Rattle.steps.specs.Whole.{Address, client, whole, block, client-at}
 use Rattle.steps.specs.Uses.{item-of}
 use Rattle.steps.specs.Output.{with-pairs}
 use Rattle.steps.specs.Steps.{Did as StepDid, refuse, abort, fetch, after-walk, work}
@@ -66,7 +64,7 @@ use Rattle.kinds.specs.Fits.{Known}
 use Rattle.kinds.specs.Laws.Known.{work-known}
 use Rattle.kinds.specs.Kinds.{Meets}
 use Rattle.kinds.specs.Laws.Kinds.{meets-as, meets-refused}
-use Rattle.kinds.specs.Fetch.{used-item, known-at, AllKnown, Checking}
+use Rattle.kinds.specs.Fetch.{used-item, known-at, AllKnown, Checking, Fetching}
 use Rattle.kinds.specs.Laws.Hand.{good-used-enter}
 use Rattle.kinds.specs.Lack.{There}
 use Rattle.engine.specs.Laws.Used.{stored-at, used-stored}
@@ -104,9 +102,9 @@ entering-is us l w e = rw e
 
 -- ---- the walk of the part that is lent on
 pub works-lent : (z : Sizes) (b : List ℕ) (c k : ℕ) (s : Stop) (x₀ u₀ x u : List ℕ) → Store-in z (length b) → c < z .clients → k ≡ client-at z c
-    → Works (tree-sizes z) (sets.held (midOf (8 * k) (length b - 8 * k) b)) s x₀ u₀ x u → Works (tree-sizes z) (of-client z (view b) c) s x₀ u₀ x u
+    → Works (z .slots) (sets.held (midOf (8 * k) (length b - 8 * k) b)) s x₀ u₀ x u → Works (z .slots) (of-client z (view b) c) s x₀ u₀ x u
 unfolding sets.held
-works-lent z b c k s x₀ u₀ x u l h e d = subst (λ (m : ClientWord → ℕ). Works (tree-sizes z) m s x₀ u₀ x u) (client-lent z c k b h e (l .room)) d
+works-lent z b c k s x₀ u₀ x u l h e d = subst (λ (m : ClientWord → ℕ). Works (z .slots) m s x₀ u₀ x u) (client-lent z c k b h e (l .room)) d
 
 pub waiting-lent : (z : Sizes) (b : List ℕ) (c k : ℕ) → Store-in z (length b) → c < z .clients → k ≡ client-at z c → Waiting (of-client z (view b) c)
     → Waiting (sets.held (midOf (8 * k) (length b - 8 * k) b))
@@ -114,9 +112,9 @@ unfolding sets.held
 waiting-lent z b c k l h e d = subst Waiting (sym (client-lent z c k b h e (l .room))) d
 
 pub looks-lent : (z : Sizes) (b : List ℕ) (c k : ℕ) (s : Stop) (u₀ u : List ℕ) (ps : Entries) → Store-in z (length b) → c < z .clients → k ≡ client-at z c
-    → Looks (tree-sizes z) (sets.held (midOf (8 * k) (length b - 8 * k) b)) s u₀ u ps → Looks (tree-sizes z) (of-client z (view b) c) s u₀ u ps
+    → Looks (z .slots) (sets.held (midOf (8 * k) (length b - 8 * k) b)) s u₀ u ps → Looks (z .slots) (of-client z (view b) c) s u₀ u ps
 unfolding sets.held
-looks-lent z b c k s u₀ u ps l h e d = subst (λ (m : ClientWord → ℕ). Looks (tree-sizes z) m s u₀ u ps) (client-lent z c k b h e (l .room)) d
+looks-lent z b c k s u₀ u ps l h e d = subst (λ (m : ClientWord → ℕ). Looks (z .slots) m s u₀ u ps) (client-lent z c k b h e (l .room)) d
 
 pub room-lent : (z : Sizes) (b : List ℕ) (c k : ℕ) (f : List ℕ) → Store-in z (length b) → c < z .clients → k ≡ client-at z c
     → Roomy (sets.held (midOf (8 * k) (length b - 8 * k) b) op-value) f → Roomy (of-client z (view b) c op-value) f
@@ -142,9 +140,9 @@ pub told-as : (r s t : Operation) → r ≡ s → r ≡ t → s ≡ t
 told-as r s t p q = sym p ∙ q
 
 pub singly-lent : (z : Sizes) (b : List ℕ) (c k : ℕ) (r : Single) (u₀ u : List ℕ) → Store-in z (length b) → c < z .clients → k ≡ client-at z c
-    → WorksSingly (tree-sizes z) (sets.held (midOf (8 * k) (length b - 8 * k) b)) r u₀ u → WorksSingly (tree-sizes z) (of-client z (view b) c) r u₀ u
+    → WorksSingly (z .slots) (sets.held (midOf (8 * k) (length b - 8 * k) b)) r u₀ u → WorksSingly (z .slots) (of-client z (view b) c) r u₀ u
 unfolding sets.held
-singly-lent z b c k r u₀ u l h e d = subst (λ (m : ClientWord → ℕ). WorksSingly (tree-sizes z) m r u₀ u) (client-lent z c k b h e (l .room)) d
+singly-lent z b c k r u₀ u l h e d = subst (λ (m : ClientWord → ℕ). WorksSingly (z .slots) m r u₀ u) (client-lent z c k b h e (l .room)) d
 
 pub ruleset walk-lent = (works-lent, singly-lent, looks-lent, room-lent, waiting-lent, operation-lent, operation-so)
 
@@ -241,7 +239,7 @@ asked-of (answers a w) d = d
 
 module _ (z : Sizes) (m : ClientWord → ℕ) where
   -- the last questions never fetch
-  last-tag : (a : O.Ans) (w : O.Writes) → tag (last-questions (tree-sizes z) m a w) ≡ 0
+  last-tag : (a : O.Ans) (w : O.Writes) → tag (last-questions (z .slots) m a w) ≡ 0
   last-tag a w = go (all-fit? w w) (ltb 48 (m writes-count + count-new m (entered w))) (versions-there m (entered w)) (any-at-last m (entered w))
     where
       go : (b c t d : Bool) → tag (cond (not b) (aborted 3) (cond c (aborted 4) (cond (not t) refused (cond d (aborted 8) (answers a w))))) ≡ 0
@@ -251,49 +249,49 @@ module _ (z : Sizes) (m : ClientWord → ℕ) where
       go true false true true = refl
       go true false true false = refl
 
-  sound-end : (e : End) (a : O.Ask) → judge (tree-sizes z) m e ≡ fetches a → broken (tree-sizes z) m a ≡ false
+  sound-end : (e : End) (a : O.Ask) → judge (z .slots) m e ≡ fetches a → broken (z .slots) m a ≡ false
   unfolding asked-of
-  sound-end (lacks x) a p = go (broken (tree-sizes z) m x) refl
+  sound-end (lacks x) a p = go (broken (z .slots) m x) refl
     where
-      go : (b : Bool) → broken (tree-sizes z) m x ≡ b → broken (tree-sizes z) m a ≡ false
+      go : (b : Bool) → broken (z .slots) m x ≡ b → broken (z .slots) m a ≡ false
       go true q = let r : refused ≡ fetches a = rw q at p in never 0 1 refl refl (ap tag r)
       go false q = let r : fetches x ≡ fetches a = rw q at p in let y : x ≡ a = ap (λ (W : Worked). asked-of W x) r in rw (← y) q
   sound-end (aborts y) a p = never 0 1 refl refl (ap tag p)
-  sound-end (gives x w) a p = never (tag (last-questions (tree-sizes z) m x w)) 1 (last-tag x w) refl (ap tag p)
+  sound-end (gives x w) a p = never (tag (last-questions (z .slots) m x w)) 1 (last-tag x w) refl (ap tag p)
 
-  sound-worked : (a : O.Ask) → worked (tree-sizes z) m ≡ fetches a → broken (tree-sizes z) m a ≡ false
+  sound-worked : (a : O.Ask) → worked (z .slots) m ≡ fetches a → broken (z .slots) m a ≡ false
   unfolding worked
-  sound-worked a p = sound-end (walked (tree-sizes z) m .how) a p
+  sound-worked a p = sound-end (walked (z .slots) m .how) a p
 
-  object-there : (o : O.Obj) → broken (tree-sizes z) m (O.object o) ≡ false → object-in-store (tree-sizes z) o ≡ true
+  object-there : (o : O.Obj) → broken (z .slots) m (O.object o) ≡ false → object-in-store (z .slots) o ≡ true
   unfolding broken
-  object-there o p = go (object-in-store (tree-sizes z) o) refl
+  object-there o p = go (object-in-store (z .slots) o) refl
     where
-      go : (b : Bool) → object-in-store (tree-sizes z) o ≡ b → object-in-store (tree-sizes z) o ≡ true
+      go : (b : Bool) → object-in-store (z .slots) o ≡ b → object-in-store (z .slots) o ≡ true
       go true q = q
       go false q = let r : true ≡ false = rw (broken, q) at p in let c : _≡_ {A = ℕ} 0 1 = cc in absurd (omega arith)
 
-  server-there : (s : ℕ) → bad-vector (tree-sizes z) m s ≡ false → s < z .servers
+  server-there : (s : ℕ) → bad-vector (z .slots) m s ≡ false → s < 8
   server-there s p =
-      ltb-true s (z .servers) (and-both (ltb s (z .servers)) (vector-fits m s) (not-false (ltb s (z .servers) && vector-fits m s) p) .0)
+      ltb-true s 8 (and-both (ltb s 8) (vector-fits m s) (not-false (ltb s 8 && vector-fits m s) p) .0)
 
-  home-there : (n : ℕ) → in-store (tree-sizes z) n ≡ true → (server-of n < z .servers) × (slot-of n < z .slots)
+  home-there : (n : ℕ) → in-store (z .slots) n ≡ true → (server-of n < 8) × (slot-of n < z .slots)
   unfolding name-in-store
   home-there n h =
-      let p = and-both (ltb (server-of n) (z .servers)) (ltb (slot-of n) (z .slots)) h in
-      (ltb-true (server-of n) (z .servers) (p .0), ltb-true (slot-of n) (z .slots) (p .1))
+      let p = and-both (ltb (server-of n) 8) (ltb (slot-of n) (z .slots)) h in
+      (ltb-true (server-of n) 8 (p .0), ltb-true (slot-of n) (z .slots) (p .1))
 
-  pub named-there : (n : ℕ) → z .servers ≤ 8 → worked (tree-sizes z) m ≡ fetches (O.object (O.node n)) → There z n × (server-of n < z .servers)
-  named-there n eight p =
+  pub named-there : (n : ℕ) → worked (z .slots) m ≡ fetches (O.object (O.node n)) → There z n × (server-of n < 8)
+  named-there n p =
       let t = object-there (O.node n) (sound-worked (O.object (O.node n)) p) in
       let h = home-there n t in
-      (record { named = t; slot = h .1; small = let a : n / 1024 < z .servers = h .0 in omega arith }, h .0)
+      (record { named = t; slot = h .1; small = let a : n / 1024 < 8 = h .0 in omega arith }, h .0)
 
-  pub vector-server : (s : ℕ) → Vector s (worked (tree-sizes z) m) → s < z .servers
+  pub vector-server : (s : ℕ) → Vector s (worked (z .slots) m) → s < 8
   unfolding broken lack-server
   vector-server s v = go (v .asks) (v .lacked) (sound-worked (v .asks) (v .is))
     where
-      go : (a : O.Ask) → lack a ≡ LacksVector s → broken (tree-sizes z) m a ≡ false → s < z .servers
+      go : (a : O.Ask) → lack a ≡ LacksVector s → broken (z .slots) m a ≡ false → s < 8
       go (O.object O.meta) e p = let c : _≡_ {A = ℕ} 0 1 = cc in absurd (omega arith)
       go (O.object (O.node n)) e p = let c : _≡_ {A = ℕ} 0 1 = cc in absurd (omega arith)
       go (O.object (O.flag n)) e p = let q : server-of n ≡ s = ap lack-server e in rw (← q) (home-there n (object-there (O.flag n) p) .0)
@@ -321,46 +319,46 @@ answered-pairs (aborted y) ps f n = let y : _≡_ {A = ℕ} 0 1 = cc in absurd (
 answered-pairs (answers a w) ps f n = f a w refl
 
 -- ---- what was read, with the copies in use, is of the store
-pub all-known : (z : Sizes) (w : List ℕ) (c : ℕ) → Allowed z → Known z w c → AllKnown z w c (walked (tree-sizes z) (of-client z w c) .used)
+pub all-known : (z : Sizes) (w : List ℕ) (c : ℕ) → Known z w c → AllKnown z w c (walked (z .slots) (of-client z w c) .used)
 unfolding known-at read-item used-item item-of
-all-known z w c al k = record { known = λ i l. go i l (decLt i (count (of-client z w c) Reads)) }
+all-known z w c k = record { known = λ i l. go i l (decLt i (count (of-client z w c) Reads)) }
   where
     us : List ℕ
-    us = walked (tree-sizes z) (of-client z w c) .used
+    us = walked (z .slots) (of-client z w c) .used
 
     go : (i : ℕ) → i < count (of-client z w c) Reads + length us → Dec (i < count (of-client z w c) Reads) → Has (z .slots) (object-of (known-at (of-client z w c) us i .number))
     go i l (yes h) = rw (known-at, lt-ltb i (count (of-client z w c) Reads) h) (k .known i h)
     go i l (no h) =
         let g : count (of-client z w c) Reads ≤ i = omega arith in
         rw (known-at, le-ltb i (count (of-client z w c) Reads) g)
-        (in-store-has z (getD us (i - count (of-client z w c) Reads) 0) al
-        (stored-at (tree-sizes z) us (i - count (of-client z w c) Reads) (used-stored (tree-sizes z) (al .servers .1) (of-client z w c)) (omega arith)))
+        (in-store-has (z .slots) (getD us (i - count (of-client z w c) Reads) 0)
+        (stored-at (z .slots) us (i - count (of-client z w c) Reads) (used-stored (z .slots) (of-client z w c)) (omega arith)))
 
-module _ (z : Sizes) (b : List ℕ) (c : ℕ) (hold : Store-in z (length b)) (h : c < z .clients) (known : Known z (view b) c) (wait : Waiting (of-client z (view b) c)) (fit : fit-to-work (tree-sizes z) (of-client z (view b) c) ≡ true) (s : Stop) (u : List ℕ) (k : Stopped (tree-sizes z) (of-client z (view b) c) s u) where
+module _ (z : Sizes) (b : List ℕ) (c : ℕ) (hold : Store-in z (length b)) (h : c < z .clients) (known : Known z (view b) c) (wait : Waiting (of-client z (view b) c)) (fit : fit-to-work (z .slots) (of-client z (view b) c) ≡ true) (s : Stop) (u : List ℕ) (k : Stopped (z .slots) (of-client z (view b) c) s u) where
   abbrev W : Worked
-  W = worked (tree-sizes z) (of-client z (view b) c)
+  W = worked (z .slots) (of-client z (view b) c)
 
   end : Ended s W
   end = subst (λ (t : Stop). Ended t W) (sym (k .stop)) (ends W)
 
-  checking : (t : ℕ) → t < z .servers → Checking z b c t u
+  checking : (t : ℕ) → t < 8 → Checking z b c t u
   checking t l = record {
     holds = hold;
     client = h;
     server = l;
     in-use = k .in-use;
     reads = wait .reads;
-    known = rw (k .used) (all-known z (view b) c (hold .allowed) known);
+    known = rw (k .used) (all-known z (view b) c known);
   }
 
-  pub meta-checking : Checking z b c (c % z .servers) u
-  meta-checking = checking (c % z .servers) (mod-lt c (omega (arith, hold .allowed .servers)))
+  pub meta-checking : Fetching z b c u
+  meta-checking = checking 0 (omega arith)
 
   pub node-checking : (n : ℕ) → s ≡ LacksNode n → Checking z b c (server-of n) u
-  node-checking n e = checking (server-of n) (named-there z (of-client z (view b) c) n (hold .allowed .servers .1) (subst (λ (t : Stop). Ended t W) e end) .1)
+  node-checking n e = checking (server-of n) (named-there z (of-client z (view b) c) n (subst (λ (t : Stop). Ended t W) e end) .1)
 
   pub node-there : (n : ℕ) → s ≡ LacksNode n → There z n
-  node-there n e = named-there z (of-client z (view b) c) n (hold .allowed .servers .1) (subst (λ (t : Stop). Ended t W) e end) .0
+  node-there n e = named-there z (of-client z (view b) c) n (subst (λ (t : Stop). Ended t W) e end) .0
 
   pub vector-checking : (t : ℕ) → s ≡ LacksVector t → Checking z b c t u
   vector-checking t e = checking t (vector-server z (of-client z (view b) c) t (subst (λ (t : Stop). Ended t W) e end))
@@ -436,9 +434,9 @@ module _ (z : Sizes) (b : List ℕ) (c : ℕ) (hold : Store-in z (length b)) (h 
         (meets-as z (view b) o w′ (λ m. record { outcome = o; stores = inPart (client c) (entering (used-in u) l) m; pairs = answering .pairs }) (λ m. work z m c)
         (sym (work-is ∙ rw (q, ← r))) (record { answer = refl; words = p .words }))
 
-module _ (z : Sizes) (b : List ℕ) (c : ℕ) (hold : Store-in z (length b)) (h : c < z .clients) (known : Known z (view b) c) (wait : Waiting (of-client z (view b) c)) (fit : fit-to-work (tree-sizes z) (of-client z (view b) c) ≡ true) (s : Stop) where
+module _ (z : Sizes) (b : List ℕ) (c : ℕ) (hold : Store-in z (length b)) (h : c < z .clients) (known : Known z (view b) c) (wait : Waiting (of-client z (view b) c)) (fit : fit-to-work (z .slots) (of-client z (view b) c) ≡ true) (s : Stop) where
   -- an operation that only reads
-  module _ (u₀ u : List ℕ) (ps : Entries) (k : Looks (tree-sizes z) (of-client z (view b) c) s u₀ u ps) where
+  module _ (u₀ u : List ℕ) (ps : Entries) (k : Looks (z .slots) (of-client z (view b) c) s u₀ u ps) where
     pub look-answers : (o : Outcome) (w′ : List ℕ) → is-answer s ≡ true → o ≡ answer-of s → Does whole (block z) (inPart (client c) (entering (used-in u) [])) silent (view b) 0 w′
         → Meets z (λ m. work z m c) (view b) o w′ × (work z (stored-in z (view b)) c .pairs ≡ ps)
     unfolding entered
@@ -448,7 +446,7 @@ module _ (z : Sizes) (b : List ℕ) (c : ℕ) (hold : Store-in z (length b)) (h 
     )
 
   -- one that writes
-  module _ (x₀ u₀ x u : List ℕ) (k : Works (tree-sizes z) (of-client z (view b) c) s x₀ u₀ x u) where
+  module _ (x₀ u₀ x u : List ℕ) (k : Works (z .slots) (of-client z (view b) c) s x₀ u₀ x u) where
     pub change-fits : is-answer s ≡ true → OwnFits x
     change-fits n = let v = answering z b c hold h known wait fit s u (k .enters .stopped) n in k .fits _ (v .writes) (v .is)
 
@@ -460,7 +458,7 @@ module _ (z : Sizes) (b : List ℕ) (c : ℕ) (hold : Store-in z (length b)) (h 
     )
 
 -- one that writes one object or none
-module _ (t : TreeSizes) (m : ClientWord → ℕ) (r : Single) (u₀ u : List ℕ) (k : WorksSingly t m r u₀ u) (on : Bool) (po : on ≡ goes (r .stop)) (off : on ≡ false) where
+module _ (t : ℕ) (m : ClientWord → ℕ) (r : Single) (u₀ u : List ℕ) (k : WorksSingly t m r u₀ u) (on : Bool) (po : on ≡ goes (r .stop)) (off : on ≡ false) where
   pub single-ended : Enters t m (r .stop) (entries-of r) u₀ u
   single-ended = k .enters (sym po ∙ off)
 
@@ -470,7 +468,7 @@ module _ (t : TreeSizes) (m : ClientWord → ℕ) (r : Single) (u₀ u : List �
   pub single-used : InUse u
   single-used = single-ended .stopped .in-use
 
-module _ (z : Sizes) (b : List ℕ) (c : ℕ) (hold : Store-in z (length b)) (h : c < z .clients) (known : Known z (view b) c) (wait : Waiting (of-client z (view b) c)) (fit : fit-to-work (tree-sizes z) (of-client z (view b) c) ≡ true) (r : Single) (u₀ u : List ℕ) (k : Enters (tree-sizes z) (of-client z (view b) c) (r .stop) (entries-of r) u₀ u) where
+module _ (z : Sizes) (b : List ℕ) (c : ℕ) (hold : Store-in z (length b)) (h : c < z .clients) (known : Known z (view b) c) (wait : Waiting (of-client z (view b) c)) (fit : fit-to-work (z .slots) (of-client z (view b) c) ≡ true) (r : Single) (u₀ u : List ℕ) (k : Enters (z .slots) (of-client z (view b) c) (r .stop) (entries-of r) u₀ u) where
   pub single-answers : (o : Outcome) (w′ : List ℕ) → is-answer (r .stop) ≡ true → o ≡ answer-of (r .stop)
       → Does whole (block z) (inPart (client c) (entering (used-in u) (entries-of r))) silent (view b) 0 w′ → Meets z (λ m. work z m c) (view b) o w′ × No-pairs z b c
   single-answers o w′ n e p = (
@@ -479,11 +477,11 @@ module _ (z : Sizes) (b : List ℕ) (c : ℕ) (hold : Store-in z (length b)) (h 
   )
 
 -- ---- what refusals 9 and 10 have judged
-count-within : (t : TreeSizes) (m : ClientWord → ℕ) (s : Set) → numbers-fit t m s ≡ true → said-count m s ≤ limit s
+count-within : (t : ℕ) (m : ClientWord → ℕ) (s : Set) → numbers-fit t m s ≡ true → said-count m s ≤ limit s
 unfolding numbers-fit
 count-within t m s h = leb-true (said-count m s) (limit s) (and-both (leb (said-count m s) (limit s)) (all-below (count m s) (number-fits t m s)) h .0)
 
-pub fits-waiting : (t : TreeSizes) (m : ClientWord → ℕ) → fit-to-work t m ≡ true → (m op-number ≡ 0 → ⊥) → Waiting m
+pub fits-waiting : (t : ℕ) (m : ClientWord → ℕ) → fit-to-work t m ≡ true → (m op-number ≡ 0 → ⊥) → Waiting m
 unfolding fit-to-work op-fits
 fits-waiting t m h n =
     let a = and-both (op-fits t m) (numbers-fit t m Reads && numbers-fit t m Writes) h in
@@ -493,6 +491,7 @@ fits-waiting t m h n =
     record {
       some = n;
       known = leb-true (m op-number) 7 (p .0);
+      moved = λ e. ltb-true (m op-server) 8 (and-both (in-store t (m op-key)) (ltb (m op-server) 8) (rw e at (p .1)) .1);
       listed = λ e.
           let f : list-fits m ≡ true = rw e at (p .1) in
           let g = and-both (leb 1 (m op-value)) (leb (m op-value) 32) f in
@@ -501,7 +500,7 @@ fits-waiting t m h n =
       writes = count-within t m Writes (b .1);
     }
 
-module _ (z : Sizes) (b : List ℕ) (c : ℕ) (d : Bool) (e : d ≡ fit-to-work (tree-sizes z) (of-client z (view b) c)) where
+module _ (z : Sizes) (b : List ℕ) (c : ℕ) (d : Bool) (e : d ≡ fit-to-work (z .slots) (of-client z (view b) c)) where
   pub work-unfit : not d ≡ true → Meets z (λ m. work z m c) (view b) (outcome.Refused 10) (view b) × No-pairs z b c
   unfolding work
   work-unfit t =
@@ -511,7 +510,7 @@ module _ (z : Sizes) (b : List ℕ) (c : ℕ) (d : Bool) (e : d ≡ fit-to-work 
   pub waiting-client : Store-in z (length b) → c < z .clients → (of-client z (view b) c op-number ≡ 0 → ⊥) → not d ≡ false → WaitingClient z b c
   waiting-client hold h n t =
       let f = sym e ∙ not-false d t in
-      record { store = hold; client = h; fits = f; sets = work-known z (view b) c (hold .allowed) f; waiting = fits-waiting (tree-sizes z) (of-client z (view b) c) f n }
+      record { store = hold; client = h; fits = f; sets = work-known z (view b) c f; waiting = fits-waiting (z .slots) (of-client z (view b) c) f n }
 
 -- ---- the lent output
 pub unlisted-output : (z : Sizes) (b : List ℕ) (c : ℕ) (out : List ℕ) → No-pairs z b c → Leaves z (λ m. work z m c) b out out

@@ -75,16 +75,16 @@ module _ (z : Sizes) (c : ℕ) where
   changes-frame : (s : ℕ) (k : Change) (m u : Address → ℕ) → client-of u c ≡ client-of m c → server-of u s ≡ server-of m s → changes z c s k u ≡ changes z c s k m
   unfolding changes
   changes-frame s k m u e f =
-      ap₂ (λ (x : ClientWord → ℕ) (y : Place → ℕ). over (server s) (upto (rule k c) (locked-at (lowest-of (z .servers) (x (field 5))) s) (read-item x) (count x Reads) y)) e f
+      ap₂ (λ (x : ClientWord → ℕ) (y : Place → ℕ). over (server s) (upto (rule k c) (locked-at (lowest-of 8 (x (field 5))) s) (read-item x) (count x Reads) y)) e f
 
-  pub changes-inside : (s : ℕ) (k : Change) (w : List ℕ) → s < z .servers → Known z w c → AllValid whole (block z) (changes z c s k (stored-in z w))
+  pub changes-inside : (s : ℕ) (k : Change) (w : List ℕ) → s < 8 → Known z w c → AllValid whole (block z) (changes z c s k (stored-in z w))
   unfolding changes inPart read-item item-of
   changes-inside s k w h known =
       in-whole z s h (upto (rule k c) (locked-at (lowest-participant z (stored-in z w) c) s) (read-item (of-client z w c)) (count (of-client z w c) Reads)) (stored-in z w)
       (upto-inside z (rule k c) (locked-at (lowest-participant z (stored-in z w) c) s) (read-item (of-client z w c)) (count (of-client z w c) Reads)
       (λ j l. rule-inside z c k (read-item (of-client z w c) j) (known .known j l)))
 
-  pub changes-apart : (s : ℕ) (k : Change) (w : List ℕ) → s < z .servers → Known z w c → Apart z c (changes z c s k) (stored-in z w)
+  pub changes-apart : (s : ℕ) (k : Change) (w : List ℕ) → s < 8 → Known z w c → Apart z c (changes z c s k) (stored-in z w)
   unfolding changes
   changes-apart s k w h known =
       record { valid = changes-inside s k w h known; stays = server-clients (stored-in z w) s _ c }
@@ -99,7 +99,7 @@ module _ (z : Sizes) (c p : ℕ) (w : List ℕ) (known : Known z w c) where
       let m = stored-in z w in
       upto (rule Unlock c) (locked-at (lowest-participant z m c) s) (read-item (of-client z w c)) (count (of-client z w c) Reads) (server-of m s)
 
-  stores-inside : (k : ℕ) → k ≤ z .servers → AllValid whole (block z) (at-servers k (λ s. unlocking z c p s (stored-in z w)))
+  stores-inside : (k : ℕ) → k ≤ 8 → AllValid whole (block z) (at-servers k (λ s. unlocking z c p s (stored-in z w)))
   unfolding at-servers unlocking AllValid
   stores-inside zero h = tt
   stores-inside (suc k) h =
@@ -115,7 +115,7 @@ pub freeing-apart : (z : Sizes) (c : ℕ) (w : List ℕ) → Known z w c → Apa
 unfolding freeing unlocking changes rule passing upto read-item
 freeing-apart z c w known =
     let p = of-client z w c (field 6) in
-    record { valid = stores-inside z c p w known (z .servers) (omega arith); stays = clients-kept p (here z c p w known) (z .servers) (stored-in z w) c }
+    record { valid = stores-inside z c p w known 8 (omega arith); stays = clients-kept p (here z c p w known) 8 (stored-in z w) c }
 
 module _ (z : Sizes) (c p : ℕ) where
   pub freed-here : (s : ℕ) (b : Bool) (w w′ : List ℕ) → b ≡ bit p s → b ≡ true → Does whole (block z) (changes z c s Unlock) silent w 0 w′ → Freed z c p s w w′
@@ -133,7 +133,7 @@ module _ (z : Sizes) (c p : ℕ) where
   freed-none w = record { answer = refl; words = refl }
 
   -- after those below i: the client's part and the part of server i are as before
-  module _ (b₀ b : List ℕ) (n i : ℕ) (hold : Store-in z (length b₀)) (known : Known z (view b₀) c) (en : n ≡ z .servers) (l : i < n) (so : FreedUpto z c p i (view b₀) (view b)) where
+  module _ (b₀ b : List ℕ) (n i : ℕ) (hold : Store-in z (length b₀)) (known : Known z (view b₀) c) (en : n ≡ 8) (l : i < n) (so : FreedUpto z c p i (view b₀) (view b)) where
     abbrev before : Address → ℕ
     before = stored-in z (view b₀)
 
@@ -169,11 +169,11 @@ module _ (z : Sizes) (c p : ℕ) where
             ≡ stored whole (block z) (stored whole (block z) (view b₀) (at-servers k (λ s. unlocking z c p s before))) (unlocking z c p k before)
         at-next k = stored-append whole (block z) (at-servers k (λ s. unlocking z c p s before)) (unlocking z c p k before) (view b₀)
 
-  pub freed-all : (n i : ℕ) (w w′ : List ℕ) → i ≤ n → n ≤ i → n ≡ z .servers → p ≡ of-client z w c (field 6) → FreedUpto z c p i w w′
+  pub freed-all : (n i : ℕ) (w w′ : List ℕ) → i ≤ n → n ≤ i → n ≡ 8 → p ≡ of-client z w c (field 6) → FreedUpto z c p i w w′
       → Does whole (block z) (freeing z c) silent w 0 w′
   unfolding freeing FreedUpto unlocking changes rule passing upto read-item
   freed-all n i w w′ a b en ep d =
-      let e : i ≡ z .servers = omega arith in
+      let e : i ≡ 8 = omega arith in
       does-as whole (block z) (λ m. at-servers i (λ s. unlocking z c p s m)) (freeing z c) silent w 0 w′ (rw (e, ep)) d
 
 pub is-aborted : (z : Sizes) (c : ℕ) (us b₀ b b′ : List ℕ) → Store-in z (length b₀) → Known z (view b₀) c

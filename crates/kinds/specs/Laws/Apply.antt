@@ -22,12 +22,12 @@ use Rattle.client.specs.Course.{noted}
 use Rattle.client.specs.Renew.{finish}
 use Rattle.client.specs.Fits.{fit-to-apply}
 use Rattle.client.specs.Laws.Steps.{Good, good-field}
-use Rattle.client.specs.Part.{put-field, put-word}
+use Rattle.client.specs.Part.{put-word}
 use Rattle.steps.specs.declared.sizes.Sizes.{Sizes}
 use Rattle.steps.specs.declared.outcome.Outcome.{Outcome}
 use Rattle.steps.specs.declared.outcome.Outcome.the-variants.{Refused, Applied, Committed}
 use Rattle.kinds.specs.declared.locks.Change.the-variants.{Unlock}
-use Rattle.steps.specs.Whole.{server, client, whole, block, words-for, tree-sizes}
+use Rattle.steps.specs.Whole.{server, client, whole, block, words-for}
 use Rattle.steps.specs.Laws.Stores.{server-clients}
 use Rattle.steps.specs.Uses.{item-of, locked-at}
 use Rattle.steps.specs.Judge.{unlock-fits}
@@ -59,7 +59,7 @@ module _ (z : Sizes) (c s : ℕ) (w : List ℕ) (known : Known z w c) (storing :
   writing = store-all (of-client z w c) s
 
   abbrev unlocking : (ClientWord → ℕ) → Rule
-  unlocking m = upto (rule Unlock c) (locked-at (lowest-of (z .servers) (m (field 5))) s) (read-item m) (count m Reads)
+  unlocking m = upto (rule Unlock c) (locked-at (lowest-of 8 (m (field 5))) s) (read-item m) (count m Reads)
 
   writing-inside : Inside z writing
   writing-inside = writes-inside z c s w (count (of-client z w c) Writes) (storing .written) (omega arith)
@@ -68,9 +68,9 @@ module _ (z : Sizes) (c s : ℕ) (w : List ℕ) (known : Known z w c) (storing :
   unfolding read-item item-of
   unlocking-inside =
       let m = of-client z w c in
-      upto-inside z (rule Unlock c) (locked-at (lowest-of (z .servers) (m (field 5))) s) (read-item m) (count m Reads) (λ j l. rule-inside z c Unlock (read-item m j) (known .known j l))
+      upto-inside z (rule Unlock c) (locked-at (lowest-of 8 (m (field 5))) s) (read-item m) (count m Reads) (λ j l. rule-inside z c Unlock (read-item m j) (known .known j l))
 
-pub applies-apart : (z : Sizes) (c s : ℕ) (w : List ℕ) → s < z .servers → Known z w c → Storing z w c s → Apart z c (applies z c s) (stored-in z w)
+pub applies-apart : (z : Sizes) (c s : ℕ) (w : List ℕ) → s < 8 → Known z w c → Storing z w c s → Apart z c (applies z c s) (stored-in z w)
 unfolding applies rule passing upto read-item inPart
 applies-apart z c s w h known storing =
     let f : Rule = andThen Srv.places (writing z c s w known storing) (unlocking z c s w known storing (of-client z w c)) in
@@ -80,7 +80,7 @@ applies-apart z c s w h known storing =
     }
 
 -- the client's part stays while its writes are stored
-module _ (z : Sizes) (c s : ℕ) (b₀ b : List ℕ) (hold : Store-in z (length b₀)) (known : Known z (view b₀) c) (storing : Storing z (view b₀) c s) (h : s < z .servers) (p : Does whole (block z) (stores z c s) silent (view b₀) 0 (view b)) where
+module _ (z : Sizes) (c s : ℕ) (b₀ b : List ℕ) (hold : Store-in z (length b₀)) (known : Known z (view b₀) c) (storing : Storing z (view b₀) c s) (h : s < 8) (p : Does whole (block z) (stores z c s) silent (view b₀) 0 (view b)) where
   room : words-for z ≤ length (view b₀)
   room = omega (arith, hold .room, view-length b₀)
 
@@ -110,7 +110,7 @@ pub good-noted : (i s : ℕ) → i < 15 → Good (noted (field i) s)
 unfolding noted put-word
 good-noted i s h = record { all = λ m. good-field i (putBit true (m (field i)) s) h .all m }
 
-module _ (z : Sizes) (c s : ℕ) (b₀ b b₁ : List ℕ) (hold : Store-in z (length b₀)) (known : Known z (view b₀) c) (storing : Storing z (view b₀) c s) (h : s < z .servers) (last : Bool) (e : last ≡ covers (z .servers) (of-client z (view b₀) c (field 5)) (putBit true (of-client z (view b₀) c (field 7)) s)) (p : Does whole (block z) (applies z c s) silent (view b₀) 0 (view b)) (q : Does whole (block z) (inPart (client c) (noted (field 7) s)) silent (view b) 0 (view b₁)) where
+module _ (z : Sizes) (c s : ℕ) (b₀ b b₁ : List ℕ) (hold : Store-in z (length b₀)) (known : Known z (view b₀) c) (storing : Storing z (view b₀) c s) (h : s < 8) (last : Bool) (e : last ≡ covers 8 (of-client z (view b₀) c (field 5)) (putBit true (of-client z (view b₀) c (field 7)) s)) (p : Does whole (block z) (applies z c s) silent (view b₀) 0 (view b)) (q : Does whole (block z) (inPart (client c) (noted (field 7) s)) silent (view b) 0 (view b₁)) where
   pub applied-one : last ≡ false → Meets z (λ m. applied-at z m c s) (view b₀) (Applied s) (view b₁)
   unfolding applied-at applies inPart
   applied-one t =
@@ -129,13 +129,13 @@ module _ (z : Sizes) (c s : ℕ) (b₀ b b₁ : List ℕ) (hold : Store-in z (le
       (client-both z c (noted (field 7) s) finish b b₁ b₂ (record { allowed = hold .allowed; room = rw l (hold .room) }) k (good-noted 7 s (omega arith)) q r)))
 
 -- ---- judged first
-pub last-is : (z : Sizes) (c s : ℕ) (w : List ℕ) (last : Bool) → last ≡ covers (z .servers) (of-client z w c (field 5)) (putBit true (of-client z w c (field 7)) s)
+pub last-is : (z : Sizes) (c s : ℕ) (w : List ℕ) (last : Bool) → last ≡ covers 8 (of-client z w c (field 5)) (putBit true (of-client z w c (field 7)) s)
     → last ≡ all-applied z (stored-in z w) c s
 last-is z c s w last e = e
 
-module _ (z : Sizes) (c s : ℕ) (w : List ℕ) (last b : Bool) (l : last ≡ all-applied z (stored-in z w) c s) (e : b ≡ fit-to-apply (tree-sizes z) (of-client z w c) s last) where
-  judged : b ≡ fit-to-apply (tree-sizes z) (of-client z w c) s (all-applied z (stored-in z w) c s)
-  judged = e ∙ ap (fit-to-apply (tree-sizes z) (of-client z w c) s) l
+module _ (z : Sizes) (c s : ℕ) (w : List ℕ) (last b : Bool) (l : last ≡ all-applied z (stored-in z w) c s) (e : b ≡ fit-to-apply (z .slots) (of-client z w c) s last) where
+  judged : b ≡ fit-to-apply (z .slots) (of-client z w c) s (all-applied z (stored-in z w) c s)
+  judged = e ∙ ap (fit-to-apply (z .slots) (of-client z w c) s) l
 
   pub apply-unfit : not b ≡ true → Meets z (λ m. apply z m c s) w (Refused 10) w
   unfolding apply

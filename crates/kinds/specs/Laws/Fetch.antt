@@ -29,13 +29,14 @@ use Rattle.kinds.specs.declared.fetch.Verdict.the-variants.{Unfit, Fault
 use Rattle.steps.specs.Whole.{server, client-at}
 use Rattle.steps.specs.Uses.{Item, each, item-of, read-items, used-items, least, reason-of, deciding}
 use Rattle.steps.specs.Judge.{lock-fits}
+use Rattle.steps.specs.Servers.{there}
 use Rattle.kinds.specs.Parts.{Store-in, stored-in}
 use Rattle.kinds.specs.Laws.Parts.{client-lent}
 use Rattle.kinds.specs.Items.{as-item, read-item}
 use Rattle.kinds.specs.Judge.{of-client, of-server}
 use Rattle.kinds.specs.Findings.{fault, as-fault, later, word-reason, compared-at}
 use Rattle.kinds.specs.Laws.Findings.{by-lock, settled, unsettled, by-word, zero-reason, reason-again, least-upto, least-first, least-next}
-use Rattle.kinds.specs.Fetch.{used-item, known-at, AllKnown, fetch-fault, items-found, verdict-of, room-of, gate-of}
+use Rattle.kinds.specs.Fetch.{used-item, known-at, AllKnown, fetch-fault, items-found, verdict-of, reached, room-of, gate-of}
 use Rattle.client.specs.Sets as sets
 use Rattle.kinds.specs.declared.items.Item as code
 use Rattle.kinds.specs.declared.findings.Fault as code-fault
@@ -256,3 +257,12 @@ module _ (z : Sizes) (w : List ℕ) (c s x : ℕ) (us : List ℕ) (v : ℕ) (e :
     gate-busy d n = gate-held lock-there lock-held (room-of z w c us) (λ h. d (of-gate ∙ h)) (λ h. n (of-gate ∙ h))
 
 pub ruleset verdicts = (verdict-unfit, verdict-clear, verdict-fault, room-full, room-left, gate-free, gate-passed, gate-unfit, gate-busy)
+
+module _ (z : Sizes) (w : List ℕ) (c s : ℕ) (us : List ℕ) (h : Bool) (e : h ≡ there (stored-in z w) s) where
+  pub out-of-reach : not h ≡ true → Fault 1 ≡ reached z w c s us
+  unfolding reached
+  out-of-reach t = rw (← e, not-true h t)
+
+  pub in-reach : (v : Verdict) → not h ≡ false → v ≡ verdict-of (items-found z w c s us) → v ≡ reached z w c s us
+  unfolding reached
+  in-reach v t q = q ∙ rw (← e, not-false h t)

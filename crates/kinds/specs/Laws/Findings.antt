@@ -94,7 +94,7 @@ module _ (f g : Fault) where
       second-least h = rw (ne-eqb (g .reason) 0 d, ne-eqb (f .reason) 0 c, lt-leb (f .number) (g .number) h)
 
 -- ---- a mark compared, in the part lent to be read
-pub compared-lent : (z : Sizes) (b : List ℕ) (s k : ℕ) (o : Object) (i : code.Item) (f : Finding) (r : ℕ) → Store-in z (length b) → s < z .servers → k ≡ server-at z s
+pub compared-lent : (z : Sizes) (b : List ℕ) (s k : ℕ) (o : Object) (i : code.Item) (f : Finding) (r : ℕ) → Store-in z (length b) → s < 8 → k ≡ server-at z s
     → o ≡ object-of (i .number)
     → f ≡ mark-finding o (standing o (i .inner) (mem Srv.places (Srv.server-block (z .slots)) (view (midOf (8 * k) (length b - 8 * k) b)))) (i .mark)
     → r ≡ finding-number f → r ≡ compared-at z (view b) s (as-item i)

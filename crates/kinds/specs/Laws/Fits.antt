@@ -18,7 +18,7 @@ use Rattle.client.specs.Items.{all-below}
 use Rattle.client.specs.Participants.{lowest-of}
 use Rattle.client.specs.Fits.{fit-to-abort, fit-to-unlock}
 use Rattle.steps.specs.declared.sizes.Sizes.{Sizes}
-use Rattle.steps.specs.Whole.{tree-sizes, client-at}
+use Rattle.steps.specs.Whole.{client-at}
 use Rattle.steps.specs.Uses.{Item, item-of, locked-at}
 use Rattle.steps.specs.Judge.{lock-fits, lowest-participant, unlock-fits, abort-fits}
 use Rattle.kinds.specs.Parts.{Store-in, stored-in}
@@ -66,7 +66,7 @@ module _ (w : ℕ) where
   pub lowest-absent : (i n : ℕ) → i ≤ n → n ≤ i → lowest-of i w ≡ i → i ≡ lowest-of n w
   lowest-absent i n l g h = let q : n ≡ i = omega arith in sym (rw q h)
 
-pub lowest-by : (z : Sizes) (w : List ℕ) (c p r : ℕ) → p ≡ of-client z w c (field 5) → r ≡ lowest-of (z .servers) p → r ≡ lowest-participant z (stored-in z w) c
+pub lowest-by : (z : Sizes) (w : List ℕ) (c p r : ℕ) → p ≡ of-client z w c (field 5) → r ≡ lowest-of 8 p → r ≡ lowest-participant z (stored-in z w) c
 lowest-by z w c p r e q = q ∙ rw e
 
 module _ (z : Sizes) (w : List ℕ) (low s : ℕ) (i : code.Item) where
@@ -114,7 +114,7 @@ module _ (z : Sizes) (w : List ℕ) (c p s : ℕ) (b : Bool) (e : b ≡ bit p s)
   unfolding unlocks-at
   not-there t = sym (rw (← e, not-true b t))
 
-  module _ (t : not b ≡ false) (f : Bool) (q : f ≡ fit-to-unlock (tree-sizes z) (of-client z w c)) where
+  module _ (t : not b ≡ false) (f : Bool) (q : f ≡ fit-to-unlock (z .slots) (of-client z w c)) where
     pub there-unfit : not f ≡ true → false ≡ unlocks-at z w c p s
     unfolding unlocks-at
     there-unfit u = sym (rw (← e, not-false b t, ← q, not-true f u))
@@ -124,11 +124,11 @@ module _ (z : Sizes) (w : List ℕ) (c p s : ℕ) (b : Bool) (e : b ≡ bit p s)
     there r u h = h ∙ sym (rw (← e, not-false b t, ← q, not-false f u))
 
 module _ (z : Sizes) (w : List ℕ) (c : ℕ) where
-  pub unlocked-all : (n p : ℕ) (r : Bool) → n ≡ z .servers → p ≡ of-client z w c (field 6) → r ≡ all-below n (unlocks-at z w c p) → r ≡ unlocks-all z w c
+  pub unlocked-all : (n p : ℕ) (r : Bool) → n ≡ 8 → p ≡ of-client z w c (field 6) → r ≡ all-below n (unlocks-at z w c p) → r ≡ unlocks-all z w c
   unfolding unlocks-all
   unlocked-all n p r en ep h = h ∙ rw (en, ep)
 
-  module _ (b : Bool) (e : b ≡ fit-to-abort (tree-sizes z) (of-client z w c)) where
+  module _ (b : Bool) (e : b ≡ fit-to-abort (z .slots) (of-client z w c)) where
     pub abort-unfit : not b ≡ true → false ≡ abort-fits z (stored-in z w) c
     unfolding abort-fits
     abort-unfit t = sym (rw (← e, not-true b t))

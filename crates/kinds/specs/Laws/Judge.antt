@@ -55,7 +55,7 @@ module _ (z : Sizes) (b : List ℕ) (l : Store-in z (length b)) where
     pub item-lent : (i : ℕ) (r : Item) → r ≡ read-item (held (midOf (8 * k) (length b - 8 * k) b)) i → r ≡ read-item (of-client z (view b) c) i
     item-lent i r q = q ∙ ap (λ (m : ClientWord → ℕ). read-item m i) part-held
 
-  module _ (s k : ℕ) (h : s < z .servers) (e : k ≡ server-at z s) where
+  module _ (s k : ℕ) (h : s < 8) (e : k ≡ server-at z s) where
     pub word-lent : (x r : ℕ) (o : Object) (a : Place) → o ≡ object-of x → a ≡ lock-of o
         → r ≡ mem Srv.places (Srv.server-block (z .slots)) (view (midOf (8 * k) (length b - 8 * k) b)) a → r ≡ stored-in z (view b) (server s (lock-of (object-of x)))
     word-lent x r o a p q f =

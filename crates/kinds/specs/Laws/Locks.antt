@@ -58,7 +58,7 @@ done-as z s f g w w′ e d =
 pub record Inside (z : Sizes) (f : Rule) : Type 0 where
   pub all : (u : Place → ℕ) → AllValid Srv.places (Srv.server-block (z .slots)) (f u)
 
-module _ (z : Sizes) (s : ℕ) (h : s < z .servers) where
+module _ (z : Sizes) (s : ℕ) (h : s < 8) where
   pub in-whole : (f : Rule) (m : Address → ℕ) → Inside z f → AllValid whole (block z) (inPart (server s) f m)
   unfolding inPart
   in-whole f m ok =
@@ -81,7 +81,7 @@ module _ (z : Sizes) (s : ℕ) (h : s < z .servers) where
       ap (λ (u : Address → ℕ). λ a. u (client c a)) e ∙ server-clients m s (f (λ a. m (server s a))) c
 
 -- ---- one object; the part was lent and came back
-pub rule-back : (z : Sizes) (s k x : ℕ) (o : Object) (f : Object → Rule) (b t : List ℕ) → s < z .servers → k ≡ server-at z s → words-for z ≤ length b / 8 → o ≡ object-of x
+pub rule-back : (z : Sizes) (s k x : ℕ) (o : Object) (f : Object → Rule) (b t : List ℕ) → s < 8 → k ≡ server-at z s → words-for z ≤ length b / 8 → o ≡ object-of x
     → Does Srv.places (Srv.server-block (z .slots)) (f o) silent (view (midOf (8 * k) (length b - 8 * k) b)) 0 (view t)
     → Done z s (f (object-of x)) (view b) (view (putMid (8 * k) (length b - 8 * k) b t))
 rule-back z s k x o f b t h e l p d =
@@ -144,7 +144,7 @@ module _ (z : Sizes) (c s low : ℕ) (k : Change) where
   unfolding Changed stepped stored inPart over upto sweep
   changed-none w = record { answer = refl; words = refl }
 
-  module _ (b₀ b : List ℕ) (n i : ℕ) (hold : Store-in z (length b₀)) (known : Known z (view b₀) c) (en : n ≡ count (of-client z (view b₀) c) Reads) (ok : s < z .servers) (l : i < n) (so : Changed z c s k low (view b₀) i (view b)) where
+  module _ (b₀ b : List ℕ) (n i : ℕ) (hold : Store-in z (length b₀)) (known : Known z (view b₀) c) (en : n ≡ count (of-client z (view b₀) c) Reads) (ok : s < 8) (l : i < n) (so : Changed z c s k low (view b₀) i (view b)) where
     room : words-for z ≤ length (view b₀)
     room = omega (arith, hold .room, view-length b₀)
 

@@ -78,36 +78,33 @@ module _ (z : Sizes) where
 pub ruleset size-exits = (servers-out, slots-out, by-clients, are-allowed, length-found, length-refused)
 
 -- ---- offsets: of products of two variables only these
-pub few-rows : (a p : ℕ) → a ≤ 8 → p ≤ 51219 → a * p ≤ 409752
-few-rows a p h g = omega (arith, mul-le-mul-right p h)
+pub server-row : (p s : ℕ) → p ≤ 51220 → s < 8 → s * p ≤ 409760
+server-row p s g h = let l : s ≤ 8 = omega arith in omega (arith, mul-le-mul-right p l)
 
-pub server-row : (z : Sizes) (p s : ℕ) → Allowed z → p ≤ 51219 → s < z .servers → s * p ≤ 409752
-server-row z p s f g h = few-rows s p (omega (arith, f .servers)) g
+pub words-few : (z : Sizes) (p : ℕ) → Allowed z → p ≤ 51220 → 8 + 8 * p + 7223 * z .clients ≤ 525336
+words-few z p f g = omega (arith, f .clients)
 
-pub words-few : (z : Sizes) (p : ℕ) → Allowed z → p ≤ 51219 → 8 + z .servers * p + 7223 * z .clients ≤ 525328
-words-few z p f g = omega (arith, f .clients, few-rows (z .servers) p (f .servers .1) g)
+pub server-few : (p s : ℕ) → p ≤ 51220 → s < 8 → 8 + s * p ≤ 525336
+server-few p s g h = omega (arith, server-row p s g h)
 
-pub server-few : (z : Sizes) (p s : ℕ) → Allowed z → p ≤ 51219 → s < z .servers → 8 + s * p ≤ 525328
-server-few z p s f g h = omega (arith, server-row z p s f g h)
-
-pub client-few : (z : Sizes) (p c : ℕ) → Allowed z → p ≤ 51219 → c < z .clients → 8 + z .servers * p + 7223 * c ≤ 525328
-client-few z p c f g h = omega (arith, f .clients, few-rows (z .servers) p (f .servers .1) g)
+pub client-few : (z : Sizes) (p c : ℕ) → Allowed z → p ≤ 51220 → c < z .clients → 8 + 8 * p + 7223 * c ≤ 525336
+client-few z p c f g h = omega (arith, f .clients)
 
 module _ (z : Sizes) (p : ℕ) (e : p ≡ Srv.partWords (z .slots)) where
-  pub words-sum : 8 + z .servers * p + 7223 * z .clients ≡ words-for z
+  pub words-sum : 8 + 8 * p + 7223 * z .clients ≡ words-for z
   unfolding words-for size Srv.partWords
-  words-sum = let q : z .servers * p ≡ z .servers * size (Srv.server-block (z .slots)) = rw e in omega arith
+  words-sum = omega (arith, e)
 
   pub server-sum : (s : ℕ) → 8 + s * p ≡ server-at z s
   unfolding server-at Srv.partWords
   server-sum s = rw e
 
-  pub client-sum : (c : ℕ) → 8 + z .servers * p + 7223 * c ≡ client-at z c
+  pub client-sum : (c : ℕ) → 8 + 8 * p + 7223 * c ≡ client-at z c
   unfolding client-at size Srv.partWords
-  client-sum c = let q : z .servers * p ≡ z .servers * size (Srv.server-block (z .slots)) = rw e in omega arith
+  client-sum c = omega (arith, e)
 
 module _ (z : Sizes) where
-  pub server-room : (s k : ℕ) → s < z .servers → k ≡ server-at z s → k + Srv.partWords (z .slots) ≤ words-for z
+  pub server-room : (s k : ℕ) → s < 8 → k ≡ server-at z s → k + Srv.partWords (z .slots) ≤ words-for z
   unfolding words-for Srv.partWords
   server-room s k h e = rw e (server-part z s h .room)
 
@@ -117,13 +114,13 @@ module _ (z : Sizes) where
 
 -- ---- a part that is lent on as `mem[8 * k..]`: what is read of it is read of the whole; what is done in it is done in the whole
 module _ (z : Sizes) where
-  server-here : (s k : ℕ) → s < z .servers → k ≡ server-at z s → Part Srv.places (Srv.server-block (z .slots)) whole (block z) (server s) k
+  server-here : (s k : ℕ) → s < 8 → k ≡ server-at z s → Part Srv.places (Srv.server-block (z .slots)) whole (block z) (server s) k
   server-here s k h e = subst (Part Srv.places (Srv.server-block (z .slots)) whole (block z) (server s)) (sym e) (server-part z s h)
 
   client-here : (c k : ℕ) → c < z .clients → k ≡ client-at z c → Part client-words client-block whole (block z) (client c) k
   client-here c k h e = subst (Part client-words client-block whole (block z) (client c)) (sym e) (client-part z c h)
 
-  pub server-lent : (s k : ℕ) (b : List ℕ) → s < z .servers → k ≡ server-at z s → words-for z ≤ length b / 8
+  pub server-lent : (s k : ℕ) (b : List ℕ) → s < 8 → k ≡ server-at z s → words-for z ≤ length b / 8
       → mem Srv.places (Srv.server-block (z .slots)) (view (midOf (8 * k) (length b - 8 * k) b)) ≡ (λ a. mem whole (block z) (view b) (server s a))
   unfolding words-for
   server-lent s k b h e l = lent-mem Srv.places (Srv.server-block (z .slots)) whole (block z) (server s) k (server-here s k h e) b l
@@ -134,7 +131,7 @@ module _ (z : Sizes) where
   client-lent c k b h e l = lent-mem client-words client-block whole (block z) (client c) k (client-here c k h e) b l
 
   pub server-back : (s k : ℕ) (g : (Place → ℕ) → List (Put Place)) (b t : List ℕ)
-      → s < z .servers → k ≡ server-at z s → words-for z ≤ length b / 8
+      → s < 8 → k ≡ server-at z s → words-for z ≤ length b / 8
       → Does Srv.places (Srv.server-block (z .slots)) g silent (view (midOf (8 * k) (length b - 8 * k) b)) 0 (view t)
       → Does whole (block z) (inPart (server s) g) silent (view b) 0 (view (putMid (8 * k) (length b - 8 * k) b t))
   unfolding words-for ofPart

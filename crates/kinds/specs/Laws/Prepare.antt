@@ -28,16 +28,16 @@ use Rattle.client.specs.Fits.{is-read, young, read-fits, version-fits, stored-r
 use Rattle.client.specs.Record.{last-version}
 use Rattle.client.specs.Drops.{version-of}
 use Rattle.client.specs.Course.{noted, decided}
-use Rattle.client.specs.Part.{put-field, put-word}
+use Rattle.client.specs.Part.{put-word}
 use Rattle.client.specs.Laws.Steps.{Good, good-field}
 use Rattle.steps.specs.declared.sizes.Sizes.{Sizes}
 use Rattle.steps.specs.declared.outcome.Outcome.{Outcome}
 use Rattle.steps.specs.declared.outcome.Outcome.the-variants.{Refused, Prepared, Decided}
 use Rattle.kinds.specs.declared.locks.Change.the-variants.{Lock}
-use Rattle.operations.specs.Slot.{TreeSizes}
-use Rattle.steps.specs.Whole.{Address, client, whole, block, words-for, tree-sizes}
+use Rattle.steps.specs.Whole.{Address, client, whole, block, words-for}
 use Rattle.steps.specs.Laws.Stores.{client-of, client-changed}
-use Rattle.steps.specs.Steps.{Did, did, then, covers, abort, applied-at, prepared-at, prepare}
+use Rattle.steps.specs.Servers.{there}
+use Rattle.steps.specs.Steps.{Did, did, then, covers, abort, applied-at, prepared-at, checked-prepare, prepare}
 use Rattle.kinds.specs.Parts.{Store-in, stored-in}
 use Rattle.kinds.specs.Items.{read-item}
 use Rattle.kinds.specs.Judge.{of-client}
@@ -53,7 +53,7 @@ use Rattle.kinds.specs.Laws.Known.{apply-storing}
 use Rattle.kinds.specs.Laws.Apply.{good-noted}
 use Rattle.kinds.specs.Prepare.{prepares, decides, applies-too}
 
-pub is-prepared : (z : Sizes) (c s : ℕ) (b₀ b b′ : List ℕ) → Store-in z (length b₀) → Known z (view b₀) c → s < z .servers
+pub is-prepared : (z : Sizes) (c s : ℕ) (b₀ b b′ : List ℕ) → Store-in z (length b₀) → Known z (view b₀) c → s < 8
     → Does whole (block z) (changes z c s Lock) silent (view b₀) 0 (view b) → Does whole (block z) (inPart (client c) (noted (field 6) s)) silent (view b) 0 (view b′)
     → Does whole (block z) (prepares z c s) silent (view b₀) 0 (view b′)
 unfolding prepares changes rule passing upto read-item inPart
@@ -89,7 +89,7 @@ unfolding kept-words record-at
 version-kept u (At i) = refl
 version-kept u Absent = refl
 
-stores-kept : (t : TreeSizes) (u : ClientWord → ℕ) (s : ℕ) → writes-fit t u s ≡ writes-fit t (kept u) s
+stores-kept : (t : ℕ) (u : ClientWord → ℕ) (s : ℕ) → writes-fit t u s ≡ writes-fit t (kept u) s
 unfolding writes-fit write-fits read-fits is-read stored-record-fits version-fits young inner-before-after inner-in kept-words count number-at record-at find has
 stores-kept t u s = ap (all-below (count u Writes)) (fun-ext (λ i. ap (λ (b : Bool). read-fits u i && (stored-record-fits t u s i && b)) (one (number-at u Writes i))))
   where
@@ -135,7 +135,7 @@ module _ (u : ClientWord → ℕ) (v : ℕ) where
   kept-phase = kept-stays 0 (upd-apart client-words u (field 0) v (field 10) refl) (upd-apart client-words u (field 0) v (field 11) refl)
 
 -- ---- after a decision
-module _ (z : Sizes) (c s : ℕ) (b₀ b : List ℕ) (hold : Store-in z (length b₀)) (k : c < z .clients) (known : Known z (view b₀) c) (h : s < z .servers) (p : Does whole (block z) (decides z c s) silent (view b₀) 0 (view b)) where
+module _ (z : Sizes) (c s : ℕ) (b₀ b : List ℕ) (hold : Store-in z (length b₀)) (k : c < z .clients) (known : Known z (view b₀) c) (h : s < 8) (p : Does whole (block z) (decides z c s) silent (view b₀) 0 (view b)) where
   abbrev before : Address → ℕ
   before = stored-in z (view b₀)
 
@@ -192,20 +192,20 @@ module _ (z : Sizes) (c s : ℕ) (b₀ b : List ℕ) (hold : Store-in z (length 
   pub decided-storing : Storing z (view b₀) c s → Storing z (view b) c s
   decided-storing f = record {
     written = as-kept (In-set z Writes) (writes-kept z) (f .written);
-    fits = as-kept (λ u. writes-fit (tree-sizes z) u s ≡ true) (λ u. ap (λ (x : Bool). x ≡ true) (stores-kept (tree-sizes z) u s)) (f .fits);
+    fits = as-kept (λ u. writes-fit (z .slots) u s ≡ true) (λ u. ap (λ (x : Bool). x ≡ true) (stores-kept (z .slots) u s)) (f .fits);
   }
 
 module _ (z : Sizes) (c s : ℕ) (d : Bool) where
-  pub too-refused : (w : List ℕ) → d ≡ fit-to-apply (tree-sizes z) (of-client z w c) s true → not d ≡ true → Meets z (applies-too z c s) w (Refused 10) w
+  pub too-refused : (w : List ℕ) → d ≡ fit-to-apply (z .slots) (of-client z w c) s true → not d ≡ true → Meets z (applies-too z c s) w (Refused 10) w
   unfolding applies-too
   too-refused w e t = meets-refused z w 10 (applies-too z c s) (sym (rw (← e, not-true d t)))
 
-  pub too-storing : (b₀ b : List ℕ) → Store-in z (length b₀) → c < z .clients → Known z (view b₀) c → s < z .servers → d ≡ fit-to-apply (tree-sizes z) (of-client z (view b₀) c) s true → not d ≡ false
+  pub too-storing : (b₀ b : List ℕ) → Store-in z (length b₀) → c < z .clients → Known z (view b₀) c → s < 8 → d ≡ fit-to-apply (z .slots) (of-client z (view b₀) c) s true → not d ≡ false
       → Does whole (block z) (decides z c s) silent (view b₀) 0 (view b) → Storing z (view b) c s
-  too-storing b₀ b hold k known h e t p = decided-storing z c s b₀ b hold k known h p (apply-storing z (view b₀) c (hold .allowed) d t s true e)
+  too-storing b₀ b hold k known h e t p = decided-storing z c s b₀ b hold k known h p (apply-storing z (view b₀) c d t s true e)
 
-  pub too-applied : (b₀ b b′ : List ℕ) (o : Outcome) → Store-in z (length b₀) → c < z .clients → Known z (view b₀) c → s < z .servers
-      → d ≡ fit-to-apply (tree-sizes z) (of-client z (view b₀) c) s true → not d ≡ false
+  pub too-applied : (b₀ b b′ : List ℕ) (o : Outcome) → Store-in z (length b₀) → c < z .clients → Known z (view b₀) c → s < 8
+      → d ≡ fit-to-apply (z .slots) (of-client z (view b₀) c) s true → not d ≡ false
       → Does whole (block z) (decides z c s) silent (view b₀) 0 (view b) → Meets z (λ m. applied-at z m c s) (view b) o (view b′) → Meets z (applies-too z c s) (view b₀) o (view b′)
   unfolding applies-too andThen words-for
   too-applied b₀ b b′ o hold k known h e t p q =
@@ -215,7 +215,7 @@ module _ (z : Sizes) (c s : ℕ) (d : Bool) where
       (decides-inside z c s b₀ b hold k known h p) p q)
 
 -- ---- no fault
-module _ (z : Sizes) (c s : ℕ) (w w′ : List ℕ) (last : Bool) (e : last ≡ covers (z .servers) (of-client z w c (field 5)) (putBit true (of-client z w c (field 6)) s)) where
+module _ (z : Sizes) (c s : ℕ) (w w′ : List ℕ) (last : Bool) (e : last ≡ covers 8 (of-client z w c (field 5)) (putBit true (of-client z w c (field 6)) s)) where
   pub not-last : not last ≡ true → Does whole (block z) (prepares z c s) silent w 0 w′ → Meets z (λ m. prepared-at z m c s) w (Prepared s) w′
   unfolding prepared-at prepares
   not-last t d =
@@ -233,25 +233,35 @@ module _ (z : Sizes) (c s : ℕ) (w w′ : List ℕ) (last : Bool) (e : last ≡
         meets-as z w Decided w′ (λ m. did Decided (decides z c s m)) (λ m. prepared-at z m c s) (sym (rw (← e, not-false last t, ← f, u)))
         (meets-did z w Decided w′ (decides z c s) d)
 
+-- ---- by what is found
+module _ (z : Sizes) (c s : ℕ) (w : List ℕ) (y : ℕ) (f : y ≡ prepare-found z w c s) where
+  pub checked-goes : (o : Outcome) (w′ : List ℕ) → y ≡ 0 → Meets z (λ m. prepared-at z m c s) w o w′ → Meets z (λ m. checked-prepare z m c s) w o w′
+  unfolding prepare-found
+  checked-goes o w′ u d = meets-as z w o w′ (λ m. prepared-at z m c s) (λ m. checked-prepare z m c s) (sym (rw (← f, eq-eqb y 0 u))) d
+
+  module _ (n : y ≡ 0 → ⊥) where
+    pub checked-refused : y ≡ 10 → Meets z (λ m. checked-prepare z m c s) w (Refused 10) w
+    unfolding prepare-found
+    checked-refused u = meets-refused z w 10 (λ m. checked-prepare z m c s) (sym (rw (← f, ne-eqb y 0 n, eq-eqb y 10 u)))
+
+    pub checked-aborts : (o : Outcome) (w′ : List ℕ) → (y ≡ 10 → ⊥) → Meets z (λ m. abort z m c y []) w o w′ → Meets z (λ m. checked-prepare z m c s) w o w′
+    unfolding prepare-found
+    checked-aborts o w′ u d = meets-as z w o w′ (λ m. abort z m c y []) (λ m. checked-prepare z m c s) (sym (rw (← f, ne-eqb y 0 n, ne-eqb y 10 u))) d
+
 -- ---- the whole
-module _ (z : Sizes) (c s : ℕ) (w : List ℕ) (b : Bool) (e : b ≡ fit-to-prepare (tree-sizes z) (of-client z w c)) where
+module _ (z : Sizes) (c s : ℕ) (w : List ℕ) (b : Bool) (e : b ≡ fit-to-prepare (z .slots) (of-client z w c)) where
   pub prepare-unfit : not b ≡ true → Meets z (λ m. prepare z m c s) w (Refused 10) w
   unfolding prepare
   prepare-unfit t = meets-refused z w 10 (λ m. prepare z m c s) (sym (rw (← e, not-true b t)))
 
-  module _ (y : ℕ) (f : y ≡ prepare-found z w c s) (t : not b ≡ false) where
-    pub prepare-goes : (o : Outcome) (w′ : List ℕ) → y ≡ 0 → Meets z (λ m. prepared-at z m c s) w o w′ → Meets z (λ m. prepare z m c s) w o w′
-    unfolding prepare prepare-found
-    prepare-goes o w′ u d = meets-as z w o w′ (λ m. prepared-at z m c s) (λ m. prepare z m c s) (sym (rw (← e, not-false b t, ← f, eq-eqb y 0 u))) d
+  module _ (h : Bool) (f : h ≡ there (stored-in z w) s) (t : not b ≡ false) (o : Outcome) (w′ : List ℕ) where
+    pub prepare-absent : not h ≡ true → Meets z (λ m. abort z m c 1 []) w o w′ → Meets z (λ m. prepare z m c s) w o w′
+    unfolding prepare
+    prepare-absent u d = meets-as z w o w′ (λ m. abort z m c 1 []) (λ m. prepare z m c s) (sym (rw (← e, not-false b t, ← f, not-true h u))) d
 
-    module _ (n : y ≡ 0 → ⊥) where
-      pub prepare-refused : y ≡ 10 → Meets z (λ m. prepare z m c s) w (Refused 10) w
-      unfolding prepare prepare-found
-      prepare-refused u = meets-refused z w 10 (λ m. prepare z m c s) (sym (rw (← e, not-false b t, ← f, ne-eqb y 0 n, eq-eqb y 10 u)))
-
-      pub prepare-aborts : (o : Outcome) (w′ : List ℕ) → (y ≡ 10 → ⊥) → Meets z (λ m. abort z m c y []) w o w′ → Meets z (λ m. prepare z m c s) w o w′
-      unfolding prepare prepare-found
-      prepare-aborts o w′ u d = meets-as z w o w′ (λ m. abort z m c y []) (λ m. prepare z m c s) (sym (rw (← e, not-false b t, ← f, ne-eqb y 0 n, ne-eqb y 10 u))) d
+    pub prepare-checked : not h ≡ false → Meets z (λ m. checked-prepare z m c s) w o w′ → Meets z (λ m. prepare z m c s) w o w′
+    unfolding prepare
+    prepare-checked u d = meets-as z w o w′ (λ m. checked-prepare z m c s) (λ m. prepare z m c s) (sym (rw (← e, not-false b t, ← f, not-false h u))) d
 
 pub only-by : (n s q v : ℕ) → q ≡ n → v ≡ putBit true 0 s → eqb q v ≡ eqb n (putBit true 0 s)
 only-by n s q v e f = rw (e, f)

@@ -1,14 +1,13 @@
 -- Laws of the refusals' code: a row of the table at a time, in order.
 use mathlib.Core.Path.{_≡_, refl, sym, ap, _∙_, subst}
 use mathlib.Core.Bool.{Bool, true, false, cond, _&&_, _||_, not}
-use mathlib.Core.List.{List}
+use mathlib.Core.List.{List, [], _∷_}
 use Prim.Native.Nat.{ℕ, zero, suc, _-_, _*_, _/_, _≤_, _<_}
 use native.Mathlib.Omega.{arith}
-use borrow.Author.Tests.{eq-eqb, ne-eqb, lt-ltb, le-ltb, le-leb, lt-leb, leb-false, ltb-false}
+use borrow.Author.Tests.{eq-eqb, ne-eqb, lt-ltb, le-ltb, le-leb, lt-leb, leb-false, ltb-false, not-true, not-false}
 use borrow.Rule.Slice.PartMut.{midOf}
 use lib.Dec.{eqb, leb, ltb}
-use lib.ListN.{length}
-use Rattle.base.specs.Laws.Table.{past-eight}
+use lib.ListN.{length, List·getD-eq-default}
 use Rattle.memory.specs.Word.{view}
 use Rattle.memory.specs.Bit.{bit}
 use Rattle.client.specs.Layout.{ClientWord, field, phase, op-number, participants}
@@ -17,12 +16,15 @@ use Rattle.client.specs.Sets.{held}
 use Rattle.steps.specs.declared.sizes.Sizes.{Sizes}
 use Rattle.steps.specs.declared.step.Step.{Step}
 use Rattle.steps.specs.declared.step.Kind.{Kind}
-use Rattle.steps.specs.declared.step.Kind.the-variants.{Begin, Give, Work, Commit, Prepare, Apply, GiveUp, Lost, Unknown}
-use Rattle.steps.specs.Whole.{Allowed, client, tree-sizes, words-for, length-for, client-at}
+use Rattle.steps.specs.declared.step.Kind.the-variants.{Begin, Give, Work, Commit, Prepare, Apply, GiveUp, Lost, Servers, Unknown}
+use Rattle.steps.specs.declared.step.ServerChange.{ServerChange}
+use Rattle.steps.specs.declared.step.ServerChange.the-variants.{Add, Close, Remove}
+use Rattle.steps.specs.Servers.{change-of, state-suits, any-taken, version-ends, quiet}
+use Rattle.steps.specs.Whole.{Address, client, words-for, length-for, client-at}
 use Rattle.steps.specs.Refusal.{between, allowed?, first, kind-of, open-refusal, refusal, state-fits}
 use Rattle.kinds.specs.Parts.{Store-in, stored-in}
 use Rattle.kinds.specs.Laws.Parts.{are-allowed, client-lent}
-use Rattle.kinds.specs.Refusal.{first-refusal, server-refusal, node-refusal, count-refusal, give-refusal, field-refusal, known-refusal, left, due, fitting, unfit, Sited}
+use Rattle.kinds.specs.Refusal.{first-refusal, server-refusal, node-refusal, count-refusal, give-refusal, field-refusal, known-refusal, left, due, fitting, unfit, taken-yet, change-refusal, Sited}
 
 pub ruleset tests = (eq-eqb, ne-eqb, lt-ltb, le-ltb, le-leb, lt-leb)
 
@@ -69,9 +71,16 @@ pub ruleset memory-exits = (too-short, not-allowed, shorter, long-enough)
 pub of-number : (n k : ℕ) (r : Kind) → n ≡ k → r ≡ kind-of k → r ≡ kind-of n
 of-number n k r e h = rw e h
 
-pub of-none : (n : ℕ) → (n ≡ 0 → ⊥) → (n ≡ 1 → ⊥) → (n ≡ 2 → ⊥) → (n ≡ 3 → ⊥) → (n ≡ 4 → ⊥) → (n ≡ 5 → ⊥) → (n ≡ 6 → ⊥) → (n ≡ 7 → ⊥) → Unknown ≡ kind-of n
+above : (n i : ℕ) → i ≤ n → (n ≡ i → ⊥) → suc i ≤ n
+above n i l d = omega arith
+
+pub of-none : (n : ℕ) → (n ≡ 0 → ⊥) → (n ≡ 1 → ⊥) → (n ≡ 2 → ⊥) → (n ≡ 3 → ⊥) → (n ≡ 4 → ⊥) → (n ≡ 5 → ⊥) → (n ≡ 6 → ⊥) → (n ≡ 7 → ⊥)
+    → (n ≡ 8 → ⊥) → (n ≡ 9 → ⊥) → (n ≡ 10 → ⊥) → Unknown ≡ kind-of n
 unfolding kind-of
-of-none = past-eight _ _ _ _ _ _ _ _ Unknown
+of-none n a b c d e f g h i j k =
+    let l : 11 ≤ n =
+    above n 10 (above n 9 (above n 8 (above n 7 (above n 6 (above n 5 (above n 4 (above n 3 (above n 2 (above n 1 (above n 0 (omega arith) a) b) c) d) e) f) g) h) i) j) k in
+    sym (List·getD-eq-default (Begin ∷ Give ∷ Work ∷ Commit ∷ Prepare ∷ Apply ∷ GiveUp ∷ Lost ∷ Servers Add ∷ Servers Close ∷ Servers Remove ∷ []) Unknown {n = n} l)
 
 fits-fitting : (m : ClientWord → ℕ) (s : ℕ) (k : Kind) → fitting k (m phase) (m op-number) (due m s k) ≡ state-fits m s k
 unfolding state-fits fitting due left
@@ -83,6 +92,7 @@ fits-fitting m s Prepare = refl
 fits-fitting m s Apply = refl
 fits-fitting m s GiveUp = refl
 fits-fitting m s Lost = refl
+fits-fitting m s (Servers x) = refl
 fits-fitting m s Unknown = refl
 
 pub fits-by : (m : ClientWord → ℕ) (s p o : ℕ) (k : Kind) (d r : Bool) → p ≡ m phase → o ≡ m op-number → d ≡ due m s k → r ≡ fitting k p o d → r ≡ state-fits m s k
@@ -122,24 +132,24 @@ client-unfit z k b j i t l h e q = ap not (q ∙ ap (λ (m : ClientWord → ℕ)
 pub some-first : (a b : ℕ) → (a ≡ 0 → ⊥) → a ≡ first-refusal a b
 some-first a b h = sym (rw (ne-eqb a 0 h))
 
-within-servers : (z : Sizes) (s : ℕ) → z .servers ≤ 8 → server-refusal z s ≡ 0 → s < 8
+within-servers : (s : ℕ) → server-refusal s ≡ 0 → s < 8
 unfolding server-refusal
-within-servers z s l h = go (leb (z .servers) s) refl h
+within-servers s h = go (leb 8 s) refl h
   where
-    go : (b : Bool) → leb (z .servers) s ≡ b → _≡_ {A = ℕ} (cond b 7 0) 0 → s < 8
+    go : (b : Bool) → leb 8 s ≡ b → _≡_ {A = ℕ} (cond b 7 0) 0 → s < 8
     go true p h = absurd (omega arith)
-    go false p h = let f : s < z .servers = leb-false (z .servers) s p in omega arith
+    go false p h = leb-false 8 s p
+
+pub server-out : (n : ℕ) → 8 ≤ n → 7 ≡ server-refusal n
+unfolding server-refusal
+server-out n h = sym (rw (le-leb _ _ h))
+
+pub server-in : (n : ℕ) → n < 8 → 0 ≡ server-refusal n
+unfolding server-refusal
+server-in n h = sym (rw (lt-leb _ _ h))
 
 module _ (z : Sizes) (n : ℕ) where
-  pub server-out : z .servers ≤ n → 7 ≡ server-refusal z n
-  unfolding server-refusal
-  server-out h = sym (rw (le-leb _ _ h))
-
-  pub server-in : n < z .servers → 0 ≡ server-refusal z n
-  unfolding server-refusal
-  server-in h = sym (rw (lt-leb _ _ h))
-
-  module _ (b : Bool) (e : b ≡ in-store (tree-sizes z) n) where
+  module _ (b : Bool) (e : b ≡ in-store (z .slots) n) where
     pub node-in : b ≡ true → 0 ≡ node-refusal z n
     unfolding node-refusal
     node-in t = sym (rw (← e, t))
@@ -165,7 +175,7 @@ module _ (z : Sizes) (k : Step) where
   unfolding give-refusal
   op-list r e h = rw (e, ← h)
 
-  pub op-migrate : (a b r : ℕ) → k .op ≡ 6 → a ≡ server-refusal z (k .server) → b ≡ node-refusal z (k .key) → r ≡ first-refusal a b → r ≡ give-refusal z k
+  pub op-migrate : (a b r : ℕ) → k .op ≡ 6 → a ≡ server-refusal (k .server) → b ≡ node-refusal z (k .key) → r ≡ first-refusal a b → r ≡ give-refusal z k
   unfolding give-refusal
   op-migrate a b r e p q h = rw (e, ← p, ← q) h
 
@@ -184,17 +194,18 @@ pub kind-fields : (z : Sizes) (k : Step) (i j : Kind) (r : ℕ) → i ≡ j → 
 kind-fields z k i j r e h = rw e h
 
 -- where 7 doesn't hold
-pub is-sited : (z : Sizes) (k : Step) (i : Kind) (a : ℕ) → Allowed z → a ≡ field-refusal z k i → a ≡ 0 → Sited i (k .server)
+pub is-sited : (z : Sizes) (k : Step) (i : Kind) (a : ℕ) → a ≡ field-refusal z k i → a ≡ 0 → Sited i (k .server)
 unfolding field-refusal Sited server-refusal
-is-sited z k Begin a f e t = tt
-is-sited z k Give a f e t = tt
-is-sited z k Work a f e t = tt
-is-sited z k Commit a f e t = tt
-is-sited z k Prepare a f e t = within-servers z (k .server) (f .servers .1) (sym e ∙ t)
-is-sited z k Apply a f e t = within-servers z (k .server) (f .servers .1) (sym e ∙ t)
-is-sited z k GiveUp a f e t = tt
-is-sited z k Lost a f e t = tt
-is-sited z k Unknown a f e t = tt
+is-sited z k Begin a e t = tt
+is-sited z k Give a e t = tt
+is-sited z k Work a e t = tt
+is-sited z k Commit a e t = tt
+is-sited z k Prepare a e t = within-servers (k .server) (sym e ∙ t)
+is-sited z k Apply a e t = within-servers (k .server) (sym e ∙ t)
+is-sited z k GiveUp a e t = tt
+is-sited z k Lost a e t = tt
+is-sited z k (Servers x) a e t = tt
+is-sited z k Unknown a e t = tt
 
 -- ---- 5 to 9, of a kind that is known
 module _ (z : Sizes) (k : Step) (i : Kind) (w : List ℕ) where
@@ -221,7 +232,7 @@ pub ruleset known-exits = (is-sited, no-client, asked-first, state-unfit, state-
 -- ---- 4 to 9 and 11: the table is what its kinds ask
 -- the table's rows 6, 11, 7 and 8 of a give, then x
 abbrev rows : (o : ℕ) (s d c : Bool) (x : ℕ) → ℕ
-rows o s d c x = cond (not (between 1 7 o)) 6 (cond (eqb o 7 && not c) 11 (cond ((eqb o 6 || false) && s) 7 (cond (eqb o 6 && not d) 8 x)))
+rows o s d c x = cond (not (between 1 7 o)) 6 (cond (eqb o 7 && not c) 11 (cond (((eqb o 6 || false) || false) && s) 7 (cond (eqb o 6 && not d) 8 x)))
 
 abbrev given : (o : ℕ) (s d c : Bool) → ℕ
 given o s d c = cond (between 1 5 o) 0 (cond (eqb o 6) (first-refusal (cond s 7 0) (cond d 0 8)) (cond (eqb o 7) (cond c 0 11) 6))
@@ -248,6 +259,52 @@ by-site : (s : Bool) (x : ℕ) → first-refusal (cond s 7 0) x ≡ cond s 7 x
 by-site true x = refl
 by-site false x = refl
 
+-- rows 13 to 15 and 9 of a change of the servers
+rows-9 : (s f t v q : Bool)
+    → _≡_ {A = ℕ} (cond s 7 (cond (not f) 13 (cond t 14 (cond v 15 (cond q 0 9))))) (cond s 7 (cond (not f) 13 (cond t 14 (cond v 15 (cond (not q) 9 0)))))
+rows-9 true f t v q = refl
+rows-9 false false t v q = refl
+rows-9 false true true v q = refl
+rows-9 false true false true q = refl
+rows-9 false true false false true = refl
+rows-9 false true false false false = refl
+
+-- ---- a change of the servers, a row at a time
+module _ (z : Sizes) (x : ServerChange) (s : ℕ) (m : Address → ℕ) where
+  pub change-nowhere : 8 ≤ s → 7 ≡ change-refusal z x s m
+  unfolding change-refusal
+  change-nowhere h = sym (rw (le-leb _ _ h))
+
+  module _ (l : s < 8) (f : Bool) (e : f ≡ state-suits m s x) where
+    pub change-unsuited : not f ≡ true → 13 ≡ change-refusal z x s m
+    unfolding change-refusal
+    change-unsuited t = sym (rw (lt-leb _ _ l, ← e, not-true f t))
+
+    module _ (t : Bool) (nf : not f ≡ false) (q : t ≡ taken-yet m x s) where
+      pub change-taken : t ≡ true → 14 ≡ change-refusal z x s m
+      unfolding change-refusal
+      change-taken u = sym (rw (lt-leb _ _ l, ← e, not-false f nf, ← q, u))
+
+      module _ (v : Bool) (nt : t ≡ false) (p : v ≡ version-ends m) where
+        pub change-ended : v ≡ true → 15 ≡ change-refusal z x s m
+        unfolding change-refusal
+        change-ended u = sym (rw (lt-leb _ _ l, ← e, not-false f nf, ← q, nt, ← p, u))
+
+        module _ (b : Bool) (nv : v ≡ false) (h : b ≡ quiet z m) where
+          pub change-passes : b ≡ true → 0 ≡ change-refusal z x s m
+          unfolding change-refusal
+          change-passes u = sym (rw (lt-leb _ _ l, ← e, not-false f nf, ← q, nt, ← p, nv, ← h, u))
+
+          pub change-loud : b ≡ false → 9 ≡ change-refusal z x s m
+          unfolding change-refusal
+          change-loud u = sym (rw (lt-leb _ _ l, ← e, not-false f nf, ← q, nt, ← p, nv, ← h, u))
+
+pub ruleset change-exits = (change-nowhere, change-unsuited, change-taken, change-ended, change-passes, change-loud)
+
+-- 14 of a removal
+pub not-removed : (m : Address → ℕ) (s : ℕ) (x y : ServerChange) (r : Bool) → x ≡ y → r ≡ taken-yet m y s → r ≡ taken-yet m x s
+not-removed m s x y r e h = rw e h
+
 module _ (z : Sizes) (k : Step) (w : List ℕ) where
   -- the same step with a kind's number
   abbrev kinded : ℕ → Step
@@ -259,18 +316,37 @@ module _ (z : Sizes) (k : Step) (w : List ℕ) where
   by-kind : (n : ℕ) → n < 8 → known-refusal z (kinded n) (kind-of n) w ≡ refusal z (kinded n) (stored-in z w)
   unfolding refusal first known-refusal field-refusal unfit give-refusal server-refusal node-refusal count-refusal kind-of
   by-kind zero h = refl
-  by-kind (suc zero) h = rw (by-op (k .op) (leb (z .servers) (k .server)) (in-store (tree-sizes z) (k .key)) (between 1 32 (k .value)) (nine Give))
+  by-kind (suc zero) h = rw (by-op (k .op) (leb 8 (k .server)) (in-store (z .slots) (k .key)) (between 1 32 (k .value)) (nine Give))
   by-kind (suc (suc zero)) h = refl
   by-kind (suc (suc (suc zero))) h = refl
-  by-kind (suc (suc (suc (suc zero)))) h = rw (by-site (leb (z .servers) (k .server)) (nine Prepare))
-  by-kind (suc (suc (suc (suc (suc zero))))) h = rw (by-site (leb (z .servers) (k .server)) (nine Apply))
+  by-kind (suc (suc (suc (suc zero)))) h = rw (by-site (leb 8 (k .server)) (nine Prepare))
+  by-kind (suc (suc (suc (suc (suc zero))))) h = rw (by-site (leb 8 (k .server)) (nine Apply))
   by-kind (suc (suc (suc (suc (suc (suc zero)))))) h = refl
   by-kind (suc (suc (suc (suc (suc (suc (suc zero))))))) h = refl
   by-kind (suc (suc (suc (suc (suc (suc (suc (suc n)))))))) h = absurd (omega arith)
 
-  pub kind-above : 7 < k .kind → 4 ≡ refusal z k (stored-in z w)
+  pub kind-above : (k .kind ≡ 8 → ⊥) → (k .kind ≡ 9 → ⊥) → (k .kind ≡ 10 → ⊥) → 8 ≤ k .kind → 4 ≡ refusal z k (stored-in z w)
   unfolding refusal first
-  kind-above h = sym (rw (lt-ltb 7 (k .kind) h))
+  kind-above a b c h = let l : 10 < k .kind = omega arith in sym (rw (lt-ltb 10 (k .kind) l))
 
   pub kind-known : (i : Kind) (r : ℕ) → k .kind < 8 → i ≡ kind-of (k .kind) → r ≡ known-refusal z k i w → r ≡ refusal z k (stored-in z w)
   kind-known i r h e p = p ∙ rw e (by-kind (k .kind) h)
+
+  -- of a change of the servers
+  by-change : (n : ℕ) → 8 ≤ n → n < 11 → change-refusal z (change-of n) (k .server) (stored-in z w) ≡ refusal z (kinded n) (stored-in z w)
+  unfolding refusal first change-refusal taken-yet change-of
+  by-change (suc (suc (suc (suc (suc (suc (suc (suc zero)))))))) l h = rows-9 (leb 8 (k .server)) (state-suits (stored-in z w) (k .server) Add) false (version-ends (stored-in z w)) (quiet z (stored-in z w))
+  by-change (suc (suc (suc (suc (suc (suc (suc (suc (suc zero))))))))) l h = rows-9 (leb 8 (k .server)) (state-suits (stored-in z w) (k .server) Close) false (version-ends (stored-in z w)) (quiet z (stored-in z w))
+  by-change (suc (suc (suc (suc (suc (suc (suc (suc (suc (suc zero)))))))))) l h = rows-9 (leb 8 (k .server)) (state-suits (stored-in z w) (k .server) Remove) (any-taken (stored-in z w) (k .server)) (version-ends (stored-in z w)) (quiet z (stored-in z w))
+  by-change (suc (suc (suc (suc (suc (suc (suc (suc (suc (suc (suc n))))))))))) l h = absurd (omega arith)
+  by-change zero l h = absurd (omega arith)
+  by-change (suc zero) l h = absurd (omega arith)
+  by-change (suc (suc zero)) l h = absurd (omega arith)
+  by-change (suc (suc (suc zero))) l h = absurd (omega arith)
+  by-change (suc (suc (suc (suc zero)))) l h = absurd (omega arith)
+  by-change (suc (suc (suc (suc (suc zero))))) l h = absurd (omega arith)
+  by-change (suc (suc (suc (suc (suc (suc zero)))))) l h = absurd (omega arith)
+  by-change (suc (suc (suc (suc (suc (suc (suc zero))))))) l h = absurd (omega arith)
+
+  pub kind-changes : (n : ℕ) (x : ServerChange) (r : ℕ) → k .kind ≡ n → 8 ≤ n → n < 11 → x ≡ change-of n → r ≡ change-refusal z x (k .server) (stored-in z w) → r ≡ refusal z k (stored-in z w)
+  kind-changes n x r e l h q p = p ∙ rw (q, ← e) (by-change (k .kind) (omega arith) (omega arith))

@@ -26,7 +26,7 @@ use Rattle.server.specs.Object.{object-of, named, Has}
 use Rattle.server.specs.Store.{metadata-step, flag-step, home-step, table-step, node-step}
 use Rattle.client.specs.declared.part.Set.the-variants.{Reads, Writes}
 use Rattle.client.specs.Layout.{ClientWord}
-use Rattle.client.specs.Record.{first-slot}
+use Rattle.client.specs.Record.{first-slot, second-slot}
 use Rattle.client.specs.Sets.{held, count, number-at, record-at, find}
 use Rattle.client.specs.Items.{inner-before-after}
 use Rattle.client.specs.Participants.{at-home}
@@ -34,10 +34,10 @@ use Rattle.client.specs.Drops.{version-of, next-version}
 use Rattle.client.specs.Fits.{young, read-fits, version-fits, stored-record-fits, write-fits, writes-fit}
 use Rattle.client.specs.Laws.Ranges.{all-at}
 use Rattle.steps.specs.declared.sizes.Sizes.{Sizes}
-use Rattle.steps.specs.Whole.{server, whole, block, words-for, tree-sizes, client-at}
+use Rattle.steps.specs.Whole.{server, whole, block, words-for, client-at}
 use Rattle.steps.specs.Steps.{store-write}
 use Rattle.steps.specs.Laws.Writes.{write-inside}
-use Rattle.kinds.specs.Parts.{Store-in, stored-in}
+use Rattle.kinds.specs.Parts.{Store-in}
 use Rattle.kinds.specs.Laws.Parts.{client-lent}
 use Rattle.kinds.specs.Judge.{of-client}
 use Rattle.kinds.specs.Fits.{In-set}
@@ -84,9 +84,10 @@ module _ (z : Sizes) (b : List ℕ) (c k : ℕ) (l : Store-in z (length b)) (h :
 
 -- ---- stored in the server's part
 module _ (n s : ℕ) (w : code.Write) (k : ℕ) (f : k ≡ first-slot (w .node)) (p p′ : List ℕ) where
-  pub meta-written : w .number ≡ 0 → Does Srv.places (Srv.server-block n) (metadata-step k (w .read + 1)) silent p 0 p′ → Does Srv.places (Srv.server-block n) (write-step s w) silent p 0 p′
+  pub meta-written : (st : ℕ) → w .number ≡ 0 → st ≡ second-slot (w .node) → Does Srv.places (Srv.server-block n) (metadata-step k st (w .read + 1)) silent p 0 p′
+      → Does Srv.places (Srv.server-block n) (write-step s w) silent p 0 p′
   unfolding write-step
-  meta-written e d = does-as Srv.places (Srv.server-block n) (metadata-step k (w .read + 1)) (write-step s w) silent p 0 p′ (sym (rw (eq-eqb (w .number) 0 e, ← f))) d
+  meta-written st e q d = does-as Srv.places (Srv.server-block n) (metadata-step k st (w .read + 1)) (write-step s w) silent p 0 p′ (sym (rw (eq-eqb (w .number) 0 e, ← f, ← q))) d
 
   pub flag-written : (b : Bool) → (w .number ≡ 0 → ⊥) → 8192 < w .number → b ≡ at-home s (w .number) → b ≡ true
       → Does Srv.places (Srv.server-block n) (flag-step (named (w .number - 8193)) (eqb k 1)) silent p 0 p′ → Does Srv.places (Srv.server-block n) (write-step s w) silent p 0 p′
@@ -153,7 +154,7 @@ module _ (z : Sizes) (c s : ℕ) where
   unfolding StoredUpto stepped stored inPart over sweep
   stored-none w = record { answer = refl; words = refl }
 
-  module _ (b₀ b : List ℕ) (n i : ℕ) (hold : Store-in z (length b₀)) (storing : Storing z (view b₀) c s) (en : n ≡ count (of-client z (view b₀) c) Writes) (ok : s < z .servers) (l : i < n) (so : StoredUpto z c s (view b₀) i (view b)) where
+  module _ (b₀ b : List ℕ) (n i : ℕ) (hold : Store-in z (length b₀)) (storing : Storing z (view b₀) c s) (en : n ≡ count (of-client z (view b₀) c) Writes) (ok : s < 8) (l : i < n) (so : StoredUpto z c s (view b₀) i (view b)) where
     room : words-for z ≤ length (view b₀)
     room = omega (arith, hold .room, view-length b₀)
 
@@ -167,7 +168,7 @@ module _ (z : Sizes) (c s : ℕ) where
     unfolding writes-fit write-fits
     stored-writable =
         let m = of-client z (view b₀) c in
-        let t = tree-sizes z in
+        let t = z .slots in
         let one = all-at (write-fits t m s) (count m Writes) i (storing .fits) (omega arith) in
         subst (λ (m : ClientWord → ℕ). Writable z m s i) (sym stay)
         (record {

@@ -6,11 +6,11 @@ use borrow.Author.Tests.{lt-ltb, le-ltb}
 use lib.Dec.{ltb}
 use Rattle.nodes.specs.Name.{server-of, slot-of, name-in-store}
 
-module _ (servers slots x r : ℕ) (o : r ≡ server-of x) where
-  pub no-server : servers ≤ r → false ≡ name-in-store servers slots x
+module _ (slots x r : ℕ) (o : r ≡ server-of x) where
+  pub no-server : 8 ≤ r → false ≡ name-in-store slots x
   unfolding name-in-store
   no-server h = sym (rw (← o, le-ltb _ _ h))
 
-  pub by-slot : (k : ℕ) → r < servers → k ≡ slot-of x → ltb k slots ≡ name-in-store servers slots x
+  pub by-slot : (k : ℕ) → r < 8 → k ≡ slot-of x → ltb k slots ≡ name-in-store slots x
   unfolding name-in-store
   by-slot k h l = sym (rw (← o, lt-ltb _ _ h, ← l))

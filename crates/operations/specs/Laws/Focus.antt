@@ -6,7 +6,7 @@ use mathlib.Core.Logic.{inl, inr}
 use Prim.Native.Nat.{ℕ, zero, suc, _+_, _<_, _≤_}
 use native.Mathlib.Omega.{arith}
 use lib.ListN.{length}
-use Rattle.operations.specs.Object.{Obj, meta, node, flag, Val, root, taken, is-taken, free, Ans, Writes, with-value, over}
+use Rattle.operations.specs.Object.{Obj, meta, node, flag, Val, root, taken, states-of, is-taken, free, Ans, Writes, with-value, over}
 use Rattle.operations.specs.Map.{Map, two-to-64}
 use Rattle.operations.specs.Laws.Map.{H-pos}
 use Rattle.operations.specs.Entry.{node-value, fewest-entries, most-entries, first-key-or}
@@ -94,7 +94,7 @@ Above N l (frame k c pre post p) = Stored N (suc l) p
 -- hole's own node need not be stored, and the number of its entries is not part of it.
 pub record Focus (U : Obj → Val) (l : ℕ) (p : Path l) (es : List (ℕ × Slot l)) (sp : ℕ → ℕ) (m : Map) : Type 0 where
   pub lev : root-lev l p ≤ 4
-  pub top-is : U meta ≡ root (root-nm l p)
+  pub top-is : U meta ≡ root (root-nm l p) (states-of (U meta))
   pub inside : (x : ℕ) → room ≤ x → U (flag x) ≡ taken false
   pub ctx : Ctx (λ n. U (node n)) l p
   pub above : Above (λ n. U (node n)) l p

@@ -106,7 +106,7 @@ all-levels U m R = every U m R (λ v. level-of v ≤ 4) (omega arith) (λ l k b 
 
 -- there is a node under every name
 abbrev pub node-like : Val → Bool
-node-like (root r) = false
+node-like (root r st) = false
 node-like (body k l ks vs) = true
 node-like (taken b) = false
 node-like (flags fs) = false

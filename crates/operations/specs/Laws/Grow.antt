@@ -11,7 +11,7 @@ use Rattle.operations.specs.Object.{Obj, node, flag, Val, taken, Ans, Wr
 use Rattle.operations.specs.Map.{Map, two-to-64}
 use Rattle.operations.specs.Entry.{Entries, node-value, fewest-entries, most-entries, first-key-or}
 use Rattle.operations.specs.Path.{TreePlan}
-use Rattle.operations.specs.Slot.{TreeSizes, Allowed, take-for, take-node}
+use Rattle.operations.specs.Slot.{take-for, take-node}
 use Rattle.operations.specs.Change.{Go, parted, split-root, split, up}
 use Rattle.operations.specs.Chain.{one, tally, ren}
 use Rattle.operations.specs.Laws.Chain.{one-same, ren-length, ren-take, ren-drop, ren-nxt}
@@ -26,7 +26,7 @@ use Rattle.operations.specs.Laws.Slots.{Supply, take-for-ok, take-node-o
 use Rattle.operations.specs.Laws.Rise.{near-of, ne-of, mn-mx, Next, write-ok, parted-ok, neighbour-ok}
 use Rattle.plans.specs.Plan as P
 
-module _ (F : Terms) (sz : TreeSizes) (al : Allowed sz) (M : Obj → Val) (supply : Supply F M sz) (m : Map) (a : Ans) where
+module _ (F : Terms) (slots : ℕ) (al : slots ≤ 1024) (M : Obj → Val) (supply : Supply F M slots) (m : Map) (a : Ans) where
   abbrev E : Ans → Writes → Type 0
   E = Ends M m a
 
@@ -34,7 +34,7 @@ module _ (F : Terms) (sz : TreeSizes) (al : Allowed sz) (M : Obj → Val) (suppl
   split-ok : (l k c : ℕ) (pre post : List (ℕ × Slot (suc l))) (p : Path (suc l)) (w : Writes) (es : List (ℕ × Slot l)) (go : Go)
       → length es ≡ suc (most-entries l) → floor (suc l) p ≤ suc (length pre + length post) → suc (length pre + length post) ≤ most-entries (suc l) → Next F M m a (suc l) p go
       → Focus (over w M) l (frame k c pre post p) es nil m
-      → Ok F E M (split sz go l w (branch l k pre post p) c (ren (word l) es))
+      → Ok F E M (split slots go l w (branch l k pre post p) c (ren (word l) es))
   split-ok l k c pre post p w es go n fl s next f =
       let U = over w M in
       let W = word l in
@@ -46,7 +46,7 @@ module _ (F : Terms) (sz : TreeSizes) (al : Allowed sz) (M : Obj → Val) (suppl
       let td = length-append (take j es) (drop j es) in
       let tt′ = ap length (take-append-drop j es) in
       let on : Entries → Entries → ℕ → Writes → TreePlan = λ L R d w1. parted go l w1 (branch l k pre post p) c L d R in
-      take-for-ok F E M sz al supply c w (λ d w1. take-node w1 d (on (take j (ren W es)) (drop j (ren W es)) d w1)) t (f .marks)
+      take-for-ok F E M slots al supply c w (λ d w1. take-node w1 d (on (take j (ren W es)) (drop j (ren W es)) d w1)) t (f .marks)
       (λ d sm z.
       let w1 : Writes = (flag d, taken true) ∷ w in
       take-node-ok F E M w1 d (on (take j (ren W es)) (drop j (ren W es)) d w1) (mark-free (U (flag d)) (U (node d)) (t d) z (f .marks d) .1)
@@ -81,7 +81,7 @@ module _ (F : Terms) (sz : TreeSizes) (al : Allowed sz) (M : Obj → Val) (suppl
       (write-ok M m (suc l) (top r) ((node d, v2) ∷ (node c, v1) ∷ w) mid f3 tt (omega arith) (omega arith))
 
   root-split-ok : (l r : ℕ) (w : Writes) (es : List (ℕ × Slot l)) → suc l ≤ 4 → length es ≡ suc (most-entries l) → Focus (over w M) l (top r) es nil m
-      → Ok F E M (split-root sz a l w r (ren (word l) es))
+      → Ok F E M (split-root slots a l w r (ren (word l) es))
   root-split-ok l r w es i n f =
       let W = word l in
       let j = fewest-entries l in
@@ -94,12 +94,12 @@ module _ (F : Terms) (sz : TreeSizes) (al : Allowed sz) (M : Obj → Val) (suppl
       let end : ℕ → ℕ → Entries → Entries → Writes → Writes = λ c d L R w2. (node r, node-value (suc l) ((0, c) ∷ (first-key-or R 0, d) ∷ [])) ∷ (node d, node-value l R) ∷ (node c, node-value l L) ∷ w2 in
       let last : ℕ → ℕ → Writes → TreePlan = λ c d w2. take-node w2 c (take-node w2 d (P.done (a, end c d A B w2))) in
       let t1 : ℕ → ℕ = λ x. 0 + one r x + tally (cnt l) es x + 0 in
-      take-for-ok F E M sz al supply r w (λ c w1. take-for sz r w1 (λ d w2. last c d w2)) t1 (f .marks)
+      take-for-ok F E M slots al supply r w (λ c w1. take-for slots r w1 (λ d w2. last c d w2)) t1 (f .marks)
       (λ c sm1 z1.
       let w1 : Writes = (flag c, taken true) ∷ w in
       let t2 : ℕ → ℕ = λ x. 0 + one r x + tally (cnt l) es x + one c x in
       let f1 = slot-taken (over w M) m l (top r) es nil (one c) c z1 sm1 (λ x. omega arith) f in
-      take-for-ok F E M sz al supply r w1 (λ d w2. last c d w2) t2 (f1 .marks)
+      take-for-ok F E M slots al supply r w1 (λ d w2. last c d w2) t2 (f1 .marks)
       (λ d sm2 z2.
       let w2 : Writes = (flag d, taken true) ∷ w1 in
       let f2 = slot-taken (over w1 M) m l (top r) es (one c) (λ x. one c x + one d x) d z2 sm2 (λ x. refl) f1 in
@@ -130,7 +130,7 @@ module _ (F : Terms) (sz : TreeSizes) (al : Allowed sz) (M : Obj → Val) (suppl
           (λ x h. omega (arith, mark-free (U (flag x)) (U (node x)) (t x) (f .inside x h) (f .marks x) .0)))
 
   -- new entries of any node, carried to the root
-  pub up-ok : (l : ℕ) (p : Path l) → Next F M m a l p (λ w es. up sz a l (branches l p) w (nm l p) es)
+  pub up-ok : (l : ℕ) (p : Path l) → Next F M m a l p (λ w es. up slots a l (branches l p) w (nm l p) es)
   up-ok l (top r) w es f st n s =
       let fl = ren (word l) es in
       let y = ren-length (word l) es in
@@ -140,7 +140,7 @@ module _ (F : Terms) (sz : TreeSizes) (al : Allowed sz) (M : Obj → Val) (suppl
   up-ok l (frame k c pre post p) w es f st n s =
       let fl = ren (word l) es in
       let y = ren-length (word l) es in
-      let go : Go = λ w es. up sz a (suc l) (branches (suc l) p) w (nm (suc l) p) es in
+      let go : Go = λ w es. up slots a (suc l) (branches (suc l) p) w (nm (suc l) p) es in
       if-ok F E M (decLe (fewest-entries l) (length fl)) _ _
       (λ q. if-ok F E M (decLe (length fl) (most-entries l)) _ _
       (λ i. (refl, write-ok M m l (frame k c pre post p) w es f st (omega (arith, q, y)) (omega (arith, i, y))))

@@ -10,12 +10,12 @@ use lib.ListN.{length, length-append}
 use Rattle.base.specs.Test.{ifd}
 use Rattle.base.specs.Laws.Test.{yes-of, of-yes}
 use Rattle.nodes.specs.Name.{server-of, slot-of}
-use Rattle.operations.specs.Object.{Obj, meta, node, flag, object, Val, root, body, taken, flags, free, keys-of, level-of, no-tree, Ans, Writes, over}
+use Rattle.operations.specs.Object.{Obj, meta, node, flag, object, Val, root, body, taken, flags, free, keys-of, level-of, states-of, no-tree, Ans, Writes, over}
 use Rattle.operations.specs.Laws.Object.{kind-of}
 use Rattle.operations.specs.Map.{Map, two-to-64}
 use Rattle.operations.specs.Entry.{Entries, node-value, Cut, cut}
 use Rattle.operations.specs.Path.{TreePlan, kid, when-root, open-node, down}
-use Rattle.operations.specs.Slot.{TreeSizes, Allowed, take-node, release}
+use Rattle.operations.specs.Slot.{take-node, release}
 use Rattle.operations.specs.Migrate.{moved, move-root, move-at, to-level, first-key, move-below, move-if, migrate-plan}
 use Rattle.operations.specs.Chain.{one, tally, ren}
 use Rattle.operations.specs.Laws.Chain.{one-same, one-other, tally-app, ren-app, ren-length}
@@ -25,12 +25,12 @@ use Rattle.operations.specs.Tree.{Slot, word, cnt, Mark}
 use Rattle.operations.specs.Laws.Focus.{Path, top, frame, nm, hi, around, nil, Rep, mark-free}
 use Rattle.operations.specs.Laws.Moves.{set-node, take-slot as slot-taken, release as slot-freed, lift, rename, rename-root}
 use Rattle.operations.specs.Laws.Down.{branches, open-ok, kid-ok, Site, site-root, site-rising, site-down}
-use Rattle.operations.specs.Laws.Slots.{Supply, take-node-ok, release-ok, take-at-ok}
+use Rattle.operations.specs.Laws.Slots.{Supply, take-node-ok, release-ok, take-on-ok}
 use Rattle.operations.specs.Laws.Rise.{write-ok}
 use Rattle.operations.specs.Laws.Found.{leaf-tally, locate, level-mk, node-like, all-nodes, Met, met, stored-length}
 use Rattle.plans.specs.Plan as P
 
-module _ (F : Terms) (sz : TreeSizes) (al : Allowed sz) (M : Obj → Val) (supply : Supply F M sz) (m : Map) (R : Rep M m) (s : ℕ) (server : s < sz .servers) where
+module _ (F : Terms) (slots : ℕ) (al : slots ≤ 1024) (M : Obj → Val) (supply : Supply F M slots) (m : Map) (R : Rep M m) (s : ℕ) where
   -- the snapshot with the writes holds the same map
   abbrev pub Kept : Ans → Writes → Type 0
   Kept b w = Rep (over w M) m
@@ -39,38 +39,39 @@ module _ (F : Terms) (sz : TreeSizes) (al : Allowed sz) (M : Obj → Val) (suppl
   N n = M (node n)
 
   -- the root moves
-  move-root-ok : (v : Val) → M (node (R .name)) ≡ v → Ok F Kept M (move-root sz (R .name) s v)
+  move-root-ok : (v : Val) → M (node (R .name)) ≡ v → Ok F Kept M (move-root slots (states-of (M meta)) (R .name) s v)
   move-root-ok v e =
+      let st = states-of (M meta) in
       let l = R .level in
       let r = R .name in
       let es = R .ents in
       let f = R .tree in
       let t : ℕ → ℕ = λ d. 0 + one r d + tally (cnt l) es d + 0 in
       let end : ℕ → Writes → TreePlan = λ d w. P.done ((1, d, []), (node d, v) ∷ w) in
-      take-at-ok F Kept M sz al supply s (slot-of r) [] (λ d w. take-node w d (release ((meta, root d) ∷ w) r (end d))) t server (f .marks)
+      take-on-ok F Kept M slots al supply (s ∷ []) (slot-of r) [] (λ d w. take-node w d (release ((meta, root d st) ∷ w) r (end d))) t (f .marks)
       (λ d sm z.
       let w1 : Writes = (flag d, taken true) ∷ [] in
-      let w2 : Writes = (meta, root d) ∷ w1 in
+      let w2 : Writes = (meta, root d st) ∷ w1 in
       let w3 : Writes = (node r, free) ∷ (flag r, taken false) ∷ w2 in
       take-node-ok F Kept M w1 d (release w2 r (end d)) (mark-free (M (flag d)) (M (node d)) (t d) z (f .marks d) .1)
       (release-ok F Kept M w2 r (end d)
       (subst (λ u. Rep (over ((node d, u) ∷ w3) M) m) (sym (R .stored) ∙ e)
       (write-ok M m l (top d) w3 es
       (slot-freed (over w2 M) m l (top d) es (one r) nil r (λ x. omega arith)
-      (rename-root (over w1 M) m l r d es (one d) (one r) (λ x. omega arith) (slot-taken M m l (top r) es nil (one d) d z sm (λ x. omega arith) f)))
+      (rename-root (over w1 M) m l r d st es (one d) (one r) (λ x. omega arith) (slot-taken M m l (top r) es nil (one d) d z sm (λ x. omega arith) f)))
       tt (R .least) (R .most)))))
 
   -- a node below the root moves
   move-kid-ok : (key l k n : ℕ) (pre post : List (ℕ × Slot (suc l))) (p : Path (suc l)) (es : List (ℕ × Slot l)) (v : Val) → M (node n) ≡ v
       → Site M m key l (frame k n pre post p) es
-      → Ok F Kept M (moved sz n s v (λ d w. w) (λ d w. P.done ((1, d, []), (node (nm (suc l) p), node-value (suc l) (ren (word (suc l)) pre ++ (k, d) ∷ ren (word (suc l)) post)) ∷ w)))
+      → Ok F Kept M (moved slots n s v (λ d w. w) (λ d w. P.done ((1, d, []), (node (nm (suc l) p), node-value (suc l) (ren (word (suc l)) pre ++ (k, d) ∷ ren (word (suc l)) post)) ∷ w)))
   move-kid-ok key l k n pre post p es v e g =
       let f = g .focus in
       let W = word (suc l) in
       let hole = frame k n pre post p in
       let t : ℕ → ℕ = λ d. around l hole d + one n d + tally (cnt l) es d + 0 in
       let end : ℕ → Writes → TreePlan = λ d w. P.done ((1, d, []), (node (nm (suc l) p), node-value (suc l) (ren W pre ++ (k, d) ∷ ren W post)) ∷ (node d, v) ∷ w) in
-      take-at-ok F Kept M sz al supply s (slot-of n) [] (λ d w. take-node w d (release w n (end d))) t server (f .marks)
+      take-on-ok F Kept M slots al supply (s ∷ []) (slot-of n) [] (λ d w. take-node w d (release w n (end d))) t (f .marks)
       (λ d sm z.
       let w1 : Writes = (flag d, taken true) ∷ [] in
       let w2 : Writes = (node n, free) ∷ (flag n, taken false) ∷ w1 in
@@ -126,7 +127,7 @@ module _ (F : Terms) (sz : TreeSizes) (al : Allowed sz) (M : Obj → Val) (suppl
         by (no q) (no d) = omega (arith, h, all, q, d)
 
     find-ok : (l : ℕ) (p : Path l) (es : List (ℕ × Slot l)) → Site M m key l p es → 1 ≤ tally (cnt l) es n
-        → Ok F Kept M (down (to-level (suc lv)) key (move-at sz n s v key) l (branches l p) (nm l p) (ren (word l) es))
+        → Ok F Kept M (down (to-level (suc lv)) key (move-at slots n s v key) l (branches l p) (nm l p) (ren (word l) es))
     find-ok zero p es g h = absurd (omega (arith, h, leaf-tally es n))
     find-ok (suc l) p [] g h = absurd (omega (arith, h))
     find-ok (suc l) p (y ∷ es) g h =
@@ -135,10 +136,10 @@ module _ (F : Terms) (sz : TreeSizes) (al : Allowed sz) (M : Obj → Val) (suppl
         let D = site-down M m key l p y es g in
         let hole = frame (c .1 .0) (c .1 .1 .0) (c .0) (c .2) p in
         let i = in-cut l p y es g h in
-        let there : Cut ℕ → TreePlan = λ c. moved sz n s v (λ d w. w) (λ d w. P.done ((1, d, []), (node (nm (suc l) p), node-value (suc l) (c .0 ++ (c .1 .0, d) ∷ c .2)) ∷ w)) in
+        let there : Cut ℕ → TreePlan = λ c. moved slots n s v (λ d w. w) (λ d w. P.done ((1, d, []), (node (nm (suc l) p), node-value (suc l) (c .0 ++ (c .1 .0, d) ∷ c .2)) ∷ w)) in
         let met-here : Cut ℕ → TreePlan = λ c. ifd (ℕ-discrete (c .1 .1) n) (there c) (P.fail no-tree) in
         let on : Cut ℕ → TreePlan = λ c. kid [] l (c .1 .0) (c .1 .1)
-        (λ es′. down (to-level (suc lv)) key (move-at sz n s v key) l (record { nm = nm (suc l) p; key = c .1 .0; pre = c .0; post = c .2 } ∷ branches (suc l) p) (c .1 .1) es′) in
+        (λ es′. down (to-level (suc lv)) key (move-at slots n s v key) l (record { nm = nm (suc l) p; key = c .1 .0; pre = c .0; post = c .2 } ∷ branches (suc l) p) (c .1 .1) es′) in
         cond-ok F Kept M (to-level (suc lv) (suc l)) (met-here (cut key (y .0, w (y .1)) (ren w es))) (on (cut key (y .0, w (y .1)) (ren w es)))
         (λ q. subst (λ z. Ok F Kept M (met-here z)) (sym (ren-cut w key y es))
         (if-ok F Kept M (ℕ-discrete (c .1 .1 .0) n) _ (P.fail no-tree)
@@ -150,7 +151,7 @@ module _ (F : Terms) (sz : TreeSizes) (al : Allowed sz) (M : Obj → Val) (suppl
         )))))
         (λ q. subst (λ z. Ok F Kept M (on z)) (sym (ren-cut w key y es))
         (kid-ok F Kept M [] l (c .1 .0) (hi l hole) (c .1 .1 .0) (c .1 .1 .1)
-        (λ es′. down (to-level (suc lv)) key (move-at sz n s v key) l (branches l hole) (c .1 .1 .0) es′) (D .0 .at) (D .1) (D .0 .least)
+        (λ es′. down (to-level (suc lv)) key (move-at slots n s v key) l (branches l hole) (c .1 .1 .0) es′) (D .0 .at) (D .1) (D .0 .least)
         (find-ok l hole (c .1 .1 .1) (D .0) (omega (
           arith,
           i,
@@ -167,7 +168,7 @@ module _ (F : Terms) (sz : TreeSizes) (al : Allowed sz) (M : Obj → Val) (suppl
       by (inr q) = absurd (omega (arith, ap kind-of (sym (q .2) ∙ e)))
 
   below-ok : (n j l : ℕ) (ks vs : List ℕ) → M (node n) ≡ body (suc j) l ks vs → ¬ (n ≡ R .name)
-      → Ok F Kept M (ifd (decLe 7 (length ks)) (first-key ks (move-below sz (R .name) n s (body (suc j) l ks vs) l)) (P.fail no-tree))
+      → Ok F Kept M (ifd (decLe 7 (length ks)) (first-key ks (move-below slots (R .name) n s (body (suc j) l ks vs) l)) (P.fail no-tree))
   below-ok n j l ks vs e ne =
       let h = occurs n j l ks vs e ne in
       let G = locate N (R .level) n two-to-64 (R .ents) (R .tree .segs) h in
@@ -179,12 +180,12 @@ module _ (F : Terms) (sz : TreeSizes) (al : Allowed sz) (M : Obj → Val) (suppl
       (λ _. by ks e k7 lt h) (λ q. absurd (q k7))
     where
       by : (ks : List ℕ) → M (node n) ≡ body (suc j) l ks vs → 7 ≤ length ks → l < R .level → 1 ≤ tally (cnt (R .level)) (R .ents) n
-          → Ok F Kept M (first-key ks (move-below sz (R .name) n s (body (suc j) l ks vs) l))
+          → Ok F Kept M (first-key ks (move-below slots (R .name) n s (body (suc j) l ks vs) l))
       by [] e i lt h = absurd (omega (arith, i))
       by (key ∷ ks) e i lt h =
           let r = R .name in
           let v = body (suc j) l (key ∷ ks) vs in
-          let go : ℕ → Entries → TreePlan = λ i es. down (to-level (suc l)) key (move-at sz n s v key) i [] r es in
+          let go : ℕ → Entries → TreePlan = λ i es. down (to-level (suc l)) key (move-at slots n s v key) i [] r es in
           let on : ℕ → Entries → TreePlan = λ i es. ifd (decLt l i) (go i es) (P.fail no-tree) in
           subst (λ u. Ok F Kept M (open-node 0 u on)) (sym (R .stored))
           (open-ok F Kept M (R .level) 0 two-to-64 (R .ents) on (R .tree .from) (R .least)
@@ -192,15 +193,15 @@ module _ (F : Terms) (sz : TreeSizes) (al : Allowed sz) (M : Obj → Val) (suppl
           (λ _. find-ok n (suc j) l key ks vs e (R .level) (top r) (R .ents) (site-root M m key R) h)
           (λ q. absurd (q lt))))
 
-  pub migrate-ok : (n : ℕ) → Ok F Kept M (migrate-plan sz n s)
+  pub migrate-ok : (n : ℕ) → Ok F Kept M (migrate-plan slots n s)
   migrate-ok n =
-      subst (λ u. Ok F Kept M (when-root u (λ r. P.ask (object (node n)) (λ v. move-if sz r n s v)))) (sym (R .tree .top-is)) (by (M (node n)) refl)
+      subst (λ u. Ok F Kept M (when-root u (λ r. P.ask (object (node n)) (λ v. move-if slots (states-of u) r n s v)))) (sym (R .tree .top-is)) (by (M (node n)) refl)
     where
       no-node : (v : Val) → M (node n) ≡ v → node-like v ≡ false → ⊥
       no-node v e q = true≢false (sym (all-nodes M m R n) ∙ ap node-like e ∙ q)
 
-      by : (v : Val) → M (node n) ≡ v → Ok F Kept M (move-if sz (R .name) n s v)
-      by (root q) e = absurd (no-node (root q) e refl)
+      by : (v : Val) → M (node n) ≡ v → Ok F Kept M (move-if slots (states-of (M meta)) (R .name) n s v)
+      by (root q t) e = absurd (no-node (root q t) e refl)
       by (taken b) e = absurd (no-node (taken b) e refl)
       by (flags fs) e = absurd (no-node (flags fs) e refl)
       by (body zero l ks vs) e = R
@@ -208,5 +209,5 @@ module _ (F : Terms) (sz : TreeSizes) (al : Allowed sz) (M : Obj → Val) (suppl
           let v = body (suc j) l ks vs in
           if-ok F Kept M (ℕ-discrete (server-of n) s) _ _ (λ _. R)
           (λ _. if-ok F Kept M (ℕ-discrete n (R .name)) _ _
-          (λ q. subst (λ z. Ok F Kept M (move-root sz z s v)) (sym q) (move-root-ok v (ap (λ z. M (node z)) (sym q) ∙ e)))
+          (λ q. subst (λ z. Ok F Kept M (move-root slots (states-of (M meta)) z s v)) (sym q) (move-root-ok v (ap (λ z. M (node z)) (sym q) ∙ e)))
           (λ q. below-ok n j l ks vs e q))

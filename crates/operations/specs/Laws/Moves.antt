@@ -311,9 +311,9 @@ module _ (U : Obj → Val) (m : Map) where
     holds = f .holds;
   }
 
-  pub rename-root : (l r d : ℕ) (es : List (ℕ × Slot l)) (sp sq : ℕ → ℕ) → ((x : ℕ) → sq x + one d x ≡ sp x + one r x)
-      → Focus U l (top r) es sp m → Focus (with-value meta (root d) U) l (top d) es sq m
-  rename-root l r d es sp sq q f = record {
+  pub rename-root : (l r d st : ℕ) (es : List (ℕ × Slot l)) (sp sq : ℕ → ℕ) → ((x : ℕ) → sq x + one d x ≡ sp x + one r x)
+      → Focus U l (top r) es sp m → Focus (with-value meta (root d st) U) l (top d) es sq m
+  rename-root l r d st es sp sq q f = record {
     lev = f .lev;
     top-is = refl;
     inside = f .inside;

@@ -14,7 +14,7 @@ pub Val-discrete : Discrete Val
 Val-discrete = Val-by ℕ-discrete (List-discrete ℕ-discrete) Bool-discrete (List-discrete Bool-discrete)
 
 abbrev pub kind-of : Val → ℕ
-kind-of (root r) = 0
+kind-of (root r st) = 0
 kind-of (body k l ks vs) = k
 kind-of (taken b) = 0
 kind-of (flags fs) = 0

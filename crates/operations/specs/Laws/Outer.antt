@@ -13,7 +13,6 @@ use Rattle.operations.specs.Laws.Object.{inner, inner-node}
 use Rattle.operations.specs.Map.{Op, insert, lookup, delete, next, previous, migrate, list, compared}
 use Rattle.operations.specs.Entry.{Entries, fewest-entries, cut}
 use Rattle.operations.specs.Path.{TreePlan, open-node, kid, when-root, Branch, Cont, to-leaf, down, at-root, from-root}
-use Rattle.operations.specs.Slot.{TreeSizes}
 use Rattle.operations.specs.Operation.{reading, plan}
 use Rattle.operations.specs.Laws.Along.{Along, Ended, along-exec, along-any, along-checked}
 use Rattle.plans.specs.Plan as P
@@ -29,7 +28,7 @@ module _ (G : Type 0) (A : Ask → Val → Type 0) (out : (n : ℕ) (v : Val) �
   Seen l = l ≡ 0 → G
 
   open-outer : (from n : ℕ) (v : Val) (k : ℕ → Entries → TreePlan) → A (object (node n)) v → ((l : ℕ) (es : Entries) → Seen l → Outer (k l es)) → Outer (open-node from v k)
-  open-outer from n (root r) k a h = tt
+  open-outer from n (root r st) k a h = tt
   open-outer from n (taken b) k a h = tt
   open-outer from n (flags fs) k a h = tt
   open-outer from n (body zero l ks vs) k a h = tt
@@ -63,27 +62,27 @@ module _ (G : Type 0) (A : Ask → Val → Type 0) (out : (n : ℕ) (v : Val) �
       on r l es = down to-leaf key (λ _ fs n es. k fs n es) l [] r es
 
       go : (v : Val) → Outer (when-root v (λ r. at-root r (on r)))
-      go (root r) = (tt, λ u a. open-outer 0 r u (on r) a (λ l es s. down-outer key (λ _ fs n es. k fs n es) l [] r es s))
+      go (root r st) = (tt, λ u a. open-outer 0 r u (on r) a (λ l es s. down-outer key (λ _ fs n es. k fs n es) l [] r es s))
       go (body j l ks vs) = tt
       go (taken b) = tt
       go (flags fs) = tt
 
-  reading-outer : (sz : TreeSizes) (op : Op) → compared op ≡ true → Outer (reading sz op)
-  reading-outer sz (insert k v) c = root-outer k _
-  reading-outer sz (lookup k) c = root-outer k _
-  reading-outer sz (delete k) c = root-outer k _
-  reading-outer sz (next k) c = root-outer k _
-  reading-outer sz (previous k) c = root-outer k _
-  reading-outer sz (list k n) c = root-outer k _
-  reading-outer sz (migrate n s) c = absurd (false≢true c)
+  reading-outer : (slots : ℕ) (op : Op) → compared op ≡ true → Outer (reading slots op)
+  reading-outer slots (insert k v) c = root-outer k _
+  reading-outer slots (lookup k) c = root-outer k _
+  reading-outer slots (delete k) c = root-outer k _
+  reading-outer slots (next k) c = root-outer k _
+  reading-outer slots (previous k) c = root-outer k _
+  reading-outer slots (list k n) c = root-outer k _
+  reading-outer slots (migrate n s) c = absurd (false≢true c)
 
-pub asks-outer : (sz : TreeSizes) (op : Op) (rd : Ask → Bool) (S : Ask → Val) (a : Ans) (w : Writes) → compared op ≡ true
-    → P.Asked (plan sz op) rd S → P.exec (plan sz op) S ≡ P.gives (a, w)
+pub asks-outer : (slots : ℕ) (op : Op) (rd : Ask → Bool) (S : Ask → Val) (a : Ans) (w : Writes) → compared op ≡ true
+    → P.Asked (plan slots op) rd S → P.exec (plan slots op) S ≡ P.gives (a, w)
     → (n : ℕ) × (rd (object (node n)) ≡ true) × (inner (node n) (S (object (node n))) ≡ false)
-asks-outer sz op rd S a w c g e =
+asks-outer slots op rd S a w c g e =
     let G : Type 0 = (n : ℕ) × (rd (object (node n)) ≡ true) × (inner (node n) (S (object (node n))) ≡ false) in
     let I : Ask → Type 0 = λ q. Unit {0} in
     let A : Ask → Val → Type 0 = λ q v. (rd q ≡ true) × (S q ≡ v) in
     let Q : Ans → Writes → Type 0 = λ a w. G in
-    let h = along-checked I A Q (reading sz op) (reading-outer G A (λ n v a i. (n, a .0, ap inner-node (a .1) ∙ i)) sz op c) in
-    subst (λ r. Ended I A Q (W.ends r)) e (along-exec I A Q rd S (λ q h. (h, refl)) (plan sz op) h g)
+    let h = along-checked I A Q (reading slots op) (reading-outer G A (λ n v a i. (n, a .0, ap inner-node (a .1) ∙ i)) slots op c) in
+    subst (λ r. Ended I A Q (W.ends r)) e (along-exec I A Q rd S (λ q h. (h, refl)) (plan slots op) h g)

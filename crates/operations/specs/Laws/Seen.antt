@@ -2,12 +2,11 @@
 use mathlib.Core.Path.{_≡_, refl, sym, _∙_}
 use mathlib.Core.Bool.{Bool, true, false, true≢false}
 use mathlib.Core.Logic.{_⊎_, inl, inr}
-use Prim.Native.Nat.{ℕ}
+use Prim.Native.Nat.{ℕ, _≤_}
 use Rattle.operations.specs.Object.{Obj, node, Ask, object, vector, fetched, Val, Why, no-tree, Ans, Writes, over}
 use Rattle.operations.specs.Laws.Object.{inner, written}
 use Rattle.operations.specs.Map.{Map, Op, insert, lookup, delete, next, previous, migrate, list, answer, compared, map-after}
 use Rattle.operations.specs.Path.{TreePlan}
-use Rattle.operations.specs.Slot.{TreeSizes, Allowed}
 use Rattle.operations.specs.Operation.{plan, Legal}
 use Rattle.operations.specs.Tree.{Holds-tree}
 use Rattle.operations.specs.Laws.Sound.{sound, no-reason-3}
@@ -22,9 +21,9 @@ pub record Hint : Type 0 where
   pub fetched-one : ℕ → Val
 
 -- an operation as a transaction has it: given by a step that was not refused, and with its hint
-pub record Given (sz : TreeSizes) : Type 0 where
+pub record Given : Type 0 where
   pub op : Op
-  pub legal : Legal sz op
+  pub legal : Legal op
   pub hint : Hint
 
 abbrev pub hint-of : Hint → Ask → Val ⊎ Obj
@@ -32,8 +31,8 @@ hint-of h (object o) = inr o
 hint-of h (vector s) = inl (h .copied s)
 hint-of h (fetched s) = inl (h .fetched-one s)
 
-abbrev pub plan-with : TreeSizes → Hint → Op → P.Plan Obj Val (Ans × Writes) Why
-plan-with sz h op = P-laws.hinted (hint-of h) (plan sz op)
+abbrev pub plan-with : ℕ → Hint → Op → P.Plan Obj Val (Ans × Writes) Why
+plan-with slots h op = P-laws.hinted (hint-of h) (plan slots op)
 
 -- asked for, where every vector counts as asked for
 abbrev also : (Obj → Bool) → Ask → Bool
@@ -49,28 +48,28 @@ asked-with h rd M (P.ask (fetched s) k) g = (refl, asked-with h rd M (k (h .fetc
 asked-with h rd M (P.done r) g = tt
 asked-with h rd M (P.fail y) g = tt
 
-module _ (sz : TreeSizes) (h : Hint) (op : Op) (M : Obj → Val) where
+module _ (slots : ℕ) (h : Hint) (op : Op) (M : Obj → Val) where
   abbrev p : P.Plan Obj Val (Ans × Writes) Why
-  p = plan-with sz h op
+  p = plan-with slots h op
 
-  pub sound-with : Allowed sz → Legal sz op → (m : Map) (a : Ans) (w : Writes) → Holds-tree M m → P.exec p M ≡ P.gives (a, w)
+  pub sound-with : slots ≤ 1024 → Legal op → (m : Map) (a : Ans) (w : Writes) → Holds-tree M m → P.exec p M ≡ P.gives (a, w)
       → (compared op ≡ true → a ≡ answer op m) × Holds-tree (over w M) (map-after op m)
   unfolding P-laws.with-hint
-  sound-with al i m a w t e = sound sz al op i (P-laws.with-hint (hint-of h) M) m a w t (sym (P-laws.exec-hinted (hint-of h) (plan sz op) M) ∙ e)
+  sound-with al i m a w t e = sound slots al op i (P-laws.with-hint (hint-of h) M) m a w t (sym (P-laws.exec-hinted (hint-of h) (plan slots op) M) ∙ e)
 
-  pub no-reason-3-with : Allowed sz → Legal sz op → (m : Map) → Holds-tree M m → P.exec p M ≡ P.fails no-tree → ⊥
+  pub no-reason-3-with : slots ≤ 1024 → Legal op → (m : Map) → Holds-tree M m → P.exec p M ≡ P.fails no-tree → ⊥
   unfolding P-laws.with-hint
-  no-reason-3-with al i m t e = no-reason-3 sz al op i (P-laws.with-hint (hint-of h) M) m t (sym (P-laws.exec-hinted (hint-of h) (plan sz op) M) ∙ e)
+  no-reason-3-with al i m t e = no-reason-3 slots al op i (P-laws.with-hint (hint-of h) M) m t (sym (P-laws.exec-hinted (hint-of h) (plan slots op) M) ∙ e)
 
   pub written-asked-with : (rd : Obj → Bool) (a : Ans) (w : Writes) → P.Asked p rd M → P.exec p M ≡ P.gives (a, w) → (o : Obj) → written w o ≡ true → rd o ≡ true
-  written-asked-with rd a w g e = written-asked sz op (also rd) (P-laws.with-hint (hint-of h) M) a w (asked-with h rd M (plan sz op) g)
-      (sym (P-laws.exec-hinted (hint-of h) (plan sz op) M) ∙ e)
+  written-asked-with rd a w g e = written-asked slots op (also rd) (P-laws.with-hint (hint-of h) M) a w (asked-with h rd M (plan slots op) g)
+      (sym (P-laws.exec-hinted (hint-of h) (plan slots op) M) ∙ e)
 
   pub asks-outer-with : (rd : Obj → Bool) (a : Ans) (w : Writes) → compared op ≡ true → P.Asked p rd M → P.exec p M ≡ P.gives (a, w)
       → (n : ℕ) × (rd (node n) ≡ true) × (inner (node n) (M (node n)) ≡ false)
   unfolding P-laws.with-hint
-  asks-outer-with rd a w c g e = asks-outer sz op (also rd) (P-laws.with-hint (hint-of h) M) a w c (asked-with h rd M (plan sz op) g)
-      (sym (P-laws.exec-hinted (hint-of h) (plan sz op) M) ∙ e)
+  asks-outer-with rd a w c g e = asks-outer slots op (also rd) (P-laws.with-hint (hint-of h) M) a w c (asked-with h rd M (plan slots op) g)
+      (sym (P-laws.exec-hinted (hint-of h) (plan slots op) M) ∙ e)
 
 -- "Migrate changes nothing"
 pub uncompared-after : (op : Op) (m : Map) → compared op ≡ false → map-after op m ≡ m

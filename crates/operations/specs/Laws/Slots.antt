@@ -6,7 +6,7 @@ use mathlib.Core.List.{List, [], _∷_}
 use mathlib.Core.Logic.{_⊎_, inl, inr}
 use mathlib.Core.Option.{Option, none, some}
 use Prim.Native.Nat.{ℕ, zero, suc, _+_, _<_, _≤_}
-use native.Mathlib.Decide.{ℕ-discrete, decLt}
+use native.Mathlib.Decide.{ℕ-discrete}
 use native.Mathlib.Omega.{arith}
 use lib.ListN.{length, take, drop, getD, set, length-drop, length-set}
 use lib.Seq.{getD-drop, getD-take, getD-set-same, getD-set-other}
@@ -15,10 +15,12 @@ use Rattle.base.specs.Laws.Test.{ifd-all}
 use Rattle.plans.specs.Walk.{Every}
 use Rattle.nodes.specs.Name.{name, server-of, slot-of}
 use Rattle.nodes.specs.Placement.{row}
+use Rattle.nodes.specs.States.{is-open}
+use Rattle.nodes.specs.Laws.States.{open-below}
 use Rattle.nodes.specs.Vector.{shifted, lowest-free, or-else, first-free}
-use Rattle.operations.specs.Object.{Obj, meta, node, flag, Val, taken, free, is-taken, flags-of, not-free, no-slot, Ans, Writes, with-value, over}
+use Rattle.operations.specs.Object.{Obj, meta, node, flag, Val, taken, free, states-of, is-taken, flags-of, not-free, no-slot, Ans, Writes, with-value, over}
 use Rattle.operations.specs.Path.{TreePlan}
-use Rattle.operations.specs.Slot.{TreeSizes, Allowed, count-one, counted, free-slot, chosen, search, present, when-free-flag, take-flag, take-on, take-for, when-free-node, take-node, release}
+use Rattle.operations.specs.Slot.{count-one, counted, free-slot, chosen, search, open-ones, when-free-flag, take-flag, take-on, take-for, when-free-node, take-node, release}
 use Rattle.operations.specs.Laws.Ensures.{Terms, Ok, see-ok}
 use Rattle.operations.specs.Tree.{room, Mark, True-of}
 use Rattle.operations.specs.Laws.Tree.{room-is}
@@ -68,9 +70,9 @@ take-longer zero l = omega arith
 take-longer (suc n) [] = omega arith
 take-longer (suc n) (x ∷ l) = omega (arith, take-longer n l)
 
-pub open-slot : (sz : TreeSizes) (w : Writes) (slot s : ℕ) (v : Val) → Each (λ i. (i < sz .slots) × Open (counted w s (flags-of v)) i) (free-slot sz w slot s v)
-open-slot sz w slot s v =
-    let n = sz .slots in
+pub open-slot : (slots : ℕ) (w : Writes) (slot s : ℕ) (v : Val) → Each (λ i. (i < slots) × Open (counted w s (flags-of v)) i) (free-slot slots w slot s v)
+open-slot slots w slot s v =
+    let n = slots in
     let fs = counted w s (flags-of v) in
     each-map (Open (take n fs)) (λ i. (i < n) × Open fs i)
     (λ i h. let a : i < n = omega (arith, h .0, take-short n fs) in (a, (omega (arith, h .0, take-longer n fs), sym (getD-take n fs i true a) ∙ h .1)))
@@ -113,11 +115,15 @@ counted-true M (e ∷ w) s fs h = go (e .0) (counted-true M w s fs h)
     go (node n) t = t
     go (flag n) t = λ i small. by n i small t (ℕ-discrete (server-of n) s) (ℕ-discrete (name s i) n)
 
--- the servers that are there
-pub present-below : (n : ℕ) (ss : List ℕ) → Every (λ s. s < n) (present n ss)
+-- of servers those that are open are below 8
+pub open-servers : (states : ℕ) (ss : List ℕ) → Every (λ s. s < 8) (open-ones states ss)
 unfolding Every
-present-below n [] = tt
-present-below n (s ∷ ss) = ifd-all (decLt s n) (s ∷ present n ss) (present n ss) (Every (λ s. s < n)) (λ i. (i, present-below n ss)) (λ _. present-below n ss)
+open-servers states [] = tt
+open-servers states (s ∷ ss) = go (is-open states s) (open-below states s) (open-servers states ss)
+  where
+    go : (b : Bool) → (b ≡ true → s < 8) → Every (λ s. s < 8) (open-ones states ss) → Every (λ s. s < 8) (cond b (s ∷ open-ones states ss) (open-ones states ss))
+    go true h rest = (h refl, rest)
+    go false h rest = rest
 
 module _ (F : Terms) (Q : Ans → Writes → Type 0) (M : Obj → Val) where
   pub take-node-ok : (w : Writes) (d : ℕ) (k : TreePlan) → over w M (node d) ≡ free → Ok F Q M k → Ok F Q M (take-node w d k)
@@ -127,12 +133,12 @@ module _ (F : Terms) (Q : Ans → Writes → Type 0) (M : Obj → Val) where
   release-ok w n k h = see-ok F Q M w (flag n) (λ _. k ((node n, free) ∷ (flag n, taken false) ∷ w)) h
 
 -- THE SUPPLY OF SLOTS: a slot that is chosen is free, or to fail for it is allowed; to find none is allowed
-pub record Supply (F : Terms) (M : Obj → Val) (sz : TreeSizes) : Type 0 where
+pub record Supply (F : Terms) (M : Obj → Val) (slots : ℕ) : Type 0 where
   pub chosen-free : (w : Writes) (s i : ℕ) (v : Val) → F .shows s v → i < 1024 → Open (counted w s (flags-of v)) i
       → F .fails not-free ⊎ (is-taken (over w M (flag (name s i))) ≡ false)
   pub none-left : F .fails no-slot
 
-module _ (F : Terms) (Q : Ans → Writes → Type 0) (M : Obj → Val) (sz : TreeSizes) (al : Allowed sz) (supply : Supply F M sz) where
+module _ (F : Terms) (Q : Ans → Writes → Type 0) (M : Obj → Val) (slots : ℕ) (al : slots ≤ 1024) (supply : Supply F M slots) where
   abbrev Free-or : Writes → ℕ → Type 0
   Free-or w d = F .fails not-free ⊎ (is-taken (over w M (flag d)) ≡ false)
 
@@ -153,16 +159,16 @@ module _ (F : Terms) (Q : Ans → Writes → Type 0) (M : Obj → Val) (sz : Tre
   abbrev Follows : Writes → (ℕ → TreePlan) → Type 0
   Follows w k = (d : ℕ) → d < room → Free-or w d → Ok F Q M (k d)
 
-  chosen-ok : (w : Writes) (slot s : ℕ) (v : Val) (k : ℕ → TreePlan) (p : TreePlan) → s < sz .servers → F .shows s v → Follows w k → Ok F Q M p
-      → Ok F Q M (chosen s (free-slot sz w slot s v) k p)
-  chosen-ok w slot s v k p i t h g = go (free-slot sz w slot s v) (open-slot sz w slot s v)
+  chosen-ok : (w : Writes) (slot s : ℕ) (v : Val) (k : ℕ → TreePlan) (p : TreePlan) → s < 8 → F .shows s v → Follows w k → Ok F Q M p
+      → Ok F Q M (chosen s (free-slot slots w slot s v) k p)
+  chosen-ok w slot s v k p i t h g = go (free-slot slots w slot s v) (open-slot slots w slot s v)
     where
-      go : (o : Option ℕ) → Each (λ j. (j < sz .slots) × Open (counted w s (flags-of v)) j) o → Ok F Q M (chosen s o k p)
+      go : (o : Option ℕ) → Each (λ j. (j < slots) × Open (counted w s (flags-of v)) j) o → Ok F Q M (chosen s o k p)
       go none u = g
       go (some j) u =
-          let small : j < 1024 = omega (arith, u .0, al .1) in h (name s j) (omega (arith, i, al .0, small, room-is)) (supply .chosen-free w s j v t small (u .1))
+          let small : j < 1024 = omega (arith, u .0, al) in h (name s j) (omega (arith, i, small, room-is)) (supply .chosen-free w s j v t small (u .1))
 
-  search-ok : (w : Writes) (slot : ℕ) (ss : List ℕ) (k : ℕ → TreePlan) → Every (λ s. s < sz .servers) ss → Follows w k → Ok F Q M (search sz w slot ss k)
+  search-ok : (w : Writes) (slot : ℕ) (ss : List ℕ) (k : ℕ → TreePlan) → Every (λ s. s < 8) ss → Follows w k → Ok F Q M (search slots w slot ss k)
   unfolding Every
   search-ok w slot [] k i h = supply .none-left
   search-ok w slot (s ∷ ss) k i h = λ v t. chosen-ok w slot s v k _ (i .0) t h (λ u t. chosen-ok w slot s u k _ (i .0) t h (search-ok w slot ss k (i .1) h))
@@ -174,17 +180,10 @@ module _ (F : Terms) (Q : Ans → Writes → Type 0) (M : Obj → Val) (sz : Tre
   abbrev Marked : Writes → (ℕ → ℕ) → Type 0
   Marked w t = (x : ℕ) → Mark (over w M (flag x)) (over w M (node x)) (t x)
 
-  take-on-ok : (ss : List ℕ) (slot : ℕ) (w : Writes) (k : ℕ → Writes → TreePlan) (t : ℕ → ℕ) → Every (λ s. s < sz .servers) ss → Marked w t → Takes w k
-      → Ok F Q M (take-on sz ss slot w k)
-  take-on-ok ss slot w k t i g h =
-      search-ok w slot ss (λ d. take-flag w d (λ w′. k d w′)) i (λ d sm u. take-flag-ok w d (t d) (λ w′. k d w′) (g d) u (h d sm))
+  pub take-on-ok : (ss : List ℕ) (slot : ℕ) (w : Writes) (k : ℕ → Writes → TreePlan) (t : ℕ → ℕ) → Marked w t → Takes w k → Ok F Q M (take-on slots ss slot w k)
+  take-on-ok ss slot w k t g h =
+      let states = states-of (M meta) in
+      search-ok w slot (open-ones states ss) (λ d. take-flag w d (λ w′. k d w′)) (open-servers states ss) (λ d sm u. take-flag-ok w d (t d) (λ w′. k d w′) (g d) u (h d sm))
 
-  -- on one server
-  pub take-at-ok : (s slot : ℕ) (w : Writes) (k : ℕ → Writes → TreePlan) (t : ℕ → ℕ) → s < sz .servers → Marked w t → Takes w k → Ok F Q M (take-on sz (s ∷ []) slot w k)
-  unfolding Every
-  take-at-ok s slot w k t i g h = take-on-ok (s ∷ []) slot w k t (i, tt) g h
-
-  pub take-for-ok : (n : ℕ) (w : Writes) (k : ℕ → Writes → TreePlan) (t : ℕ → ℕ) → Marked w t → Takes w k → Ok F Q M (take-for sz n w k)
-  take-for-ok n w k t g h =
-      let ss = row (server-of n) in
-      take-on-ok (present (sz .servers) ss) (slot-of n) w k t (present-below (sz .servers) ss) g h
+  pub take-for-ok : (n : ℕ) (w : Writes) (k : ℕ → Writes → TreePlan) (t : ℕ → ℕ) → Marked w t → Takes w k → Ok F Q M (take-for slots n w k)
+  take-for-ok n w k t g h = take-on-ok (row (server-of n)) (slot-of n) w k t g h

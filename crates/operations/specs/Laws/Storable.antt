@@ -15,12 +15,13 @@ use Rattle.plans.specs.Walk.{Every}
 use Rattle.nodes.specs.Node.{extra}
 use Rattle.nodes.specs.Name.{name}
 use Rattle.nodes.specs.Place.{place}
-use Rattle.operations.specs.Object.{Obj, meta, node, flag, Ask, object, vector, fetched, Val, root, body, taken, flags, free, flags-of, Why, no-tree, Ans, Writes, hit}
+use Rattle.nodes.specs.States.{states-fit}
+use Rattle.operations.specs.Object.{Obj, meta, node, flag, Ask, object, vector, fetched, Val, root, body, taken, flags, free, states-of, flags-of, Why, no-tree, Ans, Writes, hit}
 use Rattle.operations.specs.Entry.{Entries, keys, vals, zip, node-value, fewest-entries, most-entries, cut-at, cut}
 use Rattle.operations.specs.Path.{TreePlan, see, when-root, open-node, kid, Branch, Cont, to-leaf, down, at-root, from-root}
-use Rattle.operations.specs.Slot.{TreeSizes, counted, free-slot, chosen, search, when-free-flag, take-flag, take-on, when-free-node, take-node, release}
+use Rattle.operations.specs.Slot.{counted, free-slot, chosen, search, open-ones, when-free-flag, take-flag, take-on, when-free-node, take-node, release}
 use Rattle.operations.specs.Laws.Arrays.{entries-length}
-use Rattle.operations.specs.Laws.Slots.{Each, Open, open-slot}
+use Rattle.operations.specs.Laws.Slots.{Each, Open, open-slot, open-servers}
 use Rattle.operations.specs.Laws.Along.{Along, Ended}
 use Rattle.operations.specs.Laws.Hit.{hit-eq}
 use Rattle.plans.specs.Plan as P
@@ -43,15 +44,15 @@ pub record Kept (N : ℕ → Type 0) (k l : ℕ) (ks vs : List ℕ) : Type 0 whe
 module _ (N : ℕ → Type 0) where
   -- what an object's record can hold: the root's name, a node, a flag
   abbrev pub Storable : Obj → Val → Type 0
-  Storable meta (root r) = N r
+  Storable meta (root r st) = N r × (states-fit st ≡ true)
   Storable meta (body k l ks vs) = ⊥
   Storable meta (taken b) = ⊥
   Storable meta (flags fs) = ⊥
-  Storable (node n) (root r) = ⊥
+  Storable (node n) (root r st) = ⊥
   Storable (node n) (body k l ks vs) = Kept N k l ks vs
   Storable (node n) (taken b) = ⊥
   Storable (node n) (flags fs) = ⊥
-  Storable (flag n) (root r) = ⊥
+  Storable (flag n) (root r st) = ⊥
   Storable (flag n) (body k l ks vs) = ⊥
   Storable (flag n) (taken b) = Unit {0}
   Storable (flag n) (flags fs) = ⊥
@@ -67,10 +68,10 @@ module _ (N : ℕ → Type 0) where
   All-storable (e ∷ w) = Named (e .0) × Storable (e .0) (e .1) × All-storable w
 
   -- a question about something of the store
-  abbrev pub Inside : TreeSizes → Ask → Type 0
-  Inside sz (object o) = Named o
-  Inside sz (vector s) = s < sz .servers
-  Inside sz (fetched s) = s < sz .servers
+  abbrev pub Inside : Ask → Type 0
+  Inside (object o) = Named o
+  Inside (vector s) = s < 8
+  Inside (fetched s) = s < 8
 
 -- ---- every entry of a list
 module _ {A : Type 0} (P : A → Type 0) where
@@ -110,9 +111,9 @@ every-vals P (e ∷ es) h = (h .0, every-vals P es (h .1))
 -- ---- what is supposed of a plan
 pub record Scope : Type 1 where
   -- the sizes and the names of the store; every slot has one
-  pub sz : TreeSizes
+  pub slots : ℕ
   pub N : ℕ → Type 0
-  pub new : (s i : ℕ) → s < sz .servers → i < sz .slots → N (name s i)
+  pub new : (s i : ℕ) → s < 8 → i < slots → N (name s i)
   -- holds of every object asked for
   pub R : Obj → Type 0
   -- says that what is read can be stored
@@ -178,7 +179,7 @@ module _ (T : Scope) where
 
   -- ---- what a plan asks for and writes
   abbrev pub Asks : Ask → Type 0
-  Asks q = Z → Inside N (T .sz) q
+  Asks q = Z → Inside N q
 
   abbrev pub Read : Ask → Val → Type 0
   Read (object o) v = T .R o × (Z → Storable N o v)
@@ -223,7 +224,7 @@ module _ (T : Scope) where
   if-ok d p q h g = ifd-all d p q Ok h g
 
   open-ok : (lo n : ℕ) (v : Val) (k : ℕ → Entries → TreePlan) → Well (node n) v → ((l : ℕ) (es : Entries) → Met n → (Z → Sized l es) → Ok (k l es)) → Ok (open-node lo v k)
-  open-ok lo n (root r) k s h = tt
+  open-ok lo n (root r st) k s h = tt
   open-ok lo n (taken t) k s h = tt
   open-ok lo n (flags fs) k s h = tt
   open-ok lo n (body zero l ks vs) k s h = tt
@@ -287,8 +288,8 @@ module _ (T : Scope) where
       either true e p q h g = h e
       either false e p q h g = g
 
-  pub root-ok : (v : Val) (k : ℕ → TreePlan) → Well meta v → ((r : ℕ) → (Z → N r) → Ok (k r)) → Ok (when-root v k)
-  root-ok (root r) k s h = h r (λ z. s .1 z .1)
+  pub root-ok : (v : Val) (k : ℕ → TreePlan) → Well meta v → ((r : ℕ) → (Z → N r) → (Z → states-fit (states-of v) ≡ true) → Ok (k r)) → Ok (when-root v k)
+  root-ok (root r st) k s h = h r (λ z. s .1 z .1 .0) (λ z. s .1 z .1 .1)
   root-ok (body j l ks vs) k s h = tt
   root-ok (taken b) k s h = tt
   root-ok (flags fs) k s h = tt
@@ -300,7 +301,7 @@ module _ (T : Scope) where
   pub leaf-ok : (key : ℕ) (k : List Branch → ℕ → Entries → TreePlan)
       → ((fs : List Branch) (n : ℕ) (es : Entries) → Path fs → Met n → (Z → Sized 0 es) → Ok (k fs n es)) → Ok (from-root key k)
   leaf-ok key k hk =
-      see-ok [] meta (λ v. when-root v (λ r. at-root r (on r))) tt (λ _. tt) (λ v s. root-ok v (λ r. at-root r (on r)) s (λ r i.
+      see-ok [] meta (λ v. when-root v (λ r. at-root r (on r))) tt (λ _. tt) (λ v s. root-ok v (λ r. at-root r (on r)) s (λ r i _.
       at-root-ok r (on r) i (λ l es m s. down-ok to-leaf key (λ _ fs n es. k fs n es) end l [] r es tt m s)))
     where
       on : ℕ → ℕ → Entries → TreePlan
@@ -317,7 +318,7 @@ module _ (T : Scope) where
       see-ok w (flag d) (λ v. when-free-flag v (k ((flag d, taken true) ∷ w))) h i (λ v s. go v (g ((flag d, taken true) ∷ w) ((s .0, λ z. (i z, tt)), h)))
     where
       go : (v : Val) → Ok (k ((flag d, taken true) ∷ w)) → Ok (when-free-flag v (k ((flag d, taken true) ∷ w)))
-      go (root r) q = tt
+      go (root r st) q = tt
       go (body j l ks vs) q = tt
       go (taken true) q = tt
       go (taken false) q = q
@@ -327,7 +328,7 @@ module _ (T : Scope) where
   node-ok w d k h i g = see-ok w (node d) (λ v. when-free-node v k) h i (λ v s. go v (g (s .0, i)))
     where
       go : (v : Val) → Ok k → Ok (when-free-node v k)
-      go (root r) q = tt
+      go (root r st) q = tt
       go (body zero l ks vs) q = q
       go (body (suc j) l ks vs) q = tt
       go (taken b) q = tt
@@ -338,23 +339,21 @@ module _ (T : Scope) where
       see-ok w (flag n) (λ _. k ((node n, free) ∷ (flag n, taken false) ∷ w)) h (m .1)
       (λ v s. g ((node n, free) ∷ (flag n, taken false) ∷ w) ((m .0, λ z. (m .1 z, free-storable n)), ((s .0, λ z. (m .1 z, tt)), h)))
 
-  -- servers that are there
-  abbrev pub Servers : List ℕ → Type 0
-  Servers ss = Every (λ s. s < T .sz .servers) ss
-
-  search-ok : (w : Writes) (slot : ℕ) (ss : List ℕ) (k : ℕ → TreePlan) → (Z → Servers ss) → ((d : ℕ) → (Z → N d) → Ok (k d)) → Ok (search (T .sz) w slot ss k)
+  search-ok : (w : Writes) (slot : ℕ) (ss : List ℕ) (k : ℕ → TreePlan) → Every (λ s. s < 8) ss → ((d : ℕ) → (Z → N d) → Ok (k d)) → Ok (search (T .slots) w slot ss k)
   unfolding Every
   search-ok w slot [] k i h = tt
   search-ok w slot (s ∷ ss) k i h =
-      (λ z. i z .0, λ v _. go v _ (λ z. i z .0, λ u _. go u (search (T .sz) w slot ss k) (search-ok w slot ss k (λ z. i z .1) h)))
+      (λ _. i .0, λ v _. go v _ (λ _. i .0, λ u _. go u (search (T .slots) w slot ss k) (search-ok w slot ss k (i .1) h)))
     where
-      go : (v : Val) (p : TreePlan) → Ok p → Ok (chosen s (free-slot (T .sz) w slot s v) k p)
-      go v p q = by (free-slot (T .sz) w slot s v) (open-slot (T .sz) w slot s v)
+      go : (v : Val) (p : TreePlan) → Ok p → Ok (chosen s (free-slot (T .slots) w slot s v) k p)
+      go v p q = by (free-slot (T .slots) w slot s v) (open-slot (T .slots) w slot s v)
         where
-          by : (o : Option ℕ) → Each (λ j. (j < T .sz .slots) × Open (counted w s (flags-of v)) j) o → Ok (chosen s o k p)
+          by : (o : Option ℕ) → Each (λ j. (j < T .slots) × Open (counted w s (flags-of v)) j) o → Ok (chosen s o k p)
           by none u = q
-          by (some j) u = h (name s j) (λ z. T .new s j (i z .0) (u .0))
+          by (some j) u = h (name s j) (λ _. T .new s j (i .0) (u .0))
 
-  pub take-ok : (ss : List ℕ) (slot : ℕ) (w : Writes) (k : ℕ → Writes → TreePlan) → All-well w → (Z → Servers ss)
-      → ((d : ℕ) (u : Writes) → (Z → N d) → All-well u → Ok (k d u)) → Ok (take-on (T .sz) ss slot w k)
-  take-ok ss slot w k h i g = search-ok w slot ss (λ d. take-flag w d (λ u. k d u)) i (λ d n. flag-ok w d (λ u. k d u) h n (λ u a. g d u n a))
+  pub take-ok : (ss : List ℕ) (slot : ℕ) (w : Writes) (k : ℕ → Writes → TreePlan) → All-well w
+      → ((d : ℕ) (u : Writes) → (Z → N d) → All-well u → Ok (k d u)) → Ok (take-on (T .slots) ss slot w k)
+  take-ok ss slot w k h g =
+      see-ok [] meta (λ v. search (T .slots) w slot (open-ones (states-of v) ss) (λ d. take-flag w d (λ u. k d u))) tt (λ _. tt)
+      (λ v _. search-ok w slot (open-ones (states-of v) ss) (λ d. take-flag w d (λ u. k d u)) (open-servers (states-of v) ss) (λ d n. flag-ok w d (λ u. k d u) h n (λ u a. g d u n a)))

@@ -14,18 +14,18 @@ use Rattle.nodes.specs.Lists.{remove-at}
 use Rattle.nodes.specs.Name.{name, server-of, slot-of}
 use Rattle.nodes.specs.Place.{place}
 use Rattle.nodes.specs.Placement.{row}
-use Rattle.operations.specs.Object.{Obj, meta, node, Ask, object, vector, fetched, Val, root, body, taken, flags, no-tree, Ans, Writes}
+use Rattle.nodes.specs.States.{states-fit}
+use Rattle.operations.specs.Object.{Obj, meta, node, Ask, object, vector, fetched, Val, root, body, taken, flags, states-of, no-tree, Ans, Writes}
 use Rattle.operations.specs.Map.{Op, insert, lookup, delete, next, previous, migrate, list, fresh, said, gone, listed}
 use Rattle.operations.specs.Entry.{Entries, node-value, fewest-entries, most-entries, first-key-or, cut, place-in, value-in, with-at, with-pair}
 use Rattle.operations.specs.Path.{TreePlan, when-root, Branch}
-use Rattle.operations.specs.Slot.{TreeSizes, present, take-for, take-node, release}
-use Rattle.operations.specs.Laws.Slots.{present-below}
+use Rattle.operations.specs.Slot.{take-for, take-node, release}
 use Rattle.operations.specs.Change.{Go, with-one, with-two, parted, at-top, onward, collapsed, merged, with-right, with-left, unsnoc-step, unsnoc, left-of, neighbour, split-root, split, up, delete-at}
 use Rattle.operations.specs.Migrate.{moved, move-at, to-level, first-key, move-below, move-node, move-if}
 use Rattle.operations.specs.Operation.{reading}
 use Rattle.operations.specs.Laws.Along.{along-walk}
 use Rattle.operations.specs.Laws.Quiet.{lookup-quiet, next-quiet, previous-quiet, list-quiet}
-use Rattle.operations.specs.Laws.Storable.{Ends, Storable, All-storable, Inside, every-any, every-append, every-take, every-drop, Scope, least, Children, Within, Sized, Asks, Read, Well, All-well, Ok, Comes, Met, mk-well, see-ok, if-ok, kid-ok, Beside, Branched, Path, cut-ok, down-ok, root-ok, at-root-ok, leaf-ok, node-ok, release-ok, Servers, take-ok}
+use Rattle.operations.specs.Laws.Storable.{Ends, Storable, All-storable, Inside, every-any, every-append, every-take, every-drop, Scope, least, Children, Within, Sized, Asks, Read, Well, All-well, Ok, Comes, Met, mk-well, see-ok, if-ok, kid-ok, Beside, Branched, Path, cut-ok, down-ok, root-ok, at-root-ok, leaf-ok, node-ok, release-ok, take-ok}
 use Rattle.plans.specs.Plan as P
 use Rattle.plans.specs.Laws.Walk as W
 use Rattle.nodes.specs.Lists as L
@@ -42,14 +42,14 @@ bounds zero = record { one = omega arith; fewest = omega arith; between = omega 
 bounds (suc l) = record { one = omega arith; fewest = omega arith; between = omega arith; twice = omega arith }
 
 -- what an operation names is of the store
-abbrev pub Names : (ℕ → Type 0) → TreeSizes → Op → Type 0
-Names N sz (insert k v) = Unit {0}
-Names N sz (lookup k) = Unit {0}
-Names N sz (delete k) = Unit {0}
-Names N sz (next k) = Unit {0}
-Names N sz (previous k) = Unit {0}
-Names N sz (list k n) = Unit {0}
-Names N sz (migrate n s) = N n × (s < sz .servers)
+abbrev pub Names : (ℕ → Type 0) → Op → Type 0
+Names N (insert k v) = Unit {0}
+Names N (lookup k) = Unit {0}
+Names N (delete k) = Unit {0}
+Names N (next k) = Unit {0}
+Names N (previous k) = Unit {0}
+Names N (list k n) = Unit {0}
+Names N (migrate n s) = N n
 
 -- how an operation's answer is made up: "a is the number of pairs" of a list, and no other has any
 abbrev pub Form : Op → Ans → Type 0
@@ -93,8 +93,8 @@ module _ (T : Scope) where
   abbrev Z : Type 0
   Z = T .Z
 
-  abbrev sz : TreeSizes
-  sz = T .sz
+  abbrev slots : ℕ
+  slots = T .slots
 
   -- ---- THE WAY UP: entries that may be one too many
   abbrev Risen : ℕ → Entries → Type 0
@@ -203,19 +203,15 @@ module _ (T : Scope) where
             with-left-ok w (record { nm = f .nm; key = r .1 .0; pre = r .0; post = [] }) c es h
             (x, λ z. record { few = omega (arith, b z .few, e .0); before = e .1 (b z .before) .0; after = tt }) m i n (r .1 .1) (λ z. e .1 (b z .before) .1)
 
-  -- the servers in placement order
-  in-order : (n : ℕ) → Z → Servers T (present (sz .servers) (row (server-of n)))
-  in-order n z = present-below (sz .servers) (row (server-of n))
-
-  split-root-ok : (a : Ans) → T .A a → (l : ℕ) (w : Writes) (r : ℕ) (es : Entries) → All-well T w → Met T r → (Z → Risen l es) → most-entries l < length es → Ok T (split-root sz a l w r es)
+  split-root-ok : (a : Ans) → T .A a → (l : ℕ) (w : Writes) (r : ℕ) (es : Entries) → All-well T w → Met T r → (Z → Risen l es) → most-entries l < length es → Ok T (split-root slots a l w r es)
   unfolding Every
   split-root-ok a fine l w r es h m s q =
-      let ss = present (sz .servers) (row (server-of r)) in
+      let ss = row (server-of r) in
       let f : Branch = record { nm = r; key = 0; pre = []; post = [] } in
       let top : Go = λ w′ es′. P.done (a, (node r, node-value (suc l) es′) ∷ w′) in
       let both : ℕ → ℕ → Writes → TreePlan = λ c d w2. take-node w2 c (take-node w2 d (parted top l w2 f c (take (fewest-entries l) es) d (drop (fewest-entries l) es))) in
-      take-ok T ss (slot-of r) w (λ c w1. take-for sz r w1 (both c)) h (in-order r) (λ c w1 i n1.
-      take-ok T ss (slot-of r) w1 (both c) n1 (in-order r) (λ d w2 j n2. node-ok T w2 c _ n2 i (λ mc. node-ok T w2 d _ n2 j (λ md. (
+      take-ok T ss (slot-of r) w (λ c w1. take-for slots r w1 (both c)) h (λ c w1 i n1.
+      take-ok T ss (slot-of r) w1 (both c) n1 (λ d w2 j n2. node-ok T w2 c _ n2 i (λ mc. node-ok T w2 d _ n2 j (λ md. (
         fine,
         (
           mk-well T (suc l) r (with-two f c (first-key-or (drop (fewest-entries l) es) 0) d) m (λ z. record { some-child = omega arith; few = omega arith; children = (i z, (j z, tt)) }),
@@ -224,21 +220,21 @@ module _ (T : Scope) where
       )))))
 
   split-ok : (go : Go) (l : ℕ) (w : Writes) (f : Branch) (c : ℕ) (es : Entries) → All-well T w → Branched T f → Met T c → (Z → Risen l es) → most-entries l < length es → Goes l go
-      → Ok T (split sz go l w f c es)
+      → Ok T (split slots go l w f c es)
   split-ok go l w f c es h b m s q g =
-      take-ok T (present (sz .servers) (row (server-of c))) (slot-of c) w
-      (λ d w1. take-node w1 d (parted go l w1 f c (take (fewest-entries l) es) d (drop (fewest-entries l) es))) h (in-order c) (λ d w1 i n. node-ok T w1 d _ n i (λ md.
+      take-ok T (row (server-of c)) (slot-of c) w
+      (λ d w1. take-node w1 d (parted go l w1 f c (take (fewest-entries l) es) d (drop (fewest-entries l) es))) h (λ d w1 i n. node-ok T w1 d _ n i (λ md.
       parted-ok go l g w1 f c (take (fewest-entries l) es) d (drop (fewest-entries l) es) n b m (λ z. halves l es (s z) q .0) md (λ z. halves l es (s z) q .1)))
 
   -- not one too many after all
   fits-well : (l c : ℕ) (es : Entries) → Met T c → (Z → Risen l es) → length es ≤ most-entries l → Well T (node c) (node-value l es)
   fits-well l c es m s q = mk-well T l c es m (λ z. record { some-child = s z .some-child; few = q; children = s z .children })
 
-  up-ok : (a : Ans) → T .A a → (fs : List Branch) (l : ℕ) (w : Writes) (c : ℕ) (es : Entries) → All-well T w → Path T fs → Met T c → (Z → Risen l es) → Ok T (up sz a l fs w c es)
+  up-ok : (a : Ans) → T .A a → (fs : List Branch) (l : ℕ) (w : Writes) (c : ℕ) (es : Entries) → All-well T w → Path T fs → Met T c → (Z → Risen l es) → Ok T (up slots a l fs w c es)
   up-ok a fine [] l w c es h p m s =
       if-ok T (decLe (length es) (most-entries l)) _ _ (λ q. (fine, (fits-well l c es m s q, h))) (λ q. split-root-ok a fine l w c es h m s (omega (arith, q)))
   up-ok a fine (f ∷ fs) l w c es h p m s =
-      let go : Go = λ w′ es′. up sz a (suc l) fs w′ (f .nm) es′ in
+      let go : Go = λ w′ es′. up slots a (suc l) fs w′ (f .nm) es′ in
       let on : Goes l go = λ w′ es′ n r. up-ok a fine fs (suc l) w′ (f .nm) es′ n (p .1) (p .0 .0) r in
       if-ok T (decLe (fewest-entries l) (length es)) _ _
       (λ _. if-ok T (decLe (length es) (most-entries l)) _ _ (λ q. (fine, (fits-well l c es m s q, h))) (λ q. split-ok go l w f c es h (p .0) m s (omega (arith, q)) on))
@@ -249,28 +245,28 @@ module _ (T : Scope) where
   leaf-risen es h = record { some-child = omega arith; few = omega arith; children = every-any _ (λ _. tt) es }
 
   delete-ok : ((o : Option ℕ) → T .A (gone o)) → (fs : List Branch) (n : ℕ) (es : Entries) (i : ℕ) (t : Bool) → Path T fs → Met T n → (Z → Sized T 0 es)
-      → Ok T (delete-at sz fs n es (record { place = i; there = t }))
+      → Ok T (delete-at slots fs n es (record { place = i; there = t }))
   delete-ok a fs n es i false p m s = (a none, tt)
   delete-ok a fs n es i true p m s = up-ok (1, 0, []) (a (some 0)) fs zero [] n (remove-at (i - 1) es) tt p m (λ z. leaf-risen (remove-at (i - 1) es) (omega (arith, remove-few (i - 1) es, s z .few)))
 
   -- ---- MIGRATE
-  module _ (n s : ℕ) (server : Z → s < sz .servers) (m : Met T n) (v : Val) (kept : Z → Storable N (node n) v) (fine : (i d : ℕ) → T .A (i, d, [])) where
+  module _ (n s : ℕ) (m : Met T n) (v : Val) (kept : Z → Storable N (node n) v) (fine : (i d : ℕ) → T .A (i, d, [])) where
     moved-ok : (x : ℕ → Writes → Writes) (k : ℕ → Writes → TreePlan) → ((d : ℕ) (w : Writes) → (Z → N d) → All-well T w → All-well T (x d w))
-        → ((d : ℕ) (w : Writes) → (Z → N d) → All-well T w → Ok T (k d w)) → Ok T (moved sz n s v x k)
+        → ((d : ℕ) (w : Writes) → (Z → N d) → All-well T w → Ok T (k d w)) → Ok T (moved slots n s v x k)
     unfolding Every
     moved-ok x k hx hk =
         let on : ℕ → Writes → TreePlan = λ d w. k d ((node d, v) ∷ w) in
-        take-ok T (s ∷ []) (slot-of n) [] (λ d w. take-node w d (release (x d w) n (on d))) tt (λ z. (server z, tt)) (λ d w i h.
+        take-ok T (s ∷ []) (slot-of n) [] (λ d w. take-node w d (release (x d w) n (on d))) tt (λ d w i h.
         node-ok T w d _ h i (λ md. release-ok T (x d w) n (on d) (hx d w i h) m (λ u g. hk d ((node d, v) ∷ u) i ((md .0, λ z. (i z, elsewhere d v (kept z))), g))))
       where
         -- a node can be stored under any name
         elsewhere : (d : ℕ) (v : Val) → Storable N (node n) v → Storable N (node d) v
-        elsewhere d (root q) h = h
+        elsewhere d (root q t) h = h
         elsewhere d (body k l ks vs) h = h
         elsewhere d (taken b) h = h
         elsewhere d (flags fs) h = h
 
-    move-at-ok : (key l : ℕ) (fs : List Branch) (p : ℕ) (es : Entries) → Met T p → (Z → Sized T l es) → Ok T (move-at sz n s v key l fs p es)
+    move-at-ok : (key l : ℕ) (fs : List Branch) (p : ℕ) (es : Entries) → Met T p → (Z → Sized T l es) → Ok T (move-at slots n s v key l fs p es)
     move-at-ok key zero fs p es o h = tt
     move-at-ok key (suc l) fs p [] o h = tt
     move-at-ok key (suc l) fs p (e ∷ es) o h =
@@ -281,27 +277,27 @@ module _ (T : Scope) where
         (λ _. moved-ok (λ d w. w) end (λ d w i g. g)
         (λ d w i g. (fine 1 d, (mk-well T (suc l) p (with-one f d) o (λ z. one-within 15 l f d (omega arith) (cut-ok T key l e es (h z) .0) (i z)), g)))) (λ _. tt)
 
-    move-node-ok : (r l : ℕ) (ks : List ℕ) → T .R meta → (Z → N r) → Ok T (move-node sz r n s v l ks)
-    move-node-ok r l ks a i =
+    move-node-ok : (r st l : ℕ) (ks : List ℕ) → T .R meta → (Z → N r) → (Z → states-fit st ≡ true) → Ok T (move-node slots st r n s v l ks)
+    move-node-ok r st l ks a i f =
         if-ok T (ℕ-discrete n r) _ _
-        (λ _. moved-ok (λ d w. (meta, root d) ∷ w) (λ d w. P.done ((1, d, []), w)) (λ d w j h. ((a, λ z. (tt, j z)), h)) (λ d w j h. (fine 1 d, h)))
+        (λ _. moved-ok (λ d w. (meta, root d st) ∷ w) (λ d w. P.done ((1, d, []), w)) (λ d w j h. ((a, λ z. (tt, (j z, f z))), h)) (λ d w j h. (fine 1 d, h)))
         (λ _. if-ok T (decLe 7 (length ks)) _ (P.fail no-tree) (λ _. by ks) (λ _. tt))
       where
-        by : (ks : List ℕ) → Ok T (first-key ks (move-below sz r n s v l))
+        by : (ks : List ℕ) → Ok T (first-key ks (move-below slots r n s v l))
         by [] = tt
         by (key ∷ ks) =
             at-root-ok T r _ i (λ j es o f. if-ok T (decLt l j) _ (P.fail no-tree)
-            (λ _. down-ok T (to-level (suc l)) key (move-at sz n s v key) (λ i fs p es _ o g _. move-at-ok key i fs p es o g) j [] r es tt o f) (λ _. tt))
+            (λ _. down-ok T (to-level (suc l)) key (move-at slots n s v key) (λ i fs p es _ o g _. move-at-ok key i fs p es o g) j [] r es tt o f) (λ _. tt))
 
-  move-if-ok : ((i d : ℕ) → T .A (i, d, [])) → (r n s : ℕ) (v : Val) → (Z → s < sz .servers) → T .R meta → (Z → N r) → Well T (node n) v → Ok T (move-if sz r n s v)
-  move-if-ok fine r n s (root q) x a i t = tt
-  move-if-ok fine r n s (taken b) x a i t = tt
-  move-if-ok fine r n s (flags fs) x a i t = tt
-  move-if-ok fine r n s (body zero l ks vs) x a i t = (fine 0 0, tt)
-  move-if-ok fine r n s (body (suc j) l ks vs) x a i t =
-      if-ok T (ℕ-discrete (server-of n) s) _ _ (λ _. (fine 0 1, tt)) (λ _. move-node-ok n s x (t .0, λ z. t .1 z .0) (body (suc j) l ks vs) (λ z. t .1 z .1) fine r l ks a i)
+  move-if-ok : ((i d : ℕ) → T .A (i, d, [])) → (r st n s : ℕ) (v : Val) → T .R meta → (Z → N r) → (Z → states-fit st ≡ true) → Well T (node n) v → Ok T (move-if slots st r n s v)
+  move-if-ok fine r st n s (root q p) a i f t = tt
+  move-if-ok fine r st n s (taken b) a i f t = tt
+  move-if-ok fine r st n s (flags fs) a i f t = tt
+  move-if-ok fine r st n s (body zero l ks vs) a i f t = (fine 0 0, tt)
+  move-if-ok fine r st n s (body (suc j) l ks vs) a i f t =
+      if-ok T (ℕ-discrete (server-of n) s) _ _ (λ _. (fine 0 1, tt)) (λ _. move-node-ok n s (t .0, λ z. t .1 z .0) (body (suc j) l ks vs) (λ z. t .1 z .1) fine r st l ks a i f)
 
-  pub reading-ok : (op : Op) → (Z → Names N sz op) → ((a : Ans) → Form op a → T .A a) → Ok T (reading sz op)
+  pub reading-ok : (op : Op) → (Z → Names N op) → ((a : Ans) → Form op a → T .A a) → Ok T (reading slots op)
   reading-ok (insert k v) h a = leaf-ok T k _ (λ fs n es p m s.
       up-ok (fresh (value-in k es)) (a (fresh (value-in k es)) (fresh-form (value-in k es))) fs zero [] n (with-pair k v es) tt p m (λ z. leaf-risen (with-pair k v es) (omega (arith, with-few k v es, s z .few))))
   reading-ok (lookup k) h a = lookup-quiet T k (λ o. a (said o) (said-form o))
@@ -310,16 +306,16 @@ module _ (T : Scope) where
   reading-ok (previous k) h a = previous-quiet T k (λ o. a (said o) (said-form o))
   reading-ok (list k n) h a = list-quiet T k n (λ l. a (listed l) refl)
   reading-ok (migrate n s) h a =
-      see-ok T [] meta (λ v. when-root v (λ r. P.ask (object (node n)) (λ u. move-if sz r n s u))) tt (λ _. tt) (λ v b. root-ok T v _ b (λ r i.
-      see-ok T [] (node n) (λ u. move-if sz r n s u) tt (λ z. h z .0) (λ u t. move-if-ok (λ i d. a (i, d, []) refl) r n s u (λ z. h z .1) (b .0) i t)))
+      see-ok T [] meta (λ v. when-root v (λ r. P.ask (object (node n)) (λ u. move-if slots (states-of v) r n s u))) tt (λ _. tt) (λ v b. root-ok T v _ b (λ r i f.
+      see-ok T [] (node n) (λ u. move-if slots (states-of v) r n s u) tt h (λ u t. move-if-ok (λ i d. a (i, d, []) refl) r (states-of v) n s u (b .0) i f t)))
 
 -- THE THEOREMS, where everything at hand can be stored in a store of the names N
-module _ (N : ℕ → Type 0) (sz : TreeSizes) (new : (s i : ℕ) → s < sz .servers → i < sz .slots → N (name s i)) (op : Op) (names : Names N sz op) (have : Ask → Option Val) (kept : (o : Obj) (v : Val) → have (object o) ≡ some v → Storable N o v) where
+module _ (N : ℕ → Type 0) (slots : ℕ) (new : (s i : ℕ) → s < 8 → i < slots → N (name s i)) (op : Op) (names : Names N op) (have : Ask → Option Val) (kept : (o : Obj) (v : Val) → have (object o) ≡ some v → Storable N o v) where
   abbrev T : Scope
-  T = record { sz = sz; N = N; new = new; R = λ o. Unit {0}; Z = Unit {0}; A = Form op }
+  T = record { slots = slots; N = N; new = new; R = λ o. Unit {0}; Z = Unit {0}; A = Form op }
 
-  ended : Comes T (W.walk (reading sz op) have)
-  ended = along-walk (Asks T) (Read T) (Ends T) have read (reading sz op) (reading-ok T op (λ _. names) (λ a h. h))
+  ended : Comes T (W.walk (reading slots op) have)
+  ended = along-walk (Asks T) (Read T) (Ends T) have read (reading slots op) (reading-ok T op (λ _. names) (λ a h. h))
     where
       read : (q : Ask) (v : Val) → have q ≡ some v → Read T q v
       read (object o) v e = (tt, λ _. kept o v e)
@@ -327,7 +323,7 @@ module _ (N : ℕ → Type 0) (sz : TreeSizes) (new : (s i : ℕ) → s < sz .se
       read (fetched s) v e = tt
 
   -- EVERYTHING WRITTEN CAN BE STORED, and is of the store
-  pub writes-storable : (a : Ans) (w : Writes) → W.walk (reading sz op) have ≡ W.ends (P.gives (a, w)) → All-storable N w
+  pub writes-storable : (a : Ans) (w : Writes) → W.walk (reading slots op) have ≡ W.ends (P.gives (a, w)) → All-storable N w
   writes-storable a w e = all w (subst (Comes T) e ended .1)
     where
       all : (w : Writes) → All-well T w → All-storable N w
@@ -335,9 +331,9 @@ module _ (N : ℕ → Type 0) (sz : TreeSizes) (new : (s i : ℕ) → s < sz .se
       all (e ∷ w) h = let k = h .0 .1 tt in (k .0, k .1, all w (h .1))
 
   -- AN ANSWER has its operation's form
-  pub answer-formed : (a : Ans) (w : Writes) → W.walk (reading sz op) have ≡ W.ends (P.gives (a, w)) → Form op a
+  pub answer-formed : (a : Ans) (w : Writes) → W.walk (reading slots op) have ≡ W.ends (P.gives (a, w)) → Form op a
   answer-formed a w e = subst (Comes T) e ended .0
 
   -- EVERY QUESTION is about something of the store
-  pub asked-inside : (q : Ask) → W.walk (reading sz op) have ≡ W.lacks q → Inside N sz q
+  pub asked-inside : (q : Ask) → W.walk (reading slots op) have ≡ W.lacks q → Inside N q
   asked-inside q e = subst (Comes T) e ended tt

@@ -140,6 +140,19 @@ module _ (T : Setting) (Z : Meaning T) where
       at : (s : Server) (o : Obj) → keeps s o ≡ true → (there-now T m s ≡ true) ⊎ ¬ (o ≡ meta) → Counts T σ s o → m .value s o ≡ snapshot T σ o
       at s o k t q = sym (none-due r done s o k t) ∙ due-settled m (G .ghost) clients s o ∙ safety T (G .reach) .stored-is s o k q
 
+  -- and every server is what their metadata calls it, an absent one too
+  pub called-now : {m : Machine T} → Reached T m → Applied m → (a : Server) → there-now T m a ≡ true → (s : Server) → there-now T m s ≡ present (m .value a meta) s
+  called-now {m = m} r done a h s =
+      I .staffed .called s
+      ∙ ap (λ v. present v s) (sym (sym (none-due r done a meta (keeps-meta a) (inl h)) ∙ due-settled m (G .ghost) clients a meta
+      ∙ safety T (G .reach) .stored-is a meta (keeps-meta a) (inl (sym (I .staffed .called a) ∙ h))))
+    where
+      G : Explained T m
+      G = reached-explained T r
+
+      I : Inv T (state-of T m (G .ghost))
+      I = reach-inv T (G .reach)
+
   -- what was read at the version that a server stores is what it stores: so who fetches at a server that finds its metadata up to date knows
   -- that this server is there
   pub same-version : {m : Machine T} → Reached T m → (c : Client) (s : Server) (o : Obj) (i : Item T) → keeps s o ≡ true → by-value o ≡ false

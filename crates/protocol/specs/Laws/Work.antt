@@ -49,7 +49,7 @@ module _ (T : Setting) where
   has-item = test T (λ i. true)
 
   -- that changes nothing of what is at hand, and loses no item
-  have-enter : (copy : Obj → Option (Copy T)) (is : List (Item T)) (o q : Obj) (z : Option (Item T)) (k : Option (Copy T)) → find T is o ≡ z → copy o ≡ k
+  pub have-enter : (copy : Obj → Option (Copy T)) (is : List (Item T)) (o q : Obj) (z : Option (Item T)) (k : Option (Copy T)) → find T is o ≡ z → copy o ≡ k
       → have copy (enter is o z k) q ≡ have copy is q
   unfolding find
   have-enter copy is o q (some i) k e c = refl

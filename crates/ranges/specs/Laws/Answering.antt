@@ -1,5 +1,5 @@
 -- WORK THAT ANSWERS: what is written was read, with a version before the last, and is sound; so the write set stays sound.
-use mathlib.Core.Path.{_≡_, refl, sym, _∙_, subst}
+use mathlib.Core.Path.{_≡_, refl, ap, sym, _∙_, subst}
 use mathlib.Core.Bool.{Bool, true, false, cond, _||_}
 use mathlib.Core.List.{List, [], _∷_, _++_}
 use mathlib.Core.Option.{Option}
@@ -12,9 +12,10 @@ use Rattle.base.specs.Laws.Test.{or-left, or-right}
 use Rattle.layout.specs.Space.{changed}
 use Rattle.layout.specs.Part.{over}
 use Rattle.plans.specs.Walk.{Every}
-use Rattle.operations.specs.Object.{Obj, Ask, object, vector, fetched, Ans, Writes}
+use Rattle.operations.specs.Object.{Obj, meta, Val, Ask, object, vector, fetched, Ans, Writes}
+use Rattle.operations.specs.Map.{Op, insert, lookup, delete, next, previous, migrate, list}
+use Rattle.operations.specs.Path.{TreePlan}
 use Rattle.operations.specs.Laws.Object.{written}
-use Rattle.operations.specs.Slot.{Allowed}
 use Rattle.client.specs.Layout.{ClientWord, client-words, phase, reads-count}
 use Rattle.client.specs.Record.{number}
 use Rattle.client.specs.Have.{have}
@@ -34,7 +35,6 @@ use Rattle.demand.specs.Laws.Latest.{entered-every, every-written, entered-whol
 use Rattle.demand.specs.Ledger.{Ledger}
 use Rattle.demand.specs.Laws.Ran.{with-used, all-used}
 use Rattle.demand.specs.Laws.Shows.{T, Slot-shown, Copies-shown, Related}
-use Rattle.demand.specs.Laws.Store.{sizes}
 use Rattle.demand.specs.Laws.Used.{after-used, among-more}
 use Rattle.ranges.specs.Laws.Sound.{Part-sound, Sound-store}
 use Rattle.ranges.specs.Laws.Sets.{part-fits, May-write, All-copied}
@@ -52,9 +52,9 @@ use Rattle.client.specs.declared.part.Set.the-variants as set
 use Rattle.client.specs.Work as Work
 use Rattle.demand.specs.Laws.Answered as A
 
-module _ (k j slots : ℕ) (al : Allowed (sizes k j slots)) (u : ClientWord → ℕ) (part : Part-sound (sizes k j slots) u) (f : Obj → Option (P.Copy (T k j slots))) (copies : Copies-shown k j slots u f) (y : P.Slot (T k j slots)) (shown : Slot-shown k j slots u y) where
-  fit : client-fits (sizes k j slots) u ≡ true
-  fit = part-fits (sizes k j slots) u part
+module _ (k j slots : ℕ) (al : slots ≤ 1024) (u : ClientWord → ℕ) (part : Part-sound slots u) (f : Obj → Option (P.Copy (T k j slots))) (copies : Copies-shown k j slots u f) (y : P.Slot (T k j slots)) (shown : Slot-shown k j slots u y) where
+  fit : client-fits slots u ≡ true
+  fit = part-fits slots u part
 
   -- ---- everything that the plan asked for is read, once the copies in use have entered
   -- l: those in use
@@ -97,21 +97,21 @@ module _ (k j slots : ℕ) (al : Allowed (sizes k j slots)) (u : ClientWord → 
       go false p false q rec = or-right (has u set.Reads x) _ (rw (p, q) (rec (cond (among x l) l (l ++ (x ∷ []))) (now (among x l) refl)))
 
   -- ---- the answer a with the writes w
-  module _ (a : Ans) (w : Writes) (e : worked (sizes k j slots) u ≡ Work.answers a w) where
+  module _ (a : Ans) (w : Writes) (e : worked slots u ≡ Work.answers a w) where
     abbrev us : List ℕ
-    us = walked (sizes k j slots) u .used
+    us = walked slots u .used
 
     abbrev v : ClientWord → ℕ
     v = after-used u us
 
-    answers : A.Answers (sizes k j slots) u a w
-    answers = A.answered-as (sizes k j slots) u a w e
+    answers : A.Answers slots u a w
+    answers = A.answered-as slots u a w e
 
-    ran : (Wk-laws.walk (Op.reading (sizes k j slots) (waiting u)) (have (sizes k j slots) u) ≡ Wk-laws.ends (Pl.gives (a, w)))
-        × (us ≡ all-used (new u) (asked (sizes k j slots) u) []) × (u reads-count + length us ≤ 96)
+    ran : (Wk-laws.walk (Op.reading slots (waiting u)) (have slots u) ≡ Wk-laws.ends (Pl.gives (a, w)))
+        × (us ≡ all-used (new u) (asked slots u) []) × (u reads-count + length us ≤ 96)
     ran = A.ran k j slots al u fit y shown f copies a w answers
 
-    all-copied : All-copied (sizes k j slots) u us
+    all-copied : All-copied slots u us
     all-copied = used-copied k j slots al u part f copies y shown us (ran .1)
 
     read-now : (o : Obj) → written w o ≡ true → has v set.Reads (number o) ≡ true
@@ -119,28 +119,52 @@ module _ (k j slots : ℕ) (al : Allowed (sizes k j slots)) (u : ClientWord → 
         A.entering k j slots al u fit y shown f copies a w answers .has-now (number o)
         ∙ A.asked-of-written k j slots al u fit y shown f copies a w answers (is-read us) every-read o h
       where
-        every-read : Every (λ (q : Ask). is-read us q ≡ true) (Wk.used (Op.plan (sizes k j slots) (waiting u)) (have (sizes k j slots) u))
+        every-read : Every (λ (q : Ask). is-read us q ≡ true) (Wk.used (Op.plan slots (waiting u)) (have slots u))
         every-read =
             subst (Every (λ (q : Ask). is-read us q ≡ true)) (sym (A.uses k j slots al u fit y shown f copies a w answers))
-            (subst (λ (l : List ℕ). Every (λ (q : Ask). is-read l q ≡ true) (asked (sizes k j slots) u)) (sym (ran .1)) (all-read (asked (sizes k j slots) u) []))
+            (subst (λ (l : List ℕ). Every (λ (q : Ask). is-read l q ≡ true) (asked slots u)) (sym (ran .1)) (all-read (asked slots u) []))
+
+    -- "in the order metadata, ..": every plan begins with it
+    root-read : has v set.Reads 0 ≡ true
+    unfolding Every
+    root-read =
+        A.entering k j slots al u fit y shown f copies a w answers .has-now 0
+        ∙ first (subst (λ (l : List ℕ). Every (λ (q : Ask). is-read l q ≡ true) (asked slots u)) (sym (ran .1)) (all-read (asked slots u) []))
+      where
+        rooted : (op : Op) → (next : Val → TreePlan) × (Op.reading slots op ≡ Pl.ask (object meta) next)
+        rooted (insert key value) = (_, refl)
+        rooted (lookup key) = (_, refl)
+        rooted (delete key) = (_, refl)
+        rooted (next key) = (_, refl)
+        rooted (previous key) = (_, refl)
+        rooted (migrate n s) = (_, refl)
+        rooted (list key n) = (_, refl)
+
+        first : Every (λ (q : Ask). is-read us q ≡ true) (asked slots u) → is-read us (object meta) ≡ true
+        first h =
+            let r = rooted (waiting u) in
+            let m = Wk-laws.walk-met (object meta) (r .0) (have slots u) (Pl.gives (a, w)) (subst (λ (p : TreePlan). Wk-laws.walk p (have slots u) ≡ Wk-laws.ends (Pl.gives (a, w))) (r .1) (ran .0)) in
+            let e : asked slots u ≡ object meta ∷ Wk.used (r .0 (m .0)) (have slots u)
+            = ap (λ (p : TreePlan). Wk.used p (have slots u)) (r .1) ∙ Wk-laws.used-has (object meta) (r .0) (have slots u) (m .0) (m .1) in
+            subst (Every (λ (q : Ask). is-read us q ≡ true)) e h .0
 
     may-write : Every (λ (e : Entry). May-write v (e .0)) (entered w)
     may-write =
-        not-last (sizes k j slots) v (used-part (sizes k j slots) u part us all-copied .sets) (entered w) (used-last u us (entered w) ∙ answers .young)
+        not-last slots v (used-part slots u part us all-copied .sets) (entered w) (used-last u us (entered w) ∙ answers .young) root-read
         (entered-every (λ (e : Entry). has v set.Reads (e .0) ≡ true) w (every-written (λ o. has v set.Reads (number o) ≡ true) w read-now))
 
-    answered-sound : Part-sound (sizes k j slots) (changed client-words u (answered us w u))
+    answered-sound : Part-sound slots (changed client-words u (answered us w u))
     answered-sound =
-        answer-part (sizes k j slots) u part us w all-copied
-        (entries-sound (sizes k j slots) al w (writes-there k j slots al u part f copies y shown a w (ran .0)) (answers .fitting))
+        answer-part slots u part us w all-copied
+        (entries-sound slots al w (writes-there k j slots al u part f copies y shown a w (ran .0)) (answers .fitting))
         (entered-whole w (A.storable k j slots al u fit y shown f copies a w answers)) may-write
 
-pub answer-kept : (k j slots : ℕ) (al : Allowed (sizes k j slots)) (few : suc j ≤ 16) (m : Address → ℕ) (S : Sound-store k j slots m)
+pub answer-kept : (k j slots : ℕ) (al : slots ≤ 1024) (few : suc j ≤ 16) (m : Address → ℕ) (S : Sound-store k j slots m)
     (L : Ledger) (M : P.Machine (T k j slots)) → Related k j slots m L M → (c : Fin (suc j)) → client-of m (c .0) phase ≡ 1
-    → (a : Ans) (w : Writes) → worked (sizes k j slots) (client-of m (c .0)) ≡ Work.answers a w
-    → Kept k j slots m (did (Answered (a .0) (a .1)) (over (client (c .0)) (answered (walked (sizes k j slots) (client-of m (c .0)) .used) w (client-of m (c .0)))))
+    → (a : Ans) (w : Writes) → worked slots (client-of m (c .0)) ≡ Work.answers a w
+    → Kept k j slots m (did (Answered (a .0) (a .1)) (over (client (c .0)) (answered (walked slots (client-of m (c .0)) .used) w (client-of m (c .0)))))
 answer-kept k j slots al few m S L M R c now a w e =
-    let ps = answered (walked (sizes k j slots) (client-of m (c .0)) .used) w (client-of m (c .0)) in
+    let ps = answered (walked slots (client-of m (c .0)) .used) w (client-of m (c .0)) in
     record {
       passes = accepted (Answered (a .0) (a .1)) refl;
       sound = client-sound k j slots m S c ps

@@ -6,7 +6,6 @@ use native.Mathlib.Omega.{arith}
 use Rattle.layout.specs.Space.{changed}
 use Rattle.layout.specs.Step.{andThen}
 use Rattle.layout.specs.Laws.Step.{changed-append}
-use Rattle.operations.specs.Slot.{Allowed}
 use Rattle.server.specs.Layout.{places}
 use Rattle.client.specs.Layout.{ClientWord, client-words, phase, applied}
 use Rattle.client.specs.Laws.Ranges.{client-fits}
@@ -20,7 +19,6 @@ use Rattle.steps.specs.Laws.Stores.{client-of, server-of}
 use Rattle.steps.specs.Steps.{unlock-each, store-all}
 use Rattle.demand.specs.Ledger.{Ledger}
 use Rattle.demand.specs.Laws.Shows.{T, Related}
-use Rattle.demand.specs.Laws.Store.{sizes}
 use Rattle.demand.specs.Laws.Turns.{one-of, store}
 use Rattle.ranges.specs.Laws.Sound.{Part-sound, Server-sound, Sound-store}
 use Rattle.ranges.specs.Laws.Part.{applied-part, finish-part}
@@ -38,27 +36,27 @@ module _ (k j slots : ℕ) where
   z = store k j slots
 
   -- ---- APPLY at the server s
-  module _ (al : Allowed (sizes k j slots)) (few : suc j ≤ 16) (m : Address → ℕ) (S : Sound-store k j slots m) (L : Ledger) (M : P.Machine (T k j slots)) (R : Related k j slots m L M) (c : Fin (suc j)) (s : Fin (suc k)) (now : client-of m (c .0) phase ≡ 3) where
+  module _ (al : slots ≤ 1024) (few : suc j ≤ 16) (m : Address → ℕ) (S : Sound-store k j slots m) (L : Ledger) (M : P.Machine (T k j slots)) (R : Related k j slots m L M) (c : Fin (suc j)) (s : Fin 8) (now : client-of m (c .0) phase ≡ 3) where
     abbrev u : ClientWord → ℕ
     u = client-of m (c .0)
 
-    fit : client-fits (sizes k j slots) u ≡ true
-    fit = part-fits (sizes k j slots) u (S .parts c)
+    fit : client-fits slots u ≡ true
+    fit = part-fits slots u (S .parts c)
 
     abbrev v : ClientWord → ℕ
     v = changed client-words u (noted applied (s .0) u)
 
-    here : Server-sound (sizes k j slots) (s .0)
+    here : Server-sound slots (s .0)
         (changed places (server-of m (s .0)) (andThen places (store-all u (s .0)) (unlock-each u (c .0) (lowest-participant z m (c .0)) (s .0)) (server-of m (s .0))))
-    here = apply-sound (sizes k j slots) (s .0) u (S .parts c .sets) (server-of m (s .0)) (S .servers s) (c .0) (lowest-participant z m (c .0))
+    here = apply-sound slots (s .0) u (S .parts c .sets) (server-of m (s .0)) (S .servers s) (c .0) (lowest-participant z m (c .0))
 
-    noted-part : Part-sound (sizes k j slots) v
-    noted-part = applied-part (sizes k j slots) u (S .parts c) (s .0) (s .1)
+    noted-part : Part-sound slots v
+    noted-part = applied-part slots u (S .parts c) (s .0) (s .1)
 
-    ended-part : Part-sound (sizes k j slots) (changed client-words u (andThen client-words (noted applied (s .0)) finish u))
+    ended-part : Part-sound slots (changed client-words u (andThen client-words (noted applied (s .0)) finish u))
     unfolding andThen
     ended-part =
-        subst (Part-sound (sizes k j slots)) (sym (changed-append client-words (noted applied (s .0) u) (finish v) u)) (finish-part (sizes k j slots) v noted-part)
+        subst (Part-sound slots) (sym (changed-append client-words (noted applied (s .0) u) (finish v) u)) (finish-part slots v noted-part)
 
     pub applied-kept : Kept k j slots m (Steps.applied-at z m (c .0) (s .0))
     unfolding Steps.applied-at
@@ -78,7 +76,7 @@ module _ (k j slots : ℕ) where
     apply-kept =
         if-kept k j slots m (Steps.apply-fits z m (c .0) (s .0)) _
         (rw (
-          fits-to-apply (sizes k j slots) u (S .parts c) al (s .0) (Steps.all-applied z m (c .0) (s .0)),
+          fits-to-apply slots u (S .parts c) (s .0) (Steps.all-applied z m (c .0) (s .0)),
           unlock-judged k j slots few m S al c (M .slots c) (R .clients c .slot) (omega (arith, now)) s,
         ))
         applied-kept

@@ -1,13 +1,13 @@
 -- What a fetch hands over and what a check reads at a sound server is in range.
 use mathlib.Core.Path.{_≡_, refl, subst}
-use mathlib.Core.Bool.{Bool, true, false, cond, _&&_, _||_}
+use mathlib.Core.Bool.{Bool, true, false, cond, _||_}
 use mathlib.Core.List.{List, [], _∷_}
 use mathlib.Core.Option.{Option, none, some}
 use Prim.Native.Nat.{ℕ, _-_, _%_, _≤_}
 use native.Mathlib.Omega.{arith}
 use borrow.Author.Tests.{eqb-true, le-leb}
 use lib.Dec.{eqb, leb}
-use Rattle.base.specs.Test.{and-both, one-if}
+use Rattle.base.specs.Test.{one-if}
 use Rattle.base.specs.Laws.Test.{or-right}
 use Rattle.memory.specs.Bit.{bit}
 use Rattle.layout.specs.Space.{tab}
@@ -16,53 +16,53 @@ use Rattle.nodes.specs.declared.node.Node.{Node}
 use Rattle.nodes.specs.Range.{node-in-range}
 use Rattle.nodes.specs.Laws.Range.{range-version}
 use Rattle.nodes.specs.Stored.{node-of}
+use Rattle.nodes.specs.States.{metadata-fits}
 use Rattle.server.specs.declared.place.Place.{Place}
-use Rattle.server.specs.declared.place.Place.the-variants.{Root, Version}
+use Rattle.server.specs.declared.place.Place.the-variants.{Root, Version, States}
 use Rattle.server.specs.Object.{object-of, named}
 use Rattle.server.specs.declared.check.Finding.the-variants.{Same, Differs, Busy}
 use Rattle.server.specs.declared.lock.Use.{Use}
 use Rattle.server.specs.Check.{can-check, mark-place, mark-in, standing, held, mark-fits, mark-finding, checked, finding-number}
 use Rattle.server.specs.HandOut.{metadata-sound}
 use Rattle.client.specs.Layout.{ClientWord}
-use Rattle.client.specs.Record.{first-slot, in-store, number-in-store, last-version, record-in-range}
+use Rattle.client.specs.Record.{first-slot, second-slot, in-store, number-in-store, last-version, record-in-range}
 use Rattle.client.specs.Participants.{at-home}
 use Rattle.steps.specs.Steps.{node-at}
 use Rattle.ranges.specs.Laws.Sound.{Sound, Server-sound}
-use Rattle.ranges.specs.Laws.Stored.{metadata-parts}
+use Rattle.ranges.specs.Laws.Stored.{fits-parts, metadata-parts}
 use Rattle.nodes.specs.Name as N
-use Rattle.operations.specs.Slot as S
 use Rattle.server.specs.declared.object.Object.the-variants as object
 use Rattle.steps.specs.Uses as U
 
-module _ (z : S.TreeSizes) (s : ℕ) (p : Place → ℕ) (good : Server-sound z s p) where
+module _ (slots : ℕ) (s : ℕ) (p : Place → ℕ) (good : Server-sound slots s p) where
   -- ---- a fetch of the metadata
-  pub metadata-judged : metadata-sound (z .servers) (z .slots) p ≡ true
-  unfolding metadata-sound N.name-in-store
-  metadata-judged = let q = metadata-parts z (p Version) (p Root) (good .metadata) in rw (q .0, le-leb (p Version) last-version (q .1))
+  pub metadata-judged : metadata-sound slots p ≡ true
+  unfolding metadata-sound metadata-fits N.name-in-store
+  metadata-judged = let q = metadata-parts slots (p Version) (p Root) (p States) (good .metadata) in rw (q .0, le-leb (p Version) last-version (q .1), q .2)
 
   -- ---- the mark that stands here: of what is checked by the table, or at home here
   digit-fits : (b : Bool) → leb (one-if b) 1 ≡ true
   digit-fits true = refl
   digit-fits false = refl
 
-  node-standing : (n : ℕ) (inner : Bool) → in-store z n ≡ true → (inner || eqb (N.server-of n) s) ≡ true → standing (object.Node (named n)) inner p ≤ last-version
+  node-standing : (n : ℕ) (inner : Bool) → in-store slots n ≡ true → (inner || eqb (N.server-of n) s) ≡ true → standing (object.Node (named n)) inner p ≤ last-version
   unfolding standing mark-in mark-place node-at node-of tab
   node-standing n true there h = good .tables n there
   node-standing n false there h = range-version (node-at p n) (good .nodes n there (eqb-true (N.server-of n) s h) .range)
 
-  standing-judged : (x : ℕ) (inner : Bool) → number-in-store z x ≡ true → (inner || at-home s x) ≡ true → mark-fits (object-of x) (standing (object-of x) inner p) ≡ true
+  standing-judged : (x : ℕ) (inner : Bool) → number-in-store slots x ≡ true → (inner || at-home s x) ≡ true → mark-fits (object-of x) (standing (object-of x) inner p) ≡ true
   unfolding number-in-store at-home object-of standing mark-in mark-place mark-fits
   standing-judged x inner = go (eqb x 0) (leb x 8192)
     where
-      go : (a b : Bool) → cond a true (cond b (in-store z (x - 1)) (in-store z (x - 8193))) ≡ true
+      go : (a b : Bool) → cond a true (cond b (in-store slots (x - 1)) (in-store slots (x - 8193))) ≡ true
           → (inner || cond a true (cond b (eqb (N.server-of (x - 1)) s) (eqb (N.server-of (x - 8193)) s))) ≡ true
           → let o = cond a object.Metadata (cond b (object.Node (named (x - 1))) (object.Flag (named (x - 1 - 8192)))) in mark-fits o (standing o inner p) ≡ true
-      go true b there h = le-leb (p Version) last-version (metadata-parts z (p Version) (p Root) (good .metadata) .1)
+      go true b there h = le-leb (p Version) last-version (metadata-parts slots (p Version) (p Root) (p States) (good .metadata) .1)
       go false true there h = le-leb (standing (object.Node (named (x - 1))) inner p) last-version (node-standing (x - 1) inner there h)
       go false false there h = digit-fits (bit (p (mark-place (object.Flag (named (x - 1 - 8192))) inner)) (N.slot-of (x - 1 - 8192) % 64))
 
   -- so a check of a mark in range finds none that is not
-  checked-judged : (x : ℕ) (inner : Bool) (mark c : ℕ) (w : Use) → number-in-store z x ≡ true → mark-fits (object-of x) mark ≡ true → (inner || at-home s x) ≡ true
+  checked-judged : (x : ℕ) (inner : Bool) (mark c : ℕ) (w : Use) → number-in-store slots x ≡ true → mark-fits (object-of x) mark ≡ true → (inner || at-home s x) ≡ true
       → eqb (finding-number (checked (object-of x) inner mark c w p)) 10 ≡ false
   unfolding checked mark-finding
   checked-judged x inner mark c w there fits h =
@@ -74,7 +74,7 @@ module _ (z : S.TreeSizes) (s : ℕ) (p : Place → ℕ) (good : Server-sound z 
       go false false = refl
 
   -- at a fetch
-  pub fetch-judged : (x : ℕ) (inner : Bool) (mark c : ℕ) (w : Use) → number-in-store z x ≡ true → mark-fits (object-of x) mark ≡ true → can-check s (object-of x) inner ≡ true
+  pub fetch-judged : (x : ℕ) (inner : Bool) (mark c : ℕ) (w : Use) → number-in-store slots x ≡ true → mark-fits (object-of x) mark ≡ true → can-check s (object-of x) inner ≡ true
       → eqb (finding-number (checked (object-of x) inner mark c w p)) 10 ≡ false
   unfolding can-check at-home object-of
   fetch-judged x inner mark c w there fits h = checked-judged x inner mark c w there fits (go (eqb x 0) (leb x 8192) h)
@@ -88,7 +88,7 @@ module _ (z : S.TreeSizes) (s : ℕ) (p : Place → ℕ) (good : Server-sound z 
           or-right inner (eqb (N.server-of (x - 8193)) s) (subst (λ (n : ℕ). eqb (N.server-of n) s ≡ true) e h)
 
   -- at a prepare
-  pub prepare-judged : (i : U.Item) (low c : ℕ) → number-in-store z (i .number) ≡ true → mark-fits (U.item-object i) (i .mark) ≡ true → U.checked-at low s i ≡ true
+  pub prepare-judged : (i : U.Item) (low c : ℕ) → number-in-store slots (i .number) ≡ true → mark-fits (U.item-object i) (i .mark) ≡ true → U.checked-at low s i ≡ true
       → eqb (finding-number (checked (U.item-object i) (i .inner-read) (i .mark) c (U.use-of i) p)) 10 ≡ false
   unfolding U.checked-at
   prepare-judged i low c there fits h =
@@ -99,14 +99,14 @@ module _ (z : S.TreeSizes) (s : ℕ) (p : Place → ℕ) (good : Server-sound z 
       go false a b h = h
 
 -- the mark of a sound record that was read
-pub mark-judged : (z : S.TreeSizes) (u : ClientWord → ℕ) (x : ℕ) (r : Node) → Sound z x r → mark-fits (object-of x) (U.item-of u x r .mark) ≡ true
+pub mark-judged : (slots : ℕ) (u : ClientWord → ℕ) (x : ℕ) (r : Node) → Sound slots x r → mark-fits (object-of x) (U.item-of u x r .mark) ≡ true
 unfolding U.item-of record-in-range object-of mark-fits
-mark-judged z u x r h = go (eqb x 0) (leb x 8192) (h .fitting)
+mark-judged slots u x r h = go (eqb x 0) (leb x 8192) (h .fitting)
   where
-    go : (a b : Bool) → cond a (in-store z (first-slot r) && leb (r .version) last-version) (cond b (node-in-range r) (leb (first-slot r) 1)) ≡ true
+    go : (a b : Bool) → cond a (metadata-fits slots (first-slot r) (second-slot r) (r .version)) (cond b (node-in-range r) (leb (first-slot r) 1)) ≡ true
         → mark-fits (cond a object.Metadata (cond b (object.Node (named (x - 1))) (object.Flag (named (x - 1 - 8192)))))
         (cond a (r .version) (cond b (r .version) (first-slot r))) ≡ true
-    go true b q = and-both (in-store z (first-slot r)) (leb (r .version) last-version) q .1
+    go true b q = le-leb (r .version) last-version (fits-parts slots (r .version) (first-slot r) (second-slot r) q .1)
     go false true q = le-leb (r .version) last-version (range-version r q)
     go false false q = q
 

@@ -25,15 +25,15 @@ use Rattle.nodes.specs.Laws.Node.{slots-made}
 use Rattle.nodes.specs.Range.{node-in-range}
 use Rattle.nodes.specs.Laws.Range.{range-of}
 use Rattle.nodes.specs.Laws.Stored.{Sized}
+use Rattle.nodes.specs.States.{metadata-fits}
 use Rattle.operations.specs.Object.{Obj, meta, node, flag, Val, root, body, taken, flags, keys-of, level-of, Writes, hit, written-value}
 use Rattle.operations.specs.Laws.Object.{written}
 use Rattle.operations.specs.Operation.{fits?, all-fit?}
 use Rattle.operations.specs.Laws.Storable.{Shape, Kept, Named, Storable, All-storable, every-any}
-use Rattle.operations.specs.Slot.{TreeSizes, Allowed}
 use Rattle.operations.specs.Laws.Hit.{hit-eq, hit-self}
 use Rattle.client.specs.declared.answer.Look.{Look}
 use Rattle.client.specs.Layout.{ClientWord, client-words, item, reads-count, writes-count}
-use Rattle.client.specs.Record.{number, first-slot, single, record-of, in-store, object-in-store, last-version, record-in-range, all, children-there}
+use Rattle.client.specs.Record.{number, first-slot, second-slot, single, metadata, record-of, in-store, object-in-store, last-version, record-in-range, all, children-there}
 use Rattle.client.specs.Sets.{or-found, at-most, count, record-at, number-at, find}
 use Rattle.client.specs.Items.{has}
 use Rattle.client.specs.Part.{nothing}
@@ -57,25 +57,25 @@ use Rattle.client.specs.declared.part.Set.the-variants as set
 
 -- ---- ONE WRITE of an operation
 -- a name of the store
-abbrev pub There : TreeSizes → ℕ → Type 0
-There z n = in-store z n ≡ true
+abbrev pub There : ℕ → ℕ → Type 0
+There slots n = in-store slots n ≡ true
 
-module _ (z : TreeSizes) (al : Allowed z) where
+module _ (slots : ℕ) (al : slots ≤ 1024) where
   -- an object's record, by the object
-  pub object-sound : (o : Obj) (r : Node) → object-in-store z o ≡ true
-      → by-object o (in-store z (first-slot r) && leb (r .version) last-version) (λ n. node-in-range r) (λ n. leb (first-slot r) 1) ≡ true
-      → by-object o true (λ n. children-there z r) (λ n. true) ≡ true → Item-sound z (number o) r
+  pub object-sound : (o : Obj) (r : Node) → object-in-store slots o ≡ true
+      → by-object o (metadata-fits slots (first-slot r) (second-slot r) (r .version)) (λ n. node-in-range r) (λ n. leb (first-slot r) 1) ≡ true
+      → by-object o true (λ n. children-there slots r) (λ n. true) ≡ true → Item-sound slots (number o) r
   unfolding record-in-range
   object-sound o r h f c = record {
-    inside = number-inside z al o h;
+    inside = number-inside slots al o h;
     sound = record {
-      fitting = by-number-of z al o h (in-store z (first-slot r) && leb (r .version) last-version) (λ n. node-in-range r) (λ n. leb (first-slot r) 1) ∙ f;
-      children = by-number-of z al o h true (λ n. children-there z r) (λ n. true) ∙ c;
+      fitting = by-number-of slots al o h (metadata-fits slots (first-slot r) (second-slot r) (r .version)) (λ n. node-in-range r) (λ n. leb (first-slot r) 1) ∙ f;
+      children = by-number-of slots al o h true (λ n. children-there slots r) (λ n. true) ∙ c;
     };
   }
 
   -- a node's record
-  kept-range : (k l : ℕ) (ks vs : List ℕ) → Kept (There z) k l ks vs → l ≤ 4 → node-in-range (made k l 0 ks vs) ≡ true
+  kept-range : (k l : ℕ) (ks vs : List ℕ) → Kept (There slots) k l ks vs → l ≤ 4 → node-in-range (made k l 0 ks vs) ≡ true
   unfolding made
   kept-range k l ks vs h m = go k (h .shape)
     where
@@ -85,17 +85,17 @@ module _ (z : TreeSizes) (al : Allowed z) where
       go (suc (suc zero)) s = range-of (made 2 l 0 ks vs) (omega arith) (omega arith) (rw (le-leb 1 l s, le-leb l 4 m)) (le-leb (length ks) 14 (h .few))
       go (suc (suc (suc k))) s = absurd s
 
-  kept-children : (k l : ℕ) (ks vs : List ℕ) → Kept (There z) k l ks vs → children-there z (made k l 0 ks vs) ≡ true
+  kept-children : (k l : ℕ) (ks vs : List ℕ) → Kept (There slots) k l ks vs → children-there slots (made k l 0 ks vs) ≡ true
   unfolding children-there made
   kept-children k l ks vs h = go (eqb k 2) refl
     where
-      go : (b : Bool) → eqb k 2 ≡ b → (not b || all (in-store z) (slotsOf (made k l 0 ks vs))) ≡ true
-      go true e = ap (all (in-store z)) (slots-made k l 0 ks vs (h .beside)) ∙ every-all (in-store z) vs (h .children (eqb-true k 2 e))
+      go : (b : Bool) → eqb k 2 ≡ b → (not b || all (in-store slots) (slotsOf (made k l 0 ks vs))) ≡ true
+      go true e = ap (all (in-store slots)) (slots-made k l 0 ks vs (h .beside)) ∙ every-all (in-store slots) vs (h .children (eqb-true k 2 e))
       go false e = refl
 
-  entry-sound : (o : Obj) (v : Val) → Named (There z) o → Storable (There z) o v → level-of v ≤ 4 → Item-sound z (number o) (record-of 0 v)
-  unfolding record-of single made pad
-  entry-sound meta (root r) n s l = object-sound meta (record-of 0 (root r)) refl (rw s) refl
+  entry-sound : (o : Obj) (v : Val) → Named (There slots) o → Storable (There slots) o v → level-of v ≤ 4 → Item-sound slots (number o) (record-of 0 v)
+  unfolding record-of single metadata metadata-fits made pad
+  entry-sound meta (root r st) n s l = object-sound meta (record-of 0 (root r st)) refl (rw (s .0, s .1)) refl
   entry-sound (node n) (body k j ks vs) h s l =
       object-sound (node n) (record-of 0 (body k j ks vs)) h (kept-range k j ks vs s l) (kept-children k j ks vs s)
   entry-sound (flag n) (taken b) h s l = object-sound (flag n) (record-of 0 (taken b)) h (small b) refl
@@ -106,10 +106,10 @@ module _ (z : TreeSizes) (al : Allowed z) where
   entry-sound meta (body k j ks vs) n s l = absurd s
   entry-sound meta (taken b) n s l = absurd s
   entry-sound meta (flags fs) n s l = absurd s
-  entry-sound (node n) (root r) h s l = absurd s
+  entry-sound (node n) (root r st) h s l = absurd s
   entry-sound (node n) (taken b) h s l = absurd s
   entry-sound (node n) (flags fs) h s l = absurd s
-  entry-sound (flag n) (root r) h s l = absurd s
+  entry-sound (flag n) (root r st) h s l = absurd s
   entry-sound (flag n) (body k j ks vs) h s l = absurd s
   entry-sound (flag n) (flags fs) h s l = absurd s
 
@@ -156,14 +156,14 @@ fit-at all (e ∷ w) o f h = go (hit (e .0) o) refl h (and-both (fits? (written-
 level-low : (v : Val) → fits? v ≡ true → level-of v ≤ 4
 level-low v h = yes-of (decLe (level-of v) 4) (and-both (rises (keys-of v)) (yes? (decLe (level-of v) 4)) h .1)
 
-module _ (z : TreeSizes) (al : Allowed z) where
-  pub entries-sound : (w : Writes) → All-storable (There z) w → all-fit? w w ≡ true → Every (λ (e : Entry). Item-sound z (e .0) (e .1)) (entered w)
-  entries-sound w s f = every-weaker (Latest (There z) w) (λ (e : Entry). Item-sound z (e .0) (e .1)) one (entered w) (latest-entries (There z) w s)
+module _ (slots : ℕ) (al : slots ≤ 1024) where
+  pub entries-sound : (w : Writes) → All-storable (There slots) w → all-fit? w w ≡ true → Every (λ (e : Entry). Item-sound slots (e .0) (e .1)) (entered w)
+  entries-sound w s f = every-weaker (Latest (There slots) w) (λ (e : Entry). Item-sound slots (e .0) (e .1)) one (entered w) (latest-entries (There slots) w s)
     where
-      one : (e : Entry) → Latest (There z) w e → Item-sound z (e .0) (e .1)
+      one : (e : Entry) → Latest (There slots) w e → Item-sound slots (e .0) (e .1)
       one e L =
           let low = level-low (L .val) (ap fits? (sym (L .is-value)) ∙ fit-at w w (L .obj) f (L .is-written)) in
-          subst (λ (e : Entry). Item-sound z (e .0) (e .1)) (sym (L .is)) (entry-sound z al (L .obj) (L .val) (L .named) (L .storable) low)
+          subst (λ (e : Entry). Item-sound slots (e .0) (e .1)) (sym (L .is)) (entry-sound slots al (L .obj) (L .val) (L .named) (L .storable) low)
 
 -- ---- WRITES ENTER
 -- written item i of v is the object x with the record r, or stood there in u
@@ -186,28 +186,28 @@ module _ (u v : ClientWord → ℕ) (other : Elsewhere set.Writes 11 u v) where
   unwritten-stay : Reads-stay u v
   unwritten-stay = reads-stay u v same-count same-words
 
-  one-sound : (z : TreeSizes) (x : ℕ) (r : Node) → One-written u v x r → Item-sound z x r → May-write u x → Sets-sound z u → Sets-sound z v
+  one-sound : (slots : ℕ) (x : ℕ) (r : Node) → One-written u v x r → Item-sound slots x r → May-write u x → Sets-sound slots u → Sets-sound slots v
   unfolding number-at
-  one-sound z x r one new may S =
-      sets-from z v (all-stay z u v set.Reads same-count same-words (S .read)) (λ i l. sound i (one i l))
+  one-sound slots x r one new may S =
+      sets-from slots v (all-stay slots u v set.Reads same-count same-words (S .read)) (λ i l. sound i (one i l))
       (λ i l. may-stay u v unwritten-stay (number-at v set.Writes i) (allowed i (one i l)))
     where
-      sound : (i : ℕ) → New-or-old u v x r i → Item-sound z (number-at v set.Writes i) (record-at v set.Writes i)
-      sound i (inl h) = let a = h .0 in let b = h .1 in coe 1 0 (t. Item-sound z (a t) (b t)) new
-      sound i (inr h) = item-stays z u v set.Writes i (h .1) (S .written i (h .0))
+      sound : (i : ℕ) → New-or-old u v x r i → Item-sound slots (number-at v set.Writes i) (record-at v set.Writes i)
+      sound i (inl h) = let a = h .0 in let b = h .1 in coe 1 0 (t. Item-sound slots (a t) (b t)) new
+      sound i (inr h) = item-stays slots u v set.Writes i (h .1) (S .written i (h .0))
 
       allowed : (i : ℕ) → New-or-old u v x r i → May-write u (number-at v set.Writes i)
       allowed i (inl h) = subst (May-write u) (sym (h .0)) may
-      allowed i (inr h) = subst (May-write u) (sym (h .1 0)) (written-may z u S i (h .0))
+      allowed i (inr h) = subst (May-write u) (sym (h .1 0)) (written-may slots u S i (h .0))
 
 -- in its object's place, or behind the others
-module _ (z : TreeSizes) (u : ClientWord → ℕ) (x : ℕ) (r : Node) (w : Sized r) (new : Item-sound z x r) (may : May-write u x) (S : Sets-sound z u) where
+module _ (slots : ℕ) (u : ClientWord → ℕ) (x : ℕ) (r : Node) (w : Sized r) (new : Item-sound slots x r) (may : May-write u x) (S : Sets-sound slots u) where
   abbrev Sound-else : (ClientWord → ℕ) → Type 0
-  Sound-else v = Sets-sound z v × Elsewhere set.Writes 11 u v
+  Sound-else v = Sets-sound slots v × Elsewhere set.Writes 11 u v
 
   replaced-sound : (i : ℕ) → Sound-else (placed set.Writes i x r w u)
   unfolding count number-at
-  replaced-sound i = (one-sound u v other z x r one new may S, other)
+  replaced-sound i = (one-sound u v other slots x r one new may S, other)
     where
       v : ClientWord → ℕ
       v = placed set.Writes i x r w u
@@ -225,7 +225,7 @@ module _ (z : TreeSizes) (u : ClientWord → ℕ) (x : ℕ) (r : Node) (w : Size
               inr (subst (λ (c : ℕ). n < at-most 48 c) same l, λ m. placed-beside set.Writes i x r w u n m d)
 
   behind-sound : (v : ClientWord → ℕ) → Behind set.Writes 11 u v x r → Sound-else v
-  behind-sound v B = (one-sound u v (B .other) z x r one new may S, B .other)
+  behind-sound v B = (one-sound u v (B .other) slots x r one new may S, B .other)
     where
       one : One-written u v x r
       one n l = go (ℕ-discrete n (u writes-count))
@@ -251,18 +251,18 @@ module _ (z : TreeSizes) (u : ClientWord → ℕ) (x : ℕ) (r : Node) (w : Size
               let b = lt-ltb (u writes-count) 48 l in
               rw (c, b) (behind-sound _ (put-behind set.Writes 11 x r w u c (λ v q. writes-within v (omega (arith, q, l)) ∙ q)))
 
-module _ (z : TreeSizes) where
-  pub written-sound : (l : List Entry) → Every (λ (e : Entry). Item-sound z (e .0) (e .1)) l → All-whole l
-      → (u : ClientWord → ℕ) → Every (λ (e : Entry). May-write u (e .0)) l → Sets-sound z u
-      → Sets-sound z (changed client-words u (enter-entries l u)) × Elsewhere set.Writes 11 u (changed client-words u (enter-entries l u))
+module _ (slots : ℕ) where
+  pub written-sound : (l : List Entry) → Every (λ (e : Entry). Item-sound slots (e .0) (e .1)) l → All-whole l
+      → (u : ClientWord → ℕ) → Every (λ (e : Entry). May-write u (e .0)) l → Sets-sound slots u
+      → Sets-sound slots (changed client-words u (enter-entries l u)) × Elsewhere set.Writes 11 u (changed client-words u (enter-entries l u))
   unfolding Every enter-entries nothing andThen changed
   written-sound [] h w u m S = (S, λ a p q. refl)
   written-sound (e ∷ l) h w u m S =
       let v = changed client-words u (enter-write (e .0) (e .1) u) in
-      let one = write-sound z u (e .0) (e .1) (w .0) (h .0) (m .0) S in
+      let one = write-sound slots u (e .0) (e .1) (w .0) (h .0) (m .0) S in
       let may = every-weaker (λ (e : Entry). May-write u (e .0)) (λ (e : Entry). May-write v (e .0)) (λ e. may-stay u v (unwritten-stay u v (one .1)) (e .0)) l (m .1) in
       let rest = written-sound l (h .1) (w .1) v may (one .0) in
-      subst (λ y. Sets-sound z y × Elsewhere set.Writes 11 u y) (sym (changed-append client-words (enter-write (e .0) (e .1) u) (enter-entries l v) u))
+      subst (λ y. Sets-sound slots y × Elsewhere set.Writes 11 u y) (sym (changed-append client-words (enter-write (e .0) (e .1) u) (enter-entries l v) u))
       (rest .0, λ a p q. rest .1 a p q ∙ one .1 a p q)
 
 -- ---- the last version
@@ -299,20 +299,20 @@ used-last u us (e ∷ l) =
     λ t. (leb (e .0) 8192 && eqb (v t) last-version) || r t
 
 -- "8 a written version is 4,294,967,295": where none is, what was read may be written
-pub not-last : (z : TreeSizes) (u : ClientWord → ℕ) → Sets-sound z u → (l : List Entry) → any-at-last u l ≡ false → Every (λ (e : Entry). has u set.Reads (e .0) ≡ true) l
-    → Every (λ (e : Entry). May-write u (e .0)) l
+pub not-last : (slots : ℕ) (u : ClientWord → ℕ) → Sets-sound slots u → (l : List Entry) → any-at-last u l ≡ false → has u set.Reads 0 ≡ true
+    → Every (λ (e : Entry). has u set.Reads (e .0) ≡ true) l → Every (λ (e : Entry). May-write u (e .0)) l
 unfolding Every any-at-last
-not-last z u S [] a h = tt
-not-last z u S (e ∷ l) a h =
+not-last slots u S [] a o h = tt
+not-last slots u S (e ∷ l) a o h =
     let n = or-neither (at-last-version u (e .0)) (any-at-last u l) a in
-    (record { read = h .0; young = λ m. young m (n .0) }, not-last z u S l (n .1) (h .1))
+    (record { read = h .0; rooted = o; young = λ m. young m (n .0) }, not-last slots u S l (n .1) o (h .1))
   where
     young : e .0 ≤ 8192 → at-last-version u (e .0) ≡ false → version-of u (find u set.Reads (e .0)) < last-version
     young m q =
         let f = has-at u set.Reads (e .0) (h .0) in
         let g = found-at u set.Reads (e .0) (f .0) (f .1) in
         let r = record-at u set.Reads (f .0) in
-        let le = sound-version z (number-at u set.Reads (f .0)) r (S .read (f .0) (g .0) .sound) (subst (λ (x : ℕ). x ≤ 8192) (sym (g .1)) m) in
+        let le = sound-version slots (number-at u set.Reads (f .0)) r (S .read (f .0) (g .0) .sound) (subst (λ (x : ℕ). x ≤ 8192) (sym (g .1)) m) in
         let ne : eqb (r .version) last-version ≡ false
         = ap₂ (λ (b : Bool) (p : Found). b && eqb (version-in u (e .0) p) last-version) (sym (le-leb (e .0) 8192 m)) (sym (f .1)) ∙ q in
         subst (λ p. version-of u p < last-version) (sym (f .1)) (omega (arith, le, eqb-false (r .version) last-version ne))

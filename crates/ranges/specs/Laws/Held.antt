@@ -8,7 +8,6 @@ use native.Mathlib.Decide.{decLt}
 use borrow.Author.Tests.{eq-eqb, lt-ltb, le-ltb, le-leb}
 use Rattle.memory.specs.Bit.{bit}
 use Rattle.operations.specs.Object.{Obj}
-use Rattle.operations.specs.Slot.{Allowed}
 use Rattle.server.specs.Object.{object-of, lock-of}
 use Rattle.server.specs.Laws.Lock.{reads, writes, range-writes}
 use Rattle.client.specs.declared.part.Set.the-variants.{Reads}
@@ -21,7 +20,6 @@ use Rattle.steps.specs.declared.sizes.Sizes.{Sizes}
 use Rattle.steps.specs.Whole.{Address, server}
 use Rattle.steps.specs.Laws.Stores.{client-of, server-of}
 use Rattle.steps.specs.Uses.{item-of, read-item, locked-at}
-use Rattle.demand.specs.Laws.Store.{sizes}
 use Rattle.demand.specs.Laws.Numbers.{obj-of, number-obj, store-obj}
 use Rattle.demand.specs.Laws.Shows.{T, In-store, lock-kept, Slot-shown}
 use Rattle.demand.specs.Laws.Aborted.{prepared-late}
@@ -74,7 +72,7 @@ module _ (k j slots : ℕ) (few : suc j ≤ 16) (m : Address → ℕ) (W : Sound
           rw (le-ltb w 65536 q) (writer (range-writes (suc j) w few (h .range) d (is-writer q)) (is-writer q))
 
   -- the lock of the object o at a server that keeps it
-  lock-judged : (s : Fin (suc k)) (o : Obj) → In-store k j slots o → lock-kept k j slots (server-of m (s .0)) s o ≡ true
+  lock-judged : (s : Fin 8) (o : Obj) → In-store k j slots o → lock-kept k j slots (server-of m (s .0)) s o ≡ true
       → J.lock-fits z m (s .0) (number o) ≡ true
   unfolding J.lock-fits
   lock-judged s o hi kept =
@@ -83,36 +81,36 @@ module _ (k j slots : ℕ) (few : suc j ≤ 16) (m : Address → ℕ) (W : Sound
       rw (sound .range) (holders-now (s .0) (number o) w sound)
 
   -- of the object with number x
-  pub number-judged : (s : Fin (suc k)) (x : ℕ) → number-in-store (sizes k j slots) x ≡ true → lock-kept k j slots (server-of m (s .0)) s (obj-of x) ≡ true
+  pub number-judged : (s : Fin 8) (x : ℕ) → number-in-store slots x ≡ true → lock-kept k j slots (server-of m (s .0)) s (obj-of x) ≡ true
       → J.lock-fits z m (s .0) x ≡ true
   number-judged s x hi kept =
-      subst (λ (y : ℕ). J.lock-fits z m (s .0) y ≡ true) (number-obj x) (lock-judged s (obj-of x) (sym (store-obj (sizes k j slots) x) ∙ hi) kept)
+      subst (λ (y : ℕ). J.lock-fits z m (s .0) y ≡ true) (number-obj x) (lock-judged s (obj-of x) (sym (store-obj slots x) ∙ hi) kept)
 
   -- ---- what is unlocked
-  module _ (al : Allowed (sizes k j slots)) (c : Fin (suc j)) (y : P.Slot (T k j slots)) (shown : Slot-shown k j slots (client-of m (c .0)) y) where
+  module _ (al : slots ≤ 1024) (c : Fin (suc j)) (y : P.Slot (T k j slots)) (shown : Slot-shown k j slots (client-of m (c .0)) y) where
     abbrev u : ClientWord → ℕ
     u = client-of m (c .0)
 
     abbrev low : ℕ
     low = J.lowest-participant z m (c .0)
 
-    fit : client-fits (sizes k j slots) u ≡ true
-    fit = part-fits (sizes k j slots) u (W .parts c)
+    fit : client-fits slots u ≡ true
+    fit = part-fits slots u (W .parts c)
 
     -- the kinds of an item of the read set, as read and as written
     pub kinds-judged : (n : ℕ) → n < count u Reads → (read-item u n .read-fits && read-item u n .written-fits) ≡ true
     unfolding item-of
-    kinds-judged n l = rw (read-kind (sizes k j slots) u (W .parts c) n l) (written-kind (sizes k j slots) u (W .parts c) (number-at u Reads n))
+    kinds-judged n l = rw (read-kind slots u (W .parts c) n l) (written-kind slots u (W .parts c) (number-at u Reads n))
 
     -- an item of the read set that is locked at s
-    pub item-judged : 2 ≤ u phase → (s : Fin (suc k)) (n : ℕ) → n < count u Reads → locked-at low (s .0) (read-item u n) ≡ true
+    pub item-judged : 2 ≤ u phase → (s : Fin 8) (n : ℕ) → n < count u Reads → locked-at low (s .0) (read-item u n) ≡ true
         → J.lock-fits z m (s .0) (read-item u n .number) ≡ true
     unfolding item-of
     item-judged late s n l b =
         number-judged s (number-at u Reads n) (W .parts c .sets .read n l .inside)
         (here-kept k j slots al u fit y shown s low (shown .lowest-as late) (server-of m (s .0)) n l b)
 
-    pub unlock-judged : 2 ≤ u phase → (s : Fin (suc k)) → J.unlock-fits z m (c .0) (s .0) ≡ true
+    pub unlock-judged : 2 ≤ u phase → (s : Fin 8) → J.unlock-fits z m (c .0) (s .0) ≡ true
     unfolding J.unlock-fits
     unlock-judged late s =
         every-below (count u Reads) (λ n. J.item-unlocks z m (c .0) (s .0) (read-item u n))
@@ -121,7 +119,7 @@ module _ (k j slots : ℕ) (few : suc j ≤ 16) (m : Address → ℕ) (W : Sound
     pub abort-judged : (u phase ≡ 1) ⊎ (u phase ≡ 2) → J.abort-fits z m (c .0) ≡ true
     unfolding J.abort-fits
     abort-judged undecided =
-        rw (fits-to-abort (sizes k j slots) u (W .parts c))
-        (every-below (suc k) (λ s. not (bit (u prepared) s) || (fit-to-unlock (sizes k j slots) u && J.unlock-fits z m (c .0) s))
-        (λ s l. unless (bit (u prepared) s) (fit-to-unlock (sizes k j slots) u && J.unlock-fits z m (c .0) s)
-        (λ b. rw (fits-to-unlock (sizes k j slots) u (W .parts c)) (unlock-judged (prepared-late k j slots u y shown s b undecided) (s, l)))))
+        rw (fits-to-abort slots u (W .parts c))
+        (every-below 8 (λ s. not (bit (u prepared) s) || (fit-to-unlock slots u && J.unlock-fits z m (c .0) s))
+        (λ s l. unless (bit (u prepared) s) (fit-to-unlock slots u && J.unlock-fits z m (c .0) s)
+        (λ b. rw (fits-to-unlock slots u (W .parts c)) (unlock-judged (prepared-late k j slots u y shown s b undecided) (s, l)))))

@@ -2,7 +2,7 @@
 use mathlib.Core.Path.{_≡_, refl, sym, _∙_, subst}
 use mathlib.Core.Bool.{Bool, true, false, cond, _&&_, _||_, not, false≢true}
 use mathlib.Core.List.{List, [], _∷_}
-use Prim.Native.Nat.{ℕ, _-_, _^_, _≤_, _<_}
+use Prim.Native.Nat.{ℕ, zero, suc, _-_, _≤_, _<_}
 use native.Mathlib.Omega.{arith}
 use borrow.Author.Tests.{eq-eqb, eqb-false, leb-false, le-leb, lt-leb, ltb-true, ltb-false, lt-ltb, ne-eqb}
 use lib.Dec.{eqb, leb, ltb}
@@ -14,16 +14,16 @@ use Rattle.nodes.specs.declared.node.Node.{Node}
 use Rattle.nodes.specs.declared.found.Found.{Found}
 use Rattle.nodes.specs.declared.found.Found.the-variants.{At, Absent}
 use Rattle.nodes.specs.Range.{level-fits, count-fits, node-in-range}
+use Rattle.nodes.specs.States.{states-fit, metadata-fits}
 use Rattle.nodes.specs.Stored.{node-of}
-use Rattle.operations.specs.Slot.{TreeSizes, Allowed}
 use Rattle.client.specs.declared.answer.Look.{Look}
 use Rattle.client.specs.declared.part.Set.the-variants.{Reads, Writes, Copies}
-use Rattle.client.specs.Layout.{ClientWord, field, item, vector-word, lost, meta-copied}
-use Rattle.client.specs.Record.{first-slot, in-store, number-in-store, last-version, record-in-range, children-there, node-fits, whole-in-range, kind-in-range}
+use Rattle.client.specs.Layout.{ClientWord, field, item, vector-word, lost}
+use Rattle.client.specs.Record.{first-slot, second-slot, number-in-store, last-version, record-in-range, children-there, node-fits, whole-in-range, kind-in-range}
 use Rattle.client.specs.Sets.{count, record-at, number-at, find}
 use Rattle.client.specs.Commit.{is-at}
-use Rattle.client.specs.Items.{has, inner, of-record}
-use Rattle.client.specs.Participants.{at-home}
+use Rattle.client.specs.Items.{any-below, has, inner, of-record}
+use Rattle.client.specs.Participants.{at-home, calls-all, states-in, states-read}
 use Rattle.client.specs.Drops.{version-of}
 use Rattle.client.specs.Vectors.{flag-fits, flags-fit, vector-fits}
 use Rattle.client.specs.Have.{lacking, is-found, copied-meta, copied-item, copied-node, copied-flag, copied, copy-fits}
@@ -34,28 +34,29 @@ use Rattle.demand.specs.Laws.Held.{every-below, found-at, has-at}
 use Rattle.demand.specs.Laws.Behind.{absent-has}
 use Rattle.ranges.specs.Laws.Sound.{Sound, Part-sound}
 use Rattle.ranges.specs.Laws.Sets.{sound-version}
+use Rattle.ranges.specs.Laws.Stored.{root-and-states}
 use Rattle.nodes.specs.Name as N
 use Rattle.client.specs.Fits as F
 
 -- ---- a sound record: its kind, and where it is stored whole
-module _ (z : TreeSizes) (x : ℕ) (r : Node) (h : Sound z x r) where
+module _ (slots : ℕ) (x : ℕ) (r : Node) (h : Sound slots x r) where
   pub kind-judged : kind-in-range x r ≡ true
   unfolding kind-in-range record-in-range node-in-range
   kind-judged = go (eqb x 0) (leb x 8192) (h .fitting)
     where
-      go : (a b : Bool) → cond a (in-store z (first-slot r) && leb (r .version) last-version) (cond b (node-in-range r) (leb (first-slot r) 1)) ≡ true
+      go : (a b : Bool) → cond a (metadata-fits slots (first-slot r) (second-slot r) (r .version)) (cond b (node-in-range r) (leb (first-slot r) 1)) ≡ true
           → cond a true (cond b (leb (r .kind) 2) true) ≡ true
       go true b q = refl
       go false true q = and-both (leb (r .kind) 2) (leb (r .version) last-version && (level-fits (r .kind) (r .level) && count-fits (r .kind) (r .count))) q .0
       go false false q = refl
 
-  pub whole-judged : whole-in-range z x r ≡ true
+  pub whole-judged : whole-in-range slots x r ≡ true
   unfolding whole-in-range node-fits record-in-range
-  whole-judged = go (eqb x 0) (leb x 8192) (record-in-range z x r) (h .fitting) (h .fitting) (h .children)
+  whole-judged = go (eqb x 0) (leb x 8192) (record-in-range slots x r) (h .fitting) (h .fitting) (h .children)
     where
       go : (a b w : Bool) → w ≡ true
-          → cond a (in-store z (first-slot r) && leb (r .version) last-version) (cond b (node-in-range r) (leb (first-slot r) 1)) ≡ true
-          → cond a true (cond b (children-there z r) true) ≡ true → cond a w (cond b (node-in-range r && children-there z r) w) ≡ true
+          → cond a (metadata-fits slots (first-slot r) (second-slot r) (r .version)) (cond b (node-in-range r) (leb (first-slot r) 1)) ≡ true
+          → cond a true (cond b (children-there slots r) true) ≡ true → cond a w (cond b (node-in-range r && children-there slots r) w) ≡ true
       go true b w e q c = e
       go false true w e q c = rw (q, c)
       go false false w e q c = e
@@ -66,31 +67,35 @@ module _ (z : TreeSizes) (x : ℕ) (r : Node) (h : Sound z x r) where
   flag-judged l = let f = h .fitting in rw (ne-eqb x 0 (λ e. absurd (omega arith)), lt-leb x 8192 (omega arith)) at f
 
 -- a flag's server is one of the store
-flag-near : (z : TreeSizes) → Allowed z → (x : ℕ) → 8193 ≤ x → number-in-store z x ≡ true → N.server-of (x - 8193) < 8
+flag-near : (slots x : ℕ) → 8193 ≤ x → number-in-store slots x ≡ true → N.server-of (x - 8193) < 8
 unfolding number-in-store N.name-in-store
-flag-near z al x l h =
+flag-near slots x l h =
     let n = x - 8193 in
-    let there : (ltb (N.server-of n) (z .servers) && ltb (N.slot-of n) (z .slots)) ≡ true = rw (ne-eqb x 0 (λ e. absurd (omega arith)), lt-leb x 8192 (omega arith)) at h in
-    omega (arith, ltb-true (N.server-of n) (z .servers) (and-both (ltb (N.server-of n) (z .servers)) (ltb (N.slot-of n) (z .slots)) there .0), al .0)
+    let there : (ltb (N.server-of n) 8 && ltb (N.slot-of n) slots) ≡ true = rw (ne-eqb x 0 (λ e. absurd (omega arith)), lt-leb x 8192 (omega arith)) at h in
+    ltb-true (N.server-of n) 8 (and-both (ltb (N.server-of n) 8) (ltb (N.slot-of n) slots) there .0)
 
-module _ (z : TreeSizes) (u : ClientWord → ℕ) (P : Part-sound z u) where
-  within : (i : ℕ) → i < 13 → leb (u (field i)) (getD (bounds (2 ^ z .servers - 1)) i 0) ≡ true
-  within i l = le-leb (u (field i)) (getD (bounds (2 ^ z .servers - 1)) i 0) (P .fields .within i l)
+module _ (slots : ℕ) (u : ClientWord → ℕ) (P : Part-sound slots u) where
+  within : (i : ℕ) → i < 13 → leb (u (field i)) (getD bounds i 0) ≡ true
+  within i l = le-leb (u (field i)) (getD bounds i 0) (P .fields .within i l)
+
+  -- a set of servers
+  below : (i : ℕ) → getD bounds i 0 ≡ 255 → i < 13 → ltb (u (field i)) 256 ≡ true
+  below i e l = lt-ltb (u (field i)) 256 (omega (arith, e, P .fields .within i l))
 
   -- ---- which objects are read and written, and their kinds
-  reads-judged : F.numbers-fit z u Reads ≡ true
+  reads-judged : F.numbers-fit slots u Reads ≡ true
   unfolding F.numbers-fit F.number-fits
-  reads-judged = rw (within 10 (omega arith), every-below (count u Reads) (F.number-fits z u Reads) (λ i l. P .sets .read i l .inside))
+  reads-judged = rw (within 10 (omega arith), every-below (count u Reads) (F.number-fits slots u Reads) (λ i l. P .sets .read i l .inside))
 
-  writes-judged : F.numbers-fit z u Writes ≡ true
+  writes-judged : F.numbers-fit slots u Writes ≡ true
   unfolding F.numbers-fit F.number-fits
-  writes-judged = rw (within 11 (omega arith), every-below (count u Writes) (F.number-fits z u Writes) (λ i l. P .sets .written i l .inside))
+  writes-judged = rw (within 11 (omega arith), every-below (count u Writes) (F.number-fits slots u Writes) (λ i l. P .sets .written i l .inside))
 
   pub read-kind : (i : ℕ) → i < count u Reads → kind-in-range (number-at u Reads i) (record-at u Reads i) ≡ true
-  read-kind i l = kind-judged z (number-at u Reads i) (record-at u Reads i) (P .sets .read i l .sound)
+  read-kind i l = kind-judged slots (number-at u Reads i) (record-at u Reads i) (P .sets .read i l .sound)
 
   write-kind : (i : ℕ) → i < count u Writes → kind-in-range (number-at u Writes i) (record-at u Writes i) ≡ true
-  write-kind i l = kind-judged z (number-at u Writes i) (record-at u Writes i) (P .sets .written i l .sound)
+  write-kind i l = kind-judged slots (number-at u Writes i) (record-at u Writes i) (P .sets .written i l .sound)
 
   -- as it is written, if it is
   pub written-kind : (x : ℕ) → (not (has u Writes x) || of-record u Writes (kind-in-range x) (find u Writes x)) ≡ true
@@ -102,8 +107,8 @@ module _ (z : TreeSizes) (u : ClientWord → ℕ) (P : Part-sound z u) where
       go Absent e = refl
 
   -- ---- what is written: whole, and its version has a next one
-  whole : (i : ℕ) → i < count u Writes → whole-in-range z (number-at u Writes i) (record-at u Writes i) ≡ true
-  whole i l = whole-judged z (number-at u Writes i) (record-at u Writes i) (P .sets .written i l .sound)
+  whole : (i : ℕ) → i < count u Writes → whole-in-range slots (number-at u Writes i) (record-at u Writes i) ≡ true
+  whole i l = whole-judged slots (number-at u Writes i) (record-at u Writes i) (P .sets .written i l .sound)
 
   young-judged : (i : ℕ) → i < count u Writes → F.young u (number-at u Writes i) ≡ true
   unfolding F.young
@@ -120,12 +125,27 @@ module _ (z : TreeSizes) (u : ClientWord → ℕ) (P : Part-sound z u) where
   unfolding F.is-read
   read-judged i l = P .sets .written-read i l
 
+  -- a transaction that all take part in has read the metadata
+  servers-judged : F.servers-known u ≡ true
+  unfolding F.servers-known states-read any-below
+  servers-judged = go (count u Writes) refl
+    where
+      read : (f : Found) → find u Reads 0 ≡ f → has u Reads 0 ≡ true → states-fit (states-in u f) ≡ true
+      read (At i) e h =
+          let f = found-at u Reads 0 i e in
+          root-and-states slots (record-at u Reads i) (subst (λ (x : ℕ). Sound slots x (record-at u Reads i)) (f .1) (P .sets .read i (f .0) .sound)) .1
+      read Absent e h = absurd (not-both h (absent-has u Reads 0 e))
+
+      go : (n : ℕ) → count u Writes ≡ n → (not (any-below n (calls-all u)) || states-fit (states-in u (find u Reads 0))) ≡ true
+      go zero e = refl
+      go (suc n) e = or-right (not (any-below (suc n) (calls-all u))) _ (read (find u Reads 0) refl (P .sets .rooted n (omega (arith, e))))
+
   -- ---- THE RULES
-  pub fits-to-work : F.fit-to-work z u ≡ true
+  pub fits-to-work : F.fit-to-work slots u ≡ true
   unfolding F.fit-to-work
   fits-to-work = rw (P .fields .op, reads-judged, writes-judged)
 
-  pub fits-to-commit : F.fit-to-commit z u ≡ true
+  pub fits-to-commit : F.fit-to-commit slots u ≡ true
   unfolding F.fit-to-commit F.kind-fits
   fits-to-commit =
       rw (
@@ -134,30 +154,31 @@ module _ (z : TreeSizes) (u : ClientWord → ℕ) (P : Part-sound z u) where
         every-below (count u Reads) (F.kind-fits u Reads) read-kind,
         every-below (count u Writes) (F.kind-fits u Writes) write-kind,
         every-below (count u Writes) (F.is-read u) read-judged,
+        servers-judged,
       )
 
-  pub fits-to-prepare : F.fit-to-prepare z u ≡ true
+  pub fits-to-prepare : F.fit-to-prepare slots u ≡ true
   unfolding F.fit-to-prepare F.servers-fit
-  fits-to-prepare = rw (within 5 (omega arith), within 6 (omega arith), reads-judged, writes-judged)
+  fits-to-prepare = rw (below 5 refl (omega arith), below 6 refl (omega arith), reads-judged, writes-judged)
 
-  pub fits-to-abort : F.fit-to-abort z u ≡ true
+  pub fits-to-abort : F.fit-to-abort slots u ≡ true
   unfolding F.fit-to-abort F.servers-fit
-  fits-to-abort = rw (within 6 (omega arith), reads-judged)
+  fits-to-abort = rw (below 6 refl (omega arith), reads-judged)
 
-  pub fits-to-unlock : F.fit-to-unlock z u ≡ true
+  pub fits-to-unlock : F.fit-to-unlock slots u ≡ true
   unfolding F.fit-to-unlock F.servers-fit
-  fits-to-unlock = rw (within 5 (omega arith), writes-judged)
+  fits-to-unlock = rw (below 5 refl (omega arith), writes-judged)
 
-  write-judged : (s i : ℕ) → i < count u Writes → F.write-fits z u s i ≡ true
+  write-judged : (s i : ℕ) → i < count u Writes → F.write-fits slots u s i ≡ true
   unfolding F.write-fits F.read-fits F.stored-record-fits F.version-fits
   write-judged s i l =
       let x = number-at u Writes i in
-      rw (or-right (ltb 8192 x) (F.is-read u i) (read-judged i l), or-right (not (at-home s x)) (whole-in-range z x (record-at u Writes i)) (whole i l))
+      rw (or-right (ltb 8192 x) (F.is-read u i) (read-judged i l), or-right (not (at-home s x)) (whole-in-range slots x (record-at u Writes i)) (whole i l))
       (or-right (not (F.stored-at u s x)) (F.young u x) (young-judged i l))
 
-  renewal-judged : Allowed z → (i : ℕ) → i < count u Writes → F.renewal-fits z u i ≡ true
+  renewal-judged : (i : ℕ) → i < count u Writes → F.renewal-fits slots u i ≡ true
   unfolding F.renewal-fits F.flag-renewal-fits F.inner-renewal-fits
-  renewal-judged al i l = go (ltb 8192 x) refl
+  renewal-judged i l = go (ltb 8192 x) refl
     where
       x : ℕ
       x = number-at u Writes i
@@ -166,18 +187,18 @@ module _ (z : TreeSizes) (u : ClientWord → ℕ) (P : Part-sound z u) where
       s = N.server-of (x - 8193)
 
       go : (b : Bool) → ltb 8192 x ≡ b
-          → cond b ((ltb s 8 && leb (u (vector-word s 0)) 1) && whole-in-range z x (record-at u Writes i))
-          (not (inner x (record-at u Writes i)) || (whole-in-range z x (record-at u Writes i) && F.young u x)) ≡ true
+          → cond b ((ltb s 8 && leb (u (vector-word s 0)) 1) && whole-in-range slots x (record-at u Writes i))
+          (not (inner x (record-at u Writes i)) || (whole-in-range slots x (record-at u Writes i) && F.young u x)) ≡ true
       go true e =
-          let near = flag-near z al x (ltb-true 8192 x e) (P .sets .written i l .inside) in
+          let near = flag-near slots x (ltb-true 8192 x e) (P .sets .written i l .inside) in
           rw (lt-ltb s 8 near, le-leb (u (vector-word s 0)) 1 (P .copies .vectors s near), whole i l)
       go false e = or-right (not (inner x (record-at u Writes i))) _ (rw (whole i l, young-judged i l))
 
-  pub fits-to-apply : Allowed z → (s : ℕ) (last : Bool) → F.fit-to-apply z u s last ≡ true
+  pub fits-to-apply : (s : ℕ) (last : Bool) → F.fit-to-apply slots u s last ≡ true
   unfolding F.fit-to-apply F.writes-fit F.fit-to-renew F.servers-fit
-  fits-to-apply al s last =
-      rw (within 7 (omega arith), reads-judged, fits-to-unlock, every-below (count u Writes) (F.write-fits z u s) (write-judged s), within 9 (omega arith))
-      (or-right (not last) _ (or-right (eqb (u lost) 1) _ (every-below (count u Writes) (F.renewal-fits z u) (renewal-judged al))))
+  fits-to-apply s last =
+      rw (below 7 refl (omega arith), reads-judged, fits-to-unlock, every-below (count u Writes) (F.write-fits slots u s) (write-judged s), within 9 (omega arith))
+      (or-right (not last) _ (or-right (eqb (u lost) 1) _ (every-below (count u Writes) (F.renewal-fits slots u) renewal-judged)))
 
   -- ---- what work reads on its way: vectors, with what is counted in them; copies; and the versions of what would be written
   pub vector-judged : (s : ℕ) → s < 8 → vector-fits u s ≡ true
@@ -191,12 +212,12 @@ module _ (z : TreeSizes) (u : ClientWord → ℕ) (P : Part-sound z u) where
           go true e = refl
           go false e =
               or-right (not (eqb (N.server-of (number-at u Writes i - 8193)) s)) _
-              (flag-judged z (number-at u Writes i) (record-at u Writes i) (P .sets .written i h .sound) (ltb-false (number-at u Writes i) 8193 e))
+              (flag-judged slots (number-at u Writes i) (record-at u Writes i) (P .sets .written i h .sound) (ltb-false (number-at u Writes i) 8193 e))
 
   -- a copy that is found
-  pub copy-judged : Allowed z → (x : ℕ) → number-in-store z x ≡ true → is-found (copied u x .how) ≡ true → copy-fits u x (copied u x .node) ≡ true
+  pub copy-judged : (x : ℕ) → number-in-store slots x ≡ true → is-found (copied u x .how) ≡ true → copy-fits u x (copied u x .node) ≡ true
   unfolding copied copied-meta copied-node copied-flag copy-fits count number-at
-  copy-judged al x hi h = go (eqb x 0) refl (leb x 8192) refl h
+  copy-judged x hi h = go (eqb x 0) refl (leb x 8192) refl h
     where
       -- the word that says so is 1 where it is not 0
       one : (w : ℕ) (l : Look) → w ≤ 1 → (b : Bool) → eqb w 0 ≡ b → is-found (cond b lacking l .how) ≡ true → eqb w 1 ≡ true
@@ -213,11 +234,11 @@ module _ (z : TreeSizes) (u : ClientWord → ℕ) (P : Part-sound z u) where
       s = N.server-of (x - 8193)
 
       go : (a : Bool) → eqb x 0 ≡ a → (b : Bool) → leb x 8192 ≡ b → is-found (cond a (copied-meta u) (cond b (copied-node u x) (copied-flag u (x - 8193))) .how) ≡ true
-          → cond a (eqb (u meta-copied) 1) (cond b (eqb (cond a (copied-meta u) (cond b (copied-node u x) (copied-flag u (x - 8193))) .node .kind) 2) (eqb (u (vector-word s 0)) 1)) ≡ true
-      go true a b q h = one (u meta-copied) _ (P .fields .within 12 (omega arith)) (eqb (u meta-copied) 0) refl h
+          → cond a true (cond b (eqb (cond a (copied-meta u) (cond b (copied-node u x) (copied-flag u (x - 8193))) .node .kind) 2) (eqb (u (vector-word s 0)) 1)) ≡ true
+      go true a b q h = refl
       go false a true q h = of-node a (find u Copies x) refl h
       go false a false q h =
-          one (u (vector-word s 0)) _ (P .copies .vectors s (flag-near z al x (leb-false x 8192 q) hi)) (eqb (u (vector-word s 0)) 0) refl h
+          one (u (vector-word s 0)) _ (P .copies .vectors s (flag-near slots x (leb-false x 8192 q) hi)) (eqb (u (vector-word s 0)) 0) refl h
 
   version-judged : (x : ℕ) → x ≤ 8192 → version-there u x (find u Reads x) ≡ true
   version-judged x l = go (find u Reads x) refl
@@ -226,7 +247,7 @@ module _ (z : TreeSizes) (u : ClientWord → ℕ) (P : Part-sound z u) where
       go (At i) e =
           let f = found-at u Reads x i e in
           le-leb (record-at u Reads i .version) last-version
-          (sound-version z x (record-at u Reads i) (subst (λ (y : ℕ). Sound z y (record-at u Reads i)) (f .1) (P .sets .read i (f .0) .sound)) l)
+          (sound-version slots x (record-at u Reads i) (subst (λ (y : ℕ). Sound slots y (record-at u Reads i)) (f .1) (P .sets .read i (f .0) .sound)) l)
       go Absent e = by (has u Writes x) refl
         where
           by : (b : Bool) → has u Writes x ≡ b → not b ≡ true

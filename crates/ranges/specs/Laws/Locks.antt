@@ -16,7 +16,6 @@ use Rattle.nodes.specs.declared.node.Node.{Node}
 use Rattle.nodes.specs.declared.found.Found.{Found}
 use Rattle.nodes.specs.declared.found.Found.the-variants.{At, Absent}
 use Rattle.operations.specs.Object.{Obj}
-use Rattle.operations.specs.Slot.{Allowed}
 use Rattle.server.specs.declared.place.Place.{Place}
 use Rattle.server.specs.Object.{object-of, lock-of}
 use Rattle.server.specs.Lock.{locked, lock-in-range}
@@ -38,7 +37,6 @@ use Rattle.steps.specs.Whole.{Address, server, client, whole}
 use Rattle.steps.specs.Laws.Stores.{client-of, server-of, client-changed, client-else, client-servers}
 use Rattle.steps.specs.Judge.{lowest-participant}
 use Rattle.steps.specs.Steps.{lock-each, preparing}
-use Rattle.demand.specs.Laws.Store.{sizes}
 use Rattle.demand.specs.Laws.Frame.{last, read-after, Only, only-then, only-mono, only-other}
 use Rattle.demand.specs.Ledger.{Ledger}
 use Rattle.demand.specs.Laws.Shows.{T, In-store, lock-kept, Slot-shown, Related}
@@ -49,7 +47,7 @@ use Rattle.demand.specs.Laws.Decides.{nothing-applied}
 use Rattle.demand.specs.Laws.Dropped.{Mark, Drop, only-all}
 use Rattle.demand.specs.Laws.Held.{found-at}
 use Rattle.demand.specs.Laws.Locking.{Swept, locked-swept}
-use Rattle.demand.specs.Laws.Servers.{both, both-client, both-other, both-server, both-else}
+use Rattle.demand.specs.Laws.Servers.{both, both-client, both-other, both-server, both-else, is-lock, a-lock}
 use Rattle.demand.specs.Laws.Turns.{store}
 use Rattle.ranges.specs.Laws.Sound.{Holds, Lock-sound, Locks-sound}
 use Rattle.ranges.specs.Laws.Words.{names, locked-names}
@@ -64,7 +62,7 @@ pub record Goes-on (s : ℕ) (u v : ClientWord → ℕ) : Type 0 where
   pub still-unapplied : bit (u applied) s ≡ false → bit (v applied) s ≡ false
   pub sets : Same-sets u v
 
-goes-on-same : (s : ℕ) (u v : ClientWord → ℕ) → v ≡ u → Goes-on s u v
+pub goes-on-same : (s : ℕ) (u v : ClientWord → ℕ) → v ≡ u → Goes-on s u v
 goes-on-same s u v e = subst (Goes-on s u) (sym e) (record {
   after-commit = λ h. h;
   same-participants = refl;
@@ -187,7 +185,7 @@ module _ (z : Sizes) (s : ℕ) where
         ∙ ap₂ (U.item-of u₀) (number-frame 0 0 0 u₀ v₀ (G .sets) Reads i (G .sets .items-read i 0)) (record-frame u₀ v₀ Reads i (G .sets .items-read i))
 
     locked-same : (i : ℕ) → U.locked-at (lowest-participant z m′ d) s (U.read-item v₀ i) ≡ U.locked-at (lowest-participant z m d) s (U.read-item u₀ i)
-    locked-same i = ap₂ (λ (w : ℕ) (i : U.Item). U.locked-at (lowest-of (z .servers) w) s i) (G .same-participants) (item-same i)
+    locked-same i = ap₂ (λ (w : ℕ) (i : U.Item). U.locked-at (lowest-of 8 w) s i) (G .same-participants) (item-same i)
 
     goes-on-held : (role : Bool) (x : ℕ) → Held m role d x → Held m′ role d x
     unfolding has
@@ -205,7 +203,7 @@ module _ (z : Sizes) (s : ℕ) where
     )
 
 -- ---- a step of client c; the other clients' parts stay
-module _ (k j slots : ℕ) (m m′ : Address → ℕ) (c : ℕ) (others : (d : ℕ) → ¬ (d ≡ c) → client-of m′ d ≡ client-of m d) (s : Fin (suc k)) where
+module _ (k j slots : ℕ) (m m′ : Address → ℕ) (c : ℕ) (others : (d : ℕ) → ¬ (d ≡ c) → client-of m′ d ≡ client-of m d) (s : Fin 8) where
   abbrev zz : Sizes
   zz = store k j slots
 
@@ -228,39 +226,39 @@ module _ (k j slots : ℕ) (m m′ : Address → ℕ) (c : ℕ) (others : (d : �
         go (no n) = other-held role d x n h
         go (yes e) = subst (λ (y : ℕ). Held zz (s .0) m′ role y x) (sym e) (mine (subst (λ (y : ℕ). Held zz (s .0) m role y x) e h))
 
-    -- server s stores nothing
-    pub unstored : server-of m′ (s .0) ≡ server-of m (s .0) → Locks-sound k j slots m s → Locks-sound k j slots m′ s
+    -- server s stores no lock
+    pub unstored : ((a : Place) → is-lock a ≡ true → server-of m′ (s .0) a ≡ server-of m (s .0) a) → Locks-sound k j slots m s → Locks-sound k j slots m′ s
     unstored e S o hi kept =
-        let same : word m′ o ≡ word m o = ap (λ (p : Place → ℕ). p (lock-of (object-of (number o)))) e in
+        let same : word m′ o ≡ word m o = e (lock-of (object-of (number o))) (a-lock (object-of (number o))) in
         lock-from zz (s .0) m′ (number o) (word m′ o) (subst (λ (w : ℕ). lock-in-range (suc j) w ≡ true) (sym same) (S o hi kept .range))
         (λ role d l q. each-held role d (number o)
         (held-by zz (s .0) m (number o) (word m o) (S o hi kept) role d l (subst (λ (w : ℕ). names role d w ≡ true) same q)))
 
 -- ---- stores in client c's part alone
-module _ (k j slots : ℕ) (m : Address → ℕ) (c : ℕ) (ps : List (Put ClientWord)) (S : (s : Fin (suc k)) → Locks-sound k j slots m s) where
+module _ (k j slots : ℕ) (m : Address → ℕ) (c : ℕ) (ps : List (Put ClientWord)) (S : (s : Fin 8) → Locks-sound k j slots m s) where
   abbrev stored : Address → ℕ
   stored = changed whole m (over (client c) ps)
 
-  pub part-stored : ((s : Fin (suc k)) (x : ℕ) → Holds (store k j slots) m (s .0) c x → Goes-on (s .0) (client-of m c) (changed client-words (client-of m c) ps))
-      → (s : Fin (suc k)) → Locks-sound k j slots stored s
+  pub part-stored : ((s : Fin 8) (x : ℕ) → Holds (store k j slots) m (s .0) c x → Goes-on (s .0) (client-of m c) (changed client-words (client-of m c) ps))
+      → (s : Fin 8) → Locks-sound k j slots stored s
   part-stored g s =
       unstored k j slots m stored c (client-else m c ps) s (λ x h. subst (Goes-on (s .0) (client-of m c)) (sym (client-changed m c ps)) (g s x h))
-      (client-servers m c ps (s .0)) (S s)
+      (λ a _. ap (λ (p : Place → ℕ). p a) (client-servers m c ps (s .0))) (S s)
 
   -- of a client that holds no lock, since it is before its commit: begin, give, work, commit, copies forgotten
-  pub early-stored : client-of m c phase < 2 → (s : Fin (suc k)) → Locks-sound k j slots stored s
+  pub early-stored : client-of m c phase < 2 → (s : Fin 8) → Locks-sound k j slots stored s
   early-stored early = part-stored (λ s x h. absurd (omega (arith, early, h .after-commit .0)))
 
 -- a lost client's mark; the decision
-module _ (k j slots : ℕ) (m : Address → ℕ) (c : ℕ) (S : (s : Fin (suc k)) → Locks-sound k j slots m s) where
-  pub lost-locks : (s : Fin (suc k)) → Locks-sound k j slots (changed whole m (over (client c) (lose-part (client-of m c)))) s
+module _ (k j slots : ℕ) (m : Address → ℕ) (c : ℕ) (S : (s : Fin 8) → Locks-sound k j slots m s) where
+  pub lost-locks : (s : Fin 8) → Locks-sound k j slots (changed whole m (over (client c) (lose-part (client-of m c)))) s
   lost-locks = part-stored k j slots m c (lose-part (client-of m c)) S (λ s x h. goes-on-lost (s .0) (client-of m c))
 
-  pub decided-locks : (s : Fin (suc k)) → Locks-sound k j slots (changed whole m (over (client c) (decided (client-of m c)))) s
+  pub decided-locks : (s : Fin 8) → Locks-sound k j slots (changed whole m (over (client c) (decided (client-of m c)))) s
   decided-locks = part-stored k j slots m c (decided (client-of m c)) S (λ s x h. goes-on-decided (s .0) (client-of m c))
 
 -- ---- PREPARE at s, where c takes part
-module _ (k j slots : ℕ) (al : Allowed (sizes k j slots)) (few : suc j ≤ 16) (m : Address → ℕ) (L : Ledger) (M : P.Machine (T k j slots)) (c : Fin (suc j)) (R : Related k j slots m L M) (fit : client-fits (sizes k j slots) (client-of m (c .0)) ≡ true) (s : Fin (suc k)) (now : client-of m (c .0) phase ≡ 2) (part : bit (client-of m (c .0) participants) (s .0) ≡ true) (S : (t : Fin (suc k)) → Locks-sound k j slots m t) where
+module _ (k j slots : ℕ) (al : slots ≤ 1024) (few : suc j ≤ 16) (m : Address → ℕ) (L : Ledger) (M : P.Machine (T k j slots)) (c : Fin (suc j)) (R : Related k j slots m L M) (fit : client-fits slots (client-of m (c .0)) ≡ true) (s : Fin 8) (now : client-of m (c .0) phase ≡ 2) (part : bit (client-of m (c .0) participants) (s .0) ≡ true) (S : (t : Fin 8) → Locks-sound k j slots m t) where
   abbrev z : Sizes
   z = store k j slots
 
@@ -383,11 +381,11 @@ module _ (k j slots : ℕ) (al : Allowed (sizes k j slots)) (few : suc j ≤ 16)
               subst (λ (x : ℕ). Held z (s .0) m′ role x (number o)) (sym (b .0))
               (now-held o (q .0) role (q .1 .0) (q .1 .1) (λ r. ap (has u Writes) (sym is-o) ∙ b .1 r))
 
-  pub prepare-locks : (t : Fin (suc k)) → Locks-sound k j slots (changed whole m (preparing (store k j slots) m (c .0) (s .0))) t
-  prepare-locks t = go (Fin-discrete (suc k) t s)
+  pub prepare-locks : (t : Fin 8) → Locks-sound k j slots (changed whole m (preparing (store k j slots) m (c .0) (s .0))) t
+  prepare-locks t = go (Fin-discrete 8 t s)
     where
       go : Dec (t ≡ s) → Locks-sound k j slots m′ t
       go (yes e) = subst (Locks-sound k j slots m′) (sym e) at-server
       go (no n) =
           unstored k j slots m m′ (c .0) (both-other m (s .0) (c .0) ps qs) t (λ _ _. goes-on (t .0))
-          (both-else m (s .0) (c .0) ps qs (t .0) (λ q. n (Fin·val-path q))) (S t)
+          (λ a _. ap (λ (p : Place → ℕ). p a) (both-else m (s .0) (c .0) ps qs (t .0) (λ q. n (Fin·val-path q)))) (S t)

@@ -13,7 +13,6 @@ use Rattle.layout.specs.Space.{Put, changed}
 use Rattle.layout.specs.Step.{andThen}
 use Rattle.layout.specs.Laws.Step.{changed-append}
 use Rattle.operations.specs.Object.{Obj}
-use Rattle.operations.specs.Slot.{Allowed}
 use Rattle.server.specs.declared.place.Place.{Place}
 use Rattle.server.specs.Layout.{places}
 use Rattle.server.specs.Object.{object-of, lock-of}
@@ -31,7 +30,6 @@ use Rattle.steps.specs.Whole.{Address, server, whole}
 use Rattle.steps.specs.Laws.Stores.{client-of, server-of}
 use Rattle.steps.specs.Judge.{lowest-participant}
 use Rattle.steps.specs.Steps.{in-client, covers, unlock-each, store-all, applying, all-applied}
-use Rattle.demand.specs.Laws.Store.{sizes}
 use Rattle.demand.specs.Laws.Frame.{last, read-after, Only}
 use Rattle.demand.specs.Ledger.{Ledger}
 use Rattle.demand.specs.Laws.Shows.{T, In-store, lock-kept, Slot-shown, Related}
@@ -55,7 +53,7 @@ record Given-back (n c w w′ : ℕ) : Type 0 where
   pub others : (role : Bool) (d : ℕ) → names role d w′ ≡ true → (¬ (d ≡ c)) × (names role d w ≡ true)
 
 -- so at every lock of a server: its locks are sound, whatever c's part becomes
-given-back-locks : (k j slots : ℕ) (m m′ : Address → ℕ) (c : ℕ) → ((d : ℕ) → ¬ (d ≡ c) → client-of m′ d ≡ client-of m d) → (s : Fin (suc k))
+given-back-locks : (k j slots : ℕ) (m m′ : Address → ℕ) (c : ℕ) → ((d : ℕ) → ¬ (d ≡ c) → client-of m′ d ≡ client-of m d) → (s : Fin 8)
     → ((o : Obj) → In-store k j slots o → lock-kept k j slots (server-of m (s .0)) s o ≡ true
     → Given-back (suc j) c (m (server (s .0) (lock-of (object-of (number o))))) (m′ (server (s .0) (lock-of (object-of (number o))))))
     → Locks-sound k j slots m s → Locks-sound k j slots m′ s
@@ -65,7 +63,7 @@ given-back-locks k j slots m m′ c others s g S o hi kept =
     (λ role d l e. let q = g o hi kept .others role d e in
     other-held k j slots m m′ c others s role d (number o) (q .0) (held-by (store k j slots) (s .0) m (number o) (m a) (S o hi kept) role d l (q .1)))
 
-module _ (k j slots : ℕ) (al : Allowed (sizes k j slots)) (few : suc j ≤ 16) (m : Address → ℕ) (L : Ledger) (M : P.Machine (T k j slots)) (c : Fin (suc j)) (R : Related k j slots m L M) (fit : client-fits (sizes k j slots) (client-of m (c .0)) ≡ true) (S : (s : Fin (suc k)) → Locks-sound k j slots m s) where
+module _ (k j slots : ℕ) (al : slots ≤ 1024) (few : suc j ≤ 16) (m : Address → ℕ) (L : Ledger) (M : P.Machine (T k j slots)) (c : Fin (suc j)) (R : Related k j slots m L M) (fit : client-fits slots (client-of m (c .0)) ≡ true) (S : (s : Fin 8) → Locks-sound k j slots m s) where
   abbrev z : Sizes
   z = store k j slots
 
@@ -82,7 +80,7 @@ module _ (k j slots : ℕ) (al : Allowed (sizes k j slots)) (few : suc j ≤ 16)
   low = lowest-participant z m (c .0)
 
   -- a lock that c doesn't hold
-  not-held : (s : Fin (suc k)) (o : Obj) → In-store k j slots o → lock-kept k j slots (server-of m (s .0)) s o ≡ true → ¬ (Holds z m (s .0) (c .0) (number o))
+  not-held : (s : Fin 8) (o : Obj) → In-store k j slots o → lock-kept k j slots (server-of m (s .0)) s o ≡ true → ¬ (Holds z m (s .0) (c .0) (number o))
       → let w = m (server (s .0) (lock-of (object-of (number o)))) in Given-back (suc j) (c .0) w w
   not-held s o hi kept n =
       let w = m (server (s .0) (lock-of (object-of (number o)))) in
@@ -92,7 +90,7 @@ module _ (k j slots : ℕ) (al : Allowed (sizes k j slots)) (few : suc j ≤ 16)
       }
 
   -- ---- at the server s, whose locks are in p as they were, what is read and locked is unlocked
-  module _ (s : Fin (suc k)) (el : y .lowest .0 ≡ low) (p : Place → ℕ) (same : (a : Place) → is-lock a ≡ true → p a ≡ m (server (s .0) a)) where
+  module _ (s : Fin 8) (el : y .lowest .0 ≡ low) (p : Place → ℕ) (same : (a : Place) → is-lock a ≡ true → p a ≡ m (server (s .0) a)) where
     unlocked-here : (o : Obj) → In-store k j slots o → lock-kept k j slots (server-of m (s .0)) s o ≡ true
         → let a = lock-of (object-of (number o)) in Given-back (suc j) (c .0) (m (server (s .0) a)) (changed places p (unlock-each u (c .0) low (s .0) p) a)
     unlocked-here o hi kept = go (unlocked-swept k j slots al u fit y shown s low el p (c .0) o hi kept)
@@ -120,7 +118,7 @@ module _ (k j slots : ℕ) (al : Allowed (sizes k j slots)) (few : suc j ≤ 16)
 
   -- ---- ABORT: "An abort unlocks everywhere"
   module _ (us : List ℕ) (undecided : (u phase ≡ 1) ⊎ (u phase ≡ 2)) where
-    pub abort-locks : (s : Fin (suc k)) → Locks-sound k j slots (aborted k j slots m (c .0) us) s
+    pub abort-locks : (s : Fin 8) → Locks-sound k j slots (aborted k j slots m (c .0) us) s
     unfolding changed
     abort-locks s =
         given-back-locks k j slots m (aborted k j slots m (c .0) us) (c .0) (aborted-others k j slots m (c .0) us) s
@@ -143,7 +141,7 @@ module _ (k j slots : ℕ) (al : Allowed (sizes k j slots)) (few : suc j ≤ 16)
         ∙ reset-phase k j slots dropped 0
 
   -- ---- APPLY at s
-  module _ (s : Fin (suc k)) (now : u phase ≡ 3) where
+  module _ (s : Fin 8) (now : u phase ≡ 3) where
     abbrev p : Place → ℕ
     p = server-of m (s .0)
 
@@ -191,27 +189,27 @@ module _ (k j slots : ℕ) (al : Allowed (sizes k j slots)) (few : suc j ≤ 16)
         (unlocked-here s (shown .lowest-as (omega (arith, now))) p₁ (locks-stay k j slots al u y shown s p) o hi kept))
         (S s)
 
-    pub apply-locks : (t : Fin (suc k)) → Locks-sound k j slots (changed whole m (applying z m (c .0) (s .0) ++ in-client z m (c .0) (noted applied (s .0)))) t
-    apply-locks t = go (Fin-discrete (suc k) t s)
+    pub apply-locks : (t : Fin 8) → Locks-sound k j slots (changed whole m (applying z m (c .0) (s .0) ++ in-client z m (c .0) (noted applied (s .0)))) t
+    apply-locks t = go (Fin-discrete 8 t s)
       where
         go : Dec (t ≡ s) → Locks-sound k j slots m′ t
         go (yes e) = subst (Locks-sound k j slots m′) (sym e) at-server
         go (no n) =
             let away : ¬ (t .0 ≡ s .0) = λ q. n (Fin·val-path q) in
             unstored k j slots m m′ (c .0) (both-other m (s .0) (c .0) stores note) t (λ _ _. goes-on (t .0) away)
-            (both-else m (s .0) (c .0) stores note (t .0) away) (S t)
+            (λ a _. ap (λ (p : Place → ℕ). p a) (both-else m (s .0) (c .0) stores note (t .0) away)) (S t)
 
     -- it has applied wherever it takes part
-    pub last-locks : all-applied z m (c .0) (s .0) ≡ true → (t : Fin (suc k))
+    pub last-locks : all-applied z m (c .0) (s .0) ≡ true → (t : Fin 8)
         → Locks-sound k j slots (changed whole m (applying z m (c .0) (s .0) ++ in-client z m (c .0) (andThen client-words (noted applied (s .0)) finish))) t
     unfolding covers noted
     last-locks all t =
         subst (λ (g : Address → ℕ). Locks-sound k j slots g t) (sym (end-stores k j slots m (c .0) (s .0)))
         (part-stored k j slots m′ (c .0) (finish v) apply-locks (λ t x h. absurd (done t (h .takes-part) (h .not-applied))) t)
       where
-        done : (t : Fin (suc k)) → bit (client-of m′ (c .0) participants) (t .0) ≡ true → bit (client-of m′ (c .0) applied) (t .0) ≡ false → ⊥
+        done : (t : Fin 8) → bit (client-of m′ (c .0) participants) (t .0) ≡ true → bit (client-of m′ (c .0) applied) (t .0) ≡ false → ⊥
         done t a b =
-            not-both (all-at (suc k) (λ t. not (bit (u participants) t) || bit (putBit true (u applied) (s .0)) t) all (t .0) (t .1))
+            not-both (all-at 8 (λ t. not (bit (u participants) t) || bit (putBit true (u applied) (s .0)) t) all (t .0) (t .1))
             (uncovered _ _ (ap (λ (w : ℕ). bit w (t .0)) (sym (own-word participants)) ∙ a) (ap (λ (w : ℕ). bit w (t .0)) (sym (own-word applied)) ∙ b))
           where
             uncovered : (a b : Bool) → a ≡ true → b ≡ false → (not a || b) ≡ false

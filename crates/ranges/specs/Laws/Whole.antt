@@ -16,7 +16,6 @@ use Rattle.steps.specs.declared.outcome.Outcome.{Outcome}
 use Rattle.steps.specs.declared.outcome.Outcome.the-variants.{Refused, Done, Fetched, Answered, Prepared, Decided, Applied, Committed, Aborted}
 use Rattle.steps.specs.Steps.{Did, refuse, if-fit, by-finding}
 use Rattle.steps.specs.Laws.Stores.{client-of, server-of, client-changed, client-else, client-servers}
-use Rattle.demand.specs.Laws.Store.{sizes}
 use Rattle.demand.specs.Laws.Kept.{away}
 use Rattle.demand.specs.Laws.Turns.{one-of}
 use Rattle.demand.specs.Laws.Servers.{both, both-client, both-other, both-server, both-else}
@@ -57,45 +56,45 @@ finding-kept k j slots m y d aborts e on off =
 module _ (k j slots : ℕ) (m : Address → ℕ) (S : Sound-store k j slots m) where
   -- one client's part is another
   module _ (m′ : Address → ℕ) (c : Fin (suc j)) where
-    pub parts-sound : Part-sound (sizes k j slots) (client-of m′ (c .0)) → ((d : Fin (suc j)) → ¬ (d ≡ c) → client-of m′ (d .0) ≡ client-of m (d .0))
-        → (d : Fin (suc j)) → Part-sound (sizes k j slots) (client-of m′ (d .0))
+    pub parts-sound : Part-sound slots (client-of m′ (c .0)) → ((d : Fin (suc j)) → ¬ (d ≡ c) → client-of m′ (d .0) ≡ client-of m (d .0))
+        → (d : Fin (suc j)) → Part-sound slots (client-of m′ (d .0))
     parts-sound own others d = go (Fin-discrete (suc j) d c)
       where
-        go : Dec (d ≡ c) → Part-sound (sizes k j slots) (client-of m′ (d .0))
-        go (yes e) = subst (λ (d : Fin (suc j)). Part-sound (sizes k j slots) (client-of m′ (d .0))) (sym e) own
-        go (no n) = subst (Part-sound (sizes k j slots)) (sym (others d n)) (S .parts d)
+        go : Dec (d ≡ c) → Part-sound slots (client-of m′ (d .0))
+        go (yes e) = subst (λ (d : Fin (suc j)). Part-sound slots (client-of m′ (d .0))) (sym e) own
+        go (no n) = subst (Part-sound slots) (sym (others d n)) (S .parts d)
 
   -- stores in client c's part
   module _ (c : Fin (suc j)) (ps : List (Put ClientWord)) where
     abbrev after : Address → ℕ
     after = changed whole m (over (client (c .0)) ps)
 
-    pub client-sound : Part-sound (sizes k j slots) (changed client-words (client-of m (c .0)) ps)
-        → ((s : Fin (suc k)) → Locks-sound k j slots after s) → Sound-store k j slots after
+    pub client-sound : Part-sound slots (changed client-words (client-of m (c .0)) ps)
+        → ((s : Fin 8) → Locks-sound k j slots after s) → Sound-store k j slots after
     client-sound own locks = record {
-      parts = parts-sound after c (subst (Part-sound (sizes k j slots)) (sym (client-changed m (c .0) ps)) own)
+      parts = parts-sound after c (subst (Part-sound slots) (sym (client-changed m (c .0) ps)) own)
           (λ d n. client-else m (c .0) ps (d .0) (away k j slots c d n));
-      servers = λ s. subst (Server-sound (sizes k j slots) (s .0)) (sym (client-servers m (c .0) ps (s .0))) (S .servers s);
+      servers = λ s. subst (Server-sound slots (s .0)) (sym (client-servers m (c .0) ps (s .0))) (S .servers s);
       locks = locks;
     }
 
   -- and before that in server s's
-  module _ (s : Fin (suc k)) (c : Fin (suc j)) (ps : List (Put Place)) (qs : List (Put ClientWord)) where
+  module _ (s : Fin 8) (c : Fin (suc j)) (ps : List (Put Place)) (qs : List (Put ClientWord)) where
     abbrev after-both : Address → ℕ
     after-both = both m (s .0) (c .0) ps qs
 
-    pub both-sound : Server-sound (sizes k j slots) (s .0) (changed places (server-of m (s .0)) ps)
-        → Part-sound (sizes k j slots) (changed client-words (client-of m (c .0)) qs)
-        → ((t : Fin (suc k)) → Locks-sound k j slots after-both t) → Sound-store k j slots after-both
+    pub both-sound : Server-sound slots (s .0) (changed places (server-of m (s .0)) ps)
+        → Part-sound slots (changed client-words (client-of m (c .0)) qs)
+        → ((t : Fin 8) → Locks-sound k j slots after-both t) → Sound-store k j slots after-both
     both-sound here own locks = record {
-      parts = parts-sound after-both c (subst (Part-sound (sizes k j slots)) (sym (both-client m (s .0) (c .0) ps qs)) own)
+      parts = parts-sound after-both c (subst (Part-sound slots) (sym (both-client m (s .0) (c .0) ps qs)) own)
           (λ d n. both-other m (s .0) (c .0) ps qs (d .0) (away k j slots c d n));
-      servers = λ t. go t (Fin-discrete (suc k) t s);
+      servers = λ t. go t (Fin-discrete 8 t s);
       locks = locks;
     }
       where
-        go : (t : Fin (suc k)) → Dec (t ≡ s) → Server-sound (sizes k j slots) (t .0) (server-of after-both (t .0))
+        go : (t : Fin 8) → Dec (t ≡ s) → Server-sound slots (t .0) (server-of after-both (t .0))
         go t (yes e) =
-            subst (λ (t : Fin (suc k)). Server-sound (sizes k j slots) (t .0) (server-of after-both (t .0))) (sym e)
-            (subst (Server-sound (sizes k j slots) (s .0)) (sym (both-server m (s .0) (c .0) ps qs)) here)
-        go t (no n) = subst (Server-sound (sizes k j slots) (t .0)) (sym (both-else m (s .0) (c .0) ps qs (t .0) (λ e. n (Fin·val-path e)))) (S .servers t)
+            subst (λ (t : Fin 8). Server-sound slots (t .0) (server-of after-both (t .0))) (sym e)
+            (subst (Server-sound slots (s .0)) (sym (both-server m (s .0) (c .0) ps qs)) here)
+        go t (no n) = subst (Server-sound slots (t .0)) (sym (both-else m (s .0) (c .0) ps qs (t .0) (λ e. n (Fin·val-path e)))) (S .servers t)

@@ -2,14 +2,14 @@
 use mathlib.Core.Path.{_≡_, refl}
 use Prim.Native.Nat.{ℕ, _+_, _/_, _≤_, _<_}
 use native.Mathlib.Omega.{arith}
-use Rattle.layout.specs.Block.{size, offset, words, In}
+use Rattle.layout.specs.Block.{size, offset, In}
 use Rattle.layout.specs.Space.{at, Valid}
-use Rattle.server.specs.declared.place.Place.the-variants.{NodeLock, Root, Version, Vector, Node}
+use Rattle.server.specs.declared.place.Place.the-variants.{NodeLock, Root, Version, States, Vector, Node}
 use Rattle.server.specs.Layout.{server-block, places, partWords, Lies}
 use Rattle.layout.specs.Laws.Space.{Run}
 
--- with four slots, 219 words; the lock of node 2 × 1,024 + 1 is the third of the locks in row 1
-pub layout-sample : (partWords 4 ≡ 219) × (at places (server-block 4) (NodeLock 2 1) ≡ 113)
+-- with four slots, 220 words; the lock of node 2 × 1,024 + 1 is the third of the locks in row 1
+pub layout-sample : (partWords 4 ≡ 220) × (at places (server-block 4) (NodeLock 2 1) ≡ 114)
 unfolding partWords size at offset
 layout-sample = (refl, refl)
 
@@ -21,6 +21,10 @@ root-valid n = omega arith
 pub version-valid : (n : ℕ) → Valid places (server-block n) Version
 unfolding Valid In
 version-valid n = omega arith
+
+pub states-valid : (n : ℕ) → Valid places (server-block n) States
+unfolding Valid In
+states-valid n = omega arith
 
 pub vector-valid : (n k : ℕ) → k < 1024 → Valid places (server-block n) (Vector (k / 64))
 unfolding Valid In

@@ -22,11 +22,11 @@ use Rattle.nodes.specs.Laws.Stored.{Sized, length-words, node-words}
 use Rattle.nodes.specs.declared.name.Name.{Name}
 use Rattle.server.specs.declared.object.Object.{Object}
 use Rattle.server.specs.declared.place.Place.{Place}
-use Rattle.server.specs.declared.place.Place.the-variants.{Root, Version, MetadataLock, Vector, Node, FlagLock, Table, NodeLock}
+use Rattle.server.specs.declared.place.Place.the-variants.{Root, Version, States, MetadataLock, Vector, Node, FlagLock, Table, NodeLock}
 use Rattle.nodes.specs.Laws.Bits.{flag-read}
 use Rattle.server.specs.Check.{standing, mark-in, mark-place}
 use Rattle.server.specs.Layout.{places, place-code, server-block}
-use Rattle.server.specs.Laws.Layout.{node-run, root-valid, version-valid, vector-valid}
+use Rattle.server.specs.Laws.Layout.{node-run, root-valid, version-valid, states-valid, vector-valid}
 use Rattle.server.specs.Object.{lock-of, Has}
 use Rattle.server.specs.Lock.{locked, unlocked}
 use Rattle.server.specs.Store.{lock-step, unlock-step, metadata-step, flag-step, home-step, table-step, kept-of, node-step}
@@ -39,6 +39,7 @@ use Rattle.server.specs.declared.object.Object.the-variants as object
 abbrev pub kind : Place → ℕ
 kind Root = 0
 kind Version = 0
+kind States = 0
 kind (Vector i) = 1
 kind (Node k j) = 2
 kind (Table s k) = 3
@@ -69,9 +70,9 @@ module _ (m : Place → ℕ) where
   unfolding unlock-step Only
   unlock-keeps o c a e = changed-only places (of-kind 4) (unlock-step o c m) m a (lock-kind o, tt) e
 
-  pub metadata-keeps : (r v : ℕ) (a : Place) → of-kind 0 a ≡ false → after m (metadata-step r v) a ≡ m a
+  pub metadata-keeps : (r st v : ℕ) (a : Place) → of-kind 0 a ≡ false → after m (metadata-step r st v) a ≡ m a
   unfolding metadata-step Only
-  metadata-keeps r v a e = changed-only places (of-kind 0) (metadata-step r v m) m a (refl, (refl, tt)) e
+  metadata-keeps r st v a e = changed-only places (of-kind 0) (metadata-step r st v m) m a (refl, (refl, (refl, tt))) e
 
   pub flag-keeps : (x : Name) (b : Bool) (a : Place) → of-kind 1 a ≡ false → after m (flag-step x b) a ≡ m a
   unfolding flag-step Only
@@ -113,11 +114,19 @@ module _ (m : Place → ℕ) where
   unlocked-other o c a n = upd-other (decide places) m (lock-of o) (unlocked c (m (lock-of o))) a n
 
   -- ---- metadata
-  pub metadata-same : (r v : ℕ) → metadata-at (after m (metadata-step r v)) ≡ record { root = r; version = v }
+  pub metadata-same : (r st v : ℕ) → metadata-at (after m (metadata-step r st v)) ≡ record { root = r; version = v; states = st }
   unfolding metadata-at metadata-step changed
-  metadata-same r v =
+  metadata-same r st v =
       let u = upd (decide places) m Root r in
-      rw (upd-apart places u Version v Root refl, upd-same (decide places) m Root r, upd-same (decide places) u Version v)
+      let w = upd (decide places) u Version v in
+      rw (
+        upd-apart places w States st Root refl,
+        upd-apart places w States st Version refl,
+        upd-apart places u Version v Root refl,
+        upd-same (decide places) m Root r,
+        upd-same (decide places) u Version v,
+        upd-same (decide places) w States st,
+      )
 
   -- ---- flags
   pub flag-same : (x : Name) (b : Bool) → vector-at (after m (flag-step x b)) ≡ with-flag (vector-at m) (slot-of (x .number)) b
@@ -164,7 +173,7 @@ module _ (m : Place → ℕ) where
 module _ (m u : Place → ℕ) where
   pub metadata-by-kind : ((a : Place) → of-kind 0 a ≡ true → u a ≡ m a) → metadata-at u ≡ metadata-at m
   unfolding metadata-at
-  metadata-by-kind h = rw (h Root refl, h Version refl)
+  metadata-by-kind h = rw (h Root refl, h Version refl, h States refl)
 
   pub vector-by-kind : ((a : Place) → of-kind 1 a ≡ true → u a ≡ m a) → vector-at u ≡ vector-at m
   unfolding vector-at
@@ -184,9 +193,9 @@ module _ (n : ℕ) (m : Place → ℕ) where
   unfolding unlock-step AllValid
   unlock-inside o c h = (h, tt)
 
-  pub metadata-inside : (r v : ℕ) → AllValid places (server-block n) (metadata-step r v m)
+  pub metadata-inside : (r st v : ℕ) → AllValid places (server-block n) (metadata-step r st v m)
   unfolding metadata-step AllValid
-  metadata-inside r v = (root-valid n, (version-valid n, tt))
+  metadata-inside r st v = (root-valid n, (version-valid n, (states-valid n, tt)))
 
   pub flag-inside : (x : Name) (b : Bool) → AllValid places (server-block n) (flag-step x b m)
   unfolding flag-step AllValid

@@ -3,7 +3,7 @@ use mathlib.Core.Path.{_≡_, refl}
 use mathlib.Core.Bool.{Bool, true, false, cond, _&&_, not, true≢false}
 use mathlib.Core.List.{List, [], map}
 use Prim.Native.Nat.{ℕ, _+_}
-use lib.Dec.{eqb, leb}
+use lib.Dec.{eqb, leb, ltb}
 use Rattle.layout.specs.Space.{Put}
 use Rattle.operations.specs.Entry.{Entries}
 use Rattle.server.specs.declared.lock.Use.the-variants.{Fetch}
@@ -20,10 +20,12 @@ use Rattle.client.specs.Fits.{fit-to-commit, fit-to-prepare, fit-to-apply}
 use Rattle.steps.specs.declared.sizes.Sizes.{Sizes}
 use Rattle.steps.specs.declared.step.Step.{Step}
 use Rattle.steps.specs.declared.step.Kind.{Kind}
-use Rattle.steps.specs.declared.step.Kind.the-variants.{Begin, Give, Work, Commit, Prepare, Apply, GiveUp, Lost, Unknown}
+use Rattle.steps.specs.declared.step.Kind.the-variants.{Begin, Give, Work, Commit, Prepare, Apply, GiveUp, Lost, Servers, Unknown}
+use Rattle.steps.specs.declared.step.ServerChange.{ServerChange}
 use Rattle.steps.specs.declared.outcome.Outcome.{Outcome}
 use Rattle.steps.specs.declared.outcome.Outcome.the-variants.{Refused, Done, Fetched, Prepared, Decided, Applied, Committed, Aborted}
-use Rattle.steps.specs.Whole.{Address, server, client, tree-sizes}
+use Rattle.steps.specs.Whole.{Address, server, client}
+use Rattle.steps.specs.Servers.{there, metadata-source}
 use Rattle.steps.specs.Judge.{lock-fits, abort-fits}
 use Rattle.steps.specs.Uses as U
 use Rattle.steps.specs.Steps as S
@@ -52,6 +54,7 @@ works? Prepare = false
 works? Apply = false
 works? GiveUp = false
 works? Lost = false
+works? (Servers x) = false
 works? Unknown = false
 
 -- the pairs of the answer
@@ -78,10 +81,10 @@ module _ (z : Sizes) (m : Address → ℕ) (c : ℕ) where
   hand-over : (us : List ℕ) (a : O.Ask) (s : ℕ) (out : Outcome) → Unlisted (S.hand-over z m c us a s out)
   hand-over us (O.object O.meta) s out =
       let p : Place → ℕ = λ a. m (server s a) in
-      fetch-object us s 0 out (metadata-sound (z .servers) (z .slots) p) (fetched-meta (metadata-at p .root) (metadata-at p .version))
+      fetch-object us s 0 out (metadata-sound (z .slots) p) (fetched-meta (metadata-at p .root) (metadata-at p .states) (metadata-at p .version))
   hand-over us (O.object (O.node n)) s out =
       let r = S.node-at (λ a. m (server s a)) n in
-      fetch-object us s (1 + n) out (node-fits (tree-sizes z) r) (fetched-node n r)
+      fetch-object us s (1 + n) out (node-fits (z .slots) r) (fetched-node n r)
   hand-over us (O.object (O.flag n)) s out = record { none = refl }
   hand-over us (O.vector t) s out = record { none = refl }
   hand-over us (O.fetched t) s out = record { none = refl }
@@ -89,9 +92,9 @@ module _ (z : Sizes) (m : Address → ℕ) (c : ℕ) where
   pub fetch-unlisted : (us : List ℕ) (a : O.Ask) → Unlisted (S.fetch z m c us a)
   unfolding S.fetch
   fetch-unlisted us a =
-      let w = S.wanted (z .servers) c a in
+      let w = S.wanted (metadata-source m z c) a in
       let y = U.deciding (map (S.fetch-finding z m c us (w .from)) (S.fetch-items z m c us)) in
-      by-finding y (S.hand-over z m c us a (w .from) (Fetched (w .what) (w .which))) (λ y. S.abort z m c y us) (hand-over us a (w .from) (Fetched (w .what) (w .which))) (abort-unlisted y us)
+      either (ltb (w .from) 8) _ _ (either (there m (w .from)) _ _ (by-finding y (S.hand-over z m c us a (w .from) (Fetched (w .what) (w .which))) (λ y. S.abort z m c y us) (hand-over us a (w .from) (Fetched (w .what) (w .which))) (abort-unlisted y us)) (abort-unlisted 1 us)) (plain (Refused 10) [])
 
   pub walk-pairs : (us : List ℕ) (w : Worked) → S.after-walk z m c us w .pairs ≡ pairs-of w
   walk-pairs us refused = refl
@@ -111,24 +114,29 @@ module _ (z : Sizes) (m : Address → ℕ) (c : ℕ) where
   unfolding S.prepared-at
   prepared-unlisted s =
       either (not (S.all-prepared z m c s)) _ _ (plain (Prepared s) _)
-      (either (S.only z m c s) _ _ (either (fit-to-apply (tree-sizes z) mine s true) _ _ (record { none = refl }) (plain (Refused 10) [])) (plain Decided _))
+      (either (S.only z m c s) _ _ (either (fit-to-apply (z .slots) mine s true) _ _ (record { none = refl }) (plain (Refused 10) [])) (plain Decided _))
 
   prepare-unlisted : (s : ℕ) → Unlisted (S.prepare z m c s)
   unfolding S.prepare
   prepare-unlisted s =
       let y = U.deciding (map (S.prepare-finding z m c s) (U.read-items mine)) in
-      either (fit-to-prepare (tree-sizes z) mine) _ _ (by-finding y (S.prepared-at z m c s) (λ y. S.abort z m c y []) (prepared-unlisted s) (abort-unlisted y [])) (plain (Refused 10) [])
+      either (fit-to-prepare (z .slots) mine) _ _
+      (either (there m s) _ _ (by-finding y (S.prepared-at z m c s) (λ y. S.abort z m c y []) (prepared-unlisted s) (abort-unlisted y [])) (abort-unlisted 1 [])) (plain (Refused 10) [])
 
   commit-unlisted : Unlisted (S.commit z m c)
   unfolding S.commit
   commit-unlisted =
-      either (fit-to-commit (tree-sizes z) mine) _ _ (either (eqb (participants-of mine (z .servers)) 0) _ _ (plain Committed _) (plain Done _)) (plain (Refused 10) [])
+      either (fit-to-commit (z .slots) mine) _ _ (either (eqb (participants-of mine) 0) _ _ (plain Committed _) (plain Done _)) (plain (Refused 10) [])
 
   lose-unlisted : Unlisted (S.lose z m c)
   unfolding S.lose
   lose-unlisted =
       either (eqb (mine phase) 0) _ _ (plain Done _)
       (either (eqb (mine phase) 3) _ _ (plain Done _) (either (leb (mine phase) 3 && abort-fits z m c) _ _ (plain (Aborted 7) _) (plain (Refused 10) [])))
+
+  change-unlisted : (x : ServerChange) (s : ℕ) → Unlisted (S.change-servers z m x s)
+  unfolding S.change-servers
+  change-unlisted x s = either (S.change-fits z m x s) _ _ (plain Done _) (plain (Refused 10) [])
 
   -- a step of any kind but work
   pub kind-unlisted : (k : Step) (x : Kind) → works? x ≡ false → Unlisted (S.by-kind z m c k x)
@@ -141,4 +149,5 @@ module _ (z : Sizes) (m : Address → ℕ) (c : ℕ) where
   kind-unlisted k Apply e = apply-unlisted (k .server)
   kind-unlisted k GiveUp e = abort-unlisted 6 []
   kind-unlisted k Lost e = lose-unlisted
+  kind-unlisted k (Servers x) e = change-unlisted x (k .server)
   kind-unlisted k Unknown e = record { none = refl }

@@ -1,7 +1,6 @@
 -- The parts of the whole, and lengths tried on closed examples.
 use mathlib.Core.Path.{_≡_, refl}
 use Prim.Native.Nat.{ℕ, _≤_, _<_}
-use native.Mathlib.Nat.{mul-le-mul-right}
 use native.Mathlib.Omega.{arith}
 use Rattle.layout.specs.Block.{size, In, offset}
 use Rattle.layout.specs.Laws.Block.{row-fits}
@@ -15,13 +14,13 @@ use Rattle.server.specs.Layout as Srv
 -- ---- laws
 module _ (z : Sizes) where
   -- the parts lie in the whole
-  pub server-part : (s : ℕ) → s < z .servers → Part Srv.places (Srv.server-block (z .slots)) whole (block z) (server s) (server-at z s)
+  pub server-part : (s : ℕ) → s < 8 → Part Srv.places (Srv.server-block (z .slots)) whole (block z) (server s) (server-at z s)
   unfolding at Valid In offset size server-at
   server-part s h = record {
     good = λ a ok. (h, ok);
     only = λ a ok. ok .1;
     spot = λ a. omega arith;
-    room = omega (arith, row-fits s (z .servers) (size (Srv.server-block (z .slots))) h);
+    room = omega (arith, row-fits s 8 (size (Srv.server-block (z .slots))) h);
   }
 
   pub client-part : (c : ℕ) → c < z .clients → Part client-words client-block whole (block z) (client c) (client-at z c)
@@ -34,15 +33,15 @@ module _ (z : Sizes) where
   }
 
   -- the whole is never large
-  pub words-within : Allowed z → words-for z ≤ 525328
+  pub words-within : Allowed z → words-for z ≤ 525336
   unfolding words-for size
   words-within f =
-      omega (arith, f .servers, f .slots, f .clients, mul-le-mul-right (size (Srv.server-block (z .slots))) (f .servers .1))
+      omega (arith, f .slots, f .clients)
 
 -- the smallest store, and the largest
 abbrev sized : ℕ → ℕ → ℕ → Sizes
 sized s n c = record { servers = s; slots = n; clients = c }
 
-pub words-samples : (words-for (sized 1 1 1) ≡ 7300) × (words-for (sized 8 1024 16) ≡ 525328)
+pub words-samples : (words-for (sized 1 1 1) ≡ 7791) × (words-for (sized 8 1024 16) ≡ 525336)
 unfolding words-for size
 words-samples = (refl, refl)

@@ -23,7 +23,7 @@ use Rattle.server.specs.Laws.Leaves.{metadata-inside, flag-inside, node-inside}
 use Rattle.client.specs.declared.part.Set.{Set}
 use Rattle.client.specs.declared.part.Set.the-variants.{Writes}
 use Rattle.client.specs.Layout.{ClientWord}
-use Rattle.client.specs.Record.{first-slot}
+use Rattle.client.specs.Record.{first-slot, second-slot}
 use Rattle.client.specs.Sets.{number-at, record-at}
 use Rattle.client.specs.Items.{inner-before-after}
 use Rattle.client.specs.Participants.{at-home}
@@ -62,7 +62,7 @@ write-inside n m s i p h = go (ℕ-discrete x 0) (decLe x 8192)
     flag-there false = tt
 
     go : Dec (x ≡ 0) → Dec (x ≤ 8192) → AllValid places (server-block n) (store-write m s i p)
-    go (yes e) d = rw (eq-eqb x 0 e) (metadata-inside n p (first-slot r) (next-version m x))
+    go (yes e) d = rw (eq-eqb x 0 e) (metadata-inside n p (first-slot r) (second-slot r) (next-version m x))
     go (no e) (yes l) =
         rw (ne-eqb x 0 e, le-leb x 8192 l)
         (node-inside n p s (named (x - 1)) r (next-version m x) (inner-before-after m x) (kept-sized r (next-version m x) (record-sized m Writes i)) (node-has n x e l h))

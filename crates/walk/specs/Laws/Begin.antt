@@ -7,7 +7,6 @@ use native.Mathlib.Omega.{arith}
 use lib.Dec.{ltb}
 use lib.ListN.{length, getD}
 use borrow.Author.Tests.{le-ltb}
-use Rattle.operations.specs.Slot.{TreeSizes}
 use Rattle.operations.specs.Path.{TreePlan}
 use Rattle.client.specs.declared.part.Set.the-variants.{Reads}
 use Rattle.client.specs.Layout.{ClientWord}
@@ -20,10 +19,10 @@ use Rattle.walk.specs.Ask.{Noted}
 use Rattle.walk.specs.Laws.Ask.{reads-few}
 
 -- a walk from the start is the run of the plan, told
-pub walk-begins : (z : TreeSizes) (m : ClientWord → ℕ) (p : TreePlan)
-    → walked z m p [] ≡ tell z m (run (have z m) (fresh m) (room m) p [] .how) (run (have z m) (fresh m) (room m) p [] .used)
+pub walk-begins : (slots : ℕ) (m : ClientWord → ℕ) (p : TreePlan)
+    → walked slots m p [] ≡ tell slots m (run (have slots m) (fresh m) (room m) p [] .how) (run (have slots m) (fresh m) (room m) p [] .used)
 unfolding walked worked over
-walk-begins z m p =
+walk-begins slots m p =
     let h : count m Reads + 0 ≤ 96 = omega (arith, reads-few m) in
     let e : ltb 96 (count m Reads + 0) ≡ false = le-ltb 96 (count m Reads + 0) h in
     rw e

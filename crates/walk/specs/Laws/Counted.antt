@@ -18,7 +18,7 @@ use Rattle.nodes.specs.Name.{name, server-of, slot-of, name-in-store}
 use Rattle.nodes.specs.Flags.{with-flag}
 use Rattle.nodes.specs.Laws.Bits.{length-flags, flags-with}
 use Rattle.operations.specs.Object.{meta, node, flag, Val, is-taken, Writes}
-use Rattle.operations.specs.Slot.{TreeSizes, counted}
+use Rattle.operations.specs.Slot.{counted}
 use Rattle.client.specs.Record.{first-slot, in-store}
 use Rattle.client.specs.Sets.{or-found, first-of}
 use Rattle.client.specs.Lent.{OwnFits, own-count, own-number, own-record, own-find}
@@ -138,34 +138,34 @@ counted-at ((flag n, v) ∷ w) s i fs small h = go (counted-at w s i fs small h)
     go ih (no d) (no e) f = ih
 
 -- ---- both are one
-module _ (z : TreeSizes) (x : List ℕ) (w : Writes) (hold : Holds-writes z x w) (s : ℕ) (there : s < z .servers) where
-  same-or : (i : ℕ) (b : Bool) → i < 1024 → i < z .slots → own-or x (own-find x (8193 + name s i)) b ≡ written-or (write-of w (flag (name s i))) b
+module _ (slots : ℕ) (x : List ℕ) (w : Writes) (hold : Holds-writes slots x w) (s : ℕ) (there : s < 8) where
+  same-or : (i : ℕ) (b : Bool) → i < 1024 → i < slots → own-or x (own-find x (8193 + name s i)) b ≡ written-or (write-of w (flag (name s i))) b
   unfolding name-in-store
   same-or i b small h =
       let p : server-of (name s i) ≡ s = omega arith in
       let q : slot-of (name s i) ≡ i = omega arith in
-      let t : in-store z (name s i) ≡ true = rw (in-store, p, q, lt-ltb s (z .servers) there, lt-ltb i (z .slots) h) in
+      let t : in-store slots (name s i) ≡ true = rw (in-store, p, q, lt-ltb s 8 there, lt-ltb i slots h) in
       rw (← hold .same (flag (name s i)) t) (go (own-find x (8193 + name s i)))
     where
       go : (f : Found) → own-or x f b ≡ written-or (own-value x (flag (name s i)) f) b
       go (At j) = refl
       go Absent = refl
 
-  pub counted-is : (ws : List ℕ) → length ws ≡ 16 → N.flags-in (z .slots) (counts x s (own-count x) ws) ≡ take (z .slots) (counted w s (N.flags-in (z .slots) ws))
+  pub counted-is : (ws : List ℕ) → length ws ≡ 16 → N.flags-in slots (counts x s (own-count x) ws) ≡ take slots (counted w s (N.flags-in slots ws))
   unfolding own-find N.flags-in
   counted-is ws l =
-      let few : length fs ≤ z .slots = omega (arith, length-take (z .slots) (N.all-flags ws)) in
-      let most : length fs ≤ 1024 = omega (arith, length-take (z .slots) (N.all-flags ws), length-flags ws) in
-      let e : length (N.flags-in (z .slots) (counts x s (own-count x) ws)) ≡ length fs = length-of (z .slots) (counts x s (own-count x) ws) ws (length-counts x s (own-count x) ws) in
+      let few : length fs ≤ slots = omega (arith, length-take slots (N.all-flags ws)) in
+      let most : length fs ≤ 1024 = omega (arith, length-take slots (N.all-flags ws), length-flags ws) in
+      let e : length (N.flags-in slots (counts x s (own-count x) ws)) ≡ length fs = length-of slots (counts x s (own-count x) ws) ws (length-counts x s (own-count x) ws) in
       let f : length (counted w s fs) ≡ length fs = length-counted w s fs in
-      rw (take-all (z .slots) (counted w s fs) (omega arith))
-      (ext-getD false (N.flags-in (z .slots) (counts x s (own-count x) ws)) (counted w s fs) (e ∙ sym f) (λ i h.
+      rw (take-all slots (counted w s fs) (omega arith))
+      (ext-getD false (N.flags-in slots (counts x s (own-count x) ws)) (counted w s fs) (e ∙ sym f) (λ i h.
       let a : i < length fs = omega arith in
       let b : i < 1024 = omega arith in
-      own-at x s (z .slots) i b (own-count x) ws l a ∙ same-or i (getD fs i false) b (omega arith) ∙ sym (counted-at w s i fs b a)))
+      own-at x s slots i b (own-count x) ws l a ∙ same-or i (getD fs i false) b (omega arith) ∙ sym (counted-at w s i fs b a)))
     where
       fs : List Bool
-      fs = N.flags-in (z .slots) ws
+      fs = N.flags-in slots ws
 
 -- ---- ways out of the code that counts
 module _ (x : List ℕ) (s i : ℕ) (ws : List ℕ) where

@@ -8,7 +8,6 @@ use lib.Dec.{ltb}
 use lib.ListN.{length, getD}
 use borrow.Author.Tests.{le-ltb}
 use Rattle.operations.specs.Object.{Ans}
-use Rattle.operations.specs.Slot.{TreeSizes}
 use Rattle.operations.specs.Path.{TreePlan}
 use Rattle.operations.specs.Entry.{Entries}
 use Rattle.operations.specs.Look.{lookup-plan, nearest}
@@ -37,32 +36,32 @@ use Rattle.walk.specs.Laws.Stopped.{noted-in-use, is-filled, R, run-is, 
 use Rattle.walk.specs.Look.{near-on, near-plan, Looks}
 use Rattle.client.specs.Work as C
 
-last-none : (z : TreeSizes) (m : ClientWord → ℕ) (a : Ans) → m writes-count ≤ 48 → last-questions z m a [] ≡ answers a []
+last-none : (slots : ℕ) (m : ClientWord → ℕ) (a : Ans) → m writes-count ≤ 48 → last-questions slots m a [] ≡ answers a []
 unfolding entered count-new versions-there any-at-last
-last-none z m a h = let l : m writes-count + 0 ≤ 48 = omega arith in let e : ltb 48 (m writes-count + 0) ≡ false = le-ltb 48 (m writes-count + 0) l in rw e
+last-none slots m a h = let l : m writes-count + 0 ≤ 48 = omega arith in let e : ltb 48 (m writes-count + 0) ≡ false = le-ltb 48 (m writes-count + 0) l in rw e
 
-module _ (z : TreeSizes) (m : ClientWord → ℕ) (wait : Waiting m) (u : List ℕ) (empty : getD u 0 0 ≡ 0) (s : Stop) (u′ : List ℕ) (kept : length u′ ≡ length u) where
-  module _ (p : TreePlan) (e : reading z (waiting m) ≡ p) (ps : Entries) (h : Walks z m u p s u′ ps) where
-    tells : tell z m (R z m (wait .reads) .how) (R z m (wait .reads) .used) ≡ ended s (used-in u′) [] ps
+module _ (slots : ℕ) (m : ClientWord → ℕ) (wait : Waiting m) (u : List ℕ) (empty : getD u 0 0 ≡ 0) (s : Stop) (u′ : List ℕ) (kept : length u′ ≡ length u) where
+  module _ (p : TreePlan) (e : reading slots (waiting m) ≡ p) (ps : Entries) (h : Walks slots m u p s u′ ps) where
+    tells : tell slots m (R slots m (wait .reads) .how) (R slots m (wait .reads) .used) ≡ ended s (used-in u′) [] ps
     tells =
-        sym (run-is z m (wait .reads)) ∙ ap (walked z m (reading z (waiting m))) (sym (nothing-used m u empty)) ∙ ap (λ (q : TreePlan). walked z m q (used-in u)) e ∙ h .same
+        sym (run-is slots m (wait .reads)) ∙ ap (walked slots m (reading slots (waiting m))) (sym (nothing-used m u empty)) ∙ ap (λ (q : TreePlan). walked slots m q (used-in u)) e ∙ h .same
 
-    used-are : used-in u′ ≡ C.walked z m .used
-    used-are = sym (ap (λ (k : Told). k .used) tells) ∙ told-used z m (R z m (wait .reads) .how) (R z m (wait .reads) .used)
+    used-are : used-in u′ ≡ C.walked slots m .used
+    used-are = sym (ap (λ (k : Told). k .used) tells) ∙ told-used slots m (R slots m (wait .reads) .how) (R slots m (wait .reads) .used)
 
     in-use : InUse u′
     in-use = noted-in-use m u′ (h .noted)
 
-    fills : Filled u (C.walked z m .used) u′
-    fills = is-filled u (C.walked z m .used) u′ in-use used-are kept
+    fills : Filled u (C.walked slots m .used) u′
+    fills = is-filled u (C.walked slots m .used) u′ in-use used-are kept
 
-    looks : Looks z m s u u′ ps
+    looks : Looks slots m s u u′ ps
     unfolding worked
     looks = go (is-answer s) refl
       where
-        go : (b : Bool) → is-answer s ≡ b → Looks z m s u u′ ps
+        go : (b : Bool) → is-answer s ≡ b → Looks slots m s u u′ ps
         go false f =
-            let q : s ≡ stop-of (worked z m) = stops z m s (R z m (wait .reads) .used) (used-in u′) [] ps (R z m (wait .reads) .how) tells f in
+            let q : s ≡ stop-of (worked slots m) = stops slots m s (R slots m (wait .reads) .used) (used-in u′) [] ps (R slots m (wait .reads) .how) tells f in
             record {
               stopped = record { stop = q; used = used-are; in-use = in-use };
               filled = fills;
@@ -70,8 +69,8 @@ module _ (z : TreeSizes) (m : ClientWord → ℕ) (wait : Waiting m) (u : List �
               pairs = λ a w k. never s (Answers (a .0) (a .1)) (q ∙ rw k) f refl;
             }
         go true f =
-            let g : Given z m (R z m (wait .reads) .how) s [] ps = given z m s (R z m (wait .reads) .used) (used-in u′) [] ps (R z m (wait .reads) .how) tells f in
-            let q : worked z m ≡ answers (g .answer) [] = ap (λ (e : End). C.judge z m e) (g .is) ∙ last-none z m (g .answer) (wait .writes) in
+            let g : Given slots m (R slots m (wait .reads) .how) s [] ps = given slots m s (R slots m (wait .reads) .used) (used-in u′) [] ps (R slots m (wait .reads) .how) tells f in
+            let q : worked slots m ≡ answers (g .answer) [] = ap (λ (e : End). C.judge slots m e) (g .is) ∙ last-none slots m (g .answer) (wait .writes) in
             record {
               stopped = record { stop = g .stop ∙ rw q; used = used-are; in-use = in-use };
               filled = fills;
@@ -83,13 +82,13 @@ module _ (z : TreeSizes) (m : ClientWord → ℕ) (wait : Waiting m) (u : List �
     number-is : (r : Query) → op ≡ r → m op-number ≡ query-number r
     number-is r e = reads-number (m op-number) r (po ∙ ap Read e)
 
-    pub look-lookup : op ≡ Lookup → Walks z m u (lookup-plan key) s u′ [] → Looks z m s u u′ []
+    pub look-lookup : op ≡ Lookup → Walks slots m u (lookup-plan key) s u′ [] → Looks slots m s u u′ []
     look-lookup e h = looks (lookup-plan key) (rw (number-is Lookup e, pk)) [] h
 
-    pub look-next : op ≡ Next → Walks z m u (near-plan true key) s u′ [] → Looks z m s u u′ []
+    pub look-next : op ≡ Next → Walks slots m u (near-plan true key) s u′ [] → Looks slots m s u u′ []
     look-next e h = looks (near-plan true key) (rw (number-is Next e, pk)) [] h
 
-    pub look-previous : op ≡ Previous → Walks z m u (near-plan false key) s u′ [] → Looks z m s u u′ []
+    pub look-previous : op ≡ Previous → Walks slots m u (near-plan false key) s u′ [] → Looks slots m s u u′ []
     look-previous e h = looks (near-plan false key) (rw (number-is Previous e, pk)) [] h
 
   -- a list
@@ -97,7 +96,7 @@ module _ (z : TreeSizes) (m : ClientWord → ℕ) (wait : Waiting m) (u : List �
     is-list : m op-number ≡ 7
     is-list = lists-number (m op-number) po
 
-    pub look-list : (w : Wish) (f : List ℕ) → w .sought ≡ AtLeast → w .wanted ≡ m op-value → w .key ≡ m op-key → Walks z m u (search-plan w) s u′ (pairs-told w (pairs-in f)) → Looks z m s u u′ (pairs-in f)
+    pub look-list : (w : Wish) (f : List ℕ) → w .sought ≡ AtLeast → w .wanted ≡ m op-value → w .key ≡ m op-key → Walks slots m u (search-plan w) s u′ (pairs-told w (pairs-in f)) → Looks slots m s u u′ (pairs-in f)
     look-list w f ps pw pk h =
         let q : w ≡ record { sought = AtLeast; wanted = m op-value; key = m op-key } = wish-is w ps pw pk in
         let l : pairs-told w (pairs-in f) ≡ pairs-in f = rw ps in
@@ -121,11 +120,11 @@ no-pairs : (l : Entries) → nearest l .2 ≡ []
 no-pairs [] = refl
 no-pairs (e ∷ l) = refl
 
-pub near-none : (z : TreeSizes) (m : ClientWord → ℕ) (u : List ℕ) (right : Bool) (sought : Sought) (key : ℕ) (s : Stop) (u′ : List ℕ) (l : Entries) → sought ≡ near-on right
-    → let w : Wish = record { sought = sought; wanted = 1; key = key } in Walks z m u (search-plan w) s u′ (pairs-told w l) → Walks z m u (near-plan right key) s u′ []
-near-none z m u right sought key s u′ l e h = go right (rw e at h)
+pub near-none : (slots : ℕ) (m : ClientWord → ℕ) (u : List ℕ) (right : Bool) (sought : Sought) (key : ℕ) (s : Stop) (u′ : List ℕ) (l : Entries) → sought ≡ near-on right
+    → let w : Wish = record { sought = sought; wanted = 1; key = key } in Walks slots m u (search-plan w) s u′ (pairs-told w l) → Walks slots m u (near-plan right key) s u′ []
+near-none slots m u right sought key s u′ l e h = go right (rw e at h)
   where
-    go : (r : Bool) → let w : Wish = record { sought = near-on r; wanted = 1; key = key } in Walks z m u (search-plan w) s u′ (pairs-told w l) → Walks z m u (near-plan r key) s u′ []
+    go : (r : Bool) → let w : Wish = record { sought = near-on r; wanted = 1; key = key } in Walks slots m u (search-plan w) s u′ (pairs-told w l) → Walks slots m u (near-plan r key) s u′ []
     go true k = rw (no-pairs l) at k
     go false k = rw (no-pairs l) at k
 

@@ -16,7 +16,6 @@ use Rattle.nodes.specs.Entries.{entriesOf}
 use Rattle.nodes.specs.Kept.{Whole}
 use Rattle.operations.specs.Object.{Writes}
 use Rattle.operations.specs.Map.{said}
-use Rattle.operations.specs.Slot.{TreeSizes}
 use Rattle.operations.specs.Entry.{Entries, value-in}
 use Rattle.operations.specs.Path.{TreePlan, Branch, from-root}
 use Rattle.operations.specs.Look.{lookup-plan}
@@ -38,10 +37,10 @@ module _ (m : ClientWord → ℕ) (u : List ℕ) (c : Bool) (e : c ≡ over m (u
   pub ends-over : (u′ : List ℕ) → c ≡ true → u′ ≡ popped u → Ends m u a b (Aborts 4) u′
   ends-over u′ t p =
       let few : getD u 0 0 ≤ 97 = omega arith in
-      rw p (record { same = λ z w ps. rw (full-done z m (used-in u) ((a, b, ps), w) (sym e ∙ t), popped-used u (h .long) few); noted = popped-noted m u h })
+      rw p (record { same = λ slots w ps. rw (full-done slots m (used-in u) ((a, b, ps), w) (sym e ∙ t), popped-used u (h .long) few); noted = popped-noted m u h })
 
   pub ends-here : c ≡ false → Ends m u a b (Answers a b) u
-  ends-here t = record { same = λ z w ps. walked-done z m (used-in u) ((a, b, ps), w) (sym e ∙ t); noted = h }
+  ends-here t = record { same = λ slots w ps. walked-done slots m (used-in u) ((a, b, ps), w) (sym e ∙ t); noted = h }
 
 pub ruleset answer-ends = (ends-over, ends-here)
 
@@ -86,8 +85,8 @@ leaf-said n lo key f l = ap said (leaf-value n lo key f l) ∙ go (key-place (ke
     go true = refl
     go false = refl
 
-module _ (z : TreeSizes) (m : ClientWord → ℕ) (u : List ℕ) (key : ℕ) (s₁ : Stop) (r : Node) (u₁ : List ℕ) (h : ToLeaf z m u key s₁ r u₁) (b : Bool) (pb : b ≡ goes s₁) where
-  pub look-stops : (k : List Branch → ℕ → Entries → TreePlan) → not b ≡ true → Walks z m u (from-root key k) s₁ u₁ []
+module _ (slots : ℕ) (m : ClientWord → ℕ) (u : List ℕ) (key : ℕ) (s₁ : Stop) (r : Node) (u₁ : List ℕ) (h : ToLeaf slots m u key s₁ r u₁) (b : Bool) (pb : b ≡ goes s₁) where
+  pub look-stops : (k : List Branch → ℕ → Entries → TreePlan) → not b ≡ true → Walks slots m u (from-root key k) s₁ u₁ []
   look-stops k nb = let no : goes s₁ ≡ false = sym pb ∙ not-true b nb in
       record { same = rw (h .descends .asks k, h .stop, no) (sym (ended-nothing s₁ (used-in u₁))); noted = h .descends .noted }
 
@@ -101,11 +100,11 @@ module _ (z : TreeSizes) (m : ClientWord → ℕ) (u : List ℕ) (key : ℕ) (s�
     pub leaf-small : r .count ≤ 14
     leaf-small = rw (h .node) at (end .small .keys)
 
-    pub look-ends : (q : Pair) (s : Stop) (u₂ : List ℕ) → q ≡ look-in r key → Ends m u₁ (q .a) (q .b) s u₂ → Walks z m u (lookup-plan key) s u₂ []
+    pub look-ends : (q : Pair) (s : Stop) (u₂ : List ℕ) → q ≡ look-in r key → Ends m u₁ (q .a) (q .b) s u₂ → Walks slots m u (lookup-plan key) s u₂ []
     look-ends q s u₂ pp e =
         let d : Arrival = h .come in
         let lo : ℕ = low (trail (d .path) 0 (d .top - 0)) in
         let v : said (value-in key (entriesOf (d .node) lo)) ≡ (q .a, q .b, []) = rw (pp, ← h .node) (leaf-said (d .node) lo key (end .whole) (open-leaf (d .node) (end .opened) (end .level))) in
-        record { same = rw (h .descends .asks (λ fs n es. P.done (said (value-in key es), [])), on, v) (e .same z [] []); noted = e .noted }
+        record { same = rw (h .descends .asks (λ fs n es. P.done (said (value-in key es), [])), on, v) (e .same slots [] []); noted = e .noted }
 
 pub ruleset look-exits = (look-stops, leaf-small, look-ends)

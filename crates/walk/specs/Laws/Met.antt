@@ -8,7 +8,6 @@ use Rattle.nodes.specs.declared.node.Node.{Node}
 use Rattle.nodes.specs.declared.found.Found.{Found}
 use Rattle.nodes.specs.declared.found.Found.the-variants.{At, Absent}
 use Rattle.nodes.specs.Node.{free-node}
-use Rattle.operations.specs.Slot.{TreeSizes}
 use Rattle.client.specs.declared.answer.Look.{Look}
 use Rattle.client.specs.declared.part.Set.the-variants.{Reads}
 use Rattle.client.specs.Layout.{ClientWord}
@@ -58,9 +57,9 @@ is-new Broken = false
 unfoldable pub taken-up : (ClientWord → ℕ) → List ℕ → ℕ → Node → Met
 taken-up m u x r = cond (among x (used-in u)) (here r) (cond (ltb (count m Reads + length (used-in u)) 96) (copy r) (full r))
 
-module _ (z : TreeSizes) (m : ClientWord → ℕ) (w u : List ℕ) where
+module _ (slots : ℕ) (m : ClientWord → ℕ) (w u : List ℕ) where
   abbrev pub in-part : ℕ → Look → Met
-  in-part x l = cond (is-found (l .how)) (cond (look-fits z m x l) (cond (is-copied (l .how)) (taken-up m u x (l .node)) (here (l .node))) unfit) lacking
+  in-part x l = cond (is-found (l .how)) (cond (look-fits slots m x l) (cond (is-copied (l .how)) (taken-up m u x (l .node)) (here (l .node))) unfit) lacking
 
   abbrev pub or-in-part : ℕ → Found → Met
   or-in-part x (At i) = here (own-record w i)

@@ -10,8 +10,8 @@ use lib.ListN.{length}
 use Rattle.base.specs.Test.{ifd}
 use Rattle.nodes.specs.Name.{server-of, slot-of}
 use Rattle.nodes.specs.Placement.{row}
-use Rattle.operations.specs.Object.{Obj, meta, node, flag, Ask, object, vector, fetched, Val, root, body, taken, flags, no-tree, Writes, hit}
-use Rattle.operations.specs.Slot.{TreeSizes, present, chosen, free-slot, search, when-free-flag, take-flag, take-on, take-for, when-free-node, take-node, release}
+use Rattle.operations.specs.Object.{Obj, meta, node, flag, Ask, object, vector, fetched, Val, root, body, taken, flags, states-of, no-tree, Writes, hit}
+use Rattle.operations.specs.Slot.{chosen, free-slot, search, open-ones, when-free-flag, take-flag, take-on, take-for, when-free-node, take-node, release}
 use Rattle.operations.specs.Entry.{Entries, fewest-entries, cut}
 use Rattle.operations.specs.Path.{TreePlan, see, when-root, open-node, kid, Branch, Cont, down, at-root, to-leaf, from-root}
 use Rattle.client.specs.Layout.{ClientWord}
@@ -82,23 +82,23 @@ lack-not (object (flag n)) = refl
 lack-not (vector s) = refl
 lack-not (fetched s) = refl
 
-module _ (z : TreeSizes) (m : ClientWord → ℕ) where
-  tell-mute : (e : End) (us : List ℕ) → given e ≡ false → stands (tell z m e us .stop) ≡ false
-  tell-mute (lacks a) us h = go (broken z m a) refl
+module _ (slots : ℕ) (m : ClientWord → ℕ) where
+  tell-mute : (e : End) (us : List ℕ) → given e ≡ false → stands (tell slots m e us .stop) ≡ false
+  tell-mute (lacks a) us h = go (broken slots m a) refl
     where
-      go : (b : Bool) → broken z m a ≡ b → stands (tell z m (lacks a) us .stop) ≡ false
+      go : (b : Bool) → broken slots m a ≡ b → stands (tell slots m (lacks a) us .stop) ≡ false
       go true e = rw e
       go false e = rw e (lack-not a)
   tell-mute (aborts r) us h = refl
   tell-mute (gives a w) us h = h
 
-  pub walked-mute : (p : TreePlan) → Mute p → (us : List ℕ) → stands (walked z m p us .stop) ≡ false
+  pub walked-mute : (p : TreePlan) → Mute p → (us : List ℕ) → stands (walked slots m p us .stop) ≡ false
   unfolding walked worked
-  walked-mute p q us = tell-mute (worked z m p us .how) (worked z m p us .used) (go (over m us) refl)
+  walked-mute p q us = tell-mute (worked slots m p us .how) (worked slots m p us .used) (go (over m us) refl)
     where
-      go : (b : Bool) → over m us ≡ b → given (worked z m p us .how) ≡ false
+      go : (b : Bool) → over m us ≡ b → given (worked slots m p us .how) ≡ false
       go true e = rw (worked, e) (over-mute p q us)
-      go false e = rw (worked, e) (run-mute (have z m) (fresh m) (room m) p q us)
+      go false e = rw (worked, e) (run-mute (have slots m) (fresh m) (room m) p q us)
 
 -- ---- questions, with what follows them
 cond-mute : (b : Bool) (p q : TreePlan) → Mute p → Mute q → Mute (cond b p q)
@@ -112,7 +112,7 @@ see-mute (e ∷ w) o k h = cond-mute (hit (e .0) o) (k (e .1)) (see w o k) (h (e
 
 flag-mute : (v : Val) (k : TreePlan) → Mute k → Mute (when-free-flag v k)
 unfolding Mute
-flag-mute (root r) k h = tt
+flag-mute (root r st) k h = tt
 flag-mute (body j l ks vs) k h = tt
 flag-mute (taken true) k h = tt
 flag-mute (taken false) k h = h
@@ -125,21 +125,22 @@ chosen-mute : (s : ℕ) (o : Option ℕ) (k : ℕ → TreePlan) (p : TreePlan) �
 chosen-mute s none k p h g = g
 chosen-mute s (some i) k p h g = h _
 
-search-mute : (z : TreeSizes) (w : Writes) (slot : ℕ) (ss : List ℕ) (k : ℕ → TreePlan) → ((d : ℕ) → Mute (k d)) → Mute (search z w slot ss k)
+search-mute : (slots : ℕ) (w : Writes) (slot : ℕ) (ss : List ℕ) (k : ℕ → TreePlan) → ((d : ℕ) → Mute (k d)) → Mute (search slots w slot ss k)
 unfolding Mute
-search-mute z w slot [] k h = tt
-search-mute z w slot (s ∷ ss) k h =
-    λ v. chosen-mute s (free-slot z w slot s v) k _ h (λ u. chosen-mute s (free-slot z w slot s u) k _ h (search-mute z w slot ss k h))
+search-mute slots w slot [] k h = tt
+search-mute slots w slot (s ∷ ss) k h =
+    λ v. chosen-mute s (free-slot slots w slot s v) k _ h (λ u. chosen-mute s (free-slot slots w slot s u) k _ h (search-mute slots w slot ss k h))
 
-pub take-on-mute : (z : TreeSizes) (ss : List ℕ) (slot : ℕ) (w : Writes) (k : ℕ → Writes → TreePlan) → ((d : ℕ) (w : Writes) → Mute (k d w)) → Mute (take-on z ss slot w k)
-take-on-mute z ss slot w k h = search-mute z w slot ss _ (λ d. take-flag-mute w d (λ w′. k d w′) (h d))
+pub take-on-mute : (slots : ℕ) (ss : List ℕ) (slot : ℕ) (w : Writes) (k : ℕ → Writes → TreePlan) → ((d : ℕ) (w : Writes) → Mute (k d w)) → Mute (take-on slots ss slot w k)
+unfolding Mute
+take-on-mute slots ss slot w k h = λ v. search-mute slots w slot (open-ones (states-of v) ss) _ (λ d. take-flag-mute w d (λ w′. k d w′) (h d))
 
-pub take-for-mute : (z : TreeSizes) (n : ℕ) (w : Writes) (k : ℕ → Writes → TreePlan) → ((d : ℕ) (w : Writes) → Mute (k d w)) → Mute (take-for z n w k)
-take-for-mute z n w k h = take-on-mute z (present (z .servers) (row (server-of n))) (slot-of n) w k h
+pub take-for-mute : (slots n : ℕ) (w : Writes) (k : ℕ → Writes → TreePlan) → ((d : ℕ) (w : Writes) → Mute (k d w)) → Mute (take-for slots n w k)
+take-for-mute slots n w k h = take-on-mute slots (row (server-of n)) (slot-of n) w k h
 
 node-mute : (v : Val) (k : TreePlan) → Mute k → Mute (when-free-node v k)
 unfolding Mute
-node-mute (root r) k h = tt
+node-mute (root r st) k h = tt
 node-mute (body zero l ks vs) k h = h
 node-mute (body (suc j) l ks vs) k h = tt
 node-mute (taken b) k h = tt
@@ -153,7 +154,7 @@ release-mute w n k h = see-mute w (flag n) _ (λ v. h _)
 
 open-mute : (lo : ℕ) (v : Val) (k : ℕ → Entries → TreePlan) → ((l : ℕ) (es : Entries) → Mute (k l es)) → Mute (open-node lo v k)
 unfolding Mute
-open-mute lo (root r) k h = tt
+open-mute lo (root r st) k h = tt
 open-mute lo (taken b) k h = tt
 open-mute lo (flags fs) k h = tt
 open-mute lo (body zero l ks vs) k h = tt
@@ -188,19 +189,19 @@ unfolding Mute
 root-mute key = λ v. go v
   where
     go : (v : Val) → Mute (when-root v (λ r. at-root r (λ l es. down to-leaf key (λ _ fs n es. P.fail no-tree) l [] r es)))
-    go (root r) = λ u. open-mute 0 u (λ l es. down to-leaf key (λ _ fs n es. P.fail no-tree) l [] r es) (λ l es. down-mute to-leaf key (λ _ fs n es. P.fail no-tree) (λ l fs n es. tt) l [] r es)
+    go (root r st) = λ u. open-mute 0 u (λ l es. down to-leaf key (λ _ fs n es. P.fail no-tree) l [] r es) (λ l es. down-mute to-leaf key (λ _ fs n es. P.fail no-tree) (λ l fs n es. tt) l [] r es)
     go (body j l ks vs) = tt
     go (taken b) = tt
     go (flags fs) = tt
 
 -- what stops the walk at a child, or on the way down
-pub kid-silent : (z : TreeSizes) (m : ClientWord → ℕ) (u : List ℕ) (l n : ℕ) (s : Stop) (r : Node) (u′ : List ℕ) → Kid z m nothing u l n s r u′ → goes s ≡ false → stands s ≡ false
+pub kid-silent : (slots : ℕ) (m : ClientWord → ℕ) (u : List ℕ) (l n : ℕ) (s : Stop) (r : Node) (u′ : List ℕ) → Kid slots m nothing u l n s r u′ → goes s ≡ false → stands s ≡ false
 unfolding Mute
-kid-silent z m u l n s r u′ h halts =
-    let e : walked z m (kid [] l 0 n (λ es. P.fail no-tree)) (used-in u) ≡ told s (used-in u′) = h .asks [] (none-held z) 0 (λ es. P.fail no-tree) ∙ rw halts in
-    sym (ap (λ (t : Told). stands (t .stop)) e) ∙ walked-mute z m (kid [] l 0 n (λ es. P.fail no-tree)) (kid-mute [] l 0 n (λ es. P.fail no-tree) (λ es. tt)) (used-in u)
+kid-silent slots m u l n s r u′ h halts =
+    let e : walked slots m (kid [] l 0 n (λ es. P.fail no-tree)) (used-in u) ≡ told s (used-in u′) = h .asks [] (none-held slots) 0 (λ es. P.fail no-tree) ∙ rw halts in
+    sym (ap (λ (t : Told). stands (t .stop)) e) ∙ walked-mute slots m (kid [] l 0 n (λ es. P.fail no-tree)) (kid-mute [] l 0 n (λ es. P.fail no-tree) (λ es. tt)) (used-in u)
 
-pub way-silent : (z : TreeSizes) (m : ClientWord → ℕ) (u : List ℕ) (key : ℕ) (d : Arrival) (u′ : List ℕ) → Descends z m u key d u′ → goes (d .stop) ≡ false → stands (d .stop) ≡ false
-way-silent z m u key d u′ h halts =
-    let e : walked z m (from-root key (λ fs n es. P.fail no-tree)) (used-in u) ≡ told (d .stop) (used-in u′) = h .asks (λ fs n es. P.fail no-tree) ∙ rw halts in
-    sym (ap (λ (t : Told). stands (t .stop)) e) ∙ walked-mute z m (from-root key (λ fs n es. P.fail no-tree)) (root-mute key) (used-in u)
+pub way-silent : (slots : ℕ) (m : ClientWord → ℕ) (u : List ℕ) (key : ℕ) (d : Arrival) (u′ : List ℕ) → Descends slots m u key d u′ → goes (d .stop) ≡ false → stands (d .stop) ≡ false
+way-silent slots m u key d u′ h halts =
+    let e : walked slots m (from-root key (λ fs n es. P.fail no-tree)) (used-in u) ≡ told (d .stop) (used-in u′) = h .asks (λ fs n es. P.fail no-tree) ∙ rw halts in
+    sym (ap (λ (t : Told). stands (t .stop)) e) ∙ walked-mute slots m (from-root key (λ fs n es. P.fail no-tree)) (root-mute key) (used-in u)

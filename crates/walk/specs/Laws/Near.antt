@@ -5,14 +5,12 @@ use mathlib.Core.List.{List, [], _∷_, _++_, map}
 use Prim.Native.Nat.{ℕ, zero, suc, _-_, _<_}
 use native.Mathlib.Omega.{arith}
 use lib.Dec.{leb}
-use lib.ListN.{length, drop, take, getD, set, length-set}
-use lib.Seq.{getD-set-same}
+use lib.ListN.{length, drop, take, getD}
 use borrow.Author.Tests.{not-true, not-false, le-leb}
 use Rattle.memory.specs.Word.{view}
 use Rattle.nodes.specs.declared.node.Node.{Node}
 use Rattle.nodes.specs.Entries.{entriesOf}
 use Rattle.nodes.specs.Stored.{node-at}
-use Rattle.operations.specs.Slot.{TreeSizes}
 use Rattle.operations.specs.Entry.{Entries}
 use Rattle.operations.specs.Path.{TreePlan, Branch}
 use Rattle.operations.specs.Look.{Search, enough, told, seek-up}
@@ -50,10 +48,10 @@ sides-are true (b ∷ bs) = rw (sides-are true bs)
 sides-are false (b ∷ bs) = rw (sides-are false bs)
 
 -- ---- the leaf of the key
-pub near-noted : (z : TreeSizes) (m : ClientWord → ℕ) (u : List ℕ) (key : ℕ) (s : Stop) (r : Node) (u₁ : List ℕ) → ToLeaf z m u key s r u₁ → Noted m u₁
-near-noted z m u key s r u₁ h = h .descends .noted
+pub near-noted : (slots : ℕ) (m : ClientWord → ℕ) (u : List ℕ) (key : ℕ) (s : Stop) (r : Node) (u₁ : List ℕ) → ToLeaf slots m u key s r u₁ → Noted m u₁
+near-noted slots m u key s r u₁ h = h .descends .noted
 
-module _ (z : TreeSizes) (m : ClientWord → ℕ) (u : List ℕ) (w : Wish) (s₁ : Stop) (r : Node) (u₁ : List ℕ) (h : ToLeaf z m u (w .key) s₁ r u₁) (b : Bool) (pb : b ≡ goes s₁) where
+module _ (slots : ℕ) (m : ClientWord → ℕ) (u : List ℕ) (w : Wish) (s₁ : Stop) (r : Node) (u₁ : List ℕ) (h : ToLeaf slots m u (w .key) s₁ r u₁) (b : Bool) (pb : b ≡ goes s₁) where
   abbrev d : Arrival
   d = h .come
 
@@ -66,10 +64,10 @@ module _ (z : TreeSizes) (m : ClientWord → ℕ) (u : List ℕ) (w : Wish) (s�
   abbrev from : List Branch → ℕ → Entries → TreePlan
   from fs n es = enough q (seek-up q (visit right) (side right) zero fs) (q .in-leaf es)
 
-  pub near-stops : (ps : Entries) → not b ≡ true → Walks z m u (search-plan w) s₁ u₁ ps
+  pub near-stops : (ps : Entries) → not b ≡ true → Walks slots m u (search-plan w) s₁ u₁ ps
   near-stops ps nb =
       let no : goes s₁ ≡ false = sym pb ∙ not-true b nb in
-      let silent : goes (d .stop) ≡ false → stands (d .stop) ≡ false = way-silent z m u (w .key) d u₁ (h .descends) in
+      let silent : goes (d .stop) ≡ false → stands (d .stop) ≡ false = way-silent slots m u (w .key) d u₁ (h .descends) in
       let quiet : goes s₁ ≡ false → stands s₁ ≡ false = rw (h .stop) at silent in
       record { same = rw (h .descends .asks from, h .stop, no) (told-ended s₁ (used-in u₁) [] ps no (quiet no)); noted = h .descends .noted }
 
@@ -87,29 +85,29 @@ module _ (z : TreeSizes) (m : ClientWord → ℕ) (u : List ℕ) (w : Wish) (s�
     near-leaf = let l : LeafAt (d .node) = record { whole = end .whole; small = end .small; opened = end .opened; level = end .level } in rw (h .node) at l
 
     -- on from there
-    pub near-goes : walked z m (search-plan w) (used-in u) ≡ walked z m (enough q (above q right (d .top) (d .path) 0 (lows-of bs)) (q .in-leaf (entriesOf r (low bs)))) (used-in u₁)
+    pub near-goes : walked slots m (search-plan w) (used-in u) ≡ walked slots m (enough q (above q right (d .top) (d .path) 0 (lows-of bs)) (q .in-leaf (entriesOf r (low bs)))) (used-in u₁)
     near-goes =
-        let e : walked z m (search-plan w) (used-in u) ≡ walked z m (enough q (above q right (d .top) (d .path) 0 (lows-of bs)) (q .in-leaf (entriesOf (d .node) (low bs)))) (used-in u₁) =
+        let e : walked slots m (search-plan w) (used-in u) ≡ walked slots m (enough q (above q right (d .top) (d .path) 0 (lows-of bs)) (q .in-leaf (entriesOf (d .node) (low bs)))) (used-in u₁) =
         rw (h .descends .asks from, on, seek-climb q right zero (branches bs), sides-are right bs) in
-        e ∙ ap (λ (n : Node). walked z m (enough q (above q right (d .top) (d .path) 0 (lows-of bs)) (q .in-leaf (entriesOf n (low bs)))) (used-in u₁)) (h .node)
+        e ∙ ap (λ (n : Node). walked slots m (enough q (above q right (d .top) (d .path) 0 (lows-of bs)) (q .in-leaf (entriesOf n (low bs)))) (used-in u₁)) (h .node)
 
     -- where the leaf has enough
     pub near-enough : (f₀ f : List ℕ) (s : Stop) (u₂ : List ℕ) → getD f₀ 0 0 ≡ 0 → pairs-in f ≡ take (w .wanted) (pairs-in f₀ ++ q .in-leaf (entriesOf r 0)) → getD f 0 0 ≡ w .wanted
-        → Tells m u₁ w (pairs-in f) s u₂ → Walks z m u (search-plan w) s u₂ (pairs-told w (pairs-in f))
+        → Tells m u₁ w (pairs-in f) s u₂ → Walks slots m u (search-plan w) s u₂ (pairs-told w (pairs-in f))
     unfolding pairs-in first-pairs
     near-enough f₀ f s u₂ z₀ e c t =
         let all : Entries = q .in-leaf (entriesOf r 0) in
         let e′ : pairs-in f ≡ take (w .wanted) all = rw z₀ at e in
         let n : length (take (w .wanted) all) ≡ w .wanted = rw (← e′) (length-pairs f ∙ c) in
         let full : leb (w .wanted) (length all) ≡ true = le-leb (w .wanted) (length all) (full-take (w .wanted) all (omega arith)) in
-        let v : walked z m (told q all) (used-in u₁) ≡ walked z m (told q (pairs-in f)) (used-in u₁) = rw (e′, told-taken q all) in
+        let v : walked slots m (told q all) (used-in u₁) ≡ walked slots m (told q (pairs-in f)) (used-in u₁) = rw (e′, told-taken q all) in
         record {
-          same = near-goes ∙ rw (leaf-from r (low bs) (open-leaf r (near-leaf .opened) (near-leaf .level)), full) (v ∙ t .same z);
+          same = near-goes ∙ rw (leaf-from r (low bs) (open-leaf r (near-leaf .opened) (near-leaf .level)), full) (v ∙ t .same slots);
           noted = t .noted;
         }
 
 -- ---- with the path to it
-module _ (z : TreeSizes) (m : ClientWord → ℕ) (u : List ℕ) (key : ℕ) (c : List ℕ) (p : Descent) (u₁ : List ℕ) (h : Descends z m u key (arrival c p) u₁) (b : Bool) (pb : b ≡ goes (p .stop)) (nb : not b ≡ false) where
+module _ (slots : ℕ) (m : ClientWord → ℕ) (u : List ℕ) (key : ℕ) (c : List ℕ) (p : Descent) (u₁ : List ℕ) (h : Descends slots m u key (arrival c p) u₁) (b : Bool) (pb : b ≡ goes (p .stop)) (nb : not b ≡ false) where
   reached : Reached 0 (arrival c p)
   reached = h .reached (sym pb ∙ not-false b nb)
 
@@ -119,35 +117,35 @@ module _ (z : TreeSizes) (m : ClientWord → ℕ) (u : List ℕ) (key : ℕ) (c 
   pub path-leaf : LeafAt (node-at (view c) (p .place))
   path-leaf = record { whole = reached .whole; small = reached .small; opened = reached .opened; level = reached .level }
 
-pub path-noted : (z : TreeSizes) (m : ClientWord → ℕ) (u : List ℕ) (key : ℕ) (d : Arrival) (u₁ : List ℕ) → Descends z m u key d u₁ → Noted m u₁
-path-noted z m u key d u₁ h = h .noted
+pub path-noted : (slots : ℕ) (m : ClientWord → ℕ) (u : List ℕ) (key : ℕ) (d : Arrival) (u₁ : List ℕ) → Descends slots m u key d u₁ → Noted m u₁
+path-noted slots m u key d u₁ h = h .noted
 
-module _ (z : TreeSizes) (m : ClientWord → ℕ) (u : List ℕ) (w : Wish) (c : List ℕ) (p : Descent) (u₁ : List ℕ) (h : Descends z m u (w .key) (arrival c p) u₁) where
-  arrived : ToLeaf z m u (w .key) (p .stop) (node-at (view c) (p .place)) u₁
+module _ (slots : ℕ) (m : ClientWord → ℕ) (u : List ℕ) (w : Wish) (c : List ℕ) (p : Descent) (u₁ : List ℕ) (h : Descends slots m u (w .key) (arrival c p) u₁) where
+  arrived : ToLeaf slots m u (w .key) (p .stop) (node-at (view c) (p .place)) u₁
   arrived = record { come = arrival c p; stop = refl; node = refl; descends = h }
 
-  pub path-stops : (b : Bool) (ps : Entries) → b ≡ goes (p .stop) → not b ≡ true → Walks z m u (search-plan w) (p .stop) u₁ ps
-  path-stops b ps pb nb = near-stops z m u w (p .stop) (node-at (view c) (p .place)) u₁ arrived b pb ps nb
+  pub path-stops : (b : Bool) (ps : Entries) → b ≡ goes (p .stop) → not b ≡ true → Walks slots m u (search-plan w) (p .stop) u₁ ps
+  path-stops b ps pb nb = near-stops slots m u w (p .stop) (node-at (view c) (p .place)) u₁ arrived b pb ps nb
 
   module _ (b : Bool) (pb : b ≡ goes (p .stop)) (nb : not b ≡ false) (f₀ : List ℕ) (z₀ : getD f₀ 0 0 ≡ 0) where
     abbrev way : List Turn
     way = trail (turns-in c (p .path)) 0 (p .top - 0)
 
-    pub path-on : (s : Stop) (u₂ : List ℕ) (ps : Entries) → FromLeaf z m u₁ w (p .top) (turns-in c (p .path)) (node-at (view c) (p .place)) (pairs-in f₀) s u₂ ps → Walks z m u (search-plan w) s u₂ ps
+    pub path-on : (s : Stop) (u₂ : List ℕ) (ps : Entries) → FromLeaf slots m u₁ w (p .top) (turns-in c (p .path)) (node-at (view c) (p .place)) (pairs-in f₀) s u₂ ps → Walks slots m u (search-plan w) s u₂ ps
     unfolding pairs-in first-pairs arrived
     path-on s u₂ ps t =
-        let e : walked z m (enough (search-of w) (above (search-of w) (to-right (w .sought)) (p .top) (turns-in c (p .path)) 0 (lows-of way)) (search-of w .in-leaf (entriesOf (node-at (view c) (p .place)) (low way)))) (used-in u₁)
+        let e : walked slots m (enough (search-of w) (above (search-of w) (to-right (w .sought)) (p .top) (turns-in c (p .path)) 0 (lows-of way)) (search-of w .in-leaf (entriesOf (node-at (view c) (p .place)) (low way)))) (used-in u₁)
         ≡ ended s (used-in u₂) [] ps = rw z₀ at (t .same (low way) (lows-of way)) in
-        record { same = near-goes z m u w (p .stop) (node-at (view c) (p .place)) u₁ arrived b pb nb ∙ e; noted = t .noted }
+        record { same = near-goes slots m u w (p .stop) (node-at (view c) (p .place)) u₁ arrived b pb nb ∙ e; noted = t .noted }
 
 pub ruleset path-exits = (path-stops, path-noted, path-stacked, path-leaf, path-on)
 
 -- ---- on from a leaf
-module _ (z : TreeSizes) (m : ClientWord → ℕ) (u : List ℕ) (w : Wish) (top : ℕ) (path : List Turn) (n : Node) (got : Entries) (c : List ℕ) (a : Ahead) (got′ : Entries) (h : Past w top path n got (heading c a) got′) (s : Stop) (u′ : List ℕ) where
-  pub leaf-ends : a .state ≡ Finished → Tells m u w got′ s u′ → FromLeaf z m u w top path n got s u′ (pairs-told w got′)
-  leaf-ends e t = record { same = λ j f. rw (h .ends e j f) (t .same z); noted = t .noted }
+module _ (slots : ℕ) (m : ClientWord → ℕ) (u : List ℕ) (w : Wish) (top : ℕ) (path : List Turn) (n : Node) (got : Entries) (c : List ℕ) (a : Ahead) (got′ : Entries) (h : Past w top path n got (heading c a) got′) (s : Stop) (u′ : List ℕ) where
+  pub leaf-ends : a .state ≡ Finished → Tells m u w got′ s u′ → FromLeaf slots m u w top path n got s u′ (pairs-told w got′)
+  leaf-ends e t = record { same = λ j f. rw (h .ends e j f) (t .same slots); noted = t .noted }
 
-  pub leaf-next : (ps : Entries) → a .state ≡ Next → Seeks z m u w top (turns-in c (a .path)) (a .level) (a .name) got′ s u′ ps → FromLeaf z m u w top path n got s u′ ps
+  pub leaf-next : (ps : Entries) → a .state ≡ Next → Seeks slots m u w top (turns-in c (a .path)) (a .level) (a .name) got′ s u′ ps → FromLeaf slots m u w top path n got s u′ ps
   leaf-next ps e t = record { same = λ j f. rw (h .next e j f) (t .same (h .lo f) (h .lows f)); noted = t .noted }
 
 module _ (w : Wish) (top : ℕ) (path : List Turn) (n : Node) (got : Entries) (c : List ℕ) (a : Ahead) (got′ : Entries) (h : Past w top path n got (heading c a) got′) (e : a .state ≡ Next) where
@@ -174,10 +172,10 @@ again-roomy n f f₁ r l e = record { some = r .some; few = r .few; long = omega
 
 pub ruleset again-exits = (used-there, again-noted, found-there, again-roomy)
 
-pub again : (z : TreeSizes) (m : ClientWord → ℕ) (u : List ℕ) (p : TreePlan) (s : Stop) (u₁ : List ℕ) (ps : Entries) → getD u 0 0 ≡ 0 → Walks z m u p s u₁ ps → Afresh z m p s u₁ ps
-again z m u p s u₁ ps e w = record { same = rw (nothing-used m u e) at (w .same); noted = w .noted }
+pub again : (slots : ℕ) (m : ClientWord → ℕ) (u : List ℕ) (p : TreePlan) (s : Stop) (u₁ : List ℕ) (ps : Entries) → getD u 0 0 ≡ 0 → Walks slots m u p s u₁ ps → Afresh slots m p s u₁ ps
+again slots m u p s u₁ ps e w = record { same = rw (nothing-used m u e) at (w .same); noted = w .noted }
 
-pub near-afresh : (z : TreeSizes) (m : ClientWord → ℕ) (u : List ℕ) (p : TreePlan) (s : Stop) (u₁ : List ℕ) (ps : Entries) → getD u 0 0 ≡ 0 → Afresh z m p s u₁ ps → Walks z m u p s u₁ ps
-near-afresh z m u p s u₁ ps e h = record { same = rw (nothing-used m u e) (h .same); noted = h .noted }
+pub near-afresh : (slots : ℕ) (m : ClientWord → ℕ) (u : List ℕ) (p : TreePlan) (s : Stop) (u₁ : List ℕ) (ps : Entries) → getD u 0 0 ≡ 0 → Afresh slots m p s u₁ ps → Walks slots m u p s u₁ ps
+near-afresh slots m u p s u₁ ps e h = record { same = rw (nothing-used m u e) (h .same); noted = h .noted }
 
 pub ruleset near-exits = (near-stops, near-noted, near-leaf, near-enough, near-afresh)

@@ -15,7 +15,6 @@ use Rattle.nodes.specs.Stored.{node-at}
 use Rattle.memory.specs.Word.{view}
 use Rattle.nodes.specs.Laws.Kept.{length-entriesOf}
 use Rattle.operations.specs.Object.{Ans}
-use Rattle.operations.specs.Slot.{TreeSizes}
 use Rattle.operations.specs.Entry.{Entries}
 use Rattle.operations.specs.Path.{kid, Branch}
 use Rattle.operations.specs.Look.{Search, Onward, told, nearest, rightward, leftward, seek, seek-up}
@@ -461,20 +460,20 @@ module _ (b : List ℕ) (right : Bool) (ps : List Pass) (level name p : ℕ) whe
 
 pub ruleset first-exits = (first-inside, first-down, set-in-part)
 
-module _ (z : TreeSizes) (m : ClientWord → ℕ) (u : List ℕ) (w : Wish) (top : ℕ) (path : List Turn) (level name : ℕ) (got : Entries) (s : Stop) (n : Node) (u′ : List ℕ) (h : Kid z m nothing u level name s n u′) (b : Bool) (pb : b ≡ goes s) where
-  asked : (j : ℕ) (f : ℕ → ℕ) → walked z m (onto (search-of w) (to-right (w .sought)) top path level name j f got) (used-in u)
-      ≡ carry s (used-in u′) (λ us. walked z m (afterwards w top path level n j f got) us)
-  asked j f = rw (seek-reads (search-of w) (to-right (w .sought)) level j name (above (search-of w) (to-right (w .sought)) top path level f) got, h .asks [] (none-held z))
+module _ (slots : ℕ) (m : ClientWord → ℕ) (u : List ℕ) (w : Wish) (top : ℕ) (path : List Turn) (level name : ℕ) (got : Entries) (s : Stop) (n : Node) (u′ : List ℕ) (h : Kid slots m nothing u level name s n u′) (b : Bool) (pb : b ≡ goes s) where
+  asked : (j : ℕ) (f : ℕ → ℕ) → walked slots m (onto (search-of w) (to-right (w .sought)) top path level name j f got) (used-in u)
+      ≡ carry s (used-in u′) (λ us. walked slots m (afterwards w top path level n j f got) us)
+  asked j f = rw (seek-reads (search-of w) (to-right (w .sought)) level j name (above (search-of w) (to-right (w .sought)) top path level f) got, h .asks [] (none-held slots))
 
-  pub read-stops : (a : Heading) (got′ : Entries) → not b ≡ true → ReadOn z m u w top path level name got s a u′ got′
-  read-stops a got′ nb = record { node = n; asks = asked; noted = h .noted; long = h .long; leads = λ t. stops-not s (sym pb ∙ not-true b nb) t; silent = kid-silent z m u level name s n u′ h }
+  pub read-stops : (a : Heading) (got′ : Entries) → not b ≡ true → ReadOn slots m u w top path level name got s a u′ got′
+  read-stops a got′ nb = record { node = n; asks = asked; noted = h .noted; long = h .long; leads = λ t. stops-not s (sym pb ∙ not-true b nb) t; silent = kid-silent slots m u level name s n u′ h }
 
-  pub read-leads : (a : Heading) (got′ : Entries) → not b ≡ false → Advanced w top path level n got a got′ → ReadOn z m u w top path level name got s a u′ got′
-  read-leads a got′ nb v = record { node = n; asks = asked; noted = h .noted; long = h .long; leads = λ t. v; silent = kid-silent z m u level name s n u′ h }
+  pub read-leads : (a : Heading) (got′ : Entries) → not b ≡ false → Advanced w top path level n got a got′ → ReadOn slots m u w top path level name got s a u′ got′
+  read-leads a got′ nb v = record { node = n; asks = asked; noted = h .noted; long = h .long; leads = λ t. v; silent = kid-silent slots m u level name s n u′ h }
 
-pub read-standing : (z : TreeSizes) (m : ClientWord → ℕ) (u : List ℕ) (level name : ℕ) (s : Stop) (n : Node) (u′ : List ℕ) (b : Bool) (top : ℕ) → Kid z m nothing u level name s n u′ → b ≡ goes s → not b ≡ false → level < top
+pub read-standing : (slots : ℕ) (m : ClientWord → ℕ) (u : List ℕ) (level name : ℕ) (s : Stop) (n : Node) (u′ : List ℕ) (b : Bool) (top : ℕ) → Kid slots m nothing u level name s n u′ → b ≡ goes s → not b ≡ false → level < top
     → Standing n level top
-read-standing z m u level name s n u′ b top h pb nb lt =
+read-standing slots m u level name s n u′ b top h pb nb lt =
     let on : goes s ≡ true = sym pb ∙ not-false b nb in
     let q = below-true level n (h .fits on) in
     record { whole = h .whole on; small = h .small on; opened = q .opened; level-is = q .level; below = lt }
@@ -513,7 +512,7 @@ module _ (m : ClientWord → ℕ) (u : List ℕ) (w : Wish) (f : List ℕ) (s : 
   tells : (a : Ans) → answer-by (w .sought) (pairs-in f) ≡ a → Ends m u (a .0) (a .1) s u′ → Tells m u w (pairs-in f) s u′
   tells a e t =
       let p : pairs-told w (pairs-in f) ≡ a .2 = ap (λ (x : Ans). x .2) e in
-      record { same = λ z. rw (all-taken, p, e) (t .same z [] (a .2)); noted = t .noted }
+      record { same = λ slots. rw (all-taken, p, e) (t .same slots [] (a .2)); noted = t .noted }
 
   pub tell-higher : w .sought ≡ Higher → Ends m u (nearest (pairs-in f) .0) (nearest (pairs-in f) .1) s u′ → Tells m u w (pairs-in f) s u′
   tell-higher e t = tells (nearest (pairs-in f)) (rw e) t
@@ -530,24 +529,24 @@ module _ (m : ClientWord → ℕ) (u : List ℕ) (w : Wish) (f : List ℕ) (s : 
 pub ruleset tell-exits = (tell-higher, tell-lower, tell-listed, roomy-there)
 
 -- how far the search has come
-pub record Seeking (z : TreeSizes) (m : ClientWord → ℕ) (u₀ : List ℕ) (w : Wish) (top : ℕ) (path₀ : List Turn) (level₀ name₀ : ℕ) (got₀ : Entries) (path : List Turn) (level name : ℕ) (u : List ℕ) (got : Entries) : Type 0 where
+pub record Seeking (slots : ℕ) (m : ClientWord → ℕ) (u₀ : List ℕ) (w : Wish) (top : ℕ) (path₀ : List Turn) (level₀ name₀ : ℕ) (got₀ : Entries) (path : List Turn) (level name : ℕ) (u : List ℕ) (got : Entries) : Type 0 where
   pub lo : ℕ → (ℕ → ℕ) → ℕ
   pub lows : ℕ → (ℕ → ℕ) → ℕ → ℕ
   pub same : (j : ℕ) (f : ℕ → ℕ)
-      → walked z m (onto (search-of w) (to-right (w .sought)) top path₀ level₀ name₀ j f got₀) (used-in u₀)
-      ≡ walked z m (onto (search-of w) (to-right (w .sought)) top path level name (lo j f) (lows j f) got) (used-in u)
+      → walked slots m (onto (search-of w) (to-right (w .sought)) top path₀ level₀ name₀ j f got₀) (used-in u₀)
+      ≡ walked slots m (onto (search-of w) (to-right (w .sought)) top path level name (lo j f) (lows j f) got) (used-in u)
   pub stacked : Stacked top path level
   pub below : level < top
   pub noted : Noted m u
   pub long : length u ≡ length u₀
 
-pub seek-start : (z : TreeSizes) (m : ClientWord → ℕ) (u : List ℕ) (w : Wish) (top : ℕ) (path : List Turn) (level name : ℕ) (got : Entries) → Stacked top path level × (level < top) → Noted m u
-    → Seeking z m u w top path level name got path level name u got
-seek-start z m u w top path level name got k n =
+pub seek-start : (slots : ℕ) (m : ClientWord → ℕ) (u : List ℕ) (w : Wish) (top : ℕ) (path : List Turn) (level name : ℕ) (got : Entries) → Stacked top path level × (level < top) → Noted m u
+    → Seeking slots m u w top path level name got path level name u got
+seek-start slots m u w top path level name got k n =
     record { lo = λ j f. j; lows = λ j f. f; same = λ j f. refl; stacked = k .0; below = k .1; noted = n; long = refl }
 
-module _ (z : TreeSizes) (m : ClientWord → ℕ) (u₀ : List ℕ) (w : Wish) (top : ℕ) (path₀ : List Turn) (level₀ name₀ : ℕ) (got₀ : Entries) (path : List Turn) (level name : ℕ) (u : List ℕ) (got : Entries) (d : Seeking z m u₀ w top path₀ level₀ name₀ got₀ path level name u got) (t : Stop) (c : List ℕ) (a : Ahead) (u₁ : List ℕ) (got₁ : Entries) (h : ReadOn z m u w top path level name got t (heading c a) u₁ got₁) (b : Bool) (pb : b ≡ goes t) where
-  pub seek-stops : (ps : Entries) → not b ≡ true → Seeks z m u₀ w top path₀ level₀ name₀ got₀ t u₁ ps
+module _ (slots : ℕ) (m : ClientWord → ℕ) (u₀ : List ℕ) (w : Wish) (top : ℕ) (path₀ : List Turn) (level₀ name₀ : ℕ) (got₀ : Entries) (path : List Turn) (level name : ℕ) (u : List ℕ) (got : Entries) (d : Seeking slots m u₀ w top path₀ level₀ name₀ got₀ path level name u got) (t : Stop) (c : List ℕ) (a : Ahead) (u₁ : List ℕ) (got₁ : Entries) (h : ReadOn slots m u w top path level name got t (heading c a) u₁ got₁) (b : Bool) (pb : b ≡ goes t) where
+  pub seek-stops : (ps : Entries) → not b ≡ true → Seeks slots m u₀ w top path₀ level₀ name₀ got₀ t u₁ ps
   seek-stops ps nb = let no : goes t ≡ false = sym pb ∙ not-true b nb in
       record { same = λ j f. rw (d .same j f, h .asks (d .lo j f) (d .lows j f), no) (told-ended t (used-in u₁) [] ps no (h .silent no)); noted = h .noted }
 
@@ -561,13 +560,13 @@ module _ (z : TreeSizes) (m : ClientWord → ℕ) (u₀ : List ℕ) (w : Wish) (
     pub seek-noted : Noted m u₁
     seek-noted = h .noted
 
-    pub seek-ends : (s : Stop) (u₂ : List ℕ) → a .state ≡ Finished → Tells m u₁ w got₁ s u₂ → Seeks z m u₀ w top path₀ level₀ name₀ got₀ s u₂ (pairs-told w got₁)
+    pub seek-ends : (s : Stop) (u₂ : List ℕ) → a .state ≡ Finished → Tells m u₁ w got₁ s u₂ → Seeks slots m u₀ w top path₀ level₀ name₀ got₀ s u₂ (pairs-told w got₁)
     seek-ends s u₂ e q = record {
-      same = λ j f. rw (d .same j f, h .asks (d .lo j f) (d .lows j f), on, h .leads on .ends e (d .lo j f) (d .lows j f)) (q .same z);
+      same = λ j f. rw (d .same j f, h .asks (d .lo j f) (d .lows j f), on, h .leads on .ends e (d .lo j f) (d .lows j f)) (q .same slots);
       noted = q .noted;
     }
 
-    pub seek-more : a .state ≡ Next → Seeking z m u₀ w top path₀ level₀ name₀ got₀ (turns-in c (a .path)) (a .level) (a .name) u₁ got₁
+    pub seek-more : a .state ≡ Next → Seeking slots m u₀ w top path₀ level₀ name₀ got₀ (turns-in c (a .path)) (a .level) (a .name) u₁ got₁
     seek-more e = let v = h .leads on in
         record {
           lo = λ j f. v .lo (d .lo j f) (d .lows j f);

@@ -1,13 +1,12 @@
 -- How a walk stopped is how the run of its plan ends.
 use mathlib.Core.Path.{_≡_, refl, sym, _∙_, ap}
 use mathlib.Core.Bool.{Bool, true, false}
-use mathlib.Core.List.{List, [], _∷_, _++_}
+use mathlib.Core.List.{List, [], _∷_}
 use Prim.Native.Nat.{ℕ, _-_, _≤_}
 use native.Mathlib.Omega.{arith}
-use lib.ListN.{length, take, drop, length-take, take-append-drop}
+use lib.ListN.{length, drop, length-take, take-append-drop}
 use borrow.Author.Tests.{le-leb}
 use Rattle.operations.specs.Object.{meta, node, flag, Ask, object, vector, fetched, Ans, Writes}
-use Rattle.operations.specs.Slot.{TreeSizes}
 use Rattle.operations.specs.Entry.{Entries}
 use Rattle.operations.specs.Operation.{reading}
 use Rattle.walk.specs.declared.walk.Stop.{Stop}
@@ -43,13 +42,13 @@ reads-are : (m : ClientWord → ℕ) → m reads-count ≤ 96 → count m Reads 
 unfolding count
 reads-are m h = rw (le-leb (m reads-count) 96 h)
 
-module _ (z : TreeSizes) (m : ClientWord → ℕ) (h : m reads-count ≤ 96) where
+module _ (slots : ℕ) (m : ClientWord → ℕ) (h : m reads-count ≤ 96) where
   abbrev pub R : Ran
-  R = C.walked z m
+  R = C.walked slots m
 
-  pub run-is : walked z m (reading z (waiting m)) [] ≡ tell z m (R .how) (R .used)
+  pub run-is : walked slots m (reading slots (waiting m)) [] ≡ tell slots m (R .how) (R .used)
   unfolding C.walked has
-  run-is = let e : room m ≡ 96 - m reads-count = ap (λ (c : ℕ). 96 - c) (reads-are m h) in walk-begins z m (reading z (waiting m)) ∙ rw e
+  run-is = let e : room m ≡ 96 - m reads-count = ap (λ (c : ℕ). 96 - c) (reads-are m h) in walk-begins slots m (reading slots (waiting m)) ∙ rw e
 
 -- ---- what the walk told
 pub never : {A : Type 0} (s s′ : Stop) → s ≡ s′ → is-answer s ≡ false → is-answer s′ ≡ true → A
@@ -62,8 +61,8 @@ lack-waits (object (flag n)) = refl
 lack-waits (vector s) = refl
 lack-waits (fetched s) = refl
 
-module _ (z : TreeSizes) (m : ClientWord → ℕ) where
-  pub told-used : (e : End) (us : List ℕ) → tell z m e us .used ≡ us
+module _ (slots : ℕ) (m : ClientWord → ℕ) where
+  pub told-used : (e : End) (us : List ℕ) → tell slots m e us .used ≡ us
   told-used (lacks a) us = refl
   told-used (aborts y) us = refl
   told-used (gives a w) us = refl
@@ -75,20 +74,20 @@ module _ (z : TreeSizes) (m : ClientWord → ℕ) where
     pub pairs : answer .2 ≡ ps
 
   module _ (s : Stop) (us us′ : List ℕ) (w : Writes) (ps : Entries) where
-    pub stops : (e : End) → tell z m e us ≡ ended s us′ w ps → is-answer s ≡ false → s ≡ stop-of (C.judge z m e)
-    stops (lacks a) t n = go (broken z m a) refl
+    pub stops : (e : End) → tell slots m e us ≡ ended s us′ w ps → is-answer s ≡ false → s ≡ stop-of (C.judge slots m e)
+    stops (lacks a) t n = go (broken slots m a) refl
       where
-        go : (b : Bool) → broken z m a ≡ b → s ≡ stop-of (C.judge z m (lacks a))
+        go : (b : Bool) → broken slots m a ≡ b → s ≡ stop-of (C.judge slots m (lacks a))
         go true p = sym (ap (λ (k : Told). k .stop) t) ∙ rw p
         go false p = sym (ap (λ (k : Told). k .stop) t) ∙ rw p
     stops (aborts y) t n = sym (ap (λ (k : Told). k .stop) t)
     stops (gives a v) t n =
         never s (Answers (a .0) (a .1)) (sym (ap (λ (k : Told). k .stop) t)) n refl
 
-    pub given : (e : End) → tell z m e us ≡ ended s us′ w ps → is-answer s ≡ true → Given e s w ps
-    given (lacks a) t n = go (broken z m a) refl
+    pub given : (e : End) → tell slots m e us ≡ ended s us′ w ps → is-answer s ≡ true → Given e s w ps
+    given (lacks a) t n = go (broken slots m a) refl
       where
-        go : (b : Bool) → broken z m a ≡ b → Given (lacks a) s w ps
+        go : (b : Bool) → broken slots m a ≡ b → Given (lacks a) s w ps
         go true p = never Refused s (rw p at (ap (λ (k : Told). k .stop) t)) refl n
         go false p = never (lack a) s (rw p at (ap (λ (k : Told). k .stop) t)) (lack-waits a) n
     given (aborts y) t n = never (Aborts y) s (ap (λ (k : Told). k .stop) t) refl n

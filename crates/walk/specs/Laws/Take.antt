@@ -2,7 +2,7 @@
 use mathlib.Core.Path.{_≡_, refl, sym, _∙_}
 use mathlib.Core.Bool.{Bool, true, false, cond, not}
 use mathlib.Core.List.{List, _∷_}
-use Prim.Native.Nat.{ℕ, zero, suc, _+_, _≤_, _<_}
+use Prim.Native.Nat.{ℕ, zero, suc, _+_, _<_}
 use native.Mathlib.Omega.{arith}
 use lib.Dec.{eqb}
 use lib.ListN.{length, getD}
@@ -13,19 +13,19 @@ use Rattle.nodes.specs.Lists.{pad}
 use Rattle.nodes.specs.Node.{extra, keysOf, slotsOf, made, free-node}
 use Rattle.nodes.specs.Laws.Stored.{Sized}
 use Rattle.operations.specs.Object.{Obj, node, flag, Val, body, taken, free, not-free}
-use Rattle.operations.specs.Slot.{TreeSizes, when-free-flag, when-free-node}
+use Rattle.operations.specs.Slot.{when-free-flag, when-free-node}
 use Rattle.operations.specs.Path.{TreePlan}
 use Rattle.walk.specs.declared.walk.Stop.{Stop}
 use Rattle.walk.specs.declared.walk.Stop.the-variants.{Going, Aborts}
 use Rattle.client.specs.Layout.{ClientWord}
-use Rattle.client.specs.Record.{number, value-of, single, record-of, first-slot}
+use Rattle.client.specs.Record.{number, value-of, single, record-of}
 use Rattle.client.specs.Lent.{OwnFits, own-put, used-in}
 use Rattle.walk.specs.Walk.{goes}
 use Rattle.walk.specs.Laws.Walk.{walked-fails}
-use Rattle.walk.specs.Laws.Ask.{first-single}
+use Rattle.walk.specs.Laws.Ask.{first-single, name-below}
 use Rattle.walk.specs.Ask.{SmallNode, OwnGood, Answer}
 use Rattle.walk.specs.Laws.Down.{stops-not}
-use Rattle.walk.specs.Laws.Write.{holds-more, good-more, count-more, name-below}
+use Rattle.walk.specs.Laws.Write.{holds-more, good-more, count-more}
 use Rattle.walk.specs.Take.{NodeTaken, FlagTaken, Released, Wrote}
 use Rattle.plans.specs.Plan as P
 
@@ -33,21 +33,21 @@ free-node-is : (kind level : ℕ) (ks vs : List ℕ) (k : TreePlan) → when-fre
 free-node-is zero level ks vs k = refl
 free-node-is (suc j) level ks vs k = let e : suc j ≡ 0 → ⊥ = λ q. omega arith in rw (ne-eqb (suc j) 0 e)
 
-module _ (z : TreeSizes) (m : ClientWord → ℕ) (x u : List ℕ) (n : ℕ) (s : Stop) (r : Node) (u′ : List ℕ) (h : Answer z m x u (node n) s r u′) (b : Bool) (pb : b ≡ goes s) where
-  pub node-lacks : not b ≡ true → NodeTaken z m x u n s u′
+module _ (slots : ℕ) (m : ClientWord → ℕ) (x u : List ℕ) (n : ℕ) (s : Stop) (r : Node) (u′ : List ℕ) (h : Answer slots m x u (node n) s r u′) (b : Bool) (pb : b ≡ goes s) where
+  pub node-lacks : not b ≡ true → NodeTaken slots m x u n s u′
   node-lacks nb = let no : goes s ≡ false = sym pb ∙ not-true b nb in
       record { asks = λ w hold k. rw (h .asks w hold .same, no); noted = h .noted; long = h .long; inside = h .inside }
 
-  pub node-in-use : not b ≡ false → (r .kind ≡ 0 → ⊥) → NodeTaken z m x u n (Aborts 1) u′
+  pub node-in-use : not b ≡ false → (r .kind ≡ 0 → ⊥) → NodeTaken slots m x u n (Aborts 1) u′
   node-in-use nb d = let on : goes s ≡ true = sym pb ∙ not-false b nb in
       record {
-        asks = λ w hold k. rw (h .asks w hold .same, on, free-node-is (r .kind) (r .level) (keysOf r) (slotsOf r) k, ne-eqb (r .kind) 0 d) (walked-fails z m (used-in u′) not-free);
+        asks = λ w hold k. rw (h .asks w hold .same, on, free-node-is (r .kind) (r .level) (keysOf r) (slotsOf r) k, ne-eqb (r .kind) 0 d) (walked-fails slots m (used-in u′) not-free);
         noted = h .noted;
         long = h .long;
         inside = λ t. stops-not (Aborts 1) refl t;
       }
 
-  pub node-free : not b ≡ false → r .kind ≡ 0 → NodeTaken z m x u n Going u′
+  pub node-free : not b ≡ false → r .kind ≡ 0 → NodeTaken slots m x u n Going u′
   node-free nb d = let on : goes s ≡ true = sym pb ∙ not-false b nb in
       record {
         asks = λ w hold k. rw (h .asks w hold .same, on, free-node-is (r .kind) (r .level) (keysOf r) (slotsOf r) k, eq-eqb (r .kind) 0 d);
@@ -62,7 +62,7 @@ free-flag-is : (b : Bool) (k : TreePlan) → when-free-flag (taken b) k ≡ cond
 free-flag-is true k = refl
 free-flag-is false k = refl
 
-pub single-small : (v : ℕ) → SmallNode (single 0 v)
+single-small : (v : ℕ) → SmallNode (single 0 v)
 unfolding single made
 single-small v = record { keys = omega arith; level = omega arith }
 
@@ -74,15 +74,15 @@ flag-record : (b : Bool) → single 0 (one-if b) ≡ record-of 0 (taken b)
 unfolding record-of
 flag-record b = refl
 
-module _ (z : TreeSizes) (m : ClientWord → ℕ) (x u : List ℕ) (n : ℕ) (s : Stop) (v : ℕ) (u′ : List ℕ) (h : Answer z m x u (flag n) s (single 0 v) u′) (b : Bool) (pb : b ≡ goes s) where
-  pub flag-lacks : not b ≡ true → FlagTaken z m x u n s x u′
+module _ (slots : ℕ) (m : ClientWord → ℕ) (x u : List ℕ) (n : ℕ) (s : Stop) (v : ℕ) (u′ : List ℕ) (h : Answer slots m x u (flag n) s (single 0 v) u′) (b : Bool) (pb : b ≡ goes s) where
+  pub flag-lacks : not b ≡ true → FlagTaken slots m x u n s x u′
   flag-lacks nb = let no : goes s ≡ false = sym pb ∙ not-true b nb in
       record { asks = λ w hold k. rw (h .asks w hold .same, no); holds = λ t. stops-not s no t; good = λ t. stops-not s no t; noted = h .noted; long = h .long; few = omega arith; inside = h .inside }
 
-  pub flag-in-use : not b ≡ false → v ≡ 1 → FlagTaken z m x u n (Aborts 1) x u′
+  pub flag-in-use : not b ≡ false → v ≡ 1 → FlagTaken slots m x u n (Aborts 1) x u′
   flag-in-use nb e = let on : goes s ≡ true = sym pb ∙ not-false b nb in
       record {
-        asks = λ w hold k. rw (h .asks w hold .same, on, first-single v, free-flag-is (eqb v 1) (k ((flag n, taken true) ∷ w)), eq-eqb v 1 e) (walked-fails z m (used-in u′) not-free);
+        asks = λ w hold k. rw (h .asks w hold .same, on, first-single v, free-flag-is (eqb v 1) (k ((flag n, taken true) ∷ w)), eq-eqb v 1 e) (walked-fails slots m (used-in u′) not-free);
         holds = λ t. stops-not (Aborts 1) refl t;
         good = λ t. stops-not (Aborts 1) refl t;
         noted = h .noted;
@@ -91,9 +91,9 @@ module _ (z : TreeSizes) (m : ClientWord → ℕ) (x u : List ℕ) (n : ℕ) (s 
         inside = λ t. stops-not (Aborts 1) refl t;
       }
 
-  pub flag-taken : (k : ℕ) (q : Node) (x′ : List ℕ) → z .servers ≤ 8 → OwnGood x → not b ≡ false → (v ≡ 1 → ⊥) → getD x 0 0 < 20 → k ≡ 8193 + n
-      → q ≡ single 0 1 → length (q .keys) ≡ 14 → length (q .slots) ≡ 15 → x′ ≡ own-put x k q → OwnFits x′ → FlagTaken z m x u n Going x′ u′
-  flag-taken k q x′ eight g nb e few pk pq lk ls px f =
+  pub flag-taken : (k : ℕ) (q : Node) (x′ : List ℕ) → OwnGood x → not b ≡ false → (v ≡ 1 → ⊥) → getD x 0 0 < 20 → k ≡ 8193 + n
+      → q ≡ single 0 1 → length (q .keys) ≡ 14 → length (q .slots) ≡ 15 → x′ ≡ own-put x k q → OwnFits x′ → FlagTaken slots m x u n Going x′ u′
+  flag-taken k q x′ g nb e few pk pq lk ls px f =
       let on : goes s ≡ true = sym pb ∙ not-false b nb in
       let t = h .inside on in
       let sized : Sized q = record { keys = lk; slots = ls } in
@@ -101,7 +101,7 @@ module _ (z : TreeSizes) (m : ClientWord → ℕ) (x u : List ℕ) (n : ℕ) (s 
       let px′ : x′ ≡ own-put x (8193 + n) q = rw pk at px in
       record {
         asks = λ w hold k. rw (h .asks w hold .same, on, first-single v, free-flag-is (eqb v 1) (k ((flag n, taken true) ∷ w)), ne-eqb v 1 e);
-        holds = λ _ w hold. rw px′ (holds-more z x w (flag n) (taken true) q eight g hold few t sized is-v (pq ∙ flag-record true));
+        holds = λ _ w hold. rw px′ (holds-more slots x w (flag n) (taken true) q g hold few t sized is-v (pq ∙ flag-record true));
         good = λ _. rw px′ (good-more x (flag n) q g few sized (rw px′ at f) (rw pq (single-small 1)));
         noted = h .noted;
         long = h .long;
@@ -109,8 +109,8 @@ module _ (z : TreeSizes) (m : ClientWord → ℕ) (x u : List ℕ) (n : ℕ) (s 
         inside = λ _. t;
       }
 
-  pub flag-small : z .servers ≤ 8 → not b ≡ false → n < 8192
-  flag-small eight nb = name-below z n eight (h .inside (sym pb ∙ not-false b nb))
+  pub flag-small : not b ≡ false → n < 8192
+  flag-small nb = name-below slots n (h .inside (sym pb ∙ not-false b nb))
 
 pub ruleset taken-flag-exits = (flag-lacks, flag-in-use, flag-taken, flag-small)
 
@@ -136,7 +136,7 @@ module _ (x : List ℕ) (g : OwnGood x) (few : getD x 0 0 < 20) (k : ℕ) (q : N
       let sized : Sized q = record { keys = lk; slots = ls } in
       let p : x′ ≡ own-put x (number o) q = rw pk at px in
       record {
-        holds = λ z w eight t hold. rw p (holds-more z x w o v q eight g hold few t sized is-v is-q);
+        holds = λ slots w t hold. rw p (holds-more slots x w o v q g hold few t sized is-v is-q);
         good = rw p (good-more x o q g few sized (rw p at f) small);
         few = rw p (count-more x o q g few sized);
       }
@@ -149,18 +149,18 @@ module _ (x : List ℕ) (g : OwnGood x) (few : getD x 0 0 < 20) (k : ℕ) (q : N
 
 pub ruleset freed-exits = (flag-freed, node-freed)
 
-module _ (z : TreeSizes) (m : ClientWord → ℕ) (x u : List ℕ) (n : ℕ) (s : Stop) (r : Node) (u′ : List ℕ) (h : Answer z m x u (flag n) s r u′) (b : Bool) (pb : b ≡ goes s) where
-  pub release-lacks : not b ≡ true → Released z m x u n s x u′
+module _ (slots : ℕ) (m : ClientWord → ℕ) (x u : List ℕ) (n : ℕ) (s : Stop) (r : Node) (u′ : List ℕ) (h : Answer slots m x u (flag n) s r u′) (b : Bool) (pb : b ≡ goes s) where
+  pub release-lacks : not b ≡ true → Released slots m x u n s x u′
   release-lacks nb = let no : goes s ≡ false = sym pb ∙ not-true b nb in
       record { asks = λ w hold k. rw (h .asks w hold .same, no); holds = λ t. stops-not s no t; good = λ t. stops-not s no t; noted = h .noted; long = h .long; few = omega arith; inside = h .inside }
 
-  pub released : (x₁ x₂ : List ℕ) → not b ≡ false → z .servers ≤ 8 → Wrote x (flag n) (taken false) x₁ → Wrote x₁ (node n) free x₂ → Released z m x u n Going x₂ u′
-  released x₁ x₂ nb eight f d =
+  pub released : (x₁ x₂ : List ℕ) → not b ≡ false → Wrote x (flag n) (taken false) x₁ → Wrote x₁ (node n) free x₂ → Released slots m x u n Going x₂ u′
+  released x₁ x₂ nb f d =
       let on : goes s ≡ true = sym pb ∙ not-false b nb in
       let t = h .inside on in
       record {
         asks = λ w hold k. rw (h .asks w hold .same, on);
-        holds = λ _ w hold. d .holds z ((flag n, taken false) ∷ w) eight t (f .holds z w eight t hold);
+        holds = λ _ w hold. d .holds slots ((flag n, taken false) ∷ w) t (f .holds slots w t hold);
         good = λ _. d .good;
         noted = h .noted;
         long = h .long;

@@ -7,7 +7,6 @@ use native.Mathlib.Omega.{arith}
 use lib.ListN.{length, take, length-append}
 use lib.Seq.{take-append-seam}
 use Rattle.operations.specs.Object.{Ask, Val, Why, reason, Ans, Writes}
-use Rattle.operations.specs.Slot.{TreeSizes}
 use Rattle.operations.specs.Path.{TreePlan}
 use Rattle.walk.specs.declared.walk.Stop.the-variants.{Aborts, Answers}
 use Rattle.client.specs.Layout.{ClientWord}
@@ -16,25 +15,25 @@ use Rattle.walk.specs.Walk.{told, over-run, over, worked, walked}
 use Rattle.plans.specs.Plan as P
 
 -- ---- the ends of a walk
-module _ (z : TreeSizes) (m : ClientWord → ℕ) (us : List ℕ) where
-  pub walked-fails : (y : Why) → walked z m (P.fail y) us ≡ told (Aborts (reason y)) us
+module _ (slots : ℕ) (m : ClientWord → ℕ) (us : List ℕ) where
+  pub walked-fails : (y : Why) → walked slots m (P.fail y) us ≡ told (Aborts (reason y)) us
   unfolding walked worked run
   walked-fails y = go (over m us) refl
     where
-      go : (b : Bool) → over m us ≡ b → walked z m (P.fail y) us ≡ told (Aborts (reason y)) us
+      go : (b : Bool) → over m us ≡ b → walked slots m (P.fail y) us ≡ told (Aborts (reason y)) us
       go true e = rw (e, walked, worked)
       go false e = rw (e, walked, worked)
 
   pub walked-done : (r : Ans × Writes) → over m us ≡ false
-      → walked z m (P.done r) us ≡ record { stop = Answers (r .0 .0) (r .0 .1); used = us; writes = r .1; pairs = r .0 .2 }
+      → walked slots m (P.done r) us ≡ record { stop = Answers (r .0 .0) (r .0 .1); used = us; writes = r .1; pairs = r .0 .2 }
   unfolding walked worked run
   walked-done r h = rw h
 
-  pub full-done : (r : Ans × Writes) → over m us ≡ true → walked z m (P.done r) us ≡ told (Aborts 4) (take (length us - 1) us)
+  pub full-done : (r : Ans × Writes) → over m us ≡ true → walked slots m (P.done r) us ≡ told (Aborts 4) (take (length us - 1) us)
   unfolding walked worked
   full-done r h = rw h
 
-  pub full-ask : (a : Ask) (k : Val → TreePlan) → over m us ≡ true → walked z m (P.ask a k) us ≡ told (Aborts 4) (take (length us - 1) us)
+  pub full-ask : (a : Ask) (k : Val → TreePlan) → over m us ≡ true → walked slots m (P.ask a k) us ≡ told (Aborts 4) (take (length us - 1) us)
   unfolding walked worked
   full-ask a k h = rw h
 

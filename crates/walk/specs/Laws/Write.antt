@@ -4,7 +4,7 @@ use mathlib.Core.Bool.{Bool, true, false, cond}
 use mathlib.Core.List.{List, [], _∷_, append-nil}
 use mathlib.Core.Logic.{_⊎_, inl, inr}
 use mathlib.Core.Option.{none}
-use Prim.Native.Nat.{ℕ, suc, _+_, _-_, _*_, _/_, _≤_, _<_}
+use Prim.Native.Nat.{ℕ, suc, _+_, _-_, _*_, _≤_, _<_}
 use native.Mathlib.Omega.{arith}
 use native.Mathlib.Numerals.{add-one}
 use native.Mathlib.Decide.{ℕ-discrete}
@@ -13,7 +13,6 @@ use lib.ListN.{length, take, drop, getD, set, length-set}
 use lib.Seq.{paste, sets, sets-eq, length-sets, take-all, getD-take, getD-drop, getD-set-same}
 use borrow.Author.Tests.{eq-eqb, ne-eqb, eqb-true, eqb-false, ltb-true, ltb-false}
 use Rattle.memory.specs.Laws.Run.{run-beside}
-use Rattle.base.specs.Test.{and-both}
 use Rattle.base.specs.Laws.Test.{yes-of, of-yes, of-no}
 use Rattle.nodes.specs.declared.node.Node.{Node}
 use Rattle.nodes.specs.declared.found.Found.{Found}
@@ -21,34 +20,29 @@ use Rattle.nodes.specs.declared.found.Found.the-variants.{At, Absent}
 use Rattle.nodes.specs.Stored.{words-of, node-of, node-at, put-node}
 use Rattle.nodes.specs.Laws.Stored.{Sized, length-words, node-same}
 use Rattle.operations.specs.Object.{Obj, meta, node, flag, Val, Writes, hit}
-use Rattle.operations.specs.Slot.{TreeSizes}
-use Rattle.nodes.specs.Name.{name-in-store}
-use Rattle.client.specs.Record.{number, in-store, object-in-store, value-of, record-of}
+use Rattle.client.specs.Record.{number, object-in-store, value-of, record-of}
 use Rattle.client.specs.Sets.{or-found, first-of}
 use Rattle.client.specs.Lent.{OwnFits, own-count, own-number, own-record, own-find, own-at, own-put, own-first, own-list}
 use Rattle.client.specs.Answered.{put-entry, entered}
+use Rattle.walk.specs.Laws.Ask.{name-below}
 use Rattle.walk.specs.Laws.Own.{first-same, first-at, own-entry, first-equal, entry-behind, entry-there}
 use Rattle.walk.specs.Ask.{SmallNode, Small, Few, OwnGood, write-of, own-value, Holds-writes}
 
 -- ---- an object of the store and its number
-pub name-below : (z : TreeSizes) (n : ℕ) → z .servers ≤ 8 → in-store z n ≡ true → n < 8192
-unfolding name-in-store
-name-below z n h t = let a : n / 1024 < z .servers = ltb-true _ _ (and-both _ _ t .0) in omega arith
-
-pub hit-is : (z : TreeSizes) → z .servers ≤ 8 → (o p : Obj) → object-in-store z o ≡ true → object-in-store z p ≡ true → hit o p ≡ eqb (number o) (number p)
-hit-is z h meta meta s t = refl
-hit-is z h meta (node n) s t = let e : 0 ≡ 1 + n → ⊥ = λ q. omega arith in sym (ne-eqb 0 (1 + n) e)
-hit-is z h meta (flag n) s t = let e : 0 ≡ 8193 + n → ⊥ = λ q. omega arith in sym (ne-eqb 0 (8193 + n) e)
-hit-is z h (node n) meta s t = let e : 1 + n ≡ 0 → ⊥ = λ q. omega arith in sym (ne-eqb (1 + n) 0 e)
-hit-is z h (flag n) meta s t = let e : 8193 + n ≡ 0 → ⊥ = λ q. omega arith in sym (ne-eqb (8193 + n) 0 e)
-hit-is z h (node n) (flag p) s t = let l = name-below z n h s in let e : 1 + n ≡ 8193 + p → ⊥ = λ q. omega arith in sym (ne-eqb (1 + n) (8193 + p) e)
-hit-is z h (flag n) (node p) s t = let l = name-below z p h t in let e : 8193 + n ≡ 1 + p → ⊥ = λ q. omega arith in sym (ne-eqb (8193 + n) (1 + p) e)
-hit-is z h (node n) (node p) s t = go (eqb (1 + n) (1 + p)) refl
+pub hit-is : (slots : ℕ) (o p : Obj) → object-in-store slots o ≡ true → object-in-store slots p ≡ true → hit o p ≡ eqb (number o) (number p)
+hit-is slots meta meta s t = refl
+hit-is slots meta (node n) s t = let e : 0 ≡ 1 + n → ⊥ = λ q. omega arith in sym (ne-eqb 0 (1 + n) e)
+hit-is slots meta (flag n) s t = let e : 0 ≡ 8193 + n → ⊥ = λ q. omega arith in sym (ne-eqb 0 (8193 + n) e)
+hit-is slots (node n) meta s t = let e : 1 + n ≡ 0 → ⊥ = λ q. omega arith in sym (ne-eqb (1 + n) 0 e)
+hit-is slots (flag n) meta s t = let e : 8193 + n ≡ 0 → ⊥ = λ q. omega arith in sym (ne-eqb (8193 + n) 0 e)
+hit-is slots (node n) (flag p) s t = let l = name-below slots n s in let e : 1 + n ≡ 8193 + p → ⊥ = λ q. omega arith in sym (ne-eqb (1 + n) (8193 + p) e)
+hit-is slots (flag n) (node p) s t = let l = name-below slots p t in let e : 8193 + n ≡ 1 + p → ⊥ = λ q. omega arith in sym (ne-eqb (8193 + n) (1 + p) e)
+hit-is slots (node n) (node p) s t = go (eqb (1 + n) (1 + p)) refl
   where
     go : (b : Bool) → eqb (1 + n) (1 + p) ≡ b → hit (node n) (node p) ≡ eqb (1 + n) (1 + p)
     go true e = let q : 1 + n ≡ 1 + p = eqb-true (1 + n) (1 + p) e in let f : p ≡ n = omega arith in rw e (of-yes (ℕ-discrete p n) f)
     go false e = let q : 1 + n ≡ 1 + p → ⊥ = eqb-false (1 + n) (1 + p) e in rw e (of-no (ℕ-discrete p n) (λ f. q (omega arith)))
-hit-is z h (flag n) (flag p) s t = go (eqb (8193 + n) (8193 + p)) refl
+hit-is slots (flag n) (flag p) s t = go (eqb (8193 + n) (8193 + p)) refl
   where
     go : (b : Bool) → eqb (8193 + n) (8193 + p) ≡ b → hit (flag n) (flag p) ≡ eqb (8193 + n) (8193 + p)
     go true e = let q : 8193 + n ≡ 8193 + p = eqb-true (8193 + n) (8193 + p) e in let f : p ≡ n = omega arith in rw e (of-yes (ℕ-discrete p n) f)
@@ -275,8 +269,8 @@ module _ (x : List ℕ) (o : Obj) (r : Node) (good : OwnGood x) (few : own-count
           rw (← j, p .is) (small-any r small q)
       go q i e (no d) = let k : own-find x (number q) ≡ At i = sym (p .others (number q) d) ∙ e in rw (p .kept (number q) i d k) (good .small q i k)
 
-module _ (z : TreeSizes) (x : List ℕ) (w : Writes) (o : Obj) (v : Val) (r : Node) (eight : z .servers ≤ 8) (good : OwnGood x) (hold : Holds-writes z x w) (few : own-count x < 20) (t : object-in-store z o ≡ true) (sized : Sized r) (is-v : value-of o r ≡ v) (is-r : r ≡ record-of 0 v) where
-  value-after : (q : Obj) → object-in-store z q ≡ true → own-value (own-put x (number o) r) q (own-find (own-put x (number o) r) (number q)) ≡ write-of ((o, v) ∷ w) q
+module _ (slots : ℕ) (x : List ℕ) (w : Writes) (o : Obj) (v : Val) (r : Node) (good : OwnGood x) (hold : Holds-writes slots x w) (few : own-count x < 20) (t : object-in-store slots o ≡ true) (sized : Sized r) (is-v : value-of o r ≡ v) (is-r : r ≡ record-of 0 v) where
+  value-after : (q : Obj) → object-in-store slots q ≡ true → own-value (own-put x (number o) r) q (own-find (own-put x (number o) r) (number q)) ≡ write-of ((o, v) ∷ w) q
   value-after q s = go (hit o q) refl
     where
       found-at : (f : Found) → own-find x (number q) ≡ f → (number q ≡ number o → ⊥) → own-value (own-put x (number o) r) q f ≡ own-value x q f
@@ -290,12 +284,12 @@ module _ (z : TreeSizes) (x : List ℕ) (w : Writes) (o : Obj) (v : Val) (r : No
           rw (e, (p x o r good few sized) .others (number q) d) (found-at (own-find x (number q)) refl d ∙ hold .same q s)
         where
           differ : hit o q ≡ false → number q ≡ number o → ⊥
-          differ e f = eqb-false (number o) (number q) (sym (hit-is z eight o q t s) ∙ e) (sym f)
+          differ e f = eqb-false (number o) (number q) (sym (hit-is slots o q t s) ∙ e) (sym f)
 
-  pub holds-more : Holds-writes z (own-put x (number o) r) ((o, v) ∷ w)
+  pub holds-more : Holds-writes slots (own-put x (number o) r) ((o, v) ∷ w)
   unfolding entered
   holds-more = record { entries = rw ((p x o r good few sized) .list, hold .entries, is-r); same = value-after; out = λ q s. go q s (hit o q) refl }
     where
-      go : (q : Obj) → object-in-store z q ≡ false → (b : Bool) → hit o q ≡ b → write-of ((o, v) ∷ w) q ≡ none
+      go : (q : Obj) → object-in-store slots q ≡ false → (b : Bool) → hit o q ≡ b → write-of ((o, v) ∷ w) q ≡ none
       go q s true e = let same : o ≡ q = hit-same o q e in let c : true ≡ false = sym t ∙ rw same s in let y : _≡_ {A = ℕ} 0 1 = cc in absurd (omega arith)
       go q s false e = rw e (hold .out q s)

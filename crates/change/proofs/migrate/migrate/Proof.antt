@@ -9,7 +9,7 @@ migrate-spec = tie.close (tie.spec
     (λ c κs. search needs)  -- going-requires
     (λ c. search needs)  -- same-length
     (λ c. search (migrate-exits, needs))  -- returns
-    (λ c κs. (search needs, search needs, search needs, search needs, search needs))  -- move-named-requires
+    (λ c κs. ((search needs, search needs, search needs, search needs), search needs))  -- move-named-requires
     (λ c. search needs)  -- same-length-2
     (λ c. search needs)  -- same-length-3
     (λ c. search (migrate-exits, needs))  -- returns-2

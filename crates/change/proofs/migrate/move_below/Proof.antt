@@ -10,7 +10,7 @@ move-below-spec = tie.close (tie.spec
     (λ c κs. search needs)  -- going-requires
     (λ c. search needs)  -- same-length
     (λ c. search (below-exits, needs))  -- returns
-    (λ c κs. ((search needs, search needs, search needs, search needs, search needs), (search needs, (search (below-exits, needs), search needs))))  -- move-at-requires
+    (λ c κs. ((search needs, search needs, search needs, search needs), (search needs, (search needs, (search (below-exits, needs), search needs)))))  -- move-at-requires
     (λ c. search needs)  -- same-length-2
     (λ c. search needs)  -- same-length-3
     (λ c. search (below-exits, needs))  -- returns-2

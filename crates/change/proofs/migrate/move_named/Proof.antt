@@ -10,7 +10,7 @@ move-named-spec = tie.close (tie.spec
     (λ c. search needs)  -- same-length
     (λ c. search (named-exits, needs))  -- returns
     (λ c κs. search needs)  -- read-node-requires
-    (λ c κs. ((search needs, search needs, search needs, search needs, search needs), (search (named-small, needs), search (named-whole, needs))))  -- move-if-requires
+    (λ c κs. ((search needs, search needs, search needs, search needs), (search needs, (search (named-small, needs), search (named-whole, needs)))))  -- move-if-requires
     (λ c. search needs)  -- same-length-2
     (λ c. search needs)  -- same-length-3
     (λ c. search (named-exits, needs))  -- returns-2

@@ -5,7 +5,7 @@ use Rattle.change.proofs.migrate.move_root.Tie as tie
 
 pub move-root-spec : {M : Type 1} → statement M
 move-root-spec = tie.close (tie.spec
-    (λ c κs. ((search needs, search needs, search needs, search needs, search needs), search needs))  -- move-to-requires
+    (λ c κs. ((search needs, search needs, search needs, search needs), (search needs, search needs)))  -- move-to-requires
     (λ c κs. search needs)  -- going-requires
     (λ c. search needs)  -- same-length
     (λ c. search needs)  -- same-length-2

@@ -5,7 +5,7 @@ use Rattle.change.proofs.migrate.take_place.Tie as tie
 
 pub take-place-spec : {M : Type 1} → statement M
 take-place-spec = tie.close (tie.spec
-    (λ c κs. search needs)  -- take-on-requires
+    (λ c κs. (search needs, ((search needs, search needs), search needs)))  -- take-on-requires
     (λ c κs. search needs)  -- going-requires
     (λ c. search needs)  -- same-length
     (λ c. search needs)  -- same-length-2

@@ -16,5 +16,5 @@ collapse-spec = tie.close (tie.spec
     (λ c κs. search needs)  -- halted-requires-2
     (λ c. search needs)  -- same-length-3
     (λ c. search needs)  -- same-length-4
-    (λ c. let p = c .before .before .before .before .before .before .before .before .before .before .before .before .before .before .before .before .before .before .before .before .before .pre in collapse-ends _ _ _ _ _ _ _ _ _ _ _ _ (c .before .before .before .before .before .before .before .before .before .before .before .before .before .before .before .release .ensures) _ (c .before .before .before .before .before .before .before .before .before .before .going .ensures) _ _ _ _ (search needs) (search (p, needs)) (search (p, needs)) (c .before .before .before .before .before .before .before .write-node .ensures) (c .before .before .before .answers .ensures) (search needs))  -- returns-2
+    (λ c. let p = c .before .before .before .before .before .before .before .before .before .before .before .before .before .before .before .before .before .before .before .before .before .pre in collapse-ends _ _ _ _ _ _ _ _ _ _ _ _ (c .before .before .before .before .before .before .before .before .before .before .before .before .before .before .before .release .ensures) _ (c .before .before .before .before .before .before .before .before .before .before .going .ensures) _ _ _ _ (search needs) (search (p, needs)) (c .before .before .before .before .before .before .before .write-node .ensures) (c .before .before .before .answers .ensures) (search needs))  -- returns-2
     )

@@ -17,7 +17,7 @@ neighbour-spec = tie.close (tie.spec
     (λ c. search needs)  -- same-length
     (λ c. search needs)  -- same-length-2
     (λ c. let p = c .before .before .before .before .before .before .before .before .before .before .before .before .before .before .before .before .before .pre in turn-stops _ _ _ _ _ _ _ (search (p, needs)) _ (c .before .before .before .before .before .before .before .before .before .before .beside .ensures) _ (c .before .before .before .before .before .before .before .before .before .far-side .ensures) (search needs) _ _ _ _ _ _ _ (c .before .before .before .before .before .see-child .ensures) _ (c .before .before .going .ensures) _ (search needs) (search needs))  -- returns-3
-    (λ c κs. let p = c .before .before .before .before .before .before .before .before .before .before .before .before .before .before .before .before .before .before .before .pre in ((search (p, needs), search (p, needs), search (p, needs), search needs, search (p, needs)), (met _ _ _ _ _ _ _ _ _ _ _ _ _ (p .1 .0) (c .before .before .before .before .before .before .before .before .before .before .before .before .beside .ensures) (c .before .before .before .before .before .before .before .before .before .before .before .far-side .ensures) (c .before .before .before .before .before .before .before .see-child .ensures) (c .before .before .before .before .going .ensures) (search needs), (search (neighbour-exits, p, needs), (far-small _ _ _ _ _ _ _ _ _ _ (c .before .before .before .before .before .before .before .see-child .ensures) (c .before .before .before .before .going .ensures) (search needs), search (p, needs))))))  -- even-out-requires
+    (λ c κs. let p = c .before .before .before .before .before .before .before .before .before .before .before .before .before .before .before .before .before .before .before .pre in ((search (p, needs), search (p, needs), search needs, search (p, needs)), (met _ _ _ _ _ _ _ _ _ _ _ _ _ (p .1 .0) (c .before .before .before .before .before .before .before .before .before .before .before .before .beside .ensures) (c .before .before .before .before .before .before .before .before .before .before .before .far-side .ensures) (c .before .before .before .before .before .before .before .see-child .ensures) (c .before .before .before .before .going .ensures) (search needs), (search (neighbour-exits, p, needs), (far-small _ _ _ _ _ _ _ _ _ _ (c .before .before .before .before .before .before .before .see-child .ensures) (c .before .before .before .before .going .ensures) (search needs), search (p, needs))))))  -- even-out-requires
     (λ c. search needs)  -- same-length-3
     (λ c. search needs)  -- same-length-4
     (λ c. let p = c .before .before .before .before .before .before .before .before .before .before .before .before .before .before .before .before .before .before .before .before .before .before .before .before .pre in turned _ _ _ _ _ _ _ (search (p, needs)) _ (c .before .before .before .before .before .before .before .before .before .before .before .before .before .before .before .before .before .beside .ensures) _ (c .before .before .before .before .before .before .before .before .before .before .before .before .before .before .before .before .far-side .ensures) (search needs) _ _ _ _ _ _ _ (c .before .before .before .before .before .before .before .before .before .before .before .before .see-child .ensures) _ (c .before .before .before .before .before .before .before .before .before .going .ensures) _ _ _ (search needs) (search (p, needs)) (c .before .before .before .before .even-out .ensures))  -- returns-4

@@ -1,18 +1,17 @@
 use mathlib.Core.List.{[]}
 use Prim.Native.Nat.{_-_}
 use borrow.Author.Needs.{needs}
-use Rattle.client.specs.Record.{sizes}
 use Rattle.client.specs.Sets.{held}
 use Rattle.change.specs.Laws.Up.{Rising, rise-exits}
 use Rattle.change.proofs.up.rise.Statement.{statement}
 use Rattle.change.proofs.up.rise.Tie as tie
 
 abbrev Inv-loop : tie.InvT-loop
-Inv-loop part servers slots own₀ used₀ top leaf a b path name₀ n₀ level₀ own used name n level =
-    Rising (sizes servers slots) (held part) own₀ used₀ (a, b, []) top path leaf n₀ name n level own used
+Inv-loop part slots own₀ used₀ top leaf a b path name₀ n₀ level₀ own used name n level =
+    Rising slots (held part) own₀ used₀ (a, b, []) top path leaf n₀ name n level own used
 
 abbrev μ-loop : tie.MeasureT-loop
-μ-loop part servers slots own₀ used₀ top leaf a b path name₀ n₀ level₀ own used name n level = top - level
+μ-loop part slots own₀ used₀ top leaf a b path name₀ n₀ level₀ own used name n level = top - level
 
 pub rise-spec : {M : Type 1} → statement M
 rise-spec = tie.close (tie.spec

@@ -8,7 +8,7 @@ walk-spec = tie.close (tie.spec
     (λ c κs. search needs)  -- moves-requires
     (λ c κs. search needs)  -- get-field-requires
     (λ c κs. search needs)  -- get-field-requires-2
-    (λ c κs. search needs)  -- migrate-requires
+    (λ c κs. search (by-operation, needs))  -- migrate-requires
     (λ c. search needs)  -- same-length
     (λ c. search needs)  -- same-length-2
     (λ c. search (by-operation, needs))  -- returns

@@ -9,10 +9,10 @@ use Rattle.client.proofs.commit.homes.Statement.{statement}
 use Rattle.client.proofs.commit.homes.Tie as tie
 
 abbrev Inv-loop : tie.InvT-loop
-Inv-loop part servers n set₀ i₀ set i = (i ≤ n) × (n ≤ 96) × (n ≡ count (held part) Reads) × (set ≡ called-homes (held part) servers i)
+Inv-loop part n set₀ i₀ set i = (i ≤ n) × (n ≤ 96) × (n ≡ count (held part) Reads) × (set ≡ called-homes (held part) i)
 
 abbrev μ-loop : tie.MeasureT-loop
-μ-loop part servers n set₀ i₀ set i = n - i
+μ-loop part n set₀ i₀ set i = n - i
 
 pub homes-spec : {M : Type 1} → statement M
 homes-spec = tie.close (tie.spec

@@ -5,8 +5,9 @@ use Rattle.client.proofs.commit.participants.Tie as tie
 
 pub participants-spec : {M : Type 1} → statement M
 participants-spec = tie.close (tie.spec
-    (λ c κs. search needs)  -- one-calls-all-requires
-    (λ c κs. search needs)  -- all-servers-requires
+    (λ c κs. search needs)  -- all-take-part-requires
+    (λ c κs. search needs)  -- states-read-requires
+    (λ c κs. search needs)  -- present-requires
     (λ c. search (taking-all, needs))  -- returns
     (λ c κs. search needs)  -- homes-requires
     (λ c. search (taking-homes, needs))  -- returns-2

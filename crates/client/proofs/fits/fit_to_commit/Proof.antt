@@ -13,4 +13,6 @@ fit-to-commit-spec = tie.close (tie.spec
     (λ c. search (rule-exits, needs))  -- returns-3
     (λ c κs. search needs)  -- all-read-requires
     (λ c. search (rule-exits, needs))  -- returns-4
+    (λ c κs. search needs)  -- servers-known-requires
+    (λ c. search (rule-exits, needs))  -- returns-5
     )

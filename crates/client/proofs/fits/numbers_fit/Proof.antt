@@ -4,18 +4,16 @@ use Rattle.client.specs.Laws.Commit.{Sofar, so-none, so-next, so-all, so
 use Rattle.client.specs.Sets.{held, count}
 use Rattle.client.specs.Fits.{number-fits}
 use Rattle.client.specs.Layout.{limit}
-use Rattle.client.specs.Record.{sizes}
 use Rattle.client.specs.Laws.Fits.{too-many, number-asked, numbers-asked}
 use borrow.Author.Needs.{needs}
-use Rattle.client.specs.Laws.Fits.{fit-exits}
 use Rattle.client.proofs.fits.numbers_fit.Statement.{statement}
 use Rattle.client.proofs.fits.numbers_fit.Tie as tie
 
 abbrev Inv-loop : tie.InvT-loop
-Inv-loop part servers slots set n i₀ i = (n ≤ limit set) × (n ≡ count (held part) set) × Sofar (number-fits (sizes servers slots) (held part) set) n i
+Inv-loop part slots set n i₀ i = (n ≤ limit set) × (n ≡ count (held part) set) × Sofar (number-fits slots (held part) set) n i
 
 abbrev μ-loop : tie.MeasureT-loop
-μ-loop part servers slots set n i₀ i = n - i
+μ-loop part slots set n i₀ i = n - i
 
 pub numbers-fit-spec : {M : Type 1} → statement M
 numbers-fit-spec = tie.close (tie.spec

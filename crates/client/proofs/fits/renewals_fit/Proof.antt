@@ -3,18 +3,16 @@ use mathlib.Core.Path.{_≡_}
 use Rattle.client.specs.Laws.Commit.{Sofar, so-none, so-next, so-all, so-fails}
 use Rattle.client.specs.Sets.{held, count}
 use Rattle.client.specs.declared.part.Set.the-variants.{Writes}
-use Rattle.client.specs.Record.{sizes}
 use Rattle.client.specs.Fits.{renewal-fits}
 use borrow.Author.Needs.{needs}
-use Rattle.client.specs.Laws.Fits.{fit-exits}
 use Rattle.client.proofs.fits.renewals_fit.Statement.{statement}
 use Rattle.client.proofs.fits.renewals_fit.Tie as tie
 
 abbrev Inv-loop : tie.InvT-loop
-Inv-loop part servers slots n i₀ i = (n ≤ 48) × (n ≡ count (held part) Writes) × Sofar (renewal-fits (sizes servers slots) (held part)) n i
+Inv-loop part slots n i₀ i = (n ≤ 48) × (n ≡ count (held part) Writes) × Sofar (renewal-fits slots (held part)) n i
 
 abbrev μ-loop : tie.MeasureT-loop
-μ-loop part servers slots n i₀ i = n - i
+μ-loop part slots n i₀ i = n - i
 
 pub renewals-fit-spec : {M : Type 1} → statement M
 renewals-fit-spec = tie.close (tie.spec

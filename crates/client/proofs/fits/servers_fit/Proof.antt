@@ -1,6 +1,3 @@
-use Prim.Native.Nat.{_<_}
-use native.Mathlib.Omega.{arith}
-use lib.Pow.{pow-lt, pow-pos}
 use Rattle.client.specs.Laws.Fits.{fit-exits}
 use borrow.Author.Needs.{needs}
 use Rattle.client.proofs.fits.servers_fit.Statement.{statement}
@@ -9,7 +6,5 @@ use Rattle.client.proofs.fits.servers_fit.Tie as tie
 pub servers-fit-spec : {M : Type 1} → statement M
 servers-fit-spec = tie.close (tie.spec
     (λ c κs. search needs)  -- get-field-requires
-    (λ c. search needs)  -- shl-result
-    (λ c. let h : c .before .before .args .servers < 64 = omega arith in omega (arith, pow-lt {j = 64} h, pow-pos (c .before .before .args .servers)))  -- sub-result
     (λ c. search (fit-exits, needs))  -- returns
     )

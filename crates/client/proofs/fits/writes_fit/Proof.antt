@@ -3,19 +3,17 @@ use mathlib.Core.Path.{_≡_}
 use Rattle.client.specs.Laws.Commit.{Sofar, so-none, so-next, so-all, so-fails}
 use Rattle.client.specs.Sets.{held, count}
 use Rattle.client.specs.declared.part.Set.the-variants.{Writes}
-use Rattle.client.specs.Record.{sizes}
 use Rattle.client.specs.Fits.{write-fits}
 use Rattle.client.specs.Laws.Fits.{writes-all}
 use borrow.Author.Needs.{needs}
-use Rattle.client.specs.Laws.Fits.{fit-exits}
 use Rattle.client.proofs.fits.writes_fit.Statement.{statement}
 use Rattle.client.proofs.fits.writes_fit.Tie as tie
 
 abbrev Inv-loop : tie.InvT-loop
-Inv-loop part servers slots server n i₀ i = (n ≤ 48) × (n ≡ count (held part) Writes) × Sofar (write-fits (sizes servers slots) (held part) server) n i
+Inv-loop part slots server n i₀ i = (n ≤ 48) × (n ≡ count (held part) Writes) × Sofar (write-fits slots (held part) server) n i
 
 abbrev μ-loop : tie.MeasureT-loop
-μ-loop part servers slots server n i₀ i = n - i
+μ-loop part slots server n i₀ i = n - i
 
 pub writes-fit-spec : {M : Type 1} → statement M
 writes-fit-spec = tie.close (tie.spec

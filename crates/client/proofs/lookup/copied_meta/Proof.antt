@@ -10,7 +10,7 @@ copied-meta-spec = tie.close (tie.spec
     (λ c. search (meta-lacking, needs))  -- returns
     (λ c κs. search needs)  -- get-field-requires-2
     (λ c κs. search needs)  -- get-field-requires-3
-    (λ c κs. search needs)  -- single-requires
+    (λ c κs. search needs)  -- metadata-requires
     (λ c κs. search needs)  -- copy-requires
     (λ c. search (meta-there, needs))  -- returns-2
     )

@@ -14,6 +14,6 @@ meta-source-spec = tie.close (tie.spec
     (λ c. search (short-exits, needs))  -- returns-2
     (λ c κs. search needs)  -- get-field-requires-2
     (λ c κs. search needs)  -- get-field-requires-3
-    (λ c κs. search needs)  -- copied-short-requires
+    (λ c κs. search needs)  -- copied-metadata-requires
     (λ c. search (short-exits, needs))  -- returns-3
     )

@@ -7,5 +7,6 @@ pub short-at-spec : {M : Type 1} → statement M
 short-at-spec = tie.close (tie.spec
     (λ c κs. search needs)  -- version-at-requires
     (λ c κs. search needs)  -- slot-at-requires
+    (λ c κs. search needs)  -- slot-at-requires-2
     (λ c. search (short-read, needs))  -- returns
     )

@@ -1,16 +1,15 @@
 use Prim.Native.Nat.{_-_, _≤_}
 use Rattle.client.specs.Laws.Record.{ThereYet}
-use Rattle.client.specs.Record.{sizes}
 use borrow.Author.Needs.{needs}
 use Rattle.client.specs.Laws.Record.{whole-exits}
 use Rattle.client.proofs.range.children_there.Statement.{statement}
 use Rattle.client.proofs.range.children_there.Tie as tie
 
 abbrev Inv-loop : tie.InvT-loop
-Inv-loop servers slots children count i₀ i = (count ≤ 15) × ThereYet (sizes servers slots) children count i
+Inv-loop slots children count i₀ i = (count ≤ 15) × ThereYet slots children count i
 
 abbrev μ-loop : tie.MeasureT-loop
-μ-loop servers slots children count i₀ i = count - i
+μ-loop slots children count i₀ i = count - i
 
 pub children-there-spec : {M : Type 1} → statement M
 children-there-spec = tie.close (tie.spec

@@ -10,6 +10,7 @@ renew-meta-spec = tie.close (tie.spec
     (λ c. search needs)  -- enum-known-at
     (λ c κs. (search (found-inside, needs), search needs, search needs, search needs))  -- item-word-requires
     (λ c κs. search needs)  -- new-version-requires
+    (λ c κs. (search (found-inside, needs), search needs, search needs, search needs))  -- item-word-requires-2
     (λ c. search needs)  -- slice-aggregate-set-fields
     (λ c κs. search needs)  -- set-fields-requires
     (λ c. search needs)  -- enum-told

@@ -1,4 +1,3 @@
-use Rattle.server.specs.Laws.Fresh.{first-node-valid, first-flag-valid}
 use Rattle.engine.specs.Laws.Open.{made-new}
 use borrow.Author.Needs.{needs}
 use Rattle.engine.proofs.open.make_new.Statement.{statement}
@@ -9,8 +8,7 @@ make-new-spec = tie.close (tie.spec
     (λ c κs. search needs)  -- words-for-requires
     (λ c κs. search needs)  -- fill-words-requires
     (λ c κs. search needs)  -- put-head-requires
-    (λ c κs. search (first-node-valid, first-flag-valid, needs))  -- put-first-requires
-    (λ c κs. search (first-node-valid, first-flag-valid, needs))  -- put-first-requires-2
+    (λ c κs. search needs)  -- make-servers-requires
     (λ c. search needs)  -- same-length
     (λ c. search (made-new, needs))  -- returns
     )

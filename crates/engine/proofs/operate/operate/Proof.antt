@@ -21,5 +21,5 @@ operate-spec = tie.close (tie.spec
     (λ c. search needs)  -- same-length-4
     (λ c. let u = c .before .before .change .ensures in (u .0, unlisted-output _ _ _ _ (u .1)))  -- returns-3
     (λ c. search needs)  -- same-length-5
-    (λ c. none-unknown _ _ _ _ (search needs) (c .before .before .waiting-at .ensures) (search needs))  -- returns-4
+    (λ c. let a = c .before .before .before .before .before .before .args in none-unknown (a .sizes) _ (a .client) _ (search needs) (c .before .before .waiting-at .ensures) (search needs))  -- returns-4
     )

@@ -9,7 +9,7 @@ in-store-spec = tie.close (tie.spec
     (λ c κs. search needs)  -- refusal-requires
     (λ c. search needs)  -- same-length
     (λ c. is-refused _ _ _ _ (c .before .refusal .ensures) _ (search needs))  -- returns
-    (λ c κs. record { store = search needs; client = search (client-there, needs) })  -- short-output-requires
+    (λ c κs. (search needs, search (client-there, needs)))  -- short-output-requires
     (λ c. search needs)  -- same-length-2
     (λ c. is-short _ _ _ _ (c .before .before .before .before .refusal .ensures) _ _ (search needs) (search needs) _ (c .before .short-output .ensures) (search needs))  -- returns-2
     (λ c κs. search needs)  -- kind-of-requires

@@ -11,7 +11,7 @@ use Rattle.kinds.proofs.abort.unlock_everywhere.Statement.{statement}
 use Rattle.kinds.proofs.abort.unlock_everywhere.Tie as tie
 
 abbrev Inv-loop : tie.InvT-loop
-Inv-loop mem₀ sizes client prepared n s₀ mem s = (s ≤ n) × (length mem ≡ length mem₀) × (n ≡ sizes .servers) × (prepared ≡ of-client sizes (view mem₀) client (field 6)) × FreedUpto sizes client prepared s (view mem₀) (view mem)
+Inv-loop mem₀ sizes client prepared n s₀ mem s = (s ≤ n) × (length mem ≡ length mem₀) × (n ≡ 8) × (prepared ≡ of-client sizes (view mem₀) client (field 6)) × FreedUpto sizes client prepared s (view mem₀) (view mem)
 
 abbrev μ-loop : tie.MeasureT-loop
 μ-loop mem₀ sizes client prepared n s₀ mem s = n - s

@@ -13,7 +13,7 @@ use Rattle.kinds.proofs.fits.servers_unlock.Statement.{statement}
 use Rattle.kinds.proofs.fits.servers_unlock.Tie as tie
 
 abbrev Inv-loop : tie.InvT-loop
-Inv-loop mem sizes client prepared n s₀ s = (s ≤ n) × (n ≡ sizes .servers) × (prepared ≡ of-client sizes (view mem) client (field 6)) × (all-below s (unlocks-at sizes (view mem) client prepared) ≡ true)
+Inv-loop mem sizes client prepared n s₀ s = (s ≤ n) × (n ≡ 8) × (prepared ≡ of-client sizes (view mem) client (field 6)) × (all-below s (unlocks-at sizes (view mem) client prepared) ≡ true)
 
 abbrev μ-loop : tie.MeasureT-loop
 μ-loop mem sizes client prepared n s₀ s = n - s

@@ -10,6 +10,6 @@ fit-to-apply-too-spec = tie.close (tie.spec
     (λ c. search needs)  -- sub-fit-to-apply-too
     (λ c. search needs)  -- part-fit-to-apply-too-start
     (λ c. search needs)  -- part-fit-to-apply-too-end
-    (λ c κs. (search needs, search needs, search (prepare-back, needs)))  -- fit-to-apply-too-requires
+    (λ c κs. (search needs, search (prepare-back, needs)))  -- fit-to-apply-too-requires
     (λ c. search (own-lent, needs))  -- returns
     )

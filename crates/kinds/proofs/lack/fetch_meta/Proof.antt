@@ -1,22 +1,14 @@
-use mathlib.Core.Path.{refl}
 use borrow.Author.Needs.{needs}
-use Rattle.kinds.specs.Laws.Lack.{fetch-unfit, fetch-aborts, fetch-hands}
+use Rattle.kinds.specs.Laws.Lack.{checking-at, no-source}
 use Rattle.kinds.proofs.lack.fetch_meta.Statement.{statement}
 use Rattle.kinds.proofs.lack.fetch_meta.Tie as tie
 
 pub fetch-meta-spec : {M : Type 1} → statement M
 fetch-meta-spec = tie.close (tie.spec
-    (λ c. search needs)  -- rem-server
-    (λ c κs. search needs)  -- check-all-requires
-    (λ c. search needs)  -- enum-told
-    (λ c. search needs)  -- enum-known-v
-    (λ c κs. search needs)  -- abort-requires
-    (λ c. search needs)  -- enum-told-2
-    (λ c κs. search needs)  -- hand-meta-requires
+    (λ c κs. search needs)  -- metadata-source-requires
     (λ c. search needs)  -- same-length
-    (λ c. let a = c .before .before .before .before .before .before .before .args in fetch-unfit (a .sizes) _ (a .client) _ _ _ refl _ (c .before .before .check-all .ensures) (search needs))  -- returns
+    (λ c. let a = c .before .before .before .before .before .args in no-source (a .sizes) _ (a .client) _ _ (c .before .metadata-source .ensures) (search needs))  -- returns
+    (λ c κs. search (checking-at, needs))  -- fetch-meta-from-requires
     (λ c. search needs)  -- same-length-2
-    (λ c. let a = c .before .before .before .before .before .before .before .before .before .before .before .before .args in fetch-aborts (a .sizes) _ (a .client) _ _ _ refl _ (c .before .before .before .before .before .before .before .check-all .ensures) _ _ _ (search needs) (c .before .before .abort .ensures))  -- returns-2
-    (λ c. search needs)  -- same-length-3
-    (λ c. let a = c .before .before .before .before .before .before .before .before .before .before .before .args in fetch-hands (a .sizes) _ (a .client) _ _ _ refl _ (c .before .before .before .before .before .before .check-all .ensures) _ _ (search needs) (c .before .before .hand-meta .ensures))  -- returns-3
+    (λ c. c .before .before .fetch-meta-from .ensures)  -- returns-2
     )

@@ -1,5 +1,5 @@
 use borrow.Author.Needs.{needs}
-use Rattle.kinds.specs.Laws.Lack.{there-exits}
+use Rattle.kinds.specs.Laws.Servers.{there-exits}
 use Rattle.kinds.proofs.lack.meta_fits.Statement.{statement}
 use Rattle.kinds.proofs.lack.meta_fits.Tie as tie
 

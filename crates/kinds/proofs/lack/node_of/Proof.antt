@@ -1,4 +1,4 @@
-use Rattle.kinds.specs.Laws.Lack.{there-exits}
+use Rattle.kinds.specs.Laws.Servers.{there-exits}
 use borrow.Author.Needs.{needs}
 use Rattle.kinds.proofs.lack.node_of.Statement.{statement}
 use Rattle.kinds.proofs.lack.node_of.Tie as tie

@@ -19,6 +19,7 @@ field-refusal-spec = tie.close (tie.spec
     (λ c. search needs)  -- enum-told-7
     (λ c. search needs)  -- enum-told-8
     (λ c. search needs)  -- enum-told-9
+    (λ c. search needs)  -- enum-told-10
     (λ c. search (kind-fields, needs))  -- returns
     (λ c. search (kind-fields, needs))  -- returns-2
     (λ c. search (kind-fields, needs))  -- returns-3
@@ -28,4 +29,5 @@ field-refusal-spec = tie.close (tie.spec
     (λ c. search (kind-fields, needs))  -- returns-7
     (λ c. search (kind-fields, needs))  -- returns-8
     (λ c. search (kind-fields, needs))  -- returns-9
+    (λ c. search (kind-fields, needs))  -- returns-10
     )

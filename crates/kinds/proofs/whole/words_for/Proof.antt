@@ -1,41 +1,14 @@
-use Prim.Native.Nat.{_*_, _≤_}
-use native.Mathlib.Omega.{arith}
-use Rattle.kinds.specs.Laws.Parts.{few-rows, words-few, server-few, client-few, words-sum, server-sum, client-sum, server-room, client-room}
+use Rattle.kinds.specs.Laws.Parts.{words-few, words-sum}
 use borrow.Author.Needs.{needs}
 use Rattle.kinds.proofs.whole.words_for.Statement.{statement}
 use Rattle.kinds.proofs.whole.words_for.Tie as tie
-use Rattle.kinds.proofs.whole.words_for.Reads as reads
-use Rattle.kinds.proofs.whole.words_for.Lts as lts
-use Rattle.server.proofs.place.part_words.Reads as part-words-reads
-
-product : (c : tie.After-part-words) → c .before .args .sizes .servers * c .part-words .result ≤ 409752
-product c = search (few-rows, needs)
-
--- src/whole.rt:24:25
-part-words-requires : tie.Need-part-words-requires
-part-words-requires c κs = search needs
-
--- src/whole.rt:24:9
-mul-result : tie.Need-mul-result
-mul-result c = omega (arith, product (c .before))
-
--- src/whole.rt:24:5
-add-result : tie.Need-add-result
-add-result c = omega (arith, product (c .before))
-
--- src/whole.rt:24:51
-mul-result-2 : tie.Need-mul-result-2
-mul-result-2 c = search needs
-
--- src/whole.rt:24:5
-add-result-2 : tie.Need-add-result-2
-add-result-2 c = omega (arith, product (c .before .before))
-
--- src/whole.rt:19:1
-returns : tie.Need-returns
-returns c = (search (words-sum, needs), (search needs, search (words-few, needs)))
 
 pub words-for-spec : {M : Type 1} → statement M
-words-for-spec =
-    tie.close
-    (tie.spec part-words-requires mul-result add-result mul-result-2 add-result-2 returns)
+words-for-spec = tie.close (tie.spec
+    (λ c κs. search needs)  -- part-words-requires
+    (λ c. search needs)  -- mul-result
+    (λ c. search needs)  -- add-result
+    (λ c. search needs)  -- mul-result-2
+    (λ c. search needs)  -- add-result-2
+    (λ c. (search (words-sum, needs), (search needs, search (words-few, needs))))  -- returns
+    )

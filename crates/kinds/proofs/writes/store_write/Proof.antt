@@ -7,6 +7,7 @@ use Rattle.kinds.proofs.writes.store_write.Tie as tie
 pub store-write-spec : {M : Type 1} → statement M
 store-write-spec = tie.close (tie.spec
     (λ c κs. search needs)  -- first-slot-requires
+    (λ c κs. search needs)  -- second-slot-requires
     (λ c κs. search (write-exits, needs))  -- store-metadata-requires
     (λ c. search needs)  -- same-length
     (λ c. search (write-exits, needs))  -- returns

@@ -4,11 +4,8 @@ use Rattle.server.proofs.hand_out.metadata_is_sound.Statement.{statemen
 use Rattle.server.proofs.hand_out.metadata_is_sound.Tie as tie
 
 pub metadata-is-sound-spec : {M : Type 1} → statement M
-metadata-is-sound-spec =
-    tie.close
-    (tie.spec
-    (λ c κs. search (hand-out-exits, needs))
-    (λ c κs. search needs)
-    (λ c κs. search (hand-out-exits, needs))
-    (λ c. search (hand-out-exits, needs))
-    (λ c. search (hand-out-exits, needs)))
+metadata-is-sound-spec = tie.close (tie.spec
+    (λ c κs. search needs)  -- read-metadata-requires
+    (λ c κs. search needs)  -- metadata-fits-requires
+    (λ c. search (hand-out-exits, needs))  -- returns
+    )

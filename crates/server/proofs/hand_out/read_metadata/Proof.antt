@@ -9,4 +9,5 @@ read-metadata-spec =
     (tie.spec
     (λ c κs. search (hand-out-exits, needs))
     (λ c κs. search (hand-out-exits, needs))
+    (λ c κs. search (hand-out-exits, needs))
     (λ c. search (hand-out-exits, needs)))

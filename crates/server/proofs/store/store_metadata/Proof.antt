@@ -10,5 +10,6 @@ store-metadata-spec =
     (λ c κs. search (store-exits, needs))
     (λ c. search needs)
     (λ c κs. search (store-exits, needs))
+    (λ c κs. search (store-exits, needs))
     (λ c. search needs)
     (λ c. search (store-exits, needs)))

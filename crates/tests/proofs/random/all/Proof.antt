@@ -6,10 +6,10 @@ use Rattle.tests.proofs.random.all.Statement.{statement}
 use Rattle.tests.proofs.random.all.Tie as tie
 
 abbrev Inv-loop : tie.InvT-loop
-Inv-loop memory₀ steps₀ i₀ memory steps i = (i ≤ 14) × (length memory ≡ length memory₀)
+Inv-loop memory₀ steps₀ i₀ memory steps i = (i ≤ 15) × (length memory ≡ length memory₀)
 
 abbrev μ-loop : tie.MeasureT-loop
-μ-loop memory₀ steps₀ i₀ memory steps i = 14 - i
+μ-loop memory₀ steps₀ i₀ memory steps i = 15 - i
 
 pub all-spec : {M : Type 1} → statement M
 all-spec =

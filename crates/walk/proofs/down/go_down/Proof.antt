@@ -1,16 +1,15 @@
 use borrow.Author.Needs.{needs}
-use Rattle.client.specs.Record.{sizes}
 use Rattle.client.specs.Sets.{held}
 use Rattle.walk.specs.Laws.Down.{Passing, pass-exits}
 use Rattle.walk.proofs.down.go_down.Statement.{statement}
 use Rattle.walk.proofs.down.go_down.Tie as tie
 
 abbrev Inv-loop : tie.InvT-loop
-Inv-loop part servers slots used₀ key target root first top path₀ name₀ place₀ level₀ used path name place level =
-    Passing part (sizes servers slots) (held part) used₀ key target root first top path name place level used
+Inv-loop part slots used₀ key target root first top path₀ name₀ place₀ level₀ used path name place level =
+    Passing part slots (held part) used₀ key target root first top path name place level used
 
 abbrev μ-loop : tie.MeasureT-loop
-μ-loop part servers slots used₀ key target root first top path₀ name₀ place₀ level₀ used path name place level = level
+μ-loop part slots used₀ key target root first top path₀ name₀ place₀ level₀ used path name place level = level
 
 pub go-down-spec : {M : Type 1} → statement M
 go-down-spec = tie.close (tie.spec

@@ -1,10 +1,8 @@
 use borrow.Author.Needs.{needs}
-use Prim.Native.Nat.{_+_, _≤_}
 use mathlib.Core.Path.{_≡_}
 use lib.ListN.{length}
 use Rattle.memory.specs.Word.{view}
 use Rattle.nodes.specs.Stored.{node-at}
-use Rattle.client.specs.Record.{sizes}
 use Rattle.client.specs.Sets.{held}
 use Rattle.walk.specs.Ask.{Noted, In-part}
 use Rattle.walk.specs.Laws.Down.{Reaching, reach-exits}
@@ -12,11 +10,11 @@ use Rattle.walk.proofs.down.reach.Statement.{statement}
 use Rattle.walk.proofs.down.reach.Tie as tie
 
 abbrev Inv-loop : tie.InvT-loop
-Inv-loop part servers slots used₀ key first place₀ level₀ used place level =
-    Reaching (sizes servers slots) (held part) used₀ key (node-at (view part) first) (node-at (view part) place) level used × In-part place × Noted (held part) used × (length used ≡ length used₀)
+Inv-loop part slots used₀ key first place₀ level₀ used place level =
+    Reaching slots (held part) used₀ key (node-at (view part) first) (node-at (view part) place) level used × In-part place × Noted (held part) used × (length used ≡ length used₀)
 
 abbrev μ-loop : tie.MeasureT-loop
-μ-loop part servers slots used₀ key first place₀ level₀ used place level = level
+μ-loop part slots used₀ key first place₀ level₀ used place level = level
 
 pub reach-spec : {M : Type 1} → statement M
 reach-spec = tie.close (tie.spec

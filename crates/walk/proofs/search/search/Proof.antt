@@ -1,16 +1,15 @@
 use Prim.Native.Nat.{_-_}
 use borrow.Author.Needs.{needs}
-use Rattle.client.specs.Record.{sizes}
 use Rattle.client.specs.Sets.{held}
 use Rattle.walk.specs.Laws.Search.{Seeking, seek-exits}
 use Rattle.walk.proofs.search.search.Statement.{statement}
 use Rattle.walk.proofs.search.search.Tie as tie
 
 abbrev Inv-loop : tie.InvT-loop
-Inv-loop part servers slots own used₀ home slot i₀ used i = Seeking (sizes servers slots) (held part) own used₀ home slot i used
+Inv-loop part slots own used₀ states home n slot i₀ used i = Seeking slots (held part) own used₀ states home n slot i used
 
 abbrev μ-loop : tie.MeasureT-loop
-μ-loop part servers slots own used₀ home slot i₀ used i = 8 - i
+μ-loop part slots own used₀ states home n slot i₀ used i = n - i
 
 pub search-spec : {M : Type 1} → statement M
 search-spec = tie.close (tie.spec

@@ -15,7 +15,7 @@ near-spec = tie.close (tie.spec
     (λ c. search needs)  -- same-length-2
     (λ c. search needs)  -- same-length-3
     (λ c. search (near-exits, needs))  -- returns-2
-    (λ c κs. ((search needs, search (near-exits, needs), search needs), search needs))  -- afresh-requires
+    (λ c κs. ((search (near-exits, needs), search needs), search needs))  -- afresh-requires
     (λ c. search needs)  -- same-length-4
     (λ c. search needs)  -- same-length-5
     (λ c. search (near-exits, needs))  -- returns-3

@@ -1,7 +1,6 @@
 use mathlib.Core.Path.{_≡_}
 use lib.ListN.{length}
 use borrow.Author.Needs.{needs}
-use Rattle.client.specs.Record.{sizes}
 use Rattle.client.specs.Sets.{held}
 use Rattle.walk.specs.Down.{turns-in, Path-in-part}
 use Rattle.walk.specs.Found.{pairs-in, Roomy, to-right}
@@ -11,12 +10,12 @@ use Rattle.walk.proofs.seek.seek.Statement.{statement}
 use Rattle.walk.proofs.seek.seek.Tie as tie
 
 abbrev Inv-loop : tie.InvT-loop
-Inv-loop part servers slots used₀ w found₀ top from child path₀ level₀ name₀ used found path level name =
-    Seeking (sizes servers slots) (held part) used₀ w top (turns-in part path₀) level₀ name₀ (pairs-in found₀) (turns-in part path) level name used (pairs-in found)
+Inv-loop part slots used₀ w found₀ top from child path₀ level₀ name₀ used found path level name =
+    Seeking slots (held part) used₀ w top (turns-in part path₀) level₀ name₀ (pairs-in found₀) (turns-in part path) level name used (pairs-in found)
     × Path-in-part path × Roomy (w .wanted) found × (length found ≡ length found₀)
 
 abbrev μ-loop : tie.MeasureT-loop
-μ-loop part servers slots used₀ w found₀ top from child path₀ level₀ name₀ used found path level name = weight (to-right (w .sought)) top (turns-in part path) level
+μ-loop part slots used₀ w found₀ top from child path₀ level₀ name₀ used found path level name = weight (to-right (w .sought)) top (turns-in part path) level
 
 pub seek-spec : {M : Type 1} → statement M
 seek-spec = tie.close (tie.spec
