@@ -1,7 +1,7 @@
 //! Transactions and steps a second, beside a BTreeMap, SQLite and LMDB in the same run; and how a step's cost grows.
 //!
-//! `bench FOLDER` writes FOLDER/BENCHMARKS.md and FOLDER/step-cost.svg. For callgrind, `bench count STORE WORKLOAD N` runs N transactions, and
-//! `bench kinds WORKLOAD N` does so with a function for each kind of step.
+//! `bench FOLDER` writes FOLDER/BENCHMARKS.md and FOLDER/step-cost.svg. To be counted, `bench count STORE WORKLOAD N` runs N transactions,
+//! `bench kinds WORKLOAD N` does so with a function for each kind of step, and `bench places WAY NODES N` asks N times for the place of a key.
 
 mod btreemap;
 mod growth;
@@ -9,6 +9,7 @@ mod kinds;
 mod lmdb;
 mod measure;
 mod ours;
+mod places;
 mod plot;
 mod report;
 mod servers;
@@ -17,6 +18,7 @@ mod workload;
 
 use gemandrolo::Sizes;
 use measure::{rival, run_some};
+use places::{Questions, WAYS};
 use workload::Workload;
 
 fn main() {
@@ -26,7 +28,10 @@ fn main() {
         [folder] => report::write(folder),
         ["count", store, workload, n] => count(store, named(workload), number(n)),
         ["kinds", workload, n] => kinds::run(named(workload), measure::SMALL_KEYS, number(n)),
-        _ => eprintln!("usage: bench FOLDER, bench count STORE WORKLOAD N, bench kinds WORKLOAD N"),
+        ["places", way, nodes, n] => places(way, nodes, number(n)),
+        _ => eprintln!(
+            "usage: bench FOLDER, bench count STORE WORKLOAD N, bench kinds WORKLOAD N, bench places WAY NODES N"
+        ),
     }
 }
 
@@ -36,6 +41,13 @@ fn named(workload: &str) -> Workload {
 
 fn number(text: &str) -> u64 {
     text.parse().expect("a number")
+}
+
+/// Asks n times for a place, one of the ways, in nodes that are full or of any count.
+fn places(way: &str, nodes: &str, n: u64) {
+    let way = WAYS.iter().find(|w| w.name == way).expect("a way");
+    let questions = Questions::new(nodes == "full");
+    println!("{}", questions.answers(way, n));
 }
 
 /// Fills a small store and runs n transactions with warm copies.

@@ -3,6 +3,7 @@
 use crate::growth;
 use crate::lmdb::Lmdb;
 use crate::measure::{filled, rate, Rate, OTHERS, SMALL_KEYS};
+use crate::places::{Questions, WAYS};
 use crate::plot::{draw, Panel};
 use crate::servers::changes;
 use crate::sqlite::Sqlite;
@@ -35,6 +36,7 @@ pub fn write(folder: &str) {
         text.push_str(&section(title, full, &mut summary));
     }
     text.push_str(&servers());
+    text.push_str(&places());
     let growth = plot();
     let text = text.replace("SUMMARY", &summary.concat()) + &tail();
     std::fs::write(Path::new(folder).join("BENCHMARKS.md"), text)
@@ -205,6 +207,24 @@ fn servers() -> String {
             c.moved,
             c.retire / c.moved.max(1) as u32,
         );
+    }
+    out.push('\n');
+    out
+}
+
+/// What the place of a key takes, in each of the ways.
+fn places() -> String {
+    let mut out = String::from(
+        "## The place of a key\n\n\
+         In one of 64 nodes, at random, for a key that is random or, half the time, one of the node's; two hundred rounds, in which the ways take turns, and the shortest counts. \
+         Counting is what the engine does. Before it branched on each key, and the compiler made a sum of that; the branch that it left was on whether the place is 0, for the yes or no. \
+         The first row is what another compiler may make of that branching: written in Rust, with the jumps held in place. \
+         In full nodes the loop ends alike for each, so what a wrong guess costs there is a jump on a key.\n\n\
+         | | 7 to 14 keys | 14 keys |\n|---|--:|--:|\n",
+    );
+    let [some, full] = [false, true].map(|full| Questions::new(full).times());
+    for (way, (some, full)) in WAYS.iter().zip(some.into_iter().zip(full)) {
+        let _ = writeln!(out, "| {} | {some:.1} ns | {full:.1} ns |", way.name);
     }
     out.push('\n');
     out

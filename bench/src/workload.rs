@@ -143,7 +143,7 @@ fn shared(a: u64, b: u64) -> u64 {
 }
 
 /// A number that looks random (SplitMix64).
-fn scattered(i: u64) -> u64 {
+pub fn scattered(i: u64) -> u64 {
     let z = i.wrapping_add(1).wrapping_mul(0x9e37_79b9_7f4a_7c15);
     let z = (z ^ (z >> 30)).wrapping_mul(0xbf58_476d_1ce4_e5b9);
     let z = (z ^ (z >> 27)).wrapping_mul(0x94d0_49bb_1331_11eb);

@@ -8,9 +8,10 @@ pub mod Name
 -- the bits of words, and the search for a free slot
 pub mod Bits
 pub mod Search
--- a node's lists, the place of a key, what the functions build, nodes as words, ranges, nodes where they stand
+-- a node's lists, the place of a key and counting, what the functions build, nodes as words, ranges, nodes where they stand
 pub mod Node
 pub mod Place
+pub mod Counting
 pub mod Built
 pub mod Stored
 pub mod Range

@@ -14,9 +14,10 @@ pub mod States
 -- vectors of taken flags as words, and as lists of flags
 pub mod Vector
 pub mod Flags
--- a node and its lists; the place of a key, and whether it is there
+-- a node and its lists; the place of a key, and whether it is there; the same by counting
 pub mod Node
 pub mod Place
+pub mod Counting
 -- put in, take out, split, move over, merge
 pub mod Change
 -- a node as 33 words; its ranges

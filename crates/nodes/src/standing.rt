@@ -4,9 +4,11 @@ use memory::read_word;
 ghost use mathlib.Core.Path.{_≡_};
 ghost use Prim.Native.Nat.{_+_, _/_, _<_, _≤_};
 ghost use lib.ListN.{length, getD};
+ghost use Rattle.base.specs.Test.{one-if};
 ghost use Rattle.memory.specs.Word.{view};
 ghost use Rattle.nodes.specs.Stored.{node-at};
 ghost use Rattle.nodes.specs.Place.{place, key-place, Within};
+ghost use Rattle.nodes.specs.Counting.{from-count};
 ghost use Rattle.nodes.specs.Node.{keysOf};
 ghost use Rattle.nodes.specs.Range.{node-in-range};
 ghost use Rattle.nodes.specs.Bounds.{most-children, most-keys, node-words};
@@ -72,7 +74,23 @@ pub struct KeyPlace {
     pub there: bool,
 }
 
-// the number of keys that are not above the key
+// a test as a number, so that what it says is added and not branched on
+pub fn one_if(test: bool) -> usize
+    ensures { λ r. ⌜ r ≡ one-if test ⌝ }
+    ensures small { λ r. ⌜ r ≤ 1 ⌝ }
+{
+    test as usize
+}
+
+// The key at a position: "Key positions count from 1". Before the first stands the count.
+fn key_number(s: &[u8], b: usize, i: usize) -> u64
+    requires { ⌜ (i ≤ most-keys) × (b + node-words ≤ length (now s) / 8) ⌝ }
+    ensures { λ r. ⌜ r ≡ getD (from-count (node-at (view (now (s .entry))) b)) i 0 ⌝ }
+{
+    read_word(s, b + 3 + i)
+}
+
+// the number of keys that are not above the key: "worked out by adding a 0 or 1 for each key"
 fn not_above(s: &[u8], b: usize, key: u64) -> usize
     requires { ⌜ (node-at (view (now s)) b .count ≤ most-keys) × (b + node-words ≤ length (now s) / 8) ⌝ }
     ensures { λ r. ⌜ r ≡ place (keysOf (node-at (view (now (s .entry))) b)) key ⌝ }
@@ -80,17 +98,15 @@ fn not_above(s: &[u8], b: usize, key: u64) -> usize
 {
     let count = count_at(s, b);
     let mut p: usize = 0;
-    let mut i: usize = 0;
-    while i < count {
-        if key_at(s, b, i) <= key {
-            p += 1;
-        }
+    let mut i: usize = 1;
+    while i <= count {
+        p += one_if(key_number(s, b, i) <= key);
         i += 1;
     }
     p
 }
 
-// "The place in a node comes with a yes or no"
+// "The place in a node comes with a yes or no". At place 0 the count is looked at all the same, and says nothing.
 pub fn place_at(s: &[u8], b: usize, key: u64) -> KeyPlace
     requires { ⌜ (node-at (view (now s)) b .count ≤ most-keys) × (b + node-words ≤ length (now s) / 8) ⌝ }
     ensures { λ r. ⌜ r ≡ key-place (keysOf (node-at (view (now (s .entry))) b)) key ⌝ }
@@ -98,14 +114,9 @@ pub fn place_at(s: &[u8], b: usize, key: u64) -> KeyPlace
     ensures within { λ r. ⌜ Within r (node-at (view (now (s .entry))) b .count) ⌝ }
 {
     let place = not_above(s, b, key);
-    if place == 0 {
-        return KeyPlace {
-            place,
-            there: false,
-        };
-    }
+    let same = key_number(s, b, place) == key;
     KeyPlace {
         place,
-        there: key_at(s, b, place - 1) == key,
+        there: (0 < place) & same,
     }
 }

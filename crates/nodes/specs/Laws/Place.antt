@@ -1,62 +1,19 @@
 -- The place of a key in a node, key by key; and the test that keys rise.
 use Prim.Native.Nat.{ℕ, zero, suc, _+_, _-_, _≤_, _<_}
 use mathlib.Core.Path.{_≡_, refl, sym, ap, subst, _∙_}
-use mathlib.Core.List.{List, [], _∷_, _++_}
+use mathlib.Core.List.{List, [], _∷_}
 use mathlib.Core.Bool.{Bool, true, false, _&&_, _||_, true≢false}
 use native.Mathlib.Omega.{arith}
-use native.Mathlib.Numerals.{add-one}
 use native.Mathlib.Decide.{ℕ-discrete, decLt}
 use lib.ListN.{length, take, drop, getD, length-drop}
-use lib.Seq.{take-suc, length-take-le, getD-take, drop-cons}
+use lib.Seq.{length-take-le, getD-take, drop-cons}
 use lib.Dec.{leb, ltb, eqb}
 use borrow.Author.Tests.{le-leb, lt-leb, le-ltb, lt-ltb, eq-eqb, ne-eqb, eqb-true, ltb-true}
-use Rattle.base.specs.Test.{one-if, and-both}
+use Rattle.base.specs.Test.{and-both}
 use Rattle.base.specs.Laws.Test.{one-if-small}
-use Rattle.nodes.specs.declared.node.Node.{Node}
 use Rattle.nodes.specs.declared.standing.KeyPlace.{KeyPlace}
 use Rattle.nodes.specs.Node.{keysOf}
 use Rattle.nodes.specs.Place.{place, there-at, key-place, Within, first-above, rises, has-key, Yes-where-it-is}
-
--- ---- laws of the place
-place-append : (l m : List ℕ) (k : ℕ) → place (l ++ m) k ≡ place l k + place m k
-unfolding place
-place-append [] m k = omega arith
-place-append (x ∷ l) m k = let ih : place (l ++ m) k ≡ place l k + place m k = place-append l m k in omega arith
-
-place-step : (l : List ℕ) (i k : ℕ) → i < length l → place (take (i + 1) l) k ≡ place (take i l) k + one-if (leb (getD l i 0) k)
-unfolding place
-place-step l i k h = rw (add-one, take-suc l i 0 h, place-append) (omega arith)
-
--- the turns of the loop that counts
-pub place-yes : (l : List ℕ) (i n k p q : ℕ) → length l ≡ 14 → n ≤ 14 → i < n → getD l i 0 ≤ k → p ≡ place (take i l) k → q ≡ p + 1 → q ≡ place (take (i + 1) l) k
-place-yes l i n k p q hl hn h t e f = let g : i < length l = omega arith in rw (place-step l i k g, le-leb _ _ t) (omega arith)
-
-pub place-no : (l : List ℕ) (i n k p q : ℕ) → length l ≡ 14 → n ≤ 14 → i < n → k < getD l i 0 → p ≡ place (take i l) k → q ≡ p → q ≡ place (take (i + 1) l) k
-place-no l i n k p q hl hn h t e f = let g : i < length l = omega arith in rw (place-step l i k g, lt-leb _ _ t) (omega arith)
-
--- ---- the ways out of the code that answers
-there-behind : (ks : List ℕ) (key p : ℕ) → (p ≡ 0 → ⊥) → there-at ks key p ≡ eqb (getD ks (p - 1) 0) key
-unfolding there-at
-there-behind ks key zero z = absurd (z refl)
-there-behind ks key (suc i) z = let e : suc i - 1 ≡ i = omega arith in rw e
-
-pub none-within : (p count : ℕ) → p ≤ count → Within (record { place = p; there = false }) count
-none-within p count h = record { most = h; not-zero = λ t. absurd (true≢false (sym t)) }
-
-pub one-within : (p count : ℕ) (t : Bool) → p ≤ count → (p ≡ 0 → ⊥) → Within (record { place = p; there = t }) count
-one-within p count t h z = record { most = h; not-zero = λ _. omega (arith, z) }
-
-module _ (n : Node) (key p : ℕ) (e : p ≡ place (keysOf n) key) where
-  pub no-place : p ≡ 0 → _≡_ {A = KeyPlace} (record { place = p; there = false }) (key-place (keysOf n) key)
-  unfolding key-place there-at
-  no-place z = rw (← e, z)
-
-  pub at-place : (x : ℕ) (t : Bool) → (p ≡ 0 → ⊥) → p ≤ n .count → x ≡ getD (n .keys) (p - 1) 0 → t ≡ eqb x key
-      → _≡_ {A = KeyPlace} (record { place = p; there = t }) (key-place (keysOf n) key)
-  unfolding key-place keysOf
-  at-place x t z h q d =
-      let k : getD (keysOf n) (p - 1) 0 ≡ x = getD-take (n .count) (n .keys) (p - 1) 0 (omega arith) ∙ sym q in
-      rw (← e, there-behind (keysOf n) key p z, k, d)
 
 -- ---- for callers, after a yes
 module _ (p : KeyPlace) (count : ℕ) (h : Within p count) (t : p .there ≡ true) where

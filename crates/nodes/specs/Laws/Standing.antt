@@ -1,6 +1,6 @@
 -- Laws of a node where it stands: which word has which field.
 use mathlib.Core.Path.{_≡_, sym, _∙_}
-use Prim.Native.Nat.{ℕ, _+_, _-_, _/_, _≤_, _<_}
+use Prim.Native.Nat.{ℕ, zero, suc, _+_, _-_, _/_, _≤_, _<_}
 use native.Mathlib.Omega.{arith}
 use mathlib.Core.List.{List}
 use lib.ListN.{length, getD, take, drop, length-drop}
@@ -9,12 +9,10 @@ use Rattle.memory.specs.Word.{view}
 use Rattle.memory.specs.Laws.Word.{view-length}
 use mathlib.Core.Bool.{Bool}
 use Rattle.nodes.specs.declared.node.Node.{Node}
-use Rattle.nodes.specs.Place.{place}
-use Rattle.nodes.specs.Node.{keysOf}
+use Rattle.nodes.specs.Counting.{from-count}
 use Rattle.nodes.specs.Range.{fields-in-range, node-in-range}
 use Rattle.nodes.specs.Stored.{node-of, node-at}
 use Rattle.nodes.specs.Laws.Stored.{Sized, node-sized}
-use Rattle.nodes.specs.Laws.Place.{place-yes, place-no}
 
 module _ (w : List ℕ) (b : ℕ) where
   word-there : (i : ℕ) → i < 33 → getD (take 33 (drop b w)) i 0 ≡ getD w (b + i) 0
@@ -43,6 +41,11 @@ module _ (w : List ℕ) (b : ℕ) where
         let z : b + (4 + i) ≡ b + 4 + i = omega arith in
         e ∙ sym (getD-take 14 (drop 4 (take 33 (drop b w))) i 0 h ∙ getD-drop 4 (take 33 (drop b w)) i 0 ∙ rw z at (word-there (4 + i) (omega arith)))
 
+    pub number-there : (i : ℕ) → i ≤ 14 → r ≡ getD w (b + 3 + i) 0 → r ≡ getD (from-count (node-at w b)) i 0
+    unfolding from-count
+    number-there zero h e = let z : b + 3 + 0 ≡ b + 3 = omega arith in count-there (rw z at e)
+    number-there (suc j) h e = let z : b + 3 + suc j ≡ b + 4 + j = omega arith in key-there j (omega arith) (rw z at e)
+
     pub slot-there : (i : ℕ) → i < 15 → r ≡ getD w (b + 18 + i) 0 → r ≡ getD (node-at w b .slots) i 0
     unfolding node-at node-of
     slot-there i h e =
@@ -58,20 +61,6 @@ pub keys-sized : (s : List ℕ) (b : ℕ) → b + 33 ≤ length s / 8 → length
 keys-sized s b h = standing-sized s b h .keys
 
 -- ---- what was asked of its words one by one, said of the node
-module _ (s : List ℕ) (b : ℕ) (h : b + 33 ≤ length s / 8) (c i x k p q : ℕ) (e : c ≡ node-at (view s) b .count) (f : node-at (view s) b .count ≤ 14) (g : i < c) (d : x ≡ getD (node-at (view s) b .keys) i 0) (a : p ≡ place (take i (node-at (view s) b .keys)) k) where
-  pub counts-one : x ≤ k → q ≡ p + 1 → q ≡ place (take (i + 1) (node-at (view s) b .keys)) k
-  counts-one t r = place-yes (node-at (view s) b .keys) i c k p q (keys-sized s b h) (omega arith) g (rw d at t) a r
-
-  pub counts-none : k < x → q ≡ p → q ≡ place (take (i + 1) (node-at (view s) b .keys)) k
-  counts-none t r = place-no (node-at (view s) b .keys) i c k p q (keys-sized s b h) (omega arith) g (rw d at t) a r
-
-pub place-counted : (n : Node) (c i k p : ℕ) → c ≡ n .count → i ≤ c → c ≤ i → p ≡ place (take i (n .keys)) k → p ≡ place (keysOf n) k
-unfolding keysOf
-place-counted n c i k p e h g q = let z : i ≡ n .count = omega arith in rw (← z) q
-
-pub place-within : (n : Node) (c i p : ℕ) → c ≡ n .count → i ≤ c → p ≤ i → p ≤ n .count
-place-within n c i p e h g = omega arith
-
 pub range-there : (n : Node) (k l v c : ℕ) (r : Bool) → k ≡ n .kind → l ≡ n .level → v ≡ n .version → c ≡ n .count → r ≡ fields-in-range k l v c → r ≡ node-in-range n
 unfolding node-in-range
 range-there n k l v c r a b d e q = rw (← a, ← b, ← d, ← e) q

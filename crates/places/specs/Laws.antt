@@ -1,0 +1,3 @@
+-- Laws and proofs.
+pub mod Branched
+pub mod Asked
