@@ -19,7 +19,7 @@ use walk::take::take_node;
 use walk::walk::{Stop, going};
 
 // Two slots: with Going their names.
-#[derive(Drop)]
+#[derive(Clone, Copy)]
 pub struct Two {
     pub stop: Stop,
     pub left: u64,

@@ -17,7 +17,7 @@ use walk::down::descend;
 use walk::walk::going;
 
 // A leaf's new content, with the answer a: 1 if the key is new.
-#[derive(Drop)]
+#[derive(Clone, Copy)]
 pub struct Paired {
     pub content: Wide,
     pub a: u64,

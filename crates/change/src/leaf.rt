@@ -6,7 +6,7 @@ use walk::down::Descent;
 use walk::walk::Stop;
 
 // With Going: the way down to the leaf, the leaf's new content, and the answer's a once it is written.
-#[derive(Drop)]
+#[derive(Clone, Copy)]
 pub struct Changed {
     pub stop: Stop,
     pub way: Descent,

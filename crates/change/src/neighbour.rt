@@ -20,7 +20,7 @@ use walk::walk::{Stop, going};
 
 // Two neighbours by their names. The left one's number among the children is that of the separator between them; `last` says that
 // the node which turns is the right one.
-#[derive(Drop)]
+#[derive(Clone, Copy)]
 struct Sides {
     at: usize,
     last: bool,

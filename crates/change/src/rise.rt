@@ -12,7 +12,7 @@ use nodes::node::Node;
 use walk::walk::{Stop, node_number};
 
 // What comes of one level. With Going: the new content of the parent; with Answers the operation's writes are all in the lent list.
-#[derive(Drop)]
+#[derive(Clone, Copy)]
 pub struct Risen {
     pub stop: Stop,
     pub up: Wide,

@@ -21,7 +21,7 @@ use walk::operation::Update;
 use walk::walk::{Stop, going, is_answer, node_number};
 
 // With Going more than one object is to be written, and nothing else here counts. With an answer: the one write, if there is one.
-#[derive(Drop)]
+#[derive(Clone, Copy)]
 pub struct Single {
     pub stop: Stop,
     pub written: bool,

@@ -5,7 +5,7 @@ ghost use Rattle.client.specs.Have.{copy, lacking, is_found, is_copied};
 use nodes::node::Node;
 
 // Here: in a set. Copied: a copy. Lacking: to be fetched.
-#[derive(Drop)]
+#[derive(Clone, Copy)]
 pub enum How {
     Here,
     Copied,
@@ -13,21 +13,21 @@ pub enum How {
 }
 
 // With Here and Copied comes the object's record.
-#[derive(Drop)]
+#[derive(Clone, Copy)]
 pub struct Look {
     pub how: How,
     pub node: Node,
 }
 
 // Of a node, where its record stands: from word `at` of the part on.
-#[derive(Drop)]
+#[derive(Clone, Copy)]
 pub struct Stand {
     pub how: How,
     pub at: usize,
 }
 
 // Of the metadata or a flag, its version and its value; of the metadata the servers' states too.
-#[derive(Drop)]
+#[derive(Clone, Copy)]
 pub struct Short {
     pub how: How,
     pub version: u64,

@@ -76,7 +76,7 @@ pub const LAST_NODE_NUMBER: u64 = 8192;
 pub const FIRST_FLAG_NUMBER: u64 = 8193;
 
 // The read set, the write set, and the copies of inner nodes.
-#[derive(Drop)]
+#[derive(Clone, Copy)]
 pub enum Set {
     Reads,
     Writes,

@@ -19,7 +19,7 @@ use server::place::{Place, put};
 use steps::sizes::Sizes;
 
 // Accepted, or the number by which the opening is refused.
-#[derive(Drop)]
+#[derive(Clone, Copy)]
 pub enum Opening {
     Accepted,
     Refused(u64),

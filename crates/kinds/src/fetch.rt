@@ -100,7 +100,7 @@ fn items_found(mem: &[u8], sizes: Sizes, client: usize, server: usize, used: &[u
 }
 
 // What comes of a check: refusal 10, a reason to abort, or the step goes on.
-#[derive(Drop)]
+#[derive(Clone, Copy)]
 pub enum Verdict {
     Unfit,
     Fault(u64),

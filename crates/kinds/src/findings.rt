@@ -18,7 +18,7 @@ use server::object::numbered;
 use steps::sizes::Sizes;
 
 // An object's number with a reason to abort, or 10 for the refusal; 0 is none.
-#[derive(Drop)]
+#[derive(Clone, Copy)]
 pub struct Fault {
     pub number: u64,
     pub reason: u64,

@@ -15,7 +15,7 @@ use nodes::node::Node;
 
 // An object read: metadata, or a node read as inner; its version, or a flag's value; is it written, and as an inner node; is its kind in
 // range, as read and as written?
-#[derive(Drop)]
+#[derive(Clone, Copy)]
 pub struct Item {
     pub number: u64,
     pub inner: bool,
@@ -27,7 +27,7 @@ pub struct Item {
 }
 
 // What the write set says of an object: is it there, as an inner node, with a kind in range?
-#[derive(Drop)]
+#[derive(Clone, Copy)]
 struct Written {
     there: bool,
     inner: bool,

@@ -18,7 +18,7 @@ use server::object::numbered;
 use server::store::{lock, unlock};
 use steps::sizes::Sizes;
 
-#[derive(Drop)]
+#[derive(Clone, Copy)]
 pub enum Change {
     Lock,
     Unlock,

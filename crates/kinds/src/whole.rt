@@ -12,7 +12,7 @@ use server::place::part_words;
 use steps::sizes::Sizes;
 
 // "the length that given sizes call for is a public answer": in bytes, or refused by 2.
-#[derive(Drop)]
+#[derive(Clone, Copy)]
 pub enum Length {
     Bytes(usize),
     Refused(u64),

@@ -22,7 +22,7 @@ use server::store::{store_flag, store_metadata, store_node};
 use steps::sizes::Sizes;
 
 // A write by value: the object's number and record, the version read, and whether it is inner before or after.
-#[derive(Drop)]
+#[derive(Clone, Copy)]
 pub struct Write {
     pub number: u64,
     pub node: Node,

@@ -1,6 +1,6 @@
 -- Blocks of words, nested. A place in a block is a list of numbers, one for each level.
 use Rattle.std.specs.Prelude.{List, [], ◌∷◌, ℕ, zero, suc, ◌+◌, ◌-◌, ◌*◌, ◌<◌}
-use Rattle.std.proofs.Math.Logic.{Dec·and}
+use mathlib.Core.Logic.{Dec.and}
 use Rattle.std.proofs.Math.Decide.{dec_lt}
 
 -- words in nested blocks, which cannot overlap
@@ -56,7 +56,7 @@ decIn (words n) [] = no (λ h. h)
 decIn (words n) (i ∷ []) = dec_lt i n
 decIn (words n) (i ∷ j ∷ p) = no (λ h. h)
 decIn (times n b) [] = no (λ h. h)
-decIn (times n b) (i ∷ p) = Dec·and (dec_lt i n) (decIn b p)
+decIn (times n b) (i ∷ p) = Dec.and (dec_lt i n) (decIn b p)
 decIn (followed_by a b) [] = no (λ h. h)
 decIn (followed_by a b) (zero ∷ p) = decIn a p
 decIn (followed_by a b) (suc i ∷ p) = decIn b (i ∷ p)

@@ -9,7 +9,7 @@ use crate::arrays::{inserted, joined, keys_part, removed, slots_part};
 use crate::node::{Node, slots_beyond};
 
 // A node with room for two neighbours and their separator.
-#[derive(Drop)]
+#[derive(Clone, Copy)]
 pub struct Wide {
     pub kind: u64,
     pub level: u64,
@@ -20,7 +20,7 @@ pub struct Wide {
 }
 
 // Two neighbours and the separator between them.
-#[derive(Drop)]
+#[derive(Clone, Copy)]
 pub struct Halves {
     pub left: Node,
     pub right: Node,

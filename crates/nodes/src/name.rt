@@ -4,7 +4,7 @@ ghost use Rattle.nodes.specs.Name.{name, server_of, slot_of, name_in_store};
 ghost use Rattle.nodes.specs.Bounds.{end_of_names, end_of_slots, most_servers};
 
 // "A node name is server times 1,024 plus slot."
-#[derive(Drop)]
+#[derive(Clone, Copy)]
 pub struct Name {
     pub number: u64,
 }

@@ -6,7 +6,7 @@ ghost use Rattle.nodes.specs.Bounds.{most_children, most_keys};
 
 // "A node has a kind (0 free, 1 leaf, 2 inner), a level, a 32-bit version, at most 14 keys in strictly rising order,
 // and 14 values (leaf) or one child more than keys (inner)."
-#[derive(Drop)]
+#[derive(Clone, Copy)]
 pub struct Node {
     pub kind: u64,
     pub level: u64,

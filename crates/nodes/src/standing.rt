@@ -68,7 +68,7 @@ pub fn in_range_at(s: &[u8], b: usize) -> bool
 }
 
 // The place of a key, and whether the key is there.
-#[derive(Drop)]
+#[derive(Clone, Copy)]
 pub struct KeyPlace {
     pub place: usize,
     pub there: bool,

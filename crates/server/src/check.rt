@@ -13,7 +13,7 @@ use memory::bits;
 
 // The answer of a check, 2 before 1: the object is as it was read; it differs (reason 1); it is locked against the use (reason 2); or a
 // mark is out of range (refusal 10).
-#[derive(Drop)]
+#[derive(Clone, Copy)]
 pub enum Finding {
     Same,
     Differs,

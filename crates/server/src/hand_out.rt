@@ -12,7 +12,7 @@ use nodes::states::metadata_fits;
 use nodes::stored;
 
 // "The metadata (root name and its version)", which "gets each server's state"
-#[derive(Drop)]
+#[derive(Clone, Copy)]
 pub struct Metadata {
     pub root: u64,
     pub version: u64,

@@ -6,7 +6,7 @@ ghost use Rattle.nodes.specs.Bounds.{most_clients};
 use memory::bits;
 
 // What an object is asked for.
-#[derive(Drop)]
+#[derive(Clone, Copy)]
 pub enum Use {
     Fetch,
     Read,

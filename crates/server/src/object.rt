@@ -6,7 +6,7 @@ use crate::place::Place;
 use nodes::name::Name;
 
 // "Objects are the metadata, nodes and flags"
-#[derive(Drop)]
+#[derive(Clone, Copy)]
 pub enum Object {
     Metadata,
     Node(Name),

@@ -8,7 +8,7 @@ ghost use Rattle.nodes.specs.Bounds.{end_of_slots};
 // "The metadata (root name and its version) is on every server", and "gets each server's state". Every server also has a table of versions for all slots
 // .. a node's own version is at its home server. Each slot has a taken flag; a server's flags are its vector." And a lock
 // for every object that the server can check.
-#[derive(Drop)]
+#[derive(Clone, Copy)]
 pub enum Place {
     // the root's name, the metadata's version, the servers' states, and the lock of all three
     Root,

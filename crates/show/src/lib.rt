@@ -24,7 +24,7 @@ const ENDED: u64 = 2;
 
 // How far the input has been read: the line that has begun, what is awaited, whether the line has a byte, and the number of the
 // next step.
-#[derive(Drop)]
+#[derive(Clone, Copy)]
 pub struct Show {
     pub reader: Reader,
     pub stage: u64,
@@ -33,7 +33,7 @@ pub struct Show {
 }
 
 // The state after some input, and the index behind what was printed for it.
-#[derive(Drop)]
+#[derive(Clone, Copy)]
 pub struct Shown {
     pub show: Show,
     pub at: usize,

@@ -4,7 +4,7 @@ ghost use Rattle.steps.specs.Outcome.{line};
 
 // "Outcomes: 0 refused (a number); 1 done; 2 fetched (a 0 metadata, 1 node, 2 vector; b name or server); 3 answered; 4 prepared (a server);
 // 5 decided; 6 applied (a server); 7 committed; 8 aborted (a reason)."
-#[derive(Drop)]
+#[derive(Clone, Copy)]
 pub enum Outcome {
     Refused(u64),
     Done,
@@ -18,7 +18,7 @@ pub enum Outcome {
 }
 
 // The three numbers that stand for an outcome: its own, a and b.
-#[derive(Drop)]
+#[derive(Clone, Copy)]
 pub struct Line {
     pub outcome: u64,
     pub a: u64,

@@ -2,7 +2,7 @@
 use show::Show;
 
 // How far a schedule has been run, and whether all that was printed was expected.
-#[derive(Drop)]
+#[derive(Clone, Copy)]
 struct Run {
     show: Show,
     agrees: bool,

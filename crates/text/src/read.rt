@@ -3,7 +3,7 @@ ghost use Rattle.std.specs.Prelude.{◌≡◌, ◌<◌};
 ghost use Rattle.text.specs.Reader.{start, spoiled, with_digit, ended, next, finish};
 
 // What a line says.
-#[derive(Drop)]
+#[derive(Clone, Copy)]
 pub enum Line {
     Sizes(u64, u64, u64),
     Step(u64, u64, u64, u64, u64, u64),
@@ -12,7 +12,7 @@ pub enum Line {
 
 // What the bytes read so far say: the numbers that a space ended, the value of the digits since, whether there are any, and
 // whether the line can still be good.
-#[derive(Drop)]
+#[derive(Clone, Copy)]
 pub struct Reader {
     pub numbers: [u64; 5],
     pub count: usize,

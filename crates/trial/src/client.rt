@@ -3,7 +3,7 @@ ghost use Rattle.std.specs.Prelude.{◌≤◌};
 
 // The transaction: 0 none, 1 open, 2 committing, 3 decided; whether an operation waits; how many are still to be given; at
 // which servers its prepare, or its apply, has been tried; and how many were given.
-#[derive(Drop)]
+#[derive(Clone, Copy)]
 pub struct Client {
     pub phase: u64,
     pub waits: bool,

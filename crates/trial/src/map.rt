@@ -4,7 +4,7 @@ ghost use Rattle.std.specs.Prelude.{◌<◌, ◌≤◌};
 use crate::rng::shuffled;
 
 // What an operation answers, and how many pairs there are then. Migrate's answer isn't compared. Of a list b stands for its pairs.
-#[derive(Drop)]
+#[derive(Clone, Copy)]
 pub struct Answer {
     pub a: u64,
     pub b: u64,

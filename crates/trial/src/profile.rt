@@ -1,7 +1,7 @@
 // What a random schedule is like.
 
 // How often each operation is drawn.
-#[derive(Drop)]
+#[derive(Clone, Copy)]
 pub struct Mix {
     pub insert: u64,
     pub lookup: u64,
@@ -12,7 +12,7 @@ pub struct Mix {
     pub list: u64,
 }
 
-#[derive(Drop)]
+#[derive(Clone, Copy)]
 pub struct Profile {
     pub servers: usize,
     pub slots: usize,

@@ -60,7 +60,7 @@ pub fn note_answer(
 }
 
 // What a replay came to: the pairs in the map, the answers compared, and those that were wrong.
-#[derive(Drop)]
+#[derive(Clone, Copy)]
 pub struct Replayed {
     pub pairs: usize,
     pub compared: u64,

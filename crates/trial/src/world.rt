@@ -16,7 +16,7 @@ pub const LAST: u64 = 3;
 pub const READ: u64 = 4;
 
 // What came of the steps, by number, which kinds were done, and what came of the decided transactions.
-#[derive(Drop)]
+#[derive(Clone, Copy)]
 pub struct Tally {
     pub steps: u64,
     pub outcomes: [u64; 16],
@@ -30,7 +30,7 @@ pub struct Tally {
 
 // The clients, the one that acted last, a number above all servers that are or were there, the pairs in the map, nodes fetched lately, and the
 // key that was filled in or read last.
-#[derive(Drop)]
+#[derive(Clone, Copy)]
 pub struct World {
     pub clients: [Client; 16],
     pub current: usize,

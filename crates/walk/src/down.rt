@@ -143,7 +143,7 @@ pub fn root(part: &[u8], slots: usize, used: &mut [u64], name: u64) -> Placed
 }
 
 // An inner node on the path, with the number of the child that was followed.
-#[derive(Drop)]
+#[derive(Clone, Copy)]
 pub struct Turn {
     pub name: u64,
     pub at: usize,
@@ -151,7 +151,7 @@ pub struct Turn {
 }
 
 // The same, where the node stands in the part.
-#[derive(Drop)]
+#[derive(Clone, Copy)]
 pub struct Pass {
     pub name: u64,
     pub at: usize,
@@ -159,7 +159,7 @@ pub struct Pass {
 }
 
 // With Going: where the node of the level that was looked for stands, its name, and the inner nodes above it by their levels, up to the root's.
-#[derive(Drop)]
+#[derive(Clone, Copy)]
 pub struct Descent {
     pub stop: Stop,
     pub top: usize,
@@ -169,7 +169,7 @@ pub struct Descent {
 }
 
 // A step down: the child that was followed, its number, its name and where it stands.
-#[derive(Drop)]
+#[derive(Clone, Copy)]
 struct Lower {
     stop: Stop,
     at: usize,
@@ -262,7 +262,7 @@ pub fn go_down(
 }
 
 // The root and its name.
-#[derive(Drop)]
+#[derive(Clone, Copy)]
 pub struct Rooted {
     pub stop: Stop,
     pub name: u64,
@@ -329,7 +329,7 @@ pub fn descend(part: &[u8], slots: usize, used: &mut [u64], key: u64) -> Descent
 }
 
 // Where a leaf stands; without Going nothing does.
-#[derive(Drop)]
+#[derive(Clone, Copy)]
 pub struct Leaf {
     pub stop: Stop,
     pub place: usize,

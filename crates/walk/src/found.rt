@@ -12,7 +12,7 @@ ghost use Rattle.walk.specs.Found.{pushed_pair, Roomy, to_right, start_in, many_
 use nodes::standing::{count_at, key_at, place_at, slot_at};
 
 // The pairs that are sought: those strictly above a key, strictly below it, or not below it.
-#[derive(Drop)]
+#[derive(Clone, Copy)]
 pub enum Sought {
     Higher,
     Lower,
@@ -20,7 +20,7 @@ pub enum Sought {
 }
 
 // Which pairs are sought from which key on, and how many.
-#[derive(Drop)]
+#[derive(Clone, Copy)]
 pub struct Wish {
     pub sought: Sought,
     pub wanted: usize,

@@ -26,7 +26,7 @@ pub fn answers(part: &[u8], used: &mut [u64], a: u64, b: u64) -> Stop
 }
 
 // An answer: a and b.
-#[derive(Drop)]
+#[derive(Clone, Copy)]
 struct Pair {
     a: u64,
     b: u64,

@@ -7,7 +7,7 @@ ghost use Rattle.walk.specs.Operation.{operation_of};
 use client::part::{OP_NUMBER, get_field};
 
 // Operations that only read, and answer with a and b.
-#[derive(Drop)]
+#[derive(Clone, Copy)]
 pub enum Query {
     Lookup,
     Next,
@@ -15,14 +15,14 @@ pub enum Query {
 }
 
 // Operations that may write.
-#[derive(Drop)]
+#[derive(Clone, Copy)]
 pub enum Update {
     Insert,
     Delete,
     Migrate,
 }
 
-#[derive(Drop)]
+#[derive(Clone, Copy)]
 pub enum Operation {
     Read(Query),
     Listing,

@@ -92,7 +92,7 @@ fn passed(part: &[u8], s: usize) -> Stop
 }
 
 // A look at a server: with Going the slot that is chosen there, or none where the server is passed over.
-#[derive(Drop)]
+#[derive(Clone, Copy)]
 struct Chosen {
     stop: Stop,
     found: Found,
@@ -155,7 +155,7 @@ fn look_next(
 }
 
 // A slot looked for: with Going its name.
-#[derive(Drop)]
+#[derive(Clone, Copy)]
 pub struct Taken {
     pub stop: Stop,
     pub name: u64,

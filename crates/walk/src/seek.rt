@@ -51,14 +51,14 @@ fn first_at(right: bool, count: usize) -> usize
 }
 
 // The answer is found, or there is more to read.
-#[derive(Drop)]
+#[derive(Clone, Copy)]
 pub enum Where {
     Finished,
     Next,
 }
 
 // With Next: the child to be read next, its name and its level, with the inner nodes above it.
-#[derive(Drop)]
+#[derive(Clone, Copy)]
 pub struct Ahead {
     pub state: Where,
     pub path: [Pass; 5],
@@ -182,7 +182,7 @@ fn advance(
 }
 
 // A child read, and where it leads.
-#[derive(Drop)]
+#[derive(Clone, Copy)]
 struct Reading {
     stop: Stop,
     ahead: Ahead,

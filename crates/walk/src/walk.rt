@@ -20,7 +20,7 @@ use nodes::node::Node;
 use nodes::stored::read_node;
 
 // How the walk of a plan goes on or ends: a lack is to be fetched, Refused is refusal 10.
-#[derive(Drop)]
+#[derive(Clone, Copy)]
 pub enum Stop {
     Going,
     LacksMeta,
@@ -32,28 +32,28 @@ pub enum Stop {
 }
 
 // With Going: where the node's record stands, from that word of the part on.
-#[derive(Drop)]
+#[derive(Clone, Copy)]
 pub struct Placed {
     pub stop: Stop,
     pub place: usize,
 }
 
 // With Going: the node itself.
-#[derive(Drop)]
+#[derive(Clone, Copy)]
 pub struct Seen {
     pub stop: Stop,
     pub node: Node,
 }
 
 // With Going: 1 for a slot that is taken.
-#[derive(Drop)]
+#[derive(Clone, Copy)]
 pub struct Valued {
     pub stop: Stop,
     pub value: u64,
 }
 
 // With Going: the root's name, and the servers' states.
-#[derive(Drop)]
+#[derive(Clone, Copy)]
 pub struct Told {
     pub stop: Stop,
     pub root: u64,

@@ -8,13 +8,13 @@ use Rattle.memory.specs.Laws.Run.{fill_step, fill_end}
 use Rattle.memory.proofs.fill_words.Statement.{statement}
 use Rattle.memory.proofs.fill_words.Tie as tie
 
-abbrev invariant_loop : tie.invariant-loop
+abbrev invariant_loop : tie.invariant-loop-i
 invariant_loop s₀ at count v i₀ s i = (i ≤ count) × (length s ≡ length s₀) × (view s ≡ sets (view s₀) at (replicate i v))
 
-abbrev decreases_loop : tie.decreases-loop
+abbrev decreases_loop : tie.decreases-loop-i
 decreases_loop s₀ at count v i₀ s i = count - i
 
-loop_again : tie.Need-loop-preserved invariant_loop decreases_loop
+loop_again : tie.Need-loop-i-preserved invariant_loop decreases_loop
 loop_again c = (search rules, search rules, search (fill_step, rules))
 
 returns : tie.Need-returns invariant_loop decreases_loop

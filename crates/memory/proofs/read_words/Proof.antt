@@ -10,15 +10,15 @@ use Rattle.memory.specs.Laws.Run.{read_step}
 use Rattle.memory.proofs.read_words.Statement.{statement}
 use Rattle.memory.proofs.read_words.Tie as tie
 
-abbrev invariant_loop : tie.invariant-loop
+abbrev invariant_loop : tie.invariant-loop-i
 invariant_loop s at out₀ i₀ out i = (i ≤ length out) × (length out ≡ length out₀) × (take i out ≡ take i (drop at (view s)))
 
-abbrev decreases_loop : tie.decreases-loop
+abbrev decreases_loop : tie.decreases-loop-i
 decreases_loop s at out₀ i₀ out i = length out - i
 
-loop_again : tie.Need-loop-preserved invariant_loop decreases_loop
+loop_again : tie.Need-loop-i-preserved invariant_loop decreases_loop
 loop_again c =
-    let l = c.before.before.loop in
+    let l = c.before.before.loop-i in
     let a = c.before.before.before.before.before.args in
     let v = view a.s.now in
     let e : length (drop a.at v) ≡ length v - a.at = length-drop a.at v in (
@@ -30,7 +30,7 @@ loop_again c =
 
 returns : tie.Need-returns invariant_loop decreases_loop
 returns c =
-    let l = c.before.loop in
+    let l = c.before.loop-i in
     let e : l.i ≡ length l.out = omega arith in
     sym (take_all l.i l.out (omega arith)) ∙ l.invariant.2 ∙ rw (e, l.invariant.1)
 

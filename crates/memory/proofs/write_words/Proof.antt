@@ -9,15 +9,15 @@ use Rattle.memory.specs.Laws.Run.{write_step}
 use Rattle.memory.proofs.write_words.Statement.{statement}
 use Rattle.memory.proofs.write_words.Tie as tie
 
-abbrev invariant_loop : tie.invariant-loop
+abbrev invariant_loop : tie.invariant-loop-i
 invariant_loop s₀ at from i₀ s i = (i ≤ length from) × (length s ≡ length s₀) × (view s ≡ sets (view s₀) at (take i from))
 
-abbrev decreases_loop : tie.decreases-loop
+abbrev decreases_loop : tie.decreases-loop-i
 decreases_loop s₀ at from i₀ s i = length from - i
 
-loop_again : tie.Need-loop-preserved invariant_loop decreases_loop
+loop_again : tie.Need-loop-i-preserved invariant_loop decreases_loop
 loop_again c =
-    let l = c.before.before.before.before.before.before.loop in
+    let l = c.before.before.before.before.before.before.loop-i in
     let a = c.before.before.before.before.before.before.before.before.before.args in (
       search rules,
       search rules,
@@ -26,7 +26,7 @@ loop_again c =
 
 returns : tie.Need-returns invariant_loop decreases_loop
 returns c =
-    let l = c.before.loop in
+    let l = c.before.loop-i in
     let a = c.before.before.before.before.args in
     l.invariant.2 ∙ rw (take_all l.i a.from.now (omega arith))
 

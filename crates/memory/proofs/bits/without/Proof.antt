@@ -3,7 +3,7 @@ use borrow.Author.Rules.{rules}
 use Rattle.memory.proofs.bits.without.Statement.{statement}
 use Rattle.memory.proofs.bits.without.Tie as tie
 
-sub_result : tie.Need-overflow-sub-result
+sub_result : tie.Need-overflow_sub-result
 sub_result c = search (above_shifted, rules)
 
 returns : tie.Need-returns

@@ -4,10 +4,10 @@ use Rattle.nodes.specs.Laws.Lists.{Copied, copied_none, copied_more, copied_all}
 use Rattle.nodes.proofs.arrays.blit.Statement.{statement}
 use Rattle.nodes.proofs.arrays.blit.Tie as tie
 
-abbrev invariant_loop : tie.invariant-loop
+abbrev invariant_loop : tie.invariant-loop-i
 invariant_loop dst₀ at src from n i₀ dst i = Copied dst₀ at src from n dst i
 
-abbrev decreases_loop : tie.decreases-loop
+abbrev decreases_loop : tie.decreases-loop-i
 decreases_loop dst₀ at src from n i₀ dst i = n - i
 
 pub blit_spec : {M : Type 1} → statement M

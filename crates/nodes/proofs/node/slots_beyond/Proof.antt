@@ -4,11 +4,11 @@ use Rattle.nodes.specs.Node.{extra}
 use Rattle.nodes.proofs.node.slots_beyond.Statement.{statement}
 use Rattle.nodes.proofs.node.slots_beyond.Tie as tie
 
-returns : tie.Need-returns
+returns : tie.Need-returns-then-kind-eq2
 unfolding extra
 returns c = search (eq-eqb, rules)
 
-returns_2 : tie.Need-returns-2
+returns_2 : tie.Need-returns-else-kind-eq2
 unfolding extra
 returns_2 c = search (ne_eqb, rules)
 

@@ -8,15 +8,15 @@ use Rattle.nodes.specs.Laws.Standing.{keys_sized}
 use Rattle.nodes.proofs.standing.not_above.Statement.{statement}
 use Rattle.nodes.proofs.standing.not_above.Tie as tie
 
-abbrev invariant_loop : tie.invariant-loop
+abbrev invariant_loop : tie.invariant-loop-i
 invariant_loop s b key count p₀ i₀ p i = (p < i) × (i ≤ count + 1) × Counting (node_at (view s) b) key i p
 
-abbrev decreases_loop : tie.decreases-loop
+abbrev decreases_loop : tie.decreases-loop-i
 decreases_loop s b key count p₀ i₀ p i = count + 1 - i
 
-loop_again : tie.Need-loop-preserved invariant_loop decreases_loop
+loop_again : tie.Need-loop-i-preserved invariant_loop decreases_loop
 loop_again c =
-    let a_key : c.before.before.before.loop.i ≤ c.before.before.before.before.count_at.result = omega arith in
+    let a_key : c.before.before.before.loop-i.i ≤ c.before.before.before.before.count_at-count.result = omega arith in
     search (counting_goes_on, keys_sized, a_key, rules)
 
 pub not_above_spec : {M : Type 1} → statement M

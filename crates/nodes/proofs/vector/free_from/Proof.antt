@@ -5,10 +5,10 @@ use Rattle.nodes.specs.Laws.Found.{absent_inside, at_inside}
 use Rattle.nodes.proofs.vector.free_from.Statement.{statement}
 use Rattle.nodes.proofs.vector.free_from.Tie as tie
 
-abbrev invariant_loop : tie.invariant-loop
+abbrev invariant_loop : tie.invariant-loop-w
 invariant_loop slots from words w₀ p₀ w p = Looked words from w p
 
-abbrev decreases_loop : tie.decreases-loop
+abbrev decreases_loop : tie.decreases-loop-w
 decreases_loop slots from words w₀ p₀ w p = 16 - w
 
 pub free_from_spec : {M : Type 1} → statement M

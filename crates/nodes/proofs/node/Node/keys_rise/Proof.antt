@@ -6,17 +6,17 @@ use Rattle.nodes.specs.Laws.Place.{Risen, risen_first, risen_more, not_risen, ri
 use Rattle.nodes.proofs.node.Node.keys_rise.Statement.{statement}
 use Rattle.nodes.proofs.node.Node.keys_rise.Tie as tie
 
-abbrev invariant_loop : tie.invariant-loop
+abbrev invariant_loop : tie.invariant-loop-i
 invariant_loop keys count i₀ i = Risen (take count keys) i
 
-abbrev decreases_loop : tie.decreases-loop
+abbrev decreases_loop : tie.decreases-loop-i
 decreases_loop keys count i₀ i = count - i
 
-returns : tie.Need-returns invariant_loop decreases_loop
+returns : tie.Need-returns-then-keys-i invariant_loop decreases_loop
 unfolding keys_of
 returns c = search (not_risen, rules)
 
-returns_2 : tie.Need-returns-2 invariant_loop decreases_loop
+returns_2 : tie.Need-returns invariant_loop decreases_loop
 unfolding keys_of
 returns_2 c = search (risen_all, rules)
 

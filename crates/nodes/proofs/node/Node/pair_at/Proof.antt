@@ -4,11 +4,11 @@ use Rattle.nodes.specs.Node.{pair_at}
 use Rattle.nodes.proofs.node.Node.pair_at.Statement.{statement}
 use Rattle.nodes.proofs.node.Node.pair_at.Tie as tie
 
-returns : tie.Need-returns
+returns : tie.Need-returns-then-child-self
 unfolding pair_at
 returns c = search (lt-ltb, rules)
 
-returns_2 : tie.Need-returns-2
+returns_2 : tie.Need-returns-else-child-self
 unfolding pair_at
 returns_2 c = search (le-ltb, rules)
 
