@@ -1,7 +1,7 @@
 -- Two neighbours merged: the right one is freed, and the parent goes up without it, or as the root takes over the contents.
 use Rattle.std.specs.Prelude.{◌≡◌, Bool, true, false, ◌&&◌, List, ◌∷◌, ℕ, suc, eqb, get_or}
 use Rattle.nodes.specs.declared.node.Node.{Node}
-use Rattle.nodes.specs.Entries.{entriesOf}
+use Rattle.nodes.specs.Entries.{entries_of}
 use Rattle.operations.specs.Object.{node, Ans, Writes}
 use Rattle.operations.specs.Slot.{release}
 use Rattle.operations.specs.Path.{TreePlan, Branch}
@@ -33,7 +33,7 @@ pub record Neighbours (slots : ℕ) (b : Turn) (s : Sides) : Type 0 where
 
 -- the branch to them, where the parent holds keys from lo on
 abbrev pub pair_in : Turn → Sides → ℕ → Branch
-pair_in b s lo = pair_of b.name s.at (entriesOf b.node lo)
+pair_in b s lo = pair_of b.name s.at (entries_of b.node lo)
 
 -- ---- a root that takes over its only child's contents
 unfoldable pub collapse_plan : Ans → ℕ → ℕ → Node → ℕ → List Branch → Writes → Go → TreePlan
@@ -51,7 +51,7 @@ collapses root count = root && eqb count 1
 unfoldable pub merge_plan : Ans → ℕ → Turn → Sides → Node → ℕ → List Branch → Writes → Go → TreePlan
 merge_plan a l b s one lo fs w go =
     let f = pair_in b s lo in
-    release w s.right (λ w'. merged a l fs go w' f s.left (entriesOf one f.key))
+    release w s.right (λ w'. merged a l fs go w' f s.left (entries_of one f.key))
 
 pub record Merges (slots : ℕ) (m : ClientWord → ℕ) (x u : List ℕ) (root : Bool) (a : Ans) (b : Turn) (s : Sides) (one : Node) (r : Risen) (x' u' : List ℕ) : Type 0 where
   pub raised : (l : ℕ) → b.node.level ≡ suc l → OfLevel l one → Raised slots m x u l root (merge_plan a l b s one) r x' u'

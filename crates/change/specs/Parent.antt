@@ -3,7 +3,7 @@ use Rattle.std.specs.Prelude.{◌≡◌, true, List, [], ◌∷◌, ◌++◌, �
 use Rattle.std.proofs.Math.Decide.{dec_lt}
 use Rattle.base.specs.Test.{ifd}
 use Rattle.nodes.specs.declared.node.Node.{Node}
-use Rattle.nodes.specs.Entries.{entriesOf}
+use Rattle.nodes.specs.Entries.{entries_of}
 use Rattle.nodes.specs.Kept.{Whole}
 use Rattle.operations.specs.Object.{node, Val, no_tree}
 use Rattle.operations.specs.Entry.{Entries, node_value}
@@ -34,7 +34,7 @@ pub record ToParent (slots : ℕ) (m : ClientWord → ℕ) (u : List ℕ) (key t
   pub asks : (k : Cont)
       → walked slots m (at_root top (λ j es. ifd (dec_lt l j) (down (to_level (suc l)) key k j [] top es) (P.fail no_tree))) (used_in u)
       ≡ carry d.stop (used_in u') (λ us. walked slots m
-      (k (suc l) (branches (trail d.path (suc l) (d.top - suc l))) d.name (entriesOf d.node (low (trail d.path (suc l) (d.top - suc l))))) us)
+      (k (suc l) (branches (trail d.path (suc l) (d.top - suc l))) d.name (entries_of d.node (low (trail d.path (suc l) (d.top - suc l))))) us)
   pub noted : Noted m u'
   pub parent : goes d.stop ≡ true → Parent slots l d.name d.node
 
@@ -48,11 +48,11 @@ child_plan slots nm s v up l at es = moved slots nm s v (λ d w. w) (λ d w. P.d
 
 -- "Migrate moves a node .. and changes the parent": the node n of the name nm, child number at of p
 pub record ChildMoved (slots : ℕ) (m : ClientWord → ℕ) (x u : List ℕ) (nm s : ℕ) (n : Node) (up : ℕ) (p : Node) (at : ℕ) (st : Stop) (x' u' : List ℕ) : Type 0 where
-  pub operated : (lo : ℕ) → Operated slots m x u (child_plan slots nm s (value_of (node nm) n) up p.level at (entriesOf p lo)) st x' u'
+  pub operated : (lo : ℕ) → Operated slots m x u (child_plan slots nm s (value_of (node nm) n) up p.level at (entries_of p lo)) st x' u'
 
 -- "isn't met at its level going down from the root by its first key": at the parent
 pub record MovedAt (slots : ℕ) (m : ClientWord → ℕ) (x u : List ℕ) (key nm s : ℕ) (n : Node) (up : ℕ) (p : Node) (st : Stop) (x' u' : List ℕ) : Type 0 where
-  pub operated : (fs : List Branch) (lo : ℕ) → Operated slots m x u (move_at slots nm s (value_of (node nm) n) key p.level fs up (entriesOf p lo)) st x' u'
+  pub operated : (fs : List Branch) (lo : ℕ) → Operated slots m x u (move_at slots nm s (value_of (node nm) n) key p.level fs up (entries_of p lo)) st x' u'
 
 -- as a contract promises it, of the parent that stands at a place of the lent part
 abbrev pub MovesAt : ℕ → LentList → LentList → LentList → ℕ → ℕ → ℕ → Node → ℕ → ℕ → Stop → Type 0

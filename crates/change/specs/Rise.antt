@@ -4,7 +4,7 @@ use Rattle.nodes.specs.declared.node.Node.{Node}
 use Rattle.nodes.specs.declared.change.Wide.{Wide}
 use Rattle.nodes.specs.declared.change.Halves.{Halves}
 use Rattle.nodes.specs.Node.{keys_of, slots_of}
-use Rattle.nodes.specs.Entries.{entriesOf, wide_entries}
+use Rattle.nodes.specs.Entries.{entries_of, wide_entries}
 use Rattle.nodes.specs.Change.{wide}
 use Rattle.nodes.specs.Kept.{Whole, WholeWide}
 use Rattle.operations.specs.Object.{node, Ans, Writes}
@@ -79,7 +79,7 @@ Closes slots part own used plan s = over_lent Closed slots part own used plan s 
 
 -- ---- the node of the name c and the level l whose parent is b, with the entries es lo where it holds keys from lo on
 abbrev pub in_parent : Turn → ℕ → Branch
-in_parent b lo = branch_of b.name b.at (entriesOf b.node lo)
+in_parent b lo = branch_of b.name b.at (entries_of b.node lo)
 
 -- its parent is at hand, and both are in the store
 pub record Under (slots l c : ℕ) (b : Turn) : Type 0 where

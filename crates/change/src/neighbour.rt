@@ -1,6 +1,6 @@
 // A node left with 6 keys turns to a neighbour under the same parent: a key moves over, or the two merge.
 ghost use Rattle.std.specs.Prelude.{◌≡◌, [], true, ◌+◌, ◌<◌, ◌≤◌, ◌-◌};
-ghost use Rattle.nodes.specs.Entries.{entriesOf};
+ghost use Rattle.nodes.specs.Entries.{entries_of};
 ghost use Rattle.client.specs.Record.{in_store};
 ghost use Rattle.walk.specs.Ask.{SmallNode, Rising, over_lent};
 ghost use Rattle.change.specs.Rise.{Under, OfLevel, neighbour_plan, Raises};
@@ -220,7 +220,7 @@ pub fn neighbour(
     requires under { Under slots level name above }
     requires of { OfLevel level n }
     requires lacks { n.count ≤ fewest_keys - 1 }
-    ensures { Raises slots part own used level root (neighbour_plan (a, b, []) level above name (entriesOf n)) result }
+    ensures { Raises slots part own used level root (neighbour_plan (a, b, []) level above name (entries_of n)) result }
 {
     let parent = above.node;
     if parent.count == 0 {

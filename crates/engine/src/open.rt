@@ -2,7 +2,7 @@
 ghost use Rattle.std.specs.Prelude.{◌≡◌, [], ◌/◌, ◌≤◌, length};
 ghost use Rattle.memory.specs.Word.{view};
 ghost use Rattle.layout.specs.Space.{Valid};
-ghost use Rattle.layout.specs.Part.{inPart};
+ghost use Rattle.layout.specs.Part.{in_part};
 ghost use Rattle.nodes.specs.Bounds.{most_servers};
 ghost use Rattle.nodes.specs.States.{first_states};
 ghost use Rattle.server.specs.Layout as Srv;
@@ -37,7 +37,7 @@ fn first_states(servers: usize) -> u64
 // A server's word becomes v.
 fn put_word(mem: &mut [u8], sizes: Sizes, s: usize, place: Place, v: u64)
     requires { AtServer sizes (length mem.old) s × Valid Srv.places (Srv.server_block sizes.slots) place }
-    ensures { InWhole sizes (inPart (server s) (Srv.putStep place v)) mem.old mem.new }
+    ensures { InWhole sizes (in_part (server s) (Srv.put_step place v)) mem.old mem.new }
 {
     let at = 8 * server_at(sizes, s);
     put(&mut mem[at..], sizes.slots, place, v);

@@ -2,7 +2,7 @@
 use Rattle.std.specs.Prelude.{Bool, cond, List, [], ℕ, ◌-◌}
 use Rattle.layout.specs.Space.{Put}
 use Rattle.layout.specs.Step.{Does, silent}
-use Rattle.layout.specs.Part.{inPart}
+use Rattle.layout.specs.Part.{in_part}
 use Rattle.layout.specs.Sweep.{sweep}
 use Rattle.server.specs.declared.place.Place.{Place}
 use Rattle.server.specs.Object.{object_of, Has}
@@ -47,7 +47,7 @@ changes z c s k m =
 
 -- what code did in a server's part of the whole
 abbrev pub Done : Sizes → ℕ → Rule → List ℕ → List ℕ → Type 0
-Done z s f w w' = Does whole (block z) (inPart (server s) f) silent w 0 w'
+Done z s f w w' = Does whole (block z) (in_part (server s) f) silent w 0 w'
 
 -- item i of the read set: its object is one of the store, and its lock is changed
 unfoldable pub Knows : Sizes → List ℕ → ℕ → ℕ → Type 0

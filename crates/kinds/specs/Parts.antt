@@ -8,7 +8,7 @@ use Rattle.steps.specs.Whole.{Allowed, Address, whole, block, words_for, length_
 use Rattle.steps.specs.Refusal.{allowed?}
 use Rattle.server.specs.Object.{Has, object_of}
 use Rattle.layout.specs.Step.{Does, silent}
-use Rattle.layout.specs.Part.{inPart}
+use Rattle.layout.specs.Part.{in_part}
 use Rattle.client.specs.Layout.{ClientWord}
 use Rattle.server.specs.declared.place.Place.{Place}
 use Rattle.memory.specs.Word.{view}
@@ -70,7 +70,7 @@ abbrev pub InWhole : Sizes → ((Address → ℕ) → List (Put Address)) → Li
 InWhole z g b b' = Does whole (block z) g silent (view b) 0 (view b')
 
 abbrev pub InClient : Sizes → ℕ → ((ClientWord → ℕ) → List (Put ClientWord)) → List ℕ → List ℕ → Type 0
-InClient z c g b b' = InWhole z (inPart (client c) g) b b'
+InClient z c g b b' = InWhole z (in_part (client c) g) b b'
 
 abbrev pub InServer : Sizes → ℕ → ((Place → ℕ) → List (Put Place)) → List ℕ → List ℕ → Type 0
-InServer z s g b b' = InWhole z (inPart (server s) g) b b'
+InServer z s g b b' = InWhole z (in_part (server s) g) b b'

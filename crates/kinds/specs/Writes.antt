@@ -55,7 +55,7 @@ pub record Writable (z : Sizes) (m : ClientWord → ℕ) (s i : ℕ) : Type 0 wh
 
 -- a server's part with the bytes b, for so many slots, and a write that may be stored there
 abbrev pub StorableIn : ℕ → ℕ → code.Write → List ℕ → Type 0
-StorableIn slots s w b = (slots ≤ end_of_slots) × Has slots (object_of w.number) × Storable s w × (Srv.partWords slots ≤ length b / 8)
+StorableIn slots s w b = (slots ≤ end_of_slots) × Has slots (object_of w.number) × Storable s w × (Srv.part_words slots ≤ length b / 8)
 
 -- memory with the bytes b, a client, a server, and write i of the client that may be stored there
 abbrev pub WritableIn : Sizes → List ℕ → ℕ → ℕ → ℕ → Type 0

@@ -1,6 +1,6 @@
 // The layout of the whole memory: how long it is, and where each part begins.
 ghost use Rattle.std.specs.Prelude.{◌≡◌, ◌+◌, ◌<◌, ◌≤◌};
-ghost use Rattle.server.specs.Layout.{partWords};
+ghost use Rattle.server.specs.Layout.{part_words};
 ghost use Rattle.steps.specs.Whole.{Allowed, words_for, server_at, client_at};
 ghost use Rattle.kinds.specs.Parts.{length_answer, head_words, most_words};
 ghost use Rattle.client.specs.Layout.{client_length};
@@ -31,7 +31,7 @@ pub fn words_for(sizes: Sizes) -> usize
 pub fn server_at(sizes: Sizes, server: usize) -> usize
     requires { Allowed sizes × (server < most_servers) }
     ensures value { result ≡ server_at sizes server }
-    ensures within { (result ≤ most_words) × (result + partWords sizes.slots ≤ words_for sizes) }
+    ensures within { (result ≤ most_words) × (result + part_words sizes.slots ≤ words_for sizes) }
 {
     8 + server * part_words(sizes.slots)
 }

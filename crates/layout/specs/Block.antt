@@ -1,6 +1,6 @@
 -- Blocks of words, nested. A place in a block is a list of numbers, one for each level.
 use Rattle.std.specs.Prelude.{List, [], ◌∷◌, ℕ, zero, suc, ◌+◌, ◌-◌, ◌*◌, ◌<◌}
-use mathlib.Core.Logic.{Dec.and}
+use mathlib.Core.Logic.Dec
 use Rattle.std.proofs.Math.Decide.{dec_lt}
 
 -- words in nested blocks, which cannot overlap
@@ -50,14 +50,14 @@ step [] = []
 step (i ∷ p) = suc i ∷ p
 
 -- whether a list is a place of the block can be decided
-pub decIn : (b : Block) (p : List ℕ) → Dec (In b p)
+pub dec_in : (b : Block) (p : List ℕ) → Dec (In b p)
 unfolding In
-decIn (words n) [] = no (λ h. h)
-decIn (words n) (i ∷ []) = dec_lt i n
-decIn (words n) (i ∷ j ∷ p) = no (λ h. h)
-decIn (times n b) [] = no (λ h. h)
-decIn (times n b) (i ∷ p) = Dec.and (dec_lt i n) (decIn b p)
-decIn (followed_by a b) [] = no (λ h. h)
-decIn (followed_by a b) (zero ∷ p) = decIn a p
-decIn (followed_by a b) (suc i ∷ p) = decIn b (i ∷ p)
-decIn end p = no (λ h. h)
+dec_in (words n) [] = no (λ h. h)
+dec_in (words n) (i ∷ []) = dec_lt i n
+dec_in (words n) (i ∷ j ∷ p) = no (λ h. h)
+dec_in (times n b) [] = no (λ h. h)
+dec_in (times n b) (i ∷ p) = Dec.and (dec_lt i n) (dec_in b p)
+dec_in (followed_by a b) [] = no (λ h. h)
+dec_in (followed_by a b) (zero ∷ p) = dec_in a p
+dec_in (followed_by a b) (suc i ∷ p) = dec_in b (i ∷ p)
+dec_in end p = no (λ h. h)

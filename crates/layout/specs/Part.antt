@@ -8,5 +8,5 @@ over e [] = []
 over e (put a v ∷ ps) = put (e a) v ∷ over e ps
 
 -- a step of a part, and its answer, as one of the whole
-unfoldable pub inPart : {A B : Type 0} → (A → B) → ((A → ℕ) → List (Put A)) → (B → ℕ) → List (Put B)
-inPart e g m = over e (g (λ a. m (e a)))
+unfoldable pub in_part : {A B : Type 0} → (A → B) → ((A → ℕ) → List (Put A)) → (B → ℕ) → List (Put B)
+in_part e g m = over e (g (λ a. m (e a)))

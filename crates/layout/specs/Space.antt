@@ -4,7 +4,7 @@ use Rattle.std.proofs.Common.{sym, ap, ap₂, ◌∙◌, true≢false, eqb-true,
 use mathlib.Core.HLevel.{Discrete}
 use Rattle.base.specs.Test.{ifd, and_both, not_both}
 use Rattle.base.specs.Update.{upd}
-use Rattle.layout.specs.Block.{Block, In, decIn, offset}
+use Rattle.layout.specs.Block.{Block, In, dec_in, offset}
 
 -- are two places the same; where the numbers of two families differ, this computes
 abbrev pub same : List ℕ → List ℕ → Bool
@@ -81,7 +81,7 @@ module _ {A : Type 0} (C : Coding A) where
     -- whether it has one can be decided
     pub valid? : (a : A) → Dec (Valid a)
     unfolding Valid
-    valid? a = decIn b (C.code a)
+    valid? a = dec_in b (C.code a)
 
     -- the words as a function of addresses. 0 where an address is not valid: no step comes to that, since sizes, client, server and
     -- names are tested before anything there is read

@@ -18,8 +18,8 @@ headed e lo ks = take e (lo ∷ []) ++ ks
 unfoldable pub entries : ℕ → ℕ → List ℕ → List ℕ → List (ℕ × ℕ)
 entries e lo ks ss = zip (headed e lo ks) ss
 
-unfoldable pub entriesOf : Node → ℕ → List (ℕ × ℕ)
-entriesOf n lo = entries (extra n.kind) lo (keys_of n) (slots_of n)
+unfoldable pub entries_of : Node → ℕ → List (ℕ × ℕ)
+entries_of n lo = entries (extra n.kind) lo (keys_of n) (slots_of n)
 
 unfoldable pub wide_entries : Wide → ℕ → List (ℕ × ℕ)
 wide_entries w lo = entries (extra w.kind) lo (wide_keys w) (wide_slots w)

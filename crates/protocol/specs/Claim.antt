@@ -17,7 +17,7 @@ there_now T m s = T.present (m.value s T.meta) s
 
 -- where an object is read: at home, and the metadata at s
 abbrev pub seat : (T : Setting) → T.Server → T.Obj → T.Server
-seat T s o = ifd (T.eqObj o T.meta) s (T.home o)
+seat T s o = ifd (T.eq_obj o T.meta) s (T.home o)
 
 module _ (T : Setting) (Z : Meaning T) where
   open T use {Server, meta}

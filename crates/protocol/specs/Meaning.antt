@@ -21,11 +21,11 @@ pub record Meaning (T : Setting) : Type 1 where
   pub first_holds : HoldsMap T.init first_map
   -- with other servers it is the same tree
   pub alike_holds : (M : T.Obj → T.Val) (m : Map) (v : T.Val) → HoldsMap M m → T.Alike (M T.meta) v
-      → HoldsMap (upd T.eqObj M T.meta v) m
+      → HoldsMap (upd T.eq_obj M T.meta v) m
   -- a plan that has a result over a tree of the map has the map's answer, and its writes make a tree of the next map
   pub sound : (p : T.Op) (M : T.Obj → T.Val) (m : Map) (r : T.Res) → HoldsMap M m → exec (T.plan p) M ≡ gives r
       → (T.compared (T.public p) ≡ true → T.answer_of r ≡ map_answer (T.public p) m)
-      × HoldsMap (λ o. latest T.eqObj (T.writes r) o (M o)) (map_after (T.public p) m)
+      × HoldsMap (λ o. latest T.eq_obj (T.writes r) o (M o)) (map_after (T.public p) m)
 
 -- an operation with its answer, as steps and outcomes show them
 pub record Shown (T : Setting) : Type 0 where

@@ -16,7 +16,7 @@ use Rattle.protocol.specs.Meaning.{shown_of}
 use Rattle.protocol.specs.Machine.{Item, find, says, test, Slot, Copy, Lock, shared, owned, Machine, with_items, with_course, blank, unlocked, first_machine, with_item, seen, turned, with_slot, with_copies}
 
 module _ (T : Setting) where
-  open T use {Obj, Server, Client, Val, eqObj, eqVal, eqServer, eqClient, servers, some_server, clients}
+  open T use {Obj, Server, Client, Val, eq_obj, eq_val, eq_server, eq_client, servers, some_server, clients}
   open T use {home, keeps, inner, by_value, plan, writes, meta, present, Alike, init}
 
   -- ANSWERING: the writes enter the items
@@ -25,8 +25,8 @@ module _ (T : Setting) where
     obj = i.obj;
     old = i.old;
     version = i.version;
-    written = writes? eqObj ws i.obj || i.written;
-    new = latest eqObj ws i.obj i.new;
+    written = writes? eq_obj ws i.obj || i.written;
+    new = latest eq_obj ws i.obj i.new;
   }
 
   abbrev pub answered_slot : Slot T → List (Obj × Val) → Slot T
@@ -40,7 +40,7 @@ module _ (T : Setting) where
   for_all i = i.written && item_inner i
 
   abbrev pub for_home : Server → Item T → Bool
-  for_home s i = not (inner i.obj i.old) && yes? (eqServer s (home i.obj))
+  for_home s i = not (inner i.obj i.old) && yes? (eq_server s (home i.obj))
 
   -- the metadata that was read: "all servers" are those that are there by it
   abbrev pub meta_read : List (Item T) → Val
@@ -65,7 +65,7 @@ module _ (T : Setting) where
 
   -- is it read as an inner node whose home isn't: then what was read was never one tree
   abbrev pub homeless : List (Item T) → Item T → Bool
-  homeless is i = test T (λ j. inner j.obj j.old) is i.obj && (not (yes? (eqObj i.obj meta)) && not (home_there is i))
+  homeless is i = test T (λ j. inner j.obj j.old) is i.obj && (not (yes? (eq_obj i.obj meta)) && not (home_there is i))
 
   -- where all servers take part, the homes of what is outer are among them, or the transaction can't be decided
   abbrev pub homed : List (Item T) → Bool
@@ -80,25 +80,25 @@ module _ (T : Setting) where
   -- PREPARE at s, where l is the lowest participant: the check of an item, by the table, by value or by version
   abbrev pub check : Machine T → Server → Server → Item T → Bool
   check m l s i = cond (inner i.obj i.old)
-      (not (yes? (eqServer l s) || i.written) || yes? (ℕ_discrete (m.table s i.obj) i.version))
-      (not (yes? (eqServer s (home i.obj))) || cond (by_value i.obj)
-      (yes? (eqVal (m.value s i.obj) i.old))
+      (not (yes? (eq_server l s) || i.written) || yes? (ℕ_discrete (m.table s i.obj) i.version))
+      (not (yes? (eq_server s (home i.obj))) || cond (by_value i.obj)
+      (yes? (eq_val (m.value s i.obj) i.old))
       (yes? (ℕ_discrete (m.version s i.obj) i.version)))
 
   -- the locks that an item asks for at s
   abbrev pub to_write : Server → Item T → Bool
-  to_write s i = i.written && (yes? (eqServer s (home i.obj)) || item_inner i)
+  to_write s i = i.written && (yes? (eq_server s (home i.obj)) || item_inner i)
 
   abbrev pub to_read : Server → Server → Item T → Bool
-  to_read l s i = cond (inner i.obj i.old) (yes? (eqServer l s) || i.written) (yes? (eqServer s (home i.obj)))
+  to_read l s i = cond (inner i.obj i.old) (yes? (eq_server l s) || i.written) (yes? (eq_server s (home i.obj)))
 
   -- for writing (w) and for reading (r) nothing is "locked against this use by another client"
   abbrev pub grants : Client → Bool → Bool → Lock T → Bool
-  grants c w r (shared q) = not (w && any (λ d. not (yes? (eqClient d c)) && q d) clients)
-  grants c w r (owned d) = yes? (eqClient d c) || not (w || r)
+  grants c w r (shared q) = not (w && any (λ d. not (yes? (eq_client d c)) && q d) clients)
+  grants c w r (owned d) = yes? (eq_client d c) || not (w || r)
 
   abbrev pub share : Client → Lock T → Lock T
-  share c (shared q) = shared (λ d. yes? (eqClient d c) || q d)
+  share c (shared q) = shared (λ d. yes? (eq_client d c) || q d)
   share c (owned d) = owned d
 
   abbrev pub grant : Client → Bool → Bool → Lock T → Lock T
@@ -109,10 +109,10 @@ module _ (T : Setting) where
   granted_row c w r is locks o = grant c (test T w is o) (test T r is o) (locks o)
 
   abbrev pub granted_at : Machine T → Client → Server → Server → Obj → Lock T
-  granted_at m c s = let y = m.slots c in upd eqServer m.lock s (granted_row c (to_write s) (to_read y.lowest s) y.items (m.lock s))
+  granted_at m c s = let y = m.slots c in upd eq_server m.lock s (granted_row c (to_write s) (to_read y.lowest s) y.items (m.lock s))
 
   abbrev pub prepared_slot : Slot T → Server → Slot T
-  prepared_slot y s = with_course T y y.phase y.participant y.lowest (upd eqServer y.prepared s true) y.applied
+  prepared_slot y s = with_course T y y.phase y.participant y.lowest (upd eq_server y.prepared s true) y.applied
 
   abbrev pub decided_slot : Slot T → Slot T
   decided_slot y = with_course T y decided y.participant y.lowest y.prepared y.applied
@@ -122,16 +122,16 @@ module _ (T : Setting) where
   row is new? given old o = says T (λ i. cond (new? i) (given i) (old o)) (old o) (find T is o)
 
   abbrev pub applied_slot : Slot T → Server → Slot T
-  applied_slot y s = with_course T y y.phase y.participant y.lowest y.prepared (upd eqServer y.applied s true)
+  applied_slot y s = with_course T y y.phase y.participant y.lowest y.prepared (upd eq_server y.applied s true)
 
   -- the next versions are given by n; no version is stored of an object checked by value
   abbrev pub stored_at : (Item T → ℕ) → Machine T → Client → Server → Machine T
   stored_at n m c s = let is = (m.slots c).items in record {
-    slots = upd eqClient m.slots c (applied_slot (m.slots c) s);
-    value = upd eqServer m.value s (row is (λ i. i.written && keeps s i.obj) (λ i. i.new) (m.value s));
-    version = upd eqServer m.version s
+    slots = upd eq_client m.slots c (applied_slot (m.slots c) s);
+    value = upd eq_server m.value s (row is (λ i. i.written && keeps s i.obj) (λ i. i.new) (m.value s));
+    version = upd eq_server m.version s
         (row is (λ i. not (by_value i.obj) && i.written && keeps s i.obj) n (m.version s));
-    table = upd eqServer m.table s (row is for_all n (m.table s));
+    table = upd eq_server m.table s (row is for_all n (m.table s));
     lock = m.lock;
     copy = m.copy;
     said = m.said;
@@ -144,12 +144,12 @@ module _ (T : Setting) where
 
   -- BEGIN, END and ABORT: the slot is blank, and nothing has been said
   abbrev pub cleared : Machine T → Client → Phase → Machine T
-  cleared m c p = turned T m (upd eqClient m.slots c (blank T p)) m.lock (upd eqClient m.said c []) m.log
+  cleared m c p = turned T m (upd eq_client m.slots c (blank T p)) m.lock (upd eq_client m.said c []) m.log
 
   -- LOCKS GIVEN BACK: "Apply writes and unlocks", "An abort unlocks everywhere"
   abbrev pub drop : Client → Lock T → Lock T
-  drop c (shared q) = shared (λ d. not (yes? (eqClient d c)) && q d)
-  drop c (owned d) = cond (yes? (eqClient d c)) (unlocked T) (owned d)
+  drop c (shared q) = shared (λ d. not (yes? (eq_client d c)) && q d)
+  drop c (owned d) = cond (yes? (eq_client d c)) (unlocked T) (owned d)
 
   -- what the lock of o at s may be by the next state: c's part in it goes once c has not prepared there, or has applied there
   pub data Released (m : Machine T) (s : Server) (o : Obj) : Lock T → Type 0 where
@@ -202,16 +202,16 @@ module _ (T : Setting) where
     answers : (c : Client) (e : Entry T) → (m.slots c).phase ≡ opened
         → Asked (plan e.op) (seen T (m.slots c)).read (view T (seen T (m.slots c)))
         → exec (plan e.op) (view T (seen T (m.slots c))) ≡ gives e.result
-        → Move m (turned T m (upd eqClient m.slots c (answered_slot (m.slots c) (writes e.result))) m.lock
-        (upd eqClient m.said c (shown_of T e ∷ m.said c)) m.log)
+        → Move m (turned T m (upd eq_client m.slots c (answered_slot (m.slots c) (writes e.result))) m.lock
+        (upd eq_client m.said c (shown_of T e ∷ m.said c)) m.log)
     commits : (c : Client) → (m.slots c).phase ≡ opened → homed (m.slots c).items ≡ true → Move m (with_slot T m c (committed_slot (m.slots c)))
     prepares : (c : Client) (s : Server) → present (m.value s meta) s ≡ true → (m.slots c).phase ≡ committing → (m.slots c).prepared s ≡ false
         → all (check m (m.slots c).lowest s) (m.slots c).items ≡ true
         → all (λ i. grants c (to_write s i) (to_read (m.slots c).lowest s i) (m.lock s i.obj)) (m.slots c).items ≡ true
-        → Move m (turned T m (upd eqClient m.slots c (prepared_slot (m.slots c) s)) (granted_at m c s) m.said m.log)
+        → Move m (turned T m (upd eq_client m.slots c (prepared_slot (m.slots c) s)) (granted_at m c s) m.said m.log)
     decides : (c : Client) → (m.slots c).phase ≡ committing
         → all_parts (m.slots c).participant (m.slots c).prepared ≡ true
-        → Move m (turned T m (upd eqClient m.slots c (decided_slot (m.slots c))) m.lock m.said (m.said c ∷ m.log))
+        → Move m (turned T m (upd eq_client m.slots c (decided_slot (m.slots c))) m.lock m.said (m.said c ∷ m.log))
     applies : (c : Client) (s : Server) → (m.slots c).phase ≡ decided → (m.slots c).participant s ≡ true → (m.slots c).applied s ≡ false
         → Move m (applied_at m c s)
     ends : (c : Client) → (m.slots c).phase ≡ decided → all_parts (m.slots c).participant (m.slots c).applied ≡ true

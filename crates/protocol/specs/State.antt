@@ -17,7 +17,7 @@ is_decided committing = false
 is_decided decided = true
 
 module _ (T : Setting) where
-  open T use {Obj, Server, Client, Val, Op, Res, eqObj, eqServer, eqClient, some_server, init, writes}
+  open T use {Obj, Server, Client, Val, Op, Res, eq_obj, eq_server, eq_client, some_server, init, writes}
 
   -- an operation with the result of its plan: answer and writes
   pub record Entry : Type 0 where
@@ -107,13 +107,13 @@ module _ (T : Setting) where
   }
 
   abbrev pub reading : Transaction → Obj → Val → ℕ → Transaction
-  reading x o v n = with_sets x (upd eqObj x.read o true) (upd eqObj x.value_read o v) (upd eqObj x.version_read o n)
+  reading x o v n = with_sets x (upd eq_obj x.read o true) (upd eq_obj x.value_read o v) (upd eq_obj x.version_read o n)
       x.written x.value_written x.trace
 
   -- "only then do its writes enter the write set"
   abbrev pub answering : Transaction → Entry → Transaction
   answering x e = let ws = writes e.result in with_sets x x.read x.value_read x.version_read
-      (λ o. writes? eqObj ws o || x.written o) (λ o. latest eqObj ws o (x.value_written o)) (e ∷ x.trace)
+      (λ o. writes? eq_obj ws o || x.written o) (λ o. latest eq_obj ws o (x.value_written o)) (e ∷ x.trace)
 
   abbrev pub stamping : Transaction → (Obj → ℕ) → Transaction
   stamping x n = with_sets x x.read x.value_read n x.written x.value_written x.trace
@@ -122,13 +122,13 @@ module _ (T : Setting) where
   with_parts x p l = with_course x committing p l x.prepared x.applied
 
   abbrev pub preparing : Transaction → Server → Transaction
-  preparing x s = with_course x x.phase x.participant x.lowest (upd eqServer x.prepared s true) x.applied
+  preparing x s = with_course x x.phase x.participant x.lowest (upd eq_server x.prepared s true) x.applied
 
   abbrev pub deciding : Transaction → Transaction
   deciding x = with_course x decided x.participant x.lowest x.prepared x.applied
 
   abbrev pub applying : Transaction → Server → Transaction
-  applying x s = with_course x x.phase x.participant x.lowest x.prepared (upd eqServer x.applied s true)
+  applying x s = with_course x x.phase x.participant x.lowest x.prepared (upd eq_server x.applied s true)
 
   -- "a new store": nobody has a transaction, "all versions are 0"
   abbrev pub start : State
@@ -145,7 +145,7 @@ module _ (T : Setting) where
   -- the state after a step that changes one client's transaction alone
   abbrev pub put : State → Client → Transaction → State
   put σ c x = record {
-    clients = upd eqClient σ.clients c x;
+    clients = upd eq_client σ.clients c x;
     value = σ.value;
     version = σ.version;
     table = σ.table;

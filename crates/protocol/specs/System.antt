@@ -9,7 +9,7 @@ use Rattle.protocol.specs.State.{idle, opened, committing, decided, is_decided, 
 use Rattle.protocol.specs.Replay.{snapshot}
 
 module _ (T : Setting) where
-  open T use {Obj, Server, Client, Val, eqObj, eqServer, eqClient, home, keeps, inner, by_value, plan, meta, present, Alike}
+  open T use {Obj, Server, Client, Val, eq_obj, eq_server, eq_client, home, keeps, inner, by_value, plan, meta, present, Alike}
 
   -- ""All servers" means those not absent": by the newest metadata
   abbrev pub here : State T → Server → Bool
@@ -50,7 +50,7 @@ module _ (T : Setting) where
   -- a decision: the ghosts take the writes in
   abbrev pub after_decision : State T → Client → State T
   after_decision σ c = let x = σ.clients c in record {
-    clients = upd eqClient σ.clients c (deciding T x);
+    clients = upd eq_client σ.clients c (deciding T x);
     value = σ.value;
     version = σ.version;
     table = σ.table;
@@ -70,10 +70,10 @@ module _ (T : Setting) where
   -- "Apply writes and unlocks"; the table takes the version "even where a table holds an older number"
   abbrev pub after_apply : State T → Client → Server → State T
   after_apply σ c s = let x = σ.clients c in record {
-    clients = upd eqClient σ.clients c (applying T x s);
-    value = upd eqServer σ.value s (λ o. cond (x.written o) (cond (keeps s o) (x.value_written o) (σ.value s o)) (σ.value s o));
-    version = upd eqServer σ.version s (λ o. cond (x.written o) (cond (keeps s o) (next_version x o) (σ.version s o)) (σ.version s o));
-    table = upd eqServer σ.table s (λ o. cond (x.written o) (cond (in_tables x o) (next_version x o) (σ.table s o)) (σ.table s o));
+    clients = upd eq_client σ.clients c (applying T x s);
+    value = upd eq_server σ.value s (λ o. cond (x.written o) (cond (keeps s o) (x.value_written o) (σ.value s o)) (σ.value s o));
+    version = upd eq_server σ.version s (λ o. cond (x.written o) (cond (keeps s o) (next_version x o) (σ.version s o)) (σ.version s o));
+    table = upd eq_server σ.table s (λ o. cond (x.written o) (cond (in_tables x o) (next_version x o) (σ.table s o)) (σ.table s o));
     current = σ.current;
     history = σ.history;
     log = σ.log;
@@ -117,7 +117,7 @@ module _ (T : Setting) where
 
   -- SERVERS COME AND GO. The new metadata is written "alike on all servers, an added or removed one included"
   abbrev pub changed : (old new : Val) → Server → Obj → Bool
-  changed old new s o = yes? (eqObj o meta) && (present old s || present new s)
+  changed old new s o = yes? (eq_obj o meta) && (present old s || present new s)
 
   -- n is "the largest number in its own earlier table or in those of servers not absent"
   pub record Largest (table : Server → Obj → ℕ) (there : Server → Bool) (s : Server) (o : Obj) (n : ℕ) : Type 0 where
@@ -142,8 +142,8 @@ module _ (T : Setting) where
     value = λ s o. cond (changed old v s o) v (σ.value s o);
     version = λ s o. cond (changed old v s o) n (σ.version s o);
     table = λ s o. cond (changed old v s o) n (cond (not (present old s) && present v s) (t s o) (σ.table s o));
-    current = upd eqObj σ.current meta n;
-    history = upd eqObj σ.history meta (upd ℕ_discrete (σ.history meta) n v);
+    current = upd eq_obj σ.current meta n;
+    history = upd eq_obj σ.history meta (upd ℕ_discrete (σ.history meta) n v);
     log = reconfigured v ∷ σ.log;
   }
 

@@ -10,7 +10,7 @@ use Rattle.layout.specs.Laws.Space.{mem_at, at_below}
 use Rattle.layout.specs.Step.{Does, silent, stepped}
 use Rattle.server.specs.declared.place.Place.{Place}
 use Rattle.server.specs.declared.place.Place.TheVariants.{Root, Version, States, MetadataLock, Vector, Node, FlagLock, Table, NodeLock}
-use Rattle.server.specs.Layout.{server_block, places, partWords, putStep, Lies}
+use Rattle.server.specs.Layout.{server_block, places, part_words, put_step, Lies}
 
 -- the bounds of a place that lies in the part
 pub record Cell (k n j m : ℕ) : Type 0 where
@@ -39,7 +39,7 @@ module _ (n : ℕ) (a : Place) (ok : Valid places (server_block n) a) where
   in_locks s k e = let h = subst (Valid places (server_block n)) e ok in record { row = h.0; word = h.1 }
 
   placed : (b : Place) (i : ℕ) → a ≡ b → i ≡ at places (server_block n) b → Lies n a i
-  unfolding partWords
+  unfolding part_words
   placed b i e q =
       let p : i ≡ at places (server_block n) a = q ∙ ap (at places (server_block n)) (sym e) in
       record { spot = p; within = rw p (at_below places (server_block n) a ok) }
@@ -85,6 +85,6 @@ pub ruleset indices = (at_root, at_version, at_states, at_metadata, at_vector, a
 pub got : (n i r : ℕ) (a : Place) (w : List ℕ) → Valid places (server_block n) a → i ≡ at places (server_block n) a → r ≡ get_or w i 0 → r ≡ mem places (server_block n) w a
 got n i r a w h e q = q ∙ rw e (sym (mem_at places (server_block n) w a h))
 
-pub was_put : (n i v : ℕ) (a : Place) (w w' : List ℕ) → i ≡ at places (server_block n) a → w' ≡ set w i v → Does places (server_block n) (putStep a v) silent w 0 w'
-unfolding stepped stored putStep
+pub was_put : (n i v : ℕ) (a : Place) (w w' : List ℕ) → i ≡ at places (server_block n) a → w' ≡ set w i v → Does places (server_block n) (put_step a v) silent w 0 w'
+unfolding stepped stored put_step
 was_put n i v a w w' e q = record { answer = refl; words = q ∙ rw e }

@@ -21,7 +21,7 @@ use Rattle.server.specs.declared.object.Object.{Object}
 use Rattle.server.specs.declared.object.Object.TheVariants as object
 use Rattle.server.specs.declared.place.Place.{Place}
 use Rattle.server.specs.declared.place.Place.TheVariants.{Root, Version, States, Vector, Table, Node}
-use Rattle.server.specs.Layout.{places, server_block, partWords, putStep, Lies}
+use Rattle.server.specs.Layout.{places, server_block, part_words, put_step, Lies}
 use Rattle.server.specs.Laws.Layout.{node_run, node_room, node_valid, root_valid, version_valid, states_valid, vector_valid}
 use Rattle.server.specs.Object.{lock_of, Has}
 use Rattle.server.proofs.ObjectExits.{lock_valid}
@@ -31,29 +31,29 @@ use Rattle.server.specs.Laws.Store.{slot_there, table_there}
 
 module _ (n : ℕ) (w w' : List ℕ) where
   pub now_locked : (o : Object) (b : Bool) (c word v : ℕ) (a : Place) → a ≡ lock_of o → word ≡ mem places (server_block n) w a → v ≡ locked b c word
-      → Does places (server_block n) (putStep a v) silent w 0 w' → Does places (server_block n) (lock_step o b c) silent w 0 w'
-  unfolding putStep lock_step
-  now_locked o b c word v a e q h d = does_as places (server_block n) (putStep a v) (lock_step o b c) silent w 0 w' (rw (h, q, e)) d
+      → Does places (server_block n) (put_step a v) silent w 0 w' → Does places (server_block n) (lock_step o b c) silent w 0 w'
+  unfolding put_step lock_step
+  now_locked o b c word v a e q h d = does_as places (server_block n) (put_step a v) (lock_step o b c) silent w 0 w' (rw (h, q, e)) d
 
   pub now_unlocked : (o : Object) (c word v : ℕ) (a : Place) → a ≡ lock_of o → word ≡ mem places (server_block n) w a → v ≡ unlocked c word
-      → Does places (server_block n) (putStep a v) silent w 0 w' → Does places (server_block n) (unlock_step o c) silent w 0 w'
-  unfolding putStep unlock_step
-  now_unlocked o c word v a e q h d = does_as places (server_block n) (putStep a v) (unlock_step o c) silent w 0 w' (rw (h, q, e)) d
+      → Does places (server_block n) (put_step a v) silent w 0 w' → Does places (server_block n) (unlock_step o c) silent w 0 w'
+  unfolding put_step unlock_step
+  now_unlocked o c word v a e q h d = does_as places (server_block n) (put_step a v) (unlock_step o c) silent w 0 w' (rw (h, q, e)) d
 
-  pub metadata_stored : (u v : List ℕ) (root states version : ℕ) → Does places (server_block n) (putStep Root root) silent w 0 u
-      → Does places (server_block n) (putStep Version version) silent u 0 v → Does places (server_block n) (putStep States states) silent v 0 w'
+  pub metadata_stored : (u v : List ℕ) (root states version : ℕ) → Does places (server_block n) (put_step Root root) silent w 0 u
+      → Does places (server_block n) (put_step Version version) silent u 0 v → Does places (server_block n) (put_step States states) silent v 0 w'
       → Does places (server_block n) (metadata_step root states version) silent w 0 w'
-  unfolding putStep metadata_step
+  unfolding put_step metadata_step
   metadata_stored u v root states version p q h =
       does_both places (server_block n) (put Root root ∷ []) (put Version version ∷ put States states ∷ []) w u w' p
       (does_both places (server_block n) (put Version version ∷ []) (put States states ∷ []) u v w' q h)
 
   pub flag_stored : (x : Name) (b t : Bool) (k word v : ℕ) → b ≡ t → k ≡ slot_of x.number
       → word ≡ mem places (server_block n) w (Vector (k / 64)) → v ≡ put_bit t word (k % 64)
-      → Does places (server_block n) (putStep (Vector (k / 64)) v) silent w 0 w' → Does places (server_block n) (flag_step x b) silent w 0 w'
-  unfolding putStep flag_step
+      → Does places (server_block n) (put_step (Vector (k / 64)) v) silent w 0 w' → Does places (server_block n) (flag_step x b) silent w 0 w'
+  unfolding put_step flag_step
   flag_stored x b t k word v i e q h d =
-      does_as places (server_block n) (putStep (Vector (k / 64)) v) (flag_step x b) silent w 0 w' (rw (h, q, i, e)) d
+      does_as places (server_block n) (put_step (Vector (k / 64)) v) (flag_step x b) silent w 0 w' (rw (h, q, i, e)) d
 
 pub kept_free : (n r : node.Node) (v : ℕ) → n.kind ≡ 0 → r ≡ free_node v → r ≡ kept_of n v
 unfolding kept_of
@@ -68,7 +68,7 @@ module _ (n : ℕ) (x : Name) (ok : Has n (object.Node x)) where
   pub home_valid : (k : ℕ) → k ≡ slot_of x.number → Valid places (server_block n) (Node k 0)
   home_valid k e = node_valid n k (slot_there n k x ok e)
 
-  pub home_room : (k i l : ℕ) → k ≡ slot_of x.number → Lies n (Node k 0) i → partWords n ≤ l → i + 33 ≤ l
+  pub home_room : (k i l : ℕ) → k ≡ slot_of x.number → Lies n (Node k 0) i → part_words n ≤ l → i + 33 ≤ l
   home_room k i l e h g = node_room n k i l (slot_there n k x ok e) h g
 
   pub table_valid : (s k : ℕ) → s ≡ server_of x.number → k ≡ slot_of x.number → Valid places (server_block n) (Table s k)
@@ -94,9 +94,9 @@ unfolding stepped home_step stored
 not_home n s r x y w p h = record { answer = refl; words = rw (← p, ne_eqb r s h) }
 
 pub in_table : (n s k v : ℕ) (x : Name) (b : Bool) (w w' : List ℕ) → b ≡ true → s ≡ server_of x.number → k ≡ slot_of x.number
-    → Does places (server_block n) (putStep (Table s k) v) silent w 0 w' → Does places (server_block n) (table_step x v b) silent w 0 w'
-unfolding putStep table_step
-in_table n s k v x b w w' h p q d = does_as places (server_block n) (putStep (Table s k) v) (table_step x v b) silent w 0 w' (rw (h, p, q)) d
+    → Does places (server_block n) (put_step (Table s k) v) silent w 0 w' → Does places (server_block n) (table_step x v b) silent w 0 w'
+unfolding put_step table_step
+in_table n s k v x b w w' h p q d = does_as places (server_block n) (put_step (Table s k) v) (table_step x v b) silent w 0 w' (rw (h, p, q)) d
 
 pub not_in_table : (n v : ℕ) (x : Name) (b : Bool) (w : List ℕ) → b ≡ false → Does places (server_block n) (table_step x v b) silent w 0 w
 unfolding stepped table_step stored

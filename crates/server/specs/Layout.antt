@@ -59,21 +59,21 @@ abbrev pub places : Coding Place
 places = record { code = place_code; back = place_back; again = place_again }
 
 -- how many words a server's part has
-unfoldable pub partWords : ℕ → ℕ
-partWords n = size (server_block n)
+unfoldable pub part_words : ℕ → ℕ
+part_words n = size (server_block n)
 
 -- the most that it has, with 1,024 slots
 abbrev pub most_part_words : ℕ
 most_part_words = 51220
 
 -- the store of one word
-unfoldable pub putStep : Place → ℕ → (Place → ℕ) → List (Put Place)
-putStep a v m = put a v ∷ []
+unfoldable pub put_step : Place → ℕ → (Place → ℕ) → List (Put Place)
+put_step a v m = put a v ∷ []
 
 -- a place lies at word i, in the part
 pub record Lies (n : ℕ) (a : Place) (i : ℕ) : Type 0 where
   pub spot : i ≡ at places (server_block n) a
-  pub within : i < partWords n
+  pub within : i < part_words n
 
 -- code with the bytes b of a part before and b' after has made these stores
 abbrev pub ServerDone : ℕ → ((Place → ℕ) → List (Put Place)) → List ℕ → List ℕ → Type 0

@@ -2,7 +2,7 @@
 ghost use Rattle.std.specs.Prelude.{◌≡◌, ◌/◌, ◌≤◌, length};
 ghost use Rattle.memory.specs.Word.{view};
 ghost use Rattle.layout.specs.Space.{mem};
-ghost use Rattle.server.specs.Layout.{places, server_block, partWords};
+ghost use Rattle.server.specs.Layout.{places, server_block, part_words};
 ghost use Rattle.server.specs.Object.{Has};
 ghost use Rattle.server.specs.Check.{can_check, mark_place, mark_in, standing, mark_fits, mark_finding};
 ghost use Rattle.nodes.specs.Bounds.{end_of_slots};
@@ -69,7 +69,7 @@ fn mark_in(object: Object, word: u64) -> u64
 
 // The mark that stands here of an object.
 pub fn stands(part: &[u8], slots: usize, object: Object, inner: bool) -> u64
-    requires { (slots ≤ end_of_slots) × Has slots object × (partWords slots ≤ length part.now / 8) }
+    requires { (slots ≤ end_of_slots) × Has slots object × (part_words slots ≤ length part.now / 8) }
     ensures { result ≡ standing object inner (mem places (server_block slots) (view part.now)) }
 {
     let word = get(part, slots, mark_place(object, inner));
@@ -105,7 +105,7 @@ fn mark_finding(object: Object, here: u64, read: u64) -> Finding
 
 // Is an object still as it was read, with this mark? Its lock is not looked at.
 pub fn compare(part: &[u8], slots: usize, object: Object, inner: bool, mark: u64) -> Finding
-    requires { (slots ≤ end_of_slots) × Has slots object × (partWords slots ≤ length part.now / 8) }
+    requires { (slots ≤ end_of_slots) × Has slots object × (part_words slots ≤ length part.now / 8) }
     ensures { result ≡ mark_finding object (standing object inner (mem places (server_block slots) (view part.now))) mark }
 {
     mark_finding(object, stands(part, slots, object, inner), mark)

@@ -2,7 +2,7 @@
 ghost use Rattle.std.specs.Prelude.{◌≡◌, ◌/◌, ◌<◌, ◌≤◌, length};
 ghost use Rattle.memory.specs.Word.{view};
 ghost use Rattle.layout.specs.Space.{mem};
-ghost use Rattle.server.specs.Layout.{places, server_block, partWords};
+ghost use Rattle.server.specs.Layout.{places, server_block, part_words};
 ghost use Rattle.server.specs.HandOut.{metadata_at, metadata_sound, vector_at, node_here};
 ghost use Rattle.nodes.specs.Bounds.{end_of_slots};
 
@@ -20,7 +20,7 @@ pub struct Metadata {
 }
 
 pub fn read_metadata(part: &[u8], slots: usize) -> Metadata
-    requires { (slots ≤ end_of_slots) × (partWords slots ≤ length part.now / 8) }
+    requires { (slots ≤ end_of_slots) × (part_words slots ≤ length part.now / 8) }
     ensures { result ≡ metadata_at (mem places (server_block slots) (view part.now)) }
 {
     let root = get(part, slots, Place::Root);
@@ -35,7 +35,7 @@ pub fn read_metadata(part: &[u8], slots: usize) -> Metadata
 
 // Refusal 10: is it in range?
 pub fn metadata_is_sound(part: &[u8], slots: usize) -> bool
-    requires { (slots ≤ end_of_slots) × (partWords slots ≤ length part.now / 8) }
+    requires { (slots ≤ end_of_slots) × (part_words slots ≤ length part.now / 8) }
     ensures { result ≡ metadata_sound slots (mem places (server_block slots) (view part.now)) }
 {
     let m = read_metadata(part, slots);
@@ -44,7 +44,7 @@ pub fn metadata_is_sound(part: &[u8], slots: usize) -> bool
 
 // "a server's flags are its vector"
 pub fn read_vector(part: &[u8], slots: usize) -> [u64; 16]
-    requires { partWords slots ≤ length part.now / 8 }
+    requires { part_words slots ≤ length part.now / 8 }
     ensures { result ≡ vector_at (mem places (server_block slots) (view part.now)) }
 {
     let mut words = [0u64; 16];
@@ -54,7 +54,7 @@ pub fn read_vector(part: &[u8], slots: usize) -> [u64; 16]
 
 // The node in a slot of this server, with its own version.
 pub fn read_node(part: &[u8], slots: usize, slot: usize) -> Node
-    requires { (slots ≤ end_of_slots) × (slot < slots) × (partWords slots ≤ length part.now / 8) }
+    requires { (slots ≤ end_of_slots) × (slot < slots) × (part_words slots ≤ length part.now / 8) }
     ensures { result ≡ node_here slot (mem places (server_block slots) (view part.now)) }
 {
     stored::read_node(part, index(slots, Place::Node(slot, 0)))

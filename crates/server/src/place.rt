@@ -2,7 +2,7 @@
 ghost use Rattle.std.specs.Prelude.{◌≡◌, ◌+◌, ◌*◌, ◌/◌, ◌≤◌, length};
 ghost use Rattle.memory.specs.Word.{view};
 ghost use Rattle.layout.specs.Space.{Valid, mem};
-ghost use Rattle.server.specs.Layout.{most_part_words, places, server_block, partWords, Lies, putStep, ServerDone};
+ghost use Rattle.server.specs.Layout.{most_part_words, places, server_block, part_words, Lies, put_step, ServerDone};
 ghost use Rattle.nodes.specs.Bounds.{end_of_slots};
 
 // "The metadata (root name and its version) is on every server", and "gets each server's state". Every server also has a table of versions for all slots
@@ -29,7 +29,7 @@ pub enum Place {
 // The words of the part of a server with so many slots.
 pub fn part_words(slots: usize) -> usize
     requires { slots ≤ end_of_slots }
-    ensures value { result ≡ partWords slots }
+    ensures value { result ≡ part_words slots }
     ensures within { result ≤ most_part_words }
 {
     20 + 50 * slots
@@ -55,7 +55,7 @@ pub fn index(slots: usize, place: Place) -> usize
 
 // The word at a place.
 pub fn get(part: &[u8], slots: usize, place: Place) -> u64
-    requires { (slots ≤ end_of_slots) × Valid places (server_block slots) place × (partWords slots ≤ length part.now / 8) }
+    requires { (slots ≤ end_of_slots) × Valid places (server_block slots) place × (part_words slots ≤ length part.now / 8) }
     ensures { result ≡ mem places (server_block slots) (view part.now) place }
 {
     memory::read_word(part, index(slots, place))
@@ -63,8 +63,8 @@ pub fn get(part: &[u8], slots: usize, place: Place) -> u64
 
 // The word at a place becomes v.
 pub fn put(part: &mut [u8], slots: usize, place: Place, v: u64)
-    requires { (slots ≤ end_of_slots) × Valid places (server_block slots) place × (partWords slots ≤ length part.old / 8) }
-    ensures { ServerDone slots (putStep place v) part.old part.new }
+    requires { (slots ≤ end_of_slots) × Valid places (server_block slots) place × (part_words slots ≤ length part.old / 8) }
+    ensures { ServerDone slots (put_step place v) part.old part.new }
 {
     memory::write_word(part, index(slots, place), v);
 }

@@ -1,6 +1,6 @@
 // What a server stores: locks at a prepare, and at an apply what was written.
 ghost use Rattle.std.specs.Prelude.{◌≡◌, ◌+◌, ◌/◌, ◌<◌, ◌≤◌, length};
-ghost use Rattle.server.specs.Layout.{partWords, ServerDone};
+ghost use Rattle.server.specs.Layout.{part_words, ServerDone};
 ghost use Rattle.server.specs.Object.{Has};
 ghost use Rattle.server.specs.Store.{lock_step, unlock_step, metadata_step, flag_step, kept_of, home_step, table_step, node_step};
 ghost use Rattle.nodes.specs.Bounds.{end_of_slots, last_version, most_clients};
@@ -15,7 +15,7 @@ use nodes::stored;
 
 // A client locks an object, for writing or for reading.
 pub fn lock(part: &mut [u8], slots: usize, object: Object, client: u32, writing: bool)
-    requires { (slots ≤ end_of_slots) × Has slots object × (client < most_clients) × (partWords slots ≤ length part.old / 8) }
+    requires { (slots ≤ end_of_slots) × Has slots object × (client < most_clients) × (part_words slots ≤ length part.old / 8) }
     ensures { ServerDone slots (lock_step object writing client) part.old part.new }
 {
     let at = lock_place(object);
@@ -25,7 +25,7 @@ pub fn lock(part: &mut [u8], slots: usize, object: Object, client: u32, writing:
 
 // A client's lock on an object goes.
 pub fn unlock(part: &mut [u8], slots: usize, object: Object, client: u32)
-    requires { (slots ≤ end_of_slots) × Has slots object × (client < most_clients) × (partWords slots ≤ length part.old / 8) }
+    requires { (slots ≤ end_of_slots) × Has slots object × (client < most_clients) × (part_words slots ≤ length part.old / 8) }
     ensures { ServerDone slots (unlock_step object client) part.old part.new }
 {
     let at = lock_place(object);
@@ -35,7 +35,7 @@ pub fn unlock(part: &mut [u8], slots: usize, object: Object, client: u32)
 
 // The metadata, read with a version, is written: "a written version becomes the one read plus 1".
 pub fn store_metadata(part: &mut [u8], slots: usize, root: u64, states: u64, read: u64)
-    requires { (slots ≤ end_of_slots) × (read < last_version) × (partWords slots ≤ length part.old / 8) }
+    requires { (slots ≤ end_of_slots) × (read < last_version) × (part_words slots ≤ length part.old / 8) }
     ensures { ServerDone slots (metadata_step root states (read + 1)) part.old part.new }
 {
     put(part, slots, Place::Root, root);
@@ -45,7 +45,7 @@ pub fn store_metadata(part: &mut [u8], slots: usize, root: u64, states: u64, rea
 
 // The flag of a slot here becomes taken or free.
 pub fn store_flag(part: &mut [u8], slots: usize, name: Name, taken: bool)
-    requires { (slots ≤ end_of_slots) × (partWords slots ≤ length part.old / 8) }
+    requires { (slots ≤ end_of_slots) × (part_words slots ≤ length part.old / 8) }
     ensures { ServerDone slots (flag_step name taken) part.old part.new }
 {
     let slot = name.slot();
@@ -72,7 +72,7 @@ fn kept(mut node: Node, version: u64) -> Node
 
 // A node is written at its home.
 fn store_at_home(part: &mut [u8], slots: usize, server: u64, name: Name, node: Node)
-    requires { (slots ≤ end_of_slots) × Has slots (Object.Node name) × (partWords slots ≤ length part.old / 8) }
+    requires { (slots ≤ end_of_slots) × Has slots (Object.Node name) × (part_words slots ≤ length part.old / 8) }
     ensures { ServerDone slots (home_step server name node) part.old part.new }
 {
     if name.server() == server {
@@ -86,7 +86,7 @@ fn store_at_home(part: &mut [u8], slots: usize, server: u64, name: Name, node: N
 
 // The table has a version for a node that is inner before or after.
 fn store_in_table(part: &mut [u8], slots: usize, name: Name, version: u64, inner: bool)
-    requires { (slots ≤ end_of_slots) × Has slots (Object.Node name) × (partWords slots ≤ length part.old / 8) }
+    requires { (slots ≤ end_of_slots) × Has slots (Object.Node name) × (part_words slots ≤ length part.old / 8) }
     ensures { ServerDone slots (table_step name version inner) part.old part.new }
 {
     if inner {
@@ -111,7 +111,7 @@ pub fn store_node(
     inner: bool,
 )
     requires { (slots ≤ end_of_slots) × Has slots (Object.Node name) × (read < last_version)
-        × (partWords slots ≤ length part.old / 8) }
+        × (part_words slots ≤ length part.old / 8) }
     ensures { ServerDone slots (node_step server name node (read + 1) inner) part.old part.new }
 {
     let version = read + 1;

@@ -4,7 +4,7 @@ use Rattle.nodes.specs.declared.node.Node.{Node}
 use Rattle.nodes.specs.Node.{free_node}
 use Rattle.nodes.specs.Stored.{node_at}
 use Rattle.memory.specs.Word.{view}
-use Rattle.nodes.specs.Entries.{entriesOf}
+use Rattle.nodes.specs.Entries.{entries_of}
 use Rattle.nodes.specs.Kept.{Whole}
 use Rattle.operations.specs.Object.{meta, object, Writes}
 use Rattle.operations.specs.Entry.{Entries}
@@ -25,7 +25,7 @@ use Rattle.client.specs.Bounds.{highest_level, level_count}
 -- a node of level l below the root, for any key lo from which it holds keys
 pub record Kid (slots : ℕ) (m : ClientWord → ℕ) (x u : List ℕ) (l n : ℕ) (s : Stop) (r : Node) (u' : List ℕ) : Type 0 where
   pub asks : (w : Writes) → HoldsWrites slots x w → (lo : ℕ) (k : Entries → TreePlan)
-      → walked slots m (kid w l lo n k) (used_in u) ≡ carry s (used_in u') (λ us. walked slots m (k (entriesOf r lo)) us)
+      → walked slots m (kid w l lo n k) (used_in u) ≡ carry s (used_in u') (λ us. walked slots m (k (entries_of r lo)) us)
   pub noted : Noted m u'
   pub small : goes s ≡ true → SmallNode r
   pub long : length u' ≡ length u
@@ -36,7 +36,7 @@ pub record Kid (slots : ℕ) (m : ClientWord → ℕ) (x u : List ℕ) (l n : �
 -- the root of that name
 pub record RootMet (slots : ℕ) (m : ClientWord → ℕ) (u : List ℕ) (n : ℕ) (s : Stop) (r : Node) (u' : List ℕ) : Type 0 where
   pub asks : (k : ℕ → Entries → TreePlan)
-      → walked slots m (at_root n k) (used_in u) ≡ carry s (used_in u') (λ us. walked slots m (k r.level (entriesOf r 0)) us)
+      → walked slots m (at_root n k) (used_in u) ≡ carry s (used_in u') (λ us. walked slots m (k r.level (entries_of r 0)) us)
   pub noted : Noted m u'
   pub small : goes s ≡ true → SmallNode r
   pub long : length u' ≡ length u
@@ -83,11 +83,11 @@ pub record PathInPart (ps : List Pass) : Type 0 where
 -- from what key on the node below them holds keys
 abbrev pub low : List Turn → ℕ
 low [] = 0
-low (b ∷ bs) = (get_or (entriesOf b.node (low bs)) b.at (0, 0)).0
+low (b ∷ bs) = (get_or (entries_of b.node (low bs)) b.at (0, 0)).0
 
 abbrev pub branches : List Turn → List Branch
 branches [] = []
-branches (b ∷ bs) = branch_of b.name b.at (entriesOf b.node (low bs)) ∷ branches bs
+branches (b ∷ bs) = branch_of b.name b.at (entries_of b.node (low bs)) ∷ branches bs
 
 -- the n that stand in an array above the level l
 unfoldable pub trail : List Turn → ℕ → ℕ → List Turn
@@ -139,9 +139,9 @@ pub record Above (n : Node) (level : ℕ) : Type 0 where
 -- a step down from it: s says how it went, i is the number of the child, c its name and r its node
 pub record Lowered (slots : ℕ) (m : ClientWord → ℕ) (u : List ℕ) (key level : ℕ) (n : Node) (s : Stop) (i c : ℕ) (r : Node) (u' : List ℕ) : Type 0 where
   pub asks : (stop : ℕ → Bool) → stop level ≡ false → (k : Cont) (fs : List Branch) (nm lo : ℕ)
-      → walked slots m (down stop key k level fs nm (entriesOf n lo)) (used_in u)
+      → walked slots m (down stop key k level fs nm (entries_of n lo)) (used_in u)
       ≡ carry s (used_in u') (λ us. walked slots m
-      (down stop key k (level - 1) (branch_of nm i (entriesOf n lo) ∷ fs) c (entriesOf r (get_or (entriesOf n lo) i (0, 0)).0)) us)
+      (down stop key k (level - 1) (branch_of nm i (entries_of n lo) ∷ fs) c (entries_of r (get_or (entries_of n lo) i (0, 0)).0)) us)
   pub noted : Noted m u'
   pub long : length u' ≡ length u
   pub within : i ≤ n.count
@@ -170,9 +170,9 @@ pub record Reached (target : ℕ) (d : Arrival) : Type 0 where
 -- the way down from a root to a level
 pub record Led (slots : ℕ) (m : ClientWord → ℕ) (u : List ℕ) (key target root : ℕ) (first : Node) (d : Arrival) (u' : List ℕ) : Type 0 where
   pub asks : (stop : ℕ → Bool) → Stops stop target → (k : Cont)
-      → walked slots m (down stop key k first.level [] root (entriesOf first 0)) (used_in u)
+      → walked slots m (down stop key k first.level [] root (entries_of first 0)) (used_in u)
       ≡ carry d.stop (used_in u') (λ us. walked slots m
-      (k target (branches (trail d.path target (d.top - target))) d.name (entriesOf d.node (low (trail d.path target (d.top - target))))) us)
+      (k target (branches (trail d.path target (d.top - target))) d.name (entries_of d.node (low (trail d.path target (d.top - target))))) us)
   pub noted : Noted m u'
   pub high : d.top ≤ highest_level
   pub reached : goes d.stop ≡ true → Reached target d
@@ -182,7 +182,7 @@ pub record Led (slots : ℕ) (m : ClientWord → ℕ) (u : List ℕ) (key target
 pub record AtRoot (slots : ℕ) (m : ClientWord → ℕ) (u : List ℕ) (s : Stop) (q : ℕ) (r : Node) (u' : List ℕ) : Type 0 where
   pub asks : (k : ℕ → ℕ → Entries → TreePlan)
       → walked slots m (P.ask (object meta) (λ v. when_root v (λ q. at_root q (k q)))) (used_in u)
-      ≡ carry s (used_in u') (λ us. walked slots m (k q r.level (entriesOf r 0)) us)
+      ≡ carry s (used_in u') (λ us. walked slots m (k q r.level (entries_of r 0)) us)
   pub noted : Noted m u'
   pub begins : goes s ≡ true → From r 0
   pub inside : goes s ≡ true → in_store slots q ≡ true
@@ -191,7 +191,7 @@ pub record AtRoot (slots : ℕ) (m : ClientWord → ℕ) (u : List ℕ) (s : Sto
 pub record Descends (slots : ℕ) (m : ClientWord → ℕ) (u : List ℕ) (key : ℕ) (d : Arrival) (u' : List ℕ) : Type 0 where
   pub asks : (k : List Branch → ℕ → Entries → TreePlan)
       → walked slots m (from_root key k) (used_in u)
-      ≡ carry d.stop (used_in u') (λ us. walked slots m (k (branches (trail d.path 0 (d.top - 0))) d.name (entriesOf d.node (low (trail d.path 0 (d.top - 0))))) us)
+      ≡ carry d.stop (used_in u') (λ us. walked slots m (k (branches (trail d.path 0 (d.top - 0))) d.name (entries_of d.node (low (trail d.path 0 (d.top - 0))))) us)
   pub noted : Noted m u'
   pub high : d.top ≤ highest_level
   pub reached : goes d.stop ≡ true → Reached 0 d

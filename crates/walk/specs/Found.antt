@@ -2,7 +2,7 @@
 use Rattle.std.specs.Prelude.{◌≡◌, Bool, true, false, List, [], ◌∷◌, ◌++◌, ℕ, zero, suc, ◌+◌, ◌-◌, ◌*◌, ◌≤◌, ◌<◌, length, get_or, set, take}
 use Rattle.nodes.specs.declared.node.Node.{Node}
 use Rattle.nodes.specs.Place.{place}
-use Rattle.nodes.specs.Entries.{entriesOf}
+use Rattle.nodes.specs.Entries.{entries_of}
 use Rattle.nodes.specs.Kept.{Whole}
 use Rattle.operations.specs.Object.{Ans}
 use Rattle.operations.specs.Map.{listed}
@@ -104,7 +104,7 @@ search_plan w = from_leaf (search_of w) (visit (to_right w.sought)) (side (to_ri
 
 -- the pairs got, and those of a node that are sought, as many as are wanted
 abbrev pub gathered : Wish → Node → Entries → Entries
-gathered w n got = take w.wanted (got ++ sought_in w.sought w.key (entriesOf n 0))
+gathered w n got = take w.wanted (got ++ sought_in w.sought w.key (entries_of n 0))
 
 -- ---- the pairs in the lent list: as it is lent, as it comes back, and those of the answer then
 abbrev pub lent_pairs : LentList → Entries

@@ -1,7 +1,7 @@
 -- Leaves in a row: the nearest branch on one side, and the leaves below it.
 use Rattle.std.specs.Prelude.{◌≡◌, Bool, true, false, cond, List, [], ◌∷◌, ◌++◌, ℕ, zero, suc, ◌+◌, ◌-◌, ◌≤◌, ◌<◌, ltb, length, take, drop, get_or, set}
 use Rattle.nodes.specs.declared.node.Node.{Node}
-use Rattle.nodes.specs.Entries.{entriesOf}
+use Rattle.nodes.specs.Entries.{entries_of}
 use Rattle.nodes.specs.Kept.{Whole}
 use Rattle.operations.specs.Entry.{Entries}
 use Rattle.operations.specs.Path.{TreePlan}
@@ -55,7 +55,7 @@ climb q right l (es ∷ ess) = visit right (seek q (visit right) l) es (climb q 
 -- ---- a stack of inner nodes: what is left to visit of each, for some keys from which they hold keys
 abbrev pub rests : Bool → List Turn → (ℕ → ℕ) → List Entries
 rests right [] lows = []
-rests right (b ∷ bs) lows = rest right b.at (entriesOf b.node (lows 0)) ∷ rests right bs (λ i. lows (suc i))
+rests right (b ∷ bs) lows = rest right b.at (entries_of b.node (lows 0)) ∷ rests right bs (λ i. lows (suc i))
 
 -- the inner nodes above a level, up to the top
 pub record Stacked (top : ℕ) (path : List Turn) (level : ℕ) : Type 0 where
@@ -116,9 +116,9 @@ pub record Past (w : Wish) (top : ℕ) (path : List Turn) (n : Node) (got : Entr
   pub lo : (ℕ → ℕ) → ℕ
   pub lows : (ℕ → ℕ) → ℕ → ℕ
   pub ends : a.state ≡ Finished → (j : ℕ) (f : ℕ → ℕ) → let q = search_of w in
-      enough q (above q (to_right w.sought) top path 0 f) (got ++ q.in_leaf (entriesOf n j)) ≡ told q got'
+      enough q (above q (to_right w.sought) top path 0 f) (got ++ q.in_leaf (entries_of n j)) ≡ told q got'
   pub next : a.state ≡ Next → (j : ℕ) (f : ℕ → ℕ) → let q = search_of w in
-      enough q (above q (to_right w.sought) top path 0 f) (got ++ q.in_leaf (entriesOf n j))
+      enough q (above q (to_right w.sought) top path 0 f) (got ++ q.in_leaf (entries_of n j))
       ≡ onto q (to_right w.sought) top a.path a.level a.name (lo f) (lows f) got'
   pub stacked : a.state ≡ Next → Stacked top a.path a.level
   pub below : a.state ≡ Next → a.level < top
@@ -145,7 +145,7 @@ read_on q right (suc l) es on found = visit right (seek q (visit right) l) es on
 
 abbrev pub afterwards : Wish → ℕ → List Turn → ℕ → Node → ℕ → (ℕ → ℕ) → Onward
 afterwards w top path level n j f =
-    read_on (search_of w) (to_right w.sought) level (entriesOf n j) (above (search_of w) (to_right w.sought) top path level f)
+    read_on (search_of w) (to_right w.sought) level (entries_of n j) (above (search_of w) (to_right w.sought) top path level f)
 
 pub record Advanced (w : Wish) (top : ℕ) (path : List Turn) (level : ℕ) (n : Node) (got : Entries) (a : Heading) (got' : Entries) : Type 0 where
   pub lo : ℕ → (ℕ → ℕ) → ℕ
@@ -180,7 +180,7 @@ pub record Seeks (slots : ℕ) (m : ClientWord → ℕ) (u : List ℕ) (w : Wish
 -- ---- the leaves on that side, from one with the path to it on
 pub record FromLeaf (slots : ℕ) (m : ClientWord → ℕ) (u : List ℕ) (w : Wish) (top : ℕ) (path : List Turn) (n : Node) (got : Entries) (s : Stop) (u' : List ℕ) (ps : Entries) : Type 0 where
   pub same : (j : ℕ) (f : ℕ → ℕ) → let q = search_of w in
-      walked slots m (enough q (above q (to_right w.sought) top path 0 f) (got ++ q.in_leaf (entriesOf n j))) (used_in u) ≡ ended s (used_in u') [] ps
+      walked slots m (enough q (above q (to_right w.sought) top path 0 f) (got ++ q.in_leaf (entries_of n j))) (used_in u) ≡ ended s (used_in u') [] ps
   pub noted : Noted m u'
 
 -- ---- a plan that writes nothing, walked from the start, with no copy in use

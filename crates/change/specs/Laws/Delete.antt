@@ -10,7 +10,7 @@ use Rattle.nodes.specs.Laws.Lists.{length_remove}
 use Rattle.nodes.specs.Place.{key_place, Within}
 use Rattle.nodes.specs.Laws.Place.{yes_behind, yes_inside}
 use Rattle.nodes.specs.Node.{keys_of, made}
-use Rattle.nodes.specs.Entries.{entriesOf, wide_entries}
+use Rattle.nodes.specs.Entries.{entries_of, wide_entries}
 use Rattle.nodes.specs.Change.{take_out}
 use Rattle.nodes.specs.Laws.Kept.{take_out_entries}
 use Rattle.operations.specs.Entry.{Entries, place_in}
@@ -41,7 +41,7 @@ module _ (n : Node) (f : AtLeaf n) (i : ℕ) (h : i < n.count) where
   out_content : Content 0 (widened (take_out n i))
   out_content = widened_content 0 (take_out n i) (out_level 0 n (leaf_level n f) i h) out_few
 
-  out_entries : (lo : ℕ) → wide_entries (widened (take_out n i)) lo ≡ remove_at i (entriesOf n lo)
+  out_entries : (lo : ℕ) → wide_entries (widened (take_out n i)) lo ≡ remove_at i (entries_of n lo)
   out_entries lo =
       let z : i + 0 ≡ i = omega arith in
       widened_entries 0 (take_out n i) (out_level 0 n (leaf_level n f) i h) lo ∙ take_out_entries n lo f.whole i h ∙ rw (extra_leaf n f.leaf, z)
@@ -65,7 +65,7 @@ module _ (slots : ℕ) (b u : List ℕ) (key : ℕ) (WayDown : Descent) (u₁ : 
   leaf : AtLeaf d.node
   leaf = ended_leaf slots d (change_ended slots b u key WayDown u₁ h on po nb)
 
-  in_leaf : place_in key (entriesOf d.node lo) ≡ k
+  in_leaf : place_in key (entries_of d.node lo) ≡ k
   in_leaf = leaf_place d.node lo key leaf.whole leaf.leaf ∙ sym p
 
   abbrev plan : List Branch → ℕ → Entries → TreePlan
@@ -93,7 +93,7 @@ module _ (slots : ℕ) (b u : List ℕ) (key : ℕ) (WayDown : Descent) (u₁ : 
     unfolding rise_plan
     deleted l n w' pl pl' =
         let pn : n ≡ widened (take_out d.node i) = rw pl at pl' in
-        let o : wide_entries n lo ≡ remove_at i (entriesOf d.node lo) = rw pn (out_entries d.node leaf i within lo) in
+        let o : wide_entries n lo ≡ remove_at i (entries_of d.node lo) = rw pn (out_entries d.node leaf i within lo) in
         change_on slots b u key WayDown u₁ h on po nb plan n 1 w' (rw pn (out_content d.node leaf i within)) (rw (in_leaf, yes, ← o))
 
 pub ruleset delete_exits = (change_stops, change_noted, change_few, leaf_few, delete_nothing, delete_behind, delete_inside, deleted)

@@ -17,7 +17,7 @@ use Rattle.nodes.specs.Laws.Lists.{length_insert}
 use Rattle.nodes.specs.Place.{place, key_place, Within}
 use Rattle.nodes.specs.Laws.Place.{place_within, yes_says, yes_behind, yes_inside}
 use Rattle.nodes.specs.Node.{extra, keys_of, slots_of, made}
-use Rattle.nodes.specs.Entries.{entriesOf, wide_entries}
+use Rattle.nodes.specs.Entries.{entries_of, wide_entries}
 use Rattle.nodes.specs.Change.{wide, put_in, with_slot}
 use Rattle.nodes.specs.Kept.{Whole}
 use Rattle.nodes.specs.Laws.Kept.{made_whole, put_in_whole, put_in_entries, slot_entries}
@@ -100,11 +100,11 @@ module _ (n : Node) (f : AtLeaf n) where
 
     -- the entries are those of the plan, and so is the answer
     module _ (lo : ℕ) where
-      pub paired_entries : wide_entries (paired n key v).content lo ≡ with_pair key v (entriesOf n lo)
+      pub paired_entries : wide_entries (paired n key v).content lo ≡ with_pair key v (entries_of n lo)
       unfolding paired key_place
-      paired_entries = go (key_place (keys_of n) key).there refl ∙ sym (ap (with_at key v (entriesOf n lo)) (leaf_place n lo key f.whole f.leaf))
+      paired_entries = go (key_place (keys_of n) key).there refl ∙ sym (ap (with_at key v (entries_of n lo)) (leaf_place n lo key f.whole f.leaf))
         where
-          go : (t : Bool) → (key_place (keys_of n) key).there ≡ t → wide_entries (paired_at n key v (answered t)).content lo ≡ with_at key v (entriesOf n lo) (answered t)
+          go : (t : Bool) → (key_place (keys_of n) key).there ≡ t → wide_entries (paired_at n key v (answered t)).content lo ≡ with_at key v (entries_of n lo) (answered t)
           go false e =
               let z : place (keys_of n) key + 0 ≡ place (keys_of n) key = omega arith in
               put_in_entries n lo f.whole (place (keys_of n) key) key v place_inside ∙ rw (none_more, z)
@@ -112,7 +112,7 @@ module _ (n : Node) (f : AtLeaf n) where
               let i = place (keys_of n) key - 1 in
               widened_entries 0 (with_slot n i v) (slot_level i v) lo ∙ slot_entries n lo f.whole i v ∙ rw (none_more, (yes_says (keys_of n) key e).the_key)
 
-      pub paired_answer : fresh (value_in key (entriesOf n lo)) ≡ ((paired n key v).a, 0, [])
+      pub paired_answer : fresh (value_in key (entries_of n lo)) ≡ ((paired n key v).a, 0, [])
       unfolding paired key_place
       paired_answer = ap fresh (leaf_value n lo key f.whole f.leaf) ∙ go (key_place (keys_of n) key).there
         where
@@ -183,13 +183,13 @@ module _ (slots : ℕ) (b u : List ℕ) (key : ℕ) (p : Descent) (u₁ : List �
 
     -- a leaf's new content, where the plan goes up from it
     pub change_on : (k : List Branch → ℕ → Entries → TreePlan) (n : Wide) (a : ℕ) → PathInPart p.path → Content 0 n
-        → k (branches (way d)) d.name (entriesOf d.node (low (way d))) ≡ rise_plan slots (a, 0, []) d.top d.path d.name n
+        → k (branches (way d)) d.name (entries_of d.node (low (way d))) ≡ rise_plan slots (a, 0, []) d.top d.path d.name n
         → Changes slots b u (from_root key k) (record { stop = p.stop; way = p; content = n; a = a }) u₁
     change_on k n a w c e = record { asks = h.asks k ∙ rw (going, e); ready = λ t. (ended_ready slots d change_ended n c, w); noted = h.noted }
 
     -- no leaf changes: the plan answers at once
     pub change_none : (k : List Branch → ℕ → Entries → TreePlan) (i j : ℕ) (s : Stop) (u' : List ℕ) (c : Changed)
-        → k (branches (way d)) d.name (entriesOf d.node (low (way d))) ≡ P.done ((i, j, []), []) → Ends (held b) u₁ i j s u' → c.stop ≡ s → Changes slots b u (from_root key k) c u'
+        → k (branches (way d)) d.name (entries_of d.node (low (way d))) ≡ P.done ((i, j, []), []) → Ends (held b) u₁ i j s u' → c.stop ≡ s → Changes slots b u (from_root key k) c u'
     change_none k i j s u' c e q t =
         let halts : goes s ≡ false = ends_halts slots (held b) u₁ i j s u' q in
         record {
@@ -205,8 +205,8 @@ module _ (slots : ℕ) (b u : List ℕ) (key : ℕ) (p : Descent) (u₁ : List �
     inserted v n k q w pk pn pq =
         let pp : q ≡ paired d.node key v = rw (pn, pk) at pq in
         let leaf : AtLeaf d.node = ended_leaf slots d change_ended in
-        let e : wide_entries q.content (low (way d)) ≡ with_pair key v (entriesOf d.node (low (way d))) = rw pp (paired_entries d.node leaf key v (low (way d))) in
-        let a : fresh (value_in key (entriesOf d.node (low (way d)))) ≡ (q.a, 0, []) = rw pp (paired_answer d.node leaf key v (low (way d))) in
+        let e : wide_entries q.content (low (way d)) ≡ with_pair key v (entries_of d.node (low (way d))) = rw pp (paired_entries d.node leaf key v (low (way d))) in
+        let a : fresh (value_in key (entries_of d.node (low (way d)))) ≡ (q.a, 0, []) = rw pp (paired_answer d.node leaf key v (low (way d))) in
         change_on (λ fs n es. up slots (fresh (value_in key es)) zero fs [] n (with_pair key v es)) q.content q.a w (rw pp (paired_content d.node leaf key v)) (rw (a, ← e))
 
 pub ruleset insert_exits = (change_stops, leaf_few, change_few, pair_within, inserted)

@@ -10,12 +10,12 @@ use Rattle.nodes.specs.declared.node.Node.{Node}
 use Rattle.nodes.specs.declared.change.Halves.{Halves}
 use Rattle.nodes.specs.Node.{extra}
 use Rattle.nodes.specs.Laws.Node.{extra_le}
-use Rattle.nodes.specs.Entries.{entriesOf}
+use Rattle.nodes.specs.Entries.{entries_of}
 use Rattle.nodes.specs.Laws.Entries.{first}
 use Rattle.nodes.specs.Laws.Built.{length_joined}
 use Rattle.nodes.specs.Change.{wide, join, merged, from_right, from_left}
 use Rattle.nodes.specs.Kept.{Whole}
-use Rattle.nodes.specs.Laws.Kept.{length_entriesOf, merged_entries, from_right_left, from_right_right, from_right_sep, from_left_left, from_left_right, from_left_sep}
+use Rattle.nodes.specs.Laws.Kept.{length_entries_of, merged_entries, from_right_left, from_right_right, from_right_sep, from_left_left, from_left_right, from_left_sep}
 use Rattle.operations.specs.Object.{Ans, Writes}
 use Rattle.operations.specs.Slot.{release}
 use Rattle.operations.specs.Entry.{Entries, fewest_entries, first_key_or, kind}
@@ -60,22 +60,22 @@ pub ruleset lend_exits = (lent_by_left, lent_by_right, joined_to_left, joined_to
 pub record Halved (l : ℕ) (h : Halves) : Type 0 where
   pub left : OfLevel l h.left
   pub right : OfLevel l h.right
-  pub next : first_key_or (entriesOf h.right h.sep) 0 ≡ h.sep
+  pub next : first_key_or (entries_of h.right h.sep) 0 ≡ h.sep
 
 nxt_first : (es : Entries) → first_key_or es 0 ≡ first es
 nxt_first [] = refl
 nxt_first (e ∷ es) = refl
 
 -- "from 8 or more keys"
-plenty : (l : ℕ) (m : Node) (lo : ℕ) → OfLevel l m → (p q : TreePlan) → ifd (dec_lt (fewest_entries l) (length (entriesOf m lo))) p q ≡ cond (ltb 7 m.count) p q
+plenty : (l : ℕ) (m : Node) (lo : ℕ) → OfLevel l m → (p q : TreePlan) → ifd (dec_lt (fewest_entries l) (length (entries_of m lo))) p q ≡ cond (ltb 7 m.count) p q
 plenty l m lo f p q = go (ltb 7 m.count) refl
   where
-    len : length (entriesOf m lo) + 7 ≡ m.count + fewest_entries l
-    len = let e : extra m.kind ≡ extra (kind l) = ap extra f.kind in omega (arith, length_entriesOf m lo f.whole, extra_level l)
+    len : length (entries_of m lo) + 7 ≡ m.count + fewest_entries l
+    len = let e : extra m.kind ≡ extra (kind l) = ap extra f.kind in omega (arith, length_entries_of m lo f.whole, extra_level l)
 
-    go : (b : Bool) → ltb 7 m.count ≡ b → ifd (dec_lt (fewest_entries l) (length (entriesOf m lo))) p q ≡ cond (ltb 7 m.count) p q
-    go true e = let h : 7 < m.count = ltb-true 7 m.count e in rw e (ifd_yes (dec_lt (fewest_entries l) (length (entriesOf m lo))) p q (omega (arith, len)))
-    go false e = let h : m.count ≤ 7 = ltb-false 7 m.count e in rw e (ifd_no (dec_lt (fewest_entries l) (length (entriesOf m lo))) p q (λ d. omega (arith, len, d)))
+    go : (b : Bool) → ltb 7 m.count ≡ b → ifd (dec_lt (fewest_entries l) (length (entries_of m lo))) p q ≡ cond (ltb 7 m.count) p q
+    go true e = let h : 7 < m.count = ltb-true 7 m.count e in rw e (ifd_yes (dec_lt (fewest_entries l) (length (entries_of m lo))) p q (omega (arith, len)))
+    go false e = let h : m.count ≤ 7 = ltb-false 7 m.count e in rw e (ifd_no (dec_lt (fewest_entries l) (length (entries_of m lo))) p q (λ d. omega (arith, len, d)))
 
 module _ (l : ℕ) (n m : Node) (sep : ℕ) (fn : OfLevel l n) (fm : OfLevel l m) (enough : 1 < m.count) where
   to_right : n.kind ≡ m.kind
@@ -92,7 +92,7 @@ module _ (l : ℕ) (n m : Node) (sep : ℕ) (fn : OfLevel l n) (fm : OfLevel l m
       record {
         left = left_level l (join m sep n) (join_level l m sep n fm fn) (m.count - 1) n.version i;
         right = right_level l (join m sep n) (join_level l m sep n fm fn) (m.count - 1) n.version i;
-        next = nxt_first (entriesOf (from_left m sep n).right (from_left m sep n).sep)
+        next = nxt_first (entries_of (from_left m sep n).right (from_left m sep n).sep)
             ∙ ap first (from_left_right m n sep 0 fm.whole fn.whole to_right enough) ∙ sym (from_left_sep m n sep 0 fm.whole fn.whole to_right enough);
       }
   lent_halved false =
@@ -100,7 +100,7 @@ module _ (l : ℕ) (n m : Node) (sep : ℕ) (fn : OfLevel l n) (fm : OfLevel l m
       record {
         left = left_level l (join n sep m) (join_level l n sep m fn fm) (n.count + 1) m.version i;
         right = right_level l (join n sep m) (join_level l n sep m fn fm) (n.count + 1) m.version i;
-        next = nxt_first (entriesOf (from_right n sep m).right (from_right n sep m).sep)
+        next = nxt_first (entries_of (from_right n sep m).right (from_right n sep m).sep)
             ∙ ap first (from_right_right n m sep 0 fn.whole fm.whole (sym to_right) enough) ∙ sym (from_right_sep n m sep 0 fn.whole fm.whole (sym to_right) enough);
       }
 
@@ -111,10 +111,10 @@ module _ (l : ℕ) (n m : Node) (sep : ℕ) (fn : OfLevel l n) (fm : OfLevel l m
 
   -- the plan of either side, by the nodes
   pub evened_is : (a : Ans) (fs : List Branch) (go : Go) (last : Bool) (w : Writes) (f : Branch) (left right lo : ℕ)
-      → evened a l fs go last w f left right (entriesOf n (own_side last lo sep)) (entriesOf m (far_side last lo sep))
+      → evened a l fs go last w f left right (entries_of n (own_side last lo sep)) (entries_of m (far_side last lo sep))
       ≡ cond (ltb 7 m.count)
-      (parted go l w f left (entriesOf (lent last n sep m).left lo) right (entriesOf (lent last n sep m).right (lent last n sep m).sep))
-      (release w right (λ w'. C.merged a l fs go w' f left (entriesOf (joined last n sep m) lo)))
+      (parted go l w f left (entries_of (lent last n sep m).left lo) right (entries_of (lent last n sep m).right (lent last n sep m).sep))
+      (release w right (λ w'. C.merged a l fs go w' f left (entries_of (joined last n sep m) lo)))
   unfolding lent joined
   evened_is a fs go true w f left right lo =
       rw (

@@ -10,7 +10,7 @@ use Rattle.nodes.specs.declared.node.Node.{Node}
 use Rattle.nodes.specs.declared.change.Wide.{Wide}
 use Rattle.nodes.specs.Node.{extra}
 use Rattle.nodes.specs.Laws.Node.{extra_le}
-use Rattle.nodes.specs.Entries.{entriesOf, wide_entries}
+use Rattle.nodes.specs.Entries.{entries_of, wide_entries}
 use Rattle.nodes.specs.Laws.Entries.{length_entries}
 use Rattle.nodes.specs.Change.{narrow, wide_keys, wide_slots}
 use Rattle.nodes.specs.Laws.Kept.{narrow_entries}
@@ -133,7 +133,7 @@ module _ (slots : ℕ) (m : ClientWord → ℕ) (x u : List ℕ) (l : ℕ) (root
       let q : length (wide_entries n (in_parent t lo).key) ≤ most_entries l → ⊥ = λ q. omega (arith, most l n k i, entries_many l n k (in_parent t lo).key, q) in
       ifd_yes (dec_le (fewest_entries l) (length (wide_entries n (in_parent t lo).key))) _ _ p ∙ ifd_no (dec_le (length (wide_entries n (in_parent t lo).key)) (most_entries l)) _ _ q
 
-  is_neighbour : n.count < 7 → (lo : ℕ) (fs : List Branch) (w : Writes) (go : Go) → whole_plan lo fs w go ≡ neighbour_plan (a, b, []) l t c (entriesOf (narrow n)) lo fs w go
+  is_neighbour : n.count < 7 → (lo : ℕ) (fs : List Branch) (w : Writes) (go : Go) → whole_plan lo fs w go ≡ neighbour_plan (a, b, []) l t c (entries_of (narrow n)) lo fs w go
   unfolding level_plan neighbour_plan
   is_neighbour e lo fs w go =
       let i : ℕ = (in_parent t lo).key in
@@ -144,9 +144,9 @@ module _ (slots : ℕ) (m : ClientWord → ℕ) (x u : List ℕ) (l : ℕ) (root
   raise_splits e r x' u' h = raised_as slots m x u l root whole_plan (split_plan slots l t c (wide_entries n)) r x' u' (is_split e) (h.raised root)
 
   module _ (d : Node) (pd : d ≡ narrow n) where
-    pub raise_turns : n.count < 7 → (r : Risen) (x' u' : List ℕ) → Raised slots m x u l root (neighbour_plan (a, b, []) l t c (entriesOf d)) r x' u'
+    pub raise_turns : n.count < 7 → (r : Risen) (x' u' : List ℕ) → Raised slots m x u l root (neighbour_plan (a, b, []) l t c (entries_of d)) r x' u'
         → Raised slots m x u l root (level_plan slots (a, b, []) l t c (wide_entries n)) r x' u'
-    raise_turns e r x' u' h = raised_as slots m x u l root whole_plan (neighbour_plan (a, b, []) l t c (entriesOf (narrow n))) r x' u' (is_neighbour e) (rw pd at h)
+    raise_turns e r x' u' h = raised_as slots m x u l root whole_plan (neighbour_plan (a, b, []) l t c (entries_of (narrow n))) r x' u' (is_neighbour e) (rw pd at h)
 
     pub raise_of_level : OfLevel l d
     raise_of_level = rw pd (narrow_of_level l n k 0)

@@ -14,9 +14,9 @@ use Rattle.nodes.specs.declared.change.Wide.{Wide}
 use Rattle.nodes.specs.Lists.{remove_at}
 use Rattle.nodes.specs.Laws.Lists.{length_remove}
 use Rattle.nodes.specs.Node.{extra, keys_of, pair_at, made, free_node}
-use Rattle.nodes.specs.Entries.{entriesOf, wide_entries}
+use Rattle.nodes.specs.Entries.{entries_of, wide_entries}
 use Rattle.nodes.specs.Change.{take_out}
-use Rattle.nodes.specs.Laws.Kept.{length_entriesOf, take_out_entries}
+use Rattle.nodes.specs.Laws.Kept.{length_entries_of, take_out_entries}
 use Rattle.operations.specs.Object.{node, flag, taken, free, no_tree, Ans, Writes}
 use Rattle.operations.specs.Slot.{release}
 use Rattle.operations.specs.Entry.{Entries, keys}
@@ -61,10 +61,10 @@ between b at left right last h pa pl pr pe = record {
 -- the same by the parent's entries
 module _ (b : Turn) (s : Sides) (g : Followed b) (h : Between b s) (lo : ℕ) where
   abbrev pub above : Entries
-  above = entriesOf b.node lo
+  above = entries_of b.node lo
 
   pub long : length above ≡ suc b.node.count
-  long = let e = extra_inner b.node g.inner in omega (arith, length_entriesOf b.node lo g.whole)
+  long = let e = extra_inner b.node g.inner in omega (arith, length_entries_of b.node lo g.whole)
 
   pub both_inside : suc s.at < length above
   both_inside = omega (arith, long, h.paired.inside)
@@ -177,13 +177,13 @@ merged_is a l (g ∷ fs) go root count w f c es e n = rw (← e)
 
 module _ (slots : ℕ) (b : Turn) (s : Sides) (h : Neighbours slots b s) where
   -- the parent's entries without the right one
-  pub one_less : (lo : ℕ) → with_one (pair_in b s lo) s.left ≡ remove_at (suc s.at) (entriesOf b.node lo)
+  pub one_less : (lo : ℕ) → with_one (pair_in b s lo) s.left ≡ remove_at (suc s.at) (entries_of b.node lo)
   one_less lo =
-      right_out b.name s.at (entriesOf b.node lo) (both_inside b s h.followed h.between lo) s.left (left_entry b s h.followed h.between lo)
+      right_out b.name s.at (entries_of b.node lo) (both_inside b s h.followed h.between lo) s.left (left_entry b s h.followed h.between lo)
 
   one_less_length : (lo : ℕ) → length (with_one (pair_in b s lo) s.left) ≡ b.node.count
   one_less_length lo =
-      let e = length_remove (suc s.at) (entriesOf b.node lo) (both_inside b s h.followed h.between lo) in
+      let e = length_remove (suc s.at) (entries_of b.node lo) (both_inside b s h.followed h.between lo) in
       ap length (one_less lo) ∙ omega (arith, e, long b s h.followed h.between lo)
 
   pub parent_level : (l : ℕ) → b.node.level ≡ suc l → OfLevel (suc l) b.node
@@ -193,7 +193,7 @@ module _ (slots : ℕ) (b : Turn) (s : Sides) (h : Neighbours slots b s) where
   goes_up l lo e =
       let i : s.at < b.node.count = h.between.paired.inside in
       let x : s.at + extra b.node.kind ≡ suc s.at = let y = extra_inner b.node h.followed.inner in omega arith in
-      one_less lo ∙ ap (λ (k : ℕ). remove_at k (entriesOf b.node lo)) (sym x) ∙ sym (take_out_entries b.node lo h.followed.whole s.at i)
+      one_less lo ∙ ap (λ (k : ℕ). remove_at k (entries_of b.node lo)) (sym x) ∙ sym (take_out_entries b.node lo h.followed.whole s.at i)
       ∙ sym (widened_entries (suc l) (take_out b.node s.at) (out_level (suc l) b.node (parent_level l e) s.at i) lo)
 
 module _ (slots : ℕ) (m : ClientWord → ℕ) (x u : List ℕ) (root : Bool) (a c : ℕ) (b : Turn) (s : Sides) (one : Node) (h : Neighbours slots b s) (stop : Stop) (x₁ u₁ : List ℕ) (freed : Released slots m x u s.right stop x₁ u₁) (on : Bool) (po : on ≡ goes stop) where
@@ -221,10 +221,10 @@ module _ (slots : ℕ) (m : ClientWord → ℕ) (x u : List ℕ) (root : Bool) (
         same = λ w hold lo fs f go. rw (
           freed.asks w hold _,
           go_on,
-          merged_is (a, c, []) l fs go root b.node.count (let_go ++ w) (pair_in b s lo) s.left (entriesOf one (get_or (entriesOf b.node lo) s.at (0, 0)).0) f (one_less_length slots b s h lo),
+          merged_is (a, c, []) l fs go root b.node.count (let_go ++ w) (pair_in b s lo) s.left (entries_of one (get_or (entries_of b.node lo) s.at (0, 0)).0) f (one_less_length slots b s h lo),
           ← pt,
           e,
-          of_level_value l one (get_or (entriesOf b.node lo) s.at (0, 0)).0 b.name lv,
+          of_level_value l one (get_or (entries_of b.node lo) s.at (0, 0)).0 b.name lv,
           append_assoc d.more let_go w,
         ) (d.same (let_go ++ w) (freed.holds go_on w hold) lo fs f go);
         holds = λ f w hold. rw (append_assoc d.more let_go w) (d.holds f (let_go ++ w) (freed.holds go_on w hold));
@@ -249,7 +249,7 @@ module _ (slots : ℕ) (m : ClientWord → ℕ) (x u : List ℕ) (root : Bool) (
               freed.asks w hold _,
               go_on,
               merged_is (a, c, []) l fs go root b.node.count (let_go ++ w) (pair_in b s lo) s.left
-                  (entriesOf one (pair_in b s lo).key) f (one_less_length slots b s h lo),
+                  (entries_of one (pair_in b s lo).key) f (one_less_length slots b s h lo),
               ← pt,
               e,
               of_level_value l one (pair_in b s lo).key s.left lv,

@@ -12,10 +12,10 @@ use Rattle.nodes.specs.declared.node.Node.{Node}
 use Rattle.nodes.specs.declared.change.Wide.{Wide}
 use Rattle.nodes.specs.declared.change.Halves.{Halves}
 use Rattle.nodes.specs.Node.{extra, slots_of, made}
-use Rattle.nodes.specs.Entries.{entriesOf, wide_entries}
+use Rattle.nodes.specs.Entries.{entries_of, wide_entries}
 use Rattle.nodes.specs.Change.{wide, join, narrow, cut_at, merged, from_left, from_right, with_key}
 use Rattle.nodes.specs.Kept.{Whole}
-use Rattle.nodes.specs.Laws.Kept.{length_entriesOf, key_entries}
+use Rattle.nodes.specs.Laws.Kept.{length_entries_of, key_entries}
 use Rattle.operations.specs.Object.{node, no_tree, Writes}
 use Rattle.operations.specs.Entry.{kind}
 use Rattle.operations.specs.Path.{TreePlan, Branch, kid}
@@ -91,8 +91,8 @@ module _ (slots : ℕ) (m : ClientWord → ℕ) (x u : List ℕ) (root : Bool) (
   even_is : (l lo : ℕ) → OfLevel l n → OfLevel l k → 7 ≤ k.count → (fs : List Branch) (w : Writes) (go : Go)
       → even_plan (a, c, []) l b s n k lo fs w go
       ≡ cond (ltb 7 k.count)
-      (parted go l w (pair_in b s lo) s.left (entriesOf (lent s.last n sep k).left (pair_in b s lo).key)
-      s.right (entriesOf (lent s.last n sep k).right (lent s.last n sep k).sep))
+      (parted go l w (pair_in b s lo) s.left (entries_of (lent s.last n sep k).left (pair_in b s lo).key)
+      s.right (entries_of (lent s.last n sep k).right (lent s.last n sep k).sep))
       (merge_plan (a, c, []) l b s (joined s.last n sep k) lo fs w go)
   unfolding even_plan merge_plan
   even_is l lo fn fk seven fs w go =
@@ -114,11 +114,11 @@ module _ (slots : ℕ) (m : ClientWord → ℕ) (x u : List ℕ) (root : Bool) (
         let i : s.at + extra b.node.kind ≡ suc s.at = omega arith in
         let d : get_or (slots_of b.node) (s.at + extra b.node.kind) 0 ≡ s.right =
         get_or-take (b.node.count + extra b.node.kind) b.node.slots (s.at + extra b.node.kind) 0 (omega (arith, h.between.paired.inside)) ∙ ap (λ (q : ℕ). get_or b.node.slots q 0) i ∙ sym h.between.right in
-        key_between b.name s.at (entriesOf b.node lo) (both_inside b s h.followed h.between lo) h'.sep s.left s.right
+        key_between b.name s.at (entries_of b.node lo) (both_inside b s h.followed h.between lo) h'.sep s.left s.right
         (left_entry b s h.followed h.between lo) (right_entry b s h.followed h.between lo)
-        ∙ ap (λ (q : ℕ). set (entriesOf b.node lo) (suc s.at) (h'.sep, q)) (sym d) ∙ ap (λ (q : ℕ). set (entriesOf b.node lo) q (h'.sep, get_or (slots_of b.node) (s.at + extra b.node.kind) 0)) (sym i)
+        ∙ ap (λ (q : ℕ). set (entries_of b.node lo) (suc s.at) (h'.sep, q)) (sym d) ∙ ap (λ (q : ℕ). set (entries_of b.node lo) q (h'.sep, get_or (slots_of b.node) (s.at + extra b.node.kind) 0)) (sym i)
         ∙ sym (key_entries b.node lo h.followed.whole s.at h'.sep)
-        ∙ ap (λ (q : Node). entriesOf q lo) (sym pp)
+        ∙ ap (λ (q : Node). entries_of q lo) (sym pp)
         ∙ sym (widened_entries (suc l) p (rw pp (key_level (suc l) b.node (parent_level slots b s h l v) s.at h'.sep)) lo)
 
     pub even_shares : (x₁ : List ℕ) (up : Wide) → 7 < k.count → Noted m u → BothWritten x s.left s.right h' x₁ → p.count ≡ b.node.count → up ≡ widened p
@@ -204,7 +204,7 @@ met slots m x u l b name s other stop k u₁ on d h po kid pg q =
 
 module _ (slots l a c : ℕ) (b : Turn) (name : ℕ) (n : Node) (d : Under slots l name b) where
   abbrev whole_plan : ℕ → List Branch → Writes → Go → TreePlan
-  whole_plan = neighbour_plan (a, c, []) l b name (entriesOf n)
+  whole_plan = neighbour_plan (a, c, []) l b name (entries_of n)
 
   pub alone : (m : ClientWord → ℕ) (x u : List ℕ) (root : Bool) (r : Risen) → b.node.count ≡ 0 → r.stop ≡ Aborts 3 → Noted m u → Raised slots m x u l root whole_plan r x u
   unfolding neighbour_plan branch_of
@@ -212,40 +212,40 @@ module _ (slots l a c : ℕ) (b : Turn) (name : ℕ) (n : Node) (d : Under slots
       let first : b.at ≡ 0 = omega (arith, d.followed.within) in
       fails_raised slots m x u l root whole_plan r
       (λ lo fs w go.
-      ap (λ (i : ℕ). C.neighbour (a, c, []) l fs go w (branch_of b.name i (entriesOf b.node lo)) name (entriesOf n (get_or (entriesOf b.node lo) i (0, 0)).0) (branch_of b.name i (entriesOf b.node lo)).post) first
-      ∙ only_child (a, c, []) l fs go w b.name (entriesOf b.node lo) (entriesOf n (get_or (entriesOf b.node lo) 0 (0, 0)).0) name (only lo))
+      ap (λ (i : ℕ). C.neighbour (a, c, []) l fs go w (branch_of b.name i (entries_of b.node lo)) name (entries_of n (get_or (entries_of b.node lo) i (0, 0)).0) (branch_of b.name i (entries_of b.node lo)).post) first
+      ∙ only_child (a, c, []) l fs go w b.name (entries_of b.node lo) (entries_of n (get_or (entries_of b.node lo) 0 (0, 0)).0) name (only lo))
       e noted
     where
-      only : (lo : ℕ) → length (entriesOf b.node lo) ≡ 1
-      only lo = let y = extra_inner b.node d.followed.inner in omega (arith, length_entriesOf b.node lo d.followed.whole)
+      only : (lo : ℕ) → length (entries_of b.node lo) ≡ 1
+      only lo = let y = extra_inner b.node d.followed.inner in omega (arith, length_entries_of b.node lo d.followed.whole)
 
   module _ (s : Sides) (h : Between b s) where
     -- where the two hold keys from
     abbrev lows : ℕ → ℕ
-    lows lo = (get_or (entriesOf b.node lo) s.at (0, 0)).0
+    lows lo = (get_or (entries_of b.node lo) s.at (0, 0)).0
 
     abbrev sep : ℕ
     sep = get_or b.node.keys s.at 0
 
-    own_low : (lo : ℕ) → (get_or (entriesOf b.node lo) (own_side s.last s.at (suc s.at)) (0, 0)).0 ≡ own_side s.last (lows lo) sep
-    own_low lo = side_of s.last (λ i. (get_or (entriesOf b.node lo) i (0, 0)).0) s.at (suc s.at) ∙ ap (λ (q : ℕ). own_side s.last (lows lo) q) (key_entry b s d.followed h lo)
+    own_low : (lo : ℕ) → (get_or (entries_of b.node lo) (own_side s.last s.at (suc s.at)) (0, 0)).0 ≡ own_side s.last (lows lo) sep
+    own_low lo = side_of s.last (λ i. (get_or (entries_of b.node lo) i (0, 0)).0) s.at (suc s.at) ∙ ap (λ (q : ℕ). own_side s.last (lows lo) q) (key_entry b s d.followed h lo)
 
-    far_low : (lo : ℕ) → (get_or (entriesOf b.node lo) (far_side s.last s.at (suc s.at)) (0, 0)).0 ≡ far_side s.last (lows lo) sep
-    far_low lo = other_of s.last (λ i. (get_or (entriesOf b.node lo) i (0, 0)).0) s.at (suc s.at) ∙ ap (λ (q : ℕ). far_side s.last (lows lo) q) (key_entry b s d.followed h lo)
+    far_low : (lo : ℕ) → (get_or (entries_of b.node lo) (far_side s.last s.at (suc s.at)) (0, 0)).0 ≡ far_side s.last (lows lo) sep
+    far_low lo = other_of s.last (λ i. (get_or (entries_of b.node lo) i (0, 0)).0) s.at (suc s.at) ∙ ap (λ (q : ℕ). far_side s.last (lows lo) q) (key_entry b s d.followed h lo)
 
-    ends : (lo : ℕ) → s.last ≡ true → length (entriesOf b.node lo) ≡ suc (suc s.at)
+    ends : (lo : ℕ) → s.last ≡ true → length (entries_of b.node lo) ≡ suc (suc s.at)
     ends lo t = omega (arith, long b s d.followed h lo, h.paired.ends t)
 
     abbrev turned_at : ℕ → List Branch → Writes → Go → ℕ → ℕ → ℕ → TreePlan
     turned_at lo fs w go i e q =
-        C.neighbour (a, c, []) l fs go w (branch_of b.name i (entriesOf b.node lo)) e (entriesOf n q) (branch_of b.name i (entriesOf b.node lo)).post
+        C.neighbour (a, c, []) l fs go w (branch_of b.name i (entries_of b.node lo)) e (entries_of n q) (branch_of b.name i (entries_of b.node lo)).post
 
     by_side : (lo : ℕ) (fs : List Branch) (w : Writes) (go : Go)
         → whole_plan lo fs w go ≡ turned_at lo fs w go (own_side s.last s.at (suc s.at)) (own_side s.last s.left s.right) (own_side s.last (lows lo) sep)
     unfolding neighbour_plan branch_of
     by_side lo fs w go =
-        ap (λ (i : ℕ). turned_at lo fs w go i name (get_or (entriesOf b.node lo) i (0, 0)).0) h.paired.here
-        ∙ ap (λ (e : ℕ). turned_at lo fs w go (own_side s.last s.at (suc s.at)) e (get_or (entriesOf b.node lo) (own_side s.last s.at (suc s.at)) (0, 0)).0) (side_name slots l b name s d h)
+        ap (λ (i : ℕ). turned_at lo fs w go i name (get_or (entries_of b.node lo) i (0, 0)).0) h.paired.here
+        ∙ ap (λ (e : ℕ). turned_at lo fs w go (own_side s.last s.at (suc s.at)) e (get_or (entries_of b.node lo) (own_side s.last s.at (suc s.at)) (0, 0)).0) (side_name slots l b name s d h)
         ∙ ap (λ (q : ℕ). turned_at lo fs w go (own_side s.last s.at (suc s.at)) (own_side s.last s.left s.right) q) (own_low lo)
 
     module _ (other : ℕ) (po : other ≡ far_side s.last s.left s.right) where
@@ -254,7 +254,7 @@ module _ (slots l a c : ℕ) (b : Turn) (name : ℕ) (n : Node) (d : Under slots
           let same : s.left ≡ s.right = one_name s.last s.left s.right (sym po ∙ e ∙ side_name slots l b name s d h) in
           fails_raised slots m x u l root whole_plan r
           (λ lo fs w go. by_side lo fs w go
-          ∙ turns_to_itself (a, c, []) l fs go w b.name (entriesOf b.node lo) (entriesOf n (own_side s.last (lows lo) sep)) s.at (both_inside b s d.followed h lo)
+          ∙ turns_to_itself (a, c, []) l fs go w b.name (entries_of b.node lo) (entries_of n (own_side s.last (lows lo) sep)) s.at (both_inside b s d.followed h lo)
           s.left s.right (left_entry b s d.followed h lo) (right_entry b s d.followed h lo) s.last (ends lo) same)
           p noted
 
@@ -262,11 +262,11 @@ module _ (slots l a c : ℕ) (b : Turn) (name : ℕ) (n : Node) (d : Under slots
         meets : (lo : ℕ) (fs : List Branch) (w : Writes) (go : Go)
             → whole_plan lo fs w go
             ≡ kid w l (far_side s.last (lows lo) sep) other
-            (λ es2. evened (a, c, []) l fs go s.last w (pair_in b s lo) s.left s.right (entriesOf n (own_side s.last (lows lo) sep)) es2)
+            (λ es2. evened (a, c, []) l fs go s.last w (pair_in b s lo) s.left s.right (entries_of n (own_side s.last (lows lo) sep)) es2)
         meets lo fs w go =
             let two : s.left ≡ s.right → ⊥ = λ e. apart (po ∙ same_names s.last s.left s.right e ∙ sym (side_name slots l b name s d h)) in
             by_side lo fs w go
-            ∙ turns (a, c, []) l fs go w b.name (entriesOf b.node lo) (entriesOf n (own_side s.last (lows lo) sep)) s.at (both_inside b s d.followed h lo)
+            ∙ turns (a, c, []) l fs go w b.name (entries_of b.node lo) (entries_of n (own_side s.last (lows lo) sep)) s.at (both_inside b s d.followed h lo)
             s.left s.right (left_entry b s d.followed h lo) (right_entry b s d.followed h lo) s.last (ends lo) two
             ∙ rw (far_low lo, po)
 

@@ -11,9 +11,9 @@ use Rattle.nodes.specs.declared.node.Node.{Node}
 use Rattle.nodes.specs.Place.{place}
 use Rattle.nodes.specs.Node.{extra, keys_of, slots_of, made}
 use Rattle.nodes.specs.Change.{with_slot}
-use Rattle.nodes.specs.Entries.{entriesOf}
+use Rattle.nodes.specs.Entries.{entries_of}
 use Rattle.nodes.specs.Kept.{Whole}
-use Rattle.nodes.specs.Laws.Kept.{made_whole, length_entriesOf, slot_entries}
+use Rattle.nodes.specs.Laws.Kept.{made_whole, length_entries_of, slot_entries}
 use Rattle.operations.specs.Object.{node, Val, no_tree, Writes}
 use Rattle.operations.specs.Entry.{Entries, keys, node_value}
 use Rattle.operations.specs.Path.{TreePlan, Branch, Cont, down}
@@ -60,12 +60,12 @@ module _ (p : Node) (f : Whole p) (o : opens p ≡ true) (i d : ℕ) (q : Node) 
   with_whole = let l : length (set (slots_of p) i d) ≡ length (keys_of p) + extra p.kind = rw length-set (omega (arith, f.keys, f.slots)) in
       rw e (made_whole p.kind p.level p.version 0 (keys_of p) (set (slots_of p) i d) l)
 
-  child_value : (lo up : ℕ) → i < p.count + extra p.kind → node_value p.level (with_child (entriesOf p lo) i d) ≡ value_of (node up) q
+  child_value : (lo up : ℕ) → i < p.count + extra p.kind → node_value p.level (with_child (entries_of p lo) i d) ≡ value_of (node up) q
   child_value lo up h =
-      let es : Entries = entriesOf p lo in
+      let es : Entries = entries_of p lo in
       let k : (get_or es i (0, 0)).0 ≡ get_or (N.headed (extra p.kind) lo (keys_of p)) i 0 = sym (get_or-map (λ (e : ℕ × ℕ). e.0) es i (0, 0)) ∙ rw (entry_keys p lo f) in
-      let a : with_child es i d ≡ set es i ((get_or es i (0, 0)).0, d) = sym (set_split es i ((get_or es i (0, 0)).0, d) (omega (arith, length_entriesOf p lo f))) in
-      let b : entriesOf q lo ≡ set es i ((get_or es i (0, 0)).0, d) = rw (e, k) (slot_entries p lo f i d) in
+      let a : with_child es i d ≡ set es i ((get_or es i (0, 0)).0, d) = sym (set_split es i ((get_or es i (0, 0)).0, d) (omega (arith, length_entries_of p lo f))) in
+      let b : entries_of q lo ≡ set es i ((get_or es i (0, 0)).0, d) = rw (e, k) (slot_entries p lo f i d) in
       rw (a, ← b, ← with_level) (stored_node q lo up with_whole with_opens)
 
 -- ---- the child moved, and the parent written
@@ -74,7 +74,7 @@ module _ (slots : ℕ) (m : ClientWord → ℕ) (x u : List ℕ) (nm s : ℕ) (n
   v = value_of (node nm) n
 
   abbrev after : ℕ → ℕ → Writes → TreePlan
-  after lo d w = P.done ((1, d, []), (node up, node_value p.level (with_child (entriesOf p lo) at d)) ∷ w)
+  after lo d w = P.done ((1, d, []), (node up, node_value p.level (with_child (entries_of p lo) at d)) ∷ w)
 
   pub child_stops : not b ≡ true → ChildMoved slots m x u nm s n up p at t.stop x₁ u₁
   child_stops nb =
@@ -98,7 +98,7 @@ module _ (slots : ℕ) (m : ClientWord → ℕ) (x u : List ℕ) (nm s : ℕ) (n
       let on : goes t.stop ≡ true = sym pb ∙ not-false b nb in
       let i : Inner p = open_inner p f.opened (omega (arith, f.level)) in
       let y : Wrote x₁ (node up) (value_of (node up) q) x₂ = w.wrote (omega (arith, with_level p f.whole f.opened at t.name q e, f.small.level)) in
-      let k : (lo : ℕ) → node_value p.level (with_child (entriesOf p lo) at t.name) ≡ value_of (node up) q =
+      let k : (lo : ℕ) → node_value p.level (with_child (entries_of p lo) at t.name) ≡ value_of (node up) q =
       λ lo. child_value p f.whole f.opened at t.name q e lo up (omega (arith, extra_inner p i)) in
       record {
         operated = λ lo. record {
@@ -138,19 +138,19 @@ move_at_list slots nm s v key fs up (suc l) at (a ∷ es) g e h = rw (← e, cut
 
 module _ (slots : ℕ) (m : ClientWord → ℕ) (x u : List ℕ) (key nm s : ℕ) (n : Node) (l up : ℕ) (p : Node) (f : Parent slots l up p) (at : ℕ) (pa : at ≡ place (keys_of p) key) (ha : at ≤ p.count) where
   at_is : (fs : List Branch) (lo : ℕ)
-      → move_at slots nm s (value_of (node nm) n) key p.level fs up (entriesOf p lo)
-      ≡ ifd (ℕ_discrete (get_or p.slots at 0) nm) (child_plan slots nm s (value_of (node nm) n) up p.level at (entriesOf p lo)) (P.fail no_tree)
+      → move_at slots nm s (value_of (node nm) n) key p.level fs up (entries_of p lo)
+      ≡ ifd (ℕ_discrete (get_or p.slots at 0) nm) (child_plan slots nm s (value_of (node nm) n) up p.level at (entries_of p lo)) (P.fail no_tree)
   at_is fs lo =
       let i : Inner p = open_inner p f.opened (omega (arith, f.level)) in
-      let q : keys (drop 1 (entriesOf p lo)) ≡ keys_of p = rw (keys_later (entriesOf p lo), entry_keys p lo f.whole, extra_inner p i) in
-      let r : (get_or (entriesOf p lo) at (0, 0)).1 ≡ get_or p.slots at 0 = entry_slot p lo f.whole at (omega (arith, extra_inner p i)) in
-      let g : suc at ≤ length (entriesOf p lo) = omega (arith, length_entriesOf p lo f.whole, extra_inner p i) in
-      move_at_list slots nm s (value_of (node nm) n) key fs up p.level at (entriesOf p lo) i.level (rw q pa) g ∙ rw r
+      let q : keys (drop 1 (entries_of p lo)) ≡ keys_of p = rw (keys_later (entries_of p lo), entry_keys p lo f.whole, extra_inner p i) in
+      let r : (get_or (entries_of p lo) at (0, 0)).1 ≡ get_or p.slots at 0 = entry_slot p lo f.whole at (omega (arith, extra_inner p i)) in
+      let g : suc at ≤ length (entries_of p lo) = omega (arith, length_entries_of p lo f.whole, extra_inner p i) in
+      move_at_list slots nm s (value_of (node nm) n) key fs up p.level at (entries_of p lo) i.level (rw q pa) g ∙ rw r
 
   pub at_elsewhere : (c : ℕ) → OwnGood x → Noted m u → c ≡ get_or p.slots at 0 → (c ≡ nm → ⊥) → MovedAt slots m x u key nm s n up p (Aborts 3) x u
   at_elsewhere c g h q d = record {
     operated = λ fs lo. walks_operated slots m x u _ (Aborts 3) u g (record {
-      same = rw (at_is fs lo, ifd_no (ℕ_discrete (get_or p.slots at 0) nm) (child_plan slots nm s (value_of (node nm) n) up p.level at (entriesOf p lo)) (P.fail no_tree) (λ e. d (q ∙ e))) (walked_fails slots m (used_in u) no_tree);
+      same = rw (at_is fs lo, ifd_no (ℕ_discrete (get_or p.slots at 0) nm) (child_plan slots nm s (value_of (node nm) n) up p.level at (entries_of p lo)) (P.fail no_tree) (λ e. d (q ∙ e))) (walked_fails slots m (used_in u) no_tree);
       noted = h;
     });
   }
@@ -158,7 +158,7 @@ module _ (slots : ℕ) (m : ClientWord → ℕ) (x u : List ℕ) (key nm s : ℕ
   pub at_child : (c : ℕ) (q : Node) (st : Stop) (x' u' : List ℕ) → c ≡ get_or p.slots at 0 → c ≡ nm → q ≡ p → ChildMoved slots m x u nm s n up q at st x' u' → MovedAt slots m x u key nm s n up p st x' u'
   at_child c q st x' u' r e pq t = record {
     operated = λ fs lo.
-        rw (at_is fs lo, ifd_yes (ℕ_discrete (get_or p.slots at 0) nm) (child_plan slots nm s (value_of (node nm) n) up p.level at (entriesOf p lo)) (P.fail no_tree) (sym r ∙ e)) ((rw pq at t).operated lo);
+        rw (at_is fs lo, ifd_yes (ℕ_discrete (get_or p.slots at 0) nm) (child_plan slots nm s (value_of (node nm) n) up p.level at (entries_of p lo)) (P.fail no_tree) (sym r ∙ e)) ((rw pq at t).operated lo);
   }
 
 pub parent_slot : (slots l up : ℕ) (p : Node) (at : ℕ) → Parent slots l up p → at ≤ p.count → at < 15
@@ -196,7 +196,7 @@ module _ (slots : ℕ) (m : ClientWord → ℕ) (u : List ℕ) (key top l : ℕ)
 
     pub parent_low : (d : Arrival) (v : ℕ) → v ≡ r.level → v ≤ l → d.stop ≡ Aborts 3 → ToParent slots m u key top l d u₁
     parent_low d v pv g e = record {
-      asks = λ k. rw (h.asks (below k), on, ifd_no (dec_lt l r.level) (down (to_level (suc l)) key k r.level [] top (entriesOf r 0)) (P.fail no_tree) (λ a. absurd (omega arith)), e)
+      asks = λ k. rw (h.asks (below k), on, ifd_no (dec_lt l r.level) (down (to_level (suc l)) key k r.level [] top (entries_of r 0)) (P.fail no_tree) (λ a. absurd (omega arith)), e)
           (walked_fails slots m (used_in u₁) no_tree);
       noted = h.noted;
       parent = λ t. stops_not (Aborts 3) refl (rw e at t);
@@ -210,7 +210,7 @@ module _ (slots : ℕ) (m : ClientWord → ℕ) (u : List ℕ) (key top l : ℕ)
         let g : l < r.level = omega arith in
         let c' : Led slots m u₁ key (suc l) top r d u₂ = rw add-one at c in
         record {
-          asks = λ k. rw (h.asks (below k), on, ifd_yes (dec_lt l r.level) (down (to_level (suc l)) key k r.level [] top (entriesOf r 0)) (P.fail no_tree) g)
+          asks = λ k. rw (h.asks (below k), on, ifd_yes (dec_lt l r.level) (down (to_level (suc l)) key k r.level [] top (entries_of r 0)) (P.fail no_tree) g)
               (c'.asks (to_level (suc l)) (level_stops (suc l)) k);
           noted = c'.noted;
           parent = λ t. let e : Reached (suc l) d = c'.reached t in

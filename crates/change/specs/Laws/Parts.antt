@@ -9,7 +9,7 @@ use Rattle.nodes.specs.Lists.{remove_at}
 use Rattle.nodes.specs.Laws.Lists.{length_remove}
 use Rattle.nodes.specs.Node.{extra, keys_of, slots_of, made}
 use Rattle.nodes.specs.Laws.Node.{extra_le}
-use Rattle.nodes.specs.Entries.{entriesOf, wide_entries}
+use Rattle.nodes.specs.Entries.{entries_of, wide_entries}
 use Rattle.nodes.specs.Change.{wide, wide_keys, wide_slots, take_out, with_key, narrow, cut_at, join}
 use Rattle.nodes.specs.Kept.{WholeWide}
 use Rattle.nodes.specs.Laws.Kept.{made_whole, wide_whole, entries_wide, join_whole}
@@ -91,8 +91,8 @@ module _ (l : ℕ) (n : Node) (f : OfLevel l n) where
       }
 
   -- and as the content that goes up
-  pub widened_entries : (lo : ℕ) → wide_entries (widened n) lo ≡ entriesOf n lo
-  unfolding widened entriesOf
+  pub widened_entries : (lo : ℕ) → wide_entries (widened n) lo ≡ entries_of n lo
+  unfolding widened entries_of
   widened_entries lo = entries_wide n.kind n.level n.version lo (keys_of n) (slots_of n) longer
 
   pub widened_content : n.count ≤ 14 → Content l (widened n)

@@ -9,7 +9,7 @@ use Rattle.nodes.specs.declared.change.Halves.{Halves}
 use Rattle.nodes.specs.Lists.{pad}
 use Rattle.nodes.specs.Node.{extra, keys_of, slots_of, made}
 use Rattle.nodes.specs.Laws.Node.{keys_made, slots_made}
-use Rattle.nodes.specs.Entries.{entriesOf}
+use Rattle.nodes.specs.Entries.{entries_of}
 use Rattle.nodes.specs.Change.{wide, with_version}
 use Rattle.nodes.specs.Kept.{Whole}
 use Rattle.nodes.specs.Laws.Kept.{whole}
@@ -128,8 +128,8 @@ unfolding opens
 of_level_open zero n h = rw (h.kind, h.level)
 of_level_open (suc l) n h = let p : 0 < suc l = omega arith in rw (h.kind, h.level, lt-ltb 0 (suc l) p)
 
-pub of_level_value : (l : ℕ) (n : Node) (lo x : ℕ) → OfLevel l n → node_value l (entriesOf n lo) ≡ value_of (node x) n
-of_level_value l n lo x h = ap (λ (j : ℕ). node_value j (entriesOf n lo)) (sym h.level) ∙ stored_node n lo x h.whole (of_level_open l n h)
+pub of_level_value : (l : ℕ) (n : Node) (lo x : ℕ) → OfLevel l n → node_value l (entries_of n lo) ≡ value_of (node x) n
+of_level_value l n lo x h = ap (λ (j : ℕ). node_value j (entries_of n lo)) (sym h.level) ∙ stored_node n lo x h.whole (of_level_open l n h)
 
 -- ---- a level that a question stops
 stopped_told : (s : Stop) (us : List ℕ) (w : Writes) → stands s ≡ false → ended s us w [] ≡ told s us

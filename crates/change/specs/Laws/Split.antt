@@ -9,10 +9,10 @@ use Rattle.nodes.specs.declared.change.Halves.{Halves}
 use Rattle.nodes.specs.Lists.{insert_at}
 use Rattle.nodes.specs.Laws.Lists.{length_insert}
 use Rattle.nodes.specs.Node.{extra, keys_of, made}
-use Rattle.nodes.specs.Entries.{entriesOf, wide_entries}
+use Rattle.nodes.specs.Entries.{entries_of, wide_entries}
 use Rattle.nodes.specs.Laws.Entries.{first}
 use Rattle.nodes.specs.Change.{wide, put_in, cut_at}
-use Rattle.nodes.specs.Laws.Kept.{length_entriesOf, put_in_whole, put_in_entries, split_left, split_right, split_sep}
+use Rattle.nodes.specs.Laws.Kept.{length_entries_of, put_in_whole, put_in_entries, split_left, split_right, split_sep}
 use Rattle.operations.specs.Object.{node, flag, taken, no_tree, Writes}
 use Rattle.operations.specs.Slot.{take_for, take_node}
 use Rattle.operations.specs.Entry.{Entries, fewest_entries, first_key_or, kind}
@@ -73,8 +73,8 @@ module _ (l : ℕ) (n : Wide) (k : Full l n) where
       → parted go l w f c (take (fewest_entries l) (wide_entries n lo)) d (drop (fewest_entries l) (wide_entries n lo))
       ≡ go ((node d, value_of (node d) halves.right) ∷ (node c, value_of (node c) halves.left) ∷ w) (with_two f c halves.sep d)
   halves_parted go w f c d lo =
-      let a : take (fewest_entries l) (wide_entries n lo) ≡ entriesOf halves.left lo = rw (← seven) (sym (split_left n lo k.content.whole 0 k.full)) in
-      let b : drop (fewest_entries l) (wide_entries n lo) ≡ entriesOf halves.right halves.sep = rw (← seven) (sym (split_right n lo k.content.whole 0 k.full)) in
+      let a : take (fewest_entries l) (wide_entries n lo) ≡ entries_of halves.left lo = rw (← seven) (sym (split_left n lo k.content.whole 0 k.full)) in
+      let b : drop (fewest_entries l) (wide_entries n lo) ≡ entries_of halves.right halves.sep = rw (← seven) (sym (split_right n lo k.content.whole 0 k.full)) in
       let e : first_key_or (drop (fewest_entries l) (wide_entries n lo)) 0 ≡ halves.sep = rw (first_nxt (drop (fewest_entries l) (wide_entries n lo)), ← seven) (sym (split_sep n lo k.content.whole 0 k.full)) in
       rw (e, a, b, of_level_value l halves.left lo c left_of_level, of_level_value l halves.right halves.sep d right_of_level)
 
@@ -92,11 +92,11 @@ module _ (b : Turn) (f : Followed b) (c : ℕ) (pc : c ≡ get_or b.node.slots b
   pub child_added : (sep d lo : ℕ) → with_two (in_parent b lo) c sep d ≡ wide_entries (put_in b.node b.at sep d) lo
   unfolding branch_of
   child_added sep d lo =
-      let E : Entries = entriesOf b.node lo in
-      let h : b.at < length (entriesOf b.node lo) = omega (arith, length_entriesOf b.node lo f.whole, one_extra, f.within) in
+      let E : Entries = entries_of b.node lo in
+      let h : b.at < length (entries_of b.node lo) = omega (arith, length_entries_of b.node lo f.whole, one_extra, f.within) in
       let g : b.at < b.node.count + extra b.node.kind = omega (arith, one_extra, f.within) in
-      let e : (get_or (entriesOf b.node lo) b.at (0, 0)).1 ≡ c = entry_slot b.node lo f.whole b.at g ∙ sym pc in
-      rw (← e) (two_at (entriesOf b.node lo) b.at (sep, d) h ∙ sym (put_in_entries b.node lo f.whole b.at sep d f.within ∙ rw (one_extra, add-one)))
+      let e : (get_or (entries_of b.node lo) b.at (0, 0)).1 ≡ c = entry_slot b.node lo f.whole b.at g ∙ sym pc in
+      rw (← e) (two_at (entries_of b.node lo) b.at (sep, d) h ∙ sym (put_in_entries b.node lo f.whole b.at sep d f.within ∙ rw (one_extra, add-one)))
 
   pub added_content : (l sep d : ℕ) → b.node.level ≡ suc l → Content (suc l) (put_in b.node b.at sep d)
   unfolding put_in wide

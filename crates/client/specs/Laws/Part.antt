@@ -5,7 +5,7 @@ use Rattle.std.proofs.lemmas.List.Edits.{sets}
 use Rattle.memory.specs.Word.{view}
 use Rattle.memory.specs.Laws.Word.{view_length}
 use Rattle.layout.specs.Block.{size, In, offset}
-use Rattle.layout.specs.Laws.Space.{Run, mem_at, mem_run, stored_run, tab_getD}
+use Rattle.layout.specs.Laws.Space.{Run, mem_at, mem_run, stored_run, tab_get_or}
 use Rattle.layout.specs.Space.{at, Valid, stored, puts}
 use Rattle.layout.specs.Step.{Does, stepped, silent}
 use Rattle.nodes.specs.declared.node.Node.{Node}
@@ -146,7 +146,7 @@ item_done s i a c x r w w₁ w' h z p q e f =
     let l : length (words_of r) ≡ 33 = length_words r z in
     record {
       answer = refl;
-      words = f ∙ rw (e, p, q, tab_getD 34 (x ∷ words_of r) (rw l))
+      words = f ∙ rw (e, p, q, tab_get_or 34 (x ∷ words_of r) (rw l))
           (sym (stored_run client_words client_block (words_of r) (set w (at client_words client_block (item s i 0)) x) (λ j. item s i (suc j)) (at client_words client_block (item s i 1)) (rw l (record_run s i h))));
     }
 

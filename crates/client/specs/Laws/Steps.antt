@@ -7,7 +7,7 @@ use Rattle.memory.specs.Word.{view}
 use Rattle.memory.specs.Laws.Word.{view_length}
 use Rattle.layout.specs.Block.{size, In, offset}
 use Rattle.layout.specs.Space.{put, tab, at, Valid, mem, changed, stored, puts}
-use Rattle.layout.specs.Laws.Space.{tab_getD, Run, stored_run, valid_run, AllValid, length_stored}
+use Rattle.layout.specs.Laws.Space.{tab_get_or, Run, stored_run, valid_run, AllValid, length_stored}
 use Rattle.layout.specs.Step.{Does, silent, stepped, and_then}
 use Rattle.layout.specs.Laws.Step.{does_then, does_mem, valid_append}
 use Rattle.layout.specs.Sweep.{sweep}
@@ -131,7 +131,7 @@ vector_done s a ws us w w' h l q e p =
     let k : length us ≡ 17 = rw q (ap suc l) in
     record {
       answer = refl;
-      words = p ∙ rw (tab_getD 16 ws l, ← q, e) (sym (stored_run client_words client_block us w (vector_word s) (at client_words client_block (vector_word s 0)) (rw k (vector_run s h))));
+      words = p ∙ rw (tab_get_or 16 ws l, ← q, e) (sym (stored_run client_words client_block us w (vector_word s) (at client_words client_block (vector_word s 0)) (rw k (vector_run s h))));
     }
 
 pub drop_done : (s a : ℕ) (w w' : List ℕ) → s < 8 → a ≡ at client_words client_block (vector_word s 0) → w' ≡ set w a 0 → Does client_words client_block (drop_vector s) silent w 0 w'

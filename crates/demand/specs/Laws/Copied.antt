@@ -11,7 +11,7 @@ use Rattle.base.specs.Update.{upd}
 use Rattle.base.specs.Laws.Update.{upd_same, upd_other}
 use Rattle.memory.specs.Bit.{bit}
 use Rattle.layout.specs.Space.{changed, puts, tab}
-use Rattle.layout.specs.Laws.Space.{puts_other, puts_same, getD_tab, length_tab}
+use Rattle.layout.specs.Laws.Space.{puts_other, puts_same, get_or_tab, length_tab}
 use Rattle.nodes.specs.declared.node.Node.{Node}
 use Rattle.nodes.specs.declared.found.Found.{Found}
 use Rattle.nodes.specs.declared.found.Found.TheVariants.{At, Absent}
@@ -159,7 +159,7 @@ module _ (k j slots : ℕ) (u : ClientWord → ℕ) (f : Obj → Option (P.Copy 
     unfolding put_vector
     within q l =
         puts_same client_words (1 ∷ tab 16 (λ j. get_or ws j 0)) u (vector_word s) (λ i j e. ap word_in e) (suc q) (omega (arith, length_tab 16 (λ j. get_or ws j 0)))
-        ∙ getD_tab 16 (λ j. get_or ws j 0) q l
+        ∙ get_or_tab 16 (λ j. get_or ws j 0) q l
 
     -- the flags of other servers and all other objects are as before, and this server's are the words' bits
     pub record Taken : Type 0 where

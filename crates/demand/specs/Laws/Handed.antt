@@ -9,7 +9,7 @@ use Prim.Native.Nat.{ℕ, suc, ◌+◌, ◌/◌, ◌%◌, ◌≤◌, ◌<◌, Fi
 use Rattle.base.specs.Laws.Test.{bool_cases, cond_true, cond_false}
 use Rattle.base.specs.Test.{and_both}
 use Rattle.memory.specs.Bit.{bit}
-use Rattle.layout.specs.Laws.Space.{Only, getD_tab}
+use Rattle.layout.specs.Laws.Space.{Only, get_or_tab}
 use Rattle.layout.specs.Space.{changed, tab}
 use Rattle.nodes.specs.declared.node.Node.{Node}
 use Rattle.nodes.specs.declared.found.Found.TheVariants.{Absent}
@@ -145,7 +145,7 @@ module _ (k j slots : ℕ) (al : slots ≤ 1024) (m : Address → ℕ) (L : Ledg
       same = λ o d. same o d;
       others = λ n d. cond_false _ _ (not_ours n d (bool_cases (ours? n)));
       ours = λ n h e. cond_true _ _ (is_ours n h e)
-          ∙ ap (λ (x : ℕ). copy k j slots w (taken (bit x (N.slot_of n % 64))) 0) (sym (getD_tab 16 (λ i. p (place.Vector i)) (N.slot_of n / 64) (omega arith)));
+          ∙ ap (λ (x : ℕ). copy k j slots w (taken (bit x (N.slot_of n % 64))) 0) (sym (get_or_tab 16 (λ i. p (place.Vector i)) (N.slot_of n / 64) (omega arith)));
     }
       where
         same : (o : Obj) → ¬ (sort o ≡ 2) → g o ≡ H.copies o

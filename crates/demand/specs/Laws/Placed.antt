@@ -5,7 +5,7 @@ use Rattle.std.proofs.Common.{◌∙◌}
 use mathlib.Core.List.{List, ◌∷◌}
 use Rattle.std.proofs.Math.ListN.{get_or}
 use Rattle.layout.specs.Space.{tab, changed}
-use Rattle.layout.specs.Laws.Space.{puts_other, tab_puts_same, tab_getD, length_tab}
+use Rattle.layout.specs.Laws.Space.{puts_other, tab_puts_same, tab_get_or, length_tab}
 use Rattle.nodes.specs.declared.node.Node.{Node}
 use Rattle.nodes.specs.Stored.{node_of, words_of}
 use Rattle.nodes.specs.Laws.Stored.{Sized, length_words, node_words}
@@ -51,7 +51,7 @@ module _ (s : Set) (p x : ℕ) (r : Node) (w : Sized r) (u : ClientWord → ℕ)
   stored = tab 34 (λ j. get_or (x ∷ words_of r) j 0)
 
   stored_is : stored ≡ x ∷ words_of r
-  stored_is = tab_getD 34 (x ∷ words_of r) (ap suc (length_words r w))
+  stored_is = tab_get_or 34 (x ∷ words_of r) (ap suc (length_words r w))
 
   -- the words of the item, the number first
   words_are : tab 34 (λ n. placed (item s p n)) ≡ x ∷ words_of r

@@ -15,7 +15,7 @@ use Rattle.base.specs.Update.{upd}
 use Rattle.base.specs.Laws.Update.{upd_same, upd_other}
 use Rattle.memory.specs.Bit.{bit}
 use Rattle.layout.specs.Space.{changed, tab}
-use Rattle.layout.specs.Laws.Space.{length_tab, getD_tab}
+use Rattle.layout.specs.Laws.Space.{length_tab, get_or_tab}
 use Rattle.nodes.specs.declared.node.Node.{Node}
 use Rattle.nodes.specs.declared.found.Found.{Found}
 use Rattle.nodes.specs.declared.found.Found.TheVariants.{At, Absent}
@@ -381,7 +381,7 @@ module _ (k j slots : ℕ) (al : slots ≤ 1024) (M : P.Machine (T k j slots)) (
           K.shows.flag_as q h (ap (λ (x : ℕ). w (vector_word x 0)) s ∙ eqb-true (w (vector_word (N.server_of n) 0)) 1 there)
           ∙ ap (λ (x : ℕ). copy k j slots u (taken (bit x (N.slot_of q % 64))) 0)
           (ap (λ (x : ℕ). w (vector_word x (suc (N.slot_of q / 64)))) s
-          ∙ sym (getD_tab 16 (λ j. w (vector_word (N.server_of n) (suc j))) (N.slot_of q / 64) (omega arith)))
+          ∙ sym (get_or_tab 16 (λ j. w (vector_word (N.server_of n) (suc j))) (N.slot_of q / 64) (omega arith)))
           ∙ ap (λ (x : Bool). copy k j slots u (taken x) 0) (sym (flag_other (vector_copy w (N.server_of n)) n q b long (λ e. d (omega (arith, s, e)))))
 
       bits_are : Taken k j slots w (K.copies c) K.shows (N.server_of n) ws g

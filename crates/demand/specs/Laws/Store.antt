@@ -259,10 +259,10 @@ module _ (k j slots : ℕ) where
     Val = Val;
     Server = Fin 8;
     Client = Fin (suc j);
-    eqObj = ObjDiscrete;
-    eqVal = ValDiscrete;
-    eqServer = Fin-discrete 8;
-    eqClient = Fin-discrete (suc j);
+    eq_obj = ObjDiscrete;
+    eq_val = ValDiscrete;
+    eq_server = Fin-discrete 8;
+    eq_client = Fin-discrete (suc j);
     servers = fins 8;
     servers_all = fins_all 8;
     some_server = zeroth 7;

@@ -15,11 +15,11 @@ use Rattle.layout.specs.Space.{put, at, Valid, changed, stored}
 use Rattle.layout.specs.Laws.Space.{AllValid, mem_zeros, mem_stored}
 use Rattle.layout.specs.Step.{Does, silent, stepped}
 use Rattle.layout.specs.Laws.Step.{does_as, does_both, valid_append}
-use Rattle.layout.specs.Part.{over, inPart}
+use Rattle.layout.specs.Part.{over, in_part}
 use Rattle.layout.specs.Laws.Part.{good_all}
 use Rattle.server.specs.declared.place.Place.TheVariants.{States, Vector, Node}
 use Rattle.nodes.specs.States.{first_states}
-use Rattle.server.specs.Layout.{places, server_block, putStep}
+use Rattle.server.specs.Layout.{places, server_block, put_step}
 use Rattle.server.specs.Laws.Layout.{states_valid}
 use Rattle.server.specs.Fresh.{first_leaf}
 use Rattle.server.specs.Laws.Fresh.{first_node_valid, first_flag_valid}
@@ -41,17 +41,17 @@ module _ (z : Sizes) where
 
   module _ (s : ℕ) where
     -- a server's stores are the states alone, or at server 0 the leaf's too
-    pub server_blank : (v : ℕ) (b b' : List ℕ) → v ≡ first_states z.servers → (s ≡ 0 → ⊥) → Does whole (block z) (inPart (server s) (putStep States v)) silent (view b) 0 (view b')
+    pub server_blank : (v : ℕ) (b b' : List ℕ) → v ≡ first_states z.servers → (s ≡ 0 → ⊥) → Does whole (block z) (in_part (server s) (put_step States v)) silent (view b) 0 (view b')
         → Does whole (block z) (new_server z s) silent (view b) 0 (view b')
-    unfolding Fresh.fresh_stores first_leaf inPart putStep over
+    unfolding Fresh.fresh_stores first_leaf in_part put_step over
     server_blank v b b' e n d =
-        does_as whole (block z) (inPart (server s) (putStep States v)) (new_server z s) silent (view b) 0 (view b') (sym (rw (← e, ne_eqb s 0 n))) d
+        does_as whole (block z) (in_part (server s) (put_step States v)) (new_server z s) silent (view b) 0 (view b') (sym (rw (← e, ne_eqb s 0 n))) d
 
-    pub server_first : (v : ℕ) (b b₁ b₂ b₃ : List ℕ) → v ≡ first_states z.servers → s ≡ 0 → Does whole (block z) (inPart (server s) (putStep States v)) silent (view b) 0 (view b₁)
-        → Does whole (block z) (inPart (server s) (putStep (Node 0 0) 1)) silent (view b₁) 0 (view b₂)
-        → Does whole (block z) (inPart (server s) (putStep (Vector 0) 1)) silent (view b₂) 0 (view b₃)
+    pub server_first : (v : ℕ) (b b₁ b₂ b₃ : List ℕ) → v ≡ first_states z.servers → s ≡ 0 → Does whole (block z) (in_part (server s) (put_step States v)) silent (view b) 0 (view b₁)
+        → Does whole (block z) (in_part (server s) (put_step (Node 0 0) 1)) silent (view b₁) 0 (view b₂)
+        → Does whole (block z) (in_part (server s) (put_step (Vector 0) 1)) silent (view b₂) 0 (view b₃)
         → Does whole (block z) (new_server z s) silent (view b) 0 (view b₃)
-    unfolding Fresh.fresh_stores first_leaf inPart putStep over stepped stored
+    unfolding Fresh.fresh_stores first_leaf in_part put_step over stepped stored
     server_first v b b₁ b₂ b₃ e q d f g = record { answer = refl; words = g.words ∙ rw (f.words, d.words, e, q) }
 
   module _ (b₀ : List ℕ) where

@@ -11,7 +11,7 @@ use borrow.Rule.Slice.PartMut.{mid_of}
 use Rattle.base.specs.Test.{and_both}
 use Rattle.memory.specs.Word.{view}
 use Rattle.layout.specs.Step.{Does, silent}
-use Rattle.layout.specs.Part.{inPart}
+use Rattle.layout.specs.Part.{in_part}
 use Rattle.nodes.specs.Name.{server_of, slot_of, name_in_store}
 use Rattle.operations.specs.Operation.{all_fit?}
 use Rattle.server.specs.Object.{object_of, Has}
@@ -422,21 +422,21 @@ module _ (z : Sizes) (b : List ℕ) (c : ℕ) (hold : StoreIn z (length b)) (h :
     answering = subst (λ (y : Stop). Ended y W) pair.is end
 
     work_answers : (l : List Entry) (w' : List ℕ) → ((a : O.Ans) (w : O.Writes) → W ≡ answers a w → l ≡ entered w)
-        → Does whole (block z) (inPart (client c) (entering (used_in u) l)) silent (view b) 0 w' → Comes (answer_of s) w'
-    unfolding inPart
+        → Does whole (block z) (in_part (client c) (entering (used_in u) l)) silent (view b) 0 w' → Comes (answer_of s) w'
+    unfolding in_part
     work_answers l w' f p =
         let a : O.Ans = (pair.a, pair.b, answering.pairs) in
         let q : W ≡ answers a answering.writes = answering.is in
         let r : entering (used_in u) l ≡ answered (used_in u) answering.writes = entering_is (used_in u) l answering.writes (f a answering.writes q) in
         let o : Outcome = outcome.Answered pair.a pair.b in
         subst (λ (y : Stop). Comes (answer_of y) w') (sym pair.is)
-        (meets_as z (view b) o w' (λ m. record { outcome = o; stores = inPart (client c) (entering (used_in u) l) m; pairs = answering.pairs }) (λ m. work z m c)
+        (meets_as z (view b) o w' (λ m. record { outcome = o; stores = in_part (client c) (entering (used_in u) l) m; pairs = answering.pairs }) (λ m. work z m c)
         (sym (work_is ∙ rw (q, ← r))) (record { answer = refl; words = p.words }))
 
 module _ (z : Sizes) (b : List ℕ) (c : ℕ) (hold : StoreIn z (length b)) (h : c < z.clients) (known : Known z (view b) c) (wait : Waiting (of_client z (view b) c)) (fit : fit_to_work z.slots (of_client z (view b) c) ≡ true) (s : Stop) where
   -- an operation that only reads
   module _ (u₀ u : List ℕ) (ps : Entries) (k : Looks z.slots (of_client z (view b) c) s u₀ u ps) where
-    pub look_answers : (o : Outcome) (w' : List ℕ) → is_answer s ≡ true → o ≡ answer_of s → Does whole (block z) (inPart (client c) (entering (used_in u) [])) silent (view b) 0 w'
+    pub look_answers : (o : Outcome) (w' : List ℕ) → is_answer s ≡ true → o ≡ answer_of s → Does whole (block z) (in_part (client c) (entering (used_in u) [])) silent (view b) 0 w'
         → Meets z (λ m. work z m c) (view b) o w' × ((work z (stored_in z (view b)) c).pairs ≡ ps)
     unfolding entered
     look_answers o w' n e p = (
@@ -450,7 +450,7 @@ module _ (z : Sizes) (b : List ℕ) (c : ℕ) (hold : StoreIn z (length b)) (h :
     change_fits n = let v = answering z b c hold h known wait fit s u k.enters.stopped n in k.fits _ v.writes v.is
 
     pub change_answers : (o : Outcome) (w' : List ℕ) → is_answer s ≡ true → o ≡ answer_of s
-        → Does whole (block z) (inPart (client c) (entering (used_in u) (own_list x))) silent (view b) 0 w' → Meets z (λ m. work z m c) (view b) o w' × NoPairs z b c
+        → Does whole (block z) (in_part (client c) (entering (used_in u) (own_list x))) silent (view b) 0 w' → Meets z (λ m. work z m c) (view b) o w' × NoPairs z b c
     change_answers o w' n e p = (
       rw e (work_answers z b c hold h known wait fit s u k.enters.stopped n (own_list x) w' k.enters.own p),
       pairs_written z b c hold h known wait fit s u k.enters.stopped [] k.enters.unlisted n,
@@ -469,7 +469,7 @@ module _ (t : ℕ) (m : ClientWord → ℕ) (r : Single) (u₀ u : List ℕ) (k 
 
 module _ (z : Sizes) (b : List ℕ) (c : ℕ) (hold : StoreIn z (length b)) (h : c < z.clients) (known : Known z (view b) c) (wait : Waiting (of_client z (view b) c)) (fit : fit_to_work z.slots (of_client z (view b) c) ≡ true) (r : Single) (u₀ u : List ℕ) (k : Enters z.slots (of_client z (view b) c) r.stop (entries_of r) u₀ u) where
   pub single_answers : (o : Outcome) (w' : List ℕ) → is_answer r.stop ≡ true → o ≡ answer_of r.stop
-      → Does whole (block z) (inPart (client c) (entering (used_in u) (entries_of r))) silent (view b) 0 w' → Meets z (λ m. work z m c) (view b) o w' × NoPairs z b c
+      → Does whole (block z) (in_part (client c) (entering (used_in u) (entries_of r))) silent (view b) 0 w' → Meets z (λ m. work z m c) (view b) o w' × NoPairs z b c
   single_answers o w' n e p = (
     rw e (work_answers z b c hold h known wait fit r.stop u k.stopped n (entries_of r) w' k.own p),
     pairs_written z b c hold h known wait fit r.stop u k.stopped [] k.unlisted n,

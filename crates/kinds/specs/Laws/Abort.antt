@@ -13,7 +13,7 @@ use Rattle.layout.specs.Space.{Put, changed, stored}
 use Rattle.layout.specs.Laws.Space.{AllValid}
 use Rattle.layout.specs.Step.{Does, silent, stepped}
 use Rattle.layout.specs.Laws.Step.{changed_append, stored_append, does_as, does_mem, valid_append}
-use Rattle.layout.specs.Part.{over, inPart}
+use Rattle.layout.specs.Part.{over, in_part}
 use Rattle.server.specs.declared.place.Place.{Place}
 use Rattle.client.specs.declared.part.Set.TheVariants.{Reads}
 use Rattle.client.specs.Layout.{ClientWord, field}
@@ -78,7 +78,7 @@ module _ (z : Sizes) (c : ℕ) where
       ap₂ (λ (x : ClientWord → ℕ) (y : Place → ℕ). over (server s) (upto (rule k c) (locked_at (lowest_of 8 (x (field 5))) s) (read_item x) (count x Reads) y)) e f
 
   pub changes_inside : (s : ℕ) (k : Change) (w : List ℕ) → s < 8 → Known z w c → AllValid whole (block z) (changes z c s k (stored_in z w))
-  unfolding changes inPart read_item item_of
+  unfolding changes in_part read_item item_of
   changes_inside s k w h known =
       in_whole z s h (upto (rule k c) (locked_at (lowest_participant z (stored_in z w) c) s) (read_item (of_client z w c)) (count (of_client z w c) Reads)) (stored_in z w)
       (upto_inside z (rule k c) (locked_at (lowest_participant z (stored_in z w) c) s) (read_item (of_client z w c)) (count (of_client z w c) Reads)
@@ -177,16 +177,16 @@ module _ (z : Sizes) (c p : ℕ) where
       does_as whole (block z) (λ m. at_servers i (λ s. unlocking z c p s m)) (freeing z c) silent w 0 w' (rw (e, ep)) d
 
 pub is_aborted : (z : Sizes) (c : ℕ) (us b₀ b b' : List ℕ) → StoreIn z (length b₀) → Known z (view b₀) c
-    → Does whole (block z) (freeing z c) silent (view b₀) 0 (view b) → Does whole (block z) (inPart (client c) (L.abort_part us)) silent (view b) 0 (view b')
+    → Does whole (block z) (freeing z c) silent (view b₀) 0 (view b) → Does whole (block z) (in_part (client c) (L.abort_part us)) silent (view b) 0 (view b')
     → Does whole (block z) (aborts z c us) silent (view b₀) 0 (view b')
-unfolding aborts freeing inPart
+unfolding aborts freeing in_part
 is_aborted z c us b₀ b b' hold known p q = then_client z c (freeing z c) (L.abort_part us) b₀ b b' hold (freeing_apart z c (view b₀) known) p q
 
 pub aborts_inside : (z : Sizes) (c : ℕ) (us w : List ℕ) → c < z.clients → Known z w c → AllValid whole (block z) (aborts z c us (stored_in z w))
-unfolding aborts freeing inPart
+unfolding aborts freeing in_part
 aborts_inside z c us w h known =
     let m = stored_in z w in
-    valid_append whole (block z) (freeing z c m) (inPart (client c) (L.abort_part us) m) (freeing_apart z c w known).valid (client_inside z c (L.abort_part us) m h (good_abort us))
+    valid_append whole (block z) (freeing z c m) (in_part (client c) (L.abort_part us) m) (freeing_apart z c w known).valid (client_inside z c (L.abort_part us) m h (good_abort us))
 
 module _ (z : Sizes) (c y : ℕ) (us w : List ℕ) (b : Bool) (e : b ≡ abort_fits z (stored_in z w) c) where
   pub abort_done : (w' : List ℕ) → b ≡ true → Does whole (block z) (aborts z c us) silent w 0 w' → Meets z (λ m. abort z m c y us) w (Aborted y) w'

@@ -9,7 +9,7 @@ use Rattle.memory.specs.Bit.{put_bit}
 use Rattle.layout.specs.Space.{Put, changed}
 use Rattle.layout.specs.Step.{Does, silent, and_then}
 use Rattle.layout.specs.Laws.Step.{does_as, valid_append}
-use Rattle.layout.specs.Part.{over, inPart}
+use Rattle.layout.specs.Part.{over, in_part}
 use Rattle.server.specs.declared.place.Place.{Place}
 use Rattle.client.specs.declared.part.Set.TheVariants.{Reads, Writes}
 use Rattle.client.specs.Layout.{ClientWord, client_words, field}
@@ -68,7 +68,7 @@ module _ (z : Sizes) (c s : ℕ) (w : List ℕ) (known : Known z w c) (storing :
       upto_inside z (rule Unlock c) (locked_at (lowest_of 8 (m (field 5))) s) (read_item m) (count m Reads) (λ j l. rule_inside z c Unlock (read_item m j) (known.known j l))
 
 pub applies_apart : (z : Sizes) (c s : ℕ) (w : List ℕ) → s < 8 → Known z w c → Storing z w c s → Apart z c (applies z c s) (stored_in z w)
-unfolding applies rule passing upto read_item inPart
+unfolding applies rule passing upto read_item in_part
 applies_apart z c s w h known storing =
     let f : Rule = and_then Srv.places (writing z c s w known storing) (unlocking z c s w known storing (of_client z w c)) in
     record {
@@ -82,8 +82,8 @@ module _ (z : Sizes) (c s : ℕ) (b₀ b : List ℕ) (hold : StoreIn z (length b
   room = omega (arith, hold.room, view_length b₀)
 
   done : Done z s (writing z c s (view b₀) known storing) (view b₀) (view b)
-  unfolding stores inPart
-  done = does_as whole (block z) (stores z c s) (inPart (server s) (writing z c s (view b₀) known storing)) silent (view b₀) 0 (view b) refl p
+  unfolding stores in_part
+  done = does_as whole (block z) (stores z c s) (in_part (server s) (writing z c s (view b₀) known storing)) silent (view b₀) 0 (view b) refl p
 
   stay : of_client z (view b) c ≡ of_client z (view b₀) c
   stay = clients_stay z s h (writing z c s (view b₀) known storing) (view b₀) (view b) c room (writing_inside z c s (view b₀) known storing) done
@@ -92,14 +92,14 @@ module _ (z : Sizes) (c s : ℕ) (b₀ b : List ℕ) (hold : StoreIn z (length b
   still_known = known_same z c (view b₀) (view b) stay known
 
   pub is_applied : (b' : List ℕ) → Does whole (block z) (changes z c s Unlock) silent (view b) 0 (view b') → Does whole (block z) (applies z c s) silent (view b₀) 0 (view b')
-  unfolding applies changes inPart rule passing upto read_item
+  unfolding applies changes in_part rule passing upto read_item
   is_applied b' q =
       let f = writing z c s (view b₀) known storing in
       let g = unlocking z c s (view b₀) known storing in
       let q' : Done z s (g (of_client z (view b₀) c)) (view b) (view b') =
-      does_as whole (block z) (changes z c s Unlock) (inPart (server s) (g (of_client z (view b₀) c))) silent (view b) 0 (view b')
+      does_as whole (block z) (changes z c s Unlock) (in_part (server s) (g (of_client z (view b₀) c))) silent (view b) 0 (view b')
       (ap (λ (m : ClientWord → ℕ). over (server s) (g m (λ a. stored_in z (view b) (server s a)))) stay) q in
-      does_as whole (block z) (inPart (server s) (and_then Srv.places f (g (of_client z (view b₀) c)))) (applies z c s) silent (view b₀) 0 (view b') refl
+      does_as whole (block z) (in_part (server s) (and_then Srv.places f (g (of_client z (view b₀) c)))) (applies z c s) silent (view b₀) 0 (view b') refl
       (done_then z s h f (g (of_client z (view b₀) c)) (view b₀) (view b) (view b') room (writing_inside z c s (view b₀) known storing) done q')
 
 -- ---- the note, and the end
@@ -107,21 +107,21 @@ pub good_noted : (i s : ℕ) → i < 15 → Good (noted (field i) s)
 unfolding noted put_word
 good_noted i s h = record { all = λ m. (good_field i (put_bit true (m (field i)) s) h).all m }
 
-module _ (z : Sizes) (c s : ℕ) (b₀ b b₁ : List ℕ) (hold : StoreIn z (length b₀)) (known : Known z (view b₀) c) (storing : Storing z (view b₀) c s) (h : s < 8) (last : Bool) (e : last ≡ covers 8 (of_client z (view b₀) c (field 5)) (put_bit true (of_client z (view b₀) c (field 7)) s)) (p : Does whole (block z) (applies z c s) silent (view b₀) 0 (view b)) (q : Does whole (block z) (inPart (client c) (noted (field 7) s)) silent (view b) 0 (view b₁)) where
+module _ (z : Sizes) (c s : ℕ) (b₀ b b₁ : List ℕ) (hold : StoreIn z (length b₀)) (known : Known z (view b₀) c) (storing : Storing z (view b₀) c s) (h : s < 8) (last : Bool) (e : last ≡ covers 8 (of_client z (view b₀) c (field 5)) (put_bit true (of_client z (view b₀) c (field 7)) s)) (p : Does whole (block z) (applies z c s) silent (view b₀) 0 (view b)) (q : Does whole (block z) (in_part (client c) (noted (field 7) s)) silent (view b) 0 (view b₁)) where
   pub applied_one : last ≡ false → Meets z (λ m. applied_at z m c s) (view b₀) (Applied s) (view b₁)
-  unfolding applied_at applies inPart
+  unfolding applied_at applies in_part
   applied_one t =
-      meets_as z (view b₀) (Applied s) (view b₁) (λ m. did (Applied s) (applies z c s m ++ inPart (client c) (noted (field 7) s) m)) (λ m. applied_at z m c s) (sym (rw (← e, t)))
-      (meets_did z (view b₀) (Applied s) (view b₁) (λ m. applies z c s m ++ inPart (client c) (noted (field 7) s) m)
+      meets_as z (view b₀) (Applied s) (view b₁) (λ m. did (Applied s) (applies z c s m ++ in_part (client c) (noted (field 7) s) m)) (λ m. applied_at z m c s) (sym (rw (← e, t)))
+      (meets_did z (view b₀) (Applied s) (view b₁) (λ m. applies z c s m ++ in_part (client c) (noted (field 7) s) m)
       (then_client z c (applies z c s) (noted (field 7) s) b₀ b b₁ hold (applies_apart z c s (view b₀) h known storing) p q))
 
-  pub applied_last : (b₂ : List ℕ) → c < z.clients → length b ≡ length b₀ → last ≡ true → Does whole (block z) (inPart (client c) finish) silent (view b₁) 0 (view b₂)
+  pub applied_last : (b₂ : List ℕ) → c < z.clients → length b ≡ length b₀ → last ≡ true → Does whole (block z) (in_part (client c) finish) silent (view b₁) 0 (view b₂)
       → Meets z (λ m. applied_at z m c s) (view b₀) Committed (view b₂)
-  unfolding applied_at applies inPart
+  unfolding applied_at applies in_part
   applied_last b₂ k l t r =
       let g = and_then client_words (noted (field 7) s) finish in
-      meets_as z (view b₀) Committed (view b₂) (λ m. did Committed (applies z c s m ++ inPart (client c) g m)) (λ m. applied_at z m c s) (sym (rw (← e, t)))
-      (meets_did z (view b₀) Committed (view b₂) (λ m. applies z c s m ++ inPart (client c) g m)
+      meets_as z (view b₀) Committed (view b₂) (λ m. did Committed (applies z c s m ++ in_part (client c) g m)) (λ m. applied_at z m c s) (sym (rw (← e, t)))
+      (meets_did z (view b₀) Committed (view b₂) (λ m. applies z c s m ++ in_part (client c) g m)
       (then_client z c (applies z c s) g b₀ b b₂ hold (applies_apart z c s (view b₀) h known storing) p
       (client_both z c (noted (field 7) s) finish b b₁ b₂ (record { allowed = hold.allowed; room = rw l hold.room }) k (good_noted 7 s (omega arith)) q r)))
 

@@ -20,13 +20,13 @@ use Rattle.layout.specs.Space.{Put, put, Valid, mem, changed, stored}
 use Rattle.layout.specs.Laws.Space.{AllValid, Only, changed_only, only_append}
 use Rattle.layout.specs.Step.{Does, silent, stepped}
 use Rattle.layout.specs.Laws.Step.{stored_append, changed_append, valid_append, does_as, does_mem}
-use Rattle.layout.specs.Part.{over, inPart}
+use Rattle.layout.specs.Part.{over, in_part}
 use Rattle.layout.specs.Laws.Part.{good_all, over_append}
 use Rattle.server.specs.declared.hand_out.Metadata.{Metadata}
 use Rattle.server.specs.declared.place.Place.{Place}
 use Rattle.server.specs.declared.place.Place.TheVariants.{Root, Version, States, MetadataLock, Vector, Node, FlagLock, Table, NodeLock}
 use Rattle.server.specs.HandOut.{metadata_at, metadata_sound}
-use Rattle.server.specs.Layout.{places, server_block, putStep}
+use Rattle.server.specs.Layout.{places, server_block, put_step}
 use Rattle.server.specs.Store.{metadata_step, versions_row, versions_step}
 use Rattle.server.specs.Laws.Leaves.{metadata_inside}
 use Rattle.nodes.specs.States.{is_present, with_added, with_closed, with_removed}
@@ -258,16 +258,16 @@ abbrev pub ToldUpto : Sizes → ℕ → Metadata → List ℕ → ℕ → List �
 ToldUpto z s x b₀ n b = (n ≤ 8) × (length b ≡ length b₀) × Does whole (block z) (told s x n) silent (view b₀) 0 (view b)
 
 module _ (z : Sizes) (s : ℕ) (h : s < 8) where
-  in_part : (ps : List (Put Place)) → AllValid places (server_block z.slots) ps → AllValid whole (block z) (over (server s) ps)
-  in_part ps ok = good_all places (server_block z.slots) whole (block z) (server s) (server_at z s) (server_part z s h) ps ok
+  inside_part : (ps : List (Put Place)) → AllValid places (server_block z.slots) ps → AllValid whole (block z) (over (server s) ps)
+  inside_part ps ok = good_all places (server_block z.slots) whole (block z) (server s) (server_at z s) (server_part z s h) ps ok
 
   pub version_stored : (k t i v : ℕ) (b x : List ℕ) → k ≡ server_at z s → StoreIn z (length b) → v ≡ largest_version (stored_in z (view b)) s t i
-      → Does places (server_block z.slots) (putStep (Table t i) v) silent (view (mid_of (8 * k) (length b - 8 * k) b)) 0 (view x)
+      → Does places (server_block z.slots) (put_step (Table t i) v) silent (view (mid_of (8 * k) (length b - 8 * k) b)) 0 (view x)
       → Does whole (block z) (version_put s i t) silent (view b) 0 (view (put_mid (8 * k) (length b - 8 * k) b x))
-  unfolding putStep inPart over
+  unfolding put_step in_part over
   version_stored k t i v b x e hold q d =
-      does_as whole (block z) (inPart (server s) (putStep (Table t i) v)) (version_put s i t) silent (view b) 0 (view (put_mid (8 * k) (length b - 8 * k) b x)) (rw q)
-      (server_back z s k (putStep (Table t i) v) b x h e hold.room d)
+      does_as whole (block z) (in_part (server s) (put_step (Table t i) v)) (version_put s i t) silent (view b) 0 (view (put_mid (8 * k) (length b - 8 * k) b x)) (rw q)
+      (server_back z s k (put_step (Table t i) v) b x h e hold.room d)
 
   -- a row, one version after another
   module _ (k : ℕ) (b₀ : List ℕ) (hold : StoreIn z (length b₀)) where
@@ -290,7 +290,7 @@ module _ (z : Sizes) (s : ℕ) (h : s < 8) where
     )
       where
         after : stored_in z (view b) ≡ changed whole m₀ (row_put s k n m₀)
-        after = mem_after z (row_put s k n) b₀ b hold r.2 (in_part (versions_row (largest_version m₀ s) k n) (row_valid (largest_version m₀ s) z.slots k n lk (omega arith)))
+        after = mem_after z (row_put s k n) b₀ b hold r.2 (inside_part (versions_row (largest_version m₀ s) k n) (row_valid (largest_version m₀ s) z.slots k n lk (omega arith)))
 
         same : version_put s k n (stored_in z (view b)) ≡ version_put s k n m₀
         same =
@@ -325,7 +325,7 @@ module _ (z : Sizes) (s : ℕ) (h : s < 8) where
     )
       where
         after : stored_in z (view b) ≡ changed whole m₁ (added s n m₁)
-        after = mem_after z (added s n) b₀ b hold r.3 (in_part (versions_step (largest_version m₁ s) n) (step_valid (largest_version m₁ s) z.slots n (omega (arith, r.0, r.1))))
+        after = mem_after z (added s n) b₀ b hold r.3 (inside_part (versions_step (largest_version m₁ s) n) (step_valid (largest_version m₁ s) z.slots n (omega (arith, r.0, r.1))))
 
         only : Only places (in_step n) (versions_step (largest_version m₁ s) n)
         only = only_step (largest_version m₁ s) (in_step n) n (λ t k q. lt-ltb k n q)
@@ -350,9 +350,9 @@ pub ruleset table_exits = (table_none, table_next, table_ends)
 -- ---- the new metadata
 pub metadata_back : (z : Sizes) (s k r st v : ℕ) (b t : List ℕ) → s < 8 → k ≡ server_at z s → StoreIn z (length b)
     → Does places (server_block z.slots) (metadata_step r st (v + 1)) silent (view (mid_of (8 * k) (length b - 8 * k) b)) 0 (view t)
-    → Does whole (block z) (inPart (server s) (metadata_step r st (suc v))) silent (view b) 0 (view (put_mid (8 * k) (length b - 8 * k) b t))
+    → Does whole (block z) (in_part (server s) (metadata_step r st (suc v))) silent (view b) 0 (view (put_mid (8 * k) (length b - 8 * k) b t))
 metadata_back z s k r st v b t h e hold d =
-    subst (λ (n : ℕ). Does whole (block z) (inPart (server s) (metadata_step r st n)) silent (view b) 0 (view (put_mid (8 * k) (length b - 8 * k) b t))) (add-one v)
+    subst (λ (n : ℕ). Does whole (block z) (in_part (server s) (metadata_step r st n)) silent (view b) 0 (view (put_mid (8 * k) (length b - 8 * k) b t))) (add-one v)
     (server_back z s k (metadata_step r st (v + 1)) b t h e hold.room d)
 
 module _ (z : Sizes) (s : ℕ) (x : Metadata) where
@@ -361,13 +361,13 @@ module _ (z : Sizes) (s : ℕ) (x : Metadata) where
 
   -- at one server
   module _ (t : ℕ) (h : Bool) (b b' : List ℕ) (e : h ≡ there (stored_in z (view b)) t) where
-    pub tell_there : h ≡ true → Does whole (block z) (inPart (server t) (metadata_step x.root x.states (suc x.version))) silent (view b) 0 (view b') → Does whole (block z) (tell_one s x t) silent (view b) 0 (view b')
-    unfolding tell_one inPart metadata_step
-    tell_there q d = does_as whole (block z) (inPart (server t) (metadata_step x.root x.states (suc x.version))) (tell_one s x t) silent (view b) 0 (view b') (sym (rw (← e, q))) d
+    pub tell_there : h ≡ true → Does whole (block z) (in_part (server t) (metadata_step x.root x.states (suc x.version))) silent (view b) 0 (view b') → Does whole (block z) (tell_one s x t) silent (view b) 0 (view b')
+    unfolding tell_one in_part metadata_step
+    tell_there q d = does_as whole (block z) (in_part (server t) (metadata_step x.root x.states (suc x.version))) (tell_one s x t) silent (view b) 0 (view b') (sym (rw (← e, q))) d
 
-    pub tell_changed : h ≡ false → t ≡ s → Does whole (block z) (inPart (server t) (metadata_step x.root x.states (suc x.version))) silent (view b) 0 (view b') → Does whole (block z) (tell_one s x t) silent (view b) 0 (view b')
-    unfolding tell_one inPart metadata_step
-    tell_changed q i d = does_as whole (block z) (inPart (server t) (metadata_step x.root x.states (suc x.version))) (tell_one s x t) silent (view b) 0 (view b') (sym (rw (← e, q, eq-eqb t s i))) d
+    pub tell_changed : h ≡ false → t ≡ s → Does whole (block z) (in_part (server t) (metadata_step x.root x.states (suc x.version))) silent (view b) 0 (view b') → Does whole (block z) (tell_one s x t) silent (view b) 0 (view b')
+    unfolding tell_one in_part metadata_step
+    tell_changed q i d = does_as whole (block z) (in_part (server t) (metadata_step x.root x.states (suc x.version))) (tell_one s x t) silent (view b) 0 (view b') (sym (rw (← e, q, eq-eqb t s i))) d
 
   pub tell_not : (t : ℕ) (h : Bool) (b : List ℕ) → h ≡ there (stored_in z (view b)) t → h ≡ false → (t ≡ s → ⊥) → Does whole (block z) (tell_one s x t) silent (view b) 0 (view b)
   unfolding tell_one stepped stored
@@ -379,7 +379,7 @@ module _ (z : Sizes) (s : ℕ) (x : Metadata) where
   one_valid m t l = go (there m t || eqb t s)
     where
       go : (b : Bool) → AllValid whole (block z) (cond b (over (server t) news) [])
-      go true = in_part z t l news (metadata_inside z.slots (λ a. 0) x.root x.states (suc x.version))
+      go true = inside_part z t l news (metadata_inside z.slots (λ a. 0) x.root x.states (suc x.version))
       go false = tt
 
   told_valid : (m : Address → ℕ) (n : ℕ) → n ≤ 8 → AllValid whole (block z) (told s x n m)
@@ -455,7 +455,7 @@ module _ (z : Sizes) (c : ServerChange) (s : ℕ) (x : Metadata) (b : Bool) (e :
       v = largest_version m₃ s
 
       after : stored_in z (view b₁) ≡ changed whole m₃ (added s z.slots m₃)
-      after = mem_after z (added s z.slots) b₀ b₁ hold d (in_part z s l (versions_step v z.slots) (step_valid v z.slots z.slots (omega arith)))
+      after = mem_after z (added s z.slots) b₀ b₁ hold d (inside_part z s l (versions_step v z.slots) (step_valid v z.slots z.slots (omega arith)))
 
       same : told s x 8 (stored_in z (view b₁)) ≡ told s x 8 m₃
       same =

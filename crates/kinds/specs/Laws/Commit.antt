@@ -7,7 +7,7 @@ use Rattle.memory.specs.Word.{view}
 use Rattle.layout.specs.Space.{put}
 use Rattle.layout.specs.Step.{Does, silent}
 use Rattle.layout.specs.Laws.Step.{does_both, does_as}
-use Rattle.layout.specs.Part.{over, inPart}
+use Rattle.layout.specs.Part.{over, in_part}
 use Rattle.client.specs.Layout.{field}
 use Rattle.client.specs.Sets.{held}
 use Rattle.client.specs.Participants.{participants_of, committing}
@@ -31,24 +31,24 @@ participants_lent z b c k r l h e q = q ∙ ap participants_of (client_lent z c 
 
 module _ (z : Sizes) (c p : ℕ) (w w' : List ℕ) (e : p ≡ participants_of (of_client z w c)) where
   -- phase and participants
-  pub now_committing : (u : List ℕ) → Does whole (block z) (inPart (client c) (mark 0 2)) silent w 0 u → Does whole (block z) (inPart (client c) (mark 5 p)) silent u 0 w'
-      → Does whole (block z) (inPart (client c) committing) silent w 0 w'
-  unfolding inPart mark committing over
+  pub now_committing : (u : List ℕ) → Does whole (block z) (in_part (client c) (mark 0 2)) silent w 0 u → Does whole (block z) (in_part (client c) (mark 5 p)) silent u 0 w'
+      → Does whole (block z) (in_part (client c) committing) silent w 0 w'
+  unfolding in_part mark committing over
   now_committing u d q =
-      does_as whole (block z) (λ m. put (client c (field 0)) 2 ∷ put (client c (field 5)) p ∷ []) (inPart (client c) committing) silent w 0 w' (rw e)
+      does_as whole (block z) (λ m. put (client c (field 0)) 2 ∷ put (client c (field 5)) p ∷ []) (in_part (client c) committing) silent w 0 w' (rw e)
       (does_both whole (block z) (put (client c (field 0)) 2 ∷ []) (put (client c (field 5)) p ∷ []) w u w' d q)
 
-  pub commit_ends : (d : Bool) → d ≡ fit_to_commit z.slots (of_client z w c) → not d ≡ false → p ≡ 0 → Does whole (block z) (inPart (client c) (L.reset 0)) silent w 0 w' → Meets z (λ m. commit z m c) w Committed w'
-  unfolding commit inPart
+  pub commit_ends : (d : Bool) → d ≡ fit_to_commit z.slots (of_client z w c) → not d ≡ false → p ≡ 0 → Does whole (block z) (in_part (client c) (L.reset 0)) silent w 0 w' → Meets z (λ m. commit z m c) w Committed w'
+  unfolding commit in_part
   commit_ends f k t q d =
-      meets_as z w Committed w' (λ m. did Committed (inPart (client c) (L.reset 0) m)) (λ m. commit z m c) (sym (rw (← k, not-false f t, ← e, eq-eqb p 0 q)))
-      (meets_did z w Committed w' (inPart (client c) (L.reset 0)) d)
+      meets_as z w Committed w' (λ m. did Committed (in_part (client c) (L.reset 0) m)) (λ m. commit z m c) (sym (rw (← k, not-false f t, ← e, eq-eqb p 0 q)))
+      (meets_did z w Committed w' (in_part (client c) (L.reset 0)) d)
 
-  pub commit_waits : (d : Bool) → d ≡ fit_to_commit z.slots (of_client z w c) → not d ≡ false → (p ≡ 0 → ⊥) → Does whole (block z) (inPart (client c) committing) silent w 0 w' → Meets z (λ m. commit z m c) w Done w'
-  unfolding commit inPart
+  pub commit_waits : (d : Bool) → d ≡ fit_to_commit z.slots (of_client z w c) → not d ≡ false → (p ≡ 0 → ⊥) → Does whole (block z) (in_part (client c) committing) silent w 0 w' → Meets z (λ m. commit z m c) w Done w'
+  unfolding commit in_part
   commit_waits f k t q d =
-      meets_as z w Done w' (λ m. did Done (inPart (client c) committing m)) (λ m. commit z m c) (sym (rw (← k, not-false f t, ← e, ne_eqb p 0 q)))
-      (meets_did z w Done w' (inPart (client c) committing) d)
+      meets_as z w Done w' (λ m. did Done (in_part (client c) committing m)) (λ m. commit z m c) (sym (rw (← k, not-false f t, ← e, ne_eqb p 0 q)))
+      (meets_did z w Done w' (in_part (client c) committing) d)
 
 pub commit_unfit : (z : Sizes) (c : ℕ) (w : List ℕ) (d : Bool) → d ≡ fit_to_commit z.slots (of_client z w c) → not d ≡ true → Meets z (λ m. commit z m c) w (Refused 10) w
 unfolding commit

@@ -5,7 +5,7 @@ use Rattle.std.proofs.Common.{◌∙◌}
 use Rattle.memory.specs.Bit.{bit, put_bit}
 use Rattle.layout.specs.Step.{Does, silent}
 use Rattle.layout.specs.Laws.Step.{does_as}
-use Rattle.layout.specs.Part.{inPart}
+use Rattle.layout.specs.Part.{in_part}
 use Rattle.client.specs.Items.{all_below}
 use Rattle.client.specs.Layout.{ClientWord, field}
 use Rattle.client.specs.Part.{put_field, put_word}
@@ -38,7 +38,7 @@ unfolding put_word mark
 mark_same i v m = refl
 
 pub is_noted : (z : Sizes) (c i s x v : ℕ) (w w' : List ℕ) → x ≡ of_client z w c (field i) → v ≡ put_bit true x s
-    → Does whole (block z) (inPart (client c) (mark i v)) silent w 0 w' → Does whole (block z) (inPart (client c) (noted (field i) s)) silent w 0 w'
-unfolding inPart mark noted
+    → Does whole (block z) (in_part (client c) (mark i v)) silent w 0 w' → Does whole (block z) (in_part (client c) (noted (field i) s)) silent w 0 w'
+unfolding in_part mark noted
 is_noted z c i s x v w w' e q d =
-    does_as whole (block z) (inPart (client c) (mark i v)) (inPart (client c) (noted (field i) s)) silent w 0 w' (rw (q, e)) d
+    does_as whole (block z) (in_part (client c) (mark i v)) (in_part (client c) (noted (field i) s)) silent w 0 w' (rw (q, e)) d

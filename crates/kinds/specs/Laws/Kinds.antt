@@ -10,7 +10,7 @@ use Rattle.layout.specs.Space.{Put, changed, stored}
 use Rattle.layout.specs.Laws.Space.{AllValid}
 use Rattle.layout.specs.Step.{Does, silent, stepped, and_then}
 use Rattle.layout.specs.Laws.Step.{stored_append, does_then, does_as, does_mem}
-use Rattle.layout.specs.Part.{inPart, over}
+use Rattle.layout.specs.Part.{in_part, over}
 use Rattle.layout.specs.Laws.Part.{good_all, over_append}
 use Rattle.client.specs.Layout.{ClientWord, client_words, client_block}
 use Rattle.client.specs.Laws.Steps.{Good}
@@ -33,10 +33,10 @@ Rule = (ClientWord → ℕ) → List (Put ClientWord)
 -- the same stores in a client's part
 pub client_as : (z : Sizes) (c k : ℕ) (f g : Rule) (b t : List ℕ) → c < z.clients → k ≡ client_at z c → words_for z ≤ length b / 8 → ((m : ClientWord → ℕ) → f m ≡ g m)
     → Does client_words client_block f silent (view (mid_of (8 * k) (length b - 8 * k) b)) 0 (view t)
-    → Does whole (block z) (inPart (client c) g) silent (view b) 0 (view (put_mid (8 * k) (length b - 8 * k) b t))
-unfolding inPart
+    → Does whole (block z) (in_part (client c) g) silent (view b) 0 (view (put_mid (8 * k) (length b - 8 * k) b t))
+unfolding in_part
 client_as z c k f g b t h e l s d =
-    does_as whole (block z) (inPart (client c) f) (inPart (client c) g) silent (view b) 0 (view (put_mid (8 * k) (length b - 8 * k) b t))
+    does_as whole (block z) (in_part (client c) f) (in_part (client c) g) silent (view b) 0 (view (put_mid (8 * k) (length b - 8 * k) b t))
     (ap (over (client c)) (s (λ a. stored_in z (view b) (client c a)))) (client_back z c k f b t h e l d)
 
 -- ---- what a kind comes to
@@ -64,9 +64,9 @@ module _ (z : Sizes) (c : ℕ) where
 
   -- and then stores in the client's part
   pub then_client : (f : (Address → ℕ) → List (Put Address)) (g : Rule) (b₀ b b' : List ℕ) → StoreIn z (length b₀) → Apart f (stored_in z (view b₀))
-      → Does whole (block z) f silent (view b₀) 0 (view b) → Does whole (block z) (inPart (client c) g) silent (view b) 0 (view b')
-      → Does whole (block z) (λ m. f m ++ inPart (client c) g m) silent (view b₀) 0 (view b')
-  unfolding stepped inPart words_for
+      → Does whole (block z) f silent (view b₀) 0 (view b) → Does whole (block z) (in_part (client c) g) silent (view b) 0 (view b')
+      → Does whole (block z) (λ m. f m ++ in_part (client c) g m) silent (view b₀) 0 (view b')
+  unfolding stepped in_part words_for
   then_client f g b₀ b b' hold ok p q =
       let m = stored_in z (view b₀) in
       let e : stored_in z (view b) ≡ changed whole m (f m) = does_mem whole (block z) f silent (view b₀) 0 (view b) p (omega (arith, hold.room, view_length b₀)) ok.valid in
@@ -79,37 +79,37 @@ module _ (z : Sizes) (c : ℕ) where
       }
 
   -- two steps in the client's part
-  in_then : (f g : Rule) (m : Address → ℕ) → inPart (client c) (and_then client_words f g) m ≡ and_then whole (inPart (client c) f) (inPart (client c) g) m
-  unfolding inPart and_then
+  in_then : (f g : Rule) (m : Address → ℕ) → in_part (client c) (and_then client_words f g) m ≡ and_then whole (in_part (client c) f) (in_part (client c) g) m
+  unfolding in_part and_then
   in_then f g m =
       let u = client_of m c in
       over_append (client c) (f u) (g (changed client_words u (f u)))
       ∙ ap (λ (v : ClientWord → ℕ). over (client c) (f u) ++ over (client c) (g v)) (sym (client_changed m c (f u)))
 
   -- stores in the client's part lie in the whole
-  pub client_inside : (g : Rule) (m : Address → ℕ) → c < z.clients → Good g → AllValid whole (block z) (inPart (client c) g m)
-  unfolding inPart
+  pub client_inside : (g : Rule) (m : Address → ℕ) → c < z.clients → Good g → AllValid whole (block z) (in_part (client c) g m)
+  unfolding in_part
   client_inside g m h ok =
       good_all client_words client_block whole (block z) (client c) (client_at z c) (client_part z c h) (g (client_of m c)) (ok.all (client_of m c))
 
   pub client_both : (f g : Rule) (b₀ b b' : List ℕ) → StoreIn z (length b₀) → c < z.clients → Good f
-      → Does whole (block z) (inPart (client c) f) silent (view b₀) 0 (view b) → Does whole (block z) (inPart (client c) g) silent (view b) 0 (view b')
-      → Does whole (block z) (inPart (client c) (and_then client_words f g)) silent (view b₀) 0 (view b')
+      → Does whole (block z) (in_part (client c) f) silent (view b₀) 0 (view b) → Does whole (block z) (in_part (client c) g) silent (view b) 0 (view b')
+      → Does whole (block z) (in_part (client c) (and_then client_words f g)) silent (view b₀) 0 (view b')
   unfolding words_for
   client_both f g b₀ b b' hold h ok p q =
       let m = stored_in z (view b₀) in
-      let d = does_then whole (block z) (inPart (client c) f) (inPart (client c) g) silent silent (view b₀) (view b) (view b') 0 0
+      let d = does_then whole (block z) (in_part (client c) f) (in_part (client c) g) silent silent (view b₀) (view b) (view b') 0 0
       (omega (arith, hold.room, view_length b₀)) (client_inside f m h ok) p q in
-      does_as whole (block z) (and_then whole (inPart (client c) f) (inPart (client c) g)) (inPart (client c) (and_then client_words f g)) silent (view b₀) 0 (view b')
+      does_as whole (block z) (and_then whole (in_part (client c) f) (in_part (client c) g)) (in_part (client c) (and_then client_words f g)) silent (view b₀) 0 (view b')
       (sym (in_then f g m)) (record { answer = refl; words = d.words })
 
 -- ---- begin, give
 module _ (z : Sizes) (c : ℕ) (w w' : List ℕ) where
-  pub begun : Does whole (block z) (inPart (client c) (L.reset 1)) silent w 0 w' → Meets z (λ m. begin z m c) w Done w'
-  unfolding begin inPart
+  pub begun : Does whole (block z) (in_part (client c) (L.reset 1)) silent w 0 w' → Meets z (λ m. begin z m c) w Done w'
+  unfolding begin in_part
   begun d = record { answer = refl; words = d.words }
 
-  pub was_given : (k : Step) → Does whole (block z) (inPart (client c) (L.give_part k.op k.key k.value k.server)) silent w 0 w'
+  pub was_given : (k : Step) → Does whole (block z) (in_part (client c) (L.give_part k.op k.key k.value k.server)) silent w 0 w'
       → Meets z (λ m. give z m c k) w Done w'
-  unfolding give inPart
+  unfolding give in_part
   was_given k d = record { answer = refl; words = d.words }

@@ -8,7 +8,7 @@ use borrow.Author.Tests.{not-true, not-false, ne_eqb, le-leb, lt-ltb, le-ltb}
 use Rattle.std.proofs.Math.ListN.{length}
 use Rattle.layout.specs.Space.{Put}
 use Rattle.layout.specs.Step.{Does, silent}
-use Rattle.layout.specs.Part.{inPart}
+use Rattle.layout.specs.Part.{in_part}
 use Rattle.nodes.specs.declared.node.Node.{Node}
 use Rattle.server.specs.declared.hand_out.Metadata.{Metadata}
 use Rattle.server.specs.declared.lock.Use.TheVariants.{Fetch}
@@ -155,13 +155,13 @@ module _ (z : Sizes) (w : List ℕ) (c : ℕ) (us : List ℕ) (s x : ℕ) (out :
         let t : b ≡ false = not-true b nb in
         meets_refused z w 10 D (sym (object_is z w c us s x out (ok (stored_in z w)) (g (stored_in z w)) ∙ rw (← e, p, ← pb, t)))
 
-    object_handed : (w' : List ℕ) → not b ≡ false → Does whole (block z) (inPart (client c) (used_enter us then g (stored_in z w))) silent w 0 w' → Meets z D w out w'
-    unfolding inPart
+    object_handed : (w' : List ℕ) → not b ≡ false → Does whole (block z) (in_part (client c) (used_enter us then g (stored_in z w))) silent w 0 w' → Meets z D w out w'
+    unfolding in_part
     object_handed w' nb d =
         let t : b ≡ true = not-false b nb in
-        meets_as z w out w' (λ m. did out (inPart (client c) (used_enter us then g (stored_in z w)) m)) D
+        meets_as z w out w' (λ m. did out (in_part (client c) (used_enter us then g (stored_in z w)) m)) D
         (sym (object_is z w c us s x out (ok (stored_in z w)) (g (stored_in z w)) ∙ rw (← e, p, ← pb, t)))
-        (meets_did z w out w' (inPart (client c) (used_enter us then g (stored_in z w))) d)
+        (meets_did z w out w' (in_part (client c) (used_enter us then g (stored_in z w))) d)
 
 -- ---- the metadata
 pub meta_has : (z : Sizes) (b : List ℕ) (c s : ℕ) (u : List ℕ) → Checking z b c s u → Has z.slots (object_of 0)
@@ -189,7 +189,7 @@ module _ (z : Sizes) (w : List ℕ) (c : ℕ) (us : List ℕ) (s : ℕ) (out : O
     meta_unsound t = object_unsound z w c us s 0 out taken sound? v e p b pb t
 
     pub meta_handed : (w' : List ℕ) (x : Metadata) → not b ≡ false → x ≡ metadata_at (of_server z w s)
-        → Does whole (block z) (inPart (client c) (used_enter us then fetched_meta x.root x.states x.version)) silent w 0 w' → HandMeta out w'
+        → Does whole (block z) (in_part (client c) (used_enter us then fetched_meta x.root x.states x.version)) silent w 0 w' → HandMeta out w'
     meta_handed w' x t q d = object_handed z w c us s 0 out taken sound? v e p b pb w' t (rw (← q) d)
 
 pub ruleset meta_exits = (meta_has, meta_unsound, meta_unfit, meta_aborts, meta_handed)
@@ -228,17 +228,17 @@ module _ (z : Sizes) (w : List ℕ) (c : ℕ) (us : List ℕ) (s n : ℕ) (out :
     pub node_unsound : not b ≡ true → HandNode (Refused 10) w
     node_unsound t = object_unsound z w c us s (1 + n) out copied fits? v gate_is p b in_order t
 
-    pub node_handed : (w' : List ℕ) → not b ≡ false → Does whole (block z) (inPart (client c) (used_enter us then fetched_node n r)) silent w 0 w' → HandNode out w'
+    pub node_handed : (w' : List ℕ) → not b ≡ false → Does whole (block z) (in_part (client c) (used_enter us then fetched_node n r)) silent w 0 w' → HandNode out w'
     node_handed w' t d = object_handed z w c us s (1 + n) out copied fits? v gate_is p b in_order w' t (rw (← pr) d)
 
 pub ruleset node_exits = (node_has, node_unsound, node_unfit, node_aborts, node_handed)
 
 -- ---- a vector
 pub vector_handed : (z : Sizes) (w : List ℕ) (c : ℕ) (us : List ℕ) (s : ℕ) → s < 8 → (v : Verdict) (ws w' : List ℕ) → v ≡ reached z w c s us → v ≡ Clear
-    → ws ≡ vector_at (of_server z w s) → Does whole (block z) (inPart (client c) (used_enter us then fetched_vector s ws)) silent w 0 w'
+    → ws ≡ vector_at (of_server z w s) → Does whole (block z) (in_part (client c) (used_enter us then fetched_vector s ws)) silent w 0 w'
     → Meets z (λ m. fetch z m c us (O.vector s)) w (Fetched 2 s) w'
-unfolding inPart
+unfolding in_part
 vector_handed z w c us s l v ws w' e p q d =
     fetch_hands z w c us (O.vector s) s refl l v e (Fetched 2 s) w' p
-    (meets_as z w (Fetched 2 s) w' (λ m. did (Fetched 2 s) (inPart (client c) (used_enter us then fetched_vector s ws) m)) (λ m. hand_over z m c us (O.vector s) s (Fetched 2 s)) (rw q)
-    (meets_did z w (Fetched 2 s) w' (inPart (client c) (used_enter us then fetched_vector s ws)) d))
+    (meets_as z w (Fetched 2 s) w' (λ m. did (Fetched 2 s) (in_part (client c) (used_enter us then fetched_vector s ws) m)) (λ m. hand_over z m c us (O.vector s) s (Fetched 2 s)) (rw q)
+    (meets_did z w (Fetched 2 s) w' (in_part (client c) (used_enter us then fetched_vector s ws)) d))

@@ -11,7 +11,7 @@ use Rattle.layout.specs.Space.{changed, stored}
 use Rattle.layout.specs.Laws.Space.{AllValid}
 use Rattle.layout.specs.Step.{Does, silent, stepped, and_then}
 use Rattle.layout.specs.Laws.Step.{does_then, does_as, does_mem}
-use Rattle.layout.specs.Part.{over, inPart}
+use Rattle.layout.specs.Part.{over, in_part}
 use Rattle.layout.specs.Laws.Part.{good_all, over_append}
 use Rattle.layout.specs.Sweep.{sweep}
 use Rattle.layout.specs.Laws.Sweep.{sweep_valid}
@@ -40,25 +40,25 @@ use Rattle.server.specs.Layout as Srv
 use Rattle.kinds.specs.declared.items.Item as code
 
 -- ---- in the whole
-in_then : (s : ℕ) (f g : Rule) (m : Address → ℕ) → inPart (server s) (and_then Srv.places f g) m ≡ and_then whole (inPart (server s) f) (inPart (server s) g) m
-unfolding inPart and_then
+in_then : (s : ℕ) (f g : Rule) (m : Address → ℕ) → in_part (server s) (and_then Srv.places f g) m ≡ and_then whole (in_part (server s) f) (in_part (server s) g) m
+unfolding in_part and_then
 in_then s f g m =
     let p : Place → ℕ = λ a. m (server s a) in
     over_append (server s) (f p) (g (changed Srv.places p (f p)))
     ∙ ap (λ (u : Place → ℕ). over (server s) (f p) ++ over (server s) (g u)) (sym (server_changed m s (f p)))
 
 pub done_as : (z : Sizes) (s : ℕ) (f g : Rule) (w w' : List ℕ) → ((m : Place → ℕ) → f m ≡ g m) → Done z s f w w' → Done z s g w w'
-unfolding inPart
+unfolding in_part
 done_as z s f g w w' e d =
-    does_as whole (block z) (inPart (server s) f) (inPart (server s) g) silent w 0 w' (ap (over (server s)) (e (λ a. stored_in z w (server s a)))) d
+    does_as whole (block z) (in_part (server s) f) (in_part (server s) g) silent w 0 w' (ap (over (server s)) (e (λ a. stored_in z w (server s a)))) d
 
 -- stores that lie in the part, whatever it holds
 pub record Inside (z : Sizes) (f : Rule) : Type 0 where
   pub all : (u : Place → ℕ) → AllValid Srv.places (Srv.server_block z.slots) (f u)
 
 module _ (z : Sizes) (s : ℕ) (h : s < 8) where
-  pub in_whole : (f : Rule) (m : Address → ℕ) → Inside z f → AllValid whole (block z) (inPart (server s) f m)
-  unfolding inPart
+  pub in_whole : (f : Rule) (m : Address → ℕ) → Inside z f → AllValid whole (block z) (in_part (server s) f m)
+  unfolding in_part
   in_whole f m ok =
       good_all Srv.places (Srv.server_block z.slots) whole (block z) (server s) (server_at z s) (server_part z s h) (f (λ a. m (server s a))) (ok.all (λ a. m (server s a)))
 
@@ -66,16 +66,16 @@ module _ (z : Sizes) (s : ℕ) (h : s < 8) where
   unfolding words_for
   done_then f g w w₁ w₂ l ok p q =
       let m = stored_in z w in
-      let d = does_then whole (block z) (inPart (server s) f) (inPart (server s) g) silent silent w w₁ w₂ 0 0 l (in_whole f m ok) p q in
-      does_as whole (block z) (and_then whole (inPart (server s) f) (inPart (server s) g)) (inPart (server s) (and_then Srv.places f g)) silent w 0 w₂
+      let d = does_then whole (block z) (in_part (server s) f) (in_part (server s) g) silent silent w w₁ w₂ 0 0 l (in_whole f m ok) p q in
+      does_as whole (block z) (and_then whole (in_part (server s) f) (in_part (server s) g)) (in_part (server s) (and_then Srv.places f g)) silent w 0 w₂
       (sym (in_then s f g m)) (record { answer = refl; words = d.words })
 
   -- clients' parts stay
   pub clients_stay : (f : Rule) (w w₁ : List ℕ) (c : ℕ) → words_for z ≤ length w → Inside z f → Done z s f w w₁ → of_client z w₁ c ≡ of_client z w c
-  unfolding words_for inPart
+  unfolding words_for in_part
   clients_stay f w w₁ c l ok p =
       let m = stored_in z w in
-      let e : stored_in z w₁ ≡ changed whole m (over (server s) (f (λ a. m (server s a)))) = does_mem whole (block z) (inPart (server s) f) silent w 0 w₁ p l (in_whole f m ok) in
+      let e : stored_in z w₁ ≡ changed whole m (over (server s) (f (λ a. m (server s a)))) = does_mem whole (block z) (in_part (server s) f) silent w 0 w₁ p l (in_whole f m ok) in
       ap (λ (u : Address → ℕ). λ a. u (client c a)) e ∙ server_clients m s (f (λ a. m (server s a))) c
 
 -- ---- one object; the part was lent and came back
@@ -102,7 +102,7 @@ module _ (z : Sizes) (s c : ℕ) (w w' : List ℕ) where
         done_as z s (rule k c (as_item i)) (passing (locked_at low s) (rule k c) (as_item i)) w w' (λ m. sym (rw q)) d
 
   pub not_passing : (low : ℕ) (i : code.Item) (k : Change) (b : Bool) → b ≡ locked_at low s (as_item i) → b ≡ false → Done z s (passing (locked_at low s) (rule k c) (as_item i)) w w
-  unfolding stepped stored inPart over passing
+  unfolding stepped stored in_part over passing
   not_passing low i k b e t = record { answer = refl; words = rw (← e, t) }
 
 -- ---- the loop over the objects read
@@ -139,7 +139,7 @@ module _ (z : Sizes) (g : Item → Rule) (t : Item → Bool) where
 
 module _ (z : Sizes) (c s low : ℕ) (k : Change) where
   pub changed_none : (w : List ℕ) → Changed z c s k low w 0 w
-  unfolding Changed stepped stored inPart over upto sweep
+  unfolding Changed stepped stored in_part over upto sweep
   changed_none w = record { answer = refl; words = refl }
 
   module _ (b₀ b : List ℕ) (n i : ℕ) (hold : StoreIn z (length b₀)) (known : Known z (view b₀) c) (en : n ≡ count (of_client z (view b₀) c) Reads) (ok : s < 8) (l : i < n) (so : Changed z c s k low (view b₀) i (view b)) where
@@ -172,10 +172,10 @@ module _ (z : Sizes) (c s low : ℕ) (k : Change) where
 
   pub changed_all : (n i : ℕ) (w w' : List ℕ) → i ≤ n → n ≤ i → n ≡ count (of_client z w c) Reads → low ≡ lowest_participant z (stored_in z w) c → Changed z c s k low w i w'
       → Does whole (block z) (changes z c s k) silent w 0 w'
-  unfolding Changed changes inPart
+  unfolding Changed changes in_part
   changed_all n i w w' a b en el d =
       let e : i ≡ count (of_client z w c) Reads = omega arith in
-      does_as whole (block z) (inPart (server s) (upto (rule k c) (locked_at low s) (read_item (of_client z w c)) i)) (changes z c s k) silent w 0 w' (rw (e, el)) d
+      does_as whole (block z) (in_part (server s) (upto (rule k c) (locked_at low s) (read_item (of_client z w c)) i)) (changes z c s k) silent w 0 w' (rw (e, el)) d
 
 pub ruleset change_exits = (now_lock, now_unlock, is_passing, not_passing, nth_known, nth_turn)
 

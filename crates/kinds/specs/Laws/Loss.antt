@@ -6,7 +6,7 @@ use Rattle.memory.specs.Word.{view}
 use Rattle.memory.specs.Laws.Word.{view_length}
 use Rattle.layout.specs.Step.{Does, silent, and_then}
 use Rattle.layout.specs.Laws.Step.{does_then}
-use Rattle.layout.specs.Part.{inPart}
+use Rattle.layout.specs.Part.{in_part}
 use Rattle.client.specs.Layout.{field}
 use Rattle.client.specs.Lent.{used_in}
 use Rattle.client.specs.Copies.{drop_all}
@@ -27,11 +27,11 @@ use Rattle.kinds.specs.Loss.{losing, loses_undecided}
 use Rattle.client.specs.Life as L
 
 pub is_lost : (z : Sizes) (c : ℕ) (b₀ b b' : List ℕ) → StoreIn z (length b₀) → c < z.clients → Known z (view b₀) c
-    → Does whole (block z) (aborts z c (used_in (replicate 98 0))) silent (view b₀) 0 (view b) → Does whole (block z) (inPart (client c) drop_all) silent (view b) 0 (view b')
+    → Does whole (block z) (aborts z c (used_in (replicate 98 0))) silent (view b₀) 0 (view b) → Does whole (block z) (in_part (client c) drop_all) silent (view b) 0 (view b')
     → Does whole (block z) (losing z c) silent (view b₀) 0 (view b')
 unfolding losing used_in words_for
 is_lost z c b₀ b b' hold h known p q =
-    let d = does_then whole (block z) (aborts z c []) (inPart (client c) drop_all) silent silent (view b₀) (view b) (view b') 0 0
+    let d = does_then whole (block z) (aborts z c []) (in_part (client c) drop_all) silent silent (view b₀) (view b) (view b') 0 0
     (omega (arith, hold.room, view_length b₀)) (aborts_inside z c [] (view b₀) h known) p q in
     record { answer = refl; words = d.words }
 
@@ -47,21 +47,21 @@ module _ (z : Sizes) (c : ℕ) (w : List ℕ) (b : Bool) (e : b ≡ abort_fits z
 
 -- the undecided one's rule is that of the step
 same_loss : (z : Sizes) (c : ℕ) (m : Address → ℕ) → (m (client c (field 0)) ≡ 0 → ⊥) → (m (client c (field 0)) ≡ 3 → ⊥) → m (client c (field 0)) ≤ 3 → loses_undecided z c m ≡ lose z m c
-unfolding loses_undecided losing lose aborts and_then inPart
+unfolding loses_undecided losing lose aborts and_then in_part
 same_loss z c m p q l = rw (ne_eqb (m (client c (field 0))) 0 p, ne_eqb (m (client c (field 0))) 3 q, le-leb (m (client c (field 0))) 3 l)
 
 module _ (z : Sizes) (c p : ℕ) (w w' : List ℕ) (e : p ≡ of_client z w c (field 0)) where
-  pub lost_idle : p ≡ 0 → Does whole (block z) (inPart (client c) drop_all) silent w 0 w' → Meets z (λ m. lose z m c) w Done w'
-  unfolding lose inPart
+  pub lost_idle : p ≡ 0 → Does whole (block z) (in_part (client c) drop_all) silent w 0 w' → Meets z (λ m. lose z m c) w Done w'
+  unfolding lose in_part
   lost_idle q d =
-      meets_as z w Done w' (λ m. did Done (inPart (client c) drop_all m)) (λ m. lose z m c) (sym (rw (← e, eq-eqb p 0 q)))
-      (meets_did z w Done w' (inPart (client c) drop_all) d)
+      meets_as z w Done w' (λ m. did Done (in_part (client c) drop_all m)) (λ m. lose z m c) (sym (rw (← e, eq-eqb p 0 q)))
+      (meets_did z w Done w' (in_part (client c) drop_all) d)
 
-  pub lost_decided : (p ≡ 0 → ⊥) → p ≡ 3 → Does whole (block z) (inPart (client c) L.lose_part) silent w 0 w' → Meets z (λ m. lose z m c) w Done w'
-  unfolding lose inPart
+  pub lost_decided : (p ≡ 0 → ⊥) → p ≡ 3 → Does whole (block z) (in_part (client c) L.lose_part) silent w 0 w' → Meets z (λ m. lose z m c) w Done w'
+  unfolding lose in_part
   lost_decided n q d =
-      meets_as z w Done w' (λ m. did Done (inPart (client c) L.lose_part m)) (λ m. lose z m c) (sym (rw (← e, ne_eqb p 0 n, eq-eqb p 3 q)))
-      (meets_did z w Done w' (inPart (client c) L.lose_part) d)
+      meets_as z w Done w' (λ m. did Done (in_part (client c) L.lose_part m)) (λ m. lose z m c) (sym (rw (← e, ne_eqb p 0 n, eq-eqb p 3 q)))
+      (meets_did z w Done w' (in_part (client c) L.lose_part) d)
 
   pub lost_undecided : (o : Outcome) → (p ≡ 0 → ⊥) → (p ≡ 3 → ⊥) → p ≤ 3 → Meets z (loses_undecided z c) w o w' → Meets z (λ m. lose z m c) w o w'
   lost_undecided o n q l d =

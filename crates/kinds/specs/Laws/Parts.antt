@@ -8,8 +8,8 @@ use Rattle.memory.specs.Word.{view}
 use Rattle.layout.specs.Block.{size}
 use Rattle.layout.specs.Space.{Put, mem}
 use Rattle.layout.specs.Step.{Does, silent}
-use Rattle.layout.specs.Laws.Part.{Part, ofPart, lent_mem, back_does}
-use Rattle.layout.specs.Part.{inPart}
+use Rattle.layout.specs.Laws.Part.{Part, of_part, lent_mem, back_does}
+use Rattle.layout.specs.Part.{in_part}
 use Rattle.server.specs.declared.place.Place.{Place}
 use Rattle.client.specs.Layout.{ClientWord, client_words, client_block}
 use Rattle.steps.specs.declared.sizes.Sizes.{Sizes}
@@ -84,22 +84,22 @@ server_few p s g h = omega (arith, server_row p s g h)
 pub client_few : (z : Sizes) (p c : ℕ) → Allowed z → p ≤ 51220 → c < z.clients → 8 + 8 * p + 7223 * c ≤ 525336
 client_few z p c f g h = omega (arith, f.clients)
 
-module _ (z : Sizes) (p : ℕ) (e : p ≡ Srv.partWords z.slots) where
+module _ (z : Sizes) (p : ℕ) (e : p ≡ Srv.part_words z.slots) where
   pub words_sum : 8 + 8 * p + 7223 * z.clients ≡ words_for z
-  unfolding words_for size Srv.partWords
+  unfolding words_for size Srv.part_words
   words_sum = omega (arith, e)
 
   pub server_sum : (s : ℕ) → 8 + s * p ≡ server_at z s
-  unfolding server_at Srv.partWords
+  unfolding server_at Srv.part_words
   server_sum s = rw e
 
   pub client_sum : (c : ℕ) → 8 + 8 * p + 7223 * c ≡ client_at z c
-  unfolding client_at size Srv.partWords
+  unfolding client_at size Srv.part_words
   client_sum c = omega (arith, e)
 
 module _ (z : Sizes) where
-  pub server_room : (s k : ℕ) → s < 8 → k ≡ server_at z s → k + Srv.partWords z.slots ≤ words_for z
-  unfolding words_for Srv.partWords
+  pub server_room : (s k : ℕ) → s < 8 → k ≡ server_at z s → k + Srv.part_words z.slots ≤ words_for z
+  unfolding words_for Srv.part_words
   server_room s k h e = rw e (server_part z s h).room
 
   pub client_room : (c k : ℕ) → c < z.clients → k ≡ client_at z c → k + 7223 ≤ words_for z
@@ -127,13 +127,13 @@ module _ (z : Sizes) where
   pub server_back : (s k : ℕ) (g : (Place → ℕ) → List (Put Place)) (b t : List ℕ)
       → s < 8 → k ≡ server_at z s → words_for z ≤ length b / 8
       → Does Srv.places (Srv.server_block z.slots) g silent (view (mid_of (8 * k) (length b - 8 * k) b)) 0 (view t)
-      → Does whole (block z) (inPart (server s) g) silent (view b) 0 (view (put_mid (8 * k) (length b - 8 * k) b t))
-  unfolding words_for ofPart
+      → Does whole (block z) (in_part (server s) g) silent (view b) 0 (view (put_mid (8 * k) (length b - 8 * k) b t))
+  unfolding words_for of_part
   server_back s k g b t h e l did = back_does Srv.places (Srv.server_block z.slots) whole (block z) (server s) k (server_here s k h e) g silent b t 0 l did
 
   pub client_back : (c k : ℕ) (g : (ClientWord → ℕ) → List (Put ClientWord)) (b t : List ℕ)
       → c < z.clients → k ≡ client_at z c → words_for z ≤ length b / 8
       → Does client_words client_block g silent (view (mid_of (8 * k) (length b - 8 * k) b)) 0 (view t)
-      → Does whole (block z) (inPart (client c) g) silent (view b) 0 (view (put_mid (8 * k) (length b - 8 * k) b t))
-  unfolding words_for ofPart
+      → Does whole (block z) (in_part (client c) g) silent (view b) 0 (view (put_mid (8 * k) (length b - 8 * k) b t))
+  unfolding words_for of_part
   client_back c k g b t h e l did = back_does client_words client_block whole (block z) (client c) k (client_here c k h e) g silent b t 0 l did

@@ -11,7 +11,7 @@ use Rattle.layout.specs.Space.{put, changed, stored}
 use Rattle.layout.specs.Laws.Space.{upd_apart, AllValid}
 use Rattle.layout.specs.Step.{Does, silent, stepped, and_then}
 use Rattle.layout.specs.Laws.Step.{stored_append, changed_append, does_then, does_mem, valid_append}
-use Rattle.layout.specs.Part.{over, inPart}
+use Rattle.layout.specs.Part.{over, in_part}
 use Rattle.nodes.specs.declared.node.Node.{Node}
 use Rattle.nodes.specs.declared.found.Found.{Found}
 use Rattle.nodes.specs.declared.found.Found.TheVariants.{At, Absent}
@@ -51,15 +51,15 @@ use Rattle.kinds.specs.Laws.Apply.{good_noted}
 use Rattle.kinds.specs.Prepare.{prepares, decides, applies_too}
 
 pub is_prepared : (z : Sizes) (c s : ℕ) (b₀ b b' : List ℕ) → StoreIn z (length b₀) → Known z (view b₀) c → s < 8
-    → Does whole (block z) (changes z c s Lock) silent (view b₀) 0 (view b) → Does whole (block z) (inPart (client c) (noted (field 6) s)) silent (view b) 0 (view b')
+    → Does whole (block z) (changes z c s Lock) silent (view b₀) 0 (view b) → Does whole (block z) (in_part (client c) (noted (field 6) s)) silent (view b) 0 (view b')
     → Does whole (block z) (prepares z c s) silent (view b₀) 0 (view b')
-unfolding prepares changes rule passing upto read_item inPart
+unfolding prepares changes rule passing upto read_item in_part
 is_prepared z c s b₀ b b' hold known h p q =
     then_client z c (changes z c s Lock) (noted (field 6) s) b₀ b b' hold (changes_apart z c s Lock (view b₀) h known) p q
 
-pub is_decided : (z : Sizes) (c s : ℕ) (w u w' : List ℕ) → Does whole (block z) (prepares z c s) silent w 0 u → Does whole (block z) (inPart (client c) (mark 0 3)) silent u 0 w'
+pub is_decided : (z : Sizes) (c s : ℕ) (w u w' : List ℕ) → Does whole (block z) (prepares z c s) silent w 0 u → Does whole (block z) (in_part (client c) (mark 0 3)) silent u 0 w'
     → Does whole (block z) (decides z c s) silent w 0 w'
-unfolding decides prepares decided inPart mark over stepped
+unfolding decides prepares decided in_part mark over stepped
 is_decided z c s w u w' p q =
     record {
       answer = refl;
@@ -147,10 +147,10 @@ module _ (z : Sizes) (c s : ℕ) (b₀ b : List ℕ) (hold : StoreIn z (length b
   good_decided = record { all = λ m. (good_field 0 3 (omega arith)).all m }
 
   decides_inside : AllValid whole (block z) (decides z c s before)
-  unfolding decides prepares changes rule passing upto read_item inPart
+  unfolding decides prepares changes rule passing upto read_item in_part
   decides_inside =
-      valid_append whole (block z) (prepares z c s before) (inPart (client c) decided before)
-      (valid_append whole (block z) (changes z c s Lock before) (inPart (client c) (noted (field 6) s) before) (changes_apart z c s Lock (view b₀) h known).valid
+      valid_append whole (block z) (prepares z c s before) (in_part (client c) decided before)
+      (valid_append whole (block z) (changes z c s Lock before) (in_part (client c) (noted (field 6) s) before) (changes_apart z c s Lock (view b₀) h known).valid
       (client_inside z c (noted (field 6) s) before k (good_noted 6 s (omega arith))))
       (client_inside z c decided before k good_decided)
 

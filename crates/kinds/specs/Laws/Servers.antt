@@ -10,7 +10,7 @@ use borrow.Rule.Slice.PartMut.{mid_of}
 use Rattle.std.proofs.Math.Dec.{leb}
 use Rattle.memory.specs.Word.{view}
 use Rattle.layout.specs.Space.{mem}
-use Rattle.layout.specs.Laws.Space.{getD_tab}
+use Rattle.layout.specs.Laws.Space.{get_or_tab}
 use Rattle.nodes.specs.Name.{slot_of}
 use Rattle.nodes.specs.States.{is_present, is_open, is_closing}
 use Rattle.nodes.specs.declared.node.Node.{Node}
@@ -149,7 +149,7 @@ pub taken_by : (m : Address → ℕ) (s : ℕ) (ws : List ℕ) (r : Bool) → ws
 unfolding any_taken vector_at
 taken_by m s ws r e h =
     h ∙ same_any (nonzero ws) (λ i. not (eqb (m (server s (Vector i))) 0)) 16
-    (λ i l. ap (λ (x : ℕ). not (eqb x 0)) (ap (λ (v : List ℕ). get_or v i 0) e ∙ getD_tab 16 (λ j. m (server s (Vector j))) i l))
+    (λ i l. ap (λ (x : ℕ). not (eqb x 0)) (ap (λ (v : List ℕ). get_or v i 0) e ∙ get_or_tab 16 (λ j. m (server s (Vector j))) i l))
 
 module _ (ws : List ℕ) (i : ℕ) where
   pub word_free : any_below i (nonzero ws) ≡ false → get_or ws i 0 ≡ 0 → any_below (i + 1) (nonzero ws) ≡ false

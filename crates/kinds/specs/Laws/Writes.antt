@@ -12,7 +12,7 @@ use Rattle.memory.specs.Laws.Word.{view_length}
 use Rattle.layout.specs.Space.{stored}
 use Rattle.layout.specs.Step.{Does, silent, stepped}
 use Rattle.layout.specs.Laws.Step.{does_as}
-use Rattle.layout.specs.Part.{over, inPart}
+use Rattle.layout.specs.Part.{over, in_part}
 use Rattle.layout.specs.Sweep.{sweep}
 use Rattle.layout.specs.Laws.Sweep.{sweep_valid}
 use Rattle.nodes.specs.declared.node.Node.{Node}
@@ -130,7 +130,7 @@ writable_stores z m s i t h e = subst (Storable s) (sym e) (record { low = λ l 
     go : x ≤ 8192 → (ltb 8192 x || ltb (version_of m (find m Reads x)) 4294967295) ≡ true → version_of m (find m Reads x) < 4294967295
     go l f = ltb-true (version_of m (find m Reads x)) 4294967295 (sym (rw (le-ltb 8192 x l)) ∙ f)
 
-pub nth_stored : (z : Sizes) (c s i : ℕ) (w w' : List ℕ) (t : code.Write) → t ≡ write_nth (of_client z w c) i → Does whole (block z) (inPart (server s) (write_step s t)) silent w 0 w'
+pub nth_stored : (z : Sizes) (c s i : ℕ) (w w' : List ℕ) (t : code.Write) → t ≡ write_nth (of_client z w c) i → Does whole (block z) (in_part (server s) (write_step s t)) silent w 0 w'
     → StoredNth z c s i w w'
 unfolding StoredNth
 nth_stored z c s i w w' t e d =
@@ -147,7 +147,7 @@ writes_inside z c s w i written h =
 
 module _ (z : Sizes) (c s : ℕ) where
   pub stored_none : (w : List ℕ) → StoredUpto z c s w 0 w
-  unfolding StoredUpto stepped stored inPart over sweep
+  unfolding StoredUpto stepped stored in_part over sweep
   stored_none w = record { answer = refl; words = refl }
 
   module _ (b₀ b : List ℕ) (n i : ℕ) (hold : StoreIn z (length b₀)) (storing : Storing z (view b₀) c s) (en : n ≡ count (of_client z (view b₀) c) Writes) (ok : s < 8) (l : i < n) (so : StoredUpto z c s (view b₀) i (view b)) where
@@ -181,9 +181,9 @@ module _ (z : Sizes) (c s : ℕ) where
         (done_then z s ok (sweep Srv.places g i) (g i) (view b₀) (view b) (view b') room (writes_inside z c s (view b₀) i storing.written (omega arith)) so d')
 
   pub stored_all : (n i : ℕ) (w w' : List ℕ) → i ≤ n → n ≤ i → n ≡ count (of_client z w c) Writes → StoredUpto z c s w i w' → Does whole (block z) (stores z c s) silent w 0 w'
-  unfolding StoredUpto stores inPart
+  unfolding StoredUpto stores in_part
   stored_all n i w w' a b en d =
       let e : i ≡ count (of_client z w c) Writes = omega arith in
-      does_as whole (block z) (inPart (server s) (sweep Srv.places (store_write (of_client z w c) s) i)) (stores z c s) silent w 0 w' (rw e) d
+      does_as whole (block z) (in_part (server s) (sweep Srv.places (store_write (of_client z w c) s) i)) (stores z c s) silent w 0 w' (rw e) d
 
 pub ruleset stored_exits = (writable_has, writable_stores, nth_stored)

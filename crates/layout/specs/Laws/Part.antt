@@ -14,7 +14,7 @@ use Rattle.layout.specs.Block.{Block, size}
 use Rattle.layout.specs.Space.{Coding, Put, put, puts, at, Valid, valid?, mem, stored}
 use Rattle.layout.specs.Laws.Space.{mem_at, mem_none, AllValid}
 use Rattle.layout.specs.Step.{Does, stepped}
-use Rattle.layout.specs.Part.{over, inPart}
+use Rattle.layout.specs.Part.{over, in_part}
 
 -- the block b lies in d from word k; address a of the part is address e a of the whole
 pub record Part {A B : Type 0} (C : Coding A) (b : Block) (D : Coding B) (d : Block) (e : A → B) (k : ℕ) : Type 0 where
@@ -23,8 +23,8 @@ pub record Part {A B : Type 0} (C : Coding A) (b : Block) (D : Coding B) (d : Bl
   pub spot : (a : A) → at D d (e a) ≡ k + at C b a
   pub room : k + size b ≤ size d
 
-unfoldable pub ofPart : {A B R : Type 0} → (A → B) → ((A → ℕ) → R) → (B → ℕ) → R
-ofPart e ans m = ans (λ a. m (e a))
+unfoldable pub of_part : {A B R : Type 0} → (A → B) → ((A → ℕ) → R) → (B → ℕ) → R
+of_part e ans m = ans (λ a. m (e a))
 
 -- a record's stores in a part are that record's stores in the whole
 pub over_puts : {A B : Type 0} (C : Coding A) (D : Coding B) (e : A → B) (vs : List ℕ) (f : ℕ → A) → over e (puts C f vs) ≡ puts D (λ i. e (f i)) vs
@@ -75,14 +75,14 @@ module _ {A B : Type 0} (C : Coding A) (b : Block) (D : Coding B) (d : Block) (e
 
   module _ {R : Type 0} (g : (A → ℕ) → List (Put A)) (ans : (A → ℕ) → R) where
     -- a step of the part is a step of the whole
-    pub from_stepped : (w : List ℕ) → k ≤ length w → from k (stepped C b g) w ≡ stepped D d (inPart e g) w
-    unfolding from stepped inPart
+    pub from_stepped : (w : List ℕ) → k ≤ length w → from k (stepped C b g) w ≡ stepped D d (in_part e g) w
+    unfolding from stepped in_part
     from_stepped w h =
         from_stored (g (mem C b (drop k w))) w h
         ∙ ap (λ (m : A → ℕ). stored D d w (over e (g m))) (part_mem w)
 
     -- and leaves in the whole what it leaves in the part
-    pub part_after : (w : List ℕ) → k ≤ length w → (λ a. mem D d (stepped D d (inPart e g) w) (e a)) ≡ mem C b (stepped C b g (drop k w))
+    pub part_after : (w : List ℕ) → k ≤ length w → (λ a. mem D d (stepped D d (in_part e g) w) (e a)) ≡ mem C b (stepped C b g (drop k w))
     unfolding from
     part_after w h =
         let t : length (take k w) ≡ k = length-take-le k w h in
@@ -91,15 +91,15 @@ module _ {A B : Type 0} (C : Coding A) (b : Block) (D : Coding B) (d : Block) (e
         ∙ ap (mem C b) (drop_at (take k w) (stepped C b g (drop k w)) k t)
 
     pub part_does : (w : List ℕ) (r : R) (p' w' : List ℕ) → k ≤ length w → Does C b g ans (drop k w) r p' → w' ≡ from k (stepped C b g) w
-        → Does D d (inPart e g) (ofPart e ans) w r w'
-    unfolding ofPart
+        → Does D d (in_part e g) (of_part e ans) w r w'
+    unfolding of_part
     part_does w r p' w' h did back =
         record { answer = did.answer ∙ ap ans (part_mem w); words = back ∙ from_stepped w h }
 
     -- `&mut s[8 * k..]` was lent and came back as t
     pub back_does : (s t : List ℕ) (r : R) → size d ≤ length s / 8
         → Does C b g ans (view (mid_of (8 * k) (length s - 8 * k) s)) r (view t)
-        → Does D d (inPart e g) (ofPart e ans) (view s) r (view (put_mid (8 * k) (length s - 8 * k) s t))
+        → Does D d (in_part e g) (of_part e ans) (view s) r (view (put_mid (8 * k) (length s - 8 * k) s t))
     back_does s t r l did =
         let f : 8 * k ≤ length s = omega (arith, P.room) in
         let q : view (mid_of (8 * k) (length s - 8 * k) s) ≡ drop k (view s) = lent_from k s (length s - 8 * k) f refl in

@@ -23,23 +23,23 @@ tab_eq zero f g h = refl
 tab_eq (suc n) f g h =
     ap₂ (λ (x : ℕ) (y : List ℕ). x ∷ y) (h 0 (omega arith)) (tab_eq n (λ i. f (suc i)) (λ i. g (suc i)) (λ i l. h (suc i) (omega arith)))
 
-pub tab_getD : (n : ℕ) (vs : List ℕ) → length vs ≡ n → tab n (λ i. get_or vs i 0) ≡ vs
+pub tab_get_or : (n : ℕ) (vs : List ℕ) → length vs ≡ n → tab n (λ i. get_or vs i 0) ≡ vs
 unfolding tab
-tab_getD zero [] h = refl
-tab_getD zero (v ∷ vs) h = absurd (omega arith)
-tab_getD (suc n) [] h = absurd (omega arith)
-tab_getD (suc n) (v ∷ vs) h = ap (λ (y : List ℕ). v ∷ y) (tab_getD n vs (omega arith))
+tab_get_or zero [] h = refl
+tab_get_or zero (v ∷ vs) h = absurd (omega arith)
+tab_get_or (suc n) [] h = absurd (omega arith)
+tab_get_or (suc n) (v ∷ vs) h = ap (λ (y : List ℕ). v ∷ y) (tab_get_or n vs (omega arith))
 
 pub length_tab : (n : ℕ) (f : ℕ → ℕ) → length (tab n f) ≡ n
 unfolding tab
 length_tab zero f = refl
 length_tab (suc n) f = ap suc (length_tab n (λ i. f (suc i)))
 
-pub getD_tab : (n : ℕ) (f : ℕ → ℕ) (i : ℕ) → i < n → get_or (tab n f) i 0 ≡ f i
+pub get_or_tab : (n : ℕ) (f : ℕ → ℕ) (i : ℕ) → i < n → get_or (tab n f) i 0 ≡ f i
 unfolding tab
-getD_tab zero f i h = absurd (omega arith)
-getD_tab (suc n) f zero h = refl
-getD_tab (suc n) f (suc i) h = getD_tab n (λ j. f (suc j)) i (omega arith)
+get_or_tab zero f i h = absurd (omega arith)
+get_or_tab (suc n) f zero h = refl
+get_or_tab (suc n) f (suc i) h = get_or_tab n (λ j. f (suc j)) i (omega arith)
 
 module _ {A : Type 0} (C : Coding A) where
   -- a store at an address of another place, found by computation: `simp and_false` proves the premise
@@ -186,7 +186,7 @@ module _ {A : Type 0} (C : Coding A) where
   pub tab_puts_same : (n : ℕ) (vs : List ℕ) (m : A → ℕ) (f : ℕ → A) → length vs ≡ n → ((i j : ℕ) → f i ≡ f j → i ≡ j)
       → tab n (λ i. changed C m (puts C f vs) (f i)) ≡ vs
   tab_puts_same n vs m f l inj =
-      tab_eq n (λ i. changed C m (puts C f vs) (f i)) (λ i. get_or vs i 0) (λ i h. puts_same vs m f inj i (omega arith)) ∙ tab_getD n vs l
+      tab_eq n (λ i. changed C m (puts C f vs) (f i)) (λ i. get_or vs i 0) (λ i h. puts_same vs m f inj i (omega arith)) ∙ tab_get_or n vs l
 
   -- one word of a record is stored
   pub tab_upd : (n : ℕ) (m : A → ℕ) (f : ℕ → A) → ((i j : ℕ) → f i ≡ f j → i ≡ j) → (i v : ℕ) → i < n
@@ -194,7 +194,7 @@ module _ {A : Type 0} (C : Coding A) where
   tab_upd n m f inj i v h =
       ext_get_or 0 (tab n u) (set (tab n (λ j. m (f j))) i v)
       (length_tab n u ∙ sym (length-set (tab n (λ j. m (f j))) i v ∙ length_tab n (λ j. m (f j))))
-      (λ j l. let k : j < n = omega (arith, length_tab n u) in getD_tab n u j k ∙ at_word j k (ℕ_discrete j i))
+      (λ j l. let k : j < n = omega (arith, length_tab n u) in get_or_tab n u j k ∙ at_word j k (ℕ_discrete j i))
     where
       u : ℕ → ℕ
       u j = upd (decide C) m (f i) v (f j)
@@ -204,7 +204,7 @@ module _ {A : Type 0} (C : Coding A) where
           rw e (upd_same (decide C) m (f i) v ∙ sym (get_or-set_same (tab n (λ j. m (f j))) i v 0 (omega (arith, length_tab n (λ j. m (f j))))))
       at_word j k (no d) =
           upd_other (decide C) m (f i) v (f j) (λ e. d (inj j i e))
-          ∙ sym (get_or-set_other (tab n (λ j. m (f j))) i j v 0 d ∙ getD_tab n (λ j. m (f j)) j k)
+          ∙ sym (get_or-set_other (tab n (λ j. m (f j))) i j v 0 d ∙ get_or_tab n (λ j. m (f j)) j k)
 
   -- a record elsewhere stays
   pub tab_puts_other : (n : ℕ) (vs : List ℕ) (m : A → ℕ) (f g : ℕ → A) → ((i j : ℕ) → ¬ (g i ≡ f j))

@@ -26,8 +26,8 @@ unfoldable pub word_at : List ℕ → ℕ → ℕ
 word_at s i = bytes_value (eight s (8 * i))
 
 -- the bytes with the word at index i replaced by v
-unfoldable pub putWord : List ℕ → ℕ → ℕ → List ℕ
-putWord s i v = sets s (8 * i) (digits 8 v)
+unfoldable pub put_word : List ℕ → ℕ → ℕ → List ℕ
+put_word s i v = sets s (8 * i) (digits 8 v)
 
 -- every element is a byte
 abbrev pub Bytes : List ℕ → Type 0
@@ -53,27 +53,27 @@ nil : {A : Type 0} (x : List A) → length x ≡ 0 → x ≡ []
 nil [] e = refl
 nil (a ∷ x) e = absurd (let z : ◌≡◌ {A = ℕ} 0 1 = omega arith in omega arith)
 
-viewN_append : (k n : ℕ) (x t : List ℕ) → length x ≡ 8 * k → view_n (k + n) (x ++ t) ≡ view_n k x ++ view_n n t
+view_n_append : (k n : ℕ) (x t : List ℕ) → length x ≡ 8 * k → view_n (k + n) (x ++ t) ≡ view_n k x ++ view_n n t
 unfolding view_n
-viewN_append zero n x t e = rw (nil x (omega arith), zero-add)
-viewN_append (suc k) n x t e =
+view_n_append zero n x t e = rw (nil x (omega arith), zero-add)
+view_n_append (suc k) n x t e =
     let h : 8 ≤ length x = omega (arith, mul-suc 8 k) in
     let d : length (drop 8 x) ≡ 8 * k = rw length-drop (omega (arith, mul-suc 8 k)) in
-    rw (suc-add, view_n, take-append-le 8 x t, drop-append-le 8 x t, viewN_append k n (drop 8 x) t d)
+    rw (suc-add, view_n, take-append-le 8 x t, drop-append-le 8 x t, view_n_append k n (drop 8 x) t d)
 
-viewN_length : (n : ℕ) (s : List ℕ) → 8 * n ≤ length s → length (view_n n s) ≡ n + (length s - 8 * n)
+view_n_length : (n : ℕ) (s : List ℕ) → 8 * n ≤ length s → length (view_n n s) ≡ n + (length s - 8 * n)
 unfolding view_n
-viewN_length zero s h = omega arith
-viewN_length (suc n) s h =
+view_n_length zero s h = omega arith
+view_n_length (suc n) s h =
     let d : length (drop 8 s) ≡ length s - 8 = length-drop 8 s in
     let m : 8 * suc n ≡ 8 * n + 8 = mul-suc 8 n in
-    let r : length (view_n n (drop 8 s)) ≡ n + (length (drop 8 s) - 8 * n) = viewN_length n (drop 8 s) (omega arith) in
+    let r : length (view_n n (drop 8 s)) ≡ n + (length (drop 8 s) - 8 * n) = view_n_length n (drop 8 s) (omega arith) in
     omega arith
 
 -- as many words as fit, and the bytes behind them
 pub view_length : (s : List ℕ) → length (view s) ≡ length s / 8 + length s % 8
 unfolding view
-view_length s = omega (arith, viewN_length (length s / 8) s (omega arith))
+view_length s = omega (arith, view_n_length (length s / 8) s (omega arith))
 
 -- the law behind all parts: bytes that follow a whole number of words
 pub view_append : (k : ℕ) (x t : List ℕ) → length x ≡ 8 * k → view (x ++ t) ≡ view x ++ view t
@@ -81,7 +81,7 @@ unfolding view
 view_append k x t e =
     let a : length (x ++ t) / 8 ≡ k + length t / 8 = rw length-append (omega arith) in
     let b : length x / 8 ≡ k = omega arith in
-    rw (a, b) (viewN_append k (length t / 8) x t e)
+    rw (a, b) (view_n_append k (length t / 8) x t e)
 
 pub view_whole : (k : ℕ) (x : List ℕ) → length x ≡ 8 * k → length (view x) ≡ k
 view_whole k x e = omega (arith, view_length x)
@@ -156,8 +156,8 @@ module _ (s : List ℕ) (i : ℕ) (h : i < length s / 8) where
   view_get = sym (rw parts (get_or_at (view front) (word_at s i) (view (drop 8 rest)) 0 i front_words))
 
   -- a word that is written is an element of the view that is set
-  pub view_put : (v : ℕ) → v < 2 ^ 64 → view (putWord s i v) ≡ set (view s) i v
-  unfolding putWord
+  pub view_put : (v : ℕ) → v < 2 ^ 64 → view (put_word s i v) ≡ set (view s) i v
+  unfolding put_word
   view_put v f =
       let e : length (digits 8 v) ≡ 8 = digits_length 8 v in
       ap view (sets-eq (digits 8 v) s (8 * i) (omega arith)
@@ -168,8 +168,8 @@ module _ (s : List ℕ) (i : ℕ) (h : i < length s / 8) where
       ∙ ap₂ (λ (a : ℕ) (r : List ℕ). a ∷ r) (value_digits 8 v f) (ap view (sym (drop-drop 8 (8 * i) s))))
       ∙ sym (rw parts (set_at (view front) (word_at s i) (view (drop 8 rest)) v i front_words))
 
-  pub length_put : (v : ℕ) → length (putWord s i v) ≡ length s
-  unfolding putWord
+  pub length_put : (v : ℕ) → length (put_word s i v) ≡ length s
+  unfolding put_word
   length_put v = length-sets s (8 * i) (digits 8 v)
 
 bytes_take : (n : ℕ) (s : List ℕ) → Bytes s → Bytes (take n s)
@@ -196,10 +196,10 @@ value_inj (a ∷ x) (b ∷ y) l p q e =
     let h : a ≡ b = omega arith in
     rw (h, value_inj x y (omega arith) (bytes_tail a x p) (bytes_tail b y q) (omega arith))
 
-viewN_inj : (n : ℕ) (s t : List ℕ) → length s ≡ length t → 8 * n ≤ length s → Bytes s → Bytes t → view_n n s ≡ view_n n t → s ≡ t
+view_n_inj : (n : ℕ) (s t : List ℕ) → length s ≡ length t → 8 * n ≤ length s → Bytes s → Bytes t → view_n n s ≡ view_n n t → s ≡ t
 unfolding view_n
-viewN_inj zero s t l h p q e = e
-viewN_inj (suc n) s t l h p q e =
+view_n_inj zero s t l h p q e = e
+view_n_inj (suc n) s t l h p q e =
     let m : 8 * suc n ≡ 8 * n + 8 = mul-suc 8 n in
     let ds : length (drop 8 s) ≡ length s - 8 = length-drop 8 s in
     let dt : length (drop 8 t) ≡ length t - 8 = length-drop 8 t in
@@ -208,13 +208,13 @@ viewN_inj (suc n) s t l h p q e =
     let a : take 8 s ≡ take 8 t =
     value_inj (take 8 s) (take 8 t) (length-take 8 s ∙ rw l (sym (length-take 8 t))) (bytes_take 8 s p) (bytes_take 8 t q) v in
     let b : drop 8 s ≡ drop 8 t =
-    viewN_inj n (drop 8 s) (drop 8 t) (omega arith) (omega arith) (bytes_drop 8 s p) (bytes_drop 8 t q) w in
+    view_n_inj n (drop 8 s) (drop 8 t) (omega arith) (omega arith) (bytes_drop 8 s p) (bytes_drop 8 t q) w in
     sym (take-append-drop 8 s) ∙ rw (a, b) (take-append-drop 8 t)
 
 -- the view determines the bytes
 pub view_inj : (s t : List ℕ) → length s ≡ length t → Bytes s → Bytes t → view s ≡ view t → s ≡ t
 unfolding view
-view_inj s t l p q e = viewN_inj (length s / 8) s t l (omega arith) p q (e ∙ rw l)
+view_inj s t l p q e = view_n_inj (length s / 8) s t l (omega arith) p q (e ∙ rw l)
 
 value_lt : (n : ℕ) (x : List ℕ) → length x ≡ n → Bytes x → bytes_value x < 256 ^ n
 value_lt zero [] l b = lit< tt
@@ -234,16 +234,16 @@ view_lt s i h b =
 
 -- the laws of single words: the one written is the one read, and others stay
 module _ (s : List ℕ) (i : ℕ) (h : i < length s / 8) (v : ℕ) (f : v < 2 ^ 64) where
-  still : (j : ℕ) → j < length s / 8 → j < length (putWord s i v) / 8
+  still : (j : ℕ) → j < length s / 8 → j < length (put_word s i v) / 8
   still j g = omega (arith, length_put s i h v)
 
-  pub word_same : word_at (putWord s i v) i ≡ v
+  pub word_same : word_at (put_word s i v) i ≡ v
   word_same =
-      view_get (putWord s i v) i (still i h)
+      view_get (put_word s i v) i (still i h)
       ∙ rw (view_put s i h v f) (get_or-set_same (view s) i v 0 (omega (arith, view_length s)))
 
-  pub word_other : (j : ℕ) → j < length s / 8 → j ≢ i → word_at (putWord s i v) j ≡ word_at s j
+  pub word_other : (j : ℕ) → j < length s / 8 → j ≢ i → word_at (put_word s i v) j ≡ word_at s j
   word_other j g ne =
-      view_get (putWord s i v) j (still j g)
+      view_get (put_word s i v) j (still j g)
       ∙ rw (view_put s i h v f) (get_or-set_other (view s) i j v 0 ne)
       ∙ sym (view_get s j g)

@@ -15,7 +15,7 @@ use Rattle.nodes.specs.Node.{extra, keys_of, slots_of, made}
 use Rattle.nodes.specs.Laws.Node.{extra_le, length_keysOf, length_slotsOf, keys_made, slots_made}
 use Rattle.nodes.specs.Change.{wide, wide_keys, wide_slots, put_in, take_out, with_key, with_slot, narrow, cut_at, split, joined_keys, join, merged, from_right, from_left}
 use Rattle.nodes.specs.Laws.Built.{wide_keys_made, wide_slots_made, length_joined}
-use Rattle.nodes.specs.Entries.{headed, entries, entriesOf, wide_entries}
+use Rattle.nodes.specs.Entries.{headed, entries, entries_of, wide_entries}
 use Rattle.nodes.specs.Laws.Entries.{length_entries, entries_take, entries_drop, entries_join, entries_insert, entries_remove, entries_key, entries_slot, first, entries_first}
 use Rattle.nodes.specs.Kept.{Whole, WholeWide}
 
@@ -28,8 +28,8 @@ module _ (k l v lo : ℕ) (ks ss : List ℕ) (e : length ss ≡ length ks + extr
   unfolding made
   kind_made = refl
 
-  pub entries_made : entriesOf (made k l v ks ss) lo ≡ entries (extra k) lo ks ss
-  unfolding entriesOf
+  pub entries_made : entries_of (made k l v ks ss) lo ≡ entries (extra k) lo ks ss
+  unfolding entries_of
   entries_made = rw (keys_made k l v ks ss, slots_made k l v ks ss e, kind_made)
 
   kind_wide : (wide k l v ks ss).kind ≡ k
@@ -59,9 +59,9 @@ module _ (n : Node) (lo : ℕ) (f : Whole n) where
   longer : length (slots_of n) ≡ length (keys_of n) + extra n.kind
   longer = omega (arith, f.keys, f.slots)
 
-  pub length_entriesOf : length (entriesOf n lo) ≡ n.count + extra n.kind
-  unfolding entriesOf
-  length_entriesOf = length_entries (extra n.kind) lo (extra_le n.kind) (keys_of n) (slots_of n) longer ∙ f.slots
+  pub length_entries_of : length (entries_of n lo) ≡ n.count + extra n.kind
+  unfolding entries_of
+  length_entries_of = length_entries (extra n.kind) lo (extra_le n.kind) (keys_of n) (slots_of n) longer ∙ f.slots
 
   module _ (i k s : ℕ) (h : i ≤ n.count) where
     put_in_longer : length (insert_at (i + extra n.kind) s (slots_of n)) ≡ length (insert_at i k (keys_of n)) + extra n.kind
@@ -75,14 +75,14 @@ module _ (n : Node) (lo : ℕ) (f : Whole n) where
     unfolding put_in
     put_in_whole = wide_whole n.kind n.level n.version lo (insert_at i k (keys_of n)) (insert_at (i + extra n.kind) s (slots_of n)) put_in_longer
 
-    pub put_in_entries : wide_entries (put_in n i k s) lo ≡ insert_at (i + extra n.kind) (k, s) (entriesOf n lo)
-    unfolding put_in entriesOf
+    pub put_in_entries : wide_entries (put_in n i k s) lo ≡ insert_at (i + extra n.kind) (k, s) (entries_of n lo)
+    unfolding put_in entries_of
     put_in_entries =
         entries_wide n.kind n.level n.version lo (insert_at i k (keys_of n)) (insert_at (i + extra n.kind) s (slots_of n)) put_in_longer
         ∙ entries_insert (extra n.kind) lo (extra_le n.kind) (keys_of n) (slots_of n) longer i k s (omega (arith, f.keys))
 
-  pub take_out_entries : (i : ℕ) → i < n.count → entriesOf (take_out n i) lo ≡ remove_at (i + extra n.kind) (entriesOf n lo)
-  unfolding take_out entriesOf
+  pub take_out_entries : (i : ℕ) → i < n.count → entries_of (take_out n i) lo ≡ remove_at (i + extra n.kind) (entries_of n lo)
+  unfolding take_out entries_of
   take_out_entries i h =
       let a : length (remove_at i (keys_of n)) ≡ length (keys_of n) - 1 = length_remove i (keys_of n) (omega (arith, f.keys)) in
       let b : length (remove_at (i + extra n.kind) (slots_of n)) ≡ length (slots_of n) - 1 =
@@ -90,14 +90,14 @@ module _ (n : Node) (lo : ℕ) (f : Whole n) where
       entries_made n.kind n.level n.version lo (remove_at i (keys_of n)) (remove_at (i + extra n.kind) (slots_of n)) (omega (arith, longer, f.keys))
       ∙ entries_remove (extra n.kind) lo (extra_le n.kind) (keys_of n) (slots_of n) longer i (omega (arith, f.keys))
 
-  pub key_entries : (i k : ℕ) → entriesOf (with_key n i k) lo ≡ set (entriesOf n lo) (i + extra n.kind) (k, get_or (slots_of n) (i + extra n.kind) 0)
-  unfolding with_key entriesOf
+  pub key_entries : (i k : ℕ) → entries_of (with_key n i k) lo ≡ set (entries_of n lo) (i + extra n.kind) (k, get_or (slots_of n) (i + extra n.kind) 0)
+  unfolding with_key entries_of
   key_entries i k =
       entries_made n.kind n.level n.version lo (set (keys_of n) i k) (slots_of n) (rw length-set longer)
       ∙ entries_key (extra n.kind) lo (extra_le n.kind) (keys_of n) (slots_of n) longer i k
 
-  pub slot_entries : (i s : ℕ) → entriesOf (with_slot n i s) lo ≡ set (entriesOf n lo) i (get_or (headed (extra n.kind) lo (keys_of n)) i 0, s)
-  unfolding with_slot entriesOf
+  pub slot_entries : (i s : ℕ) → entries_of (with_slot n i s) lo ≡ set (entries_of n lo) i (get_or (headed (extra n.kind) lo (keys_of n)) i 0, s)
+  unfolding with_slot entries_of
   slot_entries i s =
       entries_made n.kind n.level n.version lo (keys_of n) (set (slots_of n) i s) (rw length-set longer)
       ∙ entries_slot (extra n.kind) lo (extra_le n.kind) (keys_of n) (slots_of n) longer i s
@@ -107,12 +107,12 @@ module _ (w : Wide) (lo : ℕ) (f : WholeWide w) where
   wide_longer : length (wide_slots w) ≡ length (wide_keys w) + extra w.kind
   wide_longer = omega (arith, f.keys, f.slots)
 
-  pub narrow_entries : entriesOf (narrow w) lo ≡ wide_entries w lo
+  pub narrow_entries : entries_of (narrow w) lo ≡ wide_entries w lo
   unfolding narrow wide_entries
   narrow_entries = entries_made w.kind w.level w.version lo (wide_keys w) (wide_slots w) wide_longer
 
   module _ (i v : ℕ) (h : i < w.count) where
-    pub left_entries : entriesOf (cut_at w i v).left lo ≡ take (i + extra w.kind) (wide_entries w lo)
+    pub left_entries : entries_of (cut_at w i v).left lo ≡ take (i + extra w.kind) (wide_entries w lo)
     unfolding cut_at wide_entries
     left_entries =
         let x : ℕ = extra w.kind in
@@ -121,7 +121,7 @@ module _ (w : Wide) (lo : ℕ) (f : WholeWide w) where
         entries_made w.kind w.level w.version lo (take i (wide_keys w)) (take (i + extra w.kind) (wide_slots w)) (omega arith)
         ∙ entries_take (extra w.kind) lo (extra_le w.kind) (wide_keys w) (wide_slots w) wide_longer i
 
-    pub right_entries : entriesOf (cut_at w i v).right (cut_at w i v).sep ≡ drop (i + extra w.kind) (wide_entries w lo)
+    pub right_entries : entries_of (cut_at w i v).right (cut_at w i v).sep ≡ drop (i + extra w.kind) (wide_entries w lo)
     unfolding cut_at wide_entries
     right_entries =
         let a : length (drop (i + extra w.kind) (wide_keys w)) ≡ length (wide_keys w) - (i + extra w.kind) = length-drop (i + extra w.kind) (wide_keys w) in
@@ -137,11 +137,11 @@ module _ (w : Wide) (lo : ℕ) (f : WholeWide w) where
 
   -- an overfull node split: 7 entries of a leaf in the left half, 8 of an inner node
   module _ (v : ℕ) (h : w.count ≡ 15) where
-    pub split_left : entriesOf (split w v).left lo ≡ take (7 + extra w.kind) (wide_entries w lo)
+    pub split_left : entries_of (split w v).left lo ≡ take (7 + extra w.kind) (wide_entries w lo)
     unfolding split
     split_left = left_entries 7 v (omega arith)
 
-    pub split_right : entriesOf (split w v).right (split w v).sep ≡ drop (7 + extra w.kind) (wide_entries w lo)
+    pub split_right : entries_of (split w v).right (split w v).sep ≡ drop (7 + extra w.kind) (wide_entries w lo)
     unfolding split
     split_right = right_entries 7 v (omega arith)
 
@@ -160,15 +160,15 @@ module _ (a b : Node) (sep lo : ℕ) (fa : Whole a) (fb : Whole b) (k : b.kind �
   unfolding join
   join_whole = wide_whole a.kind a.level a.version lo (joined_keys a sep b) (slots_of a ++ slots_of b) slots_fit
 
-  pub join_entries : wide_entries (join a sep b) lo ≡ entriesOf a lo ++ entriesOf b sep
-  unfolding join entriesOf joined_keys
+  pub join_entries : wide_entries (join a sep b) lo ≡ entries_of a lo ++ entries_of b sep
+  unfolding join entries_of joined_keys
   join_entries =
       let y : extra b.kind ≡ extra a.kind = ap extra k in
       entries_wide a.kind a.level a.version lo (joined_keys a sep b) (slots_of a ++ slots_of b) slots_fit
       ∙ entries_join (extra a.kind) lo (extra_le a.kind) (keys_of a) (slots_of a) (longer a lo fa) sep (keys_of b) (slots_of b)
       ∙ ap (λ (e : ℕ). entries (extra a.kind) lo (keys_of a) (slots_of a) ++ entries e sep (keys_of b) (slots_of b)) (sym y)
 
-  pub merged_entries : entriesOf (merged a sep b) lo ≡ entriesOf a lo ++ entriesOf b sep
+  pub merged_entries : entries_of (merged a sep b) lo ≡ entries_of a lo ++ entries_of b sep
   unfolding merged
   merged_entries = narrow_entries (join a sep b) lo join_whole ∙ join_entries
 
@@ -188,51 +188,51 @@ module _ (a b : Node) (sep lo : ℕ) (fa : Whole a) (fb : Whole b) (k : b.kind �
     inside : i < (join a sep b).count
     inside = omega (arith, join_count)
 
-    shared_left : entriesOf shared.left lo ≡ take (i + extra a.kind) (entriesOf a lo ++ entriesOf b sep)
+    shared_left : entries_of shared.left lo ≡ take (i + extra a.kind) (entries_of a lo ++ entries_of b sep)
     shared_left = left_entries (join a sep b) lo join_whole i b.version inside ∙ rw (join_entries, join_kind)
 
-    shared_right : entriesOf shared.right shared.sep ≡ drop (i + extra a.kind) (entriesOf a lo ++ entriesOf b sep)
+    shared_right : entries_of shared.right shared.sep ≡ drop (i + extra a.kind) (entries_of a lo ++ entries_of b sep)
     shared_right = right_entries (join a sep b) lo join_whole i b.version inside ∙ rw (join_entries, join_kind)
 
-    shared_sep : shared.sep ≡ first (drop (i + extra a.kind) (entriesOf a lo ++ entriesOf b sep))
+    shared_sep : shared.sep ≡ first (drop (i + extra a.kind) (entries_of a lo ++ entries_of b sep))
     shared_sep = sep_first (join a sep b) lo join_whole i b.version inside ∙ rw (join_entries, join_kind)
 
   -- "one moves over": the right one's first entry to the left one
   module _ (h : 1 < b.count) where
-    after : a.count + 1 + extra a.kind ≡ length (entriesOf a lo) + 1
-    after = omega (arith, length_entriesOf a lo fa)
+    after : a.count + 1 + extra a.kind ≡ length (entries_of a lo) + 1
+    after = omega (arith, length_entries_of a lo fa)
 
-    pub from_right_left : entriesOf (from_right a sep b).left lo ≡ entriesOf a lo ++ take 1 (entriesOf b sep)
+    pub from_right_left : entries_of (from_right a sep b).left lo ≡ entries_of a lo ++ take 1 (entries_of b sep)
     unfolding from_right
-    from_right_left = shared_left (a.count + 1) (omega arith) ∙ rw after (take-append-add (entriesOf a lo) (entriesOf b sep) 1)
+    from_right_left = shared_left (a.count + 1) (omega arith) ∙ rw after (take-append-add (entries_of a lo) (entries_of b sep) 1)
 
-    pub from_right_right : entriesOf (from_right a sep b).right (from_right a sep b).sep ≡ drop 1 (entriesOf b sep)
+    pub from_right_right : entries_of (from_right a sep b).right (from_right a sep b).sep ≡ drop 1 (entries_of b sep)
     unfolding from_right
-    from_right_right = shared_right (a.count + 1) (omega arith) ∙ rw after (drop-append-add (entriesOf a lo) (entriesOf b sep) 1)
+    from_right_right = shared_right (a.count + 1) (omega arith) ∙ rw after (drop-append-add (entries_of a lo) (entries_of b sep) 1)
 
-    pub from_right_sep : (from_right a sep b).sep ≡ first (drop 1 (entriesOf b sep))
+    pub from_right_sep : (from_right a sep b).sep ≡ first (drop 1 (entries_of b sep))
     unfolding from_right
-    from_right_sep = shared_sep (a.count + 1) (omega arith) ∙ rw (after, drop-append-add (entriesOf a lo) (entriesOf b sep) 1)
+    from_right_sep = shared_sep (a.count + 1) (omega arith) ∙ rw (after, drop-append-add (entries_of a lo) (entries_of b sep) 1)
 
   -- the left one's last entry to the right one
   module _ (h : 1 < a.count) where
     abbrev last : ℕ
-    last = length (entriesOf a lo) - 1
+    last = length (entries_of a lo) - 1
 
     before : a.count - 1 + extra a.kind ≡ last
-    before = omega (arith, length_entriesOf a lo fa)
+    before = omega (arith, length_entries_of a lo fa)
 
-    within : last ≤ length (entriesOf a lo)
+    within : last ≤ length (entries_of a lo)
     within = omega arith
 
-    pub from_left_left : entriesOf (from_left a sep b).left lo ≡ take last (entriesOf a lo)
+    pub from_left_left : entries_of (from_left a sep b).left lo ≡ take last (entries_of a lo)
     unfolding from_left
-    from_left_left = shared_left (a.count - 1) (omega arith) ∙ rw before (take-append-le last (entriesOf a lo) (entriesOf b sep) within)
+    from_left_left = shared_left (a.count - 1) (omega arith) ∙ rw before (take-append-le last (entries_of a lo) (entries_of b sep) within)
 
-    pub from_left_right : entriesOf (from_left a sep b).right (from_left a sep b).sep ≡ drop last (entriesOf a lo) ++ entriesOf b sep
+    pub from_left_right : entries_of (from_left a sep b).right (from_left a sep b).sep ≡ drop last (entries_of a lo) ++ entries_of b sep
     unfolding from_left
-    from_left_right = shared_right (a.count - 1) (omega arith) ∙ rw before (drop-append-le last (entriesOf a lo) (entriesOf b sep) within)
+    from_left_right = shared_right (a.count - 1) (omega arith) ∙ rw before (drop-append-le last (entries_of a lo) (entries_of b sep) within)
 
-    pub from_left_sep : (from_left a sep b).sep ≡ first (drop last (entriesOf a lo) ++ entriesOf b sep)
+    pub from_left_sep : (from_left a sep b).sep ≡ first (drop last (entries_of a lo) ++ entries_of b sep)
     unfolding from_left
-    from_left_sep = shared_sep (a.count - 1) (omega arith) ∙ rw (before, drop-append-le last (entriesOf a lo) (entriesOf b sep) within)
+    from_left_sep = shared_sep (a.count - 1) (omega arith) ∙ rw (before, drop-append-le last (entries_of a lo) (entries_of b sep) within)

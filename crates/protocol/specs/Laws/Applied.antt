@@ -31,7 +31,7 @@ table_cell true false f old new d st n v h = refl
 table_cell false b f old new d st n v h = refl
 
 module _ (T : Setting) where
-  open T use {Obj, Server, Client, eqServer, eqClient, keeps, inner, by_value, by_value_outer, init}
+  open T use {Obj, Server, Client, eq_server, eq_client, keeps, inner, by_value, by_value_outer, init}
 
   module _ (m : Machine T) (g : Ghost T) (c : Client) (s : Server) where
     abbrev x : Transaction T
@@ -42,8 +42,8 @@ module _ (T : Setting) where
 
     abbrev pub applied_ghost : Ghost T
     applied_ghost = record {
-      own = upd eqClient g.own c (g.own c);
-      versions = upd eqServer g.versions s (λ o. cond (x.written o) (cond (keeps s o) (suc (x.version_read o)) (g.versions s o)) (g.versions s o));
+      own = upd eq_client g.own c (g.own c);
+      versions = upd eq_server g.versions s (λ o. cond (x.written o) (cond (keeps s o) (suc (x.version_read o)) (g.versions s o)) (g.versions s o));
       current = g.current;
       history = g.history;
       log = g.log;
@@ -79,15 +79,15 @@ module _ (T : Setting) where
 
     versions_path : (state_of T (applied_at T m c s) applied_ghost).version ≡ (after_apply T σ c s).version
     versions_path = fun_ext (λ t.
-        upd_zip eqServer (λ a b o. cond (by_value o) (a o) (b o)) g.versions m.version s _ _ t
-        ∙ ap (λ f. upd eqServer σ.version s f t) (fun_ext version_row))
+        upd_zip eq_server (λ a b o. cond (by_value o) (a o) (b o)) g.versions m.version s _ _ t
+        ∙ ap (λ f. upd eq_server σ.version s f t) (fun_ext version_row))
 
     path : state_of T (applied_at T m c s) applied_ghost ≡ after_apply T σ c s
     path i = record {
       clients = clients_put T m g c (applied_slot T (m.slots c) s) (g.own c) _ refl i;
-      value = upd eqServer m.value s (fun_ext value_row i);
+      value = upd eq_server m.value s (fun_ext value_row i);
       version = versions_path i;
-      table = upd eqServer m.table s (fun_ext table_row i);
+      table = upd eq_server m.table s (fun_ext table_row i);
       current = g.current;
       history = g.history;
       log = g.log;

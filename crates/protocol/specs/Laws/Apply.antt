@@ -13,7 +13,7 @@ use Rattle.protocol.specs.Laws.Invariant.{Content, Course, Reads, Kept, OuterSin
 use Rattle.protocol.specs.Laws.Put.{still, apart_upd}
 
 module _ (T : Setting) where
-  open T use {Obj, Server, Client, eqServer, eqClient, keeps, keeps_meta, meta, present}
+  open T use {Obj, Server, Client, eq_server, eq_client, keeps, keeps_meta, meta, present}
 
   module _ (σ : State T) (I : Inv T σ) (c : Client) (s : Server) (hp : (σ.clients c).phase ≡ decided)
       (hs : (σ.clients c).participant s ≡ true) (ha : (σ.clients c).applied s ≡ false) where
@@ -38,26 +38,26 @@ module _ (T : Setting) where
 
     -- what is unapplied after the step was so before
     was : (t : Server) → x'.applied t ≡ false → x.applied t ≡ false
-    was t h = go (eqServer t s)
+    was t h = go (eq_server t s)
       where
         go : Dec (t ≡ s) → x.applied t ≡ false
         go (yes e) = subst (λ t. x.applied t ≡ false) (sym e) ha
-        go (no ne) = sym (upd_other eqServer x.applied s true t ne) ∙ h
+        go (no ne) = sym (upd_other eq_server x.applied s true t ne) ∙ h
 
     -- at another server what is pending stays pending
     own_else : (t : Server) → ¬ (t ≡ s) → (o : Obj) → Pending T x t o → Pending T x' t o
-    own_else t ne o p = (p.0, upd_other eqServer x.applied s true t ne ∙ p.1, p.2, p.3, p.4)
+    own_else t ne o p = (p.0, upd_other eq_server x.applied s true t ne ∙ p.1, p.2, p.3, p.4)
 
     pending_else : (t : Server) → ¬ (t ≡ s) → (o : Obj) (d : Client) → Pending T (σ.clients d) t o → Pending T (τ.clients d) t o
-    pending_else t ne o = upd_all eqClient σ.clients c x' (λ d y. Pending T (σ.clients d) t o → Pending T y t o) (own_else t ne o) (λ d _ p. p)
+    pending_else t ne o = upd_all eq_client σ.clients c x' (λ d y. Pending T (σ.clients d) t o → Pending T y t o) (own_else t ne o) (λ d _ p. p)
 
     inner_else : (t : Server) → ¬ (t ≡ s) → (o : Obj) (d : Client) → PendingInner T (σ.clients d) t o → PendingInner T (τ.clients d) t o
-    inner_else t ne o = upd_all eqClient σ.clients c x' (λ d y. PendingInner T (σ.clients d) t o → PendingInner T y t o)
+    inner_else t ne o = upd_all eq_client σ.clients c x' (λ d y. PendingInner T (σ.clients d) t o → PendingInner T y t o)
         (λ p. (own_else t ne o p.0, p.1)) (λ d _ p. p)
 
     -- what is stored at s is now the decided write, which is in the history
     stored_step : (t : Server) (o : Obj) → keeps t o ≡ true → (τ.value t o ≡ σ.history o (τ.version t o)) × (τ.version t o ≤ σ.current o)
-    stored_step = upd_both eqServer σ.value σ.version s _ _
+    stored_step = upd_both eq_server σ.value σ.version s _ _
         (λ t v n. (o : Obj) → keeps t o ≡ true → (v o ≡ σ.history o (n o)) × (n o ≤ σ.current o))
         (λ o k. here o k (bool_cases (x.written o))) (λ t _. I.stored t)
       where
@@ -70,7 +70,7 @@ module _ (T : Setting) where
 
     -- and it is the newest
     newest_step : (t : Server) (o : Obj) → keeps t o ≡ true → Counts T τ t o → Newest T τ t o
-    newest_step = upd_all eqServer σ.version s _
+    newest_step = upd_all eq_server σ.version s _
         (λ t n. (o : Obj) → keeps t o ≡ true → Counts T σ t o → (n o ≡ σ.current o) ⊎ ((d : Client) × Pending T (τ.clients d) t o))
         (λ o k q. at_s o k (bool_cases (x.written o)) (I.newest s o k q)) (λ t ne o k q. else t ne o (I.newest t o k q))
       where
@@ -87,7 +87,7 @@ module _ (T : Setting) where
 
     -- the table takes the version of a write that is inner before or after, "even where a table holds an older number"
     tables_step : (t : Server) (o : Obj) → here T τ t ≡ true → TableRight T τ t o
-    tables_step = upd_all eqServer σ.table s _
+    tables_step = upd_all eq_server σ.table s _
         (λ t n. (o : Obj) → here T σ t ≡ true → OuterSince T σ.current σ.history o (n o) ⊎ ((d : Client) × PendingInner T (τ.clients d) t o))
         (λ o q. at_s o (bool_cases (x.written o)) (bool_cases (in_tables T x o)) (I.tables s o q)) (λ t ne o q. else t ne o (I.tables t o q))
       where
@@ -114,7 +114,7 @@ module _ (T : Setting) where
 
     -- metadata that is written has the same servers
     called_step : (t : Server) → present (τ.value t meta) t ≡ here T σ t
-    called_step = upd_all eqServer σ.value s _ (λ t v. present (v meta) t ≡ here T σ t)
+    called_step = upd_all eq_server σ.value s _ (λ t v. present (v meta) t ≡ here T σ t)
         (at_s (bool_cases (x.written meta))) (λ t _. I.staffed.called t)
       where
         at_s : (x.written meta ≡ true) ⊎ (x.written meta ≡ false)
@@ -123,7 +123,7 @@ module _ (T : Setting) where
         at_s (inr n) = rw n (I.staffed.called s)
 
     behind_step : (t : Server) (o : Obj) → τ.table t o ≤ σ.current o
-    behind_step = upd_all eqServer σ.table s _ (λ t n. (o : Obj) → n o ≤ σ.current o)
+    behind_step = upd_all eq_server σ.table s _ (λ t n. (o : Obj) → n o ≤ σ.current o)
         (λ o. at_s o (bool_cases (x.written o)) (bool_cases (in_tables T x o))) (λ t _. I.staffed.behind t)
       where
         at_s : (o : Obj) → (x.written o ≡ true) ⊎ (x.written o ≡ false) → (in_tables T x o ≡ true) ⊎ (in_tables T x o ≡ false)
@@ -134,15 +134,15 @@ module _ (T : Setting) where
 
     pub apply_inv : Inv T (after_apply T σ c s)
     apply_inv = record {
-      content = upd_all eqClient σ.clients c x' (λ d y. Content T y) (I.content c) (λ d _. I.content d);
-      course = upd_all eqClient σ.clients c x' (λ d y. Course T y)
+      content = upd_all eq_client σ.clients c x' (λ d y. Content T y) (I.content c) (λ d _. I.content d);
+      course = upd_all eq_client σ.clients c x' (λ d y. Course T y)
           (record { unprepared = (I.course c).unprepared; unapplied = λ h. absurd (not_both hd h); all_prepared = (I.course c).all_prepared })
           (λ d _. I.course d);
-      parts = upd_all eqClient σ.clients c x' (λ d y. after_commit y.phase ≡ true → Parts T y y.participant y.lowest)
+      parts = upd_all eq_client σ.clients c x' (λ d y. after_commit y.phase ≡ true → Parts T y y.participant y.lowest)
           (I.parts c) (λ d _. I.parts d);
-      reads = upd_all eqClient σ.clients c x' (λ d y. Reads T σ y) (I.reads c) (λ d _. I.reads d);
-      kept = upd_all eqClient σ.clients c x' (λ d y. Kept T σ y) (λ h. absurd (not_both hd h)) (λ d _. I.kept d);
-      due = upd_all eqClient σ.clients c x' (λ d y. is_decided y.phase ≡ true → Due T σ.current σ.history y)
+      reads = upd_all eq_client σ.clients c x' (λ d y. Reads T σ y) (I.reads c) (λ d _. I.reads d);
+      kept = upd_all eq_client σ.clients c x' (λ d y. Kept T σ y) (λ h. absurd (not_both hd h)) (λ d _. I.kept d);
+      due = upd_all eq_client σ.clients c x' (λ d y. is_decided y.phase ≡ true → Due T σ.current σ.history y)
           (λ _. record {
             past = D.past;
             seated = D.seated;
@@ -160,6 +160,6 @@ module _ (T : Setting) where
       newest = newest_step;
       tables = tables_step;
       staffed = record { called = called_step; homed = I.staffed.homed; manned = I.staffed.manned; behind = behind_step };
-      held = upd_all eqClient σ.clients c x' (λ d y. (t : Server) → y.prepared t ≡ true → here T σ t ≡ true) (I.held c) (λ d _. I.held d);
+      held = upd_all eq_client σ.clients c x' (λ d y. (t : Server) → y.prepared t ≡ true → here T σ t ≡ true) (I.held c) (λ d _. I.held d);
       replay = I.replay;
     }

@@ -21,11 +21,11 @@ use Rattle.protocol.specs.Laws.Explained.{Explained, reached_explained}
 use Rattle.protocol.specs.Claim.{due_in, there_now, seat, Claim}
 
 module _ (T : Setting) (Z : Meaning T) where
-  open T use {Obj, Server, Client, eqObj, clients, home, keeps, keeps_home, keeps_meta, inner, by_value, meta, present}
+  open T use {Obj, Server, Client, eq_obj, clients, home, keeps, keeps_home, keeps_meta, inner, by_value, meta, present}
   open Z use {HoldsMap}
 
   seat_kept : (s : Server) (o : Obj) → keeps (seat T s o) o ≡ true
-  seat_kept s o = go (eqObj o meta)
+  seat_kept s o = go (eq_obj o meta)
     where
       go : (d : Dec (o ≡ meta)) → keeps (ifd d s (home o)) o ≡ true
       go (yes e) = subst (λ o. keeps s o ≡ true) (sym e) (keeps_meta s)
@@ -63,7 +63,7 @@ module _ (T : Setting) (Z : Meaning T) where
       counts s h = inl (sym (I.staffed.called s) ∙ h)
 
       seat_counts : (s : Server) (o : Obj) → there_now T m s ≡ true → Counts T σ (seat T s o) o
-      seat_counts s o h = go (eqObj o meta)
+      seat_counts s o h = go (eq_obj o meta)
         where
           go : (d : Dec (o ≡ meta)) → Counts T σ (ifd d s (home o)) o
           go (yes e) = inl (sym (I.staffed.called s) ∙ h)
@@ -113,7 +113,7 @@ module _ (T : Setting) (Z : Meaning T) where
   pub quiet_holds : {m : Machine T} → Reached T m → Applied m → (s : Server) → there_now T m s ≡ true
       → HoldsMap (λ o. m.value (seat T s o) o) (map_all T Z m.log)
   quiet_holds {m = m} r done s h =
-      subst (λ M. HoldsMap M (map_all T Z m.log)) (fun_ext (λ o. none_due r done (seat T s o) o (seat_kept s o) (go o (eqObj o meta)))) ((claim r).holds s h)
+      subst (λ M. HoldsMap M (map_all T Z m.log)) (fun_ext (λ o. none_due r done (seat T s o) o (seat_kept s o) (go o (eq_obj o meta)))) ((claim r).holds s h)
     where
       go : (o : Obj) (d : Dec (o ≡ meta)) → (there_now T m (ifd d s (home o)) ≡ true) ⊎ ¬ (o ≡ meta)
       go o (yes e) = inl h

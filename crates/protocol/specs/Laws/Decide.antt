@@ -19,7 +19,7 @@ use Rattle.protocol.specs.Laws.Locked.{locked_part, kept_locked, pending_holds}
 use Rattle.protocol.specs.Laws.History.{homes_now, read_now, lowest_part, written_now, current_written, current_else, history_new, current_le, history_old, reads_step, snapshot_step, view_now, here_step, home_here, outer_step}
 
 module _ (T : Setting) where
-  open T use {Obj, Server, Client, Val, eqClient, home, keeps, keeps_where, inner, meta, present}
+  open T use {Obj, Server, Client, Val, eq_client, home, keeps, keeps_where, inner, meta, present}
 
   module _ (σ : State T) (I : Inv T σ) (c : Client) (hp : (σ.clients c).phase ≡ committing) (ready : (s : Server) → (σ.clients c).participant s ≡ true → (σ.clients c).prepared s ≡ true) where
     abbrev x : Transaction T
@@ -118,7 +118,7 @@ module _ (T : Setting) where
 
     -- x is a witness after the decision: its writes are pending
     own : (P : Transaction T → Type 0) → P x' → (d : Client) × P (τ.clients d)
-    own P p = (c, subst P (sym (upd_same eqClient σ.clients c x')) p)
+    own P p = (c, subst P (sym (upd_same eq_client σ.clients c x')) p)
 
     newest_step : (s : Server) (o : Obj) → keeps s o ≡ true → Counts T τ s o → Newest T τ s o
     newest_step s o k q = go (bool_cases (x.written o)) (I.newest s o k (counted q))
@@ -224,16 +224,16 @@ module _ (T : Setting) where
     pub decide_inv : Inv T (after_decision T σ c)
     unfolding Replays
     decide_inv = record {
-      content = upd_all eqClient σ.clients c x' (λ d y. Content T y) (I.content c) (λ d _. I.content d);
-      course = upd_all eqClient σ.clients c x' (λ d y. Course T y)
+      content = upd_all eq_client σ.clients c x' (λ d y. Content T y) (I.content c) (λ d _. I.content d);
+      course = upd_all eq_client σ.clients c x' (λ d y. Course T y)
           (record { unprepared = λ h. absurd (true≢false h); unapplied = λ h. absurd (true≢false h); all_prepared = λ _. ready })
           (λ d _. I.course d);
-      parts = upd_all eqClient σ.clients c x' (λ d y. after_commit y.phase ≡ true → Parts T y y.participant y.lowest)
+      parts = upd_all eq_client σ.clients c x' (λ d y. after_commit y.phase ≡ true → Parts T y y.participant y.lowest)
           (λ _. parts) (λ d _. I.parts d);
-      reads = upd_all eqClient σ.clients c x' (λ d y. Reads T τ y)
+      reads = upd_all eq_client σ.clients c x' (λ d y. Reads T τ y)
           (reads_step T σ I c hp ready x (I.reads c)) (λ d _. reads_step T σ I c hp ready (σ.clients d) (I.reads d));
-      kept = upd_all eqClient σ.clients c x' (λ d y. Kept T τ y) (λ h. absurd (true≢false h)) kept_step;
-      due = upd_all eqClient σ.clients c x' (λ d y. is_decided y.phase ≡ true → Due T τ.current τ.history y) (λ _. due_own) due_step;
+      kept = upd_all eq_client σ.clients c x' (λ d y. Kept T τ y) (λ h. absurd (true≢false h)) kept_step;
+      due = upd_all eq_client σ.clients c x' (λ d y. is_decided y.phase ≡ true → Due T τ.current τ.history y) (λ _. due_own) due_step;
       apart = apart_upd T σ.clients c x' (λ d nd. I.apart c d (λ q. nd (sym q))) (λ d nd. I.apart d c nd) I.apart;
       stored = λ s o k. (
         (I.stored s o k).0 ∙ sym (history_old T σ I c hp ready o (σ.version s o) (I.stored s o k).1),
@@ -242,7 +242,7 @@ module _ (T : Setting) where
       newest = newest_step;
       tables = tables_step;
       staffed = staffed_step;
-      held = upd_all eqClient σ.clients c x' (λ d y. (s : Server) → y.prepared s ≡ true → here T τ s ≡ true)
+      held = upd_all eq_client σ.clients c x' (λ d y. (s : Server) → y.prepared s ≡ true → here T τ s ≡ true)
           (λ s h. here_step T σ I c hp ready s ∙ I.held c s h) (λ d _ s h. here_step T σ I c hp ready s ∙ I.held d s h);
       replay = (snapshot T σ, I.replay, runs_step);
     }

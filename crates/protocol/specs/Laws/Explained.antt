@@ -31,7 +31,7 @@ use Rattle.protocol.specs.Laws.Reconfigure.{reconfigured_old, reconfigured_le}
 use Rattle.protocol.specs.Laws.Reconfigured.{reconfigured_ghost, can_reconfigure, reconfigure_reach}
 
 module _ (T : Setting) where
-  open T use {Obj, Server, Client, Val, eqClient, keeps, by_value, init, plan, writes, meta, present}
+  open T use {Obj, Server, Client, Val, eq_client, keeps, by_value, init, plan, writes, meta, present}
 
   -- a copy is something that the object once was
   pub record Legal (current : Obj → ℕ) (history : Obj → ℕ → Val) (o : Obj) (k : Copy T) : Type 0 where
@@ -91,18 +91,18 @@ module _ (T : Setting) where
 
     -- what a client has said, where its trace changes, and where it does not
     said_upd : (t : List (Shown T)) (u : Own T) → t ≡ show T u.trace → (d : Client)
-        → upd eqClient m.said c t d ≡ show T (upd eqClient g.own c u d).trace
-    said_upd t u e = upd_both eqClient m.said g.own c t u (λ d a b. a ≡ show T b.trace) e (λ d _. G.said_as d)
+        → upd eq_client m.said c t d ≡ show T (upd eq_client g.own c u d).trace
+    said_upd t u e = upd_both eq_client m.said g.own c t u (λ d a b. a ≡ show T b.trace) e (λ d _. G.said_as d)
 
     said_same : (own : Client → Own T) (u : Own T) → u.trace ≡ (own c).trace → ((d : Client) → m.said d ≡ show T (own d).trace)
-        → (d : Client) → m.said d ≡ show T (upd eqClient own c u d).trace
-    said_same own u e old = upd_all eqClient own c u (λ d v. m.said d ≡ show T v.trace) (old c ∙ ap (show T) (sym e)) (λ d _. old d)
+        → (d : Client) → m.said d ≡ show T (upd eq_client own c u d).trace
+    said_same own u e old = upd_all eq_client own c u (λ d v. m.said d ≡ show T v.trace) (old c ∙ ap (show T) (sym e)) (λ d _. old d)
 
     unprepared : after_commit (m.slots c).phase ≡ false → (s : Server) → (m.slots c).prepared s ≡ false
     unprepared = (I.course c).unprepared
 
-    recorded_put : (y : Slot T) (u : Own T) (lock : Server → Obj → Lock T) → Recorded T (upd eqClient σ.clients c (transaction_of T y u)) lock
-        → Recorded T (λ d. transaction_of T (upd eqClient m.slots c y d) (upd eqClient g.own c u d)) lock
+    recorded_put : (y : Slot T) (u : Own T) (lock : Server → Obj → Lock T) → Recorded T (upd eq_client σ.clients c (transaction_of T y u)) lock
+        → Recorded T (λ d. transaction_of T (upd eq_client m.slots c y d) (upd eq_client g.own c u d)) lock
     recorded_put y u lock = subst (λ f. Recorded T f lock) (sym (clients_put T m g c y u _ refl))
 
     -- a client that has prepared nowhere reads or commits
@@ -139,8 +139,8 @@ module _ (T : Setting) where
     answer_explained : (e : Entry T) → (m.slots c).phase ≡ opened
         → Asked (plan e.op) (seen T (m.slots c)).read (view T (seen T (m.slots c)))
         → exec (plan e.op) (view T (seen T (m.slots c))) ≡ gives e.result
-        → Explained (turned T m (upd eqClient m.slots c (answered_slot T (m.slots c) (writes e.result))) m.lock
-        (upd eqClient m.said c (shown_of T e ∷ m.said c)) m.log)
+        → Explained (turned T m (upd eq_client m.slots c (answered_slot T (m.slots c) (writes e.result))) m.lock
+        (upd eq_client m.said c (shown_of T e ∷ m.said c)) m.log)
     unfolding show
     answer_explained e hp asked ran = record {
       ghost = put_own T g c u;
@@ -160,7 +160,7 @@ module _ (T : Setting) where
     prepare_explained : (s : Server) → present (m.value s meta) s ≡ true → (m.slots c).phase ≡ committing → (m.slots c).prepared s ≡ false
         → all (check T m (m.slots c).lowest s) (m.slots c).items ≡ true
         → all (λ i. grants T c (to_write T s i) (to_read T (m.slots c).lowest s i) (m.lock s i.obj)) (m.slots c).items ≡ true
-        → Explained (turned T m (upd eqClient m.slots c (prepared_slot T (m.slots c) s)) (granted_at T m c s) m.said m.log)
+        → Explained (turned T m (upd eq_client m.slots c (prepared_slot T (m.slots c) s)) (granted_at T m c s) m.said m.log)
     prepare_explained s hs hp new pass granted = record {
       ghost = prepared_ghost T g c s;
       reach = prepare_reach T m g c G.reach s hs hp new pass G.recorded granted;
@@ -174,7 +174,7 @@ module _ (T : Setting) where
         g1 = stamped_ghost T g c s
 
     decide_explained : (m.slots c).phase ≡ committing → ((s : Server) → (m.slots c).participant s ≡ true → (m.slots c).prepared s ≡ true)
-        → Explained (turned T m (upd eqClient m.slots c (decided_slot T (m.slots c))) m.lock m.said (m.said c ∷ m.log))
+        → Explained (turned T m (upd eq_client m.slots c (decided_slot T (m.slots c))) m.lock m.said (m.said c ∷ m.log))
     unfolding show_all
     decide_explained hp ready = record {
       ghost = decided_ghost T m g c;

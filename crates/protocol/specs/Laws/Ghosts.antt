@@ -21,7 +21,7 @@ use Rattle.protocol.specs.Moves.{wrote, answered_slot, participants, homed, firs
 use Rattle.protocol.specs.Laws.Items.{find_item, participants_right}
 
 module _ (T : Setting) where
-  open T use {Obj, Server, Client, Val, eqObj, eqClient, servers, by_value, init, plan, writes, writes_asked}
+  open T use {Obj, Server, Client, Val, eq_obj, eq_client, servers, by_value, init, plan, writes, writes_asked}
 
   -- of a client: its trace, and the versions that its objects checked by value have been given
   pub record Own : Type 0 where
@@ -71,13 +71,13 @@ module _ (T : Setting) where
   }
 
   abbrev pub put_own : Ghost → Client → Own → Ghost
-  put_own g c u = record { own = upd eqClient g.own c u; versions = g.versions; current = g.current; history = g.history; log = g.log }
+  put_own g c u = record { own = upd eq_client g.own c u; versions = g.versions; current = g.current; history = g.history; log = g.log }
 
   -- one client's slot and its ghosts change: so does its transaction
   pub clients_put : (m : Machine T) (g : Ghost) (c : Client) (y : Slot T) (u : Own) (x : Transaction T) → transaction_of y u ≡ x
-      → (λ d. transaction_of (upd eqClient m.slots c y d) (upd eqClient g.own c u d)) ≡ upd eqClient (λ d. transaction_of (m.slots d) (g.own d)) c x
-  clients_put m g c y u x e = fun_ext (λ d. upd_zip eqClient transaction_of m.slots g.own c y u d
-      ∙ ap (λ x. upd eqClient (λ d. transaction_of (m.slots d) (g.own d)) c x d) e)
+      → (λ d. transaction_of (upd eq_client m.slots c y d) (upd eq_client g.own c u d)) ≡ upd eq_client (λ d. transaction_of (m.slots d) (g.own d)) c x
+  clients_put m g c y u x e = fun_ext (λ d. upd_zip eq_client transaction_of m.slots g.own c y u d
+      ∙ ap (λ x. upd eq_client (λ d. transaction_of (m.slots d) (g.own d)) c x d) e)
 
   pub state_put : (m : Machine T) (g : Ghost) (c : Client) (y : Slot T) (u : Own) (x : Transaction T) → transaction_of y u ≡ x
       → state_of (with_slot T m c y) (put_own g c u) ≡ put T (state_of m g) c x
@@ -98,7 +98,7 @@ module _ (T : Setting) where
     where
       same : state_of m (put_own g c u) ≡ state_of (with_slot T m c (m.slots c)) (put_own g c u)
       same i = record {
-        clients = λ d. transaction_of (sym (upd_none eqClient m.slots c (m.slots c) refl d) i) (upd eqClient g.own c u d);
+        clients = λ d. transaction_of (sym (upd_none eq_client m.slots c (m.slots c) refl d) i) (upd eq_client g.own c u d);
         value = m.value;
         version = (state_of m g).version;
         table = m.table;
@@ -126,9 +126,9 @@ module _ (T : Setting) where
   -- READ: a function of the items, with one item more, is changed at its object
   find_cons : {A : Type 0} (f f' : Obj → Item T → A) (a : Obj → A) (i : Item T) (is : List (Item T)) (w : A) → f' i.obj i ≡ w
       → ((o : Obj) → ¬ (o ≡ i.obj) → (j : Item T) → f' o j ≡ f o j)
-      → (o : Obj) → says T (f' o) (a o) (find T (i ∷ is) o) ≡ upd eqObj (λ o. says T (f o) (a o) (find T is o)) i.obj w o
+      → (o : Obj) → says T (f' o) (a o) (find T (i ∷ is) o) ≡ upd eq_obj (λ o. says T (f o) (a o) (find T is o)) i.obj w o
   unfolding find
-  find_cons {A = A} f f' a i is w here there o = go (eqObj i.obj o) refl
+  find_cons {A = A} f f' a i is w here there o = go (eq_obj i.obj o) refl
     where
       old : Obj → A
       old o = says T (f o) (a o) (find T is o)
@@ -137,18 +137,18 @@ module _ (T : Setting) where
       rest n none = refl
       rest n (some j) = there o n j
 
-      go : (d : Dec (i.obj ≡ o)) → eqObj i.obj o ≡ d → says T (f' o) (a o) (find T (i ∷ is) o) ≡ upd eqObj old i.obj w o
+      go : (d : Dec (i.obj ≡ o)) → eq_obj i.obj o ≡ d → says T (f' o) (a o) (find T (i ∷ is) o) ≡ upd eq_obj old i.obj w o
       go (yes e) q = rw (q, find)
-          (subst (λ k. f' k i ≡ upd eqObj old i.obj w k) e (here ∙ sym (upd_same eqObj old i.obj w)))
-      go (no n) q = rw (q, find) (rest (λ e. n (sym e)) (find T is o) ∙ sym (upd_other eqObj old i.obj w o (λ e. n (sym e))))
+          (subst (λ k. f' k i ≡ upd eq_obj old i.obj w k) e (here ∙ sym (upd_same eq_obj old i.obj w)))
+      go (no n) q = rw (q, find) (rest (λ e. n (sym e)) (find T is o) ∙ sym (upd_other eq_obj old i.obj w o (λ e. n (sym e))))
 
   -- the same where the function is the same before and after
   cons_says : {A : Type 0} (f : Obj → Item T → A) (a : Obj → A) (i : Item T) (is : List (Item T))
-      → (o : Obj) → says T (f o) (a o) (find T (i ∷ is) o) ≡ upd eqObj (λ o. says T (f o) (a o) (find T is o)) i.obj (f i.obj i) o
+      → (o : Obj) → says T (f o) (a o) (find T (i ∷ is) o) ≡ upd eq_obj (λ o. says T (f o) (a o) (find T is o)) i.obj (f i.obj i) o
   cons_says f a i is = find_cons f f a i is (f i.obj i) refl (λ _ _ _. refl)
 
   abbrev pub stamped : Own → Obj → ℕ → Own
-  stamped u o k = record { trace = u.trace; stamps = upd eqObj u.stamps o k }
+  stamped u o k = record { trace = u.trace; stamps = upd eq_obj u.stamps o k }
 
   -- n is the stored version, k the version at which the object had this value: the same, unless it is checked by value
   slot_read : (y : Slot T) (u : Own) (o : Obj) (v : Val) (n k : ℕ) → (by_value o ≡ false → n ≡ k) → find T y.items o ≡ none
@@ -158,12 +158,12 @@ module _ (T : Setting) where
     read = fun_ext (cons_says (λ _ i. true) (λ _. false) (item T o v n) y.items) j;
     value_read = fun_ext (cons_says (λ _ i. i.old) init (item T o v n) y.items) j;
     version_read = fun_ext (find_cons (λ q i. cond (by_value q) (u.stamps q) i.version)
-        (λ q i. cond (by_value q) (upd eqObj u.stamps o k q) i.version) (λ _. 0) (item T o v n) y.items k (version (bool_cases (by_value o)))
-        (λ q ne i. ap (λ t. cond (by_value q) t i.version) (upd_other eqObj u.stamps o k q ne))) j;
+        (λ q i. cond (by_value q) (upd eq_obj u.stamps o k q) i.version) (λ _. 0) (item T o v n) y.items k (version (bool_cases (by_value o)))
+        (λ q ne i. ap (λ t. cond (by_value q) t i.version) (upd_other eq_obj u.stamps o k q ne))) j;
     written = fun_ext (λ q. cons_says (λ _ i. i.written) (λ _. false) (item T o v n) y.items q
-        ∙ upd_none eqObj x.written o false (ap (says T (λ i. i.written) false) h) q) j;
+        ∙ upd_none eq_obj x.written o false (ap (says T (λ i. i.written) false) h) q) j;
     value_written = fun_ext (λ q. cons_says (λ o i. cond i.written i.new (init o)) init (item T o v n) y.items q
-        ∙ upd_none eqObj x.value_written o (init o) (ap (says T (λ i. cond i.written i.new (init o)) (init o)) h) q) j;
+        ∙ upd_none eq_obj x.value_written o (init o) (ap (says T (λ i. cond i.written i.new (init o)) (init o)) h) q) j;
     trace = u.trace;
     participant = y.participant;
     lowest = y.lowest;
@@ -174,9 +174,9 @@ module _ (T : Setting) where
       x : Transaction T
       x = transaction_of y u
 
-      version : (by_value o ≡ true) ⊎ (by_value o ≡ false) → cond (by_value o) (upd eqObj u.stamps o k o) n ≡ k
-      version (inl b) = cond_true (upd eqObj u.stamps o k o) n b ∙ upd_same eqObj u.stamps o k
-      version (inr b) = cond_false (upd eqObj u.stamps o k o) n b ∙ hk b
+      version : (by_value o ≡ true) ⊎ (by_value o ≡ false) → cond (by_value o) (upd eq_obj u.stamps o k o) n ≡ k
+      version (inl b) = cond_true (upd eq_obj u.stamps o k o) n b ∙ upd_same eq_obj u.stamps o k
+      version (inr b) = cond_false (upd eq_obj u.stamps o k o) n b ∙ hk b
 
   pub read_reach : (m : Machine T) (g : Ghost) (c : Client) → Reach T (state_of m g) → (o : Obj) (v : Val) (n k : ℕ) → (by_value o ≡ false → n ≡ k)
       → (m.slots c).phase ≡ opened → find T (m.slots c).items o ≡ none → v ≡ g.history o k → k ≤ g.current o
@@ -190,9 +190,9 @@ module _ (T : Setting) where
   pub find_wrote : (ws : List (Obj × Val)) (is : List (Item T)) (o : Obj) → find T (map (wrote T ws) is) o ≡ Option.map (wrote T ws) (find T is o)
   unfolding find
   find_wrote ws [] o = refl
-  find_wrote ws (i ∷ is) o = go (eqObj i.obj o) refl (find_wrote ws is o)
+  find_wrote ws (i ∷ is) o = go (eq_obj i.obj o) refl (find_wrote ws is o)
     where
-      go : (d : Dec (i.obj ≡ o)) → eqObj i.obj o ≡ d → find T (map (wrote T ws) is) o ≡ Option.map (wrote T ws) (find T is o)
+      go : (d : Dec (i.obj ≡ o)) → eq_obj i.obj o ≡ d → find T (map (wrote T ws) is) o ≡ Option.map (wrote T ws) (find T is o)
           → find T (map (wrote T ws) (i ∷ is)) o ≡ Option.map (wrote T ws) (find T (i ∷ is) o)
       go (yes p) q rec = rw (q, find) refl
       go (no n) q rec = rw (q, find) rec
@@ -204,10 +204,10 @@ module _ (T : Setting) where
     abbrev ws : List (Obj × Val)
     ws = writes e.result
 
-    unwritten : (o : Obj) → find T is o ≡ none → writes? eqObj ws o ≡ false
-    unwritten o q = go (bool_cases (writes? eqObj ws o))
+    unwritten : (o : Obj) → find T is o ≡ none → writes? eq_obj ws o ≡ false
+    unwritten o q = go (bool_cases (writes? eq_obj ws o))
       where
-        go : (writes? eqObj ws o ≡ true) ⊎ (writes? eqObj ws o ≡ false) → writes? eqObj ws o ≡ false
+        go : (writes? eq_obj ws o ≡ true) ⊎ (writes? eq_obj ws o ≡ false) → writes? eq_obj ws o ≡ false
         go (inl h) =
             let x = transaction_of y u in
             absurd (false≢true (sym (ap (says T (λ i. true) false) q) ∙ writes_asked e.op x.read (view T x) e.result asked ran o h))
@@ -223,17 +223,17 @@ module _ (T : Setting) where
         go (some i) = same i
 
     new_written : (o : Obj) (z : Option (Item T)) → find T is o ≡ z
-        → says T (λ i. i.written) false (Option.map (wrote T ws) z) ≡ (writes? eqObj ws o || says T (λ i. i.written) false z)
+        → says T (λ i. i.written) false (Option.map (wrote T ws) z) ≡ (writes? eq_obj ws o || says T (λ i. i.written) false z)
     new_written o none q = rw (unwritten o q) refl
-    new_written o (some i) q = ap (λ k. writes? eqObj ws k || i.written) (find_item T is o i q).1
+    new_written o (some i) q = ap (λ k. writes? eq_obj ws k || i.written) (find_item T is o i q).1
 
     new_value : (o : Obj) (z : Option (Item T)) → find T is o ≡ z
         → says T (λ i. cond i.written i.new (init o)) (init o) (Option.map (wrote T ws) z)
-        ≡ latest eqObj ws o (says T (λ i. cond i.written i.new (init o)) (init o) z)
-    new_value o none q = sym (latest_unwritten eqObj ws o (init o) (unwritten o q))
+        ≡ latest eq_obj ws o (says T (λ i. cond i.written i.new (init o)) (init o) z)
+    new_value o none q = sym (latest_unwritten eq_obj ws o (init o) (unwritten o q))
     new_value o (some i) q =
-        ap (λ k. cond (writes? eqObj ws k || i.written) (latest eqObj ws k i.new) (init o)) (find_item T is o i q).1
-        ∙ sym (latest_cond eqObj ws o i.written i.new (init o))
+        ap (λ k. cond (writes? eq_obj ws k || i.written) (latest eq_obj ws k i.new) (init o)) (find_item T is o i q).1
+        ∙ sym (latest_cond eq_obj ws o i.written i.new (init o))
 
     slot_answered : transaction_of (answered_slot T y ws) (record { trace = e ∷ u.trace; stamps = u.stamps }) ≡ answering T (transaction_of y u) e
     slot_answered j = record {
@@ -268,7 +268,7 @@ module _ (T : Setting) where
   -- DECISION: the ghosts take the writes in
   abbrev pub decided_ghost : Machine T → Ghost → Client → Ghost
   decided_ghost m g c = let τ = after_decision T (state_of m g) c in
-      record { own = upd eqClient g.own c (g.own c); versions = g.versions; current = τ.current; history = τ.history; log = τ.log }
+      record { own = upd eq_client g.own c (g.own c); versions = g.versions; current = τ.current; history = τ.history; log = τ.log }
 
   pub decide_reach : (m : Machine T) (g : Ghost) (c : Client) → Reach T (state_of m g) → (m.slots c).phase ≡ committing
       → ((s : Server) → (m.slots c).participant s ≡ true → (m.slots c).prepared s ≡ true)

@@ -41,8 +41,8 @@ pub data Op : Type 0 where
 abbrev pub Res : Type 0
 Res = ℕ × List (Obj × ℕ)
 
-abbrev pub eqObj : (o q : Obj) → Dec (o ≡ q)
-eqObj = ObjDiscrete ServerDiscrete
+abbrev pub eq_obj : (o q : Obj) → Dec (o ≡ q)
+eq_obj = ObjDiscrete ServerDiscrete
 
 -- both look at a leaf, so that they have a participant
 abbrev pub plan : Op → Plan Obj ℕ Res (Unit {0})
@@ -75,7 +75,7 @@ unfolding SeesOuter
 sees look = λ _ v u. refl
 sees (flip n) = λ _ v u. refl
 
-pub within : (p : Op) → WritesAsked eqObj (λ r. r.1) (plan p) []
+pub within : (p : Op) → WritesAsked eq_obj (λ r. r.1) (plan p) []
 unfolding WritesAsked Every Among
 within look = λ _ v u. tt
 within (flip n) = λ _ v u. (inr (inl refl), tt)
@@ -104,10 +104,10 @@ abbrev result : Res → Out Res (Unit {0}) → Res
 result r (gives q) = q
 result r (fails y) = r
 
-pub servers_stay : (p : Op) (M : Obj → ℕ) (r : Res) → exec (plan p) M ≡ gives r → latest eqObj r.1 meta (M meta) ≡ M meta
+pub servers_stay : (p : Op) (M : Obj → ℕ) (r : Res) → exec (plan p) M ≡ gives r → latest eq_obj r.1 meta (M meta) ≡ M meta
 unfolding exec latest
-servers_stay look M r e = subst (λ r. latest eqObj r.1 meta (M meta) ≡ M meta) (ap (result r) e) refl
-servers_stay (flip n) M r e = subst (λ r. latest eqObj r.1 meta (M meta) ≡ M meta) (ap (result r) e) refl
+servers_stay look M r e = subst (λ r. latest eq_obj r.1 meta (M meta) ≡ M meta) (ap (result r) e) refl
+servers_stay (flip n) M r e = subst (λ r. latest eq_obj r.1 meta (M meta) ≡ M meta) (ap (result r) e) refl
 
 pub every : (s : Server) → Among s (a ∷ b ∷ c ∷ [])
 unfolding Among
@@ -126,10 +126,10 @@ trio = record {
   Val = ℕ;
   Server = Server;
   Client = Bool;
-  eqObj = eqObj;
-  eqVal = ℕ_discrete;
-  eqServer = ServerDiscrete;
-  eqClient = Bool-discrete;
+  eq_obj = eq_obj;
+  eq_val = ℕ_discrete;
+  eq_server = ServerDiscrete;
+  eq_client = Bool-discrete;
   servers = a ∷ b ∷ c ∷ [];
   servers_all = every;
   some_server = a;
@@ -161,7 +161,7 @@ trio = record {
   answer_of = λ r. r.0;
   compared = λ p. true;
   asks_outer = λ p asked M r _. outer_asked inner (plan p) asked M r (sees p);
-  writes_asked = λ p asked M r. written_asked eqObj (λ r. r.1) (plan p) asked M r (within p);
+  writes_asked = λ p asked M r. written_asked eq_obj (λ r. r.1) (plan p) asked M r (within p);
   writes_know = λ p asked M r h _ o _. writes_know p asked M h;
   servers_stay = λ p M r e s. ap (λ v. present v s) (servers_stay p M r e);
 }
@@ -172,10 +172,10 @@ map_after look m = m
 map_after (flip n) m = n
 
 pub sound : (p : Op) (M : Obj → ℕ) (m : ℕ) (r : Res) → M switch ≡ m → exec (plan p) M ≡ gives r
-    → (true ≡ true → r.0 ≡ m) × (latest eqObj r.1 switch (M switch) ≡ map_after p m)
+    → (true ≡ true → r.0 ≡ m) × (latest eq_obj r.1 switch (M switch) ≡ map_after p m)
 unfolding exec latest
-sound look M m r h e = subst (λ (r : Res). (true ≡ true → r.0 ≡ m) × (latest eqObj r.1 switch (M switch) ≡ m)) (ap (result r) e) (λ _. h, h)
-sound (flip n) M m r h e = subst (λ (r : Res). (true ≡ true → r.0 ≡ m) × (latest eqObj r.1 switch (M switch) ≡ n)) (ap (result r) e) (λ _. h, refl)
+sound look M m r h e = subst (λ (r : Res). (true ≡ true → r.0 ≡ m) × (latest eq_obj r.1 switch (M switch) ≡ m)) (ap (result r) e) (λ _. h, h)
+sound (flip n) M m r h e = subst (λ (r : Res). (true ≡ true → r.0 ≡ m) × (latest eq_obj r.1 switch (M switch) ≡ n)) (ap (result r) e) (λ _. h, refl)
 
 pub switch≢meta : ¬ (switch ≡ meta)
 switch≢meta e = true≢false (ap switch? e)
@@ -194,7 +194,7 @@ switched = record {
   HoldsMap = λ M m. M switch ≡ m;
   first_map = 0;
   first_holds = refl;
-  alike_holds = λ M m v h _. upd_other eqObj M meta v switch switch≢meta ∙ h;
+  alike_holds = λ M m v h _. upd_other eq_obj M meta v switch switch≢meta ∙ h;
   sound = sound;
 }
 

@@ -17,15 +17,15 @@ use Rattle.protocol.specs.Machine.{Item, find, says, test, Slot, Lock, shared, o
 use Rattle.protocol.specs.Moves.{item_inner, for_all, for_home, participants, home_there, homeless, homed, first_of, all_parts, check, to_write, to_read, grants}
 
 module _ (T : Setting) where
-  open T use {Obj, Server, Client, eqObj, eqVal, eqServer, eqClient, servers, servers_all, home, inner, by_value, meta}
+  open T use {Obj, Server, Client, eq_obj, eq_val, eq_server, eq_client, servers, servers_all, home, inner, by_value, meta}
 
   -- the item that is found is in the list, and is the object's
   pub find_item : (is : List (Item T)) (o : Obj) (i : Item T) → find T is o ≡ some i → Among i is × (i.obj ≡ o)
   unfolding find Among
   find_item [] o i e = absurd (none-ne-some i e)
-  find_item (j ∷ is) o i e = go (eqObj j.obj o) refl (find_item is o i)
+  find_item (j ∷ is) o i e = go (eq_obj j.obj o) refl (find_item is o i)
     where
-      go : (d : Dec (j.obj ≡ o)) → eqObj j.obj o ≡ d → (find T is o ≡ some i → Among i is × (i.obj ≡ o)) → Among i (j ∷ is) × (i.obj ≡ o)
+      go : (d : Dec (j.obj ≡ o)) → eq_obj j.obj o ≡ d → (find T is o ≡ some i → Among i is × (i.obj ≡ o)) → Among i (j ∷ is) × (i.obj ≡ o)
       go (yes p) q rec =
           let same : j ≡ i = some-injective j i (rw (q, find) at e) in
           (inl (sym same), subst (λ k. k.obj ≡ o) same p)
@@ -75,7 +75,7 @@ module _ (T : Setting) where
       homes : (o : Obj) (i : Item T) → find T y.items o ≡ some i → inner o ((seen T y).value_read o) ≡ false → any (for_home T (home o)) y.items ≡ true
       homes o i q = at_item y.items o i q (λ o. inner o ((seen T y).value_read o) ≡ false → any (for_home T (home o)) y.items ≡ true)
           (λ q n. let h = home i.obj in
-          any_among (for_home T h) y.items i (rw (rw q at n) (of_yes (eqServer h h) refl)) (find_item y.items i.obj i q).0)
+          any_among (for_home T h) y.items i (rw (rw q at n) (of_yes (eq_server h h) refl)) (find_item y.items i.obj i q).0)
 
       for_some : (o : Obj) (i : Item T) → find T y.items o ≡ some i → (seen T y).written o ≡ true
           → inner_before_after T (seen T y) o ≡ true → any (for_all T) y.items ≡ true
@@ -93,8 +93,8 @@ module _ (T : Setting) where
       -- an inner node whose home isn't there
       without : (i : Item T) → homeless T y.items i ≡ true → (test T (λ i. true) y.items meta && p (first_of T p servers)) ≡ true → HomelessHere
       without i h k =
-          let a = and_both (test T (λ j. inner j.obj j.old) y.items i.obj) (not (yes? (eqObj i.obj meta)) && not (home_there T y.items i)) h in
-          let b = and_both (not (yes? (eqObj i.obj meta))) (not (home_there T y.items i)) a.1 in
+          let a = and_both (test T (λ j. inner j.obj j.old) y.items i.obj) (not (yes? (eq_obj i.obj meta)) && not (home_there T y.items i)) h in
+          let b = and_both (not (yes? (eq_obj i.obj meta))) (not (home_there T y.items i)) a.1 in
           let c = and_both (test T (λ i. true) y.items meta) (p (first_of T p servers)) k in
           let f = found (λ j. inner j.obj j.old) y.items i.obj a.0 in (
             c.1,
@@ -103,7 +103,7 @@ module _ (T : Setting) where
               i.obj,
               rw f.1 refl,
               inner_there i.obj f.0 f.1 a.0,
-              λ e. not_both (of_yes (eqObj i.obj meta) e) (not-true _ b.0),
+              λ e. not_both (of_yes (eq_obj i.obj meta) e) (not-true _ b.0),
               not-true _ b.1,
             ),
           )
@@ -149,8 +149,8 @@ module _ (T : Setting) where
   asks_write y s o w = go (found (λ i. i.written) y.items o w.0) w
     where
       by : (i : Item T) → i.written ≡ true → (s ≡ home i.obj) ⊎ (item_inner T i ≡ true) → to_write T s i ≡ true
-      by i h (inl e) = rw h (or_left (yes? (eqServer s (home i.obj))) (item_inner T i) (of_yes (eqServer s (home i.obj)) e))
-      by i h (inr b) = rw h (or_right (yes? (eqServer s (home i.obj))) (item_inner T i) b)
+      by i h (inl e) = rw h (or_left (yes? (eq_server s (home i.obj))) (item_inner T i) (of_yes (eq_server s (home i.obj)) e))
+      by i h (inr b) = rw h (or_right (yes? (eq_server s (home i.obj))) (item_inner T i) b)
 
       locked : (i : Item T) → i.written ≡ true → find T y.items i.obj ≡ some i → LockedAt T (seen T y) s i.obj
           → (s ≡ home i.obj) ⊎ (item_inner T i ≡ true)
@@ -168,9 +168,9 @@ module _ (T : Setting) where
       Asks o = test T (to_read T y.lowest s) y.items o ≡ true
 
       by : (i : Item T) → find T y.items i.obj ≡ some i → Checked T (seen T y) s i.obj → Asks i.obj
-      by i q (inl (n, inl e)) = rw (q, rw q at n) (or_left (yes? (eqServer y.lowest s)) i.written (of_yes (eqServer y.lowest s) e))
-      by i q (inl (n, inr w)) = rw (q, rw q at n) (or_right (yes? (eqServer y.lowest s)) i.written (rw q at w))
-      by i q (inr (n, e)) = rw (q, rw q at n) (of_yes (eqServer s (home i.obj)) e)
+      by i q (inl (n, inl e)) = rw (q, rw q at n) (or_left (yes? (eq_server y.lowest s)) i.written (of_yes (eq_server y.lowest s) e))
+      by i q (inl (n, inr w)) = rw (q, rw q at n) (or_right (yes? (eq_server y.lowest s)) i.written (rw q at w))
+      by i q (inr (n, e)) = rw (q, rw q at n) (of_yes (eq_server s (home i.obj)) e)
 
       go : (i : Item T) × (find T y.items o ≡ some i) → Checked T (seen T y) s o → Asks o
       go (i, q) = at_item y.items o i q (λ o. Checked T (seen T y) s o → Asks o) (λ q. by i q)
@@ -178,7 +178,7 @@ module _ (T : Setting) where
   -- an object without an item asks for nothing, so the test of the items is one of all objects
   none_asked : (c : Client) (l : Lock T) → grants T c false false l ≡ true
   none_asked c (shared q) = refl
-  none_asked c (owned d) = or_right (yes? (eqClient d c)) true refl
+  none_asked c (owned d) = or_right (yes? (eq_client d c)) true refl
 
   pub granted_all : (c : Client) (y : Slot T) (s : Server) (locks : Obj → Lock T)
       → all (λ i. grants T c (to_write T s i) (to_read T y.lowest s i) (locks i.obj)) y.items ≡ true
@@ -202,14 +202,14 @@ module _ (T : Setting) where
       → (l ≡ s) ⊎ (i.written ≡ true) → m.table s i.obj ≡ i.version
   check_table m l s i h n w = yes_of (ℕ_discrete (m.table s i.obj) i.version) (rw (n, asked w) at h)
     where
-      asked : (l ≡ s) ⊎ (i.written ≡ true) → (yes? (eqServer l s) || i.written) ≡ true
-      asked (inl e) = or_left (yes? (eqServer l s)) i.written (of_yes (eqServer l s) e)
-      asked (inr e) = or_right (yes? (eqServer l s)) i.written e
+      asked : (l ≡ s) ⊎ (i.written ≡ true) → (yes? (eq_server l s) || i.written) ≡ true
+      asked (inl e) = or_left (yes? (eq_server l s)) i.written (of_yes (eq_server l s) e)
+      asked (inr e) = or_right (yes? (eq_server l s)) i.written e
 
   pub check_version : (m : Machine T) (l s : Server) (i : Item T) → check T m l s i ≡ true → inner i.obj i.old ≡ false
       → s ≡ home i.obj → by_value i.obj ≡ false → m.version s i.obj ≡ i.version
-  check_version m l s i h n e b = yes_of (ℕ_discrete (m.version s i.obj) i.version) (rw (n, of_yes (eqServer s (home i.obj)) e, b) at h)
+  check_version m l s i h n e b = yes_of (ℕ_discrete (m.version s i.obj) i.version) (rw (n, of_yes (eq_server s (home i.obj)) e, b) at h)
 
   pub check_value : (m : Machine T) (l s : Server) (i : Item T) → check T m l s i ≡ true → inner i.obj i.old ≡ false
       → s ≡ home i.obj → by_value i.obj ≡ true → m.value s i.obj ≡ i.old
-  check_value m l s i h n e b = yes_of (eqVal (m.value s i.obj) i.old) (rw (n, of_yes (eqServer s (home i.obj)) e, b) at h)
+  check_value m l s i h n e b = yes_of (eq_val (m.value s i.obj) i.old) (rw (n, of_yes (eq_server s (home i.obj)) e, b) at h)

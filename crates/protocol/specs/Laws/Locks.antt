@@ -16,7 +16,7 @@ use Rattle.protocol.specs.Machine.{Lock, shared, owned}
 use Rattle.protocol.specs.Moves.{grants, grant, share, drop}
 
 module _ (T : Setting) where
-  open T use {Obj, Server, Client, eqServer, eqClient, clients, clients_all}
+  open T use {Obj, Server, Client, eq_server, eq_client, clients, clients_all}
 
   -- c is recorded as a reader, or as the writer
   abbrev pub User : Client → Lock T → Type 0
@@ -32,15 +32,15 @@ module _ (T : Setting) where
 
   -- what a granted lock says of another client: to write, it is no user; to read, it is not the writer
   grants_write : (c d : Client) (r : Bool) (l : Lock T) → ¬ (d ≡ c) → grants T c true r l ≡ true → User d l → ⊥
-  grants_write c d r (shared q) nd g u = not_both other (go (any (λ e. not (yes? (eqClient e c)) && q e) clients) g)
+  grants_write c d r (shared q) nd g u = not_both other (go (any (λ e. not (yes? (eq_client e c)) && q e) clients) g)
     where
-      other : any (λ e. not (yes? (eqClient e c)) && q e) clients ≡ true
-      other = any_among (λ e. not (yes? (eqClient e c)) && q e) clients d (rw (of_no (eqClient d c) nd) u) (clients_all d)
+      other : any (λ e. not (yes? (eq_client e c)) && q e) clients ≡ true
+      other = any_among (λ e. not (yes? (eq_client e c)) && q e) clients d (rw (of_no (eq_client d c) nd) u) (clients_all d)
 
       go : (b : Bool) → not b ≡ true → b ≡ false
       go true h = absurd (false≢true h)
       go false h = refl
-  grants_write c d r (owned e) nd g u = nd (sym u ∙ yes_of (eqClient e c) (go (yes? (eqClient e c)) g))
+  grants_write c d r (owned e) nd g u = nd (sym u ∙ yes_of (eq_client e c) (go (yes? (eq_client e c)) g))
     where
       go : (b : Bool) → (b || false) ≡ true → b ≡ true
       go true h = refl
@@ -55,12 +55,12 @@ module _ (T : Setting) where
 
   -- other readers stay readers where c joins them, and c becomes one, if no other client writes
   share_other : (c d : Client) (l : Lock T) → User d l → User d (share T c l)
-  share_other c d (shared q) h = or_right (yes? (eqClient d c)) (q d) h
+  share_other c d (shared q) h = or_right (yes? (eq_client d c)) (q d) h
   share_other c d (owned e) h = h
 
   share_own : (c : Client) (w : Bool) (l : Lock T) → grants T c w true l ≡ true → User c (share T c l)
-  share_own c w (shared q) g = or_left (yes? (eqClient c c)) (q c) (of_yes (eqClient c c) refl)
-  share_own c w (owned d) g = go (eqClient d c)
+  share_own c w (shared q) g = or_left (yes? (eq_client c c)) (q c) (of_yes (eq_client c c) refl)
+  share_own c w (owned d) g = go (eq_client d c)
     where
       go : Dec (d ≡ c) → d ≡ c
       go (yes e) = e
@@ -119,47 +119,47 @@ module _ (T : Setting) where
     own_else t ne o = (λ h. (R c t o).0 (old h), λ h. (R c t o).1 (old h))
       where
         old : Holds T (preparing T (f c) s) t → Holds T (f c) t
-        old h = (sym (upd_other eqServer (f c).prepared s true t ne) ∙ h.0, h.1)
+        old h = (sym (upd_other eq_server (f c).prepared s true t ne) ∙ h.0, h.1)
 
-    pub prepare_recorded : Recorded (upd eqClient f c (preparing T (f c) s)) (upd eqServer lock s (λ o. grant T c (w o) (r o) (lock s o)))
+    pub prepare_recorded : Recorded (upd eq_client f c (preparing T (f c) s)) (upd eq_server lock s (λ o. grant T c (w o) (r o) (lock s o)))
     prepare_recorded =
-        upd_all eqClient f c (preparing T (f c) s) (λ d y. (t : Server) (o : Obj) → Known d y t o (upd eqServer lock s row t o))
-        (upd_all eqServer lock s row (λ t l. (o : Obj) → Known c (preparing T (f c) s) t o (l o)) own own_else)
-        (λ d nd. upd_all eqServer lock s row (λ t l. (o : Obj) → Known d (f d) t o (l o)) (others d nd) (λ t _. R d t))
+        upd_all eq_client f c (preparing T (f c) s) (λ d y. (t : Server) (o : Obj) → Known d y t o (upd eq_server lock s row t o))
+        (upd_all eq_server lock s row (λ t l. (o : Obj) → Known c (preparing T (f c) s) t o (l o)) own own_else)
+        (λ d nd. upd_all eq_server lock s row (λ t l. (o : Obj) → Known d (f d) t o (l o)) (others d nd) (λ t _. R d t))
 
   -- locks given back by c leave those of others
   drop_owned : (c d : Client) (l : Lock T) → ¬ (d ≡ c) → l ≡ owned d → drop T c l ≡ owned d
-  drop_owned c d l nd e = ap (drop T c) e ∙ rw (of_no (eqClient d c) nd)
+  drop_owned c d l nd e = ap (drop T c) e ∙ rw (of_no (eq_client d c) nd)
 
   drop_user : (c d : Client) (l : Lock T) → ¬ (d ≡ c) → User d l → User d (drop T c l)
-  drop_user c d (shared q) nd h = rw (of_no (eqClient d c) nd) h
-  drop_user c d (owned e) nd h = rw (of_no (eqClient e c) (λ q. nd (sym h ∙ q))) h
+  drop_user c d (shared q) nd h = rw (of_no (eq_client d c) nd) h
+  drop_user c d (owned e) nd h = rw (of_no (eq_client e c) (λ q. nd (sym h ∙ q))) h
 
   module _ (f : Client → Transaction T) (lock : Server → Obj → Lock T) (R : Recorded f lock) (c : Client) where
     abbrev Locks : Client → Transaction T → Type 0
     Locks d y = (s : Server) (o : Obj) → Known d y s o (lock s o)
 
     -- a transaction that has prepared nowhere holds nothing
-    pub calm_recorded : (x : Transaction T) → ((s : Server) → x.prepared s ≡ false) → Recorded (upd eqClient f c x) lock
-    calm_recorded x un = upd_all eqClient f c x Locks
+    pub calm_recorded : (x : Transaction T) → ((s : Server) → x.prepared s ≡ false) → Recorded (upd eq_client f c x) lock
+    calm_recorded x un = upd_all eq_client f c x Locks
         (λ s o. (λ h. absurd (not_both h.0 (un s)), λ h. absurd (not_both h.0 (un s)))) (λ d _. R d)
 
     -- a decision keeps its locks, and after an apply it holds fewer
-    pub decide_recorded : Recorded (upd eqClient f c (deciding T (f c))) lock
-    decide_recorded = upd_all eqClient f c (deciding T (f c)) Locks (R c) (λ d _. R d)
+    pub decide_recorded : Recorded (upd eq_client f c (deciding T (f c))) lock
+    decide_recorded = upd_all eq_client f c (deciding T (f c)) Locks (R c) (λ d _. R d)
 
-    pub apply_recorded : (s : Server) → Recorded (upd eqClient f c (applying T (f c) s)) lock
-    apply_recorded s = upd_all eqClient f c (applying T (f c) s) Locks
-        (λ t o. (λ h. (R c t o).0 (h.0, old t (eqServer t s) h.1), λ h. (R c t o).1 (h.0, old t (eqServer t s) h.1))) (λ d _. R d)
+    pub apply_recorded : (s : Server) → Recorded (upd eq_client f c (applying T (f c) s)) lock
+    apply_recorded s = upd_all eq_client f c (applying T (f c) s) Locks
+        (λ t o. (λ h. (R c t o).0 (h.0, old t (eq_server t s) h.1), λ h. (R c t o).1 (h.0, old t (eq_server t s) h.1))) (λ d _. R d)
       where
         old : (t : Server) → Dec (t ≡ s) → (applying T (f c) s).applied t ≡ false → (f c).applied t ≡ false
-        old t (yes e) h = absurd (not_both (upd_same eqServer (f c).applied s true) (subst (λ t. upd eqServer (f c).applied s true t ≡ false) e h))
-        old t (no ne) h = sym (upd_other eqServer (f c).applied s true t ne) ∙ h
+        old t (yes e) h = absurd (not_both (upd_same eq_server (f c).applied s true) (subst (λ t. upd eq_server (f c).applied s true t ≡ false) e h))
+        old t (no ne) h = sym (upd_other eq_server (f c).applied s true t ne) ∙ h
 
   -- a lock may be given back by a client that holds none there
   pub drop_recorded : (f : Client → Transaction T) (lock : Server → Obj → Lock T) → Recorded f lock → (c : Client) (s : Server) → ¬ (Holds T (f c) s)
       → (d : Client) (o : Obj) → Known d (f d) s o (drop T c (lock s o))
-  drop_recorded f lock R c s none d o = go (eqClient d c)
+  drop_recorded f lock R c s none d o = go (eq_client d c)
     where
       go : Dec (d ≡ c) → Known d (f d) s o (drop T c (lock s o))
       go (yes e) = (λ h. absurd (none (subst (λ d. Holds T (f d) s) e h)), λ h. absurd (none (subst (λ d. Holds T (f d) s) e h)))

@@ -14,7 +14,7 @@ use Rattle.protocol.specs.Laws.Working.{none_pending}
 use Rattle.protocol.specs.Laws.Locked.{pending_holds}
 
 module _ (T : Setting) where
-  open T use {Obj, Server, Client, eqServer, keeps, keeps_home, inner}
+  open T use {Obj, Server, Client, eq_server, keeps, keeps_home, inner}
 
   module _ (σ : State T) (I : Inv T σ) (c : Client) (s : Server) (K : CanPrepare T σ c s) where
     abbrev x : Transaction T
@@ -71,17 +71,17 @@ module _ (T : Setting) where
           };
           parts = I.parts c;
           reads = I.reads c;
-          kept = λ _ t o ht hr hc. kept t o ht hr hc (eqServer t s);
-          apart_out = λ d nd t hx hd. out d nd t (eqServer t s) hx hd;
-          apart_into = λ d nd t hd hx. into d nd t (eqServer t s) hd hx;
-          held = λ t h. held t h (eqServer t s);
+          kept = λ _ t o ht hr hc. kept t o ht hr hc (eq_server t s);
+          apart_out = λ d nd t hx hd. out d nd t (eq_server t s) hx hd;
+          apart_into = λ d nd t hd hx. into d nd t (eq_server t s) hd hx;
+          held = λ t h. held t h (eq_server t s);
         })
       where
         x' : Transaction T
         x' = preparing T x s
 
         before : (t : Server) → ¬ (t ≡ s) → x'.prepared t ≡ true → x.prepared t ≡ true
-        before t ne h = sym (upd_other eqServer x.prepared s true t ne) ∙ h
+        before t ne h = sym (upd_other eq_server x.prepared s true t ne) ∙ h
 
         held : (t : Server) → x'.prepared t ≡ true → Dec (t ≡ s) → here T σ t ≡ true
         held t h (yes e) = subst (λ t. here T σ t ≡ true) (sym e) is_here

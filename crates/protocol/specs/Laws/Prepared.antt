@@ -19,7 +19,7 @@ use Rattle.protocol.specs.Laws.Locks.{Recorded, granted_apart, prepare_recorded}
 use Rattle.protocol.specs.Laws.Ghosts.{Own, Ghost, item_version, transaction_of, state_of, put_own, clients_put, state_put, state_own}
 
 module _ (T : Setting) where
-  open T use {Obj, Server, Client, Val, eqServer, eqClient, home, keeps, keeps_home, inner, by_value, by_value_outer, meta, present}
+  open T use {Obj, Server, Client, Val, eq_server, eq_client, home, keeps, keeps_home, inner, by_value, by_value_outer, meta, present}
 
   inner_versioned : (o : Obj) (v : Val) → inner o v ≡ true → by_value o ≡ false
   inner_versioned o v h = go (bool_cases (by_value o))
@@ -30,7 +30,7 @@ module _ (T : Setting) where
 
   -- the stamps that a prepare at s gives: the versions that its objects have there
   abbrev pub stamps_at : Ghost T → Client → Server → Obj → ℕ
-  stamps_at g c s o = cond (yes? (eqServer s (home o))) (g.versions s o) ((g.own c).stamps o)
+  stamps_at g c s o = cond (yes? (eq_server s (home o))) (g.versions s o) ((g.own c).stamps o)
 
   abbrev pub stamped_ghost : Ghost T → Client → Server → Ghost T
   stamped_ghost g c s = put_own T g c (record { trace = (g.own c).trace; stamps = stamps_at g c s })
@@ -67,9 +67,9 @@ module _ (T : Setting) where
 
     -- so it may take the version that it has there
     stamp_right : (o : Obj) → Stamp T σ x o (item_version T new_own o (find T y.items o))
-    stamp_right o = go (find T y.items o) refl (bool_cases (by_value o)) (eqServer s (home o)) refl
+    stamp_right o = go (find T y.items o) refl (bool_cases (by_value o)) (eq_server s (home o)) refl
       where
-        go : (z : Option (Item T)) → find T y.items o ≡ z → (by_value o ≡ true) ⊎ (by_value o ≡ false) → (d : Dec (s ≡ home o)) → eqServer s (home o) ≡ d
+        go : (z : Option (Item T)) → find T y.items o ≡ z → (by_value o ≡ true) ⊎ (by_value o ≡ false) → (d : Dec (s ≡ home o)) → eq_server s (home o) ≡ d
             → Stamp T σ x o (item_version T new_own o (find T y.items o))
         go none q _ d h = inl (rw q refl)
         go (some i) q (inr b) d h = inl (rw (q, b) refl)
@@ -114,7 +114,7 @@ module _ (T : Setting) where
           where
             go : find T y.items i.obj ≡ some i → inner i.obj i.old ≡ false → s ≡ home i.obj
                 → (by_value i.obj ≡ true) ⊎ (by_value i.obj ≡ false) → σ.version s i.obj ≡ version i.obj
-            go q n e (inl b) = rw (q, b) (sym (ap (λ u. u.stamps i.obj) same ∙ rw (of_yes (eqServer s (home i.obj)) e) refl))
+            go q n e (inl b) = rw (q, b) (sym (ap (λ u. u.stamps i.obj) same ∙ rw (of_yes (eq_server s (home i.obj)) e) refl))
             go q n e (inr b) = rw (q, b) (check_version T m y.lowest s i (passed i.obj i q) n e b)
 
     module _ (R : Recorded T (state_of T m g).clients m.lock) (granted : all (λ i. grants T c (to_write T s i) (to_read T (m.slots c).lowest s i) (m.lock s i.obj)) (m.slots c).items ≡ true) where
@@ -134,7 +134,7 @@ module _ (T : Setting) where
           can = record {
             phase = hp;
             not_absent = hs;
-            checks = checks (g1.own c) (upd_same eqClient g.own c _);
+            checks = checks (g1.own c) (upd_same eq_client g.own c _);
             unlocked = granted_apart T (state_of T m g1).clients m.lock R c s w rd (asks_write T y s) (asks_read T y s) G;
           }
 

@@ -11,16 +11,16 @@ use Rattle.protocol.specs.System.{here, Holds, Apart, Parts}
 use Rattle.protocol.specs.Laws.Invariant.{Content, Course, Reads, Kept, Due, Pending, PendingInner, Newest, TableRight, Inv}
 
 module _ (T : Setting) where
-  open T use {Obj, Server, Client, eqClient}
+  open T use {Obj, Server, Client, eq_client}
 
   -- a transaction that stays as it is is still a witness
   pub still : (f : Client → Transaction T) (c : Client) (x : Transaction T) (P : Transaction T → Type 0) → (P (f c) → ⊥)
-      → ((d : Client) × P (f d)) → (d : Client) × P (upd eqClient f c x d)
-  still f c x P gone w = go (eqClient w.0 c)
+      → ((d : Client) × P (f d)) → (d : Client) × P (upd eq_client f c x d)
+  still f c x P gone w = go (eq_client w.0 c)
     where
-      go : Dec (w.0 ≡ c) → (d : Client) × P (upd eqClient f c x d)
+      go : Dec (w.0 ≡ c) → (d : Client) × P (upd eq_client f c x d)
       go (yes p) = absurd (gone (subst (λ d. P (f d)) p w.1))
-      go (no q) = (w.0, subst P (sym (upd_other eqClient f c x w.0 q)) w.1)
+      go (no q) = (w.0, subst P (sym (upd_other eq_client f c x w.0 q)) w.1)
 
   -- locks exclude each other, where both transactions hold theirs
   abbrev pub Exclude : Transaction T → Transaction T → Type 0
@@ -30,11 +30,11 @@ module _ (T : Setting) where
   pub apart_upd : (f : Client → Transaction T) (c : Client) (x : Transaction T)
       → ((d : Client) → ¬ (d ≡ c) → Exclude x (f d)) → ((d : Client) → ¬ (d ≡ c) → Exclude (f d) x)
       → ((d e : Client) → ¬ (d ≡ e) → Exclude (f d) (f e))
-      → (d e : Client) → ¬ (d ≡ e) → Exclude (upd eqClient f c x d) (upd eqClient f c x e)
+      → (d e : Client) → ¬ (d ≡ e) → Exclude (upd eq_client f c x d) (upd eq_client f c x e)
   apart_upd f c x out into old =
-      upd_all eqClient f c x (λ d y. (e : Client) → ¬ (d ≡ e) → Exclude y (upd eqClient f c x e))
-      (λ e ne. subst (λ y. Exclude x y) (sym (upd_other eqClient f c x e (λ q. ne (sym q)))) (out e (λ q. ne (sym q))))
-      (λ d nd. upd_all eqClient f c x (λ e y. ¬ (d ≡ e) → Exclude (f d) y) (λ _. into d nd) (λ e _ ne. old d e ne))
+      upd_all eq_client f c x (λ d y. (e : Client) → ¬ (d ≡ e) → Exclude y (upd eq_client f c x e))
+      (λ e ne. subst (λ y. Exclude x y) (sym (upd_other eq_client f c x e (λ q. ne (sym q)))) (out e (λ q. ne (sym q))))
+      (λ d nd. upd_all eq_client f c x (λ e y. ¬ (d ≡ e) → Exclude (f d) y) (λ _. into d nd) (λ e _ ne. old d e ne))
 
   -- one client's transaction becomes x, which is undecided, and nothing of it was pending
   pub record Replaced (σ : State T) (c : Client) (x : Transaction T) : Type 0 where
@@ -51,20 +51,20 @@ module _ (T : Setting) where
 
   pub put_inv : (σ : State T) → Inv T σ → (c : Client) (x : Transaction T) → Replaced σ c x → Inv T (put T σ c x)
   put_inv σ I c x R = record {
-    content = upd_all eqClient σ.clients c x (λ d y. Content T y) R.content (λ d _. I.content d);
-    course = upd_all eqClient σ.clients c x (λ d y. Course T y) R.course (λ d _. I.course d);
-    parts = upd_all eqClient σ.clients c x (λ d y. after_commit y.phase ≡ true → Parts T y y.participant y.lowest)
+    content = upd_all eq_client σ.clients c x (λ d y. Content T y) R.content (λ d _. I.content d);
+    course = upd_all eq_client σ.clients c x (λ d y. Course T y) R.course (λ d _. I.course d);
+    parts = upd_all eq_client σ.clients c x (λ d y. after_commit y.phase ≡ true → Parts T y y.participant y.lowest)
         R.parts (λ d _. I.parts d);
-    reads = upd_all eqClient σ.clients c x (λ d y. Reads T σ y) R.reads (λ d _. I.reads d);
-    kept = upd_all eqClient σ.clients c x (λ d y. Kept T σ y) R.kept (λ d _. I.kept d);
-    due = upd_all eqClient σ.clients c x (λ d y. is_decided y.phase ≡ true → Due T σ.current σ.history y)
+    reads = upd_all eq_client σ.clients c x (λ d y. Reads T σ y) R.reads (λ d _. I.reads d);
+    kept = upd_all eq_client σ.clients c x (λ d y. Kept T σ y) R.kept (λ d _. I.kept d);
+    due = upd_all eq_client σ.clients c x (λ d y. is_decided y.phase ≡ true → Due T σ.current σ.history y)
         (λ h. absurd (not_both h R.undecided)) (λ d _. I.due d);
     apart = apart_upd σ.clients c x R.apart_out R.apart_into I.apart;
     stored = I.stored;
     newest = λ s o h k. newest_still s o (I.newest s o h k);
     tables = λ s o h. table_still s o (I.tables s o h);
     staffed = I.staffed;
-    held = upd_all eqClient σ.clients c x (λ d y. (s : Server) → y.prepared s ≡ true → here T σ s ≡ true) R.held (λ d _. I.held d);
+    held = upd_all eq_client σ.clients c x (λ d y. (s : Server) → y.prepared s ≡ true → here T σ s ≡ true) R.held (λ d _. I.held d);
     replay = I.replay;
   }
     where

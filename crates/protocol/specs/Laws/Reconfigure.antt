@@ -17,7 +17,7 @@ use Rattle.protocol.specs.Replay.{Replays, snapshot}
 use Rattle.protocol.specs.Laws.Invariant.{OuterSince, Newest, TableRight, Counts, Staffed, Inv}
 
 module _ (T : Setting) where
-  open T use {Obj, Server, Client, Val, eqObj, home, keeps, inner, meta, present}
+  open T use {Obj, Server, Client, Val, eq_obj, home, keeps, inner, meta, present}
 
   module _ (σ : State T) (I : Inv T σ) (v : Val) (t : Server → Obj → ℕ) (K : CanReconfigure T σ v t) where
     abbrev τ : State T
@@ -31,37 +31,37 @@ module _ (T : Setting) where
 
     -- the metadata has one version more, and nothing else changes
     current_meta : τ.current meta ≡ n
-    current_meta = upd_same eqObj σ.current meta n
+    current_meta = upd_same eq_obj σ.current meta n
 
     current_else : (o : Obj) → ¬ (o ≡ meta) → τ.current o ≡ σ.current o
-    current_else o ne = upd_other eqObj σ.current meta n o ne
+    current_else o ne = upd_other eq_obj σ.current meta n o ne
 
     history_meta : τ.history meta ≡ upd ℕ_discrete (σ.history meta) n v
-    history_meta = upd_same eqObj σ.history meta _
+    history_meta = upd_same eq_obj σ.history meta _
 
     history_new : τ.history meta n ≡ v
     history_new = ap (λ f. f n) history_meta ∙ upd_same ℕ_discrete (σ.history meta) n v
 
     history_else : (o : Obj) → ¬ (o ≡ meta) → (k : ℕ) → τ.history o k ≡ σ.history o k
-    history_else o ne k = ap (λ f. f k) (upd_other eqObj σ.history meta _ o ne)
+    history_else o ne k = ap (λ f. f k) (upd_other eq_obj σ.history meta _ o ne)
 
     pub reconfigured_le : (o : Obj) → σ.current o ≤ (after_reconfigure T σ v t).current o
-    reconfigured_le = upd_all eqObj σ.current meta n (λ o k. σ.current o ≤ k) (omega arith) (λ o _. omega arith)
+    reconfigured_le = upd_all eq_obj σ.current meta n (λ o k. σ.current o ≤ k) (omega arith) (λ o _. omega arith)
 
     pub reconfigured_old : (o : Obj) (k : ℕ) → k ≤ σ.current o → (after_reconfigure T σ v t).history o k ≡ σ.history o k
-    reconfigured_old o k = go (eqObj o meta)
+    reconfigured_old o k = go (eq_obj o meta)
       where
         go : Dec (o ≡ meta) → k ≤ σ.current o → τ.history o k ≡ σ.history o k
         go (yes e) = subst (λ o. k ≤ σ.current o → τ.history o k ≡ σ.history o k) (sym e)
             (λ le. ap (λ f. f k) history_meta ∙ upd_other ℕ_discrete (σ.history meta) n v k (λ q. omega (arith, q, le)))
         go (no ne) = λ le. history_else o ne k
 
-    pub reconfigured_snapshot : (o : Obj) → snapshot T (after_reconfigure T σ v t) o ≡ upd eqObj (snapshot T σ) meta v o
-    reconfigured_snapshot = upd_all eqObj (snapshot T σ) meta v (λ o w. snapshot T τ o ≡ w)
+    pub reconfigured_snapshot : (o : Obj) → snapshot T (after_reconfigure T σ v t) o ≡ upd eq_obj (snapshot T σ) meta v o
+    reconfigured_snapshot = upd_all eq_obj (snapshot T σ) meta v (λ o w. snapshot T τ o ≡ w)
         (ap (τ.history meta) current_meta ∙ history_new) (λ o ne. ap (τ.history o) (current_else o ne) ∙ history_else o ne (σ.current o))
 
     new_here : (s : Server) → here T τ s ≡ present v s
-    new_here s = ap (λ w. present w s) (reconfigured_snapshot meta ∙ upd_same eqObj (snapshot T σ) meta v)
+    new_here s = ap (λ w. present w s) (reconfigured_snapshot meta ∙ upd_same eq_obj (snapshot T σ) meta v)
 
     -- the new metadata is stored where a server is there, before or after; all else stays
     Same : Server → Obj → Type 0
@@ -72,12 +72,12 @@ module _ (T : Setting) where
 
     cases : (s : Server) (o : Obj) → Cases s o
     unfolding Cases Same
-    cases s o = go (eqObj o meta) (bool_cases (present old s || present v s))
+    cases s o = go (eq_obj o meta) (bool_cases (present old s || present v s))
       where
         go : Dec (o ≡ meta) → ((present old s || present v s) ≡ true) ⊎ ((present old s || present v s) ≡ false) → Cases s o
-        go (yes e) (inl p) = inl (e, rw (of_yes (eqObj o meta) e) p)
-        go (yes e) (inr p) = inr (rw (of_yes (eqObj o meta) e) p, inr p)
-        go (no ne) _ = inr (rw (of_no (eqObj o meta) ne) refl, inl ne)
+        go (yes e) (inl p) = inl (e, rw (of_yes (eq_obj o meta) e) p)
+        go (yes e) (inr p) = inr (rw (of_yes (eq_obj o meta) e) p, inr p)
+        go (no ne) _ = inr (rw (of_no (eq_obj o meta) ne) refl, inl ne)
 
     stored_step : (s : Server) (o : Obj) → keeps s o ≡ true → (τ.value s o ≡ τ.history o (τ.version s o)) × (τ.version s o ≤ τ.current o)
     unfolding Cases
@@ -165,7 +165,7 @@ module _ (T : Setting) where
     staffed_step = record {
       called = λ s. called s (cases s meta);
       homed = λ o ne i. new_here (home o)
-          ∙ K.homed o ne (subst (λ w. inner o w ≡ true) (reconfigured_snapshot o ∙ upd_other eqObj (snapshot T σ) meta v o ne) i);
+          ∙ K.homed o ne (subst (λ w. inner o w ≡ true) (reconfigured_snapshot o ∙ upd_other eq_obj (snapshot T σ) meta v o ne) i);
       manned = λ k le. manned k le (dec_lt (σ.current meta) k);
       behind = λ s o. behind s o (cases s o) (bool_cases (not (present old s) && present v s)) (bool_cases (present old s)) (bool_cases (present v s));
     }

@@ -15,7 +15,7 @@ use Rattle.protocol.specs.Moves.{Reconfigurable, reconfigured_by}
 use Rattle.protocol.specs.Laws.Ghosts.{Ghost, state_of}
 
 module _ (T : Setting) where
-  open T use {Obj, Server, Client, Val, eqObj, home, keeps, keeps_home, keeps_meta, inner, by_value, by_value_outer, meta, meta_inner, present, Alike}
+  open T use {Obj, Server, Client, Val, eq_obj, home, keeps, keeps_home, keeps_meta, inner, by_value, by_value_outer, meta, meta_inner, present, Alike}
 
   abbrev pub reconfigured_ghost : Machine T → Ghost T → Val → (Server → Obj → ℕ) → Ghost T
   reconfigured_ghost m g v t = let τ = after_reconfigure T (state_of T m g) v t in
@@ -80,7 +80,7 @@ module _ (T : Setting) where
             → cond (by_value o) (g.versions s o) (cond (changed T old v s o) n (m.version s o))
             ≡ cond (changed T old v s o) n (cond (by_value o) (g.versions s o) (m.version s o))
         go (inl c) =
-            let e = yes_of (eqObj o meta) (and_both _ (present old s || present v s) c).0 in
+            let e = yes_of (eq_obj o meta) (and_both _ (present old s || present v s) c).0 in
             let b : by_value o ≡ false = subst (λ o. by_value o ≡ false) (sym e) versioned in
             rw (c, b) refl
         go (inr c) = rw c refl

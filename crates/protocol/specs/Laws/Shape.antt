@@ -68,16 +68,16 @@ among_asked asked [] h o i = absurd i
 among_asked asked (q ∷ os) h o (inl e) = subst (λ q. asked q ≡ true) (sym e) h.0
 among_asked asked (q ∷ os) h o (inr i) = among_asked asked os h.1 o i
 
-writes_among : {Obj Val : Type 0} (eqObj : Discrete Obj) (ws : List (Obj × Val)) (os : List Obj) → Every (λ w. Among w.0 os) ws → (o : Obj) → writes? eqObj ws o ≡ true → Among o os
+writes_among : {Obj Val : Type 0} (eq_obj : Discrete Obj) (ws : List (Obj × Val)) (os : List Obj) → Every (λ w. Among w.0 os) ws → (o : Obj) → writes? eq_obj ws o ≡ true → Among o os
 unfolding Every writes?
-writes_among eqObj [] os h o e = absurd (false≢true e)
-writes_among eqObj (w ∷ ws) os h o e = go (eqObj o w.0) e (writes_among eqObj ws os h.1 o)
+writes_among eq_obj [] os h o e = absurd (false≢true e)
+writes_among eq_obj (w ∷ ws) os h o e = go (eq_obj o w.0) e (writes_among eq_obj ws os h.1 o)
   where
-    go : (d : Dec (o ≡ w.0)) → (yes? d || writes? eqObj ws o) ≡ true → (writes? eqObj ws o ≡ true → Among o os) → Among o os
+    go : (d : Dec (o ≡ w.0)) → (yes? d || writes? eq_obj ws o) ≡ true → (writes? eq_obj ws o ≡ true → Among o os) → Among o os
     go (yes p) e rec = subst (λ o. Among o os) (sym p) h.0
     go (no q) e rec = rec e
 
-module _ {Obj Val Res Why : Type 0} (eqObj : Discrete Obj) (writes : Res → List (Obj × Val)) where
+module _ {Obj Val Res Why : Type 0} (eq_obj : Discrete Obj) (writes : Res → List (Obj × Val)) where
   -- the plan writes only what it has asked for; os: what it has asked for before
   unfoldable pub WritesAsked : Plan Obj Val Res Why → List Obj → Type 0
   WritesAsked (ask o k) os = (v : Val) → WritesAsked (k v) (o ∷ os)
@@ -89,30 +89,30 @@ module _ {Obj Val Res Why : Type 0} (eqObj : Discrete Obj) (writes : Res → Lis
   result r (fails y) = r
 
   written_among : (p : Plan Obj Val Res Why) (os : List Obj) (asked : Obj → Bool) (M : Obj → Val) (r : Res) → WritesAsked p os
-      → Every (λ o. asked o ≡ true) os → Asked p asked M → exec p M ≡ gives r → (o : Obj) → writes? eqObj (writes r) o ≡ true → asked o ≡ true
+      → Every (λ o. asked o ≡ true) os → Asked p asked M → exec p M ≡ gives r → (o : Obj) → writes? eq_obj (writes r) o ≡ true → asked o ≡ true
   unfolding WritesAsked Every Asked exec result
   written_among (ask q k) os asked M r h old a e o w = written_among (k (M q)) (q ∷ os) asked M r (h (M q)) (a.0, old) a.1 e o w
   written_among (done s) os asked M r h old a e o w =
-      among_asked asked os old o (writes_among eqObj (writes r) os (subst (λ r. Every (λ w. Among w.0 os) (writes r)) (ap (result r) e) h) o w)
+      among_asked asked os old o (writes_among eq_obj (writes r) os (subst (λ r. Every (λ w. Among w.0 os) (writes r)) (ap (result r) e) h) o w)
   written_among (fail y) os asked M r h old a e o w = absurd (fails≢gives e)
 
   pub written_asked : (p : Plan Obj Val Res Why) (asked : Obj → Bool) (M : Obj → Val) (r : Res) → WritesAsked p [] → Asked p asked M
-      → exec p M ≡ gives r → (o : Obj) → writes? eqObj (writes r) o ≡ true → asked o ≡ true
+      → exec p M ≡ gives r → (o : Obj) → writes? eq_obj (writes r) o ≡ true → asked o ≡ true
   unfolding Every
   written_asked p asked M r h = written_among p [] asked M r h tt
 
 -- A plan that has read the metadata as v leaves the servers as they are: so `ask meta q` meets `servers_stay`, if each q v does this.
-module _ {Obj Val Res Why Server : Type 0} (eqObj : Discrete Obj) (writes : Res → List (Obj × Val)) (meta : Obj) (present : Val → Server → Bool) where
+module _ {Obj Val Res Why Server : Type 0} (eq_obj : Discrete Obj) (writes : Res → List (Obj × Val)) (meta : Obj) (present : Val → Server → Bool) where
   unfoldable pub Stays : Val → Plan Obj Val Res Why → Type 0
   Stays v (ask o k) = (u : Val) → Stays v (k u)
-  Stays v (done r) = (s : Server) → present (latest eqObj (writes r) meta v) s ≡ present v s
+  Stays v (done r) = (s : Server) → present (latest eq_obj (writes r) meta v) s ≡ present v s
   Stays v (fail y) = Unit {0}
 
   pub servers_left : (v : Val) (p : Plan Obj Val Res Why) (M : Obj → Val) (r : Res) → Stays v p → exec p M ≡ gives r
-      → (s : Server) → present (latest eqObj (writes r) meta v) s ≡ present v s
+      → (s : Server) → present (latest eq_obj (writes r) meta v) s ≡ present v s
   unfolding Stays exec
   servers_left v (ask o k) M r h e = servers_left v (k (M o)) M r (h (M o)) e
-  servers_left v (done q) M r h e = subst (λ r. (s : Server) → present (latest eqObj (writes r) meta v) s ≡ present v s) (ap (given q) e) h
+  servers_left v (done q) M r h e = subst (λ r. (s : Server) → present (latest eq_obj (writes r) meta v) s ≡ present v s) (ap (given q) e) h
     where
       given : Res → Out Res Why → Res
       given q (gives r) = r

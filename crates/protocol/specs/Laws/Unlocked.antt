@@ -18,8 +18,8 @@ data Loose (m : Machine tiny) : Machine tiny → Type 0 where
   prepares_loosely : (c s : Bool) → (m.slots c).phase ≡ committing → (m.slots c).prepared s ≡ false
       → all (check tiny m (m.slots c).lowest s) (m.slots c).items ≡ true
       → all (λ i. grants tiny c (to_write tiny s i) (to_read tiny (m.slots c).lowest s i) (m.lock s i.obj)) (m.slots c).items ≡ true
-      → Loose m (turned tiny m (upd tiny.eqClient m.slots c (prepared_slot tiny (m.slots c) s))
-      (upd tiny.eqServer m.lock s (granted_row tiny c (to_write tiny s) (λ i. false) (m.slots c).items (m.lock s))) m.said m.log)
+      → Loose m (turned tiny m (upd tiny.eq_client m.slots c (prepared_slot tiny (m.slots c) s))
+      (upd tiny.eq_server m.lock s (granted_row tiny c (to_write tiny s) (λ i. false) (m.slots c).items (m.lock s))) m.said m.log)
 
 abbrev crossed : Bool → Bool → Entry tiny
 crossed a b = record { op = put a b 7; result = (1, (leaf b, 7) ∷ []) }

@@ -25,7 +25,7 @@ every_map P R f [] h = tt
 every_map P R f (a ∷ l) h = (f a h.0, every_map P R f l h.1)
 
 module _ (T : Setting) where
-  open T use {Obj, Server, Client, Val, Op, Res, eqObj, eqClient, keeps, init, plan, writes}
+  open T use {Obj, Server, Client, Val, Op, Res, eq_obj, eq_client, keeps, init, plan, writes}
 
   -- "An object is read from the write set, else the read set, else the client's copies"
   abbrev pub at_hand : Option (Item T) → Option (Copy T) → Option Val
@@ -55,9 +55,9 @@ module _ (T : Setting) where
   unfolding find
   have_enter copy is o q (some i) k e c = refl
   have_enter copy is o q none none e c = refl
-  have_enter copy is o q none (some k) e c = go (eqObj o q) refl
+  have_enter copy is o q none (some k) e c = go (eq_obj o q) refl
     where
-      go : (d : Dec (o ≡ q)) → eqObj o q ≡ d → have copy (item T o k.value k.version ∷ is) q ≡ have copy is q
+      go : (d : Dec (o ≡ q)) → eq_obj o q ≡ d → have copy (item T o k.value k.version ∷ is) q ≡ have copy is q
       go (yes p) h = rw (h, find) (subst (λ q. some k.value ≡ have copy is q) p (rw (e, c) refl))
       go (no n) h = rw (h, find) refl
 
@@ -65,9 +65,9 @@ module _ (T : Setting) where
   unfolding find
   item_enter is o q (some i) k r = r
   item_enter is o q none none r = r
-  item_enter is o q none (some k) r = go (eqObj o q) refl
+  item_enter is o q none (some k) r = go (eq_obj o q) refl
     where
-      go : (d : Dec (o ≡ q)) → eqObj o q ≡ d → has_item (item T o k.value k.version ∷ is) q ≡ true
+      go : (d : Dec (o ≡ q)) → eq_obj o q ≡ d → has_item (item T o k.value k.version ∷ is) q ≡ true
       go (yes p) h = rw (h, find) refl
       go (no n) h = rw (h, find) r
 
@@ -77,9 +77,9 @@ module _ (T : Setting) where
   unfolding find
   item_new is o (some i) k v e h = ap (says T (λ i. true) false) e
   item_new is o none none v e h = absurd (none-ne-some v h)
-  item_new is o none (some k) v e h = go (eqObj o o) refl
+  item_new is o none (some k) v e h = go (eq_obj o o) refl
     where
-      go : (d : Dec (o ≡ o)) → eqObj o o ≡ d → has_item (item T o k.value k.version ∷ is) o ≡ true
+      go : (d : Dec (o ≡ o)) → eq_obj o o ≡ d → has_item (item T o k.value k.version ∷ is) o ≡ true
       go (yes p) q = rw (q, find) refl
       go (no n) q = absurd (n refl)
 
@@ -122,14 +122,14 @@ module _ (T : Setting) where
     having is = with_slot T m c (with_items T (m.slots c) is)
 
     here : (is : List (Item T)) → (having is).slots c ≡ with_items T y is
-    here is = upd_same eqClient m.slots c (with_items T y is)
+    here is = upd_same eq_client m.slots c (with_items T y is)
 
     -- a change of c's slot after a change of c's slot
     slot_path : (F : Slot T → Slot T) (is : List (Item T))
-        → upd eqClient (having is).slots c (F ((having is).slots c)) ≡ upd eqClient m.slots c (F (with_items T y is))
+        → upd eq_client (having is).slots c (F ((having is).slots c)) ≡ upd eq_client m.slots c (F (with_items T y is))
     slot_path F is = fun_ext (λ d.
-        ap (λ z. upd eqClient (having is).slots c (F z) d) (here is)
-        ∙ upd_twice eqClient m.slots c (with_items T y is) (F (with_items T y is)) d)
+        ap (λ z. upd eq_client (having is).slots c (F z) d) (here is)
+        ∙ upd_twice eq_client m.slots c (with_items T y is) (F (with_items T y is)) d)
 
     -- the steps that make an item of what is read, where c has the items is
     grown : (is : List (Item T)) (o : Obj) (v : Val) (n : ℕ)
@@ -161,7 +161,7 @@ module _ (T : Setting) where
     copies_enter os r hp = absorb_reached os y.items hp (subst (λ n. Reached T n) self r)
       where
         self : m ≡ having y.items
-        self j = turned T m (λ d. sym (upd_none eqClient m.slots c y refl d) j) m.lock m.said m.log
+        self j = turned T m (λ d. sym (upd_none eq_client m.slots c y refl d) j) m.lock m.said m.log
 
     -- WORK THAT FETCHES "the first one lacking and does no more": o, which is not at hand, after os were used
     pub work_fetches : (os : List Obj) (s : Server) (o : Obj) → Reached T m → (m.slots c).phase ≡ opened
@@ -186,8 +186,8 @@ module _ (T : Setting) where
     -- WORK THAT ANSWERS: the writes enter, and the answer is said
     pub work_answers : (p : Op) (res : Res) → Reached T m → (m.slots c).phase ≡ opened
         → walk (plan p) (have (m.copy c) (m.slots c).items) ≡ ends (gives res)
-        → Reached T (turned T m (upd eqClient m.slots c (answered_slot T (with_items T (m.slots c) (items_used p)) (writes res))) m.lock
-        (upd eqClient m.said c (shown_of T (record { op = p; result = res }) ∷ m.said c)) m.log)
+        → Reached T (turned T m (upd eq_client m.slots c (answered_slot T (with_items T (m.slots c) (items_used p)) (writes res))) m.lock
+        (upd eq_client m.said c (shown_of T (record { op = p; result = res }) ∷ m.said c)) m.log)
     work_answers p res r hp walked =
         subst (λ n. Reached T n) path (moved (copies_enter os r hp) (answers c e (is_open is hp) asked ran))
       where
@@ -220,8 +220,8 @@ module _ (T : Setting) where
         ran : exec (plan p) (view T (seen T ((having is).slots c))) ≡ gives res
         ran = subst (λ z. exec (plan p) (view T (seen T z)) ≡ gives res) (sym (here is)) (walk_exec (plan p) look (view T x) (gives res) shows walked)
 
-        path : turned T (having is) (upd eqClient (having is).slots c (answered_slot T ((having is).slots c) (writes res))) m.lock
-            (upd eqClient m.said c (shown_of T e ∷ m.said c)) m.log
-            ≡ turned T m (upd eqClient m.slots c (answered_slot T (with_items T y is) (writes res))) m.lock
-            (upd eqClient m.said c (shown_of T e ∷ m.said c)) m.log
-        path j = turned T m (slot_path (λ z. answered_slot T z (writes res)) is j) m.lock (upd eqClient m.said c (shown_of T e ∷ m.said c)) m.log
+        path : turned T (having is) (upd eq_client (having is).slots c (answered_slot T ((having is).slots c) (writes res))) m.lock
+            (upd eq_client m.said c (shown_of T e ∷ m.said c)) m.log
+            ≡ turned T m (upd eq_client m.slots c (answered_slot T (with_items T y is) (writes res))) m.lock
+            (upd eq_client m.said c (shown_of T e ∷ m.said c)) m.log
+        path j = turned T m (slot_path (λ z. answered_slot T z (writes res)) is j) m.lock (upd eq_client m.said c (shown_of T e ∷ m.said c)) m.log

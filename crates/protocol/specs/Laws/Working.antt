@@ -19,7 +19,7 @@ use Rattle.protocol.specs.Laws.Invariant.{Content, Course, Reads, Pending, Inv}
 use Rattle.protocol.specs.Laws.Put.{put_inv}
 
 module _ (T : Setting) where
-  open T use {Obj, Server, Client, Val, eqObj, inner, by_value_outer, plan, writes, public, compared, asks_outer, writes_asked}
+  open T use {Obj, Server, Client, Val, eq_obj, inner, by_value_outer, plan, writes, public, compared, asks_outer, writes_asked}
   open T use {meta, present, writes_know, servers_stay}
 
   -- an undecided transaction has nothing pending
@@ -81,10 +81,10 @@ module _ (T : Setting) where
         other k h e = not_both h (subst (λ m. x.read m ≡ false) (sym e) hr)
 
         read_old : (k : Obj) → x.read k ≡ true → x'.read k ≡ true
-        read_old k h = upd_other eqObj x.read o true k (other k h) ∙ h
+        read_old k h = upd_other eq_obj x.read o true k (other k h) ∙ h
 
         value_old : (k : Obj) → x.read k ≡ true → x'.value_read k ≡ x.value_read k
-        value_old k h = upd_other eqObj x.value_read o (σ.history o n) k (other k h)
+        value_old k h = upd_other eq_obj x.value_read o (σ.history o n) k (other k h)
 
         seen : Uncompared T x.trace ⊎ ((k : Obj) × (x.read k ≡ true) × ((inner k (x.value_read k) ≡ false) ⊎ (x.written k ≡ true)))
             → Uncompared T x.trace ⊎ ((k : Obj) × (x'.read k ≡ true) × ((inner k (x'.value_read k) ≡ false) ⊎ (x.written k ≡ true)))
@@ -108,16 +108,16 @@ module _ (T : Setting) where
         Past k v m = (v ≡ σ.history k m) × (m ≤ σ.current k)
 
         reads : Reads T σ x'
-        reads k h = go (eqObj k o)
+        reads k h = go (eq_obj k o)
           where
             go : Dec (k ≡ o) → Past k (x'.value_read k) (x'.version_read k)
             go (yes e) = subst (λ m. Past m (x'.value_read m) (x'.version_read m)) (sym e) (
-              upd_same eqObj x.value_read o (σ.history o n) ∙ ap (σ.history o) (sym (upd_same eqObj x.version_read o n)),
-              subst (λ m. m ≤ σ.current o) (sym (upd_same eqObj x.version_read o n)) hn,
+              upd_same eq_obj x.value_read o (σ.history o n) ∙ ap (σ.history o) (sym (upd_same eq_obj x.version_read o n)),
+              subst (λ m. m ≤ σ.current o) (sym (upd_same eq_obj x.version_read o n)) hn,
             )
             go (no e) =
-                let old : x.read k ≡ true = sym (upd_other eqObj x.read o true k e) ∙ h in
-                let same : x'.version_read k ≡ x.version_read k = upd_other eqObj x.version_read o n k e in (
+                let old : x.read k ≡ true = sym (upd_other eq_obj x.read o true k e) ∙ h in
+                let same : x'.version_read k ≡ x.version_read k = upd_other eq_obj x.version_read o n k e in (
                   value_old k old ∙ (I.reads c k old).0 ∙ ap (σ.history k) (sym same),
                   subst (λ m. m ≤ σ.current k) (sym same) (I.reads c k old).1,
                 )
@@ -133,7 +133,7 @@ module _ (T : Setting) where
         x' = answering T x e
 
         wrote : Obj → Bool
-        wrote = writes? eqObj (writes e.result)
+        wrote = writes? eq_obj (writes e.result)
 
         was_read : (o : Obj) → (wrote o ≡ true) ⊎ (x.written o ≡ true) → x.read o ≡ true
         was_read o (inl h) = writes_asked e.op x.read (view T x) e.result asked ran o h
@@ -147,7 +147,7 @@ module _ (T : Setting) where
         same : x'.written meta ≡ true → (s : Server) → (x.written meta ≡ true) ⊎ (x.written meta ≡ false)
             → present (x'.value_written meta) s ≡ present (x.value_read meta) s
         same h s b = ap (λ v. present v s)
-            (sym (latest_cond eqObj (writes e.result) meta (x.written meta) (x.value_written meta) (x.value_read meta) ∙ cond_true _ _ h))
+            (sym (latest_cond eq_obj (writes e.result) meta (x.written meta) (x.value_written meta) (x.value_read meta) ∙ cond_true _ _ h))
             ∙ servers_stay e.op (view T x) e.result ran s ∙ before b
           where
             before : (x.written meta ≡ true) ⊎ (x.written meta ≡ false) → present (view T x meta) s ≡ present (x.value_read meta) s
@@ -164,8 +164,8 @@ module _ (T : Setting) where
                 sym (exec_frame (plan e.op) x.read (view T x) (effect T x.trace M)
                     (λ o h. ap (cond (x.written o) (x.value_written o)) (sym (agree o h)) ∙ sym (old.1 o)) asked) ∙ ran,
               ),
-              λ o. ap (latest eqObj (writes e.result) o) (old.1 o)
-                  ∙ latest_cond eqObj (writes e.result) o (x.written o) (x.value_written o) (M o),
+              λ o. ap (latest eq_obj (writes e.result) o) (old.1 o)
+                  ∙ latest_cond eq_obj (writes e.result) o (x.written o) (x.value_written o) (M o),
             )
 
         OuterSeen : Type 0

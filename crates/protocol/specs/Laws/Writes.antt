@@ -8,24 +8,24 @@ use mathlib.Core.List.{List, [], ◌∷◌}
 use Rattle.base.specs.Test.{yes?, ifd}
 use Rattle.protocol.specs.Writes.{writes?, latest}
 
-module _ {Obj Val : Type 0} (eqObj : Discrete Obj) where
-  pub latest_unwritten : (ws : List (Obj × Val)) (o : Obj) (v : Val) → writes? eqObj ws o ≡ false → latest eqObj ws o v ≡ v
+module _ {Obj Val : Type 0} (eq_obj : Discrete Obj) where
+  pub latest_unwritten : (ws : List (Obj × Val)) (o : Obj) (v : Val) → writes? eq_obj ws o ≡ false → latest eq_obj ws o v ≡ v
   unfolding writes? latest
   latest_unwritten [] o v h = refl
-  latest_unwritten (w ∷ ws) o v h = go (eqObj o w.0) h (latest_unwritten ws o v)
+  latest_unwritten (w ∷ ws) o v h = go (eq_obj o w.0) h (latest_unwritten ws o v)
     where
-      go : (d : Dec (o ≡ w.0)) → (yes? d || writes? eqObj ws o) ≡ false → (writes? eqObj ws o ≡ false → latest eqObj ws o v ≡ v) → ifd d w.1 (latest eqObj ws o v) ≡ v
+      go : (d : Dec (o ≡ w.0)) → (yes? d || writes? eq_obj ws o) ≡ false → (writes? eq_obj ws o ≡ false → latest eq_obj ws o v ≡ v) → ifd d w.1 (latest eq_obj ws o v) ≡ v
       go (yes p) h rec = absurd (true≢false h)
       go (no q) h rec = rec h
 
   -- writes over a value that is itself written or not
   pub latest_cond : (ws : List (Obj × Val)) (o : Obj) (b : Bool) (x y : Val)
-      → latest eqObj ws o (cond b x y) ≡ cond (writes? eqObj ws o || b) (latest eqObj ws o x) y
+      → latest eq_obj ws o (cond b x y) ≡ cond (writes? eq_obj ws o || b) (latest eq_obj ws o x) y
   unfolding writes? latest
   latest_cond [] o b x y = refl
-  latest_cond (w ∷ ws) o b x y = go (eqObj o w.0) (latest_cond ws o b x y)
+  latest_cond (w ∷ ws) o b x y = go (eq_obj o w.0) (latest_cond ws o b x y)
     where
-      go : (d : Dec (o ≡ w.0)) → latest eqObj ws o (cond b x y) ≡ cond (writes? eqObj ws o || b) (latest eqObj ws o x) y
-          → ifd d w.1 (latest eqObj ws o (cond b x y)) ≡ cond ((yes? d || writes? eqObj ws o) || b) (ifd d w.1 (latest eqObj ws o x)) y
+      go : (d : Dec (o ≡ w.0)) → latest eq_obj ws o (cond b x y) ≡ cond (writes? eq_obj ws o || b) (latest eq_obj ws o x) y
+          → ifd d w.1 (latest eq_obj ws o (cond b x y)) ≡ cond ((yes? d || writes? eq_obj ws o) || b) (ifd d w.1 (latest eq_obj ws o x)) y
       go (yes p) rec = refl
       go (no q) rec = rec

@@ -4,12 +4,12 @@ use Rattle.std.proofs.Common.{arith}
 use Rattle.layout.specs.Block.{size, offset, In}
 use Rattle.layout.specs.Space.{at, Valid}
 use Rattle.server.specs.declared.place.Place.TheVariants.{NodeLock, Root, Version, States, Vector, Node}
-use Rattle.server.specs.Layout.{server_block, places, partWords, Lies}
+use Rattle.server.specs.Layout.{server_block, places, part_words, Lies}
 use Rattle.layout.specs.Laws.Space.{Run}
 
 -- with four slots, 220 words; the lock of node 2 × 1,024 + 1 is the third of the locks in row 1
-pub layout_sample : (partWords 4 ≡ 220) × (at places (server_block 4) (NodeLock 2 1) ≡ 114)
-unfolding partWords size at offset
+pub layout_sample : (part_words 4 ≡ 220) × (at places (server_block 4) (NodeLock 2 1) ≡ 114)
+unfolding part_words size at offset
 layout_sample = (refl, refl)
 
 -- places that every part has
@@ -38,6 +38,6 @@ pub node_run : (n k : ℕ) → k < n → Run places (server_block n) (Node k) (a
 unfolding at Valid In offset size
 node_run n k h = record { good = λ j l. (h, l); spot = λ j l. omega arith }
 
-pub node_room : (n k i l : ℕ) → k < n → Lies n (Node k 0) i → partWords n ≤ l → i + 33 ≤ l
-unfolding at offset size partWords
+pub node_room : (n k i l : ℕ) → k < n → Lies n (Node k 0) i → part_words n ≤ l → i + 33 ≤ l
+unfolding at offset size part_words
 node_room n k i l h e g = omega (arith, e.spot)

@@ -11,7 +11,7 @@ use Rattle.base.specs.Update.{upd}
 use Rattle.base.specs.Laws.Update.{upd_same, upd_other}
 use Rattle.memory.specs.Bit.{put_bit, bit}
 use Rattle.layout.specs.Space.{Put, put, puts, tab, decide, changed, at}
-use Rattle.layout.specs.Laws.Space.{tab_eq, tab_upd, getD_tab, upd_apart, Only, changed_only, only_puts, tab_puts_same, tab_puts_other, AllValid, valid_run, length_tab}
+use Rattle.layout.specs.Laws.Space.{tab_eq, tab_upd, get_or_tab, upd_apart, Only, changed_only, only_puts, tab_puts_same, tab_puts_other, AllValid, valid_run, length_tab}
 use Rattle.layout.specs.Laws.Step.{valid_append}
 use Rattle.nodes.specs.Name.{server_of, slot_of}
 use Rattle.nodes.specs.Flags.{with_flag, all_flags}
@@ -133,7 +133,7 @@ module _ (m : Place → ℕ) where
       let i = slot_of x.number / 64 in
       let v = put_bit b (m (Vector i)) (slot_of x.number % 64) in
       tab_upd places 16 m Vector (λ i j e. ap (λ (a : Place). get_or (place_code a) 1 0) e) i v (omega arith)
-      ∙ ap (λ (w : ℕ). set (tab 16 (λ j. m (Vector j))) i (put_bit b w (slot_of x.number % 64))) (sym (getD_tab 16 (λ j. m (Vector j)) i (omega arith)))
+      ∙ ap (λ (w : ℕ). set (tab 16 (λ j. m (Vector j))) i (put_bit b w (slot_of x.number % 64))) (sym (get_or_tab 16 (λ j. m (Vector j)) i (omega arith)))
 
   -- ---- nodes
   pub home_same : (x : Name) (n : node.Node) → Sized n → node_here (slot_of x.number) (after m (home_step (server_of x.number) x n)) ≡ n
@@ -227,12 +227,12 @@ module _ (n : ℕ) (m : Place → ℕ) where
 module _ (m : Place → ℕ) (x : Name) where
   pub own_version : standing (object.Node x) false m ≡ (node_here (slot_of x.number) m).version
   unfolding standing mark_in mark_place node_here node_of
-  own_version = sym (getD_tab 33 (λ j. m (Node (slot_of x.number) j)) 2 (omega arith))
+  own_version = sym (get_or_tab 33 (λ j. m (Node (slot_of x.number) j)) 2 (omega arith))
 
   pub own_flag : (inner : Bool) → standing (object.Flag x) inner m ≡ one_if (get_or (all_flags (vector_at m)) (slot_of x.number) false)
   unfolding standing mark_in mark_place vector_at
   own_flag inner =
       let k = slot_of x.number in
       let ws = tab 16 (λ i. m (Vector i)) in
-      let e : m (Vector (k / 64)) ≡ get_or ws (k / 64) 0 = sym (getD_tab 16 (λ i. m (Vector i)) (k / 64) (omega arith)) in
+      let e : m (Vector (k / 64)) ≡ get_or ws (k / 64) 0 = sym (get_or_tab 16 (λ i. m (Vector i)) (k / 64) (omega arith)) in
       ap one_if (flag_read ws k (bit (m (Vector (k / 64))) (k % 64)) (length_tab 16 (λ i. m (Vector i))) (omega arith) (ap (λ (w : ℕ). bit w (k % 64)) e))

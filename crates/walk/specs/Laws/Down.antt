@@ -11,13 +11,13 @@ use borrow.Author.Tests.{not-true, not-false}
 use Rattle.nodes.specs.declared.node.Node.{Node}
 use Rattle.nodes.specs.Place.{place}
 use Rattle.nodes.specs.Node.{keys_of}
-use Rattle.nodes.specs.Entries.{entriesOf}
+use Rattle.nodes.specs.Entries.{entries_of}
 use Rattle.nodes.specs.Kept.{Whole}
 use Rattle.nodes.specs.Stored.{node_at}
 use Rattle.nodes.specs.Laws.Stored.{Sized}
 use Rattle.nodes.specs.Laws.Standing.{standing_sized}
 use Rattle.memory.specs.Word.{view}
-use Rattle.nodes.specs.Laws.Kept.{whole, length_entriesOf}
+use Rattle.nodes.specs.Laws.Kept.{whole, length_entries_of}
 use Rattle.operations.specs.Object.{meta, node, no_tree}
 use Rattle.operations.specs.Path.{Cont, down, to_leaf}
 use Rattle.walk.specs.declared.down.Turn.{Turn}
@@ -187,8 +187,8 @@ pub record Downward (slots : ℕ) (m : ClientWord → ℕ) (u₀ : List ℕ) (ke
   pub good : All (trail path level (top - level))
   pub linked : in_store slots root ≡ true → Linked slots level name (trail path level (top - level))
   pub same : (stop : ℕ → Bool) → Stops stop target → (k : Cont)
-      → walked slots m (down stop key k first.level [] root (entriesOf first 0)) (used_in u₀)
-      ≡ walked slots m (down stop key k level (branches (trail path level (top - level))) name (entriesOf n (low (trail path level (top - level))))) (used_in u)
+      → walked slots m (down stop key k first.level [] root (entries_of first 0)) (used_in u₀)
+      ≡ walked slots m (down stop key k level (branches (trail path level (top - level))) name (entries_of n (low (trail path level (top - level))))) (used_in u)
 
 -- ---- one more branch in the array
 trail_kept : (p : List Turn) (i : ℕ) (b : Turn) (l n : ℕ) → i ≤ l → trail (set p i b) l n ≡ trail p l n
@@ -283,13 +283,13 @@ module _ (slots : ℕ) (m : ClientWord → ℕ) (u₀ : List ℕ) (key target ro
   pub down_done : level ≤ target → Led slots m u₀ key target root first (record { stop = Going; top = top; path = path; name = name; node = n }) u
   down_done h =
       let e : level ≡ target = omega (arith, d.lower) in
-      let some : (lo : ℕ) → 0 < target → 0 < length (entriesOf n lo) = λ lo g. let x = extra_inner n (open_inner n d.opened (omega (arith, d.level_is))) in omega (arith, length_entriesOf n lo d.whole) in
+      let some : (lo : ℕ) → 0 < target → 0 < length (entries_of n lo) = λ lo g. let x = extra_inner n (open_inner n d.opened (omega (arith, d.level_is))) in omega (arith, length_entries_of n lo d.whole) in
       record {
         asks = λ stop st k. rw (
           d.same stop st k,
           e,
           down_there stop key k (branches (trail path target (top - target))) name target
-              (entriesOf n (low (trail path target (top - target)))) st.there (some (low (trail path target (top - target)))),
+              (entries_of n (low (trail path target (top - target)))) st.there (some (low (trail path target (top - target)))),
         );
         noted = d.noted;
         high = d.high;
@@ -374,10 +374,10 @@ turn_is b p n e = rw e
 abbrev pub TakenOut : List ℕ → List Pass → List Turn → ℕ → Type 0
 TakenOut b ps out i = (i ≤ 5) × (length out ≡ 5) × (take i out ≡ take i (turns_in b ps))
 
-map_getD : (b : List ℕ) (ps : List Pass) (i : ℕ) → i < length ps → get_or (turns_in b ps) i blank ≡ turn_in b (get_or ps i nowhere)
-map_getD b [] i h = absurd (omega arith)
-map_getD b (p ∷ ps) zero h = refl
-map_getD b (p ∷ ps) (suc i) h = map_getD b ps i (omega arith)
+map_get_or : (b : List ℕ) (ps : List Pass) (i : ℕ) → i < length ps → get_or (turns_in b ps) i blank ≡ turn_in b (get_or ps i nowhere)
+map_get_or b [] i h = absurd (omega arith)
+map_get_or b (p ∷ ps) zero h = refl
+map_get_or b (p ∷ ps) (suc i) h = map_get_or b ps i (omega arith)
 
 module _ (b : List ℕ) (ps : List Pass) (l : length ps ≡ 5) (out : List Turn) (i : ℕ) (h : TakenOut b ps out i) where
   pub taken_more : i < 5 → (t : Turn) → t ≡ turn_in b (get_or ps i nowhere) → TakenOut b ps (set out i t) (i + 1)
@@ -385,7 +385,7 @@ module _ (b : List ℕ) (ps : List Pass) (l : length ps ≡ 5) (out : List Turn)
       let m : i < length (turns_in b ps) = rw (map_length (turn_in b) ps, l) g in (
         omega arith,
         length-set out i t ∙ h.1,
-        rw (add-one, take-suc-set out i t (omega (arith, h.1)), take-suc (turns_in b ps) i blank m, h.2, map_getD b ps i (omega arith), ← e),
+        rw (add-one, take-suc-set out i t (omega (arith, h.1)), take-suc (turns_in b ps) i blank m, h.2, map_get_or b ps i (omega arith), ← e),
       )
 
   pub taken_all : 5 ≤ i → out ≡ turns_in b ps

@@ -16,10 +16,10 @@ use Rattle.nodes.specs.Place.{place, key_place}
 use Rattle.nodes.specs.Laws.Place.{place_within, yes_says}
 use Rattle.nodes.specs.Node.{extra, keys_of, slots_of}
 use Rattle.nodes.specs.Laws.Node.{extra_le}
-use Rattle.nodes.specs.Entries.{entries, entriesOf}
+use Rattle.nodes.specs.Entries.{entries, entries_of}
 use Rattle.nodes.specs.Laws.Entries.{entries_keys, entries_slots}
 use Rattle.nodes.specs.Kept.{Whole}
-use Rattle.nodes.specs.Laws.Kept.{length_entriesOf}
+use Rattle.nodes.specs.Laws.Kept.{length_entries_of}
 use Rattle.operations.specs.Object.{node, body, no_tree}
 use Rattle.operations.specs.Entry.{Entries, zip, keys, vals, node_value, fewest_entries, cut_at, place_in, value_at, value_in}
 use Rattle.operations.specs.Path.{TreePlan, open_node, kid, Branch, Cont, down}
@@ -47,8 +47,8 @@ open_body lo (suc (suc (suc k))) l ks vs c =
     rw (ne_eqb (suc (suc (suc k))) 1 a, ne_eqb (suc (suc (suc k))) 2 b)
 
 pub open_is : (lo x : ℕ) (n : Node) (c : ℕ → Entries → TreePlan)
-    → open_node lo (value_of (node x) n) c ≡ cond (opens n) (c n.level (entriesOf n lo)) (P.fail no_tree)
-unfolding opens entriesOf
+    → open_node lo (value_of (node x) n) c ≡ cond (opens n) (c n.level (entries_of n lo)) (P.fail no_tree)
+unfolding opens entries_of
 open_is lo x n c = open_body lo n.kind n.level (keys_of n) (slots_of n) c
 
 -- a node that is open is a leaf of level 0, or an inner node of a level from 1
@@ -96,25 +96,25 @@ enough_by l c len a b z s = go l refl (leb 7 c) refl
     go (suc j) e false p = let g : c < 7 = leb-false 7 c p in let y = s (omega arith) in let d : fewest_entries l ≤ len → ⊥ = rw e (λ q. omega (arith, y, q)) in rw p (ifd_no (dec_le (fewest_entries l) len) a b d)
 
 enough : (n : Node) (lo : ℕ) → Whole n → opens n ≡ true → (a b : TreePlan)
-    → ifd (dec_le (fewest_entries n.level) (length (entriesOf n lo))) a b ≡ cond (leb 7 n.count) a b
+    → ifd (dec_le (fewest_entries n.level) (length (entries_of n lo))) a b ≡ cond (leb 7 n.count) a b
 enough n lo f h a b =
-    enough_by n.level n.count (length (entriesOf n lo)) a b
-    (λ z. let x = extra_leaf n (open_leaf n h z) in omega (arith, length_entriesOf n lo f))
-    (λ z. let x = extra_inner n (open_inner n h z) in omega (arith, length_entriesOf n lo f))
+    enough_by n.level n.count (length (entries_of n lo)) a b
+    (λ z. let x = extra_leaf n (open_leaf n h z) in omega (arith, length_entries_of n lo f))
+    (λ z. let x = extra_inner n (open_inner n h z) in omega (arith, length_entries_of n lo f))
 
 -- what a plan makes of a node below the root
 pub child_is : (l lo x : ℕ) (n : Node) → Whole n → (k : Entries → TreePlan)
     → open_node lo (value_of (node x) n) (λ j es. ifd (ℕ_discrete j l) (ifd (dec_le (fewest_entries l) (length es)) (k es) (P.fail no_tree)) (P.fail no_tree))
-    ≡ cond (below l n) (k (entriesOf n lo)) (P.fail no_tree)
+    ≡ cond (below l n) (k (entries_of n lo)) (P.fail no_tree)
 unfolding below
 child_is l lo x n f k = open_is lo x n _ ∙ go (opens n) (eqb n.level l) refl refl
   where
     go : (a b : Bool) → opens n ≡ a → eqb n.level l ≡ b
-        → cond (opens n) (ifd (ℕ_discrete n.level l) (ifd (dec_le (fewest_entries l) (length (entriesOf n lo))) (k (entriesOf n lo)) (P.fail no_tree)) (P.fail no_tree)) (P.fail no_tree)
-        ≡ cond (below l n) (k (entriesOf n lo)) (P.fail no_tree)
+        → cond (opens n) (ifd (ℕ_discrete n.level l) (ifd (dec_le (fewest_entries l) (length (entries_of n lo))) (k (entries_of n lo)) (P.fail no_tree)) (P.fail no_tree)) (P.fail no_tree)
+        ≡ cond (below l n) (k (entries_of n lo)) (P.fail no_tree)
     go true true p q =
         let e : n.level ≡ l = eqb-true n.level l q in
-        rw (below, p, q, ← e, ifd_yes (ℕ_discrete n.level n.level) _ _ refl) (enough n lo f p (k (entriesOf n lo)) (P.fail no_tree))
+        rw (below, p, q, ← e, ifd_yes (ℕ_discrete n.level n.level) _ _ refl) (enough n lo f p (k (entries_of n lo)) (P.fail no_tree))
     go true false p q =
         let e : n.level ≡ l → ⊥ = eqb-false n.level l q in
         rw (below, p, q, ifd_no (ℕ_discrete n.level l) _ _ e)
@@ -158,18 +158,18 @@ module _ (n : Node) (lo : ℕ) (f : Whole n) where
   longer : length (slots_of n) ≡ length (keys_of n) + extra n.kind
   longer = omega (arith, f.keys, f.slots)
 
-  entry_slots : vals (entriesOf n lo) ≡ slots_of n
-  unfolding entriesOf
+  entry_slots : vals (entries_of n lo) ≡ slots_of n
+  unfolding entries_of
   entry_slots = entries_slots (extra n.kind) lo (extra_le n.kind) (keys_of n) (slots_of n) longer
 
-  pub entry_slot : (p : ℕ) → p < n.count + extra n.kind → (get_or (entriesOf n lo) p (0, 0)).1 ≡ get_or n.slots p 0
+  pub entry_slot : (p : ℕ) → p < n.count + extra n.kind → (get_or (entries_of n lo) p (0, 0)).1 ≡ get_or n.slots p 0
   unfolding slots_of
   entry_slot p h =
-      let a : get_or (vals (entriesOf n lo)) p 0 ≡ (get_or (entriesOf n lo) p (0, 0)).1 = get_or-map (λ (e : ℕ × ℕ). e.1) (entriesOf n lo) p (0, 0) in
+      let a : get_or (vals (entries_of n lo)) p 0 ≡ (get_or (entries_of n lo) p (0, 0)).1 = get_or-map (λ (e : ℕ × ℕ). e.1) (entries_of n lo) p (0, 0) in
       sym a ∙ rw entry_slots (get_or-take (n.count + extra n.kind) n.slots p 0 h)
 
-  pub entry_keys : keys (entriesOf n lo) ≡ N.headed (extra n.kind) lo (keys_of n)
-  unfolding entriesOf
+  pub entry_keys : keys (entries_of n lo) ≡ N.headed (extra n.kind) lo (keys_of n)
+  unfolding entries_of
   entry_keys = entries_keys (extra n.kind) lo (extra_le n.kind) (keys_of n) (slots_of n) longer
 
 pub keys_later : (E : Entries) → keys (drop 1 E) ≡ drop 1 (keys E)
@@ -188,16 +188,16 @@ mk_inner kind (suc l) E ks vs k e p q = rw (k, later E, p, q)
     later [] = refl
     later (e ∷ es) = refl
 
-pub stored_node : (n : Node) (lo x : ℕ) → Whole n → opens n ≡ true → node_value n.level (entriesOf n lo) ≡ value_of (node x) n
+pub stored_node : (n : Node) (lo x : ℕ) → Whole n → opens n ≡ true → node_value n.level (entries_of n lo) ≡ value_of (node x) n
 stored_node n lo x f h = go n.level refl
   where
-    go : (l : ℕ) → n.level ≡ l → node_value n.level (entriesOf n lo) ≡ value_of (node x) n
+    go : (l : ℕ) → n.level ≡ l → node_value n.level (entries_of n lo) ≡ value_of (node x) n
     go zero e =
         let k : Leaf n = open_leaf n h e in
-        mk_leaf n.kind n.level (entriesOf n lo) (keys_of n) (slots_of n) k.kind e (rw (entry_keys n lo f, extra_leaf n k)) (entry_slots n lo f)
+        mk_leaf n.kind n.level (entries_of n lo) (keys_of n) (slots_of n) k.kind e (rw (entry_keys n lo f, extra_leaf n k)) (entry_slots n lo f)
     go (suc l) e =
         let k : Inner n = open_inner n h (omega arith) in
-        mk_inner n.kind n.level (entriesOf n lo) (keys_of n) (slots_of n) k.kind k.level (rw (entry_keys n lo f, extra_inner n k)) (entry_slots n lo f)
+        mk_inner n.kind n.level (entries_of n lo) (keys_of n) (slots_of n) k.kind k.level (rw (entry_keys n lo f, extra_inner n k)) (entry_slots n lo f)
 
 -- "the path downward": a step from an inner node
 module _ (stop : ℕ → Bool) (key : ℕ) (k : Cont) (fs : List Branch) (nm p c : ℕ) where
@@ -208,12 +208,12 @@ module _ (stop : ℕ → Bool) (key : ℕ) (k : Cont) (fs : List Branch) (nm p c
   down_list (suc l) (e ∷ es) z s pp h pc = let d : suc l - 1 ≡ l = omega arith in rw (d, pc) (down_at stop key k l fs nm e es p s pp (omega arith))
 
   pub down_inner : (n : Node) (lo l : ℕ) → n.level ≡ l → Whole n → Inner n → stop l ≡ false → p ≡ place (keys_of n) key → p ≤ n.count → c ≡ get_or n.slots p 0
-      → down stop key k l fs nm (entriesOf n lo)
-      ≡ kid [] (l - 1) (get_or (entriesOf n lo) p (0, 0)).0 c (λ es'. down stop key k (l - 1) (branch_of nm p (entriesOf n lo) ∷ fs) c es')
+      → down stop key k l fs nm (entries_of n lo)
+      ≡ kid [] (l - 1) (get_or (entries_of n lo) p (0, 0)).0 c (λ es'. down stop key k (l - 1) (branch_of nm p (entries_of n lo) ∷ fs) c es')
   down_inner n lo l e f i s pp h pc =
       let x = extra_inner n i in
-      let q : keys (drop 1 (entriesOf n lo)) ≡ keys_of n = rw (keys_later (entriesOf n lo), entry_keys n lo f, x) in
-      down_list l (entriesOf n lo) (omega (arith, i.level, e)) s (rw q pp) (omega (arith, length_entriesOf n lo f)) (rw (entry_slot n lo f p (omega arith)) pc)
+      let q : keys (drop 1 (entries_of n lo)) ≡ keys_of n = rw (keys_later (entries_of n lo), entry_keys n lo f, x) in
+      down_list l (entries_of n lo) (omega (arith, i.level, e)) s (rw q pp) (omega (arith, length_entries_of n lo f)) (rw (entry_slot n lo f p (omega arith)) pc)
 
 pub down_there : (stop : ℕ → Bool) (key : ℕ) (k : Cont) (fs : List Branch) (nm l : ℕ) (E : Entries) → (0 < l → stop l ≡ true) → (0 < l → 0 < length E) → down stop key k l fs nm E ≡ k l fs nm E
 down_there stop key k fs nm zero E s h = refl
@@ -231,24 +231,24 @@ below_true l n h = go (opens n) (eqb n.level l) refl refl
 
 -- ---- a key in a leaf
 module _ (n : Node) (lo key : ℕ) (f : Whole n) (l : Leaf n) where
-  pub leaf_keys : keys (entriesOf n lo) ≡ keys_of n
+  pub leaf_keys : keys (entries_of n lo) ≡ keys_of n
   leaf_keys = rw (entry_keys n lo f, extra_leaf n l)
 
-  pub leaf_place : place_in key (entriesOf n lo) ≡ key_place (keys_of n) key
+  pub leaf_place : place_in key (entries_of n lo) ≡ key_place (keys_of n) key
   leaf_place = rw leaf_keys
 
   -- the value is that of the node's slot
-  pub leaf_value : value_in key (entriesOf n lo) ≡ cond (key_place (keys_of n) key).there (some (get_or n.slots (place (keys_of n) key - 1) 0)) none
+  pub leaf_value : value_in key (entries_of n lo) ≡ cond (key_place (keys_of n) key).there (some (get_or n.slots (place (keys_of n) key - 1) 0)) none
   unfolding key_place
-  leaf_value = ap (value_at (entriesOf n lo)) leaf_place ∙ go (key_place (keys_of n) key).there refl
+  leaf_value = ap (value_at (entries_of n lo)) leaf_place ∙ go (key_place (keys_of n) key).there refl
     where
       i : ℕ
       i = place (keys_of n) key - 1
 
-      go : (t : Bool) → (key_place (keys_of n) key).there ≡ t → cond t (some (get_or (vals (entriesOf n lo)) i 0)) none ≡ cond t (some (get_or n.slots i 0)) none
+      go : (t : Bool) → (key_place (keys_of n) key).there ≡ t → cond t (some (get_or (vals (entries_of n lo)) i 0)) none ≡ cond t (some (get_or n.slots i 0)) none
       go true e =
           let y = yes_says (keys_of n) key e in
           let h : i < n.count = omega (arith, y.not_zero, place_within (keys_of n) key, f.keys) in
-          let a : get_or (vals (entriesOf n lo)) i 0 ≡ (get_or (entriesOf n lo) i (0, 0)).1 = get_or-map (λ (e : ℕ × ℕ). e.1) (entriesOf n lo) i (0, 0) in
+          let a : get_or (vals (entries_of n lo)) i 0 ≡ (get_or (entries_of n lo) i (0, 0)).1 = get_or-map (λ (e : ℕ × ℕ). e.1) (entries_of n lo) i (0, 0) in
           rw (a, entry_slot n lo f i (omega arith))
       go false e = refl

@@ -13,10 +13,10 @@ use Rattle.std.proofs.lemmas.Bool.{lt-leb}
 use Rattle.nodes.specs.declared.node.Node.{Node}
 use Rattle.nodes.specs.Place.{place}
 use Rattle.nodes.specs.Node.{keys_of}
-use Rattle.nodes.specs.Entries.{entriesOf, entries}
+use Rattle.nodes.specs.Entries.{entries_of, entries}
 use Rattle.nodes.specs.Stored.{node_at}
 use Rattle.memory.specs.Word.{view}
-use Rattle.nodes.specs.Laws.Kept.{length_entriesOf}
+use Rattle.nodes.specs.Laws.Kept.{length_entries_of}
 use Rattle.operations.specs.Entry.{Entries, keys, under}
 use Rattle.walk.specs.declared.found.Sought.{Sought}
 use Rattle.walk.specs.declared.found.Sought.TheVariants.{Higher, Lower, AtLeast}
@@ -192,8 +192,8 @@ reverse_at (x ∷ l) j d h = rw (reverse-cons x l) (go (ℕ_discrete j (length l
         let g : j < length (reverse l) = rw (length-reverse l) (omega arith) in
         rw (i, get_or-append (reverse l) (x ∷ []) d j g) (rec (omega arith))
 
-pub leaf_from : (n : Node) (lo : ℕ) → Leaf n → entriesOf n lo ≡ entriesOf n 0
-unfolding entriesOf entries
+pub leaf_from : (n : Node) (lo : ℕ) → Leaf n → entries_of n lo ≡ entries_of n 0
+unfolding entries_of entries
 leaf_from n lo l = rw (extra_leaf n l)
 
 module _ (n : Node) (h : LeafAt n) where
@@ -201,10 +201,10 @@ module _ (n : Node) (h : LeafAt n) where
   leaf = open_leaf n h.opened h.level
 
   abbrev E : Entries
-  E = entriesOf n 0
+  E = entries_of n 0
 
   long : length E ≡ n.count
-  long = let x = extra_leaf n leaf in omega (arith, length_entriesOf n 0 h.whole)
+  long = let x = extra_leaf n leaf in omega (arith, length_entries_of n 0 h.whole)
 
   pair_at : (i : ℕ) → i < n.count → get_or E i (0, 0) ≡ (get_or n.keys i 0, get_or n.slots i 0)
   unfolding keys_of
@@ -324,14 +324,14 @@ pub record Begun (b : List ℕ) (leaf : ℕ) (w : Wish) (start count many : ℕ)
 
 abbrev pub Gathers : List ℕ → ℕ → Wish → List ℕ → ℕ → ℕ → ℕ → List ℕ → ℕ → Type 0
 Gathers b leaf w f₀ start count many f j =
-    Begun b leaf w start count many × Gathering w.wanted (sought_in w.sought w.key (entriesOf (node_at (view b) leaf) 0)) (pairs_in f₀) f j × (length f ≡ length f₀)
+    Begun b leaf w start count many × Gathering w.wanted (sought_in w.sought w.key (entries_of (node_at (view b) leaf) 0)) (pairs_in f₀) f j × (length f ≡ length f₀)
 
 module _ (b : List ℕ) (leaf : ℕ) (w : Wish) (f₀ : List ℕ) (start count many : ℕ) where
   abbrev at_leaf : Node
   at_leaf = node_at (view b) leaf
 
   abbrev those : Entries
-  those = sought_in w.sought w.key (entriesOf at_leaf 0)
+  those = sought_in w.sought w.key (entries_of at_leaf 0)
 
   pub gathers_start : LeafAt at_leaf → start ≡ start_in w.sought (keys_of at_leaf) w.key → start ≤ at_leaf.count → count ≡ at_leaf.count → many ≡ many_from w.sought start count → Roomy w.wanted f₀
       → Gathers b leaf w f₀ start count many f₀ 0

@@ -8,7 +8,7 @@ use Rattle.nodes.specs.declared.standing.KeyPlace.{KeyPlace}
 use Rattle.nodes.specs.Place.{place, key_place, Within}
 use Rattle.nodes.specs.Laws.Place.{yes_behind}
 use Rattle.nodes.specs.Node.{keys_of}
-use Rattle.nodes.specs.Entries.{entriesOf}
+use Rattle.nodes.specs.Entries.{entries_of}
 use Rattle.nodes.specs.Kept.{Whole}
 use Rattle.operations.specs.Object.{Writes}
 use Rattle.operations.specs.Map.{said}
@@ -73,7 +73,7 @@ slot_inside p n h l = omega (arith, h.most)
 
 pub ruleset look_in_exits = (look_there, look_not_there, slot_inside, yes_behind)
 
-leaf_said : (n : Node) (lo key : ℕ) → Whole n → Leaf n → said (value_in key (entriesOf n lo)) ≡ ((look_in n key).a, (look_in n key).b, [])
+leaf_said : (n : Node) (lo key : ℕ) → Whole n → Leaf n → said (value_in key (entries_of n lo)) ≡ ((look_in n key).a, (look_in n key).b, [])
 unfolding look_in key_place
 leaf_said n lo key f l = ap said (leaf_value n lo key f l) ∙ go (key_place (keys_of n) key).there
   where
@@ -100,7 +100,7 @@ module _ (slots : ℕ) (m : ClientWord → ℕ) (u : List ℕ) (key : ℕ) (s₁
     look_ends q s u₂ pp e =
         let d : Arrival = h.come in
         let lo : ℕ = low (trail d.path 0 (d.top - 0)) in
-        let v : said (value_in key (entriesOf d.node lo)) ≡ (q.a, q.b, []) = rw (pp, ← h.node) (leaf_said d.node lo key end.whole (open_leaf d.node end.opened end.level)) in
+        let v : said (value_in key (entries_of d.node lo)) ≡ (q.a, q.b, []) = rw (pp, ← h.node) (leaf_said d.node lo key end.whole (open_leaf d.node end.opened end.level)) in
         record { same = rw (h.descends.asks (λ fs n es. P.done (said (value_in key es), [])), on, v) (e.same slots [] []); noted = e.noted }
 
 pub ruleset look_exits = (look_stops, leaf_small, look_ends)

@@ -8,7 +8,7 @@ use Rattle.std.proofs.Math.ListN.{length, take}
 use borrow.Author.Tests.{not-true, not-false, le-leb}
 use Rattle.memory.specs.Word.{view}
 use Rattle.nodes.specs.declared.node.Node.{Node}
-use Rattle.nodes.specs.Entries.{entriesOf}
+use Rattle.nodes.specs.Entries.{entries_of}
 use Rattle.nodes.specs.Stored.{node_at}
 use Rattle.operations.specs.Entry.{Entries}
 use Rattle.operations.specs.Path.{TreePlan, Branch}
@@ -84,18 +84,18 @@ module _ (slots : ℕ) (m : ClientWord → ℕ) (u : List ℕ) (w : Wish) (s₁ 
     near_leaf = let l : LeafAt d.node = record { whole = end.whole; small = end.small; opened = end.opened; level = end.level } in rw h.node at l
 
     -- on from there
-    pub near_goes : walked slots m (search_plan w) (used_in u) ≡ walked slots m (enough q (above q right d.top d.path 0 (lows_of bs)) (q.in_leaf (entriesOf r (low bs)))) (used_in u₁)
+    pub near_goes : walked slots m (search_plan w) (used_in u) ≡ walked slots m (enough q (above q right d.top d.path 0 (lows_of bs)) (q.in_leaf (entries_of r (low bs)))) (used_in u₁)
     near_goes =
-        let e : walked slots m (search_plan w) (used_in u) ≡ walked slots m (enough q (above q right d.top d.path 0 (lows_of bs)) (q.in_leaf (entriesOf d.node (low bs)))) (used_in u₁) =
+        let e : walked slots m (search_plan w) (used_in u) ≡ walked slots m (enough q (above q right d.top d.path 0 (lows_of bs)) (q.in_leaf (entries_of d.node (low bs)))) (used_in u₁) =
         rw (h.descends.asks from, on, seek_climb q right zero (branches bs), sides_are right bs) in
-        e ∙ ap (λ (n : Node). walked slots m (enough q (above q right d.top d.path 0 (lows_of bs)) (q.in_leaf (entriesOf n (low bs)))) (used_in u₁)) h.node
+        e ∙ ap (λ (n : Node). walked slots m (enough q (above q right d.top d.path 0 (lows_of bs)) (q.in_leaf (entries_of n (low bs)))) (used_in u₁)) h.node
 
     -- where the leaf has enough
-    pub near_enough : (f₀ f : List ℕ) (s : Stop) (u₂ : List ℕ) → get_or f₀ 0 0 ≡ 0 → pairs_in f ≡ take w.wanted (pairs_in f₀ ++ q.in_leaf (entriesOf r 0)) → get_or f 0 0 ≡ w.wanted
+    pub near_enough : (f₀ f : List ℕ) (s : Stop) (u₂ : List ℕ) → get_or f₀ 0 0 ≡ 0 → pairs_in f ≡ take w.wanted (pairs_in f₀ ++ q.in_leaf (entries_of r 0)) → get_or f 0 0 ≡ w.wanted
         → Tells m u₁ w (pairs_in f) s u₂ → Walks slots m u (search_plan w) s u₂ (pairs_told w (pairs_in f))
     unfolding pairs_in first_pairs
     near_enough f₀ f s u₂ z₀ e c t =
-        let all : Entries = q.in_leaf (entriesOf r 0) in
+        let all : Entries = q.in_leaf (entries_of r 0) in
         let e' : pairs_in f ≡ take w.wanted all = rw z₀ at e in
         let n : length (take w.wanted all) ≡ w.wanted = rw (← e') (length_pairs f ∙ c) in
         let full : leb w.wanted (length all) ≡ true = le-leb w.wanted (length all) (full_take w.wanted all (omega arith)) in
@@ -133,7 +133,7 @@ module _ (slots : ℕ) (m : ClientWord → ℕ) (u : List ℕ) (w : Wish) (c : L
     pub path_on : (s : Stop) (u₂ : List ℕ) (ps : Entries) → FromLeaf slots m u₁ w p.top (turns_in c p.path) (node_at (view c) p.place) (pairs_in f₀) s u₂ ps → Walks slots m u (search_plan w) s u₂ ps
     unfolding pairs_in first_pairs arrived
     path_on s u₂ ps t =
-        let e : walked slots m (enough (search_of w) (above (search_of w) (to_right w.sought) p.top (turns_in c p.path) 0 (lows_of way)) ((search_of w).in_leaf (entriesOf (node_at (view c) p.place) (low way)))) (used_in u₁)
+        let e : walked slots m (enough (search_of w) (above (search_of w) (to_right w.sought) p.top (turns_in c p.path) 0 (lows_of way)) ((search_of w).in_leaf (entries_of (node_at (view c) p.place) (low way)))) (used_in u₁)
         ≡ ended s (used_in u₂) [] ps = rw z₀ at (t.same (low way) (lows_of way)) in
         record { same = near_goes slots m u w p.stop (node_at (view c) p.place) u₁ arrived b pb nb ∙ e; noted = t.noted }
 

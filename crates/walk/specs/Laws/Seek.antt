@@ -9,10 +9,10 @@ use Rattle.std.proofs.Math.ListN.{get_or, length-set}
 use Rattle.std.proofs.Math.Numerals.{add-one}
 use Rattle.std.proofs.lemmas.Bool.{not-true, not-false, lt-leb}
 use Rattle.nodes.specs.declared.node.Node.{Node}
-use Rattle.nodes.specs.Entries.{entriesOf}
+use Rattle.nodes.specs.Entries.{entries_of}
 use Rattle.nodes.specs.Stored.{node_at}
 use Rattle.memory.specs.Word.{view}
-use Rattle.nodes.specs.Laws.Kept.{length_entriesOf}
+use Rattle.nodes.specs.Laws.Kept.{length_entries_of}
 use Rattle.operations.specs.Object.{Ans}
 use Rattle.operations.specs.Entry.{Entries}
 use Rattle.operations.specs.Path.{kid, Branch}
@@ -150,8 +150,8 @@ module _ (right : Bool) (top : ℕ) (path : List Turn) (level l : ℕ) (c : Clim
     unfolding All
     taken = rw opened at c.stacked.good
 
-    long_enough : (lo : ℕ) → length (entriesOf (get_or path (l + 1) d).node lo) ≡ suc (get_or path (l + 1) d).node.count
-    long_enough lo = let x = extra_inner (get_or path (l + 1) d).node taken.0.inner in omega (arith, length_entriesOf (get_or path (l + 1) d).node lo taken.0.whole)
+    long_enough : (lo : ℕ) → length (entries_of (get_or path (l + 1) d).node lo) ≡ suc (get_or path (l + 1) d).node.count
+    long_enough lo = let x = extra_inner (get_or path (l + 1) d).node taken.0.inner in omega (arith, length_entries_of (get_or path (l + 1) d).node lo taken.0.whole)
 
     pub climb_at : (get_or path (l + 1) d).at ≤ 14
     climb_at = omega (arith, taken.0.within, taken.0.small.keys)
@@ -178,7 +178,7 @@ module _ (right : Bool) (top : ℕ) (path : List Turn) (level l : ℕ) (c : Clim
         let e : cond right (ltb i (get_or path (l + 1) d).node.count) (ltb 0 i) ≡ false = sym tested ∙ sym p ∙ q in
         rw add-one (record {
           lows = λ f j. c.lows f (suc j);
-          same = λ g f. rw (c.same g f, opened) (visit_none right (seek g (visit right) l) (entriesOf (get_or path (l + 1) d).node (c.lows f 0)) (get_or path (l + 1) d).node.count i
+          same = λ g f. rw (c.same g f, opened) (visit_none right (seek g (visit right) l) (entries_of (get_or path (l + 1) d).node (c.lows f 0)) (get_or path (l + 1) d).node.count i
               (climb g right (suc l) (rests right bs (λ j. c.lows f (suc j)))) (long_enough (c.lows f 0)) taken.0.within e);
           stacked = record { high = c.stacked.high; size = c.stacked.size; good = taken.1 };
           lighter = let w : load right (suc l) bs ≤ load right level (trail path level (top - level)) = less_left in w;
@@ -222,12 +222,12 @@ module _ (right : Bool) (top : ℕ) (path : List Turn) (level l : ℕ) (c : Clim
           let n = (get_or path (l + 1) d).node in
           let b : Turn = record { name = (get_or path (l + 1) d).name; at = at; node = n } in
           let s : trail (set path (l + 1) b) l (top - l) ≡ b ∷ bs = trail_next path b l top h inside in
-          let v : (lo : ℕ) → (get_or (entriesOf n lo) at (0, 0)).1 ≡ name = λ lo. let x = extra_inner n taken.0.inner in rw pn (entry_slot n lo taken.0.whole at (omega (arith, within))) in
+          let v : (lo : ℕ) → (get_or (entries_of n lo) at (0, 0)).1 ≡ name = λ lo. let x = extra_inner n taken.0.inner in rw pn (entry_slot n lo taken.0.whole at (omega (arith, within))) in
           record {
-            lo = λ f. (get_or (entriesOf n (c.lows f 0)) at (0, 0)).0;
+            lo = λ f. (get_or (entries_of n (c.lows f 0)) at (0, 0)).0;
             lows = λ f. c.lows f;
             ends = λ r. let z : ◌≡◌ {A = ℕ} 0 1 = cc in absurd (omega arith);
-            next = λ r g f. rw (c.same g f, opened, s, ← v (c.lows f 0), pa) (visit_next right (seek g (visit right) l) (entriesOf n (c.lows f 0)) n.count (get_or path (l + 1) d).at
+            next = λ r g f. rw (c.same g f, opened, s, ← v (c.lows f 0), pa) (visit_next right (seek g (visit right) l) (entries_of n (c.lows f 0)) n.count (get_or path (l + 1) d).at
                 (climb g right (suc l) (rests right bs (λ j. c.lows f (suc j)))) (long_enough (c.lows f 0)) taken.0.within going_on);
             stacked = λ r. record {
               high = c.stacked.high;
@@ -307,10 +307,10 @@ module _ (w : Wish) (top : ℕ) (path : List Turn) (n : Node) (h : LeafAt n) (go
   q = search_of w
 
   abbrev all : Entries
-  all = got ++ q.in_leaf (entriesOf n 0)
+  all = got ++ q.in_leaf (entries_of n 0)
 
   module _ (same : pairs_in f' ≡ take w.wanted all) where
-    leaf_is : (j : ℕ) → entriesOf n j ≡ entriesOf n 0
+    leaf_is : (j : ℕ) → entries_of n j ≡ entries_of n 0
     leaf_is j = leaf_from n j (open_leaf n h.opened h.level)
 
     counted : length (take w.wanted all) ≡ get_or f' 0 0
@@ -425,15 +425,15 @@ module _ (w : Wish) (top : ℕ) (path : List Turn) (level : ℕ) (n : Node) (got
         let g : at ≤ n.count = at_most to in
         let t : trail (set path level b) (level - 1) (top - (level - 1)) ≡ b ∷ trail path level (top - level) =
         trail_more path b level top (omega arith) (omega (arith, s.below)) (omega (arith, s.below, k.high, k.size)) in
-        let v : (j : ℕ) → (get_or (entriesOf n j) at (0, 0)).1 ≡ get_or n.slots at 0 = λ j. entry_slot n j s.whole at (omega arith) in
+        let v : (j : ℕ) → (get_or (entries_of n j) at (0, 0)).1 ≡ get_or n.slots at 0 = λ j. entry_slot n j s.whole at (omega arith) in
         let m : left_in to b ≡ n.count = first_left to n.count in
         rw (is, first_is to n.count) (record {
-          lo = λ j f. (get_or (entriesOf n j) at (0, 0)).0;
+          lo = λ j f. (get_or (entries_of n j) at (0, 0)).0;
           lows = λ j f. pushed j f;
           ends = λ q. let c : ◌≡◌ {A = ℕ} 0 1 = cc in absurd (omega arith);
           next = λ q j f. let p = above (search_of w) to top path level f in
-              rw (t, read_inner (search_of w) to level (entriesOf n j) p got z, e, ← v j)
-              (ap (λ (o : Onward). o got) (visit_first to (seek (search_of w) (visit to) (level - 1)) (entriesOf n j) n.count p (omega (arith, length_entriesOf n j s.whole))));
+              rw (t, read_inner (search_of w) to level (entries_of n j) p got z, e, ← v j)
+              (ap (λ (o : Onward). o got) (visit_first to (seek (search_of w) (visit to) (level - 1)) (entries_of n j) n.count p (omega (arith, length_entries_of n j s.whole))));
           stacked = λ q. record { high = k.high; size = simp length-set k.size; good = rw t (record { inner = i; whole = s.whole; small = s.small; within = g }, k.good) };
           below = λ q. omega (arith, s.below);
           lighter = λ q. let y : pow (level - 1) + times n.count (pow (level - 1)) < pow level = rw e at (pow_more (level - 1) n.count s.small.keys) in
