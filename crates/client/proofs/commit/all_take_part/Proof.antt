@@ -10,10 +10,10 @@ use borrow.Author.Rules.{rules}
 use Rattle.client.proofs.commit.all_take_part.Statement.{statement}
 use Rattle.client.proofs.commit.all_take_part.Tie as tie
 
-abbrev invariant_loop : tie.invariant-loop
+abbrev invariant_loop : tie.invariant-loop-i
 invariant_loop part n i₀ i = (i ≤ n) × (n ≤ 48) × (n ≡ count (held part) Writes) × (any_below i (calls_all (held part)) ≡ false)
 
-abbrev decreases_loop : tie.decreases-loop
+abbrev decreases_loop : tie.decreases-loop-i
 decreases_loop part n i₀ i = n - i
 
 pub all_take_part_spec : {M : Type 1} → statement M

@@ -8,10 +8,10 @@ use borrow.Author.Rules.{rules}
 use Rattle.client.proofs.commit.homes.Statement.{statement}
 use Rattle.client.proofs.commit.homes.Tie as tie
 
-abbrev invariant_loop : tie.invariant-loop
+abbrev invariant_loop : tie.invariant-loop-i
 invariant_loop part n set₀ i₀ set i = (i ≤ n) × (n ≤ 96) × (n ≡ count (held part) Reads) × (set ≡ called_homes (held part) i)
 
-abbrev decreases_loop : tie.decreases-loop
+abbrev decreases_loop : tie.decreases-loop-i
 decreases_loop part n set₀ i₀ set i = n - i
 
 pub homes_spec : {M : Type 1} → statement M

@@ -7,10 +7,10 @@ use borrow.Author.Rules.{rules}
 use Rattle.client.proofs.copies.drop_each.Statement.{statement}
 use Rattle.client.proofs.copies.drop_each.Tie as tie
 
-abbrev invariant_loop : tie.invariant-loop
+abbrev invariant_loop : tie.invariant-loop-i
 invariant_loop part₀ used n i₀ part i = (i ≤ n) × (n ≡ get_or used 0 0) × (n ≤ 97) × (length part ≡ length part₀) × Did (drop_first used i) part₀ part
 
-abbrev decreases_loop : tie.decreases-loop
+abbrev decreases_loop : tie.decreases-loop-i
 decreases_loop part₀ used n i₀ part i = n - i
 
 pub drop_each_spec : {M : Type 1} → statement M

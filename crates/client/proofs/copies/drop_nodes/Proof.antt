@@ -11,10 +11,10 @@ use borrow.Author.Rules.{rules}
 use Rattle.client.proofs.copies.drop_nodes.Statement.{statement}
 use Rattle.client.proofs.copies.drop_nodes.Tie as tie
 
-abbrev invariant_loop : tie.invariant-loop
+abbrev invariant_loop : tie.invariant-loop-i
 invariant_loop part₀ i₀ part i = (i ≤ 64) × (length part ≡ length part₀) × Did (sweep client_words empty_place i) part₀ part
 
-abbrev decreases_loop : tie.decreases-loop
+abbrev decreases_loop : tie.decreases-loop-i
 decreases_loop part₀ i₀ part i = 64 - i
 
 pub drop_nodes_spec : {M : Type 1} → statement M

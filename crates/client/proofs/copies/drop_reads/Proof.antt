@@ -14,10 +14,10 @@ use borrow.Author.Rules.{rules}
 use Rattle.client.proofs.copies.drop_reads.Statement.{statement}
 use Rattle.client.proofs.copies.drop_reads.Tie as tie
 
-abbrev invariant_loop : tie.invariant-loop
+abbrev invariant_loop : tie.invariant-loop-i
 invariant_loop part₀ n i₀ part i = (i ≤ n) × (n ≤ 96) × (n ≡ count (held part₀) Reads) × (length part ≡ length part₀) × Did (sweep client_words drop_read i) part₀ part
 
-abbrev decreases_loop : tie.decreases-loop
+abbrev decreases_loop : tie.decreases-loop-i
 decreases_loop part₀ n i₀ part i = n - i
 
 pub drop_reads_spec : {M : Type 1} → statement M

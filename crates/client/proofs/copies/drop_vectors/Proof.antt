@@ -11,10 +11,10 @@ use borrow.Author.Rules.{rules}
 use Rattle.client.proofs.copies.drop_vectors.Statement.{statement}
 use Rattle.client.proofs.copies.drop_vectors.Tie as tie
 
-abbrev invariant_loop : tie.invariant-loop
+abbrev invariant_loop : tie.invariant-loop-s
 invariant_loop part₀ s₀ part s = (s ≤ 8) × (length part ≡ length part₀) × Did (sweep client_words drop_vector s) part₀ part
 
-abbrev decreases_loop : tie.decreases-loop
+abbrev decreases_loop : tie.decreases-loop-s
 decreases_loop part₀ s₀ part s = 8 - s
 
 pub drop_vectors_spec : {M : Type 1} → statement M

@@ -13,10 +13,10 @@ use borrow.Author.Rules.{rules}
 use Rattle.client.proofs.enter.enter_used.Statement.{statement}
 use Rattle.client.proofs.enter.enter_used.Tie as tie
 
-abbrev invariant_loop : tie.invariant-loop
+abbrev invariant_loop : tie.invariant-loop-i
 invariant_loop part₀ used n i₀ part i = (i ≤ n) × (n ≡ get_or used 0 0) × (length part ≡ length part₀) × Did (sweep client_words (enter_nth used) i) part₀ part
 
-abbrev decreases_loop : tie.decreases-loop
+abbrev decreases_loop : tie.decreases-loop-i
 decreases_loop part₀ used n i₀ part i = n - i
 
 pub enter_used_spec : {M : Type 1} → statement M

@@ -11,10 +11,10 @@ use borrow.Author.Rules.{rules}
 use Rattle.client.proofs.enter.enter_writes.Statement.{statement}
 use Rattle.client.proofs.enter.enter_writes.Tie as tie
 
-abbrev invariant_loop : tie.invariant-loop
+abbrev invariant_loop : tie.invariant-loop-i
 invariant_loop part₀ own n i₀ part i = (i ≤ n) × (n ≤ 20) × (n ≡ get_or own 0 0) × (length part ≡ length part₀) × Did (sweep client_words (write_nth own) i) part₀ part
 
-abbrev decreases_loop : tie.decreases-loop
+abbrev decreases_loop : tie.decreases-loop-i
 decreases_loop part₀ own n i₀ part i = n - i
 
 pub enter_writes_spec : {M : Type 1} → statement M

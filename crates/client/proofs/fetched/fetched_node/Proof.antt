@@ -10,23 +10,23 @@ use Rattle.client.proofs.enter.enter_read.Reads as enter_read_reads
 use Rattle.client.proofs.fetched.copy_inner.Reads as copy_inner_reads
 
 -- src/fetched.rt:40:22
-add_enter_read : tie.Need-overflow-add-enter-read
+add_enter_read : tie.Need-overflow_add-name
 add_enter_read c = search rules
 
 -- src/fetched.rt:40:5
-enter_read_requires : tie.Need-enter-read-requires
+enter_read_requires : tie.Need-enter_read-requires
 enter_read_requires c κs = search rules
 
 -- src/fetched.rt:41:22
-add_copy_inner : tie.Need-overflow-add-copy-inner
+add_copy_inner : tie.Need-overflow_add-name-2
 add_copy_inner c = search rules
 
 -- src/fetched.rt:41:5
-copy_inner_requires : tie.Need-copy-inner-requires
+copy_inner_requires : tie.Need-copy_inner-requires
 copy_inner_requires c κs = search rules
 
 -- src/fetched.rt:36:1
-same_length : tie.Need-same-length
+same_length : tie.Need-shape_of-part
 same_length c = search rules
 
 -- src/fetched.rt:36:1

@@ -9,15 +9,15 @@ use Rattle.client.proofs.fetched.mark_fetched.Reads as mark_fetched_reads
 use Rattle.client.proofs.part.set_vector.Reads as set_vector_reads
 
 -- src/fetched.rt:56:5
-set_vector_requires : tie.Need-set-vector-requires
+set_vector_requires : tie.Need-set_vector-requires
 set_vector_requires c κs = search rules
 
 -- src/fetched.rt:57:5
-mark_fetched_requires : tie.Need-mark-fetched-requires
+mark_fetched_requires : tie.Need-mark_fetched-requires
 mark_fetched_requires c κs = search rules
 
 -- src/fetched.rt:52:1
-same_length : tie.Need-same-length
+same_length : tie.Need-shape_of-part
 same_length c = search rules
 
 -- src/fetched.rt:52:1

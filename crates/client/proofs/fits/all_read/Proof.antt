@@ -9,10 +9,10 @@ use Rattle.client.specs.Laws.Fits.{fit_exits}
 use Rattle.client.proofs.fits.all_read.Statement.{statement}
 use Rattle.client.proofs.fits.all_read.Tie as tie
 
-abbrev invariant_loop : tie.invariant-loop
+abbrev invariant_loop : tie.invariant-loop-i
 invariant_loop part n i₀ i = (n ≤ 48) × (n ≡ count (held part) Writes) × Sofar (is_read (held part)) n i
 
-abbrev decreases_loop : tie.decreases-loop
+abbrev decreases_loop : tie.decreases-loop-i
 decreases_loop part n i₀ i = n - i
 
 pub all_read_spec : {M : Type 1} → statement M

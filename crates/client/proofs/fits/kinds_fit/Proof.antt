@@ -9,10 +9,10 @@ use Rattle.client.specs.Laws.Fits.{fit_exits}
 use Rattle.client.proofs.fits.kinds_fit.Statement.{statement}
 use Rattle.client.proofs.fits.kinds_fit.Tie as tie
 
-abbrev invariant_loop : tie.invariant-loop
+abbrev invariant_loop : tie.invariant-loop-i
 invariant_loop part set n i₀ i = (n ≤ limit set) × (n ≡ count (held part) set) × Sofar (kind_fits (held part) set) n i
 
-abbrev decreases_loop : tie.decreases-loop
+abbrev decreases_loop : tie.decreases-loop-i
 decreases_loop part set n i₀ i = n - i
 
 pub kinds_fit_spec : {M : Type 1} → statement M

@@ -9,10 +9,10 @@ use borrow.Author.Rules.{rules}
 use Rattle.client.proofs.fits.numbers_fit.Statement.{statement}
 use Rattle.client.proofs.fits.numbers_fit.Tie as tie
 
-abbrev invariant_loop : tie.invariant-loop
+abbrev invariant_loop : tie.invariant-loop-i
 invariant_loop part slots set n i₀ i = (n ≤ limit set) × (n ≡ count (held part) set) × Sofar (number_fits slots (held part) set) n i
 
-abbrev decreases_loop : tie.decreases-loop
+abbrev decreases_loop : tie.decreases-loop-i
 decreases_loop part slots set n i₀ i = n - i
 
 pub numbers_fit_spec : {M : Type 1} → statement M

@@ -8,10 +8,10 @@ use borrow.Author.Rules.{rules}
 use Rattle.client.proofs.fits.renewals_fit.Statement.{statement}
 use Rattle.client.proofs.fits.renewals_fit.Tie as tie
 
-abbrev invariant_loop : tie.invariant-loop
+abbrev invariant_loop : tie.invariant-loop-i
 invariant_loop part slots n i₀ i = (n ≤ 48) × (n ≡ count (held part) Writes) × Sofar (renewal_fits slots (held part)) n i
 
-abbrev decreases_loop : tie.decreases-loop
+abbrev decreases_loop : tie.decreases-loop-i
 decreases_loop part slots n i₀ i = n - i
 
 pub renewals_fit_spec : {M : Type 1} → statement M

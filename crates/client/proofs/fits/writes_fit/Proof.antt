@@ -9,10 +9,10 @@ use borrow.Author.Rules.{rules}
 use Rattle.client.proofs.fits.writes_fit.Statement.{statement}
 use Rattle.client.proofs.fits.writes_fit.Tie as tie
 
-abbrev invariant_loop : tie.invariant-loop
+abbrev invariant_loop : tie.invariant-loop-i
 invariant_loop part slots server n i₀ i = (n ≤ 48) × (n ≡ count (held part) Writes) × Sofar (write_fits slots (held part) server) n i
 
-abbrev decreases_loop : tie.decreases-loop
+abbrev decreases_loop : tie.decreases-loop-i
 decreases_loop part slots server n i₀ i = n - i
 
 pub writes_fit_spec : {M : Type 1} → statement M

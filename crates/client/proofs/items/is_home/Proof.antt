@@ -5,7 +5,7 @@ use borrow.Author.Rules.{rules}
 use Rattle.client.proofs.items.is_home.Statement.{statement}
 use Rattle.client.proofs.items.is_home.Tie as tie
 
-returns : tie.Need-returns
+returns : tie.Need-returns-then-number-eq0
 unfolding at_home
 returns c = search (eq-eqb, rules)
 

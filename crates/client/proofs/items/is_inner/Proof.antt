@@ -4,15 +4,15 @@ use borrow.Author.Rules.{rules}
 use Rattle.client.proofs.items.is_inner.Statement.{statement}
 use Rattle.client.proofs.items.is_inner.Tie as tie
 
-returns : tie.Need-returns
+returns : tie.Need-returns-then-number-eq0
 unfolding inner
 returns c = search (eq-eqb, rules)
 
-returns_2 : tie.Need-returns-2
+returns_2 : tie.Need-returns-then-number-le-LAST_NODE_NUMBER
 unfolding inner
 returns_2 c = search (ne_eqb, le-leb, rules)
 
-returns_3 : tie.Need-returns-3
+returns_3 : tie.Need-returns
 unfolding inner
 returns_3 c = search (ne_eqb, lt-leb, rules)
 

@@ -7,15 +7,15 @@ use Rattle.client.proofs.life.give.Lts as lts
 use Rattle.client.proofs.part.set_fields.Reads as set_fields_reads
 
 -- src/life.rt:28:25
-slice_aggregate_set_fields : tie.Need-slice-aggregate-set-fields
+slice_aggregate_set_fields : tie.Need-slice_bounds-set_fields-end
 slice_aggregate_set_fields c = search rules
 
 -- src/life.rt:28:5
-set_fields_requires : tie.Need-set-fields-requires
+set_fields_requires : tie.Need-set_fields-requires
 set_fields_requires c κs = search rules
 
 -- src/life.rt:23:1
-same_length : tie.Need-same-length
+same_length : tie.Need-shape_of-part
 same_length c = search rules
 
 -- src/life.rt:23:1

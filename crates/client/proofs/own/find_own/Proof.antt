@@ -8,10 +8,10 @@ use borrow.Author.Rules.{rules}
 use Rattle.client.proofs.own.find_own.Statement.{statement}
 use Rattle.client.proofs.own.find_own.Tie as tie
 
-abbrev invariant_loop : tie.invariant-loop
+abbrev invariant_loop : tie.invariant-loop-i
 invariant_loop own number n i₀ i = (n ≤ 20) × (n ≡ get_or own 0 0) × Searched (own_number own) n number i
 
-abbrev decreases_loop : tie.decreases-loop
+abbrev decreases_loop : tie.decreases-loop-i
 decreases_loop own number n i₀ i = n - i
 
 pub find_own_spec : {M : Type 1} → statement M

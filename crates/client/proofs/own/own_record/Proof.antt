@@ -7,15 +7,15 @@ use Rattle.client.proofs.own.own_record.Lts as lts
 use Rattle.client.proofs.record.record_in.Reads as record_in_reads
 
 -- src/own.rt:19:20
-mul_record_in : tie.Need-overflow-mul-record-in
+mul_record_in : tie.Need-overflow_mul-i
 mul_record_in c = search rules
 
 -- src/own.rt:19:20
-add_record_in : tie.Need-overflow-add-record-in
+add_record_in : tie.Need-overflow_add-i
 add_record_in c = search rules
 
 -- src/own.rt:19:5
-record_in_requires : tie.Need-record-in-requires
+record_in_requires : tie.Need-record_in-requires
 record_in_requires c κs = search rules
 
 -- src/own.rt:15:1

@@ -8,10 +8,10 @@ use borrow.Author.Rules.{rules}
 use Rattle.client.proofs.part.find.Statement.{statement}
 use Rattle.client.proofs.part.find.Tie as tie
 
-abbrev invariant_loop : tie.invariant-loop
+abbrev invariant_loop : tie.invariant-loop-i
 invariant_loop part set number n i₀ i = (n ≤ limit set) × (n ≡ count (held part) set) × Searched (number_at (held part) set) n number i
 
-abbrev decreases_loop : tie.decreases-loop
+abbrev decreases_loop : tie.decreases-loop-i
 decreases_loop part set number n i₀ i = n - i
 
 pub find_spec : {M : Type 1} → statement M

@@ -7,11 +7,11 @@ use Rattle.client.proofs.part.vector_at.Reads as reads
 use Rattle.client.proofs.part.vector_at.Lts as lts
 
 -- src/part.rt:57:12
-mul_result : tie.Need-overflow-mul-result
+mul_result : tie.Need-overflow_mul-result
 mul_result c = search rules
 
 -- src/part.rt:57:5
-add_result : tie.Need-overflow-add-result
+add_result : tie.Need-overflow_add-result
 add_result c = search rules
 
 -- src/part.rt:52:1

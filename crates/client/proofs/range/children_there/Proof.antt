@@ -5,10 +5,10 @@ use Rattle.client.specs.Laws.Record.{whole_exits}
 use Rattle.client.proofs.range.children_there.Statement.{statement}
 use Rattle.client.proofs.range.children_there.Tie as tie
 
-abbrev invariant_loop : tie.invariant-loop
+abbrev invariant_loop : tie.invariant-loop-i
 invariant_loop slots children count i₀ i = (count ≤ 15) × ThereYet slots children count i
 
-abbrev decreases_loop : tie.decreases-loop
+abbrev decreases_loop : tie.decreases-loop-i
 decreases_loop slots children count i₀ i = count - i
 
 pub children_there_spec : {M : Type 1} → statement M

@@ -5,11 +5,11 @@ use borrow.Author.Rules.{rules}
 use Rattle.client.proofs.range.fits.Statement.{statement}
 use Rattle.client.proofs.range.fits.Tie as tie
 
-of_node : tie.Need-returns-2
+of_node : tie.Need-returns-then-number-le-LAST_NODE_NUMBER
 unfolding record_in_range
 of_node c = search (eq-eqb, ne_eqb, lt-ltb, le-ltb, le-leb, lt-leb, rules)
 
-of_flag : tie.Need-returns-3
+of_flag : tie.Need-returns
 unfolding record_in_range
 of_flag c = search (eq-eqb, ne_eqb, lt-ltb, le-ltb, lt-leb, rules)
 

@@ -9,7 +9,7 @@ use Rattle.client.proofs.range.single.Reads as reads
 use Rattle.client.proofs.range.single.Lts as lts
 
 -- src/lookup.rt:116:5
-array_write_slots : tie.Need-array-write-slots
+array_write_slots : tie.Need-bounds-slots-0
 array_write_slots c = search rules
 
 -- src/lookup.rt:112:1

@@ -13,10 +13,10 @@ use borrow.Author.Rules.{rules}
 use Rattle.client.proofs.renew.drop_outers.Statement.{statement}
 use Rattle.client.proofs.renew.drop_outers.Tie as tie
 
-abbrev invariant_loop : tie.invariant-loop
+abbrev invariant_loop : tie.invariant-loop-i
 invariant_loop part₀ n i₀ part i = (i ≤ n) × (n ≤ 48) × (n ≡ count (held part₀) Writes) × (length part ≡ length part₀) × Did (sweep client_words drop_outer i) part₀ part
 
-abbrev decreases_loop : tie.decreases-loop
+abbrev decreases_loop : tie.decreases-loop-i
 decreases_loop part₀ n i₀ part i = n - i
 
 pub drop_outers_spec : {M : Type 1} → statement M

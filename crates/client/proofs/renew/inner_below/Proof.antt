@@ -5,10 +5,10 @@ use borrow.Author.Rules.{rules}
 use Rattle.client.proofs.renew.inner_below.Statement.{statement}
 use Rattle.client.proofs.renew.inner_below.Tie as tie
 
-abbrev invariant_loop : tie.invariant-loop
+abbrev invariant_loop : tie.invariant-loop-i
 invariant_loop part number n below₀ i₀ below i = Ranking (held part) number n below i
 
-abbrev decreases_loop : tie.decreases-loop
+abbrev decreases_loop : tie.decreases-loop-i
 decreases_loop part number n below₀ i₀ below i = n - i
 
 pub inner_below_spec : {M : Type 1} → statement M

@@ -10,10 +10,10 @@ use borrow.Author.Rules.{rules}
 use Rattle.client.proofs.renew.ranked.Statement.{statement}
 use Rattle.client.proofs.renew.ranked.Tie as tie
 
-abbrev invariant_loop : tie.invariant-loop
+abbrev invariant_loop : tie.invariant-loop-i
 invariant_loop part k n i₀ i = (n ≤ 48) × (n ≡ count (held part) Writes) × Searched (rank (held part)) n k i
 
-abbrev decreases_loop : tie.decreases-loop
+abbrev decreases_loop : tie.decreases-loop-i
 decreases_loop part k n i₀ i = n - i
 
 pub ranked_spec : {M : Type 1} → statement M

@@ -13,10 +13,10 @@ use borrow.Author.Rules.{rules}
 use Rattle.client.proofs.renew.renew_inner.Statement.{statement}
 use Rattle.client.proofs.renew.renew_inner.Tie as tie
 
-abbrev invariant_loop : tie.invariant-loop
+abbrev invariant_loop : tie.invariant-loop-i
 invariant_loop part₀ n i₀ part i = (i ≤ n) × (n ≤ 48) × (n ≡ count (held part₀) Writes) × (length part ≡ length part₀) × Did (sweep client_words renew_nth i) part₀ part
 
-abbrev decreases_loop : tie.decreases-loop
+abbrev decreases_loop : tie.decreases-loop-i
 decreases_loop part₀ n i₀ part i = n - i
 
 pub renew_inner_spec : {M : Type 1} → statement M

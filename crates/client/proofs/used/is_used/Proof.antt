@@ -4,10 +4,10 @@ use borrow.Author.Rules.{rules}
 use Rattle.client.proofs.used.is_used.Statement.{statement}
 use Rattle.client.proofs.used.is_used.Tie as tie
 
-abbrev invariant_loop : tie.invariant-loop
+abbrev invariant_loop : tie.invariant-loop-i
 invariant_loop used number n i₀ i = Unused used n number i
 
-abbrev decreases_loop : tie.decreases-loop
+abbrev decreases_loop : tie.decreases-loop-i
 decreases_loop used number n i₀ i = n - i
 
 pub is_used_spec : {M : Type 1} → statement M

@@ -8,31 +8,31 @@ use Rattle.client.proofs.used.push_used.Reads as reads
 use Rattle.client.proofs.used.push_used.Lts as lts
 
 -- src/used.rt:28:13
-slice_read_n : tie.Need-slice-read-n
+slice_read_n : tie.Need-bounds-used-0
 slice_read_n c = search rules
 
 -- src/used.rt:29:10
-add_used : tie.Need-overflow-add-used
+add_used : tie.Need-overflow_add-used
 add_used c = search rules
 
 -- src/used.rt:29:5
-mul_used : tie.Need-overflow-mul-used
+mul_used : tie.Need-offset_bounds-used-n
 mul_used c = search rules
 
 -- src/used.rt:29:5
-slice_write_used : tie.Need-slice-write-used
+slice_write_used : tie.Need-bounds-used-n
 slice_write_used c = search rules
 
 -- src/used.rt:30:15
-add_used_2 : tie.Need-overflow-add-used-2
+add_used_2 : tie.Need-overflow_add-used-2
 add_used_2 c = search rules
 
 -- src/used.rt:30:5
-slice_write_used_2 : tie.Need-slice-write-used-2
+slice_write_used_2 : tie.Need-bounds-used-0-2
 slice_write_used_2 c = simp length-set (omega arith)
 
 -- src/used.rt:24:1
-same_length : tie.Need-same-length
+same_length : tie.Need-shape_of-used
 same_length c = search rules
 
 -- src/used.rt:24:1

@@ -10,10 +10,10 @@ use Rattle.client.specs.Laws.Fits.{fit_exits}
 use Rattle.client.proofs.vector.flags_fit.Statement.{statement}
 use Rattle.client.proofs.vector.flags_fit.Tie as tie
 
-abbrev invariant_loop : tie.invariant-loop
+abbrev invariant_loop : tie.invariant-loop-i
 invariant_loop part s n i₀ i = (n ≤ 48) × (n ≡ count (held part) Writes) × Sofar (flag_fits (held part) s) n i
 
-abbrev decreases_loop : tie.decreases-loop
+abbrev decreases_loop : tie.decreases-loop-i
 decreases_loop part s n i₀ i = n - i
 
 pub flags_fit_spec : {M : Type 1} → statement M

@@ -5,10 +5,10 @@ use borrow.Author.Rules.{rules}
 use Rattle.client.proofs.vector.seen_words.Statement.{statement}
 use Rattle.client.proofs.vector.seen_words.Tie as tie
 
-abbrev invariant_loop : tie.invariant-loop
+abbrev invariant_loop : tie.invariant-loop-i
 invariant_loop part s n words₀ i₀ words i = Counting (held part) s n words i
 
-abbrev decreases_loop : tie.decreases-loop
+abbrev decreases_loop : tie.decreases-loop-i
 decreases_loop part s n words₀ i₀ words i = n - i
 
 pub seen_words_spec : {M : Type 1} → statement M

@@ -64,4 +64,3 @@ returns-in-Table c = search (indices, rules)
 
 pub returns-in-NodeLock : goal.returns-in-NodeLock
 returns-in-NodeLock c = search (indices, rules)
-
