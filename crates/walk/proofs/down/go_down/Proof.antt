@@ -4,11 +4,11 @@ use Rattle.walk.specs.Laws.Down.{Passing, pass_exits}
 use Rattle.walk.proofs.down.go_down.Statement.{statement}
 use Rattle.walk.proofs.down.go_down.Tie as tie
 
-abbrev invariant_loop : tie.invariant-loop
+abbrev invariant_loop : tie.invariant-loop-level
 invariant_loop part slots used₀ key target root first top path₀ name₀ place₀ level₀ used path name place level =
     Passing part slots (held part) used₀ key target root first top path name place level used
 
-abbrev decreases_loop : tie.decreases-loop
+abbrev decreases_loop : tie.decreases-loop-level
 decreases_loop part slots used₀ key target root first top path₀ name₀ place₀ level₀ used path name place level = level
 
 pub go_down_spec : {M : Type 1} → statement M

@@ -9,11 +9,11 @@ use Rattle.walk.specs.Laws.Down.{Reaching, reach_exits}
 use Rattle.walk.proofs.down.reach.Statement.{statement}
 use Rattle.walk.proofs.down.reach.Tie as tie
 
-abbrev invariant_loop : tie.invariant-loop
+abbrev invariant_loop : tie.invariant-loop-level
 invariant_loop part slots used₀ key first place₀ level₀ used place level =
     Reaching slots (held part) used₀ key (node_at (view part) first) (node_at (view part) place) level used × InPart place × Noted (held part) used × (length used ≡ length used₀)
 
-abbrev decreases_loop : tie.decreases-loop
+abbrev decreases_loop : tie.decreases-loop-level
 decreases_loop part slots used₀ key first place₀ level₀ used place level = level
 
 pub reach_spec : {M : Type 1} → statement M

@@ -4,10 +4,10 @@ use Rattle.walk.specs.Laws.Down.{TakenOut, taken_exits}
 use Rattle.walk.proofs.down.turns.Statement.{statement}
 use Rattle.walk.proofs.down.turns.Tie as tie
 
-abbrev invariant_loop : tie.invariant-loop
+abbrev invariant_loop : tie.invariant-loop-i
 invariant_loop part path out₀ i₀ out i = TakenOut part path out i
 
-abbrev decreases_loop : tie.decreases-loop
+abbrev decreases_loop : tie.decreases-loop-i
 decreases_loop part path out₀ i₀ out i = 5 - i
 
 pub turns_spec : {M : Type 1} → statement M

@@ -4,10 +4,10 @@ use Rattle.walk.specs.Laws.Found.{Gathers, gather_exits}
 use Rattle.walk.proofs.found.gather.Statement.{statement}
 use Rattle.walk.proofs.found.gather.Tie as tie
 
-abbrev invariant_loop : tie.invariant-loop
+abbrev invariant_loop : tie.invariant-loop-j
 invariant_loop part leaf w found₀ sought start count many j₀ found j = Gathers part leaf w found₀ start count many found j
 
-abbrev decreases_loop : tie.decreases-loop
+abbrev decreases_loop : tie.decreases-loop-j
 decreases_loop part leaf w found₀ sought start count many j₀ found j = many - j
 
 pub gather_spec : {M : Type 1} → statement M

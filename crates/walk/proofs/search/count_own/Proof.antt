@@ -3,10 +3,10 @@ use Rattle.walk.specs.Laws.Counted.{Counting, counting_exits}
 use Rattle.walk.proofs.search.count_own.Statement.{statement}
 use Rattle.walk.proofs.search.count_own.Tie as tie
 
-abbrev invariant_loop : tie.invariant-loop
+abbrev invariant_loop : tie.invariant-loop-i
 invariant_loop own s words₀ i₀ words i = Counting own s words₀ words i
 
-abbrev decreases_loop : tie.decreases-loop
+abbrev decreases_loop : tie.decreases-loop-i
 decreases_loop own s words₀ i₀ words i = i
 
 pub count_own_spec : {M : Type 1} → statement M

@@ -5,10 +5,10 @@ use Rattle.walk.specs.Laws.Search.{Seeking, seek_exits}
 use Rattle.walk.proofs.search.search.Statement.{statement}
 use Rattle.walk.proofs.search.search.Tie as tie
 
-abbrev invariant_loop : tie.invariant-loop
+abbrev invariant_loop : tie.invariant-loop-i
 invariant_loop part slots own used₀ states home n slot i₀ used i = Seeking slots (held part) own used₀ states home n slot i used
 
-abbrev decreases_loop : tie.decreases-loop
+abbrev decreases_loop : tie.decreases-loop-i
 decreases_loop part slots own used₀ states home n slot i₀ used i = n - i
 
 pub search_spec : {M : Type 1} → statement M

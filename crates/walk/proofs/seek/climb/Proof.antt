@@ -5,10 +5,10 @@ use borrow.Author.Rules.{rules}
 use Rattle.walk.proofs.seek.climb.Statement.{statement}
 use Rattle.walk.proofs.seek.climb.Tie as tie
 
-abbrev invariant_loop : tie.invariant-loop
+abbrev invariant_loop : tie.invariant-loop-l
 invariant_loop part right top level path l₀ l = Climbing right top (turns_in part path) level l
 
-abbrev decreases_loop : tie.decreases-loop
+abbrev decreases_loop : tie.decreases-loop-l
 decreases_loop part right top level path l₀ l = top - l
 
 pub climb_spec : {M : Type 1} → statement M

@@ -9,12 +9,12 @@ use Rattle.walk.specs.Laws.Seek.{Seeking, seek_exits}
 use Rattle.walk.proofs.seek.seek.Statement.{statement}
 use Rattle.walk.proofs.seek.seek.Tie as tie
 
-abbrev invariant_loop : tie.invariant-loop
+abbrev invariant_loop : tie.invariant-loop-w
 invariant_loop part slots used₀ w found₀ top from child path₀ level₀ name₀ used found path level name =
     Seeking slots (held part) used₀ w top (turns_in part path₀) level₀ name₀ (pairs_in found₀) (turns_in part path) level name used (pairs_in found)
     × PathInPart path × Roomy w.wanted found × (length found ≡ length found₀)
 
-abbrev decreases_loop : tie.decreases-loop
+abbrev decreases_loop : tie.decreases-loop-w
 decreases_loop part slots used₀ w found₀ top from child path₀ level₀ name₀ used found path level name = weight (to_right w.sought) top (turns_in part path) level
 
 pub seek_spec : {M : Type 1} → statement M
