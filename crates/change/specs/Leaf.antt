@@ -4,7 +4,7 @@ use Rattle.operations.specs.Path.{TreePlan}
 use Rattle.change.specs.declared.leaf.Changed.{Changed}
 use Rattle.walk.specs.declared.walk.Stop.{Stop}
 use Rattle.client.specs.Sets.{held}
-use Rattle.client.specs.Lent.{LentList, used_in}
+use Rattle.client.specs.Lent.{LentList, LentMut, used_in}
 use Rattle.walk.specs.Walk.{goes, walked, carry}
 use Rattle.walk.specs.Ask.{Noted}
 use Rattle.walk.specs.Down.{turns_in, PathInPart}
@@ -26,7 +26,7 @@ pub record Changes (slots : ℕ) (b u : List ℕ) (p : TreePlan) (c : Changed) (
   pub noted : Noted (held b) u'
 
 -- over what the walk is lent
-abbrev pub Makes : ℕ → LentList → LentList → TreePlan → Changed → Type 0
+abbrev pub Makes : ℕ → LentList → LentMut → TreePlan → Changed → Type 0
 Makes slots part used p c = Changes slots part.entry.now used.entry.now p c used.exit.now
 
 -- from there it is carried up, whatever plan it is
@@ -34,6 +34,6 @@ pub record Carries (slots : ℕ) (b x u : List ℕ) (c : Changed) (s : Stop) (x'
   pub operated : (p : TreePlan) (u₀ : List ℕ) → Changes slots b u₀ p c u → Operated slots (held b) x u₀ p s x' u'
 
 -- over what the walk is lent
-abbrev pub CarriesUp : ℕ → LentList → LentList → LentList → Changed → Stop → Type 0
+abbrev pub CarriesUp : ℕ → LentList → LentMut → LentMut → Changed → Stop → Type 0
 CarriesUp slots part own used c s =
     Carries slots part.entry.now own.entry.now used.entry.now c s own.exit.now used.exit.now

@@ -13,7 +13,7 @@ use Rattle.walk.specs.declared.walk.Stop.{Stop}
 use Rattle.client.specs.Layout.{ClientWord}
 use Rattle.client.specs.Record.{value_of}
 use Rattle.client.specs.Sets.{held}
-use Rattle.client.specs.Lent.{LentList, used_in}
+use Rattle.client.specs.Lent.{LentList, LentMut, used_in}
 use Rattle.walk.specs.Walk.{walked}
 use Rattle.walk.specs.Lookup.{ended}
 use Rattle.walk.specs.Ask.{Noted}
@@ -40,5 +40,5 @@ pub record Settled (m : ClientWord → ℕ) (x u : List ℕ) (c : ℕ) (n : Wide
   pub noted : Noted m u'
 
 -- over what the walk is lent
-abbrev pub Settles : LentList → LentList → LentList → ℕ → Wide → ℕ → ℕ → Stop → Type 0
+abbrev pub Settles : LentList → LentMut → LentMut → ℕ → Wide → ℕ → ℕ → Stop → Type 0
 Settles part own used c n a b s = Settled (held part.entry.now) own.entry.now used.entry.now c n a b s own.exit.now used.exit.now

@@ -6,7 +6,7 @@ use Rattle.operations.specs.Path.{TreePlan}
 use Rattle.walk.specs.declared.walk.Stop.{Stop}
 use Rattle.client.specs.Layout.{ClientWord}
 use Rattle.client.specs.Record.{object_in_store}
-use Rattle.client.specs.Lent.{LentList, Entry, used_in}
+use Rattle.client.specs.Lent.{LentList, LentMut, Entry, used_in}
 use Rattle.client.specs.Answered.{entered}
 use Rattle.walk.specs.Walk.{walked}
 use Rattle.walk.specs.Ask.{OwnKept, HoldsWrites, write_of, Noted, over_lent}
@@ -22,7 +22,7 @@ pub record Operated (slots : ℕ) (m : ClientWord → ℕ) (x u : List ℕ) (p :
   pub noted : Noted m u'
 
 -- as a contract promises it, over what the walk is lent
-abbrev pub Operates : ℕ → LentList → LentList → LentList → TreePlan → Stop → Type 0
+abbrev pub Operates : ℕ → LentList → LentMut → LentMut → TreePlan → Stop → Type 0
 Operates slots part own used p s = over_lent Operated slots part own used p s own.exit.now used.exit.now
 
 -- the same without the list: with an answer l are the entries of the operation's writes, all of objects of the store

@@ -12,7 +12,7 @@ use Rattle.operations.specs.Migrate.{moved, move_at, to_level}
 use Rattle.walk.specs.declared.walk.Stop.{Stop}
 use Rattle.client.specs.Layout.{ClientWord}
 use Rattle.client.specs.Record.{in_store, value_of}
-use Rattle.client.specs.Lent.{LentList, used_in}
+use Rattle.client.specs.Lent.{LentList, LentMut, used_in}
 use Rattle.walk.specs.Entries.{opens}
 use Rattle.walk.specs.Walk.{goes, walked, carry}
 use Rattle.walk.specs.Ask.{SmallNode, Noted, over_lent, lent_node}
@@ -55,6 +55,6 @@ pub record MovedAt (slots : ℕ) (m : ClientWord → ℕ) (x u : List ℕ) (key 
   pub operated : (fs : List Branch) (lo : ℕ) → Operated slots m x u (move_at slots nm s (value_of (node nm) n) key p.level fs up (entries_of p lo)) st x' u'
 
 -- as a contract promises it, of the parent that stands at a place of the lent part
-abbrev pub MovesAt : ℕ → LentList → LentList → LentList → ℕ → ℕ → ℕ → Node → ℕ → ℕ → Stop → Type 0
+abbrev pub MovesAt : ℕ → LentList → LentMut → LentMut → ℕ → ℕ → ℕ → Node → ℕ → ℕ → Stop → Type 0
 MovesAt slots part own used key nm s n up place st =
     over_lent MovedAt slots part own used key nm s n up (lent_node part place) st own.exit.now used.exit.now

@@ -16,7 +16,7 @@ use Rattle.walk.specs.declared.down.Turn.{Turn}
 use Rattle.walk.specs.declared.walk.Stop.{Stop}
 use Rattle.client.specs.Layout.{ClientWord}
 use Rattle.client.specs.Record.{in_store, value_of}
-use Rattle.client.specs.Lent.{LentList, used_in}
+use Rattle.client.specs.Lent.{LentList, LentMut, used_in}
 use Rattle.walk.specs.Walk.{Told, goes, walked}
 use Rattle.walk.specs.Lookup.{ended}
 use Rattle.walk.specs.Walk.{stands}
@@ -62,7 +62,7 @@ pub record Raised (slots : ℕ) (m : ClientWord → ℕ) (x u : List ℕ) (l : �
   pub noted : Noted m u'
 
 -- As a contract promises it, over what the walk is lent.
-abbrev pub Raises : ℕ → LentList → LentList → LentList → ℕ → Bool → (ℕ → List Branch → Writes → Go → TreePlan) → Risen → Type 0
+abbrev pub Raises : ℕ → LentList → LentMut → LentMut → ℕ → Bool → (ℕ → List Branch → Writes → Go → TreePlan) → Risen → Type 0
 Raises slots part own used l root plan r = over_lent Raised slots part own used l root plan r own.exit.now used.exit.now
 
 -- The last level. `plan` is what it does after the writes w.
@@ -74,7 +74,7 @@ pub record Closed (slots : ℕ) (m : ClientWord → ℕ) (x u : List ℕ) (plan 
   pub noted : Noted m u'
 
 -- As a contract promises it, over what the walk is lent.
-abbrev pub Closes : ℕ → LentList → LentList → LentList → (Writes → TreePlan) → Stop → Type 0
+abbrev pub Closes : ℕ → LentList → LentMut → LentMut → (Writes → TreePlan) → Stop → Type 0
 Closes slots part own used plan s = over_lent Closed slots part own used plan s own.exit.now used.exit.now
 
 -- ---- the node of the name c and the level l whose parent is b, with the entries es lo where it holds keys from lo on

@@ -2,7 +2,7 @@
 use Rattle.std.specs.Prelude.{◌≡◌, Bool, true, false, cond, List, [], ℕ, ◌≤◌, eqb, length, get_or}
 use Rattle.operations.specs.Object.{Ans, Writes}
 use Rattle.client.specs.Layout.{ClientWord}
-use Rattle.client.specs.Lent.{LentList, Entry, OwnFits, own_list}
+use Rattle.client.specs.Lent.{LentMut, Entry, OwnFits, own_list}
 use Rattle.client.specs.Answered.{entered}
 use Rattle.client.specs.Work.{answers, worked}
 use Rattle.walk.specs.declared.operation.Update.{Update}
@@ -45,5 +45,5 @@ pub record Works (slots : ℕ) (m : ClientWord → ℕ) (s : Stop) (x₀ u₀ x 
   pub own_same_length : length x ≡ length x₀
 
 -- as a contract promises it of the lists that are lent
-abbrev pub WorksOn : ℕ → (ClientWord → ℕ) → Stop → LentList → LentList → Type 0
+abbrev pub WorksOn : ℕ → (ClientWord → ℕ) → Stop → LentMut → LentMut → Type 0
 WorksOn slots m s own used = Works slots m s own.entry.now used.entry.now own.exit.now used.exit.now

@@ -1,7 +1,7 @@
 -- The lent lists of a work step: the operation's own writes, and the copies that it uses. Nothing of them is stored.
 use Rattle.std.specs.Prelude.{List, [], ◌∷◌, ◌++◌, ℕ, zero, suc, ◌+◌, ◌*◌, ◌≤◌, ◌<◌, length, get_or, take, drop, set}
 use Rattle.std.proofs.Math.Seq.{paste}
-use Rattle.std.specs.Borrow.{Bor}
+use Rattle.std.specs.Borrow.{Bor, MutBor}
 use denote.Triple.Both.{Both}
 use Rattle.nodes.specs.declared.node.Node.{Node}
 use Rattle.nodes.specs.declared.found.Found.{Found}
@@ -12,9 +12,13 @@ use Rattle.client.specs.Bounds.{end_of_numbers, used_most, used_room, own_most, 
 use Rattle.client.specs.Layout.{limit, item_words}
 use Rattle.client.specs.declared.part.Set.TheVariants.{Reads}
 
--- a lent list as a contract names it: as it is lent, and as it comes back
+-- a lent list as a contract names it: as it is lent, and as it comes back; one that is only read
 abbrev pub LentList : Type 0
 LentList = Both (Bor (List ℕ)) (Bor (List ℕ))
+
+-- and one that may be written
+abbrev pub LentMut : Type 0
+LentMut = Both (MutBor (List ℕ)) (MutBor (List ℕ))
 
 -- ---- own writes: their count, then items of 34 words, an object's number and its record; each object once
 pub record OwnFits (w : List ℕ) : Type 0 where

@@ -4,7 +4,7 @@ use Rattle.std.proofs.lemmas.List.Edits.{sets}
 use Rattle.memory.specs.Word.{view}
 use Rattle.layout.specs.Space.{Put, stored}
 use Rattle.layout.specs.Part.{over}
-use Rattle.client.specs.Lent.{LentList}
+use Rattle.client.specs.Lent.{LentMut}
 use Rattle.steps.specs.declared.sizes.Sizes.{Sizes}
 use Rattle.engine.specs.declared.open.Opening.{Opening}
 use Rattle.engine.specs.declared.open.Opening.TheVariants.{Accepted, Refused}
@@ -40,5 +40,5 @@ unfoldable pub words_opened : ℕ → Sizes → List ℕ → List ℕ
 words_opened bytes z w = cond (eqb (open_refusal bytes z) 0) (new_words z w) w
 
 -- over the lent memory
-abbrev pub opened_in : LentList → Sizes → List ℕ
+abbrev pub opened_in : LentMut → Sizes → List ℕ
 opened_in mem z = words_opened (length mem.entry.now) z (view mem.entry.now)

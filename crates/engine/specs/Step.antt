@@ -14,7 +14,7 @@ use Rattle.steps.specs.Taken.{Taken, came_to}
 use Rattle.steps.specs.Steps.{Did, refuse, by_kind, short_output, step}
 use Rattle.kinds.specs.Parts.{head_sizes, stored_in, StoreIn}
 use Rattle.kinds.specs.Judge.{of_client}
-use Rattle.client.specs.Lent.{LentList}
+use Rattle.client.specs.Lent.{LentMut}
 
 -- ---- the rule of a kind
 unfoldable pub rule_of : Sizes → ℕ → Step → Kind → (Address → ℕ) → Did
@@ -49,13 +49,13 @@ module _ (bytes : ℕ) (w : List ℕ) (room : ℕ) (k : Step) where
   output_after out = with_pairs result_of.pairs out
 
 -- ---- over the lent memory and output: a definition of their lengths and the memory's words
-abbrev pub lent : {A : Type 0} → (ℕ → List ℕ → ℕ → A) → LentList → LentList → A
+abbrev pub lent : {A : Type 0} → (ℕ → List ℕ → ℕ → A) → LentMut → LentMut → A
 lent f mem out = f (length mem.entry.now) (view mem.entry.now) (length out.entry.now)
 
 -- the output as the step leaves it
-abbrev pub lent_output : LentList → LentList → Step → List ℕ
+abbrev pub lent_output : LentMut → LentMut → Step → List ℕ
 lent_output mem out k = lent output_after mem out k (view out.entry.now)
 
 -- the step as it was taken: with its outcome, and the output that it was lent
-abbrev pub as_taken : Step → LentList → Outcome → Taken
+abbrev pub as_taken : Step → LentMut → Outcome → Taken
 as_taken k out o = came_to k (length out.entry.now) (view out.entry.now) o (view out.exit.now)

@@ -1,7 +1,7 @@
 -- How a walk that stopped ends the work step: its outcome, and what enters the sets with an answer.
 use Rattle.std.specs.Prelude.{List, [], ℕ, ◌*◌, ◌≤◌, ◌<◌, ◌≡◌, true, length}
 use Rattle.client.specs.Part.{PartStep, ◌then◌, put_word}
-use Rattle.client.specs.Lent.{LentList, Entry, used_in}
+use Rattle.client.specs.Lent.{LentList, LentMut, Entry, used_in}
 use Rattle.client.specs.Enter.{enter_entries}
 use Rattle.client.specs.Answered.{used_enter}
 use Rattle.walk.specs.declared.walk.Stop.{Stop}
@@ -28,7 +28,7 @@ unfoldable pub entering : List ℕ → List Entry → PartStep
 entering us l = used_enter us then (enter_entries l then put_word op_number 0)
 
 -- over the lent memory and the list of copies in use: those, and the entries, enter the client's part
-abbrev pub EntersAll : Sizes → ℕ → LentList → List Entry → LentList → Type 0
+abbrev pub EntersAll : Sizes → ℕ → LentList → List Entry → LentMut → Type 0
 EntersAll z c used l mem = InClient z c (entering (used_in used.entry.now) l) mem.entry.now mem.exit.now
 
 -- the outcome of a walk that stopped with an answer
@@ -70,7 +70,7 @@ abbrev pub Leaves : Sizes → ((Address → ℕ) → Did) → List ℕ → List 
 Leaves z d b out out' = view out' ≡ with_pairs (d (stored_in z (view b))).pairs (view out)
 
 -- the same of the lent memory and output
-abbrev pub LeavesLent : Sizes → ((Address → ℕ) → Did) → LentList → LentList → Type 0
+abbrev pub LeavesLent : Sizes → ((Address → ℕ) → Did) → LentMut → LentMut → Type 0
 LeavesLent z d mem out = Leaves z d mem.entry.now out.entry.now out.exit.now
 
 -- the work step has no pairs to write

@@ -1,8 +1,8 @@
 -- What programs in C and Rust pass and get: sizes, steps, lengths and outcomes as numbers.
 use Rattle.std.specs.Prelude.{List, [], ◌∷◌, ℕ}
-use Rattle.std.specs.Borrow.{Bor}
+use Rattle.std.specs.Borrow.{MutBor}
 use denote.Triple.Both.{Both}
-use Rattle.client.specs.Lent.{LentList}
+use Rattle.client.specs.Lent.{LentMut}
 use Rattle.steps.specs.declared.sizes.Sizes.{Sizes}
 use Rattle.steps.specs.declared.step.Step.{Step}
 use Rattle.steps.specs.declared.outcome.Line.{Line}
@@ -26,13 +26,13 @@ bytes_of (Bytes n) = n
 bytes_of (Refused _) = 0
 
 -- the three numbers of a step's outcome, on the lent memory and with the lent output
-abbrev pub numbers_of : LentList → LentList → Step → Line
+abbrev pub numbers_of : LentMut → LentMut → Step → Line
 numbers_of mem out k = line (lent outcome_of mem out k)
 
 -- a lent number as a contract names it
 abbrev pub LentNumber : Type 0
-LentNumber = Both (Bor ℕ) (Bor ℕ)
+LentNumber = Both (MutBor ℕ) (MutBor ℕ)
 
 -- one step that was taken, with the three numbers of its outcome, two of them behind references, and the output that it was lent
-abbrev pub one_taken : Step → LentList → ℕ → LentNumber → LentNumber → List Taken
+abbrev pub one_taken : Step → LentMut → ℕ → LentNumber → LentNumber → List Taken
 one_taken k out n a b = as_taken k out (outcome_from n a.exit.now b.exit.now) ∷ []

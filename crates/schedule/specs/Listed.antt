@@ -4,7 +4,7 @@ use Rattle.std.specs.Prelude.{◌≡◌, cond, List, [], ◌∷◌, ℕ, suc, �
 use Rattle.std.specs.Borrow.{Bor}
 use denote.Triple.Both.{Both}
 use Rattle.memory.specs.Word.{view}
-use Rattle.client.specs.Lent.{LentList}
+use Rattle.client.specs.Lent.{LentMut}
 use Rattle.steps.specs.declared.step.Step.{Step}
 use Rattle.steps.specs.declared.outcome.Line.{Line}
 use Rattle.steps.specs.Outcome.{line}
@@ -44,7 +44,7 @@ TurnTaken b out outcomes i k r b' out' outcomes' =
     × (view out' ≡ output_after (length b) (view b) (length out) k (view out)) × (outcomes' ≡ written_down outcomes i l)
 
 -- over the lent memory, output and list of outcomes
-abbrev pub Turns : LentList → LentList → LentList → ℕ → Step → ℕ → Type 0
+abbrev pub Turns : LentMut → LentMut → LentMut → ℕ → Step → ℕ → Type 0
 Turns mem out outcomes i k r =
     TurnTaken mem.entry.now out.entry.now outcomes.entry.now i k r mem.exit.now out.exit.now outcomes.exit.now
 
@@ -80,6 +80,6 @@ abbrev pub LentSteps : Type 0
 LentSteps = Both (Bor (List Step)) (Bor (List Step))
 
 -- over what is lent
-abbrev pub TakesAll : LentList → LentList → LentList → LentSteps → Type 0
+abbrev pub TakesAll : LentMut → LentMut → LentMut → LentSteps → Type 0
 TakesAll mem out outcomes steps =
     AllTaken mem.entry.now out.entry.now outcomes.entry.now steps.entry.now mem.exit.now out.exit.now outcomes.exit.now

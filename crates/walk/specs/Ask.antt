@@ -22,7 +22,7 @@ use Rattle.client.specs.Record.{number, object_in_store, first_slot, value_of}
 use Rattle.client.specs.Sets.{count, held}
 use Rattle.client.specs.Have.{is_found, is_copied, source, look_fits}
 use Rattle.client.specs.Run.{among}
-use Rattle.client.specs.Lent.{LentList, OwnFits, own_find, own_record, own_count, own_list, used_in, pushed}
+use Rattle.client.specs.Lent.{LentList, LentMut, OwnFits, own_find, own_record, own_count, own_list, used_in, pushed}
 use Rattle.client.specs.Answered.{entered}
 use Rattle.client.specs.Bounds.{end_of_numbers, first_flag_number, used_room, most_keys, highest_level, used_most}
 use Rattle.walk.specs.Walk.{goes, lack, walked, carry}
@@ -151,15 +151,15 @@ unfoldable pub noted_copy : How → List ℕ → ℕ → List ℕ
 noted_copy d u n = cond (is_copied d) (cond (among n (used_in u)) u (pushed u n)) u
 
 -- ---- a statement of a walk over what the walk is lent: the slots on each server, what the client's part holds, the own writes, the copies in use
-abbrev pub over_lent : {A : Type 1} → (ℕ → (ClientWord → ℕ) → List ℕ → List ℕ → A) → ℕ → LentList → LentList → LentList → A
+abbrev pub over_lent : {A : Type 1} → (ℕ → (ClientWord → ℕ) → List ℕ → List ℕ → A) → ℕ → LentList → LentMut → LentMut → A
 over_lent S slots part own used = S slots (held part.entry.now) own.entry.now used.entry.now
 
 -- the same of a walk that has written nothing
-abbrev pub unwritten : {A : Type 1} → (ℕ → (ClientWord → ℕ) → List ℕ → List ℕ → A) → ℕ → LentList → LentList → A
+abbrev pub unwritten : {A : Type 1} → (ℕ → (ClientWord → ℕ) → List ℕ → List ℕ → A) → ℕ → LentList → LentMut → A
 unwritten S slots part used = S slots (held part.entry.now) nothing used.entry.now
 
 -- and of one that only reads
-abbrev pub over_read : {A : Type 1} → (ℕ → (ClientWord → ℕ) → List ℕ → A) → ℕ → LentList → LentList → A
+abbrev pub over_read : {A : Type 1} → (ℕ → (ClientWord → ℕ) → List ℕ → A) → ℕ → LentList → LentMut → A
 over_read S slots part used = S slots (held part.entry.now) used.entry.now
 
 -- the node that stands at a place of the lent part

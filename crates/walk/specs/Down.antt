@@ -15,7 +15,7 @@ use Rattle.walk.specs.declared.down.Pass.{Pass}
 use Rattle.walk.specs.declared.walk.Stop.{Stop}
 use Rattle.client.specs.Layout.{ClientWord}
 use Rattle.client.specs.Record.{in_store}
-use Rattle.client.specs.Lent.{LentList, used_in}
+use Rattle.client.specs.Lent.{LentList, LentMut, used_in}
 use Rattle.walk.specs.Entries.{opens, below, Inner, branch_of, Below}
 use Rattle.walk.specs.Walk.{goes, walked, carry}
 use Rattle.walk.specs.Ask.{SmallNode, HoldsWrites, Noted, InPart, over_read, lent_node}
@@ -153,7 +153,7 @@ pub record Lowered (slots : ℕ) (m : ClientWord → ℕ) (u : List ℕ) (key le
   pub inside : goes s ≡ true → in_store slots c ≡ true
 
 -- over what the walk is lent: from the node at a place to the one at another
-abbrev pub Lowers : ℕ → LentList → LentList → ℕ → ℕ → ℕ → Stop → ℕ → ℕ → ℕ → Type 0
+abbrev pub Lowers : ℕ → LentList → LentMut → ℕ → ℕ → ℕ → Stop → ℕ → ℕ → ℕ → Type 0
 Lowers slots part used key level from s i c to =
     over_read Lowered slots part used key level (lent_node part from) s i c (lent_node part to) used.exit.now
 
@@ -205,7 +205,7 @@ pub record Reaches (slots : ℕ) (m : ClientWord → ℕ) (u : List ℕ) (key : 
   pub led : (root : ℕ) → Led slots m u key 0 root first (come root) u'
 
 -- over what the walk is lent: from the node at a place to the one at another
-abbrev pub Reaching : ℕ → LentList → LentList → ℕ → ℕ → Stop → ℕ → Type 0
+abbrev pub Reaching : ℕ → LentList → LentMut → ℕ → ℕ → Stop → ℕ → Type 0
 Reaching slots part used key from s to = over_read Reaches slots part used key (lent_node part from) s (lent_node part to) used.exit.now
 
 -- from the metadata on

@@ -14,7 +14,7 @@ use Rattle.walk.specs.declared.found.Sought.TheVariants.{Higher, Lower, AtLeast}
 use Rattle.walk.specs.declared.found.Wish.{Wish}
 use Rattle.walk.specs.Entries.{opens}
 use Rattle.walk.specs.Ask.{SmallNode}
-use Rattle.client.specs.Lent.{LentList}
+use Rattle.client.specs.Lent.{LentMut}
 use Rattle.client.specs.Bounds.{most_listed}
 
 -- ---- the pairs found, in a lent list: their number, then the key and the value of each. What lies behind them is free: anything may stand there, and
@@ -107,13 +107,13 @@ abbrev pub gathered : Wish → Node → Entries → Entries
 gathered w n got = take w.wanted (got ++ sought_in w.sought w.key (entries_of n 0))
 
 -- ---- the pairs in the lent list: as it is lent, as it comes back, and those of the answer then
-abbrev pub lent_pairs : LentList → Entries
+abbrev pub lent_pairs : LentMut → Entries
 lent_pairs found = pairs_in found.entry.now
 
-abbrev pub left_pairs : LentList → Entries
+abbrev pub left_pairs : LentMut → Entries
 left_pairs found = pairs_in found.exit.now
 
-abbrev pub left_told : Wish → LentList → Entries
+abbrev pub left_told : Wish → LentMut → Entries
 left_told w found = pairs_told w (left_pairs found)
 
 -- ---- a leaf as the code has it

@@ -16,12 +16,12 @@ use Rattle.walk.specs.declared.seek.Where.TheVariants.{Finished, Next}
 use Rattle.walk.specs.Entries.{opens}
 use Rattle.client.specs.Layout.{ClientWord}
 use Rattle.client.specs.Sets.{held}
-use Rattle.client.specs.Lent.{LentList, used_in}
+use Rattle.client.specs.Lent.{LentList, LentMut, used_in}
 use Rattle.walk.specs.Walk.{goes, stands, walked, carry}
 use Rattle.walk.specs.Ask.{SmallNode, Noted, Walking, over_read, lent_node}
 use Rattle.walk.specs.Lookup.{Ends, Walks, ended}
 use Rattle.walk.specs.Down.{turns_in, trail, All}
-use Rattle.walk.specs.Found.{Roomy, to_right, search_of, search_plan, pairs_told, visit, lent_pairs, left_pairs, left_told}
+use Rattle.walk.specs.Found.{Roomy, to_right, search_of, search_plan, pairs_told, visit, pairs_in, lent_pairs, left_pairs, left_told}
 use Rattle.client.specs.Bounds.{highest_level, level_count}
 
 -- is there a child left on that side of child number i, of a node with that many keys
@@ -196,27 +196,27 @@ abbrev pub headed : LentList → Ahead → Heading
 headed part a = heading part.entry.now a
 
 -- the nearest of the pairs found
-abbrev pub TellsNearest : LentList → LentList → LentList → Stop → Type 0
+abbrev pub TellsNearest : LentList → LentMut → LentList → Stop → Type 0
 TellsNearest part used found s =
-    let p = nearest (lent_pairs found) in Ends (held part.entry.now) used.entry.now p.0 p.1 s used.exit.now
+    let p = nearest (pairs_in found.entry.now) in Ends (held part.entry.now) used.entry.now p.0 p.1 s used.exit.now
 
 -- a child read, from a level of a path
-abbrev pub ReadsOn : ℕ → LentList → LentList → LentList → Wish → ℕ → List Pass → ℕ → ℕ → Stop → Ahead → Type 0
+abbrev pub ReadsOn : ℕ → LentList → LentMut → LentMut → Wish → ℕ → List Pass → ℕ → ℕ → Stop → Ahead → Type 0
 ReadsOn slots part used found w top path level name s a =
     over_read ReadOn slots part used w top (turns_of part path) level name (lent_pairs found) s (headed part a) used.exit.now (left_pairs found)
 
 -- the leaves from a child on
-abbrev pub SeeksOn : ℕ → LentList → LentList → LentList → Wish → ℕ → List Pass → ℕ → ℕ → Stop → Type 0
+abbrev pub SeeksOn : ℕ → LentList → LentMut → LentMut → Wish → ℕ → List Pass → ℕ → ℕ → Stop → Type 0
 SeeksOn slots part used found w top path level name s =
     over_read Seeks slots part used w top (turns_of part path) level name (lent_pairs found) s used.exit.now (left_told w found)
 
 -- the leaves from one at a place on
-abbrev pub SeeksFrom : ℕ → LentList → LentList → LentList → Wish → ℕ → List Pass → ℕ → Stop → Type 0
+abbrev pub SeeksFrom : ℕ → LentList → LentMut → LentMut → Wish → ℕ → List Pass → ℕ → Stop → Type 0
 SeeksFrom slots part used found w top path leaf s =
     over_read FromLeaf slots part used w top (turns_of part path) (lent_node part leaf) (lent_pairs found) s used.exit.now (left_told w found)
 
 -- the whole search, with the pairs of its answer
-abbrev pub Searches : ℕ → LentList → LentList → LentList → Wish → Stop → Type 0
+abbrev pub Searches : ℕ → LentList → LentMut → LentMut → Wish → Stop → Type 0
 Searches slots part used found w s = over_read Walks slots part used (search_plan w) s used.exit.now (left_told w found)
 
 -- what the search is lent at its start: no copy is in use, and no pair found

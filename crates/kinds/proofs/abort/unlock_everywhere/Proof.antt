@@ -10,10 +10,10 @@ use Rattle.kinds.specs.Laws.Abort.{FreedUpto, freed_none, freed_known, freed_nex
 use Rattle.kinds.proofs.abort.unlock_everywhere.Statement.{statement}
 use Rattle.kinds.proofs.abort.unlock_everywhere.Tie as tie
 
-abbrev invariant_loop : tie.invariant-loop
+abbrev invariant_loop : tie.invariant-loop-s
 invariant_loop mem₀ sizes client prepared n s₀ mem s = (s ≤ n) × (length mem ≡ length mem₀) × (n ≡ 8) × (prepared ≡ of_client sizes (view mem₀) client (field 6)) × FreedUpto sizes client prepared s (view mem₀) (view mem)
 
-abbrev decreases_loop : tie.decreases-loop
+abbrev decreases_loop : tie.decreases-loop-s
 decreases_loop mem₀ sizes client prepared n s₀ mem s = n - s
 
 pub unlock_everywhere_spec : {M : Type 1} → statement M

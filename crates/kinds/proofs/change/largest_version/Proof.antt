@@ -6,10 +6,10 @@ use borrow.Author.Rules.{rules}
 use Rattle.kinds.proofs.change.largest_version.Statement.{statement}
 use Rattle.kinds.proofs.change.largest_version.Tie as tie
 
-abbrev invariant_loop : tie.invariant-loop
+abbrev invariant_loop : tie.invariant-loop-u
 invariant_loop mem sizes server of slot best₀ u₀ best u = SoFar (stored_in sizes (view mem)) server of slot u best
 
-abbrev decreases_loop : tie.decreases-loop
+abbrev decreases_loop : tie.decreases-loop-u
 decreases_loop mem sizes server of slot best₀ u₀ best u = 8 - u
 
 pub largest_version_spec : {M : Type 1} → statement M

@@ -5,10 +5,10 @@ use borrow.Author.Rules.{rules}
 use Rattle.kinds.proofs.change.put_row.Statement.{statement}
 use Rattle.kinds.proofs.change.put_row.Tie as tie
 
-abbrev invariant_loop : tie.invariant-loop
+abbrev invariant_loop : tie.invariant-loop-t
 invariant_loop mem₀ sizes server slot t₀ mem t = RowUpto sizes server slot mem₀ t mem
 
-abbrev decreases_loop : tie.decreases-loop
+abbrev decreases_loop : tie.decreases-loop-t
 decreases_loop mem₀ sizes server slot t₀ mem t = 8 - t
 
 pub put_row_spec : {M : Type 1} → statement M

@@ -5,10 +5,10 @@ use borrow.Author.Rules.{rules}
 use Rattle.kinds.proofs.change.put_table.Statement.{statement}
 use Rattle.kinds.proofs.change.put_table.Tie as tie
 
-abbrev invariant_loop : tie.invariant-loop
+abbrev invariant_loop : tie.invariant-loop-k
 invariant_loop mem₀ sizes server n k₀ mem k = TableUpto sizes server mem₀ n k mem
 
-abbrev decreases_loop : tie.decreases-loop
+abbrev decreases_loop : tie.decreases-loop-k
 decreases_loop mem₀ sizes server n k₀ mem k = n - k
 
 pub put_table_spec : {M : Type 1} → statement M

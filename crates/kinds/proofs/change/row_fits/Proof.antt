@@ -11,10 +11,10 @@ use borrow.Author.Rules.{rules}
 use Rattle.kinds.proofs.change.row_fits.Statement.{statement}
 use Rattle.kinds.proofs.change.row_fits.Tie as tie
 
-abbrev invariant_loop : tie.invariant-loop
+abbrev invariant_loop : tie.invariant-loop-t
 invariant_loop mem sizes server slot t₀ t = (t ≤ 8) × (all_below t (version_fits (stored_in sizes (view mem)) server slot) ≡ true)
 
-abbrev decreases_loop : tie.decreases-loop
+abbrev decreases_loop : tie.decreases-loop-t
 decreases_loop mem sizes server slot t₀ t = 8 - t
 
 pub row_fits_spec : {M : Type 1} → statement M

@@ -10,10 +10,10 @@ use borrow.Author.Rules.{rules}
 use Rattle.kinds.proofs.change.table_fits.Statement.{statement}
 use Rattle.kinds.proofs.change.table_fits.Tie as tie
 
-abbrev invariant_loop : tie.invariant-loop
+abbrev invariant_loop : tie.invariant-loop-k
 invariant_loop mem sizes server n k₀ k = (k ≤ n) × (n ≡ sizes.slots) × (all_below k (row_fits (stored_in sizes (view mem)) server) ≡ true)
 
-abbrev decreases_loop : tie.decreases-loop
+abbrev decreases_loop : tie.decreases-loop-k
 decreases_loop mem sizes server n k₀ k = n - k
 
 pub table_fits_spec : {M : Type 1} → statement M

@@ -5,10 +5,10 @@ use borrow.Author.Rules.{rules}
 use Rattle.kinds.proofs.change.tell_all.Statement.{statement}
 use Rattle.kinds.proofs.change.tell_all.Tie as tie
 
-abbrev invariant_loop : tie.invariant-loop
+abbrev invariant_loop : tie.invariant-loop-t
 invariant_loop mem₀ sizes server m t₀ mem t = ToldUpto sizes server m mem₀ t mem
 
-abbrev decreases_loop : tie.decreases-loop
+abbrev decreases_loop : tie.decreases-loop-t
 decreases_loop mem₀ sizes server m t₀ mem t = 8 - t
 
 pub tell_all_spec : {M : Type 1} → statement M

@@ -11,8 +11,8 @@ commit_spec = tie.close (tie.spec
     (λ c κs. search rules)  -- participants-of-requires
     (λ c κs. search rules)  -- reset-at-requires
     (λ c. search rules)  -- same-length-2
-    (λ c. let a = c.before.before.before.before.before.before.before.before.before.before.before.args in commit_ends a.sizes a.client _ _ _ c.before.before.before.before.before.participants_of.ensures _ c.before.before.before.before.before.before.before.before.fit_to_commit.ensures (search rules) (search rules) c.before.before.reset_at.ensures)  -- returns-2
+    (λ c. let a = c.before.before.before.before.before.before.before.before.before.before.before.args in commit_ends a.sizes a.client _ _ _ c.before.before.before.before.before.participants_of-servers.ensures _ c.before.before.before.before.before.before.before.before.fit_to_commit.ensures (search rules) (search rules) c.before.before.reset_at.ensures)  -- returns-2
     (λ c κs. search rules)  -- await-servers-requires
     (λ c. search rules)  -- same-length-3
-    (λ c. let a = c.before.before.before.before.before.before.before.before.before.before.before.args in commit_waits a.sizes a.client _ _ _ c.before.before.before.before.before.participants_of.ensures _ c.before.before.before.before.before.before.before.before.fit_to_commit.ensures (search rules) (search rules) c.before.before.await_servers.ensures)  -- returns-3
+    (λ c. let a = c.before.before.before.before.before.before.before.before.before.before.before.args in commit_waits a.sizes a.client _ _ _ c.before.before.before.before.before.participants_of-servers.ensures _ c.before.before.before.before.before.before.before.before.fit_to_commit.ensures (search rules) (search rules) c.before.before.await_servers.ensures)  -- returns-3
     )

@@ -9,10 +9,10 @@ use borrow.Author.Rules.{rules}
 use Rattle.kinds.proofs.course.covers.Statement.{statement}
 use Rattle.kinds.proofs.course.covers.Tie as tie
 
-abbrev invariant_loop : tie.invariant-loop
+abbrev invariant_loop : tie.invariant-loop-s
 invariant_loop n set done s₀ s = (s ≤ n) × (all_below s (covered set done) ≡ true)
 
-abbrev decreases_loop : tie.decreases-loop
+abbrev decreases_loop : tie.decreases-loop-s
 decreases_loop n set done s₀ s = n - s
 
 pub covers_spec : {M : Type 1} → statement M

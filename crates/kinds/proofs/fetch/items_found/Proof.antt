@@ -11,10 +11,10 @@ use Rattle.kinds.specs.Laws.Fetch.{known_found, finding_all}
 use Rattle.kinds.proofs.fetch.items_found.Statement.{statement}
 use Rattle.kinds.proofs.fetch.items_found.Tie as tie
 
-abbrev invariant_loop : tie.invariant-loop
+abbrev invariant_loop : tie.invariant-loop-i
 invariant_loop mem sizes client server used n best₀ i₀ best i = (i ≤ n) × (n ≤ 193) × (n ≡ count (of_client sizes (view mem) client) Reads + get_or used 0 0) × (as_fault best ≡ known_found sizes (view mem) client server used i)
 
-abbrev decreases_loop : tie.decreases-loop
+abbrev decreases_loop : tie.decreases-loop-i
 decreases_loop mem sizes client server used n best₀ i₀ best i = n - i
 
 pub items_found_spec : {M : Type 1} → statement M

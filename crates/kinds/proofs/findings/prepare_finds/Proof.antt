@@ -13,10 +13,10 @@ use Rattle.kinds.specs.Laws.Findings.{found_upto, found_exits}
 use Rattle.kinds.proofs.findings.prepare_finds.Statement.{statement}
 use Rattle.kinds.proofs.findings.prepare_finds.Tie as tie
 
-abbrev invariant_loop : tie.invariant-loop
+abbrev invariant_loop : tie.invariant-loop-i
 invariant_loop mem sizes client server low n best₀ i₀ best i = (i ≤ n) × (n ≤ 96) × (n ≡ count (of_client sizes (view mem) client) Reads) × (low ≡ lowest_participant sizes (stored_in sizes (view mem)) client) × (as_fault best ≡ found_upto sizes (view mem) client server low i)
 
-abbrev decreases_loop : tie.decreases-loop
+abbrev decreases_loop : tie.decreases-loop-i
 decreases_loop mem sizes client server low n best₀ i₀ best i = n - i
 
 pub prepare_finds_spec : {M : Type 1} → statement M

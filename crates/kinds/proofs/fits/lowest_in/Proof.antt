@@ -6,10 +6,10 @@ use Rattle.kinds.specs.Laws.Fits.{lowest_exits}
 use Rattle.kinds.proofs.fits.lowest_in.Statement.{statement}
 use Rattle.kinds.proofs.fits.lowest_in.Tie as tie
 
-abbrev invariant_loop : tie.invariant-loop
+abbrev invariant_loop : tie.invariant-loop-s
 invariant_loop n set s₀ s = (s ≤ n) × (lowest_of s set ≡ s)
 
-abbrev decreases_loop : tie.decreases-loop
+abbrev decreases_loop : tie.decreases-loop-s
 decreases_loop n set s₀ s = n - s
 
 pub lowest_in_spec : {M : Type 1} → statement M

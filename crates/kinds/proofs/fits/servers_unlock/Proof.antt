@@ -12,10 +12,10 @@ use Rattle.kinds.specs.Laws.Fits.{unlocked_all}
 use Rattle.kinds.proofs.fits.servers_unlock.Statement.{statement}
 use Rattle.kinds.proofs.fits.servers_unlock.Tie as tie
 
-abbrev invariant_loop : tie.invariant-loop
+abbrev invariant_loop : tie.invariant-loop-s
 invariant_loop mem sizes client prepared n s₀ s = (s ≤ n) × (n ≡ 8) × (prepared ≡ of_client sizes (view mem) client (field 6)) × (all_below s (unlocks_at sizes (view mem) client prepared) ≡ true)
 
-abbrev decreases_loop : tie.decreases-loop
+abbrev decreases_loop : tie.decreases-loop-s
 decreases_loop mem sizes client prepared n s₀ s = n - s
 
 pub servers_unlock_spec : {M : Type 1} → statement M

@@ -14,10 +14,10 @@ use Rattle.kinds.specs.Fits.{unlock_item}
 use Rattle.kinds.proofs.fits.unlock_fits.Statement.{statement}
 use Rattle.kinds.proofs.fits.unlock_fits.Tie as tie
 
-abbrev invariant_loop : tie.invariant-loop
+abbrev invariant_loop : tie.invariant-loop-i
 invariant_loop mem sizes client server low n i₀ i = (i ≤ n) × (n ≤ 96) × (n ≡ count (of_client sizes (view mem) client) Reads) × (low ≡ lowest_participant sizes (stored_in sizes (view mem)) client) × (all_below i (each_fits sizes (view mem) client (unlock_item sizes (view mem) low server)) ≡ true)
 
-abbrev decreases_loop : tie.decreases-loop
+abbrev decreases_loop : tie.decreases-loop-i
 decreases_loop mem sizes client server low n i₀ i = n - i
 
 pub unlock_fits_spec : {M : Type 1} → statement M

@@ -9,10 +9,10 @@ use Rattle.kinds.specs.Judge.{reader_fits}
 use Rattle.kinds.proofs.judge.readers_fit.Statement.{statement}
 use Rattle.kinds.proofs.judge.readers_fit.Tie as tie
 
-abbrev invariant_loop : tie.invariant-loop
+abbrev invariant_loop : tie.invariant-loop-d
 invariant_loop mem sizes word n d₀ d = (d ≤ n) × (n ≡ sizes.clients) × (all_below d (reader_fits sizes (view mem) word) ≡ true)
 
-abbrev decreases_loop : tie.decreases-loop
+abbrev decreases_loop : tie.decreases-loop-d
 decreases_loop mem sizes word n d₀ d = n - d
 
 pub readers_fit_spec : {M : Type 1} → statement M

@@ -13,10 +13,10 @@ use Rattle.kinds.specs.Laws.Locks.{Changed, changed_none, changed_known, changed
 use Rattle.kinds.proofs.locks.change_all.Statement.{statement}
 use Rattle.kinds.proofs.locks.change_all.Tie as tie
 
-abbrev invariant_loop : tie.invariant-loop
+abbrev invariant_loop : tie.invariant-loop-i
 invariant_loop mem₀ sizes client server change low n i₀ mem i = (i ≤ n) × (length mem ≡ length mem₀) × (n ≤ 96) × (n ≡ count (of_client sizes (view mem₀) client) Reads) × (low ≡ lowest_participant sizes (stored_in sizes (view mem₀)) client) × Changed sizes client server change low (view mem₀) i (view mem)
 
-abbrev decreases_loop : tie.decreases-loop
+abbrev decreases_loop : tie.decreases-loop-i
 decreases_loop mem₀ sizes client server change low n i₀ mem i = n - i
 
 pub change_all_spec : {M : Type 1} → statement M

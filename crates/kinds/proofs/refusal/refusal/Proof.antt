@@ -4,15 +4,15 @@ use borrow.Author.Rules.{rules}
 use Rattle.kinds.proofs.refusal.refusal.Statement.{statement}
 use Rattle.kinds.proofs.refusal.refusal.Tie as tie
 
-changes_8 : tie.Need-returns
+changes_8 : tie.Need-returns-in-8
 unfolding change_of
 changes_8 c = search (kind_changes, rules)
 
-changes_9 : tie.Need-returns-2
+changes_9 : tie.Need-returns-in-9
 unfolding change_of
 changes_9 c = search (kind_changes, rules)
 
-changes_10 : tie.Need-returns-3
+changes_10 : tie.Need-returns-in-10
 unfolding change_of
 changes_10 c = search (kind_changes, rules)
 

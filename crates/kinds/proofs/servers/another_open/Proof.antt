@@ -11,10 +11,10 @@ use borrow.Author.Rules.{rules}
 use Rattle.kinds.proofs.servers.another_open.Statement.{statement}
 use Rattle.kinds.proofs.servers.another_open.Tie as tie
 
-abbrev invariant_loop : tie.invariant-loop
+abbrev invariant_loop : tie.invariant-loop-t
 invariant_loop mem sizes server t₀ t = (t ≤ 8) × (any_below t (other_open (stored_in sizes (view mem)) server) ≡ false)
 
-abbrev decreases_loop : tie.decreases-loop
+abbrev decreases_loop : tie.decreases-loop-t
 decreases_loop mem sizes server t₀ t = 8 - t
 
 pub another_open_spec : {M : Type 1} → statement M

@@ -9,10 +9,10 @@ use borrow.Author.Rules.{rules}
 use Rattle.kinds.proofs.servers.any_nonzero.Statement.{statement}
 use Rattle.kinds.proofs.servers.any_nonzero.Tie as tie
 
-abbrev invariant_loop : tie.invariant-loop
+abbrev invariant_loop : tie.invariant-loop-i
 invariant_loop words i₀ i = (i ≤ 16) × (any_below i (nonzero words) ≡ false)
 
-abbrev decreases_loop : tie.decreases-loop
+abbrev decreases_loop : tie.decreases-loop-i
 decreases_loop words i₀ i = 16 - i
 
 pub any_nonzero_spec : {M : Type 1} → statement M

@@ -6,10 +6,10 @@ use borrow.Author.Rules.{rules}
 use Rattle.kinds.proofs.servers.first_from.Statement.{statement}
 use Rattle.kinds.proofs.servers.first_from.Tie as tie
 
-abbrev invariant_loop : tie.invariant-loop
+abbrev invariant_loop : tie.invariant-loop-left
 invariant_loop mem sizes first s₀ left₀ s left = Counting (there (stored_in sizes (view mem))) first s left
 
-abbrev decreases_loop : tie.decreases-loop
+abbrev decreases_loop : tie.decreases-loop-left
 decreases_loop mem sizes first s₀ left₀ s left = left
 
 pub first_from_spec : {M : Type 1} → statement M

@@ -9,10 +9,10 @@ use borrow.Author.Rules.{rules}
 use Rattle.kinds.proofs.servers.is_quiet.Statement.{statement}
 use Rattle.kinds.proofs.servers.is_quiet.Tie as tie
 
-abbrev invariant_loop : tie.invariant-loop
+abbrev invariant_loop : tie.invariant-loop-c
 invariant_loop mem sizes n c₀ c = (c ≤ n) × (n ≡ sizes.clients) × (all_below c (ended_at sizes (view mem)) ≡ true)
 
-abbrev decreases_loop : tie.decreases-loop
+abbrev decreases_loop : tie.decreases-loop-c
 decreases_loop mem sizes n c₀ c = n - c
 
 pub is_quiet_spec : {M : Type 1} → statement M

@@ -11,10 +11,10 @@ use borrow.Author.Rules.{rules}
 use Rattle.kinds.proofs.writes.store_all.Statement.{statement}
 use Rattle.kinds.proofs.writes.store_all.Tie as tie
 
-abbrev invariant_loop : tie.invariant-loop
+abbrev invariant_loop : tie.invariant-loop-i
 invariant_loop mem₀ sizes client server n i₀ mem i = (i ≤ n) × (length mem ≡ length mem₀) × (n ≤ 48) × (n ≡ count (of_client sizes (view mem₀) client) Writes) × StoredUpto sizes client server (view mem₀) i (view mem)
 
-abbrev decreases_loop : tie.decreases-loop
+abbrev decreases_loop : tie.decreases-loop-i
 decreases_loop mem₀ sizes client server n i₀ mem i = n - i
 
 pub store_all_spec : {M : Type 1} → statement M
