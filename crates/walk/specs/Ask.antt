@@ -154,6 +154,10 @@ noted_copy d u n = cond (is_copied d) (cond (among n (used_in u)) u (pushed u n)
 abbrev pub over_lent : {A : Type 1} → (ℕ → (ClientWord → ℕ) → List ℕ → List ℕ → A) → ℕ → LentList → LentMut → LentMut → A
 over_lent S slots part own used = S slots (held part.entry.now) own.entry.now used.entry.now
 
+-- the same of a walk that only reads the own writes
+abbrev pub over_own : {A : Type 1} → (ℕ → (ClientWord → ℕ) → List ℕ → List ℕ → A) → ℕ → LentList → LentList → LentMut → A
+over_own S slots part own used = S slots (held part.entry.now) own.entry.now used.entry.now
+
 -- the same of a walk that has written nothing
 abbrev pub unwritten : {A : Type 1} → (ℕ → (ClientWord → ℕ) → List ℕ → List ℕ → A) → ℕ → LentList → LentMut → A
 unwritten S slots part used = S slots (held part.entry.now) nothing used.entry.now

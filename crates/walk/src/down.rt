@@ -6,7 +6,7 @@ ghost use Rattle.nodes.specs.Stored.{node_at};
 ghost use Rattle.client.specs.Layout.{ClientPart};
 ghost use Rattle.client.specs.Bounds.{highest_level};
 ghost use Rattle.walk.specs.Entries.{opens_with, opens, below_with, below};
-ghost use Rattle.walk.specs.Ask.{InPart, Walking, WalkingOwn, over_lent, unwritten, over_read, lent_node};
+ghost use Rattle.walk.specs.Ask.{InPart, Walking, WalkingOwn, over_own, unwritten, over_read, lent_node};
 ghost use Rattle.walk.specs.Down.{Kid, RootMet, turn_in, turns_in, PathInPart, Above, From, Led, AtRoot, Descends, Reaching, ToLeaf, arrived, Lowers};
 
 use crate::walk::{Placed, Seen, Stop, ask_meta, ask_node, going, see_node};
@@ -100,7 +100,7 @@ pub fn see_child(
     name: u64,
 ) -> Seen
     requires { WalkingOwn part.now own.now used.old }
-    ensures { over_lent Kid slots part own used level name result.stop result.node used.new }
+    ensures { over_own Kid slots part own used level name result.stop result.node used.new }
 {
     let a = see_node(part, slots, own, used, name);
     let stop = a.stop;

@@ -6,7 +6,7 @@ ghost use Rattle.operations.specs.Slot.{open_ones};
 ghost use Rattle.client.specs.Sets.{held};
 ghost use Rattle.client.specs.Lent.{OwnFits};
 ghost use Rattle.client.specs.Bounds.{end_of_slots, end_of_names, own_most, most_servers};
-ghost use Rattle.walk.specs.Ask.{Walking, WalkingOwn, Writing, over_lent};
+ghost use Rattle.walk.specs.Ask.{Walking, WalkingOwn, Writing, over_lent, over_own};
 ghost use Rattle.walk.specs.Counted.{counts_one, counts};
 ghost use Rattle.walk.specs.Vector.{VectorAsked, passes, Looked};
 ghost use Rattle.walk.specs.Search.{LookedInRow, Sought, TakenOn, TakenFor};
@@ -108,7 +108,7 @@ fn look_on(
 ) -> Chosen
     requires walking_own { WalkingOwn part.now own.now used.old × (s < most_servers) }
     requires above { slot < end_of_slots }
-    ensures { over_lent Looked slots part own used s slot result.stop result.found used.new }
+    ensures { over_own Looked slots part own used s slot result.stop result.found used.new }
 {
     let stop = ask_vector(part, used, s);
     let on = going(stop);
@@ -142,7 +142,7 @@ fn look_next(
 ) -> Chosen
     requires walking_own { WalkingOwn part.now own.now used.old × (s < most_servers) }
     requires above { slot < end_of_slots }
-    ensures { over_lent LookedInRow slots part own used states s slot result.stop result.found used.new }
+    ensures { over_own LookedInRow slots part own used states s slot result.stop result.found used.new }
 {
     let open = is_open(states, s);
     if !open {
@@ -183,7 +183,7 @@ fn search(
     requires walking_own { WalkingOwn part.now own.now used.old }
     requires from { (home < most_servers) × (n ≤ most_servers) }
     requires above { slot < end_of_slots }
-    ensures { over_lent Sought slots part own used (open_ones states (take n (row home))) slot result used.new }
+    ensures { over_own Sought slots part own used (open_ones states (take n (row home))) slot result used.new }
 {
     let mut i: usize = 0;
     while i < n {

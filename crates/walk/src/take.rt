@@ -3,7 +3,7 @@ ghost use Rattle.std.specs.Prelude.{◌<◌, ◌-◌, false};
 ghost use Rattle.operations.specs.Object.{node, flag, taken, free};
 ghost use Rattle.client.specs.Lent.{own_count};
 ghost use Rattle.client.specs.Bounds.{end_of_names, own_most};
-ghost use Rattle.walk.specs.Ask.{OwnGood, WalkingOwn, Writing, over_lent};
+ghost use Rattle.walk.specs.Ask.{OwnGood, WalkingOwn, Writing, over_lent, over_own};
 ghost use Rattle.walk.specs.Take.{NodeTaken, FlagTaken, Wrote, Released};
 
 use crate::walk::{Stop, flag_number, going, node_number, see_flag, see_node};
@@ -14,7 +14,7 @@ use nodes::node::Node;
 // "A taken slot's node is read too, and must be free."
 pub fn take_node(part: &[u8], slots: usize, own: &[u64], used: &mut [u64], name: u64) -> Stop
     requires { WalkingOwn part.now own.now used.old }
-    ensures { over_lent NodeTaken slots part own used name result used.new }
+    ensures { over_own NodeTaken slots part own used name result used.new }
 {
     let a = see_node(part, slots, own, used, name);
     let stop = a.stop;

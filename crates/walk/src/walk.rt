@@ -6,7 +6,7 @@ ghost use Rattle.client.specs.Sets.{held};
 ghost use Rattle.client.specs.Lent.{Lent, used_in};
 ghost use Rattle.client.specs.Bounds.{end_of_names, end_of_numbers, used_room, first_flag_number};
 ghost use Rattle.walk.specs.Walk.{goes, is_answer, over};
-ghost use Rattle.walk.specs.Ask.{Noted, OwnGood, Meets, Outside, Answer, PlacedNode, SeenNode, AskedFlag, InPart, placed_in, seen_in, popped, noted_copy, Walking, WalkingOwn, over_lent, unwritten};
+ghost use Rattle.walk.specs.Ask.{Noted, OwnGood, Meets, Outside, Answer, PlacedNode, SeenNode, AskedFlag, InPart, placed_in, seen_in, popped, noted_copy, Walking, WalkingOwn, over_own, unwritten};
 ghost use Rattle.client.specs.Layout.{ClientPart};
 
 use client::answer::{How, is_copied, is_found};
@@ -251,7 +251,7 @@ fn see_in_store(part: &[u8], own: &[u64], used: &mut [u64], name: u64) -> Seen
 // A node that the operation may have written.
 pub fn see_node(part: &[u8], slots: usize, own: &[u64], used: &mut [u64], name: u64) -> Seen
     requires { WalkingOwn part.now own.now used.old }
-    ensures { over_lent Answer slots part own used (node name) result.stop result.node used.new }
+    ensures { over_own Answer slots part own used (node name) result.stop result.node used.new }
 {
     let there = in_store(slots, name);
     if !there {
@@ -283,7 +283,7 @@ fn ask_flag(part: &[u8], used: &mut [u64], name: u64) -> Valued
 // A flag that the operation may have written.
 pub fn see_flag(part: &[u8], slots: usize, own: &[u64], used: &mut [u64], name: u64) -> Valued
     requires { WalkingOwn part.now own.now used.old }
-    ensures { over_lent Answer slots part own used (flag name) result.stop (single 0 result.value) used.new }
+    ensures { over_own Answer slots part own used (flag name) result.stop (single 0 result.value) used.new }
 {
     let there = in_store(slots, name);
     if !there {
