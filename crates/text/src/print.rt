@@ -7,8 +7,9 @@ pub fn put(out: &mut [u8], at: usize, bytes: &[u8]) -> usize
     requires { at + length bytes.now ≤ length out.old }
     ensures { Printed out.old at bytes.now out.new result }
 {
-    let count = bytes::copy(bytes, &mut out[at..]);
-    at + count
+    let end = at + bytes.len();
+    out[at..end].copy_from_slice(bytes);
+    end
 }
 
 // A number in decimal, and the byte that ends it.
