@@ -9,7 +9,7 @@ abort_spec = tie.close (tie.spec
     (λ c κs. search rules)  -- abort-fits-requires
     (λ c κs. search (knows, rules))  -- store-abort-requires
     (λ c. search rules)  -- same-length
-    (λ c. let a = c.before.before.before.before.before.before.before.before.before.args in abort_done a.sizes a.client a.reason _ _ _ c.before.before.before.before.before.abort_fits.ensures _ (search rules) c.before.before.store_abort.ensures)  -- returns
+    (λ c. let a = c.args in abort_done a.sizes a.client a.reason _ _ _ c.abort_fits.ensures _ (search rules) c.store_abort.ensures)  -- returns
     (λ c. search rules)  -- same-length-2
-    (λ c. let a = c.before.before.before.before.before.args in abort_refused a.sizes a.client a.reason _ _ _ c.before.abort_fits.ensures (search rules))  -- returns-2
+    (λ c. let a = c.args in abort_refused a.sizes a.client a.reason _ _ _ c.abort_fits.ensures (search rules))  -- returns-2
     )

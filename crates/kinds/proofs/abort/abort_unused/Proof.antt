@@ -8,5 +8,5 @@ abort_unused_spec = tie.close (tie.spec
     (λ c. search rules)  -- slice-aggregate-abort
     (λ c κs. search (none_in_use, rules))  -- abort-requires
     (λ c. search rules)  -- same-length
-    (λ c. let a = c.before.before.before.before.before.before.args in abort_unused a.sizes a.client a.reason _ _ _ c.before.before.abort.ensures)  -- returns
+    (λ c. let a = c.args in abort_unused a.sizes a.client a.reason _ _ _ c.abort.ensures)  -- returns
     )

@@ -6,5 +6,5 @@ pub give_up_spec : {M : Type 1} → statement M
 give_up_spec = tie.close (tie.spec
     (λ c κs. search rules)  -- abort-unused-requires
     (λ c. search rules)  -- same-length
-    (λ c. c.before.before.abort_unused.ensures)  -- returns
+    (λ c. c.abort_unused.ensures)  -- returns
     )

@@ -9,11 +9,11 @@ apply_spec = tie.close (tie.spec
     (λ c κs. search rules)  -- is-last-requires
     (λ c κs. search rules)  -- fit-to-apply-requires
     (λ c. search rules)  -- same-length
-    (λ c. let a = c.before.before.before.before.before.before.args in apply_unfit a.sizes a.client a.server _ _ _ (last_is a.sizes _ _ _ _ c.before.before.before.is_last-last.ensures) c.before.fit_to_apply.ensures (search rules))  -- returns
-    (λ c κs. search (apply_known c.before.before.before.before.before.before.before.args.sizes _ _ _ (search rules) _ _ c.before.before.fit_to_apply.ensures, rules))  -- unlock-fits-requires
+    (λ c. let a = c.args in apply_unfit a.sizes a.client a.server _ _ _ (last_is a.sizes _ _ _ _ c.is_last-last.ensures) c.fit_to_apply.ensures (search rules))  -- returns
+    (λ c κs. search (apply_known c.args.sizes _ _ _ (search rules) _ _ c.fit_to_apply.ensures, rules))  -- unlock-fits-requires
     (λ c. search rules)  -- same-length-2
-    (λ c. let a = c.before.before.before.before.before.before.before.before.before.args in apply_locked a.sizes a.client a.server _ _ _ (last_is a.sizes _ _ _ _ c.before.before.before.before.before.before.is_last-last.ensures) c.before.before.before.before.fit_to_apply.ensures _ c.before.unlock_fits.ensures (search rules) (search rules))  -- returns-2
-    (λ c κs. let e = c.before.before.before.before.before.fit_to_apply.ensures in let z = c.before.before.before.before.before.before.before.before.before.before.args.sizes in search (apply_known z _ _ _ (search rules) _ _ e, apply_storing z _ _ _ (search rules) _ _ e, rules))  -- apply-at-requires
+    (λ c. let a = c.args in apply_locked a.sizes a.client a.server _ _ _ (last_is a.sizes _ _ _ _ c.is_last-last.ensures) c.fit_to_apply.ensures _ c.unlock_fits.ensures (search rules) (search rules))  -- returns-2
+    (λ c κs. let e = c.fit_to_apply.ensures in let z = c.args.sizes in search (apply_known z _ _ _ (search rules) _ _ e, apply_storing z _ _ _ (search rules) _ _ e, rules))  -- apply-at-requires
     (λ c. search rules)  -- same-length-3
-    (λ c. let a = c.before.before.before.before.before.before.before.before.before.before.before.before.before.args in apply_fits a.sizes a.client a.server _ _ _ (last_is a.sizes _ _ _ _ c.before.before.before.before.before.before.before.before.before.before.is_last-last.ensures) c.before.before.before.before.before.before.before.before.fit_to_apply.ensures _ c.before.before.before.before.before.unlock_fits.ensures (search rules) _ _ (search rules) c.before.before.apply_at.ensures)  -- returns-3
+    (λ c. let a = c.args in apply_fits a.sizes a.client a.server _ _ _ (last_is a.sizes _ _ _ _ c.is_last-last.ensures) c.fit_to_apply.ensures _ c.unlock_fits.ensures (search rules) _ _ (search rules) c.apply_at.ensures)  -- returns-3
     )

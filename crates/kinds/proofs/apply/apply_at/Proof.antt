@@ -11,7 +11,7 @@ apply_at_spec = tie.close (tie.spec
     (λ c κs. search (holds_as, rules))  -- note-requires
     (λ c κs. search (holds_as, rules))  -- finish-at-requires
     (λ c. search rules)  -- same-length
-    (λ c. let a = c.before.before.before.before.before.before.before.before.before.before.before.before.before.before.before.before.args in applied_last a.sizes a.client a.server _ _ _ (search rules) (search rules) (search rules) (search rules) _ c.before.before.before.before.before.before.before.before.before.before.before.before.before.is_last-last.ensures c.before.before.before.before.before.before.before.before.before.before.before.store_server.ensures c.before.before.before.before.before.before.before.note.ensures _ (search rules) (search rules) (search rules) c.before.before.finish_at.ensures)  -- returns
+    (λ c. let a = c.args in applied_last a.sizes a.client a.server _ _ _ (search rules) (search rules) (search rules) (search rules) _ c.is_last-last.ensures c.store_server.ensures c.note.ensures _ (search rules) (search rules) (search rules) c.finish_at.ensures)  -- returns
     (λ c. search rules)  -- same-length-2
-    (λ c. let a = c.before.before.before.before.before.before.before.before.before.before.before.before.args in applied_one a.sizes a.client a.server _ _ _ (search rules) (search rules) (search rules) (search rules) _ c.before.before.before.before.before.before.before.before.before.is_last-last.ensures c.before.before.before.before.before.before.before.store_server.ensures c.before.before.before.note.ensures (search rules))  -- returns-2
+    (λ c. let a = c.args in applied_one a.sizes a.client a.server _ _ _ (search rules) (search rules) (search rules) (search rules) _ c.is_last-last.ensures c.store_server.ensures c.note.ensures (search rules))  -- returns-2
     )

@@ -12,5 +12,5 @@ store_at_spec = tie.close (tie.spec
     (λ c. search rules)  -- part-store-metadata-end
     (λ c κs. search rules)  -- store-metadata-requires
     (λ c. search rules)  -- same-length
-    (λ c. let a = c.before.before.before.before.before.before.args in metadata_back a.sizes a.server c.before.before.before.before.server_at-at.result a.m.root a.m.states a.m.version _ _ (search rules) (search rules) (search rules) c.before.before.store_metadata.ensures)  -- returns
+    (λ c. let a = c.args in metadata_back a.sizes a.server c.server_at-at.result a.m.root a.m.states a.m.version _ _ (search rules) (search rules) (search rules) c.store_metadata.ensures)  -- returns
     )

@@ -8,5 +8,5 @@ await_servers_spec = tie.close (tie.spec
     (λ c κs. search rules)  -- put-field-requires
     (λ c κs. search rules)  -- put-field-requires-2
     (λ c. search rules)  -- same-length
-    (λ c. let a = c.before.before.before.before.before.before.before.before.before.args in now_committing a.sizes a.client a.servers _ _ (search rules) _ c.before.before.before.before.before.before.put_field.ensures c.before.before.put_field-2.ensures)  -- returns
+    (λ c. let a = c.args in now_committing a.sizes a.client a.servers _ _ (search rules) _ c.put_field.ensures c.put_field-2.ensures)  -- returns
     )

@@ -7,12 +7,12 @@ pub commit_spec : {M : Type 1} → statement M
 commit_spec = tie.close (tie.spec
     (λ c κs. search rules)  -- fit-to-commit-requires
     (λ c. search rules)  -- same-length
-    (λ c. let a = c.before.before.before.before.args in commit_unfit a.sizes a.client _ _ c.before.fit_to_commit.ensures (search rules))  -- returns
+    (λ c. let a = c.args in commit_unfit a.sizes a.client _ _ c.fit_to_commit.ensures (search rules))  -- returns
     (λ c κs. search rules)  -- participants-of-requires
     (λ c κs. search rules)  -- reset-at-requires
     (λ c. search rules)  -- same-length-2
-    (λ c. let a = c.before.before.before.before.before.before.before.before.before.before.before.args in commit_ends a.sizes a.client _ _ _ c.before.before.before.before.before.participants_of-servers.ensures _ c.before.before.before.before.before.before.before.before.fit_to_commit.ensures (search rules) (search rules) c.before.before.reset_at.ensures)  -- returns-2
+    (λ c. let a = c.args in commit_ends a.sizes a.client _ _ _ c.participants_of-servers.ensures _ c.fit_to_commit.ensures (search rules) (search rules) c.reset_at.ensures)  -- returns-2
     (λ c κs. search rules)  -- await-servers-requires
     (λ c. search rules)  -- same-length-3
-    (λ c. let a = c.before.before.before.before.before.before.before.before.before.before.before.args in commit_waits a.sizes a.client _ _ _ c.before.before.before.before.before.participants_of-servers.ensures _ c.before.before.before.before.before.before.before.before.fit_to_commit.ensures (search rules) (search rules) c.before.before.await_servers.ensures)  -- returns-3
+    (λ c. let a = c.args in commit_waits a.sizes a.client _ _ _ c.participants_of-servers.ensures _ c.fit_to_commit.ensures (search rules) (search rules) c.await_servers.ensures)  -- returns-3
     )

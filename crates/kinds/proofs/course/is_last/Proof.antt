@@ -10,5 +10,5 @@ is_last_spec = tie.close (tie.spec
     (λ c. search rules)  -- cast-with
     (λ c κs. search rules)  -- with-requires
     (λ c κs. search rules)  -- covers-requires
-    (λ c. let a = c.before.before.before.before.before.args in last_by a.sizes _ a.client _ _ a.i _ _ _ _ c.before.before.before.field_of-set.ensures c.before.before.field_of-done.ensures c.before.with.ensures c.covers.ensures)  -- returns
+    (λ c. let a = c.args in last_by a.sizes _ a.client _ _ a.i _ _ _ _ c.field_of-set.ensures c.field_of-done.ensures c.with.ensures c.covers.ensures)  -- returns
     )

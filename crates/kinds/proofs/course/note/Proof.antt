@@ -10,5 +10,5 @@ note_spec = tie.close (tie.spec
     (λ c κs. search rules)  -- with-requires
     (λ c κs. search rules)  -- put-field-requires
     (λ c. search rules)  -- same-length
-    (λ c. let a = c.before.before.before.before.before.before.before.before.args in is_noted a.sizes a.client a.i a.server c.before.before.before.before.before.field_of-set.result c.before.before.before.with.result _ _ (search rules) (search rules) c.before.before.put_field.ensures)  -- returns
+    (λ c. let a = c.args in is_noted a.sizes a.client a.i a.server c.field_of-set.result c.with.result _ _ (search rules) (search rules) c.put_field.ensures)  -- returns
     )

@@ -13,5 +13,5 @@ put_field_spec = tie.close (tie.spec
     (λ c. search rules)  -- part-set-field-end
     (λ c κs. search rules)  -- set-field-requires
     (λ c. search rules)  -- same-length
-    (λ c. let a = c.before.before.before.before.before.before.args in let k = c.before.before.before.before.client_at-at in client_as a.sizes a.client k.result _ _ _ _ (search rules) (search rules) (search rules) (mark_same a.i a.v) c.before.before.set_field.ensures)  -- returns
+    (λ c. let a = c.args in let k = c.client_at-at in client_as a.sizes a.client k.result _ _ _ _ (search rules) (search rules) (search rules) (mark_same a.i a.v) c.set_field.ensures)  -- returns
     )

@@ -7,8 +7,8 @@ pub fetch_meta_spec : {M : Type 1} → statement M
 fetch_meta_spec = tie.close (tie.spec
     (λ c κs. search rules)  -- metadata-source-requires
     (λ c. search rules)  -- same-length
-    (λ c. let a = c.before.before.before.before.before.args in no_source a.sizes _ a.client _ _ c.before.metadata_source-server.ensures (search rules))  -- returns
+    (λ c. let a = c.args in no_source a.sizes _ a.client _ _ c.metadata_source-server.ensures (search rules))  -- returns
     (λ c κs. search (checking_at, rules))  -- fetch-meta-from-requires
     (λ c. search rules)  -- same-length-2
-    (λ c. c.before.before.fetch_meta_from.ensures)  -- returns-2
+    (λ c. c.fetch_meta_from.ensures)  -- returns-2
     )

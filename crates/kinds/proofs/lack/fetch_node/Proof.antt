@@ -13,9 +13,9 @@ fetch_node_spec = tie.close (tie.spec
     (λ c. search rules)  -- enum-told-2
     (λ c κs. search (checking_as, rules))  -- hand-node-requires
     (λ c. search rules)  -- same-length
-    (λ c. let a = c.before.before.before.before.before.before.before.args in fetch_unfit a.sizes _ a.client _ _ _ c.before.before.before.before.server-server.ensures (search (reaches, rules)) _ c.before.before.check_from-v.ensures (search rules))  -- returns
+    (λ c. let a = c.args in fetch_unfit a.sizes _ a.client _ _ _ c.server-server.ensures (search (reaches, rules)) _ c.check_from-v.ensures (search rules))  -- returns
     (λ c. search rules)  -- same-length-2
-    (λ c. let a = c.before.before.before.before.before.before.before.before.before.before.before.before.args in fetch_aborts a.sizes _ a.client _ _ _ c.before.before.before.before.before.before.before.before.before.server-server.ensures (search (reaches, rules)) _ c.before.before.before.before.before.before.before.check_from-v.ensures _ _ _ (search rules) c.before.before.abort.ensures)  -- returns-2
+    (λ c. let a = c.args in fetch_aborts a.sizes _ a.client _ _ _ c.server-server.ensures (search (reaches, rules)) _ c.check_from-v.ensures _ _ _ (search rules) c.abort.ensures)  -- returns-2
     (λ c. search rules)  -- same-length-3
-    (λ c. let a = c.before.before.before.before.before.before.before.before.before.before.before.args in fetch_hands a.sizes _ a.client _ _ _ c.before.before.before.before.before.before.before.before.server-server.ensures (search (reaches, rules)) _ c.before.before.before.before.before.before.check_from-v.ensures _ _ (search rules) c.before.before.hand_node.ensures)  -- returns-3
+    (λ c. let a = c.args in fetch_hands a.sizes _ a.client _ _ _ c.server-server.ensures (search (reaches, rules)) _ c.check_from-v.ensures _ _ (search rules) c.hand_node.ensures)  -- returns-3
     )

@@ -14,9 +14,9 @@ fetch_vector_spec = tie.close (tie.spec
     (λ c κs. search rules)  -- vector-of-requires
     (λ c κs. search rules)  -- store-vector-requires
     (λ c. search rules)  -- same-length
-    (λ c. let a = c.before.before.before.before.before.before.args in fetch_unfit a.sizes _ a.client _ _ _ refl (search (reaches, rules)) _ c.before.before.check_from-v.ensures (search rules))  -- returns
+    (λ c. let a = c.args in fetch_unfit a.sizes _ a.client _ _ _ refl (search (reaches, rules)) _ c.check_from-v.ensures (search rules))  -- returns
     (λ c. search rules)  -- same-length-2
-    (λ c. let a = c.before.before.before.before.before.before.before.before.before.before.before.args in fetch_aborts a.sizes _ a.client _ _ _ refl (search (reaches, rules)) _ c.before.before.before.before.before.before.before.check_from-v.ensures _ _ _ (search rules) c.before.before.abort.ensures)  -- returns-2
+    (λ c. let a = c.args in fetch_aborts a.sizes _ a.client _ _ _ refl (search (reaches, rules)) _ c.check_from-v.ensures _ _ _ (search rules) c.abort.ensures)  -- returns-2
     (λ c. search rules)  -- same-length-3
-    (λ c. let a = c.before.before.before.before.before.before.before.before.before.before.before.before.args in vector_handed a.sizes _ a.client _ a.server (search (reaches, rules)) _ _ _ c.before.before.before.before.before.before.before.before.check_from-v.ensures (search rules) c.before.before.before.before.vector_of-words.ensures c.before.before.store_vector.ensures)  -- returns-3
+    (λ c. let a = c.args in vector_handed a.sizes _ a.client _ a.server (search (reaches, rules)) _ _ _ c.check_from-v.ensures (search rules) c.vector_of-words.ensures c.store_vector.ensures)  -- returns-3
     )

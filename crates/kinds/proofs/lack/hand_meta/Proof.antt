@@ -12,13 +12,13 @@ hand_meta_spec = tie.close (tie.spec
     (λ c. search rules)  -- enum-told-2
     (λ c κs. search rules)  -- meta-fits-requires
     (λ c. search rules)  -- same-length
-    (λ c. let a = c.before.before.before.before.before.before.before.before.before.args in meta_unsound a.sizes _ a.client _ a.server _ _ c.before.before.before.before.before.gate-g.ensures (search rules) _ c.before.meta_fits.ensures (search rules))  -- returns
+    (λ c. let a = c.args in meta_unsound a.sizes _ a.client _ a.server _ _ c.gate-g.ensures (search rules) _ c.meta_fits.ensures (search rules))  -- returns
     (λ c κs. search rules)  -- meta-of-requires
     (λ c κs. search rules)  -- store-meta-requires
     (λ c. search rules)  -- same-length-2
-    (λ c. let a = c.before.before.before.before.before.before.args in meta_unfit a.sizes _ a.client _ a.server _ _ c.before.before.gate-g.ensures (search rules))  -- returns-2
+    (λ c. let a = c.args in meta_unfit a.sizes _ a.client _ a.server _ _ c.gate-g.ensures (search rules))  -- returns-2
     (λ c. search rules)  -- same-length-3
-    (λ c. let a = c.before.before.before.before.before.before.before.before.before.before.before.args in meta_aborts a.sizes _ a.client _ a.server _ _ c.before.before.before.before.before.before.before.gate-g.ensures _ _ _ (search rules) c.before.before.abort.ensures)  -- returns-3
+    (λ c. let a = c.args in meta_aborts a.sizes _ a.client _ a.server _ _ c.gate-g.ensures _ _ _ (search rules) c.abort.ensures)  -- returns-3
     (λ c. search rules)  -- same-length-4
-    (λ c. let a = c.before.before.before.before.before.before.before.before.before.before.before.before.before.before.before.args in meta_handed a.sizes _ a.client _ a.server _ _ c.before.before.before.before.before.before.before.before.before.before.before.gate-g.ensures (search rules) _ c.before.before.before.before.before.before.before.meta_fits.ensures _ _ (search rules) c.before.before.before.before.meta_of-m.ensures c.before.before.store_meta.ensures)  -- returns-4
+    (λ c. let a = c.args in meta_handed a.sizes _ a.client _ a.server _ _ c.gate-g.ensures (search rules) _ c.meta_fits.ensures _ _ (search rules) c.meta_of-m.ensures c.store_meta.ensures)  -- returns-4
     )

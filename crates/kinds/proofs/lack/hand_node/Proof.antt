@@ -15,12 +15,12 @@ hand_node_spec = tie.close (tie.spec
     (λ c κs. search rules)  -- node-of-requires
     (λ c κs. search rules)  -- node-fits-requires
     (λ c. search rules)  -- same-length
-    (λ c. let a = c.before.before.before.before.before.before.before.before.before.before.args in node_unsound a.sizes _ a.client _ a.server a.name _ _ refl _ c.before.before.before.before.before.before.gate-g.ensures (search rules) _ c.before.before.node_of-n.ensures _ c.before.node_fits.ensures (search rules))  -- returns
+    (λ c. let a = c.args in node_unsound a.sizes _ a.client _ a.server a.name _ _ refl _ c.gate-g.ensures (search rules) _ c.node_of-n.ensures _ c.node_fits.ensures (search rules))  -- returns
     (λ c κs. search rules)  -- store-node-requires
     (λ c. search rules)  -- same-length-2
-    (λ c. let a = c.before.before.before.before.before.before.args in node_unfit a.sizes _ a.client _ a.server a.name _ _ refl _ c.before.before.gate-g.ensures (search rules))  -- returns-2
+    (λ c. let a = c.args in node_unfit a.sizes _ a.client _ a.server a.name _ _ refl _ c.gate-g.ensures (search rules))  -- returns-2
     (λ c. search rules)  -- same-length-3
-    (λ c. let a = c.before.before.before.before.before.before.before.before.before.before.before.args in node_aborts a.sizes _ a.client _ a.server a.name _ _ refl _ c.before.before.before.before.before.before.before.gate-g.ensures _ _ _ (search rules) c.before.before.abort.ensures)  -- returns-3
+    (λ c. let a = c.args in node_aborts a.sizes _ a.client _ a.server a.name _ _ refl _ c.gate-g.ensures _ _ _ (search rules) c.abort.ensures)  -- returns-3
     (λ c. search rules)  -- same-length-4
-    (λ c. let a = c.before.before.before.before.before.before.before.before.before.before.before.before.before.before.args in node_handed a.sizes _ a.client _ a.server a.name _ _ refl _ c.before.before.before.before.before.before.before.before.before.before.gate-g.ensures (search rules) _ c.before.before.before.before.before.before.node_of-n.ensures _ c.before.before.before.before.before.node_fits.ensures _ (search rules) c.before.before.store_node.ensures)  -- returns-4
+    (λ c. let a = c.args in node_handed a.sizes _ a.client _ a.server a.name _ _ refl _ c.gate-g.ensures (search rules) _ c.node_of-n.ensures _ c.node_fits.ensures _ (search rules) c.store_node.ensures)  -- returns-4
     )

@@ -7,5 +7,5 @@ pub begin_spec : {M : Type 1} → statement M
 begin_spec = tie.close (tie.spec
     (λ c κs. search rules)  -- reset-at-requires
     (λ c. search rules)  -- same-length
-    (λ c. let a = c.before.before.before.before.before.args in begun a.sizes a.client _ _ c.before.before.reset_at.ensures)  -- returns
+    (λ c. let a = c.args in begun a.sizes a.client _ _ c.reset_at.ensures)  -- returns
     )

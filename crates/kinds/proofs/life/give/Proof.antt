@@ -7,5 +7,5 @@ pub give_spec : {M : Type 1} → statement M
 give_spec = tie.close (tie.spec
     (λ c κs. search rules)  -- give-at-requires
     (λ c. search rules)  -- same-length
-    (λ c. let a = c.before.before.before.before.before.args in was_given a.sizes a.client _ _ a.step c.before.before.give_at.ensures)  -- returns
+    (λ c. let a = c.args in was_given a.sizes a.client _ _ a.step c.give_at.ensures)  -- returns
     )

@@ -10,7 +10,7 @@ change_at_spec = tie.close (tie.spec
     (λ c. search rules)  -- enum-told-2
     (λ c κs. search rules)  -- unlock-at-requires
     (λ c. search rules)  -- same-length
-    (λ c. let a = c.before.before.before.before.before.before.before.args in now_lock a.sizes a.server a.client _ _ a.item a.change (search rules) c.before.before.lock_at.ensures)  -- returns
+    (λ c. let a = c.args in now_lock a.sizes a.server a.client _ _ a.item a.change (search rules) c.lock_at.ensures)  -- returns
     (λ c. search rules)  -- same-length-2
-    (λ c. let a = c.before.before.before.before.before.before.before.args in now_unlock a.sizes a.server a.client _ _ a.item a.change (search rules) c.before.before.unlock_at.ensures)  -- returns-2
+    (λ c. let a = c.args in now_unlock a.sizes a.server a.client _ _ a.item a.change (search rules) c.unlock_at.ensures)  -- returns-2
     )

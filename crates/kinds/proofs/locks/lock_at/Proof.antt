@@ -16,5 +16,5 @@ lock_at_spec = tie.close (tie.spec
     (λ c. search rules)  -- cast-lock
     (λ c κs. search (has_as, rules))  -- lock-requires
     (λ c. search rules)  -- same-length
-    (λ c. let a = c.before.before.before.before.before.before.before.args in let k = c.before.before.before.before.before.server_at-at in rule_back a.sizes a.server k.result a.number _ (λ o. lock_step o a.writing a.client) _ _ (search rules) (search rules) (search rules) (search rules) c.before.before.lock.ensures)  -- returns
+    (λ c. let a = c.args in let k = c.server_at-at in rule_back a.sizes a.server k.result a.number _ (λ o. lock_step o a.writing a.client) _ _ (search rules) (search rules) (search rules) (search rules) c.lock.ensures)  -- returns
     )

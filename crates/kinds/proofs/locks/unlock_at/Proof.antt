@@ -16,5 +16,5 @@ unlock_at_spec = tie.close (tie.spec
     (λ c. search rules)  -- cast-unlock
     (λ c κs. search (has_as, rules))  -- unlock-requires
     (λ c. search rules)  -- same-length
-    (λ c. let a = c.before.before.before.before.before.before.before.args in let k = c.before.before.before.before.before.server_at-at in rule_back a.sizes a.server k.result a.number _ (λ o. unlock_step o a.client) _ _ (search rules) (search rules) (search rules) (search rules) c.before.before.unlock.ensures)  -- returns
+    (λ c. let a = c.args in let k = c.server_at-at in rule_back a.sizes a.server k.result a.number _ (λ o. unlock_step o a.client) _ _ (search rules) (search rules) (search rules) (search rules) c.unlock.ensures)  -- returns
     )

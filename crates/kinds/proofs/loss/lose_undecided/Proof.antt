@@ -9,7 +9,7 @@ lose_undecided_spec = tie.close (tie.spec
     (λ c κs. search rules)  -- abort-fits-requires
     (λ c κs. search (knows, rules))  -- store-loss-requires
     (λ c. search rules)  -- same-length
-    (λ c. let a = c.before.before.before.before.before.before.before.before.args in loss_aborts a.sizes a.client _ _ c.before.before.before.before.before.abort_fits.ensures _ (search rules) c.before.before.store_loss.ensures)  -- returns
+    (λ c. let a = c.args in loss_aborts a.sizes a.client _ _ c.abort_fits.ensures _ (search rules) c.store_loss.ensures)  -- returns
     (λ c. search rules)  -- same-length-2
-    (λ c. loss_refused _ _ _ _ c.before.abort_fits.ensures (search rules))  -- returns-2
+    (λ c. loss_refused _ _ _ _ c.abort_fits.ensures (search rules))  -- returns-2
     )

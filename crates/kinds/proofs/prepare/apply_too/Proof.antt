@@ -8,9 +8,9 @@ pub apply_too_spec : {M : Type 1} → statement M
 apply_too_spec = tie.close (tie.spec
     (λ c κs. search rules)  -- fit-to-apply-too-requires
     (λ c. search rules)  -- same-length
-    (λ c. let a = c.before.before.before.before.args in too_refused a.sizes a.client a.server _ _ c.before.fit_to_apply_too.ensures (search rules))  -- returns
+    (λ c. let a = c.args in too_refused a.sizes a.client a.server _ _ c.fit_to_apply_too.ensures (search rules))  -- returns
     (λ c κs. search rules)  -- decide-requires
     (λ c κs. search (decided_known, too_storing, holds_as, rules))  -- apply-at-requires
     (λ c. search rules)  -- same-length-2
-    (λ c. let a = c.before.before.before.before.before.before.before.before.before.before.before.before.args in too_applied a.sizes a.client a.server _ _ _ _ _ (search rules) (search rules) (search rules) (search rules) c.before.before.before.before.before.before.before.before.before.fit_to_apply_too.ensures (search rules) c.before.before.before.before.before.before.decide.ensures c.before.before.apply_at.ensures)  -- returns-2
+    (λ c. let a = c.args in too_applied a.sizes a.client a.server _ _ _ _ _ (search rules) (search rules) (search rules) (search rules) c.fit_to_apply_too.ensures (search rules) c.decide.ensures c.apply_at.ensures)  -- returns-2
     )

@@ -8,12 +8,12 @@ pub prepare_spec : {M : Type 1} → statement M
 prepare_spec = tie.close (tie.spec
     (λ c κs. search rules)  -- fit-to-prepare-requires
     (λ c. search rules)  -- same-length
-    (λ c. let a = c.before.before.before.before.args in prepare_unfit a.sizes a.client a.server _ _ c.before.fit_to_prepare.ensures (search rules))  -- returns
+    (λ c. let a = c.args in prepare_unfit a.sizes a.client a.server _ _ c.fit_to_prepare.ensures (search rules))  -- returns
     (λ c κs. search rules)  -- is-there-requires
     (λ c κs. search rules)  -- abort-unused-requires
     (λ c. search rules)  -- same-length-2
-    (λ c. let a = c.before.before.before.before.before.before.before.before.before.before.before.args in prepare_absent a.sizes a.client a.server _ _ c.before.before.before.before.before.before.before.before.fit_to_prepare.ensures _ c.before.before.before.before.before.is_there.ensures (search rules) _ _ (search rules) c.before.before.abort_unused.ensures)  -- returns-2
+    (λ c. let a = c.args in prepare_absent a.sizes a.client a.server _ _ c.fit_to_prepare.ensures _ c.is_there.ensures (search rules) _ _ (search rules) c.abort_unused.ensures)  -- returns-2
     (λ c κs. search (knows, rules))  -- checked-prepare-requires
     (λ c. search rules)  -- same-length-3
-    (λ c. let a = c.before.before.before.before.before.before.before.before.before.before.before.args in prepare_checked a.sizes a.client a.server _ _ c.before.before.before.before.before.before.before.before.fit_to_prepare.ensures _ c.before.before.before.before.before.is_there.ensures (search rules) _ _ (search rules) c.before.before.checked_prepare.ensures)  -- returns-3
+    (λ c. let a = c.args in prepare_checked a.sizes a.client a.server _ _ c.fit_to_prepare.ensures _ c.is_there.ensures (search rules) _ _ (search rules) c.checked_prepare.ensures)  -- returns-3
     )

@@ -5,7 +5,7 @@ use borrow.Author.Rules.{rules}
 use Rattle.kinds.proofs.whole.server_at.Statement.{statement}
 use Rattle.kinds.proofs.whole.server_at.Tie as tie
 
-product : (c : tie.After-part_words) → c.before.args.server * c.part_words.result ≤ 409760
+product : (c : tie.After-part_words) → c.args.server * c.part_words.result ≤ 409760
 product c = search (server_row, rules)
 
 pub server_at_spec : {M : Type 1} → statement M

@@ -12,5 +12,5 @@ store_at_spec = tie.close (tie.spec
     (λ c. search rules)  -- part-store-write-end
     (λ c κs. search rules)  -- store-write-requires
     (λ c. search rules)  -- same-length
-    (λ c. let a = c.before.before.before.before.before.before.args in let k = c.before.before.before.before.server_at-at in server_back a.sizes a.server k.result _ _ _ (search rules) (search rules) (search rules) c.before.before.store_write.ensures)  -- returns
+    (λ c. let a = c.args in let k = c.server_at-at in server_back a.sizes a.server k.result _ _ _ (search rules) (search rules) (search rules) c.store_write.ensures)  -- returns
     )
