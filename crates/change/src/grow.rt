@@ -4,7 +4,7 @@ ghost use Rattle.nodes.specs.Entries.{wide_entries};
 ghost use Rattle.client.specs.Record.{in_store};
 ghost use Rattle.client.specs.Lent.{own_count};
 ghost use Rattle.client.specs.Bounds.{end_of_names, own_most, highest_level, risen_most};
-ghost use Rattle.walk.specs.Ask.{OwnGood, Writing, WalkingOwn, Rising, over_lent};
+ghost use Rattle.walk.specs.Ask.{OwnGood, Writing, WalkingOwn, Rising, over_lent, over_own};
 ghost use Rattle.change.specs.Rise.{Full, Closes};
 ghost use Rattle.change.specs.Split.{Overfull};
 ghost use Rattle.change.specs.Grow.{TwoTaken, BothFree, HalvesTaken, Grown, root_split};
@@ -59,7 +59,7 @@ fn both_free(
     right: u64,
 ) -> Stop
     requires { WalkingOwn part.now own.now used.old }
-    ensures { over_lent BothFree slots part own used left right result used.new }
+    ensures { over_own BothFree slots part own used left right result used.new }
 {
     let stop = take_node(part, slots, own, used, left);
     let on = going(stop);

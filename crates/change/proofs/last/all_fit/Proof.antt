@@ -7,10 +7,10 @@ use Rattle.change.specs.Laws.Last.{fits_at, fit_exits}
 use Rattle.change.proofs.last.all_fit.Statement.{statement}
 use Rattle.change.proofs.last.all_fit.Tie as tie
 
-abbrev invariant_loop : tie.invariant-loop
+abbrev invariant_loop : tie.invariant-loop-i
 invariant_loop own n i₀ i = (n ≡ get_or own 0 0) × Sofar (fits_at own) n i
 
-abbrev decreases_loop : tie.decreases-loop
+abbrev decreases_loop : tie.decreases-loop-i
 decreases_loop own n i₀ i = n - i
 
 pub all_fit_spec : {M : Type 1} → statement M

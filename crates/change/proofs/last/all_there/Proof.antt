@@ -8,10 +8,10 @@ use Rattle.change.specs.Laws.Last.{there_at, there_exits}
 use Rattle.change.proofs.last.all_there.Statement.{statement}
 use Rattle.change.proofs.last.all_there.Tie as tie
 
-abbrev invariant_loop : tie.invariant-loop
+abbrev invariant_loop : tie.invariant-loop-i
 invariant_loop part own n i₀ i = (n ≡ get_or own 0 0) × Sofar (there_at (held part) own) n i
 
-abbrev decreases_loop : tie.decreases-loop
+abbrev decreases_loop : tie.decreases-loop-i
 decreases_loop part own n i₀ i = n - i
 
 pub all_there_spec : {M : Type 1} → statement M

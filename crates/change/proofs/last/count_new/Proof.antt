@@ -7,10 +7,10 @@ use Rattle.change.specs.Laws.Last.{Counted, counting}
 use Rattle.change.proofs.last.count_new.Statement.{statement}
 use Rattle.change.proofs.last.count_new.Tie as tie
 
-abbrev invariant_loop : tie.invariant-loop
+abbrev invariant_loop : tie.invariant-loop-i
 invariant_loop part own n i₀ c₀ i c = (n ≡ get_or own 0 0) × Counted (held part) own n i c
 
-abbrev decreases_loop : tie.decreases-loop
+abbrev decreases_loop : tie.decreases-loop-i
 decreases_loop part own n i₀ c₀ i c = n - i
 
 pub count_new_spec : {M : Type 1} → statement M

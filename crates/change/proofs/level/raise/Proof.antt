@@ -13,9 +13,9 @@ raise_spec = tie.close (tie.spec
     (λ c κs. (search (raise_exits, rules), (search (raise_exits, rules), (search (raise_exits, rules), search (raise_exits, rules)))))  -- neighbour-requires
     (λ c. search rules)  -- same-length-3
     (λ c. search rules)  -- same-length-4
-    (λ c. let turned = c.before.before.before.before.before.before.before in
+    (λ c. let turned = c.before in
     let start = turned.before.before.before.before.before.before.before.before in
-    search (turned.node.ensures.0, turned.before.if2.true, start.requires.1.1, raise_exits, rules))  -- returns-2
+    search (turned.node-node.ensures.0, turned.before.if-n-lt7.true, start.requires.1.1, raise_exits, rules))  -- returns-2
     (λ c κs. search (raise_exits, rules))  -- settle-requires
     (λ c. search rules)  -- same-length-5
     (λ c. search rules)  -- same-length-6

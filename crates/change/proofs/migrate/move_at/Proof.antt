@@ -13,7 +13,7 @@ move_at_spec = tie.close (tie.spec
     (λ c. search rules)  -- same-length
     (λ c. search rules)  -- same-length-2
     (λ c.
-    let r = c.before.before.before.before.before.before.before in
+    let r = c.before in
     let start = r.before.before.before.before.before.before.before in
-    search (start.requires.1.1.1.0, r.read_node.ensures, r.before.before.slot_at.ensures, c.before.before.before.before.move_child.ensures, at_child, rules))  -- returns-2
+    search (start.requires.1.1.1.0, r.read_node-p.ensures, r.before.before.slot_at.ensures, c.move_child.ensures, at_child, rules))  -- returns-2
     )

@@ -16,5 +16,5 @@ collapse_spec = tie.close (tie.spec
     (λ c κs. search rules)  -- halted-requires-2
     (λ c. search rules)  -- same-length-3
     (λ c. search rules)  -- same-length-4
-    (λ c. let p = c.before.before.before.before.before.before.before.before.before.before.before.before.before.before.before.before.before.before.before.before.before.requires in collapse_ends _ _ _ _ _ _ _ _ _ _ _ _ c.before.before.before.before.before.before.before.before.before.before.before.before.before.before.before.release.ensures _ c.before.before.before.before.before.before.before.before.before.before.going.ensures _ _ _ _ (search rules) (search (p, rules)) c.before.before.before.before.before.before.before.write_node.ensures c.before.before.before.answers.ensures (search rules))  -- returns-2
+    (λ c. let p = c.requires in collapse_ends _ _ _ _ _ _ _ _ _ _ _ _ c.release-stop.ensures _ c.going-on.ensures _ _ _ _ (search rules) (search (p, rules)) c.write_node.ensures c.answers-end.ensures (search rules))  -- returns-2
     )

@@ -6,11 +6,11 @@ use Rattle.change.specs.Laws.Up.{Rising, rise_exits}
 use Rattle.change.proofs.up.rise.Statement.{statement}
 use Rattle.change.proofs.up.rise.Tie as tie
 
-abbrev invariant_loop : tie.invariant-loop
+abbrev invariant_loop : tie.invariant-loop-level
 invariant_loop part slots own₀ used₀ top leaf a b path name₀ n₀ level₀ own used name n level =
     Rising slots (held part) own₀ used₀ (a, b, []) top path leaf n₀ name n level own used
 
-abbrev decreases_loop : tie.decreases-loop
+abbrev decreases_loop : tie.decreases-loop-level
 decreases_loop part slots own₀ used₀ top leaf a b path name₀ n₀ level₀ own used name n level = top - level
 
 pub rise_spec : {M : Type 1} → statement M
