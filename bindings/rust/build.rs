@@ -1,4 +1,4 @@
-//! Links the proved library. It is built by `rt staticlib gemandrolo` where it is missing; GEMANDROLO_LIB names another folder.
+//! Links the proved library. It is proved and built by `rt lib` in `crates/gemandrolo` where it is missing; GEMANDROLO_LIB names another folder.
 
 use std::env;
 use std::path::{Path, PathBuf};
@@ -21,19 +21,16 @@ fn main() {
 /// The repository's library, proved and built now if it is not there.
 fn built() -> PathBuf {
     let here = env::var_os("CARGO_MANIFEST_DIR").expect("cargo names the folder of this crate");
-    let root = Path::new(&here)
-        .join("../..")
+    let proved = Path::new(&here)
+        .join("../../crates/gemandrolo")
         .canonicalize()
         .expect("the repository is two folders up");
-    let folder = root.join("target/staticlib");
+    let folder = proved.join("out");
     if !folder.join("libgemandrolo.a").exists() {
-        let status = Command::new("rt")
-            .args(["staticlib", "gemandrolo"])
-            .current_dir(&root)
-            .status();
+        let status = Command::new("rt").arg("lib").current_dir(&proved).status();
         let done =
             status.expect("`rt`, the command of the Rattle kit, is needed to build the library");
-        assert!(done.success(), "rt staticlib gemandrolo failed");
+        assert!(done.success(), "rt lib in crates/gemandrolo failed");
     }
     folder
 }
