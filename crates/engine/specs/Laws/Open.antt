@@ -52,7 +52,7 @@ module _ (z : Sizes) where
         → Does whole (block z) (in_part (server s) (put_step (Vector 0) 1)) silent (view b₂) 0 (view b₃)
         → Does whole (block z) (new_server z s) silent (view b) 0 (view b₃)
     unfolding Fresh.fresh_stores first_leaf in_part put_step over stepped stored
-    server_first v b b₁ b₂ b₃ e q d f g = record { answer = refl; words = g.words ∙ rw (f.words, d.words, e, q) }
+    server_first v b b₁ b₂ b₃ e q d f g = record { answer = refl; words = g.words ∙ rw (f.words, d.words, e, q, q) }
 
   module _ (b₀ : List ℕ) where
     pub servers_none : ServersUpto b₀ 0 b₀

@@ -5,10 +5,10 @@ use borrow.Author.Rules.{rules}
 use Rattle.engine.proofs.open.make_servers.Statement.{statement}
 use Rattle.engine.proofs.open.make_servers.Tie as tie
 
-abbrev invariant_loop : tie.invariant-loop
+abbrev invariant_loop : tie.invariant-loop-s
 invariant_loop mem₀ sizes s₀ mem s = ServersUpto sizes mem₀ s mem
 
-abbrev decreases_loop : tie.decreases-loop
+abbrev decreases_loop : tie.decreases-loop-s
 decreases_loop mem₀ sizes s₀ mem s = 8 - s
 
 pub make_servers_spec : {M : Type 1} → statement M

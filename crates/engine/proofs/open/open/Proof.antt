@@ -8,8 +8,8 @@ use Rattle.engine.proofs.open.open.Tie as tie
 pub open_spec : {M : Type 1} → statement M
 open_spec = tie.close (tie.spec
     (λ c κs. search rules)  -- memory-refusal-requires
-    (λ c. opens c.before.before.before.args.mem.now _ _ _ (search rules) (search (is_refused, rules)) (search (stays_shut, rules)))  -- returns
+    (λ c. opens c.args.mem.now _ _ _ (search rules) (search (is_refused, rules)) (search (stays_shut, rules)))  -- returns
     (λ c κs. search (none_holds, rules))  -- make-new-requires
     (λ c. search rules)  -- same-length
-    (λ c. opens c.before.before.before.before.before.before.before.args.mem.now _ _ _ (search rules) (search (is_accepted, rules)) (search (is_open, rules)))  -- returns-2
+    (λ c. opens c.args.mem.now _ _ _ (search rules) (search (is_accepted, rules)) (search (is_open, rules)))  -- returns-2
     )

@@ -12,5 +12,5 @@ put_word_spec = tie.close (tie.spec
     (λ c. search rules)  -- part-put-end
     (λ c κs. search rules)  -- put-requires
     (λ c. search rules)  -- same-length
-    (λ c. let a = c.before.before.before.before.before.before.args in let k = c.before.before.before.before.server_at in server_back a.sizes a.s k.result _ _ _ (search rules) (search rules) (search rules) c.before.before.put.ensures)  -- returns
+    (λ c. let a = c.args in let k = c.server_at-at in server_back a.sizes a.s k.result _ _ _ (search rules) (search rules) (search rules) c.put.ensures)  -- returns
     )

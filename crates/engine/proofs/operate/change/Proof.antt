@@ -20,5 +20,5 @@ change_spec = tie.close (tie.spec
     (λ c κs. search (single_used, rules))  -- store-single-requires
     (λ c κs. search rules)  -- answered-requires
     (λ c. search rules)  -- same-length-3
-    (λ c. let s = c.before.before.before.before.before.before.before.before.before.before.before.before.before.before.before in let r = c.before.before.before.before.before.before.before.before.before.before.before.single_at in single_answers s.args.sizes _ s.args.client (search rules) (search rules) (search rules) (search rules) (search rules) r.result _ _ (single_ended _ _ r.result _ _ r.ensures _ c.before.before.before.before.before.before.before.before.before.going.ensures c.before.before.before.before.before.before.before.before.if1.false) _ _ (some_answer r.result.stop _ c.before.before.before.before.before.before.before.is_answer.ensures c.before.before.before.before.before.before.if2.false) c.answered.ensures c.before.before.before.store_single.ensures)  -- returns-3
+    (λ c. let s = c in let r = c.single_at-s in single_answers s.args.sizes _ s.args.client (search rules) (search rules) (search rules) (search rules) (search rules) r.result _ _ (single_ended _ _ r.result _ _ r.ensures _ c.going-on.ensures c.if-on.false) _ _ (some_answer r.result.stop _ c.is_answer-done.ensures (search rules)) c.answered.ensures c.store_single.ensures)  -- returns-3
     )

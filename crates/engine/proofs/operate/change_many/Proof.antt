@@ -18,5 +18,5 @@ change_many_spec = tie.close (tie.spec
     (λ c κs. search (some_answer, change_fits, rules))  -- store-answer-requires
     (λ c κs. search rules)  -- answered-requires
     (λ c. search rules)  -- same-length-2
-    (λ c. let s = c.before.before.before.before.before.before.before.before.before.before.before.before.before.before.before.before in change_answers s.args.sizes _ s.args.client (search rules) (search rules) (search rules) (search rules) (search rules) _ _ _ _ _ c.before.before.before.before.before.before.before.before.before.before.before.walk_at.ensures _ _ (some_answer c.before.before.before.before.before.before.before.before.before.before.before.walk_at.result _ c.before.before.before.before.before.before.before.before.is_answer.ensures c.before.before.before.before.before.before.before.if1.false) c.answered.ensures c.before.before.before.store_answer.ensures)  -- returns-2
+    (λ c. let s = c in change_answers s.args.sizes _ s.args.client (search rules) (search rules) (search rules) (search rules) (search rules) _ _ _ _ _ c.walk_at-stop.ensures _ _ (some_answer c.walk_at-stop.result _ c.is_answer-done.ensures (search rules)) c.answered.ensures c.store_answer.ensures)  -- returns-2
     )

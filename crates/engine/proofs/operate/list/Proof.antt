@@ -13,7 +13,7 @@ list_spec = tie.close (tie.spec
     (λ c. search rules)  -- slice-aggregate-unanswered
     (λ c κs. search (no_answer, rules))  -- unanswered-requires
     (λ c. search rules)  -- same-length
-    (λ c. let u = c.before.before.unanswered.ensures in (u.0, unlisted_output _ _ _ _ u.1))  -- returns
+    (λ c. let u = c.unanswered.ensures in (u.0, unlisted_output _ _ _ _ u.1))  -- returns
     (λ c. search rules)  -- slice-aggregate-put-pairs
     (λ c κs. search (list_within, rules))  -- put-pairs-requires
     (λ c. search rules)  -- slice-aggregate-store-seen
@@ -21,5 +21,5 @@ list_spec = tie.close (tie.spec
     (λ c κs. search rules)  -- answered-requires
     (λ c. search rules)  -- same-length-2
     (λ c. search rules)  -- same-length-3
-    (λ c. let s = c.before.before.before.before.before.before.before.before.before.before.before.before.before.before.before.before.before.before.before.before.before in let l = c.before.before.before.before.before.before.before.before.before.before.before.before.before.before.before.list_at in let p = look_answers s.args.sizes _ s.args.client (search rules) (search rules) (search rules) (search rules) (search rules) _ _ _ _ l.ensures.0 _ _ (some_answer l.result _ c.before.before.before.before.before.before.before.before.before.before.before.before.is_answer.ensures c.before.before.before.before.before.before.before.before.before.before.before.if1.false) c.answered.ensures c.before.before.before.store_seen.ensures in (p.0, listed_output s.args.sizes _ s.args.client _ _ _ p.1 c.before.before.before.before.before.before.before.before.put_pairs.ensures))  -- returns-2
+    (λ c. let s = c in let l = c.list_at-stop in let p = look_answers s.args.sizes _ s.args.client (search rules) (search rules) (search rules) (search rules) (search rules) _ _ _ _ l.ensures.0 _ _ (some_answer l.result _ c.is_answer-done.ensures (search rules)) c.answered.ensures c.store_seen.ensures in (p.0, listed_output s.args.sizes _ s.args.client _ _ _ p.1 c.put_pairs.ensures))  -- returns-2
     )

@@ -16,5 +16,5 @@ look_spec = tie.close (tie.spec
     (λ c κs. search rules)  -- store-seen-requires
     (λ c κs. search rules)  -- answered-requires
     (λ c. search rules)  -- same-length-2
-    (λ c. let s = c.before.before.before.before.before.before.before.before.before.before.before.before.before in look_answers s.args.sizes _ s.args.client (search rules) (search rules) (search rules) (search rules) (search rules) _ _ _ _ c.before.before.before.before.before.before.before.before.before.look_at.ensures _ _ (some_answer c.before.before.before.before.before.before.before.before.before.look_at.result _ c.before.before.before.before.before.before.before.is_answer.ensures c.before.before.before.before.before.before.if1.false) c.answered.ensures c.before.before.before.store_seen.ensures)  -- returns-2
+    (λ c. let s = c in look_answers s.args.sizes _ s.args.client (search rules) (search rules) (search rules) (search rules) (search rules) _ _ _ _ c.look_at-stop.ensures _ _ (some_answer c.look_at-stop.result _ c.is_answer-done.ensures (search rules)) c.answered.ensures c.store_seen.ensures)  -- returns-2
     )

@@ -14,12 +14,12 @@ operate_spec = tie.close (tie.spec
     (λ c κs. (search rules, search (told_as, rules)))  -- change-requires
     (λ c. search rules)  -- enum-told-2
     (λ c. search rules)  -- same-length
-    (λ c. let u = c.before.before.look.ensures in (u.0, unlisted_output _ _ _ _ u.1))  -- returns
+    (λ c. let u = c.look.ensures in (u.0, unlisted_output _ _ _ _ u.1))  -- returns
     (λ c. search rules)  -- same-length-2
     (λ c. search rules)  -- same-length-3
     (λ c. search rules)  -- returns-2
     (λ c. search rules)  -- same-length-4
-    (λ c. let u = c.before.before.change.ensures in (u.0, unlisted_output _ _ _ _ u.1))  -- returns-3
+    (λ c. let u = c.change.ensures in (u.0, unlisted_output _ _ _ _ u.1))  -- returns-3
     (λ c. search rules)  -- same-length-5
-    (λ c. let a = c.before.before.before.before.before.before.args in none_unknown a.sizes _ a.client _ (search rules) c.before.before.waiting_at.ensures (search rules))  -- returns-4
+    (λ c. let a = c.args in none_unknown a.sizes _ a.client _ (search rules) c.waiting_at-op.ensures (search rules))  -- returns-4
     )

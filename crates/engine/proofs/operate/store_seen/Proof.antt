@@ -13,5 +13,5 @@ store_seen_spec = tie.close (tie.spec
     (λ c. search rules)  -- part-enter-seen-end
     (λ c κs. search rules)  -- enter-seen-requires
     (λ c. search rules)  -- same-length
-    (λ c. let a = c.before.before.before.before.before.before.before.args in let k = c.before.before.before.before.client_at in client_as a.sizes a.client k.result _ _ _ _ (search rules) (search rules) (search rules) (λ m. refl) c.before.before.enter_seen.ensures)  -- returns
+    (λ c. let a = c.args in let k = c.client_at-at in client_as a.sizes a.client k.result _ _ _ _ (search rules) (search rules) (search rules) (λ m. refl) c.enter_seen.ensures)  -- returns
     )
