@@ -10,5 +10,3 @@ pub mod Wrong
 pub mod Ears
 -- a list of a decided transaction is the map's
 pub mod ClassList
--- laws and proofs
-pub mod Laws

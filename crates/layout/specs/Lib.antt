@@ -9,5 +9,5 @@ pub mod Step
 pub mod Part
 -- a loop of steps
 pub mod Sweep
--- laws and proofs
+-- what the laws speak of
 pub mod Laws

@@ -26,5 +26,3 @@ pub mod Range
 -- a node's entries; nodes that are whole
 pub mod Entries
 pub mod Kept
--- laws and proofs
-pub mod Laws

@@ -29,5 +29,3 @@ pub mod Tree
 pub mod Reading
 -- THE THEOREMS, stated: the map's answer and a tree of the next map; no reason 3; a new store
 pub mod Sound
--- laws and proofs
-pub mod Laws

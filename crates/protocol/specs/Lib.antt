@@ -23,5 +23,3 @@ pub mod Claim
 pub mod Lists
 -- a list of writes over a value
 pub mod Writes
--- laws and proofs
-pub mod Laws

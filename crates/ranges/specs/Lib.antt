@@ -3,5 +3,5 @@
 
 -- NO REFUSAL BY 10, the statement
 pub mod Claim
--- laws and proofs
+-- what a sound store is; of it the laws and the edits speak
 pub mod Laws

@@ -6,10 +6,10 @@ use Prim.Native.Nat.{ℕ, ◌+◌, ◌/◌, ◌≤◌, ◌<◌}
 use native.Mathlib.Omega.{arith}
 use lib.ListN.{length, take, drop}
 use Rattle.memory.specs.Word.{view}
-use Rattle.memory.specs.Laws.Word.{view_length}
+use Rattle.memory.proofs.Laws.Word.{view_length}
 use Rattle.layout.specs.Block.{size, In, offset}
 use Rattle.layout.specs.Space.{at, Valid, mem}
-use Rattle.layout.specs.Laws.Space.{Run, mem_run}
+use Rattle.layout.proofs.Laws.Space.{Run, mem_run}
 use Rattle.nodes.specs.Stored.{node_of, node_at}
 use Rattle.nodes.specs.declared.node.Node as node
 use Rattle.server.specs.declared.place.Place.{Place}

@@ -6,7 +6,7 @@ use native.Mathlib.Omega.{arith}
 use lib.ListN.{get_or, set}
 use Rattle.layout.specs.Block.{words, size, In, offset}
 use Rattle.layout.specs.Space.{at, Valid, mem, stored}
-use Rattle.layout.specs.Laws.Space.{mem_at, at_below}
+use Rattle.layout.proofs.Laws.Space.{mem_at, at_below}
 use Rattle.layout.specs.Step.{Does, silent, stepped}
 use Rattle.server.specs.declared.place.Place.{Place}
 use Rattle.server.specs.declared.place.Place.TheVariants.{Root, Version, States, MetadataLock, Vector, Node, FlagLock, Table, NodeLock}

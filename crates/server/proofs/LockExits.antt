@@ -6,7 +6,7 @@ use native.Mathlib.Omega.{arith}
 use borrow.Author.Tests.{eq-eqb, ne_eqb, lt-ltb, le-ltb}
 use lib.Dec.{eqb, ltb}
 use Rattle.memory.specs.Bit.{put_bit}
-use Rattle.memory.specs.Laws.Bit.{one_shifted}
+use Rattle.memory.proofs.Laws.Bit.{one_shifted}
 use Rattle.server.specs.declared.lock.Use.{Use}
 use Rattle.server.specs.declared.lock.Use.TheVariants.{Fetch, Read, Write}
 use Rattle.server.specs.Lock.{busy, locked, unlocked, lock_in_range}

@@ -8,15 +8,15 @@ use lib.ListN.{length}
 use lib.Seq.{sets}
 use Rattle.memory.specs.Bit.{put_bit}
 use Rattle.layout.specs.Space.{Put, put, puts, at, Valid, mem, stored}
-use Rattle.layout.specs.Laws.Space.{stored_run}
+use Rattle.layout.proofs.Laws.Space.{stored_run}
 use Rattle.layout.specs.Step.{Does, silent, stepped}
-use Rattle.layout.specs.Laws.Step.{does_as, does_both}
+use Rattle.layout.proofs.Laws.Step.{does_as, does_both}
 use Rattle.nodes.specs.Name.{server_of, slot_of}
 use Rattle.nodes.specs.declared.name.Name.{Name}
 use Rattle.nodes.specs.declared.node.Node as node
 use Rattle.nodes.specs.Node.{free_node}
 use Rattle.nodes.specs.Stored.{words_of, put_node}
-use Rattle.nodes.specs.Laws.Stored.{length_words}
+use Rattle.nodes.proofs.Laws.Stored.{length_words}
 use Rattle.server.specs.declared.object.Object.{Object}
 use Rattle.server.specs.declared.object.Object.TheVariants as object
 use Rattle.server.specs.declared.place.Place.{Place}

@@ -21,5 +21,3 @@ pub mod Steps
 pub mod Run
 -- steps that were taken, with their outcomes, and where they lead
 pub mod Taken
--- laws and proofs
-pub mod Laws

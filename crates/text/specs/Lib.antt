@@ -2,5 +2,3 @@
 pub mod Line
 pub mod Reader
 pub mod Print
--- laws and proofs
-pub mod Laws

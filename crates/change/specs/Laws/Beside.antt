@@ -12,7 +12,7 @@ use Rattle.std.proofs.Math.Numerals.{add-one}
 use Rattle.std.proofs.Math.ListN.{length, take, drop, set}
 use Rattle.std.proofs.Math.Seq.{drop-length}
 use Rattle.std.proofs.lemmas.Bool.{eqb-false}
-use Rattle.base.specs.Laws.Test.{ifd_yes, ifd_no}
+use Rattle.base.proofs.Laws.Test.{ifd_yes, ifd_no}
 use Rattle.nodes.specs.Lists.{remove_at}
 use Rattle.nodes.specs.Node.{pair_at}
 use Rattle.operations.specs.Object.{no_tree, Ans, Writes}

@@ -6,13 +6,13 @@ use Rattle.nodes.specs.declared.node.Node.{Node}
 use Rattle.nodes.specs.declared.change.Wide.{Wide}
 use Rattle.nodes.specs.declared.standing.KeyPlace.{KeyPlace}
 use Rattle.nodes.specs.Lists.{remove_at}
-use Rattle.nodes.specs.Laws.Lists.{length_remove}
+use Rattle.nodes.proofs.Laws.Lists.{length_remove}
 use Rattle.nodes.specs.Place.{key_place, Within}
-use Rattle.nodes.specs.Laws.Place.{yes_behind, yes_inside}
+use Rattle.nodes.proofs.Laws.Place.{yes_behind, yes_inside}
 use Rattle.nodes.specs.Node.{keys_of, made}
 use Rattle.nodes.specs.Entries.{entries_of, wide_entries}
 use Rattle.nodes.specs.Change.{take_out}
-use Rattle.nodes.specs.Laws.Kept.{take_out_entries}
+use Rattle.nodes.proofs.Laws.Kept.{take_out_entries}
 use Rattle.operations.specs.Entry.{Entries, place_in}
 use Rattle.operations.specs.Path.{TreePlan, Branch}
 use Rattle.operations.specs.Change.{delete_at, delete_plan}

@@ -9,11 +9,11 @@ use Rattle.std.proofs.Math.Decide.{dec_le, ℕ_discrete}
 use Rattle.std.proofs.Math.Dec.{eqb}
 use Rattle.std.proofs.lemmas.Bool.{eqb-false}
 use Rattle.base.specs.Test.{yes?, and_both, one_if}
-use Rattle.base.specs.Laws.Test.{of_yes, of_no}
+use Rattle.base.proofs.Laws.Test.{of_yes, of_no}
 use Rattle.nodes.specs.declared.node.Node.{Node}
 use Rattle.nodes.specs.Place.{rises}
 use Rattle.nodes.specs.Node.{made}
-use Rattle.nodes.specs.Laws.Node.{keys_made}
+use Rattle.nodes.proofs.Laws.Node.{keys_made}
 use Rattle.operations.specs.Object.{Obj, meta, node, flag, Val, root, body, taken, flags, Writes, hit, written_value}
 use Rattle.operations.specs.Operation.{fits?, all_fit?}
 use Rattle.client.specs.Record.{number, object_in_store, record_of, single, metadata}

@@ -5,7 +5,7 @@ use Rattle.std.proofs.lemmas.Bool.{not-true, not-false}
 use Rattle.nodes.specs.declared.node.Node.{Node}
 use Rattle.nodes.specs.declared.change.Wide.{Wide}
 use Rattle.nodes.specs.Node.{extra, made, parent_of}
-use Rattle.nodes.specs.Laws.Node.{keys_made, slots_made}
+use Rattle.nodes.proofs.Laws.Node.{keys_made, slots_made}
 use Rattle.nodes.specs.Entries.{wide_entries}
 use Rattle.operations.specs.Object.{node, flag, taken, Writes}
 use Rattle.operations.specs.Slot.{take_for, take_node}

@@ -13,14 +13,14 @@ use Rattle.nodes.specs.declared.node.Node.{Node}
 use Rattle.nodes.specs.declared.change.Wide.{Wide}
 use Rattle.nodes.specs.declared.standing.KeyPlace.{KeyPlace}
 use Rattle.nodes.specs.Lists.{insert_at}
-use Rattle.nodes.specs.Laws.Lists.{length_insert}
+use Rattle.nodes.proofs.Laws.Lists.{length_insert}
 use Rattle.nodes.specs.Place.{place, key_place, Within}
-use Rattle.nodes.specs.Laws.Place.{place_within, yes_says, yes_behind, yes_inside}
+use Rattle.nodes.proofs.Laws.Place.{place_within, yes_says, yes_behind, yes_inside}
 use Rattle.nodes.specs.Node.{extra, keys_of, slots_of, made}
 use Rattle.nodes.specs.Entries.{entries_of, wide_entries}
 use Rattle.nodes.specs.Change.{wide, put_in, with_slot}
 use Rattle.nodes.specs.Kept.{Whole}
-use Rattle.nodes.specs.Laws.Kept.{made_whole, put_in_whole, put_in_entries, slot_entries}
+use Rattle.nodes.proofs.Laws.Kept.{made_whole, put_in_whole, put_in_entries, slot_entries}
 use Rattle.operations.specs.Map.{fresh}
 use Rattle.operations.specs.Entry.{Entries, value_in, with_at, with_pair}
 use Rattle.operations.specs.Path.{TreePlan, Branch, from_root}

@@ -5,17 +5,17 @@ use Rattle.std.proofs.Common.{◌∙◌, arith, ltb-true, ltb-false}
 use Rattle.std.proofs.Math.Bool.{true, false}
 use Rattle.std.proofs.Math.Decide.{dec_lt}
 use Rattle.base.specs.Test.{ifd}
-use Rattle.base.specs.Laws.Test.{ifd_yes, ifd_no}
+use Rattle.base.proofs.Laws.Test.{ifd_yes, ifd_no}
 use Rattle.nodes.specs.declared.node.Node.{Node}
 use Rattle.nodes.specs.declared.change.Halves.{Halves}
 use Rattle.nodes.specs.Node.{extra}
-use Rattle.nodes.specs.Laws.Node.{extra_le}
+use Rattle.nodes.proofs.Laws.Node.{extra_le}
 use Rattle.nodes.specs.Entries.{entries_of}
-use Rattle.nodes.specs.Laws.Entries.{first}
-use Rattle.nodes.specs.Laws.Built.{length_joined}
+use Rattle.nodes.proofs.Laws.Entries.{first}
+use Rattle.nodes.proofs.Laws.Built.{length_joined}
 use Rattle.nodes.specs.Change.{wide, join, merged, from_right, from_left}
 use Rattle.nodes.specs.Kept.{Whole}
-use Rattle.nodes.specs.Laws.Kept.{length_entries_of, merged_entries, from_right_left, from_right_right, from_right_sep, from_left_left, from_left_right, from_left_sep}
+use Rattle.nodes.proofs.Laws.Kept.{length_entries_of, merged_entries, from_right_left, from_right_right, from_right_sep, from_left_left, from_left_right, from_left_sep}
 use Rattle.operations.specs.Object.{Ans, Writes}
 use Rattle.operations.specs.Slot.{release}
 use Rattle.operations.specs.Entry.{Entries, fewest_entries, first_key_or, kind}

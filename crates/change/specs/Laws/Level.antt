@@ -5,15 +5,15 @@ use Rattle.std.proofs.Common.{◌∙◌, ap, arith}
 use Prim.Native.Nat.{ℕ, zero, suc, ◌+◌, ◌≤◌, ◌<◌}
 use Rattle.std.proofs.Math.Decide.{dec_le}
 use Rattle.std.proofs.Math.ListN.{length}
-use Rattle.base.specs.Laws.Test.{ifd_yes, ifd_no}
+use Rattle.base.proofs.Laws.Test.{ifd_yes, ifd_no}
 use Rattle.nodes.specs.declared.node.Node.{Node}
 use Rattle.nodes.specs.declared.change.Wide.{Wide}
 use Rattle.nodes.specs.Node.{extra}
-use Rattle.nodes.specs.Laws.Node.{extra_le}
+use Rattle.nodes.proofs.Laws.Node.{extra_le}
 use Rattle.nodes.specs.Entries.{entries_of, wide_entries}
-use Rattle.nodes.specs.Laws.Entries.{length_entries}
+use Rattle.nodes.proofs.Laws.Entries.{length_entries}
 use Rattle.nodes.specs.Change.{narrow, wide_keys, wide_slots}
-use Rattle.nodes.specs.Laws.Kept.{narrow_entries}
+use Rattle.nodes.proofs.Laws.Kept.{narrow_entries}
 use Rattle.operations.specs.Object.{node, Ans, Writes}
 use Rattle.operations.specs.Entry.{Entries, node_value, fewest_entries, most_entries, kind}
 use Rattle.operations.specs.Path.{TreePlan, Branch}

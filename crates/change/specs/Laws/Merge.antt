@@ -8,15 +8,15 @@ use Prim.Native.Nat.{ℕ, suc, ◌+◌, ◌≤◌, ◌<◌}
 use Rattle.std.proofs.Math.Decide.{ℕ_discrete}
 use Rattle.std.proofs.Math.ListN.{get_or-map}
 use borrow.Author.Tests.{not-true, not-false, eqb-true, eqb-false}
-use Rattle.base.specs.Laws.Test.{ifd_yes, ifd_no}
+use Rattle.base.proofs.Laws.Test.{ifd_yes, ifd_no}
 use Rattle.nodes.specs.declared.node.Node.{Node}
 use Rattle.nodes.specs.declared.change.Wide.{Wide}
 use Rattle.nodes.specs.Lists.{remove_at}
-use Rattle.nodes.specs.Laws.Lists.{length_remove}
+use Rattle.nodes.proofs.Laws.Lists.{length_remove}
 use Rattle.nodes.specs.Node.{extra, keys_of, pair_at, made, free_node}
 use Rattle.nodes.specs.Entries.{entries_of, wide_entries}
 use Rattle.nodes.specs.Change.{take_out}
-use Rattle.nodes.specs.Laws.Kept.{length_entries_of, take_out_entries}
+use Rattle.nodes.proofs.Laws.Kept.{length_entries_of, take_out_entries}
 use Rattle.operations.specs.Object.{node, flag, taken, free, no_tree, Ans, Writes}
 use Rattle.operations.specs.Slot.{release}
 use Rattle.operations.specs.Entry.{Entries, keys}

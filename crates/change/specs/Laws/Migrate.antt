@@ -9,12 +9,12 @@ use Rattle.std.proofs.Math.ListN.{length, get_or}
 use Rattle.std.proofs.Math.Seq.{get_or-take}
 use borrow.Author.Tests.{not-true, not-false}
 use Rattle.base.specs.Test.{ifd}
-use Rattle.base.specs.Laws.Test.{ifd_yes, ifd_no}
+use Rattle.base.proofs.Laws.Test.{ifd_yes, ifd_no}
 use Rattle.nodes.specs.declared.node.Node.{Node}
 use Rattle.nodes.specs.Name.{server_of}
 use Rattle.nodes.specs.Node.{keys_of, slots_of}
 use Rattle.nodes.specs.Kept.{Whole}
-use Rattle.nodes.specs.Laws.Kept.{whole}
+use Rattle.nodes.proofs.Laws.Kept.{whole}
 use Rattle.operations.specs.Object.{meta, node, Val, body, no_tree}
 use Rattle.operations.specs.Path.{TreePlan}
 use Rattle.operations.specs.Migrate.{move_root, move_at, first_key, move_below, move_node, move_if, migrate_plan}

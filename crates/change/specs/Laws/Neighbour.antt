@@ -15,7 +15,7 @@ use Rattle.nodes.specs.Node.{extra, slots_of, made}
 use Rattle.nodes.specs.Entries.{entries_of, wide_entries}
 use Rattle.nodes.specs.Change.{wide, join, narrow, cut_at, merged, from_left, from_right, with_key}
 use Rattle.nodes.specs.Kept.{Whole}
-use Rattle.nodes.specs.Laws.Kept.{length_entries_of, key_entries}
+use Rattle.nodes.proofs.Laws.Kept.{length_entries_of, key_entries}
 use Rattle.operations.specs.Object.{node, no_tree, Writes}
 use Rattle.operations.specs.Entry.{kind}
 use Rattle.operations.specs.Path.{TreePlan, Branch, kid}

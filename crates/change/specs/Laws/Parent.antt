@@ -5,7 +5,7 @@ use Rattle.std.proofs.Math.Decide.{ℕ_discrete, dec_lt}
 use Rattle.std.proofs.Math.ListN.{length, length-set, get_or-map}
 use Rattle.std.proofs.lemmas.List.{set_split}
 use Rattle.std.proofs.lemmas.Bool.{not-true, not-false}
-use Rattle.base.specs.Laws.Test.{of_yes, of_no, ifd_yes, ifd_no}
+use Rattle.base.proofs.Laws.Test.{of_yes, of_no, ifd_yes, ifd_no}
 use Rattle.base.specs.Test.{ifd}
 use Rattle.nodes.specs.declared.node.Node.{Node}
 use Rattle.nodes.specs.Place.{place}
@@ -13,7 +13,7 @@ use Rattle.nodes.specs.Node.{extra, keys_of, slots_of, made}
 use Rattle.nodes.specs.Change.{with_slot}
 use Rattle.nodes.specs.Entries.{entries_of}
 use Rattle.nodes.specs.Kept.{Whole}
-use Rattle.nodes.specs.Laws.Kept.{made_whole, length_entries_of, slot_entries}
+use Rattle.nodes.proofs.Laws.Kept.{made_whole, length_entries_of, slot_entries}
 use Rattle.operations.specs.Object.{node, Val, no_tree, Writes}
 use Rattle.operations.specs.Entry.{Entries, keys, node_value}
 use Rattle.operations.specs.Path.{TreePlan, Branch, Cont, down}

@@ -6,13 +6,13 @@ use Rattle.std.proofs.Math.Seq.{length-take-le}
 use Rattle.nodes.specs.declared.node.Node.{Node}
 use Rattle.nodes.specs.declared.change.Wide.{Wide}
 use Rattle.nodes.specs.Lists.{remove_at}
-use Rattle.nodes.specs.Laws.Lists.{length_remove}
+use Rattle.nodes.proofs.Laws.Lists.{length_remove}
 use Rattle.nodes.specs.Node.{extra, keys_of, slots_of, made}
-use Rattle.nodes.specs.Laws.Node.{extra_le}
+use Rattle.nodes.proofs.Laws.Node.{extra_le}
 use Rattle.nodes.specs.Entries.{entries_of, wide_entries}
 use Rattle.nodes.specs.Change.{wide, wide_keys, wide_slots, take_out, with_key, narrow, cut_at, join}
 use Rattle.nodes.specs.Kept.{WholeWide}
-use Rattle.nodes.specs.Laws.Kept.{made_whole, wide_whole, entries_wide, join_whole}
+use Rattle.nodes.proofs.Laws.Kept.{made_whole, wide_whole, entries_wide, join_whole}
 use Rattle.operations.specs.Entry.{fewest_entries, kind}
 use Rattle.change.specs.Rise.{OfLevel, Content, widened}
 

@@ -8,12 +8,12 @@ use Rattle.nodes.specs.declared.change.Wide.{Wide}
 use Rattle.nodes.specs.declared.change.Halves.{Halves}
 use Rattle.nodes.specs.Lists.{pad}
 use Rattle.nodes.specs.Node.{extra, keys_of, slots_of, made}
-use Rattle.nodes.specs.Laws.Node.{keys_made, slots_made}
+use Rattle.nodes.proofs.Laws.Node.{keys_made, slots_made}
 use Rattle.nodes.specs.Entries.{entries_of}
 use Rattle.nodes.specs.Change.{wide, with_version}
 use Rattle.nodes.specs.Kept.{Whole}
-use Rattle.nodes.specs.Laws.Kept.{whole}
-use Rattle.nodes.specs.Laws.Stored.{Sized}
+use Rattle.nodes.proofs.Laws.Kept.{whole}
+use Rattle.nodes.proofs.Laws.Stored.{Sized}
 use Rattle.operations.specs.Object.{node, Writes}
 use Rattle.operations.specs.Entry.{node_value, kind}
 use Rattle.operations.specs.Path.{TreePlan, Branch}

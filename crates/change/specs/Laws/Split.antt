@@ -7,12 +7,12 @@ use Rattle.std.proofs.lemmas.Bool.{not-true, not-false}
 use Rattle.nodes.specs.declared.change.Wide.{Wide}
 use Rattle.nodes.specs.declared.change.Halves.{Halves}
 use Rattle.nodes.specs.Lists.{insert_at}
-use Rattle.nodes.specs.Laws.Lists.{length_insert}
+use Rattle.nodes.proofs.Laws.Lists.{length_insert}
 use Rattle.nodes.specs.Node.{extra, keys_of, made}
 use Rattle.nodes.specs.Entries.{entries_of, wide_entries}
-use Rattle.nodes.specs.Laws.Entries.{first}
+use Rattle.nodes.proofs.Laws.Entries.{first}
 use Rattle.nodes.specs.Change.{wide, put_in, cut_at}
-use Rattle.nodes.specs.Laws.Kept.{length_entries_of, put_in_whole, put_in_entries, split_left, split_right, split_sep}
+use Rattle.nodes.proofs.Laws.Kept.{length_entries_of, put_in_whole, put_in_entries, split_left, split_right, split_sep}
 use Rattle.operations.specs.Object.{node, flag, taken, no_tree, Writes}
 use Rattle.operations.specs.Slot.{take_for, take_node}
 use Rattle.operations.specs.Entry.{Entries, fewest_entries, first_key_or, kind}

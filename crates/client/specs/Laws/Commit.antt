@@ -8,7 +8,7 @@ use Rattle.std.proofs.Math.Decide.{dec_lt}
 use native.Mathlib.Omega.{arith}
 use borrow.Author.Tests.{eq-eqb, ne_eqb, le-leb, lt-leb, not-true, not-false}
 use Rattle.memory.specs.Bit.{put_bit}
-use Rattle.memory.specs.Laws.Bit.{put_twice, put_swap, put_none}
+use Rattle.memory.proofs.Laws.Bit.{put_twice, put_swap, put_none}
 use Rattle.nodes.specs.Name.{server_of}
 use Rattle.nodes.specs.States.{present}
 use Rattle.nodes.specs.declared.node.Node.{Node}

@@ -9,7 +9,7 @@ use Rattle.std.proofs.Math.Seq.{take-suc, get_or-drop}
 use Rattle.memory.specs.Bit.{put_bit}
 use Rattle.layout.specs.Space.{Put, changed}
 use Rattle.layout.specs.Step.{and_then}
-use Rattle.layout.specs.Laws.Step.{changed_append}
+use Rattle.layout.proofs.Laws.Step.{changed_append}
 use Rattle.layout.specs.Sweep.{sweep}
 use Rattle.nodes.specs.Name.{server_of}
 use Rattle.nodes.specs.declared.node.Node.{Node}

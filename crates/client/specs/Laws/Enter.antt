@@ -4,7 +4,7 @@ use Rattle.std.proofs.Common.{sym, ◌∙◌, append_assoc, append-nil, arith, o
 use borrow.Author.Tests.{ltb-true, lt-ltb, le-ltb}
 use Rattle.layout.specs.Space.{changed}
 use Rattle.layout.specs.Step.{and_then}
-use Rattle.layout.specs.Laws.Step.{changed_append}
+use Rattle.layout.proofs.Laws.Step.{changed_append}
 use Rattle.layout.specs.Sweep.{sweep}
 use Rattle.nodes.specs.declared.node.Node.{Node}
 use Rattle.nodes.specs.declared.found.Found.{Found}

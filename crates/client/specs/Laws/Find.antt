@@ -5,7 +5,7 @@ use Rattle.std.proofs.Common.{sym, ◌∙◌, arith, add-one}
 use borrow.Author.Tests.{eq-eqb, ne_eqb}
 use Rattle.nodes.specs.declared.found.Found.TheVariants.{At, Absent}
 use Rattle.nodes.specs.Found.{Inside}
-use Rattle.nodes.specs.Laws.Found.{at_inside}
+use Rattle.nodes.proofs.Laws.Found.{at_inside}
 use Rattle.client.specs.declared.part.Set.{Set}
 use Rattle.client.specs.Layout.{ClientWord}
 use Rattle.client.specs.Sets.{count, number_at, first_of, find}

@@ -13,7 +13,7 @@ use Rattle.nodes.specs.declared.node.Node.{Node}
 use Rattle.nodes.specs.declared.found.Found.{Found}
 use Rattle.nodes.specs.declared.found.Found.TheVariants.{At, Absent}
 use Rattle.nodes.specs.Stored.{words_of}
-use Rattle.nodes.specs.Laws.Standing.{slot_there}
+use Rattle.nodes.proofs.Laws.Standing.{slot_there}
 use Rattle.client.specs.Record.{first_slot}
 use Rattle.client.specs.Run.{among}
 use Rattle.client.specs.Lent.{Lent, InUse, used_in, pushed, OwnFits, own_record, own_find, own_at, own_put}

@@ -14,7 +14,7 @@ use Rattle.nodes.specs.declared.found.Found.{Found}
 use Rattle.nodes.specs.declared.found.Found.TheVariants.{At, Absent}
 use Rattle.nodes.specs.Stored.{node_at}
 use Rattle.nodes.specs.Range.{node_in_range}
-use Rattle.nodes.specs.Laws.Found.{found_inside}
+use Rattle.nodes.proofs.Laws.Found.{found_inside}
 use Rattle.nodes.specs.States.{metadata_fits}
 use Rattle.client.specs.declared.answer.How.{How}
 use Rattle.client.specs.declared.answer.How.TheVariants.{Here, Copied, Lacking}

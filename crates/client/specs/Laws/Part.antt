@@ -3,9 +3,9 @@ use Rattle.std.specs.Prelude.{◌≡◌, refl, Bool, true, false, cond, List, �
 use Rattle.std.proofs.Common.{sym, ap, ◌∙◌, arith, add-zero, leb-true}
 use Rattle.std.proofs.lemmas.List.Edits.{sets}
 use Rattle.memory.specs.Word.{view}
-use Rattle.memory.specs.Laws.Word.{view_length}
+use Rattle.memory.proofs.Laws.Word.{view_length}
 use Rattle.layout.specs.Block.{size, In, offset}
-use Rattle.layout.specs.Laws.Space.{Run, mem_at, mem_run, stored_run, tab_get_or}
+use Rattle.layout.proofs.Laws.Space.{Run, mem_at, mem_run, stored_run, tab_get_or}
 use Rattle.layout.specs.Space.{at, Valid, stored, puts}
 use Rattle.layout.specs.Step.{Does, stepped, silent}
 use Rattle.nodes.specs.declared.node.Node.{Node}
@@ -13,7 +13,7 @@ use Rattle.client.specs.declared.part.Set.{Set}
 use Rattle.client.specs.declared.part.Set.TheVariants.{Reads, Writes, Copies}
 use Rattle.client.specs.Layout.{ClientWord, client_words, client_block, field, item, vector_word, reads_count, writes_count, limit, base}
 use Rattle.nodes.specs.Stored.{node_of, node_at, words_of, put_node}
-use Rattle.nodes.specs.Laws.Stored.{Sized, length_words}
+use Rattle.nodes.proofs.Laws.Stored.{Sized, length_words}
 use Rattle.client.specs.Sets.{held, at_most, count, number_at, record_at}
 use Rattle.client.specs.Vectors.{vector_copy}
 use Rattle.client.specs.Part.{put_field, put_item, put_word}

@@ -9,7 +9,7 @@ use borrow.Author.Tests.{eq-eqb, ne_eqb, le-leb, lt-leb, not-true, not-false}
 use Rattle.nodes.specs.declared.node.Node.{Node}
 use Rattle.nodes.specs.Node.{extra, slots_of}
 use Rattle.nodes.specs.Range.{node_in_range}
-use Rattle.nodes.specs.Laws.Range.{range_count}
+use Rattle.nodes.proofs.Laws.Range.{range_count}
 use Rattle.nodes.specs.States.{metadata_fits}
 use Rattle.client.specs.Record.{first_slot, second_slot, in_store, record_in_range, all, children_there, node_fits, whole_in_range, kind_in_range}
 

@@ -4,19 +4,19 @@ use Rattle.std.proofs.Common.{sym, ◌∙◌, subst, arith, ltb-true, lt-ltb}
 use Rattle.std.proofs.Math.Path.{ap}
 use Rattle.std.proofs.lemmas.List.Edits.{sets}
 use Rattle.memory.specs.Word.{view}
-use Rattle.memory.specs.Laws.Word.{view_length}
+use Rattle.memory.proofs.Laws.Word.{view_length}
 use Rattle.layout.specs.Block.{size, In, offset}
 use Rattle.layout.specs.Space.{put, tab, at, Valid, mem, changed, stored, puts}
-use Rattle.layout.specs.Laws.Space.{tab_get_or, Run, stored_run, valid_run, AllValid, length_stored}
+use Rattle.layout.proofs.Laws.Space.{tab_get_or, Run, stored_run, valid_run, AllValid, length_stored}
 use Rattle.layout.specs.Step.{Does, silent, stepped, and_then}
-use Rattle.layout.specs.Laws.Step.{does_then, does_mem, valid_append}
+use Rattle.layout.proofs.Laws.Step.{does_then, does_mem, valid_append}
 use Rattle.layout.specs.Sweep.{sweep}
-use Rattle.layout.specs.Laws.Sweep.{sweep_valid, sweep_none, sweep_next}
+use Rattle.layout.proofs.Laws.Sweep.{sweep_valid, sweep_none, sweep_next}
 use Rattle.nodes.specs.declared.node.Node.{Node}
 use Rattle.nodes.specs.declared.found.Found.{Found}
 use Rattle.nodes.specs.declared.found.Found.TheVariants.{At, Absent}
 use Rattle.nodes.specs.Found.{Inside}
-use Rattle.nodes.specs.Laws.Found.{at_inside, absent_inside}
+use Rattle.nodes.proofs.Laws.Found.{at_inside, absent_inside}
 use Rattle.nodes.specs.Stored.{words_of}
 use Rattle.client.specs.declared.part.Set.{Set}
 use Rattle.client.specs.Layout.{ClientWord, client_words, client_block, field, item, vector_word, limit}

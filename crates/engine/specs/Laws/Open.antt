@@ -10,13 +10,13 @@ use Rattle.std.proofs.lemmas.List.Edits.{sets}
 use Rattle.std.proofs.Math.Seq.{length-sets}
 use Rattle.layout.specs.Block.{In, offset, size}
 use Rattle.memory.specs.Word.{view}
-use Rattle.memory.specs.Laws.Bit.{one_shifted}
+use Rattle.memory.proofs.Laws.Bit.{one_shifted}
 use Rattle.layout.specs.Space.{put, at, Valid, changed, stored}
-use Rattle.layout.specs.Laws.Space.{AllValid, mem_zeros, mem_stored}
+use Rattle.layout.proofs.Laws.Space.{AllValid, mem_zeros, mem_stored}
 use Rattle.layout.specs.Step.{Does, silent, stepped}
-use Rattle.layout.specs.Laws.Step.{does_as, does_both, valid_append}
+use Rattle.layout.proofs.Laws.Step.{does_as, does_both, valid_append}
 use Rattle.layout.specs.Part.{over, in_part}
-use Rattle.layout.specs.Laws.Part.{good_all}
+use Rattle.layout.proofs.Laws.Part.{good_all}
 use Rattle.server.specs.declared.place.Place.TheVariants.{States, Vector, Node}
 use Rattle.nodes.specs.States.{first_states}
 use Rattle.server.specs.Layout.{places, server_block, put_step}
@@ -26,7 +26,7 @@ use Rattle.server.specs.Laws.Fresh.{first_node_valid, first_flag_valid}
 use Rattle.steps.specs.declared.sizes.Sizes.{Sizes}
 use Rattle.engine.specs.declared.open.Opening.TheVariants.{Accepted, Refused}
 use Rattle.steps.specs.Whole.{Allowed, Address, server, whole, block, words_for, server_at}
-use Rattle.steps.specs.Laws.Whole.{server_part}
+use Rattle.steps.proofs.Laws.Whole.{server_part}
 use Rattle.steps.specs.Steps.{at_servers}
 use Rattle.steps.specs.Refusal.{open_refusal}
 use Rattle.steps.specs.Run.{first_stores, opened}

@@ -4,7 +4,7 @@ use Rattle.std.proofs.Common.{sym, ap, ◌∙◌, append_assoc, arith, length-dr
 use borrow.Rule.Slice.PartMut.{mid_of}
 use Rattle.std.proofs.lemmas.List.Edits.{sets, sets-eq}
 use Rattle.memory.specs.Word.{view}
-use Rattle.memory.specs.Laws.Word.{view_length}
+use Rattle.memory.proofs.Laws.Word.{view_length}
 use Rattle.operations.specs.Entry.{Entries}
 use Rattle.walk.specs.Found.{pair_in, first_pairs, pairs_in, Roomy}
 use Rattle.walk.specs.Laws.Found.{length_pairs}

@@ -7,10 +7,10 @@ use Rattle.std.proofs.Math.ListN.{length, get_or}
 use Rattle.std.proofs.lemmas.List.Edits.{sets}
 use Rattle.std.proofs.Math.Seq.{length-sets}
 use Rattle.memory.specs.Word.{view}
-use Rattle.memory.specs.Laws.Word.{view_length}
+use Rattle.memory.proofs.Laws.Word.{view_length}
 use Rattle.layout.specs.Block.{size, In, offset}
 use Rattle.layout.specs.Space.{at, Valid, changed, stored}
-use Rattle.layout.specs.Laws.Space.{mem_at, mem_stored, length_stored}
+use Rattle.layout.proofs.Laws.Space.{mem_at, mem_stored, length_stored}
 use Rattle.steps.specs.declared.sizes.Sizes.{Sizes}
 use Rattle.steps.specs.declared.step.Step.{Step}
 use Rattle.steps.specs.declared.outcome.Outcome.{Outcome}
@@ -20,11 +20,11 @@ use Rattle.steps.specs.Output.{with_pairs}
 use Rattle.steps.specs.Steps.{Did, step}
 use Rattle.steps.specs.Run.{first_stores, opened}
 use Rattle.steps.specs.Taken.{Words, Taken, came_to, LeadsBy, Leads}
-use Rattle.steps.specs.Laws.Taken.{leads_on}
+use Rattle.steps.proofs.Laws.Taken.{leads_on}
 use Rattle.kinds.specs.Parts.{StoreIn, head_sizes, stored_in}
 use Rattle.kinds.specs.Laws.Refusal.{none_holds}
-use Rattle.demand.specs.Laws.Inside.{step_lies}
-use Rattle.demand.specs.Laws.Opened.{opened_head}
+use Rattle.demand.proofs.Laws.Inside.{step_lies}
+use Rattle.demand.proofs.Laws.Opened.{opened_head}
 use Rattle.engine.specs.declared.open.Opening.{Opening}
 use Rattle.engine.specs.declared.open.Opening.TheVariants.{Accepted}
 use Rattle.engine.specs.Open.{opening, new_words, words_opened}

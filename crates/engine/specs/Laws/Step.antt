@@ -23,10 +23,10 @@ use Rattle.steps.specs.Whole.{Address, client, whole, block}
 use Rattle.steps.specs.Refusal.{kind_of, state_fits, open_refusal, refusal}
 use Rattle.steps.specs.Servers.{version_ends}
 use Rattle.steps.specs.Passed.{Passed}
-use Rattle.steps.specs.Laws.Passed.{passed}
+use Rattle.steps.proofs.Laws.Passed.{passed}
 use Rattle.steps.specs.Output.{with_pairs}
 use Rattle.steps.specs.Steps.{Did, refuse, begin, give, work, commit, prepare, apply, abort, lose, change_servers, by_kind, by_rule, short_output, lacks_room, step}
-use Rattle.steps.specs.Laws.Unlisted.{works?, kind_unlisted}
+use Rattle.steps.proofs.Laws.Unlisted.{works?, kind_unlisted}
 use Rattle.kinds.specs.Parts.{head_sizes, stored_in}
 use Rattle.kinds.specs.Judge.{of_client}
 use Rattle.kinds.specs.Laws.Refusal.{too_short}

@@ -53,8 +53,8 @@ use Rattle.steps.specs.Whole.{Address, client, whole, block, client_at}
 use Rattle.steps.specs.Uses.{item_of}
 use Rattle.steps.specs.Output.{with_pairs}
 use Rattle.steps.specs.Steps.{Did as StepDid, refuse, abort, fetch, after_walk, work}
-use Rattle.steps.specs.Laws.Unlisted.{pairs_of, walk_pairs}
-use Rattle.steps.specs.Laws.There.{in_store_has}
+use Rattle.steps.proofs.Laws.Unlisted.{pairs_of, walk_pairs}
+use Rattle.steps.proofs.Laws.There.{in_store_has}
 use Rattle.kinds.specs.Parts.{StoreIn, stored_in}
 use Rattle.kinds.specs.Laws.Parts.{client_lent}
 use Rattle.kinds.specs.Items.{read_item}

@@ -8,7 +8,7 @@ use Rattle.steps.specs.declared.outcome.Outcome.{Outcome}
 use Rattle.steps.specs.Outcome.{line}
 use Rattle.steps.specs.Refusal.{open_refusal}
 use Rattle.steps.specs.Taken.{came_to, outcome_from}
-use Rattle.steps.specs.Laws.Taken.{same_outcome}
+use Rattle.steps.proofs.Laws.Taken.{same_outcome}
 use Rattle.engine.specs.Open.{words_opened}
 use Rattle.engine.specs.Step.{outcome_of}
 use Rattle.engine.specs.Reached.{Reached, Goes_on}

@@ -7,12 +7,12 @@ use mathlib.Core.List.{List, []}
 use Prim.Native.Nat.{ℕ, zero, suc, ◌+◌, ◌≤◌, ◌<◌}
 use native.Mathlib.Omega.{arith}
 use Rattle.memory.specs.Word.{view}
-use Rattle.memory.specs.Laws.Word.{view_length}
+use Rattle.memory.proofs.Laws.Word.{view_length}
 use Rattle.memory.specs.Bit.{bit}
 use Rattle.layout.specs.Space.{Put, changed, stored}
-use Rattle.layout.specs.Laws.Space.{AllValid}
+use Rattle.layout.proofs.Laws.Space.{AllValid}
 use Rattle.layout.specs.Step.{Does, silent, stepped}
-use Rattle.layout.specs.Laws.Step.{changed_append, stored_append, does_as, does_mem, valid_append}
+use Rattle.layout.proofs.Laws.Step.{changed_append, stored_append, does_as, does_mem, valid_append}
 use Rattle.layout.specs.Part.{over, in_part}
 use Rattle.server.specs.declared.place.Place.{Place}
 use Rattle.client.specs.declared.part.Set.TheVariants.{Reads}
@@ -24,7 +24,7 @@ use Rattle.steps.specs.declared.outcome.Outcome.TheVariants.{Refused, Aborted}
 use Rattle.kinds.specs.declared.locks.Change.{Change}
 use Rattle.kinds.specs.declared.locks.Change.TheVariants.{Unlock}
 use Rattle.steps.specs.Whole.{Address, server, client, whole, block, words_for}
-use Rattle.steps.specs.Laws.Stores.{client_of, server_of, server_clients, server_else}
+use Rattle.steps.proofs.Laws.Stores.{client_of, server_of, server_clients, server_else}
 use Rattle.steps.specs.Uses.{item_of, locked_at}
 use Rattle.steps.specs.Judge.{lowest_participant, abort_fits}
 use Rattle.client.specs.Participants.{lowest_of}

@@ -4,11 +4,11 @@ use Rattle.std.proofs.Math.Path.{refl}
 use Rattle.std.proofs.Common.{sym, ap, ◌∙◌, arith}
 use borrow.Author.Tests.{not-true, not-false}
 use Rattle.memory.specs.Word.{view}
-use Rattle.memory.specs.Laws.Word.{view_length}
+use Rattle.memory.proofs.Laws.Word.{view_length}
 use Rattle.memory.specs.Bit.{put_bit}
 use Rattle.layout.specs.Space.{Put, changed}
 use Rattle.layout.specs.Step.{Does, silent, and_then}
-use Rattle.layout.specs.Laws.Step.{does_as, valid_append}
+use Rattle.layout.proofs.Laws.Step.{does_as, valid_append}
 use Rattle.layout.specs.Part.{over, in_part}
 use Rattle.server.specs.declared.place.Place.{Place}
 use Rattle.client.specs.declared.part.Set.TheVariants.{Reads, Writes}
@@ -25,7 +25,7 @@ use Rattle.steps.specs.declared.outcome.Outcome.{Outcome}
 use Rattle.steps.specs.declared.outcome.Outcome.TheVariants.{Refused, Applied, Committed}
 use Rattle.kinds.specs.declared.locks.Change.TheVariants.{Unlock}
 use Rattle.steps.specs.Whole.{server, client, whole, block, words_for}
-use Rattle.steps.specs.Laws.Stores.{server_clients}
+use Rattle.steps.proofs.Laws.Stores.{server_clients}
 use Rattle.steps.specs.Uses.{item_of, locked_at}
 use Rattle.steps.specs.Judge.{unlock_fits}
 use Rattle.steps.specs.Steps.{did, covers, store_all, all_applied, applied_at, apply}

@@ -13,15 +13,15 @@ use borrow.Rule.Slice.PartMut.{put_mid, mid_of}
 use Rattle.std.proofs.Math.Dec.{eqb, leb, ltb}
 use Rattle.base.specs.Test.{and_both}
 use Rattle.memory.specs.Word.{view}
-use Rattle.memory.specs.Laws.Word.{view_length}
+use Rattle.memory.proofs.Laws.Word.{view_length}
 use Rattle.memory.specs.Bit.{put_bit}
 use Rattle.layout.specs.Block.{In}
 use Rattle.layout.specs.Space.{Put, put, Valid, mem, changed, stored}
-use Rattle.layout.specs.Laws.Space.{AllValid, Only, changed_only, only_append}
+use Rattle.layout.proofs.Laws.Space.{AllValid, Only, changed_only, only_append}
 use Rattle.layout.specs.Step.{Does, silent, stepped}
-use Rattle.layout.specs.Laws.Step.{stored_append, changed_append, valid_append, does_as, does_mem}
+use Rattle.layout.proofs.Laws.Step.{stored_append, changed_append, valid_append, does_as, does_mem}
 use Rattle.layout.specs.Part.{over, in_part}
-use Rattle.layout.specs.Laws.Part.{good_all, over_append}
+use Rattle.layout.proofs.Laws.Part.{good_all, over_append}
 use Rattle.server.specs.declared.hand_out.Metadata.{Metadata}
 use Rattle.server.specs.declared.place.Place.{Place}
 use Rattle.server.specs.declared.place.Place.TheVariants.{Root, Version, States, MetadataLock, Vector, Node, FlagLock, Table, NodeLock}
@@ -37,8 +37,8 @@ use Rattle.steps.specs.declared.step.ServerChange.{ServerChange}
 use Rattle.steps.specs.declared.step.ServerChange.TheVariants.{Add, Close, Remove}
 use Rattle.steps.specs.declared.outcome.Outcome.TheVariants.{Refused, Done}
 use Rattle.steps.specs.Whole.{Address, client, server, whole, block, words_for, server_at}
-use Rattle.steps.specs.Laws.Whole.{server_part}
-use Rattle.steps.specs.Laws.Stores.{server_of, server_changed, server_else}
+use Rattle.steps.proofs.Laws.Whole.{server_part}
+use Rattle.steps.proofs.Laws.Stores.{server_of, server_changed, server_else}
 use Rattle.steps.specs.Servers.{there, lowest_there, version_ends, larger, largest, largest_version, is_add, changed_states}
 use Rattle.steps.specs.Steps.{at_servers, did, change_fits, change_servers}
 use Rattle.kinds.specs.Parts.{StoreIn, stored_in}

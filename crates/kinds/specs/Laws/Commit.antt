@@ -6,7 +6,7 @@ use borrow.Rule.Slice.PartMut.{mid_of}
 use Rattle.memory.specs.Word.{view}
 use Rattle.layout.specs.Space.{put}
 use Rattle.layout.specs.Step.{Does, silent}
-use Rattle.layout.specs.Laws.Step.{does_both, does_as}
+use Rattle.layout.proofs.Laws.Step.{does_both, does_as}
 use Rattle.layout.specs.Part.{over, in_part}
 use Rattle.client.specs.Layout.{field}
 use Rattle.client.specs.Sets.{held}

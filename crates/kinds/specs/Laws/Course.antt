@@ -4,7 +4,7 @@ use Rattle.std.proofs.Math.Path.{sym}
 use Rattle.std.proofs.Common.{◌∙◌}
 use Rattle.memory.specs.Bit.{bit, put_bit}
 use Rattle.layout.specs.Step.{Does, silent}
-use Rattle.layout.specs.Laws.Step.{does_as}
+use Rattle.layout.proofs.Laws.Step.{does_as}
 use Rattle.layout.specs.Part.{in_part}
 use Rattle.client.specs.Items.{all_below}
 use Rattle.client.specs.Layout.{ClientWord, field}

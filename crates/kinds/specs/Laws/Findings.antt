@@ -8,7 +8,7 @@ use borrow.Author.Tests.{eq-eqb, ne_eqb, le-leb, lt-leb, leb-true, leb-false, eq
 use borrow.Rule.Slice.PartMut.{mid_of}
 use Rattle.memory.specs.Word.{view}
 use Rattle.memory.specs.Bit.{bit}
-use Rattle.memory.specs.Laws.Bit.{zero_bit, put_none}
+use Rattle.memory.proofs.Laws.Bit.{zero_bit, put_none}
 use Rattle.layout.specs.Space.{mem}
 use Rattle.server.specs.declared.check.Finding.{Finding}
 use Rattle.server.specs.declared.check.Finding.TheVariants.{Busy}

@@ -5,13 +5,13 @@ use Rattle.std.proofs.Common.{◌∙◌, arith}
 use mathlib.Core.List.{List, ◌++◌}
 use borrow.Rule.Slice.PartMut.{put_mid, mid_of}
 use Rattle.memory.specs.Word.{view}
-use Rattle.memory.specs.Laws.Word.{view_length}
+use Rattle.memory.proofs.Laws.Word.{view_length}
 use Rattle.layout.specs.Space.{Put, changed, stored}
-use Rattle.layout.specs.Laws.Space.{AllValid}
+use Rattle.layout.proofs.Laws.Space.{AllValid}
 use Rattle.layout.specs.Step.{Does, silent, stepped, and_then}
-use Rattle.layout.specs.Laws.Step.{stored_append, does_then, does_as, does_mem}
+use Rattle.layout.proofs.Laws.Step.{stored_append, does_then, does_as, does_mem}
 use Rattle.layout.specs.Part.{in_part, over}
-use Rattle.layout.specs.Laws.Part.{good_all, over_append}
+use Rattle.layout.proofs.Laws.Part.{good_all, over_append}
 use Rattle.client.specs.Layout.{ClientWord, client_words, client_block}
 use Rattle.client.specs.Laws.Steps.{Good}
 use Rattle.steps.specs.declared.sizes.Sizes.{Sizes}
@@ -19,8 +19,8 @@ use Rattle.steps.specs.declared.step.Step.{Step}
 use Rattle.steps.specs.declared.outcome.Outcome.{Outcome}
 use Rattle.steps.specs.declared.outcome.Outcome.TheVariants.{Refused, Done}
 use Rattle.steps.specs.Whole.{Address, client, whole, block, words_for, client_at}
-use Rattle.steps.specs.Laws.Whole.{client_part}
-use Rattle.steps.specs.Laws.Stores.{client_of, client_changed}
+use Rattle.steps.proofs.Laws.Whole.{client_part}
+use Rattle.steps.proofs.Laws.Stores.{client_of, client_changed}
 use Rattle.steps.specs.Steps.{Did, did, refuse, begin, give}
 use Rattle.kinds.specs.Parts.{StoreIn, stored_in}
 use Rattle.kinds.specs.Laws.Parts.{client_back}

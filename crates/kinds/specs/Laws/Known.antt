@@ -15,7 +15,7 @@ use Rattle.client.specs.Laws.Ranges.{all_at}
 use Rattle.steps.specs.declared.sizes.Sizes.{Sizes}
 use Rattle.steps.specs.Whole.{client_at}
 use Rattle.steps.specs.Judge.{abort_fits}
-use Rattle.steps.specs.Laws.There.{in_store_has}
+use Rattle.steps.proofs.Laws.There.{in_store_has}
 use Rattle.kinds.specs.Parts.{StoreIn, stored_in}
 use Rattle.kinds.specs.Laws.Parts.{client_lent}
 use Rattle.kinds.specs.Judge.{of_client}

@@ -31,7 +31,7 @@ use Rattle.steps.specs.Steps.{Wanted, Did, did, refuse, if_fit, by_finding, abor
 use Rattle.steps.specs.Judge.{lock_fits}
 use Rattle.kinds.specs.Parts.{stored_in}
 use Rattle.kinds.specs.Judge.{of_client, of_server}
-use Rattle.steps.specs.Laws.There.{in_store_has}
+use Rattle.steps.proofs.Laws.There.{in_store_has}
 use Rattle.kinds.specs.Kinds.{Meets}
 use Rattle.kinds.specs.Laws.Kinds.{meets_did, meets_as, meets_refused}
 use Rattle.kinds.specs.Fetch.{Fetching, Checking, items_found, verdict_of, reached, gate_of}

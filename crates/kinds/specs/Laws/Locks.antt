@@ -6,15 +6,15 @@ use Rattle.std.proofs.Math.Bool.{true, false}
 use native.Mathlib.Omega.{arith}
 use borrow.Rule.Slice.PartMut.{put_mid, mid_of}
 use Rattle.memory.specs.Word.{view}
-use Rattle.memory.specs.Laws.Word.{view_length}
+use Rattle.memory.proofs.Laws.Word.{view_length}
 use Rattle.layout.specs.Space.{changed, stored}
-use Rattle.layout.specs.Laws.Space.{AllValid}
+use Rattle.layout.proofs.Laws.Space.{AllValid}
 use Rattle.layout.specs.Step.{Does, silent, stepped, and_then}
-use Rattle.layout.specs.Laws.Step.{does_then, does_as, does_mem}
+use Rattle.layout.proofs.Laws.Step.{does_then, does_as, does_mem}
 use Rattle.layout.specs.Part.{over, in_part}
-use Rattle.layout.specs.Laws.Part.{good_all, over_append}
+use Rattle.layout.proofs.Laws.Part.{good_all, over_append}
 use Rattle.layout.specs.Sweep.{sweep}
-use Rattle.layout.specs.Laws.Sweep.{sweep_valid}
+use Rattle.layout.proofs.Laws.Sweep.{sweep_valid}
 use Rattle.server.specs.declared.place.Place.{Place}
 use Rattle.server.specs.declared.object.Object.{Object}
 use Rattle.server.specs.Object.{object_of, Has}
@@ -26,8 +26,8 @@ use Rattle.steps.specs.declared.sizes.Sizes.{Sizes}
 use Rattle.kinds.specs.declared.locks.Change.{Change}
 use Rattle.kinds.specs.declared.locks.Change.TheVariants.{Lock, Unlock}
 use Rattle.steps.specs.Whole.{Address, server, client, whole, block, words_for, server_at}
-use Rattle.steps.specs.Laws.Whole.{server_part}
-use Rattle.steps.specs.Laws.Stores.{server_changed, server_clients}
+use Rattle.steps.proofs.Laws.Whole.{server_part}
+use Rattle.steps.proofs.Laws.Stores.{server_changed, server_clients}
 use Rattle.steps.specs.Uses.{Item, item_object, item_of, locked_at}
 use Rattle.steps.specs.Judge.{lowest_participant}
 use Rattle.kinds.specs.Parts.{StoreIn, stored_in}

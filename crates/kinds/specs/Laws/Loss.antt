@@ -3,9 +3,9 @@ use Rattle.std.specs.Prelude.{◌≡◌, refl, Bool, true, false, List, [], ℕ,
 use Rattle.std.proofs.Common.{sym, ◌∙◌, subst, arith}
 use borrow.Author.Tests.{eq-eqb, ne_eqb, le-leb, lt-leb}
 use Rattle.memory.specs.Word.{view}
-use Rattle.memory.specs.Laws.Word.{view_length}
+use Rattle.memory.proofs.Laws.Word.{view_length}
 use Rattle.layout.specs.Step.{Does, silent, and_then}
-use Rattle.layout.specs.Laws.Step.{does_then}
+use Rattle.layout.proofs.Laws.Step.{does_then}
 use Rattle.layout.specs.Part.{in_part}
 use Rattle.client.specs.Layout.{field}
 use Rattle.client.specs.Lent.{used_in}

@@ -8,14 +8,15 @@ use Rattle.memory.specs.Word.{view}
 use Rattle.layout.specs.Block.{size}
 use Rattle.layout.specs.Space.{Put, mem}
 use Rattle.layout.specs.Step.{Does, silent}
-use Rattle.layout.specs.Laws.Part.{Part, of_part, lent_mem, back_does}
+use Rattle.layout.proofs.Laws.Part.{of_part, lent_mem, back_does}
+use Rattle.layout.specs.Laws.Part.{Part}
 use Rattle.layout.specs.Part.{in_part}
 use Rattle.server.specs.declared.place.Place.{Place}
 use Rattle.client.specs.Layout.{ClientWord, client_words, client_block}
 use Rattle.steps.specs.declared.sizes.Sizes.{Sizes}
 use Rattle.kinds.specs.declared.whole.Length.TheVariants.{Bytes, Refused}
 use Rattle.steps.specs.Whole.{Allowed, server, client, whole, block, words_for, length_for, server_at, client_at}
-use Rattle.steps.specs.Laws.Whole.{server_part, client_part}
+use Rattle.steps.proofs.Laws.Whole.{server_part, client_part}
 use Rattle.steps.specs.Refusal.{between, allowed?}
 use Rattle.kinds.specs.Parts.{head_sizes, length_answer, StoreIn}
 use Rattle.server.specs.Layout as Srv

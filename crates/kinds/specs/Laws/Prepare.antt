@@ -5,12 +5,12 @@ use Rattle.std.proofs.Common.{sym, ap₂, ◌∙◌, subst, arith}
 use Rattle.std.proofs.Math.Bool.{true}
 use borrow.Author.Tests.{eq-eqb, ne_eqb, not-true, not-false}
 use Rattle.memory.specs.Word.{view}
-use Rattle.memory.specs.Laws.Word.{view_length}
+use Rattle.memory.proofs.Laws.Word.{view_length}
 use Rattle.memory.specs.Bit.{put_bit}
 use Rattle.layout.specs.Space.{put, changed, stored}
-use Rattle.layout.specs.Laws.Space.{upd_apart, AllValid}
+use Rattle.layout.proofs.Laws.Space.{upd_apart, AllValid}
 use Rattle.layout.specs.Step.{Does, silent, stepped, and_then}
-use Rattle.layout.specs.Laws.Step.{stored_append, changed_append, does_then, does_mem, valid_append}
+use Rattle.layout.proofs.Laws.Step.{stored_append, changed_append, does_then, does_mem, valid_append}
 use Rattle.layout.specs.Part.{over, in_part}
 use Rattle.nodes.specs.declared.node.Node.{Node}
 use Rattle.nodes.specs.declared.found.Found.{Found}
@@ -32,7 +32,7 @@ use Rattle.steps.specs.declared.outcome.Outcome.{Outcome}
 use Rattle.steps.specs.declared.outcome.Outcome.TheVariants.{Refused, Prepared, Decided}
 use Rattle.kinds.specs.declared.locks.Change.TheVariants.{Lock}
 use Rattle.steps.specs.Whole.{Address, client, whole, block, words_for}
-use Rattle.steps.specs.Laws.Stores.{client_of, client_changed}
+use Rattle.steps.proofs.Laws.Stores.{client_of, client_changed}
 use Rattle.steps.specs.Servers.{there}
 use Rattle.steps.specs.Steps.{Did, did, then, covers, abort, applied_at, prepared_at, checked_prepare, prepare}
 use Rattle.kinds.specs.Parts.{StoreIn, stored_in}

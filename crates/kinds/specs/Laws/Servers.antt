@@ -10,7 +10,7 @@ use borrow.Rule.Slice.PartMut.{mid_of}
 use Rattle.std.proofs.Math.Dec.{leb}
 use Rattle.memory.specs.Word.{view}
 use Rattle.layout.specs.Space.{mem}
-use Rattle.layout.specs.Laws.Space.{get_or_tab}
+use Rattle.layout.proofs.Laws.Space.{get_or_tab}
 use Rattle.nodes.specs.Name.{slot_of}
 use Rattle.nodes.specs.States.{is_present, is_open, is_closing}
 use Rattle.nodes.specs.declared.node.Node.{Node}

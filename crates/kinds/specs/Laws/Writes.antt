@@ -6,15 +6,15 @@ use native.Mathlib.Omega.{arith}
 use borrow.Author.Tests.{eq-eqb, ne_eqb, le-leb, lt-leb, le-ltb, ltb-true}
 use borrow.Rule.Slice.PartMut.{mid_of}
 use Rattle.base.specs.Test.{and_both}
-use Rattle.base.specs.Laws.Test.{or_neither}
+use Rattle.base.proofs.Laws.Test.{or_neither}
 use Rattle.memory.specs.Word.{view}
-use Rattle.memory.specs.Laws.Word.{view_length}
+use Rattle.memory.proofs.Laws.Word.{view_length}
 use Rattle.layout.specs.Space.{stored}
 use Rattle.layout.specs.Step.{Does, silent, stepped}
-use Rattle.layout.specs.Laws.Step.{does_as}
+use Rattle.layout.proofs.Laws.Step.{does_as}
 use Rattle.layout.specs.Part.{over, in_part}
 use Rattle.layout.specs.Sweep.{sweep}
-use Rattle.layout.specs.Laws.Sweep.{sweep_valid}
+use Rattle.layout.proofs.Laws.Sweep.{sweep_valid}
 use Rattle.nodes.specs.declared.node.Node.{Node}
 use Rattle.nodes.specs.Name.{server_of}
 use Rattle.server.specs.declared.place.Place.{Place}
@@ -32,7 +32,7 @@ use Rattle.client.specs.Laws.Ranges.{all_at}
 use Rattle.steps.specs.declared.sizes.Sizes.{Sizes}
 use Rattle.steps.specs.Whole.{server, whole, block, words_for, client_at}
 use Rattle.steps.specs.Steps.{store_write}
-use Rattle.steps.specs.Laws.Writes.{write_inside}
+use Rattle.steps.proofs.Laws.Writes.{write_inside}
 use Rattle.kinds.specs.Parts.{StoreIn}
 use Rattle.kinds.specs.Laws.Parts.{client_lent}
 use Rattle.kinds.specs.Judge.{of_client}

@@ -4,7 +4,7 @@ use borrow.Author.Rules.{rules}
 use lib.ListN.{length, replicate}
 use lib.Seq.{sets}
 use Rattle.memory.specs.Word.{view}
-use Rattle.memory.specs.Laws.Run.{fill_step, fill_end}
+use Rattle.memory.proofs.Laws.Run.{fill_step, fill_end}
 use Rattle.memory.proofs.fill_words.Statement.{statement}
 use Rattle.memory.proofs.fill_words.Tie as tie
 

@@ -5,8 +5,8 @@ use borrow.Author.Rules.{rules}
 use lib.ListN.{length, take, drop, length-set, length-drop}
 use lib.Seq.{take_all, get_or-drop}
 use Rattle.memory.specs.Word.{view}
-use Rattle.memory.specs.Laws.Word.{view_length}
-use Rattle.memory.specs.Laws.Run.{read_step}
+use Rattle.memory.proofs.Laws.Word.{view_length}
+use Rattle.memory.proofs.Laws.Run.{read_step}
 use Rattle.memory.proofs.read_words.Statement.{statement}
 use Rattle.memory.proofs.read_words.Tie as tie
 

@@ -5,7 +5,7 @@ use borrow.Author.Rules.{rules}
 use lib.ListN.{length, take}
 use lib.Seq.{sets, take_all}
 use Rattle.memory.specs.Word.{view}
-use Rattle.memory.specs.Laws.Run.{write_step}
+use Rattle.memory.proofs.Laws.Run.{write_step}
 use Rattle.memory.proofs.write_words.Statement.{statement}
 use Rattle.memory.proofs.write_words.Tie as tie
 

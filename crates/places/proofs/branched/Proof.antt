@@ -3,8 +3,8 @@ use Prim.Native.Nat.{◌+◌, ◌-◌, ◌≤◌, ◌<◌}
 use mathlib.Core.Logic.{⊎_elim}
 use Rattle.memory.specs.Word.{view}
 use Rattle.nodes.specs.Stored.{node_at}
-use Rattle.nodes.specs.Laws.Counting.{Counting, counting_starts, counting_ends, counted_within}
-use Rattle.nodes.specs.Laws.Standing.{keys_sized}
+use Rattle.nodes.proofs.Laws.Counting.{Counting, counting_starts, counting_ends, counted_within}
+use Rattle.nodes.proofs.Laws.Standing.{keys_sized}
 use Rattle.places.specs.Laws.Branched.{counts_key, passes_key}
 use Rattle.places.proofs.branched.Statement.{statement}
 use Rattle.places.proofs.branched.Tie as tie

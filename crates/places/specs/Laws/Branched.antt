@@ -7,7 +7,7 @@ use Rattle.nodes.specs.declared.node.Node.{Node}
 use Rattle.nodes.specs.declared.standing.KeyPlace.{KeyPlace}
 use Rattle.nodes.specs.Node.{keys_of}
 use Rattle.nodes.specs.Place.{place, there_at, key_place, Within}
-use Rattle.nodes.specs.Laws.Counting.{Counting, key_behind, counting_goes_on, answered}
+use Rattle.nodes.proofs.Laws.Counting.{Counting, key_behind, counting_goes_on, answered}
 
 -- ---- the loop
 module _

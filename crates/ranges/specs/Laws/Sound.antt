@@ -22,12 +22,12 @@ use Rattle.client.specs.Fits.{op_fits}
 use Rattle.client.specs.Laws.Ranges.{bounds}
 use Rattle.steps.specs.declared.sizes.Sizes.{Sizes}
 use Rattle.steps.specs.Whole.{Address, server}
-use Rattle.steps.specs.Laws.Stores.{client_of, server_of}
+use Rattle.steps.proofs.Laws.Stores.{client_of, server_of}
 use Rattle.steps.specs.Uses.{read_item, locked_at}
 use Rattle.steps.specs.Judge.{lowest_participant}
 use Rattle.steps.specs.Steps.{node_at}
-use Rattle.demand.specs.Laws.Shows.{InStore, lock_kept}
-use Rattle.demand.specs.Laws.Turns.{store}
+use Rattle.demand.proofs.Laws.Shows.{InStore, lock_kept}
+use Rattle.demand.proofs.Laws.Turns.{store}
 use Rattle.nodes.specs.Name as N
 use Rattle.server.specs.Lock as L
 

@@ -9,10 +9,10 @@ use Rattle.kinds.specs.Parts.{stored_in}
 use Rattle.kinds.specs.Laws.Refusal.{none_holds}
 use Rattle.demand.specs.Ledger.{RightAll}
 use Rattle.demand.specs.Demand.{Demand}
-use Rattle.demand.specs.Laws.Ears as Ears
-use Rattle.demand.specs.Laws.ClassList as ClassList
+use Rattle.demand.proofs.Laws.Ears as Ears
+use Rattle.demand.proofs.Laws.ClassList as ClassList
 use Rattle.engine.specs.Reached.{Reached, Goes_on}
-use Rattle.ranges.specs.Laws.Theorem as Theorem
+use Rattle.ranges.proofs.Laws.Theorem as Theorem
 use Rattle.schedule.specs.Listed.{as_written}
 use Rattle.schedule.specs.Promise.{Promise}
 use Rattle.schedule.specs.Laws.Written.{steps_run, reached_as_written}

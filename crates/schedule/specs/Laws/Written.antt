@@ -13,7 +13,7 @@ use Rattle.steps.specs.declared.outcome.Outcome.{Outcome}
 use Rattle.steps.specs.declared.outcome.Line.{Line}
 use Rattle.steps.specs.Outcome.{line}
 use Rattle.steps.specs.Taken.{Taken, steps_of, came_to, outcome_from}
-use Rattle.steps.specs.Laws.Taken.{same_outcome}
+use Rattle.steps.proofs.Laws.Taken.{same_outcome}
 use Rattle.engine.specs.Step.{words_after, output_after}
 use Rattle.engine.specs.Reached.{Goes_on}
 use Rattle.schedule.specs.Listed.{written_down, lines, taken_run, as_written, AllTaken}

@@ -7,7 +7,7 @@ use Rattle.std.proofs.Math.Decide.{ℕ_discrete}
 use Rattle.std.proofs.Math.ListN.{get_or, set}
 use Rattle.layout.specs.Block.{In}
 use Rattle.layout.specs.Space.{Valid, changed, tab, decide}
-use Rattle.layout.specs.Laws.Space.{tab_eq, tab_upd, upd_apart}
+use Rattle.layout.proofs.Laws.Space.{tab_eq, tab_upd, upd_apart}
 use Rattle.server.specs.declared.place.Place.{Place}
 use Rattle.server.specs.declared.place.Place.TheVariants.{States, Vector, Node}
 use Rattle.server.specs.Layout.{places, server_block, place_code}
@@ -17,7 +17,7 @@ use Rattle.nodes.specs.Lists.{pad}
 use Rattle.nodes.specs.States.{first_states}
 use Rattle.nodes.specs.Stored.{node_of}
 use Rattle.base.specs.Update.{upd}
-use Rattle.base.specs.Laws.Update.{upd_same, upd_other}
+use Rattle.base.proofs.Laws.Update.{upd_same, upd_other}
 use Rattle.server.specs.Fresh.{first_leaf, fresh_stores}
 
 -- what stands at the places of a newly opened server s, of which the first n are open

@@ -5,7 +5,7 @@ use Rattle.layout.specs.Block.{size, offset, In}
 use Rattle.layout.specs.Space.{at, Valid}
 use Rattle.server.specs.declared.place.Place.TheVariants.{NodeLock, Root, Version, States, Vector, Node}
 use Rattle.server.specs.Layout.{server_block, places, part_words, Lies}
-use Rattle.layout.specs.Laws.Space.{Run}
+use Rattle.layout.proofs.Laws.Space.{Run}
 
 -- with four slots, 220 words; the lock of node 2 × 1,024 + 1 is the third of the locks in row 1
 pub layout_sample : (part_words 4 ≡ 220) × (at places (server_block 4) (NodeLock 2 1) ≡ 114)

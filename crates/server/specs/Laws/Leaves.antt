@@ -8,20 +8,20 @@ use Prim.Native.Nat.{ℕ, ◌/◌, ◌%◌}
 use Rattle.std.proofs.Math.ListN.{get_or, set}
 use Rattle.base.specs.Test.{one_if}
 use Rattle.base.specs.Update.{upd}
-use Rattle.base.specs.Laws.Update.{upd_same, upd_other}
+use Rattle.base.proofs.Laws.Update.{upd_same, upd_other}
 use Rattle.memory.specs.Bit.{put_bit, bit}
 use Rattle.layout.specs.Space.{Put, put, puts, tab, decide, changed, at}
-use Rattle.layout.specs.Laws.Space.{tab_eq, tab_upd, get_or_tab, upd_apart, Only, changed_only, only_puts, tab_puts_same, tab_puts_other, AllValid, valid_run, length_tab}
-use Rattle.layout.specs.Laws.Step.{valid_append}
+use Rattle.layout.proofs.Laws.Space.{tab_eq, tab_upd, get_or_tab, upd_apart, Only, changed_only, only_puts, tab_puts_same, tab_puts_other, AllValid, valid_run, length_tab}
+use Rattle.layout.proofs.Laws.Step.{valid_append}
 use Rattle.nodes.specs.Name.{server_of, slot_of}
 use Rattle.nodes.specs.Flags.{with_flag, all_flags}
 use Rattle.nodes.specs.Stored.{node_of, words_of}
-use Rattle.nodes.specs.Laws.Stored.{Sized, length_words, node_words}
+use Rattle.nodes.proofs.Laws.Stored.{Sized, length_words, node_words}
 use Rattle.nodes.specs.declared.name.Name.{Name}
 use Rattle.server.specs.declared.object.Object.{Object}
 use Rattle.server.specs.declared.place.Place.{Place}
 use Rattle.server.specs.declared.place.Place.TheVariants.{Root, Version, States, MetadataLock, Vector, Node, FlagLock, Table, NodeLock}
-use Rattle.nodes.specs.Laws.Bits.{flag_read}
+use Rattle.nodes.proofs.Laws.Bits.{flag_read}
 use Rattle.server.specs.Check.{standing, mark_in, mark_place}
 use Rattle.server.specs.Layout.{places, place_code, server_block}
 use Rattle.server.specs.Laws.Layout.{node_run, root_valid, version_valid, states_valid, vector_valid}

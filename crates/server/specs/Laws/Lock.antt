@@ -9,7 +9,7 @@ use Rattle.memory.specs.Bit.{put_bit, bit}
 use Rattle.server.specs.declared.lock.Use.TheVariants.{Fetch, Write}
 use Rattle.server.specs.Lock.{busy, locked, unlocked, lock_in_range}
 use Rattle.base.specs.Test.{not_both}
-use Rattle.memory.specs.Laws.Bit.{bit_put_same, bit_put_other, put_lt, zero_bit, bit_below}
+use Rattle.memory.proofs.Laws.Bit.{bit_put_same, bit_put_other, put_lt, zero_bit, bit_below}
 use Rattle.server.specs.declared.lock.Use.{Use}
 
 -- client 3 reads; client 1 reads too; then 3 may not write, but may once 1 has unlocked; client 3 writes, and 1 may not even fetch

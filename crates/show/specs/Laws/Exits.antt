@@ -9,7 +9,7 @@ use Rattle.text.specs.declared.read.Line.TheVariants.{Sizes, Step, Bad}
 use Rattle.text.specs.declared.read.Reader.{Reader}
 use Rattle.text.specs.Reader.{start, next, finish}
 use Rattle.text.specs.Print.{step_line, store_line, refused_line, bad_line, Printed}
-use Rattle.text.specs.Laws.Printing.{then}
+use Rattle.text.proofs.Laws.Printing.{then}
 use Rattle.steps.specs.declared.step.Step as step
 use Rattle.steps.specs.declared.outcome.Outcome.{Outcome}
 use Rattle.steps.specs.declared.outcome.Line.{Line}

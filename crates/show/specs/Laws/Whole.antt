@@ -5,13 +5,13 @@ use Rattle.std.proofs.Common.{◌∙◌, inl, inr, mod-eq_of_lt, arith, eqb-true
 use mathlib.Core.List.{append_assoc, append-nil}
 use Rattle.std.proofs.lemmas.Bool.{eqb-false}
 use Rattle.std.proofs.Math.ListN.{length-append}
-use Rattle.base.specs.Laws.Test.{bool_cases}
+use Rattle.base.proofs.Laws.Test.{bool_cases}
 use Rattle.text.specs.declared.read.Line.{Line}
 use Rattle.text.specs.declared.read.Line.TheVariants.{Sizes, Step, Bad}
 use Rattle.text.specs.declared.read.Reader.{Reader}
 use Rattle.text.specs.Line.{some?, onto_first, line_of}
 use Rattle.text.specs.Reader.{start, next, after}
-use Rattle.text.specs.Laws.Reads.{reads}
+use Rattle.text.proofs.Laws.Reads.{reads}
 use Rattle.steps.specs.Refusal.{open_refusal}
 use Rattle.engine.specs.Open.{words_opened}
 use Rattle.engine.specs.Step.{words_after}

@@ -16,7 +16,7 @@ use Rattle.nodes.specs.declared.found.Found.TheVariants.{At, Absent}
 use Rattle.nodes.specs.Name.{server_of, name_in_store}
 use Rattle.nodes.specs.Node.{free_node, made}
 use Rattle.nodes.specs.Range.{level_fits, count_fits, node_in_range}
-use Rattle.nodes.specs.Laws.Range.{range_count}
+use Rattle.nodes.proofs.Laws.Range.{range_count}
 use Rattle.nodes.specs.Found.{Inside}
 use Rattle.operations.specs.Object.{Obj, meta, node, flag, Ask, object, vector, fetched, Val, Writes, hit}
 use Rattle.operations.specs.Path.{TreePlan, see}

@@ -16,7 +16,7 @@ use Rattle.nodes.specs.declared.found.Found.{Found}
 use Rattle.nodes.specs.declared.found.Found.TheVariants.{At, Absent}
 use Rattle.nodes.specs.Name.{name, server_of, slot_of, name_in_store}
 use Rattle.nodes.specs.Flags.{with_flag}
-use Rattle.nodes.specs.Laws.Bits.{length_flags, flags_with}
+use Rattle.nodes.proofs.Laws.Bits.{length_flags, flags_with}
 use Rattle.operations.specs.Object.{meta, node, flag, Val, is_taken, Writes}
 use Rattle.operations.specs.Slot.{counted}
 use Rattle.client.specs.Record.{first_slot, in_store}

@@ -14,10 +14,10 @@ use Rattle.nodes.specs.Node.{keys_of}
 use Rattle.nodes.specs.Entries.{entries_of}
 use Rattle.nodes.specs.Kept.{Whole}
 use Rattle.nodes.specs.Stored.{node_at}
-use Rattle.nodes.specs.Laws.Stored.{Sized}
-use Rattle.nodes.specs.Laws.Standing.{standing_sized}
+use Rattle.nodes.proofs.Laws.Stored.{Sized}
+use Rattle.nodes.proofs.Laws.Standing.{standing_sized}
 use Rattle.memory.specs.Word.{view}
-use Rattle.nodes.specs.Laws.Kept.{whole, length_entries_of}
+use Rattle.nodes.proofs.Laws.Kept.{whole, length_entries_of}
 use Rattle.operations.specs.Object.{meta, node, no_tree}
 use Rattle.operations.specs.Path.{Cont, down, to_leaf}
 use Rattle.walk.specs.declared.down.Turn.{Turn}

@@ -9,17 +9,17 @@ use Rattle.std.proofs.Math.Decide.{ℕ_discrete, dec_le}
 use Rattle.std.proofs.Math.ListN.{get_or, get_or-map}
 use Rattle.std.proofs.lemmas.Bool.{eqb-false, not-true, not-false}
 use Rattle.base.specs.Test.{ifd}
-use Rattle.base.specs.Laws.Test.{ifd_yes, ifd_no}
+use Rattle.base.proofs.Laws.Test.{ifd_yes, ifd_no}
 use Rattle.nodes.specs.declared.node.Node.{Node}
 use Rattle.nodes.specs.Place.{place}
 use Rattle.nodes.specs.Place.{place, key_place}
-use Rattle.nodes.specs.Laws.Place.{place_within, yes_says}
+use Rattle.nodes.proofs.Laws.Place.{place_within, yes_says}
 use Rattle.nodes.specs.Node.{extra, keys_of, slots_of}
-use Rattle.nodes.specs.Laws.Node.{extra_le}
+use Rattle.nodes.proofs.Laws.Node.{extra_le}
 use Rattle.nodes.specs.Entries.{entries, entries_of}
-use Rattle.nodes.specs.Laws.Entries.{entries_keys, entries_slots}
+use Rattle.nodes.proofs.Laws.Entries.{entries_keys, entries_slots}
 use Rattle.nodes.specs.Kept.{Whole}
-use Rattle.nodes.specs.Laws.Kept.{length_entries_of}
+use Rattle.nodes.proofs.Laws.Kept.{length_entries_of}
 use Rattle.operations.specs.Object.{node, body, no_tree}
 use Rattle.operations.specs.Entry.{Entries, zip, keys, vals, node_value, fewest_entries, cut_at, place_in, value_at, value_in}
 use Rattle.operations.specs.Path.{TreePlan, open_node, kid, Branch, Cont, down}

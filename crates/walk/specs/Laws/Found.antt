@@ -16,7 +16,7 @@ use Rattle.nodes.specs.Node.{keys_of}
 use Rattle.nodes.specs.Entries.{entries_of, entries}
 use Rattle.nodes.specs.Stored.{node_at}
 use Rattle.memory.specs.Word.{view}
-use Rattle.nodes.specs.Laws.Kept.{length_entries_of}
+use Rattle.nodes.proofs.Laws.Kept.{length_entries_of}
 use Rattle.operations.specs.Entry.{Entries, keys, under}
 use Rattle.walk.specs.declared.found.Sought.{Sought}
 use Rattle.walk.specs.declared.found.Sought.TheVariants.{Higher, Lower, AtLeast}

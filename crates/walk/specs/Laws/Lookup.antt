@@ -6,7 +6,7 @@ use Rattle.std.proofs.lemmas.Bool.{not-true, not-false}
 use Rattle.nodes.specs.declared.node.Node.{Node}
 use Rattle.nodes.specs.declared.standing.KeyPlace.{KeyPlace}
 use Rattle.nodes.specs.Place.{place, key_place, Within}
-use Rattle.nodes.specs.Laws.Place.{yes_behind}
+use Rattle.nodes.proofs.Laws.Place.{yes_behind}
 use Rattle.nodes.specs.Node.{keys_of}
 use Rattle.nodes.specs.Entries.{entries_of}
 use Rattle.nodes.specs.Kept.{Whole}

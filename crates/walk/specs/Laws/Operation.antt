@@ -1,7 +1,7 @@
 -- Laws of the operations' numbers.
 use Rattle.std.specs.Prelude.{◌≡◌, refl, ℕ, zero, suc, ◌≤◌}
 use Rattle.std.proofs.Common.{arith}
-use Rattle.base.specs.Laws.Table.{past_eight}
+use Rattle.base.proofs.Laws.Table.{past_eight}
 use Rattle.walk.specs.declared.operation.Query.{Query}
 use Rattle.walk.specs.declared.operation.Query.TheVariants.{Lookup, Next, Previous}
 use Rattle.walk.specs.declared.operation.Update.{Update}

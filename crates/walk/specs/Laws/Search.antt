@@ -5,7 +5,7 @@ use mathlib.Core.List.{List, [], ◌∷◌}
 use Rattle.std.proofs.lemmas.Bool.{not-true, not-false}
 use Rattle.nodes.specs.declared.found.Found.{Found}
 use Rattle.nodes.specs.declared.found.Found.TheVariants.{At, Absent}
-use Rattle.nodes.specs.Laws.Found.{absent_inside}
+use Rattle.nodes.proofs.Laws.Found.{absent_inside}
 use Rattle.nodes.specs.Name.{name, server_of, slot_of}
 use Rattle.nodes.specs.Placement.{row}
 use Rattle.nodes.specs.Node.{made}

@@ -12,7 +12,7 @@ use Rattle.nodes.specs.declared.node.Node.{Node}
 use Rattle.nodes.specs.Entries.{entries_of}
 use Rattle.nodes.specs.Stored.{node_at}
 use Rattle.memory.specs.Word.{view}
-use Rattle.nodes.specs.Laws.Kept.{length_entries_of}
+use Rattle.nodes.proofs.Laws.Kept.{length_entries_of}
 use Rattle.operations.specs.Object.{Ans}
 use Rattle.operations.specs.Entry.{Entries}
 use Rattle.operations.specs.Path.{kid, Branch}

@@ -6,7 +6,7 @@ use Rattle.base.specs.Test.{one_if}
 use Rattle.nodes.specs.declared.node.Node.{Node}
 use Rattle.nodes.specs.Lists.{pad}
 use Rattle.nodes.specs.Node.{extra, keys_of, slots_of, made, free_node}
-use Rattle.nodes.specs.Laws.Stored.{Sized}
+use Rattle.nodes.proofs.Laws.Stored.{Sized}
 use Rattle.operations.specs.Object.{Obj, node, flag, Val, body, taken, free, not_free}
 use Rattle.operations.specs.Slot.{when_free_flag, when_free_node}
 use Rattle.operations.specs.Path.{TreePlan}

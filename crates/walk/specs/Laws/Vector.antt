@@ -10,9 +10,9 @@ use borrow.Author.Tests.{lt-ltb, not-true, not-false}
 use Rattle.nodes.specs.declared.found.Found.{Found}
 use Rattle.nodes.specs.declared.found.Found.TheVariants.{At, Absent}
 use Rattle.nodes.specs.Found.{found, Inside}
-use Rattle.nodes.specs.Laws.Found.{found_some, absent_inside}
+use Rattle.nodes.proofs.Laws.Found.{found_some, absent_inside}
 use Rattle.nodes.specs.Vector.{shifted, lowest_free, or_else, free_from, first_free}
-use Rattle.nodes.specs.Laws.Bits.{length_flags}
+use Rattle.nodes.proofs.Laws.Bits.{length_flags}
 use Rattle.operations.specs.Object.{vector, fetched, Val, Writes}
 use Rattle.operations.specs.Slot.{free_slot, search}
 use Rattle.operations.specs.Path.{TreePlan}

@@ -13,13 +13,13 @@ use Rattle.std.proofs.Math.ListN.{length, length-set}
 use Rattle.std.proofs.Math.Seq.{paste, length-sets, get_or-set_same}
 use Rattle.std.proofs.lemmas.List.Edits.{sets, sets-eq}
 use Rattle.std.proofs.lemmas.Bool.{eqb-false}
-use Rattle.memory.specs.Laws.Run.{run_beside}
-use Rattle.base.specs.Laws.Test.{yes_of, of_yes, of_no}
+use Rattle.memory.proofs.Laws.Run.{run_beside}
+use Rattle.base.proofs.Laws.Test.{yes_of, of_yes, of_no}
 use Rattle.nodes.specs.declared.node.Node.{Node}
 use Rattle.nodes.specs.declared.found.Found.{Found}
 use Rattle.nodes.specs.declared.found.Found.TheVariants.{At, Absent}
 use Rattle.nodes.specs.Stored.{words_of, node_of, node_at, put_node}
-use Rattle.nodes.specs.Laws.Stored.{Sized, length_words, node_same}
+use Rattle.nodes.proofs.Laws.Stored.{Sized, length_words, node_same}
 use Rattle.operations.specs.Object.{Obj, meta, node, flag, Val, Writes, hit}
 use Rattle.client.specs.Record.{number, object_in_store, value_of, record_of}
 use Rattle.client.specs.Sets.{or_found, first_of}

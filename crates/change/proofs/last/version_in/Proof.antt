@@ -1,5 +1,5 @@
 use borrow.Author.Rules.{rules}
-use Rattle.nodes.specs.Laws.Found.{found_inside}
+use Rattle.nodes.proofs.Laws.Found.{found_inside}
 use Rattle.change.specs.Laws.Last.{version_exits}
 use Rattle.change.proofs.last.version_in.Statement.{statement}
 use Rattle.change.proofs.last.version_in.Tie as tie

@@ -1,4 +1,4 @@
-use Rattle.nodes.specs.Laws.Found.{found_inside}
+use Rattle.nodes.proofs.Laws.Found.{found_inside}
 use Rattle.change.specs.Laws.Last.{there_exits}
 use borrow.Author.Rules.{rules}
 use Rattle.change.proofs.last.version_there.Statement.{statement}

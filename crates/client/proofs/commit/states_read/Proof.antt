@@ -1,5 +1,5 @@
 use Rattle.client.specs.Laws.Commit.{states_there, states_unread}
-use Rattle.nodes.specs.Laws.Found.{found_inside}
+use Rattle.nodes.proofs.Laws.Found.{found_inside}
 use borrow.Author.Rules.{rules}
 use Rattle.client.proofs.commit.states_read.Statement.{statement}
 use Rattle.client.proofs.commit.states_read.Tie as tie

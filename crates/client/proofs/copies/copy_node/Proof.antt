@@ -1,5 +1,5 @@
 use Rattle.client.specs.Laws.Copies.{copy_there, copy_empty, copy_none}
-use Rattle.nodes.specs.Laws.Found.{found_inside}
+use Rattle.nodes.proofs.Laws.Found.{found_inside}
 use borrow.Author.Rules.{rules}
 use Rattle.client.proofs.copies.copy_node.Statement.{statement}
 use Rattle.client.proofs.copies.copy_node.Tie as tie

@@ -1,5 +1,5 @@
 use Rattle.client.specs.Laws.Enter.{write_replaced, write_full, write_entered}
-use Rattle.nodes.specs.Laws.Found.{found_inside}
+use Rattle.nodes.proofs.Laws.Found.{found_inside}
 use borrow.Author.Rules.{rules}
 use Rattle.client.proofs.enter.enter_write.Statement.{statement}
 use Rattle.client.proofs.enter.enter_write.Tie as tie

@@ -1,5 +1,5 @@
 use Rattle.client.specs.Laws.Items.{inner_there, inner_absent}
-use Rattle.nodes.specs.Laws.Found.{found_inside}
+use Rattle.nodes.proofs.Laws.Found.{found_inside}
 use borrow.Author.Rules.{rules}
 use Rattle.client.proofs.items.inner_in.Statement.{statement}
 use Rattle.client.proofs.items.inner_in.Tie as tie

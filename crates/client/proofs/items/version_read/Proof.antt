@@ -1,5 +1,5 @@
 use Rattle.client.specs.Laws.Items.{version_there, version_absent}
-use Rattle.nodes.specs.Laws.Found.{found_inside}
+use Rattle.nodes.proofs.Laws.Found.{found_inside}
 use borrow.Author.Rules.{rules}
 use Rattle.client.proofs.items.version_read.Statement.{statement}
 use Rattle.client.proofs.items.version_read.Tie as tie

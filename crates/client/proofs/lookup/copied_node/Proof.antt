@@ -1,5 +1,5 @@
 use Rattle.client.specs.Laws.Look.{node_lacking, node_there}
-use Rattle.nodes.specs.Laws.Found.{found_inside}
+use Rattle.nodes.proofs.Laws.Found.{found_inside}
 use borrow.Author.Rules.{rules}
 use Rattle.client.proofs.lookup.copied_node.Statement.{statement}
 use Rattle.client.proofs.lookup.copied_node.Tie as tie

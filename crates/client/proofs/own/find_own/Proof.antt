@@ -1,7 +1,7 @@
 use Prim.Native.Nat.{◌-◌, ◌≤◌}
 use mathlib.Core.Path.{◌≡◌}
 use lib.ListN.{get_or}
-use Rattle.nodes.specs.Laws.Found.{absent_inside}
+use Rattle.nodes.proofs.Laws.Found.{absent_inside}
 use Rattle.client.specs.Lent.{own_number}
 use Rattle.client.specs.Laws.Find.{Searched, own_none, own_next, own_here, own_absent, found_within}
 use borrow.Author.Rules.{rules}

@@ -1,4 +1,4 @@
-use Rattle.nodes.specs.Laws.Found.{found_inside}
+use Rattle.nodes.proofs.Laws.Found.{found_inside}
 use Rattle.client.specs.Laws.Lent.{own_replaced, replaced_fits, own_appended, appended_fits}
 use borrow.Author.Rules.{rules}
 use Rattle.client.proofs.own.put_own.Statement.{statement}

@@ -3,7 +3,7 @@ use mathlib.Core.Path.{◌≡◌}
 use Rattle.client.specs.Layout.{limit}
 use Rattle.client.specs.Sets.{held, count, number_at}
 use Rattle.client.specs.Laws.Find.{Searched, find_none, find_next, find_here, find_absent, found_within}
-use Rattle.nodes.specs.Laws.Found.{absent_inside}
+use Rattle.nodes.proofs.Laws.Found.{absent_inside}
 use borrow.Author.Rules.{rules}
 use Rattle.client.proofs.part.find.Statement.{statement}
 use Rattle.client.proofs.part.find.Tie as tie

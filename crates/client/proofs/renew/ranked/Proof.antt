@@ -1,7 +1,7 @@
 use Prim.Native.Nat.{◌-◌, ◌≤◌}
 use mathlib.Core.Path.{◌≡◌}
 use Rattle.client.specs.Laws.Renew.{ranked_none, ranked_next, ranked_here, ranked_absent}
-use Rattle.nodes.specs.Laws.Found.{absent_inside}
+use Rattle.nodes.proofs.Laws.Found.{absent_inside}
 use Rattle.client.specs.Laws.Find.{Searched, found_within}
 use Rattle.client.specs.Sets.{held, count}
 use Rattle.client.specs.Renew.{rank}

@@ -1,5 +1,5 @@
 use Rattle.client.specs.Laws.Renew.{meta_renewed, meta_kept}
-use Rattle.nodes.specs.Laws.Found.{found_inside}
+use Rattle.nodes.proofs.Laws.Found.{found_inside}
 use borrow.Author.Rules.{rules}
 use Rattle.client.proofs.renew.renew_meta.Statement.{statement}
 use Rattle.client.proofs.renew.renew_meta.Tie as tie

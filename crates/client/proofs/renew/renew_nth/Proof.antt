@@ -1,5 +1,5 @@
 use Rattle.client.specs.Laws.Renew.{nth_renewed, nth_none}
-use Rattle.nodes.specs.Laws.Found.{found_inside}
+use Rattle.nodes.proofs.Laws.Found.{found_inside}
 use borrow.Author.Rules.{rules}
 use Rattle.client.proofs.renew.renew_nth.Statement.{statement}
 use Rattle.client.proofs.renew.renew_nth.Tie as tie

@@ -1,5 +1,5 @@
 use Rattle.steps.specs.Taken.{Words}
-use Rattle.steps.specs.Laws.Taken.{fields_are_words}
+use Rattle.steps.proofs.Laws.Taken.{fields_are_words}
 use Rattle.kinds.specs.Laws.Refusal.{none_holds}
 use Rattle.engine.specs.Laws.Step.{short_stands, shut_stands, open_stands}
 use Rattle.engine.specs.Laws.Reached.{steps}

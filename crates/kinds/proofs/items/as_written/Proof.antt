@@ -1,4 +1,4 @@
-use Rattle.nodes.specs.Laws.Found.{found_inside}
+use Rattle.nodes.proofs.Laws.Found.{found_inside}
 use Rattle.kinds.specs.Laws.Items.{item_exits}
 use borrow.Author.Rules.{rules}
 use Rattle.kinds.proofs.items.as_written.Statement.{statement}

@@ -1,5 +1,5 @@
 use Rattle.kinds.specs.Laws.Writes.{write_exits}
-use Rattle.steps.specs.Laws.Writes.{node_has}
+use Rattle.steps.proofs.Laws.Writes.{node_has}
 use borrow.Author.Rules.{rules}
 use Rattle.kinds.proofs.writes.store_write.Statement.{statement}
 use Rattle.kinds.proofs.writes.store_write.Tie as tie

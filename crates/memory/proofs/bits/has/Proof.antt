@@ -1,4 +1,4 @@
-use Rattle.memory.specs.Laws.Bit.{bit_shifted}
+use Rattle.memory.proofs.Laws.Bit.{bit_shifted}
 use borrow.Author.Rules.{rules}
 use Rattle.memory.proofs.bits.has.Statement.{statement}
 use Rattle.memory.proofs.bits.has.Tie as tie

@@ -1,4 +1,4 @@
-use Rattle.memory.specs.Laws.Bit.{put_shifted}
+use Rattle.memory.proofs.Laws.Bit.{put_shifted}
 use borrow.Author.Rules.{rules}
 use Rattle.memory.proofs.bits.with.Statement.{statement}
 use Rattle.memory.proofs.bits.with.Tie as tie

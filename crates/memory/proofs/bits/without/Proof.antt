@@ -1,4 +1,4 @@
-use Rattle.memory.specs.Laws.Bit.{above_shifted, minus_shifted}
+use Rattle.memory.proofs.Laws.Bit.{above_shifted, minus_shifted}
 use borrow.Author.Rules.{rules}
 use Rattle.memory.proofs.bits.without.Statement.{statement}
 use Rattle.memory.proofs.bits.without.Tie as tie

@@ -1,6 +1,6 @@
 use borrow.Author.Rules.{rules}
 use Prim.Native.Nat.{◌-◌}
-use Rattle.nodes.specs.Laws.Lists.{Copied, copied_none, copied_more, copied_all}
+use Rattle.nodes.proofs.Laws.Lists.{Copied, copied_none, copied_more, copied_all}
 use Rattle.nodes.proofs.arrays.blit.Statement.{statement}
 use Rattle.nodes.proofs.arrays.blit.Tie as tie
 

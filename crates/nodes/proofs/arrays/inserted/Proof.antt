@@ -1,5 +1,5 @@
 use borrow.Author.Rules.{rules}
-use Rattle.nodes.specs.Laws.Lists.{inserted_is}
+use Rattle.nodes.proofs.Laws.Lists.{inserted_is}
 use Rattle.nodes.proofs.arrays.inserted.Statement.{statement}
 use Rattle.nodes.proofs.arrays.inserted.Tie as tie
 

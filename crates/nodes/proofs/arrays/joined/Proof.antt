@@ -1,5 +1,5 @@
 use borrow.Author.Rules.{rules}
-use Rattle.nodes.specs.Laws.Lists.{joined_is}
+use Rattle.nodes.proofs.Laws.Lists.{joined_is}
 use Rattle.nodes.proofs.arrays.joined.Statement.{statement}
 use Rattle.nodes.proofs.arrays.joined.Tie as tie
 

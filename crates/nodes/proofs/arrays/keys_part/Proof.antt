@@ -1,5 +1,5 @@
 use borrow.Author.Rules.{rules}
-use Rattle.nodes.specs.Laws.Lists.{part_is}
+use Rattle.nodes.proofs.Laws.Lists.{part_is}
 use Rattle.nodes.proofs.arrays.keys_part.Statement.{statement}
 use Rattle.nodes.proofs.arrays.keys_part.Tie as tie
 

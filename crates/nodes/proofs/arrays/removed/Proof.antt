@@ -1,5 +1,5 @@
 use borrow.Author.Rules.{rules}
-use Rattle.nodes.specs.Laws.Lists.{removed_is}
+use Rattle.nodes.proofs.Laws.Lists.{removed_is}
 use Rattle.nodes.proofs.arrays.removed.Statement.{statement}
 use Rattle.nodes.proofs.arrays.removed.Tie as tie
 

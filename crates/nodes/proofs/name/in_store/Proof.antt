@@ -1,4 +1,4 @@
-use Rattle.nodes.specs.Laws.Name.{no_server, by_slot}
+use Rattle.nodes.proofs.Laws.Name.{no_server, by_slot}
 use borrow.Author.Rules.{rules}
 use Rattle.nodes.proofs.name.in_store.Statement.{statement}
 use Rattle.nodes.proofs.name.in_store.Tie as tie

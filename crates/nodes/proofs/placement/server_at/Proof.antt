@@ -1,7 +1,7 @@
 use mathlib.Core.Path.{refl}
 use native.Mathlib.Omega.{arith}
 use borrow.Author.Rules.{rules}
-use Rattle.nodes.specs.Laws.Placed.{row_below}
+use Rattle.nodes.proofs.Laws.Placed.{row_below}
 use Rattle.nodes.proofs.placement.server_at.Statement.{statement}
 use Rattle.nodes.proofs.placement.server_at.Tie as tie
 

@@ -1,5 +1,5 @@
 use borrow.Author.Rules.{rules}
-use Rattle.nodes.specs.Laws.Standing.{count_there}
+use Rattle.nodes.proofs.Laws.Standing.{count_there}
 use Rattle.nodes.proofs.standing.count_at.Statement.{statement}
 use Rattle.nodes.proofs.standing.count_at.Tie as tie
 

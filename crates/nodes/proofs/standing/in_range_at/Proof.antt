@@ -1,5 +1,5 @@
 use borrow.Author.Rules.{rules}
-use Rattle.nodes.specs.Laws.Standing.{range_there}
+use Rattle.nodes.proofs.Laws.Standing.{range_there}
 use Rattle.nodes.proofs.standing.in_range_at.Statement.{statement}
 use Rattle.nodes.proofs.standing.in_range_at.Tie as tie
 

@@ -1,5 +1,5 @@
 use borrow.Author.Rules.{rules}
-use Rattle.nodes.specs.Laws.Standing.{key_there}
+use Rattle.nodes.proofs.Laws.Standing.{key_there}
 use Rattle.nodes.proofs.standing.key_at.Statement.{statement}
 use Rattle.nodes.proofs.standing.key_at.Tie as tie
 

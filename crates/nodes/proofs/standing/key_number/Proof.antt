@@ -1,5 +1,5 @@
 use borrow.Author.Rules.{rules}
-use Rattle.nodes.specs.Laws.Standing.{number_there}
+use Rattle.nodes.proofs.Laws.Standing.{number_there}
 use Rattle.nodes.proofs.standing.key_number.Statement.{statement}
 use Rattle.nodes.proofs.standing.key_number.Tie as tie
 

@@ -1,5 +1,5 @@
 use borrow.Author.Rules.{rules}
-use Rattle.nodes.specs.Laws.Standing.{kind_there}
+use Rattle.nodes.proofs.Laws.Standing.{kind_there}
 use Rattle.nodes.proofs.standing.kind_at.Statement.{statement}
 use Rattle.nodes.proofs.standing.kind_at.Tie as tie
 

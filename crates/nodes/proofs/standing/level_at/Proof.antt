@@ -1,5 +1,5 @@
 use borrow.Author.Rules.{rules}
-use Rattle.nodes.specs.Laws.Standing.{level_there}
+use Rattle.nodes.proofs.Laws.Standing.{level_there}
 use Rattle.nodes.proofs.standing.level_at.Statement.{statement}
 use Rattle.nodes.proofs.standing.level_at.Tie as tie
 

@@ -3,8 +3,8 @@ use native.Mathlib.Omega.{arith}
 use Prim.Native.Nat.{◌+◌, ◌-◌, ◌≤◌, ◌<◌}
 use Rattle.memory.specs.Word.{view}
 use Rattle.nodes.specs.Stored.{node_at}
-use Rattle.nodes.specs.Laws.Counting.{Counting, counting_starts, counting_goes_on, counting_ends, counted_within}
-use Rattle.nodes.specs.Laws.Standing.{keys_sized}
+use Rattle.nodes.proofs.Laws.Counting.{Counting, counting_starts, counting_goes_on, counting_ends, counted_within}
+use Rattle.nodes.proofs.Laws.Standing.{keys_sized}
 use Rattle.nodes.proofs.standing.not_above.Statement.{statement}
 use Rattle.nodes.proofs.standing.not_above.Tie as tie
 

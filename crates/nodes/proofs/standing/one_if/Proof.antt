@@ -1,6 +1,6 @@
 use borrow.Author.Rules.{rules}
-use Rattle.base.specs.Laws.Test.{one_if_small}
-use Rattle.nodes.specs.Laws.Counting.{cast_one}
+use Rattle.base.proofs.Laws.Test.{one_if_small}
+use Rattle.nodes.proofs.Laws.Counting.{cast_one}
 use Rattle.nodes.proofs.standing.one_if.Statement.{statement}
 use Rattle.nodes.proofs.standing.one_if.Tie as tie
 

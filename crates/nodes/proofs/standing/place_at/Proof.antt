@@ -1,5 +1,5 @@
 use borrow.Author.Rules.{rules}
-use Rattle.nodes.specs.Laws.Counting.{answered, answered_within}
+use Rattle.nodes.proofs.Laws.Counting.{answered, answered_within}
 use Rattle.nodes.proofs.standing.place_at.Statement.{statement}
 use Rattle.nodes.proofs.standing.place_at.Tie as tie
 

@@ -1,5 +1,5 @@
 use borrow.Author.Rules.{rules}
-use Rattle.nodes.specs.Laws.Standing.{slot_there}
+use Rattle.nodes.proofs.Laws.Standing.{slot_there}
 use Rattle.nodes.proofs.standing.slot_at.Statement.{statement}
 use Rattle.nodes.proofs.standing.slot_at.Tie as tie
 

@@ -1,5 +1,5 @@
 use borrow.Author.Rules.{rules}
-use Rattle.nodes.specs.Laws.Standing.{version_there}
+use Rattle.nodes.proofs.Laws.Standing.{version_there}
 use Rattle.nodes.proofs.standing.version_at.Statement.{statement}
 use Rattle.nodes.proofs.standing.version_at.Tie as tie
 

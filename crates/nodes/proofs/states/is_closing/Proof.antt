@@ -1,5 +1,5 @@
 use borrow.Author.Rules.{rules}
-use Rattle.nodes.specs.Laws.States.{closing_bit, closing_absent}
+use Rattle.nodes.proofs.Laws.States.{closing_bit, closing_absent}
 use Rattle.nodes.proofs.states.is_closing.Statement.{statement}
 use Rattle.nodes.proofs.states.is_closing.Tie as tie
 

@@ -1,5 +1,5 @@
 use borrow.Author.Rules.{rules}
-use Rattle.nodes.specs.Laws.States.{open_bit, open_absent}
+use Rattle.nodes.proofs.Laws.States.{open_bit, open_absent}
 use Rattle.nodes.proofs.states.is_open.Statement.{statement}
 use Rattle.nodes.proofs.states.is_open.Tie as tie
 

@@ -1,5 +1,5 @@
 use borrow.Author.Rules.{rules}
-use Rattle.nodes.specs.Laws.States.{by_bit}
+use Rattle.nodes.proofs.Laws.States.{by_bit}
 use Rattle.nodes.proofs.states.is_present.Statement.{statement}
 use Rattle.nodes.proofs.states.is_present.Tie as tie
 

@@ -1,4 +1,4 @@
-use Rattle.nodes.specs.Laws.States.{root_astray, version_wide, by_states}
+use Rattle.nodes.proofs.Laws.States.{root_astray, version_wide, by_states}
 use borrow.Author.Rules.{rules}
 use Rattle.nodes.proofs.states.metadata_fits.Statement.{statement}
 use Rattle.nodes.proofs.states.metadata_fits.Tie as tie

@@ -1,5 +1,5 @@
 use borrow.Author.Rules.{rules}
-use Rattle.nodes.specs.Laws.States.{fit_wide, fit_by_present}
+use Rattle.nodes.proofs.Laws.States.{fit_wide, fit_by_present}
 use Rattle.nodes.proofs.states.states_fit.Statement.{statement}
 use Rattle.nodes.proofs.states.states_fit.Tie as tie
 

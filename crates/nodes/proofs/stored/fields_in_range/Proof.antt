@@ -1,6 +1,6 @@
 use borrow.Author.Rules.{rules}
 use borrow.Author.Tests.{eq-eqb, ne_eqb, le-leb, lt-leb}
-use Rattle.nodes.specs.Laws.Range.{inner_range}
+use Rattle.nodes.proofs.Laws.Range.{inner_range}
 use Rattle.nodes.proofs.stored.fields_in_range.Statement.{statement}
 use Rattle.nodes.proofs.stored.fields_in_range.Tie as tie
 

@@ -1,5 +1,5 @@
 use borrow.Author.Rules.{rules}
-use Rattle.nodes.specs.Laws.Stored.{node_written}
+use Rattle.nodes.proofs.Laws.Stored.{node_written}
 use Rattle.nodes.proofs.stored.write_node.Statement.{statement}
 use Rattle.nodes.proofs.stored.write_node.Tie as tie
 

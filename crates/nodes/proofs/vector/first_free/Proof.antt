@@ -1,5 +1,5 @@
 use borrow.Author.Rules.{rules}
-use Rattle.nodes.specs.Laws.Search.{above_found, above_none}
+use Rattle.nodes.proofs.Laws.Search.{above_found, above_none}
 use Rattle.nodes.proofs.vector.first_free.Statement.{statement}
 use Rattle.nodes.proofs.vector.first_free.Tie as tie
 

@@ -1,7 +1,7 @@
 use borrow.Author.Rules.{rules}
 use native.Mathlib.Omega.{arith}
 use lib.Pow.{pow-lt, pow_pos}
-use Rattle.nodes.specs.Laws.Search.{zero_found}
+use Rattle.nodes.proofs.Laws.Search.{zero_found}
 use Rattle.nodes.proofs.vector.first_zero.Statement.{statement}
 use Rattle.nodes.proofs.vector.first_zero.Tie as tie
 

@@ -1,7 +1,7 @@
 use borrow.Author.Rules.{rules}
 use Prim.Native.Nat.{◌-◌}
-use Rattle.nodes.specs.Laws.Search.{Looked, looked_none, looked_more, looked_all, slot_found, slot_beyond}
-use Rattle.nodes.specs.Laws.Found.{absent_inside, at_inside}
+use Rattle.nodes.proofs.Laws.Search.{Looked, looked_none, looked_more, looked_all, slot_found, slot_beyond}
+use Rattle.nodes.proofs.Laws.Found.{absent_inside, at_inside}
 use Rattle.nodes.proofs.vector.free_from.Statement.{statement}
 use Rattle.nodes.proofs.vector.free_from.Tie as tie
 

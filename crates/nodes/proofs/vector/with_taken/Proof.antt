@@ -1,5 +1,5 @@
 use borrow.Author.Rules.{rules}
-use Rattle.nodes.specs.Laws.Bits.{flag_written}
+use Rattle.nodes.proofs.Laws.Bits.{flag_written}
 use Rattle.nodes.proofs.vector.with_taken.Statement.{statement}
 use Rattle.nodes.proofs.vector.with_taken.Tie as tie
 

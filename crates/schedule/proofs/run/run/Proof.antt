@@ -56,7 +56,7 @@ use Rattle.memory.specs.Word.{view}
 use Rattle.steps.specs.declared.step.Step.{Step}
 use Rattle.steps.specs.Outcome.{line}
 use Rattle.steps.specs.Taken.{Words}
-use Rattle.steps.specs.Laws.Taken.{word_below}
+use Rattle.steps.proofs.Laws.Taken.{word_below}
 use Rattle.engine.specs.Step.{outcome_of, words_after, output_after}
 use Rattle.schedule.specs.Laws.Listed.{no_step, all_words, words_next}
 use Rattle.schedule.specs.Laws.Reached.{run_goes_on}

@@ -1,5 +1,5 @@
 use Rattle.std.proofs.Common.{rules}
-use Rattle.text.specs.Laws.Printing.{put_made}
+use Rattle.text.proofs.Laws.Printing.{put_made}
 use Rattle.text.proofs.print.put.Goals as goal
 
 pub returns : goal.returns

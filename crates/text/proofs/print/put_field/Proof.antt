@@ -1,5 +1,5 @@
 use borrow.Author.Rules.{rules}
-use Rattle.text.specs.Laws.Printing.{field_room, field_inside, field_short, field_fits, field_made}
+use Rattle.text.proofs.Laws.Printing.{field_room, field_inside, field_short, field_fits, field_made}
 use Rattle.text.proofs.print.put_field.Statement.{statement}
 use Rattle.text.proofs.print.put_field.Tie as tie
 

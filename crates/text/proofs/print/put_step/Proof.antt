@@ -1,5 +1,5 @@
 use borrow.Author.Rules.{rules}
-use Rattle.text.specs.Laws.Printing.{step_made}
+use Rattle.text.proofs.Laws.Printing.{step_made}
 use Rattle.text.proofs.print.put_step.Statement.{statement}
 use Rattle.text.proofs.print.put_step.Tie as tie
 

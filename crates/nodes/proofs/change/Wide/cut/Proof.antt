@@ -1,5 +1,5 @@
 use borrow.Author.Rules.{rules}
-use Rattle.nodes.specs.Laws.Built.{cut_built}
+use Rattle.nodes.proofs.Laws.Built.{cut_built}
 use Rattle.nodes.proofs.change.Wide.cut.Statement.{statement}
 use Rattle.nodes.proofs.change.Wide.cut.Tie as tie
 

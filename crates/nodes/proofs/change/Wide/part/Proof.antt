@@ -1,5 +1,5 @@
 use borrow.Author.Rules.{rules}
-use Rattle.nodes.specs.Laws.Built.{part_built}
+use Rattle.nodes.proofs.Laws.Built.{part_built}
 use Rattle.nodes.proofs.change.Wide.part.Statement.{statement}
 use Rattle.nodes.proofs.change.Wide.part.Tie as tie
 

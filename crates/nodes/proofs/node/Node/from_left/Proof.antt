@@ -1,5 +1,5 @@
 use borrow.Author.Rules.{rules}
-use Rattle.nodes.specs.Laws.Built.{left_moved}
+use Rattle.nodes.proofs.Laws.Built.{left_moved}
 use Rattle.nodes.proofs.node.Node.from_left.Statement.{statement}
 use Rattle.nodes.proofs.node.Node.from_left.Tie as tie
 

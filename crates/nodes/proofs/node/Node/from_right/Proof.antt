@@ -1,5 +1,5 @@
 use borrow.Author.Rules.{rules}
-use Rattle.nodes.specs.Laws.Built.{right_moved}
+use Rattle.nodes.proofs.Laws.Built.{right_moved}
 use Rattle.nodes.proofs.node.Node.from_right.Statement.{statement}
 use Rattle.nodes.proofs.node.Node.from_right.Tie as tie
 

@@ -1,5 +1,5 @@
 use borrow.Author.Rules.{rules}
-use Rattle.nodes.specs.Laws.Stored.{node_built}
+use Rattle.nodes.proofs.Laws.Stored.{node_built}
 use Rattle.nodes.proofs.node.Node.from_words.Statement.{statement}
 use Rattle.nodes.proofs.node.Node.from_words.Tie as tie
 

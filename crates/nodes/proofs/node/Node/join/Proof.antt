@@ -1,5 +1,5 @@
 use borrow.Author.Rules.{rules}
-use Rattle.nodes.specs.Laws.Built.{join_built}
+use Rattle.nodes.proofs.Laws.Built.{join_built}
 use Rattle.nodes.proofs.node.Node.join.Statement.{statement}
 use Rattle.nodes.proofs.node.Node.join.Tie as tie
 

@@ -1,5 +1,5 @@
 use borrow.Author.Rules.{rules}
-use Rattle.nodes.specs.Laws.Built.{keys_fit, keys_joined}
+use Rattle.nodes.proofs.Laws.Built.{keys_fit, keys_joined}
 use Rattle.nodes.proofs.node.Node.joined_keys.Statement.{statement}
 use Rattle.nodes.proofs.node.Node.joined_keys.Tie as tie
 

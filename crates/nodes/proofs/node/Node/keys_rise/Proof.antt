@@ -2,7 +2,7 @@ use borrow.Author.Rules.{rules}
 use Prim.Native.Nat.{◌-◌}
 use lib.ListN.{take}
 use Rattle.nodes.specs.Node.{keys_of}
-use Rattle.nodes.specs.Laws.Place.{Risen, risen_first, risen_more, not_risen, risen_all}
+use Rattle.nodes.proofs.Laws.Place.{Risen, risen_first, risen_more, not_risen, risen_all}
 use Rattle.nodes.proofs.node.Node.keys_rise.Statement.{statement}
 use Rattle.nodes.proofs.node.Node.keys_rise.Tie as tie
 

@@ -1,5 +1,5 @@
 use borrow.Author.Rules.{rules}
-use Rattle.nodes.specs.Laws.Built.{merged_is}
+use Rattle.nodes.proofs.Laws.Built.{merged_is}
 use Rattle.nodes.proofs.node.Node.merge.Statement.{statement}
 use Rattle.nodes.proofs.node.Node.merge.Tie as tie
 

@@ -1,5 +1,5 @@
 use borrow.Author.Rules.{rules}
-use Rattle.nodes.specs.Laws.Built.{put_built}
+use Rattle.nodes.proofs.Laws.Built.{put_built}
 use Rattle.nodes.proofs.node.Node.put_in.Statement.{statement}
 use Rattle.nodes.proofs.node.Node.put_in.Tie as tie
 

@@ -1,5 +1,5 @@
 use borrow.Author.Rules.{rules}
-use Rattle.nodes.specs.Laws.Built.{take_out_is}
+use Rattle.nodes.proofs.Laws.Built.{take_out_is}
 use Rattle.nodes.proofs.node.Node.take_out.Statement.{statement}
 use Rattle.nodes.proofs.node.Node.take_out.Tie as tie
 

@@ -1,5 +1,5 @@
 use borrow.Author.Rules.{rules}
-use Rattle.nodes.specs.Laws.Stored.{holds, words_built}
+use Rattle.nodes.proofs.Laws.Stored.{holds, words_built}
 use Rattle.nodes.proofs.node.Node.to_words.Statement.{statement}
 use Rattle.nodes.proofs.node.Node.to_words.Tie as tie
 

@@ -1,5 +1,5 @@
 use borrow.Author.Rules.{rules}
-use Rattle.nodes.specs.Laws.Built.{key_built}
+use Rattle.nodes.proofs.Laws.Built.{key_built}
 use Rattle.nodes.proofs.node.Node.with_key.Statement.{statement}
 use Rattle.nodes.proofs.node.Node.with_key.Tie as tie
 

@@ -1,5 +1,5 @@
 use borrow.Author.Rules.{rules}
-use Rattle.nodes.specs.Laws.Built.{slot_built}
+use Rattle.nodes.proofs.Laws.Built.{slot_built}
 use Rattle.nodes.proofs.node.Node.with_slot.Statement.{statement}
 use Rattle.nodes.proofs.node.Node.with_slot.Tie as tie
 

@@ -1,5 +1,5 @@
 use borrow.Author.Rules.{rules}
-use Rattle.nodes.specs.Laws.Built.{version_built}
+use Rattle.nodes.proofs.Laws.Built.{version_built}
 use Rattle.nodes.proofs.node.Node.with_version.Statement.{statement}
 use Rattle.nodes.proofs.node.Node.with_version.Tie as tie
 

@@ -1,5 +1,5 @@
 use borrow.Author.Rules.{rules}
-use Rattle.nodes.specs.Laws.Built.{without_built}
+use Rattle.nodes.proofs.Laws.Built.{without_built}
 use Rattle.nodes.proofs.node.Node.without.Statement.{statement}
 use Rattle.nodes.proofs.node.Node.without.Tie as tie
 

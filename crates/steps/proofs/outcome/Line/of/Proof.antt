@@ -1,6 +1,6 @@
 use borrow.Author.Rules.{rules}
 use Rattle.steps.specs.Outcome.{line}
-use Rattle.steps.specs.Laws.Outcome.{shows}
+use Rattle.steps.proofs.Laws.Outcome.{shows}
 use Rattle.steps.proofs.outcome.Line.of.Statement.{statement}
 use Rattle.steps.proofs.outcome.Line.of.Tie as tie
 use Rattle.steps.proofs.outcome.Line.of.Reads as reads

@@ -1,5 +1,5 @@
 use borrow.Author.Rules.{rules}
-use Rattle.text.specs.Laws.Exits.{space_early, space_late, space_ends}
+use Rattle.text.proofs.Laws.Exits.{space_early, space_late, space_ends}
 use Rattle.text.proofs.read.Reader.ended.Statement.{statement}
 use Rattle.text.proofs.read.Reader.ended.Tie as tie
 

@@ -1,5 +1,5 @@
 use borrow.Author.Rules.{rules}
-use Rattle.text.specs.Laws.Exits.{finish_spoiled, finish_unbegun, finish_sizes, finish_step, finish_short}
+use Rattle.text.proofs.Laws.Exits.{finish_spoiled, finish_unbegun, finish_sizes, finish_step, finish_short}
 use Rattle.text.proofs.read.Reader.finish.Statement.{statement}
 use Rattle.text.proofs.read.Reader.finish.Tie as tie
 

@@ -1,5 +1,5 @@
 use borrow.Author.Rules.{rules}
-use Rattle.text.specs.Laws.Exits.{next_space, next_below, next_above, next_digit}
+use Rattle.text.proofs.Laws.Exits.{next_space, next_below, next_above, next_digit}
 use Rattle.text.proofs.read.Reader.next.Statement.{statement}
 use Rattle.text.proofs.read.Reader.next.Tie as tie
 

@@ -1,5 +1,5 @@
 use borrow.Author.Rules.{rules}
-use Rattle.text.specs.Laws.Exits.{digit_spoils, digit_grows}
+use Rattle.text.proofs.Laws.Exits.{digit_spoils, digit_grows}
 use Rattle.text.proofs.read.Reader.with_digit.Statement.{statement}
 use Rattle.text.proofs.read.Reader.with_digit.Tie as tie
 
