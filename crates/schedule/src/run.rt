@@ -1,5 +1,6 @@
 // "A schedule is a lent list of step records, run front to back."
 ghost use Rattle.std.specs.Prelude.{◌≡◌};
+ghost use Rattle.steps.specs.Taken.{Words};
 ghost use Rattle.schedule.specs.Listed.{written_down, Turns, TakesAll};
 
 use engine::step::step;
@@ -17,9 +18,11 @@ fn note(outcomes: &mut [u64], i: usize, l: Line)
     }
 }
 
-// One step, by value, the i-th of a list, lent the output. Its outcome is written down, and its number returned.
+// One step, by value, the i-th of a list, lent the output. Its outcome is written down, and its number returned. That its fields are words is known here, where it
+// is held by value.
 pub fn turn(mem: &mut [u8], out: &mut [u8], outcomes: &mut [u64], i: usize, k: Step) -> u64
-    ensures { Turns mem out outcomes i k result }
+    ensures turns { Turns mem out outcomes i k result }
+    ensures fields { Words k }
 {
     let o = step(mem, out, k);
     let l = Line::of(o);

@@ -1,16 +1,18 @@
 -- The walk over a list of steps, turn by turn.
-use Rattle.std.specs.Prelude.{◌≡◌, List, [], ◌∷◌, ℕ, suc, ◌+◌, ◌*◌, ◌/◌, ◌≤◌, ◌<◌, length, get_or, set}
+use Rattle.std.specs.Prelude.{◌≡◌, refl, List, [], ◌∷◌, ℕ, suc, ◌+◌, ◌*◌, ◌/◌, ◌≤◌, ◌<◌, length, get_or, set, drop}
 use Rattle.std.proofs.Math.Path.{sym}
-use Rattle.std.proofs.Common.{subst, arith, lt-ltb, le-ltb, length-set}
+use Rattle.std.proofs.Common.{subst, arith, lt-ltb, le-ltb, length-set, add-one, drop-cons, drop_of_length-le}
 use Rattle.std.proofs.Math.Decide.{ℕ_discrete}
 use Rattle.plans.specs.Walk.{Every}
 use Rattle.steps.specs.declared.step.Step.{Step}
 use Rattle.steps.specs.declared.outcome.Outcome.{Outcome}
 use Rattle.steps.specs.declared.outcome.Line.{Line}
+use Rattle.memory.specs.Word.{view}
 use Rattle.steps.specs.Outcome.{line}
 use Rattle.steps.specs.Taken.{Words}
 use Rattle.engine.specs.Step.{outcome_of}
-use Rattle.schedule.specs.Listed.{written_down}
+use Rattle.schedule.specs.Listed.{written_down, words_run, output_run, taken_run, taken_on, lines, TurnTaken, AllTaken}
+use Rattle.schedule.specs.Laws.Reached.{run_goes_on}
 
 -- what stands past the end of a list of steps
 abbrev pub no_step : Step
@@ -58,3 +60,42 @@ words_next ks i h w j l = go (ℕ_discrete j i)
     go : Dec (j ≡ i) → Words (get_or ks j no_step)
     go (yes e) = subst (λ (n : ℕ). Words (get_or ks n no_step)) (sym e) w
     go (no d) = h j (omega arith)
+
+-- ---- i steps of the list ks are done, on memory with the bytes b, lent an output with the bytes `out` and a list of outcomes: what the steps left make of
+-- the present bytes, output and outcomes is what all of them make of the first; and the steps done have fields of 64 bits
+pub record SoFar (b out outcomes : List ℕ) (ks : List Step) (i : ℕ) (b' out' outcomes' : List ℕ) : Type 0 where
+  pub words : words_run (length b) (length out) (view b') (drop i ks) ≡ words_run (length b) (length out) (view b) ks
+  pub output : output_run (length b) (length out) (view b') (view out') (drop i ks) ≡ output_run (length b) (length out) (view b) (view out) ks
+  pub noted : lines outcomes' i (taken_run (length b) (length out) (view b') (view out') (drop i ks)) ≡ lines outcomes 0 (taken_on b out ks)
+  pub fields : (j : ℕ) → j < i → Words (get_or ks j no_step)
+
+module _ (b out outcomes : List ℕ) (ks : List Step) where
+  pub none_done : SoFar b out outcomes ks 0 b out outcomes
+  none_done = record { words = refl; output = refl; noted = refl; fields = λ j l. absurd (omega arith) }
+
+  pub one_done : (i r : ℕ) (b₁ out₁ outcomes₁ b₂ out₂ outcomes₂ : List ℕ) → SoFar b out outcomes ks i b₁ out₁ outcomes₁ → i < length ks → length b₁ ≡ length b → length out₁ ≡ length out
+      → Words (get_or ks i no_step) → TurnTaken b₁ out₁ outcomes₁ i (get_or ks i no_step) r b₂ out₂ outcomes₂ → SoFar b out outcomes ks (i + 1) b₂ out₂ outcomes₂
+  unfolding words_run output_run taken_run lines
+  one_done i r b₁ out₁ outcomes₁ b₂ out₂ outcomes₂ h l e d w t =
+      let k = get_or ks i no_step in
+      let c : drop i ks ≡ k ∷ drop (suc i) ks = drop-cons ks i no_step l in
+      rw (add-one i) (record {
+        words = rw (t.1, e, d) (rw c at h.words);
+        output = rw (t.1, t.2, e, d) (rw c at h.output);
+        noted = rw (t.1, t.2, t.3, e, d) (rw c at h.noted);
+        fields = words_next ks i h.fields w;
+      })
+
+  pub all_done : (i : ℕ) (b' out' outcomes' : List ℕ) → SoFar b out outcomes ks i b' out' outcomes' → length ks ≤ i → length b' ≡ length b → AllTaken b out outcomes ks b' out' outcomes'
+  unfolding words_run output_run taken_run lines
+  all_done i b' out' outcomes' h l e =
+      let none : drop i ks ≡ [] = drop_of_length-le ks {i = i} l in
+      let w : view b' ≡ words_run (length b) (length out) (view b) ks = rw none at h.words in
+      record {
+        words = w;
+        output = rw none at h.output;
+        taken = taken_on b out ks;
+        is = refl;
+        noted = rw none at h.noted;
+        reached = run_goes_on b b' out ks (all_words ks (λ j m. h.fields j (omega arith))) e w;
+      }
