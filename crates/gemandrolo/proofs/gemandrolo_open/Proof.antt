@@ -10,7 +10,7 @@ gemandrolo_open_spec = tie.close (tie.spec
     (λ c. search rules)  -- enum-told
     (λ c. search rules)  -- enum-known-opening
     (λ c. search rules)  -- same-length
-    (λ c. opens c.before.before.before.before.before.before.before.args.mem.now _ _ _ (search rules) (search (numbers, rules)) (search rules))  -- returns
+    (λ c. opens c.args.mem.now _ _ _ (search rules) (search (numbers, rules)) (search rules))  -- returns
     (λ c. search rules)  -- same-length-2
-    (λ c. opens c.before.before.before.before.before.before.before.before.args.mem.now _ _ _ (search rules) (search (numbers, rules)) (search rules))  -- returns-2
+    (λ c. opens c.args.mem.now _ _ _ (search rules) (search (numbers, rules)) (search rules))  -- returns-2
     )

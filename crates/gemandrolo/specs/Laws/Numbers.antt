@@ -6,7 +6,7 @@ use Rattle.steps.specs.declared.outcome.Outcome.{Outcome}
 use Rattle.steps.specs.declared.outcome.Line.{Line}
 use Rattle.steps.specs.Outcome.{line}
 use Rattle.kinds.specs.declared.whole.Length.{Length}
-use Rattle.kinds.specs.declared.whole.Length.TheVariants.{Bytes, Refused as None}
+use Rattle.kinds.specs.declared.whole.Length.TheVariants.{Bytes, Refused as NoLength}
 use Rattle.engine.specs.declared.open.Opening.{Opening}
 use Rattle.engine.specs.declared.open.Opening.TheVariants.{Accepted, Refused as Shut}
 use Rattle.engine.specs.Open.{opening}
@@ -17,7 +17,7 @@ module _ (r : Length) where
   unfolding bytes_of
   is_bytes l n e q = sym (ap bytes_of (sym e ∙ q))
 
-  pub is_none : (l : Length) (n : ℕ) → l ≡ r → l ≡ None n → 0 ≡ bytes_of r
+  pub is_none : (l : Length) (n : ℕ) → l ≡ r → l ≡ NoLength n → 0 ≡ bytes_of r
   unfolding bytes_of
   is_none l n e q = sym (ap bytes_of (sym e ∙ q))
 

@@ -1,6 +1,5 @@
 use borrow.Author.Rules.{rules}
 use Prim.Native.Nat.{◌+◌, ◌-◌, ◌≤◌, ◌<◌}
-use mathlib.Core.Logic.{⊎_elim}
 use Rattle.memory.specs.Word.{view}
 use Rattle.nodes.specs.Stored.{node_at}
 use Rattle.nodes.proofs.Laws.Counting.{Counting, counting_starts, counting_ends, counted_within}
@@ -9,10 +8,10 @@ use Rattle.places.specs.Laws.Branched.{counts_key, passes_key}
 use Rattle.places.proofs.branched.Statement.{statement}
 use Rattle.places.proofs.branched.Tie as tie
 
-abbrev invariant_loop : tie.invariant-loop
+abbrev invariant_loop : tie.invariant-loop-i
 invariant_loop s b key count p₀ i₀ p i = (p < i) × (i ≤ count + 1) × Counting (node_at (view s) b) key i p
 
-abbrev decreases_loop : tie.decreases-loop
+abbrev decreases_loop : tie.decreases-loop-i
 decreases_loop s b key count p₀ i₀ p i = count + 1 - i
 
 pub branched_spec : {M : Type 1} → statement M
@@ -26,6 +25,6 @@ branched_spec = tie.close (tie.spec
     (λ c. search rules)  -- add-p
     (λ c. search rules)  -- add-i
     (λ c. search rules)  -- loop-less
-    (λ c. ⊎_elim (λ w. search (counts_key, keys_sized, rules)) (λ w. search (passes_key, keys_sized, rules)) c.if1.branch)  -- loop-again
+    (λ c. search (counts_key, passes_key, keys_sized, rules))  -- loop-again
     (λ c. search (counting_ends, counted_within, keys_sized, rules))  -- returns
     )
