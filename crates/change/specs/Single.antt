@@ -16,8 +16,8 @@ use Rattle.change.specs.Leaf.{Changes}
 use Rattle.change.specs.Work.{Enters}
 
 -- what it writes
-abbrev pub entries_of : Single → List Entry
-entries_of r = cond r.written ((r.number, r.node) ∷ []) []
+abbrev pub single_entries : Single → List Entry
+single_entries r = cond r.written ((r.number, r.node) ∷ []) []
 
 -- nothing
 pub record Unwritten (s : Stop) (r : Single) : Type 0 where
@@ -36,14 +36,14 @@ Named c = goes c.stop ≡ true → c.way.name < end_of_names
 -- a changed leaf is written, whatever plan it is, unless there is more to write
 pub record LeafWritten (b u : List ℕ) (c : Changed) (r : Single) (u' : List ℕ) : Type 0 where
   pub written : goes r.stop ≡ false → (slots : ℕ) (p : TreePlan) (u₀ : List ℕ) → Changes slots b u₀ p c u
-      → Written slots (held b) u₀ p r.stop (entries_of r) u'
+      → Written slots (held b) u₀ p r.stop (single_entries r) u'
   pub few : r.node.count ≤ most_keys
 
 -- the waiting operation is walked to its end, unless there is more to write
 pub record Singly (slots : ℕ) (m : ClientWord → ℕ) (u : List ℕ) (r : Single) (u' : List ℕ) : Type 0 where
-  pub written : goes r.stop ≡ false → Written slots m u (reading slots (waiting m)) r.stop (entries_of r) u'
+  pub written : goes r.stop ≡ false → Written slots m u (reading slots (waiting m)) r.stop (single_entries r) u'
   pub few : r.node.count ≤ most_keys
 
 -- its work step has ended, unless there is more to write: then nothing of the result counts
 pub record WorksSingly (slots : ℕ) (m : ClientWord → ℕ) (r : Single) (u₀ u : List ℕ) : Type 0 where
-  pub enters : goes r.stop ≡ false → Enters slots m r.stop (entries_of r) u₀ u
+  pub enters : goes r.stop ≡ false → Enters slots m r.stop (single_entries r) u₀ u

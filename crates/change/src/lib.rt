@@ -1,4 +1,6 @@
 // What a waiting operation writes: insert, delete and migrate, their changes carried up; and the whole work step.
+#![tactic(auto)]
+
 pub mod delete;
 pub mod grow;
 pub mod insert;

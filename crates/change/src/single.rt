@@ -10,7 +10,7 @@ ghost use Rattle.walk.specs.Stopped.{Waiting};
 ghost use Rattle.walk.specs.declared.operation.Operation.TheVariants.{Write};
 ghost use Rattle.walk.specs.Operation.{operation_of};
 ghost use Rattle.change.specs.Last.{last_reason};
-ghost use Rattle.change.specs.Single.{entries_of, Unwritten, in_range, Named, LeafWritten, Singly, WorksSingly};
+ghost use Rattle.change.specs.Single.{single_entries, Unwritten, in_range, Named, LeafWritten, Singly, WorksSingly};
 
 use crate::last::one_reason;
 use crate::leaf::Changed;
@@ -97,7 +97,7 @@ fn walk(part: &[u8], slots: usize, used: &mut [u64], op: Update) -> Single
 // The last questions about what is written.
 fn single_reason(part: &[u8], s: Single) -> u64
     requires { (s.node.count ≤ most_keys) × (held part.now writes_count ≤ limit Writes) × ClientPart part.now }
-    ensures { result ≡ last_reason (held part.now) (entries_of s) }
+    ensures { result ≡ last_reason (held part.now) (single_entries s) }
 {
     if !s.written {
         return 0;

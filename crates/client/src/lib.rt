@@ -1,4 +1,6 @@
 // One client's part of the memory, and what a client does between two messages.
+#![tactic(auto)]
+
 pub mod answer;
 pub mod commit;
 pub mod copies;

@@ -13,5 +13,5 @@ pub record Reached (z : Sizes) (h : List Taken) (b : List ℕ) : Type 0 where
   pub way : Leads z (opened z) h (stored_in z (view b))
 
 -- whatever steps reached the bytes b: those, and then the steps of ts, reach the bytes b'
-unfoldable pub Goes_on : List ℕ → List Taken → List ℕ → Type 0
-Goes_on b ts b' = (z : Sizes) (h : List Taken) → Reached z h b → Reached z (h ++ ts) b'
+unfoldable pub GoesOn : List ℕ → List Taken → List ℕ → Type 0
+GoesOn b ts b' = (z : Sizes) (h : List Taken) → Reached z h b → Reached z (h ++ ts) b'

@@ -1,4 +1,6 @@
 // Opening a store, and its steps.
+#![tactic(auto)]
+
 pub mod open;
 mod operate;
 pub mod step;

@@ -6,7 +6,7 @@ ghost use Rattle.client.specs.Part.{Did};
 ghost use Rattle.client.specs.Lent.{InUse, used_in, OwnFits, own_list};
 ghost use Rattle.client.specs.Bounds.{most_listed};
 ghost use Rattle.client.specs.Enter.{enter_entries};
-ghost use Rattle.change.specs.Single.{entries_of};
+ghost use Rattle.change.specs.Single.{single_entries};
 ghost use Rattle.walk.specs.Walk.{is_answer};
 ghost use Rattle.walk.specs.Stopped.{Stopped};
 ghost use Rattle.walk.specs.declared.operation.Operation.TheVariants.{Read, Write};
@@ -54,7 +54,7 @@ fn store_answer(mem: &mut [u8], sizes: Sizes, client: usize, own: &[u64], used: 
 // The one write, if there is one.
 fn enter_one(part: &mut [u8], s: Single)
     requires { ClientPart part.old }
-    ensures { Did (enter_entries (entries_of s)) part.old part.new }
+    ensures { Did (enter_entries (single_entries s)) part.old part.new }
 {
     if s.written {
         let node = s.node;
@@ -65,7 +65,7 @@ fn enter_one(part: &mut [u8], s: Single)
 // The same of an operation with one write or none.
 fn enter_single(part: &mut [u8], s: Single, used: &[u64])
     requires { InUse used.now × ClientPart part.old }
-    ensures { Did (entering (used_in used.now) (entries_of s)) part.old part.new }
+    ensures { Did (entering (used_in used.now) (single_entries s)) part.old part.new }
 {
     enter_used(part, used);
     enter_one(part, s);
@@ -74,7 +74,7 @@ fn enter_single(part: &mut [u8], s: Single, used: &[u64])
 
 fn store_single(mem: &mut [u8], sizes: Sizes, client: usize, s: Single, used: &[u64])
     requires { AtClient sizes (length mem.old) client × InUse used.now }
-    ensures { EntersAll sizes client used (entries_of s) mem }
+    ensures { EntersAll sizes client used (single_entries s) mem }
 {
     let at = 8 * client_at(sizes, client);
     enter_single(&mut mem[at..], s, used);

@@ -7,7 +7,7 @@ ghost use Rattle.kinds.specs.Judge.{of_client};
 ghost use Rattle.kinds.specs.Kinds.{Comes};
 ghost use Rattle.engine.specs.Work.{LeavesLent};
 ghost use Rattle.engine.specs.Step.{rule_of, outcome_of, words_after, Ruled, lent, as_taken, lent_output};
-ghost use Rattle.engine.specs.Reached.{Goes_on};
+ghost use Rattle.engine.specs.Reached.{GoesOn};
 
 use crate::operate::work;
 use client::part::{OP_NUMBER, OP_VALUE};
@@ -95,7 +95,7 @@ pub fn step(mem: &mut [u8], out: &mut [u8], step: Step) -> Outcome
     ensures value { result ≡ lent outcome_of mem out step }
     ensures words { view mem.new ≡ lent words_after mem out step }
     ensures output { view out.new ≡ lent_output mem out step }
-    ensures reached { Goes_on mem.old (as_taken step out result ∷ []) mem.new }
+    ensures reached { GoesOn mem.old (as_taken step out result ∷ []) mem.new }
 {
     let bytes = mem.len();
     if bytes < 64 {

@@ -1,12 +1,14 @@
 // The store for programs in C and Rust: functions on numbers and lent slices. A slice is passed as a pointer and a length, so that no
 // function asks anything of its caller but that the memory is there.
+#![tactic(auto)]
+
 ghost use Rattle.std.specs.Prelude.{◌≡◌, [], length};
 ghost use Rattle.memory.specs.Word.{view};
 ghost use Rattle.steps.specs.Refusal.{open_refusal};
 ghost use Rattle.kinds.specs.Parts.{length_answer};
 ghost use Rattle.engine.specs.Open.{opened_in};
 ghost use Rattle.engine.specs.Step.{words_after, lent, lent_output};
-ghost use Rattle.engine.specs.Reached.{Reached, Goes_on};
+ghost use Rattle.engine.specs.Reached.{Reached, GoesOn};
 ghost use Rattle.schedule.specs.Listed.{TakesAll};
 ghost use Rattle.gemandrolo.specs.Numbers.{sizes_of, step_of, bytes_of, numbers_of, one_taken};
 
@@ -80,7 +82,7 @@ pub extern "C" fn gemandrolo_step(
     ensures b { b.new ≡ (numbers_of mem out (step_of kind client op key value server)).b }
     ensures words { view mem.new ≡ lent words_after mem out (step_of kind client op key value server) }
     ensures output { view out.new ≡ lent_output mem out (step_of kind client op key value server) }
-    ensures reached { Goes_on mem.old (one_taken (step_of kind client op key value server) out result a b) mem.new }
+    ensures reached { GoesOn mem.old (one_taken (step_of kind client op key value server) out result a b) mem.new }
 {
     let outcome = step(
         mem,

@@ -1,4 +1,6 @@
 // The kinds of steps but work, what work fetches, and the refusals.
+#![tactic(auto)]
+
 pub mod abort;
 pub mod apply;
 pub mod change;

@@ -5,7 +5,7 @@ use Rattle.plans.specs.Plan.{Out, gives, fails, exec}
 use Rattle.nodes.specs.Name.{name, server_of, slot_of}
 use Rattle.nodes.specs.Placement.{row}
 use Rattle.nodes.specs.States.{first_states}
-use Rattle.operations.specs.Object.{Obj, meta, node, flag, Ask, object, vector, fetched, Val, root, taken, flags, free, keys_of, level_of, slots_of, root_of, Why, Ans, Writes, over, objects}
+use Rattle.operations.specs.Object.{Obj, meta, node, flag, Ask, object, vector, fetched, Val, root, taken, flags, free, keys_in, level_of, slots_in, root_of, Why, Ans, Writes, over, objects}
 use Rattle.operations.specs.Map.{Map, Op, insert, delete, next, previous, answer}
 use Rattle.operations.specs.Entry.{Entries, node_value}
 use Rattle.operations.specs.Operation.{plan}
@@ -68,7 +68,7 @@ five_nine_tree = small ((node 0, node_value 0 five_nine) ∷ [])
 abbrev tree_keys : (Obj → Val) → List (List ℕ)
 tree_keys S =
     let top = S (node (root_of (S meta))) in
-    keys_of top ∷ cond (eqb (level_of top) 0) [] (map (λ n. keys_of (S (node n))) (slots_of top))
+    keys_in top ∷ cond (eqb (level_of top) 0) [] (map (λ n. keys_in (S (node n))) (slots_in top))
 
 -- what comes of an operation's plan
 unfoldable pub comes_to : Op → (Ask → Val) → Out (Ans × Writes) Why

@@ -31,11 +31,11 @@ abbrev pub free : Val
 free = body 0 0 [] []
 
 -- a node's keys; metadata and flags have none, so they rise where all that is written is looked at (`fits?`)
-abbrev pub keys_of : Val → List ℕ
-keys_of (root r st) = []
-keys_of (body k l ks vs) = ks
-keys_of (taken b) = []
-keys_of (flags fs) = []
+abbrev pub keys_in : Val → List ℕ
+keys_in (root r st) = []
+keys_in (body k l ks vs) = ks
+keys_in (taken b) = []
+keys_in (flags fs) = []
 
 -- a node's level; metadata and flags have 0, which `fits?` lets pass
 abbrev pub level_of : Val → ℕ
@@ -45,11 +45,11 @@ level_of (taken b) = 0
 level_of (flags fs) = 0
 
 -- a node's values or children; asked of nodes only
-abbrev pub slots_of : Val → List ℕ
-slots_of (root r st) = []
-slots_of (body k l ks vs) = vs
-slots_of (taken b) = []
-slots_of (flags fs) = []
+abbrev pub slots_in : Val → List ℕ
+slots_in (root r st) = []
+slots_in (body k l ks vs) = vs
+slots_in (taken b) = []
+slots_in (flags fs) = []
 
 -- the metadata's root; asked of the metadata only
 abbrev pub root_of : Val → ℕ

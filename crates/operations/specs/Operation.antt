@@ -3,7 +3,7 @@ use Rattle.std.specs.Prelude.{Bool, true, cond, ◌&&◌, [], ◌∷◌, ℕ, �
 use Rattle.std.proofs.Math.Decide.{dec_le}
 use Rattle.base.specs.Test.{yes?}
 use Rattle.nodes.specs.Place.{rises}
-use Rattle.operations.specs.Object.{Val, keys_of, level_of, no_tree, Ans, Writes, written_value}
+use Rattle.operations.specs.Object.{Val, keys_in, level_of, no_tree, Ans, Writes, written_value}
 use Rattle.operations.specs.Map.{two_to_64, Op, insert, lookup, delete, next, previous, migrate, list}
 use Rattle.operations.specs.Path.{TreePlan}
 use Rattle.operations.specs.Look.{lookup_plan, next_plan, previous_plan, list_plan}
@@ -13,7 +13,7 @@ use Rattle.plans.specs.Plan as P
 
 -- may this be written? "a node with keys that don't rise or a level above 4 would be written"
 abbrev pub fits? : Val → Bool
-fits? v = rises (keys_of v) && yes? (dec_le (level_of v) 4)
+fits? v = rises (keys_in v) && yes? (dec_le (level_of v) 4)
 
 -- of the objects of w, what all the writes together leave there
 abbrev pub all_fit? : Writes → Writes → Bool

@@ -1,5 +1,7 @@
 // The place of a key in a node, for the benchmark: by counting, as the engine finds it, and by branching, as it did before, but that
 // the loop goes by positions from 1 in both. They meet one contract, so that nothing but their code is compared.
+#![tactic(auto)]
+
 ghost use Rattle.std.specs.Prelude.{◌≡◌, ◌+◌, ◌/◌, ◌≤◌, length};
 ghost use Rattle.memory.specs.Word.{view};
 ghost use Rattle.nodes.specs.Bounds.{most_keys, node_words};

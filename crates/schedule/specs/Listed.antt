@@ -10,7 +10,7 @@ use Rattle.steps.specs.declared.outcome.Line.{Line}
 use Rattle.steps.specs.Outcome.{line}
 use Rattle.steps.specs.Taken.{Taken, came_to, outcome_from}
 use Rattle.engine.specs.Step.{outcome_of, words_after, output_after}
-use Rattle.engine.specs.Reached.{Goes_on}
+use Rattle.engine.specs.Reached.{GoesOn}
 
 -- on memory of n bytes with these words, where an output of `room` bytes is lent to all steps: the words after a list of steps
 module _ (n room : ℕ) where
@@ -73,7 +73,7 @@ pub record AllTaken (b out outcomes : List ℕ) (ks : List Step) (b' out' outcom
   pub taken : List Taken
   pub is : taken ≡ taken_on b out ks
   pub noted : outcomes' ≡ lines outcomes 0 taken
-  pub reached : Goes_on b taken b'
+  pub reached : GoesOn b taken b'
 
 -- a lent list of steps as a contract names it
 abbrev pub LentSteps : Type 0

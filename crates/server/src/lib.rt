@@ -1,4 +1,6 @@
 // One server's part of the memory: what it stores, checks, locks and hands out.
+#![tactic(auto)]
+
 pub mod check;
 pub mod hand_out;
 pub mod lock;

@@ -170,7 +170,7 @@ fn advance(
 ) -> Ahead
     requires stacked { Stacked top (turns_in part.now path) level × PathInPart path × InPart place × ClientPart part.now }
     requires at { Standing (node_at (view part.now) place) level top × Roomy w.wanted found.old }
-    ensures advanced { Advanced w top (turns_of part path) level (lent_node part place) (lent_pairs found) (headed part result) (left_pairs found) }
+    ensures next { Advanced w top (turns_of part path) level (lent_node part place) (lent_pairs found) (headed part result) (left_pairs found) }
     ensures within { PathInPart result.path × Roomy w.wanted found.new }
 {
     if level == 0 {

@@ -47,7 +47,7 @@ use Rattle.change.specs.Fit.{entries_fit}
 use Rattle.change.specs.Last.{reason_of, last_reason}
 use Rattle.change.specs.Work.{judged}
 use Rattle.change.specs.Laws.Work.{enters_stops, enters_judged}
-use Rattle.change.specs.Single.{entries_of, Unwritten, in_range, Named, LeafWritten, Singly, WorksSingly}
+use Rattle.change.specs.Single.{single_entries, Unwritten, in_range, Named, LeafWritten, Singly, WorksSingly}
 use Rattle.plans.specs.Plan as P
 
 -- ---- is the leaf in range
@@ -171,11 +171,11 @@ pub ruleset single_operation = (leaf_named, single_leaf, single_moves)
 
 -- ---- the last questions about it
 module _ (m : ClientWord → ℕ) (r : Single) where
-  pub nothing_asked : not r.written ≡ true → m writes_count ≤ 48 → 0 ≡ last_reason m (entries_of r)
+  pub nothing_asked : not r.written ≡ true → m writes_count ≤ 48 → 0 ≡ last_reason m (single_entries r)
   unfolding last_reason reason_of entries_fit count_new versions_there any_at_last
   nothing_asked nw h = let l : m writes_count + 0 ≤ 48 = omega arith in rw (not-true r.written nw, le-ltb _ _ l)
 
-  pub one_asked : not r.written ≡ false → (y : ℕ) → y ≡ last_reason m ((r.number, r.node) ∷ []) → y ≡ last_reason m (entries_of r)
+  pub one_asked : not r.written ≡ false → (y : ℕ) → y ≡ last_reason m ((r.number, r.node) ∷ []) → y ≡ last_reason m (single_entries r)
   one_asked nw y e = rw (not-false r.written nw) e
 
 pub ruleset asked_exits = (nothing_asked, one_asked)
@@ -192,12 +192,12 @@ answer_stops (Answers a b) e = refl
 
 module _ (slots : ℕ) (m : ClientWord → ℕ) (wait : Waiting m) (u : List ℕ) (none : get_or u 0 0 ≡ 0) (r : Single) (u' : List ℕ) (ku : length u' ≡ length u) (o : Singly slots m u r u') (b : Bool) (pb : b ≡ is_answer r.stop) where
   pub single_stops : not b ≡ true → WorksSingly slots m r u u'
-  single_stops nb = record { enters = λ ng. enters_stops slots m wait u none r.stop (entries_of r) u' ku (o.written ng) (sym pb ∙ not-true b nb) }
+  single_stops nb = record { enters = λ ng. enters_stops slots m wait u none r.stop (single_entries r) u' ku (o.written ng) (sym pb ∙ not-true b nb) }
 
-  pub single_judged : not b ≡ false → (y : ℕ) → y ≡ last_reason m (entries_of r) → (t : Stop) → t ≡ judged r.stop y
+  pub single_judged : not b ≡ false → (y : ℕ) → y ≡ last_reason m (single_entries r) → (t : Stop) → t ≡ judged r.stop y
       → WorksSingly slots m (record { stop = t; written = r.written; number = r.number; node = r.node }) u u'
   single_judged nb y py t e =
       let yes_answer : is_answer r.stop ≡ true = sym pb ∙ not-false b nb in
-      record { enters = λ ng. enters_judged slots m wait u none r.stop (entries_of r) u' ku (o.written (answer_stops r.stop yes_answer)) yes_answer y py t e }
+      record { enters = λ ng. enters_judged slots m wait u none r.stop (single_entries r) u' ku (o.written (answer_stops r.stop yes_answer)) yes_answer y py t e }
 
 pub ruleset single_exits = (single_stops, single_judged)

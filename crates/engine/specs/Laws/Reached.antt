@@ -31,7 +31,7 @@ use Rattle.engine.specs.Open.{opening, new_words, words_opened}
 use Rattle.engine.specs.Laws.Open.{new_store}
 use Rattle.engine.specs.Step.{result_of, outcome_of, words_after, output_after}
 use Rattle.engine.specs.Laws.Step.{Stands}
-use Rattle.engine.specs.Reached.{Reached, Goes_on}
+use Rattle.engine.specs.Reached.{Reached, GoesOn}
 
 -- memory of n bytes with the words w, as a store of sizes z
 module _ (z : Sizes) (n : ℕ) (ok : open_refusal n z ≡ 0) where
@@ -125,8 +125,8 @@ pub new_reached : (z : Sizes) (b b' : List ℕ) → open_refusal (length b) z �
 new_reached z b b' ok e q = as_bytes z (length b) ok [] (words_opened (length b) z (view b)) b' e q (new_at z (length b) ok (view b) (whole_words b))
 
 pub step_goes_on : (b b' lent left : List ℕ) (k : Step) (o : Outcome) → Words k → length b' ≡ length b → Stands b lent k o b' left
-    → Goes_on b (came_to k (length lent) (view lent) o (view left) ∷ []) b'
-unfolding Goes_on
+    → GoesOn b (came_to k (length lent) (view lent) o (view left) ∷ []) b'
+unfolding GoesOn
 step_goes_on b b' lent left k o words e s z h r =
     let room = length lent in
     let t = came_to k room (view lent) (outcome_of (length b) (view b) room k) (view left) in
@@ -147,5 +147,5 @@ module _ (b b' : List ℕ) where
   pub steps : (lent left : List ℕ) (k : Step) (o : Outcome) → Words k → length b' ≡ length b → Stands b lent k o b' left
       → (o ≡ outcome_of (length b) (view b) (length lent) k)
       × ((view b' ≡ words_after (length b) (view b) (length lent) k)
-      × ((view left ≡ output_after (length b) (view b) (length lent) k (view lent)) × Goes_on b (came_to k (length lent) (view lent) o (view left) ∷ []) b'))
+      × ((view left ≡ output_after (length b) (view b) (length lent) k (view lent)) × GoesOn b (came_to k (length lent) (view lent) o (view left) ∷ []) b'))
   steps lent left k o words e s = (s.outcome, (s.words, (s.output, step_goes_on b b' lent left k o words e s)))

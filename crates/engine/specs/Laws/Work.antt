@@ -46,7 +46,7 @@ use Rattle.walk.specs.Look.{Looks}
 use Rattle.walk.specs.Found.{Roomy}
 use Rattle.change.specs.declared.single.Single.{Single}
 use Rattle.change.specs.Work.{Ready, Enters, Works}
-use Rattle.change.specs.Single.{entries_of, WorksSingly}
+use Rattle.change.specs.Single.{single_entries, WorksSingly}
 use Rattle.steps.specs.declared.sizes.Sizes.{Sizes}
 use Rattle.steps.specs.declared.outcome.Outcome.{Outcome}
 use Rattle.steps.specs.Whole.{Address, client, whole, block, client_at}
@@ -84,12 +84,12 @@ seen_entered us s t x h p r = answer_entered us [] s t t x h p (did_nothing (ent
 
 -- one write, or none
 module _ (r : Single) (s t : List ℕ) where
-  pub one_entered : 7223 ≤ length s / 8 → r.written ≡ true → Did (enter_write r.number r.node) s t → Did (enter_entries (entries_of r)) s t
+  pub one_entered : 7223 ≤ length s / 8 → r.written ≡ true → Did (enter_write r.number r.node) s t → Did (enter_entries (single_entries r)) s t
   unfolding enter_entries nothing
   one_entered h w p =
       rw w (did_then (enter_write r.number r.node) nothing s t t h (good_write r.number r.node) p (did_nothing nothing t refl))
 
-  pub none_entered : r.written ≡ false → t ≡ s → Did (enter_entries (entries_of r)) s t
+  pub none_entered : r.written ≡ false → t ≡ s → Did (enter_entries (single_entries r)) s t
   unfolding enter_entries nothing
   none_entered w e = rw (w, e) (did_nothing nothing s refl)
 
@@ -458,7 +458,7 @@ module _ (z : Sizes) (b : List ℕ) (c : ℕ) (hold : StoreIn z (length b)) (h :
 
 -- one that writes one object or none
 module _ (t : ℕ) (m : ClientWord → ℕ) (r : Single) (u₀ u : List ℕ) (k : WorksSingly t m r u₀ u) (on : Bool) (po : on ≡ goes r.stop) (off : on ≡ false) where
-  pub single_ended : Enters t m r.stop (entries_of r) u₀ u
+  pub single_ended : Enters t m r.stop (single_entries r) u₀ u
   single_ended = k.enters (sym po ∙ off)
 
   pub single_stopped : Stopped t m r.stop u
@@ -467,11 +467,11 @@ module _ (t : ℕ) (m : ClientWord → ℕ) (r : Single) (u₀ u : List ℕ) (k 
   pub single_used : InUse u
   single_used = single_ended.stopped.in_use
 
-module _ (z : Sizes) (b : List ℕ) (c : ℕ) (hold : StoreIn z (length b)) (h : c < z.clients) (known : Known z (view b) c) (wait : Waiting (of_client z (view b) c)) (fit : fit_to_work z.slots (of_client z (view b) c) ≡ true) (r : Single) (u₀ u : List ℕ) (k : Enters z.slots (of_client z (view b) c) r.stop (entries_of r) u₀ u) where
+module _ (z : Sizes) (b : List ℕ) (c : ℕ) (hold : StoreIn z (length b)) (h : c < z.clients) (known : Known z (view b) c) (wait : Waiting (of_client z (view b) c)) (fit : fit_to_work z.slots (of_client z (view b) c) ≡ true) (r : Single) (u₀ u : List ℕ) (k : Enters z.slots (of_client z (view b) c) r.stop (single_entries r) u₀ u) where
   pub single_answers : (o : Outcome) (w' : List ℕ) → is_answer r.stop ≡ true → o ≡ answer_of r.stop
-      → Does whole (block z) (in_part (client c) (entering (used_in u) (entries_of r))) silent (view b) 0 w' → Meets z (λ m. work z m c) (view b) o w' × NoPairs z b c
+      → Does whole (block z) (in_part (client c) (entering (used_in u) (single_entries r))) silent (view b) 0 w' → Meets z (λ m. work z m c) (view b) o w' × NoPairs z b c
   single_answers o w' n e p = (
-    rw e (work_answers z b c hold h known wait fit r.stop u k.stopped n (entries_of r) w' k.own p),
+    rw e (work_answers z b c hold h known wait fit r.stop u k.stopped n (single_entries r) w' k.own p),
     pairs_written z b c hold h known wait fit r.stop u k.stopped [] k.unlisted n,
   )
 

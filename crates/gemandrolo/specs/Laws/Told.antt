@@ -11,7 +11,7 @@ use Rattle.steps.specs.Taken.{came_to, outcome_from}
 use Rattle.steps.proofs.Laws.Taken.{same_outcome}
 use Rattle.engine.specs.Open.{words_opened}
 use Rattle.engine.specs.Step.{outcome_of}
-use Rattle.engine.specs.Reached.{Reached, Goes_on}
+use Rattle.engine.specs.Reached.{Reached, GoesOn}
 use Rattle.engine.specs.Laws.Reached.{new_reached}
 
 module _ (b b' : List ℕ) where
@@ -21,8 +21,8 @@ module _ (b b' : List ℕ) where
 
   -- o is what `step` returned, and r, a and c are its numbers
   pub tells : (k : Step) (lent left : List ℕ) (o : Outcome) (r a c : ℕ) → let x = outcome_of (length b) (view b) (length lent) k in o ≡ x
-      → Goes_on b (came_to k (length lent) (view lent) o (view left) ∷ []) b' → r ≡ (line x).outcome → a ≡ (line x).a → c ≡ (line x).b
-      → Goes_on b (came_to k (length lent) (view lent) (outcome_from r a c) (view left) ∷ []) b'
+      → GoesOn b (came_to k (length lent) (view lent) o (view left) ∷ []) b' → r ≡ (line x).outcome → a ≡ (line x).a → c ≡ (line x).b
+      → GoesOn b (came_to k (length lent) (view lent) (outcome_from r a c) (view left) ∷ []) b'
   tells k lent left o r a c p g x y w =
-      subst (λ (u : Outcome). Goes_on b (came_to k (length lent) (view lent) u (view left) ∷ []) b')
+      subst (λ (u : Outcome). GoesOn b (came_to k (length lent) (view lent) u (view left) ∷ []) b')
       (p ∙ sym (rw (x, y, w) (same_outcome (outcome_of (length b) (view b) (length lent) k)))) g

@@ -5,7 +5,7 @@ use Rattle.std.proofs.Math.Decide.{dec_le}
 use Rattle.base.proofs.Laws.Test.{of_yes}
 use Rattle.base.specs.Test.{yes?}
 use Rattle.nodes.specs.Place.{rises}
-use Rattle.operations.specs.Object.{Obj, meta, node, flag, object, vector, fetched, Val, keys_of, level_of, no_tree, Ans, Writes, hit, over, written_value}
+use Rattle.operations.specs.Object.{Obj, meta, node, flag, object, vector, fetched, Val, keys_in, level_of, no_tree, Ans, Writes, hit, over, written_value}
 use Rattle.operations.proofs.Laws.Object.{written}
 use Rattle.operations.specs.Map.{Map, two_to_64}
 use Rattle.operations.specs.Path.{TreePlan}
@@ -56,7 +56,7 @@ fits_rep : (U : Obj → Val) (m : Map) → Rep U m → (o : Obj) → fits? (U o)
 unfolding dec_le rises
 fits_rep U m R meta = ap fits? R.tree.top_is
 fits_rep U m R (node n) =
-    ap (λ b. b && yes? (dec_le (level_of (U (node n))) 4)) (rise_of 0 two_to_64 (keys_of (U (node n))) (all_rising U m R n))
+    ap (λ b. b && yes? (dec_le (level_of (U (node n))) 4)) (rise_of 0 two_to_64 (keys_in (U (node n))) (all_rising U m R n))
     ∙ of_yes (dec_le (level_of (U (node n))) 4) (all_levels U m R n)
 fits_rep U m R (flag n) = go (R.tree.marks n)
   where

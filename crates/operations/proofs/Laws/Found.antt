@@ -3,7 +3,7 @@ use Rattle.std.specs.Prelude.{◌≡◌, refl, Bool, true, false, List, [], ◌�
 use Rattle.std.proofs.Common.{ap, sym, ◌∙◌, subst, inl, inr, arith}
 use Rattle.std.proofs.Math.Decide.{ℕ_discrete, dec_le}
 use Rattle.std.proofs.lemmas.List.{length-map}
-use Rattle.operations.specs.Object.{Obj, node, flag, Val, root, body, taken, flags, free, keys_of, level_of}
+use Rattle.operations.specs.Object.{Obj, node, flag, Val, root, body, taken, flags, free, keys_in, level_of}
 use Rattle.operations.specs.Map.{Map, two_to_64}
 use Rattle.operations.specs.Entry.{Entries, keys, node_value, fewest_entries, first_key_or}
 use Rattle.operations.proofs.Laws.Chain.{Rising, rising_from, rising_le, rising_upto, one_other, chain_le, chain_rising, ren_keys}
@@ -68,7 +68,7 @@ level_mk (suc l) es = refl
 chain_keys : (N : ℕ → Val) (l b : ℕ) (es : List (ℕ × Slot l)) → Chain (Entry N l) b es → Rising (first_key_or es b) b (keys (ren (word l) es))
 chain_keys N l b es c = subst (Rising (first_key_or es b) b) (sym (ren_keys (word l) es)) (chain_rising (Entry N l) (entry_rise N l) b es c)
 
-pub stored_rising : (N : ℕ → Val) (l k b : ℕ) (es : List (ℕ × Slot l)) → Starts l k (first_key_or es b) → k ≤ b → Chain (Entry N l) b es → Rising k b (keys_of (node_value l (ren (word l) es)))
+pub stored_rising : (N : ℕ → Val) (l k b : ℕ) (es : List (ℕ × Slot l)) → Starts l k (first_key_or es b) → k ≤ b → Chain (Entry N l) b es → Rising k b (keys_in (node_value l (ren (word l) es)))
 stored_rising N zero k b es s i c = rising_from k (first_key_or es b) b (keys (ren (word zero) es)) s (chain_keys N zero b es c)
 stored_rising N (suc l) k b [] s i c = i
 stored_rising N (suc l) k b (e ∷ es) s i c =
@@ -92,9 +92,9 @@ every U m R Q none each n = go (R.tree.marks n) (ℕ_discrete n R.name)
     go (inl q) (no e) = deep (locate (λ n. U (node n)) l n two_to_64 R.ents R.tree.segs (omega (arith, q.0, one_other R.name n e)))
 
 -- keys rise and are below 2^64, levels are at most 4
-pub all_rising : (U : Obj → Val) (m : Map) → Rep U m → (n : ℕ) → Rising 0 two_to_64 (keys_of (U (node n)))
-all_rising U m R = every U m R (λ v. Rising 0 two_to_64 (keys_of v)) (omega arith) (λ l k b es _ s i j c.
-    let ks = keys_of (node_value l (ren (word l) es)) in
+pub all_rising : (U : Obj → Val) (m : Map) → Rep U m → (n : ℕ) → Rising 0 two_to_64 (keys_in (U (node n)))
+all_rising U m R = every U m R (λ v. Rising 0 two_to_64 (keys_in v)) (omega arith) (λ l k b es _ s i j c.
+    let ks = keys_in (node_value l (ren (word l) es)) in
     rising_from 0 k two_to_64 ks (omega arith) (rising_upto k b two_to_64 ks j (stored_rising (λ n. U (node n)) l k b es s i c)))
 
 pub all_levels : (U : Obj → Val) (m : Map) → Rep U m → (n : ℕ) → level_of (U (node n)) ≤ 4
@@ -125,12 +125,12 @@ pub met : (N : ℕ → Val) (n j lv key : ℕ) (ks vs : List ℕ) → N n ≡ bo
 met N n j lv key ks vs e l b es c h =
     let F = locate N l n b es c h in
     let v : node_value F.lv (ren (word F.lv) F.es) ≡ body j lv (key ∷ ks) vs = sym F.kid.at ∙ e in
-    let r : Rising F.k F.b (key ∷ ks) = subst (λ z. Rising F.k F.b (keys_of z)) v
+    let r : Rising F.k F.b (key ∷ ks) = subst (λ z. Rising F.k F.b (keys_in z)) v
     (stored_rising N F.lv F.k F.b F.es F.kid.from (omega (arith, F.kid.rise)) F.kid.segs) in
     let i : F.lv ≡ lv = sym (level_mk F.lv (ren (word F.lv) F.es)) ∙ ap level_of v in
     record { from = omega (arith, F.from, r.0); upto = omega (arith, F.upto, rising_le (suc key) F.b ks r.1); under = omega (arith, F.under, i) }
 
-pub stored_length : (l : ℕ) (es : Entries) → fewest_entries l ≤ length es → 7 ≤ length (keys_of (node_value l es))
+pub stored_length : (l : ℕ) (es : Entries) → fewest_entries l ≤ length es → 7 ≤ length (keys_in (node_value l es))
 stored_length zero es h = omega (arith, h, length-map es (λ e. e.0))
 stored_length (suc l) [] h = omega (arith, h)
 stored_length (suc l) (e ∷ es) h = omega (arith, h, length-map es (λ e. e.0))

@@ -5,7 +5,7 @@ use Rattle.std.proofs.Math.Decide.{ℕ_discrete, dec_lt, dec_le}
 use Rattle.base.specs.Test.{ifd}
 use Rattle.base.proofs.Laws.Test.{yes_of, of_yes}
 use Rattle.nodes.specs.Name.{server_of, slot_of}
-use Rattle.operations.specs.Object.{Obj, meta, node, flag, object, Val, root, body, taken, flags, free, keys_of, level_of, states_of, no_tree, Ans, Writes, over}
+use Rattle.operations.specs.Object.{Obj, meta, node, flag, object, Val, root, body, taken, flags, free, keys_in, level_of, states_of, no_tree, Ans, Writes, over}
 use Rattle.operations.proofs.Laws.Object.{kind_of}
 use Rattle.operations.specs.Map.{Map, two_to_64}
 use Rattle.operations.specs.Entry.{Entries, node_value, Cut, cut}
@@ -168,7 +168,7 @@ module _ (F : Terms) (slots : ℕ) (al : slots ≤ 1024) (M : Obj → Val) (supp
       let h = occurs n j l ks vs e ne in
       let G = locate N R.level n two_to_64 R.ents R.tree.segs h in
       let v : node_value G.lv (ren (word G.lv) G.es) ≡ body (suc j) l ks vs = sym G.kid.at ∙ e in
-      let k7 : 7 ≤ length ks = subst (λ z. 7 ≤ length (keys_of z)) v
+      let k7 : 7 ≤ length ks = subst (λ z. 7 ≤ length (keys_in z)) v
       (stored_length G.lv (ren (word G.lv) G.es) (omega (arith, G.kid.least, ren_length (word G.lv) G.es))) in
       let lt : l < R.level = omega (arith, G.under, sym (level_mk G.lv (ren (word G.lv) G.es)) ∙ ap level_of v) in
       if_ok F Kept M (dec_le 7 (length ks)) _ (P.fail no_tree)

@@ -1,7 +1,7 @@
 -- The pairs read from a snapshot that holds a tree of a map are that map's.
 use Rattle.std.specs.Prelude.{◌≡◌, refl, List, [], ◌∷◌, ◌++◌, true, ℕ, zero, suc, ◌+◌, ◌<◌}
 use Rattle.std.proofs.Common.{ap, sym, ◌∙◌, inl, inr, arith}
-use Rattle.operations.specs.Object.{Obj, meta, node, flag, Val, taken, keys_of, level_of, slots_of, root_of}
+use Rattle.operations.specs.Object.{Obj, meta, node, flag, Val, taken, keys_in, level_of, slots_in, root_of}
 use Rattle.operations.specs.Map.{Map, two_to_64}
 use Rattle.operations.specs.Entry.{vals, zip, node_value, first_key_or}
 use Rattle.operations.specs.Chain.{Chain, one, tally, gather, ren}
@@ -15,8 +15,8 @@ use Rattle.operations.specs.Reading.{all_pairs, pairs_below, map_of}
 -- Read by a function N' that agrees with N on the names that occur, the pairs are the tree's.
 below_is : (N N' : ℕ → Val) (l n b : ℕ) (es : List (ℕ × Slot l)) → Chain (Entry N l) b es → N' n ≡ node_value l (ren (word l) es)
     → ((x : ℕ) → 0 < tally (cnt l) es x → N' x ≡ N x) → pairs_below l N' n ≡ gather (pairs l) es
-below_is N N' zero n b es c e h = ap (λ v. zip (keys_of v) (slots_of v)) e ∙ zip_keys (ren (word zero) es) ∙ leaf_words es ∙ sym (leaf_pairs es)
-below_is N N' (suc l) n b es c e h = ap (λ v. all_pairs (pairs_below l N') (slots_of v)) e ∙ go b es c h (λ n b es c e h. below_is N N' l n b es c e h)
+below_is N N' zero n b es c e h = ap (λ v. zip (keys_in v) (slots_in v)) e ∙ zip_keys (ren (word zero) es) ∙ leaf_words es ∙ sym (leaf_pairs es)
+below_is N N' (suc l) n b es c e h = ap (λ v. all_pairs (pairs_below l N') (slots_in v)) e ∙ go b es c h (λ n b es c e h. below_is N N' l n b es c e h)
   where
     go : (b : ℕ) (es : List (ℕ × Slot (suc l))) → Chain (Entry N (suc l)) b es → ((x : ℕ) → 0 < tally (cnt (suc l)) es x → N' x ≡ N x)
         → ((n b : ℕ) (es : List (ℕ × Slot l)) → Chain (Entry N l) b es → N' n ≡ node_value l (ren (word l) es)

@@ -26,7 +26,7 @@ use Rattle.nodes.specs.Range.{node_in_range}
 use Rattle.nodes.proofs.Laws.Range.{range_of}
 use Rattle.nodes.proofs.Laws.Stored.{Sized}
 use Rattle.nodes.specs.States.{metadata_fits}
-use Rattle.operations.specs.Object.{Obj, meta, node, flag, Val, root, body, taken, flags, keys_of, level_of, Writes, hit, written_value}
+use Rattle.operations.specs.Object.{Obj, meta, node, flag, Val, root, body, taken, flags, keys_in, level_of, Writes, hit, written_value}
 use Rattle.operations.proofs.Laws.Object.{written}
 use Rattle.operations.specs.Operation.{fits?, all_fit?}
 use Rattle.operations.proofs.Laws.Storable.{Shape, Kept, Named, Storable, AllStorable, every_any}
@@ -154,7 +154,7 @@ fit_at all (e ∷ w) o f h = go (hit e.0 o) refl h (and_both (fits? (written_val
     go false t h f rec = rec f.1 h
 
 level_low : (v : Val) → fits? v ≡ true → level_of v ≤ 4
-level_low v h = yes_of (dec_le (level_of v) 4) (and_both (rises (keys_of v)) (yes? (dec_le (level_of v) 4)) h).1
+level_low v h = yes_of (dec_le (level_of v) 4) (and_both (rises (keys_in v)) (yes? (dec_le (level_of v) 4)) h).1
 
 module _ (slots : ℕ) (al : slots ≤ 1024) where
   pub entries_sound : (w : Writes) → AllStorable (There slots) w → all_fit? w w ≡ true → Every (λ (e : Entry). ItemSound slots e.0 e.1) (entered w)

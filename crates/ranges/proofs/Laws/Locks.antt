@@ -53,15 +53,15 @@ use Rattle.protocol.specs.Machine as P
 use Rattle.steps.specs.Uses as U
 
 -- ---- a client that goes on: after its commit still, prepared at s if it was, applied there only if it was, with the same sets
-pub record Goes_on (s : ℕ) (u v : ClientWord → ℕ) : Type 0 where
+pub record GoesOn (s : ℕ) (u v : ClientWord → ℕ) : Type 0 where
   pub after_commit : (2 ≤ u phase) × (u phase ≤ 3) → (2 ≤ v phase) × (v phase ≤ 3)
   pub same_participants : v participants ≡ u participants
   pub still_prepared : bit (u prepared) s ≡ true → bit (v prepared) s ≡ true
   pub still_unapplied : bit (u applied) s ≡ false → bit (v applied) s ≡ false
   pub sets : SameSets u v
 
-pub goes_on_same : (s : ℕ) (u v : ClientWord → ℕ) → v ≡ u → Goes_on s u v
-goes_on_same s u v e = subst (Goes_on s u) (sym e) (record {
+pub goes_on_same : (s : ℕ) (u v : ClientWord → ℕ) → v ≡ u → GoesOn s u v
+goes_on_same s u v e = subst (GoesOn s u) (sym e) (record {
   after_commit = λ h. h;
   same_participants = refl;
   still_prepared = λ h. h;
@@ -81,7 +81,7 @@ abbrev Silent : ClientWord → ℕ → Type 0
 Silent a v = telling a ≡ false
 
 -- stores at none of them
-goes_on_silent : (s : ℕ) (u : ClientWord → ℕ) (ps : List (Put ClientWord)) → Only client_words Silent ps → Goes_on s u (changed client_words u ps)
+goes_on_silent : (s : ℕ) (u : ClientWord → ℕ) (ps : List (Put ClientWord)) → Only client_words Silent ps → GoesOn s u (changed client_words u ps)
 goes_on_silent s u ps h = record {
   after_commit = λ q. subst (λ (n : ℕ). (2 ≤ n) × (n ≤ 3)) (sym (at phase refl)) q;
   same_participants = at participants refl;
@@ -99,7 +99,7 @@ goes_on_silent s u ps h = record {
     at a e = only_other client_words Silent a (λ x v c q. not_both e (ap telling q ∙ c)) ps u h
 
 -- "A decided transaction of a lost client is still applied"
-goes_on_lost : (s : ℕ) (u : ClientWord → ℕ) → Goes_on s u (changed client_words u (lose_part u))
+goes_on_lost : (s : ℕ) (u : ClientWord → ℕ) → GoesOn s u (changed client_words u (lose_part u))
 unfolding lose_part put_word Only Mark
 goes_on_lost s u =
     goes_on_silent s u (lose_part u)
@@ -114,7 +114,7 @@ goes_on_lost s u =
     drop_silent (vector_word s n) v h = refl
 
 -- the decision
-goes_on_decided : (s : ℕ) (u : ClientWord → ℕ) → Goes_on s u (changed client_words u (decided u))
+goes_on_decided : (s : ℕ) (u : ClientWord → ℕ) → GoesOn s u (changed client_words u (decided u))
 unfolding decided Only
 goes_on_decided s u = record {
   after_commit = λ _. subst (λ (n : ℕ). (2 ≤ n) × (n ≤ 3)) (sym (at phase)) (omega arith, omega arith);
@@ -145,7 +145,7 @@ module _ (z : Sizes) (s : ℕ) where
     writer = λ d l e. let q = h true d l e in (q.0, q.1 refl);
   }
 
-  module _ (m m' : Address → ℕ) (d : ℕ) (G : Goes_on s (client_of m d) (client_of m' d)) where
+  module _ (m m' : Address → ℕ) (d : ℕ) (G : GoesOn s (client_of m d) (client_of m' d)) where
     abbrev u₀ : ClientWord → ℕ
     u₀ = client_of m d
 
@@ -213,7 +213,7 @@ module _ (k j slots : ℕ) (m m' : Address → ℕ) (c : ℕ) (others : (d : ℕ
   other_held role d x n = goes_on_held zz s.0 m m' d (goes_on_same s.0 (client_of m d) (client_of m' d) (others d n)) role x
 
   -- c, where it holds a lock, goes on
-  module _ (own : (x : ℕ) → Holds zz m s.0 c x → Goes_on s.0 (client_of m c) (client_of m' c)) where
+  module _ (own : (x : ℕ) → Holds zz m s.0 c x → GoesOn s.0 (client_of m c) (client_of m' c)) where
     each_held : (role : Bool) (d x : ℕ) → Held zz s.0 m role d x → Held zz s.0 m' role d x
     each_held role d x h = go (ℕ_discrete d c)
       where
@@ -237,10 +237,10 @@ module _ (k j slots : ℕ) (m : Address → ℕ) (c : ℕ) (ps : List (Put Clien
   abbrev stored : Address → ℕ
   stored = changed whole m (over (client c) ps)
 
-  pub part_stored : ((s : Fin 8) (x : ℕ) → Holds (store k j slots) m s.0 c x → Goes_on s.0 (client_of m c) (changed client_words (client_of m c) ps))
+  pub part_stored : ((s : Fin 8) (x : ℕ) → Holds (store k j slots) m s.0 c x → GoesOn s.0 (client_of m c) (changed client_words (client_of m c) ps))
       → (s : Fin 8) → LocksSound k j slots stored s
   part_stored g s =
-      unstored k j slots m stored c (client_else m c ps) s (λ x h. subst (Goes_on s.0 (client_of m c)) (sym (client_changed m c ps)) (g s x h))
+      unstored k j slots m stored c (client_else m c ps) s (λ x h. subst (GoesOn s.0 (client_of m c)) (sym (client_changed m c ps)) (g s x h))
       (λ a _. ap (λ (p : Place → ℕ). p a) (client_servers m c ps s.0)) (S s)
 
   -- of a client that holds no lock, since it is before its commit: begin, give, work, commit, copies forgotten
@@ -298,7 +298,7 @@ module _ (k j slots : ℕ) (al : slots ≤ 1024) (few : suc j ≤ 16) (m : Addre
   unfolding noted
   now_prepared = at prepared
 
-  own_on : (t : ℕ) → Goes_on t u v
+  own_on : (t : ℕ) → GoesOn t u v
   unfolding noted Only
   own_on t = record {
     after_commit = λ q. subst (λ (n : ℕ). (2 ≤ n) × (n ≤ 3)) (sym (at phase)) q;
@@ -312,8 +312,8 @@ module _ (k j slots : ℕ) (al : slots ≤ 1024) (few : suc j ≤ 16) (m : Addre
       go (yes e) q = subst (λ (x : ℕ). bit (put_bit true (u prepared) s.0) x ≡ true) (sym e) (bit_put_same true (u prepared) s.0)
       go (no n) q = bit_put_other true (u prepared) s.0 t n ∙ q
 
-  goes_on : (t : ℕ) → Goes_on t u (client_of m' c.0)
-  goes_on t = subst (Goes_on t u) (sym (both_client m s.0 c.0 ps qs)) (own_on t)
+  goes_on : (t : ℕ) → GoesOn t u (client_of m' c.0)
+  goes_on t = subst (GoesOn t u) (sym (both_client m s.0 c.0 ps qs)) (own_on t)
 
   -- what c has locked it holds now
   now_held : (o : Obj) (i : ℕ) (role : Bool) → find u Reads (number o) ≡ At i → U.locked_at low s.0 (U.read_item u i) ≡ true

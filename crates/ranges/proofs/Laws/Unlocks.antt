@@ -43,7 +43,7 @@ use Rattle.demand.proofs.Laws.Kept.{reset_phase}
 use Rattle.demand.proofs.Laws.Turns.{store}
 use Rattle.ranges.specs.Laws.Sound.{Holds, LocksSound}
 use Rattle.ranges.proofs.Laws.Words.{names, unlocked_names}
-use Rattle.ranges.proofs.Laws.Locks.{Goes_on, held_by, lock_from, other_held, unstored, part_stored}
+use Rattle.ranges.proofs.Laws.Locks.{GoesOn, held_by, lock_from, other_held, unstored, part_stored}
 use Rattle.protocol.specs.Machine as P
 
 -- ---- a lock that c gives back, or hasn't: whom the word w' names w named, and c isn't among them
@@ -166,9 +166,9 @@ module _ (k j slots : ℕ) (al : slots ≤ 1024) (few : suc j ≤ 16) (m : Addre
     own_word a = ap (λ (g : ClientWord → ℕ). g a) (both_client m s.0 c.0 stores note) ∙ at a
 
     -- elsewhere the client goes on
-    goes_on : (t : ℕ) → ¬ (t ≡ s.0) → Goes_on t u (client_of m' c.0)
+    goes_on : (t : ℕ) → ¬ (t ≡ s.0) → GoesOn t u (client_of m' c.0)
     unfolding noted Only
-    goes_on t n = subst (Goes_on t u) (sym (both_client m s.0 c.0 stores note)) (record {
+    goes_on t n = subst (GoesOn t u) (sym (both_client m s.0 c.0 stores note)) (record {
       after_commit = λ q. subst (λ (n : ℕ). (2 ≤ n) × (n ≤ 3)) (sym (at phase)) q;
       same_participants = at participants;
       still_prepared = λ q. ap (λ (w : ℕ). bit w t) (at prepared) ∙ q;

@@ -11,7 +11,7 @@ use Rattle.demand.specs.Ledger.{RightAll}
 use Rattle.demand.specs.Demand.{Demand}
 use Rattle.demand.proofs.Laws.Ears as Ears
 use Rattle.demand.proofs.Laws.ClassList as ClassList
-use Rattle.engine.specs.Reached.{Reached, Goes_on}
+use Rattle.engine.specs.Reached.{Reached, GoesOn}
 use Rattle.ranges.proofs.Laws.Theorem as Theorem
 use Rattle.schedule.specs.Listed.{as_written}
 use Rattle.schedule.specs.Promise.{Promise}
@@ -24,7 +24,7 @@ demand_3 : (z : Sizes) (h : List Taken) (b : List ℕ) → Reached z h b → Dem
 demand_3 z h b r = Theorem.demand_3 z (allowed z h b r) h (stored_in z (view b)) r.way
 
 pub promise : Promise
-unfolding Goes_on
+unfolding GoesOn
 promise z h b r = record {
   demand_3 = demand_3 z h b r;
   never_refused_by_10 = Theorem.never_refused_by_10 z (allowed z h b r) h (stored_in z (view b)) r.way;

@@ -9,7 +9,7 @@ use Rattle.steps.specs.declared.step.Step.{Step}
 use Rattle.steps.specs.Refusal.{open_refusal}
 use Rattle.steps.specs.Taken.{Words, Taken, came_to}
 use Rattle.engine.specs.Step.{outcome_of, words_after, output_after}
-use Rattle.engine.specs.Reached.{Goes_on}
+use Rattle.engine.specs.Reached.{GoesOn}
 use Rattle.engine.specs.Laws.Reached.{At, next_at, of_bytes, as_bytes}
 use Rattle.schedule.specs.Listed.{words_run, taken_run, taken_on}
 
@@ -25,8 +25,8 @@ module _ (z : Sizes) (n room : ℕ) (ok : open_refusal n z ≡ 0) where
       (run_at ks (h ++ t ∷ []) w' out' (next_at z n ok h w a k room out out' e.0 refl) e.1)
 
 pub run_goes_on : (b b' out : List ℕ) (ks : List Step) → Every Words ks → length b' ≡ length b → view b' ≡ words_run (length b) (length out) (view b) ks
-    → Goes_on b (taken_on b out ks) b'
-unfolding Goes_on
+    → GoesOn b (taken_on b out ks) b'
+unfolding GoesOn
 run_goes_on b b' out ks words e q z h r =
     as_bytes z (length b) r.accepted (h ++ taken_on b out ks) (words_run (length b) (length out) (view b) ks) b' e q
     (run_at z (length b) (length out) r.accepted ks h (view b) (view out) (of_bytes z h b r) words)

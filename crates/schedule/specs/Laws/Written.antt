@@ -15,7 +15,7 @@ use Rattle.steps.specs.Outcome.{line}
 use Rattle.steps.specs.Taken.{Taken, steps_of, came_to, outcome_from}
 use Rattle.steps.proofs.Laws.Taken.{same_outcome}
 use Rattle.engine.specs.Step.{words_after, output_after}
-use Rattle.engine.specs.Reached.{Goes_on}
+use Rattle.engine.specs.Reached.{GoesOn}
 use Rattle.schedule.specs.Listed.{written_down, lines, taken_run, as_written, AllTaken}
 
 -- ---- one outcome is written
@@ -104,8 +104,8 @@ module _ (n room : ℕ) where
 
 -- what `run` leaves, by the outcomes that it wrote
 pub reached_as_written : (b out outcomes : List ℕ) (ks : List Step) (b' out' outcomes' : List ℕ) → 3 * length ks ≤ length outcomes
-    → (a : AllTaken b out outcomes ks b' out' outcomes') → Goes_on b (as_written outcomes' 0 a.taken) b'
+    → (a : AllTaken b out outcomes ks b' out' outcomes') → GoesOn b (as_written outcomes' 0 a.taken) b'
 reached_as_written b out outcomes ks b' out' outcomes' room a =
     let long = ap length a.is ∙ length_run (length b) (length out) ks (view b) (view out) in
-    subst (λ (us : List Taken). Goes_on b us b')
+    subst (λ (us : List Taken). GoesOn b us b')
     (sym (ap (λ (x : List ℕ). as_written x 0 a.taken) a.noted ∙ written a.taken outcomes 0 (omega (arith, long)))) a.reached

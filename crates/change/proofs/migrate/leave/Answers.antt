@@ -17,4 +17,4 @@ write_node-requires c = (
 pub returns : goal.returns
 returns c =
     leave_done _ _ _ _ _ _ _ _ _ c.requires.writing.1 _ c.write_root.ensures _ _ _ c.release-stop.ensures _ c.going-on.ensures _ (search rules) c.requires.there
-        c.requires.small c.write_node.ensures
+    c.requires.small c.write_node.ensures

@@ -16,4 +16,4 @@ write_node-requires c =
 pub returns : goal.returns
 returns c =
     child_done _ _ _ _ _ _ _ _ _ _ _ _ _ _ c.move_to-t.ensures _ c.going-on.ensures _ _ _ _ _ (search rules) c.requires.parent c.requires.child
-        c.with_slot-parent.ensures.value c.write_node.ensures c.answers.ensures
+    c.with_slot-parent.ensures.value c.write_node.ensures c.answers.ensures
