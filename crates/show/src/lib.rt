@@ -1,4 +1,6 @@
 // `stepshow` as a function: input bytes in, output bytes out.
+#![tactic(auto)]
+
 ghost use Rattle.std.specs.Prelude.{◌≡◌, ◌+◌, ◌*◌, ◌≤◌, length, ◌==◌};
 ghost use Rattle.io.specs.Counts.{IsPrefixLen};
 ghost use Rattle.memory.specs.Word.{view};
@@ -9,6 +11,7 @@ ghost use Rattle.show.specs.Shown.{shown_in, zeros};
 ghost use Rattle.show.specs.Feed.{awaits, ended, with_byte, opened, stepped, first_line, later_line, line_ended, next_byte, finished, fed, Came, ReadsOn};
 
 use engine::open::Opening;
+use std::io::Read;
 use steps::outcome;
 use steps::sizes::Sizes;
 use steps::step::Step;
@@ -293,18 +296,23 @@ pub fn fresh() -> [u8; 4202688]
     [0; 4202688]
 }
 
-// The next bytes of a file, or its end.
-pub fn turn(mem: &mut [u8], pairs: &mut [u8; 512], file: i32, out: &mut [u8], show: Show) -> Shown
+// The next bytes of an input, or its end. A read that fails counts as the end.
+pub fn turn<R: Read>(
+    mem: &mut [u8],
+    pairs: &mut [u8; 512],
+    input: &mut R,
+    out: &mut [u8],
+    show: Show,
+) -> Shown
     requires { 43008 ≤ length out.old }
     ensures reads_on { ReadsOn 512 show mem.old out.old result mem.new out.new }
     ensures counts { IsPrefixLen result.at out.new }
 {
     let mut bytes = [0u8; 512];
-    let n = io::count(libc::read(file, &mut bytes), &bytes);
-    if n == 0 {
-        return finish(mem, pairs, out, 0, show);
+    match input.read(&mut bytes) {
+        Ok(0) | Err(_) => finish(mem, pairs, out, 0, show),
+        Ok(n) => feed(mem, pairs, &bytes[..n], out, show),
     }
-    feed(mem, pairs, &bytes[..n], out, show)
 }
 
 pub fn is_ended(show: Show) -> bool

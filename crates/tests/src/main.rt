@@ -1,11 +1,15 @@
-// The cases of 01's "Tried by hand" that speak of steps, schedules compared line by line, and random schedules of many profiles beside a plain map.
+// Cases tried by hand, schedules compared line by line, and random schedules of many profiles beside a plain map.
+#![tactic(auto)]
+
 mod cases;
 mod random;
 mod vectors;
 
-fn main() {
+use std::io;
+
+fn main(rt: HostRuntime) -> io::Result<()> {
     let mut memory = show::fresh();
-    cases::report(&mut memory);
-    vectors::report(&mut memory);
-    random::report(&mut memory);
+    cases::report(&rt, &mut memory)?;
+    vectors::report(&rt, &mut memory)?;
+    random::report(&rt, &mut memory)
 }

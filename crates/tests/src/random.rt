@@ -1,90 +1,83 @@
 // Random schedules of many profiles, each compared with a sorted map: a line a profile.
 ghost use Rattle.std.specs.Prelude.{◌≤◌};
 
+use std::io;
 use trial::driver;
 use trial::world::Tally;
 
-fn print_name(number: usize) {
-    match number {
-        0 => io::write_all(1, b"hot"),
-        1 => io::write_all(1, b"edge"),
-        2 => io::write_all(1, b"wide"),
-        3 => io::write_all(1, b"deep"),
-        4 => io::write_all(1, b"full"),
-        5 => io::write_all(1, b"moving"),
-        6 => io::write_all(1, b"limits"),
-        7 => io::write_all(1, b"late"),
-        8 => io::write_all(1, b"stale"),
-        9 => io::write_all(1, b"lossy"),
-        10 => io::write_all(1, b"noise"),
-        11 => io::write_all(1, b"large"),
-        12 => io::write_all(1, b"alone"),
-        13 => io::write_all(1, b"pingpong"),
-        _ => io::write_all(1, b"servers"),
+fn print_name(rt: &impl Print, number: usize) -> io::Result<()> {
+    let name = match number {
+        0 => "hot",
+        1 => "edge",
+        2 => "wide",
+        3 => "deep",
+        4 => "full",
+        5 => "moving",
+        6 => "limits",
+        7 => "late",
+        8 => "stale",
+        9 => "lossy",
+        10 => "noise",
+        11 => "large",
+        12 => "alone",
+        13 => "pingpong",
+        _ => "servers",
     };
+    rt.print(name)
 }
 
-fn print_number(n: u64) {
-    io::write_all(1, b" ");
-    io::print_decimal(1, n);
+fn print_number(rt: &impl Print, n: u64) -> io::Result<()> {
+    print!(rt; " {n}")
 }
 
 // The numbers of a list from index first to before last.
-fn print_list(list: [u64; 16], first: usize, last: usize)
+fn print_list(rt: &impl Print, list: [u64; 16], first: usize, last: usize) -> io::Result<()>
     requires { last ≤ 16 }
 {
-    let mut i = first;
-    while i < last {
-        print_number(list[i]);
-        i += 1;
+    for i in first..last {
+        print_number(rt, list[i])?;
     }
+    Ok(())
 }
 
-fn print_tally(tally: Tally) {
-    io::write_all(1, b": steps");
-    print_number(tally.steps);
-    io::write_all(1, b", decided");
-    print_number(tally.decided);
-    io::write_all(1, b", answers compared");
-    print_number(tally.compared);
-    io::write_all(1, b", wrong");
-    print_number(tally.wrong);
-    io::write_all(1, b"; outcomes 0 to 8:");
-    let outcomes = tally.outcomes;
-    print_list(outcomes, 0, 9);
-    io::write_all(1, b"; refused by 4 to 15:");
-    let refused = tally.refused;
-    print_list(refused, 4, 16);
-    io::write_all(1, b"; aborts 1 to 8:");
-    let reasons = tally.reasons;
-    print_list(reasons, 1, 9);
-    io::write_all(1, b"; servers added, closed, removed:");
-    let done = tally.done;
-    print_list(done, 8, 11);
-    io::write_all(1, b"\n");
+fn print_tally(rt: &impl Print, tally: Tally) -> io::Result<()> {
+    rt.print(": steps")?;
+    print_number(rt, tally.steps)?;
+    rt.print(", decided")?;
+    print_number(rt, tally.decided)?;
+    rt.print(", answers compared")?;
+    print_number(rt, tally.compared)?;
+    rt.print(", wrong")?;
+    print_number(rt, tally.wrong)?;
+    rt.print("; outcomes 0 to 8:")?;
+    print_list(rt, tally.outcomes, 0, 9)?;
+    rt.print("; refused by 4 to 15:")?;
+    print_list(rt, tally.refused, 4, 16)?;
+    rt.print("; aborts 1 to 8:")?;
+    print_list(rt, tally.reasons, 1, 9)?;
+    rt.print("; servers added, closed, removed:")?;
+    print_list(rt, tally.done, 8, 11)?;
+    rt.println("")
 }
 
 // One profile; its steps.
-fn one(memory: &mut [u8], number: usize) -> u64 {
+fn one(rt: &impl Print, memory: &mut [u8], number: usize) -> io::Result<u64> {
     let tally = driver::tried(memory, number);
-    print_name(number);
-    print_tally(tally);
-    tally.steps
+    print_name(rt, number)?;
+    print_tally(rt, tally)?;
+    Ok(tally.steps)
 }
 
 // The profiles; all steps.
-fn all(memory: &mut [u8]) -> u64 {
+fn all(rt: &impl Print, memory: &mut [u8]) -> io::Result<u64> {
     let mut steps: u64 = 0;
-    let mut i: usize = 0;
-    while i < 15 {
-        steps = std::num::wrapping_add_u64(steps, one(memory, i));
-        i += 1;
+    for i in 0..15usize {
+        steps = std::num::wrapping_add_u64(steps, one(rt, memory, i)?);
     }
-    steps
+    Ok(steps)
 }
 
-pub fn report(memory: &mut [u8]) {
-    let steps = all(memory);
-    io::print_decimal(1, steps);
-    io::write_all(1, b" steps\n");
+pub fn report(rt: &impl Print, memory: &mut [u8]) -> io::Result<()> {
+    let steps = all(rt, memory)?;
+    println!(rt; "{steps} steps")
 }

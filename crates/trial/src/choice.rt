@@ -1,5 +1,5 @@
 // The next step of a random schedule, chosen by what earlier outcomes show.
-use crate::client::Client;
+use crate::clients::Client;
 use crate::profile::{Mix, Profile};
 use crate::rng;
 use crate::world::{LAST, RANDOM, READS, World, least};
@@ -31,9 +31,8 @@ fn picked(p: Profile, world: World, rng: &mut u64) -> usize {
 
 // The same, but where prepares and applies are late, mostly one that has none due.
 fn picked_late(p: Profile, world: World, rng: &mut u64) -> usize {
-    let mut tries: u64 = 8;
     let mut c = picked(p, world, rng);
-    while tries > 0 {
+    for _ in 0..8 {
         if world.client(c).phase < 2 {
             return c;
         }
@@ -41,7 +40,6 @@ fn picked_late(p: Profile, world: World, rng: &mut u64) -> usize {
             return c;
         }
         c = rng::draw_any(rng, p.clients as u64) as usize;
-        tries -= 1;
     }
     c
 }
@@ -149,8 +147,7 @@ fn drawn_value(op: u64, rng: &mut u64) -> u64 {
 fn untried(world: World, client: Client, rng: &mut u64) -> u64 {
     let servers = world.servers % 16;
     let mut server = rng::draw_any(rng, servers);
-    let mut tries: u64 = 8;
-    while tries > 0 {
+    for _ in 0..8 {
         if client.tried >> (server % 8) & 1 == 0 {
             return server;
         }
@@ -158,7 +155,6 @@ fn untried(world: World, client: Client, rng: &mut u64) -> u64 {
         if servers <= server {
             server = 0;
         }
-        tries -= 1;
     }
     server
 }

@@ -1,7 +1,7 @@
 // A random schedule: its steps are run, written down, and replayed on the map once they are decided.
 ghost use Rattle.std.specs.Prelude.{◌<◌};
 
-use crate::client::Client;
+use crate::clients::Client;
 use crate::profile::Profile;
 use crate::world::{FILLS, LAST, RANDOM, READ, READS, Tally, World, least};
 use crate::{choice, profile, replay, rng};
@@ -186,13 +186,11 @@ fn went(
     limit: u64,
 ) -> World {
     let mut world = begun;
-    let mut n: u64 = 0;
-    while n < limit {
+    for _ in 0..limit {
         if is_over(p, world) {
             return world;
         }
         world = went_one(memory, log, keys, values, rng, p, world);
-        n += 1;
     }
     world
 }
@@ -206,8 +204,7 @@ fn settled(
     begun: World,
 ) -> World {
     let mut world = begun;
-    let mut i: usize = 0;
-    while i < 16 * 9 {
+    for i in 0..16 * 9usize {
         let mut step = choice::plain(5, i / 9);
         if i % 9 == 0 {
             step.kind = 6;
@@ -215,7 +212,6 @@ fn settled(
             step.server = (i % 9 - 1) as u64;
         }
         world = stepped(memory, log, keys, values, world, step, false, 0);
-        i += 1;
     }
     world
 }

@@ -30,12 +30,10 @@ fn place(keys: &[u64; 4096], count: usize, key: u64) -> usize
     requires { count ≤ 4096 }
     ensures { result ≤ count }
 {
-    let mut i: usize = 0;
-    while i < count {
+    for i in 0..count {
         if key <= keys[i] {
             return i;
         }
-        i += 1;
     }
     count
 }
@@ -44,11 +42,7 @@ fn place(keys: &[u64; 4096], count: usize, key: u64) -> usize
 fn put_in(list: &mut [u64; 4096], count: usize, at: usize, number: u64)
     requires { (at ≤ count) × (count < 4096) }
 {
-    let mut i = count;
-    while at < i {
-        list[i] = list[i - 1];
-        i -= 1;
-    }
+    list.copy_within(at..count, at + 1);
     list[at] = number;
 }
 
@@ -56,11 +50,7 @@ fn put_in(list: &mut [u64; 4096], count: usize, at: usize, number: u64)
 fn take_out(list: &mut [u64; 4096], count: usize, at: usize)
     requires { (at < count) × (count ≤ 4096) }
 {
-    let mut i = at + 1;
-    while i < count {
-        list[i - 1] = list[i];
-        i += 1;
-    }
+    list.copy_within(at + 1..count, at);
 }
 
 // "Insert sets the key's value; a is 1 if it was absent." A map that is full stays as it is.
@@ -158,16 +148,15 @@ fn list(keys: &[u64; 4096], values: &[u64; 4096], count: usize, key: u64, wanted
     requires { count ≤ 4096 }
     ensures { result.count ≤ 4096 }
 {
-    let mut i = place(keys, count, key);
+    let first = place(keys, count, key);
     let mut n: u64 = 0;
     let mut sum: u64 = 0;
-    while i < count {
+    for i in first..count {
         if n == wanted {
             return Answer::of(n, sum, count);
         }
         sum = with_pair(sum, keys[i], values[i]);
         n = std::num::wrapping_add_u64(n, 1);
-        i += 1;
     }
     Answer::of(n, sum, count)
 }

@@ -31,13 +31,11 @@ pub fn note_given(
 // A number that stands for the first pairs of an output, where b is 0.
 fn pairs_of(out: &[u8; 512], count: u64, b: u64) -> u64 {
     let mut sum = b;
-    let mut i: usize = 0;
-    while i < 32 {
+    for i in 0..32usize {
         if i as u64 == count {
             return sum;
         }
         sum = with_pair(sum, read_word(out, 2 * i), read_word(out, 2 * i + 1));
-        i += 1;
     }
     sum
 }
@@ -111,10 +109,8 @@ pub fn replay(
         compared: 0,
         wrong: 0,
     };
-    let mut i: usize = 0;
-    while i < count {
+    for i in 0..count {
         sum = replay_one(log, client, i, keys, values, sum);
-        i += 1;
     }
     sum
 }

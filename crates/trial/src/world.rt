@@ -1,7 +1,7 @@
 // What is known of a random schedule that runs.
 ghost use Rattle.std.specs.Prelude.{◌≤◌};
 
-use crate::client::Client;
+use crate::clients::Client;
 use steps::outcome::Line;
 
 // What the next operation is: drawn; an insert of the next key; or, in the end, a lookup and a next of the last key read.

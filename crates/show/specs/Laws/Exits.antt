@@ -238,24 +238,6 @@ module _ (m out input : List ℕ) (s : Show) (x y : Shown) (m₁ out₁ m₂ out
   unfolding fed_first whole
   all_words = e.words ∙ ap (λ (t : Progress). t.words) same ∙ ap (λ (f : Effect). f.words) ends_whole
 
--- ---- what was read of a file
-read_some : (s : Show) (bs : List ℕ) → 0 < length bs → read_on s bs ≡ fed s bs
-read_some s [] h = absurd (omega arith)
-read_some s (b ∷ bs) h = refl
-
-module _ (s : Show) (m out : List ℕ) (x : Shown) (m' out' : List ℕ) where
-  pub read_none : (most : ℕ) → Came (finished s) m out 0 x m' out' → ReadsOn most s m out x m' out'
-  read_none most d = record { read = []; few = omega arith; came = d }
-
-  pub read_part : (most n : ℕ) (bs : List ℕ) → length bs ≡ most → n ≤ length bs → (n ≢ 0) → Came (fed s (take n bs)) m out 0 x m' out' → ReadsOn most s m out x m' out'
-  read_part most n bs k h z d =
-      let c : length (take n bs) ≡ n = length-take-le n bs h in
-      record {
-        read = take n bs;
-        few = omega arith;
-        came = came_as m out 0 m' out' (read_on s (take n bs)) (fed s (take n bs)) (ap (λ (r : Showing). r (length m) (view m)) (read_some s (take n bs) (omega arith))) x d;
-      }
-
 pub zeros_made : (n : ℕ) → replicate n 0 ≡ zeros n
 unfolding zeros
 zeros_made n = refl
