@@ -126,7 +126,7 @@ pub record Came (what : Showing) (memory out : List ℕ) (at : ℕ) (r : Shown) 
   pub printed : Printed out at (what (length memory) (view memory)).printed out' r.at
   pub words : view memory' ≡ (what (length memory) (view memory)).words
 
--- code read at most so many bytes of a file, none at its end, and came to what they say. No contract can say which bytes: they are free
+-- code read at most so many bytes of an input, none at its end or where the read failed, and came to what they say. Which bytes is left free
 pub record ReadsOn (most : ℕ) (s : Show) (memory out : List ℕ) (r : Shown) (memory' out' : List ℕ) : Type 0 where
   pub read : List ℕ
   pub few : length read ≤ most

@@ -255,12 +255,10 @@ pub fn feed(
     ensures short { result.at ≤ 84 * length input.now }
 {
     let mut shown = Shown { show, at: 0 };
-    let mut i: usize = 0;
-    while i < input.len() {
+    for b in input {
         let at = shown.at;
         let state = shown.show;
-        shown = byte(mem, pairs, out, at, state, input[i]);
-        i += 1;
+        shown = byte(mem, pairs, out, at, state, *b);
     }
     shown
 }
