@@ -177,7 +177,7 @@ client_again (vector_word s j) = refl
 
 -- the words of a client's part as addresses
 abbrev pub client_words : Coding ClientWord
-client_words = record { code = client_code; back = client_back; again = client_again }
+client_words = record { code = client_code; back = client_back }
 
 -- how many words it has, for all sizes
 abbrev pub client_length : ℕ

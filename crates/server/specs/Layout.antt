@@ -56,7 +56,7 @@ place_again (NodeLock s k) = refl
 
 -- the words of a server's part as addresses
 abbrev pub places : Coding Place
-places = record { code = place_code; back = place_back; again = place_again }
+places = record { code = place_code; back = place_back }
 
 -- how many words a server's part has
 unfoldable pub part_words : ℕ → ℕ

@@ -1,10 +1,10 @@
 -- The whole memory: "a 64-byte head holding the three sizes", then the servers' parts, then the clients' parts. "Memory is laid out for 8 servers".
-use Rattle.std.specs.Prelude.{◌≡◌, refl, List, [], ◌∷◌, ℕ, ◌+◌, ◌*◌, ◌≤◌, get_or, drop}
+use Rattle.std.specs.Prelude.{List, [], ◌∷◌, ℕ, ◌+◌, ◌*◌, ◌≤◌, get_or, drop}
 use Rattle.layout.specs.Block.{Block, words, times, followed_by, end, size}
 use Rattle.layout.specs.Space.{Coding}
 use Rattle.nodes.specs.Bounds.{most_servers}
 use Rattle.server.specs.declared.place.Place.{Place}
-use Rattle.client.specs.Layout.{ClientWord, client_code, client_back, client_again, client_block}
+use Rattle.client.specs.Layout.{ClientWord, client_code, client_back, client_block}
 use Rattle.steps.specs.declared.sizes.Sizes.{Sizes}
 use Rattle.server.specs.Layout as Srv
 
@@ -34,15 +34,9 @@ code (client c a) = 2 ∷ c ∷ client_code a
 abbrev pub back : List ℕ → Address
 back p = let x = get_or p 1 0 in get_or (head x ∷ server x (Srv.place_back (drop 2 p)) ∷ client x (client_back (drop 2 p)) ∷ []) (get_or p 0 0) (head x)
 
--- each word is had back
-pub again : (a : Address) → back (code a) ≡ a
-again (head i) = refl
-again (server s a) = rw (Srv.place_again a)
-again (client c a) = rw (client_again a)
-
 -- the words of the memory as addresses
 abbrev pub whole : Coding Address
-whole = record { code = code; back = back; again = again }
+whole = record { code = code; back = back }
 
 -- "the length that given sizes call for", in words
 unfoldable pub words_for : Sizes → ℕ

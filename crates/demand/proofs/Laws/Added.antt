@@ -7,13 +7,12 @@ use Rattle.std.proofs.Math.Logic.{inl, inr}
 use Prim.Native.Nat.{ℕ, zero, suc, ◌≤◌, ◌<◌}
 use Rattle.std.proofs.Math.Decide.{ℕ_discrete}
 use Rattle.base.specs.Test.{not_both}
-use Rattle.base.specs.Update.{upd}
-use Rattle.base.proofs.Laws.Update.{upd_same, upd_other}
-use Rattle.layout.specs.Space.{put, decide, changed}
+use Rattle.layout.specs.Space.{put, written, changed}
+use Rattle.layout.proofs.Laws.Space.{written_same, written_other}
 use Rattle.layout.proofs.Laws.Step.{changed_append}
 use Rattle.server.specs.declared.place.Place.{Place}
 use Rattle.server.specs.declared.place.Place.TheVariants.{Table}
-use Rattle.server.specs.Layout.{places, place_code}
+use Rattle.server.specs.Layout.{place_again, places, place_code}
 use Rattle.server.specs.Store.{versions_row, versions_step}
 use Rattle.steps.specs.Servers.{larger, largest}
 
@@ -97,7 +96,7 @@ module _ (v : ℕ → ℕ → ℕ) where
   row_miss zero i q a h = refl
   row_miss (suc n) i q a h =
       ap (λ (f : Place → ℕ). f a) (changed_append places (versions_row v i n) (put (Table n i) (v n i) ∷ []) q)
-      ∙ upd_other (decide places) (changed places q (versions_row v i n)) (Table n i) (v n i) a (h n) ∙ row_miss n i q a h
+      ∙ written_other places place_again (changed places q (versions_row v i n)) (Table n i) (v n i) a (h n) ∙ row_miss n i q a h
 
   row_hit : (n i : ℕ) (q : Place → ℕ) (t : ℕ) → t < n → changed places q (versions_row v i n) (Table t i) ≡ v t i
   unfolding versions_row changed server_in
@@ -108,9 +107,9 @@ module _ (v : ℕ → ℕ → ℕ) where
       f : Place → ℕ
       f = changed places q (versions_row v i n)
 
-      go : Dec (t ≡ n) → (t < n → f (Table t i) ≡ v t i) → upd (decide places) f (Table n i) (v n i) (Table t i) ≡ v t i
-      go (yes e) rec = subst (λ (x : ℕ). upd (decide places) f (Table n i) (v n i) (Table x i) ≡ v x i) (sym e) (upd_same (decide places) f (Table n i) (v n i))
-      go (no d) rec = upd_other (decide places) f (Table n i) (v n i) (Table t i) (λ z. d (ap server_in z)) ∙ rec (omega arith)
+      go : Dec (t ≡ n) → (t < n → f (Table t i) ≡ v t i) → written places f (Table n i) (v n i) (Table t i) ≡ v t i
+      go (yes e) rec = subst (λ (x : ℕ). written places f (Table n i) (v n i) (Table x i) ≡ v x i) (sym e) (written_same places f (Table n i) (v n i))
+      go (no d) rec = written_other places place_again f (Table n i) (v n i) (Table t i) (λ z. d (ap server_in z)) ∙ rec (omega arith)
 
   -- nothing but the table
   pub versions_else : (n : ℕ) (q : Place → ℕ) (a : Place) → ((t i : ℕ) → ¬ (a ≡ Table t i)) → changed places q (versions_step v n) a ≡ q a

@@ -4,8 +4,8 @@ use Rattle.std.proofs.Math.Path.{refl, ap, ap₂}
 use Rattle.std.proofs.Common.{sym, ◌∙◌, subst, true≢false, arith, le-leb, eq-eqb, ne_eqb}
 use Rattle.std.proofs.Math.Bool.{true, false}
 use Rattle.std.proofs.Math.Decide.{ℕ_discrete}
-use Rattle.base.proofs.Laws.Update.{upd_same, upd_other}
-use Rattle.layout.specs.Space.{put, decide, changed}
+use Rattle.layout.specs.Space.{put, changed}
+use Rattle.layout.proofs.Laws.Space.{written_same, written_other}
 use Rattle.layout.specs.Step.{and_then}
 use Rattle.layout.proofs.Laws.Step.{changed_append}
 use Rattle.nodes.specs.declared.node.Node.{Node}
@@ -14,7 +14,7 @@ use Rattle.nodes.specs.declared.found.Found.TheVariants.{At, Absent}
 use Rattle.nodes.proofs.Laws.Stored.{Sized}
 use Rattle.client.specs.declared.part.Set.{Set}
 use Rattle.client.specs.declared.part.Set.TheVariants.{Reads, Writes, Copies}
-use Rattle.client.specs.Layout.{ClientWord, client_words, field, item, vector_word, reads_count, writes_count}
+use Rattle.client.specs.Layout.{ClientWord, client_again, client_words, field, item, vector_word, reads_count, writes_count}
 use Rattle.client.specs.Sets.{or_found, count, record_at, number_at, first_of, find}
 use Rattle.client.specs.Commit.{is_at}
 use Rattle.client.specs.Items.{has}
@@ -161,7 +161,7 @@ put_behind s f x r h u before after =
       number_as = word_stays n 0 ∙ placed_number s n x r h u;
       record_as = record_frame p v' s n (word_stays n) ∙ placed_record s n x r h u;
       beside = λ i w d. word_stays i w ∙ placed_beside s n x r h u i w d;
-      other = λ a q d. upd_other (decide client_words) p (field f) (n + 1) a d ∙ placed_else s n x r h u a (λ e. q (e ∙ one_family s n 0));
+      other = λ a q d. written_other client_words client_again p (field f) (n + 1) a d ∙ placed_else s n x r h u a (λ e. q (e ∙ one_family s n 0));
     })
   where
     n : ℕ
@@ -174,7 +174,7 @@ put_behind s f x r h u before after =
     v' = changed client_words p (put (field f) (n + 1) ∷ [])
 
     now : v' (field f) ≡ suc n
-    now = upd_same (decide client_words) p (field f) (n + 1) ∙ omega arith
+    now = written_same client_words p (field f) (n + 1) ∙ omega arith
 
     word_stays : (i w : ℕ) → v' (item s i w) ≡ p (item s i w)
-    word_stays i w = upd_other (decide client_words) p (field f) (n + 1) (item s i w) (no_field s i w f)
+    word_stays i w = written_other client_words client_again p (field f) (n + 1) (item s i w) (no_field s i w f)

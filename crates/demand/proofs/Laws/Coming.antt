@@ -12,10 +12,10 @@ use borrow.Author.Tests.{eqb-true, eqb-false, eq-eqb, ne_eqb, leb-true, ltb-true
 use Rattle.std.proofs.Math.Dec.{eqb, leb}
 use Rattle.base.specs.Test.{not_both, and_both}
 use Rattle.base.proofs.Laws.Test.{bool_cases, or_neither, of_yes, of_no, ifd_yes, ifd_no}
-use Rattle.base.proofs.Laws.Update.{upd_other}
 use Rattle.memory.specs.Bit.{bit}
 use Rattle.memory.proofs.Laws.Bit.{zero_bit}
-use Rattle.layout.specs.Space.{Put, put, changed, decide, tab}
+use Rattle.layout.specs.Space.{Put, put, changed, tab}
+use Rattle.layout.proofs.Laws.Space.{written_other}
 use Rattle.layout.proofs.Laws.Step.{changed_append}
 use Rattle.layout.specs.Part.{over}
 use Rattle.nodes.specs.Stored.{node_of}
@@ -29,7 +29,7 @@ use Rattle.protocol.specs.Claim.{there_now, seat}
 use Rattle.protocol.proofs.Laws.Claim.{Applied, claim, none_due, homed_now, called_now}
 use Rattle.server.specs.declared.place.Place.{Place}
 use Rattle.server.specs.declared.place.Place.TheVariants.{Root, Version, States, Vector, Node, Table}
-use Rattle.server.specs.Layout.{places}
+use Rattle.server.specs.Layout.{place_again, places}
 use Rattle.server.specs.HandOut.{metadata_at, metadata_sound}
 use Rattle.server.specs.Object.{object_of, lock_of}
 use Rattle.server.specs.Store.{metadata_step, versions_step}
@@ -418,7 +418,7 @@ module _ (k j slots : ℕ) (size : suc k ≤ 8) (al : slots ≤ 1024) (m : Addre
     past_meta w h = go (at_meta t.0)
       where
         go : (b : Bool) → changed places p₀ (cond b meta_puts []) w ≡ p₀ w
-        go true = upd_other (decide places) _ States st' w (λ e. h (ap sort e)) ∙ upd_other (decide places) _ Version (suc version) w (λ e. h (ap sort e)) ∙ upd_other (decide places) p₀ Root r w (λ e. h (ap sort e))
+        go true = written_other places place_again _ States st' w (λ e. h (ap sort e)) ∙ written_other places place_again _ Version (suc version) w (λ e. h (ap sort e)) ∙ written_other places place_again p₀ Root r w (λ e. h (ap sort e))
         go false = refl
 
     else_word : (w : Place) → ¬ (sort w ≡ 0) → ¬ (sort w ≡ 6) → p' w ≡ p w

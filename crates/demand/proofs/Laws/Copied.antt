@@ -19,7 +19,7 @@ use Rattle.nodes.proofs.Laws.Stored.{Sized}
 use Rattle.operations.specs.Object.{Obj, meta, node, flag, root, taken}
 use Rattle.operations.proofs.Laws.Object.{ObjDiscrete}
 use Rattle.client.specs.declared.part.Set.TheVariants.{Copies}
-use Rattle.client.specs.Layout.{ClientWord, client_words, field, item, vector_word, meta_states, meta_root, meta_version}
+use Rattle.client.specs.Layout.{ClientWord, client_again, client_words, field, item, vector_word, meta_states, meta_root, meta_version}
 use Rattle.client.specs.Record.{value_of}
 use Rattle.client.specs.Sets.{count, number_at, record_at, find}
 use Rattle.client.specs.Part.{nothing, put_fields, put_vector}
@@ -153,12 +153,12 @@ module _ (k j slots : ℕ) (u : ClientWord → ℕ) (f : Obj → Option (P.Copy 
 
     elsewhere : (a : ClientWord) → ((q : ℕ) → ¬ (a ≡ vector_word s q)) → vv a ≡ u a
     unfolding put_vector
-    elsewhere a d = puts_other client_words (1 ∷ tab 16 (λ j. get_or ws j 0)) u (vector_word s) a (λ q l. d q)
+    elsewhere a d = puts_other client_words client_again (1 ∷ tab 16 (λ j. get_or ws j 0)) u (vector_word s) a (λ q l. d q)
 
     within : (q : ℕ) → q < 16 → vv (vector_word s (suc q)) ≡ get_or ws q 0
     unfolding put_vector
     within q l =
-        puts_same client_words (1 ∷ tab 16 (λ j. get_or ws j 0)) u (vector_word s) (λ i j e. ap word_in e) (suc q) (omega (arith, length_tab 16 (λ j. get_or ws j 0)))
+        puts_same client_words client_again (1 ∷ tab 16 (λ j. get_or ws j 0)) u (vector_word s) (λ i j e. ap word_in e) (suc q) (omega (arith, length_tab 16 (λ j. get_or ws j 0)))
         ∙ get_or_tab 16 (λ j. get_or ws j 0) q l
 
     -- the flags of other servers and all other objects are as before, and this server's are the words' bits

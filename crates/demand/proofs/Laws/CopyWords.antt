@@ -12,7 +12,7 @@ use Rattle.nodes.specs.declared.found.Found.{Found}
 use Rattle.nodes.specs.declared.found.Found.TheVariants.{At, Absent}
 use Rattle.nodes.specs.Flags.{with_flag}
 use Rattle.client.specs.declared.part.Set.TheVariants.{Reads, Writes, Copies}
-use Rattle.client.specs.Layout.{ClientWord, client_words, field, item, vector_word, reads_count, writes_count}
+use Rattle.client.specs.Layout.{ClientWord, client_again, client_words, field, item, vector_word, reads_count, writes_count}
 use Rattle.client.specs.Sets.{find}
 use Rattle.client.specs.Copies.{to_place, copy_node}
 use Rattle.client.specs.Part.{nothing, put_item, put_fields, put_vector}
@@ -28,10 +28,10 @@ of_copies (vector_word s n) = true
 
 pub sets_stay : (ps : List (Put ClientWord)) (w : ClientWord → ℕ) → Only client_words of_copies ps → SameSets w (changed client_words w ps)
 sets_stay ps w h = record {
-  reads = changed_only client_words of_copies ps w reads_count h refl;
-  writes = changed_only client_words of_copies ps w writes_count h refl;
-  items_read = λ i n. changed_only client_words of_copies ps w (item Reads i n) h refl;
-  items_written = λ i n. changed_only client_words of_copies ps w (item Writes i n) h refl;
+  reads = changed_only client_words client_again of_copies ps w reads_count h refl;
+  writes = changed_only client_words client_again of_copies ps w writes_count h refl;
+  items_read = λ i n. changed_only client_words client_again of_copies ps w (item Reads i n) h refl;
+  items_written = λ i n. changed_only client_words client_again of_copies ps w (item Writes i n) h refl;
 }
 
 pub sets_refl : (u : ClientWord → ℕ) → SameSets u u

@@ -12,7 +12,7 @@ use Rattle.operations.specs.Operation.{Legal}
 use Rattle.protocol.specs.State.{Phase}
 use Rattle.protocol.specs.Meaning.{Shown}
 use Rattle.client.specs.declared.part.Set.TheVariants.{Reads, Writes, Copies}
-use Rattle.client.specs.Layout.{ClientWord, client_words, field, phase, op_number, op_key, op_value, op_server, participants, prepared, applied, item, vector_word, reads_count, writes_count, meta_states, meta_root, meta_version}
+use Rattle.client.specs.Layout.{ClientWord, client_again, client_words, field, phase, op_number, op_key, op_value, op_server, participants, prepared, applied, item, vector_word, reads_count, writes_count, meta_states, meta_root, meta_version}
 use Rattle.client.specs.Participants.{lowest_of}
 use Rattle.client.specs.Work.{op_of, waiting}
 use Rattle.demand.specs.Ledger.{Told}
@@ -64,7 +64,7 @@ else_same ps u h = record {
 }
   where
     at : (a : ClientWord) → is_course a ≡ false → changed client_words u ps a ≡ u a
-    at a e = only_other client_words OfCourse a (λ x v c q. not_both (ap is_course q ∙ c) e) ps u h
+    at a e = only_other client_words client_again OfCourse a (λ x v c q. not_both (ap is_course q ∙ c) e) ps u h
 
 module _ (k j slots : ℕ) (u v : ClientWord → ℕ) (E : Else u v) where
   waits : waiting v ≡ waiting u

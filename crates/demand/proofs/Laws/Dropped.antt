@@ -2,10 +2,9 @@
 use Rattle.std.specs.Prelude.{◌≡◌, refl, Bool, true, false, cond, List, [], ◌∷◌, ◌⊎◌, ℕ, suc, ◌-◌, ◌/◌, ◌%◌, eqb, leb, ltb}
 use Rattle.std.proofs.Common.{ap, sym, ◌∙◌, subst, inl, inr, arith}
 use Rattle.std.proofs.Math.Option.{Option}
-use Rattle.base.specs.Update.{upd}
-use Rattle.base.proofs.Laws.Update.{upd_same, upd_other}
 use Rattle.memory.specs.Bit.{bit}
-use Rattle.layout.specs.Space.{Put, put, decide, changed}
+use Rattle.layout.specs.Space.{Put, put, written, changed}
+use Rattle.layout.proofs.Laws.Space.{written_same, written_other, decide}
 use Rattle.layout.specs.Step.{and_then}
 use Rattle.layout.specs.Sweep.{sweep}
 use Rattle.nodes.specs.declared.node.Node.{Node}
@@ -13,7 +12,7 @@ use Rattle.nodes.specs.declared.found.Found.{Found}
 use Rattle.nodes.specs.declared.found.Found.TheVariants.{At, Absent}
 use Rattle.operations.specs.Object.{Obj, node, taken}
 use Rattle.client.specs.declared.part.Set.TheVariants.{Reads, Writes, Copies}
-use Rattle.client.specs.Layout.{ClientWord, client_words, field, item, vector_word, reads_count, writes_count, meta_states, meta_root, meta_version}
+use Rattle.client.specs.Layout.{ClientWord, client_again, client_words, field, item, vector_word, reads_count, writes_count, meta_states, meta_root, meta_version}
 use Rattle.client.specs.Record.{value_of}
 use Rattle.client.specs.Sets.{count, record_at, number_at, find}
 use Rattle.client.specs.Part.{nothing, put_field, put_number, drop_vector, put_word}
@@ -45,17 +44,17 @@ Fewer f g = (a : ClientWord) → (g a ≡ f a) ⊎ (Mark a × (g a ≡ 0))
 pub fewer : (ps : List (Put ClientWord)) (f : ClientWord → ℕ) → Only client_words Drop ps → Fewer f (changed client_words f ps)
 unfolding Only changed
 fewer [] f h a = inl refl
-fewer (put b v ∷ ps) f h a = go (decide client_words a b) (fewer ps (upd (decide client_words) f b v) h.1 a)
+fewer (put b v ∷ ps) f h a = go (decide client_words client_again a b) (fewer ps (written client_words f b v) h.1 a)
   where
     g : ClientWord → ℕ
-    g = upd (decide client_words) f b v
+    g = written client_words f b v
 
     go : Dec (a ≡ b) → (changed client_words g ps a ≡ g a) ⊎ (Mark a × (changed client_words g ps a ≡ 0))
         → (changed client_words g ps a ≡ f a) ⊎ (Mark a × (changed client_words g ps a ≡ 0))
     go d (inr q) = inr q
     go (yes e) (inl q) =
-        inr (subst Mark (sym e) h.0.0, q ∙ subst (λ (x : ClientWord). g x ≡ 0) (sym e) (upd_same (decide client_words) f b v ∙ h.0.1))
-    go (no n) (inl q) = inl (q ∙ upd_other (decide client_words) f b v a n)
+        inr (subst Mark (sym e) h.0.0, q ∙ subst (λ (x : ClientWord). g x ≡ 0) (sym e) (written_same client_words f b v ∙ h.0.1))
+    go (no n) (inl q) = inl (q ∙ written_other client_words client_again f b v a n)
 
 -- a word that says nothing of the kind is as before
 pub kept_word : (f g : ClientWord → ℕ) → Fewer f g → (a : ClientWord) → ¬ (Mark a) → g a ≡ f a

@@ -9,8 +9,9 @@ use Rattle.layout.specs.Space.{Put, changed}
 use Rattle.layout.specs.Part.{over}
 use Rattle.layout.proofs.Laws.Step.{changed_append}
 use Rattle.server.specs.declared.place.Place.{Place}
-use Rattle.server.specs.Layout.{places}
+use Rattle.server.specs.Layout.{place_again, places}
 use Rattle.steps.specs.Whole.{Address, head, server, client, whole}
+use Rattle.steps.proofs.Laws.Whole.{again}
 use Rattle.steps.specs.Steps.{at_servers}
 use Rattle.steps.proofs.Laws.Stores.{part_other, client_of, server_of, server_changed, server_else, server_clients}
 
@@ -52,4 +53,4 @@ module _ (m : Address → ℕ) (f : ℕ → List (Put Address)) (qs : ℕ → Li
   unfolding at_servers changed a_head
   every_head zero i = refl
   every_head (suc n) i =
-      ap (λ (g : Address → ℕ). g (head i)) (step n) ∙ part_other places whole (server n) (head i) (λ x q. true≢false (ap a_head q)) (qs n) (m₁ n) ∙ every_head n i
+      ap (λ (g : Address → ℕ). g (head i)) (step n) ∙ part_other places place_again whole again (server n) (head i) (λ x q. true≢false (ap a_head q)) (qs n) (m₁ n) ∙ every_head n i

@@ -2,14 +2,14 @@
 use Rattle.std.specs.Prelude.{◌≡◌, refl, List}
 use Rattle.std.proofs.Common.{ap, sym, ◌∙◌, subst, arith}
 use Prim.Native.Nat.{ℕ, suc, Fin}
-use Rattle.base.proofs.Laws.Update.{upd_other}
-use Rattle.layout.specs.Space.{Put, decide, changed}
+use Rattle.layout.specs.Space.{Put, changed}
+use Rattle.layout.proofs.Laws.Space.{written_other}
 use Rattle.layout.specs.Step.{and_then}
 use Rattle.layout.proofs.Laws.Step.{changed_append}
 use Rattle.layout.specs.Part.{over}
 use Rattle.operations.specs.Operation.{Legal}
 use Rattle.client.specs.declared.part.Set.TheVariants.{Reads, Writes, Copies}
-use Rattle.client.specs.Layout.{ClientWord, client_words, field, lost, phase, op_number, item, vector_word, reads_count, writes_count, meta_states, meta_root, meta_version}
+use Rattle.client.specs.Layout.{ClientWord, client_again, client_words, field, lost, phase, op_number, item, vector_word, reads_count, writes_count, meta_states, meta_root, meta_version}
 use Rattle.client.specs.Copies.{drop_all}
 use Rattle.client.specs.Part.{put_field, put_word}
 use Rattle.client.specs.Life.{lose_part}
@@ -26,7 +26,7 @@ use Rattle.protocol.specs.Machine as P
 -- one store, at the word that says that a client is lost
 lost_only : (u : ClientWord → ℕ) (a : ClientWord) → ¬ (a ≡ lost) → changed client_words u (put_field 9 1 u) a ≡ u a
 unfolding changed put_word
-lost_only u a n = upd_other (decide client_words) u lost 1 a n
+lost_only u a n = written_other client_words client_again u lost 1 a n
 
 -- ---- copies forgotten: no move
 module _ (k j slots : ℕ) (m : Address → ℕ) (L : Ledger) (M : P.Machine (T k j slots)) (c : Fin (suc j)) (R : Related k j slots m L M) where

@@ -1,13 +1,11 @@
 -- What stands at an address after a list of stores.
-use Rattle.std.specs.Prelude.{◌≡◌, Bool, true, false, cond}
-use Rattle.std.proofs.Math.Path.{refl, ap, subst}
+use Rattle.std.specs.Prelude.{◌≡◌, cond}
+use Rattle.std.proofs.Math.Path.{refl, subst}
 use Rattle.std.proofs.Common.{sym, ◌∙◌, arith}
 use mathlib.Core.List.{List, [], ◌∷◌, ◌++◌}
 use Prim.Native.Nat.{ℕ, zero, suc, ◌<◌}
-use Rattle.base.specs.Update.{upd}
-use Rattle.base.proofs.Laws.Update.{upd_same, upd_other}
-use Rattle.layout.specs.Space.{Coding, Put, put, same, same_is, code_inj, decide, changed}
-use Rattle.layout.proofs.Laws.Space.{upd_apart}
+use Rattle.layout.specs.Space.{Coding, ReadsBack, Put, put, same, written, changed}
+use Rattle.layout.proofs.Laws.Space.{written_other}
 use Rattle.layout.specs.Step.{and_then}
 use Rattle.layout.proofs.Laws.Step.{changed_append}
 use Rattle.layout.specs.Sweep.{sweep}
@@ -18,17 +16,10 @@ module _ {A : Type 0} (C : Coding A) where
   last [] x v = v
   last (put a w ∷ ps) x v = last ps x (cond (same (C.code x) (C.code a)) w v)
 
-  upd_cond : (m : A → ℕ) (a : A) (w : ℕ) (x : A) (b : Bool) → same (C.code x) (C.code a) ≡ b → upd (decide C) m a w x ≡ cond b w (m x)
-  upd_cond m a w x false h = upd_apart C m a w x h
-  upd_cond m a w x true h =
-      let p = code_inj C x a (same_is (C.code x) (C.code a) h) in
-      subst (λ (y : A). upd (decide C) m a w y ≡ w) (sym p) (upd_same (decide C) m a w)
-
   pub read_after : (ps : List (Put A)) (m : A → ℕ) (x : A) → changed C m ps x ≡ last ps x (m x)
-  unfolding changed
+  unfolding changed written
   read_after [] m x = refl
-  read_after (put a w ∷ ps) m x =
-      read_after ps (upd (decide C) m a w) x ∙ ap (last ps x) (upd_cond m a w x (same (C.code x) (C.code a)) refl)
+  read_after (put a w ∷ ps) m x = read_after ps (written C m a w) x
 
   -- what one step after another keeps, and a loop of them
   module _ (R : (A → ℕ) → Type 0) where
@@ -70,13 +61,14 @@ module _ {A : Type 0} (C : Coding A) where
     only_mono Q' f (put a v ∷ ps) h = (f a v h.0, only_mono Q' f ps h.1)
 
     -- what holds before each such store and stays, holds after
-    pub only_keeps : (R : (A → ℕ) → Type 0) → ((m : A → ℕ) (a : A) (v : ℕ) → Q a v → R m → R (upd (decide C) m a v))
+    pub only_keeps : (R : (A → ℕ) → Type 0) → ((m : A → ℕ) (a : A) (v : ℕ) → Q a v → R m → R (written C m a v))
         → (ps : List (Put A)) (m : A → ℕ) → Only Q ps → R m → R (changed C m ps)
     unfolding Only changed
     only_keeps R f [] m h r = r
-    only_keeps R f (put a v ∷ ps) m h r = only_keeps R f ps (upd (decide C) m a v) h.1 (f m a v h.0 r)
+    only_keeps R f (put a v ∷ ps) m h r = only_keeps R f ps (written C m a v) h.1 (f m a v h.0 r)
 
-    -- an address at which none of them is
-    pub only_other : (x : A) → ((a : A) (v : ℕ) → Q a v → ¬ (x ≡ a)) → (ps : List (Put A)) (m : A → ℕ) → Only Q ps → changed C m ps x ≡ m x
-    only_other x n ps m h =
-        only_keeps (λ u. u x ≡ m x) (λ u a v q r. upd_other (decide C) u a v x (n a v q) ∙ r) ps m h refl
+-- an address at which no such store is
+pub only_other : {A : Type 0} (C : Coding A) (r : ReadsBack C) (Q : A → ℕ → Type 0) (x : A) → ((a : A) (v : ℕ) → Q a v → ¬ (x ≡ a))
+    → (ps : List (Put A)) (m : A → ℕ) → Only C Q ps → changed C m ps x ≡ m x
+only_other C r Q x n ps m h =
+    only_keeps C Q (λ u. u x ≡ m x) (λ u a v q e. written_other C r u a v x (n a v q) ∙ e) ps m h refl

@@ -6,12 +6,11 @@ use Rattle.std.proofs.Math.Bool.{cond, true≢false}
 use borrow.Author.Tests.{le-leb, leb-true}
 use Rattle.std.proofs.Math.Dec.{leb, ltb}
 use Rattle.base.specs.Test.{and_both}
-use Rattle.base.specs.Update.{upd}
-use Rattle.base.proofs.Laws.Update.{upd_same, upd_other}
-use Rattle.layout.specs.Space.{Put, decide, changed}
+use Rattle.layout.specs.Space.{Put, written, changed}
+use Rattle.layout.proofs.Laws.Space.{written_same, written_other, decide}
 use Rattle.client.specs.declared.part.Set.{Set}
 use Rattle.client.specs.declared.part.Set.TheVariants.{Reads, Writes, Copies}
-use Rattle.client.specs.Layout.{ClientWord, client_words, field, item, vector_word, op_number, op_key, op_value, op_server, prepared, applied, reads_count, writes_count}
+use Rattle.client.specs.Layout.{ClientWord, client_again, client_words, field, item, vector_word, op_number, op_key, op_value, op_server, prepared, applied, reads_count, writes_count}
 use Rattle.client.specs.Record.{in_store, number_in_store, record_in_range}
 use Rattle.client.specs.Sets.{count, number_at}
 use Rattle.client.specs.Commit.{is_at}
@@ -87,12 +86,12 @@ module _ (slots : ℕ) (u : ClientWord → ℕ) (fit : client_fits slots u ≡ t
   -- one store
   module _ (a : ClientWord) (v : ℕ) (h : Harmless a v) where
     g : ClientWord → ℕ
-    g = upd (decide client_words) u a v
+    g = written client_words u a v
 
     -- where there is no such store
     kept : (x : ClientWord) → ((w : ℕ) → ¬ (Harmless x w)) → g x ≡ u x
     unfolding g
-    kept x n = upd_other (decide client_words) u a v x (λ q. n v (subst (λ y. Harmless y v) (sym q) h))
+    kept x n = written_other client_words client_again u a v x (λ q. n v (subst (λ y. Harmless y v) (sym q) h))
 
     same_sets : SameSets u g
     unfolding Harmless
@@ -106,13 +105,13 @@ module _ (slots : ℕ) (u : ClientWord → ℕ) (fit : client_fits slots u ≡ t
     -- fields and vectors: as before, or the one stored
     within : (x : ClientWord) → Within x (g x)
     unfolding g
-    within x = go (decide client_words x a)
+    within x = go (decide client_words client_again x a)
       where
-        go : Dec (x ≡ a) → Within x (upd (decide client_words) u a v x)
+        go : Dec (x ≡ a) → Within x (written client_words u a v x)
         go (yes q) =
-            subst (Within x) (sym (subst (λ y. upd (decide client_words) u a v y ≡ v) (sym q) (upd_same (decide client_words) u a v)))
+            subst (Within x) (sym (subst (λ y. written client_words u a v y ≡ v) (sym q) (written_same client_words u a v)))
             (harmless_within x v (subst (λ y. Harmless y v) (sym q) h))
-        go (no n) = subst (Within x) (sym (upd_other (decide client_words) u a v x n)) (was_within x)
+        go (no n) = subst (Within x) (sym (written_other client_words client_again u a v x n)) (was_within x)
 
     item_same : (s : Set) (i : ℕ) → ((n : ℕ) → g (item s i n) ≡ u (item s i n)) → has_read g s ≡ has_read u s → item_fits slots g s i ≡ item_fits slots u s i
     unfolding item_fits number_at
@@ -139,7 +138,7 @@ module _ (slots : ℕ) (u : ClientWord → ℕ) (fit : client_fits slots u ≡ t
         let v = kept op_value (λ w q. true≢false (sym q.0)) in
         λ t. leb (n t) 7 && cond (eqb (n t) 6) (in_store slots (k t) && ltb (s t) 8) (cond (eqb (n t) 7) (leb 1 (v t) && leb (v t) 32) true)
 
-    pub store_fits : client_fits slots (upd (decide client_words) u a v) ≡ true
+    pub store_fits : client_fits slots (written client_words u a v) ≡ true
     unfolding client_fits field_fits vector_fits Within g
     store_fits =
         let fields = all_from (field_fits g) 13 (λ i l. le-leb (g (field i)) (get_or bounds i 0) (within (field i) l)) in

@@ -28,7 +28,7 @@ use Rattle.server.specs.Store.{lock_step, unlock_step, versions_row, versions_st
 use Rattle.server.specs.Laws.Leaves.{lock_inside, unlock_inside, metadata_inside}
 use Rattle.client.specs.declared.part.Set.{Set}
 use Rattle.client.specs.declared.part.Set.TheVariants.{Reads, Writes}
-use Rattle.client.specs.Layout.{ClientWord, client_words, client_block, field, item, phase, participants, prepared, applied, limit}
+use Rattle.client.specs.Layout.{ClientWord, client_again, client_words, client_block, field, item, phase, participants, prepared, applied, limit}
 use Rattle.client.specs.Record.{in_store, number_in_store, node_fits}
 use Rattle.client.specs.Sets.{count, number_at}
 use Rattle.client.specs.Items.{all_below}
@@ -48,7 +48,7 @@ use Rattle.client.specs.Work.{Worked, refused, fetches, aborted, answers, walked
 use Rattle.client.specs.Laws.GoodSteps.{good_used, good_entries, good_fetched_meta, good_fetched_node, good_fetched_vector, good_drop_all, good_reset, good_give, good_abort, good_lose, good_finish}
 use Rattle.steps.specs.declared.sizes.Sizes.{Sizes}
 use Rattle.steps.specs.Whole.{Address, head, server, client, whole, block, server_at, client_at, Allowed}
-use Rattle.steps.proofs.Laws.Whole.{server_part, client_part}
+use Rattle.steps.proofs.Laws.Whole.{again, server_part, client_part}
 use Rattle.steps.proofs.Laws.Stores.{client_of, server_of, part_other, client_changed}
 use Rattle.steps.proofs.Laws.Writes.{write_inside}
 use Rattle.steps.proofs.Laws.There.{named_in, in_store_has}
@@ -139,14 +139,14 @@ module _ (z : Sizes) where
   unfolding in_head
   lies_client c l ps ok = record {
     valid = good_all client_words client_block whole (block z) (client c) (client_at z c) (client_part z c l) ps ok;
-    headless = λ m i. part_other client_words whole (client c) (head i) (λ a q. true≢false (ap in_head q)) ps m;
+    headless = λ m i. part_other client_words client_again whole again (client c) (head i) (λ a q. true≢false (ap in_head q)) ps m;
   }
 
   pub lies_server : (s : ℕ) → s < 8 → (ps : List (Put Place)) → AllValid Srv.places (Srv.server_block z.slots) ps → Lies (over (server s) ps)
   unfolding in_head
   lies_server s l ps ok = record {
     valid = good_all Srv.places (Srv.server_block z.slots) whole (block z) (server s) (server_at z s) (server_part z s l) ps ok;
-    headless = λ m i. part_other Srv.places whole (server s) (head i) (λ a q. true≢false (ap in_head q)) ps m;
+    headless = λ m i. part_other Srv.places Srv.place_again whole again (server s) (head i) (λ a q. true≢false (ap in_head q)) ps m;
   }
 
   lies_either : (b : Bool) (ps qs : List (Put Address)) → Lies ps → Lies qs → Lies (cond b ps qs)

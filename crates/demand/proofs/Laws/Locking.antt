@@ -7,8 +7,8 @@ use Prim.Native.Nat.{ℕ, zero, suc, ◌+◌, ◌*◌, ◌/◌, ◌%◌, ◌≤�
 use Rattle.std.proofs.Math.Decide.{ℕ_discrete, Fin-discrete}
 use Rattle.base.specs.Test.{not_both, yes?}
 use Rattle.base.proofs.Laws.Test.{or_cases, of_yes, of_no}
-use Rattle.base.proofs.Laws.Update.{upd_same, upd_other}
-use Rattle.layout.specs.Space.{Put, put, decide, changed}
+use Rattle.layout.specs.Space.{Put, put, changed}
+use Rattle.layout.proofs.Laws.Space.{written_same, written_other}
 use Rattle.layout.specs.Step.{and_then}
 use Rattle.layout.proofs.Laws.Step.{changed_append}
 use Rattle.layout.specs.Sweep.{sweep}
@@ -18,7 +18,7 @@ use Rattle.nodes.specs.declared.found.Found.TheVariants.{At, Absent}
 use Rattle.operations.specs.Object.{Obj, meta, node, flag, Val}
 use Rattle.operations.proofs.Laws.Object.{inner}
 use Rattle.server.specs.declared.place.Place.{Place}
-use Rattle.server.specs.Layout.{places}
+use Rattle.server.specs.Layout.{place_again, places}
 use Rattle.server.specs.Lock.{locked, unlocked}
 use Rattle.server.specs.Object.{object_of, lock_of}
 use Rattle.server.specs.Store.{lock_step, unlock_step}
@@ -58,12 +58,12 @@ module _ (here : ℕ → Bool) (lk : ℕ → Place) (F : ℕ → ℕ → ℕ) (p
   one_other n q a h = go (here n) h
     where
       go : (b : Bool) → (b ≡ true → ¬ (a ≡ lk n)) → changed places q (cond b (put (lk n) (F n (q (lk n))) ∷ []) []) a ≡ q a
-      go true h = upd_other (decide places) q (lk n) (F n (q (lk n))) a (h refl)
+      go true h = written_other places place_again q (lk n) (F n (q (lk n))) a (h refl)
       go false h = refl
 
   one_same : (n : ℕ) (q : Place → ℕ) → here n ≡ true → changed places q (one n q) (lk n) ≡ F n (q (lk n))
   unfolding changed
-  one_same n q h = rw h (upd_same (decide places) q (lk n) (F n (q (lk n))))
+  one_same n q h = rw h (written_same places q (lk n) (F n (q (lk n))))
 
   pub swept_other : (n : ℕ) (a : Place) → ((i : ℕ) → i < n → here i ≡ true → ¬ (a ≡ lk i)) → after n a ≡ p a
   unfolding sweep changed

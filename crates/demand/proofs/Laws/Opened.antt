@@ -8,8 +8,8 @@ use Rattle.std.proofs.Math.Decide.{ℕ_discrete}
 use Rattle.base.specs.Test.{not_both}
 use Rattle.memory.specs.Bit.{bit}
 use Rattle.memory.proofs.Laws.Bit.{zero_bit}
-use Rattle.base.proofs.Laws.Update.{upd_other}
-use Rattle.layout.specs.Space.{Put, put, changed, tab, decide}
+use Rattle.layout.specs.Space.{Put, put, changed, tab}
+use Rattle.layout.proofs.Laws.Space.{written_other}
 use Rattle.layout.specs.Part.{over}
 use Rattle.client.specs.Layout.{ClientWord}
 use Rattle.nodes.specs.Lists.{pad}
@@ -19,7 +19,7 @@ use Rattle.nodes.specs.States.{first_states}
 use Rattle.operations.specs.Object.{Obj, meta, node, flag, root, taken}
 use Rattle.server.specs.declared.place.Place.{Place}
 use Rattle.server.specs.declared.place.Place.TheVariants.{Root, Version, States, MetadataLock, Vector, Node, FlagLock, Table, NodeLock}
-use Rattle.server.specs.Layout.{place_code, places}
+use Rattle.server.specs.Layout.{place_code, place_again, places}
 use Rattle.server.specs.HandOut.{node_here}
 use Rattle.server.specs.Fresh.{first_leaf, fresh_stores}
 use Rattle.server.specs.Laws.Fresh.{fresh, fresh_other, fresh_root, fresh_zero, fresh_states}
@@ -72,7 +72,7 @@ module _ (n : ℕ) where
 
   -- at all servers but the first only the states are not 0
   pub zero_else : (s : ℕ) (a : Place) → ¬ (s ≡ 0) → ¬ (a ≡ States) → fresh n s a ≡ 0
-  zero_else s a h r = fresh_other n s a h ∙ upd_other (decide places) (λ b. 0) States (first_states n) a r
+  zero_else s a h r = fresh_other n s a h ∙ written_other places place_again (λ b. 0) States (first_states n) a r
 
   -- all nodes but the root are free
   empty_word : (s x i : ℕ) → x / 1024 ≡ s → ¬ (x ≡ 0) → fresh n s (Node (x % 1024) i) ≡ 0

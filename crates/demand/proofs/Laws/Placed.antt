@@ -11,7 +11,7 @@ use Rattle.nodes.specs.Stored.{node_of, words_of}
 use Rattle.nodes.proofs.Laws.Stored.{Sized, length_words, node_words}
 use Rattle.client.specs.declared.part.Set.{Set}
 use Rattle.client.specs.declared.part.Set.TheVariants.{Reads, Writes, Copies}
-use Rattle.client.specs.Layout.{ClientWord, client_words, field, item, vector_word}
+use Rattle.client.specs.Layout.{ClientWord, client_again, client_words, field, item, vector_word}
 use Rattle.client.specs.Sets.{record_at}
 use Rattle.client.specs.Part.{put_item}
 
@@ -56,7 +56,7 @@ module _ (s : Set) (p x : ℕ) (r : Node) (w : Sized r) (u : ClientWord → ℕ)
   -- the words of the item, the number first
   words_are : tab 34 (λ n. placed (item s p n)) ≡ x ∷ words_of r
   unfolding put_item
-  words_are = tab_puts_same client_words 34 stored u (item s p) (length_tab 34 (λ j. get_or (x ∷ words_of r) j 0)) (λ i j e. ap word_in e) ∙ stored_is
+  words_are = tab_puts_same client_words client_again 34 stored u (item s p) (length_tab 34 (λ j. get_or (x ∷ words_of r) j 0)) (λ i j e. ap word_in e) ∙ stored_is
 
   pub placed_number : placed (item s p 0) ≡ x
   unfolding tab
@@ -68,8 +68,8 @@ module _ (s : Set) (p x : ℕ) (r : Node) (w : Sized r) (u : ClientWord → ℕ)
 
   pub placed_beside : (i n : ℕ) → ¬ (i ≡ p) → placed (item s i n) ≡ u (item s i n)
   unfolding put_item
-  placed_beside i n d = puts_other client_words stored u (item s p) (item s i n) (λ q l e. d (ap which e))
+  placed_beside i n d = puts_other client_words client_again stored u (item s p) (item s i n) (λ q l e. d (ap which e))
 
   pub placed_else : (a : ClientWord) → ¬ (family a ≡ family (item s p 0)) → placed a ≡ u a
   unfolding put_item
-  placed_else a d = puts_other client_words stored u (item s p) a (λ q l e. d (ap family e ∙ one_family s p q))
+  placed_else a d = puts_other client_words client_again stored u (item s p) a (λ q l e. d (ap family e ∙ one_family s p q))

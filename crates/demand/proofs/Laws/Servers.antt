@@ -18,7 +18,7 @@ use Rattle.layout.specs.Sweep.{sweep}
 use Rattle.operations.specs.Object.{Obj, meta, node, flag, root, taken}
 use Rattle.server.specs.declared.object.Object.{Object}
 use Rattle.server.specs.declared.place.Place.{Place}
-use Rattle.server.specs.Layout.{places}
+use Rattle.server.specs.Layout.{place_again, places}
 use Rattle.server.specs.Object.{lock_of}
 use Rattle.server.specs.Store.{lock_step, unlock_step}
 use Rattle.client.specs.declared.part.Set.TheVariants.{Reads}
@@ -95,7 +95,7 @@ module _ (u : ClientWord → ℕ) (low t : ℕ) (p : Place → ℕ) (a : Place) 
       → changed places p (sweep places (each f) (count u Reads) p) a ≡ p a
   unfolding Only
   stays f at =
-      only_other places (λ x v. is_lock x ≡ true) a (λ x v l e. not_both (ap is_lock e ∙ l) h) (sweep places (each f) (count u Reads) p) p
+      only_other places place_again (λ x v. is_lock x ≡ true) a (λ x v l e. not_both (ap is_lock e ∙ l) h) (sweep places (each f) (count u Reads) p) p
       (only_sweep places (λ x v. is_lock x ≡ true) (each f) (count u Reads) p (λ n q. tested (U.locked_at low t (U.read_item u n)) _ (at (U.read_item u n) q)))
     where
       tested : (b : Bool) (ps : List (Put Place)) → AtLocks ps → AtLocks (cond b ps [])

@@ -21,7 +21,7 @@ use Rattle.protocol.proofs.Laws.Changed.{upd_twice}
 use Rattle.protocol.specs.State.{opened, is_decided}
 use Rattle.protocol.specs.Meaning.{Shown}
 use Rattle.client.specs.declared.part.Set.TheVariants.{Reads, Writes}
-use Rattle.client.specs.Layout.{ClientWord, client_words, field, phase, op_number, op_key, op_value, op_server, participants, prepared, applied, reads_count}
+use Rattle.client.specs.Layout.{ClientWord, client_again, client_words, field, phase, op_number, op_key, op_value, op_server, participants, prepared, applied, reads_count}
 use Rattle.client.specs.Record.{number, value_of}
 use Rattle.client.specs.Sets.{find}
 use Rattle.client.specs.Enter.{enter_read}
@@ -172,7 +172,7 @@ module _ (k j slots : ℕ) (m : Address → ℕ) (L : Ledger) (M : P.Machine (T 
       w = changed client_words v ps
 
       at : (a : ClientWord) → of_copies a ≡ false → w a ≡ v a
-      at a e = changed_only client_words of_copies ps v a h e
+      at a e = changed_only client_words client_again of_copies ps v a h e
 
   -- ---- an object that a server hands out is read
   module _ (al : slots ≤ 1024) (s : Fin 8) (o : Obj) (r : Node) (sized : Sized r) (hi : InStore k j slots o) (kept : Store.keeps k j slots s o ≡ true) (value : value_of o r ≡ M.value s o) (version : r.version ≡ M.version s o) where

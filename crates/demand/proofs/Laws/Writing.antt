@@ -8,17 +8,15 @@ use mathlib.Core.List.{List, [], ◌∷◌, ◌++◌}
 use Rattle.std.proofs.Math.Logic.{inl}
 use Prim.Native.Nat.{ℕ, suc, ◌+◌, ◌*◌, ◌/◌, ◌%◌}
 use Rattle.std.proofs.Math.Decide.{ℕ_discrete}
-use Rattle.base.specs.Update.{upd}
-use Rattle.base.proofs.Laws.Update.{upd_same, upd_other}
 use Rattle.memory.specs.Bit.{bit, put_bit}
 use Rattle.memory.proofs.Laws.Bit.{bit_put_same, bit_put_other}
-use Rattle.layout.specs.Space.{Coding, same, Put, put, puts, tab, decide, changed}
-use Rattle.layout.proofs.Laws.Space.{upd_apart, puts_apart, tab_puts_same}
+use Rattle.layout.specs.Space.{Coding, same, Put, put, puts, tab, written, changed}
+use Rattle.layout.proofs.Laws.Space.{written_same, written_other, written_apart, puts_apart, tab_puts_same}
 use Rattle.layout.proofs.Laws.Step.{changed_append}
 use Rattle.operations.specs.Object.{Obj, meta, node, flag, Val, root, taken}
 use Rattle.server.specs.declared.place.Place.{Place}
 use Rattle.server.specs.declared.place.Place.TheVariants.{Root, Version, States, MetadataLock, Vector, Node, FlagLock, Table, NodeLock}
-use Rattle.server.specs.Layout.{places}
+use Rattle.server.specs.Layout.{place_again, places}
 use Rattle.server.specs.Object.{named}
 use Rattle.server.specs.Store.{metadata_step, flag_step}
 use Rattle.nodes.specs.Stored.{node_of, words_of}
@@ -84,11 +82,11 @@ Same a b = a ≡ b
 -- one store is what stands there
 put_same : {A : Type 0} (C : Coding A) (f : A → ℕ) (a : A) (v : ℕ) → changed C f (put a v ∷ []) a ≡ v
 unfolding changed
-put_same C f a v = upd_same (decide C) f a v
+put_same C f a v = written_same C f a v
 
 put_other : {A : Type 0} (C : Coding A) (f : A → ℕ) (a : A) (v : ℕ) (x : A) → same (C.code x) (C.code a) ≡ false → changed C f (put a v ∷ []) x ≡ f x
 unfolding changed
-put_other C f a v x e = upd_apart C f a v x e
+put_other C f a v x e = written_apart C f a v x e
 
 -- at a server s a name is known by its slot
 at_one_server : (s x n : ℕ) → x / 1024 ≡ s → n / 1024 ≡ s → x % 1024 ≡ n % 1024 → x ≡ n
@@ -145,7 +143,7 @@ module _ (k j slots : ℕ) (h b t : Bool) (version first second : ℕ) (r : Reco
 
   pub untouched : (o : Obj) (q : Place → ℕ) (a : Place) → ¬ (Touches o a) → changed places q (write_of o q) a ≡ q a
   untouched o q a n =
-      only_other places (λ a v. Touches o a) a (λ x v g e. n (subst (Touches o) (sym e) g)) (write_of o q) q (only_touches o q)
+      only_other places place_again (λ a v. Touches o a) a (λ x v g e. n (subst (Touches o) (sym e) g)) (write_of o q) q (only_touches o q)
 
   pub no_lock : (o : Obj) (a : Place) → is_lock a ≡ true → ¬ (Touches o a)
   unfolding Touches
@@ -212,15 +210,15 @@ module _ (k j slots : ℕ) (h b t : Bool) (version first second : ℕ) (r : Reco
             differ z = d (ap flag (at_one_server s x n (f x refl e) at z))
 
             by_word : Dec (n % 1024 / 64 ≡ x % 1024 / 64)
-                → bit (upd (decide places) q (Vector (x % 1024 / 64)) (put_bit t (q (Vector (x % 1024 / 64))) (x % 1024 % 64)) (Vector (n % 1024 / 64))) (n % 1024 % 64)
+                → bit (written places q (Vector (x % 1024 / 64)) (put_bit t (q (Vector (x % 1024 / 64))) (x % 1024 % 64)) (Vector (n % 1024 / 64))) (n % 1024 % 64)
                 ≡ bit (q (Vector (n % 1024 / 64))) (n % 1024 % 64)
             by_word (no g) =
                 ap (λ (v : ℕ). bit v (n % 1024 % 64))
-                (upd_other (decide places) q (Vector (x % 1024 / 64)) (put_bit t (q (Vector (x % 1024 / 64))) (x % 1024 % 64)) (Vector (n % 1024 / 64)) (λ z. g (ap slot_in z)))
+                (written_other places place_again q (Vector (x % 1024 / 64)) (put_bit t (q (Vector (x % 1024 / 64))) (x % 1024 % 64)) (Vector (n % 1024 / 64)) (λ z. g (ap slot_in z)))
             by_word (yes g) =
-                subst (λ (i : ℕ). bit (upd (decide places) q (Vector (x % 1024 / 64)) (put_bit t (q (Vector (x % 1024 / 64))) (x % 1024 % 64)) (Vector i)) (n % 1024 % 64)
+                subst (λ (i : ℕ). bit (written places q (Vector (x % 1024 / 64)) (put_bit t (q (Vector (x % 1024 / 64))) (x % 1024 % 64)) (Vector i)) (n % 1024 % 64)
                 ≡ bit (q (Vector i)) (n % 1024 % 64)) (sym g)
-                (ap (λ (v : ℕ). bit v (n % 1024 % 64)) (upd_same (decide places) q (Vector (x % 1024 / 64)) (put_bit t (q (Vector (x % 1024 / 64))) (x % 1024 % 64)))
+                (ap (λ (v : ℕ). bit v (n % 1024 % 64)) (written_same places q (Vector (x % 1024 / 64)) (put_bit t (q (Vector (x % 1024 / 64))) (x % 1024 % 64)))
                 ∙ bit_put_other t (q (Vector (x % 1024 / 64))) (x % 1024 % 64) (n % 1024 % 64) (λ z. differ (omega arith)))
 
     -- ---- of another object
@@ -257,7 +255,7 @@ module _ (k j slots : ℕ) (h b t : Bool) (version first second : ℕ) (r : Reco
     own_node e n =
         ap (λ (y : Bool). node_of (tab 33 (λ i. changed places q (cond y (node_puts n r) [] ++ cond b (table_puts n version) []) (Node (n % 1024) i)))) e
         ∙ ap (λ (g : ℕ → ℕ). node_of (tab 33 g)) (fun_ext words)
-        ∙ ap node_of (tab_puts_same places 33 (words_of r) q (Node (n % 1024)) (length_words r w) (λ i l z. ap word_in z))
+        ∙ ap node_of (tab_puts_same places place_again 33 (words_of r) q (Node (n % 1024)) (length_words r w) (λ i l z. ap word_in z))
         ∙ node_words r w
       where
         words : (i : ℕ) → changed places q (node_puts n r ++ cond b (table_puts n version) []) (Node (n % 1024) i) ≡ changed places q (node_puts n r) (Node (n % 1024) i)
@@ -284,7 +282,7 @@ module _ (k j slots : ℕ) (h b t : Bool) (version first second : ℕ) (r : Reco
     own_value (node n) e = ap (value_of (node n)) (own_node e n)
     own_value (flag n) e =
         ap (λ (y : Bool). taken (bit (changed places q (cond y (flag_step (named n) t q) []) (Vector (n % 1024 / 64))) (n % 1024 % 64))) e
-        ∙ ap (λ (v : ℕ). taken (bit v (n % 1024 % 64))) (upd_same (decide places) q (Vector (n % 1024 / 64)) (put_bit t (q (Vector (n % 1024 / 64))) (n % 1024 % 64)))
+        ∙ ap (λ (v : ℕ). taken (bit v (n % 1024 % 64))) (written_same places q (Vector (n % 1024 / 64)) (put_bit t (q (Vector (n % 1024 / 64))) (n % 1024 % 64)))
         ∙ ap taken (bit_put_same t (q (Vector (n % 1024 / 64))) (n % 1024 % 64))
 
     abbrev pub given_version : Obj → ℕ

@@ -26,7 +26,7 @@ use Rattle.server.specs.declared.hand_out.Metadata.{Metadata}
 use Rattle.server.specs.declared.place.Place.{Place}
 use Rattle.server.specs.declared.place.Place.TheVariants.{Root, Version, States, MetadataLock, Vector, Node, FlagLock, Table, NodeLock}
 use Rattle.server.specs.HandOut.{metadata_at, metadata_sound}
-use Rattle.server.specs.Layout.{places, server_block, put_step}
+use Rattle.server.specs.Layout.{place_again, places, server_block, put_step}
 use Rattle.server.specs.Store.{metadata_step, versions_row, versions_step}
 use Rattle.server.specs.Laws.Leaves.{metadata_inside}
 use Rattle.nodes.specs.States.{is_present, with_added, with_closed, with_removed}
@@ -177,7 +177,7 @@ module _ (m : Address → ℕ) (s : ℕ) (f : Place → Bool) (ps : List (Put Pl
       go : Dec (u ≡ s) → changed whole m (over (server s) ps) (server u a) ≡ m (server u a)
       go (yes q) =
           subst (λ (t : ℕ). changed whole m (over (server s) ps) (server t a) ≡ m (server t a)) (sym q)
-          (ap (λ (p : Place → ℕ). p a) (server_changed m s ps) ∙ changed_only places f ps (server_of m s) a only e)
+          (ap (λ (p : Place → ℕ). p a) (server_changed m s ps) ∙ changed_only places place_again f ps (server_of m s) a only e)
       go (no n) = ap (λ (p : Place → ℕ). p a) (server_else m s ps u n)
 
   there_kept : f States ≡ false → (u : ℕ) → there (changed whole m (over (server s) ps)) u ≡ there m u

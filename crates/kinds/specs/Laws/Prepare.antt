@@ -8,7 +8,7 @@ use Rattle.memory.specs.Word.{view}
 use Rattle.memory.proofs.Laws.Word.{view_length}
 use Rattle.memory.specs.Bit.{put_bit}
 use Rattle.layout.specs.Space.{put, changed, stored}
-use Rattle.layout.proofs.Laws.Space.{upd_apart, AllValid}
+use Rattle.layout.proofs.Laws.Space.{written_apart, AllValid}
 use Rattle.layout.specs.Step.{Does, silent, stepped, and_then}
 use Rattle.layout.proofs.Laws.Step.{stored_append, changed_append, does_then, does_mem, valid_append}
 use Rattle.layout.specs.Part.{over, in_part}
@@ -111,9 +111,9 @@ module _ (u : ClientWord → ℕ) (v : ℕ) where
 
   item_stays : (i : ℕ) (s : Set) (p j : ℕ) → with_field i (item s p j) ≡ u (item s p j)
   unfolding changed
-  item_stays i Reads p j = upd_apart client_words u (field i) v (item Reads p j) refl
-  item_stays i Writes p j = upd_apart client_words u (field i) v (item Writes p j) refl
-  item_stays i Copies p j = upd_apart client_words u (field i) v (item Copies p j) refl
+  item_stays i Reads p j = written_apart client_words u (field i) v (item Reads p j) refl
+  item_stays i Writes p j = written_apart client_words u (field i) v (item Writes p j) refl
+  item_stays i Copies p j = written_apart client_words u (field i) v (item Copies p j) refl
 
   items_stay : (i : ℕ) → ◌≡◌ {A = Set → ℕ → ℕ → ℕ} (λ s p j. with_field i (item s p j)) (λ s p j. u (item s p j))
   items_stay i = fun_ext (λ s. fun_ext (λ p. fun_ext (λ j. item_stays i s p j)))
@@ -125,11 +125,11 @@ module _ (u : ClientWord → ℕ) (v : ℕ) where
 
   kept_prepared : kept (with_field 6) ≡ kept u
   unfolding changed
-  kept_prepared = kept_stays 6 (upd_apart client_words u (field 6) v (field 10) refl) (upd_apart client_words u (field 6) v (field 11) refl)
+  kept_prepared = kept_stays 6 (written_apart client_words u (field 6) v (field 10) refl) (written_apart client_words u (field 6) v (field 11) refl)
 
   kept_phase : kept (with_field 0) ≡ kept u
   unfolding changed
-  kept_phase = kept_stays 0 (upd_apart client_words u (field 0) v (field 10) refl) (upd_apart client_words u (field 0) v (field 11) refl)
+  kept_phase = kept_stays 0 (written_apart client_words u (field 0) v (field 10) refl) (written_apart client_words u (field 0) v (field 11) refl)
 
 -- ---- after a decision
 module _ (z : Sizes) (c s : ℕ) (b₀ b : List ℕ) (hold : StoreIn z (length b₀)) (k : c < z.clients) (known : Known z (view b₀) c) (h : s < 8) (p : Does whole (block z) (decides z c s) silent (view b₀) 0 (view b)) where

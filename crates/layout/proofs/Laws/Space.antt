@@ -1,7 +1,8 @@
 -- Memory read at an address after stores: at the place stored, and elsewhere.
-use Rattle.std.specs.Prelude.{◌≡◌, Bool, true, false, take, drop, set, replicate}
+use Rattle.std.specs.Prelude.{◌≡◌, Bool, true, false, cond, eqb, take, drop, set, replicate}
 use Rattle.std.proofs.Math.Path.{refl, sym, ap, fun_ext}
-use Rattle.std.proofs.Common.{ap₂, ◌∙◌, subst, get_or-set_same, get_or-set_other, drop-cons, ext_get_or}
+use Rattle.std.proofs.Common.{ap₂, ◌∙◌, subst, true≢false, eqb-true, eq-eqb, get_or-set_same, get_or-set_other, drop-cons, ext_get_or}
+use mathlib.Core.HLevel.{Discrete}
 use mathlib.Core.List.{List, [], ◌∷◌, ◌++◌}
 use Prim.Native.Nat.{ℕ, zero, suc, ◌+◌, ◌≤◌, ◌<◌}
 use native.Mathlib.Omega.{arith}
@@ -10,12 +11,28 @@ use Rattle.std.proofs.Math.ListN.{length, get_or, length-set, get_or-append}
 use Rattle.std.proofs.lemmas.List.{length-replicate, get_or-replicate}
 use Rattle.std.proofs.lemmas.List.Edits.{sets, sets-eq}
 use Rattle.base.proofs.Laws.Test.{ifd_yes, ifd_no}
-use Rattle.base.specs.Test.{not_both}
-use Rattle.base.specs.Update.{upd}
-use Rattle.base.proofs.Laws.Update.{upd_same, upd_other}
-use Rattle.layout.specs.Block.{Block, size}
+use Rattle.base.specs.Test.{and_both, not_both}
+use Rattle.layout.specs.Block.{Block, In, offset, size}
 use Rattle.layout.proofs.Laws.Block.{below, apart}
-use Rattle.layout.specs.Space.{same, tab, Coding, Put, put, code_inj, differ, decide, changed, puts, at, Valid, valid?, mem, stored}
+use Rattle.layout.specs.Space.{same, tab, Coding, ReadsBack, Put, put, written, changed, puts, at, Valid, valid?, mem, stored}
+
+-- a place is the same as itself
+pub same_self : (p : List ℕ) → same p p ≡ true
+same_self [] = refl
+same_self (i ∷ p) = rw (eq-eqb i i refl) (same_self p)
+
+-- places that are the same are equal
+pub same_is : (p q : List ℕ) → same p q ≡ true → p ≡ q
+same_is [] [] e = refl
+same_is [] (j ∷ q) e = absurd (true≢false (sym e))
+same_is (i ∷ p) [] e = absurd (true≢false (sym e))
+same_is (i ∷ p) (j ∷ q) e =
+    let h = and_both (eqb i j) (same p q) e in
+    ap₂ (λ (x : ℕ) (y : List ℕ). x ∷ y) (eqb-true i j h.0) (same_is p q h.1)
+
+-- places that are not the same are two
+pub places_differ : (p q : List ℕ) → same p q ≡ false → ¬ (p ≡ q)
+places_differ p q e s = not_both (same_self p) (ap (λ (y : List ℕ). same p y) s ∙ e)
 
 pub tab_eq : (n : ℕ) (f g : ℕ → ℕ) → ((i : ℕ) → i < n → f i ≡ g i) → tab n f ≡ tab n g
 unfolding tab
@@ -42,39 +59,33 @@ get_or_tab (suc n) f zero h = refl
 get_or_tab (suc n) f (suc i) h = get_or_tab n (λ j. f (suc j)) i (omega arith)
 
 module _ {A : Type 0} (C : Coding A) where
-  -- a store at an address of another place, found by computation: `simp and_false` proves the premise
-  pub upd_apart : (m : A → ℕ) (a : A) (v : ℕ) (x : A) → same (C.code x) (C.code a) ≡ false → upd (decide C) m a v x ≡ m x
-  upd_apart m a v x h = upd_other (decide C) m a v x (differ C x a h)
+  -- addresses whose places differ are two
+  pub differ : (a x : A) → same (C.code a) (C.code x) ≡ false → ¬ (a ≡ x)
+  differ a x e s = places_differ (C.code a) (C.code x) e (ap C.code s)
 
-  pub puts_other : (vs : List ℕ) (m : A → ℕ) (f : ℕ → A) (x : A) → ((i : ℕ) → i < length vs → ¬ (x ≡ f i)) → changed C m (puts C f vs) x ≡ m x
-  unfolding changed puts
-  puts_other [] m f x h = refl
-  puts_other (v ∷ vs) m f x h =
-      puts_other vs (upd (decide C) m (f 0) v) (λ i. f (suc i)) x (λ i l. h (suc i) (omega arith)) ∙ upd_other (decide C) m (f 0) v x (h 0 (omega arith))
+  -- a store at an address, and at each that has its place
+  pub written_there : (m : A → ℕ) (a : A) (v : ℕ) (x : A) → same (C.code x) (C.code a) ≡ true → written C m a v x ≡ v
+  unfolding written
+  written_there m a v x h = ap (λ (t : Bool). cond t v (m x)) h
+
+  pub written_same : (m : A → ℕ) (a : A) (v : ℕ) → written C m a v a ≡ v
+  written_same m a v = written_there m a v a (same_self (C.code a))
+
+  -- a store at an address of another place, found by computation: `simp and_false` proves the premise
+  pub written_apart : (m : A → ℕ) (a : A) (v : ℕ) (x : A) → same (C.code x) (C.code a) ≡ false → written C m a v x ≡ m x
+  unfolding written
+  written_apart m a v x h = ap (λ (t : Bool). cond t v (m x)) h
 
   -- a record at other places, found by computation: `λ i. simp and_false` proves the premise
   pub puts_apart : (vs : List ℕ) (m : A → ℕ) (f : ℕ → A) (x : A) → ((i : ℕ) → same (C.code x) (C.code (f i)) ≡ false) → changed C m (puts C f vs) x ≡ m x
-  puts_apart vs m f x h = puts_other vs m f x (λ i l. differ C x (f i) (h i))
-
-  pub puts_same : (vs : List ℕ) (m : A → ℕ) (f : ℕ → A) → ((i j : ℕ) → f i ≡ f j → i ≡ j) → (i : ℕ) → i < length vs → changed C m (puts C f vs) (f i) ≡ get_or vs i 0
   unfolding changed puts
-  puts_same [] m f inj i l = absurd (omega arith)
-  puts_same (v ∷ vs) m f inj zero l =
-      puts_other vs (upd (decide C) m (f 0) v) (λ i. f (suc i)) (f 0) (λ i k e. absurd (let z : 0 ≡ suc i = inj 0 (suc i) e in omega arith))
-      ∙ upd_same (decide C) m (f 0) v
-  puts_same (v ∷ vs) m f inj (suc i) l =
-      puts_same vs (upd (decide C) m (f 0) v) (λ i. f (suc i)) (λ i j e. let z : suc i ≡ suc j = inj (suc i) (suc j) e in omega arith) i (omega arith)
+  puts_apart [] m f x h = refl
+  puts_apart (v ∷ vs) m f x h = puts_apart vs (written C m (f 0) v) (λ i. f (suc i)) x (λ i. h (suc i)) ∙ written_apart m (f 0) v x (h 0)
 
   -- a list of stores to addresses of some kind alone leaves the others
   unfoldable pub Only : (A → Bool) → List (Put A) → Type 0
   Only f [] = Unit {0}
   Only f (put a v ∷ ps) = (f a ≡ true) × Only f ps
-
-  pub changed_only : (f : A → Bool) (ps : List (Put A)) (m : A → ℕ) (x : A) → Only f ps → f x ≡ false → changed C m ps x ≡ m x
-  unfolding changed Only
-  changed_only f [] m x h e = refl
-  changed_only f (put a v ∷ ps) m x h e =
-      changed_only f ps (upd (decide C) m a v) x h.1 e ∙ upd_other (decide C) m a v x (λ s. not_both (ap f s ∙ h.0) e)
 
   pub only_puts : (f : A → Bool) (g : ℕ → A) (vs : List ℕ) → ((i : ℕ) → f (g i) ≡ true) → Only f (puts C g vs)
   unfolding Only puts
@@ -91,10 +102,6 @@ module _ {A : Type 0} (C : Coding A) where
     unfolding at Valid
     at_below a h = below b (C.code a) h
 
-    pub at_inj : (a x : A) → Valid C b a → Valid C b x → at C b a ≡ at C b x → a ≡ x
-    unfolding at Valid
-    at_inj a x h g e = code_inj C a x (apart b (C.code a) (C.code x) h g e)
-
     pub mem_at : (w : List ℕ) (a : A) → Valid C b a → mem C b w a ≡ get_or w (at C b a) 0
     unfolding mem
     mem_at w a h = ifd_yes (valid? C b a) (get_or w (at C b a) 0) 0 h
@@ -104,17 +111,22 @@ module _ {A : Type 0} (C : Coding A) where
     mem_none w a h = ifd_no (valid? C b a) (get_or w (at C b a) 0) 0 h
 
     -- a store is a change of the function at one address
-    pub mem_set : (w : List ℕ) (a : A) (v : ℕ) → size b ≤ length w → Valid C b a → mem C b (set w (at C b a) v) ≡ upd (decide C) (mem C b w) a v
-    mem_set w a v r ok = fun_ext (λ x. go x (decide C x a) (valid? C b x))
+    pub mem_set : (w : List ℕ) (a : A) (v : ℕ) → size b ≤ length w → Valid C b a → mem C b (set w (at C b a) v) ≡ written C (mem C b w) a v
+    unfolding at Valid
+    mem_set w a v r ok = fun_ext (λ x. go x (same (C.code x) (C.code a)) refl (valid? C b x))
       where
-        go : (x : A) → Dec (x ≡ a) → Dec (Valid C b x) → mem C b (set w (at C b a) v) x ≡ upd (decide C) (mem C b w) a v x
-        go x (yes s) d =
-            subst (λ (y : A). mem C b (set w (at C b a) v) y ≡ upd (decide C) (mem C b w) a v y) (sym s)
-            (mem_at (set w (at C b a) v) a ok ∙ get_or-set_same w (at C b a) v 0 (omega (arith, at_below a ok)) ∙ sym (upd_same (decide C) (mem C b w) a v))
-        go x (no n) (yes g) =
-            mem_at (set w (at C b a) v) x g ∙ get_or-set_other w (at C b a) (at C b x) v 0 (λ k. n (at_inj x a g ok k))
-            ∙ sym (mem_at w x g) ∙ sym (upd_other (decide C) (mem C b w) a v x n)
-        go x (no n) (no g) = mem_none (set w (at C b a) v) x g ∙ sym (mem_none w x g) ∙ sym (upd_other (decide C) (mem C b w) a v x n)
+        go : (x : A) (t : Bool) → same (C.code x) (C.code a) ≡ t → Dec (Valid C b x) → mem C b (set w (at C b a) v) x ≡ written C (mem C b w) a v x
+        go x true e d =
+            let p : C.code x ≡ C.code a = same_is (C.code x) (C.code a) e in
+            mem_at (set w (at C b a) v) x (subst (In b) (sym p) ok)
+            ∙ ap (λ (q : List ℕ). get_or (set w (at C b a) v) (offset b q) 0) p
+            ∙ get_or-set_same w (at C b a) v 0 (omega (arith, at_below a ok))
+            ∙ sym (written_there (mem C b w) a v x e)
+        go x false e (yes g) =
+            mem_at (set w (at C b a) v) x g
+            ∙ get_or-set_other w (at C b a) (at C b x) v 0 (λ k. places_differ (C.code x) (C.code a) e (apart b (C.code x) (C.code a) g ok k))
+            ∙ sym (mem_at w x g) ∙ sym (written_apart (mem C b w) a v x e)
+        go x false e (no g) = mem_none (set w (at C b a) v) x g ∙ sym (mem_none w x g) ∙ sym (written_apart (mem C b w) a v x e)
 
     unfoldable pub AllValid : List (Put A) → Type 0
     AllValid [] = Unit {0}
@@ -182,6 +194,53 @@ module _ {A : Type 0} (C : Coding A) where
             ∙ get_or-append zeros (drop (0 + length zeros) w) 0 (at C b a) (omega (arith, whole, at_below a h))
             ∙ get_or-replicate (size b) (at C b a) 0 0 (at_below a h)
 
+-- where each address can be had back from its place
+module _ {A : Type 0} (C : Coding A) (r : ReadsBack C) where
+  -- addresses with one place are one
+  pub code_inj : (a x : A) → C.code a ≡ C.code x → a ≡ x
+  code_inj a x e = sym (r a) ∙ ap C.back e ∙ r x
+
+  -- are two addresses one
+  pub decide : Discrete A
+  decide a x = go (same (C.code a) (C.code x)) refl
+    where
+      go : (t : Bool) → same (C.code a) (C.code x) ≡ t → Dec (a ≡ x)
+      go true e = yes (code_inj a x (same_is (C.code a) (C.code x) e))
+      go false e = no (differ C a x e)
+
+  pub written_other : (m : A → ℕ) (a : A) (v : ℕ) (x : A) → ¬ (x ≡ a) → written C m a v x ≡ m x
+  written_other m a v x n = go (same (C.code x) (C.code a)) refl
+    where
+      go : (t : Bool) → same (C.code x) (C.code a) ≡ t → written C m a v x ≡ m x
+      go true e = absurd (n (code_inj x a (same_is (C.code x) (C.code a) e)))
+      go false e = written_apart C m a v x e
+
+  pub puts_other : (vs : List ℕ) (m : A → ℕ) (f : ℕ → A) (x : A) → ((i : ℕ) → i < length vs → ¬ (x ≡ f i)) → changed C m (puts C f vs) x ≡ m x
+  unfolding changed puts
+  puts_other [] m f x h = refl
+  puts_other (v ∷ vs) m f x h =
+      puts_other vs (written C m (f 0) v) (λ i. f (suc i)) x (λ i l. h (suc i) (omega arith)) ∙ written_other m (f 0) v x (h 0 (omega arith))
+
+  pub puts_same : (vs : List ℕ) (m : A → ℕ) (f : ℕ → A) → ((i j : ℕ) → f i ≡ f j → i ≡ j) → (i : ℕ) → i < length vs → changed C m (puts C f vs) (f i) ≡ get_or vs i 0
+  unfolding changed puts
+  puts_same [] m f inj i l = absurd (omega arith)
+  puts_same (v ∷ vs) m f inj zero l =
+      puts_other vs (written C m (f 0) v) (λ i. f (suc i)) (f 0) (λ i k e. absurd (let z : 0 ≡ suc i = inj 0 (suc i) e in omega arith))
+      ∙ written_same C m (f 0) v
+  puts_same (v ∷ vs) m f inj (suc i) l =
+      puts_same vs (written C m (f 0) v) (λ i. f (suc i)) (λ i j e. let z : suc i ≡ suc j = inj (suc i) (suc j) e in omega arith) i (omega arith)
+
+  pub changed_only : (f : A → Bool) (ps : List (Put A)) (m : A → ℕ) (x : A) → Only C f ps → f x ≡ false → changed C m ps x ≡ m x
+  unfolding changed Only
+  changed_only f [] m x h e = refl
+  changed_only f (put a v ∷ ps) m x h e =
+      changed_only f ps (written C m a v) x h.1 e ∙ written_other m a v x (λ s. not_both (ap f s ∙ h.0) e)
+
+  module _ (b : Block) where
+    pub at_inj : (a x : A) → Valid C b a → Valid C b x → at C b a ≡ at C b x → a ≡ x
+    unfolding at Valid
+    at_inj a x h g e = code_inj a x (apart b (C.code a) (C.code x) h g e)
+
   -- the record that was stored is the record read
   pub tab_puts_same : (n : ℕ) (vs : List ℕ) (m : A → ℕ) (f : ℕ → A) → length vs ≡ n → ((i j : ℕ) → f i ≡ f j → i ≡ j)
       → tab n (λ i. changed C m (puts C f vs) (f i)) ≡ vs
@@ -189,21 +248,21 @@ module _ {A : Type 0} (C : Coding A) where
       tab_eq n (λ i. changed C m (puts C f vs) (f i)) (λ i. get_or vs i 0) (λ i h. puts_same vs m f inj i (omega arith)) ∙ tab_get_or n vs l
 
   -- one word of a record is stored
-  pub tab_upd : (n : ℕ) (m : A → ℕ) (f : ℕ → A) → ((i j : ℕ) → f i ≡ f j → i ≡ j) → (i v : ℕ) → i < n
-      → tab n (λ j. upd (decide C) m (f i) v (f j)) ≡ set (tab n (λ j. m (f j))) i v
-  tab_upd n m f inj i v h =
+  pub tab_written : (n : ℕ) (m : A → ℕ) (f : ℕ → A) → ((i j : ℕ) → f i ≡ f j → i ≡ j) → (i v : ℕ) → i < n
+      → tab n (λ j. written C m (f i) v (f j)) ≡ set (tab n (λ j. m (f j))) i v
+  tab_written n m f inj i v h =
       ext_get_or 0 (tab n u) (set (tab n (λ j. m (f j))) i v)
       (length_tab n u ∙ sym (length-set (tab n (λ j. m (f j))) i v ∙ length_tab n (λ j. m (f j))))
       (λ j l. let k : j < n = omega (arith, length_tab n u) in get_or_tab n u j k ∙ at_word j k (ℕ_discrete j i))
     where
       u : ℕ → ℕ
-      u j = upd (decide C) m (f i) v (f j)
+      u j = written C m (f i) v (f j)
 
       at_word : (j : ℕ) → j < n → Dec (j ≡ i) → u j ≡ get_or (set (tab n (λ j. m (f j))) i v) j 0
       at_word j k (yes e) =
-          rw e (upd_same (decide C) m (f i) v ∙ sym (get_or-set_same (tab n (λ j. m (f j))) i v 0 (omega (arith, length_tab n (λ j. m (f j))))))
+          rw e (written_same C m (f i) v ∙ sym (get_or-set_same (tab n (λ j. m (f j))) i v 0 (omega (arith, length_tab n (λ j. m (f j))))))
       at_word j k (no d) =
-          upd_other (decide C) m (f i) v (f j) (λ e. d (inj j i e))
+          written_other m (f i) v (f j) (λ e. d (inj j i e))
           ∙ sym (get_or-set_other (tab n (λ j. m (f j))) i j v 0 d ∙ get_or_tab n (λ j. m (f j)) j k)
 
   -- a record elsewhere stays

@@ -15,7 +15,7 @@ use Rattle.nodes.specs.declared.found.Found.TheVariants.{At, Absent}
 use Rattle.nodes.proofs.Laws.Stored.{Sized}
 use Rattle.client.specs.declared.part.Set.{Set}
 use Rattle.client.specs.declared.part.Set.TheVariants.{Reads, Writes, Copies}
-use Rattle.client.specs.Layout.{ClientWord, client_words, field, item, vector_word, op_number, reads_count, writes_count, meta_states, meta_root, meta_version}
+use Rattle.client.specs.Layout.{ClientWord, client_again, client_words, field, item, vector_word, op_number, reads_count, writes_count, meta_states, meta_root, meta_version}
 use Rattle.client.specs.Record.{metadata}
 use Rattle.client.specs.Sets.{record_at, find}
 use Rattle.client.specs.Part.{nothing, put_field, put_fields, put_vector, put_word}
@@ -150,13 +150,13 @@ module _ (slots : ℕ) (u : ClientWord → ℕ) (h : CopiesSound slots u) where
       v = changed client_words u (put_vector s ws u)
 
       elsewhere : (a : ClientWord) → ((q : ℕ) → ¬ (a ≡ vector_word s q)) → v a ≡ u a
-      elsewhere a d = puts_other client_words words u (vector_word s) a (λ q l. d q)
+      elsewhere a d = puts_other client_words client_again words u (vector_word s) a (λ q l. d q)
 
       at_field : (i : ℕ) → v (field i) ≡ u (field i)
       at_field i = elsewhere (field i) (λ q e. absurd (omega (arith, ap family e)))
 
       one : v (vector_word s 0) ≡ 1
-      one = puts_same client_words words u (vector_word s) (λ i j e. ap word_in e) 0 (omega arith)
+      one = puts_same client_words client_again words u (vector_word s) (λ i j e. ap word_in e) 0 (omega arith)
 
       by_server : (t : ℕ) → Dec (t ≡ s) → t < 8 → v (vector_word t 0) ≤ 1
       by_server t (yes e) l = omega (arith, ap (λ (x : ℕ). v (vector_word x 0)) e ∙ one)
@@ -173,7 +173,7 @@ module _ (u : ClientWord → ℕ) (ps : List (Put ClientWord)) (o : Only client_
   v = changed client_words u ps
 
   same : (a : ClientWord) → before_counts a ≡ false → v a ≡ u a
-  same a e = changed_only client_words before_counts ps u a o e
+  same a e = changed_only client_words client_again before_counts ps u a o e
 
   pub fields_copies : (slots : ℕ) → CopiesSound slots u → CopiesSound slots (changed client_words u ps)
   fields_copies slots h =

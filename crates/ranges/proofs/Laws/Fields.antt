@@ -1,5 +1,5 @@
 -- The fields of a client's part stay in range while what is stored in them is.
-use Rattle.std.specs.Prelude.{◌≡◌, refl, Bool, ◌&&◌, ℕ, zero, suc, ◌+◌, ◌-◌, ◌≤◌, ◌<◌, eqb, get_or}
+use Rattle.std.specs.Prelude.{◌≡◌, refl, Bool, ◌&&◌, ℕ, zero, suc, ◌+◌, ◌≤◌, ◌<◌, eqb, get_or}
 use Rattle.std.proofs.Common.{ap, sym, ◌∙◌}
 use Rattle.std.proofs.Math.Path.{subst}
 use Rattle.std.proofs.Math.Bool.{true, false, cond, true≢false}
@@ -8,10 +8,8 @@ use native.Mathlib.Omega.{arith}
 use Rattle.std.proofs.Math.Decide.{ℕ_discrete}
 use borrow.Author.Tests.{eqb-true, ne_eqb, le-leb, lt-ltb}
 use Rattle.std.proofs.Math.Dec.{leb, ltb}
-use Rattle.base.specs.Update.{upd}
-use Rattle.base.proofs.Laws.Update.{upd_same, upd_other}
-use Rattle.layout.specs.Space.{Put, put, puts, decide, changed}
-use Rattle.layout.proofs.Laws.Space.{puts_other}
+use Rattle.layout.specs.Space.{Put, put, puts, written, changed}
+use Rattle.layout.proofs.Laws.Space.{written_same, written_other, decide, puts_other}
 use Rattle.layout.specs.Step.{and_then}
 use Rattle.nodes.specs.declared.node.Node.{Node}
 use Rattle.nodes.specs.declared.found.Found.{Found}
@@ -21,7 +19,7 @@ use Rattle.operations.specs.Map.{two_to_64}
 use Rattle.operations.proofs.Laws.Map.{HIs}
 use Rattle.client.specs.declared.part.Set.{Set}
 use Rattle.client.specs.declared.part.Set.TheVariants.{Reads, Copies}
-use Rattle.client.specs.Layout.{ClientWord, client_code, client_words, field, item, vector_word, op_number, op_key, op_server, prepared, applied, fetched_vectors, op_value}
+use Rattle.client.specs.Layout.{ClientWord, client_code, client_again, client_words, field, item, vector_word, op_number, op_key, op_server, prepared, applied, fetched_vectors, op_value}
 use Rattle.client.specs.Record.{in_store}
 use Rattle.client.specs.Sets.{count, find}
 use Rattle.client.specs.Items.{any_below}
@@ -56,19 +54,19 @@ WithinStore (vector_word s n) v = Unit {0}
 -- ---- one store, and a list of them
 module _ (slots : ℕ) (u : ClientWord → ℕ) (a : ClientWord) (v : ℕ) (h : WithinStore a v) (F : FieldsSound slots u) where
   abbrev g : ClientWord → ℕ
-  g = upd (decide client_words) u a v
+  g = written client_words u a v
 
   now : (i : ℕ) → field i ≡ a → (g (field i) ≡ v) × (calm i v ≡ true) × (i < 13 → v ≤ bound i)
   unfolding WithinStore
   now i e =
       let q : WithinStore (field i) v = subst (λ y. WithinStore y v) (sym e) h in
-      (subst (λ y. g y ≡ v) (sym e) (upd_same (decide client_words) u a v), q.0, q.1)
+      (subst (λ y. g y ≡ v) (sym e) (written_same client_words u a v), q.0, q.1)
 
   kept : (i : ℕ) → ¬ (field i ≡ a) → g (field i) ≡ u (field i)
-  kept i n = upd_other (decide client_words) u a v (field i) n
+  kept i n = written_other client_words client_again u a v (field i) n
 
   within_now : (i : ℕ) → i < 13 → g (field i) ≤ bound i
-  within_now i l = go (decide client_words (field i) a)
+  within_now i l = go (decide client_words client_again (field i) a)
     where
       go : Dec (field i ≡ a) → g (field i) ≤ bound i
       go (yes e) = let q = now i e in subst (λ (x : ℕ). x ≤ bound i) (sym q.0) (q.2 l)
@@ -76,7 +74,7 @@ module _ (slots : ℕ) (u : ClientWord → ℕ) (a : ClientWord) (v : ℕ) (h : 
 
   op_now : op_fits slots g ≡ true
   unfolding op_fits
-  op_now = go (decide client_words op_number a)
+  op_now = go (decide client_words client_again op_number a)
     where
       go : Dec (op_number ≡ a) → (leb (g op_number) 7 && cond (eqb (g op_number) 6) (migrate_fits slots g) (cond (eqb (g op_number) 7) (list_fits g) true)) ≡ true
       go (yes e) =
@@ -89,7 +87,7 @@ module _ (slots : ℕ) (u : ClientWord → ℕ) (a : ClientWord) (v : ℕ) (h : 
           let w : g op_value ≡ u op_value = kept 3 (λ e. true≢false (sym (now 3 e).1)) in
           (λ t. leb (kept 1 n t) 7 && cond (eqb (kept 1 n t) 6) (in_store slots (k t) && ltb (s t) 8) (cond (eqb (kept 1 n t) 7) (leb 1 (w t) && leb (w t) 32) true)) ∙ F.op
 
-  store_within : FieldsSound slots (upd (decide client_words) u a v)
+  store_within : FieldsSound slots (written client_words u a v)
   store_within = record { within = within_now; op = op_now }
 
 pub stores_within : (slots : ℕ) (u : ClientWord → ℕ) (ps : List (Put ClientWord)) → Only client_words WithinStore ps
@@ -177,7 +175,7 @@ module _ (slots : ℕ) (u : ClientWord → ℕ) where
         where
           beyond : changed client_words u ps (field (suc (suc (suc (suc (suc i)))))) ≡ u (field (suc (suc (suc (suc (suc i))))))
           beyond =
-              puts_other client_words (op ∷ key ∷ value ∷ server ∷ []) u (λ j. field (1 + j)) (field (suc (suc (suc (suc (suc i))))))
+              puts_other client_words client_again (op ∷ key ∷ value ∷ server ∷ []) u (λ j. field (1 + j)) (field (suc (suc (suc (suc (suc i))))))
               (λ j q e. absurd (let x : suc (suc (suc (suc (suc i)))) ≡ 1 + j = ap (λ (a : ClientWord). get_or (client_code a) 1 0) e in omega arith))
 
       fits : Dec (op ≡ 6) → Dec (op ≡ 7) → op_fits slots (changed client_words u ps) ≡ true

@@ -19,7 +19,7 @@ use Rattle.server.specs.Object.{object_of, lock_of}
 use Rattle.server.specs.Lock.{locked, lock_in_range}
 use Rattle.server.specs.Laws.Lock.{locked_range}
 use Rattle.client.specs.declared.part.Set.TheVariants.{Reads, Writes, Copies}
-use Rattle.client.specs.Layout.{ClientWord, client_words, field, item, vector_word, phase, participants, prepared, applied, reads_count, writes_count}
+use Rattle.client.specs.Layout.{ClientWord, client_again, client_words, field, item, vector_word, phase, participants, prepared, applied, reads_count, writes_count}
 use Rattle.client.specs.Record.{number, by_number, first_slot, kind_in_range}
 use Rattle.client.specs.Commit.{is_at}
 use Rattle.client.specs.Sets.{record_at, number_at, find}
@@ -96,7 +96,7 @@ goes_on_silent s u ps h = record {
 }
   where
     at : (a : ClientWord) → telling a ≡ true → changed client_words u ps a ≡ u a
-    at a e = only_other client_words Silent a (λ x v c q. not_both e (ap telling q ∙ c)) ps u h
+    at a e = only_other client_words client_again Silent a (λ x v c q. not_both e (ap telling q ∙ c)) ps u h
 
 -- "A decided transaction of a lost client is still applied"
 goes_on_lost : (s : ℕ) (u : ClientWord → ℕ) → GoesOn s u (changed client_words u (lose_part u))

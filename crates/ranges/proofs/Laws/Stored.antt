@@ -8,10 +8,8 @@ use Rattle.std.proofs.Math.Decide.{ℕ_discrete}
 use borrow.Author.Tests.{eqb-true, leb-true, ltb-true, le-leb}
 use Rattle.std.proofs.Math.ListN.{get_or}
 use Rattle.base.specs.Test.{and_both}
-use Rattle.base.specs.Update.{upd}
-use Rattle.base.proofs.Laws.Update.{upd_same, upd_other}
-use Rattle.layout.specs.Space.{Put, put, decide, changed, puts, tab}
-use Rattle.layout.proofs.Laws.Space.{puts_apart, puts_other, tab_puts_same}
+use Rattle.layout.specs.Space.{Put, put, written, changed, puts, tab}
+use Rattle.layout.proofs.Laws.Space.{written_same, written_other, decide, puts_apart, puts_other, tab_puts_same}
 use Rattle.layout.specs.Step.{and_then}
 use Rattle.layout.proofs.Laws.Step.{changed_append}
 use Rattle.nodes.specs.Lists.{pad}
@@ -22,7 +20,7 @@ use Rattle.nodes.specs.Stored.{node_of, words_of}
 use Rattle.nodes.proofs.Laws.Stored.{Sized, length_words, node_words}
 use Rattle.server.specs.declared.place.Place.{Place}
 use Rattle.server.specs.declared.place.Place.TheVariants.{Root, Version, States, MetadataLock, Vector, Node, FlagLock, Table, NodeLock}
-use Rattle.server.specs.Layout.{place_code, places}
+use Rattle.server.specs.Layout.{place_code, place_again, places}
 use Rattle.server.specs.Object.{named}
 use Rattle.server.specs.Store.{kept_of, versions_row, versions_step, metadata_step, flag_step, home_step, table_step, node_step}
 use Rattle.client.specs.declared.part.Set.TheVariants.{Writes}
@@ -100,18 +98,18 @@ module _ (slots : ℕ) where
 
     module _ (p : Place → ℕ) (a : Place) (v : ℕ) (h : Harmless a v) where
       abbrev q : Place → ℕ
-      q = upd (decide places) p a v
+      q = written places p a v
 
       -- a word in range stays so; one at which there is no such store stays as it was
       still : (x : Place) → Harmless x (p x) → Harmless x (q x)
-      still x was = go (decide places x a)
+      still x was = go (decide places place_again x a)
         where
           go : Dec (x ≡ a) → Harmless x (q x)
-          go (yes e) = subst (λ (y : Place). Harmless y (q y)) (sym e) (subst (Harmless a) (sym (upd_same (decide places) p a v)) h)
-          go (no n) = subst (Harmless x) (sym (upd_other (decide places) p a v x n)) was
+          go (yes e) = subst (λ (y : Place). Harmless y (q y)) (sym e) (subst (Harmless a) (sym (written_same places p a v)) h)
+          go (no n) = subst (Harmless x) (sym (written_other places place_again p a v x n)) was
 
       same : (x : Place) → ((w : ℕ) → ¬ (Harmless x w)) → q x ≡ p x
-      same x n = upd_other (decide places) p a v x (λ e. n v (subst (λ (y : Place). Harmless y v) (sym e) h))
+      same x n = written_other places place_again p a v x (λ e. n v (subst (λ (y : Place). Harmless y v) (sym e) h))
 
       store_sound : ServerSound slots s p → ServerSound slots s q
       unfolding Harmless node_at
@@ -132,7 +130,7 @@ module _ (slots : ℕ) where
       p' = changed places p (puts places (Node k) (words_of r))
 
       stored : node_of (tab 33 (λ i. p' (Node k i))) ≡ r
-      stored = ap node_of (tab_puts_same places 33 (words_of r) p (Node k) (length_words r whole) (λ i j e. ap (λ (a : Place). get_or (place_code a) 3 0) e)) ∙ node_words r whole
+      stored = ap node_of (tab_puts_same places place_again 33 (words_of r) p (Node k) (length_words r whole) (λ i j e. ap (λ (a : Place). get_or (place_code a) 3 0) e)) ∙ node_words r whole
 
       node_sound : (n : ℕ) → in_store slots n ≡ true → N.server_of n ≡ s → NodeSound slots (node_at p' n)
       unfolding node_at
@@ -142,7 +140,7 @@ module _ (slots : ℕ) where
           go (yes h) = subst (λ (t : ℕ). NodeSound slots (node_of (tab 33 (λ i. p' (Node t i))))) (sym h) (subst (NodeSound slots) (sym stored) good)
           go (no d) =
               subst (λ (f : ℕ → ℕ). NodeSound slots (node_of (tab 33 f)))
-              (sym (fun_ext (λ i. puts_other places (words_of r) p (Node k) (Node (N.slot_of n) i) (λ j l q. d (ap (λ (a : Place). get_or (place_code a) 1 0) q)))))
+              (sym (fun_ext (λ i. puts_other places place_again (words_of r) p (Node k) (Node (N.slot_of n) i) (λ j l q. d (ap (λ (a : Place). get_or (place_code a) 1 0) q)))))
               (sound.nodes n i e)
 
       words_sound : ServerSound slots s p'

@@ -7,11 +7,9 @@ use Rattle.std.proofs.Math.Bool.{true, false}
 use Prim.Native.Nat.{ℕ, ◌/◌, ◌%◌}
 use Rattle.std.proofs.Math.ListN.{get_or, set}
 use Rattle.base.specs.Test.{one_if}
-use Rattle.base.specs.Update.{upd}
-use Rattle.base.proofs.Laws.Update.{upd_same, upd_other}
 use Rattle.memory.specs.Bit.{put_bit, bit}
-use Rattle.layout.specs.Space.{Put, put, puts, tab, decide, changed, at}
-use Rattle.layout.proofs.Laws.Space.{tab_eq, tab_upd, get_or_tab, upd_apart, Only, changed_only, only_puts, tab_puts_same, tab_puts_other, AllValid, valid_run, length_tab}
+use Rattle.layout.specs.Space.{Put, put, puts, tab, written, changed, at}
+use Rattle.layout.proofs.Laws.Space.{written_same, written_other, written_apart, tab_written, tab_eq, get_or_tab, Only, changed_only, only_puts, tab_puts_same, tab_puts_other, AllValid, valid_run, length_tab}
 use Rattle.layout.proofs.Laws.Step.{valid_append}
 use Rattle.nodes.specs.Name.{server_of, slot_of}
 use Rattle.nodes.specs.Flags.{with_flag, all_flags}
@@ -23,7 +21,7 @@ use Rattle.server.specs.declared.place.Place.{Place}
 use Rattle.server.specs.declared.place.Place.TheVariants.{Root, Version, States, MetadataLock, Vector, Node, FlagLock, Table, NodeLock}
 use Rattle.nodes.proofs.Laws.Bits.{flag_read}
 use Rattle.server.specs.Check.{standing, mark_in, mark_place}
-use Rattle.server.specs.Layout.{places, place_code, server_block}
+use Rattle.server.specs.Layout.{place_again, places, place_code, server_block}
 use Rattle.server.specs.Laws.Layout.{node_run, root_valid, version_valid, states_valid, vector_valid}
 use Rattle.server.specs.Object.{lock_of, Has}
 use Rattle.server.specs.Lock.{locked, unlocked}
@@ -62,19 +60,19 @@ module _ (m : Place → ℕ) where
   -- ---- everything of another kind stays
   pub lock_keeps : (o : Object) (b : Bool) (c : ℕ) (a : Place) → of_kind 4 a ≡ false → after m (lock_step o b c) a ≡ m a
   unfolding lock_step Only
-  lock_keeps o b c a e = changed_only places (of_kind 4) (lock_step o b c m) m a (lock_kind o, tt) e
+  lock_keeps o b c a e = changed_only places place_again (of_kind 4) (lock_step o b c m) m a (lock_kind o, tt) e
 
   pub unlock_keeps : (o : Object) (c : ℕ) (a : Place) → of_kind 4 a ≡ false → after m (unlock_step o c) a ≡ m a
   unfolding unlock_step Only
-  unlock_keeps o c a e = changed_only places (of_kind 4) (unlock_step o c m) m a (lock_kind o, tt) e
+  unlock_keeps o c a e = changed_only places place_again (of_kind 4) (unlock_step o c m) m a (lock_kind o, tt) e
 
   pub metadata_keeps : (r st v : ℕ) (a : Place) → of_kind 0 a ≡ false → after m (metadata_step r st v) a ≡ m a
   unfolding metadata_step Only
-  metadata_keeps r st v a e = changed_only places (of_kind 0) (metadata_step r st v m) m a (refl, (refl, (refl, tt))) e
+  metadata_keeps r st v a e = changed_only places place_again (of_kind 0) (metadata_step r st v m) m a (refl, (refl, (refl, tt))) e
 
   pub flag_keeps : (x : Name) (b : Bool) (a : Place) → of_kind 1 a ≡ false → after m (flag_step x b) a ≡ m a
   unfolding flag_step Only
-  flag_keeps x b a e = changed_only places (of_kind 1) (flag_step x b m) m a (refl, tt) e
+  flag_keeps x b a e = changed_only places place_again (of_kind 1) (flag_step x b m) m a (refl, tt) e
 
   only_home : (s : ℕ) (x : Name) (n : node.Node) (t : Bool) → Only places (of_kind 2) (cond t (puts places (Node (slot_of x.number)) (words_of n)) [])
   unfolding Only
@@ -83,7 +81,7 @@ module _ (m : Place → ℕ) where
 
   pub home_keeps : (s : ℕ) (x : Name) (n : node.Node) (a : Place) → of_kind 2 a ≡ false → after m (home_step s x n) a ≡ m a
   unfolding home_step
-  home_keeps s x n a e = changed_only places (of_kind 2) (home_step s x n m) m a (only_home s x n (eqb (server_of x.number) s)) e
+  home_keeps s x n a e = changed_only places place_again (of_kind 2) (home_step s x n m) m a (only_home s x n (eqb (server_of x.number) s)) e
 
   only_table : (x : Name) (v : ℕ) (t : Bool) → Only places (of_kind 3) (cond t (put (Table (server_of x.number) (slot_of x.number)) v ∷ []) [])
   unfolding Only
@@ -92,38 +90,38 @@ module _ (m : Place → ℕ) where
 
   pub table_keeps : (x : Name) (v : ℕ) (b : Bool) (a : Place) → of_kind 3 a ≡ false → after m (table_step x v b) a ≡ m a
   unfolding table_step
-  table_keeps x v b a e = changed_only places (of_kind 3) (table_step x v b m) m a (only_table x v b) e
+  table_keeps x v b a e = changed_only places place_again (of_kind 3) (table_step x v b m) m a (only_table x v b) e
 
   -- ---- locks
   pub locked_same : (o : Object) (b : Bool) (c : ℕ) → after m (lock_step o b c) (lock_of o) ≡ locked b c (m (lock_of o))
   unfolding lock_step changed
-  locked_same o b c = upd_same (decide places) m (lock_of o) (locked b c (m (lock_of o)))
+  locked_same o b c = written_same places m (lock_of o) (locked b c (m (lock_of o)))
 
   pub locked_other : (o : Object) (b : Bool) (c : ℕ) (a : Place) → ¬ (a ≡ lock_of o) → after m (lock_step o b c) a ≡ m a
   unfolding lock_step changed
-  locked_other o b c a n = upd_other (decide places) m (lock_of o) (locked b c (m (lock_of o))) a n
+  locked_other o b c a n = written_other places place_again m (lock_of o) (locked b c (m (lock_of o))) a n
 
   pub unlocked_same : (o : Object) (c : ℕ) → after m (unlock_step o c) (lock_of o) ≡ unlocked c (m (lock_of o))
   unfolding unlock_step changed
-  unlocked_same o c = upd_same (decide places) m (lock_of o) (unlocked c (m (lock_of o)))
+  unlocked_same o c = written_same places m (lock_of o) (unlocked c (m (lock_of o)))
 
   pub unlocked_other : (o : Object) (c : ℕ) (a : Place) → ¬ (a ≡ lock_of o) → after m (unlock_step o c) a ≡ m a
   unfolding unlock_step changed
-  unlocked_other o c a n = upd_other (decide places) m (lock_of o) (unlocked c (m (lock_of o))) a n
+  unlocked_other o c a n = written_other places place_again m (lock_of o) (unlocked c (m (lock_of o))) a n
 
   -- ---- metadata
   pub metadata_same : (r st v : ℕ) → metadata_at (after m (metadata_step r st v)) ≡ record { root = r; version = v; states = st }
   unfolding metadata_at metadata_step changed
   metadata_same r st v =
-      let u = upd (decide places) m Root r in
-      let w = upd (decide places) u Version v in
+      let u = written places m Root r in
+      let w = written places u Version v in
       rw (
-        upd_apart places w States st Root refl,
-        upd_apart places w States st Version refl,
-        upd_apart places u Version v Root refl,
-        upd_same (decide places) m Root r,
-        upd_same (decide places) u Version v,
-        upd_same (decide places) w States st,
+        written_apart places w States st Root refl,
+        written_apart places w States st Version refl,
+        written_apart places u Version v Root refl,
+        written_same places m Root r,
+        written_same places u Version v,
+        written_same places w States st,
       )
 
   -- ---- flags
@@ -132,7 +130,7 @@ module _ (m : Place → ℕ) where
   flag_same x b =
       let i = slot_of x.number / 64 in
       let v = put_bit b (m (Vector i)) (slot_of x.number % 64) in
-      tab_upd places 16 m Vector (λ i j e. ap (λ (a : Place). get_or (place_code a) 1 0) e) i v (omega arith)
+      tab_written places place_again 16 m Vector (λ i j e. ap (λ (a : Place). get_or (place_code a) 1 0) e) i v (omega arith)
       ∙ ap (λ (w : ℕ). set (tab 16 (λ j. m (Vector j))) i (put_bit b w (slot_of x.number % 64))) (sym (get_or_tab 16 (λ j. m (Vector j)) i (omega arith)))
 
   -- ---- nodes
@@ -140,7 +138,7 @@ module _ (m : Place → ℕ) where
   unfolding node_here home_step
   home_same x n h =
       rw (eq-eqb (server_of x.number) (server_of x.number) refl)
-      (ap node_of (tab_puts_same places 33 (words_of n) m (Node (slot_of x.number)) (length_words n h) (λ i j e. ap (λ (a : Place). get_or (place_code a) 3 0) e))
+      (ap node_of (tab_puts_same places place_again 33 (words_of n) m (Node (slot_of x.number)) (length_words n h) (λ i j e. ap (λ (a : Place). get_or (place_code a) 3 0) e))
       ∙ node_words n h)
 
   pub home_other : (s : ℕ) (x : Name) (n : node.Node) (k : ℕ) → ¬ (k ≡ slot_of x.number) → node_here k (after m (home_step s x n)) ≡ node_here k m
@@ -149,7 +147,7 @@ module _ (m : Place → ℕ) where
     where
       go : (t : Bool) → node_of (tab 33 (λ j. changed places m (cond t (puts places (Node (slot_of x.number)) (words_of n)) []) (Node k j))) ≡ node_of (tab 33 (λ j. m (Node k j)))
       go true =
-          ap node_of (tab_puts_other places 33 (words_of n) m (Node (slot_of x.number)) (Node k) (λ i j e. d (ap (λ (a : Place). get_or (place_code a) 1 0) e)))
+          ap node_of (tab_puts_other places place_again 33 (words_of n) m (Node (slot_of x.number)) (Node k) (λ i j e. d (ap (λ (a : Place). get_or (place_code a) 1 0) e)))
       go false = refl
 
   pub home_elsewhere : (s : ℕ) (x : Name) (n : node.Node) → ¬ (server_of x.number ≡ s) → after m (home_step s x n) ≡ m
@@ -159,12 +157,12 @@ module _ (m : Place → ℕ) where
   -- ---- the table
   pub table_same : (x : Name) (v : ℕ) → after m (table_step x v true) (Table (server_of x.number) (slot_of x.number)) ≡ v
   unfolding table_step changed
-  table_same x v = upd_same (decide places) m (Table (server_of x.number) (slot_of x.number)) v
+  table_same x v = written_same places m (Table (server_of x.number) (slot_of x.number)) v
 
   pub table_other : (x : Name) (v s k : ℕ) (b : Bool) → ¬ (Table s k ≡ Table (server_of x.number) (slot_of x.number))
       → after m (table_step x v b) (Table s k) ≡ m (Table s k)
   unfolding table_step changed
-  table_other x v s k true d = upd_other (decide places) m (Table (server_of x.number) (slot_of x.number)) v (Table s k) d
+  table_other x v s k true d = written_other places place_again m (Table (server_of x.number) (slot_of x.number)) v (Table s k) d
   table_other x v s k false d = refl
 
 -- ---- what is handed out depends on its own kind alone

@@ -5,10 +5,16 @@ use Rattle.layout.specs.Block.{size, In, offset}
 use Rattle.layout.proofs.Laws.Block.{row_fits}
 use Rattle.layout.specs.Space.{at, Valid}
 use Rattle.layout.specs.Laws.Part.{Part}
-use Rattle.client.specs.Layout.{client_words, client_block}
+use Rattle.client.specs.Layout.{client_again, client_words, client_block}
 use Rattle.steps.specs.declared.sizes.Sizes.{Sizes}
-use Rattle.steps.specs.Whole.{Allowed, server, client, block, whole, words_for, server_at, client_at}
+use Rattle.steps.specs.Whole.{Allowed, Address, head, server, client, block, code, back, whole, words_for, server_at, client_at}
 use Rattle.server.specs.Layout as Srv
+
+-- each word is had back
+pub again : (a : Address) → back (code a) ≡ a
+again (head i) = refl
+again (server s a) = rw (Srv.place_again a)
+again (client c a) = rw (client_again a)
 
 -- ---- laws
 module _ (z : Sizes) where
