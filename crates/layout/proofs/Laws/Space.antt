@@ -12,6 +12,8 @@ use Rattle.std.proofs.lemmas.List.{length-replicate, get_or-replicate}
 use Rattle.std.proofs.lemmas.List.Edits.{sets, sets-eq}
 use Rattle.base.proofs.Laws.Test.{ifd_yes, ifd_no}
 use Rattle.base.specs.Test.{and_both, not_both}
+use Rattle.base.specs.Update.{upd}
+use Rattle.base.proofs.Laws.Update.{upd_same, upd_other}
 use Rattle.layout.specs.Block.{Block, In, offset, size}
 use Rattle.layout.proofs.Laws.Block.{below, apart}
 use Rattle.layout.specs.Space.{same, tab, Coding, ReadsBack, Put, put, written, changed, puts, at, Valid, valid?, mem, stored}
@@ -214,6 +216,15 @@ module _ {A : Type 0} (C : Coding A) (r : ReadsBack C) where
       go : (t : Bool) → same (C.code x) (C.code a) ≡ t → written C m a v x ≡ m x
       go true e = absurd (n (code_inj x a (same_is (C.code x) (C.code a) e)))
       go false e = written_apart C m a v x e
+
+  -- so a store is a change of the function at one address
+  pub written_is : (m : A → ℕ) (a : A) (v : ℕ) → written C m a v ≡ upd decide m a v
+  written_is m a v = fun_ext (λ x. go x (decide x a))
+    where
+      go : (x : A) → Dec (x ≡ a) → written C m a v x ≡ upd decide m a v x
+      go x (yes e) =
+          subst (λ (y : A). written C m a v y ≡ upd decide m a v y) (sym e) (written_same C m a v ∙ sym (upd_same decide m a v))
+      go x (no n) = written_other m a v x n ∙ sym (upd_other decide m a v x n)
 
   pub puts_other : (vs : List ℕ) (m : A → ℕ) (f : ℕ → A) (x : A) → ((i : ℕ) → i < length vs → ¬ (x ≡ f i)) → changed C m (puts C f vs) x ≡ m x
   unfolding changed puts

@@ -1,12 +1,13 @@
 -- The ways out of the code: what each returns, printed and stored is what is said, by the tests on the way.
-use Rattle.std.specs.Prelude.{◌≡◌, ℕ, zero, suc, ◌+◌, ◌%◌, ◌^◌, ◌<◌, true, false, List, [], ◌∷◌, ◌++◌, length, take, replicate, ◌≢◌, slice_index}
+use Rattle.std.specs.Prelude.{◌≡◌, ℕ, zero, suc, ◌+◌, ◌%◌, ◌^◌, ◌<◌, ◌≤◌, true, false, List, [], ◌∷◌, ◌++◌, length, take, replicate, ◌≢◌, slice_index}
 use Rattle.std.proofs.Math.Path.{refl, ap, subst}
-use Rattle.std.proofs.Common.{sym, ◌∙◌, append-nil, add-one, arith, take-suc}
+use Rattle.std.proofs.Common.{sym, ◌∙◌, append-nil, add-one, arith, take-suc, take_all, length-take-le}
 use borrow.Author.Tests.{ne_eqb}
 use Rattle.memory.specs.Word.{view}
 use Rattle.text.specs.declared.read.Line as said
 use Rattle.text.specs.declared.read.Line.TheVariants.{Sizes, Step, Bad}
-use Rattle.text.specs.Reader.{finish}
+use Rattle.text.specs.declared.read.Reader.{Reader}
+use Rattle.text.specs.Reader.{start, next, finish}
 use Rattle.text.specs.Print.{step_line, store_line, refused_line, bad_line, Printed}
 use Rattle.text.proofs.Laws.Printing.{then}
 use Rattle.steps.specs.declared.step.Step as step
@@ -21,9 +22,17 @@ use Rattle.engine.specs.Step.{outcome_of, words_after}
 use Rattle.show.specs.declared.Show.{Show}
 use Rattle.show.specs.declared.Shown.{Shown}
 use Rattle.show.specs.Shown.{Effect, sizes_of, step_of, shown_in, zeros}
-use Rattle.show.specs.Feed.{Progress, progress, behind, Showing, bad, awaits, ended, with_byte, opened, stepped, first_line, later_line, line_ended, next_byte, finished, fed, whole, Came}
+use Rattle.show.specs.Feed.{Progress, progress, behind, Showing, bad, awaits, ended, with_byte, opened, stepped, first_line, later_line, line_ended, next_byte, finished, fed, read_on, whole, Came, ReadsOn}
 use Rattle.show.specs.Laws.Whole.{whole_shown}
 use Rattle.show.specs.Laws.Pieces.{fed_append}
+
+-- ---- states
+pub awaits_made : (r : Reader) (stage n : ℕ) → r ≡ start → ◌≡◌ {A = Show} (record { reader = r; stage = stage; begun = false; step = n }) (awaits stage n)
+awaits_made r stage n e = rw e
+
+pub byte_made : (s : Show) (b : ℕ) (r : Reader) → r ≡ next s.reader b
+    → ◌≡◌ {A = Show} (record { reader = r; stage = s.stage; begun = true; step = s.step }) (with_byte s b)
+byte_made s b r e = rw e
 
 -- ---- the number of a refusal
 number : Opening → ℕ
@@ -34,6 +43,10 @@ numbered : (n : ℕ) → number (opening n) ≡ n
 unfolding opening number
 numbered zero = refl
 numbered (suc n) = refl
+
+pub is_open : (n : ℕ) (o : Opening) → o ≡ opening n → o ≡ Accepted → 0 ≡ n
+unfolding number
+is_open n o e q = ap number (sym q ∙ e) ∙ numbered n
 
 pub is_shut : (n r : ℕ) (o : Opening) → o ≡ opening n → o ≡ Refused r → r ≡ n
 unfolding number
@@ -190,13 +203,16 @@ one_fed : (m out : List ℕ) (at : ℕ) (m' out' : List ℕ) (s : Show) (b : ℕ
 unfolding fed
 one_fed m out at m' out' s b y d = came_as m out at m' out' (fed s (b ∷ [])) (next_byte s b) (rw append-nil) y d
 
--- a loop over the bytes: one more
+-- a loop over the bytes: one more, and none left
 module _ (m out : List ℕ) (at : ℕ) (s : Show) (bs : List ℕ) (i : ℕ) (x : Shown) (m₁ out₁ : List ℕ) (d : Came (fed s (take i bs)) m out at x m₁ out₁) where
   pub next_fed : (y : Shown) (m₂ out₂ : List ℕ) → length m₁ ≡ length m → i < length bs → Came (next_byte x.show (slice_index bs i)) m₁ out₁ x.at y m₂ out₂
       → Came (fed s (take (i + 1) bs)) m out at y m₂ out₂
   next_fed y m₂ out₂ l h e =
       rw (add-one i, take-suc bs i 0 h)
       (then_fed m out at s (take i bs) (slice_index bs i ∷ []) x y m₁ out₁ m₂ out₂ l d (one_fed m₁ out₁ x.at m₂ out₂ x.show (slice_index bs i) y e))
+
+  pub all_fed : length bs ≤ i → Came (fed s bs) m out at x m₁ out₁
+  all_fed h = rw (take_all i bs h) at d
 
 -- ---- a whole input
 module _ (m out input : List ℕ) (s : Show) (x y : Shown) (m₁ out₁ m₂ out₂ : List ℕ) (start_is : s ≡ awaits 0 0) (l : length m₁ ≡ length m)
@@ -221,6 +237,24 @@ module _ (m out input : List ℕ) (s : Show) (x y : Shown) (m₁ out₁ m₂ out
   pub all_words : view m₂ ≡ (shown_in m input).words
   unfolding fed_first whole
   all_words = e.words ∙ ap (λ (t : Progress). t.words) same ∙ ap (λ (f : Effect). f.words) ends_whole
+
+-- ---- what was read of a file
+read_some : (s : Show) (bs : List ℕ) → 0 < length bs → read_on s bs ≡ fed s bs
+read_some s [] h = absurd (omega arith)
+read_some s (b ∷ bs) h = refl
+
+module _ (s : Show) (m out : List ℕ) (x : Shown) (m' out' : List ℕ) where
+  pub read_none : (most : ℕ) → Came (finished s) m out 0 x m' out' → ReadsOn most s m out x m' out'
+  read_none most d = record { read = []; few = omega arith; came = d }
+
+  pub read_part : (most n : ℕ) (bs : List ℕ) → length bs ≡ most → n ≤ length bs → (n ≢ 0) → Came (fed s (take n bs)) m out 0 x m' out' → ReadsOn most s m out x m' out'
+  read_part most n bs k h z d =
+      let c : length (take n bs) ≡ n = length-take-le n bs h in
+      record {
+        read = take n bs;
+        few = omega arith;
+        came = came_as m out 0 m' out' (read_on s (take n bs)) (fed s (take n bs)) (ap (λ (r : Showing). r (length m) (view m)) (read_some s (take n bs) (omega arith))) x d;
+      }
 
 pub zeros_made : (n : ℕ) → replicate n 0 ≡ zeros n
 unfolding zeros

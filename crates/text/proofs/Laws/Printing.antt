@@ -12,9 +12,30 @@ use Rattle.memory.proofs.Laws.Run.{sets_append}
 use Rattle.text.specs.Print.{digits_within, decimal, field, step_line, store_line, Printed}
 
 -- the bytes given, copied into the part of the buffer from index at on
-pub put_made : (out bytes t : List ℕ) (at : ℕ) → at + length bytes ≤ length out → t ≡ bytes
+pub put_made : (out bytes t : List ℕ) (at n : ℕ) → at + length bytes ≤ length out → n ≡ length bytes
+    → t ≡ take (length bytes) bytes ++ drop (length bytes) (mid_of at (length out - at) out)
+    → Printed out at bytes (put_mid at (length out - at) out t) (at + n)
+put_made out bytes t at n h e c =
+    record {
+      bytes =
+          let d : length (drop at out) ≡ length out - at = length-drop at out in
+          rw (
+            c,
+            take-length bytes,
+            take_all (length out - at) (drop at out) (omega arith),
+            drop_of_length-le (drop at out) {i = length out - at} (omega arith),
+            sets-eq bytes out at h,
+            append-nil,
+            drop-drop (length bytes) at out,
+          )
+          (sym (append_assoc (take at out) bytes (drop (at + length bytes) out)));
+      end = ap (λ (k : ℕ). at + k) e;
+    }
+
+-- the bytes given, put in their place from index at on
+pub place_made : (out bytes t : List ℕ) (at : ℕ) → at + length bytes ≤ length out → t ≡ bytes
     → Printed out at bytes (put_mid at (at + length bytes - at) out t) (at + length bytes)
-put_made out bytes t at h c =
+place_made out bytes t at h c =
     record {
       bytes =
           let e : at + length bytes - at ≡ length bytes = omega arith in
