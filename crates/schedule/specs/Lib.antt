@@ -4,5 +4,3 @@
 pub mod Listed
 -- WHAT IS PROMISED
 pub mod Promise
--- laws and proofs
-pub mod Laws

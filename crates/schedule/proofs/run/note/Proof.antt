@@ -1,4 +1,4 @@
-use Rattle.schedule.specs.Laws.Listed.{note_exits}
+use Rattle.schedule.proofs.Laws.Listed.{note_exits}
 use borrow.Author.Rules.{rules}
 use Rattle.schedule.proofs.run.note.Statement.{statement}
 use Rattle.schedule.proofs.run.note.Tie as tie

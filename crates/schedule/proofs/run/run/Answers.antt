@@ -1,5 +1,5 @@
 use Rattle.std.proofs.Common.{rules}
-use Rattle.schedule.specs.Laws.Listed.{none_done, one_done, all_done}
+use Rattle.schedule.proofs.Laws.Listed.{none_done, one_done, all_done}
 use Rattle.schedule.proofs.run.run.Goals as goal
 
 pub loop-i-init : goal.loop-i-init

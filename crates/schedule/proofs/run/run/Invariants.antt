@@ -1,5 +1,5 @@
 use Rattle.std.proofs.Common.{length, ◌-◌}
-use Rattle.schedule.specs.Laws.Listed.{SoFar}
+use Rattle.schedule.proofs.Laws.Listed.{SoFar}
 use Rattle.schedule.proofs.run.run.Given as goal
 
 abbrev pub invariant-loop-i : goal.invariant-loop-i

@@ -1,4 +1,4 @@
-use Rattle.schedule.specs.Laws.Listed.{turn_exits}
+use Rattle.schedule.proofs.Laws.Listed.{turn_exits}
 use Rattle.steps.proofs.Laws.Taken.{fields_are_words}
 use borrow.Author.Rules.{rules}
 use Rattle.schedule.proofs.run.turn.Statement.{statement}

@@ -15,7 +15,7 @@ use Rattle.engine.specs.Reached.{Reached, GoesOn}
 use Rattle.ranges.proofs.Laws.Theorem as Theorem
 use Rattle.schedule.specs.Listed.{as_written}
 use Rattle.schedule.specs.Promise.{Promise}
-use Rattle.schedule.specs.Laws.Written.{steps_run, reached_as_written}
+use Rattle.schedule.proofs.Laws.Written.{steps_run, reached_as_written}
 
 allowed : (z : Sizes) (h : List Taken) (b : List ℕ) → Reached z h b → Allowed z
 allowed z h b r = (none_holds (length b) z 0 (sym r.accepted) refl).allowed

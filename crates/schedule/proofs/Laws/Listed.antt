@@ -12,7 +12,7 @@ use Rattle.steps.specs.Outcome.{line}
 use Rattle.steps.specs.Taken.{Words}
 use Rattle.engine.specs.Step.{outcome_of}
 use Rattle.schedule.specs.Listed.{written_down, words_run, output_run, taken_run, taken_on, lines, TurnTaken, AllTaken}
-use Rattle.schedule.specs.Laws.Reached.{run_goes_on}
+use Rattle.schedule.proofs.Laws.Reached.{run_goes_on}
 
 -- what stands past the end of a list of steps
 abbrev pub no_step : Step
