@@ -15,7 +15,7 @@ unfoldable pub tab : ℕ → (ℕ → ℕ) → List ℕ
 tab zero f = []
 tab (suc n) f = f 0 ∷ tab n (λ i. f (suc i))
 
--- a type of addresses: each has a place, from which it can be had back
+-- a type of addresses: each has a place, and each place tells an address
 pub record Coding (A : Type 0) : Type 0 where
   pub code : A → List ℕ
   pub back : List ℕ → A

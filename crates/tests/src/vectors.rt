@@ -38,12 +38,12 @@ fn turn<R: Read>(
     }
 }
 
-// Whether the file has no byte more.
+// Whether the file has no byte more. A read that fails counts as its end.
 fn at_end<R: Read>(file: &mut R) -> bool {
     let mut byte = [0u8; 1];
     match file.read(&mut byte) {
         Ok(n) => n == 0,
-        Err(_) => false,
+        Err(_) => true,
     }
 }
 
@@ -112,6 +112,11 @@ fn one<R: Files + Print>(
     Ok(is_right as u64)
 }
 
+// How many schedules are named: each by two names, and the last one by one if its other name is missing.
+fn count(names: &[String]) -> usize {
+    names.len() / 2 + names.len() % 2
+}
+
 // All schedules; how many agree.
 fn all<R: Files + Print>(
     rt: &R,
@@ -120,8 +125,11 @@ fn all<R: Files + Print>(
     names: &[String],
 ) -> io::Result<u64> {
     let mut right: u64 = 0;
-    for i in 0..names.len() / 2 {
-        right = std::num::wrapping_add_u64(right, one(rt, memory, pairs, names, 2 * i)?);
+    for i in 0..count(names) {
+        right = std::num::wrapping_add_u64(
+            right,
+            one(rt, memory, pairs, names, std::num::wrapping_add_usize(i, i))?,
+        );
     }
     Ok(right)
 }
@@ -130,6 +138,6 @@ pub fn report<R: Files + Env + AllocGlobal + Print>(rt: &R, memory: &mut [u8]) -
     let names: Vec<String> = env::args(rt)?.skip(1).collect(rt.alloc())?;
     let mut pairs = [0u8; 512];
     let right = all(rt, memory, &mut pairs, &names)?;
-    let count = names.len() / 2;
-    println!(rt; "{right} of {count} agree")
+    let named = count(&names);
+    println!(rt; "{right} of {named} agree")
 }

@@ -1,14 +1,21 @@
 -- What stands at an address after a list of stores.
-use Rattle.std.specs.Prelude.{◌≡◌, cond}
+use Rattle.std.specs.Prelude.{◌≡◌, Bool, cond}
 use Rattle.std.proofs.Math.Path.{refl, subst}
-use Rattle.std.proofs.Common.{sym, ◌∙◌, arith}
+use Rattle.std.proofs.Common.{sym, ap, ◌∙◌, arith}
 use mathlib.Core.List.{List, [], ◌∷◌, ◌++◌}
 use Prim.Native.Nat.{ℕ, zero, suc, ◌<◌}
+use Rattle.base.specs.Update.{upd}
 use Rattle.layout.specs.Space.{Coding, ReadsBack, Put, put, same, written, changed}
-use Rattle.layout.proofs.Laws.Space.{written_other}
+use Rattle.layout.proofs.Laws.Space.{written_other, written_is, decide}
 use Rattle.layout.specs.Step.{and_then}
 use Rattle.layout.proofs.Laws.Step.{changed_append}
 use Rattle.layout.specs.Sweep.{sweep}
+
+-- what a store makes of the value at x
+upd_cond : {A : Type 0} (C : Coding A) (r : ReadsBack C) (m : A → ℕ) (a : A) (w : ℕ) (x : A) (b : Bool) → same (C.code x) (C.code a) ≡ b
+    → upd (decide C r) m a w x ≡ cond b w (m x)
+unfolding written
+upd_cond C r m a w x b h = ap (λ (u : _ → ℕ). u x) (sym (written_is C r m a w)) ∙ ap (λ (t : Bool). cond t w (m x)) h
 
 module _ {A : Type 0} (C : Coding A) where
   -- the last store at x, else v: for stores at known addresses this computes

@@ -226,6 +226,10 @@ module _ {A : Type 0} (C : Coding A) (r : ReadsBack C) where
           subst (λ (y : A). written C m a v y ≡ upd decide m a v y) (sym e) (written_same C m a v ∙ sym (upd_same decide m a v))
       go x (no n) = written_other m a v x n ∙ sym (upd_other decide m a v x n)
 
+  -- the same of a change at an address of another place
+  pub upd_apart : (m : A → ℕ) (a : A) (v : ℕ) (x : A) → same (C.code x) (C.code a) ≡ false → upd decide m a v x ≡ m x
+  upd_apart m a v x h = upd_other decide m a v x (differ C x a h)
+
   pub puts_other : (vs : List ℕ) (m : A → ℕ) (f : ℕ → A) (x : A) → ((i : ℕ) → i < length vs → ¬ (x ≡ f i)) → changed C m (puts C f vs) x ≡ m x
   unfolding changed puts
   puts_other [] m f x h = refl
@@ -275,6 +279,11 @@ module _ {A : Type 0} (C : Coding A) (r : ReadsBack C) where
       at_word j k (no d) =
           written_other m (f i) v (f j) (λ e. d (inj j i e))
           ∙ sym (get_or-set_other (tab n (λ j. m (f j))) i j v 0 d ∙ get_or_tab n (λ j. m (f j)) j k)
+
+  pub tab_upd : (n : ℕ) (m : A → ℕ) (f : ℕ → A) → ((i j : ℕ) → f i ≡ f j → i ≡ j) → (i v : ℕ) → i < n
+      → tab n (λ j. upd decide m (f i) v (f j)) ≡ set (tab n (λ j. m (f j))) i v
+  tab_upd n m f inj i v h =
+      ap (λ (u : A → ℕ). tab n (λ j. u (f j))) (sym (written_is m (f i) v)) ∙ tab_written n m f inj i v h
 
   -- a record elsewhere stays
   pub tab_puts_other : (n : ℕ) (vs : List ℕ) (m : A → ℕ) (f g : ℕ → A) → ((i j : ℕ) → ¬ (g i ≡ f j))

@@ -4,8 +4,9 @@ use Rattle.std.proofs.Math.Path.{refl, ap, fun_ext}
 use Rattle.std.proofs.Common.{sym, ◌∙◌, subst}
 use Rattle.std.proofs.Math.Bool.{true≢false, false≢true}
 use mathlib.Core.List.{List, [], ◌∷◌}
+use Rattle.base.specs.Update.{upd}
 use Rattle.layout.specs.Space.{Coding, ReadsBack, Put, put, written, changed}
-use Rattle.layout.proofs.Laws.Space.{written_same, written_other, decide}
+use Rattle.layout.proofs.Laws.Space.{written_same, written_other, written_is, decide}
 use Rattle.layout.specs.Part.{over}
 use Rattle.server.specs.declared.place.Place.{Place}
 use Rattle.server.specs.declared.place.Place.TheVariants.{Root}
@@ -25,6 +26,11 @@ module _ {A B : Type 0} (C : Coding A) (r : ReadsBack C) (D : Coding B) (s : Rea
           (written_same D m (e a) v ∙ sym (written_same C (λ x. m (e x)) a v))
       go x (no n) =
           written_other D s m (e a) v (e x) (λ q. n (inj x a q)) ∙ sym (written_other C r (λ x. m (e x)) a v x n)
+
+  part_upd : ((a x : A) → e a ≡ e x → a ≡ x) → (m : B → ℕ) (a : A) (v : ℕ)
+      → (λ x. upd (decide D s) m (e a) v (e x)) ≡ upd (decide C r) (λ x. m (e x)) a v
+  part_upd inj m a v =
+      ap (λ (u : B → ℕ). (λ (x : A). u (e x))) (sym (written_is D s m (e a) v)) ∙ part_written inj m a v ∙ written_is C r (λ x. m (e x)) a v
 
   pub part_same : ((a x : A) → e a ≡ e x → a ≡ x) → (ps : List (Put A)) (m : B → ℕ)
       → (λ x. changed D m (over e ps) (e x)) ≡ changed C (λ x. m (e x)) ps
