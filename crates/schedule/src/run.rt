@@ -1,7 +1,7 @@
 // "A schedule is a lent list of step records, run front to back."
-ghost use Rattle.std.specs.Prelude.{◌≡◌};
-ghost use Rattle.steps.specs.Taken.{Words};
-ghost use Rattle.schedule.specs.Listed.{written_down, Turns, TakesAll};
+ghost use Rattle.std.specs.Prelude.{◌≡◌, [], ◌∷◌};
+ghost use Rattle.engine.specs.Reached.{GoesOn};
+ghost use Rattle.schedule.specs.Listed.{written_down, taken_on, Turns, TakesAll};
 
 use engine::step::step;
 use steps::outcome::Line;
@@ -18,11 +18,11 @@ fn note(outcomes: &mut [u64], i: usize, l: Line)
     }
 }
 
-// One step, by value, the i-th of a list, lent the output. Its outcome is written down, and its number returned. That its fields are words is known here, where it
-// is held by value.
+// One step, by value, the i-th of a list, lent the output. Its outcome is written down, and its number returned. Whatever steps had reached the store, this one goes
+// on from there.
 pub fn turn(mem: &mut [u8], out: &mut [u8], outcomes: &mut [u64], i: usize, k: Step) -> u64
     ensures turns { Turns mem out outcomes i k result }
-    ensures fields { Words k }
+    ensures reached { GoesOn mem.old (taken_on mem.old out.old (k ∷ [])) mem.new }
 {
     let o = step(mem, out, k);
     let l = Line::of(o);

@@ -11,8 +11,9 @@ use Rattle.memory.specs.Word.{view}
 use Rattle.steps.specs.Outcome.{line}
 use Rattle.steps.specs.Taken.{Words}
 use Rattle.engine.specs.Step.{outcome_of}
+use Rattle.engine.specs.Reached.{GoesOn}
 use Rattle.schedule.specs.Listed.{written_down, words_run, output_run, taken_run, taken_on, lines, TurnTaken, AllTaken}
-use Rattle.schedule.proofs.Laws.Reached.{run_goes_on}
+use Rattle.schedule.proofs.Laws.Reached.{none_goes_on, then_goes_on, turn_goes_on}
 
 -- what stands past the end of a list of steps
 abbrev pub no_step : Step
@@ -45,7 +46,7 @@ module _ (n : ℕ) (w : List ℕ) (room : ℕ) (k : Step) (o : Outcome) (l : Lin
   pub turned_number : l.outcome ≡ (line (outcome_of n w room k)).outcome
   turned_number = rw (q, p)
 
-pub ruleset turn_exits = (turned, turned_number)
+pub ruleset turn_exits = (turned, turned_number, turn_goes_on)
 
 -- each step of a list
 pub all_words : (ks : List Step) → ((j : ℕ) → j < length ks → Words (get_or ks j no_step)) → Every Words ks
@@ -62,40 +63,40 @@ words_next ks i h w j l = go (ℕ_discrete j i)
     go (no d) = h j (omega arith)
 
 -- ---- i steps of the list ks are done, on memory with the bytes b, lent an output with the bytes `out` and a list of outcomes: what the steps left make of
--- the present bytes, output and outcomes is what all of them make of the first; and the steps done have fields of 64 bits
+-- the present bytes, output and outcomes is what all of them make of the first; and whatever bytes they go on to from here, all of them go on to
 pub record SoFar (b out outcomes : List ℕ) (ks : List Step) (i : ℕ) (b' out' outcomes' : List ℕ) : Type 0 where
   pub words : words_run (length b) (length out) (view b') (drop i ks) ≡ words_run (length b) (length out) (view b) ks
   pub output : output_run (length b) (length out) (view b') (view out') (drop i ks) ≡ output_run (length b) (length out) (view b) (view out) ks
   pub noted : lines outcomes' i (taken_run (length b) (length out) (view b') (view out') (drop i ks)) ≡ lines outcomes 0 (taken_on b out ks)
-  pub fields : (j : ℕ) → j < i → Words (get_or ks j no_step)
+  pub reached : (c : List ℕ) → GoesOn b' (taken_run (length b) (length out) (view b') (view out') (drop i ks)) c → GoesOn b (taken_on b out ks) c
 
 module _ (b out outcomes : List ℕ) (ks : List Step) where
   pub none_done : SoFar b out outcomes ks 0 b out outcomes
-  none_done = record { words = refl; output = refl; noted = refl; fields = λ j l. absurd (omega arith) }
+  none_done = record { words = refl; output = refl; noted = refl; reached = λ c g. g }
 
   pub one_done : (i r : ℕ) (b₁ out₁ outcomes₁ b₂ out₂ outcomes₂ : List ℕ) → SoFar b out outcomes ks i b₁ out₁ outcomes₁ → i < length ks → length b₁ ≡ length b → length out₁ ≡ length out
-      → Words (get_or ks i no_step) → TurnTaken b₁ out₁ outcomes₁ i (get_or ks i no_step) r b₂ out₂ outcomes₂ → SoFar b out outcomes ks (i + 1) b₂ out₂ outcomes₂
+      → TurnTaken b₁ out₁ outcomes₁ i (get_or ks i no_step) r b₂ out₂ outcomes₂ → GoesOn b₁ (taken_on b₁ out₁ (get_or ks i no_step ∷ [])) b₂
+      → SoFar b out outcomes ks (i + 1) b₂ out₂ outcomes₂
   unfolding words_run output_run taken_run lines
-  one_done i r b₁ out₁ outcomes₁ b₂ out₂ outcomes₂ h l e d w t =
+  one_done i r b₁ out₁ outcomes₁ b₂ out₂ outcomes₂ h l e d t g =
       let k = get_or ks i no_step in
       let c : drop i ks ≡ k ∷ drop (suc i) ks = drop-cons ks i no_step l in
       rw (add-one i) (record {
         words = rw (t.1, e, d) (rw c at h.words);
         output = rw (t.1, t.2, e, d) (rw c at h.output);
         noted = rw (t.1, t.2, t.3, e, d) (rw c at h.noted);
-        fields = words_next ks i h.fields w;
+        reached = rw (t.1, t.2, e, d) (λ x f. (rw c at h.reached) x (then_goes_on b₁ b₂ x _ _ (rw (e, d) at g) f));
       })
 
-  pub all_done : (i : ℕ) (b' out' outcomes' : List ℕ) → SoFar b out outcomes ks i b' out' outcomes' → length ks ≤ i → length b' ≡ length b → AllTaken b out outcomes ks b' out' outcomes'
+  pub all_done : (i : ℕ) (b' out' outcomes' : List ℕ) → SoFar b out outcomes ks i b' out' outcomes' → length ks ≤ i → AllTaken b out outcomes ks b' out' outcomes'
   unfolding words_run output_run taken_run lines
-  all_done i b' out' outcomes' h l e =
+  all_done i b' out' outcomes' h l =
       let none : drop i ks ≡ [] = drop_of_length-le ks {i = i} l in
-      let w : view b' ≡ words_run (length b) (length out) (view b) ks = rw none at h.words in
       record {
-        words = w;
+        words = rw none at h.words;
         output = rw none at h.output;
         taken = taken_on b out ks;
         is = refl;
         noted = rw none at h.noted;
-        reached = run_goes_on b b' out ks (all_words ks (λ j m. h.fields j (omega arith))) e w;
+        reached = (rw none at h.reached) b' (none_goes_on b');
       }

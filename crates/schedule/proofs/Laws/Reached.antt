@@ -6,10 +6,11 @@ use Rattle.memory.specs.Word.{view}
 use Rattle.plans.specs.Walk.{Every}
 use Rattle.steps.specs.declared.sizes.Sizes.{Sizes}
 use Rattle.steps.specs.declared.step.Step.{Step}
+use Rattle.steps.specs.declared.outcome.Outcome.{Outcome}
 use Rattle.steps.specs.Refusal.{open_refusal}
 use Rattle.steps.specs.Taken.{Words, Taken, came_to}
 use Rattle.engine.specs.Step.{outcome_of, words_after, output_after}
-use Rattle.engine.specs.Reached.{GoesOn}
+use Rattle.engine.specs.Reached.{Reached, GoesOn}
 use Rattle.engine.specs.Laws.Reached.{At, next_at, of_bytes, as_bytes}
 use Rattle.schedule.specs.Listed.{words_run, taken_run, taken_on}
 
@@ -30,3 +31,19 @@ unfolding GoesOn
 run_goes_on b b' out ks words e q z h r =
     as_bytes z (length b) r.accepted (h ++ taken_on b out ks) (words_run (length b) (length out) (view b) ks) b' e q
     (run_at z (length b) (length out) r.accepted ks h (view b) (view out) (of_bytes z h b r) words)
+
+-- no step goes on from what was reached, and one list of steps after another
+pub none_goes_on : (b : List ℕ) → GoesOn b [] b
+unfolding GoesOn
+none_goes_on b z h r = rw append-nil r
+
+pub then_goes_on : (b b₁ b₂ : List ℕ) (ts us : List Taken) → GoesOn b ts b₁ → GoesOn b₁ us b₂ → GoesOn b (ts ++ us) b₂
+unfolding GoesOn
+then_goes_on b b₁ b₂ ts us f g z h r = subst (λ (x : List Taken). Reached z x b₂) (append_assoc h ts us) (g z (h ++ ts) (f z h r))
+
+-- one step, with what came of it
+pub turn_goes_on : (b b' out out' : List ℕ) (k : Step) (o : Outcome) → o ≡ outcome_of (length b) (view b) (length out) k
+    → view out' ≡ output_after (length b) (view b) (length out) k (view out) → GoesOn b (came_to k (length out) (view out) o (view out') ∷ []) b'
+    → GoesOn b (taken_on b out (k ∷ [])) b'
+unfolding taken_run
+turn_goes_on b b' out out' k o p q g = rw (p, q) at g

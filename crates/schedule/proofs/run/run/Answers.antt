@@ -7,7 +7,7 @@ loop-i-init c = none_done _ _ _ _
 
 pub loop-i-preserved : goal.loop-i-preserved
 loop-i-preserved c =
-    one_done _ _ _ _ _ _ _ _ _ _ _ _ c.loop-i.invariant c.loop-i-test.true (search rules) (search rules) c.turn.ensures.fields c.turn.ensures.turns
+    one_done _ _ _ _ _ _ _ _ _ _ _ _ c.loop-i.invariant c.loop-i-test.true (search rules) (search rules) c.turn.ensures.turns c.turn.ensures.reached
 
 pub returns : goal.returns
-returns c = all_done _ _ _ _ _ _ _ _ c.loop-i.invariant c.loop-i-test.false (search rules)
+returns c = all_done _ _ _ _ _ _ _ _ c.loop-i.invariant c.loop-i-test.false

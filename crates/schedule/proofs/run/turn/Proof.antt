@@ -1,5 +1,4 @@
 use Rattle.schedule.proofs.Laws.Listed.{turn_exits}
-use Rattle.steps.proofs.Laws.Taken.{fields_are_words}
 use borrow.Author.Rules.{rules}
 use Rattle.schedule.proofs.run.turn.Statement.{statement}
 use Rattle.schedule.proofs.run.turn.Tie as tie
@@ -12,5 +11,5 @@ turn_spec = tie.close (tie.spec
     (λ c. search rules)  -- same-length
     (λ c. search rules)  -- same-length-2
     (λ c. search rules)  -- same-length-3
-    (λ c. (search (turn_exits, rules), search (fields_are_words, rules)))  -- returns
+    (λ c. search (turn_exits, rules))  -- returns
     )
