@@ -16,7 +16,6 @@ use client::own::own_record;
 use client::part::{
     ITEM_WORDS, LAST_NODE_NUMBER, MOST_WRITTEN, Set, WRITES_COUNT, find, get_field, item_word,
 };
-use nodes::found::Found;
 use nodes::node::Node;
 
 // "a node with keys that don't rise or a level above 4 would be written"
@@ -54,8 +53,8 @@ fn new_one(part: &[u8], number: u64) -> usize
 {
     let at = find(part, Set::Writes, number);
     match at {
-        Found::At(_) => 0,
-        Found::Absent => 1,
+        Some(_) => 0,
+        None => 1,
     }
 }
 
@@ -89,8 +88,8 @@ fn version_in(part: &[u8], number: u64) -> u64
 {
     let at = find(part, Set::Reads, number);
     match at {
-        Found::At(i) => version_at(part, i),
-        Found::Absent => {
+        Some(i) => version_at(part, i),
+        None => {
             let l = copied(part, number);
             let n = l.node;
             n.version
@@ -105,11 +104,11 @@ fn version_there(part: &[u8], number: u64) -> bool
 {
     let at = find(part, Set::Reads, number);
     match at {
-        Found::At(i) => {
+        Some(i) => {
             let version = version_at(part, i);
             version <= 4294967295
         }
-        Found::Absent => !has(part, Set::Writes, number),
+        None => !has(part, Set::Writes, number),
     }
 }
 

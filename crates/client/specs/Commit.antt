@@ -1,7 +1,7 @@
 -- Tests of a client's sets: of what was found, of an item.
 use Rattle.std.specs.Prelude.{Bool, true, false, ℕ, eqb}
-use Rattle.nodes.specs.declared.found.Found.{Found}
-use Rattle.nodes.specs.declared.found.Found.TheVariants.{At, Absent}
+use Rattle.nodes.specs.Found.{Found}
+use Rattle.std.specs.Prelude.{Some, None}
 use Rattle.client.specs.declared.part.Set.{Set}
 use Rattle.client.specs.Layout.{ClientWord, item}
 use Rattle.client.specs.Record.{by_number}
@@ -9,8 +9,8 @@ use Rattle.client.specs.Sets.{number_at}
 
 -- was it found
 abbrev pub is_at : Found → Bool
-is_at (At i) = true
-is_at Absent = false
+is_at (Some i) = true
+is_at None = false
 
 module _ (m : ClientWord → ℕ) where
   -- is item i an inner node; word 1 of an item is the kind

@@ -2,8 +2,8 @@
 use Rattle.std.specs.Prelude.{ℕ}
 use Rattle.layout.specs.Sweep.{sweep}
 use Rattle.nodes.specs.declared.node.Node.{Node}
-use Rattle.nodes.specs.declared.found.Found.{Found}
-use Rattle.nodes.specs.declared.found.Found.TheVariants.{At, Absent}
+use Rattle.nodes.specs.Found.{Found}
+use Rattle.std.specs.Prelude.{Some, None}
 use Rattle.nodes.specs.Name.{server_of}
 use Rattle.client.specs.declared.part.Set.TheVariants.{Reads, Copies}
 use Rattle.client.specs.Layout.{client_words, meta_states, limit}
@@ -14,13 +14,13 @@ use Rattle.client.specs.Bounds.{most_servers}
 
 -- to an empty place; "when full, a node isn't copied"
 abbrev pub to_empty : ℕ → Node → Found → PartStep
-to_empty x r (At i) = put_item Copies i x r
-to_empty x r Absent = nothing
+to_empty x r (Some i) = put_item Copies i x r
+to_empty x r None = nothing
 
 -- to the node's own place, else to an empty one
 abbrev pub to_place : ℕ → Node → Found → Found → PartStep
-to_place x r (At i) e = put_item Copies i x r
-to_place x r Absent e = to_empty x r e
+to_place x r (Some i) e = put_item Copies i x r
+to_place x r None e = to_empty x r e
 
 -- a node's copy goes to its own place, else to the first empty one (its number is 0), else nowhere
 unfoldable pub copy_node : ℕ → Node → PartStep
@@ -28,8 +28,8 @@ copy_node x r m = to_place x r (find m Copies x) (find m Copies 0) m
 
 -- ---- dropped: what stands at a place, if it was found
 abbrev pub drop_at : Found → PartStep
-drop_at (At i) = put_number Copies i 0
-drop_at Absent = nothing
+drop_at (Some i) = put_number Copies i 0
+drop_at None = nothing
 
 -- the copy of the inner node with the number x
 unfoldable pub drop_node : ℕ → PartStep

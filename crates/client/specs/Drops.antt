@@ -2,8 +2,8 @@
 use Rattle.std.specs.Prelude.{List, [], ◌∷◌, ℕ, suc}
 use Rattle.layout.specs.Space.{Put}
 use Rattle.layout.specs.Step.{and_then}
-use Rattle.nodes.specs.declared.found.Found.{Found}
-use Rattle.nodes.specs.declared.found.Found.TheVariants.{At, Absent}
+use Rattle.nodes.specs.Found.{Found}
+use Rattle.std.specs.Prelude.{Some, None}
 use Rattle.client.specs.declared.part.Set.TheVariants.{Reads}
 use Rattle.client.specs.Layout.{ClientWord, client_words}
 use Rattle.client.specs.Copies.{drop_object, drop_reads}
@@ -20,8 +20,8 @@ drop_used us m = and_then client_words drop_reads (drop_each us) m
 
 -- the version of an object that was read; a rule that uses it has judged that it is there (`Fits.read_fits`)
 abbrev pub version_of : (ClientWord → ℕ) → Found → ℕ
-version_of m (At i) = (record_at m Reads i).version
-version_of m Absent = 0
+version_of m (Some i) = (record_at m Reads i).version
+version_of m None = 0
 
 -- "a written version becomes the one read plus 1"
 unfoldable pub next_version : (ClientWord → ℕ) → ℕ → ℕ

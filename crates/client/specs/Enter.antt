@@ -2,8 +2,8 @@
 use Rattle.std.specs.Prelude.{cond, List, [], ◌∷◌, ℕ, ◌+◌, ltb, get_or}
 use Rattle.layout.specs.Sweep.{sweep}
 use Rattle.nodes.specs.declared.node.Node.{Node}
-use Rattle.nodes.specs.declared.found.Found.{Found}
-use Rattle.nodes.specs.declared.found.Found.TheVariants.{At, Absent}
+use Rattle.nodes.specs.Found.{Found}
+use Rattle.std.specs.Prelude.{Some, None}
 use Rattle.client.specs.declared.part.Set.TheVariants.{Reads, Writes}
 use Rattle.client.specs.Layout.{client_words, reads_count, writes_count, limit}
 use Rattle.client.specs.Sets.{count, find}
@@ -38,8 +38,8 @@ written_behind c x r = put_item Writes c x r then put_word writes_count (c + 1)
 -- a write replaces an earlier one of the same object, or comes behind the others. There is always room: object 49 has ended the step
 -- by reason 4 (`last_questions`)
 abbrev pub enter_at : ℕ → Node → ℕ → Found → PartStep
-enter_at x r c (At i) = put_item Writes i x r
-enter_at x r c Absent = cond (ltb c (limit Writes)) (written_behind c x r) nothing
+enter_at x r c (Some i) = put_item Writes i x r
+enter_at x r c None = cond (ltb c (limit Writes)) (written_behind c x r) nothing
 
 -- x enters the write set with the record r
 unfoldable pub enter_write : ℕ → Node → PartStep

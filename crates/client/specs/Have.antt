@@ -5,8 +5,8 @@ use Rattle.base.specs.Test.{one_if}
 use Rattle.memory.specs.Word.{view}
 use Rattle.memory.specs.Bit.{bit}
 use Rattle.nodes.specs.declared.node.Node.{Node}
-use Rattle.nodes.specs.declared.found.Found.{Found}
-use Rattle.nodes.specs.declared.found.Found.TheVariants.{At, Absent}
+use Rattle.nodes.specs.Found.{Found}
+use Rattle.std.specs.Prelude.{Some, None}
 use Rattle.nodes.specs.Node.{free_node}
 use Rattle.nodes.specs.Stored.{node_at}
 use Rattle.nodes.specs.Range.{node_in_range}
@@ -74,8 +74,8 @@ module _ (m : ClientWord → ℕ) where
 
   -- the copy of an inner node at its place, if it has one
   abbrev pub copied_item : Found → Look
-  copied_item (At i) = copy (record_at m Copies i)
-  copied_item Absent = lacking
+  copied_item (Some i) = copy (record_at m Copies i)
+  copied_item None = lacking
 
   -- the copy of the inner node with the number x
   unfoldable pub copied_node : ℕ → Look
@@ -98,13 +98,13 @@ module _ (m : ClientWord → ℕ) where
 
   -- "else the read set, else the client's copies": x was looked for in the read set
   abbrev pub or_copied : ℕ → Found → Look
-  or_copied x (At i) = here (record_at m Reads i)
-  or_copied x Absent = copied x
+  or_copied x (Some i) = here (record_at m Reads i)
+  or_copied x None = copied x
 
   -- "An object is read from the write set, else the read set": x was looked for in the write set
   abbrev pub or_read : ℕ → Found → Look
-  or_read x (At i) = here (record_at m Writes i)
-  or_read x Absent = or_copied x (find m Reads x)
+  or_read x (Some i) = here (record_at m Writes i)
+  or_read x None = or_copied x (find m Reads x)
 
   -- the object with the number x
   unfoldable pub source : ℕ → Look

@@ -1,8 +1,8 @@
 -- What a transaction has read and written, item by item, and tests of all items.
 use Rattle.std.specs.Prelude.{Bool, true, false, ◌&&◌, ◌||◌, ℕ, zero, suc, eqb}
 use Rattle.nodes.specs.declared.node.Node.{Node}
-use Rattle.nodes.specs.declared.found.Found.{Found}
-use Rattle.nodes.specs.declared.found.Found.TheVariants.{At, Absent}
+use Rattle.nodes.specs.Found.{Found}
+use Rattle.std.specs.Prelude.{Some, None}
 use Rattle.client.specs.declared.part.Set.{Set}
 use Rattle.client.specs.declared.part.Set.TheVariants.{Reads, Writes}
 use Rattle.client.specs.Layout.{ClientWord}
@@ -31,8 +31,8 @@ module _ (m : ClientWord → ℕ) where
 
   -- does the test hold of the object's record in the set
   abbrev pub of_record : Set → (Node → Bool) → Found → Bool
-  of_record s f (At i) = f (record_at m s i)
-  of_record s f Absent = false
+  of_record s f (Some i) = f (record_at m s i)
+  of_record s f None = false
 
   -- is the object inner in the set
   unfoldable pub inner_in : Set → ℕ → Bool

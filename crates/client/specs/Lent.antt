@@ -4,8 +4,8 @@ use Rattle.std.proofs.Math.Seq.{paste}
 use Rattle.std.specs.Borrow.{Bor, MutBor}
 use denote.Triple.Both.{Both}
 use Rattle.nodes.specs.declared.node.Node.{Node}
-use Rattle.nodes.specs.declared.found.Found.{Found}
-use Rattle.nodes.specs.declared.found.Found.TheVariants.{At, Absent}
+use Rattle.nodes.specs.Found.{Found}
+use Rattle.std.specs.Prelude.{Some, None}
 use Rattle.client.specs.Sets.{first_of}
 use Rattle.nodes.specs.Stored.{node_at, words_of}
 use Rattle.client.specs.Bounds.{end_of_numbers, used_most, used_room, own_most, own_room}
@@ -55,8 +55,8 @@ unfoldable pub own_at : List ℕ → ℕ → Node → ℕ → List ℕ
 own_at w x r i = paste w (item_words * i + 1) (x ∷ words_of r) item_words
 
 abbrev pub own_entered : List ℕ → ℕ → Node → Found → List ℕ
-own_entered w x r (At i) = own_at w x r i
-own_entered w x r Absent = set (own_at w x r (own_count w)) 0 (own_count w + 1)
+own_entered w x r (Some i) = own_at w x r i
+own_entered w x r None = set (own_at w x r (own_count w)) 0 (own_count w + 1)
 
 unfoldable pub own_put : List ℕ → ℕ → Node → List ℕ
 own_put w x r = own_entered w x r (own_find w x)

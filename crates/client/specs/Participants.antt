@@ -5,8 +5,8 @@ use Rattle.memory.specs.Bit.{bit, put_bit}
 use Rattle.layout.specs.Space.{Put, put}
 use Rattle.nodes.specs.Name.{server_of}
 use Rattle.nodes.specs.States.{present}
-use Rattle.nodes.specs.declared.found.Found.{Found}
-use Rattle.nodes.specs.declared.found.Found.TheVariants.{At, Absent}
+use Rattle.nodes.specs.Found.{Found}
+use Rattle.std.specs.Prelude.{Some, None}
 use Rattle.client.specs.declared.part.Set.TheVariants.{Reads, Writes}
 use Rattle.client.specs.Layout.{ClientWord, phase, participants, commit_phase}
 use Rattle.client.specs.Record.{by_number, second_slot}
@@ -39,8 +39,8 @@ module _ (m : ClientWord → ℕ) where
 
   -- the states in the metadata's record, by its place in the read set
   abbrev pub states_in : Found → ℕ
-  states_in (At i) = second_slot (record_at m Reads i)
-  states_in Absent = 0
+  states_in (Some i) = second_slot (record_at m Reads i)
+  states_in None = 0
 
   -- the homes that the first i read items make take part
   abbrev pub called_homes : ℕ → ℕ

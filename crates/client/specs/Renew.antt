@@ -3,8 +3,8 @@
 use Rattle.std.specs.Prelude.{cond, ◌&&◌, [], ◌∷◌, ℕ, zero, suc, ◌+◌, ◌-◌, eqb, ltb}
 use Rattle.layout.specs.Sweep.{sweep}
 use Rattle.nodes.specs.declared.node.Node.{Node}
-use Rattle.nodes.specs.declared.found.Found.{Found}
-use Rattle.nodes.specs.declared.found.Found.TheVariants.{At, Absent}
+use Rattle.nodes.specs.Found.{Found}
+use Rattle.std.specs.Prelude.{Some, None}
 use Rattle.nodes.specs.Name.{server_of, slot_of}
 use Rattle.nodes.specs.Flags.{with_flag}
 use Rattle.client.specs.declared.part.Set.TheVariants.{Reads, Writes}
@@ -55,8 +55,8 @@ module _ (m : ClientWord → ℕ) where
 
 -- the copy of a written inner node, if there is one of that rank
 abbrev pub renew_found : (ClientWord → ℕ) → Found → PartStep
-renew_found m (At i) = copy_node (number_at m Writes i) (renewed m i)
-renew_found m Absent = nothing
+renew_found m (Some i) = copy_node (number_at m Writes i) (renewed m i)
+renew_found m None = nothing
 
 -- "then written inner nodes by name": the one of rank k + 1
 unfoldable pub renew_nth : ℕ → PartStep
@@ -64,8 +64,8 @@ renew_nth k m = renew_found m (ranked m (k + 1)) m
 
 -- the copy of the metadata as write item i has it, if it is written; word 19 is the root's name
 abbrev pub meta_found : (ClientWord → ℕ) → Found → PartStep
-meta_found m (At i) = put_fields meta_fields (m (item Writes i 20) ∷ m (item Writes i 19) ∷ new_version m 0 ∷ [])
-meta_found m Absent = nothing
+meta_found m (Some i) = put_fields meta_fields (m (item Writes i 20) ∷ m (item Writes i 19) ∷ new_version m 0 ∷ [])
+meta_found m None = nothing
 
 -- the metadata, if it is written
 unfoldable pub renew_meta : PartStep

@@ -3,8 +3,8 @@ use Rattle.std.specs.Prelude.{cond, List, ℕ, zero, suc, eqb, leb}
 use Rattle.memory.specs.Word.{view}
 use Rattle.layout.specs.Space.{tab, mem}
 use Rattle.nodes.specs.declared.node.Node.{Node}
-use Rattle.nodes.specs.declared.found.Found.{Found}
-use Rattle.nodes.specs.declared.found.Found.TheVariants.{At, Absent}
+use Rattle.nodes.specs.Found.{Found}
+use Rattle.std.specs.Prelude.{Some, None}
 use Rattle.client.specs.declared.part.Set.{Set}
 use Rattle.client.specs.declared.part.Set.TheVariants.{Reads, Writes, Copies}
 use Rattle.client.specs.Layout.{ClientWord, client_words, client_block, item, reads_count, writes_count, limit, record_words}
@@ -21,13 +21,13 @@ at_most l c = cond (leb c l) c l
 
 -- the first if it is found, else the second
 abbrev pub or_found : Found → Found → Found
-or_found (At i) y = At i
-or_found Absent y = y
+or_found (Some i) y = Some i
+or_found None y = y
 
 -- of f 0, .. , f (n - 1) the first that is x
 unfoldable pub first_of : (ℕ → ℕ) → ℕ → ℕ → Found
-first_of f zero x = Absent
-first_of f (suc n) x = or_found (first_of f n x) (cond (eqb (f n) x) (At n) Absent)
+first_of f zero x = None
+first_of f (suc n) x = or_found (first_of f n x) (cond (eqb (f n) x) (Some n) None)
 
 module _ (m : ClientWord → ℕ) where
   -- how many items a set has; a place among the copies may be empty, its number is then 0

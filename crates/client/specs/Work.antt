@@ -1,7 +1,7 @@
 -- The work step: the waiting operation's plan over what the client has, and the last questions before the answer.
 use Rattle.std.specs.Prelude.{Bool, true, false, cond, ◌&&◌, ◌||◌, not, List, [], ◌∷◌, ℕ, zero, suc, ◌+◌, ◌-◌, eqb, leb, ltb}
-use Rattle.nodes.specs.declared.found.Found.{Found}
-use Rattle.nodes.specs.declared.found.Found.TheVariants.{At, Absent}
+use Rattle.nodes.specs.Found.{Found}
+use Rattle.std.specs.Prelude.{Some, None}
 use Rattle.operations.specs.Object.{Ask, Ans, Writes}
 use Rattle.operations.specs.Map.{Op, insert, lookup, delete, next, previous, migrate, list}
 use Rattle.operations.specs.Operation.{reading, all_fit?}
@@ -46,13 +46,13 @@ module _ (m : ClientWord → ℕ) where
 
   -- the version of an object that is read, or comes into use in this step; what is written is one of these
   abbrev pub version_in : ℕ → Found → ℕ
-  version_in x (At i) = (record_at m set.Reads i).version
-  version_in x Absent = (copied m x).node.version
+  version_in x (Some i) = (record_at m set.Reads i).version
+  version_in x None = (copied m x).node.version
 
   -- refusal 10 for that version: it is one of 32 bits; "a written object's read" is there, or the object comes into use in this step
   abbrev pub version_there : ℕ → Found → Bool
-  version_there x (At i) = leb (record_at m set.Reads i).version last_version
-  version_there x Absent = not (has m set.Writes x)
+  version_there x (Some i) = leb (record_at m set.Reads i).version last_version
+  version_there x None = not (has m set.Writes x)
 
   -- how many of these objects are not in the write set yet
   unfoldable pub count_new : List Entry → ℕ

@@ -13,16 +13,15 @@ use crate::part::{
     FIRST_FLAG_NUMBER, LAST_NODE_NUMBER, Set, count, find, item_word, number_at, record_at,
 };
 use memory::bits::with;
-use nodes::found::Found;
 use nodes::name::Name;
 use nodes::states::present;
 
-pub fn is_at(at: Found) -> bool
+pub fn is_at(at: Option<usize>) -> bool
     ensures { result ≡ is_at at }
 {
     match at {
-        Found::At(_) => true,
-        Found::Absent => false,
+        Some(_) => true,
+        None => false,
     }
 }
 
@@ -120,11 +119,11 @@ pub fn states_read(part: &[u8]) -> u64
     ensures { result ≡ states_read (held part.now) }
 {
     match find(part, Set::Reads, 0) {
-        Found::At(i) => {
+        Some(i) => {
             let r = record_at(part, Set::Reads, i);
             r.slots[1]
         }
-        Found::Absent => 0,
+        None => 0,
     }
 }
 

@@ -13,7 +13,6 @@ use crate::part::{
     FIRST_FLAG_NUMBER, LAST_NODE_NUMBER, META_STATES, Set, count, drop_vector, find, number_at,
     set_field, set_item, set_number,
 };
-use nodes::found::Found;
 use nodes::name::Name;
 use nodes::node::Node;
 
@@ -24,16 +23,16 @@ pub fn copy_node(part: &mut [u8], number: u64, n: Node)
 {
     let own = find(part, Set::Copies, number);
     match own {
-        Found::At(i) => {
+        Some(i) => {
             set_item(part, Set::Copies, i, number, n);
             return;
         }
-        Found::Absent => {}
+        None => {}
     }
     let empty = find(part, Set::Copies, 0);
     match empty {
-        Found::At(i) => set_item(part, Set::Copies, i, number, n),
-        Found::Absent => {}
+        Some(i) => set_item(part, Set::Copies, i, number, n),
+        None => {}
     }
 }
 
@@ -43,8 +42,8 @@ pub fn drop_node(part: &mut [u8], number: u64)
 {
     let at = find(part, Set::Copies, number);
     match at {
-        Found::At(i) => set_number(part, Set::Copies, i, 0),
-        Found::Absent => {}
+        Some(i) => set_number(part, Set::Copies, i, 0),
+        None => {}
     }
 }
 

@@ -13,7 +13,6 @@ use crate::part::{
     ITEM_WORDS, MOST_READ, MOST_WRITTEN, READS_COUNT, Set, WRITES_COUNT, count, find, set_field,
     set_item,
 };
-use nodes::found::Found;
 use nodes::node::Node;
 
 // An object with its record as read. Nothing is done where there are 96.
@@ -58,11 +57,11 @@ pub fn enter_write(part: &mut [u8], number: u64, n: Node)
 {
     let at = find(part, Set::Writes, number);
     match at {
-        Found::At(i) => {
+        Some(i) => {
             set_item(part, Set::Writes, i, number, n);
             return;
         }
-        Found::Absent => {}
+        None => {}
     }
     let c = count(part, Set::Writes);
     if c >= MOST_WRITTEN {

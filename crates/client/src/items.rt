@@ -8,7 +8,6 @@ ghost use Rattle.client.specs.Participants.{at_home};
 ghost use Rattle.client.specs.Layout.{ClientPart};
 
 use crate::part::{FIRST_FLAG_NUMBER, LAST_NODE_NUMBER, Set, find, record_at};
-use nodes::found::Found;
 use nodes::name::Name;
 use nodes::node::Node;
 
@@ -32,8 +31,8 @@ pub fn has(part: &[u8], set: Set, number: u64) -> bool
 {
     let at = find(part, set, number);
     match at {
-        Found::At(_) => true,
-        Found::Absent => false,
+        Some(_) => true,
+        None => false,
     }
 }
 
@@ -44,8 +43,8 @@ pub fn inner_in(part: &[u8], set: Set, number: u64) -> bool
 {
     let at = find(part, set, number);
     match at {
-        Found::At(i) => is_inner(number, record_at(part, set, i)),
-        Found::Absent => false,
+        Some(i) => is_inner(number, record_at(part, set, i)),
+        None => false,
     }
 }
 
@@ -84,10 +83,10 @@ pub fn version_read(part: &[u8], number: u64) -> u64
 {
     let at = find(part, Set::Reads, number);
     match at {
-        Found::At(i) => {
+        Some(i) => {
             let read = record_at(part, Set::Reads, i);
             read.version
         }
-        Found::Absent => 0,
+        None => 0,
     }
 }

@@ -15,7 +15,6 @@ use crate::part::{
 };
 use crate::range::{metadata, single};
 use memory::bits::has;
-use nodes::found::Found;
 use nodes::name::Name;
 use nodes::standing::{in_range_at, kind_at, slot_at, version_at};
 use nodes::states::metadata_fits;
@@ -40,8 +39,8 @@ fn copied_node(part: &[u8], number: u64) -> Look
     ensures { result ≡ copied_node (held part.now) number }
 {
     match find(part, Set::Copies, number) {
-        Found::At(i) => copy(record_at(part, Set::Copies, i)),
-        Found::Absent => lacking(),
+        Some(i) => copy(record_at(part, Set::Copies, i)),
+        None => lacking(),
     }
 }
 
@@ -82,20 +81,20 @@ fn in_sets(part: &[u8], number: u64) -> Stand
     ensures { InSets part.now number result }
 {
     match find(part, Set::Writes, number) {
-        Found::At(i) => {
+        Some(i) => {
             return Stand {
                 how: How::Here,
                 at: record_start(Set::Writes, i),
             };
         }
-        Found::Absent => {}
+        None => {}
     }
     match find(part, Set::Reads, number) {
-        Found::At(i) => Stand {
+        Some(i) => Stand {
             how: How::Here,
             at: record_start(Set::Reads, i),
         },
-        Found::Absent => Stand {
+        None => Stand {
             how: How::Lacking,
             at: 0,
         },
@@ -114,11 +113,11 @@ pub fn node_stands(part: &[u8], number: u64) -> Stand
         return s;
     }
     match find(part, Set::Copies, number) {
-        Found::At(i) => Stand {
+        Some(i) => Stand {
             how: How::Copied,
             at: record_start(Set::Copies, i),
         },
-        Found::Absent => Stand {
+        None => Stand {
             how: How::Lacking,
             at: 0,
         },

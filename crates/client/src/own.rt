@@ -9,7 +9,6 @@ ghost use Rattle.client.specs.Record.{first_slot};
 use crate::part::ITEM_WORDS;
 use crate::record::{item_words, record_in};
 use nodes::arrays::blit;
-use nodes::found::Found;
 use nodes::node::Node;
 
 // The record of own write i.
@@ -29,7 +28,7 @@ pub fn own_value(own: &[u64], i: usize) -> u64
 }
 
 // The own write of the object with that number.
-pub fn find_own(own: &[u64], number: u64) -> Found
+pub fn find_own(own: &[u64], number: u64) -> Option<usize>
     requires { OwnFits own.now }
     ensures value { result ≡ own_find own.now number }
     ensures within { Inside result own_most }
@@ -38,11 +37,11 @@ pub fn find_own(own: &[u64], number: u64) -> Found
     let mut i: usize = 0;
     while i < n {
         if own[ITEM_WORDS * i + 1] == number {
-            return Found::At(i);
+            return Some(i);
         }
         i += 1;
     }
-    Found::Absent
+    None
 }
 
 fn set_own(own: &mut [u64], i: usize, number: u64, n: Node)
@@ -60,8 +59,8 @@ pub fn put_own(own: &mut [u64], number: u64, n: Node)
     ensures fits { OwnFits own.new }
 {
     match find_own(own, number) {
-        Found::At(i) => set_own(own, i, number, n),
-        Found::Absent => {
+        Some(i) => set_own(own, i, number, n),
+        None => {
             let count = own[0];
             set_own(own, count as usize, number, n);
             own[0] = count + 1;

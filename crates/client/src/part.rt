@@ -10,7 +10,6 @@ ghost use Rattle.client.specs.declared.part.Set.TheVariants.{Reads};
 
 use crate::record::vector_words;
 use memory::{read_word, write_word, write_words};
-use nodes::found::Found;
 use nodes::node::Node;
 use nodes::stored::{read_node, write_node};
 
@@ -243,7 +242,7 @@ pub fn count(part: &[u8], set: Set) -> usize
 }
 
 // The first item of a set with that number.
-pub fn find(part: &[u8], set: Set, number: u64) -> Found
+pub fn find(part: &[u8], set: Set, number: u64) -> Option<usize>
     requires { ClientPart part.now }
     ensures value { result ≡ find (held part.now) set number }
     ensures within { Inside result (limit set) }
@@ -252,9 +251,9 @@ pub fn find(part: &[u8], set: Set, number: u64) -> Found
     let mut i: usize = 0;
     while i < n {
         if number_at(part, set, i) == number {
-            return Found::At(i);
+            return Some(i);
         }
         i += 1;
     }
-    Found::Absent
+    None
 }

@@ -16,7 +16,6 @@ use crate::part::{
     get_field, item_word, number_at, record_at, set_fields, set_vector,
 };
 use crate::vector::{has_vector, vector_copy};
-use nodes::found::Found;
 use nodes::name::Name;
 use nodes::node::Node;
 use nodes::vector::with_taken;
@@ -110,7 +109,7 @@ fn rank(part: &[u8], i: usize) -> usize
 }
 
 // The write item of a rank.
-fn ranked(part: &[u8], k: usize) -> Found
+fn ranked(part: &[u8], k: usize) -> Option<usize>
     requires { ClientPart part.now }
     ensures value { result ≡ ranked (held part.now) k }
     ensures within { Inside result (limit Writes) }
@@ -119,11 +118,11 @@ fn ranked(part: &[u8], k: usize) -> Found
     let mut i: usize = 0;
     while i < n {
         if rank(part, i) == k {
-            return Found::At(i);
+            return Some(i);
         }
         i += 1;
     }
-    Found::Absent
+    None
 }
 
 // The copy of write item i.
@@ -143,12 +142,12 @@ fn renew_nth(part: &mut [u8], k: usize)
 {
     let at = ranked(part, k + 1);
     match at {
-        Found::At(i) => {
+        Some(i) => {
             let number = number_at(part, Set::Writes, i);
             let n = renewed(part, i);
             copy_node(part, number, n);
         }
-        Found::Absent => {}
+        None => {}
     }
 }
 
@@ -158,14 +157,14 @@ fn renew_meta(part: &mut [u8])
 {
     let at = find(part, Set::Writes, 0);
     match at {
-        Found::At(i) => {
+        Some(i) => {
             let root = item_word(part, Set::Writes, i, 19);
             let version = new_version(part, 0);
             let states = item_word(part, Set::Writes, i, 20);
             let fields = [states, root, version];
             set_fields(part, META_STATES, &fields);
         }
-        Found::Absent => {}
+        None => {}
     }
 }
 

@@ -10,7 +10,6 @@ ghost use Rattle.client.specs.declared.part.Set.TheVariants.{Reads};
 use client::items::{is_home, is_inner};
 use client::part::{Set, find, number_at, record_at};
 use client::range::kind_fits;
-use nodes::found::Found;
 use nodes::node::Node;
 
 // An object read: metadata, or a node read as inner; its version, or a flag's value; is it written, and as an inner node; is its kind in
@@ -66,7 +65,7 @@ fn as_written(part: &[u8], number: u64) -> Written
 {
     let at = find(part, Set::Writes, number);
     match at {
-        Found::At(i) => {
+        Some(i) => {
             let node = record_at(part, Set::Writes, i);
             Written {
                 there: true,
@@ -74,7 +73,7 @@ fn as_written(part: &[u8], number: u64) -> Written
                 fits: kind_fits(number, node),
             }
         }
-        Found::Absent => Written {
+        None => Written {
             there: false,
             inner: false,
             fits: true,

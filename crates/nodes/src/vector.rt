@@ -5,7 +5,6 @@ ghost use Rattle.nodes.specs.Vector.{free_from, first_free};
 ghost use Rattle.nodes.specs.Flags.{bits, otherwise, flags_in, with_flag};
 ghost use Rattle.nodes.specs.Bounds.{end_of_slots, word_bits};
 
-use crate::found::Found;
 
 // the lowest bit that is 0, from bit p on, or 64
 fn first_zero(x: u64, p: u32) -> u32
@@ -18,7 +17,7 @@ fn first_zero(x: u64, p: u32) -> u32
 }
 
 // the lowest free slot from the slot `from` on
-fn free_from(words: [u64; 16], slots: usize, from: usize) -> Found
+fn free_from(words: [u64; 16], slots: usize, from: usize) -> Option<usize>
     requires { from ≤ end_of_slots }
     ensures value { result ≡ found (free_from from (flags_in slots words)) }
     ensures inside { Inside result slots }
@@ -31,26 +30,26 @@ fn free_from(words: [u64; 16], slots: usize, from: usize) -> Found
         if t < 64 {
             let slot = 64 * w + t as usize;
             if slot < slots {
-                return Found::At(slot);
+                return Some(slot);
             }
-            return Found::Absent;
+            return None;
         }
         w += 1;
         p = 0;
     }
-    Found::Absent
+    None
 }
 
 // "it takes the first free slot above the split node's slot number, going round"
-pub fn first_free(words: [u64; 16], slots: usize, slot: usize) -> Found
+pub fn first_free(words: [u64; 16], slots: usize, slot: usize) -> Option<usize>
     requires { slot < end_of_slots }
     ensures value { result ≡ found (first_free slot (flags_in slots words)) }
     ensures inside { Inside result slots }
 {
     let above = free_from(words, slots, slot + 1);
     match above {
-        Found::At(_) => above,
-        Found::Absent => free_from(words, slots, 0),
+        Some(_) => above,
+        None => free_from(words, slots, 0),
     }
 }
 

@@ -2,8 +2,8 @@
 use Rattle.std.specs.Prelude.{◌≡◌, Bool, true, false, cond, List, [], ◌∷◌, ℕ, ◌+◌, ◌-◌, ◌≤◌, ◌<◌, length, get_or, set}
 use Rattle.std.proofs.Math.Option.{Option, none, some}
 use Rattle.nodes.specs.declared.node.Node.{Node}
-use Rattle.nodes.specs.declared.found.Found.{Found}
-use Rattle.nodes.specs.declared.found.Found.TheVariants.{At, Absent}
+use Rattle.nodes.specs.Found.{Found}
+use Rattle.std.specs.Prelude.{Some, None}
 use Rattle.nodes.specs.Name.{server_of}
 use Rattle.nodes.specs.Node.{free_node}
 use Rattle.nodes.specs.Stored.{node_at}
@@ -44,8 +44,8 @@ write_of [] o = none
 write_of (e ∷ w) o = cond (hit e.0 o) (some e.1) (write_of w o)
 
 abbrev pub own_value : List ℕ → Obj → Found → Option Val
-own_value x o (At i) = some (value_of o (own_record x i))
-own_value x o Absent = none
+own_value x o (Some i) = some (value_of o (own_record x i))
+own_value x o None = none
 
 -- no own write has more than 14 keys
 abbrev pub Few : List ℕ → Type 0
@@ -60,7 +60,7 @@ pub record OwnKept (x : List ℕ) : Type 0 where
 pub record OwnGood (x : List ℕ) : Type 0 where
   pub fit : OwnFits x
   pub few : Few x
-  pub small : (o : Obj) (i : ℕ) → own_find x (number o) ≡ At i → Small o (own_record x i)
+  pub small : (o : Obj) (i : ℕ) → own_find x (number o) ≡ Some i → Small o (own_record x i)
 
 -- it holds the writes w: by object, and entry for entry
 pub record HoldsWrites (slots : ℕ) (x : List ℕ) (w : Writes) : Type 0 where

@@ -1,6 +1,6 @@
 -- A slot looked for on servers in a row, and taken.
 use Rattle.std.specs.Prelude.{◌≡◌, true, List, ◌∷◌, ℕ, ◌+◌, ◌≤◌, length, get_or}
-use Rattle.nodes.specs.declared.found.Found.{Found}
+use Rattle.nodes.specs.Found.{Found}
 use Rattle.nodes.specs.Found.{Inside}
 use Rattle.nodes.specs.Name.{name, server_of, slot_of}
 use Rattle.nodes.specs.Placement.{row}

@@ -1,8 +1,8 @@
 -- A look at one server: its vector, and the slot that is chosen there.
 use Rattle.std.specs.Prelude.{◌≡◌, true, cond, List, ◌∷◌, ℕ, length}
 use Rattle.std.proofs.Math.Option.{Option, none, some}
-use Rattle.nodes.specs.declared.found.Found.{Found}
-use Rattle.nodes.specs.declared.found.Found.TheVariants.{At, Absent}
+use Rattle.nodes.specs.Found.{Found}
+use Rattle.std.specs.Prelude.{Some, None}
 use Rattle.nodes.specs.Found.{Inside}
 use Rattle.operations.specs.Object.{vector, fetched, Val, flags, Writes}
 use Rattle.operations.specs.Slot.{chosen, search}
@@ -38,8 +38,8 @@ unfoldable pub passes : (ClientWord → ℕ) → ℕ → Stop
 passes m s = cond (is_fetched m s) Going (LacksVector s)
 
 abbrev pub slot_in : Found → Option ℕ
-slot_in (At i) = some i
-slot_in Absent = none
+slot_in (Some i) = some i
+slot_in None = none
 
 -- a look at the server s, the next of those that are looked at: the search goes on with the slot, or with the others
 pub record Looked (slots : ℕ) (m : ClientWord → ℕ) (x u : List ℕ) (s slot : ℕ) (t : Stop) (f : Found) (u' : List ℕ) : Type 0 where

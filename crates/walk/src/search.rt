@@ -17,7 +17,6 @@ use crate::walk::{Stop, ask_meta, going, over, pop_used};
 use client::own::own_record;
 use client::part::{FIRST_FLAG_NUMBER, ITEM_WORDS};
 use client::vector::{has_vector, is_fetched, seen_words, vector_fits};
-use nodes::found::Found;
 use nodes::name::Name;
 use nodes::placement::server_at;
 use nodes::states::is_open;
@@ -95,7 +94,7 @@ fn passed(part: &[u8], s: usize) -> Stop
 #[derive(Clone, Copy)]
 struct Chosen {
     stop: Stop,
-    found: Found,
+    found: Option<usize>,
 }
 
 fn look_on(
@@ -115,15 +114,15 @@ fn look_on(
     if !on {
         return Chosen {
             stop,
-            found: Found::Absent,
+            found: None,
         };
     }
     let seen = seen_words(part, s);
     let words = count_own(own, s, seen);
     let found = first_free(words, slots, slot);
     match found {
-        Found::At(_) => Chosen { stop, found },
-        Found::Absent => Chosen {
+        Some(_) => Chosen { stop, found },
+        None => Chosen {
             stop: passed(part, s),
             found,
         },
@@ -148,7 +147,7 @@ fn look_next(
     if !open {
         return Chosen {
             stop: Stop::Going,
-            found: Found::Absent,
+            found: None,
         };
     }
     look_on(part, slots, own, used, s, slot)
@@ -196,13 +195,13 @@ fn search(
         }
         let found = c.found;
         match found {
-            Found::At(j) => {
+            Some(j) => {
                 return Taken {
                     stop,
                     name: slot_name(s, j),
                 };
             }
-            Found::Absent => {
+            None => {
                 i += 1;
             }
         }

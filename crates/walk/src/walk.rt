@@ -14,7 +14,6 @@ use client::lookup::{flag_fits, flag_source, meta_fits, meta_source, node_stands
 use client::own::{find_own, own_record, own_value};
 use client::part::{FIRST_FLAG_NUMBER, MOST_READ, Set, count};
 use client::used::{is_used, push_used};
-use nodes::found::Found;
 use nodes::name::{Name, in_store};
 use nodes::node::Node;
 use nodes::stored::read_node;
@@ -237,11 +236,11 @@ fn see_in_store(part: &[u8], own: &[u64], used: &mut [u64], name: u64) -> Seen
     let number = node_number(name);
     let f = find_own(own, number);
     match f {
-        Found::At(i) => Seen {
+        Some(i) => Seen {
             stop: Stop::Going,
             node: own_record(own, i),
         },
-        Found::Absent => {
+        None => {
             let p = place_node(part, used, name);
             taken_out(part, p)
         }
@@ -293,10 +292,10 @@ pub fn see_flag(part: &[u8], slots: usize, own: &[u64], used: &mut [u64], name: 
     let number = flag_number(name);
     let f = find_own(own, number);
     match f {
-        Found::At(i) => Valued {
+        Some(i) => Valued {
             stop: Stop::Going,
             value: own_value(own, i),
         },
-        Found::Absent => ask_flag(part, used, name),
+        None => ask_flag(part, used, name),
     }
 }

@@ -8,8 +8,8 @@ use Prim.Native.Nat.{ℕ, zero, suc, ◌+◌, ◌*◌, ◌≤◌, ◌<◌}
 use native.Mathlib.Omega.{arith}
 use borrow.Author.Tests.{not-true, not-false, lt-ltb, le-ltb, le-leb, lt-leb}
 use Rattle.nodes.specs.declared.node.Node.{Node}
-use Rattle.nodes.specs.declared.found.Found.{Found}
-use Rattle.nodes.specs.declared.found.Found.TheVariants.{At, Absent}
+use Rattle.nodes.specs.Found.{Found}
+use Rattle.std.specs.Prelude.{Some, None}
 use Rattle.nodes.specs.Place.{rises}
 use Rattle.nodes.specs.Node.{keys_of}
 use Rattle.nodes.specs.Stored.{node_of}
@@ -79,11 +79,11 @@ pub ruleset fit_exits = (all_fitting, few_keys, one_fitting, one_astray)
 
 -- ---- reason 4
 module _ (m : ClientWord → ℕ) (y : ℕ) (f : Found) (p : f ≡ find m set.Writes y) where
-  pub not_new : (j : ℕ) → f ≡ At j → 0 ≡ new_one m y
+  pub not_new : (j : ℕ) → f ≡ Some j → 0 ≡ new_one m y
   unfolding new_one has
   not_new j e = rw (← p, e)
 
-  pub is_new : f ≡ Absent → 1 ≡ new_one m y
+  pub is_new : f ≡ None → 1 ≡ new_one m y
   unfolding new_one has
   is_new e = rw (← p, e)
 
@@ -131,10 +131,10 @@ unfolding record_at node_of tab
 version_word m s i v e = e
 
 module _ (m : ClientWord → ℕ) (y : ℕ) (f : Found) (p : f ≡ find m set.Reads y) where
-  pub version_read : (j v : ℕ) → f ≡ At j → v ≡ (record_at m set.Reads j).version → v ≡ version_in m y (find m set.Reads y)
+  pub version_read : (j v : ℕ) → f ≡ Some j → v ≡ (record_at m set.Reads j).version → v ≡ version_in m y (find m set.Reads y)
   version_read j v e q = rw (← p, e, q)
 
-  pub version_copied : (l : Look) → f ≡ Absent → l ≡ copied m y → l.node.version ≡ version_in m y (find m set.Reads y)
+  pub version_copied : (l : Look) → f ≡ None → l ≡ copied m y → l.node.version ≡ version_in m y (find m set.Reads y)
   version_copied l e q = rw (← p, e, q)
 
 pub ruleset version_exits = (version_read, version_copied)
@@ -187,10 +187,10 @@ pub ruleset staying = (all_staying, one_at_last)
 
 -- ---- refusal 10
 module _ (m : ClientWord → ℕ) (y : ℕ) where
-  pub read_there : (f : Found) → f ≡ find m set.Reads y → (j v : ℕ) → f ≡ At j → v ≡ (record_at m set.Reads j).version → leb v 4294967295 ≡ version_there m y (find m set.Reads y)
+  pub read_there : (f : Found) → f ≡ find m set.Reads y → (j v : ℕ) → f ≡ Some j → v ≡ (record_at m set.Reads j).version → leb v 4294967295 ≡ version_there m y (find m set.Reads y)
   read_there f p j v e q = rw (← p, e, q)
 
-  pub used_there : (f : Found) → f ≡ find m set.Reads y → (b : Bool) → f ≡ Absent → b ≡ has m set.Writes y → not b ≡ version_there m y (find m set.Reads y)
+  pub used_there : (f : Found) → f ≡ find m set.Reads y → (b : Bool) → f ≡ None → b ≡ has m set.Writes y → not b ≡ version_there m y (find m set.Reads y)
   used_there f p b e q = rw (← p, e, q)
 
   pub flag_there : 8192 < y → true ≡ there m y

@@ -12,8 +12,8 @@ use Rattle.memory.proofs.Laws.Bit.{put_twice, put_swap, put_none}
 use Rattle.nodes.specs.Name.{server_of}
 use Rattle.nodes.specs.States.{present}
 use Rattle.nodes.specs.declared.node.Node.{Node}
-use Rattle.nodes.specs.declared.found.Found.{Found}
-use Rattle.nodes.specs.declared.found.Found.TheVariants.{At, Absent}
+use Rattle.nodes.specs.Found.{Found}
+use Rattle.std.specs.Prelude.{Some, None}
 use Rattle.client.specs.declared.part.Set.{Set}
 use Rattle.client.specs.declared.part.Set.TheVariants.{Reads, Writes}
 use Rattle.client.specs.Layout.{ClientWord, item}
@@ -175,11 +175,11 @@ module _ (m : ClientWord → ℕ) where
 
   -- the states in the metadata read
   module _ (f : Found) (e : f ≡ find m Reads 0) where
-    pub states_there : (i x : ℕ) (r : Node) → f ≡ At i → r ≡ record_at m Reads i → x ≡ second_slot r → x ≡ states_read m
+    pub states_there : (i x : ℕ) (r : Node) → f ≡ Some i → r ≡ record_at m Reads i → x ≡ second_slot r → x ≡ states_read m
     unfolding states_read
     states_there i x r h q l = l ∙ ap second_slot q ∙ ap (states_in m) (sym h ∙ e)
 
-    pub states_unread : f ≡ Absent → 0 ≡ states_read m
+    pub states_unread : f ≡ None → 0 ≡ states_read m
     unfolding states_read
     states_unread h = ap (states_in m) (sym h ∙ e)
 

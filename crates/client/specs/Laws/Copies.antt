@@ -13,8 +13,8 @@ use Rattle.layout.proofs.Laws.Step.{changed_append}
 use Rattle.layout.specs.Sweep.{sweep}
 use Rattle.nodes.specs.Name.{server_of}
 use Rattle.nodes.specs.declared.node.Node.{Node}
-use Rattle.nodes.specs.declared.found.Found.{Found}
-use Rattle.nodes.specs.declared.found.Found.TheVariants.{At, Absent}
+use Rattle.nodes.specs.Found.{Found}
+use Rattle.std.specs.Prelude.{Some, None}
 use Rattle.client.specs.declared.part.Set.TheVariants.{Reads, Copies}
 use Rattle.client.specs.Layout.{ClientWord, client_words, field}
 use Rattle.client.specs.Record.{metadata}
@@ -31,26 +31,26 @@ use Rattle.client.specs.Life.{reset, abort_part, lose_part}
 
 -- ---- put
 module _ (s : List ℕ) (x : ℕ) (n : Node) (g : Found) (f : g ≡ find (held s) Copies x) where
-  pub copy_there : (t : List ℕ) (i : ℕ) → g ≡ At i → Did (put_item Copies i x n) s t → Did (copy_node x n) s t
+  pub copy_there : (t : List ℕ) (i : ℕ) → g ≡ Some i → Did (put_item Copies i x n) s t → Did (copy_node x n) s t
   unfolding copy_node
   copy_there t i e p = did_as (put_item Copies i x n) (copy_node x n) s t (rw (← f, e)) p
 
-  module _ (h : Found) (a : g ≡ Absent) (e : h ≡ find (held s) Copies 0) where
-    pub copy_empty : (t : List ℕ) (i : ℕ) → h ≡ At i → Did (put_item Copies i x n) s t → Did (copy_node x n) s t
+  module _ (h : Found) (a : g ≡ None) (e : h ≡ find (held s) Copies 0) where
+    pub copy_empty : (t : List ℕ) (i : ℕ) → h ≡ Some i → Did (put_item Copies i x n) s t → Did (copy_node x n) s t
     unfolding copy_node
     copy_empty t i d p = did_as (put_item Copies i x n) (copy_node x n) s t (rw (← f, a, ← e, d)) p
 
-    pub copy_none : h ≡ Absent → Did (copy_node x n) s s
+    pub copy_none : h ≡ None → Did (copy_node x n) s s
     unfolding copy_node nothing
     copy_none d = did_nothing (copy_node x n) s (rw (← f, a, ← e, d))
 
 good_empty_place : (m : ClientWord → ℕ) (x : ℕ) (n : Node) (h : Found) → find m Copies 0 ≡ h → Good (to_empty x n h)
-good_empty_place m x n (At i) e = good_item Copies i x n (find_limit m Copies 0 i e)
-good_empty_place m x n Absent e = good_nothing
+good_empty_place m x n (Some i) e = good_item Copies i x n (find_limit m Copies 0 i e)
+good_empty_place m x n None e = good_nothing
 
 good_place : (m : ClientWord → ℕ) (x : ℕ) (n : Node) (g : Found) → find m Copies x ≡ g → Good (to_place x n g (find m Copies 0))
-good_place m x n (At i) e = good_item Copies i x n (find_limit m Copies x i e)
-good_place m x n Absent e = good_empty_place m x n (find m Copies 0) refl
+good_place m x n (Some i) e = good_item Copies i x n (find_limit m Copies x i e)
+good_place m x n None e = good_empty_place m x n (find m Copies 0) refl
 
 pub good_copy : (x : ℕ) (n : Node) → Good (copy_node x n)
 unfolding copy_node
@@ -58,17 +58,17 @@ good_copy x n = good_by (λ m. to_place x n (find m Copies x) (find m Copies 0))
 
 -- ---- dropped
 module _ (s : List ℕ) (x : ℕ) (g : Found) (f : g ≡ find (held s) Copies x) where
-  pub drop_there : (t : List ℕ) (i : ℕ) → g ≡ At i → Did (put_number Copies i 0) s t → Did (drop_node x) s t
+  pub drop_there : (t : List ℕ) (i : ℕ) → g ≡ Some i → Did (put_number Copies i 0) s t → Did (drop_node x) s t
   unfolding drop_node
   drop_there t i e p = did_as (put_number Copies i 0) (drop_node x) s t (rw (← f, e)) p
 
-  pub drop_none : g ≡ Absent → Did (drop_node x) s s
+  pub drop_none : g ≡ None → Did (drop_node x) s s
   unfolding drop_node nothing
   drop_none e = did_nothing (drop_node x) s (rw (← f, e))
 
 good_drop_at : (m : ClientWord → ℕ) (x : ℕ) (g : Found) → find m Copies x ≡ g → Good (drop_at g)
-good_drop_at m x (At i) e = good_number Copies i 0 (find_limit m Copies x i e)
-good_drop_at m x Absent e = good_nothing
+good_drop_at m x (Some i) e = good_number Copies i 0 (find_limit m Copies x i e)
+good_drop_at m x None e = good_nothing
 
 pub good_drop_node : (x : ℕ) → Good (drop_node x)
 unfolding drop_node

@@ -7,8 +7,8 @@ use Rattle.layout.specs.Step.{and_then}
 use Rattle.layout.proofs.Laws.Step.{changed_append}
 use Rattle.layout.specs.Sweep.{sweep}
 use Rattle.nodes.specs.declared.node.Node.{Node}
-use Rattle.nodes.specs.declared.found.Found.{Found}
-use Rattle.nodes.specs.declared.found.Found.TheVariants.{At, Absent}
+use Rattle.nodes.specs.Found.{Found}
+use Rattle.std.specs.Prelude.{Some, None}
 use Rattle.client.specs.declared.answer.Look.{Look}
 use Rattle.client.specs.declared.part.Set.TheVariants.{Reads, Writes}
 use Rattle.client.specs.Layout.{ClientWord, client_words}
@@ -75,11 +75,11 @@ used_entered u s t n i f e a b p =
 
 -- ---- writes
 module _ (s : List ℕ) (x : ℕ) (n : Node) (g : Found) (f : g ≡ find (held s) Writes x) where
-  pub write_replaced : (t : List ℕ) (i : ℕ) → g ≡ At i → Did (put_item Writes i x n) s t → Did (enter_write x n) s t
+  pub write_replaced : (t : List ℕ) (i : ℕ) → g ≡ Some i → Did (put_item Writes i x n) s t → Did (enter_write x n) s t
   unfolding enter_write
   write_replaced t i e p = did_as (put_item Writes i x n) (enter_write x n) s t (rw (← f, e)) p
 
-  module _ (c : ℕ) (a : g ≡ Absent) (e : c ≡ count (held s) Writes) where
+  module _ (c : ℕ) (a : g ≡ None) (e : c ≡ count (held s) Writes) where
     pub write_full : 48 ≤ c → Did (enter_write x n) s s
     unfolding enter_write nothing
     write_full h = did_nothing (enter_write x n) s (rw (← f, a, ← e, le-ltb _ _ h))
@@ -91,8 +91,8 @@ module _ (s : List ℕ) (x : ℕ) (n : Node) (g : Found) (f : g ≡ find (held s
         (did_then (put_item Writes c x n) (put_field 11 (c + 1)) s t u l (good_item Writes c x n h) p q)
 
 good_at : (m : ClientWord → ℕ) (x : ℕ) (n : Node) (g : Found) → find m Writes x ≡ g → Good (enter_at x n (count m Writes) g)
-good_at m x n (At i) e = good_item Writes i x n (find_limit m Writes x i e)
-good_at m x n Absent e =
+good_at m x n (Some i) e = good_item Writes i x n (find_limit m Writes x i e)
+good_at m x n None e =
     good_cond (written_behind (count m Writes) x n) nothing (ltb (count m Writes) 48)
     (λ h. good_then (put_item Writes (count m Writes) x n) (put_field 11 (count m Writes + 1)) (good_item Writes (count m Writes) x n (ltb-true _ _ h)) (good_field 11 (count m Writes + 1) (omega arith)))
     (λ h. good_nothing)

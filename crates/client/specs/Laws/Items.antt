@@ -5,8 +5,8 @@ use Rattle.std.proofs.Common.{ap, ◌∙◌}
 use borrow.Author.Tests.{ne_eqb, le-leb, lt-leb}
 use Rattle.nodes.specs.Name.{server_of}
 use Rattle.nodes.specs.declared.node.Node.{Node}
-use Rattle.nodes.specs.declared.found.Found.{Found}
-use Rattle.nodes.specs.declared.found.Found.TheVariants.{At, Absent}
+use Rattle.nodes.specs.Found.{Found}
+use Rattle.std.specs.Prelude.{Some, None}
 use Rattle.client.specs.declared.part.Set.{Set}
 use Rattle.client.specs.declared.part.Set.TheVariants.{Reads, Writes}
 use Rattle.client.specs.Layout.{ClientWord}
@@ -16,19 +16,19 @@ use Rattle.client.specs.Items.{inner, has, inner_in, inner_before_after}
 use Rattle.client.specs.Participants.{at_home}
 
 module _ (m : ClientWord → ℕ) (s : Set) (x : ℕ) (f : Found) (e : f ≡ find m s x) where
-  pub has_one : (i : ℕ) → f ≡ At i → true ≡ has m s x
+  pub has_one : (i : ℕ) → f ≡ Some i → true ≡ has m s x
   unfolding has
   has_one i q = sym (rw (← e, q))
 
-  pub has_none : f ≡ Absent → false ≡ has m s x
+  pub has_none : f ≡ None → false ≡ has m s x
   unfolding has
   has_none q = sym (rw (← e, q))
 
-  pub inner_there : (i : ℕ) (n : Node) (r : Bool) → f ≡ At i → n ≡ record_at m s i → r ≡ inner x n → r ≡ inner_in m s x
+  pub inner_there : (i : ℕ) (n : Node) (r : Bool) → f ≡ Some i → n ≡ record_at m s i → r ≡ inner x n → r ≡ inner_in m s x
   unfolding inner_in
   inner_there i n r q p h = h ∙ rw p (sym (rw (← e, q)))
 
-  pub inner_absent : f ≡ Absent → false ≡ inner_in m s x
+  pub inner_absent : f ≡ None → false ≡ inner_in m s x
   unfolding inner_in
   inner_absent q = sym (rw (← e, q))
 
@@ -53,8 +53,8 @@ module _ (s x k : ℕ) (d : x ≡ 0 → ⊥) where
 
 -- ---- versions
 module _ (m : ClientWord → ℕ) (x : ℕ) (f : Found) (e : f ≡ find m Reads x) where
-  pub version_there : (i : ℕ) (n : Node) → f ≡ At i → n ≡ record_at m Reads i → n.version ≡ version_of m (find m Reads x)
+  pub version_there : (i : ℕ) (n : Node) → f ≡ Some i → n ≡ record_at m Reads i → n.version ≡ version_of m (find m Reads x)
   version_there i n q p = ap (λ (r : Node). r.version) p ∙ sym (ap (version_of m) (sym e ∙ q))
 
-  pub version_absent : f ≡ Absent → 0 ≡ version_of m (find m Reads x)
+  pub version_absent : f ≡ None → 0 ≡ version_of m (find m Reads x)
   version_absent q = sym (ap (version_of m) (sym e ∙ q))

@@ -10,8 +10,8 @@ use Rattle.std.proofs.Math.ListN.{length, get_or, length-drop}
 use Rattle.std.proofs.Math.Seq.{take-add, get_or-drop, paste}
 use Rattle.std.proofs.lemmas.List.{drop-set-add}
 use Rattle.nodes.specs.declared.node.Node.{Node}
-use Rattle.nodes.specs.declared.found.Found.{Found}
-use Rattle.nodes.specs.declared.found.Found.TheVariants.{At, Absent}
+use Rattle.nodes.specs.Found.{Found}
+use Rattle.std.specs.Prelude.{Some, None}
 use Rattle.nodes.specs.Stored.{words_of}
 use Rattle.nodes.proofs.Laws.Standing.{slot_there}
 use Rattle.client.specs.Record.{first_slot}
@@ -116,17 +116,17 @@ at_first w x i n f = first_pasted w (x ∷ words_of n) (34 * i + 1) 34 (omega ar
 
 module _ (w : List ℕ) (x : ℕ) (n : Node) where
   module _ (w' : List ℕ) (i : ℕ) (p : w' ≡ own_at w x n i) where
-    pub own_replaced : (g : Found) → g ≡ own_find w x → g ≡ At i → w' ≡ own_put w x n
+    pub own_replaced : (g : Found) → g ≡ own_find w x → g ≡ Some i → w' ≡ own_put w x n
     unfolding own_put
-    own_replaced g e q = let z : own_find w x ≡ At i = sym e ∙ q in p ∙ rw z
+    own_replaced g e q = let z : own_find w x ≡ Some i = sym e ∙ q in p ∙ rw z
 
     pub replaced_fits : OwnFits w → length w' ≡ length w → OwnFits w'
     replaced_fits f l = record { long = omega (arith, f.long); few = rw (p, at_first w x i n f) f.few }
 
   module _ (w₁ : List ℕ) (p : w₁ ≡ own_at w x n (get_or w 0 0)) where
-    pub own_appended : (g : Found) → g ≡ own_find w x → g ≡ Absent → set w₁ 0 (get_or w 0 0 + 1) ≡ own_put w x n
+    pub own_appended : (g : Found) → g ≡ own_find w x → g ≡ None → set w₁ 0 (get_or w 0 0 + 1) ≡ own_put w x n
     unfolding own_put
-    own_appended g e q = let z : own_find w x ≡ Absent = sym e ∙ q in rw (z, p)
+    own_appended g e q = let z : own_find w x ≡ None = sym e ∙ q in rw (z, p)
 
     pub appended_fits : OwnFits w → get_or w 0 0 < 20 → length w₁ ≡ length w → OwnFits (set w₁ 0 (get_or w 0 0 + 1))
     appended_fits f h l =

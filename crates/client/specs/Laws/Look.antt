@@ -10,8 +10,8 @@ use Rattle.memory.specs.Bit.{bit}
 use Rattle.layout.specs.Space.{at}
 use Rattle.nodes.specs.Name.{server_of, slot_of}
 use Rattle.nodes.specs.declared.node.Node.{Node}
-use Rattle.nodes.specs.declared.found.Found.{Found}
-use Rattle.nodes.specs.declared.found.Found.TheVariants.{At, Absent}
+use Rattle.nodes.specs.Found.{Found}
+use Rattle.std.specs.Prelude.{Some, None}
 use Rattle.nodes.specs.Stored.{node_at}
 use Rattle.nodes.specs.Range.{node_in_range}
 use Rattle.nodes.proofs.Laws.Found.{found_inside}
@@ -39,11 +39,11 @@ module _ (m : ClientWord → ℕ) (r : Look) where
   meta_there q v x n e d a b c p = rw (← e, ne_eqb _ _ d, ← a, ← b, ← c) p
 
   module _ (x : ℕ) (g : Found) (e : g ≡ find m Copies x) where
-    pub node_lacking : g ≡ Absent → r ≡ lacking → r ≡ copied_node m x
+    pub node_lacking : g ≡ None → r ≡ lacking → r ≡ copied_node m x
     unfolding copied_node
     node_lacking d p = rw (← e, d) p
 
-    pub node_there : (i : ℕ) (n : Node) → g ≡ At i → n ≡ record_at m Copies i → r ≡ copy n → r ≡ copied_node m x
+    pub node_there : (i : ℕ) (n : Node) → g ≡ Some i → n ≡ record_at m Copies i → r ≡ copy n → r ≡ copied_node m x
     unfolding copied_node
     node_there i n d q p = rw (← e, d, ← q) p
 
@@ -82,16 +82,16 @@ never e = let z : ◌≡◌ {A = ℕ} 0 1 = cc in absurd (omega arith)
 
 -- where an object stands in the sets
 module _ (b : List ℕ) (l : 7223 ≤ length b / 8) (x : ℕ) (g : Found) (e : g ≡ find (held b) Writes x) where
-  pub sets_written : (i a : ℕ) → i < limit Writes → g ≡ At i → a ≡ at client_words client_block (item Writes i 1) → a + 33 ≤ 7223 → InSets b x (standing Here a)
+  pub sets_written : (i a : ℕ) → i < limit Writes → g ≡ Some i → a ≡ at client_words client_block (item Writes i 1) → a + 33 ≤ 7223 → InSets b x (standing Here a)
   unfolding source
   sets_written i a h d p w = record { how = refl; found = λ t. rw (← e, d, record_there b Writes i a h p w l); absent = λ t. never t; within = w }
 
-  module _ (f : Found) (q : g ≡ Absent) (o : f ≡ find (held b) Reads x) where
-    pub sets_read : (i a : ℕ) → i < limit Reads → f ≡ At i → a ≡ at client_words client_block (item Reads i 1) → a + 33 ≤ 7223 → InSets b x (standing Here a)
+  module _ (f : Found) (q : g ≡ None) (o : f ≡ find (held b) Reads x) where
+    pub sets_read : (i a : ℕ) → i < limit Reads → f ≡ Some i → a ≡ at client_words client_block (item Reads i 1) → a + 33 ≤ 7223 → InSets b x (standing Here a)
     unfolding source
     sets_read i a h d p w = record { how = refl; found = λ t. rw (← e, q, ← o, d, record_there b Reads i a h p w l); absent = λ t. never t; within = w }
 
-    pub sets_neither : f ≡ Absent → InSets b x (standing Lacking 0)
+    pub sets_neither : f ≡ None → InSets b x (standing Lacking 0)
     unfolding source
     sets_neither d = record { how = refl; found = λ t. never (sym t); absent = λ t. rw (← e, q, ← o, d); within = omega arith }
 
@@ -110,13 +110,13 @@ module _ (b : List ℕ) (l : 7223 ≤ length b / 8) (x : ℕ) (s : Stand) (n : I
     copied_is = n.absent (sym p ∙ t)
 
     module _ (k : IsNode x) (g : Found) (e : g ≡ find (held b) Copies x) where
-      pub stands_copied : (i a : ℕ) → i < limit Copies → g ≡ At i → a ≡ at client_words client_block (item Copies i 1) → a + 33 ≤ 7223
+      pub stands_copied : (i a : ℕ) → i < limit Copies → g ≡ Some i → a ≡ at client_words client_block (item Copies i 1) → a + 33 ≤ 7223
           → stood (view b) (standing Copied a) ≡ source (held b) x
       stands_copied i a h d q w =
           sym (copied_is ∙ sym (copied_1 (held b) (copied_node (held b) x) x k.some k.most refl)
           ∙ sym (node_there (held b) (copy (node_at (view b) a)) x g e i (node_at (view b) a) d (record_there b Copies i a h q w l) refl))
 
-      pub stands_nowhere : g ≡ Absent → stood (view b) (standing Lacking 0) ≡ source (held b) x
+      pub stands_nowhere : g ≡ None → stood (view b) (standing Lacking 0) ≡ source (held b) x
       stands_nowhere d =
           sym (copied_is ∙ sym (copied_1 (held b) (copied_node (held b) x) x k.some k.most refl) ∙ sym (node_lacking (held b) lacking x g e d refl))
 

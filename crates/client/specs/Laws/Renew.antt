@@ -7,8 +7,8 @@ use borrow.Author.Tests.{eq-eqb, ne_eqb, le-leb, lt-leb, lt-ltb, le-ltb, ltb-tru
 use Rattle.base.specs.Test.{and_both}
 use Rattle.layout.specs.Sweep.{sweep}
 use Rattle.nodes.specs.declared.node.Node.{Node}
-use Rattle.nodes.specs.declared.found.Found.{Found}
-use Rattle.nodes.specs.declared.found.Found.TheVariants.{At, Absent}
+use Rattle.nodes.specs.Found.{Found}
+use Rattle.std.specs.Prelude.{Some, None}
 use Rattle.nodes.specs.Flags.{with_flag}
 use Rattle.nodes.specs.Name.{server_of, slot_of}
 use Rattle.client.specs.declared.part.Set.TheVariants.{Reads, Writes}
@@ -121,11 +121,11 @@ module _ (m : ClientWord → ℕ) (n k : ℕ) where
     pub ranked_next : (q ≡ k → ⊥) → Searched (rank m) n k (i + 1)
     ranked_next d = not_here (rank m) n k i h (λ g. d (e ∙ g)) t
 
-    pub ranked_here : n ≡ count m Writes → q ≡ k → At i ≡ ranked m k
+    pub ranked_here : n ≡ count m Writes → q ≡ k → Some i ≡ ranked m k
     unfolding ranked
     ranked_here c d = rw (← c) (found_here (rank m) n k i h (sym e ∙ d) t)
 
-  pub ranked_absent : (i : ℕ) → n ≡ count m Writes → n ≤ i → Searched (rank m) n k i → Absent ≡ ranked m k
+  pub ranked_absent : (i : ℕ) → n ≡ count m Writes → n ≤ i → Searched (rank m) n k i → None ≡ ranked m k
   unfolding ranked
   ranked_absent i c h t = rw (← c) (all_searched (rank m) n k i h t)
 
@@ -135,35 +135,35 @@ renewed_is m i x v n r p q e f = rw (← p, ← q, ← e) f
 
 -- ---- inner nodes, metadata, flags
 module _ (s : List ℕ) (k : ℕ) (g : Found) (f : g ≡ ranked (held s) (k + 1)) where
-  pub nth_renewed : (t : List ℕ) (i x : ℕ) (n : Node) → g ≡ At i → x ≡ number_at (held s) Writes i → n ≡ renewed (held s) i → Did (copy_node x n) s t → Did (renew_nth k) s t
+  pub nth_renewed : (t : List ℕ) (i x : ℕ) (n : Node) → g ≡ Some i → x ≡ number_at (held s) Writes i → n ≡ renewed (held s) i → Did (copy_node x n) s t → Did (renew_nth k) s t
   unfolding renew_nth
   nth_renewed t i x n e p q r = did_as (copy_node x n) (renew_nth k) s t (rw (← f, e, ← p, ← q)) r
 
-  pub nth_none : g ≡ Absent → Did (renew_nth k) s s
+  pub nth_none : g ≡ None → Did (renew_nth k) s s
   unfolding renew_nth nothing
   nth_none e = did_nothing (renew_nth k) s (rw (← f, e))
 
 good_found : (m : ClientWord → ℕ) (g : Found) → Good (renew_found m g)
-good_found m (At i) = good_copy (number_at m Writes i) (renewed m i)
-good_found m Absent = good_nothing
+good_found m (Some i) = good_copy (number_at m Writes i) (renewed m i)
+good_found m None = good_nothing
 
 pub good_renew_nth : EachGood renew_nth
 unfolding renew_nth
 good_renew_nth = record { each = λ k. good_by (λ m. renew_found m (ranked m (k + 1))) (λ m. good_found m (ranked m (k + 1))) }
 
 module _ (s : List ℕ) (g : Found) (f : g ≡ find (held s) Writes 0) where
-  pub meta_renewed : (t : List ℕ) (i y x v : ℕ) → g ≡ At i → x ≡ held s (item Writes i 19) → v ≡ new_version (held s) 0 → y ≡ held s (item Writes i 20)
+  pub meta_renewed : (t : List ℕ) (i y x v : ℕ) → g ≡ Some i → x ≡ held s (item Writes i 19) → v ≡ new_version (held s) 0 → y ≡ held s (item Writes i 20)
       → Did (put_fields 12 (y ∷ x ∷ v ∷ [])) s t → Did renew_meta s t
   unfolding renew_meta
   meta_renewed t i y x v e p q h r = did_as (put_fields 12 (y ∷ x ∷ v ∷ [])) renew_meta s t (rw (← f, e, ← p, ← q, ← h)) r
 
-  pub meta_kept : g ≡ Absent → Did renew_meta s s
+  pub meta_kept : g ≡ None → Did renew_meta s s
   unfolding renew_meta nothing
   meta_kept e = did_nothing renew_meta s (rw (← f, e))
 
 good_meta_found : (m : ClientWord → ℕ) (g : Found) → Good (meta_found m g)
-good_meta_found m (At i) = good_fields 12 (m (item Writes i 20) ∷ m (item Writes i 19) ∷ new_version m 0 ∷ []) (omega arith)
-good_meta_found m Absent = good_nothing
+good_meta_found m (Some i) = good_fields 12 (m (item Writes i 20) ∷ m (item Writes i 19) ∷ new_version m 0 ∷ []) (omega arith)
+good_meta_found m None = good_nothing
 
 good_renew_meta : Good renew_meta
 unfolding renew_meta

@@ -4,7 +4,7 @@ use Rattle.layout.specs.Block.{size, offset}
 use Rattle.layout.specs.Space.{at, same, tab}
 use Rattle.memory.specs.Bit.{put_bit}
 use Rattle.nodes.specs.Stored.{node_of}
-use Rattle.nodes.specs.declared.found.Found.TheVariants.{At, Absent}
+use Rattle.std.specs.Prelude.{Some, None}
 use Rattle.client.specs.declared.part.Set.TheVariants.{Reads, Writes, Copies}
 use Rattle.client.specs.Layout.{ClientWord, client_words, client_block, client_code, item, vector_word}
 use Rattle.client.specs.Laws.Layout.{client_size}
@@ -32,7 +32,7 @@ pub layout_sample : (client_size ≡ 7223) × (at client_words client_block (ite
 unfolding client_size size at offset
 layout_sample = (refl, refl, refl, refl, refl, refl, refl, refl, refl)
 
-pub find_sample : (find (part_with 1) Reads 1026 ≡ At 1) × (find (part_with 1) Writes 0 ≡ Absent)
+pub find_sample : (find (part_with 1) Reads 1026 ≡ Some 1) × (find (part_with 1) Writes 0 ≡ None)
 unfolding find first_of count number_at
 find_sample = (refl, refl)
 

@@ -13,8 +13,8 @@ use Rattle.layout.proofs.Laws.Step.{does_then, does_mem, valid_append}
 use Rattle.layout.specs.Sweep.{sweep}
 use Rattle.layout.proofs.Laws.Sweep.{sweep_valid, sweep_none, sweep_next}
 use Rattle.nodes.specs.declared.node.Node.{Node}
-use Rattle.nodes.specs.declared.found.Found.{Found}
-use Rattle.nodes.specs.declared.found.Found.TheVariants.{At, Absent}
+use Rattle.nodes.specs.Found.{Found}
+use Rattle.std.specs.Prelude.{Some, None}
 use Rattle.nodes.specs.Found.{Inside}
 use Rattle.nodes.proofs.Laws.Found.{at_inside, absent_inside}
 use Rattle.nodes.specs.Stored.{words_of}
@@ -144,12 +144,12 @@ unfolding first_of
 first_inside f zero x = absent_inside 0
 first_inside f (suc n) x = go (first_of f n x) (eqb (f n) x) (first_inside f n x)
   where
-    go : (g : Found) (b : Bool) → Inside g n → Inside (or_found g (cond b (At n) Absent)) (suc n)
-    go (At j) b h = at_inside (suc n) j (omega (arith, h.inside j refl))
-    go Absent true h = at_inside (suc n) n (omega arith)
-    go Absent false h = absent_inside (suc n)
+    go : (g : Found) (b : Bool) → Inside g n → Inside (or_found g (cond b (Some n) None)) (suc n)
+    go (Some j) b h = at_inside (suc n) j (omega (arith, h.inside j refl))
+    go None true h = at_inside (suc n) n (omega arith)
+    go None false h = absent_inside (suc n)
 
-pub find_limit : (m : ClientWord → ℕ) (s : Set) (x i : ℕ) → find m s x ≡ At i → i < limit s
+pub find_limit : (m : ClientWord → ℕ) (s : Set) (x i : ℕ) → find m s x ≡ Some i → i < limit s
 unfolding find
 find_limit m s x i e = omega (arith, (first_inside (number_at m s) (count m s) x).inside i e, count_limit m s)
 

@@ -12,8 +12,8 @@ use Rattle.memory.specs.Bit.{bit}
 use Rattle.layout.specs.Space.{Put, changed}
 use Rattle.layout.specs.Step.{and_then}
 use Rattle.layout.proofs.Laws.Step.{changed_append}
-use Rattle.nodes.specs.declared.found.Found.{Found}
-use Rattle.nodes.specs.declared.found.Found.TheVariants.{At, Absent}
+use Rattle.nodes.specs.Found.{Found}
+use Rattle.std.specs.Prelude.{Some, None}
 use Rattle.operations.specs.Object.{Obj, meta, node, flag, Val}
 use Rattle.operations.proofs.Laws.Object.{inner}
 use Rattle.server.specs.declared.place.Place.{Place}
@@ -122,13 +122,13 @@ module _ (k j slots : ℕ) (al : slots ≤ 1024) (few : suc j ≤ 16) (m : Addre
 
   module _ (o : Obj) (hi : InStore k j slots o) where
     -- what is not read is not written
-    unread : find u Reads (number o) ≡ Absent → find u Writes (number o) ≡ Absent
+    unread : find u Reads (number o) ≡ None → find u Writes (number o) ≡ None
     unfolding count
     unread e = go (find u Writes (number o)) refl
       where
-        go : (f : Found) → find u Writes (number o) ≡ f → find u Writes (number o) ≡ Absent
-        go Absent q = q
-        go (At w) q =
+        go : (f : Found) → find u Writes (number o) ≡ f → find u Writes (number o) ≡ None
+        go None q = q
+        go (Some w) q =
             let f = found_at u Writes (number o) w q in
             let r = has_at u Reads (number_at u Writes w) (written_in k j slots al u fit w f.0).1 in
             absurd (absent≢at r.0 (sym e ∙ ap (find u Reads) (sym f.1) ∙ r.1))
@@ -139,7 +139,7 @@ module _ (k j slots : ℕ) (al : slots ≤ 1024) (few : suc j ≤ 16) (m : Addre
     unfolding item_of
     row_is test given old f e = ap (P.says (T k j slots) (λ i. cond (test i) (given i) (old o)) (old o)) (shown.item_as o hi ∙ ap (item_from k j slots u o) e)
 
-    next_is : (i w : ℕ) → find u Reads (number o) ≡ At i → find u Writes (number o) ≡ At w → next_version u (number_at u Writes w) ≡ suc (record_at u Reads i).version
+    next_is : (i w : ℕ) → find u Reads (number o) ≡ Some i → find u Writes (number o) ≡ Some w → next_version u (number_at u Writes w) ≡ suc (record_at u Reads i).version
     unfolding next_version
     next_is i w e q = ap (λ (f : Found). suc (version_of u f)) (ap (find u Reads) (found_at u Writes (number o) w q).1 ∙ e)
 
@@ -150,15 +150,15 @@ module _ (k j slots : ℕ) (al : slots ≤ 1024) (few : suc j ≤ 16) (m : Addre
       where
         by : (f : Found) → find u Reads (number o) ≡ f → (g : Found) → find u Writes (number o) ≡ g
             → Mv.row (T k j slots) y.items (λ i. i.written && keeps k j slots s i.obj) (λ i. i.new) (M.value s) o ≡ value_at k j slots p₁ o
-        by Absent e g q =
-            row_is (λ i. i.written && keeps k j slots s i.obj) (λ i. i.new) (M.value s) Absent e ∙ S.value_as o hi kept
+        by None e g q =
+            row_is (λ i. i.written && keeps k j slots s i.obj) (λ i. i.new) (M.value s) None e ∙ S.value_as o hi kept
             ∙ sym (value_none k j slots al u y shown s o hi kept p (unread e))
-        by (At i) e Absent q =
-            row_is (λ i. i.written && keeps k j slots s i.obj) (λ i. i.new) (M.value s) (At i) e
+        by (Some i) e None q =
+            row_is (λ i. i.written && keeps k j slots s i.obj) (λ i. i.new) (M.value s) (Some i) e
             ∙ ap (λ (g : Found). cond (is_at g && keeps k j slots s o) (new_value k j slots u o (value_of o (record_at u Reads i)) g) (M.value s o)) q
             ∙ S.value_as o hi kept ∙ sym (value_none k j slots al u y shown s o hi kept p q)
-        by (At i) e (At w) q =
-            row_is (λ i. i.written && keeps k j slots s i.obj) (λ i. i.new) (M.value s) (At i) e
+        by (Some i) e (Some w) q =
+            row_is (λ i. i.written && keeps k j slots s i.obj) (λ i. i.new) (M.value s) (Some i) e
             ∙ ap₂ (λ (g : Found) (b : Bool). cond (is_at g && b) (new_value k j slots u o (value_of o (record_at u Reads i)) g) (M.value s o)) q kept
             ∙ sym (value_one k j slots al u y shown s o hi kept p w q (written_fits k j slots al u fit w (found_at u Writes (number o) w q).0))
 
@@ -177,22 +177,22 @@ module _ (k j slots : ℕ) (al : slots ≤ 1024) (few : suc j ≤ 16) (m : Addre
 
         by : (b : Bool) → by_value k j slots o ≡ b → (f : Found) → find u Reads (number o) ≡ f → (g : Found) → find u Writes (number o) ≡ g
             → Mv.row (T k j slots) y.items test (λ i. suc i.version) (M.version s) o ≡ version_at k j slots p₁ o
-        by b d Absent e g q =
-            row_is test (λ i. suc i.version) (M.version s) Absent e ∙ S.version_as o hi kept ∙ sym (version_none k j slots al u y shown s o hi kept p (unread e))
-        by b d (At i) e Absent q =
-            row_is test (λ i. suc i.version) (M.version s) (At i) e
+        by b d None e g q =
+            row_is test (λ i. suc i.version) (M.version s) None e ∙ S.version_as o hi kept ∙ sym (version_none k j slots al u y shown s o hi kept p (unread e))
+        by b d (Some i) e None q =
+            row_is test (λ i. suc i.version) (M.version s) (Some i) e
             ∙ ap₂ (λ (g : Found) (b : Bool). cond (not b && is_at g && keeps k j slots s o) (suc (record_at u Reads i).version) (M.version s o)) q d
             ∙ unwritten b ∙ S.version_as o hi kept ∙ sym (version_none k j slots al u y shown s o hi kept p q)
           where
             unwritten : (b : Bool) → cond (not b && false && keeps k j slots s o) (suc (record_at u Reads i).version) (M.version s o) ≡ M.version s o
             unwritten true = refl
             unwritten false = refl
-        by true d (At i) e (At w) q =
-            row_is test (λ i. suc i.version) (M.version s) (At i) e
+        by true d (Some i) e (Some w) q =
+            row_is test (λ i. suc i.version) (M.version s) (Some i) e
             ∙ ap (λ (b : Bool). cond (not b && I.has u Writes (number o) && keeps k j slots s o) (suc (record_at u Reads i).version) (M.version s o)) d
             ∙ S.version_as o hi kept ∙ flag_version o d p ∙ sym (flag_version o d p₁)
-        by false d (At i) e (At w) q =
-            row_is test (λ i. suc i.version) (M.version s) (At i) e
+        by false d (Some i) e (Some w) q =
+            row_is test (λ i. suc i.version) (M.version s) (Some i) e
             ∙ ap₂ (λ (g : Found) (b : Bool). cond (not b && is_at g && keeps k j slots s o) (suc (record_at u Reads i).version) (M.version s o)) q d
             ∙ ap (λ (b : Bool). cond b (suc (record_at u Reads i).version) (M.version s o)) kept
             ∙ sym (version_one k j slots al u y shown s o hi kept p w q d ∙ next_is i w e q)
@@ -204,17 +204,17 @@ module _ (k j slots : ℕ) (al : slots ≤ 1024) (few : suc j ≤ 16) (m : Addre
       where
         by : (f : Found) → find u Reads (number o) ≡ f → (g : Found) → find u Writes (number o) ≡ g
             → Mv.row (T k j slots) y.items (Mv.for_all (T k j slots)) (λ i. suc i.version) (M.table s) o ≡ table_at k j slots p₁ o
-        by Absent e g q =
-            row_is (Mv.for_all (T k j slots)) (λ i. suc i.version) (M.table s) Absent e ∙ S.table_as o hi d ∙ sym (table_none k j slots al u y shown s o hi p (unread e))
-        by (At i) e Absent q =
-            row_is (Mv.for_all (T k j slots)) (λ i. suc i.version) (M.table s) (At i) e
+        by None e g q =
+            row_is (Mv.for_all (T k j slots)) (λ i. suc i.version) (M.table s) None e ∙ S.table_as o hi d ∙ sym (table_none k j slots al u y shown s o hi p (unread e))
+        by (Some i) e None q =
+            row_is (Mv.for_all (T k j slots)) (λ i. suc i.version) (M.table s) (Some i) e
             ∙ ap (λ (g : Found). cond (is_at g && (inner o (value_of o (record_at u Reads i)) || inner o (new_value k j slots u o (value_of o (record_at u Reads i)) g)))
             (suc (record_at u Reads i).version) (M.table s o)) q
             ∙ S.table_as o hi d ∙ sym (table_none k j slots al u y shown s o hi p q)
-        by (At i) e (At w) q =
+        by (Some i) e (Some w) q =
             let same : I.inner_before_after u (number_at u Writes w) ≡ (inner o (value_of o (record_at u Reads i)) || inner o (value_of o (record_at u Writes w)))
             = ap (I.inner_before_after u) (found_at u Writes (number o) w q).1 ∙ both_ways k j slots al u fit o i w hi e q in
-            row_is (Mv.for_all (T k j slots)) (λ i. suc i.version) (M.table s) (At i) e
+            row_is (Mv.for_all (T k j slots)) (λ i. suc i.version) (M.table s) (Some i) e
             ∙ ap (λ (g : Found). cond (is_at g && (inner o (value_of o (record_at u Reads i)) || inner o (new_value k j slots u o (value_of o (record_at u Reads i)) g)))
             (suc (record_at u Reads i).version) (M.table s o)) q
             ∙ ap₂ (λ (b : Bool) (a : ℕ). cond b (suc (record_at u Reads i).version) a) (sym same) (S.table_as o hi d)

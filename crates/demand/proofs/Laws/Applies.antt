@@ -13,8 +13,8 @@ use Rattle.layout.specs.Space.{Put, changed}
 use Rattle.layout.specs.Step.{and_then}
 use Rattle.layout.proofs.Laws.Step.{changed_append}
 use Rattle.layout.specs.Part.{over}
-use Rattle.nodes.specs.declared.found.Found.{Found}
-use Rattle.nodes.specs.declared.found.Found.TheVariants.{At, Absent}
+use Rattle.nodes.specs.Found.{Found}
+use Rattle.std.specs.Prelude.{Some, None}
 use Rattle.client.specs.declared.part.Set.TheVariants.{Reads, Writes}
 use Rattle.client.specs.Layout.{ClientWord, client_words, phase, participants, applied, lost}
 use Rattle.client.specs.Record.{last_version, whole_in_range}
@@ -46,8 +46,8 @@ use Rattle.layout.proofs.Laws.Part.{over_append}
 -- ---- versions of what is written, as the sets have them
 module _ (u v : ClientWord → ℕ) (S : SameSets u v) where
   version_frame : (f : Found) → version_of v f ≡ version_of u f
-  version_frame (At i) = ap (λ r. r.version) (record_frame u v Reads i (S.items_read i))
-  version_frame Absent = refl
+  version_frame (Some i) = ap (λ r. r.version) (record_frame u v Reads i (S.items_read i))
+  version_frame None = refl
 
   version_same : (x : ℕ) → version_of v (find v Reads x) ≡ version_of u (find u Reads x)
   version_same x = ap (version_of v) (same_read u v 0 0 0 S x) ∙ version_frame (find u Reads x)

@@ -10,8 +10,8 @@ use Rattle.std.proofs.Math.Dec.{eqb}
 use Rattle.base.proofs.Laws.Test.{one_if_is}
 use Rattle.base.specs.Test.{and_both, one_if}
 use Rattle.memory.specs.Bit.{bit}
-use Rattle.nodes.specs.declared.found.Found.{Found}
-use Rattle.nodes.specs.declared.found.Found.TheVariants.{At, Absent}
+use Rattle.nodes.specs.Found.{Found}
+use Rattle.std.specs.Prelude.{Some, None}
 use Rattle.nodes.specs.Lists.{pad}
 use Rattle.nodes.specs.Node.{made}
 use Rattle.operations.specs.Object.{Obj, meta, node, flag, object, Val, taken}
@@ -63,8 +63,8 @@ module _ (k j slots : ℕ) (al : slots ≤ 1024) (u : ClientWord → ℕ) (f : O
   node_there n b = go (find u Copies (number (node n))) refl b
     where
       go : (z : Found) → find u Copies (number (node n)) ≡ z → IsThere (copied_item u z) → SameCopy (node n) (copied_item u z)
-      go Absent e b = absurd (false≢true b)
-      go (At i) e b = let h = found_at u Copies (number (node n)) i e in copies.node_as i n h.0 h.1
+      go None e b = absurd (false≢true b)
+      go (Some i) e b = let h = found_at u Copies (number (node n)) i e in copies.node_as i n h.0 h.1
 
   flag_there : (n : ℕ) → InStore k j slots (flag n) → IsThere (copied_flag u n) → SameCopy (flag n) (copied_flag u n)
   unfolding copied_flag single made pad
@@ -111,21 +111,21 @@ module _ (k j slots : ℕ) (al : slots ≤ 1024) (u : ClientWord → ℕ) (f : O
     has_as : (o : Obj) → InStore k j slots o → W.have (T k j slots) f y.items o ≡ W.at_hand (T k j slots) (item_of k j slots u o) (f o)
     has_as o h = ap (λ z. W.at_hand (T k j slots) z (f o)) (shown.item_as o h)
 
-    from_written : (o : Obj) → InStore k j slots o → (i : ℕ) → find u Writes (number o) ≡ At i → MachineHas o (here (record_at u Writes i))
+    from_written : (o : Obj) → InStore k j slots o → (i : ℕ) → find u Writes (number o) ≡ Some i → MachineHas o (here (record_at u Writes i))
     unfolding item_of has
     from_written o h i e =
         let r = has_at u Reads (number o) (written_read o (at_has u Writes (number o) i e)) in
         has_as o h ∙ ap (λ z. W.at_hand (T k j slots) (item_from k j slots u o z) (f o)) r.1
         ∙ ap (λ z. some (cond (is_at z) (S.new_value k j slots u o (value_of o (record_at u Reads r.0)) z) (value_of o (record_at u Reads r.0)))) e
 
-    from_read : (o : Obj) → InStore k j slots o → (i : ℕ) → find u Writes (number o) ≡ Absent → find u Reads (number o) ≡ At i
+    from_read : (o : Obj) → InStore k j slots o → (i : ℕ) → find u Writes (number o) ≡ None → find u Reads (number o) ≡ Some i
         → MachineHas o (here (record_at u Reads i))
     unfolding item_of has
     from_read o h i n e =
         has_as o h ∙ ap (λ z. W.at_hand (T k j slots) (item_from k j slots u o z) (f o)) e
         ∙ ap (λ z. some (cond (is_at z) (S.new_value k j slots u o (value_of o (record_at u Reads i)) z) (value_of o (record_at u Reads i)))) n
 
-    from_copy : (o : Obj) → InStore k j slots o → find u Reads (number o) ≡ Absent → IsThere (copied u (number o)) → MachineHas o (copied u (number o))
+    from_copy : (o : Obj) → InStore k j slots o → find u Reads (number o) ≡ None → IsThere (copied u (number o)) → MachineHas o (copied u (number o))
     unfolding item_of
     from_copy o h e b =
         has_as o h ∙ ap (λ z. W.at_hand (T k j slots) (item_from k j slots u o z) (f o)) e
@@ -137,9 +137,9 @@ module _ (k j slots : ℕ) (al : slots ≤ 1024) (u : ClientWord → ℕ) (f : O
     source_there o h b = go (find u Writes (number o)) refl (find u Reads (number o)) refl b
       where
         go : (w : Found) → find u Writes (number o) ≡ w → (r : Found) → find u Reads (number o) ≡ r → IsThere (or_read u (number o) w) → MachineHas o (or_read u (number o) w)
-        go (At i) e r q b = from_written o h i e
-        go Absent e (At i) q b = subst (λ z. MachineHas o (or_copied u (number o) z)) (sym q) (from_read o h i e q)
-        go Absent e Absent q b =
+        go (Some i) e r q b = from_written o h i e
+        go None e (Some i) q b = subst (λ z. MachineHas o (or_copied u (number o) z)) (sym q) (from_read o h i e q)
+        go None e None q b =
             subst (λ z. MachineHas o (or_copied u (number o) z)) (sym q)
             (from_copy o h q (subst (λ z. IsThere (or_copied u (number o) z)) q b))
 
@@ -168,7 +168,7 @@ module _ (k j slots : ℕ) (al : slots ≤ 1024) (u : ClientWord → ℕ) (f : O
             let g = and_both (record_in_range slots (number o) l.node) (not (is_copied l.how) || copy_fits u (number o) l.node) h.1 in
             record { in_store = p; found = h.0; fitting = g.0; value_as = sym (some-injective (value_of o l.node) v e); copy_as = g.1 }
 
-    pub copied_inner : (n : ℕ) (v : Val) → Had (node n) v → find u Writes (1 + n) ≡ Absent → find u Reads (1 + n) ≡ Absent → inner (node n) (value_of (node n) (copied u (1 + n)).node) ≡ true
+    pub copied_inner : (n : ℕ) (v : Val) → Had (node n) v → find u Writes (1 + n) ≡ None → find u Reads (1 + n) ≡ None → inner (node n) (value_of (node n) (copied u (1 + n)).node) ≡ true
     unfolding source copied copied_node copy_fits
     copied_inner n v h a b =
         let near = name_lt slots al n h.in_store in
@@ -178,8 +178,8 @@ module _ (k j slots : ℕ) (al : slots ≤ 1024) (u : ClientWord → ℕ) (f : O
         (go (find u Copies (1 + n)) near (subst IsThere same h.found) (subst (λ (l : Look). (not (is_copied l.how) || copy_fits u (1 + n) l.node) ≡ true) same h.copy_as))
       where
         go : (z : Found) → n < 8192 → IsThere (copied_item u z) → (not (is_copied (copied_item u z).how) || copy_fits u (1 + n) (copied_item u z).node) ≡ true → eqb (copied_item u z).node.kind 2 ≡ true
-        go Absent l q r = absurd (false≢true q)
-        go (At i) l q r = sym (as_node true (λ _. eqb (record_at u Copies i).kind 2) (λ x. eqb (u (vector_word (N.server_of x) 0)) 1) n l) ∙ r
+        go None l q r = absurd (false≢true q)
+        go (Some i) l q r = sym (as_node true (λ _. eqb (record_at u Copies i).kind 2) (λ x. eqb (u (vector_word (N.server_of x) 0)) 1) n l) ∙ r
 
     -- AT HAND
     pub have_there : (o : Obj) (v : Val) → have slots u (object o) ≡ some v → W.have (T k j slots) f y.items o ≡ some v

@@ -9,8 +9,8 @@ use Rattle.layout.proofs.Laws.Space.{written_same, written_other}
 use Rattle.layout.specs.Step.{and_then}
 use Rattle.layout.proofs.Laws.Step.{changed_append}
 use Rattle.nodes.specs.declared.node.Node.{Node}
-use Rattle.nodes.specs.declared.found.Found.{Found}
-use Rattle.nodes.specs.declared.found.Found.TheVariants.{At, Absent}
+use Rattle.nodes.specs.Found.{Found}
+use Rattle.std.specs.Prelude.{Some, None}
 use Rattle.nodes.proofs.Laws.Stored.{Sized}
 use Rattle.client.specs.declared.part.Set.{Set}
 use Rattle.client.specs.declared.part.Set.TheVariants.{Reads, Writes, Copies}
@@ -34,24 +34,24 @@ writes_within u h = rw (le-leb (u writes_count) 48 h)
 
 -- ---- an object that a set has not
 module _ (u : ClientWord → ℕ) (s : Set) (x : ℕ) where
-  pub absent_has : find u s x ≡ Absent → has u s x ≡ false
+  pub absent_has : find u s x ≡ None → has u s x ≡ false
   unfolding has
   absent_has e = ap is_at e
 
-  pub has_absent : has u s x ≡ false → find u s x ≡ Absent
+  pub has_absent : has u s x ≡ false → find u s x ≡ None
   unfolding has
   has_absent h = go (find u s x) h
     where
-      go : (z : Found) → is_at z ≡ false → z ≡ Absent
-      go (At i) e = absurd (true≢false e)
-      go Absent e = refl
+      go : (z : Found) → is_at z ≡ false → z ≡ None
+      go (Some i) e = absurd (true≢false e)
+      go None e = refl
 
 -- a search looks at the places below n
 first_frame : (f g : ℕ → ℕ) (n x : ℕ) → ((i : ℕ) → i < n → g i ≡ f i) → first_of g n x ≡ first_of f n x
 unfolding first_of
 first_frame f g zero x h = refl
 first_frame f g (suc n) x h =
-    ap₂ (λ (z : Found) (w : ℕ). or_found z (cond (eqb w x) (At n) Absent)) (first_frame f g n x (λ i l. h i (omega arith))) (h n (omega arith))
+    ap₂ (λ (z : Found) (w : ℕ). or_found z (cond (eqb w x) (Some n) None)) (first_frame f g n x (λ i l. h i (omega arith))) (h n (omega arith))
 
 -- an item's word is no field
 pub no_field : (s : Set) (i w f : ℕ) → ¬ (item s i w ≡ field f)
@@ -106,42 +106,42 @@ module _ (s : Set) (f : ℕ) (u v : ClientWord → ℕ) (x : ℕ) (r : Node) whe
     pub other : Elsewhere s f u v
 
   module _ (B : Behind) where
-    pub find_behind : (q : ℕ) → find v s q ≡ or_found (find u s q) (cond (eqb x q) (At n) Absent)
+    pub find_behind : (q : ℕ) → find v s q ≡ or_found (find u s q) (cond (eqb x q) (Some n) None)
     unfolding find first_of number_at
     find_behind q =
         ap (λ (c : ℕ). first_of (number_at v s) c q) B.after
-        ∙ ap₂ (λ (z : Found) (w : ℕ). or_found z (cond (eqb w q) (At n) Absent)) (first_frame (number_at u s) (number_at v s) n q (λ i l. B.beside i 0 (λ e. omega arith))) B.number_as
-        ∙ ap (λ (c : ℕ). or_found (first_of (number_at u s) c q) (cond (eqb x q) (At n) Absent)) (sym B.before)
+        ∙ ap₂ (λ (z : Found) (w : ℕ). or_found z (cond (eqb w q) (Some n) None)) (first_frame (number_at u s) (number_at v s) n q (λ i l. B.beside i 0 (λ e. omega arith))) B.number_as
+        ∙ ap (λ (c : ℕ). or_found (first_of (number_at u s) c q) (cond (eqb x q) (Some n) None)) (sym B.before)
 
     pub has_behind : (q : ℕ) → has v s q ≡ (has u s q || eqb x q)
     unfolding has
     has_behind q = ap is_at (find_behind q) ∙ go (find u s q) (eqb x q)
       where
-        go : (z : Found) (b : Bool) → is_at (or_found z (cond b (At n) Absent)) ≡ (is_at z || b)
-        go (At i) b = refl
-        go Absent true = refl
-        go Absent false = refl
+        go : (z : Found) (b : Bool) → is_at (or_found z (cond b (Some n) None)) ≡ (is_at z || b)
+        go (Some i) b = refl
+        go None true = refl
+        go None false = refl
 
-    pub found_new : find u s x ≡ Absent → find v s x ≡ At n
+    pub found_new : find u s x ≡ None → find v s x ≡ Some n
     found_new h =
-        find_behind x ∙ ap (λ (z : Found). or_found z (cond (eqb x x) (At n) Absent)) h ∙ ap (λ (b : Bool). cond b (At n) Absent) (eq-eqb x x refl)
+        find_behind x ∙ ap (λ (z : Found). or_found z (cond (eqb x x) (Some n) None)) h ∙ ap (λ (b : Bool). cond b (Some n) None) (eq-eqb x x refl)
 
     pub found_old : (q : ℕ) → ¬ (q ≡ x) → find v s q ≡ find u s q
     found_old q d =
-        find_behind q ∙ ap (λ (b : Bool). or_found (find u s q) (cond b (At n) Absent)) (ne_eqb x q (λ e. d (sym e))) ∙ or_absent (find u s q)
+        find_behind q ∙ ap (λ (b : Bool). or_found (find u s q) (cond b (Some n) None)) (ne_eqb x q (λ e. d (sym e))) ∙ or_absent (find u s q)
       where
-        or_absent : (z : Found) → or_found z Absent ≡ z
-        or_absent (At i) = refl
-        or_absent Absent = refl
+        or_absent : (z : Found) → or_found z None ≡ z
+        or_absent (Some i) = refl
+        or_absent None = refl
 
     -- no object has two items
-    pub one_each : ((i : ℕ) → i < count u s → find u s (number_at u s i) ≡ At i) → find u s x ≡ Absent
-        → (i : ℕ) → i < count v s → find v s (number_at v s i) ≡ At i
+    pub one_each : ((i : ℕ) → i < count u s → find u s (number_at u s i) ≡ Some i) → find u s x ≡ None
+        → (i : ℕ) → i < count v s → find v s (number_at v s i) ≡ Some i
     unfolding number_at
     one_each each new i l = go (ℕ_discrete i n)
       where
-        go : Dec (i ≡ n) → find v s (number_at v s i) ≡ At i
-        go (yes e) = ap (λ (c : ℕ). find v s (number_at v s c)) e ∙ ap (find v s) B.number_as ∙ found_new new ∙ ap At (sym e)
+        go : Dec (i ≡ n) → find v s (number_at v s i) ≡ Some i
+        go (yes e) = ap (λ (c : ℕ). find v s (number_at v s c)) e ∙ ap (find v s) B.number_as ∙ found_new new ∙ ap Some (sym e)
         go (no d) =
             let same : number_at v s i ≡ number_at u s i = B.beside i 0 d in
             let h = each i (omega (arith, l, B.before, B.after)) in

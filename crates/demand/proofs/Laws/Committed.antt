@@ -19,8 +19,8 @@ use Rattle.layout.specs.Part.{over}
 use Rattle.operations.specs.Object.{Obj, meta, Val, states_of}
 use Rattle.operations.proofs.Laws.Object.{inner}
 use Rattle.nodes.specs.States.{present, is_present, states_fit}
-use Rattle.nodes.specs.declared.found.Found.{Found}
-use Rattle.nodes.specs.declared.found.Found.TheVariants.{At, Absent}
+use Rattle.nodes.specs.Found.{Found}
+use Rattle.std.specs.Prelude.{Some, None}
 use Rattle.protocol.specs.Lists.{any}
 use Rattle.protocol.proofs.Laws.Lists.{all_in}
 use Rattle.protocol.specs.State.{idle, opened}
@@ -59,7 +59,7 @@ any_eq (suc n) f g h = ap₂ ◌||◌ (any_eq n f g (λ i l. h i (omega arith)))
 
 module _ (k j slots : ℕ) (al : slots ≤ 1024) (u : ClientWord → ℕ) (fit : client_fits slots u ≡ true) where
   -- "inner before or after" of an object that is read and written
-  pub both_ways : (o : Obj) (i w : ℕ) → InStore k j slots o → find u Reads (number o) ≡ At i → find u Writes (number o) ≡ At w
+  pub both_ways : (o : Obj) (i w : ℕ) → InStore k j slots o → find u Reads (number o) ≡ Some i → find u Writes (number o) ≡ Some w
       → I.inner_before_after u (number o) ≡ (inner o (value_of o (record_at u Reads i)) || inner o (value_of o (record_at u Writes w)))
   unfolding I.inner_before_after I.inner_in
   both_ways o i w h r e =
@@ -108,7 +108,7 @@ module _ (k j slots : ℕ) (al : slots ≤ 1024) (u : ClientWord → ℕ) (fit :
             let f = found_at u Reads x i.0 i.1 in
             let o = obj_of (number_at u Reads i.0) in
             let q : number o ≡ x = number_obj (number_at u Reads i.0) ∙ f.1 in
-            let w : find u Writes (number o) ≡ At r.0 = ap (find u Writes) q ∙ h.write_found r.0 r.1 in
+            let w : find u Writes (number o) ≡ Some r.0 = ap (find u Writes) q ∙ h.write_found r.0 r.1 in
             any_at (count u Reads) (λ i. Mv.for_all (T k j slots) (item_at k j slots al u fit i)) i.0 f.0
             (both_true (I.has u Writes (number o)) (Mv.item_inner (T k j slots) (item_at k j slots al u fit i.0)) (at_has u Writes (number o) r.0 w)
             (ap (λ v. inner o (value_of o (record_at u Reads i.0)) || inner o v) (ap (new_value k j slots u o (value_of o (record_at u Reads i.0))) w)
@@ -118,13 +118,13 @@ module _ (k j slots : ℕ) (al : slots ≤ 1024) (u : ClientWord → ℕ) (fit :
     -- "Participants are the homes .. or all servers": the machine's are those that the client computes
     module _ (known : servers_known u ≡ true) where
       -- who writes what all servers take part for has read the metadata
-      meta_read : K.all_take_part u ≡ true → (i : ℕ) × (find u Reads 0 ≡ At i)
+      meta_read : K.all_take_part u ≡ true → (i : ℕ) × (find u Reads 0 ≡ Some i)
       unfolding servers_known K.states_read states_fit
       meta_read e = go (find u Reads 0) refl (subst (λ (b : Bool). (not b || states_fit (K.states_read u)) ≡ true) e known)
         where
-          go : (f : Found) → find u Reads 0 ≡ f → states_fit (K.states_in u f) ≡ true → (i : ℕ) × (find u Reads 0 ≡ At i)
-          go (At i) q h = (i, q)
-          go Absent q h = absurd (false≢true h)
+          go : (f : Found) → find u Reads 0 ≡ f → states_fit (K.states_in u f) ≡ true → (i : ℕ) × (find u Reads 0 ≡ Some i)
+          go (Some i) q h = (i, q)
+          go None q h = absurd (false≢true h)
 
       -- by its states
       states_same : K.all_take_part u ≡ true → states_of (Mv.meta_read (T k j slots) y.items) ≡ K.states_read u

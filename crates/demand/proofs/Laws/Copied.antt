@@ -13,8 +13,8 @@ use Rattle.memory.specs.Bit.{bit}
 use Rattle.layout.specs.Space.{changed, puts, tab}
 use Rattle.layout.proofs.Laws.Space.{puts_other, puts_same, get_or_tab, length_tab}
 use Rattle.nodes.specs.declared.node.Node.{Node}
-use Rattle.nodes.specs.declared.found.Found.{Found}
-use Rattle.nodes.specs.declared.found.Found.TheVariants.{At, Absent}
+use Rattle.nodes.specs.Found.{Found}
+use Rattle.std.specs.Prelude.{Some, None}
 use Rattle.nodes.proofs.Laws.Stored.{Sized}
 use Rattle.operations.specs.Object.{Obj, meta, node, flag, root, taken}
 use Rattle.operations.proofs.Laws.Object.{ObjDiscrete}
@@ -116,11 +116,11 @@ module _ (k j slots : ℕ) (u : ClientWord → ℕ) (f : Obj → Option (P.Copy 
     copied_node = go (find u Copies (1 + n)) refl (find u Copies 0) refl
       where
         go : (a : Found) → find u Copies (1 + n) ≡ a → (b : Found) → find u Copies 0 ≡ b → After a b
-        go (At p) e b d =
+        go (Some p) e b d =
             let at = found_at u Copies (1 + n) p e in
             inr (node_copied p n r w at.0 (λ i l z q. z (h.apart i p l at.0 (q ∙ sym at.1) (λ y. absurd (omega (arith, y, q))))))
-        go Absent e (At p) d = inr (node_copied p n r w (found_at u Copies 0 p d).0 (λ i l z q. none_at u Copies (1 + n) e i l q))
-        go Absent e Absent d = inl h
+        go None e (Some p) d = inr (node_copied p n r w (found_at u Copies 0 p d).0 (λ i l z q. none_at u Copies (1 + n) e i l q))
+        go None e None d = inl h
 
   -- ---- the metadata's copy
   module _ (r st n : ℕ) where

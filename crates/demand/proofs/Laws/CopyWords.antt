@@ -8,8 +8,8 @@ use Rattle.memory.proofs.Laws.Bit.{bit_put_same, bit_put_other}
 use Rattle.layout.specs.Space.{Put, changed}
 use Rattle.layout.proofs.Laws.Space.{Only, changed_only, only_puts}
 use Rattle.nodes.specs.declared.node.Node.{Node}
-use Rattle.nodes.specs.declared.found.Found.{Found}
-use Rattle.nodes.specs.declared.found.Found.TheVariants.{At, Absent}
+use Rattle.nodes.specs.Found.{Found}
+use Rattle.std.specs.Prelude.{Some, None}
 use Rattle.nodes.specs.Flags.{with_flag}
 use Rattle.client.specs.declared.part.Set.TheVariants.{Reads, Writes, Copies}
 use Rattle.client.specs.Layout.{ClientWord, client_again, client_words, field, item, vector_word, reads_count, writes_count}
@@ -50,9 +50,9 @@ unfolding copy_node put_item nothing Only
 only_copy x r w = go (find w Copies x) (find w Copies 0)
   where
     go : (a b : Found) → Only client_words of_copies (to_place x r a b w)
-    go (At p) b = only_puts client_words of_copies (item Copies p) _ (λ i. refl)
-    go Absent (At p) = only_puts client_words of_copies (item Copies p) _ (λ i. refl)
-    go Absent Absent = tt
+    go (Some p) b = only_puts client_words of_copies (item Copies p) _ (λ i. refl)
+    go None (Some p) = only_puts client_words of_copies (item Copies p) _ (λ i. refl)
+    go None None = tt
 
 pub only_fields : (a b c : ℕ) (w : ClientWord → ℕ) → Only client_words of_copies (put_fields 12 (a ∷ b ∷ c ∷ []) w)
 unfolding put_fields

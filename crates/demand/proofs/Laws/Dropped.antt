@@ -8,8 +8,8 @@ use Rattle.layout.proofs.Laws.Space.{written_same, written_other, decide}
 use Rattle.layout.specs.Step.{and_then}
 use Rattle.layout.specs.Sweep.{sweep}
 use Rattle.nodes.specs.declared.node.Node.{Node}
-use Rattle.nodes.specs.declared.found.Found.{Found}
-use Rattle.nodes.specs.declared.found.Found.TheVariants.{At, Absent}
+use Rattle.nodes.specs.Found.{Found}
+use Rattle.std.specs.Prelude.{Some, None}
 use Rattle.operations.specs.Object.{Obj, node, taken}
 use Rattle.client.specs.declared.part.Set.TheVariants.{Reads, Writes, Copies}
 use Rattle.client.specs.Layout.{ClientWord, client_again, client_words, field, item, vector_word, reads_count, writes_count, meta_states, meta_root, meta_version}
@@ -102,8 +102,8 @@ fewer_sets f g w = record {
 -- ---- the steps that drop
 dropped_at : (f : Found) (u : ClientWord → ℕ) → Only client_words Drop (drop_at f u)
 unfolding Only Mark put_number nothing
-dropped_at (At i) u = ((refl, refl), tt)
-dropped_at Absent u = tt
+dropped_at (Some i) u = ((refl, refl), tt)
+dropped_at None u = tt
 
 dropped_vector : (s : ℕ) (u : ClientWord → ℕ) → Only client_words Drop (drop_vector s u)
 unfolding drop_vector Only Mark

@@ -6,8 +6,8 @@ use Rattle.std.proofs.Math.Option.{some, none, none-ne-some}
 use Rattle.memory.specs.Bit.{bit}
 use Rattle.layout.specs.Space.{changed}
 use Rattle.nodes.specs.declared.node.Node.{Node}
-use Rattle.nodes.specs.declared.found.Found.{Found}
-use Rattle.nodes.specs.declared.found.Found.TheVariants.{At, Absent}
+use Rattle.nodes.specs.Found.{Found}
+use Rattle.std.specs.Prelude.{Some, None}
 use Rattle.nodes.proofs.Laws.Stored.{Sized}
 use Rattle.operations.specs.Object.{Obj, Val}
 use Rattle.operations.proofs.Laws.Object.{ObjDiscrete}
@@ -31,12 +31,12 @@ use Rattle.protocol.specs.Machine as P
 -- ---- items of two parts
 module _ (k j slots : ℕ) (u v : ClientWord → ℕ) where
   new_same : (o : Obj) (a b : Val) (f : Found) → ((i : ℕ) → record_at v Writes i ≡ record_at u Writes i) → a ≡ b → new_value k j slots v o a f ≡ new_value k j slots u o b f
-  new_same o a b (At i) h e = ap (value_of o) (h i)
-  new_same o a b Absent h e = e
+  new_same o a b (Some i) h e = ap (value_of o) (h i)
+  new_same o a b None h e = e
 
   -- the item of an object, where its place in the read set and the write set are the same
   pub item_same : (o : Obj) (i : ℕ) → record_at v Reads i ≡ record_at u Reads i → find v Writes (number o) ≡ find u Writes (number o)
-      → ((i : ℕ) → record_at v Writes i ≡ record_at u Writes i) → item_from k j slots v o (At i) ≡ item_from k j slots u o (At i)
+      → ((i : ℕ) → record_at v Writes i ≡ record_at u Writes i) → item_from k j slots v o (Some i) ≡ item_from k j slots u o (Some i)
   unfolding has
   item_same o i r w h =
       let n = ap (new_value k j slots v o (value_of o (record_at v Reads i))) w
@@ -66,8 +66,8 @@ module _ (u v : ClientWord → ℕ) (h : ElseSame u v) where
 pub slot_with : (k j slots : ℕ) (u v : ClientWord → ℕ) (y : P.Slot (T k j slots)) → SlotShown k j slots u y → (is : List (P.Item (T k j slots)))
     → v phase ≡ u phase → v participants ≡ u participants → v prepared ≡ u prepared → v applied ≡ u applied
     → ((o : Obj) → InStore k j slots o → P.find (T k j slots) is o ≡ item_of k j slots v o)
-    → ((i : ℕ) → i < count v Reads → find v Reads (number_at v Reads i) ≡ At i)
-    → ((i : ℕ) → i < count v Writes → find v Writes (number_at v Writes i) ≡ At i)
+    → ((i : ℕ) → i < count v Reads → find v Reads (number_at v Reads i) ≡ Some i)
+    → ((i : ℕ) → i < count v Writes → find v Writes (number_at v Writes i) ≡ Some i)
     → ((i : P.Item (T k j slots)) → Among i is → InStore k j slots i.obj)
     → ((i : P.Item (T k j slots)) → Among i is → P.find (T k j slots) is i.obj ≡ some i)
     → Housed k j slots is
@@ -102,7 +102,7 @@ read_entered u x r h l =
 
 -- what it shows
 module _ (k j slots : ℕ) (al : slots ≤ 1024) (u v : ClientWord → ℕ) (o : Obj) (r : Node) (E : ReadEntered u v (number o) r) where
-  module _ (y : P.Slot (T k j slots)) (S : SlotShown k j slots u y) (hi : InStore k j slots o) (unread : find u Reads (number o) ≡ Absent) (unwritten : find u Writes (number o) ≡ Absent) (placed : PlacedAt k j slots y.items o (value_of o r)) where
+  module _ (y : P.Slot (T k j slots)) (S : SlotShown k j slots u y) (hi : InStore k j slots o) (unread : find u Reads (number o) ≡ None) (unwritten : find u Writes (number o) ≡ None) (placed : PlacedAt k j slots y.items o (value_of o r)) where
     abbrev it : P.Item (T k j slots)
     it = P.item (T k j slots) o (value_of o r) r.version
 
@@ -122,8 +122,8 @@ module _ (k j slots : ℕ) (al : slots ≤ 1024) (u v : ClientWord → ℕ) (o :
     old_item q h d = ap (item_from k j slots v q) (found_old Reads 10 u v (number o) r E (number q) (other_number q h d)) ∙ go (find u Reads (number q)) refl
       where
         go : (z : Found) → find u Reads (number q) ≡ z → item_from k j slots v q z ≡ item_from k j slots u q z
-        go Absent e = refl
-        go (At i) e =
+        go None e = refl
+        go (Some i) e =
             let l : i < u reads_count = subst (λ (c : ℕ). i < c) E.before (found_at u Reads (number q) i e).0 in
             item_same k j slots u v q i (record_frame u v Reads i (λ w. E.beside i w (λ z. omega arith))) (found_written u v E.other (number q)) (record_written u v E.other)
 

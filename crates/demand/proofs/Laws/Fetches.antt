@@ -20,8 +20,8 @@ use Rattle.layout.specs.Space.{Put, changed}
 use Rattle.layout.specs.Step.{and_then}
 use Rattle.layout.proofs.Laws.Step.{changed_append}
 use Rattle.nodes.specs.declared.node.Node.{Node}
-use Rattle.nodes.specs.declared.found.Found.{Found}
-use Rattle.nodes.specs.declared.found.Found.TheVariants.{At, Absent}
+use Rattle.nodes.specs.Found.{Found}
+use Rattle.std.specs.Prelude.{Some, None}
 use Rattle.operations.specs.Object.{Obj, meta, node, flag, Ask, object, vector, fetched, states_of}
 use Rattle.nodes.specs.States.{is_present}
 use Rattle.operations.proofs.Laws.Seen.{Hint, hint_of}
@@ -277,18 +277,18 @@ module _ (k j slots : ℕ) (al : slots ≤ 1024) (few : suc j ≤ 16) (m : Addre
         checked_version it e = go (E.origin meta it refl e)
           where
             read_one : (f : Found) → find u Reads 0 ≡ f → item_from k j slots u meta f ≡ some it → server_of m s.0 place.Version ≡ it.version
-            read_one Absent q h = absurd (none-ne-some it h)
-            read_one (At i) q h =
+            read_one None q h = absurd (none-ne-some it h)
+            read_one (Some i) q h =
                 let f = found_at u Reads 0 i q in
                 meta_found (record_at u Reads i) (among_more (U.read_items u) (U.used_items u us) _
                 (subst (λ (x : ℕ). Among (U.item_of u x (record_at u Reads i)) (U.read_items u)) f.1 (among_each (count u Reads) (U.read_item u) i f.0)))
                 ∙ ap (λ (x : P.Item (T k j slots)). x.version) (some-injective _ it h)
 
             now_read : (f : Found) → find v Reads 0 ≡ f → item_from k j slots v meta f ≡ some it → has v Reads 0 ≡ true
-            now_read Absent q h = absurd (none-ne-some it h)
-            now_read (At i) q h = ap is_at q
+            now_read None q h = absurd (none-ne-some it h)
+            now_read (Some i) q h = ap is_at q
 
-            go : (P.find (T k j slots) y.items meta ≡ some it) ⊎ ((find u Reads 0 ≡ Absent) × (it.version ≡ (copied u 0).node.version)) → server_of m s.0 place.Version ≡ it.version
+            go : (P.find (T k j slots) y.items meta ≡ some it) ⊎ ((find u Reads 0 ≡ None) × (it.version ≡ (copied u 0).node.version)) → server_of m s.0 place.Version ≡ it.version
             go (inl q) = read_one (find u Reads 0) refl (sym (shown.item_as meta refl) ∙ q)
             go (inr q) =
                 let used : among 0 us ≡ true = subst (λ (b : Bool). (b || among 0 us) ≡ true) (absent_has u Reads 0 q.0)

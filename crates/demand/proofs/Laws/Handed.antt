@@ -12,7 +12,7 @@ use Rattle.memory.specs.Bit.{bit}
 use Rattle.layout.proofs.Laws.Space.{Only, get_or_tab}
 use Rattle.layout.specs.Space.{changed, tab}
 use Rattle.nodes.specs.declared.node.Node.{Node}
-use Rattle.nodes.specs.declared.found.Found.TheVariants.{Absent}
+use Rattle.std.specs.Prelude.{None}
 use Rattle.nodes.specs.Lists.{pad}
 use Rattle.nodes.specs.Node.{made}
 use Rattle.nodes.specs.Stored.{node_of}
@@ -55,27 +55,27 @@ module _ (k j slots : ℕ) (al : slots ≤ 1024) (m : Address → ℕ) (L : Ledg
   abbrev S : ServerShown k j slots p s (M.value s) (M.version s) (M.table s) (M.lock s)
   S = R.servers s
 
-  abbrev At : (ClientWord → ℕ) → Type 0
-  At = Stage k j slots m L M c R
+  abbrev Some : (ClientWord → ℕ) → Type 0
+  Some = Stage k j slots m L M c R
 
   -- the read set has room, and neither set has the object
   pub record Unread (v : ClientWord → ℕ) (o : Obj) : Type 0 where
     pub room : v reads_count < 96
-    pub unread : find v Reads (number o) ≡ Absent
-    pub unwritten : find v Writes (number o) ≡ Absent
+    pub unread : find v Reads (number o) ≡ None
+    pub unwritten : find v Writes (number o) ≡ None
 
   -- "a fetch copies what the server stores"
-  handed_legal : (w : ClientWord → ℕ) (H : At w) (o : Obj) → InStore k j slots o → keeps k j slots s o ≡ true
+  handed_legal : (w : ClientWord → ℕ) (H : Some w) (o : Obj) → InStore k j slots o → keeps k j slots s o ≡ true
       → Mv.Copied (T k j slots) (machine k j slots m L M c R H.slot H.copies) c o (copy k j slots w (value_at k j slots p o) (version_at k j slots p o))
   handed_legal w H o hi kept =
       coe 0 1 (t. Mv.Copied (T k j slots) (machine k j slots m L M c R H.slot H.copies) c o (copy k j slots w (S.value_as o hi kept t) (S.version_as o hi kept t)))
       (Mv.fetched s kept)
 
   -- ---- metadata
-  pub meta_handed : (v : ClientWord → ℕ) (G : At v) → Unread v meta → At (changed client_words v (fetched_meta (metadata_at p).root (metadata_at p).states (metadata_at p).version v))
+  pub meta_handed : (v : ClientWord → ℕ) (G : Some v) → Unread v meta → Some (changed client_words v (fetched_meta (metadata_at p).root (metadata_at p).states (metadata_at p).version v))
   unfolding fetched_meta metadata_at metadata made pad
   meta_handed v G h =
-      then_keeps client_words At (enter_read 0 (metadata (p place.Version) (p place.Root) (p place.States))) (put_fields 12 (p place.States ∷ p place.Root ∷ p place.Version ∷ [])) v
+      then_keeps client_words Some (enter_read 0 (metadata (p place.Version) (p place.Root) (p place.States))) (put_fields 12 (p place.States ∷ p place.Root ∷ p place.Version ∷ [])) v
       (read_stage k j slots m L M c R al s meta (metadata (p place.Version) (p place.Root) (p place.States)) (record { keys = refl; slots = refl }) refl refl
       (sym (S.value_as meta refl refl)) (sym (S.version_as meta refl refl)) v G (record { known = inl refl; there = λ n. absurd (true≢false n) }) h.room h.unread h.unwritten)
       (λ w H. copies_stored k j slots m L M c R w (put_fields 12 (p place.States ∷ p place.Root ∷ p place.Version ∷ []) w) (only_fields (p place.States) (p place.Root) (p place.Version) w) H _
@@ -92,32 +92,32 @@ module _ (k j slots : ℕ) (al : slots ≤ 1024) (m : Address → ℕ) (L : Ledg
     unfolding node_at node_of tab
     sized = record { keys = refl; slots = refl }
 
-    inner_copied : (w : ClientWord → ℕ) → At w → At (changed client_words w (copy_node (1 + n) r w))
+    inner_copied : (w : ClientWord → ℕ) → Some w → Some (changed client_words w (copy_node (1 + n) r w))
     inner_copied w H = go (copied_node k j slots w H.copies H.shows.copies n r sized)
       where
         v : ClientWord → ℕ
         v = changed client_words w (copy_node (1 + n) r w)
 
-        go : CopiesShown k j slots v H.copies ⊎ CopiesShown k j slots v (given k j slots w H.copies H.shows.copies n r sized) → At v
+        go : CopiesShown k j slots v H.copies ⊎ CopiesShown k j slots v (given k j slots w H.copies H.shows.copies n r sized) → Some v
         go (inl h) = copies_stored k j slots m L M c R w (copy_node (1 + n) r w) (only_copy (1 + n) r w) H H.copies H.reached h
         go (inr h) =
             copies_stored k j slots m L M c R w (copy_node (1 + n) r w) (only_copy (1 + n) r w) H (given k j slots w H.copies H.shows.copies n r sized)
             (copy_on k j slots m L M c R H.slot H.copies H.reached (node n) (copy k j slots w (value_of (node n) r) r.version)
             (handed_legal w H (node n) hi kept)) h
 
-    pub node_handed : (v : ClientWord → ℕ) (G : At v) → PlacedAt k j slots G.slot.items (node n) (value_of (node n) r) → Unread v (node n) → At (changed client_words v (fetched_node n r v))
+    pub node_handed : (v : ClientWord → ℕ) (G : Some v) → PlacedAt k j slots G.slot.items (node n) (value_of (node n) r) → Unread v (node n) → Some (changed client_words v (fetched_node n r v))
     unfolding fetched_node copy_inner nothing changed
     node_handed v G placed h =
-        then_keeps client_words At (enter_read (1 + n) r) (copy_inner (1 + n) r) v
+        then_keeps client_words Some (enter_read (1 + n) r) (copy_inner (1 + n) r) v
         (read_stage k j slots m L M c R al s (node n) r sized hi kept (sym (S.value_as (node n) hi kept)) (sym (S.version_as (node n) hi kept)) v G placed h.room h.unread h.unwritten)
         (λ w H. go w H (eqb r.kind 2))
       where
-        go : (w : ClientWord → ℕ) → At w → (b : Bool) → At (changed client_words w (cond b (copy_node (1 + n) r) nothing w))
+        go : (w : ClientWord → ℕ) → Some w → (b : Bool) → Some (changed client_words w (cond b (copy_node (1 + n) r) nothing w))
         go w H true = inner_copied w H
         go w H false = H
 
   -- ---- a vector: all flags of this server; "a vector is no object: it enters no set"
-  module _ (w : ClientWord → ℕ) (H : At w) where
+  module _ (w : ClientWord → ℕ) (H : Some w) where
     -- a flag of this server
     abbrev ours? : ℕ → Bool
     ours? n = keeps k j slots s (flag n) && object_in_store slots (flag n)
@@ -173,10 +173,10 @@ module _ (k j slots : ℕ) (al : slots ≤ 1024) (m : Address → ℕ) (L : Ledg
         at : (a : ClientWord) → changed client_words v (put_field 8 x v) a ≡ last client_words (put_field 8 x v) a (v a)
         at a = read_after client_words (put_field 8 x v) v a
 
-    pub vector_handed : At (changed client_words w (fetched_vector s.0 (vector_at p) w))
+    pub vector_handed : Some (changed client_words w (fetched_vector s.0 (vector_at p) w))
     unfolding fetched_vector mark_fetched put_word Only
     vector_handed =
-        then_keeps client_words At (put_vector s.0 (vector_at p)) (mark_fetched s.0) w
+        then_keeps client_words Some (put_vector s.0 (vector_at p)) (mark_fetched s.0) w
         (copies_stored k j slots m L M c R w (put_vector s.0 (vector_at p) w) (only_vector s.0 (vector_at p) w) H g
         (copies_on k j slots m L M c R H.slot H.copies H.reached g flags_legal)
         (vector_put k j slots w H.copies H.shows.copies s.0 (vector_at p) g flags_are))

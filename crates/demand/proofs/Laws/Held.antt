@@ -7,8 +7,8 @@ use Rattle.std.proofs.Math.Option.{some, none-ne-some, some-injective}
 use Rattle.std.proofs.Math.Decide.{ℕ_discrete}
 use Rattle.base.specs.Test.{and_both}
 use Rattle.base.proofs.Laws.Test.{or_left, or_right, or_cases}
-use Rattle.nodes.specs.declared.found.Found.{Found}
-use Rattle.nodes.specs.declared.found.Found.TheVariants.{At, Absent}
+use Rattle.nodes.specs.Found.{Found}
+use Rattle.std.specs.Prelude.{Some, None}
 use Rattle.operations.specs.Object.{Obj}
 use Rattle.protocol.specs.Lists.{Among, all, any}
 use Rattle.protocol.proofs.Laws.Lists.{any_among, any_in, all_in}
@@ -64,58 +64,58 @@ same_test false true f g = g refl
 same_test false false f g = refl
 
 -- ---- a search
-pub absent≢at : (i : ℕ) → ◌≡◌ {A = Found} Absent (At i) → ⊥
-absent≢at i e = true≢false (ap (λ (f : Found). elim f [ At i ↦ false | Absent ↦ true ]) e)
+pub absent≢at : (i : ℕ) → ◌≡◌ {A = Found} None (Some i) → ⊥
+absent≢at i e = true≢false (ap (λ (f : Found). elim f [ Some i ↦ false | None ↦ true ]) e)
 
-pub at_same : (i n : ℕ) → ◌≡◌ {A = Found} (At i) (At n) → i ≡ n
-at_same i n e = ap (λ (f : Found). elim f [ At x ↦ x | Absent ↦ 0 ]) e
+pub at_same : (i n : ℕ) → ◌≡◌ {A = Found} (Some i) (Some n) → i ≡ n
+at_same i n e = ap (λ (f : Found). elim f [ Some x ↦ x | None ↦ 0 ]) e
 
-pub first_at : (f : ℕ → ℕ) (n x i : ℕ) → first_of f n x ≡ At i → (i < n) × (f i ≡ x)
+pub first_at : (f : ℕ → ℕ) (n x i : ℕ) → first_of f n x ≡ Some i → (i < n) × (f i ≡ x)
 unfolding first_of
 first_at f zero x i h = absurd (absent≢at i h)
 first_at f (suc n) x i h = go (first_of f n x) refl (eqb (f n) x) refl h (first_at f n x)
   where
-    go : (z : Found) → first_of f n x ≡ z → (b : Bool) → eqb (f n) x ≡ b → or_found z (cond b (At n) Absent) ≡ At i
-        → ((i : ℕ) → first_of f n x ≡ At i → (i < n) × (f i ≡ x)) → (i < suc n) × (f i ≡ x)
-    go (At q) e b t h rec =
+    go : (z : Found) → first_of f n x ≡ z → (b : Bool) → eqb (f n) x ≡ b → or_found z (cond b (Some n) None) ≡ Some i
+        → ((i : ℕ) → first_of f n x ≡ Some i → (i < n) × (f i ≡ x)) → (i < suc n) × (f i ≡ x)
+    go (Some q) e b t h rec =
         let r = rec q e in
         let same = at_same q i h in
         subst (λ (w : ℕ). (w < suc n) × (f w ≡ x)) same (omega (arith, r.0), r.1)
-    go Absent e true t h rec = subst (λ (w : ℕ). (w < suc n) × (f w ≡ x)) (at_same n i h) (omega arith, eqb-true (f n) x t)
-    go Absent e false t h rec = absurd (absent≢at i h)
+    go None e true t h rec = subst (λ (w : ℕ). (w < suc n) × (f w ≡ x)) (at_same n i h) (omega arith, eqb-true (f n) x t)
+    go None e false t h rec = absurd (absent≢at i h)
 
-first_none : (f : ℕ → ℕ) (n x : ℕ) → first_of f n x ≡ Absent → (i : ℕ) → i < n → ¬ (f i ≡ x)
+first_none : (f : ℕ → ℕ) (n x : ℕ) → first_of f n x ≡ None → (i : ℕ) → i < n → ¬ (f i ≡ x)
 unfolding first_of
 first_none f zero x h i l e = absurd (omega arith)
 first_none f (suc n) x h i l e = go (first_of f n x) refl (eqb (f n) x) refl h (first_none f n x) (ℕ_discrete i n)
   where
-    go : (z : Found) → first_of f n x ≡ z → (b : Bool) → eqb (f n) x ≡ b → or_found z (cond b (At n) Absent) ≡ Absent
-        → (first_of f n x ≡ Absent → (i : ℕ) → i < n → ¬ (f i ≡ x)) → Dec (i ≡ n) → ⊥
-    go (At q) p b t h rec d = absent≢at q (sym h)
-    go Absent p true t h rec d = absent≢at n (sym h)
-    go Absent p false t h rec (yes d) = eqb-false (f n) x t (ap f (sym d) ∙ e)
-    go Absent p false t h rec (no d) = rec p i (omega arith) e
+    go : (z : Found) → first_of f n x ≡ z → (b : Bool) → eqb (f n) x ≡ b → or_found z (cond b (Some n) None) ≡ None
+        → (first_of f n x ≡ None → (i : ℕ) → i < n → ¬ (f i ≡ x)) → Dec (i ≡ n) → ⊥
+    go (Some q) p b t h rec d = absent≢at q (sym h)
+    go None p true t h rec d = absent≢at n (sym h)
+    go None p false t h rec (yes d) = eqb-false (f n) x t (ap f (sym d) ∙ e)
+    go None p false t h rec (no d) = rec p i (omega arith) e
 
 module _ (u : ClientWord → ℕ) where
   -- an object that a set has not
-  pub none_at : (s : Set) (x : ℕ) → find u s x ≡ Absent → (i : ℕ) → i < count u s → ¬ (number_at u s i ≡ x)
+  pub none_at : (s : Set) (x : ℕ) → find u s x ≡ None → (i : ℕ) → i < count u s → ¬ (number_at u s i ≡ x)
   unfolding find
   none_at s x h = first_none (number_at u s) (count u s) x h
 
-  pub found_at : (s : Set) (x i : ℕ) → find u s x ≡ At i → (i < count u s) × (number_at u s i ≡ x)
+  pub found_at : (s : Set) (x i : ℕ) → find u s x ≡ Some i → (i < count u s) × (number_at u s i ≡ x)
   unfolding find
   found_at s x i h = first_at (number_at u s) (count u s) x i h
 
   -- an object that a set has
-  pub has_at : (s : Set) (x : ℕ) → has u s x ≡ true → (i : ℕ) × (find u s x ≡ At i)
+  pub has_at : (s : Set) (x : ℕ) → has u s x ≡ true → (i : ℕ) × (find u s x ≡ Some i)
   unfolding has
   has_at s x h = go (find u s x) refl
     where
-      go : (z : Found) → find u s x ≡ z → (i : ℕ) × (find u s x ≡ At i)
-      go (At i) e = (i, e)
-      go Absent e = absurd (false≢true (ap is_at (sym e) ∙ h))
+      go : (z : Found) → find u s x ≡ z → (i : ℕ) × (find u s x ≡ Some i)
+      go (Some i) e = (i, e)
+      go None e = absurd (false≢true (ap is_at (sym e) ∙ h))
 
-  pub at_has : (s : Set) (x i : ℕ) → find u s x ≡ At i → has u s x ≡ true
+  pub at_has : (s : Set) (x i : ℕ) → find u s x ≡ Some i → has u s x ≡ true
   unfolding has
   at_has s x i e = ap is_at e
 
@@ -171,8 +171,8 @@ module _ (k j slots : ℕ) (al : slots ≤ 1024) (u : ClientWord → ℕ) (fit :
         shown = sym (h.item_as a.obj (h.inside a q)) ∙ h.unique a q
 
         go : (z : Found) → find u Reads (number a.obj) ≡ z → (i : ℕ) × (i < count u Reads) × (a ≡ item_at i)
-        go Absent e = absurd (none-ne-some a (ap (item_from k j slots u a.obj) (sym e) ∙ shown))
-        go (At i) e =
+        go None e = absurd (none-ne-some a (ap (item_from k j slots u a.obj) (sym e) ∙ shown))
+        go (Some i) e =
             let f = found_at u Reads (number a.obj) i e in
             let same : obj_of (number_at u Reads i) ≡ a.obj = ap obj_of f.1 ∙ obj_number slots al a.obj (h.inside a q) in
             let here : item_for a.obj i ≡ a = some-injective (item_for a.obj i) a (ap (item_from k j slots u a.obj) (sym e) ∙ shown) in

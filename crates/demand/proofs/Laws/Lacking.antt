@@ -6,8 +6,8 @@ use Rattle.std.proofs.Math.Bool.{true, false}
 use mathlib.Core.List.{List, [], ◌∷◌, ◌++◌}
 use Rattle.std.proofs.Math.Option.{Option, none, some, none-ne-some, some-ne-none, some-injective}
 use borrow.Author.Tests.{ne_eqb}
-use Rattle.nodes.specs.declared.found.Found.{Found}
-use Rattle.nodes.specs.declared.found.Found.TheVariants.{At, Absent}
+use Rattle.nodes.specs.Found.{Found}
+use Rattle.std.specs.Prelude.{Some, None}
 use Rattle.operations.specs.Object.{Obj, Ask, object, vector, fetched, Val, Ans}
 use Rattle.operations.specs.Operation.{reading, all_fit?}
 use Rattle.operations.specs.Path.{TreePlan}
@@ -89,8 +89,8 @@ module _ (slots : ℕ) (u : ClientWord → ℕ) where
 -- ---- an object that is lacking
 pub record Lacks (slots : ℕ) (u : ClientWord → ℕ) (o : Obj) : Type 0 where
   pub inside : object_in_store slots o ≡ true
-  pub unwritten : find u Writes (number o) ≡ Absent
-  pub unread : find u Reads (number o) ≡ Absent
+  pub unwritten : find u Writes (number o) ≡ None
+  pub unread : find u Reads (number o) ≡ None
 
 pub lacks_object : (slots : ℕ) (u : ClientWord → ℕ) (o : Obj) → have slots u (object o) ≡ none → broken slots u (object o) ≡ false → Lacks slots u o
 unfolding have broken source
@@ -105,10 +105,10 @@ lacks_object slots u o h b = in_store? (object_in_store slots o) refl h b
     not_found true false h b = absurd (true≢false b)
 
     sets : (w : Found) → find u Writes (number o) ≡ w → (r : Found) → find u Reads (number o) ≡ r → is_found (or_read u (number o) w).how ≡ false
-        → (find u Writes (number o) ≡ Absent) × (find u Reads (number o) ≡ Absent)
-    sets (At i) p r q e = absurd (true≢false e)
-    sets Absent p Absent q e = (p, q)
-    sets Absent p (At i) q e = absurd (true≢false (sym (ap (λ (f : Found). is_found (or_copied u (number o) f).how) q) ∙ e))
+        → (find u Writes (number o) ≡ None) × (find u Reads (number o) ≡ None)
+    sets (Some i) p r q e = absurd (true≢false e)
+    sets None p None q e = (p, q)
+    sets None p (Some i) q e = absurd (true≢false (sym (ap (λ (f : Found). is_found (or_copied u (number o) f).how) q) ∙ e))
 
     in_store? : (s : Bool) → object_in_store slots o ≡ s → cond s (valued slots u o l) none ≡ none → cond s (unusable slots u (number o) l) true ≡ false → Lacks slots u o
     in_store? false e h b = absurd (true≢false b)

@@ -13,8 +13,8 @@ use Rattle.layout.specs.Step.{and_then}
 use Rattle.layout.proofs.Laws.Step.{changed_append}
 use Rattle.layout.specs.Sweep.{sweep}
 use Rattle.nodes.specs.declared.node.Node.{Node}
-use Rattle.nodes.specs.declared.found.Found.{Found}
-use Rattle.nodes.specs.declared.found.Found.TheVariants.{At, Absent}
+use Rattle.nodes.specs.Found.{Found}
+use Rattle.std.specs.Prelude.{Some, None}
 use Rattle.operations.specs.Object.{Obj, meta, node, flag, Val}
 use Rattle.operations.proofs.Laws.Object.{inner}
 use Rattle.server.specs.declared.place.Place.{Place}
@@ -176,8 +176,8 @@ module _ (k j slots : ℕ) (al : slots ≤ 1024) where
     -- of what is written: inner as written
     becomes_same : (f : Found) → I.of_record u Writes (I.inner (number o)) f
         ≡ (is_at f && inner o (new_value k j slots u o (value_of o r) f))
-    becomes_same Absent = refl
-    becomes_same (At w) = inner_of slots al o hi (record_at u Writes w)
+    becomes_same None = refl
+    becomes_same (Some w) = inner_of slots al o hi (record_at u Writes w)
 
     pub write_same : (I.has u Writes (number o) && U.locked_at low s.0 asked) ≡ Mv.to_write (T k j slots) s held
     unfolding U.locked_at U.checked_at U.item_of I.has
@@ -236,8 +236,8 @@ module _ (k j slots : ℕ) (al : slots ≤ 1024) where
                 is_none true f = becomes_same u y s low el (flag n) i hi f ∙ none f
                   where
                     none : (f : Found) → (is_at f && false) ≡ false
-                    none (At w) = refl
-                    none Absent = refl
+                    none (Some w) = refl
+                    none None = refl
                 is_none false f = refl
 
             kept : (U.checked_at low s.0 (U.item_of u (number (flag n)) (record_at u Reads i)) ≡ true)
@@ -260,12 +260,12 @@ module _ (k j slots : ℕ) (al : slots ≤ 1024) where
       abbrev swept : ℕ
       swept = after here lk F p (count u Reads) (lock_place o)
 
-      pub none_swept : find u Reads (number o) ≡ Absent → swept ≡ p (lock_place o)
+      pub none_swept : find u Reads (number o) ≡ None → swept ≡ p (lock_place o)
       none_swept e =
           swept_other here lk F p (count u Reads) (lock_place o)
           (λ t l b q. absent≢at t (sym e ∙ ap (find u Reads) (ap number (is_it t l b q) ∙ number_obj (number_at u Reads t)) ∙ h.read_found t l))
 
-      module _ (i : ℕ) (e : find u Reads (number o) ≡ At i) where
+      module _ (i : ℕ) (e : find u Reads (number o) ≡ Some i) where
         at : (i < count u Reads) × (number_at u Reads i ≡ number o)
         unfolding count
         at = found_at u Reads (number o) i e
@@ -289,7 +289,7 @@ module _ (k j slots : ℕ) (al : slots ≤ 1024) where
 
       -- the lock is that of an object that is read and locked here, or its word stays
       abbrev pub Here : ℕ → Type 0
-      Here i = (find u Reads (number o) ≡ At i) × (here i ≡ true)
+      Here i = (find u Reads (number o) ≡ Some i) × (here i ≡ true)
 
       abbrev Becomes : ℕ → ℕ → Type 0
       Becomes w old = ((i : ℕ) × Here i × (w ≡ F i old)) ⊎ (((i : ℕ) → ¬ (Here i)) × (w ≡ old))
@@ -303,8 +303,8 @@ module _ (k j slots : ℕ) (al : slots ≤ 1024) where
           (go (find u Reads (number o)) refl)
         where
           go : (f : Found) → find u Reads (number o) ≡ f → Becomes swept (p (lock_place o))
-          go Absent e = inr (λ i q. absent≢at i (sym e ∙ q.0), none_swept e)
-          go (At i) e = by (here i) refl
+          go None e = inr (λ i q. absent≢at i (sym e ∙ q.0), none_swept e)
+          go (Some i) e = by (here i) refl
             where
               by : (b : Bool) → here i ≡ b → Becomes swept (p (lock_place o))
               by true b = inl (i, (e, b), one_swept i e b)

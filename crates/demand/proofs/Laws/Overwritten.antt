@@ -4,8 +4,8 @@ use Rattle.std.proofs.Math.Path.{refl, ap}
 use Rattle.std.proofs.Common.{sym, ◌∙◌, subst, inl, inr, arith}
 use Rattle.std.proofs.Math.Option
 use Rattle.std.proofs.Math.Option.{some}
-use Rattle.nodes.specs.declared.found.Found.{Found}
-use Rattle.nodes.specs.declared.found.Found.TheVariants.{At, Absent}
+use Rattle.nodes.specs.Found.{Found}
+use Rattle.std.specs.Prelude.{Some, None}
 use Rattle.operations.specs.Object.{Obj, meta, Val, states_of, Writes}
 use Rattle.operations.proofs.Laws.Object.{ObjDiscrete}
 use Rattle.operations.proofs.Laws.Storable.{AllStorable}
@@ -41,8 +41,8 @@ unfolding write_of
 new_write k j slots u o a = go (find u set.Writes (number o))
   where
     go : (z : Found) → new_value k j slots u o a z ≡ value_in o a (written_at u z)
-    go (At i) = refl
-    go Absent = refl
+    go (Some i) = refl
+    go None = refl
 
 module _ (k j slots : ℕ) (al : slots ≤ 1024) (u v : ClientWord → ℕ) (w : Writes) (R : Rewritten u v (by_writes w)) (kept : AllStorable Any w) (within : AllInside k j slots al w) (y : P.Slot (T k j slots)) (S : SlotShown k j slots u y) where
   abbrev wrote : P.Item (T k j slots) → P.Item (T k j slots)
@@ -60,7 +60,7 @@ module _ (k j slots : ℕ) (al : slots ≤ 1024) (u v : ClientWord → ℕ) (w :
   found_read x = find_frame u v set.Reads reads_same (λ i. read_same i 0) x
 
   -- an item with the writes
-  item_written : (o : Obj) → InStore k j slots o → (i : ℕ) → Option.map wrote (item_from k j slots u o (At i)) ≡ item_from k j slots v o (At i)
+  item_written : (o : Obj) → InStore k j slots o → (i : ℕ) → Option.map wrote (item_from k j slots u o (Some i)) ≡ item_from k j slots v o (Some i)
   item_written o h i =
       let r = sym (record_frame u v set.Reads i (read_same i)) in
       let a = value_of o (record_at u set.Reads i) in
@@ -86,8 +86,8 @@ module _ (k j slots : ℕ) (al : slots ≤ 1024) (u v : ClientWord → ℕ) (w :
           ∙ ap (item_from k j slots v o) (sym (found_read (number o)))
         where
           go : (z : Found) → Option.map wrote (item_from k j slots u o z) ≡ item_from k j slots v o z
-          go (At i) = item_written o h i
-          go Absent = refl
+          go (Some i) = item_written o h i
+          go None = refl
 
       inside : (i : P.Item (T k j slots)) → Among i (map wrote y.items) → InStore k j slots i.obj
       inside i h = let r = among_changed wrote y.items i h in subst (λ (i : P.Item (T k j slots)). InStore k j slots i.obj) (sym r.2) (S.inside r.0 r.1)

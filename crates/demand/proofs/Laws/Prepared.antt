@@ -11,8 +11,8 @@ use Rattle.base.specs.Update.{upd}
 use Rattle.base.proofs.Laws.Update.{upd_same, upd_other}
 use Rattle.memory.specs.Bit.{bit}
 use Rattle.layout.specs.Space.{Put, changed}
-use Rattle.nodes.specs.declared.found.Found.{Found}
-use Rattle.nodes.specs.declared.found.Found.TheVariants.{At, Absent}
+use Rattle.nodes.specs.Found.{Found}
+use Rattle.std.specs.Prelude.{Some, None}
 use Rattle.operations.specs.Object.{Obj}
 use Rattle.operations.proofs.Laws.Object.{inner}
 use Rattle.server.specs.declared.lock.Use.TheVariants.{Read, Write}
@@ -255,8 +255,8 @@ module _ (k j slots : ℕ) (al : slots ≤ 1024) (few : suc j ≤ 16) (m : Addre
             subst (λ (x : Option (P.Item (T k j slots))). Recorded k j slots (Row x) W) (sym (shown.item_as o hi ∙ ap (item_from k j slots u o) e)) (go f e)
           where
             go : (f : Found) → find u Reads (number o) ≡ f → Recorded k j slots (Row (item_from k j slots u o f)) W
-            go Absent e = subst (Recorded k j slots l) (sym (none_swept k j slots al u fit y shown s low el p F o hi kept e)) old
-            go (At i) e =
+            go None e = subst (Recorded k j slots l) (sym (none_swept k j slots al u fit y shown s low el p F o hi kept e)) old
+            go (Some i) e =
                 subst (λ (w : Bool). Recorded k j slots (Mv.grant (T k j slots) c w (Mv.to_read (T k j slots) y.lowest s (held k j slots al u y s low el o i hi)) l) W)
                 (write_same k j slots al u y s low el o i hi)
                 (subst (λ (r : Bool). Recorded k j slots (Mv.grant (T k j slots) c (I.has u Writes (number o) && U.locked_at low s.0 a) r l) W)

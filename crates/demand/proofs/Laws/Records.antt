@@ -8,8 +8,8 @@ use Rattle.std.proofs.Math.Dec.{leb}
 use Rattle.base.specs.Test.{and_both, one_if}
 use Rattle.plans.specs.Walk.{Every}
 use Rattle.nodes.specs.declared.node.Node.{Node}
-use Rattle.nodes.specs.declared.found.Found.{Found}
-use Rattle.nodes.specs.declared.found.Found.TheVariants.{At, Absent}
+use Rattle.nodes.specs.Found.{Found}
+use Rattle.std.specs.Prelude.{Some, None}
 use Rattle.nodes.specs.Lists.{pad}
 use Rattle.nodes.specs.Node.{keys_of, slots_of, made}
 use Rattle.nodes.proofs.Laws.Node.{length_keysOf, length_slotsOf, keys_made, slots_made, extra_le}
@@ -72,9 +72,9 @@ unfolding source
 source_whole u x = go (find u Writes x) (find u Reads x) refl
   where
     go : (w r : Found) → find u Reads x ≡ r → Sized (or_read u x w).node
-    go (At i) r e = record_sized u Writes i
-    go Absent (At i) e = subst (λ z. Sized (or_copied u x z).node) (sym e) (record_sized u Reads i)
-    go Absent Absent e = subst (λ z. Sized (or_copied u x z).node) (sym e) (copied_sized u x)
+    go (Some i) r e = record_sized u Writes i
+    go None (Some i) e = subst (λ z. Sized (or_copied u x z).node) (sym e) (record_sized u Reads i)
+    go None None e = subst (λ z. Sized (or_copied u x z).node) (sym e) (copied_sized u x)
 
 -- what an object's record points to is in the store
 abbrev pub Points : (ℕ → Type 0) → Obj → Node → Type 0

@@ -17,8 +17,8 @@ use Rattle.memory.specs.Bit.{bit}
 use Rattle.layout.specs.Space.{changed, tab}
 use Rattle.layout.proofs.Laws.Space.{length_tab, get_or_tab}
 use Rattle.nodes.specs.declared.node.Node.{Node}
-use Rattle.nodes.specs.declared.found.Found.{Found}
-use Rattle.nodes.specs.declared.found.Found.TheVariants.{At, Absent}
+use Rattle.nodes.specs.Found.{Found}
+use Rattle.std.specs.Prelude.{Some, None}
 use Rattle.nodes.specs.Flags.{with_flag}
 use Rattle.nodes.specs.Node.{keys_of, slots_of}
 use Rattle.nodes.specs.Stored.{node_of}
@@ -85,7 +85,7 @@ pub record Renews (R : (ClientWord → ℕ) → Type 0) : Type 0 where
   pub node_renews : (i : ℕ) (w : ClientWord → ℕ) → R w → i < count w Writes → inner_at w Writes i ≡ true
       → R (changed client_words w (copy_node (number_at w Writes i) (Rn.renewed w i) w))
   -- "metadata"
-  pub meta_renews : (i : ℕ) (w : ClientWord → ℕ) → R w → find w Writes 0 ≡ At i
+  pub meta_renews : (i : ℕ) (w : ClientWord → ℕ) → R w → find w Writes 0 ≡ Some i
       → R (changed client_words w (put_fields 12 (w (item Writes i 20) ∷ w (item Writes i 19) ∷ Rn.new_version w 0 ∷ []) w))
   -- "flags", in their vectors; x: before the first of them
   pub flag_renews : (i : ℕ) (w x : ClientWord → ℕ) → R w → R x → i < count x Writes → 8193 ≤ number_at w Writes i
@@ -98,8 +98,8 @@ module _ (R : (ClientWord → ℕ) → Type 0) (K : Renews R) where
   nth_renews q w r = go (Rn.ranked w (q + 1)) refl
     where
       go : (f : Found) → Rn.ranked w (q + 1) ≡ f → R (changed client_words w (Rn.renew_found w f w))
-      go Absent e = r
-      go (At i) e = by_kind (bool_cases (inner_at w Writes i))
+      go None e = r
+      go (Some i) e = by_kind (bool_cases (inner_at w Writes i))
         where
           at : (i < count w Writes) × (Rn.rank w i ≡ q + 1)
           at = first_at (Rn.rank w) (count w Writes) (q + 1) i e
@@ -115,8 +115,8 @@ module _ (R : (ClientWord → ℕ) → Type 0) (K : Renews R) where
   metadata_renews w r = go (find w Writes 0) refl
     where
       go : (f : Found) → find w Writes 0 ≡ f → R (changed client_words w (Rn.meta_found w f w))
-      go Absent e = r
-      go (At i) e = K.meta_renews i w r e
+      go None e = r
+      go (Some i) e = K.meta_renews i w r e
 
   in_vector : (i : ℕ) (w x : ClientWord → ℕ) → R w → R x → i < count x Writes → R (changed client_words w (Rn.renew_flag i w))
   unfolding Rn.renew_flag Rn.renew_in nothing changed
@@ -164,7 +164,7 @@ module _ (k j slots : ℕ) (al : slots ≤ 1024) (M : P.Machine (T k j slots)) (
   pub record Written (i : ℕ) (o : Obj) : Type 0 where
     pub stored : InStore k j slots o
     pub read_at : ℕ
-    pub found : find u Reads (number_at u Writes i) ≡ At read_at
+    pub found : find u Reads (number_at u Writes i) ≡ Some read_at
     pub item : P.Item (T k j slots)
     pub has : P.find (T k j slots) (M.slots c).items o ≡ some item
     pub written : item.written ≡ true
@@ -202,10 +202,10 @@ module _ (k j slots : ℕ) (al : slots ≤ 1024) (M : P.Machine (T k j slots)) (
       r : ℕ
       r = (has_at u Reads x in_both.1).0
 
-      e : find u Reads x ≡ At r
+      e : find u Reads x ≡ Some r
       e = (has_at u Reads x in_both.1).1
 
-      there : find u Writes (number o) ≡ At i
+      there : find u Writes (number o) ≡ Some i
       there = ap (find u Writes) (number_obj x) ∙ shown.write_found i l
 
   -- ---- copies on the way: the machine's, with those of this client that are renewed so far
@@ -336,7 +336,7 @@ module _ (k j slots : ℕ) (al : slots ≤ 1024) (M : P.Machine (T k j slots)) (
             (renewed_legal K.copies i (node n) W (value_of (node n) r) r.version (ap (value_of (node n)) (record_is i)) new) h
 
     -- ---- "metadata"
-    meta_renewed : eqb (u lost) 1 ≡ false → (i : ℕ) → find w Writes 0 ≡ At i → Renewing (changed client_words w (put_fields 12 (w (item Writes i 20) ∷ w (item Writes i 19) ∷ Rn.new_version w 0 ∷ []) w))
+    meta_renewed : eqb (u lost) 1 ≡ false → (i : ℕ) → find w Writes 0 ≡ Some i → Renewing (changed client_words w (put_fields 12 (w (item Writes i 20) ∷ w (item Writes i 19) ∷ Rn.new_version w 0 ∷ []) w))
     unfolding obj_of I.inner
     meta_renewed kept i e =
         renewal w (changed client_words w (put_fields 12 (w (item Writes i 20) ∷ w (item Writes i 19) ∷ Rn.new_version w 0 ∷ []) w)) K

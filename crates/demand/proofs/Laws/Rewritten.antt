@@ -11,8 +11,8 @@ use Rattle.layout.specs.Step.{and_then}
 use Rattle.layout.proofs.Laws.Step.{changed_append}
 use Rattle.plans.specs.Walk.{Every}
 use Rattle.nodes.specs.declared.node.Node.{Node}
-use Rattle.nodes.specs.declared.found.Found.{Found}
-use Rattle.nodes.specs.declared.found.Found.TheVariants.{At, Absent}
+use Rattle.nodes.specs.Found.{Found}
+use Rattle.std.specs.Prelude.{Some, None}
 use Rattle.nodes.proofs.Laws.Stored.{Sized}
 use Rattle.client.specs.declared.part.Set.TheVariants.{Writes}
 use Rattle.client.specs.Layout.{ClientWord, client_words, item, writes_count}
@@ -31,8 +31,8 @@ use Rattle.demand.proofs.Laws.Latest.{with_entry, by_entries, AllWhole, is_there
 
 -- the record that the write set has of the object with number x
 abbrev pub written_at : (ClientWord → ℕ) → Found → Option Node
-written_at u (At i) = some (record_at u Writes i)
-written_at u Absent = none
+written_at u (Some i) = some (record_at u Writes i)
+written_at u None = none
 
 unfoldable pub write_of : (ClientWord → ℕ) → ℕ → Option Node
 write_of u x = written_at u (find u Writes x)
@@ -42,12 +42,12 @@ unfolding has write_of
 has_write u x = go (find u Writes x)
   where
     go : (z : Found) → is_at z ≡ is_there (written_at u z)
-    go (At i) = refl
-    go Absent = refl
+    go (Some i) = refl
+    go None = refl
 
 -- no object has two items
 abbrev pub EachOnce : (ClientWord → ℕ) → Type 0
-EachOnce u = (i : ℕ) → i < count u Writes → find u Writes (number_at u Writes i) ≡ At i
+EachOnce u = (i : ℕ) → i < count u Writes → find u Writes (number_at u Writes i) ≡ Some i
 
 -- v is u with other writes, as g says of each number; everything but the write set is the same
 pub record Rewritten (u v : ClientWord → ℕ) (g : ℕ → Option Node → Option Node) : Type 0 where
@@ -61,15 +61,15 @@ module _ (u v : ClientWord → ℕ) (x : ℕ) (r : Node) where
   RewrittenAt = Rewritten u v (with_entry (x, r)) × (v writes_count ≡ cond (has u Writes x) (u writes_count) (suc (u writes_count)))
 
   -- where x is found as the record r, and the others as they were
-  looks : (i : ℕ) → find v Writes x ≡ At i → record_at v Writes i ≡ r
-      → ((q : ℕ) → ¬ (q ≡ x) → (find v Writes q ≡ find u Writes q) × ((n : ℕ) → find u Writes q ≡ At n → record_at v Writes n ≡ record_at u Writes n))
+  looks : (i : ℕ) → find v Writes x ≡ Some i → record_at v Writes i ≡ r
+      → ((q : ℕ) → ¬ (q ≡ x) → (find v Writes q ≡ find u Writes q) × ((n : ℕ) → find u Writes q ≡ Some n → record_at v Writes n ≡ record_at u Writes n))
       → (q : ℕ) → write_of v q ≡ with_entry (x, r) q (write_of u q)
   unfolding write_of
   looks i e s h q = go (ℕ_discrete q x)
     where
-      old : (z : Found) → ((n : ℕ) → z ≡ At n → record_at v Writes n ≡ record_at u Writes n) → written_at v z ≡ written_at u z
-      old (At n) f = ap some (f n refl)
-      old Absent f = refl
+      old : (z : Found) → ((n : ℕ) → z ≡ Some n → record_at v Writes n ≡ record_at u Writes n) → written_at v z ≡ written_at u z
+      old (Some n) f = ap some (f n refl)
+      old None f = refl
 
       go : Dec (q ≡ x) → written_at v (find v Writes q) ≡ cond (eqb x q) (some r) (written_at u (find u Writes q))
       go (yes p) =
@@ -81,7 +81,7 @@ module _ (u v : ClientWord → ℕ) (x : ℕ) (r : Node) where
           ∙ ap (λ (b : Bool). cond b (some r) (written_at u (find u Writes q))) (sym (ne_eqb x q (λ z. d (sym z))))
 
 -- in its object's place
-module _ (u : ClientWord → ℕ) (x i : ℕ) (r : Node) (w : Sized r) (e : find u Writes x ≡ At i) where
+module _ (u : ClientWord → ℕ) (x i : ℕ) (r : Node) (w : Sized r) (e : find u Writes x ≡ Some i) where
   abbrev v : ClientWord → ℕ
   v = placed Writes i x r w u
 
@@ -123,7 +123,7 @@ module _ (u : ClientWord → ℕ) (x i : ℕ) (r : Node) (w : Sized r) (e : find
       there = at_has u Writes x i e
 
 -- behind the others
-module _ (u v : ClientWord → ℕ) (x : ℕ) (r : Node) (B : Behind Writes 11 u v x r) (e : find u Writes x ≡ Absent) where
+module _ (u v : ClientWord → ℕ) (x : ℕ) (r : Node) (B : Behind Writes 11 u v x r) (e : find u Writes x ≡ None) where
   added : RewrittenAt u v x r
   added = (
     record {
@@ -145,8 +145,8 @@ unfolding enter_write has
 one_entered u x r w l = go (find u Writes x) refl
   where
     go : (z : Found) → find u Writes x ≡ z → RewrittenAt u (changed client_words u (enter_at x r (count u Writes) (find u Writes x) u)) x r
-    go (At i) e = subst (λ z. RewrittenAt u (changed client_words u (enter_at x r (count u Writes) z u)) x r) (sym e) (replaced u x i r w e)
-    go Absent e =
+    go (Some i) e = subst (λ z. RewrittenAt u (changed client_words u (enter_at x r (count u Writes) z u)) x r) (sym e) (replaced u x i r w e)
+    go None e =
         let room : suc (u writes_count) ≤ 48 = subst (λ (b : Bool). cond b (u writes_count) (suc (u writes_count)) ≤ 48) (ap is_at e) l in
         let c = writes_within u (omega arith) in
         let t = lt-ltb (u writes_count) 48 (omega arith) in

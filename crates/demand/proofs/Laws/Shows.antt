@@ -4,8 +4,8 @@ use Rattle.std.specs.Prelude.{◌≡◌, Bool, true, false, ◌||◌, List, [], 
 use Rattle.std.proofs.Math.Option.{Option, none, some}
 use Prim.Native.Nat.{ℕ, suc, ◌+◌, ◌/◌, ◌%◌, ◌≤◌, ◌<◌, Fin}
 use Rattle.memory.specs.Bit.{bit}
-use Rattle.nodes.specs.declared.found.Found.{Found}
-use Rattle.nodes.specs.declared.found.Found.TheVariants.{At, Absent}
+use Rattle.nodes.specs.Found.{Found}
+use Rattle.std.specs.Prelude.{Some, None}
 use Rattle.operations.specs.Object.{Obj, meta, node, flag, Val, root, taken}
 use Rattle.operations.specs.Map.{Op}
 use Rattle.operations.specs.Operation.{Legal}
@@ -55,18 +55,18 @@ module _ (k j slots : ℕ) where
   -- ---- a client
   module _ (u : ClientWord → ℕ) where
     abbrev pub new_value : Obj → Val → Found → Val
-    new_value o v (At i) = value_of o (record_at u Writes i)
-    new_value o v Absent = v
+    new_value o v (Some i) = value_of o (record_at u Writes i)
+    new_value o v None = v
 
     abbrev pub item_from : Obj → Found → Option (P.Item T)
-    item_from o (At i) = some (record {
+    item_from o (Some i) = some (record {
       obj = o;
       old = value_of o (record_at u Reads i);
       version = (record_at u Reads i).version;
       written = has u Writes (number o);
       new = new_value o (value_of o (record_at u Reads i)) (find u Writes (number o));
     })
-    item_from o Absent = none
+    item_from o None = none
 
     -- the item that the sets have of an object
     unfoldable pub item_of : Obj → Option (P.Item T)
@@ -77,8 +77,8 @@ module _ (k j slots : ℕ) where
       pub phase_as : phase_of (u phase) ≡ y.phase
       pub item_as : (o : Obj) → InStore o → P.find T y.items o ≡ item_of o
       -- no object has two items
-      pub read_found : (i : ℕ) → i < count u Reads → find u Reads (number_at u Reads i) ≡ At i
-      pub write_found : (i : ℕ) → i < count u Writes → find u Writes (number_at u Writes i) ≡ At i
+      pub read_found : (i : ℕ) → i < count u Reads → find u Reads (number_at u Reads i) ≡ Some i
+      pub write_found : (i : ℕ) → i < count u Writes → find u Writes (number_at u Writes i) ≡ Some i
       pub inside : (i : P.Item T) → Among i y.items → InStore i.obj
       pub unique : (i : P.Item T) → Among i y.items → P.find T y.items i.obj ≡ some i
       pub participant_as : (s : Fin 8) → y.participant s ≡ bit (u participants) s.0

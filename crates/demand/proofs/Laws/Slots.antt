@@ -8,8 +8,8 @@ use Rattle.memory.specs.Bit.{bit}
 use Rattle.memory.proofs.Laws.Bit.{zero_bit}
 use Rattle.layout.specs.Space.{tab}
 use Rattle.nodes.specs.declared.node.Node.{Node}
-use Rattle.nodes.specs.declared.found.Found.{Found}
-use Rattle.nodes.specs.declared.found.Found.TheVariants.{At, Absent}
+use Rattle.nodes.specs.Found.{Found}
+use Rattle.std.specs.Prelude.{Some, None}
 use Rattle.operations.specs.Object.{Obj, meta, node, flag, Val, root, taken}
 use Rattle.protocol.specs.Lists.{Among}
 use Rattle.client.specs.declared.part.Set.{Set}
@@ -62,13 +62,13 @@ module _ (u v : ClientWord → ℕ) where
     same_written x = find_frame Writes (count_frame Writes S.reads S.writes) (λ i. S.items_written i 0) x
 
     new_frame : (o : Obj) (a b : Val) (f : Found) → a ≡ b → new_value k j slots v o a f ≡ new_value k j slots u o b f
-    new_frame o a b (At i) e = ap (value_of o) (record_frame Writes i (S.items_written i))
-    new_frame o a b Absent e = e
+    new_frame o a b (Some i) e = ap (value_of o) (record_frame Writes i (S.items_written i))
+    new_frame o a b None e = e
 
     from_frame : (o : Obj) (f : Found) → item_from k j slots v o f ≡ item_from k j slots u o f
     unfolding has
-    from_frame o Absent = refl
-    from_frame o (At i) =
+    from_frame o None = refl
+    from_frame o (Some i) =
         let r = record_frame Reads i (S.items_read i) in
         let w = same_written (number o) in
         let n = ap (new_value k j slots v o (value_of o (record_at v Reads i))) w
@@ -85,12 +85,12 @@ module _ (k j slots : ℕ) (u v : ClientWord → ℕ) (S : SameSets u v) where
   unfolding number_at
   number_frame s i h = h
 
-  pub read_frame : ((i : ℕ) → i < count u Reads → find u Reads (number_at u Reads i) ≡ At i) → (i : ℕ) → i < count v Reads → find v Reads (number_at v Reads i) ≡ At i
+  pub read_frame : ((i : ℕ) → i < count u Reads → find u Reads (number_at u Reads i) ≡ Some i) → (i : ℕ) → i < count v Reads → find v Reads (number_at v Reads i) ≡ Some i
   read_frame h i l =
       ap₂ (λ (x : ℕ) (g : ℕ → Found). g x) (number_frame Reads i (S.items_read i 0)) (fun_ext (same_read u v k j slots S))
       ∙ h i (subst (λ (n : ℕ). i < n) (count_frame u v Reads S.reads S.writes) l)
 
-  pub write_frame : ((i : ℕ) → i < count u Writes → find u Writes (number_at u Writes i) ≡ At i) → (i : ℕ) → i < count v Writes → find v Writes (number_at v Writes i) ≡ At i
+  pub write_frame : ((i : ℕ) → i < count u Writes → find u Writes (number_at u Writes i) ≡ Some i) → (i : ℕ) → i < count v Writes → find v Writes (number_at v Writes i) ≡ Some i
   write_frame h i l =
       ap₂ (λ (x : ℕ) (g : ℕ → Found). g x) (number_frame Writes i (S.items_written i 0)) (fun_ext (same_written u v k j slots S))
       ∙ h i (subst (λ (n : ℕ). i < n) (count_frame u v Writes S.reads S.writes) l)

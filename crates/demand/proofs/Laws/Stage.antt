@@ -11,7 +11,7 @@ use Rattle.layout.specs.Space.{Put, changed}
 use Rattle.layout.proofs.Laws.Space.{Only, changed_only}
 use Rattle.layout.specs.Part.{over}
 use Rattle.nodes.specs.declared.node.Node.{Node}
-use Rattle.nodes.specs.declared.found.Found.TheVariants.{Absent}
+use Rattle.std.specs.Prelude.{None}
 use Rattle.nodes.proofs.Laws.Stored.{Sized}
 use Rattle.operations.specs.Object.{Obj}
 use Rattle.operations.proofs.Laws.Object.{ObjDiscrete}
@@ -176,7 +176,7 @@ module _ (k j slots : ℕ) (m : Address → ℕ) (L : Ledger) (M : P.Machine (T 
 
   -- ---- an object that a server hands out is read
   module _ (al : slots ≤ 1024) (s : Fin 8) (o : Obj) (r : Node) (sized : Sized r) (hi : InStore k j slots o) (kept : Store.keeps k j slots s o ≡ true) (value : value_of o r ≡ M.value s o) (version : r.version ≡ M.version s o) where
-    pub read_stage : (v : ClientWord → ℕ) (G : Stage v) → PlacedAt k j slots G.slot.items o (value_of o r) → v reads_count < 96 → find v Reads (number o) ≡ Absent → find v Writes (number o) ≡ Absent
+    pub read_stage : (v : ClientWord → ℕ) (G : Stage v) → PlacedAt k j slots G.slot.items o (value_of o r) → v reads_count < 96 → find v Reads (number o) ≡ None → find v Writes (number o) ≡ None
         → Stage (changed client_words v (enter_read (number o) r v))
     unfolding item_of
     read_stage v G placed room unread unwritten = record {

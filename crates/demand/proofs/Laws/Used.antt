@@ -19,8 +19,8 @@ use Rattle.layout.proofs.Laws.Step.{changed_append}
 use Rattle.layout.specs.Sweep.{sweep}
 use Rattle.plans.specs.Walk.{Every, used}
 use Rattle.nodes.specs.declared.node.Node.{Node}
-use Rattle.nodes.specs.declared.found.Found.{Found}
-use Rattle.nodes.specs.declared.found.Found.TheVariants.{At, Absent}
+use Rattle.nodes.specs.Found.{Found}
+use Rattle.std.specs.Prelude.{Some, None}
 use Rattle.nodes.specs.Node.{free_node}
 use Rattle.nodes.proofs.Laws.Stored.{Sized, made_sized}
 use Rattle.nodes.specs.States.{is_present, is_open}
@@ -79,8 +79,8 @@ module _ (u v : ClientWord → ℕ) (h : ElseSame u v) where
           λ t. cond (eqb (a t) 0) lacking (copy (metadata (c t) (b t) (a t)))
 
       of_item : (z : Found) → copied_item v z ≡ copied_item u z
-      of_item (At i) = ap copy (record_frame u v Copies i (set_same Reads 10 u v h Copies (λ e. absurd (omega arith)) i))
-      of_item Absent = refl
+      of_item (Some i) = ap copy (record_frame u v Copies i (set_same Reads 10 u v h Copies (λ e. absurd (omega arith)) i))
+      of_item None = refl
 
       of_node : copied_node v x ≡ copied_node u x
       of_node = ap (copied_item v) (find_frame u v Copies refl (λ i. set_same Reads 10 u v h Copies (λ e. absurd (omega arith)) i 0) x) ∙ of_item (find u Copies x)
@@ -111,8 +111,8 @@ copied_sized u x = go (eqb x 0) (leb x 8192)
     may false r h = h
 
     of_item : (z : Found) → Sized (copied_item u z).node
-    of_item (At i) = record_sized u Copies i
-    of_item Absent = free
+    of_item (Some i) = record_sized u Copies i
+    of_item None = free
 
     go : (a b : Bool) → Sized (cond a (copied_meta u) (cond b (copied_node u x) (copied_flag u (x - 8193)))).node
     go true b = may (eqb (u meta_states) 0) (metadata (u meta_version) (u meta_root) (u meta_states)) (made_sized 0 0 (u meta_version) [] (u meta_root ∷ u meta_states ∷ []) (omega arith) (omega arith))
@@ -194,7 +194,7 @@ module _ (k j slots : ℕ) (al : slots ≤ 1024) (u : ClientWord → ℕ) (fit :
     pub has_now : (x : ℕ) → has (after_used u us) Reads x ≡ (has u Reads x || among x us)
     -- an item is one from before, or a copy
     pub origin : (o : Obj) (x : P.Item (T k j slots)) → InStore k j slots o → P.find (T k j slots) is o ≡ some x
-        → (P.find (T k j slots) y.items o ≡ some x) ⊎ ((find u Reads (number o) ≡ Absent) × (x.version ≡ (copied u (number o)).node.version))
+        → (P.find (T k j slots) y.items o ≡ some x) ⊎ ((find u Reads (number o) ≡ None) × (x.version ≡ (copied u (number o)).node.version))
     -- nothing else is at hand
     pub hand : (o : Obj) → W.have (T k j slots) f is o ≡ W.have (T k j slots) f y.items o
 
@@ -220,7 +220,7 @@ module _ (k j slots : ℕ) (al : slots ≤ 1024) (u : ClientWord → ℕ) (fit :
     more = us ++ (number o ∷ [])
 
     -- what is not read now was not read before, nor is it written
-    unread_before : find v Reads (number o) ≡ Absent → (find u Writes (number o) ≡ Absent) × (find u Reads (number o) ≡ Absent)
+    unread_before : find v Reads (number o) ≡ None → (find u Writes (number o) ≡ None) × (find u Reads (number o) ≡ None)
     unread_before e =
         let n = (or_neither (has u Reads (number o)) (among (number o) us) (sym (E.has_now (number o)) ∙ absent_has v Reads (number o) e)).0 in
         (has_absent u Writes (number o) (go n (bool_cases (has u Writes (number o)))), has_absent u Reads (number o) n)
@@ -235,7 +235,7 @@ module _ (k j slots : ℕ) (al : slots ≤ 1024) (u : ClientWord → ℕ) (fit :
         subst (λ (w : ClientWord → ℕ). ReadEntered v w (number o) r) (sym (after_more u us (number o) ∙ ap (λ (z : Look). changed client_words v (enter_read (number o) z.node v)) (copied_same u v E.other (number o))))
         (read_entered v (number o) r (copied_sized u (number o)) (omega (arith, E.counted)))
 
-    one_used : find v Reads (number o) ≡ Absent → u reads_count + length us < 96 → PlacedAt k j slots is o (value_of o r)
+    one_used : find v Reads (number o) ≡ None → u reads_count + length us < 96 → PlacedAt k j slots is o (value_of o r)
         → W.enter (T k j slots) is o (P.find (T k j slots) is o) (f o) ≡ P.item (T k j slots) o (value_of o r) r.version ∷ is
         → Entering more (P.item (T k j slots) o (value_of o r) r.version ∷ is)
     one_used e l placed enters =
@@ -255,22 +255,22 @@ module _ (k j slots : ℕ) (al : slots ≤ 1024) (u : ClientWord → ℕ) (fit :
         it = P.item (T k j slots) o (value_of o r) r.version
 
         from : (q : Obj) (x : P.Item (T k j slots)) → InStore k j slots q → P.find (T k j slots) (it ∷ is) q ≡ some x → Dec (q ≡ o)
-            → (P.find (T k j slots) y.items q ≡ some x) ⊎ ((find u Reads (number q) ≡ Absent) × (x.version ≡ (copied u (number q)).node.version))
+            → (P.find (T k j slots) y.items q ≡ some x) ⊎ ((find u Reads (number q) ≡ None) × (x.version ≡ (copied u (number q)).node.version))
         from q x i w (no d) = E.origin q x i (sym (find_past k j slots it is q d) ∙ w)
         from q x i w (yes p) =
             let same : it ≡ x = some-injective it x (sym (find_first k j slots it is) ∙ ap (P.find (T k j slots) (it ∷ is)) (sym p) ∙ w) in
             inr (ap (λ (q : Obj). find u Reads (number q)) p ∙ (unread_before e).1, ap (λ (x : P.Item (T k j slots)). x.version) (sym same) ∙ ap (λ (q : Obj). (copied u (number q)).node.version) (sym p))
 
-    pub shown_item : (i : ℕ) → find v Reads (number o) ≡ At i → (x : P.Item (T k j slots)) × (P.find (T k j slots) is o ≡ some x)
+    pub shown_item : (i : ℕ) → find v Reads (number o) ≡ Some i → (x : P.Item (T k j slots)) × (P.find (T k j slots) is o ≡ some x)
     unfolding item_of
     shown_item i e = (_, E.slot.item_as o hi ∙ ap (item_from k j slots v o) e)
 
-    no_item : find v Reads (number o) ≡ Absent → P.find (T k j slots) is o ≡ none
+    no_item : find v Reads (number o) ≡ None → P.find (T k j slots) is o ≡ none
     unfolding item_of
     no_item e = E.slot.item_as o hi ∙ ap (item_from k j slots v o) e
 
     -- an object that is read already
-    known : (i : ℕ) → find v Reads (number o) ≡ At i → (with_used (new u) us (object o) ≡ us) × (W.enter (T k j slots) is o (P.find (T k j slots) is o) (f o) ≡ is)
+    known : (i : ℕ) → find v Reads (number o) ≡ Some i → (with_used (new u) us (object o) ≡ us) × (W.enter (T k j slots) is o (P.find (T k j slots) is o) (f o) ≡ is)
     unfolding with_used item_of
     known i e = (
       stays (or_cases (has u Reads (number o)) (among (number o) us) (sym (E.has_now (number o)) ∙ at_has v Reads (number o) i e)),
@@ -292,7 +292,7 @@ module _ (k j slots : ℕ) (al : slots ≤ 1024) (u : ClientWord → ℕ) (fit :
         stays (inr h) = by (new u (number o)) (among (number o) us) (inr h)
 
     -- one that comes into use
-    unknown : IsThere (source u (number o)) → find v Reads (number o) ≡ Absent
+    unknown : IsThere (source u (number o)) → find v Reads (number o) ≡ None
         → (with_used (new u) us (object o) ≡ more) × (W.enter (T k j slots) is o (P.find (T k j slots) is o) (f o) ≡ P.item (T k j slots) o (value_of o r) r.version ∷ is)
     unfolding with_used item_of source
     unknown h e =
@@ -365,7 +365,7 @@ module _ (k j slots : ℕ) (al : slots ≤ 1024) (u : ClientWord → ℕ) (fit :
         go (inl i) (inr h) = inr (record { object = node n; item = x; found = e; inner_read = i; other = no_node n; gone = h })
 
     -- an object that comes into use, and is asked for as it should be
-    placed_so : (seen : List Obj) → ItemsOf is seen → (o : Obj) (v : Val) → Had k j slots al u f copies fit y shown o v → find (after_used u us) Reads (number o) ≡ Absent
+    placed_so : (seen : List Obj) → ItemsOf is seen → (o : Obj) (v : Val) → Had k j slots al u f copies fit y shown o v → find (after_used u us) Reads (number o) ≡ None
         → Asks slots servers (λ q. Among q seen) (object o) → PlacedAt k j slots is o (value_of o (copied u (number o)).node)
     placed_so seen h meta v q e a = record { known = inl refl; there = λ n. absurd (true≢false n) }
     placed_so seen h (node n) v q e a = record {
@@ -411,8 +411,8 @@ module _ (k j slots : ℕ) (al : slots ≤ 1024) (u : ClientWord → ℕ) (fit :
 
         go : (z : Found) → find (after_used u us) Reads (number o) ≡ z → Rec
             → After qs (with_used (new u) us (object o)) (W.enter (T k j slots) is o (P.find (T k j slots) is o) (f o)) (o ∷ seen)
-        go (At n) e rec = let s = known us is E o q.in_store n e in next us is rec E (shown_item us is E o q.in_store n e, i) s.0 s.1
-        go Absent e rec =
+        go (Some n) e rec = let s = known us is E o q.in_store n e in next us is rec E (shown_item us is E o q.in_store n e, i) s.0 s.1
+        go None e rec =
             let s = unknown us is E o q.in_store q.found e in
             let room : u reads_count + length (us ++ (number o ∷ [])) ≤ 96 = room_left s.0 in
             let it = P.item (T k j slots) o (value_of o (copied u (number o)).node) (copied u (number o)).node.version in

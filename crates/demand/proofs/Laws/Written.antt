@@ -12,7 +12,7 @@ use Rattle.layout.specs.Step.{and_then}
 use Rattle.layout.proofs.Laws.Step.{changed_append}
 use Rattle.layout.specs.Sweep.{sweep}
 use Rattle.nodes.specs.declared.node.Node.{Node}
-use Rattle.nodes.specs.declared.found.Found.TheVariants.{At, Absent}
+use Rattle.std.specs.Prelude.{Some, None}
 use Rattle.nodes.specs.Node.{extra, keys_of, slots_of, made, free_node}
 use Rattle.nodes.specs.Range.{node_in_range}
 use Rattle.nodes.proofs.Laws.Range.{range_cases}
@@ -166,16 +166,16 @@ module _ (k j slots : ℕ) (al : slots ≤ 1024) (u : ClientWord → ℕ) (y : P
 
   module _ (q : Obj) (hi : InStore k j slots q) where
     -- the writes of other objects
-    not_it : (i : ℕ) → i < count u Writes → o i ≡ q → find u Writes (number q) ≡ At i
+    not_it : (i : ℕ) → i < count u Writes → o i ≡ q → find u Writes (number q) ≡ Some i
     not_it i l e = ap (find u Writes) (ap number (sym e) ∙ number_obj (x i)) ∙ shown.write_found i l
 
-    none_of : find u Writes (number q) ≡ Absent → (i : ℕ) → i < count u Writes → ¬ (o i ≡ q)
+    none_of : find u Writes (number q) ≡ None → (i : ℕ) → i < count u Writes → ¬ (o i ≡ q)
     none_of e i l z = absent≢at i (sym e ∙ not_it i l z)
 
-    others_of : (w : ℕ) → find u Writes (number q) ≡ At w → (i : ℕ) → i < count u Writes → ¬ (i ≡ w) → ¬ (o i ≡ q)
+    others_of : (w : ℕ) → find u Writes (number q) ≡ Some w → (i : ℕ) → i < count u Writes → ¬ (i ≡ w) → ¬ (o i ≡ q)
     others_of w e i l d z = d (at_same i w (sym (not_it i l z) ∙ e))
 
-    module _ (w : ℕ) (e : find u Writes (number q) ≡ At w) where
+    module _ (w : ℕ) (e : find u Writes (number q) ≡ Some w) where
       pub within : w < count u Writes
       unfolding count
       within = (found_at u Writes (number q) w e).0
@@ -196,17 +196,17 @@ module _ (k j slots : ℕ) (al : slots ≤ 1024) (u : ClientWord → ℕ) (y : P
 
     -- ---- values and versions, of what is kept here
     module _ (kept : keeps k j slots s q ≡ true) (p : Place → ℕ) where
-      pub value_none : find u Writes (number q) ≡ Absent → value_at k j slots (p₁ p) q ≡ value_at k j slots p q
+      pub value_none : find u Writes (number q) ≡ None → value_at k j slots (p₁ p) q ≡ value_at k j slots p q
       value_none e =
           seen_none (λ f. value_at k j slots f q) (store_write u s.0) p (count u Writes)
           (λ i l. other_of (λ f. value_at k j slots f q) i (λ f. W.other_value k j slots (H i) (B i) (F i) (Next i) (A i) (C i) (stored_node u i) (record_whole u i) f s.0 q (o i) (kept_here q hi kept) (none_of e i l) (homed i)))
 
-      pub version_none : find u Writes (number q) ≡ Absent → version_at k j slots (p₁ p) q ≡ version_at k j slots p q
+      pub version_none : find u Writes (number q) ≡ None → version_at k j slots (p₁ p) q ≡ version_at k j slots p q
       version_none e =
           seen_none (λ f. version_at k j slots f q) (store_write u s.0) p (count u Writes)
           (λ i l. other_of (λ f. version_at k j slots f q) i (λ f. W.other_version k j slots (H i) (B i) (F i) (Next i) (A i) (C i) (stored_node u i) (record_whole u i) f s.0 q (o i) (kept_here q hi kept) (none_of e i l) (homed i)))
 
-      module _ (w : ℕ) (e : find u Writes (number q) ≡ At w) where
+      module _ (w : ℕ) (e : find u Writes (number q) ≡ Some w) where
         home_here : at_home s.0 (x w) ≡ true
         home_here = ap (at_home s.0) (number_is w e) ∙ sym (kept_home k j slots al s q hi) ∙ kept
 
@@ -241,12 +241,12 @@ module _ (k j slots : ℕ) (al : slots ≤ 1024) (u : ClientWord → ℕ) (y : P
 
     -- ---- tables
     module _ (p : Place → ℕ) where
-      pub table_none : find u Writes (number q) ≡ Absent → table_at k j slots (p₁ p) q ≡ table_at k j slots p q
+      pub table_none : find u Writes (number q) ≡ None → table_at k j slots (p₁ p) q ≡ table_at k j slots p q
       table_none e =
           seen_none (λ f. table_at k j slots f q) (store_write u s.0) p (count u Writes)
           (λ i l. other_of (λ f. table_at k j slots f q) i (λ f. W.other_table k j slots (H i) (B i) (F i) (Next i) (A i) (C i) (stored_node u i) (record_whole u i) f q (o i) (none_of e i l)))
 
-      pub table_one : (w : ℕ) (e : find u Writes (number q) ≡ At w) → by_value k j slots q ≡ false → (q ≡ meta → B w ≡ true)
+      pub table_one : (w : ℕ) (e : find u Writes (number q) ≡ Some w) → by_value k j slots q ≡ false → (q ≡ meta → B w ≡ true)
           → table_at k j slots (p₁ p) q ≡ cond (B w) (Next w) (table_at k j slots p q)
       table_one w e nf m =
           seen_one (λ f. table_at k j slots f q) (store_write u s.0) p (λ a. cond (B w) (Next w) a) (count u Writes) w (within w e)

@@ -6,8 +6,8 @@ use borrow.Author.Tests.{eq-eqb, ne_eqb, le-leb, lt-leb}
 use Rattle.nodes.specs.declared.node.Node.{Node}
 use Rattle.client.specs.declared.part.Set.TheVariants.{Reads, Writes}
 use Rattle.client.specs.Layout.{ClientWord}
-use Rattle.nodes.specs.declared.found.Found.{Found}
-use Rattle.nodes.specs.declared.found.Found.TheVariants.{At, Absent}
+use Rattle.nodes.specs.Found.{Found}
+use Rattle.std.specs.Prelude.{Some, None}
 use Rattle.client.specs.Record.{first_slot, kind_in_range}
 use Rattle.client.specs.Sets.{number_at, record_at, find}
 use Rattle.client.specs.Items.{inner, has}
@@ -32,12 +32,12 @@ mark_flag x k r h q = q ∙ sym (rw (ne_eqb x 0 (λ e. omega arith), lt-leb x 81
 
 -- ---- items
 module _ (m : ClientWord → ℕ) (x : ℕ) (f : Found) (p : f ≡ find m Writes x) where
-  pub written_there : (i : ℕ) (n : Node) (a b : Bool) → f ≡ At i → n ≡ record_at m Writes i → a ≡ inner x n → b ≡ kind_in_range x n
+  pub written_there : (i : ℕ) (n : Node) (a b : Bool) → f ≡ Some i → n ≡ record_at m Writes i → a ≡ inner x n → b ≡ kind_in_range x n
       → ◌≡◌ {A = Written} (record { there = true; inner = a; fits = b }) (as_written m x)
   unfolding as_written has
   written_there i n a b e q ea eb = sym (rw (← p, e, ← q, ← ea, ← eb))
 
-  pub written_not : f ≡ Absent → ◌≡◌ {A = Written} (record { there = false; inner = false; fits = true }) (as_written m x)
+  pub written_not : f ≡ None → ◌≡◌ {A = Written} (record { there = false; inner = false; fits = true }) (as_written m x)
   unfolding as_written has
   written_not e = sym (rw (← p, e))
 

@@ -13,8 +13,8 @@ use Rattle.layout.specs.Step.{Does, silent, stepped, and_then}
 use Rattle.layout.proofs.Laws.Step.{stored_append, changed_append, does_then, does_mem, valid_append}
 use Rattle.layout.specs.Part.{over, in_part}
 use Rattle.nodes.specs.declared.node.Node.{Node}
-use Rattle.nodes.specs.declared.found.Found.{Found}
-use Rattle.nodes.specs.declared.found.Found.TheVariants.{At, Absent}
+use Rattle.nodes.specs.Found.{Found}
+use Rattle.std.specs.Prelude.{Some, None}
 use Rattle.client.specs.declared.part.Set.{Set}
 use Rattle.client.specs.declared.part.Set.TheVariants.{Reads, Writes, Copies}
 use Rattle.client.specs.Layout.{ClientWord, client_words, field, item, vector_word, reads_count, writes_count}
@@ -78,13 +78,13 @@ kept u = kept_words (λ s i j. u (item s i j)) (u reads_count) (u writes_count)
 
 record_kept : (u : ClientWord → ℕ) (s : Set) (g : Node → Bool) (f : Found) → of_record u s g f ≡ of_record (kept u) s g f
 unfolding kept_words record_at
-record_kept u s g (At i) = refl
-record_kept u s g Absent = refl
+record_kept u s g (Some i) = refl
+record_kept u s g None = refl
 
 version_kept : (u : ClientWord → ℕ) (f : Found) → version_of u f ≡ version_of (kept u) f
 unfolding kept_words record_at
-version_kept u (At i) = refl
-version_kept u Absent = refl
+version_kept u (Some i) = refl
+version_kept u None = refl
 
 stores_kept : (t : ℕ) (u : ClientWord → ℕ) (s : ℕ) → writes_fit t u s ≡ writes_fit t (kept u) s
 unfolding writes_fit write_fits read_fits is_read stored_record_fits version_fits young inner_before_after inner_in kept_words count number_at record_at find has

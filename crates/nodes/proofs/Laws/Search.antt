@@ -9,8 +9,8 @@ use Rattle.std.specs.Int.Bits.{bit_and}
 use Rattle.std.specs.Int.Count.{count_trailing_zeros}
 use Rattle.std.proofs.lemmas.List.{length-replicate}
 use Rattle.std.proofs.Math.Pow.{pow-lt}
-use Rattle.nodes.specs.declared.found.Found.{Found}
-use Rattle.nodes.specs.declared.found.Found.TheVariants.{At, Absent}
+use Rattle.nodes.specs.Found.{Found}
+use Rattle.std.specs.Prelude.{Some, None}
 use Rattle.nodes.proofs.Laws.Lists.{drop_take}
 use Rattle.nodes.specs.Found.{found}
 use Rattle.nodes.proofs.Laws.Found.{found_some, found_none}
@@ -164,15 +164,15 @@ module _ (words : List ℕ) (from w p t : ℕ) (l : length words ≡ 16) (h : w 
     slot_is : free_from from (flags_in slots words) ≡ limited slots (some (64 * w + t))
     slot_is = rw (free_flags from slots words, here, one_left p (get_or words w 0) t e g)
 
-    pub slot_found : 64 * w + t < slots → At (64 * w + t) ≡ found (free_from from (flags_in slots words))
+    pub slot_found : 64 * w + t < slots → Some (64 * w + t) ≡ found (free_from from (flags_in slots words))
     unfolding found
     slot_found q = rw (slot_is, lt-ltb (64 * w + t) slots q)
 
-    pub slot_beyond : slots ≤ 64 * w + t → Absent ≡ found (free_from from (flags_in slots words))
+    pub slot_beyond : slots ≤ 64 * w + t → None ≡ found (free_from from (flags_in slots words))
     unfolding found
     slot_beyond q = rw (slot_is, le-ltb (64 * w + t) slots q)
 
-pub looked_all : (words : List ℕ) (from w p slots : ℕ) → length words ≡ 16 → 16 ≤ w → Looked words from w p → Absent ≡ found (free_from from (flags_in slots words))
+pub looked_all : (words : List ℕ) (from w p slots : ℕ) → length words ≡ 16 → 16 ≤ w → Looked words from w p → None ≡ found (free_from from (flags_in slots words))
 unfolding found
 looked_all words from w p slots l h k =
     let e : drop (64 * w + p) (all_flags words) ≡ [] = drop_of_length-le (all_flags words) {i = 64 * w + p} (omega (arith, length_flags words)) in
@@ -180,13 +180,13 @@ looked_all words from w p slots l h k =
 
 -- ---- above a slot, and going round
 module _ (words : List ℕ) (slots slot : ℕ) (f : Found) (e : f ≡ found (free_from (slot + 1) (flags_in slots words))) where
-  pub above_found : (i : ℕ) → f ≡ At i → f ≡ found (first_free slot (flags_in slots words))
+  pub above_found : (i : ℕ) → f ≡ Some i → f ≡ found (first_free slot (flags_in slots words))
   unfolding found first_free
   above_found i p =
       let q : free_from (suc slot) (flags_in slots words) ≡ some i = rw (← add-one slot) (found_some (free_from (slot + 1) (flags_in slots words)) i (sym e ∙ p)) in
       rw (p, q)
 
-  pub above_none : (r : Found) → f ≡ Absent → r ≡ found (free_from 0 (flags_in slots words)) → r ≡ found (first_free slot (flags_in slots words))
+  pub above_none : (r : Found) → f ≡ None → r ≡ found (free_from 0 (flags_in slots words)) → r ≡ found (first_free slot (flags_in slots words))
   unfolding first_free
   above_none r p s =
       let q : free_from (suc slot) (flags_in slots words) ≡ none = rw (← add-one slot) (found_none (free_from (slot + 1) (flags_in slots words)) (sym e ∙ p)) in

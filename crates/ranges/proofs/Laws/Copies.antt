@@ -10,8 +10,8 @@ use Rattle.layout.specs.Space.{Put, put, tab, puts, changed}
 use Rattle.layout.proofs.Laws.Space.{puts_other, puts_same, Only, changed_only}
 use Rattle.layout.specs.Step.{and_then}
 use Rattle.nodes.specs.declared.node.Node.{Node}
-use Rattle.nodes.specs.declared.found.Found.{Found}
-use Rattle.nodes.specs.declared.found.Found.TheVariants.{At, Absent}
+use Rattle.nodes.specs.Found.{Found}
+use Rattle.std.specs.Prelude.{Some, None}
 use Rattle.nodes.proofs.Laws.Stored.{Sized}
 use Rattle.client.specs.declared.part.Set.{Set}
 use Rattle.client.specs.declared.part.Set.TheVariants.{Reads, Writes, Copies}
@@ -115,9 +115,9 @@ module _ (slots : ℕ) (u : ClientWord → ℕ) (h : CopiesSound slots u) where
     copy_node_sound = go (find u Copies x) (find u Copies 0)
       where
         go : (a b : Found) → CopiesSound slots (changed client_words u (to_place x r a b u))
-        go (At p) b = placed_sound p
-        go Absent (At p) = placed_sound p
-        go Absent Absent = h
+        go (Some p) b = placed_sound p
+        go None (Some p) = placed_sound p
+        go None None = h
 
   -- ---- the metadata's copy
   pub meta_sound : (root states version : ℕ) → Sound slots 0 (metadata version root states) → CopiesSound slots (changed client_words u (put_fields 12 (states ∷ root ∷ version ∷ []) u))

@@ -16,8 +16,8 @@ use Rattle.layout.specs.Step.{and_then}
 use Rattle.layout.proofs.Laws.Step.{changed_append}
 use Rattle.plans.specs.Walk.{Every}
 use Rattle.nodes.specs.declared.node.Node.{Node}
-use Rattle.nodes.specs.declared.found.Found.{Found}
-use Rattle.nodes.specs.declared.found.Found.TheVariants.{At, Absent}
+use Rattle.nodes.specs.Found.{Found}
+use Rattle.std.specs.Prelude.{Some, None}
 use Rattle.nodes.specs.Place.{rises}
 use Rattle.nodes.specs.Lists.{pad}
 use Rattle.nodes.specs.Node.{slots_of, made}
@@ -240,10 +240,10 @@ module _ (slots : ℕ) (u : ClientWord → ℕ) (x : ℕ) (r : Node) (w : Sized 
   write_sound = go (find u set.Writes x) refl
     where
       go : (f : Found) → find u set.Writes x ≡ f → SoundElse (changed client_words u (enter_at x r (count u set.Writes) (find u set.Writes x) u))
-      go (At i) e = subst (λ f. SoundElse (changed client_words u (enter_at x r (count u set.Writes) f u))) (sym e) (replaced_sound i)
-      go Absent e = subst (λ f. SoundElse (changed client_words u (enter_at x r (count u set.Writes) f u))) (sym e) (by (ltb (count u set.Writes) 48) refl)
+      go (Some i) e = subst (λ f. SoundElse (changed client_words u (enter_at x r (count u set.Writes) f u))) (sym e) (replaced_sound i)
+      go None e = subst (λ f. SoundElse (changed client_words u (enter_at x r (count u set.Writes) f u))) (sym e) (by (ltb (count u set.Writes) 48) refl)
         where
-          by : (b : Bool) → ltb (count u set.Writes) 48 ≡ b → SoundElse (changed client_words u (enter_at x r (count u set.Writes) Absent u))
+          by : (b : Bool) → ltb (count u set.Writes) 48 ≡ b → SoundElse (changed client_words u (enter_at x r (count u set.Writes) None u))
           by false t = rw t (S, λ a p q. refl)
           by true t =
               let l = room 48 (u writes_count) (ltb-true (count u set.Writes) 48 t) in
@@ -276,18 +276,18 @@ version_used u us x =
         → version_in m x (find m set.Reads x) ≡ version_in u x (find u set.Reads x) → version_in v x (find v set.Reads x) ≡ version_in u x (find u set.Reads x)
     one y _ m v s E h = go (find m set.Reads x) refl ∙ h
       where
-        late : (b : Bool) → eqb y x ≡ b → version_in v x (cond b (At (m reads_count)) Absent) ≡ (copied m x).node.version
+        late : (b : Bool) → eqb y x ≡ b → version_in v x (cond b (Some (m reads_count)) None) ≡ (copied m x).node.version
         late true t =
             ap (λ (r : Node). r.version) E.record_as ∙ ap (λ (q : ℕ). (copied u q).node.version) (eqb-true y x t)
             ∙ sym (ap (λ (c : Look). c.node.version) (copied_same u m s x))
         late false t = ap (λ (c : Look). c.node.version) (copied_same m v E.other x)
 
         go : (f : Found) → find m set.Reads x ≡ f → version_in v x (find v set.Reads x) ≡ version_in m x (find m set.Reads x)
-        go (At i) e =
+        go (Some i) e =
             let g = entered_stay m v y (copied u y).node E x i e in
             ap (version_in v x) g.0 ∙ ap (λ (r : Node). r.version) g.1 ∙ sym (ap (version_in m x) e)
-        go Absent e =
-            ap (version_in v x) (find_behind set.Reads 10 m v y (copied u y).node E x ∙ ap (λ (f : Found). or_found f (cond (eqb y x) (At (m reads_count)) Absent)) e)
+        go None e =
+            ap (version_in v x) (find_behind set.Reads 10 m v y (copied u y).node E x ∙ ap (λ (f : Found). or_found f (cond (eqb y x) (Some (m reads_count)) None)) e)
             ∙ late (eqb y x) refl ∙ sym (ap (version_in m x) e)
 
 pub used_last : (u : ClientWord → ℕ) (us : List ℕ) (l : List Entry) → any_at_last (after_used u us) l ≡ any_at_last u l

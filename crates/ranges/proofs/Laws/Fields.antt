@@ -12,8 +12,8 @@ use Rattle.layout.specs.Space.{Put, put, puts, written, changed}
 use Rattle.layout.proofs.Laws.Space.{written_same, written_other, decide, puts_other}
 use Rattle.layout.specs.Step.{and_then}
 use Rattle.nodes.specs.declared.node.Node.{Node}
-use Rattle.nodes.specs.declared.found.Found.{Found}
-use Rattle.nodes.specs.declared.found.Found.TheVariants.{At, Absent}
+use Rattle.nodes.specs.Found.{Found}
+use Rattle.std.specs.Prelude.{Some, None}
 use Rattle.nodes.specs.States.{present}
 use Rattle.operations.specs.Map.{two_to_64}
 use Rattle.operations.proofs.Laws.Map.{HIs}
@@ -243,9 +243,9 @@ module _ (slots : ℕ) where
   copy_within x r u = go (find u Copies x) (find u Copies 0)
     where
       go : (a b : Found) → Fine (to_place x r a b u)
-      go (At p) b = words_within (item Copies p) _ (λ i v. tt)
-      go Absent (At p) = words_within (item Copies p) _ (λ i v. tt)
-      go Absent Absent = tt
+      go (Some p) b = words_within (item Copies p) _ (λ i v. tt)
+      go None (Some p) = words_within (item Copies p) _ (λ i v. tt)
+      go None None = tt
 
   meta_within : (root states version : ℕ) → states < 65536 → (u : ClientWord → ℕ) → Fine (put_fields 12 (states ∷ root ∷ version ∷ []) u)
   unfolding put_fields puts Only WithinStore

@@ -11,8 +11,8 @@ use Rattle.base.proofs.Laws.Test.{or_right}
 use Rattle.plans.specs.Plan.{gives}
 use Rattle.plans.specs.Walk.{Every}
 use Rattle.plans.proofs.Laws.Walk.{lacks, ends, walk, used_had}
-use Rattle.nodes.specs.declared.found.Found.{Found}
-use Rattle.nodes.specs.declared.found.Found.TheVariants.{At, Absent}
+use Rattle.nodes.specs.Found.{Found}
+use Rattle.std.specs.Prelude.{Some, None}
 use Rattle.nodes.specs.Node.{slots_of}
 use Rattle.operations.specs.Object.{Obj, meta, node, flag, Ask, object, vector, fetched, Val, Ans, Writes}
 use Rattle.operations.specs.Operation.{all_fit?}
@@ -66,11 +66,11 @@ module _ (slots : ℕ) (u : ClientWord → ℕ) (P : PartSound slots u) where
   source_sound x h = go (find u set.Writes x) refl (find u set.Reads x) refl h
     where
       go : (w : Found) → find u set.Writes x ≡ w → (r : Found) → find u set.Reads x ≡ r → is_found (or_read u x w).how ≡ true → Sound slots x (or_read u x w).node
-      go (At i) e r q h = let f = found_at u set.Writes x i e in subst (λ (x : ℕ). Sound slots x (record_at u set.Writes i)) f.1 (P.sets.written i f.0).sound
-      go Absent e (At i) q h =
+      go (Some i) e r q h = let f = found_at u set.Writes x i e in subst (λ (x : ℕ). Sound slots x (record_at u set.Writes i)) f.1 (P.sets.written i f.0).sound
+      go None e (Some i) q h =
           let f = found_at u set.Reads x i q in
           subst (λ (r : Found). Sound slots x (or_copied u x r).node) (sym q) (subst (λ (x : ℕ). Sound slots x (record_at u set.Reads i)) f.1 (P.sets.read i f.0).sound)
-      go Absent e Absent q h =
+      go None e None q h =
           subst (λ (r : Found). Sound slots x (or_copied u x r).node) (sym q)
           (copied_sound slots u P.copies x (subst (λ (r : Found). is_found (or_copied u x r).how ≡ true) q h))
 
@@ -83,9 +83,9 @@ module _ (slots : ℕ) (u : ClientWord → ℕ) (P : PartSound slots u) where
       Usable l = (not (is_copied l.how) || copy_fits u x l.node) ≡ true
 
       go : (w r : Found) → find u set.Reads x ≡ r → is_found (or_read u x w).how ≡ true → Usable (or_read u x w)
-      go (At i) r q h = refl
-      go Absent (At i) q h = subst (λ (r : Found). Usable (or_copied u x r)) (sym q) refl
-      go Absent Absent q h =
+      go (Some i) r q h = refl
+      go None (Some i) q h = subst (λ (r : Found). Usable (or_copied u x r)) (sym q) refl
+      go None None q h =
           subst (λ (r : Found). Usable (or_copied u x r)) (sym q)
           (or_right (not (is_copied (copied u x).how)) (copy_fits u x (copied u x).node)
           (copy_judged slots u P x hi (subst (λ (r : Found). is_found (or_copied u x r).how ≡ true) q h)))

@@ -12,8 +12,8 @@ use Rattle.base.specs.Test.{and_both, not_both}
 use Rattle.base.proofs.Laws.Test.{or_right}
 use Rattle.layout.specs.Space.{tab}
 use Rattle.nodes.specs.declared.node.Node.{Node}
-use Rattle.nodes.specs.declared.found.Found.{Found}
-use Rattle.nodes.specs.declared.found.Found.TheVariants.{At, Absent}
+use Rattle.nodes.specs.Found.{Found}
+use Rattle.std.specs.Prelude.{Some, None}
 use Rattle.nodes.specs.Range.{level_fits, count_fits, node_in_range}
 use Rattle.nodes.specs.States.{states_fit, metadata_fits}
 use Rattle.nodes.specs.Stored.{node_of}
@@ -104,8 +104,8 @@ module _ (slots : ℕ) (u : ClientWord → ℕ) (P : PartSound slots u) where
   written_kind x = go (find u Writes x) refl
     where
       go : (f : Found) → find u Writes x ≡ f → (not (is_at f) || of_record u Writes (kind_in_range x) f) ≡ true
-      go (At i) e = let f = found_at u Writes x i e in subst (λ (y : ℕ). kind_in_range y (record_at u Writes i) ≡ true) f.1 (write_kind i f.0)
-      go Absent e = refl
+      go (Some i) e = let f = found_at u Writes x i e in subst (λ (y : ℕ). kind_in_range y (record_at u Writes i) ≡ true) f.1 (write_kind i f.0)
+      go None e = refl
 
   -- ---- what is written: whole, and its version has a next one
   whole : (i : ℕ) → i < count u Writes → whole_in_range slots (number_at u Writes i) (record_at u Writes i) ≡ true
@@ -132,10 +132,10 @@ module _ (slots : ℕ) (u : ClientWord → ℕ) (P : PartSound slots u) where
   servers_judged = go (count u Writes) refl
     where
       read : (f : Found) → find u Reads 0 ≡ f → has u Reads 0 ≡ true → states_fit (states_in u f) ≡ true
-      read (At i) e h =
+      read (Some i) e h =
           let f = found_at u Reads 0 i e in
           (root_and_states slots (record_at u Reads i) (subst (λ (x : ℕ). Sound slots x (record_at u Reads i)) f.1 (P.sets.read i f.0).sound)).1
-      read Absent e h = absurd (not_both h (absent_has u Reads 0 e))
+      read None e h = absurd (not_both h (absent_has u Reads 0 e))
 
       go : (n : ℕ) → count u Writes ≡ n → (not (any_below n (calls_all u)) || states_fit (states_in u (find u Reads 0))) ≡ true
       go zero e = refl
@@ -226,10 +226,10 @@ module _ (slots : ℕ) (u : ClientWord → ℕ) (P : PartSound slots u) where
       one w l q false e h = eq-eqb w 1 (omega (arith, q, eqb-false w 0 e))
 
       of_node : eqb x 0 ≡ false → (f : Found) → find u Copies x ≡ f → is_found (copied_item u f).how ≡ true → eqb (copied_item u f).node.kind 2 ≡ true
-      of_node a (At i) e h =
+      of_node a (Some i) e h =
           let f = found_at u Copies x i e in
           eq-eqb (record_at u Copies i).kind 2 (P.copies.copies i f.0 (λ q. eqb-false x 0 a (sym f.1 ∙ q))).inner
-      of_node a Absent e h = absurd (false≢true h)
+      of_node a None e h = absurd (false≢true h)
 
       s : ℕ
       s = N.server_of (x - 8193)
@@ -245,11 +245,11 @@ module _ (slots : ℕ) (u : ClientWord → ℕ) (P : PartSound slots u) where
   version_judged x l = go (find u Reads x) refl
     where
       go : (f : Found) → find u Reads x ≡ f → version_there u x f ≡ true
-      go (At i) e =
+      go (Some i) e =
           let f = found_at u Reads x i e in
           le-leb (record_at u Reads i).version last_version
           (sound_version slots x (record_at u Reads i) (subst (λ (y : ℕ). Sound slots y (record_at u Reads i)) f.1 (P.sets.read i f.0).sound) l)
-      go Absent e = by (has u Writes x) refl
+      go None e = by (has u Writes x) refl
         where
           by : (b : Bool) → has u Writes x ≡ b → not b ≡ true
           by false t = refl

@@ -11,8 +11,8 @@ use Rattle.memory.proofs.Laws.Bit.{bit_put_same, bit_put_other}
 use Rattle.layout.specs.Space.{Put, changed}
 use Rattle.layout.specs.Part.{over}
 use Rattle.nodes.specs.declared.node.Node.{Node}
-use Rattle.nodes.specs.declared.found.Found.{Found}
-use Rattle.nodes.specs.declared.found.Found.TheVariants.{At, Absent}
+use Rattle.nodes.specs.Found.{Found}
+use Rattle.std.specs.Prelude.{Some, None}
 use Rattle.operations.specs.Object.{Obj}
 use Rattle.server.specs.declared.place.Place.{Place}
 use Rattle.server.specs.Object.{object_of, lock_of}
@@ -154,8 +154,8 @@ module _ (z : Sizes) (s : ℕ) where
 
     -- what is asked of a written record
     record_same : (g : Node → Bool) (f : Found) → of_record v₀ Writes g f ≡ of_record u₀ Writes g f
-    record_same g (At i) = ap g (record_frame u₀ v₀ Writes i (G.sets.items_written i))
-    record_same g Absent = refl
+    record_same g (Some i) = ap g (record_frame u₀ v₀ Writes i (G.sets.items_written i))
+    record_same g None = refl
 
     written_same : (g : Node → Bool) (x : ℕ) → of_record v₀ Writes g (find v₀ Writes x) ≡ of_record u₀ Writes g (find u₀ Writes x)
     written_same g x = ap (of_record v₀ Writes g) (same_written u₀ v₀ 0 0 0 G.sets x) ∙ record_same g (find u₀ Writes x)
@@ -316,7 +316,7 @@ module _ (k j slots : ℕ) (al : slots ≤ 1024) (few : suc j ≤ 16) (m : Addre
   goes_on t = subst (GoesOn t u) (sym (both_client m s.0 c.0 ps qs)) (own_on t)
 
   -- what c has locked it holds now
-  now_held : (o : Obj) (i : ℕ) (role : Bool) → find u Reads (number o) ≡ At i → U.locked_at low s.0 (U.read_item u i) ≡ true
+  now_held : (o : Obj) (i : ℕ) (role : Bool) → find u Reads (number o) ≡ Some i → U.locked_at low s.0 (U.read_item u i) ≡ true
       → (role ≡ true → has u Writes (number o) ≡ true) → Held z s.0 m' role c.0 (number o)
   unfolding has
   now_held o i role e b w =

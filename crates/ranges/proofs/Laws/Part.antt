@@ -12,8 +12,8 @@ use Rattle.layout.specs.Step.{and_then}
 use Rattle.layout.proofs.Laws.Step.{changed_append}
 use Rattle.plans.specs.Walk.{Every}
 use Rattle.nodes.specs.declared.node.Node.{Node}
-use Rattle.nodes.specs.declared.found.Found.{Found}
-use Rattle.nodes.specs.declared.found.Found.TheVariants.{At, Absent}
+use Rattle.nodes.specs.Found.{Found}
+use Rattle.std.specs.Prelude.{Some, None}
 use Rattle.nodes.proofs.Laws.Stored.{Sized, made_sized}
 use Rattle.operations.specs.Object.{Writes}
 use Rattle.operations.specs.Map.{two_to_64}
@@ -172,8 +172,8 @@ module _ (slots : ℕ) where
       behind false h = tt
 
       one : (f : Found) → Fine (enter_at e.0 e.1 n f u)
-      one (At i) = item_within i e.0 e.1 u
-      one Absent = behind (ltb n 48) refl
+      one (Some i) = item_within i e.0 e.1 u
+      one None = behind (ltb n 48) refl
 
 module _ (slots : ℕ) (u : ClientWord → ℕ) (P : PartSound slots u) where
   -- a transaction ends: "An abort .. drops copies of all objects read"; "The last apply ends the transaction and renews its copies"

@@ -4,7 +4,7 @@ use Rattle.std.proofs.Common.{subst, arith, eqb-true, ltb-true}
 use Rattle.std.proofs.lemmas.Bool.{false≢true}
 use Rattle.layout.specs.Space.{tab}
 use Rattle.nodes.specs.declared.node.Node.{Node}
-use Rattle.nodes.specs.declared.found.Found.TheVariants.{At}
+use Rattle.std.specs.Prelude.{Some}
 use Rattle.nodes.specs.Range.{node_in_range}
 use Rattle.nodes.specs.Stored.{node_of}
 use Rattle.nodes.proofs.Laws.Stored.{Sized}
@@ -64,7 +64,7 @@ module _ (slots : ℕ) (w : ClientWord → ℕ) (S : SetsSound slots w) where
       )
 
   -- "metadata"
-  pub renewed_meta : (i : ℕ) → find w Writes 0 ≡ At i → Sound slots 0 (metadata (Rn.new_version w 0) (w (item Writes i 19)) (w (item Writes i 20)))
+  pub renewed_meta : (i : ℕ) → find w Writes 0 ≡ Some i → Sound slots 0 (metadata (Rn.new_version w 0) (w (item Writes i 19)) (w (item Writes i 20)))
   unfolding record_at node_of tab
   renewed_meta i e =
       let at = found_at w Writes 0 i e in

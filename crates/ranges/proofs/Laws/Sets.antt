@@ -14,8 +14,8 @@ use Rattle.memory.specs.Bit.{bit}
 use Rattle.layout.specs.Space.{changed}
 use Rattle.plans.specs.Walk.{Every}
 use Rattle.nodes.specs.declared.node.Node.{Node}
-use Rattle.nodes.specs.declared.found.Found.{Found}
-use Rattle.nodes.specs.declared.found.Found.TheVariants.{At, Absent}
+use Rattle.nodes.specs.Found.{Found}
+use Rattle.std.specs.Prelude.{Some, None}
 use Rattle.nodes.specs.Lists.{pad}
 use Rattle.nodes.specs.Node.{made}
 use Rattle.nodes.specs.Range.{node_in_range}
@@ -113,14 +113,14 @@ sets_from slots u r w may = record { read = r; written = w; written_read = λ i 
 module _ (u v : ClientWord → ℕ) where
   -- what was found in the read set is found at the same place, with its record
   abbrev pub ReadsStay : Type 0
-  ReadsStay = (x i : ℕ) → find u Reads x ≡ At i → (find v Reads x ≡ At i) × (record_at v Reads i ≡ record_at u Reads i)
+  ReadsStay = (x i : ℕ) → find u Reads x ≡ Some i → (find v Reads x ≡ Some i) × (record_at v Reads i ≡ record_at u Reads i)
 
   pub reads_stay : count v Reads ≡ count u Reads → ((i n : ℕ) → v (item Reads i n) ≡ u (item Reads i n)) → ReadsStay
   reads_stay c e x i f = (find_frame u v Reads c (λ i. e i 0) x ∙ f, record_frame u v Reads i (e i))
 
   pub entered_stay : (x : ℕ) (r : Node) → ReadEntered u v x r → ReadsStay
   entered_stay x r E q i f = (
-    find_behind Reads 10 u v x r E q ∙ ap (λ (g : Found). or_found g (cond (eqb x q) (At (u reads_count)) Absent)) f,
+    find_behind Reads 10 u v x r E q ∙ ap (λ (g : Found). or_found g (cond (eqb x q) (Some (u reads_count)) None)) f,
     record_frame u v Reads i (λ w. E.beside i w (λ e. absurd (omega (arith, (found_at u Reads q i f).0, E.before, e)))),
   )
 
@@ -205,11 +205,11 @@ module _ (slots : ℕ) (u : ClientWord → ℕ) where
       of_meta e false t h = subst (λ (y : ℕ). Sound slots y (metadata (u meta_version) (u meta_root) (u meta_states))) (sym e) (C.meta_copy (eqb-false (u meta_states) 0 t))
 
       of_node : eqb x 0 ≡ false → leb x 8192 ≡ true → (f : Found) → find u Copies x ≡ f → is_found (copied_item u f).how ≡ true → Sound slots x (copied_item u f).node
-      of_node a b (At i) e h =
+      of_node a b (Some i) e h =
           let f = found_at u Copies x i e in
           let n = (C.copies i f.0 (λ q. eqb-false x 0 a (sym f.1 ∙ q))).sound in
           record { fitting = rw (a, b) n.range; children = rw (a, b) n.children }
-      of_node a b Absent e h = absurd (false≢true h)
+      of_node a b None e h = absurd (false≢true h)
 
       of_flag : eqb x 0 ≡ false → leb x 8192 ≡ false → (c d : Bool) → is_found (cond c lacking (copy (single 0 (one_if d)))).how ≡ true
           → Sound slots x (cond c lacking (copy (single 0 (one_if d)))).node

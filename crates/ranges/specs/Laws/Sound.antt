@@ -3,7 +3,7 @@ use Rattle.std.specs.Prelude.{◌≡◌, refl, true, false, [], ◌∷◌, get_o
 use Prim.Native.Nat.{ℕ, suc, ◌-◌, ◌≤◌, ◌<◌, Fin}
 use Rattle.memory.specs.Bit.{bit}
 use Rattle.nodes.specs.declared.node.Node.{Node}
-use Rattle.nodes.specs.declared.found.Found.TheVariants.{At}
+use Rattle.std.specs.Prelude.{Some}
 use Rattle.nodes.specs.Lists.{pad}
 use Rattle.nodes.specs.Node.{extra, slots_of, made}
 use Rattle.nodes.specs.Range.{node_in_range}
@@ -97,7 +97,7 @@ module _ (z : Sizes) (m : Address → ℕ) (s : ℕ) where
     pub has_prepared : bit (client_of m d prepared) s ≡ true
     pub not_applied : bit (client_of m d applied) s ≡ false
     pub place : ℕ
-    pub found : find (client_of m d) Reads x ≡ At place
+    pub found : find (client_of m d) Reads x ≡ Some place
     pub locks : locked_at (lowest_participant z m d) s (read_item (client_of m d) place) ≡ true
 
   -- the lock's word w names clients of the store, and each of them holds it; "or its write"

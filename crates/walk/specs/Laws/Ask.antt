@@ -11,8 +11,8 @@ use Rattle.std.proofs.Math.Seq.{length-take-le}
 use borrow.Author.Tests.{lt-ltb, le-ltb, ltb-true, ltb-false, leb-true, le-leb, ne_eqb, eqb-true, not-true, not-false}
 use Rattle.base.specs.Test.{and_both}
 use Rattle.nodes.specs.declared.node.Node.{Node}
-use Rattle.nodes.specs.declared.found.Found.{Found}
-use Rattle.nodes.specs.declared.found.Found.TheVariants.{At, Absent}
+use Rattle.nodes.specs.Found.{Found}
+use Rattle.std.specs.Prelude.{Some, None}
 use Rattle.nodes.specs.Name.{server_of, name_in_store}
 use Rattle.nodes.specs.Node.{free_node, made}
 use Rattle.nodes.specs.Range.{level_fits, count_fits, node_in_range}
@@ -61,11 +61,11 @@ see_is (e ∷ w) o k = go (hit e.0 o) refl (see_is w o k)
     go false p h = rw p h
 
 -- an empty list of own writes
-none_own : (x : List ℕ) (n : ℕ) → get_or x 0 0 ≡ 0 → own_find x n ≡ Absent
+none_own : (x : List ℕ) (n : ℕ) → get_or x 0 0 ≡ 0 → own_find x n ≡ None
 unfolding own_find first_of
 none_own x n e = rw e
 
-absent_at : {A : Type 0} (i : ℕ) → Absent ≡ At i → A
+absent_at : {A : Type 0} (i : ℕ) → None ≡ Some i → A
 absent_at i e = let z : ◌≡◌ {A = ℕ} 0 1 = cc in absurd (omega arith)
 
 module _ (x : List ℕ) (e : get_or x 0 0 ≡ 0) where
@@ -109,8 +109,8 @@ room_left a b = go (ltb (b + a) 96) refl
 -- what is found, and in neither set, is a copy
 module _ (m : ClientWord → ℕ) where
   item_copied : (f : Found) → is_found (copied_item m f).how ≡ is_copied (copied_item m f).how
-  item_copied (At i) = refl
-  item_copied Absent = refl
+  item_copied (Some i) = refl
+  item_copied None = refl
 
   meta_found_is : is_found (copied_meta m).how ≡ is_copied (copied_meta m).how
   unfolding copied_meta
@@ -142,9 +142,9 @@ module _ (m : ClientWord → ℕ) where
   fresh_is x h = go (find m set.Writes x) (find m Reads x) refl refl
     where
       go : (f g : Found) → find m set.Writes x ≡ f → find m Reads x ≡ g → fresh m x ≡ is_copied (source m x).how
-      go (At i) g p q = rw (source, p)
-      go Absent (At i) p q = rw (source, p, q)
-      go Absent Absent p q = rw (source, p, q) (sym (rw (source, p, q) at h) ∙ copied_found x)
+      go (Some i) g p q = rw (source, p)
+      go None (Some i) p q = rw (source, p, q)
+      go None None p q = rw (source, p, q) (sym (rw (source, p, q) at h) ∙ copied_found x)
 
 module _ (slots : ℕ) (m : ClientWord → ℕ) (o : Obj) (k : Val → TreePlan) (us : List ℕ) where
   abbrev pub met : Way → Node → Ran
@@ -178,7 +178,7 @@ module _ (slots : ℕ) (m : ClientWord → ℕ) (x u : List ℕ) (w : Writes) (o
           let g : 96 < count m Reads + length (used_in u ++ (number o ∷ [])) = omega (arith, one_more) in
           rw (run, taken_up, worked, over, h, c, p, room_left (length (used_in u)) (count m Reads), q, lt-ltb _ _ g) (judged_over (k (value_of o r)) (number o) (used_in u))
 
-  part_run : own_find x (number o) ≡ Absent → asked_run ≡ met slots m o k (used_in u) (looked slots m x u (number o)).how (looked slots m x u (number o)).node
+  part_run : own_find x (number o) ≡ None → asked_run ≡ met slots m o k (used_in u) (looked slots m x u (number o)).how (looked slots m x u (number o)).node
   unfolding run have looked worked
   part_run a = go (is_found (source m (number o)).how) (look_fits slots m (number o) (source m (number o))) (is_copied (source m (number o)).how) refl refl refl
     where
@@ -197,8 +197,8 @@ module _ (slots : ℕ) (m : ClientWord → ℕ) (x u : List ℕ) (w : Writes) (o
     where
       go : (f : Found) → own_find x (number o) ≡ f
           → worked slots m (see w o k) (used_in u) ≡ met slots m o k (used_in u) (looked slots m x u (number o)).how (looked slots m x u (number o)).node
-      go (At i) e = let y : write_of w o ≡ some (value_of o (own_record x i)) = sym (h.same o t) ∙ rw e in rw (see_is w o k, y, looked, e)
-      go Absent e = let y : write_of w o ≡ none = sym (h.same o t) ∙ rw e in rw (see_is w o k, y, worked, v) (part_run e)
+      go (Some i) e = let y : write_of w o ≡ some (value_of o (own_record x i)) = sym (h.same o t) ∙ rw e in rw (see_is w o k, y, looked, e)
+      go None e = let y : write_of w o ≡ none = sym (h.same o t) ∙ rw e in rw (see_is w o k, y, worked, v) (part_run e)
 
 -- whether what is lacking may be fetched
 abbrev unfit? : Way → Bool
@@ -229,7 +229,7 @@ module _ (slots : ℕ) (m : ClientWord → ℕ) (x u : List ℕ) (o : Obj) (t : 
   unfolding looked broken
   looked_broken h = own (own_find x (number o)) refl
     where
-      go : own_find x (number o) ≡ Absent → (b c d : Bool) → is_found (source m (number o)).how ≡ b → look_fits slots m (number o) (source m (number o)) ≡ c → is_copied (source m (number o)).how ≡ d
+      go : own_find x (number o) ≡ None → (b c d : Bool) → is_found (source m (number o)).how ≡ b → look_fits slots m (number o) (source m (number o)) ≡ c → is_copied (source m (number o)).how ≡ d
           → broken slots m (object o) ≡ unfit? (looked slots m x u (number o)).how
       go a true true true p q r =
           let f : fetched? (looked slots m x u (number o)).how ≡ true = rw (looked, a, p, q, r) (taken_fetched (source m (number o)).node) in
@@ -239,8 +239,8 @@ module _ (slots : ℕ) (m : ClientWord → ℕ) (x u : List ℕ) (o : Obj) (t : 
       go a false c d p q r = rw (broken, looked, a, t, p)
 
       own : (f : Found) → own_find x (number o) ≡ f → broken slots m (object o) ≡ unfit? (looked slots m x u (number o)).how
-      own (At i) e = let f : fetched? (looked slots m x u (number o)).how ≡ true = rw (looked, e) in let g : true ≡ false = sym f ∙ h in cc
-      own Absent e = go e (is_found (source m (number o)).how) (look_fits slots m (number o) (source m (number o))) (is_copied (source m (number o)).how) refl refl refl
+      own (Some i) e = let f : fetched? (looked slots m x u (number o)).how ≡ true = rw (looked, e) in let g : true ≡ false = sym f ∙ h in cc
+      own None e = go e (is_found (source m (number o)).how) (look_fits slots m (number o) (source m (number o))) (is_copied (source m (number o)).how) refl refl refl
 
 free_small : (o : Obj) → Small o (free_node 0)
 unfolding free_node made
@@ -284,7 +284,7 @@ unfolding look_fits
 fits_small slots m o l t h =
     range_small slots o l.node t (and_both (record_in_range slots (number o) l.node) (not (is_copied l.how) || copy_fits m (number o) l.node) h).0
 
-module _ (slots : ℕ) (m : ClientWord → ℕ) (x u : List ℕ) (o : Obj) (t : object_in_store slots o ≡ true) (own : (i : ℕ) → own_find x (number o) ≡ At i → Small o (own_record x i)) where
+module _ (slots : ℕ) (m : ClientWord → ℕ) (x u : List ℕ) (o : Obj) (t : object_in_store slots o ≡ true) (own : (i : ℕ) → own_find x (number o) ≡ Some i → Small o (own_record x i)) where
   looked_small : Small o (looked slots m x u (number o)).node
   unfolding looked taken_up
   looked_small = go (own_find x (number o)) refl
@@ -294,7 +294,7 @@ module _ (slots : ℕ) (m : ClientWord → ℕ) (x u : List ℕ) (o : Obj) (t : 
       taken r h false true p q = rw (taken_up, p, q) h
       taken r h false false p q = rw (taken_up, p, q) h
 
-      part : own_find x (number o) ≡ Absent → (b c d : Bool) → is_found (source m (number o)).how ≡ b → look_fits slots m (number o) (source m (number o)) ≡ c
+      part : own_find x (number o) ≡ None → (b c d : Bool) → is_found (source m (number o)).how ≡ b → look_fits slots m (number o) (source m (number o)) ≡ c
           → is_copied (source m (number o)).how ≡ d → Small o (looked slots m x u (number o)).node
       part a true true true p q r = rw (looked, a, p, q, r) (taken (source m (number o)).node (fits_small slots m o (source m (number o)) t q) (among (number o) (used_in u)) (ltb (count m Reads + length (used_in u)) 96) refl refl)
       part a true true false p q r = rw (looked, a, p, q, r) (fits_small slots m o (source m (number o)) t q)
@@ -302,8 +302,8 @@ module _ (slots : ℕ) (m : ClientWord → ℕ) (x u : List ℕ) (o : Obj) (t : 
       part a false c d p q r = rw (looked, a, p) (free_small o)
 
       go : (f : Found) → own_find x (number o) ≡ f → Small o (looked slots m x u (number o)).node
-      go (At i) e = rw (looked, e) (own i e)
-      go Absent e = part e (is_found (source m (number o)).how) (look_fits slots m (number o) (source m (number o))) (is_copied (source m (number o)).how) refl refl refl
+      go (Some i) e = rw (looked, e) (own i e)
+      go None e = part e (is_found (source m (number o)).how) (look_fits slots m (number o) (source m (number o))) (is_copied (source m (number o)).how) refl refl refl
 
 never : {A : Type 0} {b : Bool} → b ≡ false → b ≡ true → A
 never p q = let e : false ≡ true = sym p ∙ q in let z : ◌≡◌ {A = ℕ} 0 1 = cc in absurd (omega arith)
@@ -541,11 +541,11 @@ pub ruleset placed_exits = (node_placed, node_is_node)
 
 -- ---- an object seen: an own write, else what was asked for
 module _ (slots : ℕ) (m : ClientWord → ℕ) (x u : List ℕ) (n : ℕ) (l : Stop) (h : Noted m u) (g : OwnGood x) (f : Found) (pf : f ≡ own_find x n) where
-  pub seen_own : (i : ℕ) (r : Node) → f ≡ At i → r ≡ own_record x i → Numbered slots m x u n l Going r u
+  pub seen_own : (i : ℕ) (r : Node) → f ≡ Some i → r ≡ own_record x i → Numbered slots m x u n l Going r u
   seen_own i r e q =
-      let a : own_find x n ≡ At i = sym pf ∙ e in
+      let a : own_find x n ≡ Some i = sym pf ∙ e in
       rw q (record {
-        asks = λ o p t b w hold. let k : own_find x (number o) ≡ At i = rw p a in
+        asks = λ o p t b w hold. let k : own_find x (number o) ≡ Some i = rw p a in
             let y : write_of w o ≡ some (value_of o (own_record x i)) = sym (hold.same o t) ∙ rw k in
             record { same = λ k. rw (see_is w o k, y) };
         noted = h;
@@ -553,11 +553,11 @@ module _ (slots : ℕ) (m : ClientWord → ℕ) (x u : List ℕ) (n : ℕ) (l : 
         small = λ o p t. g.small o i (rw p a);
       })
 
-  pub seen_asked : (s : Stop) (r : Node) (u' : List ℕ) → f ≡ Absent → Numbered slots m nothing u n l s r u' → Numbered slots m x u n l s r u'
+  pub seen_asked : (s : Stop) (r : Node) (u' : List ℕ) → f ≡ None → Numbered slots m nothing u n l s r u' → Numbered slots m x u n l s r u'
   seen_asked s r u' e d =
-      let a : own_find x n ≡ Absent = sym pf ∙ e in
+      let a : own_find x n ≡ None = sym pf ∙ e in
       record {
-        asks = λ o p t b w hold. let k : own_find x (number o) ≡ Absent = rw p a in
+        asks = λ o p t b w hold. let k : own_find x (number o) ≡ None = rw p a in
             let y : write_of w o ≡ none = sym (hold.same o t) ∙ rw k in
             record { same = λ k. rw (see_is w o k, y) ((d.asks o p t b [] (none_held slots)).same k) };
         noted = d.noted;
@@ -566,7 +566,7 @@ module _ (slots : ℕ) (m : ClientWord → ℕ) (x u : List ℕ) (n : ℕ) (l : 
       }
 
 -- ---- ways out of the code that asks
-pub at_inside : (f : Found) (i n : ℕ) → Inside f n → f ≡ At i → i < n
+pub at_inside : (f : Found) (i n : ℕ) → Inside f n → f ≡ Some i → i < n
 at_inside f i n h e = h.inside i e
 
 -- a copy comes into use
@@ -612,10 +612,10 @@ module _ (m : ClientWord → ℕ) (u : List ℕ) (b : Bool) (e : b ≡ over m (u
 pub ruleset meet_exits = (over_some, over_long, under_lent, meets_over, meets_lacking, meets_unfit, meets_fit)
 
 module _ (b x u : List ℕ) (n k : ℕ) (e : k ≡ 1 + n) (h : Noted (held b) u) (g : OwnGood x) (f : Found) (pf : f ≡ own_find x k) where
-  pub node_own : (i : ℕ) (r : Node) → f ≡ At i → r ≡ own_record x i → SeenNode (held b) x u n (record { stop = Going; node = r }) u
+  pub node_own : (i : ℕ) (r : Node) → f ≡ Some i → r ≡ own_record x i → SeenNode (held b) x u n (record { stop = Going; node = r }) u
   node_own i r d q = record { numbered = λ slots. rw (← e) (seen_own slots (held b) x u k (LacksNode n) h g f pf i r d q) }
 
-  pub node_seen : (p : Placed) (a : Seen) (u' : List ℕ) → f ≡ Absent → PlacedNode b u n p u' → a ≡ seen_in b p → SeenNode (held b) x u n a u'
+  pub node_seen : (p : Placed) (a : Seen) (u' : List ℕ) → f ≡ None → PlacedNode b u n p u' → a ≡ seen_in b p → SeenNode (held b) x u n a u'
   node_seen p a u' d q t = rw t (record { numbered = λ slots. rw (← e) (seen_asked slots (held b) x u k (LacksNode n) h g f pf p.stop (placed_in b p) u' d (rw (← e) at (q.numbered slots))) })
 
   pub node_within : (p : Placed) (u' : List ℕ) → PlacedNode b u n p u' → p.place + 33 ≤ 7223
@@ -695,11 +695,11 @@ module _ (slots : ℕ) (m : ClientWord → ℕ) (x u : List ℕ) (n : ℕ) (b : 
         (record { asks = λ w hold. h.asks (flag n) refl (sym e ∙ not-false b t) refl w hold; noted = h.noted; long = h.long; inside = λ g. sym e ∙ not-false b t; small = tt })
 
     module _ (k : ℕ) (d : k ≡ 8193 + n) (h : Noted m u) (g : OwnGood x) (f : Found) (pf : f ≡ own_find x k) where
-      pub flag_own : (i v : ℕ) → f ≡ At i → v ≡ first_slot (own_record x i) → Answer slots m x u (flag n) Going (single 0 v) u
+      pub flag_own : (i v : ℕ) → f ≡ Some i → v ≡ first_slot (own_record x i) → Answer slots m x u (flag n) Going (single 0 v) u
       flag_own i v c q =
           flag_found Going (own_record x i) v u (λ a. q) (rw d at (seen_own slots m x u k (LacksVector (server_of n)) h g f pf i (own_record x i) c refl))
 
-      pub flag_asked : (v : Valued) (u' : List ℕ) → f ≡ Absent → AskedFlag m u n v u' → Answer slots m x u (flag n) v.stop (single 0 v.value) u'
+      pub flag_asked : (v : Valued) (u' : List ℕ) → f ≡ None → AskedFlag m u n v u' → Answer slots m x u (flag n) v.stop (single 0 v.value) u'
       flag_asked v u' c a =
           flag_found v.stop a.node v.value u' a.value
           (seen_asked slots m x u (8193 + n) (LacksVector (server_of n)) h g f (rw d at pf) v.stop a.node u' c (a.numbered slots))

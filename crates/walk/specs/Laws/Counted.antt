@@ -12,8 +12,8 @@ use Rattle.std.proofs.Math.ListN.{length, length-take}
 use borrow.Author.Tests.{eq-eqb, ne_eqb, eqb-true, eqb-false, ltb-true, ltb-false, lt-ltb, le-ltb}
 use Rattle.base.specs.Test.{yes?, ifd}
 use Rattle.nodes.specs.declared.node.Node.{Node}
-use Rattle.nodes.specs.declared.found.Found.{Found}
-use Rattle.nodes.specs.declared.found.Found.TheVariants.{At, Absent}
+use Rattle.nodes.specs.Found.{Found}
+use Rattle.std.specs.Prelude.{Some, None}
 use Rattle.nodes.specs.Name.{name, server_of, slot_of, name_in_store}
 use Rattle.nodes.specs.Flags.{with_flag}
 use Rattle.nodes.proofs.Laws.Bits.{length_flags, flags_with}
@@ -50,12 +50,12 @@ length_of slots ws vs e =
 -- ---- what stands at a slot
 -- an own write of its flag, else what was there
 abbrev own_or : List ℕ → Found → Bool → Bool
-own_or x (At j) b = eqb (first_slot (own_record x j)) 1
-own_or x Absent b = b
+own_or x (Some j) b = eqb (first_slot (own_record x j)) 1
+own_or x None b = b
 
 module _ (x : List ℕ) (s slots i : ℕ) (small : i < 1024) where
   at_one : (n : ℕ) (ws : List ℕ) → length ws ≡ 16 → i < length (N.flags_in slots ws)
-      → get_or (N.flags_in slots (counts_one x s n ws)) i false ≡ own_or x (cond (eqb (own_number x n) (8193 + name s i)) (At n) Absent) (get_or (N.flags_in slots ws) i false)
+      → get_or (N.flags_in slots (counts_one x s n ws)) i false ≡ own_or x (cond (eqb (own_number x n) (8193 + name s i)) (Some n) None) (get_or (N.flags_in slots ws) i false)
   unfolding counts_one
   at_one n ws l h = go (ltb k 8193) (eqb (server_of (k - 8193)) s) refl refl (ℕ_discrete i (slot_of (k - 8193)))
     where
@@ -66,7 +66,7 @@ module _ (x : List ℕ) (s slots i : ℕ) (small : i < 1024) where
       b = eqb (first_slot (own_record x n)) 1
 
       goal : Type 0
-      goal = get_or (N.flags_in slots (counts_one x s n ws)) i false ≡ own_or x (cond (eqb k (8193 + name s i)) (At n) Absent) (get_or (N.flags_in slots ws) i false)
+      goal = get_or (N.flags_in slots (counts_one x s n ws)) i false ≡ own_or x (cond (eqb k (8193 + name s i)) (Some n) None) (get_or (N.flags_in slots ws) i false)
 
       with_b : N.flags_in slots (with_flag ws (slot_of (k - 8193)) b) ≡ set (N.flags_in slots ws) (slot_of (k - 8193)) b
       with_b = flags_with slots ws (slot_of (k - 8193)) b (omega arith)
@@ -99,9 +99,9 @@ module _ (x : List ℕ) (s slots i : ℕ) (small : i < 1024) where
     where
       go : (f : Found) → first_of (own_number x) n (8193 + name s i) ≡ f
           → own_or x (first_of (own_number x) n (8193 + name s i)) (get_or (N.flags_in slots (counts_one x s n ws)) i false)
-          ≡ own_or x (or_found (first_of (own_number x) n (8193 + name s i)) (cond (eqb (own_number x n) (8193 + name s i)) (At n) Absent)) (get_or (N.flags_in slots ws) i false)
-      go (At j) e = rw e
-      go Absent e = rw e (at_one n ws l h)
+          ≡ own_or x (or_found (first_of (own_number x) n (8193 + name s i)) (cond (eqb (own_number x n) (8193 + name s i)) (Some n) None)) (get_or (N.flags_in slots ws) i false)
+      go (Some j) e = rw e
+      go None e = rw e (at_one n ws l h)
 
 -- ---- the same of the plan's vector
 abbrev written_or : Option Val → Bool → Bool
@@ -148,8 +148,8 @@ module _ (slots : ℕ) (x : List ℕ) (w : Writes) (hold : HoldsWrites slots x w
       rw (← hold.same (flag (name s i)) t) (go (own_find x (8193 + name s i)))
     where
       go : (f : Found) → own_or x f b ≡ written_or (own_value x (flag (name s i)) f) b
-      go (At j) = refl
-      go Absent = refl
+      go (Some j) = refl
+      go None = refl
 
   pub counted_is : (ws : List ℕ) → length ws ≡ 16 → N.flags_in slots (counts x s (own_count x) ws) ≡ take slots (counted w s (N.flags_in slots ws))
   unfolding own_find N.flags_in

@@ -1,8 +1,8 @@
 -- What a question meets, told apart further than a lookup does: a copy that would be object 97, and what is out of range.
 use Rattle.std.specs.Prelude.{Bool, true, false, cond, List, ℕ, ◌+◌, ltb, length}
 use Rattle.nodes.specs.declared.node.Node.{Node}
-use Rattle.nodes.specs.declared.found.Found.{Found}
-use Rattle.nodes.specs.declared.found.Found.TheVariants.{At, Absent}
+use Rattle.nodes.specs.Found.{Found}
+use Rattle.std.specs.Prelude.{Some, None}
 use Rattle.nodes.specs.Node.{free_node}
 use Rattle.client.specs.declared.answer.Look.{Look}
 use Rattle.client.specs.declared.part.Set.TheVariants.{Reads}
@@ -58,8 +58,8 @@ module _ (slots : ℕ) (m : ClientWord → ℕ) (w u : List ℕ) where
   in_part x l = cond (is_found l.how) (cond (look_fits slots m x l) (cond (is_copied l.how) (taken_up m u x l.node) (here l.node)) unfit) lacking
 
   abbrev pub or_in_part : ℕ → Found → Met
-  or_in_part x (At i) = here (own_record w i)
-  or_in_part x Absent = in_part x (source m x)
+  or_in_part x (Some i) = here (own_record w i)
+  or_in_part x None = in_part x (source m x)
 
   -- the object with the number x: w are the own writes, u the copies in use
   unfoldable pub looked : ℕ → Met

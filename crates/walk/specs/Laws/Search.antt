@@ -3,8 +3,8 @@ use Rattle.std.specs.Prelude.{◌≡◌, refl, Bool, true, false, not, ℕ, zero
 use Rattle.std.proofs.Common.{sym, ap, subst, ◌∙◌, arith, add-one, drop_of_length-le, drop-cons, get_or-take, length-take-le, take_all}
 use mathlib.Core.List.{List, [], ◌∷◌}
 use Rattle.std.proofs.lemmas.Bool.{not-true, not-false}
-use Rattle.nodes.specs.declared.found.Found.{Found}
-use Rattle.nodes.specs.declared.found.Found.TheVariants.{At, Absent}
+use Rattle.nodes.specs.Found.{Found}
+use Rattle.std.specs.Prelude.{Some, None}
 use Rattle.nodes.proofs.Laws.Found.{absent_inside}
 use Rattle.nodes.specs.Name.{name, server_of, slot_of}
 use Rattle.nodes.specs.Placement.{row}
@@ -33,7 +33,7 @@ use Rattle.walk.specs.Search.{LookedInRow, Sought, TakenOn, TakenFor}
 
 -- ---- a row
 module _ (slots : ℕ) (m : ClientWord → ℕ) (x u : List ℕ) (states s slot : ℕ) (b : Bool) (e : b ≡ is_open states s) where
-  pub row_closed : not b ≡ true → Noted m u → LookedInRow slots m x u states s slot Going Absent u
+  pub row_closed : not b ≡ true → Noted m u → LookedInRow slots m x u states s slot Going None u
   row_closed nb h =
       let q : is_open states s ≡ false = sym e ∙ not-true b nb in
       record { asks = λ w hold ss k. rw q; near = absent_inside 1024; noted = h; long = refl }
@@ -86,12 +86,12 @@ module _ (slots : ℕ) (m : ClientWord → ℕ) (x u₀ : List ℕ) (states home
           let no : goes t ≡ false = sym pb ∙ not-true b nb in
           record { asks = λ w hold k. rw (g.same w hold k, next, h.asks w hold (drop (suc i) ss) k, no); noted = h.noted; long = h.long ∙ g.long }
 
-      pub seek_finds : (j d : ℕ) → not b ≡ false → f ≡ At j → d ≡ name s j → Sought slots m x u₀ (open_ones states ss) slot (record { stop = t; name = d }) u'
+      pub seek_finds : (j d : ℕ) → not b ≡ false → f ≡ Some j → d ≡ name s j → Sought slots m x u₀ (open_ones states ss) slot (record { stop = t; name = d }) u'
       seek_finds j d nb pj pn =
           let on : goes t ≡ true = sym pb ∙ not-false b nb in
           record { asks = λ w hold k. rw (g.same w hold k, next, h.asks w hold (drop (suc i) ss) k, on, pj, pn); noted = h.noted; long = h.long ∙ g.long }
 
-      pub seek_goes_on : not b ≡ false → f ≡ Absent → Seeking slots m x u₀ states home n slot (i + 1) u'
+      pub seek_goes_on : not b ≡ false → f ≡ None → Seeking slots m x u₀ states home n slot (i + 1) u'
       seek_goes_on nb pj =
           let on : goes t ≡ true = sym pb ∙ not-false b nb in
           record {
@@ -101,7 +101,7 @@ module _ (slots : ℕ) (m : ClientWord → ℕ) (x u₀ : List ℕ) (states home
             same = λ w hold k. rw (add-one, g.same w hold k, next, h.asks w hold (drop (suc i) ss) k, on, pj);
           }
 
-      pub seek_near : (j : ℕ) → f ≡ At j → j < 1024
+      pub seek_near : (j : ℕ) → f ≡ Some j → j < 1024
       seek_near j pj = h.near.inside j pj
 
       pub seek_turn : i < 8

@@ -7,8 +7,8 @@ use mathlib.Core.List.{List, [], ◌∷◌}
 use Rattle.std.proofs.Math.Option.{Option, none, some}
 use Prim.Native.Nat.{ℕ, suc, ◌+◌, ◌≤◌, ◌<◌}
 use borrow.Author.Tests.{lt-ltb, not-true, not-false}
-use Rattle.nodes.specs.declared.found.Found.{Found}
-use Rattle.nodes.specs.declared.found.Found.TheVariants.{At, Absent}
+use Rattle.nodes.specs.Found.{Found}
+use Rattle.std.specs.Prelude.{Some, None}
 use Rattle.nodes.specs.Found.{found, Inside}
 use Rattle.nodes.proofs.Laws.Found.{found_some, absent_inside}
 use Rattle.nodes.specs.Vector.{shifted, lowest_free, or_else, free_from, first_free}
@@ -136,7 +136,7 @@ slot_found none f e = rw e
 slot_found (some i) f e = rw e
 
 module _ (slots : ℕ) (m : ClientWord → ℕ) (x u : List ℕ) (s slot : ℕ) (t : Stop) (u' : List ℕ) (h : VectorAsked m u s t u') (there : s < 8) (b : Bool) (pb : b ≡ goes t) where
-  pub look_stops : not b ≡ true → Looked slots m x u s slot t Absent u'
+  pub look_stops : not b ≡ true → Looked slots m x u s slot t None u'
   look_stops nb =
       let no : goes t ≡ false = sym pb ∙ not-true b nb in
       record { asks = λ w hold ss k. rw (h.asks slots, no); near = absent_inside 1024; noted = h.noted; long = h.long }
@@ -152,7 +152,7 @@ module _ (slots : ℕ) (m : ClientWord → ℕ) (x u : List ℕ) (s slot : ℕ) 
     found_free w hold =
         rw (← ps, ← counted_is slots x w hold s there seen ls, ← pw) (sym (slot_found (first_free slot (N.flags_in slots ws)) f pf))
 
-    pub look_chooses : (i : ℕ) → f ≡ At i → Looked slots m x u s slot t f u'
+    pub look_chooses : (i : ℕ) → f ≡ Some i → Looked slots m x u s slot t f u'
     look_chooses i pi = record {
       asks = λ w hold ss k. rw (h.asks slots, on, found_free w hold, pi);
       near = slots_near slots slot ws f sixteen pf;
@@ -160,7 +160,7 @@ module _ (slots : ℕ) (m : ClientWord → ℕ) (x u : List ℕ) (s slot : ℕ) 
       long = h.long;
     }
 
-    pub look_passes : (p : Stop) → f ≡ Absent → p ≡ passes m s → Looked slots m x u s slot p f u'
+    pub look_passes : (p : Stop) → f ≡ None → p ≡ passes m s → Looked slots m x u s slot p f u'
     unfolding passes
     look_passes p pi pp = record {
       asks = λ w hold ss k. rw (h.asks slots, on, found_free w hold, pi, pp, h.again on slots, found_free w hold, pi) (go (is_fetched m s) ss k w);

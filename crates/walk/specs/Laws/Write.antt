@@ -16,8 +16,8 @@ use Rattle.std.proofs.lemmas.Bool.{eqb-false}
 use Rattle.memory.proofs.Laws.Run.{run_beside}
 use Rattle.base.proofs.Laws.Test.{yes_of, of_yes, of_no}
 use Rattle.nodes.specs.declared.node.Node.{Node}
-use Rattle.nodes.specs.declared.found.Found.{Found}
-use Rattle.nodes.specs.declared.found.Found.TheVariants.{At, Absent}
+use Rattle.nodes.specs.Found.{Found}
+use Rattle.std.specs.Prelude.{Some, None}
 use Rattle.nodes.specs.Stored.{words_of, node_of, node_at, put_node}
 use Rattle.nodes.proofs.Laws.Stored.{Sized, length_words, node_same}
 use Rattle.operations.specs.Object.{Obj, meta, node, flag, Val, Writes, hit}
@@ -122,21 +122,21 @@ counted_record x c j = ap node_of (run_beside (c ∷ []) x 0 (34 * j + 2) 33 (in
 -- for each number: where it is found, and the record there
 pub record Put (x : List ℕ) (n : ℕ) (r : Node) (x' : List ℕ) : Type 0 where
   pub at : ℕ
-  pub found : own_find x' n ≡ At at
+  pub found : own_find x' n ≡ Some at
   pub is : own_record x' at ≡ r
   pub others : (y : ℕ) → (y ≡ n → ⊥) → own_find x' y ≡ own_find x y
-  pub kept : (y i : ℕ) → (y ≡ n → ⊥) → own_find x y ≡ At i → own_record x' i ≡ own_record x i
+  pub kept : (y i : ℕ) → (y ≡ n → ⊥) → own_find x y ≡ Some i → own_record x' i ≡ own_record x i
   pub few : own_count x' ≤ own_count x + 1
   pub list : own_list x' ≡ put_entry (n, r) (own_list x)
   pub keys : r.count ≤ 14 → Few x → Few x'
 
-found_in : (x : List ℕ) (y j : ℕ) → own_find x y ≡ At j → j < own_count x
+found_in : (x : List ℕ) (y j : ℕ) → own_find x y ≡ Some j → j < own_count x
 unfolding own_find
 found_in x y j f = (first_at (own_number x) (own_count x) y j f).1
 
 module _ (x : List ℕ) (n : ℕ) (r : Node) (sized : Sized r) (fit : OwnFits x) (few : own_count x < 20) where
   -- the list with the entry in its place
-  list_replaced : (i : ℕ) → own_number x i ≡ n → 34 * i + 35 ≤ length x → first_of (own_number x) (own_count x) n ≡ At i
+  list_replaced : (i : ℕ) → own_number x i ≡ n → 34 * i + 35 ≤ length x → first_of (own_number x) (own_count x) n ≡ Some i
       → own_first (own_at x n r i) (own_count x) ≡ put_entry (n, r) (own_first x (own_count x))
   list_replaced i h g e =
       let here : own_entry (own_at x n r i) i ≡ (n, r) = rw (number_here x n r sized i g, record_here x n r sized i g) in
@@ -144,7 +144,7 @@ module _ (x : List ℕ) (n : ℕ) (r : Node) (sized : Sized r) (fit : OwnFits x)
       let a = entry_there x n r (own_at x n r i) i here there (own_count x) [] e in
       sym (rw (append-nil (own_first x (own_count x)), append-nil (own_first (own_at x n r i) (own_count x))) at a)
 
-  put_replaced : (i : ℕ) → own_find x n ≡ At i → Put x n r (own_at x n r i)
+  put_replaced : (i : ℕ) → own_find x n ≡ Some i → Put x n r (own_at x n r i)
   unfolding own_find own_list
   put_replaced i e =
       let h = first_at (own_number x) (own_count x) n i e in
@@ -187,13 +187,13 @@ module _ (x : List ℕ) (n : ℕ) (r : Node) (sized : Sized r) (fit : OwnFits x)
   earlier : (j : ℕ) → j < own_count x → own_number x' j ≡ own_number x j
   earlier j h = counted_number (own_at x n r (own_count x)) (own_count x + 1) j ∙ number_there x n r sized (own_count x) room j (λ e. absurd (omega arith))
 
-  find_after : (y : ℕ) → own_find x' y ≡ or_found (own_find x y) (cond (eqb n y) (At (own_count x)) Absent)
+  find_after : (y : ℕ) → own_find x' y ≡ or_found (own_find x y) (cond (eqb n y) (Some (own_count x)) None)
   unfolding own_find first_of
   find_after y = rw (own_find, one_more, first_of, last_number, first_same (own_number x') (own_number x) (own_count x) y earlier)
 
-  or_absent : (f : Found) → or_found f Absent ≡ f
-  or_absent (At i) = refl
-  or_absent Absent = refl
+  or_absent : (f : Found) → or_found f None ≡ f
+  or_absent (Some i) = refl
+  or_absent None = refl
 
   last_record : own_record x' (own_count x) ≡ r
   last_record = counted_record (own_at x n r (own_count x)) (own_count x + 1) (own_count x) ∙ record_here x n r sized (own_count x) room
@@ -202,14 +202,14 @@ module _ (x : List ℕ) (n : ℕ) (r : Node) (sized : Sized r) (fit : OwnFits x)
   earlier_record j h = counted_record (own_at x n r (own_count x)) (own_count x + 1) j ∙ record_there x n r sized (own_count x) room j (λ e. absurd (omega arith))
 
   -- the list with the entry behind the others
-  list_behind : own_find x n ≡ Absent → own_list x' ≡ put_entry (n, r) (own_list x)
+  list_behind : own_find x n ≡ None → own_list x' ≡ put_entry (n, r) (own_list x)
   unfolding own_find own_list own_first put_entry
   list_behind e =
       let f : own_first x' (own_count x) ≡ own_first x (own_count x) = first_equal x' x (own_count x) (λ j h. rw (earlier j h, earlier_record j h)) in
       let b = entry_behind x n r (own_count x) [] e in
       rw (own_list, one_more, own_first, last_number, last_record, f) (sym (rw (append-nil (own_first x (own_count x))) at b))
 
-  put_behind : own_find x n ≡ Absent → Put x n r x'
+  put_behind : own_find x n ≡ None → Put x n r x'
   put_behind e = record {
     at = own_count x;
     found = rw (find_after n, e, eq-eqb n n refl);
@@ -230,8 +230,8 @@ module _ (x : List ℕ) (n : ℕ) (r : Node) (sized : Sized r) (fit : OwnFits x)
   put = go (own_find x n) refl
     where
       go : (f : Found) → own_find x n ≡ f → Put x n r (own_put x n r)
-      go (At i) e = rw (own_put, e) (put_replaced i e)
-      go Absent e = rw (own_put, e) (put_behind e)
+      go (Some i) e = rw (own_put, e) (put_replaced i e)
+      go None e = rw (own_put, e) (put_behind e)
 
 pub hit_same : (o q : Obj) → hit o q ≡ true → o ≡ q
 hit_same meta meta e = refl
@@ -263,20 +263,20 @@ module _ (x : List ℕ) (o : Obj) (r : Node) (good : OwnGood x) (few : own_count
   pub good_more : OwnFits (own_put x (number o) r) → SmallNode r → OwnGood (own_put x (number o) r)
   good_more f small = record { fit = f; few = few_more small.keys; small = λ q i e. go q i e (ℕ_discrete (number q) (number o)) }
     where
-      go : (q : Obj) (i : ℕ) → own_find (own_put x (number o) r) (number q) ≡ At i → Dec (number q ≡ number o) → Small q (own_record (own_put x (number o) r) i)
+      go : (q : Obj) (i : ℕ) → own_find (own_put x (number o) r) (number q) ≡ Some i → Dec (number q ≡ number o) → Small q (own_record (own_put x (number o) r) i)
       go q i e (yes d) =
-          let k : At p.at ≡ At i = sym p.found ∙ rw d at e in
+          let k : Some p.at ≡ Some i = sym p.found ∙ rw d at e in
           let j : p.at ≡ i = cc in
           rw (← j, p.is) (small_any r small q)
-      go q i e (no d) = let k : own_find x (number q) ≡ At i = sym (p.others (number q) d) ∙ e in rw (p.kept (number q) i d k) (good.small q i k)
+      go q i e (no d) = let k : own_find x (number q) ≡ Some i = sym (p.others (number q) d) ∙ e in rw (p.kept (number q) i d k) (good.small q i k)
 
 module _ (slots : ℕ) (x : List ℕ) (w : Writes) (o : Obj) (v : Val) (r : Node) (good : OwnGood x) (hold : HoldsWrites slots x w) (few : own_count x < 20) (t : object_in_store slots o ≡ true) (sized : Sized r) (is_v : value_of o r ≡ v) (is_r : r ≡ record_of 0 v) where
   value_after : (q : Obj) → object_in_store slots q ≡ true → own_value (own_put x (number o) r) q (own_find (own_put x (number o) r) (number q)) ≡ write_of ((o, v) ∷ w) q
   value_after q s = go (hit o q) refl
     where
       found_at : (f : Found) → own_find x (number q) ≡ f → (number q ≡ number o → ⊥) → own_value (own_put x (number o) r) q f ≡ own_value x q f
-      found_at (At j) e d = rw ((p x o r good few sized).kept (number q) j d e)
-      found_at Absent e d = refl
+      found_at (Some j) e d = rw ((p x o r good few sized).kept (number q) j d e)
+      found_at None e d = refl
 
       go : (b : Bool) → hit o q ≡ b → own_value (own_put x (number o) r) q (own_find (own_put x (number o) r) (number q)) ≡ write_of ((o, v) ∷ w) q
       go true e = let same : o ≡ q = hit_same o q e in rw (e, ← same, (p x o r good few sized).found, (p x o r good few sized).is, is_v)
