@@ -1,5 +1,5 @@
 -- Nodes whose count is one that their arrays have room for.
-use Rattle.std.specs.Prelude.{◌+◌, ◌-◌, ◌≡◌, length}
+use Rattle.std.specs.Prelude.{◌+◌, ◌≡◌, length}
 use Rattle.nodes.specs.declared.node.Node.{Node}
 use Rattle.nodes.specs.declared.change.Wide.{Wide}
 use Rattle.nodes.specs.Node.{extra, keys_of, slots_of}

@@ -10,11 +10,7 @@ pub fn blit(dst: &mut [u64], at: usize, src: &[u64], from: usize, n: usize)
     ensures dst_after { dst.new ≡ paste dst.old at (drop from src.now) n }
     ensures size { length dst.new ≡ length dst.old }
 {
-    let mut i: usize = 0;
-    while i < n {
-        dst[at + i] = src[from + i];
-        i += 1;
-    }
+    dst[at..at + n].copy_from_slice(&src[from..from + n]);
 }
 
 // the first n of a, then m of b from the place `from` on
@@ -34,8 +30,7 @@ pub fn inserted(a: &[u64], n: usize, at: usize, v: u64) -> [u64; 32]
     requires { (at ≤ n) × (n < wide_room) × (n ≤ length a.now) }
     ensures { result ≡ pad wide_room (insert_at at v (take n a.now)) }
 {
-    let one = [v; 1];
-    let t = joined(a, at, &one, 0, 1);
+    let t = joined(a, at, &[v], 0, 1);
     joined(&t, at + 1, a, at, n - at)
 }
 
@@ -47,22 +42,12 @@ pub fn removed(a: &[u64], n: usize, at: usize) -> [u64; 32]
     joined(a, at, a, at + 1, n - at - 1)
 }
 
-// the m elements of a from the place `from` on, as an array of keys
-pub fn keys_part(a: &[u64], from: usize, m: usize) -> [u64; 14]
-    requires { (m ≤ most_keys) × (from + m ≤ length a.now) }
-    ensures { result ≡ pad most_keys (take m (drop from a.now)) }
+// the m elements of a from the place `from` on, as an array of N: of keys, or of slots
+pub fn section<const N: usize>(a: &[u64], from: usize, m: usize) -> [u64; N]
+    requires { (m ≤ N) × (from + m ≤ length a.now) }
+    ensures { result ≡ pad N (take m (drop from a.now)) }
 {
-    let mut out = [0u64; 14];
-    blit(&mut out, 0, a, from, m);
-    out
-}
-
-// the same as an array of slots
-pub fn slots_part(a: &[u64], from: usize, m: usize) -> [u64; 15]
-    requires { (m ≤ most_children) × (from + m ≤ length a.now) }
-    ensures { result ≡ pad most_children (take m (drop from a.now)) }
-{
-    let mut out = [0u64; 15];
+    let mut out = [0u64; N];
     blit(&mut out, 0, a, from, m);
     out
 }

@@ -5,7 +5,7 @@ ghost use Rattle.nodes.specs.Node.{extra};
 ghost use Rattle.nodes.specs.Change.{put_in, without, take_out, with_key, with_slot, with_version, part, narrow, cut_at, Cuttable, split, joined_keys, join, merged, from_right, from_left, JoinedCount};
 ghost use Rattle.nodes.specs.Bounds.{keys_to_split, most_keys, wide_room};
 
-use crate::arrays::{inserted, joined, keys_part, removed, slots_part};
+use crate::arrays::{inserted, joined, removed, section};
 use crate::node::{Node, slots_beyond};
 
 // A node with room for two neighbours and their separator.
@@ -36,18 +36,13 @@ impl Node {
     {
         let n = self.count;
         let e = self.extra();
-        let ks = self.keys;
-        let ss = self.slots;
-        let keys = inserted(&ks, n, at, key);
-        let slots = inserted(&ss, n + e, at + e, slot);
-        let count = n + 1;
         Wide {
             kind: self.kind,
             level: self.level,
             version: self.version,
-            count,
-            keys,
-            slots,
+            count: n + 1,
+            keys: inserted(&self.keys, n, at, key),
+            slots: inserted(&self.slots, n + e, at + e, slot),
         }
     }
 
@@ -59,18 +54,13 @@ impl Node {
     {
         let n = self.count;
         let e = self.extra();
-        let ks = self.keys;
-        let ss = self.slots;
-        let keys = removed(&ks, n, at);
-        let slots = removed(&ss, n + e, at + e);
-        let count = n - 1;
         Wide {
             kind: self.kind,
             level: self.level,
             version: self.version,
-            count,
-            keys,
-            slots,
+            count: n - 1,
+            keys: removed(&self.keys, n, at),
+            slots: removed(&self.slots, n + e, at + e),
         }
     }
 
@@ -88,19 +78,11 @@ impl Node {
         ensures value { result ≡ with_version self version }
         ensures size { (result.count ≡ self.count) × (extra self.kind ≤ 1) }
     {
-        let count = self.count;
-        let e = self.extra();
-        let ks = self.keys;
-        let ss = self.slots;
-        let keys = keys_part(&ks, 0, count);
-        let slots = slots_part(&ss, 0, count + e);
         Node {
-            kind: self.kind,
-            level: self.level,
             version,
-            count,
-            keys,
-            slots,
+            keys: section(&self.keys, 0, self.count),
+            slots: section(&self.slots, 0, self.count + self.extra()),
+            ..self
         }
     }
 
@@ -110,18 +92,9 @@ impl Node {
         ensures value { result ≡ with_key self i key }
         ensures size { result.count ≡ self.count }
     {
-        let n = self.with_version(self.version);
-        let mut keys = n.keys;
-        let slots = n.slots;
-        keys[i] = key;
-        Node {
-            kind: n.kind,
-            level: n.level,
-            version: n.version,
-            count: n.count,
-            keys,
-            slots,
-        }
+        let mut n = self.with_version(self.version);
+        n.keys[i] = key;
+        n
     }
 
     // slot number i replaced: a leaf's value, an inner node's child
@@ -130,18 +103,9 @@ impl Node {
         ensures value { result ≡ with_slot self i slot }
         ensures size { result.count ≡ self.count }
     {
-        let n = self.with_version(self.version);
-        let keys = n.keys;
-        let mut slots = n.slots;
-        slots[i] = slot;
-        Node {
-            kind: n.kind,
-            level: n.level,
-            version: n.version,
-            count: n.count,
-            keys,
-            slots,
-        }
+        let mut n = self.with_version(self.version);
+        n.slots[i] = slot;
+        n
     }
 
     // the keys of two neighbours, in inner nodes with the separator between them
@@ -151,11 +115,8 @@ impl Node {
     {
         let n = self.count;
         let e = self.extra();
-        let ks = self.keys;
-        let bk = right.keys;
-        let one = [sep; 1];
-        let front = joined(&ks, n, &one, 0, e);
-        joined(&front, n + e, &bk, 0, right.count)
+        let front = joined(&self.keys, n, &[sep], 0, e);
+        joined(&front, n + e, &right.keys, 0, right.count)
     }
 
     // two neighbours in one
@@ -167,19 +128,13 @@ impl Node {
         let n = self.count;
         let m = right.count;
         let e = self.extra();
-        let f = right.extra();
-        let keys = self.joined_keys(sep, right);
-        let ss = self.slots;
-        let bs = right.slots;
-        let slots = joined(&ss, n + e, &bs, 0, m + f);
-        let count = n + e + m;
         Wide {
             kind: self.kind,
             level: self.level,
             version: self.version,
-            count,
-            keys,
-            slots,
+            count: n + e + m,
+            keys: self.joined_keys(sep, right),
+            slots: joined(&self.slots, n + e, &right.slots, 0, m + right.extra()),
         }
     }
 
@@ -230,18 +185,13 @@ impl Wide {
         ensures value { result ≡ part self from count version }
         ensures size { result.count ≡ count }
     {
-        let e = self.extra();
-        let ks = self.keys;
-        let ss = self.slots;
-        let keys = keys_part(&ks, from, count);
-        let slots = slots_part(&ss, from, count + e);
         Node {
             kind: self.kind,
             level: self.level,
             version,
             count,
-            keys,
-            slots,
+            keys: section(&self.keys, from, count),
+            slots: section(&self.slots, from, count + self.extra()),
         }
     }
 
@@ -263,11 +213,10 @@ impl Wide {
         let e = self.extra();
         let left = self.part(0, i, self.version);
         let right = self.part(i + e, self.count - i - e, version);
-        let keys = self.keys;
         Halves {
             left,
             right,
-            sep: keys[i],
+            sep: self.keys[i],
         }
     }
 

@@ -48,8 +48,5 @@ pub fn in_store(slots: usize, name: u64) -> bool
     ensures { result ≡ name_in_store slots name }
 {
     let node = Name { number: name };
-    if node.server() >= Name::SERVERS {
-        return false;
-    }
-    (node.slot() as usize) < slots
+    node.server() < Name::SERVERS && (node.slot() as usize) < slots
 }

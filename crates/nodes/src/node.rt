@@ -39,14 +39,10 @@ impl Node {
         requires { self.count ≤ most_keys }
         ensures { result ≡ rises (keys_of self) }
     {
-        let keys = self.keys;
-        let count = self.count;
-        let mut i: usize = 1;
-        while i < count {
-            if keys[i] <= keys[i - 1] {
+        for i in 1..self.count {
+            if self.keys[i] <= self.keys[i - 1] {
                 return false;
             }
-            i += 1;
         }
         true
     }

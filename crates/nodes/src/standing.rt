@@ -96,12 +96,9 @@ fn not_above(s: &[u8], b: usize, key: u64) -> usize
     ensures value { result ≡ place (keys_of (node_at (view s.now) b)) key }
     ensures within { result ≤ (node_at (view s.now) b).count }
 {
-    let count = count_at(s, b);
     let mut p: usize = 0;
-    let mut i: usize = 1;
-    while i <= count {
+    for i in 1..count_at(s, b) + 1 {
         p += one_if(key_number(s, b, i) <= key);
-        i += 1;
     }
     p
 }

@@ -26,10 +26,7 @@ pub fn is_open(states: u64, server: usize) -> bool
     requires { server < most_servers }
     ensures { result ≡ is_open states server }
 {
-    if !is_present(states, server) {
-        return false;
-    }
-    bits::has(states / 256, server as u32)
+    is_present(states, server) && bits::has(states / 256, server as u32)
 }
 
 // Is it there, and takes no new nodes?
@@ -37,31 +34,19 @@ pub fn is_closing(states: u64, server: usize) -> bool
     requires { server < most_servers }
     ensures { result ≡ is_closing states server }
 {
-    if !is_present(states, server) {
-        return false;
-    }
-    !bits::has(states / 256, server as u32)
+    is_present(states, server) && !bits::has(states / 256, server as u32)
 }
 
 // Refusal 10: are these the states of eight servers, of which one at least is not absent?
 pub fn states_fit(states: u64) -> bool
     ensures { result ≡ states_fit states }
 {
-    if states >= 65536 {
-        return false;
-    }
-    present(states) != 0
+    states < 65536 && present(states) != 0
 }
 
 // And does the metadata name a node of the store, with a version of 32 bits?
 pub fn metadata_fits(slots: usize, root: u64, states: u64, version: u64) -> bool
     ensures { result ≡ metadata_fits slots root states version }
 {
-    if !in_store(slots, root) {
-        return false;
-    }
-    if version > 4294967295 {
-        return false;
-    }
-    states_fit(states)
+    in_store(slots, root) && version <= 4294967295 && states_fit(states)
 }

@@ -5,37 +5,33 @@ ghost use Rattle.nodes.specs.Stored.{node_of, node_at, words_of, put_node};
 ghost use Rattle.nodes.specs.Range.{node_in_range, fields_in_range};
 ghost use Rattle.nodes.specs.Bounds.{node_words};
 
-use crate::arrays::{blit, keys_part, slots_part};
+use crate::arrays::{blit, section};
 use crate::node::Node;
 
 impl Node {
     pub fn from_words(words: [u64; 33]) -> Node
         ensures { result ≡ node_of words }
     {
-        let keys = keys_part(&words, 4, 14);
-        let slots = slots_part(&words, 18, 15);
         Node {
             kind: words[0],
             level: words[1],
             version: words[2],
             count: words[3] as usize,
-            keys,
-            slots,
+            keys: section(&words, 4, 14),
+            slots: section(&words, 18, 15),
         }
     }
 
     pub fn to_words(self) -> [u64; 33]
         ensures { result ≡ words_of self }
     {
-        let keys = self.keys;
-        let slots = self.slots;
         let mut out = [0u64; 33];
         out[0] = self.kind;
         out[1] = self.level;
         out[2] = self.version;
         out[3] = self.count as u64;
-        blit(&mut out, 4, &keys, 0, 14);
-        blit(&mut out, 18, &slots, 0, 15);
+        blit(&mut out, 4, &self.keys, 0, 14);
+        blit(&mut out, 18, &self.slots, 0, 15);
         out
     }
 
@@ -51,28 +47,15 @@ impl Node {
 pub fn fields_in_range(kind: u64, level: u64, version: u64, count: usize) -> bool
     ensures { result ≡ fields_in_range kind level version count }
 {
-    if kind > 2 {
-        return false;
-    }
     if version > 4294967295 {
         return false;
     }
-    if kind == 2 {
-        if level < 1 {
-            return false;
-        }
-        if level > 4 {
-            return false;
-        }
-        return count <= 14;
+    match kind {
+        0 => level == 0 && count == 0,
+        1 => level == 0 && count <= 14,
+        2 => 1 <= level && level <= 4 && count <= 14,
+        3..=u64::MAX => false,
     }
-    if level != 0 {
-        return false;
-    }
-    if kind == 0 {
-        return count == 0;
-    }
-    count <= 14
 }
 
 // the node at word b
@@ -90,6 +73,5 @@ pub fn write_node(s: &mut [u8], b: usize, n: Node)
     requires { b + node_words ≤ length s.old / 8 }
     ensures { view s.new ≡ put_node (view s.old) b n }
 {
-    let words = n.to_words();
-    memory::write_words(s, b, &words);
+    memory::write_words(s, b, &n.to_words());
 }

@@ -5,7 +5,6 @@ ghost use Rattle.nodes.specs.Vector.{free_from, first_free};
 ghost use Rattle.nodes.specs.Flags.{bits, otherwise, flags_in, with_flag};
 ghost use Rattle.nodes.specs.Bounds.{end_of_slots, word_bits};
 
-
 // the lowest bit that is 0, from bit p on, or 64
 fn first_zero(x: u64, p: u32) -> u32
     requires { p < word_bits }
@@ -22,19 +21,13 @@ fn free_from(words: [u64; 16], slots: usize, from: usize) -> Option<usize>
     ensures value { result ≡ found (free_from from (flags_in slots words)) }
     ensures inside { Inside result slots }
 {
-    let mut w = from / 64;
     let mut p = (from % 64) as u32;
-    while w < 16 {
-        let x = words[w];
-        let t = first_zero(x, p);
+    for w in from / 64..16 {
+        let t = first_zero(words[w], p);
         if t < 64 {
             let slot = 64 * w + t as usize;
-            if slot < slots {
-                return Some(slot);
-            }
-            return None;
+            return if slot < slots { Some(slot) } else { None };
         }
-        w += 1;
         p = 0;
     }
     None
@@ -46,9 +39,8 @@ pub fn first_free(words: [u64; 16], slots: usize, slot: usize) -> Option<usize>
     ensures value { result ≡ found (first_free slot (flags_in slots words)) }
     ensures inside { Inside result slots }
 {
-    let above = free_from(words, slots, slot + 1);
-    match above {
-        Some(_) => above,
+    match free_from(words, slots, slot + 1) {
+        Some(above) => Some(above),
         None => free_from(words, slots, 0),
     }
 }
@@ -60,12 +52,11 @@ pub fn with_taken(words: [u64; 16], slot: usize, taken: bool) -> [u64; 16]
 {
     let w = slot / 64;
     let p = (slot % 64) as u32;
-    let x = words[w];
     let mut out = words;
-    if taken {
-        out[w] = memory::bits::with(x, p);
-        return out;
-    }
-    out[w] = memory::bits::without(x, p);
+    out[w] = if taken {
+        memory::bits::with(words[w], p)
+    } else {
+        memory::bits::without(words[w], p)
+    };
     out
 }

@@ -1,5 +1,5 @@
 -- What each change of a node leaves of its entries, for leaves and inner nodes alike.
-use Prim.Native.Nat.{ℕ, zero, suc, ◌+◌, ◌-◌, ◌≤◌, ◌<◌}
+use Prim.Native.Nat.{ℕ, zero, suc, ◌+◌, ◌≤◌, ◌<◌}
 use Rattle.std.specs.Prelude.{◌≡◌, refl, length, take, drop, get_or}
 use Rattle.std.proofs.Common.{sym, ◌∙◌, arith, add-zero, length-take-le, drop-cons}
 use Rattle.std.proofs.Math.Path.{ap}

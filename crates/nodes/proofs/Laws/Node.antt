@@ -1,5 +1,5 @@
 -- A node made of its lists has these lists.
-use Rattle.std.specs.Prelude.{ℕ, ◌+◌, ◌-◌, ◌≤◌, ◌≡◌, refl, List, length, eqb}
+use Rattle.std.specs.Prelude.{ℕ, ◌+◌, ◌≤◌, ◌≡◌, refl, List, length, eqb}
 use Rattle.std.proofs.Common.{arith, length-take-le}
 use Rattle.base.proofs.Laws.Test.{one_if_small}
 use Rattle.nodes.specs.declared.node.Node.{Node}

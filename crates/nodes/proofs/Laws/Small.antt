@@ -1,6 +1,6 @@
 -- A claim on small numbers, proved at all of them by one test that is computed.
 use Rattle.std.proofs.Common.{subst, sym, ⊎_elim, eq-or-lt_of_le, le_of_suc-le-suc, arith}
-use Rattle.std.specs.Prelude.{Bool, true, false, ◌&&◌, ◌⊎◌, ℕ, zero, suc, ◌<◌, T}
+use Rattle.std.specs.Prelude.{Bool, true, false, ◌&&◌, ℕ, zero, suc, ◌<◌, T}
 
 pub both : (a b : Bool) → T (a && b) → T a × T b
 both true b t = (tt, t)

@@ -3,7 +3,7 @@ use Rattle.std.specs.Prelude.{◌≡◌, refl, Bool, true, not, ℕ, ◌≤◌, 
 use Rattle.std.proofs.Math.Path.{sym}
 use Rattle.std.proofs.Common.{◌∙◌, arith}
 use Rattle.std.proofs.Math.Bool.{false}
-use borrow.Author.Tests.{lt-ltb, le-ltb, lt-leb, le-leb, not-true, not-false}
+use borrow.Author.Tests.{lt-ltb, le-ltb, lt-leb, le-leb}
 use Rattle.base.specs.Test.{and_both}
 use Rattle.memory.specs.Bit.{bit, put_bit}
 use Rattle.memory.proofs.Laws.Bit.{bit_below}
@@ -29,21 +29,21 @@ unfolding is_present
 by_bit states s x b e h = h ∙ rw e
 
 module _ (states s : ℕ) (b : Bool) (e : b ≡ is_present states s) where
-  pub open_absent : not b ≡ true → false ≡ is_open states s
+  pub open_absent : b ≡ false → false ≡ is_open states s
   unfolding is_open
-  open_absent t = rw (← e, not-true b t)
+  open_absent t = rw (← e, t)
 
-  pub open_bit : (c : Bool) → not b ≡ false → c ≡ bit (states / 256) s → c ≡ is_open states s
+  pub open_bit : (c : Bool) → b ≡ true → c ≡ bit (states / 256) s → c ≡ is_open states s
   unfolding is_open
-  open_bit c t h = h ∙ rw (← e, not-false b t)
+  open_bit c t h = h ∙ rw (← e, t)
 
-  pub closing_absent : not b ≡ true → false ≡ is_closing states s
+  pub closing_absent : b ≡ false → false ≡ is_closing states s
   unfolding is_closing
-  closing_absent t = rw (← e, not-true b t)
+  closing_absent t = rw (← e, t)
 
-  pub closing_bit : (c : Bool) → not b ≡ false → c ≡ bit (states / 256) s → not c ≡ is_closing states s
+  pub closing_bit : (c : Bool) → b ≡ true → c ≡ bit (states / 256) s → not c ≡ is_closing states s
   unfolding is_closing
-  closing_bit c t h = rw (← e, not-false b t, h)
+  closing_bit c t h = rw (← e, t, h)
 
 pub fit_wide : (states : ℕ) → 65536 ≤ states → false ≡ states_fit states
 unfolding states_fit
@@ -59,13 +59,13 @@ unfolding is_open is_present bit first_states with_closed put_bit
 computes = Unit {0}
 
 module _ (slots root states version : ℕ) (b : Bool) (p : b ≡ name_in_store slots root) where
-  pub root_astray : not b ≡ true → false ≡ metadata_fits slots root states version
+  pub root_astray : b ≡ false → false ≡ metadata_fits slots root states version
   unfolding metadata_fits
-  root_astray t = let q : name_in_store slots root ≡ false = sym p ∙ not-true b t in rw q
+  root_astray t = let q : name_in_store slots root ≡ false = sym p ∙ t in rw q
 
-  module _ (t : not b ≡ false) where
+  module _ (t : b ≡ true) where
     named : name_in_store slots root ≡ true
-    named = sym p ∙ not-false b t
+    named = sym p ∙ t
 
     pub version_wide : 4294967295 < version → false ≡ metadata_fits slots root states version
     unfolding metadata_fits
