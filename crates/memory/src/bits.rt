@@ -27,3 +27,11 @@ pub fn without(word: u64, i: u32) -> u64
     let one: u64 = 1;
     with(word, i) - (one << i)
 }
+
+// The set with i in it, or without i.
+pub fn put(word: u64, i: u32, on: bool) -> u64
+    requires { i < 64 }
+    ensures { result ≡ put_bit on word i }
+{
+    if on { with(word, i) } else { without(word, i) }
+}

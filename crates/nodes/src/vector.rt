@@ -53,10 +53,6 @@ pub fn with_taken(words: [u64; 16], slot: usize, taken: bool) -> [u64; 16]
     let w = slot / 64;
     let p = (slot % 64) as u32;
     let mut out = words;
-    out[w] = if taken {
-        memory::bits::with(words[w], p)
-    } else {
-        memory::bits::without(words[w], p)
-    };
+    out[w] = memory::bits::put(words[w], p, taken);
     out
 }

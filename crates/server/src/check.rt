@@ -54,16 +54,8 @@ fn mark_in(object: Object, word: u64) -> u64
     ensures { result ≡ mark_in object word }
 {
     match object {
-        Object::Metadata => word,
-        Object::Node(_) => word,
-        Object::Flag(x) => {
-            let slot = x.slot();
-            if bits::has(word, (slot % 64) as u32) {
-                1
-            } else {
-                0
-            }
-        }
+        Object::Metadata | Object::Node(_) => word,
+        Object::Flag(x) => bits::has(word, (x.slot() % 64) as u32) as u64,
     }
 }
 
@@ -72,8 +64,7 @@ pub fn stands(part: &[u8], slots: usize, object: Object, inner: bool) -> u64
     requires { (slots ≤ end_of_slots) × Has slots object × (part_words slots ≤ length part.now / 8) }
     ensures { result ≡ standing object inner (mem places (server_block slots) (view part.now)) }
 {
-    let word = get(part, slots, mark_place(object, inner));
-    mark_in(object, word)
+    mark_in(object, get(part, slots, mark_place(object, inner)))
 }
 
 // May a mark of the object be this number?
@@ -81,8 +72,7 @@ fn mark_fits(object: Object, mark: u64) -> bool
     ensures { result ≡ mark_fits object mark }
 {
     match object {
-        Object::Metadata => mark <= 4294967295,
-        Object::Node(_) => mark <= 4294967295,
+        Object::Metadata | Object::Node(_) => mark <= 4294967295,
         Object::Flag(_) => mark <= 1,
     }
 }
@@ -91,16 +81,13 @@ fn mark_fits(object: Object, mark: u64) -> bool
 fn mark_finding(object: Object, here: u64, read: u64) -> Finding
     ensures { result ≡ mark_finding object here read }
 {
-    if !mark_fits(object, here) {
-        return Finding::Unfit;
+    if !mark_fits(object, here) || !mark_fits(object, read) {
+        Finding::Unfit
+    } else if here == read {
+        Finding::Same
+    } else {
+        Finding::Differs
     }
-    if !mark_fits(object, read) {
-        return Finding::Unfit;
-    }
-    if here == read {
-        return Finding::Same;
-    }
-    Finding::Differs
 }
 
 // Is an object still as it was read, with this mark? Its lock is not looked at.

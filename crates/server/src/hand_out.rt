@@ -23,13 +23,10 @@ pub fn read_metadata(part: &[u8], slots: usize) -> Metadata
     requires { (slots ≤ end_of_slots) × (part_words slots ≤ length part.now / 8) }
     ensures { result ≡ metadata_at (mem places (server_block slots) (view part.now)) }
 {
-    let root = get(part, slots, Place::Root);
-    let version = get(part, slots, Place::Version);
-    let states = get(part, slots, Place::States);
     Metadata {
-        root,
-        version,
-        states,
+        root: get(part, slots, Place::Root),
+        version: get(part, slots, Place::Version),
+        states: get(part, slots, Place::States),
     }
 }
 

@@ -22,8 +22,7 @@ pub fn is_busy(word: u64, client: u32, wanted: Use) -> bool
         return word != 65536 + client as u64;
     }
     match wanted {
-        Use::Fetch => false,
-        Use::Read => false,
+        Use::Fetch | Use::Read => false,
         Use::Write => bits::without(word, client) != 0,
     }
 }

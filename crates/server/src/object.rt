@@ -13,19 +13,21 @@ pub enum Object {
     Flag(Name),
 }
 
-// The object with a number: numbers rise in the order of checking, "metadata, nodes by name, flags by name".
-pub fn numbered(number: u64) -> Object
-    ensures { result ≡ object_of number }
-{
-    if number == 0 {
-        return Object::Metadata;
+impl From<u64> for Object {
+    // The object with a number: numbers rise in the order of checking, "metadata, nodes by name, flags by name".
+    fn from(number: u64) -> Object
+        ensures { result ≡ object_of number }
+    {
+        if number == 0 {
+            return Object::Metadata;
+        }
+        if number <= Name::END {
+            return Object::Node(Name { number: number - 1 });
+        }
+        Object::Flag(Name {
+            number: number - 1 - Name::END,
+        })
     }
-    if number <= Name::END {
-        return Object::Node(Name { number: number - 1 });
-    }
-    Object::Flag(Name {
-        number: number - 1 - Name::END,
-    })
 }
 
 // Where the lock of an object lies.

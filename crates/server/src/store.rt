@@ -52,11 +52,7 @@ pub fn store_flag(part: &mut [u8], slots: usize, name: Name, taken: bool)
     let at = Place::Vector(slot as usize / 64);
     let i = (slot % 64) as u32;
     let word = get(part, slots, at);
-    if taken {
-        put(part, slots, at, bits::with(word, i));
-    } else {
-        put(part, slots, at, bits::without(word, i));
-    }
+    put(part, slots, at, bits::put(word, i, taken));
 }
 
 // A node with a version; "Freed nodes become kind 0 and keep only a version."

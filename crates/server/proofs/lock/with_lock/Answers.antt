@@ -1,0 +1,12 @@
+use Rattle.std.proofs.Common.{rules}
+use Rattle.server.proofs.LockExits.{lock_exits}
+use Rattle.server.proofs.lock.with_lock.Goals as goal
+
+pub returns-then-writing : goal.returns-then-writing
+returns-then-writing c = search (lock_exits, rules)
+
+pub returns-then-word-ge65536 : goal.returns-then-word-ge65536
+returns-then-word-ge65536 c = search (lock_exits, rules)
+
+pub returns : goal.returns
+returns c = search (lock_exits, rules)

@@ -1,0 +1,6 @@
+use Rattle.std.proofs.Common.{rules}
+use Rattle.server.proofs.StoreExits.{store_exits}
+use Rattle.server.proofs.store.store_node.Goals as goal
+
+pub returns : goal.returns
+returns c = search (store_exits, rules)
