@@ -21,7 +21,7 @@ use client::lookup::copied;
 use client::part::{MOST_READ, READS_COUNT};
 use server::check::can_check;
 use server::lock::Use;
-use server::object::numbered;
+use server::object::Object;
 use steps::sizes::Sizes;
 
 // A copy in use, as an object read.
@@ -63,7 +63,7 @@ fn fetch_fault(mem: &[u8], sizes: Sizes, client: usize, server: usize, item: Ite
     if !item.known {
         return 10;
     }
-    let object = numbered(item.number);
+    let object = Object::from(item.number);
     if !can_check(server as u64, object, item.inner) {
         return 0;
     }

@@ -14,7 +14,7 @@ use crate::judge::{item_at, lock_word, word_fits};
 use crate::whole::server_at;
 use server::check::{Finding, compare};
 use server::lock::{Use, is_busy};
-use server::object::numbered;
+use server::object::Object;
 use steps::sizes::Sizes;
 
 // An object's number with a reason to abort, or 10 for the refusal; 0 is none.
@@ -90,7 +90,7 @@ pub fn compared_at(mem: &[u8], sizes: Sizes, server: usize, item: Item) -> u64
     ensures { result ≡ compared_at sizes (view mem.now) server (as_item item) }
 {
     let at = 8 * server_at(sizes, server);
-    let object = numbered(item.number);
+    let object = Object::from(item.number);
     let finding = compare(&mem[at..], sizes.slots, object, item.inner, item.mark);
     number_of(finding)
 }

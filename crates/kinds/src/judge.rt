@@ -19,7 +19,7 @@ use client::items::has;
 use client::part::{DECIDED, MOST_WRITTEN, OPEN, PHASE, Set, WRITES_COUNT, get_field};
 use memory::bits;
 use server::lock::is_lock;
-use server::object::{lock_place, numbered};
+use server::object::{Object, lock_place};
 use server::place::get;
 use steps::sizes::Sizes;
 
@@ -130,7 +130,7 @@ pub fn lock_word(mem: &[u8], sizes: Sizes, server: usize, number: u64) -> u64
     ensures { result ≡ stored_in sizes (view mem.now) (at_server server (lock_of (object_of number))) }
 {
     let at = 8 * server_at(sizes, server);
-    let place = lock_place(numbered(number));
+    let place = lock_place(Object::from(number));
     get(&mem[at..], sizes.slots, place)
 }
 

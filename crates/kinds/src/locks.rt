@@ -14,7 +14,7 @@ use crate::fits::{lowest, reads_of};
 use crate::items::{Item, is_locked_at};
 use crate::judge::item_at;
 use crate::whole::server_at;
-use server::object::numbered;
+use server::object::Object;
 use server::store::{lock, unlock};
 use steps::sizes::Sizes;
 
@@ -30,7 +30,7 @@ fn lock_at(mem: &mut [u8], sizes: Sizes, client: usize, server: usize, number: u
     ensures { InServer sizes server (lock_step (object_of number) writing client) mem.old mem.new }
 {
     let at = 8 * server_at(sizes, server);
-    let object = numbered(number);
+    let object = Object::from(number);
     lock(&mut mem[at..], sizes.slots, object, client as u32, writing);
 }
 
@@ -40,7 +40,7 @@ fn unlock_at(mem: &mut [u8], sizes: Sizes, client: usize, server: usize, number:
     ensures { InServer sizes server (unlock_step (object_of number) client) mem.old mem.new }
 {
     let at = 8 * server_at(sizes, server);
-    let object = numbered(number);
+    let object = Object::from(number);
     unlock(&mut mem[at..], sizes.slots, object, client as u32);
 }
 
