@@ -5,7 +5,7 @@ ghost use Rattle.client.specs.Record.{by_number};
 ghost use Rattle.client.specs.Layout.{limit, ClientPart};
 ghost use Rattle.client.specs.declared.part.Set.TheVariants.{Reads, Writes};
 ghost use Rattle.client.specs.Sets.{held, count};
-ghost use Rattle.client.specs.Commit.{is_at, inner_at};
+ghost use Rattle.client.specs.Commit.{inner_at};
 ghost use Rattle.client.specs.Participants.{calls_all, called_homes, all_take_part, states_read, participants_of};
 
 use crate::items::{inner_before_after, is_inner};
@@ -15,15 +15,6 @@ use crate::part::{
 use memory::bits::with;
 use nodes::name::Name;
 use nodes::states::present;
-
-pub fn is_at(at: Option<usize>) -> bool
-    ensures { result ≡ is_at at }
-{
-    match at {
-        Some(_) => true,
-        None => false,
-    }
-}
 
 // Is item i of a set an inner node?
 pub fn inner_at(part: &[u8], set: Set, i: usize) -> bool
@@ -54,13 +45,10 @@ pub fn all_take_part(part: &[u8]) -> bool
     requires { ClientPart part.now }
     ensures { result ≡ all_take_part (held part.now) }
 {
-    let n = count(part, Set::Writes);
-    let mut i: usize = 0;
-    while i < n {
+    for i in 0..count(part, Set::Writes) {
         if calls_all(part, i) {
             return true;
         }
-        i += 1;
     }
     false
 }
@@ -103,12 +91,9 @@ fn homes(part: &[u8]) -> u64
     requires { ClientPart part.now }
     ensures { result ≡ called_homes (held part.now) (count (held part.now) Reads) }
 {
-    let n = count(part, Set::Reads);
     let mut set: u64 = 0;
-    let mut i: usize = 0;
-    while i < n {
+    for i in 0..count(part, Set::Reads) {
         set = with_home(part, i, set);
-        i += 1;
     }
     set
 }

@@ -13,6 +13,7 @@ use crate::part::{
     FIRST_FLAG_NUMBER, LAST_NODE_NUMBER, META_STATES, Set, count, drop_vector, find, number_at,
     set_field, set_item, set_number,
 };
+use crate::used::in_use;
 use nodes::name::Name;
 use nodes::node::Node;
 
@@ -82,11 +83,8 @@ fn drop_reads(part: &mut [u8])
     requires { ClientPart part.old }
     ensures { Did drop_reads part.old part.new }
 {
-    let n = count(part, Set::Reads);
-    let mut i: usize = 0;
-    while i < n {
+    for i in 0..count(part, Set::Reads) {
         drop_read(part, i);
-        i += 1;
     }
 }
 
@@ -95,11 +93,8 @@ fn drop_each(part: &mut [u8], used: &[u64])
     requires { InUse used.now × ClientPart part.old }
     ensures { Did (drop_each (used_in used.now)) part.old part.new }
 {
-    let n = used[0] as usize;
-    let mut i: usize = 0;
-    while i < n {
-        drop_object(part, used[i + 1]);
-        i += 1;
+    for number in in_use(used) {
+        drop_object(part, *number);
     }
 }
 
@@ -116,10 +111,8 @@ fn drop_nodes(part: &mut [u8])
     requires { ClientPart part.old }
     ensures { Did (sweep client_words empty_place (limit Copies)) part.old part.new }
 {
-    let mut i: usize = 0;
-    while i < 64 {
+    for i in 0..64 {
         set_number(part, Set::Copies, i, 0);
-        i += 1;
     }
 }
 
@@ -127,10 +120,8 @@ fn drop_vectors(part: &mut [u8])
     requires { ClientPart part.old }
     ensures { Did (sweep client_words drop_vector most_servers) part.old part.new }
 {
-    let mut s: usize = 0;
-    while s < 8 {
+    for s in 0..8 {
         drop_vector(part, s);
-        s += 1;
     }
 }
 

@@ -13,6 +13,7 @@ use crate::part::{
     ITEM_WORDS, MOST_READ, MOST_WRITTEN, READS_COUNT, Set, WRITES_COUNT, count, find, set_field,
     set_item,
 };
+use crate::used::in_use;
 use nodes::node::Node;
 
 // An object with its record as read. Nothing is done where there are 96.
@@ -42,11 +43,8 @@ pub fn enter_used(part: &mut [u8], used: &[u64])
     requires { InUse used.now × ClientPart part.old }
     ensures { Did (used_enter (used_in used.now)) part.old part.new }
 {
-    let n = used[0] as usize;
-    let mut i: usize = 0;
-    while i < n {
-        enter_copy(part, used[i + 1]);
-        i += 1;
+    for number in in_use(used) {
+        enter_copy(part, *number);
     }
 }
 
@@ -85,10 +83,7 @@ pub fn enter_writes(part: &mut [u8], own: &[u64])
     requires { OwnFits own.now × ClientPart part.old }
     ensures { Did (enter_entries (own_list own.now)) part.old part.new }
 {
-    let n = own[0] as usize;
-    let mut i: usize = 0;
-    while i < n {
+    for i in 0..own[0] as usize {
         write_nth(part, own, i);
-        i += 1;
     }
 }

@@ -60,13 +60,10 @@ fn numbers_fit(part: &[u8], slots: usize, set: Set) -> bool
     if !count_fits(part, set) {
         return false;
     }
-    let n = count(part, set);
-    let mut i: usize = 0;
-    while i < n {
+    for i in 0..count(part, set) {
         if !number_in_store(slots, number_at(part, set, i)) {
             return false;
         }
-        i += 1;
     }
     true
 }
@@ -126,10 +123,7 @@ pub fn fit_to_work(part: &[u8], slots: usize) -> bool
     requires { ClientPart part.now }
     ensures { result ≡ fit_to_work slots (held part.now) }
 {
-    if !op_fits(part, slots) {
-        return false;
-    }
-    sets_fit(part, slots)
+    op_fits(part, slots) && sets_fit(part, slots)
 }
 
 // The kind of an item of a set.
@@ -152,13 +146,10 @@ fn kinds_fit(part: &[u8], set: Set) -> bool
     requires { ClientPart part.now }
     ensures { result ≡ all_below (count (held part.now) set) (kind_fits (held part.now) set) }
 {
-    let n = count(part, set);
-    let mut i: usize = 0;
-    while i < n {
+    for i in 0..count(part, set) {
         if !kind_fits(part, set, i) {
             return false;
         }
-        i += 1;
     }
     true
 }
@@ -176,13 +167,10 @@ fn all_read(part: &[u8]) -> bool
     requires { ClientPart part.now }
     ensures { result ≡ all_below (count (held part.now) Writes) (is_read (held part.now)) }
 {
-    let n = count(part, Set::Writes);
-    let mut i: usize = 0;
-    while i < n {
+    for i in 0..count(part, Set::Writes) {
         if !is_read(part, i) {
             return false;
         }
-        i += 1;
     }
     true
 }
@@ -192,10 +180,7 @@ fn servers_known(part: &[u8]) -> bool
     requires { ClientPart part.now }
     ensures { result ≡ servers_known (held part.now) }
 {
-    if !all_take_part(part) {
-        return true;
-    }
-    states_fit(states_read(part))
+    !all_take_part(part) || states_fit(states_read(part))
 }
 
 // What a commit reads.
@@ -203,19 +188,11 @@ pub fn fit_to_commit(part: &[u8], slots: usize) -> bool
     requires { ClientPart part.now }
     ensures { result ≡ fit_to_commit slots (held part.now) }
 {
-    if !sets_fit(part, slots) {
-        return false;
-    }
-    if !kinds_fit(part, Set::Reads) {
-        return false;
-    }
-    if !kinds_fit(part, Set::Writes) {
-        return false;
-    }
-    if !all_read(part) {
-        return false;
-    }
-    servers_known(part)
+    sets_fit(part, slots)
+        && kinds_fit(part, Set::Reads)
+        && kinds_fit(part, Set::Writes)
+        && all_read(part)
+        && servers_known(part)
 }
 
 // What a prepare reads before it checks.
@@ -259,10 +236,7 @@ fn young(part: &[u8], number: u64) -> bool
     requires { ClientPart part.now }
     ensures { result ≡ young (held part.now) number }
 {
-    if number > LAST_NODE_NUMBER {
-        return true;
-    }
-    version_read(part, number) < 4294967295
+    number > LAST_NODE_NUMBER || version_read(part, number) < 4294967295
 }
 
 // Does a server store something of the object?
@@ -330,13 +304,10 @@ fn writes_fit(part: &[u8], slots: usize, server: u64) -> bool
     requires { ClientPart part.now }
     ensures { result ≡ writes_fit slots (held part.now) server }
 {
-    let n = count(part, Set::Writes);
-    let mut i: usize = 0;
-    while i < n {
+    for i in 0..count(part, Set::Writes) {
         if !write_fits(part, slots, server, i) {
             return false;
         }
-        i += 1;
     }
     true
 }
@@ -391,13 +362,10 @@ fn renewals_fit(part: &[u8], slots: usize) -> bool
     requires { ClientPart part.now }
     ensures { result ≡ all_below (count (held part.now) Writes) (renewal_fits slots (held part.now)) }
 {
-    let n = count(part, Set::Writes);
-    let mut i: usize = 0;
-    while i < n {
+    for i in 0..count(part, Set::Writes) {
         if !renewal_fits(part, slots, i) {
             return false;
         }
-        i += 1;
     }
     true
 }

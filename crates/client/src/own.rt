@@ -33,13 +33,10 @@ pub fn find_own(own: &[u64], number: u64) -> Option<usize>
     ensures value { result ≡ own_find own.now number }
     ensures within { Inside result own_most }
 {
-    let n = own[0] as usize;
-    let mut i: usize = 0;
-    while i < n {
+    for i in 0..own[0] as usize {
         if own[ITEM_WORDS * i + 1] == number {
             return Some(i);
         }
-        i += 1;
     }
     None
 }

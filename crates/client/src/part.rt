@@ -247,13 +247,10 @@ pub fn find(part: &[u8], set: Set, number: u64) -> Option<usize>
     ensures value { result ≡ find (held part.now) set number }
     ensures within { Inside result (limit set) }
 {
-    let n = count(part, set);
-    let mut i: usize = 0;
-    while i < n {
+    for i in 0..count(part, set) {
         if number_at(part, set, i) == number {
             return Some(i);
         }
-        i += 1;
     }
     None
 }

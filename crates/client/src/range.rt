@@ -63,16 +63,9 @@ fn children_there(slots: usize, n: Node) -> bool
     if n.kind != 2 {
         return true;
     }
-    let children = n.slots;
-    let count = n.count as usize + 1;
-    let mut i: usize = 0;
-    while i < count {
-        if !in_store(slots, children[i]) {
-            return false;
-        }
-        i += 1;
-    }
-    true
+    n.slots[..n.count + 1]
+        .iter()
+        .all(|child| in_store(slots, *child))
 }
 
 // May a node be handed out or stored whole?

@@ -86,12 +86,9 @@ fn inner_below(part: &[u8], number: u64) -> usize
     ensures value { result ≡ inner_below (held part.now) number (count (held part.now) Writes) }
     ensures within { result ≤ limit Writes }
 {
-    let n = count(part, Set::Writes);
     let mut below: usize = 0;
-    let mut i: usize = 0;
-    while i < n {
+    for i in 0..count(part, Set::Writes) {
         below = with_inner(part, number, i, below);
-        i += 1;
     }
     below
 }
@@ -114,13 +111,10 @@ fn ranked(part: &[u8], k: usize) -> Option<usize>
     ensures value { result ≡ ranked (held part.now) k }
     ensures within { Inside result (limit Writes) }
 {
-    let n = count(part, Set::Writes);
-    let mut i: usize = 0;
-    while i < n {
+    for i in 0..count(part, Set::Writes) {
         if rank(part, i) == k {
             return Some(i);
         }
-        i += 1;
     }
     None
 }
@@ -203,11 +197,8 @@ fn drop_outers(part: &mut [u8])
     requires { ClientPart part.old }
     ensures { Did (for_writes drop_outer) part.old part.new }
 {
-    let n = count(part, Set::Writes);
-    let mut i: usize = 0;
-    while i < n {
+    for i in 0..count(part, Set::Writes) {
         drop_outer(part, i);
-        i += 1;
     }
 }
 
@@ -215,11 +206,8 @@ fn renew_inner(part: &mut [u8])
     requires { ClientPart part.old }
     ensures { Did (for_writes renew_nth) part.old part.new }
 {
-    let n = count(part, Set::Writes);
-    let mut i: usize = 0;
-    while i < n {
+    for i in 0..count(part, Set::Writes) {
         renew_nth(part, i);
-        i += 1;
     }
 }
 
@@ -227,11 +215,8 @@ fn renew_flags(part: &mut [u8])
     requires { ClientPart part.old }
     ensures { Did (for_writes renew_flag) part.old part.new }
 {
-    let n = count(part, Set::Writes);
-    let mut i: usize = 0;
-    while i < n {
+    for i in 0..count(part, Set::Writes) {
         renew_flag(part, i);
-        i += 1;
     }
 }
 

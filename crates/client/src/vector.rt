@@ -56,14 +56,10 @@ pub fn seen_words(part: &[u8], s: usize) -> [u64; 16]
     requires { (s < most_servers) × ClientPart part.now }
     ensures { result ≡ seen_words (held part.now) s }
 {
-    let n = count(part, Set::Writes);
-    let copy = vector_copy(part, s);
-    let mut words = copy;
-    let mut i: usize = 0;
-    while i < n {
+    let mut words = vector_copy(part, s);
+    for i in 0..count(part, Set::Writes) {
         let next = counted_one(part, s, i, words);
         words = next;
-        i += 1;
     }
     words
 }
@@ -91,13 +87,10 @@ fn flags_fit(part: &[u8], s: usize) -> bool
     requires { ClientPart part.now }
     ensures { result ≡ flags_fit (held part.now) s }
 {
-    let n = count(part, Set::Writes);
-    let mut i: usize = 0;
-    while i < n {
+    for i in 0..count(part, Set::Writes) {
         if !flag_fits(part, s, i) {
             return false;
         }
-        i += 1;
     }
     true
 }

@@ -5,7 +5,8 @@ use Rattle.std.proofs.Common.{sym, ◌∙◌, append_assoc, append-nil, add-one}
 use native.Mathlib.Omega.{arith}
 use borrow.Author.Tests.{eq-eqb, ne_eqb, le-leb, lt-leb, le-ltb}
 use Rattle.std.proofs.Math.ListN.{length, get_or, take, length-drop}
-use Rattle.std.proofs.Math.Seq.{take-suc, get_or-drop}
+use Rattle.std.proofs.Math.Seq.{take-suc}
+use Rattle.std.proofs.lemmas.List.{take_all}
 use Rattle.memory.specs.Bit.{put_bit}
 use Rattle.layout.specs.Space.{Put, changed}
 use Rattle.layout.specs.Step.{and_then}
@@ -19,7 +20,6 @@ use Rattle.client.specs.declared.part.Set.TheVariants.{Reads, Copies}
 use Rattle.client.specs.Layout.{ClientWord, client_words, field}
 use Rattle.client.specs.Record.{metadata}
 use Rattle.client.specs.Sets.{held, count, number_at, find}
-use Rattle.client.specs.Lent.{InUse, used_in}
 use Rattle.client.specs.Drops.{drop_each, drop_used}
 use Rattle.client.specs.Part.{PartStep, Did, ◌then◌, nothing, put_field, put_fields, put_item, put_number, drop_vector}
 use Rattle.client.specs.Laws.Steps.{Good, AllGood, EachGood, did_as, did_nothing, good_nothing, good_field, good_item, good_number, good_drop, good_cond, good_by, good_sweep, good_loop, good_then, did_then, did_three, find_limit, swept_all}
@@ -132,30 +132,21 @@ good_each [] = good_nothing
 good_each (x ∷ us) = good_then (drop_object x) (drop_each us) (good_object x) (good_each us)
 
 -- the first i of them
-unfoldable pub drop_first : List ℕ → ℕ → PartStep
-drop_first u i = drop_each (take i (drop 1 u))
-
-module _ (u : List ℕ) where
-  pub each_none : (s : List ℕ) → Did (drop_first u 0) s s
-  unfolding drop_first drop_each
+module _ (xs : List ℕ) where
+  pub each_none : (s : List ℕ) → Did (drop_each (take 0 xs)) s s
+  unfolding drop_each
   each_none s = did_nothing (drop_each []) s refl
 
-  pub each_next : (i : ℕ) (s t v : List ℕ) → InUse u → i < get_or u 0 0 → 7223 ≤ length s / 8 → Did (drop_first u i) s t → Did (drop_object (get_or u (i + 1) 0)) t v
-      → Did (drop_first u (i + 1)) s v
-  unfolding drop_first
-  each_next i s t v f h l p q =
-      let k : length (drop 1 u) ≡ length u - 1 = length-drop 1 u in
-      let g : i < length (drop 1 u) = omega (arith, f.long, f.few) in
-      let x : get_or (drop 1 u) i 0 ≡ get_or u (i + 1) 0 = rw get_or-drop (ap (λ (j : ℕ). get_or u j 0) (omega arith)) in
-      let y : take (i + 1) (drop 1 u) ≡ take i (drop 1 u) ++ (get_or u (i + 1) 0 ∷ []) =
-      ap (λ (j : ℕ). take j (drop 1 u)) (add-one i) ∙ take-suc (drop 1 u) i 0 g ∙ ap (λ (z : ℕ). take i (drop 1 u) ++ (z ∷ [])) x in
-      did_as (drop_each (take i (drop 1 u)) then drop_object (get_or u (i + 1) 0)) (drop_each (take (i + 1) (drop 1 u))) s v
-      (rw y (each_more (take i (drop 1 u)) (get_or u (i + 1) 0) (held s)))
-      (did_then (drop_each (take i (drop 1 u))) (drop_object (get_or u (i + 1) 0)) s t v l (good_each (take i (drop 1 u))) p q)
+  pub each_next : (i : ℕ) (s t v : List ℕ) → i < length xs → 7223 ≤ length s / 8 → Did (drop_each (take i xs)) s t → Did (drop_object (get_or xs i 0)) t v
+      → Did (drop_each (take (i + 1) xs)) s v
+  each_next i s t v h l p q =
+      let y : take (i + 1) xs ≡ take i xs ++ (get_or xs i 0 ∷ []) = ap (λ (j : ℕ). take j xs) (add-one i) ∙ take-suc xs i 0 h in
+      did_as (drop_each (take i xs) then drop_object (get_or xs i 0)) (drop_each (take (i + 1) xs)) s v
+      (rw y (each_more (take i xs) (get_or xs i 0) (held s)))
+      (did_then (drop_each (take i xs)) (drop_object (get_or xs i 0)) s t v l (good_each (take i xs)) p q)
 
-  pub each_all : (i n : ℕ) (s t : List ℕ) → i ≤ n → n ≤ i → n ≡ get_or u 0 0 → Did (drop_first u i) s t → Did (drop_each (used_in u)) s t
-  unfolding used_in drop_first
-  each_all i n s t a b e p = let z : i ≡ get_or u 0 0 = omega arith in subst (λ (j : ℕ). Did (drop_each (take j (drop 1 u))) s t) z p
+  pub each_all : (i : ℕ) (us s t : List ℕ) → length xs ≤ i → xs ≡ us → Did (drop_each (take i xs)) s t → Did (drop_each us) s t
+  each_all i us s t a e p = let z : take i xs ≡ us = take_all i xs a ∙ e in subst (λ (l : List ℕ). Did (drop_each l) s t) z p
 
 pub good_drop_used : (us : List ℕ) → Good (drop_used us)
 unfolding drop_used

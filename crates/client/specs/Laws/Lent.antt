@@ -1,12 +1,13 @@
 -- Laws of the lent lists.
 use Rattle.std.specs.Prelude.{◌≡◌, Bool, true, false, ◌||◌, List, [], ◌∷◌, ◌++◌, eqb, take, drop, set}
 use Rattle.std.proofs.Math.Path.{refl, sym}
-use Rattle.std.proofs.Common.{◌∙◌, add-one, one-add, length-set, take-suc, take-suc-set, get_or-set_same, get_or-set_other, drop-set-lt, length-take-le}
+use Rattle.std.proofs.Common.{◌∙◌, add-one, one-add, get_or-take, length-set, take-suc, take-suc-set, get_or-set_same, get_or-set_other, drop-set-lt, length-take-le}
 use Prim.Native.Nat.{ℕ, zero, suc, ◌+◌, ◌-◌, ◌*◌, ◌≤◌, ◌<◌}
 use native.Mathlib.Omega.{arith}
 use Rattle.std.proofs.Math.Decide.{ℕ_discrete}
 use borrow.Author.Tests.{eq-eqb, ne_eqb}
 use Rattle.std.proofs.Math.ListN.{length, get_or, length-drop}
+use Rattle.std.specs.List.{list_any}
 use Rattle.std.proofs.Math.Seq.{take-add, get_or-drop, paste}
 use Rattle.std.proofs.lemmas.List.{drop-set-add}
 use Rattle.nodes.specs.declared.node.Node.{Node}
@@ -28,37 +29,14 @@ among_append x (y ∷ l) m = go (eqb y x) (among_append x l m)
     go true e = refl
     go false e = e
 
--- of n the first i are not x
-pub record Unused (u : List ℕ) (n x i : ℕ) : Type 0 where
-  pub within : i ≤ n
-  pub is : n ≡ get_or u 0 0
-  pub not_yet : among x (take i (drop 1 u)) ≡ false
+-- as the library's search of a slice says it
+among_any : (x : ℕ) (l : List ℕ) → list_any (λ y. eqb y x) l ≡ among x l
+unfolding among
+among_any x [] = refl
+among_any x (y ∷ l) = rw (among_any x l)
 
-module _ (u : List ℕ) (n x : ℕ) (f : Lent u) where
-  pub unused_none : n ≡ get_or u 0 0 → Unused u n x 0
-  unfolding among
-  unused_none e = record { within = omega arith; is = e; not_yet = refl }
-
-  more : (i : ℕ) → i < n → Unused u n x i → among x (take (suc i) (drop 1 u)) ≡ (eqb (get_or u (i + 1) 0) x || false)
-  unfolding among
-  more i h t =
-      let l : length (drop 1 u) ≡ length u - 1 = length-drop 1 u in
-      let g : i < length (drop 1 u) = omega (arith, f.long, f.few, t.is) in
-      let z : 1 + i ≡ i + 1 = omega arith in
-      rw (take-suc (drop 1 u) i 0 g, among_append, t.not_yet, get_or-drop 1 u i 0, z)
-
-  pub unused_next : (i : ℕ) → i < n → (get_or u (i + 1) 0 ≡ x → ⊥) → Unused u n x i → Unused u n x (i + 1)
-  unused_next i h d t = record { within = omega arith; is = t.is; not_yet = rw (add-one, more i h t, ne_eqb _ _ d) }
-
-  pub unused_all : (i : ℕ) → n ≤ i → Unused u n x i → false ≡ among x (used_in u)
-  unfolding used_in
-  unused_all i h t = let e : i ≡ get_or u 0 0 = omega (arith, t.within, t.is) in rw (← e) (sym t.not_yet)
-
-  pub used_here : (i : ℕ) → i < n → get_or u (i + 1) 0 ≡ x → Unused u n x i → true ≡ among x (used_in u)
-  unfolding used_in
-  used_here i h e t =
-      let z : get_or u 0 0 ≡ suc i + (n - suc i) = omega (arith, t.is) in
-      sym (rw (z, take-add (suc i) (n - suc i) (drop 1 u), among_append, more i h t, eq-eqb _ _ e))
+pub asked_among : (x : ℕ) (l us : List ℕ) (b : Bool) → b ≡ list_any (λ y. eqb y x) l → l ≡ us → b ≡ among x us
+asked_among x l us b e q = e ∙ among_any x l ∙ rw q
 
 -- one more in use
 pub pushed_used : (u : List ℕ) (x : ℕ) → Lent u → used_in (pushed u x) ≡ used_in u ++ (x ∷ [])
@@ -137,8 +115,12 @@ pub own_set : (w words w' : List ℕ) (x i : ℕ) (n : Node) → words ≡ x ∷
 unfolding own_at
 own_set w words w' x i n e p = p ∙ rw e
 
-pub small_nth : (u : List ℕ) (n i : ℕ) → InUse u → n ≡ get_or u 0 0 → i < n → get_or u (i + 1) 0 < 16385
-small_nth u n i f e h = f.small i (omega arith)
+pub small_nth : (u xs : List ℕ) (i : ℕ) → InUse u → xs ≡ used_in u → i < length xs → get_or xs i 0 < 16385
+unfolding used_in
+small_nth u xs i f e h =
+    let k : i < get_or u 0 0 = omega (arith, rw e at h, length_used u f) in
+    let z : i + 1 ≡ 1 + i = omega arith in
+    rw (e, get_or-take (get_or u 0 0) (drop 1 u) i 0 k, get_or-drop 1 u i 0, ← z) (f.small i k)
 
 -- the value of an own write of the metadata or a flag
 pub own_value_there : (w : List ℕ) (i r : ℕ) → r ≡ get_or w (34 * i + 20) 0 → r ≡ first_slot (own_record w i)

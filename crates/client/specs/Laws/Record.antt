@@ -6,6 +6,7 @@ use Rattle.std.proofs.Math.Bool.{true, false}
 use mathlib.Core.List.{List, [], ◌∷◌}
 use Prim.Native.Nat.{ℕ, zero, suc, ◌+◌, ◌-◌, ◌≤◌, ◌<◌}
 use borrow.Author.Tests.{eq-eqb, ne_eqb, le-leb, lt-leb, not-true, not-false}
+use Rattle.std.specs.List.{list_all}
 use Rattle.nodes.specs.declared.node.Node.{Node}
 use Rattle.nodes.specs.Node.{extra, slots_of}
 use Rattle.nodes.specs.Range.{node_in_range}
@@ -17,67 +18,20 @@ pub of_metadata : (slots x a c : ℕ) (n : Node) (b : Bool) → x ≡ 0 → a �
 unfolding record_in_range
 of_metadata slots x a c n b e p q h = h ∙ rw (e, p, q)
 
--- ---- an inner node's children, one after another
-module _ (f : ℕ → Bool) where
-  -- the first i of them
-  all_next : (l : List ℕ) (i : ℕ) → i < length l → all f (take (suc i) l) ≡ (all f (take i l) && f (get_or l i 0))
-  unfolding all
-  all_next [] i h = absurd (omega arith)
-  all_next (a ∷ l) zero h = go (f a)
-    where
-      go : (b : Bool) → (b && true) ≡ b
-      go true = refl
-      go false = refl
-  all_next (a ∷ l) (suc i) h = go (f a) (all_next l i (omega arith))
-    where
-      go : (b : Bool) → all f (take (suc i) l) ≡ (all f (take i l) && f (get_or l i 0)) → (b && all f (take (suc i) l)) ≡ ((b && all f (take i l)) && f (get_or l i 0))
-      go true e = e
-      go false e = refl
-
-  all_short : (l : List ℕ) (n : ℕ) → all f (take n l) ≡ false → (k : ℕ) → n ≤ k → all f (take k l) ≡ false
-  unfolding all
-  all_short [] zero e k h = absurd (true≢false e)
-  all_short [] (suc n) e k h = absurd (true≢false e)
-  all_short (a ∷ l) zero e k h = absurd (true≢false e)
-  all_short (a ∷ l) (suc n) e zero h = absurd (omega arith)
-  all_short (a ∷ l) (suc n) e (suc k) h = go (f a) e (λ q. all_short l n q k (omega arith))
-    where
-      go : (b : Bool) → (b && all f (take n l)) ≡ false → (all f (take n l) ≡ false → all f (take k l) ≡ false) → (b && all f (take k l)) ≡ false
-      go true e g = g e
-      go false e g = refl
+-- ---- an inner node's children: as the library's test of a slice says it
+all_list : (f : ℕ → Bool) (l : List ℕ) → list_all f l ≡ all f l
+unfolding all
+all_list f [] = refl
+all_list f (x ∷ l) = rw (all_list f l)
 
 module _ (slots : ℕ) (n : Node) where
   pub not_inner : (n.kind ≡ 2 → ⊥) → true ≡ children_there slots n
   unfolding children_there
   not_inner d = rw (ne_eqb _ _ d)
 
--- the first i of k children are names of the store
-pub record ThereYet (slots : ℕ) (l : List ℕ) (k i : ℕ) : Type 0 where
-  pub within : i ≤ k
-  pub so_far : all (in_store slots) (take i l) ≡ true
-
-module _ (slots : ℕ) (l : List ℕ) (k : ℕ) where
-  pub none_yet : ThereYet slots l k 0
-  unfolding all
-  none_yet = record { within = omega arith; so_far = refl }
-
-  module _ (i : ℕ) (b : Bool) (long : length l ≡ 15) (few : k ≤ 15) (h : i < k) (e : b ≡ in_store slots (get_or l i 0)) (y : ThereYet slots l k i) where
-    next_is : all (in_store slots) (take (suc i) l) ≡ b
-    next_is = all_next (in_store slots) l i (omega (arith, long)) ∙ rw (y.so_far, e)
-
-    pub one_more : not b ≡ false → ThereYet slots l k (i + 1)
-    one_more t = record { within = omega arith; so_far = rw (add-one i) (next_is ∙ not-false b t) }
-
-module _ (slots : ℕ) (n : Node) (inner : n.kind ≡ 2) (i : ℕ) where
-  pub one_astray : (b : Bool) → length n.slots ≡ 15 → n.count + 1 ≤ 15 → i < n.count + 1 → b ≡ in_store slots (get_or n.slots i 0) → ThereYet slots n.slots (n.count + 1) i → not b ≡ true
-      → false ≡ children_there slots n
+  pub all_children : (b : Bool) → n.kind ≡ 2 → b ≡ list_all (in_store slots) (take (n.count + 1) n.slots) → b ≡ children_there slots n
   unfolding children_there slots_of extra
-  one_astray b long few h e y t =
-      sym (rw (eq-eqb _ _ inner) (all_short (in_store slots) n.slots (suc i) (next_is slots n.slots (n.count + 1) i b long few h e y ∙ not-true b t) (n.count + 1) (omega arith)))
-
-  pub all_children : n.count + 1 ≤ i → ThereYet slots n.slots (n.count + 1) i → true ≡ children_there slots n
-  unfolding children_there slots_of extra
-  all_children h y = let q : i ≡ n.count + 1 = omega (arith, y.within) in sym (rw (eq-eqb _ _ inner, ← q) y.so_far)
+  all_children b e p = p ∙ all_list (in_store slots) (take (n.count + 1) n.slots) ∙ rw (eq-eqb _ _ e)
 
 -- ---- nodes and objects stored whole
 module _ (slots : ℕ) (n : Node) (b : Bool) (p : b ≡ node_in_range n) where
@@ -121,4 +75,4 @@ module _ (x : ℕ) (n : Node) where
 
 pub ruleset kind_exits = (meta_kind, flag_kind, node_kind)
 
-pub ruleset whole_exits = (not_inner, none_yet, one_more, one_astray, all_children, node_unfit, node_whole, few_keys, whole_meta, whole_node, whole_flag)
+pub ruleset whole_exits = (not_inner, all_children, node_unfit, node_whole, few_keys, whole_meta, whole_node, whole_flag)

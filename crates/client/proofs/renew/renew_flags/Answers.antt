@@ -1,0 +1,13 @@
+use Rattle.std.proofs.Common.{rules}
+use Rattle.client.specs.Laws.Steps.{swept_none, swept_on}
+use Rattle.client.specs.Laws.Renew.{good_renew_flag, all_writes}
+use Rattle.client.proofs.renew.renew_flags.Goals as goal
+
+pub loop-i-init : goal.loop-i-init
+loop-i-init c = search (swept_none, rules)
+
+pub loop-i-preserved : goal.loop-i-preserved
+loop-i-preserved c = search (swept_none, swept_on, good_renew_flag, all_writes, rules)
+
+pub returns : goal.returns
+returns c = search (swept_none, swept_on, good_renew_flag, all_writes, rules)

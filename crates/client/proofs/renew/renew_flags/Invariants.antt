@@ -1,0 +1,8 @@
+use Rattle.layout.specs.Sweep.{sweep}
+use Rattle.client.specs.Layout.{client_words}
+use Rattle.client.specs.Part.{Did}
+use Rattle.client.specs.Renew.{renew_flag}
+use Rattle.client.proofs.renew.renew_flags.Given as goal
+
+abbrev pub invariant-loop-i : goal.invariant-loop-i
+invariant-loop-i l = Did (sweep client_words renew_flag l.i) l.initial.part l.part
