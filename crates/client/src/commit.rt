@@ -9,9 +9,8 @@ ghost use Rattle.client.specs.Commit.{inner_at};
 ghost use Rattle.client.specs.Participants.{calls_all, called_homes, all_take_part, states_read, participants_of};
 
 use crate::items::{inner_before_after, is_inner};
-use crate::part::{
-    FIRST_FLAG_NUMBER, LAST_NODE_NUMBER, Set, count, find, item_word, number_at, record_at,
-};
+use crate::object::{Object, numbered};
+use crate::part::{Set, count, find, item_word, number_at, record_at};
 use memory::bits::with;
 use nodes::name::Name;
 use nodes::states::present;
@@ -21,14 +20,10 @@ pub fn inner_at(part: &[u8], set: Set, i: usize) -> bool
     requires { (i < limit set) × ClientPart part.now }
     ensures { result ≡ inner_at (held part.now) set i }
 {
-    let number = number_at(part, set, i);
-    if number == 0 {
-        return false;
+    match numbered(number_at(part, set, i)) {
+        Object::Node(_) => item_word(part, set, i, 1) == 2,
+        _ => false,
     }
-    if number <= LAST_NODE_NUMBER {
-        return item_word(part, set, i, 1) == 2;
-    }
-    false
 }
 
 // Does write item i make all servers take part?
@@ -36,8 +31,7 @@ fn calls_all(part: &[u8], i: usize) -> bool
     requires { (i < limit Writes) × ClientPart part.now }
     ensures { result ≡ calls_all (held part.now) i }
 {
-    let number = number_at(part, Set::Writes, i);
-    inner_before_after(part, number)
+    inner_before_after(part, number_at(part, Set::Writes, i))
 }
 
 // Does one of the write items?
@@ -57,17 +51,11 @@ pub fn all_take_part(part: &[u8]) -> bool
 fn home_of(number: u64) -> u64
     ensures { result ≡ by_number number 0 server_of server_of }
 {
-    if number == 0 {
-        return 0;
+    match numbered(number) {
+        Object::Metadata => 0,
+        Object::Node(name) => name.server(),
+        Object::Flag(name) => name.server(),
     }
-    if number <= LAST_NODE_NUMBER {
-        let node = Name { number: number - 1 };
-        return node.server();
-    }
-    let flag = Name {
-        number: number - FIRST_FLAG_NUMBER,
-    };
-    flag.server()
 }
 
 // The homes that read items call, with that of item i.
@@ -104,10 +92,7 @@ pub fn states_read(part: &[u8]) -> u64
     ensures { result ≡ states_read (held part.now) }
 {
     match find(part, Set::Reads, 0) {
-        Some(i) => {
-            let r = record_at(part, Set::Reads, i);
-            r.slots[1]
-        }
+        Some(i) => record_at(part, Set::Reads, i).slots[1],
         None => 0,
     }
 }

@@ -9,9 +9,9 @@ ghost use Rattle.client.specs.Copies.{copy_node, drop_node, drop_object, drop_re
 ghost use Rattle.client.specs.Bounds.{most_servers};
 ghost use Rattle.client.specs.declared.part.Set.TheVariants.{Reads, Copies};
 
+use crate::object::{Object, numbered};
 use crate::part::{
-    FIRST_FLAG_NUMBER, LAST_NODE_NUMBER, META_STATES, Set, count, drop_vector, find, number_at,
-    set_field, set_item, set_number,
+    META_STATES, Set, count, drop_vector, find, number_at, set_field, set_item, set_number,
 };
 use crate::used::in_use;
 use nodes::name::Name;
@@ -22,18 +22,10 @@ pub fn copy_node(part: &mut [u8], number: u64, n: Node)
     requires { ClientPart part.old }
     ensures { Did (copy_node number n) part.old part.new }
 {
-    let own = find(part, Set::Copies, number);
-    match own {
-        Some(i) => {
-            set_item(part, Set::Copies, i, number, n);
-            return;
-        }
-        None => {}
-    }
-    let empty = find(part, Set::Copies, 0);
-    match empty {
-        Some(i) => set_item(part, Set::Copies, i, number, n),
-        None => {}
+    if let Some(i) = find(part, Set::Copies, number) {
+        set_item(part, Set::Copies, i, number, n);
+    } else if let Some(i) = find(part, Set::Copies, 0) {
+        set_item(part, Set::Copies, i, number, n);
     }
 }
 
@@ -41,10 +33,8 @@ pub fn drop_node(part: &mut [u8], number: u64)
     requires { ClientPart part.old }
     ensures { Did (drop_node number) part.old part.new }
 {
-    let at = find(part, Set::Copies, number);
-    match at {
-        Some(i) => set_number(part, Set::Copies, i, 0),
-        None => {}
+    if let Some(i) = find(part, Set::Copies, number) {
+        set_number(part, Set::Copies, i, 0);
     }
 }
 
@@ -53,20 +43,15 @@ fn drop_object(part: &mut [u8], number: u64)
     requires { ClientPart part.old }
     ensures { Did (drop_object number) part.old part.new }
 {
-    if number == 0 {
-        set_field(part, META_STATES, 0);
-        return;
-    }
-    if number <= LAST_NODE_NUMBER {
-        drop_node(part, number);
-        return;
-    }
-    let flag = Name {
-        number: number - FIRST_FLAG_NUMBER,
-    };
-    let s = flag.server();
-    if s < Name::SERVERS {
-        drop_vector(part, s as usize);
+    match numbered(number) {
+        Object::Metadata => set_field(part, META_STATES, 0),
+        Object::Node(_) => drop_node(part, number),
+        Object::Flag(flag) => {
+            let s = flag.server();
+            if s < Name::SERVERS {
+                drop_vector(part, s as usize);
+            }
+        }
     }
 }
 
@@ -74,8 +59,7 @@ fn drop_read(part: &mut [u8], i: usize)
     requires { (i < limit Reads) × ClientPart part.old }
     ensures { Did (drop_read i) part.old part.new }
 {
-    let number = number_at(part, Set::Reads, i);
-    drop_object(part, number);
+    drop_object(part, number_at(part, Set::Reads, i));
 }
 
 // The copies of all objects read.

@@ -34,8 +34,7 @@ fn enter_copy(part: &mut [u8], number: u64)
     requires { (number < end_of_numbers) × ClientPart part.old }
     ensures { Did (enter_copy number) part.old part.new }
 {
-    let l = copied(part, number);
-    enter_read(part, number, l.node);
+    enter_read(part, number, copied(part, number).node);
 }
 
 // All copies that came into use.
@@ -53,13 +52,9 @@ pub fn enter_write(part: &mut [u8], number: u64, n: Node)
     requires { ClientPart part.old }
     ensures { Did (enter_write number n) part.old part.new }
 {
-    let at = find(part, Set::Writes, number);
-    match at {
-        Some(i) => {
-            set_item(part, Set::Writes, i, number, n);
-            return;
-        }
-        None => {}
+    if let Some(i) = find(part, Set::Writes, number) {
+        set_item(part, Set::Writes, i, number, n);
+        return;
     }
     let c = count(part, Set::Writes);
     if c >= MOST_WRITTEN {
@@ -74,8 +69,7 @@ fn write_nth(part: &mut [u8], own: &[u64], i: usize)
     requires { (i < own_most) × OwnFits own.now × ClientPart part.old }
     ensures { Did (write_nth own.now i) part.old part.new }
 {
-    let n = own_record(own, i);
-    enter_write(part, own[ITEM_WORDS * i + 1], n);
+    enter_write(part, own[ITEM_WORDS * i + 1], own_record(own, i));
 }
 
 // The operation's own writes.

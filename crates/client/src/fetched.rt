@@ -16,10 +16,8 @@ pub fn fetched_meta(part: &mut [u8], root: u64, states: u64, version: u64)
     requires { ClientPart part.old }
     ensures { Did (fetched_meta root states version) part.old part.new }
 {
-    let n = metadata(version, root, states);
-    enter_read(part, 0, n);
-    let fields = [states, root, version];
-    set_fields(part, META_STATES, &fields);
+    enter_read(part, 0, metadata(version, root, states));
+    set_fields(part, META_STATES, &[states, root, version]);
 }
 
 // An inner node is copied.

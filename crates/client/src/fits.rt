@@ -10,6 +10,7 @@ ghost use Rattle.client.specs.Bounds.{last_node_number};
 
 use crate::commit::{all_take_part, states_read};
 use crate::items::{has, inner_before_after, is_home, is_inner, version_read};
+use crate::object::{Object, numbered};
 use crate::part::{
     APPLIED, FIRST_FLAG_NUMBER, LAST_NODE_NUMBER, LOST, MOST_LISTED, MOST_READ, MOST_WRITTEN,
     OP_KEY, OP_NUMBER, OP_SERVER, OP_VALUE, PARTICIPANTS, PREPARED, READS_COUNT, Set, WRITES_COUNT,
@@ -31,13 +32,11 @@ fn servers_fit(part: &[u8], i: usize) -> bool
 fn number_in_store(slots: usize, number: u64) -> bool
     ensures { result ≡ number_in_store slots number }
 {
-    if number == 0 {
-        return true;
+    match numbered(number) {
+        Object::Metadata => true,
+        Object::Node(name) => in_store(slots, name.number),
+        Object::Flag(name) => in_store(slots, name.number),
     }
-    if number <= LAST_NODE_NUMBER {
-        return in_store(slots, number - 1);
-    }
-    in_store(slots, number - FIRST_FLAG_NUMBER)
 }
 
 // A set has no more items than it may.
@@ -73,10 +72,7 @@ fn sets_fit(part: &[u8], slots: usize) -> bool
     requires { ClientPart part.now }
     ensures { result ≡ sets_fit slots (held part.now) }
 {
-    if !numbers_fit(part, slots, Set::Reads) {
-        return false;
-    }
-    numbers_fit(part, slots, Set::Writes)
+    numbers_fit(part, slots, Set::Reads) && numbers_fit(part, slots, Set::Writes)
 }
 
 // A migrate's node and server are in the store.
@@ -84,11 +80,7 @@ fn migrate_fits(part: &[u8], slots: usize) -> bool
     requires { ClientPart part.now }
     ensures { result ≡ migrate_fits slots (held part.now) }
 {
-    if !in_store(slots, get_field(part, OP_KEY)) {
-        return false;
-    }
-    let server = get_field(part, OP_SERVER);
-    server < Name::SERVERS
+    in_store(slots, get_field(part, OP_KEY)) && get_field(part, OP_SERVER) < Name::SERVERS
 }
 
 // A list's "count (the value field, 1 to 32)".
@@ -97,10 +89,7 @@ fn list_fits(part: &[u8]) -> bool
     ensures { result ≡ list_fits (held part.now) }
 {
     let count = get_field(part, OP_VALUE);
-    if count < 1 {
-        return false;
-    }
-    count <= MOST_LISTED
+    1 <= count && count <= MOST_LISTED
 }
 
 // The operation that waits is one of seven, and what a migrate and a list need of its fields.
@@ -108,14 +97,11 @@ fn op_fits(part: &[u8], slots: usize) -> bool
     requires { ClientPart part.now }
     ensures { result ≡ op_fits slots (held part.now) }
 {
-    let op = get_field(part, OP_NUMBER);
-    if op == 6 {
-        return migrate_fits(part, slots);
+    match get_field(part, OP_NUMBER) {
+        6 => migrate_fits(part, slots),
+        7 => list_fits(part),
+        op => op < 7,
     }
-    if op == 7 {
-        return list_fits(part);
-    }
-    op < 7
 }
 
 // What a work step reads before its walk.
@@ -131,14 +117,10 @@ fn kind_fits(part: &[u8], set: Set, i: usize) -> bool
     requires { (i < limit set) × ClientPart part.now }
     ensures { result ≡ kind_fits (held part.now) set i }
 {
-    let number = number_at(part, set, i);
-    if number == 0 {
-        return true;
+    match numbered(number_at(part, set, i)) {
+        Object::Node(_) => item_word(part, set, i, 1) <= 2,
+        _ => true,
     }
-    if number > LAST_NODE_NUMBER {
-        return true;
-    }
-    item_word(part, set, i, 1) <= 2
 }
 
 // The kinds of all items of a set.
@@ -200,13 +182,7 @@ pub fn fit_to_prepare(part: &[u8], slots: usize) -> bool
     requires { ClientPart part.now }
     ensures { result ≡ fit_to_prepare slots (held part.now) }
 {
-    if !servers_fit(part, PARTICIPANTS) {
-        return false;
-    }
-    if !servers_fit(part, PREPARED) {
-        return false;
-    }
-    sets_fit(part, slots)
+    servers_fit(part, PARTICIPANTS) && servers_fit(part, PREPARED) && sets_fit(part, slots)
 }
 
 // What an abort reads.
@@ -214,10 +190,7 @@ pub fn fit_to_abort(part: &[u8], slots: usize) -> bool
     requires { ClientPart part.now }
     ensures { result ≡ fit_to_abort slots (held part.now) }
 {
-    if !servers_fit(part, PREPARED) {
-        return false;
-    }
-    numbers_fit(part, slots, Set::Reads)
+    servers_fit(part, PREPARED) && numbers_fit(part, slots, Set::Reads)
 }
 
 // And where a server has prepared, what says what is locked there.
@@ -225,10 +198,7 @@ pub fn fit_to_unlock(part: &[u8], slots: usize) -> bool
     requires { ClientPart part.now }
     ensures { result ≡ fit_to_unlock slots (held part.now) }
 {
-    if !servers_fit(part, PARTICIPANTS) {
-        return false;
-    }
-    numbers_fit(part, slots, Set::Writes)
+    servers_fit(part, PARTICIPANTS) && numbers_fit(part, slots, Set::Writes)
 }
 
 // The version read of an object has a next one; of flags none is kept.
@@ -244,10 +214,7 @@ fn is_stored(part: &[u8], server: u64, number: u64) -> bool
     requires { ClientPart part.now }
     ensures { result ≡ stored_at (held part.now) server number }
 {
-    if is_home(server, number) {
-        return true;
-    }
-    inner_before_after(part, number)
+    is_home(server, number) || inner_before_after(part, number)
 }
 
 // The record of a write item, if the server is its home.
@@ -256,10 +223,7 @@ fn stored_record_fits(part: &[u8], slots: usize, server: u64, i: usize) -> bool
     ensures { result ≡ stored_record_fits slots (held part.now) server i }
 {
     let number = number_at(part, Set::Writes, i);
-    if is_home(server, number) {
-        return whole_fits(slots, number, record_at(part, Set::Writes, i));
-    }
-    true
+    !is_home(server, number) || whole_fits(slots, number, record_at(part, Set::Writes, i))
 }
 
 // The version read of a write item, if the server stores it.
@@ -268,10 +232,7 @@ fn version_fits(part: &[u8], server: u64, i: usize) -> bool
     ensures { result ≡ version_fits (held part.now) server i }
 {
     let number = number_at(part, Set::Writes, i);
-    if is_stored(part, server, number) {
-        return young(part, number);
-    }
-    true
+    !is_stored(part, server, number) || young(part, number)
 }
 
 // A written node has its read; of a flag it is not looked at.
@@ -279,10 +240,7 @@ fn read_fits(part: &[u8], i: usize) -> bool
     requires { (i < limit Writes) × ClientPart part.now }
     ensures { result ≡ read_fits (held part.now) i }
 {
-    if number_at(part, Set::Writes, i) > LAST_NODE_NUMBER {
-        return true;
-    }
-    is_read(part, i)
+    number_at(part, Set::Writes, i) > LAST_NODE_NUMBER || is_read(part, i)
 }
 
 // A write item as a server stores it.
@@ -290,13 +248,9 @@ fn write_fits(part: &[u8], slots: usize, server: u64, i: usize) -> bool
     requires { (i < limit Writes) × ClientPart part.now }
     ensures { result ≡ write_fits slots (held part.now) server i }
 {
-    if !read_fits(part, i) {
-        return false;
-    }
-    if !stored_record_fits(part, slots, server, i) {
-        return false;
-    }
-    version_fits(part, server, i)
+    read_fits(part, i)
+        && stored_record_fits(part, slots, server, i)
+        && version_fits(part, server, i)
 }
 
 // All that a server stores.
@@ -322,13 +276,9 @@ fn flag_renewal_fits(part: &[u8], slots: usize, i: usize) -> bool
         number: number - FIRST_FLAG_NUMBER,
     };
     let s = name.server();
-    if s >= 8 {
-        return false;
-    }
-    if vector_word(part, s as usize, 0) > 1 {
-        return false;
-    }
-    whole_fits(slots, number, record_at(part, Set::Writes, i))
+    s < Name::SERVERS
+        && vector_word(part, s as usize, 0) <= 1
+        && whole_fits(slots, number, record_at(part, Set::Writes, i))
 }
 
 // Written metadata, or a node that is inner.
@@ -338,13 +288,7 @@ fn inner_renewal_fits(part: &[u8], slots: usize, i: usize) -> bool
 {
     let number = number_at(part, Set::Writes, i);
     let node = record_at(part, Set::Writes, i);
-    if !is_inner(number, node) {
-        return true;
-    }
-    if !whole_fits(slots, number, node) {
-        return false;
-    }
-    young(part, number)
+    !is_inner(number, node) || (whole_fits(slots, number, node) && young(part, number))
 }
 
 // A write item as copies are renewed by it.
@@ -375,14 +319,10 @@ fn fit_to_renew(part: &[u8], slots: usize) -> bool
     requires { ClientPart part.now }
     ensures { result ≡ fit_to_renew slots (held part.now) }
 {
-    let lost = get_field(part, LOST);
-    if lost > 1 {
-        return false;
+    match get_field(part, LOST) {
+        0 => renewals_fit(part, slots),
+        lost => lost == 1,
     }
-    if lost == 1 {
-        return true;
-    }
-    renewals_fit(part, slots)
 }
 
 // What the last apply at a server reads, after a prepare that was fit: who takes part and which objects are read and written is judged.
@@ -390,13 +330,7 @@ pub fn fit_to_apply_too(part: &[u8], slots: usize, server: u64) -> bool
     requires { ClientPart part.now × (fit_to_prepare slots (held part.now) ≡ true) }
     ensures { result ≡ fit_to_apply slots (held part.now) server true }
 {
-    if !servers_fit(part, APPLIED) {
-        return false;
-    }
-    if !writes_fit(part, slots, server) {
-        return false;
-    }
-    fit_to_renew(part, slots)
+    servers_fit(part, APPLIED) && writes_fit(part, slots, server) && fit_to_renew(part, slots)
 }
 
 // What an apply at a server reads; the last one renews the copies.
@@ -404,20 +338,9 @@ pub fn fit_to_apply(part: &[u8], slots: usize, server: u64, last: bool) -> bool
     requires { ClientPart part.now }
     ensures { result ≡ fit_to_apply slots (held part.now) server last }
 {
-    if !servers_fit(part, APPLIED) {
-        return false;
-    }
-    if !numbers_fit(part, slots, Set::Reads) {
-        return false;
-    }
-    if !fit_to_unlock(part, slots) {
-        return false;
-    }
-    if !writes_fit(part, slots, server) {
-        return false;
-    }
-    if last {
-        return fit_to_renew(part, slots);
-    }
-    true
+    servers_fit(part, APPLIED)
+        && numbers_fit(part, slots, Set::Reads)
+        && fit_to_unlock(part, slots)
+        && writes_fit(part, slots, server)
+        && (!last || fit_to_renew(part, slots))
 }

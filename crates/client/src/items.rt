@@ -7,21 +7,19 @@ ghost use Rattle.client.specs.Items.{inner, has, inner_in, inner_before_after};
 ghost use Rattle.client.specs.Participants.{at_home};
 ghost use Rattle.client.specs.Layout.{ClientPart};
 
-use crate::part::{FIRST_FLAG_NUMBER, LAST_NODE_NUMBER, Set, find, record_at};
-use nodes::name::Name;
+use crate::object::{Object, numbered};
+use crate::part::{Set, find, record_at};
 use nodes::node::Node;
 
 // "metadata and inner nodes": is the object of that number one of them, with that record?
 pub fn is_inner(number: u64, node: Node) -> bool
     ensures { result ≡ inner number node }
 {
-    if number == 0 {
-        return true;
+    match numbered(number) {
+        Object::Metadata => true,
+        Object::Node(_) => node.kind == 2,
+        Object::Flag(_) => false,
     }
-    if number <= LAST_NODE_NUMBER {
-        return node.kind == 2;
-    }
-    false
 }
 
 // Is there an item of the object in the set?
@@ -29,11 +27,7 @@ pub fn has(part: &[u8], set: Set, number: u64) -> bool
     requires { ClientPart part.now }
     ensures { result ≡ has (held part.now) set number }
 {
-    let at = find(part, set, number);
-    match at {
-        Some(_) => true,
-        None => false,
-    }
+    find(part, set, number).is_some()
 }
 
 // Is there one, and is the object inner in it?
@@ -41,8 +35,7 @@ pub fn inner_in(part: &[u8], set: Set, number: u64) -> bool
     requires { ClientPart part.now }
     ensures { result ≡ inner_in (held part.now) set number }
 {
-    let at = find(part, set, number);
-    match at {
+    match find(part, set, number) {
         Some(i) => is_inner(number, record_at(part, set, i)),
         None => false,
     }
@@ -53,27 +46,18 @@ pub fn inner_before_after(part: &[u8], number: u64) -> bool
     requires { ClientPart part.now }
     ensures { result ≡ inner_before_after (held part.now) number }
 {
-    if inner_in(part, Set::Reads, number) {
-        return true;
-    }
-    inner_in(part, Set::Writes, number)
+    inner_in(part, Set::Reads, number) || inner_in(part, Set::Writes, number)
 }
 
 // The home of the object with that number; the metadata is on every server.
 pub fn is_home(server: u64, number: u64) -> bool
     ensures { result ≡ at_home server number }
 {
-    if number == 0 {
-        return true;
+    match numbered(number) {
+        Object::Metadata => true,
+        Object::Node(name) => name.server() == server,
+        Object::Flag(name) => name.server() == server,
     }
-    if number <= LAST_NODE_NUMBER {
-        let node = Name { number: number - 1 };
-        return node.server() == server;
-    }
-    let flag = Name {
-        number: number - FIRST_FLAG_NUMBER,
-    };
-    flag.server() == server
 }
 
 // The version of an object as it was read.
@@ -81,12 +65,8 @@ pub fn version_read(part: &[u8], number: u64) -> u64
     requires { ClientPart part.now }
     ensures { result ≡ version_of (held part.now) (find (held part.now) Reads number) }
 {
-    let at = find(part, Set::Reads, number);
-    match at {
-        Some(i) => {
-            let read = record_at(part, Set::Reads, i);
-            read.version
-        }
+    match find(part, Set::Reads, number) {
+        Some(i) => record_at(part, Set::Reads, i).version,
         None => 0,
     }
 }

@@ -10,6 +10,7 @@ pub mod fits;
 pub mod items;
 pub mod life;
 pub mod lookup;
+pub mod object;
 pub mod own;
 pub mod part;
 pub mod range;

@@ -14,8 +14,7 @@ pub fn reset(part: &mut [u8], phase: u64)
 {
     set_field(part, PHASE, phase);
     set_field(part, OP_NUMBER, 0);
-    let zeros = [0u64; 7];
-    set_fields(part, PARTICIPANTS, &zeros);
+    set_fields(part, PARTICIPANTS, &[0; 7]);
 }
 
 // An operation waits.
@@ -23,8 +22,7 @@ pub fn give(part: &mut [u8], op: u64, key: u64, value: u64, server: u64)
     requires { ClientPart part.old }
     ensures { Did (give_part op key value server) part.old part.new }
 {
-    let fields = [op, key, value, server];
-    set_fields(part, OP_NUMBER, &fields);
+    set_fields(part, OP_NUMBER, &[op, key, value, server]);
 }
 
 // The transaction ends without effect; the copies in use are those of this step.

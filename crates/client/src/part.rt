@@ -111,8 +111,7 @@ fn number_place(set: Set, i: usize) -> usize
     ensures value { result ≡ at client_words client_block (item set i 0) }
     ensures within { result < client_length }
 {
-    let first = base(set);
-    first + i
+    base(set) + i
 }
 
 // Where the record of an item begins: behind the numbers of its set.
@@ -121,9 +120,7 @@ pub fn record_start(set: Set, i: usize) -> usize
     ensures value { result ≡ at client_words client_block (item set i 1) }
     ensures within { result + record_words ≤ client_length }
 {
-    let first = base(set);
-    let numbers = limit(set);
-    first + numbers + RECORD_WORDS * i
+    base(set) + limit(set) + RECORD_WORDS * i
 }
 
 // Where the copy of a server's vector begins.
@@ -162,8 +159,7 @@ pub fn set_vector(part: &mut [u8], s: usize, words: [u64; 16])
     requires { (s < most_servers) × ClientPart part.old }
     ensures { Did (put_vector s words) part.old part.new }
 {
-    let copy = vector_words(words);
-    write_words(part, vector_at(s), &copy);
+    write_words(part, vector_at(s), &vector_words(words));
 }
 
 pub fn drop_vector(part: &mut [u8], s: usize)
@@ -217,8 +213,7 @@ fn at_most(limit: usize, n: u64) -> usize
     ensures value { result ≡ at_most limit n }
     ensures within { result ≤ limit }
 {
-    let n = n as usize;
-    if n <= limit { n } else { limit }
+    limit.min(n as usize)
 }
 
 pub fn set_number(part: &mut [u8], set: Set, i: usize, number: u64)

@@ -3,7 +3,7 @@ ghost use Rattle.std.specs.Prelude.{◌≡◌, ◌≤◌};
 ghost use Rattle.client.specs.Record.{single, metadata, record_in_range, children_there, node_fits, whole_in_range, kind_in_range};
 ghost use Rattle.client.specs.Bounds.{most_keys};
 
-use crate::part::LAST_NODE_NUMBER;
+use crate::object::{Object, numbered};
 use nodes::name::in_store;
 use nodes::node::Node;
 use nodes::states::metadata_fits;
@@ -15,12 +15,8 @@ pub fn single(version: u64, value: u64) -> Node
     let mut slots = [0u64; 15];
     slots[0] = value;
     Node {
-        kind: 0,
-        level: 0,
-        version,
-        count: 0,
-        keys: [0; 14],
         slots,
+        ..Node::free(version)
     }
 }
 
@@ -32,12 +28,8 @@ pub fn metadata(version: u64, root: u64, states: u64) -> Node
     slots[0] = root;
     slots[1] = states;
     Node {
-        kind: 0,
-        level: 0,
-        version,
-        count: 0,
-        keys: [0; 14],
         slots,
+        ..Node::free(version)
     }
 }
 
@@ -45,14 +37,11 @@ pub fn metadata(version: u64, root: u64, states: u64) -> Node
 pub fn fits(slots: usize, number: u64, n: Node) -> bool
     ensures { result ≡ record_in_range slots number n }
 {
-    let first = n.slots[0];
-    if number == 0 {
-        return metadata_fits(slots, first, n.slots[1], n.version);
+    match numbered(number) {
+        Object::Metadata => metadata_fits(slots, n.slots[0], n.slots[1], n.version),
+        Object::Node(_) => n.in_range(),
+        Object::Flag(_) => n.slots[0] <= 1,
     }
-    if number <= LAST_NODE_NUMBER {
-        return n.in_range();
-    }
-    first <= 1
 }
 
 // Are an inner node's children names of the store?
@@ -60,46 +49,35 @@ fn children_there(slots: usize, n: Node) -> bool
     requires { n.count ≤ most_keys }
     ensures { result ≡ children_there slots n }
 {
-    if n.kind != 2 {
-        return true;
-    }
-    n.slots[..n.count + 1]
-        .iter()
-        .all(|child| in_store(slots, *child))
+    n.kind != 2
+        || n.slots[..n.count + 1]
+            .iter()
+            .all(|child| in_store(slots, *child))
 }
 
 // May a node be handed out or stored whole?
 pub fn node_fits(slots: usize, n: Node) -> bool
     ensures { result ≡ node_fits slots n }
 {
-    if !n.in_range() {
-        return false;
-    }
-    children_there(slots, n)
+    n.in_range() && children_there(slots, n)
 }
 
 // May the record of the object with that number be stored whole?
 pub fn whole_fits(slots: usize, number: u64, n: Node) -> bool
     ensures { result ≡ whole_in_range slots number n }
 {
-    if number == 0 {
-        return fits(slots, number, n);
+    match numbered(number) {
+        Object::Node(_) => node_fits(slots, n),
+        _ => fits(slots, number, n),
     }
-    if number > LAST_NODE_NUMBER {
-        return fits(slots, number, n);
-    }
-    node_fits(slots, n)
 }
 
 // Is the kind of the object with that number in range? Only a node has one.
 pub fn kind_fits(number: u64, n: Node) -> bool
     ensures { result ≡ kind_in_range number n }
 {
-    if number == 0 {
-        return true;
+    match numbered(number) {
+        Object::Node(_) => n.kind <= 2,
+        _ => true,
     }
-    if number > LAST_NODE_NUMBER {
-        return true;
-    }
-    n.kind <= 2
 }

@@ -11,9 +11,10 @@ use crate::commit::inner_at;
 use crate::copies::{copy_node, drop_node};
 use crate::items::version_read;
 use crate::life::reset;
+use crate::object::{Object, numbered};
 use crate::part::{
-    FIRST_FLAG_NUMBER, LAST_NODE_NUMBER, LOST, META_STATES, NO_TRANSACTION, Set, count, find,
-    get_field, item_word, number_at, record_at, set_fields, set_vector,
+    LOST, META_STATES, NO_TRANSACTION, Set, count, find, get_field, item_word, number_at,
+    record_at, set_fields, set_vector,
 };
 use crate::vector::{has_vector, vector_copy};
 use nodes::name::Name;
@@ -26,31 +27,17 @@ fn drop_outer(part: &mut [u8], i: usize)
     ensures { Did (drop_outer i) part.old part.new }
 {
     let number = number_at(part, Set::Writes, i);
-    if number == 0 {
-        return;
+    if let Object::Node(_) = numbered(number) {
+        if !inner_at(part, Set::Writes, i) {
+            drop_node(part, number);
+        }
     }
-    if number > LAST_NODE_NUMBER {
-        return;
-    }
-    if inner_at(part, Set::Writes, i) {
-        return;
-    }
-    drop_node(part, number);
 }
 
 fn versioned(n: Node, version: u64) -> Node
     ensures { result ≡ versioned n version }
 {
-    let keys = n.keys;
-    let slots = n.slots;
-    Node {
-        kind: n.kind,
-        level: n.level,
-        version,
-        count: n.count,
-        keys,
-        slots,
-    }
+    Node { version, ..n }
 }
 
 // The version read plus 1.
@@ -59,10 +46,7 @@ pub fn new_version(part: &[u8], number: u64) -> u64
     ensures { result ≡ new_version (held part.now) number }
 {
     let read = version_read(part, number);
-    if read < 4294967295 {
-        return read + 1;
-    }
-    0
+    if read < 4294967295 { read + 1 } else { 0 }
 }
 
 // One more, where write item i is an inner node with a number below this one.
@@ -71,13 +55,11 @@ fn with_inner(part: &[u8], number: u64, i: usize, below: usize) -> usize
     ensures value { result ≡ with_inner (held part.now) number i below }
     ensures within { result ≤ i + 1 }
 {
-    if !inner_at(part, Set::Writes, i) {
-        return below;
+    if inner_at(part, Set::Writes, i) && number_at(part, Set::Writes, i) < number {
+        below + 1
+    } else {
+        below
     }
-    if number_at(part, Set::Writes, i) < number {
-        return below + 1;
-    }
-    below
 }
 
 // How many written inner nodes have a number below this one.
@@ -101,8 +83,7 @@ fn rank(part: &[u8], i: usize) -> usize
     if !inner_at(part, Set::Writes, i) {
         return 0;
     }
-    let number = number_at(part, Set::Writes, i);
-    inner_below(part, number) + 1
+    inner_below(part, number_at(part, Set::Writes, i)) + 1
 }
 
 // The write item of a rank.
@@ -124,24 +105,16 @@ fn renewed(part: &[u8], i: usize) -> Node
     requires { (i < limit Writes) × ClientPart part.now }
     ensures { result ≡ renewed (held part.now) i }
 {
-    let n = record_at(part, Set::Writes, i);
-    let number = number_at(part, Set::Writes, i);
-    let version = new_version(part, number);
-    versioned(n, version)
+    let version = new_version(part, number_at(part, Set::Writes, i));
+    versioned(record_at(part, Set::Writes, i), version)
 }
 
 fn renew_nth(part: &mut [u8], k: usize)
     requires { (k < limit Writes) × ClientPart part.old }
     ensures { Did (renew_nth k) part.old part.new }
 {
-    let at = ranked(part, k + 1);
-    match at {
-        Some(i) => {
-            let number = number_at(part, Set::Writes, i);
-            let n = renewed(part, i);
-            copy_node(part, number, n);
-        }
-        None => {}
+    if let Some(i) = ranked(part, k + 1) {
+        copy_node(part, number_at(part, Set::Writes, i), renewed(part, i));
     }
 }
 
@@ -149,16 +122,11 @@ fn renew_meta(part: &mut [u8])
     requires { ClientPart part.old }
     ensures { Did renew_meta part.old part.new }
 {
-    let at = find(part, Set::Writes, 0);
-    match at {
-        Some(i) => {
-            let root = item_word(part, Set::Writes, i, 19);
-            let version = new_version(part, 0);
-            let states = item_word(part, Set::Writes, i, 20);
-            let fields = [states, root, version];
-            set_fields(part, META_STATES, &fields);
-        }
-        None => {}
+    if let Some(i) = find(part, Set::Writes, 0) {
+        let root = item_word(part, Set::Writes, i, 19);
+        let version = new_version(part, 0);
+        let states = item_word(part, Set::Writes, i, 20);
+        set_fields(part, META_STATES, &[states, root, version]);
     }
 }
 
@@ -168,29 +136,23 @@ fn renew_in(part: &mut [u8], name: u64, value: u64)
     ensures { Did (renew_in (held part.old) name value) part.old part.new }
 {
     let flag = Name { number: name };
-    let s = flag.server();
-    if s >= Name::SERVERS {
+    if flag.server() >= Name::SERVERS {
         return;
     }
-    let s = s as usize;
-    if !has_vector(part, s) {
-        return;
+    let s = flag.server() as usize;
+    if has_vector(part, s) {
+        let copy = vector_copy(part, s);
+        set_vector(part, s, with_taken(copy, flag.slot() as usize, value == 1));
     }
-    let copy = vector_copy(part, s);
-    let words = with_taken(copy, flag.slot() as usize, value == 1);
-    set_vector(part, s, words);
 }
 
 fn renew_flag(part: &mut [u8], i: usize)
     requires { (i < limit Writes) × ClientPart part.old }
     ensures { Did (renew_flag i) part.old part.new }
 {
-    let number = number_at(part, Set::Writes, i);
-    if number < FIRST_FLAG_NUMBER {
-        return;
+    if let Object::Flag(flag) = numbered(number_at(part, Set::Writes, i)) {
+        renew_in(part, flag.number, item_word(part, Set::Writes, i, 19));
     }
-    let value = item_word(part, Set::Writes, i, 19);
-    renew_in(part, number - FIRST_FLAG_NUMBER, value);
 }
 
 fn drop_outers(part: &mut [u8])
@@ -242,10 +204,9 @@ fn renew_kept(part: &mut [u8])
     requires { ClientPart part.old }
     ensures { Did renew_kept part.old part.new }
 {
-    if get_field(part, LOST) == 1 {
-        return;
+    if get_field(part, LOST) != 1 {
+        renew(part);
     }
-    renew(part);
 }
 
 // The transaction has ended: its copies are renewed, but not those of a lost client.

@@ -6,13 +6,12 @@ ghost use Rattle.client.specs.Layout.{ClientPart, limit};
 ghost use Rattle.client.specs.Bounds.{most_servers};
 ghost use Rattle.client.specs.declared.part.Set.TheVariants.{Writes};
 
+use crate::object::{Object, numbered};
 use crate::part::{
-    FETCHED_VECTORS, FIRST_FLAG_NUMBER, Set, count, get_field, item_word, number_at, vector_at,
-    vector_word,
+    FETCHED_VECTORS, Set, count, get_field, item_word, number_at, vector_at, vector_word,
 };
 use memory::bits::has;
 use memory::read_words;
-use nodes::name::Name;
 use nodes::vector::with_taken;
 
 // Is there a copy?
@@ -37,12 +36,8 @@ fn counted_one(part: &[u8], s: usize, i: usize, words: [u64; 16]) -> [u64; 16]
     requires { (i < limit Writes) × ClientPart part.now }
     ensures { result ≡ counted_one (held part.now) s i words }
 {
-    let number = number_at(part, Set::Writes, i);
-    if number < FIRST_FLAG_NUMBER {
+    let Object::Flag(flag) = numbered(number_at(part, Set::Writes, i)) else {
         return words;
-    }
-    let flag = Name {
-        number: number - FIRST_FLAG_NUMBER,
     };
     if flag.server() as usize != s {
         return words;
@@ -69,17 +64,12 @@ fn flag_fits(part: &[u8], s: usize, i: usize) -> bool
     requires { (i < limit Writes) × ClientPart part.now }
     ensures { result ≡ flag_fits (held part.now) s i }
 {
-    let number = number_at(part, Set::Writes, i);
-    if number < FIRST_FLAG_NUMBER {
-        return true;
+    match numbered(number_at(part, Set::Writes, i)) {
+        Object::Flag(flag) => {
+            flag.server() as usize != s || item_word(part, Set::Writes, i, 19) <= 1
+        }
+        _ => true,
     }
-    let name = Name {
-        number: number - FIRST_FLAG_NUMBER,
-    };
-    if name.server() as usize != s {
-        return true;
-    }
-    item_word(part, Set::Writes, i, 19) <= 1
 }
 
 // All write items.
@@ -100,10 +90,7 @@ pub fn vector_fits(part: &[u8], s: usize) -> bool
     requires { (s < most_servers) × ClientPart part.now }
     ensures { result ≡ vector_fits (held part.now) s }
 {
-    if vector_word(part, s, 0) > 1 {
-        return false;
-    }
-    flags_fit(part, s)
+    vector_word(part, s, 0) <= 1 && flags_fit(part, s)
 }
 
 // Has this transaction fetched it?

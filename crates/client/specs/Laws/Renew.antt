@@ -6,12 +6,16 @@ use Rattle.std.proofs.Math.Bool.{true, false}
 use borrow.Author.Tests.{eq-eqb, ne_eqb, le-leb, lt-leb, lt-ltb, le-ltb, ltb-true, not-true, not-false}
 use Rattle.base.specs.Test.{and_both}
 use Rattle.layout.specs.Sweep.{sweep}
-use Rattle.nodes.specs.declared.node.Node.{Node}
+use Rattle.nodes.specs.declared.node.Node as node
 use Rattle.nodes.specs.Found.{Found}
 use Rattle.std.specs.Prelude.{Some, None}
 use Rattle.nodes.specs.Flags.{with_flag}
+use Rattle.nodes.specs.declared.name.Name.{Name}
 use Rattle.nodes.specs.Name.{server_of, slot_of}
 use Rattle.client.specs.declared.part.Set.TheVariants.{Reads, Writes}
+use Rattle.client.specs.declared.object.Object.{Object}
+use Rattle.client.specs.declared.object.Object.TheVariants.{Metadata, Node, Flag}
+use Rattle.client.specs.Numbered.{NumberOf}
 use Rattle.client.specs.Layout.{ClientWord, client_words, field, item}
 use Rattle.client.specs.Sets.{held, count, number_at, record_at, find}
 use Rattle.client.specs.Vectors.{has_vector, vector_copy}
@@ -46,6 +50,11 @@ module _ (s : List ℕ) (i x : ℕ) (e : x ≡ number_at (held s) Writes i) wher
       outer_dropped t q r =
           let z : inner_at (held s) Writes i ≡ false = sym p ∙ q in
           did_as (drop_node x) (drop_outer i) s t (rw (← e, ne_eqb _ _ d, le-leb _ _ h, z)) r
+
+  pub outer_other : (o : Object) → NumberOf o x → ((n : Name) → o ≡ Node n → ⊥) → Did (drop_outer i) s s
+  outer_other Metadata b d = outer_meta b
+  outer_other (Node n) b d = absurd (d n refl)
+  outer_other (Flag n) b d = outer_flag b.0 b.1
 
 pub good_outer : EachGood drop_outer
 unfolding drop_outer
@@ -129,13 +138,13 @@ module _ (m : ClientWord → ℕ) (n k : ℕ) where
   unfolding ranked
   ranked_absent i c h t = rw (← c) (all_searched (rank m) n k i h t)
 
-pub renewed_is : (m : ClientWord → ℕ) (i x v : ℕ) (n r : Node) → n ≡ record_at m Writes i → x ≡ number_at m Writes i → v ≡ new_version m x → r ≡ versioned n v → r ≡ renewed m i
+pub renewed_is : (m : ClientWord → ℕ) (i x v : ℕ) (n r : node.Node) → n ≡ record_at m Writes i → x ≡ number_at m Writes i → v ≡ new_version m x → r ≡ versioned n v → r ≡ renewed m i
 unfolding renewed
 renewed_is m i x v n r p q e f = rw (← p, ← q, ← e) f
 
 -- ---- inner nodes, metadata, flags
 module _ (s : List ℕ) (k : ℕ) (g : Found) (f : g ≡ ranked (held s) (k + 1)) where
-  pub nth_renewed : (t : List ℕ) (i x : ℕ) (n : Node) → g ≡ Some i → x ≡ number_at (held s) Writes i → n ≡ renewed (held s) i → Did (copy_node x n) s t → Did (renew_nth k) s t
+  pub nth_renewed : (t : List ℕ) (i x : ℕ) (n : node.Node) → g ≡ Some i → x ≡ number_at (held s) Writes i → n ≡ renewed (held s) i → Did (copy_node x n) s t → Did (renew_nth k) s t
   unfolding renew_nth
   nth_renewed t i x n e p q r = did_as (copy_node x n) (renew_nth k) s t (rw (← f, e, ← p, ← q)) r
 
@@ -196,6 +205,11 @@ module _ (s : List ℕ) (i x : ℕ) (e : x ≡ number_at (held s) Writes i) wher
   pub flag_not : x < 8193 → Did (renew_flag i) s s
   unfolding renew_flag nothing
   flag_not h = did_nothing (renew_flag i) s (rw (← e, lt-ltb _ _ h))
+
+  pub flag_other : (o : Object) → NumberOf o x → ((n : Name) → o ≡ Flag n → ⊥) → Did (renew_flag i) s s
+  flag_other Metadata b d = flag_not (omega arith)
+  flag_other (Node n) b d = flag_not (omega arith)
+  flag_other (Flag n) b d = absurd (d n refl)
 
   pub flag_put : (t : List ℕ) (v : ℕ) → 8193 ≤ x → v ≡ held s (item Writes i 19) → Did (renew_in (held s) (x - 8193) v) s t → Did (renew_flag i) s t
   unfolding renew_flag
