@@ -297,9 +297,10 @@ fn renewal_fits(part: &[u8], slots: usize, i: usize) -> bool
     ensures { result ≡ renewal_fits slots (held part.now) i }
 {
     if number_at(part, Set::Writes, i) > LAST_NODE_NUMBER {
-        return flag_renewal_fits(part, slots, i);
+        flag_renewal_fits(part, slots, i)
+    } else {
+        inner_renewal_fits(part, slots, i)
     }
-    inner_renewal_fits(part, slots, i)
 }
 
 fn renewals_fit(part: &[u8], slots: usize) -> bool

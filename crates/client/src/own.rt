@@ -8,7 +8,6 @@ ghost use Rattle.client.specs.Record.{first_slot};
 
 use crate::part::ITEM_WORDS;
 use crate::record::{item_words, record_in};
-use nodes::arrays::blit;
 use nodes::node::Node;
 
 // The record of own write i.
@@ -45,8 +44,8 @@ fn set_own(own: &mut [u64], i: usize, number: u64, n: Node)
     requires { (i < own_most) × (own_room ≤ length own.old) }
     ensures { own.new ≡ own_at own.old number n i }
 {
-    let words = item_words(number, n);
-    blit(own, ITEM_WORDS * i + 1, &words, 0, ITEM_WORDS);
+    let at = ITEM_WORDS * i + 1;
+    own[at..at + ITEM_WORDS].copy_from_slice(&item_words(number, n));
 }
 
 // An object is written: in its place, else behind the others.

@@ -4,7 +4,6 @@ ghost use Rattle.nodes.specs.Stored.{node_at, words_of};
 ghost use Rattle.client.specs.Layout.{record_words};
 
 use crate::part::RECORD_WORDS;
-use nodes::arrays::blit;
 use nodes::node::Node;
 
 // The record in a list of words, from word at on.
@@ -13,7 +12,7 @@ pub fn record_in(list: &[u64], at: usize) -> Node
     ensures { result ≡ node_at list.now at }
 {
     let mut words = [0u64; 33];
-    blit(&mut words, 0, list, at, RECORD_WORDS);
+    words.copy_from_slice(&list[at..at + RECORD_WORDS]);
     Node::from_words(words)
 }
 
@@ -21,10 +20,8 @@ pub fn record_in(list: &[u64], at: usize) -> Node
 pub fn item_words(number: u64, n: Node) -> [u64; 34]
     ensures { result ≡ number ∷ words_of n }
 {
-    let words = n.to_words();
-    let mut item = [0u64; 34];
-    item[0] = number;
-    blit(&mut item, 1, &words, 0, RECORD_WORDS);
+    let mut item = [number; 34];
+    item[1..].copy_from_slice(&n.to_words());
     item
 }
 
@@ -32,8 +29,7 @@ pub fn item_words(number: u64, n: Node) -> [u64; 34]
 pub fn vector_words(words: [u64; 16]) -> [u64; 17]
     ensures { result ≡ 1 ∷ words }
 {
-    let mut copy = [0u64; 17];
-    copy[0] = 1;
-    blit(&mut copy, 1, &words, 0, 16);
+    let mut copy = [1u64; 17];
+    copy[1..].copy_from_slice(&words);
     copy
 }

@@ -1,0 +1,12 @@
+use Rattle.std.proofs.Common.{rules}
+use Rattle.client.specs.Laws.Commit.{home_inner, home_added, home_outside}
+use Rattle.client.proofs.commit.with_home.Goals as goal
+
+pub returns-then-is_inner : goal.returns-then-is_inner
+returns-then-is_inner c = search (home_inner, home_added, home_outside, rules)
+
+pub returns-then-home-lt-SERVERS : goal.returns-then-home-lt-SERVERS
+returns-then-home-lt-SERVERS c = search (home_inner, home_added, home_outside, rules)
+
+pub returns : goal.returns
+returns c = search (home_inner, home_added, home_outside, rules)

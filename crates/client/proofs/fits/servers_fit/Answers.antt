@@ -1,0 +1,6 @@
+use Rattle.std.proofs.Common.{rules}
+use Rattle.client.specs.Laws.Fits.{fit_exits}
+use Rattle.client.proofs.fits.servers_fit.Goals as goal
+
+pub returns : goal.returns
+returns c = search (fit_exits, rules)
