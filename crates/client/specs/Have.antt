@@ -12,7 +12,7 @@ use Rattle.nodes.specs.Stored.{node_at}
 use Rattle.nodes.specs.Range.{node_in_range}
 use Rattle.nodes.specs.Name.{server_of, slot_of}
 use Rattle.nodes.specs.States.{metadata_fits}
-use Rattle.operations.specs.Object.{Obj, node, Ask, object, vector, fetched, Val, flags}
+use Rattle.operations.specs.Object.{Obj, Ask, object, vector, fetched, Val, flags}
 use Rattle.client.specs.declared.answer.How.{How}
 use Rattle.client.specs.declared.answer.How.TheVariants.{Here, Copied, Lacking}
 use Rattle.client.specs.declared.answer.Look.{Look}

@@ -1,10 +1,10 @@
 -- How copies are put and dropped, and what a fetched object does.
-use Rattle.std.specs.Prelude.{◌≡◌, true, cond, List, [], ◌∷◌, ◌++◌, ℕ, ◌+◌, ◌-◌, ◌/◌, ◌≤◌, ◌<◌, eqb, leb, drop, replicate}
+use Rattle.std.specs.Prelude.{◌≡◌, true, cond, List, [], ◌∷◌, ◌++◌, ℕ, ◌+◌, ◌-◌, ◌/◌, ◌≤◌, ◌<◌, eqb, leb, replicate}
 use Rattle.std.proofs.Math.Path.{refl, ap, subst}
 use Rattle.std.proofs.Common.{sym, ◌∙◌, append_assoc, append-nil, add-one}
 use native.Mathlib.Omega.{arith}
 use borrow.Author.Tests.{eq-eqb, ne_eqb, le-leb, lt-leb, le-ltb}
-use Rattle.std.proofs.Math.ListN.{length, get_or, take, length-drop}
+use Rattle.std.proofs.Math.ListN.{length, get_or, take}
 use Rattle.std.proofs.Math.Seq.{take-suc}
 use Rattle.std.proofs.lemmas.List.{take_all}
 use Rattle.memory.specs.Bit.{put_bit}
@@ -21,7 +21,7 @@ use Rattle.client.specs.Layout.{ClientWord, client_words, field}
 use Rattle.client.specs.Record.{metadata}
 use Rattle.client.specs.Sets.{held, count, number_at, find}
 use Rattle.client.specs.Drops.{drop_each, drop_used}
-use Rattle.client.specs.Part.{PartStep, Did, ◌then◌, nothing, put_field, put_fields, put_item, put_number, drop_vector}
+use Rattle.client.specs.Part.{Did, ◌then◌, nothing, put_field, put_fields, put_item, put_number, drop_vector}
 use Rattle.client.specs.Laws.Steps.{Good, AllGood, EachGood, did_as, did_nothing, good_nothing, good_field, good_item, good_number, good_drop, good_cond, good_by, good_sweep, good_loop, good_then, did_then, did_three, find_limit, swept_all}
 use Rattle.client.specs.Enter.{enter_read}
 use Rattle.client.specs.Laws.Enter.{good_read}

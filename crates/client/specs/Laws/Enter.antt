@@ -1,5 +1,5 @@
 -- How objects enter the sets.
-use Rattle.std.specs.Prelude.{◌≡◌, refl, cond, List, [], ◌∷◌, ◌++◌, ℕ, zero, suc, ◌+◌, ◌*◌, ◌/◌, ◌≤◌, ◌<◌, ltb, length, get_or, take, drop}
+use Rattle.std.specs.Prelude.{◌≡◌, refl, cond, List, [], ◌∷◌, ◌++◌, ℕ, zero, suc, ◌+◌, ◌*◌, ◌/◌, ◌≤◌, ◌<◌, ltb, length, get_or}
 use Rattle.std.proofs.Common.{sym, ◌∙◌, subst, append_assoc, append-nil, arith, add-one}
 use borrow.Author.Tests.{ltb-true, lt-ltb, le-ltb}
 use Rattle.layout.specs.Space.{changed}
@@ -13,11 +13,10 @@ use Rattle.client.specs.declared.answer.Look.{Look}
 use Rattle.client.specs.declared.part.Set.TheVariants.{Reads, Writes}
 use Rattle.client.specs.Layout.{ClientWord, client_words}
 use Rattle.client.specs.Sets.{held, count, find}
-use Rattle.client.specs.Part.{PartStep, Did, ◌then◌, nothing, put_field, put_item}
+use Rattle.client.specs.Part.{Did, ◌then◌, nothing, put_field, put_item}
 use Rattle.client.specs.Laws.Steps.{Good, EachGood, did_then, did_as, did_nothing, good_then, good_nothing, good_field, good_item, good_cond, good_by, find_limit, swept_all}
 use Rattle.client.specs.Have.{copied}
-use Rattle.client.specs.Lent.{Entry, InUse, used_in, own_count, own_number, own_record, own_first, own_list}
-use Rattle.client.specs.Laws.Lent.{length_used}
+use Rattle.client.specs.Lent.{Entry, own_count, own_number, own_record, own_first, own_list}
 use Rattle.client.specs.Answered.{used_enter}
 use Rattle.client.specs.Enter.{read_behind, enter_read, enter_copy, enter_nth, enter_used, written_behind, enter_at, enter_write, write_nth, enter_entries}
 

@@ -1,7 +1,6 @@
 -- Where the words of a client's part lie, and what reading and writing them means.
 use Rattle.std.specs.Prelude.{◌≡◌, refl, Bool, true, false, cond, List, ◌∷◌, ℕ, suc, ◌+◌, ◌-◌, ◌*◌, ◌/◌, ◌≤◌, ◌<◌, leb, length, get_or, take, drop, set}
-use Rattle.std.proofs.Common.{sym, ap, ◌∙◌, arith, add-zero, leb-true}
-use Rattle.std.proofs.lemmas.List.Edits.{sets}
+use Rattle.std.proofs.Common.{sym, ap, ◌∙◌, arith, leb-true}
 use Rattle.memory.specs.Word.{view}
 use Rattle.memory.proofs.Laws.Word.{view_length}
 use Rattle.layout.specs.Block.{size, In, offset}

@@ -1,5 +1,5 @@
 -- A client's whole part in range. No rule asks it: it holds of every client that steps lead to, and what a rule reads is then in range.
-use Rattle.std.specs.Prelude.{◌≡◌, Bool, true, ◌&&◌, List, [], ◌∷◌, ℕ, zero, suc, ◌-◌, ◌≤◌, ◌<◌, leb, get_or}
+use Rattle.std.specs.Prelude.{◌≡◌, Bool, true, ◌&&◌, List, [], ◌∷◌, ℕ, zero, suc, ◌≤◌, ◌<◌, leb, get_or}
 use Rattle.std.proofs.Common.{arith}
 use borrow.Author.Tests.{leb-true}
 use Rattle.std.proofs.Math.Decide.{ℕ_discrete}

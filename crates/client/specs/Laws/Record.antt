@@ -1,10 +1,10 @@
 -- Whether a name is one of the store, a root's and a child's too.
-use Rattle.std.specs.Prelude.{◌≡◌, Bool, ◌&&◌, not, leb, length, get_or, take}
+use Rattle.std.specs.Prelude.{◌≡◌, Bool, not, leb, take}
 use Rattle.std.proofs.Math.Path.{refl, sym}
-use Rattle.std.proofs.Common.{◌∙◌, true≢false, arith, add-one}
+use Rattle.std.proofs.Common.{◌∙◌, arith}
 use Rattle.std.proofs.Math.Bool.{true, false}
 use mathlib.Core.List.{List, [], ◌∷◌}
-use Prim.Native.Nat.{ℕ, zero, suc, ◌+◌, ◌-◌, ◌≤◌, ◌<◌}
+use Prim.Native.Nat.{ℕ, ◌+◌, ◌≤◌, ◌<◌}
 use borrow.Author.Tests.{eq-eqb, ne_eqb, le-leb, lt-leb, not-true, not-false}
 use Rattle.std.specs.List.{list_all}
 use Rattle.nodes.specs.declared.node.Node.{Node}

@@ -1,5 +1,5 @@
 use Rattle.std.proofs.Common.{rules}
-use Rattle.client.specs.Laws.Commit.{any_none, any_here, one_calls, any_next, any_absent}
+use Rattle.client.specs.Laws.Commit.{any_none, any_here, one_calls, any_next}
 use Rattle.client.proofs.commit.all_take_part.Goals as goal
 
 pub loop-i-init : goal.loop-i-init
@@ -9,4 +9,4 @@ pub returns-then-calls_all : goal.returns-then-calls_all
 returns-then-calls_all c = search (any_here, one_calls, rules)
 
 pub loop-i-preserved : goal.loop-i-preserved
-loop-i-preserved c = search (any_none, any_here, one_calls, any_next, any_absent, rules)
+loop-i-preserved c = search (any_next, rules)

@@ -1,5 +1,5 @@
 use Rattle.std.proofs.Common.{rules}
-use Rattle.client.specs.Laws.Commit.{homes_none, homes_all}
+use Rattle.client.specs.Laws.Commit.{homes_none}
 use Rattle.client.proofs.commit.homes.Goals as goal
 
 pub loop-i-init : goal.loop-i-init

@@ -1,5 +1,5 @@
 use Rattle.std.proofs.Common.{rules}
-use Rattle.client.specs.Laws.Steps.{swept_none, swept_next, swept_all}
+use Rattle.client.specs.Laws.Steps.{swept_none, swept_next}
 use Rattle.client.specs.Laws.Copies.{good_empty, place_emptied}
 use Rattle.client.proofs.copies.drop_nodes.Goals as goal
 
@@ -7,4 +7,4 @@ pub loop-i-init : goal.loop-i-init
 loop-i-init c = search (swept_none, rules)
 
 pub loop-i-preserved : goal.loop-i-preserved
-loop-i-preserved c = search (swept_none, swept_next, good_empty, place_emptied, swept_all, rules)
+loop-i-preserved c = search (swept_next, good_empty, place_emptied, rules)

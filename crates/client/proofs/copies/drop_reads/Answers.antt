@@ -7,7 +7,7 @@ pub loop-i-init : goal.loop-i-init
 loop-i-init c = search (swept_none, rules)
 
 pub loop-i-preserved : goal.loop-i-preserved
-loop-i-preserved c = search (swept_none, swept_on, good_drop_read, reads_dropped, rules)
+loop-i-preserved c = search (swept_on, good_drop_read, rules)
 
 pub returns : goal.returns
-returns c = search (swept_none, swept_on, good_drop_read, reads_dropped, rules)
+returns c = search (reads_dropped, rules)

@@ -1,5 +1,5 @@
 use Rattle.std.proofs.Common.{rules}
-use Rattle.client.specs.Laws.Steps.{swept_none, swept_on, swept_all}
+use Rattle.client.specs.Laws.Steps.{swept_none, swept_on}
 use Rattle.client.specs.Laws.Copies.{good_vectors}
 use Rattle.client.proofs.copies.drop_vectors.Goals as goal
 
@@ -7,4 +7,4 @@ pub loop-s-init : goal.loop-s-init
 loop-s-init c = search (swept_none, rules)
 
 pub loop-s-preserved : goal.loop-s-preserved
-loop-s-preserved c = search (swept_none, swept_on, good_vectors, swept_all, rules)
+loop-s-preserved c = search (swept_on, good_vectors, rules)

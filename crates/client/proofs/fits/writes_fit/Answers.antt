@@ -7,10 +7,10 @@ pub loop-i-init : goal.loop-i-init
 loop-i-init c = search (so_none, rules)
 
 pub returns-then-not-write_fits : goal.returns-then-not-write_fits
-returns-then-not-write_fits c = search (so_none, writes_all, so_fails, so_next, so_all, rules)
+returns-then-not-write_fits c = search (writes_all, so_fails, rules)
 
 pub loop-i-preserved : goal.loop-i-preserved
-loop-i-preserved c = search (so_none, writes_all, so_fails, so_next, so_all, rules)
+loop-i-preserved c = search (so_next, rules)
 
 pub returns : goal.returns
-returns c = search (so_none, writes_all, so_fails, so_next, so_all, rules)
+returns c = search (writes_all, so_all, rules)

@@ -1,12 +1,12 @@
 use Rattle.std.proofs.Common.{rules}
-use Rattle.client.specs.Laws.Part.{base_reads, items_fit, base_writes, base_copies}
+use Rattle.client.specs.Laws.Part.{base_reads, base_writes, base_copies}
 use Rattle.client.proofs.part.base.Goals as goal
 
 pub returns-in-Reads-clause-value : goal.returns-in-Reads-clause-value
-returns-in-Reads-clause-value c = search (base_reads, items_fit, base_writes, base_copies, rules)
+returns-in-Reads-clause-value c = search (base_reads, rules)
 
 pub returns-in-Writes-clause-value : goal.returns-in-Writes-clause-value
-returns-in-Writes-clause-value c = search (base_reads, items_fit, base_writes, base_copies, rules)
+returns-in-Writes-clause-value c = search (base_writes, rules)
 
 pub returns-in-Copies-clause-value : goal.returns-in-Copies-clause-value
-returns-in-Copies-clause-value c = search (base_reads, items_fit, base_writes, base_copies, rules)
+returns-in-Copies-clause-value c = search (base_copies, rules)

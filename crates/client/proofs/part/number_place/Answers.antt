@@ -1,5 +1,5 @@
 use Rattle.std.proofs.Common.{rules}
-use Rattle.client.specs.Laws.Part.{number_spot, number_within}
+use Rattle.client.specs.Laws.Part.{number_spot}
 use Rattle.client.proofs.part.number_place.Goals as goal
 
 pub returns-clause-value : goal.returns-clause-value

@@ -1,5 +1,5 @@
 use Rattle.std.proofs.Common.{rules}
-use Rattle.client.specs.Laws.Part.{record_spot, record_within}
+use Rattle.client.specs.Laws.Part.{record_spot}
 use Rattle.client.proofs.part.record_start.Goals as goal
 
 pub returns-clause-value : goal.returns-clause-value

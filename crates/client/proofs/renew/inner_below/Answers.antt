@@ -1,5 +1,5 @@
 use Rattle.std.proofs.Common.{rules}
-use Rattle.client.specs.Laws.Renew.{ranking_none, ranking_next, ranking_all, ranking_few}
+use Rattle.client.specs.Laws.Renew.{ranking_none, ranking_next}
 use Rattle.client.proofs.renew.inner_below.Goals as goal
 
 pub loop-i-init : goal.loop-i-init

@@ -1,4 +1,3 @@
-use Rattle.std.proofs.Common.{rules}
 use Rattle.client.specs.Laws.Lent.{asked_among}
 use Rattle.client.proofs.used.is_used.Goals as goal
 

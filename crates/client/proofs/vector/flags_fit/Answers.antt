@@ -7,10 +7,10 @@ pub loop-i-init : goal.loop-i-init
 loop-i-init c = search (so_none, rules)
 
 pub returns-then-not-flag_fits : goal.returns-then-not-flag_fits
-returns-then-not-flag_fits c = search (so_none, flags_all, so_fails, so_next, so_all, rules)
+returns-then-not-flag_fits c = search (flags_all, so_fails, rules)
 
 pub loop-i-preserved : goal.loop-i-preserved
-loop-i-preserved c = search (so_none, flags_all, so_fails, so_next, so_all, rules)
+loop-i-preserved c = search (so_next, rules)
 
 pub returns : goal.returns
-returns c = search (so_none, flags_all, so_fails, so_next, so_all, rules)
+returns c = search (flags_all, so_all, rules)
