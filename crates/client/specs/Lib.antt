@@ -5,7 +5,6 @@ pub mod Bounds
 -- the part's layout; nodes in words; objects as numbers and their records
 pub mod Layout
 pub mod Record
-pub mod Numbered
 -- the read set, the write set, the copies; a step of the part as a list of stores
 pub mod Sets
 pub mod Part

@@ -9,10 +9,10 @@ ghost use Rattle.client.specs.Commit.{inner_at};
 ghost use Rattle.client.specs.Participants.{calls_all, called_homes, all_take_part, states_read, participants_of};
 
 use crate::items::{inner_before_after, is_inner};
-use crate::object::{Object, numbered};
 use crate::part::{Set, count, find, item_word, number_at, record_at};
 use memory::bits::with;
 use nodes::name::Name;
+use nodes::object::Object;
 use nodes::states::present;
 
 // Is item i of a set an inner node?
@@ -20,7 +20,7 @@ pub fn inner_at(part: &[u8], set: Set, i: usize) -> bool
     requires { (i < limit set) × ClientPart part.now }
     ensures { result ≡ inner_at (held part.now) set i }
 {
-    match numbered(number_at(part, set, i)) {
+    match Object::from(number_at(part, set, i)) {
         Object::Node(_) => item_word(part, set, i, 1) == 2,
         _ => false,
     }
@@ -51,7 +51,7 @@ pub fn all_take_part(part: &[u8]) -> bool
 fn home_of(number: u64) -> u64
     ensures { result ≡ by_number number 0 server_of server_of }
 {
-    match numbered(number) {
+    match Object::from(number) {
         Object::Metadata => 0,
         Object::Node(name) => name.server(),
         Object::Flag(name) => name.server(),

@@ -9,13 +9,13 @@ ghost use Rattle.client.specs.Copies.{copy_node, drop_node, drop_object, drop_re
 ghost use Rattle.client.specs.Bounds.{most_servers};
 ghost use Rattle.client.specs.declared.part.Set.TheVariants.{Reads, Copies};
 
-use crate::object::{Object, numbered};
 use crate::part::{
     META_STATES, Set, count, drop_vector, find, number_at, set_field, set_item, set_number,
 };
 use crate::used::in_use;
 use nodes::name::Name;
 use nodes::node::Node;
+use nodes::object::Object;
 
 // A node's copy, where it has a place or one is empty.
 pub fn copy_node(part: &mut [u8], number: u64, n: Node)
@@ -43,7 +43,7 @@ fn drop_object(part: &mut [u8], number: u64)
     requires { ClientPart part.old }
     ensures { Did (drop_object number) part.old part.new }
 {
-    match numbered(number) {
+    match Object::from(number) {
         Object::Metadata => set_field(part, META_STATES, 0),
         Object::Node(_) => drop_node(part, number),
         Object::Flag(flag) => {

@@ -10,7 +10,6 @@ ghost use Rattle.client.specs.Bounds.{last_node_number};
 
 use crate::commit::{all_take_part, states_read};
 use crate::items::{has, inner_before_after, is_home, is_inner, version_read};
-use crate::object::{Object, numbered};
 use crate::part::{
     APPLIED, FIRST_FLAG_NUMBER, LAST_NODE_NUMBER, LOST, MOST_LISTED, MOST_READ, MOST_WRITTEN,
     OP_KEY, OP_NUMBER, OP_SERVER, OP_VALUE, PARTICIPANTS, PREPARED, READS_COUNT, Set, WRITES_COUNT,
@@ -18,6 +17,7 @@ use crate::part::{
 };
 use crate::range::whole_fits;
 use nodes::name::{Name, in_store};
+use nodes::object::Object;
 use nodes::states::states_fit;
 
 // The set of servers in a field has servers of the store only.
@@ -32,7 +32,7 @@ fn servers_fit(part: &[u8], i: usize) -> bool
 fn number_in_store(slots: usize, number: u64) -> bool
     ensures { result ≡ number_in_store slots number }
 {
-    match numbered(number) {
+    match Object::from(number) {
         Object::Metadata => true,
         Object::Node(name) => in_store(slots, name.number),
         Object::Flag(name) => in_store(slots, name.number),
@@ -117,7 +117,7 @@ fn kind_fits(part: &[u8], set: Set, i: usize) -> bool
     requires { (i < limit set) × ClientPart part.now }
     ensures { result ≡ kind_fits (held part.now) set i }
 {
-    match numbered(number_at(part, set, i)) {
+    match Object::from(number_at(part, set, i)) {
         Object::Node(_) => item_word(part, set, i, 1) <= 2,
         _ => true,
     }

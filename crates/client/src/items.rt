@@ -7,15 +7,15 @@ ghost use Rattle.client.specs.Items.{inner, has, inner_in, inner_before_after};
 ghost use Rattle.client.specs.Participants.{at_home};
 ghost use Rattle.client.specs.Layout.{ClientPart};
 
-use crate::object::{Object, numbered};
 use crate::part::{Set, find, record_at};
 use nodes::node::Node;
+use nodes::object::Object;
 
 // "metadata and inner nodes": is the object of that number one of them, with that record?
 pub fn is_inner(number: u64, node: Node) -> bool
     ensures { result ≡ inner number node }
 {
-    match numbered(number) {
+    match Object::from(number) {
         Object::Metadata => true,
         Object::Node(_) => node.kind == 2,
         Object::Flag(_) => false,
@@ -53,7 +53,7 @@ pub fn inner_before_after(part: &[u8], number: u64) -> bool
 pub fn is_home(server: u64, number: u64) -> bool
     ensures { result ≡ at_home server number }
 {
-    match numbered(number) {
+    match Object::from(number) {
         Object::Metadata => true,
         Object::Node(name) => name.server() == server,
         Object::Flag(name) => name.server() == server,

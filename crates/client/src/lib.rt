@@ -10,7 +10,6 @@ pub mod fits;
 pub mod items;
 pub mod life;
 pub mod lookup;
-pub mod object;
 pub mod own;
 pub mod part;
 pub mod range;

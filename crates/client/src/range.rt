@@ -3,9 +3,9 @@ ghost use Rattle.std.specs.Prelude.{◌≡◌, ◌≤◌};
 ghost use Rattle.client.specs.Record.{single, metadata, record_in_range, children_there, node_fits, whole_in_range, kind_in_range};
 ghost use Rattle.client.specs.Bounds.{most_keys};
 
-use crate::object::{Object, numbered};
 use nodes::name::in_store;
 use nodes::node::Node;
+use nodes::object::Object;
 use nodes::states::metadata_fits;
 
 // A record of a flag: its value stands in the first slot.
@@ -37,7 +37,7 @@ pub fn metadata(version: u64, root: u64, states: u64) -> Node
 pub fn fits(slots: usize, number: u64, n: Node) -> bool
     ensures { result ≡ record_in_range slots number n }
 {
-    match numbered(number) {
+    match Object::from(number) {
         Object::Metadata => metadata_fits(slots, n.slots[0], n.slots[1], n.version),
         Object::Node(_) => n.in_range(),
         Object::Flag(_) => n.slots[0] <= 1,
@@ -66,7 +66,7 @@ pub fn node_fits(slots: usize, n: Node) -> bool
 pub fn whole_fits(slots: usize, number: u64, n: Node) -> bool
     ensures { result ≡ whole_in_range slots number n }
 {
-    match numbered(number) {
+    match Object::from(number) {
         Object::Node(_) => node_fits(slots, n),
         _ => fits(slots, number, n),
     }
@@ -76,7 +76,7 @@ pub fn whole_fits(slots: usize, number: u64, n: Node) -> bool
 pub fn kind_fits(number: u64, n: Node) -> bool
     ensures { result ≡ kind_in_range number n }
 {
-    match numbered(number) {
+    match Object::from(number) {
         Object::Node(_) => n.kind <= 2,
         _ => true,
     }

@@ -11,7 +11,6 @@ use crate::commit::inner_at;
 use crate::copies::{copy_node, drop_node};
 use crate::items::version_read;
 use crate::life::reset;
-use crate::object::{Object, numbered};
 use crate::part::{
     LOST, META_STATES, NO_TRANSACTION, Set, count, find, get_field, item_word, number_at,
     record_at, set_fields, set_vector,
@@ -19,6 +18,7 @@ use crate::part::{
 use crate::vector::{has_vector, vector_copy};
 use nodes::name::Name;
 use nodes::node::Node;
+use nodes::object::Object;
 use nodes::vector::with_taken;
 
 // A node that is written and not inner loses its copy.
@@ -27,7 +27,7 @@ fn drop_outer(part: &mut [u8], i: usize)
     ensures { Did (drop_outer i) part.old part.new }
 {
     let number = number_at(part, Set::Writes, i);
-    if let Object::Node(_) = numbered(number) {
+    if let Object::Node(_) = Object::from(number) {
         if !inner_at(part, Set::Writes, i) {
             drop_node(part, number);
         }
@@ -150,7 +150,7 @@ fn renew_flag(part: &mut [u8], i: usize)
     requires { (i < limit Writes) × ClientPart part.old }
     ensures { Did (renew_flag i) part.old part.new }
 {
-    if let Object::Flag(flag) = numbered(number_at(part, Set::Writes, i)) {
+    if let Object::Flag(flag) = Object::from(number_at(part, Set::Writes, i)) {
         renew_in(part, flag.number, item_word(part, Set::Writes, i, 19));
     }
 }

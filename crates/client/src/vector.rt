@@ -6,12 +6,12 @@ ghost use Rattle.client.specs.Layout.{ClientPart, limit};
 ghost use Rattle.client.specs.Bounds.{most_servers};
 ghost use Rattle.client.specs.declared.part.Set.TheVariants.{Writes};
 
-use crate::object::{Object, numbered};
 use crate::part::{
     FETCHED_VECTORS, Set, count, get_field, item_word, number_at, vector_at, vector_word,
 };
 use memory::bits::has;
 use memory::read_words;
+use nodes::object::Object;
 use nodes::vector::with_taken;
 
 // Is there a copy?
@@ -36,7 +36,7 @@ fn counted_one(part: &[u8], s: usize, i: usize, words: [u64; 16]) -> [u64; 16]
     requires { (i < limit Writes) × ClientPart part.now }
     ensures { result ≡ counted_one (held part.now) s i words }
 {
-    let Object::Flag(flag) = numbered(number_at(part, Set::Writes, i)) else {
+    let Object::Flag(flag) = Object::from(number_at(part, Set::Writes, i)) else {
         return words;
     };
     if flag.server() as usize != s {
@@ -64,7 +64,7 @@ fn flag_fits(part: &[u8], s: usize, i: usize) -> bool
     requires { (i < limit Writes) × ClientPart part.now }
     ensures { result ≡ flag_fits (held part.now) s i }
 {
-    match numbered(number_at(part, Set::Writes, i)) {
+    match Object::from(number_at(part, Set::Writes, i)) {
         Object::Flag(flag) => {
             flag.server() as usize != s || item_word(part, Set::Writes, i, 19) <= 1
         }

@@ -2,7 +2,8 @@
 use Rattle.std.specs.Prelude.{Bool, cond, List, map, ℕ, ◌+◌, ◌-◌, ◌≤◌, ◌<◌, eqb, leb, ltb, length, get_or}
 use Rattle.memory.specs.Word.{view}
 use Rattle.server.specs.declared.lock.Use.TheVariants.{Fetch}
-use Rattle.server.specs.Object.{object_of, Has}
+use Rattle.nodes.specs.Object.{object_of}
+use Rattle.server.specs.Object.{Has}
 use Rattle.server.specs.Check.{can_check, checked, held, finding_number}
 use Rattle.client.specs.Bounds.{most_servers}
 use Rattle.client.specs.declared.part.Set.TheVariants.{Reads}

@@ -1,7 +1,8 @@
 -- Refusal 10 over all objects read, as code asks it item by item.
 use Rattle.std.specs.Prelude.{◌≡◌, Bool, true, ◌&&◌, ◌||◌, not, List, ℕ, ◌-◌, ◌<◌, length}
 use Rattle.memory.specs.Bit.{bit}
-use Rattle.server.specs.Object.{object_of, Has}
+use Rattle.nodes.specs.Object.{object_of}
+use Rattle.server.specs.Object.{Has}
 use Rattle.client.specs.Bounds.{most_servers}
 use Rattle.client.specs.declared.part.Set.{Set}
 use Rattle.client.specs.declared.part.Set.TheVariants.{Reads}

@@ -5,7 +5,8 @@ use Rattle.layout.specs.Step.{Does, silent}
 use Rattle.layout.specs.Part.{in_part}
 use Rattle.layout.specs.Sweep.{sweep}
 use Rattle.server.specs.declared.place.Place.{Place}
-use Rattle.server.specs.Object.{object_of, Has}
+use Rattle.nodes.specs.Object.{object_of}
+use Rattle.server.specs.Object.{Has}
 use Rattle.server.specs.Store.{lock_step, unlock_step}
 use Rattle.client.specs.declared.part.Set.TheVariants.{Reads}
 use Rattle.client.specs.Sets.{count, number_at}

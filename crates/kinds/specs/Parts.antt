@@ -6,7 +6,8 @@ use Rattle.kinds.specs.declared.whole.Length.{Length}
 use Rattle.kinds.specs.declared.whole.Length.TheVariants.{Bytes, Refused}
 use Rattle.steps.specs.Whole.{Allowed, Address, whole, block, words_for, length_for, client, server}
 use Rattle.steps.specs.Refusal.{allowed?}
-use Rattle.server.specs.Object.{Has, object_of}
+use Rattle.nodes.specs.Object.{object_of}
+use Rattle.server.specs.Object.{Has}
 use Rattle.layout.specs.Step.{Does, silent}
 use Rattle.layout.specs.Part.{in_part}
 use Rattle.client.specs.Layout.{ClientWord}

@@ -3,7 +3,8 @@ use Rattle.std.specs.Prelude.{◌≡◌, Bool, true, cond, ◌||◌, List, [], �
 use Rattle.memory.specs.Word.{view}
 use Rattle.layout.specs.Space.{Put}
 use Rattle.server.specs.declared.place.Place.{Place}
-use Rattle.server.specs.Object.{object_of, named, Has}
+use Rattle.nodes.specs.Object.{object_of, named}
+use Rattle.server.specs.Object.{Has}
 use Rattle.server.specs.Store.{metadata_step, flag_step, node_step}
 use Rattle.client.specs.declared.part.Set.TheVariants.{Reads, Writes}
 use Rattle.client.specs.Layout.{ClientWord, limit}

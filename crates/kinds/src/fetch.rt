@@ -1,7 +1,8 @@
 // "A fetch checks at that server what the transaction has read": the read set and the copies that came into use in the step.
 ghost use Rattle.std.specs.Prelude.{◌≡◌, ◌<◌, length};
 ghost use Rattle.memory.specs.Word.{view};
-ghost use Rattle.server.specs.Object.{object_of, Has};
+ghost use Rattle.nodes.specs.Object.{object_of};
+ghost use Rattle.server.specs.Object.{Has};
 ghost use Rattle.client.specs.Sets.{held};
 ghost use Rattle.client.specs.Lent.{used_in};
 ghost use Rattle.kinds.specs.Parts.{AtClient, ObjectFor};
@@ -21,7 +22,7 @@ use client::lookup::copied;
 use client::part::{MOST_READ, READS_COUNT};
 use server::check::can_check;
 use server::lock::Use;
-use server::object::Object;
+use nodes::object::Object;
 use steps::sizes::Sizes;
 
 // A copy in use, as an object read.

@@ -14,7 +14,7 @@ use crate::judge::{item_at, lock_word, word_fits};
 use crate::whole::server_at;
 use server::check::{Finding, compare};
 use server::lock::{Use, is_busy};
-use server::object::Object;
+use nodes::object::Object;
 use steps::sizes::Sizes;
 
 // An object's number with a reason to abort, or 10 for the refusal; 0 is none.

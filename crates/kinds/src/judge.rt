@@ -2,7 +2,8 @@
 ghost use Rattle.std.specs.Prelude.{◌≡◌, true, ◌<◌, length};
 ghost use Rattle.memory.specs.Word.{view};
 ghost use Rattle.server.specs.Lock.{lock_in_range};
-ghost use Rattle.server.specs.Object.{object_of, lock_of};
+ghost use Rattle.nodes.specs.Object.{object_of};
+ghost use Rattle.server.specs.Object.{lock_of};
 ghost use Rattle.client.specs.Items.{has, all_below};
 ghost use Rattle.client.specs.Layout.{field, limit, field_count};
 ghost use Rattle.steps.specs.Whole.{server as at_server};
@@ -19,7 +20,8 @@ use client::items::has;
 use client::part::{DECIDED, MOST_WRITTEN, OPEN, PHASE, Set, WRITES_COUNT, get_field};
 use memory::bits;
 use server::lock::is_lock;
-use server::object::{Object, lock_place};
+use nodes::object::Object;
+use server::object::lock_place;
 use server::place::get;
 use steps::sizes::Sizes;
 

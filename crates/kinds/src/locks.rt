@@ -1,7 +1,7 @@
 // The locks of the objects read, at one server: "Prepare checks and locks", "Apply writes and unlocks".
 ghost use Rattle.std.specs.Prelude.{◌<◌, length};
 ghost use Rattle.memory.specs.Word.{view};
-ghost use Rattle.server.specs.Object.{object_of};
+ghost use Rattle.nodes.specs.Object.{object_of};
 ghost use Rattle.server.specs.Store.{lock_step, unlock_step};
 ghost use Rattle.kinds.specs.Parts.{InServer, InWhole, ObjectFor, ClientAt};
 ghost use Rattle.kinds.specs.Items.{as_item};
@@ -14,7 +14,7 @@ use crate::fits::{lowest, reads_of};
 use crate::items::{Item, is_locked_at};
 use crate::judge::item_at;
 use crate::whole::server_at;
-use server::object::Object;
+use nodes::object::Object;
 use server::store::{lock, unlock};
 use steps::sizes::Sizes;
 

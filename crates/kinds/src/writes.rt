@@ -2,7 +2,8 @@
 // after, in every table".
 ghost use Rattle.std.specs.Prelude.{◌≡◌, ◌≤◌, ◌<◌, length};
 ghost use Rattle.memory.specs.Word.{view};
-ghost use Rattle.server.specs.Object.{object_of, Has};
+ghost use Rattle.nodes.specs.Object.{object_of};
+ghost use Rattle.server.specs.Object.{Has};
 ghost use Rattle.client.specs.declared.part.Set.TheVariants.{Writes};
 ghost use Rattle.client.specs.Sets.{held, count};
 ghost use Rattle.kinds.specs.Parts.{AtClient, InServer, InWhole, AtServer};

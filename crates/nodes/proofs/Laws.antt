@@ -5,6 +5,7 @@ pub mod Lists
 pub mod Found
 -- names of the store
 pub mod Name
+pub mod Object
 -- the bits of words, and the search for a free slot
 pub mod Bits
 pub mod Search

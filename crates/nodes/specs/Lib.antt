@@ -5,8 +5,9 @@ pub mod Bounds
 -- lists with an element put in or taken out; a place that was found
 pub mod Lists
 pub mod Found
--- "A node name is server times 1,024 plus slot"; the table of rows by which new nodes are placed
+-- "A node name is server times 1,024 plus slot"; objects and their numbers; the table of rows by which new nodes are placed
 pub mod Name
+pub mod Object
 pub mod Placement
 pub mod Placed
 -- the servers' states, and whether the metadata is in range

@@ -12,8 +12,8 @@ use Rattle.nodes.specs.Name.{server_of, slot_of}
 use Rattle.nodes.specs.declared.name.Name.{Name}
 use Rattle.server.specs.declared.check.Finding.{Finding}
 use Rattle.server.specs.declared.check.Finding.TheVariants.{Same, Differs, Unfit}
-use Rattle.server.specs.declared.object.Object.{Object}
-use Rattle.server.specs.declared.object.Object.TheVariants as object
+use Rattle.nodes.specs.declared.object.Object.{Object}
+use Rattle.nodes.specs.declared.object.Object.TheVariants as object
 use Rattle.server.specs.declared.place.Place.{Place}
 use Rattle.server.specs.declared.place.Place.TheVariants as place
 use Rattle.server.specs.Layout.{places, server_block}

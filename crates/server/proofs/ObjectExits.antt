@@ -4,13 +4,12 @@ use Prim.Native.Nat.{ℕ}
 use Rattle.layout.specs.Space.{Valid}
 use Rattle.nodes.specs.Name.{server_of, slot_of}
 use Rattle.nodes.specs.declared.name.Name.{Name}
-use Rattle.server.specs.declared.object.Object.{Object}
-use Rattle.server.specs.declared.object.Object.TheVariants.{Metadata, Node, Flag}
+use Rattle.nodes.specs.declared.object.Object.{Object}
+use Rattle.nodes.specs.declared.object.Object.TheVariants.{Metadata, Node, Flag}
 use Rattle.server.specs.declared.place.Place.{Place}
 use Rattle.server.specs.declared.place.Place.TheVariants.{MetadataLock, FlagLock, NodeLock}
 use Rattle.server.specs.Layout.{places, server_block}
 use Rattle.server.specs.Object.{lock_of, Has}
-use Rattle.server.specs.Laws.Object.{is_metadata, is_node, is_flag}
 
 module _ (o : Object) where
   pub lock_metadata : o ≡ Metadata → MetadataLock ≡ lock_of o
@@ -28,4 +27,4 @@ module _ (o : Object) where
   pub lock_valid : (n : ℕ) (a : Place) → Has n o → a ≡ lock_of o → Valid places (server_block n) a
   lock_valid n a h e = rw e h
 
-pub ruleset object_exits = (is_metadata, is_node, is_flag, lock_metadata, lock_node, lock_flag, lock_valid)
+pub ruleset object_exits = (lock_metadata, lock_node, lock_flag, lock_valid)

@@ -17,8 +17,8 @@ use Rattle.nodes.specs.declared.node.Node as node
 use Rattle.nodes.specs.Node.{free_node}
 use Rattle.nodes.specs.Stored.{words_of, put_node}
 use Rattle.nodes.proofs.Laws.Stored.{length_words}
-use Rattle.server.specs.declared.object.Object.{Object}
-use Rattle.server.specs.declared.object.Object.TheVariants as object
+use Rattle.nodes.specs.declared.object.Object.{Object}
+use Rattle.nodes.specs.declared.object.Object.TheVariants as object
 use Rattle.server.specs.declared.place.Place.{Place}
 use Rattle.server.specs.declared.place.Place.TheVariants.{Root, Version, States, Vector, Table, Node}
 use Rattle.server.specs.Layout.{places, server_block, part_words, put_step, Lies}

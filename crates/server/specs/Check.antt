@@ -7,11 +7,11 @@ use Rattle.nodes.specs.Name.{server_of, slot_of}
 use Rattle.server.specs.declared.check.Finding.{Finding}
 use Rattle.server.specs.declared.check.Finding.TheVariants.{Same, Differs, Busy, Unfit}
 use Rattle.server.specs.declared.lock.Use.{Use}
-use Rattle.server.specs.declared.object.Object.{Object}
+use Rattle.nodes.specs.declared.object.Object.{Object}
 use Rattle.server.specs.declared.place.Place.{Place}
 use Rattle.server.specs.Object.{lock_of}
 use Rattle.server.specs.Lock.{busy}
-use Rattle.server.specs.declared.object.Object.TheVariants as object
+use Rattle.nodes.specs.declared.object.Object.TheVariants as object
 use Rattle.server.specs.declared.place.Place.TheVariants as place
 
 -- "A server can check metadata, inner nodes by its table, and its own other nodes and flags": s is the server

@@ -3,8 +3,6 @@
 -- One server's part of the memory, in reading order.
 -- its layout
 pub mod Layout
--- objects, their numbers, the places of their locks
-pub mod Object
 -- the words of locks, and what they say of each client
 pub mod Lock
 -- what is stored, at a prepare and at an apply

@@ -1,7 +1,7 @@
 -- One server's part of the memory, in reading order.
 -- its layout
 pub mod Layout
--- objects, their numbers, the places of their locks
+-- the places of the locks of objects
 pub mod Object
 -- the words of locks, and what they say of each client
 pub mod Lock

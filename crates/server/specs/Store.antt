@@ -7,7 +7,7 @@ use Rattle.nodes.specs.Name.{server_of, slot_of}
 use Rattle.nodes.specs.declared.name.Name.{Name}
 use Rattle.nodes.specs.Node.{free_node}
 use Rattle.nodes.specs.Stored.{words_of}
-use Rattle.server.specs.declared.object.Object.{Object}
+use Rattle.nodes.specs.declared.object.Object.{Object}
 use Rattle.server.specs.declared.place.Place.{Place}
 use Rattle.server.specs.declared.place.Place.TheVariants.{Root, Version, States, Vector, Table, Node}
 use Rattle.server.specs.Layout.{places}

@@ -7,7 +7,7 @@ ghost use Rattle.server.specs.Object.{Has};
 ghost use Rattle.server.specs.Check.{can_check, mark_place, mark_in, standing, mark_fits, mark_finding};
 ghost use Rattle.nodes.specs.Bounds.{end_of_slots};
 
-use crate::object::Object;
+use nodes::object::Object;
 use crate::place::{Place, get};
 use memory::bits;
 

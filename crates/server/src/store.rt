@@ -6,7 +6,8 @@ ghost use Rattle.server.specs.Store.{lock_step, unlock_step, metadata_step, flag
 ghost use Rattle.nodes.specs.Bounds.{end_of_slots, last_version, most_clients};
 
 use crate::lock::{with_lock, without_lock};
-use crate::object::{Object, lock_place};
+use crate::object::lock_place;
+use nodes::object::Object;
 use crate::place::{Place, get, index, put};
 use memory::bits;
 use nodes::name::Name;

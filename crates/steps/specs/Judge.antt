@@ -3,7 +3,8 @@
 use Rattle.std.specs.Prelude.{Bool, cond, ◌&&◌, ◌||◌, not, ℕ, ◌-◌, leb, ltb}
 use Rattle.memory.specs.Bit.{bit}
 use Rattle.nodes.specs.Bounds.{most_servers}
-use Rattle.server.specs.Object.{object_of, lock_of}
+use Rattle.nodes.specs.Object.{object_of}
+use Rattle.server.specs.Object.{lock_of}
 use Rattle.server.specs.Lock.{lock_in_range}
 use Rattle.client.specs.declared.part.Set.TheVariants.{Reads, Writes}
 use Rattle.client.specs.Layout.{ClientWord, phase, participants, prepared, writes_count, open_phase, decided_phase}

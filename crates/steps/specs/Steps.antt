@@ -13,7 +13,7 @@ use Rattle.server.specs.declared.place.Place.{Place}
 use Rattle.server.specs.declared.lock.Use.TheVariants.{Fetch}
 use Rattle.server.specs.declared.hand_out.Metadata.{Metadata}
 use Rattle.server.specs.Layout.{places}
-use Rattle.server.specs.Object.{object_of, named}
+use Rattle.nodes.specs.Object.{object_of, named}
 use Rattle.server.specs.Check.{can_check, held, checked, finding_number}
 use Rattle.server.specs.Store.{lock_step, unlock_step, metadata_step, flag_step, versions_step, node_step}
 use Rattle.server.specs.HandOut.{metadata_at, metadata_sound, vector_at}

@@ -4,8 +4,8 @@ use Rattle.std.proofs.Math.Option.{Option, none, some}
 use Rattle.nodes.specs.declared.node.Node.{Node}
 use Rattle.server.specs.declared.lock.Use.{Use}
 use Rattle.server.specs.declared.lock.Use.TheVariants.{Read, Write}
-use Rattle.server.specs.declared.object.Object.{Object}
-use Rattle.server.specs.Object.{object_of}
+use Rattle.nodes.specs.declared.object.Object.{Object}
+use Rattle.nodes.specs.Object.{object_of}
 use Rattle.client.specs.declared.part.Set.TheVariants.{Reads, Writes}
 use Rattle.client.specs.Layout.{ClientWord}
 use Rattle.client.specs.Record.{by_number, first_slot, kind_in_range}

@@ -13,9 +13,9 @@ use Rattle.nodes.specs.Flags.{with_flag}
 use Rattle.nodes.specs.declared.name.Name.{Name}
 use Rattle.nodes.specs.Name.{server_of, slot_of}
 use Rattle.client.specs.declared.part.Set.TheVariants.{Reads, Writes}
-use Rattle.client.specs.declared.object.Object.{Object}
-use Rattle.client.specs.declared.object.Object.TheVariants.{Metadata, Node, Flag}
-use Rattle.client.specs.Numbered.{NumberOf}
+use Rattle.nodes.specs.declared.object.Object.{Object}
+use Rattle.nodes.specs.declared.object.Object.TheVariants.{Metadata, Node, Flag}
+use Rattle.nodes.specs.Object.{NumberOf}
 use Rattle.client.specs.Layout.{ClientWord, client_words, field, item}
 use Rattle.client.specs.Sets.{held, count, number_at, record_at, find}
 use Rattle.client.specs.Vectors.{has_vector, vector_copy}

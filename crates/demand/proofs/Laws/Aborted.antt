@@ -18,7 +18,8 @@ use Rattle.operations.specs.Object.{Obj}
 use Rattle.protocol.specs.State.{idle, is_decided}
 use Rattle.server.specs.declared.place.Place.{Place}
 use Rattle.server.specs.Layout.{places}
-use Rattle.server.specs.Object.{object_of, lock_of}
+use Rattle.nodes.specs.Object.{object_of}
+use Rattle.server.specs.Object.{lock_of}
 use Rattle.client.specs.Layout.{ClientWord, client_words, phase, prepared}
 use Rattle.client.specs.Record.{number}
 use Rattle.client.specs.Laws.Ranges.{client_fits}

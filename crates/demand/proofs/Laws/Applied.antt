@@ -18,7 +18,8 @@ use Rattle.operations.specs.Object.{Obj, meta, node, flag, Val}
 use Rattle.operations.proofs.Laws.Object.{inner}
 use Rattle.server.specs.declared.place.Place.{Place}
 use Rattle.server.specs.Layout.{places}
-use Rattle.server.specs.Object.{object_of, lock_of}
+use Rattle.nodes.specs.Object.{object_of}
+use Rattle.server.specs.Object.{lock_of}
 use Rattle.client.specs.declared.part.Set.TheVariants.{Reads, Writes}
 use Rattle.client.specs.Layout.{ClientWord, client_words, phase, participants, prepared, applied}
 use Rattle.client.specs.Record.{number, value_of}

@@ -14,7 +14,7 @@ use Rattle.operations.proofs.Laws.Object.{ValDiscrete, inner}
 use Rattle.protocol.specs.Lists.{Among}
 use Rattle.server.specs.declared.check.Finding.TheVariants.{Same, Differs, Busy, Unfit}
 use Rattle.server.specs.declared.lock.Use.{Use}
-use Rattle.server.specs.declared.object.Object.{Object}
+use Rattle.nodes.specs.declared.object.Object.{Object}
 use Rattle.server.specs.declared.place.Place.{Place}
 use Rattle.client.specs.declared.part.Set.TheVariants.{Reads, Writes}
 use Rattle.client.specs.Layout.{ClientWord}

@@ -31,7 +31,8 @@ use Rattle.server.specs.declared.place.Place.{Place}
 use Rattle.server.specs.declared.place.Place.TheVariants.{Root, Version, States, Vector, Node, Table}
 use Rattle.server.specs.Layout.{place_again, places}
 use Rattle.server.specs.HandOut.{metadata_at, metadata_sound}
-use Rattle.server.specs.Object.{object_of, lock_of}
+use Rattle.nodes.specs.Object.{object_of}
+use Rattle.server.specs.Object.{lock_of}
 use Rattle.server.specs.Store.{metadata_step, versions_step}
 use Rattle.client.specs.Layout.{ClientWord, phase, prepared}
 use Rattle.client.specs.Record.{number, value_of, in_store, object_in_store}

@@ -32,6 +32,7 @@ use Rattle.server.specs.Fresh as Fresh
 use Rattle.server.specs.HandOut as HandOut
 use Rattle.server.specs.Lock as Lock
 use Rattle.server.specs.Object as Object
+use Rattle.nodes.specs.Object as NodesObject
 use Rattle.server.specs.Store as Store
 use Rattle.client.specs.Answered as Answered
 use Rattle.client.specs.Commit as Commit
@@ -116,7 +117,7 @@ leads_there f z m (k ∷ ks) t n =
 
 -- all that steps compute with on a small store
 unfoldable pub computes : Type 0
-unfolding Update.upd Bit.bit Bit.put_bit LayoutPart.over Space.changed Space.written Space.puts Space.tab LayoutStep.and_then Sweep.sweep Lists.insert_at Lists.pad Node.extra Node.free_node Node.keys_of Node.made Node.slots_of Place.place Place.there_at Place.key_place Place.rises NodesRange.node_in_range Stored.node_of Stored.words_of Entry.under Check.can_check Check.checked Check.mark_finding Check.held Check.mark_fits Check.mark_in Check.mark_place Check.standing Fresh.first_leaf Fresh.fresh_stores States.is_present States.states_fit States.metadata_fits States.first_states HandOut.metadata_at HandOut.metadata_sound Lock.busy Lock.lock_in_range Lock.locked Lock.unlocked Object.lock_of Object.object_of Store.home_step Store.kept_of Store.lock_step Store.node_step Store.table_step Store.unlock_step Answered.answered Answered.enter_writes Answered.entered Answered.put_entry Answered.used_enter Commit.inner_at Copies.drop_node Course.decided Course.noted Drops.next_version Enter.enter_entries Enter.enter_read Enter.enter_used Enter.enter_write Fetched.copy_inner Fetched.fetched_meta Fetched.fetched_node Fits.fit_to_apply Fits.fit_to_commit Fits.fit_to_prepare Fits.fit_to_renew Fits.fit_to_unlock Fits.fit_to_work Fits.inner_renewal_fits Fits.is_read Fits.kind_fits Fits.number_fits Fits.numbers_fit Fits.op_fits Fits.read_fits Fits.renewal_fits Fits.servers_fit Fits.servers_known Fits.stored_record_fits Fits.version_fits Fits.write_fits Fits.writes_fit Fits.young Have.broken Have.copied Have.copied_meta Have.copied_node Have.have Have.look_fits Have.source Items.all_below Items.any_below Items.has Items.inner Items.inner_before_after Items.inner_in Life.give_part Life.reset ClientPart.nothing ClientPart.put_word ClientPart.put_fields ClientPart.put_item Participants.at_home Participants.committing Participants.lowest_of Participants.mask Participants.participants_of Participants.states_read Record.children_there Record.kind_in_range Record.node_fits Record.record_in_range Record.whole_in_range Name.name_in_store Record.number_in_store Record.record_of Record.single Record.metadata Renew.drop_outer Renew.finish Renew.for_writes Renew.rank Renew.ranked Renew.renew Renew.renew_flag Renew.renew_kept Renew.renew_meta Renew.renew_nth Renew.renew_written ClientRun.among ClientRun.run Sets.count Sets.find Sets.first_of Sets.number_at Sets.record_at Work.any_at_last Work.count_new Work.versions_there Work.walked Work.worked Judge.holders_fit Judge.lock_fits Refusal.first Refusal.state_fits Refusal.kind_of Refusal.refusal Run.opened Steps.at_servers Servers.there Servers.first_from Servers.metadata_source Steps.applied_at Steps.begin Steps.commit Steps.covers Steps.fetch Steps.give Steps.node_at Steps.prepare Steps.prepared_at Steps.step Steps.by_rule Steps.lacks_room Steps.work Uses.checked_at Uses.deciding Uses.each Uses.item_of Uses.least Uses.locked_at Uses.read_items Uses.used_items ledger_from Every Some node_in dec_le ℕ_discrete
+unfolding Update.upd Bit.bit Bit.put_bit LayoutPart.over Space.changed Space.written Space.puts Space.tab LayoutStep.and_then Sweep.sweep Lists.insert_at Lists.pad Node.extra Node.free_node Node.keys_of Node.made Node.slots_of Place.place Place.there_at Place.key_place Place.rises NodesRange.node_in_range Stored.node_of Stored.words_of Entry.under Check.can_check Check.checked Check.mark_finding Check.held Check.mark_fits Check.mark_in Check.mark_place Check.standing Fresh.first_leaf Fresh.fresh_stores States.is_present States.states_fit States.metadata_fits States.first_states HandOut.metadata_at HandOut.metadata_sound Lock.busy Lock.lock_in_range Lock.locked Lock.unlocked Object.lock_of NodesObject.object_of Store.home_step Store.kept_of Store.lock_step Store.node_step Store.table_step Store.unlock_step Answered.answered Answered.enter_writes Answered.entered Answered.put_entry Answered.used_enter Commit.inner_at Copies.drop_node Course.decided Course.noted Drops.next_version Enter.enter_entries Enter.enter_read Enter.enter_used Enter.enter_write Fetched.copy_inner Fetched.fetched_meta Fetched.fetched_node Fits.fit_to_apply Fits.fit_to_commit Fits.fit_to_prepare Fits.fit_to_renew Fits.fit_to_unlock Fits.fit_to_work Fits.inner_renewal_fits Fits.is_read Fits.kind_fits Fits.number_fits Fits.numbers_fit Fits.op_fits Fits.read_fits Fits.renewal_fits Fits.servers_fit Fits.servers_known Fits.stored_record_fits Fits.version_fits Fits.write_fits Fits.writes_fit Fits.young Have.broken Have.copied Have.copied_meta Have.copied_node Have.have Have.look_fits Have.source Items.all_below Items.any_below Items.has Items.inner Items.inner_before_after Items.inner_in Life.give_part Life.reset ClientPart.nothing ClientPart.put_word ClientPart.put_fields ClientPart.put_item Participants.at_home Participants.committing Participants.lowest_of Participants.mask Participants.participants_of Participants.states_read Record.children_there Record.kind_in_range Record.node_fits Record.record_in_range Record.whole_in_range Name.name_in_store Record.number_in_store Record.record_of Record.single Record.metadata Renew.drop_outer Renew.finish Renew.for_writes Renew.rank Renew.ranked Renew.renew Renew.renew_flag Renew.renew_kept Renew.renew_meta Renew.renew_nth Renew.renew_written ClientRun.among ClientRun.run Sets.count Sets.find Sets.first_of Sets.number_at Sets.record_at Work.any_at_last Work.count_new Work.versions_there Work.walked Work.worked Judge.holders_fit Judge.lock_fits Refusal.first Refusal.state_fits Refusal.kind_of Refusal.refusal Run.opened Steps.at_servers Servers.there Servers.first_from Servers.metadata_source Steps.applied_at Steps.begin Steps.commit Steps.covers Steps.fetch Steps.give Steps.node_at Steps.prepare Steps.prepared_at Steps.step Steps.by_rule Steps.lacks_room Steps.work Uses.checked_at Uses.deciding Uses.each Uses.item_of Uses.least Uses.locked_at Uses.read_items Uses.used_items ledger_from Every Some node_in dec_le ℕ_discrete
 computes = Unit {0}
 
 -- one server of 4 slots, one client

@@ -31,7 +31,7 @@ use Rattle.protocol.proofs.Laws.Changed.{upd_none}
 use Rattle.protocol.proofs.Laws.Hints.{objects}
 use Rattle.protocol.specs.State.{opened, is_decided}
 use Rattle.server.specs.declared.lock.Use.TheVariants.{Fetch}
-use Rattle.server.specs.Object.{object_of}
+use Rattle.nodes.specs.Object.{object_of}
 use Rattle.server.specs.Check.{held}
 use Rattle.server.specs.HandOut.{metadata_at, metadata_sound, vector_at}
 use Rattle.client.specs.declared.part.Set.TheVariants.{Reads}
@@ -84,7 +84,7 @@ use Rattle.client.specs.Run as Run
 use Rattle.client.specs.Work as Work
 use Rattle.client.specs.Items as I
 use Rattle.server.specs.Check as Chk
-use Rattle.server.specs.declared.object.Object.TheVariants as object
+use Rattle.nodes.specs.declared.object.Object.TheVariants as object
 use Rattle.server.specs.declared.place.Place.TheVariants as place
 use Rattle.steps.specs.Uses as U
 

@@ -22,7 +22,8 @@ use Rattle.server.specs.declared.place.Place.{Place}
 use Rattle.server.specs.declared.lock.Use.TheVariants.{Fetch}
 use Rattle.server.specs.Check.{held}
 use Rattle.server.specs.HandOut.{metadata_at, metadata_sound, vector_at}
-use Rattle.server.specs.Object.{object_of, Has}
+use Rattle.nodes.specs.Object.{object_of}
+use Rattle.server.specs.Object.{Has}
 use Rattle.server.specs.declared.place.Place.TheVariants.{Table}
 use Rattle.server.specs.Store.{lock_step, unlock_step, versions_row, versions_step}
 use Rattle.server.specs.Laws.Leaves.{lock_inside, unlock_inside, metadata_inside}

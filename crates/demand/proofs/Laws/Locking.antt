@@ -20,7 +20,8 @@ use Rattle.operations.proofs.Laws.Object.{inner}
 use Rattle.server.specs.declared.place.Place.{Place}
 use Rattle.server.specs.Layout.{place_again, places}
 use Rattle.server.specs.Lock.{locked, unlocked}
-use Rattle.server.specs.Object.{object_of, lock_of}
+use Rattle.nodes.specs.Object.{object_of}
+use Rattle.server.specs.Object.{lock_of}
 use Rattle.server.specs.Store.{lock_step, unlock_step}
 use Rattle.client.specs.declared.part.Set.TheVariants.{Reads, Writes}
 use Rattle.client.specs.Layout.{ClientWord}

@@ -11,10 +11,10 @@ use Rattle.nodes.specs.Name.{name, server_of, slot_of, name_in_store}
 use Rattle.nodes.specs.declared.node.Node.{Node}
 use Rattle.operations.specs.Object.{Obj, meta, node, flag}
 use Rattle.operations.proofs.Laws.Object.{inner}
-use Rattle.server.specs.declared.object.Object.{Object}
-use Rattle.server.specs.Object.{object_of, named}
+use Rattle.nodes.specs.declared.object.Object.{Object}
+use Rattle.nodes.specs.Object.{object_of, named}
 use Rattle.client.specs.Record.{number, by_number, value_of, in_store, object_in_store, number_in_store}
-use Rattle.server.specs.declared.object.Object.TheVariants as object
+use Rattle.nodes.specs.declared.object.Object.TheVariants as object
 use Rattle.client.specs.Items as I
 
 -- one of three by the object

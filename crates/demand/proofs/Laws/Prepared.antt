@@ -18,7 +18,8 @@ use Rattle.operations.proofs.Laws.Object.{inner}
 use Rattle.server.specs.declared.lock.Use.TheVariants.{Read, Write}
 use Rattle.server.specs.declared.place.Place.{Place}
 use Rattle.server.specs.Layout.{places}
-use Rattle.server.specs.Object.{object_of, lock_of}
+use Rattle.nodes.specs.Object.{object_of}
+use Rattle.server.specs.Object.{lock_of}
 use Rattle.server.specs.Lock.{busy, locked}
 use Rattle.server.specs.Store.{lock_step}
 use Rattle.client.specs.declared.part.Set.TheVariants.{Reads, Writes}

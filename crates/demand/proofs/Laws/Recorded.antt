@@ -17,7 +17,8 @@ use Rattle.server.specs.declared.lock.Use.{Use}
 use Rattle.server.specs.declared.lock.Use.TheVariants.{Read, Write}
 use Rattle.server.specs.declared.place.Place.{Place}
 use Rattle.server.specs.Layout.{places}
-use Rattle.server.specs.Object.{object_of, lock_of}
+use Rattle.nodes.specs.Object.{object_of}
+use Rattle.server.specs.Object.{lock_of}
 use Rattle.server.specs.Lock.{busy, locked, unlocked}
 use Rattle.server.specs.Laws.Lock.{reads, writes, no_other_writer, no_other_reader, write_locked, read_locked, read_locked_other, unlocked_reads_other, unlocked_writes_other}
 use Rattle.client.specs.Layout.{ClientWord}

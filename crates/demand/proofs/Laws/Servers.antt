@@ -16,7 +16,7 @@ use Rattle.layout.proofs.Laws.Step.{changed_append}
 use Rattle.layout.specs.Part.{over}
 use Rattle.layout.specs.Sweep.{sweep}
 use Rattle.operations.specs.Object.{Obj, meta, node, flag, root, taken}
-use Rattle.server.specs.declared.object.Object.{Object}
+use Rattle.nodes.specs.declared.object.Object.{Object}
 use Rattle.server.specs.declared.place.Place.{Place}
 use Rattle.server.specs.Layout.{place_again, places}
 use Rattle.server.specs.Object.{lock_of}
@@ -32,7 +32,7 @@ use Rattle.steps.proofs.Laws.Stores.{client_of, server_of, client_changed, clien
 use Rattle.demand.proofs.Laws.Frame.{Only, only_sweep, only_other}
 use Rattle.demand.proofs.Laws.Shows.{value_at, version_at, table_at}
 use Rattle.nodes.specs.Name as N
-use Rattle.server.specs.declared.object.Object.TheVariants as object
+use Rattle.nodes.specs.declared.object.Object.TheVariants as object
 use Rattle.server.specs.declared.place.Place.TheVariants as place
 use Rattle.steps.specs.Uses as U
 

@@ -14,7 +14,8 @@ use Rattle.protocol.specs.Lists.{Among}
 use Rattle.protocol.specs.State.{Phase, idle, opened, committing, decided}
 use Rattle.protocol.specs.Meaning.{Shown}
 use Rattle.server.specs.declared.place.Place.{Place}
-use Rattle.server.specs.Object.{object_of, lock_of}
+use Rattle.nodes.specs.Object.{object_of}
+use Rattle.server.specs.Object.{lock_of}
 use Rattle.server.specs.Laws.Lock.{reads, writes}
 use Rattle.client.specs.declared.part.Set.TheVariants.{Reads, Writes, Copies}
 use Rattle.client.specs.Layout.{ClientWord, phase, op_number, participants, prepared, applied, item, vector_word, meta_states, meta_root, meta_version}

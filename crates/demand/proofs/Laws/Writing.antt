@@ -17,7 +17,7 @@ use Rattle.operations.specs.Object.{Obj, meta, node, flag, Val, root, taken}
 use Rattle.server.specs.declared.place.Place.{Place}
 use Rattle.server.specs.declared.place.Place.TheVariants.{Root, Version, States, MetadataLock, Vector, Node, FlagLock, Table, NodeLock}
 use Rattle.server.specs.Layout.{place_again, places}
-use Rattle.server.specs.Object.{named}
+use Rattle.nodes.specs.Object.{named}
 use Rattle.server.specs.Store.{metadata_step, flag_step}
 use Rattle.nodes.specs.Stored.{node_of, words_of}
 use Rattle.nodes.proofs.Laws.Stored.{Sized, length_words, node_words}

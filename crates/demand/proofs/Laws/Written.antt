@@ -19,7 +19,7 @@ use Rattle.nodes.proofs.Laws.Range.{range_cases}
 use Rattle.operations.specs.Object.{Obj, meta, node, flag}
 use Rattle.server.specs.declared.place.Place.{Place}
 use Rattle.server.specs.Layout.{places}
-use Rattle.server.specs.Object.{named}
+use Rattle.nodes.specs.Object.{named}
 use Rattle.server.specs.Store.{metadata_step, flag_step, kept_of, home_step, table_step, node_step}
 use Rattle.client.specs.declared.part.Set.TheVariants.{Writes}
 use Rattle.client.specs.Layout.{ClientWord}

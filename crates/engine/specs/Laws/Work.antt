@@ -14,7 +14,8 @@ use Rattle.layout.specs.Step.{Does, silent}
 use Rattle.layout.specs.Part.{in_part}
 use Rattle.nodes.specs.Name.{server_of, slot_of, name_in_store}
 use Rattle.operations.specs.Operation.{all_fit?}
-use Rattle.server.specs.Object.{object_of, Has}
+use Rattle.nodes.specs.Object.{object_of}
+use Rattle.server.specs.Object.{Has}
 use Rattle.operations.specs.Entry.{Entries}
 use Rattle.client.specs.declared.part.Set.{Set}
 use Rattle.client.specs.declared.part.Set.TheVariants.{Reads, Writes}

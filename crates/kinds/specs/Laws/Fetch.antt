@@ -12,11 +12,12 @@ use borrow.Rule.Slice.PartMut.{mid_of}
 use Rattle.std.proofs.Math.ListN.{get_or}
 use Rattle.std.proofs.Math.Seq.{get_or-take, get_or-drop}
 use Rattle.memory.specs.Word.{view}
-use Rattle.server.specs.declared.object.Object.{Object}
+use Rattle.nodes.specs.declared.object.Object.{Object}
 use Rattle.server.specs.declared.lock.Use.TheVariants.{Fetch}
 use Rattle.server.specs.declared.check.Finding.{Finding}
 use Rattle.server.specs.declared.check.Finding.TheVariants.{Busy}
-use Rattle.server.specs.Object.{object_of, lock_of, Has}
+use Rattle.nodes.specs.Object.{object_of}
+use Rattle.server.specs.Object.{lock_of, Has}
 use Rattle.server.specs.Check.{can_check, standing, mark_finding, checked, held, finding_number}
 use Rattle.client.specs.declared.answer.Look.{Look}
 use Rattle.client.specs.declared.part.Set.TheVariants.{Reads}

@@ -14,9 +14,10 @@ use Rattle.server.specs.declared.check.Finding.{Finding}
 use Rattle.server.specs.declared.check.Finding.TheVariants.{Busy}
 use Rattle.server.specs.declared.lock.Use.{Use}
 use Rattle.server.specs.declared.lock.Use.TheVariants.{Fetch, Read, Write}
-use Rattle.server.specs.declared.object.Object.{Object}
+use Rattle.nodes.specs.declared.object.Object.{Object}
 use Rattle.server.specs.declared.place.Place.{Place}
-use Rattle.server.specs.Object.{object_of, lock_of}
+use Rattle.nodes.specs.Object.{object_of}
+use Rattle.server.specs.Object.{lock_of}
 use Rattle.server.specs.Lock.{busy}
 use Rattle.server.specs.Laws.Lock.{free_range}
 use Rattle.server.specs.Check.{standing, mark_finding, checked, held, finding_number}

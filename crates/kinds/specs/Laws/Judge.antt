@@ -11,9 +11,10 @@ use Rattle.std.proofs.Math.Dec.{ltb}
 use Rattle.memory.specs.Word.{view}
 use Rattle.memory.specs.Bit.{bit}
 use Rattle.layout.specs.Space.{Valid, mem}
-use Rattle.server.specs.declared.object.Object.{Object}
+use Rattle.nodes.specs.declared.object.Object.{Object}
 use Rattle.server.specs.declared.place.Place.{Place}
-use Rattle.server.specs.Object.{object_of, lock_of, Has}
+use Rattle.nodes.specs.Object.{object_of}
+use Rattle.server.specs.Object.{lock_of, Has}
 use Rattle.server.specs.Lock.{lock_in_range}
 use Rattle.client.specs.declared.part.Set.{Set}
 use Rattle.client.specs.declared.part.Set.TheVariants.{Writes}

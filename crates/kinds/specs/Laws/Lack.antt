@@ -12,7 +12,8 @@ use Rattle.layout.specs.Part.{in_part}
 use Rattle.nodes.specs.declared.node.Node.{Node}
 use Rattle.server.specs.declared.hand_out.Metadata.{Metadata}
 use Rattle.server.specs.declared.lock.Use.TheVariants.{Fetch}
-use Rattle.server.specs.Object.{object_of, Has}
+use Rattle.nodes.specs.Object.{object_of}
+use Rattle.server.specs.Object.{Has}
 use Rattle.server.specs.Check.{held}
 use Rattle.server.specs.HandOut.{metadata_at, metadata_sound, vector_at}
 use Rattle.client.specs.Layout.{ClientWord, reads_count}

@@ -16,8 +16,9 @@ use Rattle.layout.proofs.Laws.Part.{good_all, over_append}
 use Rattle.layout.specs.Sweep.{sweep}
 use Rattle.layout.proofs.Laws.Sweep.{sweep_valid}
 use Rattle.server.specs.declared.place.Place.{Place}
-use Rattle.server.specs.declared.object.Object.{Object}
-use Rattle.server.specs.Object.{object_of, Has}
+use Rattle.nodes.specs.declared.object.Object.{Object}
+use Rattle.nodes.specs.Object.{object_of}
+use Rattle.server.specs.Object.{Has}
 use Rattle.server.specs.Store.{lock_step, unlock_step}
 use Rattle.client.specs.declared.part.Set.TheVariants.{Reads}
 use Rattle.client.specs.Layout.{ClientWord}

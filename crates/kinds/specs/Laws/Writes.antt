@@ -18,7 +18,8 @@ use Rattle.layout.proofs.Laws.Sweep.{sweep_valid}
 use Rattle.nodes.specs.declared.node.Node.{Node}
 use Rattle.nodes.specs.Name.{server_of}
 use Rattle.server.specs.declared.place.Place.{Place}
-use Rattle.server.specs.Object.{object_of, named, Has}
+use Rattle.nodes.specs.Object.{object_of, named}
+use Rattle.server.specs.Object.{Has}
 use Rattle.server.specs.Store.{metadata_step, flag_step, home_step, table_step, node_step}
 use Rattle.client.specs.declared.part.Set.TheVariants.{Reads, Writes}
 use Rattle.client.specs.Layout.{ClientWord}

@@ -19,7 +19,7 @@ use Rattle.nodes.specs.Stored.{node_of}
 use Rattle.nodes.specs.States.{metadata_fits}
 use Rattle.server.specs.declared.place.Place.{Place}
 use Rattle.server.specs.declared.place.Place.TheVariants.{Root, Version, States}
-use Rattle.server.specs.Object.{object_of, named}
+use Rattle.nodes.specs.Object.{object_of, named}
 use Rattle.server.specs.declared.check.Finding.TheVariants.{Same, Differs, Busy}
 use Rattle.server.specs.declared.lock.Use.{Use}
 use Rattle.server.specs.Check.{can_check, mark_place, mark_in, standing, held, mark_fits, mark_finding, checked, finding_number}
@@ -31,7 +31,7 @@ use Rattle.steps.specs.Steps.{node_at}
 use Rattle.ranges.specs.Laws.Sound.{Sound, ServerSound}
 use Rattle.ranges.proofs.Laws.Stored.{fits_parts, metadata_parts}
 use Rattle.nodes.specs.Name as N
-use Rattle.server.specs.declared.object.Object.TheVariants as object
+use Rattle.nodes.specs.declared.object.Object.TheVariants as object
 use Rattle.steps.specs.Uses as U
 
 module _ (slots : ℕ) (s : ℕ) (p : Place → ℕ) (good : ServerSound slots s p) where

@@ -16,7 +16,7 @@ use Rattle.nodes.specs.Stored.{node_of}
 use Rattle.operations.specs.Object.{Obj, meta, node, flag, Ask, object, vector, fetched}
 use Rattle.operations.proofs.Laws.Storable.{every_append}
 use Rattle.server.specs.declared.lock.Use.TheVariants.{Fetch}
-use Rattle.server.specs.Object.{object_of}
+use Rattle.nodes.specs.Object.{object_of}
 use Rattle.server.specs.Check.{can_check, held, checked, finding_number}
 use Rattle.server.specs.HandOut.{metadata_at, metadata_sound, vector_at}
 use Rattle.client.specs.declared.part.Set.TheVariants.{Reads}

@@ -6,7 +6,8 @@ use Prim.Native.Nat.{ℕ, suc, ◌+◌, ◌-◌, ◌≤◌, ◌<◌, Fin}
 use Rattle.std.proofs.Math.Decide.{dec_lt}
 use Rattle.memory.specs.Bit.{bit}
 use Rattle.operations.specs.Object.{Obj}
-use Rattle.server.specs.Object.{object_of, lock_of}
+use Rattle.nodes.specs.Object.{object_of}
+use Rattle.server.specs.Object.{lock_of}
 use Rattle.server.specs.Laws.Lock.{reads, writes, range_writes}
 use Rattle.client.specs.declared.part.Set.TheVariants.{Reads}
 use Rattle.client.specs.Layout.{ClientWord, phase, prepared, writes_count}

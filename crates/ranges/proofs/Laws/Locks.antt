@@ -15,7 +15,8 @@ use Rattle.nodes.specs.Found.{Found}
 use Rattle.std.specs.Prelude.{Some, None}
 use Rattle.operations.specs.Object.{Obj}
 use Rattle.server.specs.declared.place.Place.{Place}
-use Rattle.server.specs.Object.{object_of, lock_of}
+use Rattle.nodes.specs.Object.{object_of}
+use Rattle.server.specs.Object.{lock_of}
 use Rattle.server.specs.Lock.{locked, lock_in_range}
 use Rattle.server.specs.Laws.Lock.{locked_range}
 use Rattle.client.specs.declared.part.Set.TheVariants.{Reads, Writes, Copies}

@@ -11,11 +11,12 @@ use Rattle.nodes.specs.Node.{made}
 use Rattle.nodes.specs.Range.{node_in_range}
 use Rattle.nodes.specs.States.{states_fit, first_states, metadata_fits}
 use Rattle.nodes.specs.Stored.{node_of}
-use Rattle.server.specs.declared.object.Object.{Object}
+use Rattle.nodes.specs.declared.object.Object.{Object}
 use Rattle.server.specs.declared.place.Place.{Place}
 use Rattle.server.specs.declared.place.Place.TheVariants.{Root, Version, States, MetadataLock, FlagLock, Table, NodeLock}
 use Rattle.server.specs.Layout.{places}
-use Rattle.server.specs.Object.{object_of, lock_of}
+use Rattle.nodes.specs.Object.{object_of}
+use Rattle.server.specs.Object.{lock_of}
 use Rattle.server.specs.Laws.Lock.{reads, writes, free_range}
 use Rattle.server.specs.Laws.Fresh.{fresh, fresh_states}
 use Rattle.client.specs.Layout.{ClientWord}
@@ -32,7 +33,7 @@ use Rattle.demand.proofs.Laws.Opened.{zero_at, empty_node, root_node, no_client,
 use Rattle.demand.proofs.Laws.Turns.{store}
 use Rattle.ranges.specs.Laws.Sound.{NodeSound, Sound, PartSound, ServerSound, LockSound, LocksSound, SoundStore}
 use Rattle.nodes.specs.Name as N
-use Rattle.server.specs.declared.object.Object.TheVariants as object
+use Rattle.nodes.specs.declared.object.Object.TheVariants as object
 
 -- ---- locks are no part of it
 module _ (slots : ℕ) (s : ℕ) where

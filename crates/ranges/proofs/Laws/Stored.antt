@@ -21,7 +21,7 @@ use Rattle.nodes.proofs.Laws.Stored.{Sized, length_words, node_words}
 use Rattle.server.specs.declared.place.Place.{Place}
 use Rattle.server.specs.declared.place.Place.TheVariants.{Root, Version, States, MetadataLock, Vector, Node, FlagLock, Table, NodeLock}
 use Rattle.server.specs.Layout.{place_code, place_again, places}
-use Rattle.server.specs.Object.{named}
+use Rattle.nodes.specs.Object.{named}
 use Rattle.server.specs.Store.{kept_of, versions_row, versions_step, metadata_step, flag_step, home_step, table_step, node_step}
 use Rattle.client.specs.declared.part.Set.TheVariants.{Writes}
 use Rattle.client.specs.Layout.{ClientWord}

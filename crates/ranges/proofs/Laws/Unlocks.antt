@@ -14,7 +14,8 @@ use Rattle.layout.proofs.Laws.Step.{changed_append}
 use Rattle.operations.specs.Object.{Obj}
 use Rattle.server.specs.declared.place.Place.{Place}
 use Rattle.server.specs.Layout.{places}
-use Rattle.server.specs.Object.{object_of, lock_of}
+use Rattle.nodes.specs.Object.{object_of}
+use Rattle.server.specs.Object.{lock_of}
 use Rattle.server.specs.Lock.{unlocked, lock_in_range}
 use Rattle.server.specs.Laws.Lock.{unlocked_range}
 use Rattle.client.specs.Layout.{ClientWord, client_words, phase, participants, prepared, applied}

@@ -10,7 +10,8 @@ use Rattle.nodes.specs.Range.{node_in_range}
 use Rattle.operations.specs.Object.{Obj}
 use Rattle.server.specs.declared.place.Place.{Place}
 use Rattle.server.specs.declared.place.Place.TheVariants.{Root, Version, States, Table}
-use Rattle.server.specs.Object.{object_of, lock_of}
+use Rattle.nodes.specs.Object.{object_of}
+use Rattle.server.specs.Object.{lock_of}
 use Rattle.server.specs.Laws.Lock.{reads, writes}
 use Rattle.client.specs.declared.part.Set.TheVariants.{Reads, Writes, Copies}
 use Rattle.client.specs.Layout.{ClientWord, field, item, vector_word, phase, participants, prepared, applied, meta_states, meta_root, meta_version}

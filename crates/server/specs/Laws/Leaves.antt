@@ -16,7 +16,7 @@ use Rattle.nodes.specs.Flags.{with_flag, all_flags}
 use Rattle.nodes.specs.Stored.{node_of, words_of}
 use Rattle.nodes.proofs.Laws.Stored.{Sized, length_words, node_words}
 use Rattle.nodes.specs.declared.name.Name.{Name}
-use Rattle.server.specs.declared.object.Object.{Object}
+use Rattle.nodes.specs.declared.object.Object.{Object}
 use Rattle.server.specs.declared.place.Place.{Place}
 use Rattle.server.specs.declared.place.Place.TheVariants.{Root, Version, States, MetadataLock, Vector, Node, FlagLock, Table, NodeLock}
 use Rattle.nodes.proofs.Laws.Bits.{flag_read}
@@ -29,7 +29,7 @@ use Rattle.server.specs.Store.{lock_step, unlock_step, metadata_step, flag_step,
 use Rattle.server.specs.Laws.Store.{slot_there, table_there}
 use Rattle.server.specs.HandOut.{metadata_at, vector_at, node_here}
 use Rattle.nodes.specs.declared.node.Node as node
-use Rattle.server.specs.declared.object.Object.TheVariants as object
+use Rattle.nodes.specs.declared.object.Object.TheVariants as object
 
 -- the kinds of things stored: 0 metadata, 1 flags, 2 nodes, 3 versions in the table, 4 locks
 abbrev pub kind : Place → ℕ

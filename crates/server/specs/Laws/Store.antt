@@ -7,7 +7,7 @@ use Rattle.nodes.specs.declared.name.Name.{Name}
 use Rattle.server.specs.declared.place.Place.TheVariants.{Table, Node}
 use Rattle.server.specs.Layout.{places, server_block}
 use Rattle.server.specs.Object.{lock_of, Has}
-use Rattle.server.specs.declared.object.Object.TheVariants as object
+use Rattle.nodes.specs.declared.object.Object.TheVariants as object
 
 -- ---- where they are stored
 pub slot_there : (n k : ℕ) (x : Name) → Has n (object.Node x) → k ≡ slot_of x.number → k < n

@@ -7,7 +7,8 @@ use Rattle.base.specs.Test.{and_both}
 use Rattle.layout.specs.Block.{In}
 use Rattle.layout.specs.Space.{Valid}
 use Rattle.nodes.specs.Name.{server_of, slot_of, name_in_store}
-use Rattle.server.specs.Object.{object_of, lock_of, Has}
+use Rattle.nodes.specs.Object.{object_of}
+use Rattle.server.specs.Object.{lock_of, Has}
 use Rattle.client.specs.Record.{in_store, number_in_store}
 
 pub named_in : (slots n : ℕ) → in_store slots n ≡ true → (server_of n < 8) × (slot_of n < slots)

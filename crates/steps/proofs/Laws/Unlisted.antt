@@ -7,7 +7,7 @@ use Rattle.layout.specs.Space.{Put}
 use Rattle.operations.specs.Entry.{Entries}
 use Rattle.server.specs.declared.lock.Use.TheVariants.{Fetch}
 use Rattle.server.specs.declared.place.Place.{Place}
-use Rattle.server.specs.Object.{object_of}
+use Rattle.nodes.specs.Object.{object_of}
 use Rattle.server.specs.Check.{held}
 use Rattle.client.specs.Layout.{ClientWord, phase}
 use Rattle.client.specs.Participants.{participants_of}

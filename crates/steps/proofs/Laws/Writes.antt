@@ -12,8 +12,9 @@ use Rattle.nodes.specs.Stored.{node_of}
 use Rattle.nodes.proofs.Laws.Stored.{Sized}
 use Rattle.server.specs.declared.place.Place.{Place}
 use Rattle.server.specs.Layout.{places, server_block}
-use Rattle.server.specs.Object.{object_of, named, Has}
-use Rattle.server.specs.Laws.Object.{is_node}
+use Rattle.nodes.specs.Object.{object_of, named}
+use Rattle.server.specs.Object.{Has}
+use Rattle.nodes.proofs.Laws.Object.{is_node}
 use Rattle.server.specs.Store.{kept_of, flag_step}
 use Rattle.server.specs.Laws.Leaves.{metadata_inside, flag_inside, node_inside}
 use Rattle.client.specs.declared.part.Set.{Set}
@@ -25,7 +26,7 @@ use Rattle.client.specs.Items.{inner_before_after}
 use Rattle.client.specs.Participants.{at_home}
 use Rattle.client.specs.Drops.{next_version}
 use Rattle.steps.specs.Steps.{store_write}
-use Rattle.server.specs.declared.object.Object.TheVariants as object
+use Rattle.nodes.specs.declared.object.Object.TheVariants as object
 
 -- a record of a set has whole arrays, and so has what is kept of it
 record_sized : (m : ClientWord → ℕ) (s : Set) (i : ℕ) → Sized (record_at m s i)

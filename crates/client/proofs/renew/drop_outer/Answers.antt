@@ -13,4 +13,4 @@ returns-else-not-inner_at c =
     outer_inner _ _ _ c.number_at-number.ensures b.0 _ b.1 c.inner_at.ensures (search rules)
 
 pub returns-in_default : goal.returns-in_default
-returns-in_default c = outer_other _ _ _ c.number_at-number.ensures _ c.numbered.ensures.bounds c.in_default.not-Node
+returns-in_default c = outer_other _ _ _ c.number_at-number.ensures _ c.from.ensures.bounds c.in_default.not-Node

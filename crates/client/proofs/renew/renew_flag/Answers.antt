@@ -6,4 +6,4 @@ pub returns-in-Flag : goal.returns-in-Flag
 returns-in-Flag c = search (flag_put, rules)
 
 pub returns-in_default : goal.returns-in_default
-returns-in_default c = flag_other _ _ _ c.number_at.ensures _ c.numbered.ensures.bounds c.in_default.not-Flag
+returns-in_default c = flag_other _ _ _ c.number_at.ensures _ c.from.ensures.bounds c.in_default.not-Flag

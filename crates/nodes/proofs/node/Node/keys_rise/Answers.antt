@@ -9,7 +9,7 @@ returns-then-self-i c = search (not_risen, risen_all, risen_first, risen_more, r
 
 pub loop-i-preserved : goal.loop-i-preserved
 unfolding keys_of
-loop-i-preserved c = search (not_risen, risen_all, risen_first, risen_more, rules)
+loop-i-preserved c = search (risen_more, rules)
 
 pub returns : goal.returns
 unfolding keys_of

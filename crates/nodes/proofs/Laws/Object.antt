@@ -4,9 +4,9 @@ use Rattle.std.proofs.Common.{sym, ap, ◌∙◌, arith, eq-eqb, ne_eqb, le-leb}
 use Rattle.std.proofs.Math.Decide.{ℕ_discrete, dec_le}
 use Rattle.std.proofs.lemmas.Bool.{lt-leb}
 use Rattle.nodes.specs.declared.name.Name.{Name}
-use Rattle.server.specs.declared.object.Object.{Object}
-use Rattle.server.specs.declared.object.Object.TheVariants.{Metadata, Node, Flag}
-use Rattle.server.specs.Object.{named, object_of}
+use Rattle.nodes.specs.declared.object.Object.{Object}
+use Rattle.nodes.specs.declared.object.Object.TheVariants.{Metadata, Node, Flag}
+use Rattle.nodes.specs.Object.{named, object_of}
 
 -- numbers in the order of checking: "metadata, nodes by name, flags by name"
 unfoldable pub number_of : Object → ℕ
