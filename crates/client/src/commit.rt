@@ -53,8 +53,7 @@ fn home_of(number: u64) -> u64
 {
     match Object::from(number) {
         Object::Metadata => 0,
-        Object::Node(name) => name.server(),
-        Object::Flag(name) => name.server(),
+        Object::Node(name) | Object::Flag(name) => name.server(),
     }
 }
 

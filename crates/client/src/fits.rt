@@ -34,8 +34,7 @@ fn number_in_store(slots: usize, number: u64) -> bool
 {
     match Object::from(number) {
         Object::Metadata => true,
-        Object::Node(name) => in_store(slots, name.number),
-        Object::Flag(name) => in_store(slots, name.number),
+        Object::Node(name) | Object::Flag(name) => in_store(slots, name.number),
     }
 }
 

@@ -55,8 +55,7 @@ pub fn is_home(server: u64, number: u64) -> bool
 {
     match Object::from(number) {
         Object::Metadata => true,
-        Object::Node(name) => name.server() == server,
-        Object::Flag(name) => name.server() == server,
+        Object::Node(name) | Object::Flag(name) => name.server() == server,
     }
 }
 

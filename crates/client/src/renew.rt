@@ -155,6 +155,7 @@ fn renew_flag(part: &mut [u8], i: usize)
     }
 }
 
+// Three loops of one line each: one function over the step would have to say of every step what these say of theirs, and be no shorter.
 fn drop_outers(part: &mut [u8])
     requires { ClientPart part.old }
     ensures { Did (for_writes drop_outer) part.old part.new }

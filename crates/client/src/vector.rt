@@ -53,6 +53,7 @@ pub fn seen_words(part: &[u8], s: usize) -> [u64; 16]
 {
     let mut words = vector_copy(part, s);
     for i in 0..count(part, Set::Writes) {
+        // by way of `next`: the checker takes no call's array straight into a variable that changes
         let next = counted_one(part, s, i, words);
         words = next;
     }

@@ -10,7 +10,3 @@ returns-in-Metadata c = grind (arith, common_steps)
 pub returns-in-Node : goal.returns-in-Node
 unfolding at_home
 returns-in-Node c = grind (arith, common_steps)
-
-pub returns-in-Flag : goal.returns-in-Flag
-unfolding at_home
-returns-in-Flag c = grind (arith, common_steps)
