@@ -7,16 +7,16 @@ use Rattle.memory.specs.Bit.{bit}
 use Rattle.nodes.specs.declared.node.Node.{Node}
 use Rattle.nodes.specs.Found.{Found}
 use Rattle.std.specs.Prelude.{Some, None}
+use Rattle.std.specs.Prelude as std
+use Rattle.std.specs.Prelude.{IfSome}
 use Rattle.nodes.specs.Node.{free_node}
 use Rattle.nodes.specs.Stored.{node_at}
 use Rattle.nodes.specs.Range.{node_in_range}
 use Rattle.nodes.specs.Name.{server_of, slot_of}
 use Rattle.nodes.specs.States.{metadata_fits}
-use Rattle.operations.specs.Object.{Obj, Ask, object, vector, fetched, Val, flags}
-use Rattle.client.specs.declared.answer.How.{How}
-use Rattle.client.specs.declared.answer.How.TheVariants.{Here, Copied, Lacking}
-use Rattle.client.specs.declared.answer.Look.{Look}
-use Rattle.client.specs.declared.answer.Stand.{Stand}
+use Rattle.operations.specs.Object.{Obj, node, Ask, object, vector, fetched, Val, flags}
+use Rattle.client.specs.declared.answer.Have.{Have}
+use Rattle.client.specs.declared.answer.Have.TheVariants as code
 use Rattle.client.specs.declared.answer.Short.{Short}
 use Rattle.client.specs.declared.part.Set.TheVariants.{Reads, Writes, Copies}
 use Rattle.client.specs.Layout.{ClientWord, vector_word, meta_states, meta_root, meta_version, record_words, client_length}
@@ -26,7 +26,17 @@ use Rattle.client.specs.Sets.{held, record_at, find}
 use Rattle.client.specs.Vectors.{has_vector, seen_words, vector_fits, is_fetched}
 use Rattle.nodes.specs.Flags as N
 
+-- how an object is known: it is in a set, there is a copy of it, or it is to be fetched
+pub data How : Type 0 where
+  Here : How
+  Copied : How
+  Lacking : How
+
 -- what is known of an object: how, and its record
+pub record Look : Type 0 where
+  pub how : How
+  pub node : Node
+
 abbrev pub known_as : How → Node → Look
 known_as h r = record { how = h; node = r }
 
@@ -54,13 +64,55 @@ is_copied Here = false
 is_copied Copied = true
 is_copied Lacking = false
 
--- what the code says of a node, over the words w of the part: how it is known, and from which word on its record stands there
-abbrev pub stood : List ℕ → Stand → Look
-stood w s = known_as s.how (cond (is_found s.how) (node_at w s.at) (free_node 0))
+-- ---- what the code has of an object: with Here and Copied something stands for its record
+abbrev pub how : {A : Type 0} → Have A → How
+how (code.Here x) = Here
+how (code.Copied x) = Copied
+how code.Lacking = Lacking
 
--- what it says of the metadata or a flag: how it is known, its version and its value, and of the metadata the servers' states
-abbrev pub short : Look → Short
-short l = record { how = l.how; version = l.node.version; value = first_slot l.node; states = second_slot l.node }
+-- it has x
+abbrev pub Has : {A : Type 0} → Have A → A → Type 0
+Has (code.Here y) x = y ≡ x
+Has (code.Copied y) x = y ≡ x
+Has code.Lacking x = ⊥
+
+-- P of what it has, if it has anything
+abbrev pub IfThere : {A : Type 0} → Have A → (A → Type 0) → Type 0
+IfThere (code.Here x) P = P x
+IfThere (code.Copied x) P = P x
+IfThere code.Lacking P = Unit {0}
+
+-- of a node: from which word on its record stands, among the words w of the part
+abbrev pub stood : List ℕ → Have ℕ → Look
+stood w (code.Here at) = here (node_at w at)
+stood w (code.Copied at) = copy (node_at w at)
+stood w code.Lacking = lacking
+
+abbrev pub StandsInPart : Have ℕ → Type 0
+StandsInPart f = IfThere f (λ at. at + record_words ≤ client_length)
+
+-- of the metadata or a flag: its version and its value, and of the metadata the servers' states
+abbrev pub short_of : Node → Short
+short_of r = record { version = r.version; value = first_slot r; states = second_slot r }
+
+abbrev pub short_as : How → Node → Have Short
+short_as Here r = code.Here (short_of r)
+short_as Copied r = code.Copied (short_of r)
+short_as Lacking r = code.Lacking
+
+abbrev pub short : Look → Have Short
+short l = short_as l.how l.node
+
+abbrev pub metadata_of : Short → Node
+metadata_of s = metadata s.version s.value s.states
+
+-- of a copy: its record
+abbrev pub OptionInPart : Found → Type 0
+OptionInPart o = IfSome o (λ at. at + record_words ≤ client_length)
+
+abbrev pub copy_or_lacking : std.Option Node → Look
+copy_or_lacking (Some r) = copy r
+copy_or_lacking None = lacking
 
 -- the number of a node
 pub record IsNode (x : ℕ) : Type 0 where
@@ -110,24 +162,33 @@ module _ (m : ClientWord → ℕ) where
   unfoldable pub source : ℕ → Look
   source x = or_read x (find m Writes x)
 
--- x was looked for in both sets, in a part of the bytes b: it stands there, or what there is of it is a copy
-pub record InSets (b : List ℕ) (x : ℕ) (s : Stand) : Type 0 where
-  pub how : s.how ≡ cond (is_found s.how) Here Lacking
-  pub found : is_found s.how ≡ true → stood (view b) s ≡ source (held b) x
-  pub absent : is_found s.how ≡ false → source (held b) x ≡ copied (held b) x
-  pub within : s.at + record_words ≤ client_length
+-- x was looked for in both sets, in a part of the bytes b: its record stands there, or what there is of it is a copy
+abbrev pub InSets : List ℕ → ℕ → Found → Type 0
+InSets b x (Some at) = (here (node_at (view b) at) ≡ source (held b) x) × (at + record_words ≤ client_length)
+InSets b x None = source (held b) x ≡ copied (held b) x
 
 -- may a node known in that way be used: it is in range, and a copy is inner
 unfoldable pub node_usable : How → Node → Bool
 node_usable h r = node_in_range r && (not (is_copied h) || eqb r.kind 2)
 
+-- as the code has it, among the words w of the part
+unfoldable pub stand_usable : List ℕ → Have ℕ → Bool
+stand_usable w f = is_found (how f) && node_usable (how f) (stood w f).node
+
 -- may the metadata be used, as the code has it
-unfoldable pub meta_usable : ℕ → Short → Bool
-meta_usable slots s = metadata_fits slots s.value s.states s.version
+abbrev pub short_meta_usable : ℕ → Short → Bool
+short_meta_usable slots s = metadata_fits slots s.value s.states s.version
+
+unfoldable pub meta_usable : ℕ → Have Short → Bool
+meta_usable slots (code.Here s) = short_meta_usable slots s
+meta_usable slots (code.Copied s) = short_meta_usable slots s
+meta_usable slots code.Lacking = false
 
 -- may the flag of that name be used, as the code has it
-unfoldable pub flag_usable : (ClientWord → ℕ) → ℕ → Short → Bool
-flag_usable m n s = leb s.value 1 && (not (is_copied s.how) || eqb (m (vector_word (server_of n) 0)) 1)
+unfoldable pub flag_usable : (ClientWord → ℕ) → ℕ → Have Short → Bool
+flag_usable m n (code.Here s) = leb s.value 1
+flag_usable m n (code.Copied s) = leb s.value 1 && eqb (m (vector_word (server_of n) 0)) 1
+flag_usable m n code.Lacking = false
 
 module _ (slots : ℕ) (m : ClientWord → ℕ) where
   -- the record is in range, and where it is a copy, so is that

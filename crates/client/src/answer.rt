@@ -1,76 +1,32 @@
-// What a lookup says.
+// What a client has of an object.
 ghost use Rattle.std.specs.Prelude.{◌≡◌};
-ghost use Rattle.client.specs.Have.{copy, lacking, is_found, is_copied};
+ghost use Rattle.client.specs.Have.{how, is_copied};
 
-use nodes::node::Node;
-
-// Here: in a set. Copied: a copy. Lacking: to be fetched.
+// Here: in a set. Copied: a copy. Lacking: it is to be fetched.
 #[derive(Clone, Copy)]
-pub enum How {
-    Here,
-    Copied,
+pub enum Have<T> {
+    Here(T),
+    Copied(T),
     Lacking,
 }
 
-// With Here and Copied comes the object's record.
-#[derive(Clone, Copy)]
-pub struct Look {
-    pub how: How,
-    pub node: Node,
-}
-
-// Of a node, where its record stands: from word `at` of the part on.
-#[derive(Clone, Copy)]
-pub struct Stand {
-    pub how: How,
-    pub at: usize,
+impl<T> Have<T> {
+    // Is it a copy?
+    pub fn is_copied(&self) -> bool
+        ensures { result ≡ is_copied (how self.now) }
+    {
+        match self {
+            Have::Here(_) => false,
+            Have::Copied(_) => true,
+            Have::Lacking => false,
+        }
+    }
 }
 
 // Of the metadata or a flag, its version and its value; of the metadata the servers' states too.
 #[derive(Clone, Copy)]
 pub struct Short {
-    pub how: How,
     pub version: u64,
     pub value: u64,
     pub states: u64,
-}
-
-// Is there a record?
-pub fn is_found(how: How) -> bool
-    ensures { result ≡ is_found how }
-{
-    match how {
-        How::Here => true,
-        How::Copied => true,
-        How::Lacking => false,
-    }
-}
-
-// Is it a copy?
-pub fn is_copied(how: How) -> bool
-    ensures { result ≡ is_copied how }
-{
-    match how {
-        How::Here => false,
-        How::Copied => true,
-        How::Lacking => false,
-    }
-}
-
-pub fn copy(node: Node) -> Look
-    ensures { result ≡ copy node }
-{
-    Look {
-        how: How::Copied,
-        node,
-    }
-}
-
-pub fn lacking() -> Look
-    ensures { result ≡ lacking }
-{
-    Look {
-        how: How::Lacking,
-        node: Node::free(0),
-    }
 }

@@ -7,7 +7,7 @@ ghost use Rattle.client.specs.Answered.{used_enter};
 ghost use Rattle.client.specs.Layout.{ClientPart};
 ghost use Rattle.client.specs.Bounds.{end_of_numbers, own_most};
 
-use crate::lookup::copied;
+use crate::lookup::copied_record;
 use crate::own::own_record;
 use crate::part::{
     ITEM_WORDS, MOST_READ, MOST_WRITTEN, READS_COUNT, Set, WRITES_COUNT, count, find, set_field,
@@ -34,7 +34,7 @@ fn enter_copy(part: &mut [u8], number: u64)
     requires { (number < end_of_numbers) × ClientPart part.old }
     ensures { Did (enter_copy number) part.old part.new }
 {
-    enter_read(part, number, copied(part, number).node);
+    enter_read(part, number, copied_record(part, number));
 }
 
 // All copies that came into use.

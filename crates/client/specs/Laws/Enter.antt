@@ -9,7 +9,6 @@ use Rattle.layout.specs.Sweep.{sweep}
 use Rattle.nodes.specs.declared.node.Node.{Node}
 use Rattle.nodes.specs.Found.{Found}
 use Rattle.std.specs.Prelude.{Some, None}
-use Rattle.client.specs.declared.answer.Look.{Look}
 use Rattle.client.specs.declared.part.Set.TheVariants.{Reads, Writes}
 use Rattle.client.specs.Layout.{ClientWord, client_words}
 use Rattle.client.specs.Sets.{held, count, find}
@@ -39,9 +38,9 @@ good_read x n =
     (λ h. good_then (put_item Reads (count m Reads) x n) (put_field 10 (count m Reads + 1)) (good_item Reads (count m Reads) x n (ltb-true _ _ h)) (good_field 10 (count m Reads + 1) (omega arith)))
     (λ h. good_nothing))
 
-pub copy_entered : (s t : List ℕ) (x : ℕ) (l : Look) → l ≡ copied (held s) x → Did (enter_read x l.node) s t → Did (enter_copy x) s t
+pub copy_entered : (s t : List ℕ) (x : ℕ) (r : Node) → r ≡ (copied (held s) x).node → Did (enter_read x r) s t → Did (enter_copy x) s t
 unfolding enter_copy
-copy_entered s t x l e p = did_as (enter_read x l.node) (enter_copy x) s t (rw e) p
+copy_entered s t x r e p = did_as (enter_read x r) (enter_copy x) s t (rw e) p
 
 pub good_nth : (u : List ℕ) → EachGood (enter_nth u)
 unfolding enter_nth enter_copy
