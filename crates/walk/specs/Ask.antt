@@ -1,5 +1,5 @@
 -- What comes of a question: an own write of the operation, else what the part has.
-use Rattle.std.specs.Prelude.{◌≡◌, Bool, true, false, cond, List, [], ◌∷◌, ℕ, ◌+◌, ◌-◌, ◌≤◌, ◌<◌, length, get_or, set}
+use Rattle.std.specs.Prelude.{◌≡◌, Bool, true, false, cond, List, [], ◌∷◌, ℕ, ◌+◌, ◌-◌, ◌≤◌, ◌<◌, length, get_or, set, Result, Ok, Err, IfOk}
 use Rattle.std.proofs.Math.Option.{Option, none, some}
 use Rattle.nodes.specs.declared.node.Node.{Node}
 use Rattle.nodes.specs.Found.{Found}
@@ -10,22 +10,20 @@ use Rattle.nodes.specs.Stored.{node_at}
 use Rattle.memory.specs.Word.{view}
 use Rattle.operations.specs.Object.{Obj, meta, node, flag, object, Val, Writes, hit}
 use Rattle.operations.specs.Path.{TreePlan, see}
-use Rattle.client.specs.declared.answer.How.{How}
-use Rattle.walk.specs.declared.walk.Placed.{Placed}
-use Rattle.walk.specs.declared.walk.Seen.{Seen}
-use Rattle.walk.specs.declared.walk.Valued.{Valued}
+use Rattle.walk.specs.declared.walk.Meta.{Meta}
 use Rattle.walk.specs.declared.walk.Stop.{Stop}
 use Rattle.walk.specs.declared.walk.Stop.TheVariants.{LacksNode, LacksVector}
 use Rattle.client.specs.declared.part.Set.TheVariants.{Reads}
 use Rattle.client.specs.Layout.{ClientWord, ClientPart, record_words, client_length}
-use Rattle.client.specs.Record.{number, object_in_store, first_slot, value_of}
+use Rattle.client.specs.Record.{number, object_in_store, first_slot, value_of, single, metadata}
 use Rattle.client.specs.Sets.{count, held}
-use Rattle.client.specs.Have.{is_found, is_copied, source, look_fits}
+use Rattle.client.specs.Have.{How, is_found, is_copied, source, look_fits}
 use Rattle.client.specs.Run.{among}
 use Rattle.client.specs.Lent.{LentList, LentMut, OwnFits, own_find, own_record, own_count, own_list, used_in, pushed}
 use Rattle.client.specs.Answered.{entered}
 use Rattle.client.specs.Bounds.{end_of_numbers, first_flag_number, used_room, most_keys, highest_level, used_most}
-use Rattle.walk.specs.Walk.{goes, lack, walked, carry}
+use Rattle.walk.specs.Walk.{Course, Ended, course, ok_or, goes, lack, walked, carry}
+use Rattle.base.specs.Test.{one_if}
 
 -- ---- a node at hand has at most 14 keys, and a level of at most 4
 pub record SmallNode (r : Node) : Type 0 where
@@ -80,25 +78,24 @@ pub record Noted (m : ClientWord → ℕ) (u : List ℕ) : Type 0 where
 
 -- ---- what a question comes to
 -- for every way on, the walk of the plan is what was told, or goes on with the record's value
-pub record Asks (slots : ℕ) (m : ClientWord → ℕ) (w : Writes) (o : Obj) (u : List ℕ) (s : Stop) (r : Node) (u' : List ℕ) : Type 0 where
+pub record Asks (slots : ℕ) (m : ClientWord → ℕ) (w : Writes) (o : Obj) (u : List ℕ) (s : Course) (r : Node) (u' : List ℕ) : Type 0 where
   pub same : (k : Val → TreePlan) → walked slots m (see w o k) (used_in u) ≡ carry s (used_in u') (λ us. walked slots m (k (value_of o r)) us)
 
 -- an object that is in the store, by its number; l says what is lacking
-pub record Numbered (slots : ℕ) (m : ClientWord → ℕ) (x u : List ℕ) (n : ℕ) (l s : Stop) (r : Node) (u' : List ℕ) : Type 0 where
+pub record Numbered (slots : ℕ) (m : ClientWord → ℕ) (x u : List ℕ) (n : ℕ) (l : Stop) (s : Course) (r : Node) (u' : List ℕ) : Type 0 where
   pub asks : (o : Obj) → number o ≡ n → object_in_store slots o ≡ true → lack (object o) ≡ l → (w : Writes) → HoldsWrites slots x w → Asks slots m w o u s r u'
   pub noted : Noted m u'
   pub long : length u' ≡ length u
   pub small : (o : Obj) → number o ≡ n → object_in_store slots o ≡ true → Small o r
 
--- an object that is not in the store
+-- an object that is not in the store: it ends every walk
 pub record Outside (m : ClientWord → ℕ) (u : List ℕ) (s : Stop) (u' : List ℕ) : Type 0 where
-  pub asks : (slots : ℕ) (x : List ℕ) (o : Obj) → object_in_store slots o ≡ false → (w : Writes) → HoldsWrites slots x w → (r : Node) → Asks slots m w o u s r u'
+  pub asks : (slots : ℕ) (x : List ℕ) (o : Obj) → object_in_store slots o ≡ false → (w : Writes) → HoldsWrites slots x w → (r : Node) → Asks slots m w o u (Ended s) r u'
   pub noted : Noted m u'
   pub long : length u' ≡ length u
-  pub stops : goes s ≡ false
 
 -- any object, over whatever writes the lent list holds
-pub record Answer (slots : ℕ) (m : ClientWord → ℕ) (x u : List ℕ) (o : Obj) (s : Stop) (r : Node) (u' : List ℕ) : Type 0 where
+pub record Asked (slots : ℕ) (m : ClientWord → ℕ) (x u : List ℕ) (o : Obj) (s : Course) (r : Node) (u' : List ℕ) : Type 0 where
   pub asks : (w : Writes) → HoldsWrites slots x w → Asks slots m w o u s r u'
   pub noted : Noted m u'
   pub long : length u' ≡ length u
@@ -107,11 +104,11 @@ pub record Answer (slots : ℕ) (m : ClientWord → ℕ) (x u : List ℕ) (o : O
 
 -- ---- what the code is told
 -- the record that comes with Going
-abbrev pub given : Stop → Node → Node
+abbrev pub given : Course → Node → Node
 given s r = cond (goes s) r (free_node 0)
 
 -- the object with the number n was looked for: how it is known, and whether what is known of it may be used
-pub record Meets (m : ClientWord → ℕ) (u : List ℕ) (n : ℕ) (how : How) (right : Bool) (l s : Stop) (u' : List ℕ) : Type 0 where
+pub record Meets (m : ClientWord → ℕ) (u : List ℕ) (n : ℕ) (how : How) (right : Bool) (l : Stop) (s : Course) (u' : List ℕ) : Type 0 where
   pub numbered : (slots : ℕ) → how ≡ (source m n).how → (is_found how ≡ true → right ≡ look_fits slots m n (source m n))
       → Numbered slots m nothing u n l s (given s (source m n).node) u'
   pub found : goes s ≡ true → is_found how ≡ true
@@ -120,35 +117,48 @@ pub record Meets (m : ClientWord → ℕ) (u : List ℕ) (n : ℕ) (how : How) (
 abbrev pub InPart : ℕ → Type 0
 InPart place = place + record_words ≤ client_length
 
--- the node that stands at a place of a part of the bytes b
-abbrev pub placed_in : List ℕ → Placed → Node
-placed_in b p = given p.stop (node_at (view b) p.place)
+-- the records that the code is told: a node by value
+abbrev pub node_in : Result Node Stop → Node
+node_in = ok_or (free_node 0)
 
--- and with it
-abbrev pub seen_in : List ℕ → Placed → Seen
-seen_in b p = record { stop = p.stop; node = placed_in b p }
+-- a node that stands at a place of a part of the bytes b
+abbrev pub placed_in : List ℕ → Result ℕ Stop → Node
+placed_in b (Ok place) = node_at (view b) place
+placed_in b (Err s) = free_node 0
+
+-- the metadata
+abbrev pub meta_in : Result Meta Stop → Node
+meta_in (Ok r) = metadata 0 r.root r.states
+meta_in (Err s) = free_node 0
+
+-- a flag
+abbrev pub flag_in : Result Bool Stop → Node
+flag_in r = single 0 (one_if (ok_or false r))
 
 -- a node of the store, by its name
-pub record PlacedNode (b u : List ℕ) (n : ℕ) (p : Placed) (u' : List ℕ) : Type 0 where
-  pub numbered : (slots : ℕ) → Numbered slots (held b) nothing u (1 + n) (LacksNode n) p.stop (placed_in b p) u'
-  pub within : InPart p.place
+pub record PlacedNode (b u : List ℕ) (n : ℕ) (p : Result ℕ Stop) (u' : List ℕ) : Type 0 where
+  pub numbered : (slots : ℕ) → Numbered slots (held b) nothing u (1 + n) (LacksNode n) (course p) (placed_in b p) u'
+  pub within : IfOk p InPart
 
-pub record SeenNode (m : ClientWord → ℕ) (x u : List ℕ) (n : ℕ) (a : Seen) (u' : List ℕ) : Type 0 where
-  pub numbered : (slots : ℕ) → Numbered slots m x u (1 + n) (LacksNode n) a.stop a.node u'
+pub record SeenNode (m : ClientWord → ℕ) (x u : List ℕ) (n : ℕ) (a : Result Node Stop) (u' : List ℕ) : Type 0 where
+  pub numbered : (slots : ℕ) → Numbered slots m x u (1 + n) (LacksNode n) (course a) (node_in a) u'
 
 -- a flag of the store
-pub record AskedFlag (m : ClientWord → ℕ) (u : List ℕ) (n : ℕ) (v : Valued) (u' : List ℕ) : Type 0 where
+pub record AskedFlag (m : ClientWord → ℕ) (u : List ℕ) (n : ℕ) (v : Result ℕ Stop) (u' : List ℕ) : Type 0 where
   pub node : Node
-  pub numbered : (slots : ℕ) → Numbered slots m nothing u (first_flag_number + n) (LacksVector (server_of n)) v.stop node u'
-  pub value : goes v.stop ≡ true → v.value ≡ first_slot node
+  pub numbered : (slots : ℕ) → Numbered slots m nothing u (first_flag_number + n) (LacksVector (server_of n)) (course v) node u'
+  pub value : IfOk v (λ x. x ≡ first_slot node)
 
 -- the last copy taken back
 abbrev pub popped : List ℕ → List ℕ
 popped u = set u 0 (get_or u 0 0 - 1)
 
 -- a copy that is not in use yet comes into use
-unfoldable pub noted_copy : How → List ℕ → ℕ → List ℕ
-noted_copy d u n = cond (is_copied d) (cond (among n (used_in u)) u (pushed u n)) u
+unfoldable pub with_copy : List ℕ → ℕ → List ℕ
+with_copy u n = cond (among n (used_in u)) u (pushed u n)
+
+abbrev pub noted_copy : How → List ℕ → ℕ → List ℕ
+noted_copy d u n = cond (is_copied d) (with_copy u n) u
 
 -- ---- a statement of a walk over what the walk is lent: the slots on each server, what the client's part holds, the own writes, the copies in use
 abbrev pub over_lent : {A : Type 1} → (ℕ → (ClientWord → ℕ) → List ℕ → List ℕ → A) → ℕ → LentList → LentMut → LentMut → A

@@ -1,5 +1,5 @@
 -- The way down: what comes of the root, of a node below it, and of a path.
-use Rattle.std.specs.Prelude.{◌≡◌, Bool, true, false, List, [], ◌∷◌, map, ℕ, zero, suc, ◌-◌, ◌≤◌, ◌<◌, length, get_or}
+use Rattle.std.specs.Prelude.{◌≡◌, Bool, true, false, List, [], ◌∷◌, map, ℕ, zero, suc, ◌-◌, ◌≤◌, ◌<◌, length, get_or, Result, Ok, Err, IfOk}
 use Rattle.nodes.specs.declared.node.Node.{Node}
 use Rattle.nodes.specs.Node.{free_node}
 use Rattle.nodes.specs.Stored.{node_at}
@@ -11,19 +11,21 @@ use Rattle.operations.specs.Entry.{Entries}
 use Rattle.operations.specs.Path.{TreePlan, kid, when_root, at_root, Branch, Cont, down, from_root}
 use Rattle.walk.specs.declared.down.Turn.{Turn}
 use Rattle.walk.specs.declared.down.Descent.{Descent}
+use Rattle.walk.specs.declared.down.Lower.{Lower}
+use Rattle.walk.specs.declared.down.Rooted.{Rooted}
 use Rattle.walk.specs.declared.down.Pass.{Pass}
 use Rattle.walk.specs.declared.walk.Stop.{Stop}
 use Rattle.client.specs.Layout.{ClientWord}
 use Rattle.client.specs.Record.{in_store}
 use Rattle.client.specs.Lent.{LentList, LentMut, used_in}
 use Rattle.walk.specs.Entries.{opens, below, Inner, branch_of, Below}
-use Rattle.walk.specs.Walk.{goes, walked, carry}
-use Rattle.walk.specs.Ask.{SmallNode, HoldsWrites, Noted, InPart, over_read, lent_node}
+use Rattle.walk.specs.Walk.{Course, Going, Ended, course, ok_or, goes, walked, carry}
+use Rattle.walk.specs.Ask.{SmallNode, HoldsWrites, Noted, InPart, placed_in, over_read, lent_node}
 use Rattle.plans.specs.Plan as P
 use Rattle.client.specs.Bounds.{highest_level, level_count}
 
 -- a node of level l below the root, for any key lo from which it holds keys
-pub record Kid (slots : ℕ) (m : ClientWord → ℕ) (x u : List ℕ) (l n : ℕ) (s : Stop) (r : Node) (u' : List ℕ) : Type 0 where
+pub record Kid (slots : ℕ) (m : ClientWord → ℕ) (x u : List ℕ) (l n : ℕ) (s : Course) (r : Node) (u' : List ℕ) : Type 0 where
   pub asks : (w : Writes) → HoldsWrites slots x w → (lo : ℕ) (k : Entries → TreePlan)
       → walked slots m (kid w l lo n k) (used_in u) ≡ carry s (used_in u') (λ us. walked slots m (k (entries_of r lo)) us)
   pub noted : Noted m u'
@@ -34,7 +36,7 @@ pub record Kid (slots : ℕ) (m : ClientWord → ℕ) (x u : List ℕ) (l n : �
   pub inside : goes s ≡ true → in_store slots n ≡ true
 
 -- the root of that name
-pub record RootMet (slots : ℕ) (m : ClientWord → ℕ) (u : List ℕ) (n : ℕ) (s : Stop) (r : Node) (u' : List ℕ) : Type 0 where
+pub record RootMet (slots : ℕ) (m : ClientWord → ℕ) (u : List ℕ) (n : ℕ) (s : Course) (r : Node) (u' : List ℕ) : Type 0 where
   pub asks : (k : ℕ → Entries → TreePlan)
       → walked slots m (at_root n k) (used_in u) ≡ carry s (used_in u') (λ us. walked slots m (k r.level (entries_of r 0)) us)
   pub noted : Noted m u'
@@ -60,19 +62,20 @@ turn_in b p = record { name = p.name; at = p.at; node = node_at (view b) p.place
 abbrev pub turns_in : List ℕ → List Pass → List Turn
 turns_in b ps = map (turn_in b) ps
 
--- where a way down has come to: how it stopped, the root's level, the inner nodes passed by their levels, and the node reached
+-- where a way down has come to: how far the walk has come, the root's level, the inner nodes passed by their levels, and the node reached
 pub record Arrival : Type 0 where
-  pub stop : Stop
+  pub course : Course
   pub top : ℕ
   pub path : List Turn
   pub name : ℕ
   pub node : Node
 
-abbrev pub arrival : List ℕ → Descent → Arrival
-arrival b d = record { stop = d.stop; top = d.top; path = turns_in b d.path; name = d.name; node = node_at (view b) d.place }
+abbrev pub arrival : List ℕ → Result Descent Stop → Arrival
+arrival b (Ok d) = record { course = Going; top = d.top; path = turns_in b d.path; name = d.name; node = node_at (view b) d.place }
+arrival b (Err s) = record { course = Ended s; top = 0; path = []; name = 0; node = free_node 0 }
 
 -- the same over the lent part
-abbrev pub arrived : LentList → Descent → Arrival
+abbrev pub arrived : LentList → Result Descent Stop → Arrival
 arrived part d = arrival part.entry.now d
 
 -- every place of a path is one of the part
@@ -136,26 +139,37 @@ pub record Above (n : Node) (level : ℕ) : Type 0 where
   pub level_is : n.level ≡ level
   pub inner : 0 < level
 
--- a step down from it: s says how it went, i is the number of the child, c its name and r its node
-pub record Lowered (slots : ℕ) (m : ClientWord → ℕ) (u : List ℕ) (key level : ℕ) (n : Node) (s : Stop) (i c : ℕ) (r : Node) (u' : List ℕ) : Type 0 where
+-- a step down from it: s says how it went; if it goes on, i is the number of the child, c its name and r its node
+pub record Lowered (slots : ℕ) (m : ClientWord → ℕ) (u : List ℕ) (key level : ℕ) (n : Node) (s : Course) (i c : ℕ) (r : Node) (u' : List ℕ) : Type 0 where
   pub asks : (stop : ℕ → Bool) → stop level ≡ false → (k : Cont) (fs : List Branch) (nm lo : ℕ)
       → walked slots m (down stop key k level fs nm (entries_of n lo)) (used_in u)
       ≡ carry s (used_in u') (λ us. walked slots m
       (down stop key k (level - 1) (branch_of nm i (entries_of n lo) ∷ fs) c (entries_of r (get_or (entries_of n lo) i (0, 0)).0)) us)
   pub noted : Noted m u'
   pub long : length u' ≡ length u
-  pub within : i ≤ n.count
-  pub turned : Followed (record { name = 0; at = i; node = n })
+  pub turned : goes s ≡ true → Followed (record { name = 0; at = i; node = n })
   pub small : goes s ≡ true → SmallNode r
   pub whole : goes s ≡ true → Whole r
   pub fits : goes s ≡ true → Below (level - 1) r
-  pub child : c ≡ get_or n.slots i 0
+  pub child : goes s ≡ true → c ≡ get_or n.slots i 0
   pub inside : goes s ≡ true → in_store slots c ≡ true
 
--- over what the walk is lent: from the node at a place to the one at another
-abbrev pub Lowers : ℕ → LentList → LentMut → ℕ → ℕ → ℕ → Stop → ℕ → ℕ → ℕ → Type 0
-Lowers slots part used key level from s i c to =
-    over_read Lowered slots part used key level (lent_node part from) s i c (lent_node part to) used.exit.now
+-- the step as the code has it, and where it has come to in a part of the bytes b
+abbrev pub nothing_lower : Lower
+nothing_lower = record { at = 0; name = 0; place = 0 }
+
+abbrev pub lower_node_in : List ℕ → Result Lower Stop → Node
+lower_node_in b (Ok l) = node_at (view b) l.place
+lower_node_in b (Err s) = free_node 0
+
+-- over what the walk is lent, from the node at a place
+abbrev pub Lowers : ℕ → LentList → LentMut → ℕ → ℕ → ℕ → Result Lower Stop → List ℕ → Type 0
+Lowers slots part used key level from l u' =
+    over_read Lowered slots part used key level (lent_node part from) (course l) (ok_or nothing_lower l).at (ok_or nothing_lower l).name
+    (lower_node_in part.entry.now l) u'
+
+abbrev pub LowerInPart : Result Lower Stop → Type 0
+LowerInPart l = IfOk l (λ l. InPart l.place)
 
 -- what stands at its end
 pub record Reached (target : ℕ) (d : Arrival) : Type 0 where
@@ -171,15 +185,24 @@ pub record Reached (target : ℕ) (d : Arrival) : Type 0 where
 pub record Led (slots : ℕ) (m : ClientWord → ℕ) (u : List ℕ) (key target root : ℕ) (first : Node) (d : Arrival) (u' : List ℕ) : Type 0 where
   pub asks : (stop : ℕ → Bool) → Stops stop target → (k : Cont)
       → walked slots m (down stop key k first.level [] root (entries_of first 0)) (used_in u)
-      ≡ carry d.stop (used_in u') (λ us. walked slots m
+      ≡ carry d.course (used_in u') (λ us. walked slots m
       (k target (branches (trail d.path target (d.top - target))) d.name (entries_of d.node (low (trail d.path target (d.top - target))))) us)
   pub noted : Noted m u'
   pub high : d.top ≤ highest_level
-  pub reached : goes d.stop ≡ true → Reached target d
-  pub linked : in_store slots root ≡ true → goes d.stop ≡ true → Linked slots target d.name (trail d.path target (d.top - target))
+  pub reached : goes d.course ≡ true → Reached target d
+  pub linked : in_store slots root ≡ true → goes d.course ≡ true → Linked slots target d.name (trail d.path target (d.top - target))
 
--- ---- from the metadata on: the root's name q and its node r
-pub record AtRoot (slots : ℕ) (m : ClientWord → ℕ) (u : List ℕ) (s : Stop) (q : ℕ) (r : Node) (u' : List ℕ) : Type 0 where
+-- ---- from the metadata on: the root as the code has it
+abbrev pub root_name_in : Result Rooted Stop → ℕ
+root_name_in (Ok r) = r.name
+root_name_in (Err s) = 0
+
+abbrev pub root_node_in : List ℕ → Result Rooted Stop → Node
+root_node_in b (Ok r) = node_at (view b) r.place
+root_node_in b (Err s) = free_node 0
+
+-- its name q and its node r
+pub record AtRoot (slots : ℕ) (m : ClientWord → ℕ) (u : List ℕ) (s : Course) (q : ℕ) (r : Node) (u' : List ℕ) : Type 0 where
   pub asks : (k : ℕ → ℕ → Entries → TreePlan)
       → walked slots m (P.ask (object meta) (λ v. when_root v (λ q. at_root q (k q)))) (used_in u)
       ≡ carry s (used_in u') (λ us. walked slots m (k q r.level (entries_of r 0)) us)
@@ -191,26 +214,27 @@ pub record AtRoot (slots : ℕ) (m : ClientWord → ℕ) (u : List ℕ) (s : Sto
 pub record Descends (slots : ℕ) (m : ClientWord → ℕ) (u : List ℕ) (key : ℕ) (d : Arrival) (u' : List ℕ) : Type 0 where
   pub asks : (k : List Branch → ℕ → Entries → TreePlan)
       → walked slots m (from_root key k) (used_in u)
-      ≡ carry d.stop (used_in u') (λ us. walked slots m (k (branches (trail d.path 0 (d.top - 0))) d.name (entries_of d.node (low (trail d.path 0 (d.top - 0))))) us)
+      ≡ carry d.course (used_in u') (λ us. walked slots m (k (branches (trail d.path 0 (d.top - 0))) d.name (entries_of d.node (low (trail d.path 0 (d.top - 0))))) us)
   pub noted : Noted m u'
   pub high : d.top ≤ highest_level
-  pub reached : goes d.stop ≡ true → Reached 0 d
-  pub linked : goes d.stop ≡ true → Linked slots 0 d.name (trail d.path 0 (d.top - 0))
+  pub reached : goes d.course ≡ true → Reached 0 d
+  pub linked : goes d.course ≡ true → Linked slots 0 d.name (trail d.path 0 (d.top - 0))
 
 -- ---- the same by an operation that asks nothing of the path: there is one, whatever it is, and r is the node reached
-pub record Reaches (slots : ℕ) (m : ClientWord → ℕ) (u : List ℕ) (key : ℕ) (first : Node) (s : Stop) (r : Node) (u' : List ℕ) : Type 0 where
+pub record Reaches (slots : ℕ) (m : ClientWord → ℕ) (u : List ℕ) (key : ℕ) (first : Node) (s : Course) (r : Node) (u' : List ℕ) : Type 0 where
   pub come : ℕ → Arrival
-  pub stop : (root : ℕ) → (come root).stop ≡ s
+  pub course : (root : ℕ) → (come root).course ≡ s
   pub node : (root : ℕ) → (come root).node ≡ r
   pub led : (root : ℕ) → Led slots m u key 0 root first (come root) u'
 
 -- over what the walk is lent: from the node at a place to the one at another
-abbrev pub Reaching : ℕ → LentList → LentMut → ℕ → ℕ → Stop → ℕ → Type 0
-Reaching slots part used key from s to = over_read Reaches slots part used key (lent_node part from) s (lent_node part to) used.exit.now
+abbrev pub Reaching : ℕ → LentList → LentMut → ℕ → ℕ → Result ℕ Stop → Type 0
+Reaching slots part used key from r =
+    over_read Reaches slots part used key (lent_node part from) (course r) (placed_in part.entry.now r) used.exit.now
 
 -- from the metadata on
-pub record ToLeaf (slots : ℕ) (m : ClientWord → ℕ) (u : List ℕ) (key : ℕ) (s : Stop) (r : Node) (u' : List ℕ) : Type 0 where
+pub record ToLeaf (slots : ℕ) (m : ClientWord → ℕ) (u : List ℕ) (key : ℕ) (s : Course) (r : Node) (u' : List ℕ) : Type 0 where
   pub come : Arrival
-  pub stop : come.stop ≡ s
+  pub course : come.course ≡ s
   pub node : come.node ≡ r
   pub descends : Descends slots m u key come u'

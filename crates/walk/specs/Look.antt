@@ -5,7 +5,7 @@ use Rattle.operations.specs.Path.{TreePlan}
 use Rattle.operations.specs.Entry.{Entries}
 use Rattle.walk.specs.declared.found.Sought.{Sought}
 use Rattle.walk.specs.declared.found.Sought.TheVariants.{Higher, Lower}
-use Rattle.walk.specs.declared.walk.Stop.{Stop}
+use Rattle.walk.specs.Walk.{Course}
 use Rattle.client.specs.Layout.{ClientWord}
 use Rattle.client.specs.Work.{answers, worked}
 use Rattle.walk.specs.Found.{search_plan}
@@ -23,7 +23,7 @@ near_plan right key = search_plan (record { sought = near_on right; wanted = 1; 
 
 -- the walk of such an operation has ended as its work step does: nothing is written, and the answer has the pairs ps; the lent list has the copies
 -- that it used
-pub record Looks (slots : ℕ) (m : ClientWord → ℕ) (s : Stop) (u₀ u : List ℕ) (ps : Entries) : Type 0 where
+pub record Looks (slots : ℕ) (m : ClientWord → ℕ) (s : Course) (u₀ u : List ℕ) (ps : Entries) : Type 0 where
   pub stopped : Stopped slots m s u
   pub filled : Filled u₀ (C.walked slots m).used u
   pub none : (a : Ans) (w : Writes) → worked slots m ≡ answers a w → w ≡ []

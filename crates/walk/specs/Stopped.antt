@@ -1,11 +1,10 @@
 -- How a walk stops is how its work step ends.
 use Rattle.std.specs.Prelude.{◌≡◌, List, ◌∷◌, ◌++◌, ℕ, ◌≤◌, ◌<◌, length}
-use Rattle.walk.specs.declared.walk.Stop.{Stop}
-use Rattle.walk.specs.declared.walk.Stop.TheVariants.{Refused, Aborts, Answers}
+use Rattle.walk.specs.declared.walk.Stop.TheVariants.{Refused, Aborts}
 use Rattle.client.specs.Layout.{ClientWord, op_number, op_value, op_server, reads_count, writes_count, limit}
 use Rattle.client.specs.Lent.{InUse, used_in}
 use Rattle.client.specs.Work.{Worked, refused, fetches, aborted, answers, worked}
-use Rattle.walk.specs.Walk.{lack, walked}
+use Rattle.walk.specs.Walk.{Course, Ended, Answered, lack, walked}
 use Rattle.client.specs.Work as C
 use Rattle.client.specs.declared.part.Set.TheVariants.{Reads, Writes}
 use Rattle.client.specs.Bounds.{most_servers, most_listed}
@@ -20,14 +19,14 @@ pub record Waiting (m : ClientWord → ℕ) : Type 0 where
   pub writes : m writes_count ≤ limit Writes
 
 -- how the work step ends, as the walk stops
-abbrev pub stop_of : Worked → Stop
-stop_of refused = Refused
-stop_of (fetches a) = lack a
-stop_of (aborted y) = Aborts y
-stop_of (answers a w) = Answers a.0 a.1
+abbrev pub stop_of : Worked → Course
+stop_of refused = Ended Refused
+stop_of (fetches a) = Ended (lack a)
+stop_of (aborted y) = Ended (Aborts y)
+stop_of (answers a w) = Answered a.0 a.1
 
 -- the walk has ended as the work step does, with the copies that it used
-pub record Stopped (slots : ℕ) (m : ClientWord → ℕ) (s : Stop) (u : List ℕ) : Type 0 where
+pub record Stopped (slots : ℕ) (m : ClientWord → ℕ) (s : Course) (u : List ℕ) : Type 0 where
   pub stop : s ≡ stop_of (worked slots m)
   pub used : used_in u ≡ (C.walked slots m).used
   pub in_use : InUse u

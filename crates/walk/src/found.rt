@@ -47,8 +47,7 @@ fn under_at(part: &[u8], leaf: usize, key: u64) -> usize
     if key == 0 {
         return 0;
     }
-    let p = place_at(part, leaf, key - 1);
-    p.place
+    place_at(part, leaf, key - 1).place
 }
 
 // The number of keys before those on the right, where a search begins.
@@ -58,10 +57,7 @@ fn start_at(part: &[u8], leaf: usize, sought: Sought, key: u64) -> usize
     ensures within { result ≤ (node_at (view part.now) leaf).count }
 {
     match sought {
-        Sought::Higher => {
-            let p = place_at(part, leaf, key);
-            p.place
-        }
+        Sought::Higher => place_at(part, leaf, key).place,
         Sought::Lower => under_at(part, leaf, key),
         Sought::AtLeast => under_at(part, leaf, key),
     }
@@ -132,13 +128,10 @@ pub fn gather(part: &[u8], leaf: usize, w: Wish, found: &mut [u64])
     let sought = w.sought;
     let start = start_at(part, leaf, sought, w.key);
     let count = count_at(part, leaf);
-    let many = many_from(sought, start, count);
-    let mut j: usize = 0;
-    while j < many {
+    for j in 0..many_from(sought, start, count) {
         if found[0] as usize == w.wanted {
             return;
         }
         take_one(part, leaf, sought, start, count, j, found);
-        j += 1;
     }
 }

@@ -1,11 +1,12 @@
 // A slot looked for on servers in a row, and taken.
-ghost use Rattle.std.specs.Prelude.{◌≡◌, ◌+◌, ◌<◌, ◌≤◌, get_or, take};
+ghost use Rattle.std.specs.Prelude.{◌≡◌, ◌+◌, ◌<◌, ◌≤◌, get_or, take, None};
 ghost use Rattle.nodes.specs.Name.{name};
 ghost use Rattle.nodes.specs.Placement.{row};
 ghost use Rattle.operations.specs.Slot.{open_ones};
 ghost use Rattle.client.specs.Sets.{held};
 ghost use Rattle.client.specs.Lent.{OwnFits};
 ghost use Rattle.client.specs.Bounds.{end_of_slots, end_of_names, own_most, most_servers};
+ghost use Rattle.walk.specs.Walk.{course, ok_or};
 ghost use Rattle.walk.specs.Ask.{Walking, WalkingOwn, Writing, over_lent, over_own};
 ghost use Rattle.walk.specs.Counted.{counts_one, counts};
 ghost use Rattle.walk.specs.Vector.{VectorAsked, passes, Looked};
@@ -13,7 +14,7 @@ ghost use Rattle.walk.specs.Search.{LookedInRow, Sought, TakenOn, TakenFor};
 ghost use Rattle.client.specs.Layout.{ClientPart};
 
 use crate::take::take_flag;
-use crate::walk::{Stop, ask_meta, going, over, pop_used};
+use crate::walk::{Stop, ask_meta, over, pop_used};
 use client::own::own_record;
 use client::part::{FIRST_FLAG_NUMBER, ITEM_WORDS};
 use client::vector::{has_vector, is_fetched, seen_words, vector_fits};
@@ -49,54 +50,43 @@ fn count_own(own: &[u64], s: usize, seen: [u64; 16]) -> [u64; 16]
     ensures { result ≡ counts own.now s (get_or own.now 0 0) seen }
 {
     let mut words = seen;
-    let mut i = own[0] as usize;
-    while 0 < i {
-        let next = count_one(own, s, i - 1, words);
+    for i in (0..own[0] as usize).rev() {
+        let next = count_one(own, s, i, words);
         words = next;
-        i -= 1;
     }
     words
 }
 
 // The question for a server's vector.
-fn ask_vector(part: &[u8], used: &mut [u64], s: usize) -> Stop
+fn ask_vector(part: &[u8], used: &mut [u64], s: usize) -> Result<(), Stop>
     requires { Walking part.now used.old × (s < most_servers) }
-    ensures { VectorAsked (held part.now) used.old s result used.new }
+    ensures { VectorAsked (held part.now) used.old s (course result) used.new }
 {
     if over(part, used) {
         pop_used(used);
-        return Stop::Aborts(4);
+        return Err(Stop::Aborts(4));
     }
-    let right = vector_fits(part, s);
-    if !right {
-        return Stop::Refused;
+    if !vector_fits(part, s) {
+        return Err(Stop::Refused);
     }
-    let has = has_vector(part, s);
-    if !has {
-        return Stop::LacksVector(s as u64);
+    if !has_vector(part, s) {
+        return Err(Stop::LacksVector(s as u64));
     }
-    Stop::Going
+    Ok(())
 }
 
 // "a server is passed over only by a vector that this transaction fetched"
-fn passed(part: &[u8], s: usize) -> Stop
+fn passed(part: &[u8], s: usize) -> Result<(), Stop>
     requires { (s < most_servers) × ClientPart part.now }
-    ensures { result ≡ passes (held part.now) s }
+    ensures { course result ≡ passes (held part.now) s }
 {
-    let fetched = is_fetched(part, s);
-    if !fetched {
-        return Stop::LacksVector(s as u64);
+    if !is_fetched(part, s) {
+        return Err(Stop::LacksVector(s as u64));
     }
-    Stop::Going
+    Ok(())
 }
 
-// A look at a server: with Going the slot that is chosen there, or none where the server is passed over.
-#[derive(Clone, Copy)]
-struct Chosen {
-    stop: Stop,
-    found: Option<usize>,
-}
-
+// A look at a server: the slot that is chosen there, or none where the server is passed over.
 fn look_on(
     part: &[u8],
     slots: usize,
@@ -104,28 +94,19 @@ fn look_on(
     used: &mut [u64],
     s: usize,
     slot: usize,
-) -> Chosen
+) -> Result<Option<usize>, Stop>
     requires walking_own { WalkingOwn part.now own.now used.old × (s < most_servers) }
     requires above { slot < end_of_slots }
-    ensures { over_own Looked slots part own used s slot result.stop result.found used.new }
+    ensures { over_own Looked slots part own used s slot (course result) (ok_or None result) used.new }
 {
-    let stop = ask_vector(part, used, s);
-    let on = going(stop);
-    if !on {
-        return Chosen {
-            stop,
-            found: None,
-        };
-    }
-    let seen = seen_words(part, s);
-    let words = count_own(own, s, seen);
-    let found = first_free(words, slots, slot);
-    match found {
-        Some(_) => Chosen { stop, found },
-        None => Chosen {
-            stop: passed(part, s),
-            found,
-        },
+    ask_vector(part, used, s)?;
+    let words = count_own(own, s, seen_words(part, s));
+    match first_free(words, slots, slot) {
+        Some(i) => Ok(Some(i)),
+        None => {
+            passed(part, s)?;
+            Ok(None)
+        }
     }
 }
 
@@ -138,37 +119,25 @@ fn look_next(
     states: u64,
     s: usize,
     slot: usize,
-) -> Chosen
+) -> Result<Option<usize>, Stop>
     requires walking_own { WalkingOwn part.now own.now used.old × (s < most_servers) }
     requires above { slot < end_of_slots }
-    ensures { over_own LookedInRow slots part own used states s slot result.stop result.found used.new }
+    ensures { over_own LookedInRow slots part own used states s slot (course result) (ok_or None result) used.new }
 {
-    let open = is_open(states, s);
-    if !open {
-        return Chosen {
-            stop: Stop::Going,
-            found: None,
-        };
+    if !is_open(states, s) {
+        return Ok(None);
     }
     look_on(part, slots, own, used, s, slot)
-}
-
-// A slot looked for: with Going its name.
-#[derive(Clone, Copy)]
-pub struct Taken {
-    pub stop: Stop,
-    pub name: u64,
 }
 
 fn slot_name(s: usize, slot: usize) -> u64
     requires { (s < most_servers) × (slot < end_of_slots) }
     ensures { result ≡ name s slot }
 {
-    let n = Name::new(s as u64, slot as u64);
-    n.number
+    Name::new(s as u64, slot as u64).number
 }
 
-// On the open ones of the first n servers of a home's row, in its order. "no slot is free (migrate: on that server)"
+// On the open ones of the first n servers of a home's row, in its order: the name of the slot. "no slot is free (migrate: on that server)"
 fn search(
     part: &[u8],
     slots: usize,
@@ -178,41 +147,23 @@ fn search(
     home: usize,
     n: usize,
     slot: usize,
-) -> Taken
+) -> Result<u64, Stop>
     requires walking_own { WalkingOwn part.now own.now used.old }
     requires from { (home < most_servers) × (n ≤ most_servers) }
     requires above { slot < end_of_slots }
     ensures { over_own Sought slots part own used (open_ones states (take n (row home))) slot result used.new }
 {
-    let mut i: usize = 0;
-    while i < n {
+    for i in 0..n {
         let s = server_at(home, i);
-        let c = look_next(part, slots, own, used, states, s, slot);
-        let stop = c.stop;
-        let on = going(stop);
-        if !on {
-            return Taken { stop, name: 0 };
-        }
-        let found = c.found;
-        match found {
-            Some(j) => {
-                return Taken {
-                    stop,
-                    name: slot_name(s, j),
-                };
-            }
-            None => {
-                i += 1;
-            }
+        if let Some(j) = look_next(part, slots, own, used, states, s, slot)? {
+            return Ok(slot_name(s, j));
         }
     }
-    Taken {
-        stop: Stop::Aborts(5),
-        name: 0,
-    }
+    Err(Stop::Aborts(5))
 }
 
 // A slot above a slot number, on the first n servers of a home's row: looked for on those that the metadata read calls open, and taken.
+// Its name.
 pub fn take_on(
     part: &[u8],
     slots: usize,
@@ -221,31 +172,26 @@ pub fn take_on(
     home: usize,
     n: usize,
     slot: usize,
-) -> Taken
+) -> Result<u64, Stop>
     requires writing { Writing part.now own.old used.old own_most }
     requires from { (home < most_servers) × (n ≤ most_servers) }
     requires above { slot < end_of_slots }
     ensures { over_lent TakenOn slots part own used (take n (row home)) slot result own.new used.new }
 {
-    let m = ask_meta(part, slots, used);
-    let stop = m.stop;
-    let on = going(stop);
-    if !on {
-        return Taken { stop, name: 0 };
-    }
-    let t = search(part, slots, own, used, m.states, home, n, slot);
-    let stop = t.stop;
-    let on = going(stop);
-    if !on {
-        return t;
-    }
-    let name = t.name;
-    let stop = take_flag(part, slots, own, used, name);
-    Taken { stop, name }
+    let states = ask_meta(part, slots, used)?.states;
+    let name = search(part, slots, own, used, states, home, n, slot)?;
+    take_flag(part, slots, own, used, name)?;
+    Ok(name)
 }
 
 // A slot for a new node beside the node of that name, which is split.
-pub fn take_for(part: &[u8], slots: usize, own: &mut [u64], used: &mut [u64], name: u64) -> Taken
+pub fn take_for(
+    part: &[u8],
+    slots: usize,
+    own: &mut [u64],
+    used: &mut [u64],
+    name: u64,
+) -> Result<u64, Stop>
     requires writing { Writing part.now own.old used.old own_most }
     requires there { name < end_of_names }
     ensures { over_lent TakenFor slots part own used name result own.new used.new }

@@ -1,15 +1,15 @@
 // A question of an operation's plan: an object, asked for in the client's part; and seen, where the operation may have written it itself: its own writes come first.
-ghost use Rattle.std.specs.Prelude.{◌≡◌, true, false, ◌+◌, ◌<◌, ◌≤◌, length, get_or};
+ghost use Rattle.std.specs.Prelude.{◌≡◌, ◌+◌, ◌<◌, ◌≤◌, length, get_or, IfOk};
 ghost use Rattle.operations.specs.Object.{meta, node, flag};
-ghost use Rattle.client.specs.Record.{single, metadata};
 ghost use Rattle.client.specs.Sets.{held};
+ghost use Rattle.client.specs.Have.{Has, how};
 ghost use Rattle.client.specs.Lent.{Lent, used_in};
 ghost use Rattle.client.specs.Bounds.{end_of_names, end_of_numbers, used_room, first_flag_number};
-ghost use Rattle.walk.specs.Walk.{goes, is_answer, over};
-ghost use Rattle.walk.specs.Ask.{Noted, OwnGood, Meets, Outside, Answer, PlacedNode, SeenNode, AskedFlag, InPart, placed_in, seen_in, popped, noted_copy, Walking, WalkingOwn, over_own, unwritten};
+ghost use Rattle.walk.specs.Walk.{over, course};
+ghost use Rattle.walk.specs.Ask.{Noted, OwnGood, Meets, Outside, Asked, PlacedNode, SeenNode, AskedFlag, InPart, meta_in, node_in, placed_in, flag_in, popped, with_copy, Walking, WalkingOwn, over_own, unwritten};
 ghost use Rattle.client.specs.Layout.{ClientPart};
 
-use client::answer::{How, is_copied, is_found};
+use client::answer::Have;
 use client::lookup::{flag_fits, flag_source, meta_fits, meta_source, node_stands, stand_fits};
 use client::own::{find_own, own_record, own_value};
 use client::part::{FIRST_FLAG_NUMBER, MOST_READ, Set, count};
@@ -18,73 +18,28 @@ use nodes::name::{Name, in_store};
 use nodes::node::Node;
 use nodes::stored::read_node;
 
-// How the walk of a plan goes on or ends: a lack is to be fetched, Refused is refusal 10.
+// Why a walk ends before its answer: a lack is to be fetched, Refused is refusal 10.
 #[derive(Clone, Copy)]
 pub enum Stop {
-    Going,
     LacksMeta,
     LacksNode(u64),
     LacksVector(u64),
     Refused,
     Aborts(u64),
-    Answers(u64, u64),
 }
 
-// With Going: where the node's record stands, from that word of the part on.
+// What an operation answers.
 #[derive(Clone, Copy)]
-pub struct Placed {
-    pub stop: Stop,
-    pub place: usize,
+pub struct Answer {
+    pub a: u64,
+    pub b: u64,
 }
 
-// With Going: the node itself.
+// What the metadata say: the root's name, and the servers' states.
 #[derive(Clone, Copy)]
-pub struct Seen {
-    pub stop: Stop,
-    pub node: Node,
-}
-
-// With Going: 1 for a slot that is taken.
-#[derive(Clone, Copy)]
-pub struct Valued {
-    pub stop: Stop,
-    pub value: u64,
-}
-
-// With Going: the root's name, and the servers' states.
-#[derive(Clone, Copy)]
-pub struct Told {
-    pub stop: Stop,
+pub struct Meta {
     pub root: u64,
     pub states: u64,
-}
-
-pub fn going(stop: Stop) -> bool
-    ensures { result ≡ goes stop }
-{
-    match stop {
-        Stop::Going => true,
-        Stop::LacksMeta => false,
-        Stop::LacksNode(_) => false,
-        Stop::LacksVector(_) => false,
-        Stop::Refused => false,
-        Stop::Aborts(_) => false,
-        Stop::Answers(_, _) => false,
-    }
-}
-
-pub fn is_answer(stop: Stop) -> bool
-    ensures { result ≡ is_answer stop }
-{
-    match stop {
-        Stop::Going => false,
-        Stop::LacksMeta => false,
-        Stop::LacksNode(_) => false,
-        Stop::LacksVector(_) => false,
-        Stop::Refused => false,
-        Stop::Aborts(_) => false,
-        Stop::Answers(_, _) => true,
-    }
 }
 
 // Is object 97 among the copies in use?
@@ -107,44 +62,46 @@ pub fn pop_used(used: &mut [u64])
 }
 
 // A copy that is not in use yet comes into use.
-fn note_copy(used: &mut [u64], how: How, number: u64)
+fn note_copy(used: &mut [u64], number: u64)
     requires { Lent used.old }
-    ensures { used.new ≡ noted_copy how used.old number }
+    ensures { used.new ≡ with_copy used.old number }
 {
-    let copied = is_copied(how);
-    if !copied {
-        return;
-    }
-    let known = is_used(used, number);
-    if known {
+    if is_used(used, number) {
         return;
     }
     push_used(used, number);
 }
 
-// A question about the object of that number: `how` tells what was found of it, `right` whether that may be used, `lacks` what is to be
-// fetched for it.
-fn meet(part: &[u8], used: &mut [u64], number: u64, how: How, right: bool, lacks: Stop) -> Stop
-    requires number_lt_end_of_numbers { (number < end_of_numbers) × Noted (held part.now) used.old × ClientPart part.now }
-    requires stops { goes lacks ≡ false }
-    ensures { Meets (held part.now) used.old number how right lacks result used.new }
+// A question about the object of that number: `found` is what the client has of it, `right` says whether that may be used, `lacks` what
+// is to be fetched for it.
+fn meet<T: Copy>(
+    part: &[u8],
+    used: &mut [u64],
+    number: u64,
+    found: Have<T>,
+    right: bool,
+    lacks: Stop,
+) -> Result<T, Stop>
+    requires { (number < end_of_numbers) × Noted (held part.now) used.old × ClientPart part.now }
+    ensures meets { Meets (held part.now) used.old number (how found) right lacks (course result) used.new }
+    ensures found { IfOk result (λ x. Has found x) }
 {
     if over(part, used) {
         pop_used(used);
-        return Stop::Aborts(4);
+        return Err(Stop::Aborts(4));
     }
-    let found = is_found(how);
-    if !found {
-        return lacks;
+    match found {
+        Have::Lacking => Err(lacks),
+        _ if !right => Err(Stop::Refused),
+        Have::Here(x) => Ok(x),
+        Have::Copied(x) => {
+            note_copy(used, number);
+            Ok(x)
+        }
     }
-    if !right {
-        return Stop::Refused;
-    }
-    note_copy(used, how, number);
-    Stop::Going
 }
 
-// An object that is not in the store.
+// An object that is not in the store: it stops every walk.
 fn ask_outside(part: &[u8], used: &mut [u64]) -> Stop
     requires { Noted (held part.now) used.old × ClientPart part.now }
     ensures { Outside (held part.now) used.old result used.new }
@@ -172,130 +129,112 @@ pub fn flag_number(name: u64) -> u64
     FIRST_FLAG_NUMBER + name
 }
 
-pub fn ask_meta(part: &[u8], slots: usize, used: &mut [u64]) -> Told
+pub fn ask_meta(part: &[u8], slots: usize, used: &mut [u64]) -> Result<Meta, Stop>
     requires { Walking part.now used.old }
-    ensures { unwritten Answer slots part used meta result.stop (metadata 0 result.root result.states) used.new }
+    ensures { unwritten Asked slots part used meta (course result) (meta_in result) used.new }
 {
-    let s = meta_source(part);
-    let how = s.how;
-    let right = meta_fits(slots, s);
-    let stop = meet(part, used, 0, how, right, Stop::LacksMeta);
-    Told {
-        stop,
-        root: s.value,
-        states: s.states,
-    }
+    let found = meta_source(part);
+    let right = meta_fits(slots, found);
+    let m = meet(part, used, 0, found, right, Stop::LacksMeta)?;
+    Ok(Meta {
+        root: m.value,
+        states: m.states,
+    })
 }
 
-// A node of the store, in the part.
-fn place_node(part: &[u8], used: &mut [u64], name: u64) -> Placed
+// A node of the store, in the part: where it stands.
+fn place_node(part: &[u8], used: &mut [u64], name: u64) -> Result<usize, Stop>
     requires { (name < end_of_names) × Noted (held part.now) used.old × ClientPart part.now }
     ensures { PlacedNode part.now used.old name result used.new }
 {
     let number = node_number(name);
-    let s = node_stands(part, number);
-    let how = s.how;
-    let right = stand_fits(part, s);
-    let stop = meet(part, used, number, how, right, Stop::LacksNode(name));
-    Placed { stop, place: s.at }
+    let found = node_stands(part, number);
+    let right = stand_fits(part, found);
+    meet(part, used, number, found, right, Stop::LacksNode(name))
 }
 
-pub fn ask_node(part: &[u8], slots: usize, used: &mut [u64], name: u64) -> Placed
+// Where a node stands in the part.
+pub fn ask_node(part: &[u8], slots: usize, used: &mut [u64], name: u64) -> Result<usize, Stop>
     requires { Walking part.now used.old }
-    ensures unwritten { unwritten Answer slots part used (node name) result.stop (placed_in part.now result) used.new }
-    ensures within { InPart result.place }
+    ensures unwritten { unwritten Asked slots part used (node name) (course result) (placed_in part.now result) used.new }
+    ensures within { IfOk result InPart }
 {
-    let there = in_store(slots, name);
-    if !there {
-        let stop = ask_outside(part, used);
-        return Placed { stop, place: 0 };
+    if !in_store(slots, name) {
+        return Err(ask_outside(part, used));
     }
     place_node(part, used, name)
 }
 
-// The node itself.
-fn taken_out(part: &[u8], p: Placed) -> Seen
-    requires { InPart p.place × ClientPart part.now }
-    ensures { result ≡ seen_in part.now p }
-{
-    let stop = p.stop;
-    let on = going(stop);
-    if on {
-        let node = read_node(part, p.place);
-        return Seen { stop, node };
-    }
-    let node = Node::free(0);
-    Seen { stop, node }
-}
-
 // An own write of the operation, else what the part has.
-fn see_in_store(part: &[u8], own: &[u64], used: &mut [u64], name: u64) -> Seen
+fn see_in_store(part: &[u8], own: &[u64], used: &mut [u64], name: u64) -> Result<Node, Stop>
     requires { (name < end_of_names) × OwnGood own.now × Noted (held part.now) used.old × ClientPart part.now }
     ensures { SeenNode (held part.now) own.now used.old name result used.new }
 {
     let number = node_number(name);
-    let f = find_own(own, number);
-    match f {
-        Some(i) => Seen {
-            stop: Stop::Going,
-            node: own_record(own, i),
-        },
+    match find_own(own, number) {
+        Some(i) => Ok(own_record(own, i)),
         None => {
-            let p = place_node(part, used, name);
-            taken_out(part, p)
+            let place = place_node(part, used, name)?;
+            Ok(read_node(part, place))
         }
     }
 }
 
 // A node that the operation may have written.
-pub fn see_node(part: &[u8], slots: usize, own: &[u64], used: &mut [u64], name: u64) -> Seen
+pub fn see_node(
+    part: &[u8],
+    slots: usize,
+    own: &[u64],
+    used: &mut [u64],
+    name: u64,
+) -> Result<Node, Stop>
     requires { WalkingOwn part.now own.now used.old }
-    ensures { over_own Answer slots part own used (node name) result.stop result.node used.new }
+    ensures { over_own Asked slots part own used (node name) (course result) (node_in result) used.new }
 {
-    let there = in_store(slots, name);
-    if !there {
-        let stop = ask_outside(part, used);
-        let node = Node::free(0);
-        return Seen { stop, node };
+    if !in_store(slots, name) {
+        return Err(ask_outside(part, used));
     }
     see_in_store(part, own, used, name)
 }
 
-// A flag of the store, in the part: it is in its server's vector.
-fn ask_flag(part: &[u8], used: &mut [u64], name: u64) -> Valued
+// A flag of the store, in the part: it is in its server's vector. 1 for a slot that is taken.
+fn ask_flag(part: &[u8], used: &mut [u64], name: u64) -> Result<u64, Stop>
     requires { (name < end_of_names) × Noted (held part.now) used.old × ClientPart part.now }
     ensures { AskedFlag (held part.now) used.old name result used.new }
 {
     let number = flag_number(name);
-    let s = flag_source(part, name);
-    let how = s.how;
-    let right = flag_fits(part, name, s);
+    let found = flag_source(part, name);
+    let right = flag_fits(part, name, found);
     let flag = Name { number: name };
-    let server = flag.server();
-    let stop = meet(part, used, number, how, right, Stop::LacksVector(server));
-    Valued {
-        stop,
-        value: s.value,
-    }
+    let f = meet(
+        part,
+        used,
+        number,
+        found,
+        right,
+        Stop::LacksVector(flag.server()),
+    )?;
+    Ok(f.value)
 }
 
-// A flag that the operation may have written.
-pub fn see_flag(part: &[u8], slots: usize, own: &[u64], used: &mut [u64], name: u64) -> Valued
+// A flag that the operation may have written: is the slot taken?
+pub fn see_flag(
+    part: &[u8],
+    slots: usize,
+    own: &[u64],
+    used: &mut [u64],
+    name: u64,
+) -> Result<bool, Stop>
     requires { WalkingOwn part.now own.now used.old }
-    ensures { over_own Answer slots part own used (flag name) result.stop (single 0 result.value) used.new }
+    ensures { over_own Asked slots part own used (flag name) (course result) (flag_in result) used.new }
 {
-    let there = in_store(slots, name);
-    if !there {
-        let stop = ask_outside(part, used);
-        return Valued { stop, value: 0 };
+    if !in_store(slots, name) {
+        return Err(ask_outside(part, used));
     }
     let number = flag_number(name);
-    let f = find_own(own, number);
-    match f {
-        Some(i) => Valued {
-            stop: Stop::Going,
-            value: own_value(own, i),
-        },
-        None => ask_flag(part, used, name),
-    }
+    let value = match find_own(own, number) {
+        Some(i) => own_value(own, i),
+        None => ask_flag(part, used, name)?,
+    };
+    Ok(value == 1)
 }
