@@ -1,5 +1,5 @@
 -- What comes of a question: an own write of the operation, else what the part has.
-use Rattle.std.specs.Prelude.{◌≡◌, Bool, true, false, cond, List, [], ◌∷◌, ℕ, ◌+◌, ◌-◌, ◌≤◌, ◌<◌, length, get_or, set, Result, Ok, Err, IfOk}
+use Rattle.std.specs.Prelude.{◌≡◌, Bool, true, false, cond, List, [], ◌∷◌, ℕ, eqb, ◌+◌, ◌-◌, ◌≤◌, ◌<◌, length, get_or, set, Result, Ok, Err, IfOk}
 use Rattle.std.proofs.Math.Option.{Option, none, some}
 use Rattle.nodes.specs.declared.node.Node.{Node}
 use Rattle.nodes.specs.Found.{Found}
@@ -144,10 +144,10 @@ pub record SeenNode (m : ClientWord → ℕ) (x u : List ℕ) (n : ℕ) (a : Res
   pub numbered : (slots : ℕ) → Numbered slots m x u (1 + n) (LacksNode n) (course a) (node_in a) u'
 
 -- a flag of the store
-pub record AskedFlag (m : ClientWord → ℕ) (u : List ℕ) (n : ℕ) (v : Result ℕ Stop) (u' : List ℕ) : Type 0 where
+pub record AskedFlag (m : ClientWord → ℕ) (u : List ℕ) (n : ℕ) (v : Result Bool Stop) (u' : List ℕ) : Type 0 where
   pub node : Node
   pub numbered : (slots : ℕ) → Numbered slots m nothing u (first_flag_number + n) (LacksVector (server_of n)) (course v) node u'
-  pub value : IfOk v (λ x. x ≡ first_slot node)
+  pub value : IfOk v (λ t. t ≡ eqb (first_slot node) 1)
 
 -- the last copy taken back
 abbrev pub popped : List ℕ → List ℕ

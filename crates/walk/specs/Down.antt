@@ -70,9 +70,12 @@ pub record Arrival : Type 0 where
   pub name : ℕ
   pub node : Node
 
+abbrev pub no_arrival : Stop → Arrival
+no_arrival s = record { course = Ended s; top = 0; path = []; name = 0; node = free_node 0 }
+
 abbrev pub arrival : List ℕ → Result Descent Stop → Arrival
 arrival b (Ok d) = record { course = Going; top = d.top; path = turns_in b d.path; name = d.name; node = node_at (view b) d.place }
-arrival b (Err s) = record { course = Ended s; top = 0; path = []; name = 0; node = free_node 0 }
+arrival b (Err s) = no_arrival s
 
 -- the same over the lent part
 abbrev pub arrived : LentList → Result Descent Stop → Arrival

@@ -9,22 +9,22 @@ pub mod Ask
 -- the way down from the root
 pub mod Down
 -- what stops a walk is no answer
-pub mod Mute
+--M
 -- where a walk begins; lookup; pairs found in leaves; leaves in a row
 pub mod Begin
-pub mod Lookup
+--L
 pub mod Found
-pub mod Seek
-pub mod Near
+--S
+--N
 -- how a walk stops; the work step of an operation that only reads
 pub mod Operation
-pub mod Stopped
-pub mod Look
+--St
+--Lk
 -- own writes, slots taken and freed
 pub mod Own
 pub mod Write
-pub mod Take
+--T
 -- slots looked for on servers in a row
 pub mod Counted
-pub mod Vector
-pub mod Search
+--V
+--Se

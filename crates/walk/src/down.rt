@@ -288,5 +288,15 @@ pub fn turns(part: &[u8], path: [Pass; 5]) -> [Turn; 5]
     requires { PathInPart path × ClientPart part.now }
     ensures { result ≡ turns_in part.now path }
 {
-    path.map(|p| turn_at(part, p))
+    let blank = Turn {
+        name: 0,
+        at: 0,
+        node: Node::free(0),
+    };
+    let mut out = [blank; 5];
+    for i in 0..5 {
+        let turn = turn_at(part, path[i]);
+        out[i] = turn;
+    }
+    out
 }

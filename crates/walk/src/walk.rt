@@ -197,8 +197,8 @@ pub fn see_node(
     see_in_store(part, own, used, name)
 }
 
-// A flag of the store, in the part: it is in its server's vector. 1 for a slot that is taken.
-fn ask_flag(part: &[u8], used: &mut [u64], name: u64) -> Result<u64, Stop>
+// A flag of the store, in the part: it is in its server's vector. Is the slot taken?
+fn ask_flag(part: &[u8], used: &mut [u64], name: u64) -> Result<bool, Stop>
     requires { (name < end_of_names) × Noted (held part.now) used.old × ClientPart part.now }
     ensures { AskedFlag (held part.now) used.old name result used.new }
 {
@@ -214,10 +214,10 @@ fn ask_flag(part: &[u8], used: &mut [u64], name: u64) -> Result<u64, Stop>
         right,
         Stop::LacksVector(flag.server()),
     )?;
-    Ok(f.value)
+    Ok(f.value == 1)
 }
 
-// A flag that the operation may have written: is the slot taken?
+// A flag that the operation may have written.
 pub fn see_flag(
     part: &[u8],
     slots: usize,
@@ -232,9 +232,8 @@ pub fn see_flag(
         return Err(ask_outside(part, used));
     }
     let number = flag_number(name);
-    let value = match find_own(own, number) {
-        Some(i) => own_value(own, i),
-        None => ask_flag(part, used, name)?,
-    };
-    Ok(value == 1)
+    match find_own(own, number) {
+        Some(i) => Ok(own_value(own, i) == 1),
+        None => ask_flag(part, used, name),
+    }
 }

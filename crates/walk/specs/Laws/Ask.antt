@@ -1,5 +1,5 @@
 -- Laws of a question: own writes, then what the part has.
-use Rattle.std.specs.Prelude.{◌≡◌, Bool, ◌&&◌, ◌||◌, not, List, [], ◌∷◌, ◌++◌, ℕ, ◌+◌, ◌-◌, ◌/◌, ◌≤◌, ◌<◌, take, drop, set}
+use Rattle.std.specs.Prelude.{◌≡◌, Bool, ◌&&◌, ◌||◌, not, List, [], ◌∷◌, ◌++◌, ℕ, ◌+◌, ◌-◌, ◌/◌, ◌≤◌, ◌<◌, take, drop, set, Result, Ok, Err, IfOk}
 use Rattle.std.proofs.Math.Path.{refl, sym}
 use Rattle.std.proofs.Common.{ap, ◌∙◌, subst, arith, add-one, length-append, length-set, take-suc-set, get_or-set_same, get_or-set_other, take-take}
 use Rattle.std.proofs.Math.Bool.{true, false}
@@ -18,35 +18,33 @@ use Rattle.nodes.specs.Node.{free_node, made}
 use Rattle.nodes.specs.Range.{level_fits, count_fits, node_in_range}
 use Rattle.nodes.proofs.Laws.Range.{range_count}
 use Rattle.nodes.specs.Found.{Inside}
-use Rattle.operations.specs.Object.{Obj, meta, node, flag, Ask, object, vector, fetched, Val, Writes, hit}
+use Rattle.operations.specs.Object.{Obj, meta, node, flag, object, Val, taken, Writes, hit}
+use Rattle.base.specs.Test.{one_if}
+use Rattle.client.specs.Have as known
 use Rattle.operations.specs.Path.{TreePlan, see}
 use Rattle.memory.specs.Word.{view}
 use Rattle.nodes.specs.Lists.{pad}
 use Rattle.nodes.specs.Stored.{node_at}
-use Rattle.client.specs.declared.answer.Look.{Look}
-use Rattle.client.specs.declared.answer.Stand.{Stand}
+use Rattle.client.specs.declared.answer.Have.{Have}
+use Rattle.client.specs.declared.answer.Have.TheVariants as code
 use Rattle.client.specs.declared.answer.Short.{Short}
-use Rattle.walk.specs.declared.walk.Placed.{Placed}
-use Rattle.walk.specs.declared.walk.Seen.{Seen}
-use Rattle.walk.specs.declared.walk.Valued.{Valued}
 use Rattle.walk.specs.declared.walk.Stop.{Stop}
-use Rattle.walk.specs.declared.walk.Stop.TheVariants.{Going, LacksMeta, LacksNode, LacksVector, Refused, Aborts}
+use Rattle.walk.specs.declared.walk.Stop.TheVariants.{LacksMeta, LacksNode, LacksVector, Refused, Aborts}
 use Rattle.client.specs.declared.part.Set.TheVariants.{Reads, Copies}
 use Rattle.client.specs.Layout.{ClientWord, reads_count, meta_states, vector_word}
 use Rattle.client.specs.Record.{number, object_in_store, in_store, first_slot, second_slot, value_of, single, metadata, record_in_range}
 use Rattle.client.specs.Sets.{held, count, find, first_of}
-use Rattle.client.specs.Have.{is_copied, is_found, stood, short, IsNode, node_usable, meta_usable, flag_usable, copied, copied_meta, copied_item, copied_node, copied_flag, copy_fits, source, look_fits, have, broken}
+use Rattle.client.specs.Have.{How, Look, is_copied, is_found, how, Has, stood, StandsInPart, short_of, short_as, short, IsNode, node_usable, stand_usable, meta_usable, flag_usable, copied, copied_meta, copied_item, copied_node, copied_flag, copy_fits, source, look_fits, have, broken}
 use Rattle.client.specs.Laws.Look.{node_usable_is, meta_usable_is, flag_usable_is}
 use Rattle.client.specs.Run.{lacks, Ran, ran, among, run}
 use Rattle.client.specs.Lent.{own_find, own_first, own_record, own_list, Lent, used_in, pushed}
 use Rattle.client.specs.Answered.{entered}
 use Rattle.walk.specs.Laws.Met.{Way, Here, Copied, Full, Lacking, Broken, Met, here, copy, full, lacking, unfit, is_new, taken_up, looked, at_hand, used_after}
-use Rattle.walk.specs.Walk.{goes, lack, fresh, room, over, worked, walked, carry}
+use Rattle.walk.specs.Walk.{Course, Going, Ended, course, goes, lack, fresh, room, over, worked, walked, carry}
 use Rattle.walk.specs.Laws.Walk.{full_ask, judged_over}
-use Rattle.walk.specs.Ask.{Small, write_of, OwnGood, HoldsWrites, nothing, Noted, Asks, Numbered, Outside, Answer, given, Meets, placed_in, seen_in, PlacedNode, SeenNode, AskedFlag, popped, noted_copy}
+use Rattle.walk.specs.Ask.{Small, write_of, OwnGood, HoldsWrites, nothing, Noted, Asks, Numbered, Outside, Asked, given, Meets, InPart, node_in, placed_in, flag_in, PlacedNode, SeenNode, AskedFlag, popped, with_copy, noted_copy}
 use Rattle.plans.specs.Plan as P
 use Rattle.client.specs.declared.part.Set.TheVariants as set
-use Rattle.client.specs.declared.answer.How.{How}
 
 abbrev pub or_ask : Obj → (Val → TreePlan) → Option Val → TreePlan
 or_ask o k none = P.ask (object o) k
@@ -308,19 +306,12 @@ module _ (slots : ℕ) (m : ClientWord → ℕ) (x u : List ℕ) (o : Obj) (t : 
 never : {A : Type 0} {b : Bool} → b ≡ false → b ≡ true → A
 never p q = let e : false ≡ true = sym p ∙ q in let z : ◌≡◌ {A = ℕ} 0 1 = cc in absurd (omega arith)
 
-lack_stops : (a : Ask) → goes (lack a) ≡ false
-lack_stops (object meta) = refl
-lack_stops (object (node n)) = refl
-lack_stops (object (flag n)) = refl
-lack_stops (vector s) = refl
-lack_stops (fetched s) = refl
-
-abbrev entered_stop : Way → Stop → Stop
+abbrev entered_stop : Way → Stop → Course
 entered_stop Here l = Going
 entered_stop Copied l = Going
 entered_stop Full l = Going
-entered_stop Lacking l = l
-entered_stop Broken l = Refused
+entered_stop Lacking l = Ended l
+entered_stop Broken l = Ended Refused
 
 abbrev entered_used : Way → List ℕ → ℕ → List ℕ
 entered_used Here u n = u
@@ -364,7 +355,7 @@ pushed_noted m u x b f h =
     go i (no d) l = rw (get_or-set_other u (c + 1) (i + 1) x 0 (λ e. d (omega arith))) (f.each i (omega arith))
 
 module _ (slots : ℕ) (m : ClientWord → ℕ) (u : List ℕ) (n : ℕ) (l : Stop) (near : n < 16385) (h : Noted m u) where
-  asked_over : (u' : List ℕ) → over m (used_in u) ≡ true → u' ≡ popped u → Numbered slots m nothing u n l (Aborts 4) (free_node 0) u'
+  asked_over : (u' : List ℕ) → over m (used_in u) ≡ true → u' ≡ popped u → Numbered slots m nothing u n l (Ended (Aborts 4)) (free_node 0) u'
   asked_over u' v pu =
       let b : get_or u 0 0 ≤ 97 = omega arith in
       rw pu (record {
@@ -421,7 +412,7 @@ module _ (slots : ℕ) (m : ClientWord → ℕ) (u : List ℕ) (n : ℕ) (l : St
       looked_asks Full e = rw (at_hand, used_after, e) (record { same = λ k. rw (pushed_in, walked, looked_run slots m nothing u w o t v k hold, e) })
       looked_asks Lacking e =
           let f : broken slots m (object o) ≡ false = looked_broken slots m nothing u o t (rw e) ∙ rw e in
-          rw (at_hand, used_after, e) (record { same = λ k. rw (walked, looked_run slots m nothing u w o t v k hold, e, f, ← b, lack_stops (object o)) })
+          rw (at_hand, used_after, e) (record { same = λ k. rw (walked, looked_run slots m nothing u w o t v k hold, e, f, ← b) })
       looked_asks Broken e =
           let f : broken slots m (object o) ≡ true = looked_broken slots m nothing u o t (rw e) ∙ rw e in
           rw (at_hand, used_after, e) (record { same = λ k. rw (walked, looked_run slots m nothing u w o t v k hold, e, f) })
@@ -437,75 +428,73 @@ module _ (slots : ℕ) (m : ClientWord → ℕ) (u : List ℕ) (n : ℕ) (l : St
   })
 
   module _ (under : over m (used_in u) ≡ false) where
-    asked_lacking : is_found (source m n).how ≡ false → Numbered slots m nothing u n l l (free_node 0) u
+    asked_lacking : is_found (source m n).how ≡ false → Numbered slots m nothing u n l (Ended l) (free_node 0) u
     unfolding looked at_hand used_after
     asked_lacking k = looked_found under lacking (rw (looked, none_own nothing n refl, k))
 
     module _ (k : is_found (source m n).how ≡ true) where
-      asked_broken : look_fits slots m n (source m n) ≡ false → Numbered slots m nothing u n l Refused (free_node 0) u
+      asked_broken : look_fits slots m n (source m n) ≡ false → Numbered slots m nothing u n l (Ended Refused) (free_node 0) u
       unfolding looked at_hand used_after
       asked_broken q = looked_found under unfit (rw (looked, none_own nothing n refl, k, q))
 
       asked_going : (u' : List ℕ) → look_fits slots m n (source m n) ≡ true → u' ≡ noted_copy (source m n).how u n → Numbered slots m nothing u n l Going (source m n).node u'
-      unfolding looked taken_up at_hand used_after noted_copy
+      unfolding looked taken_up at_hand used_after with_copy
       asked_going u' q pu = rw pu (go (is_copied (source m n).how) refl (among n (used_in u)) refl (ltb (count m Reads + length (used_in u)) 96) refl)
         where
           go : (b : Bool) → is_copied (source m n).how ≡ b → (d : Bool) → among n (used_in u) ≡ d → (e : Bool) → ltb (count m Reads + length (used_in u)) 96 ≡ e
               → Numbered slots m nothing u n l Going (source m n).node (noted_copy (source m n).how u n)
-          go false pb d pd e pe = rw (noted_copy, pb) (looked_found under (here (source m n).node) (rw (looked, none_own nothing n refl, k, q, pb)))
-          go true pb true pd e pe = rw (noted_copy, pb, pd) (looked_found under (here (source m n).node) (rw (looked, none_own nothing n refl, k, q, pb, taken_up, pd)))
-          go true pb false pd true pe = rw (noted_copy, pb, pd) (looked_found under (copy (source m n).node) (rw (looked, none_own nothing n refl, k, q, pb, taken_up, pd, pe)))
-          go true pb false pd false pe = rw (noted_copy, pb, pd) (looked_found under (full (source m n).node) (rw (looked, none_own nothing n refl, k, q, pb, taken_up, pd, pe)))
+          go false pb d pd e pe = rw pb (looked_found under (here (source m n).node) (rw (looked, none_own nothing n refl, k, q, pb)))
+          go true pb true pd e pe = rw (pb, with_copy, pd) (looked_found under (here (source m n).node) (rw (looked, none_own nothing n refl, k, q, pb, taken_up, pd)))
+          go true pb false pd true pe = rw (pb, with_copy, pd) (looked_found under (copy (source m n).node) (rw (looked, none_own nothing n refl, k, q, pb, taken_up, pd, pe)))
+          go true pb false pd false pe = rw (pb, with_copy, pd) (looked_found under (full (source m n).node) (rw (looked, none_own nothing n refl, k, q, pb, taken_up, pd, pe)))
 
 -- as the code asks
-module _ (m : ClientWord → ℕ) (u : List ℕ) (n : ℕ) (how : How) (right : Bool) (l : Stop) (near : n < 16385) (h : Noted m u) (c : Bool) (vc : c ≡ over m (used_in u)) where
-  pub meets_over : (u' : List ℕ) → c ≡ true → u' ≡ popped u → Meets m u n how right l (Aborts 4) u'
+module _ {A : Type 0} (m : ClientWord → ℕ) (u : List ℕ) (n : ℕ) (f : Have A) (right : Bool) (l : Stop) (near : n < 16385) (h : Noted m u) (c : Bool) (vc : c ≡ over m (used_in u)) where
+  pub meets_over : (u' : List ℕ) → c ≡ true → u' ≡ popped u → Meets m u n (how f) right l (Ended (Aborts 4)) u'
   meets_over u' t pu = record { numbered = λ slots p q. asked_over slots m u n l near h u' (sym vc ∙ t) pu; found = λ g. never refl g }
 
-  module _ (cf : c ≡ false) (f : Bool) (pf : f ≡ is_found how) where
-    pub meets_lacking : goes l ≡ false → not f ≡ true → Meets m u n how right l l u
-    meets_lacking gl nf =
+  module _ (cf : c ≡ false) where
+    pub meets_lacking : f ≡ code.Lacking → Meets m u n (how f) right l (Ended l) u
+    meets_lacking e =
+        rw e (record {
+          numbered = λ slots p q. let k : is_found (source m n).how ≡ false = rw (← p) in asked_lacking slots m u n l near h (sym vc ∙ cf) k;
+          found = λ g. never refl g;
+        })
+
+    there : (f : Have A) → (f ≡ code.Lacking → ⊥) → is_found (how f) ≡ true
+    there (code.Here x) d = refl
+    there (code.Copied x) d = refl
+    there code.Lacking d = absurd (d refl)
+
+    pub meets_unfit : (f ≡ code.Lacking → ⊥) → not right ≡ true → Meets m u n (how f) right l (Ended Refused) u
+    meets_unfit d nr =
         record {
-          numbered = λ slots p q. let k : is_found (source m n).how ≡ false = rw p at (sym pf ∙ not-true f nf) in rw gl (asked_lacking slots m u n l near h (sym vc ∙ cf) k);
-          found = λ g. never gl g;
+          numbered = λ slots p q. asked_broken slots m u n l near h (sym vc ∙ cf) (rw p at (there f d)) (sym (q (there f d)) ∙ not-true right nr);
+          found = λ g. never refl g;
         }
 
-    module _ (nf : not f ≡ false) where
-      there : is_found how ≡ true
-      there = sym pf ∙ not-false f nf
+    meets_fit : (u' : List ℕ) → is_found (how f) ≡ true → not right ≡ false → u' ≡ noted_copy (how f) u n → Meets m u n (how f) right l Going u'
+    meets_fit u' t nr pu =
+        record {
+          numbered = λ slots p q. asked_going slots m u n l near h (sym vc ∙ cf) (rw p at t) u' (sym (q t) ∙ not-false right nr) (rw p at pu);
+          found = λ g. t;
+        }
 
-      pub meets_unfit : not right ≡ true → Meets m u n how right l Refused u
-      meets_unfit nr =
-          record {
-            numbered = λ slots p q. asked_broken slots m u n l near h (sym vc ∙ cf) (rw p at there) (sym (q there) ∙ not-true right nr);
-            found = λ g. never refl g;
-          }
+    pub meets_here : (x : A) → f ≡ code.Here x → not right ≡ false → Meets m u n (how f) right l Going u
+    meets_here x e nr = meets_fit u (rw e) nr (rw e)
 
-      pub meets_fit : (u' : List ℕ) → not right ≡ false → u' ≡ noted_copy how u n → Meets m u n how right l Going u'
-      meets_fit u' nr pu =
-          record {
-            numbered = λ slots p q. asked_going slots m u n l near h (sym vc ∙ cf) (rw p at there) u' (sym (q there) ∙ not-false right nr) (rw p at pu);
-            found = λ g. there;
-          }
+    pub meets_copied : (x : A) (u' : List ℕ) → f ≡ code.Copied x → not right ≡ false → u' ≡ with_copy u n → Meets m u n (how f) right l Going u'
+    meets_copied x u' e nr pu = meets_fit u' (rw e) nr (rw e pu)
 
--- the record of a walk that stopped is not looked at
-given_as : (s : Stop) (r r' : Node) → (goes s ≡ true → r ≡ r') → given s r ≡ given s r'
-given_as s r r' h = go (goes s) refl
-  where
-    go : (b : Bool) → goes s ≡ b → given s r ≡ given s r'
-    go true e = rw (e, h e)
-    go false e = rw e
+pub has_here : {A : Type 0} (f : Have A) (x : A) → f ≡ code.Here x → Has f x
+has_here f x e = rw e
 
-pub given_small : (n : ℕ) (s : Stop) (r : Node) → Small (node n) r → Small (node n) (given s r)
-given_small n s r h = go (goes s) refl
-  where
-    go : (b : Bool) → goes s ≡ b → Small (node n) (given s r)
-    go true e = rw e h
-    go false e = rw e (free_small (node n))
+pub has_copied : {A : Type 0} (f : Have A) (x : A) → f ≡ code.Copied x → Has f x
+has_copied f x e = rw e
 
-module _ (slots : ℕ) (m : ClientWord → ℕ) (x u : List ℕ) (o : Obj) (s : Stop) (r r' : Node) (u' : List ℕ) where
-  pub answer_as : (goes s ≡ true → value_of o r ≡ value_of o r') → Small o r' → Answer slots m x u o s r u' → Answer slots m x u o s r' u'
-  answer_as v sm a =
+module _ (slots : ℕ) (m : ClientWord → ℕ) (x u : List ℕ) (o : Obj) (s : Course) (r r' : Node) (u' : List ℕ) where
+  pub asked_as : (goes s ≡ true → value_of o r ≡ value_of o r') → Small o r' → Asked slots m x u o s r u' → Asked slots m x u o s r' u'
+  asked_as v sm a =
       record { asks = λ w hold. record { same = λ k. (a.asks w hold).same k ∙ go (goes s) refl k }; noted = a.noted; long = a.long; inside = a.inside; small = sm }
     where
       go : (b : Bool) → goes s ≡ b → (k : Val → TreePlan) → carry s (used_in u') (λ us. walked slots m (k (value_of o r)) us) ≡ carry s (used_in u') (λ us. walked slots m (k (value_of o r')) us)
@@ -513,26 +502,44 @@ module _ (slots : ℕ) (m : ClientWord → ℕ) (x u : List ℕ) (o : Obj) (s : 
       go false e k = rw e
 
 -- ---- a node of the store, where it stands in the part
-module _ (b u : List ℕ) (n k : ℕ) (q : Stand) (right : Bool) (s : Stop) (u' : List ℕ) where
-  pub node_placed : k ≡ 1 + n → n < 8192 → stood (view b) q ≡ source (held b) k → q.at + 33 ≤ 7223 → right ≡ node_usable q.how (node_at (view b) q.at)
-      → Meets (held b) u k q.how right (LacksNode n) s u' → PlacedNode b u n (record { stop = s; place = q.at }) u'
-  node_placed e h st w pr g =
-      record {
-        numbered = λ slots. rw (← e) (subst (λ (r : Node). Numbered slots (held b) nothing u k (LacksNode n) s r u') (given_as s (source (held b) k).node (node_at (view b) q.at) same)
-            (g.numbered slots (ap (λ (y : Look). y.how) st) (λ t. pr ∙ fits slots t)));
-        within = w;
-      }
+module _ (w : List ℕ) where
+  stood_how : (f : Have ℕ) → (stood w f).how ≡ how f
+  stood_how (code.Here i) = refl
+  stood_how (code.Copied i) = refl
+  stood_how code.Lacking = refl
+
+  stood_node : (f : Have ℕ) (i : ℕ) → Has f i → (stood w f).node ≡ node_at w i
+  stood_node (code.Here j) i e = rw e
+  stood_node (code.Copied j) i e = rw e
+  stood_node code.Lacking i e = absurd e
+
+  stood_in_part : (f : Have ℕ) (i : ℕ) → Has f i → StandsInPart f → InPart i
+  stood_in_part (code.Here j) i e h = rw (← e) h
+  stood_in_part (code.Copied j) i e h = rw (← e) h
+  stood_in_part code.Lacking i e h = absurd e
+
+  usable_is : (f : Have ℕ) → is_found (how f) ≡ true → stand_usable w f ≡ node_usable (how f) (stood w f).node
+  unfolding stand_usable
+  usable_is f t = rw t
+
+module _ (b u : List ℕ) (n k : ℕ) (f : Have ℕ) (right : Bool) (u' : List ℕ) where
+  pub node_placed : (r : Result ℕ Stop) → k ≡ 1 + n → n < 8192 → stood (view b) f ≡ source (held b) k → StandsInPart f → right ≡ stand_usable (view b) f
+      → Meets (held b) u k (how f) right (LacksNode n) (course r) u' → IfOk r (λ i. Has f i) → PlacedNode b u n r u'
+  node_placed r e h st inside pr = go r
     where
-      node_is : is_found q.how ≡ true → (source (held b) k).node ≡ node_at (view b) q.at
-      node_is t = ap (λ (y : Look). y.node) (sym st) ∙ rw t
+      how_is : how f ≡ (source (held b) k).how
+      how_is = sym (stood_how (view b) f) ∙ ap (λ (y : Look). y.how) st
 
-      same : goes s ≡ true → (source (held b) k).node ≡ node_at (view b) q.at
-      same t = node_is (g.found t)
-
-      fits : (slots : ℕ) → is_found q.how ≡ true → node_usable q.how (node_at (view b) q.at) ≡ look_fits slots (held b) k (source (held b) k)
+      fits : (slots : ℕ) → is_found (how f) ≡ true → right ≡ look_fits slots (held b) k (source (held b) k)
       fits slots t =
-          ap (node_usable q.how) (sym (node_is t)) ∙ ap (λ (y : How). node_usable y (source (held b) k).node) (ap (λ (y : Look). y.how) st)
+          pr ∙ usable_is (view b) f t ∙ ap (λ (y : How). node_usable y (stood (view b) f).node) how_is ∙ ap (λ (y : Look). node_usable (source (held b) k).how y.node) st
           ∙ sym (node_usable_is slots (held b) k (source (held b) k) (record { some = λ d. omega arith; most = omega arith }))
+
+      go : (r : Result ℕ Stop) → Meets (held b) u k (how f) right (LacksNode n) (course r) u' → IfOk r (λ i. Has f i) → PlacedNode b u n r u'
+      go (Ok i) g d =
+          let q : (source (held b) k).node ≡ node_at (view b) i = ap (λ (y : Look). y.node) (sym st) ∙ stood_node (view b) f i d in
+          record { numbered = λ slots. rw (← e) (rw q at (g.numbered slots how_is (fits slots))); within = stood_in_part (view b) f i d inside }
+      go (Err s) g d = record { numbered = λ slots. rw (← e) (g.numbered slots how_is (fits slots)); within = tt }
 
 pub node_is_node : (n k : ℕ) → k ≡ 1 + n → n < 8192 → IsNode k
 node_is_node n k e h = record { some = λ d. omega arith; most = omega arith }
@@ -553,7 +560,7 @@ module _ (slots : ℕ) (m : ClientWord → ℕ) (x u : List ℕ) (n : ℕ) (l : 
         small = λ o p t. g.small o i (rw p a);
       })
 
-  pub seen_asked : (s : Stop) (r : Node) (u' : List ℕ) → f ≡ None → Numbered slots m nothing u n l s r u' → Numbered slots m x u n l s r u'
+  pub seen_asked : (s : Course) (r : Node) (u' : List ℕ) → f ≡ None → Numbered slots m nothing u n l s r u' → Numbered slots m x u n l s r u'
   seen_asked s r u' e d =
       let a : own_find x n ≡ None = sym pf ∙ e in
       record {
@@ -570,24 +577,16 @@ pub at_inside : (f : Found) (i n : ℕ) → Inside f n → f ≡ Some i → i < 
 at_inside f i n h e = h.inside i e
 
 -- a copy comes into use
-module _ (d : How) (u : List ℕ) (n : ℕ) (b : Bool) (pb : b ≡ is_copied d) where
-  pub copy_no : not b ≡ true → u ≡ noted_copy d u n
-  unfolding noted_copy
-  copy_no nb = let e : is_copied d ≡ false = sym pb ∙ not-true b nb in rw e
+module _ (u : List ℕ) (n : ℕ) (c : Bool) (pc : c ≡ among n (used_in u)) where
+  pub copy_known : c ≡ true → u ≡ with_copy u n
+  unfolding with_copy
+  copy_known t = rw (← pc, t)
 
-  module _ (nb : not b ≡ false) (c : Bool) (pc : c ≡ among n (used_in u)) where
-    e : is_copied d ≡ true
-    e = sym pb ∙ not-false b nb
+  pub copy_new : (u' : List ℕ) → c ≡ false → u' ≡ pushed u n → u' ≡ with_copy u n
+  unfolding with_copy
+  copy_new u' t p = rw (p, ← pc, t)
 
-    pub copy_known : c ≡ true → u ≡ noted_copy d u n
-    unfolding noted_copy
-    copy_known t = let q : among n (used_in u) ≡ true = sym pc ∙ t in rw (e, q)
-
-    pub copy_new : (u' : List ℕ) → c ≡ false → u' ≡ pushed u n → u' ≡ noted_copy d u n
-    unfolding noted_copy
-    copy_new u' t p = let q : among n (used_in u) ≡ false = sym pc ∙ t in rw (p, e, q)
-
-pub ruleset copy_exits = (copy_no, copy_known, copy_new)
+pub ruleset copy_exits = (copy_known, copy_new)
 
 pub reads_few : (m : ClientWord → ℕ) → count m Reads ≤ 96
 unfolding count
@@ -609,25 +608,26 @@ module _ (m : ClientWord → ℕ) (u : List ℕ) (b : Bool) (e : b ≡ over m (u
   pub under_lent : b ≡ false → Lent u
   under_lent f = not_over m u h (sym e ∙ f)
 
-pub ruleset meet_exits = (over_some, over_long, under_lent, meets_over, meets_lacking, meets_unfit, meets_fit)
+pub ruleset meet_exits = (over_some, over_long, under_lent, meets_over, meets_lacking, meets_unfit, meets_here, meets_copied, has_here, has_copied)
 
 module _ (b x u : List ℕ) (n k : ℕ) (e : k ≡ 1 + n) (h : Noted (held b) u) (g : OwnGood x) (f : Found) (pf : f ≡ own_find x k) where
-  pub node_own : (i : ℕ) (r : Node) → f ≡ Some i → r ≡ own_record x i → SeenNode (held b) x u n (record { stop = Going; node = r }) u
+  pub node_own : (i : ℕ) (r : Node) → f ≡ Some i → r ≡ own_record x i → SeenNode (held b) x u n (Ok r) u
   node_own i r d q = record { numbered = λ slots. rw (← e) (seen_own slots (held b) x u k (LacksNode n) h g f pf i r d q) }
 
-  pub node_seen : (p : Placed) (a : Seen) (u' : List ℕ) → f ≡ None → PlacedNode b u n p u' → a ≡ seen_in b p → SeenNode (held b) x u n a u'
-  node_seen p a u' d q t = rw t (record { numbered = λ slots. rw (← e) (seen_asked slots (held b) x u k (LacksNode n) h g f pf p.stop (placed_in b p) u' d (rw (← e) at (q.numbered slots))) })
+  module _ (d : f ≡ None) (u' : List ℕ) where
+    placed : (p : Result ℕ Stop) → PlacedNode b u n p u' → (slots : ℕ) → Numbered slots (held b) x u (1 + n) (LacksNode n) (course p) (placed_in b p) u'
+    placed p q slots = rw (← e) (seen_asked slots (held b) x u k (LacksNode n) h g f pf (course p) (placed_in b p) u' d (rw (← e) at (q.numbered slots)))
 
-  pub node_within : (p : Placed) (u' : List ℕ) → PlacedNode b u n p u' → p.place + 33 ≤ 7223
-  node_within p u' q = q.within
+    pub node_seen : (i : ℕ) (r : Node) → PlacedNode b u n (Ok i) u' → r ≡ node_at (view b) i → SeenNode (held b) x u n (Ok r) u'
+    node_seen i r q t = record { numbered = λ slots. rw t (placed (Ok i) q slots) }
 
-pub ruleset seen_exits = (node_own, node_seen, node_within, at_inside)
+    pub node_unseen : (s : Stop) → PlacedNode b u n (Err s) u' → SeenNode (held b) x u n (Err s) u'
+    node_unseen s q = record { numbered = placed (Err s) q }
 
-pub taken_going : (b : List ℕ) (p : Placed) (c : Bool) (n : Node) → c ≡ goes p.stop → c ≡ true → n ≡ node_at (view b) p.place → ◌≡◌ {A = Seen} (record { stop = p.stop; node = n }) (seen_in b p)
-taken_going b p c n e t q = rw (← e, t, q)
+pub placed_within : (b u : List ℕ) (n i : ℕ) (u' : List ℕ) → PlacedNode b u n (Ok i) u' → i + 33 ≤ 7223
+placed_within b u n i u' q = q.within
 
-pub taken_stopped : (b : List ℕ) (p : Placed) (c : Bool) (n : Node) → c ≡ goes p.stop → c ≡ false → n ≡ free_node 0 → ◌≡◌ {A = Seen} (record { stop = p.stop; node = n }) (seen_in b p)
-taken_stopped b p c n e t q = rw (← e, t, q)
+pub ruleset seen_exits = (node_own, node_seen, node_unseen, placed_within, at_inside)
 
 module _ (m : ClientWord → ℕ) (u : List ℕ) (b : Bool) (e : b ≡ over m (used_in u)) (h : Noted m u) where
   pub out_over : (u' : List ℕ) → b ≡ true → u' ≡ popped u → Outside m u (Aborts 4) u'
@@ -637,7 +637,6 @@ module _ (m : ClientWord → ℕ) (u : List ℕ) (b : Bool) (e : b ≡ over m (u
         asks = λ slots x o f w hold r. record { same = λ k. rw (see_is w o k, hold.out o f, full_ask slots m (used_in u) (object o) k (sym e ∙ t), popped_used u h.long c) };
         noted = popped_noted m u h;
         long = simp length-set;
-        stops = refl;
       })
 
   pub out_refused : b ≡ false → Outside m u Refused u
@@ -648,7 +647,6 @@ module _ (m : ClientWord → ℕ) (u : List ℕ) (b : Bool) (e : b ≡ over m (u
         asks = λ slots x o f w hold r. record { same = λ k. rw (see_is w o k, hold.out o f, walked, worked, run, have, v, f, broken, f) };
         noted = h;
         long = refl;
-        stops = refl;
       }
 
 pub ruleset outside_exits = (over_some, over_long, out_over, out_refused)
@@ -665,76 +663,114 @@ pub first_single : (v : ℕ) → first_slot (single 0 v) ≡ v
 unfolding single made pad
 first_single v = refl
 
+flag_value : (n : ℕ) (r : Node) (b : Bool) → b ≡ eqb (first_slot r) 1 → value_of (flag n) r ≡ value_of (flag n) (single 0 (one_if b))
+flag_value n r b e = rw (first_single (one_if b), ← e) (ap taken (back b))
+  where
+    back : (b : Bool) → b ≡ eqb (one_if b) 1
+    back true = refl
+    back false = refl
+
 module _ (slots : ℕ) (m : ClientWord → ℕ) (x u : List ℕ) (n : ℕ) (b : Bool) (e : b ≡ in_store slots n) where
   module _ (s : Stop) (u' : List ℕ) (t : not b ≡ true) (h : Outside m u s u') where
-    outside_is : (r : Node) → Small (node n) r → Answer slots m x u (node n) s r u'
-    outside_is r sm = record { asks = λ w hold. h.asks slots x (node n) (sym e ∙ not-true b t) w hold r; noted = h.noted; long = h.long; inside = λ g. never h.stops g; small = sm }
+    outside_is : (o : Obj) → object_in_store slots o ≡ false → (r : Node) → Small o r → Asked slots m x u o (Ended s) r u'
+    outside_is o f r sm = record { asks = λ w hold. h.asks slots x o f w hold r; noted = h.noted; long = h.long; inside = λ g. never refl g; small = sm }
 
-    pub node_out : (r : Node) → Answer slots m x u (node n) s (given s r) u'
-    node_out r = outside_is (given s r) (rw h.stops (free_small (node n)))
+    pub node_out : Asked slots m x u (node n) (Ended s) (free_node 0) u'
+    node_out = outside_is (node n) (sym e ∙ not-true b t) (free_node 0) (free_small (node n))
 
-    pub node_out_free : (r : Node) → r ≡ free_node 0 → Answer slots m x u (node n) s r u'
-    node_out_free r q = rw q (outside_is (free_node 0) (free_small (node n)))
-
-    pub flag_out : (v : ℕ) → Answer slots m x u (flag n) s (single 0 v) u'
-    flag_out v =
-        record { asks = λ w hold. h.asks slots x (flag n) (sym e ∙ not-true b t) w hold (single 0 v); noted = h.noted; long = h.long; inside = λ g. never h.stops g; small = tt }
+    pub flag_out : Asked slots m x u (flag n) (Ended s) (single 0 0) u'
+    flag_out = outside_is (flag n) (sym e ∙ not-true b t) (single 0 0) tt
 
   module _ (t : not b ≡ false) where
-    node_found : (s : Stop) (r : Node) (u' : List ℕ) → Numbered slots m x u (1 + n) (LacksNode n) s r u' → Answer slots m x u (node n) s r u'
+    node_found : (s : Course) (r : Node) (u' : List ℕ) → Numbered slots m x u (1 + n) (LacksNode n) s r u' → Asked slots m x u (node n) s r u'
     node_found s r u' h =
         record { asks = λ w hold. h.asks (node n) refl (sym e ∙ not-false b t) refl w hold; noted = h.noted; long = h.long; inside = λ g. sym e ∙ not-false b t; small = h.small (node n) refl (sym e ∙ not-false b t) }
 
-    pub node_see : (a : Seen) (u' : List ℕ) → SeenNode m x u n a u' → Answer slots m x u (node n) a.stop a.node u'
-    node_see a u' h = node_found a.stop a.node u' (h.numbered slots)
+    pub node_see : (a : Result Node Stop) (u' : List ℕ) → SeenNode m x u n a u' → Asked slots m x u (node n) (course a) (node_in a) u'
+    node_see a u' h = node_found (course a) (node_in a) u' (h.numbered slots)
 
-    flag_found : (s : Stop) (r : Node) (v : ℕ) (u' : List ℕ) → (goes s ≡ true → v ≡ first_slot r) → Numbered slots m x u (8193 + n) (LacksVector (server_of n)) s r u'
-        → Answer slots m x u (flag n) s (single 0 v) u'
+    flag_found : (s : Course) (r : Node) (v : Bool) (u' : List ℕ) → (goes s ≡ true → v ≡ eqb (first_slot r) 1) → Numbered slots m x u (8193 + n) (LacksVector (server_of n)) s r u'
+        → Asked slots m x u (flag n) s (single 0 (one_if v)) u'
     flag_found s r v u' q h =
-        answer_as slots m x u (flag n) s r (single 0 v) u' (λ g. rw (first_single v, q g)) tt
+        asked_as slots m x u (flag n) s r (single 0 (one_if v)) u' (λ g. flag_value n r v (q g)) tt
         (record { asks = λ w hold. h.asks (flag n) refl (sym e ∙ not-false b t) refl w hold; noted = h.noted; long = h.long; inside = λ g. sym e ∙ not-false b t; small = tt })
 
     module _ (k : ℕ) (d : k ≡ 8193 + n) (h : Noted m u) (g : OwnGood x) (f : Found) (pf : f ≡ own_find x k) where
-      pub flag_own : (i v : ℕ) → f ≡ Some i → v ≡ first_slot (own_record x i) → Answer slots m x u (flag n) Going (single 0 v) u
+      pub flag_own : (i v : ℕ) → f ≡ Some i → v ≡ first_slot (own_record x i) → Asked slots m x u (flag n) Going (single 0 (one_if (eqb v 1))) u
       flag_own i v c q =
-          flag_found Going (own_record x i) v u (λ a. q) (rw d at (seen_own slots m x u k (LacksVector (server_of n)) h g f pf i (own_record x i) c refl))
+          flag_found Going (own_record x i) (eqb v 1) u (λ a. rw q) (rw d at (seen_own slots m x u k (LacksVector (server_of n)) h g f pf i (own_record x i) c refl))
 
-      pub flag_asked : (v : Valued) (u' : List ℕ) → f ≡ None → AskedFlag m u n v u' → Answer slots m x u (flag n) v.stop (single 0 v.value) u'
-      flag_asked v u' c a =
-          flag_found v.stop a.node v.value u' a.value
-          (seen_asked slots m x u (8193 + n) (LacksVector (server_of n)) h g f (rw d at pf) v.stop a.node u' c (a.numbered slots))
+      pub flag_asked : (v : Result Bool Stop) (u' : List ℕ) → f ≡ None → AskedFlag m u n v u' → Asked slots m x u (flag n) (course v) (flag_in v) u'
+      flag_asked v u' c a = go v a.value (λ slots. seen_asked slots m x u (8193 + n) (LacksVector (server_of n)) h g f (rw d at pf) (course v) a.node u' c (a.numbered slots))
+        where
+          go : (v : Result Bool Stop) → IfOk v (λ t. t ≡ eqb (first_slot a.node) 1) → ((slots : ℕ) → Numbered slots m x u (8193 + n) (LacksVector (server_of n)) (course v) a.node u')
+              → Asked slots m x u (flag n) (course v) (flag_in v) u'
+          go (Ok t) q h = flag_found Going a.node t u' (λ g. q) (h slots)
+          go (Err s) q h = flag_found (Ended s) a.node false u' (λ g. never refl g) (h slots)
 
-pub node_ask : (slots : ℕ) (c u : List ℕ) (n : ℕ) (b : Bool) → b ≡ in_store slots n → not b ≡ false → (p : Placed) (u' : List ℕ) → PlacedNode c u n p u'
-    → Answer slots (held c) nothing u (node n) p.stop (placed_in c p) u'
+pub node_ask : (slots : ℕ) (c u : List ℕ) (n : ℕ) (b : Bool) → b ≡ in_store slots n → not b ≡ false → (p : Result ℕ Stop) (u' : List ℕ) → PlacedNode c u n p u'
+    → Asked slots (held c) nothing u (node n) (course p) (placed_in c p) u'
 node_ask slots c u n b e t p u' h =
-    node_found slots (held c) nothing u n b e t p.stop (placed_in c p) u' (h.numbered slots)
+    node_found slots (held c) nothing u n b e t (course p) (placed_in c p) u' (h.numbered slots)
 
-pub ask_within : (c u : List ℕ) (n : ℕ) (p : Placed) (u' : List ℕ) → PlacedNode c u n p u' → p.place + 33 ≤ 7223
+pub ask_within : (c u : List ℕ) (n : ℕ) (p : Result ℕ Stop) (u' : List ℕ) → PlacedNode c u n p u' → IfOk p InPart
 ask_within c u n p u' h = h.within
 
--- a flag of the store
-pub flag_met : (m : ClientWord → ℕ) (u : List ℕ) (n k y : ℕ) (q : Short) (right : Bool) (s : Stop) (u' : List ℕ) → k ≡ 8193 + n → y ≡ server_of n → q ≡ short (source m (8193 + n)) → right ≡ flag_usable m n q
-    → Meets m u k q.how right (LacksVector y) s u' → AskedFlag m u n (record { stop = s; value = q.value }) u'
-flag_met m u n k y q right s u' e o sh pr g =
-    record {
-      node = given s (source m (8193 + n)).node;
-      numbered = λ slots. rw (o, e) at (g.numbered slots (rw e how_is) (λ t. rw e (pr ∙ ap (flag_usable m n) sh ∙ sym (flag_usable_is slots m n (source m (8193 + n))))));
-      value = λ t. rw t (ap (λ (y : Short). y.value) sh);
-    }
+-- what stands for an object's record in few words
+short_how : (l : Look) → how (short l) ≡ l.how
+short_how l = go l.how
   where
-    how_is : q.how ≡ (source m (8193 + n)).how
-    how_is = ap (λ (y : Short). y.how) sh
+    go : (h : How) → how (short_as h l.node) ≡ h
+    go known.Here = refl
+    go known.Copied = refl
+    go known.Lacking = refl
+
+short_is : (l : Look) (s : Short) → Has (short l) s → s ≡ short_of l.node
+short_is l s = go l.how
+  where
+    go : (h : How) → Has (short_as h l.node) s → s ≡ short_of l.node
+    go known.Here e = sym e
+    go known.Copied e = sym e
+    go known.Lacking e = absurd e
+
+-- a flag of the store
+module _ (m : ClientWord → ℕ) (u : List ℕ) (n k y : ℕ) (f : Have Short) (right : Bool) (u' : List ℕ) (e : k ≡ 8193 + n) (o : y ≡ server_of n) (sh : f ≡ short (source m (8193 + n))) (pr : right ≡ flag_usable m n f) where
+  flag_numbered : (s : Course) → Meets m u k (how f) right (LacksVector y) s u' → (slots : ℕ) → Numbered slots m nothing u (8193 + n) (LacksVector (server_of n)) s (given s (source m (8193 + n)).node) u'
+  flag_numbered s g slots =
+      rw (o, e) at (g.numbered slots (rw e how_is) (λ t. rw e (pr ∙ ap (flag_usable m n) sh ∙ sym (flag_usable_is slots m n (source m (8193 + n)) (rw how_is at t)))))
+    where
+      how_is : how f ≡ (source m (8193 + n)).how
+      how_is = ap how sh ∙ short_how (source m (8193 + n))
+
+  pub flag_met : (s : Short) → Meets m u k (how f) right (LacksVector y) Going u' → Has f s → AskedFlag m u n (Ok (eqb s.value 1)) u'
+  flag_met s g h =
+      let q : s ≡ short_of (source m (8193 + n)).node = short_is (source m (8193 + n)) s (rw sh at h) in
+      record { node = (source m (8193 + n)).node; numbered = flag_numbered Going g; value = rw q }
+
+  pub flag_unmet : (s : Stop) → Meets m u k (how f) right (LacksVector y) (Ended s) u' → AskedFlag m u n (Err s) u'
+  flag_unmet s g = record { node = free_node 0; numbered = flag_numbered (Ended s) g; value = tt }
+
+pub ruleset flag_ways = (flag_met, flag_unmet)
 
 -- the metadata
-pub meta_met : (slots : ℕ) (m : ClientWord → ℕ) (u : List ℕ) (q : Short) (right : Bool) (s : Stop) (u' : List ℕ) → q ≡ short (source m 0) → right ≡ meta_usable slots q
-    → Meets m u 0 q.how right LacksMeta s u' → Answer slots m nothing u meta s (metadata 0 q.value q.states) u'
-meta_met slots m u q right s u' sh pr g =
-    let h = g.numbered slots (ap (λ (y : Short). y.how) sh) (λ t. pr ∙ ap (meta_usable slots) sh ∙ sym (meta_usable_is slots m (source m 0))) in
-    answer_as slots m nothing u meta s (given s (source m 0).node) (metadata 0 q.value q.states) u'
-    (λ t. rw (t, first_metadata q.value q.states, second_metadata q.value q.states, ap (λ (y : Short). y.value) sh, ap (λ (y : Short). y.states) sh)) tt
-    (record { asks = λ w hold. h.asks meta refl refl refl w hold; noted = h.noted; long = h.long; inside = λ t. refl; small = tt })
+module _ (slots : ℕ) (m : ClientWord → ℕ) (u : List ℕ) (f : Have Short) (right : Bool) (u' : List ℕ) (sh : f ≡ short (source m 0)) (pr : right ≡ meta_usable slots f) where
+  meta_asked : (s : Course) → Meets m u 0 (how f) right LacksMeta s u' → Asked slots m nothing u meta s (given s (source m 0).node) u'
+  meta_asked s g =
+      let how_is : how f ≡ (source m 0).how = ap how sh ∙ short_how (source m 0) in
+      let h = g.numbered slots how_is (λ t. pr ∙ ap (meta_usable slots) sh ∙ sym (meta_usable_is slots m (source m 0) (rw how_is at t))) in
+      record { asks = λ w hold. h.asks meta refl refl refl w hold; noted = h.noted; long = h.long; inside = λ t. refl; small = tt }
+
+  pub meta_met : (s : Short) → Meets m u 0 (how f) right LacksMeta Going u' → Has f s → Asked slots m nothing u meta Going (metadata 0 s.value s.states) u'
+  meta_met s g h =
+      let q : s ≡ short_of (source m 0).node = short_is (source m 0) s (rw sh at h) in
+      asked_as slots m nothing u meta Going (source m 0).node (metadata 0 s.value s.states) u' (λ t. rw (first_metadata s.value s.states, second_metadata s.value s.states, q)) tt (meta_asked Going g)
+
+  pub meta_unmet : (s : Stop) → Meets m u 0 (how f) right LacksMeta (Ended s) u' → Asked slots m nothing u meta (Ended s) (free_node 0) u'
+  meta_unmet s g = meta_asked (Ended s) g
+
+pub ruleset meta_ways = (meta_met, meta_unmet)
 
 pub name_small : (slots n : ℕ) (b : Bool) → b ≡ in_store slots n → not b ≡ false → n < 8192
 name_small slots n b e t = name_below slots n (sym e ∙ not-false b t)
 
-pub ruleset answer_exits = (node_out, node_out_free, flag_out, node_ask, ask_within, node_see, flag_own, flag_asked, name_small, at_inside)
+pub ruleset answer_exits = (node_out, flag_out, node_ask, ask_within, node_see, flag_own, flag_asked, name_small, at_inside)

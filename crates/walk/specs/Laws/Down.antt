@@ -1,7 +1,7 @@
 -- Laws of the way down.
-use Rattle.std.specs.Prelude.{◌≡◌, refl, Bool, false, not, List, [], ◌∷◌, map, length, get_or, take, set}
+use Rattle.std.specs.Prelude.{◌≡◌, refl, Result, Ok, Err, Bool, false, not, List, [], ◌∷◌, map, length, get_or, take, set}
 use Rattle.std.proofs.Math.Path.{sym}
-use Rattle.std.proofs.Common.{ap, ◌∙◌, add-one, get_or-set_same, get_or-set_other, take-suc, take-suc-set, take_all}
+use Rattle.std.proofs.Common.{ap, subst, ◌∙◌, add-one, get_or-set_same, get_or-set_other, take-suc, take-suc-set, take_all}
 use Rattle.std.proofs.Math.Bool.{true}
 use Prim.Native.Nat.{ℕ, zero, suc, ◌+◌, ◌-◌, ◌/◌, ◌≤◌, ◌<◌}
 use native.Mathlib.Omega.{arith}
@@ -9,6 +9,7 @@ use Rattle.std.proofs.Math.Decide.{ℕ_discrete}
 use Rattle.std.proofs.Math.ListN.{length-set}
 use borrow.Author.Tests.{not-true, not-false}
 use Rattle.nodes.specs.declared.node.Node.{Node}
+use Rattle.nodes.specs.Node.{free_node}
 use Rattle.nodes.specs.Place.{place}
 use Rattle.nodes.specs.Node.{keys_of}
 use Rattle.nodes.specs.Entries.{entries_of}
@@ -22,152 +23,113 @@ use Rattle.operations.specs.Object.{meta, node, no_tree}
 use Rattle.operations.specs.Path.{Cont, down, to_leaf}
 use Rattle.walk.specs.declared.down.Turn.{Turn}
 use Rattle.walk.specs.declared.down.Pass.{Pass}
-use Rattle.walk.specs.declared.walk.Seen.{Seen}
 use Rattle.walk.specs.declared.walk.Stop.{Stop}
-use Rattle.walk.specs.declared.walk.Stop.TheVariants.{Going, Aborts}
+use Rattle.walk.specs.declared.walk.Stop.TheVariants.{Aborts}
 use Rattle.client.specs.Layout.{ClientWord}
 use Rattle.client.specs.Record.{in_store, metadata}
 use Rattle.client.specs.Lent.{used_in}
 use Rattle.walk.specs.Entries.{opens, below, Inner, Below}
 use Rattle.walk.specs.Laws.Entries.{open_is, child_is, open_inner, extra_inner, down_inner, down_there, below_true}
-use Rattle.walk.specs.Walk.{goes, walked}
+use Rattle.walk.specs.Walk.{Course, Going, Ended, goes, walked}
 use Rattle.walk.specs.Laws.Walk.{walked_fails}
-use Rattle.walk.specs.Ask.{SmallNode, Noted, Answer, given, nothing}
-use Rattle.walk.specs.Laws.Ask.{none_held, answer_as, given_small, first_metadata}
-use Rattle.walk.specs.Down.{Kid, RootMet, blank, nowhere, turn_in, turns_in, Arrival, arrival, PathInPart, low, branches, trail, All, Linked, From, Stops, Above, Lowered, Led, AtRoot, Descends, Reaches, ToLeaf}
+use Rattle.walk.specs.Ask.{SmallNode, Noted, Asked, nothing}
+use Rattle.walk.specs.Laws.Ask.{none_held, first_metadata}
+use Rattle.walk.specs.Down.{Kid, RootMet, blank, nowhere, turn_in, turns_in, Arrival, no_arrival, arrival, PathInPart, low, branches, trail, All, Linked, From, Stops, Above, Lowered, Led, AtRoot, Descends, Reaches, ToLeaf}
 
-pub stops_not : (s : Stop) {A : Type 0} → goes s ≡ false → goes s ≡ true → A
+pub stops_not : (s : Course) {A : Type 0} → goes s ≡ false → goes s ≡ true → A
 stops_not s p q = let e : false ≡ true = sym p ∙ q in let z : ◌≡◌ {A = ℕ} 0 1 = cc in absurd (omega arith)
 
 -- a record that has room in a client's part has its sizes
 pub part_sized : (c : List ℕ) (p : ℕ) → p + 33 ≤ 7223 → 7223 ≤ length c / 8 → Sized (node_at (view c) p)
 part_sized c p h g = standing_sized c p (omega arith)
 
+pub node_sized : (r : Node) → length r.keys ≡ 14 → length r.slots ≡ 15 → Sized r
+node_sized r k s = record { keys = k; slots = s }
+
 -- what was asked for, used below the root
-module _ (slots : ℕ) (m : ClientWord → ℕ) (x u : List ℕ) (n : ℕ) (s : Stop) (r : Node) (u' : List ℕ) (b : Bool) (pb : b ≡ goes s) where
-  pub kid_stops : (l : ℕ) → Answer slots m x u (node n) s (given s r) u' → not b ≡ true → Kid slots m x u l n s r u'
-  kid_stops l h nb =
-      let no : goes s ≡ false = sym pb ∙ not-true b nb in
-      record {
-        asks = λ w hold lo k. rw ((h.asks w hold).same, no);
-        noted = h.noted;
-        long = h.long;
-        small = λ t. stops_not s no t;
-        fits = λ t. stops_not s no t;
-        whole = λ t. stops_not s no t;
-        inside = λ t. stops_not s no t;
-      }
+module _ (slots : ℕ) (m : ClientWord → ℕ) (x u : List ℕ) (n l : ℕ) (u' : List ℕ) where
+  pub kid_stops : (s : Stop) (r : Node) → Asked slots m x u (node n) (Ended s) r u' → Kid slots m x u l n (Ended s) r u'
+  kid_stops s r h = record {
+    asks = λ w hold lo k. rw (h.asks w hold).same;
+    noted = h.noted;
+    long = h.long;
+    small = λ t. stops_not (Ended s) refl t;
+    fits = λ t. stops_not (Ended s) refl t;
+    whole = λ t. stops_not (Ended s) refl t;
+    inside = λ t. stops_not (Ended s) refl t;
+  }
 
-  module _ (g : Sized r) (h : Answer slots m x u (node n) s (given s r) u') (nb : not b ≡ false) where
-    on : goes s ≡ true
-    on = sym pb ∙ not-false b nb
-
-    whole_answer : Answer slots m x u (node n) s r u'
-    whole_answer = rw on at h
-
+  module _ (r : Node) (g : Sized r) (h : Asked slots m x u (node n) Going r u') (c : Bool) (pc : c ≡ below l r) where
     f : Whole r
-    f = whole r g.keys g.slots whole_answer.small.keys
+    f = whole r g.keys g.slots h.small.keys
 
-    module _ (c : Bool) where
-      pub kid_bad : (l : ℕ) → c ≡ below l r → not c ≡ true → Kid slots m x u l n (Aborts 3) r u'
-      kid_bad l pc nc =
-          let e : below l r ≡ false = sym pc ∙ not-true c nc in
-          record {
-            asks = λ w hold lo k. rw ((whole_answer.asks w hold).same, on, child_is l lo n r f k, e) (walked_fails slots m (used_in u') no_tree);
-            noted = h.noted;
-            long = h.long;
-            small = λ t. stops_not (Aborts 3) refl t;
-            fits = λ t. stops_not (Aborts 3) refl t;
-            whole = λ t. stops_not (Aborts 3) refl t;
-            inside = λ t. stops_not (Aborts 3) refl t;
-          }
+    pub kid_bad : not c ≡ true → Kid slots m x u l n (Ended (Aborts 3)) (free_node 0) u'
+    kid_bad nc =
+        let e : below l r ≡ false = sym pc ∙ not-true c nc in
+        record {
+          asks = λ w hold lo k. rw ((h.asks w hold).same, child_is l lo n r f k, e) (walked_fails slots m (used_in u') no_tree);
+          noted = h.noted;
+          long = h.long;
+          small = λ t. stops_not (Ended (Aborts 3)) refl t;
+          fits = λ t. stops_not (Ended (Aborts 3)) refl t;
+          whole = λ t. stops_not (Ended (Aborts 3)) refl t;
+          inside = λ t. stops_not (Ended (Aborts 3)) refl t;
+        }
 
-      pub kid_good : (l : ℕ) → c ≡ below l r → not c ≡ false → Kid slots m x u l n s r u'
-      kid_good l pc nc =
-          let e : below l r ≡ true = sym pc ∙ not-false c nc in
-          record {
-            asks = λ w hold lo k. rw ((whole_answer.asks w hold).same, on, child_is l lo n r f k, e);
-            noted = h.noted;
-            long = h.long;
-            small = λ t. whole_answer.small;
-            fits = λ t. e;
-            whole = λ t. f;
-            inside = h.inside;
-          }
+    pub kid_good : not c ≡ false → Kid slots m x u l n Going r u'
+    kid_good nc =
+        let e : below l r ≡ true = sym pc ∙ not-false c nc in
+        record {
+          asks = λ w hold lo k. rw ((h.asks w hold).same, child_is l lo n r f k, e);
+          noted = h.noted;
+          long = h.long;
+          small = λ t. h.small;
+          fits = λ t. e;
+          whole = λ t. f;
+          inside = h.inside;
+        }
 
-pub ruleset kid_exits = (kid_stops, kid_bad, kid_good, part_sized)
-
--- a node that was seen
-answer_given : (slots : ℕ) (m : ClientWord → ℕ) (x u : List ℕ) (n : ℕ) (s : Stop) (r : Node) (u' : List ℕ) → Answer slots m x u (node n) s r u' → Answer slots m x u (node n) s (given s r) u'
-answer_given slots m x u n s r u' h = answer_as slots m x u (node n) s r (given s r) u' (λ t. rw t) (given_small n s r h.small) h
-
-module _ (slots : ℕ) (m : ClientWord → ℕ) (x u : List ℕ) (n l : ℕ) (a : Seen) (u' : List ℕ) (h : Answer slots m x u (node n) a.stop a.node u') (b : Bool) (pb : b ≡ goes a.stop) where
-  same_answer : Answer slots m x u (node n) a.stop (given a.stop a.node) u'
-  same_answer = answer_given slots m x u n a.stop a.node u' h
-
-  pub seen_stops : not b ≡ true → Kid slots m x u l n a.stop a.node u'
-  seen_stops nb = kid_stops slots m x u n a.stop a.node u' b pb l same_answer nb
-
-  module _ (lk : length a.node.keys ≡ 14) (ls : length a.node.slots ≡ 15) (nb : not b ≡ false) (c : Bool) (pc : c ≡ below l a.node) where
-    sized : Sized a.node
-    sized = record { keys = lk; slots = ls }
-
-    pub seen_bad : not c ≡ true → Kid slots m x u l n (Aborts 3) a.node u'
-    seen_bad nc = kid_bad slots m x u n a.stop a.node u' b pb sized same_answer nb c l pc nc
-
-    pub seen_good : not c ≡ false → Kid slots m x u l n a.stop a.node u'
-    seen_good nc = kid_good slots m x u n a.stop a.node u' b pb sized same_answer nb c l pc nc
-
-pub ruleset seen_kid_exits = (seen_stops, seen_bad, seen_good)
+pub ruleset kid_exits = (kid_stops, kid_bad, kid_good, part_sized, node_sized)
 
 -- the root
-module _ (slots : ℕ) (m : ClientWord → ℕ) (u : List ℕ) (n : ℕ) (s : Stop) (r : Node) (u' : List ℕ) (b : Bool) (pb : b ≡ goes s) where
-  pub root_stops : Answer slots m nothing u (node n) s (given s r) u' → not b ≡ true → RootMet slots m u n s r u'
-  root_stops h nb =
-      let no : goes s ≡ false = sym pb ∙ not-true b nb in
-      record {
-        asks = λ k. rw ((h.asks [] (none_held slots)).same, no);
-        noted = h.noted;
-        long = h.long;
-        small = λ t. stops_not s no t;
-        fits = λ t. stops_not s no t;
-        whole = λ t. stops_not s no t;
-        inside = λ t. stops_not s no t;
-      }
+module _ (slots : ℕ) (m : ClientWord → ℕ) (u : List ℕ) (n : ℕ) (u' : List ℕ) where
+  pub root_stops : (s : Stop) (r : Node) → Asked slots m nothing u (node n) (Ended s) r u' → RootMet slots m u n (Ended s) r u'
+  root_stops s r h = record {
+    asks = λ k. rw (h.asks [] (none_held slots)).same;
+    noted = h.noted;
+    long = h.long;
+    small = λ t. stops_not (Ended s) refl t;
+    fits = λ t. stops_not (Ended s) refl t;
+    whole = λ t. stops_not (Ended s) refl t;
+    inside = λ t. stops_not (Ended s) refl t;
+  }
 
-  module _ (g : Sized r) (h : Answer slots m nothing u (node n) s (given s r) u') (nb : not b ≡ false) where
-    goes_on : goes s ≡ true
-    goes_on = sym pb ∙ not-false b nb
+  module _ (r : Node) (g : Sized r) (h : Asked slots m nothing u (node n) Going r u') (c : Bool) (pc : c ≡ opens r) where
+    pub root_bad : not c ≡ true → RootMet slots m u n (Ended (Aborts 3)) (free_node 0) u'
+    root_bad nc =
+        let e : opens r ≡ false = sym pc ∙ not-true c nc in
+        record {
+          asks = λ k. rw ((h.asks [] (none_held slots)).same, open_is 0 n r k, e) (walked_fails slots m (used_in u') no_tree);
+          noted = h.noted;
+          long = h.long;
+          small = λ t. stops_not (Ended (Aborts 3)) refl t;
+          fits = λ t. stops_not (Ended (Aborts 3)) refl t;
+          whole = λ t. stops_not (Ended (Aborts 3)) refl t;
+          inside = λ t. stops_not (Ended (Aborts 3)) refl t;
+        }
 
-    root_answer : Answer slots m nothing u (node n) s r u'
-    root_answer = rw goes_on at h
-
-    module _ (c : Bool) (pc : c ≡ opens r) where
-      pub root_bad : not c ≡ true → RootMet slots m u n (Aborts 3) r u'
-      root_bad nc =
-          let e : opens r ≡ false = sym pc ∙ not-true c nc in
-          record {
-            asks = λ k. rw ((root_answer.asks [] (none_held slots)).same, goes_on, open_is 0 n r k, e) (walked_fails slots m (used_in u') no_tree);
-            noted = h.noted;
-            long = h.long;
-            small = λ t. stops_not (Aborts 3) refl t;
-            fits = λ t. stops_not (Aborts 3) refl t;
-            whole = λ t. stops_not (Aborts 3) refl t;
-            inside = λ t. stops_not (Aborts 3) refl t;
-          }
-
-      pub root_good : not c ≡ false → RootMet slots m u n s r u'
-      root_good nc =
-          let e : opens r ≡ true = sym pc ∙ not-false c nc in
-          record {
-            asks = λ k. rw ((root_answer.asks [] (none_held slots)).same, goes_on, open_is 0 n r k, e);
-            noted = h.noted;
-            long = h.long;
-            small = λ t. root_answer.small;
-            fits = λ t. e;
-            whole = λ t. whole r g.keys g.slots root_answer.small.keys;
-            inside = h.inside;
-          }
+    pub root_good : not c ≡ false → RootMet slots m u n Going r u'
+    root_good nc =
+        let e : opens r ≡ true = sym pc ∙ not-false c nc in
+        record {
+          asks = λ k. rw ((h.asks [] (none_held slots)).same, open_is 0 n r k, e);
+          noted = h.noted;
+          long = h.long;
+          small = λ t. h.small;
+          fits = λ t. e;
+          whole = λ t. whole r g.keys g.slots h.small.keys;
+          inside = h.inside;
+        }
 
 pub ruleset root_ways = (root_stops, root_bad, root_good, part_sized)
 
@@ -232,55 +194,53 @@ down_start slots m u key target root first path f h l = record {
 }
 
 module _ (slots : ℕ) (m : ClientWord → ℕ) (u₀ : List ℕ) (key target root : ℕ) (first : Node) (top : ℕ) (path : List Turn) (name : ℕ) (n : Node) (level : ℕ) (u : List ℕ) (d : Downward slots m u₀ key target root first top path name n level u) where
-  module _ (lt : target < level) (s : Stop) (i next : ℕ) (r : Node) (u' : List ℕ) (c : Lowered slots m u key level n s i next r u') (b : Bool) (pb : b ≡ goes s) where
+  module _ (lt : target < level) (i next : ℕ) (r : Node) (u' : List ℕ) where
     abbrev above : List Turn
     above = trail path level (top - level)
 
     abbrev turn : Turn
     turn = record { name = name; at = i; node = n }
 
-    pub down_stops : not b ≡ true → Led slots m u₀ key target root first (record { stop = s; top = top; path = path; name = name; node = n }) u'
-    down_stops nb =
-        let no : goes s ≡ false = sym pb ∙ not-true b nb in
-        record {
-          asks = λ stop st k. rw (d.same stop st k, c.asks stop (st.before level lt) k (branches above) name (low above), no);
-          noted = c.noted;
-          high = d.high;
-          reached = λ t. stops_not s no t;
-          linked = λ q t. stops_not s no t;
-        }
+    pub down_stops : (s : Stop) → Lowered slots m u key level n (Ended s) i next r u' → Led slots m u₀ key target root first (no_arrival s) u'
+    down_stops s c = record {
+      asks = λ stop st k. rw (d.same stop st k, c.asks stop (st.before level lt) k (branches above) name (low above));
+      noted = c.noted;
+      high = omega arith;
+      reached = λ t. stops_not (Ended s) refl t;
+      linked = λ q t. stops_not (Ended s) refl t;
+    }
 
-    pub down_long : length u' ≡ length u₀
-    down_long = c.long ∙ d.long
+    module _ (c : Lowered slots m u key level n Going i next r u') where
+      pub down_long : length u' ≡ length u₀
+      down_long = c.long ∙ d.long
 
-    pub down_more : not b ≡ false → Downward slots m u₀ key target root first top (set path level turn) next r (level - 1) u'
-    unfolding All Linked
-    down_more nb =
-        let on : goes s ≡ true = sym pb ∙ not-false b nb in
-        let up : suc (level - 1) ≡ level = omega arith in
-        let t : trail (set path level turn) (level - 1) (top - (level - 1)) ≡ turn ∷ above = trail_more path turn level top (omega arith) d.upper (omega (arith, d.size, d.high, d.upper)) in
-        let q : Below (level - 1) r = c.fits on in
-        record {
-          whole_way = d.whole_way;
-          long = down_long;
-          lower = omega arith;
-          upper = omega (arith, d.upper);
-          high = d.high;
-          size = simp length-set d.size;
-          level_is = q.level;
-          opened = q.opened;
-          small = c.small on;
-          whole = c.whole on;
-          noted = c.noted;
-          good = rw t (record { inner = c.turned.inner; whole = c.turned.whole; small = c.turned.small; within = c.within }, d.good);
-          linked = λ q. rw (t, up) (record { level = rw up d.level_is; child = c.child; there = c.inside on }, d.linked q);
-          same = λ stop st k. rw (t, d.same stop st k, c.asks stop (st.before level lt) k (branches above) name (low above), on);
-        }
+      pub down_more : (lower : ℕ) → level ≡ suc lower → Downward slots m u₀ key target root first top (set path level turn) next r lower u'
+      unfolding All Linked
+      down_more lower up =
+          let e : level - 1 ≡ lower = omega arith in
+          let t : trail (set path level turn) lower (top - lower) ≡ turn ∷ above = rw e at (trail_more path turn level top (omega arith) d.upper (omega (arith, d.size, d.high, d.upper))) in
+          let q : Below lower r = rw e at (c.fits refl) in
+          record {
+            whole_way = d.whole_way;
+            long = down_long;
+            lower = omega arith;
+            upper = omega (arith, d.upper);
+            high = d.high;
+            size = simp length-set d.size;
+            level_is = q.level;
+            opened = q.opened;
+            small = c.small refl;
+            whole = c.whole refl;
+            noted = c.noted;
+            good = rw t (record { inner = (c.turned refl).inner; whole = (c.turned refl).whole; small = (c.turned refl).small; within = (c.turned refl).within }, d.good);
+            linked = λ q. rw t (record { level = d.level_is ∙ up; child = c.child refl; there = c.inside refl }, subst (λ (v : ℕ). Linked slots v name above) up (d.linked q));
+            same = λ stop st k. rw (t, d.same stop st k, c.asks stop (st.before level lt) k (branches above) name (low above), e);
+          }
 
   pub down_above : target < level → Above n level
   down_above lt = record { whole = d.whole; small = d.small; opened = d.opened; level_is = d.level_is; inner = omega arith }
 
-  pub down_done : level ≤ target → Led slots m u₀ key target root first (record { stop = Going; top = top; path = path; name = name; node = n }) u
+  pub down_done : level ≤ target → Led slots m u₀ key target root first (record { course = Going; top = top; path = path; name = name; node = n }) u
   down_done h =
       let e : level ≡ target = omega (arith, d.lower) in
       let some : (lo : ℕ) → 0 < target → 0 < length (entries_of n lo) = λ lo g. let x = extra_inner n (open_inner n d.opened (omega (arith, d.level_is))) in omega (arith, length_entries_of n lo d.whole) in
@@ -341,31 +301,29 @@ module _ (b : List ℕ) (slots : ℕ) (m : ClientWord → ℕ) (u₀ : List ℕ)
       rw (p, e) (down_start slots m u₀ key target root (node_at (view b) first) (turns_in b (nowhere ∷ nowhere ∷ nowhere ∷ nowhere ∷ nowhere ∷ [])) f h refl, none_in_part, w)
 
   module _ (top : ℕ) (path : List Pass) (name place level : ℕ) (u : List ℕ) (d : Passing top path name place level u) where
-    pub pass_above : target < level → Above (node_at (view b) place) level
-    pass_above lt = down_above slots m u₀ key target root (node_at (view b) first) top (turns_in b path) name (node_at (view b) place) level u d.0 lt
-
     pub pass_done : level ≤ target
-        → Led slots m u₀ key target root (node_at (view b) first) (arrival b (record { stop = Going; top = top; path = path; name = name; place = place })) u
+        → Led slots m u₀ key target root (node_at (view b) first) (arrival b (Ok (record { top = top; path = path; name = name; place = place }))) u
     pass_done h = down_done slots m u₀ key target root (node_at (view b) first) top (turns_in b path) name (node_at (view b) place) level u d.0 h
 
     pub pass_path : PathInPart path × (place + 33 ≤ 7223)
     pass_path = (d.1, d.2)
 
-    module _ (lt : target < level) (s : Stop) (i next p : ℕ) (u' : List ℕ) (c : Lowered slots m u key level (node_at (view b) place) s i next (node_at (view b) p) u') (on : Bool) (po : on ≡ goes s) where
-      pub pass_stops : not on ≡ true
-          → Led slots m u₀ key target root (node_at (view b) first) (arrival b (record { stop = s; top = top; path = path; name = name; place = place })) u'
-      pass_stops nb = down_stops slots m u₀ key target root (node_at (view b) first) top (turns_in b path) name (node_at (view b) place) level u d.0 lt s i next (node_at (view b) p) u' c on po nb
+    -- v is the level as the code has it
+    module _ (lt : target < level) (v : ℕ) (ev : v ≡ level) (i next : ℕ) (u' : List ℕ) where
+      pub pass_stops : (s : Stop) (r : Node) → Lowered slots m u key v (node_at (view b) place) (Ended s) i next r u' → Led slots m u₀ key target root (node_at (view b) first) (no_arrival s) u'
+      pass_stops s r c = down_stops slots m u₀ key target root (node_at (view b) first) top (turns_in b path) name (node_at (view b) place) level u d.0 lt i next r u' s (rw ev at c)
 
-      pub pass_more : not on ≡ false → p + 33 ≤ 7223 → Passing top (set path level (record { name = name; at = i; place = place })) next p (level - 1) u'
-      pass_more nb w =
+      pub pass_more : (p lower : ℕ) → Lowered slots m u key v (node_at (view b) place) Going i next (node_at (view b) p) u' → suc lower ≡ level → p + 33 ≤ 7223
+          → Passing top (set path v (record { name = name; at = i; place = place })) next p lower u'
+      pass_more p lower c up w =
           let y : Pass = record { name = name; at = i; place = place } in
-          let e = down_more slots m u₀ key target root (node_at (view b) first) top (turns_in b path) name (node_at (view b) place) level u d.0 lt s i next (node_at (view b) p) u' c on po nb in
-          (rw (map_set (turn_in b) path level y) e, set_in_part path level y d.1 w', w)
+          let e = down_more slots m u₀ key target root (node_at (view b) first) top (turns_in b path) name (node_at (view b) place) level u d.0 lt i next (node_at (view b) p) u' (rw ev at c) lower (sym up) in
+          rw ev (rw (map_set (turn_in b) path level y) e, set_in_part path level y d.1 w', w)
         where
           w' : place + 33 ≤ 7223
           w' = d.2
 
-pub ruleset pass_exits = (pass_start, pass_above, pass_done, pass_path, pass_stops, pass_more)
+pub ruleset pass_exits = (pass_start, pass_done, pass_path, pass_stops, pass_more)
 
 -- the nodes of a path taken out
 pub turn_is : (b : List ℕ) (p : Pass) (n : Node) → n ≡ node_at (view b) p.place → ◌≡◌ {A = Turn} (record { name = p.name; at = p.at; node = n }) (turn_in b p)
@@ -403,44 +361,62 @@ pass_inside ps i h l g = h.each i (omega arith)
 pub ruleset taken_exits = (taken_none, taken_more, taken_all, pass_inside)
 
 module _ (slots : ℕ) (m : ClientWord → ℕ) (u : List ℕ) (key level : ℕ) (n : Node) (g : Above n level) (at next : ℕ) (pa : at ≡ place (keys_of n) key) (ha : at ≤ n.count) (pn : next ≡ get_or n.slots at 0) where
-  pub lowered : (s : Stop) (r : Node) (u' : List ℕ) → Kid slots m nothing u (level - 1) next s r u'
-      → Lowered slots m u key level n s at next r u'
-  lowered s r u' c =
-      let wn : Whole n = g.whole in
-      let i : Inner n = open_inner n g.opened (omega (arith, g.level_is, g.inner)) in
-      record {
-        asks = λ stop e k fs nm lo. rw (down_inner stop key k fs nm at next n lo level g.level_is wn i e pa ha pn, c.asks [] (none_held slots));
-        noted = c.noted;
-        long = c.long;
-        within = ha;
-        turned = record { inner = i; whole = wn; small = g.small; within = ha };
-        small = c.small;
-        whole = c.whole;
-        fits = λ t. below_true (level - 1) r (c.fits t);
-        child = pn;
-        inside = c.inside;
-      }
+  inner : Inner n
+  inner = open_inner n g.opened (omega (arith, g.level_is, g.inner))
+
+  pub lowered : (r : Node) (u' : List ℕ) → Kid slots m nothing u (level - 1) next Going r u' → Lowered slots m u key level n Going at next r u'
+  lowered r u' c = record {
+    asks = λ stop e k fs nm lo. rw (down_inner stop key k fs nm at next n lo level g.level_is g.whole inner e pa ha pn, c.asks [] (none_held slots));
+    noted = c.noted;
+    long = c.long;
+    turned = λ t. record { inner = inner; whole = g.whole; small = g.small; within = ha };
+    small = c.small;
+    whole = c.whole;
+    fits = λ t. below_true (level - 1) r (c.fits t);
+    child = λ t. pn;
+    inside = c.inside;
+  }
+
+  pub lower_stops : (s : Stop) (r : Node) (u' : List ℕ) → Kid slots m nothing u (level - 1) next (Ended s) r u' → Lowered slots m u key level n (Ended s) 0 0 r u'
+  lower_stops s r u' c = record {
+    asks = λ stop e k fs nm lo. rw (down_inner stop key k fs nm at next n lo level g.level_is g.whole inner e pa ha pn, c.asks [] (none_held slots));
+    noted = c.noted;
+    long = c.long;
+    turned = λ t. stops_not (Ended s) refl t;
+    small = c.small;
+    whole = c.whole;
+    fits = λ t. stops_not (Ended s) refl t;
+    child = λ t. stops_not (Ended s) refl t;
+    inside = λ t. stops_not (Ended s) refl t;
+  }
 
   pub child_inside : at < 15
   child_inside = omega (arith, g.small.keys)
 
-pub ruleset lower_exits = (lowered, child_inside)
+pub ruleset lower_exits = (lowered, lower_stops, child_inside)
 
-module _ (slots : ℕ) (m : ClientWord → ℕ) (u : List ℕ) (s : Stop) (q st : ℕ) (u₁ : List ℕ) (a : Answer slots m nothing u meta s (metadata 0 q st) u₁) (b : Bool) (pb : b ≡ goes s) where
-  pub no_root : (r : Node) → not b ≡ true → AtRoot slots m u s q r u₁
-  no_root r nb = let no : goes s ≡ false = sym pb ∙ not-true b nb in
-      record { asks = λ k. rw ((a.asks [] (none_held slots)).same, no); noted = a.noted; begins = λ t. stops_not s no t; inside = λ t. stops_not s no t }
+module _ (slots : ℕ) (m : ClientWord → ℕ) (u : List ℕ) where
+  pub no_root : (s : Stop) (y r : Node) (q : ℕ) (u₁ : List ℕ) → Asked slots m nothing u meta (Ended s) y u₁ → AtRoot slots m u (Ended s) q r u₁
+  no_root s y r q u₁ a = record { asks = λ k. rw (a.asks [] (none_held slots)).same; noted = a.noted; begins = λ t. stops_not (Ended s) refl t; inside = λ t. stops_not (Ended s) refl t }
 
-  pub met_root : (t : Stop) (r : Node) (u₂ : List ℕ) → not b ≡ false → RootMet slots m u₁ q t r u₂ → AtRoot slots m u t q r u₂
-  met_root t r u₂ nb h = let on : goes s ≡ true = sym pb ∙ not-false b nb in
-      record {
-        asks = λ k. rw ((a.asks [] (none_held slots)).same, on, first_metadata q st) (h.asks (k q));
-        noted = h.noted;
-        begins = λ g. record { whole = h.whole g; small = h.small g; opened = h.fits g; above = omega arith };
-        inside = h.inside;
-      }
+  module _ (q st : ℕ) (u₁ : List ℕ) (a : Asked slots m nothing u meta Going (metadata 0 q st) u₁) where
+    pub bad_root : (s : Stop) (y r : Node) (p : ℕ) (u₂ : List ℕ) → RootMet slots m u₁ q (Ended s) y u₂ → AtRoot slots m u (Ended s) p r u₂
+    bad_root s y r p u₂ h = record {
+      asks = λ k. rw ((a.asks [] (none_held slots)).same, first_metadata q st) (h.asks (k q));
+      noted = h.noted;
+      begins = λ t. stops_not (Ended s) refl t;
+      inside = λ t. stops_not (Ended s) refl t;
+    }
 
-pub ruleset root_exits = (no_root, met_root)
+    pub met_root : (r : Node) (u₂ : List ℕ) → RootMet slots m u₁ q Going r u₂ → AtRoot slots m u Going q r u₂
+    met_root r u₂ h = record {
+      asks = λ k. rw ((a.asks [] (none_held slots)).same, first_metadata q st) (h.asks (k q));
+      noted = h.noted;
+      begins = λ g. record { whole = h.whole g; small = h.small g; opened = h.fits g; above = omega arith };
+      inside = h.inside;
+    }
+
+pub ruleset root_exits = (no_root, bad_root, met_root)
 
 leaf_stops : Stops to_leaf 0
 leaf_stops = record { before = λ l h. go l h; there = λ h. absurd (omega arith) }
@@ -449,17 +425,28 @@ leaf_stops = record { before = λ l h. go l h; there = λ h. absurd (omega arith
     go zero h = absurd (omega arith)
     go (suc l) h = refl
 
-module _ (slots : ℕ) (m : ClientWord → ℕ) (u : List ℕ) (key : ℕ) (s : Stop) (q : ℕ) (r : Node) (u₁ : List ℕ) (a : AtRoot slots m u s q r u₁) (b : Bool) (pb : b ≡ goes s) where
-  pub no_way : (d : Arrival) → not b ≡ true → d.stop ≡ s → d.top ≤ 4 → Descends slots m u key d u₁
-  no_way d nb e t4 = let no : goes s ≡ false = sym pb ∙ not-true b nb in
-      record { asks = λ k. rw (a.asks (λ q l es. down to_leaf key (λ _ fs n es. k fs n es) l [] q es), e, no); noted = a.noted; high = t4; reached = λ t. stops_not s no (rw e at t); linked = λ t. stops_not s no (rw e at t) }
+module _ (slots : ℕ) (m : ClientWord → ℕ) (u : List ℕ) (key q : ℕ) (r : Node) (u₁ : List ℕ) where
+  pub no_way : (s : Stop) → AtRoot slots m u (Ended s) q r u₁ → Descends slots m u key (no_arrival s) u₁
+  no_way s a = record {
+    asks = λ k. rw (a.asks (λ q l es. down to_leaf key (λ _ fs n es. k fs n es) l [] q es));
+    noted = a.noted;
+    high = omega arith;
+    reached = λ t. stops_not (Ended s) refl t;
+    linked = λ t. stops_not (Ended s) refl t;
+  }
 
-  pub whole_way : (d : Arrival) (u₂ : List ℕ) → not b ≡ false → Led slots m u₁ key 0 q r d u₂ → Descends slots m u key d u₂
-  whole_way d u₂ nb h = let on : goes s ≡ true = sym pb ∙ not-false b nb in
-      record { asks = λ k. rw (a.asks (λ q l es. down to_leaf key (λ _ fs n es. k fs n es) l [] q es), on) (h.asks to_leaf leaf_stops (λ l fs n es. k fs n es)); noted = h.noted; high = h.high; reached = h.reached; linked = h.linked (a.inside on) }
+  module _ (a : AtRoot slots m u Going q r u₁) where
+    pub whole_way : (d : Arrival) (u₂ : List ℕ) → Led slots m u₁ key 0 q r d u₂ → Descends slots m u key d u₂
+    whole_way d u₂ h = record {
+      asks = λ k. rw (a.asks (λ q l es. down to_leaf key (λ _ fs n es. k fs n es) l [] q es)) (h.asks to_leaf leaf_stops (λ l fs n es. k fs n es));
+      noted = h.noted;
+      high = h.high;
+      reached = h.reached;
+      linked = h.linked (a.inside refl);
+    }
 
-  pub way_begins : not b ≡ false → From r 0
-  way_begins nb = a.begins (sym pb ∙ not-false b nb)
+    pub way_begins : From r 0
+    way_begins = a.begins refl
 
 pub ruleset descend_exits = (no_way, whole_way, way_begins)
 
@@ -478,46 +465,42 @@ reach_start slots m u key v first f h e = rw e (record {
 })
 
 module _ (slots : ℕ) (m : ClientWord → ℕ) (u₀ : List ℕ) (key : ℕ) (first n : Node) (level : ℕ) (u : List ℕ) (d : Reaching slots m u₀ key first n level u) where
-  pub reach_above : 0 < level → Above n level
-  reach_above lt = down_above slots m u₀ key 0 0 first first.level (d.path 0) (d.name 0) n level u (d.way 0) lt
+  pub reach_above : (v : ℕ) → v ≡ level → 0 < level → Above n v
+  reach_above v ev lt = rw ev (down_above slots m u₀ key 0 0 first first.level (d.path 0) (d.name 0) n level u (d.way 0) lt)
 
   pub reach_done : level ≤ 0 → Reaches slots m u₀ key first Going n u
   reach_done h = record {
-    come = λ root. record { stop = Going; top = first.level; path = d.path root; name = d.name root; node = n };
-    stop = λ root. refl;
+    come = λ root. record { course = Going; top = first.level; path = d.path root; name = d.name root; node = n };
+    course = λ root. refl;
     node = λ root. refl;
     led = λ root. down_done slots m u₀ key 0 root first first.level (d.path root) (d.name root) n level u (d.way root) h;
   }
 
-  module _ (lt : 0 < level) (s : Stop) (i next : ℕ) (r : Node) (u' : List ℕ) (c : Lowered slots m u key level n s i next r u') (b : Bool) (pb : b ≡ goes s) where
-    pub reach_stops : not b ≡ true → Reaches slots m u₀ key first s n u'
-    reach_stops nb = record {
-      come = λ root. record { stop = s; top = first.level; path = d.path root; name = d.name root; node = n };
-      stop = λ root. refl;
+  module _ (lt : 0 < level) (v : ℕ) (ev : v ≡ level) (i next : ℕ) (r : Node) (u' : List ℕ) where
+    pub reach_stops : (s : Stop) → Lowered slots m u key v n (Ended s) i next r u' → Reaches slots m u₀ key first (Ended s) (free_node 0) u'
+    reach_stops s c = record {
+      come = λ root. no_arrival s;
+      course = λ root. refl;
       node = λ root. refl;
-      led = λ root. down_stops slots m u₀ key 0 root first first.level (d.path root) (d.name root) n level u (d.way root) lt s i next r u' c b pb nb;
+      led = λ root. down_stops slots m u₀ key 0 root first first.level (d.path root) (d.name root) n level u (d.way root) lt i next r u' s (rw ev at c);
     }
 
-    pub reach_long : length u' ≡ length u₀
-    reach_long = c.long ∙ (d.way 0).long
-
-    pub reach_more : not b ≡ false → Reaching slots m u₀ key first r (level - 1) u'
-    reach_more nb = record {
+    pub reach_more : (lower : ℕ) → Lowered slots m u key v n Going i next r u' → suc lower ≡ level → Reaching slots m u₀ key first r lower u'
+    reach_more lower c up = record {
       path = λ root. set (d.path root) level (record { name = d.name root; at = i; node = n });
       name = λ root. next;
-      way = λ root. down_more slots m u₀ key 0 root first first.level (d.path root) (d.name root) n level u (d.way root) lt s i next r u' c b pb nb;
+      way = λ root. down_more slots m u₀ key 0 root first first.level (d.path root) (d.name root) n level u (d.way root) lt i next r u' (rw ev at c) lower (sym up);
     }
 
-pub ruleset reach_exits = (reach_start, reach_above, reach_done, reach_stops, reach_long, reach_more)
+pub ruleset reach_exits = (reach_start, reach_above, reach_done, reach_stops, reach_more)
 
-module _ (slots : ℕ) (m : ClientWord → ℕ) (u : List ℕ) (key : ℕ) (s : Stop) (q : ℕ) (r : Node) (u₁ : List ℕ) (a : AtRoot slots m u s q r u₁) (b : Bool) (pb : b ≡ goes s) where
-  pub leaf_none : not b ≡ true → ToLeaf slots m u key s r u₁
-  leaf_none nb =
-      let d : Arrival = record { stop = s; top = 0; path = []; name = 0; node = r } in
-      record { come = d; stop = refl; node = refl; descends = no_way slots m u key s q r u₁ a b pb d nb refl (omega arith) }
+module _ (slots : ℕ) (m : ClientWord → ℕ) (u : List ℕ) (key q : ℕ) (r : Node) (u₁ : List ℕ) where
+  pub leaf_none : (s : Stop) → AtRoot slots m u (Ended s) q r u₁ → ToLeaf slots m u key (Ended s) (free_node 0) u₁
+  leaf_none s a = record { come = no_arrival s; course = refl; node = refl; descends = no_way slots m u key q r u₁ s a }
 
-  pub leaf_reached : (t : Stop) (n : Node) (u₂ : List ℕ) → not b ≡ false → Reaches slots m u₁ key r t n u₂ → ToLeaf slots m u key t n u₂
-  leaf_reached t n u₂ nb h =
-      record { come = h.come q; stop = h.stop q; node = h.node q; descends = whole_way slots m u key s q r u₁ a b pb (h.come q) u₂ nb (h.led q) }
+  module _ (a : AtRoot slots m u Going q r u₁) where
+    pub leaf_reached : (t : Course) (n : Node) (u₂ : List ℕ) → Reaches slots m u₁ key r t n u₂ → ToLeaf slots m u key t n u₂
+    leaf_reached t n u₂ h =
+        record { come = h.come q; course = h.course q; node = h.node q; descends = whole_way slots m u key q r u₁ a (h.come q) u₂ (h.led q) }
 
 pub ruleset leaf_exits = (leaf_none, leaf_reached, way_begins)

@@ -4,11 +4,10 @@ use Rattle.nodes.specs.declared.node.Node.{Node}
 use Rattle.nodes.specs.Found.{Found}
 use Rattle.std.specs.Prelude.{Some, None}
 use Rattle.nodes.specs.Node.{free_node}
-use Rattle.client.specs.declared.answer.Look.{Look}
 use Rattle.client.specs.declared.part.Set.TheVariants.{Reads}
 use Rattle.client.specs.Layout.{ClientWord}
 use Rattle.client.specs.Sets.{count}
-use Rattle.client.specs.Have.{is_found, is_copied, source, look_fits}
+use Rattle.client.specs.Have.{Look, is_found, is_copied, source, look_fits}
 use Rattle.client.specs.Run.{among}
 use Rattle.client.specs.Lent.{own_find, own_record, used_in, pushed}
 
