@@ -9,22 +9,22 @@ pub mod Ask
 -- the way down from the root
 pub mod Down
 -- what stops a walk is no answer
---M
+pub mod Mute
 -- where a walk begins; lookup; pairs found in leaves; leaves in a row
 pub mod Begin
---L
+pub mod Lookup
 pub mod Found
---S
---N
+pub mod Seek
+pub mod Near
 -- how a walk stops; the work step of an operation that only reads
 pub mod Operation
---St
---Lk
+pub mod Stopped
+pub mod Look
 -- own writes, slots taken and freed
 pub mod Own
 pub mod Write
---T
+pub mod Take
 -- slots looked for on servers in a row
 pub mod Counted
---V
---Se
+pub mod Vector
+pub mod Search

@@ -41,7 +41,8 @@ pub fn take_flag(
     requires { Writing part.now own.old used.old own_most }
     ensures { over_lent FlagTaken slots part own used name (course result) own.new used.new }
 {
-    if see_flag(part, slots, own, used, name)? {
+    let taken = see_flag(part, slots, own, used, name)?;
+    if taken {
         return Err(Stop::Aborts(1));
     }
     let number = flag_number(name);

@@ -324,7 +324,7 @@ pub record Begun (b : List ℕ) (leaf : ℕ) (w : Wish) (start count many : ℕ)
 
 abbrev pub Gathers : List ℕ → ℕ → Wish → List ℕ → ℕ → ℕ → ℕ → List ℕ → ℕ → Type 0
 Gathers b leaf w f₀ start count many f j =
-    Begun b leaf w start count many × Gathering w.wanted (sought_in w.sought w.key (entries_of (node_at (view b) leaf) 0)) (pairs_in f₀) f j × (length f ≡ length f₀)
+    Begun b leaf w start count many × Gathering w.wanted (sought_in w.sought w.key (entries_of (node_at (view b) leaf) 0)) (pairs_in f₀) f j
 
 module _ (b : List ℕ) (leaf : ℕ) (w : Wish) (f₀ : List ℕ) (start count many : ℕ) where
   abbrev at_leaf : Node
@@ -336,7 +336,7 @@ module _ (b : List ℕ) (leaf : ℕ) (w : Wish) (f₀ : List ℕ) (start count m
   pub gathers_start : LeafAt at_leaf → start ≡ start_in w.sought (keys_of at_leaf) w.key → start ≤ at_leaf.count → count ≡ at_leaf.count → many ≡ many_from w.sought start count → Roomy w.wanted f₀
       → Gathers b leaf w f₀ start count many f₀ 0
   gathers_start h ps le pc pm r =
-      (record { stands = h; begins = ps; within = le; counted = pc; sought = pm }, gather_start w.wanted those (pairs_in f₀) f₀ r refl, refl)
+      (record { stands = h; begins = ps; within = le; counted = pc; sought = pm }, gather_start w.wanted those (pairs_in f₀) f₀ r refl)
 
   module _ (f : List ℕ) (j : ℕ) (g : Gathers b leaf w f₀ start count many f j) where
     long_are : length those ≡ many
@@ -366,7 +366,6 @@ module _ (b : List ℕ) (leaf : ℕ) (w : Wish) (f₀ : List ℕ) (start count m
         rw e (
           g.0,
           gather_more w.wanted those (pairs_in f₀) f j g.1 less (omega (arith, long_are)) k v (sought_at at_leaf g.0.stands w.sought w.key start g.0.begins g.0.within j at),
-          pushed_length f k v (gathers_push less).1 ∙ g.2,
         )
 
 pub one_taken : (n : Node) (s : Sought) (start j i k v : ℕ) (f f' : List ℕ) → i ≡ index_from s start j → k ≡ get_or n.keys i 0 → v ≡ get_or n.slots i 0 → f' ≡ pushed_pair f k v → f' ≡ with_one n s start j f
