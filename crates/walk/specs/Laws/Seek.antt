@@ -231,7 +231,7 @@ module _ (right : Bool) (top : ℕ) (path : List Turn) (level l : ℕ) (c : Clim
           let a : Heading = record { path = set path (l + 1) b; level = l; name = name } in
           let next : (g : Search) (f : ℕ → ℕ) → above g right top path level f ≡ onto g right top a.path a.level a.name (get_or (entries_of n (c.lows f 0)) at (0, 0)).0 (c.lows f) =
           λ g f. rw (c.same g f, opened, s, ← v (c.lows f 0), pa) (visit_next right (seek g (visit right) l) (entries_of n (c.lows f 0)) n.count (get_or path (l + 1) d).at
-              (climb g right (suc l) (rests right bs (λ j. c.lows f (suc j)))) (long_enough (c.lows f 0)) taken.0.within going_on) in
+          (climb g right (suc l) (rests right bs (λ j. c.lows f (suc j)))) (long_enough (c.lows f 0)) taken.0.within going_on) in
           let stacked : Stacked top a.path a.level = record {
             high = c.stacked.high;
             size = simp length-set c.stacked.size;
@@ -429,6 +429,7 @@ module _ (w : Wish) (top : ℕ) (path : List Turn) (level : ℕ) (n : Node) (got
         let i : Inner n = open_inner n s.opened (omega (arith, s.level_is)) in
         let x = extra_inner n i in
         let e : suc (level - 1) ≡ level = omega arith in
+        let most : at ≤ n.count = at_most to in
         let t : trail (set path level b) (level - 1) (top - (level - 1)) ≡ b ∷ trail path level (top - level) =
         trail_more path b level top (omega arith) (omega (arith, s.below)) (omega (arith, s.below, k.high, k.size)) in
         let v : (j : ℕ) → (get_or (entries_of n j) at (0, 0)).1 ≡ get_or n.slots at 0 = λ j. entry_slot n j s.whole at (omega arith) in
@@ -437,8 +438,8 @@ module _ (w : Wish) (top : ℕ) (path : List Turn) (level : ℕ) (n : Node) (got
         let ga : g ≡ a = rw (is, first_is to n.count) in
         let next : (j : ℕ) (f : ℕ → ℕ) → afterwards w top path level n j f got ≡ onto (search_of w) to top g.path g.level g.name (get_or (entries_of n j) at (0, 0)).0 (pushed j f) got =
         λ j f. let p = above (search_of w) to top path level f in
-            rw (t, read_inner (search_of w) to level (entries_of n j) p got z, e, ← v j)
-            (ap (λ (o : Onward). o got) (visit_first to (seek (search_of w) (visit to) (level - 1)) (entries_of n j) n.count p (omega (arith, length_entries_of n j s.whole)))) in
+        rw (t, read_inner (search_of w) to level (entries_of n j) p got z, e, ← v j)
+        (ap (λ (o : Onward). o got) (visit_first to (seek (search_of w) (visit to) (level - 1)) (entries_of n j) n.count p (omega (arith, length_entries_of n j s.whole)))) in
         let stacked : Stacked top g.path g.level = record { high = k.high; size = simp length-set k.size; good = rw t (record { inner = i; whole = s.whole; small = s.small; within = at_most to }, k.good) } in
         let y : pow (level - 1) + times n.count (pow (level - 1)) < pow level = rw e at (pow_more (level - 1) n.count s.small.keys) in
         let lighter : weight to top g.path g.level < weight to top path level = rw (weight, t, load, m, e) (omega arith) in

@@ -8,7 +8,7 @@ use Rattle.std.proofs.Math.Option.{Option, none, some}
 use Prim.Native.Nat.{ℕ, suc, ◌+◌, ◌≤◌, ◌<◌}
 use borrow.Author.Tests.{lt-ltb, not-true, not-false}
 use Rattle.nodes.specs.Found.{Found}
-use Rattle.std.specs.Prelude.{Some, None, Result}
+use Rattle.std.specs.Prelude.{Some, None}
 use Rattle.nodes.specs.Found.{found, Inside}
 use Rattle.nodes.proofs.Laws.Found.{found_some, absent_inside}
 use Rattle.nodes.specs.Vector.{shifted, lowest_free, or_else, free_from, first_free}
@@ -23,7 +23,7 @@ use Rattle.client.specs.Vectors.{has_vector, seen_words, is_fetched, vector_fits
 use Rattle.client.specs.Have.{have, broken}
 use Rattle.client.specs.Run.{run}
 use Rattle.client.specs.Lent.{own_count, used_in}
-use Rattle.walk.specs.Walk.{Course, Going, Ended, course, told, over, worked, walked, carry}
+use Rattle.walk.specs.Walk.{Course, Going, Ended, told, over, worked, walked, carry}
 use Rattle.walk.specs.Laws.Walk.{full_ask}
 use Rattle.walk.specs.Ask.{HoldsWrites, Noted, popped}
 use Rattle.walk.specs.Laws.Ask.{popped_used, popped_noted, over_some, over_long}
@@ -154,7 +154,7 @@ module _ (slots : ℕ) (m : ClientWord → ℕ) (x u : List ℕ) (s slot : ℕ) 
     pub look_chooses : (i : ℕ) → f ≡ Some i → Looked slots m x u s slot Going (Some i) u'
     look_chooses i pi = record { asks = λ w hold ss k. rw (h.asks slots, found_free w hold, pi); near = rw pi at near; noted = h.noted; long = h.long }
 
-    pub look_passes : (p : Result (Unit {0}) Stop) → f ≡ None → course p ≡ passes m s → Looked slots m x u s slot (course p) None u'
+    pub look_passes : (p : Course) → f ≡ None → p ≡ passes m s → Looked slots m x u s slot p None u'
     unfolding passes
     look_passes p pi pp = record {
       asks = λ w hold ss k. rw (h.asks slots, found_free w hold, pi, pp, h.again refl slots, found_free w hold, pi) (go (is_fetched m s) ss k w);
