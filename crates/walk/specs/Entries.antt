@@ -1,5 +1,5 @@
 -- The code's nodes beside the entries that plans speak of.
-use Rattle.std.specs.Prelude.{◌≡◌, Bool, true, false, cond, ℕ, suc, ◌-◌, ◌≤◌, ◌<◌, ltb, leb, eqb, take, drop, get_or}
+use Rattle.std.specs.Prelude.{◌≡◌, Bool, true, false, cond, ℕ, suc, ◌≤◌, ◌<◌, ltb, leb, eqb, take, drop, get_or}
 use Rattle.nodes.specs.declared.node.Node.{Node}
 use Rattle.operations.specs.Entry.{Entries}
 use Rattle.operations.specs.Path.{Branch}

@@ -2,7 +2,7 @@
 use Rattle.std.specs.Prelude.{◌≡◌, true, List, ◌∷◌, ℕ, ◌+◌, ◌≤◌, length, get_or, Result}
 use Rattle.nodes.specs.Found.{Found}
 use Rattle.nodes.specs.Found.{Inside}
-use Rattle.nodes.specs.Name.{name, server_of, slot_of}
+use Rattle.nodes.specs.Name.{server_of, slot_of}
 use Rattle.nodes.specs.Placement.{row}
 use Rattle.operations.specs.Object.{flag, taken, Writes}
 use Rattle.operations.specs.Slot.{chosen, search, open_ones, take_on}

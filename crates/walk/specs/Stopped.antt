@@ -4,7 +4,7 @@ use Rattle.walk.specs.declared.walk.Stop.TheVariants.{Refused, Aborts}
 use Rattle.client.specs.Layout.{ClientWord, op_number, op_value, op_server, reads_count, writes_count, limit}
 use Rattle.client.specs.Lent.{InUse, used_in}
 use Rattle.client.specs.Work.{Worked, refused, fetches, aborted, answers, worked}
-use Rattle.walk.specs.Walk.{Course, Ended, Answered, lack, walked}
+use Rattle.walk.specs.Walk.{Course, Ended, Answered, lack}
 use Rattle.client.specs.Work as C
 use Rattle.client.specs.declared.part.Set.TheVariants.{Reads, Writes}
 use Rattle.client.specs.Bounds.{most_servers, most_listed}

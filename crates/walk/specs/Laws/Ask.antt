@@ -1,7 +1,7 @@
 -- Laws of a question: own writes, then what the part has.
 use Rattle.std.specs.Prelude.{◌≡◌, Bool, ◌&&◌, ◌||◌, not, List, [], ◌∷◌, ◌++◌, ℕ, ◌+◌, ◌-◌, ◌/◌, ◌≤◌, ◌<◌, take, drop, set, Result, Ok, Err, IfOk}
 use Rattle.std.proofs.Math.Path.{refl, sym}
-use Rattle.std.proofs.Common.{ap, ◌∙◌, subst, arith, add-one, length-append, length-set, take-suc-set, get_or-set_same, get_or-set_other, take-take}
+use Rattle.std.proofs.Common.{ap, ◌∙◌, arith, add-one, length-append, length-set, take-suc-set, get_or-set_same, get_or-set_other, take-take}
 use Rattle.std.proofs.Math.Bool.{true, false}
 use Rattle.std.proofs.Math.Option.{Option, none, some}
 use Rattle.std.proofs.Math.Decide.{ℕ_discrete}

@@ -1,5 +1,5 @@
 -- Laws of the way down.
-use Rattle.std.specs.Prelude.{◌≡◌, refl, Result, Ok, Err, Bool, false, not, List, [], ◌∷◌, map, length, get_or, take, set}
+use Rattle.std.specs.Prelude.{◌≡◌, refl, Ok, Bool, false, not, List, [], ◌∷◌, map, length, get_or, take, set}
 use Rattle.std.proofs.Math.Path.{sym}
 use Rattle.std.proofs.Common.{ap, subst, ◌∙◌, add-one, get_or-set_same, get_or-set_other, take-suc, take-suc-set, take_all}
 use Rattle.std.proofs.Math.Bool.{true}

@@ -10,7 +10,7 @@ use Rattle.std.proofs.Math.Dec.{ltb}
 use Rattle.base.specs.Test.{ifd}
 use Rattle.nodes.specs.Name.{server_of, slot_of}
 use Rattle.nodes.specs.Placement.{row}
-use Rattle.operations.specs.Object.{Obj, meta, node, flag, Ask, object, vector, fetched, Val, root, body, taken, flags, states_of, no_tree, Writes, hit}
+use Rattle.operations.specs.Object.{Obj, node, flag, Ask, object, vector, fetched, Val, root, body, taken, flags, states_of, no_tree, Writes, hit}
 use Rattle.operations.specs.Slot.{chosen, free_slot, search, open_ones, when_free_flag, take_flag, take_on, take_for, when_free_node, take_node, release}
 use Rattle.operations.specs.Entry.{Entries, fewest_entries, cut}
 use Rattle.operations.specs.Path.{TreePlan, see, when_root, open_node, kid, Branch, Cont, down, at_root, to_leaf, from_root}

@@ -2,7 +2,7 @@
 use Rattle.std.specs.Prelude.{◌≡◌, refl, Bool, true, false, List, [], ◌∷◌, ℕ, ◌-◌, ◌≤◌, length, drop}
 use Rattle.std.proofs.Common.{sym, ◌∙◌, arith, length-take, take-append-drop, le-leb}
 use Rattle.std.proofs.Math.Path.{ap}
-use Rattle.operations.specs.Object.{meta, node, flag, Ask, object, vector, fetched, Ans, Writes}
+use Rattle.operations.specs.Object.{Ans, Writes}
 use Rattle.operations.specs.Entry.{Entries}
 use Rattle.operations.specs.Operation.{reading}
 use Rattle.walk.specs.declared.walk.Stop.TheVariants.{Refused, Aborts}

@@ -1,7 +1,6 @@
 -- Laws of slots taken and freed.
-use Rattle.std.specs.Prelude.{◌≡◌, refl, Bool, true, false, cond, not, List, ◌∷◌, ℕ, zero, suc, ◌+◌, ◌<◌, eqb, length, get_or}
-use Rattle.std.proofs.Common.{sym, ◌∙◌, arith, eq-eqb, ne_eqb}
-use Rattle.std.proofs.lemmas.Bool.{not-true, not-false}
+use Rattle.std.specs.Prelude.{◌≡◌, refl, Bool, true, false, cond, List, ◌∷◌, ℕ, zero, suc, ◌+◌, ◌<◌, eqb, length, get_or}
+use Rattle.std.proofs.Common.{◌∙◌, arith, eq-eqb, ne_eqb}
 use Rattle.base.specs.Test.{one_if}
 use Rattle.nodes.specs.declared.node.Node.{Node}
 use Rattle.nodes.specs.Lists.{pad}
@@ -15,7 +14,7 @@ use Rattle.walk.specs.declared.walk.Stop.TheVariants.{Aborts}
 use Rattle.client.specs.Layout.{ClientWord}
 use Rattle.client.specs.Record.{number, value_of, single, record_of}
 use Rattle.client.specs.Lent.{OwnFits, own_put, used_in}
-use Rattle.walk.specs.Walk.{Course, Going, Ended}
+use Rattle.walk.specs.Walk.{Going, Ended}
 use Rattle.walk.specs.Laws.Walk.{walked_fails}
 use Rattle.walk.specs.Laws.Ask.{first_single, name_below}
 use Rattle.walk.specs.Ask.{SmallNode, OwnGood, Asked}
