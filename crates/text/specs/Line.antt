@@ -1,7 +1,8 @@
--- "A line is 3 or 6 unsigned 64-bit numbers in decimal, parted by one space; any other .. prints `bad`": bytes without the newline.
-use Rattle.std.specs.Prelude.{Bool, true, false, cond, ◌&&◌, List, [], ◌∷◌, map, ℕ, ◌+◌, ◌*◌, ◌-◌, ◌^◌, eqb, leb, ltb, length, get_or}
+-- "A line is 3 or 6 unsigned 64-bit numbers in decimal, parted by one space; any other .. prints `bad`": bytes without the newline. A bad line
+-- is None.
+use Rattle.std.specs.Prelude.{Bool, true, false, cond, ◌&&◌, List, [], ◌∷◌, map, ℕ, ◌+◌, ◌*◌, ◌-◌, ◌^◌, eqb, leb, ltb, length, get_or, Option, Some, None}
 use Rattle.text.specs.declared.read.Line.{Line}
-use Rattle.text.specs.declared.read.Line.TheVariants.{Sizes, Step, Bad}
+use Rattle.text.specs.declared.read.Line.TheVariants.{Sizes, Step}
 
 -- "parted by one space": the pieces before, between and after the spaces (byte 32)
 abbrev pub onto_first : ℕ → List (List ℕ) → List (List ℕ)
@@ -40,10 +41,10 @@ numbers? [] = true
 numbers? (p ∷ ps) = number? p && numbers? ps
 
 -- "3 or 6": the three sizes, or the six fields of a step
-unfoldable pub of_numbers : List ℕ → Line
+unfoldable pub of_numbers : List ℕ → Option Line
 of_numbers n =
-    cond (eqb (length n) 3) (Sizes (get_or n 0 0) (get_or n 1 0) (get_or n 2 0))
-    (cond (eqb (length n) 6) (Step (get_or n 0 0) (get_or n 1 0) (get_or n 2 0) (get_or n 3 0) (get_or n 4 0) (get_or n 5 0)) Bad)
+    cond (eqb (length n) 3) (Some (Sizes (get_or n 0 0) (get_or n 1 0) (get_or n 2 0)))
+    (cond (eqb (length n) 6) (Some (Step (get_or n 0 0) (get_or n 1 0) (get_or n 2 0) (get_or n 3 0) (get_or n 4 0) (get_or n 5 0))) None)
 
-unfoldable pub line_of : List ℕ → Line
-line_of bytes = cond (numbers? (pieces bytes)) (of_numbers (map value (pieces bytes))) Bad
+unfoldable pub line_of : List ℕ → Option Line
+line_of bytes = cond (numbers? (pieces bytes)) (of_numbers (map value (pieces bytes))) None

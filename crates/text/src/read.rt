@@ -2,22 +2,20 @@
 ghost use Rattle.std.specs.Prelude.{◌≡◌, ◌<◌};
 ghost use Rattle.text.specs.Reader.{start, spoiled, with_digit, ended, next, finish};
 
-// What a line says.
+// What a good line says. Its numbers have no names yet: which fields they are is said where the line is used, and this crate knows nothing of a store.
 #[derive(Clone, Copy)]
 pub enum Line {
     Sizes(u64, u64, u64),
     Step(u64, u64, u64, u64, u64, u64),
-    Bad,
 }
 
-// What the bytes read so far say: the numbers that a space ended, the value of the digits since, whether there are any, and
-// whether the line can still be good.
+// What the bytes read so far say: the numbers that a space ended, the number whose digits came since, if any did, and whether the
+// line can still be good. The numbers lie in an array beside their count, since nothing is allocated here.
 #[derive(Clone, Copy)]
 pub struct Reader {
     pub numbers: [u64; 5],
     pub count: usize,
-    pub value: u64,
-    pub begun: bool,
+    pub value: Option<u64>,
     pub good: bool,
 }
 
@@ -28,8 +26,7 @@ impl Reader {
         Reader {
             numbers: [0; 5],
             count: 0,
-            value: 0,
-            begun: false,
+            value: None,
             good: true,
         }
     }
@@ -38,36 +35,27 @@ impl Reader {
     pub fn next(self, byte: u8) -> Reader
         ensures { result ≡ next self byte }
     {
-        if byte == 32 {
-            return self.ended();
+        match byte {
+            b' ' => self.ended(),
+            b'0'..=b'9' => self.with_digit((byte - b'0') as u64),
+            _ => self.spoiled(),
         }
-        if byte < 48 {
-            return self.spoiled();
-        }
-        if 57 < byte {
-            return self.spoiled();
-        }
-        self.with_digit((byte - 48) as u64)
     }
 
-    // What the line says, if it ends here.
-    pub fn finish(self) -> Line
+    // What the line says, if it ends here and is good.
+    pub fn finish(self) -> Option<Line>
         ensures { result ≡ finish self }
     {
         if !self.good {
-            return Line::Bad;
+            return None;
         }
-        if !self.begun {
-            return Line::Bad;
-        }
+        let last = self.value?;
         let n = self.numbers;
-        if self.count == 2 {
-            return Line::Sizes(n[0], n[1], self.value);
+        match self.count {
+            2 => Some(Line::Sizes(n[0], n[1], last)),
+            5 => Some(Line::Step(n[0], n[1], n[2], n[3], n[4], last)),
+            _ => None,
         }
-        if self.count == 5 {
-            return Line::Step(n[0], n[1], n[2], n[3], n[4], self.value);
-        }
-        Line::Bad
     }
 
     // A digit: the number goes on, if it stays below 2^64.
@@ -75,11 +63,11 @@ impl Reader {
         requires { digit < 10 }
         ensures { result ≡ with_digit self digit }
     {
-        if (u64::MAX - digit) / 10 < self.value {
+        let so_far = self.value.unwrap_or(0);
+        if (u64::MAX - digit) / 10 < so_far {
             return self.spoiled();
         }
-        self.value = 10 * self.value + digit;
-        self.begun = true;
+        self.value = Some(10 * so_far + digit);
         self
     }
 
@@ -87,17 +75,16 @@ impl Reader {
     fn ended(mut self) -> Reader
         ensures { result ≡ ended self }
     {
-        if !self.begun {
+        let Some(number) = self.value else {
             return self.spoiled();
-        }
+        };
         if 4 < self.count {
             return self.spoiled();
         }
         let at = self.count;
-        self.numbers[at] = self.value;
+        self.numbers[at] = number;
         self.count = at + 1;
-        self.value = 0;
-        self.begun = false;
+        self.value = None;
         self
     }
 

@@ -1,36 +1,14 @@
 -- The ways out of the functions that print.
 use Rattle.std.specs.Prelude.{◌≡◌, true, false, ◌⊎◌, List, [], ◌∷◌, ◌++◌, ℕ, zero, suc, ◌+◌, ◌-◌, ◌*◌, ◌/◌, ◌%◌, ◌^◌, ◌≤◌, ◌<◌, leb, length, drop, set}
-use Rattle.std.proofs.Common.{sym, ap, ◌∙◌, inl, inr, append_assoc, append-nil, mod-lt, mod-eq_of_lt, arith, lt-ltb, le-ltb, leb-true, leb-false, length-append, length-drop, drop_of_length-le, take_all, drop-drop}
+use Rattle.std.proofs.Common.{sym, ◌∙◌, inl, inr, append_assoc, mod-lt, mod-eq_of_lt, arith, lt-ltb, le-ltb, leb-true, leb-false, length-append, drop-drop}
 use Rattle.std.proofs.Math.Nat.{pow-le-pow_right, pow-succ', one-le-pow}
-use borrow.Rule.Slice.PartMut.{put_mid, mid_of}
+use borrow.Rule.Slice.PartMut.{put_mid}
 use Rattle.std.proofs.Math.ListN.{take}
 use Rattle.std.proofs.lemmas.List.Edits.{sets-eq}
-use Rattle.std.proofs.Math.Seq.{length-sets, take-length}
 use Rattle.base.proofs.Laws.Test.{bool_cases}
 use Rattle.io.specs.Digits.{last_digits, IsDigitCount}
 use Rattle.memory.proofs.Laws.Run.{sets_append}
 use Rattle.text.specs.Print.{digits_within, decimal, field, step_line, store_line, Printed}
-
--- the bytes given, copied into the part of the buffer from index at on
-pub put_made : (out bytes t : List ℕ) (at n : ℕ) → at + length bytes ≤ length out → n ≡ length bytes
-    → t ≡ take (length bytes) bytes ++ drop (length bytes) (mid_of at (length out - at) out)
-    → Printed out at bytes (put_mid at (length out - at) out t) (at + n)
-put_made out bytes t at n h e c =
-    record {
-      bytes =
-          let d : length (drop at out) ≡ length out - at = length-drop at out in
-          rw (
-            c,
-            take-length bytes,
-            take_all (length out - at) (drop at out) (omega arith),
-            drop_of_length-le (drop at out) {i = length out - at} (omega arith),
-            sets-eq bytes out at h,
-            append-nil,
-            drop-drop (length bytes) at out,
-          )
-          (sym (append_assoc (take at out) bytes (drop (at + length bytes) out)));
-      end = ap (λ (k : ℕ). at + k) e;
-    }
 
 -- the bytes given, put in their place from index at on
 pub place_made : (out bytes t : List ℕ) (at : ℕ) → at + length bytes ≤ length out → t ≡ bytes
@@ -81,28 +59,15 @@ fewest_decimal (suc (suc r)) (suc k) n h f =
     rw (le-ltb n 10 (omega arith), lt-ltb (n % 10) 10 m, fewest_decimal (suc r) k (n / 10) (omega arith) (omega arith, omega arith, λ e. rw b (omega arith)))
 
 -- a number, and the byte that ends it
-module _ (out text : List ℕ) (at n r : ℕ) (room : at + 21 ≤ length out) (s : n < 2 ^ 64) (f : IsDigitCount 10 1 n r) (k : r ≡ length (take r text)) where
-  pub field_room : at + length (take r text) ≤ length out
-  field_room = omega (arith, fewest_short n r s f)
-
-  module _ (out' : List ℕ) (last : ℕ) (p : Printed out at (take r text) out' last) where
-    pub field_short : last + 1 ≤ at + 21
-    field_short = omega (arith, fewest_short n r s f, p.end)
-
-    pub field_inside : last < length out'
-    field_inside = omega (arith, field_short, ap length p.bytes, length-sets out at (take r text))
-
-    pub field_fits : length out < 2 ^ 64 → last + 1 < 2 ^ 64
-    field_fits g = omega (arith, field_short)
-
-    pub field_made : (end : ℕ) → take r text ≡ last_digits 10 r n → Printed out at (field n end) (set out' last end) (last + 1)
-    unfolding field decimal
-    field_made end d =
-        let e : take r text ≡ digits_within 20 n = d ∙ fewest_decimal r 20 n (fewest_short n r s f) f in
-        record {
-          bytes = rw (sets_append, ← e, p.bytes, p.end);
-          end = rw (length-append, ← e, p.end) (omega arith);
-        }
+pub field_made : (out text out' : List ℕ) (at n r last end : ℕ) → n < 2 ^ 64 → IsDigitCount 10 1 n r → take r text ≡ last_digits 10 r n
+    → Printed out at (take r text) out' last → Printed out at (field n end) (set out' last end) (last + 1)
+unfolding field decimal
+field_made out text out' at n r last end s f d p =
+    let e : take r text ≡ digits_within 20 n = d ∙ fewest_decimal r 20 n (fewest_short n r s f) f in
+    record {
+      bytes = rw (sets_append, ← e, p.bytes, p.end);
+      end = rw (length-append, ← e, p.end) (omega arith);
+    }
 
 -- one thing after another
 pub then : (xs ys out out1 out2 : List ℕ) (at at1 at2 : ℕ) → Printed out at xs out1 at1 → Printed out1 at1 ys out2 at2 → Printed out at (xs ++ ys) out2 at2
