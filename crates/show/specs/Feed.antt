@@ -1,29 +1,45 @@
 -- The input byte by byte, so that it may come in pieces and be longer than any buffer: what has been read of it, what each byte prints, and
 -- the memory's words after it.
-use Rattle.std.specs.Prelude.{◌≡◌, ℕ, ◌+◌, ◌%◌, ◌^◌, ◌<◌, ◌≤◌, true, false, cond, List, [], ◌∷◌, ◌++◌, length, ◌==◌}
+use Rattle.std.specs.Prelude.{◌≡◌, ℕ, ◌+◌, ◌%◌, ◌^◌, ◌<◌, ◌≤◌, Bool, true, false, cond, List, [], ◌∷◌, ◌++◌, length, ◌==◌, is_some, unwrap_or, Option, Some, None}
 use Rattle.memory.specs.Word.{view}
 use Rattle.text.specs.declared.read.Line.{Line}
-use Rattle.text.specs.declared.read.Line.TheVariants.{Sizes, Step, Bad}
+use Rattle.text.specs.declared.read.Line.TheVariants.{Sizes, Step}
+use Rattle.text.specs.declared.read.Reader.{Reader}
 use Rattle.text.specs.Reader.{start, next, finish}
 use Rattle.text.specs.Print.{store_line, refused_line, bad_line, Printed}
 use Rattle.steps.specs.declared.step.Step as step
 use Rattle.steps.specs.Refusal.{open_refusal}
 use Rattle.engine.specs.Open.{words_opened}
 use Rattle.engine.specs.Step.{words_after}
+use Rattle.show.specs.declared.Awaited.{Awaited}
+use Rattle.show.specs.declared.Awaited.TheVariants.{FirstLine, StepLine, Nothing}
 use Rattle.show.specs.declared.Show.{Show}
 use Rattle.show.specs.declared.Shown.{Shown}
 use Rattle.show.specs.Shown.{Effect, ends, before, sizes_of, step_of, room, line_of_step}
 
--- no byte of the line yet: the sizes are awaited (stage 0), step n (1), or nothing more (2)
-abbrev pub awaits : ℕ → ℕ → Show
-awaits stage n = record { reader = start; stage = stage; begun = false; step = n }
+-- no byte of the line yet
+abbrev pub awaits : Awaited → Show
+awaits a = record { awaited = a; line = None }
 
 abbrev pub ended : Show
-ended = awaits 2 0
+ended = awaits Nothing
+
+-- whether nothing more is awaited
+abbrev pub nothing? : Awaited → Bool
+nothing? FirstLine = false
+nothing? (StepLine n) = false
+nothing? Nothing = true
+
+abbrev pub is_over : Show → Bool
+is_over s = nothing? s.awaited
+
+-- the line as far as it has been read
+abbrev pub reader_of : Show → Reader
+reader_of s = unwrap_or s.line start
 
 -- one byte of the line more
 abbrev pub with_byte : Show → ℕ → Show
-with_byte s b = record { reader = next s.reader b; stage = s.stage; begun = true; step = s.step }
+with_byte s b = record { awaited = s.awaited; line = Some (next (reader_of s) b) }
 
 -- how far some input brings it: what has then been read, the bytes printed for it, and the memory's words
 pub record Progress : Type 0 where
@@ -51,41 +67,56 @@ unfoldable pub opened : ℕ → ℕ → ℕ → Showing
 opened servers slots clients bytes w =
     let z = sizes_of servers slots clients in
     let refusal = open_refusal bytes z in
-    cond (refusal == 0) (progress (awaits 1 0) (store_line servers slots clients) (words_opened bytes z w))
+    cond (refusal == 0) (progress (awaits (StepLine 0)) (store_line servers slots clients) (words_opened bytes z w))
     (cond (refusal == 2) (progress ended refused_line w) (bad bytes w))
 
 -- a line with step n; the next number is that of 64 bits
 unfoldable pub stepped : ℕ → step.Step → Showing
-stepped n k bytes w = progress (awaits 1 ((n + 1) % 2 ^ 64)) (line_of_step bytes n w k) (words_after bytes w room k)
+stepped n k bytes w = progress (awaits (StepLine ((n + 1) % 2 ^ 64))) (line_of_step bytes n w k) (words_after bytes w room k)
 
 -- a line that says this, where sizes were awaited, and where step n was
-unfoldable pub first_line : Line → Showing
-first_line (Sizes servers slots clients) = opened servers slots clients
-first_line (Step kind client op key value server) = bad
-first_line Bad = bad
+unfoldable pub first_line : Option Line → Showing
+first_line (Some (Sizes servers slots clients)) = opened servers slots clients
+first_line (Some (Step kind client op key value server)) = bad
+first_line None = bad
 
-unfoldable pub later_line : ℕ → Line → Showing
-later_line n (Step kind client op key value server) = stepped n (step_of kind client op key value server)
-later_line n (Sizes servers slots clients) = bad
-later_line n Bad = bad
+unfoldable pub later_line : ℕ → Option Line → Showing
+later_line n (Some (Step kind client op key value server)) = stepped n (step_of kind client op key value server)
+later_line n (Some (Sizes servers slots clients)) = bad
+later_line n None = bad
+
+-- nothing is printed, and it ends
+abbrev pub no_more : Showing
+no_more bytes w = progress ended [] w
+
+-- the same, where this was awaited
+unfoldable pub awaited_line : Awaited → Option Line → Showing
+awaited_line FirstLine l = first_line l
+awaited_line (StepLine n) l = later_line n l
+awaited_line Nothing l = no_more
 
 -- the line has ended
 unfoldable pub line_ended : Show → Showing
-line_ended s = let l = finish s.reader in cond (s.stage == 0) (first_line l) (later_line s.step l)
+line_ended s = awaited_line s.awaited (finish (reader_of s))
 
 -- one byte: a newline (byte 10) ends the line
 unfoldable pub next_byte : Show → ℕ → Showing
 next_byte s b bytes w =
-    cond (s.stage == 2) (progress s [] w)
+    cond (is_over s) (progress s [] w)
     (cond (b == 10) (line_ended s bytes w) (progress (with_byte s b) [] w))
 
--- the end of the input: a last line without a newline counts, and an empty input is bad
+-- the end of the input, where no line has begun: an empty input is bad
+abbrev pub no_line : Awaited → Showing
+no_line FirstLine = bad
+no_line (StepLine n) = no_more
+no_line Nothing = no_more
+
+-- the end of the input: a last line without a newline counts
 unfoldable pub finished : Show → Showing
 finished s bytes w =
     let t = line_ended s bytes w in
-    cond (s.stage == 2) (progress s [] w)
-    (cond s.begun (progress ended t.printed t.words)
-    (cond (s.stage == 0) (bad bytes w) (progress ended [] w)))
+    cond (is_over s) (progress s [] w)
+    (cond (is_some s.line) (progress ended t.printed t.words) (no_line s.awaited bytes w))
 
 -- some bytes, one after another
 unfoldable pub fed : Show → List ℕ → Showing

@@ -1,9 +1,9 @@
 -- "Program `stepshow` reads the sizes (servers, slots, clients), then a step a line": what it prints, and the memory's words afterwards,
 -- from the whole input and the memory lent.
-use Rattle.std.specs.Prelude.{ℕ, ◌+◌, cond, List, [], ◌∷◌, ◌++◌, map, length, replicate, ◌==◌}
+use Rattle.std.specs.Prelude.{ℕ, ◌+◌, cond, List, [], ◌∷◌, ◌++◌, map, length, replicate, ◌==◌, Option, Some, None}
 use Rattle.memory.specs.Word.{view}
 use Rattle.text.specs.declared.read.Line.{Line}
-use Rattle.text.specs.declared.read.Line.TheVariants.{Sizes, Step, Bad}
+use Rattle.text.specs.declared.read.Line.TheVariants.{Sizes, Step}
 use Rattle.text.specs.Line.{onto_first, line_of}
 use Rattle.text.specs.Print.{step_line, store_line, refused_line, bad_line}
 use Rattle.steps.specs.declared.sizes.Sizes as sizes
@@ -48,17 +48,17 @@ module _ (bytes : ℕ) where
   line_of_step n w k = let o = line (outcome_of bytes w room k) in step_line n o.outcome o.a o.b
 
   -- "then a step a line": from step n on; "any other .. prints `bad` and ends"
-  unfoldable pub steps_shown : ℕ → List ℕ → List Line → Effect
+  unfoldable pub steps_shown : ℕ → List ℕ → List (Option Line) → Effect
   steps_shown n w [] = ends [] w
-  steps_shown n w (Step kind client op key value server ∷ ls) =
+  steps_shown n w (Some (Step kind client op key value server) ∷ ls) =
       let k = step_of kind client op key value server in
       before (line_of_step n w k) (steps_shown (n + 1) (words_after bytes w room k) ls)
-  steps_shown n w (Sizes servers slots clients ∷ ls) = ends bad_line w
-  steps_shown n w (Bad ∷ ls) = ends bad_line w
+  steps_shown n w (Some (Sizes servers slots clients) ∷ ls) = ends bad_line w
+  steps_shown n w (None ∷ ls) = ends bad_line w
 
   -- "Accepted sizes come first."; "Sizes refused by 2 print `store refused 2` and end it."; "allowed sizes beyond the program's buffer, prints
   -- `bad` and ends"
-  unfoldable pub store_shown : List ℕ → ℕ → ℕ → ℕ → List Line → Effect
+  unfoldable pub store_shown : List ℕ → ℕ → ℕ → ℕ → List (Option Line) → Effect
   store_shown w servers slots clients ls =
       let z = sizes_of servers slots clients in
       let refusal = open_refusal bytes z in
@@ -66,11 +66,11 @@ module _ (bytes : ℕ) where
       (cond (refusal == 2) (ends refused_line w) (ends bad_line w))
 
   -- "reads the sizes .., then a step a line"; "an empty input .. prints `bad` and ends"
-  unfoldable pub lines_shown : List ℕ → List Line → Effect
+  unfoldable pub lines_shown : List ℕ → List (Option Line) → Effect
   lines_shown w [] = ends bad_line w
-  lines_shown w (Sizes servers slots clients ∷ ls) = store_shown w servers slots clients ls
-  lines_shown w (Step kind client op key value server ∷ ls) = ends bad_line w
-  lines_shown w (Bad ∷ ls) = ends bad_line w
+  lines_shown w (Some (Sizes servers slots clients) ∷ ls) = store_shown w servers slots clients ls
+  lines_shown w (Some (Step kind client op key value server) ∷ ls) = ends bad_line w
+  lines_shown w (None ∷ ls) = ends bad_line w
 
 -- on memory of so many bytes with these words
 unfoldable pub shown : ℕ → List ℕ → List ℕ → Effect

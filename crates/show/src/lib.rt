@@ -5,10 +5,8 @@ ghost use Rattle.std.specs.Prelude.{◌≡◌, ◌+◌, ◌*◌, ◌≤◌, leng
 ghost use Rattle.io.specs.Counts.{IsPrefixLen};
 ghost use Rattle.memory.specs.Word.{view};
 ghost use Rattle.text.specs.Print.{bad_line, Printed};
-ghost use Rattle.steps.specs.Refusal.{open_refusal};
-ghost use Rattle.engine.specs.Open.{words_opened};
 ghost use Rattle.show.specs.Shown.{shown_in, zeros};
-ghost use Rattle.show.specs.Feed.{awaits, ended, with_byte, opened, stepped, first_line, later_line, line_ended, next_byte, finished, fed, Came, ReadsOn};
+ghost use Rattle.show.specs.Feed.{awaits, ended, is_over, reader_of, with_byte, opened, stepped, first_line, later_line, line_ended, next_byte, finished, fed, Came, ReadsOn};
 
 use engine::open::Opening;
 use std::io::Read;
@@ -18,21 +16,19 @@ use steps::step::Step;
 use text::print;
 use text::read::{Line, Reader};
 
-// Sizes awaited, steps awaited, or nothing more.
-const SIZES: u64 = 0;
+// What is awaited: the line of sizes, the line of the step with this number, or nothing more.
+#[derive(Clone, Copy)]
+pub enum Awaited {
+    FirstLine,
+    StepLine(u64),
+    Nothing,
+}
 
-const STEPS: u64 = 1;
-
-const ENDED: u64 = 2;
-
-// How far the input has been read: the line that has begun, what is awaited, whether the line has a byte, and the number of the
-// next step.
+// How far the input has been read: what is awaited, and what has been read of the line, if it has a byte.
 #[derive(Clone, Copy)]
 pub struct Show {
-    pub reader: Reader,
-    pub stage: u64,
-    pub begun: bool,
-    pub step: u64,
+    pub awaited: Awaited,
+    pub line: Option<Reader>,
 }
 
 // The state after some input, and the index behind what was printed for it.
@@ -45,33 +41,18 @@ pub struct Shown {
 impl Show {
     // The sizes are awaited.
     pub fn start() -> Show
-        ensures { result ≡ awaits 0 0 }
+        ensures { result ≡ awaits Awaited.FirstLine }
     {
-        Show::line(SIZES, 0)
+        Show::awaits(Awaited::FirstLine)
     }
 
-    // One byte of a line.
-    fn byte(self, byte: u8) -> Show
-        ensures { result ≡ with_byte self byte }
-    {
-        let reader = self.reader;
-        Show {
-            reader: reader.next(byte),
-            stage: self.stage,
-            begun: true,
-            step: self.step,
-        }
-    }
-
-    // Nothing of a line yet: what is awaited, and the number of the next step.
-    fn line(stage: u64, step: u64) -> Show
-        ensures { result ≡ awaits stage step }
+    // Nothing of a line yet.
+    fn awaits(awaited: Awaited) -> Show
+        ensures { result ≡ awaits awaited }
     {
         Show {
-            reader: Reader::start(),
-            stage,
-            begun: false,
-            step,
+            awaited,
+            line: None,
         }
     }
 
@@ -79,7 +60,24 @@ impl Show {
     fn ended() -> Show
         ensures { result ≡ ended }
     {
-        Show::line(ENDED, 0)
+        Show::awaits(Awaited::Nothing)
+    }
+
+    // The line, as far as it has been read.
+    fn reader(self) -> Reader
+        ensures { result ≡ reader_of self }
+    {
+        self.line.unwrap_or(Reader::start())
+    }
+
+    // One byte of a line.
+    fn byte(self, byte: u8) -> Show
+        ensures { result ≡ with_byte self byte }
+    {
+        Show {
+            awaited: self.awaited,
+            line: Some(self.reader().next(byte)),
+        }
     }
 }
 
@@ -93,17 +91,6 @@ fn bad(out: &mut [u8], at: usize) -> Shown
     Shown {
         show: Show::ended(),
         at: print::put_bad(out, at),
-    }
-}
-
-// The number by which a store of these sizes is refused, 0 if it is open.
-fn refusal(mem: &mut [u8], sizes: Sizes) -> u64
-    ensures value { result ≡ open_refusal (length mem.old) sizes }
-    ensures words { view mem.new ≡ words_opened (length mem.old) sizes (view mem.old) }
-{
-    match engine::open::open(mem, sizes) {
-        Opening::Accepted => 0,
-        Opening::Refused(number) => number,
     }
 }
 
@@ -126,16 +113,16 @@ fn opened(
         slots: slots as usize,
         clients: clients as usize,
     };
-    match refusal(mem, sizes) {
-        0 => Shown {
-            show: Show::line(STEPS, 0),
+    match engine::open::open(mem, sizes) {
+        Opening::Accepted => Shown {
+            show: Show::awaits(Awaited::StepLine(0)),
             at: print::put_store(out, at, servers, slots, clients),
         },
-        2 => Shown {
+        Opening::Refused(2) => Shown {
             show: Show::ended(),
             at: print::put_refused(out, at),
         },
-        _ => bad(out, at),
+        Opening::Refused(_) => bad(out, at),
     }
 }
 
@@ -155,21 +142,22 @@ fn stepped(
 {
     let line = outcome::Line::of(engine::step::step(mem, pairs, step));
     Shown {
-        show: Show::line(STEPS, std::num::wrapping_add_u64(number, 1)),
+        show: Show::awaits(Awaited::StepLine(number.wrapping_add(1))),
         at: print::put_step(out, at, number, line.outcome, line.a, line.b),
     }
 }
 
 // A line where the sizes were awaited.
-fn first_line(mem: &mut [u8], out: &mut [u8], at: usize, line: Line) -> Shown
+fn first_line(mem: &mut [u8], out: &mut [u8], at: usize, line: Option<Line>) -> Shown
     requires { at + 84 ≤ length out.old }
     ensures came { Came (first_line line) mem.old out.old at result mem.new out.new }
     ensures short { result.at ≤ at + 84 }
 {
     match line {
-        Line::Sizes(servers, slots, clients) => opened(mem, out, at, servers, slots, clients),
-        Line::Step(_, _, _, _, _, _) => bad(out, at),
-        Line::Bad => bad(out, at),
+        Some(Line::Sizes(servers, slots, clients)) => {
+            opened(mem, out, at, servers, slots, clients)
+        }
+        Some(Line::Step(_, _, _, _, _, _)) | None => bad(out, at),
     }
 }
 
@@ -180,14 +168,14 @@ fn later_line(
     out: &mut [u8],
     at: usize,
     number: u64,
-    line: Line,
+    line: Option<Line>,
 ) -> Shown
     requires { at + 84 ≤ length out.old }
     ensures came { Came (later_line number line) mem.old out.old at result mem.new out.new }
     ensures short { result.at ≤ at + 84 }
 {
     match line {
-        Line::Step(kind, client, op, key, value, server) => {
+        Some(Line::Step(kind, client, op, key, value, server)) => {
             let step = Step {
                 kind,
                 client,
@@ -198,8 +186,7 @@ fn later_line(
             };
             stepped(mem, pairs, out, at, number, step)
         }
-        Line::Sizes(_, _, _) => bad(out, at),
-        Line::Bad => bad(out, at),
+        Some(Line::Sizes(_, _, _)) | None => bad(out, at),
     }
 }
 
@@ -209,12 +196,15 @@ fn ended(mem: &mut [u8], pairs: &mut [u8; 512], out: &mut [u8], at: usize, show:
     ensures came { Came (line_ended show) mem.old out.old at result mem.new out.new }
     ensures short { result.at ≤ at + 84 }
 {
-    let reader = show.reader;
-    let line = reader.finish();
-    if show.stage == SIZES {
-        return first_line(mem, out, at, line);
+    let line = show.reader().finish();
+    match show.awaited {
+        Awaited::FirstLine => first_line(mem, out, at, line),
+        Awaited::StepLine(number) => later_line(mem, pairs, out, at, number, line),
+        Awaited::Nothing => Shown {
+            show: Show::ended(),
+            at,
+        },
     }
-    later_line(mem, pairs, out, at, show.step, line)
 }
 
 // One byte of the input: a newline ends the line.
@@ -230,10 +220,10 @@ fn byte(
     ensures came { Came (next_byte show byte) mem.old out.old at result mem.new out.new }
     ensures short { result.at ≤ at + 84 }
 {
-    if show.stage == ENDED {
+    if is_ended(show) {
         return Shown { show, at };
     }
-    if byte == 10 {
+    if byte == b'\n' {
         return ended(mem, pairs, out, at, show);
     }
     Shown {
@@ -269,21 +259,17 @@ pub fn finish(mem: &mut [u8], pairs: &mut [u8; 512], out: &mut [u8], at: usize, 
     ensures came { Came (finished show) mem.old out.old at result mem.new out.new }
     ensures short { result.at ≤ at + 84 }
 {
-    if show.stage == ENDED {
-        return Shown { show, at };
-    }
-    if show.begun {
-        return Shown {
+    match (show.awaited, show.line) {
+        (Awaited::Nothing, _) => Shown { show, at },
+        (_, Some(_)) => Shown {
             show: Show::ended(),
             at: ended(mem, pairs, out, at, show).at,
-        };
-    }
-    if show.stage == SIZES {
-        return bad(out, at);
-    }
-    Shown {
-        show: Show::ended(),
-        at,
+        },
+        (Awaited::FirstLine, None) => bad(out, at),
+        (Awaited::StepLine(_), None) => Shown {
+            show: Show::ended(),
+            at,
+        },
     }
 }
 
@@ -314,9 +300,9 @@ pub fn turn<R: Read>(
 }
 
 pub fn is_ended(show: Show) -> bool
-    ensures { result ≡ (show.stage == 2) }
+    ensures { result ≡ is_over show }
 {
-    show.stage == ENDED
+    matches!(show.awaited, Awaited::Nothing)
 }
 
 // A whole input.

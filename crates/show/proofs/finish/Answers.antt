@@ -1,15 +1,24 @@
 use Rattle.std.proofs.Common.{rules}
-use Rattle.show.specs.Laws.Exits.{is_over, is_last, is_empty, no_line_left}
+use Rattle.show.specs.Feed.{finished}
+use Rattle.show.specs.Laws.Exits.{nothing_printed, nothing_but_bad}
+use Rattle.show.proofs.finish.Goals.{in_default-Some-via-in-FirstLine+in-Some, in_default-Some-via-in-StepLine+in-Some}
 use Rattle.show.proofs.finish.Goals as goal
 
-pub returns-then-show-eq-ENDED-clause-came : goal.returns-then-show-eq-ENDED-clause-came
-returns-then-show-eq-ENDED-clause-came c = search (is_over, rules)
+pub returns-in-Nothing-default-clause-came : goal.returns-in-Nothing-default-clause-came
+unfolding finished
+returns-in-Nothing-default-clause-came c = search (nothing_printed, rules)
 
-pub returns-then-show-clause-came : goal.returns-then-show-clause-came
-returns-then-show-clause-came c = search (is_last, rules)
+pub returns-in-FirstLine-None-clause-came : goal.returns-in-FirstLine-None-clause-came
+unfolding finished
+returns-in-FirstLine-None-clause-came c = search (nothing_but_bad, rules)
 
-pub returns-then-show-eq-SIZES-clause-came : goal.returns-then-show-eq-SIZES-clause-came
-returns-then-show-eq-SIZES-clause-came c = search (is_empty, rules)
+pub returns-in-StepLine-None-clause-came : goal.returns-in-StepLine-None-clause-came
+unfolding finished
+returns-in-StepLine-None-clause-came c = search (nothing_printed, rules)
 
-pub returns-clause-came : goal.returns-clause-came
-returns-clause-came c = search (no_line_left, rules)
+pub returns-in_default-Some-clause-came : goal.returns-in_default-Some-clause-came
+unfolding finished
+returns-in_default-Some-clause-came c = elim c.in_default-Some.branch [
+  | in_default-Some-via-in-FirstLine+in-Some w ↦ search rules
+  | in_default-Some-via-in-StepLine+in-Some w ↦ search rules
+]

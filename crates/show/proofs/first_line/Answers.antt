@@ -1,12 +1,16 @@
 use Rattle.std.proofs.Common.{rules}
-use Rattle.show.specs.Laws.Exits.{sizes_first, step_first, bad_first}
+use Rattle.show.specs.Feed.{first_line}
+use Rattle.show.specs.Laws.Exits.{nothing_but_bad}
+use Rattle.show.proofs.first_line.Goals.{in-Some+in-Step-1, in-None-1}
 use Rattle.show.proofs.first_line.Goals as goal
 
-pub returns-in-Sizes-clause-came : goal.returns-in-Sizes-clause-came
-returns-in-Sizes-clause-came c = search (sizes_first, rules)
+pub returns-in-Some-Sizes-clause-came : goal.returns-in-Some-Sizes-clause-came
+unfolding first_line
+returns-in-Some-Sizes-clause-came c = search rules
 
-pub returns-in-Step-clause-came : goal.returns-in-Step-clause-came
-returns-in-Step-clause-came c = search (step_first, rules)
-
-pub returns-in-Bad-clause-came : goal.returns-in-Bad-clause-came
-returns-in-Bad-clause-came c = search (bad_first, rules)
+pub returns-in-Some-Step-clause-came : goal.returns-in-Some-Step-clause-came
+unfolding first_line
+returns-in-Some-Step-clause-came c = elim c.in-Some-Step-1.branch [
+  | in-Some+in-Step-1 w ↦ search (nothing_but_bad, rules)
+  | in-None-1 w ↦ search (nothing_but_bad, rules)
+]

@@ -1,12 +1,16 @@
 use Rattle.std.proofs.Common.{rules}
-use Rattle.show.specs.Laws.Exits.{step_later, sizes_later, bad_later}
+use Rattle.show.specs.Feed.{later_line}
+use Rattle.show.specs.Laws.Exits.{nothing_but_bad}
+use Rattle.show.proofs.later_line.Goals.{in-Some+in-Sizes-1, in-None-1}
 use Rattle.show.proofs.later_line.Goals as goal
 
-pub returns-in-Step-clause-came : goal.returns-in-Step-clause-came
-returns-in-Step-clause-came c = search (step_later, rules)
+pub returns-in-Some-Step-clause-came : goal.returns-in-Some-Step-clause-came
+unfolding later_line
+returns-in-Some-Step-clause-came c = search rules
 
-pub returns-in-Sizes-clause-came : goal.returns-in-Sizes-clause-came
-returns-in-Sizes-clause-came c = search (sizes_later, rules)
-
-pub returns-in-Bad-clause-came : goal.returns-in-Bad-clause-came
-returns-in-Bad-clause-came c = search (bad_later, rules)
+pub returns-in-Some-Sizes-clause-came : goal.returns-in-Some-Sizes-clause-came
+unfolding later_line
+returns-in-Some-Sizes-clause-came c = elim c.in-Some-Sizes-1.branch [
+  | in-Some+in-Sizes-1 w ↦ search (nothing_but_bad, rules)
+  | in-None-1 w ↦ search (nothing_but_bad, rules)
+]

@@ -1,6 +1,7 @@
 -- An input that is read in pieces prints what it prints as a whole: to its end (`pieces_shown`), or up to where nothing more is read (`stopped_shown`).
 use Rattle.std.specs.Prelude.{◌≡◌, ℕ, ◌^◌, ◌<◌, List, [], ◌∷◌, ◌++◌, length, refl}
 use Rattle.std.proofs.Common.{sym, ap, ◌∙◌, append_assoc, append-nil, arith}
+use Rattle.show.specs.declared.Awaited.TheVariants.{FirstLine, Nothing}
 use Rattle.show.specs.declared.Show.{Show}
 use Rattle.show.specs.Shown.{before, shown}
 use Rattle.show.specs.Feed.{behind, awaits, next_byte, fed, joined, NoneEmpty, in_pieces, effect_of, whole}
@@ -45,13 +46,13 @@ pieces_end ((b ∷ p) ∷ ps) s bytes w h =
 
 module _ (bytes : ℕ) (w : List ℕ) (ps : List (List ℕ)) (none : NoneEmpty ps) where
   -- the input was read to its end
-  pub pieces_shown : length (joined ps) < 2 ^ 64 → effect_of (in_pieces (awaits 0 0) (ps ++ ([] ∷ [])) bytes w) ≡ shown bytes w (joined ps)
-  pieces_shown h = sym (pieces_end ps (awaits 0 0) bytes w none) ∙ whole_shown bytes w (joined ps) h
+  pub pieces_shown : length (joined ps) < 2 ^ 64 → effect_of (in_pieces (awaits FirstLine) (ps ++ ([] ∷ [])) bytes w) ≡ shown bytes w (joined ps)
+  pieces_shown h = sym (pieces_end ps (awaits FirstLine) bytes w none) ∙ whole_shown bytes w (joined ps) h
 
   -- nothing more is read, whatever follows
-  pub stopped_shown : (bs : List ℕ) → length (joined ps ++ bs) < 2 ^ 64 → (in_pieces (awaits 0 0) ps bytes w).show.stage ≡ 2
-      → effect_of (in_pieces (awaits 0 0) ps bytes w) ≡ shown bytes w (joined ps ++ bs)
+  pub stopped_shown : (bs : List ℕ) → length (joined ps ++ bs) < 2 ^ 64 → (in_pieces (awaits FirstLine) ps bytes w).show.awaited ≡ Nothing
+      → effect_of (in_pieces (awaits FirstLine) ps bytes w) ≡ shown bytes w (joined ps ++ bs)
   stopped_shown bs h z =
-      let t = in_pieces (awaits 0 0) ps bytes w in
-      sym (pieces_then ps bs (awaits 0 0) bytes w none ∙ ap (before t.printed) (nothing_more bytes t.show bs t.words z) ∙ rw append-nil)
+      let t = in_pieces (awaits FirstLine) ps bytes w in
+      sym (pieces_then ps bs (awaits FirstLine) bytes w none ∙ ap (before t.printed) (nothing_more bytes t.show bs t.words z) ∙ rw append-nil)
       ∙ whole_shown bytes w (joined ps ++ bs) h

@@ -1,5 +1,5 @@
 -- An input fed byte by byte comes to what `Shown` says of it (`whole_shown`).
-use Rattle.std.specs.Prelude.{◌≡◌, ℕ, ◌+◌, ◌^◌, ◌<◌, ◌≤◌, Bool, true, false, ◌⊎◌, List, [], ◌∷◌, ◌++◌, map, length, ◌==◌, ◌≢◌}
+use Rattle.std.specs.Prelude.{◌≡◌, ℕ, ◌+◌, ◌^◌, ◌<◌, ◌≤◌, Bool, true, false, ◌⊎◌, List, [], ◌∷◌, ◌++◌, map, length, ◌==◌, ◌≢◌, unwrap_or, Option, Some, None}
 use Rattle.std.proofs.Math.Path.{refl, sym, ap}
 use Rattle.std.proofs.Common.{◌∙◌, inl, inr, mod-eq_of_lt, arith, eqb-true, ne_eqb}
 use mathlib.Core.List.{append_assoc, append-nil}
@@ -7,17 +7,19 @@ use Rattle.std.proofs.lemmas.Bool.{eqb-false}
 use Rattle.std.proofs.Math.ListN.{length-append}
 use Rattle.base.proofs.Laws.Test.{bool_cases}
 use Rattle.text.specs.declared.read.Line.{Line}
-use Rattle.text.specs.declared.read.Line.TheVariants.{Sizes, Step, Bad}
+use Rattle.text.specs.declared.read.Line.TheVariants.{Sizes, Step}
 use Rattle.text.specs.declared.read.Reader.{Reader}
-use Rattle.text.specs.Line.{some?, onto_first, line_of}
+use Rattle.text.specs.Line.{onto_first, line_of}
 use Rattle.text.specs.Reader.{start, next, after}
 use Rattle.text.proofs.Laws.Reads.{reads}
 use Rattle.steps.specs.Refusal.{open_refusal}
 use Rattle.engine.specs.Open.{words_opened}
 use Rattle.engine.specs.Step.{words_after}
+use Rattle.show.specs.declared.Awaited.{Awaited}
+use Rattle.show.specs.declared.Awaited.TheVariants.{FirstLine, StepLine, Nothing}
 use Rattle.show.specs.declared.Show.{Show}
 use Rattle.show.specs.Shown.{Effect, ends, before, lines, sizes_of, step_of, steps_shown, store_shown, lines_shown, shown}
-use Rattle.show.specs.Feed.{Progress, progress, awaits, ended, opened, stepped, first_line, later_line, line_ended, next_byte, finished, fed, whole}
+use Rattle.show.specs.Feed.{Progress, progress, awaits, ended, opened, stepped, first_line, later_line, awaited_line, line_ended, next_byte, finished, fed, whole}
 
 -- ---- a line that has begun: bytes without a newline
 abbrev Unbroken : List ℕ → Type 0
@@ -43,10 +45,6 @@ unfolding after
 after_more [] r b = refl
 after_more (c ∷ p) r b = after_more p (next r c) b
 
-some_more : (p : List ℕ) (b : ℕ) → some? (p ++ (b ∷ [])) ≡ true
-some_more [] b = refl
-some_more (c ∷ p) b = refl
-
 -- ---- on memory of so many bytes
 module _ (bytes : ℕ) where
   -- a byte, and then the others
@@ -56,7 +54,7 @@ module _ (bytes : ℕ) where
   whole_cons w s b bs = rw append_assoc
 
   -- nothing is read after the end
-  pub nothing_more : (s : Show) (bs w : List ℕ) → s.stage ≡ 2 → whole s bs bytes w ≡ ends [] w
+  pub nothing_more : (s : Show) (bs w : List ℕ) → s.awaited ≡ Nothing → whole s bs bytes w ≡ ends [] w
   unfolding whole fed finished next_byte
   nothing_more s [] w z = rw z
   nothing_more s (b ∷ bs) w z =
@@ -64,21 +62,21 @@ module _ (bytes : ℕ) where
       whole_cons w s b bs ∙ ap (λ (t : Progress). before t.printed (whole t.show bs bytes t.words)) q ∙ nothing_more s bs w z
 
   -- the first line is awaited, or another one
-  abbrev stage_of : Bool → ℕ
-  stage_of true = 0
-  stage_of false = 1
+  abbrev awaited_of : Bool → ℕ → Awaited
+  awaited_of true n = FirstLine
+  awaited_of false n = StepLine n
 
-  abbrev rest : Bool → ℕ → List ℕ → List Line → Effect
+  abbrev rest : Bool → ℕ → List ℕ → List (Option Line) → Effect
   rest true n w ls = lines_shown bytes w ls
   rest false n w ls = steps_shown bytes n w ls
 
-  abbrev said : Bool → ℕ → List ℕ → Line → Progress
+  abbrev said : Bool → ℕ → List ℕ → Option Line → Progress
   said true n w l = first_line l bytes w
   said false n w l = later_line n l bytes w
 
   -- one line, and what K makes of those that follow
-  module _ (K : List ℕ → Show → Effect) (ls : List Line) (n : ℕ) (small : n + 1 < 2 ^ 64)
-      (over : (v : List ℕ) → K v ended ≡ ends [] v) (on : (m : ℕ) (v : List ℕ) → m ≤ n + 1 → K v (awaits 1 m) ≡ steps_shown bytes m v ls) where
+  module _ (K : List ℕ → Show → Effect) (ls : List (Option Line)) (n : ℕ) (small : n + 1 < 2 ^ 64)
+      (over : (v : List ℕ) → K v ended ≡ ends [] v) (on : (m : ℕ) (v : List ℕ) → m ≤ n + 1 → K v (awaits (StepLine m)) ≡ steps_shown bytes m v ls) where
     abbrev with_rest : Progress → Effect
     with_rest t = before t.printed (K t.words t.show)
 
@@ -93,32 +91,46 @@ module _ (bytes : ℕ) where
         go (inr p) (inl q) = rw (p, q, over w)
         go (inr p) (inr q) = rw (p, q, over w)
 
-    by_line : (f : Bool) (w : List ℕ) (l : Line) → with_rest (said f n w l) ≡ rest f n w (l ∷ ls)
+    by_line : (f : Bool) (w : List ℕ) (l : Option Line) → with_rest (said f n w l) ≡ rest f n w (l ∷ ls)
     unfolding first_line later_line lines_shown steps_shown stepped
-    by_line true w (Sizes a b c) = by_sizes w a b c
-    by_line true w (Step a b c d e g) = rw (over w)
-    by_line true w Bad = rw (over w)
-    by_line false w (Sizes a b c) = rw (over w)
-    by_line false w (Step a b c d e g) = rw (mod-eq_of_lt small, on (n + 1) (words_after bytes w 512 (step_of a b c d e g)) (omega arith))
-    by_line false w Bad = rw (over w)
+    by_line true w (Some (Sizes a b c)) = by_sizes w a b c
+    by_line true w (Some (Step a b c d e g)) = rw (over w)
+    by_line true w None = rw (over w)
+    by_line false w (Some (Sizes a b c)) = rw (over w)
+    by_line false w (Some (Step a b c d e g)) = rw (mod-eq_of_lt small, on (n + 1) (words_after bytes w 512 (step_of a b c d e g)) (omega arith))
+    by_line false w None = rw (over w)
 
   -- a line of which p has been read
+  abbrev begun : List ℕ → Option Reader
+  begun [] = None
+  begun (b ∷ p) = Some (after start (b ∷ p))
+
   abbrev reading : Bool → ℕ → List ℕ → Show
-  reading f n p = record { reader = after start p; stage = stage_of f; begun = some? p; step = n }
+  reading f n p = record { awaited = awaited_of f n; line = begun p }
+
+  read_so_far : (p : List ℕ) → unwrap_or (begun p) start ≡ after start p
+  unfolding after
+  read_so_far [] = refl
+  read_so_far (b ∷ p) = refl
 
   newline : (f : Bool) (n : ℕ) (w p : List ℕ) → next_byte (reading f n p) 10 bytes w ≡ said f n w (line_of p)
-  unfolding next_byte line_ended
-  newline true n w p = rw (reads p)
-  newline false n w p = rw (reads p)
+  unfolding next_byte line_ended awaited_line
+  newline true n w p = rw (read_so_far p, reads p)
+  newline false n w p = rw (read_so_far p, reads p)
+
+  one_byte_more : (p : List ℕ) (b : ℕ) → ◌≡◌ {A = Option Reader} (Some (next (unwrap_or (begun p) start) b)) (begun (p ++ (b ∷ [])))
+  unfolding after
+  one_byte_more [] b = refl
+  one_byte_more (c ∷ p) b = ap (λ (r : Reader). Some r) (sym (after_more (c ∷ p) start b))
 
   other_byte : (f : Bool) (n : ℕ) (w p : List ℕ) (b : ℕ) → (b ≢ 10) → next_byte (reading f n p) b bytes w ≡ progress (reading f n (p ++ (b ∷ []))) [] w
   unfolding next_byte
-  other_byte true n w p b d = rw (ne_eqb b 10 d, after_more p start b, some_more p b)
-  other_byte false n w p b d = rw (ne_eqb b 10 d, after_more p start b, some_more p b)
+  other_byte true n w p b d = rw (ne_eqb b 10 d, one_byte_more p b)
+  other_byte false n w p b d = rw (ne_eqb b 10 d, one_byte_more p b)
 
   at_end : (f : Bool) (n : ℕ) (w : List ℕ) (b : ℕ) (p : List ℕ)
       → whole (reading f n (b ∷ p)) [] bytes w ≡ (let t = said f n w (line_of (b ∷ p)) in before t.printed (ends [] t.words))
-  unfolding whole fed finished line_ended
+  unfolding whole fed finished line_ended awaited_line
   at_end true n w b p = rw (reads (b ∷ p), append-nil)
   at_end false n w b p = rw (reads (b ∷ p), append-nil)
 
@@ -160,6 +172,6 @@ module _ (bytes : ℕ) where
           ∙ ap (lines_left f n w) (append_assoc p (b ∷ []) bs)
 
 -- the input fed byte by byte comes to what it says
-pub whole_shown : (bytes : ℕ) (w bs : List ℕ) → length bs < 2 ^ 64 → whole (awaits 0 0) bs bytes w ≡ shown bytes w bs
+pub whole_shown : (bytes : ℕ) (w bs : List ℕ) → length bs < 2 ^ 64 → whole (awaits FirstLine) bs bytes w ≡ shown bytes w bs
 unfolding shown after
 whole_shown bytes w bs h = goes_on bytes bs [] true 0 w tt (omega arith)
