@@ -67,10 +67,9 @@ fn agrees<R: Read>(
     false
 }
 
-// The file that an argument names.
-fn open<R: Files>(rt: &R, names: &[String], argument: usize) -> Option<R::File> {
-    let name = names.get(argument)?;
-    File::open(rt, name.as_str()).ok()
+// The file of this name, if there is one.
+fn open<R: Files>(rt: &R, name: Option<&String>) -> Option<R::File> {
+    File::open(rt, name?.as_str()).ok()
 }
 
 // A schedule's line.
@@ -86,58 +85,39 @@ fn both<R: Read + Drop>(
     input: Option<R>,
     expected: Option<R>,
 ) -> bool {
-    let Some(mut input) = input else {
-        return false;
-    };
-    let Some(mut expected) = expected else {
-        return false;
-    };
-    agrees(memory, pairs, &mut input, &mut expected)
+    match (input, expected) {
+        (Some(mut input), Some(mut expected)) => agrees(memory, pairs, &mut input, &mut expected),
+        _ => false,
+    }
 }
 
-// One schedule, and its line; 1 if it agrees.
+// One schedule by its two names, and its line; whether it agrees.
 fn one<R: Files + Print>(
     rt: &R,
     memory: &mut [u8],
     pairs: &mut [u8; 512],
     names: &[String],
-    argument: usize,
-) -> io::Result<u64> {
-    let input = open(rt, names, argument);
-    let expected = open(rt, names, std::num::wrapping_add_usize(argument, 1));
+) -> io::Result<bool> {
+    let input = open(rt, names.first());
+    let expected = open(rt, names.get(1));
     let is_right = both(memory, pairs, input, expected);
-    if let Some(name) = names.get(argument) {
+    if let Some(name) = names.first() {
         print_line(rt, name.as_str(), is_right)?;
     }
-    Ok(is_right as u64)
+    Ok(is_right)
 }
 
-// How many schedules are named: each by two names, and the last one by one if its other name is missing.
-fn count(names: &[String]) -> usize {
-    names.len() / 2 + names.len() % 2
-}
-
-// All schedules; how many agree.
-fn all<R: Files + Print>(
-    rt: &R,
-    memory: &mut [u8],
-    pairs: &mut [u8; 512],
-    names: &[String],
-) -> io::Result<u64> {
-    let mut right: u64 = 0;
-    for i in 0..count(names) {
-        right = std::num::wrapping_add_u64(
-            right,
-            one(rt, memory, pairs, names, std::num::wrapping_add_usize(i, i))?,
-        );
-    }
-    Ok(right)
-}
-
+// All schedules: each is named by two names, the last one by one if its other name is missing.
 pub fn report<R: Files + Env + AllocGlobal + Print>(rt: &R, memory: &mut [u8]) -> io::Result<()> {
     let names: Vec<String> = env::args(rt)?.skip(1).collect(rt.alloc())?;
     let mut pairs = [0u8; 512];
-    let right = all(rt, memory, &mut pairs, &names)?;
-    let named = count(&names);
+    let mut right: u64 = 0;
+    let mut named: u64 = 0;
+    for two in names.chunks(2) {
+        named = named.wrapping_add(1);
+        if one(rt, memory, &mut pairs, two)? {
+            right = right.wrapping_add(1);
+        }
+    }
     println!(rt; "{right} of {named} agree")
 }

@@ -7,6 +7,6 @@ pub mod clients;
 pub mod driver;
 pub mod map;
 pub mod profile;
-pub mod replay;
 pub mod rng;
+pub mod step;
 pub mod world;

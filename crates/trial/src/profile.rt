@@ -1,24 +1,21 @@
 // What a random schedule is like.
+use crate::step::Operation;
 
 // How often each operation is drawn.
 #[derive(Clone, Copy)]
 pub struct Mix {
-    pub insert: u64,
-    pub lookup: u64,
-    pub delete: u64,
-    pub next: u64,
-    pub previous: u64,
-    pub migrate: u64,
-    pub list: u64,
+    shares: [(Operation, u8); 7],
 }
 
+// A store, its clients and keys, and what a schedule does with them.
 #[derive(Clone, Copy)]
 pub struct Profile {
-    pub servers: usize,
-    pub slots: usize,
-    pub clients: usize,
+    pub name: &'static str,
+    pub servers: u64,
+    pub slots: u64,
+    pub clients: u64,
     // these many clients act most of the time; the others seldom, with old copies
-    pub awake: usize,
+    pub awake: u64,
     // keys are drawn below this number
     pub keys: u64,
     // these many are inserted at first, by one client alone, in rising order
@@ -47,22 +44,46 @@ pub struct Profile {
 }
 
 impl Mix {
-    fn of(insert: u64, lookup: u64, delete: u64, others: u64, migrate: u64) -> Mix {
+    fn of(insert: u8, lookup: u8, delete: u8, others: u8, migrate: u8) -> Mix {
         Mix {
-            insert,
-            lookup,
-            delete,
-            next: others,
-            previous: others,
-            migrate,
-            list: others,
+            shares: [
+                (Operation::Insert, insert),
+                (Operation::Lookup, lookup),
+                (Operation::Delete, delete),
+                (Operation::Next, others),
+                (Operation::Previous, others),
+                (Operation::Migrate, migrate),
+                (Operation::List, others),
+            ],
         }
+    }
+
+    // All shares.
+    pub fn total(self) -> u64 {
+        let mut sum: u64 = 0;
+        for (_, share) in self.shares {
+            sum = sum.wrapping_add(share as u64);
+        }
+        sum
+    }
+
+    // The operation at a place among all shares.
+    pub fn at(self, place: u64) -> Operation {
+        let mut left = place;
+        for (operation, share) in self.shares {
+            if left < (share as u64) {
+                return operation;
+            }
+            left -= share as u64;
+        }
+        Operation::List
     }
 }
 
 // Many clients that meet at few leaves.
 fn hot() -> Profile {
     Profile {
+        name: "hot",
         servers: 4,
         slots: 24,
         clients: 12,
@@ -88,242 +109,274 @@ fn hot() -> Profile {
 
 // A root that splits and collapses.
 fn edge() -> Profile {
-    let mut p = hot();
-    p.servers = 2;
-    p.slots = 10;
-    p.clients = 4;
-    p.awake = 4;
-    p.keys = 40;
-    p.ops = 6;
-    p.grow = Mix::of(6, 1, 3, 1, 1);
-    p.shrink = Mix::of(2, 1, 7, 1, 1);
-    p.period = 600;
-    p
+    Profile {
+        name: "edge",
+        servers: 2,
+        slots: 10,
+        clients: 4,
+        awake: 4,
+        keys: 40,
+        ops: 6,
+        grow: Mix::of(6, 1, 3, 1, 1),
+        shrink: Mix::of(2, 1, 7, 1, 1),
+        period: 600,
+        ..hot()
+    }
 }
 
 // Contention on a tree of two inner levels.
 fn wide() -> Profile {
-    let mut p = hot();
-    p.servers = 3;
-    p.slots = 80;
-    p.clients = 8;
-    p.awake = 8;
-    p.keys = 500;
-    p.prefill = 300;
-    p.ops = 4;
-    p.grow = Mix::of(8, 1, 2, 1, 1);
-    p.shrink = Mix::of(2, 1, 8, 1, 1);
-    p.period = 5000;
-    p.sticks = 7000;
-    p.late = 500;
-    p.finishes = 9000;
-    p
+    Profile {
+        name: "wide",
+        servers: 3,
+        slots: 80,
+        clients: 8,
+        awake: 8,
+        keys: 500,
+        prefill: 300,
+        ops: 4,
+        grow: Mix::of(8, 1, 2, 1, 1),
+        shrink: Mix::of(2, 1, 8, 1, 1),
+        period: 5000,
+        sticks: 7000,
+        late: 500,
+        finishes: 9000,
+        ..hot()
+    }
 }
 
 // A tree that reaches level 3 and is taken down again, in narrow ranges.
 fn deep() -> Profile {
-    let mut p = hot();
-    p.servers = 4;
-    p.slots = 120;
-    p.clients = 3;
-    p.awake = 3;
-    p.keys = 1500;
-    p.prefill = 1300;
-    p.ops = 8;
-    p.grow = Mix::of(8, 1, 2, 1, 1);
-    p.shrink = Mix::of(1, 1, 14, 1, 1);
-    p.period = 12000;
-    p.sticks = 9700;
-    p.narrow = 8000;
-    p.late = 100;
-    p.gives_up = 3;
-    p.loses = 2;
-    p.noise = 10;
-    p.finishes = 9950;
-    p
+    Profile {
+        name: "deep",
+        servers: 4,
+        slots: 120,
+        clients: 3,
+        awake: 3,
+        keys: 1500,
+        prefill: 1300,
+        ops: 8,
+        grow: Mix::of(8, 1, 2, 1, 1),
+        shrink: Mix::of(1, 1, 14, 1, 1),
+        period: 12000,
+        sticks: 9700,
+        narrow: 8000,
+        late: 100,
+        gives_up: 3,
+        loses: 2,
+        noise: 10,
+        finishes: 9950,
+        ..hot()
+    }
 }
 
 // Few slots: the store is full.
 fn full() -> Profile {
-    let mut p = edge();
-    p.slots = 5;
-    p.keys = 120;
-    p.ops = 4;
-    p.grow = Mix::of(8, 1, 3, 1, 2);
-    p.shrink = Mix::of(3, 1, 6, 1, 2);
-    p.period = 3000;
-    p
+    Profile {
+        name: "full",
+        slots: 5,
+        keys: 120,
+        ops: 4,
+        grow: Mix::of(8, 1, 3, 1, 2),
+        shrink: Mix::of(3, 1, 6, 1, 2),
+        period: 3000,
+        ..edge()
+    }
 }
 
 // Leaves, inner nodes and the root move.
 fn moving() -> Profile {
-    let mut p = hot();
-    p.servers = 8;
-    p.slots = 20;
-    p.clients = 6;
-    p.awake = 6;
-    p.keys = 250;
-    p.prefill = 120;
-    p.grow = Mix::of(3, 2, 2, 1, 8);
-    p.shrink = Mix::of(2, 2, 3, 1, 8);
-    p.sticks = 7500;
-    p.late = 300;
-    p.finishes = 9500;
-    p
+    Profile {
+        name: "moving",
+        servers: 8,
+        slots: 20,
+        clients: 6,
+        awake: 6,
+        keys: 250,
+        prefill: 120,
+        grow: Mix::of(3, 2, 2, 1, 8),
+        shrink: Mix::of(2, 2, 3, 1, 8),
+        sticks: 7500,
+        late: 300,
+        finishes: 9500,
+        ..hot()
+    }
 }
 
 // Transactions that reach the limits of reads and writes.
 fn limits() -> Profile {
-    let mut p = deep();
-    p.slots = 150;
-    p.clients = 2;
-    p.awake = 2;
-    p.keys = 1200;
-    p.prefill = 900;
-    p.ops = 200;
-    p.grow = Mix::of(3, 4, 3, 1, 0);
-    p.shrink = Mix::of(1, 8, 1, 1, 0);
-    p.period = 6000;
-    p.sticks = 9900;
-    p.narrow = 0;
-    p
+    Profile {
+        name: "limits",
+        slots: 150,
+        clients: 2,
+        awake: 2,
+        keys: 1200,
+        prefill: 900,
+        ops: 200,
+        grow: Mix::of(3, 4, 3, 1, 0),
+        shrink: Mix::of(1, 8, 1, 1, 0),
+        period: 6000,
+        sticks: 9900,
+        narrow: 0,
+        ..deep()
+    }
 }
 
 // Prepares and applies that come late, in any order.
 fn late() -> Profile {
-    let mut p = hot();
-    p.servers = 6;
-    p.slots = 60;
-    p.clients = 14;
-    p.awake = 14;
-    p.keys = 400;
-    p.prefill = 250;
-    p.grow = Mix::of(5, 2, 4, 1, 2);
-    p.shrink = Mix::of(4, 2, 5, 1, 2);
-    p.sticks = 3000;
-    p.late = 8500;
-    p.finishes = 1000;
-    p
+    Profile {
+        name: "late",
+        servers: 6,
+        slots: 60,
+        clients: 14,
+        awake: 14,
+        keys: 400,
+        prefill: 250,
+        grow: Mix::of(5, 2, 4, 1, 2),
+        shrink: Mix::of(4, 2, 5, 1, 2),
+        sticks: 3000,
+        late: 8500,
+        finishes: 1000,
+        ..hot()
+    }
 }
 
 // Clients that sleep, and go on with old copies.
 fn stale() -> Profile {
-    let mut p = wide();
-    p.servers = 4;
-    p.slots = 60;
-    p.awake = 4;
-    p.keys = 300;
-    p.prefill = 150;
-    p.grow = Mix::of(8, 1, 2, 1, 2);
-    p.shrink = Mix::of(2, 1, 9, 1, 2);
-    p.narrow = 3000;
-    p.finishes = 9000;
-    p
+    Profile {
+        name: "stale",
+        servers: 4,
+        slots: 60,
+        awake: 4,
+        keys: 300,
+        prefill: 150,
+        grow: Mix::of(8, 1, 2, 1, 2),
+        shrink: Mix::of(2, 1, 9, 1, 2),
+        narrow: 3000,
+        finishes: 9000,
+        ..wide()
+    }
 }
 
 // Losses and give-ups at any point.
 fn lossy() -> Profile {
-    let mut p = late();
-    p.late = 5000;
-    p.gives_up = 500;
-    p.loses = 300;
-    p.noise = 500;
-    p.finishes = 4000;
-    p
+    Profile {
+        name: "lossy",
+        late: 5000,
+        gives_up: 500,
+        loses: 300,
+        noise: 500,
+        finishes: 4000,
+        ..late()
+    }
 }
 
 // Arbitrary steps.
 fn noise() -> Profile {
-    let mut p = edge();
-    p.servers = 3;
-    p.slots = 12;
-    p.noise = 5000;
-    p.kinds = 12;
-    p
+    Profile {
+        name: "noise",
+        servers: 3,
+        slots: 12,
+        noise: 5000,
+        kinds: 12,
+        ..edge()
+    }
 }
 
 // The largest store.
 fn large() -> Profile {
-    let mut p = wide();
-    p.servers = 8;
-    p.slots = 1024;
-    p.clients = 16;
-    p.awake = 10;
-    p.keys = 1600;
-    p.prefill = 600;
-    p.period = 20000;
-    p.narrow = 5000;
-    p
+    Profile {
+        name: "large",
+        servers: 8,
+        slots: 1024,
+        clients: 16,
+        awake: 10,
+        keys: 1600,
+        prefill: 600,
+        period: 20000,
+        narrow: 5000,
+        ..wide()
+    }
 }
 
 // One server.
 fn alone() -> Profile {
-    let mut p = wide();
-    p.servers = 1;
-    p.slots = 200;
-    p.clients = 5;
-    p.awake = 5;
-    p
+    Profile {
+        name: "alone",
+        servers: 1,
+        slots: 200,
+        clients: 5,
+        awake: 5,
+        ..wide()
+    }
 }
 
 // Few slots between which inner nodes go to and fro, while others have old copies of them.
 fn pingpong() -> Profile {
-    let mut p = moving();
-    p.servers = 2;
-    p.slots = 16;
-    p.clients = 5;
-    p.awake = 2;
-    p.keys = 150;
-    p.prefill = 80;
-    p
+    Profile {
+        name: "pingpong",
+        servers: 2,
+        slots: 16,
+        clients: 5,
+        awake: 2,
+        keys: 150,
+        prefill: 80,
+        ..moving()
+    }
 }
 
 // Servers that come and go. The nodes are few and move, so that a closed server is soon empty and can be removed.
 fn servers() -> Profile {
-    let mut p = moving();
-    p.servers = 3;
-    p.slots = 3;
-    p.awake = 4;
-    p.keys = 60;
-    p.prefill = 30;
-    p.late = 1000;
-    p.changes = 1000;
-    p.kinds = 12;
-    p
-}
-
-// The profile of a number.
-pub fn numbered(n: usize) -> Profile {
-    match n {
-        0 => hot(),
-        1 => edge(),
-        2 => wide(),
-        3 => deep(),
-        4 => full(),
-        5 => moving(),
-        6 => limits(),
-        7 => late(),
-        8 => stale(),
-        9 => lossy(),
-        10 => noise(),
-        11 => large(),
-        12 => alone(),
-        13 => pingpong(),
-        _ => servers(),
+    Profile {
+        name: "servers",
+        servers: 3,
+        slots: 3,
+        awake: 4,
+        keys: 60,
+        prefill: 30,
+        late: 1000,
+        changes: 1000,
+        kinds: 12,
+        ..moving()
     }
 }
 
-// The same store and keys, with one client, nothing late, nothing lost and no change of the servers.
-pub fn calm(mut p: Profile) -> Profile {
-    p.awake = 1;
-    p.clients = 1;
-    p.ops = 10;
-    p.sticks = 10000;
-    p.finishes = 10000;
-    p.late = 0;
-    p.gives_up = 0;
-    p.loses = 0;
-    p.changes = 0;
-    p.noise = 0;
-    p
+// All profiles.
+pub fn all() -> [Profile; 15] {
+    [
+        hot(),
+        edge(),
+        wide(),
+        deep(),
+        full(),
+        moving(),
+        limits(),
+        late(),
+        stale(),
+        lossy(),
+        noise(),
+        large(),
+        alone(),
+        pingpong(),
+        servers(),
+    ]
+}
+
+impl Profile {
+    // The same store and keys, with one client, nothing late, nothing lost and no change of the servers.
+    pub fn calm(self) -> Profile {
+        Profile {
+            awake: 1,
+            clients: 1,
+            ops: 10,
+            sticks: 10000,
+            finishes: 10000,
+            late: 0,
+            gives_up: 0,
+            loses: 0,
+            changes: 0,
+            noise: 0,
+            ..self
+        }
+    }
 }

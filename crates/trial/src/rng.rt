@@ -1,5 +1,10 @@
 // A generator of numbers that are the same in every run.
-ghost use Rattle.std.specs.Prelude.{◌<◌};
+ghost use Rattle.std.specs.Prelude.{◌<◌, ◌≤◌};
+
+#[derive(Drop)]
+pub struct Rng {
+    state: u64,
+}
 
 // The next state (Marsaglia's xorshift).
 pub fn shuffled(state: u64) -> u64 {
@@ -8,22 +13,29 @@ pub fn shuffled(state: u64) -> u64 {
     b ^ (b << 17)
 }
 
-// A number below the bound.
-pub fn draw(rng: &mut u64, bound: u64) -> u64
-    requires { 0 < bound }
-    ensures { result < bound }
-{
-    let next = shuffled(*rng);
-    *rng = next;
-    (next >> 20) % bound
-}
+impl Rng {
+    pub fn new(seed: u64) -> Rng {
+        Rng { state: seed }
+    }
 
-// The same, and 0 where there is none.
-pub fn draw_any(rng: &mut u64, bound: u64) -> u64 {
-    if bound == 0 { 0 } else { draw(rng, bound) }
-}
+    // A number below the bound.
+    pub fn draw(&mut self, bound: u64) -> u64
+        requires { 0 < bound }
+        ensures { result < bound }
+    {
+        self.state = shuffled(self.state);
+        (self.state >> 20) % bound
+    }
 
-// Whether something happens that does so this many times in ten thousand.
-pub fn happens(rng: &mut u64, times: u64) -> bool {
-    draw(rng, 10000) < times
+    // The same, and 0 where there is none.
+    pub fn draw_any(&mut self, bound: u64) -> u64
+        ensures { result ≤ bound }
+    {
+        if bound == 0 { 0 } else { self.draw(bound) }
+    }
+
+    // Whether something happens that does so this many times in ten thousand.
+    pub fn happens(&mut self, times: u64) -> bool {
+        self.draw(10000) < times
+    }
 }

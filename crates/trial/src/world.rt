@@ -1,19 +1,21 @@
 // What is known of a random schedule that runs.
-ghost use Rattle.std.specs.Prelude.{◌≤◌};
+use crate::clients::{Client, Given};
+use crate::map::Map;
+use crate::step::{Kind, is_of};
+use std::alloc::{AllocError, Global};
+use steps::outcome::{Line, Outcome};
+use steps::step::Step;
 
-use crate::clients::Client;
-use steps::outcome::Line;
-
-// What the next operation is: drawn; an insert of the next key; or, in the end, a lookup and a next of the last key read.
-pub const RANDOM: u64 = 0;
-
-pub const FILLS: u64 = 1;
-
-pub const READS: u64 = 2;
-// The last key has been read; the transaction that read it is decided.
-pub const LAST: u64 = 3;
-
-pub const READ: u64 = 4;
+// What the next operation is: drawn; an insert of the next key; or, in the end, a lookup and a next of the last key read. Once the last key has been
+// read, the transaction that read it is decided, and all is read.
+#[derive(Clone, Copy, PartialEq, Eq)]
+pub enum Mode {
+    Random,
+    Fills,
+    Reads,
+    Last,
+    Read,
+}
 
 // What came of the steps, by number, which kinds were done, and what came of the decided transactions.
 #[derive(Clone, Copy)]
@@ -28,23 +30,30 @@ pub struct Tally {
     pub wrong: u64,
 }
 
-// The clients, the one that acted last, a number above all servers that are or were there, the pairs in the map, nodes fetched lately, and the
-// key that was filled in or read last.
-#[derive(Clone, Copy)]
+// The clients, the one that acted last, a number above all servers that are or were there, the map, names of nodes fetched lately, and the
+// key that was filled in or read last, as it is and as it was when the transaction began.
+#[derive(Drop)]
 pub struct World {
-    pub clients: [Client; 16],
+    pub clients: Vec<Client>,
     pub current: usize,
     pub servers: u64,
-    pub pairs: usize,
+    pub map: Map,
     pub names: [u64; 32],
-    pub mode: u64,
+    pub mode: Mode,
     pub cursor: u64,
-    pub kept: u64,
+    kept: u64,
     pub tally: Tally,
 }
 
+// The number at an index is one more.
+fn count(list: &mut [u64; 16], at: u64) {
+    if let Some(number) = list.get_mut(at as usize) {
+        *number = number.wrapping_add(1);
+    }
+}
+
 impl Tally {
-    pub fn new() -> Tally {
+    fn new() -> Tally {
         Tally {
             steps: 0,
             outcomes: [0; 16],
@@ -58,78 +67,139 @@ impl Tally {
     }
 
     // One step more, of this kind.
-    pub fn counted(self, kind: u64, line: Line) -> Tally {
-        let old_outcomes = self.outcomes;
-        let old_refused = self.refused;
-        let old_reasons = self.reasons;
-        let old_done = self.done;
-        let outcomes = one_more(old_outcomes, true, line.outcome);
-        let refused = one_more(old_refused, line.outcome == 0, line.a);
-        let reasons = one_more(old_reasons, line.outcome == 8, line.a);
-        let done = one_more(old_done, line.outcome == 1, kind);
-        Tally {
-            steps: std::num::wrapping_add_u64(self.steps, 1),
-            outcomes,
-            refused,
-            reasons,
-            done,
-            decided: self.decided,
-            compared: self.compared,
-            wrong: self.wrong,
+    fn note(&mut self, kind: u64, outcome: Outcome) {
+        self.steps = self.steps.wrapping_add(1);
+        count(&mut self.outcomes, Line::of(outcome).outcome);
+        match outcome {
+            Outcome::Refused(number) => count(&mut self.refused, number),
+            Outcome::Aborted(reason) => count(&mut self.reasons, reason),
+            Outcome::Done => count(&mut self.done, kind),
+            _ => {}
         }
     }
 
-    // A decided transaction.
-    pub fn with_decided(self, compared: u64, wrong: u64) -> Tally {
-        let mut t = self;
-        t.decided = std::num::wrapping_add_u64(self.decided, 1);
-        t.compared = std::num::wrapping_add_u64(self.compared, compared);
-        t.wrong = std::num::wrapping_add_u64(self.wrong, wrong);
-        t
+    // A decided transaction, on the map: each answer that it got is compared with the map's.
+    fn replay(&mut self, given: &[Given], map: &mut Map) -> Result<(), AllocError> {
+        self.decided = self.decided.wrapping_add(1);
+        for g in given {
+            let answer = map.operate(g.operation, g.key, g.value)?;
+            if answer.is_some() {
+                self.compared = self.compared.wrapping_add(1);
+                if answer != g.answer {
+                    self.wrong = self.wrong.wrapping_add(1);
+                }
+            }
+        }
+        Ok(())
     }
 }
 
-// The number at an index is one more, if that is meant.
-fn one_more(mut list: [u64; 16], is_meant: bool, at: u64) -> [u64; 16] {
-    if !is_meant {
-        return list;
-    }
-    if 15 < at {
-        return list;
-    }
-    let i = at as usize;
-    list[i] = std::num::wrapping_add_u64(list[i], 1);
-    list
-}
-
-pub fn least(a: usize, b: usize) -> usize
-    ensures { (result ≤ a) × (result ≤ b) }
-{
-    if a < b { a } else { b }
+// "a commit or prepare with outcome 5 or 7 decides it"
+fn decides(step: Step, outcome: Outcome) -> bool {
+    (is_of(step, Kind::Commit) || is_of(step, Kind::Prepare))
+        && matches!(outcome, Outcome::Decided | Outcome::Committed)
 }
 
 impl World {
-    pub fn new(servers: u64) -> World {
-        World {
-            clients: [Client::idle(); 16],
+    pub fn new(alloc: Global, servers: u64) -> Result<World, AllocError> {
+        let mut clients = Vec::new(alloc);
+        for _ in 0..16 {
+            clients.push(Client::new(alloc))?;
+        }
+        Ok(World {
+            clients,
             current: 0,
             servers,
-            pairs: 0,
+            map: Map::new(alloc),
             names: [0; 32],
-            mode: FILLS,
+            mode: Mode::Fills,
             cursor: 0,
             kept: 0,
             tally: Tally::new(),
+        })
+    }
+
+    // Whether a client's prepares, or its applies, are due.
+    pub fn is_due(&self, client: usize) -> bool {
+        self.clients.get(client).is_some_and(|c| c.is_due())
+    }
+
+    // How many operations a client's transaction has.
+    pub fn given(&self, client: usize) -> usize {
+        self.clients.get(client).map_or(0, |c| c.given.len())
+    }
+
+    // A step and its outcome, and the output that was lent to it.
+    pub fn note(
+        &mut self,
+        step: Step,
+        outcome: Outcome,
+        out: &[u8; 512],
+        left: u64,
+    ) -> Result<(), AllocError> {
+        self.tally.note(step.kind, outcome);
+        if is_of(step, Kind::Add) && matches!(outcome, Outcome::Done) {
+            self.servers = self.servers.max(step.server.saturating_add(1));
+        }
+        let at = step.client as usize;
+        let Some(client) = self.clients.get_mut(at) else {
+            return Ok(());
+        };
+        if decides(step, outcome) {
+            self.tally.replay(&client.given, &mut self.map)?;
+        }
+        client.note(step, outcome, out, left)?;
+        self.learn(step, outcome);
+        self.current = at;
+        Ok(())
+    }
+
+    // The names of nodes that were fetched, and the keys that were filled in or read.
+    fn learn(&mut self, step: Step, outcome: Outcome) {
+        if let Outcome::Fetched(1, name) = outcome {
+            let at = (self.tally.steps % 32) as usize;
+            self.names[at] = name;
+        }
+        match self.mode {
+            Mode::Random => {}
+            Mode::Fills => self.fill(step, outcome),
+            Mode::Reads | Mode::Last | Mode::Read => self.read(step, outcome),
         }
     }
 
-    pub fn client(self, c: usize) -> Client {
-        let clients = self.clients;
-        clients[least(c, 15)]
+    fn fill(&mut self, step: Step, outcome: Outcome) {
+        if is_of(step, Kind::Give) && matches!(outcome, Outcome::Done) {
+            self.cursor = self.cursor.wrapping_add(1);
+        }
     }
 
-    pub fn with_client(mut self, c: usize, client: Client) -> World {
-        self.clients[least(c, 15)] = client;
-        self
+    // The key that was read last, and whether all is read.
+    fn read(&mut self, step: Step, outcome: Outcome) {
+        if is_of(step, Kind::Begin) {
+            self.kept = self.cursor;
+        }
+        if decides(step, outcome) && self.mode == Mode::Last {
+            self.mode = Mode::Read;
+        }
+        match outcome {
+            Outcome::Aborted(_) => {
+                self.cursor = self.kept;
+                self.mode = Mode::Reads;
+            }
+            Outcome::Answered(a, b) => self.read_next(a, b),
+            _ => {}
+        }
+    }
+
+    // Each second answer is that of a next.
+    fn read_next(&mut self, a: u64, b: u64) {
+        if self.given(0) % 2 != 0 {
+            return;
+        }
+        if a == 1 {
+            self.cursor = b;
+        } else {
+            self.mode = Mode::Last;
+        }
     }
 }
