@@ -24,7 +24,7 @@ pub extern "C" fn places_counted(node: &[u8; 264], key: u64) -> usize
     numbered(at)
 }
 
-// The same by branching.
+// The same by branching. The two differ in one call only; a function generic over it would state the search's contract once more, as a law of a trait.
 #[unsafe(no_mangle)]
 pub extern "C" fn places_branched(node: &[u8; 264], key: u64) -> usize
     ensures { result ≡ asked (view node.now) key }
@@ -52,12 +52,10 @@ fn branched(s: &[u8], b: usize, key: u64) -> usize
 {
     let count = count_at(s, b);
     let mut p: usize = 0;
-    let mut i: usize = 1;
-    while i <= count {
+    for i in 1..count + 1 {
         if key_at(s, b, i - 1) <= key {
             p += 1;
         }
-        i += 1;
     }
     p
 }
