@@ -35,9 +35,7 @@ pub fn turn(mem: &mut [u8], out: &mut [u8], outcomes: &mut [u64], i: usize, k: S
 pub fn run(mem: &mut [u8], out: &mut [u8], outcomes: &mut [u64], steps: &[Step])
     ensures { TakesAll mem out outcomes steps }
 {
-    let mut i: usize = 0;
-    while i < steps.len() {
-        turn(mem, out, outcomes, i, steps[i]);
-        i += 1;
+    for (i, step) in steps.iter().enumerate() {
+        turn(mem, out, outcomes, i, *step);
     }
 }

@@ -1,4 +1,5 @@
 // Lines printed into a lent buffer from index at on. Each function returns the index behind what it printed.
+// Buffer and index are no struct: it would hold a `&mut`, and each function here and in `show` would promise besides that this stays the same one.
 ghost use Rattle.std.specs.Prelude.{◌≡◌, ◌+◌, ◌≤◌, length};
 ghost use Rattle.text.specs.Print.{field, step_line, store_line, refused_line, bad_line, Printed};
 

@@ -1,5 +1,5 @@
 -- What is promised holds: the theorems of `ranges` and `demand`, of the way that reached the store.
-use Rattle.std.specs.Prelude.{◌≡◌, refl, List, ◌++◌, ℕ, length}
+use Rattle.std.specs.Prelude.{refl, List, ◌++◌, ℕ, length}
 use Rattle.std.proofs.Common.{sym, subst}
 use Rattle.memory.specs.Word.{view}
 use Rattle.steps.specs.declared.sizes.Sizes.{Sizes}

@@ -12,7 +12,7 @@ use Rattle.steps.specs.declared.step.Step.{Step}
 use Rattle.steps.specs.declared.outcome.Outcome.{Outcome}
 use Rattle.steps.specs.declared.outcome.Line.{Line}
 use Rattle.steps.specs.Outcome.{line}
-use Rattle.steps.specs.Taken.{Taken, steps_of, came_to, outcome_from}
+use Rattle.steps.specs.Taken.{Taken, steps_of, came_to}
 use Rattle.steps.proofs.Laws.Taken.{same_outcome}
 use Rattle.engine.specs.Step.{words_after, output_after}
 use Rattle.engine.specs.Reached.{GoesOn}
