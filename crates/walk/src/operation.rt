@@ -31,19 +31,22 @@ pub enum Operation {
 }
 
 // "op 1 insert, 2 lookup, 3 delete, 4 next key above, 5 previous key below, 6 migrate", and 7 list
-fn operation_of(number: u64) -> Operation
-    ensures { result ≡ operation_of number }
-{
-    match number {
-        0 => Operation::Unknown,
-        1 => Operation::Write(Update::Insert),
-        2 => Operation::Read(Query::Lookup),
-        3 => Operation::Write(Update::Delete),
-        4 => Operation::Read(Query::Next),
-        5 => Operation::Read(Query::Previous),
-        6 => Operation::Write(Update::Migrate),
-        7 => Operation::Listing,
-        8..=u64::MAX => Operation::Unknown,
+impl From<u64> for Operation {
+    ghost from_gives = { λ number op. op ≡ operation_of number };
+
+    #[tactic(auto, using(crate::specs::Laws::Operation::of_none), unfolding(crate::specs::Operation::operation_of))]
+    fn from(number: u64) -> Operation {
+        match number {
+            0 => Operation::Unknown,
+            1 => Operation::Write(Update::Insert),
+            2 => Operation::Read(Query::Lookup),
+            3 => Operation::Write(Update::Delete),
+            4 => Operation::Read(Query::Next),
+            5 => Operation::Read(Query::Previous),
+            6 => Operation::Write(Update::Migrate),
+            7 => Operation::Listing,
+            8..=u64::MAX => Operation::Unknown,
+        }
     }
 }
 
@@ -52,5 +55,5 @@ pub fn waiting(part: &[u8]) -> Operation
     requires { ClientPart part.now }
     ensures { result ≡ operation_of (held part.now op_number) }
 {
-    operation_of(get_field(part, OP_NUMBER))
+    Operation::from(get_field(part, OP_NUMBER))
 }

@@ -326,9 +326,6 @@ module _ (b : List ℕ) (slots : ℕ) (m : ClientWord → ℕ) (u₀ : List ℕ)
 pub ruleset pass_exits = (pass_start, pass_done, pass_path, pass_stops, pass_more)
 
 -- the nodes of a path taken out
-pub turn_is : (b : List ℕ) (p : Pass) (n : Node) → n ≡ node_at (view b) p.place → ◌≡◌ {A = Turn} (record { name = p.name; at = p.at; node = n }) (turn_in b p)
-turn_is b p n e = rw e
-
 abbrev pub TakenOut : List ℕ → List Pass → List Turn → ℕ → Type 0
 TakenOut b ps out i = (i ≤ 5) × (length out ≡ 5) × (take i out ≡ take i (turns_in b ps))
 

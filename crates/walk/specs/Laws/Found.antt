@@ -95,9 +95,6 @@ module _ (s : Sought) where
     pub higher_inside : s ≡ Higher → start + j < count
     higher_inside e = let k : j < count - start = rw e at h in omega arith
 
-    pub lower_some : s ≡ Lower → (1 ≤ start) × (j ≤ start - 1)
-    lower_some e = let k : j < start = rw e at h in (omega arith, omega arith)
-
     pub lower_inside : s ≡ Lower → start - 1 - j < count
     lower_inside e = let k : j < start = rw e at h in omega arith
 

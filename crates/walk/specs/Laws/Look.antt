@@ -3,11 +3,11 @@ use Rattle.std.specs.Prelude.{◌≡◌, Bool, ℕ, ◌+◌, ◌≤◌, ltb, len
 use Rattle.std.proofs.Math.Path.{refl, sym, ap}
 use Rattle.std.proofs.Common.{◌∙◌, subst, arith, le-ltb}
 use Rattle.std.proofs.Math.Bool.{true, false}
-use mathlib.Core.List.{List, [], ◌∷◌}
+use mathlib.Core.List.{List, []}
 use Rattle.operations.specs.Object.{Ans}
 use Rattle.operations.specs.Path.{TreePlan}
 use Rattle.operations.specs.Entry.{Entries}
-use Rattle.operations.specs.Look.{lookup_plan, nearest}
+use Rattle.operations.specs.Look.{lookup_plan}
 use Rattle.operations.specs.Operation.{reading}
 use Rattle.client.specs.Layout.{ClientWord, op_number, op_key, op_value, writes_count}
 use Rattle.client.specs.Run.{End}
@@ -17,7 +17,6 @@ use Rattle.client.specs.Work.{answers, waiting, count_new, any_at_last, versions
 use Rattle.walk.specs.Walk.{Course, Answered, Told, is_answer, tell, walked}
 use Rattle.walk.specs.Laws.Begin.{nothing_used}
 use Rattle.walk.specs.Lookup.{ended, Walks}
-use Rattle.walk.specs.declared.found.Sought.{Sought}
 use Rattle.walk.specs.declared.found.Sought.TheVariants.{AtLeast}
 use Rattle.walk.specs.declared.found.Wish.{Wish}
 use Rattle.walk.specs.Found.{pairs_in, Roomy, pairs_told, search_plan}
@@ -28,7 +27,7 @@ use Rattle.walk.specs.Operation.{operation_of}
 use Rattle.walk.specs.Laws.Operation.{query_number, reads_number, lists_number}
 use Rattle.walk.specs.Stopped.{Waiting, stop_of, Filled}
 use Rattle.walk.specs.Laws.Stopped.{noted_in_use, is_filled, R, run_is, never, told_used, Given, stops, given}
-use Rattle.walk.specs.Look.{near_on, near_plan, Looks}
+use Rattle.walk.specs.Look.{near_plan, Looks}
 use Rattle.client.specs.Work as C
 
 last_none : (slots : ℕ) (m : ClientWord → ℕ) (a : Ans) → m writes_count ≤ 48 → last_questions slots m a [] ≡ answers a []
@@ -109,18 +108,5 @@ pub list_within : (m : ClientWord → ℕ) (n : ℕ) (f : List ℕ) → n ≡ m 
 list_within m n f e r = subst (λ (v : ℕ). Roomy v f) e r
 
 pub ruleset list_exits = (look_list, list_room, list_within)
-
--- next and previous have no pairs
-no_pairs : (l : Entries) → (nearest l).2 ≡ []
-no_pairs [] = refl
-no_pairs (e ∷ l) = refl
-
-pub near_none : (slots : ℕ) (m : ClientWord → ℕ) (u : List ℕ) (right : Bool) (sought : Sought) (key : ℕ) (s : Course) (u' : List ℕ) (l : Entries) → sought ≡ near_on right
-    → let w : Wish = record { sought = sought; wanted = 1; key = key } in Walks slots m u (search_plan w) s u' (pairs_told w l) → Walks slots m u (near_plan right key) s u' []
-near_none slots m u right sought key s u' l e h = go right (rw e at h)
-  where
-    go : (r : Bool) → let w : Wish = record { sought = near_on r; wanted = 1; key = key } in Walks slots m u (search_plan w) s u' (pairs_told w l) → Walks slots m u (near_plan r key) s u' []
-    go true k = rw (no_pairs l) at k
-    go false k = rw (no_pairs l) at k
 
 pub ruleset look_exits = (look_lookup, look_next, look_previous)

@@ -6,17 +6,10 @@ use Rattle.walk.specs.declared.operation.Query.{Query}
 use Rattle.walk.specs.declared.operation.Query.TheVariants.{Lookup, Next, Previous}
 use Rattle.walk.specs.declared.operation.Update.{Update}
 use Rattle.walk.specs.declared.operation.Update.TheVariants.{Insert, Delete, Migrate}
-use Rattle.walk.specs.declared.operation.Operation.{Operation}
 use Rattle.walk.specs.declared.operation.Operation.TheVariants.{Read, Listing, Write, Unknown}
 use Rattle.walk.specs.Operation.{operation_of}
 
--- ---- the ways out of the code
-pub of_number : (n k : ℕ) (r : Operation) → n ≡ k → r ≡ operation_of k → r ≡ operation_of n
-of_number n k r e h = rw e h
-
-pub of_field : (n k : ℕ) (r : Operation) → k ≡ n → r ≡ operation_of k → r ≡ operation_of n
-of_field n k r e h = rw (← e) h
-
+-- ---- of a number that is none
 pub of_none : (n : ℕ) → (n ≡ 0 → ⊥) → (n ≡ 1 → ⊥) → (n ≡ 2 → ⊥) → (n ≡ 3 → ⊥) → (n ≡ 4 → ⊥) → (n ≡ 5 → ⊥) → (n ≡ 6 → ⊥) → (n ≡ 7 → ⊥) → Unknown ≡ operation_of n
 unfolding operation_of
 of_none = past_eight _ _ _ _ _ _ _ _ Unknown

@@ -1,12 +1,12 @@
 -- Laws of the search over servers in a row.
-use Rattle.std.specs.Prelude.{◌≡◌, refl, Bool, true, false, not, ℕ, zero, suc, ◌+◌, ◌≤◌, ◌<◌, length, take, drop, get_or, Result, Ok, Err}
-use Rattle.std.proofs.Common.{sym, ap, subst, ◌∙◌, arith, add-one, drop_of_length-le, drop-cons, get_or-take, length-take-le, take_all}
+use Rattle.std.specs.Prelude.{◌≡◌, refl, Bool, true, false, not, ℕ, zero, suc, ◌+◌, ◌≤◌, ◌<◌, length, take, drop, get_or, Ok, Err}
+use Rattle.std.proofs.Common.{sym, ◌∙◌, arith, add-one, drop_of_length-le, drop-cons, get_or-take, length-take-le}
 use mathlib.Core.List.{List, [], ◌∷◌}
 use Rattle.std.proofs.lemmas.Bool.{not-true, not-false}
 use Rattle.nodes.specs.Found.{Found}
 use Rattle.std.specs.Prelude.{Some, None}
 use Rattle.nodes.proofs.Laws.Found.{absent_inside}
-use Rattle.nodes.specs.Name.{name, server_of, slot_of}
+use Rattle.nodes.specs.Name.{name}
 use Rattle.nodes.specs.Placement.{row}
 use Rattle.nodes.specs.Node.{made}
 use Rattle.nodes.specs.Lists.{pad}
@@ -29,7 +29,7 @@ use Rattle.walk.specs.Laws.Down.{stops_not}
 use Rattle.walk.specs.Take.{FlagTaken}
 use Rattle.walk.specs.Vector.{Looked}
 use Rattle.plans.specs.Plan as P
-use Rattle.walk.specs.Search.{LookedInRow, Sought, TakenOn, TakenFor}
+use Rattle.walk.specs.Search.{LookedInRow, Sought, TakenOn}
 
 -- ---- a row
 module _ (slots : ℕ) (m : ClientWord → ℕ) (x u : List ℕ) (states s slot : ℕ) (b : Bool) (e : b ≡ is_open states s) where
@@ -151,12 +151,5 @@ module _ (slots : ℕ) (m : ClientWord → ℕ) (x u ss : List ℕ) (slot : ℕ)
           few = f.few;
           inside = f.inside;
         }
-
--- from the home and the slot that a name is taken apart into
-pub for_name : (slots : ℕ) (m : ClientWord → ℕ) (x u : List ℕ) (n home slot : ℕ) (r : Result ℕ Stop) (x' u' : List ℕ) → home ≡ server_of n → slot ≡ slot_of n
-    → n < 8192 → TakenOn slots m x u (take 8 (row home)) slot r x' u' → TakenFor slots m x u n r x' u'
-for_name slots m x u n home slot r x' u' o l small h =
-    let eight : take 8 (row home) ≡ row home = take_all 8 (row home) (omega (arith, (row_is home (omega arith)).0)) in
-    subst (λ (ss : List ℕ). TakenOn slots m x u ss (slot_of n) r x' u') (eight ∙ ap row o) (rw (← l) h)
 
 pub ruleset take_exits = (untold, take_stops, take_fails, take_done)
