@@ -16,7 +16,7 @@ use Rattle.nodes.specs.Lists.{pad}
 use Rattle.nodes.specs.Node.{made}
 use Rattle.operations.specs.Object.{Obj, meta, node, flag, object, Val, taken}
 use Rattle.operations.proofs.Laws.Object.{inner}
-use Rattle.client.specs.declared.answer.Look.{Look}
+use Rattle.client.specs.Have.{Look}
 use Rattle.client.specs.declared.part.Set.TheVariants.{Reads, Writes, Copies}
 use Rattle.client.specs.Layout.{ClientWord, vector_word, meta_states, meta_root, meta_version}
 use Rattle.client.specs.Record.{number, value_of, single, metadata, object_in_store, record_in_range}

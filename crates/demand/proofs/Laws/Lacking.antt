@@ -11,7 +11,7 @@ use Rattle.std.specs.Prelude.{Some, None}
 use Rattle.operations.specs.Object.{Obj, Ask, object, vector, fetched, Val, Ans}
 use Rattle.operations.specs.Operation.{reading, all_fit?}
 use Rattle.operations.specs.Path.{TreePlan}
-use Rattle.client.specs.declared.answer.Look.{Look}
+use Rattle.client.specs.Have.{Look}
 use Rattle.client.specs.declared.part.Set.TheVariants.{Reads, Writes}
 use Rattle.client.specs.Layout.{ClientWord, reads_count}
 use Rattle.client.specs.Record.{number, value_of, object_in_store}

@@ -32,7 +32,7 @@ use Rattle.operations.specs.Operation.{reading}
 use Rattle.operations.proofs.Laws.Seen.{Hint, hint_of}
 use Rattle.protocol.specs.Lists.{Among}
 use Rattle.protocol.proofs.Laws.Hints.{objects}
-use Rattle.client.specs.declared.answer.Look.{Look}
+use Rattle.client.specs.Have.{Look}
 use Rattle.client.specs.declared.part.Set.{Set}
 use Rattle.client.specs.declared.part.Set.TheVariants.{Reads, Writes, Copies}
 use Rattle.client.specs.Layout.{ClientWord, client_words, item, vector_word, reads_count, meta_states, meta_root, meta_version}

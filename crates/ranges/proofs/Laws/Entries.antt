@@ -31,7 +31,7 @@ use Rattle.operations.proofs.Laws.Object.{written}
 use Rattle.operations.specs.Operation.{fits?, all_fit?}
 use Rattle.operations.proofs.Laws.Storable.{Shape, Kept, Named, Storable, AllStorable, every_any}
 use Rattle.operations.proofs.Laws.Hit.{hit_eq, hit_self}
-use Rattle.client.specs.declared.answer.Look.{Look}
+use Rattle.client.specs.Have.{Look}
 use Rattle.client.specs.Layout.{ClientWord, client_words, item, reads_count, writes_count}
 use Rattle.client.specs.Record.{number, first_slot, second_slot, single, metadata, record_of, in_store, object_in_store, last_version, record_in_range, all, children_there}
 use Rattle.client.specs.Sets.{or_found, at_most, count, record_at, number_at, find}

@@ -22,7 +22,7 @@ use Rattle.client.specs.Layout.{ClientWord, reads_count}
 use Rattle.client.specs.Answered.{entered}
 use Rattle.client.specs.Record.{number, in_store, number_in_store, object_in_store, all, children_there}
 use Rattle.client.specs.Sets.{record_at, find}
-use Rattle.client.specs.declared.answer.Look.{Look}
+use Rattle.client.specs.Have.{Look}
 use Rattle.client.specs.Have.{is_found, is_copied, copied, copy_fits, or_copied, or_read, source, look_fits, have, broken}
 use Rattle.client.specs.Items.{has}
 use Rattle.client.specs.Laws.Ranges.{client_fits}

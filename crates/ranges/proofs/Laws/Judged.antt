@@ -17,7 +17,7 @@ use Rattle.std.specs.Prelude.{Some, None}
 use Rattle.nodes.specs.Range.{level_fits, count_fits, node_in_range}
 use Rattle.nodes.specs.States.{states_fit, metadata_fits}
 use Rattle.nodes.specs.Stored.{node_of}
-use Rattle.client.specs.declared.answer.Look.{Look}
+use Rattle.client.specs.Have.{Look}
 use Rattle.client.specs.declared.part.Set.TheVariants.{Reads, Writes, Copies}
 use Rattle.client.specs.Layout.{ClientWord, field, item, vector_word, lost}
 use Rattle.client.specs.Record.{first_slot, second_slot, number_in_store, last_version, record_in_range, children_there, node_fits, whole_in_range, kind_in_range}

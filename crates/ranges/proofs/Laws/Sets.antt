@@ -21,7 +21,7 @@ use Rattle.nodes.specs.Node.{made}
 use Rattle.nodes.specs.Range.{node_in_range}
 use Rattle.nodes.proofs.Laws.Range.{range_version}
 use Rattle.nodes.proofs.Laws.Stored.{Sized}
-use Rattle.client.specs.declared.answer.Look.{Look}
+use Rattle.client.specs.Have.{Look}
 use Rattle.client.specs.declared.part.Set.{Set}
 use Rattle.client.specs.declared.part.Set.TheVariants.{Reads, Writes, Copies}
 use Rattle.client.specs.Layout.{ClientWord, client_words, field, item, vector_word, reads_count, writes_count, meta_states, meta_root, meta_version}
