@@ -88,8 +88,12 @@ stood w (code.Here at) = here (node_at w at)
 stood w (code.Copied at) = copy (node_at w at)
 stood w code.Lacking = lacking
 
+-- the record has room in the part
 abbrev pub StandsInPart : Have ℕ → Type 0
 StandsInPart f = IfThere f (λ at. at + record_words ≤ client_length)
+
+abbrev pub OptionInPart : Found → Type 0
+OptionInPart o = IfSome o (λ at. at + record_words ≤ client_length)
 
 -- of the metadata or a flag: its version and its value, and of the metadata the servers' states
 abbrev pub short_of : Node → Short
@@ -103,13 +107,11 @@ short_as Lacking r = code.Lacking
 abbrev pub short : Look → Have Short
 short l = short_as l.how l.node
 
+-- back to a record of the metadata
 abbrev pub metadata_of : Short → Node
 metadata_of s = metadata s.version s.value s.states
 
--- of a copy: its record
-abbrev pub OptionInPart : Found → Type 0
-OptionInPart o = IfSome o (λ at. at + record_words ≤ client_length)
-
+-- of a copy: its record, if there is one
 abbrev pub copy_or_lacking : std.Option Node → Look
 copy_or_lacking (Some r) = copy r
 copy_or_lacking None = lacking
