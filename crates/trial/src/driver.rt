@@ -104,7 +104,7 @@ impl Trial {
 }
 
 // The whole schedule of a profile, in a new store.
-pub fn tried(
+fn schedule(
     alloc: Global,
     memory: &mut [u8],
     profile: Profile,
@@ -122,4 +122,12 @@ pub fn tried(
         world: World::new(alloc, profile.servers)?,
     };
     trial.run(memory)
+}
+
+// Its tally. A schedule that no memory is left for counts as wrong.
+pub fn tried(alloc: Global, memory: &mut [u8], profile: Profile, seed: u64) -> Tally {
+    match schedule(alloc, memory, profile, seed) {
+        Ok(tally) => tally,
+        Err(_) => Tally::unfinished(),
+    }
 }

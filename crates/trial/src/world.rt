@@ -66,6 +66,14 @@ impl Tally {
         }
     }
 
+    // That of a schedule that could not be run to its end.
+    pub fn unfinished() -> Tally {
+        Tally {
+            wrong: 1,
+            ..Tally::new()
+        }
+    }
+
     // One step more, of this kind.
     fn note(&mut self, kind: u64, outcome: Outcome) {
         self.steps = self.steps.wrapping_add(1);
