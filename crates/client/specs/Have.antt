@@ -37,6 +37,7 @@ pub record Look : Type 0 where
   pub how : How
   pub node : Node
 
+-- known so, with that record
 abbrev pub known_as : How → Node → Look
 known_as h r = record { how = h; node = r }
 
