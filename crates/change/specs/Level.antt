@@ -9,12 +9,11 @@ use Rattle.operations.specs.Entry.{Entries, node_value, fewest_entries, most_ent
 use Rattle.operations.specs.Path.{TreePlan, Branch}
 use Rattle.operations.specs.Change.{Go, split, neighbour, up}
 use Rattle.walk.specs.declared.down.Turn.{Turn}
-use Rattle.walk.specs.declared.walk.Stop.{Stop}
 use Rattle.client.specs.Layout.{ClientWord}
 use Rattle.client.specs.Record.{value_of}
 use Rattle.client.specs.Sets.{held}
 use Rattle.client.specs.Lent.{LentList, LentMut, used_in}
-use Rattle.walk.specs.Walk.{walked}
+use Rattle.walk.specs.Walk.{Course, walked}
 use Rattle.walk.specs.Lookup.{ended}
 use Rattle.walk.specs.Ask.{Noted}
 use Rattle.change.specs.Rise.{NodeWritten, in_parent}
@@ -34,11 +33,11 @@ unfoldable pub top_plan : ℕ → Ans → ℕ → ℕ → Entries → Writes →
 top_plan slots a l c es w = up slots a l [] w c es
 
 -- ---- a node written, and the answer
-pub record Settled (m : ClientWord → ℕ) (x u : List ℕ) (c : ℕ) (n : Wide) (a b : ℕ) (s : Stop) (x' u' : List ℕ) : Type 0 where
+pub record Settled (m : ClientWord → ℕ) (x u : List ℕ) (c : ℕ) (n : Wide) (a b : ℕ) (s : Course) (x' u' : List ℕ) : Type 0 where
   pub ends : (slots : ℕ) (w : Writes) → walked slots m (P.done ((a, b, []), (node c, value_of (node c) (narrow n)) ∷ w)) (used_in u) ≡ ended s (used_in u') ((node c, value_of (node c) (narrow n)) ∷ w) []
   pub written : NodeWritten x c (narrow n) x'
   pub noted : Noted m u'
 
 -- over what the walk is lent
-abbrev pub Settles : LentList → LentMut → LentMut → ℕ → Wide → ℕ → ℕ → Stop → Type 0
+abbrev pub Settles : LentList → LentMut → LentMut → ℕ → Wide → ℕ → ℕ → Course → Type 0
 Settles part own used c n a b s = Settled (held part.entry.now) own.entry.now used.entry.now c n a b s own.exit.now used.exit.now

@@ -1,5 +1,5 @@
 -- A node of 15 keys split, walked.
-use Rattle.std.specs.Prelude.{◌≡◌, Bool, true, false, List, ◌∷◌, ℕ, ◌+◌, ◌≤◌, get_or}
+use Rattle.std.specs.Prelude.{◌≡◌, Bool, true, List, ◌∷◌, ℕ, ◌+◌, ◌≤◌, get_or, Result}
 use Rattle.nodes.specs.declared.change.Wide.{Wide}
 use Rattle.nodes.specs.Entries.{wide_entries}
 use Rattle.nodes.specs.Change.{put_in}
@@ -8,28 +8,25 @@ use Rattle.operations.specs.Slot.{take_for, take_node}
 use Rattle.operations.specs.Path.{TreePlan}
 use Rattle.operations.specs.Change.{split}
 use Rattle.walk.specs.declared.down.Turn.{Turn}
-use Rattle.change.specs.declared.rise.Risen.{Risen}
-use Rattle.walk.specs.declared.search.Taken.{Taken}
+use Rattle.walk.specs.declared.walk.Stop.{Stop}
 use Rattle.client.specs.Layout.{ClientWord}
 use Rattle.client.specs.Record.{in_store}
 use Rattle.client.specs.Lent.{used_in}
-use Rattle.walk.specs.Walk.{goes, walked, carry}
+use Rattle.walk.specs.Walk.{course, ok_or, goes, walked, carry}
 use Rattle.walk.specs.Ask.{OwnGood, HoldsWrites, Noted}
-use Rattle.walk.specs.Walk.{stands}
-use Rattle.change.specs.Rise.{Raised, BothWritten, split_plan}
+use Rattle.change.specs.Rise.{went_up, Raised, BothWritten, split_plan}
 use Rattle.nodes.specs.Change as N
 use Rattle.client.specs.Bounds.{highest_level, keys_to_split}
 
 -- ---- a slot for a half
-pub record HalfTaken (slots : ℕ) (m : ClientWord → ℕ) (x u : List ℕ) (n : ℕ) (r : Taken) (x' u' : List ℕ) : Type 0 where
+pub record HalfTaken (slots : ℕ) (m : ClientWord → ℕ) (x u : List ℕ) (n : ℕ) (r : Result ℕ Stop) (x' u' : List ℕ) : Type 0 where
   pub asks : (w : Writes) → HoldsWrites slots x w → (k : ℕ → Writes → TreePlan)
-      → walked slots m (take_for slots n w (λ d w'. take_node w' d (k d w'))) (used_in u) ≡ carry r.stop (used_in u') (λ us. walked slots m (k r.name ((flag r.name, taken true) ∷ w)) us)
-  pub mute : (w : Writes) → HoldsWrites slots x w → goes r.stop ≡ false → stands r.stop ≡ false
-  pub holds : goes r.stop ≡ true → (w : Writes) → HoldsWrites slots x w → HoldsWrites slots x' ((flag r.name, taken true) ∷ w)
-  pub good : goes r.stop ≡ true → OwnGood x'
+      → walked slots m (take_for slots n w (λ d w'. take_node w' d (k d w'))) (used_in u) ≡ carry (course r) (used_in u') (λ us. walked slots m (k (ok_or 0 r) ((flag (ok_or 0 r), taken true) ∷ w)) us)
+  pub holds : goes (course r) ≡ true → (w : Writes) → HoldsWrites slots x w → HoldsWrites slots x' ((flag (ok_or 0 r), taken true) ∷ w)
+  pub good : goes (course r) ≡ true → OwnGood x'
   pub noted : Noted m u'
   pub few : get_or x' 0 0 ≤ get_or x 0 0 + 1
-  pub inside : goes r.stop ≡ true → in_store slots r.name ≡ true
+  pub inside : goes (course r) ≡ true → in_store slots (ok_or 0 r) ≡ true
 
 -- ---- the halves of a node, written
 pub record Overfull (n : Wide) : Type 0 where
@@ -45,5 +42,5 @@ pub record Divided (x : List ℕ) (b : Turn) (c d : ℕ) (n up : Wide) (x' : Lis
   pub written : BothWritten x c d (N.split n 0) x'
 
 -- ---- below the root
-pub record Splits (slots : ℕ) (m : ClientWord → ℕ) (x u : List ℕ) (l : ℕ) (b : Turn) (c : ℕ) (n : Wide) (r : Risen) (x' u' : List ℕ) : Type 0 where
-  pub raised : (root : Bool) → Raised slots m x u l root (split_plan slots l b c (wide_entries n)) r x' u'
+pub record Splits (slots : ℕ) (m : ClientWord → ℕ) (x u : List ℕ) (l : ℕ) (b : Turn) (c : ℕ) (n : Wide) (r : Result Wide Stop) (x' u' : List ℕ) : Type 0 where
+  pub raised : (root : Bool) → Raised slots m x u l root (split_plan slots l b c (wide_entries n)) (went_up r) x' u'

@@ -7,9 +7,9 @@ use Rattle.client.specs.Answered.{entered}
 use Rattle.client.specs.Work.{answers, worked}
 use Rattle.walk.specs.declared.operation.Update.{Update}
 use Rattle.walk.specs.declared.operation.Update.TheVariants.{Insert, Delete, Migrate}
-use Rattle.walk.specs.declared.walk.Stop.{Stop}
 use Rattle.walk.specs.declared.walk.Stop.TheVariants.{Refused, Aborts}
 use Rattle.client.specs.Bounds.{own_room, used_room}
+use Rattle.walk.specs.Walk.{Course, Ended}
 use Rattle.walk.specs.Stopped.{Stopped, Filled}
 use Rattle.client.specs.Work as C
 
@@ -27,11 +27,11 @@ pub record Ready (x u : List ℕ) : Type 0 where
   pub used_none : get_or u 0 0 ≡ 0
 
 -- how an answer stands after the last questions, by their reason; 10 is the refusal
-unfoldable pub judged : Stop → ℕ → Stop
-judged s r = cond (eqb r 0) s (cond (eqb r 10) Refused (Aborts r))
+unfoldable pub judged : Course → ℕ → Course
+judged s r = cond (eqb r 0) s (cond (eqb r 10) (Ended Refused) (Ended (Aborts r)))
 
 -- the walk has stopped as the work step ends: a lent list has the copies that it used, and with an answer l are the writes that enter; it has no pairs
-pub record Enters (slots : ℕ) (m : ClientWord → ℕ) (s : Stop) (l : List Entry) (u₀ u : List ℕ) : Type 0 where
+pub record Enters (slots : ℕ) (m : ClientWord → ℕ) (s : Course) (l : List Entry) (u₀ u : List ℕ) : Type 0 where
   pub stopped : Stopped slots m s u
   pub filled : Filled u₀ (C.walked slots m).used u
   pub own : (a : Ans) (w : Writes) → worked slots m ≡ answers a w → l ≡ entered w
@@ -39,11 +39,11 @@ pub record Enters (slots : ℕ) (m : ClientWord → ℕ) (s : Stop) (l : List En
 
 -- and where these stand in a lent list too: what lies behind them, and without an answer all of that list, is free: anything may
 -- stand there, and nobody reads it. It keeps its length
-pub record Works (slots : ℕ) (m : ClientWord → ℕ) (s : Stop) (x₀ u₀ x u : List ℕ) : Type 0 where
+pub record Works (slots : ℕ) (m : ClientWord → ℕ) (s : Course) (x₀ u₀ x u : List ℕ) : Type 0 where
   pub enters : Enters slots m s (own_list x) u₀ u
   pub fits : (a : Ans) (w : Writes) → worked slots m ≡ answers a w → OwnFits x
   pub own_same_length : length x ≡ length x₀
 
 -- as a contract promises it of the lists that are lent
-abbrev pub WorksOn : ℕ → (ClientWord → ℕ) → Stop → LentMut → LentMut → Type 0
+abbrev pub WorksOn : ℕ → (ClientWord → ℕ) → Course → LentMut → LentMut → Type 0
 WorksOn slots m s own used = Works slots m s own.entry.now used.entry.now own.exit.now used.exit.now

@@ -7,14 +7,14 @@ ghost use Rattle.change.specs.Insert.{paired_at};
 ghost use Rattle.change.specs.Leaf.{Makes};
 ghost use Rattle.client.specs.Bounds.{most_keys};
 
-use crate::leaf::{Changed, unchanged};
+use crate::leaf::Changed;
 use crate::rise::widen;
 use nodes::change::Wide;
 use nodes::node::Node;
 use nodes::standing::{KeyPlace, place_at};
 use nodes::stored::read_node;
 use walk::down::descend;
-use walk::walk::going;
+use walk::walk::Stop;
 
 // A leaf's new content, with the answer a: 1 if the key is new.
 #[derive(Clone, Copy)]
@@ -30,32 +30,34 @@ fn with_pair(n: Node, at: KeyPlace, key: u64, value: u64) -> Paired
 {
     if at.there {
         let m = n.with_slot(at.place - 1, value);
-        let content = widen(m);
-        return Paired { content, a: 0 };
+        return Paired {
+            content: widen(m),
+            a: 0,
+        };
     }
-    let content = n.put_in(at.place, key, value);
-    Paired { content, a: 1 }
+    Paired {
+        content: n.put_in(at.place, key, value),
+        a: 1,
+    }
 }
 
-// The pair in the leaf for the key.
-pub fn insert(part: &[u8], slots: usize, used: &mut [u64], key: u64, value: u64) -> Changed
+// The pair in the leaf for the key: that always changes.
+pub fn insert(
+    part: &[u8],
+    slots: usize,
+    used: &mut [u64],
+    key: u64,
+    value: u64,
+) -> Result<Option<Changed>, Stop>
     requires { Walking part.now used.old }
     ensures { Makes slots part used (insert_plan slots key value) result }
 {
-    let way = descend(part, slots, used, key);
-    let stop = way.stop;
-    let on = going(stop);
-    if !on {
-        return unchanged(stop, way);
-    }
+    let way = descend(part, slots, used, key)?;
     let at = place_at(part, way.place, key);
-    let leaf = read_node(part, way.place);
-    let p = with_pair(leaf, at, key, value);
-    let content = p.content;
-    Changed {
-        stop,
+    let p = with_pair(read_node(part, way.place), at, key, value);
+    Ok(Some(Changed {
         way,
-        content,
+        content: p.content,
         a: p.a,
-    }
+    }))
 }

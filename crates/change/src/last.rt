@@ -1,4 +1,4 @@
-// The last questions before the answer: what would be written is looked at once all is read.
+// The last questions before the answer: what would be written is looked at once all is read. Err says what ends the walk instead.
 ghost use Rattle.std.specs.Prelude.{◌≡◌, not, [], ◌∷◌, ◌<◌, ◌≤◌};
 ghost use Rattle.client.specs.declared.part.Set.TheVariants.{Reads, Writes};
 ghost use Rattle.client.specs.Layout.{writes_count, ClientPart, limit};
@@ -6,41 +6,37 @@ ghost use Rattle.client.specs.Sets.{held, find, record_at};
 ghost use Rattle.client.specs.Lent.{OwnFits, own_list};
 ghost use Rattle.client.specs.Work.{version_in, version_there, count_new, versions_there, any_at_last};
 ghost use Rattle.client.specs.Bounds.{end_of_numbers, own_most, most_keys};
+ghost use Rattle.walk.specs.Walk.{Going, course};
 ghost use Rattle.walk.specs.Ask.{OwnKept};
 ghost use Rattle.change.specs.Fit.{record_fits, entries_fit};
 ghost use Rattle.change.specs.Last.{new_one, stays_below, there, reason_of, last_reason};
+ghost use Rattle.change.specs.Work.{judged};
 
 use client::items::has;
-use client::lookup::copied;
+use client::lookup::copied_record;
 use client::own::own_record;
 use client::part::{
     ITEM_WORDS, LAST_NODE_NUMBER, MOST_WRITTEN, Set, WRITES_COUNT, find, get_field, item_word,
 };
 use nodes::node::Node;
+use walk::walk::Stop;
 
 // "a node with keys that don't rise or a level above 4 would be written"
 fn fits(n: Node) -> bool
     requires { n.count ≤ most_keys }
     ensures { result ≡ record_fits n }
 {
-    if !n.keys_rise() {
-        return false;
-    }
-    n.level <= 4
+    n.keys_rise() && n.level <= 4
 }
 
 fn all_fit(own: &[u64]) -> bool
     requires { OwnKept own.now }
     ensures { result ≡ entries_fit (own_list own.now) }
 {
-    let n = own[0] as usize;
-    let mut i: usize = 0;
-    while i < n {
-        let r = own_record(own, i);
-        if !fits(r) {
+    for i in 0..own[0] as usize {
+        if !fits(own_record(own, i)) {
             return false;
         }
-        i += 1;
     }
     true
 }
@@ -51,11 +47,7 @@ fn new_one(part: &[u8], number: u64) -> usize
     ensures value { result ≡ new_one (held part.now) number }
     ensures within { result ≤ 1 }
 {
-    let at = find(part, Set::Writes, number);
-    match at {
-        Some(_) => 0,
-        None => 1,
-    }
+    if has(part, Set::Writes, number) { 0 } else { 1 }
 }
 
 fn count_new(part: &[u8], own: &[u64]) -> usize
@@ -63,12 +55,9 @@ fn count_new(part: &[u8], own: &[u64]) -> usize
     ensures value { result ≡ count_new (held part.now) (own_list own.now) }
     ensures within { result ≤ own_most }
 {
-    let n = own[0] as usize;
-    let mut i: usize = 0;
     let mut c: usize = 0;
-    while i < n {
+    for i in 0..own[0] as usize {
         c += new_one(part, own[ITEM_WORDS * i + 1]);
-        i += 1;
     }
     c
 }
@@ -86,14 +75,9 @@ fn version_in(part: &[u8], number: u64) -> u64
     requires { (number < end_of_numbers) × ClientPart part.now }
     ensures { result ≡ version_in (held part.now) number (find (held part.now) Reads number) }
 {
-    let at = find(part, Set::Reads, number);
-    match at {
+    match find(part, Set::Reads, number) {
         Some(i) => version_at(part, i),
-        None => {
-            let l = copied(part, number);
-            let n = l.node;
-            n.version
-        }
+        None => copied_record(part, number).version,
     }
 }
 
@@ -102,12 +86,8 @@ fn version_there(part: &[u8], number: u64) -> bool
     requires { ClientPart part.now }
     ensures { result ≡ version_there (held part.now) number (find (held part.now) Reads number) }
 {
-    let at = find(part, Set::Reads, number);
-    match at {
-        Some(i) => {
-            let version = version_at(part, i);
-            version <= 4294967295
-        }
+    match find(part, Set::Reads, number) {
+        Some(i) => version_at(part, i) <= 4294967295,
         None => !has(part, Set::Writes, number),
     }
 }
@@ -117,23 +97,17 @@ fn there(part: &[u8], number: u64) -> bool
     requires { ClientPart part.now }
     ensures { result ≡ there (held part.now) number }
 {
-    if number > LAST_NODE_NUMBER {
-        return true;
-    }
-    version_there(part, number)
+    number > LAST_NODE_NUMBER || version_there(part, number)
 }
 
 fn all_there(part: &[u8], own: &[u64]) -> bool
     requires { OwnFits own.now × ClientPart part.now }
     ensures { result ≡ versions_there (held part.now) (own_list own.now) }
 {
-    let n = own[0] as usize;
-    let mut i: usize = 0;
-    while i < n {
+    for i in 0..own[0] as usize {
         if !there(part, own[ITEM_WORDS * i + 1]) {
             return false;
         }
-        i += 1;
     }
     true
 }
@@ -143,53 +117,46 @@ fn stays_below(part: &[u8], number: u64) -> bool
     requires { ClientPart part.now }
     ensures { result ≡ stays_below (held part.now) number }
 {
-    if number > LAST_NODE_NUMBER {
-        return true;
-    }
-    let version = version_in(part, number);
-    version != 4294967295
+    number > LAST_NODE_NUMBER || version_in(part, number) != 4294967295
 }
 
 fn all_below(part: &[u8], own: &[u64]) -> bool
     requires { OwnFits own.now × ClientPart part.now }
     ensures { result ≡ not (any_at_last (held part.now) (own_list own.now)) }
 {
-    let n = own[0] as usize;
-    let mut i: usize = 0;
-    while i < n {
+    for i in 0..own[0] as usize {
         if !stays_below(part, own[ITEM_WORDS * i + 1]) {
             return false;
         }
-        i += 1;
     }
     true
 }
 
-// The reason to abort, 0 if there is none: 3, then 4, then 8; 10 is the refusal.
-fn reason_of(part: &[u8], fit: bool, new: usize, known: bool, below: bool) -> u64
+// The first reason to abort: 3, then 4, then 8; in between comes the refusal.
+fn reason_of(part: &[u8], fit: bool, new: usize, known: bool, below: bool) -> Result<(), Stop>
     requires { (new ≤ own_most) × (held part.now writes_count ≤ limit Writes) × ClientPart part.now }
-    ensures { result ≡ reason_of (held part.now) fit new known below }
+    ensures { course result ≡ judged Going (reason_of (held part.now) fit new known below) }
 {
     if !fit {
-        return 3;
+        return Err(Stop::Aborts(3));
     }
     let written = get_field(part, WRITES_COUNT) as usize;
     if MOST_WRITTEN < written + new {
-        return 4;
+        return Err(Stop::Aborts(4));
     }
     if !known {
-        return 10;
+        return Err(Stop::Refused);
     }
     if !below {
-        return 8;
+        return Err(Stop::Aborts(8));
     }
-    0
+    Ok(())
 }
 
 // Of all own writes.
-pub fn last_reason(part: &[u8], own: &[u64]) -> u64
+pub fn last_reason(part: &[u8], own: &[u64]) -> Result<(), Stop>
     requires { OwnKept own.now × (held part.now writes_count ≤ limit Writes) × ClientPart part.now }
-    ensures { result ≡ last_reason (held part.now) (own_list own.now) }
+    ensures { course result ≡ judged Going (last_reason (held part.now) (own_list own.now)) }
 {
     let fit = all_fit(own);
     let new = count_new(part, own);
@@ -199,9 +166,9 @@ pub fn last_reason(part: &[u8], own: &[u64]) -> u64
 }
 
 // Of one write.
-pub fn one_reason(part: &[u8], number: u64, n: Node) -> u64
+pub fn one_reason(part: &[u8], number: u64, n: Node) -> Result<(), Stop>
     requires { (n.count ≤ most_keys) × (held part.now writes_count ≤ limit Writes) × ClientPart part.now }
-    ensures { result ≡ last_reason (held part.now) ((number, n) ∷ []) }
+    ensures { course result ≡ judged Going (last_reason (held part.now) ((number, n) ∷ [])) }
 {
     let fit = fits(n);
     let new = new_one(part, number);

@@ -1,9 +1,9 @@
 // A node left with 6 keys turns to a neighbour under the same parent: a key moves over, or the two merge.
-ghost use Rattle.std.specs.Prelude.{◌≡◌, [], true, ◌+◌, ◌<◌, ◌≤◌, ◌-◌};
+ghost use Rattle.std.specs.Prelude.{◌≡◌, true, ◌+◌, ◌<◌, ◌≤◌, ◌-◌};
 ghost use Rattle.nodes.specs.Entries.{entries_of};
 ghost use Rattle.client.specs.Record.{in_store};
 ghost use Rattle.walk.specs.Ask.{SmallNode, Rising, over_lent};
-ghost use Rattle.change.specs.Rise.{Under, OfLevel, neighbour_plan, Raises};
+ghost use Rattle.change.specs.Rise.{Under, OfLevel, neighbour_plan, Raises, no_pairs};
 ghost use Rattle.change.specs.Beside.{far_side};
 ghost use Rattle.change.specs.Lend.{lent, joined};
 ghost use Rattle.change.specs.Merge.{Between, Neighbours, collapses, Collapses, Merges};
@@ -16,7 +16,7 @@ use nodes::node::Node;
 use walk::down::{Turn, see_child};
 use walk::lookup::answers;
 use walk::take::release;
-use walk::walk::{Stop, going};
+use walk::walk::{Answer, Stop};
 
 // Two neighbours by their names. The left one's number among the children is that of the separator between them; `last` says that
 // the node which turns is the right one.
@@ -34,17 +34,12 @@ fn beside(above: Turn) -> Sides
     ensures { Between above result }
 {
     let parent = above.node;
-    let i = above.at;
-    let at = parent.pair_at(i);
-    let children = parent.slots;
-    let left = children[at];
-    let right = children[at + 1];
-    let last = i == parent.count;
+    let at = parent.pair_at(above.at);
     Sides {
         at,
-        last,
-        left,
-        right,
+        last: above.at == parent.count,
+        left: parent.slots[at],
+        right: parent.slots[at + 1],
     }
 }
 
@@ -78,16 +73,6 @@ fn joined(last: bool, n: Node, sep: u64, m: Node) -> Node
     n.merge(sep, m)
 }
 
-// Nothing goes up.
-fn halted(stop: Stop) -> Risen
-    ensures { result.stop ≡ stop }
-{
-    Risen {
-        stop,
-        up: widen(Node::free(0)),
-    }
-}
-
 // "An inner root left with no key takes over its only child's contents, and the child is freed."
 fn collapse(
     part: &[u8],
@@ -97,32 +82,23 @@ fn collapse(
     root: u64,
     child: u64,
     one: Node,
-    a: u64,
-    b: u64,
-) -> Risen
+    answer: Answer,
+) -> Result<Answer, Stop>
     requires rising { Rising part.now own.old used.old (risen_most + 2) }
     requires there { in_store slots root ≡ true }
     requires few { one.count ≤ most_keys }
-    ensures { over_lent Collapses slots part own used (a, b, []) root child one result own.new used.new }
+    ensures { over_lent Collapses slots part own used (no_pairs answer) root child one result own.new used.new }
 {
-    let stop = release(part, slots, own, used, child);
-    let on = going(stop);
-    if !on {
-        return halted(stop);
-    }
+    release(part, slots, own, used, child)?;
     write_node(own, root, one);
-    let end = answers(part, used, a, b);
-    halted(end)
+    answers(part, used, answer)
 }
 
 // Does a parent with so many keys lose its last one as the root?
 fn collapses(root: bool, count: usize) -> bool
     ensures { result ≡ collapses root count }
 {
-    if !root {
-        return false;
-    }
-    count == 1
+    root && count == 1
 }
 
 // The two merged into one, under the left one's name; "the right is freed".
@@ -135,31 +111,22 @@ fn merge(
     above: Turn,
     s: Sides,
     one: Node,
-    a: u64,
-    b: u64,
-) -> Risen
+    answer: Answer,
+) -> Result<Risen, Stop>
     requires rising { Rising part.now own.old used.old risen_most }
     requires beside { Neighbours slots above s }
     requires few { SmallNode one }
-    ensures { over_lent Merges slots part own used root (a, b, []) above s one result own.new used.new }
+    ensures { over_lent Merges slots part own used root (no_pairs answer) above s one result own.new used.new }
 {
-    let left = s.left;
-    let stop = release(part, slots, own, used, s.right);
-    let on = going(stop);
-    if !on {
-        return halted(stop);
-    }
+    release(part, slots, own, used, s.right)?;
     let parent = above.node;
     if collapses(root, parent.count) {
-        return collapse(part, slots, own, used, above.name, left, one, a, b);
+        let end = collapse(part, slots, own, used, above.name, s.left, one, answer)?;
+        return Ok(Risen::Done(end));
     }
-    write_node(own, left, one);
+    write_node(own, s.left, one);
     let p = parent.take_out(s.at);
-    let up = widen(p);
-    Risen {
-        stop: Stop::Going,
-        up,
-    }
+    Ok(Risen::Up(widen(p)))
 }
 
 // With both neighbours at hand: n turns to m.
@@ -173,33 +140,25 @@ fn even_out(
     s: Sides,
     n: Node,
     m: Node,
-    a: u64,
-    b: u64,
-) -> Risen
+    answer: Answer,
+) -> Result<Risen, Stop>
     requires rising { Rising part.now own.old used.old risen_most }
     requires beside { Neighbours slots above s }
     requires turning { SmallNode n }
     requires far { SmallNode m }
     requires lacks { n.count ≤ fewest_keys - 1 }
-    ensures { over_lent Evens slots part own used root (a, b, []) above s n m result own.new used.new }
+    ensures { over_lent Evens slots part own used root (no_pairs answer) above s n m result own.new used.new }
 {
     let parent = above.node;
-    let at = s.at;
-    let keys = parent.keys;
-    let sep = keys[at];
-    let last = s.last;
+    let sep = parent.keys[s.at];
     if 7 < m.count {
-        let h = lent(last, n, sep, m);
+        let h = lent(s.last, n, sep, m);
         write_halves(own, s.left, s.right, h);
-        let p = parent.with_key(at, h.sep);
-        let up = widen(p);
-        return Risen {
-            stop: Stop::Going,
-            up,
-        };
+        let p = parent.with_key(s.at, h.sep);
+        return Ok(Risen::Up(widen(p)));
     }
-    let one = joined(last, n, sep, m);
-    merge(part, slots, own, used, root, above, s, one, a, b)
+    let one = joined(s.last, n, sep, m);
+    merge(part, slots, own, used, root, above, s, one, answer)
 }
 
 // "a non-root node left with 6 keys turns to .." a neighbour; "a node is its own neighbour": reason 3
@@ -213,30 +172,22 @@ pub fn neighbour(
     above: Turn,
     name: u64,
     n: Node,
-    a: u64,
-    b: u64,
-) -> Risen
+    answer: Answer,
+) -> Result<Risen, Stop>
     requires rising { Rising part.now own.old used.old risen_most }
     requires under { Under slots level name above }
     requires of { OfLevel level n }
     requires lacks { n.count ≤ fewest_keys - 1 }
-    ensures { Raises slots part own used level root (neighbour_plan (a, b, []) level above name (entries_of n)) result }
+    ensures { Raises slots part own used level root (neighbour_plan (no_pairs answer) level above name (entries_of n)) result }
 {
-    let parent = above.node;
-    if parent.count == 0 {
-        return halted(Stop::Aborts(3));
+    if above.node.count == 0 {
+        return Err(Stop::Aborts(3));
     }
     let s = beside(above);
     let other = far_side(s.last, s.left, s.right);
     if other == name {
-        return halted(Stop::Aborts(3));
+        return Err(Stop::Aborts(3));
     }
-    let c = see_child(part, slots, own, used, level as u64, other);
-    let stop = c.stop;
-    let on = going(stop);
-    if !on {
-        return halted(stop);
-    }
-    let m = c.node;
-    even_out(part, slots, own, used, root, above, s, n, m, a, b)
+    let m = see_child(part, slots, own, used, level as u64, other)?;
+    even_out(part, slots, own, used, root, above, s, n, m, answer)
 }

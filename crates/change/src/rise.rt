@@ -9,13 +9,13 @@ use client::own::put_own;
 use nodes::arrays::joined;
 use nodes::change::{Halves, Wide};
 use nodes::node::Node;
-use walk::walk::{Stop, node_number};
+use walk::walk::{Answer, node_number};
 
-// What comes of one level. With Going: the new content of the parent; with Answers the operation's writes are all in the lent list.
+// What comes of one level: the new content of the parent, or the operation's answer, whose writes are then all in the lent list.
 #[derive(Clone, Copy)]
-pub struct Risen {
-    pub stop: Stop,
-    pub up: Wide,
+pub enum Risen {
+    Up(Wide),
+    Done(Answer),
 }
 
 // A node is written under its name, as the record of its keys and slots.
@@ -23,9 +23,7 @@ pub fn write_node(own: &mut [u64], name: u64, n: Node)
     requires { (name < end_of_names) × OwnGood own.old × (own_count own.old < own_most) × (n.count ≤ most_keys) }
     ensures { NodeWritten own.old name n own.new }
 {
-    let number = node_number(name);
-    let record = n.with_version(0);
-    put_own(own, number, record);
+    put_own(own, node_number(name), n.with_version(0));
 }
 
 // The two parts of a node, or of two neighbours: the left one is written first.
@@ -34,10 +32,8 @@ pub fn write_halves(own: &mut [u64], left: u64, right: u64, h: Halves)
     requires halves { Fitting h }
     ensures { BothWritten own.old left right h own.new }
 {
-    let a = h.left;
-    let b = h.right;
-    write_node(own, left, a);
-    write_node(own, right, b);
+    write_node(own, left, h.left);
+    write_node(own, right, h.right);
 }
 
 // A node's keys and slots, as the content that goes up.
@@ -46,18 +42,13 @@ pub fn widen(n: Node) -> Wide
     ensures value { result ≡ widened n }
     ensures size { result.count ≡ n.count }
 {
-    let count = n.count;
     let e = n.extra();
-    let ks = n.keys;
-    let ss = n.slots;
-    let keys = joined(&ks, count, &ks, 0, 0);
-    let slots = joined(&ss, count + e, &ss, 0, 0);
     Wide {
         kind: n.kind,
         level: n.level,
         version: n.version,
-        count,
-        keys,
-        slots,
+        count: n.count,
+        keys: joined(&n.keys, n.count, &n.keys, 0, 0),
+        slots: joined(&n.slots, n.count + e, &n.slots, 0, 0),
     }
 }

@@ -6,28 +6,28 @@ ghost use Rattle.walk.specs.Ask.{OwnGood, Writing, Rising, over_lent};
 ghost use Rattle.change.specs.Rise.{Under, Full};
 ghost use Rattle.change.specs.Split.{HalfTaken, Overfull, Halved, Divided, Splits};
 
-use crate::rise::{Risen, write_halves};
+use crate::rise::write_halves;
 use nodes::change::Wide;
 use walk::down::Turn;
-use walk::search::{Taken, take_for};
+use walk::search::take_for;
 use walk::take::take_node;
-use walk::walk::{Stop, going};
+use walk::walk::Stop;
 
-// A slot for a half of a node, and its node, which must be free.
-fn take_half(part: &[u8], slots: usize, own: &mut [u64], used: &mut [u64], name: u64) -> Taken
+// A slot for a half of a node, by its name, and its node, which must be free.
+fn take_half(
+    part: &[u8],
+    slots: usize,
+    own: &mut [u64],
+    used: &mut [u64],
+    name: u64,
+) -> Result<u64, Stop>
     requires writing { Writing part.now own.old used.old own_most }
     requires there { name < end_of_names }
     ensures { over_lent HalfTaken slots part own used name result own.new used.new }
 {
-    let t = take_for(part, slots, own, used, name);
-    let stop = t.stop;
-    let on = going(stop);
-    if !on {
-        return t;
-    }
-    let name = t.name;
-    let stop = take_node(part, slots, own, used, name);
-    Taken { stop, name }
+    let half = take_for(part, slots, own, used, name)?;
+    take_node(part, slots, own, used, half)?;
+    Ok(half)
 }
 
 // A node's halves are written; the result is the separator between them.
@@ -49,11 +49,10 @@ fn divide(own: &mut [u64], above: Turn, left: u64, right: u64, n: Wide) -> Wide
     ensures { Divided own.old above left right n result own.new }
 {
     let sep = halve(own, left, right, n);
-    let parent = above.node;
-    parent.put_in(above.at, sep, right)
+    above.node.put_in(above.at, sep, right)
 }
 
-// Below the root: the right half is a new node, and the parent gets one more child.
+// Below the root: the right half is a new node, and the parent gets one more child. The result is its new content.
 pub fn split(
     part: &[u8],
     slots: usize,
@@ -63,22 +62,12 @@ pub fn split(
     above: Turn,
     name: u64,
     n: Wide,
-) -> Risen
+) -> Result<Wide, Stop>
     requires rising { Rising part.now own.old used.old risen_most }
     requires under { Under slots level name above }
     requires full { Full level n }
     ensures { over_lent Splits slots part own used level above name n result own.new used.new }
 {
-    let t = take_half(part, slots, own, used, name);
-    let stop = t.stop;
-    let on = going(stop);
-    if !on {
-        return Risen { stop, up: n };
-    }
-    let right = t.name;
-    let up = divide(own, above, name, right, n);
-    Risen {
-        stop: Stop::Going,
-        up,
-    }
+    let right = take_half(part, slots, own, used, name)?;
+    Ok(divide(own, above, name, right, n))
 }

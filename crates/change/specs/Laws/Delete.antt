@@ -1,5 +1,5 @@
 -- Laws of a delete's walk.
-use Rattle.std.specs.Prelude.{◌≡◌, Bool, true, false, not, List, ℕ, ◌+◌, ◌-◌, ◌≤◌, ◌<◌}
+use Rattle.std.specs.Prelude.{◌≡◌, true, false, List, ℕ, ◌+◌, ◌-◌, ◌≤◌, ◌<◌, None, Some, Ok, Err}
 use Rattle.std.proofs.Common.{sym, ◌∙◌, arith}
 use Rattle.std.proofs.Math.ListN.{length}
 use Rattle.nodes.specs.declared.node.Node.{Node}
@@ -20,11 +20,8 @@ use Rattle.memory.specs.Word.{view}
 use Rattle.nodes.specs.Stored.{node_at}
 use Rattle.walk.specs.declared.down.Descent.{Descent}
 use Rattle.client.specs.Sets.{held}
-use Rattle.change.specs.declared.leaf.Changed.{Changed}
 use Rattle.walk.specs.declared.walk.Stop.{Stop}
 use Rattle.walk.specs.Laws.Entries.{extra_leaf, leaf_place}
-use Rattle.walk.specs.Walk.{goes}
-use Rattle.walk.specs.Lookup.{Ends}
 use Rattle.walk.specs.Down.{low, Descends, Arrival, arrival, PathInPart}
 use Rattle.change.specs.Rise.{Content, widened}
 use Rattle.change.specs.Laws.Parts.{out_level, widened_entries, widened_content}
@@ -55,15 +52,18 @@ without_few n d e h = omega arith
 pub ruleset without_exits = (without_is, without_few)
 
 -- ---- at the leaf
-module _ (slots : ℕ) (b u : List ℕ) (key : ℕ) (WayDown : Descent) (u₁ : List ℕ) (h : Descends slots (held b) u key (arrival b WayDown) u₁) (on : Bool) (po : on ≡ goes WayDown.stop) (nb : not on ≡ false) (k : KeyPlace) (p : k ≡ key_place (keys_of (node_at (view b) WayDown.place)) key) where
+pub delete_stops : (slots : ℕ) (b u : List ℕ) (key : ℕ) (s : Stop) (u₁ : List ℕ) → Descends slots (held b) u key (arrival b (Err s)) u₁ → Changes slots b u (delete_plan slots key) (Err s) u₁
+delete_stops slots b u key s u₁ h = change_stops slots b u key s u₁ h (λ fs n es. delete_at slots fs n es (place_in key es))
+
+module _ (slots : ℕ) (b u : List ℕ) (key : ℕ) (WayDown : Descent) (u₁ : List ℕ) (h : Descends slots (held b) u key (arrival b (Ok WayDown)) u₁) (k : KeyPlace) (p : k ≡ key_place (keys_of (node_at (view b) WayDown.place)) key) where
   abbrev d : Arrival
-  d = arrival b WayDown
+  d = arrival b (Ok WayDown)
 
   abbrev lo : ℕ
   lo = low (way d)
 
   leaf : AtLeaf d.node
-  leaf = ended_leaf slots d (change_ended slots b u key WayDown u₁ h on po nb)
+  leaf = ended_leaf slots d (change_ended slots b u key WayDown u₁ h)
 
   in_leaf : place_in key (entries_of d.node lo) ≡ k
   in_leaf = leaf_place d.node lo key leaf.whole leaf.leaf ∙ sym p
@@ -71,9 +71,8 @@ module _ (slots : ℕ) (b u : List ℕ) (key : ℕ) (WayDown : Descent) (u₁ : 
   abbrev plan : List Branch → ℕ → Entries → TreePlan
   plan fs n es = delete_at slots fs n es (place_in key es)
 
-  pub delete_nothing : k.there ≡ false → (s : Stop) (u' : List ℕ) (c : Changed) → Ends (held b) u₁ 0 0 s u' → c.stop ≡ s → Changes slots b u (delete_plan slots key) c u'
-  delete_nothing e s u' c q t =
-      change_none slots b u key WayDown u₁ h on po nb plan 0 0 s u' c (rw (in_leaf, e)) q t
+  pub delete_nothing : k.there ≡ false → Changes slots b u (delete_plan slots key) (Ok None) u₁
+  delete_nothing e = change_none slots b u key WayDown u₁ h plan (rw (in_leaf, e))
 
   module _ (yes : k.there ≡ true) (w : Within k (node_at (view b) WayDown.place).count) where
     abbrev i : ℕ
@@ -89,11 +88,11 @@ module _ (slots : ℕ) (b u : List ℕ) (key : ℕ) (WayDown : Descent) (u₁ : 
     delete_inside n q = rw q within
 
     pub deleted : (l : Node) (n : Wide) → PathInPart WayDown.path → l ≡ node_at (view b) WayDown.place → n ≡ widened (take_out l i)
-        → Changes slots b u (delete_plan slots key) (record { stop = WayDown.stop; way = WayDown; content = n; a = 1 }) u₁
+        → Changes slots b u (delete_plan slots key) (Ok (Some (record { way = WayDown; content = n; a = 1 }))) u₁
     unfolding rise_plan
     deleted l n w' pl pl' =
         let pn : n ≡ widened (take_out d.node i) = rw pl at pl' in
         let o : wide_entries n lo ≡ remove_at i (entries_of d.node lo) = rw pn (out_entries d.node leaf i within lo) in
-        change_on slots b u key WayDown u₁ h on po nb plan n 1 w' (rw pn (out_content d.node leaf i within)) (rw (in_leaf, yes, ← o))
+        change_on slots b u key WayDown u₁ h plan n 1 w' (rw pn (out_content d.node leaf i within)) (rw (in_leaf, yes, ← o))
 
-pub ruleset delete_exits = (change_stops, change_noted, change_few, leaf_few, delete_nothing, delete_behind, delete_inside, deleted)
+pub ruleset delete_exits = (delete_stops, change_noted, change_few, leaf_few, delete_nothing, delete_behind, delete_inside, deleted)

@@ -1,7 +1,6 @@
 -- Laws of a root's split.
-use Rattle.std.specs.Prelude.{◌≡◌, refl, Bool, true, false, not, List, [], ◌∷◌, ℕ, suc, ◌+◌, ◌≤◌, ◌<◌, length, take, drop, get_or}
+use Rattle.std.specs.Prelude.{◌≡◌, refl, true, List, [], ◌∷◌, ℕ, suc, ◌+◌, ◌≤◌, ◌<◌, length, take, drop, get_or, Result, Ok, Err}
 use Rattle.std.proofs.Common.{sym, ◌∙◌, arith}
-use Rattle.std.proofs.lemmas.Bool.{not-true, not-false}
 use Rattle.nodes.specs.declared.node.Node.{Node}
 use Rattle.nodes.specs.declared.change.Wide.{Wide}
 use Rattle.nodes.specs.Node.{extra, made, parent_of}
@@ -13,47 +12,40 @@ use Rattle.operations.specs.Entry.{Entries, node_value, fewest_entries}
 use Rattle.operations.specs.Path.{TreePlan, Branch}
 use Rattle.operations.specs.Change.{with_two, parted}
 use Rattle.change.specs.declared.grow.Two.{Two}
-use Rattle.walk.specs.declared.search.Taken.{Taken}
 use Rattle.walk.specs.declared.walk.Stop.{Stop}
 use Rattle.client.specs.Layout.{ClientWord}
 use Rattle.client.specs.Record.{in_store, value_of}
 use Rattle.client.specs.Lent.{used_in}
-use Rattle.walk.specs.Walk.{goes, walked, carry}
+use Rattle.walk.specs.Walk.{Course, Going, Ended, course, walked, carry}
 use Rattle.walk.specs.Ask.{OwnGood, HoldsWrites, Noted}
 use Rattle.walk.specs.Lookup.{Ends}
-use Rattle.walk.specs.Laws.Down.{stops_not}
 use Rattle.walk.specs.Laws.Ask.{name_below}
 use Rattle.walk.specs.Take.{NodeTaken}
 use Rattle.walk.specs.Search.{TakenFor}
 use Rattle.change.specs.Rise.{Full, NodeWritten, Closed}
-use Rattle.change.specs.Laws.Rise.{stopped_closed}
+use Rattle.change.specs.Laws.Rise.{never, ended_closed}
 use Rattle.change.specs.Split.{Overfull, Halved}
-use Rattle.change.specs.Laws.Split.{halves_parted, slot_lacking, node_lacking}
-use Rattle.change.specs.Grow.{two_flags, TwoTaken, BothFree, HalvesTaken, Grown, root_split}
+use Rattle.change.specs.Laws.Split.{halves_parted}
+use Rattle.change.specs.Grow.{two_in, two_flags, TwoTaken, BothFree, HalvesTaken, Grown, root_split}
 use Rattle.nodes.specs.Change as N
 use Rattle.plans.specs.Plan as P
 
-module _ (slots : ℕ) (m : ClientWord → ℕ) (x u : List ℕ) (n : ℕ) (t : Taken) (x₁ u₁ : List ℕ) (q : TakenFor slots m x u n t x₁ u₁) (on : Bool) (po : on ≡ goes t.stop) where
-  pub two_lacks : not on ≡ true → TwoTaken slots m x u n (record { stop = t.stop; left = t.name; right = t.name }) x₁ u₁
-  two_lacks nb =
-      let halts : goes t.stop ≡ false = sym po ∙ not-true on nb in
+module _ (slots : ℕ) (m : ClientWord → ℕ) (x u : List ℕ) (n : ℕ) (x₁ u₁ : List ℕ) where
+  pub two_lacks : (s : Stop) → TakenFor slots m x u n (Err s) x₁ u₁ → TwoTaken slots m x u n (Err s) x₁ u₁
+  two_lacks s q =
       record {
-        asks = λ w hold k. q.asks w hold (λ c w₁. take_for slots n w₁ (λ d w₂. k c d w₂)) ∙ rw halts;
-        mute = λ w hold e. slot_lacking slots m x u w hold n t x₁ u₁ q e;
-        holds = λ e. stops_not t.stop halts e;
+        asks = λ w hold k. q.asks w hold (λ c w₁. take_for slots n w₁ (λ d w₂. k c d w₂));
+        holds = λ t. never t;
         good = q.good;
         noted = q.noted;
         few = omega (arith, q.few);
-        left_in = q.inside;
-        right_in = q.inside;
+        left_in = λ t. never t;
+        right_in = λ t. never t;
       }
 
-  module _ (nb : not on ≡ false) where
-    going : goes t.stop ≡ true
-    going = sym po ∙ not-false on nb
-
+  module _ (c : ℕ) (q : TakenFor slots m x u n (Ok c) x₁ u₁) where
     pub two_good : OwnGood x₁
-    two_good = q.good going
+    two_good = q.good refl
 
     pub two_noted : Noted m u₁
     two_noted = q.noted
@@ -61,52 +53,60 @@ module _ (slots : ℕ) (m : ClientWord → ℕ) (x u : List ℕ) (n : ℕ) (t : 
     pub two_room : get_or x 0 0 < 19 → get_or x₁ 0 0 < 20
     two_room h = omega (arith, q.few)
 
-    pub two_taken : (s : Taken) (x₂ u₂ : List ℕ) → TakenFor slots m x₁ u₁ n s x₂ u₂ → TwoTaken slots m x u n (record { stop = s.stop; left = t.name; right = s.name }) x₂ u₂
-    two_taken s x₂ u₂ v =
-        record {
-          asks = λ w hold k. q.asks w hold (λ c w₁. take_for slots n w₁ (λ d w₂. k c d w₂)) ∙ rw going (v.asks ((flag t.name, taken true) ∷ w) (q.holds going w hold) (λ d w₂. k t.name d w₂));
-          mute = λ w hold e. slot_lacking slots m x₁ u₁ ((flag t.name, taken true) ∷ w) (q.holds going w hold) n s x₂ u₂ v e;
-          holds = λ e w hold. v.holds e ((flag t.name, taken true) ∷ w) (q.holds going w hold);
-          good = v.good;
-          noted = v.noted;
-          few = omega (arith, q.few, v.few);
-          left_in = λ _. q.inside going;
-          right_in = v.inside;
-        }
+    module _ (x₂ u₂ : List ℕ) where
+      pub two_lacks_right : (s : Stop) → TakenFor slots m x₁ u₁ n (Err s) x₂ u₂ → TwoTaken slots m x u n (Err s) x₂ u₂
+      two_lacks_right s v =
+          record {
+            asks = λ w hold k. q.asks w hold (λ c w₁. take_for slots n w₁ (λ d w₂. k c d w₂)) ∙ v.asks ((flag c, taken true) ∷ w) (q.holds refl w hold) (λ d w₂. k c d w₂);
+            holds = λ t. never t;
+            good = v.good;
+            noted = v.noted;
+            few = omega (arith, q.few, v.few);
+            left_in = λ t. never t;
+            right_in = λ t. never t;
+          }
+
+      pub two_taken : (d : ℕ) → TakenFor slots m x₁ u₁ n (Ok d) x₂ u₂ → TwoTaken slots m x u n (Ok (record { left = c; right = d })) x₂ u₂
+      two_taken d v =
+          record {
+            asks = λ w hold k. q.asks w hold (λ c w₁. take_for slots n w₁ (λ d w₂. k c d w₂)) ∙ v.asks ((flag c, taken true) ∷ w) (q.holds refl w hold) (λ d w₂. k c d w₂);
+            holds = λ e w hold. v.holds e ((flag c, taken true) ∷ w) (q.holds refl w hold);
+            good = v.good;
+            noted = v.noted;
+            few = omega (arith, q.few, v.few);
+            left_in = λ _. q.inside refl;
+            right_in = v.inside;
+          }
 
 pub two_begins : (x : List ℕ) → get_or x 0 0 < 19 → get_or x 0 0 < 20
 two_begins x h = omega arith
 
-pub ruleset two_exits = (two_begins, two_lacks, two_good, two_noted, two_room, two_taken)
+pub ruleset two_exits = (two_begins, two_lacks, two_good, two_noted, two_room, two_lacks_right, two_taken)
 
-module _ (slots : ℕ) (m : ClientWord → ℕ) (x u : List ℕ) (c d : ℕ) (s : Stop) (u₁ : List ℕ) (q : NodeTaken slots m x u c s u₁) (on : Bool) (po : on ≡ goes s) where
-  pub free_lacks : not on ≡ true → BothFree slots m x u c d s u₁
-  free_lacks nb =
-      let halts : goes s ≡ false = sym po ∙ not-true on nb in
-      record { asks = λ w hold k. q.asks w hold (take_node w d k) ∙ rw halts; mute = λ w hold e. node_lacking slots m x u w hold c s u₁ q e; noted = q.noted }
+module _ (slots : ℕ) (m : ClientWord → ℕ) (x u : List ℕ) (c d : ℕ) (u₁ : List ℕ) where
+  pub free_lacks : (s : Stop) → NodeTaken slots m x u c (Ended s) u₁ → BothFree slots m x u c d (Ended s) u₁
+  free_lacks s q = record { asks = λ w hold k. q.asks w hold (take_node w d k); noted = q.noted }
 
-  pub both_free : not on ≡ false → (t : Stop) (u₂ : List ℕ) → NodeTaken slots m x u₁ d t u₂ → BothFree slots m x u c d t u₂
-  both_free nb t u₂ v =
-      let going : goes s ≡ true = sym po ∙ not-false on nb in
-      record { asks = λ w hold k. q.asks w hold (take_node w d k) ∙ rw going (v.asks w hold k); mute = λ w hold e. node_lacking slots m x u₁ w hold d t u₂ v e; noted = v.noted }
+  module _ (q : NodeTaken slots m x u c Going u₁) where
+    pub both_free : (t : Course) (u₂ : List ℕ) → NodeTaken slots m x u₁ d t u₂ → BothFree slots m x u c d t u₂
+    both_free t u₂ v = record { asks = λ w hold k. q.asks w hold (take_node w d k) ∙ v.asks w hold k; noted = v.noted }
 
-  pub free_noted : Noted m u₁
-  free_noted = q.noted
+    pub free_noted : Noted m u₁
+    free_noted = q.noted
 
 pub ruleset free_exits = (free_lacks, both_free, free_noted)
 
-module _ (slots : ℕ) (m : ClientWord → ℕ) (x u : List ℕ) (n : ℕ) (t : Two) (x₁ u₁ : List ℕ) (q : TwoTaken slots m x u n t x₁ u₁) (on : Bool) (po : on ≡ goes t.stop) where
-  asked : (w : Writes) → HoldsWrites slots x w → (k : ℕ → ℕ → Writes → TreePlan)
+module _ (slots : ℕ) (m : ClientWord → ℕ) (x u : List ℕ) (n : ℕ) (x₁ u₁ : List ℕ) where
+  asked : (r : Result Two Stop) → TwoTaken slots m x u n r x₁ u₁ → (w : Writes) → HoldsWrites slots x w → (k : ℕ → ℕ → Writes → TreePlan)
       → walked slots m (take_for slots n w (λ c w₁. take_for slots n w₁ (λ d w₂. take_node w₂ c (take_node w₂ d (k c d w₂))))) (used_in u)
-      ≡ carry t.stop (used_in u₁) (λ us. walked slots m (take_node (two_flags t w) t.left (take_node (two_flags t w) t.right (k t.left t.right (two_flags t w)))) us)
-  asked w hold k = q.asks w hold (λ c d w₂. take_node w₂ c (take_node w₂ d (k c d w₂)))
+      ≡ carry (course r) (used_in u₁) (λ us. walked slots m
+      (take_node (two_flags (two_in r) w) (two_in r).left (take_node (two_flags (two_in r) w) (two_in r).right (k (two_in r).left (two_in r).right (two_flags (two_in r) w)))) us)
+  asked r q w hold k = q.asks w hold (λ c d w₂. take_node w₂ c (take_node w₂ d (k c d w₂)))
 
-  pub halves_lack : not on ≡ true → HalvesTaken slots m x u n t x₁ u₁
-  halves_lack nb =
-      let halts : goes t.stop ≡ false = sym po ∙ not-true on nb in
+  pub halves_lack : (s : Stop) → TwoTaken slots m x u n (Err s) x₁ u₁ → HalvesTaken slots m x u n (Err s) x₁ u₁
+  halves_lack s q =
       record {
-        asks = λ w hold k. asked w hold k ∙ rw halts;
-        mute = q.mute;
+        asks = asked (Err s) q;
         holds = q.holds;
         good = q.good;
         noted = q.noted;
@@ -115,30 +115,43 @@ module _ (slots : ℕ) (m : ClientWord → ℕ) (x u : List ℕ) (n : ℕ) (t : 
         right_in = q.right_in;
       }
 
-  module _ (nb : not on ≡ false) where
-    going₂ : goes t.stop ≡ true
-    going₂ = sym po ∙ not-false on nb
-
+  module _ (t : Two) (q : TwoTaken slots m x u n (Ok t) x₁ u₁) where
     pub halves_good : OwnGood x₁
-    halves_good = q.good going₂
+    halves_good = q.good refl
 
     pub halves_noted : Noted m u₁
     halves_noted = q.noted
 
-    pub halves_taken : (s : Stop) (u₂ : List ℕ) → BothFree slots m x₁ u₁ t.left t.right s u₂ → HalvesTaken slots m x u n (record { stop = s; left = t.left; right = t.right }) x₁ u₂
-    halves_taken s u₂ v =
+    asked_both : (s : Course) (u₂ : List ℕ) → BothFree slots m x₁ u₁ t.left t.right s u₂ → (w : Writes) → HoldsWrites slots x w → (k : ℕ → ℕ → Writes → TreePlan)
+        → walked slots m (take_for slots n w (λ c w₁. take_for slots n w₁ (λ d w₂. take_node w₂ c (take_node w₂ d (k c d w₂))))) (used_in u)
+        ≡ carry s (used_in u₂) (λ us. walked slots m (k t.left t.right (two_flags t w)) us)
+    asked_both s u₂ v w hold k = asked (Ok t) q w hold k ∙ v.asks (two_flags t w) (q.holds refl w hold) (k t.left t.right (two_flags t w))
+
+    pub halves_unfree : (s : Stop) (u₂ : List ℕ) → BothFree slots m x₁ u₁ t.left t.right (Ended s) u₂ → HalvesTaken slots m x u n (Err s) x₁ u₂
+    halves_unfree s u₂ v =
         record {
-          asks = λ w hold k. asked w hold k ∙ rw going₂ (v.asks (two_flags t w) (q.holds going₂ w hold) (k t.left t.right (two_flags t w)));
-          mute = λ w hold e. v.mute (two_flags t w) (q.holds going₂ w hold) e;
-          holds = λ _. q.holds going₂;
-          good = λ _. q.good going₂;
+          asks = asked_both (Ended s) u₂ v;
+          holds = λ e. never e;
+          good = λ e. never e;
           noted = v.noted;
           few = q.few;
-          left_in = λ _. q.left_in going₂;
-          right_in = λ _. q.right_in going₂;
+          left_in = λ e. never e;
+          right_in = λ e. never e;
         }
 
-pub ruleset halves_exits = (halves_lack, halves_good, halves_noted, halves_taken)
+    pub halves_taken : (u₂ : List ℕ) → BothFree slots m x₁ u₁ t.left t.right Going u₂ → HalvesTaken slots m x u n (Ok t) x₁ u₂
+    halves_taken u₂ v =
+        record {
+          asks = asked_both Going u₂ v;
+          holds = q.holds;
+          good = q.good;
+          noted = v.noted;
+          few = q.few;
+          left_in = q.left_in;
+          right_in = q.right_in;
+        }
+
+pub ruleset halves_exits = (halves_lack, halves_good, halves_noted, halves_unfree, halves_taken)
 
 module _ (x : List ℕ) (c d : ℕ) (n : Wide) (sep : ℕ) (x₁ : List ℕ) (h : Halved x c d n sep x₁) where
   pub grow_good : OwnGood x₁
@@ -174,7 +187,7 @@ root_value l r c sep d =
     let e : length (c ∷ d ∷ []) ≡ length (sep ∷ []) + extra 2 = refl in
     rw (keys_made 2 (suc l) 0 (sep ∷ []) (c ∷ d ∷ []), slots_made 2 (suc l) 0 (sep ∷ []) (c ∷ d ∷ []) e)
 
-module _ (slots : ℕ) (m : ClientWord → ℕ) (x u : List ℕ) (l r : ℕ) (n : Wide) (a b : ℕ) (t : Two) (x₁ u₁ : List ℕ) (q : HalvesTaken slots m x u r t x₁ u₁) (on : Bool) (po : on ≡ goes t.stop) where
+module _ (slots : ℕ) (m : ClientWord → ℕ) (x u : List ℕ) (l r : ℕ) (n : Wide) (a b : ℕ) (x₁ u₁ : List ℕ) where
   abbrev plan : Writes → TreePlan
   plan = root_split slots (a, b, []) l r (wide_entries n 0)
 
@@ -185,23 +198,18 @@ module _ (slots : ℕ) (m : ClientWord → ℕ) (x u : List ℕ) (l r : ℕ) (n 
   abbrev answer : Writes → Entries → TreePlan
   answer w es = P.done ((a, b, []), (node r, node_value (suc l) es) ∷ w)
 
-  asked_root : (w : Writes) → HoldsWrites slots x w → walked slots m (plan w) (used_in u)
-      ≡ carry t.stop (used_in u₁) (λ us. walked slots m
-      (parted answer l (two_flags t w) alone t.left (take (fewest_entries l) (wide_entries n 0)) t.right (drop (fewest_entries l) (wide_entries n 0))) us)
+  asked_root : (h : Result Two Stop) → HalvesTaken slots m x u r h x₁ u₁ → (w : Writes) → HoldsWrites slots x w → walked slots m (plan w) (used_in u)
+      ≡ carry (course h) (used_in u₁) (λ us. walked slots m
+      (parted answer l (two_flags (two_in h) w) alone (two_in h).left (take (fewest_entries l) (wide_entries n 0)) (two_in h).right (drop (fewest_entries l) (wide_entries n 0))) us)
   unfolding root_split
-  asked_root w hold = q.asks w hold (λ c d w₂. parted answer l w₂ alone c (take (fewest_entries l) (wide_entries n 0)) d (drop (fewest_entries l) (wide_entries n 0)))
+  asked_root h q w hold = q.asks w hold (λ c d w₂. parted answer l w₂ alone c (take (fewest_entries l) (wide_entries n 0)) d (drop (fewest_entries l) (wide_entries n 0)))
 
-  pub root_lacks : not on ≡ true → Closed slots m x u plan t.stop x₁ u₁
-  root_lacks nb =
-      let halts : goes t.stop ≡ false = sym po ∙ not-true on nb in
-      stopped_closed slots m x u plan t.stop x₁ u₁ (λ w hold. q.mute w hold halts) (λ w hold. asked_root w hold ∙ rw halts) q.noted
+  pub root_lacks : (s : Stop) → HalvesTaken slots m x u r (Err s) x₁ u₁ → Closed slots m x u (root_split slots (a, b, []) l r (wide_entries n 0)) (Ended s) x₁ u₁
+  root_lacks s q = ended_closed slots m x u plan s x₁ u₁ (asked_root (Err s) q) q.noted
 
-  module _ (nb : not on ≡ false) where
-    on_going : goes t.stop ≡ true
-    on_going = sym po ∙ not-false on nb
-
+  module _ (t : Two) (q : HalvesTaken slots m x u r (Ok t) x₁ u₁) where
     pub root_good : OwnGood x₁
-    root_good = q.good on_going
+    root_good = q.good refl
 
     pub root_noted : Noted m u₁
     root_noted = q.noted
@@ -210,24 +218,24 @@ module _ (slots : ℕ) (m : ClientWord → ℕ) (x u : List ℕ) (l r : ℕ) (n 
     root_room h = omega (arith, q.few)
 
     pub root_left : t.left < 8192
-    root_left = name_below slots t.left (q.left_in on_going)
+    root_left = name_below slots t.left (q.left_in refl)
 
     pub root_right : t.right < 8192
-    root_right = name_below slots t.right (q.right_in on_going)
+    root_right = name_below slots t.right (q.right_in refl)
 
-    pub root_parts : in_store slots r ≡ true → Full l n → (x₂ : List ℕ) → Grown x₁ r t.left t.right n x₂ → (s : Stop) (u₂ : List ℕ) → Ends m u₁ a b s u₂ → Closed slots m x u plan s x₂ u₂
+    pub root_parts : in_store slots r ≡ true → Full l n → (x₂ : List ℕ) → Grown x₁ r t.left t.right n x₂ → (s : Course) (u₂ : List ℕ) → Ends m u₁ a b s u₂
+        → Closed slots m x u (root_split slots (a, b, []) l r (wide_entries n 0)) s x₂ u₂
     root_parts there k x₂ y s u₂ e =
         let lv : n.level + 1 ≡ suc l = omega (arith, k.content.level) in
         record {
           more = (node r, value_of (node r) (parent_of (n.level + 1) 0 t.left (N.split n 0).sep t.right))
               ∷ (node t.right, value_of (node t.right) (N.split n 0).right) ∷ (node t.left, value_of (node t.left) (N.split n 0).left) ∷ two_flags t [];
-          same = λ w hold. asked_root w hold ∙ rw (
-            on_going,
+          same = λ w hold. asked_root (Ok t) q w hold ∙ rw (
             halves_parted l n k answer (two_flags t w) alone t.left t.right 0,
             root_value l r t.left (N.split n 0).sep t.right,
             lv,
           ) (e.same slots _ []);
-          holds = λ _ w hold. y.holds slots (two_flags t w) there (q.left_in on_going) (q.right_in on_going) (q.holds on_going w hold);
+          holds = λ _ w hold. y.holds slots (two_flags t w) there (q.left_in refl) (q.right_in refl) (q.holds refl w hold);
           kept = λ _ w hold. y.kept;
           noted = e.noted;
         }

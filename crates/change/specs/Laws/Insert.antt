@@ -1,5 +1,5 @@
 -- Laws of an insert's walk.
-use Rattle.std.specs.Prelude.{◌≡◌, Bool, cond, not, get_or, set}
+use Rattle.std.specs.Prelude.{◌≡◌, Bool, cond, get_or, set, Option, None, Some, Result, Ok, Err}
 use Rattle.std.proofs.Math.Path.{refl, sym, ap}
 use Rattle.std.proofs.Common.{◌∙◌}
 use Rattle.std.proofs.Math.Bool.{true, false}
@@ -8,7 +8,6 @@ use Rattle.std.proofs.Math.Option.{none, some}
 use Prim.Native.Nat.{ℕ, zero, ◌+◌, ◌-◌, ◌≤◌, ◌<◌}
 use native.Mathlib.Omega.{arith}
 use Rattle.std.proofs.Math.ListN.{length, length-set}
-use Rattle.std.proofs.lemmas.Bool.{not-true, not-false}
 use Rattle.nodes.specs.declared.node.Node.{Node}
 use Rattle.nodes.specs.declared.change.Wide.{Wide}
 use Rattle.nodes.specs.declared.standing.KeyPlace.{KeyPlace}
@@ -35,10 +34,6 @@ use Rattle.change.specs.declared.insert.Paired.{Paired}
 use Rattle.walk.specs.declared.walk.Stop.{Stop}
 use Rattle.client.specs.Lent.{used_in}
 use Rattle.walk.specs.Laws.Entries.{Leaf, open_leaf, extra_leaf, leaf_place, leaf_value}
-use Rattle.walk.specs.Walk.{goes}
-use Rattle.walk.specs.Lookup.{Ends}
-use Rattle.walk.specs.Laws.Down.{stops_not}
-use Rattle.walk.specs.Laws.Lookup.{ended_nothing}
 use Rattle.walk.specs.Ask.{Noted}
 use Rattle.walk.specs.Down.{low, branches, trail, Linked, Reached, Descends, Arrival, arrival, PathInPart}
 use Rattle.change.specs.Rise.{OfLevel, Content, widened}
@@ -46,7 +41,6 @@ use Rattle.change.specs.Laws.Parts.{widened_entries, widened_content}
 use Rattle.change.specs.Up.{Ready, rise_plan}
 use Rattle.change.specs.Insert.{paired_at, paired}
 use Rattle.change.specs.Leaf.{Changes}
-use Rattle.change.specs.Laws.Merge.{ends_halts}
 use Rattle.plans.specs.Plan as P
 
 -- a leaf at hand
@@ -137,7 +131,7 @@ pair_few n d e h = omega arith
 pub ruleset pair_exits = (pair_replaced, pair_new, pair_inside, pair_few, yes_behind)
 
 -- ---- a way down that ended at a leaf
-pub record Ended (slots : ℕ) (d : Arrival) : Type 0 where
+pub record Landed (slots : ℕ) (d : Arrival) : Type 0 where
   pub high : d.top ≤ 4
   pub reached : Reached 0 d
   pub linked : Linked slots 0 d.name (trail d.path 0 (d.top - 0))
@@ -145,68 +139,60 @@ pub record Ended (slots : ℕ) (d : Arrival) : Type 0 where
 abbrev pub way : Arrival → List Turn
 way d = trail d.path 0 (d.top - 0)
 
-module _ (slots : ℕ) (d : Arrival) (t : Ended slots d) where
+module _ (slots : ℕ) (d : Arrival) (t : Landed slots d) where
   pub ended_leaf : AtLeaf d.node
   ended_leaf = record { whole = t.reached.whole; leaf = open_leaf d.node t.reached.opened t.reached.level; small = t.reached.small.keys }
 
   ended_ready : (n : Wide) → Content 0 n → Ready slots d.top d.path d.name n
   ended_ready n c = record { high = t.high; size = t.reached.size; good = t.reached.good; linked = t.linked; content = c }
 
-module _ (slots : ℕ) (b u : List ℕ) (key : ℕ) (p : Descent) (u₁ : List ℕ) (h : Descends slots (held b) u key (arrival b p) u₁) (on : Bool) (po : on ≡ goes p.stop) where
-  abbrev d : Arrival
-  d = arrival b p
+-- a walk that ends on the way
+pub change_stops : (slots : ℕ) (b u : List ℕ) (key : ℕ) (s : Stop) (u₁ : List ℕ) → Descends slots (held b) u key (arrival b (Err s)) u₁
+    → (k : List Branch → ℕ → Entries → TreePlan) → Changes slots b u (from_root key k) (Err s) u₁
+change_stops slots b u key s u₁ h k = record { asks = h.asks k; ready = tt; noted = h.noted }
 
-  -- an operation that stops on the way
-  pub change_stops : (k : List Branch → ℕ → Entries → TreePlan) (c : Changed) → c.stop ≡ p.stop → not on ≡ true → Changes slots b u (from_root key k) c u₁
-  change_stops k c e nb =
-      let halts : goes d.stop ≡ false = sym po ∙ not-true on nb in
-      record { asks = h.asks k ∙ rw (e, halts); ready = λ t. stops_not d.stop halts (rw e at t); noted = h.noted }
+pub insert_stops : (slots : ℕ) (b u : List ℕ) (key v : ℕ) (s : Stop) (u₁ : List ℕ) → Descends slots (held b) u key (arrival b (Err s)) u₁ → Changes slots b u (insert_plan slots key v) (Err s) u₁
+insert_stops slots b u key v s u₁ h = change_stops slots b u key s u₁ h (λ fs n es. up slots (fresh (value_in key es)) zero fs [] n (with_pair key v es))
+
+module _ (slots : ℕ) (b u : List ℕ) (key : ℕ) (p : Descent) (u₁ : List ℕ) (h : Descends slots (held b) u key (arrival b (Ok p)) u₁) where
+  abbrev d : Arrival
+  d = arrival b (Ok p)
 
   pub change_noted : Noted (held b) u₁
   change_noted = h.noted
 
-  module _ (nb : not on ≡ false) where
-    going : goes d.stop ≡ true
-    going = sym po ∙ not-false on nb
+  pub change_ended : Landed slots (arrival b (Ok p))
+  change_ended = record { high = h.high; reached = h.reached refl; linked = h.linked refl }
 
-    pub change_ended : Ended slots (arrival b p)
-    change_ended = record { high = h.high; reached = h.reached going; linked = h.linked going }
+  pub leaf_few : (node_at (view b) p.place).count ≤ 14
+  leaf_few = (ended_leaf slots d change_ended).small
 
-    pub leaf_few : (node_at (view b) p.place).count ≤ 14
-    leaf_few = (ended_leaf slots d change_ended).small
+  pub pair_within : (n : Node) (k : KeyPlace) → n ≡ node_at (view b) p.place → Within k (node_at (view b) p.place).count → Within k n.count
+  pair_within n k e w = rw e w
 
-    pub pair_within : (n : Node) (k : KeyPlace) → n ≡ node_at (view b) p.place → Within k (node_at (view b) p.place).count → Within k n.count
-    pair_within n k e w = rw e w
+  pub change_few : (n : Node) → n ≡ node_at (view b) p.place → n.count ≤ 14
+  change_few n e = rw e (ended_leaf slots d change_ended).small
 
-    pub change_few : (n : Node) → n ≡ node_at (view b) p.place → n.count ≤ 14
-    change_few n e = rw e (ended_leaf slots d change_ended).small
+  -- a leaf's new content, where the plan goes up from it
+  pub change_on : (k : List Branch → ℕ → Entries → TreePlan) (n : Wide) (a : ℕ) → PathInPart p.path → Content 0 n
+      → k (branches (way d)) d.name (entries_of d.node (low (way d))) ≡ rise_plan slots (a, 0, []) d.top d.path d.name n
+      → Changes slots b u (from_root key k) (Ok (Some (record { way = p; content = n; a = a }))) u₁
+  change_on k n a w c e = record { asks = h.asks k ∙ rw e; ready = (ended_ready slots d change_ended n c, w); noted = h.noted }
 
-    -- a leaf's new content, where the plan goes up from it
-    pub change_on : (k : List Branch → ℕ → Entries → TreePlan) (n : Wide) (a : ℕ) → PathInPart p.path → Content 0 n
-        → k (branches (way d)) d.name (entries_of d.node (low (way d))) ≡ rise_plan slots (a, 0, []) d.top d.path d.name n
-        → Changes slots b u (from_root key k) (record { stop = p.stop; way = p; content = n; a = a }) u₁
-    change_on k n a w c e = record { asks = h.asks k ∙ rw (going, e); ready = λ t. (ended_ready slots d change_ended n c, w); noted = h.noted }
+  -- no leaf changes: the plan answers at once
+  pub change_none : (k : List Branch → ℕ → Entries → TreePlan) → k (branches (way d)) d.name (entries_of d.node (low (way d))) ≡ P.done ((0, 0, []), [])
+      → Changes slots b u (from_root key k) (Ok None) u₁
+  change_none k e = record { asks = h.asks k ∙ rw e; ready = tt; noted = h.noted }
 
-    -- no leaf changes: the plan answers at once
-    pub change_none : (k : List Branch → ℕ → Entries → TreePlan) (i j : ℕ) (s : Stop) (u' : List ℕ) (c : Changed)
-        → k (branches (way d)) d.name (entries_of d.node (low (way d))) ≡ P.done ((i, j, []), []) → Ends (held b) u₁ i j s u' → c.stop ≡ s → Changes slots b u (from_root key k) c u'
-    change_none k i j s u' c e q t =
-        let halts : goes s ≡ false = ends_halts slots (held b) u₁ i j s u' q in
-        record {
-          asks = h.asks k ∙ rw (going, e, t, halts) (q.same slots [] [] ∙ ended_nothing s (used_in u'));
-          ready = λ g. stops_not s halts (rw t at g);
-          noted = q.noted;
-        }
+  -- ---- insert
+  pub inserted : (v : ℕ) (n : Node) (k : KeyPlace) (q : Paired) → PathInPart p.path → k ≡ key_place (keys_of (node_at (view b) p.place)) key → n ≡ node_at (view b) p.place → q ≡ paired_at n key v k
+      → Changes slots b u (insert_plan slots key v) (Ok (Some (record { way = p; content = q.content; a = q.a }))) u₁
+  unfolding rise_plan paired
+  inserted v n k q w pk pn pq =
+      let pp : q ≡ paired d.node key v = rw (pn, pk) at pq in
+      let leaf : AtLeaf d.node = ended_leaf slots d change_ended in
+      let e : wide_entries q.content (low (way d)) ≡ with_pair key v (entries_of d.node (low (way d))) = rw pp (paired_entries d.node leaf key v (low (way d))) in
+      let a : fresh (value_in key (entries_of d.node (low (way d)))) ≡ (q.a, 0, []) = rw pp (paired_answer d.node leaf key v (low (way d))) in
+      change_on (λ fs n es. up slots (fresh (value_in key es)) zero fs [] n (with_pair key v es)) q.content q.a w (rw pp (paired_content d.node leaf key v)) (rw (a, ← e))
 
-    -- ---- insert
-    pub inserted : (v : ℕ) (n : Node) (k : KeyPlace) (q : Paired) → PathInPart p.path → k ≡ key_place (keys_of (node_at (view b) p.place)) key → n ≡ node_at (view b) p.place → q ≡ paired_at n key v k
-        → Changes slots b u (insert_plan slots key v) (record { stop = p.stop; way = p; content = q.content; a = q.a }) u₁
-    unfolding rise_plan paired
-    inserted v n k q w pk pn pq =
-        let pp : q ≡ paired d.node key v = rw (pn, pk) at pq in
-        let leaf : AtLeaf d.node = ended_leaf slots d change_ended in
-        let e : wide_entries q.content (low (way d)) ≡ with_pair key v (entries_of d.node (low (way d))) = rw pp (paired_entries d.node leaf key v (low (way d))) in
-        let a : fresh (value_in key (entries_of d.node (low (way d)))) ≡ (q.a, 0, []) = rw pp (paired_answer d.node leaf key v (low (way d))) in
-        change_on (λ fs n es. up slots (fresh (value_in key es)) zero fs [] n (with_pair key v es)) q.content q.a w (rw pp (paired_content d.node leaf key v)) (rw (a, ← e))
-
-pub ruleset insert_exits = (change_stops, leaf_few, change_few, pair_within, inserted)
+pub ruleset insert_exits = (insert_stops, leaf_few, change_few, pair_within, inserted)

@@ -14,7 +14,6 @@ use Rattle.nodes.specs.Place.{rises}
 use Rattle.nodes.specs.Node.{keys_of}
 use Rattle.nodes.specs.Stored.{node_of}
 use Rattle.layout.specs.Space.{tab}
-use Rattle.client.specs.declared.answer.Look.{Look}
 use Rattle.client.specs.declared.part.Set.{Set}
 use Rattle.client.specs.Layout.{ClientWord, item, writes_count}
 use Rattle.client.specs.Items.{all_below, has}
@@ -23,22 +22,25 @@ use Rattle.client.specs.Have.{copied}
 use Rattle.client.specs.Lent.{Entry, OwnFits, own_count, own_number, own_record, own_first, own_list}
 use Rattle.client.specs.Work.{version_in, version_there, at_last_version, count_new, versions_there, any_at_last}
 use Rattle.client.specs.Laws.Commit.{Sofar, so_next, so_all, so_fails}
+use Rattle.walk.specs.declared.walk.Stop.TheVariants.{Refused, Aborts}
+use Rattle.walk.specs.Walk.{Course, Going, Ended}
 use Rattle.walk.specs.Ask.{OwnKept}
 use Rattle.walk.specs.Laws.Own.{own_entry}
 use Rattle.change.specs.Fit.{record_fits, entries_fit}
 use Rattle.change.specs.Laws.Fit.{fit_append}
+use Rattle.change.specs.Work.{judged}
 use Rattle.change.specs.Last.{new_one, stays_below, there, reason_of, last_reason}
 use Rattle.client.specs.declared.part.Set.TheVariants as set
 
 -- ---- reason 3
 module _ (n : Node) (b : Bool) (e : b ≡ rises (keys_of n)) where
-  pub own_astray : not b ≡ true → false ≡ record_fits n
+  pub own_astray : b ≡ false → false ≡ record_fits n
   unfolding record_fits
-  own_astray t = let q : rises (keys_of n) ≡ false = sym e ∙ not-true b t in rw q
+  own_astray t = rw (← e, t)
 
-  pub own_by_level : not b ≡ false → leb n.level 4 ≡ record_fits n
+  pub own_by_level : b ≡ true → leb n.level 4 ≡ record_fits n
   unfolding record_fits
-  own_by_level t = let q : rises (keys_of n) ≡ true = sym e ∙ not-false b t in rw q
+  own_by_level t = rw (← e, t)
 
 pub ruleset own_exits = (own_astray, own_by_level)
 
@@ -78,13 +80,13 @@ module _ (x : List ℕ) (n i : ℕ) (c : n ≡ get_or x 0 0) (s : Sofar (fits_at
 pub ruleset fit_exits = (all_fitting, few_keys, one_fitting, one_astray)
 
 -- ---- reason 4
-module _ (m : ClientWord → ℕ) (y : ℕ) (f : Found) (p : f ≡ find m set.Writes y) where
-  pub not_new : (j : ℕ) → f ≡ Some j → 0 ≡ new_one m y
-  unfolding new_one has
-  not_new j e = rw (← p, e)
+module _ (m : ClientWord → ℕ) (y : ℕ) (b : Bool) (p : b ≡ has m set.Writes y) where
+  pub not_new : b ≡ true → 0 ≡ new_one m y
+  unfolding new_one
+  not_new e = rw (← p, e)
 
-  pub is_new : f ≡ None → 1 ≡ new_one m y
-  unfolding new_one has
+  pub is_new : b ≡ false → 1 ≡ new_one m y
+  unfolding new_one
   is_new e = rw (← p, e)
 
 module _ (m : ClientWord → ℕ) (x : List ℕ) where
@@ -134,7 +136,7 @@ module _ (m : ClientWord → ℕ) (y : ℕ) (f : Found) (p : f ≡ find m set.Re
   pub version_read : (j v : ℕ) → f ≡ Some j → v ≡ (record_at m set.Reads j).version → v ≡ version_in m y (find m set.Reads y)
   version_read j v e q = rw (← p, e, q)
 
-  pub version_copied : (l : Look) → f ≡ None → l ≡ copied m y → l.node.version ≡ version_in m y (find m set.Reads y)
+  pub version_copied : (l : Node) → f ≡ None → l ≡ (copied m y).node → l.version ≡ version_in m y (find m set.Reads y)
   version_copied l e q = rw (← p, e, q)
 
 pub ruleset version_exits = (version_read, version_copied)
@@ -241,41 +243,64 @@ module _ (m : ClientWord → ℕ) (fit : Bool) (new : ℕ) (there below : Bool) 
   abbrev Reason : ℕ → Type 0
   Reason r = r ≡ reason_of m fit new there below
 
-  pub reason_3 : not fit ≡ true → Reason 3
+  reason_3 : not fit ≡ true → Reason 3
   unfolding reason_of
   reason_3 t = rw t
 
   module _ (t : not fit ≡ false) (w : ℕ) (pw : w ≡ m writes_count) where
-    pub reason_4 : 48 < w + new → Reason 4
+    reason_4 : 48 < w + new → Reason 4
     unfolding reason_of
     reason_4 h = rw (t, ← pw, lt-ltb _ _ h)
 
     module _ (h : w + new ≤ 48) where
-      pub reason_10 : not there ≡ true → Reason 10
+      reason_10 : not there ≡ true → Reason 10
       unfolding reason_of
       reason_10 u = rw (t, ← pw, le-ltb _ _ h, u)
 
-      pub reason_8 : not there ≡ false → not below ≡ true → Reason 8
+      reason_8 : not there ≡ false → not below ≡ true → Reason 8
       unfolding reason_of
       reason_8 u v = rw (t, ← pw, le-ltb _ _ h, u, v)
 
-      pub no_reason : not there ≡ false → not below ≡ false → Reason 0
+      no_reason : not there ≡ false → not below ≡ false → Reason 0
       unfolding reason_of
       no_reason u v = rw (t, ← pw, le-ltb _ _ h, u, v)
+
+    -- as the code says it
+  pub ends_by_3 : not fit ≡ true → Ended (Aborts 3) ≡ judged Going (reason_of m fit new there below)
+  unfolding judged
+  ends_by_3 t = ap (judged Going) (reason_3 t)
+
+  module _ (t : not fit ≡ false) (w : ℕ) (pw : w ≡ m writes_count) where
+    pub ends_by_4 : 48 < w + new → Ended (Aborts 4) ≡ judged Going (reason_of m fit new there below)
+    unfolding judged
+    ends_by_4 h = ap (judged Going) (reason_4 t w pw h)
+
+    module _ (h : w + new ≤ 48) where
+      pub ends_by_10 : not there ≡ true → Ended Refused ≡ judged Going (reason_of m fit new there below)
+      unfolding judged
+      ends_by_10 u = ap (judged Going) (reason_10 t w pw h u)
+
+      pub ends_by_8 : not there ≡ false → not below ≡ true → Ended (Aborts 8) ≡ judged Going (reason_of m fit new there below)
+      unfolding judged
+      ends_by_8 u v = ap (judged Going) (reason_8 t w pw h u v)
+
+      pub ends_by_none : not there ≡ false → not below ≡ false → Going ≡ judged Going (reason_of m fit new there below)
+      unfolding judged
+      ends_by_none u v = ap (judged Going) (no_reason t w pw h u v)
 
 or_false : (b : Bool) → (b || false) ≡ b
 or_false true = refl
 or_false false = refl
 
-pub ruleset reason_exits = (reason_3, reason_4, reason_10, reason_8, no_reason)
+pub ruleset reason_exits = (ends_by_3, ends_by_4, ends_by_10, ends_by_8, ends_by_none)
 
-module _ (m : ClientWord → ℕ) (a : Bool) (c : ℕ) (d b : Bool) (r : ℕ) (pr : r ≡ reason_of m a c d b) where
-  pub reason_of_all : (l : List Entry) → a ≡ entries_fit l → c ≡ count_new m l → d ≡ versions_there m l → b ≡ not (any_at_last m l) → r ≡ last_reason m l
+module _ (m : ClientWord → ℕ) (a : Bool) (c : ℕ) (d b : Bool) (r : Course) (pr : r ≡ judged Going (reason_of m a c d b)) where
+  pub reason_of_all : (l : List Entry) → a ≡ entries_fit l → c ≡ count_new m l → d ≡ versions_there m l → b ≡ not (any_at_last m l) → r ≡ judged Going (last_reason m l)
   unfolding last_reason
   reason_of_all l pa pc pd pb = rw (← pa, ← pc, ← pd, ← pb) pr
 
   -- of one entry
-  pub reason_of_one : (k : ℕ) (n : Node) → a ≡ record_fits n → c ≡ new_one m k → d ≡ there m k → b ≡ stays_below m k → r ≡ last_reason m ((k, n) ∷ [])
+  pub reason_of_one : (k : ℕ) (n : Node) → a ≡ record_fits n → c ≡ new_one m k → d ≡ there m k → b ≡ stays_below m k → r ≡ judged Going (last_reason m ((k, n) ∷ []))
   unfolding entries_fit count_new versions_there any_at_last new_one there stays_below
   reason_of_one k n pa pc pd pb = reason_of_all ((k, n) ∷ []) (pa ∙ sym (and_true (record_fits n))) pc (pd ∙ sym (and_true (ltb 8192 k || version_there m k (find m set.Reads k)))) (pb ∙ ap not (sym (or_false (at_last_version m k))))
 

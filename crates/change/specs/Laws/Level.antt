@@ -1,5 +1,5 @@
 -- Laws of one level of a change.
-use Rattle.std.specs.Prelude.{◌≡◌, Bool, true, false, List, [], ◌∷◌, get_or}
+use Rattle.std.specs.Prelude.{◌≡◌, Bool, true, false, List, [], ◌∷◌, get_or, Result, Ok, Err}
 use Rattle.std.proofs.Math.Path.{refl, sym}
 use Rattle.std.proofs.Common.{◌∙◌, ap, arith}
 use Prim.Native.Nat.{ℕ, zero, suc, ◌+◌, ◌≤◌, ◌<◌}
@@ -20,17 +20,18 @@ use Rattle.operations.specs.Path.{TreePlan, Branch}
 use Rattle.operations.specs.Change.{Go, split_root, up}
 use Rattle.walk.specs.declared.down.Turn.{Turn}
 use Rattle.change.specs.declared.rise.Risen.{Risen}
+use Rattle.change.specs.declared.rise.Risen.TheVariants.{Up, Done}
 use Rattle.walk.specs.declared.walk.Stop.{Stop}
+use Rattle.walk.specs.declared.walk.Answer.{Answer}
 use Rattle.client.specs.Layout.{ClientWord}
 use Rattle.client.specs.Record.{in_store, value_of}
-use Rattle.client.specs.Run.{run}
 use Rattle.client.specs.Lent.{used_in}
 use Rattle.walk.specs.Entries.{branch_of}
-use Rattle.walk.specs.Walk.{Told, goes, over, worked, walked}
-use Rattle.walk.specs.Lookup.{Ends, ended}
+use Rattle.walk.specs.Walk.{Course, Ended, Answered, goes}
+use Rattle.walk.specs.Lookup.{Ends}
 use Rattle.walk.specs.Laws.Down.{stops_not}
 use Rattle.walk.specs.Laws.Ask.{name_below}
-use Rattle.change.specs.Rise.{NodeWritten, Content, Full, OfLevel, Under, in_parent, Raised, Closed, split_plan, neighbour_plan}
+use Rattle.change.specs.Rise.{risen_course, NodeWritten, Content, Full, OfLevel, Under, in_parent, Raised, Closed, split_plan, neighbour_plan}
 use Rattle.change.specs.Laws.Rise.{of_level_value, under_name, level_room}
 use Rattle.change.specs.Laws.Parts.{extra_level, narrow_level}
 use Rattle.change.specs.Split.{Splits}
@@ -70,22 +71,13 @@ module _ (l : ℕ) (n : Wide) (k : Content l n) (lo : ℕ) where
   narrow_value c = ap (node_value l) (sym (narrow_entries n lo k.whole)) ∙ of_level_value l (narrow n) lo c narrow_of_level
 
 module _ (n : Wide) (d : Node) (pd : d ≡ narrow n) where
-  pub settled : (m : ClientWord → ℕ) (x u : List ℕ) (c a b : ℕ) (s : Stop) (x' u' : List ℕ) → NodeWritten x c d x' → Ends m u a b s u' → Settled m x u c n a b s x' u'
+  pub settled : (m : ClientWord → ℕ) (x u : List ℕ) (c a b : ℕ) (s : Course) (x' u' : List ℕ) → NodeWritten x c d x' → Ends m u a b s u' → Settled m x u c n a b s x' u'
   settled m x u c a b s x' u' h e = record { ends = λ slots w. e.same slots _ []; written = rw pd at h; noted = e.noted }
 
 pub settled_few : (n : Wide) (d : Node) → d.count ≡ n.count → n.count ≤ 14 → d.count ≤ 14
 settled_few n d e h = omega arith
 
 pub ruleset settle_exits = (settled, settled_few)
-
--- an answer does not go on
-ended_not : (slots : ℕ) (m : ClientWord → ℕ) (r : Ans × Writes) (us us' : List ℕ) (s : Stop) (w : Writes) → walked slots m (P.done r) us ≡ ended s us' w [] → goes s ≡ false
-unfolding walked worked run
-ended_not slots m r us us' s w e = go (over m us) refl
-  where
-    go : (b : Bool) → over m us ≡ b → goes s ≡ false
-    go true h = sym (ap (λ (t : Told). goes t.stop) (rw (walked, worked, h) at e))
-    go false h = sym (ap (λ (t : Told). goes t.stop) (rw (walked, worked, h) at e))
 
 -- ---- a node in range is written
 pub level_written : (slots l : ℕ) (t : Turn) (c : ℕ) (n : Wide) (a : Ans) → Content l n → 7 ≤ n.count → n.count ≤ 14 → (lo : ℕ) (fs : List Branch) (w : Writes) (go : Go)
@@ -107,7 +99,7 @@ top_written slots l c n a k f w =
     ∙ rw (narrow_value l n k 0 c)
 
 -- ---- below the root
-raised_as : (slots : ℕ) (m : ClientWord → ℕ) (x u : List ℕ) (l : ℕ) (root : Bool) (p q : ℕ → List Branch → Writes → Go → TreePlan) (r : Risen) (x' u' : List ℕ)
+raised_as : (slots : ℕ) (m : ClientWord → ℕ) (x u : List ℕ) (l : ℕ) (root : Bool) (p q : ℕ → List Branch → Writes → Go → TreePlan) (r : Result Risen Stop) (x' u' : List ℕ)
     → ((lo : ℕ) (fs : List Branch) (w : Writes) (go : Go) → p lo fs w go ≡ q lo fs w go) → Raised slots m x u l root q r x' u' → Raised slots m x u l root p r x' u'
 raised_as slots m x u l root p q r x' u' e h = record {
   more = h.more;
@@ -140,32 +132,43 @@ module _ (slots : ℕ) (m : ClientWord → ℕ) (x u : List ℕ) (l : ℕ) (root
       let p : fewest_entries l ≤ length (wide_entries n (in_parent t lo).key) → ⊥ = λ p. omega (arith, least l n k i, entries_many l n k (in_parent t lo).key, p) in
       rw (narrow_entries n (in_parent t lo).key k.whole) (ifd_no (dec_le (fewest_entries l) (length (wide_entries n (in_parent t lo).key))) _ _ p)
 
-  pub raise_splits : n.count ≡ 15 → (r : Risen) (x' u' : List ℕ) → Splits slots m x u l t c n r x' u' → Raised slots m x u l root (level_plan slots (a, b, []) l t c (wide_entries n)) r x' u'
-  raise_splits e r x' u' h = raised_as slots m x u l root whole_plan (split_plan slots l t c (wide_entries n)) r x' u' (is_split e) (h.raised root)
+  pub raise_lacks : n.count ≡ 15 → (s : Stop) (x' u' : List ℕ) → Splits slots m x u l t c n (Err s) x' u' → Raised slots m x u l root (level_plan slots (a, b, []) l t c (wide_entries n)) (Err s) x' u'
+  raise_lacks e s x' u' h = raised_as slots m x u l root whole_plan (split_plan slots l t c (wide_entries n)) (Err s) x' u' (is_split e) (h.raised root)
+
+  pub raise_splits : n.count ≡ 15 → (up : Wide) (x' u' : List ℕ) → Splits slots m x u l t c n (Ok up) x' u'
+      → Raised slots m x u l root (level_plan slots (a, b, []) l t c (wide_entries n)) (Ok (Up up)) x' u'
+  raise_splits e up x' u' h = raised_as slots m x u l root whole_plan (split_plan slots l t c (wide_entries n)) (Ok (Up up)) x' u' (is_split e) (h.raised root)
 
   module _ (d : Node) (pd : d ≡ narrow n) where
-    pub raise_turns : n.count < 7 → (r : Risen) (x' u' : List ℕ) → Raised slots m x u l root (neighbour_plan (a, b, []) l t c (entries_of d)) r x' u'
+    pub raise_turns : n.count < 7 → (r : Result Risen Stop) (x' u' : List ℕ) → Raised slots m x u l root (neighbour_plan (a, b, []) l t c (entries_of d)) r x' u'
         → Raised slots m x u l root (level_plan slots (a, b, []) l t c (wide_entries n)) r x' u'
     raise_turns e r x' u' h = raised_as slots m x u l root whole_plan (neighbour_plan (a, b, []) l t c (entries_of (narrow n))) r x' u' (is_neighbour e) (rw pd at h)
 
     pub raise_of_level : OfLevel l d
     raise_of_level = rw pd (narrow_of_level l n k 0)
 
-  pub raise_writes : (n.count ≡ 15 → ⊥) → 7 ≤ n.count → Under slots l c t → (s : Stop) (x' u' : List ℕ) → Settled m x u c n a b s x' u'
-      → Raised slots m x u l root (level_plan slots (a, b, []) l t c (wide_entries n)) (record { stop = s; up = n }) x' u'
-  raise_writes ne e un s x' u' h =
-      let f : n.count ≤ 14 = omega (arith, k.few, ne) in
-      let halts : goes s ≡ false = ended_not slots m ((a, b, []), (node c, value_of (node c) (narrow n)) ∷ []) (used_in u) (used_in u') s _ (h.ends slots []) in
-      record {
-        more = (node c, value_of (node c) (narrow n)) ∷ [];
-        same = λ w hold lo fs t' go. rw (level_written slots l t c n (a, b, []) k e f lo fs w go, halts) (h.ends slots w);
-        holds = λ _ w hold. h.written.holds slots w un.link.there hold;
-        kept = λ _ w hold. h.written.kept;
-        good = λ q. stops_not s halts q;
-        few = λ q. stops_not s halts q;
-        content = λ q. stops_not s halts q;
-        noted = h.noted;
-      }
+  module _ (ne : n.count ≡ 15 → ⊥) (e : 7 ≤ n.count) (un : Under slots l c t) (x' u' : List ℕ) where
+    -- what does not go on from there is as the answer
+    writes : (r : Result Risen Stop) → goes (risen_course r) ≡ false → Settled m x u c n a b (risen_course r) x' u'
+        → Raised slots m x u l root (level_plan slots (a, b, []) l t c (wide_entries n)) r x' u'
+    writes r halts h =
+        let f : n.count ≤ 14 = omega (arith, k.few, ne) in
+        record {
+          more = (node c, value_of (node c) (narrow n)) ∷ [];
+          same = λ w hold lo fs t' go. rw (level_written slots l t c n (a, b, []) k e f lo fs w go, halts) (h.ends slots w);
+          holds = λ _ w hold. h.written.holds slots w un.link.there hold;
+          kept = λ _ w hold. h.written.kept;
+          good = λ q. stops_not (risen_course r) halts q;
+          few = λ q. stops_not (risen_course r) halts q;
+          content = λ q. stops_not (risen_course r) halts q;
+          noted = h.noted;
+        }
+
+    pub raise_ends : (s : Stop) → Settled m x u c n a b (Ended s) x' u' → Raised slots m x u l root (level_plan slots (a, b, []) l t c (wide_entries n)) (Err s) x' u'
+    raise_ends s h = writes (Err s) refl h
+
+    pub raise_answers : (r : Answer) → Settled m x u c n a b (Answered r.a r.b) x' u' → Raised slots m x u l root (level_plan slots (a, b, []) l t c (wide_entries n)) (Ok (Done r)) x' u'
+    raise_answers r h = writes (Ok (Done r)) refl h
 
 pub raise_full : (l : ℕ) (n : Wide) → Content l n → n.count ≡ 15 → Full l n
 raise_full l n k e = record { content = k; full = e }
@@ -182,11 +185,11 @@ raise_turn_few n h = omega arith
 pub raise_turn_room : (x : List ℕ) → get_or x 0 0 ≤ 12 → get_or x 0 0 ≤ 15
 raise_turn_room x h = omega arith
 
-pub ruleset raise_exits = (raise_splits, raise_turns, raise_of_level, raise_writes, raise_full, raise_narrow, raise_few, raise_turn_few, level_room, raise_turn_room, under_name)
+pub ruleset raise_exits = (raise_lacks, raise_splits, raise_turns, raise_of_level, raise_ends, raise_answers, raise_full, raise_narrow, raise_few, raise_turn_few, level_room, raise_turn_room, under_name)
 
 -- ---- the root
 module _ (slots : ℕ) (m : ClientWord → ℕ) (x u : List ℕ) (l c : ℕ) (n : Wide) (a b : ℕ) (k : Content l n) where
-  pub top_splits : n.count ≡ 15 → (s : Stop) (x' u' : List ℕ) → Closed slots m x u (root_split slots (a, b, []) l c (wide_entries n 0)) s x' u'
+  pub top_splits : n.count ≡ 15 → (s : Course) (x' u' : List ℕ) → Closed slots m x u (root_split slots (a, b, []) l c (wide_entries n 0)) s x' u'
       → Closed slots m x u (top_plan slots (a, b, []) l c (wide_entries n 0)) s x' u'
   unfolding top_plan root_split
   top_splits e s x' u' h =
@@ -199,7 +202,7 @@ module _ (slots : ℕ) (m : ClientWord → ℕ) (x u : List ℕ) (l c : ℕ) (n 
         noted = h.noted;
       }
 
-  pub top_writes : (n.count ≡ 15 → ⊥) → in_store slots c ≡ true → (s : Stop) (x' u' : List ℕ) → Settled m x u c n a b s x' u'
+  pub top_writes : (n.count ≡ 15 → ⊥) → in_store slots c ≡ true → (s : Course) (x' u' : List ℕ) → Settled m x u c n a b s x' u'
       → Closed slots m x u (top_plan slots (a, b, []) l c (wide_entries n 0)) s x' u'
   top_writes ne there s x' u' h =
       let f : n.count ≤ 14 = omega (arith, k.few, ne) in

@@ -1,5 +1,5 @@
 -- Laws of a migrate's walk.
-use Rattle.std.specs.Prelude.{◌≡◌, refl, Bool, not, ℕ, zero, suc, ◌-◌, ◌≤◌, ◌<◌}
+use Rattle.std.specs.Prelude.{◌≡◌, refl, ℕ, zero, suc, ◌-◌, ◌≤◌, ◌<◌, None, Some, Result, Ok, Err}
 use Rattle.std.proofs.Math.Path.{sym}
 use Rattle.std.proofs.Common.{◌∙◌, arith}
 use Rattle.std.proofs.Math.Bool.{true, false}
@@ -7,7 +7,6 @@ use mathlib.Core.List.{List, [], ◌∷◌}
 use Rattle.std.proofs.Math.Decide.{ℕ_discrete, dec_le}
 use Rattle.std.proofs.Math.ListN.{length, get_or}
 use Rattle.std.proofs.Math.Seq.{get_or-take}
-use borrow.Author.Tests.{not-true, not-false}
 use Rattle.base.specs.Test.{ifd}
 use Rattle.base.proofs.Laws.Test.{ifd_yes, ifd_no}
 use Rattle.nodes.specs.declared.node.Node.{Node}
@@ -21,88 +20,80 @@ use Rattle.operations.specs.Migrate.{move_root, move_at, first_key, move_below, 
 use Rattle.memory.specs.Word.{view}
 use Rattle.nodes.specs.Stored.{node_at}
 use Rattle.walk.specs.declared.down.Descent.{Descent}
-use Rattle.walk.specs.declared.search.Taken.{Taken}
 use Rattle.walk.specs.declared.walk.Stop.{Stop}
 use Rattle.walk.specs.declared.walk.Stop.TheVariants.{Aborts}
 use Rattle.client.specs.Layout.{ClientWord}
 use Rattle.client.specs.Record.{value_of, metadata}
 use Rattle.client.specs.Lent.{used_in}
-use Rattle.walk.specs.Walk.{goes, walked}
+use Rattle.walk.specs.Walk.{Course, Going, Ended, walked}
 use Rattle.walk.specs.Laws.Walk.{walked_fails}
-use Rattle.walk.specs.Ask.{SmallNode, OwnGood, HoldsWrites, Noted, Answer, given, nothing}
+use Rattle.walk.specs.Ask.{SmallNode, OwnGood, HoldsWrites, Noted, Asked, nothing}
 use Rattle.walk.specs.Laws.Ask.{none_held, first_metadata, second_metadata}
 use Rattle.walk.specs.Down.{Arrival, arrival, branches, trail, low}
-use Rattle.walk.specs.Walk.{stands}
 use Rattle.walk.specs.Lookup.{Ends}
-use Rattle.walk.specs.Laws.Lookup.{ended_nothing}
 use Rattle.change.specs.Operated.{Operated}
 use Rattle.change.specs.Laws.Operated.{walks_operated}
+use Rattle.change.specs.Laws.Rise.{never}
 use Rattle.change.specs.Move.{moves, Moved}
-use Rattle.change.specs.Laws.Move.{moved_stops}
 use Rattle.change.specs.Parent.{Parent, ToParent, MovedAt}
 use Rattle.change.specs.Migrate.{named_plan}
 use Rattle.plans.specs.Plan as P
 
 -- a plan whose walk comes to that of another
-follows : (slots : ℕ) (m : ClientWord → ℕ) (x u u₁ : List ℕ) (p q : TreePlan) (s : Stop) (x' u' : List ℕ) → (HoldsWrites slots x [] → walked slots m p (used_in u) ≡ walked slots m q (used_in u₁))
+follows : (slots : ℕ) (m : ClientWord → ℕ) (x u u₁ : List ℕ) (p q : TreePlan) (s : Course) (x' u' : List ℕ) → (HoldsWrites slots x [] → walked slots m p (used_in u) ≡ walked slots m q (used_in u₁))
     → Operated slots m x u₁ q s x' u' → Operated slots m x u p s x' u'
 follows slots m x u u₁ p q s x' u' e h = record { writes = h.writes; same = λ hold. e hold ∙ h.same hold; holds = h.holds; kept = h.kept; noted = h.noted }
 
-never : {A : Type 0} (s : Stop) → stands s ≡ false → stands s ≡ true → A
-never s p q = let e : false ≡ true = sym p ∙ q in let z : ◌≡◌ {A = ℕ} 0 1 = cc in absurd (omega arith)
-
 -- ---- the root
-module _ (slots : ℕ) (m : ClientWord → ℕ) (x u : List ℕ) (states nm s : ℕ) (n : Node) (t : Taken) (x₁ u₁ : List ℕ) (h : Moved slots m x u nm s n true states t x₁ u₁) (b : Bool) (pb : b ≡ goes t.stop) where
+module _ (slots : ℕ) (m : ClientWord → ℕ) (x u : List ℕ) (states nm s : ℕ) (n : Node) (x₁ u₁ : List ℕ) where
   abbrev v : Val
   v = value_of (node nm) n
 
-  pub root_stays : not b ≡ true → Operated slots m x u (move_root slots states nm s v) t.stop x₁ u₁
-  root_stays nb =
-      let q : goes t.stop ≡ false = sym pb ∙ not-true b nb in
+  pub root_stays : (e : Stop) → Moved slots m x u nm s n (Some states) (Err e) x₁ u₁ → Operated slots m x u (move_root slots states nm s (value_of (node nm) n)) (Ended e) x₁ u₁
+  root_stays e h =
       record {
         writes = [];
-        same = λ hold. rw (h.asks hold (λ d w. P.done ((1, d, []), w)), q) (sym (ended_nothing t.stop (used_in u₁)));
-        holds = λ g hold. never t.stop (moved_stops slots m x u nm s n true states t x₁ u₁ h hold q) g;
-        kept = λ g hold. never t.stop (moved_stops slots m x u nm s n true states t x₁ u₁ h hold q) g;
+        same = λ hold. h.asks hold (λ d w. P.done ((1, d, []), w));
+        holds = λ t. never t;
+        kept = λ t. never t;
         noted = h.noted;
       }
 
-  pub root_moved : (st : Stop) (u₂ : List ℕ) → not b ≡ false → Ends m u₁ 1 t.name st u₂ → Operated slots m x u (move_root slots states nm s v) st x₁ u₂
-  root_moved st u₂ nb a =
-      let on : goes t.stop ≡ true = sym pb ∙ not-false b nb in
+  pub root_moved : (to : ℕ) → Moved slots m x u nm s n (Some states) (Ok to) x₁ u₁ → (st : Course) (u₂ : List ℕ) → Ends m u₁ 1 to st u₂
+      → Operated slots m x u (move_root slots states nm s (value_of (node nm) n)) st x₁ u₂
+  root_moved to h st u₂ a =
       record {
-        writes = moves nm v true states t.name;
-        same = λ hold. rw (h.asks hold (λ d w. P.done ((1, d, []), w)), on) (a.same slots (moves nm v true states t.name) []);
-        holds = λ _ hold. h.holds on hold;
-        kept = λ _ hold. record { fit = (h.good on).fit; few = (h.good on).few };
+        writes = moves nm v (Some states) to;
+        same = λ hold. h.asks hold (λ d w. P.done ((1, d, []), w)) ∙ a.same slots (moves nm v (Some states) to) [];
+        holds = λ _ hold. h.holds refl hold;
+        kept = λ _ hold. record { fit = (h.good refl).fit; few = (h.good refl).few };
         noted = a.noted;
       }
 
 pub ruleset root_moves = (root_stays, root_moved)
 
 -- ---- a node below the root
-module _ (slots : ℕ) (m : ClientWord → ℕ) (x u : List ℕ) (top nm s key : ℕ) (n : Node) (c : List ℕ) (p : Descent) (u₁ : List ℕ) (h : ToParent slots m u key top n.level (arrival c p) u₁) (b : Bool) (pb : b ≡ goes p.stop) where
-  abbrev d : Arrival
-  d = arrival c p
-
+module _ (slots : ℕ) (m : ClientWord → ℕ) (x u : List ℕ) (top nm s key : ℕ) (n : Node) (c u₁ : List ℕ) where
   abbrev w : Val
   w = value_of (node nm) n
 
-  pub below_stops : OwnGood x → not b ≡ true → Operated slots m x u (move_below slots top nm s w n.level key) p.stop x u₁
-  below_stops g nb =
-      let q : goes d.stop ≡ false = sym pb ∙ not-true b nb in
-      walks_operated slots m x u (move_below slots top nm s w n.level key) d.stop u₁ g (record { same = rw (h.asks (move_at slots nm s w key), q) (sym (ended_nothing d.stop (used_in u₁))); noted = h.noted })
+  pub below_stops : OwnGood x → (e : Stop) → ToParent slots m u key top n.level (arrival c (Err e)) u₁ → Operated slots m x u (move_below slots top nm s (value_of (node nm) n) n.level key) (Ended e) x u₁
+  below_stops g e h =
+      walks_operated slots m x u (move_below slots top nm s w n.level key) (Ended e) u₁ g (record { same = h.asks (move_at slots nm s w key); noted = h.noted })
 
-  pub below_moves : (st : Stop) (x' u' : List ℕ) → not b ≡ false → MovedAt slots m x u₁ key nm s n p.name (node_at (view c) p.place) st x' u' → Operated slots m x u (move_below slots top nm s w n.level key) st x' u'
-  below_moves st x' u' nb a =
-      let on : goes d.stop ≡ true = sym pb ∙ not-false b nb in
-      let e : d.node.level ≡ suc n.level = (h.parent on).level in
-      follows slots m x u u₁ (move_below slots top nm s w n.level key) _ st x' u' (λ hold. rw (h.asks (move_at slots nm s w key), on, ← e))
-      (a.operated (branches (trail d.path (suc n.level) (d.top - suc n.level))) (low (trail d.path (suc n.level) (d.top - suc n.level))))
+  module _ (p : Descent) (h : ToParent slots m u key top n.level (arrival c (Ok p)) u₁) where
+    abbrev d : Arrival
+    d = arrival c (Ok p)
 
-pub below_parent : (slots : ℕ) (m : ClientWord → ℕ) (u : List ℕ) (key top l : ℕ) (c : List ℕ) (p : Descent) (u' : List ℕ) (b : Bool) → ToParent slots m u key top l (arrival c p) u' → b ≡ goes p.stop → not b ≡ false
-    → Parent slots l p.name (node_at (view c) p.place)
-below_parent slots m u key top l c p u' b h pb nb = h.parent (sym pb ∙ not-false b nb)
+    pub below_parent : Parent slots n.level p.name (node_at (view c) p.place)
+    below_parent = h.parent refl
+
+    pub below_moves : (st : Course) (x' u' : List ℕ) → MovedAt slots m x u₁ key nm s n p.name (node_at (view c) p.place) st x' u'
+        → Operated slots m x u (move_below slots top nm s (value_of (node nm) n) n.level key) st x' u'
+    below_moves st x' u' a =
+        let e : d.node.level ≡ suc n.level = below_parent.level in
+        follows slots m x u u₁ (move_below slots top nm s w n.level key) _ st x' u' (λ hold. h.asks (move_at slots nm s w key) ∙ rw (← e))
+        (a.operated (branches (trail d.path (suc n.level) (d.top - suc n.level))) (low (trail d.path (suc n.level) (d.top - suc n.level))))
 
 pub ruleset below_exits = (below_stops, below_parent, below_moves)
 
@@ -123,7 +114,7 @@ module _ (slots : ℕ) (m : ClientWord → ℕ) (x u : List ℕ) (g : OwnGood x)
   abbrev y : Val
   y = value_of (node nm) n
 
-  pub if_free : (st : Stop) (u' : List ℕ) → n.kind ≡ 0 → Ends m u 0 0 st u' → Operated slots m x u (move_if slots states top nm s y) st x u'
+  pub if_free : (st : Course) (u' : List ℕ) → n.kind ≡ 0 → Ends m u 0 0 st u' → Operated slots m x u (move_if slots states top nm s y) st x u'
   if_free st u' k a = walks_operated slots m x u (move_if slots states top nm s y) st u' g (record {
     same = rw (move_free slots states top nm s n.kind n.level (keys_of n) (slots_of n) k) (a.same slots [] []);
     noted = a.noted;
@@ -133,7 +124,7 @@ module _ (slots : ℕ) (m : ClientWord → ℕ) (x u : List ℕ) (g : OwnGood x)
     used_is : move_if slots states top nm s y ≡ ifd (ℕ_discrete (server_of nm) s) (P.done ((0, 1, []), [])) (move_node slots states top nm s y n.level (keys_of n))
     used_is = move_used slots states top nm s n.kind n.level (keys_of n) (slots_of n) k
 
-    pub if_there : (home : ℕ) (st : Stop) (u' : List ℕ) → home ≡ server_of nm → home ≡ s → Ends m u 0 1 st u' → Operated slots m x u (move_if slots states top nm s y) st x u'
+    pub if_there : (home : ℕ) (st : Course) (u' : List ℕ) → home ≡ server_of nm → home ≡ s → Ends m u 0 1 st u' → Operated slots m x u (move_if slots states top nm s y) st x u'
     if_there home st u' o e a = walks_operated slots m x u (move_if slots states top nm s y) st u' g (record {
       same = rw (used_is, ifd_yes (ℕ_discrete (server_of nm) s) (P.done ((0, 1, []), [])) (move_node slots states top nm s y n.level (keys_of n)) (sym o ∙ e)) (a.same slots [] []);
       noted = a.noted;
@@ -143,20 +134,20 @@ module _ (slots : ℕ) (m : ClientWord → ℕ) (x u : List ℕ) (g : OwnGood x)
       node_is : move_if slots states top nm s y ≡ move_node slots states top nm s y n.level (keys_of n)
       node_is = used_is ∙ ifd_no (ℕ_discrete (server_of nm) s) (P.done ((0, 1, []), [])) (move_node slots states top nm s y n.level (keys_of n)) (λ t. e (o ∙ t))
 
-      pub if_root : (st : Stop) (x' u' : List ℕ) → nm ≡ top → Operated slots m x u (move_root slots states nm s y) st x' u' → Operated slots m x u (move_if slots states top nm s y) st x' u'
+      pub if_root : (st : Course) (x' u' : List ℕ) → nm ≡ top → Operated slots m x u (move_root slots states nm s y) st x' u' → Operated slots m x u (move_if slots states top nm s y) st x' u'
       if_root st x' u' f a = rw (node_is, ifd_yes (ℕ_discrete nm top) (move_root slots states nm s y) (ifd (dec_le 7 (length (keys_of n))) (first_key (keys_of n) (move_below slots top nm s y n.level)) (P.fail no_tree)) f) a
 
       module _ (f : nm ≡ top → ⊥) (small : SmallNode n) (w : Whole n) where
         other_is : move_if slots states top nm s y ≡ ifd (dec_le 7 (length (keys_of n))) (first_key (keys_of n) (move_below slots top nm s y n.level)) (P.fail no_tree)
         other_is = node_is ∙ ifd_no (ℕ_discrete nm top) (move_root slots states nm s y) (ifd (dec_le 7 (length (keys_of n))) (first_key (keys_of n) (move_below slots top nm s y n.level)) (P.fail no_tree)) f
 
-        pub if_few : Noted m u → n.count < 7 → Operated slots m x u (move_if slots states top nm s y) (Aborts 3) x u
-        if_few h c = walks_operated slots m x u (move_if slots states top nm s y) (Aborts 3) u g (record {
+        pub if_few : Noted m u → n.count < 7 → Operated slots m x u (move_if slots states top nm s y) (Ended (Aborts 3)) x u
+        if_few h c = walks_operated slots m x u (move_if slots states top nm s y) (Ended (Aborts 3)) u g (record {
           same = rw (other_is, ifd_no (dec_le 7 (length (keys_of n))) (first_key (keys_of n) (move_below slots top nm s y n.level)) (P.fail no_tree) (λ a. absurd (omega (arith, w.keys)))) (walked_fails slots m (used_in u) no_tree);
           noted = h;
         })
 
-        pub if_below : (st : Stop) (x' u' : List ℕ) → 7 ≤ n.count → Operated slots m x u (move_below slots top nm s y n.level (get_or n.keys 0 0)) st x' u' → Operated slots m x u (move_if slots states top nm s y) st x' u'
+        pub if_below : (st : Course) (x' u' : List ℕ) → 7 ≤ n.count → Operated slots m x u (move_below slots top nm s y n.level (get_or n.keys 0 0)) st x' u' → Operated slots m x u (move_if slots states top nm s y) st x' u'
         unfolding keys_of
         if_below st x' u' c a =
             let i : 0 < length (keys_of n) = omega (arith, w.keys) in
@@ -165,24 +156,20 @@ module _ (slots : ℕ) (m : ClientWord → ℕ) (x u : List ℕ) (g : OwnGood x)
 
 pub ruleset if_exits = (if_free, if_there, if_root, if_few, if_below)
 
-module _ (slots : ℕ) (m : ClientWord → ℕ) (x u : List ℕ) (states top nm s : ℕ) (s₁ : Stop) (q : Node) (u₁ : List ℕ) (a : Answer slots m nothing u (node nm) s₁ (given s₁ q) u₁) (b : Bool) (pb : b ≡ goes s₁) where
-  pub named_stops : OwnGood x → not b ≡ true → Operated slots m x u (named_plan slots states top nm s) s₁ x u₁
+module _ (slots : ℕ) (m : ClientWord → ℕ) (x u : List ℕ) (states top nm s : ℕ) (q : Node) (u₁ : List ℕ) where
+  pub named_stops : OwnGood x → (e : Stop) → Asked slots m nothing u (node nm) (Ended e) q u₁ → Operated slots m x u (named_plan slots states top nm s) (Ended e) x u₁
   unfolding named_plan
-  named_stops g nb =
-      let t : goes s₁ ≡ false = sym pb ∙ not-true b nb in
-      walks_operated slots m x u (named_plan slots states top nm s) s₁ u₁ g (record { same = rw ((a.asks [] (none_held slots)).same, t) (sym (ended_nothing s₁ (used_in u₁))); noted = a.noted })
+  named_stops g e a =
+      walks_operated slots m x u (named_plan slots states top nm s) (Ended e) u₁ g (record { same = rw ((a.asks [] (none_held slots)).same); noted = a.noted })
 
-  module _ (n : Node) (nb : not b ≡ false) (e : n ≡ q) where
-    on : goes s₁ ≡ true
-    on = sym pb ∙ not-false b nb
+  module _ (a : Asked slots m nothing u (node nm) Going q u₁) (n : Node) (e : n ≡ q) where
+    node_asked : Asked slots m nothing u (node nm) Going n u₁
+    node_asked = rw e a
 
-    node_asked : Answer slots m nothing u (node nm) s₁ n u₁
-    node_asked = rw e (rw on at a)
-
-    pub named_goes_on : (st : Stop) (x' u' : List ℕ) → Operated slots m x u₁ (move_if slots states top nm s (value_of (node nm) n)) st x' u' → Operated slots m x u (named_plan slots states top nm s) st x' u'
+    pub named_goes_on : (st : Course) (x' u' : List ℕ) → Operated slots m x u₁ (move_if slots states top nm s (value_of (node nm) n)) st x' u' → Operated slots m x u (named_plan slots states top nm s) st x' u'
     unfolding named_plan
     named_goes_on st x' u' h =
-        follows slots m x u u₁ (named_plan slots states top nm s) (move_if slots states top nm s (value_of (node nm) n)) st x' u' (λ hold. rw ((node_asked.asks [] (none_held slots)).same, on)) h
+        follows slots m x u u₁ (named_plan slots states top nm s) (move_if slots states top nm s (value_of (node nm) n)) st x' u' (λ hold. rw ((node_asked.asks [] (none_held slots)).same)) h
 
     pub named_small : SmallNode n
     named_small = node_asked.small
@@ -192,16 +179,15 @@ module _ (slots : ℕ) (m : ClientWord → ℕ) (x u : List ℕ) (states top nm 
 
 pub ruleset named_exits = (named_stops, named_goes_on, named_small, named_whole)
 
-module _ (slots : ℕ) (m : ClientWord → ℕ) (x u : List ℕ) (nm s : ℕ) (s₁ : Stop) (top states : ℕ) (u₁ : List ℕ) (a : Answer slots m nothing u meta s₁ (metadata 0 top states) u₁) (b : Bool) (pb : b ≡ goes s₁) where
-  pub migrate_stops : OwnGood x → not b ≡ true → Operated slots m x u (migrate_plan slots nm s) s₁ x u₁
-  migrate_stops g nb =
-      let q : goes s₁ ≡ false = sym pb ∙ not-true b nb in
-      walks_operated slots m x u (migrate_plan slots nm s) s₁ u₁ g (record { same = rw ((a.asks [] (none_held slots)).same, q) (sym (ended_nothing s₁ (used_in u₁))); noted = a.noted })
+module _ (slots : ℕ) (m : ClientWord → ℕ) (x u : List ℕ) (nm s : ℕ) (u₁ : List ℕ) where
+  pub migrate_stops : OwnGood x → (e : Stop) (r : Node) → Asked slots m nothing u meta (Ended e) r u₁ → Operated slots m x u (migrate_plan slots nm s) (Ended e) x u₁
+  migrate_stops g e r a =
+      walks_operated slots m x u (migrate_plan slots nm s) (Ended e) u₁ g (record { same = rw ((a.asks [] (none_held slots)).same); noted = a.noted })
 
-  pub migrate_goes_on : (st : Stop) (x' u' : List ℕ) → not b ≡ false → Operated slots m x u₁ (named_plan slots states top nm s) st x' u' → Operated slots m x u (migrate_plan slots nm s) st x' u'
+  pub migrate_goes_on : (top states : ℕ) → Asked slots m nothing u meta Going (metadata 0 top states) u₁ → (st : Course) (x' u' : List ℕ) → Operated slots m x u₁ (named_plan slots states top nm s) st x' u'
+      → Operated slots m x u (migrate_plan slots nm s) st x' u'
   unfolding named_plan
-  migrate_goes_on st x' u' nb h =
-      let on : goes s₁ ≡ true = sym pb ∙ not-false b nb in
-      follows slots m x u u₁ (migrate_plan slots nm s) (named_plan slots states top nm s) st x' u' (λ hold. rw ((a.asks [] (none_held slots)).same, on, first_metadata top states, second_metadata top states)) h
+  migrate_goes_on top states a st x' u' h =
+      follows slots m x u u₁ (migrate_plan slots nm s) (named_plan slots states top nm s) st x' u' (λ hold. rw ((a.asks [] (none_held slots)).same, first_metadata top states, second_metadata top states)) h
 
 pub ruleset migrate_exits = (migrate_stops, migrate_goes_on)

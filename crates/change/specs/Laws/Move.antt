@@ -1,47 +1,29 @@
 -- Laws of a node moved.
-use Rattle.std.specs.Prelude.{◌≡◌, refl, Bool, true, false, not, List, [], ◌∷◌, ℕ, ◌<◌, length, get_or, take}
+use Rattle.std.specs.Prelude.{◌≡◌, refl, true, false, List, [], ◌∷◌, ℕ, ◌<◌, length, get_or, take, Option, None, Some, Ok, Err}
 use Rattle.std.proofs.Common.{sym, ◌∙◌, arith}
-use Rattle.std.proofs.lemmas.Bool.{not-true, not-false}
 use Rattle.nodes.specs.declared.node.Node.{Node}
 use Rattle.nodes.specs.Lists.{pad}
 use Rattle.nodes.specs.Name.{slot_of}
 use Rattle.nodes.specs.Node.{made}
 use Rattle.nodes.specs.Placement.{row}
-use Rattle.operations.specs.Object.{meta, node, flag, Val, root, taken, free, no_tree, Writes}
-use Rattle.operations.specs.Slot.{take_node, release}
+use Rattle.operations.specs.Object.{meta, node, flag, Val, root, taken, free, Writes}
+use Rattle.operations.specs.Slot.{take_on, take_node, release}
 use Rattle.operations.specs.Path.{TreePlan}
 use Rattle.operations.specs.Migrate.{moved}
-use Rattle.walk.specs.declared.search.Taken.{Taken}
 use Rattle.walk.specs.declared.walk.Stop.{Stop}
 use Rattle.client.specs.Layout.{ClientWord}
 use Rattle.client.specs.Record.{in_store, value_of, metadata, record_of}
 use Rattle.client.specs.Lent.{OwnFits, own_put, used_in}
-use Rattle.walk.specs.Walk.{told, goes, walked, carry}
+use Rattle.walk.specs.Walk.{Course, Going, Ended, walked, carry}
 use Rattle.walk.specs.Ask.{SmallNode, OwnGood, HoldsWrites}
-use Rattle.walk.specs.Laws.Down.{stops_not}
 use Rattle.walk.specs.Laws.Ask.{name_below}
 use Rattle.walk.specs.Take.{NodeTaken, Released, Wrote}
 use Rattle.walk.specs.Laws.Take.{wrote}
 use Rattle.walk.specs.Search.{TakenOn}
 use Rattle.walk.specs.Laws.Search.{row_is}
-use Rattle.walk.specs.Laws.Mute.{Mute, walked_mute, take_on_mute, take_node_mute, release_mute}
-use Rattle.walk.specs.Walk.{stands}
 use Rattle.change.specs.Rise.{NodeWritten}
-use Rattle.change.specs.Move.{beside, Beside, Placed, Left, Moved}
-use Rattle.plans.specs.Plan as P
-
--- a stop is no answer
-moved_mute : (slots nm s : ℕ) (v : Val) (b : Bool) (states : ℕ) → Mute (moved slots nm s v (beside b states) (λ d w. P.fail no_tree))
-unfolding Mute
-moved_mute slots nm s v b states =
-    take_on_mute slots (s ∷ []) (slot_of nm) [] (λ d w. take_node w d (release (beside b states d w) nm (λ w'. P.fail no_tree)))
-    (λ d w. take_node_mute w d (release (beside b states d w) nm (λ w'. P.fail no_tree)) (release_mute (beside b states d w) nm (λ w'. P.fail no_tree) (λ w'. tt)))
-
-pub moved_stops : (slots : ℕ) (m : ClientWord → ℕ) (x u : List ℕ) (nm s : ℕ) (n : Node) (b : Bool) (states : ℕ) (r : Taken) (x' u' : List ℕ) → Moved slots m x u nm s n b states r x' u'
-    → HoldsWrites slots x [] → goes r.stop ≡ false → stands r.stop ≡ false
-moved_stops slots m x u nm s n b states r x' u' h hold q =
-    let e : walked slots m (moved slots nm s (value_of (node nm) n) (beside b states) (λ d w. P.fail no_tree)) (used_in u) ≡ told r.stop (used_in u') = rw (h.asks hold (λ d w. P.fail no_tree), q) in
-    rw e at (walked_mute slots m (moved slots nm s (value_of (node nm) n) (beside b states) (λ d w. P.fail no_tree)) (moved_mute slots nm s (value_of (node nm) n) b states) (used_in u))
+use Rattle.change.specs.Laws.Rise.{never}
+use Rattle.change.specs.Move.{beside, Beside, Placed, Left, moves, Moved}
 
 -- ---- the metadata
 root_value : (d states : ℕ) → value_of meta (metadata 0 d states) ≡ root d states
@@ -56,28 +38,25 @@ metadata_small : (d states : ℕ) → SmallNode (metadata 0 d states)
 unfolding metadata made
 metadata_small d states = record { keys = omega arith; level = omega arith }
 
-module _ (x : List ℕ) (b : Bool) (states d : ℕ) (g : OwnGood x) where
-  pub nothing_beside : not b ≡ true → Beside x b states d x
-  nothing_beside nb = rw (not-true b nb) (record { holds = λ slots w hold. hold; good = g; few = omega arith })
+module _ (x : List ℕ) (d : ℕ) (g : OwnGood x) where
+  pub nothing_beside : Beside x None d x
+  nothing_beside = record { holds = λ slots w hold. hold; good = g; few = omega arith }
 
-  pub root_beside : (q : Node) (x' : List ℕ) → not b ≡ false → get_or x 0 0 < 20 → q ≡ metadata 0 d states → length q.keys ≡ 14 → length q.slots ≡ 15
-      → x' ≡ own_put x 0 q → OwnFits x' → Beside x b states d x'
-  root_beside q x' nb few pq lk ls px f =
+  pub root_beside : (states : ℕ) (q : Node) (x' : List ℕ) → get_or x 0 0 < 20 → q ≡ metadata 0 d states → length q.keys ≡ 14 → length q.slots ≡ 15
+      → x' ≡ own_put x 0 q → OwnFits x' → Beside x (Some states) d x'
+  root_beside states q x' few pq lk ls px f =
       let h : Wrote x meta (root d states) x' = wrote x g few 0 q x' px f lk ls meta (root d states) refl (rw pq (root_value d states)) (pq ∙ root_record d states) (rw pq (metadata_small d states)) in
-      rw (not-false b nb) (record { holds = λ slots w hold. h.holds slots w refl hold; good = h.good; few = h.few })
+      record { holds = λ slots w hold. h.holds slots w refl hold; good = h.good; few = h.few }
 
 pub ruleset beside_exits = (nothing_beside, root_beside)
 
 -- ---- a slot of the server
-module _ (slots : ℕ) (m : ClientWord → ℕ) (x u : List ℕ) (s slot : ℕ) (near : s < 8) (t : Taken) (x₁ u₁ : List ℕ) (on : TakenOn slots m x u (take 1 (row s)) slot t x₁ u₁) (c : Bool) (pc : c ≡ goes t.stop) where
-  one : TakenOn slots m x u (s ∷ []) slot t x₁ u₁
-  one = rw (← (row_is s near).1) on
-
-  pub place_none : not c ≡ true → Placed slots m x u s slot t x₁ u₁
-  place_none nc =
-      let no : goes t.stop ≡ false = sym pc ∙ not-true c nc in
+module _ (slots : ℕ) (m : ClientWord → ℕ) (x u : List ℕ) (s slot : ℕ) (near : s < 8) (x₁ u₁ : List ℕ) where
+  pub place_none : (e : Stop) → TakenOn slots m x u (take 1 (row s)) slot (Err e) x₁ u₁ → Placed slots m x u s slot (Err e) x₁ u₁
+  place_none e on =
+      let one : TakenOn slots m x u (s ∷ []) slot (Err e) x₁ u₁ = rw (← (row_is s near).1) on in
       record {
-        asks = λ w hold k. rw (one.asks w hold (λ d w'. take_node w' d (k d w')), no);
+        asks = λ w hold k. one.asks w hold (λ d w'. take_node w' d (k d w'));
         holds = one.holds;
         good = one.good;
         few = one.few;
@@ -85,32 +64,42 @@ module _ (slots : ℕ) (m : ClientWord → ℕ) (x u : List ℕ) (s slot : ℕ) 
         noted = one.noted;
       }
 
-  module _ (nc : not c ≡ false) where
-    slot_on : goes t.stop ≡ true
-    slot_on = sym pc ∙ not-false c nc
+  module _ (d : ℕ) (on : TakenOn slots m x u (take 1 (row s)) slot (Ok d) x₁ u₁) where
+    one : TakenOn slots m x u (s ∷ []) slot (Ok d) x₁ u₁
+    one = rw (← (row_is s near).1) on
 
     pub place_good : OwnGood x₁
-    place_good = one.good slot_on
+    place_good = one.good refl
 
-    module _ (s₂ : Stop) (u₂ : List ℕ) (e : NodeTaken slots m x₁ u₁ t.name s₂ u₂) where
-      pub place_taken : Placed slots m x u s slot (record { stop = s₂; name = t.name }) x₁ u₂
-      place_taken = record {
-        asks = λ w hold k. rw (
-          one.asks w hold (λ d w'. take_node w' d (k d w')),
-          slot_on,
-          e.asks ((flag t.name, taken true) ∷ w) (one.holds slot_on w hold) (k t.name ((flag t.name, taken true) ∷ w)),
-        );
-        holds = λ _. one.holds slot_on;
-        good = λ _. one.good slot_on;
-        few = one.few;
-        inside = λ _. one.inside slot_on;
-        noted = e.noted;
-      }
+    place_asks : (t : Course) (u₂ : List ℕ) → NodeTaken slots m x₁ u₁ d t u₂ → (w : Writes) → HoldsWrites slots x w → (k : ℕ → Writes → TreePlan)
+        → walked slots m (take_on slots (s ∷ []) slot w (λ d w'. take_node w' d (k d w'))) (used_in u) ≡ carry t (used_in u₂) (λ us. walked slots m (k d ((flag d, taken true) ∷ w)) us)
+    place_asks t u₂ e w hold k =
+        one.asks w hold (λ d w'. take_node w' d (k d w')) ∙ e.asks ((flag d, taken true) ∷ w) (one.holds refl w hold) (k d ((flag d, taken true) ∷ w))
 
-pub ruleset place_exits = (place_none, place_good, place_taken)
+    pub place_unfree : (e : Stop) (u₂ : List ℕ) → NodeTaken slots m x₁ u₁ d (Ended e) u₂ → Placed slots m x u s slot (Err e) x₁ u₂
+    place_unfree e u₂ v = record {
+      asks = place_asks (Ended e) u₂ v;
+      holds = λ t. never t;
+      good = λ t. never t;
+      few = one.few;
+      inside = λ t. never t;
+      noted = v.noted;
+    }
+
+    pub place_taken : (u₂ : List ℕ) → NodeTaken slots m x₁ u₁ d Going u₂ → Placed slots m x u s slot (Ok d) x₁ u₂
+    place_taken u₂ v = record {
+      asks = place_asks Going u₂ v;
+      holds = one.holds;
+      good = one.good;
+      few = one.few;
+      inside = one.inside;
+      noted = v.noted;
+    }
+
+pub ruleset place_exits = (place_none, place_good, place_unfree, place_taken)
 
 -- ---- the old slot
-module _ (x : List ℕ) (b : Bool) (states d : ℕ) (x₁ : List ℕ) (f : Beside x b states d x₁) where
+module _ (x : List ℕ) (b : Option ℕ) (d : ℕ) (x₁ : List ℕ) (f : Beside x b d x₁) where
   pub leave_good : OwnGood x₁
   leave_good = f.good
 
@@ -118,80 +107,85 @@ module _ (x : List ℕ) (b : Bool) (states d : ℕ) (x₁ : List ℕ) (f : Besid
     pub leave_room : get_or x₁ 0 0 < 19
     leave_room = omega (arith, f.few)
 
-    pub leave_last_room : (slots : ℕ) (m : ClientWord → ℕ) (u : List ℕ) (nm : ℕ) (s : Stop) (x₂ u₂ : List ℕ) → Released slots m x₁ u nm s x₂ u₂ → get_or x₂ 0 0 < 20
+    pub leave_last_room : (slots : ℕ) (m : ClientWord → ℕ) (u : List ℕ) (nm : ℕ) (s : Course) (x₂ u₂ : List ℕ) → Released slots m x₁ u nm s x₂ u₂ → get_or x₂ 0 0 < 20
     leave_last_room slots m u nm s x₂ u₂ h = omega (arith, f.few, h.few)
 
-module _ (slots : ℕ) (m : ClientWord → ℕ) (x u : List ℕ) (nm d : ℕ) (n : Node) (b : Bool) (states : ℕ) (few : get_or x 0 0 < 16) (x₁ : List ℕ) (f : Beside x b states d x₁) where
-  module _ (s : Stop) (x₂ u₂ : List ℕ) (h : Released slots m x₁ u nm s x₂ u₂) (c : Bool) (pc : c ≡ goes s) where
-    freed : (w : Writes) → HoldsWrites slots x w → (k : Writes → TreePlan)
-        → walked slots m (release (beside b states d w) nm (λ w'. k ((node d, value_of (node nm) n) ∷ w'))) (used_in u)
-        ≡ carry s (used_in u₂) (λ us. walked slots m (k ((node d, value_of (node nm) n) ∷ (node nm, free) ∷ (flag nm, taken false) ∷ beside b states d w)) us)
-    freed w hold k = h.asks (beside b states d w) (f.holds slots w hold) (λ w'. k ((node d, value_of (node nm) n) ∷ w'))
+module _ (slots : ℕ) (m : ClientWord → ℕ) (x u : List ℕ) (nm d : ℕ) (n : Node) (b : Option ℕ) (few : get_or x 0 0 < 16) (x₁ : List ℕ) (f : Beside x b d x₁) (x₂ u₂ : List ℕ) where
+  freed : (s : Course) → Released slots m x₁ u nm s x₂ u₂ → (w : Writes) → HoldsWrites slots x w → (k : Writes → TreePlan)
+      → walked slots m (release (beside b d w) nm (λ w'. k ((node d, value_of (node nm) n) ∷ w'))) (used_in u)
+      ≡ carry s (used_in u₂) (λ us. walked slots m (k ((node d, value_of (node nm) n) ∷ (node nm, free) ∷ (flag nm, taken false) ∷ beside b d w)) us)
+  freed s h w hold k = h.asks (beside b d w) (f.holds slots w hold) (λ w'. k ((node d, value_of (node nm) n) ∷ w'))
 
-    pub leave_stops : not c ≡ true → Left slots m x u nm d n b states s x₂ u₂
-    leave_stops nc =
-        let no : goes s ≡ false = sym pc ∙ not-true c nc in
-        record { asks = freed; holds = λ g. stops_not s no g; good = λ g. stops_not s no g; few = λ g. stops_not s no g; noted = h.noted }
+  pub leave_stops : (e : Stop) → Released slots m x₁ u nm (Ended e) x₂ u₂ → Left slots m x u nm d n b (Ended e) x₂ u₂
+  leave_stops e h = record { asks = freed (Ended e) h; holds = λ g. never g; good = λ g. never g; few = λ g. never g; noted = h.noted }
 
-    pub leave_done : (x₃ : List ℕ) → not c ≡ false → in_store slots d ≡ true → SmallNode n → NodeWritten x₂ d n x₃ → Left slots m x u nm d n b states s x₃ u₂
-    leave_done x₃ nc there small q =
-        let on : goes s ≡ true = sym pc ∙ not-false c nc in
-        let y : Wrote x₂ (node d) (value_of (node d) n) x₃ = q.wrote small.level in
-        record {
-          asks = freed;
-          holds = λ _ w hold. y.holds slots ((node nm, free) ∷ (flag nm, taken false) ∷ beside b states d w) there (h.holds on (beside b states d w) (f.holds slots w hold));
-          good = λ _. y.good;
-          few = λ _. omega (arith, f.few, h.few, y.few);
-          noted = h.noted;
-        }
+  pub leave_done : Released slots m x₁ u nm Going x₂ u₂ → (x₃ : List ℕ) → in_store slots d ≡ true → SmallNode n → NodeWritten x₂ d n x₃ → Left slots m x u nm d n b Going x₃ u₂
+  leave_done h x₃ there small q =
+      let y : Wrote x₂ (node d) (value_of (node d) n) x₃ = q.wrote small.level in
+      record {
+        asks = freed Going h;
+        holds = λ _ w hold. y.holds slots ((node nm, free) ∷ (flag nm, taken false) ∷ beside b d w) there (h.holds refl (beside b d w) (f.holds slots w hold));
+        good = λ _. y.good;
+        few = λ _. omega (arith, f.few, h.few, y.few);
+        noted = h.noted;
+      }
 
-pub leave_last_good : (slots : ℕ) (m : ClientWord → ℕ) (x u : List ℕ) (nm : ℕ) (s : Stop) (x' u' : List ℕ) (c : Bool) → Released slots m x u nm s x' u' → c ≡ goes s → not c ≡ false → OwnGood x'
-leave_last_good slots m x u nm s x' u' c h pc nc = h.good (sym pc ∙ not-false c nc)
+pub leave_last_good : (slots : ℕ) (m : ClientWord → ℕ) (x u : List ℕ) (nm : ℕ) (x' u' : List ℕ) → Released slots m x u nm Going x' u' → OwnGood x'
+leave_last_good slots m x u nm x' u' h = h.good refl
 
 pub ruleset leave_exits = (leave_room, leave_good, leave_stops, leave_last_room, leave_last_good, leave_done, name_below)
 
 -- ---- the whole move
-module _ (slots : ℕ) (m : ClientWord → ℕ) (x u : List ℕ) (s slot : ℕ) (t : Taken) (x₁ u₁ : List ℕ) (a : Placed slots m x u s slot t x₁ u₁) where
+module _ (slots : ℕ) (m : ClientWord → ℕ) (x u : List ℕ) (s slot d : ℕ) (x₁ u₁ : List ℕ) (a : Placed slots m x u s slot (Ok d) x₁ u₁) where
   pub move_room : get_or x 0 0 ≡ 0 → get_or x₁ 0 0 < 16
   move_room empty = omega (arith, a.few)
 
-  module _ (c : Bool) (pc : c ≡ goes t.stop) (nc : not c ≡ false) where
-    pub move_good : OwnGood x₁
-    move_good = a.good (sym pc ∙ not-false c nc)
+  pub move_good : OwnGood x₁
+  move_good = a.good refl
 
-    pub move_there : in_store slots t.name ≡ true
-    move_there = a.inside (sym pc ∙ not-false c nc)
+  pub move_there : in_store slots d ≡ true
+  move_there = a.inside refl
 
-module _ (slots : ℕ) (m : ClientWord → ℕ) (x u : List ℕ) (nm s : ℕ) (n : Node) (b : Bool) (states : ℕ) (empty : get_or x 0 0 ≡ 0) (k : ℕ) (l : k ≡ slot_of nm) (t : Taken) (x₁ u₁ : List ℕ) (placed : Placed slots m x u s k t x₁ u₁) (c : Bool) (pc : c ≡ goes t.stop) where
+module _ (slots : ℕ) (m : ClientWord → ℕ) (x u : List ℕ) (nm s : ℕ) (n : Node) (b : Option ℕ) (empty : get_or x 0 0 ≡ 0) (i : ℕ) (l : i ≡ slot_of nm) (x₁ u₁ : List ℕ) where
   abbrev v : Val
   v = value_of (node nm) n
 
-  a : Placed slots m x u s (slot_of nm) t x₁ u₁
-  a = rw (← l) placed
-
-  pub move_no_place : not c ≡ true → Moved slots m x u nm s n b states t x₁ u₁
-  move_no_place nc =
-      let no : goes t.stop ≡ false = sym pc ∙ not-true c nc in
+  pub move_no_place : (e : Stop) → Placed slots m x u s i (Err e) x₁ u₁ → Moved slots m x u nm s n b (Err e) x₁ u₁
+  move_no_place e placed =
+      let a : Placed slots m x u s (slot_of nm) (Err e) x₁ u₁ = rw (← l) placed in
       record {
-        asks = λ hold k. rw (a.asks [] hold (λ d w. release (beside b states d w) nm (λ w'. k d ((node d, v) ∷ w'))), no);
-        holds = λ g. stops_not t.stop no g;
-        good = λ g. stops_not t.stop no g;
-        few = λ g. stops_not t.stop no g;
+        asks = λ hold k. a.asks [] hold (λ d w. release (beside b d w) nm (λ w'. k d ((node d, v) ∷ w')));
+        holds = λ g. never g;
+        good = λ g. never g;
+        few = λ g. never g;
         noted = a.noted;
       }
 
-  module _ (nc : not c ≡ false) where
-    place_on : goes t.stop ≡ true
-    place_on = sym pc ∙ not-false c nc
+  module _ (d : ℕ) (placed : Placed slots m x u s i (Ok d) x₁ u₁) (x₂ u₂ : List ℕ) where
+    a : Placed slots m x u s (slot_of nm) (Ok d) x₁ u₁
+    a = rw (← l) placed
 
-    pub moved_all : (s₂ : Stop) (x₂ u₂ : List ℕ) → Left slots m x₁ u₁ nm t.name n b states s₂ x₂ u₂ → Moved slots m x u nm s n b states (record { stop = s₂; name = t.name }) x₂ u₂
-    moved_all s₂ x₂ u₂ h = record {
-      asks = λ hold k. rw (a.asks [] hold (λ d w. release (beside b states d w) nm (λ w'. k d ((node d, v) ∷ w'))), place_on)
-          (h.asks ((flag t.name, taken true) ∷ []) (a.holds place_on [] hold) (λ w'. k t.name w'));
-      holds = λ on hold. h.holds on ((flag t.name, taken true) ∷ []) (a.holds place_on [] hold);
+    move_asks : (t : Course) → Left slots m x₁ u₁ nm d n b t x₂ u₂ → HoldsWrites slots x [] → (k : ℕ → Writes → TreePlan)
+        → walked slots m (moved slots nm s (value_of (node nm) n) (beside b) k) (used_in u) ≡ carry t (used_in u₂) (λ us. walked slots m (k d (moves nm (value_of (node nm) n) b d)) us)
+    move_asks t h hold k =
+        a.asks [] hold (λ d w. release (beside b d w) nm (λ w'. k d ((node d, v) ∷ w'))) ∙ h.asks ((flag d, taken true) ∷ []) (a.holds refl [] hold) (λ w'. k d w')
+
+    pub move_stays : (e : Stop) → Left slots m x₁ u₁ nm d n b (Ended e) x₂ u₂ → Moved slots m x u nm s n b (Err e) x₂ u₂
+    move_stays e h = record {
+      asks = move_asks (Ended e) h;
+      holds = λ g. never g;
+      good = λ g. never g;
+      few = λ g. never g;
+      noted = h.noted;
+    }
+
+    pub moved_all : Left slots m x₁ u₁ nm d n b Going x₂ u₂ → Moved slots m x u nm s n b (Ok d) x₂ u₂
+    moved_all h = record {
+      asks = move_asks Going h;
+      holds = λ on hold. h.holds on ((flag d, taken true) ∷ []) (a.holds refl [] hold);
       good = h.good;
       few = λ on. omega (arith, a.few, h.few on);
       noted = h.noted;
     }
 
-pub ruleset move_exits = (move_no_place, move_room, move_good, move_there, moved_all)
+pub ruleset move_exits = (move_no_place, move_room, move_good, move_there, move_stays, moved_all)

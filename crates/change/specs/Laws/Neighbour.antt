@@ -1,5 +1,5 @@
 -- Laws of the turn to a neighbour.
-use Rattle.std.specs.Prelude.{◌≡◌, Bool, cond, not, List, [], ◌∷◌, ltb}
+use Rattle.std.specs.Prelude.{◌≡◌, Bool, cond, List, [], ◌∷◌, ltb, Result, Ok, Err}
 use Rattle.std.proofs.Math.Path.{refl, sym, ap}
 use Rattle.std.proofs.Common.{◌∙◌}
 use Rattle.std.proofs.Math.Bool.{true, false}
@@ -7,7 +7,7 @@ use Prim.Native.Nat.{ℕ, zero, suc, ◌+◌, ◌≤◌, ◌<◌}
 use native.Mathlib.Omega.{arith}
 use Rattle.std.proofs.Math.ListN.{length, get_or, set}
 use Rattle.std.proofs.Math.Seq.{get_or-take}
-use borrow.Author.Tests.{lt-ltb, le-ltb, not-true, not-false}
+use borrow.Author.Tests.{lt-ltb, le-ltb}
 use Rattle.nodes.specs.declared.node.Node.{Node}
 use Rattle.nodes.specs.declared.change.Wide.{Wide}
 use Rattle.nodes.specs.declared.change.Halves.{Halves}
@@ -23,20 +23,20 @@ use Rattle.operations.specs.Change.{Go, with_two, parted}
 use Rattle.walk.specs.declared.down.Turn.{Turn}
 use Rattle.change.specs.declared.neighbour.Sides.{Sides}
 use Rattle.change.specs.declared.rise.Risen.{Risen}
+use Rattle.change.specs.declared.rise.Risen.TheVariants.{Up}
 use Rattle.walk.specs.declared.walk.Stop.{Stop}
-use Rattle.walk.specs.declared.walk.Stop.TheVariants.{Going, Aborts}
+use Rattle.walk.specs.declared.walk.Stop.TheVariants.{Aborts}
 use Rattle.client.specs.Layout.{ClientWord}
 use Rattle.client.specs.Record.{in_store, value_of}
 use Rattle.client.specs.Lent.{used_in}
 use Rattle.walk.specs.Entries.{branch_of, Below}
 use Rattle.walk.specs.Laws.Entries.{extra_inner, below_true, open_leaf, open_inner}
-use Rattle.walk.specs.Walk.{Told, told, goes, walked}
+use Rattle.walk.specs.Walk.{Going, Ended, walked}
 use Rattle.walk.specs.Laws.Walk.{walked_fails}
 use Rattle.walk.specs.Ask.{SmallNode, HoldsWrites, Noted}
 use Rattle.walk.specs.Down.{Kid}
-use Rattle.walk.specs.Laws.Mute.{Mute, walked_mute, kid_mute}
 use Rattle.change.specs.Rise.{OfLevel, Raised, Under, Fitting, BothWritten, widened, neighbour_plan}
-use Rattle.change.specs.Laws.Rise.{of_level_value, stopped_raised}
+use Rattle.change.specs.Laws.Rise.{of_level_value, ended_raised}
 use Rattle.change.specs.Laws.Parts.{key_level, widened_entries, widened_content}
 use Rattle.change.specs.Beside.{own_side, far_side, pair_of, evened}
 use Rattle.change.specs.Laws.Beside.{only_child, turns, turns_to_itself, key_between}
@@ -49,7 +49,7 @@ use Rattle.plans.specs.Plan as P
 use Rattle.operations.specs.Change as C
 
 -- a plan that is walked as another is
-raised_as : (slots : ℕ) (m : ClientWord → ℕ) (x u u₁ : List ℕ) (l : ℕ) (root : Bool) (p q : ℕ → List Branch → Writes → Go → TreePlan) (r : Risen) (x' u' : List ℕ)
+raised_as : (slots : ℕ) (m : ClientWord → ℕ) (x u u₁ : List ℕ) (l : ℕ) (root : Bool) (p q : ℕ → List Branch → Writes → Go → TreePlan) (r : Result Risen Stop) (x' u' : List ℕ)
     → ((w : Writes) → HoldsWrites slots x w → (lo : ℕ) (fs : List Branch) (go : Go) → walked slots m (p lo fs w go) (used_in u) ≡ walked slots m (q lo fs w go) (used_in u₁))
     → Raised slots m x u₁ l root q r x' u' → Raised slots m x u l root p r x' u'
 raised_as slots m x u u₁ l root p q r x' u' e d = record {
@@ -98,7 +98,7 @@ module _ (slots : ℕ) (m : ClientWord → ℕ) (x u : List ℕ) (root : Bool) (
   even_is l lo fn fk seven fs w go =
       rw (← ps) (evened_is l n k sep fn fk (omega arith) (a, c, []) fs go s.last w (pair_in b s lo) s.left s.right (pair_in b s lo).key)
 
-  pub even_merges : (one : Node) (r : Risen) (x₁ u₁ : List ℕ) → k.count ≤ 7 → one ≡ joined s.last n sep k → Merges slots m x u root (a, c, []) b s one r x₁ u₁ → Evens slots m x u root (a, c, []) b s n k r x₁ u₁
+  pub even_merges : (one : Node) (r : Result Risen Stop) (x₁ u₁ : List ℕ) → k.count ≤ 7 → one ≡ joined s.last n sep k → Merges slots m x u root (a, c, []) b s one r x₁ u₁ → Evens slots m x u root (a, c, []) b s n k r x₁ u₁
   even_merges one r x₁ u₁ few e d = record {
     raised = λ l v fn fk seven.
         raised_as slots m x u u l root (even_plan (a, c, []) l b s n k) (merge_plan (a, c, []) l b s one) r x₁ u₁
@@ -122,7 +122,7 @@ module _ (slots : ℕ) (m : ClientWord → ℕ) (x u : List ℕ) (root : Bool) (
         ∙ sym (widened_entries (suc l) p (rw pp (key_level (suc l) b.node (parent_level slots b s h l v) s.at h'.sep)) lo)
 
     pub even_shares : (x₁ : List ℕ) (up : Wide) → 7 < k.count → Noted m u → BothWritten x s.left s.right h' x₁ → p.count ≡ b.node.count → up ≡ widened p
-        → Evens slots m x u root (a, c, []) b s n k (record { stop = Going; up = up }) x₁ u
+        → Evens slots m x u root (a, c, []) b s n k (Ok (Up up)) x₁ u
     even_shares x₁ up plenty noted both pc pu = record {
       raised = λ l v fn fk seven. let parts : Halved l h' = rw e (lent_halved l n k sep fn fk (omega arith) s.last) in record {
         more = (node s.right, value_of (node s.right) h'.right) ∷ (node s.left, value_of (node s.left) h'.left) ∷ [];
@@ -180,10 +180,10 @@ below_level zero n h f = record { kind = (open_leaf n h.opened h.level).kind; le
 below_level (suc l) n h f = record { kind = (open_inner n h.opened (omega (arith, h.level))).kind; level = h.level; whole = f }
 
 -- a plan that fails
-fails_raised : (slots : ℕ) (m : ClientWord → ℕ) (x u : List ℕ) (l : ℕ) (root : Bool) (p : ℕ → List Branch → Writes → Go → TreePlan) (r : Risen)
-    → ((lo : ℕ) (fs : List Branch) (w : Writes) (go : Go) → p lo fs w go ≡ P.fail no_tree) → r.stop ≡ Aborts 3 → Noted m u → Raised slots m x u l root p r x u
-fails_raised slots m x u l root p r h e noted =
-    stopped_raised slots m x u l root p r x u (rw e) (λ w hold. rw e) (λ w hold lo fs f go. rw (h lo fs w go, e) (walked_fails slots m (used_in u) no_tree)) noted
+fails_raised : (slots : ℕ) (m : ClientWord → ℕ) (x u : List ℕ) (l : ℕ) (root : Bool) (p : ℕ → List Branch → Writes → Go → TreePlan)
+    → ((lo : ℕ) (fs : List Branch) (w : Writes) (go : Go) → p lo fs w go ≡ P.fail no_tree) → Noted m u → Raised slots m x u l root p (Err (Aborts 3)) x u
+fails_raised slots m x u l root p h noted =
+    ended_raised slots m x u l root p (Aborts 3) x u (λ w hold lo fs f go. rw (h lo fs w go) (walked_fails slots m (used_in u) no_tree)) noted
 
 pub turning_small : (slots l : ℕ) (b : Turn) (name : ℕ) (n : Node) → Under slots l name b → OfLevel l n → n.count ≤ 6 → SmallNode n
 turning_small slots l b name n d f six = record { keys = omega arith; level = omega (arith, f.level, d.link.level, d.followed.small.level) }
@@ -194,11 +194,11 @@ side_name slots l b name s d h =
     d.link.child ∙ ap (λ (i : ℕ). get_or b.node.slots i 0) h.paired.here ∙ side_of s.last (λ i. get_or b.node.slots i 0) s.at (suc s.at)
     ∙ ap (λ (q : ℕ). own_side s.last q (get_or b.node.slots (suc s.at) 0)) (sym h.left) ∙ ap (λ (q : ℕ). own_side s.last s.left q) (sym h.right)
 
-pub met : (slots : ℕ) (m : ClientWord → ℕ) (x u : List ℕ) (l : ℕ) (b : Turn) (name : ℕ) (s : Sides) (other : ℕ) (stop : Stop) (k : Node) (u₁ : List ℕ) (on : Bool)
-    → Under slots l name b → Between b s → other ≡ far_side s.last s.left s.right → Kid slots m x u l other stop k u₁ → on ≡ goes stop → not on ≡ false → Neighbours slots b s
-met slots m x u l b name s other stop k u₁ on d h po kid pg q =
+pub met : (slots : ℕ) (m : ClientWord → ℕ) (x u : List ℕ) (l : ℕ) (b : Turn) (name : ℕ) (s : Sides) (other : ℕ) (k : Node) (u₁ : List ℕ)
+    → Under slots l name b → Between b s → other ≡ far_side s.last s.left s.right → Kid slots m x u l other Going k u₁ → Neighbours slots b s
+met slots m x u l b name s other k u₁ d h po kid =
     let mine : in_store slots (own_side s.last s.left s.right) ≡ true = rw (side_name slots l b name s d h) at d.link.there in
-    let far : in_store slots (far_side s.last s.left s.right) ≡ true = rw po at (kid.inside (sym pg ∙ not-false on q)) in
+    let far : in_store slots (far_side s.last s.left s.right) ≡ true = rw po at (kid.inside refl) in
     let both = both_of (λ q. in_store slots q ≡ true) s.last s.left s.right mine far in
     record { followed = d.followed; there = d.there; between = h; left = both.0; right = both.1 }
 
@@ -206,15 +206,15 @@ module _ (slots l a c : ℕ) (b : Turn) (name : ℕ) (n : Node) (d : Under slots
   abbrev whole_plan : ℕ → List Branch → Writes → Go → TreePlan
   whole_plan = neighbour_plan (a, c, []) l b name (entries_of n)
 
-  pub alone : (m : ClientWord → ℕ) (x u : List ℕ) (root : Bool) (r : Risen) → b.node.count ≡ 0 → r.stop ≡ Aborts 3 → Noted m u → Raised slots m x u l root whole_plan r x u
+  pub alone : (m : ClientWord → ℕ) (x u : List ℕ) (root : Bool) → b.node.count ≡ 0 → Noted m u → Raised slots m x u l root (neighbour_plan (a, c, []) l b name (entries_of n)) (Err (Aborts 3)) x u
   unfolding neighbour_plan branch_of
-  alone m x u root r none e noted =
+  alone m x u root none noted =
       let first : b.at ≡ 0 = omega (arith, d.followed.within) in
-      fails_raised slots m x u l root whole_plan r
+      fails_raised slots m x u l root whole_plan
       (λ lo fs w go.
       ap (λ (i : ℕ). C.neighbour (a, c, []) l fs go w (branch_of b.name i (entries_of b.node lo)) name (entries_of n (get_or (entries_of b.node lo) i (0, 0)).0) (branch_of b.name i (entries_of b.node lo)).post) first
       ∙ only_child (a, c, []) l fs go w b.name (entries_of b.node lo) (entries_of n (get_or (entries_of b.node lo) 0 (0, 0)).0) name (only lo))
-      e noted
+      noted
     where
       only : (lo : ℕ) → length (entries_of b.node lo) ≡ 1
       only lo = let y = extra_inner b.node d.followed.inner in omega (arith, length_entries_of b.node lo d.followed.whole)
@@ -249,14 +249,14 @@ module _ (slots l a c : ℕ) (b : Turn) (name : ℕ) (n : Node) (d : Under slots
         ∙ ap (λ (q : ℕ). turned_at lo fs w go (own_side s.last s.at (suc s.at)) (own_side s.last s.left s.right) q) (own_low lo)
 
     module _ (other : ℕ) (po : other ≡ far_side s.last s.left s.right) where
-      pub itself : (m : ClientWord → ℕ) (x u : List ℕ) (root : Bool) (r : Risen) → other ≡ name → r.stop ≡ Aborts 3 → Noted m u → Raised slots m x u l root whole_plan r x u
-      itself m x u root r e p noted =
+      pub itself : (m : ClientWord → ℕ) (x u : List ℕ) (root : Bool) → other ≡ name → Noted m u → Raised slots m x u l root (neighbour_plan (a, c, []) l b name (entries_of n)) (Err (Aborts 3)) x u
+      itself m x u root e noted =
           let same : s.left ≡ s.right = one_name s.last s.left s.right (sym po ∙ e ∙ side_name slots l b name s d h) in
-          fails_raised slots m x u l root whole_plan r
+          fails_raised slots m x u l root whole_plan
           (λ lo fs w go. by_side lo fs w go
           ∙ turns_to_itself (a, c, []) l fs go w b.name (entries_of b.node lo) (entries_of n (own_side s.last (lows lo) sep)) s.at (both_inside b s d.followed h lo)
           s.left s.right (left_entry b s d.followed h lo) (right_entry b s d.followed h lo) s.last (ends lo) same)
-          p noted
+          noted
 
       module _ (apart : other ≡ name → ⊥) where
         meets : (lo : ℕ) (fs : List Branch) (w : Writes) (go : Go)
@@ -270,27 +270,21 @@ module _ (slots l a c : ℕ) (b : Turn) (name : ℕ) (n : Node) (d : Under slots
             s.left s.right (left_entry b s d.followed h lo) (right_entry b s d.followed h lo) s.last (ends lo) two
             ∙ rw (far_low lo, po)
 
-        module _ (m : ClientWord → ℕ) (x u : List ℕ) (root : Bool) (stop : Stop) (k : Node) (u₁ : List ℕ) (asked : Kid slots m x u l other stop k u₁) (on : Bool) (pg : on ≡ goes stop) where
-          pub turn_stops : (r : Risen) → not on ≡ true → r.stop ≡ stop → Raised slots m x u l root whole_plan r x u₁
-          unfolding Mute
-          turn_stops r q e =
-              let f : goes stop ≡ false = sym pg ∙ not-true on q in
-              stopped_raised slots m x u l root whole_plan r x u₁ (rw e f)
-              (λ w hold.
-              let t : walked slots m (kid w l 0 other (λ _. P.fail no_tree)) (used_in u) ≡ told stop (used_in u₁) = rw (asked.asks w hold 0 (λ _. P.fail no_tree), f) in
-              rw (e, ← ap (λ (t : Told). t.stop) t) (walked_mute slots m (kid w l 0 other (λ _. P.fail no_tree)) (kid_mute w l 0 other (λ _. P.fail no_tree) (λ _. tt)) (used_in u)))
-              (λ w hold lo fs t go. rw (meets lo fs w go, asked.asks w hold _ _, f, e)) asked.noted
+        module _ (m : ClientWord → ℕ) (x u : List ℕ) (root : Bool) (k : Node) (u₁ : List ℕ) where
+          pub turn_stops : (e : Stop) → Kid slots m x u l other (Ended e) k u₁ → Raised slots m x u l root (neighbour_plan (a, c, []) l b name (entries_of n)) (Err e) x u₁
+          turn_stops e asked =
+              ended_raised slots m x u l root whole_plan e x u₁ (λ w hold lo fs t go. rw (meets lo fs w go) (asked.asks w hold _ _)) asked.noted
 
-          pub turned : (r : Risen) (x' u' : List ℕ) → not on ≡ false → OfLevel l n → Evens slots m x u₁ root (a, c, []) b s n k r x' u' → Raised slots m x u l root whole_plan r x' u'
+          pub turned : Kid slots m x u l other Going k u₁ → (r : Result Risen Stop) (x' u' : List ℕ) → OfLevel l n → Evens slots m x u₁ root (a, c, []) b s n k r x' u'
+              → Raised slots m x u l root (neighbour_plan (a, c, []) l b name (entries_of n)) r x' u'
           unfolding even_plan pair_of
-          turned r x' u' q f evens =
-              let t : goes stop ≡ true = sym pg ∙ not-false on q in
-              let low : Below l k = below_true l k (asked.fits t) in
+          turned asked r x' u' f evens =
+              let low : Below l k = below_true l k (asked.fits refl) in
               raised_as slots m x u u₁ l root whole_plan (even_plan (a, c, []) l b s n k) r x' u'
-              (λ w hold lo fs go. rw (meets lo fs w go, asked.asks w hold _ _, t))
-              (evens.raised l d.link.level f (below_level l k low (asked.whole t)) low.enough)
+              (λ w hold lo fs go. rw (meets lo fs w go) (asked.asks w hold _ _))
+              (evens.raised l d.link.level f (below_level l k low (asked.whole refl)) low.enough)
 
-pub far_small : (slots : ℕ) (m : ClientWord → ℕ) (x u : List ℕ) (l other : ℕ) (stop : Stop) (k : Node) (u₁ : List ℕ) (on : Bool) → Kid slots m x u l other stop k u₁ → on ≡ goes stop → not on ≡ false → SmallNode k
-far_small slots m x u l other stop k u₁ on asked pg q = asked.small (sym pg ∙ not-false on q)
+pub far_small : (slots : ℕ) (m : ClientWord → ℕ) (x u : List ℕ) (l other : ℕ) (k : Node) (u₁ : List ℕ) → Kid slots m x u l other Going k u₁ → SmallNode k
+far_small slots m x u l other k u₁ asked = asked.small refl
 
 pub ruleset neighbour_exits = (alone, itself, turn_stops, met, turning_small, turned)

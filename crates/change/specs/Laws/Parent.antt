@@ -1,10 +1,9 @@
 -- Laws of a moved node's parent.
-use Rattle.std.specs.Prelude.{◌≡◌, refl, Bool, true, false, not, List, [], ◌∷◌, ℕ, zero, suc, ◌+◌, ◌-◌, ◌≤◌, ◌<◌, drop, get_or, set}
+use Rattle.std.specs.Prelude.{◌≡◌, refl, true, List, [], ◌∷◌, ℕ, zero, suc, ◌+◌, ◌-◌, ◌≤◌, ◌<◌, drop, get_or, set, None, Ok, Err}
 use Rattle.std.proofs.Common.{sym, ◌∙◌, arith, add-one}
 use Rattle.std.proofs.Math.Decide.{ℕ_discrete, dec_lt}
 use Rattle.std.proofs.Math.ListN.{length, length-set, get_or-map}
 use Rattle.std.proofs.lemmas.List.{set_split}
-use Rattle.std.proofs.lemmas.Bool.{not-true, not-false}
 use Rattle.base.proofs.Laws.Test.{of_yes, of_no, ifd_yes, ifd_no}
 use Rattle.base.specs.Test.{ifd}
 use Rattle.nodes.specs.declared.node.Node.{Node}
@@ -19,7 +18,6 @@ use Rattle.operations.specs.Entry.{Entries, keys, node_value}
 use Rattle.operations.specs.Path.{TreePlan, Branch, Cont, down}
 use Rattle.operations.specs.Migrate.{move_at, to_level}
 use Rattle.walk.specs.declared.down.Turn.{Turn}
-use Rattle.walk.specs.declared.search.Taken.{Taken}
 use Rattle.walk.specs.declared.walk.Stop.{Stop}
 use Rattle.walk.specs.declared.walk.Stop.TheVariants.{Aborts}
 use Rattle.client.specs.Layout.{ClientWord}
@@ -27,20 +25,17 @@ use Rattle.client.specs.Record.{in_store, value_of}
 use Rattle.client.specs.Lent.{used_in}
 use Rattle.walk.specs.Entries.{opens, Inner}
 use Rattle.walk.specs.Laws.Entries.{open_inner, extra_inner, cut_at_is, keys_later, entry_slot, entry_keys, stored_node}
-use Rattle.walk.specs.Walk.{goes}
+use Rattle.walk.specs.Walk.{Course, Going, Ended}
 use Rattle.walk.specs.Laws.Walk.{walked_fails}
 use Rattle.walk.specs.Ask.{OwnGood, Noted}
-use Rattle.walk.specs.Laws.Down.{stops_not}
-use Rattle.walk.specs.Down.{Arrival, RootMet, From, Stops, Led, Linked, trail, Reached}
+use Rattle.walk.specs.Down.{Arrival, no_arrival, RootMet, From, Stops, Led, Linked, trail, Reached}
 use Rattle.walk.specs.Laws.Ask.{name_below}
 use Rattle.walk.specs.Take.{Wrote}
-use Rattle.walk.specs.Walk.{stands}
 use Rattle.walk.specs.Lookup.{Ends}
-use Rattle.walk.specs.Laws.Lookup.{ended_nothing}
 use Rattle.change.specs.Rise.{NodeWritten}
 use Rattle.change.specs.Laws.Operated.{walks_operated}
+use Rattle.change.specs.Laws.Rise.{never}
 use Rattle.change.specs.Move.{moves, Moved}
-use Rattle.change.specs.Laws.Move.{moved_stops}
 use Rattle.change.specs.Parent.{Parent, ToParent, with_child, child_plan, ChildMoved, MovedAt}
 use Rattle.plans.specs.Plan as P
 use Rattle.nodes.specs.Entries as N
@@ -69,42 +64,36 @@ module _ (p : Node) (f : Whole p) (o : opens p ≡ true) (i d : ℕ) (q : Node) 
       rw (a, ← b, ← with_level) (stored_node q lo up with_whole with_opens)
 
 -- ---- the child moved, and the parent written
-module _ (slots : ℕ) (m : ClientWord → ℕ) (x u : List ℕ) (nm s : ℕ) (n : Node) (states up : ℕ) (p : Node) (at : ℕ) (t : Taken) (x₁ u₁ : List ℕ) (h : Moved slots m x u nm s n false states t x₁ u₁) (b : Bool) (pb : b ≡ goes t.stop) where
+module _ (slots : ℕ) (m : ClientWord → ℕ) (x u : List ℕ) (nm s : ℕ) (n : Node) (up : ℕ) (p : Node) (at : ℕ) (x₁ u₁ : List ℕ) where
   abbrev v : Val
   v = value_of (node nm) n
 
   abbrev after : ℕ → ℕ → Writes → TreePlan
   after lo d w = P.done ((1, d, []), (node up, node_value p.level (with_child (entries_of p lo) at d)) ∷ w)
 
-  pub child_stops : not b ≡ true → ChildMoved slots m x u nm s n up p at t.stop x₁ u₁
-  child_stops nb =
-      let q : goes t.stop ≡ false = sym pb ∙ not-true b nb in
-      record {
-        operated = λ lo. record {
-          writes = [];
-          same = λ hold. rw (h.asks hold (after lo), q) (sym (ended_nothing t.stop (used_in u₁)));
-          holds = λ g hold. never (moved_stops slots m x u nm s n false states t x₁ u₁ h hold q) g;
-          kept = λ g hold. never (moved_stops slots m x u nm s n false states t x₁ u₁ h hold q) g;
-          noted = h.noted;
-        };
-      }
-    where
-      never : {A : Type 0} → stands t.stop ≡ false → stands t.stop ≡ true → A
-      never p q = let e : false ≡ true = sym p ∙ q in let z : ◌≡◌ {A = ℕ} 0 1 = cc in absurd (omega arith)
+  pub child_stops : (e : Stop) → Moved slots m x u nm s n None (Err e) x₁ u₁ → ChildMoved slots m x u nm s n up p at (Ended e) x₁ u₁
+  child_stops e h = record {
+    operated = λ lo. record {
+      writes = [];
+      same = λ hold. h.asks hold (after lo);
+      holds = λ t. never t;
+      kept = λ t. never t;
+      noted = h.noted;
+    };
+  }
 
-  pub child_done : (l : ℕ) (q : Node) (x₂ : List ℕ) (st : Stop) (u₂ : List ℕ) → not b ≡ false → Parent slots l up p → at ≤ p.count → q ≡ with_slot p at t.name
-      → NodeWritten x₁ up q x₂ → Ends m u₁ 1 t.name st u₂ → ChildMoved slots m x u nm s n up p at st x₂ u₂
-  child_done l q x₂ st u₂ nb f ha e w a =
-      let on : goes t.stop ≡ true = sym pb ∙ not-false b nb in
+  pub child_done : (to : ℕ) → Moved slots m x u nm s n None (Ok to) x₁ u₁ → (l : ℕ) (q : Node) (x₂ : List ℕ) (st : Course) (u₂ : List ℕ) → Parent slots l up p → at ≤ p.count → q ≡ with_slot p at to
+      → NodeWritten x₁ up q x₂ → Ends m u₁ 1 to st u₂ → ChildMoved slots m x u nm s n up p at st x₂ u₂
+  child_done to h l q x₂ st u₂ f ha e w a =
       let i : Inner p = open_inner p f.opened (omega (arith, f.level)) in
-      let y : Wrote x₁ (node up) (value_of (node up) q) x₂ = w.wrote (omega (arith, with_level p f.whole f.opened at t.name q e, f.small.level)) in
-      let k : (lo : ℕ) → node_value p.level (with_child (entries_of p lo) at t.name) ≡ value_of (node up) q =
-      λ lo. child_value p f.whole f.opened at t.name q e lo up (omega (arith, extra_inner p i)) in
+      let y : Wrote x₁ (node up) (value_of (node up) q) x₂ = w.wrote (omega (arith, with_level p f.whole f.opened at to q e, f.small.level)) in
+      let k : (lo : ℕ) → node_value p.level (with_child (entries_of p lo) at to) ≡ value_of (node up) q =
+      λ lo. child_value p f.whole f.opened at to q e lo up (omega (arith, extra_inner p i)) in
       record {
         operated = λ lo. record {
-          writes = (node up, value_of (node up) q) ∷ moves nm v false states t.name;
-          same = λ hold. rw (h.asks hold (after lo), on, k lo) (a.same slots ((node up, value_of (node up) q) ∷ moves nm v false states t.name) []);
-          holds = λ _ hold. y.holds slots (moves nm v false states t.name) f.there (h.holds on hold);
+          writes = (node up, value_of (node up) q) ∷ moves nm v None to;
+          same = λ hold. h.asks hold (after lo) ∙ rw (k lo) (a.same slots ((node up, value_of (node up) q) ∷ moves nm v None to) []);
+          holds = λ _ hold. y.holds slots (moves nm v None to) f.there (h.holds refl hold);
           kept = λ _ hold. record { fit = y.good.fit; few = y.good.few };
           noted = a.noted;
         };
@@ -113,13 +102,11 @@ module _ (slots : ℕ) (m : ClientWord → ℕ) (x u : List ℕ) (nm s : ℕ) (n
 pub child_inside : (slots l up : ℕ) (p : Node) (at : ℕ) → Parent slots l up p → at ≤ p.count → at < p.count + extra p.kind
 child_inside slots l up p at f h = let i : Inner p = open_inner p f.opened (omega (arith, f.level)) in omega (arith, extra_inner p i)
 
-pub child_room : (slots : ℕ) (m : ClientWord → ℕ) (x u : List ℕ) (nm s : ℕ) (n : Node) (b : Bool) (states : ℕ) (t : Taken) (x' u' : List ℕ) (c : Bool) → Moved slots m x u nm s n b states t x' u'
-    → c ≡ goes t.stop → not c ≡ false → get_or x' 0 0 < 20
-child_room slots m x u nm s n b states t x' u' c h pc nc = omega (arith, h.few (sym pc ∙ not-false c nc))
+pub child_room : (slots : ℕ) (m : ClientWord → ℕ) (x u : List ℕ) (nm s : ℕ) (n : Node) (to : ℕ) (x' u' : List ℕ) → Moved slots m x u nm s n None (Ok to) x' u' → get_or x' 0 0 < 20
+child_room slots m x u nm s n to x' u' h = omega (arith, h.few refl)
 
-pub child_good : (slots : ℕ) (m : ClientWord → ℕ) (x u : List ℕ) (nm s : ℕ) (n : Node) (b : Bool) (states : ℕ) (t : Taken) (x' u' : List ℕ) (c : Bool) → Moved slots m x u nm s n b states t x' u'
-    → c ≡ goes t.stop → not c ≡ false → OwnGood x'
-child_good slots m x u nm s n b states t x' u' c h pc nc = h.good (sym pc ∙ not-false c nc)
+pub child_good : (slots : ℕ) (m : ClientWord → ℕ) (x u : List ℕ) (nm s : ℕ) (n : Node) (to : ℕ) (x' u' : List ℕ) → Moved slots m x u nm s n None (Ok to) x' u' → OwnGood x'
+child_good slots m x u nm s n to x' u' h = h.good refl
 
 pub child_name : (slots l up : ℕ) (p : Node) → Parent slots l up p → up < 8192
 child_name slots l up p f = name_below slots up f.there
@@ -147,15 +134,15 @@ module _ (slots : ℕ) (m : ClientWord → ℕ) (x u : List ℕ) (key nm s : ℕ
       let g : suc at ≤ length (entries_of p lo) = omega (arith, length_entries_of p lo f.whole, extra_inner p i) in
       move_at_list slots nm s (value_of (node nm) n) key fs up p.level at (entries_of p lo) i.level (rw q pa) g ∙ rw r
 
-  pub at_elsewhere : (c : ℕ) → OwnGood x → Noted m u → c ≡ get_or p.slots at 0 → (c ≡ nm → ⊥) → MovedAt slots m x u key nm s n up p (Aborts 3) x u
+  pub at_elsewhere : (c : ℕ) → OwnGood x → Noted m u → c ≡ get_or p.slots at 0 → (c ≡ nm → ⊥) → MovedAt slots m x u key nm s n up p (Ended (Aborts 3)) x u
   at_elsewhere c g h q d = record {
-    operated = λ fs lo. walks_operated slots m x u _ (Aborts 3) u g (record {
+    operated = λ fs lo. walks_operated slots m x u _ (Ended (Aborts 3)) u g (record {
       same = rw (at_is fs lo, ifd_no (ℕ_discrete (get_or p.slots at 0) nm) (child_plan slots nm s (value_of (node nm) n) up p.level at (entries_of p lo)) (P.fail no_tree) (λ e. d (q ∙ e))) (walked_fails slots m (used_in u) no_tree);
       noted = h;
     });
   }
 
-  pub at_child : (c : ℕ) (q : Node) (st : Stop) (x' u' : List ℕ) → c ≡ get_or p.slots at 0 → c ≡ nm → q ≡ p → ChildMoved slots m x u nm s n up q at st x' u' → MovedAt slots m x u key nm s n up p st x' u'
+  pub at_child : (c : ℕ) (q : Node) (st : Course) (x' u' : List ℕ) → c ≡ get_or p.slots at 0 → c ≡ nm → q ≡ p → ChildMoved slots m x u nm s n up q at st x' u' → MovedAt slots m x u key nm s n up p st x' u'
   at_child c q st x' u' r e pq t = record {
     operated = λ fs lo.
         rw (at_is fs lo, ifd_yes (ℕ_discrete (get_or p.slots at 0) nm) (child_plan slots nm s (value_of (node nm) n) up p.level at (entries_of p lo)) (P.fail no_tree) (sym r ∙ e)) ((rw pq at t).operated lo);
@@ -181,36 +168,31 @@ linked_there slots l nm (b ∷ bs) h = h.0.there
 level_stops : (t : ℕ) → Stops (to_level t) t
 level_stops t = record { before = λ l h. of_no (ℕ_discrete l t) (λ e. absurd (omega arith)); there = λ h. of_yes (ℕ_discrete t t) refl }
 
-module _ (slots : ℕ) (m : ClientWord → ℕ) (u : List ℕ) (key top l : ℕ) (st : Stop) (r : Node) (u₁ : List ℕ) (h : RootMet slots m u top st r u₁) (b : Bool) (pb : b ≡ goes st) where
+module _ (slots : ℕ) (m : ClientWord → ℕ) (u : List ℕ) (key top l : ℕ) (r : Node) (u₁ : List ℕ) where
   abbrev below : Cont → ℕ → Entries → TreePlan
   below k j es = ifd (dec_lt l j) (down (to_level (suc l)) key k j [] top es) (P.fail no_tree)
 
-  pub parent_no_root : (d : Arrival) → not b ≡ true → d.stop ≡ st → ToParent slots m u key top l d u₁
-  parent_no_root d nb e =
-      let q : goes st ≡ false = sym pb ∙ not-true b nb in
-      record { asks = λ k. rw (h.asks (below k), e, q); noted = h.noted; parent = λ t. stops_not st q (rw e at t) }
+  pub parent_no_root : (e : Stop) → RootMet slots m u top (Ended e) r u₁ → ToParent slots m u key top l (no_arrival e) u₁
+  parent_no_root e h = record { asks = λ k. h.asks (below k); noted = h.noted; parent = λ t. never t }
 
-  module _ (nb : not b ≡ false) where
-    on : goes st ≡ true
-    on = sym pb ∙ not-false b nb
-
-    pub parent_low : (d : Arrival) (v : ℕ) → v ≡ r.level → v ≤ l → d.stop ≡ Aborts 3 → ToParent slots m u key top l d u₁
-    parent_low d v pv g e = record {
-      asks = λ k. rw (h.asks (below k), on, ifd_no (dec_lt l r.level) (down (to_level (suc l)) key k r.level [] top (entries_of r 0)) (P.fail no_tree) (λ a. absurd (omega arith)), e)
+  module _ (h : RootMet slots m u top Going r u₁) where
+    pub parent_low : (v : ℕ) → v ≡ r.level → v ≤ l → ToParent slots m u key top l (no_arrival (Aborts 3)) u₁
+    parent_low v pv g = record {
+      asks = λ k. h.asks (below k) ∙ rw (ifd_no (dec_lt l r.level) (down (to_level (suc l)) key k r.level [] top (entries_of r 0)) (P.fail no_tree) (λ a. absurd (omega arith)))
           (walked_fails slots m (used_in u₁) no_tree);
       noted = h.noted;
-      parent = λ t. stops_not (Aborts 3) refl (rw e at t);
+      parent = λ t. never t;
     }
 
     pub parent_from : (v : ℕ) → v ≡ r.level → l < v → From r (l + 1)
-    parent_from v pv g = record { whole = h.whole on; small = h.small on; opened = h.fits on; above = omega arith }
+    parent_from v pv g = record { whole = h.whole refl; small = h.small refl; opened = h.fits refl; above = omega arith }
 
     pub parent_led : (d : Arrival) (v : ℕ) (u₂ : List ℕ) → v ≡ r.level → l < v → Led slots m u₁ key (l + 1) top r d u₂ → ToParent slots m u key top l d u₂
     parent_led d v u₂ pv g' c =
         let g : l < r.level = omega arith in
         let c' : Led slots m u₁ key (suc l) top r d u₂ = rw add-one at c in
         record {
-          asks = λ k. rw (h.asks (below k), on, ifd_yes (dec_lt l r.level) (down (to_level (suc l)) key k r.level [] top (entries_of r 0)) (P.fail no_tree) g)
+          asks = λ k. h.asks (below k) ∙ rw (ifd_yes (dec_lt l r.level) (down (to_level (suc l)) key k r.level [] top (entries_of r 0)) (P.fail no_tree) g)
               (c'.asks (to_level (suc l)) (level_stops (suc l)) k);
           noted = c'.noted;
           parent = λ t. let e : Reached (suc l) d = c'.reached t in
@@ -219,7 +201,7 @@ module _ (slots : ℕ) (m : ClientWord → ℕ) (u : List ℕ) (key top l : ℕ)
                 small = e.small;
                 opened = e.opened;
                 level = e.level;
-                there = linked_there slots (suc l) d.name (trail d.path (suc l) (d.top - suc l)) (c'.linked (h.inside on) t);
+                there = linked_there slots (suc l) d.name (trail d.path (suc l) (d.top - suc l)) (c'.linked (h.inside refl) t);
               };
         }
 

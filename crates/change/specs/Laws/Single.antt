@@ -1,12 +1,12 @@
 -- Laws of an operation that writes one object or none.
-use Rattle.std.specs.Prelude.{◌≡◌, refl, Bool, true, not, ◌||◌, List, [], ◌∷◌, ℕ, zero, suc, ◌+◌, ◌-◌, ◌≤◌, ◌<◌, eqb, length, get_or}
+use Rattle.std.specs.Prelude.{◌≡◌, refl, Bool, true, not, ◌||◌, List, [], ◌∷◌, ℕ, zero, suc, ◌+◌, ◌-◌, ◌≤◌, ◌<◌, eqb, length, get_or, Option, None, Some, Result, Ok, Err}
 use Rattle.std.proofs.Math.Path.{sym}
 use Rattle.std.proofs.Common.{◌∙◌, ap}
 use Rattle.std.proofs.Math.Bool.{false}
 use Rattle.std.proofs.Math.Option.{none}
 use native.Mathlib.Omega.{arith}
 use Rattle.std.proofs.Math.Dec.{leb}
-use borrow.Author.Tests.{not-true, not-false, eq-eqb, ne_eqb, le-leb, lt-leb, leb-true, le-ltb}
+use borrow.Author.Tests.{not-false, eq-eqb, ne_eqb, le-leb, lt-leb, leb-true, le-ltb}
 use Rattle.base.specs.Test.{and_both}
 use Rattle.nodes.specs.declared.node.Node.{Node}
 use Rattle.nodes.specs.declared.change.Wide.{Wide}
@@ -24,30 +24,31 @@ use Rattle.client.specs.Answered.{put_entry, entered}
 use Rattle.client.specs.Work.{waiting, count_new, versions_there, any_at_last}
 use Rattle.walk.specs.declared.down.Turn.{Turn}
 use Rattle.walk.specs.declared.walk.Stop.{Stop}
-use Rattle.walk.specs.declared.walk.Stop.TheVariants.{Going, LacksMeta, LacksNode, LacksVector, Refused, Aborts, Answers}
-use Rattle.walk.specs.Walk.{goes, is_answer}
+use Rattle.walk.specs.declared.walk.Answer.{Answer}
+use Rattle.walk.specs.Walk.{Course, Going, Ended, Answered, walked}
 use Rattle.walk.specs.Down.{low, branches, trail, blank, turns_in}
 use Rattle.walk.specs.Entries.{branch_of}
-use Rattle.walk.specs.Lookup.{Ends}
+use Rattle.walk.specs.Lookup.{Ends, ended}
 use Rattle.walk.specs.Ask.{write_of}
 use Rattle.walk.specs.Stopped.{Waiting}
-use Rattle.walk.specs.Laws.Down.{stops_not}
-use Rattle.walk.specs.Laws.Lookup.{ended_nothing}
 use Rattle.walk.specs.Laws.Ask.{name_below}
 use Rattle.walk.specs.Laws.Write.{hit_same}
 use Rattle.change.specs.declared.leaf.Changed.{Changed}
+use Rattle.change.specs.declared.single.OneWrite.{OneWrite}
 use Rattle.change.specs.declared.single.Single.{Single}
 use Rattle.change.specs.Rise.{Content}
 use Rattle.change.specs.Level.{level_plan, top_plan}
 use Rattle.change.specs.Laws.Level.{level_written, top_written}
 use Rattle.change.specs.Up.{rise_plan}
 use Rattle.change.specs.Laws.Up.{linked_there}
-use Rattle.change.specs.Leaf.{Changes}
+use Rattle.change.specs.Leaf.{LeafReady, Changes}
 use Rattle.change.specs.Fit.{entries_fit}
 use Rattle.change.specs.Last.{reason_of, last_reason}
 use Rattle.change.specs.Work.{judged}
-use Rattle.change.specs.Laws.Work.{enters_stops, enters_judged}
-use Rattle.change.specs.Single.{single_entries, Unwritten, in_range, Named, LeafWritten, Singly, WorksSingly}
+use Rattle.change.specs.Laws.Work.{enters_stops, enters_refused, enters_answers}
+use Rattle.change.specs.Laws.Rise.{never}
+use Rattle.change.specs.Operated.{Written}
+use Rattle.change.specs.Single.{single_entries, FewKeys, in_range, Named, LeafWritten, Singly, WorksSingly}
 use Rattle.plans.specs.Plan as P
 
 -- ---- is the leaf in range
@@ -100,104 +101,127 @@ out_one slots c v o t f = go (hit (node c) o) refl
     go false p = rw p
 
 -- ---- the ways out of the code that writes it
-module _ (y u : List ℕ) (c : Changed) (on : Bool) (po : on ≡ goes c.stop) where
-  pub leaf_stops : not on ≡ true → (r : Single) → Unwritten c.stop r → LeafWritten y u c r u
+-- nothing is written: no leaf changes
+module _ (y u : List ℕ) where
+  nothing_written : (s : Course) (u' : List ℕ) → Ends (held y) u 0 0 s u' → (slots : ℕ) (p : TreePlan) (u₀ : List ℕ) → Changes slots y u₀ p (Ok None) u → Written slots (held y) u₀ p s [] u'
   unfolding entered
-  leaf_stops nb r w =
-      let halts : goes c.stop ≡ false = sym po ∙ not-true on nb in
-      record {
-        written = λ ng slots p u₀ h. record {
-          writes = [];
-          same = h.asks ∙ rw (halts, w.stop) (sym (ended_nothing c.stop (used_in u)));
-          entries = λ t. rw w.none;
-          out = λ t o e. refl;
-          noted = h.noted;
-        };
-        few = w.few;
-      }
+  nothing_written s u' q slots p u₀ h = record {
+    writes = [];
+    same = h.asks ∙ q.same slots [] [];
+    entries = λ t. refl;
+    out = λ t o e. refl;
+    noted = q.noted;
+  }
 
-  module _ (nb : not on ≡ false) where
-    going : goes c.stop ≡ true
-    going = sym po ∙ not-false on nb
+  pub none_ends : (e : Stop) (u' : List ℕ) → Ends (held y) u 0 0 (Ended e) u' → LeafWritten y u None (Err e) u'
+  none_ends e u' q = record { written = λ ng. nothing_written (Ended e) u' q; few = tt }
 
-    pub leaf_name : Named c → c.way.name < 8192
-    leaf_name h = h going
+  pub none_answers : (z : Answer) (u' : List ℕ) → Ends (held y) u 0 0 (Answered z.a z.b) u' → LeafWritten y u None (Ok (Some (record { answer = z; write = None }))) u'
+  none_answers z u' q = record { written = λ ng. nothing_written (Answered z.a z.b) u' q; few = tt }
 
-    pub leaf_more : (r : Single) → Unwritten Going r → LeafWritten y u c r u
-    leaf_more r w = record { written = λ ng. stops_not r.stop ng (rw w.stop); few = w.few }
+module _ (y u : List ℕ) (c : Changed) where
+  pub leaf_more : LeafWritten y u (Some c) (Ok None) u
+  leaf_more = record { written = λ ng. never (sym ng); few = tt }
 
-    module _ (b : Bool) (pb : b ≡ in_range c.way.top c.content.count) (nr : not b ≡ false) where
-      ranges : in_range c.way.top c.content.count ≡ true
-      ranges = sym pb ∙ not-false b nr
+  module _ (b : Bool) (pb : b ≡ in_range c.way.top c.content.count) (nr : not b ≡ false) where
+    ranges : in_range c.way.top c.content.count ≡ true
+    ranges = sym pb ∙ not-false b nr
 
-      pub leaf_few : c.content.count ≤ 14
-      leaf_few = range_few c.way.top c.content.count ranges
+    pub leaf_few : c.content.count ≤ 14
+    leaf_few = range_few c.way.top c.content.count ranges
 
-      pub leaf_narrow : (n : Node) → n.count ≡ c.content.count → n.count ≤ 14
-      leaf_narrow n e = omega (arith, leaf_few)
+    pub leaf_narrow : (n : Node) → n.count ≡ c.content.count → n.count ≤ 14
+    leaf_narrow n e = omega (arith, leaf_few)
 
-      pub leaf_one : (s : Stop) (u' : List ℕ) → Ends (held y) u c.a 0 s u' → (n v : Node) → n ≡ narrow c.content → v ≡ with_version n 0 → n.count ≡ c.content.count → v.count ≡ n.count → (k : ℕ) → k ≡ 1 + c.way.name
-          → LeafWritten y u c (record { stop = s; written = true; number = k; node = v }) u'
-      unfolding entered put_entry with_version record_of
-      leaf_one s u' q n v pn pv cn cv k pk = record {
-        written = λ ng slots p u₀ h. record {
-          writes = (node c.way.name, value_of (node c.way.name) (narrow c.content)) ∷ [];
-          same = h.asks ∙ rw (going, leaf_plan slots (c.a, 0, []) c.way.top (turns_in y c.way.path) c.way.name c.content (h.ready going).0.content ranges) (q.same slots _ []);
-          entries = λ t. rw (pk, pv, pn);
-          out = λ t o e. out_one slots c.way.name _ o (linked_there slots 0 c.way.name (trail (turns_in y c.way.path) 0 (c.way.top - 0)) (h.ready going).0.linked) e;
-          noted = q.noted;
-        };
-        few = omega (arith, leaf_few);
-      }
+    -- the plan is walked to its end
+    leaf_walked : (s : Course) (u' : List ℕ) → Ends (held y) u c.a 0 s u' → (slots : ℕ) (p : TreePlan) (u₀ : List ℕ) (h : Changes slots y u₀ p (Ok (Some c)) u)
+        → walked slots (held y) p (used_in u₀) ≡ ended s (used_in u') ((node c.way.name, value_of (node c.way.name) (narrow c.content)) ∷ []) []
+    leaf_walked s u' q slots p u₀ h =
+        h.asks ∙ rw (leaf_plan slots (c.a, 0, []) c.way.top (turns_in y c.way.path) c.way.name c.content h.ready.0.content ranges) (q.same slots _ [])
 
-pub ruleset leaf_exits = (leaf_stops, leaf_name, leaf_more, leaf_few, leaf_narrow, leaf_one)
+    pub leaf_ends : (e : Stop) (u' : List ℕ) → Ends (held y) u c.a 0 (Ended e) u' → LeafWritten y u (Some c) (Err e) u'
+    leaf_ends e u' q = record {
+      written = λ ng slots p u₀ h. record {
+        writes = (node c.way.name, value_of (node c.way.name) (narrow c.content)) ∷ [];
+        same = leaf_walked (Ended e) u' q slots p u₀ h;
+        entries = λ t. never t;
+        out = λ t. never t;
+        noted = q.noted;
+      };
+      few = tt;
+    }
+
+    pub leaf_one : (z : Answer) (u' : List ℕ) → Ends (held y) u c.a 0 (Answered z.a z.b) u' → (n v : Node) → n ≡ narrow c.content → v ≡ with_version n 0 → n.count ≡ c.content.count → v.count ≡ n.count
+        → (k : ℕ) → k ≡ 1 + c.way.name → LeafWritten y u (Some c) (Ok (Some (record { answer = z; write = Some (record { number = k; node = v }) }))) u'
+    unfolding entered put_entry with_version record_of
+    leaf_one z u' q n v pn pv cn cv k pk = record {
+      written = λ ng slots p u₀ h. record {
+        writes = (node c.way.name, value_of (node c.way.name) (narrow c.content)) ∷ [];
+        same = leaf_walked (Answered z.a z.b) u' q slots p u₀ h;
+        entries = λ t. rw (pk, pv, pn);
+        out = λ t o e. out_one slots c.way.name _ o (linked_there slots 0 c.way.name (trail (turns_in y c.way.path) 0 (c.way.top - 0)) h.ready.0.linked) e;
+        noted = q.noted;
+      };
+      few = omega (arith, leaf_few);
+    }
+
+pub leaf_name : (c : Changed) → Named (Some c) → c.way.name < 8192
+leaf_name c h = h
+
+pub ruleset leaf_exits = (none_ends, none_answers, leaf_name, leaf_more, leaf_few, leaf_narrow, leaf_ends, leaf_one)
 
 -- ---- by the operation
 module _ (slots : ℕ) (y u : List ℕ) where
   abbrev m : ClientWord → ℕ
   m = held y
 
-  module _ (c : Changed) (u₁ : List ℕ) (h : Changes slots y u (reading slots (waiting (held y))) c u₁) where
-    pub leaf_named : Named c
-    leaf_named t = name_below slots c.way.name (linked_there slots 0 c.way.name (trail (turns_in y c.way.path) 0 (c.way.top - 0)) (h.ready t).0.linked)
+  pub single_ends : (e : Stop) (u₁ : List ℕ) → Changes slots y u (reading slots (waiting (held y))) (Err e) u₁ → Singly slots (held y) u (Err e) u₁
+  single_ends e u₁ h = record {
+    written = λ ng. record { writes = []; same = h.asks; entries = λ t. never t; out = λ t. never t; noted = h.noted };
+    few = tt;
+  }
 
-    pub single_leaf : (r : Single) (u' : List ℕ) → LeafWritten y u₁ c r u' → Singly slots (held y) u r u'
+  module _ (c : Option Changed) (u₁ : List ℕ) (h : Changes slots y u (reading slots (waiting (held y))) (Ok c) u₁) where
+    pub leaf_named : Named c
+    leaf_named = go c h.ready
+      where
+        go : (c : Option Changed) → LeafReady slots y c → Named c
+        go None r = tt
+        go (Some c) r = name_below slots c.way.name (linked_there slots 0 c.way.name (trail (turns_in y c.way.path) 0 (c.way.top - 0)) r.0.linked)
+
+    pub single_leaf : (r : Result (Option Single) Stop) (u' : List ℕ) → LeafWritten y u₁ c r u' → Singly slots (held y) u r u'
     single_leaf r u' q = record { written = λ ng. q.written ng slots (reading slots (waiting m)) u h; few = q.few }
 
-  pub single_moves : (r : Single) → Unwritten Going r → Singly slots (held y) u r u
-  single_moves r w = record { written = λ ng. stops_not r.stop ng (rw w.stop); few = w.few }
+  pub single_moves : Singly slots (held y) u (Ok None) u
+  single_moves = record { written = λ ng. never (sym ng); few = tt }
 
-pub ruleset single_operation = (leaf_named, single_leaf, single_moves)
+pub ruleset single_operation = (single_ends, leaf_named, single_leaf, single_moves)
 
 -- ---- the last questions about it
-module _ (m : ClientWord → ℕ) (r : Single) where
-  pub nothing_asked : not r.written ≡ true → m writes_count ≤ 48 → 0 ≡ last_reason m (single_entries r)
-  unfolding last_reason reason_of entries_fit count_new versions_there any_at_last
-  nothing_asked nw h = let l : m writes_count + 0 ≤ 48 = omega arith in rw (not-true r.written nw, le-ltb _ _ l)
-
-  pub one_asked : not r.written ≡ false → (y : ℕ) → y ≡ last_reason m ((r.number, r.node) ∷ []) → y ≡ last_reason m (single_entries r)
-  one_asked nw y e = rw (not-false r.written nw) e
-
-pub ruleset asked_exits = (nothing_asked, one_asked)
+pub nothing_asked : (m : ClientWord → ℕ) → m writes_count ≤ 48 → Going ≡ judged Going (last_reason m [])
+unfolding judged last_reason reason_of entries_fit count_new versions_there any_at_last
+nothing_asked m h = let l : m writes_count + 0 ≤ 48 = omega arith in rw (le-ltb _ _ l)
 
 -- ---- the work step
-answer_stops : (s : Stop) → is_answer s ≡ true → goes s ≡ false
-answer_stops Going e = sym e
-answer_stops LacksMeta e = refl
-answer_stops (LacksNode n) e = refl
-answer_stops (LacksVector n) e = refl
-answer_stops Refused e = refl
-answer_stops (Aborts y) e = refl
-answer_stops (Answers a b) e = refl
+module _ (slots : ℕ) (m : ClientWord → ℕ) (wait : Waiting m) (u : List ℕ) (none : get_or u 0 0 ≡ 0) (u' : List ℕ) (ku : length u' ≡ length u) where
+  pub single_stops : (e : Stop) → Singly slots m u (Err e) u' → WorksSingly slots m (Err e) u u'
+  single_stops e o = record { enters = λ ng. enters_stops slots m wait u none (Ended e) [] u' ku (o.written refl) refl }
 
-module _ (slots : ℕ) (m : ClientWord → ℕ) (wait : Waiting m) (u : List ℕ) (none : get_or u 0 0 ≡ 0) (r : Single) (u' : List ℕ) (ku : length u' ≡ length u) (o : Singly slots m u r u') (b : Bool) (pb : b ≡ is_answer r.stop) where
-  pub single_stops : not b ≡ true → WorksSingly slots m r u u'
-  single_stops nb = record { enters = λ ng. enters_stops slots m wait u none r.stop (single_entries r) u' ku (o.written ng) (sym pb ∙ not-true b nb) }
+  pub single_more : WorksSingly slots m (Ok None) u u'
+  single_more = record { enters = λ ng. never (sym ng) }
 
-  pub single_judged : not b ≡ false → (y : ℕ) → y ≡ last_reason m (single_entries r) → (t : Stop) → t ≡ judged r.stop y
-      → WorksSingly slots m (record { stop = t; written = r.written; number = r.number; node = r.node }) u u'
-  single_judged nb y py t e =
-      let yes_answer : is_answer r.stop ≡ true = sym pb ∙ not-false b nb in
-      record { enters = λ ng. enters_judged slots m wait u none r.stop (single_entries r) u' ku (o.written (answer_stops r.stop yes_answer)) yes_answer y py t e }
+  module _ (s : Single) (o : Singly slots m u (Ok (Some s)) u') where
+    pub single_few : FewKeys s.write
+    single_few = o.few
 
-pub ruleset single_exits = (single_stops, single_judged)
+    pub single_refused : (e : Stop) → Ended e ≡ judged Going (last_reason m (single_entries s.write)) → WorksSingly slots m (Err e) u u'
+    single_refused e p = record {
+      enters = λ ng. enters_refused slots m wait u none (Answered s.answer.a s.answer.b) (single_entries s.write) u' ku (o.written refl) refl (last_reason m (single_entries s.write)) refl e p [];
+    }
+
+    pub single_answers : Going ≡ judged Going (last_reason m (single_entries s.write)) → WorksSingly slots m (Ok (Some s)) u u'
+    single_answers p = record {
+      enters = λ ng. enters_answers slots m wait u none (Answered s.answer.a s.answer.b) (single_entries s.write) u' ku (o.written refl) refl (last_reason m (single_entries s.write)) refl p;
+    }
+
+pub ruleset single_exits = (single_stops, single_more, single_few, single_refused, single_answers)

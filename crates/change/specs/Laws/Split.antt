@@ -1,9 +1,8 @@
 -- Laws of a node's split below the root.
-use Rattle.std.specs.Prelude.{◌≡◌, refl, Bool, true, false, not, List, [], ◌∷◌, ◌++◌, ℕ, zero, suc, ◌+◌, ◌≤◌, ◌<◌, take, drop, get_or}
+use Rattle.std.specs.Prelude.{◌≡◌, refl, Bool, true, List, [], ◌∷◌, ◌++◌, ℕ, zero, suc, ◌+◌, ◌≤◌, ◌<◌, take, drop, get_or, Result, Ok, Err}
 use Rattle.std.proofs.Math.Path.{sym}
 use Rattle.std.proofs.Common.{◌∙◌, ap, arith, add-one}
 use Rattle.std.proofs.Math.ListN.{length}
-use Rattle.std.proofs.lemmas.Bool.{not-true, not-false}
 use Rattle.nodes.specs.declared.change.Wide.{Wide}
 use Rattle.nodes.specs.declared.change.Halves.{Halves}
 use Rattle.nodes.specs.Lists.{insert_at}
@@ -13,33 +12,28 @@ use Rattle.nodes.specs.Entries.{entries_of, wide_entries}
 use Rattle.nodes.proofs.Laws.Entries.{first}
 use Rattle.nodes.specs.Change.{wide, put_in, cut_at}
 use Rattle.nodes.proofs.Laws.Kept.{length_entries_of, put_in_whole, put_in_entries, split_left, split_right, split_sep}
-use Rattle.operations.specs.Object.{node, flag, taken, no_tree, Writes}
+use Rattle.operations.specs.Object.{node, flag, taken, Writes}
 use Rattle.operations.specs.Slot.{take_for, take_node}
 use Rattle.operations.specs.Entry.{Entries, fewest_entries, first_key_or, kind}
 use Rattle.operations.specs.Path.{TreePlan, Branch}
 use Rattle.operations.specs.Change.{Go, with_two, parted, split}
 use Rattle.walk.specs.declared.down.Turn.{Turn}
-use Rattle.walk.specs.declared.search.Taken.{Taken}
 use Rattle.walk.specs.declared.walk.Stop.{Stop}
-use Rattle.walk.specs.declared.walk.Stop.TheVariants.{Going}
 use Rattle.client.specs.Layout.{ClientWord}
 use Rattle.client.specs.Record.{value_of}
 use Rattle.client.specs.Lent.{used_in}
 use Rattle.walk.specs.Laws.Entries.{extra_inner, entry_slot}
 use Rattle.walk.specs.Entries.{branch_of}
-use Rattle.walk.specs.Walk.{Told, told, goes, walked, carry}
+use Rattle.walk.specs.Walk.{Course, Going, Ended, course, ok_or, walked, carry}
 use Rattle.walk.specs.Ask.{OwnGood, HoldsWrites, Noted}
 use Rattle.walk.specs.Down.{Followed}
 use Rattle.walk.specs.Laws.Ask.{name_below}
 use Rattle.walk.specs.Take.{NodeTaken}
 use Rattle.walk.specs.Search.{TakenFor}
-use Rattle.walk.specs.Laws.Mute.{Mute, walked_mute, take_for_mute, take_node_mute}
-use Rattle.walk.specs.Walk.{stands}
 use Rattle.change.specs.Laws.Parts.{extra_level, Leveled, left_level, right_level}
 use Rattle.change.specs.Rise.{Content, Full, OfLevel, Under, in_parent, Fitting, BothWritten, split_plan}
-use Rattle.change.specs.Laws.Rise.{of_level_value, under_name, level_room, stopped_raised}
+use Rattle.change.specs.Laws.Rise.{of_level_value, under_name, level_room, never, ended_raised}
 use Rattle.change.specs.Split.{HalfTaken, Overfull, Halved, Divided, Splits}
-use Rattle.plans.specs.Plan as P
 use Rattle.nodes.specs.Change as N
 
 -- the halves of a full node of level l
@@ -108,57 +102,53 @@ module _ (b : Turn) (f : Followed b) (c : ℕ) (pc : c ≡ get_or b.node.slots b
         omega (arith, f.whole.keys, f.small.keys);
   }
 
--- a slot or its node that is lacking is no answer
-module _ (slots : ℕ) (m : ClientWord → ℕ) (x u : List ℕ) (w : Writes) (hold : HoldsWrites slots x w) where
-  pub slot_lacking : (c : ℕ) (t : Taken) (x₁ u₁ : List ℕ) → TakenFor slots m x u c t x₁ u₁ → goes t.stop ≡ false → stands t.stop ≡ false
-  unfolding Mute
-  slot_lacking c t x₁ u₁ q halts =
-      let e : walked slots m (take_for slots c w (λ d w. P.fail no_tree)) (used_in u) ≡ told t.stop (used_in u₁) = q.asks w hold (λ d w. P.fail no_tree) ∙ rw halts in
-      sym (ap (λ (r : Told). stands r.stop) e) ∙ walked_mute slots m (take_for slots c w (λ d w. P.fail no_tree)) (take_for_mute slots c w (λ d w. P.fail no_tree) (λ d w. tt)) (used_in u)
+-- ---- a slot for a half, and its node
+module _ (slots : ℕ) (m : ClientWord → ℕ) (x u : List ℕ) (c : ℕ) (x₁ u₁ : List ℕ) where
+  pub half_lacks : (s : Stop) → TakenFor slots m x u c (Err s) x₁ u₁ → HalfTaken slots m x u c (Err s) x₁ u₁
+  half_lacks s q = record {
+    asks = λ w hold k. q.asks w hold (λ d w'. take_node w' d (k d w'));
+    holds = q.holds;
+    good = q.good;
+    noted = q.noted;
+    few = q.few;
+    inside = q.inside;
+  }
 
-  pub node_lacking : (c : ℕ) (s : Stop) (u₁ : List ℕ) → NodeTaken slots m x u c s u₁ → goes s ≡ false → stands s ≡ false
-  unfolding Mute
-  node_lacking c s u₁ q halts =
-      let e : walked slots m (take_node w c (P.fail no_tree)) (used_in u) ≡ told s (used_in u₁) = q.asks w hold (P.fail no_tree) ∙ rw halts in
-      sym (ap (λ (r : Told). stands r.stop) e) ∙ walked_mute slots m (take_node w c (P.fail no_tree)) (take_node_mute w c (P.fail no_tree) tt) (used_in u)
-
-module _ (slots : ℕ) (m : ClientWord → ℕ) (x u : List ℕ) (c : ℕ) (t : Taken) (x₁ u₁ : List ℕ) (q : TakenFor slots m x u c t x₁ u₁) (on : Bool) (po : on ≡ goes t.stop) where
-  pub half_lacks : not on ≡ true → HalfTaken slots m x u c t x₁ u₁
-  half_lacks nb =
-      let halts : goes t.stop ≡ false = sym po ∙ not-true on nb in
-      record {
-        asks = λ w hold k. q.asks w hold (λ d w'. take_node w' d (k d w')) ∙ rw halts;
-        mute = λ w hold e. slot_lacking slots m x u w hold c t x₁ u₁ q e;
-        holds = q.holds;
-        good = q.good;
-        noted = q.noted;
-        few = q.few;
-        inside = q.inside;
-      }
-
-  module _ (nb : not on ≡ false) where
-    going : goes t.stop ≡ true
-    going = sym po ∙ not-false on nb
-
+  module _ (d : ℕ) (q : TakenFor slots m x u c (Ok d) x₁ u₁) where
     pub half_good : OwnGood x₁
-    half_good = q.good going
+    half_good = q.good refl
 
     pub half_noted : Noted m u₁
     half_noted = q.noted
 
-    pub half_taken : (s : Stop) (u₂ : List ℕ) → NodeTaken slots m x₁ u₁ t.name s u₂ → HalfTaken slots m x u c (record { stop = s; name = t.name }) x₁ u₂
-    half_taken s u₂ v =
+    asked_node : (s : Course) (u₂ : List ℕ) → NodeTaken slots m x₁ u₁ d s u₂ → (w : Writes) → HoldsWrites slots x w → (k : ℕ → Writes → TreePlan)
+        → walked slots m (take_for slots c w (λ d w'. take_node w' d (k d w'))) (used_in u) ≡ carry s (used_in u₂) (λ us. walked slots m (k d ((flag d, taken true) ∷ w)) us)
+    asked_node s u₂ v w hold k =
+        q.asks w hold (λ d w'. take_node w' d (k d w')) ∙ v.asks ((flag d, taken true) ∷ w) (q.holds refl w hold) (k d ((flag d, taken true) ∷ w))
+
+    pub half_unfree : (s : Stop) (u₂ : List ℕ) → NodeTaken slots m x₁ u₁ d (Ended s) u₂ → HalfTaken slots m x u c (Err s) x₁ u₂
+    half_unfree s u₂ v =
         record {
-          asks = λ w hold k. q.asks w hold (λ d w'. take_node w' d (k d w')) ∙ rw going (v.asks ((flag t.name, taken true) ∷ w) (q.holds going w hold) (k t.name ((flag t.name, taken true) ∷ w)));
-          mute = λ w hold e. node_lacking slots m x₁ u₁ ((flag t.name, taken true) ∷ w) (q.holds going w hold) t.name s u₂ v e;
-          holds = λ _. q.holds going;
-          good = λ _. q.good going;
+          asks = asked_node (Ended s) u₂ v;
+          holds = λ t. never t;
+          good = λ t. never t;
           noted = v.noted;
           few = q.few;
-          inside = λ _. q.inside going;
+          inside = λ t. never t;
         }
 
-pub ruleset half_exits = (half_lacks, half_good, half_noted, half_taken)
+    pub half_taken : (u₂ : List ℕ) → NodeTaken slots m x₁ u₁ d Going u₂ → HalfTaken slots m x u c (Ok d) x₁ u₂
+    half_taken u₂ v =
+        record {
+          asks = asked_node Going u₂ v;
+          holds = q.holds;
+          good = q.good;
+          noted = v.noted;
+          few = q.few;
+          inside = q.inside;
+        }
+
+pub ruleset half_exits = (half_lacks, half_good, half_noted, half_unfree, half_taken)
 
 module _ (n : Wide) (o : Overfull n) (h : Halves) (ph : h ≡ N.split n 0) where
   pub halves_fit : (h.left.count ≤ 14) × (h.right.count ≤ 14) → Fitting h
@@ -189,55 +179,45 @@ module _ (slots l c : ℕ) (b : Turn) (un : Under slots l c b) where
   pub split_overfull : (n : Wide) → Full l n → Overfull n
   split_overfull n k = record { full = k.full; level = omega (arith, k.content.level, un.followed.small.level, un.link.level) }
 
-module _ (slots : ℕ) (m : ClientWord → ℕ) (x u : List ℕ) (l : ℕ) (b : Turn) (c : ℕ) (n : Wide) (t : Taken) (x₁ u₁ : List ℕ) (q : HalfTaken slots m x u c t x₁ u₁) (on : Bool) (po : on ≡ goes t.stop) where
+module _ (slots : ℕ) (m : ClientWord → ℕ) (x u : List ℕ) (l : ℕ) (b : Turn) (c : ℕ) (n : Wide) (x₁ u₁ : List ℕ) where
   abbrev plan : ℕ → List Branch → Writes → Go → TreePlan
   plan = split_plan slots l b c (wide_entries n)
 
-  abbrev d : ℕ
-  d = t.name
-
-  asked : (w : Writes) → HoldsWrites slots x w → (lo : ℕ) (fs : List Branch) (go : Go) → walked slots m (plan lo fs w go) (used_in u)
-      ≡ carry t.stop (used_in u₁) (λ us. walked slots m
-      (parted go l ((flag d, taken true) ∷ w) (in_parent b lo) c (take (fewest_entries l) (wide_entries n (in_parent b lo).key)) d (drop (fewest_entries l) (wide_entries n (in_parent b lo).key))) us)
+  asked : (r : Result ℕ Stop) → HalfTaken slots m x u c r x₁ u₁ → (w : Writes) → HoldsWrites slots x w → (lo : ℕ) (fs : List Branch) (go : Go) → walked slots m (plan lo fs w go) (used_in u)
+      ≡ carry (course r) (used_in u₁) (λ us. walked slots m
+      (parted go l ((flag (ok_or 0 r), taken true) ∷ w) (in_parent b lo) c (take (fewest_entries l) (wide_entries n (in_parent b lo).key)) (ok_or 0 r)
+      (drop (fewest_entries l) (wide_entries n (in_parent b lo).key))) us)
   unfolding split_plan
-  asked w hold lo fs go =
+  asked r q w hold lo fs go =
       let es : Entries = wide_entries n (in_parent b lo).key in
       q.asks w hold (λ d w₁. parted go l w₁ (in_parent b lo) c (take (fewest_entries l) es) d (drop (fewest_entries l) es))
 
-  pub split_lacks : not on ≡ true → Splits slots m x u l b c n (record { stop = t.stop; up = n }) x₁ u₁
-  split_lacks nb =
-      let halts : goes t.stop ≡ false = sym po ∙ not-true on nb in
-      record {
-        raised = λ root. stopped_raised slots m x u l root plan (record { stop = t.stop; up = n }) x₁ u₁ halts
-            (λ w hold. q.mute w hold halts) (λ w hold lo fs e go. asked w hold lo fs go ∙ rw halts) q.noted;
-      }
+  pub split_lacks : (s : Stop) → HalfTaken slots m x u c (Err s) x₁ u₁ → Splits slots m x u l b c n (Err s) x₁ u₁
+  split_lacks s q = record {
+    raised = λ root. ended_raised slots m x u l root plan s x₁ u₁ (λ w hold lo fs e go. asked (Err s) q w hold lo fs go) q.noted;
+  }
 
-  module _ (nb : not on ≡ false) where
-    on_going : goes t.stop ≡ true
-    on_going = sym po ∙ not-false on nb
-
+  module _ (d : ℕ) (q : HalfTaken slots m x u c (Ok d) x₁ u₁) where
     pub split_good : OwnGood x₁
-    split_good = q.good on_going
+    split_good = q.good refl
 
-    pub right_name : t.name < 8192
-    right_name = name_below slots t.name (q.inside on_going)
+    pub right_name : d < 8192
+    right_name = name_below slots d (q.inside refl)
 
     pub split_room : get_or x 0 0 ≤ 12 → get_or x₁ 0 0 < 19
     split_room h = omega (arith, q.few)
 
-    pub split_done : Under slots l c b → Full l n → (up : Wide) (x₂ : List ℕ) → Divided x₁ b c t.name n up x₂
-        → Splits slots m x u l b c n (record { stop = Going; up = up }) x₂ u₁
+    pub split_done : Under slots l c b → Full l n → (up : Wide) (x₂ : List ℕ) → Divided x₁ b c d n up x₂ → Splits slots m x u l b c n (Ok up) x₂ u₁
     split_done un k up x₂ y =
         record {
           raised = λ root. record {
             more = (node d, value_of (node d) (N.split n 0).right) ∷ (node c, value_of (node c) (N.split n 0).left) ∷ (flag d, taken true) ∷ [];
-            same = λ w hold lo fs e go. asked w hold lo fs go ∙ rw (
-              on_going,
+            same = λ w hold lo fs e go. asked (Ok d) q w hold lo fs go ∙ rw (
               halves_parted l n k go ((flag d, taken true) ∷ w) (in_parent b lo) c d (in_parent b lo).key,
               child_added b un.followed c un.link.child (N.split n 0).sep d lo,
               y.up_is,
             );
-            holds = λ _ w hold. y.written.holds slots ((flag d, taken true) ∷ w) un.link.there (q.inside on_going) (q.holds on_going w hold);
+            holds = λ _ w hold. y.written.holds slots ((flag d, taken true) ∷ w) un.link.there (q.inside refl) (q.holds refl w hold);
             kept = λ _ w hold. y.written.kept;
             good = λ _. y.written.good;
             few = λ _. omega (arith, y.written.few, q.few);

@@ -1,5 +1,5 @@
 -- Laws of the way up, level by level.
-use Rattle.std.specs.Prelude.{◌≡◌, refl, Bool, true, false, not, eqb, get_or}
+use Rattle.std.specs.Prelude.{◌≡◌, refl, Bool, true, false, eqb, get_or, Option, None, Some, Result, Ok, Err}
 use Rattle.std.proofs.Common.{sym, ◌∙◌, eq-eqb, ne_eqb}
 use Rattle.std.proofs.Math.Path.{ap}
 use mathlib.Core.List.{List, [], ◌∷◌, ◌++◌}
@@ -7,30 +7,29 @@ use Prim.Native.Nat.{ℕ, zero, suc, ◌+◌, ◌-◌, ◌*◌, ◌≤◌, ◌<�
 use native.Mathlib.Omega.{arith}
 use Rattle.std.proofs.Math.Numerals.{add-one}
 use Rattle.std.proofs.Math.ListN.{length}
-use Rattle.std.proofs.lemmas.Bool.{not-true, not-false}
 use Rattle.nodes.specs.declared.change.Wide.{Wide}
 use Rattle.nodes.specs.Entries.{wide_entries}
 use Rattle.operations.specs.Object.{Ans, Writes}
 use Rattle.operations.specs.Path.{TreePlan}
 use Rattle.operations.specs.Change.{Go, up}
-use Rattle.walk.specs.Laws.Lookup.{ended_nothing}
 use Rattle.walk.specs.declared.down.Turn.{Turn}
 use Rattle.change.specs.declared.leaf.Changed.{Changed}
 use Rattle.change.specs.declared.rise.Risen.{Risen}
+use Rattle.change.specs.declared.rise.Risen.TheVariants.{Up, Done}
 use Rattle.walk.specs.declared.walk.Stop.{Stop}
-use Rattle.walk.specs.declared.walk.Stop.TheVariants.{Going, LacksMeta, LacksNode, LacksVector, Refused, Aborts, Answers}
+use Rattle.walk.specs.declared.walk.Answer.{Answer}
 use Rattle.client.specs.Layout.{ClientWord}
 use Rattle.client.specs.Sets.{held}
 use Rattle.client.specs.Record.{in_store}
 use Rattle.client.specs.Lent.{used_in}
 use Rattle.walk.specs.Entries.{branch_of}
-use Rattle.walk.specs.Walk.{goes, walked}
-use Rattle.walk.specs.Walk.{stands}
+use Rattle.walk.specs.Walk.{Course, Ended, Answered, goes, walked}
+use Rattle.walk.specs.Lookup.{Ends}
 use Rattle.walk.specs.Ask.{OwnGood, HoldsWrites, Noted}
 use Rattle.walk.specs.Down.{low, branches, trail, blank, Followed, All, Link, Linked, turns_in, PathInPart}
 use Rattle.walk.specs.Laws.Seek.{get_d_any}
 use Rattle.change.specs.Operated.{Operated}
-use Rattle.change.specs.Rise.{Content, Under, is_root, rose, Raised, Closed}
+use Rattle.change.specs.Rise.{Content, Under, risen_course, up_in, is_root, rose, Raised, Closed}
 use Rattle.change.specs.Level.{level_plan, top_plan}
 use Rattle.change.specs.Laws.Level.{up_level}
 use Rattle.change.specs.Up.{from_level, rise_plan, Ready}
@@ -42,8 +41,6 @@ pub record Rising (slots : ℕ) (m : ClientWord → ℕ) (x₀ u₀ : List ℕ) 
   pub high : top ≤ 4
   pub upper : l ≤ top
   pub size : length path ≡ 5
-  pub long_own : length x ≡ length x₀
-  pub long_used : length u ≡ length u₀
   pub few : get_or x 0 0 ≤ 3 * l
   pub good : All (trail path l (top - l))
   pub linked : Linked slots l c (trail path l (top - l))
@@ -61,8 +58,6 @@ rise_start slots m x u a top path c n g e h r = record {
   high = r.high;
   upper = omega arith;
   size = r.size;
-  long_own = refl;
-  long_used = refl;
   few = omega arith;
   good = r.good;
   linked = r.linked;
@@ -73,15 +68,6 @@ rise_start slots m x u a top path c n g e h r = record {
   holds = λ hold. hold;
   same = λ hold. refl;
 }
-
-stands_on : (s : Stop) → goes s ≡ true → stands s ≡ true
-stands_on Going e = refl
-stands_on LacksMeta e = e
-stands_on (LacksNode n) e = e
-stands_on (LacksVector n) e = e
-stands_on Refused e = e
-stands_on (Aborts r) e = e
-stands_on (Answers a b) e = refl
 
 pub linked_there : (slots l n : ℕ) (bs : List Turn) → Linked slots l n bs → in_store slots n ≡ true
 unfolding Linked
@@ -110,23 +96,34 @@ module _ (slots : ℕ) (m : ClientWord → ℕ) (x₀ u₀ : List ℕ) (a : Ans)
   pub rise_room : get_or x 0 0 ≤ 12
   rise_room = omega (arith, g.few, g.upper, g.high)
 
-  pub rise_low : l ≤ 4
-  rise_low = omega (arith, g.upper, g.high)
-
-  pub rise_there : in_store slots c ≡ true
+  rise_there : in_store slots c ≡ true
   rise_there = linked_there slots l c (trail path l (top - l)) g.linked
 
-  pub rise_ends : top ≤ l → (s : Stop) (x' u' : List ℕ) → Closed slots m x u (top_plan slots a l c (wide_entries n 0)) s x' u' → Operated slots m x₀ u₀ (rise_plan slots a top path c₀ n₀) s x' u'
-  unfolding top_plan trail
-  rise_ends h s x' u' q =
-      let e : top - l ≡ 0 = omega arith in
-      record {
-        writes = q.more ++ g.writes;
-        same = λ hold. rw (g.same hold, e) (q.same g.writes (g.holds hold));
-        holds = λ t hold. q.holds t g.writes (g.holds hold);
-        kept = λ t hold. q.kept t g.writes (g.holds hold);
-        noted = q.noted;
-      }
+  -- behind the last level
+  module _ (h : top ≤ l) where
+    at_end : l ≡ top
+    at_end = omega (arith, g.upper)
+
+    pub end_content : Content top n
+    end_content = rw at_end at g.content
+
+    pub end_low : top ≤ 4
+    end_low = g.high
+
+    pub end_there : in_store slots c ≡ true
+    end_there = rise_there
+
+    pub rise_ends : (s : Course) (x' u' : List ℕ) → Closed slots m x u (top_plan slots a top c (wide_entries n 0)) s x' u' → Operated slots m x₀ u₀ (rise_plan slots a top path c₀ n₀) s x' u'
+    unfolding top_plan trail
+    rise_ends s x' u' q =
+        let e : top - top ≡ 0 = omega arith in
+        record {
+          writes = q.more ++ g.writes;
+          same = λ hold. rw (g.same hold, at_end, e) (q.same g.writes (g.holds hold));
+          holds = λ t hold. q.holds t g.writes (g.holds hold);
+          kept = λ t hold. q.kept t g.writes (g.holds hold);
+          noted = q.noted;
+        }
 
   at_level : (c' : ℕ) (n' : Wide) (x' u' : List ℕ) (k : ℕ) → k ≡ suc l → Rising slots m x₀ u₀ a top path c₀ n₀ c' n' (suc l) x' u' → Rising slots m x₀ u₀ a top path c₀ n₀ c' n' k x' u'
   at_level c' n' x' u' k e r = rw e r
@@ -159,82 +156,83 @@ module _ (slots : ℕ) (m : ClientWord → ℕ) (x₀ u₀ : List ℕ) (a : Ans)
     pub rise_under : Under slots l c b
     rise_under = record { followed = taken.0; link = links.0; there = linked_there slots (suc l) b.name bs links.1 }
 
-    module _ (r : Risen) (x' u' : List ℕ) (q : Raised slots m x u l (eqb (l + 1) top) (level_plan slots a l b c (wide_entries n)) r x' u') (on : Bool) (po : on ≡ goes r.stop) where
+    module _ (x' u' : List ℕ) where
       abbrev go : Go
       go w es = up slots a (suc l) (branches bs) w b.name es
 
-      walks : HoldsWrites slots x₀ [] → walked slots m (rise_plan slots a top path c₀ n₀) (used_in u₀)
-          ≡ rose r.stop (used_in u') (q.more ++ g.writes) (λ us w. walked slots m (go w (wide_entries r.up (low bs))) us)
+      walks : (r : Result Risen Stop) (q : Raised slots m x u l (eqb (l + 1) top) (level_plan slots a l b c (wide_entries n)) r x' u') → HoldsWrites slots x₀ []
+          → walked slots m (rise_plan slots a top path c₀ n₀) (used_in u₀)
+          ≡ rose (risen_course r) (used_in u') (q.more ++ g.writes) (λ us w. walked slots m (go w (wide_entries (up_in r) (low bs))) us)
       unfolding branch_of
-      walks hold =
+      walks r q hold =
           g.same hold
           ∙ ap (λ (ts : List Turn). walked slots m (up slots a l (branches ts) g.writes c (wide_entries n (low ts))) (used_in u)) opened
           ∙ ap (λ (p : TreePlan). walked slots m p (used_in u)) (up_level slots a l b c (wide_entries n) (low bs) (branches bs) g.writes)
           ∙ q.same g.writes (g.holds hold) (low bs) (branches bs) (root_is path l top h) go
 
-      pub rise_stops : not on ≡ true → Operated slots m x₀ u₀ (rise_plan slots a top path c₀ n₀) r.stop x' u'
-      rise_stops nb =
-          let halts : goes r.stop ≡ false = sym po ∙ not-true on nb in
+      no_more : (r : Result Risen Stop) → goes (risen_course r) ≡ false → Raised slots m x u l (eqb (l + 1) top) (level_plan slots a l b c (wide_entries n)) r x' u'
+          → Operated slots m x₀ u₀ (rise_plan slots a top path c₀ n₀) (risen_course r) x' u'
+      no_more r halts q =
           record {
             writes = q.more ++ g.writes;
-            same = λ hold. walks hold ∙ rw halts;
+            same = λ hold. walks r q hold ∙ rw halts;
             holds = λ t hold. q.holds t g.writes (g.holds hold);
             kept = λ t hold. q.kept t g.writes (g.holds hold);
             noted = q.noted;
           }
 
-      pub rise_more : not on ≡ false → length x' ≡ length x → length u' ≡ length u → Rising slots m x₀ u₀ a top path c₀ n₀ b.name r.up (l + 1) x' u'
-      rise_more nb lx lu =
-          let going : goes r.stop ≡ true = sym po ∙ not-false on nb in
-          at_level b.name r.up x' u' (l + 1) (add-one l) (record {
+      pub rise_stops : (s : Stop) → Raised slots m x u l (eqb (l + 1) top) (level_plan slots a l b c (wide_entries n)) (Err s) x' u'
+          → Operated slots m x₀ u₀ (rise_plan slots a top path c₀ n₀) (Ended s) x' u'
+      rise_stops s q = no_more (Err s) refl q
+
+      pub rise_answers : (z : Answer) → Raised slots m x u l (eqb (l + 1) top) (level_plan slots a l b c (wide_entries n)) (Ok (Done z)) x' u'
+          → Operated slots m x₀ u₀ (rise_plan slots a top path c₀ n₀) (Answered z.a z.b) x' u'
+      rise_answers z q = no_more (Ok (Done z)) refl q
+
+      pub rise_more : (n' : Wide) → Raised slots m x u l (eqb (l + 1) top) (level_plan slots a l b c (wide_entries n)) (Ok (Up n')) x' u' → Rising slots m x₀ u₀ a top path c₀ n₀ b.name n' (l + 1) x' u'
+      rise_more n' q =
+          at_level b.name n' x' u' (l + 1) (add-one l) (record {
             high = g.high;
             upper = omega arith;
             size = g.size;
-            long_own = lx ∙ g.long_own;
-            long_used = lu ∙ g.long_used;
-            few = omega (arith, q.few going, g.few);
+            few = omega (arith, q.few refl, g.few);
             good = taken.1;
             linked = links.1;
-            content = q.content going;
-            own_good = q.good going;
+            content = q.content refl;
+            own_good = q.good refl;
             noted = q.noted;
             writes = q.more ++ g.writes;
-            holds = λ hold. q.holds (stands_on r.stop going) g.writes (g.holds hold);
-            same = λ hold. walks hold ∙ rw going;
+            holds = λ hold. q.holds refl g.writes (g.holds hold);
+            same = walks (Ok (Up n')) q;
           })
 
-pub ruleset rise_exits = (rise_start, rise_content, rise_good, rise_noted, rise_room, rise_low, rise_there, rise_ends, rise_inside, rise_under, rise_stops, rise_more)
+pub ruleset rise_exits = (rise_start, rise_content, rise_good, rise_noted, rise_room, end_content, end_low, end_there, rise_ends, rise_inside, rise_under, rise_stops, rise_answers, rise_more)
 
 -- ---- from a leaf that changes, or not
-module _ (slots : ℕ) (b x u : List ℕ) (c : Changed) (on : Bool) (po : on ≡ goes c.stop) where
-  pub carry_stops : not on ≡ true → OwnGood x → Carries slots b x u c c.stop x u
-  carry_stops nb g =
-      let halts : goes c.stop ≡ false = sym po ∙ not-true on nb in
-      record {
-        operated = λ p u₀ h. walks_operated slots (held b) x u₀ p c.stop u g (record { same = h.asks ∙ rw halts (sym (ended_nothing c.stop (used_in u))); noted = h.noted });
-      }
+-- no leaf changes: the answer is 0
+pub carry_nothing : (slots : ℕ) (b x u : List ℕ) → OwnGood x → (s : Course) (u' : List ℕ) → Ends (held b) u 0 0 s u' → Carries slots b x u None s x u'
+carry_nothing slots b x u g s u' e = record {
+  operated = λ p u₀ h. walks_operated slots (held b) x u₀ p s u' g (record { same = h.asks ∙ e.same slots [] []; noted = e.noted });
+}
 
-  module _ (nb : not on ≡ false) where
-    going : goes c.stop ≡ true
-    going = sym po ∙ not-false on nb
+module _ (slots : ℕ) (b x u : List ℕ) (c : Changed) where
+  pub carry_path : LeafReady slots b (Some c) → PathInPart c.way.path
+  carry_path h = h.1
 
-    pub carry_path : LeafReady slots b c → PathInPart c.way.path
-    carry_path h = (h going).1
+  -- its path is taken out of the part
+  pub carry_ready : (path : List Turn) → LeafReady slots b (Some c) → path ≡ turns_in b c.way.path → Ready slots c.way.top path c.way.name c.content
+  carry_ready path h e = rw e h.0
 
-    -- its path is taken out of the part
-    pub carry_ready : (path : List Turn) → LeafReady slots b c → path ≡ turns_in b c.way.path → Ready slots c.way.top path c.way.name c.content
-    carry_ready path h e = rw e (h going).0
+  pub carry_goes : (path : List Turn) (s : Course) (x' u' : List ℕ) → path ≡ turns_in b c.way.path
+      → Operated slots (held b) x u (rise_plan slots (c.a, 0, []) c.way.top path c.way.name c.content) s x' u' → Carries slots b x u (Some c) s x' u'
+  carry_goes path s x' u' e q' = let q : Operated slots (held b) x u (risen slots b (Some c)) s x' u' = rw e at q' in record {
+    operated = λ p u₀ h. record {
+      writes = q.writes;
+      same = λ hold. h.asks ∙ q.same hold;
+      holds = q.holds;
+      kept = q.kept;
+      noted = q.noted;
+    };
+  }
 
-    pub carry_goes : (path : List Turn) (s : Stop) (x' u' : List ℕ) → path ≡ turns_in b c.way.path
-        → Operated slots (held b) x u (rise_plan slots (c.a, 0, []) c.way.top path c.way.name c.content) s x' u' → Carries slots b x u c s x' u'
-    carry_goes path s x' u' e q' = let q : Operated slots (held b) x u (risen slots b c) s x' u' = rw e at q' in record {
-      operated = λ p u₀ h. record {
-        writes = q.writes;
-        same = λ hold. h.asks ∙ rw going (q.same hold);
-        holds = q.holds;
-        kept = q.kept;
-        noted = q.noted;
-      };
-    }
-
-pub ruleset carry_exits = (carry_stops, carry_path, carry_ready, carry_goes)
+pub ruleset carry_exits = (carry_nothing, carry_path, carry_ready, carry_goes)

@@ -1,8 +1,7 @@
 -- Laws of the work step of an operation that writes.
-use Rattle.std.specs.Prelude.{◌≡◌, refl, Bool, true, false, cond, not, ℕ, ◌+◌, ◌<◌, eqb, ltb, length, get_or}
+use Rattle.std.specs.Prelude.{◌≡◌, refl, Bool, true, false, cond, ℕ, ◌+◌, ◌<◌, eqb, ltb, length, get_or, Option, Result, Ok, Err}
 use Rattle.std.proofs.Common.{sym, ◌∙◌, ap, arith}
 use mathlib.Core.List.{List, []}
-use borrow.Author.Tests.{not-true, not-false, eq-eqb, ne_eqb}
 use Rattle.operations.specs.Object.{Ans, Writes}
 use Rattle.operations.specs.Path.{TreePlan}
 use Rattle.operations.specs.Change.{insert_plan, delete_plan}
@@ -13,8 +12,9 @@ use Rattle.client.specs.Lent.{InUse, Entry, own_list, used_in}
 use Rattle.client.specs.Answered.{entered}
 use Rattle.client.specs.Work.{Worked, refused, aborted, answers, waiting, count_new, versions_there, any_at_last, last_questions, worked}
 use Rattle.walk.specs.declared.walk.Stop.{Stop}
-use Rattle.walk.specs.declared.walk.Stop.TheVariants.{Going, LacksMeta, LacksNode, LacksVector, Refused, Aborts, Answers}
-use Rattle.walk.specs.Walk.{Told, is_answer, tell, walked}
+use Rattle.walk.specs.declared.walk.Stop.TheVariants.{Refused, Aborts}
+use Rattle.walk.specs.declared.walk.Answer.{Answer}
+use Rattle.walk.specs.Walk.{Course, Going, Ended, Answered, Told, goes, is_answer, tell, walked}
 use Rattle.walk.specs.Ask.{OwnKept, OwnGood, HoldsWrites, Noted}
 use Rattle.walk.specs.Laws.Ask.{nothing_good, nothing_held}
 use Rattle.walk.specs.Laws.Begin.{nothing_used, nothing_noted}
@@ -31,6 +31,8 @@ use Rattle.change.specs.declared.leaf.Changed.{Changed}
 use Rattle.change.specs.Operated.{Operated, Written}
 use Rattle.client.specs.Sets.{held}
 use Rattle.change.specs.Leaf.{Changes, Carries}
+use Rattle.change.specs.Laws.Rise as rise
+use Rattle.change.specs.Laws.Operated.{walks_operated}
 use Rattle.change.specs.Fit.{entries_fit}
 use Rattle.change.specs.Laws.Fit.{all_fit_entries}
 use Rattle.change.specs.Last.{reason_of, last_reason}
@@ -55,11 +57,11 @@ last_is slots m a w e =
     go true p false q true t true r = rw (e, last_reason, reason_of, p, q, t, r)
     go true p false q true t false r = rw (e, last_reason, reason_of, p, q, t, r)
 
-by_reason_stop : (r : ℕ) (a : Ans) (w : Writes) → judged (Answers a.0 a.1) r ≡ stop_of (by_reason r a w)
+by_reason_stop : (r : ℕ) (a : Ans) (w : Writes) → judged (Answered a.0 a.1) r ≡ stop_of (by_reason r a w)
 unfolding judged
 by_reason_stop r a w = go (eqb r 0) (eqb r 10)
   where
-    go : (b c : Bool) → cond b (Answers a.0 a.1) (cond c Refused (Aborts r)) ≡ stop_of (cond b (answers a w) (cond c refused (aborted r)))
+    go : (b c : Bool) → cond b (Answered a.0 a.1) (cond c (Ended Refused) (Ended (Aborts r))) ≡ stop_of (cond b (answers a w) (cond c refused (aborted r)))
     go true c = refl
     go false true = refl
     go false false = refl
@@ -73,17 +75,31 @@ by_reason_same r a b w v = go (eqb r 0) (eqb r 10)
     go false true e = let z : ◌≡◌ {A = ℕ} 0 1 = cc in absurd (omega arith)
     go false false e = let z : ◌≡◌ {A = ℕ} 0 1 = cc in absurd (omega arith)
 
-stand : (s : Stop) → is_answer s ≡ true → stands s ≡ true
+-- what the last questions come to, as the code asks them
+judged_ended : (s : Course) (r : ℕ) (e : Stop) → Ended e ≡ judged Going r → Ended e ≡ judged s r
+unfolding judged
+judged_ended s r e = go (eqb r 0) (eqb r 10)
+  where
+    go : (b c : Bool) → Ended e ≡ cond b Going (cond c (Ended Refused) (Ended (Aborts r))) → Ended e ≡ cond b s (cond c (Ended Refused) (Ended (Aborts r)))
+    go true c p = rise.never (ap goes p)
+    go false c p = p
+
+judged_goes : (s : Course) (r : ℕ) → Going ≡ judged Going r → s ≡ judged s r
+unfolding judged
+judged_goes s r = go (eqb r 0) (eqb r 10)
+  where
+    go : (b c : Bool) → Going ≡ cond b Going (cond c (Ended Refused) (Ended (Aborts r))) → s ≡ cond b s (cond c (Ended Refused) (Ended (Aborts r)))
+    go true c p = refl
+    go false true p = rise.never (sym (ap goes p))
+    go false false p = rise.never (sym (ap goes p))
+
+stand : (s : Course) → is_answer s ≡ true → stands s ≡ true
 stand Going n = refl
-stand LacksMeta n = n
-stand (LacksNode k) n = n
-stand (LacksVector k) n = n
-stand Refused n = n
-stand (Aborts r) n = n
-stand (Answers c d) n = refl
+stand (Ended e) n = n
+stand (Answered c d) n = refl
 
 -- ---- how the work step ends, by the walk: l are the entries of what it writes
-module _ (slots : ℕ) (m : ClientWord → ℕ) (wait : Waiting m) (u : List ℕ) (none : get_or u 0 0 ≡ 0) (s : Stop) (l : List Entry) (u' : List ℕ) (ku : length u' ≡ length u) (o : Written slots m u (reading slots (waiting m)) s l u') where
+module _ (slots : ℕ) (m : ClientWord → ℕ) (wait : Waiting m) (u : List ℕ) (none : get_or u 0 0 ≡ 0) (s : Course) (l : List Entry) (u' : List ℕ) (ku : length u' ≡ length u) (o : Written slots m u (reading slots (waiting m)) s l u') where
   tells : tell slots m (R slots m wait.reads).how (R slots m wait.reads).used ≡ ended s (used_in u') o.writes []
   tells = sym (run_is slots m wait.reads) ∙ ap (walked slots m (reading slots (waiting m))) (sym (nothing_used m u none)) ∙ o.same
 
@@ -93,8 +109,8 @@ module _ (slots : ℕ) (m : ClientWord → ℕ) (wait : Waiting m) (u : List ℕ
   in_use : InUse u'
   in_use = noted_in_use m u' o.noted
 
-  enters_as : (t : Stop) → t ≡ stop_of (worked slots m) → ((a : Ans) (w : Writes) → worked slots m ≡ answers a w → (l ≡ entered w) × (a.2 ≡ [])) → Enters slots m t l u u'
-  enters_as t e f = record { stopped = record { stop = e; used = used_are; in_use = in_use }; filled = is_filled u (C.walked slots m).used u' in_use used_are ku; own = λ a w p. (f a w p).0; unlisted = λ a w p. (f a w p).1 }
+  enters_as : (t : Course) (k : List Entry) → t ≡ stop_of (worked slots m) → ((a : Ans) (w : Writes) → worked slots m ≡ answers a w → (k ≡ entered w) × (a.2 ≡ [])) → Enters slots m t k u u'
+  enters_as t k e f = record { stopped = record { stop = e; used = used_are; in_use = in_use }; filled = is_filled u (C.walked slots m).used u' in_use used_are ku; own = λ a w p. (f a w p).0; unlisted = λ a w p. (f a w p).1 }
 
   module _ (no : is_answer s ≡ false) where
     stop_is : s ≡ stop_of (worked slots m)
@@ -102,10 +118,10 @@ module _ (slots : ℕ) (m : ClientWord → ℕ) (wait : Waiting m) (u : List ℕ
     stop_is = stops slots m s (R slots m wait.reads).used (used_in u') o.writes [] (R slots m wait.reads).how tells no
 
     pub unanswered : {A : Type 0} (a : Ans) (w : Writes) → worked slots m ≡ answers a w → A
-    unanswered a w p = never s (Answers a.0 a.1) (stop_is ∙ rw p) no refl
+    unanswered a w p = never s (Answered a.0 a.1) (stop_is ∙ rw p) no refl
 
     pub enters_stops : Enters slots m s l u u'
-    enters_stops = enters_as s stop_is (λ a w p. unanswered a w p)
+    enters_stops = enters_as s l stop_is (λ a w p. unanswered a w p)
 
   module _ (yes_answer : is_answer s ≡ true) where
     given_is : Given slots m (R slots m wait.reads).how s o.writes []
@@ -118,60 +134,65 @@ module _ (slots : ℕ) (m : ClientWord → ℕ) (wait : Waiting m) (u : List ℕ
     listed_are : l ≡ entered o.writes
     listed_are = o.entries (stand s yes_answer)
 
-    pub enters_judged : (r : ℕ) → r ≡ last_reason m l → (t : Stop) → t ≡ judged s r → Enters slots m t l u u'
-    enters_judged r pr t e =
-        let q : worked slots m ≡ by_reason r given_is.answer o.writes = worked_is ∙ ap (λ (k : ℕ). by_reason k given_is.answer o.writes) (sym (pr ∙ ap (last_reason m) listed_are)) in
-        enters_as t (e ∙ ap (λ (k : Stop). judged k r) given_is.stop ∙ by_reason_stop r given_is.answer o.writes ∙ sym (ap stop_of q))
-        (λ a w p. let same = by_reason_same r given_is.answer a o.writes w (sym q ∙ p) in (listed_are ∙ ap entered same.0, ap (λ (b : Ans). b.2) (sym same.1) ∙ given_is.pairs))
+    module _ (r : ℕ) (pr : r ≡ last_reason m l) where
+      judged_is : worked slots m ≡ by_reason r given_is.answer o.writes
+      judged_is = worked_is ∙ ap (λ (k : ℕ). by_reason k given_is.answer o.writes) (sym (pr ∙ ap (last_reason m) listed_are))
+
+      stops_as : (t : Course) → t ≡ judged s r → t ≡ stop_of (worked slots m)
+      stops_as t e = e ∙ ap (λ (k : Course). judged k r) given_is.stop ∙ by_reason_stop r given_is.answer o.writes ∙ sym (ap stop_of judged_is)
+
+      -- the answer stands
+      pub enters_answers : Going ≡ judged Going r → Enters slots m s l u u'
+      enters_answers p =
+          enters_as s l (stops_as s (judged_goes s r p))
+          (λ a w q. let same = by_reason_same r given_is.answer a o.writes w (sym judged_is ∙ q) in (listed_are ∙ ap entered same.0, ap (λ (b : Ans). b.2) (sym same.1) ∙ given_is.pairs))
+
+      -- or it doesn't: then nothing enters
+      module _ (e : Stop) (p : Ended e ≡ judged Going r) where
+        ends_as : Ended e ≡ stop_of (worked slots m)
+        ends_as = stops_as (Ended e) (judged_ended s r e p)
+
+        pub not_answered : {A : Type 0} (a : Ans) (w : Writes) → worked slots m ≡ answers a w → A
+        not_answered a w q = never (Ended e) (Answered a.0 a.1) (ends_as ∙ rw q) refl refl
+
+        pub enters_refused : (k : List Entry) → Enters slots m (Ended e) k u u'
+        enters_refused k = enters_as (Ended e) k ends_as (λ a w q. not_answered a w q)
 
 -- ---- the ways out of the work step
-module _ (slots : ℕ) (m : ClientWord → ℕ) (wait : Waiting m) (x u : List ℕ) (ready : Ready x u) (s : Stop) (x' u' : List ℕ) (kx : length x' ≡ length x) (ku : length u' ≡ length u) (o : Operated slots m x u (reading slots (waiting m)) s x' u') (b : Bool) (pb : b ≡ is_answer s) where
+module _ (slots : ℕ) (m : ClientWord → ℕ) (wait : Waiting m) (x u : List ℕ) (ready : Ready x u) (x' u' : List ℕ) (kx : length x' ≡ length x) (ku : length u' ≡ length u) where
   empty : HoldsWrites slots x []
   empty = nothing_held x ready.own_none slots
 
-  listed : Written slots m u (reading slots (waiting m)) s (own_list x') u'
-  listed = record { writes = o.writes; same = o.same empty; entries = λ t. (o.holds t empty).entries; out = λ t. (o.holds t empty).out; noted = o.noted }
+  listed : (s : Course) → Operated slots m x u (reading slots (waiting m)) s x' u' → Written slots m u (reading slots (waiting m)) s (own_list x') u'
+  listed s o = record { writes = o.writes; same = o.same empty; entries = λ t. (o.holds t empty).entries; out = λ t. (o.holds t empty).out; noted = o.noted }
 
-  pub work_stops : not b ≡ true → Works slots m s x u x' u'
-  work_stops nb =
-      let no : is_answer s ≡ false = sym pb ∙ not-true b nb in
+  pub work_stops : (e : Stop) → Operated slots m x u (reading slots (waiting m)) (Ended e) x' u' → Works slots m (Ended e) x u x' u'
+  work_stops e o =
       record {
-        enters = enters_stops slots m wait u ready.used_none s (own_list x') u' ku listed no;
-        fits = λ a w p. unanswered slots m wait u ready.used_none s (own_list x') u' ku listed no a w p;
+        enters = enters_stops slots m wait u ready.used_none (Ended e) (own_list x') u' ku (listed (Ended e) o) refl;
+        fits = λ a w p. unanswered slots m wait u ready.used_none (Ended e) (own_list x') u' ku (listed (Ended e) o) refl a w p;
         own_same_length = kx;
       }
 
-  module _ (nb : not b ≡ false) where
-    yes_answer : is_answer s ≡ true
-    yes_answer = sym pb ∙ not-false b nb
-
+  module _ (z : Answer) (o : Operated slots m x u (reading slots (waiting m)) (Answered z.a z.b) x' u') where
     pub own_kept : OwnKept x'
-    own_kept = o.kept (stand s yes_answer) empty
+    own_kept = o.kept refl empty
 
-    pub work_judged : (r : ℕ) → r ≡ last_reason m (own_list x') → (t : Stop) → t ≡ judged s r → Works slots m t x u x' u'
-    work_judged r pr t e = record {
-      enters = enters_judged slots m wait u ready.used_none s (own_list x') u' ku listed yes_answer r pr t e;
-      fits = λ a w p. own_kept.fit;
+    pub work_refuses : (e : Stop) → Ended e ≡ judged Going (last_reason m (own_list x')) → Works slots m (Ended e) x u x' u'
+    work_refuses e p = record {
+      enters = enters_refused slots m wait u ready.used_none (Answered z.a z.b) (own_list x') u' ku (listed (Answered z.a z.b) o) refl (last_reason m (own_list x')) refl e p (own_list x');
+      fits = λ a w q. own_kept.fit;
       own_same_length = kx;
     }
 
-pub ruleset work_exits = (work_stops, own_kept, work_judged)
+    pub work_answers : Going ≡ judged Going (last_reason m (own_list x')) → Works slots m (Answered z.a z.b) x u x' u'
+    work_answers p = record {
+      enters = enters_answers slots m wait u ready.used_none (Answered z.a z.b) (own_list x') u' ku (listed (Answered z.a z.b) o) refl (last_reason m (own_list x')) refl p;
+      fits = λ a w q. own_kept.fit;
+      own_same_length = kx;
+    }
 
-module _ (s : Stop) (r : ℕ) where
-  pub judged_none : r ≡ 0 → s ≡ judged s r
-  unfolding judged
-  judged_none e = rw (eq-eqb r 0 e)
-
-  module _ (d : r ≡ 0 → ⊥) where
-    pub judged_refused : r ≡ 10 → Refused ≡ judged s r
-    unfolding judged
-    judged_refused e = rw (ne_eqb r 0 d, eq-eqb r 10 e)
-
-    pub judged_aborts : (r ≡ 10 → ⊥) → Aborts r ≡ judged s r
-    unfolding judged
-    judged_aborts e = rw (ne_eqb r 0 d, ne_eqb r 10 e)
-
-pub ruleset judged_exits = (judged_none, judged_refused, judged_aborts)
+pub ruleset work_exits = (work_stops, own_kept, work_refuses, work_answers)
 
 -- ---- by the operation
 is_move : (op : Update) → moves op ≡ true → op ≡ Migrate
@@ -192,7 +213,7 @@ module _ (slots : ℕ) (b : List ℕ) (op : Update) (po : operation_of (held b o
 
   module _ (key : ℕ) (pk : key ≡ held b op_key) where
     -- down to the leaf
-    module _ (u : List ℕ) (c : Changed) (u' : List ℕ) where
+    module _ (u : List ℕ) (c : Result (Option Changed) Stop) (u' : List ℕ) where
       pub leaf_insert : (value : ℕ) → op ≡ Insert → value ≡ held b op_value → Changes slots b u (insert_plan slots key value) c u' → Changes slots b u (reading slots (waiting (held b))) c u'
       leaf_insert value e pv h = let p : reading slots (waiting m) ≡ insert_plan slots key value = rw (number_is Insert e, pk, pv) in rw p h
 
@@ -200,22 +221,25 @@ module _ (slots : ℕ) (b : List ℕ) (op : Update) (po : operation_of (held b o
       leaf_delete e h = let p : reading slots (waiting m) ≡ delete_plan slots key = rw (number_is Delete e, pk) in rw p h
 
     -- a move
-    pub by_migrate : (c : Bool) → c ≡ moves op → c ≡ true → (server : ℕ) → server ≡ held b op_server → (x u : List ℕ) (s : Stop) (x' u' : List ℕ)
+    pub by_migrate : (c : Bool) → c ≡ moves op → c ≡ true → (server : ℕ) → server ≡ held b op_server → (x u : List ℕ) (s : Course) (x' u' : List ℕ)
         → Operated slots (held b) x u (migrate_plan slots key server) s x' u' → Operated slots (held b) x u (reading slots (waiting (held b))) s x' u'
     by_migrate c pb t server pv x u s x' u' h =
         let p : reading slots (waiting m) ≡ migrate_plan slots key server = rw (number_is Migrate (is_move op (sym pb ∙ t)), pk, pv) in
         rw p h
 
-pub leaf_not : (op : Update) → moves op ≡ false → op ≡ Migrate → (slots : ℕ) (b u : List ℕ) (p : TreePlan) (c : Changed) (u' : List ℕ) → Changes slots b u p c u'
+pub leaf_not : (op : Update) → moves op ≡ false → op ≡ Migrate → (slots : ℕ) (b u : List ℕ) (p : TreePlan) (c : Result (Option Changed) Stop) (u' : List ℕ) → Changes slots b u p c u'
 leaf_not op n e slots b u p c u' = let q : true ≡ false = sym (ap moves e) ∙ n in let y : ◌≡◌ {A = ℕ} 0 1 = cc in absurd (omega arith)
 
 -- the list of own writes is carried along
-pub by_leaf : (slots : ℕ) (b : List ℕ) (p : TreePlan) (x u : List ℕ) (c : Changed) (u₁ : List ℕ) → Changes slots b u p c u₁ → (s : Stop) (x' u' : List ℕ) → Carries slots b x u₁ c s x' u' → Operated slots (held b) x u p s x' u'
+pub no_leaf : (slots : ℕ) (b : List ℕ) (p : TreePlan) (x u : List ℕ) (s : Stop) (u₁ : List ℕ) → OwnGood x → Changes slots b u p (Err s) u₁ → Operated slots (held b) x u p (Ended s) x u₁
+no_leaf slots b p x u s u₁ g h = walks_operated slots (held b) x u p (Ended s) u₁ g (record { same = h.asks; noted = h.noted })
+
+pub by_leaf : (slots : ℕ) (b : List ℕ) (p : TreePlan) (x u : List ℕ) (c : Option Changed) (u₁ : List ℕ) → Changes slots b u p (Ok c) u₁ → (s : Course) (x' u' : List ℕ) → Carries slots b x u₁ c s x' u' → Operated slots (held b) x u p s x' u'
 by_leaf slots b p x u c u₁ h s x' u' q = q.operated p u h
 
 pub ruleset to_leaf_exits = (leaf_insert, leaf_delete, leaf_not)
 
-pub ruleset by_operation = (move_server, by_migrate, by_leaf)
+pub ruleset by_operation = (move_server, by_migrate, no_leaf, by_leaf)
 
 -- ---- what the parts of the work step ask for
 pub ready_good : (x u : List ℕ) → Ready x u → OwnGood x
