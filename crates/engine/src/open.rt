@@ -61,10 +61,8 @@ fn make_servers(mem: &mut [u8], sizes: Sizes)
     requires { StoreIn sizes (length mem.old) }
     ensures { InWhole sizes (new_servers sizes most_servers) mem.old mem.new }
 {
-    let mut s: usize = 0;
-    while s < 8 {
+    for s in 0..8 {
         make_server(mem, sizes, s);
-        s += 1;
     }
 }
 

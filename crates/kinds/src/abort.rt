@@ -35,11 +35,8 @@ pub fn unlock_everywhere(mem: &mut [u8], sizes: Sizes, client: usize)
     ensures { InWhole sizes (freeing sizes client) mem.old mem.new }
 {
     let prepared = field_of(mem, sizes, client, PREPARED);
-    let n: usize = 8;
-    let mut s: usize = 0;
-    while s < n {
+    for s in 0..8 {
         unlock_at(mem, sizes, client, prepared, s);
-        s += 1;
     }
 }
 

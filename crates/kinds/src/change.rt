@@ -38,12 +38,8 @@ fn phases_fit(mem: &[u8], sizes: Sizes) -> bool
     requires { StoreIn sizes (length mem.now) }
     ensures { result ≡ all_below sizes.clients (phase_fits sizes (view mem.now)) }
 {
-    let n = sizes.clients;
-    let mut c: usize = 0;
-    while c < n {
-        if phase_fits(mem, sizes, c) {
-            c += 1;
-        } else {
+    for c in 0..sizes.clients {
+        if !phase_fits(mem, sizes, c) {
             return false;
         }
     }
@@ -85,10 +81,8 @@ fn largest_version(mem: &[u8], sizes: Sizes, server: usize, of: usize, slot: usi
     ensures { result ≡ largest_version (stored_in sizes (view mem.now)) server of slot }
 {
     let mut best = version_at(mem, sizes, server, of, slot);
-    let mut u: usize = 0;
-    while u < 8 {
+    for u in 0..8 {
         best = with_largest(mem, sizes, u, of, slot, best);
-        u += 1;
     }
     best
 }
@@ -106,11 +100,8 @@ fn row_fits(mem: &[u8], sizes: Sizes, server: usize, slot: usize) -> bool
     requires { AtServer sizes (length mem.now) server × (slot < sizes.slots) }
     ensures { result ≡ row_fits (stored_in sizes (view mem.now)) server slot }
 {
-    let mut t: usize = 0;
-    while t < 8 {
-        if version_fits(mem, sizes, server, slot, t) {
-            t += 1;
-        } else {
+    for t in 0..8 {
+        if !version_fits(mem, sizes, server, slot, t) {
             return false;
         }
     }
@@ -122,12 +113,8 @@ fn table_fits(mem: &[u8], sizes: Sizes, server: usize) -> bool
     requires { AtServer sizes (length mem.now) server }
     ensures { result ≡ all_below sizes.slots (row_fits (stored_in sizes (view mem.now)) server) }
 {
-    let n = sizes.slots;
-    let mut k: usize = 0;
-    while k < n {
-        if row_fits(mem, sizes, server, k) {
-            k += 1;
-        } else {
+    for k in 0..sizes.slots {
+        if !row_fits(mem, sizes, server, k) {
             return false;
         }
     }
@@ -188,10 +175,8 @@ fn put_row(mem: &mut [u8], sizes: Sizes, server: usize, slot: usize)
     requires { AtServer sizes (length mem.old) server × (slot < sizes.slots) }
     ensures { InWhole sizes (row_put server slot most_servers) mem.old mem.new }
 {
-    let mut t: usize = 0;
-    while t < 8 {
+    for t in 0..8 {
         put_version(mem, sizes, server, slot, t);
-        t += 1;
     }
 }
 
@@ -200,11 +185,8 @@ fn put_table(mem: &mut [u8], sizes: Sizes, server: usize)
     requires { AtServer sizes (length mem.old) server }
     ensures { InWhole sizes (added server sizes.slots) mem.old mem.new }
 {
-    let n = sizes.slots;
-    let mut k: usize = 0;
-    while k < n {
+    for k in 0..sizes.slots {
         put_row(mem, sizes, server, k);
-        k += 1;
     }
 }
 
@@ -235,10 +217,8 @@ fn tell_all(mem: &mut [u8], sizes: Sizes, server: usize, m: Metadata)
     requires { StoreIn sizes (length mem.old) × (m.version < last_version) }
     ensures { InWhole sizes (told server m most_servers) mem.old mem.new }
 {
-    let mut t: usize = 0;
-    while t < 8 {
+    for t in 0..8 {
         tell(mem, sizes, server, m, t);
-        t += 1;
     }
 }
 

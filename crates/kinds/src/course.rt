@@ -49,11 +49,8 @@ fn covers(n: usize, set: u64, done: u64) -> bool
     requires { n ≤ most_servers }
     ensures { result ≡ covers n set done }
 {
-    let mut s: usize = 0;
-    while s < n {
-        if is_covered(set, done, s) {
-            s += 1;
-        } else {
+    for s in 0..n {
+        if !is_covered(set, done, s) {
             return false;
         }
     }

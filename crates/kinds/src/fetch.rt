@@ -89,13 +89,11 @@ fn items_found(mem: &[u8], sizes: Sizes, client: usize, server: usize, used: &[u
         number: 0,
         reason: 0,
     };
-    let mut i: usize = 0;
-    while i < n {
+    for i in 0..n {
         let item = known_at(mem, sizes, client, used, i);
         let number = item.number;
         let reason = fetch_fault(mem, sizes, client, server, item);
         best = lesser(best, Fault { number, reason });
-        i += 1;
     }
     best.reason
 }

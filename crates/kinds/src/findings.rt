@@ -160,18 +160,15 @@ pub fn prepare_finds(mem: &[u8], sizes: Sizes, client: usize, server: usize) -> 
     ensures { result ≡ prepare_found sizes (view mem.now) client server }
 {
     let low = lowest(mem, sizes, client);
-    let n = reads_of(mem, sizes, client);
     let mut best = Fault {
         number: 0,
         reason: 0,
     };
-    let mut i: usize = 0;
-    while i < n {
+    for i in 0..reads_of(mem, sizes, client) {
         let item = item_at(mem, sizes, client, i);
         let number = item.number;
         let reason = prepare_fault(mem, sizes, client, server, low, item);
         best = lesser(best, Fault { number, reason });
-        i += 1;
     }
     best.reason
 }

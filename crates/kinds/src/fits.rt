@@ -35,14 +35,12 @@ fn lowest_in(n: usize, set: u64) -> usize
     requires { n ≤ most_servers }
     ensures { result ≡ lowest_of n set }
 {
-    let mut s: usize = 0;
-    while s < n {
+    for s in 0..n {
         if bits::has(set, s as u32) {
             return s;
         }
-        s += 1;
     }
-    s
+    n
 }
 
 // The lowest participant, where metadata and inner nodes are checked.
@@ -77,12 +75,8 @@ pub fn unlock_fits(mem: &[u8], sizes: Sizes, client: usize, server: usize) -> bo
     ensures { result ≡ unlock_fits sizes (stored_in sizes (view mem.now)) client server }
 {
     let low = lowest(mem, sizes, client);
-    let n = reads_of(mem, sizes, client);
-    let mut i: usize = 0;
-    while i < n {
-        if item_unlocks(mem, sizes, server, low, item_at(mem, sizes, client, i)) {
-            i += 1;
-        } else {
+    for i in 0..reads_of(mem, sizes, client) {
+        if !item_unlocks(mem, sizes, server, low, item_at(mem, sizes, client, i)) {
             return false;
         }
     }
@@ -109,12 +103,8 @@ fn servers_unlock(mem: &[u8], sizes: Sizes, client: usize) -> bool
     ensures { result ≡ unlocks_all sizes (view mem.now) client }
 {
     let prepared = field_of(mem, sizes, client, PREPARED);
-    let n: usize = 8;
-    let mut s: usize = 0;
-    while s < n {
-        if server_unlocks(mem, sizes, client, prepared, s) {
-            s += 1;
-        } else {
+    for s in 0..8 {
+        if !server_unlocks(mem, sizes, client, prepared, s) {
             return false;
         }
     }

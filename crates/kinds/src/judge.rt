@@ -88,12 +88,8 @@ fn readers_fit(mem: &[u8], sizes: Sizes, word: u64) -> bool
     requires { StoreIn sizes (length mem.now) }
     ensures { result ≡ all_below sizes.clients (reader_fits sizes (view mem.now) word) }
 {
-    let n = sizes.clients;
-    let mut d: usize = 0;
-    while d < n {
-        if reader_fits(mem, sizes, word, d) {
-            d += 1;
-        } else {
+    for d in 0..sizes.clients {
+        if !reader_fits(mem, sizes, word, d) {
             return false;
         }
     }

@@ -95,10 +95,7 @@ pub fn change_all(mem: &mut [u8], sizes: Sizes, client: usize, server: usize, ch
     ensures { InWhole sizes (changes sizes client server change) mem.old mem.new }
 {
     let low = lowest(mem, sizes, client);
-    let n = reads_of(mem, sizes, client);
-    let mut i: usize = 0;
-    while i < n {
+    for i in 0..reads_of(mem, sizes, client) {
         change_nth(mem, sizes, client, server, low, change, i);
-        i += 1;
     }
 }

@@ -59,14 +59,11 @@ fn first_from(mem: &[u8], sizes: Sizes, first: usize) -> usize
     requires { StoreIn sizes (length mem.now) × (first < most_servers) }
     ensures { result ≡ first_from (there (stored_in sizes (view mem.now))) most_servers first }
 {
-    let mut s = first;
-    let mut left: usize = 8;
-    while 0 < left {
-        if is_there(mem, sizes, s % 8) {
-            return s % 8;
+    for i in 0..8 {
+        let server = (first + i) % 8;
+        if is_there(mem, sizes, server) {
+            return server;
         }
-        s += 1;
-        left -= 1;
     }
     8
 }
@@ -103,12 +100,10 @@ fn another_open(mem: &[u8], sizes: Sizes, server: usize) -> bool
     requires { StoreIn sizes (length mem.now) }
     ensures { result ≡ another_open (stored_in sizes (view mem.now)) server }
 {
-    let mut t: usize = 0;
-    while t < 8 {
+    for t in 0..8 {
         if is_other_open(mem, sizes, server, t) {
             return true;
         }
-        t += 1;
     }
     false
 }
@@ -130,12 +125,10 @@ pub fn state_suits(mem: &[u8], sizes: Sizes, change: ServerChange, server: usize
 fn any_nonzero(words: [u64; 16]) -> bool
     ensures { result ≡ any_below 16 (nonzero words) }
 {
-    let mut i: usize = 0;
-    while i < 16 {
+    for i in 0..16 {
         if words[i] != 0 {
             return true;
         }
-        i += 1;
     }
     false
 }
@@ -181,12 +174,8 @@ pub fn is_quiet(mem: &[u8], sizes: Sizes) -> bool
     requires { StoreIn sizes (length mem.now) }
     ensures { result ≡ quiet sizes (stored_in sizes (view mem.now)) }
 {
-    let n = sizes.clients;
-    let mut c: usize = 0;
-    while c < n {
-        if is_quiet_client(mem, sizes, c) {
-            c += 1;
-        } else {
+    for c in 0..sizes.clients {
+        if !is_quiet_client(mem, sizes, c) {
             return false;
         }
     }

@@ -133,10 +133,7 @@ pub fn store_all(mem: &mut [u8], sizes: Sizes, client: usize, server: usize)
     requires storing { Storing sizes (view mem.old) client server }
     ensures { InWhole sizes (stores sizes client server) mem.old mem.new }
 {
-    let n = writes_of(mem, sizes, client);
-    let mut i: usize = 0;
-    while i < n {
+    for i in 0..writes_of(mem, sizes, client) {
         store_nth(mem, sizes, client, server, i);
-        i += 1;
     }
 }

@@ -25,7 +25,6 @@ use Rattle.kinds.specs.Parts.{StoreIn, stored_in}
 use Rattle.kinds.specs.Laws.Parts.{client_lent}
 use Rattle.kinds.specs.Items.{as_item, read_item}
 use Rattle.kinds.specs.Judge.{of_client}
-use Rattle.kinds.specs.Laws.Judge.{none_passed, one_passed, one_fails, all_passed}
 use Rattle.kinds.specs.Fits.{InSet, Known, unlock_item, unlocks_at, unlocks_all}
 use Rattle.kinds.specs.declared.items.Item as code
 
@@ -97,11 +96,8 @@ abbrev pub each_fits : Sizes → List ℕ → ℕ → (Item → Bool) → ℕ �
 each_fits z w c f i = f (read_item (of_client z w c) i)
 
 module _ (z : Sizes) (w : List ℕ) (c : ℕ) (f : Item → Bool) (t : code.Item) (i : ℕ) (b : Bool) (q : as_item t ≡ read_item (of_client z w c) i) (e : b ≡ f (as_item t)) where
-  pub item_passed : all_below i (each_fits z w c f) ≡ true → b ≡ true → all_below (i + 1) (each_fits z w c f) ≡ true
-  item_passed h u = one_passed (each_fits z w c f) i b h (e ∙ ap f q) u
-
-  pub item_fails : (n : ℕ) → i < n → b ≡ false → false ≡ all_below n (each_fits z w c f)
-  item_fails n h u = one_fails (each_fits z w c f) i n b h (e ∙ ap f q) u
+  pub item_asked : b ≡ each_fits z w c f i
+  item_asked = e ∙ ap f q
 
 -- the names that the definitions give to these tests
 module _ (z : Sizes) (w : List ℕ) (c s n low : ℕ) (r : Bool) (en : n ≡ count (of_client z w c) Reads) (el : low ≡ lowest_participant z (stored_in z w) c) where
@@ -138,5 +134,3 @@ module _ (z : Sizes) (w : List ℕ) (c : ℕ) where
     abort_all r t h = h ∙ sym (rw (← e, not-false b t))
 
 pub ruleset server_exits = (not_there, there_unfit, there, unlocked_all, abort_unfit, abort_all)
-
-pub ruleset passing_items = (none_passed, item_passed, item_fails, all_passed, unlock_all)

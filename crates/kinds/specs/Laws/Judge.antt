@@ -61,31 +61,6 @@ module _ (z : Sizes) (b : List ℕ) (l : StoreIn z (length b)) where
     word_lent x r o a p q f =
         f ∙ ap (λ (m : Place → ℕ). m a) (server_lent z s k b h e l.room) ∙ rw (q, p)
 
--- ---- a test of all numbers, one after another
-module _ (f : ℕ → Bool) where
-  pub none_passed : all_below 0 f ≡ true
-  unfolding all_below
-  none_passed = refl
-
-  pub one_passed : (i : ℕ) (b : Bool) → all_below i f ≡ true → b ≡ f i → b ≡ true → all_below (i + 1) f ≡ true
-  unfolding all_below
-  one_passed i b h e t = let g : f i ≡ true = sym e ∙ t in rw (add-one i, h, g)
-
-  fails_on : (i k : ℕ) → f i ≡ false → all_below (suc i + k) f ≡ false
-  unfolding all_below
-  fails_on i zero h = let e : suc i + 0 ≡ suc i = omega arith in rw (e, h) (go (all_below i f))
-    where
-      go : (b : Bool) → (b && false) ≡ false
-      go true = refl
-      go false = refl
-  fails_on i (suc k) h = let e : suc i + suc k ≡ suc (suc i + k) = omega arith in rw (e, fails_on i k h)
-
-  pub one_fails : (i n : ℕ) (b : Bool) → i < n → b ≡ f i → b ≡ false → false ≡ all_below n f
-  one_fails i n b h e t = let q : n ≡ suc i + (n - suc i) = omega arith in sym (rw q (fails_on i (n - suc i) (sym e ∙ t)))
-
-  pub all_passed : (i n : ℕ) → i ≤ n → n ≤ i → all_below i f ≡ true → true ≡ all_below n f
-  all_passed i n h g p = let e : n ≡ i = omega arith in sym (rw e p)
-
 -- ---- holders of locks
 module _ (z : Sizes) (w : List ℕ) where
   pub has_by : (d p : ℕ) (b : Bool) → p ≡ of_client z w d (field 0) → b ≡ between 1 3 p → b ≡ has_transaction z (stored_in z w) d
@@ -164,5 +139,3 @@ pub ruleset judge_exits = (
   word_by,
   lock_by,
 )
-
-pub ruleset passing = (none_passed, one_passed, one_fails, all_passed)

@@ -75,31 +75,28 @@ unfolding other_open
 other_same m s t e = rw (eq-eqb s t e)
 
 -- ---- the first server not absent
-pub record Counting (f : ℕ → Bool) (first s left : ℕ) : Type 0 where
-  pub whole : s + left ≡ first + 8
-  pub same : first_from f 8 first ≡ first_from f left s
+pub record Counting (f : ℕ → Bool) (first i : ℕ) : Type 0 where
+  pub same : first_from f 8 first ≡ first_from f (8 - i) (first + i)
 
 module _ (f : ℕ → Bool) (first : ℕ) where
-  pub count_starts : Counting f first first 8
-  count_starts = record { whole = refl; same = refl }
+  pub count_starts : Counting f first 0
+  count_starts = let e : first + 0 ≡ first = omega arith in record { same = rw e refl }
 
-  module _ (s left : ℕ) (c : Counting f first s left) (b : Bool) (e : b ≡ f (s % 8)) where
-    next : 0 < left → first_from f left s ≡ first_from f (suc (left - 1)) s
-    next l = let q : left ≡ suc (left - 1) = omega arith in ap (λ (n : ℕ). first_from f n s) q
+  module _ (i : ℕ) (c : Counting f first i) (l : i < 8) (b : Bool) (e : b ≡ f ((first + i) % 8)) where
+    next : first_from f (8 - i) (first + i) ≡ first_from f (suc (8 - (i + 1))) (first + i)
+    next = let q : 8 - i ≡ suc (8 - (i + 1)) = omega arith in ap (λ (n : ℕ). first_from f n (first + i)) q
 
-    pub count_finds : 0 < left → b ≡ true → s % 8 ≡ first_from f 8 first
+    pub count_finds : b ≡ true → (first + i) % 8 ≡ first_from f 8 first
     unfolding first_from
-    count_finds l t = sym (c.same ∙ next l ∙ rw (← e, t))
+    count_finds t = sym (c.same ∙ next ∙ rw (← e, t))
 
-    pub count_goes_on : 0 < left → b ≡ false → Counting f first (s + 1) (left - 1)
+    pub count_goes_on : b ≡ false → Counting f first (i + 1)
     unfolding first_from
-    count_goes_on l t =
-        let q : s + 1 ≡ suc s = omega arith in
-        record { whole = omega (arith, c.whole); same = c.same ∙ next l ∙ rw (← e, t, q) }
+    count_goes_on t = let q : first + (i + 1) ≡ suc (first + i) = omega arith in record { same = c.same ∙ next ∙ rw (← e, t, q) }
 
-  pub count_ends : (s left : ℕ) → Counting f first s left → left ≤ 0 → 8 ≡ first_from f 8 first
+  pub count_ends : (i : ℕ) → Counting f first i → 8 ≤ i → 8 ≡ first_from f 8 first
   unfolding first_from
-  count_ends s left c l = let q : left ≡ 0 = omega arith in sym (c.same ∙ ap (λ (n : ℕ). first_from f n s) q)
+  count_ends i c l = let q : 8 - i ≡ 0 = omega arith in sym (c.same ∙ ap (λ (n : ℕ). first_from f n (first + i)) q)
 
 pub ruleset counting = (count_starts, count_finds, count_goes_on, count_ends)
 

@@ -1,4 +1,3 @@
-use Rattle.std.proofs.Common.{rules}
 use Rattle.schedule.proofs.Laws.Listed.{none_done, one_done, all_done}
 use Rattle.schedule.proofs.run.run.Goals as goal
 
@@ -7,7 +6,7 @@ loop-i-init c = none_done _ _ _ _
 
 pub loop-i-preserved : goal.loop-i-preserved
 loop-i-preserved c =
-    one_done _ _ _ _ _ _ _ _ _ _ _ _ c.loop-i.invariant c.loop-i-test.true (search rules) (search rules) c.turn.ensures.turns c.turn.ensures.reached
+    one_done _ _ _ _ _ _ _ _ _ _ _ _ c.loop-i.invariant c.loop-i-test.true c.loop-i.auto.mem c.loop-i.auto.out c.turn.ensures.turns c.turn.ensures.reached
 
 pub returns : goal.returns
 returns c = all_done _ _ _ _ _ _ _ _ c.loop-i.invariant c.loop-i-test.false
