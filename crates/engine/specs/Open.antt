@@ -1,23 +1,16 @@
 -- Opening: the words of a new store.
-use Rattle.std.specs.Prelude.{cond, List, ℕ, zero, suc, eqb, length, set, replicate}
+use Rattle.std.specs.Prelude.{cond, List, ℕ, eqb, length, set, replicate}
 use Rattle.std.proofs.lemmas.List.Edits.{sets}
 use Rattle.memory.specs.Word.{view}
 use Rattle.layout.specs.Space.{Put, stored}
 use Rattle.layout.specs.Part.{over}
 use Rattle.client.specs.Lent.{LentMut}
 use Rattle.steps.specs.declared.sizes.Sizes.{Sizes}
-use Rattle.engine.specs.declared.open.Opening.{Opening}
-use Rattle.engine.specs.declared.open.Opening.TheVariants.{Accepted, Refused}
 use Rattle.steps.specs.Whole.{Address, server, whole, block, words_for}
 use Rattle.steps.specs.Steps.{at_servers}
 use Rattle.steps.specs.Run.{first_stores}
 use Rattle.steps.specs.Refusal.{open_refusal}
 use Rattle.server.specs.Fresh as Fresh
-
--- the refusal's number, if there is one
-unfoldable pub opening : ℕ → Opening
-opening zero = Accepted
-opening (suc n) = Refused (suc n)
 
 -- "a 64-byte head holding the three sizes": the words with them
 unfoldable pub with_head : Sizes → List ℕ → List ℕ

@@ -1,5 +1,5 @@
 // Opening a store in lent memory.
-ghost use Rattle.std.specs.Prelude.{◌≡◌, [], ◌/◌, ◌≤◌, length};
+ghost use Rattle.std.specs.Prelude.{◌≡◌, [], ◌/◌, ◌≤◌, length, IsOk};
 ghost use Rattle.memory.specs.Word.{view};
 ghost use Rattle.layout.specs.Space.{Valid};
 ghost use Rattle.layout.specs.Part.{in_part};
@@ -8,22 +8,17 @@ ghost use Rattle.nodes.specs.States.{first_states};
 ghost use Rattle.server.specs.Layout as Srv;
 ghost use Rattle.steps.specs.Whole.{server};
 ghost use Rattle.steps.specs.Refusal.{open_refusal};
+ghost use Rattle.steps.specs.Refused.{refused};
 ghost use Rattle.kinds.specs.Parts.{StoreIn, AtServer, InWhole, head_words};
-ghost use Rattle.engine.specs.Open.{opening, with_head, new_server, new_servers, new_words, opened_in};
+ghost use Rattle.engine.specs.Open.{with_head, new_server, new_servers, new_words, opened_in};
 ghost use Rattle.engine.specs.Reached.{Reached};
 
 use kinds::refusal::memory_refusal;
 use kinds::whole::{server_at, words_for};
 use memory::{fill_words, write_word};
 use server::place::{Place, put};
+use steps::refusal::Refusal;
 use steps::sizes::Sizes;
-
-// Accepted, or the number by which the opening is refused.
-#[derive(Clone, Copy)]
-pub enum Opening {
-    Accepted,
-    Refused(u64),
-}
 
 // "those past the opened size absent at first"
 fn first_states(servers: usize) -> u64
@@ -86,15 +81,12 @@ fn make_new(mem: &mut [u8], sizes: Sizes)
 }
 
 // A new store of these sizes, if the memory lent is long enough.
-pub fn open(mem: &mut [u8], sizes: Sizes) -> Opening
-    ensures value { result ≡ opening (open_refusal (length mem.old) sizes) }
+pub fn open(mem: &mut [u8], sizes: Sizes) -> Result<(), Refusal>
+    ensures value { refused result ≡ open_refusal (length mem.old) sizes }
     ensures words { view mem.new ≡ opened_in mem sizes }
-    ensures reached { result ≡ Opening.Accepted → Reached sizes [] mem.new }
+    ensures reached { IsOk result → Reached sizes [] mem.new }
 {
-    let number = memory_refusal(mem.len(), sizes);
-    if number != 0 {
-        return Opening::Refused(number);
-    }
+    memory_refusal(mem.len(), sizes)?;
     make_new(mem, sizes);
-    Opening::Accepted
+    Ok(())
 }

@@ -19,7 +19,7 @@ use kinds::judge::field_of;
 use kinds::life::{begin, give};
 use kinds::loss::lose;
 use kinds::prepare::prepare;
-use kinds::refusal::{kind_of, memory_refusal, refusal};
+use kinds::refusal::{memory_refusal, refusal};
 use kinds::sizes::head;
 use steps::outcome::Outcome;
 use steps::sizes::Sizes;
@@ -77,16 +77,14 @@ fn in_store(mem: &mut [u8], out: &mut [u8], sizes: Sizes, step: Step) -> Outcome
     ensures comes { Comes sizes (rule sizes step (length out.old)) mem.old result mem.new }
     ensures output { LeavesLent sizes (rule sizes step (length out.old)) mem out }
 {
-    let refused = refusal(mem, sizes, step);
-    if refused != 0 {
-        return Outcome::Refused(refused);
+    if let Err(refused) = refusal(mem, sizes, step) {
+        return Outcome::Refused(u64::from(refused));
     }
     let client = step.client as usize;
     if short_output(mem, out.len(), sizes, client, step.kind) {
         return Outcome::Refused(12);
     }
-    let kind = kind_of(step.kind);
-    by_kind(mem, out, sizes, client, step, kind)
+    by_kind(mem, out, sizes, client, step, Kind::from(step.kind))
 }
 
 // "A refused step returns the first number that holds and changes no byte". A list writes its pairs to `out`, which any other step leaves alone.
@@ -102,9 +100,8 @@ pub fn step(mem: &mut [u8], out: &mut [u8], step: Step) -> Outcome
         return Outcome::Refused(1);
     }
     let sizes = head(mem);
-    let number = memory_refusal(bytes, sizes);
-    if number != 0 {
-        return Outcome::Refused(number);
+    if let Err(refusal) = memory_refusal(bytes, sizes) {
+        return Outcome::Refused(u64::from(refusal));
     }
     in_store(mem, out, sizes, step)
 }

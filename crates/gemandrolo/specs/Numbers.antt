@@ -1,5 +1,5 @@
 -- What programs in C and Rust pass and get: sizes, steps, lengths and outcomes as numbers.
-use Rattle.std.specs.Prelude.{List, [], ◌∷◌, ℕ}
+use Rattle.std.specs.Prelude.{List, [], ◌∷◌, ℕ, Result, Ok, Err}
 use Rattle.std.specs.Borrow.{MutBor}
 use denote.Triple.Both.{Both}
 use Rattle.client.specs.Lent.{LentMut}
@@ -9,8 +9,7 @@ use Rattle.steps.specs.declared.outcome.Line.{Line}
 use Rattle.steps.specs.Outcome.{line}
 use Rattle.steps.specs.Taken.{Taken, outcome_from}
 use Rattle.engine.specs.Step.{outcome_of, lent, as_taken}
-use Rattle.kinds.specs.declared.whole.Length.{Length}
-use Rattle.kinds.specs.declared.whole.Length.TheVariants.{Bytes, Refused}
+use Rattle.steps.specs.declared.refusal.Refusal.{Refusal}
 
 -- the three sizes as a program passes them
 abbrev pub sizes_of : ℕ → ℕ → ℕ → Sizes
@@ -21,9 +20,9 @@ abbrev pub step_of : ℕ → ℕ → ℕ → ℕ → ℕ → ℕ → Step
 step_of kind client op key value server = record { kind = kind; client = client; op = op; key = key; value = value; server = server }
 
 -- a length in bytes, or 0
-unfoldable pub bytes_of : Length → ℕ
-bytes_of (Bytes n) = n
-bytes_of (Refused _) = 0
+abbrev pub bytes_of : Result ℕ Refusal → ℕ
+bytes_of (Ok n) = n
+bytes_of (Err r) = 0
 
 -- the three numbers of a step's outcome, on the lent memory and with the lent output
 abbrev pub numbers_of : LentMut → LentMut → Step → Line

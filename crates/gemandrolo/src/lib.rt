@@ -12,9 +12,9 @@ ghost use Rattle.engine.specs.Reached.{Reached, GoesOn};
 ghost use Rattle.schedule.specs.Listed.{TakesAll};
 ghost use Rattle.gemandrolo.specs.Numbers.{sizes_of, step_of, bytes_of, numbers_of, one_taken};
 
-use engine::open::{Opening, open};
+use engine::open::open;
 use engine::step::step;
-use kinds::whole::{Length, length_for};
+use kinds::whole::length_for;
 use schedule::run::run;
 use steps::outcome::Line;
 use steps::sizes::Sizes;
@@ -30,10 +30,7 @@ pub extern "C" fn gemandrolo_length(servers: usize, slots: usize, clients: usize
         slots,
         clients,
     });
-    match length {
-        Length::Bytes(n) => n,
-        Length::Refused(_) => 0,
-    }
+    length.unwrap_or(0)
 }
 
 // A new store in the memory lent: 0, or the number by which it is refused. No step has been taken in it.
@@ -57,8 +54,8 @@ pub extern "C" fn gemandrolo_open(
         },
     );
     match opening {
-        Opening::Accepted => 0,
-        Opening::Refused(number) => number,
+        Ok(()) => 0,
+        Err(refusal) => u64::from(refusal),
     }
 }
 
@@ -96,7 +93,7 @@ pub extern "C" fn gemandrolo_step(
             server,
         },
     );
-    let l = Line::of(outcome);
+    let l = Line::from(outcome);
     *a = l.a;
     *b = l.b;
     l.outcome

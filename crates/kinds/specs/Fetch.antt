@@ -1,5 +1,5 @@
 -- A fetch's check, as code makes it: "A fetch checks at that server what the transaction has read".
-use Rattle.std.specs.Prelude.{Bool, cond, List, map, ℕ, ◌+◌, ◌-◌, ◌≤◌, ◌<◌, eqb, leb, ltb, length, get_or}
+use Rattle.std.specs.Prelude.{Bool, cond, List, map, ℕ, ◌+◌, ◌-◌, ◌≤◌, ◌<◌, leb, ltb, length, get_or}
 use Rattle.memory.specs.Word.{view}
 use Rattle.server.specs.declared.lock.Use.TheVariants.{Fetch}
 use Rattle.nodes.specs.Object.{object_of}
@@ -12,8 +12,6 @@ use Rattle.client.specs.Sets.{count}
 use Rattle.client.specs.Have.{copied}
 use Rattle.client.specs.Lent.{InUse, used_in}
 use Rattle.steps.specs.declared.sizes.Sizes.{Sizes}
-use Rattle.kinds.specs.declared.fetch.Verdict.{Verdict}
-use Rattle.kinds.specs.declared.fetch.Verdict.TheVariants.{Unfit, Fault, Clear}
 use Rattle.steps.specs.Uses.{Item, item_of, item_object, deciding}
 use Rattle.steps.specs.Judge.{lock_fits}
 use Rattle.steps.specs.Servers.{there}
@@ -72,20 +70,16 @@ fetch_fault z w c s i =
 unfoldable pub items_found : Sizes → List ℕ → ℕ → ℕ → List ℕ → ℕ
 items_found z w c s us = deciding (map (fetch_finding z (stored_in z w) c us s) (fetch_items z (stored_in z w) c us))
 
--- ---- what comes of it: on, refusal 10, or a reason
-abbrev pub verdict_of : ℕ → Verdict
-verdict_of y = cond (eqb y 0) Clear (cond (eqb y 10) Unfit (Fault y))
+-- ---- by number, as a check comes to it: and of an absent server 1
+unfoldable pub reached : Sizes → List ℕ → ℕ → ℕ → List ℕ → ℕ
+reached z w c s us = cond (there (stored_in z w) s) (items_found z w c s us) 1
 
--- and of an absent server the reason 1
-unfoldable pub reached : Sizes → List ℕ → ℕ → ℕ → List ℕ → Verdict
-reached z w c s us = cond (there (stored_in z w) s) (verdict_of (items_found z w c s us)) (Fault 1)
-
--- one too many is read
-abbrev pub room_of : Sizes → List ℕ → ℕ → List ℕ → Verdict
-room_of z w c us = cond (leb (limit Reads) (of_client z w c reads_count + length us)) (Fault 4) Clear
+-- 4: one too many is read
+abbrev pub room_of : Sizes → List ℕ → ℕ → List ℕ → ℕ
+room_of z w c us = cond (leb (limit Reads) (of_client z w c reads_count + length us)) 4 0
 
 -- the object fetched, of the number x: busy by a writer, or one too many
-unfoldable pub gate_of : Sizes → List ℕ → ℕ → ℕ → ℕ → List ℕ → Verdict
+unfoldable pub gate_of : Sizes → List ℕ → ℕ → ℕ → ℕ → List ℕ → ℕ
 gate_of z w c s x us =
     cond (lock_fits z (stored_in z w) s x)
-    (cond (held (object_of x) c Fetch (of_server z w s)) (Fault 2) (room_of z w c us)) Unfit
+    (cond (held (object_of x) c Fetch (of_server z w s)) 2 (room_of z w c us)) 10

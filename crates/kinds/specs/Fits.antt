@@ -1,5 +1,5 @@
 -- Refusal 10 over all objects read, as code asks it item by item.
-use Rattle.std.specs.Prelude.{◌≡◌, Bool, true, ◌&&◌, ◌||◌, not, List, ℕ, ◌-◌, ◌<◌, length}
+use Rattle.std.specs.Prelude.{◌≡◌, Bool, true, ◌&&◌, ◌||◌, not, List, ℕ, ◌<◌, length}
 use Rattle.memory.specs.Bit.{bit}
 use Rattle.nodes.specs.Object.{object_of}
 use Rattle.server.specs.Object.{Has}

@@ -1,5 +1,5 @@
 -- Refusal 10 at a server, of one item: a lock and those that hold it.
-use Rattle.std.specs.Prelude.{◌≡◌, Bool, ◌&&◌, ◌||◌, not, List, ℕ, ◌-◌, length}
+use Rattle.std.specs.Prelude.{◌≡◌, Bool, ◌&&◌, ◌||◌, not, List, ℕ, length}
 use Rattle.memory.specs.Bit.{bit}
 use Rattle.memory.specs.Word.{view}
 use Rattle.server.specs.declared.place.Place.{Place}

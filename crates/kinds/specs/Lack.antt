@@ -1,5 +1,5 @@
 -- A name of the store, as a fetch needs it; what a server hands over.
-use Rattle.std.specs.Prelude.{◌≡◌, true, ℕ, ◌-◌, ◌<◌, List}
+use Rattle.std.specs.Prelude.{◌≡◌, true, ℕ, ◌<◌, List}
 use Rattle.memory.specs.Word.{view}
 use Rattle.nodes.specs.Name.{slot_of}
 use Rattle.operations.specs.Object.{Ask}

@@ -1,5 +1,5 @@
 -- The locks at a server, changed object by object.
-use Rattle.std.specs.Prelude.{Bool, cond, List, [], ℕ, ◌-◌}
+use Rattle.std.specs.Prelude.{Bool, cond, List, [], ℕ}
 use Rattle.layout.specs.Space.{Put}
 use Rattle.layout.specs.Step.{Does, silent}
 use Rattle.layout.specs.Part.{in_part}

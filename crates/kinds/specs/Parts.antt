@@ -1,9 +1,9 @@
 -- The whole memory as code is lent it: its sizes, and what stands in it.
-use Rattle.std.specs.Prelude.{cond, List, ◌<◌, ℕ, ◌-◌, ◌/◌, ◌≤◌, get_or}
+use Rattle.std.specs.Prelude.{cond, List, ◌<◌, ℕ, ◌/◌, ◌≤◌, get_or, Result, Ok, Err}
 use Rattle.layout.specs.Space.{mem, Put}
 use Rattle.steps.specs.declared.sizes.Sizes.{Sizes}
-use Rattle.kinds.specs.declared.whole.Length.{Length}
-use Rattle.kinds.specs.declared.whole.Length.TheVariants.{Bytes, Refused}
+use Rattle.steps.specs.declared.refusal.Refusal.{Refusal}
+use Rattle.steps.specs.declared.refusal.Refusal.TheVariants.{BadSizes}
 use Rattle.steps.specs.Whole.{Allowed, Address, whole, block, words_for, length_for, client, server}
 use Rattle.steps.specs.Refusal.{allowed?}
 use Rattle.nodes.specs.Object.{object_of}
@@ -28,8 +28,8 @@ abbrev pub most_words : ℕ
 most_words = 525336
 
 -- "the length that given sizes call for", refused by 2
-unfoldable pub length_answer : Sizes → Length
-length_answer z = cond (allowed? z) (Bytes (length_for z)) (Refused 2)
+unfoldable pub length_answer : Sizes → Result ℕ Refusal
+length_answer z = cond (allowed? z) (Ok (length_for z)) (Err BadSizes)
 
 -- memory of n bytes that holds a store of these sizes
 pub record StoreIn (z : Sizes) (n : ℕ) : Type 0 where

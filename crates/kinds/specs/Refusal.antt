@@ -1,5 +1,5 @@
 -- Refusals 5 to 9, 11 and 13 to 15 as the code asks for them: which of 6 to 8 and 11, by the kind; of a change of the servers 7, 13 to 15 and 9.
-use Rattle.std.specs.Prelude.{Bool, true, false, cond, ◌&&◌, not, List, ℕ, ◌-◌, ◌<◌, eqb, leb}
+use Rattle.std.specs.Prelude.{Bool, true, false, cond, ◌&&◌, not, List, ℕ, ◌<◌, eqb, leb}
 use Rattle.memory.specs.Bit.{bit}
 use Rattle.client.specs.Layout.{ClientWord, participants, prepared, applied}
 use Rattle.client.specs.Record.{in_store}

@@ -1,5 +1,5 @@
 -- A write by value, and what a server stores of it.
-use Rattle.std.specs.Prelude.{◌≡◌, Bool, true, cond, ◌||◌, List, [], ℕ, ◌+◌, ◌-◌, ◌/◌, ◌≤◌, ◌<◌, eqb, length}
+use Rattle.std.specs.Prelude.{◌≡◌, Bool, true, cond, ◌||◌, List, [], ℕ, ◌+◌, ◌/◌, ◌≤◌, ◌<◌, eqb, length}
 use Rattle.memory.specs.Word.{view}
 use Rattle.layout.specs.Space.{Put}
 use Rattle.server.specs.declared.place.Place.{Place}

@@ -6,9 +6,10 @@ ghost use Rattle.client.specs.Life as Life;
 ghost use Rattle.steps.specs.Steps.{abort};
 ghost use Rattle.kinds.specs.Parts.{InWhole, InClient, AtClient};
 ghost use Rattle.kinds.specs.Fits.{KnownAt, KnownClient};
-ghost use Rattle.kinds.specs.Abort.{Freed, freeing, aborts};
+ghost use Rattle.kinds.specs.Abort.{Freed, freeing, aborts, stops};
 ghost use Rattle.kinds.specs.Kinds.{Comes};
 
+use crate::findings::Fault;
 use crate::fits::abort_fits;
 use crate::judge::field_of;
 use crate::locks::{Change, change_all};
@@ -70,6 +71,19 @@ pub fn abort(mem: &mut [u8], sizes: Sizes, client: usize, reason: u64, used: &[u
     Outcome::Refused(10)
 }
 
+// A fault refuses the step, or the transaction aborts for it.
+pub fn stop(mem: &mut [u8], sizes: Sizes, client: usize, fault: Fault, used: &[u64]) -> Outcome
+    requires { AtClient sizes (length mem.old) client × InUse used.now }
+    ensures { Comes sizes (stops sizes client fault (used_in used.now)) mem.old result mem.new }
+{
+    match fault {
+        Fault::Damaged => Outcome::Refused(10),
+        Fault::Differs => abort(mem, sizes, client, 1, used),
+        Fault::Busy => abort(mem, sizes, client, 2, used),
+        Fault::TooMany => abort(mem, sizes, client, 4, used),
+    }
+}
+
 // And where a step uses no copies.
 pub fn abort_unused(mem: &mut [u8], sizes: Sizes, client: usize, reason: u64) -> Outcome
     requires { AtClient sizes (length mem.old) client }
@@ -77,6 +91,14 @@ pub fn abort_unused(mem: &mut [u8], sizes: Sizes, client: usize, reason: u64) ->
 {
     let none = [0u64; 98];
     abort(mem, sizes, client, reason, &none)
+}
+
+pub fn stop_unused(mem: &mut [u8], sizes: Sizes, client: usize, fault: Fault) -> Outcome
+    requires { AtClient sizes (length mem.old) client }
+    ensures { Comes sizes (stops sizes client fault []) mem.old result mem.new }
+{
+    let none = [0u64; 98];
+    stop(mem, sizes, client, fault, &none)
 }
 
 // 6 give up

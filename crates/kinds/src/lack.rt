@@ -12,8 +12,8 @@ ghost use Rattle.kinds.specs.Judge.{of_server};
 ghost use Rattle.kinds.specs.Fetch.{Fetching, Checking};
 ghost use Rattle.kinds.specs.Lack.{There, Source, HandsOver, Fetches};
 
-use crate::abort::abort;
-use crate::fetch::{Verdict, check_from, gate};
+use crate::abort::stop;
+use crate::fetch::{check_from, gate};
 use crate::hand::{store_meta, store_node, store_vector};
 use crate::servers::{meta_of, metadata_source, vector_of};
 use crate::whole::server_at;
@@ -36,19 +36,15 @@ fn hand_meta(mem: &mut [u8], sizes: Sizes, client: usize, server: usize, used: &
     requires { Checking sizes mem.old client server used.now }
     ensures { HandsOver sizes client used (object meta) server (Fetched 0 0) mem result }
 {
-    let g = gate(mem, sizes, client, server, 0, used);
-    match g {
-        Verdict::Unfit => Outcome::Refused(10),
-        Verdict::Fault(reason) => abort(mem, sizes, client, reason, used),
-        Verdict::Clear => {
-            if !meta_fits(mem, sizes, server) {
-                return Outcome::Refused(10);
-            }
-            let m = meta_of(mem, sizes, server);
-            store_meta(mem, sizes, client, used, m);
-            Outcome::Fetched(0, 0)
-        }
+    if let Err(fault) = gate(mem, sizes, client, server, 0, used) {
+        return stop(mem, sizes, client, fault, used);
     }
+    if !meta_fits(mem, sizes, server) {
+        return Outcome::Refused(10);
+    }
+    let m = meta_of(mem, sizes, server);
+    store_meta(mem, sizes, client, used, m);
+    Outcome::Fetched(0, 0)
 }
 
 // The metadata, from the server that is its source.
@@ -62,12 +58,10 @@ fn fetch_meta_from(
     requires { Checking sizes mem.old client server used.now × Source sizes mem.old client server }
     ensures { Fetches sizes client used (object meta) mem result }
 {
-    let v = check_from(mem, sizes, client, server, used);
-    match v {
-        Verdict::Unfit => Outcome::Refused(10),
-        Verdict::Fault(reason) => abort(mem, sizes, client, reason, used),
-        Verdict::Clear => hand_meta(mem, sizes, client, server, used),
+    if let Err(fault) = check_from(mem, sizes, client, server, used) {
+        return stop(mem, sizes, client, fault, used);
     }
+    hand_meta(mem, sizes, client, server, used)
 }
 
 // The metadata is lacking.
@@ -104,19 +98,15 @@ fn hand_node(
     ensures { HandsOver sizes client used (object (node name)) server (Fetched 1 name) mem result }
 {
     let number = 1 + name;
-    let g = gate(mem, sizes, client, server, number, used);
-    match g {
-        Verdict::Unfit => Outcome::Refused(10),
-        Verdict::Fault(reason) => abort(mem, sizes, client, reason, used),
-        Verdict::Clear => {
-            let n = node_of(mem, sizes, server, name);
-            if !node_fits(sizes.slots, n) {
-                return Outcome::Refused(10);
-            }
-            store_node(mem, sizes, client, used, name, n);
-            Outcome::Fetched(1, name)
-        }
+    if let Err(fault) = gate(mem, sizes, client, server, number, used) {
+        return stop(mem, sizes, client, fault, used);
     }
+    let n = node_of(mem, sizes, server, name);
+    if !node_fits(sizes.slots, n) {
+        return Outcome::Refused(10);
+    }
+    store_node(mem, sizes, client, used, name, n);
+    Outcome::Fetched(1, name)
 }
 
 // A node is lacking.
@@ -126,12 +116,10 @@ pub fn fetch_node(mem: &mut [u8], sizes: Sizes, client: usize, name: u64, used: 
 {
     let home = Name { number: name };
     let server = home.server() as usize;
-    let v = check_from(mem, sizes, client, server, used);
-    match v {
-        Verdict::Unfit => Outcome::Refused(10),
-        Verdict::Fault(reason) => abort(mem, sizes, client, reason, used),
-        Verdict::Clear => hand_node(mem, sizes, client, server, name, used),
+    if let Err(fault) = check_from(mem, sizes, client, server, used) {
+        return stop(mem, sizes, client, fault, used);
     }
+    hand_node(mem, sizes, client, server, name, used)
 }
 
 // A server's vector is lacking: "a vector fetched is never busy".
@@ -145,14 +133,10 @@ pub fn fetch_vector(
     requires { Checking sizes mem.old client server used.now }
     ensures { Fetches sizes client used (vector server) mem result }
 {
-    let v = check_from(mem, sizes, client, server, used);
-    match v {
-        Verdict::Unfit => Outcome::Refused(10),
-        Verdict::Fault(reason) => abort(mem, sizes, client, reason, used),
-        Verdict::Clear => {
-            let words = vector_of(mem, sizes, server);
-            store_vector(mem, sizes, client, used, server, words);
-            Outcome::Fetched(2, server as u64)
-        }
+    if let Err(fault) = check_from(mem, sizes, client, server, used) {
+        return stop(mem, sizes, client, fault, used);
     }
+    let words = vector_of(mem, sizes, server);
+    store_vector(mem, sizes, client, used, server, words);
+    Outcome::Fetched(2, server as u64)
 }

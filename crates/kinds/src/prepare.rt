@@ -10,10 +10,10 @@ ghost use Rattle.kinds.specs.Fits.{KnownAt, FitToPrepare};
 ghost use Rattle.kinds.specs.Kinds.{Comes};
 ghost use Rattle.kinds.specs.Prepare.{prepares, decides, applies_too};
 
-use crate::abort::abort_unused;
+use crate::abort::{abort_unused, stop_unused};
 use crate::apply::apply_at;
 use crate::course::{is_last, note, put_field};
-use crate::findings::prepare_finds;
+use crate::findings::check_prepare;
 use crate::judge::field_of;
 use crate::known::{fit_to_apply_too, fit_to_prepare};
 use crate::locks::{Change, change_all};
@@ -83,14 +83,10 @@ fn checked_prepare(mem: &mut [u8], sizes: Sizes, client: usize, server: usize) -
     requires { KnownAt sizes mem.old client server × FitToPrepare sizes mem.old client }
     ensures { Comes sizes (λ m. checked_prepare sizes m client server) mem.old result mem.new }
 {
-    let reason = prepare_finds(mem, sizes, client, server);
-    if reason == 0 {
-        return prepare_at(mem, sizes, client, server);
+    if let Err(fault) = check_prepare(mem, sizes, client, server) {
+        return stop_unused(mem, sizes, client, fault);
     }
-    if reason == 10 {
-        return Outcome::Refused(10);
-    }
-    abort_unused(mem, sizes, client, reason)
+    prepare_at(mem, sizes, client, server)
 }
 
 // "prepare at an absent server aborts with 1"

@@ -2,7 +2,8 @@
 ghost use Rattle.std.specs.Prelude.{◌≡◌, ◌<◌, length};
 ghost use Rattle.memory.specs.Word.{view};
 ghost use Rattle.client.specs.Sets.{held};
-ghost use Rattle.steps.specs.Refusal.{kind_of, open_refusal, refusal, state_fits};
+ghost use Rattle.steps.specs.Refusal.{open_refusal, refusal, state_fits};
+ghost use Rattle.steps.specs.Refused.{refused};
 ghost use Rattle.kinds.specs.Parts.{StoreIn, AtServer, stored_in};
 ghost use Rattle.kinds.specs.Refusal.{server_refusal, node_refusal, count_refusal, first_refusal, give_refusal, field_refusal, known_refusal};
 ghost use Rattle.kinds.specs.Refusal.{left, due, fitting, unfit, taken_yet, change_refusal, Sited};
@@ -18,96 +19,75 @@ use client::part::{
 };
 use memory::bits;
 use nodes::name::{Name, in_store};
+use steps::refusal::Refusal;
 use steps::sizes::Sizes;
 use steps::step::{Kind, ServerChange, Step};
 
 // 1 to 3: the memory of so many bytes, for the sizes given or in the head.
-pub fn memory_refusal(bytes: usize, sizes: Sizes) -> u64
-    ensures { result ≡ open_refusal bytes sizes }
+pub fn memory_refusal(bytes: usize, sizes: Sizes) -> Result<(), Refusal>
+    ensures { refused result ≡ open_refusal bytes sizes }
 {
     if bytes < 64 {
-        return 1;
+        return Err(Refusal::NoHead);
     }
-    if allowed(sizes) {
-        if bytes < 8 * words_for(sizes) {
-            return 3;
-        }
-        return 0;
+    if !allowed(sizes) {
+        return Err(Refusal::BadSizes);
     }
-    2
-}
-
-// "Kinds: 0 begin. 1 give an operation .. 7 client lost.", and the changes of the servers.
-pub fn kind_of(number: u64) -> Kind
-    ensures { result ≡ kind_of number }
-{
-    match number {
-        0 => Kind::Begin,
-        1 => Kind::Give,
-        2 => Kind::Work,
-        3 => Kind::Commit,
-        4 => Kind::Prepare,
-        5 => Kind::Apply,
-        6 => Kind::GiveUp,
-        7 => Kind::Lost,
-        8 => Kind::Servers(ServerChange::Add),
-        9 => Kind::Servers(ServerChange::Close),
-        10 => Kind::Servers(ServerChange::Remove),
-        11..=u64::MAX => Kind::Unknown,
+    if bytes < 8 * words_for(sizes) {
+        return Err(Refusal::TooShort);
     }
+    Ok(())
 }
 
 // 7: "The server of a migrate, prepare or apply is not in the store."
-fn server_refusal(server: u64) -> u64
-    ensures { result ≡ server_refusal server }
+fn server_refusal(server: u64) -> Result<(), Refusal>
+    ensures { refused result ≡ server_refusal server }
 {
     if server >= Name::SERVERS {
-        return 7;
+        return Err(Refusal::UnknownServer);
     }
-    0
+    Ok(())
 }
 
 // 8: "A migrated node's name is not in the store."
-fn node_refusal(sizes: Sizes, name: u64) -> u64
-    ensures { result ≡ node_refusal sizes name }
+fn node_refusal(sizes: Sizes, name: u64) -> Result<(), Refusal>
+    ensures { refused result ≡ node_refusal sizes name }
 {
     if in_store(sizes.slots, name) {
-        return 0;
+        return Ok(());
     }
-    8
+    Err(Refusal::UnknownNode)
 }
 
 // 11: "count outside 1 to 32".
-fn count_refusal(count: u64) -> u64
-    ensures { result ≡ count_refusal count }
+fn count_refusal(count: u64) -> Result<(), Refusal>
+    ensures { refused result ≡ count_refusal count }
 {
     if between(1, MOST_LISTED, count) {
-        return 0;
+        return Ok(());
     }
-    11
+    Err(Refusal::BadCount)
 }
 
-// The first of two that holds.
-fn first_refusal(a: u64, b: u64) -> u64
-    ensures { result ≡ first_refusal a b }
+// 7 and then 8, of a migrate.
+fn migrate_refusal(sizes: Sizes, step: Step) -> Result<(), Refusal>
+    ensures { refused result ≡ first_refusal (server_refusal step.server) (node_refusal sizes step.key) }
 {
-    match a {
-        0 => b,
-        1..=u64::MAX => a,
-    }
+    server_refusal(step.server)?;
+    node_refusal(sizes, step.key)
 }
 
 // 6: "A given op is not 1 to 6", and "Operations now run to 7"; of a migrate 7 and 8, of a list 11.
-fn give_refusal(sizes: Sizes, step: Step) -> u64
-    ensures { result ≡ give_refusal sizes step }
+fn give_refusal(sizes: Sizes, step: Step) -> Result<(), Refusal>
+    ensures { refused result ≡ give_refusal sizes step }
 {
     let op = step.op;
     match op {
-        0 => 6,
-        1..=5 => 0,
-        6 => first_refusal(server_refusal(step.server), node_refusal(sizes, step.key)),
+        0 => Err(Refusal::UnknownOperation),
+        1..=5 => Ok(()),
+        6 => migrate_refusal(sizes, step),
         7 => count_refusal(step.value),
-        8..=u64::MAX => 6,
+        8..=u64::MAX => Err(Refusal::UnknownOperation),
     }
 }
 
@@ -124,6 +104,7 @@ fn is_unfinished(part: &[u8], done: usize, server: u64) -> bool
 }
 
 // Is a prepare or an apply still to come at the server?
+#[tactic(auto, using(crate::specs::Laws::Refusal::kind_due, crate::specs::Laws::Refusal::prepare_sited, crate::specs::Laws::Refusal::apply_sited), unfolding(crate::specs::Refusal::due))]
 fn is_due(part: &[u8], kind: Kind, server: u64) -> bool
     requires { Sited kind server × ClientPart part.now }
     ensures { result ≡ due (held part.now) server kind }
@@ -143,6 +124,7 @@ fn is_due(part: &[u8], kind: Kind, server: u64) -> bool
 }
 
 // 9: does the state fit? op is the number of the operation that waits.
+#[tactic(auto, using(crate::specs::Laws::Refusal::kind_fitting, crate::specs::Laws::Refusal::tests), unfolding(crate::specs::Refusal::fitting))]
 fn is_fitting(kind: Kind, phase: u64, op: u64, due: bool) -> bool
     ensures { result ≡ fitting kind phase op due }
 {
@@ -181,42 +163,41 @@ fn client_is_unfit(mem: &[u8], sizes: Sizes, step: Step, kind: Kind) -> bool
 }
 
 // 6 to 8 and 11: what the kind asks of the step's fields.
-fn field_refusal(sizes: Sizes, step: Step, kind: Kind) -> u64
-    ensures { result ≡ field_refusal sizes step kind }
+#[tactic(auto, using(crate::specs::Laws::Refusal::kind_fields), unfolding(crate::specs::Refusal::field_refusal))]
+fn field_refusal(sizes: Sizes, step: Step, kind: Kind) -> Result<(), Refusal>
+    ensures { refused result ≡ field_refusal sizes step kind }
 {
     match kind {
-        Kind::Begin => 0,
+        Kind::Begin => Ok(()),
         Kind::Give => give_refusal(sizes, step),
-        Kind::Work => 0,
-        Kind::Commit => 0,
+        Kind::Work => Ok(()),
+        Kind::Commit => Ok(()),
         Kind::Prepare => server_refusal(step.server),
         Kind::Apply => server_refusal(step.server),
-        Kind::GiveUp => 0,
-        Kind::Lost => 0,
-        Kind::Servers(_) => 0,
-        Kind::Unknown => 0,
+        Kind::GiveUp => Ok(()),
+        Kind::Lost => Ok(()),
+        Kind::Servers(_) => Ok(()),
+        Kind::Unknown => Ok(()),
     }
 }
 
 // 5 to 9 and 11, of a kind from 0 to 7.
-fn known_refusal(mem: &[u8], sizes: Sizes, step: Step, kind: Kind) -> u64
+fn known_refusal(mem: &[u8], sizes: Sizes, step: Step, kind: Kind) -> Result<(), Refusal>
     requires { StoreIn sizes (length mem.now) }
-    ensures { result ≡ known_refusal sizes step kind (view mem.now) }
+    ensures { refused result ≡ known_refusal sizes step kind (view mem.now) }
 {
     if step.client >= sizes.clients as u64 {
-        return 5;
+        return Err(Refusal::UnknownClient);
     }
-    let asked = field_refusal(sizes, step, kind);
-    if asked != 0 {
-        return asked;
-    }
+    field_refusal(sizes, step, kind)?;
     if client_is_unfit(mem, sizes, step, kind) {
-        return 9;
+        return Err(Refusal::Unfit);
     }
-    0
+    Ok(())
 }
 
 // 14: "removal with a slot still taken".
+#[tactic(auto, using(crate::specs::Laws::Refusal::not_removed), unfolding(crate::specs::Refusal::taken_yet))]
 fn is_taken_yet(mem: &[u8], sizes: Sizes, change: ServerChange, server: usize) -> bool
     requires { AtServer sizes (length mem.now) server }
     ensures { result ≡ taken_yet (stored_in sizes (view mem.now)) change server }
@@ -229,39 +210,45 @@ fn is_taken_yet(mem: &[u8], sizes: Sizes, change: ServerChange, server: usize) -
 }
 
 // 7, 13 to 15 and 9, of a change of the servers.
-fn change_refusal(mem: &[u8], sizes: Sizes, change: ServerChange, server: u64) -> u64
+fn change_refusal(
+    mem: &[u8],
+    sizes: Sizes,
+    change: ServerChange,
+    server: u64,
+) -> Result<(), Refusal>
     requires { StoreIn sizes (length mem.now) }
-    ensures { result ≡ change_refusal sizes change server (stored_in sizes (view mem.now)) }
+    ensures { refused result ≡ change_refusal sizes change server (stored_in sizes (view mem.now)) }
 {
     if server >= Name::SERVERS {
-        return 7;
+        return Err(Refusal::UnknownServer);
     }
     if !state_suits(mem, sizes, change, server as usize) {
-        return 13;
+        return Err(Refusal::UnfitServer);
     }
     if is_taken_yet(mem, sizes, change, server as usize) {
-        return 14;
+        return Err(Refusal::SlotTaken);
     }
     if version_ends(mem, sizes) {
-        return 15;
+        return Err(Refusal::LastMetadata);
     }
     if is_quiet(mem, sizes) {
-        return 0;
+        return Ok(());
     }
-    9
+    Err(Refusal::Unfit)
 }
 
-// 4: "The kind is above 7.", and now above 10; 5 to 9, 11 and 13 to 15; 0 if none holds.
-pub fn refusal(mem: &[u8], sizes: Sizes, step: Step) -> u64
+// 4: "The kind is above 7.", and now above 10; 5 to 9, 11 and 13 to 15.
+#[tactic(auto, using(crate::specs::Laws::Refusal::kind_known, crate::specs::Laws::Refusal::kind_changes, crate::specs::Laws::Refusal::kind_above), unfolding(steps::specs::Servers::change_of))]
+pub fn refusal(mem: &[u8], sizes: Sizes, step: Step) -> Result<(), Refusal>
     requires { StoreIn sizes (length mem.now) }
-    ensures { result ≡ refusal sizes step (stored_in sizes (view mem.now)) }
+    ensures { refused result ≡ refusal sizes step (stored_in sizes (view mem.now)) }
 {
     let number = step.kind;
     match number {
-        0..=7 => known_refusal(mem, sizes, step, kind_of(number)),
+        0..=7 => known_refusal(mem, sizes, step, Kind::from(number)),
         8 => change_refusal(mem, sizes, ServerChange::Add, step.server),
         9 => change_refusal(mem, sizes, ServerChange::Close, step.server),
         10 => change_refusal(mem, sizes, ServerChange::Remove, step.server),
-        11..=u64::MAX => 4,
+        11..=u64::MAX => Err(Refusal::UnknownKind),
     }
 }

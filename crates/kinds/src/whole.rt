@@ -9,14 +9,8 @@ ghost use Rattle.client.specs.Bounds.{most_servers};
 use crate::sizes::allowed;
 use client::part::CLIENT_WORDS;
 use server::place::part_words;
+use steps::refusal::Refusal;
 use steps::sizes::Sizes;
-
-// "the length that given sizes call for is a public answer": in bytes, or refused by 2.
-#[derive(Clone, Copy)]
-pub enum Length {
-    Bytes(usize),
-    Refused(u64),
-}
 
 // The words of the head, the parts of eight servers and the clients' parts.
 pub fn words_for(sizes: Sizes) -> usize
@@ -45,12 +39,12 @@ pub fn client_at(sizes: Sizes, client: usize) -> usize
     8 + 8 * part_words(sizes.slots) + CLIENT_WORDS * client
 }
 
-// The length that these sizes call for.
-pub fn length_for(sizes: Sizes) -> Length
+// "the length that given sizes call for is a public answer": in bytes, or refused by 2.
+pub fn length_for(sizes: Sizes) -> Result<usize, Refusal>
     ensures { result ≡ length_answer sizes }
 {
     if allowed(sizes) {
-        return Length::Bytes(8 * words_for(sizes));
+        return Ok(8 * words_for(sizes));
     }
-    Length::Refused(2)
+    Err(Refusal::BadSizes)
 }

@@ -25,7 +25,7 @@ pub fn turn(mem: &mut [u8], out: &mut [u8], outcomes: &mut [u64], i: usize, k: S
     ensures reached { GoesOn mem.old (taken_on mem.old out.old (k ∷ [])) mem.new }
 {
     let o = step(mem, out, k);
-    let l = Line::of(o);
+    let l = Line::from(o);
     note(outcomes, i, l);
     l.outcome
 }

@@ -8,9 +8,9 @@ ghost use Rattle.text.specs.Print.{bad_line, Printed};
 ghost use Rattle.show.specs.Shown.{shown_in, zeros};
 ghost use Rattle.show.specs.Feed.{awaits, ended, is_over, reader_of, with_byte, opened, stepped, first_line, later_line, line_ended, next_byte, finished, fed, Came, ReadsOn};
 
-use engine::open::Opening;
 use std::io::Read;
 use steps::outcome;
+use steps::refusal::Refusal;
 use steps::sizes::Sizes;
 use steps::step::Step;
 use text::print;
@@ -114,15 +114,15 @@ fn opened(
         clients: clients as usize,
     };
     match engine::open::open(mem, sizes) {
-        Opening::Accepted => Shown {
+        Ok(()) => Shown {
             show: Show::awaits(Awaited::StepLine(0)),
             at: print::put_store(out, at, servers, slots, clients),
         },
-        Opening::Refused(2) => Shown {
+        Err(Refusal::BadSizes) => Shown {
             show: Show::ended(),
             at: print::put_refused(out, at),
         },
-        Opening::Refused(_) => bad(out, at),
+        Err(_) => bad(out, at),
     }
 }
 
@@ -140,7 +140,7 @@ fn stepped(
     ensures came { Came (stepped number step) mem.old out.old at result mem.new out.new }
     ensures short { result.at ≤ at + 84 }
 {
-    let line = outcome::Line::of(engine::step::step(mem, pairs, step));
+    let line = outcome::Line::from(engine::step::step(mem, pairs, step));
     Shown {
         show: Show::awaits(Awaited::StepLine(number.wrapping_add(1))),
         at: print::put_step(out, at, number, line.outcome, line.a, line.b),

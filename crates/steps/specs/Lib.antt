@@ -8,6 +8,7 @@ pub mod Whole
 pub mod Servers
 -- refusals 1 to 9, 11 and 13 to 15 as tables
 pub mod Refusal
+pub mod Refused
 pub mod Passed
 -- which object is checked where, and which is locked
 pub mod Uses

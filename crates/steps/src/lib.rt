@@ -2,5 +2,6 @@
 #![tactic(auto)]
 
 pub mod outcome;
+pub mod refusal;
 pub mod sizes;
 pub mod step;

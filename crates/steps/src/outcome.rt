@@ -25,10 +25,11 @@ pub struct Line {
     pub b: u64,
 }
 
-impl Line {
-    pub fn of(outcome: Outcome) -> Line
-        ensures { result ≡ line outcome }
-    {
+impl From<Outcome> for Line {
+    ghost from_gives = { λ outcome l. l ≡ line outcome };
+
+    #[tactic(auto, unfolding(crate::specs::Outcome::line))]
+    fn from(outcome: Outcome) -> Line {
         match outcome {
             Outcome::Refused(number) => Line {
                 outcome: 0,

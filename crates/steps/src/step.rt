@@ -1,3 +1,7 @@
+// What a step is.
+ghost use Rattle.std.specs.Prelude.{◌≡◌};
+ghost use Rattle.steps.specs.Refusal.{kind_of};
+
 // "A step has six fields: kind, client, op, key, value, server." Six words in a row, so that programs in C can pass a list of them.
 #[repr(C)]
 #[derive(Clone, Copy)]
@@ -32,4 +36,27 @@ pub enum Kind {
     Lost,
     Servers(ServerChange),
     Unknown,
+}
+
+// By its number.
+impl From<u64> for Kind {
+    ghost from_gives = { λ number kind. kind ≡ kind_of number };
+
+    #[tactic(auto, using(crate::proofs::Laws::Refusal::unknown_kind), unfolding(crate::specs::Refusal::kind_of))]
+    fn from(number: u64) -> Kind {
+        match number {
+            0 => Kind::Begin,
+            1 => Kind::Give,
+            2 => Kind::Work,
+            3 => Kind::Commit,
+            4 => Kind::Prepare,
+            5 => Kind::Apply,
+            6 => Kind::GiveUp,
+            7 => Kind::Lost,
+            8 => Kind::Servers(ServerChange::Add),
+            9 => Kind::Servers(ServerChange::Close),
+            10 => Kind::Servers(ServerChange::Remove),
+            11..=u64::MAX => Kind::Unknown,
+        }
+    }
 }

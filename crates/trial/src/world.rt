@@ -77,7 +77,7 @@ impl Tally {
     // One step more, of this kind.
     fn note(&mut self, kind: u64, outcome: Outcome) {
         self.steps = self.steps.wrapping_add(1);
-        count(&mut self.outcomes, Line::of(outcome).outcome);
+        count(&mut self.outcomes, Line::from(outcome).outcome);
         match outcome {
             Outcome::Refused(number) => count(&mut self.refused, number),
             Outcome::Aborted(reason) => count(&mut self.reasons, reason),

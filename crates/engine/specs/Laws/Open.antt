@@ -24,14 +24,16 @@ use Rattle.server.specs.Laws.Layout.{states_valid}
 use Rattle.server.specs.Fresh.{first_leaf}
 use Rattle.server.specs.Laws.Fresh.{first_node_valid, first_flag_valid}
 use Rattle.steps.specs.declared.sizes.Sizes.{Sizes}
-use Rattle.engine.specs.declared.open.Opening.TheVariants.{Accepted, Refused}
+use Rattle.steps.specs.declared.refusal.Refusal.{Refusal}
+use Rattle.steps.specs.Refused.{number_of}
+use Rattle.steps.proofs.Laws.Refused.{some_number}
 use Rattle.steps.specs.Whole.{Allowed, Address, server, whole, block, words_for, server_at}
 use Rattle.steps.proofs.Laws.Whole.{server_part}
 use Rattle.steps.specs.Steps.{at_servers}
 use Rattle.steps.specs.Refusal.{open_refusal}
 use Rattle.steps.specs.Run.{first_stores, opened}
 use Rattle.kinds.specs.Parts.{stored_in}
-use Rattle.engine.specs.Open.{opening, with_head, new_server, new_servers, new_words, words_opened}
+use Rattle.engine.specs.Open.{with_head, new_server, new_servers, new_words, words_opened}
 use Rattle.server.specs.Fresh as Fresh
 
 -- ---- the servers, one after another
@@ -126,26 +128,14 @@ new_store z w f l =
     ∙ ap (λ (m : Address → ℕ). changed whole m (first_stores z)) (mem_zeros whole (block z) w l)
 
 -- ---- ways out of the code
-module _ (z : Sizes) (bytes r : ℕ) (w : List ℕ) (q : r ≡ open_refusal bytes z) where
-  pub stays_shut : (r ≡ 0 → ⊥) → w ≡ words_opened bytes z w
+module _ (z : Sizes) (bytes : ℕ) (w : List ℕ) where
+  pub stays_shut : (r : Refusal) → number_of r ≡ open_refusal bytes z → w ≡ words_opened bytes z w
   unfolding words_opened
-  stays_shut n = sym (rw (← q, ne_eqb r 0 n))
+  stays_shut r q = sym (rw (← q, ne_eqb (number_of r) 0 (some_number r)))
 
-  pub is_refused : (r ≡ 0 → ⊥) → Refused r ≡ opening (open_refusal bytes z)
-  unfolding opening
-  is_refused n = rw (← q) (go r n)
-    where
-      go : (k : ℕ) → (k ≡ 0 → ⊥) → Refused k ≡ opening k
-      go zero d = absurd (d refl)
-      go (suc k) d = refl
-
-  pub is_accepted : r ≡ 0 → Accepted ≡ opening (open_refusal bytes z)
-  unfolding opening
-  is_accepted e = rw (← q, e)
-
-  pub is_open : (w₁ : List ℕ) → r ≡ 0 → w₁ ≡ new_words z w → w₁ ≡ words_opened bytes z w
+  pub is_open : (w₁ : List ℕ) → 0 ≡ open_refusal bytes z → w₁ ≡ new_words z w → w₁ ≡ words_opened bytes z w
   unfolding words_opened
-  is_open w₁ e n = n ∙ sym (rw (← q, e))
+  is_open w₁ q n = n ∙ sym (rw (← q))
 
 pub head_put : (z : Sizes) (w w₁ w₂ w₃ : List ℕ) → w₁ ≡ set w 0 z.servers → w₂ ≡ set w₁ 1 z.slots → w₃ ≡ set w₂ 2 z.clients → w₃ ≡ with_head z w
 unfolding with_head

@@ -1,5 +1,5 @@
 -- A store that was reached: its head names its sizes, so a step on its words is the step of the rules on what they show.
-use Rattle.std.specs.Prelude.{◌≡◌, refl, ℕ, zero, suc, ◌/◌, ◌≤◌, ◌<◌, replicate}
+use Rattle.std.specs.Prelude.{◌≡◌, ℕ, ◌/◌, ◌≤◌, ◌<◌, replicate}
 use Rattle.std.proofs.Math.Path.{ap, sym, subst}
 use Rattle.std.proofs.Common.{◌∙◌, arith}
 use mathlib.Core.List.{List, [], ◌∷◌, ◌++◌}
@@ -25,9 +25,7 @@ use Rattle.kinds.specs.Parts.{StoreIn, head_sizes, stored_in}
 use Rattle.kinds.specs.Laws.Refusal.{none_holds}
 use Rattle.demand.proofs.Laws.Inside.{step_lies}
 use Rattle.demand.proofs.Laws.Opened.{opened_head}
-use Rattle.engine.specs.declared.open.Opening.{Opening}
-use Rattle.engine.specs.declared.open.Opening.TheVariants.{Accepted}
-use Rattle.engine.specs.Open.{opening, new_words, words_opened}
+use Rattle.engine.specs.Open.{new_words, words_opened}
 use Rattle.engine.specs.Laws.Open.{new_store}
 use Rattle.engine.specs.Step.{result_of, outcome_of, words_after, output_after}
 use Rattle.engine.specs.Laws.Step.{Stands}
@@ -36,7 +34,7 @@ use Rattle.engine.specs.Reached.{Reached, GoesOn}
 -- memory of n bytes with the words w, as a store of sizes z
 module _ (z : Sizes) (n : ℕ) (ok : open_refusal n z ≡ 0) where
   holds : StoreIn z n
-  holds = none_holds n z 0 (sym ok) refl
+  holds = none_holds n z (sym ok)
 
   pub record At (h : List Taken) (w : List ℕ) : Type 0 where
     pub long : n / 8 ≤ length w
@@ -121,8 +119,8 @@ of_bytes z h b r = record { long = whole_words b; way = r.way }
 pub as_bytes : (z : Sizes) (n : ℕ) (ok : open_refusal n z ≡ 0) (h : List Taken) (w b : List ℕ) → length b ≡ n → view b ≡ w → At z n ok h w → Reached z h b
 as_bytes z n ok h w b e q a = record { accepted = rw e ok; way = rw q a.way }
 
-pub new_reached : (z : Sizes) (b b' : List ℕ) → open_refusal (length b) z ≡ 0 → length b' ≡ length b → view b' ≡ words_opened (length b) z (view b) → Reached z [] b'
-new_reached z b b' ok e q = as_bytes z (length b) ok [] (words_opened (length b) z (view b)) b' e q (new_at z (length b) ok (view b) (whole_words b))
+pub new_reached : (z : Sizes) (b b' : List ℕ) → 0 ≡ open_refusal (length b) z → length b' ≡ length b → view b' ≡ words_opened (length b) z (view b) → Reached z [] b'
+new_reached z b b' none e q = let ok = sym none in as_bytes z (length b) ok [] (words_opened (length b) z (view b)) b' e q (new_at z (length b) ok (view b) (whole_words b))
 
 pub step_goes_on : (b b' lent left : List ℕ) (k : Step) (o : Outcome) → Words k → length b' ≡ length b → Stands b lent k o b' left
     → GoesOn b (came_to k (length lent) (view lent) o (view left) ∷ []) b'
@@ -134,16 +132,7 @@ step_goes_on b b' lent left k o words e s z h r =
     (next_at z (length b) r.accepted h (view b) (of_bytes z h b r) k room (view lent) (view left) words s.output))
 
 -- ---- ways out of the code: what a call ensures besides follows from its first two clauses
-accepted_none : (n : ℕ) → opening n ≡ Accepted → n ≡ 0
-unfolding opening
-accepted_none zero a = refl
-accepted_none (suc n) a = let x : ◌≡◌ {A = ℕ} 0 1 = cc in absurd (omega arith)
-
 module _ (b b' : List ℕ) where
-  pub opens : (z : Sizes) (o : Opening) → length b' ≡ length b → o ≡ opening (open_refusal (length b) z) → view b' ≡ words_opened (length b) z (view b)
-      → (o ≡ opening (open_refusal (length b) z)) × ((view b' ≡ words_opened (length b) z (view b)) × (o ≡ Accepted → Reached z [] b'))
-  opens z o e p q = (p, (q, λ a. new_reached z b b' (accepted_none (open_refusal (length b) z) (sym p ∙ a)) e q))
-
   pub steps : (lent left : List ℕ) (k : Step) (o : Outcome) → Words k → length b' ≡ length b → Stands b lent k o b' left
       → (o ≡ outcome_of (length b) (view b) (length lent) k)
       × ((view b' ≡ words_after (length b) (view b) (length lent) k)

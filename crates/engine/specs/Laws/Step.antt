@@ -20,7 +20,10 @@ use Rattle.steps.specs.declared.step.ServerChange.TheVariants.{Add, Close, Remov
 use Rattle.steps.specs.declared.outcome.Outcome.{Outcome}
 use Rattle.steps.specs.declared.outcome.Outcome.TheVariants.{Refused}
 use Rattle.steps.specs.Whole.{Address, client, whole, block}
+use Rattle.steps.specs.declared.refusal.Refusal.{Refusal}
 use Rattle.steps.specs.Refusal.{kind_of, state_fits, open_refusal, refusal}
+use Rattle.steps.specs.Refused.{number_of as refusal_number}
+use Rattle.steps.proofs.Laws.Refused.{some_number}
 use Rattle.steps.specs.Servers.{version_ends}
 use Rattle.steps.specs.Passed.{Passed}
 use Rattle.steps.proofs.Laws.Passed.{passed}
@@ -142,20 +145,21 @@ at_work z c k w x q e ek h p =
     eqb-false (m op_number) 0 (not-true (eqb (m op_number) 0) n) (subst (λ (d : ℕ). of_client z w d op_number ≡ 0) e p)
 
 -- ---- refusals 4 to 9 and 11 to 15, then the rule
-module _ (z : Sizes) (k : Step) (room : ℕ) (m : Address → ℕ) (r : ℕ) (e : r ≡ refusal z k m) where
-  refused_is : (r ≡ 0 → ⊥) → step z k room m ≡ refuse r
+module _ (z : Sizes) (k : Step) (room : ℕ) (m : Address → ℕ) where
+  refused_is : (f : Refusal) → refusal_number f ≡ refusal z k m → step z k room m ≡ refuse (refusal_number f)
   unfolding step by_rule lacks_room
-  refused_is n = let q : eqb (refusal z k m) 0 ≡ false = rw (← e, ne_eqb r 0 n) in rw q (rw e)
+  refused_is f e = let q : eqb (refusal z k m) 0 ≡ false = rw (← e, ne_eqb (refusal_number f) 0 (some_number f)) in rw q (rw e)
 
-  short_is : r ≡ 0 → short_output k.kind room (λ a. m (client k.client a)) ≡ true → step z k room m ≡ refuse 12
-  unfolding step lacks_room
-  short_is q s = let p : eqb (refusal z k m) 0 ≡ true = rw (← e, q) in rw (p, s)
+  module _ (none : 0 ≡ refusal z k m) where
+    short_is : short_output k.kind room (λ a. m (client k.client a)) ≡ true → step z k room m ≡ refuse 12
+    unfolding step lacks_room
+    short_is s = rw (← none, s)
 
-  ruled_is : r ≡ 0 → short_output k.kind room (λ a. m (client k.client a)) ≡ false → step z k room m ≡ by_kind z m k.client k (kind_of k.kind)
-  unfolding step by_rule lacks_room
-  ruled_is q s = let p : eqb (refusal z k m) 0 ≡ true = rw (← e, q) in rw (p, s)
+    ruled_is : short_output k.kind room (λ a. m (client k.client a)) ≡ false → step z k room m ≡ by_kind z m k.client k (kind_of k.kind)
+    unfolding step by_rule lacks_room
+    ruled_is s = rw (← none, s)
 
-module _ (z : Sizes) (k : Step) (b : List ℕ) (r : ℕ) (e : r ≡ refusal z k (stored_in z (view b))) (out : List ℕ) where
+module _ (z : Sizes) (k : Step) (b out : List ℕ) where
   abbrev m : Address → ℕ
   m = stored_in z (view b)
 
@@ -163,27 +167,28 @@ module _ (z : Sizes) (k : Step) (b : List ℕ) (r : ℕ) (e : r ≡ refusal z k 
   unfolding with_pairs
   refused_by n p = (meets_refused z (view b) n (step z k (length out)) (sym p), rw p)
 
-  pub is_refused : (r ≡ 0 → ⊥) → Meets z (step z k (length out)) (view b) (Refused r) (view b) × Leaves z (step z k (length out)) b out out
-  is_refused n = refused_by r (refused_is z k (length out) m r e n)
+  pub is_refused : (f : Refusal) (n : ℕ) → refusal_number f ≡ refusal z k m → n ≡ refusal_number f
+      → Meets z (step z k (length out)) (view b) (Refused n) (view b) × Leaves z (step z k (length out)) b out out
+  is_refused f n e q = refused_by n (refused_is z k (length out) m f e ∙ ap refuse (sym q))
 
-  pub passes : r ≡ 0 → Passed z k m
-  passes q = passed z k m (sym e ∙ q)
+  pub passes : 0 ≡ refusal z k m → Passed z k m
+  passes q = passed z k m (sym q)
 
-  pub client_there : (c : ℕ) → r ≡ 0 → c ≡ k.client → k.kind ≡ 2 → c < z.clients
+  pub client_there : (c : ℕ) → 0 ≡ refusal z k m → c ≡ k.client → k.kind ≡ 2 → c < z.clients
   client_there c q ec work = rw ec ((passes q).known_client (omega arith))
 
-  module _ (c : ℕ) (ec : c ≡ k.client) (none : r ≡ 0) (d : Bool) (ed : d ≡ short_output k.kind (length out) (of_client z (view b) c)) where
+  module _ (c : ℕ) (ec : c ≡ k.client) (none : 0 ≡ refusal z k m) (d : Bool) (ed : d ≡ short_output k.kind (length out) (of_client z (view b) c)) where
     short_so : (t : Bool) → d ≡ t → short_output k.kind (length out) (λ a. m (client k.client a)) ≡ t
     short_so t q = subst (λ (i : ℕ). short_output k.kind (length out) (of_client z (view b) i) ≡ t) ec (sym ed ∙ q)
 
     pub is_short : d ≡ true → Meets z (step z k (length out)) (view b) (Refused 12) (view b) × Leaves z (step z k (length out)) b out out
-    is_short q = refused_by 12 (short_is z k (length out) m r e none (short_so true q))
+    is_short q = refused_by 12 (short_is z k (length out) m none (short_so true q))
 
     pub is_ruled : (x : Kind) (o : Outcome) (w' out' : List ℕ) → x ≡ kind_of k.kind → d ≡ false → Meets z (rule_of z c k x) (view b) o w'
         → Leaves z (rule_of z c k x) b out out' → Meets z (step z k (length out)) (view b) o w' × Leaves z (step z k (length out)) b out out'
     unfolding rule_of
     is_ruled x o w' out' ek q h g =
-        let p : step z k (length out) m ≡ rule_of z c k x m = ruled_is z k (length out) m r e none (short_so false q) ∙ sym (rw (ec, ek)) in
+        let p : step z k (length out) m ≡ rule_of z c k x m = ruled_is z k (length out) m none (short_so false q) ∙ sym (rw (ec, ek)) in
         (meets_as z (view b) o w' (rule_of z c k x) (step z k (length out)) (sym p) h, rw p g)
 
 -- ---- 12, as the code asks for it: a step of any other kind may have no client
@@ -233,17 +238,17 @@ module _ (bytes : ℕ) (w : List ℕ) (room : ℕ) (k : Step) where
   unfolding result_of
   short_result h = let q = too_short bytes (head_sizes w) h in rw (← q)
 
-  module _ (z : Sizes) (r : ℕ) (ez : z ≡ head_sizes w) (er : r ≡ open_refusal bytes z) where
-    refusal_is : r ≡ open_refusal bytes (head_sizes w)
-    refusal_is = er ∙ ap (open_refusal bytes) ez
+  module _ (z : Sizes) (ez : z ≡ head_sizes w) where
+    refusal_is : (r : ℕ) → r ≡ open_refusal bytes z → r ≡ open_refusal bytes (head_sizes w)
+    refusal_is r e = e ∙ ap (open_refusal bytes) ez
 
-    pub shut_result : (r ≡ 0 → ⊥) → result_of bytes w room k ≡ refuse r
+    pub shut_result : (f : Refusal) → refusal_number f ≡ open_refusal bytes z → result_of bytes w room k ≡ refuse (refusal_number f)
     unfolding result_of
-    shut_result n = let q = refusal_is in rw (← q, ne_eqb r 0 n)
+    shut_result f e = let q = refusal_is (refusal_number f) e in rw (← q, ne_eqb (refusal_number f) 0 (some_number f))
 
-    open_result : r ≡ 0 → result_of bytes w room k ≡ step z k room (stored_in z w)
+    open_result : 0 ≡ open_refusal bytes z → result_of bytes w room k ≡ step z k room (stored_in z w)
     unfolding result_of
-    open_result e = let q = refusal_is in rw (← q, e, ← ez)
+    open_result e = let q = refusal_is 0 e in rw (← q, ← ez)
 
 -- the three clauses of a step's contract
 module _ (b out : List ℕ) (k : Step) where
@@ -263,14 +268,14 @@ module _ (b out : List ℕ) (k : Step) where
   pub short_stands : length b < 64 → Stands (Refused 1) b out
   short_stands h = refused_so 1 (short_result (length b) (view b) (length out) k h)
 
-  module _ (z : Sizes) (r : ℕ) (ez : z ≡ head_sizes (view b)) (er : r ≡ open_refusal (length b) z) where
-    pub shut_stands : (r ≡ 0 → ⊥) → Stands (Refused r) b out
-    shut_stands n = refused_so r (shut_result (length b) (view b) (length out) k z r ez er n)
+  module _ (z : Sizes) (ez : z ≡ head_sizes (view b)) where
+    pub shut_stands : (f : Refusal) (n : ℕ) → refusal_number f ≡ open_refusal (length b) z → n ≡ refusal_number f → Stands (Refused n) b out
+    shut_stands f n e q = refused_so n (shut_result (length b) (view b) (length out) k z ez f e ∙ ap refuse (sym q))
 
-    pub open_stands : (o : Outcome) (b' out' : List ℕ) → r ≡ 0 → Meets z (step z k (length out)) (view b) o (view b') → Leaves z (step z k (length out)) b out out' → Stands o b' out'
+    pub open_stands : (o : Outcome) (b' out' : List ℕ) → 0 ≡ open_refusal (length b) z → Meets z (step z k (length out)) (view b) o (view b') → Leaves z (step z k (length out)) b out out' → Stands o b' out'
     unfolding outcome_of words_after output_after stepped
     open_stands o b' out' e h g =
-        let p = open_result (length b) (view b) (length out) k z r ez er e in
+        let p = open_result (length b) (view b) (length out) k z ez e in
         record {
           outcome = h.answer ∙ sym (ap (λ (d : Did). d.outcome) p);
           words = h.words ∙ ap (λ (y : Sizes). stored whole (block y) (view b) (step z k (length out) (stored_in z (view b))).stores) ez

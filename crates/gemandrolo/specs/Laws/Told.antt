@@ -2,23 +2,15 @@
 use Rattle.std.specs.Prelude.{◌≡◌, List, [], ◌∷◌, ℕ, length}
 use Rattle.std.proofs.Common.{sym, ◌∙◌, subst}
 use Rattle.memory.specs.Word.{view}
-use Rattle.steps.specs.declared.sizes.Sizes.{Sizes}
 use Rattle.steps.specs.declared.step.Step.{Step}
 use Rattle.steps.specs.declared.outcome.Outcome.{Outcome}
 use Rattle.steps.specs.Outcome.{line}
-use Rattle.steps.specs.Refusal.{open_refusal}
 use Rattle.steps.specs.Taken.{came_to, outcome_from}
 use Rattle.steps.proofs.Laws.Taken.{same_outcome}
-use Rattle.engine.specs.Open.{words_opened}
 use Rattle.engine.specs.Step.{outcome_of}
-use Rattle.engine.specs.Reached.{Reached, GoesOn}
-use Rattle.engine.specs.Laws.Reached.{new_reached}
+use Rattle.engine.specs.Reached.{GoesOn}
 
 module _ (b b' : List ℕ) where
-  pub opens : (z : Sizes) (r : ℕ) → length b' ≡ length b → r ≡ open_refusal (length b) z → view b' ≡ words_opened (length b) z (view b)
-      → (r ≡ open_refusal (length b) z) × ((view b' ≡ words_opened (length b) z (view b)) × (r ≡ 0 → Reached z [] b'))
-  opens z r e p q = (p, (q, λ n. new_reached z b b' (sym p ∙ n) e q))
-
   -- o is what `step` returned, and r, a and c are its numbers
   pub tells : (k : Step) (lent left : List ℕ) (o : Outcome) (r a c : ℕ) → let x = outcome_of (length b) (view b) (length lent) k in o ≡ x
       → GoesOn b (came_to k (length lent) (view lent) o (view left) ∷ []) b' → r ≡ (line x).outcome → a ≡ (line x).a → c ≡ (line x).b

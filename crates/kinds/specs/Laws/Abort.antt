@@ -30,7 +30,7 @@ use Rattle.steps.specs.Judge.{lowest_participant, abort_fits}
 use Rattle.client.specs.Participants.{lowest_of}
 use Rattle.client.specs.Lent.{InUse, used_in}
 use Rattle.client.specs.Laws.GoodSteps.{good_abort}
-use Rattle.steps.specs.Steps.{at_servers, did, abort}
+use Rattle.steps.specs.Steps.{Did, by_finding, at_servers, did, abort}
 use Rattle.kinds.specs.Parts.{StoreIn, stored_in}
 use Rattle.kinds.specs.Items.{read_item}
 use Rattle.kinds.specs.Judge.{of_client}
@@ -40,7 +40,10 @@ use Rattle.kinds.specs.Kinds.{Meets}
 use Rattle.kinds.specs.Laws.Kinds.{meets_did, meets_as, meets_refused, Apart, then_client, client_inside}
 use Rattle.kinds.specs.Locks.{rule, passing, upto, changes}
 use Rattle.kinds.specs.Laws.Locks.{upto_inside, rule_inside, in_whole}
-use Rattle.kinds.specs.Abort.{freeing, unlocking, Freed, aborts}
+use Rattle.kinds.specs.declared.findings.Fault.{Fault}
+use Rattle.kinds.specs.declared.findings.Fault.TheVariants.{Damaged, Differs, Busy, TooMany}
+use Rattle.kinds.specs.Findings.{fault_number}
+use Rattle.kinds.specs.Abort.{stops, freeing, unlocking, Freed, aborts}
 use Rattle.client.specs.Life as L
 
 -- ---- stores at some servers, which are those of a set p, leave clients and the servers behind
@@ -201,6 +204,34 @@ module _ (z : Sizes) (c y : ℕ) (us w : List ℕ) (b : Bool) (e : b ≡ abort_f
 
 pub ruleset abort_exits = (is_aborted, abort_done, abort_refused)
 
+-- ---- by a fault: what a fault comes to, whatever would go on without it
+pub stopped : (z : Sizes) (m : Address → ℕ) (c : ℕ) (us : List ℕ) (f : Fault) (on : Did) → stops z c f us m ≡ by_finding (fault_number f) on (λ y. abort z m c y us)
+unfolding stops
+stopped z m c us Damaged on = refl
+stopped z m c us Differs on = refl
+stopped z m c us Busy on = refl
+stopped z m c us TooMany on = refl
+
+module _ (z : Sizes) (c : ℕ) (us : List ℕ) (f : Fault) (w : List ℕ) where
+  pub stop_damaged : f ≡ Damaged → Meets z (stops z c f us) w (Refused 10) w
+  unfolding stops
+  stop_damaged e = meets_refused z w 10 (stops z c f us) (rw e refl)
+
+  module _ (o : Outcome) (w' : List ℕ) where
+    pub stop_differs : f ≡ Differs → Meets z (λ m. abort z m c 1 us) w o w' → Meets z (stops z c f us) w o w'
+    unfolding stops
+    stop_differs e d = meets_as z w o w' (λ m. abort z m c 1 us) (stops z c f us) (rw e refl) d
+
+    pub stop_busy : f ≡ Busy → Meets z (λ m. abort z m c 2 us) w o w' → Meets z (stops z c f us) w o w'
+    unfolding stops
+    stop_busy e d = meets_as z w o w' (λ m. abort z m c 2 us) (stops z c f us) (rw e refl) d
+
+    pub stop_full : f ≡ TooMany → Meets z (λ m. abort z m c 4 us) w o w' → Meets z (stops z c f us) w o w'
+    unfolding stops
+    stop_full e d = meets_as z w o w' (λ m. abort z m c 4 us) (stops z c f us) (rw e refl) d
+
+pub ruleset stop_exits = (stop_damaged, stop_differs, stop_busy, stop_full)
+
 -- ---- of a step that uses no copies
 pub none_in_use : InUse (replicate 98 0)
 none_in_use = record { long = omega arith; few = omega arith; small = λ i h. absurd (omega arith) }
@@ -208,3 +239,7 @@ none_in_use = record { long = omega arith; few = omega arith; small = λ i h. ab
 pub abort_unused : (z : Sizes) (c y : ℕ) (w : List ℕ) (o : Outcome) (w' : List ℕ) → Meets z (λ m. abort z m c y (used_in (replicate 98 0))) w o w' → Meets z (λ m. abort z m c y []) w o w'
 unfolding used_in
 abort_unused z c y w o w' d = d
+
+pub stop_unused : (z : Sizes) (c : ℕ) (f : Fault) (w : List ℕ) (o : Outcome) (w' : List ℕ) → Meets z (stops z c f (used_in (replicate 98 0))) w o w' → Meets z (stops z c f []) w o w'
+unfolding used_in
+stop_unused z c f w o w' d = d

@@ -1,5 +1,5 @@
 -- Laws of a fetch's check: "A fetch checks at that server what the transaction has read".
-use Rattle.std.specs.Prelude.{◌≡◌, Bool, false, cond, not, length, take, drop}
+use Rattle.std.specs.Prelude.{◌≡◌, Bool, false, cond, not, length, take, drop, Option as CodeOption, None}
 use Rattle.std.proofs.Math.Path.{refl, sym, ap, ap₂}
 use Rattle.std.proofs.Common.{◌∙◌, subst}
 use Rattle.std.proofs.Math.Bool.{true}
@@ -7,7 +7,7 @@ use mathlib.Core.List.{List, [], ◌∷◌, ◌++◌, map, append_assoc, append-
 use Rattle.std.proofs.Math.Option.{Option}
 use Prim.Native.Nat.{ℕ, zero, suc, ◌+◌, ◌-◌, ◌*◌, ◌≤◌, ◌<◌}
 use native.Mathlib.Omega.{arith}
-use borrow.Author.Tests.{eq-eqb, ne_eqb, lt-ltb, le-ltb, le-leb, lt-leb, not-true, not-false}
+use borrow.Author.Tests.{lt-ltb, le-ltb, le-leb, lt-leb, not-true, not-false}
 use borrow.Rule.Slice.PartMut.{mid_of}
 use Rattle.std.proofs.Math.ListN.{get_or}
 use Rattle.std.proofs.Math.Seq.{get_or-take, get_or-drop}
@@ -17,9 +17,9 @@ use Rattle.server.specs.declared.lock.Use.TheVariants.{Fetch}
 use Rattle.server.specs.declared.check.Finding.{Finding}
 use Rattle.server.specs.declared.check.Finding.TheVariants.{Busy}
 use Rattle.nodes.specs.Object.{object_of}
-use Rattle.server.specs.Object.{lock_of, Has}
+use Rattle.server.specs.Object.{Has}
 use Rattle.server.specs.Check.{can_check, standing, mark_finding, checked, held, finding_number}
-use Rattle.client.specs.declared.answer.Look.{Look}
+use Rattle.nodes.specs.declared.node.Node.{Node}
 use Rattle.client.specs.declared.part.Set.TheVariants.{Reads}
 use Rattle.client.specs.Layout.{ClientWord, reads_count}
 use Rattle.client.specs.Sets.{count}
@@ -27,9 +27,9 @@ use Rattle.client.specs.Have.{copied}
 use Rattle.client.specs.Lent.{InUse, used_in}
 use Rattle.client.specs.Laws.Lent.{length_used}
 use Rattle.steps.specs.declared.sizes.Sizes.{Sizes}
-use Rattle.kinds.specs.declared.fetch.Verdict.{Verdict}
-use Rattle.kinds.specs.declared.fetch.Verdict.TheVariants.{Unfit, Fault, Clear}
-use Rattle.steps.specs.Whole.{server, client_at}
+use Rattle.kinds.specs.declared.findings.Fault.{Fault}
+use Rattle.kinds.specs.declared.findings.Found.{Found}
+use Rattle.steps.specs.Whole.{client_at}
 use Rattle.steps.specs.Uses.{Item, each, item_of, read_items, used_items, least, reason_of, deciding}
 use Rattle.steps.specs.Judge.{lock_fits}
 use Rattle.steps.specs.Servers.{there}
@@ -37,12 +37,11 @@ use Rattle.kinds.specs.Parts.{StoreIn, stored_in}
 use Rattle.kinds.specs.Laws.Parts.{client_lent}
 use Rattle.kinds.specs.Items.{as_item, read_item}
 use Rattle.kinds.specs.Judge.{of_client, of_server}
-use Rattle.kinds.specs.Findings.{fault, as_fault, later, word_reason, compared_at}
-use Rattle.kinds.specs.Laws.Findings.{by_lock, settled, unsettled, by_word, zero_reason, reason_again, least_upto, least_first, least_next}
-use Rattle.kinds.specs.Fetch.{used_item, known_at, AllKnown, fetch_fault, items_found, verdict_of, reached, room_of, gate_of}
+use Rattle.kinds.specs.Findings.{fault_number, as_fault, later, lock_reason, compared_at}
+use Rattle.kinds.specs.Laws.Findings.{by_lock, settled, unsettled, some_fault, least_upto, least_first, least_next}
+use Rattle.kinds.specs.Fetch.{used_item, known_at, AllKnown, fetch_fault, items_found, reached, room_of, gate_of}
 use Rattle.client.specs.Sets as sets
 use Rattle.kinds.specs.declared.items.Item as code
-use Rattle.kinds.specs.declared.findings.Fault as code_fault
 
 -- ---- items by their number in the list
 module _ {A : Type 0} where
@@ -94,9 +93,9 @@ pub used_lent : (z : Sizes) (b : List ℕ) (c k x : ℕ) (r : Item) → StoreIn 
 unfolding sets.held
 used_lent z b c k x r l h e q = q ∙ ap (λ (m : ClientWord → ℕ). used_item m x) (client_lent z c k b h e l.room)
 
-pub used_by : (m : ClientWord → ℕ) (x : ℕ) (l : Look) (r : Item) → l ≡ copied m x → r ≡ item_of m x l.node → r ≡ used_item m x
+pub used_by : (m : ClientWord → ℕ) (x : ℕ) (n : Node) (r : Item) → n ≡ (copied m x).node → r ≡ item_of m x n → r ≡ used_item m x
 unfolding used_item
-used_by m x l r e q = q ∙ rw e
+used_by m x n r e q = q ∙ rw e
 
 module _ (m : ClientWord → ℕ) (u : List ℕ) (n i : ℕ) (en : n ≡ count m Reads) (r : Item) where
   pub known_there : i < n → r ≡ read_item m i → r ≡ known_at m (used_in u) i
@@ -124,7 +123,7 @@ module _ (z : Sizes) (w : List ℕ) (c s : ℕ) (i : code.Item) where
     unfolding fetch_fault
     fault_elsewhere t = sym (rw (not-false i.known r, ← po, ← pb, not-true b t))
 
-    module _ (t : not b ≡ false) (v : ℕ) (e : v ≡ stored_in z w (server s (lock_of (object_of i.number)))) where
+    module _ (t : not b ≡ false) where
       can : can_check s (object_of i.number) i.inner ≡ true
       can = ap (λ (x : Object). can_check s x i.inner) (sym po) ∙ sym pb ∙ not-false b t
 
@@ -137,28 +136,18 @@ module _ (z : Sizes) (w : List ℕ) (c s : ℕ) (i : code.Item) where
       abbrev marks : Finding
       marks = mark_finding (object_of i.number) (standing (object_of i.number) i.inner (of_server z w s)) i.mark
 
-      of_lock : word_reason z w c i.number v Fetch ≡ by_lock fits busy
-      of_lock = by_word z w c s i.number v Fetch e
-
       at_fault : cond fits (cond true (finding_number (cond busy Busy marks)) (cond busy 2 0)) 10 ≡ fetch_fault z w c s (as_item i)
       unfolding fetch_fault checked
       at_fault = sym (rw (not-false i.known r, can))
 
-      after_lock : (y : ℕ) → 0 ≡ word_reason z w c i.number v Fetch → y ≡ compared_at z w s (as_item i) → y ≡ fetch_fault z w c s (as_item i)
+      pub fault_open : (y : ℕ) → 0 ≡ lock_reason z w c s i.number Fetch → y ≡ compared_at z w s (as_item i) → y ≡ fetch_fault z w c s (as_item i)
       unfolding compared_at
-      after_lock y g q = q ∙ settled fits busy true marks (sym of_lock ∙ sym g) ∙ at_fault
+      fault_open y h k = k ∙ settled fits busy true marks (sym h) ∙ at_fault
 
-      pub fault_free : (y : ℕ) → v ≡ 0 → y ≡ compared_at z w s (as_item i) → y ≡ fetch_fault z w c s (as_item i)
-      fault_free y h q = after_lock y (zero_reason z w c s i.number v Fetch e h) q
+      pub fault_held : (f : Fault) → fault_number f ≡ lock_reason z w c s i.number Fetch → fault_number f ≡ fetch_fault z w c s (as_item i)
+      fault_held f h = h ∙ unsettled fits busy true marks (λ n. some_fault f (h ∙ n)) ∙ at_fault
 
-      module _ (k : ℕ) (p : k ≡ word_reason z w c i.number v Fetch) where
-        pub fault_open : (y : ℕ) → k ≡ 0 → y ≡ compared_at z w s (as_item i) → y ≡ fetch_fault z w c s (as_item i)
-        fault_open y h q = after_lock y (sym h ∙ p) q
-
-        pub fault_held : ¬ (k ≡ 0) → k ≡ fetch_fault z w c s (as_item i)
-        fault_held d = let g : k ≡ by_lock fits busy = p ∙ of_lock in g ∙ unsettled fits busy true marks (λ h. d (g ∙ h)) ∙ at_fault
-
-pub ruleset fetch_items_exits = (used_lent, used_by, known_there, known_copy, copy_small, fault_unkind, fault_elsewhere, fault_free, fault_open, fault_held)
+pub ruleset fetch_items_exits = (used_lent, used_by, known_there, known_copy, copy_small, fault_unkind, fault_elsewhere, fault_open, fault_held)
 
 -- ---- over all objects read, one after another
 module _ (z : Sizes) (w : List ℕ) (c s : ℕ) (u : List ℕ) where
@@ -177,95 +166,65 @@ module _ (z : Sizes) (w : List ℕ) (c s : ℕ) (u : List ℕ) where
   unfoldable pub known_found : ℕ → Option (ℕ × ℕ)
   known_found n = least_upto (fetch_fault z w c s) (known_at (of_client z w c) (used_in u)) n
 
-  pub known_found_none : fault 0 0 ≡ known_found 0
+  pub known_found_none : as_fault None ≡ known_found 0
   unfolding known_found
   known_found_none = least_first (fetch_fault z w c s) (known_at (of_client z w c) (used_in u))
 
-  pub known_found_next : (i y : ℕ) (t : code.Item) (f g : code_fault.Fault) → as_fault f ≡ known_found i → as_item t ≡ known_at (of_client z w c) (used_in u) i
+  pub known_found_next : (i y : ℕ) (t : code.Item) (f g : CodeOption Found) → as_fault f ≡ known_found i → as_item t ≡ known_at (of_client z w c) (used_in u) i
       → y ≡ fetch_fault z w c s (as_item t) → as_fault g ≡ later (as_fault f) t.number y → as_fault g ≡ known_found (i + 1)
   unfolding known_found
   known_found_next = least_next (fetch_fault z w c s) (known_at (of_client z w c) (used_in u))
 
-  pub known_found_all : (i n : ℕ) (f : code_fault.Fault) → InUse u → i ≤ n → n ≤ i → n ≡ count (of_client z w c) Reads + get_or u 0 0 → as_fault f ≡ known_found i
-      → f.reason ≡ items_found z w c s (used_in u)
+  pub known_found_all : (i n r : ℕ) (f : CodeOption Found) → InUse u → i ≤ n → n ≤ i → n ≡ count (of_client z w c) Reads + get_or u 0 0 → as_fault f ≡ known_found i
+      → r ≡ reason_of (as_fault f) → r ≡ items_found z w c s (used_in u)
   unfolding known_found least_upto items_found deciding fetch_fault
-  known_found_all i n f used a b e h =
+  known_found_all i n r f used a b e h k =
       let q : i ≡ N = omega (arith, whole_count n used e) in
-      sym (reason_again f.number f.reason) ∙ ap reason_of h
+      k ∙ ap reason_of h
       ∙ rw q (sym (ap (λ (l : List Item). reason_of (least (map (λ v. (v.number, fetch_fault z w c s v)) l))) (known_items (of_client z w c) (used_in u))))
 
 pub ruleset finding_all = (known_has, known_found_none, known_found_next, known_found_all)
 
-module _ (x y : ℕ) (q : x ≡ y) where
-  pub verdict_clear : x ≡ 0 → Clear ≡ verdict_of y
-  verdict_clear h = rw (← q, eq-eqb x 0 h)
-
-  module _ (d : x ≡ 0 → ⊥) where
-    pub verdict_unfit : x ≡ 10 → Unfit ≡ verdict_of y
-    verdict_unfit h = rw (← q, ne_eqb x 0 d, eq-eqb x 10 h)
-
-    pub verdict_fault : (x ≡ 10 → ⊥) → Fault x ≡ verdict_of y
-    verdict_fault h = rw (← q, ne_eqb x 0 d, ne_eqb x 10 h)
-
 module _ (z : Sizes) (w : List ℕ) (c : ℕ) (u : List ℕ) (f : InUse u) (r : ℕ) (pr : r ≡ of_client z w c reads_count) where
-  pub room_full : 96 ≤ r + get_or u 0 0 → Fault 4 ≡ room_of z w c (used_in u)
+  pub room_full : 96 ≤ r + get_or u 0 0 → 4 ≡ room_of z w c (used_in u)
   room_full l = rw (← pr, length_used u f, le-leb 96 (r + get_or u 0 0) l)
 
-  pub room_left : r + get_or u 0 0 < 96 → Clear ≡ room_of z w c (used_in u)
+  pub room_left : r + get_or u 0 0 < 96 → 0 ≡ room_of z w c (used_in u)
   room_left l = rw (← pr, length_used u f, lt-leb 96 (r + get_or u 0 0) l)
 
--- a lock and who holds it, as a reason and as a verdict
-gate_open : (fits held : Bool) (y : Verdict) → by_lock fits held ≡ 0 → y ≡ cond fits (cond held (Fault 2) y) Unfit
+-- a lock and who holds it, and then y
+gate_open : (fits held : Bool) (y : ℕ) → by_lock fits held ≡ 0 → y ≡ cond fits (cond held 2 y) 10
 gate_open true true y e = absurd (let z : 2 ≡ 0 = e in omega arith)
 gate_open true false y e = refl
 gate_open false held y e = absurd (let z : 10 ≡ 0 = e in omega arith)
 
-gate_shut : (fits held : Bool) (y : Verdict) → by_lock fits held ≡ 10 → Unfit ≡ cond fits (cond held (Fault 2) y) Unfit
-gate_shut true true y e = absurd (let z : 2 ≡ 10 = e in omega arith)
-gate_shut true false y e = absurd (let z : 0 ≡ 10 = e in omega arith)
-gate_shut false held y e = refl
+gate_held : (fits held : Bool) (y : ℕ) → ¬ (by_lock fits held ≡ 0) → by_lock fits held ≡ cond fits (cond held 2 y) 10
+gate_held true true y d = refl
+gate_held true false y d = absurd (d refl)
+gate_held false held y d = refl
 
-gate_held : (fits held : Bool) (y : Verdict) → ¬ (by_lock fits held ≡ 0) → ¬ (by_lock fits held ≡ 10) → Fault 2 ≡ cond fits (cond held (Fault 2) y) Unfit
-gate_held true true y d n = refl
-gate_held true false y d n = absurd (d refl)
-gate_held false held y d n = absurd (n refl)
-
-module _ (z : Sizes) (w : List ℕ) (c s x : ℕ) (us : List ℕ) (v : ℕ) (e : v ≡ stored_in z w (server s (lock_of (object_of x)))) where
+module _ (z : Sizes) (w : List ℕ) (c s x : ℕ) (us : List ℕ) where
   abbrev lock_there : Bool
   lock_there = lock_fits z (stored_in z w) s x
 
   abbrev lock_held : Bool
   lock_held = held (object_of x) c Fetch (of_server z w s)
 
-  gate_after : (y : Verdict) → 0 ≡ word_reason z w c x v Fetch → y ≡ room_of z w c us → y ≡ gate_of z w c s x us
+  pub gate_passed : (y : ℕ) → 0 ≡ lock_reason z w c s x Fetch → y ≡ room_of z w c us → y ≡ gate_of z w c s x us
   unfolding gate_of
-  gate_after y o q = q ∙ gate_open lock_there lock_held (room_of z w c us) (sym (by_word z w c s x v Fetch e) ∙ sym o)
+  gate_passed y h k = k ∙ gate_open lock_there lock_held (room_of z w c us) (sym h)
 
-  pub gate_free : (y : Verdict) → v ≡ 0 → y ≡ room_of z w c us → y ≡ gate_of z w c s x us
-  gate_free y h q = gate_after y (zero_reason z w c s x v Fetch e h) q
+  pub gate_stops : (f : Fault) → fault_number f ≡ lock_reason z w c s x Fetch → fault_number f ≡ gate_of z w c s x us
+  unfolding gate_of
+  gate_stops f h = h ∙ gate_held lock_there lock_held (room_of z w c us) (λ n. some_fault f (h ∙ n))
 
-  module _ (k : ℕ) (o : k ≡ word_reason z w c x v Fetch) where
-    of_gate : k ≡ by_lock lock_there lock_held
-    of_gate = o ∙ by_word z w c s x v Fetch e
-
-    pub gate_passed : (y : Verdict) → k ≡ 0 → y ≡ room_of z w c us → y ≡ gate_of z w c s x us
-    gate_passed y h q = gate_after y (sym h ∙ o) q
-
-    pub gate_unfit : k ≡ 10 → Unfit ≡ gate_of z w c s x us
-    unfolding gate_of
-    gate_unfit h = gate_shut lock_there lock_held (room_of z w c us) (sym of_gate ∙ h)
-
-    pub gate_busy : ¬ (k ≡ 0) → ¬ (k ≡ 10) → Fault 2 ≡ gate_of z w c s x us
-    unfolding gate_of
-    gate_busy d n = gate_held lock_there lock_held (room_of z w c us) (λ h. d (of_gate ∙ h)) (λ h. n (of_gate ∙ h))
-
-pub ruleset verdicts = (verdict_unfit, verdict_clear, verdict_fault, room_full, room_left, gate_free, gate_passed, gate_unfit, gate_busy)
+pub ruleset gates = (room_full, room_left, gate_passed, gate_stops)
 
 module _ (z : Sizes) (w : List ℕ) (c s : ℕ) (us : List ℕ) (h : Bool) (e : h ≡ there (stored_in z w) s) where
-  pub out_of_reach : not h ≡ true → Fault 1 ≡ reached z w c s us
+  pub out_of_reach : not h ≡ true → 1 ≡ reached z w c s us
   unfolding reached
   out_of_reach t = rw (← e, not-true h t)
 
-  pub in_reach : (v : Verdict) → not h ≡ false → v ≡ verdict_of (items_found z w c s us) → v ≡ reached z w c s us
+  pub in_reach : (v : ℕ) → not h ≡ false → v ≡ items_found z w c s us → v ≡ reached z w c s us
   unfolding reached
   in_reach v t q = q ∙ rw (← e, not-false h t)

@@ -1,10 +1,10 @@
 -- Laws of the findings' code: "in the order metadata, nodes by name, flags by name".
-use Rattle.std.specs.Prelude.{◌≡◌, Bool, true, false, cond, not, ◌&&◌, ◌||◌, List, [], ◌∷◌, ◌++◌, map, ℕ, zero, suc, ◌+◌, ◌-◌, ◌*◌, ◌≤◌, ◌<◌, eqb, leb, length}
+use Rattle.std.specs.Prelude.{◌≡◌, Bool, true, false, cond, not, ◌&&◌, ◌||◌, List, [], ◌∷◌, ◌++◌, map, ℕ, zero, suc, ◌+◌, ◌-◌, ◌*◌, ◌≤◌, ◌<◌, eqb, leb, length, Option as CodeOption, Some, None}
 use Rattle.std.proofs.Math.Path.{refl, sym, ap}
 use Rattle.std.proofs.Common.{◌∙◌, add-one}
 use Rattle.std.proofs.Math.Option.{Option, none, some}
 use native.Mathlib.Omega.{arith}
-use borrow.Author.Tests.{eq-eqb, ne_eqb, le-leb, lt-leb, leb-true, leb-false, eqb-true, not-true, not-false}
+use borrow.Author.Tests.{le-leb, lt-leb, leb-true, leb-false, not-true, not-false}
 use borrow.Rule.Slice.PartMut.{mid_of}
 use Rattle.memory.specs.Word.{view}
 use Rattle.memory.specs.Bit.{bit}
@@ -26,6 +26,8 @@ use Rattle.client.specs.Sets.{count}
 use Rattle.client.specs.Items.{all_below}
 use Rattle.steps.specs.declared.sizes.Sizes.{Sizes}
 use Rattle.kinds.specs.declared.findings.Fault.{Fault}
+use Rattle.kinds.specs.declared.findings.Fault.TheVariants.{Damaged, Differs, Busy as IsBusy, TooMany}
+use Rattle.kinds.specs.declared.findings.Found.{Found}
 use Rattle.steps.specs.Whole.{server, server_at}
 use Rattle.steps.specs.Uses.{Item, each, read_items, use_of, checked_at, locked_at, lesser, least, reason_of, deciding}
 use Rattle.steps.specs.Judge.{has_transaction, holders_fit, lock_fits, lowest_participant}
@@ -34,7 +36,7 @@ use Rattle.kinds.specs.Laws.Parts.{server_lent}
 use Rattle.kinds.specs.Items.{as_item, read_item}
 use Rattle.kinds.specs.Judge.{of_client, of_server, word_fits}
 use Rattle.kinds.specs.Laws.Items.{locked_by}
-use Rattle.kinds.specs.Findings.{fault, as_fault, or_later, later, word_reason, compared_at, mark_reason, prepare_reason, prepare_fault, prepare_found}
+use Rattle.kinds.specs.Findings.{fault_number, as_pair, as_fault, or_later, later, word_reason, lock_reason, compared_at, mark_reason, prepare_reason, prepare_fault, prepare_found}
 use Rattle.server.specs.Layout as Srv
 use Rattle.kinds.specs.declared.items.Item as code
 
@@ -71,24 +73,24 @@ least_later (f ∷ l) g = go (eqb f.1 0) (eqb g.1 0) refl (least_later l g)
         ap (lesser f) k ∙ lesser_later f g (least l)
 
 -- ---- the lesser of two faults
-module _ (f g : Fault) where
-  pub no_second : g.reason ≡ 0 → as_fault f ≡ later (as_fault f) g.number g.reason
-  unfolding later
-  no_second e = sym (rw (eq-eqb g.reason 0 e))
+module _ (f g : Found) where
+  pub first_least : f.number ≤ g.number → as_fault (Some f) ≡ or_later (as_fault (Some f)) (as_pair g)
+  first_least h = sym (rw (le-leb f.number g.number h))
 
-  module _ (d : g.reason ≡ 0 → ⊥) where
-    pub no_first : f.reason ≡ 0 → as_fault g ≡ later (as_fault f) g.number g.reason
-    unfolding later
-    no_first e = rw (ne_eqb g.reason 0 d) (sym (rw (eq-eqb f.reason 0 e)))
+  pub second_least : g.number < f.number → as_fault (Some g) ≡ or_later (as_fault (Some f)) (as_pair g)
+  second_least h = sym (rw (lt-leb f.number g.number h))
 
-    module _ (c : f.reason ≡ 0 → ⊥) where
-      pub first_least : f.number ≤ g.number → as_fault f ≡ later (as_fault f) g.number g.reason
-      unfolding later
-      first_least h = rw (ne_eqb g.reason 0 d, ne_eqb f.reason 0 c, le-leb f.number g.number h)
+-- one more is found, or none
+pub one_found : (o : CodeOption Found) (x : ℕ) (f : Fault) → or_later (as_fault o) (x, fault_number f) ≡ later (as_fault o) x (fault_number f)
+unfolding later
+one_found o x Damaged = refl
+one_found o x Differs = refl
+one_found o x IsBusy = refl
+one_found o x TooMany = refl
 
-      pub second_least : g.number < f.number → as_fault g ≡ later (as_fault f) g.number g.reason
-      unfolding later
-      second_least h = rw (ne_eqb g.reason 0 d, ne_eqb f.reason 0 c, lt-leb f.number g.number h)
+pub none_found : (o : CodeOption Found) (x : ℕ) → as_fault o ≡ later (as_fault o) x 0
+unfolding later
+none_found o x = refl
 
 -- ---- a mark compared, in the part lent to be read
 pub compared_lent : (z : Sizes) (b : List ℕ) (s k : ℕ) (o : Object) (i : code.Item) (f : Finding) (r : ℕ) → StoreIn z (length b) → s < 8 → k ≡ server_at z s
@@ -122,6 +124,13 @@ module _ (z : Sizes) (w : List ℕ) (c x v : ℕ) (u : Use) (a : Bool) (p : a �
     pub word_free : h ≡ false → 0 ≡ word_reason z w c x v u
     unfolding word_reason
     word_free t = sym (rw (← p, not-false a n, ← q, t))
+
+-- no fault has the number 0
+pub some_fault : (f : Fault) → fault_number f ≡ 0 → ⊥
+some_fault Damaged h = omega arith
+some_fault Differs h = omega arith
+some_fault IsBusy h = omega arith
+some_fault TooMany h = omega arith
 
 -- a word that is 0 names nobody
 names_none : (f : ℕ → Bool) (n : ℕ) → all_below n (λ d. not (bit 0 d) || f d) ≡ true
@@ -159,37 +168,40 @@ unsettled false held b f d = refl
 
 module _ (z : Sizes) (w : List ℕ) (c s x v : ℕ) (u : Use) (e : v ≡ stored_in z w (server s (lock_of (object_of x)))) where
   -- the same by the word and by the lock
-  pub by_word : word_reason z w c x v u ≡ by_lock (lock_fits z (stored_in z w) s x) (held (object_of x) c u (of_server z w s))
+  by_word : word_reason z w c x v u ≡ lock_reason z w c s x u
   unfolding word_reason word_fits lock_fits held
   by_word = rw e
 
-  pub zero_reason : v ≡ 0 → 0 ≡ word_reason z w c x v u
+  pub lock_worded : (r : ℕ) → r ≡ word_reason z w c x v u → r ≡ lock_reason z w c s x u
+  lock_worded r o = o ∙ by_word
+
+  pub lock_free : v ≡ 0 → 0 ≡ lock_reason z w c s x u
   unfolding word_reason
-  zero_reason h = sym (rw (h, zero_fits z w x, zero_free u c))
+  lock_free h = sym (rw (h, zero_fits z w x, zero_free u c)) ∙ by_word
 
 -- ---- the reason of an item
-module _ (z : Sizes) (w : List ℕ) (c s : ℕ) (b : Bool) (i : code.Item) (v : ℕ) (e : v ≡ stored_in z w (server s (lock_of (object_of i.number)))) where
-  after_lock : (y : ℕ) → 0 ≡ word_reason z w c i.number v (use_of (as_item i)) → y ≡ mark_reason z w s b (as_item i) → y ≡ prepare_reason z w c s b (as_item i)
+module _ (z : Sizes) (w : List ℕ) (c s : ℕ) (b : Bool) (i : code.Item) (u : Use) (p : u ≡ use_of (as_item i)) where
+  abbrev fits : Bool
+  fits = lock_fits z (stored_in z w) s i.number
+
+  abbrev busy? : Bool
+  busy? = held (object_of i.number) c (use_of (as_item i)) (of_server z w s)
+
+  abbrev marks : Finding
+  marks = mark_finding (object_of i.number) (standing (object_of i.number) i.inner (of_server z w s)) i.mark
+
+  of_lock : lock_reason z w c s i.number u ≡ by_lock fits busy?
+  of_lock = rw p refl
+
+  pub reason_open : (y : ℕ) → 0 ≡ lock_reason z w c s i.number u → y ≡ mark_reason z w s b (as_item i) → y ≡ prepare_reason z w c s b (as_item i)
   unfolding prepare_reason mark_reason compared_at checked
-  after_lock y o q =
-      q ∙ settled (lock_fits z (stored_in z w) s i.number) (held (object_of i.number) c (use_of (as_item i)) (of_server z w s)) b
-      (mark_finding (object_of i.number) (standing (object_of i.number) i.inner (of_server z w s)) i.mark)
-      (sym (by_word z w c s i.number v (use_of (as_item i)) e) ∙ sym o)
+  reason_open y h k = k ∙ settled fits busy? b marks (sym (h ∙ of_lock))
 
-  pub reason_free : (y : ℕ) → v ≡ 0 → y ≡ mark_reason z w s b (as_item i) → y ≡ prepare_reason z w c s b (as_item i)
-  reason_free y h q = after_lock y (zero_reason z w c s i.number v (use_of (as_item i)) e h) q
-
-  module _ (u : Use) (r : ℕ) (p : u ≡ use_of (as_item i)) (o : r ≡ word_reason z w c i.number v u) where
-    pub reason_open : (y : ℕ) → r ≡ 0 → y ≡ mark_reason z w s b (as_item i) → y ≡ prepare_reason z w c s b (as_item i)
-    reason_open y h q = after_lock y (sym h ∙ o ∙ rw p) q
-
-    pub reason_held : ¬ (r ≡ 0) → r ≡ prepare_reason z w c s b (as_item i)
-    unfolding prepare_reason checked
-    reason_held d =
-        let k : r ≡ by_lock (lock_fits z (stored_in z w) s i.number) (held (object_of i.number) c (use_of (as_item i)) (of_server z w s)) =
-        o ∙ rw p (by_word z w c s i.number v (use_of (as_item i)) e) in
-        k ∙ unsettled (lock_fits z (stored_in z w) s i.number) (held (object_of i.number) c (use_of (as_item i)) (of_server z w s)) b
-        (mark_finding (object_of i.number) (standing (object_of i.number) i.inner (of_server z w s)) i.mark) (λ h. d (k ∙ h))
+  pub reason_held : (f : Fault) → fault_number f ≡ lock_reason z w c s i.number u → fault_number f ≡ prepare_reason z w c s b (as_item i)
+  unfolding prepare_reason checked
+  reason_held f h =
+      let k : fault_number f ≡ by_lock fits busy? = h ∙ of_lock in
+      k ∙ unsettled fits busy? b marks (λ n. some_fault f (k ∙ n))
 
 module _ (z : Sizes) (w : List ℕ) (c s low : ℕ) (i : code.Item) where
   pub fault_read : not i.known ≡ true → 10 ≡ prepare_fault z w c s low (as_item i)
@@ -214,17 +226,18 @@ module _ (z : Sizes) (w : List ℕ) (c s low : ℕ) (i : code.Item) where
       fault_none t = sym (rw (locked_so, t, not-false i.known r, not-false i.settled n))
 
 pub ruleset finding_exits = (
-  no_second,
-  no_first,
   first_least,
   second_least,
+  one_found,
+  none_found,
   compared_lent,
   mark_checked,
   mark_none,
   word_unfit,
   word_busy,
   word_free,
-  reason_free,
+  lock_worded,
+  lock_free,
   reason_open,
   reason_held,
   fault_read,
@@ -238,13 +251,6 @@ map_append : {A B : Type 0} (f : A → B) (l k : List A) → map f (l ++ k) ≡ 
 map_append f [] k = refl
 map_append f (a ∷ l) k = ap (λ (t : List _). f a ∷ t) (map_append f l k)
 
-pub reason_again : (x y : ℕ) → reason_of (fault x y) ≡ y
-reason_again x y = go (eqb y 0) refl
-  where
-    go : (b : Bool) → eqb y 0 ≡ b → reason_of (cond b none (some (x, y))) ≡ y
-    go true e = sym (eqb-true y 0 e)
-    go false e = refl
-
 -- the fault of the least of the first n items, worked out item by item
 module _ (fault_of : Item → ℕ) (at : ℕ → Item) where
   abbrev finding : Item → ℕ × ℕ
@@ -253,11 +259,11 @@ module _ (fault_of : Item → ℕ) (at : ℕ → Item) where
   unfoldable pub least_upto : ℕ → Option (ℕ × ℕ)
   least_upto n = least (map finding (each n at))
 
-  pub least_first : fault 0 0 ≡ least_upto 0
+  pub least_first : as_fault None ≡ least_upto 0
   unfolding least_upto each least
   least_first = refl
 
-  pub least_next : (i y : ℕ) (t : code.Item) (f g : Fault) → as_fault f ≡ least_upto i → as_item t ≡ at i → y ≡ fault_of (as_item t)
+  pub least_next : (i y : ℕ) (t : code.Item) (f g : CodeOption Found) → as_fault f ≡ least_upto i → as_item t ≡ at i → y ≡ fault_of (as_item t)
       → as_fault g ≡ later (as_fault f) t.number y → as_fault g ≡ least_upto (i + 1)
   unfolding least_upto each
   least_next i y t f g h q e p =
@@ -271,20 +277,20 @@ module _ (z : Sizes) (w : List ℕ) (c s low : ℕ) where
   unfoldable pub found_upto : ℕ → Option (ℕ × ℕ)
   found_upto n = least_upto (prepare_fault z w c s low) (read_item (of_client z w c)) n
 
-  pub found_first : fault 0 0 ≡ found_upto 0
+  pub found_first : as_fault None ≡ found_upto 0
   unfolding found_upto
   found_first = least_first (prepare_fault z w c s low) (read_item (of_client z w c))
 
-  pub found_next : (i y : ℕ) (t : code.Item) (f g : Fault) → as_fault f ≡ found_upto i → as_item t ≡ read_item (of_client z w c) i
+  pub found_next : (i y : ℕ) (t : code.Item) (f g : CodeOption Found) → as_fault f ≡ found_upto i → as_item t ≡ read_item (of_client z w c) i
       → y ≡ prepare_fault z w c s low (as_item t) → as_fault g ≡ later (as_fault f) t.number y → as_fault g ≡ found_upto (i + 1)
   unfolding found_upto
   found_next = least_next (prepare_fault z w c s low) (read_item (of_client z w c))
 
-  pub found_all : (i n : ℕ) (f : Fault) → i ≤ n → n ≤ i → n ≡ count (of_client z w c) Reads → low ≡ lowest_participant z (stored_in z w) c → as_fault f ≡ found_upto i
-      → f.reason ≡ prepare_found z w c s
+  pub found_all : (i n r : ℕ) (f : CodeOption Found) → i ≤ n → n ≤ i → n ≡ count (of_client z w c) Reads → low ≡ lowest_participant z (stored_in z w) c → as_fault f ≡ found_upto i
+      → r ≡ reason_of (as_fault f) → r ≡ prepare_found z w c s
   unfolding found_upto least_upto prepare_found deciding read_items read_item prepare_fault prepare_reason
-  found_all i n f a b en el h =
+  found_all i n r f a b en el h k =
       let q : i ≡ count (of_client z w c) Reads = omega arith in
-      sym (reason_again f.number f.reason) ∙ ap reason_of h ∙ rw (q, el)
+      k ∙ ap reason_of h ∙ rw (q, el)
 
 pub ruleset found_exits = (found_first, found_next, found_all)

@@ -1,9 +1,9 @@
 -- Laws of refusal 10's code: what is read of parts that are lent, and tests of all items.
-use Rattle.std.specs.Prelude.{◌≡◌, Bool, ◌&&◌, List, length}
-use Rattle.std.proofs.Math.Path.{refl, sym}
-use Rattle.std.proofs.Common.{ap, ◌∙◌, subst, add-one}
+use Rattle.std.specs.Prelude.{◌≡◌, Bool, List, length}
+use Rattle.std.proofs.Math.Path.{sym}
+use Rattle.std.proofs.Common.{ap, ◌∙◌, subst}
 use Rattle.std.proofs.Math.Bool.{true, false}
-use Prim.Native.Nat.{ℕ, zero, suc, ◌+◌, ◌-◌, ◌*◌, ◌≤◌, ◌<◌}
+use Prim.Native.Nat.{ℕ, ◌+◌, ◌-◌, ◌*◌, ◌≤◌, ◌<◌}
 use native.Mathlib.Omega.{arith}
 use borrow.Author.Tests.{lt-ltb, le-ltb, le-leb, lt-leb, ltb-true}
 use borrow.Rule.Slice.PartMut.{mid_of}

@@ -1,5 +1,5 @@
 -- Laws of a fetch: what is lacking comes from its server, once what was read is checked there.
-use Rattle.std.specs.Prelude.{◌≡◌, Bool, not, List, eqb, leb}
+use Rattle.std.specs.Prelude.{◌≡◌, Bool, not, List, leb}
 use Rattle.std.proofs.Math.Path.{refl}
 use Rattle.std.proofs.Common.{sym, ap, ◌∙◌, subst, arith}
 use Rattle.std.proofs.Math.Bool.{true, false, cond}
@@ -24,8 +24,7 @@ use Rattle.client.specs.Fetched.{fetched_meta, fetched_node, fetched_vector}
 use Rattle.steps.specs.declared.sizes.Sizes.{Sizes}
 use Rattle.steps.specs.declared.outcome.Outcome.{Outcome}
 use Rattle.steps.specs.declared.outcome.Outcome.TheVariants.{Refused, Fetched}
-use Rattle.kinds.specs.declared.fetch.Verdict.{Verdict}
-use Rattle.kinds.specs.declared.fetch.Verdict.TheVariants.{Unfit, Fault, Clear}
+use Rattle.kinds.specs.declared.findings.Fault.{Fault}
 use Rattle.steps.specs.Whole.{Address, server, client, whole, block}
 use Rattle.steps.specs.Servers.{there, metadata_source}
 use Rattle.steps.specs.Steps.{Wanted, Did, did, refuse, if_fit, by_finding, abort, wanted, node_at, handed, fetch_object, hand_over, fetch}
@@ -35,15 +34,12 @@ use Rattle.kinds.specs.Judge.{of_client, of_server}
 use Rattle.steps.proofs.Laws.There.{in_store_has}
 use Rattle.kinds.specs.Kinds.{Meets}
 use Rattle.kinds.specs.Laws.Kinds.{meets_did, meets_as, meets_refused}
-use Rattle.kinds.specs.Fetch.{Fetching, Checking, items_found, verdict_of, reached, gate_of}
+use Rattle.kinds.specs.Abort.{stops}
+use Rattle.kinds.specs.Laws.Abort.{stopped}
+use Rattle.kinds.specs.Findings.{fault_number}
+use Rattle.kinds.specs.Fetch.{Fetching, Checking, items_found, reached, gate_of}
 use Rattle.kinds.specs.Lack.{There}
 use Rattle.operations.specs.Object as O
-
--- refused, aborted, or on
-abbrev pub by_verdict : Sizes → (Address → ℕ) → ℕ → List ℕ → Verdict → Did → Did
-by_verdict z m c us Unfit on = refuse 10
-by_verdict z m c us (Fault y) on = abort z m c y us
-by_verdict z m c us Clear on = on
 
 module _ (z : Sizes) (w : List ℕ) (c : ℕ) (us : List ℕ) where
   abbrev m : Address → ℕ
@@ -51,7 +47,7 @@ module _ (z : Sizes) (w : List ℕ) (c : ℕ) (us : List ℕ) where
 
   -- the check of what was read, and then the object; s is the source of metadata
   fetch_is : (a : O.Ask) → let t = wanted (metadata_source m z c) a in t.from < 8
-      → fetch z m c us a ≡ by_verdict z m c us (reached z w c t.from us) (hand_over z m c us a t.from (Fetched t.what t.which))
+      → fetch z m c us a ≡ by_finding (reached z w c t.from us) (hand_over z m c us a t.from (Fetched t.what t.which)) (λ y. abort z m c y us)
   unfolding fetch items_found reached
   fetch_is a l = rw (lt-ltb _ _ l) (near (there m (wanted (metadata_source m z c) a).from))
     where
@@ -61,27 +57,19 @@ module _ (z : Sizes) (w : List ℕ) (c : ℕ) (us : List ℕ) where
       on : Did
       on = hand_over z m c us a from (Fetched (wanted (metadata_source m z c) a).what (wanted (metadata_source m z c) a).which)
 
-      go : (y : ℕ) → by_finding y on (λ y. abort z m c y us) ≡ by_verdict z m c us (verdict_of y) on
-      go y = by (eqb y 0) (eqb y 10)
-        where
-          by : (b d : Bool) → cond b on (cond d (refuse 10) (abort z m c y us)) ≡ by_verdict z m c us (cond b Clear (cond d Unfit (Fault y))) on
-          by true d = refl
-          by false true = refl
-          by false false = refl
-
       near : (b : Bool) → cond b (by_finding (items_found z w c from us) on (λ y. abort z m c y us)) (abort z m c 1 us)
-          ≡ by_verdict z m c us (cond b (verdict_of (items_found z w c from us)) (Fault 1)) on
-      near true = go (items_found z w c from us)
+          ≡ by_finding (cond b (items_found z w c from us) 1) on (λ y. abort z m c y us)
+      near true = refl
       near false = refl
 
   -- the object: it is not busy, there is room for it, and what the server has of it is in range
   object_is : (s x : ℕ) (out : Outcome) (ok : Bool) (g : (ClientWord → ℕ) → List (Put ClientWord))
-      → fetch_object z m c us s x out ok g ≡ by_verdict z m c us (gate_of z w c s x us) (if_fit ok (did out (handed z m c us g)))
+      → fetch_object z m c us s x out ok g ≡ by_finding (gate_of z w c s x us) (if_fit ok (did out (handed z m c us g))) (λ y. abort z m c y us)
   unfolding gate_of
   object_is s x out ok g = go (lock_fits z m s x) (held (object_of x) c Fetch (of_server z w s)) (leb 96 (of_client z w c reads_count + length us))
     where
       go : (b d e : Bool) → cond b (cond d (abort z m c 2 us) (cond e (abort z m c 4 us) (if_fit ok (did out (handed z m c us g))))) (refuse 10)
-          ≡ by_verdict z m c us (cond b (cond d (Fault 2) (cond e (Fault 4) Clear)) Unfit) (if_fit ok (did out (handed z m c us g)))
+          ≡ by_finding (cond b (cond d 2 (cond e 4 0)) 10) (if_fit ok (did out (handed z m c us g))) (λ y. abort z m c y us)
       go false d e = refl
       go true true e = refl
       go true false true = refl
@@ -105,28 +93,27 @@ unfolding fetch
 no_source z w c s us e l = meets_refused z w 10 (λ m. fetch z m c us (O.object O.meta)) (sym (rw (← e, le-ltb _ _ l)))
 
 -- ---- what the code comes to; s is the server asked
-module _ (z : Sizes) (w : List ℕ) (c : ℕ) (us : List ℕ) (a : O.Ask) (s : ℕ) (es : s ≡ (wanted (metadata_source (stored_in z w) z c) a).from) (l : s < 8) (v : Verdict) (e : v ≡ reached z w c s us) where
+module _ (z : Sizes) (w : List ℕ) (c : ℕ) (us : List ℕ) (a : O.Ask) (s : ℕ) (es : s ≡ (wanted (metadata_source (stored_in z w) z c) a).from) (l : s < 8) where
   abbrev t : Wanted
   t = wanted (metadata_source (stored_in z w) z c) a
 
-  from_there : v ≡ reached z w c t.from us
-  from_there = e ∙ ap (λ (t : ℕ). reached z w c t us) es
-
-  is_by : fetch z (stored_in z w) c us a ≡ by_verdict z (stored_in z w) c us (reached z w c t.from us) (hand_over z (stored_in z w) c us a t.from (Fetched t.what t.which))
-  is_by = fetch_is z w c us a (subst (λ (x : ℕ). x < 8) es l)
-
-  pub fetch_unfit : v ≡ Unfit → Meets z (λ m. fetch z m c us a) w (Refused 10) w
-  fetch_unfit p = meets_refused z w 10 (λ m. fetch z m c us a) (sym (is_by ∙ rw (← from_there, p)))
+  is_by : (n : ℕ) → n ≡ reached z w c s us → fetch z (stored_in z w) c us a ≡ by_finding n (hand_over z (stored_in z w) c us a t.from (Fetched t.what t.which)) (λ y. abort z (stored_in z w) c y us)
+  is_by n e =
+      fetch_is z w c us a (subst (λ (x : ℕ). x < 8) es l)
+      ∙ ap (λ (n : ℕ). by_finding n (hand_over z (stored_in z w) c us a t.from (Fetched t.what t.which)) (λ y. abort z (stored_in z w) c y us))
+      (sym (e ∙ ap (λ (t : ℕ). reached z w c t us) es))
 
   module _ (o : Outcome) (w' : List ℕ) where
-    pub fetch_aborts : (y : ℕ) → v ≡ Fault y → Meets z (λ m. abort z m c y us) w o w' → Meets z (λ m. fetch z m c us a) w o w'
-    fetch_aborts y p d = meets_as z w o w' (λ m. abort z m c y us) (λ m. fetch z m c us a) (sym (is_by ∙ rw (← from_there, p))) d
+    pub fetch_stops : (f : Fault) → fault_number f ≡ reached z w c s us → Meets z (stops z c f us) w o w' → Meets z (λ m. fetch z m c us a) w o w'
+    fetch_stops f e d =
+        meets_as z w o w' (stops z c f us) (λ m. fetch z m c us a)
+        (stopped z (stored_in z w) c us f (hand_over z (stored_in z w) c us a t.from (Fetched t.what t.which)) ∙ sym (is_by (fault_number f) e)) d
 
-    pub fetch_hands : v ≡ Clear → Meets z (λ m. hand_over z m c us a s (Fetched (wanted 0 a).what (wanted 0 a).which)) w o w'
+    pub fetch_hands : 0 ≡ reached z w c s us → Meets z (λ m. hand_over z m c us a s (Fetched (wanted 0 a).what (wanted 0 a).which)) w o w'
         → Meets z (λ m. fetch z m c us a) w o w'
-    fetch_hands p d =
+    fetch_hands e d =
         meets_as z w o w' (λ m. hand_over z m c us a s (Fetched (wanted 0 a).what (wanted 0 a).which)) (λ m. fetch z m c us a)
-        (sym (is_by ∙ rw (← from_there, p, es) (named a (metadata_source (stored_in z w) z c)))) d
+        (sym (is_by 0 e ∙ rw es (named a (metadata_source (stored_in z w) z c)))) d
       where
         named : (a : O.Ask) (q : ℕ) → hand_over z (stored_in z w) c us a (wanted q a).from (Fetched (wanted q a).what (wanted q a).which)
             ≡ hand_over z (stored_in z w) c us a (wanted q a).from (Fetched (wanted 0 a).what (wanted 0 a).which)
@@ -136,32 +123,33 @@ module _ (z : Sizes) (w : List ℕ) (c : ℕ) (us : List ℕ) (a : O.Ask) (s : �
         named (O.vector t) q = refl
         named (O.fetched t) q = refl
 
-pub ruleset fetch_exits = (fetch_unfit, fetch_aborts, fetch_hands)
+pub ruleset fetch_exits = (fetch_stops, fetch_hands)
 
 -- ---- the object handed over
-module _ (z : Sizes) (w : List ℕ) (c : ℕ) (us : List ℕ) (s x : ℕ) (out : Outcome) (g : (Address → ℕ) → (ClientWord → ℕ) → List (Put ClientWord)) (ok : (Address → ℕ) → Bool) (v : Verdict) (e : v ≡ gate_of z w c s x us) where
+module _ (z : Sizes) (w : List ℕ) (c : ℕ) (us : List ℕ) (s x : ℕ) (out : Outcome) (g : (Address → ℕ) → (ClientWord → ℕ) → List (Put ClientWord)) (ok : (Address → ℕ) → Bool) where
   abbrev D : (Address → ℕ) → Did
   D m = fetch_object z m c us s x out (ok m) (g m)
 
-  object_unfit : v ≡ Unfit → Meets z D w (Refused 10) w
-  object_unfit p = meets_refused z w 10 D (sym (object_is z w c us s x out (ok (stored_in z w)) (g (stored_in z w)) ∙ rw (← e, p)))
+  object_by : (n : ℕ) → n ≡ gate_of z w c s x us → D (stored_in z w) ≡ by_finding n (if_fit (ok (stored_in z w)) (did out (handed z (stored_in z w) c us (g (stored_in z w))))) (λ y. abort z (stored_in z w) c y us)
+  object_by n e = object_is z w c us s x out (ok (stored_in z w)) (g (stored_in z w)) ∙ rw (← e) refl
 
-  object_aborts : (y : ℕ) (o : Outcome) (w' : List ℕ) → v ≡ Fault y → Meets z (λ m. abort z m c y us) w o w' → Meets z D w o w'
-  object_aborts y o w' p d =
-      meets_as z w o w' (λ m. abort z m c y us) D (sym (object_is z w c us s x out (ok (stored_in z w)) (g (stored_in z w)) ∙ rw (← e, p))) d
+  object_stops : (f : Fault) (o : Outcome) (w' : List ℕ) → fault_number f ≡ gate_of z w c s x us → Meets z (stops z c f us) w o w' → Meets z D w o w'
+  object_stops f o w' e d =
+      meets_as z w o w' (stops z c f us) D
+      (stopped z (stored_in z w) c us f (if_fit (ok (stored_in z w)) (did out (handed z (stored_in z w) c us (g (stored_in z w))))) ∙ sym (object_by (fault_number f) e)) d
 
-  module _ (p : v ≡ Clear) (b : Bool) (pb : b ≡ ok (stored_in z w)) where
+  module _ (e : 0 ≡ gate_of z w c s x us) (b : Bool) (pb : b ≡ ok (stored_in z w)) where
     object_unsound : not b ≡ true → Meets z D w (Refused 10) w
     object_unsound nb =
         let t : b ≡ false = not-true b nb in
-        meets_refused z w 10 D (sym (object_is z w c us s x out (ok (stored_in z w)) (g (stored_in z w)) ∙ rw (← e, p, ← pb, t)))
+        meets_refused z w 10 D (sym (object_by 0 e ∙ rw (← pb, t)))
 
     object_handed : (w' : List ℕ) → not b ≡ false → Does whole (block z) (in_part (client c) (used_enter us then g (stored_in z w))) silent w 0 w' → Meets z D w out w'
     unfolding in_part
     object_handed w' nb d =
         let t : b ≡ true = not-false b nb in
         meets_as z w out w' (λ m. did out (in_part (client c) (used_enter us then g (stored_in z w)) m)) D
-        (sym (object_is z w c us s x out (ok (stored_in z w)) (g (stored_in z w)) ∙ rw (← e, p, ← pb, t)))
+        (sym (object_by 0 e ∙ rw (← pb, t)))
         (meets_did z w out w' (in_part (client c) (used_enter us then g (stored_in z w))) d)
 
 -- ---- the metadata
@@ -169,7 +157,7 @@ pub meta_has : (z : Sizes) (b : List ℕ) (c s : ℕ) (u : List ℕ) → Checkin
 unfolding number_in_store
 meta_has z b c s u h = in_store_has z.slots 0 refl
 
-module _ (z : Sizes) (w : List ℕ) (c : ℕ) (us : List ℕ) (s : ℕ) (out : Outcome) (v : Verdict) (e : v ≡ gate_of z w c s 0 us) where
+module _ (z : Sizes) (w : List ℕ) (c : ℕ) (us : List ℕ) (s : ℕ) (out : Outcome) where
   abbrev sound? : (Address → ℕ) → Bool
   sound? m = metadata_sound z.slots (λ a. m (server s a))
 
@@ -179,21 +167,18 @@ module _ (z : Sizes) (w : List ℕ) (c : ℕ) (us : List ℕ) (s : ℕ) (out : O
   abbrev HandMeta : Outcome → List ℕ → Type 0
   HandMeta o w' = Meets z (λ m. hand_over z m c us (O.object O.meta) s out) w o w'
 
-  pub meta_unfit : v ≡ Unfit → HandMeta (Refused 10) w
-  meta_unfit p = object_unfit z w c us s 0 out taken sound? v e p
+  pub meta_stops : (f : Fault) (o : Outcome) (w' : List ℕ) → fault_number f ≡ gate_of z w c s 0 us → Meets z (stops z c f us) w o w' → HandMeta o w'
+  meta_stops = object_stops z w c us s 0 out taken sound?
 
-  pub meta_aborts : (y : ℕ) (o : Outcome) (w' : List ℕ) → v ≡ Fault y → Meets z (λ m. abort z m c y us) w o w' → HandMeta o w'
-  meta_aborts y o w' p d = object_aborts z w c us s 0 out taken sound? v e y o w' p d
-
-  module _ (p : v ≡ Clear) (b : Bool) (pb : b ≡ metadata_sound z.slots (of_server z w s)) where
+  module _ (e : 0 ≡ gate_of z w c s 0 us) (b : Bool) (pb : b ≡ metadata_sound z.slots (of_server z w s)) where
     pub meta_unsound : not b ≡ true → HandMeta (Refused 10) w
-    meta_unsound t = object_unsound z w c us s 0 out taken sound? v e p b pb t
+    meta_unsound t = object_unsound z w c us s 0 out taken sound? e b pb t
 
     pub meta_handed : (w' : List ℕ) (x : Metadata) → not b ≡ false → x ≡ metadata_at (of_server z w s)
         → Does whole (block z) (in_part (client c) (used_enter us then fetched_meta x.root x.states x.version)) silent w 0 w' → HandMeta out w'
-    meta_handed w' x t q d = object_handed z w c us s 0 out taken sound? v e p b pb w' t (rw (← q) d)
+    meta_handed w' x t k d = object_handed z w c us s 0 out taken sound? e b pb w' t (rw (← k) d)
 
-pub ruleset meta_exits = (meta_has, meta_unsound, meta_unfit, meta_aborts, meta_handed)
+pub ruleset meta_exits = (meta_has, meta_stops, meta_unsound, meta_handed)
 
 pub node_has : (z : Sizes) (b : List ℕ) (c s n x : ℕ) (u : List ℕ) → Checking z b c s u → There z n → x ≡ 1 + n → Has z.slots (object_of x)
 unfolding number_in_store
@@ -203,7 +188,7 @@ node_has z b c s n x u h t e =
     let k : 1 + n - 1 ≡ n = omega arith in
     rw e (in_store_has z.slots (1 + n) (rw (ne_eqb (1 + n) 0 d, le-leb (1 + n) 8192 l, k) t.named))
 
-module _ (z : Sizes) (w : List ℕ) (c : ℕ) (us : List ℕ) (s n : ℕ) (out : Outcome) (x : ℕ) (px : x ≡ 1 + n) (v : Verdict) (e : v ≡ gate_of z w c s x us) where
+module _ (z : Sizes) (w : List ℕ) (c : ℕ) (us : List ℕ) (s n : ℕ) (out : Outcome) (x : ℕ) (px : x ≡ 1 + n) where
   abbrev fits? : (Address → ℕ) → Bool
   fits? m = node_fits z.slots (node_at (λ a. m (server s a)) n)
 
@@ -213,33 +198,30 @@ module _ (z : Sizes) (w : List ℕ) (c : ℕ) (us : List ℕ) (s n : ℕ) (out :
   abbrev HandNode : Outcome → List ℕ → Type 0
   HandNode o w' = Meets z (λ m. hand_over z m c us (O.object (O.node n)) s out) w o w'
 
-  gate_is : v ≡ gate_of z w c s (1 + n) us
-  gate_is = e ∙ rw px
+  gate_is : (n' : ℕ) → n' ≡ gate_of z w c s x us → n' ≡ gate_of z w c s (1 + n) us
+  gate_is n' e = e ∙ rw px
 
-  pub node_unfit : v ≡ Unfit → HandNode (Refused 10) w
-  node_unfit p = object_unfit z w c us s (1 + n) out copied fits? v gate_is p
+  pub node_stops : (f : Fault) (o : Outcome) (w' : List ℕ) → fault_number f ≡ gate_of z w c s x us → Meets z (stops z c f us) w o w' → HandNode o w'
+  node_stops f o w' e d = object_stops z w c us s (1 + n) out copied fits? f o w' (gate_is (fault_number f) e) d
 
-  pub node_aborts : (y : ℕ) (o : Outcome) (w' : List ℕ) → v ≡ Fault y → Meets z (λ m. abort z m c y us) w o w' → HandNode o w'
-  node_aborts y o w' p d = object_aborts z w c us s (1 + n) out copied fits? v gate_is y o w' p d
-
-  module _ (p : v ≡ Clear) (r : Node) (pr : r ≡ node_at (of_server z w s) n) (b : Bool) (pb : b ≡ node_fits z.slots r) where
+  module _ (e : 0 ≡ gate_of z w c s x us) (r : Node) (pr : r ≡ node_at (of_server z w s) n) (b : Bool) (pb : b ≡ node_fits z.slots r) where
     in_order : b ≡ fits? (stored_in z w)
     in_order = pb ∙ ap (node_fits z.slots) pr
 
     pub node_unsound : not b ≡ true → HandNode (Refused 10) w
-    node_unsound t = object_unsound z w c us s (1 + n) out copied fits? v gate_is p b in_order t
+    node_unsound t = object_unsound z w c us s (1 + n) out copied fits? (gate_is 0 e) b in_order t
 
     pub node_handed : (w' : List ℕ) → not b ≡ false → Does whole (block z) (in_part (client c) (used_enter us then fetched_node n r)) silent w 0 w' → HandNode out w'
-    node_handed w' t d = object_handed z w c us s (1 + n) out copied fits? v gate_is p b in_order w' t (rw (← pr) d)
+    node_handed w' t d = object_handed z w c us s (1 + n) out copied fits? (gate_is 0 e) b in_order w' t (rw (← pr) d)
 
-pub ruleset node_exits = (node_has, node_unsound, node_unfit, node_aborts, node_handed)
+pub ruleset node_exits = (node_has, node_stops, node_unsound, node_handed)
 
 -- ---- a vector
-pub vector_handed : (z : Sizes) (w : List ℕ) (c : ℕ) (us : List ℕ) (s : ℕ) → s < 8 → (v : Verdict) (ws w' : List ℕ) → v ≡ reached z w c s us → v ≡ Clear
+pub vector_handed : (z : Sizes) (w : List ℕ) (c : ℕ) (us : List ℕ) (s : ℕ) → s < 8 → (ws w' : List ℕ) → 0 ≡ reached z w c s us
     → ws ≡ vector_at (of_server z w s) → Does whole (block z) (in_part (client c) (used_enter us then fetched_vector s ws)) silent w 0 w'
     → Meets z (λ m. fetch z m c us (O.vector s)) w (Fetched 2 s) w'
 unfolding in_part
-vector_handed z w c us s l v ws w' e p q d =
-    fetch_hands z w c us (O.vector s) s refl l v e (Fetched 2 s) w' p
-    (meets_as z w (Fetched 2 s) w' (λ m. did (Fetched 2 s) (in_part (client c) (used_enter us then fetched_vector s ws) m)) (λ m. hand_over z m c us (O.vector s) s (Fetched 2 s)) (rw q)
+vector_handed z w c us s l ws w' e k d =
+    fetch_hands z w c us (O.vector s) s refl l (Fetched 2 s) w' e
+    (meets_as z w (Fetched 2 s) w' (λ m. did (Fetched 2 s) (in_part (client c) (used_enter us then fetched_vector s ws) m)) (λ m. hand_over z m c us (O.vector s) s (Fetched 2 s)) (rw k)
     (meets_did z w (Fetched 2 s) w' (in_part (client c) (used_enter us then fetched_vector s ws)) d))

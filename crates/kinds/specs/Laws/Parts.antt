@@ -14,7 +14,8 @@ use Rattle.layout.specs.Part.{in_part}
 use Rattle.server.specs.declared.place.Place.{Place}
 use Rattle.client.specs.Layout.{ClientWord, client_words, client_block}
 use Rattle.steps.specs.declared.sizes.Sizes.{Sizes}
-use Rattle.kinds.specs.declared.whole.Length.TheVariants.{Bytes, Refused}
+use Rattle.steps.specs.declared.refusal.Refusal.TheVariants.{BadSizes}
+use Rattle.std.specs.Prelude.{Ok, Err}
 use Rattle.steps.specs.Whole.{Allowed, server, client, whole, block, words_for, length_for, server_at, client_at}
 use Rattle.steps.proofs.Laws.Whole.{server_part, client_part}
 use Rattle.steps.specs.Refusal.{between, allowed?}
@@ -62,11 +63,11 @@ module _ (z : Sizes) where
       }
 
   -- ---- the length
-  pub length_found : (b : Bool) (n : ℕ) → b ≡ allowed? z → b ≡ true → n ≡ words_for z → Bytes (8 * n) ≡ length_answer z
+  pub length_found : (b : Bool) (n : ℕ) → b ≡ allowed? z → b ≡ true → n ≡ words_for z → Ok (8 * n) ≡ length_answer z
   unfolding length_answer length_for
   length_found b n e t q = sym (rw (← e, t, q))
 
-  pub length_refused : (b : Bool) → b ≡ allowed? z → b ≡ false → Refused 2 ≡ length_answer z
+  pub length_refused : (b : Bool) → b ≡ allowed? z → b ≡ false → Err BadSizes ≡ length_answer z
   unfolding length_answer
   length_refused b e t = sym (rw (← e, t))
 

@@ -1,5 +1,5 @@
 -- Laws of the refusals' code: a row of the table at a time, in order.
-use Rattle.std.specs.Prelude.{◌≡◌, Bool, true, cond, ◌&&◌, ◌||◌, not, List, [], ◌∷◌, eqb, leb, ltb, length}
+use Rattle.std.specs.Prelude.{◌≡◌, Bool, true, cond, ◌&&◌, ◌||◌, not, List, eqb, leb, ltb, length}
 use Rattle.std.proofs.Math.Path.{refl, sym, subst}
 use Rattle.std.proofs.Common.{ap, ◌∙◌}
 use Rattle.std.proofs.Math.Bool.{false}
@@ -7,20 +7,22 @@ use Prim.Native.Nat.{ℕ, zero, suc, ◌-◌, ◌*◌, ◌/◌, ◌≤◌, ◌<�
 use native.Mathlib.Omega.{arith}
 use borrow.Author.Tests.{eq-eqb, ne_eqb, lt-ltb, le-ltb, le-leb, lt-leb, leb-false, ltb-false, not-true, not-false}
 use borrow.Rule.Slice.PartMut.{mid_of}
-use Rattle.std.proofs.Math.ListN.{get_or-eq_default}
 use Rattle.memory.specs.Word.{view}
 use Rattle.memory.specs.Bit.{bit}
 use Rattle.client.specs.Layout.{ClientWord, field, phase, op_number, participants}
 use Rattle.client.specs.Record.{in_store}
 use Rattle.client.specs.Sets.{held}
 use Rattle.steps.specs.declared.sizes.Sizes.{Sizes}
+use Rattle.steps.specs.declared.refusal.Refusal.{Refusal}
+use Rattle.steps.specs.Refused.{number_of}
+use Rattle.steps.proofs.Laws.Refused.{some_number}
 use Rattle.steps.specs.declared.step.Step.{Step}
 use Rattle.steps.specs.declared.step.Kind.{Kind}
 use Rattle.steps.specs.declared.step.Kind.TheVariants.{Begin, Give, Work, Commit, Prepare, Apply, GiveUp, Lost, Servers, Unknown}
 use Rattle.steps.specs.declared.step.ServerChange.{ServerChange}
 use Rattle.steps.specs.declared.step.ServerChange.TheVariants.{Add, Close, Remove}
 use Rattle.steps.specs.Servers.{change_of, state_suits, any_taken, version_ends, quiet}
-use Rattle.steps.specs.Whole.{Address, client, words_for, length_for, client_at}
+use Rattle.steps.specs.Whole.{Address, words_for, length_for, client_at}
 use Rattle.steps.specs.Refusal.{between, allowed?, first, kind_of, open_refusal, refusal, state_fits}
 use Rattle.kinds.specs.Parts.{StoreIn, stored_in}
 use Rattle.kinds.specs.Laws.Parts.{are_allowed, client_lent}
@@ -39,11 +41,11 @@ module _ (bytes : ℕ) (z : Sizes) where
   too_short h = sym (rw (lt-ltb bytes 64 h))
 
   module _ (b : Bool) (l : 64 ≤ bytes) (e : b ≡ allowed? z) where
-    pub not_allowed : b ≡ false → 2 ≡ open_refusal bytes z
+    pub not_allowed : not b ≡ true → 2 ≡ open_refusal bytes z
     unfolding open_refusal first
     not_allowed t = sym (rw (le-ltb bytes 64 l, ← e, t))
 
-    module _ (n : ℕ) (t : b ≡ true) (q : n ≡ words_for z) where
+    module _ (n : ℕ) (t : not b ≡ false) (q : n ≡ words_for z) where
       pub shorter : bytes < 8 * n → 3 ≡ open_refusal bytes z
       unfolding open_refusal first length_for
       shorter h = sym (rw (le-ltb bytes 64 l, ← e, t, ← q, lt-ltb bytes (8 * n) h))
@@ -53,9 +55,9 @@ module _ (bytes : ℕ) (z : Sizes) where
       long_enough h = sym (rw (le-ltb bytes 64 l, ← e, t, ← q, le-ltb bytes (8 * n) h))
 
 -- where none holds, there is a store
-pub none_holds : (bytes : ℕ) (z : Sizes) (r : ℕ) → r ≡ open_refusal bytes z → r ≡ 0 → StoreIn z bytes
+pub none_holds : (bytes : ℕ) (z : Sizes) → 0 ≡ open_refusal bytes z → StoreIn z bytes
 unfolding open_refusal first
-none_holds bytes z r e q = go (ltb bytes 64) (allowed? z) (ltb bytes (length_for z)) refl refl (sym e ∙ q)
+none_holds bytes z e = go (ltb bytes 64) (allowed? z) (ltb bytes (length_for z)) refl refl (sym e)
   where
     go : (a b c : Bool) → b ≡ allowed? z → c ≡ ltb bytes (length_for z) → ◌≡◌ {A = ℕ} (cond a 1 (cond (not b) 2 (cond c 3 0))) 0 → StoreIn z bytes
     go true b c p t h = absurd (omega arith)
@@ -68,20 +70,6 @@ none_holds bytes z r e q = go (ltb bytes 64) (allowed? z) (ltb bytes (length_for
 pub ruleset memory_exits = (too_short, not_allowed, shorter, long_enough)
 
 -- ---- kinds
-pub of_number : (n k : ℕ) (r : Kind) → n ≡ k → r ≡ kind_of k → r ≡ kind_of n
-of_number n k r e h = rw e h
-
-above : (n i : ℕ) → i ≤ n → (n ≡ i → ⊥) → suc i ≤ n
-above n i l d = omega arith
-
-pub of_none : (n : ℕ) → (n ≡ 0 → ⊥) → (n ≡ 1 → ⊥) → (n ≡ 2 → ⊥) → (n ≡ 3 → ⊥) → (n ≡ 4 → ⊥) → (n ≡ 5 → ⊥) → (n ≡ 6 → ⊥) → (n ≡ 7 → ⊥)
-    → (n ≡ 8 → ⊥) → (n ≡ 9 → ⊥) → (n ≡ 10 → ⊥) → Unknown ≡ kind_of n
-unfolding kind_of
-of_none n a b c d e f g h i j k =
-    let l : 11 ≤ n =
-    above n 10 (above n 9 (above n 8 (above n 7 (above n 6 (above n 5 (above n 4 (above n 3 (above n 2 (above n 1 (above n 0 (omega arith) a) b) c) d) e) f) g) h) i) j) k in
-    sym (get_or-eq_default (Begin ∷ Give ∷ Work ∷ Commit ∷ Prepare ∷ Apply ∷ GiveUp ∷ Lost ∷ Servers Add ∷ Servers Close ∷ Servers Remove ∷ []) Unknown {n = n} l)
-
 fits_fitting : (m : ClientWord → ℕ) (s : ℕ) (k : Kind) → fitting k (m phase) (m op_number) (due m s k) ≡ state_fits m s k
 unfolding state_fits fitting due left
 fits_fitting m s Begin = refl
@@ -129,8 +117,11 @@ unfolding held unfit
 client_unfit z k b j i t l h e q = ap not (q ∙ ap (λ (m : ClientWord → ℕ). state_fits m k.server i) (client_lent z k.client j b h e l.room))
 
 -- ---- 6 to 8
-pub some_first : (a b : ℕ) → (a ≡ 0 → ⊥) → a ≡ first_refusal a b
-some_first a b h = sym (rw (ne_eqb a 0 h))
+pub some_first : (r : Refusal) (a b : ℕ) → number_of r ≡ a → number_of r ≡ first_refusal a b
+some_first r a b e = rw (← e, ne_eqb (number_of r) 0 (some_number r)) refl
+
+pub none_first : (r a b : ℕ) → 0 ≡ a → r ≡ b → r ≡ first_refusal a b
+none_first r a b e h = h ∙ rw (← e) refl
 
 within_servers : (s : ℕ) → server_refusal s ≡ 0 → s < 8
 unfolding server_refusal
@@ -175,9 +166,9 @@ module _ (z : Sizes) (k : Step) where
   unfolding give_refusal
   op_list r e h = rw (e, ← h)
 
-  pub op_migrate : (a b r : ℕ) → k.op ≡ 6 → a ≡ server_refusal k.server → b ≡ node_refusal z k.key → r ≡ first_refusal a b → r ≡ give_refusal z k
+  pub op_migrate : (r : ℕ) → k.op ≡ 6 → r ≡ first_refusal (server_refusal k.server) (node_refusal z k.key) → r ≡ give_refusal z k
   unfolding give_refusal
-  op_migrate a b r e p q h = rw (e, ← p, ← q) h
+  op_migrate r e h = h ∙ rw e refl
 
 module _ (n : ℕ) (b : Bool) (e : b ≡ between 1 32 n) where
   pub count_in : b ≡ true → 0 ≡ count_refusal n
@@ -188,24 +179,24 @@ module _ (n : ℕ) (b : Bool) (e : b ≡ between 1 32 n) where
   unfolding count_refusal
   count_out t = sym (rw (← e, t))
 
-pub ruleset field_exits = (some_first, server_out, server_in, node_in, node_out, count_in, count_out, op_none, op_other, op_above, op_migrate, op_list)
+pub ruleset field_exits = (some_first, none_first, server_out, server_in, node_in, node_out, count_in, count_out, op_none, op_other, op_above, op_migrate, op_list)
 
 pub kind_fields : (z : Sizes) (k : Step) (i j : Kind) (r : ℕ) → i ≡ j → r ≡ field_refusal z k j → r ≡ field_refusal z k i
 kind_fields z k i j r e h = rw e h
 
 -- where 7 doesn't hold
-pub is_sited : (z : Sizes) (k : Step) (i : Kind) (a : ℕ) → a ≡ field_refusal z k i → a ≡ 0 → Sited i k.server
+pub is_sited : (z : Sizes) (k : Step) (i : Kind) → 0 ≡ field_refusal z k i → Sited i k.server
 unfolding field_refusal Sited server_refusal
-is_sited z k Begin a e t = tt
-is_sited z k Give a e t = tt
-is_sited z k Work a e t = tt
-is_sited z k Commit a e t = tt
-is_sited z k Prepare a e t = within_servers k.server (sym e ∙ t)
-is_sited z k Apply a e t = within_servers k.server (sym e ∙ t)
-is_sited z k GiveUp a e t = tt
-is_sited z k Lost a e t = tt
-is_sited z k (Servers x) a e t = tt
-is_sited z k Unknown a e t = tt
+is_sited z k Begin e = tt
+is_sited z k Give e = tt
+is_sited z k Work e = tt
+is_sited z k Commit e = tt
+is_sited z k Prepare e = within_servers k.server (sym e)
+is_sited z k Apply e = within_servers k.server (sym e)
+is_sited z k GiveUp e = tt
+is_sited z k Lost e = tt
+is_sited z k (Servers x) e = tt
+is_sited z k Unknown e = tt
 
 -- ---- 5 to 9, of a kind that is known
 module _ (z : Sizes) (k : Step) (i : Kind) (w : List ℕ) where
@@ -213,19 +204,19 @@ module _ (z : Sizes) (k : Step) (i : Kind) (w : List ℕ) where
   unfolding known_refusal
   no_client h = sym (rw (le-leb _ _ h))
 
-  module _ (a : ℕ) (h : k.client < z.clients) (e : a ≡ field_refusal z k i) where
-    pub asked_first : (a ≡ 0 → ⊥) → a ≡ known_refusal z k i w
+  module _ (h : k.client < z.clients) where
+    pub asked_first : (r : Refusal) → number_of r ≡ field_refusal z k i → number_of r ≡ known_refusal z k i w
     unfolding known_refusal
-    asked_first d = sym (rw (lt-leb _ _ h, ← e, ne_eqb _ _ d))
+    asked_first r e = sym (rw (lt-leb _ _ h, ← e, ne_eqb (number_of r) 0 (some_number r)))
 
-    module _ (b : Bool) (t : a ≡ 0) (p : b ≡ unfit z k i w) where
+    module _ (e : 0 ≡ field_refusal z k i) (b : Bool) (p : b ≡ unfit z k i w) where
       pub state_unfit : b ≡ true → 9 ≡ known_refusal z k i w
       unfolding known_refusal
-      state_unfit u = sym (rw (lt-leb _ _ h, ← e, eq-eqb _ _ t, ← p, u))
+      state_unfit u = sym (rw (lt-leb _ _ h, ← e, ← p, u))
 
       pub state_fit : b ≡ false → 0 ≡ known_refusal z k i w
       unfolding known_refusal
-      state_fit u = sym (rw (lt-leb _ _ h, ← e, eq-eqb _ _ t, ← p, u))
+      state_fit u = sym (rw (lt-leb _ _ h, ← e, ← p, u))
 
 pub ruleset known_exits = (is_sited, no_client, asked_first, state_unfit, state_fit)
 

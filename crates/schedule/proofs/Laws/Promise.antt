@@ -18,7 +18,7 @@ use Rattle.schedule.specs.Promise.{Promise}
 use Rattle.schedule.proofs.Laws.Written.{steps_run, reached_as_written}
 
 allowed : (z : Sizes) (h : List Taken) (b : List ℕ) → Reached z h b → Allowed z
-allowed z h b r = (none_holds (length b) z 0 (sym r.accepted) refl).allowed
+allowed z h b r = (none_holds (length b) z (sym r.accepted)).allowed
 
 demand_3 : (z : Sizes) (h : List Taken) (b : List ℕ) → Reached z h b → Demand z h (stored_in z (view b))
 demand_3 z h b r = Theorem.demand_3 z (allowed z h b r) h (stored_in z (view b)) r.way

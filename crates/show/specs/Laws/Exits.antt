@@ -1,5 +1,5 @@
 -- The ways out of the code: what each returns, printed and stored is what is said, by the tests on the way.
-use Rattle.std.specs.Prelude.{◌≡◌, ℕ, zero, suc, ◌+◌, ◌^◌, ◌<◌, List, [], ◌∷◌, ◌++◌, length, take, ◌≢◌, slice_index}
+use Rattle.std.specs.Prelude.{◌≡◌, ℕ, zero, suc, ◌+◌, ◌^◌, ◌<◌, List, [], ◌∷◌, ◌++◌, length, take, ◌≢◌, slice_index, Result, Ok, Err}
 use Rattle.std.proofs.Math.Path.{refl, ap, subst}
 use Rattle.std.proofs.Common.{sym, ◌∙◌, append-nil, add-one, arith, take-suc}
 use borrow.Author.Tests.{ne_eqb}
@@ -7,9 +7,10 @@ use Rattle.memory.specs.Word.{view}
 use Rattle.text.specs.Print.{store_line, refused_line, bad_line, Printed}
 use Rattle.text.proofs.Laws.Printing.{then}
 use Rattle.steps.specs.Refusal.{open_refusal}
-use Rattle.engine.specs.declared.open.Opening.{Opening}
-use Rattle.engine.specs.declared.open.Opening.TheVariants.{Accepted, Refused}
-use Rattle.engine.specs.Open.{opening, words_opened}
+use Rattle.steps.specs.declared.refusal.Refusal.{Refusal}
+use Rattle.steps.specs.declared.refusal.Refusal.TheVariants.{NoHead, BadSizes, TooShort, UnknownKind, UnknownClient, UnknownOperation, UnknownServer, UnknownNode, Unfit, Damaged, BadCount, ShortOutput, UnfitServer, SlotTaken, LastMetadata}
+use Rattle.steps.specs.Refused.{number_of, refused}
+use Rattle.engine.specs.Open.{words_opened}
 use Rattle.show.specs.declared.Awaited.TheVariants.{FirstLine, StepLine}
 use Rattle.show.specs.declared.Show.{Show}
 use Rattle.show.specs.declared.Shown.{Shown}
@@ -19,31 +20,41 @@ use Rattle.show.specs.Laws.Whole.{whole_shown}
 use Rattle.show.specs.Laws.Pieces.{fed_append}
 
 -- ---- how a store is opened, by the number of its refusal
-number : Opening → ℕ
-number Accepted = 0
-number (Refused n) = n
+-- a number that refuses is not 0
+number_above : (r : Refusal) → (number_of r ≢ 0)
+number_above NoHead e = absurd (omega arith)
+number_above BadSizes e = absurd (omega arith)
+number_above TooShort e = absurd (omega arith)
+number_above UnknownKind e = absurd (omega arith)
+number_above UnknownClient e = absurd (omega arith)
+number_above UnknownOperation e = absurd (omega arith)
+number_above UnknownServer e = absurd (omega arith)
+number_above UnknownNode e = absurd (omega arith)
+number_above Unfit e = absurd (omega arith)
+number_above Damaged e = absurd (omega arith)
+number_above BadCount e = absurd (omega arith)
+number_above ShortOutput e = absurd (omega arith)
+number_above UnfitServer e = absurd (omega arith)
+number_above SlotTaken e = absurd (omega arith)
+number_above LastMetadata e = absurd (omega arith)
 
-numbered : (n : ℕ) → number (opening n) ≡ n
-unfolding opening number
-numbered zero = refl
-numbered (suc n) = refl
-
-module _ (n : ℕ) (o : Opening) (e : o ≡ opening n) where
-  accepted : o ≡ Accepted → n ≡ 0
-  unfolding number
-  accepted q = sym (numbered n) ∙ ap number (sym e ∙ q)
-
-  refused : (r : ℕ) → o ≡ Refused r → n ≡ r
-  unfolding number
-  refused r q = sym (numbered n) ∙ ap number (sym e ∙ q)
-
-  -- a number that refuses is not 0
-  refused_by : (r : ℕ) → o ≡ Refused r → (n ≢ 0)
-  unfolding opening
-  refused_by r q z =
-      let c : Refused r ≡ Accepted = sym q ∙ e ∙ ap opening z in
-      let d : ◌≡◌ {A = ℕ} 0 1 = cc in
-      absurd (omega arith)
+-- only sizes out of range are refused by 2
+only_sizes : (r : Refusal) → (r ≢ BadSizes) → (number_of r ≢ 2)
+only_sizes NoHead k e = absurd (omega arith)
+only_sizes BadSizes k e = k refl
+only_sizes TooShort k e = absurd (omega arith)
+only_sizes UnknownKind k e = absurd (omega arith)
+only_sizes UnknownClient k e = absurd (omega arith)
+only_sizes UnknownOperation k e = absurd (omega arith)
+only_sizes UnknownServer k e = absurd (omega arith)
+only_sizes UnknownNode k e = absurd (omega arith)
+only_sizes Unfit k e = absurd (omega arith)
+only_sizes Damaged k e = absurd (omega arith)
+only_sizes BadCount k e = absurd (omega arith)
+only_sizes ShortOutput k e = absurd (omega arith)
+only_sizes UnfitServer k e = absurd (omega arith)
+only_sizes SlotTaken k e = absurd (omega arith)
+only_sizes LastMetadata k e = absurd (omega arith)
 
 -- ---- nothing printed
 -- nothing is printed
@@ -66,35 +77,42 @@ module _ (m out : List ℕ) (at : ℕ) (m' out' : List ℕ) where
   came_as what other q r d = came_to what (other (length m) (view m)) q r d.state d.printed d.words
 
   -- ---- a first line of sizes
-  module _ (servers slots clients : ℕ) (o : Opening) (q : o ≡ opening (open_refusal (length m) (sizes_of servers slots clients)))
+  module _ (servers slots clients : ℕ) (o : Result (Unit {0}) Refusal) (q : refused o ≡ open_refusal (length m) (sizes_of servers slots clients))
       (w : view m' ≡ words_opened (length m) (sizes_of servers slots clients) (view m)) where
     abbrev n : ℕ
     n = open_refusal (length m) (sizes_of servers slots clients)
 
-    pub is_opened : (s : Show) (e : ℕ) → o ≡ Accepted → s ≡ awaits (StepLine 0) → Printed out at (store_line servers slots clients) out' e
+    pub is_opened : (u : Unit {0}) (s : Show) (e : ℕ) → o ≡ Ok u → s ≡ awaits (StepLine 0) → Printed out at (store_line servers slots clients) out' e
         → Came (opened servers slots clients) m out at (record { show = s; at = e }) m' out'
     unfolding opened
-    is_opened s e z a p =
+    is_opened u s e z a p =
+        let h : n ≡ 0 = sym q ∙ ap refused z in
         came_to _ (progress (awaits (StepLine 0)) (store_line servers slots clients) (words_opened (length m) (sizes_of servers slots clients) (view m)))
-        (rw (accepted n o q z)) _ a p w
+        (rw h) _ a p w
 
-    words_stay : (n ≢ 0) → view m' ≡ view m
-    unfolding words_opened
-    words_stay k = w ∙ rw (ne_eqb n 0 k)
+    module _ (r : Refusal) (z : o ≡ Err r) where
+      number : n ≡ number_of r
+      number = sym q ∙ ap refused z
 
-    pub is_refused : (r : ℕ) (s : Show) (e : ℕ) → o ≡ Refused r → r ≡ 2 → s ≡ ended → Printed out at refused_line out' e
-        → Came (opened servers slots clients) m out at (record { show = s; at = e }) m' out'
-    unfolding opened
-    is_refused r s e z t a p =
-        let h : n ≡ 2 = refused n o q r z ∙ t in
-        came_to _ (progress ended refused_line (view m)) (rw h) _ a p (words_stay (refused_by n o q r z))
+      not_opened : (n ≢ 0)
+      not_opened h = number_above r (sym number ∙ h)
 
-    pub is_too_large : (r : ℕ) (x : Shown) → o ≡ Refused r → (r ≢ 2) → x.show ≡ ended → Printed out at bad_line out' x.at
-        → Came (opened servers slots clients) m out at x m' out'
-    unfolding opened
-    is_too_large r x z k a p =
-        let h : n ≡ r = refused n o q r z in
-        came_to _ (progress ended bad_line (view m)) (rw (ne_eqb n 0 (refused_by n o q r z), ne_eqb n 2 (λ y. k (sym h ∙ y)))) x a p (words_stay (refused_by n o q r z))
+      words_stay : view m' ≡ view m
+      unfolding words_opened
+      words_stay = w ∙ rw (ne_eqb n 0 not_opened)
+
+      pub is_refused : (s : Show) (e : ℕ) → r ≡ BadSizes → s ≡ ended → Printed out at refused_line out' e
+          → Came (opened servers slots clients) m out at (record { show = s; at = e }) m' out'
+      unfolding opened
+      is_refused s e t a p =
+          let h : n ≡ 2 = number ∙ ap number_of t in
+          came_to _ (progress ended refused_line (view m)) (rw h) _ a p words_stay
+
+      pub is_too_large : (x : Shown) → (r ≢ BadSizes) → x.show ≡ ended → Printed out at bad_line out' x.at
+          → Came (opened servers slots clients) m out at x m' out'
+      unfolding opened
+      is_too_large x k a p =
+          came_to _ (progress ended bad_line (view m)) (rw (ne_eqb n 0 not_opened, ne_eqb n 2 (λ y. only_sizes r k (sym number ∙ y)))) x a p words_stay
 
 -- ---- the memory stays
 module _ (m out : List ℕ) (at : ℕ) where

@@ -3,7 +3,6 @@ use Rattle.std.specs.Prelude.{◌≡◌, refl, ℕ, ◌^◌, ◌<◌}
 use Rattle.std.proofs.Common.{sym}
 use Rattle.std.proofs.Math.Path.{subst}
 use mathlib.Core.List.{List, [], ◌∷◌, ◌++◌}
-use Rattle.operations.specs.Map.{two_to_64}
 use Rattle.operations.proofs.Laws.Map.{HIs}
 use Rattle.steps.specs.declared.sizes.Sizes.{Sizes}
 use Rattle.steps.specs.declared.step.Step.{Step}
@@ -11,7 +10,6 @@ use Rattle.steps.specs.declared.outcome.Outcome.{Outcome}
 use Rattle.steps.specs.declared.outcome.Outcome.TheVariants.{Refused, Done, Fetched, Answered, Prepared, Decided, Applied, Committed, Aborted}
 use Rattle.steps.specs.Outcome.{line}
 use Rattle.steps.specs.Whole.{Address}
-use Rattle.steps.specs.Run.{after}
 use Rattle.steps.specs.Taken.{Word, Words, Taken, outcome_from, LeadsBy, Leads}
 
 -- a machine's word
