@@ -1,13 +1,9 @@
--- How a walk that stopped ends the work step: its outcome, and what enters the sets with an answer.
+-- How a walk that stopped ends the work step: what enters the sets with an answer.
 use Rattle.std.specs.Prelude.{List, [], ℕ, ◌*◌, ◌≤◌, ◌<◌, ◌≡◌, true, length}
 use Rattle.client.specs.Part.{PartStep, ◌then◌, put_word}
 use Rattle.client.specs.Lent.{LentList, LentMut, Entry, used_in}
 use Rattle.client.specs.Enter.{enter_entries}
 use Rattle.client.specs.Answered.{used_enter}
-use Rattle.walk.specs.declared.walk.Stop.{Stop}
-use Rattle.walk.specs.declared.walk.Stop.TheVariants.{Going, LacksMeta, LacksNode, LacksVector, Refused, Aborts, Answers}
-use Rattle.steps.specs.declared.outcome.Outcome.{Outcome}
-use Rattle.steps.specs.declared.outcome.Outcome.TheVariants as outcome
 use Rattle.client.specs.Layout.{ClientWord, op_number, op_value}
 use Rattle.client.specs.Fits.{fit_to_work}
 use Rattle.steps.specs.Whole.{Address}
@@ -30,16 +26,6 @@ entering us l = used_enter us then (enter_entries l then put_word op_number 0)
 -- over the lent memory and the list of copies in use: those, and the entries, enter the client's part
 abbrev pub EntersAll : Sizes → ℕ → LentList → List Entry → LentMut → Type 0
 EntersAll z c used l mem = InClient z c (entering (used_in used.entry.now) l) mem.entry.now mem.exit.now
-
--- the outcome of a walk that stopped with an answer
-abbrev pub answer_of : Stop → Outcome
-answer_of Going = outcome.Refused 10
-answer_of LacksMeta = outcome.Refused 10
-answer_of (LacksNode n) = outcome.Refused 10
-answer_of (LacksVector s) = outcome.Refused 10
-answer_of Refused = outcome.Refused 10
-answer_of (Aborts y) = outcome.Refused 10
-answer_of (Answers a b) = outcome.Answered a b
 
 -- memory with the bytes b that holds a store, with a client whose operation waits, and what is then judged
 pub record WaitingClient (z : Sizes) (b : List ℕ) (c : ℕ) : Type 0 where

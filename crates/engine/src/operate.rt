@@ -1,5 +1,5 @@
 // 2 work: the waiting operation is walked over what the client has. It is answered, or the first thing lacking is fetched.
-ghost use Rattle.std.specs.Prelude.{◌≡◌, false, [], ◌*◌, ◌≤◌, ◌<◌, length, get_or};
+ghost use Rattle.std.specs.Prelude.{◌≡◌, [], ◌*◌, ◌≤◌, ◌<◌, length, get_or};
 ghost use Rattle.memory.specs.Word.{view};
 ghost use Rattle.client.specs.Layout.{op_number, ClientPart};
 ghost use Rattle.client.specs.Part.{Did};
@@ -7,7 +7,7 @@ ghost use Rattle.client.specs.Lent.{InUse, used_in, OwnFits, own_list};
 ghost use Rattle.client.specs.Bounds.{most_listed};
 ghost use Rattle.client.specs.Enter.{enter_entries};
 ghost use Rattle.change.specs.Single.{single_entries};
-ghost use Rattle.walk.specs.Walk.{is_answer};
+ghost use Rattle.walk.specs.Walk.{Ended};
 ghost use Rattle.walk.specs.Stopped.{Stopped};
 ghost use Rattle.walk.specs.declared.operation.Operation.TheVariants.{Read, Write};
 ghost use Rattle.walk.specs.Found.{pairs_in};
@@ -17,10 +17,10 @@ ghost use Rattle.steps.specs.Steps.{work};
 ghost use Rattle.kinds.specs.Parts.{AtClient};
 ghost use Rattle.kinds.specs.Judge.{of_client};
 ghost use Rattle.kinds.specs.Kinds.{Comes};
-ghost use Rattle.engine.specs.Work.{entering, answer_of, WaitingClient, RoomForList, NoPairs, EntersAll, ListsInto, LeavesLent};
+ghost use Rattle.engine.specs.Work.{entering, WaitingClient, RoomForList, NoPairs, EntersAll, ListsInto, LeavesLent};
 
 use crate::walking::{list_at, look_at, single_at, waiting_at, walk_at};
-use change::single::Single;
+use change::single::OneWrite;
 use client::enter::{enter_used, enter_write, enter_writes};
 use client::part::{OP_NUMBER, set_field};
 use kinds::abort::abort;
@@ -31,7 +31,7 @@ use memory::write_words;
 use steps::outcome::Outcome;
 use steps::sizes::Sizes;
 use walk::operation::{Operation, Query, Update};
-use walk::walk::{Stop, going, is_answer};
+use walk::walk::Stop;
 
 // "otherwise it answers the operation, and only then do its writes enter the write set": no operation waits any more.
 fn enter_answer(part: &mut [u8], own: &[u64], used: &[u64])
@@ -52,32 +52,31 @@ fn store_answer(mem: &mut [u8], sizes: Sizes, client: usize, own: &[u64], used: 
 }
 
 // The one write, if there is one.
-fn enter_one(part: &mut [u8], s: Single)
+fn enter_one(part: &mut [u8], write: Option<OneWrite>)
     requires { ClientPart part.old }
-    ensures { Did (enter_entries (single_entries s)) part.old part.new }
+    ensures { Did (enter_entries (single_entries write)) part.old part.new }
 {
-    if s.written {
-        let node = s.node;
-        enter_write(part, s.number, node);
+    if let Some(w) = write {
+        enter_write(part, w.number, w.node);
     }
 }
 
 // The same of an operation with one write or none.
-fn enter_single(part: &mut [u8], s: Single, used: &[u64])
+fn enter_single(part: &mut [u8], write: Option<OneWrite>, used: &[u64])
     requires { InUse used.now × ClientPart part.old }
-    ensures { Did (entering (used_in used.now) (single_entries s)) part.old part.new }
+    ensures { Did (entering (used_in used.now) (single_entries write)) part.old part.new }
 {
     enter_used(part, used);
-    enter_one(part, s);
+    enter_one(part, write);
     set_field(part, OP_NUMBER, 0);
 }
 
-fn store_single(mem: &mut [u8], sizes: Sizes, client: usize, s: Single, used: &[u64])
+fn store_single(mem: &mut [u8], sizes: Sizes, client: usize, write: Option<OneWrite>, used: &[u64])
     requires { AtClient sizes (length mem.old) client × InUse used.now }
-    ensures { EntersAll sizes client used (single_entries s) mem }
+    ensures { EntersAll sizes client used (single_entries write) mem }
 {
     let at = 8 * client_at(sizes, client);
-    enter_single(&mut mem[at..], s, used);
+    enter_single(&mut mem[at..], write, used);
 }
 
 // The same of an operation that only reads: nothing enters the write set.
@@ -97,36 +96,19 @@ fn store_seen(mem: &mut [u8], sizes: Sizes, client: usize, used: &[u64])
     enter_seen(&mut mem[at..], used);
 }
 
-// A walk that stopped without an answer.
+// A walk that ended before its answer.
 fn unanswered(mem: &mut [u8], sizes: Sizes, client: usize, stop: Stop, used: &[u64]) -> Outcome
     requires waiting_client { WaitingClient sizes mem.old client }
-    requires stopped { Stopped sizes.slots (of_client sizes (view mem.old) client) stop used.now × (is_answer stop ≡ false) }
+    requires stopped { Stopped sizes.slots (of_client sizes (view mem.old) client) (Ended stop) used.now }
     ensures comes { Comes sizes (λ m. work sizes m client) mem.old result mem.new }
     ensures pairs { NoPairs sizes mem.old client }
 {
     match stop {
-        Stop::Going => Outcome::Refused(10),
         Stop::LacksMeta => fetch_meta(mem, sizes, client, used),
         Stop::LacksNode(name) => fetch_node(mem, sizes, client, name, used),
         Stop::LacksVector(s) => fetch_vector(mem, sizes, client, s as usize, used),
         Stop::Refused => Outcome::Refused(10),
         Stop::Aborts(reason) => abort(mem, sizes, client, reason, used),
-        Stop::Answers(_, _) => Outcome::Refused(10),
-    }
-}
-
-// A walk that stopped with an answer.
-fn answered(stop: Stop) -> Outcome
-    ensures { result ≡ answer_of stop }
-{
-    match stop {
-        Stop::Going => Outcome::Refused(10),
-        Stop::LacksMeta => Outcome::Refused(10),
-        Stop::LacksNode(_) => Outcome::Refused(10),
-        Stop::LacksVector(_) => Outcome::Refused(10),
-        Stop::Refused => Outcome::Refused(10),
-        Stop::Aborts(_) => Outcome::Refused(10),
-        Stop::Answers(a, b) => Outcome::Answered(a, b),
     }
 }
 
@@ -138,13 +120,13 @@ fn look(mem: &mut [u8], sizes: Sizes, client: usize, op: Query) -> Outcome
     ensures pairs { NoPairs sizes mem.old client }
 {
     let mut used = [0u64; 98];
-    let stop = look_at(mem, sizes, client, &mut used, op);
-    let done = is_answer(stop);
-    if !done {
-        return unanswered(mem, sizes, client, stop, &used);
+    match look_at(mem, sizes, client, &mut used, op) {
+        Err(stop) => unanswered(mem, sizes, client, stop, &used),
+        Ok(answer) => {
+            store_seen(mem, sizes, client, &used);
+            Outcome::Answered(answer.a, answer.b)
+        }
     }
-    store_seen(mem, sizes, client, &used);
-    answered(stop)
 }
 
 // "written to a lent output of 16 bytes a pair, key first, lowest byte first"
@@ -166,14 +148,14 @@ fn list(mem: &mut [u8], out: &mut [u8], sizes: Sizes, client: usize) -> Outcome
 {
     let mut used = [0u64; 98];
     let mut found = [0u64; 65];
-    let stop = list_at(mem, sizes, client, &mut used, &mut found);
-    let done = is_answer(stop);
-    if !done {
-        return unanswered(mem, sizes, client, stop, &used);
+    match list_at(mem, sizes, client, &mut used, &mut found) {
+        Err(stop) => unanswered(mem, sizes, client, stop, &used),
+        Ok(answer) => {
+            put_pairs(out, &found);
+            store_seen(mem, sizes, client, &used);
+            Outcome::Answered(answer.a, answer.b)
+        }
     }
-    put_pairs(out, &found);
-    store_seen(mem, sizes, client, &used);
-    answered(stop)
 }
 
 // An operation that writes many objects: it is walked anew, with a list of them.
@@ -185,13 +167,13 @@ fn change_many(mem: &mut [u8], sizes: Sizes, client: usize, op: Update) -> Outco
 {
     let mut own = [0u64; 681];
     let mut used = [0u64; 98];
-    let stop = walk_at(mem, sizes, client, &mut own, &mut used, op);
-    let done = is_answer(stop);
-    if !done {
-        return unanswered(mem, sizes, client, stop, &used);
+    match walk_at(mem, sizes, client, &mut own, &mut used, op) {
+        Err(stop) => unanswered(mem, sizes, client, stop, &used),
+        Ok(answer) => {
+            store_answer(mem, sizes, client, &own, &used);
+            Outcome::Answered(answer.a, answer.b)
+        }
     }
-    store_answer(mem, sizes, client, &own, &used);
-    answered(stop)
 }
 
 // Insert, delete and migrate: most write one object or none.
@@ -202,18 +184,14 @@ fn change(mem: &mut [u8], sizes: Sizes, client: usize, op: Update) -> Outcome
     ensures pairs { NoPairs sizes mem.old client }
 {
     let mut used = [0u64; 98];
-    let s = single_at(mem, sizes, client, &mut used, op);
-    let stop = s.stop;
-    let on = going(stop);
-    if on {
-        return change_many(mem, sizes, client, op);
+    match single_at(mem, sizes, client, &mut used, op) {
+        Err(stop) => unanswered(mem, sizes, client, stop, &used),
+        Ok(None) => change_many(mem, sizes, client, op),
+        Ok(Some(s)) => {
+            store_single(mem, sizes, client, s.write, &used);
+            Outcome::Answered(s.answer.a, s.answer.b)
+        }
     }
-    let done = is_answer(stop);
-    if !done {
-        return unanswered(mem, sizes, client, stop, &used);
-    }
-    store_single(mem, sizes, client, s, &used);
-    answered(stop)
 }
 
 // By the sort of the operation.
@@ -223,8 +201,7 @@ fn operate(mem: &mut [u8], out: &mut [u8], sizes: Sizes, client: usize) -> Outco
     ensures comes { Comes sizes (λ m. work sizes m client) mem.old result mem.new }
     ensures output { LeavesLent sizes (λ m. work sizes m client) mem out }
 {
-    let op = waiting_at(mem, sizes, client);
-    match op {
+    match waiting_at(mem, sizes, client) {
         Operation::Read(op) => look(mem, sizes, client, op),
         Operation::Listing => list(mem, out, sizes, client),
         Operation::Write(op) => change(mem, sizes, client, op),

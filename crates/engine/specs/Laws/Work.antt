@@ -1,7 +1,7 @@
 -- Laws of the work step's code: how the walk stopped is what the rule comes to.
 use Rattle.std.proofs.Math.Path.{◌≡◌, refl, ap, subst}
 use Rattle.std.proofs.Common.{sym, ◌∙◌, arith}
-use Rattle.std.specs.Prelude.{Bool, cond, ◌&&◌, not, ℕ, ◌+◌, ◌-◌, ◌*◌, ◌/◌, ◌≤◌, ◌<◌, eqb, leb, ltb, length, get_or, replicate}
+use Rattle.std.specs.Prelude.{Bool, cond, ◌&&◌, not, Option, None, Some, Result, Ok, Err, ℕ, ◌+◌, ◌-◌, ◌*◌, ◌/◌, ◌≤◌, ◌<◌, eqb, leb, ltb, length, get_or, replicate}
 use Rattle.std.proofs.Math.Bool.{true, false}
 use Rattle.std.proofs.lemmas.Bool.{false≢true}
 use mathlib.Core.List.{List, []}
@@ -36,8 +36,8 @@ use Rattle.client.specs.Enter.{enter_write, enter_entries}
 use Rattle.client.specs.Answered.{used_enter, enter_writes, entered, answered}
 use Rattle.client.specs.Work.{Worked, refused, fetches, aborted, answers, count_new, versions_there, any_at_last, last_questions, judge, walked, worked}
 use Rattle.walk.specs.declared.walk.Stop.{Stop}
-use Rattle.walk.specs.declared.walk.Stop.TheVariants.{Going, LacksMeta, LacksNode, LacksVector, Refused, Aborts, Answers}
-use Rattle.walk.specs.Walk.{goes, is_answer, lack}
+use Rattle.walk.specs.declared.walk.Stop.TheVariants.{LacksMeta, LacksNode, LacksVector, Refused, Aborts}
+use Rattle.walk.specs.Walk.{Course, Going, Ended, Answered, is_answer, lack}
 use Rattle.walk.specs.Stopped.{Waiting, stop_of, Stopped}
 use Rattle.walk.specs.declared.operation.Operation.{Operation}
 use Rattle.walk.specs.declared.operation.Operation.TheVariants.{Listing, Unknown}
@@ -45,6 +45,7 @@ use Rattle.walk.specs.Operation.{operation_of}
 use Rattle.walk.specs.Laws.Operation.{not_unknown, lists_number}
 use Rattle.walk.specs.Look.{Looks}
 use Rattle.walk.specs.Found.{Roomy}
+use Rattle.change.specs.declared.single.OneWrite.{OneWrite}
 use Rattle.change.specs.declared.single.Single.{Single}
 use Rattle.change.specs.Work.{Ready, Enters, Works}
 use Rattle.change.specs.Single.{single_entries, WorksSingly}
@@ -68,7 +69,7 @@ use Rattle.kinds.specs.Fetch.{used_item, known_at, AllKnown, Checking, Fetching}
 use Rattle.kinds.specs.Laws.Hand.{good_used_enter}
 use Rattle.kinds.specs.Lack.{There}
 use Rattle.engine.specs.Laws.Used.{stored_at, used_stored}
-use Rattle.engine.specs.Work.{entering, answer_of, WaitingClient, RoomForList, Leaves, NoPairs}
+use Rattle.engine.specs.Work.{entering, WaitingClient, RoomForList, Leaves, NoPairs}
 use Rattle.operations.specs.Object as O
 use Rattle.client.specs.Sets as sets
 use Rattle.steps.specs.declared.outcome.Outcome.TheVariants as outcome
@@ -84,15 +85,14 @@ unfolding enter_entries nothing
 seen_entered us s t x h p r = answer_entered us [] s t t x h p (did_nothing (enter_entries []) t refl) r
 
 -- one write, or none
-module _ (r : Single) (s t : List ℕ) where
-  pub one_entered : 7223 ≤ length s / 8 → r.written ≡ true → Did (enter_write r.number r.node) s t → Did (enter_entries (single_entries r)) s t
+module _ (s t : List ℕ) where
+  pub one_entered : (w : OneWrite) → 7223 ≤ length s / 8 → Did (enter_write w.number w.node) s t → Did (enter_entries (single_entries (Some w))) s t
   unfolding enter_entries nothing
-  one_entered h w p =
-      rw w (did_then (enter_write r.number r.node) nothing s t t h (good_write r.number r.node) p (did_nothing nothing t refl))
+  one_entered w h p = did_then (enter_write w.number w.node) nothing s t t h (good_write w.number w.node) p (did_nothing nothing t refl)
 
-  pub none_entered : r.written ≡ false → t ≡ s → Did (enter_entries (single_entries r)) s t
+  pub none_entered : t ≡ s → Did (enter_entries (single_entries None)) s t
   unfolding enter_entries nothing
-  none_entered w e = rw (w, e) (did_nothing nothing s refl)
+  none_entered e = rw e (did_nothing nothing s refl)
 
 pub ruleset single_entered = (one_entered, none_entered)
 
@@ -101,7 +101,7 @@ unfolding entering answered enter_writes put_word
 entering_is us l w e = rw e
 
 -- ---- the walk of the part that is lent on
-pub works_lent : (z : Sizes) (b : List ℕ) (c k : ℕ) (s : Stop) (x₀ u₀ x u : List ℕ) → StoreIn z (length b) → c < z.clients → k ≡ client_at z c
+pub works_lent : (z : Sizes) (b : List ℕ) (c k : ℕ) (s : Course) (x₀ u₀ x u : List ℕ) → StoreIn z (length b) → c < z.clients → k ≡ client_at z c
     → Works z.slots (sets.held (mid_of (8 * k) (length b - 8 * k) b)) s x₀ u₀ x u → Works z.slots (of_client z (view b) c) s x₀ u₀ x u
 unfolding sets.held
 works_lent z b c k s x₀ u₀ x u l h e d = subst (λ (m : ClientWord → ℕ). Works z.slots m s x₀ u₀ x u) (client_lent z c k b h e l.room) d
@@ -111,7 +111,7 @@ pub waiting_lent : (z : Sizes) (b : List ℕ) (c k : ℕ) → StoreIn z (length 
 unfolding sets.held
 waiting_lent z b c k l h e d = subst Waiting (sym (client_lent z c k b h e l.room)) d
 
-pub looks_lent : (z : Sizes) (b : List ℕ) (c k : ℕ) (s : Stop) (u₀ u : List ℕ) (ps : Entries) → StoreIn z (length b) → c < z.clients → k ≡ client_at z c
+pub looks_lent : (z : Sizes) (b : List ℕ) (c k : ℕ) (s : Course) (u₀ u : List ℕ) (ps : Entries) → StoreIn z (length b) → c < z.clients → k ≡ client_at z c
     → Looks z.slots (sets.held (mid_of (8 * k) (length b - 8 * k) b)) s u₀ u ps → Looks z.slots (of_client z (view b) c) s u₀ u ps
 unfolding sets.held
 looks_lent z b c k s u₀ u ps l h e d = subst (λ (m : ClientWord → ℕ). Looks z.slots m s u₀ u ps) (client_lent z c k b h e l.room) d
@@ -135,11 +135,7 @@ module _ (z : Sizes) (b : List ℕ) (c k : ℕ) (l : StoreIn z (length b)) (h : 
 pub none_unknown : {A : Type 0} (z : Sizes) (b : List ℕ) (c : ℕ) (r : Operation) → WaitingClient z b c → r ≡ operation_of (of_client z (view b) c op_number) → r ≡ Unknown → A
 none_unknown z b c r w p q = absurd (not_unknown (of_client z (view b) c op_number) w.waiting.some w.waiting.known (sym p ∙ q))
 
--- what the code was told of it
-pub told_as : (r s t : Operation) → r ≡ s → r ≡ t → s ≡ t
-told_as r s t p q = sym p ∙ q
-
-pub singly_lent : (z : Sizes) (b : List ℕ) (c k : ℕ) (r : Single) (u₀ u : List ℕ) → StoreIn z (length b) → c < z.clients → k ≡ client_at z c
+pub singly_lent : (z : Sizes) (b : List ℕ) (c k : ℕ) (r : Result (Option Single) Stop) (u₀ u : List ℕ) → StoreIn z (length b) → c < z.clients → k ≡ client_at z c
     → WorksSingly z.slots (sets.held (mid_of (8 * k) (length b - 8 * k) b)) r u₀ u → WorksSingly z.slots (of_client z (view b) c) r u₀ u
 unfolding sets.held
 singly_lent z b c k r u₀ u l h e d = subst (λ (m : ClientWord → ℕ). WorksSingly z.slots m r u₀ u) (client_lent z c k b h e l.room) d
@@ -160,58 +156,32 @@ pub record Answering (a b : ℕ) (W : Worked) : Type 0 where
   pub writes : O.Writes
   pub is : W ≡ answers (a, b, pairs) writes
 
-abbrev Ended : Stop → Worked → Type 0
-Ended Going W = ⊥
-Ended LacksMeta W = W ≡ fetches (O.object O.meta)
-Ended (LacksNode n) W = W ≡ fetches (O.object (O.node n))
-Ended (LacksVector s) W = Vector s W
-Ended Refused W = W ≡ refused
-Ended (Aborts y) W = W ≡ aborted y
-Ended (Answers a b) W = Answering a b W
+abbrev CameTo : Course → Worked → Type 0
+CameTo Going W = ⊥
+CameTo (Ended LacksMeta) W = W ≡ fetches (O.object O.meta)
+CameTo (Ended (LacksNode n)) W = W ≡ fetches (O.object (O.node n))
+CameTo (Ended (LacksVector s)) W = Vector s W
+CameTo (Ended Refused) W = W ≡ refused
+CameTo (Ended (Aborts y)) W = W ≡ aborted y
+CameTo (Answered a b) W = Answering a b W
 
-pub answer_is : (s : Stop) (a b : ℕ) → s ≡ Answers a b → outcome.Answered a b ≡ answer_of s
-answer_is s a b e = rw e
-
-module _ (s : Stop) (b : Bool) (e : b ≡ is_answer s) where
-  pub no_answer : not b ≡ true → is_answer s ≡ false
-  no_answer n = sym e ∙ not-true b n
-
-  pub some_answer : not b ≡ false → is_answer s ≡ true
-  some_answer n = sym e ∙ not-false b n
-
-pub record Pair (s : Stop) : Type 0 where
-  pub a : ℕ
-  pub b : ℕ
-  pub is : s ≡ Answers a b
-
-pair_of : (s : Stop) → is_answer s ≡ true → Pair s
-pair_of Going e = let q : ◌≡◌ {A = ℕ} 0 1 = cc in absurd (omega arith)
-pair_of LacksMeta e = let q : ◌≡◌ {A = ℕ} 0 1 = cc in absurd (omega arith)
-pair_of (LacksNode n) e = let q : ◌≡◌ {A = ℕ} 0 1 = cc in absurd (omega arith)
-pair_of (LacksVector x) e = let q : ◌≡◌ {A = ℕ} 0 1 = cc in absurd (omega arith)
-pair_of Refused e = let q : ◌≡◌ {A = ℕ} 0 1 = cc in absurd (omega arith)
-pair_of (Aborts y) e = let q : ◌≡◌ {A = ℕ} 0 1 = cc in absurd (omega arith)
-pair_of (Answers a b) e = record { a = a; b = b; is = refl }
-
-ends : (W : Worked) → Ended (stop_of W) W
-ends refused = refl
-ends (fetches (O.object O.meta)) = refl
-ends (fetches (O.object (O.node n))) = refl
-ends (fetches (O.object (O.flag n))) = record { asks = O.object (O.flag n); is = refl; lacked = refl }
-ends (fetches (O.vector s)) = record { asks = O.vector s; is = refl; lacked = refl }
-ends (fetches (O.fetched s)) = record { asks = O.fetched s; is = refl; lacked = refl }
-ends (aborted y) = refl
-ends (answers a w) = record { pairs = a.2; writes = w; is = refl }
+came_to : (W : Worked) → CameTo (stop_of W) W
+came_to refused = refl
+came_to (fetches (O.object O.meta)) = refl
+came_to (fetches (O.object (O.node n))) = refl
+came_to (fetches (O.object (O.flag n))) = record { asks = O.object (O.flag n); is = refl; lacked = refl }
+came_to (fetches (O.vector s)) = record { asks = O.vector s; is = refl; lacked = refl }
+came_to (fetches (O.fetched s)) = record { asks = O.fetched s; is = refl; lacked = refl }
+came_to (aborted y) = refl
+came_to (answers a w) = record { pairs = a.2; writes = w; is = refl }
 
 -- a flag is fetched with its vector
 lack_server : Stop → ℕ
 lack_server (LacksVector x) = x
-lack_server Going = 0
 lack_server LacksMeta = 0
 lack_server (LacksNode n) = 0
 lack_server Refused = 0
 lack_server (Aborts y) = 0
-lack_server (Answers a b) = 0
 
 vector_same : (z : Sizes) (m : Address → ℕ) (c : ℕ) (us : List ℕ) (s : ℕ) (a : O.Ask) → lack a ≡ LacksVector s → fetch z m c us a ≡ fetch z m c us (O.vector s)
 unfolding fetch lack_server
@@ -305,16 +275,9 @@ unanswered_none (fetches a) n = refl
 unanswered_none (aborted y) n = refl
 unanswered_none (answers a w) n = let y : ◌≡◌ {A = ℕ} 0 1 = cc in absurd (omega arith)
 
-lack_unanswered : (a : O.Ask) → is_answer (lack a) ≡ false
-lack_unanswered (O.object O.meta) = refl
-lack_unanswered (O.object (O.node n)) = refl
-lack_unanswered (O.object (O.flag n)) = refl
-lack_unanswered (O.vector s) = refl
-lack_unanswered (O.fetched s) = refl
-
 answered_pairs : (X : Worked) (ps : Entries) → ((a : O.Ans) (w : O.Writes) → X ≡ answers a w → a.2 ≡ ps) → is_answer (stop_of X) ≡ true → pairs_of X ≡ ps
 answered_pairs refused ps f n = let y : ◌≡◌ {A = ℕ} 0 1 = cc in absurd (omega arith)
-answered_pairs (fetches a) ps f n = absurd (false≢true (sym (lack_unanswered a) ∙ n))
+answered_pairs (fetches a) ps f n = absurd (false≢true n)
 answered_pairs (aborted y) ps f n = let y : ◌≡◌ {A = ℕ} 0 1 = cc in absurd (omega arith)
 answered_pairs (answers a w) ps f n = f a w refl
 
@@ -334,147 +297,136 @@ all_known z w c k = record { known = λ i l. go i l (dec_lt i (count (of_client 
         (in_store_has z.slots (get_or us (i - count (of_client z w c) Reads) 0)
         (stored_at z.slots us (i - count (of_client z w c) Reads) (used_stored z.slots (of_client z w c)) (omega arith)))
 
-module _ (z : Sizes) (b : List ℕ) (c : ℕ) (hold : StoreIn z (length b)) (h : c < z.clients) (known : Known z (view b) c) (wait : Waiting (of_client z (view b) c)) (fit : fit_to_work z.slots (of_client z (view b) c) ≡ true) (s : Stop) (u : List ℕ) (k : Stopped z.slots (of_client z (view b) c) s u) where
+module _ (z : Sizes) (b : List ℕ) (c : ℕ) (hold : StoreIn z (length b)) (h : c < z.clients) (known : Known z (view b) c) (wait : Waiting (of_client z (view b) c)) (fit : fit_to_work z.slots (of_client z (view b) c) ≡ true) where
   abbrev W : Worked
   W = worked z.slots (of_client z (view b) c)
-
-  end : Ended s W
-  end = subst (λ (t : Stop). Ended t W) (sym k.stop) (ends W)
-
-  checking : (t : ℕ) → t < 8 → Checking z b c t u
-  checking t l = record {
-    holds = hold;
-    client = h;
-    server = l;
-    in_use = k.in_use;
-    reads = wait.reads;
-    known = rw k.used (all_known z (view b) c known);
-  }
-
-  pub meta_checking : Fetching z b c u
-  meta_checking = checking 0 (omega arith)
-
-  pub node_checking : (n : ℕ) → s ≡ LacksNode n → Checking z b c (server_of n) u
-  node_checking n e = checking (server_of n) (named_there z (of_client z (view b) c) n (subst (λ (t : Stop). Ended t W) e end)).1
-
-  pub node_there : (n : ℕ) → s ≡ LacksNode n → There z n
-  node_there n e = (named_there z (of_client z (view b) c) n (subst (λ (t : Stop). Ended t W) e end)).0
-
-  pub vector_checking : (t : ℕ) → s ≡ LacksVector t → Checking z b c t u
-  vector_checking t e = checking t (vector_server z (of_client z (view b) c) t (subst (λ (t : Stop). Ended t W) e end))
-
-  -- ---- what the step comes to
-  work_is : work z (stored_in z (view b)) c ≡ after_walk z (stored_in z (view b)) c (used_in u) W
-  unfolding work
-  work_is = rw (fit, k.used)
 
   abbrev Comes : Outcome → List ℕ → Type 0
   Comes o w' = Meets z (λ m. work z m c) (view b) o w'
 
-  pub work_refused : s ≡ Refused → Comes (outcome.Refused 10) (view b)
-  work_refused e =
-      let q : W ≡ refused = subst (λ (t : Stop). Ended t W) e end in
-      meets_refused z (view b) 10 (λ m. work z m c) (sym (work_is ∙ rw q))
+  module _ (s : Course) (u : List ℕ) (k : Stopped z.slots (of_client z (view b) c) s u) where
+    end : CameTo s W
+    end = subst (λ (t : Course). CameTo t W) (sym k.stop) (came_to W)
 
-  pub work_never : s ≡ Going → Comes (outcome.Refused 10) (view b)
-  work_never e = absurd (subst (λ (t : Stop). Ended t W) e end)
+    checking : (t : ℕ) → t < 8 → Checking z b c t u
+    checking t l = record {
+      holds = hold;
+      client = h;
+      server = l;
+      in_use = k.in_use;
+      reads = wait.reads;
+      known = rw k.used (all_known z (view b) c known);
+    }
 
-  module _ (o : Outcome) (w' : List ℕ) where
-    pub work_aborts : (y : ℕ) → s ≡ Aborts y → Meets z (λ m. abort z m c y (used_in u)) (view b) o w' → Comes o w'
-    work_aborts y e d =
-        let q : W ≡ aborted y = subst (λ (t : Stop). Ended t W) e end in
-        meets_as z (view b) o w' (λ m. abort z m c y (used_in u)) (λ m. work z m c) (sym (work_is ∙ rw q)) d
+    -- what the step comes to
+    work_is : work z (stored_in z (view b)) c ≡ after_walk z (stored_in z (view b)) c (used_in u) W
+    unfolding work
+    work_is = rw (fit, k.used)
 
-    pub work_meta : s ≡ LacksMeta → Meets z (λ m. fetch z m c (used_in u) (O.object O.meta)) (view b) o w' → Comes o w'
-    work_meta e d =
-        let q : W ≡ fetches (O.object O.meta) = subst (λ (t : Stop). Ended t W) e end in
-        meets_as z (view b) o w' (λ m. fetch z m c (used_in u) (O.object O.meta)) (λ m. work z m c) (sym (work_is ∙ rw q)) d
+    work_pairs : (work z (stored_in z (view b)) c).pairs ≡ pairs_of W
+    work_pairs = ap (λ (d : StepDid). d.pairs) work_is ∙ walk_pairs z (stored_in z (view b)) c (used_in u) W
 
-    pub work_node : (n : ℕ) → s ≡ LacksNode n → Meets z (λ m. fetch z m c (used_in u) (O.object (O.node n))) (view b) o w' → Comes o w'
-    work_node n e d =
-        let q : W ≡ fetches (O.object (O.node n)) = subst (λ (t : Stop). Ended t W) e end in
-        meets_as z (view b) o w' (λ m. fetch z m c (used_in u) (O.object (O.node n))) (λ m. work z m c) (sym (work_is ∙ rw q)) d
+  -- ---- a walk that ended before its answer
+  module _ (s : Stop) (u : List ℕ) (k : Stopped z.slots (of_client z (view b) c) (Ended s) u) where
+    ending : (t : Stop) → s ≡ t → CameTo (Ended t) W
+    ending t e = subst (λ (t : Stop). CameTo (Ended t) W) e (end (Ended s) u k)
 
-    pub work_vector : (t : ℕ) → s ≡ LacksVector t → Meets z (λ m. fetch z m c (used_in u) (O.vector t)) (view b) o w' → Comes o w'
-    work_vector t e d =
-        let v : Vector t W = subst (λ (y : Stop). Ended y W) e end in
-        let q : W ≡ fetches v.asks = v.is in
-        meets_as z (view b) o w' (λ m. fetch z m c (used_in u) (O.vector t)) (λ m. work z m c)
-        (sym (work_is ∙ rw q (vector_same z (stored_in z (view b)) c (used_in u) t v.asks v.lacked))) d
+    pub meta_checking : Fetching z b c u
+    meta_checking = checking (Ended s) u k 0 (omega arith)
 
-  work_pairs : (work z (stored_in z (view b)) c).pairs ≡ pairs_of W
-  work_pairs = ap (λ (d : StepDid). d.pairs) work_is ∙ walk_pairs z (stored_in z (view b)) c (used_in u) W
+    pub node_checking : (n : ℕ) → s ≡ LacksNode n → Checking z b c (server_of n) u
+    node_checking n e = checking (Ended s) u k (server_of n) (named_there z (of_client z (view b) c) n (ending (LacksNode n) e)).1
 
-  pub none_written : is_answer s ≡ false → NoPairs z b c
-  none_written n = work_pairs ∙ unanswered_none W (subst (λ (t : Stop). is_answer t ≡ false) k.stop n)
+    pub node_there : (n : ℕ) → s ≡ LacksNode n → There z n
+    node_there n e = (named_there z (of_client z (view b) c) n (ending (LacksNode n) e)).0
 
-  pairs_written : (ps : Entries) → ((a : O.Ans) (w : O.Writes) → W ≡ answers a w → a.2 ≡ ps) → is_answer s ≡ true → (work z (stored_in z (view b)) c).pairs ≡ ps
-  pairs_written ps f n = work_pairs ∙ answered_pairs W ps f (subst (λ (t : Stop). is_answer t ≡ true) k.stop n)
+    pub vector_checking : (t : ℕ) → s ≡ LacksVector t → Checking z b c t u
+    vector_checking t e = checking (Ended s) u k t (vector_server z (of_client z (view b) c) t (ending (LacksVector t) e))
 
-  pub work_unanswered : (a d : ℕ) → s ≡ Answers a d → is_answer s ≡ false → Comes (outcome.Refused 10) (view b)
-  work_unanswered a d e n = let q : true ≡ false = sym (ap is_answer e) ∙ n in let y : ◌≡◌ {A = ℕ} 0 1 = cc in absurd (omega arith)
+    pub work_refused : s ≡ Refused → Meets z (λ m. work z m c) (view b) (outcome.Refused 10) (view b)
+    work_refused e =
+        let q : W ≡ refused = ending Refused e in
+        meets_refused z (view b) 10 (λ m. work z m c) (sym (work_is (Ended s) u k ∙ rw q))
 
-  -- with an answer; l are the entries of the write set that the code stores
-  module _ (yes_answer : is_answer s ≡ true) where
-    pair : Pair s
-    pair = pair_of s yes_answer
+    module _ (o : Outcome) (w' : List ℕ) where
+      pub work_aborts : (y : ℕ) → s ≡ Aborts y → Meets z (λ m. abort z m c y (used_in u)) (view b) o w' → Meets z (λ m. work z m c) (view b) o w'
+      work_aborts y e d =
+          let q : W ≡ aborted y = ending (Aborts y) e in
+          meets_as z (view b) o w' (λ m. abort z m c y (used_in u)) (λ m. work z m c) (sym (work_is (Ended s) u k ∙ rw q)) d
 
-    answering : Answering pair.a pair.b W
-    answering = subst (λ (y : Stop). Ended y W) pair.is end
+      pub work_meta : s ≡ LacksMeta → Meets z (λ m. fetch z m c (used_in u) (O.object O.meta)) (view b) o w' → Meets z (λ m. work z m c) (view b) o w'
+      work_meta e d =
+          let q : W ≡ fetches (O.object O.meta) = ending LacksMeta e in
+          meets_as z (view b) o w' (λ m. fetch z m c (used_in u) (O.object O.meta)) (λ m. work z m c) (sym (work_is (Ended s) u k ∙ rw q)) d
 
-    work_answers : (l : List Entry) (w' : List ℕ) → ((a : O.Ans) (w : O.Writes) → W ≡ answers a w → l ≡ entered w)
-        → Does whole (block z) (in_part (client c) (entering (used_in u) l)) silent (view b) 0 w' → Comes (answer_of s) w'
+      pub work_node : (n : ℕ) → s ≡ LacksNode n → Meets z (λ m. fetch z m c (used_in u) (O.object (O.node n))) (view b) o w' → Meets z (λ m. work z m c) (view b) o w'
+      work_node n e d =
+          let q : W ≡ fetches (O.object (O.node n)) = ending (LacksNode n) e in
+          meets_as z (view b) o w' (λ m. fetch z m c (used_in u) (O.object (O.node n))) (λ m. work z m c) (sym (work_is (Ended s) u k ∙ rw q)) d
+
+      pub work_vector : (t : ℕ) → s ≡ LacksVector t → Meets z (λ m. fetch z m c (used_in u) (O.vector t)) (view b) o w' → Meets z (λ m. work z m c) (view b) o w'
+      work_vector t e d =
+          let v : Vector t W = ending (LacksVector t) e in
+          let q : W ≡ fetches v.asks = v.is in
+          meets_as z (view b) o w' (λ m. fetch z m c (used_in u) (O.vector t)) (λ m. work z m c)
+          (sym (work_is (Ended s) u k ∙ rw q (vector_same z (stored_in z (view b)) c (used_in u) t v.asks v.lacked))) d
+
+    pub none_written : NoPairs z b c
+    none_written = work_pairs (Ended s) u k ∙ unanswered_none W (subst (λ (t : Course). is_answer t ≡ false) k.stop refl)
+
+  -- ---- one that came to its answer: l are the entries of the write set that the code stores
+  module _ (i j : ℕ) where
+    pairs_written : (u : List ℕ) → Stopped z.slots (of_client z (view b) c) (Answered i j) u → (ps : Entries) → ((a : O.Ans) (w : O.Writes) → W ≡ answers a w → a.2 ≡ ps)
+        → (work z (stored_in z (view b)) c).pairs ≡ ps
+    pairs_written u k ps f = work_pairs (Answered i j) u k ∙ answered_pairs W ps f (subst (λ (t : Course). is_answer t ≡ true) k.stop refl)
+
+    work_answers : (u : List ℕ) → Stopped z.slots (of_client z (view b) c) (Answered i j) u → (l : List Entry) (w' : List ℕ) → ((a : O.Ans) (w : O.Writes) → W ≡ answers a w → l ≡ entered w)
+        → Does whole (block z) (in_part (client c) (entering (used_in u) l)) silent (view b) 0 w' → Meets z (λ m. work z m c) (view b) (outcome.Answered i j) w'
     unfolding in_part
-    work_answers l w' f p =
-        let a : O.Ans = (pair.a, pair.b, answering.pairs) in
+    work_answers u k l w' f p =
+        let answering : Answering i j W = end (Answered i j) u k in
+        let a : O.Ans = (i, j, answering.pairs) in
         let q : W ≡ answers a answering.writes = answering.is in
         let r : entering (used_in u) l ≡ answered (used_in u) answering.writes = entering_is (used_in u) l answering.writes (f a answering.writes q) in
-        let o : Outcome = outcome.Answered pair.a pair.b in
-        subst (λ (y : Stop). Comes (answer_of y) w') (sym pair.is)
-        (meets_as z (view b) o w' (λ m. record { outcome = o; stores = in_part (client c) (entering (used_in u) l) m; pairs = answering.pairs }) (λ m. work z m c)
-        (sym (work_is ∙ rw (q, ← r))) (record { answer = refl; words = p.words }))
+        let o : Outcome = outcome.Answered i j in
+        meets_as z (view b) o w' (λ m. record { outcome = o; stores = in_part (client c) (entering (used_in u) l) m; pairs = answering.pairs }) (λ m. work z m c)
+        (sym (work_is (Answered i j) u k ∙ rw (q, ← r))) (record { answer = refl; words = p.words })
 
-module _ (z : Sizes) (b : List ℕ) (c : ℕ) (hold : StoreIn z (length b)) (h : c < z.clients) (known : Known z (view b) c) (wait : Waiting (of_client z (view b) c)) (fit : fit_to_work z.slots (of_client z (view b) c) ≡ true) (s : Stop) where
-  -- an operation that only reads
-  module _ (u₀ u : List ℕ) (ps : Entries) (k : Looks z.slots (of_client z (view b) c) s u₀ u ps) where
-    pub look_answers : (o : Outcome) (w' : List ℕ) → is_answer s ≡ true → o ≡ answer_of s → Does whole (block z) (in_part (client c) (entering (used_in u) [])) silent (view b) 0 w'
-        → Meets z (λ m. work z m c) (view b) o w' × ((work z (stored_in z (view b)) c).pairs ≡ ps)
+    -- an operation that only reads
+    pub look_answers : (u₀ u : List ℕ) (ps : Entries) → Looks z.slots (of_client z (view b) c) (Answered i j) u₀ u ps → (w' : List ℕ)
+        → Does whole (block z) (in_part (client c) (entering (used_in u) [])) silent (view b) 0 w'
+        → Meets z (λ m. work z m c) (view b) (outcome.Answered i j) w' × ((work z (stored_in z (view b)) c).pairs ≡ ps)
     unfolding entered
-    look_answers o w' n e p = (
-      rw e (work_answers z b c hold h known wait fit s u k.stopped n [] w' (λ a w q. rw (k.none a w q)) p),
-      pairs_written z b c hold h known wait fit s u k.stopped ps k.pairs n,
+    look_answers u₀ u ps k w' p = (
+      work_answers u k.stopped [] w' (λ a w q. rw (k.none a w q)) p,
+      pairs_written u k.stopped ps k.pairs,
     )
 
-  -- one that writes
-  module _ (x₀ u₀ x u : List ℕ) (k : Works z.slots (of_client z (view b) c) s x₀ u₀ x u) where
-    pub change_fits : is_answer s ≡ true → OwnFits x
-    change_fits n = let v = answering z b c hold h known wait fit s u k.enters.stopped n in k.fits _ v.writes v.is
+    -- one that writes
+    enters_answers : (u₀ u : List ℕ) (l : List Entry) → Enters z.slots (of_client z (view b) c) (Answered i j) l u₀ u → (w' : List ℕ)
+        → Does whole (block z) (in_part (client c) (entering (used_in u) l)) silent (view b) 0 w' → Meets z (λ m. work z m c) (view b) (outcome.Answered i j) w' × NoPairs z b c
+    enters_answers u₀ u l k w' p = (work_answers u k.stopped l w' k.own p, pairs_written u k.stopped [] k.unlisted)
 
-    pub change_answers : (o : Outcome) (w' : List ℕ) → is_answer s ≡ true → o ≡ answer_of s
-        → Does whole (block z) (in_part (client c) (entering (used_in u) (own_list x))) silent (view b) 0 w' → Meets z (λ m. work z m c) (view b) o w' × NoPairs z b c
-    change_answers o w' n e p = (
-      rw e (work_answers z b c hold h known wait fit s u k.enters.stopped n (own_list x) w' k.enters.own p),
-      pairs_written z b c hold h known wait fit s u k.enters.stopped [] k.enters.unlisted n,
-    )
+    module _ (x₀ u₀ x u : List ℕ) (k : Works z.slots (of_client z (view b) c) (Answered i j) x₀ u₀ x u) where
+      pub change_fits : OwnFits x
+      change_fits = let v = end (Answered i j) u k.enters.stopped in k.fits _ v.writes v.is
 
--- one that writes one object or none
-module _ (t : ℕ) (m : ClientWord → ℕ) (r : Single) (u₀ u : List ℕ) (k : WorksSingly t m r u₀ u) (on : Bool) (po : on ≡ goes r.stop) (off : on ≡ false) where
-  pub single_ended : Enters t m r.stop (single_entries r) u₀ u
-  single_ended = k.enters (sym po ∙ off)
+      pub change_answers : (w' : List ℕ) → Does whole (block z) (in_part (client c) (entering (used_in u) (own_list x))) silent (view b) 0 w'
+          → Meets z (λ m. work z m c) (view b) (outcome.Answered i j) w' × NoPairs z b c
+      change_answers w' p = enters_answers u₀ u (own_list x) k.enters w' p
 
-  pub single_stopped : Stopped t m r.stop u
-  single_stopped = single_ended.stopped
+  -- one that writes one object or none
+  pub single_answers : (s : Single) (u₀ u : List ℕ) → WorksSingly z.slots (of_client z (view b) c) (Ok (Some s)) u₀ u → (w' : List ℕ)
+      → Does whole (block z) (in_part (client c) (entering (used_in u) (single_entries s.write))) silent (view b) 0 w'
+      → Meets z (λ m. work z m c) (view b) (outcome.Answered s.answer.a s.answer.b) w' × NoPairs z b c
+  single_answers s u₀ u k w' p = enters_answers s.answer.a s.answer.b u₀ u (single_entries s.write) (k.enters refl) w' p
 
-  pub single_used : InUse u
-  single_used = single_ended.stopped.in_use
+-- what it leaves in the list
+pub single_stopped : (t : ℕ) (m : ClientWord → ℕ) (s : Stop) (u₀ u : List ℕ) → WorksSingly t m (Err s) u₀ u → Stopped t m (Ended s) u
+single_stopped t m s u₀ u k = (k.enters refl).stopped
 
-module _ (z : Sizes) (b : List ℕ) (c : ℕ) (hold : StoreIn z (length b)) (h : c < z.clients) (known : Known z (view b) c) (wait : Waiting (of_client z (view b) c)) (fit : fit_to_work z.slots (of_client z (view b) c) ≡ true) (r : Single) (u₀ u : List ℕ) (k : Enters z.slots (of_client z (view b) c) r.stop (single_entries r) u₀ u) where
-  pub single_answers : (o : Outcome) (w' : List ℕ) → is_answer r.stop ≡ true → o ≡ answer_of r.stop
-      → Does whole (block z) (in_part (client c) (entering (used_in u) (single_entries r))) silent (view b) 0 w' → Meets z (λ m. work z m c) (view b) o w' × NoPairs z b c
-  single_answers o w' n e p = (
-    rw e (work_answers z b c hold h known wait fit r.stop u k.stopped n (single_entries r) w' k.own p),
-    pairs_written z b c hold h known wait fit r.stop u k.stopped [] k.unlisted n,
-  )
+pub single_used : (t : ℕ) (m : ClientWord → ℕ) (s : Single) (u₀ u : List ℕ) → WorksSingly t m (Ok (Some s)) u₀ u → InUse u
+single_used t m s u₀ u k = (k.enters refl).stopped.in_use
 
 -- ---- what refusals 9 and 10 have judged
 count_within : (t : ℕ) (m : ClientWord → ℕ) (s : Set) → numbers_fit t m s ≡ true → said_count m s ≤ limit s
