@@ -23,8 +23,9 @@ pub record TableIn (z : Sizes) (t k : ℕ) : Type 0 where
   pub slot : k < z.slots
 
 -- the lowest server there, of memory with the bytes b
-abbrev pub Lowest : Sizes → List ℕ → ℕ → Type 0
-Lowest z b s = s ≡ lowest_there (stored_in z (view b))
+pub record Lowest (z : Sizes) (b : List ℕ) (s : ℕ) : Type 0 where
+  pub lowest : s ≡ lowest_there (stored_in z (view b))
+  pub server : s < most_servers
 
 -- the metadata's version has a next one: refusal 15 has passed
 abbrev pub Rising : Sizes → List ℕ → Type 0

@@ -151,9 +151,6 @@ fn change_fits(mem: &[u8], sizes: Sizes, change: ServerChange, server: usize, lo
     if !phases_fit(mem, sizes) {
         return false;
     }
-    if lowest >= 8 {
-        return false;
-    }
     if !meta_fits(mem, sizes, lowest) {
         return false;
     }
@@ -252,7 +249,9 @@ pub fn change_servers(mem: &mut [u8], sizes: Sizes, change: ServerChange, server
     requires { AtServer sizes (length mem.old) server × Rising sizes mem.old }
     ensures { Comes sizes (λ m. change_servers sizes m change server) mem.old result mem.new }
 {
-    let lowest = lowest_there(mem, sizes);
+    let Some(lowest) = lowest_there(mem, sizes) else {
+        return Outcome::Refused(10);
+    };
     if !change_fits(mem, sizes, change, server, lowest) {
         return Outcome::Refused(10);
     }

@@ -69,11 +69,10 @@ pub fn fetch_meta(mem: &mut [u8], sizes: Sizes, client: usize, used: &[u64]) -> 
     requires { Fetching sizes mem.old client used.now }
     ensures { Fetches sizes client used (object meta) mem result }
 {
-    let server = metadata_source(mem, sizes, client);
-    if server >= 8 {
-        return Outcome::Refused(10);
+    match metadata_source(mem, sizes, client) {
+        Some(server) => fetch_meta_from(mem, sizes, client, server, used),
+        None => Outcome::Refused(10),
     }
-    fetch_meta_from(mem, sizes, client, server, used)
 }
 
 // The node of that name, as its home has it.

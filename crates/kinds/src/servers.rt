@@ -1,5 +1,5 @@
 // Which servers there are, and what a change of them asks.
-ghost use Rattle.std.specs.Prelude.{◌≡◌, not, ◌<◌, length};
+ghost use Rattle.std.specs.Prelude.{◌≡◌, not, ◌<◌, length, IfSome};
 ghost use Rattle.memory.specs.Word.{view};
 ghost use Rattle.server.specs.declared.place.Place.TheVariants.{States};
 ghost use Rattle.server.specs.HandOut.{metadata_at, vector_at};
@@ -8,7 +8,7 @@ ghost use Rattle.steps.specs.Whole.{server as at_server};
 ghost use Rattle.steps.specs.Servers.{first_from, there, lowest_there, metadata_source, other_open, another_open, state_suits, any_taken, version_ends, unended, quiet};
 ghost use Rattle.kinds.specs.Parts.{StoreIn, AtServer, AtClient, stored_in};
 ghost use Rattle.kinds.specs.Judge.{of_server, of_client};
-ghost use Rattle.kinds.specs.Servers.{nonzero};
+ghost use Rattle.kinds.specs.Servers.{or_none, nonzero};
 ghost use Rattle.client.specs.Items.{any_below};
 
 use crate::judge::field_of;
@@ -54,32 +54,35 @@ pub fn is_there(mem: &[u8], sizes: Sizes, server: usize) -> bool
     is_present(states_of(mem, sizes, server), server)
 }
 
-// The first server not absent, "counting up and round" from one; 8 if all are absent.
-fn first_from(mem: &[u8], sizes: Sizes, first: usize) -> usize
+// The first server not absent, "counting up and round" from one.
+fn first_from(mem: &[u8], sizes: Sizes, first: usize) -> Option<usize>
     requires { StoreIn sizes (length mem.now) × (first < most_servers) }
-    ensures { result ≡ first_from (there (stored_in sizes (view mem.now))) most_servers first }
+    ensures value { or_none result ≡ first_from (there (stored_in sizes (view mem.now))) most_servers first }
+    ensures within { IfSome result (λ s. s < most_servers) }
 {
     for i in 0..8 {
         let server = (first + i) % 8;
         if is_there(mem, sizes, server) {
-            return server;
+            return Some(server);
         }
     }
-    8
+    None
 }
 
-// The lowest server not absent; 8 if all are absent.
-pub fn lowest_there(mem: &[u8], sizes: Sizes) -> usize
+// The lowest server not absent.
+pub fn lowest_there(mem: &[u8], sizes: Sizes) -> Option<usize>
     requires { StoreIn sizes (length mem.now) }
-    ensures { result ≡ lowest_there (stored_in sizes (view mem.now)) }
+    ensures value { or_none result ≡ lowest_there (stored_in sizes (view mem.now)) }
+    ensures within { IfSome result (λ s. s < most_servers) }
 {
     first_from(mem, sizes, 0)
 }
 
 // "Metadata is fetched from the first server not absent, counting up and round from the old one"
-pub fn metadata_source(mem: &[u8], sizes: Sizes, client: usize) -> usize
+pub fn metadata_source(mem: &[u8], sizes: Sizes, client: usize) -> Option<usize>
     requires { StoreIn sizes (length mem.now) }
-    ensures { result ≡ metadata_source (stored_in sizes (view mem.now)) sizes client }
+    ensures value { or_none result ≡ metadata_source (stored_in sizes (view mem.now)) sizes client }
+    ensures within { IfSome result (λ s. s < most_servers) }
 {
     first_from(mem, sizes, client % sizes.servers)
 }
@@ -146,12 +149,10 @@ pub fn version_ends(mem: &[u8], sizes: Sizes) -> bool
     requires { StoreIn sizes (length mem.now) }
     ensures { result ≡ version_ends (stored_in sizes (view mem.now)) }
 {
-    let s = lowest_there(mem, sizes);
-    if s >= 8 {
-        return false;
+    match lowest_there(mem, sizes) {
+        Some(s) => meta_of(mem, sizes, s).version >= 4294967295,
+        None => false,
     }
-    let m = meta_of(mem, sizes, s);
-    m.version >= 4294967295
 }
 
 // Is a client's transaction not "prepared or decided without being ended"?

@@ -118,11 +118,13 @@ fn opened(
             show: Show::awaits(Awaited::StepLine(0)),
             at: print::put_store(out, at, servers, slots, clients),
         },
-        Err(Refusal::BadSizes) => Shown {
-            show: Show::ended(),
-            at: print::put_refused(out, at),
+        Err(refusal) => match refusal {
+            Refusal::BadSizes => Shown {
+                show: Show::ended(),
+                at: print::put_refused(out, at),
+            },
+            _ => bad(out, at),
         },
-        Err(_) => bad(out, at),
     }
 }
 

@@ -133,21 +133,16 @@ module _ (z : Sizes) (b₀ : List ℕ) (x : ServerChange) (s low : ℕ) (e : Low
   unfolding change_fits
   phases_unfit t = rw (← ep, not-true p t)
 
-  module _ (np : not p ≡ false) where
-    pub nobody_there : 8 ≤ low → false ≡ change_fits z m x s
+  module _ (np : not p ≡ false) (q : Bool) (eq : q ≡ metadata_sound z.slots (of_server z (view b₀) low)) where
+    pub metadata_unfit : not q ≡ true → false ≡ change_fits z m x s
     unfolding change_fits
-    nobody_there l = rw (← ep, not-false p np, ← e, le-ltb _ _ l)
+    metadata_unfit t = rw (← ep, not-false p np, ← e.lowest, lt-ltb _ _ e.server, ← eq, not-true q t)
 
-    module _ (l : low < 8) (q : Bool) (eq : q ≡ metadata_sound z.slots (of_server z (view b₀) low)) where
-      pub metadata_unfit : not q ≡ true → false ≡ change_fits z m x s
-      unfolding change_fits
-      metadata_unfit t = rw (← ep, not-false p np, ← e, lt-ltb _ _ l, ← eq, not-true q t)
+    pub change_by : (r : Bool) → not q ≡ false → r ≡ added_fits z m x s → r ≡ change_fits z m x s
+    unfolding change_fits added_fits row_fits
+    change_by r t h = h ∙ rw (← ep, not-false p np, ← e.lowest, lt-ltb _ _ e.server, ← eq, not-false q t)
 
-      pub change_by : (r : Bool) → not q ≡ false → r ≡ added_fits z m x s → r ≡ change_fits z m x s
-      unfolding change_fits added_fits row_fits
-      change_by r t h = h ∙ rw (← ep, not-false p np, ← e, lt-ltb _ _ l, ← eq, not-false q t)
-
-pub ruleset fit_exits = (phases_unfit, nobody_there, metadata_unfit, change_by)
+pub ruleset fit_exits = (phases_unfit, metadata_unfit, change_by)
 
 -- ---- one store after another
 module _ (z : Sizes) (F g : (Address → ℕ) → List (Put Address)) (w₀ w w' : List ℕ) where
@@ -485,13 +480,26 @@ module _ (c : ServerChange) (states s : ℕ) where
 
 pub ruleset states_exits = (states_added, states_closed, states_removed)
 
--- ---- the whole
+-- ---- the whole: nobody is there
+none_fits : (z : Sizes) (c : ServerChange) (s : ℕ) (m : Address → ℕ) → 8 ≡ lowest_there m → change_fits z m c s ≡ false
+unfolding change_fits
+none_fits z c s m e = rw (← e) (go (all_below z.clients (λ i. leb (m (client i phase)) decided_phase)))
+  where
+    go : (b : Bool) → (b && false) ≡ false
+    go true = refl
+    go false = refl
+
+pub nobody_there : (z : Sizes) (c : ServerChange) (s : ℕ) (w : List ℕ) → 8 ≡ lowest_there (stored_in z w) → Meets z (λ m. change_servers z m c s) w (Refused 10) w
+unfolding change_servers
+nobody_there z c s w e = meets_refused z w 10 (λ m. change_servers z m c s) (sym (rw (none_fits z c s (stored_in z w) e)))
+
+-- by the lowest server there
 module _ (z : Sizes) (b₀ : List ℕ) (low : ℕ) (e : Lowest z b₀ low) where
   -- refusal 15 has passed
-  pub not_last : (r : Metadata) → Rising z b₀ → low < 8 → r ≡ metadata_at (of_server z (view b₀) low) → r.version < 4294967295
+  pub not_last : (r : Metadata) → Rising z b₀ → r ≡ metadata_at (of_server z (view b₀) low) → r.version < 4294967295
   unfolding version_ends metadata_at
-  not_last r h l q =
-      let g : leb 4294967295 (stored_in z (view b₀) (server low Version)) ≡ false = rw (← e, lt-ltb low 8 l) at h in
+  not_last r h q =
+      let g : leb 4294967295 (stored_in z (view b₀) (server low Version)) ≡ false = rw (← e.lowest, lt-ltb low 8 e.server) at h in
       subst (λ (y : Metadata). y.version < 4294967295) (sym q) (leb-false 4294967295 (stored_in z (view b₀) (server low Version)) g)
 
   module _ (c : ServerChange) (s : ℕ) (f : Bool) (ef : f ≡ change_fits z (stored_in z (view b₀)) c s) where
@@ -499,23 +507,12 @@ module _ (z : Sizes) (b₀ : List ℕ) (low : ℕ) (e : Lowest z b₀ low) where
     unfolding change_servers
     change_unfit t = meets_refused z (view b₀) 10 (λ m. change_servers z m c s) (sym (rw (← ef, not-true f t)))
 
-    pub low_there : not f ≡ false → low < 8
-    unfolding change_fits
-    low_there t =
-        let m = stored_in z (view b₀) in
-        let h : change_fits z m c s ≡ true = sym ef ∙ not-false f t in
-        let sound = metadata_sound z.slots (λ a. m (server (lowest_there m) a)) in
-        let room = not (is_add c) || all_below z.slots (λ k. all_below 8 (λ t. leb (largest_version m s t k) 4294967295)) in
-        let there = ltb (lowest_there m) 8 in
-        let quiet = all_below z.clients (λ i. leb (m (client i phase)) decided_phase) in
-        subst (λ (y : ℕ). y < 8) (sym e) (ltb-true (lowest_there m) 8 (and_both there (sound && room) (and_both quiet (there && (sound && room)) h).1).0)
-
     pub change_done : (old : Metadata) (st : ℕ) (b₂ : List ℕ) → not f ≡ false → old ≡ metadata_at (of_server z (view b₀) low) → st ≡ changed_states c old.states s
         → Does whole (block z) (changing z c s (record { root = old.root; version = old.version; states = st })) silent (view b₀) 0 (view b₂)
         → Meets z (λ m. change_servers z m c s) (view b₀) Done (view b₂)
     unfolding change_servers changing added told tell_one
     change_done old st b₂ t q r d =
         meets_as z (view b₀) Done (view b₂) (λ m. did Done (changing z c s (record { root = old.root; version = old.version; states = st }) m)) (λ m. change_servers z m c s)
-        (sym (rw (← ef, not-false f t, ← e, ← q, ← r))) (meets_did z (view b₀) Done (view b₂) (changing z c s (record { root = old.root; version = old.version; states = st })) d)
+        (sym (rw (← ef, not-false f t, ← e.lowest, ← q, ← r))) (meets_did z (view b₀) Done (view b₂) (changing z c s (record { root = old.root; version = old.version; states = st })) d)
 
-pub ruleset change_exits = (not_last, change_unfit, low_there, change_done)
+pub ruleset change_exits = (not_last, change_unfit, change_done)

@@ -88,9 +88,9 @@ pub checking_at : (z : Sizes) (b : List ℕ) (c s : ℕ) (u : List ℕ) → Fetc
 checking_at z b c s u h l = record { holds = h.holds; client = h.client; server = l; in_use = h.in_use; reads = h.reads; known = h.known }
 
 -- "all absent: 10"
-pub no_source : (z : Sizes) (w : List ℕ) (c s : ℕ) (us : List ℕ) → s ≡ metadata_source (stored_in z w) z c → 8 ≤ s → Meets z (λ m. fetch z m c us (O.object O.meta)) w (Refused 10) w
+pub no_source : (z : Sizes) (w : List ℕ) (c : ℕ) (us : List ℕ) → 8 ≡ metadata_source (stored_in z w) z c → Meets z (λ m. fetch z m c us (O.object O.meta)) w (Refused 10) w
 unfolding fetch
-no_source z w c s us e l = meets_refused z w 10 (λ m. fetch z m c us (O.object O.meta)) (sym (rw (← e, le-ltb _ _ l)))
+no_source z w c us e = meets_refused z w 10 (λ m. fetch z m c us (O.object O.meta)) (sym (rw (← e)))
 
 -- ---- what the code comes to; s is the server asked
 module _ (z : Sizes) (w : List ℕ) (c : ℕ) (us : List ℕ) (a : O.Ask) (s : ℕ) (es : s ≡ (wanted (metadata_source (stored_in z w) z c) a).from) (l : s < 8) where

@@ -157,9 +157,9 @@ module _ (ws : List ℕ) (i : ℕ) where
 
 -- ---- 15
 module _ (z : Sizes) (w : List ℕ) (s : ℕ) (e : s ≡ lowest_there (stored_in z w)) where
-  pub none_ends : 8 ≤ s → false ≡ version_ends (stored_in z w)
+  pub none_ends : s ≡ 8 → false ≡ version_ends (stored_in z w)
   unfolding version_ends
-  none_ends l = rw (← e, le-ltb _ _ l)
+  none_ends q = rw (← e, q)
 
   pub ends_by : (r : Metadata) → s < 8 → r ≡ metadata_at (of_server z w s) → leb 4294967295 r.version ≡ version_ends (stored_in z w)
   unfolding version_ends metadata_at
