@@ -1,5 +1,5 @@
 -- Two neighbours after one key has moved over, or merged.
-use Rattle.std.specs.Prelude.{Bool, cond, ℕ, ◌-◌}
+use Rattle.std.specs.Prelude.{Bool, cond, ℕ}
 use Rattle.nodes.specs.declared.node.Node.{Node}
 use Rattle.nodes.specs.declared.change.Halves.{Halves}
 use Rattle.nodes.specs.Change.{merged, from_right, from_left}

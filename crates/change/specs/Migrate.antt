@@ -1,5 +1,5 @@
 -- Migrate, walked.
-use Rattle.std.specs.Prelude.{ℕ, ◌-◌, get_or}
+use Rattle.std.specs.Prelude.{ℕ, get_or}
 use Rattle.nodes.specs.declared.node.Node.{Node}
 use Rattle.operations.specs.Object.{node, object}
 use Rattle.operations.specs.Path.{TreePlan}

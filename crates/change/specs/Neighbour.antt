@@ -2,7 +2,7 @@
 use Rattle.std.specs.Prelude.{◌≡◌, Bool, List, ℕ, suc, ◌≤◌, get_or, Result}
 use Rattle.nodes.specs.declared.node.Node.{Node}
 use Rattle.nodes.specs.Entries.{entries_of}
-use Rattle.operations.specs.Object.{node, Ans, Writes}
+use Rattle.operations.specs.Object.{Ans, Writes}
 use Rattle.operations.specs.Path.{TreePlan, Branch}
 use Rattle.operations.specs.Change.{Go}
 use Rattle.walk.specs.declared.down.Turn.{Turn}

@@ -1,5 +1,5 @@
 -- The parent of a moved node: found from the root by the node's first key, and written with the new name.
-use Rattle.std.specs.Prelude.{◌≡◌, true, List, [], ◌∷◌, ◌++◌, ℕ, suc, ◌+◌, ◌-◌, take, drop, get_or}
+use Rattle.std.specs.Prelude.{◌≡◌, true, List, [], ◌∷◌, ◌++◌, ℕ, suc, ◌-◌, take, drop, get_or}
 use Rattle.std.proofs.Math.Decide.{dec_lt}
 use Rattle.base.specs.Test.{ifd}
 use Rattle.nodes.specs.declared.node.Node.{Node}

@@ -3,10 +3,9 @@ use Rattle.std.specs.Prelude.{◌≡◌, Bool, true, List, ◌∷◌, ℕ, ◌+�
 use Rattle.nodes.specs.declared.change.Wide.{Wide}
 use Rattle.nodes.specs.Entries.{wide_entries}
 use Rattle.nodes.specs.Change.{put_in}
-use Rattle.operations.specs.Object.{node, flag, taken, Writes}
+use Rattle.operations.specs.Object.{flag, taken, Writes}
 use Rattle.operations.specs.Slot.{take_for, take_node}
 use Rattle.operations.specs.Path.{TreePlan}
-use Rattle.operations.specs.Change.{split}
 use Rattle.walk.specs.declared.down.Turn.{Turn}
 use Rattle.walk.specs.declared.walk.Stop.{Stop}
 use Rattle.client.specs.Layout.{ClientWord}

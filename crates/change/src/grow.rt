@@ -44,13 +44,7 @@ fn take_two(
 }
 
 // The nodes of both slots, which must be free.
-fn both_free(
-    part: &[u8],
-    slots: usize,
-    own: &[u64],
-    used: &mut [u64],
-    t: Two,
-) -> Result<(), Stop>
+fn both_free(part: &[u8], slots: usize, own: &[u64], used: &mut [u64], t: Two) -> Result<(), Stop>
     requires { WalkingOwn part.now own.now used.old }
     ensures { over_own BothFree slots part own used t.left t.right (course result) used.new }
 {

@@ -60,7 +60,18 @@ pub fn raise(
         return Ok(Risen::Up(up));
     }
     if n.count < 7 {
-        return neighbour(part, slots, own, used, level, root, above, name, n.node(), answer);
+        return neighbour(
+            part,
+            slots,
+            own,
+            used,
+            level,
+            root,
+            above,
+            name,
+            n.node(),
+            answer,
+        );
     }
     let end = settle(part, own, used, name, n, answer)?;
     Ok(Risen::Done(end))

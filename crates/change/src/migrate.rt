@@ -216,7 +216,9 @@ fn move_below(
     let key = n.keys[0];
     let level = n.level as usize;
     let d = to_parent(part, slots, used, key, top, level)?;
-    move_at(part, slots, own, used, key, name, server, n, d.name, d.place)
+    move_at(
+        part, slots, own, used, key, name, server, n, d.name, d.place,
+    )
 }
 
 // "for an unmoved node 0 if free, 1 if there already"

@@ -77,12 +77,7 @@ fn write_leaf(
 }
 
 // Before the last questions. A move is never one write.
-fn walk(
-    part: &[u8],
-    slots: usize,
-    used: &mut [u64],
-    op: Update,
-) -> Result<Option<Single>, Stop>
+fn walk(part: &[u8], slots: usize, used: &mut [u64], op: Update) -> Result<Option<Single>, Stop>
     requires walking { Walking part.now used.old }
     requires waits { operation_of (held part.now op_number) ≡ Write op }
     ensures { Singly slots (held part.now) used.old result used.new }

@@ -43,14 +43,6 @@ module _ (n : Node) (f : AtLeaf n) (i : ℕ) (h : i < n.count) where
       let z : i + 0 ≡ i = omega arith in
       widened_entries 0 (take_out n i) (out_level 0 n (leaf_level n f) i h) lo ∙ take_out_entries n lo f.whole i h ∙ rw (extra_leaf n f.leaf, z)
 
-pub without_is : (n d : Node) (i : ℕ) (w : Wide) → d ≡ take_out n i → w ≡ widened d → w ≡ widened (take_out n i)
-without_is n d i w e q = rw (← e) q
-
-pub without_few : (n d : Node) → d.count < n.count → n.count ≤ 14 → d.count ≤ 14
-without_few n d e h = omega arith
-
-pub ruleset without_exits = (without_is, without_few)
-
 -- ---- at the leaf
 pub delete_stops : (slots : ℕ) (b u : List ℕ) (key : ℕ) (s : Stop) (u₁ : List ℕ) → Descends slots (held b) u key (arrival b (Err s)) u₁ → Changes slots b u (delete_plan slots key) (Err s) u₁
 delete_stops slots b u key s u₁ h = change_stops slots b u key s u₁ h (λ fs n es. delete_at slots fs n es (place_in key es))

@@ -1,6 +1,6 @@
 -- Laws of a root's split.
 use Rattle.std.specs.Prelude.{◌≡◌, refl, true, List, [], ◌∷◌, ℕ, suc, ◌+◌, ◌≤◌, ◌<◌, length, take, drop, get_or, Result, Ok, Err}
-use Rattle.std.proofs.Common.{sym, ◌∙◌, arith}
+use Rattle.std.proofs.Common.{◌∙◌, arith}
 use Rattle.nodes.specs.declared.node.Node.{Node}
 use Rattle.nodes.specs.declared.change.Wide.{Wide}
 use Rattle.nodes.specs.Node.{extra, made, parent_of}
@@ -29,72 +29,6 @@ use Rattle.change.specs.Laws.Split.{halves_parted}
 use Rattle.change.specs.Grow.{two_in, two_flags, TwoTaken, BothFree, HalvesTaken, Grown, root_split}
 use Rattle.nodes.specs.Change as N
 use Rattle.plans.specs.Plan as P
-
-module _ (slots : ℕ) (m : ClientWord → ℕ) (x u : List ℕ) (n : ℕ) (x₁ u₁ : List ℕ) where
-  pub two_lacks : (s : Stop) → TakenFor slots m x u n (Err s) x₁ u₁ → TwoTaken slots m x u n (Err s) x₁ u₁
-  two_lacks s q =
-      record {
-        asks = λ w hold k. q.asks w hold (λ c w₁. take_for slots n w₁ (λ d w₂. k c d w₂));
-        holds = λ t. never t;
-        good = q.good;
-        noted = q.noted;
-        few = omega (arith, q.few);
-        left_in = λ t. never t;
-        right_in = λ t. never t;
-      }
-
-  module _ (c : ℕ) (q : TakenFor slots m x u n (Ok c) x₁ u₁) where
-    pub two_good : OwnGood x₁
-    two_good = q.good refl
-
-    pub two_noted : Noted m u₁
-    two_noted = q.noted
-
-    pub two_room : get_or x 0 0 < 19 → get_or x₁ 0 0 < 20
-    two_room h = omega (arith, q.few)
-
-    module _ (x₂ u₂ : List ℕ) where
-      pub two_lacks_right : (s : Stop) → TakenFor slots m x₁ u₁ n (Err s) x₂ u₂ → TwoTaken slots m x u n (Err s) x₂ u₂
-      two_lacks_right s v =
-          record {
-            asks = λ w hold k. q.asks w hold (λ c w₁. take_for slots n w₁ (λ d w₂. k c d w₂)) ∙ v.asks ((flag c, taken true) ∷ w) (q.holds refl w hold) (λ d w₂. k c d w₂);
-            holds = λ t. never t;
-            good = v.good;
-            noted = v.noted;
-            few = omega (arith, q.few, v.few);
-            left_in = λ t. never t;
-            right_in = λ t. never t;
-          }
-
-      pub two_taken : (d : ℕ) → TakenFor slots m x₁ u₁ n (Ok d) x₂ u₂ → TwoTaken slots m x u n (Ok (record { left = c; right = d })) x₂ u₂
-      two_taken d v =
-          record {
-            asks = λ w hold k. q.asks w hold (λ c w₁. take_for slots n w₁ (λ d w₂. k c d w₂)) ∙ v.asks ((flag c, taken true) ∷ w) (q.holds refl w hold) (λ d w₂. k c d w₂);
-            holds = λ e w hold. v.holds e ((flag c, taken true) ∷ w) (q.holds refl w hold);
-            good = v.good;
-            noted = v.noted;
-            few = omega (arith, q.few, v.few);
-            left_in = λ _. q.inside refl;
-            right_in = v.inside;
-          }
-
-pub two_begins : (x : List ℕ) → get_or x 0 0 < 19 → get_or x 0 0 < 20
-two_begins x h = omega arith
-
-pub ruleset two_exits = (two_begins, two_lacks, two_good, two_noted, two_room, two_lacks_right, two_taken)
-
-module _ (slots : ℕ) (m : ClientWord → ℕ) (x u : List ℕ) (c d : ℕ) (u₁ : List ℕ) where
-  pub free_lacks : (s : Stop) → NodeTaken slots m x u c (Ended s) u₁ → BothFree slots m x u c d (Ended s) u₁
-  free_lacks s q = record { asks = λ w hold k. q.asks w hold (take_node w d k); noted = q.noted }
-
-  module _ (q : NodeTaken slots m x u c Going u₁) where
-    pub both_free : (t : Course) (u₂ : List ℕ) → NodeTaken slots m x u₁ d t u₂ → BothFree slots m x u c d t u₂
-    both_free t u₂ v = record { asks = λ w hold k. q.asks w hold (take_node w d k) ∙ v.asks w hold k; noted = v.noted }
-
-    pub free_noted : Noted m u₁
-    free_noted = q.noted
-
-pub ruleset free_exits = (free_lacks, both_free, free_noted)
 
 module _ (slots : ℕ) (m : ClientWord → ℕ) (x u : List ℕ) (n : ℕ) (x₁ u₁ : List ℕ) where
   asked : (r : Result Two Stop) → TwoTaken slots m x u n r x₁ u₁ → (w : Writes) → HoldsWrites slots x w → (k : ℕ → ℕ → Writes → TreePlan)

@@ -1,5 +1,5 @@
 -- Laws of an insert's walk.
-use Rattle.std.specs.Prelude.{◌≡◌, Bool, cond, get_or, set, Option, None, Some, Result, Ok, Err}
+use Rattle.std.specs.Prelude.{◌≡◌, Bool, cond, get_or, set, None, Some, Ok, Err}
 use Rattle.std.proofs.Math.Path.{refl, sym, ap}
 use Rattle.std.proofs.Common.{◌∙◌}
 use Rattle.std.proofs.Math.Bool.{true, false}
@@ -29,10 +29,8 @@ use Rattle.memory.specs.Word.{view}
 use Rattle.nodes.specs.Stored.{node_at}
 use Rattle.walk.specs.declared.down.Descent.{Descent}
 use Rattle.client.specs.Sets.{held}
-use Rattle.change.specs.declared.leaf.Changed.{Changed}
 use Rattle.change.specs.declared.insert.Paired.{Paired}
 use Rattle.walk.specs.declared.walk.Stop.{Stop}
-use Rattle.client.specs.Lent.{used_in}
 use Rattle.walk.specs.Laws.Entries.{Leaf, open_leaf, extra_leaf, leaf_place, leaf_value}
 use Rattle.walk.specs.Ask.{Noted}
 use Rattle.walk.specs.Down.{low, branches, trail, Linked, Reached, Descends, Arrival, arrival, PathInPart}
@@ -113,22 +111,6 @@ module _ (n : Node) (f : AtLeaf n) where
           go : (t : Bool) → fresh (cond t (some (get_or n.slots (place (keys_of n) key - 1) 0)) none) ≡ ((paired_at n key v (answered t)).a, 0, [])
           go false = refl
           go true = refl
-
--- ---- ways out of the code that makes it
-module _ (n : Node) (key v : ℕ) (p : KeyPlace) where
-  pub pair_replaced : (d : Node) (w : Wide) → p.there ≡ true → d ≡ with_slot n (p.place - 1) v → w ≡ widened d → ◌≡◌ {A = Paired} (record { content = w; a = 0 }) (paired_at n key v p)
-  pair_replaced d w t q r = rw (t, r, q)
-
-  pub pair_new : (w : Wide) → p.there ≡ false → w ≡ put_in n p.place key v → ◌≡◌ {A = Paired} (record { content = w; a = 1 }) (paired_at n key v p)
-  pair_new w t r = rw (t, r)
-
-  pub pair_inside : Within p n.count → p.there ≡ true → p.place - 1 < n.count + extra n.kind
-  pair_inside h t = omega (arith, yes_inside p n.count h t)
-
-pub pair_few : (n d : Node) → d.count ≡ n.count → n.count ≤ 14 → d.count ≤ 14
-pair_few n d e h = omega arith
-
-pub ruleset pair_exits = (pair_replaced, pair_new, pair_inside, pair_few, yes_behind)
 
 -- ---- a way down that ended at a leaf
 pub record Landed (slots : ℕ) (d : Arrival) : Type 0 where

@@ -6,7 +6,7 @@ use Rattle.std.proofs.Math.Bool.{true, false, cond, not}
 use mathlib.Core.List.{List, [], ◌∷◌, ◌++◌}
 use Prim.Native.Nat.{ℕ, zero, suc, ◌+◌, ◌*◌, ◌≤◌, ◌<◌}
 use native.Mathlib.Omega.{arith}
-use borrow.Author.Tests.{not-true, not-false, lt-ltb, le-ltb, le-leb, lt-leb}
+use borrow.Author.Tests.{lt-ltb, le-ltb, le-leb, lt-leb}
 use Rattle.nodes.specs.declared.node.Node.{Node}
 use Rattle.nodes.specs.Found.{Found}
 use Rattle.std.specs.Prelude.{Some, None}
@@ -264,8 +264,8 @@ module _ (m : ClientWord → ℕ) (fit : Bool) (new : ℕ) (there below : Bool) 
       no_reason : not there ≡ false → not below ≡ false → Reason 0
       unfolding reason_of
       no_reason u v = rw (t, ← pw, le-ltb _ _ h, u, v)
+      -- as the code says it
 
-    -- as the code says it
   pub ends_by_3 : not fit ≡ true → Ended (Aborts 3) ≡ judged Going (reason_of m fit new there below)
   unfolding judged
   ends_by_3 t = ap (judged Going) (reason_3 t)

@@ -25,7 +25,6 @@ use Rattle.walk.specs.declared.walk.Stop.{Stop}
 use Rattle.walk.specs.declared.walk.Answer.{Answer}
 use Rattle.client.specs.Layout.{ClientWord}
 use Rattle.client.specs.Record.{in_store, value_of}
-use Rattle.client.specs.Lent.{used_in}
 use Rattle.walk.specs.Entries.{branch_of}
 use Rattle.walk.specs.Walk.{Course, Ended, Answered, goes}
 use Rattle.walk.specs.Lookup.{Ends}

@@ -18,7 +18,7 @@ use Rattle.nodes.specs.Entries.{entries_of, wide_entries}
 use Rattle.nodes.specs.Change.{take_out}
 use Rattle.nodes.proofs.Laws.Kept.{length_entries_of, take_out_entries}
 use Rattle.operations.specs.Object.{node, flag, taken, free, Ans, Writes}
-use Rattle.operations.specs.Entry.{Entries, keys}
+use Rattle.operations.specs.Entry.{Entries}
 use Rattle.operations.specs.Path.{Branch}
 use Rattle.operations.specs.Change.{Go, with_one, collapsed, onward, merged}
 use Rattle.walk.specs.declared.down.Turn.{Turn}
@@ -29,10 +29,9 @@ use Rattle.walk.specs.declared.walk.Stop.{Stop}
 use Rattle.walk.specs.declared.walk.Answer.{Answer}
 use Rattle.client.specs.Layout.{ClientWord}
 use Rattle.client.specs.Record.{in_store, value_of}
-use Rattle.client.specs.Lent.{used_in}
 use Rattle.walk.specs.Laws.Entries.{extra_inner, entry_slot, entry_keys}
-use Rattle.walk.specs.Walk.{Course, Going, Ended, answer_course, goes}
-use Rattle.walk.specs.Ask.{SmallNode, OwnGood, HoldsWrites}
+use Rattle.walk.specs.Walk.{Going, Ended, answer_course, goes}
+use Rattle.walk.specs.Ask.{SmallNode, OwnGood}
 use Rattle.walk.specs.Down.{Followed}
 use Rattle.walk.specs.Laws.Down.{stops_not}
 use Rattle.walk.specs.Lookup.{Ends}
@@ -214,7 +213,7 @@ module _ (slots : ℕ) (m : ClientWord → ℕ) (x u : List ℕ) (root : Bool) (
           raised = λ l v lv. record {
             more = (node s.left, value_of (node s.left) one) ∷ let_go;
             same = λ w hold lo fs f go. rw (
-          freed.asks w hold _,
+              freed.asks w hold _,
               merged_is (a, c, []) l fs go root b.node.count (let_go ++ w) (pair_in b s lo) s.left
                   (entries_of one (pair_in b s lo).key) f (one_less_length slots b s h lo),
               ← pt,
@@ -231,6 +230,7 @@ module _ (slots : ℕ) (m : ClientWord → ℕ) (x u : List ℕ) (root : Bool) (
             noted = freed.noted;
           };
         }
+
 pub left_named : (slots : ℕ) (b : Turn) (s : Sides) → Neighbours slots b s → s.left < 8192
 left_named slots b s h = name_below slots s.left h.left
 

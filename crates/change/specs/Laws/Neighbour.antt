@@ -17,7 +17,6 @@ use Rattle.nodes.specs.Change.{wide, join, narrow, cut_at, merged, from_left, fr
 use Rattle.nodes.specs.Kept.{Whole}
 use Rattle.nodes.proofs.Laws.Kept.{length_entries_of, key_entries}
 use Rattle.operations.specs.Object.{node, no_tree, Writes}
-use Rattle.operations.specs.Entry.{kind}
 use Rattle.operations.specs.Path.{TreePlan, Branch, kid}
 use Rattle.operations.specs.Change.{Go, with_two, parted}
 use Rattle.walk.specs.declared.down.Turn.{Turn}
@@ -283,8 +282,5 @@ module _ (slots l a c : ℕ) (b : Turn) (name : ℕ) (n : Node) (d : Under slots
               raised_as slots m x u u₁ l root whole_plan (even_plan (a, c, []) l b s n k) r x' u'
               (λ w hold lo fs go. rw (meets lo fs w go) (asked.asks w hold _ _))
               (evens.raised l d.link.level f (below_level l k low (asked.whole refl)) low.enough)
-
-pub far_small : (slots : ℕ) (m : ClientWord → ℕ) (x u : List ℕ) (l other : ℕ) (k : Node) (u₁ : List ℕ) → Kid slots m x u l other Going k u₁ → SmallNode k
-far_small slots m x u l other k u₁ asked = asked.small refl
 
 pub ruleset neighbour_exits = (alone, itself, turn_stops, met, turning_small, turned)

@@ -1,5 +1,5 @@
 -- Laws of changes carried up.
-use Rattle.std.specs.Prelude.{◌≡◌, Bool, true, false, List, [], ◌∷◌, ◌++◌, ℕ, zero, suc, ◌+◌, ◌≤◌, ◌<◌, take, drop, get_or, Result, Ok, Err}
+use Rattle.std.specs.Prelude.{◌≡◌, Bool, true, false, List, [], ◌∷◌, ◌++◌, ℕ, zero, suc, ◌+◌, ◌≤◌, ◌<◌, take, drop, get_or, Err}
 use Rattle.std.proofs.Math.Path.{refl}
 use Rattle.std.proofs.Common.{sym, ◌∙◌, ap, append-nil, arith, length-take-le, lt-ltb}
 use Rattle.std.proofs.Math.ListN.{length}
@@ -15,7 +15,7 @@ use Rattle.nodes.specs.Kept.{Whole}
 use Rattle.nodes.proofs.Laws.Kept.{whole}
 use Rattle.nodes.proofs.Laws.Stored.{Sized}
 use Rattle.operations.specs.Object.{node, Writes}
-use Rattle.operations.specs.Entry.{node_value, kind}
+use Rattle.operations.specs.Entry.{node_value}
 use Rattle.operations.specs.Path.{TreePlan, Branch}
 use Rattle.operations.specs.Change.{Go}
 use Rattle.walk.specs.declared.down.Turn.{Turn}

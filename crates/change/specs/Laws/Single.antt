@@ -34,7 +34,6 @@ use Rattle.walk.specs.Stopped.{Waiting}
 use Rattle.walk.specs.Laws.Ask.{name_below}
 use Rattle.walk.specs.Laws.Write.{hit_same}
 use Rattle.change.specs.declared.leaf.Changed.{Changed}
-use Rattle.change.specs.declared.single.OneWrite.{OneWrite}
 use Rattle.change.specs.declared.single.Single.{Single}
 use Rattle.change.specs.Rise.{Content}
 use Rattle.change.specs.Level.{level_plan, top_plan}

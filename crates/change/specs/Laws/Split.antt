@@ -1,5 +1,5 @@
 -- Laws of a node's split below the root.
-use Rattle.std.specs.Prelude.{◌≡◌, refl, Bool, true, List, [], ◌∷◌, ◌++◌, ℕ, zero, suc, ◌+◌, ◌≤◌, ◌<◌, take, drop, get_or, Result, Ok, Err}
+use Rattle.std.specs.Prelude.{◌≡◌, refl, true, List, [], ◌∷◌, ◌++◌, ℕ, zero, suc, ◌+◌, ◌≤◌, ◌<◌, take, drop, get_or, Result, Ok, Err}
 use Rattle.std.proofs.Math.Path.{sym}
 use Rattle.std.proofs.Common.{◌∙◌, ap, arith, add-one}
 use Rattle.std.proofs.Math.ListN.{length}
@@ -14,9 +14,9 @@ use Rattle.nodes.specs.Change.{wide, put_in, cut_at}
 use Rattle.nodes.proofs.Laws.Kept.{length_entries_of, put_in_whole, put_in_entries, split_left, split_right, split_sep}
 use Rattle.operations.specs.Object.{node, flag, taken, Writes}
 use Rattle.operations.specs.Slot.{take_for, take_node}
-use Rattle.operations.specs.Entry.{Entries, fewest_entries, first_key_or, kind}
+use Rattle.operations.specs.Entry.{Entries, fewest_entries, first_key_or}
 use Rattle.operations.specs.Path.{TreePlan, Branch}
-use Rattle.operations.specs.Change.{Go, with_two, parted, split}
+use Rattle.operations.specs.Change.{Go, with_two, parted}
 use Rattle.walk.specs.declared.down.Turn.{Turn}
 use Rattle.walk.specs.declared.walk.Stop.{Stop}
 use Rattle.client.specs.Layout.{ClientWord}
@@ -165,9 +165,6 @@ pub overfull_count : (n : Wide) → Overfull n → n.count ≡ 15
 overfull_count n o = o.full
 
 pub ruleset halve_exits = (halves_fit, halved, overfull_count)
-
-pub divided : (x : List ℕ) (b : Turn) (c d : ℕ) (n up : Wide) (sep : ℕ) (x' : List ℕ) → Halved x c d n sep x' → up ≡ put_in b.node b.at sep d → Divided x b c d n up x'
-divided x b c d n up sep x' h e = record { up_is = rw h.sep_is at e; written = h.written }
 
 module _ (slots l c : ℕ) (b : Turn) (un : Under slots l c b) where
   pub parent_few : b.node.count ≤ 14

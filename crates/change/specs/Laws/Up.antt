@@ -1,6 +1,6 @@
 -- Laws of the way up, level by level.
-use Rattle.std.specs.Prelude.{◌≡◌, refl, Bool, true, false, eqb, get_or, Option, None, Some, Result, Ok, Err}
-use Rattle.std.proofs.Common.{sym, ◌∙◌, eq-eqb, ne_eqb}
+use Rattle.std.specs.Prelude.{◌≡◌, refl, true, false, eqb, get_or, None, Some, Result, Ok, Err}
+use Rattle.std.proofs.Common.{◌∙◌, eq-eqb, ne_eqb}
 use Rattle.std.proofs.Math.Path.{ap}
 use mathlib.Core.List.{List, [], ◌∷◌, ◌++◌}
 use Prim.Native.Nat.{ℕ, zero, suc, ◌+◌, ◌-◌, ◌*◌, ◌≤◌, ◌<◌}

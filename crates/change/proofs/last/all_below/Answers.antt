@@ -7,10 +7,10 @@ pub loop-i-init : goal.loop-i-init
 loop-i-init c = so_none _ _
 
 pub returns-then-not-stays_below : goal.returns-then-not-stays_below
-returns-then-not-stays_below c = search (so_next, staying, rules)
+returns-then-not-stays_below c = search (staying, rules)
 
 pub loop-i-preserved : goal.loop-i-preserved
-loop-i-preserved c = search (so_next, staying, rules)
+loop-i-preserved c = search (so_next, rules)
 
 pub returns : goal.returns
-returns c = search (so_next, staying, rules)
+returns c = search (staying, rules)

@@ -6,9 +6,6 @@ use Rattle.change.proofs.last.all_fit.Goals as goal
 pub loop-i-init : goal.loop-i-init
 loop-i-init c = so_none _ _
 
-pub fits-requires : goal.fits-requires
-fits-requires c = search (fit_exits, rules)
-
 pub returns-then-not-fits : goal.returns-then-not-fits
 returns-then-not-fits c = search (fit_exits, rules)
 

@@ -7,10 +7,10 @@ pub loop-i-init : goal.loop-i-init
 loop-i-init c = so_none _ _
 
 pub returns-then-not-there : goal.returns-then-not-there
-returns-then-not-there c = search (so_next, there_exits, rules)
+returns-then-not-there c = search (there_exits, rules)
 
 pub loop-i-preserved : goal.loop-i-preserved
-loop-i-preserved c = search (so_next, there_exits, rules)
+loop-i-preserved c = search (so_next, rules)
 
 pub returns : goal.returns
-returns c = search (so_next, there_exits, rules)
+returns c = search (there_exits, rules)

@@ -13,6 +13,3 @@ loop-i-preserved c = search (counting, rules)
 
 pub returns-clause-value : goal.returns-clause-value
 returns-clause-value c = search (counting, rules)
-
-pub returns-clause-within : goal.returns-clause-within
-returns-clause-within c = search (counting, rules)

@@ -8,11 +8,6 @@ returns-in_err-d c =
     let e : c.from_residual.result ≡ Err c.in_err-d.field-0.0 = search rules in
     rw e (search (below_exits, rules))
 
-pub move_at-requires-clause-parent : goal.move_at-requires-clause-parent
-move_at-requires-clause-parent c =
-    let h = c.in_ok-d.ensures in
-    search (below_exits, rules)
-
 pub returns : goal.returns
 returns c =
     let h = c.in_ok-d.ensures in

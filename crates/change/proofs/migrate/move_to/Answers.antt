@@ -8,11 +8,6 @@ returns-in_err-to c =
     let e : c.from_residual.result ≡ Err c.in_err-to.field-0.0 = search rules in
     rw e (search (move_exits, rules))
 
-pub leave-requires-clause-writing : goal.leave-requires-clause-writing
-leave-requires-clause-writing c =
-    let h = c.in_ok-to.ensures in
-    search (move_exits, rules)
-
 pub returns-in_err-leave : goal.returns-in_err-leave
 returns-in_err-leave c =
     let h = c.in_ok-to.ensures in

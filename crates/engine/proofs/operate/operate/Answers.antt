@@ -1,4 +1,4 @@
-use Rattle.std.proofs.Common.{refl, rules, sym}
+use Rattle.std.proofs.Common.{refl, sym}
 use Rattle.engine.specs.Laws.Work.{none_unknown, unlisted_output, list_room}
 use Rattle.engine.proofs.operate.operate.Goals as goal
 
