@@ -115,7 +115,7 @@ fn schedule(
         slots: profile.slots as usize,
         clients: profile.clients as usize,
     };
-    engine::open::open(memory, sizes);
+    let _ = engine::open::open(memory, sizes);
     let mut trial = Trial {
         profile,
         rng: Rng::new(seed),
