@@ -6,7 +6,7 @@ use Rattle.nodes.specs.declared.change.Wide.{Wide}
 use Rattle.nodes.specs.Node.{extra, made, parent_of}
 use Rattle.nodes.proofs.Laws.Node.{keys_made, slots_made}
 use Rattle.nodes.specs.Entries.{wide_entries}
-use Rattle.operations.specs.Object.{node, flag, taken, Writes}
+use Rattle.operations.specs.Object.{node, Writes}
 use Rattle.operations.specs.Slot.{take_for, take_node}
 use Rattle.operations.specs.Entry.{Entries, node_value, fewest_entries}
 use Rattle.operations.specs.Path.{TreePlan, Branch}
@@ -20,8 +20,6 @@ use Rattle.walk.specs.Walk.{Course, Going, Ended, course, walked, carry}
 use Rattle.walk.specs.Ask.{OwnGood, HoldsWrites, Noted}
 use Rattle.walk.specs.Lookup.{Ends}
 use Rattle.walk.specs.Laws.Ask.{name_below}
-use Rattle.walk.specs.Take.{NodeTaken}
-use Rattle.walk.specs.Search.{TakenFor}
 use Rattle.change.specs.Rise.{Full, NodeWritten, Closed}
 use Rattle.change.specs.Laws.Rise.{never, ended_closed}
 use Rattle.change.specs.Split.{Overfull, Halved}

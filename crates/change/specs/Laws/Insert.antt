@@ -5,7 +5,7 @@ use Rattle.std.proofs.Common.{◌∙◌}
 use Rattle.std.proofs.Math.Bool.{true, false}
 use mathlib.Core.List.{List, []}
 use Rattle.std.proofs.Math.Option.{none, some}
-use Prim.Native.Nat.{ℕ, zero, ◌+◌, ◌-◌, ◌≤◌, ◌<◌}
+use Prim.Native.Nat.{ℕ, zero, ◌+◌, ◌-◌, ◌≤◌}
 use native.Mathlib.Omega.{arith}
 use Rattle.std.proofs.Math.ListN.{length, length-set}
 use Rattle.nodes.specs.declared.node.Node.{Node}
@@ -14,7 +14,7 @@ use Rattle.nodes.specs.declared.standing.KeyPlace.{KeyPlace}
 use Rattle.nodes.specs.Lists.{insert_at}
 use Rattle.nodes.proofs.Laws.Lists.{length_insert}
 use Rattle.nodes.specs.Place.{place, key_place, Within}
-use Rattle.nodes.proofs.Laws.Place.{place_within, yes_says, yes_behind, yes_inside}
+use Rattle.nodes.proofs.Laws.Place.{place_within, yes_says}
 use Rattle.nodes.specs.Node.{extra, keys_of, slots_of, made}
 use Rattle.nodes.specs.Entries.{entries_of, wide_entries}
 use Rattle.nodes.specs.Change.{wide, put_in, with_slot}
@@ -34,7 +34,7 @@ use Rattle.walk.specs.declared.walk.Stop.{Stop}
 use Rattle.walk.specs.Laws.Entries.{Leaf, open_leaf, extra_leaf, leaf_place, leaf_value}
 use Rattle.walk.specs.Ask.{Noted}
 use Rattle.walk.specs.Down.{low, branches, trail, Linked, Reached, Descends, Arrival, arrival, PathInPart}
-use Rattle.change.specs.Rise.{OfLevel, Content, widened}
+use Rattle.change.specs.Rise.{OfLevel, Content}
 use Rattle.change.specs.Laws.Parts.{widened_entries, widened_content}
 use Rattle.change.specs.Up.{Ready, rise_plan}
 use Rattle.change.specs.Insert.{paired_at, paired}

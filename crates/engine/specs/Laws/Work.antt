@@ -1,7 +1,7 @@
 -- Laws of the work step's code: how the walk stopped is what the rule comes to.
 use Rattle.std.proofs.Math.Path.{◌≡◌, refl, ap, subst}
 use Rattle.std.proofs.Common.{sym, ◌∙◌, arith}
-use Rattle.std.specs.Prelude.{Bool, cond, ◌&&◌, not, Option, None, Some, Result, Ok, Err, ℕ, ◌+◌, ◌-◌, ◌*◌, ◌/◌, ◌≤◌, ◌<◌, eqb, leb, ltb, length, get_or, replicate}
+use Rattle.std.specs.Prelude.{Bool, cond, ◌&&◌, not, Option, None, Some, Result, Ok, ℕ, ◌+◌, ◌-◌, ◌*◌, ◌/◌, ◌≤◌, ◌<◌, eqb, leb, ltb, length, get_or, replicate}
 use Rattle.std.proofs.Math.Bool.{true, false}
 use Rattle.std.proofs.lemmas.Bool.{false≢true}
 use mathlib.Core.List.{List, []}
@@ -31,7 +31,7 @@ use Rattle.client.specs.Laws.Enter.{good_write}
 use Rattle.client.specs.Vectors.{vector_fits}
 use Rattle.client.specs.Have.{bad_vector, broken}
 use Rattle.client.specs.Run.{End, lacks, aborts, gives}
-use Rattle.client.specs.Lent.{Entry, InUse, used_in, OwnFits, own_list}
+use Rattle.client.specs.Lent.{Entry, used_in, own_list}
 use Rattle.client.specs.Enter.{enter_write, enter_entries}
 use Rattle.client.specs.Answered.{used_enter, enter_writes, entered, answered}
 use Rattle.client.specs.Work.{Worked, refused, fetches, aborted, answers, count_new, versions_there, any_at_last, last_questions, judge, walked, worked}
@@ -408,9 +408,6 @@ module _ (z : Sizes) (b : List ℕ) (c : ℕ) (hold : StoreIn z (length b)) (h :
     enters_answers u₀ u l k w' p = (work_answers u k.stopped l w' k.own p, pairs_written u k.stopped [] k.unlisted)
 
     module _ (x₀ u₀ x u : List ℕ) (k : Works z.slots (of_client z (view b) c) (Answered i j) x₀ u₀ x u) where
-      pub change_fits : OwnFits x
-      change_fits = let v = end (Answered i j) u k.enters.stopped in k.fits _ v.writes v.is
-
       pub change_answers : (w' : List ℕ) → Does whole (block z) (in_part (client c) (entering (used_in u) (own_list x))) silent (view b) 0 w'
           → Meets z (λ m. work z m c) (view b) (outcome.Answered i j) w' × NoPairs z b c
       change_answers w' p = enters_answers u₀ u (own_list x) k.enters w' p
@@ -420,13 +417,6 @@ module _ (z : Sizes) (b : List ℕ) (c : ℕ) (hold : StoreIn z (length b)) (h :
       → Does whole (block z) (in_part (client c) (entering (used_in u) (single_entries s.write))) silent (view b) 0 w'
       → Meets z (λ m. work z m c) (view b) (outcome.Answered s.answer.a s.answer.b) w' × NoPairs z b c
   single_answers s u₀ u k w' p = enters_answers s.answer.a s.answer.b u₀ u (single_entries s.write) (k.enters refl) w' p
-
--- what it leaves in the list
-pub single_stopped : (t : ℕ) (m : ClientWord → ℕ) (s : Stop) (u₀ u : List ℕ) → WorksSingly t m (Err s) u₀ u → Stopped t m (Ended s) u
-single_stopped t m s u₀ u k = (k.enters refl).stopped
-
-pub single_used : (t : ℕ) (m : ClientWord → ℕ) (s : Single) (u₀ u : List ℕ) → WorksSingly t m (Ok (Some s)) u₀ u → InUse u
-single_used t m s u₀ u k = (k.enters refl).stopped.in_use
 
 -- ---- what refusals 9 and 10 have judged
 count_within : (t : ℕ) (m : ClientWord → ℕ) (s : Set) → numbers_fit t m s ≡ true → said_count m s ≤ limit s

@@ -1,4 +1,4 @@
-use Rattle.std.proofs.Common.{Err, rules, ◌≡◌}
+use Rattle.std.proofs.Common.{rules}
 use Rattle.change.specs.Laws.Delete.{deleted, delete_exits}
 use Rattle.change.proofs.delete.delete.Goals as goal
 

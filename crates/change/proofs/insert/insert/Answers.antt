@@ -1,4 +1,4 @@
-use Rattle.std.proofs.Common.{Err, rules, ◌≡◌}
+use Rattle.std.proofs.Common.{rules}
 use Rattle.change.specs.Laws.Insert.{insert_exits}
 use Rattle.change.proofs.insert.insert.Goals as goal
 
