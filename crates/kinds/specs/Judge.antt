@@ -10,6 +10,8 @@ use Rattle.steps.specs.declared.sizes.Sizes.{Sizes}
 use Rattle.steps.specs.Whole.{server, client}
 use Rattle.steps.specs.Judge.{has_transaction, holders_fit}
 use Rattle.kinds.specs.Parts.{stored_in, AtClient}
+use Rattle.layout.specs.Space.{mem}
+use Rattle.server.specs.Layout as Srv
 
 -- what a client's part holds, and a server's
 abbrev pub of_client : Sizes → List ℕ → ℕ → ClientWord → ℕ
@@ -17,6 +19,10 @@ of_client z w c = λ a. stored_in z w (client c a)
 
 abbrev pub of_server : Sizes → List ℕ → ℕ → Place → ℕ
 of_server z w s = λ a. stored_in z w (server s a)
+
+-- what a server's part with the bytes b holds
+abbrev pub held_by : Sizes → List ℕ → Place → ℕ
+held_by z b = mem Srv.places (Srv.server_block z.slots) (view b)
 
 -- memory with the bytes b and a client whose participants are these
 abbrev pub Awaited : Sizes → List ℕ → ℕ → ℕ → Type 0

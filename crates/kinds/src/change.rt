@@ -15,7 +15,7 @@ ghost use Rattle.kinds.specs.Change.{TableIn, Lowest, Rising, phase_fits, with_l
 use crate::judge::field_of;
 use crate::lack::meta_fits;
 use crate::servers::{is_there, lowest_there, meta_of};
-use crate::whole::server_at;
+use crate::whole::{server_at, server_part};
 use client::part::{DECIDED, PHASE};
 use memory::bits;
 use server::hand_out::Metadata;
@@ -51,8 +51,11 @@ fn version_at(mem: &[u8], sizes: Sizes, server: usize, of: usize, slot: usize) -
     requires { AtServer sizes (length mem.now) server × TableIn sizes of slot }
     ensures { result ≡ stored_in sizes (view mem.now) (at_server server (Table of slot)) }
 {
-    let at = 8 * server_at(sizes, server);
-    get(&mem[at..], sizes.slots, Place::Table(of, slot))
+    get(
+        server_part(mem, sizes, server),
+        sizes.slots,
+        Place::Table(of, slot),
+    )
 }
 
 fn larger(a: u64, b: u64) -> u64

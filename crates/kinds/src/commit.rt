@@ -10,7 +10,7 @@ ghost use Rattle.kinds.specs.Kinds.{Comes};
 use crate::course::put_field;
 use crate::known::fit_to_commit;
 use crate::life::reset_at;
-use crate::whole::client_at;
+use crate::whole::client_part;
 use client::commit::participants;
 use client::part::{COMMITTING, NO_TRANSACTION, PARTICIPANTS, PHASE};
 use steps::outcome::Outcome;
@@ -21,8 +21,7 @@ fn participants_of(mem: &[u8], sizes: Sizes, client: usize) -> u64
     requires { AtClient sizes (length mem.now) client }
     ensures { result ≡ participants_of (of_client sizes (view mem.now) client) }
 {
-    let at = 8 * client_at(sizes, client);
-    participants(&mem[at..])
+    participants(client_part(mem, sizes, client))
 }
 
 // The transaction waits for its participants.

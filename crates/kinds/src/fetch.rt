@@ -18,7 +18,7 @@ use crate::fits::reads_of;
 use crate::items::{Item, item_of};
 use crate::judge::{field_of, item_at};
 use crate::servers::is_there;
-use crate::whole::client_at;
+use crate::whole::client_part;
 use client::lookup::copied_record;
 use client::part::{MOST_READ, READS_COUNT};
 use nodes::object::Object;
@@ -38,8 +38,7 @@ fn used_at(mem: &[u8], sizes: Sizes, client: usize, number: u64) -> Item
     requires { AtClient sizes (length mem.now) client × (number < end_of_numbers) }
     ensures { as_item result ≡ used_item (of_client sizes (view mem.now) client) number }
 {
-    let at = 8 * client_at(sizes, client);
-    used_item(&mem[at..], number)
+    used_item(client_part(mem, sizes, client), number)
 }
 
 // Object i of those read: the read set's, then the copies in use.

@@ -11,7 +11,7 @@ ghost use Rattle.kinds.specs.Findings.{faulted, as_pair, as_fault, or_later, lat
 use crate::fits::{lowest, reads_of};
 use crate::items::{Item, is_checked_at, is_locked};
 use crate::judge::{item_at, lock_word, word_fits};
-use crate::whole::server_at;
+use crate::whole::server_part;
 use nodes::object::Object;
 use server::check::{Finding, compare};
 use server::lock::{Use, is_busy};
@@ -133,9 +133,14 @@ pub fn compared_at(mem: &[u8], sizes: Sizes, server: usize, item: Item) -> Resul
     requires { ObjectAt sizes (length mem.now) server item.number }
     ensures { faulted result ≡ compared_at sizes (view mem.now) server (as_item item) }
 {
-    let at = 8 * server_at(sizes, server);
     let object = Object::from(item.number);
-    let finding = compare(&mem[at..], sizes.slots, object, item.inner, item.mark);
+    let finding = compare(
+        server_part(mem, sizes, server),
+        sizes.slots,
+        object,
+        item.inner,
+        item.mark,
+    );
     judged(finding)
 }
 

@@ -15,7 +15,7 @@ ghost use Rattle.client.specs.Layout.{limit};
 use crate::items::{Item, is_locked_at};
 use crate::judge::{field_of, item_at, lock_fits};
 use crate::known::{fit_to_abort, fit_to_unlock};
-use crate::whole::client_at;
+use crate::whole::client_part;
 use client::part::{PARTICIPANTS, PREPARED, Set, count};
 use memory::bits;
 use steps::sizes::Sizes;
@@ -26,11 +26,11 @@ pub fn reads_of(mem: &[u8], sizes: Sizes, client: usize) -> usize
     ensures value { result ≡ count (of_client sizes (view mem.now) client) Reads }
     ensures within { result ≤ limit Reads }
 {
-    let at = 8 * client_at(sizes, client);
-    count(&mem[at..], Set::Reads)
+    count(client_part(mem, sizes, client), Set::Reads)
 }
 
-// The lowest of n servers in the set; n if there is none.
+// The lowest of n servers in the set; n if there is none, no Option: `lowest_participant` of `steps` is that number, and `checked_at` compares servers
+// with it.
 fn lowest_in(n: usize, set: u64) -> usize
     requires { n ≤ most_servers }
     ensures { result ≡ lowest_of n set }

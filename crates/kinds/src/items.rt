@@ -25,7 +25,8 @@ pub struct Item {
     pub settled: bool,
 }
 
-// What the write set says of an object: is it there, as an inner node, with a kind in range?
+// What the write set says of an object: is it there, as an inner node, with a kind in range? No Option: where nothing is written the last one is true,
+// and an item needs all three.
 #[derive(Clone, Copy)]
 struct Written {
     there: bool,

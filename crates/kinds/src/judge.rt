@@ -15,7 +15,7 @@ ghost use Rattle.client.specs.declared.part.Set.TheVariants.{Reads};
 
 use crate::items::{Item, read_item};
 use crate::sizes::between;
-use crate::whole::{client_at, server_at};
+use crate::whole::{client_part, server_part};
 use client::items::has;
 use client::part::{DECIDED, MOST_WRITTEN, OPEN, PHASE, Set, WRITES_COUNT, get_field};
 use memory::bits;
@@ -30,8 +30,7 @@ pub fn field_of(mem: &[u8], sizes: Sizes, client: usize, i: usize) -> u64
     requires { AtClient sizes (length mem.now) client × (i < field_count) }
     ensures { result ≡ of_client sizes (view mem.now) client (field i) }
 {
-    let at = 8 * client_at(sizes, client);
-    get_field(&mem[at..], i)
+    get_field(client_part(mem, sizes, client), i)
 }
 
 // Is there an item of the object in a client's set?
@@ -39,8 +38,7 @@ pub fn has_item(mem: &[u8], sizes: Sizes, client: usize, set: Set, number: u64) 
     requires { AtClient sizes (length mem.now) client }
     ensures { result ≡ has (of_client sizes (view mem.now) client) set number }
 {
-    let at = 8 * client_at(sizes, client);
-    has(&mem[at..], set, number)
+    has(client_part(mem, sizes, client), set, number)
 }
 
 // Item i of a client's read set.
@@ -48,8 +46,7 @@ pub fn item_at(mem: &[u8], sizes: Sizes, client: usize, i: usize) -> Item
     requires { AtClient sizes (length mem.now) client × (i < limit Reads) }
     ensures { as_item result ≡ read_item (of_client sizes (view mem.now) client) i }
 {
-    let at = 8 * client_at(sizes, client);
-    read_item(&mem[at..], i)
+    read_item(client_part(mem, sizes, client), i)
 }
 
 // "a lock's transaction": has the client one?
@@ -127,9 +124,8 @@ pub fn lock_word(mem: &[u8], sizes: Sizes, server: usize, number: u64) -> u64
     requires { ObjectAt sizes (length mem.now) server number }
     ensures { result ≡ stored_in sizes (view mem.now) (at_server server (lock_of (object_of number))) }
 {
-    let at = 8 * server_at(sizes, server);
     let place = lock_place(Object::from(number));
-    get(&mem[at..], sizes.slots, place)
+    get(server_part(mem, sizes, server), sizes.slots, place)
 }
 
 // Is an object's lock at a server in range, and are its holders there?

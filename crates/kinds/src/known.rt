@@ -1,4 +1,5 @@
-// Refusal 10 for what each rule reads of its client's own part.
+// Refusal 10 for what each rule reads of its client's own part. One function for each rule: its contract names the rule's own definition, which a
+// function that takes the test as a closure would have to be told at each call.
 ghost use Rattle.std.specs.Prelude.{◌≡◌, true, length};
 ghost use Rattle.memory.specs.Word.{view};
 ghost use Rattle.client.specs.Fits.{fit_to_work, fit_to_commit, fit_to_prepare, fit_to_abort, fit_to_unlock, fit_to_apply};
@@ -6,7 +7,7 @@ ghost use Rattle.kinds.specs.Parts.{AtClient};
 ghost use Rattle.kinds.specs.Judge.{of_client};
 ghost use Rattle.kinds.specs.Fits.{FitToPrepare};
 
-use crate::whole::client_at;
+use crate::whole::client_part;
 use client::fits;
 use steps::sizes::Sizes;
 
@@ -15,8 +16,7 @@ pub fn fit_to_work(mem: &[u8], sizes: Sizes, client: usize) -> bool
     requires { AtClient sizes (length mem.now) client }
     ensures { result ≡ fit_to_work sizes.slots (of_client sizes (view mem.now) client) }
 {
-    let at = 8 * client_at(sizes, client);
-    fits::fit_to_work(&mem[at..], sizes.slots)
+    fits::fit_to_work(client_part(mem, sizes, client), sizes.slots)
 }
 
 // A commit.
@@ -24,8 +24,7 @@ pub fn fit_to_commit(mem: &[u8], sizes: Sizes, client: usize) -> bool
     requires { AtClient sizes (length mem.now) client }
     ensures { result ≡ fit_to_commit sizes.slots (of_client sizes (view mem.now) client) }
 {
-    let at = 8 * client_at(sizes, client);
-    fits::fit_to_commit(&mem[at..], sizes.slots)
+    fits::fit_to_commit(client_part(mem, sizes, client), sizes.slots)
 }
 
 // A prepare, before it checks.
@@ -33,8 +32,7 @@ pub fn fit_to_prepare(mem: &[u8], sizes: Sizes, client: usize) -> bool
     requires { AtClient sizes (length mem.now) client }
     ensures { result ≡ fit_to_prepare sizes.slots (of_client sizes (view mem.now) client) }
 {
-    let at = 8 * client_at(sizes, client);
-    fits::fit_to_prepare(&mem[at..], sizes.slots)
+    fits::fit_to_prepare(client_part(mem, sizes, client), sizes.slots)
 }
 
 // An abort.
@@ -42,8 +40,7 @@ pub fn fit_to_abort(mem: &[u8], sizes: Sizes, client: usize) -> bool
     requires { AtClient sizes (length mem.now) client }
     ensures { result ≡ fit_to_abort sizes.slots (of_client sizes (view mem.now) client) }
 {
-    let at = 8 * client_at(sizes, client);
-    fits::fit_to_abort(&mem[at..], sizes.slots)
+    fits::fit_to_abort(client_part(mem, sizes, client), sizes.slots)
 }
 
 // And where a server has prepared, what says what is locked there.
@@ -51,8 +48,7 @@ pub fn fit_to_unlock(mem: &[u8], sizes: Sizes, client: usize) -> bool
     requires { AtClient sizes (length mem.now) client }
     ensures { result ≡ fit_to_unlock sizes.slots (of_client sizes (view mem.now) client) }
 {
-    let at = 8 * client_at(sizes, client);
-    fits::fit_to_unlock(&mem[at..], sizes.slots)
+    fits::fit_to_unlock(client_part(mem, sizes, client), sizes.slots)
 }
 
 // The last apply at a server, after a prepare that was fit.
@@ -60,8 +56,7 @@ pub fn fit_to_apply_too(mem: &[u8], sizes: Sizes, client: usize, server: usize) 
     requires { AtClient sizes (length mem.now) client × FitToPrepare sizes mem.now client }
     ensures { result ≡ fit_to_apply sizes.slots (of_client sizes (view mem.now) client) server true }
 {
-    let at = 8 * client_at(sizes, client);
-    fits::fit_to_apply_too(&mem[at..], sizes.slots, server as u64)
+    fits::fit_to_apply_too(client_part(mem, sizes, client), sizes.slots, server as u64)
 }
 
 // An apply at a server; the last one renews the copies.
@@ -69,6 +64,10 @@ pub fn fit_to_apply(mem: &[u8], sizes: Sizes, client: usize, server: usize, last
     requires { AtClient sizes (length mem.now) client }
     ensures { result ≡ fit_to_apply sizes.slots (of_client sizes (view mem.now) client) server last }
 {
-    let at = 8 * client_at(sizes, client);
-    fits::fit_to_apply(&mem[at..], sizes.slots, server as u64, last)
+    fits::fit_to_apply(
+        client_part(mem, sizes, client),
+        sizes.slots,
+        server as u64,
+        last,
+    )
 }

@@ -16,7 +16,7 @@ use crate::abort::stop;
 use crate::fetch::{check_from, gate};
 use crate::hand::{store_meta, store_node, store_vector};
 use crate::servers::{meta_of, metadata_source, vector_of};
-use crate::whole::server_at;
+use crate::whole::server_part;
 use client::range::node_fits;
 use nodes::name::Name;
 use nodes::node::Node;
@@ -28,8 +28,7 @@ pub fn meta_fits(mem: &[u8], sizes: Sizes, server: usize) -> bool
     requires { AtServer sizes (length mem.now) server }
     ensures { result ≡ metadata_sound sizes.slots (of_server sizes (view mem.now) server) }
 {
-    let at = 8 * server_at(sizes, server);
-    metadata_is_sound(&mem[at..], sizes.slots)
+    metadata_is_sound(server_part(mem, sizes, server), sizes.slots)
 }
 
 fn hand_meta(mem: &mut [u8], sizes: Sizes, client: usize, server: usize, used: &[u64]) -> Outcome
@@ -80,9 +79,12 @@ fn node_of(mem: &[u8], sizes: Sizes, server: usize, name: u64) -> Node
     requires { AtServer sizes (length mem.now) server × (slot_of name < sizes.slots) }
     ensures { result ≡ node_at (of_server sizes (view mem.now) server) name }
 {
-    let at = 8 * server_at(sizes, server);
     let name = Name { number: name };
-    read_node(&mem[at..], sizes.slots, name.slot() as usize)
+    read_node(
+        server_part(mem, sizes, server),
+        sizes.slots,
+        name.slot() as usize,
+    )
 }
 
 fn hand_node(

@@ -18,6 +18,7 @@ use nodes::object::Object;
 use server::store::{lock, unlock};
 use steps::sizes::Sizes;
 
+// What is done to a lock. An enum and no closure: `changes`, which contracts here and the laws of an abort and an apply speak of, names the step by it.
 #[derive(Clone, Copy)]
 pub enum Change {
     Lock,

@@ -12,7 +12,7 @@ ghost use Rattle.client.specs.Bounds.{most_servers};
 
 use crate::servers::{any_taken, is_quiet, state_suits, version_ends};
 use crate::sizes::{allowed, between};
-use crate::whole::{client_at, words_for};
+use crate::whole::{client_part, words_for};
 use client::part::{
     APPLIED, COMMITTING, DECIDED, MOST_LISTED, NO_TRANSACTION, OP_NUMBER, OPEN, PARTICIPANTS,
     PHASE, PREPARED, get_field,
@@ -158,8 +158,11 @@ fn client_is_unfit(mem: &[u8], sizes: Sizes, step: Step, kind: Kind) -> bool
     requires { StoreIn sizes (length mem.now) × (step.client < sizes.clients) × Sited kind step.server }
     ensures { result ≡ unfit sizes step kind (view mem.now) }
 {
-    let at = 8 * client_at(sizes, step.client as usize);
-    !state_fits(&mem[at..], kind, step.server)
+    !state_fits(
+        client_part(mem, sizes, step.client as usize),
+        kind,
+        step.server,
+    )
 }
 
 // 6 to 8 and 11: what the kind asks of the step's fields.

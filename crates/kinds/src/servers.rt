@@ -12,7 +12,7 @@ ghost use Rattle.kinds.specs.Servers.{or_none, nonzero};
 ghost use Rattle.client.specs.Items.{any_below};
 
 use crate::judge::field_of;
-use crate::whole::server_at;
+use crate::whole::server_part;
 use client::part::{COMMITTING, DECIDED, PHASE, PREPARED};
 use nodes::states::{is_closing, is_open, is_present};
 use server::hand_out::{Metadata, read_metadata, read_vector};
@@ -24,8 +24,7 @@ pub fn meta_of(mem: &[u8], sizes: Sizes, server: usize) -> Metadata
     requires { AtServer sizes (length mem.now) server }
     ensures { result ≡ metadata_at (of_server sizes (view mem.now) server) }
 {
-    let at = 8 * server_at(sizes, server);
-    read_metadata(&mem[at..], sizes.slots)
+    read_metadata(server_part(mem, sizes, server), sizes.slots)
 }
 
 // A server's vector.
@@ -33,8 +32,7 @@ pub fn vector_of(mem: &[u8], sizes: Sizes, server: usize) -> [u64; 16]
     requires { AtServer sizes (length mem.now) server }
     ensures { result ≡ vector_at (of_server sizes (view mem.now) server) }
 {
-    let at = 8 * server_at(sizes, server);
-    read_vector(&mem[at..], sizes.slots)
+    read_vector(server_part(mem, sizes, server), sizes.slots)
 }
 
 // "a server is what its own metadata calls it"

@@ -14,7 +14,7 @@ ghost use Rattle.client.specs.Layout.{ClientPart, limit};
 ghost use Rattle.server.specs.Layout.{ServerDone};
 
 use crate::items::{first_slot, second_slot};
-use crate::whole::{client_at, server_at};
+use crate::whole::{client_part, server_at};
 use client::items::{inner_before_after, is_home, version_read};
 use client::part::{Set, count, number_at, record_at};
 use nodes::name::Name;
@@ -52,8 +52,7 @@ fn write_at(mem: &[u8], sizes: Sizes, client: usize, i: usize) -> Write
     requires { AtClient sizes (length mem.now) client × (i < limit Writes) }
     ensures { result ≡ write_nth (of_client sizes (view mem.now) client) i }
 {
-    let at = 8 * client_at(sizes, client);
-    write_in(&mem[at..], i)
+    write_in(client_part(mem, sizes, client), i)
 }
 
 // How many objects a client has written.
@@ -62,8 +61,7 @@ fn writes_of(mem: &[u8], sizes: Sizes, client: usize) -> usize
     ensures value { result ≡ count (of_client sizes (view mem.now) client) Writes }
     ensures within { result ≤ limit Writes }
 {
-    let at = 8 * client_at(sizes, client);
-    count(&mem[at..], Set::Writes)
+    count(client_part(mem, sizes, client), Set::Writes)
 }
 
 // Does a server store something of a write?

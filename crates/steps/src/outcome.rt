@@ -3,7 +3,8 @@ ghost use Rattle.std.specs.Prelude.{◌≡◌};
 ghost use Rattle.steps.specs.Outcome.{line};
 
 // "Outcomes: 0 refused (a number); 1 done; 2 fetched (a 0 metadata, 1 node, 2 vector; b name or server); 3 answered; 4 prepared (a server);
-// 5 decided; 6 applied (a server); 7 committed; 8 aborted (a reason)."
+// 5 decided; 6 applied (a server); 7 committed; 8 aborted (a reason)." A refusal and a reason are numbers here, since `line` tells them and theorems
+// speak of them: no step of a sound store comes to `Refused 10`.
 #[derive(Clone, Copy)]
 pub enum Outcome {
     Refused(u64),

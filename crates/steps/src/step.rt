@@ -23,7 +23,7 @@ pub enum ServerChange {
 }
 
 // "Kinds: 0 begin. 1 give an operation .. 2 work. 3 commit. 4 prepare at a server. 5 apply at a server. 6 give up.
-// 7 client lost." And the changes of the servers.
+// 7 client lost." And the changes of the servers. Unknown is a kind of its own, and no error, since `kind_of` and the rules by kind are total.
 #[derive(Clone, Copy)]
 pub enum Kind {
     Begin,

@@ -8,15 +8,14 @@ use Prim.Native.Nat.{ℕ, zero, suc, ◌+◌, ◌-◌, ◌*◌, ◌≤◌, ◌<�
 use native.Mathlib.Omega.{arith}
 use Rattle.std.proofs.Math.Numerals.{add-one}
 use Rattle.std.proofs.Math.Decide.{ℕ_discrete}
-use borrow.Author.Tests.{eq-eqb, ne_eqb, lt-ltb, le-ltb, le-leb, lt-leb, leb-false, ltb-true, not-true, not-false}
+use borrow.Author.Tests.{eq-eqb, ne_eqb, lt-ltb, le-ltb, le-leb, lt-leb, leb-false, not-true, not-false}
 use borrow.Rule.Slice.PartMut.{put_mid, mid_of}
 use Rattle.std.proofs.Math.Dec.{eqb, leb, ltb}
-use Rattle.base.specs.Test.{and_both}
 use Rattle.memory.specs.Word.{view}
 use Rattle.memory.proofs.Laws.Word.{view_length}
 use Rattle.memory.specs.Bit.{put_bit}
 use Rattle.layout.specs.Block.{In}
-use Rattle.layout.specs.Space.{Put, put, Valid, mem, changed, stored}
+use Rattle.layout.specs.Space.{Put, put, Valid, changed, stored}
 use Rattle.layout.proofs.Laws.Space.{AllValid, Only, changed_only, only_append}
 use Rattle.layout.specs.Step.{Does, silent, stepped}
 use Rattle.layout.proofs.Laws.Step.{stored_append, changed_append, valid_append, does_as, does_mem}
@@ -31,7 +30,7 @@ use Rattle.server.specs.Store.{metadata_step, versions_row, versions_step}
 use Rattle.server.specs.Laws.Leaves.{metadata_inside}
 use Rattle.nodes.specs.States.{is_present, with_added, with_closed, with_removed}
 use Rattle.client.specs.Items.{all_below}
-use Rattle.client.specs.Layout.{field, phase, decided_phase}
+use Rattle.client.specs.Layout.{phase, decided_phase}
 use Rattle.steps.specs.declared.sizes.Sizes.{Sizes}
 use Rattle.steps.specs.declared.step.ServerChange.{ServerChange}
 use Rattle.steps.specs.declared.step.ServerChange.TheVariants.{Add, Close, Remove}
@@ -42,24 +41,16 @@ use Rattle.steps.proofs.Laws.Stores.{server_of, server_changed, server_else}
 use Rattle.steps.specs.Servers.{there, lowest_there, version_ends, larger, largest, largest_version, is_add, changed_states}
 use Rattle.steps.specs.Steps.{at_servers, did, change_fits, change_servers}
 use Rattle.kinds.specs.Parts.{StoreIn, stored_in}
-use Rattle.kinds.specs.Laws.Parts.{server_lent, server_back}
-use Rattle.kinds.specs.Judge.{of_client, of_server}
+use Rattle.kinds.specs.Laws.Parts.{server_back}
+use Rattle.kinds.specs.Judge.{of_server}
 use Rattle.kinds.specs.Kinds.{Meets}
 use Rattle.kinds.specs.Laws.Kinds.{meets_did, meets_as, meets_refused}
 use Rattle.kinds.specs.Change.{TableIn, Lowest, Rising, phase_fits, with_largest, version_fits, row_fits, added_fits, version_put, row_put, added, tell_one, told, changing}
-use Rattle.server.specs.Layout as Srv
 
 -- ---- judged
-pub phase_by : (z : Sizes) (w : List ℕ) (c p : ℕ) → p ≡ of_client z w c (field 0) → leb p 3 ≡ phase_fits z w c
-phase_by z w c p e = rw e
-
 pub table_valid : (z : Sizes) (t k : ℕ) → TableIn z t k → Valid places (server_block z.slots) (Table t k)
 unfolding Valid In
 table_valid z t k h = (h.slot, h.server)
-
-pub version_lent : (z : Sizes) (b : List ℕ) (s k t i r : ℕ) → StoreIn z (length b) → s < 8 → k ≡ server_at z s
-    → r ≡ mem Srv.places (Srv.server_block z.slots) (view (mid_of (8 * k) (length b - 8 * k) b)) (Table t i) → r ≡ stored_in z (view b) (server s (Table t i))
-version_lent z b s k t i r l h e q = q ∙ ap (λ (m : Place → ℕ). m (Table t i)) (server_lent z s k b h e l.room)
 
 module _ (a b : ℕ) where
   pub larger_second : a ≤ b → b ≡ larger a b
@@ -98,23 +89,11 @@ module _ (m : Address → ℕ) (s t k : ℕ) where
   unfolding largest_version
   largest_ends u best f l = let q : u ≡ 8 = omega (arith, f.0) in f.1 ∙ ap (λ (n : ℕ). largest (there m) tables n (tables s)) q
 
-  pub version_by : (r : ℕ) → r ≡ largest_version m s t k → leb r 4294967295 ≡ version_fits m s k t
-  version_by r e = rw e
-
 pub row_by : (m : Address → ℕ) (s k : ℕ) (r : Bool) → r ≡ all_below 8 (version_fits m s k) → r ≡ row_fits m s k
 unfolding row_fits
 row_by m s k r h = h
 
 module _ (x : ServerChange) where
-  pub add_is : x ≡ Add → true ≡ is_add x
-  add_is e = rw e
-
-  pub close_is : x ≡ Close → false ≡ is_add x
-  close_is e = rw e
-
-  pub remove_is : x ≡ Remove → false ≡ is_add x
-  remove_is e = rw e
-
   module _ (z : Sizes) (m : Address → ℕ) (s : ℕ) (b : Bool) (e : b ≡ is_add x) where
     pub added_by : (r : Bool) → b ≡ true → r ≡ all_below z.slots (row_fits m s) → r ≡ added_fits z m x s
     unfolding added_fits

@@ -1,33 +1,23 @@
 -- Laws of the commit step's code.
-use Rattle.std.specs.Prelude.{◌≡◌, Bool, true, false, not, List, [], ◌∷◌, ℕ, ◌-◌, ◌*◌, ◌<◌, length}
-use Rattle.std.proofs.Common.{sym, ap, ◌∙◌}
+use Rattle.std.specs.Prelude.{◌≡◌, Bool, true, false, not, List, [], ◌∷◌, ℕ}
+use Rattle.std.proofs.Common.{sym}
 use borrow.Author.Tests.{eq-eqb, ne_eqb, not-true, not-false}
-use borrow.Rule.Slice.PartMut.{mid_of}
-use Rattle.memory.specs.Word.{view}
 use Rattle.layout.specs.Space.{put}
 use Rattle.layout.specs.Step.{Does, silent}
 use Rattle.layout.proofs.Laws.Step.{does_both, does_as}
 use Rattle.layout.specs.Part.{over, in_part}
 use Rattle.client.specs.Layout.{field}
-use Rattle.client.specs.Sets.{held}
 use Rattle.client.specs.Participants.{participants_of, committing}
 use Rattle.client.specs.Fits.{fit_to_commit}
 use Rattle.steps.specs.declared.sizes.Sizes.{Sizes}
 use Rattle.steps.specs.declared.outcome.Outcome.TheVariants.{Refused, Done, Committed}
-use Rattle.steps.specs.Whole.{client, whole, block, client_at}
+use Rattle.steps.specs.Whole.{client, whole, block}
 use Rattle.steps.specs.Steps.{did, commit}
-use Rattle.kinds.specs.Parts.{StoreIn}
-use Rattle.kinds.specs.Laws.Parts.{client_lent}
 use Rattle.kinds.specs.Judge.{of_client}
 use Rattle.kinds.specs.Course.{mark}
 use Rattle.kinds.specs.Kinds.{Meets}
 use Rattle.kinds.specs.Laws.Kinds.{meets_did, meets_as, meets_refused}
 use Rattle.client.specs.Life as L
-
-pub participants_lent : (z : Sizes) (b : List ℕ) (c k r : ℕ) → StoreIn z (length b) → c < z.clients → k ≡ client_at z c
-    → r ≡ participants_of (held (mid_of (8 * k) (length b - 8 * k) b)) → r ≡ participants_of (of_client z (view b) c)
-unfolding held
-participants_lent z b c k r l h e q = q ∙ ap participants_of (client_lent z c k b h e l.room)
 
 module _ (z : Sizes) (c p : ℕ) (w w' : List ℕ) (e : p ≡ participants_of (of_client z w c)) where
   -- phase and participants
@@ -53,5 +43,3 @@ module _ (z : Sizes) (c p : ℕ) (w w' : List ℕ) (e : p ≡ participants_of (o
 pub commit_unfit : (z : Sizes) (c : ℕ) (w : List ℕ) (d : Bool) → d ≡ fit_to_commit z.slots (of_client z w c) → not d ≡ true → Meets z (λ m. commit z m c) w (Refused 10) w
 unfolding commit
 commit_unfit z c w d e t = meets_refused z w 10 (λ m. commit z m c) (sym (rw (← e, not-true d t)))
-
-pub ruleset commit_exits = (now_committing, commit_ends, commit_waits)

@@ -29,10 +29,6 @@ pub covers_all : (n p q : ℕ) (r : Bool) → r ≡ all_below n (covered p q) �
 unfolding covers covered
 covers_all n p q r h = h
 
-pub last_by : (z : Sizes) (w : List ℕ) (c n s i p q v : ℕ) (r : Bool) → p ≡ of_client z w c (field 5) → q ≡ of_client z w c (field i) → v ≡ put_bit true q s → r ≡ covers n p v
-    → r ≡ covers n (of_client z w c (field 5)) (put_bit true (of_client z w c (field i)) s)
-last_by z w c n s i p q v r e f g h = h ∙ rw (g, f, e)
-
 pub mark_same : (i v : ℕ) (m : ClientWord → ℕ) → put_field i v m ≡ mark i v m
 unfolding put_word mark
 mark_same i v m = refl

@@ -5,13 +5,11 @@ use Rattle.std.proofs.Common.{◌∙◌, subst}
 use Rattle.std.proofs.Math.Bool.{true}
 use mathlib.Core.List.{List, [], ◌∷◌, ◌++◌, map, append_assoc, append-nil}
 use Rattle.std.proofs.Math.Option.{Option}
-use Prim.Native.Nat.{ℕ, zero, suc, ◌+◌, ◌-◌, ◌*◌, ◌≤◌, ◌<◌}
+use Prim.Native.Nat.{ℕ, zero, suc, ◌+◌, ◌-◌, ◌≤◌, ◌<◌}
 use native.Mathlib.Omega.{arith}
 use borrow.Author.Tests.{lt-ltb, le-ltb, le-leb, lt-leb, not-true, not-false}
-use borrow.Rule.Slice.PartMut.{mid_of}
 use Rattle.std.proofs.Math.ListN.{get_or}
 use Rattle.std.proofs.Math.Seq.{get_or-take, get_or-drop}
-use Rattle.memory.specs.Word.{view}
 use Rattle.nodes.specs.declared.object.Object.{Object}
 use Rattle.server.specs.declared.lock.Use.TheVariants.{Fetch}
 use Rattle.server.specs.declared.check.Finding.{Finding}
@@ -29,18 +27,15 @@ use Rattle.client.specs.Laws.Lent.{length_used}
 use Rattle.steps.specs.declared.sizes.Sizes.{Sizes}
 use Rattle.kinds.specs.declared.findings.Fault.{Fault}
 use Rattle.kinds.specs.declared.findings.Found.{Found}
-use Rattle.steps.specs.Whole.{client_at}
 use Rattle.steps.specs.Uses.{Item, each, item_of, read_items, used_items, least, reason_of, deciding}
 use Rattle.steps.specs.Judge.{lock_fits}
 use Rattle.steps.specs.Servers.{there}
-use Rattle.kinds.specs.Parts.{StoreIn, stored_in}
-use Rattle.kinds.specs.Laws.Parts.{client_lent}
+use Rattle.kinds.specs.Parts.{stored_in}
 use Rattle.kinds.specs.Items.{as_item, read_item}
 use Rattle.kinds.specs.Judge.{of_client, of_server}
 use Rattle.kinds.specs.Findings.{fault_number, as_fault, later, lock_reason, compared_at}
 use Rattle.kinds.specs.Laws.Findings.{by_lock, settled, unsettled, some_fault, least_upto, least_first, least_next}
 use Rattle.kinds.specs.Fetch.{used_item, known_at, AllKnown, fetch_fault, items_found, reached, room_of, gate_of}
-use Rattle.client.specs.Sets as sets
 use Rattle.kinds.specs.declared.items.Item as code
 
 -- ---- items by their number in the list
@@ -88,11 +83,6 @@ module _ (m : ClientWord → ℕ) (us : List ℕ) where
       ∙ each_more (count m Reads) (length us) (known_at m us)
 
 -- ---- the parts of the code
-pub used_lent : (z : Sizes) (b : List ℕ) (c k x : ℕ) (r : Item) → StoreIn z (length b) → c < z.clients → k ≡ client_at z c
-    → r ≡ used_item (sets.held (mid_of (8 * k) (length b - 8 * k) b)) x → r ≡ used_item (of_client z (view b) c) x
-unfolding sets.held
-used_lent z b c k x r l h e q = q ∙ ap (λ (m : ClientWord → ℕ). used_item m x) (client_lent z c k b h e l.room)
-
 pub used_by : (m : ClientWord → ℕ) (x : ℕ) (n : Node) (r : Item) → n ≡ (copied m x).node → r ≡ item_of m x n → r ≡ used_item m x
 unfolding used_item
 used_by m x n r e q = q ∙ rw e
@@ -147,7 +137,7 @@ module _ (z : Sizes) (w : List ℕ) (c s : ℕ) (i : code.Item) where
       pub fault_held : (f : Fault) → fault_number f ≡ lock_reason z w c s i.number Fetch → fault_number f ≡ fetch_fault z w c s (as_item i)
       fault_held f h = h ∙ unsettled fits busy true marks (λ n. some_fault f (h ∙ n)) ∙ at_fault
 
-pub ruleset fetch_items_exits = (used_lent, used_by, known_there, known_copy, copy_small, fault_unkind, fault_elsewhere, fault_open, fault_held)
+pub ruleset fetch_items_exits = (used_by, known_there, known_copy, copy_small, fault_unkind, fault_elsewhere, fault_open, fault_held)
 
 -- ---- over all objects read, one after another
 module _ (z : Sizes) (w : List ℕ) (c s : ℕ) (u : List ℕ) where

@@ -1,15 +1,12 @@
 -- Laws of the findings' code: "in the order metadata, nodes by name, flags by name".
-use Rattle.std.specs.Prelude.{◌≡◌, Bool, true, false, cond, not, ◌&&◌, ◌||◌, List, [], ◌∷◌, ◌++◌, map, ℕ, zero, suc, ◌+◌, ◌-◌, ◌*◌, ◌≤◌, ◌<◌, eqb, leb, length, Option as CodeOption, Some, None}
+use Rattle.std.specs.Prelude.{◌≡◌, Bool, true, false, cond, not, ◌&&◌, ◌||◌, List, [], ◌∷◌, ◌++◌, map, ℕ, zero, suc, ◌+◌, ◌≤◌, ◌<◌, eqb, leb, Option as CodeOption, Some, None}
 use Rattle.std.proofs.Math.Path.{refl, sym, ap}
 use Rattle.std.proofs.Common.{◌∙◌, add-one}
 use Rattle.std.proofs.Math.Option.{Option, none, some}
 use native.Mathlib.Omega.{arith}
 use borrow.Author.Tests.{le-leb, lt-leb, leb-true, leb-false, not-true, not-false}
-use borrow.Rule.Slice.PartMut.{mid_of}
-use Rattle.memory.specs.Word.{view}
 use Rattle.memory.specs.Bit.{bit}
 use Rattle.memory.proofs.Laws.Bit.{zero_bit, put_none}
-use Rattle.layout.specs.Space.{mem}
 use Rattle.server.specs.declared.check.Finding.{Finding}
 use Rattle.server.specs.declared.check.Finding.TheVariants.{Busy}
 use Rattle.server.specs.declared.lock.Use.{Use}
@@ -28,16 +25,14 @@ use Rattle.steps.specs.declared.sizes.Sizes.{Sizes}
 use Rattle.kinds.specs.declared.findings.Fault.{Fault}
 use Rattle.kinds.specs.declared.findings.Fault.TheVariants.{Damaged, Differs, Busy as IsBusy, TooMany}
 use Rattle.kinds.specs.declared.findings.Found.{Found}
-use Rattle.steps.specs.Whole.{server, server_at}
+use Rattle.steps.specs.Whole.{server}
 use Rattle.steps.specs.Uses.{Item, each, read_items, use_of, checked_at, locked_at, lesser, least, reason_of, deciding}
 use Rattle.steps.specs.Judge.{has_transaction, holders_fit, lock_fits, lowest_participant}
-use Rattle.kinds.specs.Parts.{StoreIn, stored_in}
-use Rattle.kinds.specs.Laws.Parts.{server_lent}
+use Rattle.kinds.specs.Parts.{stored_in}
 use Rattle.kinds.specs.Items.{as_item, read_item}
 use Rattle.kinds.specs.Judge.{of_client, of_server, word_fits}
 use Rattle.kinds.specs.Laws.Items.{locked_by}
 use Rattle.kinds.specs.Findings.{fault_number, as_pair, as_fault, or_later, later, word_reason, lock_reason, compared_at, mark_reason, prepare_reason, prepare_fault, prepare_found}
-use Rattle.server.specs.Layout as Srv
 use Rattle.kinds.specs.declared.items.Item as code
 
 -- ---- the least, once there is one more
@@ -92,14 +87,11 @@ pub none_found : (o : CodeOption Found) (x : ℕ) → as_fault o ≡ later (as_f
 unfolding later
 none_found o x = refl
 
--- ---- a mark compared, in the part lent to be read
-pub compared_lent : (z : Sizes) (b : List ℕ) (s k : ℕ) (o : Object) (i : code.Item) (f : Finding) (r : ℕ) → StoreIn z (length b) → s < 8 → k ≡ server_at z s
-    → o ≡ object_of i.number
-    → f ≡ mark_finding o (standing o i.inner (mem Srv.places (Srv.server_block z.slots) (view (mid_of (8 * k) (length b - 8 * k) b)))) i.mark
-    → r ≡ finding_number f → r ≡ compared_at z (view b) s (as_item i)
+-- ---- a mark compared, where m is what the server's part holds
+pub compared_lent : (z : Sizes) (w : List ℕ) (s : ℕ) (m : Place → ℕ) (o : Object) (i : code.Item) (f : Finding) (r : ℕ) → m ≡ of_server z w s → o ≡ object_of i.number
+    → f ≡ mark_finding o (standing o i.inner m) i.mark → r ≡ finding_number f → r ≡ compared_at z w s (as_item i)
 unfolding compared_at
-compared_lent z b s k o i f r l h e p q t =
-    t ∙ ap finding_number (q ∙ ap (λ (m : Place → ℕ). mark_finding o (standing o i.inner m) i.mark) (server_lent z s k b h e l.room)) ∙ rw p
+compared_lent z w s m o i f r e p q t = t ∙ ap finding_number (q ∙ rw (e, p) refl)
 
 module _ (z : Sizes) (w : List ℕ) (s : ℕ) (b : Bool) (i : code.Item) where
   pub mark_checked : (r : ℕ) → b ≡ true → r ≡ compared_at z w s (as_item i) → r ≡ mark_reason z w s b (as_item i)

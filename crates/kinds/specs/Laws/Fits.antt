@@ -1,28 +1,24 @@
 -- Laws of refusal 10's code over all objects read.
-use Rattle.std.specs.Prelude.{◌≡◌, Bool, true, not, List, length}
+use Rattle.std.specs.Prelude.{◌≡◌, Bool, true, not, List}
 use Rattle.std.proofs.Math.Path.{refl, sym}
 use Rattle.std.proofs.Common.{ap, ◌∙◌, subst, add-one}
 use Rattle.std.proofs.Math.Bool.{false}
-use Prim.Native.Nat.{ℕ, zero, suc, ◌+◌, ◌-◌, ◌*◌, ◌≤◌, ◌<◌}
+use Prim.Native.Nat.{ℕ, zero, suc, ◌+◌, ◌-◌, ◌≤◌, ◌<◌}
 use native.Mathlib.Omega.{arith}
 use borrow.Author.Tests.{not-true, not-false}
-use borrow.Rule.Slice.PartMut.{mid_of}
-use Rattle.memory.specs.Word.{view}
 use Rattle.memory.specs.Bit.{bit}
 use Rattle.nodes.specs.Object.{object_of}
 use Rattle.server.specs.Object.{Has}
 use Rattle.client.specs.declared.part.Set.TheVariants.{Reads}
-use Rattle.client.specs.Layout.{ClientWord, field}
-use Rattle.client.specs.Sets.{held, count}
+use Rattle.client.specs.Layout.{field}
+use Rattle.client.specs.Sets.{count}
 use Rattle.client.specs.Items.{all_below}
 use Rattle.client.specs.Participants.{lowest_of}
 use Rattle.client.specs.Fits.{fit_to_abort, fit_to_unlock}
 use Rattle.steps.specs.declared.sizes.Sizes.{Sizes}
-use Rattle.steps.specs.Whole.{client_at}
 use Rattle.steps.specs.Uses.{Item, item_of, locked_at}
 use Rattle.steps.specs.Judge.{lock_fits, lowest_participant, unlock_fits, abort_fits}
-use Rattle.kinds.specs.Parts.{StoreIn, stored_in}
-use Rattle.kinds.specs.Laws.Parts.{client_lent}
+use Rattle.kinds.specs.Parts.{stored_in}
 use Rattle.kinds.specs.Items.{as_item, read_item}
 use Rattle.kinds.specs.Judge.{of_client}
 use Rattle.kinds.specs.Fits.{InSet, Known, unlock_item, unlocks_at, unlocks_all}
@@ -36,11 +32,6 @@ pub known_item : (z : Sizes) (w : List ℕ) (c n i : ℕ) (t : code.Item) → Kn
 unfolding read_item item_of
 known_item z w c n i t k e h q =
     subst (λ (x : ℕ). Has z.slots (object_of x)) (sym (ap (λ (u : Item). u.number) q)) (k.known i (rw (← e) h))
-
-pub count_lent : (z : Sizes) (b : List ℕ) (c k r : ℕ) → StoreIn z (length b) → c < z.clients → k ≡ client_at z c
-    → r ≡ count (held (mid_of (8 * k) (length b - 8 * k) b)) Reads → r ≡ count (of_client z (view b) c) Reads
-unfolding held
-count_lent z b c k r l h e q = q ∙ ap (λ (m : ClientWord → ℕ). count m Reads) (client_lent z c k b h e l.room)
 
 -- ---- the lowest server
 module _ (w : ℕ) where
@@ -87,9 +78,7 @@ module _ (z : Sizes) (w : List ℕ) (low s : ℕ) (i : code.Item) where
       unfolding unlock_item
       unlocks d u h = h ∙ sym (rw (← e, u, not-false i.known r, not-false i.settled t))
 
-pub ruleset fit_exits = (known_item, count_lent, lowest_by, read_unfit, written_unfit, not_unlocked, unlocks)
-
-pub ruleset lowest_exits = (lowest_none, lowest_next, lowest_here, lowest_absent)
+pub ruleset fit_exits = (known_item, lowest_by, read_unfit, written_unfit, not_unlocked, unlocks)
 
 -- ---- over all objects read: f is the test of an item
 abbrev pub each_fits : Sizes → List ℕ → ℕ → (Item → Bool) → ℕ → Bool

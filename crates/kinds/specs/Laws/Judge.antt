@@ -10,26 +10,23 @@ use borrow.Rule.Slice.PartMut.{mid_of}
 use Rattle.std.proofs.Math.Dec.{ltb}
 use Rattle.memory.specs.Word.{view}
 use Rattle.memory.specs.Bit.{bit}
-use Rattle.layout.specs.Space.{Valid, mem}
+use Rattle.layout.specs.Space.{Valid}
 use Rattle.nodes.specs.declared.object.Object.{Object}
 use Rattle.server.specs.declared.place.Place.{Place}
 use Rattle.nodes.specs.Object.{object_of}
 use Rattle.server.specs.Object.{lock_of, Has}
 use Rattle.server.specs.Lock.{lock_in_range}
-use Rattle.client.specs.declared.part.Set.{Set}
 use Rattle.client.specs.declared.part.Set.TheVariants.{Writes}
-use Rattle.client.specs.Layout.{ClientWord, field}
+use Rattle.client.specs.Layout.{field}
 use Rattle.client.specs.Sets.{held}
 use Rattle.client.specs.Items.{all_below, has}
 use Rattle.steps.specs.declared.sizes.Sizes.{Sizes}
 use Rattle.steps.specs.Whole.{server, client_at, server_at}
 use Rattle.steps.specs.Refusal.{between}
-use Rattle.steps.specs.Uses.{Item}
 use Rattle.steps.specs.Judge.{has_transaction, writes, holders_fit, lock_fits}
 use Rattle.kinds.specs.Parts.{StoreIn, stored_in}
 use Rattle.kinds.specs.Laws.Parts.{client_lent, server_lent}
-use Rattle.kinds.specs.Items.{read_item}
-use Rattle.kinds.specs.Judge.{of_client, reader_fits, word_fits}
+use Rattle.kinds.specs.Judge.{of_client, of_server, held_by, reader_fits, word_fits}
 use Rattle.server.specs.Layout as Srv
 
 -- ---- objects of the store
@@ -41,25 +38,12 @@ lies_as n x o a e q h = subst (Valid Srv.places (Srv.server_block n)) (sym (q �
 
 -- ---- parts lent to be read
 module _ (z : Sizes) (b : List ℕ) (l : StoreIn z (length b)) where
-  module _ (c k : ℕ) (h : c < z.clients) (e : k ≡ client_at z c) where
-    part_held : held (mid_of (8 * k) (length b - 8 * k) b) ≡ of_client z (view b) c
-    unfolding held
-    part_held = client_lent z c k b h e l.room
+  pub client_held : (c k : ℕ) → c < z.clients → k ≡ client_at z c → held (mid_of (8 * k) (length b - 8 * k) b) ≡ of_client z (view b) c
+  unfolding held
+  client_held c k h e = client_lent z c k b h e l.room
 
-    pub field_lent : (i r : ℕ) → r ≡ held (mid_of (8 * k) (length b - 8 * k) b) (field i) → r ≡ of_client z (view b) c (field i)
-    field_lent i r q = q ∙ ap (λ (m : ClientWord → ℕ). m (field i)) part_held
-
-    pub has_lent : (s : Set) (x : ℕ) (r : Bool) → r ≡ has (held (mid_of (8 * k) (length b - 8 * k) b)) s x → r ≡ has (of_client z (view b) c) s x
-    has_lent s x r q = q ∙ ap (λ (m : ClientWord → ℕ). has m s x) part_held
-
-    pub item_lent : (i : ℕ) (r : Item) → r ≡ read_item (held (mid_of (8 * k) (length b - 8 * k) b)) i → r ≡ read_item (of_client z (view b) c) i
-    item_lent i r q = q ∙ ap (λ (m : ClientWord → ℕ). read_item m i) part_held
-
-  module _ (s k : ℕ) (h : s < 8) (e : k ≡ server_at z s) where
-    pub word_lent : (x r : ℕ) (o : Object) (a : Place) → o ≡ object_of x → a ≡ lock_of o
-        → r ≡ mem Srv.places (Srv.server_block z.slots) (view (mid_of (8 * k) (length b - 8 * k) b)) a → r ≡ stored_in z (view b) (server s (lock_of (object_of x)))
-    word_lent x r o a p q f =
-        f ∙ ap (λ (m : Place → ℕ). m a) (server_lent z s k b h e l.room) ∙ rw (q, p)
+  pub server_held : (s k : ℕ) → s < 8 → k ≡ server_at z s → held_by z (mid_of (8 * k) (length b - 8 * k) b) ≡ of_server z (view b) s
+  server_held s k h e = server_lent z s k b h e l.room
 
 -- ---- holders of locks
 module _ (z : Sizes) (w : List ℕ) where
@@ -121,10 +105,6 @@ module _ (z : Sizes) (w : List ℕ) where
 pub ruleset judge_exits = (
   has_as,
   lies_as,
-  field_lent,
-  has_lent,
-  item_lent,
-  word_lent,
   has_by,
   writes_many,
   writes_by,

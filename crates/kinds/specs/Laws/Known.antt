@@ -1,62 +1,23 @@
 -- What a rule's test of its client's own part says: the objects of its sets are objects of the store.
-use Rattle.std.specs.Prelude.{◌≡◌, Bool, true, false, ◌&&◌, ◌||◌, not, List, ℕ, ◌-◌, ◌*◌, ◌<◌, leb, length}
-use Rattle.std.proofs.Common.{sym, ap, ◌∙◌}
+use Rattle.std.specs.Prelude.{◌≡◌, Bool, true, false, ◌&&◌, ◌||◌, not, List, ℕ, leb}
+use Rattle.std.proofs.Common.{sym, ◌∙◌}
 use borrow.Author.Tests.{not-false}
-use borrow.Rule.Slice.PartMut.{mid_of}
 use Rattle.base.specs.Test.{and_both}
 use Rattle.memory.specs.Word.{view}
 use Rattle.client.specs.declared.part.Set.{Set}
 use Rattle.client.specs.declared.part.Set.TheVariants.{Reads, Writes}
 use Rattle.client.specs.Layout.{ClientWord, limit, participants, prepared, applied}
-use Rattle.client.specs.Sets.{held, count, number_at}
+use Rattle.client.specs.Sets.{count, number_at}
 use Rattle.client.specs.Items.{all_below}
-use Rattle.client.specs.Fits.{said_count, servers_fit, number_fits, numbers_fit, op_fits, fit_to_work, fit_to_commit, fit_to_prepare, fit_to_abort, fit_to_unlock, writes_fit, fit_to_renew, fit_to_apply}
+use Rattle.client.specs.Fits.{said_count, servers_fit, number_fits, numbers_fit, op_fits, fit_to_work, fit_to_prepare, fit_to_abort, fit_to_unlock, writes_fit, fit_to_renew, fit_to_apply}
 use Rattle.client.specs.Laws.Ranges.{all_at}
 use Rattle.steps.specs.declared.sizes.Sizes.{Sizes}
-use Rattle.steps.specs.Whole.{client_at}
 use Rattle.steps.specs.Judge.{abort_fits}
 use Rattle.steps.proofs.Laws.There.{in_store_has}
-use Rattle.kinds.specs.Parts.{StoreIn, stored_in}
-use Rattle.kinds.specs.Laws.Parts.{client_lent}
+use Rattle.kinds.specs.Parts.{stored_in}
 use Rattle.kinds.specs.Judge.{of_client}
 use Rattle.kinds.specs.Fits.{InSet, Known, FitToPrepare}
 use Rattle.kinds.specs.Writes.{Storing}
-
--- ---- a client's part lent to be read
-module _ (z : Sizes) (b : List ℕ) (c k : ℕ) (r : Bool) (l : StoreIn z (length b)) (h : c < z.clients) (e : k ≡ client_at z c) where
-  abbrev lent : ClientWord → ℕ
-  lent = held (mid_of (8 * k) (length b - 8 * k) b)
-
-  same_part : lent ≡ of_client z (view b) c
-  unfolding held
-  same_part = client_lent z c k b h e l.room
-
-  abbrev Asks : ((ClientWord → ℕ) → Bool) → Type 0
-  Asks f = r ≡ f lent → r ≡ f (of_client z (view b) c)
-
-  pub work_lent : Asks (fit_to_work z.slots)
-  work_lent q = q ∙ ap (fit_to_work z.slots) same_part
-
-  pub commit_lent : Asks (fit_to_commit z.slots)
-  commit_lent q = q ∙ ap (fit_to_commit z.slots) same_part
-
-  pub prepare_lent : Asks (fit_to_prepare z.slots)
-  prepare_lent q = q ∙ ap (fit_to_prepare z.slots) same_part
-
-  pub abort_lent : Asks (fit_to_abort z.slots)
-  abort_lent q = q ∙ ap (fit_to_abort z.slots) same_part
-
-  pub unlock_lent : Asks (fit_to_unlock z.slots)
-  unlock_lent q = q ∙ ap (fit_to_unlock z.slots) same_part
-
-  pub apply_lent : (s : ℕ) (last : Bool) → Asks (λ m. fit_to_apply z.slots m s last)
-  apply_lent s last q = q ∙ ap (λ (m : ClientWord → ℕ). fit_to_apply z.slots m s last) same_part
-
-pub ruleset own_lent = (work_lent, commit_lent, prepare_lent, abort_lent, unlock_lent, apply_lent)
-
-pub prepare_back : (z : Sizes) (b : List ℕ) (c k : ℕ) → StoreIn z (length b) → c < z.clients → k ≡ client_at z c
-    → FitToPrepare z b c → fit_to_prepare z.slots (held (mid_of (8 * k) (length b - 8 * k) b)) ≡ true
-prepare_back z b c k l h e f = ap (fit_to_prepare z.slots) (same_part z b c k true l h e) ∙ f.fit
 
 -- ---- the objects of a set
 module _ (z : Sizes) (m : ClientWord → ℕ) where

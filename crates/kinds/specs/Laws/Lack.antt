@@ -4,7 +4,7 @@ use Rattle.std.proofs.Math.Path.{refl}
 use Rattle.std.proofs.Common.{sym, ap, ◌∙◌, subst, arith}
 use Rattle.std.proofs.Math.Bool.{true, false, cond}
 use Prim.Native.Nat.{ℕ, ◌+◌, ◌-◌, ◌≤◌, ◌<◌}
-use borrow.Author.Tests.{not-true, not-false, ne_eqb, le-leb, lt-ltb, le-ltb}
+use borrow.Author.Tests.{not-true, not-false, ne_eqb, le-leb, lt-ltb}
 use Rattle.std.proofs.Math.ListN.{length}
 use Rattle.layout.specs.Space.{Put}
 use Rattle.layout.specs.Step.{Does, silent}
@@ -37,7 +37,7 @@ use Rattle.kinds.specs.Laws.Kinds.{meets_did, meets_as, meets_refused}
 use Rattle.kinds.specs.Abort.{stops}
 use Rattle.kinds.specs.Laws.Abort.{stopped}
 use Rattle.kinds.specs.Findings.{fault_number}
-use Rattle.kinds.specs.Fetch.{Fetching, Checking, items_found, reached, gate_of}
+use Rattle.kinds.specs.Fetch.{Checking, items_found, reached, gate_of}
 use Rattle.kinds.specs.Lack.{There}
 use Rattle.operations.specs.Object as O
 
@@ -84,9 +84,6 @@ pub reaches : (z : Sizes) (b : List ℕ) (c s : ℕ) (u : List ℕ) → Checking
 reaches z b c s u h = h.server
 
 -- any server
-pub checking_at : (z : Sizes) (b : List ℕ) (c s : ℕ) (u : List ℕ) → Fetching z b c u → s < 8 → Checking z b c s u
-checking_at z b c s u h l = record { holds = h.holds; client = h.client; server = l; in_use = h.in_use; reads = h.reads; known = h.known }
-
 -- "all absent: 10"
 pub no_source : (z : Sizes) (w : List ℕ) (c : ℕ) (us : List ℕ) → 8 ≡ metadata_source (stored_in z w) z c → Meets z (λ m. fetch z m c us (O.object O.meta)) w (Refused 10) w
 unfolding fetch
@@ -122,8 +119,6 @@ module _ (z : Sizes) (w : List ℕ) (c : ℕ) (us : List ℕ) (a : O.Ask) (s : �
         named (O.object (O.flag n)) q = refl
         named (O.vector t) q = refl
         named (O.fetched t) q = refl
-
-pub ruleset fetch_exits = (fetch_stops, fetch_hands)
 
 -- ---- the object handed over
 module _ (z : Sizes) (w : List ℕ) (c : ℕ) (us : List ℕ) (s x : ℕ) (out : Outcome) (g : (Address → ℕ) → (ClientWord → ℕ) → List (Put ClientWord)) (ok : (Address → ℕ) → Bool) where
@@ -178,8 +173,6 @@ module _ (z : Sizes) (w : List ℕ) (c : ℕ) (us : List ℕ) (s : ℕ) (out : O
         → Does whole (block z) (in_part (client c) (used_enter us then fetched_meta x.root x.states x.version)) silent w 0 w' → HandMeta out w'
     meta_handed w' x t k d = object_handed z w c us s 0 out taken sound? e b pb w' t (rw (← k) d)
 
-pub ruleset meta_exits = (meta_has, meta_stops, meta_unsound, meta_handed)
-
 pub node_has : (z : Sizes) (b : List ℕ) (c s n x : ℕ) (u : List ℕ) → Checking z b c s u → There z n → x ≡ 1 + n → Has z.slots (object_of x)
 unfolding number_in_store
 node_has z b c s n x u h t e =
@@ -213,8 +206,6 @@ module _ (z : Sizes) (w : List ℕ) (c : ℕ) (us : List ℕ) (s n : ℕ) (out :
 
     pub node_handed : (w' : List ℕ) → not b ≡ false → Does whole (block z) (in_part (client c) (used_enter us then fetched_node n r)) silent w 0 w' → HandNode out w'
     node_handed w' t d = object_handed z w c us s (1 + n) out copied fits? (gate_is 0 e) b in_order w' t (rw (← pr) d)
-
-pub ruleset node_exits = (node_has, node_stops, node_unsound, node_handed)
 
 -- ---- a vector
 pub vector_handed : (z : Sizes) (w : List ℕ) (c : ℕ) (us : List ℕ) (s : ℕ) → s < 8 → (ws w' : List ℕ) → 0 ≡ reached z w c s us

@@ -179,5 +179,3 @@ module _ (z : Sizes) (c s low : ℕ) (k : Change) where
       does_as whole (block z) (in_part (server s) (upto (rule k c) (locked_at low s) (read_item (of_client z w c)) i)) (changes z c s k) silent w 0 w' (rw (e, el)) d
 
 pub ruleset change_exits = (now_lock, now_unlock, is_passing, not_passing, nth_known, nth_turn)
-
-pub ruleset change_loop = (changed_none, changed_known, changed_next, changed_all)

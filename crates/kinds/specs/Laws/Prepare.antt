@@ -256,6 +256,3 @@ module _ (z : Sizes) (c s : ℕ) (w : List ℕ) (b : Bool) (e : b ≡ fit_to_pre
     pub prepare_checked : not h ≡ false → Meets z (λ m. checked_prepare z m c s) w o w' → Meets z (λ m. prepare z m c s) w o w'
     unfolding prepare
     prepare_checked u d = meets_as z w o w' (λ m. checked_prepare z m c s) (λ m. prepare z m c s) (sym (rw (← e, not-false b t, ← f, not-false h u))) d
-
-pub only_by : (n s q v : ℕ) → q ≡ n → v ≡ put_bit true 0 s → eqb q v ≡ eqb n (put_bit true 0 s)
-only_by n s q v e f = rw (e, f)

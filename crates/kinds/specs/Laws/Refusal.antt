@@ -1,17 +1,14 @@
 -- Laws of the refusals' code: a row of the table at a time, in order.
-use Rattle.std.specs.Prelude.{◌≡◌, Bool, true, cond, ◌&&◌, ◌||◌, not, List, eqb, leb, ltb, length}
+use Rattle.std.specs.Prelude.{◌≡◌, Bool, true, cond, ◌&&◌, ◌||◌, not, List, eqb, leb, ltb}
 use Rattle.std.proofs.Math.Path.{refl, sym, subst}
 use Rattle.std.proofs.Common.{ap, ◌∙◌}
 use Rattle.std.proofs.Math.Bool.{false}
-use Prim.Native.Nat.{ℕ, zero, suc, ◌-◌, ◌*◌, ◌/◌, ◌≤◌, ◌<◌}
+use Prim.Native.Nat.{ℕ, zero, suc, ◌*◌, ◌/◌, ◌≤◌, ◌<◌}
 use native.Mathlib.Omega.{arith}
 use borrow.Author.Tests.{eq-eqb, ne_eqb, lt-ltb, le-ltb, le-leb, lt-leb, leb-false, ltb-false, not-true, not-false}
-use borrow.Rule.Slice.PartMut.{mid_of}
-use Rattle.memory.specs.Word.{view}
 use Rattle.memory.specs.Bit.{bit}
 use Rattle.client.specs.Layout.{ClientWord, field, phase, op_number, participants}
 use Rattle.client.specs.Record.{in_store}
-use Rattle.client.specs.Sets.{held}
 use Rattle.steps.specs.declared.sizes.Sizes.{Sizes}
 use Rattle.steps.specs.declared.refusal.Refusal.{Refusal}
 use Rattle.steps.specs.Refused.{number_of}
@@ -22,10 +19,11 @@ use Rattle.steps.specs.declared.step.Kind.TheVariants.{Begin, Give, Work, Commit
 use Rattle.steps.specs.declared.step.ServerChange.{ServerChange}
 use Rattle.steps.specs.declared.step.ServerChange.TheVariants.{Add, Close, Remove}
 use Rattle.steps.specs.Servers.{change_of, state_suits, any_taken, version_ends, quiet}
-use Rattle.steps.specs.Whole.{Address, words_for, length_for, client_at}
+use Rattle.steps.specs.Whole.{Address, words_for, length_for}
 use Rattle.steps.specs.Refusal.{between, allowed?, first, kind_of, open_refusal, refusal, state_fits}
 use Rattle.kinds.specs.Parts.{StoreIn, stored_in}
-use Rattle.kinds.specs.Laws.Parts.{are_allowed, client_lent}
+use Rattle.kinds.specs.Laws.Parts.{are_allowed}
+use Rattle.kinds.specs.Judge.{of_client}
 use Rattle.kinds.specs.Refusal.{first_refusal, server_refusal, node_refusal, count_refusal, give_refusal, field_refusal, known_refusal, left, due, fitting, unfit, taken_yet, change_refusal, Sited}
 
 pub ruleset tests = (eq-eqb, ne_eqb, lt-ltb, le-ltb, le-leb, lt-leb)
@@ -110,11 +108,10 @@ module _ (k : Kind) (s : ℕ) (h : Sited k s) where
   unfolding Sited
   apply_sited e = subst (λ (x : Kind). Sited x s) e h
 
--- the client's part is lent to be read
-pub client_unfit : (z : Sizes) (k : Step) (b : List ℕ) (j : ℕ) (i : Kind) (t : Bool) → StoreIn z (length b) → k.client < z.clients → j ≡ client_at z k.client
-    → t ≡ state_fits (held (mid_of (8 * j) (length b - 8 * j) b)) k.server i → not t ≡ unfit z k i (view b)
-unfolding held unfit
-client_unfit z k b j i t l h e q = ap not (q ∙ ap (λ (m : ClientWord → ℕ). state_fits m k.server i) (client_lent z k.client j b h e l.room))
+-- what the client's part holds is what the memory has of the client
+pub client_unfit : (z : Sizes) (k : Step) (w : List ℕ) (i : Kind) (m : ClientWord → ℕ) (t : Bool) → m ≡ of_client z w k.client → t ≡ state_fits m k.server i → not t ≡ unfit z k i w
+unfolding unfit
+client_unfit z k w i m t e q = ap not (q ∙ ap (λ (m : ClientWord → ℕ). state_fits m k.server i) e)
 
 -- ---- 6 to 8
 pub some_first : (r : Refusal) (a b : ℕ) → number_of r ≡ a → number_of r ≡ first_refusal a b

@@ -1,15 +1,12 @@
 -- Laws of the code that asks which servers there are.
-use Rattle.std.specs.Prelude.{◌≡◌, Bool, List, eqb, length, get_or}
+use Rattle.std.specs.Prelude.{◌≡◌, Bool, List, eqb, get_or}
 use Rattle.std.proofs.Math.Path.{refl, sym, ap}
-use Rattle.std.proofs.Common.{◌∙◌, mod-lt}
+use Rattle.std.proofs.Common.{◌∙◌}
 use Rattle.std.proofs.Math.Bool.{true, false, not}
-use Prim.Native.Nat.{ℕ, zero, suc, ◌+◌, ◌-◌, ◌*◌, ◌%◌, ◌≤◌, ◌<◌}
+use Prim.Native.Nat.{ℕ, zero, suc, ◌+◌, ◌-◌, ◌%◌, ◌≤◌, ◌<◌}
 use native.Mathlib.Omega.{arith}
-use borrow.Author.Tests.{eq-eqb, ne_eqb, lt-ltb, le-ltb}
-use borrow.Rule.Slice.PartMut.{mid_of}
+use borrow.Author.Tests.{eq-eqb, ne_eqb, lt-ltb}
 use Rattle.std.proofs.Math.Dec.{leb}
-use Rattle.memory.specs.Word.{view}
-use Rattle.layout.specs.Space.{mem}
 use Rattle.layout.proofs.Laws.Space.{get_or_tab}
 use Rattle.nodes.specs.Name.{slot_of}
 use Rattle.nodes.specs.States.{is_present, is_open, is_closing}
@@ -17,44 +14,24 @@ use Rattle.nodes.specs.declared.node.Node.{Node}
 use Rattle.server.specs.declared.hand_out.Metadata.{Metadata}
 use Rattle.server.specs.declared.place.Place.{Place}
 use Rattle.server.specs.declared.place.Place.TheVariants.{States, Vector}
-use Rattle.server.specs.HandOut.{metadata_at, metadata_sound, vector_at, node_here}
+use Rattle.server.specs.HandOut.{metadata_at, vector_at, node_here}
 use Rattle.client.specs.Layout.{ClientWord, field}
 use Rattle.client.specs.Items.{all_below, any_below}
 use Rattle.client.specs.Laws.Commit.{any_next, any_here}
 use Rattle.steps.specs.declared.sizes.Sizes.{Sizes}
 use Rattle.steps.specs.declared.step.ServerChange.{ServerChange}
 use Rattle.steps.specs.declared.step.ServerChange.TheVariants.{Add, Close, Remove}
-use Rattle.steps.specs.Whole.{Address, server, server_at}
+use Rattle.steps.specs.Whole.{Address, server}
 use Rattle.steps.specs.Servers.{first_from, there, lowest_there, metadata_source, other_open, another_open, state_suits, any_taken, version_ends, unended, quiet}
 use Rattle.steps.specs.Steps.{node_at}
-use Rattle.kinds.specs.Parts.{StoreIn, stored_in}
-use Rattle.kinds.specs.Laws.Parts.{server_lent}
+use Rattle.kinds.specs.Parts.{stored_in}
 use Rattle.kinds.specs.Judge.{of_client, of_server}
 use Rattle.kinds.specs.Servers.{nonzero}
-use Rattle.server.specs.Layout as Srv
 
--- ---- what a server hands out, read of its part
-module _ (z : Sizes) (b : List ℕ) (l : StoreIn z (length b)) (s k : ℕ) (h : s < 8) (e : k ≡ server_at z s) where
-  abbrev lent : Place → ℕ
-  lent = mem Srv.places (Srv.server_block z.slots) (view (mid_of (8 * k) (length b - 8 * k) b))
-
-  is_lent : lent ≡ of_server z (view b) s
-  is_lent = server_lent z s k b h e l.room
-
-  pub sound_there : (r : Bool) → r ≡ metadata_sound z.slots lent → r ≡ metadata_sound z.slots (of_server z (view b) s)
-  sound_there r q = q ∙ ap (metadata_sound z.slots) is_lent
-
-  pub meta_there : (r : Metadata) → r ≡ metadata_at lent → r ≡ metadata_at (of_server z (view b) s)
-  meta_there r q = q ∙ ap metadata_at is_lent
-
-  pub node_there : (n k : ℕ) (r : Node) → k ≡ slot_of n → r ≡ node_here k lent → r ≡ node_at (of_server z (view b) s) n
-  unfolding node_here node_at
-  node_there n k r p q = q ∙ rw (p, is_lent)
-
-  pub vector_there : (r : List ℕ) → r ≡ vector_at lent → r ≡ vector_at (of_server z (view b) s)
-  vector_there r q = q ∙ ap vector_at is_lent
-
-pub ruleset there_exits = (sound_there, meta_there, node_there, vector_there)
+-- ---- a node read where m is what its server's part holds
+pub node_there : (m q : Place → ℕ) (n k : ℕ) (r : Node) → m ≡ q → k ≡ slot_of n → r ≡ node_here k m → r ≡ node_at q n
+unfolding node_here node_at
+node_there m q n k r e p h = h ∙ rw (p, e) refl
 
 -- ---- a server's state
 pub states_there : (z : Sizes) (w : List ℕ) (s : ℕ) (r : Metadata) → r ≡ metadata_at (of_server z w s) → r.states ≡ stored_in z w (server s States)
@@ -105,9 +82,6 @@ unfolding lowest_there
 by_lowest m r h = h
 
 -- the old one is one of eight
-pub old_one : (z : Sizes) (n c : ℕ) → StoreIn z n → c % z.servers < 8
-old_one z n c h = omega (arith, h.allowed.servers, mod-lt c {m = z.servers} (omega (arith, h.allowed.servers)))
-
 pub by_source : (m : Address → ℕ) (z : Sizes) (c r : ℕ) → r ≡ first_from (there m) 8 (c % z.servers) → r ≡ metadata_source m z c
 unfolding metadata_source
 by_source m z c r h = h

@@ -1,10 +1,9 @@
 -- Laws of the code that stores a write set at one server.
-use Rattle.std.specs.Prelude.{◌≡◌, Bool, true, false, ◌&&◌, ◌||◌, List, ℕ, ◌+◌, ◌-◌, ◌*◌, ◌≤◌, ◌<◌, eqb, ltb, length}
-use Rattle.std.proofs.Math.Path.{refl, ap, subst}
+use Rattle.std.specs.Prelude.{◌≡◌, Bool, true, false, ◌&&◌, ◌||◌, List, ℕ, ◌+◌, ◌-◌, ◌≤◌, ◌<◌, eqb, ltb, length}
+use Rattle.std.proofs.Math.Path.{refl, subst}
 use Rattle.std.proofs.Common.{sym, ◌∙◌, add-one}
 use native.Mathlib.Omega.{arith}
 use borrow.Author.Tests.{eq-eqb, ne_eqb, le-leb, lt-leb, le-ltb, ltb-true}
-use borrow.Rule.Slice.PartMut.{mid_of}
 use Rattle.base.specs.Test.{and_both}
 use Rattle.base.proofs.Laws.Test.{or_neither}
 use Rattle.memory.specs.Word.{view}
@@ -24,18 +23,17 @@ use Rattle.server.specs.Store.{metadata_step, flag_step, home_step, table_step, 
 use Rattle.client.specs.declared.part.Set.TheVariants.{Reads, Writes}
 use Rattle.client.specs.Layout.{ClientWord}
 use Rattle.client.specs.Record.{first_slot, second_slot}
-use Rattle.client.specs.Sets.{held, count, number_at, record_at, find}
+use Rattle.client.specs.Sets.{count, number_at, record_at, find}
 use Rattle.client.specs.Items.{inner_before_after}
 use Rattle.client.specs.Participants.{at_home}
 use Rattle.client.specs.Drops.{version_of, next_version}
 use Rattle.client.specs.Fits.{young, read_fits, version_fits, stored_record_fits, write_fits, writes_fit}
 use Rattle.client.specs.Laws.Ranges.{all_at}
 use Rattle.steps.specs.declared.sizes.Sizes.{Sizes}
-use Rattle.steps.specs.Whole.{server, whole, block, words_for, client_at}
+use Rattle.steps.specs.Whole.{server, whole, block, words_for}
 use Rattle.steps.specs.Steps.{store_write}
 use Rattle.steps.proofs.Laws.Writes.{write_inside}
 use Rattle.kinds.specs.Parts.{StoreIn}
-use Rattle.kinds.specs.Laws.Parts.{client_lent}
 use Rattle.kinds.specs.Judge.{of_client}
 use Rattle.kinds.specs.Fits.{InSet}
 use Rattle.kinds.specs.Locks.{Done}
@@ -62,22 +60,11 @@ module _ (s : ℕ) (w : code.Write) (a : Bool) (p : a ≡ at_home s w.number) wh
   pub some_inner : a ≡ false → w.inner ≡ stores_some s w
   some_inner t = rw (← p, t)
 
-pub ruleset some_exits = (some_home, some_inner)
-
 -- ---- a write by value
 pub write_made : (m : ClientWord → ℕ) (i x v : ℕ) (n : Node) (b : Bool) → x ≡ number_at m Writes i → n ≡ record_at m Writes i → v ≡ version_of m (find m Reads x)
     → b ≡ inner_before_after m x → ◌≡◌ {A = code.Write} (record { number = x; node = n; read = v; inner = b }) (write_nth m i)
 unfolding write_nth
 write_made m i x v n b e p q r = rw (q, r, p, e)
-
-module _ (z : Sizes) (b : List ℕ) (c k : ℕ) (l : StoreIn z (length b)) (h : c < z.clients) (e : k ≡ client_at z c) where
-  pub write_lent : (i : ℕ) (r : code.Write) → r ≡ write_nth (held (mid_of (8 * k) (length b - 8 * k) b)) i → r ≡ write_nth (of_client z (view b) c) i
-  unfolding held
-  write_lent i r q = q ∙ ap (λ (m : ClientWord → ℕ). write_nth m i) (client_lent z c k b h e l.room)
-
-  pub writes_lent : (r : ℕ) → r ≡ count (held (mid_of (8 * k) (length b - 8 * k) b)) Writes → r ≡ count (of_client z (view b) c) Writes
-  unfolding held
-  writes_lent r q = q ∙ ap (λ (m : ClientWord → ℕ). count m Writes) (client_lent z c k b h e l.room)
 
 -- ---- stored in the server's part
 module _ (n s : ℕ) (w : code.Write) (k : ℕ) (f : k ≡ first_slot w.node) (p p' : List ℕ) where
