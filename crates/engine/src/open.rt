@@ -8,7 +8,7 @@ ghost use Rattle.nodes.specs.States.{first_states};
 ghost use Rattle.server.specs.Layout as Srv;
 ghost use Rattle.steps.specs.Whole.{server};
 ghost use Rattle.steps.specs.Refusal.{open_refusal};
-ghost use Rattle.steps.specs.Refused.{refused};
+ghost use Rattle.steps.specs.Refused.{refused_by};
 ghost use Rattle.kinds.specs.Parts.{StoreIn, AtServer, InWhole, head_words};
 ghost use Rattle.engine.specs.Open.{with_head, new_server, new_servers, new_words, opened_in};
 ghost use Rattle.engine.specs.Reached.{Reached};
@@ -82,7 +82,7 @@ fn make_new(mem: &mut [u8], sizes: Sizes)
 
 // A new store of these sizes, if the memory lent is long enough.
 pub fn open(mem: &mut [u8], sizes: Sizes) -> Result<(), Refusal>
-    ensures value { refused result ≡ open_refusal (length mem.old) sizes }
+    ensures value { refused_by result ≡ open_refusal (length mem.old) sizes }
     ensures words { view mem.new ≡ opened_in mem sizes }
     ensures reached { IsOk result → Reached sizes [] mem.new }
 {

@@ -3,7 +3,7 @@ ghost use Rattle.std.specs.Prelude.{◌≡◌, ◌<◌, length};
 ghost use Rattle.memory.specs.Word.{view};
 ghost use Rattle.client.specs.Sets.{held};
 ghost use Rattle.steps.specs.Refusal.{open_refusal, refusal, state_fits};
-ghost use Rattle.steps.specs.Refused.{refused};
+ghost use Rattle.steps.specs.Refused.{refused_by};
 ghost use Rattle.kinds.specs.Parts.{StoreIn, AtServer, stored_in};
 ghost use Rattle.kinds.specs.Refusal.{server_refusal, node_refusal, count_refusal, first_refusal, give_refusal, field_refusal, known_refusal};
 ghost use Rattle.kinds.specs.Refusal.{left, due, fitting, unfit, taken_yet, change_refusal, Sited};
@@ -25,7 +25,7 @@ use steps::step::{Kind, ServerChange, Step};
 
 // 1 to 3: the memory of so many bytes, for the sizes given or in the head.
 pub fn memory_refusal(bytes: usize, sizes: Sizes) -> Result<(), Refusal>
-    ensures { refused result ≡ open_refusal bytes sizes }
+    ensures { refused_by result ≡ open_refusal bytes sizes }
 {
     if bytes < 64 {
         return Err(Refusal::NoHead);
@@ -41,7 +41,7 @@ pub fn memory_refusal(bytes: usize, sizes: Sizes) -> Result<(), Refusal>
 
 // 7: "The server of a migrate, prepare or apply is not in the store."
 fn server_refusal(server: u64) -> Result<(), Refusal>
-    ensures { refused result ≡ server_refusal server }
+    ensures { refused_by result ≡ server_refusal server }
 {
     if server >= Name::SERVERS {
         return Err(Refusal::UnknownServer);
@@ -51,7 +51,7 @@ fn server_refusal(server: u64) -> Result<(), Refusal>
 
 // 8: "A migrated node's name is not in the store."
 fn node_refusal(sizes: Sizes, name: u64) -> Result<(), Refusal>
-    ensures { refused result ≡ node_refusal sizes name }
+    ensures { refused_by result ≡ node_refusal sizes name }
 {
     if in_store(sizes.slots, name) {
         return Ok(());
@@ -61,7 +61,7 @@ fn node_refusal(sizes: Sizes, name: u64) -> Result<(), Refusal>
 
 // 11: "count outside 1 to 32".
 fn count_refusal(count: u64) -> Result<(), Refusal>
-    ensures { refused result ≡ count_refusal count }
+    ensures { refused_by result ≡ count_refusal count }
 {
     if between(1, MOST_LISTED, count) {
         return Ok(());
@@ -71,7 +71,7 @@ fn count_refusal(count: u64) -> Result<(), Refusal>
 
 // 7 and then 8, of a migrate.
 fn migrate_refusal(sizes: Sizes, step: Step) -> Result<(), Refusal>
-    ensures { refused result ≡ first_refusal (server_refusal step.server) (node_refusal sizes step.key) }
+    ensures { refused_by result ≡ first_refusal (server_refusal step.server) (node_refusal sizes step.key) }
 {
     server_refusal(step.server)?;
     node_refusal(sizes, step.key)
@@ -79,7 +79,7 @@ fn migrate_refusal(sizes: Sizes, step: Step) -> Result<(), Refusal>
 
 // 6: "A given op is not 1 to 6", and "Operations now run to 7"; of a migrate 7 and 8, of a list 11.
 fn give_refusal(sizes: Sizes, step: Step) -> Result<(), Refusal>
-    ensures { refused result ≡ give_refusal sizes step }
+    ensures { refused_by result ≡ give_refusal sizes step }
 {
     let op = step.op;
     match op {
@@ -168,7 +168,7 @@ fn client_is_unfit(mem: &[u8], sizes: Sizes, step: Step, kind: Kind) -> bool
 // 6 to 8 and 11: what the kind asks of the step's fields.
 #[tactic(auto, using(crate::specs::Laws::Refusal::kind_fields), unfolding(crate::specs::Refusal::field_refusal))]
 fn field_refusal(sizes: Sizes, step: Step, kind: Kind) -> Result<(), Refusal>
-    ensures { refused result ≡ field_refusal sizes step kind }
+    ensures { refused_by result ≡ field_refusal sizes step kind }
 {
     match kind {
         Kind::Begin => Ok(()),
@@ -187,7 +187,7 @@ fn field_refusal(sizes: Sizes, step: Step, kind: Kind) -> Result<(), Refusal>
 // 5 to 9 and 11, of a kind from 0 to 7.
 fn known_refusal(mem: &[u8], sizes: Sizes, step: Step, kind: Kind) -> Result<(), Refusal>
     requires { StoreIn sizes (length mem.now) }
-    ensures { refused result ≡ known_refusal sizes step kind (view mem.now) }
+    ensures { refused_by result ≡ known_refusal sizes step kind (view mem.now) }
 {
     if step.client >= sizes.clients as u64 {
         return Err(Refusal::UnknownClient);
@@ -220,7 +220,7 @@ fn change_refusal(
     server: u64,
 ) -> Result<(), Refusal>
     requires { StoreIn sizes (length mem.now) }
-    ensures { refused result ≡ change_refusal sizes change server (stored_in sizes (view mem.now)) }
+    ensures { refused_by result ≡ change_refusal sizes change server (stored_in sizes (view mem.now)) }
 {
     if server >= Name::SERVERS {
         return Err(Refusal::UnknownServer);
@@ -244,7 +244,7 @@ fn change_refusal(
 #[tactic(auto, using(crate::specs::Laws::Refusal::kind_known, crate::specs::Laws::Refusal::kind_changes, crate::specs::Laws::Refusal::kind_above), unfolding(steps::specs::Servers::change_of))]
 pub fn refusal(mem: &[u8], sizes: Sizes, step: Step) -> Result<(), Refusal>
     requires { StoreIn sizes (length mem.now) }
-    ensures { refused result ≡ refusal sizes step (stored_in sizes (view mem.now)) }
+    ensures { refused_by result ≡ refusal sizes step (stored_in sizes (view mem.now)) }
 {
     let number = step.kind;
     match number {

@@ -3,6 +3,7 @@ use Rattle.std.specs.Prelude.{ℕ, Result, Ok, Err}
 use Rattle.steps.specs.declared.refusal.Refusal.{Refusal}
 use Rattle.steps.specs.declared.refusal.Refusal.TheVariants.{NoHead, BadSizes, TooShort, UnknownKind, UnknownClient, UnknownOperation, UnknownServer, UnknownNode, Unfit, Damaged, BadCount, ShortOutput, UnfitServer, SlotTaken, LastMetadata}
 
+-- "A refused step returns the first number that holds"
 abbrev pub number_of : Refusal → ℕ
 number_of NoHead = 1
 number_of BadSizes = 2
@@ -21,6 +22,6 @@ number_of SlotTaken = 14
 number_of LastMetadata = 15
 
 -- the number by which something is refused; 0 if it isn't
-abbrev pub refused : Result (Unit {0}) Refusal → ℕ
-refused (Ok x) = 0
-refused (Err r) = number_of r
+abbrev pub refused_by : Result (Unit {0}) Refusal → ℕ
+refused_by (Ok x) = 0
+refused_by (Err r) = number_of r

@@ -9,7 +9,7 @@ use Rattle.text.proofs.Laws.Printing.{then}
 use Rattle.steps.specs.Refusal.{open_refusal}
 use Rattle.steps.specs.declared.refusal.Refusal.{Refusal}
 use Rattle.steps.specs.declared.refusal.Refusal.TheVariants.{NoHead, BadSizes, TooShort, UnknownKind, UnknownClient, UnknownOperation, UnknownServer, UnknownNode, Unfit, Damaged, BadCount, ShortOutput, UnfitServer, SlotTaken, LastMetadata}
-use Rattle.steps.specs.Refused.{number_of, refused}
+use Rattle.steps.specs.Refused.{number_of, refused_by}
 use Rattle.engine.specs.Open.{words_opened}
 use Rattle.show.specs.declared.Awaited.TheVariants.{FirstLine, StepLine}
 use Rattle.show.specs.declared.Show.{Show}
@@ -77,7 +77,7 @@ module _ (m out : List ℕ) (at : ℕ) (m' out' : List ℕ) where
   came_as what other q r d = came_to what (other (length m) (view m)) q r d.state d.printed d.words
 
   -- ---- a first line of sizes
-  module _ (servers slots clients : ℕ) (o : Result (Unit {0}) Refusal) (q : refused o ≡ open_refusal (length m) (sizes_of servers slots clients))
+  module _ (servers slots clients : ℕ) (o : Result (Unit {0}) Refusal) (q : refused_by o ≡ open_refusal (length m) (sizes_of servers slots clients))
       (w : view m' ≡ words_opened (length m) (sizes_of servers slots clients) (view m)) where
     abbrev n : ℕ
     n = open_refusal (length m) (sizes_of servers slots clients)
@@ -86,13 +86,13 @@ module _ (m out : List ℕ) (at : ℕ) (m' out' : List ℕ) where
         → Came (opened servers slots clients) m out at (record { show = s; at = e }) m' out'
     unfolding opened
     is_opened u s e z a p =
-        let h : n ≡ 0 = sym q ∙ ap refused z in
+        let h : n ≡ 0 = sym q ∙ ap refused_by z in
         came_to _ (progress (awaits (StepLine 0)) (store_line servers slots clients) (words_opened (length m) (sizes_of servers slots clients) (view m)))
         (rw h) _ a p w
 
     module _ (r : Refusal) (z : o ≡ Err r) where
       number : n ≡ number_of r
-      number = sym q ∙ ap refused z
+      number = sym q ∙ ap refused_by z
 
       not_opened : (n ≢ 0)
       not_opened h = number_above r (sym number ∙ h)
