@@ -42,7 +42,8 @@ pub fn client_at(sizes: Sizes, client: usize) -> usize
     8 + 8 * part_words(sizes.slots) + CLIENT_WORDS * client
 }
 
-// A client's part of the memory, to be read.
+// A client's part of the memory, to be read. One to be written is lent where it is written: of a `&mut` that is handed back no contract says how it
+// is left.
 pub fn client_part(mem: &[u8], sizes: Sizes, client: usize) -> &[u8]
     requires { AtClient sizes (length mem.now) client }
     ensures part { ClientPart result.now }

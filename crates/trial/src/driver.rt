@@ -115,6 +115,7 @@ fn schedule(
         slots: profile.slots as usize,
         clients: profile.clients as usize,
     };
+    // The sizes of a profile fit the memory lent; a store that is refused stays closed, and its steps are refused.
     let _ = engine::open::open(memory, sizes);
     let mut trial = Trial {
         profile,
