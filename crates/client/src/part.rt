@@ -47,7 +47,7 @@ pub const META_ROOT: usize = 13;
 
 pub const META_VERSION: usize = 14;
 
-// The phases of a transaction.
+// The phases of a transaction: numbers, since they stand in a word of the memory, which may be any number there; `phase_fits` says which are refused.
 pub const NO_TRANSACTION: u64 = 0;
 
 pub const OPEN: u64 = 1;

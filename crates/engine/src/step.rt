@@ -25,7 +25,7 @@ use steps::outcome::Outcome;
 use steps::sizes::Sizes;
 use steps::step::{Kind, Step};
 
-// A step's kind, and the number of the operation that waits.
+// A step's kind, and the number of the operation that waits: numbers, as they stand in the step and in the client's part.
 const WORK: u64 = 2;
 
 const LIST: u64 = 7;

@@ -8,7 +8,7 @@ ghost use Rattle.nodes.specs.Bounds.{keys_to_split, most_keys, wide_room};
 use crate::arrays::{inserted, joined, removed, section};
 use crate::node::{Node, slots_beyond};
 
-// A node with room for two neighbours and their separator.
+// A node with room for two neighbours and their separator. A type of its own: what may be overfull is never stored.
 #[derive(Clone, Copy)]
 pub struct Wide {
     pub kind: u64,

@@ -5,7 +5,8 @@ ghost use Rattle.nodes.specs.Place.{rises};
 ghost use Rattle.nodes.specs.Bounds.{most_children, most_keys};
 
 // "A node has a kind (0 free, 1 leaf, 2 inner), a level, a 32-bit version, at most 14 keys in strictly rising order,
-// and 14 values (leaf) or one child more than keys (inner)."
+// and 14 values (leaf) or one child more than keys (inner)." The kind is a number and the lists have the count beside them, since any 33 words
+// of the memory are a node (`node_of`); `node_in_range` says which are refused.
 #[derive(Clone, Copy)]
 pub struct Node {
     pub kind: u64,

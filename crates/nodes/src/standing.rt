@@ -67,7 +67,7 @@ pub fn in_range_at(s: &[u8], b: usize) -> bool
     )
 }
 
-// The place of a key, and whether the key is there.
+// The place of a key, and whether the key is there. No Option: where it isn't there the place is wanted too, as the one where it would go.
 #[derive(Clone, Copy)]
 pub struct KeyPlace {
     pub place: usize,

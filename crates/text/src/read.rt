@@ -10,7 +10,8 @@ pub enum Line {
 }
 
 // What the bytes read so far say: the numbers that a space ended, the number whose digits came since, if any did, and whether the
-// line can still be good. The numbers lie in an array beside their count, since nothing is allocated here.
+// line can still be good. The numbers lie in an array beside their count, since nothing is allocated here. `good` stays a flag: a line that is spoiled is
+// read to its end all the same, and `spoiled` says that the rest stays as it was.
 #[derive(Clone, Copy)]
 pub struct Reader {
     pub numbers: [u64; 5],
