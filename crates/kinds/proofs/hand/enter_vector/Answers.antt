@@ -1,0 +1,6 @@
+use Rattle.std.proofs.Common.{rules}
+use Rattle.kinds.specs.Laws.Hand.{entered_then}
+use Rattle.kinds.proofs.hand.enter_vector.Goals as goal
+
+pub returns : goal.returns
+returns c = search (entered_then, rules)
