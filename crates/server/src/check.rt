@@ -7,9 +7,9 @@ ghost use Rattle.server.specs.Object.{Has};
 ghost use Rattle.server.specs.Check.{can_check, mark_place, mark_in, standing, mark_fits, mark_finding};
 ghost use Rattle.nodes.specs.Bounds.{end_of_slots};
 
-use nodes::object::Object;
 use crate::place::{Place, get};
 use memory::bits;
+use nodes::object::Object;
 
 // The answer of a check, 2 before 1: the object is as it was read; it differs (reason 1); it is locked against the use (reason 2); or a
 // mark is out of range (refusal 10).

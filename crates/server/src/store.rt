@@ -7,11 +7,11 @@ ghost use Rattle.nodes.specs.Bounds.{end_of_slots, last_version, most_clients};
 
 use crate::lock::{with_lock, without_lock};
 use crate::object::lock_place;
-use nodes::object::Object;
 use crate::place::{Place, get, index, put};
 use memory::bits;
 use nodes::name::Name;
 use nodes::node::Node;
+use nodes::object::Object;
 use nodes::stored;
 
 // A client locks an object, for writing or for reading.

@@ -8,7 +8,6 @@ use Rattle.std.proofs.lemmas.List.Edits.{sets, sets-eq}
 use Rattle.std.proofs.lemmas.List.{take-append-le, drop-append-le, get_or_at, set_at}
 use Rattle.std.proofs.Math.Seq.{length-sets}
 use Rattle.std.proofs.Math.Nat.{add_assoc}
-use Rattle.std.specs.Int.{w64, from_le_bytes, to_le_bytes}
 use Rattle.memory.specs.Word.{bytes_value, view_n, view}
 
 -- the n lowest bytes of a number, lowest first
@@ -49,17 +48,6 @@ value_digits zero v h = omega arith
 value_digits (suc n) v h =
     let p : v < 256 ^ n * 256 = rw pow-suc at h in
     rw (value_digits n (v / 256) (omega arith)) (omega arith)
-
--- and are those that the library makes of it
-le_digits : (v : ℕ) → to_le_bytes w64 v ≡ digits 8 v
-le_digits v =
-    let two : v / 65536 ≡ v / 256 / 256 = omega arith in
-    let three : v / 16777216 ≡ v / 256 / 256 / 256 = omega arith in
-    let four : v / 4294967296 ≡ v / 256 / 256 / 256 / 256 = omega arith in
-    let five : v / 1099511627776 ≡ v / 256 / 256 / 256 / 256 / 256 = omega arith in
-    let six : v / 281474976710656 ≡ v / 256 / 256 / 256 / 256 / 256 / 256 = omega arith in
-    let seven : v / 72057594037927936 ≡ v / 256 / 256 / 256 / 256 / 256 / 256 / 256 = omega arith in
-    rw (two, three, four, five, six, seven) refl
 
 nil : {A : Type 0} (x : List A) → length x ≡ 0 → x ≡ []
 nil [] e = refl
@@ -183,18 +171,6 @@ module _ (s : List ℕ) (i : ℕ) (h : i < length s / 8) where
   pub length_put : (v : ℕ) → length (put_word s i v) ≡ length s
   unfolding put_word
   length_put v = length-sets s (8 * i) (digits 8 v)
-
-  -- the same of eight bytes that the library reads as one number, or makes of one
-  pub read_le : (b : List ℕ) → b ≡ take 8 rest → from_le_bytes w64 b ≡ get_or (view s) i 0
-  unfolding word_at
-  read_le b e = rw (← view_get, e, at_word) (omega arith)
-
-  pub write_le : (v : ℕ) → v < 2 ^ 64 → view (front ++ (to_le_bytes w64 v ++ drop 8 rest)) ≡ set (view s) i v
-  write_le v f =
-      let value : bytes_value (to_le_bytes w64 v) ≡ v = ap bytes_value (le_digits v) ∙ value_digits 8 v f in
-      view_append i front _ (length-take-le (8 * i) s low)
-      ∙ ap (λ (r : List ℕ). view front ++ r) (view_word (to_le_bytes w64 v) (drop 8 rest) refl ∙ ap (λ (a : ℕ). a ∷ view (drop 8 rest)) value)
-      ∙ sym (rw parts (set_at (view front) (word_at s i) (view (drop 8 rest)) v i front_words))
 
 bytes_take : (n : ℕ) (s : List ℕ) → Bytes s → Bytes (take n s)
 bytes_take n s b k h =

@@ -10,6 +10,6 @@ returns-in-BadSizes-clause-came c = search (is_refused, rules)
 
 pub returns-in_default : goal.returns-in_default
 returns-in_default c = record {
-    came = is_too_large _ _ _ _ _ _ _ _ _ c.open.ensures.value c.open.ensures.words c.in-Err.refusal c.in-Err.is c.bad.result c.in_default.not-BadSizes c.bad.ensures.show_value c.bad.ensures.printed;
-    short = c.bad.ensures.short;
-  }
+  came = is_too_large _ _ _ _ _ _ _ _ _ c.open.ensures.value c.open.ensures.words c.in-Err.refusal c.in-Err.is c.bad.result c.in_default.not-BadSizes c.bad.ensures.show_value c.bad.ensures.printed;
+  short = c.bad.ensures.short;
+}
