@@ -14,7 +14,7 @@ use Rattle.nodes.specs.Stored.{node_at}
 use Rattle.nodes.specs.Range.{node_in_range}
 use Rattle.nodes.specs.Name.{server_of, slot_of}
 use Rattle.nodes.specs.States.{metadata_fits}
-use Rattle.operations.specs.Object.{Obj, node, Ask, object, vector, fetched, Val, flags}
+use Rattle.operations.specs.Object.{Obj, Ask, object, vector, fetched, Val, flags}
 use Rattle.client.specs.declared.answer.Have.{Have}
 use Rattle.client.specs.declared.answer.Have.TheVariants as code
 use Rattle.client.specs.declared.answer.Short.{Short}
@@ -108,6 +108,12 @@ short_as Lacking r = code.Lacking
 abbrev pub short : Look → Have Short
 short l = short_as l.how l.node
 
+-- its numbers as the code has them, and 0 where it has nothing
+abbrev pub short_in : Have Short → Short
+short_in (code.Here s) = s
+short_in (code.Copied s) = s
+short_in code.Lacking = record { version = 0; value = 0; states = 0 }
+
 -- back to a record of the metadata
 abbrev pub metadata_of : Short → Node
 metadata_of s = metadata s.version s.value s.states
@@ -179,19 +185,12 @@ unfoldable pub stand_usable : List ℕ → Have ℕ → Bool
 stand_usable w f = is_found (how f) && node_usable (how f) (stood w f).node
 
 -- may the metadata be used, as the code has it
-abbrev pub short_meta_usable : ℕ → Short → Bool
-short_meta_usable slots s = metadata_fits slots s.value s.states s.version
+unfoldable pub meta_usable : ℕ → Short → Bool
+meta_usable slots s = metadata_fits slots s.value s.states s.version
 
-unfoldable pub meta_usable : ℕ → Have Short → Bool
-meta_usable slots (code.Here s) = short_meta_usable slots s
-meta_usable slots (code.Copied s) = short_meta_usable slots s
-meta_usable slots code.Lacking = false
-
--- may the flag of that name be used, as the code has it
-unfoldable pub flag_usable : (ClientWord → ℕ) → ℕ → Have Short → Bool
-flag_usable m n (code.Here s) = leb s.value 1
-flag_usable m n (code.Copied s) = leb s.value 1 && eqb (m (vector_word (server_of n) 0)) 1
-flag_usable m n code.Lacking = false
+-- may the flag of that name be used, known in that way, as the code has it
+unfoldable pub flag_usable : (ClientWord → ℕ) → ℕ → How → Short → Bool
+flag_usable m n h s = leb s.value 1 && (not (is_copied h) || eqb (m (vector_word (server_of n) 0)) 1)
 
 module _ (slots : ℕ) (m : ClientWord → ℕ) where
   -- the record is in range, and where it is a copy, so is that

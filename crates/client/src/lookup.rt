@@ -3,7 +3,7 @@ ghost use Rattle.std.specs.Prelude.{◌≡◌, ◌+◌, ◌<◌, ◌≤◌, opti
 ghost use Rattle.memory.specs.Word.{view};
 ghost use Rattle.nodes.specs.Stored.{node_at};
 ghost use Rattle.client.specs.Sets.{held};
-ghost use Rattle.client.specs.Have.{stood, short, short_of, StandsInPart, OptionInPart, IsNode, InSets, copied, copied_meta, copied_node, copied_flag, copy_or_lacking, metadata_of, source, stand_usable, meta_usable, flag_usable};
+ghost use Rattle.client.specs.Have.{how, stood, short, short_of, short_in, StandsInPart, OptionInPart, IsNode, InSets, copied, copied_meta, copied_node, copied_flag, copy_or_lacking, metadata_of, source, stand_usable, meta_usable, flag_usable};
 ghost use Rattle.client.specs.Record.{single};
 ghost use Rattle.client.specs.Layout.{record_words, client_length, ClientPart};
 ghost use Rattle.client.specs.Bounds.{end_of_names, end_of_numbers, first_flag_number};
@@ -175,7 +175,7 @@ pub fn stand_fits(part: &[u8], found: Have<usize>) -> bool
 
 // May the metadata that was found be used?
 pub fn meta_fits(slots: usize, found: Have<Short>) -> bool
-    ensures { result ≡ meta_usable slots found }
+    ensures { result ≡ meta_usable slots (short_in found) }
 {
     match found {
         Have::Here(m) | Have::Copied(m) => metadata_fits(slots, m.value, m.states, m.version),
@@ -186,12 +186,12 @@ pub fn meta_fits(slots: usize, found: Have<Short>) -> bool
 // May the flag that was found be used? So must its server's vector.
 pub fn flag_fits(part: &[u8], name: u64, found: Have<Short>) -> bool
     requires { (name < end_of_names) × ClientPart part.now }
-    ensures { result ≡ flag_usable (held part.now) name found }
+    ensures { result ≡ flag_usable (held part.now) name (how found) (short_in found) }
 {
     let flag = Name { number: name };
     match found {
         Have::Here(f) => f.value <= 1,
         Have::Copied(f) => f.value <= 1 && vector_word(part, flag.server() as usize, 0) == 1,
-        Have::Lacking => false,
+        Have::Lacking => true,
     }
 }

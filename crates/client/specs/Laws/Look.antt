@@ -8,14 +8,14 @@ use borrow.Author.Tests.{eq-eqb, ne_eqb, le-leb, lt-leb, not-true, not-false}
 use Rattle.memory.specs.Word.{view}
 use Rattle.memory.specs.Bit.{bit}
 use Rattle.layout.specs.Space.{at}
-use Rattle.nodes.specs.Name.{server_of, slot_of}
+use Rattle.nodes.specs.Name.{server_of, slot_of, name_in_store}
 use Rattle.nodes.specs.declared.node.Node.{Node}
 use Rattle.nodes.specs.Found.{Found}
 use Rattle.std.specs.Prelude.{Some, None}
 use Rattle.nodes.specs.Stored.{node_at}
 use Rattle.nodes.specs.Range.{node_in_range}
 pub use Rattle.nodes.proofs.Laws.Found.{found_inside}
-use Rattle.nodes.specs.States.{metadata_fits}
+use Rattle.nodes.specs.States.{metadata_fits, states_fit}
 use Rattle.nodes.specs.Lists.{pad}
 use Rattle.nodes.specs.Node.{made}
 use Rattle.base.specs.Test.{one_if}
@@ -27,7 +27,7 @@ use Rattle.client.specs.Layout.{ClientWord, client_words, client_block, field, i
 use Rattle.client.specs.declared.part.Set.TheVariants.{Reads, Writes, Copies}
 use Rattle.client.specs.Sets.{held, record_at, find}
 use Rattle.client.specs.Record.{first_slot, second_slot, single, metadata, record_in_range}
-use Rattle.client.specs.Have.{How, Here, Copied, Lacking, Look, here, copy, lacking, is_found, is_copied, short_of, short, metadata_of, IsNode, source, copied_meta, copied_node, copied_flag, copied, copy_fits, node_usable, stand_usable, meta_usable, flag_usable, look_fits}
+use Rattle.client.specs.Have.{How, Here, Copied, Lacking, Look, here, copy, lacking, known_as, how, is_found, is_copied, short_of, short_as, short, short_in, metadata_of, IsNode, source, copied_meta, copied_node, copied_flag, copied, copy_fits, node_usable, stand_usable, meta_usable, flag_usable, look_fits}
 use Rattle.client.specs.Laws.Part.{record_there}
 
 -- copies
@@ -162,24 +162,38 @@ stand_lacking w = refl
 
 pub ruleset stand_exits = (stand_here, stand_unfit, stand_copy, stand_lacking)
 
-module _ (m : ClientWord → ℕ) (n : ℕ) (s : Short) where
-  pub flag_here : leb s.value 1 ≡ flag_usable m n (code.Here s)
-  unfolding flag_usable
-  flag_here = refl
+and_true : (a : Bool) → (a && true) ≡ a
+and_true true = refl
+and_true false = refl
 
-  pub flag_wide : 1 < s.value → false ≡ flag_usable m n (code.Copied s)
+and_false : (a : Bool) → (a && false) ≡ false
+and_false true = refl
+and_false false = refl
+
+module _ (m : ClientWord → ℕ) (n : ℕ) (h : How) (s : Short) where
+  pub flag_wide : 1 < s.value → false ≡ flag_usable m n h s
   unfolding flag_usable
   flag_wide w = rw (lt-leb _ _ w)
 
-  pub flag_copy : (k y : ℕ) → s.value ≤ 1 → k ≡ server_of n → y ≡ m (vector_word k 0) → eqb y 1 ≡ flag_usable m n (code.Copied s)
+  -- no copy, whatever its value
+  pub flag_no_copy : (c : Bool) → c ≡ is_copied h → c ≡ false → leb s.value 1 ≡ flag_usable m n h s
   unfolding flag_usable
-  flag_copy k y w o e = rw (le-leb _ _ w, ← o, ← e)
+  flag_no_copy c q u = rw (← q, u) (sym (and_true (leb s.value 1)))
 
-pub flag_none : (m : ClientWord → ℕ) (n : ℕ) → false ≡ flag_usable m n code.Lacking
-unfolding flag_usable
-flag_none m n = refl
+  module _ (c : Bool) (w : s.value ≤ 1) (q : c ≡ is_copied h) where
+    pub flag_copy : (k y : ℕ) → c ≡ true → k ≡ server_of n → y ≡ m (vector_word k 0) → eqb y 1 ≡ flag_usable m n h s
+    unfolding flag_usable
+    flag_copy k y u o e = rw (le-leb _ _ w, ← q, u, ← o, ← e)
 
-pub ruleset flag_exits = (flag_here, flag_wide, flag_copy, flag_none)
+    pub flag_here : c ≡ false → true ≡ flag_usable m n h s
+    flag_here u = sym (le-leb _ _ w) ∙ flag_no_copy c q u
+
+pub ruleset flag_exits = (flag_wide, flag_copy, flag_here, flag_no_copy)
+
+-- the numbers of no metadata: there is no server
+pub meta_none : (slots : ℕ) → false ≡ meta_usable slots (short_in code.Lacking)
+unfolding meta_usable metadata_fits states_fit
+meta_none slots = sym (and_false (name_in_store slots 0))
 
 never : true ≡ false → ⊥
 never e = let z : ◌≡◌ {A = ℕ} 0 1 = cc in omega arith
@@ -190,33 +204,36 @@ module _ (slots : ℕ) (m : ClientWord → ℕ) where
   unfolding look_fits record_in_range copy_fits node_usable
   node_usable_is x l k = rw (ne_eqb _ _ k.some, le-leb _ _ k.most)
 
-  and_true : (a : Bool) → (a && true) ≡ a
-  and_true true = refl
-  and_true false = refl
-
-  pub meta_usable_is : (l : Look) → is_found l.how ≡ true → look_fits slots m 0 l ≡ meta_usable slots (short l)
+  pub meta_usable_is : (l : Look) → look_fits slots m 0 l ≡ meta_usable slots (short_of l.node)
   unfolding look_fits record_in_range copy_fits meta_usable
-  meta_usable_is l t = go l.how refl t
+  meta_usable_is l = go (metadata_fits slots (first_slot l.node) (second_slot l.node) l.node.version) (not (is_copied l.how))
     where
-      go : (h : How) → l.how ≡ h → is_found h ≡ true → look_fits slots m 0 l ≡ meta_usable slots (short l)
-      go Here e t = rw e (and_true _)
-      go Copied e t = rw e (and_true _)
-      go Lacking e t = absurd (never (sym t))
+      go : (a b : Bool) → (a && (b || true)) ≡ a
+      go false b = refl
+      go true true = refl
+      go true false = refl
 
-  pub flag_usable_is : (n : ℕ) (l : Look) → is_found l.how ≡ true → look_fits slots m (8193 + n) l ≡ flag_usable m n (short l)
+  pub flag_usable_is : (n : ℕ) (l : Look) → look_fits slots m (8193 + n) l ≡ flag_usable m n l.how (short_of l.node)
   unfolding look_fits record_in_range copy_fits flag_usable
-  flag_usable_is n l t = go l.how refl t
+  flag_usable_is n l =
+      let d : 8193 + n ≡ 0 → ⊥ = λ e. omega arith in
+      let h : 8192 < 8193 + n = omega arith in
+      let q : 8193 + n - 8193 ≡ n = omega arith in
+      rw (ne_eqb _ _ d, lt-leb _ _ h, q)
+
+  -- with the numbers that the code has of a record that is there
+  pub meta_fits_is : (l : Look) → is_found l.how ≡ true → look_fits slots m 0 l ≡ meta_usable slots (short_in (short l))
+  meta_fits_is l t = go l.how t
     where
-      d : 8193 + n ≡ 0 → ⊥
-      d e = omega arith
+      go : (h : How) → is_found h ≡ true → look_fits slots m 0 (known_as h l.node) ≡ meta_usable slots (short_in (short_as h l.node))
+      go Here t = meta_usable_is (here l.node)
+      go Copied t = meta_usable_is (copy l.node)
+      go Lacking t = absurd (never (sym t))
 
-      h : 8192 < 8193 + n
-      h = omega arith
-
-      q : 8193 + n - 8193 ≡ n
-      q = omega arith
-
-      go : (k : How) → l.how ≡ k → is_found k ≡ true → look_fits slots m (8193 + n) l ≡ flag_usable m n (short l)
-      go Here e t = rw (e, ne_eqb _ _ d, lt-leb _ _ h) (and_true _)
-      go Copied e t = rw (e, ne_eqb _ _ d, lt-leb _ _ h, q)
-      go Lacking e t = absurd (never (sym t))
+  pub flag_fits_is : (n : ℕ) (l : Look) → is_found l.how ≡ true → look_fits slots m (8193 + n) l ≡ flag_usable m n (how (short l)) (short_in (short l))
+  flag_fits_is n l t = go l.how t
+    where
+      go : (h : How) → is_found h ≡ true → look_fits slots m (8193 + n) (known_as h l.node) ≡ flag_usable m n (how (short_as h l.node)) (short_in (short_as h l.node))
+      go Here t = flag_usable_is n (here l.node)
+      go Copied t = flag_usable_is n (copy l.node)
+      go Lacking t = absurd (never (sym t))

@@ -34,8 +34,8 @@ use Rattle.client.specs.declared.part.Set.TheVariants.{Reads, Copies}
 use Rattle.client.specs.Layout.{ClientWord, reads_count, meta_states, vector_word}
 use Rattle.client.specs.Record.{number, object_in_store, in_store, first_slot, second_slot, value_of, single, metadata, record_in_range}
 use Rattle.client.specs.Sets.{held, count, find, first_of}
-use Rattle.client.specs.Have.{How, Look, is_copied, is_found, how, Has, stood, StandsInPart, short_of, short_as, short, IsNode, node_usable, stand_usable, meta_usable, flag_usable, copied, copied_meta, copied_item, copied_node, copied_flag, copy_fits, source, look_fits, have, broken}
-use Rattle.client.specs.Laws.Look.{node_usable_is, meta_usable_is, flag_usable_is}
+use Rattle.client.specs.Have.{How, Look, is_copied, is_found, how, Has, stood, StandsInPart, short_of, short_as, short, short_in, IsNode, node_usable, stand_usable, meta_usable, flag_usable, copied, copied_meta, copied_item, copied_node, copied_flag, copy_fits, source, look_fits, have, broken}
+use Rattle.client.specs.Laws.Look.{node_usable_is, meta_fits_is, flag_fits_is}
 use Rattle.client.specs.Run.{lacks, Ran, ran, among, run}
 use Rattle.client.specs.Lent.{own_find, own_first, own_record, own_list, Lent, used_in, pushed}
 use Rattle.client.specs.Answered.{entered}
@@ -734,10 +734,10 @@ short_is l s = go l.how
     go known.Lacking e = absurd e
 
 -- a flag of the store
-module _ (m : ClientWord → ℕ) (u : List ℕ) (n k y : ℕ) (f : Have Short) (right : Bool) (u' : List ℕ) (e : k ≡ 8193 + n) (o : y ≡ server_of n) (sh : f ≡ short (source m (8193 + n))) (pr : right ≡ flag_usable m n f) where
+module _ (m : ClientWord → ℕ) (u : List ℕ) (n k y : ℕ) (f : Have Short) (right : Bool) (u' : List ℕ) (e : k ≡ 8193 + n) (o : y ≡ server_of n) (sh : f ≡ short (source m (8193 + n))) (pr : right ≡ flag_usable m n (how f) (short_in f)) where
   flag_numbered : (s : Course) → Meets m u k (how f) right (LacksVector y) s u' → (slots : ℕ) → Numbered slots m nothing u (8193 + n) (LacksVector (server_of n)) s (given s (source m (8193 + n)).node) u'
   flag_numbered s g slots =
-      rw (o, e) at (g.numbered slots (rw e how_is) (λ t. rw e (pr ∙ ap (flag_usable m n) sh ∙ sym (flag_usable_is slots m n (source m (8193 + n)) (rw how_is at t)))))
+      rw (o, e) at (g.numbered slots (rw e how_is) (λ t. rw e (pr ∙ ap (λ (g : Have Short). flag_usable m n (how g) (short_in g)) sh ∙ sym (flag_fits_is slots m n (source m (8193 + n)) (rw how_is at t)))))
     where
       how_is : how f ≡ (source m (8193 + n)).how
       how_is = ap how sh ∙ short_how (source m (8193 + n))
@@ -753,11 +753,11 @@ module _ (m : ClientWord → ℕ) (u : List ℕ) (n k y : ℕ) (f : Have Short) 
 pub ruleset flag_ways = (flag_met, flag_unmet)
 
 -- the metadata
-module _ (slots : ℕ) (m : ClientWord → ℕ) (u : List ℕ) (f : Have Short) (right : Bool) (u' : List ℕ) (sh : f ≡ short (source m 0)) (pr : right ≡ meta_usable slots f) where
+module _ (slots : ℕ) (m : ClientWord → ℕ) (u : List ℕ) (f : Have Short) (right : Bool) (u' : List ℕ) (sh : f ≡ short (source m 0)) (pr : right ≡ meta_usable slots (short_in f)) where
   meta_asked : (s : Course) → Meets m u 0 (how f) right LacksMeta s u' → Asked slots m nothing u meta s (given s (source m 0).node) u'
   meta_asked s g =
       let how_is : how f ≡ (source m 0).how = ap how sh ∙ short_how (source m 0) in
-      let h = g.numbered slots how_is (λ t. pr ∙ ap (meta_usable slots) sh ∙ sym (meta_usable_is slots m (source m 0) (rw how_is at t))) in
+      let h = g.numbered slots how_is (λ t. pr ∙ ap (λ (g : Have Short). meta_usable slots (short_in g)) sh ∙ sym (meta_fits_is slots m (source m 0) (rw how_is at t))) in
       record { asks = λ w hold. h.asks meta refl refl refl w hold; noted = h.noted; long = h.long; inside = λ t. refl; small = tt }
 
   pub meta_met : (s : Short) → Meets m u 0 (how f) right LacksMeta Going u' → Has f s → Asked slots m nothing u meta Going (metadata 0 s.value s.states) u'
