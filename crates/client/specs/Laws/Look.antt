@@ -69,15 +69,20 @@ module _ (m : ClientWord → ℕ) where
 
 pub ruleset copied_exits = (copied_0, copied_1, copied_2)
 
-module _ (b : List ℕ) (l : 7223 ≤ length b / 8) (x : ℕ) (g : Found) where
-  module _ (e : g ≡ find (held b) Copies x) where
-    pub node_lacking : g ≡ None → lacking ≡ copied_node (held b) x
-    unfolding copied_node
-    node_lacking d = rw (← e, d)
+module _ (m : ClientWord → ℕ) (r : Look) (x : ℕ) (g : Found) (e : g ≡ find m Copies x) where
+  pub node_lacking : g ≡ None → r ≡ lacking → r ≡ copied_node m x
+  unfolding copied_node
+  node_lacking d p = rw (← e, d) p
 
-    pub node_there : (i a : ℕ) → i < limit Copies → g ≡ Some i → a ≡ at client_words client_block (item Copies i 1) → a + 33 ≤ 7223 → copy (node_at (view b) a) ≡ copied_node (held b) x
-    unfolding copied_node
-    node_there i a h d p w = rw (← e, d, record_there b Copies i a h p w l)
+  pub node_there : (i : ℕ) (n : Node) → g ≡ Some i → n ≡ record_at m Copies i → r ≡ copy n → r ≡ copied_node m x
+  unfolding copied_node
+  node_there i n d q p = rw (← e, d, ← q) p
+
+module _ (b : List ℕ) (l : 7223 ≤ length b / 8) (x : ℕ) (g : Found) where
+  -- where a copy stands
+  pub node_stood : g ≡ find (held b) Copies x → (i a : ℕ) → i < limit Copies → g ≡ Some i → a ≡ at client_words client_block (item Copies i 1) → a + 33 ≤ 7223
+      → copy (node_at (view b) a) ≡ copied_node (held b) x
+  node_stood e i a h d p w = node_there (held b) (copy (node_at (view b) a)) x g e i (node_at (view b) a) d (record_there b Copies i a h p w l) refl
 
   -- where an object stands in the sets
   module _ (e : g ≡ find (held b) Writes x) where
@@ -94,7 +99,7 @@ module _ (b : List ℕ) (l : 7223 ≤ length b / 8) (x : ℕ) (g : Found) where
       unfolding source
       sets_neither d = rw (← e, q, ← o, d)
 
-pub ruleset node_copies = (node_lacking, node_there, found_inside)
+pub ruleset node_copies = (node_lacking, node_stood, found_inside)
 
 pub ruleset sets_exits = (sets_written, sets_read, sets_neither, found_inside)
 
@@ -139,22 +144,36 @@ module _ (m : ClientWord → ℕ) (x : ℕ) (a : source m x ≡ copied m x) wher
 pub ruleset short_exits = (short_here, short_meta, short_meta_lacking, short_flag, short_flag_lacking)
 
 -- may what was found be used
+module _ (h : How) (r : Node) (b : Bool) (p : b ≡ node_in_range r) where
+  pub node_unfit : not b ≡ true → false ≡ node_usable h r
+  unfolding node_usable
+  node_unfit t = rw (← p, not-true b t)
+
+  module _ (c : Bool) (t : not b ≡ false) (q : c ≡ is_copied h) where
+    pub node_copy : (k : ℕ) → c ≡ true → k ≡ r.kind → eqb k 2 ≡ node_usable h r
+    unfolding node_usable
+    node_copy k u e = rw (← p, not-false b t, ← q, u, e)
+
+    pub node_here : c ≡ false → true ≡ node_usable h r
+    unfolding node_usable
+    node_here u = rw (← p, not-false b t, ← q, u)
+
 module _ (w : List ℕ) (at : ℕ) (b : Bool) (p : b ≡ node_in_range (node_at w at)) where
   pub stand_here : b ≡ stand_usable w (code.Here at)
-  unfolding stand_usable node_usable
+  unfolding stand_usable
   stand_here = go b p
     where
       go : (c : Bool) → c ≡ node_in_range (node_at w at) → c ≡ stand_usable w (code.Here at)
-      go true e = rw (← e)
-      go false e = rw (← e)
+      go true e = node_here Here (node_at w at) true e false refl refl refl
+      go false e = node_unfit Here (node_at w at) false e refl
 
   pub stand_unfit : b ≡ false → false ≡ stand_usable w (code.Copied at)
-  unfolding stand_usable node_usable
-  stand_unfit t = rw (← p, t)
+  unfolding stand_usable
+  stand_unfit t = node_unfit Copied (node_at w at) b p (rw t)
 
   pub stand_copy : (k : ℕ) → b ≡ true → k ≡ (node_at w at).kind → eqb k 2 ≡ stand_usable w (code.Copied at)
-  unfolding stand_usable node_usable
-  stand_copy k t e = rw (← p, t, e)
+  unfolding stand_usable
+  stand_copy k t e = node_copy Copied (node_at w at) b p true (rw t) refl k refl e
 
 pub stand_lacking : (w : List ℕ) → false ≡ stand_usable w code.Lacking
 unfolding stand_usable
