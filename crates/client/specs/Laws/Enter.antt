@@ -1,6 +1,6 @@
 -- How objects enter the sets.
-use Rattle.std.specs.Prelude.{◌≡◌, refl, cond, List, [], ◌∷◌, ◌++◌, ℕ, zero, suc, ◌+◌, ◌*◌, ◌/◌, ◌≤◌, ◌<◌, ltb, length, get_or}
-use Rattle.std.proofs.Common.{sym, ◌∙◌, subst, append_assoc, append-nil, arith, add-one}
+use Rattle.std.specs.Prelude.{◌≡◌, refl, cond, List, [], ◌∷◌, ◌++◌, ℕ, zero, suc, ◌+◌, ◌*◌, ◌/◌, ◌≤◌, ◌<◌, ltb, length, get_or, take, drop}
+use Rattle.std.proofs.Common.{sym, ◌∙◌, subst, append_assoc, append-nil, arith, one-add, get_or-take, get_or-drop}
 use borrow.Author.Tests.{ltb-true, lt-ltb, le-ltb}
 use Rattle.layout.specs.Space.{changed}
 use Rattle.layout.specs.Step.{and_then}
@@ -12,10 +12,11 @@ use Rattle.std.specs.Prelude.{Some, None}
 use Rattle.client.specs.declared.part.Set.TheVariants.{Reads, Writes}
 use Rattle.client.specs.Layout.{ClientWord, client_words}
 use Rattle.client.specs.Sets.{held, count, find}
-use Rattle.client.specs.Part.{Did, ◌then◌, nothing, put_field, put_item}
+use Rattle.client.specs.Part.{PartStep, Did, ◌then◌, nothing, put_field, put_item}
 use Rattle.client.specs.Laws.Steps.{Good, EachGood, did_then, did_as, did_nothing, good_then, good_nothing, good_field, good_item, good_cond, good_by, find_limit, swept_all}
 use Rattle.client.specs.Have.{copied}
-use Rattle.client.specs.Lent.{Entry, own_count, own_number, own_record, own_first, own_list}
+use Rattle.client.specs.Lent.{Entry, InUse, used_in, own_count, own_number, own_record, own_first, own_list}
+use Rattle.client.specs.Laws.Lent.{length_used}
 use Rattle.client.specs.Answered.{used_enter}
 use Rattle.client.specs.Enter.{read_behind, enter_read, enter_copy, enter_nth, enter_used, written_behind, enter_at, enter_write, write_nth, enter_entries}
 
@@ -46,16 +47,37 @@ pub good_nth : (u : List ℕ) → EachGood (enter_nth u)
 unfolding enter_nth enter_copy
 good_nth u = record { each = λ j. good_by (λ m. enter_read (get_or u (j + 1) 0) (copied m (get_or u (j + 1) 0)).node) (λ m. good_read (get_or u (j + 1) 0) (copied m (get_or u (j + 1) 0)).node) }
 
--- the numbers of a list, one after another
-pub nth_entered : (n : ℕ) (xs s t : List ℕ) (i : ℕ) → Did (enter_copy (get_or xs i 0)) s t → Did (enter_nth (n ∷ xs) i) s t
+pub nth_entered : (u s t : List ℕ) (i : ℕ) → Did (enter_copy (get_or u (i + 1) 0)) s t → Did (enter_nth u i) s t
 unfolding enter_nth
-nth_entered n xs s t i p = rw add-one p
+nth_entered u s t i p = p
 
-pub used_entered : (xs us s t : List ℕ) (i : ℕ) → xs ≡ us → i ≤ length xs → length xs ≤ i → Did (sweep client_words (enter_nth (length xs ∷ xs)) i) s t → Did (used_enter us) s t
+-- the numbers of a list, one after another
+pub numbers_entered : (xs us s t : List ℕ) (i : ℕ) → xs ≡ us → i ≤ length xs → length xs ≤ i → Did (sweep client_words (enter_nth (length xs ∷ xs)) i) s t → Did (used_enter us) s t
 unfolding used_enter enter_used
-used_entered xs us s t i e a b p =
+numbers_entered xs us s t i e a b p =
     let q = swept_all (enter_nth (length xs ∷ xs)) (length xs) i s t a b p in
     subst (λ (l : List ℕ). Did (used_enter l) s t) e (unfold used_enter enter_used in q)
+
+-- and those in the lent list itself
+sweep_same : (g h : ℕ → PartStep) (n : ℕ) (m : ClientWord → ℕ) → ((i : ℕ) → i < n → g i ≡ h i) → sweep client_words g n m ≡ sweep client_words h n m
+unfolding sweep and_then
+sweep_same g h zero m e = refl
+sweep_same g h (suc n) m e = rw (sweep_same g h n m (λ i l. e i (omega arith)), e n (omega arith))
+
+nth_same : (u : List ℕ) (i : ℕ) → i < get_or u 0 0 → enter_nth u i ≡ enter_nth (length (used_in u) ∷ used_in u) i
+unfolding enter_nth used_in
+nth_same u i h =
+    let e : get_or (take (get_or u 0 0) (drop 1 u)) i 0 ≡ get_or u (1 + i) 0 = get_or-take (get_or u 0 0) (drop 1 u) i 0 h ∙ get_or-drop 1 u i 0 in
+    let z : i + 1 ≡ 1 + i = omega arith in
+    rw (z, one-add i, e, one-add i)
+
+pub used_entered : (u s t : List ℕ) (n i : ℕ) → InUse u → n ≡ get_or u 0 0 → i ≤ n → n ≤ i → Did (sweep client_words (enter_nth u) i) s t → Did (used_enter (used_in u)) s t
+unfolding used_enter enter_used
+used_entered u s t n i f e a b p =
+    let l : length (used_in u) ≡ n = length_used u f ∙ sym e in
+    let q : sweep client_words (enter_nth (length (used_in u) ∷ used_in u)) n (held s) ≡ sweep client_words (enter_nth u) n (held s) =
+    sym (sweep_same (enter_nth u) (enter_nth (length (used_in u) ∷ used_in u)) n (held s) (λ j h. nth_same u j (omega arith))) in
+    did_as (sweep client_words (enter_nth u) n) (used_enter (used_in u)) s t (rw (used_enter, enter_used, l) (rw l at q)) (swept_all (enter_nth u) n i s t a b p)
 
 -- ---- writes
 module _ (s : List ℕ) (x : ℕ) (n : Node) (g : Found) (f : g ≡ find (held s) Writes x) where
