@@ -111,6 +111,10 @@ stands_copied m x r k a e = copied_1 m x r k.some k.most e ∙ sym a
 pub short_here : (s : Short) (r : Node) (l : Look) → s ≡ short_of r → here r ≡ l → code.Here s ≡ short l
 short_here s r l e h = rw (← h, e)
 
+pub short_read : (n : Node) (v x y : ℕ) → v ≡ n.version → x ≡ get_or n.slots 0 0 → y ≡ get_or n.slots 1 0
+    → ◌≡◌ {A = Have Short} (code.Here (record { version = v; value = x; states = y })) (short (here n))
+short_read n v x y p q h = rw (p, q, h)
+
 short_metadata : (s : Short) → short_of (metadata_of s) ≡ s
 unfolding metadata made pad
 short_metadata s = refl
@@ -130,18 +134,18 @@ module _ (m : ClientWord → ℕ) (x : ℕ) (a : source m x ≡ copied m x) wher
   short_meta_lacking z e = short_copied lacking (copied_0 m x lacking z e)
 
   module _ (n : ℕ) (z : x ≡ 8193 + n) where
-    flag_is : (l : Look) → l ≡ copied_flag m n → l ≡ copied m x
-    flag_is l e =
+    pub short_flag : (r : Have Short) → r ≡ short (copied_flag m n) → r ≡ short (source m x)
+    short_flag r e =
         let d : x - 8193 ≡ n = omega arith in
-        copied_2 m x l (λ q. omega arith) (omega arith) (e ∙ ap (copied_flag m) (sym d))
+        e ∙ short_copied (copied_flag m n) (copied_2 m x (copied_flag m n) (λ q. omega arith) (omega arith) (ap (copied_flag m) (sym d)))
 
-    pub short_flag : (v : ℕ) → copy (single 0 v) ≡ copied_flag m n → ◌≡◌ {A = Have Short} (code.Copied (record { version = 0; value = v; states = 0 })) (short (source m x))
-    short_flag v e = ap code.Copied (sym (short_single v)) ∙ short_copied (copy (single 0 v)) (flag_is (copy (single 0 v)) e)
+    pub short_flag_copy : (v : ℕ) → copy (single 0 v) ≡ copied_flag m n → ◌≡◌ {A = Have Short} (code.Copied (record { version = 0; value = v; states = 0 })) (short (source m x))
+    short_flag_copy v e = short_flag (code.Copied (record { version = 0; value = v; states = 0 })) (ap code.Copied (sym (short_single v)) ∙ ap short e)
 
     pub short_flag_lacking : lacking ≡ copied_flag m n → ◌≡◌ {A = Have Short} code.Lacking (short (source m x))
-    short_flag_lacking e = short_copied lacking (flag_is lacking e)
+    short_flag_lacking e = short_flag code.Lacking (ap short e)
 
-pub ruleset short_exits = (short_here, short_meta, short_meta_lacking, short_flag, short_flag_lacking)
+pub ruleset short_exits = (short_here, short_meta, short_meta_lacking, short_flag_copy, short_flag_lacking)
 
 -- may what was found be used
 module _ (h : How) (r : Node) (b : Bool) (p : b ≡ node_in_range r) where

@@ -1,12 +1,12 @@
 -- The turns of the loop that branches, and its ways out.
-use Rattle.std.specs.Prelude.{ℕ, ◌+◌, ◌-◌, ◌≤◌, ◌<◌, ◌≡◌, false, length, get_or, leb, eqb}
-use Rattle.std.proofs.Common.{sym, ◌∙◌, arith, le-leb, lt-ltb}
+use Rattle.std.specs.Prelude.{ℕ, ◌+◌, ◌-◌, ◌≤◌, ◌<◌, ◌≡◌, Bool, false, length, get_or, leb, eqb}
+use Rattle.std.proofs.Common.{sym, ◌∙◌, true≢false, arith, le-leb, lt-ltb}
 use Rattle.std.proofs.lemmas.Bool.{lt-leb}
 use Rattle.base.specs.Test.{one_if}
 use Rattle.nodes.specs.declared.node.Node.{Node}
 use Rattle.nodes.specs.declared.standing.KeyPlace.{KeyPlace}
 use Rattle.nodes.specs.Node.{keys_of}
-use Rattle.nodes.specs.Place.{place, there_at, key_place}
+use Rattle.nodes.specs.Place.{place, there_at, key_place, Within}
 use Rattle.nodes.proofs.Laws.Counting.{Counting, key_behind, counting_goes_on, answered}
 
 -- ---- the loop
@@ -33,3 +33,9 @@ module _ (n : Node) (key p : ℕ) (e : p ≡ place (keys_of n) key) where
   at_place x z h k =
       let some : 0 < p = omega (arith, z) in
       rw (lt-ltb 0 p some) at (answered n key p x e h (k ∙ sym (key_behind n p some)))
+
+pub none_within : (p count : ℕ) → p ≤ count → Within (record { place = p; there = false }) count
+none_within p count h = record { most = h; not_zero = λ t. absurd (true≢false (sym t)) }
+
+pub one_within : (p count : ℕ) (t : Bool) → p ≤ count → (p ≡ 0 → ⊥) → Within (record { place = p; there = t }) count
+one_within p count t h z = record { most = h; not_zero = λ _. omega (arith, z) }
