@@ -473,7 +473,7 @@ module _ {A : Type 0} (m : ClientWord → ℕ) (u : List ℕ) (n : ℕ) (f : Hav
           found = λ g. never refl g;
         }
 
-    meets_fit : (u' : List ℕ) → is_found (how f) ≡ true → not right ≡ false → u' ≡ noted_copy (how f) u n → Meets m u n (how f) right l Going u'
+    pub meets_fit : (u' : List ℕ) → is_found (how f) ≡ true → not right ≡ false → u' ≡ noted_copy (how f) u n → Meets m u n (how f) right l Going u'
     meets_fit u' t nr pu =
         record {
           numbered = λ slots p q. asked_going slots m u n l near h (sym vc ∙ cf) (rw p at t) u' (sym (q t) ∙ not-false right nr) (rw p at pu);
@@ -491,6 +491,14 @@ has_here f x e = rw e
 
 pub has_copied : {A : Type 0} (f : Have A) (x : A) → f ≡ code.Copied x → Has f x
 has_copied f x e = rw e
+
+-- the record of a walk that ended is not looked at
+pub given_small : (n : ℕ) (s : Course) (r : Node) → Small (node n) r → Small (node n) (given s r)
+given_small n s r h = go (goes s) refl
+  where
+    go : (b : Bool) → goes s ≡ b → Small (node n) (given s r)
+    go true e = rw e h
+    go false e = rw e (free_small (node n))
 
 module _ (slots : ℕ) (m : ClientWord → ℕ) (x u : List ℕ) (o : Obj) (s : Course) (r r' : Node) (u' : List ℕ) where
   pub asked_as : (goes s ≡ true → value_of o r ≡ value_of o r') → Small o r' → Asked slots m x u o s r u' → Asked slots m x u o s r' u'
@@ -678,8 +686,8 @@ module _ (slots : ℕ) (m : ClientWord → ℕ) (x u : List ℕ) (n : ℕ) (b : 
     pub node_out : Asked slots m x u (node n) (Ended s) (free_node 0) u'
     node_out = outside_is (node n) (sym e ∙ not-true b t) (free_node 0) (free_small (node n))
 
-    pub flag_out : Asked slots m x u (flag n) (Ended s) (single 0 0) u'
-    flag_out = outside_is (flag n) (sym e ∙ not-true b t) (single 0 0) tt
+    pub flag_out : (v : ℕ) → Asked slots m x u (flag n) (Ended s) (single 0 v) u'
+    flag_out v = outside_is (flag n) (sym e ∙ not-true b t) (single 0 v) tt
 
   module _ (t : not b ≡ false) where
     node_found : (s : Course) (r : Node) (u' : List ℕ) → Numbered slots m x u (1 + n) (LacksNode n) s r u' → Asked slots m x u (node n) s r u'

@@ -9,7 +9,6 @@ use Rattle.std.proofs.Math.Decide.{ℕ_discrete}
 use Rattle.std.proofs.Math.ListN.{length-set}
 use borrow.Author.Tests.{not-true, not-false}
 use Rattle.nodes.specs.declared.node.Node.{Node}
-use Rattle.nodes.specs.Node.{free_node}
 use Rattle.nodes.specs.Place.{place}
 use Rattle.nodes.specs.Node.{keys_of}
 use Rattle.nodes.specs.Entries.{entries_of}
@@ -34,7 +33,7 @@ use Rattle.walk.specs.Walk.{Course, Going, Ended, goes, walked}
 use Rattle.walk.specs.Laws.Walk.{walked_fails}
 use Rattle.walk.specs.Ask.{SmallNode, Noted, Asked, nothing}
 use Rattle.walk.specs.Laws.Ask.{none_held, first_metadata}
-use Rattle.walk.specs.Down.{Kid, RootMet, blank, nowhere, turn_in, turns_in, Arrival, no_arrival, arrival, PathInPart, low, branches, trail, All, Linked, From, Stops, Above, Lowered, Led, AtRoot, Descends, Reaches, ToLeaf}
+use Rattle.walk.specs.Down.{Kid, RootMet, blank, nowhere, turn_in, turns_in, Arrival, arrival, PathInPart, low, branches, trail, All, Linked, From, Stops, Above, Lowered, Led, AtRoot, Descends, Reaches, ToLeaf}
 
 pub stops_not : (s : Course) {A : Type 0} → goes s ≡ false → goes s ≡ true → A
 stops_not s p q = let e : false ≡ true = sym p ∙ q in let z : ◌≡◌ {A = ℕ} 0 1 = cc in absurd (omega arith)
@@ -48,23 +47,23 @@ node_sized r k s = record { keys = k; slots = s }
 
 -- what was asked for, used below the root
 module _ (slots : ℕ) (m : ClientWord → ℕ) (x u : List ℕ) (n l : ℕ) (u' : List ℕ) where
-  pub kid_stops : (s : Stop) (r : Node) → Asked slots m x u (node n) (Ended s) r u' → Kid slots m x u l n (Ended s) r u'
-  kid_stops s r h = record {
-    asks = λ w hold lo k. rw (h.asks w hold).same;
+  pub kid_stops : (s : Course) (y r : Node) → goes s ≡ false → Asked slots m x u (node n) s y u' → Kid slots m x u l n s r u'
+  kid_stops s y r halts h = record {
+    asks = λ w hold lo k. rw ((h.asks w hold).same, halts);
     noted = h.noted;
     long = h.long;
-    small = λ t. stops_not (Ended s) refl t;
-    fits = λ t. stops_not (Ended s) refl t;
-    whole = λ t. stops_not (Ended s) refl t;
-    inside = λ t. stops_not (Ended s) refl t;
+    small = λ t. stops_not s halts t;
+    fits = λ t. stops_not s halts t;
+    whole = λ t. stops_not s halts t;
+    inside = λ t. stops_not s halts t;
   }
 
   module _ (r : Node) (g : Sized r) (h : Asked slots m x u (node n) Going r u') (c : Bool) (pc : c ≡ below l r) where
     f : Whole r
     f = whole r g.keys g.slots h.small.keys
 
-    pub kid_bad : not c ≡ true → Kid slots m x u l n (Ended (Aborts 3)) (free_node 0) u'
-    kid_bad nc =
+    pub kid_bad : (y : Node) → not c ≡ true → Kid slots m x u l n (Ended (Aborts 3)) y u'
+    kid_bad y nc =
         let e : below l r ≡ false = sym pc ∙ not-true c nc in
         record {
           asks = λ w hold lo k. rw ((h.asks w hold).same, child_is l lo n r f k, e) (walked_fails slots m (used_in u') no_tree);
@@ -93,20 +92,20 @@ pub ruleset kid_exits = (kid_stops, kid_bad, kid_good, part_sized, node_sized)
 
 -- the root
 module _ (slots : ℕ) (m : ClientWord → ℕ) (u : List ℕ) (n : ℕ) (u' : List ℕ) where
-  pub root_stops : (s : Stop) (r : Node) → Asked slots m nothing u (node n) (Ended s) r u' → RootMet slots m u n (Ended s) r u'
-  root_stops s r h = record {
-    asks = λ k. rw (h.asks [] (none_held slots)).same;
+  pub root_stops : (s : Course) (y r : Node) → goes s ≡ false → Asked slots m nothing u (node n) s y u' → RootMet slots m u n s r u'
+  root_stops s y r halts h = record {
+    asks = λ k. rw ((h.asks [] (none_held slots)).same, halts);
     noted = h.noted;
     long = h.long;
-    small = λ t. stops_not (Ended s) refl t;
-    fits = λ t. stops_not (Ended s) refl t;
-    whole = λ t. stops_not (Ended s) refl t;
-    inside = λ t. stops_not (Ended s) refl t;
+    small = λ t. stops_not s halts t;
+    fits = λ t. stops_not s halts t;
+    whole = λ t. stops_not s halts t;
+    inside = λ t. stops_not s halts t;
   }
 
   module _ (r : Node) (g : Sized r) (h : Asked slots m nothing u (node n) Going r u') (c : Bool) (pc : c ≡ opens r) where
-    pub root_bad : not c ≡ true → RootMet slots m u n (Ended (Aborts 3)) (free_node 0) u'
-    root_bad nc =
+    pub root_bad : (y : Node) → not c ≡ true → RootMet slots m u n (Ended (Aborts 3)) y u'
+    root_bad y nc =
         let e : opens r ≡ false = sym pc ∙ not-true c nc in
         record {
           asks = λ k. rw ((h.asks [] (none_held slots)).same, open_is 0 n r k, e) (walked_fails slots m (used_in u') no_tree);
@@ -201,19 +200,21 @@ module _ (slots : ℕ) (m : ClientWord → ℕ) (u₀ : List ℕ) (key target ro
     abbrev turn : Turn
     turn = record { name = name; at = i; node = n }
 
-    pub down_stops : (s : Stop) → Lowered slots m u key level n (Ended s) i next r u' → Led slots m u₀ key target root first (no_arrival s) u'
-    down_stops s c = record {
-      asks = λ stop st k. rw (d.same stop st k, c.asks stop (st.before level lt) k (branches above) name (low above));
+    -- whatever is said of where it has come to
+    pub down_stops : (s : Course) (a : Arrival) → Lowered slots m u key level n s i next r u' → goes s ≡ false → a.course ≡ s → a.top ≤ 4
+        → Led slots m u₀ key target root first a u'
+    down_stops s a c halts e t4 = record {
+      asks = λ stop st k. rw (d.same stop st k, c.asks stop (st.before level lt) k (branches above) name (low above), e, halts);
       noted = c.noted;
-      high = omega arith;
-      reached = λ t. stops_not (Ended s) refl t;
-      linked = λ q t. stops_not (Ended s) refl t;
+      high = t4;
+      reached = λ t. stops_not s halts (rw e at t);
+      linked = λ q t. stops_not s halts (rw e at t);
     }
 
-    module _ (c : Lowered slots m u key level n Going i next r u') where
-      pub down_long : length u' ≡ length u₀
-      down_long = c.long ∙ d.long
+    pub down_long : (s : Course) → Lowered slots m u key level n s i next r u' → length u' ≡ length u₀
+    down_long s c = c.long ∙ d.long
 
+    module _ (c : Lowered slots m u key level n Going i next r u') where
       pub down_more : (lower : ℕ) → level ≡ suc lower → Downward slots m u₀ key target root first top (set path level turn) next r lower u'
       unfolding All Linked
       down_more lower up =
@@ -222,7 +223,7 @@ module _ (slots : ℕ) (m : ClientWord → ℕ) (u₀ : List ℕ) (key target ro
           let q : Below lower r = rw e at (c.fits refl) in
           record {
             whole_way = d.whole_way;
-            long = down_long;
+            long = down_long Going c;
             lower = omega arith;
             upper = omega (arith, d.upper);
             high = d.high;
@@ -310,8 +311,9 @@ module _ (b : List ℕ) (slots : ℕ) (m : ClientWord → ℕ) (u₀ : List ℕ)
 
     -- v is the level as the code has it
     module _ (lt : target < level) (v : ℕ) (ev : v ≡ level) (i next : ℕ) (u' : List ℕ) where
-      pub pass_stops : (s : Stop) (r : Node) → Lowered slots m u key v (node_at (view b) place) (Ended s) i next r u' → Led slots m u₀ key target root (node_at (view b) first) (no_arrival s) u'
-      pass_stops s r c = down_stops slots m u₀ key target root (node_at (view b) first) top (turns_in b path) name (node_at (view b) place) level u d.0 lt i next r u' s (rw ev at c)
+      pub pass_stops : (s : Course) (r : Node) (a : Arrival) → Lowered slots m u key v (node_at (view b) place) s i next r u' → goes s ≡ false → a.course ≡ s → a.top ≤ 4
+          → Led slots m u₀ key target root (node_at (view b) first) a u'
+      pass_stops s r a c = down_stops slots m u₀ key target root (node_at (view b) first) top (turns_in b path) name (node_at (view b) place) level u d.0 lt i next r u' s a (rw ev at c)
 
       pub pass_more : (p lower : ℕ) → Lowered slots m u key v (node_at (view b) place) Going i next (node_at (view b) p) u' → suc lower ≡ level → p + 33 ≤ 7223
           → Passing top (set path v (record { name = name; at = i; place = place })) next p lower u'
@@ -361,8 +363,8 @@ module _ (slots : ℕ) (m : ClientWord → ℕ) (u : List ℕ) (key level : ℕ)
   inner : Inner n
   inner = open_inner n g.opened (omega (arith, g.level_is, g.inner))
 
-  pub lowered : (r : Node) (u' : List ℕ) → Kid slots m nothing u (level - 1) next Going r u' → Lowered slots m u key level n Going at next r u'
-  lowered r u' c = record {
+  pub lowered : (s : Course) (r : Node) (u' : List ℕ) → Kid slots m nothing u (level - 1) next s r u' → Lowered slots m u key level n s at next r u'
+  lowered s r u' c = record {
     asks = λ stop e k fs nm lo. rw (down_inner stop key k fs nm at next n lo level g.level_is g.whole inner e pa ha pn, c.asks [] (none_held slots));
     noted = c.noted;
     long = c.long;
@@ -405,8 +407,8 @@ module _ (slots : ℕ) (m : ClientWord → ℕ) (u : List ℕ) where
       inside = λ t. stops_not (Ended s) refl t;
     }
 
-    pub met_root : (r : Node) (u₂ : List ℕ) → RootMet slots m u₁ q Going r u₂ → AtRoot slots m u Going q r u₂
-    met_root r u₂ h = record {
+    pub met_root : (t : Course) (r : Node) (u₂ : List ℕ) → RootMet slots m u₁ q t r u₂ → AtRoot slots m u t q r u₂
+    met_root t r u₂ h = record {
       asks = λ k. rw ((a.asks [] (none_held slots)).same, first_metadata q st) (h.asks (k q));
       noted = h.noted;
       begins = λ g. record { whole = h.whole g; small = h.small g; opened = h.fits g; above = omega arith };
@@ -423,13 +425,13 @@ leaf_stops = record { before = λ l h. go l h; there = λ h. absurd (omega arith
     go (suc l) h = refl
 
 module _ (slots : ℕ) (m : ClientWord → ℕ) (u : List ℕ) (key q : ℕ) (r : Node) (u₁ : List ℕ) where
-  pub no_way : (s : Stop) → AtRoot slots m u (Ended s) q r u₁ → Descends slots m u key (no_arrival s) u₁
-  no_way s a = record {
-    asks = λ k. rw (a.asks (λ q l es. down to_leaf key (λ _ fs n es. k fs n es) l [] q es));
+  pub no_way : (s : Course) (d : Arrival) → AtRoot slots m u s q r u₁ → goes s ≡ false → d.course ≡ s → d.top ≤ 4 → Descends slots m u key d u₁
+  no_way s d a halts e t4 = record {
+    asks = λ k. rw (a.asks (λ q l es. down to_leaf key (λ _ fs n es. k fs n es) l [] q es), e, halts);
     noted = a.noted;
-    high = omega arith;
-    reached = λ t. stops_not (Ended s) refl t;
-    linked = λ t. stops_not (Ended s) refl t;
+    high = t4;
+    reached = λ t. stops_not s halts (rw e at t);
+    linked = λ t. stops_not s halts (rw e at t);
   }
 
   module _ (a : AtRoot slots m u Going q r u₁) where
@@ -474,13 +476,15 @@ module _ (slots : ℕ) (m : ClientWord → ℕ) (u₀ : List ℕ) (key : ℕ) (f
   }
 
   module _ (lt : 0 < level) (v : ℕ) (ev : v ≡ level) (i next : ℕ) (r : Node) (u' : List ℕ) where
-    pub reach_stops : (s : Stop) → Lowered slots m u key v n (Ended s) i next r u' → Reaches slots m u₀ key first (Ended s) (free_node 0) u'
-    reach_stops s c = record {
-      come = λ root. no_arrival s;
-      course = λ root. refl;
-      node = λ root. refl;
-      led = λ root. down_stops slots m u₀ key 0 root first first.level (d.path root) (d.name root) n level u (d.way root) lt i next r u' s (rw ev at c);
-    }
+    pub reach_stops : (s : Course) (y : Node) → Lowered slots m u key v n s i next r u' → goes s ≡ false → Reaches slots m u₀ key first s y u'
+    reach_stops s y c halts =
+        let a : Arrival = record { course = s; top = 0; path = []; name = 0; node = y } in
+        record {
+          come = λ root. a;
+          course = λ root. refl;
+          node = λ root. refl;
+          led = λ root. down_stops slots m u₀ key 0 root first first.level (d.path root) (d.name root) n level u (d.way root) lt i next r u' s a (rw ev at c) halts refl (omega arith);
+        }
 
     pub reach_more : (lower : ℕ) → Lowered slots m u key v n Going i next r u' → suc lower ≡ level → Reaching slots m u₀ key first r lower u'
     reach_more lower c up = record {
@@ -492,8 +496,10 @@ module _ (slots : ℕ) (m : ClientWord → ℕ) (u₀ : List ℕ) (key : ℕ) (f
 pub ruleset reach_exits = (reach_start, reach_above, reach_done, reach_stops, reach_more)
 
 module _ (slots : ℕ) (m : ClientWord → ℕ) (u : List ℕ) (key q : ℕ) (r : Node) (u₁ : List ℕ) where
-  pub leaf_none : (s : Stop) → AtRoot slots m u (Ended s) q r u₁ → ToLeaf slots m u key (Ended s) (free_node 0) u₁
-  leaf_none s a = record { come = no_arrival s; course = refl; node = refl; descends = no_way slots m u key q r u₁ s a }
+  pub leaf_none : (s : Course) (y : Node) → AtRoot slots m u s q r u₁ → goes s ≡ false → ToLeaf slots m u key s y u₁
+  leaf_none s y a halts =
+      let d : Arrival = record { course = s; top = 0; path = []; name = 0; node = y } in
+      record { come = d; course = refl; node = refl; descends = no_way slots m u key q r u₁ s d a halts refl (omega arith) }
 
   module _ (a : AtRoot slots m u Going q r u₁) where
     pub leaf_reached : (t : Course) (n : Node) (u₂ : List ℕ) → Reaches slots m u₁ key r t n u₂ → ToLeaf slots m u key t n u₂

@@ -1,4 +1,4 @@
-use Rattle.std.proofs.Common.{Err, rules, arith, ◌≡◌, ◌+◌, ◌-◌, suc}
+use Rattle.std.proofs.Common.{Err, rules, arith, refl, ◌≡◌, ◌+◌, ◌-◌, suc}
 use Rattle.walk.specs.Laws.Down.{pass_exits, pass_more, pass_stops}
 use Rattle.walk.proofs.down.go_down.Goals as goal
 
@@ -17,7 +17,7 @@ returns-in_err-l-clause-over_read c =
     let h = c.in_err-l.ensures in
     let v : c.loop-below.below - 1 + 1 ≡ c.loop-below.below = omega (arith, c.loop-below-test.true) in
     let e : c.from_residual.result ≡ Err c.in_err-l.field-0.0 = search rules in
-    rw e (pass_stops _ _ _ _ _ _ _ _ _ _ _ _ _ _ c.loop-below.invariant c.loop-below-test.true _ v _ _ _ _ _ h.lowers)
+    rw e (pass_stops _ _ _ _ _ _ _ _ _ _ _ _ _ _ c.loop-below.invariant c.loop-below-test.true _ v _ _ _ _ _ _ h.lowers refl refl (omega arith))
 
 pub returns-clause-over_read : goal.returns-clause-over_read
 returns-clause-over_read c = search (pass_exits, rules)

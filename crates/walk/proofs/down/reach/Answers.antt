@@ -1,4 +1,4 @@
-use Rattle.std.proofs.Common.{Err, rules, arith, ◌≡◌, ◌+◌, ◌-◌, suc}
+use Rattle.std.proofs.Common.{Err, rules, arith, refl, ◌≡◌, ◌+◌, ◌-◌, suc}
 use Rattle.walk.specs.Laws.Down.{reach_exits, reach_above, reach_more, reach_stops}
 use Rattle.walk.proofs.down.reach.Goals as goal
 
@@ -15,7 +15,7 @@ returns-in_err-place-clause-reaching c =
     let h = c.in_err-place.ensures in
     let v : c.loop-below.below - 1 + 1 ≡ c.loop-below.below = omega (arith, c.loop-below-test.true) in
     let e : c.from_residual.result ≡ Err c.in_err-place.field-0.0 = search rules in
-    rw e (reach_stops _ _ _ _ _ _ _ _ c.loop-below.invariant.0 c.loop-below-test.true _ v _ _ _ _ _ h.lowers)
+    rw e (reach_stops _ _ _ _ _ _ _ _ c.loop-below.invariant.0 c.loop-below-test.true _ v _ _ _ _ _ _ h.lowers refl)
 
 pub loop-below-preserved : goal.loop-below-preserved
 loop-below-preserved c =
