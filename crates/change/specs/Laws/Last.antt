@@ -243,25 +243,25 @@ module _ (m : ClientWord → ℕ) (fit : Bool) (new : ℕ) (there below : Bool) 
   abbrev Reason : ℕ → Type 0
   Reason r = r ≡ reason_of m fit new there below
 
-  reason_3 : not fit ≡ true → Reason 3
+  pub reason_3 : not fit ≡ true → Reason 3
   unfolding reason_of
   reason_3 t = rw t
 
   module _ (t : not fit ≡ false) (w : ℕ) (pw : w ≡ m writes_count) where
-    reason_4 : 48 < w + new → Reason 4
+    pub reason_4 : 48 < w + new → Reason 4
     unfolding reason_of
     reason_4 h = rw (t, ← pw, lt-ltb _ _ h)
 
     module _ (h : w + new ≤ 48) where
-      reason_10 : not there ≡ true → Reason 10
+      pub reason_10 : not there ≡ true → Reason 10
       unfolding reason_of
       reason_10 u = rw (t, ← pw, le-ltb _ _ h, u)
 
-      reason_8 : not there ≡ false → not below ≡ true → Reason 8
+      pub reason_8 : not there ≡ false → not below ≡ true → Reason 8
       unfolding reason_of
       reason_8 u v = rw (t, ← pw, le-ltb _ _ h, u, v)
 
-      no_reason : not there ≡ false → not below ≡ false → Reason 0
+      pub no_reason : not there ≡ false → not below ≡ false → Reason 0
       unfolding reason_of
       no_reason u v = rw (t, ← pw, le-ltb _ _ h, u, v)
       -- as the code says it

@@ -96,7 +96,10 @@ module _ (slots : ℕ) (m : ClientWord → ℕ) (x₀ u₀ : List ℕ) (a : Ans)
   pub rise_room : get_or x 0 0 ≤ 12
   rise_room = omega (arith, g.few, g.upper, g.high)
 
-  rise_there : in_store slots c ≡ true
+  pub rise_low : l ≤ 4
+  rise_low = omega (arith, g.upper, g.high)
+
+  pub rise_there : in_store slots c ≡ true
   rise_there = linked_there slots l c (trail path l (top - l)) g.linked
 
   -- behind the last level
