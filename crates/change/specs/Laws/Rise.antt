@@ -1,5 +1,5 @@
 -- Laws of changes carried up.
-use Rattle.std.specs.Prelude.{◌≡◌, Bool, true, false, List, [], ◌∷◌, ◌++◌, ℕ, zero, suc, ◌+◌, ◌≤◌, ◌<◌, take, drop, get_or, Err}
+use Rattle.std.specs.Prelude.{◌≡◌, Bool, true, false, List, [], ◌∷◌, ◌++◌, ℕ, zero, suc, ◌+◌, ◌≤◌, ◌<◌, take, drop, get_or, Result, Err}
 use Rattle.std.proofs.Math.Path.{refl}
 use Rattle.std.proofs.Common.{sym, ◌∙◌, ap, append-nil, arith, length-take-le, lt-ltb}
 use Rattle.std.proofs.Math.ListN.{length}
@@ -18,12 +18,14 @@ use Rattle.operations.specs.Object.{node, Writes}
 use Rattle.operations.specs.Entry.{node_value}
 use Rattle.operations.specs.Path.{TreePlan, Branch}
 use Rattle.operations.specs.Change.{Go}
+use Rattle.change.specs.declared.rise.Risen.{Risen}
 use Rattle.walk.specs.declared.down.Turn.{Turn}
 use Rattle.walk.specs.declared.walk.Stop.{Stop}
 use Rattle.client.specs.Layout.{ClientWord}
 use Rattle.client.specs.Record.{number, value_of, record_of}
 use Rattle.client.specs.Lent.{OwnFits, own_put, used_in}
-use Rattle.walk.specs.Walk.{Ended, told, walked}
+use Rattle.walk.specs.Walk.{Course, Going, Ended, Answered, told, goes, stands, walked}
+use Rattle.walk.specs.Lookup.{ended}
 use Rattle.walk.specs.Ask.{OwnGood, HoldsWrites, Noted}
 use Rattle.walk.specs.Laws.Ask.{name_below}
 use Rattle.walk.specs.Laws.Write.{few_more, holds_more}
@@ -31,7 +33,7 @@ use Rattle.walk.specs.Take.{Wrote}
 use Rattle.walk.specs.Laws.Take.{wrote}
 use Rattle.walk.specs.Entries.{opens}
 use Rattle.walk.specs.Laws.Entries.{stored_node}
-use Rattle.change.specs.Rise.{NodeWritten, is_root, Raised, Closed, Under, OfLevel, Fitting, BothWritten, widened}
+use Rattle.change.specs.Rise.{NodeWritten, risen_course, is_root, Raised, Closed, Under, OfLevel, Fitting, BothWritten, widened}
 
 pub under_name : (slots l c : ℕ) (b : Turn) → Under slots l c b → c < 8192
 under_name slots l c b un = name_below slots c un.link.there
@@ -130,26 +132,43 @@ of_level_value l n lo x h = ap (λ (j : ℕ). node_value j (entries_of n lo)) (s
 pub never : {A : Type 0} → false ≡ true → A
 never e = let z : ◌≡◌ {A = ℕ} 0 1 = cc in absurd (omega arith)
 
+stopped_told : (s : Course) (us : List ℕ) (w : Writes) → stands s ≡ false → ended s us w [] ≡ told s us
+stopped_told Going us w h = refl
+stopped_told (Ended e) us w h = refl
+stopped_told (Answered a b) us w h = never (sym h)
+
+-- some plan that never answers ends as the level does
+pub stopped_raised : (slots : ℕ) (m : ClientWord → ℕ) (x u : List ℕ) (l : ℕ) (root : Bool) (plan : ℕ → List Branch → Writes → Go → TreePlan) (r : Result Risen Stop) (x' u' : List ℕ)
+    → goes (risen_course r) ≡ false → ((w : Writes) → HoldsWrites slots x w → stands (risen_course r) ≡ false)
+    → ((w : Writes) → HoldsWrites slots x w → (lo : ℕ) (fs : List Branch) → is_root fs ≡ root → (go : Go) → walked slots m (plan lo fs w go) (used_in u) ≡ told (risen_course r) (used_in u'))
+    → Noted m u' → Raised slots m x u l root plan r x' u'
+stopped_raised slots m x u l root plan r x' u' halts mute same noted = record {
+  more = [];
+  same = λ w hold lo fs e go. rw halts (same w hold lo fs e go ∙ sym (stopped_told (risen_course r) (used_in u') w (mute w hold)));
+  holds = λ t w hold. never (sym (mute w hold) ∙ t);
+  kept = λ t w hold. never (sym (mute w hold) ∙ t);
+  good = λ t. never (sym halts ∙ t);
+  few = λ t. never (sym halts ∙ t);
+  content = λ t. never (sym halts ∙ t);
+  noted = noted;
+}
+
 pub ended_raised : (slots : ℕ) (m : ClientWord → ℕ) (x u : List ℕ) (l : ℕ) (root : Bool) (plan : ℕ → List Branch → Writes → Go → TreePlan) (s : Stop) (x' u' : List ℕ)
     → ((w : Writes) → HoldsWrites slots x w → (lo : ℕ) (fs : List Branch) → is_root fs ≡ root → (go : Go) → walked slots m (plan lo fs w go) (used_in u) ≡ told (Ended s) (used_in u'))
     → Noted m u' → Raised slots m x u l root plan (Err s) x' u'
-ended_raised slots m x u l root plan s x' u' same noted = record {
+ended_raised slots m x u l root plan s x' u' same noted = stopped_raised slots m x u l root plan (Err s) x' u' refl (λ w hold. refl) same noted
+
+-- the same of the last level
+pub stopped_closed : (slots : ℕ) (m : ClientWord → ℕ) (x u : List ℕ) (plan : Writes → TreePlan) (s : Course) (x' u' : List ℕ) → ((w : Writes) → HoldsWrites slots x w → stands s ≡ false)
+    → ((w : Writes) → HoldsWrites slots x w → walked slots m (plan w) (used_in u) ≡ told s (used_in u')) → Noted m u' → Closed slots m x u plan s x' u'
+stopped_closed slots m x u plan s x' u' mute same noted = record {
   more = [];
-  same = λ w hold lo fs e go. same w hold lo fs e go;
-  holds = λ t. never t;
-  kept = λ t. never t;
-  good = λ t. never t;
-  few = λ t. never t;
-  content = λ t. never t;
+  same = λ w hold. same w hold ∙ sym (stopped_told s (used_in u') w (mute w hold));
+  holds = λ t w hold. never (sym (mute w hold) ∙ t);
+  kept = λ t w hold. never (sym (mute w hold) ∙ t);
   noted = noted;
 }
 
 pub ended_closed : (slots : ℕ) (m : ClientWord → ℕ) (x u : List ℕ) (plan : Writes → TreePlan) (s : Stop) (x' u' : List ℕ)
     → ((w : Writes) → HoldsWrites slots x w → walked slots m (plan w) (used_in u) ≡ told (Ended s) (used_in u')) → Noted m u' → Closed slots m x u plan (Ended s) x' u'
-ended_closed slots m x u plan s x' u' same noted = record {
-  more = [];
-  same = same;
-  holds = λ t. never t;
-  kept = λ t. never t;
-  noted = noted;
-}
+ended_closed slots m x u plan s x' u' same noted = stopped_closed slots m x u plan (Ended s) x' u' (λ w hold. refl) same noted

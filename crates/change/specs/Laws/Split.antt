@@ -1,5 +1,5 @@
 -- Laws of a node's split below the root.
-use Rattle.std.specs.Prelude.{◌≡◌, refl, true, List, [], ◌∷◌, ◌++◌, ℕ, zero, suc, ◌+◌, ◌≤◌, ◌<◌, take, drop, get_or, Result, Ok, Err}
+use Rattle.std.specs.Prelude.{◌≡◌, refl, true, false, List, [], ◌∷◌, ◌++◌, ℕ, zero, suc, ◌+◌, ◌≤◌, ◌<◌, take, drop, get_or, Result, Ok, Err}
 use Rattle.std.proofs.Math.Path.{sym}
 use Rattle.std.proofs.Common.{◌∙◌, ap, arith, add-one}
 use Rattle.std.proofs.Math.ListN.{length}
@@ -12,7 +12,7 @@ use Rattle.nodes.specs.Entries.{entries_of, wide_entries}
 use Rattle.nodes.proofs.Laws.Entries.{first}
 use Rattle.nodes.specs.Change.{wide, put_in, cut_at}
 use Rattle.nodes.proofs.Laws.Kept.{length_entries_of, put_in_whole, put_in_entries, split_left, split_right, split_sep}
-use Rattle.operations.specs.Object.{node, flag, taken, Writes}
+use Rattle.operations.specs.Object.{node, flag, taken, no_tree, Writes}
 use Rattle.operations.specs.Slot.{take_for, take_node}
 use Rattle.operations.specs.Entry.{Entries, fewest_entries, first_key_or}
 use Rattle.operations.specs.Path.{TreePlan, Branch}
@@ -24,16 +24,18 @@ use Rattle.client.specs.Record.{value_of}
 use Rattle.client.specs.Lent.{used_in}
 use Rattle.walk.specs.Laws.Entries.{extra_inner, entry_slot}
 use Rattle.walk.specs.Entries.{branch_of}
-use Rattle.walk.specs.Walk.{Course, Going, Ended, course, ok_or, walked, carry}
+use Rattle.walk.specs.Walk.{Course, Going, Ended, course, ok_or, Told, told, goes, stands, walked, carry}
 use Rattle.walk.specs.Ask.{OwnGood, HoldsWrites, Noted}
 use Rattle.walk.specs.Down.{Followed}
 use Rattle.walk.specs.Laws.Ask.{name_below}
 use Rattle.walk.specs.Take.{NodeTaken}
 use Rattle.walk.specs.Search.{TakenFor}
+use Rattle.walk.specs.Laws.Mute.{Mute, walked_mute, take_node_mute}
 use Rattle.change.specs.Laws.Parts.{extra_level, Leveled, left_level, right_level}
 use Rattle.change.specs.Rise.{Content, Full, OfLevel, Under, in_parent, Fitting, BothWritten, split_plan}
 use Rattle.change.specs.Laws.Rise.{of_level_value, under_name, level_room, never, ended_raised}
 use Rattle.change.specs.Split.{HalfTaken, Overfull, Halved, Divided, Splits}
+use Rattle.plans.specs.Plan as P
 use Rattle.nodes.specs.Change as N
 
 -- the halves of a full node of level l
@@ -101,6 +103,18 @@ module _ (b : Turn) (f : Followed b) (c : ℕ) (pc : c ≡ get_or b.node.slots b
     few = let g : length (insert_at b.at sep (keys_of b.node)) ≡ length (keys_of b.node) + 1 = length_insert b.at sep (keys_of b.node) (omega (arith, f.whole.keys, f.within)) in
         omega (arith, f.whole.keys, f.small.keys);
   }
+
+-- a slot or its node that is lacking is no answer
+module _ (slots : ℕ) (m : ClientWord → ℕ) (x u : List ℕ) (w : Writes) (hold : HoldsWrites slots x w) where
+  pub slot_lacking : (c : ℕ) (r : Result ℕ Stop) (x₁ u₁ : List ℕ) → TakenFor slots m x u c r x₁ u₁ → goes (course r) ≡ false → stands (course r) ≡ false
+  slot_lacking c (Ok d) x₁ u₁ q halts = halts
+  slot_lacking c (Err s) x₁ u₁ q halts = refl
+
+  pub node_lacking : (c : ℕ) (s : Course) (u₁ : List ℕ) → NodeTaken slots m x u c s u₁ → goes s ≡ false → stands s ≡ false
+  unfolding Mute
+  node_lacking c s u₁ q halts =
+      let e : walked slots m (take_node w c (P.fail no_tree)) (used_in u) ≡ told s (used_in u₁) = q.asks w hold (P.fail no_tree) ∙ rw halts in
+      sym (ap (λ (r : Told). stands r.course) e) ∙ walked_mute slots m (take_node w c (P.fail no_tree)) (take_node_mute w c (P.fail no_tree) tt) (used_in u)
 
 -- ---- a slot for a half, and its node
 module _ (slots : ℕ) (m : ClientWord → ℕ) (x u : List ℕ) (c : ℕ) (x₁ u₁ : List ℕ) where

@@ -141,11 +141,15 @@ module _ (slots : ℕ) (m : ClientWord → ℕ) (wait : Waiting m) (u : List ℕ
       stops_as : (t : Course) → t ≡ judged s r → t ≡ stop_of (worked slots m)
       stops_as t e = e ∙ ap (λ (k : Course). judged k r) given_is.stop ∙ by_reason_stop r given_is.answer o.writes ∙ sym (ap stop_of judged_is)
 
+      -- as the last questions judge the answer
+      pub enters_judged : (t : Course) → t ≡ judged s r → Enters slots m t l u u'
+      enters_judged t e =
+          enters_as t l (stops_as t e)
+          (λ a w q. let same = by_reason_same r given_is.answer a o.writes w (sym judged_is ∙ q) in (listed_are ∙ ap entered same.0, ap (λ (b : Ans). b.2) (sym same.1) ∙ given_is.pairs))
+
       -- the answer stands
       pub enters_answers : Going ≡ judged Going r → Enters slots m s l u u'
-      enters_answers p =
-          enters_as s l (stops_as s (judged_goes s r p))
-          (λ a w q. let same = by_reason_same r given_is.answer a o.writes w (sym judged_is ∙ q) in (listed_are ∙ ap entered same.0, ap (λ (b : Ans). b.2) (sym same.1) ∙ given_is.pairs))
+      enters_answers p = enters_judged s (judged_goes s r p)
 
       -- or it doesn't: then nothing enters
       module _ (e : Stop) (p : Ended e ≡ judged Going r) where
@@ -166,11 +170,11 @@ module _ (slots : ℕ) (m : ClientWord → ℕ) (wait : Waiting m) (x u : List �
   listed : (s : Course) → Operated slots m x u (reading slots (waiting m)) s x' u' → Written slots m u (reading slots (waiting m)) s (own_list x') u'
   listed s o = record { writes = o.writes; same = o.same empty; entries = λ t. (o.holds t empty).entries; out = λ t. (o.holds t empty).out; noted = o.noted }
 
-  pub work_stops : (e : Stop) → Operated slots m x u (reading slots (waiting m)) (Ended e) x' u' → Works slots m (Ended e) x u x' u'
-  work_stops e o =
+  pub work_stops : (s : Course) → is_answer s ≡ false → Operated slots m x u (reading slots (waiting m)) s x' u' → Works slots m s x u x' u'
+  work_stops s q o =
       record {
-        enters = enters_stops slots m wait u ready.used_none (Ended e) (own_list x') u' ku (listed (Ended e) o) refl;
-        fits = λ a w p. unanswered slots m wait u ready.used_none (Ended e) (own_list x') u' ku (listed (Ended e) o) refl a w p;
+        enters = enters_stops slots m wait u ready.used_none s (own_list x') u' ku (listed s o) q;
+        fits = λ a w p. unanswered slots m wait u ready.used_none s (own_list x') u' ku (listed s o) q a w p;
         own_same_length = kx;
       }
 
@@ -178,19 +182,18 @@ module _ (slots : ℕ) (m : ClientWord → ℕ) (wait : Waiting m) (x u : List �
     pub own_kept : OwnKept x'
     own_kept = o.kept refl empty
 
-    pub work_refuses : (e : Stop) → Ended e ≡ judged Going (last_reason m (own_list x')) → Works slots m (Ended e) x u x' u'
-    work_refuses e p = record {
-      enters = enters_refused slots m wait u ready.used_none (Answered z.a z.b) (own_list x') u' ku (listed (Answered z.a z.b) o) refl (last_reason m (own_list x')) refl e p (own_list x');
+    pub work_judged : (r : ℕ) → r ≡ last_reason m (own_list x') → (t : Course) → t ≡ judged (Answered z.a z.b) r → Works slots m t x u x' u'
+    work_judged r pr t e = record {
+      enters = enters_judged slots m wait u ready.used_none (Answered z.a z.b) (own_list x') u' ku (listed (Answered z.a z.b) o) refl r pr t e;
       fits = λ a w q. own_kept.fit;
       own_same_length = kx;
     }
 
+    pub work_refuses : (e : Stop) → Ended e ≡ judged Going (last_reason m (own_list x')) → Works slots m (Ended e) x u x' u'
+    work_refuses e p = work_judged (last_reason m (own_list x')) refl (Ended e) (judged_ended (Answered z.a z.b) (last_reason m (own_list x')) e p)
+
     pub work_answers : Going ≡ judged Going (last_reason m (own_list x')) → Works slots m (Answered z.a z.b) x u x' u'
-    work_answers p = record {
-      enters = enters_answers slots m wait u ready.used_none (Answered z.a z.b) (own_list x') u' ku (listed (Answered z.a z.b) o) refl (last_reason m (own_list x')) refl p;
-      fits = λ a w q. own_kept.fit;
-      own_same_length = kx;
-    }
+    work_answers p = work_judged (last_reason m (own_list x')) refl (Answered z.a z.b) (judged_goes (Answered z.a z.b) (last_reason m (own_list x')) p)
 
 pub ruleset work_exits = (work_stops, own_kept, work_refuses, work_answers)
 
