@@ -1,5 +1,5 @@
 -- Laws of a delete's walk.
-use Rattle.std.specs.Prelude.{◌≡◌, true, false, List, ℕ, ◌+◌, ◌-◌, ◌≤◌, ◌<◌, None, Some, Ok, Err}
+use Rattle.std.specs.Prelude.{◌≡◌, true, false, List, [], ℕ, ◌+◌, ◌-◌, ◌≤◌, ◌<◌, None, Some, Ok, Err}
 use Rattle.std.proofs.Common.{sym, ◌∙◌, arith}
 use Rattle.std.proofs.Math.ListN.{length}
 use Rattle.nodes.specs.declared.node.Node.{Node}
@@ -22,12 +22,14 @@ use Rattle.walk.specs.declared.down.Descent.{Descent}
 use Rattle.client.specs.Sets.{held}
 use Rattle.walk.specs.declared.walk.Stop.{Stop}
 use Rattle.walk.specs.Laws.Entries.{extra_leaf, leaf_place}
+use Rattle.walk.specs.Walk.{Course}
+use Rattle.walk.specs.Lookup.{Ends, Walks}
 use Rattle.walk.specs.Down.{low, Descends, Arrival, arrival, PathInPart}
 use Rattle.change.specs.Rise.{Content, widened}
 use Rattle.change.specs.Laws.Parts.{out_level, widened_entries, widened_content}
 use Rattle.change.specs.Up.{rise_plan}
 use Rattle.change.specs.Leaf.{Changes}
-use Rattle.change.specs.Laws.Insert.{AtLeaf, leaf_level, way, ended_leaf, change_stops, change_noted, change_ended, leaf_few, change_few, change_on, change_none}
+use Rattle.change.specs.Laws.Insert.{AtLeaf, leaf_level, way, ended_leaf, change_stops, change_noted, change_ended, leaf_few, change_few, change_on, change_none, leaf_unchanged}
 
 -- ---- the leaf's new content
 module _ (n : Node) (f : AtLeaf n) (i : ℕ) (h : i < n.count) where
@@ -63,8 +65,11 @@ module _ (slots : ℕ) (b u : List ℕ) (key : ℕ) (WayDown : Descent) (u₁ : 
   abbrev plan : List Branch → ℕ → Entries → TreePlan
   plan fs n es = delete_at slots fs n es (place_in key es)
 
-  pub delete_nothing : k.there ≡ false → Changes slots b u (delete_plan slots key) (Ok None) u₁
-  delete_nothing e = change_none slots b u key WayDown u₁ h plan (rw (in_leaf, e))
+  pub delete_nothing : k.there ≡ false → (s : Course) (u' : List ℕ) → Ends (held b) u₁ 0 0 s u' → Walks slots (held b) u (delete_plan slots key) s u' []
+  delete_nothing e s u' q = change_none slots b u key WayDown u₁ h plan 0 0 s u' (rw (in_leaf, e)) q
+
+  pub delete_unchanged : k.there ≡ false → Changes slots b u (delete_plan slots key) (Ok None) u₁
+  delete_unchanged e = leaf_unchanged slots b u key WayDown u₁ h plan (rw (in_leaf, e))
 
   module _ (yes : k.there ≡ true) (w : Within k (node_at (view b) WayDown.place).count) where
     abbrev i : ℕ
@@ -87,4 +92,4 @@ module _ (slots : ℕ) (b u : List ℕ) (key : ℕ) (WayDown : Descent) (u₁ : 
         let o : wide_entries n lo ≡ remove_at i (entries_of d.node lo) = rw pn (out_entries d.node leaf i within lo) in
         change_on slots b u key WayDown u₁ h plan n 1 w' (rw pn (out_content d.node leaf i within)) (rw (in_leaf, yes, ← o))
 
-pub ruleset delete_exits = (delete_stops, change_noted, change_few, leaf_few, delete_nothing, delete_behind, delete_inside, deleted)
+pub ruleset delete_exits = (delete_stops, change_noted, change_few, leaf_few, delete_unchanged, delete_behind, delete_inside, deleted)

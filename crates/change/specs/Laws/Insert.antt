@@ -32,6 +32,8 @@ use Rattle.client.specs.Sets.{held}
 use Rattle.change.specs.declared.insert.Paired.{Paired}
 use Rattle.walk.specs.declared.walk.Stop.{Stop}
 use Rattle.walk.specs.Laws.Entries.{Leaf, open_leaf, extra_leaf, leaf_place, leaf_value}
+use Rattle.walk.specs.Walk.{Course}
+use Rattle.walk.specs.Lookup.{Ends, Walks}
 use Rattle.walk.specs.Ask.{Noted}
 use Rattle.walk.specs.Down.{low, branches, trail, Linked, Reached, Descends, Arrival, arrival, PathInPart}
 use Rattle.change.specs.Rise.{OfLevel, Content}
@@ -162,9 +164,14 @@ module _ (slots : ℕ) (b u : List ℕ) (key : ℕ) (p : Descent) (u₁ : List �
   change_on k n a w c e = record { asks = h.asks k ∙ rw e; ready = (ended_ready slots d change_ended n c, w); noted = h.noted }
 
   -- no leaf changes: the plan answers at once
-  pub change_none : (k : List Branch → ℕ → Entries → TreePlan) → k (branches (way d)) d.name (entries_of d.node (low (way d))) ≡ P.done ((0, 0, []), [])
+  pub change_none : (k : List Branch → ℕ → Entries → TreePlan) (i j : ℕ) (s : Course) (u' : List ℕ)
+      → k (branches (way d)) d.name (entries_of d.node (low (way d))) ≡ P.done ((i, j, []), []) → Ends (held b) u₁ i j s u' → Walks slots (held b) u (from_root key k) s u' []
+  change_none k i j s u' e q = record { same = h.asks k ∙ rw e (q.same slots [] []); noted = q.noted }
+
+  -- an answer of 0 is left to be given
+  pub leaf_unchanged : (k : List Branch → ℕ → Entries → TreePlan) → k (branches (way d)) d.name (entries_of d.node (low (way d))) ≡ P.done ((0, 0, []), [])
       → Changes slots b u (from_root key k) (Ok None) u₁
-  change_none k e = record { asks = h.asks k ∙ rw e; ready = tt; noted = h.noted }
+  leaf_unchanged k e = record { asks = h.asks k ∙ rw e; ready = tt; noted = h.noted }
 
   -- ---- insert
   pub inserted : (v : ℕ) (n : Node) (k : KeyPlace) (q : Paired) → PathInPart p.path → k ≡ key_place (keys_of (node_at (view b) p.place)) key → n ≡ node_at (view b) p.place → q ≡ paired_at n key v k

@@ -29,8 +29,10 @@ use Rattle.walk.specs.declared.walk.Stop.{Stop}
 use Rattle.walk.specs.declared.walk.Answer.{Answer}
 use Rattle.client.specs.Layout.{ClientWord}
 use Rattle.client.specs.Record.{in_store, value_of}
+use Rattle.client.specs.Lent.{used_in}
 use Rattle.walk.specs.Laws.Entries.{extra_inner, entry_slot, entry_keys}
-use Rattle.walk.specs.Walk.{Going, Ended, answer_course, goes}
+use Rattle.walk.specs.Walk.{Course, Going, Ended, answer_course, Told, goes, over, walked}
+use Rattle.walk.specs.Laws.Walk.{walked_done, full_done}
 use Rattle.walk.specs.Ask.{SmallNode, OwnGood}
 use Rattle.walk.specs.Down.{Followed}
 use Rattle.walk.specs.Laws.Down.{stops_not}
@@ -43,6 +45,7 @@ use Rattle.change.specs.Laws.Parts.{out_level, widened_entries, widened_content}
 use Rattle.change.specs.Beside.{pair_of}
 use Rattle.change.specs.Laws.Beside.{paired, right_out}
 use Rattle.change.specs.Merge.{Between, Neighbours, pair_in, collapse_plan, Collapses, collapses, merge_plan, Merges}
+use Rattle.plans.specs.Plan as P
 
 pub between : (b : Turn) (at left right : ℕ) (last : Bool) → (0 < b.node.count) × (b.at ≤ b.node.count) × (b.node.count ≤ 14) → at ≡ pair_at b.node.count b.at
     → left ≡ get_or b.node.slots at 0 → right ≡ get_or b.node.slots (at + 1) 0 → last ≡ eqb b.at b.node.count
@@ -77,10 +80,21 @@ module _ (b : Turn) (s : Sides) (g : Followed b) (h : Between b s) (lo : ℕ) wh
       sym (get_or-map (λ (e : ℕ × ℕ). e.0) above (suc s.at) (0, 0))
       ∙ rw (entry_keys b.node lo g.whole, extra_inner b.node g.inner) (get_or-take b.node.count b.node.keys s.at 0 h.paired.inside)
 
+-- an answer, or one object too many
+pub ends_halts : (slots : ℕ) (m : ClientWord → ℕ) (u : List ℕ) (a b : ℕ) (s : Course) (u' : List ℕ) → Ends m u a b s u' → goes s ≡ false
+ends_halts slots m u a b s u' h = go (over m (used_in u)) refl
+  where
+    is : (walked slots m (P.done ((a, b, []), [])) (used_in u)).course ≡ s
+    is = ap (λ (t : Told). t.course) (h.same slots [] [])
+
+    go : (o : Bool) → over m (used_in u) ≡ o → goes s ≡ false
+    go true e = ap goes (sym (sym (ap (λ (t : Told). t.course) (full_done slots m (used_in u) ((a, b, []), []) e)) ∙ is))
+    go false e = ap goes (sym (sym (ap (λ (t : Told). t.course) (walked_done slots m (used_in u) ((a, b, []), []) e)) ∙ is))
+
 -- a node is freed, or its flag ends the walk
-module _ (slots : ℕ) (m : ClientWord → ℕ) (x u : List ℕ) (c : ℕ) (x' u' : List ℕ) (h : Released slots m x u c Going x' u') where
-  pub freed_good : OwnGood x'
-  freed_good = h.good refl
+module _ (slots : ℕ) (m : ClientWord → ℕ) (x u : List ℕ) (c : ℕ) (s : Course) (x' u' : List ℕ) (h : Released slots m x u c s x' u') where
+  pub freed_good : goes s ≡ true → OwnGood x'
+  freed_good on = h.good on
 
   pub freed_some : get_or x 0 0 ≤ 12 → get_or x' 0 0 ≤ 14
   freed_some q = omega (arith, h.few)

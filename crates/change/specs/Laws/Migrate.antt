@@ -84,15 +84,16 @@ module _ (slots : ℕ) (m : ClientWord → ℕ) (x u : List ℕ) (top nm s key :
     abbrev d : Arrival
     d = arrival c (Ok p)
 
-    pub below_parent : Parent slots n.level p.name (node_at (view c) p.place)
-    below_parent = h.parent refl
-
     pub below_moves : (st : Course) (x' u' : List ℕ) → MovedAt slots m x u₁ key nm s n p.name (node_at (view c) p.place) st x' u'
         → Operated slots m x u (move_below slots top nm s (value_of (node nm) n) n.level key) st x' u'
     below_moves st x' u' a =
-        let e : d.node.level ≡ suc n.level = below_parent.level in
+        let e : d.node.level ≡ suc n.level = (h.parent refl).level in
         follows slots m x u u₁ (move_below slots top nm s w n.level key) _ st x' u' (λ hold. h.asks (move_at slots nm s w key) ∙ rw (← e))
         (a.operated (branches (trail d.path (suc n.level) (d.top - suc n.level))) (low (trail d.path (suc n.level) (d.top - suc n.level))))
+
+pub below_parent : (slots : ℕ) (m : ClientWord → ℕ) (u : List ℕ) (key top l : ℕ) (c : List ℕ) (p : Descent) (u' : List ℕ) → ToParent slots m u key top l (arrival c (Ok p)) u'
+    → Parent slots l p.name (node_at (view c) p.place)
+below_parent slots m u key top l c p u' h = h.parent refl
 
 pub ruleset below_exits = (below_stops, below_parent, below_moves)
 

@@ -1,5 +1,5 @@
 -- Laws of a node moved.
-use Rattle.std.specs.Prelude.{◌≡◌, refl, true, false, List, [], ◌∷◌, ℕ, ◌<◌, length, get_or, take, Option, None, Some, Ok, Err}
+use Rattle.std.specs.Prelude.{◌≡◌, refl, true, false, List, [], ◌∷◌, ℕ, ◌<◌, length, get_or, take, Option, None, Some, Result, Ok, Err}
 use Rattle.std.proofs.Common.{◌∙◌, arith}
 use Rattle.nodes.specs.declared.node.Node.{Node}
 use Rattle.nodes.specs.Lists.{pad}
@@ -14,7 +14,7 @@ use Rattle.walk.specs.declared.walk.Stop.{Stop}
 use Rattle.client.specs.Layout.{ClientWord}
 use Rattle.client.specs.Record.{in_store, value_of, metadata, record_of}
 use Rattle.client.specs.Lent.{OwnFits, own_put, used_in}
-use Rattle.walk.specs.Walk.{Course, Going, Ended, walked, carry}
+use Rattle.walk.specs.Walk.{Course, Going, Ended, course, goes, stands, walked, carry}
 use Rattle.walk.specs.Ask.{SmallNode, OwnGood, HoldsWrites}
 use Rattle.walk.specs.Laws.Ask.{name_below}
 use Rattle.walk.specs.Take.{NodeTaken, Released, Wrote}
@@ -24,6 +24,12 @@ use Rattle.walk.specs.Laws.Search.{row_is}
 use Rattle.change.specs.Rise.{NodeWritten}
 use Rattle.change.specs.Laws.Rise.{never}
 use Rattle.change.specs.Move.{beside, Beside, Placed, Left, moves, Moved}
+
+-- what ends a move is no answer
+pub moved_stops : (slots : ℕ) (m : ClientWord → ℕ) (x u : List ℕ) (nm s : ℕ) (n : Node) (b : Option ℕ) (r : Result ℕ Stop) (x' u' : List ℕ) → Moved slots m x u nm s n b r x' u'
+    → HoldsWrites slots x [] → goes (course r) ≡ false → stands (course r) ≡ false
+moved_stops slots m x u nm s n b (Ok d) x' u' h hold q = q
+moved_stops slots m x u nm s n b (Err e) x' u' h hold q = refl
 
 -- ---- the metadata
 root_value : (d states : ℕ) → value_of meta (metadata 0 d states) ≡ root d states
@@ -136,10 +142,10 @@ leave_last_good slots m x u nm x' u' h = h.good refl
 pub ruleset leave_exits = (leave_room, leave_good, leave_stops, leave_last_room, leave_last_good, leave_done, name_below)
 
 -- ---- the whole move
-module _ (slots : ℕ) (m : ClientWord → ℕ) (x u : List ℕ) (s slot d : ℕ) (x₁ u₁ : List ℕ) (a : Placed slots m x u s slot (Ok d) x₁ u₁) where
-  pub move_room : get_or x 0 0 ≡ 0 → get_or x₁ 0 0 < 16
-  move_room empty = omega (arith, a.few)
+pub move_room : (slots : ℕ) (m : ClientWord → ℕ) (x u : List ℕ) (s slot : ℕ) (r : Result ℕ Stop) (x₁ u₁ : List ℕ) → Placed slots m x u s slot r x₁ u₁ → get_or x 0 0 ≡ 0 → get_or x₁ 0 0 < 16
+move_room slots m x u s slot r x₁ u₁ a empty = omega (arith, a.few)
 
+module _ (slots : ℕ) (m : ClientWord → ℕ) (x u : List ℕ) (s slot d : ℕ) (x₁ u₁ : List ℕ) (a : Placed slots m x u s slot (Ok d) x₁ u₁) where
   pub move_good : OwnGood x₁
   move_good = a.good refl
 

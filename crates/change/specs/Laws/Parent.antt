@@ -1,5 +1,5 @@
 -- Laws of a moved node's parent.
-use Rattle.std.specs.Prelude.{◌≡◌, refl, true, List, [], ◌∷◌, ℕ, zero, suc, ◌+◌, ◌-◌, ◌≤◌, ◌<◌, drop, get_or, set, None, Ok, Err}
+use Rattle.std.specs.Prelude.{◌≡◌, refl, true, false, List, [], ◌∷◌, ℕ, zero, suc, ◌+◌, ◌-◌, ◌≤◌, ◌<◌, drop, get_or, set, Option, None, Ok, Err}
 use Rattle.std.proofs.Common.{sym, ◌∙◌, arith, add-one}
 use Rattle.std.proofs.Math.Decide.{ℕ_discrete, dec_lt}
 use Rattle.std.proofs.Math.ListN.{length, length-set, get_or-map}
@@ -25,10 +25,11 @@ use Rattle.client.specs.Record.{in_store, value_of}
 use Rattle.client.specs.Lent.{used_in}
 use Rattle.walk.specs.Entries.{opens, Inner}
 use Rattle.walk.specs.Laws.Entries.{open_inner, extra_inner, cut_at_is, keys_later, entry_slot, entry_keys, stored_node}
-use Rattle.walk.specs.Walk.{Course, Going, Ended}
+use Rattle.walk.specs.Walk.{Course, Going, Ended, goes}
 use Rattle.walk.specs.Laws.Walk.{walked_fails}
 use Rattle.walk.specs.Ask.{OwnGood, Noted}
-use Rattle.walk.specs.Down.{Arrival, no_arrival, RootMet, From, Stops, Led, Linked, trail, Reached}
+use Rattle.walk.specs.Laws.Down.{stops_not}
+use Rattle.walk.specs.Down.{Arrival, RootMet, From, Stops, Led, Linked, trail, Reached}
 use Rattle.walk.specs.Laws.Ask.{name_below}
 use Rattle.walk.specs.Take.{Wrote}
 use Rattle.walk.specs.Lookup.{Ends}
@@ -102,11 +103,11 @@ module _ (slots : ℕ) (m : ClientWord → ℕ) (x u : List ℕ) (nm s : ℕ) (n
 pub child_inside : (slots l up : ℕ) (p : Node) (at : ℕ) → Parent slots l up p → at ≤ p.count → at < p.count + extra p.kind
 child_inside slots l up p at f h = let i : Inner p = open_inner p f.opened (omega (arith, f.level)) in omega (arith, extra_inner p i)
 
-pub child_room : (slots : ℕ) (m : ClientWord → ℕ) (x u : List ℕ) (nm s : ℕ) (n : Node) (to : ℕ) (x' u' : List ℕ) → Moved slots m x u nm s n None (Ok to) x' u' → get_or x' 0 0 < 20
-child_room slots m x u nm s n to x' u' h = omega (arith, h.few refl)
+pub child_room : (slots : ℕ) (m : ClientWord → ℕ) (x u : List ℕ) (nm s : ℕ) (n : Node) (b : Option ℕ) (to : ℕ) (x' u' : List ℕ) → Moved slots m x u nm s n b (Ok to) x' u' → get_or x' 0 0 < 20
+child_room slots m x u nm s n b to x' u' h = omega (arith, h.few refl)
 
-pub child_good : (slots : ℕ) (m : ClientWord → ℕ) (x u : List ℕ) (nm s : ℕ) (n : Node) (to : ℕ) (x' u' : List ℕ) → Moved slots m x u nm s n None (Ok to) x' u' → OwnGood x'
-child_good slots m x u nm s n to x' u' h = h.good refl
+pub child_good : (slots : ℕ) (m : ClientWord → ℕ) (x u : List ℕ) (nm s : ℕ) (n : Node) (b : Option ℕ) (to : ℕ) (x' u' : List ℕ) → Moved slots m x u nm s n b (Ok to) x' u' → OwnGood x'
+child_good slots m x u nm s n b to x' u' h = h.good refl
 
 pub child_name : (slots l up : ℕ) (p : Node) → Parent slots l up p → up < 8192
 child_name slots l up p f = name_below slots up f.there
@@ -172,16 +173,16 @@ module _ (slots : ℕ) (m : ClientWord → ℕ) (u : List ℕ) (key top l : ℕ)
   abbrev below : Cont → ℕ → Entries → TreePlan
   below k j es = ifd (dec_lt l j) (down (to_level (suc l)) key k j [] top es) (P.fail no_tree)
 
-  pub parent_no_root : (e : Stop) → RootMet slots m u top (Ended e) r u₁ → ToParent slots m u key top l (no_arrival e) u₁
-  parent_no_root e h = record { asks = λ k. h.asks (below k); noted = h.noted; parent = λ t. never t }
+  pub parent_no_root : (s : Course) (d : Arrival) → RootMet slots m u top s r u₁ → goes s ≡ false → d.course ≡ s → ToParent slots m u key top l d u₁
+  parent_no_root s d h halts e = record { asks = λ k. rw (h.asks (below k), e, halts); noted = h.noted; parent = λ t. stops_not s halts (rw e at t) }
 
   module _ (h : RootMet slots m u top Going r u₁) where
-    pub parent_low : (v : ℕ) → v ≡ r.level → v ≤ l → ToParent slots m u key top l (no_arrival (Aborts 3)) u₁
-    parent_low v pv g = record {
-      asks = λ k. h.asks (below k) ∙ rw (ifd_no (dec_lt l r.level) (down (to_level (suc l)) key k r.level [] top (entries_of r 0)) (P.fail no_tree) (λ a. absurd (omega arith)))
+    pub parent_low : (d : Arrival) (v : ℕ) → v ≡ r.level → v ≤ l → d.course ≡ Ended (Aborts 3) → ToParent slots m u key top l d u₁
+    parent_low d v pv g e = record {
+      asks = λ k. h.asks (below k) ∙ rw (ifd_no (dec_lt l r.level) (down (to_level (suc l)) key k r.level [] top (entries_of r 0)) (P.fail no_tree) (λ a. absurd (omega arith)), e)
           (walked_fails slots m (used_in u₁) no_tree);
       noted = h.noted;
-      parent = λ t. never t;
+      parent = λ t. stops_not (Ended (Aborts 3)) refl (rw e at t);
     }
 
     pub parent_from : (v : ℕ) → v ≡ r.level → l < v → From r (l + 1)
