@@ -3,11 +3,12 @@ use Rattle.std.specs.Prelude.{◌≡◌, Bool, cond, ◌&&◌, ◌||◌, length}
 use Rattle.std.proofs.Math.Path.{refl, sym, ap, subst}
 use Rattle.std.proofs.Common.{◌∙◌}
 use Rattle.std.proofs.Math.Bool.{true, false, not}
+use Rattle.std.proofs.lemmas.Bool.{false≢true}
 use mathlib.Core.List.{List, [], ◌∷◌, ◌++◌}
 use Prim.Native.Nat.{ℕ, zero, suc, ◌+◌, ◌-◌, ◌*◌, ◌≤◌, ◌<◌}
 use native.Mathlib.Omega.{arith}
 use Rattle.std.proofs.Math.Numerals.{add-one}
-use Rattle.std.proofs.Math.Decide.{ℕ_discrete}
+use Rattle.std.proofs.Math.Decide.{ℕ_discrete, dec_lt}
 use borrow.Author.Tests.{eq-eqb, ne_eqb, lt-ltb, le-ltb, le-leb, lt-leb, leb-false, not-true, not-false}
 use borrow.Rule.Slice.PartMut.{put_mid, mid_of}
 use Rattle.std.proofs.Math.Dec.{eqb, leb, ltb}
@@ -104,7 +105,7 @@ module _ (x : ServerChange) where
     none_added t = rw (← e, t)
 
 -- all that a change reads
-module _ (z : Sizes) (b₀ : List ℕ) (x : ServerChange) (s low : ℕ) (e : Lowest z b₀ low) (p : Bool) (ep : p ≡ all_below z.clients (phase_fits z (view b₀))) where
+module _ (z : Sizes) (b₀ : List ℕ) (x : ServerChange) (s : ℕ) (p : Bool) (ep : p ≡ all_below z.clients (phase_fits z (view b₀))) where
   abbrev m : Address → ℕ
   m = stored_in z (view b₀)
 
@@ -112,7 +113,7 @@ module _ (z : Sizes) (b₀ : List ℕ) (x : ServerChange) (s low : ℕ) (e : Low
   unfolding change_fits
   phases_unfit t = rw (← ep, not-true p t)
 
-  module _ (np : not p ≡ false) (q : Bool) (eq : q ≡ metadata_sound z.slots (of_server z (view b₀) low)) where
+  module _ (low : ℕ) (e : Lowest z b₀ low) (np : not p ≡ false) (q : Bool) (eq : q ≡ metadata_sound z.slots (of_server z (view b₀) low)) where
     pub metadata_unfit : not q ≡ true → false ≡ change_fits z m x s
     unfolding change_fits
     metadata_unfit t = rw (← ep, not-false p np, ← e.lowest, lt-ltb _ _ e.server, ← eq, not-true q t)
@@ -460,17 +461,17 @@ module _ (c : ServerChange) (states s : ℕ) where
 pub ruleset states_exits = (states_added, states_closed, states_removed)
 
 -- ---- the whole: nobody is there
-none_fits : (z : Sizes) (c : ServerChange) (s : ℕ) (m : Address → ℕ) → 8 ≡ lowest_there m → change_fits z m c s ≡ false
+pub nobody_there : (z : Sizes) (c : ServerChange) (s low : ℕ) (m : Address → ℕ) → low ≡ lowest_there m → 8 ≤ low → false ≡ change_fits z m c s
 unfolding change_fits
-none_fits z c s m e = rw (← e) (go (all_below z.clients (λ i. leb (m (client i phase)) decided_phase)))
+nobody_there z c s low m e l = sym (rw (← e, le-ltb low 8 l) (go (all_below z.clients (λ i. leb (m (client i phase)) decided_phase))))
   where
     go : (b : Bool) → (b && false) ≡ false
     go true = refl
     go false = refl
 
-pub nobody_there : (z : Sizes) (c : ServerChange) (s : ℕ) (w : List ℕ) → 8 ≡ lowest_there (stored_in z w) → Meets z (λ m. change_servers z m c s) w (Refused 10) w
+pub nobody_changed : (z : Sizes) (c : ServerChange) (s : ℕ) (w : List ℕ) → 8 ≡ lowest_there (stored_in z w) → Meets z (λ m. change_servers z m c s) w (Refused 10) w
 unfolding change_servers
-nobody_there z c s w e = meets_refused z w 10 (λ m. change_servers z m c s) (sym (rw (none_fits z c s (stored_in z w) e)))
+nobody_changed z c s w e = meets_refused z w 10 (λ m. change_servers z m c s) (sym (rw (← nobody_there z c s 8 (stored_in z w) e (omega arith))))
 
 -- by the lowest server there
 module _ (z : Sizes) (b₀ : List ℕ) (low : ℕ) (e : Lowest z b₀ low) where
@@ -481,17 +482,26 @@ module _ (z : Sizes) (b₀ : List ℕ) (low : ℕ) (e : Lowest z b₀ low) where
       let g : leb 4294967295 (stored_in z (view b₀) (server low Version)) ≡ false = rw (← e.lowest, lt-ltb low 8 e.server) at h in
       subst (λ (y : Metadata). y.version < 4294967295) (sym q) (leb-false 4294967295 (stored_in z (view b₀) (server low Version)) g)
 
-  module _ (c : ServerChange) (s : ℕ) (f : Bool) (ef : f ≡ change_fits z (stored_in z (view b₀)) c s) where
-    pub change_unfit : not f ≡ true → Meets z (λ m. change_servers z m c s) (view b₀) (Refused 10) (view b₀)
-    unfolding change_servers
-    change_unfit t = meets_refused z (view b₀) 10 (λ m. change_servers z m c s) (sym (rw (← ef, not-true f t)))
+-- by what is judged: where all of it fits, somebody is there
+module _ (z : Sizes) (b₀ : List ℕ) (c : ServerChange) (s : ℕ) (f : Bool) (ef : f ≡ change_fits z (stored_in z (view b₀)) c s) where
+  pub change_unfit : not f ≡ true → Meets z (λ m. change_servers z m c s) (view b₀) (Refused 10) (view b₀)
+  unfolding change_servers
+  change_unfit t = meets_refused z (view b₀) 10 (λ m. change_servers z m c s) (sym (rw (← ef, not-true f t)))
 
-    pub change_done : (old : Metadata) (st : ℕ) (b₂ : List ℕ) → not f ≡ false → old ≡ metadata_at (of_server z (view b₀) low) → st ≡ changed_states c old.states s
+  module _ (low : ℕ) (e : low ≡ lowest_there (stored_in z (view b₀))) (t : not f ≡ false) where
+    pub low_there : low < 8
+    low_there = go (dec_lt low 8)
+      where
+        go : Dec (low < 8) → low < 8
+        go (yes l) = l
+        go (no d) = absurd (false≢true (nobody_there z c s low (stored_in z (view b₀)) e (omega (arith, d)) ∙ sym ef ∙ not-false f t))
+
+    pub change_done : (old : Metadata) (st : ℕ) (b₂ : List ℕ) → old ≡ metadata_at (of_server z (view b₀) low) → st ≡ changed_states c old.states s
         → Does whole (block z) (changing z c s (record { root = old.root; version = old.version; states = st })) silent (view b₀) 0 (view b₂)
         → Meets z (λ m. change_servers z m c s) (view b₀) Done (view b₂)
     unfolding change_servers changing added told tell_one
-    change_done old st b₂ t q r d =
+    change_done old st b₂ q r d =
         meets_as z (view b₀) Done (view b₂) (λ m. did Done (changing z c s (record { root = old.root; version = old.version; states = st }) m)) (λ m. change_servers z m c s)
-        (sym (rw (← ef, not-false f t, ← e.lowest, ← q, ← r))) (meets_did z (view b₀) Done (view b₂) (changing z c s (record { root = old.root; version = old.version; states = st })) d)
+        (sym (rw (← ef, not-false f t, ← e, ← q, ← r))) (meets_did z (view b₀) Done (view b₂) (changing z c s (record { root = old.root; version = old.version; states = st })) d)
 
-pub ruleset change_exits = (not_last, change_unfit, change_done)
+pub ruleset change_exits = (not_last, change_unfit, low_there, change_done)

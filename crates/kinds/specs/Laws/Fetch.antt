@@ -1,5 +1,5 @@
 -- Laws of a fetch's check: "A fetch checks at that server what the transaction has read".
-use Rattle.std.specs.Prelude.{◌≡◌, Bool, false, cond, not, length, take, drop, Option as CodeOption, None}
+use Rattle.std.specs.Prelude.{◌≡◌, Bool, false, cond, not, length, take, drop, None}
 use Rattle.std.proofs.Math.Path.{refl, sym, ap, ap₂}
 use Rattle.std.proofs.Common.{◌∙◌, subst}
 use Rattle.std.proofs.Math.Bool.{true}
@@ -25,15 +25,13 @@ use Rattle.client.specs.Have.{copied}
 use Rattle.client.specs.Lent.{InUse, used_in}
 use Rattle.client.specs.Laws.Lent.{length_used}
 use Rattle.steps.specs.declared.sizes.Sizes.{Sizes}
-use Rattle.kinds.specs.declared.findings.Fault.{Fault}
-use Rattle.kinds.specs.declared.findings.Found.{Found}
 use Rattle.steps.specs.Uses.{Item, each, item_of, read_items, used_items, least, reason_of, deciding}
 use Rattle.steps.specs.Judge.{lock_fits}
 use Rattle.steps.specs.Servers.{there}
 use Rattle.kinds.specs.Parts.{stored_in}
 use Rattle.kinds.specs.Items.{as_item, read_item}
 use Rattle.kinds.specs.Judge.{of_client, of_server}
-use Rattle.kinds.specs.Findings.{fault_number, as_fault, later, lock_reason, compared_at}
+use Rattle.kinds.specs.Findings.{as_fault, later, lock_reason, compared_at}
 use Rattle.kinds.specs.Laws.Findings.{by_lock, settled, unsettled, some_fault, least_upto, least_first, least_next}
 use Rattle.kinds.specs.Fetch.{used_item, known_at, AllKnown, fetch_fault, items_found, reached, room_of, gate_of}
 use Rattle.kinds.specs.declared.items.Item as code
@@ -134,10 +132,10 @@ module _ (z : Sizes) (w : List ℕ) (c s : ℕ) (i : code.Item) where
       unfolding compared_at
       fault_open y h k = k ∙ settled fits busy true marks (sym h) ∙ at_fault
 
-      pub fault_held : (f : Fault) → fault_number f ≡ lock_reason z w c s i.number Fetch → fault_number f ≡ fetch_fault z w c s (as_item i)
-      fault_held f h = h ∙ unsettled fits busy true marks (λ n. some_fault f (h ∙ n)) ∙ at_fault
+      pub fault_held : (k : ℕ) → k ≡ lock_reason z w c s i.number Fetch → ¬ (k ≡ 0) → k ≡ fetch_fault z w c s (as_item i)
+      fault_held k h d = h ∙ unsettled fits busy true marks (λ n. d (h ∙ n)) ∙ at_fault
 
-pub ruleset fetch_items_exits = (used_by, known_there, known_copy, copy_small, fault_unkind, fault_elsewhere, fault_open, fault_held)
+pub ruleset fetch_items_exits = (used_by, known_there, known_copy, copy_small, fault_unkind, fault_elsewhere, fault_open, fault_held, some_fault)
 
 -- ---- over all objects read, one after another
 module _ (z : Sizes) (w : List ℕ) (c s : ℕ) (u : List ℕ) where
@@ -160,13 +158,13 @@ module _ (z : Sizes) (w : List ℕ) (c s : ℕ) (u : List ℕ) where
   unfolding known_found
   known_found_none = least_first (fetch_fault z w c s) (known_at (of_client z w c) (used_in u))
 
-  pub known_found_next : (i y : ℕ) (t : code.Item) (f g : CodeOption Found) → as_fault f ≡ known_found i → as_item t ≡ known_at (of_client z w c) (used_in u) i
-      → y ≡ fetch_fault z w c s (as_item t) → as_fault g ≡ later (as_fault f) t.number y → as_fault g ≡ known_found (i + 1)
+  pub known_found_next : (i y : ℕ) (t : code.Item) (f g : Option (ℕ × ℕ)) → f ≡ known_found i → as_item t ≡ known_at (of_client z w c) (used_in u) i
+      → y ≡ fetch_fault z w c s (as_item t) → g ≡ later f t.number y → g ≡ known_found (i + 1)
   unfolding known_found
   known_found_next = least_next (fetch_fault z w c s) (known_at (of_client z w c) (used_in u))
 
-  pub known_found_all : (i n r : ℕ) (f : CodeOption Found) → InUse u → i ≤ n → n ≤ i → n ≡ count (of_client z w c) Reads + get_or u 0 0 → as_fault f ≡ known_found i
-      → r ≡ reason_of (as_fault f) → r ≡ items_found z w c s (used_in u)
+  pub known_found_all : (i n r : ℕ) (f : Option (ℕ × ℕ)) → InUse u → i ≤ n → n ≤ i → n ≡ count (of_client z w c) Reads + get_or u 0 0 → f ≡ known_found i
+      → r ≡ reason_of f → r ≡ items_found z w c s (used_in u)
   unfolding known_found least_upto items_found deciding fetch_fault
   known_found_all i n r f used a b e h k =
       let q : i ≡ N = omega (arith, whole_count n used e) in
@@ -193,6 +191,12 @@ gate_held true true y d = refl
 gate_held true false y d = absurd (d refl)
 gate_held false held y d = refl
 
+-- a reason that is neither 0 nor 10 is 2
+busy_held : (fits held : Bool) → ¬ (by_lock fits held ≡ 0) → ¬ (by_lock fits held ≡ 10) → 2 ≡ by_lock fits held
+busy_held true true d n = refl
+busy_held true false d n = absurd (d refl)
+busy_held false held d n = absurd (n refl)
+
 module _ (z : Sizes) (w : List ℕ) (c s x : ℕ) (us : List ℕ) where
   abbrev lock_there : Bool
   lock_there = lock_fits z (stored_in z w) s x
@@ -204,11 +208,15 @@ module _ (z : Sizes) (w : List ℕ) (c s x : ℕ) (us : List ℕ) where
   unfolding gate_of
   gate_passed y h k = k ∙ gate_open lock_there lock_held (room_of z w c us) (sym h)
 
-  pub gate_stops : (f : Fault) → fault_number f ≡ lock_reason z w c s x Fetch → fault_number f ≡ gate_of z w c s x us
-  unfolding gate_of
-  gate_stops f h = h ∙ gate_held lock_there lock_held (room_of z w c us) (λ n. some_fault f (h ∙ n))
+  module _ (k : ℕ) (h : k ≡ lock_reason z w c s x Fetch) (d : ¬ (k ≡ 0)) where
+    pub gate_stops : k ≡ gate_of z w c s x us
+    unfolding gate_of
+    gate_stops = h ∙ gate_held lock_there lock_held (room_of z w c us) (λ n. d (h ∙ n))
 
-pub ruleset gates = (room_full, room_left, gate_passed, gate_stops)
+    pub gate_busy : ¬ (k ≡ 10) → 2 ≡ gate_of z w c s x us
+    gate_busy n = busy_held lock_there lock_held (λ e. d (h ∙ e)) (λ e. n (h ∙ e)) ∙ sym h ∙ gate_stops
+
+pub ruleset gates = (room_full, room_left, gate_passed, gate_stops, some_fault)
 
 module _ (z : Sizes) (w : List ℕ) (c s : ℕ) (us : List ℕ) (h : Bool) (e : h ≡ there (stored_in z w) s) where
   pub out_of_reach : not h ≡ true → 1 ≡ reached z w c s us

@@ -1,10 +1,10 @@
 -- Laws of the findings' code: "in the order metadata, nodes by name, flags by name".
-use Rattle.std.specs.Prelude.{◌≡◌, Bool, true, false, cond, not, ◌&&◌, ◌||◌, List, [], ◌∷◌, ◌++◌, map, ℕ, zero, suc, ◌+◌, ◌≤◌, ◌<◌, eqb, leb, Option as CodeOption, Some, None}
+use Rattle.std.specs.Prelude.{◌≡◌, Bool, true, false, cond, not, ◌&&◌, ◌||◌, List, [], ◌∷◌, ◌++◌, map, ℕ, zero, suc, ◌+◌, ◌≤◌, ◌<◌, eqb, leb, None}
 use Rattle.std.proofs.Math.Path.{refl, sym, ap}
 use Rattle.std.proofs.Common.{◌∙◌, add-one}
 use Rattle.std.proofs.Math.Option.{Option, none, some}
 use native.Mathlib.Omega.{arith}
-use borrow.Author.Tests.{le-leb, lt-leb, leb-true, leb-false, not-true, not-false}
+use borrow.Author.Tests.{ne_eqb, le-leb, lt-leb, leb-true, leb-false, not-true, not-false}
 use Rattle.memory.specs.Bit.{bit}
 use Rattle.memory.proofs.Laws.Bit.{zero_bit, put_none}
 use Rattle.server.specs.declared.check.Finding.{Finding}
@@ -24,7 +24,6 @@ use Rattle.client.specs.Items.{all_below}
 use Rattle.steps.specs.declared.sizes.Sizes.{Sizes}
 use Rattle.kinds.specs.declared.findings.Fault.{Fault}
 use Rattle.kinds.specs.declared.findings.Fault.TheVariants.{Damaged, Differs, Busy as IsBusy, TooMany}
-use Rattle.kinds.specs.declared.findings.Found.{Found}
 use Rattle.steps.specs.Whole.{server}
 use Rattle.steps.specs.Uses.{Item, each, read_items, use_of, checked_at, locked_at, lesser, least, reason_of, deciding}
 use Rattle.steps.specs.Judge.{has_transaction, holders_fit, lock_fits, lowest_participant}
@@ -32,7 +31,7 @@ use Rattle.kinds.specs.Parts.{stored_in}
 use Rattle.kinds.specs.Items.{as_item, read_item}
 use Rattle.kinds.specs.Judge.{of_client, of_server, word_fits}
 use Rattle.kinds.specs.Laws.Items.{locked_by}
-use Rattle.kinds.specs.Findings.{fault_number, as_pair, as_fault, or_later, later, word_reason, lock_reason, compared_at, mark_reason, prepare_reason, prepare_fault, prepare_found}
+use Rattle.kinds.specs.Findings.{fault_number, as_fault, or_later, later, word_reason, lock_reason, compared_at, mark_reason, prepare_reason, prepare_fault, prepare_found}
 use Rattle.kinds.specs.declared.items.Item as code
 
 -- ---- the least, once there is one more
@@ -67,25 +66,29 @@ least_later (f ∷ l) g = go (eqb f.1 0) (eqb g.1 0) refl (least_later l g)
         let k : least (l ++ (g ∷ [])) ≡ or_later (least l) g = h ∙ rw q in
         ap (lesser f) k ∙ lesser_later f g (least l)
 
--- ---- the lesser of two faults
-module _ (f g : Found) where
-  pub first_least : f.number ≤ g.number → as_fault (Some f) ≡ or_later (as_fault (Some f)) (as_pair g)
-  first_least h = sym (rw (le-leb f.number g.number h))
-
-  pub second_least : g.number < f.number → as_fault (Some g) ≡ or_later (as_fault (Some f)) (as_pair g)
-  second_least h = sym (rw (lt-leb f.number g.number h))
-
--- one more is found, or none
-pub one_found : (o : CodeOption Found) (x : ℕ) (f : Fault) → or_later (as_fault o) (x, fault_number f) ≡ later (as_fault o) x (fault_number f)
+-- ---- one more is found, or none
+pub one_found : (o : Option (ℕ × ℕ)) (x y : ℕ) → (y ≡ 0 → ⊥) → or_later o (x, y) ≡ later o x y
 unfolding later
-one_found o x Damaged = refl
-one_found o x Differs = refl
-one_found o x IsBusy = refl
-one_found o x TooMany = refl
+one_found o x y d = sym (rw (ne_eqb y 0 d))
 
-pub none_found : (o : CodeOption Found) (x : ℕ) → as_fault o ≡ later (as_fault o) x 0
+pub none_found : (o : Option (ℕ × ℕ)) (x : ℕ) → o ≡ later o x 0
 unfolding later
 none_found o x = refl
+
+-- the lesser of two
+module _ (f g : ℕ × ℕ) where
+  pub first_kept : f.0 ≤ g.0 → some f ≡ or_later (some f) g
+  first_kept h = sym (rw (le-leb f.0 g.0 h))
+
+  pub second_taken : g.0 < f.0 → some g ≡ or_later (some f) g
+  second_taken h = sym (rw (lt-leb f.0 g.0 h))
+
+  module _ (d : g.1 ≡ 0 → ⊥) where
+    pub first_least : f.0 ≤ g.0 → some f ≡ later (some f) g.0 g.1
+    first_least h = first_kept h ∙ one_found (some f) g.0 g.1 d
+
+    pub second_least : g.0 < f.0 → some g ≡ later (some f) g.0 g.1
+    second_least h = second_taken h ∙ one_found (some f) g.0 g.1 d
 
 -- ---- a mark compared, where m is what the server's part holds
 pub compared_lent : (z : Sizes) (w : List ℕ) (s : ℕ) (m : Place → ℕ) (o : Object) (i : code.Item) (f : Finding) (r : ℕ) → m ≡ of_server z w s → o ≡ object_of i.number
@@ -189,11 +192,9 @@ module _ (z : Sizes) (w : List ℕ) (c s : ℕ) (b : Bool) (i : code.Item) (u : 
   unfolding prepare_reason mark_reason compared_at checked
   reason_open y h k = k ∙ settled fits busy? b marks (sym (h ∙ of_lock))
 
-  pub reason_held : (f : Fault) → fault_number f ≡ lock_reason z w c s i.number u → fault_number f ≡ prepare_reason z w c s b (as_item i)
+  pub reason_held : (r : ℕ) → r ≡ lock_reason z w c s i.number u → ¬ (r ≡ 0) → r ≡ prepare_reason z w c s b (as_item i)
   unfolding prepare_reason checked
-  reason_held f h =
-      let k : fault_number f ≡ by_lock fits busy? = h ∙ of_lock in
-      k ∙ unsettled fits busy? b marks (λ n. some_fault f (k ∙ n))
+  reason_held r h d = let k : r ≡ by_lock fits busy? = h ∙ of_lock in k ∙ unsettled fits busy? b marks (λ n. d (k ∙ n))
 
 module _ (z : Sizes) (w : List ℕ) (c s low : ℕ) (i : code.Item) where
   pub fault_read : not i.known ≡ true → 10 ≡ prepare_fault z w c s low (as_item i)
@@ -218,10 +219,13 @@ module _ (z : Sizes) (w : List ℕ) (c s low : ℕ) (i : code.Item) where
       fault_none t = sym (rw (locked_so, t, not-false i.known r, not-false i.settled n))
 
 pub ruleset finding_exits = (
+  first_kept,
+  second_taken,
   first_least,
   second_least,
   one_found,
   none_found,
+  some_fault,
   compared_lent,
   mark_checked,
   mark_none,
@@ -255,12 +259,12 @@ module _ (fault_of : Item → ℕ) (at : ℕ → Item) where
   unfolding least_upto each least
   least_first = refl
 
-  pub least_next : (i y : ℕ) (t : code.Item) (f g : CodeOption Found) → as_fault f ≡ least_upto i → as_item t ≡ at i → y ≡ fault_of (as_item t)
-      → as_fault g ≡ later (as_fault f) t.number y → as_fault g ≡ least_upto (i + 1)
+  pub least_next : (i y : ℕ) (t : code.Item) (f g : Option (ℕ × ℕ)) → f ≡ least_upto i → as_item t ≡ at i → y ≡ fault_of (as_item t)
+      → g ≡ later f t.number y → g ≡ least_upto (i + 1)
   unfolding least_upto each
   least_next i y t f g h q e p =
       let l = each i at in
-      let k : later (as_fault f) t.number y ≡ later (least (map finding l)) (at i).number (fault_of (at i)) =
+      let k : later f t.number y ≡ later (least (map finding l)) (at i).number (fault_of (at i)) =
       rw (e, h) (ap (λ (v : Item). later (least (map finding l)) v.number (fault_of v)) q) in
       p ∙ k ∙ rw (add-one i) (sym (ap least (map_append finding l (at i ∷ [])) ∙ least_later (map finding l) (finding (at i))))
 
@@ -273,13 +277,13 @@ module _ (z : Sizes) (w : List ℕ) (c s low : ℕ) where
   unfolding found_upto
   found_first = least_first (prepare_fault z w c s low) (read_item (of_client z w c))
 
-  pub found_next : (i y : ℕ) (t : code.Item) (f g : CodeOption Found) → as_fault f ≡ found_upto i → as_item t ≡ read_item (of_client z w c) i
-      → y ≡ prepare_fault z w c s low (as_item t) → as_fault g ≡ later (as_fault f) t.number y → as_fault g ≡ found_upto (i + 1)
+  pub found_next : (i y : ℕ) (t : code.Item) (f g : Option (ℕ × ℕ)) → f ≡ found_upto i → as_item t ≡ read_item (of_client z w c) i
+      → y ≡ prepare_fault z w c s low (as_item t) → g ≡ later f t.number y → g ≡ found_upto (i + 1)
   unfolding found_upto
   found_next = least_next (prepare_fault z w c s low) (read_item (of_client z w c))
 
-  pub found_all : (i n r : ℕ) (f : CodeOption Found) → i ≤ n → n ≤ i → n ≡ count (of_client z w c) Reads → low ≡ lowest_participant z (stored_in z w) c → as_fault f ≡ found_upto i
-      → r ≡ reason_of (as_fault f) → r ≡ prepare_found z w c s
+  pub found_all : (i n r : ℕ) (f : Option (ℕ × ℕ)) → i ≤ n → n ≤ i → n ≡ count (of_client z w c) Reads → low ≡ lowest_participant z (stored_in z w) c → f ≡ found_upto i
+      → r ≡ reason_of f → r ≡ prepare_found z w c s
   unfolding found_upto least_upto prepare_found deciding read_items read_item prepare_fault prepare_reason
   found_all i n r f a b en el h k =
       let q : i ≡ count (of_client z w c) Reads = omega arith in

@@ -1,9 +1,9 @@
 -- Laws of refusal 10's code: what is read of parts that are lent, and tests of all items.
-use Rattle.std.specs.Prelude.{◌≡◌, Bool, List, length}
-use Rattle.std.proofs.Math.Path.{sym}
+use Rattle.std.specs.Prelude.{◌≡◌, Bool, ◌&&◌, List, length}
+use Rattle.std.proofs.Math.Path.{refl, sym}
 use Rattle.std.proofs.Common.{ap, ◌∙◌, subst}
 use Rattle.std.proofs.Math.Bool.{true, false}
-use Prim.Native.Nat.{ℕ, ◌+◌, ◌-◌, ◌*◌, ◌≤◌, ◌<◌}
+use Prim.Native.Nat.{ℕ, zero, suc, ◌+◌, ◌-◌, ◌*◌, ◌≤◌, ◌<◌}
 use native.Mathlib.Omega.{arith}
 use borrow.Author.Tests.{lt-ltb, le-ltb, le-leb, lt-leb, ltb-true}
 use borrow.Rule.Slice.PartMut.{mid_of}
@@ -44,6 +44,20 @@ module _ (z : Sizes) (b : List ℕ) (l : StoreIn z (length b)) where
 
   pub server_held : (s k : ℕ) → s < 8 → k ≡ server_at z s → held_by z (mid_of (8 * k) (length b - 8 * k) b) ≡ of_server z (view b) s
   server_held s k h e = server_lent z s k b h e l.room
+
+-- ---- a test of all numbers, one after another
+module _ (f : ℕ → Bool) where
+  fails_on : (i k : ℕ) → f i ≡ false → all_below (suc i + k) f ≡ false
+  unfolding all_below
+  fails_on i zero h = let e : suc i + 0 ≡ suc i = omega arith in rw (e, h) (go (all_below i f))
+    where
+      go : (b : Bool) → (b && false) ≡ false
+      go true = refl
+      go false = refl
+  fails_on i (suc k) h = let e : suc i + suc k ≡ suc (suc i + k) = omega arith in rw (e, fails_on i k h)
+
+  pub one_fails : (i n : ℕ) (b : Bool) → i < n → b ≡ f i → b ≡ false → false ≡ all_below n f
+  one_fails i n b h e t = let q : n ≡ suc i + (n - suc i) = omega arith in sym (rw q (fails_on i (n - suc i) (sym e ∙ t)))
 
 -- ---- holders of locks
 module _ (z : Sizes) (w : List ℕ) where

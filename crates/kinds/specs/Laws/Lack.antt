@@ -1,10 +1,10 @@
 -- Laws of a fetch: what is lacking comes from its server, once what was read is checked there.
-use Rattle.std.specs.Prelude.{◌≡◌, Bool, not, List, leb}
+use Rattle.std.specs.Prelude.{◌≡◌, Bool, not, List, eqb, leb}
 use Rattle.std.proofs.Math.Path.{refl}
 use Rattle.std.proofs.Common.{sym, ap, ◌∙◌, subst, arith}
 use Rattle.std.proofs.Math.Bool.{true, false, cond}
 use Prim.Native.Nat.{ℕ, ◌+◌, ◌-◌, ◌≤◌, ◌<◌}
-use borrow.Author.Tests.{not-true, not-false, ne_eqb, le-leb, lt-ltb}
+use borrow.Author.Tests.{not-true, not-false, ne_eqb, le-leb, lt-ltb, le-ltb}
 use Rattle.std.proofs.Math.ListN.{length}
 use Rattle.layout.specs.Space.{Put}
 use Rattle.layout.specs.Step.{Does, silent}
@@ -37,7 +37,7 @@ use Rattle.kinds.specs.Laws.Kinds.{meets_did, meets_as, meets_refused}
 use Rattle.kinds.specs.Abort.{stops}
 use Rattle.kinds.specs.Laws.Abort.{stopped}
 use Rattle.kinds.specs.Findings.{fault_number}
-use Rattle.kinds.specs.Fetch.{Checking, items_found, reached, gate_of}
+use Rattle.kinds.specs.Fetch.{Fetching, Checking, items_found, reached, gate_of}
 use Rattle.kinds.specs.Lack.{There}
 use Rattle.operations.specs.Object as O
 
@@ -84,10 +84,13 @@ pub reaches : (z : Sizes) (b : List ℕ) (c s : ℕ) (u : List ℕ) → Checking
 reaches z b c s u h = h.server
 
 -- any server
+pub checking_at : (z : Sizes) (b : List ℕ) (c s : ℕ) (u : List ℕ) → Fetching z b c u → s < 8 → Checking z b c s u
+checking_at z b c s u h l = record { holds = h.holds; client = h.client; server = l; in_use = h.in_use; reads = h.reads; known = h.known }
+
 -- "all absent: 10"
-pub no_source : (z : Sizes) (w : List ℕ) (c : ℕ) (us : List ℕ) → 8 ≡ metadata_source (stored_in z w) z c → Meets z (λ m. fetch z m c us (O.object O.meta)) w (Refused 10) w
+pub no_source : (z : Sizes) (w : List ℕ) (c s : ℕ) (us : List ℕ) → s ≡ metadata_source (stored_in z w) z c → 8 ≤ s → Meets z (λ m. fetch z m c us (O.object O.meta)) w (Refused 10) w
 unfolding fetch
-no_source z w c us e = meets_refused z w 10 (λ m. fetch z m c us (O.object O.meta)) (sym (rw (← e)))
+no_source z w c s us e l = meets_refused z w 10 (λ m. fetch z m c us (O.object O.meta)) (sym (rw (← e, le-ltb _ _ l)))
 
 -- ---- what the code comes to; s is the server asked
 module _ (z : Sizes) (w : List ℕ) (c : ℕ) (us : List ℕ) (a : O.Ask) (s : ℕ) (es : s ≡ (wanted (metadata_source (stored_in z w) z c) a).from) (l : s < 8) where
@@ -99,6 +102,15 @@ module _ (z : Sizes) (w : List ℕ) (c : ℕ) (us : List ℕ) (a : O.Ask) (s : �
       fetch_is z w c us a (subst (λ (x : ℕ). x < 8) es l)
       ∙ ap (λ (n : ℕ). by_finding n (hand_over z (stored_in z w) c us a t.from (Fetched t.what t.which)) (λ y. abort z (stored_in z w) c y us))
       (sym (e ∙ ap (λ (t : ℕ). reached z w c t us) es))
+
+  -- by number
+  module _ (y : ℕ) (e : y ≡ reached z w c s us) where
+    pub fetch_unfit : y ≡ 10 → Meets z (λ m. fetch z m c us a) w (Refused 10) w
+    fetch_unfit p = meets_refused z w 10 (λ m. fetch z m c us a) (sym (is_by y e ∙ rw p))
+
+    pub fetch_aborts : (y ≡ 0 → ⊥) → (y ≡ 10 → ⊥) → (o : Outcome) (w' : List ℕ) → Meets z (λ m. abort z m c y us) w o w' → Meets z (λ m. fetch z m c us a) w o w'
+    fetch_aborts n p o w' d =
+        meets_as z w o w' (λ m. abort z m c y us) (λ m. fetch z m c us a) (sym (is_by y e ∙ rw (ne_eqb y 0 n, ne_eqb y 10 p))) d
 
   module _ (o : Outcome) (w' : List ℕ) where
     pub fetch_stops : (f : Fault) → fault_number f ≡ reached z w c s us → Meets z (stops z c f us) w o w' → Meets z (λ m. fetch z m c us a) w o w'
@@ -127,6 +139,12 @@ module _ (z : Sizes) (w : List ℕ) (c : ℕ) (us : List ℕ) (s x : ℕ) (out :
 
   object_by : (n : ℕ) → n ≡ gate_of z w c s x us → D (stored_in z w) ≡ by_finding n (if_fit (ok (stored_in z w)) (did out (handed z (stored_in z w) c us (g (stored_in z w))))) (λ y. abort z (stored_in z w) c y us)
   object_by n e = object_is z w c us s x out (ok (stored_in z w)) (g (stored_in z w)) ∙ rw (← e) refl
+
+  object_unfit : (y : ℕ) → y ≡ gate_of z w c s x us → y ≡ 10 → Meets z D w (Refused 10) w
+  object_unfit y e p = meets_refused z w 10 D (sym (object_by y e ∙ rw p))
+
+  object_aborts : (y : ℕ) → y ≡ gate_of z w c s x us → (y ≡ 0 → ⊥) → (y ≡ 10 → ⊥) → (o : Outcome) (w' : List ℕ) → Meets z (λ m. abort z m c y us) w o w' → Meets z D w o w'
+  object_aborts y e n p o w' d = meets_as z w o w' (λ m. abort z m c y us) D (sym (object_by y e ∙ rw (ne_eqb y 0 n, ne_eqb y 10 p))) d
 
   object_stops : (f : Fault) (o : Outcome) (w' : List ℕ) → fault_number f ≡ gate_of z w c s x us → Meets z (stops z c f us) w o w' → Meets z D w o w'
   object_stops f o w' e d =
@@ -162,6 +180,12 @@ module _ (z : Sizes) (w : List ℕ) (c : ℕ) (us : List ℕ) (s : ℕ) (out : O
   abbrev HandMeta : Outcome → List ℕ → Type 0
   HandMeta o w' = Meets z (λ m. hand_over z m c us (O.object O.meta) s out) w o w'
 
+  pub meta_unfit : (y : ℕ) → y ≡ gate_of z w c s 0 us → y ≡ 10 → HandMeta (Refused 10) w
+  meta_unfit = object_unfit z w c us s 0 out taken sound?
+
+  pub meta_aborts : (y : ℕ) → y ≡ gate_of z w c s 0 us → (y ≡ 0 → ⊥) → (y ≡ 10 → ⊥) → (o : Outcome) (w' : List ℕ) → Meets z (λ m. abort z m c y us) w o w' → HandMeta o w'
+  meta_aborts = object_aborts z w c us s 0 out taken sound?
+
   pub meta_stops : (f : Fault) (o : Outcome) (w' : List ℕ) → fault_number f ≡ gate_of z w c s 0 us → Meets z (stops z c f us) w o w' → HandMeta o w'
   meta_stops = object_stops z w c us s 0 out taken sound?
 
@@ -193,6 +217,12 @@ module _ (z : Sizes) (w : List ℕ) (c : ℕ) (us : List ℕ) (s n : ℕ) (out :
 
   gate_is : (n' : ℕ) → n' ≡ gate_of z w c s x us → n' ≡ gate_of z w c s (1 + n) us
   gate_is n' e = e ∙ rw px
+
+  pub node_unfit : (y : ℕ) → y ≡ gate_of z w c s x us → y ≡ 10 → HandNode (Refused 10) w
+  node_unfit y e p = object_unfit z w c us s (1 + n) out copied fits? y (gate_is y e) p
+
+  pub node_aborts : (y : ℕ) → y ≡ gate_of z w c s x us → (y ≡ 0 → ⊥) → (y ≡ 10 → ⊥) → (o : Outcome) (w' : List ℕ) → Meets z (λ m. abort z m c y us) w o w' → HandNode o w'
+  node_aborts y e = object_aborts z w c us s (1 + n) out copied fits? y (gate_is y e)
 
   pub node_stops : (f : Fault) (o : Outcome) (w' : List ℕ) → fault_number f ≡ gate_of z w c s x us → Meets z (stops z c f us) w o w' → HandNode o w'
   node_stops f o w' e d = object_stops z w c us s (1 + n) out copied fits? f o w' (gate_is (fault_number f) e) d

@@ -3,7 +3,7 @@ use Rattle.std.specs.Prelude.{◌≡◌, Bool, false, cond, ◌&&◌, ◌||◌, 
 use Rattle.std.proofs.Math.Path.{refl, ap, fun_ext}
 use Rattle.std.proofs.Common.{sym, ap₂, ◌∙◌, subst, arith}
 use Rattle.std.proofs.Math.Bool.{true}
-use borrow.Author.Tests.{not-true, not-false}
+use borrow.Author.Tests.{eq-eqb, ne_eqb, not-true, not-false}
 use Rattle.memory.specs.Word.{view}
 use Rattle.memory.proofs.Laws.Word.{view_length}
 use Rattle.memory.specs.Bit.{put_bit}
@@ -241,6 +241,16 @@ module _ (z : Sizes) (c s : ℕ) (w : List ℕ) (o : Outcome) (w' : List ℕ) wh
   pub checked_stops : (f : Fault) → fault_number f ≡ prepare_found z w c s → Meets z (stops z c f []) w o w' → Meets z (λ m. checked_prepare z m c s) w o w'
   unfolding prepare_found
   checked_stops f e d = meets_as z w o w' (stops z c f []) (λ m. checked_prepare z m c s) (stopped z (stored_in z w) c [] f (prepared_at z (stored_in z w) c s) ∙ sym (rw (← e))) d
+
+-- and by number
+module _ (z : Sizes) (c s : ℕ) (w : List ℕ) (y : ℕ) (f : y ≡ prepare_found z w c s) (n : y ≡ 0 → ⊥) where
+  pub checked_refused : y ≡ 10 → Meets z (λ m. checked_prepare z m c s) w (Refused 10) w
+  unfolding prepare_found
+  checked_refused u = meets_refused z w 10 (λ m. checked_prepare z m c s) (sym (rw (← f, ne_eqb y 0 n, eq-eqb y 10 u)))
+
+  pub checked_aborts : (o : Outcome) (w' : List ℕ) → (y ≡ 10 → ⊥) → Meets z (λ m. abort z m c y []) w o w' → Meets z (λ m. checked_prepare z m c s) w o w'
+  unfolding prepare_found
+  checked_aborts o w' u d = meets_as z w o w' (λ m. abort z m c y []) (λ m. checked_prepare z m c s) (sym (rw (← f, ne_eqb y 0 n, ne_eqb y 10 u))) d
 
 -- ---- the whole
 module _ (z : Sizes) (c s : ℕ) (w : List ℕ) (b : Bool) (e : b ≡ fit_to_prepare z.slots (of_client z w c)) where

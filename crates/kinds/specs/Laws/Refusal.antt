@@ -10,8 +10,6 @@ use Rattle.memory.specs.Bit.{bit}
 use Rattle.client.specs.Layout.{ClientWord, field, phase, op_number, participants}
 use Rattle.client.specs.Record.{in_store}
 use Rattle.steps.specs.declared.sizes.Sizes.{Sizes}
-use Rattle.steps.specs.declared.refusal.Refusal.{Refusal}
-use Rattle.steps.specs.Refused.{number_of}
 use Rattle.steps.proofs.Laws.Refused.{some_number}
 use Rattle.steps.specs.declared.step.Step.{Step}
 use Rattle.steps.specs.declared.step.Kind.{Kind}
@@ -114,8 +112,8 @@ unfolding unfit
 client_unfit z k w i m t e q = ap not (q ∙ ap (λ (m : ClientWord → ℕ). state_fits m k.server i) e)
 
 -- ---- 6 to 8
-pub some_first : (r : Refusal) (a b : ℕ) → number_of r ≡ a → number_of r ≡ first_refusal a b
-some_first r a b e = rw (← e, ne_eqb (number_of r) 0 (some_number r)) refl
+pub some_first : (r a b : ℕ) → r ≡ a → (r ≡ 0 → ⊥) → r ≡ first_refusal a b
+some_first r a b e d = rw (← e, ne_eqb r 0 d) refl
 
 pub none_first : (r a b : ℕ) → 0 ≡ a → r ≡ b → r ≡ first_refusal a b
 none_first r a b e h = h ∙ rw (← e) refl
@@ -176,7 +174,7 @@ module _ (n : ℕ) (b : Bool) (e : b ≡ between 1 32 n) where
   unfolding count_refusal
   count_out t = sym (rw (← e, t))
 
-pub ruleset field_exits = (some_first, none_first, server_out, server_in, node_in, node_out, count_in, count_out, op_none, op_other, op_above, op_migrate, op_list)
+pub ruleset field_exits = (some_first, some_number, none_first, server_out, server_in, node_in, node_out, count_in, count_out, op_none, op_other, op_above, op_migrate, op_list)
 
 pub kind_fields : (z : Sizes) (k : Step) (i j : Kind) (r : ℕ) → i ≡ j → r ≡ field_refusal z k j → r ≡ field_refusal z k i
 kind_fields z k i j r e h = rw e h
@@ -202,9 +200,9 @@ module _ (z : Sizes) (k : Step) (i : Kind) (w : List ℕ) where
   no_client h = sym (rw (le-leb _ _ h))
 
   module _ (h : k.client < z.clients) where
-    pub asked_first : (r : Refusal) → number_of r ≡ field_refusal z k i → number_of r ≡ known_refusal z k i w
+    pub asked_first : (r : ℕ) → r ≡ field_refusal z k i → (r ≡ 0 → ⊥) → r ≡ known_refusal z k i w
     unfolding known_refusal
-    asked_first r e = sym (rw (lt-leb _ _ h, ← e, ne_eqb (number_of r) 0 (some_number r)))
+    asked_first r e d = sym (rw (lt-leb _ _ h, ← e, ne_eqb r 0 d))
 
     module _ (e : 0 ≡ field_refusal z k i) (b : Bool) (p : b ≡ unfit z k i w) where
       pub state_unfit : b ≡ true → 9 ≡ known_refusal z k i w
@@ -215,7 +213,7 @@ module _ (z : Sizes) (k : Step) (i : Kind) (w : List ℕ) where
       unfolding known_refusal
       state_fit u = sym (rw (lt-leb _ _ h, ← e, ← p, u))
 
-pub ruleset known_exits = (is_sited, no_client, asked_first, state_unfit, state_fit)
+pub ruleset known_exits = (is_sited, no_client, asked_first, some_number, state_unfit, state_fit)
 
 -- ---- 4 to 9 and 11: the table is what its kinds ask
 -- the table's rows 6, 11, 7 and 8 of a give, then x

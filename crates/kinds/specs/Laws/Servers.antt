@@ -1,11 +1,11 @@
 -- Laws of the code that asks which servers there are.
 use Rattle.std.specs.Prelude.{◌≡◌, Bool, List, eqb, get_or}
 use Rattle.std.proofs.Math.Path.{refl, sym, ap}
-use Rattle.std.proofs.Common.{◌∙◌}
+use Rattle.std.proofs.Common.{◌∙◌, mod-lt}
 use Rattle.std.proofs.Math.Bool.{true, false, not}
 use Prim.Native.Nat.{ℕ, zero, suc, ◌+◌, ◌-◌, ◌%◌, ◌≤◌, ◌<◌}
 use native.Mathlib.Omega.{arith}
-use borrow.Author.Tests.{eq-eqb, ne_eqb, lt-ltb}
+use borrow.Author.Tests.{eq-eqb, ne_eqb, lt-ltb, le-ltb}
 use Rattle.std.proofs.Math.Dec.{leb}
 use Rattle.layout.proofs.Laws.Space.{get_or_tab}
 use Rattle.nodes.specs.Name.{slot_of}
@@ -24,7 +24,7 @@ use Rattle.steps.specs.declared.step.ServerChange.TheVariants.{Add, Close, Remov
 use Rattle.steps.specs.Whole.{Address, server}
 use Rattle.steps.specs.Servers.{first_from, there, lowest_there, metadata_source, other_open, another_open, state_suits, any_taken, version_ends, unended, quiet}
 use Rattle.steps.specs.Steps.{node_at}
-use Rattle.kinds.specs.Parts.{stored_in}
+use Rattle.kinds.specs.Parts.{StoreIn, stored_in}
 use Rattle.kinds.specs.Judge.{of_client, of_server}
 use Rattle.kinds.specs.Servers.{nonzero}
 
@@ -82,6 +82,9 @@ unfolding lowest_there
 by_lowest m r h = h
 
 -- the old one is one of eight
+pub old_one : (z : Sizes) (n c : ℕ) → StoreIn z n → c % z.servers < 8
+old_one z n c h = omega (arith, h.allowed.servers, mod-lt c {m = z.servers} (omega (arith, h.allowed.servers)))
+
 pub by_source : (m : Address → ℕ) (z : Sizes) (c r : ℕ) → r ≡ first_from (there m) 8 (c % z.servers) → r ≡ metadata_source m z c
 unfolding metadata_source
 by_source m z c r h = h
@@ -131,9 +134,9 @@ module _ (ws : List ℕ) (i : ℕ) where
 
 -- ---- 15
 module _ (z : Sizes) (w : List ℕ) (s : ℕ) (e : s ≡ lowest_there (stored_in z w)) where
-  pub none_ends : s ≡ 8 → false ≡ version_ends (stored_in z w)
+  pub none_ends : 8 ≤ s → false ≡ version_ends (stored_in z w)
   unfolding version_ends
-  none_ends q = rw (← e, q)
+  none_ends l = rw (← e, le-ltb _ _ l)
 
   pub ends_by : (r : Metadata) → s < 8 → r ≡ metadata_at (of_server z w s) → leb 4294967295 r.version ≡ version_ends (stored_in z w)
   unfolding version_ends metadata_at
