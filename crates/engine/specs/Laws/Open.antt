@@ -24,9 +24,6 @@ use Rattle.server.specs.Laws.Layout.{states_valid}
 use Rattle.server.specs.Fresh.{first_leaf}
 use Rattle.server.specs.Laws.Fresh.{first_node_valid, first_flag_valid}
 use Rattle.steps.specs.declared.sizes.Sizes.{Sizes}
-use Rattle.steps.specs.declared.refusal.Refusal.{Refusal}
-use Rattle.steps.specs.Refused.{number_of}
-use Rattle.steps.proofs.Laws.Refused.{some_number}
 use Rattle.steps.specs.Whole.{Allowed, Address, server, whole, block, words_for, server_at}
 use Rattle.steps.proofs.Laws.Whole.{server_part}
 use Rattle.steps.specs.Steps.{at_servers}
@@ -129,9 +126,9 @@ new_store z w f l =
 
 -- ---- ways out of the code
 module _ (z : Sizes) (bytes : ℕ) (w : List ℕ) where
-  pub stays_shut : (r : Refusal) → number_of r ≡ open_refusal bytes z → w ≡ words_opened bytes z w
+  pub stays_shut : (r : ℕ) → r ≡ open_refusal bytes z → (r ≡ 0 → ⊥) → w ≡ words_opened bytes z w
   unfolding words_opened
-  stays_shut r q = sym (rw (← q, ne_eqb (number_of r) 0 (some_number r)))
+  stays_shut r q n = sym (rw (← q, ne_eqb r 0 n))
 
   pub is_open : (w₁ : List ℕ) → 0 ≡ open_refusal bytes z → w₁ ≡ new_words z w → w₁ ≡ words_opened bytes z w
   unfolding words_opened

@@ -20,10 +20,7 @@ use Rattle.steps.specs.declared.step.ServerChange.TheVariants.{Add, Close, Remov
 use Rattle.steps.specs.declared.outcome.Outcome.{Outcome}
 use Rattle.steps.specs.declared.outcome.Outcome.TheVariants.{Refused}
 use Rattle.steps.specs.Whole.{Address, client, whole, block}
-use Rattle.steps.specs.declared.refusal.Refusal.{Refusal}
 use Rattle.steps.specs.Refusal.{kind_of, state_fits, open_refusal, refusal}
-use Rattle.steps.specs.Refused.{number_of as refusal_number}
-use Rattle.steps.proofs.Laws.Refused.{some_number}
 use Rattle.steps.specs.Servers.{version_ends}
 use Rattle.steps.specs.Passed.{Passed}
 use Rattle.steps.proofs.Laws.Passed.{passed}
@@ -146,9 +143,9 @@ at_work z c k w x q e ek h p =
 
 -- ---- refusals 4 to 9 and 11 to 15, then the rule
 module _ (z : Sizes) (k : Step) (room : ℕ) (m : Address → ℕ) where
-  refused_is : (f : Refusal) → refusal_number f ≡ refusal z k m → step z k room m ≡ refuse (refusal_number f)
+  refused_is : (r : ℕ) → r ≡ refusal z k m → (r ≡ 0 → ⊥) → step z k room m ≡ refuse r
   unfolding step by_rule lacks_room
-  refused_is f e = let q : eqb (refusal z k m) 0 ≡ false = rw (← e, ne_eqb (refusal_number f) 0 (some_number f)) in rw q (rw e)
+  refused_is r e n = let q : eqb (refusal z k m) 0 ≡ false = rw (← e, ne_eqb r 0 n) in rw q (rw e)
 
   module _ (none : 0 ≡ refusal z k m) where
     short_is : short_output k.kind room (λ a. m (client k.client a)) ≡ true → step z k room m ≡ refuse 12
@@ -167,9 +164,8 @@ module _ (z : Sizes) (k : Step) (b out : List ℕ) where
   unfolding with_pairs
   refused_by n p = (meets_refused z (view b) n (step z k (length out)) (sym p), rw p)
 
-  pub is_refused : (f : Refusal) (n : ℕ) → refusal_number f ≡ refusal z k m → n ≡ refusal_number f
-      → Meets z (step z k (length out)) (view b) (Refused n) (view b) × Leaves z (step z k (length out)) b out out
-  is_refused f n e q = refused_by n (refused_is z k (length out) m f e ∙ ap refuse (sym q))
+  pub is_refused : (r : ℕ) → r ≡ refusal z k m → (r ≡ 0 → ⊥) → Meets z (step z k (length out)) (view b) (Refused r) (view b) × Leaves z (step z k (length out)) b out out
+  is_refused r e n = refused_by r (refused_is z k (length out) m r e n)
 
   pub passes : 0 ≡ refusal z k m → Passed z k m
   passes q = passed z k m (sym q)
@@ -242,9 +238,9 @@ module _ (bytes : ℕ) (w : List ℕ) (room : ℕ) (k : Step) where
     refusal_is : (r : ℕ) → r ≡ open_refusal bytes z → r ≡ open_refusal bytes (head_sizes w)
     refusal_is r e = e ∙ ap (open_refusal bytes) ez
 
-    pub shut_result : (f : Refusal) → refusal_number f ≡ open_refusal bytes z → result_of bytes w room k ≡ refuse (refusal_number f)
+    pub shut_result : (r : ℕ) → r ≡ open_refusal bytes z → (r ≡ 0 → ⊥) → result_of bytes w room k ≡ refuse r
     unfolding result_of
-    shut_result f e = let q = refusal_is (refusal_number f) e in rw (← q, ne_eqb (refusal_number f) 0 (some_number f))
+    shut_result r e n = let q = refusal_is r e in rw (← q, ne_eqb r 0 n)
 
     open_result : 0 ≡ open_refusal bytes z → result_of bytes w room k ≡ step z k room (stored_in z w)
     unfolding result_of
@@ -269,8 +265,8 @@ module _ (b out : List ℕ) (k : Step) where
   short_stands h = refused_so 1 (short_result (length b) (view b) (length out) k h)
 
   module _ (z : Sizes) (ez : z ≡ head_sizes (view b)) where
-    pub shut_stands : (f : Refusal) (n : ℕ) → refusal_number f ≡ open_refusal (length b) z → n ≡ refusal_number f → Stands (Refused n) b out
-    shut_stands f n e q = refused_so n (shut_result (length b) (view b) (length out) k z ez f e ∙ ap refuse (sym q))
+    pub shut_stands : (r : ℕ) → r ≡ open_refusal (length b) z → (r ≡ 0 → ⊥) → Stands (Refused r) b out
+    shut_stands r e n = refused_so r (shut_result (length b) (view b) (length out) k z ez r e n)
 
     pub open_stands : (o : Outcome) (b' out' : List ℕ) → 0 ≡ open_refusal (length b) z → Meets z (step z k (length out)) (view b) o (view b') → Leaves z (step z k (length out)) b out out' → Stands o b' out'
     unfolding outcome_of words_after output_after stepped

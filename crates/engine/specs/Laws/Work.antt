@@ -1,7 +1,7 @@
 -- Laws of the work step's code: how the walk stopped is what the rule comes to.
 use Rattle.std.proofs.Math.Path.{◌≡◌, refl, ap, subst}
 use Rattle.std.proofs.Common.{sym, ◌∙◌, arith}
-use Rattle.std.specs.Prelude.{Bool, cond, ◌&&◌, not, Option, None, Some, Result, Ok, ℕ, ◌+◌, ◌-◌, ◌*◌, ◌/◌, ◌≤◌, ◌<◌, eqb, leb, ltb, length, get_or, replicate}
+use Rattle.std.specs.Prelude.{Bool, cond, ◌&&◌, not, Option, None, Some, Result, ℕ, ◌+◌, ◌-◌, ◌*◌, ◌/◌, ◌≤◌, ◌<◌, eqb, leb, ltb, length, get_or, replicate}
 use Rattle.std.proofs.Math.Bool.{true, false}
 use Rattle.std.proofs.lemmas.Bool.{false≢true}
 use mathlib.Core.List.{List, []}
@@ -31,7 +31,7 @@ use Rattle.client.specs.Laws.Enter.{good_write}
 use Rattle.client.specs.Vectors.{vector_fits}
 use Rattle.client.specs.Have.{bad_vector, broken}
 use Rattle.client.specs.Run.{End, lacks, aborts, gives}
-use Rattle.client.specs.Lent.{Entry, used_in, own_list}
+use Rattle.client.specs.Lent.{Entry, used_in, OwnFits, own_list}
 use Rattle.client.specs.Enter.{enter_write, enter_entries}
 use Rattle.client.specs.Answered.{used_enter, enter_writes, entered, answered}
 use Rattle.client.specs.Work.{Worked, refused, fetches, aborted, answers, count_new, versions_there, any_at_last, last_questions, judge, walked, worked}
@@ -275,11 +275,15 @@ unanswered_none (fetches a) n = refl
 unanswered_none (aborted y) n = refl
 unanswered_none (answers a w) n = let y : ◌≡◌ {A = ℕ} 0 1 = cc in absurd (omega arith)
 
+-- what follows from any answer
+of_answer : {A : Type 0} (X : Worked) → ((a : O.Ans) (w : O.Writes) → X ≡ answers a w → A) → is_answer (stop_of X) ≡ true → A
+of_answer refused f n = absurd (false≢true n)
+of_answer (fetches a) f n = absurd (false≢true n)
+of_answer (aborted y) f n = absurd (false≢true n)
+of_answer (answers a w) f n = f a w refl
+
 answered_pairs : (X : Worked) (ps : Entries) → ((a : O.Ans) (w : O.Writes) → X ≡ answers a w → a.2 ≡ ps) → is_answer (stop_of X) ≡ true → pairs_of X ≡ ps
-answered_pairs refused ps f n = let y : ◌≡◌ {A = ℕ} 0 1 = cc in absurd (omega arith)
-answered_pairs (fetches a) ps f n = absurd (false≢true n)
-answered_pairs (aborted y) ps f n = let y : ◌≡◌ {A = ℕ} 0 1 = cc in absurd (omega arith)
-answered_pairs (answers a w) ps f n = f a w refl
+answered_pairs X ps f n = of_answer X (λ a w e. ap pairs_of e ∙ f a w e) n
 
 -- ---- what was read, with the copies in use, is of the store
 pub all_known : (z : Sizes) (w : List ℕ) (c : ℕ) → Known z w c → AllKnown z w c (walked z.slots (of_client z w c)).used
@@ -318,6 +322,9 @@ module _ (z : Sizes) (b : List ℕ) (c : ℕ) (hold : StoreIn z (length b)) (h :
       known = rw k.used (all_known z (view b) c known);
     }
 
+    pub meta_checking : Fetching z b c u
+    meta_checking = checking 0 (omega arith)
+
     -- what the step comes to
     work_is : work z (stored_in z (view b)) c ≡ after_walk z (stored_in z (view b)) c (used_in u) W
     unfolding work
@@ -326,13 +333,16 @@ module _ (z : Sizes) (b : List ℕ) (c : ℕ) (hold : StoreIn z (length b)) (h :
     work_pairs : (work z (stored_in z (view b)) c).pairs ≡ pairs_of W
     work_pairs = ap (λ (d : StepDid). d.pairs) work_is ∙ walk_pairs z (stored_in z (view b)) c (used_in u) W
 
+    pub none_written : is_answer s ≡ false → NoPairs z b c
+    none_written n = work_pairs ∙ unanswered_none W (subst (λ (t : Course). is_answer t ≡ false) k.stop n)
+
+    pub work_never : s ≡ Going → Comes (outcome.Refused 10) (view b)
+    work_never e = absurd (subst (λ (t : Course). CameTo t W) e end)
+
   -- ---- a walk that ended before its answer
   module _ (s : Stop) (u : List ℕ) (k : Stopped z.slots (of_client z (view b) c) (Ended s) u) where
     ending : (t : Stop) → s ≡ t → CameTo (Ended t) W
     ending t e = subst (λ (t : Stop). CameTo (Ended t) W) e (end (Ended s) u k)
-
-    pub meta_checking : Fetching z b c u
-    meta_checking = checking (Ended s) u k 0 (omega arith)
 
     pub node_checking : (n : ℕ) → s ≡ LacksNode n → Checking z b c (server_of n) u
     node_checking n e = checking (Ended s) u k (server_of n) (named_there z (of_client z (view b) c) n (ending (LacksNode n) e)).1
@@ -371,9 +381,6 @@ module _ (z : Sizes) (b : List ℕ) (c : ℕ) (hold : StoreIn z (length b)) (h :
           meets_as z (view b) o w' (λ m. fetch z m c (used_in u) (O.vector t)) (λ m. work z m c)
           (sym (work_is (Ended s) u k ∙ rw q (vector_same z (stored_in z (view b)) c (used_in u) t v.asks v.lacked))) d
 
-    pub none_written : NoPairs z b c
-    none_written = work_pairs (Ended s) u k ∙ unanswered_none W (subst (λ (t : Course). is_answer t ≡ false) k.stop refl)
-
   -- ---- one that came to its answer: l are the entries of the write set that the code stores
   module _ (i j : ℕ) where
     pairs_written : (u : List ℕ) → Stopped z.slots (of_client z (view b) c) (Answered i j) u → (ps : Entries) → ((a : O.Ans) (w : O.Writes) → W ≡ answers a w → a.2 ≡ ps)
@@ -403,7 +410,7 @@ module _ (z : Sizes) (b : List ℕ) (c : ℕ) (hold : StoreIn z (length b)) (h :
     )
 
     -- one that writes
-    enters_answers : (u₀ u : List ℕ) (l : List Entry) → Enters z.slots (of_client z (view b) c) (Answered i j) l u₀ u → (w' : List ℕ)
+    pub enters_answers : (u₀ u : List ℕ) (l : List Entry) → Enters z.slots (of_client z (view b) c) (Answered i j) l u₀ u → (w' : List ℕ)
         → Does whole (block z) (in_part (client c) (entering (used_in u) l)) silent (view b) 0 w' → Meets z (λ m. work z m c) (view b) (outcome.Answered i j) w' × NoPairs z b c
     enters_answers u₀ u l k w' p = (work_answers u k.stopped l w' k.own p, pairs_written u k.stopped [] k.unlisted)
 
@@ -412,11 +419,15 @@ module _ (z : Sizes) (b : List ℕ) (c : ℕ) (hold : StoreIn z (length b)) (h :
           → Meets z (λ m. work z m c) (view b) (outcome.Answered i j) w' × NoPairs z b c
       change_answers w' p = enters_answers u₀ u (own_list x) k.enters w' p
 
+  -- with an answer the list of its writes fits
+  pub change_fits : (s : Course) (x₀ u₀ x u : List ℕ) → Works z.slots (of_client z (view b) c) s x₀ u₀ x u → is_answer s ≡ true → OwnFits x
+  change_fits s x₀ u₀ x u k n = of_answer W k.fits (subst (λ (t : Course). is_answer t ≡ true) k.enters.stopped.stop n)
+
   -- one that writes one object or none
-  pub single_answers : (s : Single) (u₀ u : List ℕ) → WorksSingly z.slots (of_client z (view b) c) (Ok (Some s)) u₀ u → (w' : List ℕ)
+  pub single_answers : (s : Single) (u₀ u : List ℕ) → Enters z.slots (of_client z (view b) c) (Answered s.answer.a s.answer.b) (single_entries s.write) u₀ u → (w' : List ℕ)
       → Does whole (block z) (in_part (client c) (entering (used_in u) (single_entries s.write))) silent (view b) 0 w'
       → Meets z (λ m. work z m c) (view b) (outcome.Answered s.answer.a s.answer.b) w' × NoPairs z b c
-  single_answers s u₀ u k w' p = enters_answers s.answer.a s.answer.b u₀ u (single_entries s.write) (k.enters refl) w' p
+  single_answers s u₀ u k w' p = enters_answers s.answer.a s.answer.b u₀ u (single_entries s.write) k w' p
 
 -- ---- what refusals 9 and 10 have judged
 count_within : (t : ℕ) (m : ClientWord → ℕ) (s : Set) → numbers_fit t m s ≡ true → said_count m s ≤ limit s

@@ -1,12 +1,13 @@
 use Rattle.std.proofs.Common.{rules, refl, sym, ◌∙◌}
+use Rattle.steps.proofs.Laws.Refused.{some_number}
 use Rattle.engine.specs.Laws.Step.{is_refused, is_short, is_ruled, client_there, passes}
 use Rattle.engine.proofs.step.in_store.Goals as goal
 
 pub returns-in-Err-clause-comes : goal.returns-in-Err-clause-comes
-returns-in-Err-clause-comes c = (is_refused _ _ _ _ c.in-Err.refused _ c.in-Err.ensures c.from.ensures).0
+returns-in-Err-clause-comes c = (is_refused _ _ _ _ _ (c.from.ensures ∙ c.in-Err.ensures) (λ e. some_number c.in-Err.refused (sym c.from.ensures ∙ e))).0
 
 pub returns-in-Err-clause-output : goal.returns-in-Err-clause-output
-returns-in-Err-clause-output c = (is_refused _ _ _ _ c.in-Err.refused _ c.in-Err.ensures c.from.ensures).1
+returns-in-Err-clause-output c = (is_refused _ _ _ _ _ (c.from.ensures ∙ c.in-Err.ensures) (λ e. some_number c.in-Err.refused (sym c.from.ensures ∙ e))).1
 
 pub short_output-requires : goal.short_output-requires
 short_output-requires c = (search rules, search (client_there, rules))

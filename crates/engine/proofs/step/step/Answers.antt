@@ -1,5 +1,6 @@
-use Rattle.std.proofs.Common.{rules}
+use Rattle.std.proofs.Common.{rules, sym, ◌∙◌}
 use Rattle.steps.proofs.Laws.Taken.{fields_are_words}
+use Rattle.steps.proofs.Laws.Refused.{some_number}
 use Rattle.kinds.specs.Laws.Refusal.{none_holds}
 use Rattle.engine.specs.Laws.Step.{Stands, short_stands, shut_stands, open_stands}
 use Rattle.engine.specs.Laws.Reached.{step_goes_on}
@@ -21,7 +22,7 @@ pub returns-in-Err : goal.returns-in-Err
 returns-in-Err c =
     let a = c.args in
     let s : Stands a.mem.now a.out.now a.step (Refused c.from.result) a.mem.now a.out.now =
-    shut_stands _ _ _ c.head-sizes.result c.head-sizes.ensures c.in-Err.refusal _ c.in-Err.ensures c.from.ensures in
+    shut_stands _ _ _ c.head-sizes.result c.head-sizes.ensures _ (c.from.ensures ∙ c.in-Err.ensures) (λ e. some_number c.in-Err.refusal (sym c.from.ensures ∙ e)) in
     record {
       value = s.outcome;
       words = s.words;
