@@ -1,10 +1,13 @@
 -- The walk over a list of steps, turn by turn.
 use Rattle.std.specs.Prelude.{◌≡◌, refl, List, [], ◌∷◌, ℕ, suc, ◌+◌, ◌*◌, ◌/◌, ◌≤◌, ◌<◌, length, get_or, set, drop}
 use Rattle.std.proofs.Math.Path.{sym}
-use Rattle.std.proofs.Common.{lt-ltb, le-ltb, add-one, drop-cons, drop_of_length-le}
+use Rattle.std.proofs.Common.{subst, arith, lt-ltb, le-ltb, add-one, drop-cons, drop_of_length-le}
+use Rattle.std.proofs.Math.Decide.{ℕ_discrete}
+use Rattle.plans.specs.Walk.{Every}
 use Rattle.steps.specs.declared.step.Step.{Step}
 use Rattle.steps.specs.declared.outcome.Line.{Line}
 use Rattle.memory.specs.Word.{view}
+use Rattle.steps.specs.Taken.{Words}
 use Rattle.engine.specs.Reached.{GoesOn}
 use Rattle.schedule.specs.Listed.{written_down, words_run, output_run, taken_run, taken_on, lines, TurnTaken, AllTaken}
 use Rattle.schedule.proofs.Laws.Reached.{none_goes_on, then_goes_on}
@@ -21,6 +24,20 @@ module _ (out : List ℕ) (i : ℕ) where
   pub left_out : (l : Line) → length out / 3 ≤ i → out ≡ written_down out i l
   unfolding written_down
   left_out l h = sym (rw (le-ltb i (length out / 3) h))
+
+-- each step of a list
+pub all_words : (ks : List Step) → ((j : ℕ) → j < length ks → Words (get_or ks j no_step)) → Every Words ks
+unfolding Every
+all_words [] h = tt
+all_words (k ∷ ks) h = (h 0 (omega arith), all_words ks (λ j l. h (suc j) (omega arith)))
+
+-- one more
+pub words_next : (ks : List Step) (i : ℕ) → ((j : ℕ) → j < i → Words (get_or ks j no_step)) → Words (get_or ks i no_step) → (j : ℕ) → j < suc i → Words (get_or ks j no_step)
+words_next ks i h w j l = go (ℕ_discrete j i)
+  where
+    go : Dec (j ≡ i) → Words (get_or ks j no_step)
+    go (yes e) = subst (λ (n : ℕ). Words (get_or ks n no_step)) (sym e) w
+    go (no d) = h j (omega arith)
 
 -- ---- i steps of the list ks are done, on memory with the bytes b, lent an output with the bytes `out` and a list of outcomes: what the steps left make of
 -- the present bytes, output and outcomes is what all of them make of the first; and whatever bytes they go on to from here, all of them go on to
