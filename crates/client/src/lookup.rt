@@ -183,7 +183,7 @@ pub fn meta_fits(slots: usize, found: Have<Short>) -> bool
     }
 }
 
-// May the flag that was found be used? So must its server's vector.
+// May the flag that was found be used? A copy needs its server's vector. Where nothing was found, nothing is out of range.
 pub fn flag_fits(part: &[u8], name: u64, found: Have<Short>) -> bool
     requires { (name < end_of_names) × ClientPart part.now }
     ensures { result ≡ flag_usable (held part.now) name (how found) (short_in found) }
