@@ -76,43 +76,49 @@ module _ (m out : List ℕ) (at : ℕ) (m' out' : List ℕ) where
   came_as : (what other : Showing) → what (length m) (view m) ≡ other (length m) (view m) → (r : Shown) → Came other m out at r m' out' → Came what m out at r m' out'
   came_as what other q r d = came_to what (other (length m) (view m)) q r d.state d.printed d.words
 
-  -- ---- a first line of sizes
-  module _ (servers slots clients : ℕ) (o : Result (Unit {0}) Refusal) (q : refused_by o ≡ open_refusal (length m) (sizes_of servers slots clients))
+  -- ---- a first line of sizes, which r refuses, or 0 doesn't
+  module _ (servers slots clients r : ℕ) (q : r ≡ open_refusal (length m) (sizes_of servers slots clients))
       (w : view m' ≡ words_opened (length m) (sizes_of servers slots clients) (view m)) where
-    abbrev n : ℕ
-    n = open_refusal (length m) (sizes_of servers slots clients)
-
-    pub is_opened : (u : Unit {0}) (s : Show) (e : ℕ) → o ≡ Ok u → s ≡ awaits (StepLine 0) → Printed out at (store_line servers slots clients) out' e
+    pub is_opened : (s : Show) (e : ℕ) → r ≡ 0 → s ≡ awaits (StepLine 0) → Printed out at (store_line servers slots clients) out' e
         → Came (opened servers slots clients) m out at (record { show = s; at = e }) m' out'
     unfolding opened
-    is_opened u s e z a p =
-        let h : n ≡ 0 = sym q ∙ ap refused_by z in
+    is_opened s e z a p =
         came_to _ (progress (awaits (StepLine 0)) (store_line servers slots clients) (words_opened (length m) (sizes_of servers slots clients) (view m)))
-        (rw h) _ a p w
+        (rw (← q, z)) _ a p w
+
+    words_stay : (r ≢ 0) → view m' ≡ view m
+    unfolding words_opened
+    words_stay n = w ∙ rw (← q, ne_eqb r 0 n)
+
+    pub is_refused : (s : Show) (e : ℕ) → r ≡ 2 → s ≡ ended → Printed out at refused_line out' e
+        → Came (opened servers slots clients) m out at (record { show = s; at = e }) m' out'
+    unfolding opened
+    is_refused s e z a p = came_to _ (progress ended refused_line (view m)) (rw (← q, z)) _ a p (words_stay (λ x. omega arith))
+
+    pub is_too_large : (x : Shown) → (r ≢ 0) → (r ≢ 2) → x.show ≡ ended → Printed out at bad_line out' x.at
+        → Came (opened servers slots clients) m out at x m' out'
+    unfolding opened
+    is_too_large x n k a p = came_to _ (progress ended bad_line (view m)) (rw (← q, ne_eqb r 0 n, ne_eqb r 2 k)) x a p (words_stay n)
+
+  -- the same as the code says it
+  module _ (servers slots clients : ℕ) (o : Result (Unit {0}) Refusal) (q : refused_by o ≡ open_refusal (length m) (sizes_of servers slots clients))
+      (w : view m' ≡ words_opened (length m) (sizes_of servers slots clients) (view m)) where
+    pub so_opened : (u : Unit {0}) (s : Show) (e : ℕ) → o ≡ Ok u → s ≡ awaits (StepLine 0) → Printed out at (store_line servers slots clients) out' e
+        → Came (opened servers slots clients) m out at (record { show = s; at = e }) m' out'
+    so_opened u s e z a p = is_opened servers slots clients (refused_by o) q w s e (ap refused_by z) a p
 
     module _ (r : Refusal) (z : o ≡ Err r) where
-      number : n ≡ number_of r
-      number = sym q ∙ ap refused_by z
+      number : refused_by o ≡ number_of r
+      number = ap refused_by z
 
-      not_opened : (n ≢ 0)
-      not_opened h = number_above r (sym number ∙ h)
-
-      words_stay : view m' ≡ view m
-      unfolding words_opened
-      words_stay = w ∙ rw (ne_eqb n 0 not_opened)
-
-      pub is_refused : (s : Show) (e : ℕ) → r ≡ BadSizes → s ≡ ended → Printed out at refused_line out' e
+      pub so_refused : (s : Show) (e : ℕ) → r ≡ BadSizes → s ≡ ended → Printed out at refused_line out' e
           → Came (opened servers slots clients) m out at (record { show = s; at = e }) m' out'
-      unfolding opened
-      is_refused s e t a p =
-          let h : n ≡ 2 = number ∙ ap number_of t in
-          came_to _ (progress ended refused_line (view m)) (rw h) _ a p words_stay
+      so_refused s e t a p = is_refused servers slots clients (refused_by o) q w s e (number ∙ ap number_of t) a p
 
-      pub is_too_large : (x : Shown) → (r ≢ BadSizes) → x.show ≡ ended → Printed out at bad_line out' x.at
+      pub so_too_large : (x : Shown) → (r ≢ BadSizes) → x.show ≡ ended → Printed out at bad_line out' x.at
           → Came (opened servers slots clients) m out at x m' out'
-      unfolding opened
-      is_too_large x k a p =
-          came_to _ (progress ended bad_line (view m)) (rw (ne_eqb n 0 not_opened, ne_eqb n 2 (λ y. only_sizes r k (sym number ∙ y)))) x a p words_stay
+      so_too_large x k a p =
+          is_too_large servers slots clients (refused_by o) q w x (λ h. number_above r (sym number ∙ h)) (λ h. only_sizes r k (sym number ∙ h)) a p
 
 -- ---- the memory stays
 module _ (m out : List ℕ) (at : ℕ) where
