@@ -11,5 +11,5 @@ fn main(rt: HostRuntime) -> io::Result<()> {
     let mut memory = show::fresh();
     cases::report(&rt, &mut memory)?;
     vectors::report(&rt, &mut memory)?;
-    random::report(&rt, rt.alloc(), &mut memory)
+    random::report(&rt, &mut memory)
 }

@@ -1,5 +1,4 @@
 // Random schedules of many profiles, each compared with a sorted map: a line a profile.
-use std::alloc::Global;
 use std::io;
 use trial::driver;
 use trial::profile::{self, Profile};
@@ -33,11 +32,11 @@ fn print_tally(rt: &impl Print, tally: Tally) -> io::Result<()> {
 }
 
 // The schedules of all profiles, and all their steps.
-pub fn report(rt: &impl Print, alloc: Global, memory: &mut [u8]) -> io::Result<()> {
+pub fn report(rt: &impl Print, memory: &mut [u8]) -> io::Result<()> {
     let mut steps: u64 = 0;
     let mut seed = SEED;
     for p in profile::all() {
-        let tally = driver::tried(alloc, memory, p, seed);
+        let tally = driver::tried(memory, p, seed);
         print!(rt; "{}", p.name)?;
         print_tally(rt, tally)?;
         steps = steps.wrapping_add(tally.steps);

@@ -53,8 +53,8 @@ impl Trial {
             return (centre + self.rng.draw(24)) % p.keys.saturating_add(1);
         }
         if operation != Operation::Insert && self.rng.happens(6000) {
-            let at = self.rng.draw_any(self.world.map.len() as u64);
-            return self.world.map.key_at(at as usize);
+            let at = self.rng.draw_any(self.map.len() as u64);
+            return self.map.key_at(at as usize);
         }
         self.rng.draw_any(p.keys)
     }
@@ -125,10 +125,10 @@ impl Trial {
         let Some(c) = self.world.clients.get(client) else {
             return plain(Kind::Commit, client);
         };
-        if c.waits() {
+        if c.waits {
             return plain(Kind::Work, client);
         }
-        let given = c.given.len();
+        let given = c.count;
         if c.left == 0 || MOST_GIVEN < given || self.world.mode == Mode::Last {
             return plain(Kind::Commit, client);
         }

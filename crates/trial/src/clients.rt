@@ -1,8 +1,9 @@
 // What the steps and their outcomes show of a client.
+ghost use Rattle.std.specs.Prelude.{◌≤◌};
+
 use crate::map::{Answer, with_pair};
 use crate::step::{Kind, Operation, is_of};
 use memory::read_word;
-use std::alloc::{AllocError, Global};
 use steps::outcome::Outcome;
 use steps::step::Step;
 
@@ -24,14 +25,22 @@ pub struct Given {
     pub answer: Option<Answer>,
 }
 
-// The transaction: where it is; how many operations are still to be given; at which servers its prepare, or its apply, has been
-// tried; and the operations given.
+// For each client the operations that its transaction was given, as far as they are counted.
 #[derive(Drop)]
+pub struct Log {
+    pub given: [[Given; 128]; 16],
+}
+
+// The transaction: where it is; whether an operation waits; how many are still to be given; at which servers its prepare, or its
+// apply, has been tried; and how many were given.
+#[derive(Clone, Copy)]
 pub struct Client {
     pub phase: Phase,
+    pub waits: bool,
     pub left: u64,
     tried: [bool; 8],
-    pub given: Vec<Given>,
+    pub count: usize,
+    pub ghost in_log: { count ≤ 128 },
 }
 
 // A number that stands for the first pairs of an output, where b is 0.
@@ -43,21 +52,31 @@ fn pairs_of(out: &[u8; 512], count: u64, b: u64) -> u64 {
     sum
 }
 
-impl Client {
-    pub fn new(alloc: Global) -> Client {
-        Client {
-            phase: Phase::Idle,
-            left: 0,
-            tried: [false; 8],
-            given: Vec::new(alloc),
+impl Log {
+    pub fn new() -> Log {
+        let none = Given {
+            operation: Operation::Lookup,
+            key: 0,
+            value: 0,
+            answer: None,
+        };
+        Log {
+            given: [[none; 128]; 16],
         }
     }
+}
 
-    // Whether an operation has no answer yet.
-    pub fn waits(&self) -> bool {
-        self.given
-            .last()
-            .is_some_and(|given| given.answer.is_none())
+impl Client {
+    pub fn idle() -> Client
+        ensures { result.count ≤ 128 }
+    {
+        Client {
+            phase: Phase::Idle,
+            waits: false,
+            left: 0,
+            tried: [false; 8],
+            count: 0,
+        }
     }
 
     // Whether its prepares, or its applies, are due.
@@ -72,13 +91,14 @@ impl Client {
     // A phase begins in which no server has been tried.
     fn enter(&mut self, phase: Phase) {
         self.phase = phase;
+        self.waits = false;
         self.tried = [false; 8];
     }
 
     // No transaction.
     fn end(&mut self) {
         self.enter(Phase::Idle);
-        self.given.clear();
+        self.count = 0;
     }
 
     fn begin(&mut self, left: u64) {
@@ -94,23 +114,28 @@ impl Client {
         }
     }
 
-    // An operation is given.
-    fn give(&mut self, step: Step) -> Result<(), AllocError> {
+    // An operation is given; no more than 128 are counted.
+    fn give(&mut self, log: &mut [Given; 128], step: Step) {
+        self.waits = true;
         self.left = self.left.saturating_sub(1);
+        if self.count == log.len() {
+            return;
+        }
         if let Some(operation) = Operation::numbered(step.op) {
-            self.given.push(Given {
+            log[self.count] = Given {
                 operation,
                 key: step.key,
                 value: step.value,
                 answer: None,
-            })?;
+            };
+            self.count += 1;
         }
-        Ok(())
     }
 
     // The operation that waits is answered. Of a list, b stands for the pairs that it wrote.
-    fn answer(&mut self, a: u64, b: u64, out: &[u8; 512]) {
-        if let Some(given) = self.given.last_mut() {
+    fn answer(&mut self, log: &mut [Given; 128], a: u64, b: u64, out: &[u8; 512]) {
+        self.waits = false;
+        if let Some(given) = log[..self.count].last_mut() {
             let is_list = given.operation == Operation::List;
             let b = if is_list { pairs_of(out, a, b) } else { b };
             given.answer = Some(Answer { a, b });
@@ -118,17 +143,16 @@ impl Client {
     }
 
     // A step is done. The transaction that begins may have this many operations.
-    fn done(&mut self, step: Step, left: u64) -> Result<(), AllocError> {
+    fn done(&mut self, log: &mut [Given; 128], step: Step, left: u64) {
         if is_of(step, Kind::Begin) {
             self.begin(left);
         }
         if is_of(step, Kind::Give) {
-            self.give(step)?;
+            self.give(log, step);
         }
         if is_of(step, Kind::Commit) {
             self.enter(Phase::Committing);
         }
-        Ok(())
     }
 
     // A prepare or an apply is refused where it is not due: it counts as tried all the same.
@@ -146,20 +170,20 @@ impl Client {
     // After a step that came to this outcome.
     pub fn note(
         &mut self,
+        log: &mut [Given; 128],
         step: Step,
         outcome: Outcome,
         out: &[u8; 512],
         left: u64,
-    ) -> Result<(), AllocError> {
+    ) {
         match outcome {
             Outcome::Refused(_) => self.refused(step),
-            Outcome::Done => self.done(step, left)?,
+            Outcome::Done => self.done(log, step, left),
             Outcome::Fetched(_, _) => {}
-            Outcome::Answered(a, b) => self.answer(a, b, out),
+            Outcome::Answered(a, b) => self.answer(log, a, b, out),
             Outcome::Prepared(_) | Outcome::Applied(_) => self.try_at(step.server),
             Outcome::Decided => self.enter(Phase::Decided),
             Outcome::Committed | Outcome::Aborted(_) => self.end(),
         }
-        Ok(())
     }
 }

@@ -1,15 +1,22 @@
-// "The map is pairs by rising key": the library's, and what each operation answers on it.
+// "The map is pairs by rising key": an array of which a count is used, and what each operation answers on it.
+ghost use Rattle.std.specs.Prelude.{◌≡◌, ◌<◌, ◌≤◌, length};
+ghost use Rattle.std.specs.List.Sorted.{IsSearchInRange};
+
 use crate::rng::shuffled;
 use crate::step::Operation;
-use std::alloc::{AllocError, Global};
-use std::collections::BTreeMap;
-use std::ops::Bound;
 
-// The pairs, and their least key; while there are none, the key that was there last.
+#[derive(Clone, Copy)]
+struct Pair {
+    key: u64,
+    value: u64,
+}
+
+// The pairs. While there are none, the first of the array still has the key that was there last.
 #[derive(Drop)]
 pub struct Map {
-    pairs: BTreeMap<u64, u64>,
-    least: u64,
+    pairs: [Pair; 4096],
+    count: usize,
+    pub ghost in_array: { count ≤ 4096 },
 }
 
 // What an operation answers. Of a list b stands for its pairs.
@@ -36,32 +43,50 @@ pub fn with_pair(sum: u64, key: u64, value: u64) -> u64 {
 }
 
 impl Map {
-    pub fn new(alloc: Global) -> Map {
+    pub fn new() -> Map {
         Map {
-            pairs: BTreeMap::new(alloc),
-            least: 0,
+            pairs: [Pair { key: 0, value: 0 }; 4096],
+            count: 0,
         }
     }
 
-    pub fn len(&self) -> usize {
-        self.pairs.len()
+    pub fn len(&self) -> usize
+        ensures { result ≤ 4096 }
+    {
+        self.count
     }
 
-    // The key at a place from 0, by rising key.
+    fn used(&self) -> &[Pair]
+        ensures { length result.now ≡ self.now.count }
+    {
+        &self.pairs[..self.count]
+    }
+
+    // The key at a place from 0, by rising key; past them the first.
     pub fn key_at(&self, place: usize) -> u64 {
-        self.pairs.keys().nth(place).copied().unwrap_or(self.least)
+        let at = if place < self.count { place } else { 0 };
+        self.pairs[at].key
+    }
+
+    // Where a key is, or where it would be put.
+    fn search(&self, key: u64) -> Result<usize, usize>
+        ensures { IsSearchInRange result self.now.count }
+    {
+        self.used().binary_search_by_key(&key, |pair| pair.key)
     }
 
     // "up to a given count of pairs .., from the given key upward": a is their number.
     fn list(&self, key: u64, wanted: u64) -> Answer {
+        let used = self.used();
+        let first = used.partition_point(|pair| pair.key < key);
         let mut answer = Answer { a: 0, b: 0 };
-        for (k, v) in self.pairs.range(key..) {
+        for pair in &used[first..] {
             if answer.a == wanted {
                 return answer;
             }
             answer = Answer {
                 a: answer.a.wrapping_add(1),
-                b: with_pair(answer.b, *k, *v),
+                b: with_pair(answer.b, pair.key, pair.value),
             };
         }
         answer
@@ -69,50 +94,83 @@ impl Map {
 
     // "Next and previous: a 1, b the nearest key strictly above or below, if any."
     fn next(&self, key: u64) -> Answer {
-        let above = (Bound::Excluded(key), Bound::Unbounded);
-        Answer::from(self.pairs.range(above).next().map(|(k, _)| *k))
+        let used = self.used();
+        let above = used.partition_point(|pair| pair.key <= key);
+        Answer::from(used.get(above).map(|pair| pair.key))
     }
 
     fn previous(&self, key: u64) -> Answer {
-        Answer::from(self.pairs.range(..key).next_back().map(|(k, _)| *k))
+        let used = self.used();
+        let below = used.partition_point(|pair| pair.key < key);
+        Answer::from(used[..below].last().map(|pair| pair.key))
+    }
+
+    // The pairs from a place on go up by one, and this one comes to stand there. A map that is full stays as it is.
+    fn put_in(&mut self, at: usize, pair: Pair)
+        requires { at ≤ self.old.count }
+    {
+        if self.count == self.pairs.len() {
+            return;
+        }
+        self.pairs.copy_within(at..self.count, at + 1);
+        self.pairs[at] = pair;
+        self.count += 1;
+    }
+
+    // The pair at a place goes, and those above it come down by one.
+    fn take_out(&mut self, at: usize)
+        requires { at < self.old.count }
+    {
+        self.pairs.copy_within(at + 1..self.count, at);
+        self.count -= 1;
     }
 
     // "Insert sets the key's value; a is 1 if it was absent."
-    fn insert(&mut self, key: u64, value: u64) -> Result<Answer, AllocError> {
-        let old = self.pairs.insert(key, value)?;
-        Ok(Answer {
-            a: old.is_none() as u64,
-            b: 0,
-        })
+    fn insert(&mut self, key: u64, value: u64) -> Answer {
+        match self.search(key) {
+            Ok(at) => {
+                self.pairs[at].value = value;
+                Answer { a: 0, b: 0 }
+            }
+            Err(at) => {
+                self.put_in(at, Pair { key, value });
+                Answer { a: 1, b: 0 }
+            }
+        }
+    }
+
+    // "Lookup of a key there: a 1, b the value."
+    fn lookup(&self, key: u64) -> Answer {
+        match self.search(key) {
+            Ok(at) => Answer {
+                a: 1,
+                b: self.pairs[at].value,
+            },
+            Err(_) => Answer { a: 0, b: 0 },
+        }
     }
 
     // "Delete removes the key; a is 1 if it was there."
     fn delete(&mut self, key: u64) -> Answer {
-        Answer {
-            a: self.pairs.remove(&key).is_some() as u64,
-            b: 0,
+        match self.search(key) {
+            Ok(at) => {
+                self.take_out(at);
+                Answer { a: 1, b: 0 }
+            }
+            Err(_) => Answer { a: 0, b: 0 },
         }
     }
 
-    // An operation. "Lookup of a key there: a 1, b the value." Migrate's answer isn't compared.
-    pub fn operate(
-        &mut self,
-        operation: Operation,
-        key: u64,
-        value: u64,
-    ) -> Result<Option<Answer>, AllocError> {
-        let answer = match operation {
-            Operation::Insert => self.insert(key, value)?,
-            Operation::Lookup => Answer::from(self.pairs.get(&key).copied()),
-            Operation::Delete => self.delete(key),
-            Operation::Next => self.next(key),
-            Operation::Previous => self.previous(key),
-            Operation::Migrate => return Ok(None),
-            Operation::List => self.list(key, value),
-        };
-        if let Some((least, _)) = self.pairs.first_key_value() {
-            self.least = *least;
+    // An operation. Migrate's answer isn't compared.
+    pub fn operate(&mut self, operation: Operation, key: u64, value: u64) -> Option<Answer> {
+        match operation {
+            Operation::Insert => Some(self.insert(key, value)),
+            Operation::Lookup => Some(self.lookup(key)),
+            Operation::Delete => Some(self.delete(key)),
+            Operation::Next => Some(self.next(key)),
+            Operation::Previous => Some(self.previous(key)),
+            Operation::Migrate => None,
+            Operation::List => Some(self.list(key, value)),
         }
-        Ok(Some(answer))
     }
 }

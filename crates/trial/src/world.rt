@@ -1,8 +1,7 @@
 // What is known of a random schedule that runs.
-use crate::clients::{Client, Given};
+use crate::clients::{Client, Given, Log};
 use crate::map::Map;
 use crate::step::{Kind, is_of};
-use std::alloc::{AllocError, Global};
 use steps::outcome::{Line, Outcome};
 use steps::step::Step;
 
@@ -30,14 +29,13 @@ pub struct Tally {
     pub wrong: u64,
 }
 
-// The clients, the one that acted last, a number above all servers that are or were there, the map, names of nodes fetched lately, and the
-// key that was filled in or read last, as it is and as it was when the transaction began.
-#[derive(Drop)]
+// The clients, the one that acted last, a number above all servers that are or were there, names of nodes fetched lately, and the key that
+// was filled in or read last, as it is and as it was when the transaction began.
+#[derive(Clone, Copy)]
 pub struct World {
-    pub clients: Vec<Client>,
+    pub clients: [Client; 16],
     pub current: usize,
     pub servers: u64,
-    pub map: Map,
     pub names: [u64; 32],
     pub mode: Mode,
     pub cursor: u64,
@@ -66,14 +64,6 @@ impl Tally {
         }
     }
 
-    // That of a schedule that could not be run to its end.
-    pub fn unfinished() -> Tally {
-        Tally {
-            wrong: 1,
-            ..Tally::new()
-        }
-    }
-
     // One step more, of this kind.
     fn note(&mut self, kind: u64, outcome: Outcome) {
         self.steps = self.steps.wrapping_add(1);
@@ -87,10 +77,10 @@ impl Tally {
     }
 
     // A decided transaction, on the map: each answer that it got is compared with the map's.
-    fn replay(&mut self, given: &[Given], map: &mut Map) -> Result<(), AllocError> {
+    fn replay(&mut self, given: &[Given], map: &mut Map) {
         self.decided = self.decided.wrapping_add(1);
         for g in given {
-            let answer = map.operate(g.operation, g.key, g.value)?;
+            let answer = map.operate(g.operation, g.key, g.value);
             if answer.is_some() {
                 self.compared = self.compared.wrapping_add(1);
                 if answer != g.answer {
@@ -98,7 +88,6 @@ impl Tally {
                 }
             }
         }
-        Ok(())
     }
 }
 
@@ -109,22 +98,17 @@ fn decides(step: Step, outcome: Outcome) -> bool {
 }
 
 impl World {
-    pub fn new(alloc: Global, servers: u64) -> Result<World, AllocError> {
-        let mut clients = Vec::new(alloc);
-        for _ in 0..16 {
-            clients.push(Client::new(alloc))?;
-        }
-        Ok(World {
-            clients,
+    pub fn new(servers: u64) -> World {
+        World {
+            clients: [Client::idle(); 16],
             current: 0,
             servers,
-            map: Map::new(alloc),
             names: [0; 32],
             mode: Mode::Fills,
             cursor: 0,
             kept: 0,
             tally: Tally::new(),
-        })
+        }
     }
 
     // Whether a client's prepares, or its applies, are due.
@@ -134,32 +118,34 @@ impl World {
 
     // How many operations a client's transaction has.
     pub fn given(&self, client: usize) -> usize {
-        self.clients.get(client).map_or(0, |c| c.given.len())
+        self.clients.get(client).map_or(0, |c| c.count)
     }
 
-    // A step and its outcome, and the output that was lent to it.
+    // A step and its outcome, and the output that was lent to it. What a client was given stands in the log, and goes to the map once it is
+    // decided.
     pub fn note(
         &mut self,
+        log: &mut Log,
+        map: &mut Map,
         step: Step,
         outcome: Outcome,
         out: &[u8; 512],
         left: u64,
-    ) -> Result<(), AllocError> {
+    ) {
         self.tally.note(step.kind, outcome);
         if is_of(step, Kind::Add) && matches!(outcome, Outcome::Done) {
             self.servers = self.servers.max(step.server.saturating_add(1));
         }
         let at = step.client as usize;
         let Some(client) = self.clients.get_mut(at) else {
-            return Ok(());
+            return;
         };
         if decides(step, outcome) {
-            self.tally.replay(&client.given, &mut self.map)?;
+            self.tally.replay(&log.given[at][..client.count], map);
         }
-        client.note(step, outcome, out, left)?;
+        client.note(&mut log.given[at], step, outcome, out, left);
         self.learn(step, outcome);
         self.current = at;
-        Ok(())
     }
 
     // The names of nodes that were fetched, and the keys that were filled in or read.
