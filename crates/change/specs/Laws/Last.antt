@@ -294,14 +294,22 @@ or_false false = refl
 
 pub ruleset reason_exits = (ends_by_3, ends_by_4, ends_by_10, ends_by_8, ends_by_none)
 
-module _ (m : ClientWord → ℕ) (a : Bool) (c : ℕ) (d b : Bool) (r : Course) (pr : r ≡ judged Going (reason_of m a c d b)) where
-  pub reason_of_all : (l : List Entry) → a ≡ entries_fit l → c ≡ count_new m l → d ≡ versions_there m l → b ≡ not (any_at_last m l) → r ≡ judged Going (last_reason m l)
+module _ (m : ClientWord → ℕ) (a : Bool) (c : ℕ) (d b : Bool) (r : ℕ) (pr : r ≡ reason_of m a c d b) where
+  pub reason_of_all : (l : List Entry) → a ≡ entries_fit l → c ≡ count_new m l → d ≡ versions_there m l → b ≡ not (any_at_last m l) → r ≡ last_reason m l
   unfolding last_reason
   reason_of_all l pa pc pd pb = rw (← pa, ← pc, ← pd, ← pb) pr
 
   -- of one entry
-  pub reason_of_one : (k : ℕ) (n : Node) → a ≡ record_fits n → c ≡ new_one m k → d ≡ there m k → b ≡ stays_below m k → r ≡ judged Going (last_reason m ((k, n) ∷ []))
+  pub reason_of_one : (k : ℕ) (n : Node) → a ≡ record_fits n → c ≡ new_one m k → d ≡ there m k → b ≡ stays_below m k → r ≡ last_reason m ((k, n) ∷ [])
   unfolding entries_fit count_new versions_there any_at_last new_one there stays_below
   reason_of_one k n pa pc pd pb = reason_of_all ((k, n) ∷ []) (pa ∙ sym (and_true (record_fits n))) pc (pd ∙ sym (and_true (ltb 8192 k || version_there m k (find m set.Reads k)))) (pb ∙ ap not (sym (or_false (at_last_version m k))))
 
-pub ruleset one_exits = (reason_of_one, reason_of_all)
+-- what is judged by it
+module _ (m : ClientWord → ℕ) (a : Bool) (c : ℕ) (d b : Bool) (r : Course) (pr : r ≡ judged Going (reason_of m a c d b)) where
+  pub judged_by_all : (l : List Entry) → a ≡ entries_fit l → c ≡ count_new m l → d ≡ versions_there m l → b ≡ not (any_at_last m l) → r ≡ judged Going (last_reason m l)
+  judged_by_all l pa pc pd pb = pr ∙ ap (judged Going) (reason_of_all m a c d b (reason_of m a c d b) refl l pa pc pd pb)
+
+  pub judged_by_one : (k : ℕ) (n : Node) → a ≡ record_fits n → c ≡ new_one m k → d ≡ there m k → b ≡ stays_below m k → r ≡ judged Going (last_reason m ((k, n) ∷ []))
+  judged_by_one k n pa pc pd pb = pr ∙ ap (judged Going) (reason_of_one m a c d b (reason_of m a c d b) refl k n pa pc pd pb)
+
+pub ruleset one_exits = (judged_by_one, judged_by_all)

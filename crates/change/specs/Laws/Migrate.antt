@@ -1,5 +1,5 @@
 -- Laws of a migrate's walk.
-use Rattle.std.specs.Prelude.{◌≡◌, refl, ℕ, zero, suc, ◌-◌, ◌≤◌, ◌<◌, Some, Ok, Err}
+use Rattle.std.specs.Prelude.{false, ◌≡◌, refl, ℕ, zero, suc, ◌-◌, ◌≤◌, ◌<◌, Some, Ok, Err}
 use Rattle.std.proofs.Math.Path.{sym}
 use Rattle.std.proofs.Common.{◌∙◌, arith}
 use mathlib.Core.List.{List, [], ◌∷◌}
@@ -24,11 +24,12 @@ use Rattle.walk.specs.declared.walk.Stop.TheVariants.{Aborts}
 use Rattle.client.specs.Layout.{ClientWord}
 use Rattle.client.specs.Record.{value_of, metadata}
 use Rattle.client.specs.Lent.{used_in}
-use Rattle.walk.specs.Walk.{Course, Going, Ended, walked}
+use Rattle.walk.specs.Walk.{Course, Going, Ended, goes, walked}
 use Rattle.walk.specs.Laws.Walk.{walked_fails}
 use Rattle.walk.specs.Ask.{SmallNode, OwnGood, HoldsWrites, Noted, Asked, nothing}
 use Rattle.walk.specs.Laws.Ask.{none_held, first_metadata, second_metadata}
 use Rattle.walk.specs.Down.{Arrival, arrival, branches, trail, low}
+use Rattle.walk.specs.Laws.Lookup.{ended_nothing}
 use Rattle.walk.specs.Lookup.{Ends}
 use Rattle.change.specs.Operated.{Operated}
 use Rattle.change.specs.Laws.Operated.{walks_operated}
@@ -157,10 +158,11 @@ module _ (slots : ℕ) (m : ClientWord → ℕ) (x u : List ℕ) (g : OwnGood x)
 pub ruleset if_exits = (if_free, if_there, if_root, if_few, if_below)
 
 module _ (slots : ℕ) (m : ClientWord → ℕ) (x u : List ℕ) (states top nm s : ℕ) (q : Node) (u₁ : List ℕ) where
-  pub named_stops : OwnGood x → (e : Stop) → Asked slots m nothing u (node nm) (Ended e) q u₁ → Operated slots m x u (named_plan slots states top nm s) (Ended e) x u₁
+  pub named_stops : OwnGood x → (c : Course) → goes c ≡ false → Asked slots m nothing u (node nm) c q u₁ → Operated slots m x u (named_plan slots states top nm s) c x u₁
   unfolding named_plan
-  named_stops g e a =
-      walks_operated slots m x u (named_plan slots states top nm s) (Ended e) u₁ g (record { same = rw ((a.asks [] (none_held slots)).same); noted = a.noted })
+  named_stops g c halts a =
+      walks_operated slots m x u (named_plan slots states top nm s) c u₁ g
+      (record { same = rw ((a.asks [] (none_held slots)).same, halts) (sym (ended_nothing c (used_in u₁))); noted = a.noted })
 
   module _ (a : Asked slots m nothing u (node nm) Going q u₁) (n : Node) (e : n ≡ q) where
     node_asked : Asked slots m nothing u (node nm) Going n u₁
@@ -180,9 +182,10 @@ module _ (slots : ℕ) (m : ClientWord → ℕ) (x u : List ℕ) (states top nm 
 pub ruleset named_exits = (named_stops, named_goes_on, named_small, named_whole)
 
 module _ (slots : ℕ) (m : ClientWord → ℕ) (x u : List ℕ) (nm s : ℕ) (u₁ : List ℕ) where
-  pub migrate_stops : OwnGood x → (e : Stop) (r : Node) → Asked slots m nothing u meta (Ended e) r u₁ → Operated slots m x u (migrate_plan slots nm s) (Ended e) x u₁
-  migrate_stops g e r a =
-      walks_operated slots m x u (migrate_plan slots nm s) (Ended e) u₁ g (record { same = rw ((a.asks [] (none_held slots)).same); noted = a.noted })
+  pub migrate_stops : OwnGood x → (c : Course) (r : Node) → goes c ≡ false → Asked slots m nothing u meta c r u₁ → Operated slots m x u (migrate_plan slots nm s) c x u₁
+  migrate_stops g c r halts a =
+      walks_operated slots m x u (migrate_plan slots nm s) c u₁ g
+      (record { same = rw ((a.asks [] (none_held slots)).same, halts) (sym (ended_nothing c (used_in u₁))); noted = a.noted })
 
   pub migrate_goes_on : (top states : ℕ) → Asked slots m nothing u meta Going (metadata 0 top states) u₁ → (st : Course) (x' u' : List ℕ) → Operated slots m x u₁ (named_plan slots states top nm s) st x' u'
       → Operated slots m x u (migrate_plan slots nm s) st x' u'

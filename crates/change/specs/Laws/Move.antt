@@ -22,6 +22,7 @@ use Rattle.walk.specs.Laws.Take.{wrote}
 use Rattle.walk.specs.Search.{TakenOn}
 use Rattle.walk.specs.Laws.Search.{row_is}
 use Rattle.change.specs.Rise.{NodeWritten}
+use Rattle.walk.specs.Laws.Down.{stops_not}
 use Rattle.change.specs.Laws.Rise.{never}
 use Rattle.change.specs.Move.{beside, Beside, Placed, Left, moves, Moved}
 
@@ -122,8 +123,8 @@ module _ (slots : ℕ) (m : ClientWord → ℕ) (x u : List ℕ) (nm d : ℕ) (n
       ≡ carry s (used_in u₂) (λ us. walked slots m (k ((node d, value_of (node nm) n) ∷ (node nm, free) ∷ (flag nm, taken false) ∷ beside b d w)) us)
   freed s h w hold k = h.asks (beside b d w) (f.holds slots w hold) (λ w'. k ((node d, value_of (node nm) n) ∷ w'))
 
-  pub leave_stops : (e : Stop) → Released slots m x₁ u nm (Ended e) x₂ u₂ → Left slots m x u nm d n b (Ended e) x₂ u₂
-  leave_stops e h = record { asks = freed (Ended e) h; holds = λ g. never g; good = λ g. never g; few = λ g. never g; noted = h.noted }
+  pub leave_stops : (s : Course) → goes s ≡ false → Released slots m x₁ u nm s x₂ u₂ → Left slots m x u nm d n b s x₂ u₂
+  leave_stops s halts h = record { asks = freed s h; holds = λ g. stops_not s halts g; good = λ g. stops_not s halts g; few = λ g. stops_not s halts g; noted = h.noted }
 
   pub leave_done : Released slots m x₁ u nm Going x₂ u₂ → (x₃ : List ℕ) → in_store slots d ≡ true → SmallNode n → NodeWritten x₂ d n x₃ → Left slots m x u nm d n b Going x₃ u₂
   leave_done h x₃ there small q =

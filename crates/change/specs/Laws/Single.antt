@@ -1,6 +1,6 @@
 -- Laws of an operation that writes one object or none.
 use Rattle.std.specs.Prelude.{◌≡◌, refl, Bool, true, not, ◌||◌, List, [], ◌∷◌, ℕ, zero, suc, ◌+◌, ◌-◌, ◌≤◌, ◌<◌, eqb, length, get_or, Option, None, Some, Result, Ok, Err}
-use Rattle.std.proofs.Math.Path.{sym}
+use Rattle.std.proofs.Math.Path.{sym, ap}
 use Rattle.std.proofs.Common.{◌∙◌, ap}
 use Rattle.std.proofs.Math.Bool.{false}
 use Rattle.std.proofs.Math.Option.{none}
@@ -34,6 +34,7 @@ use Rattle.walk.specs.Stopped.{Waiting}
 use Rattle.walk.specs.Laws.Ask.{name_below}
 use Rattle.walk.specs.Laws.Write.{hit_same}
 use Rattle.change.specs.declared.leaf.Changed.{Changed}
+use Rattle.change.specs.declared.single.OneWrite.{OneWrite}
 use Rattle.change.specs.declared.single.Single.{Single}
 use Rattle.change.specs.Rise.{Content}
 use Rattle.change.specs.Level.{level_plan, top_plan}
@@ -197,9 +198,13 @@ module _ (slots : ℕ) (y u : List ℕ) where
 pub ruleset single_operation = (single_ends, leaf_named, single_leaf, single_moves)
 
 -- ---- the last questions about it
-pub nothing_asked : (m : ClientWord → ℕ) → m writes_count ≤ 48 → Going ≡ judged Going (last_reason m [])
-unfolding judged last_reason reason_of entries_fit count_new versions_there any_at_last
-nothing_asked m h = let l : m writes_count + 0 ≤ 48 = omega arith in rw (le-ltb _ _ l)
+pub nothing_asked : (m : ClientWord → ℕ) (w : Option OneWrite) → w ≡ None → m writes_count ≤ 48 → 0 ≡ last_reason m (single_entries w)
+unfolding last_reason reason_of entries_fit count_new versions_there any_at_last
+nothing_asked m w e h = let l : m writes_count + 0 ≤ 48 = omega arith in rw (e, le-ltb _ _ l)
+
+pub nothing_judged : (m : ClientWord → ℕ) → m writes_count ≤ 48 → Going ≡ judged Going (last_reason m [])
+unfolding judged
+nothing_judged m h = ap (judged Going) (nothing_asked m None refl h)
 
 -- ---- the work step
 module _ (slots : ℕ) (m : ClientWord → ℕ) (wait : Waiting m) (u : List ℕ) (none : get_or u 0 0 ≡ 0) (u' : List ℕ) (ku : length u' ≡ length u) where

@@ -395,8 +395,8 @@ module _ (slots : ℕ) (m : ClientWord → ℕ) (u : List ℕ) (key level : ℕ)
 pub ruleset lower_exits = (lowered, lower_stops, child_inside)
 
 module _ (slots : ℕ) (m : ClientWord → ℕ) (u : List ℕ) where
-  pub no_root : (s : Stop) (y r : Node) (q : ℕ) (u₁ : List ℕ) → Asked slots m nothing u meta (Ended s) y u₁ → AtRoot slots m u (Ended s) q r u₁
-  no_root s y r q u₁ a = record { asks = λ k. rw (a.asks [] (none_held slots)).same; noted = a.noted; begins = λ t. stops_not (Ended s) refl t; inside = λ t. stops_not (Ended s) refl t }
+  pub no_root : (s : Course) (y r : Node) (q : ℕ) (u₁ : List ℕ) → goes s ≡ false → Asked slots m nothing u meta s y u₁ → AtRoot slots m u s q r u₁
+  no_root s y r q u₁ halts a = record { asks = λ k. rw ((a.asks [] (none_held slots)).same, halts); noted = a.noted; begins = λ t. stops_not s halts t; inside = λ t. stops_not s halts t }
 
   module _ (q st : ℕ) (u₁ : List ℕ) (a : Asked slots m nothing u meta Going (metadata 0 q st) u₁) where
     pub bad_root : (s : Stop) (y r : Node) (p : ℕ) (u₂ : List ℕ) → RootMet slots m u₁ q (Ended s) y u₂ → AtRoot slots m u (Ended s) p r u₂

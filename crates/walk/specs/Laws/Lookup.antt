@@ -15,7 +15,6 @@ use Rattle.operations.specs.Entry.{Entries, value_in}
 use Rattle.operations.specs.Path.{TreePlan, Branch, from_root}
 use Rattle.operations.specs.Look.{lookup_plan}
 use Rattle.walk.specs.declared.walk.Answer.{Answer}
-use Rattle.walk.specs.declared.walk.Stop.{Stop}
 use Rattle.walk.specs.declared.walk.Stop.TheVariants.{Aborts}
 use Rattle.client.specs.Layout.{ClientWord}
 use Rattle.client.specs.Lent.{used_in}
@@ -73,8 +72,8 @@ leaf_said n lo key f l = ap said (leaf_value n lo key f l) ∙ go (key_place (ke
     go false = refl
 
 module _ (slots : ℕ) (m : ClientWord → ℕ) (u : List ℕ) (key : ℕ) (r : Node) (u₁ : List ℕ) where
-  pub look_stops : (s : Stop) (k : List Branch → ℕ → Entries → TreePlan) → ToLeaf slots m u key (Ended s) r u₁ → Walks slots m u (from_root key k) (Ended s) u₁ []
-  look_stops s k h = record { same = rw (h.descends.asks k, h.course); noted = h.descends.noted }
+  pub look_stops : (s : Course) (k : List Branch → ℕ → Entries → TreePlan) → goes s ≡ false → ToLeaf slots m u key s r u₁ → Walks slots m u (from_root key k) s u₁ []
+  look_stops s k halts h = record { same = rw (h.descends.asks k, h.course, halts) (sym (ended_nothing s (used_in u₁))); noted = h.descends.noted }
 
   module _ (h : ToLeaf slots m u key Going r u₁) where
     on : goes h.come.course ≡ true

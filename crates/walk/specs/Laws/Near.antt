@@ -20,7 +20,7 @@ use Rattle.walk.specs.declared.walk.Stop.{Stop}
 use Rattle.client.specs.Layout.{ClientWord}
 use Rattle.client.specs.Lent.{used_in}
 use Rattle.walk.specs.Entries.{branch_of}
-use Rattle.walk.specs.Walk.{Course, Going, Ended, goes, walked}
+use Rattle.walk.specs.Walk.{Course, Going, Ended, goes, stands, walked}
 use Rattle.walk.specs.Ask.{Noted}
 use Rattle.walk.specs.Laws.Begin.{nothing_used, nothing_noted}
 use Rattle.walk.specs.Down.{turns_in, Arrival, no_arrival, arrival, Descends, Reached, ToLeaf, low, branches, trail}
@@ -28,6 +28,8 @@ use Rattle.walk.specs.Lookup.{ended, Walks}
 use Rattle.walk.specs.Found.{pairs_in, first_pairs, Roomy, to_right, search_of, pairs_told, visit, side, search_plan, LeafAt}
 use Rattle.walk.specs.Laws.Found.{length_pairs, leaf_from, full_take}
 use Rattle.walk.specs.Seek.{rests, above, Stacked, Past, Tells, Seeks, FromLeaf, Afresh}
+use Rattle.walk.specs.Laws.Mute.{way_silent}
+use Rattle.walk.specs.Laws.Lookup.{told_ended}
 use Rattle.walk.specs.Laws.Seek.{seek_climb, told_taken}
 use Rattle.walk.specs.Laws.Entries.{open_leaf}
 
@@ -51,8 +53,11 @@ abbrev from : Wish → List Branch → ℕ → Entries → TreePlan
 from w fs n es = let q = search_of w in enough q (seek_up q (visit (to_right w.sought)) (side (to_right w.sought)) zero fs) (q.in_leaf es)
 
 module _ (slots : ℕ) (m : ClientWord → ℕ) (u : List ℕ) (w : Wish) (r : Node) (u₁ : List ℕ) where
-  pub near_stops : (s : Stop) (ps : Entries) → ToLeaf slots m u w.key (Ended s) r u₁ → Walks slots m u (search_plan w) (Ended s) u₁ ps
-  near_stops s ps h = record { same = rw (h.descends.asks (from w), h.course); noted = h.descends.noted }
+  pub near_stops : (s : Course) (ps : Entries) → goes s ≡ false → ToLeaf slots m u w.key s r u₁ → Walks slots m u (search_plan w) s u₁ ps
+  near_stops s ps halts h =
+      let silent : goes h.come.course ≡ false → stands h.come.course ≡ false = way_silent slots m u w.key h.come u₁ h.descends in
+      let quiet : goes s ≡ false → stands s ≡ false = rw h.course at silent in
+      record { same = rw (h.descends.asks (from w), h.course, halts) (told_ended s (used_in u₁) [] ps halts (quiet halts)); noted = h.descends.noted }
 
   module _ (h : ToLeaf slots m u w.key Going r u₁) where
     abbrev d : Arrival
@@ -114,7 +119,7 @@ path_noted slots m u key d u₁ h = h.noted
 
 module _ (slots : ℕ) (m : ClientWord → ℕ) (u : List ℕ) (w : Wish) (u₁ : List ℕ) where
   pub path_stops : (s : Stop) (ps : Entries) → Descends slots m u w.key (no_arrival s) u₁ → Walks slots m u (search_plan w) (Ended s) u₁ ps
-  path_stops s ps h = near_stops slots m u w (no_arrival s).node u₁ s ps (record { come = no_arrival s; course = refl; node = refl; descends = h })
+  path_stops s ps h = near_stops slots m u w (no_arrival s).node u₁ (Ended s) ps refl (record { come = no_arrival s; course = refl; node = refl; descends = h })
 
   module _ (c : List ℕ) (p : Descent) (h : Descends slots m u w.key (arrival c (Ok p)) u₁) (f₀ : List ℕ) (z₀ : get_or f₀ 0 0 ≡ 0) where
     abbrev way : List Turn

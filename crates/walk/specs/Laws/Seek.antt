@@ -18,7 +18,6 @@ use Rattle.operations.specs.Entry.{Entries}
 use Rattle.operations.specs.Path.{kid, Branch}
 use Rattle.operations.specs.Look.{Search, Onward, told, nearest, rightward, leftward, seek, seek_up}
 use Rattle.walk.specs.declared.down.Turn.{Turn}
-use Rattle.walk.specs.declared.walk.Stop.{Stop}
 use Rattle.walk.specs.declared.down.Pass.{Pass}
 use Rattle.walk.specs.declared.found.Sought.TheVariants.{Higher, Lower, AtLeast}
 use Rattle.walk.specs.declared.found.Wish.{Wish}
@@ -26,11 +25,12 @@ use Rattle.walk.specs.Laws.Entries.{below_true, open_leaf, open_inner, extra_inn
 use Rattle.walk.specs.Entries.{Inner}
 use Rattle.client.specs.Layout.{ClientWord}
 use Rattle.client.specs.Lent.{used_in}
-use Rattle.walk.specs.Walk.{Course, Going, Ended, walked}
+use Rattle.walk.specs.Walk.{Course, Going, goes, stands, walked}
 use Rattle.walk.specs.Ask.{Noted, nothing}
 use Rattle.walk.specs.Laws.Ask.{none_held}
 use Rattle.walk.specs.Lookup.{Ends}
 use Rattle.walk.specs.Found.{first_pairs, pair_in, pairs_in, Roomy, to_right, answer_by, search_of, pairs_told, visit, side, LeafAt}
+use Rattle.walk.specs.Laws.Lookup.{told_ended}
 use Rattle.walk.specs.Laws.Found.{length_first, length_pairs, leaf_from, full_take, short_take}
 use Rattle.walk.specs.Down.{Kid, nowhere, turn_in, turns_in, PathInPart, trail, Followed, All, blank}
 use Rattle.walk.specs.Laws.Down.{stops_not, map_set, map_get, set_in_part, trail_more}
@@ -474,13 +474,13 @@ module _ (b : List ℕ) (right : Bool) (ps : List Pass) (level name p : ℕ) whe
 pub ruleset first_exits = (first_inside, first_down, set_in_part)
 
 module _ (slots : ℕ) (m : ClientWord → ℕ) (u : List ℕ) (w : Wish) (top : ℕ) (path : List Turn) (level name : ℕ) (got : Entries) (n : Node) (u' : List ℕ) where
-  pub read_stops : (s : Stop) (a : Option Heading) (got' : Entries) → Kid slots m nothing u level name (Ended s) n u' → ReadOn slots m u w top path level name got (Ended s) a u' got'
-  read_stops s a got' h = record {
+  pub read_stops : (s : Course) (a : Option Heading) (got' : Entries) → goes s ≡ false → Kid slots m nothing u level name s n u' → ReadOn slots m u w top path level name got s a u' got'
+  read_stops s a got' halts h = record {
     node = n;
     asks = λ j f. rw (seek_reads (search_of w) (to_right w.sought) level j name (above (search_of w) (to_right w.sought) top path level f) got, h.asks [] (none_held slots));
     noted = h.noted;
     long = h.long;
-    leads = λ t. stops_not (Ended s) refl t;
+    leads = λ t. stops_not s halts t;
   }
 
   pub read_leads : (a : Option Heading) (got' : Entries) → Kid slots m nothing u level name Going n u' → Advanced w top path level n got a got' → ReadOn slots m u w top path level name got Going a u' got'
@@ -564,8 +564,9 @@ seek_start slots m u w top path level name got k n =
     record { lo = λ j f. j; lows = λ j f. f; same = λ j f. refl; stacked = k.0; below = k.1; noted = n }
 
 module _ (slots : ℕ) (m : ClientWord → ℕ) (u₀ : List ℕ) (w : Wish) (top : ℕ) (path₀ : List Turn) (level₀ name₀ : ℕ) (got₀ : Entries) (path : List Turn) (level name : ℕ) (u : List ℕ) (got : Entries) (d : Seeking slots m u₀ w top path₀ level₀ name₀ got₀ path level name u got) (u₁ : List ℕ) (got₁ : Entries) where
-  pub seek_stops : (t : Stop) (a : Option Heading) (ps : Entries) → ReadOn slots m u w top path level name got (Ended t) a u₁ got₁ → Seeks slots m u₀ w top path₀ level₀ name₀ got₀ (Ended t) u₁ ps
-  seek_stops t a ps h = record { same = λ j f. rw (d.same j f, h.asks (d.lo j f) (d.lows j f)); noted = h.noted }
+  pub seek_stops : (t : Course) (a : Option Heading) (ps : Entries) → goes t ≡ false → stands t ≡ false → ReadOn slots m u w top path level name got t a u₁ got₁
+      → Seeks slots m u₀ w top path₀ level₀ name₀ got₀ t u₁ ps
+  seek_stops t a ps halts silent h = record { same = λ j f. rw (d.same j f, h.asks (d.lo j f) (d.lows j f), halts) (told_ended t (used_in u₁) [] ps halts silent); noted = h.noted }
 
   pub seek_ends : (s : Course) (u₂ : List ℕ) → ReadOn slots m u w top path level name got Going None u₁ got₁ → Tells m u₁ w got₁ s u₂ → Seeks slots m u₀ w top path₀ level₀ name₀ got₀ s u₂ (pairs_told w got₁)
   seek_ends s u₂ h q = record {

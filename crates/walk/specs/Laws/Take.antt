@@ -9,12 +9,11 @@ use Rattle.nodes.proofs.Laws.Stored.{Sized}
 use Rattle.operations.specs.Object.{Obj, node, flag, Val, body, taken, free, not_free}
 use Rattle.operations.specs.Slot.{when_free_flag, when_free_node}
 use Rattle.operations.specs.Path.{TreePlan}
-use Rattle.walk.specs.declared.walk.Stop.{Stop}
 use Rattle.walk.specs.declared.walk.Stop.TheVariants.{Aborts}
 use Rattle.client.specs.Layout.{ClientWord}
 use Rattle.client.specs.Record.{number, value_of, single, record_of}
 use Rattle.client.specs.Lent.{OwnFits, own_put, used_in}
-use Rattle.walk.specs.Walk.{Going, Ended}
+use Rattle.walk.specs.Walk.{Course, Going, Ended, goes}
 use Rattle.walk.specs.Laws.Walk.{walked_fails}
 use Rattle.walk.specs.Laws.Ask.{first_single, name_below}
 use Rattle.walk.specs.Ask.{SmallNode, OwnGood, Asked}
@@ -28,8 +27,8 @@ free_node_is zero level ks vs k = refl
 free_node_is (suc j) level ks vs k = let e : suc j ≡ 0 → ⊥ = λ q. omega arith in rw (ne_eqb (suc j) 0 e)
 
 module _ (slots : ℕ) (m : ClientWord → ℕ) (x u : List ℕ) (n : ℕ) (r : Node) (u' : List ℕ) where
-  pub node_lacks : (s : Stop) → Asked slots m x u (node n) (Ended s) r u' → NodeTaken slots m x u n (Ended s) u'
-  node_lacks s h = record { asks = λ w hold k. rw (h.asks w hold).same; noted = h.noted; long = h.long; inside = h.inside }
+  pub node_lacks : (s : Course) → goes s ≡ false → Asked slots m x u (node n) s r u' → NodeTaken slots m x u n s u'
+  node_lacks s halts h = record { asks = λ w hold k. rw ((h.asks w hold).same, halts); noted = h.noted; long = h.long; inside = h.inside }
 
   module _ (h : Asked slots m x u (node n) Going r u') where
     pub node_in_use : (r.kind ≡ 0 → ⊥) → NodeTaken slots m x u n (Ended (Aborts 1)) u'
@@ -71,11 +70,11 @@ flag_again true = refl
 flag_again false = refl
 
 module _ (slots : ℕ) (m : ClientWord → ℕ) (x u : List ℕ) (n : ℕ) (u' : List ℕ) where
-  pub flag_lacks : (s : Stop) (r : Node) → Asked slots m x u (flag n) (Ended s) r u' → FlagTaken slots m x u n (Ended s) x u'
-  flag_lacks s r h = record {
-    asks = λ w hold k. rw (h.asks w hold).same;
-    holds = λ t. stops_not (Ended s) refl t;
-    good = λ t. stops_not (Ended s) refl t;
+  pub flag_lacks : (s : Course) (r : Node) → goes s ≡ false → Asked slots m x u (flag n) s r u' → FlagTaken slots m x u n s x u'
+  flag_lacks s r halts h = record {
+    asks = λ w hold k. rw ((h.asks w hold).same, halts);
+    holds = λ t. stops_not s halts t;
+    good = λ t. stops_not s halts t;
     noted = h.noted;
     long = h.long;
     few = omega arith;
@@ -152,11 +151,11 @@ module _ (x : List ℕ) (g : OwnGood x) (few : get_or x 0 0 < 20) (k : ℕ) (q :
 pub ruleset freed_exits = (flag_freed, node_freed)
 
 module _ (slots : ℕ) (m : ClientWord → ℕ) (x u : List ℕ) (n : ℕ) (r : Node) (u' : List ℕ) where
-  pub release_lacks : (s : Stop) → Asked slots m x u (flag n) (Ended s) r u' → Released slots m x u n (Ended s) x u'
-  release_lacks s h = record {
-    asks = λ w hold k. rw (h.asks w hold).same;
-    holds = λ t. stops_not (Ended s) refl t;
-    good = λ t. stops_not (Ended s) refl t;
+  pub release_lacks : (s : Course) → goes s ≡ false → Asked slots m x u (flag n) s r u' → Released slots m x u n s x u'
+  release_lacks s halts h = record {
+    asks = λ w hold k. rw ((h.asks w hold).same, halts);
+    holds = λ t. stops_not s halts t;
+    good = λ t. stops_not s halts t;
     noted = h.noted;
     long = h.long;
     few = omega arith;

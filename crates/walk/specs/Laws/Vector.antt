@@ -16,14 +16,13 @@ use Rattle.nodes.proofs.Laws.Bits.{length_flags}
 use Rattle.operations.specs.Object.{vector, fetched, Val, Writes}
 use Rattle.operations.specs.Slot.{free_slot, search}
 use Rattle.operations.specs.Path.{TreePlan}
-use Rattle.walk.specs.declared.walk.Stop.{Stop}
 use Rattle.walk.specs.declared.walk.Stop.TheVariants.{LacksVector, Refused, Aborts}
 use Rattle.client.specs.Layout.{ClientWord}
 use Rattle.client.specs.Vectors.{has_vector, seen_words, is_fetched, vector_fits}
 use Rattle.client.specs.Have.{have, broken}
 use Rattle.client.specs.Run.{run}
 use Rattle.client.specs.Lent.{own_count, used_in}
-use Rattle.walk.specs.Walk.{Course, Going, Ended, told, over, worked, walked, carry}
+use Rattle.walk.specs.Walk.{Course, Going, Ended, goes, told, over, worked, walked, carry}
 use Rattle.walk.specs.Laws.Walk.{full_ask}
 use Rattle.walk.specs.Ask.{HoldsWrites, Noted, popped}
 use Rattle.walk.specs.Laws.Ask.{popped_used, popped_noted, over_some, over_long}
@@ -136,8 +135,8 @@ slot_found none f e = rw e
 slot_found (some i) f e = rw e
 
 module _ (slots : ℕ) (m : ClientWord → ℕ) (x u : List ℕ) (s slot : ℕ) (u' : List ℕ) where
-  pub look_stops : (t : Stop) → VectorAsked m u s (Ended t) u' → Looked slots m x u s slot (Ended t) None u'
-  look_stops t h = record { asks = λ w hold ss k. rw (h.asks slots); near = absent_inside 1024; noted = h.noted; long = h.long }
+  pub look_stops : (t : Course) → goes t ≡ false → VectorAsked m u s t u' → Looked slots m x u s slot t None u'
+  look_stops t halts h = record { asks = λ w hold ss k. rw (h.asks slots, halts); near = absent_inside 1024; noted = h.noted; long = h.long }
 
   module _ (h : VectorAsked m u s Going u') (there : s < 8) (seen ws : List ℕ) (ls : length seen ≡ 16) (ps : seen ≡ seen_words m s) (pw : ws ≡ counts x s (get_or x 0 0) seen) (f : Found)
       (pf : f ≡ found (first_free slot (N.flags_in slots ws))) where
