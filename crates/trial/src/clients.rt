@@ -26,10 +26,7 @@ pub struct Given {
 }
 
 // For each client the operations that its transaction was given, as far as they are counted.
-#[derive(Drop)]
-pub struct Log {
-    pub given: [[Given; 128]; 16],
-}
+pub type Log = [[Given; 128]; 16];
 
 // The transaction: where it is; whether an operation waits; how many are still to be given; at which servers its prepare, or its
 // apply, has been tried; and how many were given.
@@ -52,16 +49,14 @@ fn pairs_of(out: &[u8; 512], count: u64, b: u64) -> u64 {
     sum
 }
 
-impl Log {
-    pub fn new() -> Log {
-        let none = Given {
+impl Given {
+    // What stands in a log where nothing has been given yet.
+    pub fn none() -> Given {
+        Given {
             operation: Operation::Lookup,
             key: 0,
             value: 0,
             answer: None,
-        };
-        Log {
-            given: [[none; 128]; 16],
         }
     }
 }

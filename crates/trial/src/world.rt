@@ -141,9 +141,9 @@ impl World {
             return;
         };
         if decides(step, outcome) {
-            self.tally.replay(&log.given[at][..client.count], map);
+            self.tally.replay(&log[at][..client.count], map);
         }
-        client.note(&mut log.given[at], step, outcome, out, left);
+        client.note(&mut log[at], step, outcome, out, left);
         self.learn(step, outcome);
         self.current = at;
     }
