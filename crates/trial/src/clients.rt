@@ -35,7 +35,7 @@ pub struct Client {
     pub phase: Phase,
     pub waits: bool,
     pub left: u64,
-    tried: [bool; 8],
+    pub tried: [bool; 8],
     pub count: usize,
     pub ghost in_log: { count ≤ 128 },
 }

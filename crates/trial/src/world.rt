@@ -39,7 +39,7 @@ pub struct World {
     pub names: [u64; 32],
     pub mode: Mode,
     pub cursor: u64,
-    kept: u64,
+    pub kept: u64,
     pub tally: Tally,
 }
 
@@ -51,7 +51,7 @@ fn count(list: &mut [u64; 16], at: u64) {
 }
 
 impl Tally {
-    fn new() -> Tally {
+    pub fn new() -> Tally {
         Tally {
             steps: 0,
             outcomes: [0; 16],
