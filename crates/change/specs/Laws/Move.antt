@@ -15,6 +15,7 @@ use Rattle.client.specs.Layout.{ClientWord}
 use Rattle.client.specs.Record.{in_store, value_of, metadata, record_of}
 use Rattle.client.specs.Lent.{OwnFits, own_put, used_in}
 use Rattle.walk.specs.Walk.{Course, Going, Ended, course, goes, stands, walked, carry}
+use Rattle.walk.specs.Laws.Down.{stops_not}
 use Rattle.walk.specs.Ask.{SmallNode, OwnGood, HoldsWrites}
 use Rattle.walk.specs.Laws.Ask.{name_below}
 use Rattle.walk.specs.Take.{NodeTaken, Released, Wrote}
@@ -22,7 +23,6 @@ use Rattle.walk.specs.Laws.Take.{wrote}
 use Rattle.walk.specs.Search.{TakenOn}
 use Rattle.walk.specs.Laws.Search.{row_is}
 use Rattle.change.specs.Rise.{NodeWritten}
-use Rattle.walk.specs.Laws.Down.{stops_not}
 use Rattle.change.specs.Laws.Rise.{never}
 use Rattle.change.specs.Move.{beside, Beside, Placed, Left, moves, Moved}
 

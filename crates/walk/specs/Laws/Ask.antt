@@ -1,7 +1,6 @@
 -- Laws of a question: own writes, then what the part has.
 use Rattle.std.specs.Prelude.{◌≡◌, Bool, ◌&&◌, ◌||◌, not, List, [], ◌∷◌, ◌++◌, ℕ, ◌+◌, ◌-◌, ◌/◌, ◌≤◌, ◌<◌, take, drop, set, Result, Ok, Err, IfOk}
 use Rattle.std.proofs.Math.Path.{refl, sym}
-use Rattle.std.proofs.lemmas.Bool.{false≢true}
 use Rattle.std.proofs.Common.{ap, ◌∙◌, arith, add-one, length-append, length-set, take-suc-set, get_or-set_same, get_or-set_other, take-take}
 use Rattle.std.proofs.Math.Bool.{true, false}
 use Rattle.std.proofs.Math.Option.{Option, none, some}
@@ -775,7 +774,7 @@ module _ (slots : ℕ) (m : ClientWord → ℕ) (u : List ℕ) (f : Have Short) 
       asked_as slots m nothing u meta Going (source m 0).node (metadata 0 s.value s.states) u' (λ t. rw (first_metadata s.value s.states, second_metadata s.value s.states, q)) tt (meta_asked Going g)
 
   pub meta_unmet : (s : Course) (y : Node) → goes s ≡ false → Meets m u 0 (how f) right LacksMeta s u' → Asked slots m nothing u meta s y u'
-  meta_unmet s y halts g = asked_as slots m nothing u meta s _ y u' (λ t. absurd (false≢true (sym halts ∙ t))) tt (meta_asked s g)
+  meta_unmet s y halts g = asked_as slots m nothing u meta s _ y u' (λ t. never halts t) tt (meta_asked s g)
 
   pub meta_ended : (s : Stop) → Meets m u 0 (how f) right LacksMeta (Ended s) u' → Asked slots m nothing u meta (Ended s) (free_node 0) u'
   meta_ended s g = meta_unmet (Ended s) (free_node 0) refl g
