@@ -12,7 +12,7 @@ use steps::step::Step;
 // More steps than filling in or reading all keys takes.
 const MANY: u64 = 100000;
 
-// A schedule of a profile that runs, and the map. The log, as large, is lent beside it: so nothing large is copied.
+// A schedule of a profile that runs, and the map. The log is lent beside it, so that it isn't copied.
 #[derive(Drop)]
 pub struct Trial {
     pub profile: Profile,
