@@ -51,14 +51,12 @@ fn pairs_of(out: &[u8; 512], count: u64, b: u64) -> u64 {
 
 impl Given {
     // What stands in a log where nothing has been given yet.
-    pub fn none() -> Given {
-        Given {
-            operation: Operation::Lookup,
-            key: 0,
-            value: 0,
-            answer: None,
-        }
-    }
+    pub const NONE: Given = Given {
+        operation: Operation::Lookup,
+        key: 0,
+        value: 0,
+        answer: None,
+    };
 }
 
 impl Client {

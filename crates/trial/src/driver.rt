@@ -114,7 +114,7 @@ pub fn tried(memory: &mut [u8], profile: Profile, seed: u64) -> Tally {
     // The sizes of each profile fit the memory of the largest store. In less, the store may be refused: the memory stays as it was, and the
     // steps go to the store that it holds, or are refused where it holds none.
     let _ = engine::open::open(memory, sizes);
-    let mut log = [[Given::none(); 128]; 16];
+    let mut log = [[Given::NONE; 128]; 16];
     let mut trial = Trial {
         profile,
         rng: Rng::new(seed),
